@@ -1,0 +1,17 @@
+-- The quorums of a group, by its size.
+use Rattle.std.specs.Prelude.{ℕ, Option, Some, None, if◌then◌else◌, ◌==◌}
+use Rattle.vr_base.specs.declared.table.Quorums.{Quorums}
+
+-- a column of the table
+abbrev pub these : ℕ → ℕ → ℕ → Option Quorums
+these replication view_change nack =
+    Some (record { replication = replication; view_change = view_change; nack = nack })
+
+-- of a group of n replicas
+abbrev pub quorums_of : ℕ → Option Quorums
+quorums_of n =
+    if n == 2 then these 2 2 1
+    else (if n == 3 then these 2 2 2
+    else (if n == 4 then these 2 3 3
+    else (if n == 5 then these 3 3 3
+    else (if n == 6 then these 3 4 4 else None))))
