@@ -1,0 +1,16 @@
+pub mod Basics
+pub mod Quorums
+pub mod Headers
+pub mod History
+pub mod Growth
+pub mod Parts
+pub mod Members
+pub mod Group
+pub mod Choosing
+pub mod Taking
+pub mod Opening
+pub mod Machine
+pub mod Claims
+pub mod Invariant
+pub mod Laws
+pub mod Runs
