@@ -4,8 +4,10 @@
 
 mod groups;
 mod seq;
+mod sum;
 mod table;
 
 pub use groups::quorums;
 pub use seq::{ByteList, Seq};
+pub use sum::Sum;
 pub use table::{Config, Quorums};
