@@ -1,3 +1,4 @@
 pub mod Bodies
 pub mod Made
+pub mod Spelling
 pub mod Text

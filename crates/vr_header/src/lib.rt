@@ -1,6 +1,7 @@
 //! Headers, the operations and outcomes that stand behind them, and their bytes.
 #![tactic(auto)]
 
+mod codec;
 mod command;
 mod entry;
 mod header;
@@ -10,6 +11,7 @@ mod part;
 mod size;
 mod text;
 
+pub use codec::{decode, encode};
 pub use command::Command;
 pub use entry::Entry;
 pub use header::{Header, HeaderFault, HeaderList};

@@ -1,0 +1,4 @@
+pub mod Faults
+pub mod HeaderLaws
+pub mod Tests
+pub mod Written
