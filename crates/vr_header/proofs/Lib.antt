@@ -1,3 +1,4 @@
+pub mod BodyLaws
 pub mod Faults
 pub mod HeaderLaws
 pub mod Tests

@@ -151,7 +151,9 @@ impl Header {
 
 /// The one spelling of a header.
 pub fn encode(h: &Header) -> [u8; 128]
-    ensures { result ≡ header_bytes h.now }
+    ensures bytes { result ≡ header_bytes h.now }
+    ensures header { IsHeader h.now }
+    ensures again { decoded result ≡ Ok h.now }
 {
     let mut out = written(*h);
     let name = name_of_rest(&out);
@@ -170,7 +172,8 @@ fn name_of_rest(bytes: &[u8]) -> Sum
 
 // Bytes 16 to 127; the first 16 are zero.
 fn written(h: Header) -> [u8; 128]
-    ensures { drop 16 result ≡ named_bytes h }
+    ensures bytes { drop 16 result ≡ named_bytes h }
+    ensures header { IsHeader h }
 {
     let mut out = [0; 128];
     put_sum(&mut out, 16, h.body);

@@ -10,6 +10,7 @@ mod outcome;
 mod part;
 mod size;
 mod text;
+mod view;
 
 pub use codec::{decode, encode};
 pub use command::Command;

@@ -6,9 +6,9 @@ use Rattle.vr_header.specs.Spelling.{code_of, named_bytes}
 use Rattle.vr_header.proofs.Written.{behind}
 use Rattle.vr_header.proofs.codec.written.Goals as goal
 
-pub returns : goal.returns
+pub returns-clause-bytes : goal.returns-clause-bytes
 unfolding named_bytes
-returns c =
+returns-clause-bytes c =
     let h = c.args.h in
     let len : length c.put-2.new.out ≤ 128 = omega arith in
     ap (drop 16) (sym (take_all 128 c.put-2.new.out len))
