@@ -1,6 +1,7 @@
 //! Headers, the operations and outcomes that stand behind them, and their bytes.
 #![tactic(auto)]
 
+mod body;
 mod codec;
 mod command;
 mod entry;
