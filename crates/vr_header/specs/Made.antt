@@ -1,11 +1,17 @@
--- What an entry is.
-use Rattle.std.specs.Prelude.{◌≡◌, ◌+◌, ◌-◌, ◌^◌, ◌<◌, ◌≤◌, ◌↔◌, length}
+-- What an entry is, and its bytes.
+use Rattle.std.specs.Prelude.{ℕ, ◌≡◌, ◌+◌, ◌-◌, ◌^◌, ◌<◌, ◌≤◌, ◌↔◌, Bool, true, false, not, ◌&&◌, ◌==◌, nat_lt, nat_le, nat_eq, if◌then◌else◌, List, ◌++◌, length, drop, Option, Some, None, Result, Ok, Err}
+use Rattle.std.specs.Cmp.Lexicographic.{pointwise}
+use Rattle.vr_base.specs.declared.sum.Sum.{Sum}
 use Rattle.vr_base.specs.Bytes.{name_of}
+use Rattle.vr_header.specs.declared.command.Command.{Command}
 use Rattle.vr_header.specs.declared.command.Command.TheVariants.{Entry}
 use Rattle.vr_header.specs.declared.header.Header.{Header}
+use Rattle.vr_header.specs.declared.header.HeaderFault.{HeaderFault}
 use Rattle.vr_header.specs.declared.operation.Operation.{Operation}
-use Rattle.vr_header.specs.declared.operation.Operation.TheVariants.{Register}
-use Rattle.vr_header.specs.Bodies.{operation_bytes}
+use Rattle.vr_header.specs.declared.operation.Operation.TheVariants.{Register, Put, Get, Delete}
+use Rattle.vr_header.specs.Bodies.{operation_bytes, operation_of}
+use Rattle.vr_header.specs.Names.{name_by, request_by}
+use Rattle.vr_header.specs.Spelling.{code_of, decoded, header_bytes}
 
 -- a header that an entry may have: with a body of at most 1,920 bytes
 pub record IsEntryHeader (h : Header) : Type 0 where
@@ -22,6 +28,7 @@ pub record IsEntryHeader (h : Header) : Type 0 where
 pub record IsBodyOf (h : Header) (operation : Operation) : Type 0 where
   pub name : h.body.0 ≡ name_of (operation_bytes operation)
   pub size : h.size ≡ 128 + length (operation_bytes operation)
+
   -- a session begins exactly with request number 0
   pub first : (operation ≡ Register) ↔ (h.request ≡ 0)
 
@@ -33,3 +40,20 @@ pub record Whole : Type 0 where
 pub record IsEntry (e : Whole) : Type 0 where
   pub header : IsEntryHeader e.header
   pub body : IsBodyOf e.header e.operation
+
+-- the entry that is made of a request: its header is the request's, with the request's name, the view and op that it is made
+-- for, and the name of the entry before
+abbrev pub made_by : (List ℕ → List ℕ) → Header → Operation → ℕ → ℕ → Sum → Whole
+made_by hash request operation view op parent = record {
+    header = record request { command = Entry; request_name = name_by hash request; view = view; op = op; parent = parent };
+    operation = operation;
+  }
+
+-- the fields that an entry has no use for are zero
+abbrev pub is_bare : Header → Bool
+is_bare h = (h.commit == 0) && (h.replica == 0) && (h.kind == 0) && (h.aux == 0)
+
+-- the test for it
+abbrev pub is_entry_header : Header → Bool
+is_entry_header h =
+    (code_of h.command == 3) && nat_lt 128 h.size && nat_le h.size 2048 && nat_lt h.view (2 ^ 32 - 1) && nat_le 1 h.op && nat_le h.op (2 ^ 62) && is_bare h

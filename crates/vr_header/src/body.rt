@@ -1,14 +1,15 @@
 //! The bytes of operations and outcomes, both ways.
-ghost use Rattle.std.specs.Prelude.{◌≡◌, ◌++◌, ◌≤◌, Some, IfOk, IfSome, OnOk, is_some, length};
+ghost use Rattle.std.specs.Prelude.{◌≡◌, ◌++◌, ◌+◌, ◌≤◌, Some, IfOk, IfSome, OnOk, is_some, length};
+ghost use Rattle.vr_base.specs.Bytes.{name_of};
 ghost use Rattle.vr_header.specs.declared.operation.Operation.{Operation};
 ghost use Rattle.vr_header.specs.declared.outcome.Outcome.{Outcome};
 ghost use Rattle.vr_header.specs.Bodies.{IsOperation, IsOutcome, operation_bytes, operation_of, outcome_bytes, outcome_of};
 ghost use Rattle.vr_header.specs.Views.{operation_seen, outcome_seen};
 
 use crate::view::{read_operation, read_outcome, OperationView, OutcomeView};
-use crate::{Key, Operation, Outcome, Value};
+use crate::{Key, Operation, Outcome, Size, Value};
 use std::alloc::{AllocError, Global};
-use vr_base::ByteList;
+use vr_base::{checksum, checksum_of_parts, ByteList, Sum};
 
 impl Operation {
     /// The one spelling of an operation, of at most 1,092 bytes.
@@ -43,6 +44,37 @@ impl Operation {
             }
         }
         Ok(())
+    }
+
+    /// The name of the spelling.
+    #[tactic(auto, using(std::proofs::lemmas::Grind::common_steps), unfolding(crate::specs::Bodies::operation_bytes, vr_base::specs::Bytes::bytes16))]
+    pub fn body_name(&self) -> Sum
+        ensures { result.0 ≡ name_of (operation_bytes self.now) }
+    {
+        match self {
+            Operation::Register => checksum(&[1]),
+            Operation::Put(key, value) => {
+                let [high, low] = (value.as_slice().len() as u16).to_be_bytes();
+                checksum_of_parts(&[2, key.as_slice().len() as u8, high, low], key.as_slice(), value.as_slice())
+            }
+            Operation::Get(key) => checksum_of_parts(&[3, key.as_slice().len() as u8], key.as_slice(), &[]),
+            Operation::Delete(key) => checksum_of_parts(&[4, key.as_slice().len() as u8], key.as_slice(), &[]),
+        }
+    }
+
+    /// How many bytes a header with this spelling behind it has, from 129 to 1,220.
+    #[tactic(auto, using(std::proofs::lemmas::Grind::common_steps), unfolding(crate::specs::Bodies::operation_bytes, vr_base::specs::Bytes::bytes16))]
+    pub fn size(&self) -> Size
+        ensures value { result ≡ 128 + length (operation_bytes self.now) }
+        ensures least { 129 ≤ result }
+        ensures most { result ≤ 1220 }
+    {
+        let body = match self {
+            Operation::Register => 1,
+            Operation::Put(key, value) => 4 + key.as_slice().len() + value.as_slice().len(),
+            Operation::Get(key) | Operation::Delete(key) => 2 + key.as_slice().len(),
+        };
+        Size::new(128 + body as u32)
     }
 
     /// Whether the bytes spell an operation.

@@ -140,15 +140,6 @@ fn header_at(bytes: &[u8]) -> Header
     }
 }
 
-impl Header {
-    /// The name of this header: of its bytes 16 to 127.
-    pub fn name(&self) -> Sum
-        ensures { result.0 ≡ name_of (named_bytes self.now) }
-    {
-        name_of_rest(&written(*self))
-    }
-}
-
 /// The one spelling of a header.
 pub fn encode(h: &Header) -> [u8; 128]
     ensures bytes { result ≡ header_bytes h.now }
@@ -162,7 +153,7 @@ pub fn encode(h: &Header) -> [u8; 128]
 }
 
 // The name of the bytes from 16 on.
-fn name_of_rest(bytes: &[u8]) -> Sum
+pub(crate) fn name_of_rest(bytes: &[u8]) -> Sum
     requires { 16 ≤ length bytes.now }
     ensures { result.0 ≡ name_of (drop 16 bytes.now) }
 {
@@ -171,7 +162,7 @@ fn name_of_rest(bytes: &[u8]) -> Sum
 }
 
 // Bytes 16 to 127; the first 16 are zero.
-fn written(h: Header) -> [u8; 128]
+pub(crate) fn written(h: Header) -> [u8; 128]
     ensures bytes { drop 16 result ≡ named_bytes h }
     ensures header { IsHeader h }
 {
