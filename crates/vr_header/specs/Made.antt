@@ -57,3 +57,30 @@ is_bare h = (h.commit == 0) && (h.replica == 0) && (h.kind == 0) && (h.aux == 0)
 abbrev pub is_entry_header : Header → Bool
 is_entry_header h =
     (code_of h.command == 3) && nat_lt 128 h.size && nat_le h.size 2048 && nat_lt h.view (2 ^ 32 - 1) && nat_le 1 h.op && nat_le h.op (2 ^ 62) && is_bare h
+
+-- a header, and its operation behind it
+unfoldable pub entry_bytes : Whole → List ℕ
+entry_bytes e = header_bytes e.header ++ operation_bytes e.operation
+
+abbrev pub is_register : Operation → Bool
+is_register Register = true
+is_register (Put key value) = false
+is_register (Get key) = false
+is_register (Delete key) = false
+
+-- the bytes are as many as the header says, and those behind it have the name that it gives
+abbrev pub is_whole : Header → List ℕ → Bool
+is_whole h bytes = is_entry_header h && (h.size == length bytes) && pointwise nat_eq h.body.0 (name_of (drop 128 bytes))
+
+abbrev pub with_body : Header → Option Operation → Option Whole
+with_body h None = None
+with_body h (Some o) =
+    if (if is_register o then h.request == 0 else not (h.request == 0)) then Some (record { header = h; operation = o }) else None
+
+abbrev pub with_header : List ℕ → Result Header HeaderFault → Option Whole
+with_header bytes (Err fault) = None
+with_header bytes (Ok h) = if is_whole h bytes then with_body h (operation_of (drop 128 bytes)) else None
+
+-- the entry that these bytes spell, None where they spell none
+unfoldable pub entry_of : List ℕ → Option Whole
+entry_of bytes = with_header bytes (decoded bytes)

@@ -1,10 +1,15 @@
 //! Reading of bodies in place.
-ghost use Rattle.std.specs.Prelude.{◌≡◌, ℕ, List, Some, None, length, take, drop};
+ghost use Rattle.std.specs.Prelude.{◌≡◌, ◌<◌, ◌≤◌, IsTrue, length, drop, nat_eq};
+ghost use Rattle.std.specs.Cmp.Lexicographic.{pointwise};
+ghost use Rattle.vr_base.specs.Bytes.{name_of};
 ghost use Rattle.std.specs.Option.{option_map, option_copied};
 ghost use Rattle.vr_header.specs.Bodies.{key_of, operation_of, outcome_of, pair_of, value_of};
-ghost use Rattle.vr_header.specs.Views.{operation_seen, outcome_seen};
+ghost use Rattle.vr_header.specs.Made.{entry_of, is_register, is_whole};
+ghost use Rattle.vr_header.specs.Views.{entry_seen, operation_seen, outcome_seen};
 
 use crate::text::is_text;
+use crate::{decode, Header};
+use vr_base::{checksum, Sum};
 
 /// An operation whose texts stand in the bytes that it was read from.
 #[derive(Clone, Copy)]
@@ -13,6 +18,13 @@ pub enum OperationView<'a> {
     Put(&'a [u8], &'a [u8]),
     Get(&'a [u8]),
     Delete(&'a [u8]),
+}
+
+/// An entry whose texts stand in the bytes that it was read from.
+#[derive(Clone, Copy)]
+pub struct EntryView<'a> {
+    pub header: Header,
+    pub operation: OperationView<'a>,
 }
 
 /// An outcome whose text stands in the bytes that it was read from.
@@ -97,4 +109,44 @@ pub fn read_outcome(bytes: &[u8]) -> Option<OutcomeView<'_>>
         [5, rest @ ..] => Some(OutcomeView::Value(read_value(rest)?)),
         _ => None,
     }
+}
+
+/// The entry that these bytes spell, `None` exactly where they spell none.
+#[tactic(auto, unfolding(crate::specs::Made::entry_of))]
+pub fn read_entry(bytes: &[u8]) -> Option<EntryView<'_>>
+    ensures { option_map entry_seen result ≡ entry_of bytes.now }
+{
+    let header = decode(bytes).ok()?;
+    if !is_whole(&header, bytes) {
+        return None;
+    }
+    let (_, body) = bytes.split_at(128);
+    let operation = read_operation(body)?;
+    if is_register(operation) == (header.request == 0) {
+        Some(EntryView { header, operation })
+    } else {
+        None
+    }
+}
+
+// Whether the header is an entry's, of so many bytes, with the name of those behind it.
+fn is_whole(header: &Header, bytes: &[u8]) -> bool
+    ensures value { result ≡ is_whole header.now bytes.now }
+    ensures long { IsTrue result → 128 < length bytes.now }
+{
+    header.is_entry() && header.size.get() as usize == bytes.len() && has_name(bytes, header.body)
+}
+
+fn has_name(bytes: &[u8], name: Sum) -> bool
+    requires { 128 ≤ length bytes.now }
+    ensures { result ≡ pointwise nat_eq name.0 (name_of (drop 128 bytes.now)) }
+{
+    let (_, body) = bytes.split_at(128);
+    name == checksum(body)
+}
+
+fn is_register(view: OperationView<'_>) -> bool
+    ensures { result ≡ is_register (operation_seen view.entry) }
+{
+    matches!(view, OperationView::Register)
 }
