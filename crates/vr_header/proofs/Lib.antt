@@ -1,4 +1,5 @@
 pub mod BodyLaws
+pub mod EntryLaws
 pub mod Faults
 pub mod HeaderLaws
 pub mod Tests

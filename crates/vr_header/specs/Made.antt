@@ -4,13 +4,13 @@ use Rattle.std.specs.Cmp.Lexicographic.{pointwise}
 use Rattle.vr_base.specs.declared.sum.Sum.{Sum}
 use Rattle.vr_base.specs.Bytes.{name_of}
 use Rattle.vr_header.specs.declared.command.Command.{Command}
-use Rattle.vr_header.specs.declared.command.Command.TheVariants.{Entry}
+use Rattle.vr_header.specs.declared.command.Command.TheVariants.{Entry, Request}
 use Rattle.vr_header.specs.declared.header.Header.{Header}
 use Rattle.vr_header.specs.declared.header.HeaderFault.{HeaderFault}
 use Rattle.vr_header.specs.declared.operation.Operation.{Operation}
 use Rattle.vr_header.specs.declared.operation.Operation.TheVariants.{Register, Put, Get, Delete}
 use Rattle.vr_header.specs.Bodies.{operation_bytes, operation_of}
-use Rattle.vr_header.specs.Names.{name_by, request_by}
+use Rattle.vr_header.specs.Names.{name_by, no_name}
 use Rattle.vr_header.specs.Spelling.{code_of, decoded, header_bytes}
 
 -- a header that an entry may have: with a body of at most 1,920 bytes
@@ -40,6 +40,19 @@ pub record Whole : Type 0 where
 pub record IsEntry (e : Whole) : Type 0 where
   pub header : IsEntryHeader e.header
   pub body : IsBodyOf e.header e.operation
+
+-- the header of a request for this operation
+pub record IsRequest (h : Header) (operation : Operation) : Type 0 where
+  pub command : h.command ≡ Request
+  pub body : IsBodyOf h operation
+  pub parent : h.parent ≡ no_name
+  pub request_name : h.request_name ≡ no_name
+  pub view : h.view ≡ 0
+  pub op : h.op ≡ 0
+  pub commit : h.commit ≡ 0
+  pub replica : h.replica ≡ 0
+  pub kind : h.kind ≡ 0
+  pub aux : h.aux ≡ 0
 
 -- the entry that is made of a request: its header is the request's, with the request's name, the view and op that it is made
 -- for, and the name of the entry before

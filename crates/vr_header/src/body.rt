@@ -149,7 +149,7 @@ fn made_operation(alloc: Global, bytes: &[u8]) -> Result<Option<Operation>, Allo
     }
 }
 
-fn owned_operation(alloc: Global, view: OperationView<'_>) -> Result<Operation, AllocError>
+pub(crate) fn owned_operation(alloc: Global, view: OperationView<'_>) -> Result<Operation, AllocError>
     requires { IsOperation (operation_seen view) }
     ensures { IfOk result (λ operation. operation ≡ operation_seen view.entry) }
 {
