@@ -14,7 +14,7 @@ use Rattle.vr_header.specs.declared.outcome.Outcome.{Outcome}
 use Rattle.vr_header.specs.declared.outcome.Outcome.TheVariants as outcome
 use Rattle.vr_header.specs.Text.{is_printable, is_text, text_of}
 use Rattle.vr_header.specs.Bodies.{IsOperation, IsOutcome, key_of, operation_bytes, operation_of, outcome_bytes, outcome_of, pair_of, value_of}
-use Rattle.vr_header.proofs.Tests.{both}
+use Rattle.vr_header.proofs.Truths.{both}
 
 -- a text is no longer than its limit
 pub text_limit : (limit : ℕ) (text : List ℕ) → IsTrue (is_text limit text) → length text ≤ limit

@@ -18,7 +18,7 @@ use Rattle.vr_header.specs.Made.{IsBodyOf, IsEntry, IsEntryHeader, Whole, entry_
 use Rattle.vr_header.specs.Spelling.{IsHeader, Spells, code_of, decoded, header_bytes}
 use Rattle.vr_header.proofs.BodyLaws.{operation_again, operation_found, through}
 use Rattle.vr_header.proofs.HeaderLaws.{decoded_again, decoded_found, length-header_bytes}
-use Rattle.vr_header.proofs.Tests.{both}
+use Rattle.vr_header.proofs.Truths.{both}
 
 -- what an entry that is read is
 abbrev pub IsSpelled : List ℕ → Whole → Type 0

@@ -6,7 +6,7 @@ use Rattle.std.proofs.lemmas.Bool.{ltb-false, eqb-true}
 use Rattle.vr_header.specs.declared.command.Command.{Command}
 use Rattle.vr_header.specs.declared.header.HeaderFault.{HeaderFault}
 use Rattle.vr_base.specs.Bytes.{number}
-use Rattle.vr_header.proofs.Tests.{not_false, size_of}
+use Rattle.vr_header.proofs.Truths.{not_false, size_of}
 use Rattle.vr_header.specs.Spelling.{command_of, fault_of, is_named, is_size}
 
 -- each test passed

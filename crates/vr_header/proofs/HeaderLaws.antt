@@ -16,7 +16,7 @@ use Rattle.vr_header.specs.declared.header.Header.{Header}
 use Rattle.vr_header.specs.declared.header.HeaderFault.{HeaderFault}
 use Rattle.vr_header.specs.Spelling.{IsHeader, Spells, code_of, command_of, decoded, fault_of, field_bytes, header_at, header_bytes, is_named, is_size, named_bytes}
 use Rattle.vr_header.proofs.Faults.{IsSound, sound}
-use Rattle.vr_header.proofs.Tests.{is_size_of}
+use Rattle.vr_header.proofs.Truths.{is_size_of}
 
 abbrev layout : List ℕ
 layout = 16 ∷ 16 ∷ 16 ∷ 16 ∷ 8 ∷ 8 ∷ 4 ∷ 4 ∷ 8 ∷ 8 ∷ 4 ∷ 1 ∷ 1 ∷ 1 ∷ 1 ∷ 8 ∷ 8 ∷ []

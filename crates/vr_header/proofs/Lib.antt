@@ -2,5 +2,7 @@ pub mod BodyLaws
 pub mod EntryLaws
 pub mod Faults
 pub mod HeaderLaws
-pub mod Tests
+pub mod NameLaws
+mod Rows
+pub mod Truths
 pub mod Written
