@@ -1,8 +1,8 @@
 -- A body that is read is spelled so, and what is spelled so is read.
-use Rattle.std.proofs.Common.{◌≡◌, ℕ, zero, suc, ◌+◌, ◌-◌, ◌^◌, ◌≤◌, ◌<◌, Bool, true, false, cond, eqb, ltb, List, [], ◌∷◌, ◌++◌, length, take, drop, get_or, refl, sym, ap, ◌∙◌, arith, Option, Some, None, length-append, length-take}
-use Rattle.std.specs.Prelude.{◌&&◌, IsTrue, IfSome, nat_le, nat_lt, nat_eq, ⊤}
+use Rattle.std.proofs.Common.{◌≡◌, ℕ, zero, suc, ◌^◌, ◌≤◌, ◌<◌, Bool, true, false, cond, eqb, List, [], ◌∷◌, ◌++◌, length, take, drop, get_or, refl, sym, ap, ◌∙◌, arith, Option, Some, None, length-append, length-take}
+use Rattle.std.specs.Prelude.{◌&&◌, IsTrue, IfSome, nat_le, nat_lt}
 use Rattle.std.specs.Option.{option_map}
-use Rattle.std.specs.Int.{from_be_bytes, to_be_bytes, w16}
+use Rattle.std.specs.Int.{from_be_bytes, w16}
 use Rattle.std.specs.List.{list_all}
 use Rattle.std.proofs.lemmas.Bool.{le-ltb, eq-eqb, eqb-true, leb-true, ltb-false}
 use Rattle.std.proofs.lemmas.List.{take_at, drop_at, take-append-drop}
@@ -98,7 +98,7 @@ value_found (high ∷ []) f = tt
 value_found (high ∷ low ∷ value) f =
     let P : List ℕ → Type 0 = λ v. (high ∷ low ∷ value ≡ bytes16 (length v) ++ v) × IsTrue (is_text 1024 v) in
     through P (eqb (length value) (from_be_bytes w16 (high ∷ low ∷ []))) (text_of 1024 value) (λ e. through P (is_text 1024 value) (Some value) (λ t.
-      (ap (λ x. x ++ value) (sym (two high low (length value) (f 0) (f 1) (eqb-true (length value) (from_be_bytes w16 (high ∷ low ∷ [])) e))), t)))
+    (ap (λ x. x ++ value) (sym (two high low (length value) (f 0) (f 1) (eqb-true (length value) (from_be_bytes w16 (high ∷ low ∷ [])) e))), t)))
 
 -- the other way of a test
 unless : {A : Type 0} (P : A → Type 0) (t : Bool) (o : Option A) → (t ≡ false → IfSome o P) → IfSome (cond t None o) P
@@ -116,12 +116,12 @@ pair_found (n ∷ high ∷ low ∷ texts) f =
     let value = drop n texts in
     let size = eqb (length value) (from_be_bytes w16 (high ∷ low ∷ [])) in
     unless P (nat_lt (length texts) n) _ (λ long.
-      through P (size && (is_text 64 key && is_text 1024 value)) (Some (Put key value)) (λ t.
-        let a = both size (is_text 64 key && is_text 1024 value) t in
-        let c = both (is_text 64 key) (is_text 1024 value) a.1 in
-        let len : length key ≡ n = (let l = length-take n texts in let m = ltb-false (length texts) n long in omega arith) in
-        let lengths = two high low (length value) (f 1) (f 2) (eqb-true (length value) (from_be_bytes w16 (high ∷ low ∷ [])) a.0) in
-        (rw (len, lengths, take-append-drop) refl, (c.0, c.1))))
+    through P (size && (is_text 64 key && is_text 1024 value)) (Some (Put key value)) (λ t.
+    let a = both size (is_text 64 key && is_text 1024 value) t in
+    let c = both (is_text 64 key) (is_text 1024 value) a.1 in
+    let len : length key ≡ n = (let l = length-take n texts in let m = ltb-false (length texts) n long in omega arith) in
+    let lengths = two high low (length value) (f 1) (f 2) (eqb-true (length value) (from_be_bytes w16 (high ∷ low ∷ [])) a.0) in
+    (rw (len, lengths, take-append-drop) refl, (c.0, c.1))))
 
 weaker : {A : Type 0} (P Q : A → Type 0) (o : Option A) → ((x : A) → P x → Q x) → IfSome o P → IfSome o Q
 weaker P Q (Some x) f h = f x h
@@ -132,7 +132,7 @@ alone kind code [] e z = ap (λ n. n ∷ []) (eqb-true kind code e)
 alone kind code (x ∷ rest) e z = let n = eqb-true (length (x ∷ rest)) 0 z in absurd (omega arith)
 
 keyed : (kind code : ℕ) (make : List ℕ → Operation) (rest : List ℕ) → kind ≡ code → ((key : List ℕ) → operation_bytes (make key) ≡ code ∷ length key ∷ key)
-  → ((key : List ℕ) → IsTrue (is_text 64 key) → IsOperation (make key)) → IfSome (key_of rest) (λ key. (kind ∷ rest ≡ operation_bytes (make key)) × IsOperation (make key))
+    → ((key : List ℕ) → IsTrue (is_text 64 key) → IsOperation (make key)) → IfSome (key_of rest) (λ key. (kind ∷ rest ≡ operation_bytes (make key)) × IsOperation (make key))
 keyed kind code make rest k spelled sound =
     let P : List ℕ → Type 0 = λ key. (rest ≡ length key ∷ key) × IsTrue (is_text 64 key) in
     let Q : List ℕ → Type 0 = λ key. (kind ∷ rest ≡ operation_bytes (make key)) × IsOperation (make key) in
@@ -158,9 +158,9 @@ outcome_found (kind ∷ rest) f =
     let V : List ℕ → Type 0 = λ v. (rest ≡ bytes16 (length v) ++ v) × IsTrue (is_text 1024 v) in
     let bytes : IsBytes rest = λ i. f (suc i) in
     either P (eqb kind 5) _ _ (λ e. mapped P outcome.Value (value_of rest)
-      (weaker V (λ v. P (outcome.Value v)) (value_of rest) (λ v h. (ap (λ n. n ∷ rest) (eqb-true kind 5 e) ∙ ap (λ r. 5 ∷ r) h.0, h.1)) (value_found rest bytes)))
+    (weaker V (λ v. P (outcome.Value v)) (value_of rest) (λ v h. (ap (λ n. n ∷ rest) (eqb-true kind 5 e) ∙ ap (λ r. 5 ∷ r) h.0, h.1)) (value_found rest bytes)))
     (through P (eqb (length rest) 0) _ (λ z.
-      either P (eqb kind 1) (Some outcome.Session) _ (λ e. (alone kind 1 rest e z, tt))
-      (either P (eqb kind 2) (Some outcome.Ok) _ (λ e. (alone kind 2 rest e z, tt))
-      (either P (eqb kind 3) (Some outcome.Full) _ (λ e. (alone kind 3 rest e z, tt))
-      (through P (eqb kind 4) (Some outcome.Absent) (λ e. (alone kind 4 rest e z, tt)))))))
+    either P (eqb kind 1) (Some outcome.Session) _ (λ e. (alone kind 1 rest e z, tt))
+    (either P (eqb kind 2) (Some outcome.Ok) _ (λ e. (alone kind 2 rest e z, tt))
+    (either P (eqb kind 3) (Some outcome.Full) _ (λ e. (alone kind 3 rest e z, tt))
+    (through P (eqb kind 4) (Some outcome.Absent) (λ e. (alone kind 4 rest e z, tt)))))))

@@ -1,6 +1,6 @@
 -- An entry that is read is spelled so, and what is spelled so is read.
-use Rattle.std.proofs.Common.{◌≡◌, ℕ, zero, suc, ◌+◌, ◌-◌, ◌^◌, ◌≤◌, ◌<◌, Bool, true, false, cond, eqb, ltb, leb, not, List, [], ◌∷◌, ◌++◌, length, take, drop, get_or, refl, sym, ap, ◌∙◌, arith, Option, Some, None, Result, Ok, Err, length-append, length-drop, subst}
-use Rattle.std.specs.Prelude.{◌&&◌, ◌↔◌, IsTrue, IfSome, IfOk, nat_le, nat_lt, nat_eq}
+use Rattle.std.proofs.Common.{◌≡◌, ℕ, ◌-◌, ◌^◌, Bool, true, false, cond, eqb, not, List, ◌++◌, length, take, drop, refl, sym, ap, ◌∙◌, arith, Option, Some, None, Ok, Err, length-append, length-drop}
+use Rattle.std.specs.Prelude.{◌↔◌, IfSome, IfOk, nat_le, nat_lt, nat_eq}
 use Rattle.std.specs.Cmp.Lexicographic.{pointwise}
 use Rattle.std.proofs.lemmas.Bool.{le-leb, lt-ltb, leb-true, ltb-true, eq-eqb, eqb-true}
 use Rattle.std.proofs.lemmas.List.{take_at, drop_at, take-append-drop}
@@ -8,9 +8,8 @@ use Rattle.std.proofs.lemmas.Slice.Eq.{bytes_eq-Decides}
 use Rattle.vr_base.specs.Bytes.{IsBytes, name_of}
 use Rattle.vr_base.proofs.FieldLaws.{IsBytes-drop}
 use Rattle.vr_header.specs.declared.command.Command.{Command}
-use Rattle.vr_header.specs.declared.command.Command.TheVariants.{Reserved, Root, Entry, Request, Reply, Prepare, PrepareOk, Commit, StartViewChange, DoViewChange, StartView, GetView, GetPrepare, GivePrepare, GetBlock, GiveBlock, Block}
+use Rattle.vr_header.specs.declared.command.Command.TheVariants.{Entry}
 use Rattle.vr_header.specs.declared.header.Header.{Header}
-use Rattle.vr_header.specs.declared.header.HeaderFault.{HeaderFault}
 use Rattle.vr_header.specs.declared.operation.Operation.{Operation}
 use Rattle.vr_header.specs.declared.operation.Operation.TheVariants.{Register, Put, Get, Delete}
 use Rattle.vr_header.specs.Bodies.{IsOperation, operation_bytes, operation_of}
@@ -92,29 +91,29 @@ entry_again e i f g =
     rw (decoded_again h b f front, is_entry_header_of h i.header, eq-eqb h.size (length b) size, back, name, operation_again o g, first_true h o i.body.first) refl
 
 with_body_found : (b : List ℕ) (h : Header) (read : Option Operation) → IfSome read (λ o. (drop 128 b ≡ operation_bytes o) × IsOperation o)
-  → Spells h b → IsHeader h → is_whole h b ≡ true → IfSome (with_body h read) (IsSpelled b)
+    → Spells h b → IsHeader h → is_whole h b ≡ true → IfSome (with_body h read) (IsSpelled b)
 unfolding entry_bytes
 with_body_found b h None r s f w = tt
 with_body_found b h (Some o) r s f w =
     through (IsSpelled b) (first_test h o) _ (λ t.
-      let named = both _ (pointwise nat_eq h.body.0 (name_of (drop 128 b))) w in
-      let sized = both (is_entry_header h) (eqb h.size (length b)) named.0 in
-      let header = entry_header_of h sized.0 in
-      let size = eqb-true h.size (length b) sized.1 in
-      let name = (bytes_eq-Decides h.body.0 (name_of (drop 128 b))).0 named.1 in
-      let all : b ≡ header_bytes h ++ operation_bytes o = sym (take-append-drop 128 b) ∙ (ap (λ x. x ++ drop 128 b) s ∙ ap (λ x. header_bytes h ++ x) r.0) in
-      let body : IsBodyOf h o = record {
-          name = name ∙ ap name_of r.0;
-          size = (let e = ap length r.0 in let d = length-drop 128 b in let m = header.size.0 in omega arith);
-          first = first_of_test h o t;
-        } in
-      (all, record { header = header; body = body }, f, r.1))
+    let named = both _ (pointwise nat_eq h.body.0 (name_of (drop 128 b))) w in
+    let sized = both (is_entry_header h) (eqb h.size (length b)) named.0 in
+    let header = entry_header_of h sized.0 in
+    let size = eqb-true h.size (length b) sized.1 in
+    let name = (bytes_eq-Decides h.body.0 (name_of (drop 128 b))).0 named.1 in
+    let all : b ≡ header_bytes h ++ operation_bytes o = sym (take-append-drop 128 b) ∙ (ap (λ x. x ++ drop 128 b) s ∙ ap (λ x. header_bytes h ++ x) r.0) in
+    let body : IsBodyOf h o = record {
+      name = name ∙ ap name_of r.0;
+      size = (let e = ap length r.0 in let d = length-drop 128 b in let m = header.size.0 in omega arith);
+      first = first_of_test h o t;
+    } in
+    (all, record { header = header; body = body }, f, r.1))
 
 -- what is read is spelled so
 pub entry_found : (b : List ℕ) → IsBytes b → IfSome (entry_of b) (IsSpelled b)
 unfolding entry_of
 entry_found b f =
     elim (decoded b) as (λ r. IfOk r (λ h. Spells h b × IsHeader h) → IfSome (with_header b r) (IsSpelled b)) [
-      Ok h ↦ λ s. through (IsSpelled b) (is_whole h b) _ (λ w. with_body_found b h (operation_of (drop 128 b)) (operation_found (drop 128 b) (IsBytes-drop 128 b f)) s.0 s.1 w)
-    | Err x ↦ λ s. tt
+      | Ok h ↦ λ s. through (IsSpelled b) (is_whole h b) _ (λ w. with_body_found b h (operation_of (drop 128 b)) (operation_found (drop 128 b) (IsBytes-drop 128 b f)) s.0 s.1 w)
+      | Err x ↦ λ s. tt
     ] (decoded_found b f)

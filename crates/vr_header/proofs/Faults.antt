@@ -1,13 +1,12 @@
 -- What bytes without a fault are.
-use Rattle.std.proofs.Common.{◌≡◌, ℕ, ◌+◌, ◌≤◌, ◌<◌, Bool, true, false, cond, eqb, ltb, leb, not, List, length, get_or, refl, sym, ap, ◌∙◌, arith, Option, Some, None}
-use Rattle.std.specs.Prelude.{◌&&◌, nat_eq, nat_lt, nat_le, is_none, IsTrue, slice_index, unwrap_or}
+use Rattle.std.proofs.Common.{◌≡◌, ℕ, ◌≤◌, Bool, true, false, cond, List, length, refl, Option, Some, None}
+use Rattle.std.specs.Prelude.{is_none, slice_index}
 use Rattle.std.specs.Int.{w32, w64}
 use Rattle.std.proofs.lemmas.Bool.{ltb-false, eqb-true}
-use Rattle.vr_header.specs.declared.command.Command.{Command}
 use Rattle.vr_header.specs.declared.header.HeaderFault.{HeaderFault}
 use Rattle.vr_base.specs.Bytes.{number}
 use Rattle.vr_header.proofs.Truths.{not_false, size_of}
-use Rattle.vr_header.specs.Spelling.{command_of, fault_of, is_named, is_size}
+use Rattle.vr_header.specs.Spelling.{command_of, fault_of, is_named}
 
 -- each test passed
 pub record IsSound (b : List ℕ) : Type 0 where

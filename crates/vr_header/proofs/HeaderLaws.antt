@@ -1,11 +1,10 @@
 -- A header that is read is spelled so, and what is spelled so is read.
-use Rattle.std.proofs.Common.{◌≡◌, ℕ, zero, suc, ◌+◌, ◌-◌, ◌^◌, ◌≤◌, ◌<◌, Bool, true, false, cond, eqb, ltb, not, List, [], ◌∷◌, ◌++◌, length, take, drop, get_or, refl, sym, ap, ◌∙◌, append_assoc, arith, subst, Ok, Err, Option, Some, None, Result, length-append, length-take, length-drop}
-use Rattle.std.specs.Prelude.{replicate, nat_eq, slice_index, is_none, unwrap_or, IfOk}
+use Rattle.std.proofs.Common.{◌≡◌, ℕ, zero, suc, ◌+◌, ◌≤◌, ◌<◌, false, List, [], ◌∷◌, ◌++◌, length, take, drop, get_or, refl, sym, ap, ◌∙◌, append_assoc, arith, Ok, Err, Some, None, length-append, length-take}
+use Rattle.std.specs.Prelude.{replicate, is_none, unwrap_or, IfOk}
 use Rattle.std.specs.Option.{option_map_or}
 use Rattle.std.specs.Int.{w32, w64}
-use Rattle.std.specs.Cmp.Lexicographic.{pointwise}
-use Rattle.std.proofs.lemmas.Bool.{le-ltb, eq-eqb}
-use Rattle.std.proofs.lemmas.List.{append-nil, take_at, drop_at, take_all, take-append-drop}
+use Rattle.std.proofs.lemmas.Bool.{le-ltb}
+use Rattle.std.proofs.lemmas.List.{take_at, drop_at, take-append-drop}
 use Rattle.std.proofs.lemmas.Slice.Eq.{bytes_eq-Decides}
 use Rattle.vr_base.specs.Bytes.{IsBytes, bytes32, bytes64, joined, name_of, number, piece}
 use Rattle.vr_base.proofs.FieldLaws.{length-name_of, length-bytes32, length-bytes64, number32_of, number64_of, number32_back, number64_back, length-piece, byte_of, byte_back}
@@ -13,8 +12,7 @@ use Rattle.vr_base.proofs.Places.{BeginsWith, cut, joined-cut, length-joined, pi
 use Rattle.vr_header.specs.declared.command.Command.{Command}
 use Rattle.vr_header.specs.declared.command.Command.TheVariants.{Reserved, Root, Entry, Request, Reply, Prepare, PrepareOk, Commit, StartViewChange, DoViewChange, StartView, GetView, GetPrepare, GivePrepare, GetBlock, GiveBlock, Block}
 use Rattle.vr_header.specs.declared.header.Header.{Header}
-use Rattle.vr_header.specs.declared.header.HeaderFault.{HeaderFault}
-use Rattle.vr_header.specs.Spelling.{IsHeader, Spells, code_of, command_of, decoded, fault_of, field_bytes, header_at, header_bytes, is_named, is_size, named_bytes}
+use Rattle.vr_header.specs.Spelling.{IsHeader, Spells, code_of, command_of, decoded, fault_of, field_bytes, header_at, header_bytes, is_named, named_bytes}
 use Rattle.vr_header.proofs.Faults.{IsSound, sound}
 use Rattle.vr_header.proofs.Truths.{is_size_of}
 
@@ -182,25 +180,25 @@ header_bytes-header_at b f s =
 fits : (b : List ℕ) → IsBytes b → IsSound b → IsHeader (header_at b)
 unfolding header_at
 fits b f s = record {
-    body = length-piece 16 16 b (omega (arith, s.long));
-    parent = length-piece 32 16 b (omega (arith, s.long));
-    request_name = length-piece 48 16 b (omega (arith, s.long));
-    cluster = (number64_back 64 b f (omega (arith, s.long))).1;
-    client = (number64_back 72 b f (omega (arith, s.long))).1;
-    request = (number32_back 80 b f (omega (arith, s.long))).1;
-    view = (number32_back 84 b f (omega (arith, s.long))).1;
-    op = (number64_back 88 b f (omega (arith, s.long))).1;
-    commit = (number64_back 96 b f (omega (arith, s.long))).1;
-    size = s.size;
-    replica = f 109;
-    kind = f 111;
-    aux = (number64_back 112 b f (omega (arith, s.long))).1;
-  }
+  body = length-piece 16 16 b (omega (arith, s.long));
+  parent = length-piece 32 16 b (omega (arith, s.long));
+  request_name = length-piece 48 16 b (omega (arith, s.long));
+  cluster = (number64_back 64 b f (omega (arith, s.long))).1;
+  client = (number64_back 72 b f (omega (arith, s.long))).1;
+  request = (number32_back 80 b f (omega (arith, s.long))).1;
+  view = (number32_back 84 b f (omega (arith, s.long))).1;
+  op = (number64_back 88 b f (omega (arith, s.long))).1;
+  commit = (number64_back 96 b f (omega (arith, s.long))).1;
+  size = s.size;
+  replica = f 109;
+  kind = f 111;
+  aux = (number64_back 112 b f (omega (arith, s.long))).1;
+}
 
 -- what is read is spelled so
 pub decoded_found : (b : List ℕ) → IsBytes b → IfOk (decoded b) (λ h. Spells h b × IsHeader h)
 decoded_found b f =
     elim (fault_of b) as (λ o. fault_of b ≡ o → IfOk (option_map_or Err o (Ok (header_at b))) (λ h. Spells h b × IsHeader h)) [
-      None ↦ λ e. let s = sound b e in (header_bytes-header_at b f s, fits b f s)
-    | Some x ↦ λ e. tt
+      | None ↦ λ e. let s = sound b e in (header_bytes-header_at b f s, fits b f s)
+      | Some x ↦ λ e. tt
     ] refl

@@ -1,10 +1,8 @@
 -- The definitions at values that were worked out by hand or by another program.
-use Rattle.std.specs.Prelude.{ℕ, ◌≡◌, ◌+◌, List, [], ◌∷◌, ◌++◌, take, drop, length, map, replicate, slice_set, refl, Bool, true, false, Option, Some, None, Result, Ok, Err, codes}
+use Rattle.std.specs.Prelude.{ℕ, ◌≡◌, ◌+◌, List, [], ◌∷◌, ◌++◌, take, drop, length, map, replicate, slice_set, refl, true, false, Some, None, Ok, codes}
 use Rattle.vr_base.specs.Bytes.{sha256, first_words, schedule, rounds, compress, hash_after, digest_bytes, bytes16, bytes32, bytes64, name_of, number, piece}
-use Rattle.vr_header.specs.declared.command.Command.{Command}
 use Rattle.vr_header.specs.declared.command.Command.TheVariants.{Entry, Commit}
 use Rattle.vr_header.specs.declared.header.Header.{Header}
-use Rattle.vr_header.specs.declared.header.HeaderFault.{HeaderFault}
 use Rattle.vr_header.specs.declared.header.HeaderFault.TheVariants.{Short, BadSum, BadCommand, BadVersion, BadSize, NotZero}
 use Rattle.vr_header.specs.declared.operation.Operation.TheVariants.{Register, Put, Get, Delete}
 use Rattle.vr_header.specs.declared.outcome.Outcome.TheVariants as outcome
@@ -34,9 +32,21 @@ root_bytes = refl
 -- a commit message of replica 3 in view 9, with all bytes of the greater numbers different
 commit : Header
 commit = record {
-    body = record { 0 = name_of [] }; parent = no_name; request_name = no_name; cluster = 0x0102030405060708; client = 0; request = 0; view = 9;
-    op = 0x1112131415161718; commit = 10; size = 128; command = Commit; replica = 3; kind = 0; aux = 0;
-  }
+  body = record { 0 = name_of [] };
+  parent = no_name;
+  request_name = no_name;
+  cluster = 0x0102030405060708;
+  client = 0;
+  request = 0;
+  view = 9;
+  op = 0x1112131415161718;
+  commit = 10;
+  size = 128;
+  command = Commit;
+  replica = 3;
+  kind = 0;
+  aux = 0;
+}
 
 abbrev commit_bytes : List ℕ
 commit_bytes =
@@ -105,9 +115,21 @@ no_outcomes = refl
 -- a header that an entry has, with another size, view, op or commit
 abbrev numbered : ℕ → ℕ → ℕ → ℕ → Header
 numbered size view op committed = record {
-    body = no_name; parent = no_name; request_name = no_name; cluster = 2; client = 7; request = 0; view = view; op = op; commit = committed; size = size;
-    command = Entry; replica = 0; kind = 0; aux = 0;
-  }
+  body = no_name;
+  parent = no_name;
+  request_name = no_name;
+  cluster = 2;
+  client = 7;
+  request = 0;
+  view = view;
+  op = op;
+  commit = committed;
+  size = size;
+  command = Entry;
+  replica = 0;
+  kind = 0;
+  aux = 0;
+}
 
 entry_headers : map is_entry_header (numbered 129 0 1 0 ∷ numbered 2048 4294967294 4611686018427387904 0 ∷ numbered 128 0 1 0 ∷ numbered 2049 0 1 0
     ∷ numbered 129 4294967295 1 0 ∷ numbered 129 0 0 0 ∷ numbered 129 0 4611686018427387905 0 ∷ numbered 129 0 1 1 ∷ [])

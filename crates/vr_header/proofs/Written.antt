@@ -4,11 +4,11 @@ use Rattle.std.proofs.lemmas.List.{drop_at}
 
 regrouped : (z a b c d e f g h i j k l m : List ℕ)
     → (((((((((((((z ++ a) ++ b) ++ c) ++ d) ++ e) ++ f) ++ g) ++ h) ++ i) ++ j) ++ k) ++ l) ++ m)
-      ≡ z ++ (a ++ (b ++ (c ++ (d ++ (e ++ (f ++ (g ++ (h ++ (i ++ (j ++ (k ++ (l ++ m))))))))))))
+    ≡ z ++ (a ++ (b ++ (c ++ (d ++ (e ++ (f ++ (g ++ (h ++ (i ++ (j ++ (k ++ (l ++ m))))))))))))
 regrouped z a b c d e f g h i j k l m = simp append_assoc
 
 -- thirteen writes behind the first bytes
 pub behind : (n : ℕ) (z a b c d e f g h i j k l m : List ℕ) → length z ≡ n
     → drop n (((((((((((((z ++ a) ++ b) ++ c) ++ d) ++ e) ++ f) ++ g) ++ h) ++ i) ++ j) ++ k) ++ l) ++ m)
-      ≡ a ++ (b ++ (c ++ (d ++ (e ++ (f ++ (g ++ (h ++ (i ++ (j ++ (k ++ (l ++ m)))))))))))
+    ≡ a ++ (b ++ (c ++ (d ++ (e ++ (f ++ (g ++ (h ++ (i ++ (j ++ (k ++ (l ++ m)))))))))))
 behind n z a b c d e f g h i j k l m e' = ap (drop n) (regrouped z a b c d e f g h i j k l m) ∙ drop_at z _ n e'

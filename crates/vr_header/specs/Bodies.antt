@@ -1,5 +1,5 @@
 -- The bytes of operations and outcomes.
-use Rattle.std.specs.Prelude.{ℕ, ◌==◌, ◌&&◌, nat_lt, Bool, IsTrue, ⊤, if◌then◌else◌, List, [], ◌∷◌, ◌++◌, length, take, drop, Option, Some, None}
+use Rattle.std.specs.Prelude.{ℕ, ◌==◌, ◌&&◌, nat_lt, IsTrue, ⊤, if◌then◌else◌, List, [], ◌∷◌, ◌++◌, length, take, drop, Option, Some, None}
 use Rattle.std.specs.Option.{option_map}
 use Rattle.std.specs.Int.{from_be_bytes, w16}
 use Rattle.vr_base.specs.Bytes.{bytes16}
@@ -56,7 +56,7 @@ pair_of (n ∷ high ∷ []) = None
 pair_of (n ∷ high ∷ low ∷ texts) =
     if nat_lt (length texts) n then None
     else (if (length (drop n texts) == from_be_bytes w16 (high ∷ low ∷ [])) && (is_text 64 (take n texts) && is_text 1024 (drop n texts))
-      then Some (Put (take n texts) (drop n texts)) else None)
+    then Some (Put (take n texts) (drop n texts)) else None)
 
 -- the operation that these bytes are, None where they are none
 unfoldable pub operation_of : List ℕ → Option Operation
@@ -73,8 +73,8 @@ outcome_of [] = None
 outcome_of (kind ∷ rest) =
     if kind == 5 then option_map outcome.Value (value_of rest)
     else (if length rest == 0
-      then (if kind == 1 then Some outcome.Session
-        else (if kind == 2 then Some outcome.Ok
-        else (if kind == 3 then Some outcome.Full
-        else (if kind == 4 then Some outcome.Absent else None))))
-      else None)
+    then (if kind == 1 then Some outcome.Session
+    else (if kind == 2 then Some outcome.Ok
+    else (if kind == 3 then Some outcome.Full
+    else (if kind == 4 then Some outcome.Absent else None))))
+    else None)

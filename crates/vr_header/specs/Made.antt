@@ -3,7 +3,6 @@ use Rattle.std.specs.Prelude.{ℕ, ◌≡◌, ◌+◌, ◌-◌, ◌^◌, ◌<◌
 use Rattle.std.specs.Cmp.Lexicographic.{pointwise}
 use Rattle.vr_base.specs.declared.sum.Sum.{Sum}
 use Rattle.vr_base.specs.Bytes.{name_of}
-use Rattle.vr_header.specs.declared.command.Command.{Command}
 use Rattle.vr_header.specs.declared.command.Command.TheVariants.{Entry, Request}
 use Rattle.vr_header.specs.declared.header.Header.{Header}
 use Rattle.vr_header.specs.declared.header.HeaderFault.{HeaderFault}
@@ -28,7 +27,6 @@ pub record IsEntryHeader (h : Header) : Type 0 where
 pub record IsBodyOf (h : Header) (operation : Operation) : Type 0 where
   pub name : h.body.0 ≡ name_of (operation_bytes operation)
   pub size : h.size ≡ 128 + length (operation_bytes operation)
-
   -- a session begins exactly with request number 0
   pub first : (operation ≡ Register) ↔ (h.request ≡ 0)
 
@@ -58,9 +56,9 @@ pub record IsRequest (h : Header) (operation : Operation) : Type 0 where
 -- for, and the name of the entry before
 abbrev pub made_by : (List ℕ → List ℕ) → Header → Operation → ℕ → ℕ → Sum → Whole
 made_by hash request operation view op parent = record {
-    header = record request { command = Entry; request_name = name_by hash request; view = view; op = op; parent = parent };
-    operation = operation;
-  }
+  header = record request { command = Entry; request_name = name_by hash request; view = view; op = op; parent = parent };
+  operation = operation;
+}
 
 -- the fields that an entry has no use for are zero
 abbrev pub is_bare : Header → Bool

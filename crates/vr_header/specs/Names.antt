@@ -22,9 +22,21 @@ no_name = record { 0 = replicate 16 0 }
 -- what op 1 stands on: with no body, all else zero
 abbrev pub root_by : (List ℕ → List ℕ) → ℕ → Header
 root_by hash cluster = record {
-    body = record { 0 = hash [] }; parent = no_name; request_name = no_name; cluster = cluster; client = 0; request = 0; view = 0; op = 0; commit = 0;
-    size = 128; command = Root; replica = 0; kind = 0; aux = 0;
-  }
+  body = record { 0 = hash [] };
+  parent = no_name;
+  request_name = no_name;
+  cluster = cluster;
+  client = 0;
+  request = 0;
+  view = 0;
+  op = 0;
+  commit = 0;
+  size = 128;
+  command = Root;
+  replica = 0;
+  kind = 0;
+  aux = 0;
+}
 
 abbrev pub root_header : ℕ → Header
 root_header cluster = root_by name_of cluster
@@ -32,9 +44,21 @@ root_header cluster = root_by name_of cluster
 -- the header of a client's request
 abbrev pub request_by : (List ℕ → List ℕ) → ℕ → ℕ → ℕ → Operation → Header
 request_by hash cluster client request operation = record {
-    body = record { 0 = hash (operation_bytes operation) }; parent = no_name; request_name = no_name; cluster = cluster; client = client; request = request;
-    view = 0; op = 0; commit = 0; size = 128 + length (operation_bytes operation); command = Request; replica = 0; kind = 0; aux = 0;
-  }
+  body = record { 0 = hash (operation_bytes operation) };
+  parent = no_name;
+  request_name = no_name;
+  cluster = cluster;
+  client = client;
+  request = request;
+  view = 0;
+  op = 0;
+  commit = 0;
+  size = 128 + length (operation_bytes operation);
+  command = Request;
+  replica = 0;
+  kind = 0;
+  aux = 0;
+}
 
 abbrev pub request_header : ℕ → ℕ → ℕ → Operation → Header
 request_header cluster client request operation = request_by name_of cluster client request operation

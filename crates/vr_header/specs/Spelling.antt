@@ -1,9 +1,8 @@
 -- One header, one spelling.
-use Rattle.std.specs.Prelude.{ℕ, suc, zero, ◌+◌, ◌^◌, ◌<◌, ◌≤◌, ◌≡◌, Bool, not, ◌&&◌, ◌==◌, nat_lt, nat_le, nat_eq, if◌then◌else◌, List, [], ◌∷◌, ◌++◌, length, take, replicate, slice_get, slice_index, Option, Some, None, is_none, unwrap_or, Result, Ok, Err}
+use Rattle.std.specs.Prelude.{ℕ, suc, zero, ◌^◌, ◌<◌, ◌≤◌, ◌≡◌, Bool, not, ◌&&◌, ◌==◌, nat_lt, nat_le, nat_eq, if◌then◌else◌, List, [], ◌∷◌, ◌++◌, length, take, replicate, slice_get, slice_index, Option, Some, None, is_none, unwrap_or, Result, Ok, Err}
 use Rattle.std.specs.Option.{option_map_or}
 use Rattle.std.specs.Int.{w32, w64}
 use Rattle.std.specs.Cmp.Lexicographic.{pointwise}
-use Rattle.vr_base.specs.declared.sum.Sum.{Sum}
 use Rattle.vr_base.specs.Bytes.{bytes32, bytes64, joined, name_of, number, piece}
 use Rattle.vr_header.specs.declared.command.Command.{Command}
 use Rattle.vr_header.specs.declared.command.Command.TheVariants.{Reserved, Root, Entry, Request, Reply, Prepare, PrepareOk, Commit, StartViewChange, DoViewChange, StartView, GetView, GetPrepare, GivePrepare, GetBlock, GiveBlock, Block}
@@ -95,21 +94,21 @@ fault_of bytes =
 -- the header whose fields stand at these places
 unfoldable pub header_at : List ℕ → Header
 header_at bytes = record {
-    body = record { 0 = piece 16 16 bytes };
-    parent = record { 0 = piece 32 16 bytes };
-    request_name = record { 0 = piece 48 16 bytes };
-    cluster = number w64 64 bytes;
-    client = number w64 72 bytes;
-    request = number w32 80 bytes;
-    view = number w32 84 bytes;
-    op = number w64 88 bytes;
-    commit = number w64 96 bytes;
-    size = number w32 104 bytes;
-    command = unwrap_or (command_of (slice_index bytes 108)) Reserved;
-    replica = slice_index bytes 109;
-    kind = slice_index bytes 111;
-    aux = number w64 112 bytes;
-  }
+  body = record { 0 = piece 16 16 bytes };
+  parent = record { 0 = piece 32 16 bytes };
+  request_name = record { 0 = piece 48 16 bytes };
+  cluster = number w64 64 bytes;
+  client = number w64 72 bytes;
+  request = number w32 80 bytes;
+  view = number w32 84 bytes;
+  op = number w64 88 bytes;
+  commit = number w64 96 bytes;
+  size = number w32 104 bytes;
+  command = unwrap_or (command_of (slice_index bytes 108)) Reserved;
+  replica = slice_index bytes 109;
+  kind = slice_index bytes 111;
+  aux = number w64 112 bytes;
+}
 
 -- the header, or the first fault that applies
 abbrev pub decoded : List ℕ → Result Header HeaderFault

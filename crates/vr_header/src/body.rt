@@ -6,10 +6,10 @@ ghost use Rattle.vr_header.specs.declared.outcome.Outcome.{Outcome};
 ghost use Rattle.vr_header.specs.Bodies.{IsOperation, IsOutcome, operation_bytes, operation_of, outcome_bytes, outcome_of};
 ghost use Rattle.vr_header.specs.Views.{operation_seen, outcome_seen};
 
-use crate::view::{read_operation, read_outcome, OperationView, OutcomeView};
+use crate::view::{OperationView, OutcomeView, read_operation, read_outcome};
 use crate::{Key, Operation, Outcome, Size, Value};
 use std::alloc::{AllocError, Global};
-use vr_base::{checksum, checksum_of_parts, ByteList, Sum};
+use vr_base::{ByteList, Sum, checksum, checksum_of_parts};
 
 impl Operation {
     /// The one spelling of an operation, of at most 1,092 bytes.
@@ -55,10 +55,22 @@ impl Operation {
             Operation::Register => checksum(&[1]),
             Operation::Put(key, value) => {
                 let [high, low] = (value.as_slice().len() as u16).to_be_bytes();
-                checksum_of_parts(&[2, key.as_slice().len() as u8, high, low], key.as_slice(), value.as_slice())
+                checksum_of_parts(
+                    &[2, key.as_slice().len() as u8, high, low],
+                    key.as_slice(),
+                    value.as_slice(),
+                )
             }
-            Operation::Get(key) => checksum_of_parts(&[3, key.as_slice().len() as u8], key.as_slice(), &[]),
-            Operation::Delete(key) => checksum_of_parts(&[4, key.as_slice().len() as u8], key.as_slice(), &[]),
+            Operation::Get(key) => checksum_of_parts(
+                &[3, key.as_slice().len() as u8],
+                key.as_slice(),
+                &[],
+            ),
+            Operation::Delete(key) => checksum_of_parts(
+                &[4, key.as_slice().len() as u8],
+                key.as_slice(),
+                &[],
+            ),
         }
     }
 
@@ -149,14 +161,20 @@ fn made_operation(alloc: Global, bytes: &[u8]) -> Result<Option<Operation>, Allo
     }
 }
 
-pub(crate) fn owned_operation(alloc: Global, view: OperationView<'_>) -> Result<Operation, AllocError>
+pub(crate) fn owned_operation(
+    alloc: Global,
+    view: OperationView<'_>,
+) -> Result<Operation, AllocError>
     requires { IsOperation (operation_seen view) }
     ensures { IfOk result (λ operation. operation ≡ operation_seen view.entry) }
 {
     match view {
         OperationView::Register => Ok(Operation::Register),
         OperationView::Put(key, value) => {
-            Ok(Operation::Put(Key::from_bytes(alloc, key)?, Value::from_bytes(alloc, value)?))
+            Ok(Operation::Put(
+                Key::from_bytes(alloc, key)?,
+                Value::from_bytes(alloc, value)?,
+            ))
         }
         OperationView::Get(key) => Ok(Operation::Get(Key::from_bytes(alloc, key)?)),
         OperationView::Delete(key) => Ok(Operation::Delete(Key::from_bytes(alloc, key)?)),

@@ -8,8 +8,8 @@ ghost use Rattle.vr_header.specs.Spelling.{IsHeader};
 ghost use Rattle.vr_header.specs.Views.{entry_seen, operation_seen};
 
 use crate::body::owned_operation;
-use crate::view::{read_entry, EntryView};
-use crate::{encode, Command, Header, Operation};
+use crate::view::{EntryView, read_entry};
+use crate::{Command, Header, Operation, encode};
 use std::alloc::{AllocError, Global};
 use std::marker::Model;
 use vr_base::Sum;
@@ -43,7 +43,13 @@ impl Entry {
     }
 
     /// The entry of a request, made in this view for this op, on the entry of this name.
-    pub fn of_request(request: &Header, operation: Operation, view: u32, op: u64, parent: Sum) -> Entry
+    pub fn of_request(
+        request: &Header,
+        operation: Operation,
+        view: u32,
+        op: u64,
+        parent: Sum,
+    ) -> Entry
         requires request { IsRequest request.now operation }
         requires view { view < 2 ^ 32 - 1 }
         requires op { (1 ≤ op) × (op ≤ 2 ^ 62) }

@@ -2,7 +2,7 @@
 
 use crate::codec::{name_of_rest, written};
 use crate::{Command, Operation, Size};
-use vr_base::{checksum, Seq, Sum};
+use vr_base::{Seq, Sum, checksum};
 
 /// The header of an entry, of a message, or of a record of the disk. A field that its command has no
 /// use for is zero.

@@ -8,8 +8,8 @@ ghost use Rattle.vr_header.specs.Made.{entry_of, is_register, is_whole};
 ghost use Rattle.vr_header.specs.Views.{entry_seen, operation_seen, outcome_seen};
 
 use crate::text::is_text;
-use crate::{decode, Header};
-use vr_base::{checksum, Sum};
+use crate::{Header, decode};
+use vr_base::{Sum, checksum};
 
 /// An operation whose texts stand in the bytes that it was read from.
 #[derive(Clone, Copy)]

@@ -1,6 +1,4 @@
-use Rattle.std.proofs.Common.{◌∙◌, arith, sym, subst, ap, Ok}
-use Rattle.std.specs.Prelude.{IfOk}
-use Rattle.vr_header.specs.Spelling.{IsHeader, Spells, decoded}
+use Rattle.std.proofs.Common.{◌∙◌, arith}
 use Rattle.vr_header.proofs.HeaderLaws.{decoded_again, decoded_found}
 use Rattle.vr_header.proofs.codec.decode.Goals as goal
 

@@ -1,4 +1,4 @@
-use Rattle.std.proofs.Common.{◌≡◌, arith, sym, subst, Option}
+use Rattle.std.proofs.Common.{arith, sym, subst, Option}
 use Rattle.std.specs.Prelude.{IfSome}
 use Rattle.vr_header.specs.Made.{Whole}
 use Rattle.vr_header.proofs.EntryLaws.{IsSpelled, entry_found}
