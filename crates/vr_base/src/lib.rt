@@ -13,3 +13,6 @@ pub use groups::quorums;
 pub use seq::{ByteList, Seq};
 pub use sum::{Sum, checksum, checksum_of_parts};
 pub use table::{Config, Quorums};
+
+#[cfg(test)]
+mod tests;
