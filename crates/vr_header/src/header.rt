@@ -1,0 +1,125 @@
+//! The header of 128 bytes that stands before each body.
+
+use crate::codec::{name_of_rest, written};
+use crate::{Command, Operation, Size};
+use vr_base::{Seq, Sum, checksum};
+
+/// The header of an entry, of a message, or of a record of the disk. A field that its command has no
+/// use for is zero.
+#[derive(Clone, Copy, Debug, PartialEq, Eq)]
+pub struct Header {
+    /// The name of the body.
+    pub body: Sum,
+    /// The name of what comes before: of an entry's header, or of what is asked for.
+    pub parent: Sum,
+    /// The name of the request's header.
+    pub request_name: Sum,
+    /// The number of the group.
+    pub cluster: u64,
+    /// The number of the client.
+    pub client: u64,
+    /// The number of the client's request.
+    pub request: u32,
+    pub view: u32,
+    pub op: u64,
+    pub commit: u64,
+    /// How many bytes header and body have.
+    pub size: Size,
+    pub command: Command,
+    /// The number of the sender.
+    pub replica: u8,
+    /// Which kind of reply, or of block.
+    pub kind: u8,
+    /// One number more, by command.
+    pub aux: u64,
+}
+
+/// Headers in order.
+pub type HeaderList = Seq<Header>;
+
+/// Why bytes spell no header: the first of these that applies.
+#[derive(Clone, Copy, Debug, PartialEq, Eq)]
+pub enum HeaderFault {
+    /// Fewer than 128 bytes.
+    Short,
+    /// Bytes 16 to 127 don't have the name that the first 16 bytes give.
+    BadSum,
+    /// No command has this number.
+    BadCommand,
+    /// The version isn't 1.
+    BadVersion,
+    /// The size is below 128 or above 20,480.
+    BadSize,
+    /// Bytes 120 to 127 aren't zero.
+    NotZero,
+}
+
+impl Header {
+    ghost use Rattle.std.specs.Prelude.{◌≡◌, ◌↔◌, IsTrue};
+    ghost use Rattle.vr_header.specs.Made.{IsEntryHeader, is_bare, is_entry_header};
+    ghost use Rattle.vr_header.specs.Names.{header_name, request_header, root_header};
+
+    /// What op 1 of a group stands on.
+    pub fn root(cluster: u64) -> Header
+        ensures { result ≡ root_header cluster }
+    {
+        Header {
+            body: checksum(&[]),
+            parent: Sum([0; 16]),
+            request_name: Sum([0; 16]),
+            cluster,
+            client: 0,
+            request: 0,
+            view: 0,
+            op: 0,
+            commit: 0,
+            size: Size::new(128),
+            command: Command::Root,
+            replica: 0,
+            kind: 0,
+            aux: 0,
+        }
+    }
+
+    /// The header of a client's request, with the request's number.
+    pub fn of_request(cluster: u64, client: u64, request: u32, operation: &Operation) -> Header
+        ensures { result ≡ request_header cluster client request operation.now }
+    {
+        Header {
+            body: operation.body_name(),
+            client,
+            request,
+            size: operation.size(),
+            command: Command::Request,
+            ..Header::root(cluster)
+        }
+    }
+
+    /// The name of this header: of its bytes 16 to 127.
+    pub fn name(&self) -> Sum
+        ensures { result ≡ header_name self.now }
+    {
+        name_of_rest(&written(*self))
+    }
+
+    /// Whether an entry may have this header.
+    pub fn is_entry(&self) -> bool
+        ensures value { result ≡ is_entry_header self.now }
+        ensures meaning { IsTrue result ↔ IsEntryHeader self.now }
+    {
+        self.command == Command::Entry
+            && 128 < self.size.get()
+            && self.size.get() <= 2048
+            && self.view < u32::MAX
+            && 1 <= self.op
+            && self.op <= 1 << 62
+            && self.is_bare()
+    }
+
+    // Whether the fields that an entry has no use for are zero.
+    fn is_bare(&self) -> bool
+        ensures { result ≡ is_bare self.now }
+    {
+        self.commit == 0 && self.replica == 0 && self.kind == 0 && self.aux == 0
+    }
+}

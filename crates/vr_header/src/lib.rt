@@ -1,0 +1,27 @@
+//! Headers, the operations and outcomes that stand behind them, and their bytes.
+#![tactic(auto)]
+
+mod body;
+mod codec;
+mod command;
+mod entry;
+mod header;
+mod operation;
+mod outcome;
+mod part;
+mod size;
+mod text;
+mod view;
+
+pub use codec::{decode, encode};
+pub use command::Command;
+pub use entry::Entry;
+pub use header::{Header, HeaderFault, HeaderList};
+pub use operation::Operation;
+pub use outcome::Outcome;
+pub use part::Part;
+pub use size::Size;
+pub use text::{Key, Text, Value};
+
+#[cfg(test)]
+mod tests;
