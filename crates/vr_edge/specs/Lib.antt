@@ -1,2 +1,4 @@
+pub mod Calls
+pub mod Counts
 pub mod Datagrams
 pub mod Told

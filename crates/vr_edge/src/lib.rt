@@ -2,14 +2,23 @@
 //! content where it tells it; and objects in memory that stand for them.
 #![tactic(auto)]
 
+mod calls;
 mod clock;
 mod datagram;
 mod link;
+mod mem_clock;
+mod mem_sink;
+mod mem_source;
 mod sink;
 mod source;
+mod write_all;
 
 pub use clock::Clock;
 pub use datagram::Datagram;
 pub use link::{Link, LinkFailed, Received};
+pub use mem_clock::MemClock;
+pub use mem_sink::MemSink;
+pub use mem_source::MemSource;
 pub use sink::{Sink, WriteFailed};
 pub use source::{ReadFailed, Source};
+pub use write_all::write_whole;
