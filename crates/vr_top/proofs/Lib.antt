@@ -11,3 +11,4 @@ pub mod Cuts
 pub mod Plays
 pub mod Streams
 pub mod Whole
+mod Rows
