@@ -53,7 +53,7 @@ pub went_out : (bytes bytes' more : List ℕ) (marks marks' : List (Option Mark)
 unfolding entries marked
 went_out bytes bytes' more marks marks' port start end past none within grown starts ends marked_so =
     rw (none, marked_so, ends, starts, grown, length-append bytes more, map-append (marked (bytes ++ more)) marks (Some (mark_at port (length bytes) (length bytes + length more)) ∷ []), all_kept bytes more marks within, last_piece bytes more, append-nil (map (marked bytes) marks))
-        (append-nil _)
+    (append-nil _)
 
 -- a send failed while there was room
 pub failed : (bytes : List ℕ) (marks : List (Option Mark)) (past : ℕ) → past ≡ 0
@@ -128,4 +128,4 @@ pub entry_told : (bytes : List ℕ) (marks : List (Option Mark)) (past at : ℕ)
 unfolding entries
 entry_told bytes marks past at =
     elim (nat_le (2 ^ 64 - 1) past) as (λ ended. IfSome (if ended then None else Some (map (marked bytes) marks ++ replicate past None)) (λ sent. option_and_then (marked bytes) (slice_get marks at) ≡ entry_at sent at))
-        [ true ↦ tt | false ↦ entry_marked bytes marks past at ]
+    [ true ↦ tt | false ↦ entry_marked bytes marks past at ]

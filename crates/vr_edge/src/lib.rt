@@ -28,3 +28,6 @@ pub use script::LinkScript;
 pub use sink::{Sink, WriteFailed};
 pub use source::{ReadFailed, Source};
 pub use write_all::write_whole;
+
+#[cfg(test)]
+mod tests;

@@ -77,7 +77,7 @@ impl Link for MemLink {
         ensures sent { ⟦<MemLink as Link>⟧.sent self.new ≡ ⟦<MemLink as Link>⟧.sent self.old }
         ensures received { ⟦<MemLink as Link>⟧.received self.new ≡ ⟦<MemLink as Link>⟧.received self.old }
         ensures others { self.new.send_faults ≡ self.old.send_faults }
-        ensures result { result ≡ (if is_listed self.old.script.failing_attaches.items self.old.attaches then Err (record { }) else Ok (record { })) }
+        ensures result { result ≡ (if is_listed self.old.script.failing_attaches.items self.old.attaches then Err (record {}) else Ok (record {})) }
         ensures state { self.new ≡ record self.old { attaches = one_more self.old.attaches; faults = self.new.faults } }
     {
         let call = self.attaches;
@@ -94,7 +94,7 @@ impl Link for MemLink {
         ensures sent { Grows (⟦<MemLink as Link>⟧.sent self.old) (⟦<MemLink as Link>⟧.sent self.new) (sent_by to bytes.now result ∷ []) }
         ensures received { ⟦<MemLink as Link>⟧.received self.new ≡ ⟦<MemLink as Link>⟧.received self.old }
         ensures others { self.new.faults ≡ self.old.faults }
-        ensures result { result ≡ (if sends_well self.old (length bytes.now) then Ok (record { }) else Err (record { })) }
+        ensures result { result ≡ (if sends_well self.old (length bytes.now) then Ok (record {}) else Err (record {})) }
         ensures state { self.new ≡ record self.old { outbox = self.new.outbox; send_faults = self.new.send_faults } }
     {
         let fails = is_listed(&self.script.failing_sends, self.outbox.len() as u64);

@@ -62,7 +62,8 @@ impl LinkScript {
             return Ok(Received::Quiet);
         };
         let count = datagram.bytes.len().min(RECEIVE_ROOM);
-        to.extend_from_slice(&datagram.bytes.as_slice()[..count]).unwrap();
+        to.extend_from_slice(&datagram.bytes.as_slice()[..count])
+            .unwrap();
         Ok(Received::Datagram(datagram.port))
     }
 }
