@@ -1,7 +1,7 @@
 -- What the outbox of a link in memory tells, one send after another.
-use Rattle.std.specs.Prelude.{◌≡◌, ◌+◌, ◌-◌, ◌^◌, ◌≤◌, ℕ, List, [], ◌∷◌, ◌++◌, Option, Some, None, Bool, true, false, map, take, drop, length, replicate, min, nat_le, ◌&&◌, refl, slice_get, option_and_then, IfSome, if◌then◌else◌}
-use Rattle.std.proofs.Common.{arith, zero, suc, sym, ap, ◌∙◌, append_assoc, append-nil, length-append}
-use Rattle.std.proofs.lemmas.Bool.{and_parts, eqb-true}
+use Rattle.std.specs.Prelude.{◌≡◌, ◌+◌, ◌-◌, ◌^◌, ◌≤◌, ℕ, List, [], ◌∷◌, ◌++◌, Option, Some, None, true, false, map, take, drop, length, replicate, min, nat_le, refl, slice_get, option_and_then, IfSome, if◌then◌else◌}
+use Rattle.std.proofs.Common.{arith, zero, suc, sym, ap, append_assoc, append-nil, length-append}
+use Rattle.std.proofs.lemmas.Bool.{and_parts}
 use Rattle.std.proofs.lemmas.Grind.{common_steps}
 use Rattle.std.proofs.lemmas.List.{map-append, take-append-le, drop-append-le, replicate-append-replicate}
 use Rattle.std.proofs.Math.Seq.{drop-append_seam}
@@ -9,7 +9,6 @@ use Rattle.vr_edge.proofs.Told.{grows_if}
 use Rattle.vr_edge.specs.Marks.{is_within, are_within}
 use Rattle.vr_edge.specs.Sending.{datagram_at, marked, entries, has_room, entry_at}
 use Rattle.vr_edge.specs.Told.{Grows}
-use Rattle.vr_edge.specs.declared.datagram.Datagram.{Datagram}
 use Rattle.vr_edge.specs.declared.outbox.Mark.{Mark}
 use Rattle.vr_edge.specs.declared.outbox.Outbox.{Outbox}
 

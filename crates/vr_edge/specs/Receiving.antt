@@ -1,5 +1,5 @@
 -- What comes over a link in memory.
-use Rattle.std.specs.Prelude.{ℕ, ◌+◌, ◌-◌, ◌^◌, List, [], ◌∷◌, ◌++◌, Option, Some, None, if◌then◌else◌, option_and_then, slice_get, take, nat_le, zero, suc}
+use Rattle.std.specs.Prelude.{ℕ, ◌-◌, ◌^◌, List, [], ◌∷◌, ◌++◌, Option, Some, None, if◌then◌else◌, option_and_then, slice_get, take, nat_le, zero, suc}
 use Rattle.vr_edge.specs.Counts.{is_listed}
 use Rattle.vr_edge.specs.Datagrams.{Arrival, Failed, Nothing, Came}
 use Rattle.vr_edge.specs.Sending.{datagram_at}

@@ -1,5 +1,5 @@
 -- What a link in memory was given to send.
-use Rattle.std.specs.Prelude.{ℕ, ◌-◌, ◌^◌, List, ◌++◌, Bool, Option, Some, None, if◌then◌else◌, ◌==◌, ◌&&◌, map, take, drop, length, replicate, vec_len, nat_lt, nat_le, slice_get, option_and_then, not}
+use Rattle.std.specs.Prelude.{ℕ, ◌-◌, ◌^◌, List, ◌++◌, Bool, Option, Some, None, if◌then◌else◌, ◌==◌, ◌&&◌, map, take, drop, replicate, vec_len, nat_lt, nat_le, slice_get, option_and_then}
 use Rattle.std.specs.Option.{option_map}
 use Rattle.vr_edge.specs.declared.datagram.Datagram.{Datagram}
 use Rattle.vr_edge.specs.declared.outbox.Mark.{Mark}

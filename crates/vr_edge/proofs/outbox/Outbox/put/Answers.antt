@@ -1,4 +1,4 @@
-use Rattle.std.proofs.Common.{◌≡◌, ◌∙◌, ◌++◌, sym, true}
+use Rattle.std.proofs.Common.{◌≡◌, ◌∙◌, ◌++◌, sym}
 use Rattle.vr_edge.proofs.Sending.{none_past, went_out, failed, came_past, within_more}
 use Rattle.vr_edge.proofs.outbox.Outbox.put.Goals as goal
 
