@@ -6,3 +6,6 @@ mod sector;
 
 pub use none::NoDisk;
 pub use sector::{DiskFailed, SECTORS, Sector, SectorDisk};
+
+#[cfg(test)]
+mod tests;

@@ -1,15 +1,14 @@
 -- What the outbox of a link in memory tells, one send after another.
-use Rattle.std.specs.Prelude.{◌≡◌, ◌+◌, ◌-◌, ◌^◌, ◌≤◌, ℕ, List, [], ◌∷◌, ◌++◌, Option, Some, None, Bool, true, false, map, take, drop, length, replicate, min, nat_le, ◌&&◌, ◌==◌, refl}
-use Rattle.std.proofs.Common.{arith, zero, suc, sym, ap, ◌∙◌, append_assoc, append-nil, length-append}
-use Rattle.std.proofs.lemmas.Bool.{and_parts, eqb-true}
+use Rattle.std.specs.Prelude.{◌≡◌, ◌+◌, ◌-◌, ◌^◌, ◌≤◌, ℕ, List, [], ◌∷◌, ◌++◌, Option, Some, None, true, false, map, take, drop, length, replicate, min, nat_le, refl, slice_get, option_and_then, IfSome, if◌then◌else◌}
+use Rattle.std.proofs.Common.{arith, zero, suc, sym, ap, append_assoc, append-nil, length-append}
+use Rattle.std.proofs.lemmas.Bool.{and_parts}
 use Rattle.std.proofs.lemmas.Grind.{common_steps}
 use Rattle.std.proofs.lemmas.List.{map-append, take-append-le, drop-append-le, replicate-append-replicate}
 use Rattle.std.proofs.Math.Seq.{drop-append_seam}
 use Rattle.vr_edge.proofs.Told.{grows_if}
 use Rattle.vr_edge.specs.Marks.{is_within, are_within}
-use Rattle.vr_edge.specs.Sending.{datagram_at, marked, entries, has_room}
+use Rattle.vr_edge.specs.Sending.{datagram_at, marked, entries, has_room, entry_at}
 use Rattle.vr_edge.specs.Told.{Grows}
-use Rattle.vr_edge.specs.declared.datagram.Datagram.{Datagram}
 use Rattle.vr_edge.specs.declared.outbox.Mark.{Mark}
 use Rattle.vr_edge.specs.declared.outbox.Outbox.{Outbox}
 
@@ -53,7 +52,7 @@ pub went_out : (bytes bytes' more : List ℕ) (marks marks' : List (Option Mark)
 unfolding entries marked
 went_out bytes bytes' more marks marks' port start end past none within grown starts ends marked_so =
     rw (none, marked_so, ends, starts, grown, length-append bytes more, map-append (marked (bytes ++ more)) marks (Some (mark_at port (length bytes) (length bytes + length more)) ∷ []), all_kept bytes more marks within, last_piece bytes more, append-nil (map (marked bytes) marks))
-        (append-nil _)
+    (append-nil _)
 
 -- a send failed while there was room
 pub failed : (bytes : List ℕ) (marks : List (Option Mark)) (past : ℕ) → past ≡ 0
@@ -80,19 +79,19 @@ still_within : (count more : ℕ) (mark : Option Mark)
 still_within count more None h = refl
 still_within count more (Some m) h = grind (arith, h)
 
-within_last : (count more : ℕ) (marks : List (Option Mark)) (port start : ℕ) → are_within count marks ≡ true
+within_last : (count more : ℕ) (marks : List (Option Mark)) (port start : ℕ) → start ≤ count → are_within count marks ≡ true
     → are_within (count + more) (marks ++ Some (mark_at port start (count + more)) ∷ []) ≡ true
-within_last count more [] port start h = grind arith
-within_last count more (mark ∷ marks) port start h =
+within_last count more [] port start below h = grind (arith, below)
+within_last count more (mark ∷ marks) port start below h =
     let parts = and_parts (is_within count mark) (are_within count marks) h in
-    rw (still_within count more mark parts.0, within_last count more marks port start parts.1) refl
+    rw (still_within count more mark parts.0, within_last count more marks port start below parts.1) refl
 
 -- marks after one more
 pub within_more : (bytes bytes' more : List ℕ) (marks marks' : List (Option Mark)) (port start end : ℕ)
-    → are_within (length bytes) marks ≡ true → bytes' ≡ bytes ++ more → end ≡ length bytes'
+    → are_within (length bytes) marks ≡ true → bytes' ≡ bytes ++ more → start ≡ length bytes → end ≡ length bytes'
     → marks' ≡ marks ++ Some (mark_at port start end) ∷ [] → are_within (length bytes') marks' ≡ true
-within_more bytes bytes' more marks marks' port start end within grown ends marked_so =
-    rw (marked_so, ends, grown, length-append bytes more) (within_last (length bytes) (length more) marks port start within)
+within_more bytes bytes' more marks marks' port start end within grown starts ends marked_so =
+    rw (marked_so, ends, grown, length-append bytes more) (within_last (length bytes) (length more) marks port start (rw starts (omega arith)) within)
 
 pub within_failed : (count : ℕ) (marks : List (Option Mark)) → are_within count marks ≡ true
     → are_within count (marks ++ None ∷ []) ≡ true
@@ -100,3 +99,32 @@ within_failed count [] h = refl
 within_failed count (mark ∷ marks) h =
     let parts = and_parts (is_within count mark) (are_within count marks) h in
     rw (parts.0, within_failed count marks parts.1) refl
+
+-- the marks that stand
+pub within_at : (count : ℕ) (marks : List (Option Mark)) (at : ℕ) → are_within count marks ≡ true
+    → IfSome (slice_get marks at) (λ mark. is_within count mark ≡ true)
+within_at count [] zero h = tt
+within_at count [] (suc at) h = tt
+within_at count (mark ∷ marks) zero h = (and_parts (is_within count mark) (are_within count marks) h).0
+within_at count (mark ∷ marks) (suc at) h =
+    within_at count marks at (and_parts (is_within count mark) (are_within count marks) h).1
+
+none_sent : (past at : ℕ) → entry_at (replicate past None) at ≡ None
+none_sent zero zero = refl
+none_sent zero (suc at) = refl
+none_sent (suc past) zero = refl
+none_sent (suc past) (suc at) = none_sent past at
+
+-- an entry of what is told is the datagram of its mark
+entry_marked : (bytes : List ℕ) (marks : List (Option Mark)) (past at : ℕ)
+    → option_and_then (marked bytes) (slice_get marks at) ≡ entry_at (map (marked bytes) marks ++ replicate past None) at
+entry_marked bytes [] past at = sym (none_sent past at)
+entry_marked bytes (mark ∷ marks) past zero = refl
+entry_marked bytes (mark ∷ marks) past (suc at) = entry_marked bytes marks past at
+
+pub entry_told : (bytes : List ℕ) (marks : List (Option Mark)) (past at : ℕ)
+    → IfSome (entries bytes marks past) (λ sent. option_and_then (marked bytes) (slice_get marks at) ≡ entry_at sent at)
+unfolding entries
+entry_told bytes marks past at =
+    elim (nat_le (2 ^ 64 - 1) past) as (λ ended. IfSome (if ended then None else Some (map (marked bytes) marks ++ replicate past None)) (λ sent. option_and_then (marked bytes) (slice_get marks at) ≡ entry_at sent at))
+    [ true ↦ tt | false ↦ entry_marked bytes marks past at ]

@@ -13,7 +13,7 @@ source_fails source = is_listed source.failing.items source.calls
 -- the next read, into a buffer of this length
 abbrev pub source_gives : MemSource → ℕ → Result ℕ ReadFailed
 source_gives source room =
-    if source_fails source then Err (record { }) else Ok (min room (length source.bytes.items - source.at))
+    if source_fails source then Err (record {}) else Ok (min room (length source.bytes.items - source.at))
 
 -- how many bytes the sink still takes
 abbrev pub room_left : MemSink → ℕ
@@ -25,4 +25,4 @@ sink_fails sink = room_left sink == 0 || is_listed sink.failing.items sink.calls
 
 -- the next write, of so many bytes
 abbrev pub sink_takes : MemSink → ℕ → Result ℕ WriteFailed
-sink_takes sink count = if sink_fails sink then Err (record { }) else Ok (min count (room_left sink))
+sink_takes sink count = if sink_fails sink then Err (record {}) else Ok (min count (room_left sink))

@@ -1,5 +1,5 @@
 -- What a link in memory was given to send.
-use Rattle.std.specs.Prelude.{ℕ, ◌-◌, ◌^◌, List, ◌++◌, Bool, Option, Some, None, if◌then◌else◌, ◌==◌, ◌&&◌, map, take, drop, length, replicate, vec_len, nat_lt, nat_le}
+use Rattle.std.specs.Prelude.{ℕ, ◌-◌, ◌^◌, List, ◌++◌, Bool, Option, Some, None, if◌then◌else◌, ◌==◌, ◌&&◌, map, take, drop, replicate, vec_len, nat_lt, nat_le, slice_get, option_and_then}
 use Rattle.std.specs.Option.{option_map}
 use Rattle.vr_edge.specs.declared.datagram.Datagram.{Datagram}
 use Rattle.vr_edge.specs.declared.outbox.Mark.{Mark}
@@ -24,3 +24,7 @@ outbox_told o = entries o.bytes.items o.marks.items o.past
 -- there is room for a datagram of this length, and there was for each before
 abbrev pub has_room : Outbox → ℕ → Bool
 has_room o len = o.past == 0 && nat_lt (vec_len o.marks) o.room.datagrams && nat_le len (o.room.bytes - vec_len o.bytes)
+
+-- the datagram of an entry
+abbrev pub entry_at : List (Option Datagram) → ℕ → Option Datagram
+entry_at sent at = option_and_then (λ entry. entry) (slice_get sent at)

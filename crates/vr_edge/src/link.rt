@@ -7,6 +7,10 @@ ghost use Rattle.vr_edge.specs.declared.datagram.Datagram.{Datagram};
 
 use thiserror::Error;
 
+/// The room in bytes that the buffer of a receive has: one more than the longest message, so that a datagram
+/// that is too long is seen as such.
+pub const RECEIVE_ROOM: usize = 20481;
+
 /// A call of a link that failed.
 #[derive(Clone, Copy, Debug, PartialEq, Eq, Error)]
 #[error("link failed")]
@@ -53,11 +57,11 @@ pub trait Link {
 
     /// The next datagram, whose bytes take the place of what `to` holds; it is never longer than the room of `to`.
     fn receive(&mut self, to: &mut Vec<u8>) -> Result<Received, LinkFailed>
-        requires { 20481 ≤ vec_capacity to.old }
+        requires { RECEIVE_ROOM ≤ vec_capacity to.old }
         ensures cause { HasCause (faults self.old) (faults self.new) result }
         ensures quiet { IfOk result (λ r. r ≡ Received.Quiet → IsNothing (waiting self.old)) }
         ensures sent { sent self.new ≡ sent self.old }
         ensures received { Grows (received self.old) (received self.new) (received_by result to.new.items ∷ []) }
-        ensures room { 20481 ≤ vec_capacity to.new }
+        ensures room { RECEIVE_ROOM ≤ vec_capacity to.new }
         ensures others { send_faults self.new ≡ send_faults self.old };
 }

@@ -1,5 +1,6 @@
 //! What a link in memory was given to send, in room that is made at first.
-ghost use Rattle.std.specs.Prelude.{◌≡◌, ◌≤◌, true, ℕ, [], ◌∷◌, Some, None, IfOk, IfSome, length, vec_len, vec_capacity, if◌then◌else◌, ◌&&◌, not};
+ghost use Rattle.std.specs.Prelude.{◌≡◌, ◌≤◌, true, ℕ, [], ◌∷◌, Some, None, IfOk, IfSome, length, vec_len, vec_capacity, if◌then◌else◌, ◌&&◌, not, slice_get, option_and_then};
+ghost use Rattle.std.specs.Option.{option_map};
 ghost use Rattle.vr_edge.specs.Marks.{are_within};
 
 use std::alloc::{AllocError, Global};
@@ -36,7 +37,7 @@ pub struct Outbox {
 }
 
 impl Outbox {
-    ghost use Rattle.vr_edge.specs.Sending.{outbox_told, has_room, datagram_at};
+    ghost use Rattle.vr_edge.specs.Sending.{outbox_told, has_room, datagram_at, marked};
     ghost use Rattle.vr_edge.specs.Told.{Grows};
 
     #[tactic(auto, unfolding(crate::specs::Sending::entries))]
@@ -87,5 +88,16 @@ impl Outbox {
         ensures { result ≡ vec_len self.now.marks }
     {
         self.marks.len()
+    }
+
+    /// The port and the bytes of a send by its number, `None` where it failed or is yet to come.
+    #[tactic(auto, using(std::proofs::lemmas::Grind::common_steps, crate::proofs::Sending::within_at), unfolding(crate::specs::Sending::marked))]
+    pub fn get(&self, at: usize) -> Option<(u32, &[u8])>
+        ensures { option_map (λ d. datagram_at d.0 d.1.now) result ≡ option_and_then (marked self.now.bytes.items) (slice_get self.now.marks.items at) }
+    {
+        let Some(Some(mark)) = self.marks.get(at) else {
+            return None;
+        };
+        Some((mark.port, &self.bytes[mark.start..mark.end]))
     }
 }
