@@ -11,4 +11,10 @@ pub mod Cuts
 pub mod Plays
 pub mod Streams
 pub mod Whole
+pub mod Fronts
+pub mod Vouching
+pub mod Member
+pub mod Leading
+pub mod Steps
+pub mod Agreement
 mod Rows

@@ -1,6 +1,7 @@
 pub mod Lines
 pub mod Grammar
 pub mod Schedule
+pub mod Entries
 pub mod Rules
 pub mod Sessions
 pub mod Fresh

@@ -15,6 +15,7 @@ use Rattle.vr_top.specs.declared.replica.Ack.{Ack}
 use Rattle.vr_top.specs.declared.replica.Replica.{Replica}
 use Rattle.vr_top.specs.declared.replica.Event.{Event}
 use Rattle.vr_top.specs.declared.replica.Event.TheVariants.{Request, Deliver}
+use Rattle.vr_top.specs.Entries.{same_entry}
 use Rattle.vr_top.specs.Sessions.{session_of, with_session}
 
 -- what a step leaves, and what it puts out in order
@@ -55,9 +56,6 @@ abbrev pub replies : Replica → ℕ → Answer → Reacted
 replies r client answer = record { replica = r; outputs = reply r client answer ∷ [] }
 
 -- The log
-
-abbrev pub same_entry : Entry → Entry → Bool
-same_entry a b = a.op == b.op && a.made == b.made && a.client == b.client && a.request == b.request
 
 -- the log has this entry at its number
 abbrev pub has_entry : List Entry → Entry → Bool
