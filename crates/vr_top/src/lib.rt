@@ -1,4 +1,5 @@
-//! Replay of a schedule over a group of replicas.
+//! Replay of a schedule over a group of replicas: its lines are read from a source, and the outputs of the replicas are
+//! written to a sink, line by line.
 #![tactic(auto)]
 
 mod command;
@@ -13,17 +14,17 @@ mod status;
 mod stop;
 mod world;
 
+use group::Group;
+use line::{Line, parse_line};
+use message::{Answer, Asked, Committed, Entry, Envelope, Message, Numbered, Output, Replied};
+use playing::Replay;
+use replica::{Event, Replica};
+use sessions::Sessions;
+use stop::Stop;
+use world::World;
+
 pub use command::run;
-pub use group::Group;
-pub use line::{Line, parse_line};
-pub use message::{Answer, Asked, Committed, Entry, Envelope, Message, Numbered, Output, Replied};
-pub use playing::Replay;
-pub use printing::text;
-pub use replica::{Ack, Event, Replica};
-pub use sessions::Sessions;
 pub use status::{Status, code, status_line};
-pub use stop::Stop;
-pub use world::World;
 
 #[cfg(test)]
 mod tests;

@@ -32,8 +32,8 @@ fn push_digit(n: u64, b: u8) -> Option<u64>
     n.checked_mul(10)?.checked_add(u64::from(b - 48))
 }
 
-#[tactic(auto, using(std::proofs::lemmas::Grind::common_steps, crate::proofs::Digits::digits_more, crate::proofs::Digits::digits_all))]
 /// The number that digits spell.
+#[tactic(auto, using(std::proofs::lemmas::Grind::common_steps, crate::proofs::Digits::digits_more, crate::proofs::Digits::digits_all))]
 fn read_digits(digits: &[u8]) -> Option<u64>
     ensures { result ≡ digits_on 0 digits.now }
 {
