@@ -1,5 +1,7 @@
 //! A list that contracts see as a list.
 ghost use Rattle.std.specs.Prelude.{◌≡◌, ◌<◌, ℕ, List, [], ◌∷◌, ◌++◌, length, OnOk, OnErr, IfOk, slice_get, slice_set};
+ghost use Rattle.std.specs.Fn.{CalledAt};
+ghost use Rattle.std.specs.List.Retain.{IsFiltered};
 
 use std::alloc::{AllocError, Global};
 use std::marker::Model;
@@ -64,6 +66,14 @@ impl<T: Drop> Seq<T> {
     {
         self.items.push(item)?;
         Ok(())
+    }
+
+    /// Keeps the items at which `f` answers true, in order.
+    pub fn retain<F: FnMut(&T) -> bool>(&mut self, f: F)
+        requires { F.IsAlwaysCallable f }
+        ensures { IsFiltered (CalledAt F.FnMut) f self.old self.new }
+    {
+        self.items.retain(f);
     }
 
     /// Lets all items go.

@@ -1,0 +1,67 @@
+#!/usr/bin/env bash
+# Measures the built program (crates/vr_app/out/vr_app) on schedules of 10,000, 100,000 and 900,000 lines over
+# groups of 2 and of 6: lines per second and peak memory of whole runs, and instructions per line under
+# valgrind --tool=callgrind at 10,000 and 100,000 lines. It ends with status 1 where the work per line grows with
+# the number of lines before it: more than 1.2 times the instructions per line at 100,000 as at 10,000.
+#   bench/replay.sh [FOLDER]    FOLDER keeps the schedules; without it they are thrown away
+# Needs bash, awk, GNU time (/usr/bin/time) and valgrind.
+set -eu
+cd "$(dirname "$0")/.."
+program=$PWD/crates/vr_app/out/vr_app
+folder=${1:-$(mktemp -d)}
+mkdir -p "$folder"
+[ $# -gt 0 ] || trap 'rm -rf "$folder"' EXIT
+
+# A schedule of so many lines over so many replicas: one client after the other registers, each operation is
+# delivered to as many backups as commit it, and each acknowledgement to the primary. After every tenth operation
+# its client asks again, and after every hundredth a backup is asked.
+schedule() {
+    awk -v lines="$1" -v n="$2" '
+        function line(text) { print text; if (++printed >= lines) exit }
+        BEGIN {
+            backups = n == 6 || n == 5 ? 2 : 1
+            line("cluster " n)
+            for (op = 1; ; op++) {
+                line("request 0 " op " 0 register")
+                first = sent; sent += n - 1
+                for (b = 0; b < backups; b++) line("deliver " first + b)
+                for (b = 0; b < backups; b++) line("deliver " sent + b)
+                sent += backups
+                if (op % 10 == 0) line("request 0 " op " 0 register")
+                if (op % 100 == 0) line("request 1 " op " 0 register")
+            }
+        }'
+}
+
+# Seconds and kilobytes of one run.
+measure() {
+    /usr/bin/time -f '%e %M' -o "$folder/time" "$program" replay < "$1" > "$folder/output"
+    cat "$folder/time"
+}
+
+instructions() {
+    valgrind --tool=callgrind --callgrind-out-file=/dev/null "$program" replay < "$1" 2>&1 > /dev/null |
+        awk '/Collected/ { print $NF }'
+}
+
+grows=0
+for n in 2 6; do
+    declare -A each=()
+    for lines in 10000 100000 900000; do
+        file=$folder/$n-$lines.txt
+        schedule $lines $n > "$file"
+        best=
+        for _ in 1 2 3; do
+            read -r seconds kilobytes < <(measure "$file")
+            if [ -z "$best" ] || awk "BEGIN { exit !($seconds < $best) }"; then best=$seconds; fi
+        done
+        awk -v n=$n -v lines=$lines -v s="$best" -v k="$kilobytes" -v c="$(grep -c '^commit' "$folder/output")" \
+            'BEGIN { printf "%d replicas %7d lines %7d commits %6.2f s %9s lines/s %8d kB\n", n, lines, c, s, s > 0 ? int(lines / s) : "-", k }'
+        if [ $lines -lt 900000 ]; then
+            each[$lines]=$(($(instructions "$file") / lines))
+            echo "$n replicas $lines lines: ${each[$lines]} instructions per line"
+        fi
+    done
+    [ $((each[100000] * 10)) -le $((each[10000] * 12)) ] || grows=1
+done
+exit $grows

@@ -1,0 +1,5 @@
+pub mod Numbers
+pub mod Receiving
+pub mod Sending
+pub mod Told
+pub mod Writing

@@ -1,0 +1,28 @@
+-- Bytes that are taken one piece after another.
+use Rattle.std.proofs.Common.{◌≡◌, ℕ, ◌+◌, ◌-◌, List, take, drop, length, Option, arith}
+use Rattle.std.specs.Io.KnownBytes.{Appends, Keeps}
+use Rattle.std.proofs.KnownBytes.{Appends-trans, Appends-kept}
+use Rattle.std.proofs.lemmas.List.{take-append-drop}
+use Rattle.std.proofs.Math.Seq.{take-add}
+use Rattle.std.proofs.lemmas.Grind.{common_steps}
+use Rattle.vr_edge.specs.Told.{AppendsFront}
+
+-- nothing more is taken
+pub front_kept : (a b c : Option (List ℕ)) (at : ℕ) (bytes : List ℕ) → Appends a b (take at bytes) → Keeps b c
+    → AppendsFront a c bytes
+front_kept a b c at bytes so_far kept =
+    (take at bytes, drop at bytes, Appends-kept a b c (take at bytes) so_far kept, take-append-drop at bytes)
+
+slice_from : (at : ℕ) (bytes : List ℕ) → take (length bytes - at) (drop at bytes) ≡ drop at bytes
+slice_from at bytes = grind (arith, common_steps)
+
+-- a piece more, of the slice from there on
+pub appends_slice : (a b c : Option (List ℕ)) (at n : ℕ) (bytes : List ℕ) → Appends a b (take at bytes)
+    → Appends b c (take n (take (length bytes - at) (drop at bytes))) → Appends a c (take (at + n) bytes)
+appends_slice a b c at n bytes so_far piece =
+    rw (take-add at n bytes) (Appends-trans a b c (take at bytes) (take n (drop at bytes)) so_far (rw slice_from at piece))
+
+pub front_more : (a b c : Option (List ℕ)) (at n : ℕ) (bytes : List ℕ) → Appends a b (take at bytes)
+    → Appends b c (take n (take (length bytes - at) (drop at bytes))) → AppendsFront a c bytes
+front_more a b c at n bytes so_far piece =
+    (take (at + n) bytes, drop (at + n) bytes, appends_slice a b c at n bytes so_far piece, take-append-drop (at + n) bytes)

@@ -1,0 +1,33 @@
+//! The outside as traits: a source, a sink, a link and a clock, each with a count of its faults and with its
+//! content where it tells it; and objects in memory that stand for them.
+#![tactic(auto)]
+
+mod calls;
+mod clock;
+mod datagram;
+mod link;
+mod mem_clock;
+mod mem_link;
+mod mem_sink;
+mod mem_source;
+mod outbox;
+mod script;
+mod sink;
+mod source;
+mod write_all;
+
+pub use clock::Clock;
+pub use datagram::Datagram;
+pub use link::{Link, LinkFailed, RECEIVE_ROOM, Received};
+pub use mem_clock::MemClock;
+pub use mem_link::MemLink;
+pub use mem_sink::MemSink;
+pub use mem_source::MemSource;
+pub use outbox::LinkRoom;
+pub use script::LinkScript;
+pub use sink::{Sink, WriteFailed};
+pub use source::{ReadFailed, Source};
+pub use write_all::write_whole;
+
+#[cfg(test)]
+mod tests;

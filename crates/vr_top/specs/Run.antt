@@ -1,0 +1,64 @@
+-- What a run with the command `replay` comes to.
+use Rattle.std.specs.Prelude.{ℕ, ◌≡◌, List, [], ◌∷◌, Option, Some, None, IfSome, codes, Bool, false, String, string_bytes}
+use Rattle.std.specs.Io.KnownBytes.{Appends, Consumes, IsAtEnd}
+use Rattle.std.specs.Global.{Global}
+use Rattle.std.specs.Str.{bytes_eq}
+use Rattle.vr_base.specs.Causes.{Rose}
+use Rattle.vr_edge.specs.Told.{AppendsFront}
+use Rattle.vr_top.specs.declared.status.Status.{Status}
+use Rattle.vr_top.specs.declared.status.Status.TheVariants as status
+use Rattle.vr_top.specs.Lines.{whole_lines}
+use Rattle.vr_top.specs.Schedule.{accepted, refused_in, replayed}
+use Rattle.vr_top.specs.World.{no_world, happen}
+use Rattle.vr_top.specs.Text.{text_of}
+
+-- the text of the outputs of the lines of a source before the first that is refused
+abbrev pub text_for : List ℕ → List ℕ
+text_for bytes = text_of (replayed bytes).outputs
+
+-- the same of the lines that have ended
+abbrev pub text_so_far : List ℕ → List ℕ
+text_so_far bytes = text_of (happen no_world (accepted 0 0 (whole_lines bytes)).lines).outputs
+
+-- the source was read to its end, no line of it is refused, and the sink grew by the text
+pub record IsDone (left_old left_new taken_old taken_new : Option (List ℕ)) : Type 0 where
+  pub at_end : IsAtEnd left_new
+  pub accepted : IfSome left_old (λ bytes. refused_in bytes ≡ None)
+  pub text : IfSome left_old (λ bytes. Appends taken_old taken_new (text_for bytes))
+
+-- line k is the first that is refused, and the sink grew by the text of those before it
+pub record IsRefused (k : ℕ) (left_old taken_old taken_new : Option (List ℕ)) : Type 0 where
+  pub line : IfSome left_old (λ bytes. refused_in bytes ≡ Some k)
+  pub text : IfSome left_old (λ bytes. Appends taken_old taken_new (text_for bytes))
+
+-- the sink grew by the text of the whole lines among the bytes that were read
+pub record IsCutShort (left_old left_new taken_old taken_new : Option (List ℕ)) : Type 0 where
+  pub read : List ℕ
+  pub consumed : Consumes left_old left_new read
+  pub accepted : (accepted 0 0 (whole_lines read)).refused ≡ None
+  pub text : Appends taken_old taken_new (text_so_far read)
+
+-- the sink grew by a front of the text of the lines that were read
+pub record IsPartial (left_old left_new taken_old taken_new : Option (List ℕ)) : Type 0 where
+  pub read : List ℕ
+  pub consumed : Consumes left_old left_new read
+  pub text : AppendsFront taken_old taken_new (text_for read)
+
+-- how a replay ends; s and k count the faults of source and sink
+abbrev pub Ends : (s s' k k' : ℕ) (left_old left_new taken_old taken_new : Option (List ℕ)) → Status → Type 0
+Ends s s' k k' lo ln to tn status.Done = IsDone lo ln to tn
+Ends s s' k k' lo ln to tn status.Usage = ⊥
+Ends s s' k k' lo ln to tn (status.Refused line) = IsRefused line lo to tn
+Ends s s' k k' lo ln to tn status.ReadFault = Rose s s' × IsCutShort lo ln to tn
+Ends s s' k k' lo ln to tn status.WriteFault = Rose k k' × IsPartial lo ln to tn
+Ends s s' k k' lo ln to tn status.NoMemory = IsPartial lo ln to tn
+
+-- the status that a source's bytes have where no fault comes
+abbrev pub status_for : Option ℕ → Status
+status_for None = status.Done
+status_for (Some line) = status.Refused line
+
+-- the one word `replay`
+abbrev pub is_replay_words : List (String Global) → Bool
+is_replay_words (word ∷ []) = bytes_eq (string_bytes word) (codes "replay")
+is_replay_words _ = false

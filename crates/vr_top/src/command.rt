@@ -1,0 +1,87 @@
+//! The whole program over the outside that is handed in.
+ghost use Rattle.std.specs.Prelude.{◌≡◌, ◌↔◌, ◌⊎◌, ℕ, List, true, false, IfSome};
+ghost use Rattle.vr_base.specs.Causes.{Rose};
+ghost use Rattle.vr_top.specs.Run.{IsDone, IsRefused, IsCutShort, IsPartial, Ends, is_replay_words, status_for};
+ghost use Rattle.vr_top.specs.Outputs.{plain};
+ghost use Rattle.vr_top.specs.Safe.{Agree};
+ghost use Rattle.vr_top.specs.Schedule.{refused_in, replayed};
+
+use crate::{Replay, Status};
+use std::alloc::Global;
+use vr_disk::SectorDisk;
+use vr_edge::{Clock, Link, Sink, Source};
+
+/// Reads a schedule, and writes its outputs line by line.
+fn read_schedule<S: Source, K: Sink>(alloc: Global, source: &mut S, sink: &mut K) -> Status
+    ensures { Ends (S.faults source.old) (S.faults source.new) (K.faults sink.old) (K.faults sink.new) (S.left source.old) (S.left source.new) (K.taken sink.old) (K.taken sink.new) result }
+{
+    let mut replay = Replay::new(alloc);
+    let mut buffer = [0u8; 4096];
+    for _ in 0..u64::MAX {
+        let Ok(count) = source.read(&mut buffer) else {
+            return Status::ReadFault;
+        };
+        if count == 0 {
+            if let Err(stop) = replay.finish(alloc, sink) {
+                return stop.status();
+            }
+            return Status::Done;
+        }
+        if let Err(stop) = replay.take_piece(alloc, sink, &buffer[..count]) {
+            return stop.status();
+        }
+    }
+    Status::NoMemory
+}
+
+/// Whether the words are those of the command `replay`.
+fn is_replay(words: &Vec<String>) -> bool
+    ensures { result ≡ is_replay_words words.now.items }
+{
+    words.len() == 1 && words[0].as_str() == "replay"
+}
+
+/// Does all that the program does: of the words, the one command is `replay`, which reads a schedule from the
+/// source and writes the lines of its outputs to the sink.
+#[tactic(auto, using(std::proofs::lemmas::Grind::common_steps, crate::proofs::Agreement::agree))]
+pub fn run<S: Source, K: Sink, D: SectorDisk, L: Link, C: Clock>(
+    alloc: Global,
+    words: &Vec<String>,
+    source: &mut S,
+    sink: &mut K,
+    disk: &mut D,
+    link: &mut L,
+    clock: &mut C,
+) -> Status
+    // Exactly where the words are no command line; then nothing is called.
+    ensures usage { result ≡ Status.Usage ↔ (is_replay_words words.now.items ≡ false) }
+    ensures usage_source { result ≡ Status.Usage → source.new ≡ source.old }
+    ensures usage_sink { result ≡ Status.Usage → sink.new ≡ sink.old }
+
+    // What was read and written.
+    ensures done { result ≡ Status.Done → IsDone (S.left source.old) (S.left source.new) (K.taken sink.old) (K.taken sink.new) }
+    ensures refused { (line : ℕ) → result ≡ Status.Refused line → IsRefused line (S.left source.old) (K.taken sink.old) (K.taken sink.new) }
+    ensures read_text { result ≡ Status.ReadFault → IsCutShort (S.left source.old) (S.left source.new) (K.taken sink.old) (K.taken sink.new) }
+    ensures write_text { result ≡ Status.WriteFault → IsPartial (S.left source.old) (S.left source.new) (K.taken sink.old) (K.taken sink.new) }
+    ensures memory_text { result ≡ Status.NoMemory → IsPartial (S.left source.old) (S.left source.new) (K.taken sink.old) (K.taken sink.new) }
+
+    // A fault has its cause in the object that was handed in.
+    ensures read { result ≡ Status.ReadFault → Rose (S.faults source.old) (S.faults source.new) }
+    ensures write { result ≡ Status.WriteFault → Rose (K.faults sink.old) (K.faults sink.new) }
+
+    // Where no fault comes, the answer is that of the source's bytes, or want of memory.
+    ensures complete { is_replay_words words.now.items ≡ true → ¬ Rose (S.faults source.old) (S.faults source.new) → ¬ Rose (K.faults sink.old) (K.faults sink.new) → IfSome (S.left source.old) (λ bytes. (result ≡ status_for (refused_in bytes)) ⊎ (result ≡ Status.NoMemory)) }
+
+    // Whatever the schedule, the replicas agree in the outputs that it comes to.
+    ensures agreement { (bytes : List ℕ) → Agree (replayed bytes).world.n (plain (replayed bytes).outputs) }
+
+    // No other object is called.
+    ensures disk { disk.new ≡ disk.old }
+    ensures link { link.new ≡ link.old }
+    ensures clock { clock.new ≡ clock.old }
+{
+    if !is_replay(words) {
+        return Status::Usage;
+    }
+    read_schedule(alloc, source, sink)
+}
