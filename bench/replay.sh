@@ -33,10 +33,12 @@ schedule() {
         }'
 }
 
-# Seconds and kilobytes of one run.
+# Microseconds, kilobytes, and processor seconds (the program's and the system's) of one run.
 measure() {
-    /usr/bin/time -f '%e %M' -o "$folder/time" "$program" replay < "$1" > "$folder/output"
-    cat "$folder/time"
+    local before=${EPOCHREALTIME/./} after
+    /usr/bin/time -f '%M %U %S' -o "$folder/usage" "$program" replay < "$1" > "$folder/output"
+    after=${EPOCHREALTIME/./}
+    echo $((after - before)) "$(cat "$folder/usage")"
 }
 
 instructions() {
@@ -52,14 +54,16 @@ for n in 2 6; do
         schedule $lines $n > "$file"
         best=
         for _ in 1 2 3; do
-            read -r seconds kilobytes < <(measure "$file")
-            if [ -z "$best" ] || awk "BEGIN { exit !($seconds < $best) }"; then best=$seconds; fi
+            read -r micros kilobytes user system < <(measure "$file")
+            [ -n "$best" ] && [ "$best" -le "$micros" ] || best=$micros
         done
-        awk -v n=$n -v lines=$lines -v s="$best" -v k="$kilobytes" -v c="$(grep -c '^commit' "$folder/output")" \
-            'BEGIN { printf "%d replicas %7d lines %7d commits %6.2f s %9s lines/s %8d kB\n", n, lines, c, s, s > 0 ? int(lines / s) : "-", k }'
+        printf '%d replicas %7d lines %7d commits %5d ms %8d lines/s %7d kB (%s s of the program, %s s of the system)\n' \
+            $n $lines \
+            "$(grep -c '^commit' "$folder/output")" $((best / 1000)) $((lines * 1000000 / best)) "$kilobytes" \
+            "$user" "$system"
         if [ $lines -lt 900000 ]; then
             each[$lines]=$(($(instructions "$file") / lines))
-            echo "$n replicas $lines lines: ${each[$lines]} instructions per line"
+            printf '%d replicas %7d lines %7d instructions per line\n' $n $lines ${each[$lines]}
         fi
     done
     [ $((each[100000] * 10)) -le $((each[10000] * 12)) ] || grows=1
