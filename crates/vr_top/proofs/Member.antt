@@ -100,7 +100,7 @@ module _ (n : ℕ) (log : List Entry) (top : ℕ) (before : List Output) (i : �
             let at = get_within r.log log r.applied entry m.front e in
             let op = numbers r.applied entry at in
             kept_behind (applies r entry) (apply k (applied r entry)) (applies_in r entry (leads r) (holds_at log r.applied entry numbers at) (omega (arith, le, op)))
-                (apply_kept k (applied r entry) numbers (omega (arith, le)) (applied_member r entry m))
+            (apply_kept k (applied r entry) numbers (omega (arith, le)) (applied_member r entry m))
       ] in
       cases (slice_get r.log r.applied) refl
 

@@ -31,15 +31,15 @@ with_ack_member n log top before i r e from h v m =
     elim (list_any (is_ack e.op from) r.acks) as (λ b. Member n log top before i (cond b r (record r { acks = r.acks ++ record { op = e.op; replica = from } ∷ [] }))) [
       | true ↦ m
       | false ↦ record {
-          index = m.index;
-          size = m.size;
-          view = m.view;
-          front = m.front;
-          low = m.low;
-          leads = m.leads;
-          tops = m.tops;
-          acks = λ z. acks_more log before r.acks (record { op = e.op; replica = from }) (m.acks z) (record { entry = e; at = h.at; vouched = v });
-        }
+        index = m.index;
+        size = m.size;
+        view = m.view;
+        front = m.front;
+        low = m.low;
+        leads = m.leads;
+        tops = m.tops;
+        acks = λ z. acks_more log before r.acks (record { op = e.op; replica = from }) (m.acks z) (record { entry = e; at = h.at; vouched = v });
+      }
     ]
 
 acked_outcome : (n : ℕ) (log : List Entry) (top : ℕ) (before : List Output) (i : ℕ) (r : Replica) (e : Entry) (from : ℕ) → i ≡ 0 → Ready n log top before → Holds log e → has_vouched before e from ≡ true → Member n log top before i r → Outcome n log top before i (advance (with_ack r e.op from))
@@ -174,8 +174,8 @@ accepts_outcome n log top before i r client z ready m =
     let holds : Holds mid e = record { first = omega (arith, op); at = rw place (get_last log e) } in
     let h = sends_all_in mid top r.index r.n (Prepare r.view r.commit e) (m.view, holds, m.low) in
     outcome_behind n log mid top before first i (advance (with_entry r e)) z (record { more = e ∷ []; is = refl }) h
-        (in_time n mid top before first ready'.numbers (backed_mid n log top before e ready.backed) h)
-        (advance_outcome n mid top (before ++ first) i (with_entry r e) z ready' m')
+    (in_time n mid top before first ready'.numbers (backed_mid n log top before e ready.backed) h)
+    (advance_outcome n mid top (before ++ first) i (with_entry r e) z ready' m')
 
 new_request_outcome : (n : ℕ) (log : List Entry) (top : ℕ) (before : List Output) (i : ℕ) (r : Replica) (client : ℕ) (session : Option ℕ) → i ≡ 0 → Ready n log top before → Member n log top before i r → Outcome n log top before i (on_new_request r client session)
 new_request_outcome n log top before i r client (Some op) z ready m = replies_outcome n log top before i r client _ ready m

@@ -14,17 +14,16 @@ mod status;
 mod stop;
 mod world;
 
+pub use command::run;
 use group::Group;
 use line::{Line, parse_line};
 use message::{Answer, Asked, Committed, Entry, Envelope, Message, Numbered, Output, Replied};
 use playing::Replay;
 use replica::{Event, Replica};
 use sessions::Sessions;
+pub use status::{Status, code, status_line};
 use stop::Stop;
 use world::World;
-
-pub use command::run;
-pub use status::{Status, code, status_line};
 
 #[cfg(test)]
 mod tests;
