@@ -1,1 +1,4 @@
-pub mod Failing
+pub mod Buffers
+pub mod DiskState
+pub mod Regions
+pub mod Stops

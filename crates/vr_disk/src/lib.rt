@@ -1,11 +1,19 @@
-//! A disk of sectors, and one that is not there.
+//! A disk of sectors: its calls, what a stop at any of them leaves, and the regions of a data file.
 #![tactic(auto)]
 
+mod buffer;
+mod disk;
+mod laws;
 mod none;
+mod regions;
 mod sector;
 
+pub use buffer::Buffer;
+pub use disk::{DiskFailed, SectorDisk};
+pub use laws::disk_laws;
 pub use none::NoDisk;
-pub use sector::{DiskFailed, SECTORS, Sector, SectorDisk};
-
-#[cfg(test)]
-mod tests;
+pub use regions::{
+    BLOCK_SECTORS, BLOCKS, COPIES, COPY_SECTORS, PREPARE_SECTORS, SECTORS, SLOTS, block_at,
+    copy_at, header_at, prepare_at,
+};
+pub use sector::{SECTOR_SIZE, Sector};

@@ -1,0 +1,7 @@
+pub mod Faces
+pub mod Frames
+pub mod Fuses
+pub mod Outcomes
+mod Rows
+pub mod Running
+pub mod Stopping

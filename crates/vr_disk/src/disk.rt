@@ -1,0 +1,53 @@
+//! The calls of a disk.
+ghost use Rattle.std.specs.Prelude.{◌≡◌, ◌<◌, ℕ, [], ◌∷◌, Option, Some, None, IfSome, is_ok, if◌then◌else◌};
+ghost use Rattle.vr_base.specs.Causes.{HasCause};
+ghost use Rattle.vr_disk.specs.DiskState.{Disk, IsFace, Attaches, ReadsTo, Runs, Write, Sync};
+
+use crate::Sector;
+
+/// A call of a disk that failed.
+#[derive(Clone, Copy, Debug, PartialEq, Eq)]
+pub struct DiskFailed;
+
+/// A disk of 1,424 sectors. What is written is kept only from the next `sync` on: a stop before it leaves each of
+/// the sectors written since the last one as it was, as it was written, or damaged.
+pub trait SectorDisk {
+    /// What the disk holds and which calls are to fail, where it tells.
+    ghost told: { Self → Option Disk };
+
+    /// How often attach, write or sync has failed.
+    ghost faults: { Self → ℕ };
+
+    /// How often a read has failed.
+    ghost read_faults: { Self → ℕ };
+
+    /// Opens the disk of this name. It is a barrier: after an `Ok` no sector waits for a sync.
+    fn attach(&mut self, name: &str) -> Result<(), DiskFailed>
+        ensures told { Attaches (told self.old) (told self.new) (is_ok result) }
+        ensures cause { HasCause (faults self.old) (faults self.new) result }
+        ensures others { read_faults self.new ≡ read_faults self.old };
+
+    /// Reads a sector. After an `Err` the contents of `to` are open.
+    fn read(&mut self, i: u32, to: &mut Sector) -> Result<(), DiskFailed>
+        requires { i < 1424 }
+        ensures told { told self.new ≡ told self.old }
+        ensures bytes { ReadsTo i (told self.old) (if is_ok result then Some to.new.bytes else None) }
+        ensures cause { HasCause (read_faults self.old) (read_faults self.new) result }
+        ensures others { faults self.new ≡ faults self.old };
+
+    /// Writes a sector.
+    fn write(&mut self, i: u32, from: &Sector) -> Result<(), DiskFailed>
+        requires { i < 1424 }
+        ensures told { Runs (Write i from.now.bytes ∷ []) (told self.old) (told self.new) (is_ok result) }
+        ensures cause { HasCause (faults self.old) (faults self.new) result }
+        ensures others { read_faults self.new ≡ read_faults self.old };
+
+    /// Makes what was written stay.
+    fn sync(&mut self) -> Result<(), DiskFailed>
+        ensures told { Runs (Sync ∷ []) (told self.old) (told self.new) (is_ok result) }
+        ensures cause { HasCause (faults self.old) (faults self.new) result }
+        ensures others { read_faults self.new ≡ read_faults self.old };
+
+    /// What is told is a disk of 1,424 sectors of 512 bytes.
+    ghost whole: { (s : Self) → IfSome (told s) (λ d. IsFace d.face) };
+}

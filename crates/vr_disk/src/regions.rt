@@ -1,0 +1,61 @@
+//! The regions of a data file.
+ghost use Rattle.std.specs.Prelude.{◌≡◌, ◌<◌, ◌≤◌, ◌+◌};
+ghost use Rattle.vr_disk.specs.Regions.{copy_at, header_at, prepare_at, block_at};
+
+/// The number of sectors.
+pub const SECTORS: u32 = 1424;
+
+/// The number of copies of the superblock, from sector 0 on.
+pub const COPIES: u32 = 4;
+
+/// The number of sectors of a copy.
+pub const COPY_SECTORS: u32 = 20;
+
+/// The number of slots, each with a sector for its header and four for its prepare.
+pub const SLOTS: u32 = 64;
+
+/// The number of sectors of a prepare.
+pub const PREPARE_SECTORS: u32 = 4;
+
+/// The number of blocks of the grid.
+pub const BLOCKS: u32 = 128;
+
+/// The number of sectors of a block.
+pub const BLOCK_SECTORS: u32 = 8;
+
+/// Sector `k` of a copy of the superblock.
+pub fn copy_at(copy: u32, k: u32) -> u32
+    requires copy { copy < COPIES }
+    requires k { k < COPY_SECTORS }
+    ensures place { result ≡ copy_at copy k }
+    ensures within { result < 80 }
+{
+    COPY_SECTORS * copy + k
+}
+
+/// The sector of a slot's header.
+pub fn header_at(slot: u32) -> u32
+    requires { slot < SLOTS }
+    ensures place { result ≡ header_at slot }
+    ensures within { result < 144 }
+{
+    80 + slot
+}
+
+/// The first sector of a slot's prepare.
+pub fn prepare_at(slot: u32) -> u32
+    requires { slot < SLOTS }
+    ensures place { result ≡ prepare_at slot }
+    ensures within { result + PREPARE_SECTORS ≤ 400 }
+{
+    144 + PREPARE_SECTORS * slot
+}
+
+/// The first sector of a block of the grid.
+pub fn block_at(address: u32) -> u32
+    requires { address < BLOCKS }
+    ensures place { result ≡ block_at address }
+    ensures within { result + BLOCK_SECTORS ≤ SECTORS }
+{
+    400 + BLOCK_SECTORS * address
+}

@@ -1,0 +1,3 @@
+pub mod Made
+pub mod Room
+pub mod Settling

@@ -1,0 +1,44 @@
+use Rattle.std.proofs.Common.{ℕ, ◌≡◌, ◌<◌, ◌≤◌, ◌∙◌, sym, refl, true, false, ap, get_or, arith, length-set, Bool, cond, eqb, ◌++◌, ◌∷◌, [], List, length}
+use Rattle.std.specs.Prelude.{map}
+use Rattle.std.specs.List.{list_any, All}
+use Rattle.std.proofs.lemmas.Bool.{cond_both}
+use Rattle.std.proofs.lemmas.List.{map-set, get_or-map, map-append, length-map}
+use Rattle.std.proofs.lemmas.List.Elements.{All-push, All-set}
+use Rattle.vr_disk.specs.DiskState.{Cell, blank, waits}
+use Rattle.vr_mem.specs.declared.cells.MemCell.{MemCell}
+use Rattle.vr_mem.specs.declared.cells.MemWaiting.{MemWaiting}
+use Rattle.vr_mem.specs.Seen.{waiting_of, cell_of, once}
+use Rattle.vr_mem.proofs.Settling.{waiting_below, waits_of, written_is}
+use Rattle.vr_mem.proofs.Room.{room_left, once_push}
+use Rattle.vr_mem.proofs.cells.MemFace.write.Goals as goal
+
+pub note-requires : goal.note-requires
+note-requires c absent = let r = room_left 1424 c.args.self.now.waiting.items c.args.index c.requires.face.once (waiting_below 1424 c.args.self.now.waiting.items c.requires.face.face.waiting refl) c.requires.index absent in let room = c.requires.face.room in omega arith
+
+-- noted before the list is seen, or after
+noted_seen : (ws : List MemWaiting) (index : ℕ) (was : MemCell)
+    → map waiting_of (cond (list_any (λ w. eqb w.index index) ws) ws (ws ++ record { index = index; was = was } ∷ []))
+    ≡ cond (waits index (map waiting_of ws)) (map waiting_of ws) (map waiting_of ws ++ record { index = index; was = cell_of was } ∷ [])
+noted_seen ws index was = rw waits_of
+    (elim (list_any (λ w. eqb w.index index) ws) as (λ b. map waiting_of (cond b ws (ws ++ record { index = index; was = was } ∷ [])) ≡ cond b (map waiting_of ws) (map waiting_of ws ++ record { index = index; was = cell_of was } ∷ [])) [
+      | true ↦ refl
+      | false ↦ map-append waiting_of ws (record { index = index; was = was } ∷ [])
+    ])
+
+pub returns-clause-after : goal.returns-clause-after
+returns-clause-after c =
+    let was = c.index.result.now in
+    let now : get_or (map cell_of c.args.self.now.cells.items) c.args.index blank ≡ cell_of was =
+    get_or-map cell_of c.args.self.now.cells.items c.args.index was blank (let n = length-map c.args.self.now.cells.items cell_of in let m = c.requires.face.face.count in let i = c.requires.index in omega arith) ∙ ap cell_of (sym c.index.ensures) in
+    rw (now, c.note.ensures.items, noted_seen, c.written.ensures.cell, map-set) refl
+
+once_kept : (ws : List MemWaiting) (index : ℕ) (was : MemCell) → once ws ≡ true → once (cond (list_any (λ w. eqb w.index index) ws) ws (ws ++ record { index = index; was = was } ∷ [])) ≡ true
+once_kept ws index was o = cond_both (list_any (λ w. eqb w.index index) ws) ws (ws ++ record { index = index; was = was } ∷ []) (λ ws. once ws ≡ true) (λ _. o) (λ f. once_push ws (record { index = index; was = was }) o f)
+
+pub returns-clause-face : goal.returns-clause-face
+returns-clause-face c =
+    let old = c.requires.face in
+    written_is c.args.self.now _ c.args.index c.args.from.now.bytes old c.requires.index c.written.ensures.content
+    (returns-clause-after c)
+    (rw c.note.ensures.items (once_kept c.args.self.now.waiting.items c.args.index _ old.once))
+    (let r = old.room in let l = c.note.ensures.capacity in omega arith)

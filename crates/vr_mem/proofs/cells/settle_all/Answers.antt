@@ -1,0 +1,27 @@
+use Rattle.std.proofs.Common.{rules, ◌≡◌, ℕ, ◌≤◌, ◌<◌, ◌+◌, length, arith, get_or, sym, ◌∙◌, length-set, []}
+use Rattle.std.proofs.lemmas.List.Elements.{All-get_or}
+use Rattle.vr_disk.specs.declared.sector.Sector.{Sector}
+use Rattle.vr_mem.specs.declared.cells.MemCell.{MemCell}
+use Rattle.vr_mem.specs.declared.cells.MemWaiting.{MemWaiting}
+use Rattle.vr_mem.proofs.Settling.{settle_step}
+use Rattle.vr_mem.proofs.cells.settle_all.Goals as goal
+
+abbrev no_sector : Sector
+no_sector = record { bytes = [] }
+
+abbrev no_cell : MemCell
+no_cell = record { truth = no_sector; before = no_sector }
+
+abbrev no_waiting : MemWaiting
+no_waiting = record { index = 0; was = no_cell }
+
+pub loop-w-preserved : goal.loop-w-preserved
+loop-w-preserved c =
+    let ws = c.args.waiting.now in
+    let l : c.loop-w.w-index < length ws = omega arith in
+    let b = All-get_or (λ (w : MemWaiting). w.index < length c.args.cells.now) ws c.loop-w.w-index no_waiting l c.requires in
+    let len = c.loop-w.invariant.len in
+    record {
+      same = sym (settle_step c.loop-w.rest ws c.loop-w.w-index no_waiting c.loop-w.cells c.settle_cell.result no_cell l (omega arith) c.settle_cell.ensures) ∙ c.loop-w.invariant.same;
+      len = length-set _ _ _ ∙ len;
+    }

@@ -1,0 +1,178 @@
+//! Sectors in memory, and those that wait for a sync.
+ghost use Rattle.std.specs.Prelude.{◌≡◌, ◌<◌, ◌≤◌, ◌==◌, ◌++◌, ◌∷◌, [], if◌then◌else◌, false, length, map, IfOk};
+ghost use Rattle.std.specs.List.{list_any, All};
+ghost use Rattle.std.specs.Vec.{vec_capacity};
+ghost use Rattle.vr_disk.specs.DiskState.{after, damaged, IsContent, reads, settle, settled, settled_cell, Write, Sync};
+ghost use Rattle.vr_mem.specs.Seen.{IsMemFace, cell_of, copies, face_of, waiting_of, zero_cell};
+
+use std::alloc::Global;
+use vr_base::NoMemory;
+use vr_disk::Sector;
+
+/// A sector: what it holds, and what it held before its last write.
+#[derive(Clone, Copy)]
+pub struct MemCell {
+    pub truth: Sector,
+    pub before: Sector,
+}
+
+/// A sector that waits for a sync, and what it was before its first write since the last one.
+#[derive(Clone, Copy)]
+pub struct MemWaiting {
+    pub index: u32,
+    pub was: MemCell,
+}
+
+/// All sectors, and those that wait, in the order of their first write.
+#[derive(Drop)]
+pub struct MemFace {
+    pub cells: Vec<MemCell>,
+    pub waiting: Vec<MemWaiting>,
+}
+
+fn damage_all(bytes: &mut [u8])
+    ensures { bytes.new ≡ damaged bytes.old }
+{
+    for i in 0..bytes.len() {
+        bytes[i] = bytes[i] ^ 255;
+    }
+}
+
+fn damage(sector: &Sector) -> Sector
+    ensures { result.bytes ≡ damaged sector.now.bytes }
+{
+    let mut out = *sector;
+    damage_all(&mut out.bytes);
+    out
+}
+
+fn settle_cell(digit: u64, was: &MemCell, now: &MemCell) -> MemCell
+    ensures { cell_of result ≡ settled_cell digit (cell_of was.now) (cell_of now.now) }
+{
+    if digit == 0 {
+        *was
+    } else if digit == 1 {
+        *now
+    } else {
+        MemCell {
+            truth: damage(&now.truth),
+            before: now.before,
+        }
+    }
+}
+
+// Settles the sectors that wait, by the digits of the code.
+fn settle_all(code: u64, waiting: &[MemWaiting], cells: &mut [MemCell])
+    requires { All (λ w. w.index < length cells.old) waiting.now }
+    ensures { map cell_of cells.new ≡ settled code (map waiting_of waiting.now) (map cell_of cells.old) }
+{
+    let mut rest = code;
+    for w in waiting {
+        let at = w.index as usize;
+        let now = cells[at];
+        cells[at] = settle_cell(rest % 3, &w.was, &now);
+        rest /= 3;
+    }
+}
+
+fn is_waiting(index: u32, waiting: &[MemWaiting]) -> bool
+    ensures { result ≡ list_any (λ w. w.index == index) waiting.now }
+{
+    waiting.iter().any(|w| w.index == index)
+}
+
+// Notes that a sector waits, once.
+fn note(waiting: &mut Vec<MemWaiting>, index: u32, was: MemCell)
+    requires { list_any (λ w. w.index == index) waiting.old.items ≡ false → length waiting.old.items < vec_capacity waiting.old }
+    ensures items { waiting.new.items ≡ (if list_any (λ w. w.index == index) waiting.old.items then waiting.old.items else waiting.old.items ++ record { index = index; was = was } ∷ []) }
+    ensures capacity { vec_capacity waiting.old ≤ vec_capacity waiting.new }
+{
+    if !is_waiting(index, waiting) {
+        let _ = waiting.push(MemWaiting { index, was });
+    }
+}
+
+// A sector after a write of these bytes.
+fn written(bytes: &[u8], was: &MemCell) -> MemCell
+    requires { length bytes.now ≡ 512 }
+    ensures cell { result ≡ record { truth = record { bytes = bytes.now }; before = was.now.truth } }
+    ensures content { IsContent bytes.now }
+{
+    let mut copied = [0; 512];
+    copied.copy_from_slice(bytes);
+    MemCell {
+        truth: Sector { bytes: copied },
+        before: was.truth,
+    }
+}
+
+fn filled<T: Copy + Drop>(alloc: Global, count: usize, item: T) -> Result<Vec<T>, NoMemory>
+    ensures { IfOk result (λ v. v.items ≡ copies count item) }
+{
+    let mut items = Vec::new(alloc);
+    items.resize(count, item)?;
+    Ok(items)
+}
+
+// A sector of zeros that was never written.
+#[tactic(auto, unfolding(crate::specs::Seen::copies, crate::specs::Seen::zero_cell))]
+fn zero() -> MemCell
+    ensures { cell_of result ≡ zero_cell }
+{
+    let zeros = Sector { bytes: [0; 512] };
+    MemCell {
+        truth: zeros,
+        before: zeros,
+    }
+}
+
+impl MemFace {
+    /// 1,424 sectors of zeros, with room for each of them to wait.
+    pub fn new(alloc: Global) -> Result<MemFace, NoMemory>
+        ensures face { IfOk result (λ f. face_of f ≡ record { cells = copies 1424 zero_cell; waiting = [] }) }
+        ensures whole { IfOk result IsMemFace }
+    {
+        Ok(MemFace {
+            cells: filled(alloc, 1424, zero())?,
+            waiting: Vec::with_capacity(alloc, 1424)?,
+        })
+    }
+
+    pub fn read(&self, index: u32) -> Sector
+        requires face { IsMemFace self.now }
+        requires index { index < 1424 }
+        ensures { reads (face_of self.now) index ≡ Some result.bytes }
+    {
+        self.cells[index as usize].truth
+    }
+
+    pub fn write(&mut self, index: u32, from: &Sector)
+        requires face { IsMemFace self.old }
+        requires index { index < 1424 }
+        ensures after { face_of self.new ≡ after (face_of self.old) (Write index from.now.bytes) }
+        ensures face { IsMemFace self.new }
+    {
+        let at = index as usize;
+        let was = self.cells[at];
+        note(&mut self.waiting, index, was);
+        self.cells[at] = written(&from.bytes, &was);
+    }
+
+    pub fn sync(&mut self)
+        requires { IsMemFace self.old }
+        ensures after { face_of self.new ≡ after (face_of self.old) Sync }
+        ensures face { IsMemFace self.new }
+    {
+        self.waiting.clear();
+    }
+
+    /// What a stop leaves of the sectors that wait.
+    pub fn settle(&mut self, code: u64)
+        requires { IsMemFace self.old }
+        ensures after { face_of self.new ≡ settle code (face_of self.old) }
+        ensures face { IsMemFace self.new }
+    {
+        settle_all(code, &self.waiting, &mut self.cells);
+        self.waiting.clear();
+    }
+}
