@@ -1,15 +1,15 @@
 -- Tests that find whether a header and the bytes after it are of a message's form.
-use Rattle.std.specs.Prelude.{ℕ, zero, suc, ◌+◌, ◌-◌, ◌*◌, ◌^◌, ◌==◌, Bool, true, false, not, ◌&&◌, ◌||◌, nat_lt, nat_le, nat_eq, if◌then◌else◌, List, [], ◌∷◌, length, take, drop, replicate, slice_index, take_while, Option, Some, None, is_some, Result, Ok, Err}
+use Rattle.std.specs.Prelude.{ℕ, zero, suc, ◌+◌, ◌-◌, ◌*◌, ◌^◌, ◌==◌, Bool, true, false, not, ◌&&◌, ◌||◌, nat_lt, nat_le, nat_eq, if◌then◌else◌, List, [], ◌∷◌, length, take, drop, replicate, slice_index, Option, Some, None, is_some, Result, Ok, Err}
 use Rattle.std.specs.Cmp.Lexicographic.{pointwise}
 use Rattle.std.specs.Int.{w16, w64}
+use Rattle.std.specs.List.{prefix_len}
+use Rattle.std.specs.Option.{option_map_or}
 use Rattle.vr_base.specs.declared.sum.Sum.{Sum}
 use Rattle.vr_base.specs.Bytes.{name_of, number}
 use Rattle.vr_header.specs.declared.command.Command.{Command}
 use Rattle.vr_header.specs.declared.command.Command.TheVariants as command
 use Rattle.vr_header.specs.declared.header.Header.{Header}
 use Rattle.vr_header.specs.declared.header.HeaderFault.{HeaderFault}
-use Rattle.vr_header.specs.declared.operation.Operation.{Operation}
-use Rattle.vr_header.specs.declared.operation.Operation.TheVariants.{Register, Put, Get, Delete}
 use Rattle.vr_header.specs.Bodies.{operation_of, outcome_of}
 use Rattle.vr_header.specs.Spelling.{decoded}
 use Rattle.vr_msg.specs.declared.fault.MsgFault.{MsgFault}
@@ -70,19 +70,23 @@ uses_aux _ = false
 abbrev pub is_no_name : Sum → Bool
 is_no_name s = pointwise nat_eq s.0 (replicate 16 0)
 
--- every field that the command has no use for is zero
-unfoldable pub unused_are_zero : Header → Bool
-unused_are_zero h =
+-- every field that the command has no use for is zero: names, and what names the client
+unfoldable pub unused_names_are_zero : Header → Bool
+unused_names_are_zero h =
     if not (uses_parent h.command || is_no_name h.parent) then false
     else (if not (uses_request_name h.command || is_no_name h.request_name) then false
+    else (if not (uses_request_name h.command || (h.kind == 0)) then false
     else (if not (uses_client h.command || (h.client == 0)) then false
-    else (if not (uses_client h.command || (h.request == 0)) then false
-    else (if not (uses_view h.command || (h.view == 0)) then false
+    else (uses_client h.command || (h.request == 0)))))
+
+-- and numbers
+unfoldable pub unused_numbers_are_zero : Header → Bool
+unused_numbers_are_zero h =
+    if not (uses_view h.command || (h.view == 0)) then false
     else (if not (uses_op h.command || (h.op == 0)) then false
     else (if not (uses_commit h.command || (h.commit == 0)) then false
     else (if not (uses_replica h.command || (h.replica == 0)) then false
-    else (if not (uses_request_name h.command || (h.kind == 0)) then false
-    else (uses_aux h.command || (h.aux == 0))))))))))
+    else (uses_aux h.command || (h.aux == 0)))))
 
 abbrev pub is_view : ℕ → Bool
 is_view view = nat_lt view (2 ^ 32 - 1)
@@ -93,19 +97,11 @@ is_number op = nat_le op (2 ^ 62)
 unfoldable pub numbers_fit : Header → Bool
 numbers_fit h = is_view h.view && (is_number h.op && is_number h.commit)
 
-abbrev pub is_register : Operation → Bool
-is_register Register = true
-is_register (Put key value) = false
-is_register (Get key) = false
-is_register (Delete key) = false
-
-abbrev pub is_numbered : ℕ → Option Operation → Bool
-is_numbered request None = false
-is_numbered request (Some operation) = if is_register operation then request == 0 else not (request == 0)
-
--- the bytes are an operation that a request of this number may ask for
+-- the bytes are an operation that a request of this number may ask for; a session's beginning alone is of one byte
 unfoldable pub is_asked : ℕ → List ℕ → Bool
-is_asked request body = is_numbered request (operation_of body)
+is_asked request body =
+    if not (is_some (operation_of body)) then false
+    else (if length body == 1 then request == 0 else not (request == 0))
 
 unfoldable pub reply_fits : Header → List ℕ → Bool
 reply_fits h body =
@@ -148,12 +144,16 @@ unfoldable pub is_body : Header → List ℕ → Bool
 is_body h body = (h.size == 128 + length body) && pointwise nat_eq h.body.0 (name_of body)
 
 abbrev pub is_whole_with : ℕ → ℕ → ℕ → List ℕ → Result Header HeaderFault → Bool
-is_whole_with cluster last op body (Ok h) = is_entry_at cluster last op h && (is_body h body && is_asked h.request body)
+is_whole_with cluster last op body (Ok h) =
+    if not (is_entry_at cluster last op h) then false
+    else (if not (is_body h body) then false
+    else is_asked h.request body)
 is_whole_with cluster last op body (Err f) = false
 
 -- the bytes are an entry of this group and op, made in a view up to the last one that is allowed
 unfoldable pub entry_fits : ℕ → ℕ → ℕ → List ℕ → Bool
-entry_fits cluster last op bytes = is_whole_with cluster last op (drop 128 bytes) (decoded bytes)
+entry_fits cluster last op bytes =
+    if nat_lt (length bytes) 128 then false else is_whole_with cluster last op (drop 128 bytes) (decoded bytes)
 
 -- the bytes are this many headers of entries, from this op on
 unfoldable pub headers_fit : ℕ → ℕ → ℕ → ℕ → List ℕ → Bool
@@ -171,18 +171,23 @@ log_fits h body =
 abbrev pub knows : ℕ → Bool
 knows tag = nat_le 1 tag && nat_le tag 3
 
+-- the bytes after the header that a tag speaks of, if any; None where the tag or the header doesn't fit
+unfoldable pub after_tag : ℕ → ℕ → ℕ → ℕ → List ℕ → Option (List ℕ)
+after_tag cluster last op tag bytes =
+    if knows tag then (if begins_entry cluster last op bytes then Some (drop 128 bytes) else None)
+    else (if nat_lt 4 tag then None else Some bytes)
+
 -- after these tags, of the ops from this one on, stand the headers that they speak of
 unfoldable pub tags_fit : ℕ → ℕ → List ℕ → ℕ → List ℕ → Bool
 tags_fit cluster last [] op bytes = length bytes == 0
 tags_fit cluster last (t ∷ ts) op bytes =
-    if knows t then begins_entry cluster last op bytes && tags_fit cluster last ts (op + 1) (drop 128 bytes)
-    else (if nat_lt 4 t then false else tags_fit cluster last ts (op + 1) bytes)
+    option_map_or (λ rest. tags_fit cluster last ts (op + 1) rest) (after_tag cluster last op t bytes) false
 
 -- the known headers at the front are those up to the head, and the last tag isn't 0
 unfoldable pub tags_run : ℕ → ℕ → List ℕ → Bool
 tags_run head first tags =
-    if not (first + length (take_while knows tags) == head + 1) then false
-    else (if nat_lt 64 (length (take_while knows tags)) then false
+    if nat_lt 64 (prefix_len knows tags) then false
+    else (if not (first + prefix_len knows tags == head + 1) then false
     else ((length tags == 0) || not (slice_index tags (length tags - 1) == 0)))
 
 unfoldable pub statement_fits : Header → ℕ → List ℕ → List ℕ → Bool
@@ -219,9 +224,10 @@ body_fits _ h body = false
 
 unfoldable pub has_shape : Header → List ℕ → Bool
 has_shape h body =
-    if not (unused_are_zero h) then false
+    if not (unused_names_are_zero h) then false
+    else (if not (unused_numbers_are_zero h) then false
     else (if not (numbers_fit h) then false
-    else body_fits h.command h body)
+    else body_fits h.command h body))
 
 abbrev pub inspected_with : List ℕ → Result Header HeaderFault → Result Header MsgFault
 inspected_with body (Err f) = Err (fault.Header f)

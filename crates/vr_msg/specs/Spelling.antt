@@ -58,8 +58,14 @@ abbrev pub with_fields : Frame → Header → Header
 with_fields (frame.Request q) h = record h { cluster = q.cluster; client = q.client; request = q.request }
 with_fields (frame.Reply r) h =
     record h {
-      cluster = r.cluster; replica = r.replica; view = r.view; client = r.client; request = r.request; request_name = r.request_name;
-      op = kind_op r.kind; kind = kind_number r.kind
+      cluster = r.cluster;
+      replica = r.replica;
+      view = r.view;
+      client = r.client;
+      request = r.request;
+      request_name = r.request_name;
+      op = kind_op r.kind;
+      kind = kind_number r.kind;
     }
 with_fields (frame.Prepare p) h =
     record h { cluster = p.entry.header.cluster; replica = p.replica; view = p.view; op = p.entry.header.op; commit = p.commit }
@@ -69,7 +75,12 @@ with_fields (frame.Commit c) h = record h { cluster = c.cluster; replica = c.rep
 with_fields (frame.StartViewChange s) h = record h { cluster = s.cluster; replica = s.replica; view = s.view }
 with_fields (frame.DoViewChange d) h =
     record h {
-      cluster = d.cluster; replica = d.replica; view = d.view; op = d.statement.head; commit = d.statement.commit; aux = d.statement.log_view
+      cluster = d.cluster;
+      replica = d.replica;
+      view = d.view;
+      op = d.statement.head;
+      commit = d.statement.commit;
+      aux = d.statement.log_view;
     }
 with_fields (frame.StartView v) h =
     record h { cluster = v.cluster; replica = v.replica; view = v.view; op = v.head; commit = v.commit; aux = v.body.lo }
@@ -129,9 +140,21 @@ no_name = record { 0 = replicate 16 0 }
 -- a header of this command before a body, with no other field set
 abbrev pub header_before : List ℕ → Command → Header
 header_before body c = record {
-    body = record { 0 = name_of body }; parent = no_name; request_name = no_name; cluster = 0; client = 0; request = 0; view = 0; op = 0;
-    commit = 0; size = 128 + length body; command = c; replica = 0; kind = 0; aux = 0
-  }
+  body = record { 0 = name_of body };
+  parent = no_name;
+  request_name = no_name;
+  cluster = 0;
+  client = 0;
+  request = 0;
+  view = 0;
+  op = 0;
+  commit = 0;
+  size = 128 + length body;
+  command = c;
+  replica = 0;
+  kind = 0;
+  aux = 0;
+}
 
 abbrev pub frame_header : Frame → Header
 frame_header m = with_fields m (header_before (body_bytes m) (command_for m))

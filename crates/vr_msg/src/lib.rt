@@ -8,6 +8,7 @@ mod message;
 mod output;
 mod reply;
 mod request;
+mod shape;
 mod statement;
 
 pub use event::Event;
