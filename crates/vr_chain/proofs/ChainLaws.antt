@@ -8,7 +8,8 @@ use Rattle.vr_base.specs.Bytes.{name_of}
 use Rattle.vr_header.specs.Spelling.{named_bytes}
 use Rattle.vr_base.specs.declared.sum.Sum.{Sum}
 use Rattle.vr_header.specs.declared.header.Header.{Header}
-use Rattle.vr_chain.specs.Chain.{header_name, IsChain, BreaksAt}
+use Rattle.vr_header.specs.Names.{header_name}
+use Rattle.vr_chain.specs.Chain.{IsChain, BreaksAt}
 
 -- the last header's name, the anchor where there is none
 abbrev pub last_name : Sum → List Header → Sum

@@ -1,13 +1,8 @@
 -- Chains of headers.
 use Rattle.std.specs.Prelude.{ℕ, ◌≡◌, ◌+◌, ◌<◌, ⊤, List, [], ◌∷◌, length, take}
 use Rattle.vr_base.specs.declared.sum.Sum.{Sum}
-use Rattle.vr_base.specs.Bytes.{name_of}
 use Rattle.vr_header.specs.declared.header.Header.{Header}
-use Rattle.vr_header.specs.Spelling.{named_bytes}
-
--- the name of a header
-unfoldable pub header_name : Header → Sum
-header_name h = record { 0 = name_of (named_bytes h) }
+use Rattle.vr_header.specs.Names.{header_name}
 
 -- each header's parent is the name of the one before; the first one's is the anchor
 abbrev pub IsChain : Sum → List Header → Type 0

@@ -3,7 +3,7 @@ use Rattle.std.specs.Prelude.{ℕ, zero, suc, ◌+◌, ◌-◌, ◌*◌, ◌^◌
 use Rattle.std.specs.Cmp.Lexicographic.{pointwise}
 use Rattle.std.specs.Int.{w16, w64}
 use Rattle.std.specs.List.{prefix_len}
-use Rattle.std.specs.Option.{option_map_or}
+use Rattle.std.specs.Option.{option_map, option_map_or}
 use Rattle.vr_base.specs.declared.sum.Sum.{Sum}
 use Rattle.vr_base.specs.Bytes.{name_of, number}
 use Rattle.vr_header.specs.declared.command.Command.{Command}
@@ -11,6 +11,7 @@ use Rattle.vr_header.specs.declared.command.Command.TheVariants as command
 use Rattle.vr_header.specs.declared.header.Header.{Header}
 use Rattle.vr_header.specs.declared.header.HeaderFault.{HeaderFault}
 use Rattle.vr_header.specs.Bodies.{operation_of, outcome_of}
+use Rattle.vr_header.specs.Made.{entry_of, is_entry_header}
 use Rattle.vr_header.specs.Spelling.{decoded}
 use Rattle.vr_msg.specs.declared.fault.MsgFault.{MsgFault}
 use Rattle.vr_msg.specs.declared.fault.MsgFault.TheVariants as fault
@@ -110,32 +111,18 @@ reply_fits h body =
     else (if nat_lt 6 h.kind then false
     else ((h.op == 0) && (length body == 0))))
 
-abbrev pub is_entry_command : Command → Bool
-is_entry_command command.Entry = true
-is_entry_command _ = false
-
--- the header of an entry of this group and op, made in a view up to the last one that is allowed
-unfoldable pub is_entry_at : ℕ → ℕ → ℕ → Header → Bool
-is_entry_at cluster last op h =
-    if not (is_entry_command h.command) then false
-    else (if nat_le h.size 128 then false
-    else (if nat_lt 2048 h.size then false
-    else (if not (is_view h.view) then false
-    else (if h.op == 0 then false
-    else (if not (is_number h.op) then false
-    else (if not (h.commit == 0) then false
-    else (if not (h.replica == 0) then false
-    else (if not (h.kind == 0) then false
-    else (if not (h.aux == 0) then false
-    else (if not (h.cluster == cluster) then false
+-- of this group and op, and made in a view up to the last one that is allowed
+unfoldable pub is_at : ℕ → ℕ → ℕ → Header → Bool
+is_at cluster last op h =
+    if not (h.cluster == cluster) then false
     else (if not (h.op == op) then false
-    else nat_le h.view last)))))))))))
+    else nat_le h.view last)
 
 abbrev pub is_ok_entry_at : ℕ → ℕ → ℕ → Result Header HeaderFault → Bool
-is_ok_entry_at cluster last op (Ok h) = is_entry_at cluster last op h
+is_ok_entry_at cluster last op (Ok h) = if not (is_entry_header h) then false else is_at cluster last op h
 is_ok_entry_at cluster last op (Err f) = false
 
--- the bytes begin with such a header
+-- the bytes begin with the header of such an entry
 unfoldable pub begins_entry : ℕ → ℕ → ℕ → List ℕ → Bool
 begins_entry cluster last op bytes = is_ok_entry_at cluster last op (decoded bytes)
 
@@ -143,17 +130,9 @@ begins_entry cluster last op bytes = is_ok_entry_at cluster last op (decoded byt
 unfoldable pub is_body : Header → List ℕ → Bool
 is_body h body = (h.size == 128 + length body) && pointwise nat_eq h.body.0 (name_of body)
 
-abbrev pub is_whole_with : ℕ → ℕ → ℕ → List ℕ → Result Header HeaderFault → Bool
-is_whole_with cluster last op body (Ok h) =
-    if not (is_entry_at cluster last op h) then false
-    else (if not (is_body h body) then false
-    else is_asked h.request body)
-is_whole_with cluster last op body (Err f) = false
-
--- the bytes are an entry of this group and op, made in a view up to the last one that is allowed
+-- the bytes are such an entry
 unfoldable pub entry_fits : ℕ → ℕ → ℕ → List ℕ → Bool
-entry_fits cluster last op bytes =
-    if nat_lt (length bytes) 128 then false else is_whole_with cluster last op (drop 128 bytes) (decoded bytes)
+entry_fits cluster last op bytes = option_map_or (is_at cluster last op) (option_map (λ e. e.header) (entry_of bytes)) false
 
 -- the bytes are this many headers of entries, from this op on
 unfoldable pub headers_fit : ℕ → ℕ → ℕ → ℕ → List ℕ → Bool

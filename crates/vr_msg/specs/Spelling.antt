@@ -1,15 +1,15 @@
 -- One message, one spelling.
-use Rattle.std.specs.Prelude.{ℕ, ◌≡◌, ◌+◌, List, [], ◌++◌, length, map, replicate}
+use Rattle.std.specs.Prelude.{ℕ, ◌≡◌, ◌+◌, ⊤, List, [], ◌∷◌, ◌++◌, length, map}
 use Rattle.std.specs.List.{filter_map, flat_map}
-use Rattle.vr_base.specs.declared.sum.Sum.{Sum}
 use Rattle.vr_base.specs.Bytes.{bytes16, bytes64, name_of}
 use Rattle.vr_header.specs.declared.command.Command.{Command}
 use Rattle.vr_header.specs.declared.command.Command.TheVariants as command
 use Rattle.vr_header.specs.declared.header.Header.{Header}
 use Rattle.vr_header.specs.declared.part.Part.{Part}
 use Rattle.vr_header.specs.declared.part.Part.TheVariants.{Here, Lost, Wanted, Unknown, Nothing}
-use Rattle.vr_header.specs.Bodies.{operation_bytes, outcome_bytes}
-use Rattle.vr_header.specs.Made.{Whole}
+use Rattle.vr_header.specs.Bodies.{IsOperation, IsOutcome, operation_bytes, outcome_bytes}
+use Rattle.vr_header.specs.Made.{entry_bytes}
+use Rattle.vr_header.specs.Names.{no_name}
 use Rattle.vr_header.specs.Spelling.{header_bytes, IsHeader}
 use Rattle.vr_msg.specs.declared.frame.Frame.{Frame}
 use Rattle.vr_msg.specs.declared.frame.Frame.TheVariants as frame
@@ -90,10 +90,6 @@ with_fields (frame.GivePrepare g) h = record h { cluster = g.entry.header.cluste
 with_fields (frame.GetBlock g) h = record h { cluster = g.cluster; replica = g.replica; parent = g.name; aux = g.address }
 with_fields (frame.GiveBlock g) h = record h { cluster = g.cluster; replica = g.replica; aux = g.address }
 
--- an entry's header, and its operation
-abbrev pub entry_bytes : Whole → List ℕ
-entry_bytes e = header_bytes e.header ++ operation_bytes e.operation
-
 abbrev pub kind_bytes : ReplyKind → List ℕ
 kind_bytes (reply.Outcome a) = outcome_bytes a.outcome
 kind_bytes reply.Old = []
@@ -133,10 +129,6 @@ body_bytes (frame.GivePrepare g) = entry_bytes g.entry
 body_bytes (frame.GetBlock g) = []
 body_bytes (frame.GiveBlock g) = g.block
 
--- the name of nothing that was
-abbrev pub no_name : Sum
-no_name = record { 0 = replicate 16 0 }
-
 -- a header of this command before a body, with no other field set
 abbrev pub header_before : List ℕ → Command → Header
 header_before body c = record {
@@ -162,3 +154,40 @@ frame_header m = with_fields m (header_before (body_bytes m) (command_for m))
 -- header and body
 unfoldable pub spelling : Frame → List ℕ
 spelling m = header_bytes (frame_header m) ++ body_bytes m
+
+-- the values that a header of the program has
+abbrev pub AreHeaders : List Header → Type 0
+AreHeaders [] = ⊤
+AreHeaders (h ∷ hs) = IsHeader h × AreHeaders hs
+
+abbrev pub IsKindValue : ReplyKind → Type 0
+IsKindValue (reply.Outcome a) = IsOutcome a.outcome
+IsKindValue reply.Old = ⊤
+IsKindValue reply.Gap = ⊤
+IsKindValue reply.Evicted = ⊤
+IsKindValue reply.Busy = ⊤
+IsKindValue reply.Redirect = ⊤
+
+-- the values that the body of a message of the program has
+abbrev pub IsBodyValue : Frame → Type 0
+IsBodyValue (frame.Request q) = IsOperation q.operation
+IsBodyValue (frame.Reply r) = IsKindValue r.kind
+IsBodyValue (frame.Prepare p) = IsHeader p.entry.header × IsOperation p.entry.operation
+IsBodyValue (frame.PrepareOk p) = ⊤
+IsBodyValue (frame.Commit c) = ⊤
+IsBodyValue (frame.StartViewChange s) = ⊤
+IsBodyValue (frame.DoViewChange d) = AreHeaders (filter_map header_of d.statement.body.parts)
+IsBodyValue (frame.StartView v) = AreHeaders v.body.headers
+IsBodyValue (frame.GetView g) = ⊤
+IsBodyValue (frame.GetPrepare g) = ⊤
+IsBodyValue (frame.GivePrepare g) = IsHeader g.entry.header × IsOperation g.entry.operation
+IsBodyValue (frame.GetBlock g) = ⊤
+IsBodyValue (frame.GiveBlock g) = ⊤
+
+-- the bytes are this message: what it carries is of its kind's form, numbers and texts are those that the program has, and its
+-- header and its body stand one after the other
+pub record Spells (m : Frame) (bytes : List ℕ) : Type 0 where
+  pub form : IsFrame m
+  pub header : IsHeader (frame_header m)
+  pub body : IsBodyValue m
+  pub spelled : bytes ≡ spelling m

@@ -6,6 +6,7 @@ mod fault;
 mod frame;
 mod message;
 mod output;
+mod read;
 mod reply;
 mod request;
 mod shape;

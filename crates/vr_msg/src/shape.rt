@@ -3,11 +3,11 @@ ghost use Rattle.std.specs.Prelude.{◌≡◌, ◌||◌, ◌+◌, ◌≤◌, ◌
 ghost use Rattle.std.specs.List.{prefix_len};
 ghost use Rattle.std.specs.Option.{option_map};
 ghost use Rattle.vr_header.specs.declared.command.Command.{Command};
-ghost use Rattle.vr_msg.specs.Shapes.{uses_parent, uses_request_name, uses_client, uses_view, uses_op, uses_commit, uses_replica, uses_aux, is_no_name, unused_names_are_zero, unused_numbers_are_zero, is_view, is_number, numbers_fit, is_asked, reply_fits, is_entry_command, is_entry_at, begins_entry, is_body, is_whole_with, entry_fits, headers_fit, log_fits, knows, after_tag, tags_fit, tags_run, statement_fits, parts_fit, body_fits, has_shape, inspected, inspected_with};
+ghost use Rattle.vr_msg.specs.Shapes.{uses_parent, uses_request_name, uses_client, uses_view, uses_op, uses_commit, uses_replica, uses_aux, is_no_name, unused_names_are_zero, unused_numbers_are_zero, is_view, is_number, numbers_fit, is_asked, reply_fits, is_at, is_ok_entry_at, begins_entry, is_body, entry_fits, headers_fit, log_fits, knows, after_tag, tags_fit, tags_run, statement_fits, parts_fit, body_fits, has_shape, inspected, inspected_with};
 
 use crate::MsgFault;
 use vr_base::{Sum, checksum, u16_at, u64_at};
-use vr_header::{Command, Header, Operation, Outcome, decode};
+use vr_header::{Command, Entry, Header, Operation, Outcome, decode};
 
 fn uses_parent(command: Command) -> bool
     ensures { result ≡ uses_parent command }
@@ -181,47 +181,11 @@ fn reply_fits(h: &Header, body: &[u8]) -> bool
     h.op == 0 && body.is_empty()
 }
 
-fn is_entry_command(command: Command) -> bool
-    ensures { result ≡ is_entry_command command }
+// Whether a header is of this group and op, and made in a view up to `last`.
+#[tactic(auto, unfolding(crate::specs::Shapes::is_at))]
+fn is_at(cluster: u64, last: u32, op: u64, h: &Header) -> bool
+    ensures { result ≡ is_at cluster last op h.now }
 {
-    matches!(command, Command::Entry)
-}
-
-// Whether this is the header of an entry of this group and op, made in a view up to `last`.
-#[tactic(auto, unfolding(crate::specs::Shapes::is_entry_at))]
-fn is_entry_at(cluster: u64, last: u32, op: u64, h: &Header) -> bool
-    ensures { result ≡ is_entry_at cluster last op h.now }
-{
-    if !is_entry_command(h.command) {
-        return false;
-    }
-    if h.size.get() <= 128 {
-        return false;
-    }
-    if h.size.get() > 2048 {
-        return false;
-    }
-    if !is_view(h.view as u64) {
-        return false;
-    }
-    if h.op == 0 {
-        return false;
-    }
-    if !is_number(h.op) {
-        return false;
-    }
-    if h.commit != 0 {
-        return false;
-    }
-    if h.replica != 0 {
-        return false;
-    }
-    if h.kind != 0 {
-        return false;
-    }
-    if h.aux != 0 {
-        return false;
-    }
     if h.cluster != cluster {
         return false;
     }
@@ -231,7 +195,7 @@ fn is_entry_at(cluster: u64, last: u32, op: u64, h: &Header) -> bool
     h.view <= last
 }
 
-// Whether the bytes begin with such a header.
+// Whether the bytes begin with the header of such an entry.
 #[tactic(auto, unfolding(crate::specs::Shapes::begins_entry))]
 fn begins_entry(cluster: u64, last: u32, op: u64, bytes: &[u8]) -> bool
     ensures { result ≡ begins_entry cluster last op bytes.now }
@@ -240,6 +204,15 @@ fn begins_entry(cluster: u64, last: u32, op: u64, bytes: &[u8]) -> bool
         Ok(h) => is_entry_at(cluster, last, op, &h),
         Err(_) => false,
     }
+}
+
+fn is_entry_at(cluster: u64, last: u32, op: u64, h: &Header) -> bool
+    ensures { result ≡ is_ok_entry_at cluster last op (Ok h.now) }
+{
+    if !h.is_entry() {
+        return false;
+    }
+    is_at(cluster, last, op, h)
 }
 
 // Whether the header has this body.
@@ -254,31 +227,15 @@ fn is_body(h: &Header, body: &[u8]) -> bool
     h.body.0 == right.0
 }
 
-// Whether the bytes are an entry of this group and op, made in a view up to `last`.
+// Whether the bytes are such an entry.
 #[tactic(auto, unfolding(crate::specs::Shapes::entry_fits))]
 fn entry_fits(cluster: u64, last: u32, op: u64, bytes: &[u8]) -> bool
     ensures { result ≡ entry_fits cluster last op bytes.now }
 {
-    if bytes.len() < 128 {
-        return false;
+    match Entry::header_in(bytes) {
+        Some(h) => is_at(cluster, last, op, &h),
+        None => false,
     }
-    let (_, body) = bytes.split_at(128);
-    match decode(bytes) {
-        Ok(h) => is_whole(cluster, last, op, &h, body),
-        Err(_) => false,
-    }
-}
-
-fn is_whole(cluster: u64, last: u32, op: u64, h: &Header, body: &[u8]) -> bool
-    ensures { result ≡ is_whole_with cluster last op body.now (Ok h.now) }
-{
-    if !is_entry_at(cluster, last, op, h) {
-        return false;
-    }
-    if !is_body(h, body) {
-        return false;
-    }
-    is_asked(h.request, body)
 }
 
 // Whether the bytes are `count` headers of entries, from `op` on.
@@ -316,7 +273,7 @@ fn log_fits(h: &Header, body: &[u8]) -> bool
 }
 
 // Whether a tag is of a Part that knows its header.
-fn knows(tag: u8) -> bool
+pub(crate) fn knows(tag: u8) -> bool
     ensures { result ≡ knows tag }
 {
     1 <= tag && tag <= 3
