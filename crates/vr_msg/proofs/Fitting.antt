@@ -9,9 +9,7 @@ use Rattle.vr_header.specs.declared.header.Header.{Header}
 use Rattle.vr_header.specs.declared.header.HeaderFault.{HeaderFault}
 use Rattle.vr_header.specs.Spelling.{decoded, fault_of, header_at}
 use Rattle.vr_header.specs.declared.outcome.Outcome.{Outcome}
-use Rattle.vr_header.proofs.BodyLaws.{either, mapped}
 use Rattle.vr_header.proofs.Faults.{no_fault}
-use Rattle.vr_header.proofs.Tests.{both}
 use Rattle.std.specs.Int.{w16, w64}
 use Rattle.vr_base.specs.Bytes.{bytes16, number}
 use Rattle.vr_header.specs.declared.operation.Operation.{Operation}
@@ -22,6 +20,10 @@ use Rattle.vr_msg.specs.declared.reply.ReplyKind.TheVariants as reply
 use Rattle.vr_msg.specs.Asking.{IsReplyKind}
 use Rattle.vr_msg.specs.Reading.{are_headers, kind_at, are_parts, headers_at, part_at, parts_at, rest_at}
 use Rattle.vr_msg.specs.Shapes.{after_tag, begins_entry, headers_fit, is_asked, is_ok_entry_at, is_view, knows, log_fits, numbers_fit, parts_fit, statement_fits, tags_fit, tags_run}
+
+pub both : (a b : Bool) → (a && b) ≡ true → (a ≡ true) × (b ≡ true)
+both true b e = (refl, e)
+both false b e = absurd cc
 
 -- what was decoded is at its places, and there was no fault
 pub no_fault_in : (b : List ℕ) (h : Header) → decoded b ≡ Ok h → (fault_of b ≡ None) × (header_at b ≡ h)
