@@ -111,7 +111,7 @@ pub record HeadersFound (cluster last op n : ℕ) (b : List ℕ) : Type 0 where
   pub entries : FromOp (IsEntryAt cluster last) op (headers_at n b)
   pub count : length (headers_at n b) ≡ n
 
-nothing : (b : List ℕ) → eqb (length b) 0 ≡ true → [] ≡ b
+pub nothing : (b : List ℕ) → eqb (length b) 0 ≡ true → [] ≡ b
 nothing [] e = refl
 nothing (x ∷ b) e = absurd (omega (arith, eqb-true (length (x ∷ b)) 0 e))
 
