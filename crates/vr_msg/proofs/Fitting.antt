@@ -131,7 +131,7 @@ pub headers_read : (count i : ℕ) (rest : List ℕ) (before all : List Header) 
 headers_read count i rest before all l e =
     append_assoc before (header_at rest ∷ []) (headers_at (count - (i + 1)) (drop 128 rest)) ∙ (ap (λ hs. before ++ hs) (sym (headers_at_more count i rest l)) ∙ e)
 
-one_byte : (o : Operation) → IsOperation o → (o ≡ Register) ↔ (length (operation_bytes o) ≡ 1)
+pub one_byte : (o : Operation) → IsOperation o → (o ≡ Register) ↔ (length (operation_bytes o) ≡ 1)
 unfolding operation_bytes
 one_byte Register i = (λ e. refl, λ e. refl)
 one_byte (Put key value) i = (λ e. absurd cc, λ e. absurd (omega (arith, length-append (2 ∷ length key ∷ bytes16 (length value)) (key ++ value), e)))

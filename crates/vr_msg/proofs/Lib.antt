@@ -1,3 +1,4 @@
+pub mod Again
 pub mod Fitting
 pub mod Lists
 pub mod Parts

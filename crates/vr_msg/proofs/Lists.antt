@@ -51,7 +51,7 @@ IsBytes-drop n b i k = rw (get_or-drop n b k 0) (i (n + k))
 
 -- ---- the tests of one header
 
-at_true : (cluster last op : ℕ) (h : Header) → h.cluster ≡ cluster → h.op ≡ op → h.view ≤ last → is_at cluster last op h ≡ true
+pub at_true : (cluster last op : ℕ) (h : Header) → h.cluster ≡ cluster → h.op ≡ op → h.view ≤ last → is_at cluster last op h ≡ true
 unfolding is_at
 at_true cluster last op h c o v = rw (eq-eqb h.cluster cluster c, eq-eqb h.op op o, le-leb h.view last v) refl
 
