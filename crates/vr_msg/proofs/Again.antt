@@ -27,7 +27,7 @@ use Rattle.vr_msg.specs.Asking.{IsReplyKind}
 use Rattle.vr_msg.specs.Forms.{IsDoViewChange, IsFrame, IsStartView}
 use Rattle.vr_msg.specs.Logs.{FromOp, IsEntryAt, IsPartAt, IsStatement, has_header}
 use Rattle.vr_msg.specs.Reading.{frame_for, kind_at, headers_at}
-use Rattle.vr_msg.specs.Shapes.{body_fits, entry_fits, has_shape, is_asked, is_at, is_body, is_number, is_view, knows, log_fits, numbers_fit, parts_fit, reply_fits, statement_fits, tags_fit, tags_run, unused_names_are_zero, unused_numbers_are_zero}
+use Rattle.vr_msg.specs.Shapes.{body_fits, entry_fits, has_shape, is_asked, is_at, is_body, is_number, is_view, kind_fits, knows, log_fits, numbers_fit, parts_fit, statement_fits, tags_fit, tags_run, unused_names_are_zero, unused_numbers_are_zero}
 use Rattle.vr_msg.specs.Spelling.{AreHeaders, IsBodyValue, IsKindValue, body_bytes, command_for, frame_header, headers_bytes, kind_bytes, kind_number, kind_op, parts_bytes, tag}
 use Rattle.vr_msg.proofs.Fitting.{one_byte}
 use Rattle.vr_msg.proofs.Lists.{at_true, headers_again, headers_true}
@@ -180,14 +180,14 @@ asked_true request o i r =
         (λ e. eq-eqb request 0 (r.0 (one.1 (eqb-true (length (operation_bytes o)) 1 e))))
         (λ e. eq-eqb (length (operation_bytes o)) 1 (one.0 (r.1 (eqb-true request 0 e)))))
 
-reply_true : (h : Header) (k : ReplyKind) → h.kind ≡ kind_number k → h.op ≡ kind_op k → IsKindValue k → reply_fits h (kind_bytes k) ≡ true
-unfolding reply_fits
-reply_true h (reply.Outcome a) n o v = rw (n, outcome_again a.outcome v) refl
-reply_true h reply.Old n o v = rw (n, o) refl
-reply_true h reply.Gap n o v = rw (n, o) refl
-reply_true h reply.Evicted n o v = rw (n, o) refl
-reply_true h reply.Busy n o v = rw (n, o) refl
-reply_true h reply.Redirect n o v = rw (n, o) refl
+reply_true : (k : ReplyKind) → IsKindValue k → kind_fits (kind_number k) (kind_op k) (kind_bytes k) ≡ true
+unfolding kind_fits
+reply_true (reply.Outcome a) v = rw (outcome_again a.outcome v) refl
+reply_true reply.Old v = refl
+reply_true reply.Gap v = refl
+reply_true reply.Evicted v = refl
+reply_true reply.Busy v = refl
+reply_true reply.Redirect v = refl
 
 entry_true : (cluster last op : ℕ) (e : Whole) → IsEntry e → IsHeader e.header → IsOperation e.operation → e.header.cluster ≡ cluster → e.header.op ≡ op → e.header.view ≤ last
     → entry_fits cluster last op (entry_bytes e) ≡ true
@@ -237,7 +237,7 @@ parts_true h s head commit log_view view i a =
 
 body_true : (m : Frame) → IsFrame m → IsBodyValue m → body_fits (command_for m) (frame_header m) (body_bytes m) ≡ true
 body_true (frame.Request q) i v = asked_true q.request q.operation v i
-body_true (frame.Reply r) i v = reply_true (frame_header (frame.Reply r)) r.kind refl refl v
+body_true (frame.Reply r) i v = reply_true r.kind v
 body_true (frame.Prepare p) i v = entry_true p.entry.header.cluster p.view p.entry.header.op p.entry i.entry v.0 v.1 refl refl i.made
 body_true (frame.PrepareOk p) i v = view_true p.made i.made
 body_true (frame.Commit c) i v = refl

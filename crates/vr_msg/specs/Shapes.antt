@@ -104,12 +104,13 @@ is_asked request body =
     if not (is_some (operation_of body)) then false
     else (if length body == 1 then request == 0 else not (request == 0))
 
-unfoldable pub reply_fits : Header → List ℕ → Bool
-reply_fits h body =
-    if h.kind == 1 then is_some (outcome_of body)
-    else (if h.kind == 0 then false
-    else (if nat_lt 6 h.kind then false
-    else ((h.op == 0) && (length body == 0))))
+-- the number of a reply's kind, with its op and its body
+unfoldable pub kind_fits : ℕ → ℕ → List ℕ → Bool
+kind_fits kind op body =
+    if kind == 1 then is_some (outcome_of body)
+    else (if kind == 0 then false
+    else (if nat_lt 6 kind then false
+    else ((op == 0) && (length body == 0))))
 
 -- of this group and op, and made in a view up to the last one that is allowed
 unfoldable pub is_at : ℕ → ℕ → ℕ → Header → Bool
@@ -187,7 +188,7 @@ parts_fit h body =
 -- what each command asks of its header's numbers and of the bytes after the header
 abbrev pub body_fits : Command → Header → List ℕ → Bool
 body_fits command.Request h body = is_asked h.request body
-body_fits command.Reply h body = reply_fits h body
+body_fits command.Reply h body = kind_fits h.kind h.op body
 body_fits command.Prepare h body = entry_fits h.cluster h.view h.op body
 body_fits command.PrepareOk h body = is_view h.aux && (length body == 0)
 body_fits command.Commit h body = length body == 0

@@ -3,7 +3,7 @@ ghost use Rattle.std.specs.Prelude.{◌≡◌, ◌||◌, ◌+◌, ◌≤◌, ◌
 ghost use Rattle.std.specs.List.{prefix_len};
 ghost use Rattle.std.specs.Option.{option_map};
 ghost use Rattle.vr_header.specs.declared.command.Command.{Command};
-ghost use Rattle.vr_msg.specs.Shapes.{uses_parent, uses_request_name, uses_client, uses_view, uses_op, uses_commit, uses_replica, uses_aux, is_no_name, unused_names_are_zero, unused_numbers_are_zero, is_view, is_number, numbers_fit, is_asked, reply_fits, is_at, is_ok_entry_at, begins_entry, is_body, entry_fits, headers_fit, log_fits, knows, after_tag, tags_fit, tags_run, statement_fits, parts_fit, body_fits, has_shape, inspected, inspected_with};
+ghost use Rattle.vr_msg.specs.Shapes.{uses_parent, uses_request_name, uses_client, uses_view, uses_op, uses_commit, uses_replica, uses_aux, is_no_name, unused_names_are_zero, unused_numbers_are_zero, is_view, is_number, numbers_fit, is_asked, kind_fits, is_at, is_ok_entry_at, begins_entry, is_body, entry_fits, headers_fit, log_fits, knows, after_tag, tags_fit, tags_run, statement_fits, parts_fit, body_fits, has_shape, inspected, inspected_with};
 
 use crate::MsgFault;
 use vr_base::{Sum, checksum, u16_at, u64_at};
@@ -165,20 +165,21 @@ fn is_asked(request: u32, body: &[u8]) -> bool
     }
 }
 
-#[tactic(auto, unfolding(crate::specs::Shapes::reply_fits))]
-fn reply_fits(h: &Header, body: &[u8]) -> bool
-    ensures { result ≡ reply_fits h.now body.now }
+// Whether a reply of this kind may have this op and this body.
+#[tactic(auto, unfolding(crate::specs::Shapes::kind_fits))]
+fn kind_fits(kind: u8, op: u64, body: &[u8]) -> bool
+    ensures { result ≡ kind_fits kind op body.now }
 {
-    if h.kind == 1 {
+    if kind == 1 {
         return Outcome::is_body(body);
     }
-    if h.kind == 0 {
+    if kind == 0 {
         return false;
     }
-    if h.kind > 6 {
+    if kind > 6 {
         return false;
     }
-    h.op == 0 && body.is_empty()
+    op == 0 && body.is_empty()
 }
 
 // Whether a header is of this group and op, and made in a view up to `last`.
@@ -398,7 +399,7 @@ fn body_fits(h: &Header, body: &[u8]) -> bool
 {
     match h.command {
         Command::Request => is_asked(h.request, body),
-        Command::Reply => reply_fits(h, body),
+        Command::Reply => kind_fits(h.kind, h.op, body),
         Command::Prepare => entry_fits(h.cluster, h.view, h.op, body),
         Command::PrepareOk => is_view(h.aux) && body.is_empty(),
         Command::Commit => body.is_empty(),
