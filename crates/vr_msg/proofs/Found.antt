@@ -1,5 +1,5 @@
 -- Bytes that pass the tests are a message's.
-use Rattle.std.proofs.Common.{◌≡◌, ℕ, zero, suc, ◌+◌, ◌-◌, ◌^◌, ◌≤◌, ◌<◌, Bool, true, false, cond, eqb, leb, ltb, List, [], ◌∷◌, ◌++◌, length, take, drop, get_or, refl, sym, ap, ◌∙◌, arith, subst, Ok, Option, Some, None}
+use Rattle.std.proofs.Common.{◌≡◌, ℕ, zero, suc, ◌+◌, ◌-◌, ◌^◌, ◌≤◌, ◌<◌, Bool, true, false, cond, eqb, leb, ltb, List, [], ◌∷◌, ◌++◌, length, take, drop, get_or, refl, sym, ap, ◌∙◌, arith, subst, length-take, Ok, Option, Some, None}
 use Rattle.std.specs.Prelude.{◌&&◌, ◌||◌, ◌↔◌, ◌≢◌, IfSome, is_some, map, nat_eq, not, replicate, slice_get}
 use Rattle.std.specs.Int.{w16, w64}
 use Rattle.std.specs.List.{prefix_len}
@@ -24,13 +24,17 @@ use Rattle.vr_msg.specs.declared.frame.Frame.{Frame}
 use Rattle.vr_msg.specs.declared.frame.Frame.TheVariants as frame
 use Rattle.vr_msg.specs.declared.reply.ReplyKind.{ReplyKind}
 use Rattle.vr_msg.specs.declared.reply.ReplyKind.TheVariants as reply
+use Rattle.vr_msg.specs.declared.statement.DvcBody.{DvcBody}
+use Rattle.vr_msg.specs.declared.statement.Statement.{Statement}
 use Rattle.vr_msg.specs.Asking.{IsReplyKind}
 use Rattle.vr_msg.specs.Forms.{IsFrame}
-use Rattle.vr_msg.specs.Reading.{body_at, frame_for, headers_at, kind_at}
-use Rattle.vr_msg.specs.Shapes.{body_fits, entry_fits, has_shape, is_asked, is_at, is_body, is_no_name, is_view, kind_fits, log_fits, numbers_fit, parts_fit, tags_run, unused_names_are_zero, unused_numbers_are_zero, uses_aux, uses_client, uses_commit, uses_op, uses_parent, uses_replica, uses_request_name, uses_view}
-use Rattle.vr_msg.specs.Spelling.{IsBodyValue, IsKindValue, body_bytes, frame_header, headers_bytes, kind_bytes, kind_number, kind_op}
-use Rattle.vr_msg.proofs.Fitting.{asked_form, both, numbers, views}
-use Rattle.vr_msg.proofs.Lists.{at_found, headers_found, nothing}
+use Rattle.vr_msg.specs.Logs.{IsStatement, has_header}
+use Rattle.vr_msg.specs.Reading.{body_at, frame_for, headers_at, kind_at, parts_at}
+use Rattle.vr_msg.specs.Shapes.{body_fits, entry_fits, has_shape, is_asked, is_at, is_body, is_no_name, is_view, kind_fits, knows, log_fits, numbers_fit, parts_fit, tags_run, unused_names_are_zero, unused_numbers_are_zero, uses_aux, uses_client, uses_commit, uses_op, uses_parent, uses_replica, uses_request_name, uses_view}
+use Rattle.vr_msg.specs.Spelling.{AreHeaders, IsBodyValue, IsKindValue, body_bytes, frame_header, headers_bytes, kind_bytes, kind_number, kind_op, parts_bytes}
+use Rattle.vr_msg.proofs.Fitting.{PartsFound, asked_form, both, numbers, parts_found, views}
+use Rattle.vr_msg.proofs.Lists.{HeadersFound, IsBytes-drop, at_found, headers_found, nothing}
+use Rattle.vr_msg.proofs.Parts.{PartsRead, body_spelled, known, last_found, last_says, length-tags, parts_read, run_tags}
 
 -- ---- the fields that the command has no use for
 
@@ -315,3 +319,258 @@ give_prepare_found h body b e =
       values = x.values;
       spelled = sym x.spelled;
     }
+
+-- ---- kinds without a body
+
+view_found : (n : ℕ) (body : List ℕ) → (is_view n && eqb (length body) 0) ≡ true → (n < 2 ^ 32 - 1) × ([] ≡ body)
+view_found n body e = let p = both (is_view n) (eqb (length body) 0) e in (ltb-true n (2 ^ 32 - 1) p.0, nothing body p.1)
+
+prepare_ok_found : (h : Header) (body : List ℕ) → Base command.PrepareOk h body → (is_view h.aux && eqb (length body) 0) ≡ true → Found command.PrepareOk h body
+prepare_ok_found h body b e =
+    let p = view_found h.aux body e in
+    let z = b.zero in
+    record {
+      message = frame.PrepareOk (record { cluster = h.cluster; replica = h.replica; view = h.view; op = h.op; name = h.parent; made = h.aux });
+      read = refl;
+      header = header_is command.PrepareOk h body [] h.parent no_name h.cluster 0 0 h.view h.op 0 h.replica 0 h.aux b p.1
+        refl (z.request_name refl) refl (z.client refl) (z.request refl) refl refl (z.commit refl) refl (z.kind refl) refl;
+      form = record { view = b.view; op = b.op; made = p.0 };
+      values = tt;
+      spelled = p.1;
+    }
+
+commit_found : (h : Header) (body : List ℕ) → Base command.Commit h body → eqb (length body) 0 ≡ true → Found command.Commit h body
+commit_found h body b e =
+    let z = b.zero in
+    record {
+      message = frame.Commit (record { cluster = h.cluster; replica = h.replica; view = h.view; head = h.op; commit = h.commit });
+      read = refl;
+      header = header_is command.Commit h body [] no_name no_name h.cluster 0 0 h.view h.op h.commit h.replica 0 0 b (nothing body e)
+        (z.parent refl) (z.request_name refl) refl (z.client refl) (z.request refl) refl refl refl refl (z.kind refl) (z.aux refl);
+      form = record { view = b.view; head = b.op; commit = b.commit };
+      values = tt;
+      spelled = nothing body e;
+    }
+
+start_view_change_found : (h : Header) (body : List ℕ) → Base command.StartViewChange h body → eqb (length body) 0 ≡ true → Found command.StartViewChange h body
+start_view_change_found h body b e =
+    let z = b.zero in
+    record {
+      message = frame.StartViewChange (record { cluster = h.cluster; replica = h.replica; view = h.view });
+      read = refl;
+      header = header_is command.StartViewChange h body [] no_name no_name h.cluster 0 0 h.view 0 0 h.replica 0 0 b (nothing body e)
+        (z.parent refl) (z.request_name refl) refl (z.client refl) (z.request refl) refl (z.op refl) (z.commit refl) refl (z.kind refl) (z.aux refl);
+      form = b.view;
+      values = tt;
+      spelled = nothing body e;
+    }
+
+get_view_found : (h : Header) (body : List ℕ) → Base command.GetView h body → eqb (length body) 0 ≡ true → Found command.GetView h body
+get_view_found h body b e =
+    let z = b.zero in
+    record {
+      message = frame.GetView (record { cluster = h.cluster; replica = h.replica; view = h.view });
+      read = refl;
+      header = header_is command.GetView h body [] no_name no_name h.cluster 0 0 h.view 0 0 h.replica 0 0 b (nothing body e)
+        (z.parent refl) (z.request_name refl) refl (z.client refl) (z.request refl) refl (z.op refl) (z.commit refl) refl (z.kind refl) (z.aux refl);
+      form = b.view;
+      values = tt;
+      spelled = nothing body e;
+    }
+
+get_prepare_found : (h : Header) (body : List ℕ) → Base command.GetPrepare h body → (is_view h.aux && eqb (length body) 0) ≡ true → Found command.GetPrepare h body
+get_prepare_found h body b e =
+    let p = view_found h.aux body e in
+    let z = b.zero in
+    record {
+      message = frame.GetPrepare (record { cluster = h.cluster; replica = h.replica; op = h.op; name = h.parent; made = h.aux });
+      read = refl;
+      header = header_is command.GetPrepare h body [] h.parent no_name h.cluster 0 0 0 h.op 0 h.replica 0 h.aux b p.1
+        refl (z.request_name refl) refl (z.client refl) (z.request refl) (z.view refl) refl (z.commit refl) refl (z.kind refl) refl;
+      form = record { op = b.op; made = p.0 };
+      values = tt;
+      spelled = p.1;
+    }
+
+get_block_found : (h : Header) (body : List ℕ) → Base command.GetBlock h body → eqb (length body) 0 ≡ true → Found command.GetBlock h body
+get_block_found h body b e =
+    let z = b.zero in
+    record {
+      message = frame.GetBlock (record { cluster = h.cluster; replica = h.replica; address = h.aux; name = h.parent });
+      read = refl;
+      header = header_is command.GetBlock h body [] h.parent no_name h.cluster 0 0 0 0 0 h.replica 0 h.aux b (nothing body e)
+        refl (z.request_name refl) refl (z.client refl) (z.request refl) (z.view refl) (z.op refl) (z.commit refl) refl (z.kind refl) refl;
+      form = tt;
+      values = tt;
+      spelled = nothing body e;
+    }
+
+-- ---- blocks and logs
+
+give_block_found : (h : Header) (body : List ℕ) → Base command.GiveBlock h body → eqb (length body) 4096 ≡ true → Found command.GiveBlock h body
+give_block_found h body b e =
+    let z = b.zero in
+    record {
+      message = frame.GiveBlock (record { cluster = h.cluster; replica = h.replica; address = h.aux; block = body });
+      read = refl;
+      header = header_is command.GiveBlock h body body no_name no_name h.cluster 0 0 0 0 0 h.replica 0 h.aux b refl
+        (z.parent refl) (z.request_name refl) refl (z.client refl) (z.request refl) (z.view refl) (z.op refl) (z.commit refl) refl (z.kind refl) refl;
+      form = eqb-true (length body) 4096 e;
+      values = tt;
+      spelled = refl;
+    }
+
+before : (t x : Bool) → cond t false x ≡ true → (t ≡ false) × (x ≡ true)
+before true x e = absurd cc
+before false x e = (refl, e)
+
+-- the tests of a log
+record LogFound (h : Header) (body : List ℕ) : Type 0 where
+  commit : h.commit ≤ h.op
+  lo : h.aux ≤ h.op
+  short : h.op - h.aux ≤ 64
+  headers : HeadersFound h.cluster h.view (h.aux + 1) (h.op - h.aux) body
+
+log_there : (h : Header) (body : List ℕ) → IsBytes body → log_fits h body ≡ true → LogFound h body
+unfolding log_fits
+log_there h body i e =
+    let commit = before (ltb h.op h.commit) _ e in
+    let lo = before (ltb h.op h.aux) _ commit.1 in
+    let short = before (ltb 64 (h.op - h.aux)) _ lo.1 in
+    record {
+      commit = ltb-false h.op h.commit commit.0;
+      lo = ltb-false h.op h.aux lo.0;
+      short = ltb-false 64 (h.op - h.aux) short.0;
+      headers = headers_found h.cluster h.view (h.aux + 1) (h.op - h.aux) body i short.1;
+    }
+
+start_view_found : (h : Header) (body : List ℕ) → Base command.StartView h body → log_fits h body ≡ true → Found command.StartView h body
+start_view_found h body b e =
+    let l = log_there h body b.bytes e in
+    let hs = headers_at (h.op - h.aux) body in
+    let n : length hs ≡ h.op - h.aux = l.headers.count in
+    let lo = l.lo in
+    let short = l.short in
+    let z = b.zero in
+    record {
+      message = frame.StartView (record {
+        cluster = h.cluster; replica = h.replica; view = h.view; head = h.op; commit = h.commit; body = record { lo = h.aux; headers = hs }
+      });
+      read = refl;
+      header = header_is command.StartView h body (headers_bytes hs) no_name no_name h.cluster 0 0 h.view h.op h.commit h.replica 0 h.aux b l.headers.spelled
+        (z.parent refl) (z.request_name refl) refl (z.client refl) (z.request refl) refl refl refl refl (z.kind refl) refl;
+      form = record { view = b.view; head = b.op; commit = l.commit; count = omega arith; short = omega arith; headers = l.headers.entries };
+      values = l.headers.values;
+      spelled = l.headers.spelled;
+    }
+
+-- the tests of a statement
+record RunFound (head first : ℕ) (ts : List ℕ) : Type 0 where
+  run : first + prefix_len knows ts ≡ head + 1
+  short : prefix_len knows ts ≤ 64
+  says : last_says ts ≡ true
+
+run_there : (head first : ℕ) (ts : List ℕ) → tags_run head first ts ≡ true → RunFound head first ts
+unfolding tags_run
+run_there head first ts e =
+    let short = before (ltb 64 (prefix_len knows ts)) _ e in
+    let run = next (eqb (first + prefix_len knows ts) (head + 1)) _ short.1 in
+    record { run = eqb-true (first + prefix_len knows ts) (head + 1) run.0; short = ltb-false 64 (prefix_len knows ts) short.0; says = run.1 }
+
+-- the statement that is read is one
+statement_form : (h : Header) (body : List ℕ) (d : DvcBody) → h.op ≤ 2 ^ 62 → PartsFound h body → body_at body ≡ d
+    → PartsRead h.cluster h.aux (number w64 0 body) (take (number w16 8 body) (drop 10 body)) (drop (10 + number w16 8 body) body)
+    → (let s : Statement = record { log_view = h.aux; commit = h.commit; head = h.op; body = d } in IsStatement h.cluster s)
+unfolding body_at
+statement_form h body d l p e r =
+    let first = number w64 0 body in
+    let ts = take (number w16 8 body) (drop 10 body) in
+    let ps = parts_at ts (drop (10 + number w16 8 body) body) in
+    let run = run_there h.op first ts p.statement.run in
+    let same : prefix_len has_header ps ≡ prefix_len knows ts = sym (run_tags ps) ∙ ap (prefix_len knows) r.tags in
+    let count : length ps ≤ 128 =
+      (let a : length ts ≡ length ps = ap length (sym r.tags) ∙ length-tags ps in let c = p.count in let t = length-take (number w16 8 body) (drop 10 body) in omega arith) in
+    let s : Statement = record { log_view = h.aux; commit = h.commit; head = h.op; body = record { first = first; parts = ps } } in
+    let form : IsStatement h.cluster s = record {
+        commit = p.statement.commit;
+        head = l;
+        first = (p.statement.one, p.statement.reach);
+        run = ap (λ n. first + n) same ∙ run.run;
+        short = (let a = run.short in omega arith);
+        count = count;
+        last = last_found ps (ap last_says r.tags ∙ run.says);
+        parts = r.parts;
+      } in
+    subst (λ (x : DvcBody). let s : Statement = record { log_view = h.aux; commit = h.commit; head = h.op; body = x } in IsStatement h.cluster s) e form
+
+statement_values : (body : List ℕ) (d : DvcBody) → body_at body ≡ d
+    → AreHeaders (known (parts_at (take (number w16 8 body) (drop 10 body)) (drop (10 + number w16 8 body) body))) → AreHeaders (known d.parts)
+unfolding body_at
+statement_values body d e a = subst (λ (x : DvcBody). AreHeaders (known x.parts)) e a
+
+do_view_change_found : (h : Header) (body : List ℕ) → Base command.DoViewChange h body → parts_fit h body ≡ true → Found command.DoViewChange h body
+do_view_change_found h body b e =
+    let p = parts_found h body e in
+    let count = number w16 8 body in
+    let rest = drop (10 + count) body in
+    let r = parts_read h.cluster h.aux (number w64 0 body) (take count (drop 10 body)) rest (IsBytes-drop (10 + count) body b.bytes) p.statement.known in
+    let spelled = body_spelled h.cluster h.aux body b.bytes p.long r in
+    let z = b.zero in
+    record {
+      message = frame.DoViewChange (record {
+        cluster = h.cluster; replica = h.replica; view = h.view; statement = record { log_view = h.aux; commit = h.commit; head = h.op; body = body_at body }
+      });
+      read = refl;
+      header = header_is command.DoViewChange h body (parts_bytes (body_at body)) no_name no_name h.cluster 0 0 h.view h.op h.commit h.replica 0 h.aux b spelled
+        (z.parent refl) (z.request_name refl) refl (z.client refl) (z.request refl) refl refl refl refl (z.kind refl) refl;
+      form = record { view = b.view; log_view = p.statement.log_view; statement = statement_form h body (body_at body) b.op p refl r };
+      values = statement_values body (body_at body) refl r.values;
+      spelled = spelled;
+    }
+
+-- ---- all kinds
+
+kind_by_kind : (c : Command) (h : Header) (body : List ℕ) → Base c h body → body_fits c h body ≡ true → Found c h body
+kind_by_kind command.Reserved h body b e = absurd cc
+kind_by_kind command.Root h body b e = absurd cc
+kind_by_kind command.Entry h body b e = absurd cc
+kind_by_kind command.Request h body b e = request_found h body b e
+kind_by_kind command.Reply h body b e = reply_found h body b e
+kind_by_kind command.Prepare h body b e = prepare_found h body b e
+kind_by_kind command.PrepareOk h body b e = prepare_ok_found h body b e
+kind_by_kind command.Commit h body b e = commit_found h body b e
+kind_by_kind command.StartViewChange h body b e = start_view_change_found h body b e
+kind_by_kind command.DoViewChange h body b e = do_view_change_found h body b e
+kind_by_kind command.StartView h body b e = start_view_found h body b e
+kind_by_kind command.GetView h body b e = get_view_found h body b e
+kind_by_kind command.GetPrepare h body b e = get_prepare_found h body b e
+kind_by_kind command.GivePrepare h body b e = give_prepare_found h body b e
+kind_by_kind command.GetBlock h body b e = get_block_found h body b e
+kind_by_kind command.GiveBlock h body b e = give_block_found h body b e
+kind_by_kind command.Block h body b e = absurd cc
+
+pub record ShapeFound (h : Header) (body : List ℕ) : Type 0 where
+  pub numbers : numbers_fit h ≡ true
+  pub fits : body_fits h.command h body ≡ true
+  pub zero : Zeroed h.command h
+
+pub shape_found : (h : Header) (body : List ℕ) → has_shape h body ≡ true → ShapeFound h body
+unfolding has_shape
+shape_found h body e =
+    let names = next (unused_names_are_zero h) _ e in
+    let unused = next (unused_numbers_are_zero h) _ names.1 in
+    let numbers = next (numbers_fit h) _ unused.1 in
+    record { numbers = numbers.0; fits = numbers.1; zero = zeroed h names.0 unused.0 }
+
+pub body_found : (h : Header) (body : List ℕ) → is_body h body ≡ true → (128 + length body ≡ h.size) × (name_of body ≡ h.body.0)
+unfolding is_body
+body_found h body e =
+    let p = both (eqb h.size (128 + length body)) (pointwise nat_eq h.body.0 (name_of body)) e in
+    (sym (eqb-true h.size (128 + length body) p.0), sym ((bytes_eq-Decides h.body.0 (name_of body)).0 p.1))
+
+pub found : (h : Header) (body : List ℕ) → IsBytes body → is_body h body ≡ true → has_shape h body ≡ true → Found h.command h body
+found h body i n e =
+    let s = shape_found h body e in
+    let b = body_found h body n in
+    let o = numbers h s.numbers in
+    kind_by_kind h.command h body (record { command = refl; zero = s.zero; name = b.1; size = b.0; view = views h s.numbers; op = o.0; commit = o.1; bytes = i }) s.fits

@@ -1,4 +1,5 @@
 pub mod Again
+pub mod Decided
 pub mod Fitting
 pub mod Found
 pub mod Lists
