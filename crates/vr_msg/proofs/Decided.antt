@@ -1,7 +1,7 @@
 -- What decoding finds is what is spelled.
-use Rattle.std.proofs.Common.{◌≡◌, ℕ, ◌+◌, ◌≤◌, ◌⊎◌, inl, inr, Bool, true, false, cond, List, ◌++◌, length, take, drop, refl, sym, ap, ◌∙◌, arith, subst, append_assoc, length-append, length-drop, Result, Ok, Err, Option, Some, None}
-use Rattle.std.specs.Prelude.{IfOk, not}
-use Rattle.std.proofs.lemmas.List.{take-append-drop, take_at}
+use Rattle.std.proofs.Common.{◌≡◌, ℕ, ◌+◌, ◌≤◌, ◌⊎◌, inl, inr, Bool, true, false, cond, List, [], ◌++◌, length, take, drop, refl, sym, ap, ◌∙◌, arith, subst, append_assoc, length-append, length-drop, Result, Ok, Err, Option, Some, None}
+use Rattle.std.specs.Prelude.{IfErr, IfOk, ◌≢◌, not}
+use Rattle.std.proofs.lemmas.List.{append-nil, take_at}
 use Rattle.vr_base.specs.Bytes.{IsBytes}
 use Rattle.vr_header.specs.declared.header.Header.{Header}
 use Rattle.vr_header.specs.declared.header.HeaderFault.{HeaderFault}
@@ -9,7 +9,7 @@ use Rattle.vr_header.specs.Spelling.{IsHeader, decoded, header_bytes}
 use Rattle.vr_msg.specs.declared.fault.MsgFault.{MsgFault}
 use Rattle.vr_msg.specs.declared.fault.MsgFault.TheVariants as fault
 use Rattle.vr_msg.specs.declared.frame.Frame.{Frame}
-use Rattle.vr_msg.specs.Deciding.{HasBody, IsFault, IsNamed}
+use Rattle.vr_msg.specs.Deciding.{HasBody, IsFault, IsNamed, Reads}
 use Rattle.vr_msg.specs.Reading.{frame_for}
 use Rattle.vr_msg.specs.Shapes.{body_fits, has_shape, inspected, inspected_with, is_body, numbers_fit}
 use Rattle.vr_msg.specs.Spelling.{Spells, body_bytes, command_for, frame_header, spelling}
@@ -149,3 +149,43 @@ one_message m n a b r s x y e =
     let same : Some m ≡ Some n =
       sym (frame_there m a x) ∙ (ap (λ (h : Header). frame_for h.command h (body_bytes m)) header ∙ (ap (frame_for (frame_header n).command (frame_header n)) body ∙ frame_there n b y)) in
     cc
+
+pub same_message : (m n : Frame) (b : List ℕ) → Spells m b → Spells n b → m ≡ n
+same_message m n b x y = one_message m n b b [] [] x y refl
+
+-- ---- what decoding answers
+
+pub only_one : (b : List ℕ) (r : Result Frame MsgFault) → Reads b r → (m : Frame) → Spells m b → (r ≡ Ok m) ⊎ (r ≡ Err fault.NoMemory)
+only_one b (Ok n) x m s = inl (ap Ok (same_message n m b x s))
+only_one b (Err f) x m s = inr (ap Err x)
+
+pub only_memory : (b : List ℕ) (r : Result Frame MsgFault) → Reads b r → IfErr r (λ f. f ≢ fault.NoMemory → IsFault b f)
+only_memory b (Ok n) x = tt
+only_memory b (Err f) x = λ n. absurd (n x)
+
+pub is_read : (b : List ℕ) (r : Result Frame MsgFault) → Reads b r → IfOk r (λ m. Spells m b)
+is_read b (Ok n) x = x
+is_read b (Err f) x = tt
+
+pub is_alone : (b : List ℕ) (r : Result Frame MsgFault) → Reads b r → IfOk r (λ m. (other : Frame) (front rest : List ℕ) → Spells other front → front ++ rest ≡ b → other ≡ m)
+is_alone b (Ok n) x = λ other front rest s e. one_message other n front b rest [] s x (e ∙ sym (append-nil b))
+is_alone b (Err f) x = tt
+
+pub none_spells : (b : List ℕ) (f : MsgFault) (r : Result Frame MsgFault) → inspected b ≡ Err f → (m : Frame) → Spells m b → (r ≡ Ok m) ⊎ (r ≡ Err fault.NoMemory)
+none_spells b f r e m s = absurd (none_spelled b f e m s)
+
+-- what was read of bytes that passed
+pub frame_found : (b : List ℕ) (h : Header) (m : Frame) → IsBytes b → inspected b ≡ Ok h → frame_for h.command h (drop 128 b) ≡ Some m → Spells m b
+frame_found b h m i e r =
+    let x = inspected_found b h i e in
+    let same : x.message.message ≡ m = (let s = sym x.message.read ∙ r in cc) in
+    subst (λ (n : Frame). Spells n b) same (spells_found b h x)
+
+pub frame_missing : (b : List ℕ) (h : Header) → IsBytes b → inspected b ≡ Ok h → frame_for h.command h (drop 128 b) ≡ None → ⊥
+frame_missing b h i e r =
+    let x = inspected_found b h i e in
+    let s = sym x.message.read ∙ r in
+    cc
+
+pub some_message : (b : List ℕ) (h : Header) → IsBytes b → inspected b ≡ Ok h → (m : Frame) × Spells m b
+some_message b h i e = let x = inspected_found b h i e in (x.message.message, spells_found b h x)

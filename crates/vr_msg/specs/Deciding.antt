@@ -25,3 +25,8 @@ IsFault bytes (fault.Header f) = decoded bytes ≡ Err f
 IsFault bytes fault.BodySum = (h : Header) × (decoded bytes ≡ Ok h) × ¬ HasBody h bytes
 IsFault bytes fault.BodyShape = IsNamed bytes × ((m : Frame) → ¬ Spells m bytes)
 IsFault bytes fault.NoMemory = ⊥
+
+-- the answer is the message that the bytes spell, or memory was wanting
+abbrev pub Reads : List ℕ → Result Frame MsgFault → Type 0
+Reads bytes (Ok m) = Spells m bytes
+Reads bytes (Err f) = f ≡ fault.NoMemory

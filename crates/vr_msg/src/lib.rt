@@ -1,6 +1,7 @@
 //! The messages of the protocol, the events and outputs of a replica, and the bytes of a message.
 #![tactic(auto)]
 
+mod codec;
 mod event;
 mod fault;
 mod frame;
@@ -12,6 +13,7 @@ mod request;
 mod shape;
 mod statement;
 
+pub use codec::{decode, judge};
 pub use event::Event;
 pub use fault::MsgFault;
 pub use frame::{
