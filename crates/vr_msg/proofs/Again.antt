@@ -28,10 +28,10 @@ use Rattle.vr_msg.specs.Forms.{IsDoViewChange, IsFrame, IsStartView}
 use Rattle.vr_msg.specs.Logs.{FromOp, IsEntryAt, IsPartAt, IsStatement, has_header}
 use Rattle.vr_msg.specs.Reading.{frame_for, kind_at, headers_at}
 use Rattle.vr_msg.specs.Shapes.{body_fits, entry_fits, has_shape, is_asked, is_at, is_body, is_number, is_view, kind_fits, knows, log_fits, numbers_fit, parts_fit, statement_fits, tags_fit, tags_run, unused_names_are_zero, unused_numbers_are_zero}
-use Rattle.vr_msg.specs.Spelling.{AreHeaders, IsBodyValue, IsKindValue, body_bytes, command_for, frame_header, headers_bytes, kind_bytes, kind_number, kind_op, parts_bytes, tag}
+use Rattle.vr_msg.specs.Spelling.{AreHeaders, IsBodyValue, IsKindValue, body_bytes, command_for, frame_header, headers_bytes, kind_bytes, kind_number, kind_op, known, parts_bytes, tag}
 use Rattle.vr_msg.proofs.Fitting.{one_byte}
 use Rattle.vr_msg.proofs.Lists.{at_true, headers_again, headers_true}
-use Rattle.vr_msg.proofs.Parts.{body_again, body_parts, known, last_says, last_true, length-tags, run_tags, tags_true}
+use Rattle.vr_msg.proofs.Parts.{body_again, body_parts, last_says, last_true, length-tags, run_tags, tags_true}
 
 pub command_of_frame : (m : Frame) → (frame_header m).command ≡ command_for m
 command_of_frame (frame.Request q) = refl

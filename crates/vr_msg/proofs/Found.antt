@@ -31,10 +31,10 @@ use Rattle.vr_msg.specs.Forms.{IsFrame}
 use Rattle.vr_msg.specs.Logs.{IsStatement, has_header}
 use Rattle.vr_msg.specs.Reading.{body_at, frame_for, headers_at, kind_at, parts_at}
 use Rattle.vr_msg.specs.Shapes.{body_fits, entry_fits, has_shape, is_asked, is_at, is_body, is_no_name, is_view, kind_fits, knows, log_fits, numbers_fit, parts_fit, tags_run, unused_names_are_zero, unused_numbers_are_zero, uses_aux, uses_client, uses_commit, uses_op, uses_parent, uses_replica, uses_request_name, uses_view}
-use Rattle.vr_msg.specs.Spelling.{AreHeaders, IsBodyValue, IsKindValue, body_bytes, frame_header, headers_bytes, kind_bytes, kind_number, kind_op, parts_bytes}
+use Rattle.vr_msg.specs.Spelling.{AreHeaders, IsBodyValue, IsKindValue, body_bytes, frame_header, headers_bytes, kind_bytes, kind_number, kind_op, known, parts_bytes}
 use Rattle.vr_msg.proofs.Fitting.{PartsFound, asked_form, both, numbers, parts_found, views}
 use Rattle.vr_msg.proofs.Lists.{HeadersFound, IsBytes-drop, at_found, headers_found, nothing}
-use Rattle.vr_msg.proofs.Parts.{PartsRead, body_spelled, known, last_found, last_says, length-tags, parts_read, run_tags}
+use Rattle.vr_msg.proofs.Parts.{PartsRead, body_spelled, last_found, last_says, length-tags, parts_read, run_tags}
 
 -- ---- the fields that the command has no use for
 

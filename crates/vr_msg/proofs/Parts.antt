@@ -17,16 +17,12 @@ use Rattle.vr_msg.specs.declared.statement.DvcBody.{DvcBody}
 use Rattle.vr_msg.specs.Logs.{FromOp, IsPartAt, has_header, header_of}
 use Rattle.vr_msg.specs.Reading.{body_at, part_at, parts_at, rest_at}
 use Rattle.vr_msg.specs.Shapes.{after_tag, begins_entry, knows, tags_fit}
-use Rattle.vr_msg.specs.Spelling.{AreHeaders, headers_bytes, parts_bytes, tag}
+use Rattle.vr_msg.specs.Spelling.{AreHeaders, headers_bytes, known, parts_bytes, tag}
 use Rattle.vr_msg.proofs.Lists.{IsBytes-drop, begins_found, begins_true, header_front, nothing, rest_front}
 
 piece_is : (k n : ℕ) (b : List ℕ) → piece k n b ≡ take n (drop k b)
 unfolding piece
 piece_is k n b = refl
-
--- the headers that Parts know
-abbrev pub known : List Part → List Header
-known ps = filter_map header_of ps
 
 pub parts_again : (ps : List Part) → AreHeaders (known ps) → parts_at (map tag ps) (headers_bytes (known ps)) ≡ ps
 unfolding parts_at part_at rest_at

@@ -109,9 +109,13 @@ tag Unknown = 4
 abbrev pub headers_bytes : List Header → List ℕ
 headers_bytes hs = flat_map header_bytes hs
 
+-- the headers that Parts know
+abbrev pub known : List Part → List Header
+known ps = filter_map header_of ps
+
 -- the first op, how many Parts, a tag for each, and the headers that they know
 abbrev pub parts_bytes : DvcBody → List ℕ
-parts_bytes b = bytes64 b.first ++ (bytes16 (length b.parts) ++ (map tag b.parts ++ headers_bytes (filter_map header_of b.parts)))
+parts_bytes b = bytes64 b.first ++ (bytes16 (length b.parts) ++ (map tag b.parts ++ headers_bytes (known b.parts)))
 
 -- the bytes after the header
 abbrev pub body_bytes : Frame → List ℕ
@@ -176,7 +180,7 @@ IsBodyValue (frame.Prepare p) = IsHeader p.entry.header × IsOperation p.entry.o
 IsBodyValue (frame.PrepareOk p) = ⊤
 IsBodyValue (frame.Commit c) = ⊤
 IsBodyValue (frame.StartViewChange s) = ⊤
-IsBodyValue (frame.DoViewChange d) = AreHeaders (filter_map header_of d.statement.body.parts)
+IsBodyValue (frame.DoViewChange d) = AreHeaders (known d.statement.body.parts)
 IsBodyValue (frame.StartView v) = AreHeaders v.body.headers
 IsBodyValue (frame.GetView g) = ⊤
 IsBodyValue (frame.GetPrepare g) = ⊤

@@ -12,6 +12,7 @@ mod reply;
 mod request;
 mod shape;
 mod statement;
+mod write;
 
 pub use codec::{decode, judge};
 pub use event::Event;

@@ -1,0 +1,87 @@
+//! The bytes after the header of a message.
+ghost use Rattle.std.specs.Prelude.{◌≡◌, ◌++◌, OnOk, map};
+ghost use Rattle.vr_header.specs.Bodies.{IsOperation, IsOutcome, operation_bytes};
+ghost use Rattle.vr_header.specs.Made.{entry_bytes};
+ghost use Rattle.vr_header.specs.Spelling.{IsHeader};
+ghost use Rattle.vr_msg.specs.Logs.{header_of};
+ghost use Rattle.vr_msg.specs.Spelling.{AreHeaders, IsBodyValue, IsKindValue, body_bytes, headers_bytes, kind_bytes, known, parts_bytes, tag};
+
+use crate::{DvcBody, Frame, ReplyKind};
+use std::alloc::AllocError;
+use vr_header::{Entry, Header, Operation, Outcome, Part, encode};
+
+// What the type of an operation keeps.
+fn has_texts(operation: &Operation)
+    ensures { IsOperation operation.now }
+{
+    match operation {
+        Operation::Register => {}
+        Operation::Put(key, value) => {
+            let _ = key.as_slice();
+            let _ = value.as_slice();
+        }
+        Operation::Get(key) => {
+            let _ = key.as_slice();
+        }
+        Operation::Delete(key) => {
+            let _ = key.as_slice();
+        }
+    }
+}
+
+// What the type of an outcome keeps.
+fn has_text(outcome: &Outcome)
+    ensures { IsOutcome outcome.now }
+{
+    match outcome {
+        Outcome::Session => {}
+        Outcome::Ok => {}
+        Outcome::Full => {}
+        Outcome::Absent => {}
+        Outcome::Value(value) => {
+            let _ = value.as_slice();
+        }
+    }
+}
+
+// What the type of a header keeps.
+fn has_numbers(h: Header)
+    ensures { IsHeader h }
+{
+    let _ = h.size.get();
+}
+
+fn write_operation(operation: &Operation, to: &mut Vec<u8>) -> Result<(), AllocError>
+    ensures bytes { OnOk result (to.new.items ≡ to.old.items ++ operation_bytes operation.now) }
+    ensures values { IsOperation operation.now }
+{
+    has_texts(operation);
+    operation.write_body(to)
+}
+
+fn write_kind(kind: &ReplyKind, to: &mut Vec<u8>) -> Result<(), AllocError>
+    ensures bytes { OnOk result (to.new.items ≡ to.old.items ++ kind_bytes kind.now) }
+    ensures values { IsKindValue kind.now }
+{
+    match kind {
+        ReplyKind::Outcome(answered) => {
+            has_text(&answered.outcome);
+            answered.outcome.write_body(to)
+        }
+        ReplyKind::Old
+        | ReplyKind::Gap
+        | ReplyKind::Evicted
+        | ReplyKind::Busy
+        | ReplyKind::Redirect => Ok(()),
+    }
+}
+
+fn write_entry(entry: &Entry, to: &mut Vec<u8>) -> Result<(), AllocError>
+    ensures bytes { OnOk result (to.new.items ≡ to.old.items ++ entry_bytes entry.now) }
+    ensures header { IsHeader entry.now.header }
+    ensures operation { IsOperation entry.now.operation }
+{
+    has_numbers(entry.header());
+    has_texts(entry.operation());
+    entry.write(to)
+}
