@@ -4,3 +4,4 @@ pub mod Fitting
 pub mod Found
 pub mod Lists
 pub mod Parts
+pub mod Written

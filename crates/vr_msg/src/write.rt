@@ -1,5 +1,5 @@
 //! The bytes after the header of a message.
-ghost use Rattle.std.specs.Prelude.{◌≡◌, ◌++◌, OnOk, map};
+ghost use Rattle.std.specs.Prelude.{◌≡◌, ◌++◌, ◌∷◌, [], OnOk, map};
 ghost use Rattle.vr_header.specs.Bodies.{IsOperation, IsOutcome, operation_bytes};
 ghost use Rattle.vr_header.specs.Made.{entry_bytes};
 ghost use Rattle.vr_header.specs.Spelling.{IsHeader};
@@ -84,4 +84,63 @@ fn write_entry(entry: &Entry, to: &mut Vec<u8>) -> Result<(), AllocError>
     has_numbers(entry.header());
     has_texts(entry.operation());
     entry.write(to)
+}
+
+#[tactic(auto, using(std::proofs::lemmas::Grind::common_steps, crate::proofs::Written::writing_headers))]
+fn write_headers(headers: &[Header], to: &mut Vec<u8>) -> Result<(), AllocError>
+    ensures bytes { OnOk result (to.new.items ≡ to.old.items ++ headers_bytes headers.now) }
+    ensures values { OnOk result (AreHeaders headers.now) }
+{
+    for header in headers {
+        to.extend_from_slice(&encode(header))?;
+    }
+    Ok(())
+}
+
+fn tag(part: &Part) -> u8
+    ensures { result ≡ tag part.now }
+{
+    match part {
+        Part::Nothing => 0,
+        Part::Here(_) => 1,
+        Part::Lost(_) => 2,
+        Part::Wanted(_) => 3,
+        Part::Unknown => 4,
+    }
+}
+
+#[tactic(auto, using(std::proofs::lemmas::Grind::common_steps, crate::proofs::Written::writing_tags))]
+fn write_tags(parts: &[Part], to: &mut Vec<u8>) -> Result<(), AllocError>
+    ensures { OnOk result (to.new.items ≡ to.old.items ++ map tag parts.now) }
+{
+    for part in parts {
+        to.push(tag(part))?;
+    }
+    Ok(())
+}
+
+
+// The header of one Part, if it knows one.
+fn write_part(part: &Part, to: &mut Vec<u8>) -> Result<(), AllocError>
+    ensures bytes { OnOk result (to.new.items ≡ to.old.items ++ headers_bytes (known (part.now ∷ []))) }
+    ensures values { OnOk result (AreHeaders (known (part.now ∷ []))) }
+{
+    match part {
+        Part::Here(header) => write_headers(&[*header], to),
+        Part::Lost(header) => write_headers(&[*header], to),
+        Part::Wanted(header) => write_headers(&[*header], to),
+        Part::Unknown => Ok(()),
+        Part::Nothing => Ok(()),
+    }
+}
+
+#[tactic(auto, using(std::proofs::lemmas::Grind::common_steps, crate::proofs::Written::writing_known))]
+fn write_known(parts: &[Part], to: &mut Vec<u8>) -> Result<(), AllocError>
+    ensures bytes { OnOk result (to.new.items ≡ to.old.items ++ headers_bytes (known parts.now)) }
+    ensures values { OnOk result (AreHeaders (known parts.now)) }
+{
+    for part in parts {
+        write_part(part, to)?;
+    }
+    Ok(())
 }
