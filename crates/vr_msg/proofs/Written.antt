@@ -59,3 +59,7 @@ pub known_values_end : (ps : List Part) (i : ℕ) → length ps ≤ i → AreHea
 known_values_end ps i l = rw (drop_all i ps l) tt
 
 pub ruleset writing_known = (known_next, known_end, known_values_end)
+
+-- what is written in three steps
+pub four_parts : (old a b c d : List ℕ) → ((old ++ (a ++ b)) ++ c) ++ d ≡ old ++ (a ++ (b ++ (c ++ d)))
+four_parts old a b c d = simp append_assoc

@@ -5,6 +5,7 @@ mod codec;
 mod event;
 mod fault;
 mod frame;
+mod head;
 mod message;
 mod output;
 mod read;

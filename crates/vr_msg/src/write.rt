@@ -1,9 +1,11 @@
 //! The bytes after the header of a message.
-ghost use Rattle.std.specs.Prelude.{◌≡◌, ◌++◌, ◌∷◌, [], OnOk, map};
+ghost use Rattle.std.specs.Prelude.{◌≡◌, ◌≤◌, ◌++◌, ◌∷◌, [], OnOk, length, map};
+ghost use Rattle.vr_base.specs.Bytes.{bytes16, bytes64};
 ghost use Rattle.vr_header.specs.Bodies.{IsOperation, IsOutcome, operation_bytes};
 ghost use Rattle.vr_header.specs.Made.{entry_bytes};
 ghost use Rattle.vr_header.specs.Spelling.{IsHeader};
 ghost use Rattle.vr_msg.specs.Logs.{header_of};
+ghost use Rattle.vr_msg.specs.Forms.{IsFrame};
 ghost use Rattle.vr_msg.specs.Spelling.{AreHeaders, IsBodyValue, IsKindValue, body_bytes, headers_bytes, kind_bytes, known, parts_bytes, tag};
 
 use crate::{DvcBody, Frame, ReplyKind};
@@ -143,4 +145,52 @@ fn write_known(parts: &[Part], to: &mut Vec<u8>) -> Result<(), AllocError>
         write_part(part, to)?;
     }
     Ok(())
+}
+
+#[tactic(auto, using(std::proofs::lemmas::Grind::common_steps), unfolding(vr_base::specs::Bytes::bytes16, vr_base::specs::Bytes::bytes64))]
+fn write_front(first: u64, count: u16, to: &mut Vec<u8>) -> Result<(), AllocError>
+    ensures { OnOk result (to.new.items ≡ to.old.items ++ (bytes64 first ++ bytes16 count)) }
+{
+    to.extend_from_slice(&first.to_be_bytes())?;
+    to.extend_from_slice(&count.to_be_bytes())?;
+    Ok(())
+}
+
+#[tactic(auto, using(std::proofs::lemmas::Grind::common_steps, crate::proofs::Written::four_parts))]
+fn write_parts(body: &DvcBody, to: &mut Vec<u8>) -> Result<(), AllocError>
+    requires { length body.now.parts ≤ 128 }
+    ensures bytes { OnOk result (to.new.items ≡ to.old.items ++ parts_bytes body.now) }
+    ensures values { OnOk result (AreHeaders (known body.now.parts)) }
+{
+    let parts = body.parts.as_slice();
+    write_front(body.first, parts.len() as u16, to)?;
+    write_tags(parts, to)?;
+    write_known(parts, to)?;
+    Ok(())
+}
+
+/// Adds the bytes after the header of a message at the end.
+pub(crate) fn write_body(frame: &Frame, to: &mut Vec<u8>) -> Result<(), AllocError>
+    requires { IsFrame frame.now }
+    ensures bytes { OnOk result (to.new.items ≡ to.old.items ++ body_bytes frame.now) }
+    ensures values { OnOk result (IsBodyValue frame.now) }
+{
+    match frame {
+        Frame::Request(request) => write_operation(&request.fields().operation, to),
+        Frame::Reply(reply) => write_kind(&reply.fields().kind, to),
+        Frame::Prepare(prepare) => write_entry(&prepare.entry, to),
+        Frame::PrepareOk(_) => Ok(()),
+        Frame::Commit(_) => Ok(()),
+        Frame::StartViewChange(_) => Ok(()),
+        Frame::DoViewChange(change) => write_parts(&change.statement.body, to),
+        Frame::StartView(start) => write_headers(start.body.headers.as_slice(), to),
+        Frame::GetView(_) => Ok(()),
+        Frame::GetPrepare(_) => Ok(()),
+        Frame::GivePrepare(give) => write_entry(&give.entry, to),
+        Frame::GetBlock(_) => Ok(()),
+        Frame::GiveBlock(give) => {
+            to.extend_from_slice(give.block.as_slice())?;
+            Ok(())
+        }
+    }
 }
