@@ -119,19 +119,19 @@ unused_true (frame.GiveBlock g) = refl
 positive : (n : ℕ) → 1 ≤ n → eqb n 0 ≡ false
 positive n l =
     let cases : (b : Bool) → eqb n 0 ≡ b → b ≡ false =
-      elim [
-        | true ↦ λ e. absurd (let z = eqb-true n 0 e in omega arith)
-        | false ↦ λ e. refl
-      ] in
+    elim [
+      | true ↦ λ e. absurd (let z = eqb-true n 0 e in omega arith)
+      | false ↦ λ e. refl
+    ] in
     cases (eqb n 0) refl
 
 lt-not_le : (a b : ℕ) → b < a → leb a b ≡ false
 lt-not_le a b l =
     let cases : (t : Bool) → leb a b ≡ t → t ≡ false =
-      elim [
-        | true ↦ λ e. absurd (let z = leb-true a b e in omega arith)
-        | false ↦ λ e. refl
-      ] in
+    elim [
+      | true ↦ λ e. absurd (let z = leb-true a b e in omega arith)
+      | false ↦ λ e. refl
+    ] in
     cases (leb a b) refl
 
 -- ---- the numbers
@@ -176,9 +176,9 @@ unfolding is_asked
 asked_true request o i r =
     let one = one_byte o i in
     rw (operation_again o i)
-      (one_way (eqb (length (operation_bytes o)) 1) (eqb request 0)
-        (λ e. eq-eqb request 0 (r.0 (one.1 (eqb-true (length (operation_bytes o)) 1 e))))
-        (λ e. eq-eqb (length (operation_bytes o)) 1 (one.0 (r.1 (eqb-true request 0 e)))))
+    (one_way (eqb (length (operation_bytes o)) 1) (eqb request 0)
+    (λ e. eq-eqb request 0 (r.0 (one.1 (eqb-true (length (operation_bytes o)) 1 e))))
+    (λ e. eq-eqb (length (operation_bytes o)) 1 (one.0 (r.1 (eqb-true request 0 e)))))
 
 reply_true : (k : ReplyKind) → IsKindValue k → kind_fits (kind_number k) (kind_op k) (kind_bytes k) ≡ true
 unfolding kind_fits
@@ -229,11 +229,11 @@ parts_true h s head commit log_view view i a =
     let order : h.commit ≤ h.op = (let r = i.commit in omega arith) in
     let later : h.aux < h.view = omega arith in
     let run : tags_run h.op s.body.first (map tag s.body.parts) ≡ true =
-      run_true h.op s.body.first s.body.parts (i.run ∙ ap (λ n. n + 1) (sym head)) i.short i.last in
+    run_true h.op s.body.first s.body.parts (i.run ∙ ap (λ n. n + 1) (sym head)) i.short i.last in
     let parts : FromOp (IsPartAt h.cluster h.aux) s.body.first s.body.parts =
-      subst (λ n. FromOp (IsPartAt h.cluster n) s.body.first s.body.parts) (sym log_view) i.parts in
+    subst (λ n. FromOp (IsPartAt h.cluster n) s.body.first s.body.parts) (sym log_view) i.parts in
     rw (le-ltb (length (parts_bytes s.body)) 10 long, p.tags, p.rest, p.count, le-ltb 128 (length s.body.parts) i.count, le-ltb (length (parts_bytes s.body)) (10 + length s.body.parts) whole, p.first_there)
-      (statement_true h s.body.first s.body.parts i.first.0 reach order later run a parts)
+    (statement_true h s.body.first s.body.parts i.first.0 reach order later run a parts)
 
 body_true : (m : Frame) → IsFrame m → IsBodyValue m → body_fits (command_for m) (frame_header m) (body_bytes m) ≡ true
 body_true (frame.Request q) i v = asked_true q.request q.operation v i

@@ -57,23 +57,23 @@ unfolding inspected
 inspected_found b h i e =
     let body = drop 128 b in
     let cases : (r : Result Header HeaderFault) → decoded b ≡ r → inspected_with body r ≡ Ok h → Inspected b h =
-      elim [
-        | Ok k ↦ λ d t.
+    elim [
+      | Ok k ↦ λ d t.
           let named = refused (is_body k body) fault.BodySum _ h t in
           let shaped = refused (has_shape k body) fault.BodyShape _ h named.1 in
           let same : k ≡ h = (let o = shaped.1 in cc) in
           let f = front_found b k i d in
           let it : Inspected b k = record {
-              header = d;
-              values = f.header;
-              spelled = f.spelled;
-              long = long_of b k d;
-              shape = shape_found k body shaped.0;
-              message = found k body (IsBytes-drop 128 b i) named.0 shaped.0;
-            } in
+            header = d;
+            values = f.header;
+            spelled = f.spelled;
+            long = long_of b k d;
+            shape = shape_found k body shaped.0;
+            message = found k body (IsBytes-drop 128 b i) named.0 shaped.0;
+          } in
           subst (Inspected b) same it
-        | Err g ↦ λ d t. absurd cc
-      ] in
+      | Err g ↦ λ d t. absurd cc
+    ] in
     cases (decoded b) refl e
 
 -- the message that was found is spelled by the bytes
@@ -123,10 +123,10 @@ pub fault_found : (b : List ℕ) (f : MsgFault) → inspected b ≡ Err f → Is
 unfolding inspected
 fault_found b f e =
     let cases : (r : Result Header HeaderFault) → decoded b ≡ r → inspected_with (drop 128 b) r ≡ Err f → IsFault b f =
-      elim [
-        | Ok h ↦ λ d t. by_tests b h f (is_body h (drop 128 b)) (has_shape h (drop 128 b)) d refl e t
-        | Err g ↦ λ d t. let same : fault.Header g ≡ f = cc in subst (IsFault b) same d
-      ] in
+    elim [
+      | Ok h ↦ λ d t. by_tests b h f (is_body h (drop 128 b)) (has_shape h (drop 128 b)) d refl e t
+      | Err g ↦ λ d t. let same : fault.Header g ≡ f = cc in subst (IsFault b) same d
+    ] in
     cases (decoded b) refl e
 
 -- ---- one message
@@ -147,7 +147,7 @@ one_message m n a b r s x y e =
     let size : 128 + length (body_bytes m) ≡ 128 + length (body_bytes n) = sym (size_of_frame m) ∙ (ap (λ (h : Header). h.size) header ∙ size_of_frame n) in
     let body : body_bytes m ≡ body_bytes n = one_body (body_bytes m) (body_bytes n) r s bodies (omega arith) in
     let same : Some m ≡ Some n =
-      sym (frame_there m a x) ∙ (ap (λ (h : Header). frame_for h.command h (body_bytes m)) header ∙ (ap (frame_for (frame_header n).command (frame_header n)) body ∙ frame_there n b y)) in
+    sym (frame_there m a x) ∙ (ap (λ (h : Header). frame_for h.command h (body_bytes m)) header ∙ (ap (frame_for (frame_header n).command (frame_header n)) body ∙ frame_there n b y)) in
     cc
 
 pub same_message : (m n : Frame) (b : List ℕ) → Spells m b → Spells n b → m ≡ n

@@ -87,10 +87,10 @@ header_of_ok b h e = sym (no_fault_in b h e).1
 pub long_of_ok : (b : List ℕ) → is_ok (decoded b) ≡ true → 128 ≤ length b
 long_of_ok b e =
     let cases : (r : Result Header HeaderFault) → decoded b ≡ r → is_ok r ≡ true → 128 ≤ length b =
-      elim [
-        | Ok h ↦ λ o t. long_of b h o
-        | Err f ↦ λ o t. absurd cc
-      ] in
+    elim [
+      | Ok h ↦ λ o t. long_of b h o
+      | Err f ↦ λ o t. absurd cc
+    ] in
     cases (decoded b) refl e
 
 pub headers_at_more : (count i : ℕ) (rest : List ℕ) → i < count → headers_at (count - i) rest ≡ header_at rest ∷ headers_at (count - (i + 1)) (drop 128 rest)
@@ -181,10 +181,10 @@ pub begins_ok : (cluster last op : ℕ) (b : List ℕ) → begins_entry cluster 
 unfolding begins_entry
 begins_ok cluster last op b e =
     let cases : (r : Result Header HeaderFault) → is_ok_entry_at cluster last op r ≡ true → is_ok r ≡ true =
-      elim [
-        | Ok h ↦ λ t. refl
-        | Err f ↦ λ t. absurd cc
-      ] in
+    elim [
+      | Ok h ↦ λ t. refl
+      | Err f ↦ λ t. absurd cc
+    ] in
     cases (decoded b) e
 
 both_true : (a b : Bool) → a ≡ true → b ≡ true → (a && b) ≡ true

@@ -113,9 +113,21 @@ pub record Found (c : Command) (h : Header) (body : List ℕ) : Type 0 where
 
 abbrev pub header_with : List ℕ → Sum → Sum → ℕ → ℕ → ℕ → ℕ → ℕ → ℕ → Command → ℕ → ℕ → ℕ → Header
 header_with t parent request_name cluster client request view op commit c replica kind aux = record {
-    body = record { 0 = name_of t }; parent = parent; request_name = request_name; cluster = cluster; client = client; request = request; view = view;
-    op = op; commit = commit; size = 128 + length t; command = c; replica = replica; kind = kind; aux = aux
-  }
+  body = record { 0 = name_of t };
+  parent = parent;
+  request_name = request_name;
+  cluster = cluster;
+  client = client;
+  request = request;
+  view = view;
+  op = op;
+  commit = commit;
+  size = 128 + length t;
+  command = c;
+  replica = replica;
+  kind = kind;
+  aux = aux;
+}
 
 header_is : (c : Command) (h : Header) (body t : List ℕ) (parent request_name : Sum) (cluster client request view op commit replica kind aux : ℕ) → Base c h body → t ≡ body
     → parent ≡ h.parent → request_name ≡ h.request_name → cluster ≡ h.cluster → client ≡ h.client → request ≡ h.request → view ≡ h.view → op ≡ h.op → commit ≡ h.commit
@@ -138,21 +150,21 @@ operation_there body o i r = let P : Option Operation → Type 0 = λ x. IfSome 
 request_found : (h : Header) (body : List ℕ) → Base command.Request h body → is_asked h.request body ≡ true → Found command.Request h body
 request_found h body b a =
     let cases : (o : Option Operation) → operation_of body ≡ o → Found command.Request h body =
-      elim [
-        | None ↦ λ r. absurd (no_operation h.request body a r)
-        | Some o ↦ λ r.
+    elim [
+      | None ↦ λ r. absurd (no_operation h.request body a r)
+      | Some o ↦ λ r.
           let z = b.zero in
           let s = operation_there body o b.bytes r in
           record {
             message = frame.Request (record { cluster = h.cluster; client = h.client; request = h.request; operation = o });
             read = rw r refl;
             header = header_is command.Request h body (operation_bytes o) no_name no_name h.cluster h.client h.request 0 0 0 0 0 0 b (sym s.0) (z.parent refl) (z.request_name refl) refl refl refl
-              (z.view refl) (z.op refl) (z.commit refl) (z.replica refl) (z.kind refl) (z.aux refl);
+                (z.view refl) (z.op refl) (z.commit refl) (z.replica refl) (z.kind refl) (z.aux refl);
             form = asked_form h.request body o a r s.0 s.1;
             values = s.1;
             spelled = sym s.0;
           }
-      ] in
+    ] in
     cases (operation_of body) refl
 
 -- the kind of a reply
@@ -172,9 +184,9 @@ outcome_kind : (op : ℕ) (body : List ℕ) → IsBytes body → op ≤ 2 ^ 62 �
 unfolding kind_fits kind_at
 outcome_kind op body i l e =
     let cases : (o : Option Outcome) → outcome_of body ≡ o → is_some o ≡ true → KindFound 1 op body =
-      elim [
-        | None ↦ λ r t. absurd cc
-        | Some o ↦ λ r t.
+    elim [
+      | None ↦ λ r t. absurd cc
+      | Some o ↦ λ r t.
           let s = outcome_there body o i r in
           record {
             it = reply.Outcome (record { op = op; outcome = o });
@@ -185,7 +197,7 @@ outcome_kind op body i l e =
             values = s.1;
             spelled = sym s.0;
           }
-      ] in
+    ] in
     cases (outcome_of body) refl e
 
 bare_kind : (op : ℕ) (body : List ℕ) → (eqb op 0 && eqb (length body) 0) ≡ true → (0 ≡ op) × ([] ≡ body)
@@ -194,13 +206,13 @@ bare_kind op body e = let p = both (eqb op 0) (eqb (length body) 0) e in (sym (e
 kind_range : (kind : ℕ) (x : Bool) → cond (eqb kind 0) false (cond (ltb 6 kind) false x) ≡ true → (1 ≤ kind) × (kind ≤ 6)
 kind_range kind x e =
     let cases : (t u : Bool) → eqb kind 0 ≡ t → ltb 6 kind ≡ u → cond t false (cond u false x) ≡ true → (1 ≤ kind) × (kind ≤ 6) =
-      elim [
-        | true ↦ λ u p q f. absurd cc
-        | false ↦ elim [
-            | true ↦ λ p q f. absurd cc
-            | false ↦ λ p q f. (some_kind kind p, ltb-false 6 kind q)
-          ]
-      ] in
+    elim [
+      | true ↦ λ u p q f. absurd cc
+      | false ↦ elim [
+        | true ↦ λ p q f. absurd cc
+        | false ↦ λ p q f. (some_kind kind p, ltb-false 6 kind q)
+      ]
+    ] in
     cases (eqb kind 0) (ltb 6 kind) refl refl e
   where
     some_kind : (n : ℕ) → eqb n 0 ≡ false → 1 ≤ n
@@ -211,10 +223,10 @@ at_most_six : (kind op : ℕ) (body : List ℕ) → kind_fits kind op body ≡ t
 unfolding kind_fits
 at_most_six kind op body e =
     let one : (t : Bool) (x : Bool) → eqb kind 1 ≡ t → cond t x (cond (eqb kind 0) false (cond (ltb 6 kind) false (eqb op 0 && eqb (length body) 0))) ≡ true → (1 ≤ kind) × (kind ≤ 6) =
-      elim [
-        | true ↦ λ x t f. let k = eqb-true kind 1 t in (omega arith, omega arith)
-        | false ↦ λ x t f. (kind_range kind (eqb op 0 && eqb (length body) 0) f)
-      ] in
+    elim [
+      | true ↦ λ x t f. let k = eqb-true kind 1 t in (omega arith, omega arith)
+      | false ↦ λ x t f. (kind_range kind (eqb op 0 && eqb (length body) 0) f)
+    ] in
     one (eqb kind 1) (is_some (outcome_of body)) refl e
 
 old_kind : (op : ℕ) (body : List ℕ) → kind_fits 2 op body ≡ true → KindFound 2 op body
@@ -258,11 +270,17 @@ reply_found h body b e =
     let z = b.zero in
     record {
       message = frame.Reply (record {
-        cluster = h.cluster; replica = h.replica; view = h.view; client = h.client; request = h.request; request_name = h.request_name; kind = k.it
+        cluster = h.cluster;
+        replica = h.replica;
+        view = h.view;
+        client = h.client;
+        request = h.request;
+        request_name = h.request_name;
+        kind = k.it;
       });
       read = rw k.read refl;
       header = header_is command.Reply h body (kind_bytes k.it) no_name h.request_name h.cluster h.client h.request h.view (kind_op k.it) 0 h.replica (kind_number k.it) 0 b k.spelled
-        (z.parent refl) refl refl refl refl refl k.at_op (z.commit refl) refl k.number (z.aux refl);
+          (z.parent refl) refl refl refl refl refl k.at_op (z.commit refl) refl k.number (z.aux refl);
       form = record { view = b.view; kind = k.form };
       values = k.values;
       spelled = k.spelled;
@@ -283,13 +301,13 @@ entry_there : (cluster last op : ℕ) (body : List ℕ) → IsBytes body → ent
 unfolding entry_fits
 entry_there cluster last op body i e =
     let cases : (o : Option Whole) → entry_of body ≡ o → IfSome o (IsSpelled body) → option_map_or (is_at cluster last op) (option_map (λ (e : Whole). e.header) o) false ≡ true
-        → EntryFound cluster last op body =
-      elim [
-        | None ↦ λ r s t. absurd cc
-        | Some x ↦ λ r s t.
+    → EntryFound cluster last op body =
+    elim [
+      | None ↦ λ r s t. absurd cc
+      | Some x ↦ λ r s t.
           let place = at_found cluster last op x.header t in
           record { it = x; read = r; spelled = s.0; form = s.1; values = (s.2, s.3); of_group = place.0; at_op = place.1; made = place.2 }
-      ] in
+    ] in
     cases (entry_of body) refl (entry_found body i) e
 
 prepare_found : (h : Header) (body : List ℕ) → Base command.Prepare h body → entry_fits h.cluster h.view h.op body ≡ true → Found command.Prepare h body
@@ -300,7 +318,7 @@ prepare_found h body b e =
       message = frame.Prepare (record { replica = h.replica; view = h.view; commit = h.commit; entry = x.it });
       read = rw x.read refl;
       header = header_is command.Prepare h body (entry_bytes x.it) no_name no_name x.it.header.cluster 0 0 h.view x.it.header.op h.commit h.replica 0 0 b (sym x.spelled)
-        (z.parent refl) (z.request_name refl) x.of_group (z.client refl) (z.request refl) refl x.at_op refl refl (z.kind refl) (z.aux refl);
+          (z.parent refl) (z.request_name refl) x.of_group (z.client refl) (z.request refl) refl x.at_op refl refl (z.kind refl) (z.aux refl);
       form = record { view = b.view; commit = b.commit; entry = x.form; made = x.made };
       values = x.values;
       spelled = sym x.spelled;
@@ -314,7 +332,7 @@ give_prepare_found h body b e =
       message = frame.GivePrepare (record { replica = h.replica; entry = x.it });
       read = rw x.read refl;
       header = header_is command.GivePrepare h body (entry_bytes x.it) no_name no_name x.it.header.cluster 0 0 0 x.it.header.op 0 h.replica 0 0 b (sym x.spelled)
-        (z.parent refl) (z.request_name refl) x.of_group (z.client refl) (z.request refl) (z.view refl) x.at_op (z.commit refl) refl (z.kind refl) (z.aux refl);
+          (z.parent refl) (z.request_name refl) x.of_group (z.client refl) (z.request refl) (z.view refl) x.at_op (z.commit refl) refl (z.kind refl) (z.aux refl);
       form = x.form;
       values = x.values;
       spelled = sym x.spelled;
@@ -333,7 +351,7 @@ prepare_ok_found h body b e =
       message = frame.PrepareOk (record { cluster = h.cluster; replica = h.replica; view = h.view; op = h.op; name = h.parent; made = h.aux });
       read = refl;
       header = header_is command.PrepareOk h body [] h.parent no_name h.cluster 0 0 h.view h.op 0 h.replica 0 h.aux b p.1
-        refl (z.request_name refl) refl (z.client refl) (z.request refl) refl refl (z.commit refl) refl (z.kind refl) refl;
+          refl (z.request_name refl) refl (z.client refl) (z.request refl) refl refl (z.commit refl) refl (z.kind refl) refl;
       form = record { view = b.view; op = b.op; made = p.0 };
       values = tt;
       spelled = p.1;
@@ -346,7 +364,7 @@ commit_found h body b e =
       message = frame.Commit (record { cluster = h.cluster; replica = h.replica; view = h.view; head = h.op; commit = h.commit });
       read = refl;
       header = header_is command.Commit h body [] no_name no_name h.cluster 0 0 h.view h.op h.commit h.replica 0 0 b (nothing body e)
-        (z.parent refl) (z.request_name refl) refl (z.client refl) (z.request refl) refl refl refl refl (z.kind refl) (z.aux refl);
+          (z.parent refl) (z.request_name refl) refl (z.client refl) (z.request refl) refl refl refl refl (z.kind refl) (z.aux refl);
       form = record { view = b.view; head = b.op; commit = b.commit };
       values = tt;
       spelled = nothing body e;
@@ -359,7 +377,7 @@ start_view_change_found h body b e =
       message = frame.StartViewChange (record { cluster = h.cluster; replica = h.replica; view = h.view });
       read = refl;
       header = header_is command.StartViewChange h body [] no_name no_name h.cluster 0 0 h.view 0 0 h.replica 0 0 b (nothing body e)
-        (z.parent refl) (z.request_name refl) refl (z.client refl) (z.request refl) refl (z.op refl) (z.commit refl) refl (z.kind refl) (z.aux refl);
+          (z.parent refl) (z.request_name refl) refl (z.client refl) (z.request refl) refl (z.op refl) (z.commit refl) refl (z.kind refl) (z.aux refl);
       form = b.view;
       values = tt;
       spelled = nothing body e;
@@ -372,7 +390,7 @@ get_view_found h body b e =
       message = frame.GetView (record { cluster = h.cluster; replica = h.replica; view = h.view });
       read = refl;
       header = header_is command.GetView h body [] no_name no_name h.cluster 0 0 h.view 0 0 h.replica 0 0 b (nothing body e)
-        (z.parent refl) (z.request_name refl) refl (z.client refl) (z.request refl) refl (z.op refl) (z.commit refl) refl (z.kind refl) (z.aux refl);
+          (z.parent refl) (z.request_name refl) refl (z.client refl) (z.request refl) refl (z.op refl) (z.commit refl) refl (z.kind refl) (z.aux refl);
       form = b.view;
       values = tt;
       spelled = nothing body e;
@@ -386,7 +404,7 @@ get_prepare_found h body b e =
       message = frame.GetPrepare (record { cluster = h.cluster; replica = h.replica; op = h.op; name = h.parent; made = h.aux });
       read = refl;
       header = header_is command.GetPrepare h body [] h.parent no_name h.cluster 0 0 0 h.op 0 h.replica 0 h.aux b p.1
-        refl (z.request_name refl) refl (z.client refl) (z.request refl) (z.view refl) refl (z.commit refl) refl (z.kind refl) refl;
+          refl (z.request_name refl) refl (z.client refl) (z.request refl) (z.view refl) refl (z.commit refl) refl (z.kind refl) refl;
       form = record { op = b.op; made = p.0 };
       values = tt;
       spelled = p.1;
@@ -399,7 +417,7 @@ get_block_found h body b e =
       message = frame.GetBlock (record { cluster = h.cluster; replica = h.replica; address = h.aux; name = h.parent });
       read = refl;
       header = header_is command.GetBlock h body [] h.parent no_name h.cluster 0 0 0 0 0 h.replica 0 h.aux b (nothing body e)
-        refl (z.request_name refl) refl (z.client refl) (z.request refl) (z.view refl) (z.op refl) (z.commit refl) refl (z.kind refl) refl;
+          refl (z.request_name refl) refl (z.client refl) (z.request refl) (z.view refl) (z.op refl) (z.commit refl) refl (z.kind refl) refl;
       form = tt;
       values = tt;
       spelled = nothing body e;
@@ -414,7 +432,7 @@ give_block_found h body b e =
       message = frame.GiveBlock (record { cluster = h.cluster; replica = h.replica; address = h.aux; block = body });
       read = refl;
       header = header_is command.GiveBlock h body body no_name no_name h.cluster 0 0 0 0 0 h.replica 0 h.aux b refl
-        (z.parent refl) (z.request_name refl) refl (z.client refl) (z.request refl) (z.view refl) (z.op refl) (z.commit refl) refl (z.kind refl) refl;
+          (z.parent refl) (z.request_name refl) refl (z.client refl) (z.request refl) (z.view refl) (z.op refl) (z.commit refl) refl (z.kind refl) refl;
       form = eqb-true (length body) 4096 e;
       values = tt;
       spelled = refl;
@@ -454,11 +472,16 @@ start_view_found h body b e =
     let z = b.zero in
     record {
       message = frame.StartView (record {
-        cluster = h.cluster; replica = h.replica; view = h.view; head = h.op; commit = h.commit; body = record { lo = h.aux; headers = hs }
+        cluster = h.cluster;
+        replica = h.replica;
+        view = h.view;
+        head = h.op;
+        commit = h.commit;
+        body = record { lo = h.aux; headers = hs };
       });
       read = refl;
       header = header_is command.StartView h body (headers_bytes hs) no_name no_name h.cluster 0 0 h.view h.op h.commit h.replica 0 h.aux b l.headers.spelled
-        (z.parent refl) (z.request_name refl) refl (z.client refl) (z.request refl) refl refl refl refl (z.kind refl) refl;
+          (z.parent refl) (z.request_name refl) refl (z.client refl) (z.request refl) refl refl refl refl (z.kind refl) refl;
       form = record { view = b.view; head = b.op; commit = l.commit; count = omega arith; short = omega arith; headers = l.headers.entries };
       values = l.headers.values;
       spelled = l.headers.spelled;
@@ -489,18 +512,18 @@ statement_form h body d l p e r =
     let run = run_there h.op first ts p.statement.run in
     let same : prefix_len has_header ps ≡ prefix_len knows ts = sym (run_tags ps) ∙ ap (prefix_len knows) r.tags in
     let count : length ps ≤ 128 =
-      (let a : length ts ≡ length ps = ap length (sym r.tags) ∙ length-tags ps in let c = p.count in let t = length-take (number w16 8 body) (drop 10 body) in omega arith) in
+    (let a : length ts ≡ length ps = ap length (sym r.tags) ∙ length-tags ps in let c = p.count in let t = length-take (number w16 8 body) (drop 10 body) in omega arith) in
     let s : Statement = record { log_view = h.aux; commit = h.commit; head = h.op; body = record { first = first; parts = ps } } in
     let form : IsStatement h.cluster s = record {
-        commit = p.statement.commit;
-        head = l;
-        first = (p.statement.one, p.statement.reach);
-        run = ap (λ n. first + n) same ∙ run.run;
-        short = (let a = run.short in omega arith);
-        count = count;
-        last = last_found ps (ap last_says r.tags ∙ run.says);
-        parts = r.parts;
-      } in
+      commit = p.statement.commit;
+      head = l;
+      first = (p.statement.one, p.statement.reach);
+      run = ap (λ n. first + n) same ∙ run.run;
+      short = (let a = run.short in omega arith);
+      count = count;
+      last = last_found ps (ap last_says r.tags ∙ run.says);
+      parts = r.parts;
+    } in
     subst (λ (x : DvcBody). let s : Statement = record { log_view = h.aux; commit = h.commit; head = h.op; body = x } in IsStatement h.cluster s) e form
 
 statement_values : (body : List ℕ) (d : DvcBody) → body_at body ≡ d
@@ -518,11 +541,14 @@ do_view_change_found h body b e =
     let z = b.zero in
     record {
       message = frame.DoViewChange (record {
-        cluster = h.cluster; replica = h.replica; view = h.view; statement = record { log_view = h.aux; commit = h.commit; head = h.op; body = body_at body }
+        cluster = h.cluster;
+        replica = h.replica;
+        view = h.view;
+        statement = record { log_view = h.aux; commit = h.commit; head = h.op; body = body_at body };
       });
       read = refl;
       header = header_is command.DoViewChange h body (parts_bytes (body_at body)) no_name no_name h.cluster 0 0 h.view h.op h.commit h.replica 0 h.aux b spelled
-        (z.parent refl) (z.request_name refl) refl (z.client refl) (z.request refl) refl refl refl refl (z.kind refl) refl;
+          (z.parent refl) (z.request_name refl) refl (z.client refl) (z.request refl) refl refl refl refl (z.kind refl) refl;
       form = record { view = b.view; log_view = p.statement.log_view; statement = statement_form h body (body_at body) b.op p refl r };
       values = statement_values body (body_at body) refl r.values;
       spelled = spelled;

@@ -78,8 +78,8 @@ pub begins_found : (cluster last op : ℕ) (b : List ℕ) → IsBytes b → begi
 unfolding begins_entry
 begins_found cluster last op b i e =
     let cases : (r : Result Header HeaderFault) → decoded b ≡ r → is_ok_entry_at cluster last op r ≡ true → BeginsFound cluster last op b =
-      elim [
-        | Ok h ↦ λ d t.
+    elim [
+      | Ok h ↦ λ d t.
           let there = (no_fault_in b h d).1 in
           let entry = passed (is_entry_header h) _ t in
           let place = at_found cluster last op h entry.1 in
@@ -88,8 +88,8 @@ begins_found cluster last op b i e =
             front = subst (λ x. FrontFound x b) (sym there) (front_found b h i d);
             entry = subst (IsEntryAt cluster last op) (sym there) found;
           }
-        | Err f ↦ λ d t. absurd cc
-      ] in
+      | Err f ↦ λ d t. absurd cc
+    ] in
     cases (decoded b) refl e
 
 -- ---- a list of headers

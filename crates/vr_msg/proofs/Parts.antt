@@ -62,10 +62,10 @@ at_tag (p ∷ ps) (suc i) l = at_tag ps i (omega arith)
 suc_not : (n : ℕ) → eqb (suc n) 0 ≡ false
 suc_not n =
     let cases : (b : Bool) → eqb (suc n) 0 ≡ b → b ≡ false =
-      elim [
-        | true ↦ λ e. absurd (let z = eqb-true (suc n) 0 e in omega arith)
-        | false ↦ λ e. refl
-      ] in
+    elim [
+      | true ↦ λ e. absurd (let z = eqb-true (suc n) 0 e in omega arith)
+      | false ↦ λ e. refl
+    ] in
     cases (eqb (suc n) 0) refl
 
 -- the test of the last tag
@@ -107,6 +107,7 @@ one_to_three t e = by_number t (leb-true 1 t (both_of (leb 1 t) (leb t 3) e).0) 
     both_of : (a b : Bool) → (a && b) ≡ true → (a ≡ true) × (b ≡ true)
     both_of true b e = (refl, e)
     both_of false b e = absurd cc
+
     by_number : (t : ℕ) → 1 ≤ t → t ≤ 3 → (t ≡ 1) ⊎ ((t ≡ 2) ⊎ (t ≡ 3))
     by_number zero l g = absurd (omega arith)
     by_number (suc zero) l g = inl refl
@@ -199,8 +200,8 @@ unfolding tags_fit after_tag
 at_most_four cluster last op t ts b k e = by_test (knows t) (ltb 4 t) k e
   where
     by_test : (k h : Bool) → k ≡ false
-      → option_map_or (λ rest. tags_fit cluster last ts (op + 1) rest) (cond k (cond (begins_entry cluster last op b) (Some (drop 128 b)) None) (cond h None (Some b))) false ≡ true
-      → h ≡ false
+        → option_map_or (λ rest. tags_fit cluster last ts (op + 1) rest) (cond k (cond (begins_entry cluster last op b) (Some (drop 128 b)) None) (cond h None (Some b))) false ≡ true
+        → h ≡ false
     by_test true h k e = absurd cc
     by_test false true k e = absurd cc
     by_test false false k e = refl
@@ -209,19 +210,19 @@ step : (cluster last op : ℕ) (ts b : List ℕ) → IsBytes b → (t : ℕ) →
 step cluster last op ts b i t more e =
     let at : (n : ℕ) → t ≡ n → Step cluster last op ts b n → PartsRead cluster last op (t ∷ ts) b = λ n same s. subst (Step cluster last op ts b) (sym same) s more e in
     let cases : (k : Bool) → knows t ≡ k → PartsRead cluster last op (t ∷ ts) b =
-      elim [
-        | true ↦ λ k. elim (one_to_three t k) [
-            | inl n ↦ at 1 n (step_here cluster last op ts b i)
-            | inr r ↦ elim r [
-                | inl n ↦ at 2 n (step_lost cluster last op ts b i)
-                | inr n ↦ at 3 n (step_wanted cluster last op ts b i)
-              ]
-          ]
-        | false ↦ λ k. elim (zero_or_four t k (at_most_four cluster last op t ts b k e)) [
-            | inl n ↦ at 0 n (step_nothing cluster last op ts b i)
-            | inr n ↦ at 4 n (step_unknown cluster last op ts b i)
-          ]
-      ] in
+    elim [
+      | true ↦ λ k. elim (one_to_three t k) [
+        | inl n ↦ at 1 n (step_here cluster last op ts b i)
+        | inr r ↦ elim r [
+          | inl n ↦ at 2 n (step_lost cluster last op ts b i)
+          | inr n ↦ at 3 n (step_wanted cluster last op ts b i)
+        ]
+      ]
+      | false ↦ λ k. elim (zero_or_four t k (at_most_four cluster last op t ts b k e)) [
+        | inl n ↦ at 0 n (step_nothing cluster last op ts b i)
+        | inr n ↦ at 4 n (step_unknown cluster last op ts b i)
+      ]
+    ] in
     cases (knows t) refl
 
 none_read : (cluster last op : ℕ) (b : List ℕ) → tags_fit cluster last [] op b ≡ true → PartsRead cluster last op [] b
@@ -270,7 +271,7 @@ unfolding body_at
 body_again d f c a =
     let p = body_parts d f c in
     let ps : parts_at (take (number w16 8 (parts_bytes d)) (drop 10 (parts_bytes d))) (drop (10 + number w16 8 (parts_bytes d)) (parts_bytes d)) ≡ d.parts =
-      ap (λ t. parts_at t (drop (10 + number w16 8 (parts_bytes d)) (parts_bytes d))) p.tags ∙ (ap (parts_at (map tag d.parts)) p.rest ∙ parts_again d.parts a) in
+    ap (λ t. parts_at t (drop (10 + number w16 8 (parts_bytes d)) (parts_bytes d))) p.tags ∙ (ap (parts_at (map tag d.parts)) p.rest ∙ parts_again d.parts a) in
     ap (λ (n : ℕ). let x : DvcBody = record { first = n; parts = parts_at (take (number w16 8 (parts_bytes d)) (drop 10 (parts_bytes d))) (drop (10 + number w16 8 (parts_bytes d)) (parts_bytes d)) } in x) p.first_there
     ∙ ap (λ (l : List Part). let x : DvcBody = record { first = d.first; parts = l } in x) ps
 

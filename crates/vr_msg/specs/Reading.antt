@@ -60,9 +60,9 @@ are_parts (t ∷ ts) bytes = (not (knows t) || is_ok (decoded bytes)) && are_par
 
 unfoldable pub body_at : List ℕ → DvcBody
 body_at body = record {
-    first = number w64 0 body;
-    parts = parts_at (take (number w16 8 body) (drop 10 body)) (drop (10 + number w16 8 body) body);
-  }
+  first = number w64 0 body;
+  parts = parts_at (take (number w16 8 body) (drop 10 body)) (drop (10 + number w16 8 body) body);
+}
 
 -- whether the last number in the header is a view
 abbrev pub needs_view : Command → Bool
@@ -88,21 +88,33 @@ frame_for command.Request h body =
     option_map (λ o. frame.Request (record { cluster = h.cluster; client = h.client; request = h.request; operation = o })) (operation_of body)
 frame_for command.Reply h body =
     option_map
-      (λ k. frame.Reply (record {
-        cluster = h.cluster; replica = h.replica; view = h.view; client = h.client; request = h.request; request_name = h.request_name; kind = k
-      }))
-      (kind_at h.kind h.op body)
+    (λ k. frame.Reply (record {
+      cluster = h.cluster;
+      replica = h.replica;
+      view = h.view;
+      client = h.client;
+      request = h.request;
+      request_name = h.request_name;
+      kind = k;
+    }))
+    (kind_at h.kind h.op body)
 frame_for command.Prepare h body =
     option_map (λ e. frame.Prepare (record { replica = h.replica; view = h.view; commit = h.commit; entry = e })) (entry_of body)
 frame_for command.DoViewChange h body =
     Some (frame.DoViewChange (record {
-      cluster = h.cluster; replica = h.replica; view = h.view;
-      statement = record { log_view = h.aux; commit = h.commit; head = h.op; body = body_at body }
+      cluster = h.cluster;
+      replica = h.replica;
+      view = h.view;
+      statement = record { log_view = h.aux; commit = h.commit; head = h.op; body = body_at body };
     }))
 frame_for command.StartView h body =
     Some (frame.StartView (record {
-      cluster = h.cluster; replica = h.replica; view = h.view; head = h.op; commit = h.commit;
-      body = record { lo = h.aux; headers = headers_at (h.op - h.aux) body }
+      cluster = h.cluster;
+      replica = h.replica;
+      view = h.view;
+      head = h.op;
+      commit = h.commit;
+      body = record { lo = h.aux; headers = headers_at (h.op - h.aux) body };
     }))
 frame_for command.GivePrepare h body = option_map (λ e. frame.GivePrepare (record { replica = h.replica; entry = e })) (entry_of body)
 frame_for command.GiveBlock h body =

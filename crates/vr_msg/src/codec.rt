@@ -1,15 +1,20 @@
 //! The bytes of messages, both ways.
-ghost use Rattle.std.specs.Prelude.{◌≡◌, ◌≢◌, List, ℕ, ◌++◌, ◌⊎◌, Ok, Err, IfOk, IfErr, MatchOption};
+ghost use Rattle.std.specs.Prelude.{◌≡◌, ◌≢◌, ◌≤◌, ◌+◌, List, ℕ, ◌++◌, ◌⊎◌, Ok, Err, IfOk, IfErr, OnOk, MatchOption, length, take, drop};
 ghost use Rattle.vr_msg.specs.declared.fault.MsgFault.{MsgFault};
 ghost use Rattle.vr_msg.specs.declared.frame.Frame.{Frame};
 ghost use Rattle.vr_msg.specs.Deciding.{IsFault, Reads};
 ghost use Rattle.vr_msg.specs.Shapes.{inspected};
-ghost use Rattle.vr_msg.specs.Spelling.{Spells};
+ghost use Rattle.vr_header.specs.Spelling.{IsHeader};
+ghost use Rattle.vr_msg.specs.Forms.{IsFrame};
+ghost use Rattle.vr_msg.specs.Spelling.{IsBodyValue, Spells, body_bytes, frame_header, spelling};
 
+use crate::head::{command_for, header_before, with_fields};
 use crate::read::read_frame;
 use crate::shape::inspect;
-use crate::{Message, MsgFault};
-use std::alloc::Global;
+use crate::write::write_body;
+use crate::{Frame, Message, MsgFault};
+use std::alloc::{AllocError, Global};
+use vr_base::put;
 use vr_header::Header;
 
 /// The first fault of the bytes, `None` exactly where they spell a message. It takes no memory.
@@ -48,4 +53,35 @@ fn read_message(alloc: Global, header: &Header, bytes: &[u8]) -> Result<Message,
         Ok(None) => Err(MsgFault::BodyShape),
         Err(_) => Err(MsgFault::NoMemory),
     }
+}
+
+/// Adds the one spelling of a message at the end, of at most 20,480 bytes. An `Err` may have added some
+/// bytes.
+#[tactic(auto, using(std::proofs::lemmas::Grind::common_steps, crate::proofs::Written::behind_zeros))]
+pub fn encode(message: &Message, to: &mut Vec<u8>) -> Result<(), AllocError>
+    ensures bytes { OnOk result (to.new.items ≡ to.old.items ++ spelling message.now) }
+    ensures spelled { OnOk result (Spells message.now (spelling message.now)) }
+{
+    let frame = message.frame();
+    let start = to.len();
+    to.extend_from_slice(&[0; 128])?;
+    write_body(frame, to)?;
+    put_header(frame, start, to.as_mut_slice());
+    Ok(())
+}
+
+// Writes the header of a message in front of its body, which ends the bytes.
+#[tactic(auto, using(std::proofs::lemmas::Grind::common_steps, crate::proofs::Written::body_short))]
+fn put_header(frame: &Frame, start: usize, bytes: &mut [u8])
+    requires form { IsFrame frame.now }
+    requires values { IsBodyValue frame.now }
+    requires room { start + 128 ≤ length bytes.old }
+    requires body { drop (start + 128) bytes.old ≡ body_bytes frame.now }
+    ensures whole { bytes.new ≡ take start bytes.old ++ spelling frame.now }
+    ensures header { IsHeader (frame_header frame.now) }
+{
+    let (_, body) = bytes.split_at(start + 128);
+    let header = with_fields(frame, header_before(body, command_for(frame)));
+    let head = vr_header::encode(&header);
+    put(bytes, start, &head);
 }

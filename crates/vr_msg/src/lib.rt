@@ -15,7 +15,7 @@ mod shape;
 mod statement;
 mod write;
 
-pub use codec::{decode, judge};
+pub use codec::{decode, encode, judge};
 pub use event::Event;
 pub use fault::MsgFault;
 pub use frame::{

@@ -275,7 +275,11 @@ fn read_bare(h: &Header) -> Option<Frame>
 
 // What a header and the bytes after it say, `None` where its command is no message's.
 #[tactic(auto, using(crate::proofs::Fitting::readable))]
-pub(crate) fn read_frame(alloc: Global, h: &Header, body: &[u8]) -> Result<Option<Frame>, AllocError>
+pub(crate) fn read_frame(
+    alloc: Global,
+    h: &Header,
+    body: &[u8],
+) -> Result<Option<Frame>, AllocError>
     requires numbers { numbers_fit h.now ≡ true }
     requires body { body_fits h.now.command h.now body.now ≡ true }
     ensures { IfOk result (λ read. read ≡ frame_for h.now.command h.now body.now) }

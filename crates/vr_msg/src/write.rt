@@ -121,7 +121,6 @@ fn write_tags(parts: &[Part], to: &mut Vec<u8>) -> Result<(), AllocError>
     Ok(())
 }
 
-
 // The header of one Part, if it knows one.
 fn write_part(part: &Part, to: &mut Vec<u8>) -> Result<(), AllocError>
     ensures bytes { OnOk result (to.new.items ≡ to.old.items ++ headers_bytes (known (part.now ∷ []))) }

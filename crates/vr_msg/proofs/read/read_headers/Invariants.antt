@@ -4,6 +4,6 @@ use Rattle.vr_msg.proofs.read.read_headers.Given as goal
 
 abbrev pub invariant-loop-i : goal.invariant-loop-i
 invariant-loop-i l = record {
-    headers : are_headers (l.count - l.i) l.rest ≡ true;
-    same : l.headers.items ++ headers_at (l.count - l.i) l.rest ≡ headers_at l.fn.count l.fn.bytes
-  }
+  headers : are_headers (l.count - l.i) l.rest ≡ true;
+  same : l.headers.items ++ headers_at (l.count - l.i) l.rest ≡ headers_at l.fn.count l.fn.bytes;
+}

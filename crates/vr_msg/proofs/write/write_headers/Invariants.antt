@@ -4,6 +4,6 @@ use Rattle.vr_msg.proofs.write.write_headers.Given as goal
 
 abbrev pub invariant-loop-header : goal.invariant-loop-header
 invariant-loop-header l = record {
-    bytes : l.to.items ++ headers_bytes (drop l.header-index l.headers) ≡ l.initial.to.items ++ headers_bytes l.headers;
-    values : AreHeaders (drop l.header-index l.headers) → AreHeaders l.headers
-  }
+  bytes : l.to.items ++ headers_bytes (drop l.header-index l.headers) ≡ l.initial.to.items ++ headers_bytes l.headers;
+  values : AreHeaders (drop l.header-index l.headers) → AreHeaders l.headers;
+}
