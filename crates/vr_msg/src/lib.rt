@@ -27,3 +27,6 @@ pub use output::{Chosen, Committed, Outbox, Output, Sent, Started, Waiting};
 pub use reply::{Answered, Reply, ReplyFields, ReplyKind};
 pub use request::{Request, RequestFields};
 pub use statement::{DvcBody, Statement, SvBody};
+
+#[cfg(test)]
+mod tests;
