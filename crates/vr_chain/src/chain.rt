@@ -1,0 +1,78 @@
+//! Chains of headers.
+ghost use Rattle.std.specs.Prelude.{◌≡◌, MatchResult};
+ghost use Rattle.vr_chain.specs.Chain.{IsChain, BreaksAt};
+
+use vr_base::Sum;
+use vr_header::Header;
+
+/// Whether each header's parent is the name of the one before, and the first one's is `anchor`. An
+/// error is the first place where it isn't.
+#[tactic(auto, using(std::proofs::lemmas::Grind::common_steps, crate::proofs::ChainLaws::whole))]
+pub fn verify(anchor: &Sum, headers: &[Header]) -> Result<(), usize>
+    ensures { MatchResult result (λ _. IsChain anchor.now headers.now) (BreaksAt anchor.now headers.now) }
+{
+    let mut before = *anchor;
+    for (at, header) in headers.iter().enumerate() {
+        if header.parent != before {
+            return Err(at);
+        }
+        before = header.name();
+    }
+    Ok(())
+}
+
+#[cfg(test)]
+mod tests {
+    use super::*;
+    use std::test::Fail;
+    use vr_header::{Command, Part, Size};
+
+    const ANCHOR: Sum = Sum([7; 16]);
+
+    fn header(parent: Sum, op: u64) -> Header {
+        Header {
+            body: Sum([0; 16]),
+            parent,
+            request_name: Sum([0; 16]),
+            cluster: 0,
+            client: 7,
+            request: 0,
+            view: 0,
+            op,
+            commit: 0,
+            size: Size::new(129),
+            command: Command::Entry,
+            replica: 0,
+            kind: 0,
+            aux: 0,
+        }
+    }
+
+    #[test]
+    fn the_first_break_is_found(rt: HostRuntime) -> Result<(), Fail> {
+        let first = header(ANCHOR, 1);
+        let second = header(first.name(), 2);
+        assert_eq!(rt; verify(&ANCHOR, &[]), Ok(()));
+        assert_eq!(rt;
+            verify(&ANCHOR, &[first, second, header(second.name(), 3)]),
+            Ok(())
+        );
+        assert_eq!(rt;
+            verify(&ANCHOR, &[first, second, header(first.name(), 3)]),
+            Err(2)
+        );
+        Ok(())
+    }
+
+    #[test]
+    fn the_first_hole_is_found(rt: HostRuntime) -> Result<(), Fail> {
+        let known = header(ANCHOR, 1);
+        let parts = [Part::Here(known), Part::Lost(known), Part::Unknown];
+        assert_eq!(rt; crate::next_hole(&parts), Some(2));
+        assert_eq!(rt;
+            crate::next_hole(&[Part::Here(known), Part::Wanted(known)]),
+            None
+        );
+        Ok(())
+    }
+}

@@ -1,0 +1,15 @@
+use Rattle.std.proofs.Common.{sym, ◌∙◌}
+use Rattle.vr_msg.proofs.Decided.{fault_found, is_alone, none_spells, only_one}
+use Rattle.vr_msg.proofs.codec.decode.Goals as goal
+
+pub returns-in-Ok-clause-only : goal.returns-in-Ok-clause-only
+returns-in-Ok-clause-only c = only_one c.args.bytes.now c.read_message.result c.read_message.ensures
+
+pub returns-in-Ok-clause-alone : goal.returns-in-Ok-clause-alone
+returns-in-Ok-clause-alone c = is_alone c.args.bytes.now c.read_message.result c.read_message.ensures
+
+pub returns-in-Err-clause-fault : goal.returns-in-Err-clause-fault
+returns-in-Err-clause-fault c = λ _. fault_found c.args.bytes.now c.in-Err.fault (sym c.inspect.ensures ∙ c.in-Err.is)
+
+pub returns-in-Err-clause-only : goal.returns-in-Err-clause-only
+returns-in-Err-clause-only c = none_spells c.args.bytes.now c.in-Err.fault _ (sym c.inspect.ensures ∙ c.in-Err.is)

@@ -1,0 +1,132 @@
+//! The kinds of messages, and what each carries.
+
+use crate::{Reply, Request, Statement, SvBody};
+use vr_base::{ByteList, Sum};
+use vr_header::Entry;
+
+/// An entry goes out from the primary of `view`.
+#[derive(Debug, Drop, PartialEq, Eq)]
+pub struct Prepare {
+    pub replica: u8,
+    pub view: u32,
+    pub commit: u64,
+    /// The frame's group and op are the entry's.
+    pub entry: Entry,
+}
+
+/// The entry of this op and name is stored.
+#[derive(Clone, Copy, Debug, PartialEq, Eq)]
+pub struct PrepareOk {
+    pub cluster: u64,
+    pub replica: u8,
+    pub view: u32,
+    pub op: u64,
+    /// The entry's name.
+    pub name: Sum,
+    /// The view in which the entry was made.
+    pub made: u32,
+}
+
+/// The primary's head and commit number.
+#[derive(Clone, Copy, Debug, PartialEq, Eq)]
+pub struct Commit {
+    pub cluster: u64,
+    pub replica: u8,
+    pub view: u32,
+    pub head: u64,
+    pub commit: u64,
+}
+
+/// The sender has entered `view`.
+#[derive(Clone, Copy, Debug, PartialEq, Eq)]
+pub struct StartViewChange {
+    pub cluster: u64,
+    pub replica: u8,
+    pub view: u32,
+}
+
+/// The sender's statement for the choice of the log of `view`.
+#[derive(Debug, Drop, PartialEq, Eq)]
+pub struct DoViewChange {
+    pub cluster: u64,
+    pub replica: u8,
+    pub view: u32,
+    pub statement: Statement,
+}
+
+/// The log of `view`, up to `head`.
+#[derive(Debug, Drop, PartialEq, Eq)]
+pub struct StartView {
+    pub cluster: u64,
+    pub replica: u8,
+    pub view: u32,
+    pub head: u64,
+    pub commit: u64,
+    pub body: SvBody,
+}
+
+/// Asks for the log of `view`.
+#[derive(Clone, Copy, Debug, PartialEq, Eq)]
+pub struct GetView {
+    pub cluster: u64,
+    pub replica: u8,
+    pub view: u32,
+}
+
+/// Asks for the entry of this op and name.
+#[derive(Clone, Copy, Debug, PartialEq, Eq)]
+pub struct GetPrepare {
+    pub cluster: u64,
+    pub replica: u8,
+    pub op: u64,
+    /// The entry's name.
+    pub name: Sum,
+    /// The view in which the entry was made.
+    pub made: u32,
+}
+
+/// An entry that was asked for.
+#[derive(Debug, Drop, PartialEq, Eq)]
+pub struct GivePrepare {
+    pub replica: u8,
+    /// The frame's group and op are the entry's.
+    pub entry: Entry,
+}
+
+/// Asks for the block of this address and name.
+#[derive(Clone, Copy, Debug, PartialEq, Eq)]
+pub struct GetBlock {
+    pub cluster: u64,
+    pub replica: u8,
+    pub address: u64,
+    /// The block's name.
+    pub name: Sum,
+}
+
+/// A block that was asked for.
+#[derive(Debug, Drop, PartialEq, Eq)]
+pub struct GiveBlock {
+    pub cluster: u64,
+    pub replica: u8,
+    pub address: u64,
+    /// 4,096 bytes.
+    pub block: ByteList,
+}
+
+/// What a message says, by its kind.
+#[derive(Debug, Drop, PartialEq, Eq)]
+pub enum Frame {
+    Request(Request),
+    Reply(Reply),
+    Prepare(Prepare),
+    PrepareOk(PrepareOk),
+    Commit(Commit),
+    StartViewChange(StartViewChange),
+    DoViewChange(DoViewChange),
+    StartView(StartView),
+    GetView(GetView),
+    GetPrepare(GetPrepare),
+    GivePrepare(GivePrepare),
+    GetBlock(GetBlock),
+    GiveBlock(GiveBlock),
+}

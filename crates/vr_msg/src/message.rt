@@ -1,0 +1,52 @@
+//! Messages.
+ghost use Rattle.std.specs.Prelude.{◌≡◌};
+ghost use Rattle.vr_msg.specs.Forms.{IsFrame};
+
+use crate::Frame;
+use std::marker::Model;
+
+/// A message: a frame that has a spelling in bytes. Its views are at most 2^32 - 2, its op and commit
+/// numbers at most 2^62, and what it carries is of its kind's form.
+#[derive(Debug, Drop, PartialEq, Eq)]
+pub struct Message {
+    frame: Frame,
+}
+
+impl Model for Message {
+    ghost use Rattle.vr_msg.specs.declared.frame.Frame.{Frame};
+    ghost use Rattle.vr_msg.specs.Forms.{IsFrame};
+
+    ghost Value = { Frame };
+
+    ghost view = { λ m. m.frame };
+
+    ghost invariant = { λ m. IsFrame m.frame };
+
+    ghost inverse = { λ frame. record { frame = frame } };
+}
+
+impl Message {
+    /// The message that says this.
+    pub fn new(frame: Frame) -> Message
+        requires { IsFrame frame }
+        ensures { result ≡ frame }
+    {
+        Message { frame }
+    }
+
+    /// What it says.
+    pub fn frame(&self) -> &Frame
+        ensures value { result.now ≡ self.now }
+        ensures form { IsFrame self.now }
+    {
+        &self.frame
+    }
+
+    /// What it says; it takes no memory.
+    pub fn into_frame(self) -> Frame
+        ensures value { result ≡ self }
+        ensures form { IsFrame self }
+    {
+        self.frame
+    }
+}

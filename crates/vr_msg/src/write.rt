@@ -1,0 +1,195 @@
+//! The bytes after the header of a message.
+ghost use Rattle.std.specs.Prelude.{◌≡◌, ◌≤◌, ◌++◌, ◌∷◌, [], OnOk, length, map};
+ghost use Rattle.vr_base.specs.Bytes.{bytes16, bytes64};
+ghost use Rattle.vr_header.specs.Bodies.{IsOperation, IsOutcome, operation_bytes};
+ghost use Rattle.vr_header.specs.Made.{entry_bytes};
+ghost use Rattle.vr_header.specs.Spelling.{IsHeader};
+ghost use Rattle.vr_msg.specs.Logs.{header_of};
+ghost use Rattle.vr_msg.specs.Forms.{IsFrame};
+ghost use Rattle.vr_msg.specs.Spelling.{AreHeaders, IsBodyValue, IsKindValue, body_bytes, headers_bytes, kind_bytes, known, parts_bytes, tag};
+
+use crate::{DvcBody, Frame, ReplyKind};
+use std::alloc::AllocError;
+use vr_header::{Entry, Header, Operation, Outcome, Part, encode};
+
+// What the type of an operation keeps.
+fn has_texts(operation: &Operation)
+    ensures { IsOperation operation.now }
+{
+    match operation {
+        Operation::Register => {}
+        Operation::Put(key, value) => {
+            let _ = key.as_slice();
+            let _ = value.as_slice();
+        }
+        Operation::Get(key) => {
+            let _ = key.as_slice();
+        }
+        Operation::Delete(key) => {
+            let _ = key.as_slice();
+        }
+    }
+}
+
+// What the type of an outcome keeps.
+fn has_text(outcome: &Outcome)
+    ensures { IsOutcome outcome.now }
+{
+    match outcome {
+        Outcome::Session => {}
+        Outcome::Ok => {}
+        Outcome::Full => {}
+        Outcome::Absent => {}
+        Outcome::Value(value) => {
+            let _ = value.as_slice();
+        }
+    }
+}
+
+// What the type of a header keeps.
+fn has_numbers(h: Header)
+    ensures { IsHeader h }
+{
+    let _ = h.size.get();
+}
+
+fn write_operation(operation: &Operation, to: &mut Vec<u8>) -> Result<(), AllocError>
+    ensures bytes { OnOk result (to.new.items ≡ to.old.items ++ operation_bytes operation.now) }
+    ensures values { IsOperation operation.now }
+{
+    has_texts(operation);
+    operation.write_body(to)
+}
+
+fn write_kind(kind: &ReplyKind, to: &mut Vec<u8>) -> Result<(), AllocError>
+    ensures bytes { OnOk result (to.new.items ≡ to.old.items ++ kind_bytes kind.now) }
+    ensures values { IsKindValue kind.now }
+{
+    match kind {
+        ReplyKind::Outcome(answered) => {
+            has_text(&answered.outcome);
+            answered.outcome.write_body(to)
+        }
+        ReplyKind::Old
+        | ReplyKind::Gap
+        | ReplyKind::Evicted
+        | ReplyKind::Busy
+        | ReplyKind::Redirect => Ok(()),
+    }
+}
+
+fn write_entry(entry: &Entry, to: &mut Vec<u8>) -> Result<(), AllocError>
+    ensures bytes { OnOk result (to.new.items ≡ to.old.items ++ entry_bytes entry.now) }
+    ensures header { IsHeader entry.now.header }
+    ensures operation { IsOperation entry.now.operation }
+{
+    has_numbers(entry.header());
+    has_texts(entry.operation());
+    entry.write(to)
+}
+
+#[tactic(auto, using(std::proofs::lemmas::Grind::common_steps, crate::proofs::Written::writing_headers))]
+fn write_headers(headers: &[Header], to: &mut Vec<u8>) -> Result<(), AllocError>
+    ensures bytes { OnOk result (to.new.items ≡ to.old.items ++ headers_bytes headers.now) }
+    ensures values { OnOk result (AreHeaders headers.now) }
+{
+    for header in headers {
+        to.extend_from_slice(&encode(header))?;
+    }
+    Ok(())
+}
+
+fn tag(part: &Part) -> u8
+    ensures { result ≡ tag part.now }
+{
+    match part {
+        Part::Nothing => 0,
+        Part::Here(_) => 1,
+        Part::Lost(_) => 2,
+        Part::Wanted(_) => 3,
+        Part::Unknown => 4,
+    }
+}
+
+#[tactic(auto, using(std::proofs::lemmas::Grind::common_steps, crate::proofs::Written::writing_tags))]
+fn write_tags(parts: &[Part], to: &mut Vec<u8>) -> Result<(), AllocError>
+    ensures { OnOk result (to.new.items ≡ to.old.items ++ map tag parts.now) }
+{
+    for part in parts {
+        to.push(tag(part))?;
+    }
+    Ok(())
+}
+
+// The header of one Part, if it knows one.
+fn write_part(part: &Part, to: &mut Vec<u8>) -> Result<(), AllocError>
+    ensures bytes { OnOk result (to.new.items ≡ to.old.items ++ headers_bytes (known (part.now ∷ []))) }
+    ensures values { OnOk result (AreHeaders (known (part.now ∷ []))) }
+{
+    match part {
+        Part::Here(header) => write_headers(&[*header], to),
+        Part::Lost(header) => write_headers(&[*header], to),
+        Part::Wanted(header) => write_headers(&[*header], to),
+        Part::Unknown => Ok(()),
+        Part::Nothing => Ok(()),
+    }
+}
+
+#[tactic(auto, using(std::proofs::lemmas::Grind::common_steps, crate::proofs::Written::writing_known))]
+fn write_known(parts: &[Part], to: &mut Vec<u8>) -> Result<(), AllocError>
+    ensures bytes { OnOk result (to.new.items ≡ to.old.items ++ headers_bytes (known parts.now)) }
+    ensures values { OnOk result (AreHeaders (known parts.now)) }
+{
+    for part in parts {
+        write_part(part, to)?;
+    }
+    Ok(())
+}
+
+#[tactic(auto, using(std::proofs::lemmas::Grind::common_steps), unfolding(vr_base::specs::Bytes::bytes16, vr_base::specs::Bytes::bytes64))]
+fn write_front(first: u64, count: u16, to: &mut Vec<u8>) -> Result<(), AllocError>
+    ensures { OnOk result (to.new.items ≡ to.old.items ++ (bytes64 first ++ bytes16 count)) }
+{
+    to.extend_from_slice(&first.to_be_bytes())?;
+    to.extend_from_slice(&count.to_be_bytes())?;
+    Ok(())
+}
+
+#[tactic(auto, using(std::proofs::lemmas::Grind::common_steps, crate::proofs::Written::four_parts))]
+fn write_parts(body: &DvcBody, to: &mut Vec<u8>) -> Result<(), AllocError>
+    requires { length body.now.parts ≤ 128 }
+    ensures bytes { OnOk result (to.new.items ≡ to.old.items ++ parts_bytes body.now) }
+    ensures values { OnOk result (AreHeaders (known body.now.parts)) }
+{
+    let parts = body.parts.as_slice();
+    write_front(body.first, parts.len() as u16, to)?;
+    write_tags(parts, to)?;
+    write_known(parts, to)?;
+    Ok(())
+}
+
+/// Adds the bytes after the header of a message at the end.
+pub(crate) fn write_body(frame: &Frame, to: &mut Vec<u8>) -> Result<(), AllocError>
+    requires { IsFrame frame.now }
+    ensures bytes { OnOk result (to.new.items ≡ to.old.items ++ body_bytes frame.now) }
+    ensures values { OnOk result (IsBodyValue frame.now) }
+{
+    match frame {
+        Frame::Request(request) => write_operation(&request.fields().operation, to),
+        Frame::Reply(reply) => write_kind(&reply.fields().kind, to),
+        Frame::Prepare(prepare) => write_entry(&prepare.entry, to),
+        Frame::PrepareOk(_) => Ok(()),
+        Frame::Commit(_) => Ok(()),
+        Frame::StartViewChange(_) => Ok(()),
+        Frame::DoViewChange(change) => write_parts(&change.statement.body, to),
+        Frame::StartView(start) => write_headers(start.body.headers.as_slice(), to),
+        Frame::GetView(_) => Ok(()),
+        Frame::GetPrepare(_) => Ok(()),
+        Frame::GivePrepare(give) => write_entry(&give.entry, to),
+        Frame::GetBlock(_) => Ok(()),
+        Frame::GiveBlock(give) => {
+            to.extend_from_slice(give.block.as_slice())?;
+            Ok(())
+        }
+    }
+}
