@@ -1,4 +1,5 @@
 pub mod Asking
+pub mod Choice
 pub mod Forms
 pub mod Logs
 pub mod Numbers

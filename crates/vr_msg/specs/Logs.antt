@@ -1,5 +1,6 @@
 -- What a message may say of a log.
-use Rattle.std.specs.Prelude.{ℕ, ◌≡◌, ◌≢◌, ◌+◌, ◌-◌, ◌≤◌, ⊤, Bool, List, [], ◌∷◌, length, slice_get, take_while, Option, Some, None, is_some}
+use Rattle.std.specs.Prelude.{ℕ, ◌≡◌, ◌≢◌, ◌+◌, ◌-◌, ◌≤◌, ⊤, Bool, List, [], ◌∷◌, length, slice_get, Option, Some, None, is_some}
+use Rattle.std.specs.List.{prefix_len}
 use Rattle.vr_header.specs.declared.header.Header.{Header}
 use Rattle.vr_header.specs.declared.part.Part.{Part}
 use Rattle.vr_header.specs.declared.part.Part.TheVariants.{Here, Lost, Wanted, Unknown, Nothing}
@@ -44,8 +45,8 @@ pub record IsStatement (cluster : ℕ) (s : Statement) : Type 0 where
   pub head : IsNumber s.head
   pub first : (1 ≤ s.body.first) × (s.body.first ≤ s.commit + 1)
   -- the Parts from first to the head know their headers, at most 64, and the next one doesn't
-  pub run : s.body.first + length (take_while has_header s.body.parts) ≡ s.head + 1
-  pub short : length (take_while has_header s.body.parts) ≤ 64
+  pub run : s.body.first + prefix_len has_header s.body.parts ≡ s.head + 1
+  pub short : prefix_len has_header s.body.parts ≤ 64
   pub count : length s.body.parts ≤ 128
   pub last : slice_get s.body.parts (length s.body.parts - 1) ≢ Some Nothing
   pub parts : FromOp (IsPartAt cluster s.log_view) s.body.first s.body.parts

@@ -1,6 +1,7 @@
 //! The messages of the protocol, the events and outputs of a replica, and the bytes of a message.
 #![tactic(auto)]
 
+mod choice;
 mod event;
 mod fault;
 mod frame;
@@ -10,6 +11,7 @@ mod reply;
 mod request;
 mod statement;
 
+pub use choice::Choice;
 pub use event::Event;
 pub use fault::MsgFault;
 pub use frame::{
