@@ -10,6 +10,7 @@ mod part;
 mod scan;
 mod walk;
 
+pub use scan::{top_commit, top_view};
 use std::alloc::{AllocError, Global};
 use vr_base::Quorums;
 pub use vr_msg::Choice;
