@@ -42,3 +42,7 @@ bounds_of s some =
 
 pub bounded : (ss : List Statement) → All IsSomeStatement ss → All IsBounded ss
 bounded ss all = All-weaker IsSomeStatement IsBounded bounds_of ss all
+
+-- statements of one group are statements of some group
+pub some_statements : (cluster : ℕ) (ss : List Statement) → All (IsStatement cluster) ss → All IsSomeStatement ss
+some_statements cluster ss all = All-weaker (IsStatement cluster) IsSomeStatement (λ s is. record { cluster = cluster; statement = is }) ss all
