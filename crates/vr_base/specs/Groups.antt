@@ -1,5 +1,5 @@
 -- The quorums of a group, by its size.
-use Rattle.std.specs.Prelude.{ℕ, Option, Some, None, if◌then◌else◌, ◌==◌}
+use Rattle.std.specs.Prelude.{ℕ, ◌+◌, ◌-◌, ◌<◌, ◌≤◌, ◌≡◌, Option, Some, None, if◌then◌else◌, ◌==◌}
 use Rattle.vr_base.specs.declared.table.Quorums.{Quorums}
 
 -- a column of the table
@@ -15,3 +15,12 @@ quorums_of n =
     else (if n == 4 then these 2 3 3
     else (if n == 5 then these 3 3 3
     else (if n == 6 then these 3 4 4 else None))))
+
+-- what the quorums of a group of n replicas keep
+pub record AreQuorums (n : ℕ) (q : Quorums) : Type 0 where
+  -- any two such sets of replicas meet
+  pub overlap : n < q.replication + q.view_change
+  -- so many leave too few for a replication quorum
+  pub nack : q.nack ≡ n - q.replication + 1
+  pub replication_fits : q.replication ≤ n
+  pub view_change_fits : q.view_change ≤ n

@@ -5,4 +5,5 @@ pub mod HeaderLaws
 pub mod NameLaws
 mod Rows
 pub mod Truths
+pub mod SameHeaders
 pub mod Written

@@ -1,5 +1,6 @@
 pub mod Asking
 pub mod Deciding
+pub mod Choice
 pub mod Forms
 pub mod Logs
 pub mod Numbers

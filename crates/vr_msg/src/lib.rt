@@ -1,6 +1,7 @@
 //! The messages of the protocol, the events and outputs of a replica, and the bytes of a message.
 #![tactic(auto)]
 
+mod choice;
 mod codec;
 mod event;
 mod fault;
@@ -15,6 +16,7 @@ mod shape;
 mod statement;
 mod write;
 
+pub use choice::Choice;
 pub use codec::{decode, encode, judge};
 pub use event::Event;
 pub use fault::MsgFault;

@@ -1,0 +1,100 @@
+//! What one statement says of one op.
+ghost use Rattle.std.specs.Prelude.{◌≡◌};
+ghost use Rattle.vr_header.specs.Same.{same_header};
+ghost use Rattle.vr_msg.specs.Logs.{header_of};
+ghost use Rattle.vr_msg.specs.Choice.{part_at, header_at, is_here, denies_as_newest, denies_named, denies_by};
+
+use vr_header::{Header, Part};
+use vr_msg::Statement;
+
+/// What the statement says of op `k`.
+fn part_at(k: u64, s: &Statement) -> Part
+    ensures { result ≡ part_at k s.now }
+{
+    if k < s.body.first {
+        return Part::Nothing;
+    }
+    let parts = s.body.parts.as_slice();
+    let at = k - s.body.first;
+    if at < parts.len() as u64 {
+        parts[at as usize]
+    } else {
+        Part::Nothing
+    }
+}
+
+fn header_of(part: &Part) -> Option<Header>
+    ensures { result ≡ header_of part.now }
+{
+    match part {
+        Part::Here(h) => Some(*h),
+        Part::Lost(h) => Some(*h),
+        Part::Wanted(h) => Some(*h),
+        Part::Unknown => None,
+        Part::Nothing => None,
+    }
+}
+
+/// The header that the statement knows of op `k`.
+pub fn header_at(k: u64, s: &Statement) -> Option<Header>
+    ensures { result ≡ header_at k s.now }
+{
+    header_of(&part_at(k, s))
+}
+
+#[tactic(auto, unfolding(vr_header::specs::Same::same_header))]
+fn same_header(a: &Header, b: &Header) -> bool
+    ensures { result ≡ same_header a.now b.now }
+{
+    a == b
+}
+
+fn is_here(e: &Header, part: &Part) -> bool
+    ensures { result ≡ is_here e.now part.now }
+{
+    match part {
+        Part::Here(h) => same_header(h, e),
+        _ => false,
+    }
+}
+
+/// Whether the statement has the entry of this header at op `k`.
+pub fn has_here(e: &Header, k: u64, s: &Statement) -> bool
+    ensures { result ≡ is_here e.now (part_at k s.now) }
+{
+    is_here(e, &part_at(k, s))
+}
+
+fn denies_as_newest(part: &Part) -> bool
+    ensures { result ≡ denies_as_newest part.now }
+{
+    matches!(part, Part::Wanted(_) | Part::Nothing)
+}
+
+fn denies_named(e: &Header, part: &Part) -> bool
+    ensures { result ≡ denies_named e.now part.now }
+{
+    match part {
+        Part::Here(h) => !same_header(h, e),
+        Part::Lost(h) => !same_header(h, e),
+        Part::Wanted(_) => true,
+        Part::Unknown => false,
+        Part::Nothing => true,
+    }
+}
+
+/// Whether the statement denies op `k`, where `view` is the greatest log view and `e` the header that
+/// is named at `k`.
+pub fn denies(view: u32, e: &Option<Header>, k: u64, s: &Statement) -> bool
+    ensures { result ≡ denies_by view e.now k s.now }
+{
+    let part = part_at(k, s);
+    if s.log_view == view {
+        denies_as_newest(&part)
+    } else {
+        match e {
+            None => true,
+            Some(e) => denies_named(e, &part),
+        }
+    }
+}
