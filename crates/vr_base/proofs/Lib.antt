@@ -1,1 +1,4 @@
+pub mod FieldLaws
+pub mod Places
 mod Rows
+pub mod Writing

@@ -1,11 +1,15 @@
 //! What every crate of the repository uses: lists that contracts see as lists, the quorums of a group,
-//! and the words for the causes of faults.
+//! names and fields of bytes, and the words for the causes of faults.
 #![tactic(auto)]
 
+mod fields;
 mod groups;
 mod seq;
+mod sum;
 mod table;
 
+pub use fields::{put, put_sum, put_u16, put_u32, put_u64, sum_at, u16_at, u32_at, u64_at};
 pub use groups::quorums;
 pub use seq::{ByteList, Seq};
+pub use sum::{Sum, checksum};
 pub use table::{Config, Quorums};

@@ -1,0 +1,29 @@
+//! Names of bytes.
+ghost use Rattle.std.specs.Prelude.{◌≡◌, length};
+ghost use Rattle.vr_base.specs.Bytes.{name_of};
+
+use sha2::{Digest, Sha256};
+
+/// The name of some bytes: the first 16 bytes of their SHA-256 (FIPS 180-4).
+#[derive(Clone, Copy, Debug, PartialEq, Eq)]
+pub struct Sum(pub [u8; 16]);
+
+/// The name of these bytes.
+#[tactic(auto, unfolding(crate::specs::Bytes::name_of))]
+pub fn checksum(bytes: &[u8]) -> Sum
+    ensures { result.0 ≡ name_of bytes.now }
+{
+    let digest = Sha256::digest(bytes);
+    let all: &[u8] = &digest;
+    Sum(sixteen(&all[..16]))
+}
+
+/// These 16 bytes as an array.
+pub(crate) fn sixteen(bytes: &[u8]) -> [u8; 16]
+    requires { length bytes.now ≡ 16 }
+    ensures { result ≡ bytes.now }
+{
+    let mut array = [0; 16];
+    array.copy_from_slice(bytes);
+    array
+}

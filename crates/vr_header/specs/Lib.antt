@@ -1,0 +1,3 @@
+pub mod Bodies
+pub mod Made
+pub mod Text

@@ -1,0 +1,20 @@
+//! Headers, the operations and outcomes that stand behind them, and their bytes.
+#![tactic(auto)]
+
+mod command;
+mod entry;
+mod header;
+mod operation;
+mod outcome;
+mod part;
+mod size;
+mod text;
+
+pub use command::Command;
+pub use entry::Entry;
+pub use header::{Header, HeaderFault, HeaderList};
+pub use operation::Operation;
+pub use outcome::Outcome;
+pub use part::Part;
+pub use size::Size;
+pub use text::{Key, Text, Value};
