@@ -4,7 +4,8 @@ use Rattle.std.specs.Int.{Width, byte_len, w16, w32, w64, from_be_bytes, to_be_b
 use Rattle.std.proofs.lemmas.Nat.{be_bytes_2, be_bytes_4, be_bytes_8, from_be_bytes-to_be_bytes_2, from_be_bytes-to_be_bytes_4, from_be_bytes-to_be_bytes_8}
 use Rattle.std.proofs.lemmas.List.{take_at, drop_at, take-append-drop, length-append, length-take, length-take-le, get_or-drop, get_or-take, get_or_past}
 use Rattle.std.proofs.lemmas.Bool.{le-ltb, ltb-false, cases_lt}
-use Rattle.vr_table.specs.Front.{AreBytes, number_text, number_from, piece_from, byte_from}
+use Rattle.vr_base.specs.Bytes.{IsBytes, bytes16, bytes32, bytes64}
+use Rattle.vr_table.specs.Front.{number_from, piece_from, byte_from}
 
 pub same_some : {A : Type 0} (x y : A) → Some x ≡ Some y → x ≡ y
 same_some x y e = ap (λ o. unwrap_or o x) e
@@ -19,65 +20,64 @@ pub let_through : {A : Type 0} (b : Bool) (x y : A) → cond b None (Some x) ≡
 let_through true x y e = absurd cc
 let_through false x y e = (refl, same_some x y e)
 
-pub AreBytes_drop : (n : ℕ) (bytes : List ℕ) → AreBytes bytes → AreBytes (drop n bytes)
-AreBytes_drop n bytes are = record { each = λ i. rw (get_or-drop n bytes i 0) (are.each (n + i)) }
+pub IsBytes-drop : (n : ℕ) (bytes : List ℕ) → IsBytes bytes → IsBytes (drop n bytes)
+IsBytes-drop n bytes are i = rw (get_or-drop n bytes i 0) (are (n + i))
 
-pub AreBytes_behind : (front rest : List ℕ) → AreBytes (front ++ rest) → AreBytes rest
-AreBytes_behind front rest are = subst AreBytes (drop_at front rest (length front) refl) (AreBytes_drop (length front) (front ++ rest) are)
+pub IsBytes-behind : (front rest : List ℕ) → IsBytes (front ++ rest) → IsBytes rest
+IsBytes-behind front rest are = subst IsBytes (drop_at front rest (length front) refl) (IsBytes-drop (length front) (front ++ rest) are)
 
-AreBytes_take : (n : ℕ) (bytes : List ℕ) → AreBytes bytes → (i : ℕ) → get_or (take n bytes) i 0 < 256
-AreBytes_take n bytes are i = elim (cases_lt i n) [
-  | inl below ↦ rw (get_or-take n bytes i 0 below) (are.each i)
+IsBytes-take : (n : ℕ) (bytes : List ℕ) → IsBytes bytes → (i : ℕ) → get_or (take n bytes) i 0 < 256
+IsBytes-take n bytes are i = elim (cases_lt i n) [
+  | inl below ↦ rw (get_or-take n bytes i 0 below) (are i)
   | inr past ↦ rw (get_or_past (take n bytes) i 0 (omega (arith, length-take n bytes))) (lit< tt)
 ]
 
 -- a width whose numbers are read back, and whose bytes are written back
-pub record IsField (w : Width) (limit : ℕ) : Type 0 where
-  pub long : (n : ℕ) → length (to_be_bytes w n) ≡ byte_len w
-  pub reads : (n : ℕ) → n < limit → from_be_bytes w (to_be_bytes w n) ≡ n
+pub record IsField (spell : ℕ → List ℕ) (w : Width) (limit : ℕ) : Type 0 where
+  pub long : (n : ℕ) → length (spell n) ≡ byte_len w
+  pub reads : (n : ℕ) → n < limit → from_be_bytes w (spell n) ≡ n
   pub small : (bs : List ℕ) → length bs ≡ byte_len w → ((i : ℕ) → get_or bs i 0 < 256) → from_be_bytes w bs < limit
-  pub writes : (bs : List ℕ) → length bs ≡ byte_len w → ((i : ℕ) → get_or bs i 0 < 256) → to_be_bytes w (from_be_bytes w bs) ≡ bs
+  pub writes : (bs : List ℕ) → length bs ≡ byte_len w → ((i : ℕ) → get_or bs i 0 < 256) → spell (from_be_bytes w bs) ≡ bs
 
-pub field16 : IsField w16 (2 ^ 16)
+pub field16 : IsField bytes16 w16 (2 ^ 16)
+unfolding bytes16
 field16 = record { long = λ n. refl; reads = from_be_bytes-to_be_bytes_2; small = λ bs long each. omega (arith, each 0, each 1); writes = λ bs long each. be_bytes_2 bs _ long each refl }
 
-pub field32 : IsField w32 (2 ^ 32)
+pub field32 : IsField bytes32 w32 (2 ^ 32)
+unfolding bytes32
 field32 = record { long = λ n. refl; reads = from_be_bytes-to_be_bytes_4; small = λ bs long each. omega (arith, each 0, each 1, each 2, each 3); writes = λ bs long each. be_bytes_4 bs _ long each refl }
 
-pub field64 : IsField w64 (2 ^ 64)
+pub field64 : IsField bytes64 w64 (2 ^ 64)
+unfolding bytes64
 field64 = record { long = λ n. refl; reads = from_be_bytes-to_be_bytes_8; small = λ bs long each. omega (arith, each 0, each 1, each 2, each 3, each 4, each 5, each 6, each 7); writes = λ bs long each. be_bytes_8 bs _ long each refl }
 
-module _ (w : Width) (limit : ℕ) (field : IsField w limit) where
-  pub length-number_text : (n : ℕ) → length (number_text w n) ≡ byte_len w
-  unfolding number_text
-  length-number_text n = field.long n
-
-  pub number_reads : (n : ℕ) (rest : List ℕ) → n < limit → number_from w (number_text w n ++ rest) ≡ Some (n, rest)
-  unfolding number_text number_from
+module _ (spell : ℕ → List ℕ) (w : Width) (limit : ℕ) (field : IsField spell w limit) where
+  pub number_reads : (n : ℕ) (rest : List ℕ) → n < limit → number_from w (spell n ++ rest) ≡ Some (n, rest)
+  unfolding number_from
   number_reads n rest small =
-      let text = to_be_bytes w n in
+      let text = spell n in
       let enough : ltb (length (text ++ rest)) (byte_len w) ≡ false = le-ltb _ _ (omega (arith, length-append text rest, field.long n)) in
       rw (enough, take_at text rest (byte_len w) (field.long n), drop_at text rest (byte_len w) (field.long n), field.reads n small) refl
 
   -- what was read stands at the front
-  pub number_only : (bytes : List ℕ) → AreBytes bytes → (n : ℕ) (rest : List ℕ) → number_from w bytes ≡ Some (n, rest) → bytes ≡ number_text w n ++ rest
-  unfolding number_text number_from
+  pub number_only : (bytes : List ℕ) → IsBytes bytes → (n : ℕ) (rest : List ℕ) → number_from w bytes ≡ Some (n, rest) → bytes ≡ spell n ++ rest
+  unfolding number_from
   number_only bytes are n rest is =
       let front = take (byte_len w) bytes in
       let through = let_through (ltb (length bytes) (byte_len w)) (from_be_bytes w front, drop (byte_len w) bytes) (n, rest) is in
       let number : from_be_bytes w front ≡ n = ap (λ (p : ℕ × List ℕ). p.0) through.1 in
       let behind : drop (byte_len w) bytes ≡ rest = ap (λ (p : ℕ × List ℕ). p.1) through.1 in
       let long : length front ≡ byte_len w = length-take-le (byte_len w) bytes (ltb-false _ _ through.0) in
-      rw (← number, field.writes front long (AreBytes_take (byte_len w) bytes are), ← behind) (sym (take-append-drop (byte_len w) bytes))
+      rw (← number, field.writes front long (IsBytes-take (byte_len w) bytes are), ← behind) (sym (take-append-drop (byte_len w) bytes))
 
   -- a number that was read fits
-  pub number_small : (bytes : List ℕ) → AreBytes bytes → (n : ℕ) (rest : List ℕ) → number_from w bytes ≡ Some (n, rest) → n < limit
+  pub number_small : (bytes : List ℕ) → IsBytes bytes → (n : ℕ) (rest : List ℕ) → number_from w bytes ≡ Some (n, rest) → n < limit
   unfolding number_from
   number_small bytes are n rest is =
       let front = take (byte_len w) bytes in
       let through = let_through (ltb (length bytes) (byte_len w)) (from_be_bytes w front, drop (byte_len w) bytes) (n, rest) is in
       let number : from_be_bytes w front ≡ n = ap (λ (p : ℕ × List ℕ). p.0) through.1 in
-      rw (← number) (field.small front (length-take-le (byte_len w) bytes (ltb-false _ _ through.0)) (AreBytes_take (byte_len w) bytes are))
+      rw (← number) (field.small front (length-take-le (byte_len w) bytes (ltb-false _ _ through.0)) (IsBytes-take (byte_len w) bytes are))
 
 pub byte_reads : (b : ℕ) (rest : List ℕ) → byte_from (b ∷ rest) ≡ Some (b, rest)
 unfolding byte_from

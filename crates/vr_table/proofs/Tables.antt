@@ -10,16 +10,17 @@ use Rattle.std.proofs.lemmas.List.Concat.{flat_map-append}
 use Rattle.vr_table.specs.declared.fault.StateFault.{StateFault}
 use Rattle.vr_table.specs.declared.fault.StateFault.TheVariants.{Torn, NotSorted, TooMany, NoMemory}
 use Rattle.vr_table.specs.Finite.{is_sorted, IsMap}
-use Rattle.vr_table.specs.Front.{AreBytes, number_text, number_from}
+use Rattle.vr_base.specs.Bytes.{IsBytes, bytes16}
+use Rattle.vr_table.specs.Front.{number_from}
 use Rattle.vr_table.specs.Table.{count_from, table_text, read_on, counted, decoded, BeginsWith, FirstFault, IsTextOf, IsJudged}
 use Rattle.vr_table.specs.Table.FirstFault.{no_count, too_many, torn_entry, lower_key, left_over}
 use Rattle.vr_table.proofs.Maps.{IsMap-front}
-use Rattle.vr_table.proofs.Fronts.{AreBytes_behind, number_reads, number_only, number_small, field16, same_some}
+use Rattle.vr_table.proofs.Fronts.{IsBytes-behind, number_reads, number_only, number_small, field16, same_some}
 
 -- `read` gives exactly the entry whose text the bytes begin with, and what is behind it
 pub record IsReader {E : Type 0} (text : E → List ℕ) (Fits : E → Type 0) (read : List ℕ → Option (E × List ℕ)) : Type 0 where
   pub reads : (e : E) (rest : List ℕ) → Fits e → read (text e ++ rest) ≡ Some (e, rest)
-  pub only : (bytes : List ℕ) → AreBytes bytes → (e : E) (rest : List ℕ) → read bytes ≡ Some (e, rest) → Fits e × (bytes ≡ text e ++ rest)
+  pub only : (bytes : List ℕ) → IsBytes bytes → (e : E) (rest : List ℕ) → read bytes ≡ Some (e, rest) → Fits e × (bytes ≡ text e ++ rest)
 
 -- two answers that are good have one value
 pub same_ok : {A F : Type 0} (x y : A) → (r : Result A F) → r ≡ Ok x → r ≡ Ok y → x ≡ y
@@ -56,7 +57,7 @@ module _ {K V : Type 0} (order : K → K → Ordering) (text : K × V → List �
     so_far : whole ≡ flat_map text done ++ rest
     is_map : IsMap order done
     fit : AllByRecursion Fits done
-    bytes : AreBytes rest
+    bytes : IsBytes rest
 
   further : (whole : List ℕ) (n : ℕ) (done : List (K × V)) (rest : List ℕ) → Reading whole (suc n) done rest → (e : K × V) (after : List ℕ) → read rest ≡ Some (e, after)
       → is_sorted order (done ++ e ∷ []) ≡ true → Reading whole n (done ++ e ∷ []) after
@@ -68,17 +69,17 @@ module _ {K V : Type 0} (order : K → K → Ordering) (text : K × V → List �
             ∙ ap (λ x. x ++ after) (ap (λ x. flat_map text done ++ x) (sym (append-nil (text e))) ∙ sym (flat_map-append text done (e ∷ [])))));
         is_map = sorted;
         fit = All_push Fits done e r.fit only.0;
-        bytes = AreBytes_behind (text e) after (subst AreBytes only.1 r.bytes);
+        bytes = IsBytes-behind (text e) after (subst IsBytes only.1 r.bytes);
       }
 
   -- what may come of a reading: the whole is the text of a map of so many entries, or has a first fault
   Judged : List ℕ → ℕ → Result (List (K × V)) StateFault → Type 0
   Judged whole count (Ok es) = (whole ≡ flat_map text es) × (length es ≡ count) × (IsMap order es) × (AllByRecursion Fits es)
-  Judged whole count (Err fault) = (limit : ℕ) → count ≤ limit → FirstFault order text Fits limit (number_text w16 count ++ whole) fault
+  Judged whole count (Err fault) = (limit : ℕ) → count ≤ limit → FirstFault order text Fits limit (bytes16 count ++ whole) fault
 
   begun : (whole : List ℕ) (n : ℕ) (done : List (K × V)) (rest : List ℕ) → Reading whole n done rest → (count limit : ℕ) → count ≤ limit
-      → BeginsWith order text Fits limit (number_text w16 count ++ whole) count done rest
-  begun whole n done rest r count limit few = record { whole = ap (λ x. number_text w16 count ++ x) r.so_far; few = few; is_map = r.is_map; fit = r.fit }
+      → BeginsWith order text Fits limit (bytes16 count ++ whole) count done rest
+  begun whole n done rest r count limit few = record { whole = ap (λ x. bytes16 count ++ x) r.so_far; few = few; is_map = r.is_map; fit = r.fit }
 
   not_text : (rest : List ℕ) → read rest ≡ None → (e : K × V) (after : List ℕ) → Fits e → rest ≢ text e ++ after
   not_text rest none e after fits same = let found = reader.reads e after fits in let here : read rest ≡ Some (e, after) = ap read same ∙ found in absurd cc
@@ -88,7 +89,7 @@ module _ {K V : Type 0} (order : K → K → Ordering) (text : K × V → List �
   judged whole count zero done [] r long = (r.so_far ∙ append-nil (flat_map text done), omega arith, r.is_map, r.fit)
   judged whole count zero done (b ∷ bs) r long =
       let all : length done ≡ count = omega arith in
-      subst (λ c. (limit : ℕ) → c ≤ limit → FirstFault order text Fits limit (number_text w16 c ++ whole) Torn) all
+      subst (λ c. (limit : ℕ) → c ≤ limit → FirstFault order text Fits limit (bytes16 c ++ whole) Torn) all
       (λ limit few. left_over done (b ∷ bs) (begun whole zero done (b ∷ bs) r (length done) limit few) (λ e. absurd cc))
   judged whole count (suc n) done rest r long =
       let step = λ (x : (K × V) × List ℕ). cond (is_sorted order (done ++ x.0 ∷ [])) (read_on order read n (done ++ x.0 ∷ []) x.1) (Err NotSorted) in
@@ -99,17 +100,17 @@ module _ {K V : Type 0} (order : K → K → Ordering) (text : K × V → List �
             let by : (b : Bool) → is_sorted order (done ++ x.0 ∷ []) ≡ b → Judged whole count (cond b (read_on order read n (done ++ x.0 ∷ []) x.1) (Err NotSorted)) = elim [
               | true ↦ λ sorted. judged whole count n (done ++ x.0 ∷ []) x.1 (further whole n done rest r x.0 x.1 is sorted) (omega (arith, length-append done (x.0 ∷ [])))
               | false ↦ λ unsorted limit few.
-                  lower_key count done x.0 x.1 (subst (λ y. BeginsWith order text Fits limit (number_text w16 count ++ whole) count done y) only.1 (begun whole (suc n) done rest r count limit few)) (omega arith) only.0 (λ sorted. absurd (true≢false (sym sorted ∙ unsorted)))
+                  lower_key count done x.0 x.1 (subst (λ y. BeginsWith order text Fits limit (bytes16 count ++ whole) count done y) only.1 (begun whole (suc n) done rest r count limit few)) (omega arith) only.0 (λ sorted. absurd (true≢false (sym sorted ∙ unsorted)))
             ] in
             by (is_sorted order (done ++ x.0 ∷ [])) refl
       ] in
       cases (read rest) refl
 
-  settled : (limit : ℕ) (bytes : List ℕ) (count : ℕ) (rest : List ℕ) → bytes ≡ number_text w16 count ++ rest → count ≤ limit
+  settled : (limit : ℕ) (bytes : List ℕ) (count : ℕ) (rest : List ℕ) → bytes ≡ bytes16 count ++ rest → count ≤ limit
       → (r : Result (List (K × V)) StateFault) → Judged rest count r → IsJudged order text Fits limit bytes r
   unfolding Judged table_text
   settled limit bytes count rest whole few (Ok es) j = record {
-    spelled = whole ∙ (ap (λ x. number_text w16 count ++ x) j.0 ∙ ap (λ n. number_text w16 n ++ flat_map text es) (sym j.1));
+    spelled = whole ∙ (ap (λ x. bytes16 count ++ x) j.0 ∙ ap (λ n. bytes16 n ++ flat_map text es) (sym j.1));
     no_more = omega (arith, j.1);
     ascending = j.2;
     fitting = j.3;
@@ -125,7 +126,7 @@ module _ {K V : Type 0} (order : K → K → Ordering) (text : K × V → List �
       → decoded order read limit (table_text text es) ≡ Ok es
   unfolding decoded table_text count_from
   decoded-table_text limit small es few is_map fit =
-      let found = number_reads w16 (2 ^ 16) field16 (length es) (flat_map text es) (omega arith) in
+      let found = number_reads bytes16 w16 (2 ^ 16) field16 (length es) (flat_map text es) (omega arith) in
       let enough : ltb limit (length es) ≡ false = le-ltb limit (length es) few in
       rw (found, enough) (read_text es [] is_map fit)
 
@@ -137,12 +138,12 @@ module _ {K V : Type 0} (order : K → K → Ordering) (text : K × V → List �
       (decoded-table_text (2 ^ 16 - 1) (lit< tt) es (omega arith) map fit)
       (ap (decoded order read (2 ^ 16 - 1)) same ∙ decoded-table_text (2 ^ 16 - 1) (lit< tt) fs (omega arith) map' fit')
 
-  judged_counted : (limit : ℕ) (bytes : List ℕ) → AreBytes bytes → (r : Option (ℕ × List ℕ)) → number_from w16 bytes ≡ r
+  judged_counted : (limit : ℕ) (bytes : List ℕ) → IsBytes bytes → (r : Option (ℕ × List ℕ)) → number_from w16 bytes ≡ r
       → IsJudged order text Fits limit bytes (counted order read (option_map_or (λ x. if nat_lt limit x.0 then Err TooMany else Ok (x.0, x.1)) r (Err Torn)))
   judged_counted limit bytes are None is = no_count (no_number bytes is)
   judged_counted limit bytes are (Some x) is =
-      let whole : bytes ≡ number_text w16 x.0 ++ x.1 = number_only w16 (2 ^ 16) field16 bytes are x.0 x.1 is in
-      let start : Reading x.1 x.0 [] x.1 = record { so_far = refl; is_map = refl; fit = tt; bytes = AreBytes_behind (number_text w16 x.0) x.1 (subst AreBytes whole are) } in
+      let whole : bytes ≡ bytes16 x.0 ++ x.1 = number_only bytes16 w16 (2 ^ 16) field16 bytes are x.0 x.1 is in
+      let start : Reading x.1 x.0 [] x.1 = record { so_far = refl; is_map = refl; fit = tt; bytes = IsBytes-behind (bytes16 x.0) x.1 (subst IsBytes whole are) } in
       let by : (b : Bool) → ltb limit x.0 ≡ b → IsJudged order text Fits limit bytes (counted order read (cond b (Err TooMany) (Ok (x.0, x.1)))) = elim [
         | true ↦ λ over. too_many x.0 x.1 whole (ltb-true limit x.0 over)
         | false ↦ λ within. settled limit bytes x.0 x.1 whole (ltb-false limit x.0 within) (read_on order read x.0 [] x.1) (judged x.1 x.0 x.0 [] x.1 start (omega arith))
@@ -150,6 +151,6 @@ module _ {K V : Type 0} (order : K → K → Ordering) (text : K × V → List �
       by (ltb limit x.0) refl
 
   -- what `decoded` answers
-  pub decoded_is_judged : (limit : ℕ) (bytes : List ℕ) → AreBytes bytes → IsJudged order text Fits limit bytes (decoded order read limit bytes)
+  pub decoded_is_judged : (limit : ℕ) (bytes : List ℕ) → IsBytes bytes → IsJudged order text Fits limit bytes (decoded order read limit bytes)
   unfolding decoded count_from
   decoded_is_judged limit bytes are = judged_counted limit bytes are (number_from w16 bytes) refl

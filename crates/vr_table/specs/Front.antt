@@ -1,14 +1,6 @@
 -- What bytes begin with.
 use Rattle.std.specs.Prelude.{ℕ, ◌<◌, List, [], ◌∷◌, length, take, drop, Option, Some, None, nat_lt, if◌then◌else◌, slice_index}
-use Rattle.std.specs.Int.{Width, byte_len, from_be_bytes, to_be_bytes}
-
--- each is a byte
-pub record AreBytes (bytes : List ℕ) : Type 0 where
-  pub each : (i : ℕ) → slice_index bytes i < 256
-
--- a number, the highest byte first
-unfoldable pub number_text : Width → ℕ → List ℕ
-number_text w n = to_be_bytes w n
+use Rattle.std.specs.Int.{Width, byte_len, from_be_bytes}
 
 -- the first n bytes, and those behind them
 unfoldable pub piece_from : ℕ → List ℕ → Option (List ℕ × List ℕ)

@@ -7,7 +7,8 @@ use Rattle.std.specs.declared.cmp.Ordering.{Ordering}
 use Rattle.vr_table.specs.declared.fault.StateFault.{StateFault}
 use Rattle.vr_table.specs.declared.fault.StateFault.TheVariants.{Torn, NotSorted, TooMany}
 use Rattle.vr_table.specs.Finite.{is_sorted, IsMap}
-use Rattle.vr_table.specs.Front.{AreBytes, number_text, number_from}
+use Rattle.vr_base.specs.Bytes.{bytes16}
+use Rattle.vr_table.specs.Front.{number_from}
 
 -- the count that the bytes begin with, and the bytes behind it
 unfoldable pub count_from : ℕ → List ℕ → Result (ℕ × List ℕ) StateFault
@@ -16,7 +17,7 @@ count_from limit bytes =
 
 -- of entries whose text is `text`
 unfoldable pub table_text : {E : Type 0} → (E → List ℕ) → List E → List ℕ
-table_text text es = number_text w16 (length es) ++ flat_map text es
+table_text text es = bytes16 (length es) ++ flat_map text es
 
 -- of entries whose keys have this order; `read` gives the entry that bytes begin with
 module _ {K V : Type 0} (order : K → K → Ordering) (read : List ℕ → Option ((K × V) × List ℕ)) where
@@ -40,7 +41,7 @@ module _ {K V : Type 0} (order : K → K → Ordering) (read : List ℕ → Opti
 module _ {K V : Type 0} (order : K → K → Ordering) (text : K × V → List ℕ) (Fits : K × V → Type 0) (limit : ℕ) (bytes : List ℕ) where
   -- the bytes begin with a count that is not above the limit and with the text of the map es, and go on with rest
   pub record BeginsWith (count : ℕ) (es : List (K × V)) (rest : List ℕ) : Type 0 where
-    pub whole : bytes ≡ number_text w16 count ++ (flat_map text es ++ rest)
+    pub whole : bytes ≡ bytes16 count ++ (flat_map text es ++ rest)
     pub few : count ≤ limit
     pub is_map : IsMap order es
     pub fit : AllByRecursion Fits es
@@ -48,7 +49,7 @@ module _ {K V : Type 0} (order : K → K → Ordering) (text : K × V → List �
   -- the first thing from the front for which the bytes are no table's text
   pub data FirstFault : StateFault → Type 0 where
     no_count : length bytes < 2 → FirstFault Torn
-    too_many : (count : ℕ) (rest : List ℕ) → bytes ≡ number_text w16 count ++ rest → limit < count → FirstFault TooMany
+    too_many : (count : ℕ) (rest : List ℕ) → bytes ≡ bytes16 count ++ rest → limit < count → FirstFault TooMany
     torn_entry : (count : ℕ) (es : List (K × V)) (rest : List ℕ) → BeginsWith count es rest → length es < count
         → ((e : K × V) (after : List ℕ) → Fits e → rest ≢ text e ++ after) → FirstFault Torn
     lower_key : (count : ℕ) (es : List (K × V)) (e : K × V) (after : List ℕ) → BeginsWith count es (text e ++ after) → length es < count
