@@ -22,7 +22,7 @@ same_true true c f g = sym (f refl)
 same_true false true f g = g refl
 same_true false false f g = refl
 
-less : (o : Ordering) → is_lt o ≡ true → o ≡ Less
+pub less : (o : Ordering) → is_lt o ≡ true → o ≡ Less
 less Less e = refl
 less Equal e = absurd (true≢false (sym e))
 less Greater e = absurd (true≢false (sym e))

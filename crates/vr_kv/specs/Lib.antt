@@ -1,0 +1,3 @@
+pub mod Kv
+pub mod Pairs
+pub mod Places
