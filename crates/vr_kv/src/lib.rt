@@ -1,6 +1,7 @@
 //! The replicated machine: a finite map of keys to values.
 #![tactic(auto)]
 
+mod decode;
 mod kv;
 mod machine;
 mod pair;

@@ -1,10 +1,10 @@
 -- A table's text is read as that table, and nothing else is.
-use Rattle.std.proofs.Common.{◌≡◌, ◌≢◌, ℕ, zero, suc, ◌+◌, ◌^◌, ◌<◌, ◌≤◌, ◌⊎◌, inl, inr, List, [], ◌∷◌, ◌++◌, length, Option, Some, None, Result, Ok, Err, Bool, true, false, cond, if◌then◌else◌, nat_lt, ltb, lit<, ◌-◌, refl, sym, ◌∙◌, ap, subst, arith}
+use Rattle.std.proofs.Common.{◌≡◌, ◌≢◌, ℕ, zero, suc, ◌+◌, ◌^◌, ◌<◌, ◌≤◌, ◌⊎◌, inl, inr, List, [], ◌∷◌, ◌++◌, length, Option, Some, None, Result, Ok, Err, Bool, true, false, cond, if◌then◌else◌, nat_lt, ltb, eqb, lit<, ◌-◌, refl, sym, ◌∙◌, ap, subst, arith}
 use Rattle.std.specs.List.{flat_map, AllByRecursion}
 use Rattle.std.specs.Option.{option_map_or}
 use Rattle.std.specs.Int.{w16}
 use Rattle.std.specs.declared.cmp.Ordering.{Ordering}
-use Rattle.std.proofs.lemmas.Bool.{ltb-false, ltb-true, le-ltb, lt-ltb, true≢false}
+use Rattle.std.proofs.lemmas.Bool.{ltb-false, ltb-true, le-ltb, eqb-true, true≢false}
 use Rattle.std.proofs.lemmas.List.{append_assoc, append-nil, length-append}
 use Rattle.std.proofs.lemmas.List.Concat.{flat_map-append}
 use Rattle.vr_table.specs.declared.fault.StateFault.{StateFault}
@@ -154,3 +154,15 @@ module _ {K V : Type 0} (order : K → K → Ordering) (text : K × V → List �
   pub decoded_is_judged : (limit : ℕ) (bytes : List ℕ) → IsBytes bytes → IsJudged order text Fits limit bytes (decoded order read limit bytes)
   unfolding decoded count_from
   decoded_is_judged limit bytes are = judged_counted limit bytes are (number_from w16 bytes) refl
+
+-- when all entries are read, the table is whole exactly where no bytes are left
+module _ {K V : Type 0} (order : K → K → Ordering) (read : List ℕ → Option ((K × V) × List ℕ)) where
+  pub read_whole : (done : List (K × V)) (rest : List ℕ) → eqb (length rest) 0 ≡ true → read_on order read 0 done rest ≡ Ok done
+  unfolding read_on
+  read_whole done [] empty = refl
+  read_whole done (b ∷ bs) empty = let e = eqb-true (suc (length bs)) 0 empty in absurd (omega arith)
+
+  pub read_rest : (done : List (K × V)) (rest : List ℕ) → eqb (length rest) 0 ≡ false → read_on order read 0 done rest ≡ Err Torn
+  unfolding read_on
+  read_rest done [] empty = absurd (true≢false empty)
+  read_rest done (b ∷ bs) empty = refl

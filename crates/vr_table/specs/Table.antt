@@ -5,7 +5,7 @@ use Rattle.std.specs.Option.{option_map_or}
 use Rattle.std.specs.Int.{w16}
 use Rattle.std.specs.declared.cmp.Ordering.{Ordering}
 use Rattle.vr_table.specs.declared.fault.StateFault.{StateFault}
-use Rattle.vr_table.specs.declared.fault.StateFault.TheVariants.{Torn, NotSorted, TooMany}
+use Rattle.vr_table.specs.declared.fault.StateFault.TheVariants.{Torn, NotSorted, TooMany, NoMemory}
 use Rattle.vr_table.specs.Finite.{is_sorted, IsMap}
 use Rattle.vr_base.specs.Bytes.{bytes16}
 use Rattle.vr_table.specs.Front.{number_from}
@@ -67,3 +67,10 @@ module _ {K V : Type 0} (order : K → K → Ordering) (text : K × V → List �
   abbrev pub IsJudged : Result (List (K × V)) StateFault → Type 0
   IsJudged (Ok es) = IsTextOf es
   IsJudged (Err fault) = FirstFault fault
+
+-- the fault is this answer's, or it is want of memory
+abbrev pub IsOrNoMemory : {A : Type 0} → Result A StateFault → StateFault → Type 0
+IsOrNoMemory r Torn = r ≡ Err Torn
+IsOrNoMemory r NotSorted = r ≡ Err NotSorted
+IsOrNoMemory r TooMany = r ≡ Err TooMany
+IsOrNoMemory r NoMemory = Unit {0}
