@@ -1,18 +1,18 @@
 -- A pair is read back from its text, and so is a machine.
-use Rattle.std.proofs.Common.{◌≡◌, ℕ, ◌+◌, ◌*◌, ◌^◌, ◌<◌, ◌≤◌, List, [], ◌∷◌, ◌++◌, length, Option, Some, None, Result, Ok, Err, Bool, true, false, cond, refl, sym, ◌∙◌, ap, subst, arith}
+use Rattle.std.proofs.Common.{◌≡◌, ℕ, ◌+◌, ◌*◌, ◌^◌, ◌<◌, ◌≤◌, List, [], ◌∷◌, ◌++◌, length, drop, get_or, Option, Some, None, Result, Ok, Err, Bool, true, false, cond, refl, sym, ◌∙◌, ap, subst, arith}
 use Rattle.std.specs.List.{AllByRecursion, flat_map}
 use Rattle.std.specs.Option.{option_and_then}
 use Rattle.std.specs.Int.{w16}
 use Rattle.std.proofs.lemmas.Bool.{and_parts, leb-true}
-use Rattle.std.proofs.lemmas.List.{append_assoc, length-append}
+use Rattle.std.proofs.lemmas.List.{append_assoc, length-append, at_drop_more, at_drop_all}
 use Rattle.vr_base.specs.Bytes.{IsBytes, bytes16}
 use Rattle.vr_base.proofs.FieldLaws.{length-bytes16}
 use Rattle.vr_header.specs.Text.{is_text, is_printable}
 use Rattle.vr_table.specs.Front.{byte_from, number_from, piece_from}
 use Rattle.vr_table.specs.declared.fault.StateFault.{StateFault}
-use Rattle.vr_table.specs.Table.{table_text, IsJudged, IsTextOf, FirstFault}
+use Rattle.vr_table.specs.Table.{table_text, IsOrNoMemory, IsFirstFault}
 use Rattle.vr_table.proofs.Fronts.{byte_reads, byte_only, number_reads, number_only, piece_reads, piece_only, field16, IsBytes-behind, same_some}
-use Rattle.vr_table.proofs.Tables.{IsReader, decoded-table_text, table_text-one, decoded_is_judged}
+use Rattle.vr_table.proofs.Tables.{IsReader, decoded-table_text, table_text-one, decoded_first, decoded_found}
 use Rattle.vr_table.specs.Finite.{byte_order}
 use Rattle.vr_kv.specs.Kv.{Map, IsKv}
 use Rattle.vr_kv.specs.Pairs.{Fits, pair_text, pieces_from, pair_from, kv_text, kv_decoded}
@@ -109,15 +109,19 @@ pub kv_text-one : (m n : Map) → IsKv m → IsKv n → kv_text m ≡ kv_text n 
 kv_text-one m n kv kv' same =
     table_text-one byte_order pair_text Fits pair_from pair_reader m n (omega (arith, kv.few)) (omega (arith, kv'.few)) kv.is_map kv'.is_map kv.fit kv'.fit same
 
-pub kv_judged : (bytes : List ℕ) → IsBytes bytes → IsJudged byte_order pair_text Fits 128 bytes (kv_decoded bytes)
-kv_judged bytes are = decoded_is_judged byte_order pair_text Fits pair_from pair_reader 128 bytes are
-
 -- what was read is a machine, and the bytes are its text
 pub kv_found : (bytes : List ℕ) → IsBytes bytes → (m : Map) → kv_decoded bytes ≡ Ok m → IsKv m × (kv_text m ≡ bytes)
 kv_found bytes are m is =
-    let found : IsTextOf byte_order pair_text Fits 128 bytes m = subst (IsJudged byte_order pair_text Fits 128 bytes) is (kv_judged bytes are) in
+    let found = decoded_found byte_order pair_text Fits pair_from pair_reader 128 bytes are m is in
     (record { is_map = found.ascending; fit = found.fitting; few = found.no_more }, sym found.spelled)
 
 -- the fault that was met is the first
-pub kv_fault : (bytes : List ℕ) → IsBytes bytes → (fault : StateFault) → kv_decoded bytes ≡ Err fault → FirstFault byte_order pair_text Fits 128 bytes fault
-kv_fault bytes are fault is = subst (IsJudged byte_order pair_text Fits 128 bytes) is (kv_judged bytes are)
+pub kv_fault : (bytes : List ℕ) → IsBytes bytes → (fault : StateFault) → IsOrNoMemory (kv_decoded bytes) fault → IsFirstFault byte_order pair_text Fits 128 bytes fault
+kv_fault bytes are fault is = decoded_first byte_order pair_text Fits pair_from pair_reader 128 bytes are fault is
+
+-- the pairs that are left to write, one step on and at the end
+pub pairs_text_more : (m : Map) (i : ℕ) (d : List ℕ × List ℕ) → i < length m → flat_map pair_text (drop i m) ≡ pair_text (get_or m i d) ++ flat_map pair_text (drop (i + 1) m)
+pairs_text_more m i d within = at_drop_more (flat_map pair_text) m i d within
+
+pub pairs_text_all : (m : Map) (i : ℕ) → length m ≤ i → flat_map pair_text (drop i m) ≡ []
+pairs_text_all m i past = at_drop_all (flat_map pair_text) m i past

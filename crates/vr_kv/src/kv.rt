@@ -1,14 +1,21 @@
 //! The machine as a sorted vector of pairs.
-ghost use Rattle.std.specs.Prelude.{◌≡◌, [], ◌≤◌, ◌<◌, length, IfOk, IfErr, OnErr, IsTrue};
-ghost use Rattle.vr_header.specs.Text.{is_text};
-ghost use Rattle.vr_kv.specs.Kv.{applied, putting, getting, deleting, IsKv};
+ghost use Rattle.std.specs.Prelude.{◌≡◌, ℕ, List, [], ◌∷◌, ◌++◌, ◌≤◌, length, Ok, IfOk, IfErr, OnErr};
+ghost use Rattle.vr_header.specs.declared.operation.Operation.{Operation};
+ghost use Rattle.vr_kv.specs.Kv.{applied, putting, getting, deleting, machine_after, IsKv};
+ghost use Rattle.vr_kv.specs.Meaning.{Means};
+ghost use Rattle.vr_kv.specs.Pairs.{Fits, pair_text, kv_text, kv_decoded};
 ghost use Rattle.vr_kv.specs.Places.{IsAt, IsGap};
 ghost use Rattle.vr_table.specs.Finite.{byte_order};
+ghost use Rattle.vr_table.specs.Table.{IsOrNoMemory, IsFirstFault};
 
+use crate::decode::read_pairs;
+use crate::encode::encode_pairs;
 use crate::pair::{Pair, new_pair};
 use std::alloc::{AllocError, Global};
 use std::marker::Model;
+use vr_base::ByteList;
 use vr_header::{Key, Operation, Outcome, Value};
+use vr_table::StateFault;
 
 /// How many keys a machine holds at most.
 pub const KEYS: usize = 128;
@@ -51,8 +58,20 @@ impl Kv {
 
     /// Applies an operation. A put of a new key is `Full` exactly where 128 keys are there, and then changes nothing;
     /// a get or a delete is `Absent` exactly where the key isn't there. An `Err` is want of memory, and changes nothing.
-    #[tactic(auto, unfolding(crate::specs::Kv::applied, crate::specs::Kv::getting))]
     pub fn apply(&mut self, operation: &Operation) -> Result<Outcome, AllocError>
+        ensures outcome { IfOk result (λ outcome. outcome ≡ (applied self.old operation.now).outcome) }
+        ensures machine { IfOk result (λ _. self.new ≡ (applied self.old operation.now).machine) }
+        ensures meaning { IfOk result (λ outcome. Means self.old operation.now outcome self.new) }
+        ensures fold { (before : List Operation) → self.old ≡ machine_after before → IfOk result (λ _. self.new ≡ machine_after (before ++ operation.now ∷ [])) }
+        ensures err { OnErr result (self.new ≡ self.old) }
+    {
+        let _keys = self.len();
+        let outcome = self.change(operation)?;
+        Ok(outcome)
+    }
+
+    #[tactic(auto, unfolding(crate::specs::Kv::applied, crate::specs::Kv::getting))]
+    fn change(&mut self, operation: &Operation) -> Result<Outcome, AllocError>
         ensures outcome { IfOk result (λ outcome. outcome ≡ (applied self.old operation.now).outcome) }
         ensures machine { IfOk result (λ _. self.new ≡ (applied self.old operation.now).machine) }
         ensures err { OnErr result (self.new ≡ self.old) }
@@ -63,6 +82,28 @@ impl Kv {
             Operation::Get(key) => self.get(key),
             Operation::Delete(key) => Ok(self.delete(key)),
         }
+    }
+
+    /// The text of this machine, of at most 139,650 bytes: how many keys, in two bytes, and for each key in byte order
+    /// its length in one byte, its value's in two, the key, the value. It is made in one pass with one allocation.
+    pub fn encode_state(&self) -> Result<ByteList, AllocError>
+        ensures text { IfOk result (λ text. text ≡ kv_text self.now) }
+        ensures length { IfOk result (λ text. length text ≤ 139650) }
+        ensures back { IfOk result (λ text. kv_decoded text ≡ Ok self.now) }
+        ensures one_text { (other : List (List ℕ × List ℕ)) → IsKv other → kv_text other ≡ kv_text self.now → other ≡ self.now }
+    {
+        encode_pairs(self.alloc, &self.pairs)
+    }
+
+    /// The machine of this text, or the first fault from the front.
+    pub fn decode_state(alloc: Global, bytes: &[u8]) -> Result<Kv, StateFault>
+        ensures decoded { IfOk result (λ machine. kv_decoded bytes.now ≡ Ok machine) }
+        ensures text { IfOk result (λ machine. kv_text machine ≡ bytes.now) }
+        ensures fault { IfErr result (IsOrNoMemory (kv_decoded bytes.now)) }
+        ensures first { IfErr result (IsFirstFault byte_order pair_text Fits 128 bytes.now) }
+    {
+        let pairs = read_pairs(alloc, bytes)?.into_vec();
+        Ok(Kv { alloc, pairs })
     }
 
     fn put(&mut self, key: &Key, value: &Value) -> Result<Outcome, AllocError>

@@ -2,9 +2,13 @@
 #![tactic(auto)]
 
 mod decode;
+mod encode;
 mod kv;
 mod machine;
 mod pair;
 
 pub use kv::{KEYS, Kv};
 pub use machine::Machine;
+
+#[cfg(test)]
+mod tests;

@@ -12,7 +12,7 @@ use Rattle.vr_table.specs.declared.fault.StateFault.TheVariants.{Torn, NotSorted
 use Rattle.vr_table.specs.Finite.{is_sorted, IsMap}
 use Rattle.vr_base.specs.Bytes.{IsBytes, bytes16}
 use Rattle.vr_table.specs.Front.{number_from}
-use Rattle.vr_table.specs.Table.{count_from, table_text, read_on, counted, decoded, BeginsWith, FirstFault, IsTextOf, IsJudged}
+use Rattle.vr_table.specs.Table.{count_from, table_text, read_on, counted, decoded, BeginsWith, FirstFault, IsTextOf, IsJudged, IsOrNoMemory, IsFirstFault}
 use Rattle.vr_table.specs.Table.FirstFault.{no_count, too_many, torn_entry, lower_key, left_over}
 use Rattle.vr_table.proofs.Maps.{IsMap-front}
 use Rattle.vr_table.proofs.Fronts.{IsBytes-behind, number_reads, number_only, number_small, field16, same_some}
@@ -154,6 +154,20 @@ module _ {K V : Type 0} (order : K → K → Ordering) (text : K × V → List �
   pub decoded_is_judged : (limit : ℕ) (bytes : List ℕ) → IsBytes bytes → IsJudged order text Fits limit bytes (decoded order read limit bytes)
   unfolding decoded count_from
   decoded_is_judged limit bytes are = judged_counted limit bytes are (number_from w16 bytes) refl
+
+  met_first : (limit : ℕ) (bytes : List ℕ) → IsBytes bytes → (fault : StateFault) → decoded order read limit bytes ≡ Err fault → FirstFault order text Fits limit bytes fault
+  met_first limit bytes are fault is = subst (IsJudged order text Fits limit bytes) is (decoded_is_judged limit bytes are)
+
+  -- a fault that is `decoded`'s is the first
+  pub decoded_first : (limit : ℕ) (bytes : List ℕ) → IsBytes bytes → (fault : StateFault) → IsOrNoMemory (decoded order read limit bytes) fault → IsFirstFault order text Fits limit bytes fault
+  decoded_first limit bytes are Torn is = met_first limit bytes are Torn is
+  decoded_first limit bytes are NotSorted is = met_first limit bytes are NotSorted is
+  decoded_first limit bytes are TooMany is = met_first limit bytes are TooMany is
+  decoded_first limit bytes are NoMemory is = tt
+
+  -- what was read is a map that fits, and the bytes are its text
+  pub decoded_found : (limit : ℕ) (bytes : List ℕ) → IsBytes bytes → (es : List (K × V)) → decoded order read limit bytes ≡ Ok es → IsTextOf order text Fits limit bytes es
+  decoded_found limit bytes are es is = subst (IsJudged order text Fits limit bytes) is (decoded_is_judged limit bytes are)
 
 -- when all entries are read, the table is whole exactly where no bytes are left
 module _ {K V : Type 0} (order : K → K → Ordering) (read : List ℕ → Option ((K × V) × List ℕ)) where

@@ -68,6 +68,13 @@ module _ {K V : Type 0} (order : K → K → Ordering) (text : K × V → List �
   IsJudged (Ok es) = IsTextOf es
   IsJudged (Err fault) = FirstFault fault
 
+  -- the fault is the first, or it is want of memory
+  abbrev pub IsFirstFault : StateFault → Type 0
+  IsFirstFault Torn = FirstFault Torn
+  IsFirstFault NotSorted = FirstFault NotSorted
+  IsFirstFault TooMany = FirstFault TooMany
+  IsFirstFault NoMemory = Unit {0}
+
 -- the fault is this answer's, or it is want of memory
 abbrev pub IsOrNoMemory : {A : Type 0} → Result A StateFault → StateFault → Type 0
 IsOrNoMemory r Torn = r ≡ Err Torn
