@@ -1,1 +1,3 @@
+pub mod Ascending
+pub mod Lookups
 pub mod Values

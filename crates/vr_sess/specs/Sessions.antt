@@ -1,5 +1,5 @@
 -- Sessions: a finite map from clients to what was last executed for each, by whole requests.
-use Rattle.std.specs.Prelude.{◌≡◌, ℕ, ◌+◌, ◌<◌, ◌≤◌, ◌^◌, List, ◌++◌, ◌∷◌, length, Option, Some, None, is_some, nat_lt, ◌==◌, if◌then◌else◌, fold, IsTrue, All}
+use Rattle.std.specs.Prelude.{◌≡◌, ℕ, ◌+◌, ◌<◌, ◌≤◌, ◌^◌, List, ◌++◌, ◌∷◌, length, Option, Some, None, is_some, nat_lt, nat_le, ◌==◌, if◌then◌else◌, fold, IsTrue}
 use Rattle.std.specs.List.{AllByRecursion}
 use Rattle.std.specs.Option.{option_map_or, option_map}
 use Rattle.std.specs.Ordering.{nat_cmp}
@@ -26,17 +26,17 @@ judged request s =
 unfoldable pub checked : Map → ℕ → ℕ → SessionAnswer
 checked m client request = option_map_or (judged request) (find nat_cmp client m) (if request == 0 then Fresh else Evicted)
 
--- of two sessions the one with the lower last op, the first where they have one
-abbrev pub older : Option (ℕ × Session) → ℕ × Session → Option (ℕ × Session)
-older None e = Some e
-older (Some d) e = if nat_lt e.1.op d.1.op then Some e else Some d
+-- of two clients with the last ops of their sessions the one with the lower op, the first where both are one
+abbrev pub older : Option (ℕ × ℕ) → ℕ → ℕ → Option (ℕ × ℕ)
+older None client op = Some (client, op)
+older (Some d) client op = if nat_le d.1 op then Some d else Some (client, op)
 
--- the session that gives way, by going through all of them
-unfoldable pub oldest : Map → Option (ℕ × Session)
-oldest m = fold older None m
+-- the client whose session gives way, with the op, by going through all of them
+unfoldable pub oldest : Map → Option (ℕ × ℕ)
+oldest m = fold (λ d e. older d e.0 e.1.op) None m
 
 unfoldable pub without_oldest : Map → Map
-without_oldest m = option_map_or (λ e. without nat_cmp e.0 m) (oldest m) m
+without_oldest m = option_map_or (λ d. without nat_cmp d.0 m) (oldest m) m
 
 -- a request that was executed, as entry `op` of the log, and what it gave
 pub record Asked : Type 0 where
@@ -55,12 +55,13 @@ applied m a =
 
 -- the session whose last op is least, of several the one with the least client: those of lower clients have a higher op,
 -- and no op is lower
-pub record IsOldest (m : Map) (e : ℕ × Session) : Type 0 where
+pub record IsOldest (m : Map) (client : ℕ) : Type 0 where
+  pub session : Session
   pub before : Map
   pub after : Map
-  pub among : m ≡ before ++ (e ∷ after)
-  pub first : All (λ d. e.1.op < d.1.op) before
-  pub least : All (λ d. e.1.op ≤ d.1.op) after
+  pub among : m ≡ before ++ ((client, session) ∷ after)
+  pub first : AllByRecursion (λ d. session.op < d.1.op) before
+  pub least : AllByRecursion (λ d. session.op ≤ d.1.op) after
 
 -- a value of 1 to 1,024 bytes
 abbrev pub OutcomeFits : Outcome → Type 0

@@ -1,9 +1,9 @@
 //! The map that holds the sessions, its clients ascending.
-ghost use Rattle.std.specs.Prelude.{◌≡◌, OnOk, OnErr};
+ghost use Rattle.std.specs.Prelude.{◌≡◌, [], ◌∷◌, ◌++◌, OnOk, OnErr};
 ghost use Rattle.std.specs.Ordering.{nat_cmp};
-ghost use Rattle.std.specs.Option.{option_map};
-ghost use Rattle.vr_table.specs.Finite.{put, without, IsMap};
-ghost use Rattle.vr_sess.specs.Sessions.{oldest};
+ghost use Rattle.vr_table.specs.Finite.{put, without, is_sorted, IsMap};
+ghost use Rattle.vr_sess.specs.Sessions.{older, oldest};
+ghost use Rattle.vr_sess.specs.declared.session.Session.{Session};
 
 use crate::Session;
 use indexmap::IndexMap;
@@ -30,24 +30,51 @@ pub fn remove(table: &mut Table, client: u64)
     let _session = table.shift_remove(&client);
 }
 
-/// The client of the session whose last op is least, of several the least client; `None` where there is no session.
+/// The client of the session whose last op is least, of several the least client, with that op; `None` where there is
+/// no session.
 #[tactic(auto, unfolding(crate::specs::Sessions::oldest))]
-pub fn oldest(table: &Table) -> Option<u64>
-    ensures { result ≡ option_map (λ e. e.0) (oldest table.now.entries) }
+pub fn oldest(table: &Table) -> Option<(u64, u64)>
+    ensures { result ≡ oldest table.now.entries }
 {
-    let mut found: Option<(u64, u64)> = None;
+    let mut found = None;
     for (client, session) in table.iter() {
         found = older(found, *client, session.op);
     }
-    found.map(|(client, _)| client)
+    found
 }
 
-/// Of two clients with the ops of their sessions the one with the lower op, the first where both are one.
+/// Of two clients with the last ops of their sessions the one with the lower op, the first where both are one.
 fn older(found: Option<(u64, u64)>, client: u64, op: u64) -> Option<(u64, u64)>
-    ensures { result ≡ lower found (client, op) }
+    ensures { result ≡ older found client op }
 {
     match found {
-        Some((before, least)) if least <= op => Some((before, least)),
-        _ => Some((client, op)),
+        None => Some((client, op)),
+        Some((before, least)) => {
+            if least <= op {
+                Some((before, least))
+            } else {
+                Some((client, op))
+            }
+        }
     }
+}
+
+/// Whether the client stands above the last.
+pub fn follows(table: &Table, client: u64) -> bool
+    requires { IsMap nat_cmp table.now.entries }
+    ensures { (session : Session) → result ≡ is_sorted nat_cmp (table.now.entries ++ (client, session) ∷ []) }
+{
+    match table.last() {
+        None => true,
+        Some((last, _)) => *last < client,
+    }
+}
+
+/// Puts a client that stands above the last at the end.
+pub fn push(table: &mut Table, client: u64, session: Session) -> Result<(), AllocError>
+    requires { IsMap nat_cmp (table.old.entries ++ (client, session) ∷ []) }
+    ensures ok { OnOk result (table.new.entries ≡ table.old.entries ++ (client, session) ∷ []) }
+{
+    table.insert(client, session)?;
+    Ok(())
 }

@@ -11,7 +11,7 @@ use vr_header::{Outcome, Value};
 use vr_table::{split_byte, split_piece, split_u16, split_u32, split_u64};
 
 /// Adds the bytes of a client's session at the end.
-#[tactic(auto, using(std::proofs::lemmas::Grind::common_steps), unfolding(crate::specs::Texts::session_text, vr_base::specs::Bytes::bytes32, vr_base::specs::Bytes::bytes64))]
+
 pub fn write_session(text: &mut ByteList, client: u64, session: &Session) -> Result<(), AllocError>
     ensures { OnOk result (text.new ≡ text.old ++ session_text (client, session.now)) }
 {
