@@ -9,7 +9,7 @@ use Rattle.std.proofs.lemmas.Bool.Decides.{nat_tests}
 use Rattle.std.proofs.lemmas.Map.Keys.{IsDistinct-head, IsDistinct-tail}
 use Rattle.vr_table.specs.Finite.{is_sorted, IsMap}
 
-is_lt_nat_cmp : (x y : ℕ) → is_lt (nat_cmp x y) ≡ ltb x y
+pub is_lt_nat_cmp : (x y : ℕ) → is_lt (nat_cmp x y) ≡ ltb x y
 is_lt_nat_cmp x y = grind (arith, nat_tests)
 
 module _ {X : Type 0} where

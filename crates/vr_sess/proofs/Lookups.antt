@@ -1,5 +1,5 @@
 -- What a map by its hash table finds and changes, in the words of maps with ascending keys.
-use Rattle.std.proofs.Common.{◌≡◌, ℕ, List, [], ◌∷◌, map, Option, Some, None, Bool, true, false, T, not, eqb, cond, refl, sym, ◌∙◌, ap, subst}
+use Rattle.std.proofs.Common.{◌≡◌, ℕ, ◌<◌, List, [], ◌∷◌, ◌++◌, map, Option, Some, None, Bool, true, false, T, not, eqb, cond, refl, sym, ◌∙◌, ap, subst, arith}
 use Rattle.std.specs.List.{IsDistinct}
 use Rattle.std.specs.List.Sorted.{IsSorted}
 use Rattle.std.specs.Map.{lookup, remove_entry}
@@ -8,10 +8,11 @@ use Rattle.std.specs.declared.cmp.Ordering.TheVariants.{Less, Equal, Greater}
 use Rattle.std.specs.Cmp.{nat_cmp_total, unsigned_ties, IsTotalOrder}
 use Rattle.std.specs.FinMap.{nat_cmp-IsAntisymmetric}
 use Rattle.std.specs.FinMap.Entries.{below_all, is_sorted-put, is_sorted-where_key, find-put, same_entries}
-use Rattle.std.proofs.lemmas.Bool.{and_parts, eqb-true, eq-eqb, ne_eqb, eqb-false}
+use Rattle.std.proofs.lemmas.Bool.{and_parts, ltb-true, eqb-true, eq-eqb, ne_eqb, eqb-false}
+use Rattle.indexmap.specs.IndexMap.{insert_entry}
 use Rattle.vr_table.specs.Finite.{find, put, is_sorted, without, IsMap}
 use Rattle.vr_table.proofs.Maps.{less, T_true, true_T}
-use Rattle.vr_sess.proofs.Ascending.{keys_in_order, ascending_from}
+use Rattle.vr_sess.proofs.Ascending.{is_lt_nat_cmp, keys_in_order, ascending_from}
 
 eqb_flip : (x y : ℕ) → eqb x y ≡ eqb y x
 eqb_flip x y =
@@ -52,3 +53,15 @@ module _ {X : Type 0} where
       same_entries nat_cmp nat_cmp_total nat_cmp-IsAntisymmetric new (put nat_cmp key v old) (T_true _ ascends) (is_sorted-put nat_cmp nat_cmp_total key v old (T_true _ h))
       (λ q. sym (lookup_is_find q new) ∙ (answers q ∙ (ap (λ b. cond b (Some v) (lookup (eqb q) old)) (eqb_flip key q ∙ unsigned_ties q key)
           ∙ (ap (λ o. cond (eq_by_cmp nat_cmp q key) (Some v) o) (lookup_is_find q old) ∙ sym (find-put nat_cmp nat_cmp_total q key v old)))))
+
+  below_last : (low : ℕ) (es : List (ℕ × X)) (key : ℕ) (v : X) → below_all nat_cmp low (es ++ (key, v) ∷ []) ≡ true → low < key
+  below_last low [] key v h = ltb-true low key (sym (is_lt_nat_cmp low key) ∙ (and_parts (is_lt (nat_cmp low key)) true h).0)
+  below_last low (e ∷ es) key v h = below_last low es key v (and_parts (is_lt (nat_cmp low e.0)) (below_all nat_cmp low (es ++ (key, v) ∷ [])) h).1
+
+  -- a key that stands above the last goes to the end
+  pub insert_entry_end : (es : List (ℕ × X)) (key : ℕ) (v : X) → IsMap nat_cmp (es ++ (key, v) ∷ []) → insert_entry eqb es key v ≡ es ++ (key, v) ∷ []
+  insert_entry_end [] key v h = refl
+  insert_entry_end (e ∷ es) key v h =
+      let parts = and_parts (below_all nat_cmp e.0 (es ++ (key, v) ∷ [])) (is_sorted nat_cmp (es ++ (key, v) ∷ [])) h in
+      let lower = below_last e.0 es key v parts.0 in
+      rw (ne_eqb key e.0 (λ same. omega arith)) (ap (λ xs. e ∷ xs) (insert_entry_end es key v parts.1))

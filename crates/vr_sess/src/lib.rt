@@ -9,3 +9,6 @@ mod text;
 
 pub use session::{Session, SessionAnswer};
 pub use sessions::{SESSIONS, Sessions};
+
+#[cfg(test)]
+mod tests;

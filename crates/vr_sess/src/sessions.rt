@@ -4,7 +4,7 @@ ghost use Rattle.std.specs.Ordering.{nat_cmp};
 ghost use Rattle.vr_table.specs.Table.{IsOrNoMemory, IsFirstFault};
 ghost use Rattle.vr_sess.specs.Asks.{sessions_after, AtMostOnce};
 ghost use Rattle.vr_sess.specs.Effects.{Effect};
-ghost use Rattle.vr_sess.specs.Sessions.{Map, Asked, checked, applied, Fits, IsSessions};
+ghost use Rattle.vr_sess.specs.Sessions.{Map, Asked, checked, applied, Fits, OutcomeFits, IsSessions};
 ghost use Rattle.vr_sess.specs.Texts.{session_text, sessions_text, sessions_decoded};
 
 use crate::codec::{encode_table, read_table};
@@ -90,6 +90,7 @@ impl Sessions {
     }
 
     fn store(&mut self, op: u64, client: u64, request: u32, outcome: &Outcome) -> Result<(), AllocError>
+        ensures fits { OnOk result (OutcomeFits outcome.now) }
         ensures ok { OnOk result (self.new ≡ applied self.old (record { op = op; client = client; request = request; outcome = outcome.now })) }
         ensures err { OnErr result (self.new ≡ self.old) }
     {
@@ -102,10 +103,12 @@ impl Sessions {
             insert(&mut self.table, client, session)?;
             return Ok(());
         }
-        let least = oldest(&self.table);
-        insert(&mut self.table, client, session)?;
-        if let Some((least, _)) = least {
-            remove(&mut self.table, least);
+        match oldest(&self.table) {
+            None => insert(&mut self.table, client, session)?,
+            Some((least, _)) => {
+                insert(&mut self.table, client, session)?;
+                remove(&mut self.table, least);
+            }
         }
         Ok(())
     }
