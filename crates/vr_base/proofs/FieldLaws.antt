@@ -86,3 +86,6 @@ byte_of k x t e = let z : k + 0 ≡ k = omega arith in ap (λ n. get_or t n 0) (
 pub byte_back : (k : ℕ) (t : List ℕ) → k < length t → get_or t k 0 ∷ [] ≡ piece k 1 t
 unfolding piece
 byte_back k t l = rw (drop-cons t k 0) refl
+
+pub IsBytes-drop : (k : ℕ) (t : List ℕ) → IsBytes t → IsBytes (drop k t)
+IsBytes-drop k t h i = rw (get_or-drop k t i 0) (h (k + i))

@@ -1,5 +1,5 @@
 //! Names of bytes.
-ghost use Rattle.std.specs.Prelude.{◌≡◌, length};
+ghost use Rattle.std.specs.Prelude.{◌≡◌, ◌≤◌, ◌++◌, length, take};
 ghost use Rattle.vr_base.specs.Bytes.{name_of};
 
 use sha2::{Digest, Sha256};
@@ -13,9 +13,26 @@ pub struct Sum(pub [u8; 16]);
 pub fn checksum(bytes: &[u8]) -> Sum
     ensures { result.0 ≡ name_of bytes.now }
 {
-    let digest = Sha256::digest(bytes);
-    let all: &[u8] = &digest;
-    Sum(sixteen(&all[..16]))
+    front(&Sha256::digest(bytes))
+}
+
+/// The name of three pieces taken as one.
+#[tactic(auto, unfolding(crate::specs::Bytes::name_of))]
+pub fn checksum_of_parts(first: &[u8], second: &[u8], third: &[u8]) -> Sum
+    ensures { result.0 ≡ name_of (first.now ++ (second.now ++ third.now)) }
+{
+    let mut hasher = Sha256::new();
+    hasher.update(first);
+    hasher.update(second);
+    hasher.update(third);
+    front(&hasher.finalize())
+}
+
+fn front(digest: &[u8]) -> Sum
+    requires { 16 ≤ length digest.now }
+    ensures { result.0 ≡ take 16 digest.now }
+{
+    Sum(sixteen(&digest[..16]))
 }
 
 /// These 16 bytes as an array.

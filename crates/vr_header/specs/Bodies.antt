@@ -1,10 +1,13 @@
 -- The bytes of operations and outcomes.
-use Rattle.std.specs.Prelude.{ℕ, List, [], ◌∷◌, ◌++◌, length}
+use Rattle.std.specs.Prelude.{ℕ, ◌==◌, ◌&&◌, nat_lt, IsTrue, ⊤, if◌then◌else◌, List, [], ◌∷◌, ◌++◌, length, take, drop, Option, Some, None}
+use Rattle.std.specs.Option.{option_map}
+use Rattle.std.specs.Int.{from_be_bytes, w16}
 use Rattle.vr_base.specs.Bytes.{bytes16}
 use Rattle.vr_header.specs.declared.operation.Operation.{Operation}
 use Rattle.vr_header.specs.declared.operation.Operation.TheVariants.{Register, Put, Get, Delete}
 use Rattle.vr_header.specs.declared.outcome.Outcome.{Outcome}
 use Rattle.vr_header.specs.declared.outcome.Outcome.TheVariants as outcome
+use Rattle.vr_header.specs.Text.{is_text, text_of}
 
 -- a number of the kind, a key behind its length of one byte, a value behind its length of two bytes
 unfoldable pub operation_bytes : Operation → List ℕ
@@ -19,3 +22,59 @@ outcome_bytes outcome.Ok = 2 ∷ []
 outcome_bytes outcome.Full = 3 ∷ []
 outcome_bytes outcome.Absent = 4 ∷ []
 outcome_bytes (outcome.Value value) = (5 ∷ bytes16 (length value)) ++ value
+
+-- the values that an operation of the program has: a key has 1 to 64 bytes and a value 1 to 1,024, each byte from 33 to 126
+abbrev pub IsOperation : Operation → Type 0
+IsOperation Register = ⊤
+IsOperation (Put key value) = IsTrue (is_text 64 key) × IsTrue (is_text 1024 value)
+IsOperation (Get key) = IsTrue (is_text 64 key)
+IsOperation (Delete key) = IsTrue (is_text 64 key)
+
+abbrev pub IsOutcome : Outcome → Type 0
+IsOutcome outcome.Session = ⊤
+IsOutcome outcome.Ok = ⊤
+IsOutcome outcome.Full = ⊤
+IsOutcome outcome.Absent = ⊤
+IsOutcome (outcome.Value value) = IsTrue (is_text 1024 value)
+
+-- a key behind its length
+unfoldable pub key_of : List ℕ → Option (List ℕ)
+key_of [] = None
+key_of (n ∷ key) = if length key == n then text_of 64 key else None
+
+-- a value behind its length
+unfoldable pub value_of : List ℕ → Option (List ℕ)
+value_of [] = None
+value_of (high ∷ []) = None
+value_of (high ∷ low ∷ value) = if length value == from_be_bytes w16 (high ∷ low ∷ []) then text_of 1024 value else None
+
+-- a key and a value behind both lengths
+unfoldable pub pair_of : List ℕ → Option Operation
+pair_of [] = None
+pair_of (n ∷ []) = None
+pair_of (n ∷ high ∷ []) = None
+pair_of (n ∷ high ∷ low ∷ texts) =
+    if nat_lt (length texts) n then None
+    else (if (length (drop n texts) == from_be_bytes w16 (high ∷ low ∷ [])) && (is_text 64 (take n texts) && is_text 1024 (drop n texts))
+    then Some (Put (take n texts) (drop n texts)) else None)
+
+-- the operation that these bytes are, None where they are none
+unfoldable pub operation_of : List ℕ → Option Operation
+operation_of [] = None
+operation_of (kind ∷ rest) =
+    if kind == 1 then (if length rest == 0 then Some Register else None)
+    else (if kind == 2 then pair_of rest
+    else (if kind == 3 then option_map Get (key_of rest)
+    else (if kind == 4 then option_map Delete (key_of rest) else None)))
+
+-- the outcome that these bytes are, None where they are none
+unfoldable pub outcome_of : List ℕ → Option Outcome
+outcome_of [] = None
+outcome_of (kind ∷ rest) =
+    if kind == 5 then option_map outcome.Value (value_of rest)
+    else (if length rest == 0
+    then (if kind == 1 then Some outcome.Session
+    else (if kind == 2 then Some outcome.Ok
+    else (if kind == 3 then Some outcome.Full
+    else (if kind == 4 then Some outcome.Absent else None))))
+    else None)

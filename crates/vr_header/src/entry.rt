@@ -1,10 +1,18 @@
 //! Entries of the log.
-ghost use Rattle.std.specs.Prelude.{◌≡◌, IfOk};
-ghost use Rattle.vr_header.specs.Made.{IsEntry, Whole};
+ghost use Rattle.std.specs.Prelude.{◌≡◌, ◌+◌, ◌-◌, ◌^◌, ◌<◌, ◌≤◌, ◌++◌, Some, IfOk, IfSome, OnOk, length};
+ghost use Rattle.std.specs.Option.{option_map};
+ghost use Rattle.vr_base.specs.Bytes.{name_of};
+ghost use Rattle.vr_header.specs.Bodies.{IsOperation};
+ghost use Rattle.vr_header.specs.Made.{IsEntry, IsRequest, Whole, entry_bytes, entry_of, made_by};
+ghost use Rattle.vr_header.specs.Spelling.{IsHeader};
+ghost use Rattle.vr_header.specs.Views.{entry_seen, operation_seen};
 
-use crate::{Header, Operation};
+use crate::body::owned_operation;
+use crate::view::{EntryView, read_entry};
+use crate::{Command, Header, Operation, encode};
 use std::alloc::{AllocError, Global};
 use std::marker::Model;
+use vr_base::Sum;
 
 /// An entry of the log: its header with its operation.
 #[derive(Debug, Drop, PartialEq, Eq)]
@@ -34,6 +42,31 @@ impl Entry {
         Entry { header, operation }
     }
 
+    /// The entry of a request, made in this view for this op, on the entry of this name.
+    pub fn of_request(
+        request: &Header,
+        operation: Operation,
+        view: u32,
+        op: u64,
+        parent: Sum,
+    ) -> Entry
+        requires request { IsRequest request.now operation }
+        requires view { view < 2 ^ 32 - 1 }
+        requires op { (1 ≤ op) × (op ≤ 2 ^ 62) }
+        ensures { result ≡ made_by name_of request.now operation view op parent }
+    {
+        let header = Header {
+            parent,
+            request_name: request.name(),
+            view,
+            op,
+            size: operation.size(),
+            command: Command::Entry,
+            ..*request
+        };
+        Entry::new(header, operation)
+    }
+
     pub fn header(&self) -> Header
         ensures value { result ≡ self.now.header }
         ensures entry { IsEntry self.now }
@@ -54,4 +87,52 @@ impl Entry {
         let header = self.header();
         Ok(Entry::new(header, self.operation().try_clone(alloc)?))
     }
+
+    /// Adds the spelling at the end: the header, and the operation behind it. An `Err` may have added
+    /// some of it.
+    #[tactic(auto, using(std::proofs::lemmas::Grind::common_steps), unfolding(crate::specs::Made::entry_bytes))]
+    pub fn write(&self, to: &mut Vec<u8>) -> Result<(), AllocError>
+        ensures { OnOk result (to.new.items ≡ to.old.items ++ entry_bytes self.now) }
+    {
+        let header = encode(&self.header());
+        to.extend_from_slice(&header)?;
+        self.operation().write_body(to)
+    }
+
+    /// The header of the entry that the bytes spell, `None` exactly where they spell none.
+    pub fn header_in(bytes: &[u8]) -> Option<Header>
+        ensures { result ≡ option_map (λ e. e.header) (entry_of bytes.now) }
+    {
+        match read_entry(bytes) {
+            Some(view) => Some(view.header),
+            None => None,
+        }
+    }
+
+    /// The entry that the bytes spell, `None` exactly where they spell none.
+    pub fn decode(alloc: Global, bytes: &[u8]) -> Result<Option<Entry>, AllocError>
+        ensures exact { IfOk result (λ read. read ≡ entry_of bytes.now) }
+        ensures found { IfSome (entry_of bytes.now) (λ e. (bytes.now ≡ entry_bytes e) × IsEntry e × IsHeader e.header × IsOperation e.operation) }
+        ensures only { (e : Whole) → IsEntry e → IsHeader e.header → IsOperation e.operation → bytes.now ≡ entry_bytes e → entry_of bytes.now ≡ Some e }
+    {
+        made_entry(alloc, bytes)
+    }
+}
+
+fn made_entry(alloc: Global, bytes: &[u8]) -> Result<Option<Entry>, AllocError>
+    ensures { IfOk result (λ read. read ≡ entry_of bytes.now) }
+{
+    match read_entry(bytes) {
+        Some(view) => Ok(Some(owned_entry(alloc, view)?)),
+        None => Ok(None),
+    }
+}
+
+fn owned_entry(alloc: Global, view: EntryView<'_>) -> Result<Entry, AllocError>
+    requires entry { IsEntry (entry_seen view) }
+    requires operation { IsOperation (operation_seen view.operation) }
+    ensures { IfOk result (λ entry. entry ≡ entry_seen view.entry) }
+{
+    let operation = owned_operation(alloc, view.operation)?;
+    Ok(Entry::new(view.header, operation))
 }

@@ -1,7 +1,8 @@
 //! The header of 128 bytes that stands before each body.
 
-use crate::{Command, Size};
-use vr_base::{Seq, Sum};
+use crate::codec::{name_of_rest, written};
+use crate::{Command, Operation, Size};
+use vr_base::{Seq, Sum, checksum};
 
 /// The header of an entry, of a message, or of a record of the disk. A field that its command has no
 /// use for is zero.
@@ -51,4 +52,74 @@ pub enum HeaderFault {
     BadSize,
     /// Bytes 120 to 127 aren't zero.
     NotZero,
+}
+
+impl Header {
+    ghost use Rattle.std.specs.Prelude.{◌≡◌, ◌↔◌, IsTrue};
+    ghost use Rattle.vr_header.specs.Made.{IsEntryHeader, is_bare, is_entry_header};
+    ghost use Rattle.vr_header.specs.Names.{header_name, request_header, root_header};
+
+    /// What op 1 of a group stands on.
+    pub fn root(cluster: u64) -> Header
+        ensures { result ≡ root_header cluster }
+    {
+        Header {
+            body: checksum(&[]),
+            parent: Sum([0; 16]),
+            request_name: Sum([0; 16]),
+            cluster,
+            client: 0,
+            request: 0,
+            view: 0,
+            op: 0,
+            commit: 0,
+            size: Size::new(128),
+            command: Command::Root,
+            replica: 0,
+            kind: 0,
+            aux: 0,
+        }
+    }
+
+    /// The header of a client's request, with the request's number.
+    pub fn of_request(cluster: u64, client: u64, request: u32, operation: &Operation) -> Header
+        ensures { result ≡ request_header cluster client request operation.now }
+    {
+        Header {
+            body: operation.body_name(),
+            client,
+            request,
+            size: operation.size(),
+            command: Command::Request,
+            ..Header::root(cluster)
+        }
+    }
+
+    /// The name of this header: of its bytes 16 to 127.
+    pub fn name(&self) -> Sum
+        ensures { result ≡ header_name self.now }
+    {
+        name_of_rest(&written(*self))
+    }
+
+    /// Whether an entry may have this header.
+    pub fn is_entry(&self) -> bool
+        ensures value { result ≡ is_entry_header self.now }
+        ensures meaning { IsTrue result ↔ IsEntryHeader self.now }
+    {
+        self.command == Command::Entry
+            && 128 < self.size.get()
+            && self.size.get() <= 2048
+            && self.view < u32::MAX
+            && 1 <= self.op
+            && self.op <= 1 << 62
+            && self.is_bare()
+    }
+
+    // Whether the fields that an entry has no use for are zero.
+    fn is_bare(&self) -> bool
+        ensures { result ≡ is_bare self.now }
+    {
+        self.commit == 0 && self.replica == 0 && self.kind == 0 && self.aux == 0
+    }
 }

@@ -1,6 +1,8 @@
 //! Headers, the operations and outcomes that stand behind them, and their bytes.
 #![tactic(auto)]
 
+mod body;
+mod codec;
 mod command;
 mod entry;
 mod header;
@@ -9,7 +11,9 @@ mod outcome;
 mod part;
 mod size;
 mod text;
+mod view;
 
+pub use codec::{decode, encode};
 pub use command::Command;
 pub use entry::Entry;
 pub use header::{Header, HeaderFault, HeaderList};
@@ -18,3 +22,6 @@ pub use outcome::Outcome;
 pub use part::Part;
 pub use size::Size;
 pub use text::{Key, Text, Value};
+
+#[cfg(test)]
+mod tests;

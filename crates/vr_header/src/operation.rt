@@ -1,5 +1,5 @@
 //! What a client asks of the machine.
-ghost use Rattle.std.specs.Prelude.{◌≡◌, IfOk};
+ghost use Rattle.std.specs.Prelude.{◌≡◌, ◌↔◌, IfOk, IsTrue};
 
 use crate::{Key, Value};
 use std::alloc::{AllocError, Global};
@@ -15,6 +15,17 @@ pub enum Operation {
 }
 
 impl Operation {
+    ghost use Rattle.vr_header.specs.declared.operation.Operation.TheVariants as Operation;
+    ghost use Rattle.vr_header.specs.Made.{is_register};
+
+    /// Whether it begins a session.
+    pub fn is_register(&self) -> bool
+        ensures value { result ≡ is_register self.now }
+        ensures meaning { IsTrue result ↔ (self.now ≡ Operation.Register) }
+    {
+        matches!(self, Operation::Register)
+    }
+
     /// The same operation.
     pub fn try_clone(&self, alloc: Global) -> Result<Operation, AllocError>
         ensures { IfOk result (λ copy. copy ≡ self.now) }

@@ -1,5 +1,5 @@
 //! The texts of keys and values.
-ghost use Rattle.std.specs.Prelude.{◌≡◌, IfOk, IsTrue, length};
+ghost use Rattle.std.specs.Prelude.{◌≡◌, ◌≤◌, IfOk, IsTrue, length};
 ghost use Rattle.std.specs.List.{list_all};
 ghost use Rattle.vr_header.specs.Text.{is_printable, is_text, text_of};
 
@@ -67,9 +67,11 @@ impl<const LIMIT: usize> Text<LIMIT> {
         Ok(Text { bytes })
     }
 
+    #[tactic(auto, using(crate::proofs::BodyLaws::text_limit))]
     pub fn as_slice(&self) -> &[u8]
         ensures bytes { result.now ≡ self.now }
         ensures text { IsTrue (is_text LIMIT self.now) }
+        ensures limit { length self.now ≤ LIMIT }
     {
         self.bytes.as_slice()
     }

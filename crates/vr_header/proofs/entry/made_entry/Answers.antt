@@ -1,0 +1,17 @@
+use Rattle.std.proofs.Common.{arith, sym, subst, Option}
+use Rattle.std.specs.Prelude.{IfSome}
+use Rattle.vr_header.specs.Made.{Whole}
+use Rattle.vr_header.proofs.EntryLaws.{IsSpelled, entry_found}
+use Rattle.vr_header.proofs.entry.made_entry.Goals as goal
+
+pub owned_entry-requires-clause-entry : goal.owned_entry-requires-clause-entry
+owned_entry-requires-clause-entry c =
+    let b = c.args.bytes.now in
+    let P : Option Whole → Type 0 = λ o. IfSome o (IsSpelled b) in
+    (subst P (sym c.in-Some.ensures) (entry_found b (λ i. omega (arith, c.type_inv.bytes i)))).1
+
+pub owned_entry-requires-clause-operation : goal.owned_entry-requires-clause-operation
+owned_entry-requires-clause-operation c =
+    let b = c.args.bytes.now in
+    let P : Option Whole → Type 0 = λ o. IfSome o (IsSpelled b) in
+    (subst P (sym c.in-Some.ensures) (entry_found b (λ i. omega (arith, c.type_inv.bytes i)))).3

@@ -1,0 +1,184 @@
+//! The 128 bytes of a header, both ways.
+ghost use Rattle.std.specs.Prelude.{◌≡◌, ◌≤◌, ◌<◌, ◌+◌, ◌++◌, length, take, drop, Some, None, Ok, IfOk, slice_index, IsTrue};
+ghost use Rattle.vr_base.specs.Bytes.{name_of};
+ghost use Rattle.vr_header.specs.declared.header.Header.{Header};
+ghost use Rattle.vr_header.specs.Spelling.{Spells, IsHeader, code_of, command_of, decoded, fault_of, header_at, header_bytes, is_named, is_size, named_bytes};
+
+use crate::{Command, Header, HeaderFault, Size};
+use vr_base::{Sum, checksum, put, put_sum, put_u32, put_u64, sum_at, u32_at, u64_at};
+
+/// The header that the first 128 bytes spell, or the first fault that applies.
+pub fn decode(bytes: &[u8]) -> Result<Header, HeaderFault>
+    ensures exact { result ≡ decoded bytes.now }
+    ensures found { IfOk result (λ h. Spells h bytes.now × IsHeader h) }
+    ensures only { (h : Header) → IsHeader h → Spells h bytes.now → result ≡ Ok h }
+{
+    read(bytes)
+}
+
+fn read(bytes: &[u8]) -> Result<Header, HeaderFault>
+    ensures { result ≡ decoded bytes.now }
+{
+    match fault_of(bytes) {
+        Some(fault) => Err(fault),
+        None => Ok(header_at(bytes)),
+    }
+}
+
+#[tactic(auto, using(std::proofs::lemmas::Grind::common_steps), unfolding(crate::specs::Spelling::fault_of))]
+fn fault_of(bytes: &[u8]) -> Option<HeaderFault>
+    ensures { result ≡ fault_of bytes.now }
+{
+    if bytes.len() < 128 {
+        return Some(HeaderFault::Short);
+    }
+    if !is_named(bytes) {
+        return Some(HeaderFault::BadSum);
+    }
+    if command_of(bytes[108]).is_none() {
+        return Some(HeaderFault::BadCommand);
+    }
+    if bytes[110] != 1 {
+        return Some(HeaderFault::BadVersion);
+    }
+    if !is_size(u32_at(bytes, 104)) {
+        return Some(HeaderFault::BadSize);
+    }
+    if u64_at(bytes, 120) != 0 {
+        return Some(HeaderFault::NotZero);
+    }
+    None
+}
+
+#[tactic(auto, unfolding(crate::specs::Spelling::is_named, vr_base::specs::Bytes::piece))]
+fn is_named(bytes: &[u8]) -> bool
+    requires { 128 ≤ length bytes.now }
+    ensures { result ≡ is_named bytes.now }
+{
+    let (front, _) = bytes.split_at(128);
+    let (sum, named) = front.split_at(16);
+    let right = checksum(named);
+    sum == right.0.as_slice()
+}
+
+fn is_size(bytes: u32) -> bool
+    ensures { result ≡ is_size bytes }
+{
+    128 <= bytes && bytes <= 20480
+}
+
+#[tactic(auto, unfolding(crate::specs::Spelling::command_of))]
+fn command_of(code: u8) -> Option<Command>
+    ensures { result ≡ command_of code }
+{
+    match code {
+        1 => Some(Command::Reserved),
+        2 => Some(Command::Root),
+        3 => Some(Command::Entry),
+        4 => Some(Command::Request),
+        5 => Some(Command::Reply),
+        6 => Some(Command::Prepare),
+        7 => Some(Command::PrepareOk),
+        8 => Some(Command::Commit),
+        9 => Some(Command::StartViewChange),
+        10 => Some(Command::DoViewChange),
+        11 => Some(Command::StartView),
+        12 => Some(Command::GetView),
+        13 => Some(Command::GetPrepare),
+        14 => Some(Command::GivePrepare),
+        15 => Some(Command::GetBlock),
+        16 => Some(Command::GiveBlock),
+        17 => Some(Command::Block),
+        _ => None,
+    }
+}
+
+fn code_of(command: Command) -> u8
+    ensures { result ≡ code_of command }
+{
+    match command {
+        Command::Reserved => 1,
+        Command::Root => 2,
+        Command::Entry => 3,
+        Command::Request => 4,
+        Command::Reply => 5,
+        Command::Prepare => 6,
+        Command::PrepareOk => 7,
+        Command::Commit => 8,
+        Command::StartViewChange => 9,
+        Command::DoViewChange => 10,
+        Command::StartView => 11,
+        Command::GetView => 12,
+        Command::GetPrepare => 13,
+        Command::GivePrepare => 14,
+        Command::GetBlock => 15,
+        Command::GiveBlock => 16,
+        Command::Block => 17,
+    }
+}
+
+#[tactic(auto, using(crate::proofs::Faults::no_fault), unfolding(crate::specs::Spelling::header_at))]
+fn header_at(bytes: &[u8]) -> Header
+    requires { fault_of bytes.now ≡ None }
+    ensures { result ≡ header_at bytes.now }
+{
+    Header {
+        body: sum_at(bytes, 16),
+        parent: sum_at(bytes, 32),
+        request_name: sum_at(bytes, 48),
+        cluster: u64_at(bytes, 64),
+        client: u64_at(bytes, 72),
+        request: u32_at(bytes, 80),
+        view: u32_at(bytes, 84),
+        op: u64_at(bytes, 88),
+        commit: u64_at(bytes, 96),
+        size: Size::new(u32_at(bytes, 104)),
+        command: command_of(bytes[108]).unwrap_or(Command::Reserved),
+        replica: bytes[109],
+        kind: bytes[111],
+        aux: u64_at(bytes, 112),
+    }
+}
+
+/// The one spelling of a header.
+pub fn encode(h: &Header) -> [u8; 128]
+    ensures bytes { result ≡ header_bytes h.now }
+    ensures header { IsHeader h.now }
+    ensures again { decoded result ≡ Ok h.now }
+{
+    let mut out = written(*h);
+    let name = name_of_rest(&out);
+    put_sum(&mut out, 0, name);
+    out
+}
+
+// The name of the bytes from 16 on.
+pub(crate) fn name_of_rest(bytes: &[u8]) -> Sum
+    requires { 16 ≤ length bytes.now }
+    ensures { result.0 ≡ name_of (drop 16 bytes.now) }
+{
+    let (_, rest) = bytes.split_at(16);
+    checksum(rest)
+}
+
+// Bytes 16 to 127; the first 16 are zero.
+pub(crate) fn written(h: Header) -> [u8; 128]
+    ensures bytes { drop 16 result ≡ named_bytes h }
+    ensures header { IsHeader h }
+{
+    let mut out = [0; 128];
+    put_sum(&mut out, 16, h.body);
+    put_sum(&mut out, 32, h.parent);
+    put_sum(&mut out, 48, h.request_name);
+    put_u64(&mut out, 64, h.cluster);
+    put_u64(&mut out, 72, h.client);
+    put_u32(&mut out, 80, h.request);
+    put_u32(&mut out, 84, h.view);
+    put_u64(&mut out, 88, h.op);
+    put_u64(&mut out, 96, h.commit);
+    put_u32(&mut out, 104, h.size.get());
+    put(&mut out, 108, &[code_of(h.command), h.replica, 1, h.kind]);
+    put_u64(&mut out, 112, h.aux);
+    put(&mut out, 120, &[0; 8]);
+    out
+}
