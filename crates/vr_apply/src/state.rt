@@ -44,8 +44,19 @@ impl State {
 
     /// Applies an entry: where its request is fresh, its operation changes the machine and the outcome is stored; else
     /// nothing changes. After an `Err`, want of memory, the machine alone may have changed.
-    #[tactic(auto, unfolding(crate::specs::Folds::applied))]
     pub fn apply(&mut self, entry: &Entry) -> Result<ReplyBody, AllocError>
+        ensures reply { IfOk result (λ reply. reply ≡ (applied self.old entry.now).reply) }
+        ensures state { IfOk result (λ _. self.new ≡ (applied self.old entry.now).state) }
+        ensures fold { (before : List Whole) → self.old ≡ state_after before → IfOk result (λ _. self.new ≡ state_after (before ++ entry.now ∷ [])) }
+        ensures each_once { EachOnce }
+        ensures err { OnErr result (LeavesOneTable self.old self.new entry.now) }
+    {
+        let reply = self.take(entry)?;
+        Ok(reply)
+    }
+
+    #[tactic(auto, unfolding(crate::specs::Folds::applied))]
+    fn take(&mut self, entry: &Entry) -> Result<ReplyBody, AllocError>
         ensures reply { IfOk result (λ reply. reply ≡ (applied self.old entry.now).reply) }
         ensures state { IfOk result (λ _. self.new ≡ (applied self.old entry.now).state) }
         ensures err { OnErr result (LeavesOneTable self.old self.new entry.now) }
@@ -92,6 +103,7 @@ impl State {
         ensures size { IfOk result (λ texts. length texts.sessions + length texts.keys ≤ 173156) }
         ensures payloads { IfOk result FitsPayloads }
         ensures back { IfOk result (λ texts. state_decoded texts ≡ Ok self.now) }
+        ensures one_text { IfOk result (λ texts. (other : State) → IsSessions other.sessions → IsKv other.machine → texts_of other ≡ texts → other ≡ self.now) }
     {
         let sessions = self.sessions.encode_state()?;
         let keys = self.machine.encode_state()?;
