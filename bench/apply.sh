@@ -1,0 +1,28 @@
+#!/bin/sh
+# Instructions of one apply (check, the machine's apply, the sessions' apply), over a million applies of four clients on
+# 128 keys, and of the same in plain Rust with std's BTreeMap. Needs valgrind, and rustc for the second.
+set -eu
+top=$(cd "$(dirname "$0")/.." && pwd)
+work=$(mktemp -d)
+trap 'rm -rf "$work"' EXIT
+mkdir "$work/crates"
+names='vr_base vr_header vr_table vr_kv vr_sess vr_apply'
+for name in $names; do
+    cp -r "$top/crates/$name" "$work/crates/$name"
+done
+cp -r "$top/bench/apply" "$work/crates/apply_bench"
+rm "$work/crates/apply_bench/plain.rs"
+grep -E '^(vr_base|vr_header|vr_table|vr_kv|vr_sess|vr_apply):' "$top/crates.txt" > "$work/crates.txt"
+echo 'apply_bench: vr_header vr_sess vr_kv vr_apply' >> "$work/crates.txt"
+(cd "$work/crates/apply_bench" && rt run --jobs 1)
+rustc -O -o "$work/plain" "$top/bench/apply/plain.rs"
+# Instructions of a run of so many applies.
+count() {
+    valgrind --tool=callgrind --callgrind-out-file=/dev/null "$@" 2>&1 > /dev/null |
+        awk '/Collected/ { print $NF }'
+}
+for program in "$work/crates/apply_bench/out/apply_bench" "$work/plain"; do
+    none=$(count "$program" 0)
+    all=$(count "$program" 1000000)
+    echo "$(basename "$program"): $(((all - none) / 1000000)) instructions per apply"
+done

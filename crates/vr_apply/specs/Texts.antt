@@ -1,0 +1,31 @@
+-- The two texts of a state.
+use Rattle.std.specs.Prelude.{◌≡◌, ℕ, ◌+◌, ◌/◌, ◌≤◌, List, length, Result, Ok, Err}
+use Rattle.vr_kv.specs.Pairs.{kv_text, kv_decoded}
+use Rattle.vr_sess.specs.Texts.{sessions_text, sessions_decoded}
+use Rattle.vr_table.specs.declared.fault.StateFault.{StateFault}
+use Rattle.vr_kv.specs.Kv as kv
+use Rattle.vr_sess.specs.Sessions as sess
+use Rattle.vr_apply.specs.declared.codec.Texts.{Texts}
+use Rattle.vr_apply.specs.declared.state.State.{State}
+
+abbrev pub texts_of : State → Texts
+texts_of s = record { sessions = sessions_text s.sessions; keys = kv_text s.machine }
+
+-- sessions and machine where both are read; else the fault of the sessions, and then of the machine
+abbrev pub both_read : Result sess.Map StateFault → Result kv.Map StateFault → Result State StateFault
+both_read (Err fault) machine = Err fault
+both_read (Ok sessions) (Err fault) = Err fault
+both_read (Ok sessions) (Ok machine) = Ok (record { sessions = sessions; machine = machine })
+
+-- the state of these texts, or the first fault
+abbrev pub state_decoded : Texts → Result State StateFault
+state_decoded t = both_read (sessions_decoded t.sessions) (kv_decoded t.keys)
+
+-- so many payloads of 3,968 bytes hold a text of this length
+abbrev pub payloads : ℕ → ℕ
+payloads n = (n + 3967) / 3968
+
+-- the texts fill at most 9 and 36 payloads
+pub record FitsPayloads (t : Texts) : Type 0 where
+  pub sessions : payloads (length t.sessions) ≤ 9
+  pub keys : payloads (length t.keys) ≤ 36

@@ -1,0 +1,4 @@
+pub mod Meanings
+pub mod Places
+pub mod Steps
+pub mod Texts

@@ -1,0 +1,4 @@
+pub mod Kv
+pub mod Meaning
+pub mod Pairs
+pub mod Places

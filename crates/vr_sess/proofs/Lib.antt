@@ -1,0 +1,7 @@
+pub mod Ascending
+pub mod Asking
+pub mod Eldest
+pub mod Lookups
+pub mod Spelled
+pub mod Steps
+pub mod Values

@@ -1,0 +1,4 @@
+pub mod Asks
+pub mod Effects
+pub mod Sessions
+pub mod Texts

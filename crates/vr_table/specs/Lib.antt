@@ -1,0 +1,3 @@
+pub mod Finite
+pub mod Front
+pub mod Table
