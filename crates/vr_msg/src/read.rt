@@ -1,9 +1,10 @@
 //! What a header and the bytes after it say, once they are known to be of a message's form.
-ghost use Rattle.std.specs.Prelude.{◌≡◌, ◌+◌, ◌-◌, ◌≤◌, ◌<◌, ◌^◌, ◌||◌, not, true, length, take, drop, IfOk, is_ok};
+ghost use Rattle.std.specs.Prelude.{◌≡◌, ◌+◌, ◌-◌, ◌≤◌, ◌<◌, ◌^◌, ◌||◌, not, true, Some, length, take, drop, IfOk, is_ok};
 ghost use Rattle.std.specs.Int.{w16};
 ghost use Rattle.vr_base.specs.Bytes.{number};
 ghost use Rattle.vr_header.specs.Spelling.{decoded, header_at};
 ghost use Rattle.vr_header.specs.declared.command.Command.{Command};
+ghost use Rattle.vr_msg.specs.declared.frame.Frame.{Frame};
 ghost use Rattle.vr_msg.specs.Shapes.{body_fits, is_asked, knows, numbers_fit};
 ghost use Rattle.vr_msg.specs.Reading.{kind_at, headers_at, are_headers, are_parts, part_at, rest_at, parts_at, body_at, bare_for, needs_view, frame_for, frame_at};
 
@@ -225,20 +226,40 @@ fn read_give_block(alloc: Global, h: &Header, body: &[u8]) -> Result<Option<Fram
     })))
 }
 
+fn read_prepare_ok(h: &Header) -> PrepareOk
+    requires { h.now.aux < 2 ^ 32 }
+    ensures { bare_for Command.PrepareOk h.now ≡ Some (Frame.PrepareOk result) }
+{
+    PrepareOk {
+        cluster: h.cluster,
+        replica: h.replica,
+        view: h.view,
+        op: h.op,
+        name: h.parent,
+        made: h.aux as u32,
+    }
+}
+
+fn read_get_prepare(h: &Header) -> GetPrepare
+    requires { h.now.aux < 2 ^ 32 }
+    ensures { bare_for Command.GetPrepare h.now ≡ Some (Frame.GetPrepare result) }
+{
+    GetPrepare {
+        cluster: h.cluster,
+        replica: h.replica,
+        op: h.op,
+        name: h.parent,
+        made: h.aux as u32,
+    }
+}
+
 // A message without a body.
 fn read_bare(h: &Header) -> Option<Frame>
     requires { needs_view h.now.command ≡ true → h.now.aux < 2 ^ 32 }
     ensures { result ≡ bare_for h.now.command h.now }
 {
     match h.command {
-        Command::PrepareOk => Some(Frame::PrepareOk(PrepareOk {
-            cluster: h.cluster,
-            replica: h.replica,
-            view: h.view,
-            op: h.op,
-            name: h.parent,
-            made: h.aux as u32,
-        })),
+        Command::PrepareOk => Some(Frame::PrepareOk(read_prepare_ok(h))),
         Command::Commit => Some(Frame::Commit(Commit {
             cluster: h.cluster,
             replica: h.replica,
@@ -256,13 +277,7 @@ fn read_bare(h: &Header) -> Option<Frame>
             replica: h.replica,
             view: h.view,
         })),
-        Command::GetPrepare => Some(Frame::GetPrepare(GetPrepare {
-            cluster: h.cluster,
-            replica: h.replica,
-            op: h.op,
-            name: h.parent,
-            made: h.aux as u32,
-        })),
+        Command::GetPrepare => Some(Frame::GetPrepare(read_get_prepare(h))),
         Command::GetBlock => Some(Frame::GetBlock(GetBlock {
             cluster: h.cluster,
             replica: h.replica,

@@ -1,6 +1,4 @@
 //! Bytes of messages, row by row.
-ghost use Rattle.std.specs.Prelude.{◌≤◌, length};
-
 use crate::head::header_before;
 use crate::{MsgFault, decode, encode, judge};
 use std::alloc::{AllocError, Global};
@@ -16,12 +14,15 @@ fn plain(command: Command) -> Header {
 }
 
 // The bytes of this header before this body, with its size and both names made right.
-fn spelled(alloc: Global, header: Header, body: &[u8]) -> Result<Vec<u8>, AllocError>
-    requires { length body.now ≤ 20352 }
-{
+fn spelled(alloc: Global, header: Header, body: &[u8]) -> Result<Vec<u8>, AllocError> {
+    let size = if body.len() <= 20352 {
+        128 + body.len() as u32
+    } else {
+        20480
+    };
     let header = Header {
         body: checksum(body),
-        size: Size::new(128 + body.len() as u32),
+        size: Size::new(size),
         ..header
     };
     let mut bytes = Vec::new(alloc);
@@ -88,10 +89,6 @@ fn in_view(command: Command) -> Header {
 }
 
 fn reads_again(rt: &impl Abort, alloc: Global, header: Header, body: &[u8]) -> Result<(), Fail> {
-    if body.len() > 20352 {
-        assert!(rt; false);
-        return Ok(());
-    }
     let bytes = spelled(alloc, header, body)?;
     assert_eq!(rt; judge(bytes.as_slice()), None);
     let message = decode(alloc, bytes.as_slice())?;
@@ -110,17 +107,13 @@ fn is_refused(rt: &impl Abort, alloc: Global, bytes: &[u8], fault: MsgFault) {
 }
 
 fn has_bad_shape(rt: &impl Abort, alloc: Global, header: Header, body: &[u8]) -> Result<(), Fail> {
-    if body.len() > 20352 {
-        assert!(rt; false);
-        return Ok(());
-    }
     let bytes = spelled(alloc, header, body)?;
     is_refused(rt, alloc, bytes.as_slice(), MsgFault::BodyShape);
     Ok(())
 }
 
 #[test]
-fn each_kind_is_read_as_it_was_written(rt: HostRuntime) -> Result<(), Fail> {
+fn requests_and_replies_are_read_again(rt: HostRuntime) -> Result<(), Fail> {
     let alloc = rt.alloc();
     let asked = Header {
         cluster: 5,
@@ -143,89 +136,65 @@ fn each_kind_is_read_as_it_was_written(rt: HostRuntime) -> Result<(), Fail> {
     for kind in 2..7 {
         reads_again(&rt, alloc, Header { kind, ..answer }, &[])?;
     }
-    let at_op = Header {
+    Ok(())
+}
+
+// A header that speaks of op 9.
+fn at_op(command: Command) -> Header {
+    Header {
         op: 9,
-        ..in_view(Command::Prepare)
+        ..sent(command)
+    }
+}
+
+#[test]
+fn entries_are_read_again(rt: HostRuntime) -> Result<(), Fail> {
+    let alloc = rt.alloc();
+    let body = entry(alloc, 9)?;
+    let prepare = Header {
+        view: 3,
+        commit: 8,
+        ..at_op(Command::Prepare)
     };
-    reads_again(
-        &rt,
-        alloc,
-        Header { commit: 8, ..at_op },
-        entry(alloc, 9)?.as_slice(),
-    )?;
-    let named = Header {
+    reads_again(&rt, alloc, prepare, body.as_slice())?;
+    reads_again(&rt, alloc, at_op(Command::GivePrepare), body.as_slice())?;
+    let prepare_ok = Header {
+        view: 3,
         parent: NAME,
         aux: 1,
-        ..at_op
+        ..at_op(Command::PrepareOk)
     };
-    let ok = Command::PrepareOk;
-    reads_again(
-        &rt,
-        alloc,
-        Header {
-            command: ok,
-            ..named
-        },
-        &[],
-    )?;
-    let commit = Command::Commit;
-    reads_again(
-        &rt,
-        alloc,
-        Header {
-            command: commit,
-            ..at_op
-        },
-        &[],
-    )?;
+    reads_again(&rt, alloc, prepare_ok, &[])?;
+    let get_prepare = Header {
+        parent: NAME,
+        aux: 1,
+        ..at_op(Command::GetPrepare)
+    };
+    reads_again(&rt, alloc, get_prepare, &[])
+}
+
+#[test]
+fn views_and_blocks_are_read_again(rt: HostRuntime) -> Result<(), Fail> {
+    let alloc = rt.alloc();
+    let commit = Header {
+        op: 9,
+        commit: 8,
+        ..in_view(Command::Commit)
+    };
+    reads_again(&rt, alloc, commit, &[])?;
     reads_again(&rt, alloc, in_view(Command::StartViewChange), &[])?;
     reads_again(&rt, alloc, in_view(Command::GetView), &[])?;
-    let get = Command::GetPrepare;
-    reads_again(
-        &rt,
-        alloc,
-        Header {
-            command: get,
-            view: 0,
-            ..named
-        },
-        &[],
-    )?;
-    let give = Command::GivePrepare;
-    reads_again(
-        &rt,
-        alloc,
-        Header {
-            command: give,
-            view: 0,
-            ..at_op
-        },
-        entry(alloc, 9)?.as_slice(),
-    )?;
-    let block = Header {
+    let get_block = Header {
+        parent: NAME,
         aux: 70,
         ..sent(Command::GetBlock)
     };
-    reads_again(
-        &rt,
-        alloc,
-        Header {
-            parent: NAME,
-            ..block
-        },
-        &[],
-    )?;
-    let give_block = Command::GiveBlock;
-    reads_again(
-        &rt,
-        alloc,
-        Header {
-            command: give_block,
-            ..block
-        },
-        &[9; 4096],
-    )?;
-    Ok(())
+    reads_again(&rt, alloc, get_block, &[])?;
+    let give_block = Header {
+        aux: 70,
+        ..sent(Command::GiveBlock)
+    };
+    reads_again(&rt, alloc, give_block, &[9; 4096])
 }
 
 // The header of a start_view up to `head`.
@@ -393,48 +362,37 @@ fn what_no_message_carries_is_refused(rt: HostRuntime) -> Result<(), Fail> {
 }
 
 #[test]
-fn the_first_fault_is_told(rt: HostRuntime) -> Result<(), Fail> {
+fn faults_of_the_header_come_first(rt: HostRuntime) -> Result<(), Fail> {
     let alloc = rt.alloc();
     let commit = spelled(alloc, in_view(Command::Commit), &[])?;
-    let (short, _) = commit.as_slice().split_at(127);
-    is_refused(&rt, alloc, short, MsgFault::Header(HeaderFault::Short));
+    let rows: [(&[(usize, u8)], bool, HeaderFault); 5] = [
+        (&[(127, 1)], false, HeaderFault::BadSum),
+        (&[(108, 0), (110, 0)], true, HeaderFault::BadCommand),
+        (&[(110, 2)], true, HeaderFault::BadVersion),
+        (&[(107, 127)], true, HeaderFault::BadSize),
+        (&[(106, 80), (107, 1)], true, HeaderFault::BadSize),
+    ];
+    for (places, name, fault) in rows {
+        let bytes = changed(alloc, &commit, places, name)?;
+        is_refused(&rt, alloc, bytes.as_slice(), MsgFault::Header(fault));
+    }
+    let mut short = commit;
+    let _ = short.pop();
     is_refused(
         &rt,
         alloc,
-        changed(alloc, &commit, &[(127, 1)], false)?.as_slice(),
-        MsgFault::Header(HeaderFault::BadSum),
+        short.as_slice(),
+        MsgFault::Header(HeaderFault::Short),
     );
-    let unknown = changed(alloc, &commit, &[(108, 0), (110, 0)], true)?;
-    is_refused(
-        &rt,
-        alloc,
-        unknown.as_slice(),
-        MsgFault::Header(HeaderFault::BadCommand),
-    );
-    let version = changed(alloc, &commit, &[(110, 2)], true)?;
-    is_refused(
-        &rt,
-        alloc,
-        version.as_slice(),
-        MsgFault::Header(HeaderFault::BadVersion),
-    );
-    let small = changed(alloc, &commit, &[(107, 127)], true)?;
-    is_refused(
-        &rt,
-        alloc,
-        small.as_slice(),
-        MsgFault::Header(HeaderFault::BadSize),
-    );
-    let large = changed(alloc, &commit, &[(106, 80), (107, 1)], true)?;
-    is_refused(
-        &rt,
-        alloc,
-        large.as_slice(),
-        MsgFault::Header(HeaderFault::BadSize),
-    );
+    Ok(())
+}
+
+#[test]
+fn a_body_that_is_cut_is_refused(rt: HostRuntime) -> Result<(), Fail> {
+    let alloc = rt.alloc();
     let prepare = Header {
-        op: 9,
-        ..in_view(Command::Prepare)
+        view: 3,
+        ..at_op(Command::Prepare)
     };
     let mut cut = spelled(alloc, prepare, entry(alloc, 9)?.as_slice())?;
     let _ = cut.pop();
