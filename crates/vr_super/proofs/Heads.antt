@@ -1,0 +1,75 @@
+-- The headers of a good copy, one after another.
+use Rattle.std.proofs.Common.{ℕ, zero, suc, ◌+◌, ◌-◌, ◌*◌, ◌≤◌, ◌<◌, ◌≡◌, arith, refl, sym, ap, ◌∙◌, Bool, true, false, cond, List, [], ◌∷◌, ◌++◌, length, drop, Option, Some, None, Result, Ok, Err, subst, append_assoc}
+use Rattle.std.specs.Prelude.{is_some}
+use Rattle.std.specs.Option.{option_map}
+use Rattle.std.specs.Result.{result_ok}
+use Rattle.std.proofs.lemmas.List.{append-nil}
+use Rattle.vr_header.specs.declared.header.Header.{Header}
+use Rattle.vr_header.specs.declared.header.HeaderFault.{HeaderFault}
+use Rattle.vr_header.specs.Spelling.{decoded}
+use Rattle.vr_super.specs.declared.fields.Fields.{Fields}
+use Rattle.vr_base.specs.Bytes.{IsBytes}
+use Rattle.vr_super.specs.Copies.{Saved, count_at, fields_at, first_op, is_listed, list_at, value_of, with_listed}
+use Rattle.vr_super.specs.Laws.{IsSpelled}
+use Rattle.vr_super.proofs.Format.{Valued, With, count_fits, value_found, valued, with_by}
+use Rattle.vr_super.proofs.Sealing.{list_past, list_start, list_step}
+
+-- the headers so far, and those that are still to come
+pub record Listing (f : Fields) (op count i : ℕ) (bytes : List ℕ) (headers all : List Header) : Type 0 where
+  pub rest : List Header
+  pub left : list_at f (op + i) (count - i) (drop (128 * i) bytes) ≡ Some rest
+  pub whole : all ≡ headers ++ rest
+
+pub listing_starts : (f : Fields) (op count : ℕ) (bytes : List ℕ) (all : List Header) → list_at f op count bytes ≡ Some all → Listing f op count 0 bytes [] all
+listing_starts f op count bytes all e = record { rest = all; left = sym (list_start f op count bytes) ∙ e; whole = refl }
+
+-- the next header, if it reads
+next : (f : Fields) (op count i : ℕ) (bytes : List ℕ) (headers all : List Header) → i < count → (l : Listing f op count i bytes headers all) → With f (op + i) (result_ok (decoded (drop (128 * i) bytes))) (list_at f (op + (i + 1)) (count - (i + 1)) (drop (128 * (i + 1)) bytes)) l.rest
+next f op count i bytes headers all h l = with_by f (op + i) (result_ok (decoded (drop (128 * i) bytes))) (list_at f (op + (i + 1)) (count - (i + 1)) (drop (128 * (i + 1)) bytes)) l.rest (sym (list_step f op count i bytes h) ∙ l.left)
+
+pub listing_goes : (f : Fields) (op count i : ℕ) (bytes : List ℕ) (headers all : List Header) (h : Header) → i < count → decoded (drop (128 * i) bytes) ≡ Ok h → Listing f op count i bytes headers all → Listing f op count (i + 1) bytes (headers ++ h ∷ []) all
+listing_goes f op count i bytes headers all h l e x =
+    let w = next f op count i bytes headers all l x in
+    let read : Some h ≡ Some w.header = ap (λ (r : Result Header HeaderFault). result_ok r) (sym e) ∙ w.read in
+    let same : w.header ≡ h = cc in
+    record {
+      rest = w.others;
+      left = w.left;
+      whole = x.whole ∙ (ap (λ y. headers ++ y) (w.whole ∙ ap (λ y. y ∷ w.others) same) ∙ sym (append_assoc headers (h ∷ []) w.others));
+    }
+
+pub listing_breaks : (f : Fields) (op count i : ℕ) (bytes : List ℕ) (headers all : List Header) (x : HeaderFault) → i < count → decoded (drop (128 * i) bytes) ≡ Err x → Listing f op count i bytes headers all → headers ≡ all
+listing_breaks f op count i bytes headers all x l e y =
+    let w = next f op count i bytes headers all l y in
+    let read : None ≡ Some w.header = ap (λ (r : Result Header HeaderFault). result_ok r) (sym e) ∙ w.read in
+    absurd cc
+
+pub listing_ends : (f : Fields) (op count i : ℕ) (bytes : List ℕ) (headers all : List Header) → count ≤ i → Listing f op count i bytes headers all → headers ≡ all
+listing_ends f op count i bytes headers all l x =
+    let none : Some [] ≡ Some x.rest = sym (list_past f op count i bytes l) ∙ x.left in
+    let same : [] ≡ x.rest = cc in
+    sym (x.whole ∙ (ap (λ y. headers ++ y) (sym same) ∙ append-nil headers))
+
+-- ---- a good copy has a value
+
+some_of : {X : Type 0} → (o : Option X) → is_some o ≡ true → (x : X) × (o ≡ Some x)
+some_of None e = absurd cc
+some_of (Some x) e = (x, refl)
+
+pub value_there : (b : List ℕ) → is_some (value_of b) ≡ true → (v : Saved) × (value_of b ≡ Some v)
+value_there b e = some_of (value_of b) e
+
+pub few : (b : List ℕ) → is_some (value_of b) ≡ true → count_at b ≤ 64
+few b e = let p = value_there b e in count_fits (fields_at b) (count_at b) (valued b p.0 p.1).is_sealed.fields
+
+-- its value has the fields at their places and the headers of its list
+pub value_is : (b : List ℕ) (hs : List Header) → is_some (value_of b) ≡ true → ((f : Fields) (op : ℕ) (all : List Header) → list_at f op (count_at b) (drop 128 b) ≡ Some all → hs ≡ all)
+    → value_of b ≡ Some (record { fields = fields_at b; headers = hs })
+value_is b hs e h =
+    let p = value_there b e in
+    let x = valued b p.0 p.1 in
+    let same = h (fields_at b) (first_op (fields_at b) (count_at b)) p.0.headers x.headers in
+    p.1 ∙ (ap (λ (f : Fields). let v : Saved = record { fields = f; headers = p.0.headers } in Some v) x.fields ∙ ap (λ (l : List Header). let v : Saved = record { fields = fields_at b; headers = l } in Some v) (sym same))
+
+pub read_is : (b : List ℕ) (v : Saved) → IsBytes b → length b ≡ 10240 → value_of b ≡ Some v → IsSpelled v b
+read_is b v h l e = let p = value_found b v h e in record { good = p.1; spelled = p.0; size = l }

@@ -1,0 +1,389 @@
+-- Mending keeps what the disk opens as, and writing leads to the new value: copy after copy.
+use Rattle.std.proofs.Common.{ℕ, zero, suc, ◌+◌, ◌-◌, ◌*◌, ◌≤◌, ◌<◌, ◌≡◌, ◌≢◌, ◌⊎◌, inl, inr, arith, refl, sym, ap, ◌∙◌, Bool, true, false, cond, leb, List, [], ◌∷◌, ◌++◌, length, take, drop, Option, Some, None, subst, length-set}
+use Rattle.std.specs.Prelude.{count_by, is_some, nat_eq}
+use Rattle.std.specs.Option.{option_and_then}
+use Rattle.std.specs.Cmp.Lexicographic.{pointwise}
+use Rattle.std.specs.List.{AllByRecursion}
+use Rattle.std.proofs.lemmas.Bool.{cases_lt, cases_eq, le-leb}
+use Rattle.std.proofs.lemmas.List.{take_all, length-take}
+use Rattle.std.proofs.lemmas.List.Sums.{sum_by-cons}
+use Rattle.std.proofs.lemmas.Slice.Eq.{bytes_eq-Decides}
+use Rattle.vr_base.specs.Bytes.{IsBytes, piece}
+use Rattle.vr_base.proofs.Places.{take_both}
+use Rattle.vr_disk.specs.DiskState.{Call, Cell, Write, Sync, Face, IsFace, after, after_all, cut, reads, waits}
+use Rattle.vr_disk.proofs.Frames.{frame_all, reads_back}
+use Rattle.vr_disk.proofs.Stopping.{cuts_both}
+use Rattle.vr_super.specs.Copies.{IsGood, Saved, copy_bytes, value_of}
+use Rattle.vr_super.specs.Opens.{agreed, behind, copy_reading, good_copies, good_copy, has, if_good, opened, opens, reading}
+use Rattle.vr_super.specs.Calls.{copy_calls, mend_calls, mend_copy, mend_from, mend_unless, save_from, write_calls, writes}
+use Rattle.vr_super.specs.Laws.{AllRead, MendKeeps, MendLaw, TellsApart, WriteLaw, WriteLeads}
+use Rattle.vr_super.proofs.Best.{Among, one, Step, Toward, opened_among, opened_some, opened_toward}
+use Rattle.vr_super.proofs.Format.{length-copy_bytes, value_again, value_found}
+use Rattle.vr_super.proofs.Readings.{after_all_append, copy_is_bytes, copy_within, length_after_all, mend_within, other_after, other_cut, other_head, reading_written}
+use Rattle.vr_super.proofs.Torn.{Either, copy_torn, head_of, head_reads, mend_torn, spares_append, spares_rest}
+
+-- a copy that reads as the value is good
+good_reads : (v : Saved) (f : Face) (c : ℕ) → IsGood v → copy_reading f c ≡ Some (copy_bytes v) → good_copy f c ≡ Some (copy_bytes v)
+unfolding good_copy
+good_reads v f c g e = rw (e, value_again v g) refl
+
+same_good : (f g : Face) (c : ℕ) → copy_reading g c ≡ copy_reading f c → good_copy g c ≡ good_copy f c
+unfolding good_copy
+same_good f g c e = ap if_good e
+
+-- ---- what calls leave of a copy in the end
+
+synced : (n i : ℕ) (f : Face) → reading i n (after f Sync) ≡ reading i n f
+unfolding reading
+synced zero i f = refl
+synced (suc n) i f = ap (behind (reads f i)) (synced n (i + 1) f)
+
+mend_waits : (bytes : List ℕ) (f : Face) (c : ℕ) → (after_all f (mend_copy c bytes)).waiting ≡ []
+unfolding mend_copy
+mend_waits bytes f c =
+    let g = after (after f (Write (20 * c) (piece 0 512 bytes))) Sync in
+    rw (after_all_append (writes (20 * c + 1) 19 (drop 512 bytes)) (Sync ∷ []) g) refl
+
+copy_waits : (bytes : List ℕ) (f : Face) (c : ℕ) → (after_all f (copy_calls c bytes)).waiting ≡ []
+unfolding copy_calls
+copy_waits bytes f c = rw (after_all_append (writes (20 * c) 20 bytes) (Sync ∷ []) f) refl
+
+reading_more : (n i : ℕ) (f : Face) → reading i (suc n) f ≡ behind (reads f i) (reading (i + 1) n f)
+unfolding reading
+reading_more n i f = refl
+
+whole_of : (bytes : List ℕ) → length bytes ≡ 10240 → piece 0 512 bytes ++ take (512 * 19) (drop 512 bytes) ≡ bytes
+unfolding piece
+whole_of bytes n = take_both 512 (512 * 19) bytes ∙ take_all (512 + 512 * 19) bytes (omega arith)
+
+copy_done : (bytes : List ℕ) (f : Face) (c : ℕ) → length bytes ≡ 10240 → length f.cells ≡ 1424 → c < 4 → copy_reading (after_all f (copy_calls c bytes)) c ≡ Some bytes
+unfolding copy_reading copy_calls
+copy_done bytes f c n l k =
+    let g = after_all f (writes (20 * c) 20 bytes) in
+    let joined : after_all f (writes (20 * c) 20 bytes ++ Sync ∷ []) ≡ after g Sync = after_all_append (writes (20 * c) 20 bytes) (Sync ∷ []) f in
+    ap (λ h. reading (20 * c) 20 h) joined ∙ (synced 20 (20 * c) g ∙ (reading_written 20 (20 * c) bytes f (omega arith) ∙ ap Some (take_all (512 * 20) bytes (omega arith))))
+
+mend_done : (bytes : List ℕ) (f : Face) (c : ℕ) → length bytes ≡ 10240 → length f.cells ≡ 1424 → c < 4 → copy_reading (after_all f (mend_copy c bytes)) c ≡ Some bytes
+unfolding copy_reading mend_copy
+mend_done bytes f c n l k =
+    let p = piece 0 512 bytes in
+    let low = after f (Write (20 * c) p) in
+    let g = after low Sync in
+    let h = after_all g (writes (20 * c + 1) 19 (drop 512 bytes)) in
+    let joined : after_all g (writes (20 * c + 1) 19 (drop 512 bytes) ++ Sync ∷ []) ≡ after h Sync = after_all_append (writes (20 * c + 1) 19 (drop 512 bytes)) (Sync ∷ []) g in
+    let now : reads h (20 * c) ≡ Some p = ap (λ (c : Cell). c.reads) (frame_all (writes (20 * c + 1) 19 (drop 512 bytes)) g (20 * c) (spares_rest 19 (20 * c + 1) (20 * c) (drop 512 bytes) (omega arith))) ∙ reads_back f (20 * c) p (omega arith) in
+    let rest : reading (20 * c + 1) 19 h ≡ Some (take (512 * 19) (drop 512 bytes)) = reading_written 19 (20 * c + 1) (drop 512 bytes) g (rw length-set (omega arith)) in
+    ap (λ h. reading (20 * c) 20 h) joined ∙ (synced 20 (20 * c) h ∙ (reading_more 19 (20 * c) h ∙ (ap (λ o. behind o (reading (20 * c + 1) 19 h)) now ∙ (ap (behind (Some p)) rest ∙ ap Some (whole_of bytes n)))))
+
+-- the first sector, after the calls of a copy
+mend_head : (bytes : List ℕ) (f : Face) (c : ℕ) → length f.cells ≡ 1424 → c < 4 → reads (after_all f (mend_copy c bytes)) (20 * c) ≡ Some (piece 0 512 bytes)
+unfolding mend_copy
+mend_head bytes f c l k =
+    let p = piece 0 512 bytes in
+    let g = after (after f (Write (20 * c) p)) Sync in
+    let calls = writes (20 * c + 1) 19 (drop 512 bytes) ++ Sync ∷ [] in
+    ap (λ (c : Cell). c.reads) (frame_all calls g (20 * c) (spares_append (20 * c) (writes (20 * c + 1) 19 (drop 512 bytes)) (Sync ∷ []) (spares_rest 19 (20 * c + 1) (20 * c) (drop 512 bytes) (omega arith)) (tt, tt))) ∙ reads_back f (20 * c) p (omega arith)
+
+if_good_reads : (r : Option (List ℕ)) (b : List ℕ) → if_good r ≡ Some b → r ≡ Some b
+if_good_reads None b e = absurd cc
+if_good_reads (Some x) b e = elim (is_some (value_of x)) as (λ y. cond y (Some x) None ≡ Some b → Some x ≡ Some b) [ true ↦ λ e. e | false ↦ λ e. absurd cc ] e
+
+good_read : (f : Face) (c : ℕ) (b : List ℕ) → good_copy f c ≡ Some b → copy_reading f c ≡ Some b
+unfolding good_copy
+good_read f c b e = if_good_reads (copy_reading f c) b e
+
+reads_has : (bytes : List ℕ) (o : Option (List ℕ)) → o ≡ Some bytes → has bytes o ≡ true
+reads_has bytes o e = rw e ((bytes_eq-Decides bytes bytes).1 refl)
+
+-- ---- mending
+
+-- so many copies read as the value, the others as before
+record Mended (v : Saved) (f : Face) (k : ℕ) (g : Face) : Type 0 where
+  waiting : g.waiting ≡ []
+  count : length g.cells ≡ 1424
+  done : (c : ℕ) → c < k → copy_reading g c ≡ Some (copy_bytes v)
+  left : (c : ℕ) → k ≤ c → c < 4 → copy_reading g c ≡ copy_reading f c
+  heads : (c : ℕ) → c < k → reads g (20 * c) ≡ Some (head_of v)
+  heads_left : (c : ℕ) → k ≤ c → c < 4 → reads g (20 * c) ≡ reads f (20 * c)
+
+unless_waits : (v : Saved) (f g : Face) (k : ℕ) → g.waiting ≡ [] → (after_all g (mend_unless k (copy_bytes v) f)).waiting ≡ []
+unless_waits v f g k w =
+    elim (has (copy_bytes v) (copy_reading f k)) as (λ b. (after_all g (cond b [] (mend_copy k (copy_bytes v)))).waiting ≡ []) [ true ↦ w | false ↦ mend_waits (copy_bytes v) g k ]
+
+has_is : (bytes : List ℕ) (o : Option (List ℕ)) → has bytes o ≡ true → o ≡ Some bytes
+has_is bytes None h = absurd cc
+has_is bytes (Some b) h = ap Some ((bytes_eq-Decides b bytes).0 h)
+
+mended_next : (v : Saved) (f g : Face) (k : ℕ) → IsGood v → IsFace f → k < 4 → Mended v f k g → Mended v f (k + 1) (after_all g (mend_unless k (copy_bytes v) f))
+mended_next v f g k gv h0 l m =
+    elim (has (copy_bytes v) (copy_reading f k)) as (λ b. has (copy_bytes v) (copy_reading f k) ≡ b → Mended v f (k + 1) (after_all g (cond b [] (mend_copy k (copy_bytes v))))) [
+      | true ↦ λ h. record {
+        waiting = m.waiting;
+        count = m.count;
+        done = λ c a. elim (cases_eq c k) [ inl e ↦ ap (copy_reading g) e ∙ (m.left k (omega arith) l ∙ has_is (copy_bytes v) (copy_reading f k) h) | inr d ↦ m.done c (omega arith) ];
+        left = λ c a b. m.left c (omega arith) b;
+        heads = λ c a. elim (cases_eq c k) [
+          | inl e ↦ ap (λ c. reads g (20 * c)) e ∙ (m.heads_left k (omega arith) l ∙ head_reads v f k gv h0 l (has_is (copy_bytes v) (copy_reading f k) h))
+          | inr d ↦ m.heads c (omega arith)
+        ];
+        heads_left = λ c a b. m.heads_left c (omega arith) b;
+      }
+      | false ↦ λ h.
+          let calls = mend_copy k (copy_bytes v) in
+          let within = mend_within k (copy_bytes v) in
+          record {
+            waiting = mend_waits (copy_bytes v) g k;
+            count = length_after_all calls g ∙ m.count;
+            done = λ c a. elim (cases_eq c k) [
+              | inl e ↦ ap (copy_reading (after_all g calls)) e ∙ mend_done (copy_bytes v) g k (length-copy_bytes v gv) m.count l
+              | inr d ↦ other_after calls g k c within (λ s. d (sym s)) ∙ m.done c (omega arith)
+            ];
+            left = λ c a b. other_after calls g k c within (λ s. absurd (omega arith)) ∙ m.left c (omega arith) b;
+            heads = λ c a. elim (cases_eq c k) [
+              | inl e ↦ ap (λ c. reads (after_all g calls) (20 * c)) e ∙ mend_head (copy_bytes v) g k m.count l
+              | inr d ↦ other_head calls g k c within (λ s. d (sym s)) ∙ m.heads c (omega arith)
+            ];
+            heads_left = λ c a b. other_head calls g k c within (λ s. absurd (omega arith)) ∙ m.heads_left c (omega arith) b;
+          }
+    ] refl
+
+all_mended : (n k : ℕ) (v : Saved) (f g : Face) → IsGood v → IsFace f → k + n ≡ 4 → Mended v f k g → Mended v f 4 (after_all g (mend_from k n (copy_bytes v) f))
+unfolding mend_from
+all_mended zero k v f g gv h0 s m = let e : k ≡ 4 = omega arith in subst (λ k. Mended v f k g) e m
+all_mended (suc n) k v f g gv h0 s m =
+    let calls = mend_unless k (copy_bytes v) f in
+    let next = mended_next v f g k gv h0 (omega arith) m in
+    rw (after_all_append calls (mend_from (k + 1) n (copy_bytes v) f) g) (all_mended n (k + 1) v f (after_all g calls) gv h0 (omega arith) next)
+
+-- the copies in the midst of it
+step_done : (v : Saved) (f g : Face) (c : ℕ) → IsGood v → copy_reading g c ≡ Some (copy_bytes v) → Step (copy_bytes v) (good_copy f c) (good_copy g c)
+step_done v f g c gv e = inr (inl (good_reads v g c gv e))
+
+step_left : (v : Saved) (f g : Face) (c : ℕ) → copy_reading g c ≡ copy_reading f c → Step (copy_bytes v) (good_copy f c) (good_copy g c)
+step_left v f g c e = inl (same_good f g c e)
+
+abbrev Steps : Saved → Face → Face → Type 0
+Steps v f g = (c : ℕ) → c < 4 → Step (copy_bytes v) (good_copy f c) (good_copy g c)
+
+-- each copy as before, or with the value, or bad without having had it
+torn_steps : (v : Saved) (f g : Face) (k j code : ℕ) → IsGood v → k < 4 → Mended v f k g → has (copy_bytes v) (copy_reading f k) ≡ false
+    → let h = cut j code g (mend_copy k (copy_bytes v)) in TellsApart h v → Steps v f h
+torn_steps v f g k j code gv l m n t c b =
+    let calls = mend_copy k (copy_bytes v) in
+    let h = cut j code g calls in
+    let within = mend_within k (copy_bytes v) in
+    elim (cases_eq c k) [
+      | inl e ↦ subst (λ c. Step (copy_bytes v) (good_copy f c) (good_copy h c)) (sym e)
+          (elim (mend_torn v g k j code gv m.count m.waiting l t) [
+            | inl x ↦ step_left v f h k (x ∙ m.left k (omega arith) l)
+            | inr x ↦ elim x [ inl y ↦ inr (inl y) | inr y ↦ inr (inr (y, λ z. let q : true ≡ false = sym (reads_has (copy_bytes v) (copy_reading f k) (good_read f k (copy_bytes v) z)) ∙ n in cc)) ]
+          ])
+      | inr d ↦
+          let same = other_cut calls g k c j code within m.waiting (λ s. d (sym s)) in
+          elim (cases_lt c k) [
+            | inl x ↦ step_done v f h c gv (same ∙ m.done c x)
+            | inr x ↦ step_left v f h c (same ∙ m.left c x b)
+          ]
+    ]
+
+mended_steps : (v : Saved) (f g : Face) → IsGood v → Mended v f 4 g → Steps v f g
+mended_steps v f g gv m c l = step_done v f g c gv (m.done c l)
+
+unless_steps : (v : Saved) (f g : Face) (k j code : ℕ) → IsGood v → k < 4 → Mended v f k g → j < length (mend_unless k (copy_bytes v) f)
+    → let h = cut j code g (mend_unless k (copy_bytes v) f) in TellsApart h v → Steps v f h
+unless_steps v f g k j code gv l m =
+    elim (has (copy_bytes v) (copy_reading f k)) as (λ b. has (copy_bytes v) (copy_reading f k) ≡ b → j < length (cond b [] (mend_copy k (copy_bytes v))) → TellsApart (cut j code g (cond b [] (mend_copy k (copy_bytes v)))) v → Steps v f (cut j code g (cond b [] (mend_copy k (copy_bytes v))))) [
+      | true ↦ λ h x t. absurd (omega arith)
+      | false ↦ λ h x t. torn_steps v f g k j code gv l m h t
+    ] refl
+
+steps_from : (n k : ℕ) (v : Saved) (f g : Face) (j code : ℕ) → IsGood v → IsFace f → k + n ≡ 4 → Mended v f k g → let h = cut j code g (mend_from k n (copy_bytes v) f) in TellsApart h v → Steps v f h
+unfolding mend_from cut
+steps_from zero k v f g j code gv h0 s m t = let e : k ≡ 4 = omega arith in mended_steps v f g gv (subst (λ k. Mended v f k g) e m)
+steps_from (suc n) k v f g j code gv h0 s m t =
+    let calls = mend_unless k (copy_bytes v) f in
+    let rest = mend_from (k + 1) n (copy_bytes v) f in
+    let parts = cuts_both calls rest g j code in
+    elim (cases_lt j (length calls)) [
+      | inl x ↦ let same = parts.first x in rw same (unless_steps v f g k j code gv (omega arith) m x (rw same at t))
+      | inr x ↦
+          let same = parts.later x in
+          rw same (steps_from n (k + 1) v f (after_all g calls) (j - length calls) code gv h0 (omega arith) (mended_next v f g k gv h0 (omega arith) m) (rw same at t))
+    ]
+
+toward_of : (v : Saved) (f g : Face) → Steps v f g → Toward (copy_bytes v) (good_copies f) (good_copies g)
+toward_of v f g s = (s 0 (omega arith), (s 1 (omega arith), (s 2 (omega arith), (s 3 (omega arith), tt))))
+
+-- the value that opens, by its bytes
+record Opened (f : Face) (v : Saved) : Type 0 where
+  bytes : opened (good_copies f) ≡ Some (copy_bytes v)
+  good : IsGood v
+
+opens_by : (f : Face) (v : Saved) → IsGood v → opened (good_copies f) ≡ Some (copy_bytes v) → opens f ≡ Some v
+unfolding opens
+opens_by f v g e = rw e (value_again v g)
+
+among_bytes : (f : Face) (b : List ℕ) → IsFace f → Among b (good_copies f) → IsBytes b
+among_bytes f b h a =
+    let at : (c : ℕ) → c < 4 → good_copy f c ≡ Some b → IsBytes b = λ c l e. copy_is_bytes f c b h l (good_read f c b e) in
+    elim a [ inl e ↦ at 0 (omega arith) e | inr a ↦ elim a [ inl e ↦ at 1 (omega arith) e | inr a ↦ elim a [ inl e ↦ at 2 (omega arith) e | inr a ↦ elim a [ inl e ↦ at 3 (omega arith) e | inr a ↦ elim a [ ] ] ] ] ]
+
+opened_by : (f : Face) (v : Saved) (o : Option (List ℕ)) → IsFace f → opened (good_copies f) ≡ o → option_and_then value_of o ≡ Some v → Opened f v
+opened_by f v None h x e = absurd cc
+opened_by f v (Some b) h x e =
+    let p = value_found b v (among_bytes f b h (opened_among b (good_copies f) x)) e in
+    record { bytes = x ∙ ap Some p.0; good = p.1 }
+
+opened_of : (f : Face) (v : Saved) → IsFace f → opens f ≡ Some v → Opened f v
+unfolding opens
+opened_of f v h e = opened_by f v (opened (good_copies f)) h refl e
+
+start : (v : Saved) (f : Face) → IsFace f → f.waiting ≡ [] → Mended v f 0 f
+start v f h w = record { waiting = w; count = h.count; done = λ c l. absurd (omega arith); left = λ c a b. refl; heads = λ c l. absurd (omega arith); heads_left = λ c a b. refl }
+
+steps_keep : (v : Saved) (f g : Face) → Opened f v → Steps v f g → opens g ≡ Some v
+steps_keep v f g o s = opens_by g v o.good (opened_toward (copy_bytes v) (good_copies f) (good_copies g) o.bytes (toward_of v f g s))
+
+pub mend_law : MendLaw
+mend_law v f h w e =
+    let o = opened_of f v h e in
+    let m = start v f h w in
+    record {
+      done = λ c l. (all_mended 4 0 v f f o.good h refl m).done c l;
+      stopped = λ j code t. steps_keep v f (cut j code f (mend_calls v f)) o (steps_from 4 0 v f f j code o.good h refl m t);
+    }
+
+-- ---- writing
+
+-- so many copies have the new value, the others the old one
+record Written (old new : Saved) (k : ℕ) (g : Face) : Type 0 where
+  waiting : g.waiting ≡ []
+  count : length g.cells ≡ 1424
+  done : (c : ℕ) → c < k → copy_reading g c ≡ Some (copy_bytes new)
+  left : (c : ℕ) → k ≤ c → c < 4 → copy_reading g c ≡ Some (copy_bytes old)
+  heads : (c : ℕ) → k ≤ c → c < 4 → reads g (20 * c) ≡ Some (head_of old)
+
+written_next : (old new : Saved) (g : Face) (k : ℕ) → IsGood new → k < 4 → Written old new k g → Written old new (k + 1) (after_all g (copy_calls k (copy_bytes new)))
+written_next old new g k gn l m =
+    let calls = copy_calls k (copy_bytes new) in
+    let within = copy_within k (copy_bytes new) in
+    record {
+      waiting = copy_waits (copy_bytes new) g k;
+      count = length_after_all calls g ∙ m.count;
+      done = λ c a. elim (cases_eq c k) [
+        | inl e ↦ ap (copy_reading (after_all g calls)) e ∙ copy_done (copy_bytes new) g k (length-copy_bytes new gn) m.count l
+        | inr d ↦ other_after calls g k c within (λ s. d (sym s)) ∙ m.done c (omega arith)
+      ];
+      left = λ c a b. other_after calls g k c within (λ s. absurd (omega arith)) ∙ m.left c (omega arith) b;
+      heads = λ c a b. other_head calls g k c within (λ s. absurd (omega arith)) ∙ m.heads c (omega arith) b;
+    }
+
+all_written : (n k : ℕ) (old new : Saved) (g : Face) → IsGood new → k + n ≡ 4 → Written old new k g → Written old new 4 (after_all g (save_from k n (copy_bytes new)))
+unfolding save_from
+all_written zero k old new g gn s m = let e : k ≡ 4 = omega arith in subst (λ k. Written old new k g) e m
+all_written (suc n) k old new g gn s m =
+    let calls = copy_calls k (copy_bytes new) in
+    rw (after_all_append calls (save_from (k + 1) n (copy_bytes new)) g) (all_written n (k + 1) old new (after_all g calls) gn (omega arith) (written_next old new g k gn (omega arith) m))
+
+-- each copy is old, new or bad, and two neighbours agree
+record Ends (old new : Saved) (h : Face) : Type 0 where
+  each : (c : ℕ) → c < 4 → Either (copy_bytes old) (copy_bytes new) (good_copy h c)
+  agree : (x : List ℕ) × (((good_copy h 0 ≡ Some x) × (good_copy h 1 ≡ Some x)) ⊎ ((good_copy h 2 ≡ Some x) × (good_copy h 3 ≡ Some x)))
+
+torn_ends : (old new : Saved) (g : Face) (k j code : ℕ) → IsGood old → IsGood new → k < 4 → Written old new k g
+    → let h = cut j code g (copy_calls k (copy_bytes new)) in TellsApart h old → TellsApart h new → Ends old new h
+torn_ends old new g k j code go gn l m to tn =
+    let calls = copy_calls k (copy_bytes new) in
+    let h = cut j code g calls in
+    let within = copy_within k (copy_bytes new) in
+    let same : (c : ℕ) → c ≢ k → copy_reading h c ≡ copy_reading g c = λ c d. other_cut calls g k c j code within m.waiting (λ s. d (sym s)) in
+    let below : (c : ℕ) → c < k → good_copy h c ≡ Some (copy_bytes new) = λ c x. good_reads new h c gn (same c (λ e. absurd (omega arith)) ∙ m.done c x) in
+    let above : (c : ℕ) → k < c → c < 4 → good_copy h c ≡ Some (copy_bytes old) = λ c x b. good_reads old h c go (same c (λ e. absurd (omega arith)) ∙ m.left c (omega arith) b) in
+    record {
+      each = λ c b. elim (cases_lt c k) [
+        | inl x ↦ inr (inl (below c x))
+        | inr x ↦ elim (cases_eq c k) [
+          | inl e ↦ subst (λ c. Either (copy_bytes old) (copy_bytes new) (good_copy h c)) (sym e) (copy_torn old new g k j code go gn m.count m.waiting l (m.heads k (omega arith) l) to tn)
+          | inr d ↦ inl (above c (omega arith) b)
+        ]
+      ];
+      agree = elim (cases_lt k 2) [
+        | inl x ↦ (copy_bytes old, inr (above 2 (omega arith) (omega arith), above 3 (omega arith) (omega arith)))
+        | inr x ↦ (copy_bytes new, inl (below 0 (omega arith), below 1 (omega arith)))
+      ];
+    }
+
+written_ends : (old new : Saved) (g : Face) → IsGood new → Written old new 4 g → Ends old new g
+written_ends old new g gn m =
+    let at : (c : ℕ) → c < 4 → good_copy g c ≡ Some (copy_bytes new) = λ c b. good_reads new g c gn (m.done c b) in
+    record { each = λ c b. inr (inl (at c b)); agree = (copy_bytes new, inl (at 0 (omega arith), at 1 (omega arith))) }
+
+ends_from : (n k : ℕ) (old new : Saved) (g : Face) (j code : ℕ) → IsGood old → IsGood new → k + n ≡ 4 → Written old new k g
+    → let h = cut j code g (save_from k n (copy_bytes new)) in TellsApart h old → TellsApart h new → Ends old new h
+unfolding save_from cut
+ends_from zero k old new g j code go gn s m to tn = let e : k ≡ 4 = omega arith in written_ends old new g gn (subst (λ k. Written old new k g) e m)
+ends_from (suc n) k old new g j code go gn s m to tn =
+    let calls = copy_calls k (copy_bytes new) in
+    let parts = cuts_both calls (save_from (k + 1) n (copy_bytes new)) g j code in
+    elim (cases_lt j (length calls)) [
+      | inl x ↦ let same = parts.first x in rw same (torn_ends old new g k j code go gn (omega arith) m (rw same at to) (rw same at tn))
+      | inr x ↦
+          let same = parts.later x in
+          rw same (ends_from n (k + 1) old new (after_all g calls) (j - length calls) code go gn (omega arith) (written_next old new g k gn (omega arith) m) (rw same at to) (rw same at tn))
+    ]
+
+two_first : (x : List ℕ) (a b c d : Option (List ℕ)) → a ≡ Some x → b ≡ Some x → agreed (a ∷ b ∷ c ∷ d ∷ []) x ≡ true
+two_first x a b c d p q =
+    let i : one x a ≡ 1 = ap (λ t. cond t 1 0) (reads_has x a p) in
+    let j : one x b ≡ 1 = ap (λ t. cond t 1 0) (reads_has x b q) in
+    let e = sum_by-cons (one x) a (b ∷ c ∷ d ∷ []) in
+    let g = sum_by-cons (one x) b (c ∷ d ∷ []) in
+    le-leb 2 (count_by (has x) (a ∷ b ∷ c ∷ d ∷ [])) (omega arith)
+
+two_last : (x : List ℕ) (a b c d : Option (List ℕ)) → c ≡ Some x → d ≡ Some x → agreed (a ∷ b ∷ c ∷ d ∷ []) x ≡ true
+two_last x a b c d p q =
+    let i : one x c ≡ 1 = ap (λ t. cond t 1 0) (reads_has x c p) in
+    let j : one x d ≡ 1 = ap (λ t. cond t 1 0) (reads_has x d q) in
+    let e = sum_by-cons (one x) a (b ∷ c ∷ d ∷ []) in
+    let g = sum_by-cons (one x) b (c ∷ d ∷ []) in
+    let h = sum_by-cons (one x) c (d ∷ []) in
+    let k = sum_by-cons (one x) d [] in
+    le-leb 2 (count_by (has x) (a ∷ b ∷ c ∷ d ∷ [])) (omega arith)
+
+is_either : (old new : Saved) (h : Face) (v : List ℕ) (c : Option (List ℕ)) → IsGood old → IsGood new → opened (good_copies h) ≡ Some v → Either (copy_bytes old) (copy_bytes new) c → c ≡ Some v → (opens h ≡ Some old) ⊎ (opens h ≡ Some new)
+is_either old new h v c go gn o (inl x) e = inl (opens_by h old go (o ∙ sym e ∙ x))
+is_either old new h v c go gn o (inr (inl x)) e = inr (opens_by h new gn (o ∙ sym e ∙ x))
+is_either old new h v c go gn o (inr (inr x)) e = absurd cc
+
+ends_open : (old new : Saved) (h : Face) → IsGood old → IsGood new → Ends old new h → (opens h ≡ Some old) ⊎ (opens h ≡ Some new)
+ends_open old new h go gn s =
+    let x = s.agree.0 in
+    let pair : Among x (good_copies h) × (agreed (good_copies h) x ≡ true) = elim s.agree.1 [
+      | inl p ↦ (inl p.0, two_first x (good_copy h 0) (good_copy h 1) (good_copy h 2) (good_copy h 3) p.0 p.1)
+      | inr p ↦ (inr (inr (inl p.0)), two_last x (good_copy h 0) (good_copy h 1) (good_copy h 2) (good_copy h 3) p.0 p.1)
+    ] in
+    let best = opened_some x (good_copies h) pair.0 pair.1 in
+    let is : (c : ℕ) → c < 4 → good_copy h c ≡ Some best.0 → (opens h ≡ Some old) ⊎ (opens h ≡ Some new) = λ c l e. is_either old new h best.0 (good_copy h c) go gn best.1 (s.each c l) e in
+    elim (opened_among best.0 (good_copies h) best.1) [
+      | inl e ↦ is 0 (omega arith) e
+      | inr a ↦ elim a [ inl e ↦ is 1 (omega arith) e | inr a ↦ elim a [ inl e ↦ is 2 (omega arith) e | inr a ↦ elim a [ inl e ↦ is 3 (omega arith) e | inr a ↦ elim a [ ] ] ] ]
+    ]
+
+pub write_law : WriteLaw
+write_law old new f h w e gn =
+    let o = opened_of f old h e in
+    let m = start old f h w in
+    let mends = mend_calls old f in
+    let saves = save_from 0 4 (copy_bytes new) in
+    let g = after_all f mends in
+    let all = all_mended 4 0 old f f o.good h refl m in
+    let begins : Written old new 0 g = record { waiting = all.waiting; count = all.count; done = λ c l. absurd (omega arith); left = λ c a b. all.done c b; heads = λ c a b. all.heads c b } in
+    record {
+      done = λ c l. ap (λ h. copy_reading h c) (after_all_append mends saves f) ∙ (all_written 4 0 old new g gn refl begins).done c l;
+      stopped = λ j code to tn.
+          let parts = cuts_both mends saves f j code in
+          elim (cases_lt j (length mends)) [
+            | inl x ↦ let same = parts.first x in rw same (inl (steps_keep old f (cut j code f mends) o (steps_from 4 0 old f f j code o.good h refl m (rw same at to))))
+            | inr x ↦ let same = parts.later x in rw same (ends_open old new (cut (j - length mends) code g saves) o.good gn (ends_from 4 0 old new g (j - length mends) code o.good gn refl begins (rw same at to) (rw same at tn)))
+          ];
+    }

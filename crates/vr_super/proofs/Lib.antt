@@ -1,0 +1,12 @@
+pub mod Best
+pub mod Choice
+pub mod Choosing
+pub mod Filling
+pub mod Format
+pub mod Heads
+pub mod Keeping
+pub mod Readings
+pub mod Sealing
+pub mod Spelling
+pub mod Steps
+pub mod Torn

@@ -1,0 +1,212 @@
+-- Sector after sector, and copy after copy.
+use Rattle.std.proofs.Common.{ℕ, zero, suc, ◌+◌, ◌-◌, ◌*◌, ◌≤◌, ◌<◌, ◌≡◌, arith, refl, sym, ap, ◌∙◌, Bool, true, false, cond, List, [], ◌∷◌, ◌++◌, length, drop, take, Option, Some, None, subst, ◌&&◌, ◌≢◌}
+use Rattle.std.proofs.lemmas.List.{drop_all, drop_at, drop-drop, take_at, take-append-drop}
+use Rattle.std.proofs.lemmas.Bool.{and_parts, and_from}
+use Rattle.std.proofs.lemmas.Slice.Eq.{bytes_eq-Decides}
+use Rattle.std.specs.Prelude.{nat_eq, IfSome}
+use Rattle.std.specs.Cmp.Lexicographic.{pointwise}
+use Rattle.vr_base.specs.Bytes.{piece}
+use Rattle.vr_disk.specs.DiskState.{Call, Write, Sync, Disk, Face, IsFace, Runs, RunsFrom, after_all, reads, runs}
+use Rattle.vr_disk.proofs.Faces.{there}
+use Rattle.vr_disk.proofs.Running.{Runs_then, Runs_stopped, RunsFrom_then, RunsFrom_stopped, after_is}
+use Rattle.vr_super.specs.Calls.{copy_calls, mend_copy, mend_from, mend_calls, mend_unless, save_from, write_calls, writes}
+use Rattle.vr_super.specs.Opens.{behind, copy_reading, has, opens, reading}
+use Rattle.vr_super.specs.Copies.{IsGood, Saved, copy_bytes}
+use Rattle.vr_super.specs.Laws.{WriteLeads}
+use Rattle.vr_super.proofs.Keeping.{write_law}
+use Rattle.vr_super.proofs.Readings.{mend_within, other_after}
+
+writes_cons : (i n : ℕ) (bytes : List ℕ) → writes i (suc n) bytes ≡ Write i (piece 0 512 bytes) ∷ writes (i + 1) n (drop 512 bytes)
+unfolding writes
+writes_cons i n bytes = refl
+
+pub writes_step : (at count k : ℕ) (bytes : List ℕ) → k < count
+    → writes (at + k) (count - k) (drop (512 * k) bytes) ≡ Write (at + k) (piece (512 * k) 512 bytes) ∷ writes (at + (k + 1)) (count - (k + 1)) (drop (512 * (k + 1)) bytes)
+unfolding piece
+writes_step at count k bytes l =
+    let n : count - k ≡ suc (count - (k + 1)) = omega arith in
+    let i : at + k + 1 ≡ at + (k + 1) = omega arith in
+    let d : 512 * k + 512 ≡ 512 * (k + 1) = omega arith in
+    ap (λ m. writes (at + k) m (drop (512 * k) bytes)) n
+    ∙ (writes_cons (at + k) (count - (k + 1)) (drop (512 * k) bytes)
+    ∙ (ap (λ j. Write (at + k) (piece 0 512 (drop (512 * k) bytes)) ∷ writes j (count - (k + 1)) (drop 512 (drop (512 * k) bytes))) i
+    ∙ ap (λ b. Write (at + k) (piece (512 * k) 512 bytes) ∷ writes (at + (k + 1)) (count - (k + 1)) b) (drop-drop 512 (512 * k) bytes ∙ ap (λ m. drop m bytes) d)))
+
+pub writes_past : (at count k : ℕ) (bytes : List ℕ) → k ≡ count → writes (at + k) (count - k) (drop (512 * k) bytes) ≡ []
+unfolding writes
+writes_past at count k bytes e = let n : count - k ≡ 0 = omega arith in rw n refl
+
+-- ---- copies
+
+save_cons : (k n : ℕ) (bytes : List ℕ) → save_from k (suc n) bytes ≡ copy_calls k bytes ++ save_from (k + 1) n bytes
+unfolding save_from
+save_cons k n bytes = refl
+
+pub save_step : (k : ℕ) (bytes : List ℕ) → k < 4 → save_from k (4 - k) bytes ≡ copy_calls k bytes ++ save_from (k + 1) (4 - (k + 1)) bytes
+save_step k bytes l = let n : 4 - k ≡ suc (4 - (k + 1)) = omega arith in ap (λ m. save_from k m bytes) n ∙ save_cons k (4 - (k + 1)) bytes
+
+pub save_past : (k : ℕ) (bytes : List ℕ) → 4 ≤ k → save_from k (4 - k) bytes ≡ []
+unfolding save_from
+save_past k bytes l = let n : 4 - k ≡ 0 = omega arith in rw n refl
+
+mend_cons : (k n : ℕ) (bytes : List ℕ) (f : Face) → mend_from k (suc n) bytes f ≡ mend_unless k bytes f ++ mend_from (k + 1) n bytes f
+unfolding mend_from
+mend_cons k n bytes f = refl
+
+mend_step : (k : ℕ) (bytes : List ℕ) (f : Face) → k < 4 → mend_from k (4 - k) bytes f ≡ mend_unless k bytes f ++ mend_from (k + 1) (4 - (k + 1)) bytes f
+mend_step k bytes f l = let n : 4 - k ≡ suc (4 - (k + 1)) = omega arith in ap (λ m. mend_from k m bytes f) n ∙ mend_cons k (4 - (k + 1)) bytes f
+
+mend_past : (k : ℕ) (bytes : List ℕ) (f : Face) → 4 ≤ k → mend_from k (4 - k) bytes f ≡ []
+unfolding mend_from
+mend_past k bytes f l = let n : 4 - k ≡ 0 = omega arith in rw n refl
+
+-- copies below k have been mended: what is left, from the disk as it was at first
+pub record MendingOn (bytes : List ℕ) (k : ℕ) (d now : Disk) : Type 0 where
+  pub rest : (new : Option Disk) (ok : Bool) → Runs (mend_from k (4 - k) bytes d.face) (Some now) new ok → Runs (mend_from 0 4 bytes d.face) (Some d) new ok
+  pub same : (c : ℕ) → k ≤ c → c < 4 → copy_reading now.face c ≡ copy_reading d.face c
+
+abbrev pub MendingFrom : List ℕ → ℕ → Option Disk → Option Disk → Type 0
+MendingFrom bytes k None t = t ≡ None
+MendingFrom bytes k (Some d) t = (now : Disk) × (t ≡ Some now) × MendingOn bytes k d now
+
+pub record Mending (bytes : List ℕ) (k : ℕ) (first t : Option Disk) : Type 0 where
+  pub is : MendingFrom bytes k first t
+
+starts : (bytes : List ℕ) (t : Option Disk) → MendingFrom bytes 0 t t
+starts bytes None = refl
+starts bytes (Some d) = (d, refl, record { rest = λ new ok h. h; same = λ c a b. refl })
+
+pub mending_starts : (bytes : List ℕ) (t : Option Disk) → Mending bytes 0 t t
+mending_starts bytes t = record { is = starts bytes t }
+
+unless_reading : (k : ℕ) (bytes : List ℕ) (f g : Face) → copy_reading g k ≡ copy_reading f k → mend_unless k bytes g ≡ mend_unless k bytes f
+unless_reading k bytes f g e = ap (λ o. cond (has bytes o) [] (mend_copy k bytes)) e
+
+unless_others : (k c : ℕ) (bytes : List ℕ) (f g : Face) → k ≢ c → copy_reading (after_all g (mend_unless k bytes f)) c ≡ copy_reading g c
+unless_others k c bytes f g d =
+    elim (has bytes (copy_reading f k)) as (λ b. copy_reading (after_all g (cond b [] (mend_copy k bytes))) c ≡ copy_reading g c) [ true ↦ refl | false ↦ other_after (mend_copy k bytes) g k c (mend_within k bytes) d ]
+
+-- one copy more
+next_from : (bytes : List ℕ) (k : ℕ) (d now : Disk) (t : Option Disk) → k < 4 → MendingOn bytes k d now → RunsFrom (mend_unless k bytes) (Some now) t true → MendingFrom bytes (k + 1) (Some d) t
+next_from bytes k d now t l m r =
+    let calls = mend_unless k bytes d.face in
+    let same : mend_unless k bytes now.face ≡ calls = unless_reading k bytes d.face now.face (m.same k (omega arith) l) in
+    let r' : Runs calls (Some now) t true = rw same at r in
+    let after = (runs calls now).disk in
+    let face : after.face ≡ after_all now.face calls = after_is calls now (sym r'.1) in (
+      after,
+      r'.0,
+      record {
+        rest = λ new ok h. m.rest new ok (rw (mend_step k bytes d.face l) (Runs_then calls (mend_from (k + 1) (4 - (k + 1)) bytes d.face) (Some now) (Some after) new ok (refl, r'.1) h));
+        same = λ c a b. ap (λ f. copy_reading f c) face ∙ (unless_others k c bytes d.face now.face (λ e. absurd (omega arith)) ∙ m.same c (omega arith) b);
+      },
+    )
+
+next_of : (bytes : List ℕ) (k : ℕ) (first t u : Option Disk) → k < 4 → MendingFrom bytes k first t → RunsFrom (mend_unless k bytes) t u true → MendingFrom bytes (k + 1) first u
+next_of bytes k None t u l m r = let r' : RunsFrom (mend_unless k bytes) None u true = rw m at r in r'
+next_of bytes k (Some d) t u l m r = let r' : RunsFrom (mend_unless k bytes) (Some m.0) u true = rw m.1 at r in next_from bytes k d m.0 u l m.2 r'
+
+pub mending_goes : (bytes : List ℕ) (k : ℕ) (first t u : Option Disk) → k < 4 → Mending bytes k first t → RunsFrom (mend_unless k bytes) t u true → Mending bytes (k + 1) first u
+mending_goes bytes k first t u l m r = record { is = next_of bytes k first t u l m.is r }
+
+stops_of : (bytes : List ℕ) (k : ℕ) (first t u : Option Disk) → k < 4 → MendingFrom bytes k first t → RunsFrom (mend_unless k bytes) t u false → RunsFrom (mend_from 0 4 bytes) first u false
+stops_of bytes k None t u l m r = let r' : RunsFrom (mend_unless k bytes) None u false = rw m at r in r'
+stops_of bytes k (Some d) t u l m r =
+    let now = m.0 in
+    let calls = mend_unless k bytes d.face in
+    let same : mend_unless k bytes now.face ≡ calls = unless_reading k bytes d.face now.face (m.2.same k (omega arith) l) in
+    let r' : RunsFrom (mend_unless k bytes) (Some now) u false = rw m.1 at r in
+    let r2 : Runs calls (Some now) u false = rw same at r' in
+    m.2.rest u false (rw (mend_step k bytes d.face l) (Runs_stopped calls (mend_from (k + 1) (4 - (k + 1)) bytes d.face) (Some now) u r2))
+
+pub mending_stops : (bytes : List ℕ) (k : ℕ) (first t u : Option Disk) → k < 4 → Mending bytes k first t → RunsFrom (mend_unless k bytes) t u false → RunsFrom (mend_from 0 4 bytes) first u false
+mending_stops bytes k first t u l m r = stops_of bytes k first t u l m.is r
+
+ends_of : (bytes : List ℕ) (k : ℕ) (first t : Option Disk) → 4 ≤ k → MendingFrom bytes k first t → RunsFrom (mend_from 0 4 bytes) first t true
+ends_of bytes k None t l m = m
+ends_of bytes k (Some d) t l m = m.2.rest t true (rw (mend_past k bytes d.face l) (m.1, refl))
+
+pub mending_ends : (bytes : List ℕ) (k : ℕ) (first t : Option Disk) → 4 ≤ k → Mending bytes k first t → RunsFrom (mend_from 0 4 bytes) first t true
+mending_ends bytes k first t l m = ends_of bytes k first t l m.is
+
+-- ---- a copy read sector after sector
+
+bool_ext : (p q : Bool) → (p ≡ true → q ≡ true) → (q ≡ true → p ≡ true) → p ≡ q
+bool_ext true q f g = sym (f refl)
+bool_ext false true f g = g refl
+bool_ext false false f g = refl
+
+and_false : (p : Bool) → (p && false) ≡ false
+and_false true = refl
+and_false false = refl
+
+both_same : (x y b : List ℕ) → length x ≡ 512 → pointwise nat_eq (x ++ y) b ≡ (pointwise nat_eq x (take 512 b) && pointwise nat_eq y (drop 512 b))
+both_same x y b l =
+    bool_ext _ _
+    (λ e. let s : x ++ y ≡ b = (bytes_eq-Decides (x ++ y) b).0 e in
+    and_from _ _ ((bytes_eq-Decides x (take 512 b)).1 (sym (ap (take 512) (sym s) ∙ take_at x y 512 l))) ((bytes_eq-Decides y (drop 512 b)).1 (sym (ap (drop 512) (sym s) ∙ drop_at x y 512 l))))
+    (λ e. let p = and_parts (pointwise nat_eq x (take 512 b)) (pointwise nat_eq y (drop 512 b)) e in
+    (bytes_eq-Decides (x ++ y) b).1 (ap (λ z. z ++ y) ((bytes_eq-Decides x (take 512 b)).0 p.0) ∙ (ap (λ z. take 512 b ++ z) ((bytes_eq-Decides y (drop 512 b)).0 p.1) ∙ take-append-drop 512 b)))
+
+has_both : (b : List ℕ) (a r : Option (List ℕ)) → ((x : List ℕ) → a ≡ Some x → length x ≡ 512) → has b (behind a r) ≡ (has (take 512 b) a && has (drop 512 b) r)
+has_both b None r h = refl
+has_both b (Some x) None h = sym (and_false (pointwise nat_eq x (take 512 b)))
+has_both b (Some x) (Some y) h = both_same x y b (h x refl)
+
+reading_cons : (n i : ℕ) (f : Face) → reading i (suc n) f ≡ behind (reads f i) (reading (i + 1) n f)
+unfolding reading
+reading_cons n i f = refl
+
+pub has_step : (i k : ℕ) (b : List ℕ) (f : Face) → IsFace f → k < 20 → i + 20 ≤ 1424
+    → has (drop (512 * k) b) (reading (i + k) (20 - k) f) ≡ (has (piece (512 * k) 512 b) (reads f (i + k)) && has (drop (512 * (k + 1)) b) (reading (i + (k + 1)) (20 - (k + 1)) f))
+unfolding piece
+has_step i k b f h l m =
+    let n : 20 - k ≡ suc (20 - (k + 1)) = omega arith in
+    let j : i + k + 1 ≡ i + (k + 1) = omega arith in
+    let d : 512 * k + 512 ≡ 512 * (k + 1) = omega arith in
+    let rest = reading (i + k + 1) (20 - (k + 1)) f in
+    ap (λ m. has (drop (512 * k) b) (reading (i + k) m f)) n
+    ∙ (ap (has (drop (512 * k) b)) (reading_cons (20 - (k + 1)) (i + k) f)
+    ∙ (has_both (drop (512 * k) b) (reads f (i + k)) rest (λ x e. ((there f (i + k) h (omega arith)).reads x e).size)
+    ∙ (ap (λ y. has (take 512 (drop (512 * k) b)) (reads f (i + k)) && has y rest) (drop-drop 512 (512 * k) b ∙ ap (λ m. drop m b) d)
+    ∙ ap (λ m. has (take 512 (drop (512 * k) b)) (reads f (i + k)) && has (drop (512 * (k + 1)) b) (reading m (20 - (k + 1)) f)) j)))
+
+pub has_past : (i k : ℕ) (b : List ℕ) (f : Face) → length b ≡ 10240 → 20 ≤ k → k ≤ 20 → has (drop (512 * k) b) (reading (i + k) (20 - k) f) ≡ true
+unfolding reading
+has_past i k b f l m n =
+    let z : 20 - k ≡ 0 = omega arith in
+    let e : drop (512 * k) b ≡ [] = drop_all (512 * k) b (omega arith) in
+    rw (z, e) refl
+
+pub if_some : {X : Type 0} → (P : X → Type 0) (o : Option X) → ((x : X) → o ≡ Some x → P x) → IfSome o P
+if_some P None h = tt
+if_some P (Some x) h = h x refl
+
+pub some_if : {X : Type 0} → (P : X → Type 0) (o : Option X) (x : X) → IfSome o P → o ≡ Some x → P x
+some_if P None x h e = absurd cc
+some_if P (Some y) x h e = let same : y ≡ x = cc in subst P same h
+
+pub has_start : (c : ℕ) (b : List ℕ) (f : Face) → has b (copy_reading f c) ≡ has (drop (512 * 0) b) (reading (20 * c + 0) (20 - 0) f)
+unfolding copy_reading
+has_start c b f = let z : 20 * c + 0 ≡ 20 * c = omega arith in rw z refl
+
+-- ---- mending and then writing
+
+runs_const : (cs : List Call) (a b : Option Disk) (ok : Bool) → Runs cs a b ok → RunsFrom (λ f. cs) a b ok
+runs_const cs None b ok h = h
+runs_const cs (Some d) b ok h = h
+
+pub write_then : (old new : Saved) (x y : List ℕ) (a b c : Option Disk) (ok : Bool) → x ≡ copy_bytes old → y ≡ copy_bytes new → RunsFrom (mend_from 0 4 x) a b true → Runs (save_from 0 4 y) b c ok → RunsFrom (write_calls old new) a c ok
+write_then old new x y a b c ok p q h k =
+    let h' : RunsFrom (mend_calls old) a b true = rw p at h in
+    let k' : Runs (save_from 0 4 (copy_bytes new)) b c ok = rw q at k in
+    RunsFrom_then (mend_calls old) (λ f. save_from 0 4 (copy_bytes new)) a b c ok h' (runs_const (save_from 0 4 (copy_bytes new)) b c ok k')
+
+pub write_stopped : (old new : Saved) (x : List ℕ) (a b : Option Disk) → x ≡ copy_bytes old → RunsFrom (mend_from 0 4 x) a b false → RunsFrom (write_calls old new) a b false
+write_stopped old new x a b p h =
+    let h' : RunsFrom (mend_calls old) a b false = rw p at h in
+    RunsFrom_stopped (mend_calls old) (λ f. save_from 0 4 (copy_bytes new)) a b h'
+
+pub leads : (old new : Saved) (t : Option Disk) → IfSome t (λ d. IsFace d.face) → IsGood new → IfSome t (λ d. d.face.waiting ≡ [] → opens d.face ≡ Some old → WriteLeads old new d.face)
+leads old new None w g = tt
+leads old new (Some d) w g = λ r o. write_law old new d.face w r o g

@@ -1,0 +1,187 @@
+-- A copy that was being written when the stop came: it is good with the value's bytes, or as before, or bad.
+use Rattle.std.proofs.Common.{ℕ, zero, suc, ◌+◌, ◌-◌, ◌*◌, ◌≤◌, ◌<◌, ◌≡◌, ◌≢◌, ◌⊎◌, inl, inr, arith, refl, sym, ap, ◌∙◌, Bool, true, false, cond, List, [], ◌∷◌, ◌++◌, length, take, drop, get_or, Option, Some, None, subst, append_assoc}
+use Rattle.std.specs.Prelude.{bit_xor, is_some, map}
+use Rattle.std.specs.List.{All, AllByRecursion}
+use Rattle.std.proofs.lemmas.Bool.{cases_lt}
+use Rattle.std.proofs.lemmas.List.{get_or-map, get_or-take, get_or_append_left, length-map, length-take, take-take, take-append-le, take-append-drop, take_at}
+use Rattle.vr_base.specs.Bytes.{name_of, piece}
+use Rattle.vr_disk.specs.DiskState.{Call, Write, Sync, Face, Cell, IsCell, IsFace, after, after_all, cell, cut, damaged, reads, waits}
+use Rattle.vr_disk.specs.Stops.{IsLeft, Spares, WritesOnly}
+use Rattle.vr_disk.proofs.Frames.{frame_all, frame_cut, reads_back}
+use Rattle.vr_disk.proofs.Faces.{there}
+use Rattle.vr_disk.proofs.Outcomes.{cut_leaves}
+use Rattle.vr_disk.proofs.Stopping.{cuts_both}
+use Rattle.vr_super.specs.Copies.{IsGood, Saved, copy_bytes, named_bytes, value_of}
+use Rattle.vr_super.specs.Opens.{copy_reading, good_copy, if_good, reading}
+use Rattle.vr_super.specs.Calls.{copy_calls, mend_copy, writes}
+use Rattle.vr_super.specs.Laws.{TellsApart}
+use Rattle.vr_super.proofs.Readings.{First, reading_first, reading_same}
+use Rattle.vr_super.proofs.Format.{good_named, good_version, length-copy_bytes, name-copy_bytes, rest-copy_bytes, value_again}
+
+-- the value's first sector
+abbrev pub head_of : Saved → List ℕ
+head_of v = piece 0 512 (copy_bytes v)
+
+head_length : (v : Saved) → IsGood v → length (head_of v) ≡ 512
+unfolding piece
+head_length v g = let l = length-copy_bytes v g in let t = length-take 512 (copy_bytes v) in omega arith
+
+-- a good copy whose first sector is the value's has its bytes
+same_head : (v : Saved) (b : List ℕ) (u : Saved) (rest : List ℕ) → IsGood v → b ≡ head_of v ++ rest → value_of b ≡ Some u
+    → (name_of (drop 16 b) ≡ name_of (named_bytes v) → drop 16 b ≡ named_bytes v) → b ≡ copy_bytes v
+unfolding piece
+same_head v b u rest g e h t =
+    let l = head_length v g in
+    let front : take 16 b ≡ take 16 (copy_bytes v) = ap (take 16) e ∙ (take-append-le 16 (head_of v) rest (omega arith) ∙ take-take 16 512 (copy_bytes v) (omega arith)) in
+    let name : name_of (drop 16 b) ≡ name_of (named_bytes v) = sym (good_named b u h) ∙ (front ∙ name-copy_bytes v) in
+    sym (take-append-drop 16 b) ∙ (ap (λ x. x ++ drop 16 b) front ∙ (ap (λ x. take 16 (copy_bytes v) ++ x) (t name ∙ sym (rest-copy_bytes v)) ∙ take-append-drop 16 (copy_bytes v)))
+
+some_same : (a b : List ℕ) → Some a ≡ Some b → a ≡ b
+some_same a b e = cc
+
+version_damaged : (v : Saved) (b : List ℕ) (u : Saved) (rest : List ℕ) → IsGood v → b ≡ damaged (head_of v) ++ rest → value_of b ≡ Some u → ⊥
+unfolding piece
+version_damaged v b u rest g e h =
+    let l = head_length v g in
+    let version : get_or (copy_bytes v) 92 0 ≡ 1 = good_version (copy_bytes v) v (value_again v g) in
+    let there : get_or (head_of v) 92 0 ≡ 1 = get_or-take 512 (copy_bytes v) 92 0 (omega arith) ∙ version in
+    let turned : get_or (damaged (head_of v)) 92 0 ≡ 254 = get_or-map (λ b. bit_xor b 255) (head_of v) 92 0 0 (omega arith) ∙ ap (λ b. bit_xor b 255) there in
+    let d = length-map (head_of v) (λ b. bit_xor b 255) in
+    let here : get_or b 92 0 ≡ 254 = ap (λ x. get_or x 92 0) e ∙ (get_or_append_left (damaged (head_of v)) rest 0 92 (omega arith) ∙ turned) in
+    let one = good_version b u h in
+    omega arith
+
+bad_reading : (r : Option (List ℕ)) → ((b : List ℕ) (u : Saved) → r ≡ Some b → value_of b ≡ Some u → ⊥) → if_good r ≡ None
+bad_reading None h = refl
+bad_reading (Some b) h =
+    elim (value_of b) as (λ o. value_of b ≡ o → cond (is_some o) (Some b) None ≡ None) [
+      | Some u ↦ λ e. absurd (h b u refl e)
+      | None ↦ λ e. refl
+    ] refl
+
+-- a copy is good or bad
+abbrev pub OneOf : List ℕ → Option (List ℕ) → Type 0
+OneOf bytes c = (c ≡ Some bytes) ⊎ (c ≡ None)
+
+by_reading : (r : Option (List ℕ)) (bytes : List ℕ) → ((b : List ℕ) (u : Saved) → r ≡ Some b → value_of b ≡ Some u → b ≡ bytes) → OneOf bytes (if_good r)
+by_reading None bytes h = inr refl
+by_reading (Some b) bytes h =
+    elim (value_of b) as (λ o. value_of b ≡ o → OneOf bytes (cond (is_some o) (Some b) None)) [
+      | Some u ↦ λ e. inl (ap Some (h b u refl e))
+      | None ↦ λ e. inr refl
+    ] refl
+
+-- the first sector reads as the value's: the copy is the value's, or bad
+pub head_tells : (v : Saved) (f : Face) (c : ℕ) → IsGood v → c < 4 → reads f (20 * c) ≡ Some (head_of v) → TellsApart f v → OneOf (copy_bytes v) (good_copy f c)
+unfolding good_copy copy_reading
+head_tells v f c g l e t =
+    by_reading (reading (20 * c) 20 f) (copy_bytes v) (λ b u r h.
+    let x = reading_first 19 (20 * c) f b r in
+    let same : x.first ≡ head_of v = some_same x.first (head_of v) (sym x.reads ∙ e) in
+    same_head v b u x.rest g (x.whole ∙ ap (λ y. y ++ x.rest) same) h (t c b l r))
+
+-- the first sector is damaged: the copy is bad
+pub damaged_bad : (v : Saved) (f : Face) (c : ℕ) → IsGood v → reads f (20 * c) ≡ Some (damaged (head_of v)) → good_copy f c ≡ None
+unfolding good_copy copy_reading
+damaged_bad v f c g e =
+    bad_reading (reading (20 * c) 20 f) (λ b u r h.
+    let x = reading_first 19 (20 * c) f b r in
+    let same : x.first ≡ damaged (head_of v) = some_same x.first (damaged (head_of v)) (sym x.reads ∙ e) in
+    version_damaged v b u x.rest g (x.whole ∙ ap (λ y. y ++ x.rest) same) h)
+
+-- ---- a copy in the midst of its writes
+
+only_first : (n i k : ℕ) (b bytes : List ℕ) → k < i → AllByRecursion (WritesOnly k b) (writes i n bytes)
+unfolding writes
+only_first zero i k b bytes l = tt
+only_first (suc n) i k b bytes l = ((λ e. absurd (omega arith)), only_first n (i + 1) k b (drop 512 bytes) (omega arith))
+
+only_append : (k : ℕ) (b : List ℕ) (cs ds : List Call) → AllByRecursion (WritesOnly k b) cs → AllByRecursion (WritesOnly k b) ds → AllByRecursion (WritesOnly k b) (cs ++ ds)
+only_append k b [] ds x y = y
+only_append k b (c ∷ cs) ds x y = (x.0, only_append k b cs ds x.1 y)
+
+copy_only : (c : ℕ) (bytes : List ℕ) → AllByRecursion (WritesOnly (20 * c) (piece 0 512 bytes)) (copy_calls c bytes)
+unfolding copy_calls writes
+copy_only c bytes = ((λ e. refl), only_append (20 * c) (piece 0 512 bytes) (writes (20 * c + 1) 19 (drop 512 bytes)) (Sync ∷ []) (only_first 19 (20 * c + 1) (20 * c) (piece 0 512 bytes) (drop 512 bytes) (omega arith)) (tt, tt))
+
+-- the first sector of a copy that reads as a value
+pub head_reads : (v : Saved) (f : Face) (c : ℕ) → IsGood v → IsFace f → c < 4 → copy_reading f c ≡ Some (copy_bytes v) → reads f (20 * c) ≡ Some (head_of v)
+unfolding copy_reading piece
+head_reads v f c g h l e =
+    let x = reading_first 19 (20 * c) f (copy_bytes v) e in
+    let size = (there f (20 * c) h (omega arith)).reads x.first x.reads in
+    x.reads ∙ ap Some (sym (ap (take 512) x.whole ∙ take_at x.first x.rest 512 size.size))
+
+-- one of these values, or bad
+abbrev pub Either : List ℕ → List ℕ → Option (List ℕ) → Type 0
+Either a b c = (c ≡ Some a) ⊎ ((c ≡ Some b) ⊎ (c ≡ None))
+
+pub copy_torn : (old new : Saved) (f : Face) (c j code : ℕ) → IsGood old → IsGood new → length f.cells ≡ 1424 → f.waiting ≡ [] → c < 4 → reads f (20 * c) ≡ Some (head_of old)
+    → let g = cut j code f (copy_calls c (copy_bytes new)) in TellsApart g old → TellsApart g new → Either (copy_bytes old) (copy_bytes new) (good_copy g c)
+copy_torn old new f c j code go gn n w l before to tn =
+    let calls = copy_calls c (copy_bytes new) in
+    let g = cut j code f calls in
+    elim (cut_leaves calls f (20 * c) (head_of new) j code (omega arith) (copy_only c (copy_bytes new)) (rw w refl)) [
+      | inl e ↦ elim (head_tells old g c go l (e ∙ before) to) [ inl x ↦ inl x | inr x ↦ inr (inr x) ]
+      | inr y ↦ elim y [
+        | inl e ↦ elim (head_tells new g c gn l e tn) [ inl x ↦ inr (inl x) | inr x ↦ inr (inr x) ]
+        | inr e ↦ inr (inr (damaged_bad new g c gn e))
+      ]
+    ]
+
+-- mending: as before, or the value's, or bad
+abbrev first_calls : ℕ → List ℕ → List Call
+first_calls c bytes = Write (20 * c) (piece 0 512 bytes) ∷ Sync ∷ []
+
+abbrev rest_calls : ℕ → List ℕ → List Call
+rest_calls c bytes = writes (20 * c + 1) 19 (drop 512 bytes) ++ Sync ∷ []
+
+pub spares_append : (k : ℕ) (cs ds : List Call) → AllByRecursion (Spares k) cs → AllByRecursion (Spares k) ds → AllByRecursion (Spares k) (cs ++ ds)
+spares_append k [] ds x y = y
+spares_append k (c ∷ cs) ds x y = (x.0, spares_append k cs ds x.1 y)
+
+pub spares_rest : (n i k : ℕ) (bytes : List ℕ) → k < i → AllByRecursion (Spares k) (writes i n bytes)
+unfolding writes
+spares_rest zero i k bytes l = tt
+spares_rest (suc n) i k bytes l = ((λ e. omega arith), spares_rest n (i + 1) k (drop 512 bytes) (omega arith))
+
+mend_first : (v : Saved) (f : Face) (c j code : ℕ) → IsGood v → length f.cells ≡ 1424 → f.waiting ≡ [] → c < 4
+    → let g = cut j code f (first_calls c (copy_bytes v)) in TellsApart g v → (copy_reading g c ≡ copy_reading f c) ⊎ OneOf (copy_bytes v) (good_copy g c)
+unfolding copy_reading
+mend_first v f c j code gv n w l t =
+    let calls = first_calls c (copy_bytes v) in
+    let g = cut j code f calls in
+    let others : (k : ℕ) → 20 * c < k → reads g k ≡ reads f k = λ k a. ap (λ (c : Cell). c.reads) (frame_cut calls f k j code ((λ e. omega arith), (tt, tt)) (rw w refl)) in
+    elim (cut_leaves calls f (20 * c) (head_of v) j code (omega arith) ((λ e. refl), (tt, tt)) (rw w refl)) [
+      | inl e ↦ inl (reading_same 20 (20 * c) f g (λ k a b. elim (cases_lt (20 * c) k) [ inl m ↦ others k m | inr m ↦ let same : k ≡ 20 * c = omega arith in rw same e ]))
+      | inr y ↦ elim y [
+        | inl e ↦ inr (head_tells v g c gv l e t)
+        | inr e ↦ inr (inr (damaged_bad v g c gv e))
+      ]
+    ]
+
+mend_rest : (v : Saved) (f : Face) (c j code : ℕ) → IsGood v → f.waiting ≡ [] → c < 4 → reads f (20 * c) ≡ Some (head_of v)
+    → let g = cut j code f (rest_calls c (copy_bytes v)) in TellsApart g v → OneOf (copy_bytes v) (good_copy g c)
+mend_rest v f c j code gv w l e t =
+    let calls = rest_calls c (copy_bytes v) in
+    let g = cut j code f calls in
+    let spared = spares_append (20 * c) (writes (20 * c + 1) 19 (drop 512 (copy_bytes v))) (Sync ∷ []) (spares_rest 19 (20 * c + 1) (20 * c) (drop 512 (copy_bytes v)) (omega arith)) (tt, tt) in
+    head_tells v g c gv l (ap (λ (c : Cell). c.reads) (frame_cut calls f (20 * c) j code spared (rw w refl)) ∙ e) t
+
+pub mend_torn : (v : Saved) (f : Face) (c j code : ℕ) → IsGood v → length f.cells ≡ 1424 → f.waiting ≡ [] → c < 4
+    → let g = cut j code f (mend_copy c (copy_bytes v)) in TellsApart g v → (copy_reading g c ≡ copy_reading f c) ⊎ OneOf (copy_bytes v) (good_copy g c)
+unfolding mend_copy
+mend_torn v f c j code gv n w l t =
+    let first = first_calls c (copy_bytes v) in
+    let rest = rest_calls c (copy_bytes v) in
+    let parts = cuts_both first rest f j code in
+    elim (cases_lt j 2) [
+      | inl m ↦
+          let same = parts.first m in
+          rw same (mend_first v f c j code gv n w l (rw same at t))
+      | inr m ↦
+          let same = parts.later m in
+          let mid = after_all f first in
+          let now : reads mid (20 * c) ≡ Some (head_of v) = reads_back f (20 * c) (head_of v) (omega arith) in
+          inr (rw same (mend_rest v mid c (j - 2) code gv refl l now (rw same at t)))
+    ]

@@ -1,0 +1,7 @@
+use Rattle.std.proofs.Common.{◌≡◌, ◌+◌, ◌-◌, ◌*◌, drop}
+use Rattle.std.specs.Prelude.{is_some}
+use Rattle.vr_super.specs.Copies.{list_at}
+use Rattle.vr_super.proofs.check.are_listed.Given as goal
+
+abbrev pub invariant-loop-i : goal.invariant-loop-i
+invariant-loop-i l = is_some (list_at l.f l.op l.count l.bytes) ≡ is_some (list_at l.f (l.op + l.i) (l.count - l.i) (drop (128 * l.i) l.bytes))

@@ -1,0 +1,40 @@
+use Rattle.std.proofs.Common.{◌≡◌, ◌∙◌, ◌+◌, ◌*◌, ◌<◌, ◌≤◌, arith, refl, sym, ap, true, false, Some, None, length, cond}
+use Rattle.vr_disk.specs.DiskState.{Disk, reads}
+use Rattle.vr_super.specs.Opens.{copy_reading}
+use Rattle.vr_super.proofs.Filling.{fill_end, fill_start, fill_step, fill_stop, reads_to}
+use Rattle.vr_super.proofs.Steps.{if_some}
+use Rattle.vr_super.proofs.reading.fill.Goals as goal
+
+pub loop-k-init : goal.loop-k-init
+loop-k-init g c = record { told = refl; faults = refl; size = c.requires.size; rest = λ d e. fill_start c.args.copy c.args.to.now d.face }
+
+pub loop-k-preserved : goal.loop-k-preserved
+loop-k-preserved g c =
+    let k = c.loop-k.k in
+    let i = 20 * c.args.copy in
+    let s = c.read.new.to.bytes in
+    let told = c.loop-k.invariant.told in
+    let ok = sym c.is_ok.ensures.value ∙ c.if-not-is_ok.false in
+    record {
+      told = c.read.ensures.told ∙ told;
+      faults = c.read.ensures.others ∙ c.loop-k.invariant.faults;
+      size = let z = c.loop-k.invariant.size in omega arith;
+      rest = λ d e.
+          let read : reads d.face (i + k) ≡ Some s = reads_to (i + k) (g.D.SectorDisk.told c.loop-k.disk) _ d c.read.ensures.bytes (told ∙ e) ∙ ap (λ b. cond b (Some s) None) ok in
+          fill_step i k (copy_reading d.face c.args.copy) c.loop-k.to c.put.new.out s d.face c.loop-k-test.true (c.loop-k.invariant.rest d e) read (omega arith) c.put.ensures.front;
+    }
+
+pub returns-then-not-is_ok-clause-value : goal.returns-then-not-is_ok-clause-value
+returns-then-not-is_ok-clause-value g c =
+    let k = c.loop-k.k in
+    let i = 20 * c.args.copy in
+    let s = c.read.new.to.bytes in
+    let ok = sym c.is_ok.ensures.value ∙ c.if-not-is_ok.true in
+    if_some (λ (d : Disk). copy_reading d.face c.args.copy ≡ None) (g.D.SectorDisk.told c.args.disk.now) (λ d e.
+    let read : reads d.face (i + k) ≡ None = reads_to (i + k) (g.D.SectorDisk.told c.loop-k.disk) _ d c.read.ensures.bytes (c.loop-k.invariant.told ∙ e) ∙ ap (λ b. cond b (Some s) None) ok in
+    fill_stop i k (copy_reading d.face c.args.copy) c.loop-k.to d.face c.loop-k-test.true (c.loop-k.invariant.rest d e) read)
+
+pub returns-clause-value : goal.returns-clause-value
+returns-clause-value g c =
+    if_some (λ (d : Disk). copy_reading d.face c.args.copy ≡ Some c.loop-k.to) (g.D.SectorDisk.told c.args.disk.now)
+    (λ d e. fill_end (20 * c.args.copy) c.loop-k.k (copy_reading d.face c.args.copy) c.loop-k.to d.face (omega arith) c.loop-k.invariant.size (c.loop-k.invariant.rest d e))

@@ -1,0 +1,10 @@
+use Rattle.std.proofs.Common.{◌≡◌, ◌+◌, ◌-◌, ◌*◌, ◌≤◌, drop, Bool, Option}
+use Rattle.vr_disk.specs.DiskState.{Disk, Runs}
+use Rattle.vr_super.specs.Calls.{writes}
+use Rattle.vr_super.proofs.sectors.write_sectors.Given as goal
+
+abbrev pub invariant-loop-k : goal.invariant-loop-k
+invariant-loop-k g l = record {
+  runs : (new : Option Disk) (ok : Bool) → Runs (writes (l.at + l.k) (l.count - l.k) (drop (512 * l.k) l.bytes)) (g.D.SectorDisk.told l.disk) new ok → Runs (writes l.at l.count l.bytes) (g.D.SectorDisk.told l.fn.disk) new ok;
+  later : g.D.SectorDisk.faults l.fn.disk ≤ g.D.SectorDisk.faults l.disk;
+}

@@ -1,0 +1,20 @@
+use Rattle.std.proofs.Common.{◌≡◌, ◌∙◌, ap, arith, sym, length, drop, List, ℕ, Some}
+use Rattle.vr_header.specs.declared.header.Header.{Header}
+use Rattle.vr_super.specs.declared.fields.Fields.{Fields}
+use Rattle.vr_super.specs.Copies.{count_at, list_at}
+use Rattle.vr_super.proofs.Heads.{read_is, value_is}
+use Rattle.vr_super.proofs.value.Super.read.Goals as goal
+
+pub invariant_of-result : goal.invariant_of-result
+invariant_of-result c =
+    let b = c.args.bytes.now in
+    let hs = c.in_ok-headers.headers in
+    let h : (f : Fields) (op : ℕ) (all : List Header) → list_at f op (count_at b) (drop 128 b) ≡ Some all → hs ≡ all = rw (c.few_at-count.ensures.count, c.split_at.ensures.back) at c.in_ok-headers.ensures in
+    rw (c.in_ok-copied.ensures.items, c.fields_at.ensures) (read_is b _ (λ i. omega (arith, c.type_inv.bytes i)) c.requires.size (value_is b hs c.requires.good h))
+
+pub returns : goal.returns
+returns c =
+    let b = c.args.bytes.now in
+    let hs = c.in_ok-headers.headers in
+    let h : (f : Fields) (op : ℕ) (all : List Header) → list_at f op (count_at b) (drop 128 b) ≡ Some all → hs ≡ all = rw (c.few_at-count.ensures.count, c.split_at.ensures.back) at c.in_ok-headers.ensures in
+    rw c.fields_at.ensures (value_is b hs c.requires.good h)

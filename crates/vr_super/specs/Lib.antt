@@ -1,0 +1,6 @@
+pub mod Calls
+pub mod Copies
+pub mod Laws
+pub mod Opens
+pub mod Recovers
+pub mod Seen

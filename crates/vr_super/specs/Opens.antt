@@ -1,0 +1,75 @@
+-- The value that a disk opens as.
+use Rattle.std.specs.Prelude.{ℕ, zero, suc, ◌+◌, ◌*◌, ◌<◌, ◌≡◌, Bool, true, false, ◌&&◌, nat_eq, nat_le, nat_lt, if◌then◌else◌, List, [], ◌∷◌, ◌++◌, Option, None, Some, is_some, count_by, map}
+use Rattle.std.specs.Option.{option_and_then, option_map}
+use Rattle.std.specs.Cmp.Lexicographic.{pointwise}
+use Rattle.std.specs.Int.{w32, w64}
+use Rattle.vr_base.specs.Bytes.{number}
+use Rattle.vr_super.specs.declared.opening.Found.{Found}
+use Rattle.vr_disk.specs.DiskState.{Face, reads}
+use Rattle.vr_super.specs.Copies.{Saved, copy_bytes, value_of}
+
+abbrev pub behind : Option (List ℕ) → Option (List ℕ) → Option (List ℕ)
+behind None rest = None
+behind (Some bytes) rest = option_map (λ r. bytes ++ r) rest
+
+-- what so many sectors from one on read as together, None where one of them can't be read
+unfoldable pub reading : ℕ → ℕ → Face → Option (List ℕ)
+reading i zero f = Some []
+reading i (suc n) f = behind (reads f i) (reading (i + 1) n f)
+
+unfoldable pub copy_reading : Face → ℕ → Option (List ℕ)
+copy_reading f copy = reading (20 * copy) 20 f
+
+abbrev pub if_good : Option (List ℕ) → Option (List ℕ)
+if_good None = None
+if_good (Some bytes) = if is_some (value_of bytes) then Some bytes else None
+
+-- the bytes of a good copy, None where the copy is bad
+unfoldable pub good_copy : Face → ℕ → Option (List ℕ)
+good_copy f copy = if_good (copy_reading f copy)
+
+abbrev pub good_copies : Face → List (Option (List ℕ))
+good_copies f = good_copy f 0 ∷ good_copy f 1 ∷ good_copy f 2 ∷ good_copy f 3 ∷ []
+
+-- byte for byte
+abbrev pub has : List ℕ → Option (List ℕ) → Bool
+has bytes None = false
+has bytes (Some other) = pointwise nat_eq other bytes
+
+-- two good copies have these bytes
+abbrev pub agreed : List (Option (List ℕ)) → List ℕ → Bool
+agreed copies bytes = nat_le 2 (count_by (has bytes) copies)
+
+-- a greater sequence than that of the best so far
+abbrev pub is_later : List ℕ → Option (List ℕ) → Bool
+is_later bytes None = true
+is_later bytes (Some best) = nat_lt (number w64 16 best) (number w64 16 bytes)
+
+abbrev pub better : (List ℕ → Bool) → Option (List ℕ) → Option (List ℕ) → Option (List ℕ)
+better test best None = best
+better test best (Some bytes) = if test bytes && is_later bytes best then Some bytes else best
+
+-- of the copies that pass the test, the one of the greatest sequence; of several such the first
+unfoldable pub best_of : (List ℕ → Bool) → Option (List ℕ) → List (Option (List ℕ)) → Option (List ℕ)
+best_of test best [] = best
+best_of test best (c ∷ cs) = best_of test (better test best c) cs
+
+-- the bytes of the greatest sequence on which two good copies agree; of two such, those of copy 0
+unfoldable pub opened : List (Option (List ℕ)) → Option (List ℕ)
+opened copies = best_of (agreed copies) None copies
+
+-- the value that a disk opens as, None where no two good copies agree
+unfoldable pub opens : Face → Option Saved
+opens f = option_and_then value_of (opened (good_copies f))
+
+-- the first of the copies that has these bytes
+unfoldable pub place_of : List ℕ → List (Option (List ℕ)) → ℕ
+place_of bytes [] = 0
+place_of bytes (c ∷ cs) = if has bytes c then 0 else 1 + place_of bytes cs
+
+abbrev pub found_as : List (Option (List ℕ)) → List ℕ → Found
+found_as copies bytes = record { copy = place_of bytes copies; sequence = number w64 16 bytes; view = number w32 32 bytes }
+
+-- the least copy of the value that opens, with its sequence and view
+unfoldable pub found_of : List (Option (List ℕ)) → Option Found
+found_of copies = option_map (found_as copies) (opened copies)

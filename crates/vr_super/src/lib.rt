@@ -1,0 +1,24 @@
+//! The superblock: four copies of one value, and the calls that write and mend them.
+#![tactic(auto)]
+
+mod bytes;
+mod check;
+mod fields;
+mod laws;
+mod listing;
+mod opening;
+mod reading;
+mod recovering;
+mod sectors;
+mod value;
+mod writing;
+
+pub use fields::Fields;
+pub use laws::superblock_laws;
+pub use opening::{Found, opens};
+pub use recovering::{CopyVerdict, SuperFault, recover};
+pub use value::Super;
+pub use writing::write;
+
+#[cfg(test)]
+mod tests;

@@ -1,0 +1,89 @@
+//! The value that opens, mended.
+ghost use Rattle.std.specs.Prelude.{◌≡◌, ◌≤◌, map, is_ok, IfOk, IfErr};
+ghost use Rattle.std.specs.List.{AllByRecursion};
+ghost use Rattle.vr_base.specs.Causes.{HasCause, Rose};
+ghost use Rattle.vr_disk.specs.DiskState.{RunsFrom};
+ghost use Rattle.vr_super.specs.Calls.{mend_calls};
+ghost use Rattle.vr_super.specs.Recovers.{Chosen, RecoversFrom, verdict_of};
+ghost use Rattle.vr_super.specs.Seen.{IsHonest, seen};
+
+use crate::Super;
+use crate::opening::best_of;
+use crate::reading::{Reading, read_all};
+use crate::writing::mend;
+use std::alloc::Global;
+use vr_disk::SectorDisk;
+
+/// Whether a copy is good.
+#[derive(Clone, Copy, Debug, PartialEq, Eq)]
+pub enum CopyVerdict {
+    Good,
+    Bad,
+}
+
+/// Why the superblock has no value, or a value wasn't written.
+#[derive(Clone, Copy, Debug, PartialEq, Eq)]
+pub enum SuperFault {
+    /// No two good copies agree. The verdicts are those of copies 0 to 3.
+    Lost([CopyVerdict; 4]),
+    /// A write or a sync of the disk failed.
+    DiskFault,
+    /// There was no memory.
+    NoMemory,
+}
+
+fn verdict_of(r: &Reading) -> CopyVerdict
+    ensures { result ≡ verdict_of (seen r.now) }
+{
+    if r.good {
+        CopyVerdict::Good
+    } else {
+        CopyVerdict::Bad
+    }
+}
+
+fn verdicts_of(readings: &[Reading; 4]) -> [CopyVerdict; 4]
+    ensures { result ≡ map verdict_of (map seen readings.now) }
+{
+    let [a, b, c, d] = readings;
+    [verdict_of(a), verdict_of(b), verdict_of(c), verdict_of(d)]
+}
+
+// The value that these copies open as.
+fn choose(alloc: Global, readings: &[Reading; 4]) -> Result<Super, SuperFault>
+    requires { AllByRecursion IsHonest readings.now }
+    ensures { Chosen (map seen readings.now) result }
+{
+    match best_of(readings) {
+        None => Err(SuperFault::Lost(verdicts_of(readings))),
+        Some(best) => match Super::read(alloc, &best.bytes) {
+            Ok(value) => Ok(value),
+            Err(_) => Err(SuperFault::NoMemory),
+        },
+    }
+}
+
+fn mended<D: SectorDisk>(disk: &mut D, value: Super) -> Result<Super, SuperFault>
+    ensures runs { RunsFrom (mend_calls value) (D.told disk.old) (D.told disk.new) (is_ok result) }
+    ensures kept { IfOk result (λ v. v ≡ value) }
+    ensures fault { IfErr result (λ e. e ≡ SuperFault.DiskFault) }
+    ensures cause { HasCause (D.faults disk.old) (D.faults disk.new) result }
+{
+    match mend(disk, value.bytes()) {
+        Ok(()) => Ok(value),
+        Err(_) => Err(SuperFault::DiskFault),
+    }
+}
+
+/// The value that the disk opens as, with its copies mended.
+pub fn recover<D: SectorDisk>(alloc: Global, disk: &mut D) -> Result<Super, SuperFault>
+    ensures value { RecoversFrom (D.told disk.old) (D.told disk.new) result }
+    ensures later { D.faults disk.old ≤ D.faults disk.new }
+    ensures fault { result ≡ Err SuperFault.DiskFault → Rose (D.faults disk.old) (D.faults disk.new) }
+{
+    let readings = read_all(disk);
+    match choose(alloc, &readings) {
+        Ok(value) => mended(disk, value),
+        Err(fault) => Err(fault),
+    }
+}

@@ -1,0 +1,64 @@
+//! Mending and writing a value.
+ghost use Rattle.std.specs.Prelude.{◌≡◌, ◌≤◌, ◌<◌, [], length, IfErr, IfSome, is_ok, Some};
+ghost use Rattle.vr_base.specs.Causes.{HasCause};
+ghost use Rattle.vr_disk.specs.DiskState.{Runs, RunsFrom};
+ghost use Rattle.vr_super.specs.Calls.{mend_from, save_from, write_calls};
+ghost use Rattle.vr_super.specs.Laws.{WriteLeads};
+ghost use Rattle.vr_super.specs.Opens.{opens};
+
+use crate::sectors::{mend_unless, write_copy};
+use crate::{Super, SuperFault};
+use vr_disk::{DiskFailed, SectorDisk};
+
+/// Mends each copy that doesn't read as these bytes.
+pub fn mend<D: SectorDisk>(disk: &mut D, bytes: &[u8]) -> Result<(), DiskFailed>
+    requires { length bytes.now ≡ 10240 }
+    ensures runs { RunsFrom (mend_from 0 4 bytes.now) (D.told disk.old) (D.told disk.new) (is_ok result) }
+    ensures cause { HasCause (D.faults disk.old) (D.faults disk.new) result }
+{
+    for copy in 0..4 {
+        mend_unless(disk, copy, bytes)?;
+    }
+    Ok(())
+}
+
+// Writes all four copies.
+#[tactic(auto, using(vr_disk::proofs::Running::Runs_then, vr_disk::proofs::Running::Runs_stopped))]
+fn save<D: SectorDisk>(disk: &mut D, bytes: &[u8]) -> Result<(), DiskFailed>
+    requires { length bytes.now ≡ 10240 }
+    ensures runs { Runs (save_from 0 4 bytes.now) (D.told disk.old) (D.told disk.new) (is_ok result) }
+    ensures cause { HasCause (D.faults disk.old) (D.faults disk.new) result }
+{
+    for copy in 0..4 {
+        write_copy(disk, copy, bytes)?;
+    }
+    Ok(())
+}
+
+#[tactic(auto, using(std::proofs::lemmas::Grind::common_steps, crate::proofs::Steps::write_then, crate::proofs::Steps::write_stopped, crate::proofs::Steps::leads))]
+// Mends the old value, then writes the new one to all four copies.
+fn write_value<D: SectorDisk>(disk: &mut D, old: &Super, new: &Super) -> Result<(), DiskFailed>
+    ensures runs { RunsFrom (write_calls old.now new.now) (D.told disk.old) (D.told disk.new) (is_ok result) }
+    ensures cause { HasCause (D.faults disk.old) (D.faults disk.new) result }
+    ensures stop { IfSome (D.told disk.old) (λ d. d.face.waiting ≡ [] → opens d.face ≡ Some old.now → WriteLeads old.now new.now d.face) }
+{
+    let bytes = new.bytes();
+    mend(disk, old.bytes())?;
+    save(disk, bytes)?;
+    Ok(())
+}
+
+/// Mends the old value, then writes the new one to all four copies.
+pub fn write<D: SectorDisk>(disk: &mut D, old: &Super, new: &Super) -> Result<(), SuperFault>
+    ensures runs { RunsFrom (write_calls old.now new.now) (D.told disk.old) (D.told disk.new) (is_ok result) }
+    ensures cause { HasCause (D.faults disk.old) (D.faults disk.new) result }
+    ensures fault { IfErr result (λ e. e ≡ SuperFault.DiskFault) }
+
+    // A stop at any of these calls leaves a disk that opens as the old value or as the new one.
+    ensures stop { IfSome (D.told disk.old) (λ d. d.face.waiting ≡ [] → opens d.face ≡ Some old.now → WriteLeads old.now new.now d.face) }
+{
+    match write_value(disk, old, new) {
+        Ok(()) => Ok(()),
+        Err(_) => Err(SuperFault::DiskFault),
+    }
+}
