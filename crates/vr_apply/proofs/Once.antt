@@ -63,8 +63,8 @@ each_once before between d e client request first second =
     let at_end : fold (λ s e. (applied s e).state) t between ≡ u = sym (fold-append (λ s e. (applied s e).state) empty before (d ∷ between)) in
     let rest : asks_from t (between ++ e ∷ []) ≡ middle ++ asked u e ∷ [] = asks_from-append t between (e ∷ []) ∙ ap (λ x. middle ++ asked x e ∷ []) at_end in
     let once = at_most_once earlier middle (asked s d) (asked u e) client request
-        (ap (λ m. asks.is_fresh (sess.checked m d.header.client d.header.request)) (sym at_s) ∙ first)
-        (ap (λ m. asks.is_fresh (sess.checked m e.header.client e.header.request)) (sym at_u) ∙ second) in
+    (ap (λ m. asks.is_fresh (sess.checked m d.header.client d.header.request)) (sym at_s) ∙ first)
+    (ap (λ m. asks.is_fresh (sess.checked m e.header.client e.header.request)) (sym at_u) ∙ second) in
     ap (λ x. begins_session d.header.client x (between ++ e ∷ [])) after_d
     ∙ (begins_same d.header.client t (between ++ e ∷ [])
     ∙ (ap (asks.begins_session d.header.client t.sessions) rest

@@ -93,7 +93,8 @@ impl State {
     {
         let header = entry.header();
         let outcome = self.machine.apply(entry.operation())?;
-        self.sessions.apply(header.op, header.client, header.request, &outcome)?;
+        self.sessions
+            .apply(header.op, header.client, header.request, &outcome)?;
         Ok(ReplyBody::Outcome(outcome, header.op))
     }
 

@@ -29,9 +29,18 @@ fn put(alloc: Global, op: u64, number: u32) -> Result<Entry, Fail>
 fn a_repeat_gives_what_was_stored(rt: HostRuntime) -> Result<(), Fail> {
     let alloc = rt.alloc();
     let mut state = State::new(alloc);
-    assert_eq!(rt; state.apply(&register())?, ReplyBody::Outcome(Outcome::Session, 1));
-    assert_eq!(rt; state.apply(&put(alloc, 2, 1)?)?, ReplyBody::Outcome(Outcome::Ok, 2));
-    assert_eq!(rt; state.apply(&put(alloc, 3, 1)?)?, ReplyBody::Outcome(Outcome::Ok, 2));
+    assert_eq!(rt;
+        state.apply(&register())?,
+        ReplyBody::Outcome(Outcome::Session, 1)
+    );
+    assert_eq!(rt;
+        state.apply(&put(alloc, 2, 1)?)?,
+        ReplyBody::Outcome(Outcome::Ok, 2)
+    );
+    assert_eq!(rt;
+        state.apply(&put(alloc, 3, 1)?)?,
+        ReplyBody::Outcome(Outcome::Ok, 2)
+    );
     assert_eq!(rt; state.apply(&put(alloc, 4, 3)?)?, ReplyBody::Gap);
     assert_eq!(rt; state.apply(&register())?, ReplyBody::Old);
     Ok(())

@@ -17,8 +17,8 @@ pub member_of : (f : ℕ → Bool) (n : ℕ) → 0 < count f n → (i : ℕ) × 
 member_of f zero h = absurd (omega arith)
 member_of f (suc n) h =
     elim (f n) as (λ b. f n ≡ b → (i : ℕ) × (i < suc n) × (f i ≡ true)) [
-      true ↦ λ e. (n, omega arith, e)
-    | false ↦ λ e. let m = member_of f n (grind arith) in (m.0, omega arith, m.2)
+      | true ↦ λ e. (n, omega arith, e)
+      | false ↦ λ e. let m = member_of f n (grind arith) in (m.0, omega arith, m.2)
     ] refl
 
 -- two sets of more than n members together share one

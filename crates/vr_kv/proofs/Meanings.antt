@@ -33,7 +33,7 @@ own_key key = ap is_eq (tied_itself bytes_total key)
 sets_put : (m : Map) (key value : List ℕ) → Sets m (put byte_order key value m) key (Some value)
 sets_put m key value = record {
   this = find-put byte_order bytes_total key key value m ∙ ap (λ b. cond b (Some value) (find byte_order key m)) (own_key key);
-  others = λ q n. find-put byte_order bytes_total q key value m ∙ ap (λ b. cond b (Some value) (find byte_order q m)) (other_key q key n)
+  others = λ q n. find-put byte_order bytes_total q key value m ∙ ap (λ b. cond b (Some value) (find byte_order q m)) (other_key q key n);
 }
 
 find-without : (q key : List ℕ) (m : Map) → find byte_order q (without byte_order key m) ≡ cond (not (eq_by_cmp byte_order key q)) (find byte_order q m) None
@@ -42,7 +42,7 @@ find-without q key m = find-where_key byte_order (λ x. not (eq_by_cmp byte_orde
 sets_without : (m : Map) (key : List ℕ) → Sets m (without byte_order key m) key None
 sets_without m key = record {
   this = find-without key key m ∙ ap (λ b. cond (not b) (find byte_order key m) None) (own_key key);
-  others = λ q n. find-without q key m ∙ ap (λ b. cond (not b) (find byte_order q m) None) (other_key key q (λ e. n (sym e)))
+  others = λ q n. find-without q key m ∙ ap (λ b. cond (not b) (find byte_order q m) None) (other_key key q (λ e. n (sym e)));
 }
 
 none : (o : Option (List ℕ)) → is_some o ≡ false → o ≡ None

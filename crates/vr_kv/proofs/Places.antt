@@ -104,14 +104,14 @@ module _ {K V : Type 0} (order : K → K → Ordering) (total : IsTotalOrder ord
   gap_behind key e es i gap = record {
     in_range = omega (arith, gap.in_range);
     below = λ j d before. gap.below (suc j) d (omega arith);
-    above = λ j d behind within. gap.above (suc j) d (omega arith) (omega arith)
+    above = λ j d behind within. gap.above (suc j) d (omega arith) (omega arith);
   }
 
   gap_first : (key : K) (e : K × V) (es : List (K × V)) → IsGap order key (e ∷ es) zero → IsGap order key es zero
   gap_first key e es gap = record {
     in_range = omega arith;
     below = λ j d before. absurd (omega arith);
-    above = λ j d behind within. gap.above (suc j) d (omega arith) (omega arith)
+    above = λ j d behind within. gap.above (suc j) d (omega arith) (omega arith);
   }
 
   above_first : (key : K) (e : K × V) (es : List (K × V)) → IsGap order key (e ∷ es) zero → order key e.0 ≡ Less

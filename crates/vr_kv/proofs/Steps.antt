@@ -85,14 +85,14 @@ pub IsKv-put : (m : Map) (key v : List ℕ) → IsKv m → Fits (key, v) → (is
 IsKv-put m key v kv f new room = record {
   is_map = true_T _ (is_sorted-put byte_order bytes_total key v m (T_true _ kv.is_map));
   fit = fit_put key v m kv.fit f;
-  few = rw (length-put byte_order bytes_total key v m (T_true _ kv.is_map)) (cond_both (is_some (find byte_order key m)) (length m) (length m + 1) (λ n. n ≤ 128) (λ t. omega (arith, kv.few)) (λ f. omega arith))
+  few = rw (length-put byte_order bytes_total key v m (T_true _ kv.is_map)) (cond_both (is_some (find byte_order key m)) (length m) (length m + 1) (λ n. n ≤ 128) (λ t. omega (arith, kv.few)) (λ f. omega arith));
 }
 
 pub IsKv-over : (m : Map) (key v : List ℕ) → IsKv m → Fits (key, v) → is_some (find byte_order key m) ≡ true → IsKv (put byte_order key v m)
 IsKv-over m key v kv f there = record {
   is_map = true_T _ (is_sorted-put byte_order bytes_total key v m (T_true _ kv.is_map));
   fit = fit_put key v m kv.fit f;
-  few = rw (length-put byte_order bytes_total key v m (T_true _ kv.is_map), there) kv.few
+  few = rw (length-put byte_order bytes_total key v m (T_true _ kv.is_map), there) kv.few;
 }
 
 pub IsKv-putting : (m : Map) (key v : List ℕ) → IsKv m → Fits (key, v) → IsKv (putting m key v).machine
@@ -102,7 +102,7 @@ IsKv-putting m key v kv f =
     let over : there ≡ true → IsKv (put byte_order key v m) = IsKv-over m key v kv f in
     cond_both there (answers (put byte_order key v m) outcome.Ok) (cond (nat_lt (length m) 128) (answers (put byte_order key v m) outcome.Ok) (answers m outcome.Full)) (λ a. IsKv a.machine) over
     (λ new. cond_both (nat_lt (length m) 128) (answers (put byte_order key v m) outcome.Ok) (answers m outcome.Full) (λ a. IsKv a.machine)
-        (λ room. IsKv-put m key v kv f (λ t. absurd cc) (ltb-true (length m) 128 room)) (λ _. kv))
+    (λ room. IsKv-put m key v kv f (λ t. absurd cc) (ltb-true (length m) 128 room)) (λ _. kv))
 
 pub IsKv-deleting : (m : Map) (key : List ℕ) → IsKv m → IsKv (deleting m key).machine
 unfolding deleting
@@ -111,7 +111,7 @@ IsKv-deleting m key kv =
     (λ t. record {
       is_map = true_T _ (is_sorted-where_key byte_order _ m (T_true _ kv.is_map));
       fit = fit_where _ m kv.fit;
-      few = without_few key m kv.few
+      few = without_few key m kv.few;
     }) (λ f. kv)
 
 fits_at : (m : Map) → AllByRecursion Fits m → (i : ℕ) (d : List ℕ × List ℕ) → i < length m → Fits (get_or m i d)

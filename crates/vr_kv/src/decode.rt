@@ -37,7 +37,11 @@ fn read_all(alloc: Global, count: u16, bytes: &[u8]) -> Result<Seq<Pair>, StateF
 
 /// Reads one pair more, and gives the bytes behind it.
 #[tactic(auto, unfolding(vr_table::specs::Table::read_on))]
-fn read_next<'a>(alloc: Global, pairs: &mut Seq<Pair>, bytes: &'a [u8]) -> Result<&'a [u8], StateFault>
+fn read_next<'a>(
+    alloc: Global,
+    pairs: &mut Seq<Pair>,
+    bytes: &'a [u8],
+) -> Result<&'a [u8], StateFault>
     requires { IsMap byte_order pairs.old }
     ensures is_map { IfOk result (λ _. IsMap byte_order pairs.new) }
     ensures rest { IfOk result (λ rest. (n : ℕ) → read_on byte_order pair_from (suc n) pairs.old bytes.now ≡ read_on byte_order pair_from n pairs.new rest.now) }

@@ -70,5 +70,8 @@ pub fn new_pair(alloc: Global, key: &[u8], value: &[u8]) -> Result<Pair, AllocEr
     requires value { IsTrue (is_text 1024 value.now) }
     ensures { IfOk result (λ pair. pair ≡ (key.now, value.now)) }
 {
-    Ok((Key::from_bytes(alloc, key)?, Value::from_bytes(alloc, value)?))
+    Ok((
+        Key::from_bytes(alloc, key)?,
+        Value::from_bytes(alloc, value)?,
+    ))
 }

@@ -58,7 +58,10 @@ fn a_text_is_read_back(rt: HostRuntime) -> Result<(), Fail> {
     put(&mut kv, alloc, b"b")?;
     put(&mut kv, alloc, b"a")?;
     let text = kv.encode_state()?;
-    assert_eq!(rt; text.as_slice(), b"\x00\x02\x01\x00\x01av\x01\x00\x01bv".as_slice());
+    assert_eq!(rt;
+        text.as_slice(),
+        b"\x00\x02\x01\x00\x01av\x01\x00\x01bv".as_slice()
+    );
     let again = <Kv as Machine>::decode_state(alloc, text.as_slice())?;
     assert_eq!(rt; Machine::encode_state(&again)?.as_slice(), text.as_slice());
     Ok(())
@@ -81,8 +84,14 @@ fn bytes_are_judged_from_the_front(rt: HostRuntime) {
         (b"\x00\x00\x00", StateFault::Torn),
         (b"\x00\x01\x00\x00\x01z", StateFault::Torn),
         (b"\x00\x01\x01\x00\x01 z", StateFault::Torn),
-        (b"\x00\x02\x01\x00\x01bz\x01\x00\x01az", StateFault::NotSorted),
-        (b"\x00\x02\x01\x00\x01az\x01\x00\x01az", StateFault::NotSorted),
+        (
+            b"\x00\x02\x01\x00\x01bz\x01\x00\x01az",
+            StateFault::NotSorted,
+        ),
+        (
+            b"\x00\x02\x01\x00\x01az\x01\x00\x01az",
+            StateFault::NotSorted,
+        ),
     ];
     for (bytes, expected) in rows {
         assert_eq!(rt; fault(rt.alloc(), bytes), Some(expected));

@@ -34,9 +34,9 @@ stays seen d e o above =
         after = o.is.after ++ e ∷ [];
         among = ap (λ xs. xs ++ e ∷ []) o.is.among ∙ append_assoc o.is.before ((d.0, o.is.session) ∷ o.is.after) (e ∷ []);
         first = o.is.first;
-        least = All_append (λ x. o.is.session.op ≤ x.1.op) o.is.after (e ∷ []) o.is.least (last, tt)
+        least = All_append (λ x. o.is.session.op ≤ x.1.op) o.is.after (e ∷ []) o.is.least (last, tt);
       };
-      op = o.op
+      op = o.op;
     }
 
 gives_way : (seen : Map) (d : ℕ × ℕ) (e : ℕ × Session) → IsOldestAt seen d → e.1.op < d.1 → IsOldestAt (seen ++ e ∷ []) (e.0, e.1.op)
@@ -51,9 +51,9 @@ gives_way seen d e o below =
         after = [];
         among = refl;
         first = subst (AllByRecursion (λ x. e.1.op < x.1.op)) (sym o.is.among) (All_append (λ x. e.1.op < x.1.op) o.is.before ((d.0, o.is.session) ∷ o.is.after) front (lower, behind));
-        least = tt
+        least = tt;
       };
-      op = refl
+      op = refl;
     }
 
 record Settles (m : Map) (o : Option (ℕ × ℕ)) : Type 0 where

@@ -52,7 +52,7 @@ module _ {X : Type 0} where
       let ascends = ascending_from new (sorted (keys_in_order old h)) distinct in
       same_entries nat_cmp nat_cmp_total nat_cmp-IsAntisymmetric new (put nat_cmp key v old) (T_true _ ascends) (is_sorted-put nat_cmp nat_cmp_total key v old (T_true _ h))
       (λ q. sym (lookup_is_find q new) ∙ (answers q ∙ (ap (λ b. cond b (Some v) (lookup (eqb q) old)) (eqb_flip key q ∙ unsigned_ties q key)
-          ∙ (ap (λ o. cond (eq_by_cmp nat_cmp q key) (Some v) o) (lookup_is_find q old) ∙ sym (find-put nat_cmp nat_cmp_total q key v old)))))
+      ∙ (ap (λ o. cond (eq_by_cmp nat_cmp q key) (Some v) o) (lookup_is_find q old) ∙ sym (find-put nat_cmp nat_cmp_total q key v old)))))
 
   below_last : (low : ℕ) (es : List (ℕ × X)) (key : ℕ) (v : X) → below_all nat_cmp low (es ++ (key, v) ∷ []) ≡ true → low < key
   below_last low [] key v h = ltb-true low key (sym (is_lt_nat_cmp low key) ∙ (and_parts (is_lt (nat_cmp low key)) true h).0)

@@ -52,21 +52,24 @@ regroup a b c d rest = simp append_assoc
 session_reads : (e : ℕ × Session) (rest : List ℕ) → Fits e → session_from (session_text e ++ rest) ≡ Some (e, rest)
 unfolding session_text session_from numbers_from
 session_reads e rest fits =
-    rw (regroup (bytes64 e.0) (bytes32 e.1.number) (bytes64 e.1.op) (outcome_bytes e.1.outcome) rest,
-        number_reads bytes64 w64 (2 ^ 64) field64 e.0 (bytes32 e.1.number ++ (bytes64 e.1.op ++ (outcome_bytes e.1.outcome ++ rest))) fits.client,
-        number_reads bytes32 w32 (2 ^ 32) field32 e.1.number (bytes64 e.1.op ++ (outcome_bytes e.1.outcome ++ rest)) fits.number,
-        number_reads bytes64 w64 (2 ^ 64) field64 e.1.op (outcome_bytes e.1.outcome ++ rest) fits.op,
-        outcome_reads e.1.outcome rest fits.outcome) refl
+    rw (
+      regroup (bytes64 e.0) (bytes32 e.1.number) (bytes64 e.1.op) (outcome_bytes e.1.outcome) rest,
+      number_reads bytes64 w64 (2 ^ 64) field64 e.0 (bytes32 e.1.number ++ (bytes64 e.1.op ++ (outcome_bytes e.1.outcome ++ rest))) fits.client,
+      number_reads bytes32 w32 (2 ^ 32) field32 e.1.number (bytes64 e.1.op ++ (outcome_bytes e.1.outcome ++ rest)) fits.number,
+      number_reads bytes64 w64 (2 ^ 64) field64 e.1.op (outcome_bytes e.1.outcome ++ rest) fits.op,
+      outcome_reads e.1.outcome rest fits.outcome,
+    ) refl
 
 -- a value behind its length, as it stands behind the kind
 value_is : (bytes behind rest : List ℕ) (n : ℕ) (value piece after : List ℕ) (o : Outcome) → bytes ≡ bytes16 n ++ behind → behind ≡ piece ++ after → length piece ≡ n → piece ≡ value → is_text 1024 piece ≡ true
     → outcome.Value value ≡ o → after ≡ rest → OutcomeFits o × (5 ∷ bytes ≡ outcome_bytes o ++ rest)
 unfolding outcome_bytes
 value_is bytes behind rest n value piece after o is_number is_piece long same text is_o is_rest =
-    subst (λ p. OutcomeFits p × (5 ∷ bytes ≡ outcome_bytes p ++ rest)) is_o
-    (ap (is_text 1024) (sym same) ∙ text,
+    subst (λ p. OutcomeFits p × (5 ∷ bytes ≡ outcome_bytes p ++ rest)) is_o (
+      ap (is_text 1024) (sym same) ∙ text,
       ap (λ t. 5 ∷ t) (is_number ∙ (ap (λ t. bytes16 n ++ t) (is_piece ∙ (ap (λ t. t ++ after) same ∙ ap (λ t. value ++ t) is_rest))
-        ∙ (ap (λ k. bytes16 k ++ (value ++ rest)) (sym long ∙ ap length same) ∙ sym (append_assoc (bytes16 (length value)) value rest)))))
+          ∙ (ap (λ k. bytes16 k ++ (value ++ rest)) (sym long ∙ ap length same) ∙ sym (append_assoc (bytes16 (length value)) value rest)))),
+    )
 
 plain_only : (kind : ℕ) (bytes : List ℕ) (k : ℕ) (p o : Outcome) (rest : List ℕ) → kind ≡ k → OutcomeFits p → ((after : List ℕ) → outcome_bytes p ++ after ≡ k ∷ after)
     → ◌≡◌ {A = Option (Outcome × List ℕ)} (Some (p, bytes)) (Some (o, rest)) → OutcomeFits o × (kind ∷ bytes ≡ outcome_bytes o ++ rest)
@@ -94,7 +97,7 @@ outcome_of_only kind bytes are o rest =
     let Goal = λ (r : Option (Outcome × List ℕ)). r ≡ Some (o, rest) → OutcomeFits o × (kind ∷ bytes ≡ outcome_bytes o ++ rest) in
     let plain : (k : ℕ) (p : Outcome) → kind ≡ k → OutcomeFits p → ((after : List ℕ) → outcome_bytes p ++ after ≡ k ∷ after) → Goal (Some (p, bytes)) = λ k p is fits spelled e. plain_only kind bytes k p o rest is fits spelled e in
     let by : (b1 b2 b3 b4 b5 : Bool) → eqb kind 1 ≡ b1 → eqb kind 2 ≡ b2 → eqb kind 3 ≡ b3 → eqb kind 4 ≡ b4 → eqb kind 5 ≡ b5
-        → Goal (cond b1 (Some (outcome.Session, bytes)) (cond b2 (Some (outcome.Ok, bytes)) (cond b3 (Some (outcome.Full, bytes)) (cond b4 (Some (outcome.Absent, bytes)) (cond b5 (value_from bytes) None))))) = elim [
+    → Goal (cond b1 (Some (outcome.Session, bytes)) (cond b2 (Some (outcome.Ok, bytes)) (cond b3 (Some (outcome.Full, bytes)) (cond b4 (Some (outcome.Absent, bytes)) (cond b5 (value_from bytes) None))))) = elim [
       | true ↦ λ b2 b3 b4 b5 e1 e2 e3 e4 e5. plain 1 outcome.Session (eqb-true kind 1 e1) tt (λ after. refl)
       | false ↦ elim [
         | true ↦ λ b3 b4 b5 e1 e2 e3 e4 e5. plain 2 outcome.Ok (eqb-true kind 2 e2) tt (λ after. refl)
@@ -134,12 +137,13 @@ numbers_only bytes are n rest is =
     let are_number = IsBytes-behind (bytes32 number.0.0) number.0.1 (subst IsBytes is_number are_client) in
     let is_op = number_only bytes64 w64 (2 ^ 64) field64 number.0.1 are_number op.0.0 op.0.1 op.1 in
     let are_op = IsBytes-behind (bytes64 op.0.0) op.0.1 (subst IsBytes is_op are_number) in
-    subst (λ (p : (ℕ × (ℕ × ℕ)) × List ℕ). (bytes ≡ bytes64 p.0.0 ++ (bytes32 p.0.1.0 ++ (bytes64 p.0.1.1 ++ p.1))) × (p.0.0 < 2 ^ 64) × (p.0.1.0 < 2 ^ 32) × (p.0.1.1 < 2 ^ 64) × IsBytes p.1) whole
-    (is_client ∙ ap (λ t. bytes64 client.0.0 ++ t) (is_number ∙ ap (λ t. bytes32 number.0.0 ++ t) is_op),
+    subst (λ (p : (ℕ × (ℕ × ℕ)) × List ℕ). (bytes ≡ bytes64 p.0.0 ++ (bytes32 p.0.1.0 ++ (bytes64 p.0.1.1 ++ p.1))) × (p.0.0 < 2 ^ 64) × (p.0.1.0 < 2 ^ 32) × (p.0.1.1 < 2 ^ 64) × IsBytes p.1) whole (
+      is_client ∙ ap (λ t. bytes64 client.0.0 ++ t) (is_number ∙ ap (λ t. bytes32 number.0.0 ++ t) is_op),
       number_small bytes64 w64 (2 ^ 64) field64 bytes are client.0.0 client.0.1 client.1,
       number_small bytes32 w32 (2 ^ 32) field32 client.0.1 are_client number.0.0 number.0.1 number.1,
       number_small bytes64 w64 (2 ^ 64) field64 number.0.1 are_number op.0.0 op.0.1 op.1,
-      are_op)
+      are_op,
+    )
 
 session_only : (bytes : List ℕ) → IsBytes bytes → (e : ℕ × Session) (rest : List ℕ) → session_from bytes ≡ Some (e, rest) → Fits e × (bytes ≡ session_text e ++ rest)
 unfolding session_from session_text

@@ -49,8 +49,8 @@ put_without m key s gone h apart =
     same_entries nat_cmp nat_cmp_total nat_cmp-IsAntisymmetric (without nat_cmp gone (put nat_cmp key s m)) (put nat_cmp key s (without nat_cmp gone m))
     (T_true _ (IsMap-without (put nat_cmp key s m) gone (IsMap-put m key s h))) (T_true _ (IsMap-put (without nat_cmp gone m) key s (IsMap-without m gone h)))
     (λ q. find-without (put nat_cmp key s m) gone q
-        ∙ (ap (λ o. cond (not (eq_by_cmp nat_cmp gone q)) o None) (find-put nat_cmp nat_cmp_total q key s m)
-        ∙ (swapped q ∙ sym (find-put nat_cmp nat_cmp_total q key s (without nat_cmp gone m) ∙ ap (λ o. cond (eq_by_cmp nat_cmp q key) (Some s) o) (find-without m gone q)))))
+    ∙ (ap (λ o. cond (not (eq_by_cmp nat_cmp gone q)) o None) (find-put nat_cmp nat_cmp_total q key s m)
+    ∙ (swapped q ∙ sym (find-put nat_cmp nat_cmp_total q key s (without nat_cmp gone m) ∙ ap (λ o. cond (eq_by_cmp nat_cmp q key) (Some s) o) (find-without m gone q)))))
   where
     swapped : (q : ℕ) → cond (not (eq_by_cmp nat_cmp gone q)) (cond (eq_by_cmp nat_cmp q key) (Some s) (find nat_cmp q m)) None
         ≡ cond (eq_by_cmp nat_cmp q key) (Some s) (cond (not (eq_by_cmp nat_cmp gone q)) (find nat_cmp q m) None)
@@ -133,7 +133,7 @@ module _ (m : Map) (a : Asked) (held : IsSessions m) (f : Fits (a.client, stored
         oldest = is_oldest;
         gone = find_without_own (put nat_cmp a.client (stored a) m) gone;
         own = find_without_other (put nat_cmp a.client (stored a) m) gone a.client (λ e. apart (sym e)) ∙ find_put_own m a.client (stored a);
-        others = λ q n k. find_without_other (put nat_cmp a.client (stored a) m) gone q k ∙ find_put_other m a.client (stored a) q n
+        others = λ q n k. find_without_other (put nat_cmp a.client (stored a) m) gone q k ∙ find_put_other m a.client (stored a) q n;
       })
         where
           none : (o : Option Session) → is_some o ≡ false → o ≡ None

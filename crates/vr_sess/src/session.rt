@@ -48,7 +48,12 @@ pub fn judge(alloc: Global, session: &Session, request: u32) -> Result<SessionAn
 }
 
 /// A session of its own.
-pub fn new_session(alloc: Global, op: u64, number: u32, outcome: &Outcome) -> Result<Session, AllocError>
+pub fn new_session(
+    alloc: Global,
+    op: u64,
+    number: u32,
+    outcome: &Outcome,
+) -> Result<Session, AllocError>
     ensures session { IfOk result (λ s. s ≡ record { number = number; op = op; outcome = outcome.now }) }
     ensures fits { IfOk result (λ _. OutcomeFits outcome.now) }
 {

@@ -76,7 +76,13 @@ impl Sessions {
     /// Stores a fresh request that was executed as entry `op` of the log, and what it gave. Where 32 sessions are held, a
     /// register first takes out the one whose last op is least, of several that of the least client. An `Err` is want of
     /// memory, and changes nothing.
-    pub fn apply(&mut self, op: u64, client: u64, request: u32, outcome: &Outcome) -> Result<(), AllocError>
+    pub fn apply(
+        &mut self,
+        op: u64,
+        client: u64,
+        request: u32,
+        outcome: &Outcome,
+    ) -> Result<(), AllocError>
         requires { checked self.old client request ≡ SessionAnswer.Fresh }
         ensures ok { OnOk result (self.new ≡ applied self.old (record { op = op; client = client; request = request; outcome = outcome.now })) }
         ensures effect { OnOk result (Effect self.old self.new (record { op = op; client = client; request = request; outcome = outcome.now })) }
@@ -89,7 +95,13 @@ impl Sessions {
         Ok(())
     }
 
-    fn store(&mut self, op: u64, client: u64, request: u32, outcome: &Outcome) -> Result<(), AllocError>
+    fn store(
+        &mut self,
+        op: u64,
+        client: u64,
+        request: u32,
+        outcome: &Outcome,
+    ) -> Result<(), AllocError>
         ensures fits { OnOk result (OutcomeFits outcome.now) }
         ensures ok { OnOk result (self.new ≡ applied self.old (record { op = op; client = client; request = request; outcome = outcome.now })) }
         ensures err { OnErr result (self.new ≡ self.old) }

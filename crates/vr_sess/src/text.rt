@@ -61,13 +61,21 @@ fn split_numbers(bytes: &[u8]) -> Option<Numbers<'_>>
     let (client, rest) = split_u64(bytes)?;
     let (number, rest) = split_u32(rest)?;
     let (op, rest) = split_u64(rest)?;
-    Some(Numbers { client, number, op, rest })
+    Some(Numbers {
+        client,
+        number,
+        op,
+        rest,
+    })
 }
 
 /// The session at the front with its client, and the bytes behind it; `None` exactly where the bytes don't begin with
 /// one.
 #[tactic(auto, unfolding(crate::specs::Texts::session_from))]
-pub fn read_session(alloc: Global, bytes: &[u8]) -> Result<Option<((u64, Session), &[u8])>, AllocError>
+pub fn read_session(
+    alloc: Global,
+    bytes: &[u8],
+) -> Result<Option<((u64, Session), &[u8])>, AllocError>
     ensures { IfOk result (λ r. option_map (λ p. (p.0, p.1.now)) r ≡ session_from bytes.now) }
 {
     let Some(numbers) = split_numbers(bytes) else {

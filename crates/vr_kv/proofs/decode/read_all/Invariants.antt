@@ -7,5 +7,5 @@ use Rattle.vr_kv.proofs.decode.read_all.Given as goal
 abbrev pub invariant-loop-i : goal.invariant-loop-i
 invariant-loop-i l = record {
   is_map : IsMap byte_order l.pairs;
-  left : read_on byte_order pair_from (l.count - l.i) l.pairs l.rest ≡ read_on byte_order pair_from l.count [] l.bytes
+  left : read_on byte_order pair_from (l.count - l.i) l.pairs l.rest ≡ read_on byte_order pair_from l.count [] l.bytes;
 }

@@ -8,5 +8,5 @@ use Rattle.vr_sess.proofs.codec.read_all.Given as goal
 abbrev pub invariant-loop-i : goal.invariant-loop-i
 invariant-loop-i l = record {
   is_map : IsMap nat_cmp l.table.entries;
-  left : read_on nat_cmp session_from (l.count - l.i) l.table.entries l.rest ≡ read_on nat_cmp session_from l.count [] l.bytes
+  left : read_on nat_cmp session_from (l.count - l.i) l.table.entries l.rest ≡ read_on nat_cmp session_from l.count [] l.bytes;
 }
