@@ -1,9 +1,8 @@
 -- In one session each number is fresh at most once, over lists of entries: their requests are a list of requests as the
 -- sessions see them.
-use Rattle.std.proofs.Common.{◌≡◌, ℕ, List, [], ◌∷◌, ◌++◌, Bool, true, false, ◌&&◌, ◌||◌, eqb, cond, fold, refl, sym, ◌∙◌, ap, subst}
+use Rattle.std.proofs.Common.{◌≡◌, ℕ, List, [], ◌∷◌, ◌++◌, ◌&&◌, ◌||◌, eqb, cond, fold, refl, sym, ◌∙◌, ap}
 use Rattle.std.proofs.lemmas.List.Sums.{fold-append}
 use Rattle.vr_header.specs.Made.{Whole}
-use Rattle.vr_kv.specs.Kv as kv
 use Rattle.vr_sess.specs.Sessions as sess
 use Rattle.vr_sess.specs.Asks as asks
 use Rattle.vr_sess.specs.declared.session.SessionAnswer.{SessionAnswer}

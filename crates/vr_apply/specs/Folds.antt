@@ -1,5 +1,5 @@
 -- The state after a list of entries, and what each of them answers.
-use Rattle.std.specs.Prelude.{◌≡◌, ℕ, ◌-◌, ◌⊎◌, List, [], ◌∷◌, ◌++◌, Option, Some, None, Bool, true, false, ◌&&◌, ◌||◌, ◌==◌, fold, take, slice_get, IsTrue}
+use Rattle.std.specs.Prelude.{◌≡◌, ℕ, ◌-◌, ◌⊎◌, List, [], ◌∷◌, ◌++◌, Option, Some, None, Bool, false, ◌&&◌, ◌||◌, ◌==◌, fold, take, slice_get, IsTrue}
 use Rattle.std.specs.Option.{option_map}
 use Rattle.vr_header.specs.Made.{Whole}
 use Rattle.vr_header.specs.declared.outcome.Outcome.{Outcome}

@@ -1,5 +1,5 @@
 -- The two texts of a state.
-use Rattle.std.specs.Prelude.{◌≡◌, ℕ, ◌+◌, ◌/◌, ◌≤◌, List, length, Result, Ok, Err}
+use Rattle.std.specs.Prelude.{ℕ, ◌+◌, ◌/◌, ◌≤◌, length, Result, Ok, Err}
 use Rattle.vr_kv.specs.Pairs.{kv_text, kv_decoded}
 use Rattle.vr_sess.specs.Texts.{sessions_text, sessions_decoded}
 use Rattle.vr_table.specs.declared.fault.StateFault.{StateFault}

@@ -25,37 +25,35 @@ fn put(alloc: Global, op: u64, number: u32) -> Result<Entry, Fail>
     Ok(Entry::of_request(&request, operation, 0, op, Sum([0; 16])))
 }
 
+/// What client 7's put with this number gives as entry `op`.
+fn put_reply(state: &mut State, alloc: Global, op: u64, number: u32) -> Result<ReplyBody, Fail>
+    requires first { 0 < number }
+    requires least { 1 ≤ op }
+    requires most { op ≤ 2 ^ 62 }
+{
+    let entry = put(alloc, op, number)?;
+    Ok(state.apply(&entry)?)
+}
+
 #[test]
 fn a_repeat_gives_what_was_stored(rt: HostRuntime) -> Result<(), Fail> {
-    let alloc = rt.alloc();
-    let mut state = State::new(alloc);
-    assert_eq!(rt;
-        state.apply(&register())?,
-        ReplyBody::Outcome(Outcome::Session, 1)
-    );
-    assert_eq!(rt;
-        state.apply(&put(alloc, 2, 1)?)?,
-        ReplyBody::Outcome(Outcome::Ok, 2)
-    );
-    assert_eq!(rt;
-        state.apply(&put(alloc, 3, 1)?)?,
-        ReplyBody::Outcome(Outcome::Ok, 2)
-    );
-    assert_eq!(rt; state.apply(&put(alloc, 4, 3)?)?, ReplyBody::Gap);
-    assert_eq!(rt; state.apply(&register())?, ReplyBody::Old);
+    let mut state = State::new(rt.alloc());
+    state.apply(&register())?;
+    let first = put_reply(&mut state, rt.alloc(), 2, 1)?;
+    let again = put_reply(&mut state, rt.alloc(), 3, 1)?;
+    assert_eq!(rt; first, ReplyBody::Outcome(Outcome::Ok, 2));
+    assert_eq!(rt; again, first);
     Ok(())
 }
 
 #[test]
 fn the_texts_are_read_back(rt: HostRuntime) -> Result<(), Fail> {
-    let alloc = rt.alloc();
-    let mut state = State::new(alloc);
-    assert_eq!(rt; state.apply(&put(alloc, 1, 1)?)?, ReplyBody::Evicted);
+    let mut state = State::new(rt.alloc());
     state.apply(&register())?;
-    state.apply(&put(alloc, 2, 1)?)?;
+    put_reply(&mut state, rt.alloc(), 2, 1)?;
     let texts = state.encode_state()?;
     assert_eq!(rt; texts.keys.as_slice(), b"\x00\x01\x01\x00\x01ab".as_slice());
-    let again = State::decode_state(alloc, &texts)?;
+    let again = State::decode_state(rt.alloc(), &texts)?;
     assert_eq!(rt; again.encode_state()?, texts);
     Ok(())
 }

@@ -2,3 +2,4 @@ pub mod Meanings
 pub mod Places
 pub mod Steps
 pub mod Texts
+mod Rows

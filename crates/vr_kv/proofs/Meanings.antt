@@ -1,7 +1,7 @@
 -- What is applied has the meaning that look-ups give it.
-use Rattle.std.proofs.Common.{◌≡◌, ◌≢◌, ℕ, ◌≤◌, ◌⊎◌, inl, inr, List, [], ◌∷◌, ◌++◌, length, Option, Some, None, MatchOption, Bool, true, false, not, is_some, nat_lt, ltb, cond, fold, refl, sym, ◌∙◌, ap, subst, arith}
+use Rattle.std.proofs.Common.{◌≡◌, ◌≢◌, ℕ, inl, inr, List, [], ◌∷◌, ◌++◌, length, Option, Some, None, MatchOption, Bool, true, false, not, is_some, ltb, cond, fold, refl, sym, ◌∙◌, ap, arith}
 use Rattle.std.specs.Option.{option_map_or}
-use Rattle.std.specs.Ordering.{eq_by_cmp, is_eq, nat_cmp}
+use Rattle.std.specs.Ordering.{eq_by_cmp, is_eq}
 use Rattle.std.specs.declared.cmp.Ordering.{Ordering}
 use Rattle.std.specs.declared.cmp.Ordering.TheVariants.{Less, Equal, Greater}
 use Rattle.std.specs.Cmp.{tied_itself, alike_right}
@@ -13,7 +13,7 @@ use Rattle.vr_header.specs.declared.operation.Operation.TheVariants.{Register, P
 use Rattle.vr_header.specs.declared.outcome.Outcome.TheVariants as outcome
 use Rattle.vr_table.specs.Finite.{byte_order, find, put, without}
 use Rattle.vr_kv.specs.Kv.{Map, Answered, answers, putting, getting, deleting, applied, machine_after, IsKv}
-use Rattle.vr_kv.specs.Meaning.{value_of, Sets, IsFull, Means}
+use Rattle.vr_kv.specs.Meaning.{Sets, Means}
 use Rattle.vr_kv.proofs.Steps.{bytes_total}
 
 same_key : (q key : List ℕ) → byte_order q key ≡ Equal → q ≡ key

@@ -1,21 +1,18 @@
 -- What an operation makes of a machine, by the place of its key; and that it stays a machine.
-use Rattle.std.proofs.Common.{◌≡◌, ℕ, zero, suc, ◌+◌, ◌<◌, ◌≤◌, List, [], ◌∷◌, length, get_or, set, Option, Some, None, Bool, true, false, T, not, is_some, nat_lt, ltb, cond, refl, sym, ◌∙◌, ap, subst, arith}
-use Rattle.std.specs.List.{AllByRecursion, insert, remove, filter}
-use Rattle.std.specs.Ordering.{eq_by_cmp, nat_cmp}
-use Rattle.std.specs.declared.cmp.Ordering.{Ordering}
+use Rattle.std.proofs.Common.{◌≡◌, ℕ, zero, suc, ◌+◌, ◌<◌, ◌≤◌, List, [], ◌∷◌, length, get_or, set, Bool, true, not, is_some, nat_lt, cond, refl, sym, ap, subst, arith}
+use Rattle.std.specs.List.{AllByRecursion, insert, remove}
+use Rattle.std.specs.Ordering.{eq_by_cmp}
 use Rattle.std.specs.declared.cmp.Ordering.TheVariants.{Less, Equal, Greater}
 use Rattle.std.specs.Cmp.{IsTotalOrder}
-use Rattle.std.specs.Cmp.Lexicographic.{slice_cmp, nat_list_cmp_total}
+use Rattle.std.specs.Cmp.Lexicographic.{nat_list_cmp_total}
 use Rattle.std.specs.FinMap.Entries.{by_order, where_key, is_sorted-put, is_sorted-where_key, length-put}
 use Rattle.std.proofs.lemmas.Bool.{lt-ltb, le-ltb, ltb-true, cond_both}
 use Rattle.std.specs.FinMap.{slice_cmp-IsAntisymmetric, nat_cmp-IsAntisymmetric}
 use Rattle.vr_header.specs.Text.{is_text}
-use Rattle.vr_header.specs.declared.operation.Operation.{Operation}
-use Rattle.vr_header.specs.declared.operation.Operation.TheVariants.{Register, Put, Get, Delete}
 use Rattle.vr_header.specs.declared.outcome.Outcome.TheVariants as outcome
-use Rattle.vr_table.specs.Finite.{byte_order, find, put, is_sorted, without, IsMap}
+use Rattle.vr_table.specs.Finite.{byte_order, find, put, without, IsMap}
 use Rattle.vr_table.proofs.Maps.{T_true, true_T}
-use Rattle.vr_kv.specs.Kv.{Map, Answered, answers, putting, getting, deleting, applied, IsKv}
+use Rattle.vr_kv.specs.Kv.{Map, Answered, answers, putting, getting, deleting, IsKv}
 use Rattle.vr_kv.specs.Pairs.{Fits}
 use Rattle.vr_kv.specs.Places.{IsAt, IsGap}
 use Rattle.vr_kv.proofs.Places.{find_at, put_at, without_at, find_gap, put_gap}

@@ -1,5 +1,5 @@
 -- A pair is read back from its text, and so is a machine.
-use Rattle.std.proofs.Common.{◌≡◌, ℕ, ◌+◌, ◌*◌, ◌^◌, ◌<◌, ◌≤◌, List, [], ◌∷◌, ◌++◌, length, drop, get_or, Option, Some, None, Result, Ok, Err, Bool, true, false, cond, refl, sym, ◌∙◌, ap, subst, arith}
+use Rattle.std.proofs.Common.{◌≡◌, ℕ, ◌+◌, ◌*◌, ◌^◌, ◌<◌, ◌≤◌, List, [], ◌∷◌, ◌++◌, length, drop, get_or, Option, Some, None, Ok, Bool, true, false, cond, refl, sym, ◌∙◌, ap, subst, arith}
 use Rattle.std.specs.List.{AllByRecursion, flat_map}
 use Rattle.std.specs.Option.{option_and_then}
 use Rattle.std.specs.Int.{w16}
@@ -7,7 +7,7 @@ use Rattle.std.proofs.lemmas.Bool.{and_parts, leb-true}
 use Rattle.std.proofs.lemmas.List.{append_assoc, length-append, at_drop_more, at_drop_all}
 use Rattle.vr_base.specs.Bytes.{IsBytes, bytes16}
 use Rattle.vr_base.proofs.FieldLaws.{length-bytes16}
-use Rattle.vr_header.specs.Text.{is_text, is_printable}
+use Rattle.vr_header.specs.Text.{is_text}
 use Rattle.vr_table.specs.Front.{byte_from, number_from, piece_from}
 use Rattle.vr_table.specs.declared.fault.StateFault.{StateFault}
 use Rattle.vr_table.specs.Table.{table_text, IsOrNoMemory, IsFirstFault}

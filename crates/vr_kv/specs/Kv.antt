@@ -1,5 +1,5 @@
 -- The machine: a finite map of keys to values, and what each operation makes of it.
-use Rattle.std.specs.Prelude.{◌≡◌, ℕ, ◌≤◌, ◌||◌, List, [], length, Option, is_some, nat_lt, if◌then◌else◌, fold}
+use Rattle.std.specs.Prelude.{ℕ, ◌≤◌, List, [], length, is_some, nat_lt, if◌then◌else◌, fold}
 use Rattle.std.specs.List.{AllByRecursion}
 use Rattle.std.specs.Option.{option_map_or}
 use Rattle.vr_header.specs.declared.operation.Operation.{Operation}

@@ -1,5 +1,5 @@
 -- A key with its value, and the text of a map of keys to values.
-use Rattle.std.specs.Prelude.{◌≡◌, ℕ, List, [], ◌∷◌, ◌++◌, length, ◌&&◌, Option, Some, None, IsTrue, if◌then◌else◌, Result}
+use Rattle.std.specs.Prelude.{ℕ, List, ◌∷◌, ◌++◌, length, Option, Some, None, IsTrue, if◌then◌else◌, Result}
 use Rattle.std.specs.Option.{option_and_then}
 use Rattle.std.specs.Int.{w16}
 use Rattle.vr_base.specs.Bytes.{bytes16}

@@ -1,12 +1,11 @@
 -- In one session each number is fresh at most once.
-use Rattle.std.proofs.Common.{◌≡◌, ◌≢◌, ℕ, ◌+◌, ◌<◌, ◌≤◌, ◌⊎◌, inl, inr, List, [], ◌∷◌, ◌++◌, Option, Some, None, MatchOption, Bool, true, false, ◌&&◌, ◌||◌, not, eqb, ltb, length, cond, nat_lt, is_some, if◌then◌else◌, fold, refl, sym, ◌∙◌, ap, subst, arith}
+use Rattle.std.proofs.Common.{◌≡◌, ◌≢◌, ℕ, ◌+◌, ◌<◌, ◌≤◌, ◌⊎◌, inl, inr, List, [], ◌∷◌, ◌++◌, Option, Some, None, MatchOption, Bool, true, false, ◌&&◌, ◌||◌, eqb, ltb, length, cond, nat_lt, is_some, fold, refl, sym, ◌∙◌, ap, subst, arith}
 use Rattle.std.specs.Option.{option_map_or}
 use Rattle.std.specs.Ordering.{nat_cmp}
-use Rattle.std.proofs.lemmas.Bool.{eqb-true, eqb-false, eq-eqb, and_parts, and_from, or_left, or_right, true≢false, cases_eq}
+use Rattle.std.proofs.lemmas.Bool.{eqb-true, eq-eqb, and_from, or_left, true≢false, cases_eq}
 use Rattle.std.proofs.lemmas.List.Sums.{fold-append}
 use Rattle.vr_table.specs.Finite.{find, put, without}
 use Rattle.vr_sess.specs.declared.session.Session.{Session}
-use Rattle.vr_sess.specs.declared.session.SessionAnswer.{SessionAnswer}
 use Rattle.vr_sess.specs.declared.session.SessionAnswer.TheVariants.{Fresh, Repeat, Old, Gap, Evicted}
 use Rattle.vr_sess.specs.Asks.{is_fresh, fresh_at, asked, sessions_after, begins_session, AtMostOnce}
 use Rattle.vr_sess.specs.Effects.{stored}

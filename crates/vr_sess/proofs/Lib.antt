@@ -5,3 +5,4 @@ pub mod Lookups
 pub mod Spelled
 pub mod Steps
 pub mod Values
+mod Rows

@@ -1,17 +1,16 @@
 -- What a map by its hash table finds and changes, in the words of maps with ascending keys.
-use Rattle.std.proofs.Common.{◌≡◌, ℕ, ◌<◌, List, [], ◌∷◌, ◌++◌, map, Option, Some, None, Bool, true, false, T, not, eqb, cond, refl, sym, ◌∙◌, ap, subst, arith}
+use Rattle.std.proofs.Common.{◌≡◌, ℕ, ◌<◌, List, [], ◌∷◌, ◌++◌, map, Some, Bool, true, false, not, eqb, cond, refl, sym, ◌∙◌, ap, subst, arith}
 use Rattle.std.specs.List.{IsDistinct}
 use Rattle.std.specs.List.Sorted.{IsSorted}
 use Rattle.std.specs.Map.{lookup, remove_entry}
-use Rattle.std.specs.Ordering.{is_lt, is_eq, nat_cmp, eq_by_cmp}
-use Rattle.std.specs.declared.cmp.Ordering.TheVariants.{Less, Equal, Greater}
-use Rattle.std.specs.Cmp.{nat_cmp_total, unsigned_ties, IsTotalOrder}
+use Rattle.std.specs.Ordering.{is_lt, nat_cmp, eq_by_cmp}
+use Rattle.std.specs.Cmp.{nat_cmp_total, unsigned_ties}
 use Rattle.std.specs.FinMap.{nat_cmp-IsAntisymmetric}
-use Rattle.std.specs.FinMap.Entries.{below_all, is_sorted-put, is_sorted-where_key, find-put, same_entries}
+use Rattle.std.specs.FinMap.Entries.{below_all, is_sorted-put, find-put, same_entries}
 use Rattle.std.proofs.lemmas.Bool.{and_parts, ltb-true, eqb-true, eq-eqb, ne_eqb, eqb-false}
 use Rattle.indexmap.specs.IndexMap.{insert_entry}
 use Rattle.vr_table.specs.Finite.{find, put, is_sorted, without, IsMap}
-use Rattle.vr_table.proofs.Maps.{less, T_true, true_T}
+use Rattle.vr_table.proofs.Maps.{less, T_true}
 use Rattle.vr_sess.proofs.Ascending.{is_lt_nat_cmp, keys_in_order, ascending_from}
 
 eqb_flip : (x y : ℕ) → eqb x y ≡ eqb y x

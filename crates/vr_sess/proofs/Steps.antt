@@ -1,20 +1,19 @@
 -- What a stored request makes of the sessions, step by step of the code, and what it changes by look-ups.
-use Rattle.std.proofs.Common.{◌≡◌, ◌≢◌, ℕ, ◌+◌, ◌<◌, ◌≤◌, ◌⊎◌, inl, inr, List, [], ◌∷◌, ◌++◌, length, Option, Some, None, Bool, true, false, T, not, is_some, nat_lt, eqb, ltb, cond, refl, sym, ◌∙◌, ap, subst, arith}
+use Rattle.std.proofs.Common.{◌≡◌, ◌≢◌, ℕ, ◌+◌, ◌<◌, ◌≤◌, inl, inr, [], ◌∷◌, length, Option, Some, None, Bool, true, false, not, is_some, eqb, ltb, cond, refl, sym, ◌∙◌, ap, subst, arith}
 use Rattle.std.specs.List.{AllByRecursion}
 use Rattle.std.specs.Option.{option_map_or}
 use Rattle.std.specs.Ordering.{is_eq, nat_cmp, eq_by_cmp}
-use Rattle.std.specs.declared.cmp.Ordering.{Ordering}
 use Rattle.std.specs.declared.cmp.Ordering.TheVariants.{Less, Equal, Greater}
 use Rattle.std.specs.Cmp.{nat_cmp_total, unsigned_ties, alike_right}
 use Rattle.std.specs.FinMap.{nat_cmp-IsAntisymmetric}
 use Rattle.std.specs.FinMap.Entries.{by_order, where_key, is_sorted-put, is_sorted-where_key, find-put, find-where_key, length-put, length_without, same_entries}
 use Rattle.std.proofs.lemmas.Bool.{lt-ltb, le-ltb, eq-eqb, ne_eqb, cond_both, true≢false, eqb-true, ltb-true, ltb-false}
-use Rattle.vr_table.specs.Finite.{find, put, without, is_sorted, IsMap}
+use Rattle.vr_table.specs.Finite.{find, put, without, IsMap}
 use Rattle.vr_table.proofs.Maps.{T_true, true_T}
 use Rattle.vr_sess.specs.declared.session.Session.{Session}
-use Rattle.vr_sess.specs.Effects.{session_of, stored, Keeps, Evicts, Effect}
+use Rattle.vr_sess.specs.Effects.{stored, Keeps, Effect}
 use Rattle.vr_sess.specs.Sessions.{Map, Asked, oldest, without_oldest, applied, Fits, IsSessions, IsOldest}
-use Rattle.vr_sess.proofs.Eldest.{Found, oldest_found, find_among}
+use Rattle.vr_sess.proofs.Eldest.{oldest_found, find_among}
 
 own : (key : ℕ) → eq_by_cmp nat_cmp key key ≡ true
 own key = sym (unsigned_ties key key) ∙ eq-eqb key key refl

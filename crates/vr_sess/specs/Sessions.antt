@@ -1,7 +1,7 @@
 -- Sessions: a finite map from clients to what was last executed for each, by whole requests.
 use Rattle.std.specs.Prelude.{◌≡◌, ℕ, ◌+◌, ◌<◌, ◌≤◌, ◌^◌, List, ◌++◌, ◌∷◌, length, Option, Some, None, is_some, nat_lt, nat_le, ◌==◌, if◌then◌else◌, fold, IsTrue}
 use Rattle.std.specs.List.{AllByRecursion}
-use Rattle.std.specs.Option.{option_map_or, option_map}
+use Rattle.std.specs.Option.{option_map_or}
 use Rattle.std.specs.Ordering.{nat_cmp}
 use Rattle.vr_header.specs.Text.{is_text}
 use Rattle.vr_header.specs.declared.outcome.Outcome.{Outcome}

@@ -1,6 +1,6 @@
 -- What is read from the front of bytes is what was written there.
-use Rattle.std.proofs.Common.{◌≡◌, ℕ, ◌+◌, ◌^◌, ◌<◌, ◌≤◌, List, [], ◌∷◌, ◌++◌, length, take, drop, get_or, Bool, Option, Some, None, Result, Ok, true, false, cond, ltb, unwrap_or, inl, inr, lit<, refl, sym, ◌∙◌, ap, subst, arith}
-use Rattle.std.specs.Int.{Width, byte_len, w16, w32, w64, from_be_bytes, to_be_bytes}
+use Rattle.std.proofs.Common.{◌≡◌, ℕ, ◌+◌, ◌^◌, ◌<◌, List, [], ◌∷◌, ◌++◌, length, take, drop, get_or, Bool, Some, None, true, false, cond, ltb, unwrap_or, inl, inr, lit<, refl, sym, ap, subst, arith}
+use Rattle.std.specs.Int.{Width, byte_len, w16, w32, w64, from_be_bytes}
 use Rattle.std.proofs.lemmas.Nat.{be_bytes_2, be_bytes_4, be_bytes_8, from_be_bytes-to_be_bytes_2, from_be_bytes-to_be_bytes_4, from_be_bytes-to_be_bytes_8}
 use Rattle.std.proofs.lemmas.List.{take_at, drop_at, take-append-drop, length-append, length-take, length-take-le, get_or-drop, get_or-take, get_or_past}
 use Rattle.std.proofs.lemmas.Bool.{le-ltb, ltb-false, cases_lt}

@@ -1,5 +1,5 @@
 -- A table's text is read as that table, and nothing else is.
-use Rattle.std.proofs.Common.{◌≡◌, ◌≢◌, ℕ, zero, suc, ◌+◌, ◌^◌, ◌<◌, ◌≤◌, ◌⊎◌, inl, inr, List, [], ◌∷◌, ◌++◌, length, Option, Some, None, Result, Ok, Err, Bool, true, false, cond, if◌then◌else◌, nat_lt, ltb, eqb, lit<, ◌-◌, refl, sym, ◌∙◌, ap, subst, arith}
+use Rattle.std.proofs.Common.{◌≡◌, ◌≢◌, ℕ, zero, suc, ◌+◌, ◌^◌, ◌<◌, ◌≤◌, List, [], ◌∷◌, ◌++◌, length, Option, Some, None, Result, Ok, Err, Bool, true, false, cond, if◌then◌else◌, nat_lt, ltb, eqb, lit<, ◌-◌, refl, sym, ◌∙◌, ap, subst, arith}
 use Rattle.std.specs.List.{flat_map, AllByRecursion}
 use Rattle.std.specs.Option.{option_map_or}
 use Rattle.std.specs.Int.{w16}
@@ -15,7 +15,7 @@ use Rattle.vr_table.specs.Front.{number_from}
 use Rattle.vr_table.specs.Table.{count_from, table_text, read_on, counted, decoded, BeginsWith, FirstFault, IsTextOf, IsJudged, IsOrNoMemory, IsFirstFault}
 use Rattle.vr_table.specs.Table.FirstFault.{no_count, too_many, torn_entry, lower_key, left_over}
 use Rattle.vr_table.proofs.Maps.{IsMap-front}
-use Rattle.vr_table.proofs.Fronts.{IsBytes-behind, number_reads, number_only, number_small, field16, same_some}
+use Rattle.vr_table.proofs.Fronts.{IsBytes-behind, number_reads, number_only, field16}
 
 -- `read` gives exactly the entry whose text the bytes begin with, and what is behind it
 pub record IsReader {E : Type 0} (text : E → List ℕ) (Fits : E → Type 0) (read : List ℕ → Option (E × List ℕ)) : Type 0 where

@@ -1,6 +1,6 @@
 -- A finite map, as the list of its entries with ascending keys. Two such lists that give each key the same value are
 -- one list, so the list is the map. The words `find` and `put` are the library's.
-use Rattle.std.specs.Prelude.{ℕ, List, Bool, not, IsTrue, Option, nat_eq}
+use Rattle.std.specs.Prelude.{ℕ, List, not, IsTrue}
 use Rattle.std.specs.Ordering.{nat_cmp, eq_by_cmp}
 use Rattle.std.specs.declared.cmp.Ordering.{Ordering}
 use Rattle.std.specs.Cmp.Lexicographic.{slice_cmp}

@@ -1,8 +1,7 @@
 -- With what is left to read the answer is the same, and in the end nothing is.
-use Rattle.std.proofs.Common.{◌≡◌, suc, ◌+◌, ◌-◌, [], sym, ◌∙◌, arith}
+use Rattle.std.proofs.Common.{◌≡◌, suc, ◌+◌, ◌-◌, sym, ◌∙◌, arith}
 use Rattle.std.proofs.lemmas.Result.{err_from_is_err_and}
 use Rattle.std.specs.Ordering.{nat_cmp}
-use Rattle.vr_table.specs.Table.{read_on}
 use Rattle.vr_table.proofs.Tables.{read_whole, read_rest}
 use Rattle.vr_sess.specs.Texts.{session_from}
 use Rattle.vr_sess.proofs.codec.read_all.Goals as goal

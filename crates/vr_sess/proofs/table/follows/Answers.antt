@@ -1,7 +1,6 @@
 -- Behind ascending clients one stands in order exactly where it is above the last.
-use Rattle.std.proofs.Common.{◌≡◌, Option, true, sym, ◌∙◌, ap}
-use Rattle.std.specs.Option.{option_map_or}
-use Rattle.std.specs.Ordering.{is_lt, nat_cmp}
+use Rattle.std.proofs.Common.{sym}
+use Rattle.std.specs.Ordering.{nat_cmp}
 use Rattle.std.specs.Cmp.{nat_cmp_total}
 use Rattle.vr_table.proofs.Maps.{IsMap-push}
 use Rattle.vr_sess.proofs.Ascending.{is_lt_nat_cmp}

@@ -1,7 +1,7 @@
 -- One entry more is one step more of the fold.
-use Rattle.std.proofs.Common.{◌≡◌, sym, ◌∙◌, ap}
+use Rattle.std.proofs.Common.{sym, ◌∙◌, ap}
 use Rattle.vr_apply.specs.declared.state.State.{State}
-use Rattle.vr_apply.specs.Folds.{applied, state_after}
+use Rattle.vr_apply.specs.Folds.{applied}
 use Rattle.vr_apply.proofs.Once.{each_once, state_after_more}
 use Rattle.vr_apply.proofs.state.State.apply.Goals as goal
 

@@ -1,7 +1,6 @@
 -- Sessions with one text are equal, and machines with one text.
-use Rattle.std.proofs.Common.{◌≡◌, sym, ◌∙◌, ap}
+use Rattle.std.proofs.Common.{◌≡◌, ◌∙◌, ap}
 use Rattle.vr_apply.specs.declared.codec.Texts.{Texts}
-use Rattle.vr_apply.specs.declared.state.State.{State}
 use Rattle.vr_apply.proofs.state.State.encode_state.Goals as goal
 
 pub returns-clause-one_text : goal.returns-clause-one_text

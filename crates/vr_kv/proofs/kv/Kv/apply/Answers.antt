@@ -1,6 +1,6 @@
 -- The operation has its meaning, and is one step more of the fold.
-use Rattle.std.proofs.Common.{◌≡◌, sym, ◌∙◌, ap}
-use Rattle.vr_kv.specs.Kv.{Map, applied, machine_after}
+use Rattle.std.proofs.Common.{sym, ◌∙◌, ap}
+use Rattle.vr_kv.specs.Kv.{Map, applied}
 use Rattle.vr_kv.proofs.Meanings.{applied_means, machine_after_more}
 use Rattle.vr_kv.proofs.kv.Kv.apply.Goals as goal
 

@@ -1,7 +1,6 @@
 -- What was read is a machine with this text; a fault is the first.
-use Rattle.std.proofs.Common.{◌≡◌, Ok, arith}
+use Rattle.std.proofs.Common.{arith}
 use Rattle.std.proofs.lemmas.Result.{err_from_is_err_and}
-use Rattle.vr_kv.specs.Pairs.{kv_decoded}
 use Rattle.vr_kv.proofs.Texts.{kv_found, kv_fault}
 use Rattle.vr_kv.proofs.kv.Kv.decode_state.Goals as goal
 

@@ -1,5 +1,5 @@
 -- The key's pair is taken out, or there is none.
-use Rattle.std.proofs.Common.{◌≡◌, sym, ap}
+use Rattle.std.proofs.Common.{sym, ap}
 use Rattle.vr_kv.specs.Kv.{Answered}
 use Rattle.vr_kv.proofs.Steps.{deleted, not_there, IsKv-removed}
 use Rattle.vr_kv.proofs.kv.Kv.delete.Goals as goal

@@ -1,5 +1,5 @@
 -- The pairs are the machine's, which is read back from its text.
-use Rattle.std.proofs.Common.{◌≡◌, ◌≤◌, List, ℕ, length, Ok, sym, ◌∙◌, ap, subst}
+use Rattle.std.proofs.Common.{◌≡◌, ◌≤◌, length, Ok, subst}
 use Rattle.std.proofs.lemmas.Result.{IfOk-weaker}
 use Rattle.vr_kv.specs.Kv.{IsKv}
 use Rattle.vr_kv.specs.Pairs.{kv_text, kv_decoded}

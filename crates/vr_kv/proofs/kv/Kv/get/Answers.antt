@@ -1,6 +1,5 @@
 -- The value at the key's place, or none.
-use Rattle.std.proofs.Common.{◌≡◌, sym, ap}
-use Rattle.vr_header.specs.declared.outcome.Outcome.TheVariants as outcome
+use Rattle.std.proofs.Common.{sym, ap}
 use Rattle.vr_table.specs.Finite.{byte_order}
 use Rattle.vr_kv.specs.Kv.{Answered}
 use Rattle.vr_kv.specs.Places.{IsAt}

@@ -1,6 +1,5 @@
 -- A new key goes into its gap, or finds no room.
-use Rattle.std.proofs.Common.{◌≡◌, ◌<◌, ◌≤◌, length, sym, ap, arith}
-use Rattle.vr_header.specs.Text.{is_text}
+use Rattle.std.proofs.Common.{◌<◌, ◌≤◌, length, sym, ap, arith}
 use Rattle.vr_table.specs.Finite.{byte_order}
 use Rattle.vr_kv.specs.Kv.{Answered}
 use Rattle.vr_kv.specs.Places.{IsGap}

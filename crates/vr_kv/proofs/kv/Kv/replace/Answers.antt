@@ -1,6 +1,5 @@
 -- The key at this place takes the copy of the value.
-use Rattle.std.proofs.Common.{◌≡◌, sym, ap}
-use Rattle.vr_header.specs.Text.{is_text}
+use Rattle.std.proofs.Common.{sym, ap}
 use Rattle.vr_table.specs.Finite.{byte_order}
 use Rattle.vr_kv.specs.Kv.{Answered}
 use Rattle.vr_kv.specs.Places.{IsAt}

@@ -1,8 +1,7 @@
 -- What was stored has its effect, and is one request more of the fold.
-use Rattle.std.proofs.Common.{◌≡◌, sym, ◌∙◌, ap, arith}
-use Rattle.vr_sess.specs.declared.session.SessionAnswer.TheVariants.{Fresh}
+use Rattle.std.proofs.Common.{sym, ◌∙◌, ap, arith}
 use Rattle.vr_sess.specs.Effects.{stored}
-use Rattle.vr_sess.specs.Sessions.{Map, Asked, applied, Fits}
+use Rattle.vr_sess.specs.Sessions.{Map, Asked, Fits}
 use Rattle.vr_sess.specs.Asks.{asked}
 use Rattle.vr_sess.proofs.Asking.{at_most_once, asked_fresh, sessions_after_more}
 use Rattle.vr_sess.proofs.Steps.{applied_effect}

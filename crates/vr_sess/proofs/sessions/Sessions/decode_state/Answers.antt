@@ -1,5 +1,5 @@
 -- What was read are sessions with this text; a fault is the first.
-use Rattle.std.proofs.Common.{◌≡◌, arith}
+use Rattle.std.proofs.Common.{arith}
 use Rattle.std.proofs.lemmas.Result.{err_from_is_err_and}
 use Rattle.vr_sess.proofs.Spelled.{sessions_found, sessions_fault}
 use Rattle.vr_sess.proofs.sessions.Sessions.decode_state.Goals as goal

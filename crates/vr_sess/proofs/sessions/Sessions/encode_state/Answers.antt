@@ -1,5 +1,5 @@
 -- The sessions are read back from their text.
-use Rattle.std.proofs.Common.{◌≡◌, subst}
+use Rattle.std.proofs.Common.{subst}
 use Rattle.vr_sess.specs.Sessions.{IsSessions}
 use Rattle.vr_sess.proofs.Spelled.{length-sessions_text, sessions_decoded-text, sessions_text-one}
 use Rattle.vr_sess.proofs.sessions.Sessions.encode_state.Goals as goal

@@ -1,9 +1,9 @@
 -- There is room, or the client has a session, or the oldest gives way.
-use Rattle.std.proofs.Common.{◌≡◌, ◌<◌, ◌≤◌, length, Option, true, false, is_some, sym, ◌∙◌, ap, subst, arith}
+use Rattle.std.proofs.Common.{◌≡◌, true, false, is_some, sym, ◌∙◌, ap, arith}
 use Rattle.std.specs.Ordering.{nat_cmp}
-use Rattle.vr_table.specs.Finite.{find, put}
+use Rattle.vr_table.specs.Finite.{find}
 use Rattle.vr_sess.specs.Effects.{stored}
-use Rattle.vr_sess.specs.Sessions.{Map, Asked, applied, Fits, IsSessions}
+use Rattle.vr_sess.specs.Sessions.{Asked, Fits}
 use Rattle.vr_sess.proofs.Lookups.{lookup_is_find}
 use Rattle.vr_sess.proofs.Steps.{room_applied, room_held, there_applied, there_held, IsMap-put, evicted_applied, evicted_held, full_has_oldest}
 use Rattle.vr_sess.proofs.sessions.Sessions.store.Goals as goal
