@@ -4,8 +4,6 @@ use Rattle.std.specs.Prelude.{Bool, true, false, not, nat_eq}
 use Rattle.std.specs.Cmp.Lexicographic.{pointwise}
 use Rattle.std.proofs.lemmas.List.{take_more, take_all}
 use Rattle.std.proofs.lemmas.Slice.Eq.{bytes_eq-Decides}
-use Rattle.vr_base.specs.Bytes.{name_of}
-use Rattle.vr_header.specs.Spelling.{named_bytes}
 use Rattle.vr_base.specs.declared.sum.Sum.{Sum}
 use Rattle.vr_header.specs.declared.header.Header.{Header}
 use Rattle.vr_header.specs.Names.{header_name}
@@ -46,14 +44,13 @@ isnt true n e = cc
 isnt false n e = cc
 
 pub chain_more : (anchor : Sum) (headers : List Header) (at : ℕ) (before : Sum) (h : Header) (name : Sum) → ChainTo anchor headers at before → at < length headers
-    → h ≡ get_or headers at h → not (pointwise nat_eq h.parent.0 before.0) ≡ false → name.0 ≡ name_of (named_bytes h) → ChainTo anchor headers (at + 1) name
-unfolding header_name
+    → h ≡ get_or headers at h → not (pointwise nat_eq h.parent.0 before.0) ≡ false → name ≡ header_name h → ChainTo anchor headers (at + 1) name
 chain_more anchor headers at before h name c l i e n =
     let more : take (at + 1) headers ≡ take at headers ++ h ∷ [] = rw i (take_more headers at h l) in
     let p = one_sum h.parent before ((bytes_eq-Decides h.parent.0 before.0).0 (untrue _ e)) in
     record {
       chain = subst (IsChain anchor) (sym more) (grown anchor (take at headers) h c.chain (p ∙ c.name));
-      name = one_sum name (header_name h) n ∙ (sym (grown_name anchor (take at headers) h) ∙ ap (last_name anchor) (sym more));
+      name = n ∙ (sym (grown_name anchor (take at headers) h) ∙ ap (last_name anchor) (sym more));
     }
 
 pub breaks : (anchor : Sum) (headers : List Header) (at : ℕ) (before : Sum) (h : Header) → ChainTo anchor headers at before → at < length headers

@@ -66,13 +66,14 @@ mod tests {
 
     #[test]
     fn the_first_hole_is_found(rt: HostRuntime) -> Result<(), Fail> {
-        let known = header(ANCHOR, 1);
-        let parts = [Part::Here(known), Part::Lost(known), Part::Unknown];
+        let here = header(ANCHOR, 1);
+        let lost = header(ANCHOR, 2);
+        let parts = [Part::Here(here), Part::Lost(lost), Part::Unknown];
         assert_eq!(rt; crate::next_hole(&parts), Some(2));
-        assert_eq!(rt;
-            crate::next_hole(&[Part::Here(known), Part::Wanted(known)]),
-            None
-        );
+        let first = header(ANCHOR, 1);
+        let wanted = header(ANCHOR, 2);
+        let whole = [Part::Here(first), Part::Wanted(wanted)];
+        assert_eq!(rt; crate::next_hole(&whole), None);
         Ok(())
     }
 }

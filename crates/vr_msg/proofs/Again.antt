@@ -1,21 +1,18 @@
 -- A message that is spelled is of its form, and is read again.
-use Rattle.std.proofs.Common.{◌≡◌, ℕ, ◌+◌, ◌-◌, ◌^◌, ◌≤◌, ◌<◌, Bool, true, false, cond, eqb, leb, ltb, List, [], ◌∷◌, ◌++◌, length, take, drop, get_or, refl, sym, ap, ◌∙◌, arith, subst, Ok, Option, Some, None}
-use Rattle.std.specs.Prelude.{◌&&◌, ◌||◌, ◌↔◌, ◌≢◌, is_some, map, nat_eq, not, slice_get}
-use Rattle.std.specs.Int.{w16, w64}
+use Rattle.std.proofs.Common.{◌≡◌, ℕ, ◌+◌, ◌-◌, ◌^◌, ◌≤◌, ◌<◌, Bool, true, false, cond, eqb, leb, List, [], length, refl, sym, ap, ◌∙◌, arith, subst, Some}
+use Rattle.std.specs.Prelude.{◌&&◌, ◌↔◌, ◌≢◌, map, not, slice_get}
 use Rattle.std.specs.List.{prefix_len}
-use Rattle.std.specs.Option.{option_map}
-use Rattle.std.specs.Cmp.Lexicographic.{pointwise}
 use Rattle.std.proofs.lemmas.Bool.{eq-eqb, eqb-true, leb-true, le-leb, le-ltb, lt-ltb}
 use Rattle.std.proofs.lemmas.Slice.Eq.{bytes_eq-Decides}
-use Rattle.vr_base.specs.Bytes.{bytes16, bytes64, name_of, number}
+use Rattle.vr_base.specs.Bytes.{name_of}
 use Rattle.vr_header.specs.declared.header.Header.{Header}
 use Rattle.vr_header.specs.declared.operation.Operation.{Operation}
 use Rattle.vr_header.specs.declared.operation.Operation.TheVariants.{Register}
 use Rattle.vr_header.specs.declared.part.Part.{Part}
 use Rattle.vr_header.specs.declared.part.Part.TheVariants.{Nothing}
-use Rattle.vr_header.specs.Bodies.{IsOperation, operation_bytes, operation_of, outcome_bytes, outcome_of}
-use Rattle.vr_header.specs.Made.{IsEntry, Whole, entry_bytes, entry_of}
-use Rattle.vr_header.specs.Spelling.{IsHeader, header_bytes}
+use Rattle.vr_header.specs.Bodies.{IsOperation, operation_bytes}
+use Rattle.vr_header.specs.Made.{IsEntry, Whole, entry_bytes}
+use Rattle.vr_header.specs.Spelling.{IsHeader}
 use Rattle.vr_header.proofs.BodyLaws.{operation_again, outcome_again}
 use Rattle.vr_header.proofs.EntryLaws.{entry_again}
 use Rattle.vr_msg.specs.declared.frame.Frame.{Frame}
@@ -24,14 +21,14 @@ use Rattle.vr_msg.specs.declared.reply.ReplyKind.{ReplyKind}
 use Rattle.vr_msg.specs.declared.reply.ReplyKind.TheVariants as reply
 use Rattle.vr_msg.specs.declared.statement.Statement.{Statement}
 use Rattle.vr_msg.specs.Asking.{IsReplyKind}
-use Rattle.vr_msg.specs.Forms.{IsDoViewChange, IsFrame, IsStartView}
+use Rattle.vr_msg.specs.Forms.{IsFrame}
 use Rattle.vr_msg.specs.Logs.{FromOp, IsEntryAt, IsPartAt, IsStatement, has_header}
-use Rattle.vr_msg.specs.Reading.{frame_for, kind_at, headers_at}
-use Rattle.vr_msg.specs.Shapes.{body_fits, entry_fits, has_shape, is_asked, is_at, is_body, is_number, is_view, kind_fits, knows, log_fits, numbers_fit, parts_fit, statement_fits, tags_fit, tags_run, unused_names_are_zero, unused_numbers_are_zero}
+use Rattle.vr_msg.specs.Reading.{frame_for, kind_at}
+use Rattle.vr_msg.specs.Shapes.{body_fits, entry_fits, has_shape, is_asked, is_body, is_view, kind_fits, log_fits, numbers_fit, parts_fit, statement_fits, tags_run, unused_names_are_zero, unused_numbers_are_zero}
 use Rattle.vr_msg.specs.Spelling.{AreHeaders, IsBodyValue, IsKindValue, body_bytes, command_for, frame_header, headers_bytes, kind_bytes, kind_number, kind_op, known, parts_bytes, tag}
 use Rattle.vr_msg.proofs.Fitting.{one_byte}
 use Rattle.vr_msg.proofs.Lists.{at_true, headers_again, headers_true}
-use Rattle.vr_msg.proofs.Parts.{body_again, body_parts, last_says, last_true, length-tags, run_tags, tags_true}
+use Rattle.vr_msg.proofs.Parts.{body_again, body_parts, last_true, run_tags, tags_true}
 
 pub command_of_frame : (m : Frame) → (frame_header m).command ≡ command_for m
 command_of_frame (frame.Request q) = refl

@@ -1,5 +1,5 @@
 -- What decoding finds is what is spelled.
-use Rattle.std.proofs.Common.{◌≡◌, ℕ, ◌+◌, ◌≤◌, ◌⊎◌, inl, inr, Bool, true, false, cond, List, [], ◌++◌, length, take, drop, refl, sym, ap, ◌∙◌, arith, subst, append_assoc, length-append, length-drop, Result, Ok, Err, Option, Some, None}
+use Rattle.std.proofs.Common.{◌≡◌, ℕ, ◌+◌, ◌≤◌, ◌⊎◌, inl, inr, Bool, true, false, cond, List, [], ◌++◌, length, take, drop, refl, sym, ap, ◌∙◌, arith, subst, append_assoc, length-drop, Result, Ok, Err, Some, None}
 use Rattle.std.specs.Prelude.{IfErr, IfOk, ◌≢◌, not}
 use Rattle.std.proofs.lemmas.List.{append-nil, take_at}
 use Rattle.vr_base.specs.Bytes.{IsBytes}
@@ -9,10 +9,10 @@ use Rattle.vr_header.specs.Spelling.{IsHeader, decoded, header_bytes}
 use Rattle.vr_msg.specs.declared.fault.MsgFault.{MsgFault}
 use Rattle.vr_msg.specs.declared.fault.MsgFault.TheVariants as fault
 use Rattle.vr_msg.specs.declared.frame.Frame.{Frame}
-use Rattle.vr_msg.specs.Deciding.{HasBody, IsFault, IsNamed, Reads}
+use Rattle.vr_msg.specs.Deciding.{HasBody, IsFault, Reads}
 use Rattle.vr_msg.specs.Reading.{frame_for}
-use Rattle.vr_msg.specs.Shapes.{body_fits, has_shape, inspected, inspected_with, is_body, numbers_fit}
-use Rattle.vr_msg.specs.Spelling.{Spells, body_bytes, command_for, frame_header, spelling}
+use Rattle.vr_msg.specs.Shapes.{has_shape, inspected, inspected_with, is_body}
+use Rattle.vr_msg.specs.Spelling.{Spells, body_bytes, frame_header, spelling}
 use Rattle.vr_msg.proofs.Again.{command_of_frame, frame_again, is_body_true, name_of_frame, shape_true, size_of_frame}
 use Rattle.vr_msg.proofs.Fitting.{long_of}
 use Rattle.vr_msg.proofs.Found.{Found, ShapeFound, body_found, found, shape_found}

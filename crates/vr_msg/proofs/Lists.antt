@@ -1,23 +1,19 @@
 -- Lists of headers and of Parts: what is spelled is read, and what is read is spelled so.
-use Rattle.std.proofs.Common.{◌≡◌, ℕ, zero, suc, ◌+◌, ◌-◌, ◌≤◌, ◌<◌, Bool, true, false, cond, eqb, leb, ltb, List, [], ◌∷◌, ◌++◌, length, take, drop, get_or, refl, sym, ap, ◌∙◌, arith, subst, append_assoc, length-append, length-take, length-drop, Result, Ok, Err, Option, Some, None}
-use Rattle.std.specs.Prelude.{◌&&◌, ◌||◌, ◌==◌, ◌≢◌, IfOk, is_ok, map, not, slice_get, slice_index}
-use Rattle.std.specs.List.{filter_map, flat_map, prefix_len}
-use Rattle.std.specs.Option.{option_map_or}
-use Rattle.std.proofs.lemmas.Bool.{eq-eqb, eqb-true, leb-true, le-leb, ltb-false}
-use Rattle.std.proofs.lemmas.List.{append-nil, drop_at, take_at, take-append-drop, get_or-drop}
+use Rattle.std.proofs.Common.{◌≡◌, ℕ, zero, suc, ◌+◌, ◌≤◌, Bool, true, false, cond, eqb, List, [], ◌∷◌, ◌++◌, length, drop, refl, sym, ap, ◌∙◌, arith, subst, Result, Ok, Err}
+use Rattle.std.specs.Prelude.{IfOk, not}
+use Rattle.std.proofs.lemmas.Bool.{eq-eqb, eqb-true, leb-true, le-leb}
+use Rattle.std.proofs.lemmas.List.{drop_at, take_at, take-append-drop, get_or-drop}
 use Rattle.vr_base.specs.Bytes.{IsBytes}
 use Rattle.vr_header.specs.declared.header.Header.{Header}
 use Rattle.vr_header.specs.declared.header.HeaderFault.{HeaderFault}
-use Rattle.vr_header.specs.declared.part.Part.{Part}
-use Rattle.vr_header.specs.declared.part.Part.TheVariants.{Here, Lost, Wanted, Unknown, Nothing}
-use Rattle.vr_header.specs.Made.{IsEntryHeader, is_entry_header}
+use Rattle.vr_header.specs.Made.{is_entry_header}
 use Rattle.vr_header.specs.Spelling.{IsHeader, Spells, decoded, header_at, header_bytes}
 use Rattle.vr_header.proofs.EntryLaws.{entry_header_of, is_entry_header_of}
 use Rattle.vr_header.proofs.HeaderLaws.{decoded_again, decoded_found, length-header_bytes}
-use Rattle.vr_msg.specs.Logs.{FromOp, IsEntryAt, IsPartAt, has_header, header_of}
-use Rattle.vr_msg.specs.Reading.{headers_at, part_at, parts_at, rest_at}
-use Rattle.vr_msg.specs.Shapes.{after_tag, begins_entry, headers_fit, is_at, is_ok_entry_at, knows, tags_fit}
-use Rattle.vr_msg.specs.Spelling.{AreHeaders, headers_bytes, tag}
+use Rattle.vr_msg.specs.Logs.{FromOp, IsEntryAt}
+use Rattle.vr_msg.specs.Reading.{headers_at}
+use Rattle.vr_msg.specs.Shapes.{begins_entry, headers_fit, is_at, is_ok_entry_at}
+use Rattle.vr_msg.specs.Spelling.{AreHeaders, headers_bytes}
 use Rattle.vr_msg.proofs.Fitting.{both, no_fault_in}
 
 -- a header at the front of bytes

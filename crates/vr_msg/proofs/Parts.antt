@@ -1,20 +1,19 @@
 -- Lists of Parts: what is spelled is read, and what is read is spelled so.
-use Rattle.std.proofs.Common.{◌≡◌, ℕ, zero, suc, ◌+◌, ◌-◌, ◌^◌, ◌≤◌, ◌<◌, ◌⊎◌, inl, inr, Bool, true, false, cond, eqb, leb, ltb, List, [], ◌∷◌, ◌++◌, length, take, drop, get_or, refl, sym, ap, ◌∙◌, arith, subst, append_assoc, length-append, length-take, length-drop, Option, Some, None}
+use Rattle.std.proofs.Common.{◌≡◌, ℕ, zero, suc, ◌+◌, ◌-◌, ◌^◌, ◌≤◌, ◌<◌, ◌⊎◌, inl, inr, Bool, true, false, cond, eqb, leb, ltb, List, [], ◌∷◌, ◌++◌, length, take, drop, get_or, refl, sym, ap, ◌∙◌, arith, subst, append_assoc, length-append, length-take, length-drop, Some, None}
 use Rattle.std.specs.Prelude.{◌&&◌, ◌||◌, ◌≢◌, map, not, slice_get}
 use Rattle.std.specs.Int.{w16, w64}
-use Rattle.std.specs.List.{filter_map, prefix_len}
+use Rattle.std.specs.List.{prefix_len}
 use Rattle.std.specs.Option.{option_map_or}
-use Rattle.std.proofs.lemmas.Bool.{eq-eqb, eqb-true, leb-true, leb-false, le-leb, ltb-false, le-ltb}
+use Rattle.std.proofs.lemmas.Bool.{eqb-true, leb-true, ltb-false}
 use Rattle.std.proofs.lemmas.List.{drop_at, take_at, take-append-drop}
 use Rattle.vr_base.specs.Bytes.{IsBytes, bytes16, bytes64, number, piece}
 use Rattle.vr_base.proofs.FieldLaws.{length-bytes16, length-bytes64, number16_back, number16_of, number64_back, number64_of}
 use Rattle.vr_base.proofs.Places.{drop_both, take_both}
-use Rattle.vr_header.specs.declared.header.Header.{Header}
 use Rattle.vr_header.specs.declared.part.Part.{Part}
 use Rattle.vr_header.specs.declared.part.Part.TheVariants.{Here, Lost, Wanted, Unknown, Nothing}
 use Rattle.vr_header.specs.Spelling.{header_at, header_bytes}
 use Rattle.vr_msg.specs.declared.statement.DvcBody.{DvcBody}
-use Rattle.vr_msg.specs.Logs.{FromOp, IsPartAt, has_header, header_of}
+use Rattle.vr_msg.specs.Logs.{FromOp, IsPartAt, has_header}
 use Rattle.vr_msg.specs.Reading.{body_at, part_at, parts_at, rest_at}
 use Rattle.vr_msg.specs.Shapes.{after_tag, begins_entry, knows, tags_fit}
 use Rattle.vr_msg.specs.Spelling.{AreHeaders, headers_bytes, known, parts_bytes, tag}
