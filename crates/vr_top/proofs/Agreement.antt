@@ -1,12 +1,11 @@
 -- A group in view 0 agrees, whatever the lines of its schedule.
-use Rattle.std.proofs.Common.{zero, suc, ◌≡◌, ◌⊎◌, inl, inr, ◌<◌, ◌≤◌, ℕ, ◌+◌, ◌-◌, ◌%◌, List, [], ◌∷◌, ◌++◌, length, take, map, set, Bool, true, false, cond, eqb, refl, ap, sym, ◌∙◌, arith, append_assoc, subst, Option, Some, None}
+use Rattle.std.proofs.Common.{zero, suc, ◌≡◌, ◌⊎◌, inl, inr, ◌≤◌, ℕ, ◌+◌, ◌%◌, List, [], ◌∷◌, ◌++◌, length, take, map, set, Bool, true, false, cond, refl, ap, sym, ◌∙◌, arith, append_assoc, subst, Option, Some, None}
 use Rattle.std.specs.List.{slice_get, range_with_len, AllByRecursion}
 use Rattle.std.specs.Option.{is_some}
-use Rattle.std.specs.Prelude.{⊤, ◌&&◌, ◌==◌}
+use Rattle.std.specs.Prelude.{⊤, ◌==◌}
 use Rattle.std.proofs.lemmas.Bool.{and_parts, eqb-true, eq-eqb}
 use Rattle.std.proofs.lemmas.List.{append-nil, map-append}
 use Rattle.vr_base.specs.Groups.{quorums_of}
-use Rattle.vr_top.specs.declared.message.Committed.{Committed}
 use Rattle.vr_top.specs.declared.message.Entry.{Entry}
 use Rattle.vr_top.specs.declared.message.Envelope.{Envelope}
 use Rattle.vr_top.specs.declared.message.Message.{Message}
@@ -20,14 +19,13 @@ use Rattle.vr_top.specs.declared.replica.Replica.{Replica}
 use Rattle.vr_top.specs.declared.replica.Event.{Event}
 use Rattle.vr_top.specs.declared.replica.Event.TheVariants.{Request, Deliver}
 use Rattle.vr_top.specs.declared.world.World.{World}
-use Rattle.vr_top.specs.Entries.{same_entry}
 use Rattle.vr_top.specs.Fresh.{fresh, fresh_group}
 use Rattle.vr_top.specs.Groups.{grouped}
 use Rattle.vr_top.specs.Outputs.{message_of, messages, numbered, plain}
 use Rattle.vr_top.specs.Rules.{Reacted, react}
-use Rattle.vr_top.specs.Safe.{has_vouched, vouches_by, HasQuorum, IsCommitted, IsBacked, Agree}
+use Rattle.vr_top.specs.Safe.{has_vouched, vouches_by, IsCommitted, IsBacked, Agree}
 use Rattle.vr_top.specs.Schedule.{schedule_of, replayed}
-use Rattle.vr_top.specs.World.{Happened, nothing, fresh_world, no_world, makes_group, clustered, handled, delivered, happens, later, happen}
+use Rattle.vr_top.specs.World.{nothing, fresh_world, no_world, makes_group, clustered, handled, delivered, happens, happen}
 use Rattle.vr_top.proofs.Fronts.{Front, front_refl, front_trans, Holds, holds_one}
 use Rattle.vr_top.proofs.Vouching.{same_itself, or_left, vouched_before, vouched_after, quorum_of, quorum_some, vouched_holds, message_grow, OutputIn, OutputsIn, outputs_append, outputs_grow, InTime, in_time_append}
 use Rattle.vr_top.proofs.Member.{Member}

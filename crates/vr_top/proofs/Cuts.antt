@@ -1,8 +1,7 @@
 -- Texts that come in pieces.
-use Rattle.std.proofs.Common.{zero, suc, ◌≡◌, ◌<◌, ℕ, ◌+◌, List, [], ◌∷◌, ◌++◌, length, take, drop, get_or, Bool, true, false, cond, eqb, refl, ap, sym, ◌∙◌, arith, append_assoc, subst}
+use Rattle.std.proofs.Common.{suc, ◌≡◌, ◌<◌, ℕ, List, [], ◌∷◌, ◌++◌, length, get_or, Bool, true, false, cond, eqb, refl, ap, sym, ◌∙◌, arith, append_assoc, subst}
 use Rattle.std.proofs.lemmas.List.{append-nil}
-use Rattle.std.proofs.lemmas.Bool.Decides.{nat_tests}
-use Rattle.vr_top.specs.Lines.{Cut, joined, before, cut, whole_lines, if_any, lines_of, IsEnd}
+use Rattle.vr_top.specs.Lines.{Cut, joined, before, cut, whole_lines, if_any, lines_of}
 use Rattle.vr_top.specs.Playing.{heard, if_too_long}
 
 -- a text behind what another was cut into

@@ -1,27 +1,21 @@
 -- A step of a replica in view 0: at the primary the log may grow, and so may the number of committed entries.
-use Rattle.std.proofs.Common.{zero, suc, ◌≡◌, ◌⊎◌, inl, inr, ◌<◌, ◌≤◌, ℕ, ◌+◌, ◌-◌, List, [], ◌∷◌, ◌++◌, length, map, Bool, true, false, cond, eqb, leb, ltb, refl, ap, sym, ◌∙◌, arith, Option, Some, None}
+use Rattle.std.proofs.Common.{zero, suc, ◌≡◌, ◌⊎◌, inl, inr, ◌<◌, ◌≤◌, ℕ, ◌+◌, ◌-◌, List, [], ◌∷◌, ◌++◌, length, Bool, true, false, cond, eqb, leb, refl, ◌∙◌, arith, Option, Some, None}
 use Rattle.std.specs.List.{slice_get, list_any, count_by, range_with_len}
 use Rattle.std.specs.Option.{option_map_or, is_some}
-use Rattle.std.specs.Prelude.{⊤, not, ◌&&◌, ◌||◌, ◌==◌, MatchOption}
-use Rattle.std.proofs.lemmas.Bool.{and_parts, eqb-true, eq-eqb, leb-true, leb-false}
+use Rattle.std.specs.Prelude.{◌||◌, ◌==◌, MatchOption}
+use Rattle.std.proofs.lemmas.Bool.{and_parts, eqb-true, leb-true}
 use Rattle.std.proofs.lemmas.Bool.Decides.{nat_tests}
 use Rattle.vr_base.specs.Groups.{quorums_of}
 use Rattle.vr_base.specs.declared.table.Quorums.{Quorums}
 use Rattle.vr_top.specs.declared.message.Entry.{Entry}
-use Rattle.vr_top.specs.declared.message.Envelope.{Envelope}
-use Rattle.vr_top.specs.declared.message.Message.{Message}
-use Rattle.vr_top.specs.declared.message.Message.TheVariants.{Prepare, PrepareOk}
 use Rattle.vr_top.specs.declared.message.Output.{Output}
-use Rattle.vr_top.specs.declared.message.Output.TheVariants.{Send, Commit, Reply}
 use Rattle.vr_top.specs.declared.replica.Ack.{Ack}
 use Rattle.vr_top.specs.declared.replica.Replica.{Replica}
-use Rattle.vr_top.specs.declared.replica.Event.{Event}
-use Rattle.vr_top.specs.declared.replica.Event.TheVariants.{Request, Deliver}
-use Rattle.vr_top.specs.Rules.{Reacted, quiet, behind, is_ack, holds_op, holders, replication_of, advanced, with_commit, advance, with_entry, next_entry, accepts, is_busy, on_new_request, on_request, with_ack, on_prepare, on_prepare_ok, by_message, on_message, react, leads, sends_to_all, others, envelope, replies}
-use Rattle.vr_top.specs.Safe.{is_vouch, vouches_by, has_vouched, vouchers, HasQuorum}
-use Rattle.vr_top.proofs.Fronts.{Front, front_refl, get_last, get_some, each_more, HasNumbers, Holds, get_within}
-use Rattle.vr_top.proofs.Vouching.{same_itself, count_le, vouched_before, vouched_after, Backed, backed_later, MessageIn, OutputsIn, outputs_append, outputs_grow, InTime, in_time, in_time_append}
-use Rattle.vr_top.proofs.Member.{AckIn, AcksIn, acks_grow, acks_more, acks_filter, Member, Kept, kept_quiet, kept_replies, apply_kept, prepare_kept, leads_zero}
+use Rattle.vr_top.specs.Rules.{Reacted, is_ack, holds_op, holders, replication_of, advanced, with_commit, advance}
+use Rattle.vr_top.specs.Safe.{has_vouched, vouchers, HasQuorum}
+use Rattle.vr_top.proofs.Fronts.{Front, front_refl, get_some, HasNumbers}
+use Rattle.vr_top.proofs.Vouching.{count_le, vouched_before, Backed, backed_later, OutputsIn, InTime, in_time}
+use Rattle.vr_top.proofs.Member.{AcksIn, acks_grow, acks_filter, Member, Kept, apply_kept}
 
 -- the primary has vouched for each entry of the log
 pub record Led (log : List Entry) (outputs : List Output) : Type 0 where

@@ -1,23 +1,21 @@
 -- What each replica of a group in view 0 keeps: its log is a front of one log, which is the primary's.
-use Rattle.std.proofs.Common.{zero, suc, ◌≡◌, ◌<◌, ◌≤◌, ℕ, ◌+◌, ◌-◌, List, [], ◌∷◌, ◌++◌, length, Bool, true, false, cond, eqb, ltb, refl, ap, sym, ◌∙◌, arith, Option, Some, None, min, max}
-use Rattle.std.specs.List.{slice_get, list_any, filter, AllByRecursion}
+use Rattle.std.proofs.Common.{zero, suc, ◌≡◌, ◌≤◌, ℕ, ◌+◌, ◌-◌, List, [], ◌∷◌, ◌++◌, length, Bool, true, false, cond, eqb, refl, ap, sym, ◌∙◌, arith, Option, Some, None, min, max}
+use Rattle.std.specs.List.{slice_get, filter, AllByRecursion}
 use Rattle.std.specs.Option.{option_map_or}
-use Rattle.std.specs.Prelude.{⊤, not, ◌%◌}
+use Rattle.std.specs.Prelude.{not, ◌%◌}
 use Rattle.std.proofs.lemmas.Bool.{eqb-true}
-use Rattle.std.proofs.lemmas.Bool.Decides.{nat_tests}
 use Rattle.std.proofs.lemmas.Option.{slice_get_within}
 use native.Mathlib.Nat.{zero-mod}
 use Rattle.vr_top.specs.declared.message.Answer.{Answer}
 use Rattle.vr_top.specs.declared.message.Answer.TheVariants as answer
 use Rattle.vr_top.specs.declared.message.Entry.{Entry}
-use Rattle.vr_top.specs.declared.message.Message.{Message}
 use Rattle.vr_top.specs.declared.message.Output.{Output}
-use Rattle.vr_top.specs.declared.message.Output.TheVariants.{Send, Commit, Reply}
+use Rattle.vr_top.specs.declared.message.Output.TheVariants.{Commit}
 use Rattle.vr_top.specs.declared.replica.Ack.{Ack}
 use Rattle.vr_top.specs.declared.replica.Replica.{Replica}
 use Rattle.vr_top.specs.Rules.{Reacted, quiet, behind, apply, applied, applies, learn, with_entry, takes_entry, on_prepare, leads, primary, acknowledges, reply, replies}
 use Rattle.vr_top.specs.Safe.{has_vouched}
-use Rattle.vr_top.proofs.Fronts.{Front, front_refl, front_trans, front_more, get_within, HasNumbers, Holds, holds_at}
+use Rattle.vr_top.proofs.Fronts.{Front, front_more, get_within, HasNumbers, Holds, holds_at}
 use Rattle.vr_top.proofs.Vouching.{OutputsIn, outputs_append, vouched_before}
 
 -- an acknowledgement that was sent, of an entry of the log

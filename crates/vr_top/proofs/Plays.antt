@@ -1,6 +1,5 @@
 -- Lines that are played one after another, and what the whole schedule says of them.
-use Rattle.std.proofs.Common.{zero, suc, ◌≡◌, ◌<◌, ◌≤◌, ℕ, ◌+◌, List, [], ◌∷◌, ◌++◌, length, Bool, true, false, cond, ltb, refl, ap, sym, ◌∙◌, arith, append_assoc, Option, Some, None}
-use Rattle.std.specs.List.{slice_get}
+use Rattle.std.proofs.Common.{◌≡◌, ◌<◌, ℕ, ◌+◌, List, [], ◌∷◌, ◌++◌, length, Bool, true, false, cond, ltb, refl, ap, sym, ◌∙◌, append_assoc, Option, Some, None}
 use Rattle.std.specs.Option.{option_map_or}
 use Rattle.std.proofs.lemmas.List.{append-nil}
 use Rattle.std.proofs.lemmas.Bool.{lt-ltb}
@@ -11,8 +10,8 @@ use Rattle.vr_top.specs.declared.message.Numbered.{Numbered}
 use Rattle.vr_top.specs.declared.world.World.{World}
 use Rattle.vr_top.specs.Grammar.{longest, parse, line_by_words, words_of}
 use Rattle.vr_top.specs.Schedule.{Schedule, limit, line_at, size_after, accepted, refuses, with_line}
-use Rattle.vr_top.specs.Playing.{Played, judged, taken, behind, and_then, plays, if_too_long}
-use Rattle.vr_top.specs.World.{Happened, nothing, fresh_world, makes_group, clustered, handled, delivered, happens, later, happen}
+use Rattle.vr_top.specs.Playing.{Played, judged, taken, behind, and_then, plays}
+use Rattle.vr_top.specs.World.{nothing, fresh_world, makes_group, delivered, happens, later, happen}
 
 pub behind_behind : (a b : List Numbered) (t : Played) → behind a (behind b t) ≡ behind (a ++ b) t
 behind_behind a b t = ap (λ (x : List Numbered). let y : Played = record { world = t.world; number = t.number; refused = t.refused; outputs = x } in y) (sym (append_assoc a b t.outputs))

@@ -1,28 +1,24 @@
 -- Each rule at a replica in view 0.
-use Rattle.std.proofs.Common.{zero, suc, ◌≡◌, ◌⊎◌, inl, inr, ◌<◌, ◌≤◌, ℕ, ◌+◌, ◌-◌, List, [], ◌∷◌, ◌++◌, length, map, Bool, true, false, cond, eqb, leb, ltb, refl, ap, sym, ◌∙◌, arith, append_assoc, length-append, Option, Some, None}
-use Rattle.std.specs.List.{slice_get, list_any, filter, range_with_len}
+use Rattle.std.proofs.Common.{zero, suc, ◌≡◌, inl, ◌<◌, ℕ, ◌+◌, ◌-◌, List, [], ◌∷◌, ◌++◌, length, map, Bool, true, false, cond, refl, ap, ◌∙◌, arith, append_assoc, length-append, Option, Some, None}
+use Rattle.std.specs.List.{list_any}
 use Rattle.std.specs.Option.{is_some}
-use Rattle.std.specs.Prelude.{⊤, not, ◌&&◌, ◌||◌, ◌==◌}
-use Rattle.std.proofs.lemmas.Bool.{eq-eqb, leb-false, ltb-true}
-use Rattle.std.proofs.lemmas.Bool.Decides.{nat_tests}
+use Rattle.std.specs.Prelude.{⊤}
 use Rattle.vr_base.specs.Groups.{quorums_of}
 use Rattle.vr_top.specs.declared.message.Answer.{Answer}
 use Rattle.vr_top.specs.declared.message.Entry.{Entry}
-use Rattle.vr_top.specs.declared.message.Envelope.{Envelope}
 use Rattle.vr_top.specs.declared.message.Message.{Message}
 use Rattle.vr_top.specs.declared.message.Message.TheVariants.{Prepare, PrepareOk}
 use Rattle.vr_top.specs.declared.message.Output.{Output}
-use Rattle.vr_top.specs.declared.message.Output.TheVariants.{Send, Commit, Reply}
 use Rattle.vr_top.specs.declared.replica.Replica.{Replica}
 use Rattle.vr_top.specs.declared.replica.Event.{Event}
 use Rattle.vr_top.specs.declared.replica.Event.TheVariants.{Request, Deliver}
 use Rattle.vr_top.specs.Entries.{same_entry}
-use Rattle.vr_top.specs.Rules.{Reacted, quiet, behind, is_ack, advance, with_entry, next_entry, accepts, is_busy, on_new_request, on_request, with_ack, on_prepare_ok, by_message, on_message, react, leads, sends_to_all, others, envelope, replies}
+use Rattle.vr_top.specs.Rules.{Reacted, quiet, behind, is_ack, advance, with_entry, next_entry, accepts, on_new_request, on_request, with_ack, on_prepare_ok, by_message, on_message, react, sends_to_all, others, envelope, replies}
 use Rattle.vr_top.specs.Safe.{vouches_by, has_vouched, HasQuorum}
-use Rattle.vr_top.proofs.Fronts.{Front, front_refl, get_last, each_more, HasNumbers, Holds, get_within, front_trans}
-use Rattle.vr_top.proofs.Vouching.{same_itself, or_left, quorum_later, vouched_before, vouched_after, Backed, backed_later, MessageIn, OutputsIn, outputs_append, outputs_grow, InTime, in_time, in_time_append}
-use Rattle.vr_top.proofs.Member.{AckIn, acks_grow, acks_more, Member, Kept, kept_quiet, kept_replies, prepare_kept, leads_zero}
-use Rattle.vr_top.proofs.Leading.{Led, led_later, Outcome, Ready, outcome_kept, advance_outcome}
+use Rattle.vr_top.proofs.Fronts.{Front, front_refl, get_last, each_more, Holds, front_trans}
+use Rattle.vr_top.proofs.Vouching.{same_itself, or_left, quorum_later, vouched_before, vouched_after, Backed, MessageIn, OutputsIn, outputs_append, outputs_grow, InTime, in_time, in_time_append}
+use Rattle.vr_top.proofs.Member.{acks_grow, acks_more, Member, kept_quiet, kept_replies, prepare_kept, leads_zero}
+use Rattle.vr_top.proofs.Leading.{Outcome, Ready, outcome_kept, advance_outcome}
 
 -- Rule 15: an acknowledgement that was sent
 

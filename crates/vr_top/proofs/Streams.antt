@@ -1,5 +1,5 @@
 -- A piece of the source, line by line.
-use Rattle.std.proofs.Common.{zero, suc, ◌≡◌, ◌<◌, ◌≤◌, ℕ, ◌+◌, ◌-◌, List, [], ◌∷◌, ◌++◌, length, take, drop, get_or, Bool, true, false, cond, eqb, ltb, refl, ap, sym, ◌∙◌, arith, append_assoc, Option, Some, None, subst}
+use Rattle.std.proofs.Common.{zero, suc, ◌≡◌, ◌<◌, ◌≤◌, ℕ, ◌+◌, List, [], ◌∷◌, ◌++◌, length, take, drop, get_or, Bool, true, false, eqb, refl, ap, sym, ◌∙◌, arith, append_assoc, Option, Some, None}
 use Rattle.std.specs.Io.KnownBytes.{Appends}
 use Rattle.std.specs.Option.{IfSome}
 use Rattle.std.proofs.lemmas.List.{append-nil}
@@ -15,12 +15,12 @@ use Rattle.vr_top.specs.declared.stop.Stop.{Stop}
 use Rattle.vr_top.specs.declared.stop.Stop.TheVariants as stop
 use Rattle.vr_top.specs.Grammar.{longest}
 use Rattle.vr_top.specs.Lines.{Cut, cut, whole_lines, IsEnd}
-use Rattle.vr_top.specs.Playing.{Played, judged, taken, behind, and_then, plays, heard, hears, if_too_long, IsReplay, Keeps, Hears}
+use Rattle.vr_top.specs.Playing.{Played, taken, behind, and_then, plays, heard, hears, if_too_long, IsReplay, Keeps, Hears}
 use Rattle.vr_top.specs.Stops.{Stopped, KeepCause}
 use Rattle.vr_top.specs.Text.{text_of}
 use Rattle.vr_top.specs.Schedule.{limit}
 use Rattle.vr_top.specs.World.{no_world, IsWorld}
-use Rattle.vr_top.proofs.Cuts.{no_end, part_more, part_append, cut_part, cut_line, last_part, heard_line, heard_part}
+use Rattle.vr_top.proofs.Cuts.{no_end, part_more, part_append, cut_part, cut_line, heard_line, heard_part}
 use Rattle.vr_top.proofs.Outputs.{text_append, text_none}
 use Rattle.vr_top.proofs.Plays.{behind_behind, plays_line, plays_none, and_then_refused, and_then_none, Extends, extends_refl, and_then_extends, too_long}
 use Rattle.vr_top.proofs.Worlds.{no_world_sound}

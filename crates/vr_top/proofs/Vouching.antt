@@ -1,18 +1,15 @@
 -- Entries for which replicas vouch, and those that are committed.
-use Rattle.std.proofs.Common.{zero, suc, ◌≡◌, ◌<◌, ◌≤◌, ℕ, ◌+◌, ◌-◌, List, [], ◌∷◌, ◌++◌, length, take, Bool, true, false, cond, eqb, refl, ap, sym, ◌∙◌, arith, append_assoc, zero-add, Option, Some, None}
+use Rattle.std.proofs.Common.{zero, suc, ◌≡◌, ◌<◌, ◌≤◌, ℕ, ◌+◌, ◌-◌, List, [], ◌∷◌, ◌++◌, length, Bool, true, false, cond, refl, ap, ◌∙◌, arith, append_assoc, zero-add, Option, Some, None}
 use Rattle.std.specs.List.{slice_get, list_any, count_by, range_with_len, AllByRecursion}
-use Rattle.std.specs.Prelude.{⊤, ◌&&◌, ◌||◌, ◌==◌, MatchOption}
+use Rattle.std.specs.Prelude.{⊤, ◌||◌, ◌==◌, MatchOption}
 use Rattle.std.specs.Option.{IfSome}
 use Rattle.std.proofs.lemmas.Bool.{and_parts, eqb-true, eq-eqb}
-use Rattle.std.proofs.lemmas.Bool.Decides.{nat_tests}
-use Rattle.std.proofs.lemmas.Grind.{common_steps}
 use Rattle.std.proofs.lemmas.List.{append-nil}
 use Rattle.std.proofs.lemmas.List.Sums.{sum_by-append}
 use Rattle.std.proofs.lemmas.List.Folds.{list_any-append}
 use Rattle.vr_base.specs.Groups.{quorums_of, these}
 use Rattle.vr_base.specs.declared.table.Quorums.{Quorums}
 use Rattle.vr_top.specs.declared.message.Entry.{Entry}
-use Rattle.vr_top.specs.declared.message.Envelope.{Envelope}
 use Rattle.vr_top.specs.declared.message.Message.{Message}
 use Rattle.vr_top.specs.declared.message.Message.TheVariants.{Prepare, PrepareOk}
 use Rattle.vr_top.specs.declared.message.Output.{Output}
@@ -20,7 +17,7 @@ use Rattle.vr_top.specs.declared.message.Output.TheVariants.{Send, Commit, Reply
 use Rattle.vr_top.specs.Entries.{same_entry}
 use Rattle.vr_top.specs.Safe.{is_vouch, vouches_by, has_vouched, vouchers, HasQuorum, IsCommitted, AreCommitted, IsBackedMessage, IsBacked}
 use Rattle.vr_top.specs.Safe.IsCommitted.{the_first, stands_on}
-use Rattle.vr_top.proofs.Fronts.{Front, HasNumbers, Holds, holds_at, holds_front, get_within, get_some}
+use Rattle.vr_top.proofs.Fronts.{Front, HasNumbers, Holds, holds_front, get_some}
 
 -- equal entries
 pub same_itself : (e : Entry) → same_entry e e ≡ true

@@ -1,10 +1,9 @@
 -- A replay seen from its whole schedule.
-use Rattle.std.proofs.Common.{zero, suc, ◌≡◌, ◌<◌, ◌≤◌, ℕ, ◌+◌, List, [], ◌∷◌, ◌++◌, length, Bool, true, false, cond, eqb, ltb, refl, ap, sym, ◌∙◌, arith, append_assoc, length-append, Option, Some, None}
+use Rattle.std.proofs.Common.{suc, ◌≡◌, ◌<◌, ◌≤◌, ℕ, ◌+◌, List, [], ◌∷◌, ◌++◌, length, Bool, true, false, cond, eqb, ltb, refl, ap, sym, ◌∙◌, arith, append_assoc, length-append, Option, Some, None}
 use Rattle.std.specs.Option.{IfSome}
 use Rattle.std.specs.Io.KnownBytes.{Appends, Consumes, Keeps, IsAtEnd}
 use Rattle.std.proofs.lemmas.List.{append-nil}
 use Rattle.std.proofs.lemmas.Bool.Decides.{nat_tests}
-use Rattle.vr_base.specs.Causes.{Rose}
 use Rattle.vr_edge.specs.Told.{AppendsFront}
 use Rattle.vr_edge.proofs.Told.{appends_nil, appends_trans, consumes_nil, consumes_trans, consumes_kept, consumes_whole}
 use Rattle.vr_top.specs.declared.line.Line.{Line}
@@ -15,17 +14,17 @@ use Rattle.vr_top.specs.declared.stop.Stop.TheVariants as stop
 use Rattle.vr_top.specs.declared.world.World.{World}
 use Rattle.vr_top.specs.Grammar.{longest}
 use Rattle.vr_top.specs.Lines.{Cut, cut, whole_lines, if_any, lines_of}
-use Rattle.vr_top.specs.Playing.{Played, judged, taken, behind, and_then, plays, heard, hears, if_too_long, none_left, ends, IsReplay, Hears}
-use Rattle.vr_top.specs.Run.{text_for, text_so_far, IsDone, IsRefused, IsCutShort, IsPartial, Ends}
-use Rattle.vr_top.specs.Schedule.{line_at, accepted, schedule, refused_in, replayed}
+use Rattle.vr_top.specs.Playing.{Played, judged, taken, behind, and_then, plays, heard, hears, if_too_long, none_left, ends, Hears}
+use Rattle.vr_top.specs.Run.{text_for, IsDone, IsCutShort, IsPartial, Ends}
+use Rattle.vr_top.specs.Schedule.{line_at, accepted, schedule, refused_in}
 use Rattle.vr_top.specs.Status.{status_of}
 use Rattle.vr_top.specs.Stops.{Stopped}
 use Rattle.vr_top.specs.Text.{text_of}
 use Rattle.vr_top.specs.World.{no_world, happen}
-use Rattle.vr_top.proofs.Cuts.{extended, cut_append, heard_append, lines_append, last_append, last_part, Begins, begins}
+use Rattle.vr_top.proofs.Cuts.{extended, cut_append, heard_append, lines_append, last_append, last_part, begins}
 use Rattle.vr_top.proofs.Outputs.{text_append, text_none}
-use Rattle.vr_top.proofs.Plays.{plays_append, plays_line, plays_none, and_then_refused, and_then_none, behind_behind, Extends, and_then_extends, too_long, plays_agrees}
-use Rattle.vr_top.proofs.Streams.{Follows, follows_refl, follows_and_then, stopped_within, rose_from, front_then, not_long, is_long}
+use Rattle.vr_top.proofs.Plays.{plays_append, plays_line, plays_none, too_long, plays_agrees}
+use Rattle.vr_top.proofs.Streams.{Follows, follows_refl, stopped_within, rose_from, front_then, not_long}
 
 -- the whole schedule, by its lines played one after another
 text_by_lines : (texts : List (List ℕ)) → text_of (happen no_world (schedule texts).lines).outputs ≡ text_of (plays no_world 0 texts).outputs

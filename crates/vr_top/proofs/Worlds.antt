@@ -17,7 +17,7 @@ use Rattle.vr_top.specs.declared.world.World.{World}
 use Rattle.vr_top.specs.Rules.{react, IsSound}
 use Rattle.vr_top.specs.Fresh.{fresh, fresh_group}
 use Rattle.vr_top.specs.Groups.{grouped}
-use Rattle.vr_top.specs.World.{IsWorld, nothing, fresh_world, no_world, clustered, handled, delivered, happens}
+use Rattle.vr_top.specs.World.{IsWorld, nothing, fresh_world, no_world, handled, delivered, happens}
 use Rattle.vr_top.proofs.Sound.{react_sound}
 
 fresh_sound : (n index : ℕ) → 0 < n → IsSound (fresh n index)

@@ -6,7 +6,6 @@ use Rattle.vr_base.specs.Groups.{quorums_of}
 use Rattle.vr_top.specs.declared.message.Message.{Message}
 use Rattle.vr_top.specs.declared.message.Message.TheVariants.{Prepare, PrepareOk}
 use Rattle.vr_top.specs.declared.message.Entry.{Entry}
-use Rattle.vr_top.specs.declared.message.Envelope.{Envelope}
 use Rattle.vr_top.specs.declared.message.Output.{Output}
 use Rattle.vr_top.specs.declared.message.Output.TheVariants.{Send, Commit, Reply}
 use Rattle.vr_top.specs.declared.message.Answer.{Answer}

@@ -1,5 +1,5 @@
 -- A schedule: its lines, the first that is refused, and what the lines before it come to.
-use Rattle.std.specs.Prelude.{ℕ, ◌+◌, ◌==◌, nat_lt, List, [], ◌∷◌, Option, Some, None, if◌then◌else◌}
+use Rattle.std.specs.Prelude.{ℕ, ◌+◌, nat_lt, List, [], ◌∷◌, Option, Some, None, if◌then◌else◌}
 use Rattle.std.specs.Option.{option_map_or}
 use Rattle.vr_top.specs.declared.line.Line.{Line}
 use Rattle.vr_top.specs.declared.line.Line.TheVariants.{Cluster, Request, Deliver}
