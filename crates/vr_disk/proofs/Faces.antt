@@ -1,13 +1,13 @@
 -- Sectors stay sectors.
-use Rattle.std.proofs.Common.{ℕ, zero, suc, ◌+◌, ◌/◌, ◌%◌, ◌≤◌, ◌<◌, ◌≡◌, arith, refl, sym, ap, ◌∙◌, Bool, true, false, cond, eqb, List, [], ◌∷◌, ◌++◌, length, get_or, set, length-set, Some, subst, ◌⊎◌, inl, inr}
-use Rattle.std.specs.Prelude.{bit_xor, map}
+use Rattle.std.proofs.Common.{ℕ, zero, suc, ◌/◌, ◌%◌, ◌<◌, ◌≡◌, arith, ◌∙◌, eqb, List, [], ◌∷◌, ◌++◌, length, get_or, set, length-set, Some, subst, inl, inr}
+use Rattle.std.specs.Prelude.{bit_xor}
 use Rattle.std.specs.List.{All, AllByRecursion}
 use Rattle.std.proofs.lemmas.Bool.{cases_lt, cond_both}
 use Rattle.std.proofs.lemmas.List.{get_or-map, get_or_past, length-map}
 use Rattle.std.proofs.lemmas.Nat.{xor_of_8}
 use Rattle.vr_base.specs.Bytes.{IsBytes}
 use Rattle.std.proofs.lemmas.List.Elements.{All-set, All-push, recursion_from_All}
-use Rattle.vr_disk.specs.DiskState.{Call, Write, Sync, Face, Cell, Waiting, IsCell, IsContent, IsFace, IsWaiting, blank, after, after_all, begun, cell, cut, cut_at, damaged, noted, settle, settled, settled_cell, waits, written}
+use Rattle.vr_disk.specs.DiskState.{Call, Write, Sync, Face, Cell, Waiting, IsCell, IsContent, IsFace, IsWaiting, blank, after, after_all, begun, cell, cut, damaged, settle, settled, settled_cell, waits, written}
 use Rattle.vr_disk.specs.Stops.{IsCall, FacesStay}
 
 sized : (a b : List ℕ) → IsContent a → Some a ≡ Some b → IsContent b

@@ -1,9 +1,9 @@
 -- Sectors that calls don't write.
-use Rattle.std.proofs.Common.{ℕ, zero, suc, ◌+◌, ◌/◌, ◌%◌, ◌≤◌, ◌<◌, ◌≡◌, ◌≢◌, arith, refl, sym, ap, ◌∙◌, Bool, true, false, cond, eqb, ◌||◌, List, [], ◌∷◌, ◌++◌, length, get_or, set, Some, get_or-set_other, get_or-set_same}
-use Rattle.std.specs.List.{AllByRecursion, list_any}
+use Rattle.std.proofs.Common.{ℕ, zero, suc, ◌/◌, ◌%◌, ◌<◌, ◌≡◌, ◌≢◌, refl, sym, ap, ◌∙◌, false, eqb, List, [], ◌∷◌, ◌++◌, length, get_or, set, Some, get_or-set_other, get_or-set_same}
+use Rattle.std.specs.List.{AllByRecursion}
 use Rattle.std.proofs.lemmas.Bool.{cond_both, or_parts, eqb-false, ne_eqb}
 use Rattle.std.proofs.lemmas.List.Folds.{list_any-append}
-use Rattle.vr_disk.specs.DiskState.{Call, Write, Sync, Face, Cell, Waiting, blank, after, after_all, begun, cell, cut, cut_at, noted, reads, settle, settled, settled_cell, waits, written}
+use Rattle.vr_disk.specs.DiskState.{Call, Write, Sync, Face, Cell, Waiting, blank, after, after_all, cell, cut, cut_at, noted, reads, settled, settled_cell, waits, written}
 use Rattle.vr_disk.specs.Stops.{Spares, SparedStays}
 
 other_waits : (i : ℕ) (ws : List Waiting) (k : ℕ) (was : Cell) → k ≢ i → waits i ws ≡ false → waits i (noted ws k was) ≡ false

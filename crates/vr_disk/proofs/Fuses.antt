@@ -1,7 +1,6 @@
 -- A fuse, from call to call.
-use Rattle.std.proofs.Common.{ℕ, zero, suc, ◌+◌, ◌-◌, ◌≤◌, ◌<◌, ◌≡◌, ◌⊎◌, inl, inr, arith, refl, sym, ap, ◌∙◌, Bool, true, false, cond, List, [], ◌∷◌, ◌++◌, length, Option, Some, None, subst}
-use Rattle.std.specs.List.{list_any}
-use Rattle.vr_disk.specs.DiskState.{Call, Face, Disk, Fate, Fuse, Verdict, Goes, Fails, Ran, after, cut, cut_at, by_list, is_to_fail, judged, judged_fuse, judged_armed, next_number, ran, ran_as, runs, goes_on}
+use Rattle.std.proofs.Common.{ℕ, zero, suc, ◌≤◌, ◌<◌, ◌≡◌, ◌⊎◌, inl, inr, arith, refl, sym, ap, ◌∙◌, true, false, cond, List, [], ◌∷◌, length, Option, Some, None, subst}
+use Rattle.vr_disk.specs.DiskState.{Call, Disk, Fate, Fuse, Goes, Fails, Ran, cut, cut_at, by_list, is_to_fail, ran, runs}
 use Rattle.vr_disk.specs.Stops.{GoesOff, FuseLeavesCut, ArmedFuseGoesOff}
 use Rattle.vr_disk.proofs.Running.{ran_ok}
 

@@ -1,10 +1,10 @@
 -- What a cut leaves of one sector: what it read as before, or what a call wrote to it, or that damaged.
-use Rattle.std.proofs.Common.{ℕ, zero, suc, ◌+◌, ◌/◌, ◌%◌, ◌<◌, ◌≡◌, ◌≢◌, ◌⊎◌, inl, inr, arith, refl, sym, ap, ◌∙◌, Bool, true, false, cond, eqb, ◌||◌, List, [], ◌∷◌, ◌++◌, length, get_or, set, Option, Some, subst, get_or-set_other, get_or-set_same, length-set}
+use Rattle.std.proofs.Common.{ℕ, zero, suc, ◌/◌, ◌%◌, ◌<◌, ◌≡◌, ◌≢◌, ◌⊎◌, inl, inr, refl, sym, ap, ◌∙◌, true, false, eqb, List, [], ◌∷◌, ◌++◌, length, get_or, set, Option, Some, subst, get_or-set_other, get_or-set_same, length-set}
 use Rattle.std.specs.Bool.{MatchBool}
-use Rattle.std.specs.List.{AllByRecursion, list_any}
-use Rattle.std.proofs.lemmas.Bool.{cases_eq, cond_both, eq-eqb, eqb-true, eqb-false, ne_eqb, or_parts}
+use Rattle.std.specs.List.{AllByRecursion}
+use Rattle.std.proofs.lemmas.Bool.{cases_eq, cond_both, eq-eqb, ne_eqb, or_parts}
 use Rattle.std.proofs.lemmas.List.Folds.{list_any-append}
-use Rattle.vr_disk.specs.DiskState.{Call, Write, Sync, Face, Cell, Waiting, blank, after, after_all, begun, cell, cut, cut_at, damaged, noted, reads, settle, settled, settled_cell, waits, written}
+use Rattle.vr_disk.specs.DiskState.{Call, Write, Sync, Face, Cell, Waiting, blank, after, begun, cell, cut, damaged, noted, reads, settle, settled, settled_cell, waits, written}
 use Rattle.vr_disk.specs.Stops.{IsLeft, WritesOnly}
 use Rattle.vr_disk.proofs.Frames.{frame_after, frame_settled, waits_after}
 

@@ -1,6 +1,6 @@
 -- Calls after calls.
-use Rattle.std.proofs.Common.{ℕ, ◌≡◌, refl, sym, ap, ◌∙◌, Bool, true, false, cond, List, [], ◌∷◌, ◌++◌, Option, Some, None, append_assoc, append-nil}
-use Rattle.vr_disk.specs.DiskState.{Call, Write, Sync, Disk, Face, Fate, Verdict, Goes, Fails, Cuts, Ran, after, after_all, cut_at, judged, ran, ran_as, runs, goes_on, settle, Runs, RunsFrom, Front}
+use Rattle.std.proofs.Common.{ℕ, ◌≡◌, refl, sym, ap, ◌∙◌, Bool, true, false, cond, List, [], ◌∷◌, ◌++◌, Option, Some, None, append_assoc}
+use Rattle.vr_disk.specs.DiskState.{Call, Write, Sync, Disk, Face, Fate, Goes, Fails, Cuts, Ran, after, after_all, cut_at, judged, ran, ran_as, runs, goes_on, settle, Runs, RunsFrom, Front}
 
 -- what comes after calls that may have stopped
 pub goes_on_goes : (r : Ran) (f g : Disk → Ran) → goes_on (goes_on r f) g ≡ goes_on r (λ d. goes_on (f d) g)

@@ -1,6 +1,6 @@
 -- What calls that stop leave, and cuts of lists of calls.
-use Rattle.std.proofs.Common.{ℕ, zero, suc, ◌+◌, ◌-◌, ◌≤◌, ◌<◌, ◌≡◌, ◌⊎◌, inl, inr, arith, refl, sym, ap, ◌∙◌, Bool, true, false, cond, ◌||◌, List, [], ◌∷◌, ◌++◌, length, take, Option, Some, None, IfSome, subst}
-use Rattle.vr_disk.specs.DiskState.{Call, Write, Sync, Face, Disk, Fate, Goes, Fails, Cuts, Ran, after, after_all, cut, cut_at, judged, ran, ran_as, runs, goes_on, attached, attached_as, is_to_fail, Attaches}
+use Rattle.std.proofs.Common.{ℕ, zero, suc, ◌-◌, ◌≡◌, ◌⊎◌, inl, inr, arith, refl, sym, true, false, cond, ◌||◌, List, [], ◌∷◌, length, subst}
+use Rattle.vr_disk.specs.DiskState.{Call, Face, Disk, Goes, Fails, Cuts, after, cut, cut_at, judged, ran, ran_as, runs, attached, attached_as, is_to_fail}
 use Rattle.vr_disk.specs.Stops.{Stops, StopsLeaveFront, CutsOfBoth, NothingWaits, AttachingIsBarrier}
 use Rattle.vr_disk.proofs.Running.{ran_ok}
 

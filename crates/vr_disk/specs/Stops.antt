@@ -1,7 +1,7 @@
 -- What calls leave where one of them fails or is cut short.
-use Rattle.std.specs.Prelude.{ℕ, ◌+◌, ◌-◌, ◌<◌, ◌≤◌, ◌≡◌, ◌≢◌, ◌⊎◌, Bool, true, false, List, [], ◌∷◌, ◌++◌, length, take, Option, Some, None, IfSome}
+use Rattle.std.specs.Prelude.{ℕ, ◌-◌, ◌<◌, ◌≤◌, ◌≡◌, ◌≢◌, ◌⊎◌, true, false, List, [], ◌++◌, length, take, Option, Some, IfSome}
 use Rattle.std.specs.List.{AllByRecursion}
-use Rattle.vr_disk.specs.DiskState.{Call, Write, Sync, Face, IsContent, IsFace, Cell, Disk, Fuse, Attaches, after_all, attached, cut, cell, damaged, reads, waits, runs}
+use Rattle.vr_disk.specs.DiskState.{Call, Write, Sync, Face, IsContent, IsFace, Disk, Fuse, Attaches, after_all, cut, cell, damaged, reads, waits, runs}
 
 -- the calls before one of them went well, and that one failed or was cut
 pub record Stops (cs : List Call) (f g : Face) : Type 0 where

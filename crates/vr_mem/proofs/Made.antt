@@ -1,15 +1,15 @@
 -- A disk as it is made.
-use Rattle.std.proofs.Common.{ℕ, zero, suc, ◌+◌, ◌-◌, ◌≡◌, ◌<◌, ◌≤◌, refl, sym, ap, ◌∙◌, arith, List, [], ◌∷◌, ◌++◌, length, take, true, get_or, subst, Some}
+use Rattle.std.proofs.Common.{ℕ, zero, suc, ◌-◌, ◌≡◌, ◌<◌, ◌≤◌, refl, sym, ap, ◌∙◌, arith, List, [], ◌∷◌, ◌++◌, length, take, get_or, subst}
 use Rattle.std.specs.Prelude.{map, replicate}
 use Rattle.std.specs.List.{All}
 use Rattle.std.specs.Vec.{vec_capacity}
 use Rattle.std.proofs.lemmas.List.{length-map, length-replicate}
 use Rattle.std.proofs.lemmas.List.Elements.{All-map, All-replicate}
-use Rattle.vr_disk.specs.DiskState.{Cell, Face, IsCell, IsContent, IsFace}
+use Rattle.vr_disk.specs.DiskState.{Cell, Face, IsCell, IsContent}
 use Rattle.vr_mem.specs.declared.cells.MemCell.{MemCell}
 use Rattle.vr_mem.specs.declared.cells.MemWaiting.{MemWaiting}
 use Rattle.vr_mem.specs.declared.cells.MemFace.{MemFace}
-use Rattle.vr_mem.specs.Seen.{IsMemFace, cell_of, copies, face_of, once, waiting_of, zero_cell}
+use Rattle.vr_mem.specs.Seen.{IsMemFace, cell_of, copies, waiting_of, zero_cell}
 
 take_nothing : {X : Type 0} → (n : ℕ) → let none : List X = [] in take n none ≡ none
 take_nothing zero = refl

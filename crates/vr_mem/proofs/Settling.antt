@@ -1,10 +1,10 @@
-use Rattle.std.proofs.Common.{ℕ, zero, suc, ◌+◌, ◌-◌, ◌*◌, ◌/◌, ◌%◌, ◌≤◌, ◌<◌, ◌≡◌, arith, refl, sym, ap, ◌∙◌, Bool, true, false, cond, eqb, ◌||◌, List, [], ◌∷◌, ◌++◌, length, get_or, set, drop, drop-cons, add-one, subst}
+use Rattle.std.proofs.Common.{ℕ, suc, ◌+◌, ◌/◌, ◌%◌, ◌≤◌, ◌<◌, ◌≡◌, arith, refl, sym, ap, ◌∙◌, true, eqb, ◌||◌, List, [], ◌∷◌, length, get_or, set, drop, drop-cons, add-one}
 use Rattle.std.specs.Prelude.{map}
 use Rattle.std.specs.List.{list_any}
 use Rattle.std.proofs.lemmas.List.{map-set, get_or-map}
 use Rattle.std.specs.List.{All, AllByRecursion}
 use Rattle.std.proofs.lemmas.List.Elements.{All-from_recursion, recursion_from_All}
-use Rattle.vr_disk.specs.DiskState.{Face, IsContent, IsFace, Write, after, settle, IsWaiting, Cell, Waiting, blank, settled, settled_cell, waits}
+use Rattle.vr_disk.specs.DiskState.{IsContent, Write, after, settle, IsWaiting, blank, settled, settled_cell, waits}
 use Rattle.vr_mem.specs.declared.cells.MemCell.{MemCell}
 use Rattle.vr_mem.specs.declared.cells.MemWaiting.{MemWaiting}
 use Rattle.std.specs.Vec.{vec_capacity}

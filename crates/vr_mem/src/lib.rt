@@ -4,5 +4,7 @@
 mod cells;
 mod disk;
 mod fate;
+mod laws;
 
 pub use disk::MemDisk;
+pub use laws::honest_disk;

@@ -1,12 +1,13 @@
 -- The bytes of the greatest sequence on which two copies agree: what keeps them.
-use Rattle.std.proofs.Common.{ℕ, ◌+◌, ◌≤◌, ◌<◌, ◌≡◌, ◌≢◌, ◌⊎◌, inl, inr, arith, refl, sym, ap, ◌∙◌, Bool, true, false, cond, ltb, leb, ◌&&◌, List, [], ◌∷◌, Option, Some, None, subst}
-use Rattle.std.specs.Prelude.{count_by, nat_eq, sum_by}
+use Rattle.std.proofs.Common.{ℕ, ◌≤◌, ◌<◌, ◌≡◌, ◌≢◌, ◌⊎◌, inl, inr, arith, refl, sym, ap, ◌∙◌, Bool, true, false, cond, ltb, ◌&&◌, List, [], ◌∷◌, Option, Some, None, subst}
+use Rattle.std.specs.Prelude.{count_by, nat_eq}
 use Rattle.std.specs.Cmp.Lexicographic.{pointwise}
 use Rattle.std.specs.Int.{w64}
-use Rattle.std.proofs.lemmas.Bool.{and_parts, and_from, ltb-true, ltb-false, leb-true, le-leb, le-ltb, lt-ltb}
+use Rattle.std.proofs.lemmas.Bool.{and_parts, ltb-true, ltb-false, leb-true, le-leb, le-ltb, lt-ltb}
 use Rattle.std.proofs.lemmas.List.Sums.{sum_by-cons}
 use Rattle.std.proofs.lemmas.Slice.Eq.{bytes_eq-Decides}
 use Rattle.vr_base.specs.Bytes.{number}
+use Rattle.vr_super.specs.Laws.{OpensLaw}
 use Rattle.vr_super.specs.Opens.{agreed, best_of, better, has, is_later, opened}
 
 -- one of the copies has these bytes
@@ -282,3 +283,48 @@ opened_among v cs e = elim (best_is (agreed cs) None cs v e) [ inl x ↦ absurd 
 pub opened_some : (b : List ℕ) (cs : List (Option (List ℕ))) → Among b cs → agreed cs b ≡ true → (v : List ℕ) × (opened cs ≡ Some v)
 unfolding opened
 opened_some b cs a h = some_best (agreed cs) None cs b a h
+
+-- ---- the law of opening
+
+not_among : (b : List ℕ) (cs : List (Option (List ℕ))) → (Among b cs → ⊥) → count_by (has b) cs ≡ 0
+not_among b [] n = refl
+not_among b (c ∷ cs) n =
+    let x = sum_by-cons (one b) c cs in
+    let first : one b c ≡ 0 = one_not b c (λ e. n (inl e)) in
+    let rest = not_among b cs (λ a. n (inr a)) in
+    omega arith
+
+among_or_not : (b : List ℕ) (cs : List (Option (List ℕ))) → Among b cs ⊎ (Among b cs → ⊥)
+among_or_not b [] = inr (λ a. a)
+among_or_not b (None ∷ cs) = elim (among_or_not b cs) [ inl a ↦ inl (inr a) | inr n ↦ inr (λ a. elim a [ inl e ↦ absurd cc | inr a ↦ n a ]) ]
+among_or_not b (Some c ∷ cs) =
+    elim (same_or_not c b) [
+      | inl s ↦ inl (inl (ap Some s))
+      | inr d ↦ elim (among_or_not b cs) [ inl a ↦ inl (inr a) | inr n ↦ inr (λ a. elim a [ inl e ↦ d (same_some c b e) | inr a ↦ n a ]) ]
+    ]
+
+agreed_among : (b : List ℕ) (cs : List (Option (List ℕ))) → agreed cs b ≡ true → Among b cs
+agreed_among b cs h =
+    elim (among_or_not b cs) [
+      | inl a ↦ a
+      | inr n ↦ let two = leb-true 2 (count_by (has b) cs) h in let zero = not_among b cs n in absurd (omega arith)
+    ]
+
+last_among : (t : List ℕ → Bool) (v b : List ℕ) (cs : List (Option (List ℕ))) → NotLater t v cs → Among b cs → t b ≡ true → seq b ≤ seq v
+last_among t v b [] n a h = elim a [ ]
+last_among t v b (c ∷ cs) n (inl e) h = n.0 b e h
+last_among t v b (c ∷ cs) n (inr a) h = last_among t v b cs n.1 a h
+
+opened_wins : (v : List ℕ) (cs : List (Option (List ℕ))) → opened cs ≡ Some v → Wins (agreed cs) v cs
+unfolding opened
+opened_wins v cs e = elim (best_wins (agreed cs) v cs None e) [ inl p ↦ let z = p.0 in absurd cc | inr p ↦ p.1 ]
+
+never_agreed : (b : List ℕ) (cs : List (Option (List ℕ))) → opened cs ≡ None → agreed cs b ≡ true → ⊥
+never_agreed b cs e h = let x = opened_some b cs (agreed_among b cs h) h in let y = x.1 in absurd cc
+
+pub opens_law : OpensLaw
+opens_law cs = record {
+  agree = λ b e. wins_test (agreed cs) b cs (opened_wins b cs e);
+  greatest = λ b c e h. last_among (agreed cs) b c cs (wins_last (agreed cs) b cs (opened_wins b cs e)) (agreed_among c cs h) h;
+  none = λ b e. elim (agreed cs b) as (λ x. agreed cs b ≡ x → x ≡ false) [ true ↦ λ h. absurd (never_agreed b cs e h) | false ↦ λ h. refl ] refl;
+}

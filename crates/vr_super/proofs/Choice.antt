@@ -1,9 +1,9 @@
 -- The value that copies open as, read and mended.
-use Rattle.std.proofs.Common.{ℕ, ◌≡◌, ◌≤◌, refl, sym, ap, ◌∙◌, Bool, true, false, cond, List, [], ◌∷◌, Option, Some, None, Result, Ok, Err, subst, ◌⊎◌, inl, inr, rules}
+use Rattle.std.proofs.Common.{ℕ, ◌≡◌, refl, sym, ap, ◌∙◌, true, false, cond, List, [], ◌∷◌, Option, Some, None, Result, Ok, Err, subst, inl, inr, rules}
 use Rattle.std.specs.Prelude.{is_ok, is_some, map, IsSome, IfErr, IfOk, IfSome}
 use Rattle.std.specs.List.{AllByRecursion}
-use Rattle.std.specs.Option.{option_and_then, option_map}
-use Rattle.vr_disk.specs.DiskState.{Disk, Runs, RunsFrom}
+use Rattle.std.specs.Option.{option_and_then}
+use Rattle.vr_disk.specs.DiskState.{Disk, RunsFrom}
 use Rattle.vr_super.specs.declared.reading.Reading.{Reading}
 use Rattle.vr_super.specs.declared.recovering.SuperFault.{SuperFault}
 use Rattle.vr_super.specs.declared.recovering.SuperFault.TheVariants as fault

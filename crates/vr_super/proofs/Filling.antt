@@ -1,5 +1,5 @@
 -- A copy filled in sector after sector, and judged.
-use Rattle.std.proofs.Common.{ℕ, zero, suc, ◌+◌, ◌-◌, ◌*◌, ◌≤◌, ◌<◌, ◌≡◌, arith, refl, sym, ap, ◌∙◌, Bool, true, false, cond, ◌&&◌, ◌||◌, List, [], ◌∷◌, ◌++◌, length, take, Option, Some, None, append_assoc, subst}
+use Rattle.std.proofs.Common.{ℕ, suc, ◌+◌, ◌-◌, ◌*◌, ◌≤◌, ◌<◌, ◌≡◌, arith, refl, sym, ap, ◌∙◌, Bool, true, false, cond, ◌&&◌, ◌||◌, List, [], ◌∷◌, ◌++◌, length, take, Option, Some, None, append_assoc, subst}
 use Rattle.std.specs.Prelude.{is_some, nat_eq}
 use Rattle.std.specs.List.{AllByRecursion, list_any}
 use Rattle.std.specs.Cmp.Lexicographic.{pointwise}
@@ -10,7 +10,7 @@ use Rattle.vr_disk.specs.DiskState.{Disk, Face, ReadsTo, reads}
 use Rattle.vr_super.specs.declared.reading.Reading.{Reading}
 use Rattle.vr_super.specs.Copies.{value_of}
 use Rattle.vr_super.specs.Opens.{behind, copy_reading, if_good, reading}
-use Rattle.vr_super.specs.Seen.{IsHonest, seen}
+use Rattle.vr_super.specs.Seen.{IsHonest}
 
 pub reads_to : (i : ℕ) (t : Option Disk) (g : Option (List ℕ)) (d : Disk) → ReadsTo i t g → t ≡ Some d → reads d.face i ≡ g
 reads_to i None g d h e = absurd cc

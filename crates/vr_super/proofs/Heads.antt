@@ -1,7 +1,6 @@
 -- The headers of a good copy, one after another.
-use Rattle.std.proofs.Common.{ℕ, zero, suc, ◌+◌, ◌-◌, ◌*◌, ◌≤◌, ◌<◌, ◌≡◌, arith, refl, sym, ap, ◌∙◌, Bool, true, false, cond, List, [], ◌∷◌, ◌++◌, length, drop, Option, Some, None, Result, Ok, Err, subst, append_assoc}
+use Rattle.std.proofs.Common.{ℕ, ◌+◌, ◌-◌, ◌*◌, ◌≤◌, ◌<◌, ◌≡◌, refl, sym, ap, ◌∙◌, true, List, [], ◌∷◌, ◌++◌, length, drop, Option, Some, None, Result, Ok, Err, append_assoc}
 use Rattle.std.specs.Prelude.{is_some}
-use Rattle.std.specs.Option.{option_map}
 use Rattle.std.specs.Result.{result_ok}
 use Rattle.std.proofs.lemmas.List.{append-nil}
 use Rattle.vr_header.specs.declared.header.Header.{Header}
@@ -9,9 +8,9 @@ use Rattle.vr_header.specs.declared.header.HeaderFault.{HeaderFault}
 use Rattle.vr_header.specs.Spelling.{decoded}
 use Rattle.vr_super.specs.declared.fields.Fields.{Fields}
 use Rattle.vr_base.specs.Bytes.{IsBytes}
-use Rattle.vr_super.specs.Copies.{Saved, count_at, fields_at, first_op, is_listed, list_at, value_of, with_listed}
+use Rattle.vr_super.specs.Copies.{Saved, count_at, fields_at, first_op, list_at, value_of}
 use Rattle.vr_super.specs.Laws.{IsSpelled}
-use Rattle.vr_super.proofs.Format.{Valued, With, count_fits, value_found, valued, with_by}
+use Rattle.vr_super.proofs.Format.{With, count_fits, value_found, valued, with_by}
 use Rattle.vr_super.proofs.Sealing.{list_past, list_start, list_step}
 
 -- the headers so far, and those that are still to come

@@ -1,22 +1,20 @@
 -- Mending keeps what the disk opens as, and writing leads to the new value: copy after copy.
-use Rattle.std.proofs.Common.{ℕ, zero, suc, ◌+◌, ◌-◌, ◌*◌, ◌≤◌, ◌<◌, ◌≡◌, ◌≢◌, ◌⊎◌, inl, inr, arith, refl, sym, ap, ◌∙◌, Bool, true, false, cond, leb, List, [], ◌∷◌, ◌++◌, length, take, drop, Option, Some, None, subst, length-set}
-use Rattle.std.specs.Prelude.{count_by, is_some, nat_eq}
+use Rattle.std.proofs.Common.{ℕ, zero, suc, ◌+◌, ◌-◌, ◌*◌, ◌≤◌, ◌<◌, ◌≡◌, ◌≢◌, ◌⊎◌, inl, inr, arith, refl, sym, ap, ◌∙◌, true, false, cond, List, [], ◌∷◌, ◌++◌, length, take, drop, Option, Some, None, subst, length-set}
+use Rattle.std.specs.Prelude.{count_by, is_some}
 use Rattle.std.specs.Option.{option_and_then}
-use Rattle.std.specs.Cmp.Lexicographic.{pointwise}
-use Rattle.std.specs.List.{AllByRecursion}
 use Rattle.std.proofs.lemmas.Bool.{cases_lt, cases_eq, le-leb}
-use Rattle.std.proofs.lemmas.List.{take_all, length-take}
+use Rattle.std.proofs.lemmas.List.{take_all}
 use Rattle.std.proofs.lemmas.List.Sums.{sum_by-cons}
 use Rattle.std.proofs.lemmas.Slice.Eq.{bytes_eq-Decides}
 use Rattle.vr_base.specs.Bytes.{IsBytes, piece}
 use Rattle.vr_base.proofs.Places.{take_both}
-use Rattle.vr_disk.specs.DiskState.{Call, Cell, Write, Sync, Face, IsFace, after, after_all, cut, reads, waits}
+use Rattle.vr_disk.specs.DiskState.{Cell, Write, Sync, Face, IsFace, after, after_all, cut, reads}
 use Rattle.vr_disk.proofs.Frames.{frame_all, reads_back}
 use Rattle.vr_disk.proofs.Stopping.{cuts_both}
 use Rattle.vr_super.specs.Copies.{IsGood, Saved, copy_bytes, value_of}
 use Rattle.vr_super.specs.Opens.{agreed, behind, copy_reading, good_copies, good_copy, has, if_good, opened, opens, reading}
-use Rattle.vr_super.specs.Calls.{copy_calls, mend_calls, mend_copy, mend_from, mend_unless, save_from, write_calls, writes}
-use Rattle.vr_super.specs.Laws.{AllRead, MendKeeps, MendLaw, TellsApart, WriteLaw, WriteLeads}
+use Rattle.vr_super.specs.Calls.{copy_calls, mend_calls, mend_copy, mend_from, mend_unless, save_from, writes}
+use Rattle.vr_super.specs.Laws.{MendLaw, TellsApart, WriteLaw}
 use Rattle.vr_super.proofs.Best.{Among, one, Step, Toward, opened_among, opened_some, opened_toward}
 use Rattle.vr_super.proofs.Format.{length-copy_bytes, value_again, value_found}
 use Rattle.vr_super.proofs.Readings.{after_all_append, copy_is_bytes, copy_within, length_after_all, mend_within, other_after, other_cut, other_head, reading_written}

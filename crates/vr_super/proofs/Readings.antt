@@ -1,13 +1,12 @@
 -- What sectors one behind the other read as, before and after calls.
 use Rattle.std.proofs.Common.{ℕ, zero, suc, ◌+◌, ◌-◌, ◌*◌, ◌≤◌, ◌<◌, ◌≡◌, ◌≢◌, ◌⊎◌, inl, inr, arith, refl, sym, ap, ◌∙◌, List, [], ◌∷◌, ◌++◌, length, take, drop, Option, Some, None, subst, length-set}
-use Rattle.std.specs.Option.{option_map}
 use Rattle.std.specs.List.{AllByRecursion}
 use Rattle.std.proofs.lemmas.Bool.{cases_lt}
 use Rattle.std.proofs.lemmas.List.{get_or_append_left, get_or-append_right}
 use Rattle.vr_base.specs.Bytes.{IsBytes, piece}
 use Rattle.vr_base.proofs.Places.{take_both}
-use Rattle.vr_disk.specs.DiskState.{Call, Write, Sync, Face, IsFace, Cell, after, after_all, cell, cut, reads, waits, written}
-use Rattle.vr_disk.specs.Stops.{Spares, WritesOnly}
+use Rattle.vr_disk.specs.DiskState.{Call, Write, Sync, Face, IsFace, Cell, after, after_all, cell, cut, reads, written}
+use Rattle.vr_disk.specs.Stops.{Spares}
 use Rattle.vr_disk.proofs.Faces.{there}
 use Rattle.vr_disk.proofs.Frames.{frame_all, frame_cut, reads_back}
 use Rattle.vr_super.specs.Opens.{behind, copy_reading, reading}

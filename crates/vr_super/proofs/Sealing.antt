@@ -1,14 +1,14 @@
 -- A copy judged part by part.
-use Rattle.std.proofs.Common.{ℕ, zero, suc, ◌+◌, ◌-◌, ◌*◌, ◌%◌, ◌^◌, ◌≤◌, ◌<◌, ◌≡◌, arith, refl, sym, ap, ◌∙◌, Bool, true, false, cond, eqb, leb, ◌&&◌, List, [], ◌∷◌, ◌++◌, length, drop, take, Option, Some, None, Result, Ok, Err, subst}
-use Rattle.std.specs.Prelude.{is_some, min, IfSome}
+use Rattle.std.proofs.Common.{ℕ, suc, ◌+◌, ◌-◌, ◌*◌, ◌%◌, ◌^◌, ◌≤◌, ◌<◌, ◌≡◌, arith, refl, ap, ◌∙◌, Bool, true, false, cond, eqb, leb, ◌&&◌, List, [], ◌∷◌, length, drop, Option, Some, None}
+use Rattle.std.specs.Prelude.{is_some, min}
 use Rattle.std.specs.Option.{option_map}
 use Rattle.std.specs.Result.{result_ok}
-use Rattle.std.proofs.lemmas.Bool.{and_parts, and_from, eq-eqb, leb-true}
+use Rattle.std.proofs.lemmas.Bool.{and_parts, eq-eqb, leb-true}
 use Rattle.std.proofs.lemmas.List.{drop-drop}
 use Rattle.vr_header.specs.declared.header.Header.{Header}
 use Rattle.vr_header.specs.Spelling.{decoded}
 use Rattle.vr_super.specs.declared.fields.Fields.{Fields}
-use Rattle.vr_super.specs.Copies.{Saved, are_listed, count_at, fields_at, first_op, good_count, good_fields, good_member, good_root, good_window, is_closed, is_listed, is_named, is_sealed, is_zeros, list_at, value_of, with_listed}
+use Rattle.vr_super.specs.Copies.{Saved, count_at, fields_at, first_op, good_count, good_fields, good_member, good_root, good_window, is_closed, is_listed, is_sealed, list_at, value_of, with_listed}
 
 -- a value's fields and count that stand
 pub head_holds : (f : Fields) (count : ℕ) → good_fields f count ≡ true → count ≤ f.head

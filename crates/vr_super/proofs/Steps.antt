@@ -1,12 +1,12 @@
 -- Sector after sector, and copy after copy.
-use Rattle.std.proofs.Common.{ℕ, zero, suc, ◌+◌, ◌-◌, ◌*◌, ◌≤◌, ◌<◌, ◌≡◌, arith, refl, sym, ap, ◌∙◌, Bool, true, false, cond, List, [], ◌∷◌, ◌++◌, length, drop, take, Option, Some, None, subst, ◌&&◌, ◌≢◌}
+use Rattle.std.proofs.Common.{ℕ, suc, ◌+◌, ◌-◌, ◌*◌, ◌≤◌, ◌<◌, ◌≡◌, arith, refl, sym, ap, ◌∙◌, Bool, true, false, cond, List, [], ◌∷◌, ◌++◌, length, drop, take, Option, Some, None, subst, ◌&&◌, ◌≢◌}
 use Rattle.std.proofs.lemmas.List.{drop_all, drop_at, drop-drop, take_at, take-append-drop}
 use Rattle.std.proofs.lemmas.Bool.{and_parts, and_from}
 use Rattle.std.proofs.lemmas.Slice.Eq.{bytes_eq-Decides}
 use Rattle.std.specs.Prelude.{nat_eq, IfSome}
 use Rattle.std.specs.Cmp.Lexicographic.{pointwise}
 use Rattle.vr_base.specs.Bytes.{piece}
-use Rattle.vr_disk.specs.DiskState.{Call, Write, Sync, Disk, Face, IsFace, Runs, RunsFrom, after_all, reads, runs}
+use Rattle.vr_disk.specs.DiskState.{Call, Write, Disk, Face, IsFace, Runs, RunsFrom, after_all, reads, runs}
 use Rattle.vr_disk.proofs.Faces.{there}
 use Rattle.vr_disk.proofs.Running.{Runs_then, Runs_stopped, RunsFrom_then, RunsFrom_stopped, after_is}
 use Rattle.vr_super.specs.Calls.{copy_calls, mend_copy, mend_from, mend_calls, mend_unless, save_from, write_calls, writes}

@@ -1,13 +1,13 @@
 -- A copy that was being written when the stop came: it is good with the value's bytes, or as before, or bad.
-use Rattle.std.proofs.Common.{ℕ, zero, suc, ◌+◌, ◌-◌, ◌*◌, ◌≤◌, ◌<◌, ◌≡◌, ◌≢◌, ◌⊎◌, inl, inr, arith, refl, sym, ap, ◌∙◌, Bool, true, false, cond, List, [], ◌∷◌, ◌++◌, length, take, drop, get_or, Option, Some, None, subst, append_assoc}
-use Rattle.std.specs.Prelude.{bit_xor, is_some, map}
-use Rattle.std.specs.List.{All, AllByRecursion}
+use Rattle.std.proofs.Common.{ℕ, zero, suc, ◌+◌, ◌-◌, ◌*◌, ◌<◌, ◌≡◌, ◌⊎◌, inl, inr, arith, refl, sym, ap, ◌∙◌, cond, List, [], ◌∷◌, ◌++◌, length, take, drop, get_or, Option, Some, None}
+use Rattle.std.specs.Prelude.{bit_xor, is_some}
+use Rattle.std.specs.List.{AllByRecursion}
 use Rattle.std.proofs.lemmas.Bool.{cases_lt}
 use Rattle.std.proofs.lemmas.List.{get_or-map, get_or-take, get_or_append_left, length-map, length-take, take-take, take-append-le, take-append-drop, take_at}
 use Rattle.vr_base.specs.Bytes.{name_of, piece}
-use Rattle.vr_disk.specs.DiskState.{Call, Write, Sync, Face, Cell, IsCell, IsFace, after, after_all, cell, cut, damaged, reads, waits}
-use Rattle.vr_disk.specs.Stops.{IsLeft, Spares, WritesOnly}
-use Rattle.vr_disk.proofs.Frames.{frame_all, frame_cut, reads_back}
+use Rattle.vr_disk.specs.DiskState.{Call, Write, Sync, Face, Cell, IsFace, after_all, cut, damaged, reads}
+use Rattle.vr_disk.specs.Stops.{Spares, WritesOnly}
+use Rattle.vr_disk.proofs.Frames.{frame_cut, reads_back}
 use Rattle.vr_disk.proofs.Faces.{there}
 use Rattle.vr_disk.proofs.Outcomes.{cut_leaves}
 use Rattle.vr_disk.proofs.Stopping.{cuts_both}
@@ -15,7 +15,7 @@ use Rattle.vr_super.specs.Copies.{IsGood, Saved, copy_bytes, named_bytes, value_
 use Rattle.vr_super.specs.Opens.{copy_reading, good_copy, if_good, reading}
 use Rattle.vr_super.specs.Calls.{copy_calls, mend_copy, writes}
 use Rattle.vr_super.specs.Laws.{TellsApart}
-use Rattle.vr_super.proofs.Readings.{First, reading_first, reading_same}
+use Rattle.vr_super.proofs.Readings.{reading_first, reading_same}
 use Rattle.vr_super.proofs.Format.{good_named, good_version, length-copy_bytes, name-copy_bytes, rest-copy_bytes, value_again}
 
 -- the value's first sector

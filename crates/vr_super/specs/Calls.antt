@@ -1,6 +1,5 @@
 -- The calls that write a value and mend its copies.
-use Rattle.std.specs.Prelude.{ℕ, zero, suc, ◌+◌, ◌*◌, ◌≡◌, Bool, true, false, nat_eq, if◌then◌else◌, List, [], ◌∷◌, ◌++◌, drop, Option, None, Some}
-use Rattle.std.specs.Cmp.Lexicographic.{pointwise}
+use Rattle.std.specs.Prelude.{ℕ, zero, suc, ◌+◌, ◌*◌, if◌then◌else◌, List, [], ◌∷◌, ◌++◌, drop}
 use Rattle.vr_base.specs.Bytes.{piece}
 use Rattle.vr_disk.specs.DiskState.{Call, Write, Sync, Face}
 use Rattle.vr_super.specs.Copies.{Saved, copy_bytes}

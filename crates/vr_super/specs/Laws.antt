@@ -1,15 +1,25 @@
 -- What a stop leaves of the superblock.
-use Rattle.std.specs.Prelude.{ℕ, ◌≤◌, ◌<◌, ◌≡◌, ◌⊎◌, [], drop, length, List, Option, Some}
-use Rattle.vr_base.specs.Bytes.{IsBytes, name_of}
+use Rattle.std.specs.Prelude.{ℕ, ◌≤◌, ◌<◌, ◌≡◌, ◌⊎◌, [], drop, length, List, Option, None, Some, true, false}
+use Rattle.std.specs.Int.{w64}
+use Rattle.vr_base.specs.Bytes.{IsBytes, name_of, number}
 use Rattle.vr_disk.specs.DiskState.{Face, IsFace, after_all, cut}
 use Rattle.vr_super.specs.Copies.{IsGood, Saved, copy_bytes, named_bytes, value_of}
-use Rattle.vr_super.specs.Opens.{copy_reading, opens}
+use Rattle.vr_super.specs.Opens.{agreed, copy_reading, opened, opens}
 use Rattle.vr_super.specs.Calls.{mend_calls, write_calls}
 
 -- a good copy has the bytes of its value, and no other bytes give that value
 pub record OneSpelling : Type 0 where
   pub found : (b : List ℕ) (v : Saved) → IsBytes b → value_of b ≡ Some v → (b ≡ copy_bytes v) × IsGood v
   pub again : (v : Saved) → IsGood v → value_of (copy_bytes v) ≡ Some v
+
+-- what copies open as: bytes that two good ones have, of the greatest sequence of all such; None exactly where no two agree
+pub record OpensAgreed (copies : List (Option (List ℕ))) : Type 0 where
+  pub agree : (b : List ℕ) → opened copies ≡ Some b → agreed copies b ≡ true
+  pub greatest : (b c : List ℕ) → opened copies ≡ Some b → agreed copies c ≡ true → number w64 16 c ≤ number w64 16 b
+  pub none : (b : List ℕ) → opened copies ≡ None → agreed copies b ≡ false
+
+abbrev pub OpensLaw : Type 0
+OpensLaw = (copies : List (Option (List ℕ))) → OpensAgreed copies
 
 -- no chance collision: no copy has another text than the value's with the name of the value's
 abbrev pub TellsApart : Face → Saved → Type 0

@@ -1,12 +1,12 @@
 -- The value that a disk opens as.
-use Rattle.std.specs.Prelude.{ℕ, zero, suc, ◌+◌, ◌*◌, ◌<◌, ◌≡◌, Bool, true, false, ◌&&◌, nat_eq, nat_le, nat_lt, if◌then◌else◌, List, [], ◌∷◌, ◌++◌, Option, None, Some, is_some, count_by, map}
+use Rattle.std.specs.Prelude.{ℕ, zero, suc, ◌+◌, ◌*◌, Bool, true, false, ◌&&◌, nat_eq, nat_le, nat_lt, if◌then◌else◌, List, [], ◌∷◌, ◌++◌, Option, None, Some, is_some, count_by}
 use Rattle.std.specs.Option.{option_and_then, option_map}
 use Rattle.std.specs.Cmp.Lexicographic.{pointwise}
 use Rattle.std.specs.Int.{w32, w64}
 use Rattle.vr_base.specs.Bytes.{number}
 use Rattle.vr_super.specs.declared.opening.Found.{Found}
 use Rattle.vr_disk.specs.DiskState.{Face, reads}
-use Rattle.vr_super.specs.Copies.{Saved, copy_bytes, value_of}
+use Rattle.vr_super.specs.Copies.{Saved, value_of}
 
 abbrev pub behind : Option (List ℕ) → Option (List ℕ) → Option (List ℕ)
 behind None rest = None

@@ -1,5 +1,5 @@
 -- What recovering leaves.
-use Rattle.std.specs.Prelude.{◌≡◌, true, false, Bool, List, map, Option, None, Some, IsSome, is_some, Result, Ok, Err, if◌then◌else◌, ℕ}
+use Rattle.std.specs.Prelude.{◌≡◌, true, false, List, map, Option, None, Some, IsSome, is_some, Result, Ok, Err, if◌then◌else◌, ℕ}
 use Rattle.vr_disk.specs.DiskState.{Disk, Runs}
 use Rattle.std.specs.Option.{option_and_then}
 use Rattle.vr_super.specs.Copies.{Saved, value_of}

@@ -1,4 +1,4 @@
-use Rattle.std.proofs.Common.{rules, ◌≡◌, ℕ, ◌≤◌, ◌<◌, ◌+◌, length, arith, get_or, sym, ◌∙◌, length-set, []}
+use Rattle.std.proofs.Common.{◌<◌, length, arith, sym, ◌∙◌, length-set, []}
 use Rattle.std.proofs.lemmas.List.Elements.{All-get_or}
 use Rattle.vr_disk.specs.declared.sector.Sector.{Sector}
 use Rattle.vr_mem.specs.declared.cells.MemCell.{MemCell}

@@ -1,6 +1,5 @@
 use Rattle.std.proofs.Common.{◌≡◌, drop, length}
 use Rattle.std.specs.Prelude.{map}
-use Rattle.std.specs.List.{All}
 use Rattle.vr_disk.specs.DiskState.{settled}
 use Rattle.vr_mem.specs.Seen.{cell_of, waiting_of}
 use Rattle.vr_mem.proofs.cells.settle_all.Given as goal

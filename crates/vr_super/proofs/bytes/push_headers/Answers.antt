@@ -1,6 +1,5 @@
-use Rattle.std.proofs.Common.{◌≡◌, ◌+◌, ◌<◌, ◌++◌, arith, ap, sym, ◌∙◌, append_assoc, drop, length, get_or, [], List, ℕ, refl}
+use Rattle.std.proofs.Common.{◌≡◌, ◌+◌, ◌++◌, arith, ap, sym, ◌∙◌, append_assoc, drop, [], refl}
 use Rattle.std.proofs.lemmas.List.{append-nil, drop_all}
-use Rattle.vr_header.specs.declared.header.Header.{Header}
 use Rattle.vr_header.specs.Spelling.{header_bytes}
 use Rattle.vr_super.specs.Copies.{list_bytes}
 use Rattle.vr_super.proofs.Spelling.{list_more}

@@ -1,4 +1,4 @@
-use Rattle.std.proofs.Common.{◌≡◌, ◌∙◌, ◌++◌, ◌≤◌, ap, arith, length, sym}
+use Rattle.std.proofs.Common.{◌∙◌, ◌++◌, ap, arith, length}
 use Rattle.vr_super.specs.Copies.{Saved, list_bytes}
 use Rattle.vr_super.proofs.Format.{count_fits}
 use Rattle.vr_super.proofs.Spelling.{spelled_is}

@@ -1,6 +1,12 @@
+use Rattle.vr_super.proofs.Best.{opens_law}
 use Rattle.vr_super.proofs.Format.{value_again, value_found}
 use Rattle.vr_super.proofs.Keeping.{mend_law, write_law}
 use Rattle.vr_super.proofs.laws.superblock_laws.Goals as goal
 
 pub returns : goal.returns
-returns c = record { spelling = record { found = value_found; again = value_again }; mend = mend_law; write = write_law }
+returns c = record {
+  spelling = record { found = value_found; again = value_again };
+  opens = opens_law;
+  mend = mend_law;
+  write = write_law;
+}

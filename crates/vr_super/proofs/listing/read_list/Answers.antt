@@ -1,6 +1,6 @@
-use Rattle.std.proofs.Common.{◌≡◌, ◌∙◌, ◌*◌, ◌+◌, ap, arith, sym, drop, Ok, Err, subst, ◌++◌, ◌∷◌, []}
+use Rattle.std.proofs.Common.{◌≡◌, ◌∙◌, ◌*◌, ap, sym, drop, Ok}
 use Rattle.vr_header.specs.Spelling.{decoded}
-use Rattle.vr_super.proofs.Heads.{Listing, listing_breaks, listing_ends, listing_goes, listing_starts}
+use Rattle.vr_super.proofs.Heads.{listing_breaks, listing_ends, listing_goes, listing_starts}
 use Rattle.vr_super.proofs.listing.read_list.Goals as goal
 
 pub loop-i-init : goal.loop-i-init

@@ -1,4 +1,4 @@
-use Rattle.std.proofs.Common.{◌≡◌, ◌∙◌, ◌+◌, ap, arith, sym, false, [], drop, Bor, List, ℕ, Option}
+use Rattle.std.proofs.Common.{◌∙◌, ◌+◌, ap, sym, false, [], drop, Bor, List, ℕ, Option}
 use Rattle.std.specs.Prelude.{map}
 use Rattle.std.specs.Option.{option_map}
 use Rattle.vr_super.specs.declared.reading.Reading.{Reading}

@@ -1,4 +1,4 @@
-use Rattle.std.proofs.Common.{◌≡◌, ◌∙◌, ap, leb}
+use Rattle.std.proofs.Common.{◌∙◌, ap, leb}
 use Rattle.vr_super.proofs.Choosing.{counts}
 use Rattle.vr_super.proofs.opening.is_agreed.Goals as goal
 

@@ -1,4 +1,4 @@
-use Rattle.std.proofs.Common.{◌≡◌, ◌∙◌, ◌+◌, ◌≤◌, ap, arith, sym, false, []}
+use Rattle.std.proofs.Common.{◌∙◌, arith, sym, false, []}
 use Rattle.vr_super.specs.declared.reading.Reading.{Reading}
 use Rattle.vr_super.proofs.Choosing.{place_here, place_later, place_none}
 use Rattle.vr_super.proofs.opening.place_of.Goals as goal

@@ -1,4 +1,4 @@
-use Rattle.std.proofs.Common.{◌≡◌, ◌∙◌, ◌+◌, ◌*◌, ◌<◌, ◌≤◌, arith, refl, sym, ap, true, false, Some, None, length, cond}
+use Rattle.std.proofs.Common.{◌≡◌, ◌∙◌, ◌+◌, ◌*◌, arith, refl, sym, ap, Some, None, cond}
 use Rattle.vr_disk.specs.DiskState.{Disk, reads}
 use Rattle.vr_super.specs.Opens.{copy_reading}
 use Rattle.vr_super.proofs.Filling.{fill_end, fill_start, fill_step, fill_stop, reads_to}

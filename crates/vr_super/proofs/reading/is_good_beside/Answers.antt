@@ -1,4 +1,4 @@
-use Rattle.std.proofs.Common.{◌≡◌, ◌∙◌, sym}
+use Rattle.std.proofs.Common.{◌∙◌, sym}
 use Rattle.vr_super.proofs.Filling.{any_good}
 use Rattle.vr_super.proofs.reading.is_good_beside.Goals as goal
 

@@ -1,4 +1,4 @@
-use Rattle.std.proofs.Common.{◌≡◌, ◌∙◌, ◌&&◌, ap, sym}
+use Rattle.std.proofs.Common.{◌∙◌, ◌&&◌, ap, sym}
 use Rattle.std.specs.Prelude.{is_some}
 use Rattle.vr_super.specs.Copies.{value_of}
 use Rattle.vr_super.proofs.Filling.{seen_by}

@@ -1,5 +1,4 @@
-use Rattle.std.proofs.Common.{◌≡◌, ◌∙◌, ◌+◌, ◌*◌, ◌<◌, ◌≤◌, arith, refl, sym, ap, true, false, Some, drop, ◌&&◌, ◌-◌}
-use Rattle.std.specs.Prelude.{IfSome}
+use Rattle.std.proofs.Common.{◌≡◌, ◌∙◌, ◌+◌, ◌*◌, ◌<◌, ◌≤◌, arith, refl, sym, ap, true, false, drop, ◌&&◌, ◌-◌}
 use Rattle.vr_disk.specs.DiskState.{Disk, IsFace, reads}
 use Rattle.vr_super.specs.Opens.{copy_reading, has, reading}
 use Rattle.vr_base.specs.Bytes.{piece}

@@ -1,4 +1,4 @@
-use Rattle.std.proofs.Common.{◌≡◌, ◌+◌, ◌-◌, ◌*◌, ◌≤◌, drop, Bool, Option}
+use Rattle.std.proofs.Common.{◌+◌, ◌-◌, ◌*◌, ◌≤◌, drop, Bool, Option}
 use Rattle.vr_disk.specs.DiskState.{Disk, Runs}
 use Rattle.vr_super.specs.Calls.{writes}
 use Rattle.vr_super.proofs.sectors.write_sectors.Given as goal

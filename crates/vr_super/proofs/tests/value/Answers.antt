@@ -1,7 +1,5 @@
-use Rattle.std.proofs.Common.{◌≡◌, ◌<◌, ◌^◌, arith, refl, [], ◌∷◌, List}
-use Rattle.vr_header.specs.declared.header.Header.{Header}
-use Rattle.vr_super.specs.Copies.{IsGood, are_listed, good_fields}
-use Rattle.vr_super.specs.declared.fields.Fields.{Fields}
+use Rattle.std.proofs.Common.{arith, refl}
+use Rattle.vr_super.specs.Copies.{are_listed, good_fields}
 use Rattle.vr_super.proofs.tests.value.Goals as goal
 
 pub new-requires-2 : goal.new-requires-2

@@ -1,4 +1,4 @@
-use Rattle.std.proofs.Common.{◌≡◌, ◌≤◌, ◌∙◌, arith, ap, sym}
+use Rattle.std.proofs.Common.{arith}
 use Rattle.vr_super.proofs.Heads.{few}
 use Rattle.vr_super.proofs.value.few_at.Goals as goal
 

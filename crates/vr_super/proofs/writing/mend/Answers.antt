@@ -1,4 +1,4 @@
-use Rattle.std.proofs.Common.{◌≡◌, ◌<◌, ◌≤◌, arith}
+use Rattle.std.proofs.Common.{◌<◌, arith}
 use Rattle.std.proofs.lemmas.Result.{err_from_is_err_and}
 use Rattle.vr_super.proofs.Steps.{mending_ends, mending_goes, mending_starts, mending_stops}
 use Rattle.vr_super.proofs.writing.mend.Goals as goal

@@ -1,10 +1,9 @@
-use Rattle.std.proofs.Common.{ℕ, ◌≡◌, ◌<◌, ◌≤◌, ◌∙◌, sym, refl, true, false, ap, get_or, arith, length-set, Bool, cond, eqb, ◌++◌, ◌∷◌, [], List, length}
+use Rattle.std.proofs.Common.{ℕ, ◌≡◌, ◌∙◌, sym, refl, true, false, ap, get_or, arith, cond, eqb, ◌++◌, ◌∷◌, [], List}
 use Rattle.std.specs.Prelude.{map}
-use Rattle.std.specs.List.{list_any, All}
+use Rattle.std.specs.List.{list_any}
 use Rattle.std.proofs.lemmas.Bool.{cond_both}
 use Rattle.std.proofs.lemmas.List.{map-set, get_or-map, map-append, length-map}
-use Rattle.std.proofs.lemmas.List.Elements.{All-push, All-set}
-use Rattle.vr_disk.specs.DiskState.{Cell, blank, waits}
+use Rattle.vr_disk.specs.DiskState.{blank, waits}
 use Rattle.vr_mem.specs.declared.cells.MemCell.{MemCell}
 use Rattle.vr_mem.specs.declared.cells.MemWaiting.{MemWaiting}
 use Rattle.vr_mem.specs.Seen.{waiting_of, cell_of, once}

@@ -1,4 +1,4 @@
-use Rattle.std.proofs.Common.{◌≡◌, ◌∙◌, ap, arith, sym, length, drop, List, ℕ, Some}
+use Rattle.std.proofs.Common.{◌≡◌, arith, drop, List, ℕ, Some}
 use Rattle.vr_header.specs.declared.header.Header.{Header}
 use Rattle.vr_super.specs.declared.fields.Fields.{Fields}
 use Rattle.vr_super.specs.Copies.{count_at, list_at}
