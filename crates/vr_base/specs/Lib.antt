@@ -2,3 +2,4 @@ pub mod Bytes
 pub mod Causes
 pub mod Count
 pub mod Groups
+pub mod Replicas

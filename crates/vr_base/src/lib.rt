@@ -5,6 +5,7 @@
 mod fields;
 mod groups;
 mod memory;
+mod replicas;
 mod seq;
 mod sum;
 mod table;
@@ -12,6 +13,7 @@ mod table;
 pub use fields::{put, put_sum, put_u16, put_u32, put_u64, sum_at, u16_at, u32_at, u64_at};
 pub use groups::quorums;
 pub use memory::NoMemory;
+pub use replicas::Replicas;
 pub use seq::{ByteList, Seq};
 pub use sum::{Sum, checksum, checksum_of_parts};
 pub use table::{Config, Quorums};

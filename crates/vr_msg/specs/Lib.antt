@@ -3,6 +3,7 @@ pub mod Deciding
 pub mod Choice
 pub mod Forms
 pub mod Logs
+pub mod Normal
 pub mod Numbers
 pub mod Reading
 pub mod Shapes

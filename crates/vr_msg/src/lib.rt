@@ -14,6 +14,7 @@ mod reply;
 mod request;
 mod shape;
 mod statement;
+mod summary;
 mod write;
 
 pub use choice::Choice;
@@ -28,6 +29,7 @@ pub use message::Message;
 pub use output::{Chosen, Committed, Outbox, Output, Sent, Started, Waiting};
 pub use reply::{Answered, Reply, ReplyFields, ReplyKind};
 pub use request::{Request, RequestFields};
+pub use summary::{Decision, Named, Summary};
 pub use statement::{DvcBody, Statement, SvBody};
 
 #[cfg(test)]
