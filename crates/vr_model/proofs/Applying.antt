@@ -114,7 +114,7 @@ has_other s i r other h =
     elim [ true ↦ λ k. sym (get_or-set_other s.0 i r true false other) ∙ k | false ↦ λ k. k ] in
     cases (ltb i 6) h
 
-has_with : (s : Replicas) (i r : ℕ) → has_replica (with_replica s i) r ≡ true → (r ≡ i) ⊎ (has_replica s r ≡ true)
+pub has_with : (s : Replicas) (i r : ℕ) → has_replica (with_replica s i) r ≡ true → (r ≡ i) ⊎ (has_replica s r ≡ true)
 has_with s i r h =
     let cases : (b : Bool) → eqb r i ≡ b → (r ≡ i) ⊎ (has_replica s r ≡ true) =
     elim [ true ↦ λ e. inl (eqb-true r i e) | false ↦ λ e. inr (has_other s i r (λ z. let t = eq-eqb r i z in absurd (cc)) h) ] in

@@ -26,7 +26,7 @@ use Rattle.vr_model.proofs.Fronts.{get_some, take_next, some_same}
 abbrev Kept : Map → Asked → ℕ → Session → Type 0
 Kept m a c s = ((c ≡ a.client) × (s ≡ stored a)) ⊎ (find nat_cmp c m ≡ Some s)
 
-is_one : (c k : ℕ) → (c ≡ k) ⊎ (c ≢ k)
+pub is_one : (c k : ℕ) → (c ≡ k) ⊎ (c ≢ k)
 is_one c k =
     let cases : (b : Bool) → eqb c k ≡ b → (c ≡ k) ⊎ (c ≢ k) = elim [ true ↦ λ e. inl (eqb-true c k e) | false ↦ λ e. inr (grind (arith, nat_tests)) ] in
     cases (eqb c k) refl

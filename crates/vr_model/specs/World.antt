@@ -1,9 +1,11 @@
 -- A group of replicas and the messages between them.
-use Rattle.std.specs.Prelude.{ℕ, ◌+◌, ◌%◌, List, [], ◌∷◌, ◌++◌, length, map, slice_get, slice_set, Option, Some, None}
+use Rattle.std.specs.Prelude.{ℕ, ◌+◌, ◌%◌, ◌^◌, ◌<◌, ⊤, List, [], ◌∷◌, ◌++◌, length, map, slice_get, slice_set, Option, Some, None}
 use Rattle.std.specs.List.{range_with_len}
 use Rattle.std.specs.Option.{option_map_or}
 use Rattle.vr_disk.specs.DiskState.{Face}
 use Rattle.vr_apply.specs.Folds.{empty}
+use Rattle.vr_header.specs.Bodies.{IsOperation}
+use Rattle.vr_msg.specs.Asking.{IsRequest}
 use Rattle.vr_msg.specs.declared.event.Event.{Event}
 use Rattle.vr_msg.specs.declared.event.Event.TheVariants as event
 use Rattle.vr_msg.specs.declared.output.Output.{Output}
@@ -37,6 +39,17 @@ pub data Happening : Type 0 where
   Asks : (replica : ℕ) (request : RequestFields) → Happening
   -- the message of this number, counted from 0 and from the front again past the last, reaches its destination
   Arrives : (number : ℕ) → Happening
+
+-- a request that can be asked
+pub record IsAsked (q : RequestFields) : Type 0 where
+  pub form : IsRequest q
+  pub client : q.client < 2 ^ 64
+  pub request : q.request < 2 ^ 32
+  pub operation : IsOperation q.operation
+
+abbrev pub IsHappening : Happening → Type 0
+IsHappening (Asks replica q) = IsAsked q
+IsHappening (Arrives number) = ⊤
 
 -- what happens leaves a world, and puts out something
 pub record Happened : Type 0 where
