@@ -3,3 +3,4 @@ pub mod Words
 pub mod Rules
 pub mod World
 pub mod Safe
+pub mod Laws

@@ -2,8 +2,10 @@
 //! of what such a group has to keep.
 #![tactic(auto)]
 
+mod laws;
 mod memory;
 mod named;
 
+pub use laws::group_laws;
 pub use memory::Memory;
 pub use named::NamedEntry;
