@@ -1,3 +1,4 @@
 pub mod Digits
 mod Rows
 pub mod Cuts
+pub mod Letters

@@ -48,7 +48,11 @@ fn read_cluster(words: Words<'_>) -> Option<Line>
     ensures { result ≡ cluster_line (words_left words.entry) }
 {
     let n = read_below(7, words.only()?)?;
-    if n >= 2 { Some(Line::Cluster(n as u8)) } else { None }
+    if n >= 2 {
+        Some(Line::Cluster(n as u8))
+    } else {
+        None
+    }
 }
 
 /// `deliver X` behind its first word.
@@ -58,7 +62,12 @@ fn read_deliver(words: Words<'_>) -> Option<Line>
     Some(Line::Deliver(read_number(words.only()?)?))
 }
 
-fn read_behind(alloc: Global, n: u8, word: &[u8], words: Words<'_>) -> Result<Option<Line>, AllocError>
+fn read_behind(
+    alloc: Global,
+    n: u8,
+    word: &[u8],
+    words: Words<'_>,
+) -> Result<Option<Line>, AllocError>
     ensures { IfOk result (λ line. line ≡ line_behind n word.now (words_left words.entry)) }
 {
     if n == 0 {

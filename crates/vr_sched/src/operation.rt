@@ -71,10 +71,18 @@ fn read_delete(alloc: Global, words: Words<'_>) -> Result<Option<Operation>, All
 fn register_alone(words: Words<'_>) -> Option<Operation>
     ensures { result ≡ register_words (words_left words.entry) }
 {
-    if words.is_end() { Some(Operation::Register) } else { None }
+    if words.is_end() {
+        Some(Operation::Register)
+    } else {
+        None
+    }
 }
 
-fn read_behind(alloc: Global, word: &[u8], words: Words<'_>) -> Result<Option<Operation>, AllocError>
+fn read_behind(
+    alloc: Global,
+    word: &[u8],
+    words: Words<'_>,
+) -> Result<Option<Operation>, AllocError>
     ensures { IfOk result (λ operation. operation ≡ operation_behind word.now (words_left words.entry)) }
 {
     if is_word(word, "register") {
