@@ -2,3 +2,4 @@ pub mod Digits
 mod Rows
 pub mod Cuts
 pub mod Letters
+mod TextRows
