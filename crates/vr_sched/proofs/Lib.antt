@@ -3,3 +3,4 @@ mod Rows
 pub mod Cuts
 pub mod Letters
 mod TextRows
+pub mod Plain

@@ -2,3 +2,4 @@ pub mod Grammar
 pub mod Numbers
 pub mod Words
 pub mod Text
+pub mod Plain

@@ -1,5 +1,7 @@
 //! The lines that a replay writes.
 ghost use Rattle.std.specs.Prelude.{◌≡◌, ◌++◌, IfOk, OnOk};
+ghost use Rattle.vr_header.specs.Bodies.{IsOperation};
+ghost use Rattle.vr_sched.specs.Plain.{HasText, HasTexts, IsPlain};
 ghost use Rattle.vr_sched.specs.Text.{chosen_text, committed_text, kind_text, line_text, output_text, reply_text, sent_text, started_text, waiting_text};
 
 use crate::frames::put_frame;
@@ -23,7 +25,8 @@ fn put_sent(to: &mut ByteList, m: u64, s: &Sent) -> Result<(), AllocError>
 
 #[tactic(auto, using(std::proofs::lemmas::Grind::common_steps), unfolding(crate::specs::Text::committed_text))]
 fn put_committed(to: &mut ByteList, c: &Committed) -> Result<(), AllocError>
-    ensures { OnOk result (to.new ≡ to.old ++ committed_text c.now) }
+    ensures text { OnOk result (to.new ≡ to.old ++ committed_text c.now) }
+    ensures printable { OnOk result (IsOperation c.now.entry.operation) }
 {
     let header = c.entry.header();
     put_number(to, "commit ", u64::from(c.replica))?;
@@ -35,7 +38,8 @@ fn put_committed(to: &mut ByteList, c: &Committed) -> Result<(), AllocError>
 
 #[tactic(auto, using(std::proofs::lemmas::Grind::common_steps))]
 fn put_kind(to: &mut ByteList, view: u32, kind: &ReplyKind) -> Result<(), AllocError>
-    ensures { OnOk result (to.new ≡ to.old ++ kind_text view kind.now) }
+    ensures text { OnOk result (to.new ≡ to.old ++ kind_text view kind.now) }
+    ensures printable { OnOk result (HasText kind.now) }
 {
     match kind {
         ReplyKind::Outcome(answered) => {
@@ -53,7 +57,8 @@ fn put_kind(to: &mut ByteList, view: u32, kind: &ReplyKind) -> Result<(), AllocE
 
 #[tactic(auto, using(std::proofs::lemmas::Grind::common_steps), unfolding(crate::specs::Text::reply_text))]
 fn put_reply(to: &mut ByteList, reply: &Reply) -> Result<(), AllocError>
-    ensures { OnOk result (to.new ≡ to.old ++ reply_text reply.now) }
+    ensures text { OnOk result (to.new ≡ to.old ++ reply_text reply.now) }
+    ensures printable { OnOk result (HasText reply.now.kind) }
 {
     let r = reply.fields();
     put_number(to, "reply ", u64::from(r.replica))?;
@@ -94,7 +99,8 @@ fn put_started(to: &mut ByteList, s: &Started) -> Result<(), AllocError>
 }
 
 fn put_output(to: &mut ByteList, m: u64, output: &Output) -> Result<(), AllocError>
-    ensures { OnOk result (to.new ≡ to.old ++ output_text m output.now) }
+    ensures text { OnOk result (to.new ≡ to.old ++ output_text m output.now) }
+    ensures printable { OnOk result (HasTexts output.now) }
 {
     match output {
         Output::Send(s) => put_sent(to, m, s),
@@ -110,10 +116,11 @@ fn put_output(to: &mut ByteList, m: u64, output: &Output) -> Result<(), AllocErr
 }
 
 /// Adds the line of an output at the end of a text; `m` is the number of the message that it is, if it is
-/// one. An `Err` may have added some of it.
-#[tactic(auto, using(std::proofs::lemmas::Grind::common_steps))]
+/// one. An `Err` may have added some of it. The bytes before the line's end are from 32 to 126.
+#[tactic(auto, using(std::proofs::lemmas::Grind::common_steps, crate::proofs::Plain::output_plain))]
 pub fn write_text(m: u64, output: &Output, to: &mut ByteList) -> Result<(), AllocError>
-    ensures { OnOk result (to.new ≡ to.old ++ line_text m output.now) }
+    ensures text { OnOk result (to.new ≡ to.old ++ line_text m output.now) }
+    ensures plain { OnOk result (IsPlain (output_text m output.now)) }
 {
     put_output(to, m, output)?;
     to.push(b'\n')
@@ -121,7 +128,8 @@ pub fn write_text(m: u64, output: &Output, to: &mut ByteList) -> Result<(), Allo
 
 /// The line of an output, with its end; `m` is the number of the message that it is, if it is one.
 pub fn text(alloc: Global, m: u64, output: &Output) -> Result<ByteList, AllocError>
-    ensures { IfOk result (λ text. text ≡ line_text m output.now) }
+    ensures text { IfOk result (λ text. text ≡ line_text m output.now) }
+    ensures plain { OnOk result (IsPlain (output_text m output.now)) }
 {
     let mut text = ByteList::new(alloc);
     write_text(m, output, &mut text)?;

@@ -1,5 +1,6 @@
 //! Pieces of text.
 ghost use Rattle.std.specs.Prelude.{◌≡◌, ◌++◌, OnOk};
+ghost use Rattle.vr_header.specs.Bodies.{IsOperation, IsOutcome};
 ghost use Rattle.vr_sched.specs.Text.{client_text, entry_text, numbered, operation_text, outcome_text, viewed};
 
 use itoa::Buffer;
@@ -52,7 +53,8 @@ pub fn put_client(to: &mut ByteList, client: u64, request: u32) -> Result<(), Al
 
 #[tactic(auto, using(std::proofs::lemmas::Grind::common_steps))]
 pub fn put_operation(to: &mut ByteList, operation: &Operation) -> Result<(), AllocError>
-    ensures { OnOk result (to.new ≡ to.old ++ operation_text operation.now) }
+    ensures text { OnOk result (to.new ≡ to.old ++ operation_text operation.now) }
+    ensures printable { OnOk result (IsOperation operation.now) }
 {
     match operation {
         Operation::Register => put(to, "register"),
@@ -75,7 +77,8 @@ pub fn put_operation(to: &mut ByteList, operation: &Operation) -> Result<(), All
 
 #[tactic(auto, using(std::proofs::lemmas::Grind::common_steps))]
 pub fn put_outcome(to: &mut ByteList, outcome: &Outcome) -> Result<(), AllocError>
-    ensures { OnOk result (to.new ≡ to.old ++ outcome_text outcome.now) }
+    ensures text { OnOk result (to.new ≡ to.old ++ outcome_text outcome.now) }
+    ensures printable { OnOk result (IsOutcome outcome.now) }
 {
     match outcome {
         Outcome::Session => put(to, "session"),
