@@ -62,17 +62,18 @@ fn sends(rt: &impl Abort, alloc: Global, frame: Frame, line: &[u8]) -> Result<()
 #[test]
 fn messages_of_the_normal_path(rt: HostRuntime) -> Result<(), Fail> {
     let alloc = rt.alloc();
+    let entry = registered();
     let prepare = Prepare {
         replica: 1,
-        view: 3,
+        view: entry.header().view,
         commit: 0,
-        entry: registered(),
+        entry,
     };
     sends(
         &rt,
         alloc,
         Frame::Prepare(prepare),
-        b"send 6 1 0 prepare view 3 op 1 made 0 commit 0\n",
+        b"send 6 1 0 prepare view 0 op 1 made 0 commit 0\n",
     )?;
     let prepare_ok = PrepareOk {
         cluster: 0,
