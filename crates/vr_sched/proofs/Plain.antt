@@ -1,5 +1,5 @@
 -- The bytes of each text are plain.
-use Rattle.std.proofs.Common.{rules, ◌≡◌, ◌≤◌, ◌<◌, ◌==◌, ◌+◌, ◌/◌, ◌%◌, ◌&&◌, ◌∙◌, ℕ, zero, suc, Bool, true, false, nat_le, nat_lt, List, [], ◌∷◌, ◌++◌, cond, codes, refl, ap, IsTrue, length, le-leb, leb-true, arith}
+use Rattle.std.proofs.Common.{rules, ◌≡◌, ◌≤◌, ◌==◌, ◌+◌, ◌/◌, ◌%◌, ◌&&◌, ◌∙◌, ℕ, zero, suc, true, false, nat_le, nat_lt, List, [], ◌∷◌, ◌++◌, codes, refl, IsTrue, length, le-leb, leb-true, arith}
 use Rattle.std.specs.Fmt.{digits, digits_onto, digit_glyph, decimal}
 use Rattle.std.specs.List.{list_all}
 use Rattle.std.proofs.lemmas.Bool.{and_parts, cond_both}
@@ -19,7 +19,7 @@ use Rattle.vr_msg.specs.declared.output.Output.TheVariants as output
 use Rattle.vr_msg.specs.declared.reply.ReplyKind.{ReplyKind}
 use Rattle.vr_msg.specs.declared.reply.ReplyKind.TheVariants as reply
 use Rattle.vr_sched.specs.Plain.{is_plain, IsPlain, HasText, HasTexts}
-use Rattle.vr_sched.specs.Text.{before_letters, chosen_text, client_text, commit_text, committed_text, do_view_change_text, entry_text, frame_text, get_prepare_text, give_prepare_text, kind_text, letter, letters_of, numbered, operation_text, or_dash, outcome_text, output_text, parts_text, prepare_ok_text, prepare_text, reply_text, sent_text, start_view_text, started_text, statement_text, viewed, waiting_text}
+use Rattle.vr_sched.specs.Text.{before_letters, chosen_text, client_text, commit_text, committed_text, do_view_change_text, entry_text, frame_text, get_prepare_text, give_prepare_text, kind_text, letters_of, numbered, operation_text, or_dash, outcome_text, output_text, parts_text, prepare_ok_text, prepare_text, reply_text, sent_text, start_view_text, started_text, statement_text, viewed, waiting_text}
 
 pub both : (xs ys : List ℕ) → IsPlain xs → IsPlain ys → IsPlain (xs ++ ys)
 both xs ys a b = list_all-append is_plain xs ys ∙ rw (a, b) refl

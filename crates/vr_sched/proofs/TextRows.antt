@@ -1,5 +1,5 @@
 -- Worked rows of the texts, computed: an output, and its line.
-use Rattle.std.proofs.Common.{◌≡◌, ℕ, List, [], ◌∷◌, codes, replicate, refl}
+use Rattle.std.proofs.Common.{◌≡◌, ℕ, List, [], ◌∷◌, codes, refl}
 use Rattle.std.specs.Fmt.{digits}
 use Rattle.vr_header.specs.declared.header.Header.{Header}
 use Rattle.vr_header.specs.declared.operation.Operation.{Operation}
@@ -11,10 +11,8 @@ use Rattle.vr_header.specs.declared.part.Part.TheVariants.{Here, Lost, Wanted, U
 use Rattle.vr_header.specs.Bodies.{operation_bytes}
 use Rattle.vr_header.specs.Made.{Whole, made_by}
 use Rattle.vr_header.specs.Names.{no_name, request_by, root_by}
-use Rattle.vr_header.specs.Spelling.{named_bytes}
 use Rattle.vr_msg.specs.declared.frame.Frame.{Frame}
 use Rattle.vr_msg.specs.declared.frame.Frame.TheVariants.{Prepare, PrepareOk, Commit, StartViewChange, DoViewChange, StartView, GetView, GetPrepare, GivePrepare, GetBlock, GiveBlock}
-use Rattle.vr_msg.specs.declared.output.Output.{Output}
 use Rattle.vr_msg.specs.declared.output.Output.TheVariants as output
 use Rattle.vr_msg.specs.declared.reply.ReplyKind.{ReplyKind}
 use Rattle.vr_msg.specs.declared.reply.ReplyKind.TheVariants as reply

@@ -1,7 +1,6 @@
 -- The lines that a replay writes.
 use Rattle.std.specs.Prelude.{ℕ, ◌+◌, ◌-◌, List, [], ◌∷◌, ◌++◌, drop, codes}
 use Rattle.std.specs.Fmt.{decimal}
-use Rattle.vr_header.specs.declared.header.Header.{Header}
 use Rattle.vr_header.specs.declared.operation.Operation.{Operation}
 use Rattle.vr_header.specs.declared.operation.Operation.TheVariants as operation
 use Rattle.vr_header.specs.declared.outcome.Outcome.{Outcome}

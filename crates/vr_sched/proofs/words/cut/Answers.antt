@@ -1,7 +1,6 @@
-use Rattle.std.proofs.Common.{rules, tests, get_or, ◌==◌, false, ◌≡◌, sym, ◌∙◌, take_all, eq-eqb}
+use Rattle.std.proofs.Common.{rules, tests, get_or, ◌==◌, false, ◌≡◌, take_all}
 use Rattle.std.proofs.lemmas.List.{take_rest}
 use Rattle.std.proofs.lemmas.List.Elements.{All-more}
-use Rattle.std.proofs.lemmas.List.Splits.{slice_split_none}
 use Rattle.vr_sched.proofs.Cuts.{cut_at, cut_none}
 use Rattle.vr_sched.proofs.words.cut.Goals as goal
 
