@@ -1,0 +1,6 @@
+pub mod Digits
+mod Rows
+pub mod Cuts
+pub mod Letters
+mod TextRows
+pub mod Plain

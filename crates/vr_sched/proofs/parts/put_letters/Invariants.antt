@@ -1,0 +1,6 @@
+use Rattle.std.proofs.Common.{◌≡◌, ◌++◌, drop, map}
+use Rattle.vr_sched.specs.Text.{letter}
+use Rattle.vr_sched.proofs.parts.put_letters.Given as goal
+
+abbrev pub invariant-loop-part : goal.invariant-loop-part
+invariant-loop-part l = l.to ++ map letter (drop l.part-index l.parts) ≡ l.initial.to ++ map letter l.parts

@@ -1,0 +1,5 @@
+pub mod Grammar
+pub mod Numbers
+pub mod Words
+pub mod Text
+pub mod Plain

@@ -1,0 +1,57 @@
+//! The letters of Parts.
+ghost use Rattle.std.specs.Prelude.{◌≡◌, ◌++◌, OnOk, map};
+ghost use Rattle.vr_sched.specs.Text.{letter, letters_of, parts_text};
+
+use crate::texts::put;
+use std::alloc::AllocError;
+use vr_base::ByteList;
+use vr_header::Part;
+
+fn letter(part: &Part) -> u8
+    ensures { result ≡ letter part.now }
+{
+    match part {
+        Part::Here(_) => b'h',
+        Part::Lost(_) => b'l',
+        Part::Wanted(_) => b'w',
+        Part::Unknown => b'u',
+        Part::Nothing => b'n',
+    }
+}
+
+/// The Parts up to the last that isn't `Nothing`.
+#[tactic(auto, using(std::proofs::lemmas::Grind::common_steps, crate::proofs::Letters::known_end, crate::proofs::Letters::nothing_end, crate::proofs::Letters::no_letters))]
+fn known(parts: &[Part]) -> &[Part]
+    ensures { map letter result.now ≡ letters_of parts.now }
+{
+    let mut count = parts.len();
+    while count > 0 {
+        if parts[count - 1] != Part::Nothing {
+            return &parts[..count];
+        }
+        count -= 1;
+    }
+    &[]
+}
+
+#[tactic(auto, using(std::proofs::lemmas::Grind::common_steps))]
+fn put_letters(to: &mut ByteList, parts: &[Part]) -> Result<(), AllocError>
+    ensures { OnOk result (to.new ≡ to.old ++ map letter parts.now) }
+{
+    for part in parts {
+        to.push(letter(part))?;
+    }
+    Ok(())
+}
+
+/// A letter for each Part up to the last that isn't `Nothing`, `-` where there is none.
+#[tactic(auto, using(std::proofs::lemmas::Grind::common_steps))]
+pub fn put_parts(to: &mut ByteList, parts: &[Part]) -> Result<(), AllocError>
+    ensures { OnOk result (to.new ≡ to.old ++ parts_text parts.now) }
+{
+    let known = known(parts);
+    if known.is_empty() {
+        return put(to, "-");
+    }
+    put_letters(to, known)
+}
