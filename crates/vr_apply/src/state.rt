@@ -6,7 +6,7 @@ ghost use Rattle.vr_kv.specs.Kv.{IsKv};
 ghost use Rattle.vr_sess.specs.Sessions.{checked, IsSessions};
 ghost use Rattle.vr_table.specs.Table.{IsOrNoMemory};
 ghost use Rattle.vr_apply.specs.Folds.{empty, applied, executed, answered, state_after, LeavesOneTable, EachOnce};
-ghost use Rattle.vr_apply.specs.Texts.{texts_of, state_decoded, FitsPayloads};
+ghost use Rattle.vr_apply.specs.Texts.{texts_of, state_decoded, IsFirstFaultOf, FitsPayloads};
 ghost use Rattle.vr_apply.specs.declared.state.State.{State};
 
 use crate::codec::Texts;
@@ -44,7 +44,7 @@ impl State {
     }
 
     /// Applies an entry: where its request is fresh, its operation changes the machine and the outcome is stored; else
-    /// nothing changes. After an `Err`, want of memory, the machine alone may have changed.
+    /// nothing changes. After an `Err`, want of memory, the machine alone may have changed, by a fresh request's operation.
     pub fn apply(&mut self, entry: &Entry) -> Result<ReplyBody, NoMemory>
         ensures reply { IfOk result (λ reply. reply ≡ (applied self.old entry.now).reply) }
         ensures state { IfOk result (λ _. self.new ≡ (applied self.old entry.now).state) }
@@ -117,8 +117,10 @@ impl State {
         ensures decoded { IfOk result (λ state. state_decoded texts.now ≡ Ok state) }
         ensures texts { IfOk result (λ state. texts_of state ≡ texts.now) }
         ensures fault { IfErr result (IsOrNoMemory (state_decoded texts.now)) }
+        ensures first { IfErr result (IsFirstFaultOf texts.now) }
     {
         let sessions = Sessions::decode_state(alloc, texts.sessions.as_slice())?;
+        let _held = sessions.len();
         let machine = Kv::decode_state(alloc, texts.keys.as_slice())?;
         Ok(State { sessions, machine })
     }
