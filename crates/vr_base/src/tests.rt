@@ -1,6 +1,6 @@
 use crate::{
-    ByteList, NoMemory, Seq, checksum, checksum_of_parts, put_sum, put_u16, put_u32, put_u64, quorums,
-    sum_at, u16_at, u32_at, u64_at,
+    ByteList, NoMemory, Seq, checksum, checksum_of_parts, put_sum, put_u16, put_u32, put_u64,
+    quorums, sum_at, u16_at, u32_at, u64_at,
 };
 use std::alloc::{AllocError, AllocFailed};
 use std::test::Fail;

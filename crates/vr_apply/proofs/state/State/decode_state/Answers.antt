@@ -15,5 +15,5 @@ returns-in_err-machine-clause-first c =
     rw (p.1, p.2) (inr (record {
       sessions = c.in_ok-sessions.sessions;
       read = record { spelled = sym (c.in_ok-sessions.ensures.text ∙ c.as_slice.ensures); no_more = held.few; ascending = held.is_map; fitting = held.fit };
-      first = rw (← c.as_slice-2.ensures) c.in_err-machine.ensures.first
+      first = rw (← c.as_slice-2.ensures) c.in_err-machine.ensures.first;
     }))
