@@ -1,6 +1,7 @@
 #!/bin/sh
 # Instructions of one apply (check, the machine's apply, the sessions' apply), over a million applies of four clients on
-# 128 keys, and of the same in plain Rust with std's BTreeMap. Needs valgrind, and rustc for the second.
+# 128 keys, and of the same in plain Rust with std's BTreeMap; instructions, bytes and allocations of one encoding of a
+# full state. Needs valgrind, and rustc for the second.
 set -eu
 top=$(cd "$(dirname "$0")/.." && pwd)
 work=$(mktemp -d)
@@ -15,7 +16,7 @@ cp -r "$top/bench/apply" "$work/crates/apply_bench"
 find "$work/crates/apply_bench" -name '*.txt' | while read -r file; do mv "$file" "${file%.txt}"; done
 rm "$work/crates/apply_bench/plain.rs"
 grep -E '^(vr_base|vr_header|vr_table|vr_kv|vr_sess|vr_apply):' "$top/crates.txt" > "$work/crates.txt"
-echo 'apply_bench: vr_header vr_sess vr_kv vr_apply' >> "$work/crates.txt"
+echo 'apply_bench: vr_base vr_header vr_sess vr_kv vr_apply' >> "$work/crates.txt"
 (cd "$work/crates/apply_bench" && rt run --jobs 1)
 rustc -O -o "$work/plain" "$top/bench/apply/plain.rs"
 # Instructions of a run of so many applies.
@@ -23,8 +24,18 @@ count() {
     valgrind --tool=callgrind --callgrind-out-file=/dev/null "$@" 2>&1 > /dev/null |
         awk '/Collected/ { print $NF }'
 }
-for program in "$work/crates/apply_bench/out/apply_bench" "$work/plain"; do
+ours=$work/crates/apply_bench/out/apply_bench
+for program in "$ours" "$work/plain"; do
     none=$(count "$program" 0)
     all=$(count "$program" 1000000)
     echo "$(basename "$program"): $(((all - none) / 1000000)) instructions per apply"
 done
+# Allocations of a run of so many encodings.
+allocations() {
+    valgrind --tool=memcheck "$ours" 0 "$1" 2>&1 > /dev/null | tr -d , | awk '/total heap usage/ { print $5 }'
+}
+none=$(count "$ours" 0 0)
+all=$(count "$ours" 0 10)
+before=$(allocations 0)
+after=$(allocations 10)
+echo "an encoding of a full state: $(((all - none) / 10)) instructions, $(((after - before) / 10)) allocations, $("$ours" 0 1 | cut -d' ' -f2) bytes"

@@ -76,13 +76,13 @@ answer_at entries k =
     let s = state_after (take (k - 1) entries) in
     option_map (λ e. record { client = e.header.client; request = e.header.request; answer = check s e; outcome = fresh_outcome s e (check s e) }) (slice_get entries (k - 1))
 
--- what want of memory leaves: the sessions as they were, and the machine as it was or changed
-pub record LeavesOneTable (old new : State) (e : Whole) : Type 0 where
-  pub sessions : new.sessions ≡ old.sessions
-  pub machine : (new.machine ≡ old.machine) ⊎ (new.machine ≡ (kv.applied old.machine e.operation).machine)
-
 abbrev pub fresh_at : State → Whole → Bool
 fresh_at s e = is_fresh (check s e)
+
+-- what want of memory leaves: the sessions as they were, and the machine as it was or, of a fresh entry, changed
+pub record LeavesOneTable (old new : State) (e : Whole) : Type 0 where
+  pub sessions : new.sessions ≡ old.sessions
+  pub machine : (new.machine ≡ old.machine) ⊎ (IsTrue (fresh_at old e) × (new.machine ≡ (kv.applied old.machine e.operation).machine))
 
 -- one of these entries, from this state on, is a fresh register of this client: a session of it begins
 unfoldable pub begins_session : ℕ → State → List Whole → Bool

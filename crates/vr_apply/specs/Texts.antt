@@ -1,7 +1,11 @@
 -- The two texts of a state.
-use Rattle.std.specs.Prelude.{ℕ, ◌+◌, ◌/◌, ◌≤◌, length, Result, Ok, Err}
-use Rattle.vr_kv.specs.Pairs.{kv_text, kv_decoded}
-use Rattle.vr_sess.specs.Texts.{sessions_text, sessions_decoded}
+use Rattle.std.specs.Prelude.{ℕ, ◌+◌, ◌/◌, ◌≤◌, ◌⊎◌, length, Result, Ok, Err}
+use Rattle.std.specs.Ordering.{nat_cmp}
+use Rattle.vr_kv.specs.Pairs.{pair_text, kv_text, kv_decoded}
+use Rattle.vr_kv.specs.Pairs as pairs
+use Rattle.vr_sess.specs.Texts.{session_text, sessions_text, sessions_decoded}
+use Rattle.vr_table.specs.Finite.{byte_order}
+use Rattle.vr_table.specs.Table.{IsTextOf, IsFirstFault}
 use Rattle.vr_table.specs.declared.fault.StateFault.{StateFault}
 use Rattle.vr_kv.specs.Kv as kv
 use Rattle.vr_sess.specs.Sessions as sess
@@ -20,6 +24,16 @@ both_read (Ok sessions) (Ok machine) = Ok (record { sessions = sessions; machine
 -- the state of these texts, or the first fault
 abbrev pub state_decoded : Texts → Result State StateFault
 state_decoded t = both_read (sessions_decoded t.sessions) (kv_decoded t.keys)
+
+-- the sessions' text is one, and the fault is the first of the keys'
+pub record IsFaultOfKeys (t : Texts) (fault : StateFault) : Type 0 where
+  pub sessions : sess.Map
+  pub read : IsTextOf nat_cmp session_text sess.Fits 32 t.sessions sessions
+  pub first : IsFirstFault byte_order pair_text pairs.Fits 128 t.keys fault
+
+-- the fault is the first of the sessions' text, or else of the keys'
+abbrev pub IsFirstFaultOf : Texts → StateFault → Type 0
+IsFirstFaultOf t fault = IsFirstFault nat_cmp session_text sess.Fits 32 t.sessions fault ⊎ IsFaultOfKeys t fault
 
 -- so many payloads of 3,968 bytes hold a text of this length
 abbrev pub payloads : ℕ → ℕ

@@ -6,12 +6,13 @@ ghost use Rattle.vr_kv.specs.Kv.{IsKv};
 ghost use Rattle.vr_sess.specs.Sessions.{checked, IsSessions};
 ghost use Rattle.vr_table.specs.Table.{IsOrNoMemory};
 ghost use Rattle.vr_apply.specs.Folds.{empty, applied, executed, answered, state_after, LeavesOneTable, EachOnce};
-ghost use Rattle.vr_apply.specs.Texts.{texts_of, state_decoded, FitsPayloads};
+ghost use Rattle.vr_apply.specs.Texts.{texts_of, state_decoded, IsFirstFaultOf, FitsPayloads};
 ghost use Rattle.vr_apply.specs.declared.state.State.{State};
 
 use crate::codec::Texts;
 use crate::reply::ReplyBody;
-use std::alloc::{AllocError, Global};
+use std::alloc::Global;
+use vr_base::NoMemory;
 use vr_header::{Entry, Operation};
 use vr_kv::Kv;
 use vr_sess::{SessionAnswer, Sessions};
@@ -36,15 +37,15 @@ impl State {
     }
 
     /// What a request is to the sessions.
-    pub fn check(&self, client: u64, request: u32) -> Result<SessionAnswer, AllocError>
+    pub fn check(&self, client: u64, request: u32) -> Result<SessionAnswer, NoMemory>
         ensures { IfOk result (λ answer. answer ≡ checked self.now.sessions client request) }
     {
         self.sessions.check(client, request)
     }
 
     /// Applies an entry: where its request is fresh, its operation changes the machine and the outcome is stored; else
-    /// nothing changes. After an `Err`, want of memory, the machine alone may have changed.
-    pub fn apply(&mut self, entry: &Entry) -> Result<ReplyBody, AllocError>
+    /// nothing changes. After an `Err`, want of memory, the machine alone may have changed, by a fresh request's operation.
+    pub fn apply(&mut self, entry: &Entry) -> Result<ReplyBody, NoMemory>
         ensures reply { IfOk result (λ reply. reply ≡ (applied self.old entry.now).reply) }
         ensures state { IfOk result (λ _. self.new ≡ (applied self.old entry.now).state) }
         ensures fold { (before : List Whole) → self.old ≡ state_after before → IfOk result (λ _. self.new ≡ state_after (before ++ entry.now ∷ [])) }
@@ -56,7 +57,7 @@ impl State {
     }
 
     #[tactic(auto, unfolding(crate::specs::Folds::applied))]
-    fn take(&mut self, entry: &Entry) -> Result<ReplyBody, AllocError>
+    fn take(&mut self, entry: &Entry) -> Result<ReplyBody, NoMemory>
         ensures reply { IfOk result (λ reply. reply ≡ (applied self.old entry.now).reply) }
         ensures state { IfOk result (λ _. self.new ≡ (applied self.old entry.now).state) }
         ensures err { OnErr result (LeavesOneTable self.old self.new entry.now) }
@@ -68,7 +69,7 @@ impl State {
 
     /// What an entry gives to whose request the sessions answer this.
     #[tactic(auto, unfolding(crate::specs::Folds::answered))]
-    fn answer(&mut self, entry: &Entry, answer: SessionAnswer) -> Result<ReplyBody, AllocError>
+    fn answer(&mut self, entry: &Entry, answer: SessionAnswer) -> Result<ReplyBody, NoMemory>
         requires { answer ≡ checked self.old.sessions entry.now.header.client entry.now.header.request }
         ensures reply { IfOk result (λ reply. reply ≡ (answered self.old entry.now answer).reply) }
         ensures state { IfOk result (λ _. self.new ≡ (answered self.old entry.now answer).state) }
@@ -85,7 +86,7 @@ impl State {
 
     /// Applies an entry whose request is fresh.
     #[tactic(auto, unfolding(crate::specs::Folds::executed))]
-    fn execute(&mut self, entry: &Entry) -> Result<ReplyBody, AllocError>
+    fn execute(&mut self, entry: &Entry) -> Result<ReplyBody, NoMemory>
         requires { checked self.old.sessions entry.now.header.client entry.now.header.request ≡ SessionAnswer.Fresh }
         ensures reply { IfOk result (λ reply. reply ≡ (executed self.old entry.now).reply) }
         ensures state { IfOk result (λ _. self.new ≡ (executed self.old entry.now).state) }
@@ -99,7 +100,7 @@ impl State {
     }
 
     /// The two texts of this state, apart.
-    pub fn encode_state(&self) -> Result<Texts, AllocError>
+    pub fn encode_state(&self) -> Result<Texts, NoMemory>
         ensures texts { IfOk result (λ texts. texts ≡ texts_of self.now) }
         ensures size { IfOk result (λ texts. length texts.sessions + length texts.keys ≤ 173156) }
         ensures payloads { IfOk result FitsPayloads }
@@ -116,8 +117,10 @@ impl State {
         ensures decoded { IfOk result (λ state. state_decoded texts.now ≡ Ok state) }
         ensures texts { IfOk result (λ state. texts_of state ≡ texts.now) }
         ensures fault { IfErr result (IsOrNoMemory (state_decoded texts.now)) }
+        ensures first { IfErr result (IsFirstFaultOf texts.now) }
     {
         let sessions = Sessions::decode_state(alloc, texts.sessions.as_slice())?;
+        let _held = sessions.len();
         let machine = Kv::decode_state(alloc, texts.keys.as_slice())?;
         Ok(State { sessions, machine })
     }

@@ -1,7 +1,8 @@
 use crate::{
-    ByteList, Seq, checksum, checksum_of_parts, put_sum, put_u16, put_u32, put_u64, quorums,
-    sum_at, u16_at, u32_at, u64_at,
+    ByteList, NoMemory, Seq, checksum, checksum_of_parts, put_sum, put_u16, put_u32, put_u64,
+    quorums, sum_at, u16_at, u32_at, u64_at,
 };
+use std::alloc::{AllocError, AllocFailed};
 use std::test::Fail;
 
 #[test]
@@ -45,4 +46,12 @@ fn copy_of(rt: &HostRuntime) -> Result<Vec<u8>, Fail> {
     let mut bytes = Vec::new(rt.alloc());
     bytes.push(7)?;
     Ok(bytes)
+}
+
+#[test]
+fn want_of_memory_says_so(rt: HostRuntime) -> Result<(), Fail> {
+    let at_item = NoMemory::from(AllocFailed { value: 7u8 });
+    assert_eq!(rt; at_item, NoMemory::from(AllocError));
+    assert_eq!(rt; at_item.to_string(rt.alloc())?.as_str(), "no memory");
+    Ok(())
 }

@@ -3,15 +3,15 @@ ghost use Rattle.std.specs.Prelude.{◌≡◌, ◌≤◌, length, IfOk};
 ghost use Rattle.vr_kv.specs.Pairs.{kv_text};
 
 use crate::pair::{Pair, write_pair};
-use std::alloc::{AllocError, Global};
-use vr_base::ByteList;
+use std::alloc::Global;
+use vr_base::{ByteList, NoMemory};
 
 /// The most bytes of a pair's text: both lengths, the key, the value.
 const PAIR_BYTES: usize = 3 + 64 + 1024;
 
 /// The text of these pairs.
 #[tactic(auto, using(std::proofs::lemmas::Grind::common_steps, crate::proofs::Texts::pairs_text_more, crate::proofs::Texts::pairs_text_all), unfolding(vr_table::specs::Table::table_text, vr_base::specs::Bytes::bytes16))]
-pub fn encode_pairs(alloc: Global, pairs: &[Pair]) -> Result<ByteList, AllocError>
+pub fn encode_pairs(alloc: Global, pairs: &[Pair]) -> Result<ByteList, NoMemory>
     requires { length pairs.now ≤ 128 }
     ensures { IfOk result (λ text. text ≡ kv_text pairs.now) }
 {

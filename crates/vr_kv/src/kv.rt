@@ -11,9 +11,9 @@ ghost use Rattle.vr_table.specs.Table.{IsOrNoMemory, IsFirstFault};
 use crate::decode::read_pairs;
 use crate::encode::encode_pairs;
 use crate::pair::{Pair, new_pair};
-use std::alloc::{AllocError, Global};
+use std::alloc::Global;
 use std::marker::Model;
-use vr_base::ByteList;
+use vr_base::{ByteList, NoMemory};
 use vr_header::{Key, Operation, Outcome, Value};
 use vr_table::StateFault;
 
@@ -58,7 +58,7 @@ impl Kv {
 
     /// Applies an operation. A put of a new key is `Full` exactly where 128 keys are there, and then changes nothing;
     /// a get or a delete is `Absent` exactly where the key isn't there. An `Err` is want of memory, and changes nothing.
-    pub fn apply(&mut self, operation: &Operation) -> Result<Outcome, AllocError>
+    pub fn apply(&mut self, operation: &Operation) -> Result<Outcome, NoMemory>
         ensures outcome { IfOk result (λ outcome. outcome ≡ (applied self.old operation.now).outcome) }
         ensures machine { IfOk result (λ _. self.new ≡ (applied self.old operation.now).machine) }
         ensures meaning { IfOk result (λ outcome. Means self.old operation.now outcome self.new) }
@@ -71,7 +71,7 @@ impl Kv {
     }
 
     #[tactic(auto, unfolding(crate::specs::Kv::applied, crate::specs::Kv::getting))]
-    fn change(&mut self, operation: &Operation) -> Result<Outcome, AllocError>
+    fn change(&mut self, operation: &Operation) -> Result<Outcome, NoMemory>
         ensures outcome { IfOk result (λ outcome. outcome ≡ (applied self.old operation.now).outcome) }
         ensures machine { IfOk result (λ _. self.new ≡ (applied self.old operation.now).machine) }
         ensures err { OnErr result (self.new ≡ self.old) }
@@ -86,7 +86,7 @@ impl Kv {
 
     /// The text of this machine, of at most 139,650 bytes: how many keys, in two bytes, and for each key in byte order
     /// its length in one byte, its value's in two, the key, the value. It is made in one pass with one allocation.
-    pub fn encode_state(&self) -> Result<ByteList, AllocError>
+    pub fn encode_state(&self) -> Result<ByteList, NoMemory>
         ensures text { IfOk result (λ text. text ≡ kv_text self.now) }
         ensures length { IfOk result (λ text. length text ≤ 139650) }
         ensures back { IfOk result (λ text. kv_decoded text ≡ Ok self.now) }
@@ -106,7 +106,7 @@ impl Kv {
         Ok(Kv { alloc, pairs })
     }
 
-    fn put(&mut self, key: &Key, value: &Value) -> Result<Outcome, AllocError>
+    fn put(&mut self, key: &Key, value: &Value) -> Result<Outcome, NoMemory>
         ensures outcome { IfOk result (λ outcome. outcome ≡ (putting self.old key.now value.now).outcome) }
         ensures machine { IfOk result (λ _. self.new ≡ (putting self.old key.now value.now).machine) }
         ensures err { OnErr result (self.new ≡ self.old) }
@@ -117,7 +117,7 @@ impl Kv {
         }
     }
 
-    fn get(&self, key: &Key) -> Result<Outcome, AllocError>
+    fn get(&self, key: &Key) -> Result<Outcome, NoMemory>
         ensures { IfOk result (λ outcome. outcome ≡ (getting self.now key.now).outcome) }
     {
         match self.search(key) {
@@ -140,7 +140,7 @@ impl Kv {
     }
 
     /// Gives the key at this place a new value.
-    fn replace(&mut self, at: usize, key: &Key, value: &Value) -> Result<Outcome, AllocError>
+    fn replace(&mut self, at: usize, key: &Key, value: &Value) -> Result<Outcome, NoMemory>
         requires { IsAt byte_order key.now self.old at }
         ensures outcome { IfOk result (λ outcome. outcome ≡ (putting self.old key.now value.now).outcome) }
         ensures machine { IfOk result (λ _. self.new ≡ (putting self.old key.now value.now).machine) }
@@ -152,7 +152,7 @@ impl Kv {
     }
 
     /// Puts a new key into this gap, if there is room.
-    fn insert(&mut self, at: usize, key: &Key, value: &Value) -> Result<Outcome, AllocError>
+    fn insert(&mut self, at: usize, key: &Key, value: &Value) -> Result<Outcome, NoMemory>
         requires { IsGap byte_order key.now self.old at }
         ensures outcome { IfOk result (λ outcome. outcome ≡ (putting self.old key.now value.now).outcome) }
         ensures machine { IfOk result (λ _. self.new ≡ (putting self.old key.now value.now).machine) }

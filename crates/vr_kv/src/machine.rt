@@ -3,8 +3,8 @@ ghost use Rattle.std.specs.Prelude.{◌≡◌, Ok, IfOk, IfErr, OnErr};
 ghost use Rattle.vr_table.specs.Table.{IsOrNoMemory};
 
 use crate::Kv;
-use std::alloc::{AllocError, Global};
-use vr_base::ByteList;
+use std::alloc::Global;
+use vr_base::{ByteList, NoMemory};
 use vr_header::{Operation, Outcome};
 use vr_table::StateFault;
 
@@ -25,13 +25,13 @@ pub trait Machine: Sized {
     ghost decoded: { List ℕ → Result Self StateFault };
 
     /// Each operation has an outcome at each state. An `Err` is want of memory, and changes nothing.
-    fn apply(&mut self, operation: &Operation) -> Result<Outcome, AllocError>
+    fn apply(&mut self, operation: &Operation) -> Result<Outcome, NoMemory>
         ensures outcome { IfOk result (λ outcome. outcome ≡ answer self.old operation.now) }
         ensures state { IfOk result (λ _. self.new ≡ after self.old operation.now) }
         ensures err { OnErr result (self.new ≡ self.old) };
 
     /// The text of this state, and of no other: what is decoded from it is this state.
-    fn encode_state(&self) -> Result<ByteList, AllocError>
+    fn encode_state(&self) -> Result<ByteList, NoMemory>
         ensures text { IfOk result (λ bytes. bytes ≡ text self.now) }
         ensures back { IfOk result (λ bytes. decoded bytes ≡ Ok self.now) };
 
@@ -54,11 +54,11 @@ impl Machine for Kv {
 
     ghost decoded = { kv_decoded };
 
-    fn apply(&mut self, operation: &Operation) -> Result<Outcome, AllocError> {
+    fn apply(&mut self, operation: &Operation) -> Result<Outcome, NoMemory> {
         Kv::apply(self, operation)
     }
 
-    fn encode_state(&self) -> Result<ByteList, AllocError> {
+    fn encode_state(&self) -> Result<ByteList, NoMemory> {
         Kv::encode_state(self)
     }
 

@@ -4,8 +4,8 @@ ghost use Rattle.std.specs.Option.{option_map};
 ghost use Rattle.vr_header.specs.Text.{is_text};
 ghost use Rattle.vr_kv.specs.Pairs.{pair_text, pieces_from, pair_from};
 
-use std::alloc::{AllocError, Global};
-use vr_base::ByteList;
+use std::alloc::Global;
+use vr_base::{ByteList, NoMemory};
 use vr_header::{Key, Value};
 use vr_table::{split_byte, split_piece, split_u16};
 
@@ -36,7 +36,7 @@ fn split_pair(bytes: &[u8]) -> Option<RawPair<'_>>
 
 /// The pair at the front and the bytes behind it, `None` exactly where the bytes don't begin with a pair.
 #[tactic(auto, unfolding(crate::specs::Pairs::pair_from))]
-pub fn read_pair(alloc: Global, bytes: &[u8]) -> Result<Option<(Pair, &[u8])>, AllocError>
+pub fn read_pair(alloc: Global, bytes: &[u8]) -> Result<Option<(Pair, &[u8])>, NoMemory>
     ensures { IfOk result (λ r. option_map (λ p. (p.0, p.1.now)) r ≡ pair_from bytes.now) }
 {
     let Some(raw) = split_pair(bytes) else {
@@ -53,7 +53,7 @@ pub fn read_pair(alloc: Global, bytes: &[u8]) -> Result<Option<(Pair, &[u8])>, A
 
 /// Adds the bytes of a pair at the end.
 #[tactic(auto, using(std::proofs::lemmas::Grind::common_steps, crate::proofs::Texts::key_length, crate::proofs::Texts::value_length), unfolding(crate::specs::Pairs::pair_text, vr_base::specs::Bytes::bytes16))]
-pub fn write_pair(text: &mut ByteList, pair: &Pair) -> Result<(), AllocError>
+pub fn write_pair(text: &mut ByteList, pair: &Pair) -> Result<(), NoMemory>
     ensures { OnOk result (text.new ≡ text.old ++ pair_text pair.now) }
 {
     let key = pair.0.as_slice();
@@ -61,11 +61,12 @@ pub fn write_pair(text: &mut ByteList, pair: &Pair) -> Result<(), AllocError>
     text.push(key.len() as u8)?;
     text.extend(&(value.len() as u16).to_be_bytes())?;
     text.extend(key)?;
-    text.extend(value)
+    text.extend(value)?;
+    Ok(())
 }
 
 /// A pair of its own, of a key and a value that are texts.
-pub fn new_pair(alloc: Global, key: &[u8], value: &[u8]) -> Result<Pair, AllocError>
+pub fn new_pair(alloc: Global, key: &[u8], value: &[u8]) -> Result<Pair, NoMemory>
     requires key { IsTrue (is_text 64 key.now) }
     requires value { IsTrue (is_text 1024 value.now) }
     ensures { IfOk result (λ pair. pair ≡ (key.now, value.now)) }

@@ -7,8 +7,8 @@ ghost use Rattle.vr_sess.specs.Texts.{session_from, sessions_text, sessions_deco
 
 use crate::table::{Table, follows, push};
 use crate::text::{read_session, write_session};
-use std::alloc::{AllocError, Global};
-use vr_base::ByteList;
+use std::alloc::Global;
+use vr_base::{ByteList, NoMemory};
 use vr_table::{StateFault, split_count};
 
 /// The most bytes of a session's text: client, request, op, and an outcome with the longest value.
@@ -16,7 +16,7 @@ const SESSION_BYTES: usize = 8 + 4 + 8 + 3 + 1024;
 
 /// The text of these sessions.
 #[tactic(auto, using(std::proofs::lemmas::Grind::common_steps), unfolding(vr_table::specs::Table::table_text, vr_base::specs::Bytes::bytes16))]
-pub fn encode_table(alloc: Global, table: &Table) -> Result<ByteList, AllocError>
+pub fn encode_table(alloc: Global, table: &Table) -> Result<ByteList, NoMemory>
     requires { length table.now.entries ≤ 32 }
     ensures { IfOk result (λ text. text ≡ sessions_text table.now.entries) }
 {

@@ -2,7 +2,8 @@
 ghost use Rattle.std.specs.Prelude.{◌≡◌, IfOk};
 ghost use Rattle.vr_sess.specs.Sessions.{judged, OutcomeFits};
 
-use std::alloc::{AllocError, Global};
+use std::alloc::Global;
+use vr_base::NoMemory;
 use vr_header::{Outcome, Value};
 
 /// What is kept of a client: its last request that was executed.
@@ -31,7 +32,7 @@ pub enum SessionAnswer {
 }
 
 /// What a request is to the session of its client.
-pub fn judge(alloc: Global, session: &Session, request: u32) -> Result<SessionAnswer, AllocError>
+pub fn judge(alloc: Global, session: &Session, request: u32) -> Result<SessionAnswer, NoMemory>
     ensures { IfOk result (λ answer. answer ≡ judged request session.now) }
 {
     if request == session.number {
@@ -53,7 +54,7 @@ pub fn new_session(
     op: u64,
     number: u32,
     outcome: &Outcome,
-) -> Result<Session, AllocError>
+) -> Result<Session, NoMemory>
     ensures session { IfOk result (λ s. s ≡ record { number = number; op = op; outcome = outcome.now }) }
     ensures fits { IfOk result (λ _. OutcomeFits outcome.now) }
 {
@@ -65,7 +66,7 @@ pub fn new_session(
     })
 }
 
-fn copied(alloc: Global, outcome: &Outcome) -> Result<Outcome, AllocError>
+fn copied(alloc: Global, outcome: &Outcome) -> Result<Outcome, NoMemory>
     ensures copy { IfOk result (λ copy. copy ≡ outcome.now) }
     ensures fits { IfOk result (λ _. OutcomeFits outcome.now) }
 {

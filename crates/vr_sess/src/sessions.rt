@@ -10,9 +10,9 @@ ghost use Rattle.vr_sess.specs.Texts.{session_text, sessions_text, sessions_deco
 use crate::codec::{encode_table, read_table};
 use crate::session::{Session, SessionAnswer, judge, new_session};
 use crate::table::{Table, insert, oldest, remove};
-use std::alloc::{AllocError, Global};
+use std::alloc::Global;
 use std::marker::Model;
-use vr_base::ByteList;
+use vr_base::{ByteList, NoMemory};
 use vr_header::Outcome;
 use vr_table::StateFault;
 
@@ -59,7 +59,7 @@ impl Sessions {
     /// op, a lower one `Old`, q + 1 `Fresh`, a higher one `Gap`; without a session number 0 is `Fresh` and any other
     /// `Evicted`.
     #[tactic(auto, using(crate::proofs::Lookups::lookup_is_find), unfolding(crate::specs::Sessions::checked))]
-    pub fn check(&self, client: u64, request: u32) -> Result<SessionAnswer, AllocError>
+    pub fn check(&self, client: u64, request: u32) -> Result<SessionAnswer, NoMemory>
         ensures { IfOk result (λ answer. answer ≡ checked self.now client request) }
     {
         match self.table.get(&client) {
@@ -82,7 +82,7 @@ impl Sessions {
         client: u64,
         request: u32,
         outcome: &Outcome,
-    ) -> Result<(), AllocError>
+    ) -> Result<(), NoMemory>
         requires { checked self.old client request ≡ SessionAnswer.Fresh }
         ensures ok { OnOk result (self.new ≡ applied self.old (record { op = op; client = client; request = request; outcome = outcome.now })) }
         ensures effect { OnOk result (Effect self.old self.new (record { op = op; client = client; request = request; outcome = outcome.now })) }
@@ -101,7 +101,7 @@ impl Sessions {
         client: u64,
         request: u32,
         outcome: &Outcome,
-    ) -> Result<(), AllocError>
+    ) -> Result<(), NoMemory>
         ensures fits { OnOk result (OutcomeFits outcome.now) }
         ensures ok { OnOk result (self.new ≡ applied self.old (record { op = op; client = client; request = request; outcome = outcome.now })) }
         ensures err { OnErr result (self.new ≡ self.old) }
@@ -128,7 +128,7 @@ impl Sessions {
     /// The text of these sessions, of at most 33,506 bytes: how many, in two bytes, and for each by ascending clients the
     /// client in eight bytes, the request in four, the op in eight, the outcome. It is made in one pass with one
     /// allocation.
-    pub fn encode_state(&self) -> Result<ByteList, AllocError>
+    pub fn encode_state(&self) -> Result<ByteList, NoMemory>
         ensures text { IfOk result (λ text. text ≡ sessions_text self.now) }
         ensures length { IfOk result (λ text. length text ≤ 33506) }
         ensures back { IfOk result (λ text. sessions_decoded text ≡ Ok self.now) }

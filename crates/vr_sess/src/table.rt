@@ -7,13 +7,13 @@ ghost use Rattle.vr_sess.specs.declared.session.Session.{Session};
 
 use crate::Session;
 use indexmap::IndexMap;
-use std::alloc::AllocError;
+use vr_base::NoMemory;
 
 /// The clients with their sessions.
 pub type Table = IndexMap<u64, Session>;
 
 /// Gives the client this session.
-pub fn insert(table: &mut Table, client: u64, session: Session) -> Result<(), AllocError>
+pub fn insert(table: &mut Table, client: u64, session: Session) -> Result<(), NoMemory>
     requires { IsMap nat_cmp table.old.entries }
     ensures ok { OnOk result (table.new.entries ≡ put nat_cmp client session table.old.entries) }
     ensures err { OnErr result (table.new.entries ≡ table.old.entries) }
@@ -71,7 +71,7 @@ pub fn follows(table: &Table, client: u64) -> bool
 }
 
 /// Puts a client that stands above the last at the end.
-pub fn push(table: &mut Table, client: u64, session: Session) -> Result<(), AllocError>
+pub fn push(table: &mut Table, client: u64, session: Session) -> Result<(), NoMemory>
     requires { IsMap nat_cmp (table.old.entries ++ (client, session) ∷ []) }
     ensures ok { OnOk result (table.new.entries ≡ table.old.entries ++ (client, session) ∷ []) }
 {

@@ -5,14 +5,14 @@ ghost use Rattle.vr_header.specs.Bodies.{outcome_bytes};
 ghost use Rattle.vr_sess.specs.Texts.{session_text, value_from, outcome_of, outcome_from, numbers_from, session_from};
 
 use crate::Session;
-use std::alloc::{AllocError, Global};
-use vr_base::ByteList;
+use std::alloc::Global;
+use vr_base::{ByteList, NoMemory};
 use vr_header::{Outcome, Value};
 use vr_table::{split_byte, split_piece, split_u16, split_u32, split_u64};
 
 /// Adds the bytes of a client's session at the end.
 
-pub fn write_session(text: &mut ByteList, client: u64, session: &Session) -> Result<(), AllocError>
+pub fn write_session(text: &mut ByteList, client: u64, session: &Session) -> Result<(), NoMemory>
     ensures { OnOk result (text.new ≡ text.old ++ session_text (client, session.now)) }
 {
     text.extend(&client.to_be_bytes())?;
@@ -23,26 +23,28 @@ pub fn write_session(text: &mut ByteList, client: u64, session: &Session) -> Res
 }
 
 #[tactic(auto, using(std::proofs::lemmas::Grind::common_steps), unfolding(vr_header::specs::Bodies::outcome_bytes))]
-fn write_outcome(text: &mut ByteList, outcome: &Outcome) -> Result<(), AllocError>
+fn write_outcome(text: &mut ByteList, outcome: &Outcome) -> Result<(), NoMemory>
     ensures { OnOk result (text.new ≡ text.old ++ outcome_bytes outcome.now) }
 {
     match outcome {
-        Outcome::Session => text.push(1),
-        Outcome::Ok => text.push(2),
-        Outcome::Full => text.push(3),
-        Outcome::Absent => text.push(4),
-        Outcome::Value(value) => write_value(text, value),
+        Outcome::Session => text.push(1)?,
+        Outcome::Ok => text.push(2)?,
+        Outcome::Full => text.push(3)?,
+        Outcome::Absent => text.push(4)?,
+        Outcome::Value(value) => write_value(text, value)?,
     }
+    Ok(())
 }
 
 #[tactic(auto, using(std::proofs::lemmas::Grind::common_steps, crate::proofs::Values::value_length), unfolding(vr_header::specs::Bodies::outcome_bytes, vr_base::specs::Bytes::bytes16))]
-fn write_value(text: &mut ByteList, value: &Value) -> Result<(), AllocError>
+fn write_value(text: &mut ByteList, value: &Value) -> Result<(), NoMemory>
     ensures { OnOk result (text.new ≡ text.old ++ outcome_bytes (Outcome.Value value.now)) }
 {
     let bytes = value.as_slice();
     text.push(5)?;
     text.extend(&(bytes.len() as u16).to_be_bytes())?;
-    text.extend(bytes)
+    text.extend(bytes)?;
+    Ok(())
 }
 
 /// A client, a request and an op, and the bytes behind them.
@@ -75,7 +77,7 @@ fn split_numbers(bytes: &[u8]) -> Option<Numbers<'_>>
 pub fn read_session(
     alloc: Global,
     bytes: &[u8],
-) -> Result<Option<((u64, Session), &[u8])>, AllocError>
+) -> Result<Option<((u64, Session), &[u8])>, NoMemory>
     ensures { IfOk result (λ r. option_map (λ p. (p.0, p.1.now)) r ≡ session_from bytes.now) }
 {
     let Some(numbers) = split_numbers(bytes) else {
@@ -93,7 +95,7 @@ pub fn read_session(
 }
 
 #[tactic(auto, unfolding(crate::specs::Texts::outcome_from))]
-fn read_outcome(alloc: Global, bytes: &[u8]) -> Result<Option<(Outcome, &[u8])>, AllocError>
+fn read_outcome(alloc: Global, bytes: &[u8]) -> Result<Option<(Outcome, &[u8])>, NoMemory>
     ensures { IfOk result (λ r. option_map (λ p. (p.0, p.1.now)) r ≡ outcome_from bytes.now) }
 {
     let Some((kind, rest)) = split_byte(bytes) else {
@@ -104,7 +106,7 @@ fn read_outcome(alloc: Global, bytes: &[u8]) -> Result<Option<(Outcome, &[u8])>,
 
 /// The outcome of this kind whose value, if it has one, is at the front.
 #[tactic(auto, unfolding(crate::specs::Texts::outcome_of))]
-fn read_kind(alloc: Global, kind: u8, rest: &[u8]) -> Result<Option<(Outcome, &[u8])>, AllocError>
+fn read_kind(alloc: Global, kind: u8, rest: &[u8]) -> Result<Option<(Outcome, &[u8])>, NoMemory>
     ensures { IfOk result (λ r. option_map (λ p. (p.0, p.1.now)) r ≡ outcome_of kind rest.now) }
 {
     match kind {
@@ -118,7 +120,7 @@ fn read_kind(alloc: Global, kind: u8, rest: &[u8]) -> Result<Option<(Outcome, &[
 }
 
 #[tactic(auto, unfolding(crate::specs::Texts::value_from))]
-fn read_value(alloc: Global, bytes: &[u8]) -> Result<Option<(Outcome, &[u8])>, AllocError>
+fn read_value(alloc: Global, bytes: &[u8]) -> Result<Option<(Outcome, &[u8])>, NoMemory>
     ensures { IfOk result (λ r. option_map (λ p. (p.0, p.1.now)) r ≡ value_from bytes.now) }
 {
     let Some((length, rest)) = split_u16(bytes) else {

@@ -1,6 +1,7 @@
 //! Why a text is no table.
 
 use std::alloc::AllocError;
+use vr_base::NoMemory;
 
 /// Why bytes were not read as a table: the first fault from the front, or want of memory.
 ///
@@ -24,6 +25,17 @@ impl From<AllocError> for StateFault {
     ghost from_gives = { λ _ fault. fault ≡ NoMemory };
 
     fn from(_: AllocError) -> StateFault {
+        StateFault::NoMemory
+    }
+}
+
+impl From<NoMemory> for StateFault {
+    ghost use Rattle.std.specs.Prelude.{◌≡◌};
+    ghost use Rattle.vr_table.specs.declared.fault.StateFault.TheVariants.{NoMemory};
+
+    ghost from_gives = { λ _ fault. fault ≡ NoMemory };
+
+    fn from(_: NoMemory) -> StateFault {
         StateFault::NoMemory
     }
 }
