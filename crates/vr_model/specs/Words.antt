@@ -4,8 +4,7 @@ use Rattle.std.specs.List.{range_with_len, filter, prefix_len, list_any}
 use Rattle.std.specs.Option.{option_map, option_map_or}
 use Rattle.vr_base.specs.declared.replicas.Replicas.{Replicas}
 use Rattle.vr_base.specs.declared.sum.Sum.{Sum}
-use Rattle.vr_base.specs.Groups.{quorums_of}
-use Rattle.vr_base.specs.Replicas.{no_replicas, with_replica, size}
+use Rattle.vr_base.specs.Replicas.{no_replicas, with_replica}
 use Rattle.vr_header.specs.declared.header.Header.{Header}
 use Rattle.vr_header.specs.Made.{Whole, IsEntry}
 use Rattle.vr_header.specs.Names.{name_by, root_by}
@@ -16,7 +15,7 @@ use Rattle.vr_msg.specs.declared.output.Output.TheVariants as output
 use Rattle.vr_msg.specs.declared.reply.ReplyKind.{ReplyKind}
 use Rattle.vr_msg.specs.declared.reply.ReplyKind.TheVariants as reply
 use Rattle.vr_msg.specs.declared.summary.Named.{Named}
-use Rattle.vr_msg.specs.Normal.{primary}
+use Rattle.vr_msg.specs.Normal.{primary, advanced_to}
 use Rattle.vr_apply.specs.Folds as state
 use Rattle.vr_apply.specs.declared.reply.ReplyBody.{ReplyBody}
 use Rattle.vr_apply.specs.declared.reply.ReplyBody.TheVariants as body
@@ -38,9 +37,6 @@ head_header hash m = option_map_or (λ e. e.header) (entry_at m (head m)) (root_
 
 abbrev pub is_primary : Memory → Bool
 is_primary m = m.view == m.log_view && m.index == primary m.n m.view
-
-abbrev pub replication : ℕ → ℕ
-replication n = option_map_or (λ q. q.replication) (quorums_of n) 0
 
 -- ---- outputs
 
@@ -126,13 +122,6 @@ unfoldable pub learn : ℕ → Word
 learn c = change (learned c) ⨾ apply
 
 -- Advance: the commit number rises over the ops that a replication quorum has, the primary itself counted
-
--- of the replicas that have acknowledged an op to the replica of this index
-abbrev pub has_quorum : ℕ → ℕ → Replicas → Bool
-has_quorum index n ackers = nat_le (replication n) (size (with_replica ackers index))
-
-unfoldable pub advanced_to : ℕ → ℕ → ℕ → List Replicas → ℕ
-advanced_to index n commit acks = commit + prefix_len (has_quorum index n) (drop commit acks)
 
 unfoldable pub advanced : Memory → Memory
 advanced m = record m { commit = advanced_to m.index m.n m.commit m.acks }
