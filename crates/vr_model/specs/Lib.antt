@@ -2,3 +2,4 @@ pub mod Steps
 pub mod Words
 pub mod Rules
 pub mod World
+pub mod Sound

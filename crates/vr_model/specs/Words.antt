@@ -20,6 +20,7 @@ use Rattle.vr_apply.specs.Folds as state
 use Rattle.vr_apply.specs.declared.reply.ReplyBody.{ReplyBody}
 use Rattle.vr_apply.specs.declared.reply.ReplyBody.TheVariants as body
 use Rattle.vr_model.specs.declared.memory.Memory.{Memory}
+use Rattle.vr_model.specs.declared.named.Asker.{Asker}
 use Rattle.vr_model.specs.Steps.{Word, ◌⨾◌, quiet, change, says, by, times}
 
 -- ---- of a replica
@@ -34,6 +35,9 @@ entry_at m op = slice_get m.log (op - 1)
 -- what the next entry stands on
 abbrev pub head_header : (List ℕ → List ℕ) → Memory → Header
 head_header hash m = option_map_or (λ e. e.header) (entry_at m (head m)) (root_by hash m.cluster)
+
+abbrev pub named : (List ℕ → List ℕ) → Whole → Named
+named hash e = record { header = e.header; name = name_by hash e.header }
 
 abbrev pub is_primary : Memory → Bool
 is_primary m = m.view == m.log_view && m.index == primary m.n m.view
@@ -54,20 +58,15 @@ sends_to_all index n message = map (send index message) (others index n)
 unfoldable pub prepares : Whole → Memory → List Output
 prepares e m = sends_to_all m.index m.n (frame.Prepare (record { replica = m.index; view = m.view; commit = m.commit; entry = e }))
 
--- to the primary: an entry is stored
-unfoldable pub acknowledges : (List ℕ → List ℕ) → Whole → Memory → List Output
-acknowledges hash e m =
+-- to the primary: the entry of this header and name is stored
+unfoldable pub acknowledges : Named → Memory → List Output
+acknowledges k m =
     send m.index
-    (frame.PrepareOk (record { cluster = m.cluster; replica = m.index; view = m.view; op = e.header.op; name = name_by hash e.header; made = e.header.view }))
+    (frame.PrepareOk (record { cluster = m.cluster; replica = m.index; view = m.view; op = k.header.op; name = k.name; made = k.header.view }))
     (primary m.n m.view)
     ∷ []
 
--- what is replied to the request with this name
-pub record Asker : Type 0 where
-  pub client : ℕ
-  pub request : ℕ
-  pub name : Sum
-
+-- to a request
 abbrev pub replies : Asker → ReplyKind → Memory → List Output
 replies a kind m =
     output.Reply (record { cluster = m.cluster; replica = m.index; view = m.view; client = a.client; request = a.request; request_name = a.name; kind = kind })

@@ -6,4 +6,4 @@ mod memory;
 mod named;
 
 pub use memory::Memory;
-pub use named::NamedEntry;
+pub use named::{Asker, NamedEntry};

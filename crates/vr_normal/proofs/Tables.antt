@@ -1,8 +1,8 @@
 -- The first row that holds.
-use Rattle.std.proofs.Common.{ℕ, zero, suc, ◌<◌, ◌≡◌, refl, sym, ◌∙◌, arith, inl, inr, ◌⊎◌, Bool, true, false, cond, [], ◌∷◌}
+use Rattle.std.proofs.Common.{ℕ, zero, suc, ◌<◌, ◌≡◌, refl, arith, inl, inr, Bool, true, false, cond, [], ◌∷◌}
 use Rattle.vr_msg.specs.declared.summary.Decision.{Decision}
 use Rattle.vr_msg.specs.Normal.{Table, first_of}
-use Rattle.vr_normal.specs.Laws.{holds_at, decision_at, IsFirst, IsOfFirst, IsOfNone, Decides, FirstDecides}
+use Rattle.vr_normal.specs.Laws.{holds_at, decision_at, IsFirst, Decides}
 
 -- a row before the others
 first_here : (d : Decision) (rows : Table) → Decides ((true, d) ∷ rows) d

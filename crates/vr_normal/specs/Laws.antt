@@ -1,5 +1,5 @@
 -- A table decides by the first of its conditions that holds, and by no other.
-use Rattle.std.specs.Prelude.{ℕ, ◌<◌, ◌≡◌, ◌⊎◌, Bool, true, false, length, slice_get}
+use Rattle.std.specs.Prelude.{ℕ, ◌<◌, ◌≡◌, ◌⊎◌, Bool, true, false, slice_get}
 use Rattle.std.specs.Option.{option_map_or}
 use Rattle.vr_msg.specs.declared.summary.Decision.{Decision}
 use Rattle.vr_msg.specs.declared.summary.Decision.TheVariants as rule

@@ -1,6 +1,7 @@
 //! Prepares, and their acknowledgements.
-ghost use Rattle.std.specs.Prelude.{◌≡◌, ◌+◌, ◌-◌, ◌^◌, ◌<◌, ◌==◌, ◌&&◌, not, nat_lt, nat_le, is_some};
+ghost use Rattle.std.specs.Prelude.{◌≡◌, ◌+◌, ◌-◌, ◌^◌, ◌<◌, ◌≤◌, ◌==◌, ◌&&◌, true, not, nat_lt, nat_le, is_some};
 ghost use Rattle.vr_header.specs.Same.{same_header};
+ghost use Rattle.vr_msg.specs.declared.summary.Decision.TheVariants as rule;
 ghost use Rattle.vr_msg.specs.Normal.{on_prepare, on_prepare_ok, same_sum, is_known, is_named, is_from, is_started, leads, primary};
 
 use crate::state::{is_from, is_started, leads, primary};
@@ -42,7 +43,8 @@ fn is_named(name: &Sum, known: &Option<Named>) -> bool
 /// Whether the header is that of the op after the head, and stands on the head.
 fn is_next(s: &Summary, header: &Header) -> bool
     requires { s.now.head < 2 ^ 64 - 1 }
-    ensures { result ≡ (not (is_some s.now.known) && (header.now.op == s.now.head + 1 && same_sum header.now.parent s.now.head_name)) }
+    ensures next { result ≡ true → header.now.op ≡ s.now.head + 1 }
+    ensures value { result ≡ (not (is_some s.now.known) && (header.now.op == s.now.head + 1 && same_sum header.now.parent s.now.head_name)) }
 {
     s.known.is_none() && header.op == s.head + 1 && same_sum(&header.parent, &s.head_name)
 }
@@ -69,7 +71,8 @@ fn is_from_primary(s: &Summary, prepare: &Prepare) -> bool
 pub fn on_prepare(s: &Summary, prepare: &Prepare) -> Decision
     requires group { 0 < s.now.n }
     requires head { s.now.head < 2 ^ 64 - 1 }
-    ensures { result ≡ on_prepare s.now prepare.now }
+    ensures value { result ≡ on_prepare s.now prepare.now }
+    ensures next { result ≡ rule.Next → prepare.now.entry.header.op ≡ s.now.head + 1 }
 {
     let header = prepare.entry.header();
     if !is_from_primary(s, prepare) {
@@ -98,7 +101,8 @@ pub fn on_prepare(s: &Summary, prepare: &Prepare) -> Decision
 
 /// Whether an acknowledgement is of an op that isn't committed yet.
 fn is_open(s: &Summary, ack: &PrepareOk) -> bool
-    ensures { result ≡ (nat_lt s.now.commit ack.now.op && (nat_le ack.now.op s.now.head && is_named ack.now.name s.now.known)) }
+    ensures open { result ≡ true → (s.now.commit < ack.now.op) × (ack.now.op ≤ s.now.head) }
+    ensures value { result ≡ (nat_lt s.now.commit ack.now.op && (nat_le ack.now.op s.now.head && is_named ack.now.name s.now.known)) }
 {
     s.commit < ack.op && ack.op <= s.head && is_named(&ack.name, &s.known)
 }
@@ -107,7 +111,8 @@ fn is_open(s: &Summary, ack: &PrepareOk) -> bool
 #[tactic(auto, unfolding(vr_msg::specs::Normal::on_prepare_ok, vr_msg::specs::Normal::first_of))]
 pub fn on_prepare_ok(s: &Summary, ack: &PrepareOk) -> Decision
     requires group { 0 < s.now.n }
-    ensures { result ≡ on_prepare_ok s.now ack.now }
+    ensures value { result ≡ on_prepare_ok s.now ack.now }
+    ensures open { result ≡ rule.Counted → (s.now.commit < ack.now.op) × (ack.now.op ≤ s.now.head) }
 {
     if is_from(s, ack.cluster, ack.replica) && leads(s) && ack.view == s.view && is_open(s, ack) {
         return Decision::Counted;

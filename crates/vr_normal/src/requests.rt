@@ -1,5 +1,6 @@
 //! Requests.
-ghost use Rattle.std.specs.Prelude.{◌≡◌, ◌-◌, ◌<◌, ◌||◌, nat_lt, nat_le};
+ghost use Rattle.std.specs.Prelude.{◌≡◌, ◌-◌, ◌^◌, ◌<◌, ◌||◌, false, nat_lt, nat_le};
+ghost use Rattle.vr_msg.specs.declared.summary.Decision.TheVariants as rule;
 ghost use Rattle.vr_msg.specs.Normal.{on_request, pipeline, last_op};
 
 use crate::state::leads;
@@ -20,7 +21,8 @@ fn is_behind(s: &Summary) -> bool
 
 /// Whether there is no room for another entry.
 fn is_full(s: &Summary) -> bool
-    ensures { result ≡ (nat_le pipeline (s.now.head - s.now.commit) || nat_le last_op s.now.head) }
+    ensures room { result ≡ false → s.now.head < 2 ^ 62 }
+    ensures value { result ≡ (nat_le pipeline (s.now.head - s.now.commit) || nat_le last_op s.now.head) }
 {
     PIPELINE <= s.head.saturating_sub(s.commit) || LAST_OP <= s.head
 }
@@ -29,7 +31,8 @@ fn is_full(s: &Summary) -> bool
 #[tactic(auto, unfolding(vr_msg::specs::Normal::on_request, vr_msg::specs::Normal::first_of))]
 pub fn on_request(s: &Summary, request: &Request) -> Decision
     requires group { 0 < s.now.n }
-    ensures { result ≡ on_request s.now request.now }
+    ensures value { result ≡ on_request s.now request.now }
+    ensures room { result ≡ rule.Made → s.now.head < 2 ^ 62 }
 {
     if request.fields().cluster != s.cluster {
         return Decision::Ignored;

@@ -1,4 +1,4 @@
-use Rattle.std.proofs.Common.{◌≡◌, ◌≤◌, length, ℕ, ◌+◌, ◌-◌, drop}
+use Rattle.std.proofs.Common.{◌≡◌, ◌≤◌, length, ◌+◌, ◌-◌, drop}
 use Rattle.std.specs.List.{prefix_len}
 use Rattle.vr_msg.specs.Normal.{has_quorum}
 use Rattle.vr_normal.proofs.commit.advance.Given as goal
