@@ -4,3 +4,4 @@ pub mod Rules
 pub mod World
 pub mod Safe
 pub mod Laws
+pub mod Sound

@@ -22,16 +22,14 @@ use Rattle.vr_msg.specs.declared.summary.Decision.{Decision}
 use Rattle.vr_msg.specs.declared.summary.Decision.TheVariants as rule
 use Rattle.vr_msg.specs.Normal as decide
 use Rattle.vr_model.specs.declared.memory.Memory.{Memory}
+use Rattle.vr_model.specs.declared.named.Asker.{Asker}
 use Rattle.vr_model.specs.Steps.{Word, ◌⨾◌, quiet, change, says, by}
-use Rattle.vr_model.specs.Words.{head, entry_at, head_header, Asker, prepares, acknowledges, replies, kind_of, write, learn, advance, acknowledged}
+use Rattle.vr_model.specs.Words.{head, entry_at, head_header, named, prepares, acknowledges, replies, kind_of, write, learn, advance, acknowledged}
 
 abbrev pub Hash : Type 0
 Hash = List ℕ → List ℕ
 
 -- ---- what decisions read
-
-abbrev pub named : Hash → Whole → Named
-named hash e = record { header = e.header; name = name_by hash e.header }
 
 -- of a replica, of an op
 unfoldable pub summary : Hash → Memory → ℕ → Summary
@@ -101,8 +99,8 @@ on_request hash q = by (λ m. obey_request hash q (decide.on_request (request_su
 
 abbrev pub obey_prepare : Hash → Prepare → Decision → Word
 obey_prepare hash p rule.Past = learn p.commit
-obey_prepare hash p rule.Known = says (acknowledges hash p.entry) ⨾ learn p.commit
-obey_prepare hash p rule.Next = write p.entry ⨾ says (acknowledges hash p.entry) ⨾ learn p.commit
+obey_prepare hash p rule.Known = says (acknowledges (named hash p.entry)) ⨾ learn p.commit
+obey_prepare hash p rule.Next = write p.entry ⨾ says (acknowledges (named hash p.entry)) ⨾ learn p.commit
 obey_prepare hash p rule.Ahead = learn p.commit
 obey_prepare hash p _ = quiet
 

@@ -4,8 +4,7 @@ use Rattle.std.specs.List.{range_with_len, filter, prefix_len, list_any}
 use Rattle.std.specs.Option.{option_map, option_map_or}
 use Rattle.vr_base.specs.declared.replicas.Replicas.{Replicas}
 use Rattle.vr_base.specs.declared.sum.Sum.{Sum}
-use Rattle.vr_base.specs.Groups.{quorums_of}
-use Rattle.vr_base.specs.Replicas.{no_replicas, with_replica, size}
+use Rattle.vr_base.specs.Replicas.{no_replicas, with_replica}
 use Rattle.vr_header.specs.declared.header.Header.{Header}
 use Rattle.vr_header.specs.Made.{Whole, IsEntry}
 use Rattle.vr_header.specs.Names.{name_by, root_by}
@@ -16,11 +15,12 @@ use Rattle.vr_msg.specs.declared.output.Output.TheVariants as output
 use Rattle.vr_msg.specs.declared.reply.ReplyKind.{ReplyKind}
 use Rattle.vr_msg.specs.declared.reply.ReplyKind.TheVariants as reply
 use Rattle.vr_msg.specs.declared.summary.Named.{Named}
-use Rattle.vr_msg.specs.Normal.{primary}
+use Rattle.vr_msg.specs.Normal.{primary, advanced_to}
 use Rattle.vr_apply.specs.Folds as state
 use Rattle.vr_apply.specs.declared.reply.ReplyBody.{ReplyBody}
 use Rattle.vr_apply.specs.declared.reply.ReplyBody.TheVariants as body
 use Rattle.vr_model.specs.declared.memory.Memory.{Memory}
+use Rattle.vr_model.specs.declared.named.Asker.{Asker}
 use Rattle.vr_model.specs.Steps.{Word, ◌⨾◌, quiet, change, says, by, times}
 
 -- ---- of a replica
@@ -36,11 +36,11 @@ entry_at m op = slice_get m.log (op - 1)
 abbrev pub head_header : (List ℕ → List ℕ) → Memory → Header
 head_header hash m = option_map_or (λ e. e.header) (entry_at m (head m)) (root_by hash m.cluster)
 
+abbrev pub named : (List ℕ → List ℕ) → Whole → Named
+named hash e = record { header = e.header; name = name_by hash e.header }
+
 abbrev pub is_primary : Memory → Bool
 is_primary m = m.view == m.log_view && m.index == primary m.n m.view
-
-abbrev pub replication : ℕ → ℕ
-replication n = option_map_or (λ q. q.replication) (quorums_of n) 0
 
 -- ---- outputs
 
@@ -58,20 +58,15 @@ sends_to_all index n message = map (send index message) (others index n)
 unfoldable pub prepares : Whole → Memory → List Output
 prepares e m = sends_to_all m.index m.n (frame.Prepare (record { replica = m.index; view = m.view; commit = m.commit; entry = e }))
 
--- to the primary: an entry is stored
-unfoldable pub acknowledges : (List ℕ → List ℕ) → Whole → Memory → List Output
-acknowledges hash e m =
+-- to the primary: the entry of this header and name is stored
+unfoldable pub acknowledges : Named → Memory → List Output
+acknowledges k m =
     send m.index
-    (frame.PrepareOk (record { cluster = m.cluster; replica = m.index; view = m.view; op = e.header.op; name = name_by hash e.header; made = e.header.view }))
+    (frame.PrepareOk (record { cluster = m.cluster; replica = m.index; view = m.view; op = k.header.op; name = k.name; made = k.header.view }))
     (primary m.n m.view)
     ∷ []
 
--- what is replied to the request with this name
-pub record Asker : Type 0 where
-  pub client : ℕ
-  pub request : ℕ
-  pub name : Sum
-
+-- to a request
 abbrev pub replies : Asker → ReplyKind → Memory → List Output
 replies a kind m =
     output.Reply (record { cluster = m.cluster; replica = m.index; view = m.view; client = a.client; request = a.request; request_name = a.name; kind = kind })
@@ -126,13 +121,6 @@ unfoldable pub learn : ℕ → Word
 learn c = change (learned c) ⨾ apply
 
 -- Advance: the commit number rises over the ops that a replication quorum has, the primary itself counted
-
--- of the replicas that have acknowledged an op to the replica of this index
-abbrev pub has_quorum : ℕ → ℕ → Replicas → Bool
-has_quorum index n ackers = nat_le (replication n) (size (with_replica ackers index))
-
-unfoldable pub advanced_to : ℕ → ℕ → ℕ → List Replicas → ℕ
-advanced_to index n commit acks = commit + prefix_len (has_quorum index n) (drop commit acks)
 
 unfoldable pub advanced : Memory → Memory
 advanced m = record m { commit = advanced_to m.index m.n m.commit m.acks }

@@ -8,4 +8,4 @@ mod named;
 
 pub use laws::group_laws;
 pub use memory::Memory;
-pub use named::NamedEntry;
+pub use named::{Asker, NamedEntry};

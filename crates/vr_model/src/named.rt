@@ -1,11 +1,13 @@
 //! Entries with their names.
 ghost use Rattle.std.specs.Prelude.{◌≡◌};
 ghost use Rattle.vr_header.specs.Names.{header_name};
-ghost use Rattle.vr_header.specs.Made.{IsEntry};
+ghost use Rattle.vr_base.specs.Bytes.{name_of};
+ghost use Rattle.vr_model.specs.Words.{named};
 
 use std::marker::Model;
 use vr_base::Sum;
 use vr_header::Entry;
+use vr_msg::Named;
 
 /// An entry with the name of its header, which is made once. Contracts see the entry.
 #[derive(Drop)]
@@ -42,10 +44,28 @@ impl NamedEntry {
         &self.entry
     }
 
+    /// Its header with its name.
+    pub fn named(&self) -> Named
+        ensures { result ≡ named name_of self.now }
+    {
+        Named {
+            header: self.entry.header(),
+            name: self.name,
+        }
+    }
+
     /// The name of its header.
     pub fn name(&self) -> Sum
         ensures { result ≡ header_name self.now.header }
     {
         self.name
     }
+}
+
+/// Who asked: a request's client and number, and the name of its header.
+#[derive(Clone, Copy, Debug, PartialEq, Eq)]
+pub struct Asker {
+    pub client: u64,
+    pub request: u32,
+    pub name: Sum,
 }

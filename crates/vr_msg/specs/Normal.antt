@@ -1,8 +1,12 @@
 -- Which rule applies to a request, a prepare and a prepare_ok: tables of conditions in their order. The first whose condition
 -- holds is the rule.
-use Rattle.std.specs.Prelude.{ℕ, ◌+◌, ◌-◌, ◌%◌, ◌^◌, Bool, true, false, not, ◌&&◌, ◌||◌, ◌==◌, nat_eq, nat_lt, nat_le, if◌then◌else◌, List, [], ◌∷◌, Option, Some, None, is_some}
+use Rattle.std.specs.Prelude.{ℕ, ◌+◌, ◌-◌, ◌%◌, ◌^◌, Bool, true, false, not, ◌&&◌, ◌||◌, ◌==◌, nat_eq, nat_lt, nat_le, if◌then◌else◌, List, [], ◌∷◌, drop, Option, Some, None, is_some}
+use Rattle.std.specs.List.{prefix_len}
 use Rattle.std.specs.Option.{option_map_or}
+use Rattle.vr_base.specs.declared.replicas.Replicas.{Replicas}
 use Rattle.vr_base.specs.declared.sum.Sum.{Sum}
+use Rattle.vr_base.specs.Groups.{quorums_of}
+use Rattle.vr_base.specs.Replicas.{with_replica, size}
 use Rattle.vr_header.specs.declared.header.Header.{Header}
 use Rattle.std.specs.Cmp.Lexicographic.{pointwise}
 use Rattle.vr_header.specs.Same.{same_header}
@@ -115,3 +119,15 @@ on_prepare s p = first_of (prepare_rules s p)
 
 unfoldable pub on_prepare_ok : Summary → PrepareOk → Decision
 on_prepare_ok s a = first_of (prepare_ok_rules s a)
+
+-- ---- Advance: the commit number rises over the ops that a replication quorum has, the primary itself counted
+
+abbrev pub replication : ℕ → ℕ
+replication n = option_map_or (λ q. q.replication) (quorums_of n) 0
+
+-- of the replicas that have acknowledged an op to the replica of this index
+abbrev pub has_quorum : ℕ → ℕ → Replicas → Bool
+has_quorum index n ackers = nat_le (replication n) (size (with_replica ackers index))
+
+unfoldable pub advanced_to : ℕ → ℕ → ℕ → List Replicas → ℕ
+advanced_to index n commit acks = commit + prefix_len (has_quorum index n) (drop commit acks)
