@@ -20,7 +20,8 @@ use Rattle.vr_header.specs.Names.{StandsOn, root_header}
 use Rattle.vr_msg.specs.declared.output.Output.{Output}
 use Rattle.vr_model.specs.declared.memory.Memory.{Memory}
 use Rattle.vr_model.specs.Steps.{Effect, Say, Step, Word, face_after, outputs, ◌⨾◌, quiet, change, says, by, times}
-use Rattle.vr_model.specs.Words.{replication, entry_at, commit_line, applied_reply, applied, apply_entry, apply_next, apply, learned, learn, has_quorum, advanced_to, advanced, advance}
+use Rattle.vr_model.specs.Words.{entry_at, commit_line, applied_reply, applied, apply_entry, apply_next, apply, learned, learn, advanced, advance}
+use Rattle.vr_msg.specs.Normal.{replication, has_quorum, advanced_to}
 use Rattle.vr_model.specs.Safe.{Vouches, prepared, HasQuorum, IsCommitted, root, stands_on, IsCommittedAt, AreCommitted}
 use Rattle.vr_model.proofs.Fronts.{Front, front_refl, front_le, get_within, get_some, some_same}
 use Rattle.vr_model.proofs.Members.{stood_on, IsChained, IsPrepared, Group, Member}

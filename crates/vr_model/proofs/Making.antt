@@ -39,7 +39,8 @@ use Rattle.vr_msg.specs.declared.summary.Decision.TheVariants as rule
 use Rattle.vr_msg.specs.Normal as decide
 use Rattle.vr_model.specs.declared.memory.Memory.{Memory}
 use Rattle.vr_model.specs.Steps.{Say, Step, Word, face_after, outputs, ◌⨾◌, quiet, change, says, by}
-use Rattle.vr_model.specs.Words.{is_primary, head_header, others, send, sends_to_all, prepares, Asker, replies, written, write, advance}
+use Rattle.vr_model.specs.Words.{is_primary, head_header, others, send, sends_to_all, prepares, replies, written, write, advance}
+use Rattle.vr_model.specs.declared.named.Asker.{Asker}
 use Rattle.vr_model.specs.Rules.{summary, request_summary, session_answer, request_of, next_entry, make, stored_reply, obey_request, on_request}
 use Rattle.vr_model.specs.World.{IsAsked}
 use Rattle.vr_model.specs.Safe.{HasSent, AreCommitted, lines_by, answered_after, IsReplyOf, IsBacked}

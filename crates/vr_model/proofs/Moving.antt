@@ -32,7 +32,8 @@ use Rattle.vr_msg.specs.declared.reply.ReplyKind.TheVariants as reply
 use Rattle.vr_msg.specs.Normal.{primary}
 use Rattle.vr_model.specs.declared.memory.Memory.{Memory}
 use Rattle.vr_model.specs.Steps.{Effect, Say, Step, Word, face_after, output_of, outputs, ◌⨾◌, quiet, change, says, by, times}
-use Rattle.vr_model.specs.Words.{is_primary, entry_at, Asker, replies, asker_of, kind_of, commit_line, applied_reply, applied, apply_entry, apply_next, apply, learned, learn}
+use Rattle.vr_model.specs.Words.{is_primary, entry_at, replies, asker_of, kind_of, commit_line, applied_reply, applied, apply_entry, apply_next, apply, learned, learn}
+use Rattle.vr_model.specs.declared.named.Asker.{Asker}
 use Rattle.vr_model.specs.Safe.{HasSent, Vouches, HasQuorum, IsCommitted, root, stands_on, IsCommittedAt, AreCommitted, IsBackedMessage, IsLine, is_line_of, lines_by, answered_after, session_says, IsOutcomeOf, IsReplyOf, IsTrueReply, IsBacked}
 use Rattle.vr_model.proofs.Fronts.{Front, front_refl, front_append, front_trans, front_le, get_within, get_some, get_more, some_same}
 use Rattle.vr_model.proofs.Growing.{sent_later, vouches_later, are_committed_later, committed_within, backed_more}

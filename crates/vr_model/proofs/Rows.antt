@@ -20,7 +20,8 @@ use Rattle.vr_apply.specs.Folds as state
 use Rattle.vr_sess.specs.Sessions as sess
 use Rattle.vr_kv.specs.Kv as kv
 use Rattle.vr_model.specs.Steps.{face_after, outputs, ◌⨾◌, quiet, change, says, by, times}
-use Rattle.vr_model.specs.Words.{sends_to_all, prepares, acknowledges, written, write, commit_line, applied_reply, applied, apply_entry, apply_next, apply, learned, learn, advanced_to, advanced, advance, acknowledged}
+use Rattle.vr_model.specs.Words.{sends_to_all, prepares, acknowledges, written, write, commit_line, applied_reply, applied, apply_entry, apply_next, apply, learned, learn, advanced, advance, acknowledged}
+use Rattle.vr_msg.specs.Normal.{advanced_to}
 use Rattle.vr_model.specs.Rules.{summary, is_in_flight, request_summary, next_entry, make, on_request, on_prepare, on_prepare_ok, react}
 use Rattle.vr_model.specs.World.{Happening, Asks, Arrives, World, fresh_world, messages, handled, delivered, happens, happen}
 

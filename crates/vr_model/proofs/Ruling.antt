@@ -43,7 +43,8 @@ use Rattle.vr_msg.specs.declared.summary.Decision.TheVariants as rule
 use Rattle.vr_msg.specs.Normal as decide
 use Rattle.vr_model.specs.declared.memory.Memory.{Memory}
 use Rattle.vr_model.specs.Steps.{Effect, Say, Step, Word, face_after, outputs, ◌⨾◌, quiet, change, says, by}
-use Rattle.vr_model.specs.Words.{is_primary, head_header, others, send, sends_to_all, prepares, acknowledges, Asker, replies, written, write, learn, advance, acknowledged}
+use Rattle.vr_model.specs.Words.{is_primary, named, head_header, others, send, sends_to_all, prepares, acknowledges, replies, written, write, learn, advance, acknowledged}
+use Rattle.vr_model.specs.declared.named.Asker.{Asker}
 use Rattle.vr_model.specs.Rules.{summary, request_summary, session_answer, request_of, next_entry, make, stored_reply, obey_request, on_request, obey_prepare, on_prepare, obey_prepare_ok, on_prepare_ok, on_message, react}
 use Rattle.vr_model.specs.Safe.{HasSent, Vouches, AreCommitted, is_line_of, lines_by, answered_after, session_says, IsReplyOf, IsBacked}
 use Rattle.vr_model.specs.Safe as safe
@@ -96,7 +97,7 @@ sends_come n log from m (x ∷ to) before h =
     (λ j. refl)
     (sends_come n log from m to (before ++ send from m x ∷ []) (λ later f. h later (front_trans before (before ++ send from m x ∷ []) later (front_append before (send from m x ∷ [])) f)))
 
-acknowledges_come : (n i : ℕ) (log : List Whole) (before : List Output) (e : Whole) (m : Memory) → Member n log before i m → Holds log e → AllCome n log before (acknowledges name_of e m)
+acknowledges_come : (n i : ℕ) (log : List Whole) (before : List Output) (e : Whole) (m : Memory) → Member n log before i m → Holds log e → AllCome n log before (acknowledges (named name_of e) m)
 unfolding acknowledges
 acknowledges_come n i log before e m h holds =
     let op = holds.first in
@@ -110,12 +111,12 @@ holds_later log more e f h = record { first = h.first; at = get_within log more 
 
 -- ---- a prepare
 
-acknowledged_learn : (n i : ℕ) (log : List Whole) (before : List Output) (e : Whole) (c : ℕ) (m : Memory) (f : Face) → Group n (length log) log before → Member n log before i m → Holds log e → AreCommitted n before log 0 c → Outcome n i log before ((says (acknowledges name_of e) ⨾ learn c) m f)
+acknowledged_learn : (n i : ℕ) (log : List Whole) (before : List Output) (e : Whole) (c : ℕ) (m : Memory) (f : Face) → Group n (length log) log before → Member n log before i m → Holds log e → AreCommitted n before log 0 c → Outcome n i log before ((says (acknowledges (named name_of e)) ⨾ learn c) m f)
 unfolding says
 acknowledged_learn n i log before e c m f g h holds committed =
-    let o = outcome_says n i log before (acknowledges name_of e) m f g h (acknowledges_come n i log before e m h holds) in
-    outcome_then n i log before (says (acknowledges name_of e)) (learn c) m f o
-    (learn_outcome n i o.after (before ++ outputs (says (acknowledges name_of e) m f).script) c (says (acknowledges name_of e) m f).memory (face_after (says (acknowledges name_of e) m f).script f) o.group o.member
+    let o = outcome_says n i log before (acknowledges (named name_of e)) m f g h (acknowledges_come n i log before e m h holds) in
+    outcome_then n i log before (says (acknowledges (named name_of e))) (learn c) m f o
+    (learn_outcome n i o.after (before ++ outputs (says (acknowledges (named name_of e)) m f).script) c (says (acknowledges (named name_of e)) m f).memory (face_after (says (acknowledges (named name_of e)) m f).script f) o.group o.member
     (are_committed_later n before _ log o.after 0 c (front_append before _) o.grows committed))
 
 pub no_flags : (r : ℕ) → has_replica no_replicas r ≡ true → ⊥
@@ -157,11 +158,11 @@ written_member n i log before e m h holds op =
     }
 
 write_acknowledged : (n i : ℕ) (log : List Whole) (before : List Output) (e : Whole) (c : ℕ) (m : Memory) (f : Face) → Group n (length log) log before → Member n log before i m → Holds log e → e.header.op ≡ length m.log + 1 → AreCommitted n before log 0 c
-    → Outcome n i log before ((write e ⨾ says (acknowledges name_of e) ⨾ learn c) m f)
+    → Outcome n i log before ((write e ⨾ says (acknowledges (named name_of e)) ⨾ learn c) m f)
 unfolding write
 write_acknowledged n i log before e c m f g h holds op committed =
     let o = outcome_change n i log before (written e) m f g (written_member n i log before e m h holds op) in
-    outcome_then n i log before (write e) (says (acknowledges name_of e) ⨾ learn c) m f o
+    outcome_then n i log before (write e) (says (acknowledges (named name_of e)) ⨾ learn c) m f o
     (acknowledged_learn n i o.after (before ++ outputs (write e m f).script) e c (write e m f).memory (face_after (write e m f).script f) o.group o.member (holds_later log o.after e o.grows holds)
     (are_committed_later n before _ log o.after 0 c (front_append before _) o.grows committed))
 

@@ -26,7 +26,7 @@ use Rattle.vr_msg.specs.declared.output.Output.TheVariants as output
 use Rattle.vr_msg.specs.declared.output.Sent.{Sent}
 use Rattle.vr_model.specs.declared.memory.Memory.{Memory}
 use Rattle.vr_model.specs.Steps.{outputs}
-use Rattle.vr_model.specs.Words.{replication}
+use Rattle.vr_msg.specs.Normal.{replication}
 use Rattle.vr_model.specs.Rules.{on_message, react}
 use Rattle.vr_model.specs.World.{World, fresh, fresh_world, Happening, Asks, Arrives, IsAsked, IsHappening, Happened, nothing, message_of, messages, no_face, handled, delivered, happens, later, happen}
 use Rattle.vr_model.specs.Safe.{HasSent, Vouches, acknowledged, prepared, HasQuorum, IsCommitted, root, stands_on, IsHashed, sent, given, Safe}

@@ -23,8 +23,7 @@ use Rattle.vr_msg.specs.declared.reply.Answered.{Answered}
 use Rattle.vr_msg.specs.declared.reply.ReplyFields.{ReplyFields}
 use Rattle.vr_msg.specs.declared.reply.ReplyKind.{ReplyKind}
 use Rattle.vr_msg.specs.declared.reply.ReplyKind.TheVariants as reply
-use Rattle.vr_msg.specs.Normal.{primary}
-use Rattle.vr_model.specs.Words.{replication}
+use Rattle.vr_msg.specs.Normal.{primary, replication}
 
 -- ---- which entries are committed
 
