@@ -1,5 +1,5 @@
 -- Mending keeps what the disk opens as, and writing leads to the new value: copy after copy.
-use Rattle.std.proofs.Common.{ℕ, Bool, zero, suc, ◌+◌, ◌-◌, ◌*◌, ◌≤◌, ◌<◌, ◌≡◌, ◌≢◌, ◌⊎◌, inl, inr, arith, refl, sym, ap, ◌∙◌, true, false, cond, List, [], ◌∷◌, ◌++◌, length, take, drop, Option, Some, None, subst, length-set}
+use Rattle.std.proofs.Common.{ℕ, Bool, zero, suc, ◌+◌, ◌-◌, ◌*◌, ◌≤◌, ◌<◌, ◌≡◌, ◌≢◌, ◌⊎◌, inl, inr, arith, refl, sym, ap, ◌∙◌, true, false, cond, List, [], ◌∷◌, ◌++◌, length, take, drop, Option, Some, None, subst, length-append, length-set}
 use Rattle.std.specs.Prelude.{count_by, is_some}
 use Rattle.std.specs.Option.{option_and_then}
 use Rattle.std.proofs.lemmas.Bool.{cases_lt, cases_eq, le-leb}
@@ -7,7 +7,7 @@ use Rattle.std.proofs.lemmas.List.{take_all}
 use Rattle.std.proofs.lemmas.List.Sums.{sum_by-cons}
 use Rattle.vr_base.specs.Bytes.{IsBytes, piece}
 use Rattle.vr_base.proofs.Places.{take_both}
-use Rattle.vr_disk.specs.DiskState.{Cell, Disk, runs, Write, Sync, Face, IsFace, after, after_all, reads}
+use Rattle.vr_disk.specs.DiskState.{Call, Cell, Disk, runs, Write, Sync, Face, IsFace, after, after_all, reads}
 use Rattle.vr_disk.proofs.Frames.{frame_all, reads_back}
 use Rattle.vr_disk.specs.Sectors.{behind, has, together, writes}
 use Rattle.vr_disk.proofs.Together.{after_all_append, has_is, is_has, length_after_all, spares_append, together_cons, together_synced, together_written, writes_spare}
@@ -18,7 +18,7 @@ use Rattle.vr_disk.specs.Stops.{halted}
 use Rattle.vr_super.specs.Copies.{IsGood, Saved, copy_bytes, value_of}
 use Rattle.vr_super.specs.Opens.{agreed, copy_reading, good_copies, good_copy, if_good, opened, opens}
 use Rattle.vr_super.specs.Calls.{copy_calls, mend_calls, mend_copy, mend_from, mend_unless, save_from, write_calls}
-use Rattle.vr_super.specs.Laws.{AllRead, IsSaved, MendLaw, Mended, OpensOn, TellsApart, WriteLaw, Written}
+use Rattle.vr_super.specs.Laws.{AllRead, CountLaw, IsSaved, MendLaw, Mended, OpensOn, TellsApart, WriteLaw, Written}
 use Rattle.vr_super.proofs.Best.{Among, one, Step, Toward, opened_among, opened_some, opened_toward, opens_law}
 use Rattle.vr_super.proofs.Format.{length-copy_bytes, value_again, value_found}
 use Rattle.vr_super.proofs.Readings.{copy_is_bytes, copy_within, mend_within, other_after, other_halted, other_head}
@@ -453,9 +453,45 @@ opens_none : (f : Face) (o : Option (List ℕ)) → IsFace f → opened (good_co
 opens_none f None h x e = x
 opens_none f (Some b) h x e = absurd (among_good f b (opened_among b (good_copies f) x) e)
 
+opens_synced : (f : Face) → opens (after f Sync) ≡ opens f
+unfolding opens good_copy copy_reading
+opens_synced f =
+    let same : (c : ℕ) → good_copy (after f Sync) c ≡ good_copy f c = λ c. ap if_good (together_synced 20 (20 * c) f) in
+    rw (same 0, same 1, same 2, same 3) refl
+
 pub opens_on : (f : Face) → IsFace f → OpensOn f
 unfolding opens
 opens_on f h = record {
   value = λ v e. let o = opened_of f v h e in ((opens_law (good_copies f)).agree (copy_bytes v) o.bytes, o.good);
   none = λ e b. (opens_law (good_copies f)).none b (opens_none f (opened (good_copies f)) h refl e);
+  synced = opens_synced f;
 }
+
+-- ---- how many calls
+
+unless_none : (v : Saved) (f : Face) (k : ℕ) → copy_reading f k ≡ Some (copy_bytes v) → mend_unless k (copy_bytes v) f ≡ []
+unless_none v f k e = ap (λ b. cond b [] (mend_copy k (copy_bytes v))) (is_has (copy_bytes v) (copy_reading f k) e)
+
+mends_none : (n k : ℕ) (v : Saved) (f : Face) → k + n ≤ 4 → AllRead f v → mend_from k n (copy_bytes v) f ≡ []
+unfolding mend_from
+mends_none zero k v f l a = refl
+mends_none (suc n) k v f l a = rw (unless_none v f k (a k (omega arith))) (mends_none n (k + 1) v f (omega arith) a)
+
+length_writes : (n i : ℕ) (bytes : List ℕ) → length (writes i n bytes) ≡ n
+unfolding writes
+length_writes zero i bytes = refl
+length_writes (suc n) i bytes = ap suc (length_writes n (i + 1) (drop 512 bytes))
+
+length_copy : (c : ℕ) (bytes : List ℕ) → length (copy_calls c bytes) ≡ 21
+unfolding copy_calls
+length_copy c bytes = let a = length-append (writes (20 * c) 20 bytes) (Sync ∷ []) in let b = length_writes 20 (20 * c) bytes in omega arith
+
+length_saves : (n k : ℕ) (bytes : List ℕ) → length (save_from k n bytes) ≡ 21 * n
+unfolding save_from
+length_saves zero k bytes = refl
+length_saves (suc n) k bytes = let a = length-append (copy_calls k bytes) (save_from (k + 1) n bytes) in let b = length_copy k bytes in let c = length_saves n (k + 1) bytes in omega arith
+
+pub count_law : CountLaw
+count_law old new f a =
+    let saves = save_from 0 4 (copy_bytes new) in
+    ap (λ (cs : List Call). length (cs ++ saves)) (mends_none 4 0 old f (omega arith) a) ∙ length_saves 4 0 (copy_bytes new)

@@ -2,7 +2,7 @@
 use Rattle.std.specs.Prelude.{ℕ, ◌≤◌, ◌<◌, ◌≡◌, ◌⊎◌, [], drop, length, take, List, Option, None, Some, Bool, true, false}
 use Rattle.std.specs.Int.{w64}
 use Rattle.vr_base.specs.Bytes.{IsBytes, name_of, number}
-use Rattle.vr_disk.specs.DiskState.{Face, IsFace, after_all, cut}
+use Rattle.vr_disk.specs.DiskState.{Sync, Face, IsFace, after, after_all, cut}
 use Rattle.vr_super.specs.Copies.{IsGood, Saved, copy_bytes, named_bytes, value_of}
 use Rattle.vr_super.specs.Opens.{agreed, copy_reading, good_copies, opened, opens}
 use Rattle.vr_super.specs.Calls.{mend_calls, write_calls}
@@ -22,6 +22,7 @@ pub record OpensAgreed (copies : List (Option (List ℕ))) : Type 0 where
 pub record OpensOn (f : Face) : Type 0 where
   pub value : (v : Saved) → opens f ≡ Some v → (agreed (good_copies f) (copy_bytes v) ≡ true) × IsGood v
   pub none : opens f ≡ None → (b : List ℕ) → agreed (good_copies f) b ≡ false
+  pub synced : opens (after f Sync) ≡ opens f
 
 pub record OpensLaw : Type 0 where
   pub copies : (copies : List (Option (List ℕ))) → OpensAgreed copies
@@ -63,6 +64,10 @@ pub record Mended (v : Saved) (ok : Bool) (f : Face) : Type 0 where
 pub record Written (old new : Saved) (ok : Bool) (f : Face) : Type 0 where
   pub done : ok ≡ true → IsSaved new f
   pub either : TellsApart f old → TellsApart f new → (opens f ≡ Some old) ⊎ (opens f ≡ Some new)
+
+-- the calls of writing where all four copies read as the old value
+abbrev pub CountLaw : Type 0
+CountLaw = (old new : Saved) (f : Face) → AllRead f old → length (write_calls old new f) ≡ 84
 
 abbrev pub MendLaw : Type 0
 MendLaw = (v : Saved) (f : Face) → IsFace f → f.waiting ≡ [] → opens f ≡ Some v → MendKeeps v f
