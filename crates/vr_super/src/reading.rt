@@ -80,22 +80,25 @@ fn read_copy<D: SectorDisk>(disk: &mut D, copy: u32, readings: &mut [Reading])
     read_beside(disk, copy, earlier, &mut rest[0]);
 }
 
-/// Reads all four copies.
-pub fn read_all<D: SectorDisk>(disk: &mut D) -> [Reading; 4]
-    ensures told { D.told disk.new ≡ D.told disk.old }
-    ensures faults { D.faults disk.new ≡ D.faults disk.old }
-    ensures honest { AllByRecursion IsHonest result }
-    ensures value { IfSome (D.told disk.old) (λ d. map seen result ≡ good_copies d.face) }
-{
-    let unread = Reading {
+/// Room for four copies of which none was read.
+pub fn unread() -> [Reading; 4] {
+    [Reading {
         bytes: [0; 10240],
         whole: false,
         good: false,
-    };
-    let mut readings = [unread; 4];
-    read_copy(disk, 0, &mut readings);
-    read_copy(disk, 1, &mut readings);
-    read_copy(disk, 2, &mut readings);
-    read_copy(disk, 3, &mut readings);
-    readings
+    }; 4]
+}
+
+/// Reads all four copies.
+pub fn read_all<D: SectorDisk>(disk: &mut D, readings: &mut [Reading])
+    requires { length readings.old ≡ 4 }
+    ensures told { D.told disk.new ≡ D.told disk.old }
+    ensures faults { D.faults disk.new ≡ D.faults disk.old }
+    ensures honest { AllByRecursion IsHonest readings.new }
+    ensures value { IfSome (D.told disk.old) (λ d. map seen readings.new ≡ good_copies d.face) }
+{
+    read_copy(disk, 0, readings);
+    read_copy(disk, 1, readings);
+    read_copy(disk, 2, readings);
+    read_copy(disk, 3, readings);
 }

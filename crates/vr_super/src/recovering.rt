@@ -12,7 +12,7 @@ ghost use Rattle.vr_super.specs.Seen.{IsHonest, seen};
 
 use crate::Super;
 use crate::opening::best_of;
-use crate::reading::{Reading, read_all};
+use crate::reading::{Reading, read_all, unread};
 use crate::writing::mend;
 use std::alloc::Global;
 use vr_disk::SectorDisk;
@@ -90,7 +90,8 @@ pub fn recover<D: SectorDisk>(alloc: Global, disk: &mut D) -> Result<Super, Supe
     // So does the disk as the call leaves it, whatever it answers; after an `Ok` all four copies have the value.
     ensures left { IfSome (D.told disk.old) (λ d. d.face.waiting ≡ [] → (v : Saved) → opens d.face ≡ Some v → IfSome (D.told disk.new) (λ e. Mended v (is_ok result) e.face)) }
 {
-    let readings = read_all(disk);
+    let mut readings = unread();
+    read_all(disk, &mut readings);
     match choose(alloc, &readings) {
         Ok(value) => mended(disk, value),
         Err(fault) => Err(fault),

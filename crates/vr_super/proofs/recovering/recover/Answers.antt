@@ -5,13 +5,13 @@ use Rattle.vr_super.proofs.recovering.recover.Goals as goal
 
 pub returns-in-Ok-clause-value : goal.returns-in-Ok-clause-value
 returns-in-Ok-clause-value g c =
-    mended_from (g.D.SectorDisk.told c.args.disk.now) (g.D.SectorDisk.told c.read_all-readings.new.disk) (g.D.SectorDisk.told c.mended.new.disk) (map seen c.read_all-readings.result) c.in-Ok.value c.mended.result
-    c.read_all-readings.ensures.told c.read_all-readings.ensures.value c.in-Ok.ensures c.mended.ensures.runs c.mended.ensures.kept c.mended.ensures.fault
+    mended_from (g.D.SectorDisk.told c.args.disk.now) (g.D.SectorDisk.told c.read_all.new.disk) (g.D.SectorDisk.told c.mended.new.disk) (map seen c.read_all.new.readings) c.in-Ok.value c.mended.result
+    c.read_all.ensures.told c.read_all.ensures.value c.in-Ok.ensures c.mended.ensures.runs c.mended.ensures.kept c.mended.ensures.fault
 
 pub returns-in-Err-clause-value : goal.returns-in-Err-clause-value
 returns-in-Err-clause-value g c =
-    stops_from (g.D.SectorDisk.told c.args.disk.now) (g.D.SectorDisk.told c.read_all-readings.new.disk) (map seen c.read_all-readings.result) c.in-Err.fault
-    c.read_all-readings.ensures.value c.read_all-readings.ensures.told c.in-Err.ensures
+    stops_from (g.D.SectorDisk.told c.args.disk.now) (g.D.SectorDisk.told c.read_all.new.disk) (map seen c.read_all.new.readings) c.in-Err.fault
+    c.read_all.ensures.value c.read_all.ensures.told c.in-Err.ensures
 
 pub returns-in-Ok-clause-stop : goal.returns-in-Ok-clause-stop
 returns-in-Ok-clause-stop g c = mends (g.D.SectorDisk.told c.args.disk.now) (g.met.D.SectorDisk.whole c.args.disk.now)
