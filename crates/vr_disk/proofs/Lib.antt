@@ -1,7 +1,11 @@
 pub mod Faces
 pub mod Frames
 pub mod Fuses
+pub mod Halting
 pub mod Outcomes
 mod Rows
 pub mod Running
+pub mod Together
+pub mod SectorSteps
 pub mod Stopping
+pub mod Telling

@@ -5,7 +5,7 @@ ghost use Rattle.std.specs.Option.{option_map};
 ghost use Rattle.vr_super.specs.Opens.{agreed, better, found_of, good_copies, is_later, opened, place_of};
 ghost use Rattle.vr_super.specs.Seen.{seen};
 
-use crate::reading::{Reading, read_all};
+use crate::reading::{Reading, read_all, unread};
 use vr_base::{u32_at, u64_at};
 use vr_disk::SectorDisk;
 
@@ -56,7 +56,7 @@ fn better<'a>(
 ) -> Option<&'a Reading>
     ensures { option_map (λ r. r.now.bytes) result ≡ better (agreed (map seen readings.now)) (option_map (λ r. r.now.bytes) best.entry) (seen r.now) }
 {
-    if r.good && is_agreed(readings, &r.bytes) && is_later(&r.bytes, best) {
+    if r.good && is_later(&r.bytes, best) && is_agreed(readings, &r.bytes) {
         Some(r)
     } else {
         best
@@ -111,5 +111,7 @@ pub fn opens<D: SectorDisk>(disk: &mut D) -> Option<Found>
     ensures faults { D.faults disk.new ≡ D.faults disk.old }
     ensures value { IfSome (D.told disk.old) (λ d. result ≡ found_of (good_copies d.face)) }
 {
-    look_up(&read_all(disk))
+    let mut readings = unread();
+    read_all(disk, &mut readings);
+    look_up(&readings)
 }
