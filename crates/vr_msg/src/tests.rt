@@ -1,6 +1,6 @@
 //! Bytes of messages, row by row.
 use crate::head::header_before;
-use crate::{MsgFault, decode, encode, judge};
+use crate::{Commit, Message, MsgFault, decode, encode, judge};
 use std::alloc::{AllocError, Global};
 use std::process::Abort;
 use std::test::Fail;
@@ -92,6 +92,7 @@ fn reads_again(rt: &impl Abort, alloc: Global, header: Header, body: &[u8]) -> R
     let bytes = spelled(alloc, header, body)?;
     assert_eq!(rt; judge(bytes.as_slice()), None);
     let message = decode(alloc, bytes.as_slice())?;
+    assert!(rt; message.try_clone(alloc)? == message);
     let mut again = Vec::new(alloc);
     encode(&message, &mut again)?;
     assert_eq!(rt; again.as_slice(), bytes.as_slice());
@@ -182,6 +183,14 @@ fn views_and_blocks_are_read_again(rt: HostRuntime) -> Result<(), Fail> {
         ..in_view(Command::Commit)
     };
     reads_again(&rt, alloc, commit, &[])?;
+    let made = Message::commit(Commit {
+        cluster: 5,
+        replica: 2,
+        view: 3,
+        head: 9,
+        commit: 8,
+    });
+    assert!(rt; made == decode(alloc, spelled(alloc, commit, &[])?.as_slice())?);
     reads_again(&rt, alloc, in_view(Command::StartViewChange), &[])?;
     reads_again(&rt, alloc, in_view(Command::GetView), &[])?;
     let get_block = Header {
