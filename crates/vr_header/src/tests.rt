@@ -1,6 +1,4 @@
-use crate::{
-    Command, Entry, Header, Key, Operation, Outcome, Value, decode, encode, header_at,
-};
+use crate::{Command, Entry, Header, Key, Operation, Outcome, Value, decode, encode, header_at};
 use std::test::Fail;
 
 fn put(rt: &HostRuntime) -> Result<Operation, Fail> {
