@@ -1,6 +1,7 @@
 -- An entry that is read is spelled so, and what is spelled so is read.
-use Rattle.std.proofs.Common.{◌≡◌, ℕ, ◌-◌, ◌^◌, Bool, true, false, cond, eqb, not, List, ◌++◌, length, take, drop, refl, sym, ap, ◌∙◌, arith, Option, Some, None, Ok, Err, length-append, length-drop}
-use Rattle.std.specs.Prelude.{◌↔◌, IfSome, IfOk, nat_le, nat_lt, nat_eq}
+use Rattle.std.proofs.Common.{◌≡◌, ℕ, ◌-◌, ◌^◌, Bool, true, false, cond, eqb, not, List, ◌++◌, length, take, drop, refl, sym, ap, subst, ◌∙◌, arith, Option, Some, None, Ok, Err, length-append, length-drop}
+use Rattle.std.specs.Option.{option_map}
+use Rattle.std.specs.Prelude.{◌↔◌, ◌≤◌, IfSome, IfOk, Result, is_ok, is_some, nat_le, nat_lt, nat_eq}
 use Rattle.std.specs.Cmp.Lexicographic.{pointwise}
 use Rattle.std.proofs.lemmas.Bool.{le-leb, lt-ltb, leb-true, ltb-true, eq-eqb, eqb-true}
 use Rattle.std.proofs.lemmas.List.{take_at, drop_at, take-append-drop}
@@ -10,6 +11,7 @@ use Rattle.vr_base.proofs.FieldLaws.{IsBytes-drop}
 use Rattle.vr_header.specs.declared.command.Command.{Command}
 use Rattle.vr_header.specs.declared.command.Command.TheVariants.{Entry}
 use Rattle.vr_header.specs.declared.header.Header.{Header}
+use Rattle.vr_header.specs.declared.header.HeaderFault.{HeaderFault}
 use Rattle.vr_header.specs.declared.operation.Operation.{Operation}
 use Rattle.vr_header.specs.declared.operation.Operation.TheVariants.{Register, Put, Get, Delete}
 use Rattle.vr_header.specs.Bodies.{IsOperation, operation_bytes, operation_of}
@@ -17,6 +19,9 @@ use Rattle.vr_header.specs.Made.{IsBodyOf, IsEntry, IsEntryHeader, Whole, entry_
 use Rattle.vr_header.specs.Spelling.{IsHeader, Spells, code_of, decoded, header_bytes}
 use Rattle.vr_header.proofs.BodyLaws.{operation_again, operation_found, through}
 use Rattle.vr_header.proofs.HeaderLaws.{decoded_again, decoded_found, length-header_bytes}
+use Rattle.vr_header.specs.declared.view.OperationView.{OperationView}
+use Rattle.vr_header.specs.Views.{operation_seen}
+use Rattle.vr_header.proofs.Faults.{no_fault_of_ok}
 use Rattle.vr_header.proofs.Truths.{both}
 
 -- what an entry that is read is
@@ -117,3 +122,67 @@ entry_found b f =
       | Ok h ↦ λ s. through (IsSpelled b) (is_whole h b) _ (λ w. with_body_found b h (operation_of (drop 128 b)) (operation_found (drop 128 b) (IsBytes-drop 128 b f)) s.0 s.1 w)
       | Err x ↦ λ s. tt
     ] (decoded_found b f)
+
+body_stands : (h : Header) (o : Option Operation) (e : Whole) → with_body h o ≡ Some e → (h ≡ e.header) × (o ≡ Some e.operation)
+body_stands h None e p = absurd cc
+body_stands h (Some o) e p =
+    let w : Whole = record { header = h; operation = o } in
+    let cases : (t : Bool) → cond t (Some w) None ≡ Some e → (h ≡ e.header) × (Some o ≡ Some e.operation) =
+    elim [
+      | true ↦ λ q. (let same : w ≡ e = cc in (ap (λ (x : Whole). x.header) same, ap (λ (x : Whole). Some x.operation) same))
+      | false ↦ λ q. absurd cc
+    ] in
+    cases (first_test h o) p
+
+abbrev pub Stands : List ℕ → Whole → Result Header HeaderFault → Type 0
+Stands b e r = (r ≡ Ok e.header) × (operation_of (drop 128 b) ≡ Some e.operation)
+
+header_stands : (b : List ℕ) (e : Whole) (r : Result Header HeaderFault) → with_header b r ≡ Some e → Stands b e r
+header_stands b e (Err f) p = absurd cc
+header_stands b e (Ok h) p =
+    let cases : (t : Bool) → cond t (with_body h (operation_of (drop 128 b))) None ≡ Some e → Stands b e (Ok h) =
+    elim [
+      | true ↦ λ q. (let found = body_stands h (operation_of (drop 128 b)) e q in (ap (λ (x : Header). Ok x) found.0, found.1))
+      | false ↦ λ q. absurd cc
+    ] in
+    cases (is_whole h b) p
+
+-- an entry's header and operation stand in its bytes
+pub entry_stands : (b : List ℕ) (e : Whole) → entry_of b ≡ Some e → Stands b e (decoded b)
+unfolding entry_of
+entry_stands b e p = header_stands b e (decoded b) p
+
+pub some_entry : (b : List ℕ) → is_some (entry_of b) ≡ true → (e : Whole) × (entry_of b ≡ Some e)
+some_entry b p =
+    let cases : (o : Option Whole) → entry_of b ≡ o → is_some o ≡ true → (e : Whole) × (entry_of b ≡ Some e) =
+    elim [
+      | None ↦ λ o q. absurd cc
+      | Some e ↦ λ o q. (e, o)
+    ] in
+    cases (entry_of b) refl p
+
+pub entry_ok : (b : List ℕ) → is_some (entry_of b) ≡ true → is_ok (decoded b) ≡ true
+entry_ok b p = let some = some_entry b p in rw ((entry_stands b some.0 some.1).0) refl
+
+pub entry_long : (b : List ℕ) → is_some (entry_of b) ≡ true → 128 ≤ length b
+entry_long b p = (no_fault_of_ok b (entry_ok b p)).0
+
+pub entry_operation : (b : List ℕ) → is_some (entry_of b) ≡ true → is_some (operation_of (drop 128 b)) ≡ true
+entry_operation b p = let some = some_entry b p in rw ((entry_stands b some.0 some.1).1) refl
+
+pub entry_made : (b : List ℕ) (h : Header) (o : Operation) → is_some (entry_of b) ≡ true → decoded b ≡ Ok h → operation_of (drop 128 b) ≡ Some o
+    → entry_of b ≡ Some (record { header = h; operation = o })
+entry_made b h o p d q =
+    let some = some_entry b p in
+    let e = some.0 in
+    let stands = entry_stands b e some.1 in
+    let header : h ≡ e.header = (let r = sym d ∙ stands.0 in cc) in
+    let operation : o ≡ e.operation = (let r = sym q ∙ stands.1 in cc) in
+    rw (header, operation) some.1
+
+pub some_seen : (v : Option OperationView) → is_some (option_map operation_seen v) ≡ true → is_some v ≡ true
+some_seen None e = absurd cc
+some_seen (Some v) e = refl
+
+pub entry_known : (b : List ℕ) (e : Whole) → IsBytes b → entry_of b ≡ Some e → IsSpelled b e
+entry_known b e f p = let P : Option Whole → Type 0 = λ o. IfSome o (IsSpelled b) in subst P p (entry_found b f)

@@ -1,12 +1,12 @@
 -- What bytes without a fault are.
-use Rattle.std.proofs.Common.{◌≡◌, ℕ, ◌≤◌, Bool, true, false, cond, List, length, refl, Option, Some, None}
-use Rattle.std.specs.Prelude.{is_none, slice_index}
+use Rattle.std.proofs.Common.{◌≡◌, ℕ, ◌≤◌, Bool, true, false, cond, List, length, refl, Option, Some, None, Ok}
+use Rattle.std.specs.Prelude.{is_none, is_ok, slice_index}
 use Rattle.std.specs.Int.{w32, w64}
 use Rattle.std.proofs.lemmas.Bool.{ltb-false, eqb-true}
 use Rattle.vr_header.specs.declared.header.HeaderFault.{HeaderFault}
 use Rattle.vr_base.specs.Bytes.{number}
 use Rattle.vr_header.proofs.Truths.{not_false, size_of}
-use Rattle.vr_header.specs.Spelling.{command_of, fault_of, is_named}
+use Rattle.vr_header.specs.Spelling.{command_of, decoded, fault_of, header_at, is_named}
 
 -- each test passed
 pub record IsSound (b : List ℕ) : Type 0 where
@@ -42,3 +42,18 @@ sound b e =
 -- what reading the fields at their places needs
 pub no_fault : (b : List ℕ) → fault_of b ≡ None → (128 ≤ length b) × (128 ≤ number w32 104 b) × (number w32 104 b ≤ 20480)
 no_fault b e = let s = sound b e in (s.long, s.size.0, s.size.1)
+
+pub none_of_ok : (b : List ℕ) → is_ok (decoded b) ≡ true → fault_of b ≡ None
+none_of_ok b e =
+    let cases : (o : Option HeaderFault) → fault_of b ≡ o → fault_of b ≡ None =
+    elim [
+      | None ↦ λ o. o
+      | Some f ↦ λ o. absurd (let r = rw o at e in cc)
+    ] in
+    cases (fault_of b) refl
+
+pub no_fault_of_ok : (b : List ℕ) → is_ok (decoded b) ≡ true → (128 ≤ length b) × (128 ≤ number w32 104 b) × (number w32 104 b ≤ 20480)
+no_fault_of_ok b e = no_fault b (none_of_ok b e)
+
+pub read_at : (b : List ℕ) → is_ok (decoded b) ≡ true → decoded b ≡ Ok (header_at b)
+read_at b e = rw (none_of_ok b e) refl

@@ -25,6 +25,7 @@ impl Operation {
     #[tactic(auto, using(std::proofs::lemmas::Grind::common_steps), unfolding(crate::specs::Bodies::operation_bytes, vr_base::specs::Bytes::bytes16))]
     pub fn write_body(&self, to: &mut Vec<u8>) -> Result<(), AllocError>
         ensures ok { OnOk result (to.new.items ≡ to.old.items ++ operation_bytes self.now) }
+        ensures texts { IsOperation self.now }
     {
         match self {
             Operation::Register => to.extend_from_slice(&[1])?,
@@ -120,6 +121,7 @@ impl Outcome {
     #[tactic(auto, using(std::proofs::lemmas::Grind::common_steps), unfolding(crate::specs::Bodies::outcome_bytes, vr_base::specs::Bytes::bytes16))]
     pub fn write_body(&self, to: &mut Vec<u8>) -> Result<(), AllocError>
         ensures ok { OnOk result (to.new.items ≡ to.old.items ++ outcome_bytes self.now) }
+        ensures texts { IsOutcome self.now }
     {
         match self {
             Outcome::Session => to.extend_from_slice(&[1])?,

@@ -1,5 +1,5 @@
 //! The 128 bytes of a header, both ways.
-ghost use Rattle.std.specs.Prelude.{◌≡◌, ◌≤◌, ◌<◌, ◌+◌, ◌++◌, length, take, drop, Some, None, Ok, IfOk, slice_index, IsTrue};
+ghost use Rattle.std.specs.Prelude.{◌≡◌, ◌≤◌, ◌<◌, ◌+◌, ◌++◌, length, take, drop, Some, None, Ok, IfOk, is_ok, slice_index, IsTrue, true};
 ghost use Rattle.vr_base.specs.Bytes.{name_of};
 ghost use Rattle.vr_header.specs.declared.header.Header.{Header};
 ghost use Rattle.vr_header.specs.Spelling.{Spells, IsHeader, code_of, command_of, decoded, fault_of, header_at, header_bytes, is_named, is_size, named_bytes};
@@ -117,11 +117,12 @@ fn code_of(command: Command) -> u8
     }
 }
 
-/// The header that bytes begin with which are known to spell one; it takes no digest.
-#[tactic(auto, using(crate::proofs::Faults::no_fault), unfolding(crate::specs::Spelling::header_at))]
+/// The header that the first 128 bytes spell, where they are known to spell one; nothing is hashed.
+#[tactic(auto, using(crate::proofs::Faults::no_fault_of_ok, crate::proofs::Faults::read_at), unfolding(crate::specs::Spelling::header_at))]
 pub fn header_at(bytes: &[u8]) -> Header
-    requires { fault_of bytes.now ≡ None }
-    ensures { result ≡ header_at bytes.now }
+    requires { is_ok (decoded bytes.now) ≡ true }
+    ensures fields { result ≡ header_at bytes.now }
+    ensures exact { decoded bytes.now ≡ Ok result }
 {
     Header {
         body: sum_at(bytes, 16),

@@ -1,5 +1,5 @@
 //! Entries of the log.
-ghost use Rattle.std.specs.Prelude.{◌≡◌, ◌+◌, ◌-◌, ◌^◌, ◌<◌, ◌≤◌, ◌++◌, Some, IfOk, IfSome, OnOk, length};
+ghost use Rattle.std.specs.Prelude.{◌≡◌, ◌+◌, ◌-◌, ◌^◌, ◌<◌, ◌≤◌, ◌++◌, Some, IfOk, IfSome, OnOk, is_some, length, true};
 ghost use Rattle.std.specs.Option.{option_map};
 ghost use Rattle.vr_base.specs.Bytes.{name_of};
 ghost use Rattle.vr_header.specs.Bodies.{IsOperation};
@@ -8,7 +8,7 @@ ghost use Rattle.vr_header.specs.Spelling.{IsHeader};
 ghost use Rattle.vr_header.specs.Views.{entry_seen, operation_seen};
 
 use crate::body::owned_operation;
-use crate::view::{EntryView, read_entry};
+use crate::view::{EntryView, entry_at, read_entry};
 use crate::{Command, Header, Operation, encode};
 use std::alloc::{AllocError, Global};
 use std::marker::Model;
@@ -92,7 +92,9 @@ impl Entry {
     /// some of it.
     #[tactic(auto, using(std::proofs::lemmas::Grind::common_steps), unfolding(crate::specs::Made::entry_bytes))]
     pub fn write(&self, to: &mut Vec<u8>) -> Result<(), AllocError>
-        ensures { OnOk result (to.new.items ≡ to.old.items ++ entry_bytes self.now) }
+        ensures ok { OnOk result (to.new.items ≡ to.old.items ++ entry_bytes self.now) }
+        ensures header { OnOk result (IsHeader self.now.header) }
+        ensures operation { OnOk result (IsOperation self.now.operation) }
     {
         let header = encode(&self.header());
         to.extend_from_slice(&header)?;
@@ -116,6 +118,16 @@ impl Entry {
         ensures only { (e : Whole) → IsEntry e → IsHeader e.header → IsOperation e.operation → bytes.now ≡ entry_bytes e → entry_of bytes.now ≡ Some e }
     {
         made_entry(alloc, bytes)
+    }
+
+    /// The entry that the bytes spell, where they are known to spell one; nothing is hashed.
+    pub fn from_bytes(alloc: Global, bytes: &[u8]) -> Result<Entry, AllocError>
+        requires { is_some (entry_of bytes.now) ≡ true }
+        ensures { IfOk result (λ entry. entry_of bytes.now ≡ Some entry) }
+    {
+        let view = entry_at(bytes);
+        let operation = owned_operation(alloc, view.operation)?;
+        Ok(Entry::new(view.header, operation))
     }
 }
 

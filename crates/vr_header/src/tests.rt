@@ -1,4 +1,4 @@
-use crate::{Entry, Header, Key, Operation, Outcome, Value, decode, encode};
+use crate::{Command, Entry, Header, Key, Operation, Outcome, Value, decode, encode, header_at};
 use std::test::Fail;
 
 fn put(rt: &HostRuntime) -> Result<Operation, Fail> {
@@ -7,10 +7,40 @@ fn put(rt: &HostRuntime) -> Result<Operation, Fail> {
     Ok(Operation::Put(key, value))
 }
 
+const COMMANDS: [Command; 17] = [
+    Command::Reserved,
+    Command::Root,
+    Command::Entry,
+    Command::Request,
+    Command::Reply,
+    Command::Prepare,
+    Command::PrepareOk,
+    Command::Commit,
+    Command::StartViewChange,
+    Command::DoViewChange,
+    Command::StartView,
+    Command::GetView,
+    Command::GetPrepare,
+    Command::GivePrepare,
+    Command::GetBlock,
+    Command::GiveBlock,
+    Command::Block,
+];
+
 #[test]
 fn headers(rt: HostRuntime) {
-    let root = Header::root(2);
-    assert_eq!(rt; decode(&encode(&root)), Ok(root));
+    let mut number = 0u8;
+    for command in COMMANDS {
+        number = number.wrapping_add(1);
+        let header = Header {
+            command,
+            ..Header::root(2)
+        };
+        let bytes = encode(&header);
+        assert_eq!(rt; bytes[108], number);
+        assert_eq!(rt; decode(&bytes), Ok(header));
+        assert_eq!(rt; header_at(&bytes), header);
+    }
 }
 
 #[test]
@@ -41,6 +71,9 @@ fn entries(rt: HostRuntime) -> Result<(), Fail> {
     entry.write(&mut bytes)?;
     assert!(rt; Entry::header_in(bytes.as_slice()) == Some(entry.header()));
     let read = Entry::decode(rt.alloc(), bytes.as_slice())?;
-    assert!(rt; read == Some(entry.try_clone(rt.alloc())?));
+    if read.is_some() {
+        assert!(rt; Entry::from_bytes(rt.alloc(), bytes.as_slice())? == entry);
+    }
+    assert!(rt; read == Some(entry));
     Ok(())
 }

@@ -1,5 +1,5 @@
 //! Reading of bodies in place.
-ghost use Rattle.std.specs.Prelude.{◌≡◌, ◌<◌, ◌≤◌, IsTrue, length, drop, nat_eq};
+ghost use Rattle.std.specs.Prelude.{◌≡◌, ◌<◌, ◌≤◌, IsTrue, Some, is_some, length, drop, nat_eq, true};
 ghost use Rattle.std.specs.Cmp.Lexicographic.{pointwise};
 ghost use Rattle.vr_base.specs.Bytes.{name_of};
 ghost use Rattle.std.specs.Option.{option_map, option_copied};
@@ -8,7 +8,7 @@ ghost use Rattle.vr_header.specs.Made.{entry_of, is_register, is_whole};
 ghost use Rattle.vr_header.specs.Views.{entry_seen, operation_seen, outcome_seen};
 
 use crate::text::is_text;
-use crate::{Header, decode};
+use crate::{Header, decode, header_at};
 use vr_base::{Sum, checksum};
 
 /// An operation whose texts stand in the bytes that it was read from.
@@ -127,6 +127,18 @@ pub fn read_entry(bytes: &[u8]) -> Option<EntryView<'_>>
     } else {
         None
     }
+}
+
+/// The entry that these bytes spell, where they are known to spell one; nothing is hashed.
+#[tactic(auto, using(crate::proofs::EntryLaws::entry_long, crate::proofs::EntryLaws::entry_ok))]
+pub fn entry_at(bytes: &[u8]) -> EntryView<'_>
+    requires { is_some (entry_of bytes.now) ≡ true }
+    ensures { entry_of bytes.now ≡ Some (entry_seen result) }
+{
+    let header = header_at(bytes);
+    let (_, body) = bytes.split_at(128);
+    let operation = read_operation(body).unwrap();
+    EntryView { header, operation }
 }
 
 // Whether the header is an entry's, of so many bytes, with the name of those behind it.

@@ -1,6 +1,6 @@
 -- What tests that pass say of lengths, and steps of loops over headers.
 use Rattle.std.proofs.Common.{◌≡◌, ℕ, zero, suc, ◌+◌, ◌-◌, ◌≤◌, ◌<◌, ◌^◌, Bool, true, false, cond, eqb, leb, ltb, subst, List, take, [], ◌∷◌, ◌++◌, append_assoc, length-append, length, drop, get_or, drop-cons, refl, sym, ap, ◌∙◌, arith, Result, Ok, Err, Option, Some, None}
-use Rattle.std.specs.Prelude.{◌&&◌, ◌||◌, ◌==◌, ◌↔◌, IfSome, is_ok, not}
+use Rattle.std.specs.Prelude.{◌&&◌, ◌||◌, ◌==◌, ◌↔◌, IfSome, is_ok, is_some, not}
 use Rattle.std.specs.List.{prefix_len}
 use Rattle.std.specs.Option.{option_map, option_map_or}
 use Rattle.std.proofs.lemmas.Bool.{eq-eqb, eqb-true, leb-false, leb-true, ltb-false, ltb-true}
@@ -19,7 +19,8 @@ use Rattle.vr_msg.specs.declared.reply.ReplyKind.{ReplyKind}
 use Rattle.vr_msg.specs.declared.reply.ReplyKind.TheVariants as reply
 use Rattle.vr_msg.specs.Asking.{IsReplyKind}
 use Rattle.vr_msg.specs.Reading.{are_headers, kind_at, are_parts, headers_at, part_at, parts_at, rest_at}
-use Rattle.vr_msg.specs.Shapes.{after_tag, begins_entry, headers_fit, is_asked, is_ok_entry_at, is_view, knows, log_fits, numbers_fit, parts_fit, statement_fits, tags_fit, tags_run}
+use Rattle.vr_header.specs.Made.{Whole, entry_of}
+use Rattle.vr_msg.specs.Shapes.{after_tag, begins_entry, entry_fits, is_at, headers_fit, is_asked, is_ok_entry_at, is_view, knows, log_fits, numbers_fit, parts_fit, statement_fits, tags_fit, tags_run}
 
 pub both : (a b : Bool) → (a && b) ≡ true → (a ≡ true) × (b ≡ true)
 both true b e = (refl, e)
@@ -287,4 +288,14 @@ views h e = ltb-true h.view (2 ^ 32 - 1) (both _ _ e).0
 pub view_of : (n : ℕ) (b : Bool) → (is_view n && b) ≡ true → n < 2 ^ 32 - 1
 view_of n b e = ltb-true n (2 ^ 32 - 1) (both _ _ e).0
 
-pub ruleset readable = (parts_readable, log_found, numbers, views, view_of)
+pub entry_there : (cluster last op : ℕ) (body : List ℕ) → entry_fits cluster last op body ≡ true → is_some (entry_of body) ≡ true
+unfolding entry_fits
+entry_there cluster last op body e =
+    let cases : (o : Option Whole) → option_map_or (is_at cluster last op) (option_map (λ (x : Whole). x.header) o) false ≡ true → is_some o ≡ true =
+    elim [
+      | None ↦ λ t. absurd cc
+      | Some x ↦ λ t. refl
+    ] in
+    cases (entry_of body) e
+
+pub ruleset readable = (parts_readable, log_found, numbers, views, view_of, entry_there)

@@ -3,10 +3,12 @@
 
 mod choice;
 mod codec;
+mod copy;
 mod event;
 mod fault;
 mod frame;
 mod head;
+mod make;
 mod message;
 mod output;
 mod read;

@@ -1,8 +1,9 @@
 //! What a header and the bytes after it say, once they are known to be of a message's form.
-ghost use Rattle.std.specs.Prelude.{◌≡◌, ◌+◌, ◌-◌, ◌≤◌, ◌<◌, ◌^◌, ◌||◌, not, true, Some, length, take, drop, IfOk, is_ok};
+ghost use Rattle.std.specs.Prelude.{◌≡◌, ◌+◌, ◌-◌, ◌≤◌, ◌<◌, ◌^◌, ◌||◌, not, true, Some, length, take, drop, IfOk, is_ok, is_some};
 ghost use Rattle.std.specs.Int.{w16};
 ghost use Rattle.vr_base.specs.Bytes.{number};
-ghost use Rattle.vr_header.specs.Spelling.{decoded, header_at};
+ghost use Rattle.vr_header.specs.Made.{entry_of};
+ghost use Rattle.vr_header.specs.Spelling.{decoded};
 ghost use Rattle.vr_header.specs.declared.command.Command.{Command};
 ghost use Rattle.vr_msg.specs.declared.frame.Frame.{Frame};
 ghost use Rattle.vr_msg.specs.Shapes.{body_fits, is_asked, knows, numbers_fit};
@@ -16,16 +17,7 @@ use crate::{
 };
 use std::alloc::{AllocError, Global};
 use vr_base::{ByteList, Seq, u16_at, u64_at};
-use vr_header::{Command, Entry, Header, HeaderList, Operation, Outcome, Part, decode};
-
-// The header that the bytes begin with.
-#[tactic(auto, using(std::proofs::lemmas::Grind::common_steps, crate::proofs::Fitting::header_of_ok))]
-fn header_in(bytes: &[u8]) -> Header
-    requires { is_ok (decoded bytes.now) ≡ true }
-    ensures { result ≡ header_at bytes.now }
-{
-    decode(bytes).unwrap()
-}
+use vr_header::{Command, Entry, Header, HeaderList, Operation, Outcome, Part, header_at};
 
 #[tactic(auto, unfolding(crate::specs::Reading::kind_at))]
 fn read_kind(alloc: Global, kind: u8, op: u64, body: &[u8]) -> Result<Option<ReplyKind>, AllocError>
@@ -53,7 +45,7 @@ fn read_headers(alloc: Global, count: u64, bytes: &[u8]) -> Result<HeaderList, A
     let mut headers = Vec::new(alloc);
     let mut rest = bytes;
     for i in 0..count {
-        headers.push(header_in(rest))?;
+        headers.push(header_at(rest))?;
         let (_, after) = rest.split_at(128);
         rest = after;
     }
@@ -67,9 +59,9 @@ fn read_part(tag: u8, bytes: &[u8]) -> Part
 {
     match tag {
         0 => Part::Nothing,
-        1 => Part::Here(header_in(bytes)),
-        2 => Part::Lost(header_in(bytes)),
-        3 => Part::Wanted(header_in(bytes)),
+        1 => Part::Here(header_at(bytes)),
+        2 => Part::Lost(header_at(bytes)),
+        3 => Part::Wanted(header_at(bytes)),
         _ => Part::Unknown,
     }
 }
@@ -153,29 +145,25 @@ fn read_reply(alloc: Global, h: &Header, body: &[u8]) -> Result<Option<Frame>, A
 }
 
 fn read_prepare(alloc: Global, h: &Header, body: &[u8]) -> Result<Option<Frame>, AllocError>
+    requires { is_some (entry_of body.now) ≡ true }
     ensures { IfOk result (λ read. read ≡ frame_for Command.Prepare h.now body.now) }
 {
-    match Entry::decode(alloc, body)? {
-        Some(entry) => Ok(Some(Frame::Prepare(Prepare {
-            replica: h.replica,
-            view: h.view,
-            commit: h.commit,
-            entry,
-        }))),
-        None => Ok(None),
-    }
+    Ok(Some(Frame::Prepare(Prepare {
+        replica: h.replica,
+        view: h.view,
+        commit: h.commit,
+        entry: Entry::from_bytes(alloc, body)?,
+    })))
 }
 
 fn read_give_prepare(alloc: Global, h: &Header, body: &[u8]) -> Result<Option<Frame>, AllocError>
+    requires { is_some (entry_of body.now) ≡ true }
     ensures { IfOk result (λ read. read ≡ frame_for Command.GivePrepare h.now body.now) }
 {
-    match Entry::decode(alloc, body)? {
-        Some(entry) => Ok(Some(Frame::GivePrepare(GivePrepare {
-            replica: h.replica,
-            entry,
-        }))),
-        None => Ok(None),
-    }
+    Ok(Some(Frame::GivePrepare(GivePrepare {
+        replica: h.replica,
+        entry: Entry::from_bytes(alloc, body)?,
+    })))
 }
 
 fn read_do_view_change(alloc: Global, h: &Header, body: &[u8]) -> Result<Option<Frame>, AllocError>

@@ -1,6 +1,6 @@
 //! Bytes of messages, row by row.
 use crate::head::header_before;
-use crate::{MsgFault, decode, encode, judge};
+use crate::{Commit, Message, MsgFault, decode, encode, judge};
 use std::alloc::{AllocError, Global};
 use std::process::Abort;
 use std::test::Fail;
@@ -88,12 +88,19 @@ fn in_view(command: Command) -> Header {
     }
 }
 
+// The bytes of a copy.
+fn copy_written(alloc: Global, message: &Message) -> Result<Vec<u8>, AllocError> {
+    let copy = message.try_clone(alloc)?;
+    let mut bytes = Vec::new(alloc);
+    encode(&copy, &mut bytes)?;
+    Ok(bytes)
+}
+
 fn reads_again(rt: &impl Abort, alloc: Global, header: Header, body: &[u8]) -> Result<(), Fail> {
     let bytes = spelled(alloc, header, body)?;
     assert_eq!(rt; judge(bytes.as_slice()), None);
     let message = decode(alloc, bytes.as_slice())?;
-    let mut again = Vec::new(alloc);
-    encode(&message, &mut again)?;
+    let again = copy_written(alloc, &message)?;
     assert_eq!(rt; again.as_slice(), bytes.as_slice());
     Ok(())
 }
@@ -195,6 +202,25 @@ fn views_and_blocks_are_read_again(rt: HostRuntime) -> Result<(), Fail> {
         ..sent(Command::GiveBlock)
     };
     reads_again(&rt, alloc, give_block, &[9; 4096])
+}
+
+#[test]
+fn what_is_made_is_read(rt: HostRuntime) -> Result<(), Fail> {
+    let alloc = rt.alloc();
+    let made = made();
+    let bytes = copy_written(alloc, &made)?;
+    assert_eq!(rt; judge(bytes.as_slice()), None);
+    Ok(())
+}
+
+fn made() -> Message {
+    Message::commit(Commit {
+        cluster: 5,
+        replica: 2,
+        view: 3,
+        head: 9,
+        commit: 8,
+    })
 }
 
 // The header of a start_view up to `head`.

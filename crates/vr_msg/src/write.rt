@@ -10,82 +10,20 @@ ghost use Rattle.vr_msg.specs.Spelling.{AreHeaders, IsBodyValue, IsKindValue, bo
 
 use crate::{DvcBody, Frame, ReplyKind};
 use std::alloc::AllocError;
-use vr_header::{Entry, Header, Operation, Outcome, Part, encode};
-
-// What the type of an operation keeps.
-fn has_texts(operation: &Operation)
-    ensures { IsOperation operation.now }
-{
-    match operation {
-        Operation::Register => {}
-        Operation::Put(key, value) => {
-            let _ = key.as_slice();
-            let _ = value.as_slice();
-        }
-        Operation::Get(key) => {
-            let _ = key.as_slice();
-        }
-        Operation::Delete(key) => {
-            let _ = key.as_slice();
-        }
-    }
-}
-
-// What the type of an outcome keeps.
-fn has_text(outcome: &Outcome)
-    ensures { IsOutcome outcome.now }
-{
-    match outcome {
-        Outcome::Session => {}
-        Outcome::Ok => {}
-        Outcome::Full => {}
-        Outcome::Absent => {}
-        Outcome::Value(value) => {
-            let _ = value.as_slice();
-        }
-    }
-}
-
-// What the type of a header keeps.
-fn has_numbers(h: Header)
-    ensures { IsHeader h }
-{
-    let _ = h.size.get();
-}
-
-fn write_operation(operation: &Operation, to: &mut Vec<u8>) -> Result<(), AllocError>
-    ensures bytes { OnOk result (to.new.items ≡ to.old.items ++ operation_bytes operation.now) }
-    ensures values { IsOperation operation.now }
-{
-    has_texts(operation);
-    operation.write_body(to)
-}
+use vr_header::{Header, Part, encode};
 
 fn write_kind(kind: &ReplyKind, to: &mut Vec<u8>) -> Result<(), AllocError>
     ensures bytes { OnOk result (to.new.items ≡ to.old.items ++ kind_bytes kind.now) }
     ensures values { IsKindValue kind.now }
 {
     match kind {
-        ReplyKind::Outcome(answered) => {
-            has_text(&answered.outcome);
-            answered.outcome.write_body(to)
-        }
+        ReplyKind::Outcome(answered) => answered.outcome.write_body(to),
         ReplyKind::Old
         | ReplyKind::Gap
         | ReplyKind::Evicted
         | ReplyKind::Busy
         | ReplyKind::Redirect => Ok(()),
     }
-}
-
-fn write_entry(entry: &Entry, to: &mut Vec<u8>) -> Result<(), AllocError>
-    ensures bytes { OnOk result (to.new.items ≡ to.old.items ++ entry_bytes entry.now) }
-    ensures header { IsHeader entry.now.header }
-    ensures operation { IsOperation entry.now.operation }
-{
-    has_numbers(entry.header());
-    has_texts(entry.operation());
-    entry.write(to)
 }
 
 #[tactic(auto, using(std::proofs::lemmas::Grind::common_steps, crate::proofs::Written::writing_headers))]
@@ -175,9 +113,9 @@ pub(crate) fn write_body(frame: &Frame, to: &mut Vec<u8>) -> Result<(), AllocErr
     ensures values { OnOk result (IsBodyValue frame.now) }
 {
     match frame {
-        Frame::Request(request) => write_operation(&request.fields().operation, to),
+        Frame::Request(request) => request.fields().operation.write_body(to),
         Frame::Reply(reply) => write_kind(&reply.fields().kind, to),
-        Frame::Prepare(prepare) => write_entry(&prepare.entry, to),
+        Frame::Prepare(prepare) => prepare.entry.write(to),
         Frame::PrepareOk(_) => Ok(()),
         Frame::Commit(_) => Ok(()),
         Frame::StartViewChange(_) => Ok(()),
@@ -185,7 +123,7 @@ pub(crate) fn write_body(frame: &Frame, to: &mut Vec<u8>) -> Result<(), AllocErr
         Frame::StartView(start) => write_headers(start.body.headers.as_slice(), to),
         Frame::GetView(_) => Ok(()),
         Frame::GetPrepare(_) => Ok(()),
-        Frame::GivePrepare(give) => write_entry(&give.entry, to),
+        Frame::GivePrepare(give) => give.entry.write(to),
         Frame::GetBlock(_) => Ok(()),
         Frame::GiveBlock(give) => {
             to.extend_from_slice(give.block.as_slice())?;

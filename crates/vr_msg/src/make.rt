@@ -1,0 +1,200 @@
+//! Messages from what they say.
+ghost use Rattle.std.specs.Prelude.{◌≡◌, ◌≤◌, length};
+ghost use Rattle.vr_header.specs.Names.{header_name, request_header};
+ghost use Rattle.vr_msg.specs.declared.frame.Frame.{Frame};
+ghost use Rattle.vr_msg.specs.declared.reply.ReplyKind.{ReplyKind};
+ghost use Rattle.vr_msg.specs.Asking.{IsReplyKind};
+ghost use Rattle.vr_msg.specs.Forms.{IsDoViewChange, IsStartView};
+ghost use Rattle.vr_msg.specs.Numbers.{IsNumber, IsView};
+
+use crate::{
+    Answered, Commit, DoViewChange, Frame, GetBlock, GetPrepare, GetView, GiveBlock, GivePrepare,
+    Message, Prepare, PrepareOk, Reply, ReplyFields, ReplyKind, Request, StartView,
+    StartViewChange,
+};
+use vr_header::{Header, Outcome};
+
+impl PrepareOk {
+    /// That the entry of this header is stored.
+    pub fn of(header: &Header, replica: u8, view: u32) -> PrepareOk
+        ensures { result ≡ record { cluster = header.now.cluster; replica = replica; view = view; op = header.now.op; name = header_name header.now; made = header.now.view } }
+    {
+        PrepareOk {
+            cluster: header.cluster,
+            replica,
+            view,
+            op: header.op,
+            name: header.name(),
+            made: header.view,
+        }
+    }
+}
+
+impl GetPrepare {
+    /// Asks for the entry of this header.
+    pub fn of(header: &Header, replica: u8) -> GetPrepare
+        ensures { result ≡ record { cluster = header.now.cluster; replica = replica; op = header.now.op; name = header_name header.now; made = header.now.view } }
+    {
+        GetPrepare {
+            cluster: header.cluster,
+            replica,
+            op: header.op,
+            name: header.name(),
+            made: header.view,
+        }
+    }
+}
+
+impl Reply {
+    /// The reply of this kind to a request.
+    pub fn to(request: &Request, replica: u8, view: u32, kind: ReplyKind) -> Reply
+        requires view { IsView view }
+        requires kind { IsReplyKind kind }
+        ensures { result ≡ record { cluster = request.now.cluster; replica = replica; view = view; client = request.now.client; request = request.now.request; request_name = header_name (request_header request.now.cluster request.now.client request.now.request request.now.operation); kind = kind } }
+    {
+        let q = request.fields();
+        let header = Header::of_request(q.cluster, q.client, q.request, &q.operation);
+        Reply::new(ReplyFields {
+            cluster: q.cluster,
+            replica,
+            view,
+            client: q.client,
+            request: q.request,
+            request_name: header.name(),
+            kind,
+        })
+    }
+
+    /// The reply to the request that the entry of this header was made of, with its outcome.
+    pub fn of_entry(header: &Header, replica: u8, view: u32, outcome: Outcome) -> Reply
+        requires view { IsView view }
+        requires op { IsNumber header.now.op }
+        ensures { result ≡ record { cluster = header.now.cluster; replica = replica; view = view; client = header.now.client; request = header.now.request; request_name = header.now.request_name; kind = ReplyKind.Outcome (record { op = header.now.op; outcome = outcome }) } }
+    {
+        Reply::new(ReplyFields {
+            cluster: header.cluster,
+            replica,
+            view,
+            client: header.client,
+            request: header.request,
+            request_name: header.request_name,
+            kind: ReplyKind::Outcome(Answered {
+                op: header.op,
+                outcome,
+            }),
+        })
+    }
+}
+
+impl Message {
+    /// A request.
+    pub fn request(request: Request) -> Message
+        ensures { result ≡ Frame.Request request }
+    {
+        let _ = request.fields();
+        Message::new(Frame::Request(request))
+    }
+
+    /// A reply.
+    pub fn reply(reply: Reply) -> Message
+        ensures { result ≡ Frame.Reply reply }
+    {
+        let _ = reply.fields();
+        Message::new(Frame::Reply(reply))
+    }
+
+    /// A prepare of an entry that was made in no later view.
+    pub fn prepare(prepare: Prepare) -> Message
+        requires view { IsView prepare.view }
+        requires commit { IsNumber prepare.commit }
+        requires made { prepare.entry.header.view ≤ prepare.view }
+        ensures { result ≡ Frame.Prepare prepare }
+    {
+        let _ = prepare.entry.header();
+        Message::new(Frame::Prepare(prepare))
+    }
+
+    /// A prepare_ok.
+    pub fn prepare_ok(ok: PrepareOk) -> Message
+        requires view { IsView ok.view }
+        requires op { IsNumber ok.op }
+        requires made { IsView ok.made }
+        ensures { result ≡ Frame.PrepareOk ok }
+    {
+        Message::new(Frame::PrepareOk(ok))
+    }
+
+    /// A commit.
+    pub fn commit(commit: Commit) -> Message
+        requires view { IsView commit.view }
+        requires head { IsNumber commit.head }
+        requires commit { IsNumber commit.commit }
+        ensures { result ≡ Frame.Commit commit }
+    {
+        Message::new(Frame::Commit(commit))
+    }
+
+    /// A start_view_change.
+    pub fn start_view_change(change: StartViewChange) -> Message
+        requires { IsView change.view }
+        ensures { result ≡ Frame.StartViewChange change }
+    {
+        Message::new(Frame::StartViewChange(change))
+    }
+
+    /// A do_view_change.
+    pub fn do_view_change(change: DoViewChange) -> Message
+        requires { IsDoViewChange change }
+        ensures { result ≡ Frame.DoViewChange change }
+    {
+        Message::new(Frame::DoViewChange(change))
+    }
+
+    /// A start_view.
+    pub fn start_view(start: StartView) -> Message
+        requires { IsStartView start }
+        ensures { result ≡ Frame.StartView start }
+    {
+        Message::new(Frame::StartView(start))
+    }
+
+    /// A get_view.
+    pub fn get_view(get: GetView) -> Message
+        requires { IsView get.view }
+        ensures { result ≡ Frame.GetView get }
+    {
+        Message::new(Frame::GetView(get))
+    }
+
+    /// A get_prepare.
+    pub fn get_prepare(get: GetPrepare) -> Message
+        requires op { IsNumber get.op }
+        requires made { IsView get.made }
+        ensures { result ≡ Frame.GetPrepare get }
+    {
+        Message::new(Frame::GetPrepare(get))
+    }
+
+    /// A give_prepare.
+    pub fn give_prepare(give: GivePrepare) -> Message
+        ensures { result ≡ Frame.GivePrepare give }
+    {
+        let _ = give.entry.header();
+        Message::new(Frame::GivePrepare(give))
+    }
+
+    /// A get_block.
+    pub fn get_block(get: GetBlock) -> Message
+        ensures { result ≡ Frame.GetBlock get }
+    {
+        Message::new(Frame::GetBlock(get))
+    }
+
+    /// A give_block, of a block of 4,096 bytes.
+    pub fn give_block(give: GiveBlock) -> Message
+        requires { length give.block ≡ 4096 }
+        ensures { result ≡ Frame.GiveBlock give }
+    {
+        Message::new(Frame::GiveBlock(give))
+    }
+}
