@@ -1,6 +1,6 @@
 //! Spellings put into room that is there already.
 ghost use Rattle.std.specs.Prelude.{◌≡◌, ◌≤◌, ◌+◌, ◌++◌, length, take, drop};
-ghost use Rattle.vr_header.specs.Bodies.{operation_bytes};
+ghost use Rattle.vr_header.specs.Bodies.{IsOperation, operation_bytes};
 ghost use Rattle.vr_header.specs.Made.{IsEntry, entry_bytes};
 ghost use Rattle.vr_header.specs.Spelling.{IsHeader};
 
@@ -14,6 +14,7 @@ impl Operation {
         requires { at + length (operation_bytes self.now) ≤ length out.old }
         ensures front { take (at + length (operation_bytes self.now)) out.new ≡ take at out.old ++ operation_bytes self.now }
         ensures back { drop (at + length (operation_bytes self.now)) out.new ≡ drop (at + length (operation_bytes self.now)) out.old }
+        ensures form { IsOperation self.now }
     {
         match self {
             Operation::Register => put(out, at, &[1]),
@@ -43,7 +44,7 @@ impl Entry {
         ensures front { take (length (entry_bytes self.now)) out.new ≡ entry_bytes self.now }
         ensures back { drop (length (entry_bytes self.now)) out.new ≡ drop (length (entry_bytes self.now)) out.old }
         ensures size { length (entry_bytes self.now) ≤ 2048 }
-        ensures whole { IsEntry self.now × IsHeader self.now.header }
+        ensures whole { IsEntry self.now × IsHeader self.now.header × IsOperation self.now.operation }
     {
         put(out, 0, &encode(&self.header()));
         self.operation().put_body(out, 128);

@@ -2,6 +2,7 @@
 use Rattle.std.proofs.Common.{ℕ, ◌+◌, ◌-◌, ◌*◌, ◌%◌, ◌≤◌, ◌<◌, ◌≡◌, ◌≢◌, ◌⊎◌, inl, inr, arith, refl, sym, ap, ◌∙◌, false, List, [], ◌∷◌, ◌++◌, length, take, Option, Some, None, subst}
 use Rattle.std.specs.Prelude.{IfSome}
 use Rattle.std.specs.List.{AllByRecursion}
+use Rattle.std.specs.Option.{option_and_then}
 use Rattle.std.proofs.lemmas.Bool.{cases_eq, cases_lt}
 use Rattle.std.proofs.lemmas.List.{take_all}
 use Rattle.vr_disk.specs.DiskState.{Call, Write, Sync, Cell, Disk, Face, IsFace, after_all, reads, waits}
@@ -15,9 +16,9 @@ use Rattle.vr_header.specs.Made.{Whole}
 use Rattle.vr_header.specs.Spelling.{IsHeader}
 use Rattle.vr_rings.specs.Calls.{again_calls, header_calls, new_calls, prepare_calls}
 use Rattle.vr_rings.specs.Laws.{AgainLeaves, HeaderLeaves, HeaderWaits, KeepsSlots, NewLeaves, PrepareWaits}
-use Rattle.vr_rings.specs.Slots.{ReadsAs, header_reading, prepare_bytes, prepare_reading, sector_of, slot_of}
+use Rattle.vr_rings.specs.Slots.{IsWhole, ReadsAs, header_in, header_of, header_reading, prepare_bytes, prepare_reading, sector_of, slot_of, whole_in, whole_of}
 use Rattle.vr_rings.proofs.Cutting.{AllApart, CutKeeps, apart_cut, header_cut, keeps_both, part_cut, rest}
-use Rattle.vr_rings.proofs.Spelling.{damaged_none}
+use Rattle.vr_rings.proofs.Spelling.{damaged_none, header_again, length-prepare, whole_again}
 use Rattle.vr_rings.proofs.Standing.{calls_stand}
 use Rattle.vr_rings.proofs.Stops.{stops_both, stops_spared}
 
@@ -88,6 +89,11 @@ header_done : (h : Header) (f : Face) → length f.cells ≡ 1424 → header_rea
 unfolding header_calls
 header_done h f n = let b = slot_below h in reads_back f (header_at (slot_of h)) (sector_of h) (omega arith)
 
+-- the bytes of an entry's sectors read as the entry
+reads_as : (g : Face) (e : Whole) → IsWhole e → header_reading g (slot_of e.header) ≡ Some (sector_of e.header) → prepare_reading g (slot_of e.header) ≡ Some (prepare_bytes e) → ReadsAs g e
+unfolding header_in whole_in
+reads_as g e w h p = record { header = h; prepare = p; head = ap (option_and_then header_of) h ∙ header_again e.header w.header; whole = ap (option_and_then whole_of) p ∙ whole_again e w }
+
 -- ---- the halves leave each other's sectors
 
 header_spares : (h : Header) (k : ℕ) → k < 4 → AllByRecursion (Spares (prepare_at (slot_of h) + k)) (header_calls h)
@@ -102,26 +108,26 @@ prepare_same : (f g : Face) (slot : ℕ) → ((k : ℕ) → k < 4 → reads g (p
 prepare_same f g slot h =
     together_same 4 (prepare_at slot) f g (λ k a b. let n : prepare_at slot + (k - prepare_at slot) ≡ k = omega arith in subst (λ k. reads g k ≡ reads f k) n (h (k - prepare_at slot) (omega arith)))
 
-new_done : (e : Whole) (f : Face) → length f.cells ≡ 1424 → length (prepare_bytes e) ≡ 2048 → ReadsAs (after_all f (new_calls e)) e
-new_done e f n l =
+new_done : (e : Whole) (f : Face) → length f.cells ≡ 1424 → IsWhole e → ReadsAs (after_all f (new_calls e)) e
+new_done e f n w =
+    let l = length-prepare e w in
     let g = after_all f (prepare_calls e) in
     let slot = slot_of e.header in
     let all = after_all_append (prepare_calls e) (header_calls e.header) f in
-    record {
-      header = ap (λ g. header_reading g slot) all ∙ header_done e.header g (length_after_all (prepare_calls e) f ∙ n);
-      prepare = ap (λ g. prepare_reading g slot) all
-          ∙ (prepare_same g (after_all g (header_calls e.header)) slot (λ k m. ap (λ (c : Cell). c.reads) (frame_all (header_calls e.header) g (prepare_at slot + k) (header_spares e.header k m))) ∙ prepare_done e f n l);
-    }
+    reads_as (after_all f (new_calls e)) e w
+    (ap (λ g. header_reading g slot) all ∙ header_done e.header g (length_after_all (prepare_calls e) f ∙ n))
+    (ap (λ g. prepare_reading g slot) all
+    ∙ (prepare_same g (after_all g (header_calls e.header)) slot (λ k m. ap (λ (c : Cell). c.reads) (frame_all (header_calls e.header) g (prepare_at slot + k) (header_spares e.header k m))) ∙ prepare_done e f n l))
 
-again_done : (e : Whole) (f : Face) → length f.cells ≡ 1424 → length (prepare_bytes e) ≡ 2048 → ReadsAs (after_all f (again_calls e)) e
-again_done e f n l =
+again_done : (e : Whole) (f : Face) → length f.cells ≡ 1424 → IsWhole e → ReadsAs (after_all f (again_calls e)) e
+again_done e f n w =
+    let l = length-prepare e w in
     let g = after_all f (header_calls e.header) in
     let slot = slot_of e.header in
     let all = after_all_append (header_calls e.header) (prepare_calls e) f in
-    record {
-      header = ap (λ g. header_reading g slot) all ∙ (ap (λ (c : Cell). c.reads) (frame_all (prepare_calls e) g (header_at slot) (prepare_spares e)) ∙ header_done e.header f n);
-      prepare = ap (λ g. prepare_reading g slot) all ∙ prepare_done e g (length_after_all (header_calls e.header) f ∙ n) l;
-    }
+    reads_as (after_all f (again_calls e)) e w
+    (ap (λ g. header_reading g slot) all ∙ (ap (λ (c : Cell). c.reads) (frame_all (prepare_calls e) g (header_at slot) (prepare_spares e)) ∙ header_done e.header f n))
+    (ap (λ g. prepare_reading g slot) all ∙ prepare_done e g (length_after_all (header_calls e.header) f ∙ n) l)
 
 -- ---- a stop
 
@@ -152,22 +158,22 @@ again_stopped e f g n r s =
 
 -- ---- on a disk that may tell
 
-pub new_leaves : (e : Whole) (t : Option Disk) → IfSome t (λ d. IsFace d.face) → IsHeader e.header → length (prepare_bytes e) ≡ 2048 → IfSome t (λ d. d.face.waiting ≡ [] → NewLeaves e d.face)
-new_leaves e None w h n = tt
-new_leaves e (Some d) w h n =
+pub new_leaves : (e : Whole) (t : Option Disk) → IfSome t (λ d. IsFace d.face) → IsWhole e → IfSome t (λ d. d.face.waiting ≡ [] → NewLeaves e d.face)
+new_leaves e None w i = tt
+new_leaves e (Some d) w i =
     λ r. record {
-      done = new_done e d.face w.count n;
-      stopped = λ g s. new_stopped e d.face g w.count r n s;
-      kept = keeps_slots (new_calls e) d.face w.count r (λ slot l. keeps_both slot (prepare_calls e) (header_calls e.header) l (prepare_rests e) (prepare_keeps e slot l) (header_keeps e.header slot h l));
+      done = new_done e d.face w.count i;
+      stopped = λ g s. new_stopped e d.face g w.count r (length-prepare e i) s;
+      kept = keeps_slots (new_calls e) d.face w.count r (λ slot l. keeps_both slot (prepare_calls e) (header_calls e.header) l (prepare_rests e) (prepare_keeps e slot l) (header_keeps e.header slot i.header l));
     }
 
-pub again_leaves : (e : Whole) (t : Option Disk) → IfSome t (λ d. IsFace d.face) → IsHeader e.header → length (prepare_bytes e) ≡ 2048 → IfSome t (λ d. d.face.waiting ≡ [] → AgainLeaves e d.face)
-again_leaves e None w h n = tt
-again_leaves e (Some d) w h n =
+pub again_leaves : (e : Whole) (t : Option Disk) → IfSome t (λ d. IsFace d.face) → IsWhole e → IfSome t (λ d. d.face.waiting ≡ [] → AgainLeaves e d.face)
+again_leaves e None w i = tt
+again_leaves e (Some d) w i =
     λ r. record {
-      done = again_done e d.face w.count n;
+      done = again_done e d.face w.count i;
       stopped = λ g s. again_stopped e d.face g w.count r s;
-      kept = keeps_slots (again_calls e) d.face w.count r (λ slot l. keeps_both slot (header_calls e.header) (prepare_calls e) l (header_rests e.header) (header_keeps e.header slot h l) (prepare_keeps e slot l));
+      kept = keeps_slots (again_calls e) d.face w.count r (λ slot l. keeps_both slot (header_calls e.header) (prepare_calls e) l (header_rests e.header) (header_keeps e.header slot i.header l) (prepare_keeps e slot l));
     }
 
 pub header_leaves : (h : Header) (t : Option Disk) → IfSome t (λ d. IsFace d.face) → IsHeader h → IfSome t (λ d. d.face.waiting ≡ [] → HeaderLeaves h d.face)

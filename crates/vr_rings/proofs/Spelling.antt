@@ -21,7 +21,7 @@ use Rattle.vr_header.proofs.HeaderLaws.{decoded_again, decoded_found, length-hea
 use Rattle.vr_header.proofs.Putting.{length-entry}
 use Rattle.vr_rings.specs.Laws.{OneSpelling}
 use Rattle.vr_rings.specs.Readings.{BeginsWith}
-use Rattle.vr_rings.specs.Slots.{header_of, is_zeros, prepare_bytes, prepare_reading, sector_of, size_at, whole_in, whole_of}
+use Rattle.vr_rings.specs.Slots.{IsWhole, header_of, is_zeros, prepare_bytes, prepare_reading, sector_of, size_at, whole_in, whole_of}
 
 pub zeros_are : (n : ℕ) → is_zeros (replicate n 0) ≡ true
 zeros_are zero = refl
@@ -63,7 +63,7 @@ pub sector_spells : (h : Header) → IsHeader h → Spells h (sector_of h)
 unfolding sector_of
 sector_spells h i = take_at (header_bytes h) (replicate 384 0) 128 (length-header_bytes h i)
 
-header_again : (h : Header) → IsHeader h → header_of (sector_of h) ≡ Some h
+pub header_again : (h : Header) → IsHeader h → header_of (sector_of h) ≡ Some h
 unfolding header_of sector_of
 header_again h i =
     let b = header_bytes h ++ replicate 384 0 in
@@ -105,27 +105,29 @@ prepare_spells e i =
     let z = replicate (2048 - length (h ++ o)) 0 in
     ap (take 128) (append_assoc h o z) ∙ take_at h (o ++ z) 128 (length-header_bytes e.header i)
 
-whole_again : (e : Whole) → IsEntry e → IsHeader e.header → IsOperation e.operation → whole_of (prepare_bytes e) ≡ Some e
+pub whole_again : (e : Whole) → IsWhole e → whole_of (prepare_bytes e) ≡ Some e
 unfolding whole_of prepare_bytes
-whole_again e i h o =
+whole_again e w =
+    let i = w.entry in
+    let h = w.header in
     let x = entry_bytes e in
     let z = replicate (2048 - length x) 0 in
     let b = x ++ z in
     let s : Spells e.header b = prepare_spells e h in
     let n : length x ≡ size_at b = length-entry e h ∙ (sym i.body.size ∙ sym (size_of b e.header (decoded_again e.header b h s))) in
-    rw (drop_at x z (size_at b) n, zeros_are (2048 - length x), take_at x z (size_at b) n) (entry_again e i h o)
+    rw (drop_at x z (size_at b) n, zeros_are (2048 - length x), take_at x z (size_at b) n) (entry_again e i h w.operation)
 
-whole_found : (b : List ℕ) (e : Whole) → IsBytes b → length b ≡ 2048 → whole_of b ≡ Some e → (b ≡ prepare_bytes e) × IsEntry e × IsHeader e.header × IsOperation e.operation
+whole_found : (b : List ℕ) (e : Whole) → IsBytes b → length b ≡ 2048 → whole_of b ≡ Some e → (b ≡ prepare_bytes e) × IsWhole e
 unfolding whole_of prepare_bytes
 whole_found b e f n w =
     let k = size_at b in
-    elim (is_zeros (drop k b)) as (λ z. is_zeros (drop k b) ≡ z → cond z (entry_of (take k b)) None ≡ Some e → (b ≡ entry_bytes e ++ replicate (2048 - length (entry_bytes e)) 0) × IsEntry e × IsHeader e.header × IsOperation e.operation) [
+    elim (is_zeros (drop k b)) as (λ z. is_zeros (drop k b) ≡ z → cond z (entry_of (take k b)) None ≡ Some e → (b ≡ entry_bytes e ++ replicate (2048 - length (entry_bytes e)) 0) × IsWhole e) [
       | true ↦ λ z w.
           let all = entry_found (take k b) (bytes_front k b f) in
           let s : IsSpelled (take k b) e = rw w at all in
           let long : length (entry_bytes e) ≡ min k (length b) = ap length (sym s.0) ∙ length-take k b in
           let size : length (drop k b) ≡ 2048 - length (entry_bytes e) = let l = length-drop k b in omega arith in
-          (sym (take-append-drop k b) ∙ (ap (λ y. y ++ drop k b) s.0 ∙ ap (λ y. entry_bytes e ++ y) (are_zeros (drop k b) z ∙ ap (λ n. replicate n 0) size)), s.1, s.2, s.3)
+          (sym (take-append-drop k b) ∙ (ap (λ y. y ++ drop k b) s.0 ∙ ap (λ y. entry_bytes e ++ y) (are_zeros (drop k b) z ∙ ap (λ n. replicate n 0) size)), record { entry = s.1; header = s.2; operation = s.3 })
       | false ↦ λ z w. absurd cc
     ] refl w
 
@@ -137,9 +139,11 @@ pub spelled_prepare : (e : Whole) (new : List ℕ) → take (length (entry_bytes
 unfolding prepare_bytes
 spelled_prepare e new t d = over_zeros 2048 (length (entry_bytes e)) (entry_bytes e) new t d
 
-pub length-prepare : (e : Whole) → IsEntry e → IsHeader e.header → length (prepare_bytes e) ≡ 2048
+pub length-prepare : (e : Whole) → IsWhole e → length (prepare_bytes e) ≡ 2048
 unfolding prepare_bytes
-length-prepare e i h =
+length-prepare e w =
+    let i = w.entry in
+    let h = w.header in
     let x = entry_bytes e in
     let zs : List ℕ = replicate (2048 - length x) 0 in
     let n = length-entry e h in
@@ -173,7 +177,7 @@ put_front old bytes n = take_at bytes (drop (0 + length bytes) old) 2048 n
 pub begins : (h : Header) (bytes buffer : List ℕ) → IsBytes bytes → length bytes ≡ 2048 → take 2048 buffer ≡ bytes → option_map (λ e. e.header) (whole_of bytes) ≡ Some h → BeginsWith h buffer
 begins h bytes buffer f n t w =
     elim (whole_of bytes) as (λ (o : Option Whole). whole_of bytes ≡ o → option_map (λ (e : Whole). e.header) o ≡ Some h → BeginsWith h buffer) [
-      | Some e ↦ λ s w. let p = whole_found bytes e f n s in record { entry = e; header = cc; bytes = t ∙ p.0; whole = (p.1, p.2, p.3) }
+      | Some e ↦ λ s w. let p = whole_found bytes e f n s in record { entry = e; header = cc; bytes = t ∙ p.0; whole = p.1 }
       | None ↦ λ s w. absurd cc
     ] refl w
 

@@ -5,12 +5,11 @@ use Rattle.vr_disk.specs.DiskState.{Call, Face, after_all, cell, cut, waits}
 use Rattle.vr_disk.specs.Regions.{header_at, prepare_at}
 use Rattle.vr_disk.specs.Stops.{Stops}
 use Rattle.vr_header.specs.declared.header.Header.{Header}
-use Rattle.vr_header.specs.Bodies.{IsOperation}
-use Rattle.vr_header.specs.Made.{IsEntry, Whole, entry_bytes}
+use Rattle.vr_header.specs.Made.{Whole}
 use Rattle.vr_header.specs.Spelling.{IsHeader}
 use Rattle.vr_rings.specs.Calls.{again_calls, header_calls, new_calls}
 use Rattle.vr_rings.specs.Held.{Stands, held_after_all, held_cut}
-use Rattle.vr_rings.specs.Slots.{ReadsAs, header_of, header_reading, prepare_bytes, prepare_reading, sector_of, slot_of, whole_of}
+use Rattle.vr_rings.specs.Slots.{IsWhole, ReadsAs, header_of, header_reading, prepare_bytes, prepare_reading, sector_of, slot_of, whole_of}
 
 -- ---- what is kept of each slot, whatever the slots hold before the calls
 
@@ -66,5 +65,5 @@ pub record HeaderLeaves (h : Header) (f : Face) : Type 0 where
 pub record OneSpelling : Type 0 where
   pub header_found : (b : List ℕ) (h : Header) → IsBytes b → length b ≡ 512 → header_of b ≡ Some h → (b ≡ sector_of h) × IsHeader h
   pub header_again : (h : Header) → IsHeader h → header_of (sector_of h) ≡ Some h
-  pub entry_found : (b : List ℕ) (e : Whole) → IsBytes b → length b ≡ 2048 → whole_of b ≡ Some e → (b ≡ prepare_bytes e) × IsEntry e × IsHeader e.header × IsOperation e.operation
-  pub entry_again : (e : Whole) → IsEntry e → IsHeader e.header → IsOperation e.operation → whole_of (prepare_bytes e) ≡ Some e
+  pub entry_found : (b : List ℕ) (e : Whole) → IsBytes b → length b ≡ 2048 → whole_of b ≡ Some e → (b ≡ prepare_bytes e) × IsWhole e
+  pub entry_again : (e : Whole) → IsWhole e → whole_of (prepare_bytes e) ≡ Some e

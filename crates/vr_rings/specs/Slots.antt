@@ -9,12 +9,19 @@ use Rattle.vr_disk.specs.DiskState.{Face, reads}
 use Rattle.vr_disk.specs.Regions.{header_at, prepare_at}
 use Rattle.vr_disk.specs.Sectors.{has, together}
 use Rattle.vr_header.specs.declared.header.Header.{Header}
-use Rattle.vr_header.specs.Made.{Whole, entry_bytes, entry_of}
-use Rattle.vr_header.specs.Spelling.{decoded, header_bytes}
+use Rattle.vr_header.specs.Bodies.{IsOperation}
+use Rattle.vr_header.specs.Made.{IsEntry, Whole, entry_bytes, entry_of}
+use Rattle.vr_header.specs.Spelling.{IsHeader, decoded, header_bytes}
 
 -- an op's slot
 abbrev pub slot_of : Header → ℕ
 slot_of h = h.op % 64
+
+-- an entry as the program has it
+pub record IsWhole (e : Whole) : Type 0 where
+  pub entry : IsEntry e
+  pub header : IsHeader e.header
+  pub operation : IsOperation e.operation
 
 -- ---- the bytes of an entry's sectors
 
@@ -64,3 +71,5 @@ whole_in f slot = option_and_then whole_of (prepare_reading f slot)
 pub record ReadsAs (f : Face) (e : Whole) : Type 0 where
   pub header : header_reading f (slot_of e.header) ≡ Some (sector_of e.header)
   pub prepare : prepare_reading f (slot_of e.header) ≡ Some (prepare_bytes e)
+  pub head : header_in f (slot_of e.header) ≡ Some e.header
+  pub whole : whole_in f (slot_of e.header) ≡ Some e

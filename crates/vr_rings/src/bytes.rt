@@ -3,7 +3,7 @@ ghost use Rattle.std.specs.Prelude.{◌≡◌, length};
 ghost use Rattle.std.specs.Option.{option_map};
 ghost use Rattle.vr_base.specs.Bytes.{IsBytes};
 ghost use Rattle.vr_header.specs.Spelling.{IsHeader};
-ghost use Rattle.vr_rings.specs.Slots.{header_of, is_zeros, prepare_bytes, sector_of, whole_of};
+ghost use Rattle.vr_rings.specs.Slots.{IsWhole, header_of, is_zeros, prepare_bytes, sector_of, whole_of};
 
 use vr_base::{put, u32_at};
 use vr_disk::Sector;
@@ -31,7 +31,7 @@ pub fn sector_of(header: &Header) -> Sector
 pub fn prepare_of(entry: &Entry) -> [u8; 2048]
     ensures bytes { result ≡ prepare_bytes entry.now }
     ensures size { length (prepare_bytes entry.now) ≡ 2048 }
-    ensures header { IsHeader entry.now.header }
+    ensures whole { IsWhole entry.now }
 {
     let mut bytes = [0; 2048];
     entry.put(&mut bytes);

@@ -1,5 +1,5 @@
 //! Writing a slot.
-ghost use Rattle.std.specs.Prelude.{◌≡◌, [], IfSome, is_ok, length};
+ghost use Rattle.std.specs.Prelude.{◌≡◌, [], IfSome, is_ok};
 ghost use Rattle.vr_base.specs.Causes.{HasCause};
 ghost use Rattle.vr_disk.specs.DiskState.{Runs};
 ghost use Rattle.vr_header.specs.Spelling.{IsHeader};
@@ -13,17 +13,19 @@ use crate::slot::slot_of;
 use vr_disk::{DiskFailed, SectorDisk, header_at, prepare_at, write_sectors};
 use vr_header::{Entry, Header};
 
-// Writes the four sectors of an entry, and syncs them.
+// Writes the four sectors of an entry, which are these bytes, and syncs them.
 #[tactic(auto, using(vr_disk::proofs::Running::Runs_then, vr_disk::proofs::Running::Runs_stopped), unfolding(crate::specs::Calls::prepare_calls))]
-fn put_prepare<D: SectorDisk>(disk: &mut D, entry: &Entry) -> Result<(), DiskFailed>
+fn put_prepare<D: SectorDisk>(
+    disk: &mut D,
+    entry: &Entry,
+    bytes: &[u8; 2048],
+) -> Result<(), DiskFailed>
+    requires { bytes.now ≡ prepare_bytes entry.now }
     ensures runs { Runs (prepare_calls entry.now) (D.told disk.old) (D.told disk.new) (is_ok result) }
-    ensures size { length (prepare_bytes entry.now) ≡ 2048 }
-    ensures header { IsHeader entry.now.header }
     ensures cause { HasCause (D.faults disk.old) (D.faults disk.new) result }
 {
-    let bytes = prepare_of(entry);
     let at = prepare_at(slot_of(&entry.header()));
-    write_sectors(disk, at, 4, &bytes)?;
+    write_sectors(disk, at, 4, bytes)?;
     disk.sync()?;
     Ok(())
 }
@@ -51,7 +53,8 @@ pub fn write_new<D: SectorDisk>(disk: &mut D, entry: &Entry) -> Result<(), DiskF
     // prepare synced already; and the premise on slots is kept.
     ensures stop { IfSome (D.told disk.old) (λ d. d.face.waiting ≡ [] → NewLeaves entry.now d.face) }
 {
-    put_prepare(disk, entry)?;
+    let bytes = prepare_of(entry);
+    put_prepare(disk, entry, &bytes)?;
     put_header(disk, &entry.header())?;
     Ok(())
 }
@@ -66,8 +69,10 @@ pub fn write_again<D: SectorDisk>(disk: &mut D, entry: &Entry) -> Result<(), Dis
     // sector synced already; and the premise on slots is kept.
     ensures stop { IfSome (D.told disk.old) (λ d. d.face.waiting ≡ [] → AgainLeaves entry.now d.face) }
 {
-    put_header(disk, &entry.header())?;
-    put_prepare(disk, entry)?;
+    let bytes = prepare_of(entry);
+    let header = entry.header();
+    put_header(disk, &header)?;
+    put_prepare(disk, entry, &bytes)?;
     Ok(())
 }
 

@@ -1,17 +1,11 @@
-use Rattle.std.proofs.Common.{◌≡◌, length}
-use Rattle.vr_header.specs.Spelling.{IsHeader}
-use Rattle.vr_rings.proofs.Leaving.{new_leaves, again_leaves}
-use Rattle.vr_rings.proofs.Spelling.{length-prepare}
+use Rattle.vr_rings.proofs.Leaving.{again_leaves}
 use Rattle.vr_rings.proofs.writing.write_again.Goals as goal
 
 pub returns-in_err-put_header-clause-stop : goal.returns-in_err-put_header-clause-stop
-returns-in_err-put_header-clause-stop g c =
-    let e = c.args.entry.now in
-    let h : IsHeader e.header = rw c.header.ensures.value at c.put_header.ensures.header in
-    again_leaves e (g.D.SectorDisk.told c.args.disk.now) (g.met.D.SectorDisk.whole c.args.disk.now) h (length-prepare e c.header.ensures.entry h)
+returns-in_err-put_header-clause-stop g c = again_leaves c.args.entry.now (g.D.SectorDisk.told c.args.disk.now) (g.met.D.SectorDisk.whole c.args.disk.now) c.prepare_of-bytes.ensures.whole
 
 pub returns-in_err-put_prepare-clause-stop : goal.returns-in_err-put_prepare-clause-stop
-returns-in_err-put_prepare-clause-stop g c = again_leaves c.args.entry.now (g.D.SectorDisk.told c.args.disk.now) (g.met.D.SectorDisk.whole c.args.disk.now) c.put_prepare.ensures.header c.put_prepare.ensures.size
+returns-in_err-put_prepare-clause-stop g c = again_leaves c.args.entry.now (g.D.SectorDisk.told c.args.disk.now) (g.met.D.SectorDisk.whole c.args.disk.now) c.prepare_of-bytes.ensures.whole
 
 pub returns-clause-stop : goal.returns-clause-stop
-returns-clause-stop g c = again_leaves c.args.entry.now (g.D.SectorDisk.told c.args.disk.now) (g.met.D.SectorDisk.whole c.args.disk.now) c.put_prepare.ensures.header c.put_prepare.ensures.size
+returns-clause-stop g c = again_leaves c.args.entry.now (g.D.SectorDisk.told c.args.disk.now) (g.met.D.SectorDisk.whole c.args.disk.now) c.prepare_of-bytes.ensures.whole
