@@ -34,31 +34,31 @@ fn spoil(disk: &mut MemDisk, i: u32) -> Result<(), DiskFailed>
 fn new_stops(rt: HostRuntime) -> Result<(), Fail> {
     let mut to = Buffer::new(rt.alloc()).map_err(|_| "no memory")?;
 
-    // The call that is cut, its code, and what the header sector and the prepare then read as.
-    for (call, code, header, prepare) in [
-        (1u32, 0, Some(1), Some(1)),
-        (1, 2, Some(1), None),
-        (3, 0, Some(1), Some(1)),
-        (3, 26, Some(1), None),
-        (4, 6, Some(1), None),
-        (5, 40, Some(1), Some(65)),
+    // So many calls go through before the one that is cut, by this code; and what the header sector and the prepare then read as.
+    for (calls, code, header, prepare) in [
+        (0u32, 0, Some(1), Some(1)),
+        (0, 2, Some(1), None),
+        (2, 0, Some(1), Some(1)),
+        (2, 26, Some(1), None),
+        (3, 6, Some(1), None),
+        (4, 40, Some(1), Some(65)),
+        (5, 0, Some(1), Some(65)),
+        (5, 1, Some(65), Some(65)),
+        (5, 2, None, Some(65)),
         (6, 0, Some(1), Some(65)),
-        (6, 1, Some(65), Some(65)),
         (6, 2, None, Some(65)),
-        (7, 0, Some(1), Some(65)),
-        (7, 2, None, Some(65)),
-        (8, 0, Some(65), Some(65)),
+        (7, 0, Some(65), Some(65)),
     ] {
         let mut disk = MemDisk::new(rt.alloc()).map_err(|_| "no memory")?;
         write_new(&mut disk, &entry(1)).map_err(|_| "a write failed")?;
-        disk.fuse(u64::from(call), code);
+        disk.fuse(u64::from(calls) + 1, code);
         let result = write_new(&mut disk, &entry(65));
-        assert_eq!(rt; result.is_err(), call < 8, "call {call}, code {code}");
+        assert_eq!(rt; result.is_err(), calls < 7, "{calls} calls, code {code}");
         disk.revive();
         assert_eq!(rt;
             ops(&mut disk, &mut to),
             (header, prepare),
-            "call {call}, code {code}"
+            "{calls} calls, code {code}"
         );
     }
     Ok(())
@@ -67,27 +67,27 @@ fn new_stops(rt: HostRuntime) -> Result<(), Fail> {
 #[test]
 fn again_stops(rt: HostRuntime) -> Result<(), Fail> {
     let mut to = Buffer::new(rt.alloc()).map_err(|_| "no memory")?;
-    for (call, code, header, prepare) in [
-        (1u32, 0, None, Some(1)),
-        (1, 2, None, Some(1)),
-        (2, 1, Some(1), Some(1)),
-        (3, 0, Some(1), Some(1)),
-        (3, 2, Some(1), None),
-        (7, 80, Some(1), None),
-        (7, 40, Some(1), Some(1)),
-        (8, 0, Some(1), Some(1)),
+    for (calls, code, header, prepare) in [
+        (0u32, 0, None, Some(1)),
+        (0, 2, None, Some(1)),
+        (1, 1, Some(1), Some(1)),
+        (2, 0, Some(1), Some(1)),
+        (2, 2, Some(1), None),
+        (6, 80, Some(1), None),
+        (6, 40, Some(1), Some(1)),
+        (7, 0, Some(1), Some(1)),
     ] {
         let mut disk = MemDisk::new(rt.alloc()).map_err(|_| "no memory")?;
         write_new(&mut disk, &entry(1)).map_err(|_| "a write failed")?;
         spoil(&mut disk, 81).map_err(|_| "a write failed")?;
-        disk.fuse(u64::from(call), code);
+        disk.fuse(u64::from(calls) + 1, code);
         let result = write_again(&mut disk, &entry(1));
-        assert_eq!(rt; result.is_err(), call < 8, "call {call}, code {code}");
+        assert_eq!(rt; result.is_err(), calls < 7, "{calls} calls, code {code}");
         disk.revive();
         assert_eq!(rt;
             ops(&mut disk, &mut to),
             (header, prepare),
-            "call {call}, code {code}"
+            "{calls} calls, code {code}"
         );
     }
     Ok(())
@@ -97,27 +97,21 @@ fn again_stops(rt: HostRuntime) -> Result<(), Fail> {
 fn damaged(rt: HostRuntime) -> Result<(), Fail> {
     let mut to = Buffer::new(rt.alloc()).map_err(|_| "no memory")?;
     let header = entry(1).header();
-    for (sector, faulty) in [
-        (81u32, false),
-        (148, true),
-        (149, true),
-        (150, true),
-        (151, true),
-    ] {
+    for (place, faulty) in [(0u8, false), (67, true), (68, true), (69, true), (70, true)] {
         let mut disk = MemDisk::new(rt.alloc()).map_err(|_| "no memory")?;
         write_new(&mut disk, &entry(1)).map_err(|_| "a write failed")?;
-        spoil(&mut disk, sector).map_err(|_| "a write failed")?;
+        spoil(&mut disk, 81 + u32::from(place)).map_err(|_| "a write failed")?;
         let result = read_prepare(&mut disk, 1, &header, &mut to);
-        assert_eq!(rt; result.is_err(), faulty, "sector {sector}");
+        assert_eq!(rt; result.is_err(), faulty, "{place} behind the header sector");
         assert_eq!(rt;
             read_whole(&mut disk, 1, &mut to).is_err(),
             faulty,
-            "sector {sector}"
+            "{place} behind the header sector"
         );
         assert_eq!(rt;
             read_header(&mut disk, 1).is_some(),
             faulty,
-            "sector {sector}"
+            "{place} behind the header sector"
         );
     }
     Ok(())
@@ -137,9 +131,7 @@ fn another(rt: HostRuntime) -> Result<(), Fail> {
         read_prepare(&mut disk, 1, &entry(1).header(), &mut to),
         Ok(())
     );
-    assert_eq!(rt;
-        Entry::header_in(&to.as_slice()[..129]),
-        Some(entry(1).header())
-    );
+    let (front, _) = to.as_slice().split_at(129);
+    assert_eq!(rt; Entry::header_in(front), Some(entry(1).header()));
     Ok(())
 }
