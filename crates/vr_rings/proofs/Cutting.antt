@@ -51,7 +51,7 @@ settled_still : (f : Face) (code k : ℕ) → f.waiting ≡ [] → cell (cut_at 
 settled_still f code k e = ap (λ ws. get_or (settled code ws f.cells) k blank) e
 
 -- a call that is cut leaves a sector that it spares and that doesn't wait
-cut_spares : (f : Face) (c : Call) (code k : ℕ) → Spares k c → waits k f.waiting ≡ false → cell (cut_at code f c) k ≡ cell f k
+pub cut_spares : (f : Face) (c : Call) (code k : ℕ) → Spares k c → waits k f.waiting ≡ false → cell (cut_at code f c) k ≡ cell f k
 unfolding cut
 cut_spares f c code k s w = frame_cut (c ∷ []) f k 0 code (s, tt) w
 

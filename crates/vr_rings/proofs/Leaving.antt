@@ -1,10 +1,12 @@
 -- What the calls of a slot leave, and what a stop at any of them leaves.
-use Rattle.std.proofs.Common.{ℕ, ◌+◌, ◌-◌, ◌*◌, ◌%◌, ◌≤◌, ◌<◌, ◌≡◌, ◌≢◌, ◌⊎◌, inl, inr, arith, refl, sym, ap, ◌∙◌, false, List, [], ◌∷◌, ◌++◌, length, take, Option, Some, None, subst}
+use Rattle.std.proofs.Common.{ℕ, zero, suc, ◌+◌, ◌-◌, ◌*◌, ◌%◌, ◌≤◌, ◌<◌, ◌≡◌, ◌≢◌, ◌⊎◌, inl, inr, arith, refl, sym, ap, ◌∙◌, false, List, [], ◌∷◌, ◌++◌, length, take, drop, Option, Some, None, subst}
 use Rattle.std.specs.Prelude.{IfSome}
 use Rattle.std.specs.List.{AllByRecursion}
 use Rattle.std.specs.Option.{option_and_then}
 use Rattle.std.proofs.lemmas.Bool.{cases_eq, cases_lt}
-use Rattle.std.proofs.lemmas.List.{take_all}
+use Rattle.std.proofs.lemmas.List.{drop-drop, take_all}
+use Rattle.vr_base.specs.Bytes.{piece}
+use Rattle.vr_rings.specs.Held.{header_sector}
 use Rattle.vr_disk.specs.DiskState.{Call, Write, Sync, Cell, Disk, Face, IsFace, after_all, reads, waits}
 use Rattle.vr_disk.specs.Regions.{header_at, prepare_at}
 use Rattle.vr_disk.specs.Sectors.{together, writes}
@@ -15,10 +17,11 @@ use Rattle.vr_header.specs.declared.header.Header.{Header}
 use Rattle.vr_header.specs.Made.{Whole}
 use Rattle.vr_header.specs.Spelling.{IsHeader}
 use Rattle.vr_rings.specs.Calls.{again_calls, header_calls, new_calls, prepare_calls}
-use Rattle.vr_rings.specs.Laws.{AgainLeaves, HeaderLeaves, HeaderWaits, KeepsSlots, NewLeaves, PrepareWaits}
+use Rattle.vr_rings.specs.Laws.{AgainLeaves, HeaderLeaves, HeaderWaits, KeepsSlots, LastsIn, NewLeaves, PrepareWaits}
 use Rattle.vr_rings.specs.Slots.{IsWhole, ReadsAs, header_in, header_of, header_reading, prepare_bytes, prepare_reading, sector_of, slot_of, whole_in, whole_of}
 use Rattle.vr_rings.proofs.Cutting.{AllApart, CutKeeps, apart_cut, header_cut, keeps_both, part_cut, rest}
-use Rattle.vr_rings.proofs.Spelling.{damaged_none, header_again, length-prepare, whole_again}
+use Rattle.vr_rings.proofs.Spelling.{damaged_none, header_again, header_sector_is, length-prepare, length-sector, sector_version, whole_again}
+use Rattle.vr_rings.proofs.Lasting.{Pieces, lasts_in}
 use Rattle.vr_rings.proofs.Standing.{calls_stand}
 use Rattle.vr_rings.proofs.Stops.{stops_both, stops_spared}
 
@@ -156,6 +159,42 @@ again_stopped e f g n r s =
           inr (record { reads = ap (λ (c : Cell). c.reads) p.0 ∙ header_done e.header f n; rests = p.1 })
     ]
 
+-- ---- an entry that the slot holds already
+
+pieces_of : (n k slot : ℕ) (p : List ℕ) → k + n ≤ 4 → AllByRecursion (Pieces slot p) (writes (prepare_at slot + k) n (drop (512 * k) p))
+unfolding writes piece
+pieces_of zero k slot p l = tt
+pieces_of (suc n) k slot p l =
+    let at = prepare_at slot in
+    let i : k ≡ at + k - at = omega arith in
+    let next : at + k + 1 ≡ at + (k + 1) = omega arith in
+    let size : 512 * k + 512 ≡ 512 * (k + 1) = omega arith in
+    let rest : writes (at + k + 1) n (drop 512 (drop (512 * k) p)) ≡ writes (at + (k + 1)) n (drop (512 * (k + 1)) p) =
+    ap (λ i. writes i n (drop 512 (drop (512 * k) p))) next ∙ ap (writes (at + (k + 1)) n) (drop-drop 512 (512 * k) p ∙ ap (λ m. drop m p) size) in
+    ((omega arith, omega arith, ap (λ k. take 512 (drop (512 * k) p)) i), subst (λ cs. AllByRecursion (Pieces slot p) cs) (sym rest) (pieces_of n (k + 1) slot p (omega arith)))
+
+all_append : (slot : ℕ) (p : List ℕ) (cs ds : List Call) → AllByRecursion (Pieces slot p) cs → AllByRecursion (Pieces slot p) ds → AllByRecursion (Pieces slot p) (cs ++ ds)
+all_append slot p [] ds a b = b
+all_append slot p (c ∷ cs) ds a b = (a.0, all_append slot p cs ds a.1 b)
+
+prepare_pieces : (e : Whole) → AllByRecursion (Pieces (slot_of e.header) (prepare_bytes e)) (prepare_calls e)
+unfolding prepare_calls
+prepare_pieces e =
+    let slot = slot_of e.header in
+    let p = prepare_bytes e in
+    let first : AllByRecursion (Pieces slot p) (writes (prepare_at slot) 4 p) = let z : prepare_at slot + 0 ≡ prepare_at slot = omega arith in subst (λ i. AllByRecursion (Pieces slot p) (writes i 4 p)) z (pieces_of 4 0 slot p (omega arith)) in
+    all_append slot p (writes (prepare_at slot) 4 p) (Sync ∷ []) first (tt, tt)
+
+again_lasts : (e : Whole) (f : Face) → IsWhole e → length f.cells ≡ 1424 → f.waiting ≡ [] → LastsIn (again_calls e) f (slot_of e.header) (prepare_bytes e)
+unfolding header_calls
+again_lasts e f w n r =
+    let long = length-sector e.header w.header in
+    lasts_in (prepare_calls e) f (slot_of e.header) (sector_of e.header) (prepare_bytes e) (slot_below e.header) n r (sym (header_sector_is e w.header)) (omega arith) (sector_version e.header w.header) (prepare_pieces e)
+
+header_lasts : (h : Header) (f : Face) (p : List ℕ) → IsHeader h → length f.cells ≡ 1424 → f.waiting ≡ [] → header_sector p ≡ sector_of h → LastsIn (header_calls h) f (slot_of h) p
+unfolding header_calls
+header_lasts h f p i n r e = let long = length-sector h i in lasts_in [] f (slot_of h) (sector_of h) p (slot_below h) n r (sym e) (omega arith) (sector_version h i) tt
+
 -- ---- on a disk that may tell
 
 pub new_leaves : (e : Whole) (t : Option Disk) → IfSome t (λ d. IsFace d.face) → IsWhole e → IfSome t (λ d. d.face.waiting ≡ [] → NewLeaves e d.face)
@@ -174,9 +213,10 @@ again_leaves e (Some d) w i =
       done = again_done e d.face w.count i;
       stopped = λ g s. again_stopped e d.face g w.count r s;
       kept = keeps_slots (again_calls e) d.face w.count r (λ slot l. keeps_both slot (header_calls e.header) (prepare_calls e) l (header_rests e.header) (header_keeps e.header slot i.header l) (prepare_keeps e slot l));
+      lasts = again_lasts e d.face i w.count r;
     }
 
 pub header_leaves : (h : Header) (t : Option Disk) → IfSome t (λ d. IsFace d.face) → IsHeader h → IfSome t (λ d. d.face.waiting ≡ [] → HeaderLeaves h d.face)
 header_leaves h None w i = tt
 header_leaves h (Some d) w i =
-    λ r. record { done = header_done h d.face w.count; kept = keeps_slots (header_calls h) d.face w.count r (λ slot l. header_keeps h slot i l) }
+    λ r. record { done = header_done h d.face w.count; kept = keeps_slots (header_calls h) d.face w.count r (λ slot l. header_keeps h slot i l); lasts = λ p e. header_lasts h d.face p i w.count r e }

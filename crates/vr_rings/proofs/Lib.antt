@@ -1,4 +1,5 @@
 pub mod Cutting
+pub mod Lasting
 pub mod Leaving
 pub mod Spelling
 pub mod Standing

@@ -5,7 +5,7 @@ use Rattle.std.specs.Option.{option_map, option_map_or}
 use Rattle.std.specs.Result.{result_ok}
 use Rattle.std.specs.Int.{w32}
 use Rattle.std.proofs.lemmas.Bool.{and_parts, eqb-true}
-use Rattle.std.proofs.lemmas.List.{drop-replicate, drop_at, drop_min, get_or-map, length-replicate, take-append-drop, take_at, take_min}
+use Rattle.std.proofs.lemmas.List.{drop-replicate, drop_at, drop_min, get_or-map, get_or-take, get_or_append_left, length-replicate, take-append-drop, take_at, take_min}
 use Rattle.vr_base.specs.Bytes.{IsBytes, number, piece}
 use Rattle.vr_base.proofs.FieldLaws.{IsBytes-piece}
 use Rattle.vr_disk.specs.Buffers.{with_bytes}
@@ -13,12 +13,13 @@ use Rattle.vr_disk.specs.DiskState.{Disk, damaged}
 use Rattle.vr_header.specs.declared.header.Header.{Header}
 use Rattle.vr_header.specs.declared.header.HeaderFault.{HeaderFault}
 use Rattle.vr_header.specs.Bodies.{IsOperation, operation_bytes}
-use Rattle.vr_header.specs.Made.{IsEntry, Whole, entry_bytes, entry_of}
+use Rattle.vr_header.specs.Made.{IsEntry, Whole, entry_bytes, entry_of, with_header}
 use Rattle.vr_header.specs.Spelling.{IsHeader, Spells, decoded, fault_of, header_at, header_bytes}
 use Rattle.vr_header.proofs.EntryLaws.{IsSpelled, entry_again, entry_found}
 use Rattle.vr_header.proofs.Faults.{sound}
 use Rattle.vr_header.proofs.HeaderLaws.{decoded_again, decoded_found, length-header_bytes}
 use Rattle.vr_header.proofs.Putting.{length-entry}
+use Rattle.vr_rings.specs.Held.{header_sector}
 use Rattle.vr_rings.specs.Laws.{OneSpelling}
 use Rattle.vr_rings.specs.Readings.{BeginsWith}
 use Rattle.vr_rings.specs.Slots.{IsWhole, header_of, is_zeros, prepare_bytes, prepare_reading, sector_of, size_at, whole_in, whole_of}
@@ -202,6 +203,37 @@ some_header b e =
       | true ↦ λ e. elim (fault_of b) as (λ o. is_some (result_ok (option_map_or Err o (Ok (header_at b)))) ≡ true → o ≡ None) [ None ↦ λ e. refl | Some x ↦ λ e. absurd cc ] e
       | false ↦ λ e. absurd cc
     ] e
+
+pub sector_version : (h : Header) → IsHeader h → get_or (sector_of h) 110 0 ≡ 1
+sector_version h i = (sound (sector_of h) (some_header (sector_of h) (ap is_some (header_again h i)))).version
+
+some_entry : (b : List ℕ) → is_some (entry_of b) ≡ true → fault_of b ≡ None
+unfolding entry_of
+some_entry b e = elim (fault_of b) as (λ o. is_some (with_header b (option_map_or Err o (Ok (header_at b)))) ≡ true → o ≡ None) [ None ↦ λ e. refl | Some x ↦ λ e. absurd cc ] e
+
+some_whole : (b : List ℕ) → is_some (whole_of b) ≡ true → fault_of (take (size_at b) b) ≡ None
+unfolding whole_of
+some_whole b e =
+    elim (is_zeros (drop (size_at b) b)) as (λ z. is_some (cond z (entry_of (take (size_at b) b)) None) ≡ true → fault_of (take (size_at b) b) ≡ None) [
+      | true ↦ λ e. some_entry (take (size_at b) b) e
+      | false ↦ λ e. absurd cc
+    ] e
+
+-- the version in the header sector of a whole prepare
+pub whole_version : (b : List ℕ) → is_some (whole_of b) ≡ true → get_or (header_sector b) 110 0 ≡ 1
+unfolding header_sector
+whole_version b e =
+    let n = size_at b in
+    let s = sound (take n b) (some_whole b e) in
+    let l = s.long in
+    let m = length-take n b in
+    let k = length-take 128 b in
+    let zs : List ℕ = replicate 384 0 in
+    get_or_append_left (take 128 b) zs 0 110 (omega arith) ∙ (get_or-take 128 b 110 0 (omega arith) ∙ (sym (get_or-take n b 110 0 (omega arith)) ∙ s.version))
+
+pub header_sector_is : (e : Whole) → IsHeader e.header → header_sector (prepare_bytes e) ≡ sector_of e.header
+unfolding header_sector sector_of
+header_sector_is e h = ap (λ (x : List ℕ). x ++ replicate 384 0) (prepare_spells e h)
 
 pub damaged_none : (h : Header) → IsHeader h → is_some (header_of (damaged (sector_of h))) ≡ false
 damaged_none h i =

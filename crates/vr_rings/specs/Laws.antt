@@ -8,7 +8,7 @@ use Rattle.vr_header.specs.declared.header.Header.{Header}
 use Rattle.vr_header.specs.Made.{Whole}
 use Rattle.vr_header.specs.Spelling.{IsHeader}
 use Rattle.vr_rings.specs.Calls.{again_calls, header_calls, new_calls}
-use Rattle.vr_rings.specs.Held.{Stands, held_after_all, held_cut}
+use Rattle.vr_rings.specs.Held.{Stands, header_sector, held_after_all, held_cut, is_prepare}
 use Rattle.vr_rings.specs.Slots.{IsWhole, ReadsAs, header_of, header_reading, prepare_bytes, prepare_reading, sector_of, slot_of, whole_of}
 
 -- ---- what is kept of each slot, whatever the slots hold before the calls
@@ -21,6 +21,19 @@ pub record KeepsSlot (cs : List Call) (f : Face) (slot : ℕ) (held : Option (Li
 
 abbrev pub KeepsSlots : List Call → Face → Type 0
 KeepsSlots cs f = (slot : ℕ) (held : Option (List ℕ)) → slot < 64 → Stands f slot held → KeepsSlot cs f slot held
+
+-- no chance collision: of the prepares that are whole and have this one's header, no other one is read
+abbrev pub TellsPrepare : Face → ℕ → List ℕ → Type 0
+TellsPrepare f slot prepare =
+    (other : List ℕ) → prepare_reading f slot ≡ Some other → is_prepare other ≡ true → header_sector other ≡ header_sector prepare → other ≡ prepare
+
+-- what the slot held it holds throughout
+pub record Lasts (cs : List Call) (f : Face) (slot : ℕ) (prepare : List ℕ) : Type 0 where
+  pub front : (j : ℕ) → held_after_all f (take j cs) slot (Some prepare) ≡ Some prepare
+  pub stopped : (j code : ℕ) → TellsPrepare (cut j code f cs) slot prepare → held_cut j code f cs slot (Some prepare) ≡ Some prepare
+
+abbrev pub LastsIn : List Call → Face → ℕ → List ℕ → Type 0
+LastsIn cs f slot prepare = Stands f slot (Some prepare) → ((k : ℕ) → TellsPrepare (after_all f (take k cs)) slot prepare) → Lasts cs f slot prepare
 
 -- ---- what a stop leaves of the slot itself
 
@@ -53,11 +66,15 @@ pub record AgainLeaves (e : Whole) (f : Face) : Type 0 where
   pub done : ReadsAs (after_all f (again_calls e)) e
   pub stopped : (g : Face) → Stops (again_calls e) f g → PrepareWaits e f g
   pub kept : KeepsSlots (again_calls e) f
+  -- an entry that the slot holds already
+  pub lasts : LastsIn (again_calls e) f (slot_of e.header) (prepare_bytes e)
 
 -- a header sector written alone
 pub record HeaderLeaves (h : Header) (f : Face) : Type 0 where
   pub done : header_reading (after_all f (header_calls h)) (slot_of h) ≡ Some (sector_of h)
   pub kept : KeepsSlots (header_calls h) f
+  -- an entry of this header that the slot holds already
+  pub lasts : (prepare : List ℕ) → header_sector prepare ≡ sector_of h → LastsIn (header_calls h) f (slot_of h) prepare
 
 -- ---- bytes both ways
 
