@@ -1,18 +1,18 @@
 -- What the calls of a slot leave, and what a stop at any of them leaves.
-use Rattle.std.proofs.Common.{ℕ, zero, suc, ◌+◌, ◌-◌, ◌*◌, ◌%◌, ◌≤◌, ◌<◌, ◌≡◌, ◌≢◌, ◌⊎◌, inl, inr, arith, refl, sym, ap, ◌∙◌, false, List, [], ◌∷◌, ◌++◌, length, take, drop, Option, Some, None, subst}
-use Rattle.std.specs.Prelude.{IfSome}
+use Rattle.std.proofs.Common.{ℕ, zero, suc, ◌+◌, ◌-◌, ◌*◌, ◌%◌, ◌≤◌, ◌<◌, ◌≡◌, ◌≢◌, ◌⊎◌, inl, inr, arith, refl, sym, ap, ◌∙◌, true, false, List, [], ◌∷◌, ◌++◌, length, take, drop, Option, Some, None, subst}
+use Rattle.std.specs.Prelude.{IfSome, is_some}
 use Rattle.std.specs.List.{AllByRecursion}
 use Rattle.std.specs.Option.{option_and_then}
 use Rattle.std.proofs.lemmas.Bool.{cases_eq, cases_lt}
 use Rattle.std.proofs.lemmas.List.{drop-drop, take_all}
 use Rattle.vr_base.specs.Bytes.{piece}
-use Rattle.vr_rings.specs.Held.{header_sector}
+use Rattle.vr_rings.specs.Held.{Stands, entry_of_both, entry_read, header_sector, held_after_all, is_prepare}
 use Rattle.vr_disk.specs.DiskState.{Call, Write, Sync, Cell, Disk, Face, IsFace, after_all, reads, waits}
 use Rattle.vr_disk.specs.Regions.{header_at, prepare_at}
-use Rattle.vr_disk.specs.Sectors.{together, writes}
+use Rattle.vr_disk.specs.Sectors.{has, together, writes}
 use Rattle.vr_disk.specs.Stops.{Spares, Stops}
 use Rattle.vr_disk.proofs.Frames.{frame_all, reads_back}
-use Rattle.vr_disk.proofs.Together.{Within, after_all_append, length_after_all, spares_append, together_same, together_synced, together_written, within_append, within_spares, writes_within}
+use Rattle.vr_disk.proofs.Together.{Within, is_has, after_all_append, length_after_all, spares_append, together_same, together_synced, together_written, within_append, within_spares, writes_within}
 use Rattle.vr_header.specs.declared.header.Header.{Header}
 use Rattle.vr_header.specs.Made.{Whole}
 use Rattle.vr_header.specs.Spelling.{IsHeader}
@@ -195,6 +195,19 @@ header_lasts : (h : Header) (f : Face) (p : List ℕ) → IsHeader h → length 
 unfolding header_calls
 header_lasts h f p i n r e = let long = length-sector h i in lasts_in [] f (slot_of h) (sector_of h) p (slot_below h) n r (sym e) (omega arith) (sector_version h i) tt
 
+-- ---- what the slot holds in the end
+
+entry_reads : (g : Face) (e : Whole) → IsWhole e → ReadsAs g e → entry_read g (slot_of e.header) ≡ Some (prepare_bytes e)
+unfolding entry_of_both
+entry_reads g e w r =
+    let p = prepare_bytes e in
+    let header : has (header_sector p) (Some (sector_of e.header)) ≡ true = is_has (header_sector p) (Some (sector_of e.header)) (ap Some (sym (header_sector_is e w.header))) in
+    let whole : is_prepare p ≡ true = ap is_some (whole_again e w) in
+    ap (λ h. entry_of_both h (prepare_reading g (slot_of e.header))) r.header ∙ (ap (entry_of_both (Some (sector_of e.header))) r.prepare ∙ (rw (header, whole) refl))
+
+held_end : (cs : List Call) (e : Whole) (f : Face) (held : Option (List ℕ)) → IsWhole e → length f.cells ≡ 1424 → ReadsAs (after_all f cs) e → Stands f (slot_of e.header) held → held_after_all f cs (slot_of e.header) held ≡ Some (prepare_bytes e)
+held_end cs e f held w n r s = (calls_stand cs f (slot_of e.header) held (slot_below e.header) n s).seen (prepare_bytes e) (entry_reads (after_all f cs) e w r)
+
 -- ---- on a disk that may tell
 
 pub new_leaves : (e : Whole) (t : Option Disk) → IfSome t (λ d. IsFace d.face) → IsWhole e → IfSome t (λ d. d.face.waiting ≡ [] → NewLeaves e d.face)
@@ -203,6 +216,7 @@ new_leaves e (Some d) w i =
     λ r. record {
       done = new_done e d.face w.count i;
       stopped = λ g s. new_stopped e d.face g w.count r (length-prepare e i) s;
+      held = λ held s. held_end (new_calls e) e d.face held i w.count (new_done e d.face w.count i) s;
       kept = keeps_slots (new_calls e) d.face w.count r (λ slot l. keeps_both slot (prepare_calls e) (header_calls e.header) l (prepare_rests e) (prepare_keeps e slot l) (header_keeps e.header slot i.header l));
     }
 
@@ -212,6 +226,7 @@ again_leaves e (Some d) w i =
     λ r. record {
       done = again_done e d.face w.count i;
       stopped = λ g s. again_stopped e d.face g w.count r s;
+      held = λ held s. held_end (again_calls e) e d.face held i w.count (again_done e d.face w.count i) s;
       kept = keeps_slots (again_calls e) d.face w.count r (λ slot l. keeps_both slot (header_calls e.header) (prepare_calls e) l (header_rests e.header) (header_keeps e.header slot i.header l) (prepare_keeps e slot l));
       lasts = again_lasts e d.face i w.count r;
     }

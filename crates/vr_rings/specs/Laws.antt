@@ -60,12 +60,16 @@ pub record NewLeaves (e : Whole) (f : Face) : Type 0 where
   pub done : ReadsAs (after_all f (new_calls e)) e
   pub stopped : (g : Face) → Stops (new_calls e) f g → HeaderWaits e f g
   pub kept : KeepsSlots (new_calls e) f
+  -- in the end the slot holds the entry
+  pub held : (held : Option (List ℕ)) → Stands f (slot_of e.header) held → held_after_all f (new_calls e) (slot_of e.header) held ≡ Some (prepare_bytes e)
 
 -- an entry written again
 pub record AgainLeaves (e : Whole) (f : Face) : Type 0 where
   pub done : ReadsAs (after_all f (again_calls e)) e
   pub stopped : (g : Face) → Stops (again_calls e) f g → PrepareWaits e f g
   pub kept : KeepsSlots (again_calls e) f
+  -- in the end the slot holds the entry
+  pub held : (held : Option (List ℕ)) → Stands f (slot_of e.header) held → held_after_all f (again_calls e) (slot_of e.header) held ≡ Some (prepare_bytes e)
   -- an entry that the slot holds already
   pub lasts : LastsIn (again_calls e) f (slot_of e.header) (prepare_bytes e)
 
