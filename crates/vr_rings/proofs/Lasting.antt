@@ -1,25 +1,25 @@
 -- An entry that a slot holds stays held while it is written again.
-use Rattle.std.proofs.Common.{ℕ, zero, suc, ◌+◌, ◌-◌, ◌*◌, ◌≤◌, ◌<◌, ◌≡◌, ◌≢◌, ◌⊎◌, inl, inr, arith, refl, sym, ap, ◌∙◌, true, false, cond, ◌&&◌, eqb, List, [], ◌∷◌, ◌++◌, length, take, drop, get_or, Option, Some, None, subst, length-take}
-use Rattle.std.specs.Prelude.{bit_xor, is_some, nat_eq, replicate}
+use Rattle.std.proofs.Common.{ℕ, zero, suc, ◌+◌, ◌-◌, ◌*◌, ◌≤◌, ◌<◌, ◌≡◌, ◌≢◌, inl, inr, arith, refl, sym, ap, ◌∙◌, true, false, cond, ◌&&◌, eqb, List, [], ◌∷◌, length, take, get_or, Option, Some, None, subst}
+use Rattle.std.specs.Prelude.{bit_xor, nat_eq}
 use Rattle.std.specs.Cmp.Lexicographic.{pointwise}
 use Rattle.std.specs.List.{AllByRecursion}
 use Rattle.std.proofs.lemmas.Bool.{and_parts, and_from, eq-eqb, le-leb, lt-ltb, ne_eqb}
-use Rattle.std.proofs.lemmas.List.{get_or-map, get_or-take, get_or_append_left}
+use Rattle.std.proofs.lemmas.List.{get_or-map}
 use Rattle.std.proofs.lemmas.Slice.Eq.{bytes_eq-Decides}
 use Rattle.vr_base.specs.Bytes.{piece}
-use Rattle.vr_disk.specs.DiskState.{Call, Write, Sync, Cell, Face, after, after_all, cell, cut, cut_at, damaged, waits}
+use Rattle.vr_disk.specs.DiskState.{Call, Write, Sync, Cell, Face, after, after_all, cut, cut_at, damaged, waits}
 use Rattle.vr_disk.specs.Regions.{header_at, prepare_at}
 use Rattle.vr_disk.specs.Sectors.{has}
 use Rattle.vr_disk.specs.Stops.{IsLeft}
 use Rattle.vr_disk.proofs.Frames.{frame_cut, reads_back, waits_after}
 use Rattle.vr_disk.proofs.Outcomes.{cut_leaves}
-use Rattle.vr_disk.proofs.Together.{is_has, length_after_all, together_same}
-use Rattle.vr_rings.specs.Held.{Stands, digit_at, entry_of_both, entry_read, found, header_sector, held_after, held_after_all, held_begun, held_cut, held_cut_at, is_part, is_prepare, keeps, kept, looked}
-use Rattle.vr_rings.specs.Laws.{Lasts, LastsIn, TellsPrepare}
+use Rattle.vr_disk.proofs.Together.{is_has, together_same}
+use Rattle.vr_rings.specs.Held.{Stands, digit_at, entry_of_both, entry_read, found, header_sector, held_after, held_after_all, held_begun, held_cut, held_cut_at, is_prepare, keeps, looked}
+use Rattle.vr_rings.specs.Laws.{LastsIn, TellsPrepare}
 use Rattle.vr_rings.specs.Slots.{header_reading, prepare_reading}
 use Rattle.vr_rings.proofs.Cutting.{cut_spares}
 use Rattle.vr_rings.proofs.Spelling.{whole_version}
-use Rattle.vr_rings.proofs.Standing.{both_is, header_other, look_cases}
+use Rattle.vr_rings.proofs.Standing.{both_is, header_other}
 
 -- the header sector reads as the entry's
 abbrev Own : Face → ℕ → List ℕ → Type 0

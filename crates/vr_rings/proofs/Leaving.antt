@@ -1,5 +1,5 @@
 -- What the calls of a slot leave, and what a stop at any of them leaves.
-use Rattle.std.proofs.Common.{ℕ, zero, suc, ◌+◌, ◌-◌, ◌*◌, ◌%◌, ◌≤◌, ◌<◌, ◌≡◌, ◌≢◌, ◌⊎◌, inl, inr, arith, refl, sym, ap, ◌∙◌, true, false, List, [], ◌∷◌, ◌++◌, length, take, drop, Option, Some, None, subst}
+use Rattle.std.proofs.Common.{ℕ, zero, suc, ◌+◌, ◌-◌, ◌*◌, ◌≤◌, ◌<◌, ◌≡◌, ◌≢◌, ◌⊎◌, inl, inr, arith, refl, sym, ap, ◌∙◌, true, false, List, [], ◌∷◌, ◌++◌, length, take, drop, Option, Some, None, subst}
 use Rattle.std.specs.Prelude.{IfSome, is_some}
 use Rattle.std.specs.List.{AllByRecursion}
 use Rattle.std.specs.Option.{option_and_then}
@@ -12,7 +12,7 @@ use Rattle.vr_disk.specs.Regions.{header_at, prepare_at}
 use Rattle.vr_disk.specs.Sectors.{has, together, writes}
 use Rattle.vr_disk.specs.Stops.{Spares, Stops}
 use Rattle.vr_disk.proofs.Frames.{frame_all, reads_back}
-use Rattle.vr_disk.proofs.Together.{Within, is_has, after_all_append, length_after_all, spares_append, together_same, together_synced, together_written, within_append, within_spares, writes_within}
+use Rattle.vr_disk.proofs.Together.{Within, is_has, after_all_append, length_after_all, together_same, together_synced, together_written, within_append, within_spares, writes_within}
 use Rattle.vr_header.specs.declared.header.Header.{Header}
 use Rattle.vr_header.specs.Made.{Whole}
 use Rattle.vr_header.specs.Spelling.{IsHeader}

@@ -1,6 +1,6 @@
 -- The sectors of a slot, both ways.
-use Rattle.std.proofs.Common.{ℕ, zero, suc, ◌+◌, ◌-◌, ◌≤◌, ◌<◌, ◌≡◌, arith, refl, sym, ap, ◌∙◌, true, false, cond, eqb, List, [], ◌∷◌, ◌++◌, length, take, drop, Option, Some, None, Result, Ok, Err, append_assoc, length-append, length-take, length-drop, subst, get_or}
-use Rattle.std.specs.Prelude.{◌↔◌, IfOk, IfSome, IsTrue, bit_xor, is_some, min, replicate}
+use Rattle.std.proofs.Common.{ℕ, zero, suc, ◌+◌, ◌-◌, ◌<◌, ◌≡◌, arith, refl, sym, ap, ◌∙◌, true, false, cond, eqb, List, [], ◌∷◌, ◌++◌, length, take, drop, Option, Some, None, Result, Ok, Err, append_assoc, length-append, length-take, length-drop, get_or}
+use Rattle.std.specs.Prelude.{◌↔◌, IfSome, IsTrue, bit_xor, is_some, min, replicate}
 use Rattle.std.specs.Option.{option_map, option_map_or}
 use Rattle.std.specs.Result.{result_ok}
 use Rattle.std.specs.Int.{w32}
@@ -12,8 +12,8 @@ use Rattle.vr_disk.specs.Buffers.{with_bytes}
 use Rattle.vr_disk.specs.DiskState.{Disk, damaged}
 use Rattle.vr_header.specs.declared.header.Header.{Header}
 use Rattle.vr_header.specs.declared.header.HeaderFault.{HeaderFault}
-use Rattle.vr_header.specs.Bodies.{IsOperation, operation_bytes}
-use Rattle.vr_header.specs.Made.{IsEntry, Whole, entry_bytes, entry_of, with_header}
+use Rattle.vr_header.specs.Bodies.{operation_bytes}
+use Rattle.vr_header.specs.Made.{Whole, entry_bytes, entry_of, with_header}
 use Rattle.vr_header.specs.Spelling.{IsHeader, Spells, decoded, fault_of, header_at, header_bytes}
 use Rattle.vr_header.proofs.EntryLaws.{IsSpelled, entry_again, entry_found}
 use Rattle.vr_header.proofs.Faults.{sound}

@@ -1,15 +1,15 @@
 -- What single calls leave of a slot, and of what it holds.
-use Rattle.std.proofs.Common.{ℕ, ◌+◌, ◌*◌, ◌≤◌, ◌<◌, ◌≡◌, ◌≢◌, ◌⊎◌, inl, inr, arith, refl, sym, ap, ◌∙◌, true, false, cond, ◌&&◌, eqb, List, [], ◌∷◌, length, Option, Some, None, subst, length-set}
-use Rattle.std.specs.Prelude.{nat_eq, nat_le, nat_lt}
+use Rattle.std.proofs.Common.{ℕ, ◌+◌, ◌≤◌, ◌<◌, ◌≡◌, ◌≢◌, ◌⊎◌, inl, inr, arith, refl, sym, ap, ◌∙◌, true, false, cond, ◌&&◌, List, [], ◌∷◌, length, Option, Some, None, subst}
+use Rattle.std.specs.Prelude.{nat_eq}
 use Rattle.std.specs.Cmp.Lexicographic.{pointwise}
 use Rattle.std.proofs.lemmas.Bool.{and_parts, cases_eq, cases_lt, eq-eqb, le-leb, lt-ltb, ne_eqb, le-ltb, lt-leb}
 use Rattle.std.proofs.lemmas.Slice.Eq.{bytes_eq-Decides}
-use Rattle.vr_disk.specs.DiskState.{Call, Write, Sync, Cell, Face, after, after_all, cell, reads}
+use Rattle.vr_disk.specs.DiskState.{Call, Write, Sync, Face, after, after_all}
 use Rattle.vr_disk.specs.Regions.{header_at, prepare_at}
-use Rattle.vr_disk.specs.Sectors.{has, together}
+use Rattle.vr_disk.specs.Sectors.{has}
 use Rattle.vr_disk.proofs.Frames.{reads_back, reads_other}
 use Rattle.vr_disk.proofs.Together.{has_is, length_after_all, together_same, together_synced}
-use Rattle.vr_rings.specs.Held.{Stands, entry_of_both, entry_read, found, header_sector, held_after, held_after_all, is_header_sector, is_part, is_prepare, keeps, kept, looked}
+use Rattle.vr_rings.specs.Held.{Stands, entry_of_both, entry_read, found, header_sector, held_after, held_after_all, is_part, is_prepare, keeps, kept, looked}
 use Rattle.vr_rings.specs.Slots.{header_reading, prepare_reading}
 
 -- ---- what a slot reads as

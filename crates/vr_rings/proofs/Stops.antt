@@ -1,10 +1,10 @@
 -- What a stop leaves of calls and then others, and of a sector that no call writes.
-use Rattle.std.proofs.Common.{ℕ, zero, suc, ◌+◌, ◌-◌, ◌≤◌, ◌<◌, ◌≡◌, ◌⊎◌, inl, inr, arith, refl, sym, ap, ◌∙◌, false, List, [], ◌∷◌, ◌++◌, length, take, length-append}
+use Rattle.std.proofs.Common.{ℕ, zero, suc, ◌+◌, ◌-◌, ◌≡◌, ◌⊎◌, inl, inr, arith, sym, ap, ◌∙◌, false, List, [], ◌∷◌, ◌++◌, length, take, length-append}
 use Rattle.std.specs.List.{AllByRecursion}
 use Rattle.std.proofs.lemmas.Bool.{cases_lt}
 use Rattle.std.proofs.lemmas.List.{take-append-le}
 use Rattle.std.proofs.Math.Seq.{take-append-add}
-use Rattle.vr_disk.specs.DiskState.{Call, Face, after, after_all, cell, cut, waits}
+use Rattle.vr_disk.specs.DiskState.{Call, Face, after, after_all, cell, waits}
 use Rattle.vr_disk.specs.Stops.{Spares, Stops}
 use Rattle.vr_disk.proofs.Frames.{frame_all, frame_cut, waits_after}
 use Rattle.vr_disk.proofs.Stopping.{cuts_both, nothing_left}

@@ -1,5 +1,5 @@
 -- What a stop in the midst of a write leaves of the slots, and that what is read was written so.
-use Rattle.std.specs.Prelude.{ℕ, ◌+◌, ◌<◌, ◌≤◌, ◌≡◌, ◌⊎◌, false, true, List, take, length, Option, Some}
+use Rattle.std.specs.Prelude.{ℕ, ◌+◌, ◌<◌, ◌≡◌, ◌⊎◌, false, true, List, take, length, Option, Some}
 use Rattle.vr_base.specs.Bytes.{IsBytes}
 use Rattle.vr_disk.specs.DiskState.{Call, Face, after_all, cell, cut, waits}
 use Rattle.vr_disk.specs.Regions.{header_at, prepare_at}

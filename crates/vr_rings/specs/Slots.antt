@@ -1,5 +1,5 @@
 -- The slots of the two rings: what their sectors hold for an entry, and what they read as.
-use Rattle.std.specs.Prelude.{ℕ, ◌-◌, ◌%◌, ◌≡◌, Bool, ◌&&◌, ◌==◌, if◌then◌else◌, List, ◌++◌, length, take, drop, replicate, Option, None, Some, is_none, is_some}
+use Rattle.std.specs.Prelude.{ℕ, ◌-◌, ◌%◌, ◌≡◌, Bool, ◌==◌, if◌then◌else◌, List, ◌++◌, length, take, drop, replicate, Option, None, Some}
 use Rattle.std.specs.List.{list_all}
 use Rattle.std.specs.Option.{option_and_then}
 use Rattle.std.specs.Result.{result_ok}
@@ -7,7 +7,7 @@ use Rattle.std.specs.Int.{w32}
 use Rattle.vr_base.specs.Bytes.{number}
 use Rattle.vr_disk.specs.DiskState.{Face, reads}
 use Rattle.vr_disk.specs.Regions.{header_at, prepare_at}
-use Rattle.vr_disk.specs.Sectors.{has, together}
+use Rattle.vr_disk.specs.Sectors.{together}
 use Rattle.vr_header.specs.declared.header.Header.{Header}
 use Rattle.vr_header.specs.Bodies.{IsOperation}
 use Rattle.vr_header.specs.Made.{IsEntry, Whole, entry_bytes, entry_of}

@@ -1,4 +1,4 @@
-use Rattle.std.proofs.Common.{◌≡◌, ◌∙◌, ap, sym, true, false}
+use Rattle.std.proofs.Common.{◌∙◌, ap, sym}
 use Rattle.std.specs.Prelude.{min}
 use Rattle.vr_rings.proofs.Spelling.{split_none, split_whole}
 use Rattle.vr_rings.proofs.bytes.whole_of.Goals as goal

@@ -1,4 +1,4 @@
-use Rattle.std.proofs.Common.{◌≡◌, ◌∙◌, ap, take}
+use Rattle.std.proofs.Common.{◌∙◌, ap, take}
 use Rattle.vr_rings.proofs.Spelling.{begins, found_front, put_front}
 use Rattle.vr_rings.proofs.reading.read_whole.Goals as goal
 
