@@ -1,4 +1,4 @@
-use Rattle.std.proofs.Common.{◌+◌, ◌≤◌, ◌≡◌, ◌∙◌, ◌++◌, arith, ap, sym, length, take, drop}
+use Rattle.std.proofs.Common.{◌+◌, ◌≡◌, ◌∙◌, ◌++◌, arith, ap, sym, length, take, drop}
 use Rattle.vr_header.specs.Bodies.{operation_bytes}
 use Rattle.vr_header.specs.Made.{entry_bytes}
 use Rattle.vr_header.specs.Spelling.{IsHeader, header_bytes}

@@ -1,4 +1,4 @@
-use Rattle.std.proofs.Common.{◌+◌, ◌≡◌, ◌∙◌, ap, arith, length}
+use Rattle.std.proofs.Common.{◌+◌, ◌∙◌, ap, arith, length}
 use Rattle.vr_header.specs.Bodies.{operation_bytes}
 use Rattle.vr_header.proofs.Putting.{further, length-put}
 use Rattle.vr_header.proofs.operation.Operation.put_body.Goals as goal
