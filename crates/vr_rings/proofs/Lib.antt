@@ -1,0 +1,6 @@
+pub mod Cutting
+pub mod Lasting
+pub mod Leaving
+pub mod Spelling
+pub mod Standing
+pub mod Stops
