@@ -272,7 +272,7 @@ one_block c d h k apart heads e =
 
 -- the name stands in front of the header
 
-payload_size : (h : Header) (b : List ℕ) → length b ≡ 4096 → 128 ≤ h.size → h.size ≤ 4096 → length (content_at h b).payload ≡ h.size - 128
+pub payload_size : (h : Header) (b : List ℕ) → length b ≡ 4096 → 128 ≤ h.size → h.size ≤ 4096 → length (content_at h b).payload ≡ h.size - 128
 payload_size h b l a s = length-piece 128 (h.size - 128) b (omega arith)
 
 sum_in : (b : List ℕ) (h : Header) → Spells h b → piece 0 16 b ≡ (header_name h).0
@@ -316,3 +316,7 @@ no_header b name x l d = rw (eq-eqb (length b) 4096 l, d) refl
 
 pub fits_address : (b : List ℕ) (c : Content) → content_of b ≡ Some c → c.address < 128
 fits_address b c e = let r = read_of b c e in let s = sound_of r.header b r.is in let a = s.address in subst (λ (c : Content). c.address < 128) r.content a
+
+-- a whole block's header tells a size from 128 to 4,096
+pub sizes_of : (b : List ℕ) (c : Content) → IsBytes b → (r : Read b c) → (128 ≤ r.header.size) × (r.header.size ≤ 4096)
+sizes_of b c i r = ((found_header b r.header i r.read).1.size.0, (sound_of r.header b r.is).size)

@@ -7,6 +7,7 @@ mod fault;
 mod laws;
 mod name;
 mod reading;
+mod view;
 mod writing;
 
 pub use block::{Block, DATA, PAYLOAD_AT, PAYLOAD_SIZE, ROOT};
@@ -14,4 +15,5 @@ pub use fault::{CkptFault, DiskFault, Faulty};
 pub use laws::grid_laws;
 pub use name::{Name, NameList};
 pub use reading::read_block;
+pub use view::{BlockView, view_of};
 pub use writing::{put_block, write_at, write_block};
