@@ -1,0 +1,5 @@
+pub mod Apart
+pub mod Gathering
+pub mod Keeping
+pub mod Planning
+pub mod Roots
