@@ -122,7 +122,7 @@ by_number r old k j p s at l m =
 pub root_at_place : (op : ℕ) → AtPlace 0 (root_place op)
 root_at_place op = let l : (op / 32) % 2 < 2 = omega arith in elim (cases_lt ((op / 32) % 2) 1) [ inl a ↦ inl (omega arith) | inr b ↦ inr (omega arith) ]
 
-root_avoids : (cluster op a : ℕ) (texts : Texts) (t : Table) → root_place op ≢ a → Avoids a (block_of (root_of cluster texts op t) ∷ [])
+pub root_avoids : (cluster op a : ℕ) (texts : Texts) (t : Table) → root_place op ≢ a → Avoids a (block_of (root_of cluster texts op t) ∷ [])
 unfolding block_of root_of
 root_avoids cluster op a texts t d = (d, tt)
 

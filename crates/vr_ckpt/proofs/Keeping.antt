@@ -48,6 +48,11 @@ blocks_spare (b ∷ bs) a i h l m =
     (within_spares (block_at x) (block_at x + 8) (block_calls x b.bytes) i (block_within x b.bytes) (outside a x i h.0 l m))
     (blocks_spare bs a i h.1 l m)
 
+-- after blocks are written
+pub blocks_same : (bs : List Block) (f : Face) (a : ℕ) → Avoids a bs → SameAt f (after_all f (blocks_calls bs)) a
+unfolding block_reading
+blocks_same bs f a h = together_same 8 (block_at a) f (after_all f (blocks_calls bs)) (λ k l m. ap (λ (c : Cell). c.reads) (frame_all (blocks_calls bs) f k (blocks_spare bs a k h l m)))
+
 save_spares : (cluster : ℕ) (texts : Texts) (op : ℕ) (old : Table) (a i : ℕ) → Avoids a (written cluster texts op old) → block_at a ≤ i → i < block_at a + 8 → AllByRecursion (Spares i) (save_calls cluster texts op old)
 unfolding save_calls
 save_spares cluster texts op old a i h l m = spares_append i (blocks_calls (written cluster texts op old)) (Sync ∷ []) (blocks_spare (written cluster texts op old) a i h l m) (tt, tt)
@@ -80,7 +85,7 @@ root_same f g name s = ap (option_and_then read_root) (named_same f g name s)
 abbrev pub AllSame : Face → Face → List Payload → Type 0
 AllSame f g ps = AllByRecursion (λ (p : Payload). SameAt f g p.name.address) ps
 
-abbrev All : List Payload → Gathered
+abbrev pub All : List Payload → Gathered
 All ps = record { payloads = ps; missing = [] }
 
 -- all payloads are there: the first and the others
@@ -107,7 +112,7 @@ first_of : (f : Face) (size : ℕ) (n : Name) (ns : List Name) (ps : List Payloa
 unfolding gathered
 first_of f size n ns ps e = first_by f size n ns ps (data_at f n (min size 3968)) (gathered f (size - 3968) ns) refl refl e
 
-gathered_of : (f : Face) (size : ℕ) (n : Name) (ns : List Name) (bytes : List ℕ) (others : List Payload) → data_at f n (min size 3968) ≡ Some bytes → gathered f (size - 3968) ns ≡ All others
+pub gathered_of : (f : Face) (size : ℕ) (n : Name) (ns : List Name) (bytes : List ℕ) (others : List Payload) → data_at f n (min size 3968) ≡ Some bytes → gathered f (size - 3968) ns ≡ All others
     → gathered f size (n ∷ ns) ≡ All (record { name = n; bytes = bytes } ∷ others)
 unfolding gathered
 gathered_of f size n ns bytes others d e = rw (d, e) refl

@@ -1,4 +1,5 @@
 pub mod Apart
+pub mod Done
 pub mod Gathering
 pub mod Keeping
 pub mod Planning

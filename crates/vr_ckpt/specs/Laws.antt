@@ -38,6 +38,14 @@ pub record SaveKeeps (cluster : ℕ) (texts : Texts) (op : ℕ) (old : Table) (f
 abbrev pub KeepLaw : Type 0
 KeepLaw = (cluster : ℕ) (texts : Texts) (op : ℕ) (old : Table) (f : Face) → FitsPayloads texts → f.waiting ≡ [] → SaveKeeps cluster texts op old f
 
+-- a checkpoint over one whose table is held loads as it was saved
+abbrev pub SaveDone : ℕ → Texts → ℕ → Table → Face → Type 0
+SaveDone cluster texts op old f = loaded (after_all f (save_calls cluster texts op old)) (saved cluster texts op old).root ≡ Loaded texts (saved cluster texts op old).table
+
+abbrev pub DoneLaw : Type 0
+DoneLaw =
+    (cluster : ℕ) (texts : Texts) (op : ℕ) (old : Table) (f : Face) → cluster < 2 ^ 64 → IsCheckpoint op → FitsPayloads texts → IsFace f → Holds f old → SaveDone cluster texts op old f
+
 -- two checkpoints one after the other have their roots at different places
 abbrev pub RootsApart : Type 0
 RootsApart = (op : ℕ) → IsCheckpoint op → root_place (op + 32) ≢ root_place op

@@ -6,7 +6,7 @@ ghost use Rattle.vr_disk.specs.DiskState.{Runs, Sync};
 ghost use Rattle.vr_apply.specs.Texts.{FitsPayloads};
 ghost use Rattle.vr_grid.specs.Blocks.{block_of};
 ghost use Rattle.vr_grid.specs.Grid.{Leaves};
-ghost use Rattle.vr_ckpt.specs.Laws.{SaveKeeps};
+ghost use Rattle.vr_ckpt.specs.Laws.{Holds, SaveDone, SaveKeeps};
 ghost use Rattle.vr_ckpt.specs.Places.{IsCheckpoint};
 ghost use Rattle.vr_ckpt.specs.Saves.{IsPlaced, blocks_calls, changed, keys_run, root_of, save_calls, saved, sessions_run, table_of, written};
 
@@ -128,6 +128,9 @@ pub fn save<D: SectorDisk>(
     ensures runs { Leaves (save_calls cluster texts.now op old.now) (D.told disk.old) (D.told disk.new) result }
     ensures later { D.faults disk.old ≤ D.faults disk.new }
     ensures fault { result ≡ Err CkptFault.DiskFault → Rose (D.faults disk.old) (D.faults disk.new) }
+
+    // Over a table that the disk holds it loads at the end as it was saved.
+    ensures done { IfSome (D.told disk.old) (λ d. Holds d.face old.now → SaveDone cluster texts.now op old.now d.face) }
 
     // The checkpoint before stays whole, at the end and in a cut at any of these calls.
     ensures stop { IfSome (D.told disk.old) (λ d. d.face.waiting ≡ [] → SaveKeeps cluster texts.now op old.now d.face) }

@@ -1,4 +1,7 @@
 //! Two checkpoints, one after the other: their calls, their places, and what loads where blocks are damaged.
+ghost use Rattle.std.specs.Prelude.{◌≤◌, IfOk};
+ghost use Rattle.vr_apply.specs.Texts.{FitsPayloads};
+
 use crate::{Load, Name, Saved, Table, load, save};
 use std::alloc::Global;
 use std::test::Fail;
@@ -8,7 +11,10 @@ use vr_disk::{Sector, SectorDisk};
 use vr_mem::MemDisk;
 
 // Texts of one payload each: sessions of so many bytes, and keys.
-fn texts(alloc: Global, sessions: usize) -> Result<Texts, Fail> {
+fn texts(alloc: Global, sessions: usize) -> Result<Texts, Fail>
+    requires { sessions ≤ 3968 }
+    ensures { IfOk result FitsPayloads }
+{
     let mut first = Vec::new(alloc);
     first.resize(sessions, 1)?;
     let mut second = Vec::new(alloc);
@@ -19,45 +25,64 @@ fn texts(alloc: Global, sessions: usize) -> Result<Texts, Fail> {
     })
 }
 
-// Saves checkpoint 32, and where asked 64, whose sessions differ; the last one is cut at its j-th call.
+// Saves checkpoint 32, and where asked 64, whose sessions differ; of the last one so many calls
+// go through before the one that is cut.
 fn saved(
     rt: &HostRuntime,
     disk: &mut MemDisk,
     second: bool,
-    j: u64,
+    calls: u32,
 ) -> Result<Option<Saved>, Fail> {
     let none = Table::new(rt.alloc());
     let one = texts(rt.alloc(), 21)?;
     if !second {
-        disk.fuse(j, 0);
+        disk.fuse(u64::from(calls) + 1, 0);
         return Ok(save(rt.alloc(), disk, 3, &one, 32, &none).ok());
     }
     let first = save(rt.alloc(), disk, 3, &one, 32, &none).map_err(|_| "not saved")?;
     let two = texts(rt.alloc(), 22)?;
-    disk.fuse(j, 0);
+    disk.fuse(u64::from(calls) + 1, 0);
     Ok(save(rt.alloc(), disk, 3, &two, 64, &first.table).ok())
 }
 
 #[test]
 fn calls(rt: HostRuntime) -> Result<(), Fail> {
-    for (second, count) in [(false, 25), (true, 17)] {
-        for (j, whole) in [(count, false), (count + 1, true)] {
-            let mut disk = MemDisk::new(rt.alloc()).map_err(|_| "no memory")?;
-            let done = saved(&rt, &mut disk, second, j)?;
-            assert_eq!(rt; done.is_some(), whole, "cut at call {j}");
-        }
+    for (second, calls, whole) in [
+        (false, 24u32, false),
+        (false, 25, true),
+        (true, 16, false),
+        (true, 17, true),
+    ] {
+        let mut disk = MemDisk::new(rt.alloc()).map_err(|_| "no memory")?;
+        let done = saved(&rt, &mut disk, second, calls)?;
+        assert_eq!(rt; done.is_some(), whole, "cut after {calls}");
     }
     Ok(())
 }
 
+// The addresses of a checkpoint's blocks, the root first.
+fn addresses(rt: &HostRuntime, done: &Saved) -> Result<String, Fail> {
+    let mut text = String::new(rt.alloc());
+    let root = done.root.address;
+    write!(text, "{root}")?;
+    for payload in done.table.sessions.as_slice() {
+        let address = payload.name.address;
+        write!(text, " {address}")?;
+    }
+    for payload in done.table.keys.as_slice() {
+        let address = payload.name.address;
+        write!(text, " {address}")?;
+    }
+    Ok(text)
+}
+
 #[test]
 fn places(rt: HostRuntime) -> Result<(), Fail> {
-    for (second, root, sessions, keys) in [(false, 64u64, 65u64, 74u64), (true, 0, 1, 74)] {
+    for (second, blocks) in [(false, "64 65 74"), (true, "0 1 74")] {
         let mut disk = MemDisk::new(rt.alloc()).map_err(|_| "no memory")?;
         let done = saved(&rt, &mut disk, second, 90)?.ok_or("not saved")?;
-        assert_eq!(rt; done.root.address, root);
-        assert_eq!(rt; done.table.sessions.as_slice()[0].name.address, sessions);
-        assert_eq!(rt; done.table.keys.as_slice()[0].name.address, keys);
+        let found = addresses(&rt, &done)?;
+        assert_eq!(rt; found.as_str(), blocks);
     }
     Ok(())
 }
@@ -98,16 +123,19 @@ fn damaged(rt: HostRuntime) -> Result<(), Fail> {
     Ok(())
 }
 
+fn has(found: &Load, texts: &Texts, table: &Table) -> bool {
+    match found {
+        Load::Missing(_) => false,
+        Load::Loaded(others, blocks) => *others == *texts && *blocks == *table,
+    }
+}
+
 #[test]
 fn loaded(rt: HostRuntime) -> Result<(), Fail> {
     let mut disk = MemDisk::new(rt.alloc()).map_err(|_| "no memory")?;
     let done = saved(&rt, &mut disk, true, 90)?.ok_or("not saved")?;
-    match load(rt.alloc(), &mut disk, &done.root).map_err(|_| "no memory")? {
-        Load::Missing(_) => assert!(rt; false, "blocks are missing"),
-        Load::Loaded(found, table) => {
-            assert!(rt; found == texts(rt.alloc(), 22)?);
-            assert!(rt; table == done.table);
-        }
-    }
+    let two = texts(rt.alloc(), 22)?;
+    let found = load(rt.alloc(), &mut disk, &done.root).map_err(|_| "no memory")?;
+    assert!(rt; has(&found, &two, &done.table));
     Ok(())
 }
