@@ -1,5 +1,5 @@
 -- A block as it is made.
-use Rattle.std.proofs.Common.{ℕ, ◌+◌, ◌-◌, ◌≤◌, ◌≡◌, arith, refl, sym, ap, ◌∙◌, Bool, List, [], ◌++◌, length, take, append_assoc, length-append, Option}
+use Rattle.std.proofs.Common.{ℕ, ◌+◌, ◌-◌, ◌≤◌, ◌≡◌, arith, ap, ◌∙◌, Bool, List, ◌++◌, length, take, append_assoc, length-append, Option}
 use Rattle.std.specs.Prelude.{replicate}
 use Rattle.std.proofs.lemmas.List.{take_all}
 use Rattle.vr_base.specs.declared.sum.Sum.{Sum}

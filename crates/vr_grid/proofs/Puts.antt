@@ -1,16 +1,15 @@
 -- A block that is put: what it reads as, and what else stays.
-use Rattle.std.proofs.Common.{ℕ, ◌+◌, ◌*◌, ◌≤◌, ◌<◌, ◌≡◌, ◌⊎◌, arith, refl, sym, ap, ◌∙◌, true, List, [], ◌∷◌, ◌++◌, length, take, Option, Some, None}
+use Rattle.std.proofs.Common.{ℕ, ◌+◌, ◌<◌, ◌≡◌, arith, refl, ap, ◌∙◌, true, List, [], ◌∷◌, length, Option, Some, None}
 use Rattle.std.specs.Prelude.{IfSome, is_some}
 use Rattle.std.specs.List.{AllByRecursion}
 use Rattle.std.proofs.lemmas.List.{take_all}
-use Rattle.vr_disk.specs.DiskState.{Call, Disk, Face, IsFace, Sync, after_all, cell, cut}
+use Rattle.vr_disk.specs.DiskState.{Disk, Face, IsFace, Sync, after_all}
 use Rattle.vr_disk.specs.Regions.{block_at}
-use Rattle.vr_disk.specs.Sectors.{together, writes}
-use Rattle.vr_disk.specs.Stops.{Spares}
+use Rattle.vr_disk.specs.Sectors.{together}
 use Rattle.vr_disk.proofs.Frames.{frame_all, frame_cut}
 use Rattle.vr_disk.proofs.Telling.{if_some, some_if}
-use Rattle.vr_disk.proofs.Together.{Within, after_all_append, together_same, together_synced, together_written, within_append, within_spares, writes_within}
-use Rattle.vr_grid.specs.Blocks.{Content, named}
+use Rattle.vr_disk.proofs.Together.{Within, after_all_append, together_synced, together_written, within_append, within_spares, writes_within}
+use Rattle.vr_grid.specs.Blocks.{named}
 use Rattle.vr_grid.specs.Grid.{block_calls, block_reading, put_calls}
 use Rattle.vr_grid.specs.Laws.{PutLaw, PutLeaves}
 use Rattle.vr_grid.specs.declared.name.Name.{Name}

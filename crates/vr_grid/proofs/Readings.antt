@@ -1,5 +1,5 @@
 -- What a block reads as under a name.
-use Rattle.std.proofs.Common.{ℕ, ◌-◌, ◌≤◌, ◌<◌, ◌≡◌, refl, sym, ap, ◌∙◌, List, length, Option, Some, None, cond, Bool, true, false, ltb, arith, Result, Ok, Err}
+use Rattle.std.proofs.Common.{ℕ, ◌-◌, ◌≤◌, ◌<◌, ◌≡◌, refl, sym, ap, ◌∙◌, List, length, Option, Some, None, cond, Bool, true, false, arith, Ok, Err}
 use Rattle.std.specs.Prelude.{IfSome, slice_index}
 use Rattle.std.specs.Option.{option_and_then, option_map, option_map_or}
 use Rattle.std.specs.Int.{w64}

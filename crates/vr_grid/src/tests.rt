@@ -18,8 +18,9 @@ fn read(rt: HostRuntime) -> Result<(), Fail> {
     ] {
         let mut disk = MemDisk::new(rt.alloc()).map_err(|_| "no memory")?;
         let mut buffer = Buffer::new(rt.alloc()).map_err(|_| "no memory")?;
-        let name = write_block(rt.alloc(), &mut disk, 3, 5, 32, DATA, b"payload")
-            .map_err(|_| "not written")?;
+        let name = write_block(rt.alloc(), &mut disk, 3, 5, 32, DATA, b"payload").map_err(
+            |_| "not written",
+        )?;
         if let Some(k) = sector {
             let other = Sector { bytes: [7; 512] };
             disk.write(440 + k, &other).map_err(|_| "not written")?;

@@ -1,4 +1,4 @@
-use Rattle.std.proofs.Common.{◌≡◌, ◌∙◌, ◌-◌, ap, sym}
+use Rattle.std.proofs.Common.{◌∙◌, ◌-◌, ap, sym}
 use Rattle.vr_grid.proofs.Contents.{behind_is, behind_not, behind_other}
 use Rattle.vr_grid.proofs.check.payload_behind.Goals as goal
 use Rattle.vr_grid.proofs.check.payload_behind.Goals.{else-is_block-via-then-is_block+else-has_name, else-is_block-via-else-is_block}

@@ -1,8 +1,5 @@
-use Rattle.std.proofs.Common.{◌≡◌, ◌∙◌, ◌<◌, arith, sym, refl, ap, true, false, List, ℕ}
-use Rattle.std.specs.Prelude.{IfSome}
-use Rattle.vr_disk.specs.DiskState.{Disk}
+use Rattle.std.proofs.Common.{◌∙◌, arith, sym, refl}
 use Rattle.vr_grid.specs.Blocks.{named}
-use Rattle.vr_grid.specs.Grid.{IsWhole, named_at}
 use Rattle.vr_grid.proofs.Readings.{reads_it, reads_none, reads_not, reads_outside, whole_of}
 use Rattle.vr_grid.proofs.reading.read_block.Goals as goal
 

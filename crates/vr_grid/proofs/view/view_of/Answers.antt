@@ -1,6 +1,6 @@
-use Rattle.std.proofs.Common.{◌≡◌, ◌∙◌, arith, ℕ}
+use Rattle.std.proofs.Common.{◌≡◌, ◌∙◌, arith}
 use Rattle.vr_grid.specs.Blocks.{Content, named}
-use Rattle.vr_grid.proofs.Readings.{Standing, standing}
+use Rattle.vr_grid.proofs.Readings.{standing}
 use Rattle.vr_disk.proofs.Telling.{if_some}
 use Rattle.vr_grid.proofs.view.view_of.Goals as goal
 

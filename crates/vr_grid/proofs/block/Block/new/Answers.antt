@@ -1,5 +1,4 @@
 use Rattle.std.proofs.Common.{◌∙◌, ap, arith, ◌++◌}
-use Rattle.vr_header.specs.Names.{header_name}
 use Rattle.vr_grid.specs.Blocks.{Content}
 use Rattle.vr_grid.proofs.Made.{made_is}
 use Rattle.vr_grid.proofs.block.Block.new.Goals as goal
