@@ -1,5 +1,5 @@
 -- A checkpoint's blocks stand apart from those that the one before names.
-use Rattle.std.proofs.Common.{ℕ, zero, suc, ◌+◌, ◌-◌, ◌*◌, ◌/◌, ◌%◌, ◌≤◌, ◌<◌, ◌≡◌, ◌≢◌, ◌⊎◌, inl, inr, arith, refl, sym, ap, ◌∙◌, Bool, true, false, cond, eqb, ◌||◌, List, [], ◌∷◌, ◌++◌, length, Option, Some, None, subst}
+use Rattle.std.proofs.Common.{ℕ, zero, suc, ◌+◌, ◌/◌, ◌%◌, ◌≤◌, ◌<◌, ◌≡◌, ◌≢◌, ◌⊎◌, inl, inr, arith, refl, sym, ap, ◌∙◌, true, false, cond, eqb, ◌||◌, List, [], ◌∷◌, ◌++◌, length, Option, Some, None, subst}
 use Rattle.std.specs.Prelude.{nat_eq, slice_get}
 use Rattle.std.specs.List.{AllByRecursion}
 use Rattle.std.specs.Cmp.Lexicographic.{pointwise}
@@ -7,7 +7,7 @@ use Rattle.std.proofs.lemmas.Bool.{cases_lt, eqb-true, eqb-false}
 use Rattle.std.proofs.lemmas.Slice.Eq.{bytes_eq-Decides}
 use Rattle.vr_apply.specs.Texts.{FitsPayloads, payloads}
 use Rattle.vr_apply.specs.declared.codec.Texts.{Texts}
-use Rattle.vr_grid.specs.Blocks.{block_name, block_of}
+use Rattle.vr_grid.specs.Blocks.{block_of}
 use Rattle.vr_grid.specs.declared.block.Block.{Block}
 use Rattle.vr_ckpt.specs.Places.{first_place, is_place, other_place, root_place}
 use Rattle.vr_ckpt.specs.Saves.{Part, blocks_from, changed, data_content, goes_to, keys_run, part, part_at, payload_at, root_of, sessions_run, stays, table_of, written}
@@ -66,11 +66,11 @@ part_cases r i bytes (Some p) =
     elim (pointwise nat_eq p.bytes bytes) as (λ t. pointwise nat_eq p.bytes bytes ≡ t → Stays (Some p) bytes (part r i bytes (Some p)) ⊎ Goes r i bytes (Some p) (part r i bytes (Some p))) [
       | true ↦ λ t. inl (record { payload = p; there = refl; same = (bytes_eq-Decides p.bytes bytes).0 t; is = part_same r i bytes p t })
       | false ↦ λ t. inr (record {
-          address = other_place (r.low + i) p.name.address;
-          at = other_at (r.low + i) p.name.address;
-          away = λ q e s. let same : p ≡ q = cc in other_away (r.low + i) p.name.address (s ∙ ap (λ (q : Payload). q.name.address) (sym same));
-          is = part_other r i bytes p t;
-        })
+        address = other_place (r.low + i) p.name.address;
+        at = other_at (r.low + i) p.name.address;
+        away = λ q e s. let same : p ≡ q = cc in other_away (r.low + i) p.name.address (s ∙ ap (λ (q : Payload). q.name.address) (sym same));
+        is = part_other r i bytes p t;
+      })
     ] refl
 
 -- ---- blocks that aren't at an address

@@ -1,17 +1,16 @@
 -- A checkpoint loads as it was saved.
-use Rattle.std.proofs.Common.{ℕ, zero, suc, ◌+◌, ◌-◌, ◌*◌, ◌/◌, ◌%◌, ◌^◌, ◌≤◌, ◌<◌, ◌≡◌, ◌≢◌, ◌⊎◌, inl, inr, arith, refl, sym, ap, ◌∙◌, Bool, true, false, cond, eqb, leb, ltb, ◌&&◌, ◌||◌, List, [], ◌∷◌, ◌++◌, length, take, drop, Option, Some, None, subst, append_assoc, length-append, length-take, length-drop}
+use Rattle.std.proofs.Common.{ℕ, zero, suc, ◌+◌, ◌-◌, ◌*◌, ◌/◌, ◌%◌, ◌^◌, ◌≤◌, ◌<◌, ◌≡◌, inl, inr, arith, refl, sym, ap, ◌∙◌, Bool, true, false, cond, eqb, ltb, ◌||◌, List, [], ◌∷◌, ◌++◌, length, take, drop, Option, Some, None, subst, append_assoc, length-append, length-take, length-drop}
 use Rattle.std.specs.Prelude.{map, min, slice_get, IfSome}
 use Rattle.std.specs.List.{AllByRecursion}
-use Rattle.std.specs.Option.{option_and_then, option_map}
+use Rattle.std.specs.Option.{option_and_then}
 use Rattle.std.specs.Int.{w16, w32, w64}
-use Rattle.std.proofs.Math.Nat.{min-eq_left, min-eq_right}
-use Rattle.std.proofs.lemmas.Bool.{and_from, cases_lt, eq-eqb, le-leb, le-ltb, lt-ltb, ltb-true}
-use Rattle.std.proofs.lemmas.List.{append-nil, drop-drop, drop_all, drop_at, take_all, take_at, take-append-drop}
+use Rattle.std.proofs.lemmas.Bool.{eq-eqb, le-leb, le-ltb, lt-ltb, ltb-true}
+use Rattle.std.proofs.lemmas.List.{append-nil, drop-drop, drop_all, drop_at, take_at, take-append-drop}
 use Rattle.vr_apply.specs.Texts.{FitsPayloads, payloads}
 use Rattle.vr_apply.specs.declared.codec.Texts.{Texts}
 use Rattle.vr_base.specs.Bytes.{bytes16, bytes32, bytes64, number, piece}
 use Rattle.vr_base.proofs.FieldLaws.{length-bytes16, length-bytes32, length-bytes64, length-name_of, number16_of, number32_of, number64_of}
-use Rattle.vr_disk.specs.DiskState.{Call, Cell, Disk, Face, IsFace, Sync, after, after_all}
+use Rattle.vr_disk.specs.DiskState.{Disk, Face, IsFace, Sync, after, after_all}
 use Rattle.vr_disk.proofs.Telling.{if_some, some_if}
 use Rattle.vr_disk.proofs.Together.{after_all_append, length_after_all, together_synced}
 use Rattle.vr_grid.specs.Blocks.{Content, IsContent, block_bytes, block_name, block_of, named}
@@ -20,12 +19,11 @@ use Rattle.vr_grid.specs.declared.block.Block.{Block}
 use Rattle.vr_grid.specs.declared.name.Name.{Name}
 use Rattle.vr_grid.proofs.Contents.{length-block_bytes, named_again, named_found}
 use Rattle.vr_grid.proofs.Puts.{written_reads}
-use Rattle.vr_ckpt.specs.Loads.{data_at, data_of, gathered, has_numbers, keys_size, name_at, names_at, loaded, read_root, root_at, root_in, sessions_size, text_of}
+use Rattle.vr_ckpt.specs.Loads.{data_at, data_of, gathered, has_numbers, keys_size, name_at, names_at, read_root, root_at, root_in, sessions_size, text_of}
 use Rattle.vr_ckpt.specs.declared.found.Load.TheVariants.{Loaded}
 use Rattle.vr_ckpt.specs.Laws.{DoneLaw, Holds, HoldsFrom, SaveDone}
 use Rattle.vr_ckpt.specs.Places.{IsCheckpoint, is_place, root_place}
-use Rattle.vr_ckpt.specs.Saves.{Part, blocks_calls, blocks_from, changed, data_content, goes_to, names_bytes, part_at, payload_at, payloads_from, payloads_of, keys_run, root_of, root_payload, save_calls, saved, sessions_run, table_of, written}
-use Rattle.vr_ckpt.specs.declared.loading.Gathered.{Gathered}
+use Rattle.vr_ckpt.specs.Saves.{Part, blocks_calls, blocks_from, changed, data_content, goes_to, names_bytes, part_at, payload_at, payloads_from, payloads_of, keys_run, root_of, root_payload, save_calls, sessions_run, table_of, written}
 use Rattle.vr_ckpt.specs.declared.plan.Run.{Run}
 use Rattle.vr_ckpt.specs.declared.root.Root.{Root}
 use Rattle.vr_ckpt.specs.declared.table.Payload.{Payload}
@@ -273,9 +271,11 @@ fit_of g n size bytes e = by_test (ltb n.address 128) refl e
     by_bytes : (b : List ℕ) (o : Option Content) → n.address < 128 → named n b ≡ o → option_and_then (data_of size) o ≡ Some bytes → Fit n
     by_bytes b None l s e = absurd cc
     by_bytes b (Some c) l s e = fit_name b n c l s
+
     by_reading : (o : Option (List ℕ)) → n.address < 128 → option_and_then (data_of size) (option_and_then (named n) o) ≡ Some bytes → Fit n
     by_reading None l e = absurd cc
     by_reading (Some b) l e = by_bytes b (named n b) l refl e
+
     by_test : (t : Bool) → ltb n.address 128 ≡ t → option_and_then (data_of size) (cond t (option_and_then (named n) (block_reading g n.address)) None) ≡ Some bytes → Fit n
     by_test true t e = by_reading (block_reading g n.address) (ltb-true n.address 128 t) e
     by_test false t e = absurd cc

@@ -1,16 +1,16 @@
 -- The checkpoint before loads as it did, at the end and in every cut.
-use Rattle.std.proofs.Common.{ℕ, zero, suc, ◌+◌, ◌-◌, ◌*◌, ◌≤◌, ◌<◌, ◌≡◌, ◌≢◌, ◌⊎◌, inl, inr, arith, refl, sym, ap, ◌∙◌, Bool, true, false, cond, eqb, ◌&&◌, List, [], ◌∷◌, ◌++◌, length, Option, Some, None, subst}
+use Rattle.std.proofs.Common.{ℕ, zero, suc, ◌+◌, ◌-◌, ◌≤◌, ◌<◌, ◌≡◌, ◌≢◌, ◌⊎◌, inl, inr, arith, refl, sym, ap, ◌∙◌, Bool, true, false, cond, eqb, ◌&&◌, List, [], ◌∷◌, ◌++◌, length, take, Option, Some, None, subst}
 use Rattle.std.specs.Prelude.{min, nat_lt, slice_get, IfSome}
 use Rattle.std.specs.List.{AllByRecursion}
 use Rattle.std.specs.Option.{option_and_then, option_map}
 use Rattle.std.proofs.lemmas.Bool.{and_parts, cases_lt, eqb-true}
 use Rattle.vr_apply.specs.Texts.{FitsPayloads, payloads}
 use Rattle.vr_apply.specs.declared.codec.Texts.{Texts}
-use Rattle.vr_disk.specs.DiskState.{Call, Cell, Disk, Face, IsFace, Sync, after_all, cell, cut}
+use Rattle.vr_disk.specs.DiskState.{Call, Cell, Disk, Face, Sync, after_all, cut}
 use Rattle.vr_disk.specs.Regions.{block_at}
 use Rattle.vr_disk.specs.Stops.{Spares}
 use Rattle.vr_disk.proofs.Frames.{frame_all, frame_cut}
-use Rattle.vr_disk.proofs.Telling.{if_some, some_if}
+use Rattle.vr_disk.proofs.Telling.{if_some}
 use Rattle.vr_disk.proofs.Together.{spares_append, together_same, within_spares}
 use Rattle.vr_grid.specs.Blocks.{Content, block_name, named}
 use Rattle.vr_grid.specs.Grid.{block_calls, block_reading, named_at}
@@ -19,11 +19,10 @@ use Rattle.vr_grid.specs.declared.name.Name.{Name}
 use Rattle.vr_grid.proofs.Contents.{named_found}
 use Rattle.vr_grid.proofs.Puts.{block_within}
 use Rattle.vr_ckpt.specs.Laws.{Holds, HoldsFrom, SaveKeeps, KeepLaw, TablesHeld}
-use Rattle.vr_ckpt.specs.Loads.{both_named, data_at, data_of, gathered, gathered_both, has_numbers, is_root, load_by, load_of, loaded, names_at, name_at, read_root, root_at, root_in, text_of, with_data, with_name, sessions_size, keys_size}
-use Rattle.vr_ckpt.specs.Places.{empty, is_place, root_place}
+use Rattle.vr_ckpt.specs.Loads.{both_named, data_at, data_of, gathered, has_numbers, is_root, load_by, load_of, loaded, names_at, name_at, read_root, root_at, root_in, text_of, with_data, with_name, sessions_size, keys_size}
+use Rattle.vr_ckpt.specs.Places.{is_place, root_place}
 use Rattle.vr_ckpt.specs.Saves.{blocks_calls, save_calls, written}
-use Rattle.vr_ckpt.specs.declared.found.Load.{Load}
-use Rattle.vr_ckpt.specs.declared.found.Load.TheVariants.{Loaded, Missing}
+use Rattle.vr_ckpt.specs.declared.found.Load.TheVariants.{Loaded}
 use Rattle.vr_ckpt.specs.declared.loading.Gathered.{Gathered}
 use Rattle.vr_ckpt.specs.declared.root.Root.{Root}
 use Rattle.vr_ckpt.specs.declared.table.Payload.{Payload}
@@ -67,6 +66,17 @@ unfolding block_reading
 same_cut cluster texts op old f a j code w h =
     together_same 8 (block_at a) f (cut j code f (save_calls cluster texts op old))
     (λ k l m. ap (λ (c : Cell). c.reads) (frame_cut (save_calls cluster texts op old) f k j code (save_spares cluster texts op old a k h l m) (rw w refl)))
+
+front_spares : (cs : List Call) (n i : ℕ) → AllByRecursion (Spares i) cs → AllByRecursion (Spares i) (take n cs)
+front_spares cs zero i h = tt
+front_spares [] (suc n) i h = tt
+front_spares (c ∷ cs) (suc n) i h = (h.0, front_spares cs n i h.1)
+
+pub same_front : (cluster : ℕ) (texts : Texts) (op : ℕ) (old : Table) (f : Face) (a j : ℕ) → Avoids a (written cluster texts op old) → SameAt f (after_all f (take j (save_calls cluster texts op old))) a
+unfolding block_reading
+same_front cluster texts op old f a j h =
+    let cs = save_calls cluster texts op old in
+    together_same 8 (block_at a) f (after_all f (take j cs)) (λ k l m. ap (λ (c : Cell). c.reads) (frame_all (take j cs) f k (front_spares cs j k (save_spares cluster texts op old a k h l m))))
 
 -- ---- what reads the same
 
@@ -193,7 +203,7 @@ all_same f g old (p ∷ ps) low i at h same =
     let later : HoldsFrom f (low + (i + 1)) ps = rw n at h.2 in (
       same i p here (omega arith) (place_of (low + i) p.name.address h.0),
       all_same f g old ps low (i + 1) (λ k. let m : i + 1 + k ≡ i + suc k = omega arith in ap (slice_get old) m ∙ at (suc k)) later
-      (λ j q s l a. same j q s (omega arith) a),
+          (λ j q s l a. same j q s (omega arith) a),
     )
 
 -- ---- the table is held
@@ -222,6 +232,7 @@ length_is f n size bytes e = by_content (named_at f n) e
               ap length (sym same) ∙ eqb-true (length c.payload) size p.1
           | false ↦ λ t e. absurd cc
         ] refl e
+
     by_content : (o : Option Content) → option_and_then (data_of size) o ≡ Some bytes → length bytes ≡ size
     by_content None e = absurd cc
     by_content (Some c) e = by_data c e
@@ -266,6 +277,7 @@ both_said b op r (Some s) (Some k) n p q e =
   where
     names_of : (s k : List Name) (r : Root) (m n : ℕ) → Some (let x : Root = record { sessions_size = m; keys_size = n; sessions = s; keys = k } in x) ≡ Some r → s ≡ r.sessions
     names_of s k r m n e = let same : (let x : Root = record { sessions_size = m; keys_size = n; sessions = s; keys = k } in x) ≡ r = cc in ap (λ (r : Root). r.sessions) same
+
     keys_of : (s k : List Name) (r : Root) (m n : ℕ) → Some (let x : Root = record { sessions_size = m; keys_size = n; sessions = s; keys = k } in x) ≡ Some r → k ≡ r.keys
     keys_of s k r m n e = let same : (let x : Root = record { sessions_size = m; keys_size = n; sessions = s; keys = k } in x) ≡ r = cc in ap (λ (r : Root). r.keys) same
 
@@ -295,9 +307,11 @@ read_of_root f name r e = by_test (nat_lt name.address 128) e
     by_bytes : (b : List ℕ) (o : Option Content) → named name b ≡ o → option_and_then read_root o ≡ Some r → Read name r
     by_bytes b None n e = absurd cc
     by_bytes b (Some c) n e = read_said c name r (named_found name b c n).1 e
+
     by_reading : (o : Option (List ℕ)) → option_and_then read_root (option_and_then (named name) o) ≡ Some r → Read name r
     by_reading None e = absurd cc
     by_reading (Some b) e = by_bytes b (named name b) refl e
+
     by_test : (t : Bool) → option_and_then read_root (cond t (option_and_then (named name) (block_reading f name.address)) None) ≡ Some r → Read name r
     by_test true e = by_reading (block_reading f name.address) e
     by_test false e = absurd cc
@@ -337,6 +351,7 @@ keeps_by cluster texts op old f g fits same root before d e =
 pub keep_law : KeepLaw
 keep_law cluster texts op old f fits w = record {
   kept = keeps_by cluster texts op old f (after_all f (save_calls cluster texts op old)) fits (λ a h. same_after cluster texts op old f a h);
+  front = λ root before j d e. keeps_by cluster texts op old f (after_all f (take j (save_calls cluster texts op old))) fits (λ a h. same_front cluster texts op old f a j h) root before d e;
   stopped = λ root before j code d e. keeps_by cluster texts op old f (cut j code f (save_calls cluster texts op old)) fits (λ a h. same_cut cluster texts op old f a j code w h) root before d e;
 }
 

@@ -1,5 +1,5 @@
 -- What is planned, payload by payload.
-use Rattle.std.proofs.Common.{ℕ, zero, suc, ◌+◌, ◌-◌, ◌*◌, ◌≤◌, ◌<◌, ◌≡◌, arith, refl, sym, ap, ◌∙◌, true, false, cond, List, [], ◌∷◌, ◌++◌, length, take, drop, get_or, Option, Some, None, append_assoc, length-take, inl, inr, subst}
+use Rattle.std.proofs.Common.{ℕ, zero, suc, ◌+◌, ◌-◌, ◌*◌, ◌≤◌, ◌<◌, ◌≡◌, arith, refl, sym, ap, ◌∙◌, true, false, List, [], ◌∷◌, ◌++◌, length, take, drop, get_or, Some, None, append_assoc, length-take, inl, inr, subst}
 use Rattle.std.specs.Prelude.{min, nat_eq, slice_get}
 use Rattle.std.specs.Cmp.Lexicographic.{pointwise}
 use Rattle.std.proofs.Math.Nat.{min-eq_left, min-eq_right}
@@ -15,7 +15,7 @@ use Rattle.vr_grid.specs.declared.name.Name.{Name}
 use Rattle.vr_grid.specs.declared.block.Block.{Block}
 use Rattle.vr_grid.proofs.Made.{name_of_made}
 use Rattle.vr_ckpt.specs.Places.{first_place, other_place}
-use Rattle.vr_ckpt.specs.Saves.{IsPlaced, Part, blocks_calls, blocks_from, data_content, goes_to, keys_run, part, part_at, payload_at, payloads_from, root_of, saved, sessions_run, stays, table_of}
+use Rattle.vr_ckpt.specs.Saves.{IsPlaced, blocks_calls, blocks_from, data_content, goes_to, keys_run, part, part_at, payload_at, payloads_from, root_of, saved, sessions_run, stays, table_of}
 use Rattle.vr_ckpt.specs.declared.saving.Saved.{Saved}
 use Rattle.vr_ckpt.specs.declared.table.Table.{Table}
 use Rattle.vr_ckpt.specs.declared.plan.Run.{Run}

@@ -1,5 +1,5 @@
 -- What a checkpoint leaves of the one before, and what it loads as.
-use Rattle.std.specs.Prelude.{ℕ, ◌+◌, ◌^◌, ◌<◌, ◌≤◌, ◌≡◌, ◌≢◌, true, List, [], ◌∷◌, length, Some}
+use Rattle.std.specs.Prelude.{ℕ, ◌+◌, ◌^◌, ◌<◌, ◌≤◌, ◌≡◌, ◌≢◌, true, List, [], ◌∷◌, length, take, Some}
 use Rattle.vr_disk.specs.DiskState.{Face, IsFace, after_all, cut}
 use Rattle.vr_apply.specs.Texts.{FitsPayloads}
 use Rattle.vr_apply.specs.declared.codec.Texts.{Texts}
@@ -28,10 +28,12 @@ pub record TablesHeld : Type 0 where
   pub none : (f : Face) → Holds f empty
   pub each : (f : Face) (root : Name) (texts : Texts) (t : Table) → loaded f root ≡ Loaded texts t → Holds f t
 
--- the checkpoint before, whose root stands at the other place, loads as before: at the end, and in a cut at any call
+-- the checkpoint before, whose root stands at the other place, loads as before: at the end, after any of the calls, and in a cut at any
 pub record SaveKeeps (cluster : ℕ) (texts : Texts) (op : ℕ) (old : Table) (f : Face) : Type 0 where
   pub kept : (root : Name) (before : Texts) → root.address ≢ root_place op → loaded f root ≡ Loaded before old
       → loaded (after_all f (save_calls cluster texts op old)) root ≡ Loaded before old
+  pub front : (root : Name) (before : Texts) (j : ℕ) → root.address ≢ root_place op → loaded f root ≡ Loaded before old
+      → loaded (after_all f (take j (save_calls cluster texts op old))) root ≡ Loaded before old
   pub stopped : (root : Name) (before : Texts) (j code : ℕ) → root.address ≢ root_place op → loaded f root ≡ Loaded before old
       → loaded (cut j code f (save_calls cluster texts op old)) root ≡ Loaded before old
 

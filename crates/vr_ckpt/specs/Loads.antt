@@ -5,7 +5,6 @@ use Rattle.std.specs.Int.{w16, w32, w64}
 use Rattle.vr_base.specs.Bytes.{number, piece}
 use Rattle.vr_disk.specs.DiskState.{Face}
 use Rattle.vr_apply.specs.Texts.{payloads}
-use Rattle.vr_apply.specs.declared.codec.Texts.{Texts}
 use Rattle.vr_grid.specs.Blocks.{Content}
 use Rattle.vr_grid.specs.Grid.{named_at}
 use Rattle.vr_grid.specs.declared.name.Name.{Name}

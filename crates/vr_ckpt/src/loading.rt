@@ -27,11 +27,7 @@ fn load_root<D: SectorDisk>(
 {
     match read_block(disk, name, buffer) {
         Err(_) => Ok(None),
-        Ok(size) => read_root(
-            alloc,
-            name.address,
-            &view_of(buffer.as_slice(), name, size),
-        ),
+        Ok(size) => read_root(alloc, name.address, &view_of(buffer.as_slice(), name, size)),
     }
 }
 
@@ -55,11 +51,7 @@ fn load_payload<D: SectorDisk>(
 }
 
 // The payload of a data block, where it has this length.
-fn data_of(
-    alloc: Global,
-    size: usize,
-    block: &BlockView<'_>,
-) -> Result<Option<ByteList>, NoMemory>
+fn data_of(alloc: Global, size: usize, block: &BlockView<'_>) -> Result<Option<ByteList>, NoMemory>
     ensures { (c : Content) → c.kind ≡ block.now.kind → c.payload ≡ block.now.payload.now → IfOk result (λ bytes. bytes ≡ data_of size c) }
 {
     if block.kind == DATA && block.payload.len() == size {
@@ -131,8 +123,14 @@ fn load_of(alloc: Global, sessions: Gathered, keys: Gathered) -> Result<Load, No
     ensures value { IfOk result (λ load. load ≡ gathered_both sessions keys) }
     ensures some { IfOk result HasSome }
 {
-    let Gathered { payloads: sessions, missing: mut missing } = sessions;
-    let Gathered { payloads: keys, missing: others } = keys;
+    let Gathered {
+        payloads: sessions,
+        missing: mut missing,
+    } = sessions;
+    let Gathered {
+        payloads: keys,
+        missing: others,
+    } = keys;
     missing.extend(others.as_slice())?;
     if missing.len() > 0 {
         return Ok(Load::Missing(missing));

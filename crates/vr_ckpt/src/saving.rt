@@ -132,7 +132,7 @@ pub fn save<D: SectorDisk>(
     // Over a table that the disk holds it loads at the end as it was saved.
     ensures done { IfSome (D.told disk.old) (λ d. Holds d.face old.now → SaveDone cluster texts.now op old.now d.face) }
 
-    // The checkpoint before stays whole, at the end and in a cut at any of these calls.
+    // The checkpoint before stays whole, at the end, after any of these calls, and in a cut at any.
     ensures stop { IfSome (D.told disk.old) (λ d. d.face.waiting ≡ [] → SaveKeeps cluster texts.now op old.now d.face) }
 {
     let mut blocks = Seq::new(alloc);

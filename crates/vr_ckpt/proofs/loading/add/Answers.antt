@@ -1,4 +1,4 @@
-use Rattle.std.proofs.Common.{◌≡◌, ◌∙◌, ap, sym, Option, List, ℕ}
+use Rattle.std.proofs.Common.{◌∙◌, ap, sym}
 use Rattle.vr_ckpt.specs.Loads.{behind, with_data}
 use Rattle.vr_ckpt.proofs.Gathering.{adds_missing, adds_there}
 use Rattle.vr_ckpt.proofs.loading.add.Goals as goal

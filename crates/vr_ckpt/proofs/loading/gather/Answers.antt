@@ -1,9 +1,8 @@
-use Rattle.std.proofs.Common.{◌≡◌, ◌∙◌, ◌-◌, ap, sym, arith, refl, get_or, []}
-use Rattle.std.specs.Prelude.{IfSome, min}
+use Rattle.std.proofs.Common.{◌≡◌, ◌∙◌, ap, refl, get_or, []}
 use Rattle.vr_disk.specs.DiskState.{Disk}
 use Rattle.vr_disk.proofs.Telling.{if_some, some_if}
 use Rattle.vr_grid.specs.declared.name.Name.{Name}
-use Rattle.vr_ckpt.specs.Loads.{behind, data_at, gathered}
+use Rattle.vr_ckpt.specs.Loads.{data_at, gathered}
 use Rattle.vr_ckpt.specs.declared.loading.Gathered.{Gathered}
 use Rattle.vr_ckpt.proofs.Gathering.{gathers_end, gathers_on, gathers_start}
 use Rattle.vr_ckpt.proofs.loading.gather.Goals as goal

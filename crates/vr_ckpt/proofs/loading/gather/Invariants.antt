@@ -1,4 +1,4 @@
-use Rattle.std.proofs.Common.{◌≡◌, ◌++◌, drop, Some}
+use Rattle.std.proofs.Common.{◌≡◌, drop, Some}
 use Rattle.vr_disk.specs.DiskState.{Disk}
 use Rattle.vr_ckpt.specs.Loads.{behind, gathered}
 use Rattle.vr_ckpt.proofs.loading.gather.Given as goal

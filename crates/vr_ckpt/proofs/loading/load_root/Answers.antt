@@ -1,5 +1,5 @@
 use Rattle.std.proofs.Common.{◌≡◌, ◌∙◌, ap, sym}
-use Rattle.std.specs.Prelude.{IfOk, IfSome}
+use Rattle.std.specs.Prelude.{IfOk}
 use Rattle.vr_disk.specs.DiskState.{Disk}
 use Rattle.vr_disk.proofs.Telling.{if_some, some_if}
 use Rattle.vr_grid.specs.Blocks.{Content, named}

@@ -1,7 +1,6 @@
-use Rattle.std.proofs.Common.{◌≡◌, ◌∙◌, ◌+◌, ap, sym, arith, length}
+use Rattle.std.proofs.Common.{◌≡◌, ◌∙◌, ◌+◌, ap, sym, arith}
 use Rattle.vr_ckpt.specs.Places.{first_place}
-use Rattle.vr_ckpt.specs.Saves.{Part, goes_to, part, part_at, payload_at}
-use Rattle.vr_ckpt.specs.declared.table.Payload.{Payload}
+use Rattle.vr_ckpt.specs.Saves.{goes_to, part_at}
 use Rattle.vr_ckpt.proofs.Planning.{part_kept, part_new, payload_short}
 use Rattle.vr_ckpt.proofs.plan.plan_payload.Goals as goal
 

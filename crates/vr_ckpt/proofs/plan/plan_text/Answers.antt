@@ -1,7 +1,6 @@
-use Rattle.std.proofs.Common.{◌≡◌, ◌∙◌, ◌<◌, ◌-◌, ◌++◌, ap, sym, arith, refl, length, []}
+use Rattle.std.proofs.Common.{◌<◌, arith, length}
 use Rattle.vr_apply.specs.Texts.{payloads}
-use Rattle.vr_ckpt.specs.Saves.{blocks_from, changed, payloads_from, payloads_of}
-use Rattle.vr_ckpt.proofs.Planning.{begins_before, blocks_end, blocks_step, payloads_end, payloads_step}
+use Rattle.vr_ckpt.proofs.Planning.{blocks_end, blocks_step, payloads_end, payloads_step}
 use Rattle.vr_ckpt.proofs.plan.plan_text.Goals as goal
 
 pub loop-i-preserved : goal.loop-i-preserved

@@ -1,4 +1,4 @@
-use Rattle.std.proofs.Common.{◌∙◌, sym, arith}
+use Rattle.std.proofs.Common.{◌∙◌, sym}
 use Rattle.vr_ckpt.proofs.Roots.{names_end, names_go, names_start, names_stop}
 use Rattle.vr_ckpt.proofs.root.names_at.Goals as goal
 

@@ -1,4 +1,4 @@
-use Rattle.std.proofs.Common.{◌≡◌, ◌∙◌, ◌+◌, ◌++◌, ap, sym, arith, append_assoc, drop, []}
+use Rattle.std.proofs.Common.{◌∙◌, ◌+◌, ◌++◌, ap, sym, arith, append_assoc, drop}
 use Rattle.std.proofs.lemmas.List.{append-nil}
 use Rattle.vr_base.specs.Bytes.{bytes64}
 use Rattle.vr_ckpt.specs.Saves.{names_bytes}
