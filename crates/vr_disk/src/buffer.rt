@@ -36,6 +36,14 @@ impl Buffer {
         self.bytes.as_slice()
     }
 
+    /// Puts these 4,096 bytes in the place of all.
+    pub fn set(&mut self, bytes: &[u8])
+        requires { length bytes.now ≡ 4096 }
+        ensures { self.new ≡ bytes.now }
+    {
+        self.bytes.copy_from_slice(bytes);
+    }
+
     /// Puts these bytes in the place of as many.
     pub fn put(&mut self, at: usize, bytes: &[u8])
         requires { at + length bytes.now ≤ 4096 }

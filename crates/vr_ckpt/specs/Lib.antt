@@ -1,0 +1,4 @@
+pub mod Laws
+pub mod Loads
+pub mod Places
+pub mod Saves

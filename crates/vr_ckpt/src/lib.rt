@@ -1,0 +1,20 @@
+//! Checkpoints: the texts of a state saved in blocks, of which only those that changed are written.
+#![tactic(auto)]
+
+mod found;
+mod laws;
+mod loading;
+mod plan;
+mod root;
+mod saving;
+mod table;
+
+pub use found::Load;
+pub use laws::checkpoint_laws;
+pub use loading::load;
+pub use saving::{Saved, save};
+pub use table::{Payload, Table};
+pub use vr_grid::{CkptFault, Name, NameList};
+
+#[cfg(test)]
+mod tests;

@@ -1,0 +1,149 @@
+//! What a checkpoint has in its blocks, and which of them are written: made before the first call.
+ghost use Rattle.std.specs.Prelude.{◌≡◌, ◌≤◌, ◌<◌, ◌+◌, ◌*◌, ◌++◌, length, OnOk, IfOk, Some, None};
+ghost use Rattle.std.specs.List.{All};
+ghost use Rattle.vr_apply.specs.Texts.{payloads};
+ghost use Rattle.vr_ckpt.specs.Places.{first_place, other_place};
+ghost use Rattle.vr_ckpt.specs.Saves.{IsPlaced, changed, goes_to, part, part_at, payload_at, payloads_of};
+
+use crate::Payload;
+use std::alloc::Global;
+use vr_base::{NoMemory, Seq};
+use vr_grid::{Block, DATA, PAYLOAD_SIZE};
+
+/// One text of a checkpoint: its group, the checkpoint's op, the lower place of its first payload.
+#[derive(Clone, Copy)]
+pub struct Run {
+    pub cluster: u64,
+    pub op: u64,
+    pub low: u64,
+}
+
+fn first_place(op: u64, low: u64) -> u64
+    requires { low < 64 }
+    ensures value { result ≡ first_place op low }
+    ensures within { result < 128 }
+{
+    if op / 32 % 2 == 0 { low } else { low + 64 }
+}
+
+fn other_place(low: u64, address: u64) -> u64
+    requires { low < 64 }
+    ensures value { result ≡ other_place low address }
+    ensures within { result < 128 }
+{
+    if address == low { low + 64 } else { low }
+}
+
+/// How many payloads a text has.
+pub fn payloads_in(text: &[u8]) -> usize
+    requires { payloads (length text.now) ≤ 36 }
+    ensures { result ≡ payloads (length text.now) }
+{
+    text.len().div_ceil(PAYLOAD_SIZE)
+}
+
+/// The i-th payload of a text.
+#[tactic(auto, unfolding(crate::specs::Saves::payload_at, vr_base::specs::Bytes::piece))]
+fn payload_at(text: &[u8], i: usize) -> &[u8]
+    requires begins { 3968 * i ≤ length text.now }
+    requires few { i < 36 }
+    ensures { result.now ≡ payload_at text.now i }
+{
+    let (_, rest) = text.split_at(PAYLOAD_SIZE * i);
+    let (front, _) = rest.split_at(rest.len().min(PAYLOAD_SIZE));
+    front
+}
+
+// A payload in a block of its own at this address.
+fn goes_to(
+    alloc: Global,
+    run: Run,
+    address: u64,
+    bytes: &[u8],
+    blocks: &mut Seq<Block>,
+) -> Result<Payload, NoMemory>
+    requires size { length bytes.now ≤ 3968 }
+    requires address { address < 128 }
+    ensures payload { IfOk result (λ p. p ≡ (goes_to run address bytes.now).payload) }
+    ensures blocks { OnOk result (blocks.new ≡ blocks.old ++ (goes_to run address bytes.now).blocks) }
+    ensures placed { OnOk result (All IsPlaced blocks.old → All IsPlaced blocks.new) }
+{
+    let copy = Vec::from_slice(alloc, bytes)?;
+    let block = Block::new(alloc, run.cluster, address, run.op, DATA, bytes)?;
+    let name = block.name;
+    blocks.push(block)?;
+    Ok(Payload {
+        name,
+        bytes: Seq::from_vec(copy),
+    })
+}
+
+// A payload where the checkpoint before had one: with the same bytes it stays.
+fn goes_on(
+    alloc: Global,
+    run: Run,
+    i: usize,
+    bytes: &[u8],
+    old: &Payload,
+    blocks: &mut Seq<Block>,
+) -> Result<Payload, NoMemory>
+    requires size { length bytes.now ≤ 3968 }
+    requires low { run.low + i < 64 }
+    ensures payload { IfOk result (λ p. p ≡ (part run i bytes.now (Some old.now)).payload) }
+    ensures blocks { OnOk result (blocks.new ≡ blocks.old ++ (part run i bytes.now (Some old.now)).blocks) }
+    ensures placed { OnOk result (All IsPlaced blocks.old → All IsPlaced blocks.new) }
+{
+    if old.bytes.as_slice() == bytes {
+        return Ok(Payload {
+            name: old.name,
+            bytes: old.bytes.try_clone(alloc)?,
+        });
+    }
+    let address = other_place(run.low + i as u64, old.name.address);
+    goes_to(alloc, run, address, bytes, blocks)
+}
+
+// The i-th payload, and what is written for it.
+fn plan_payload(
+    alloc: Global,
+    run: Run,
+    i: usize,
+    text: &[u8],
+    old: &[Payload],
+    blocks: &mut Seq<Block>,
+) -> Result<Payload, NoMemory>
+    requires begins { 3968 * i ≤ length text.now }
+    requires few { i < 36 }
+    requires low { run.low + i < 64 }
+    ensures payload { IfOk result (λ p. p ≡ (part_at run text.now old.now i).payload) }
+    ensures blocks { OnOk result (blocks.new ≡ blocks.old ++ (part_at run text.now old.now i).blocks) }
+    ensures placed { OnOk result (All IsPlaced blocks.old → All IsPlaced blocks.new) }
+{
+    let bytes = payload_at(text, i);
+    if i < old.len() {
+        return goes_on(alloc, run, i, bytes, &old[i], blocks);
+    }
+    let address = first_place(run.op, run.low + i as u64);
+    goes_to(alloc, run, address, bytes, blocks)
+}
+
+/// The payloads of a text; the blocks that are written for them are added to the others.
+pub fn plan_text(
+    alloc: Global,
+    run: Run,
+    text: &[u8],
+    old: &[Payload],
+    blocks: &mut Seq<Block>,
+) -> Result<Seq<Payload>, NoMemory>
+    requires few { payloads (length text.now) ≤ 36 }
+    requires low { run.low + payloads (length text.now) ≤ 64 }
+    ensures payloads { IfOk result (λ ps. ps ≡ payloads_of run text.now old.now) }
+    ensures blocks { OnOk result (blocks.new ≡ blocks.old ++ changed run text.now old.now) }
+    ensures placed { OnOk result (All IsPlaced blocks.old → All IsPlaced blocks.new) }
+{
+    let mut payloads = Seq::new(alloc);
+    for i in 0..payloads_in(text) {
+        payloads.push(plan_payload(alloc, run, i, text, old, blocks)?)?;
+    }
+    Ok(payloads)
+}

@@ -1,0 +1,146 @@
+//! A checkpoint saved.
+ghost use Rattle.std.specs.Prelude.{◌≡◌, ◌≤◌, ◌<◌, ◌++◌, length, OnOk, IfOk, IfSome, is_ok, [], ◌∷◌, Err};
+ghost use Rattle.std.specs.List.{All};
+ghost use Rattle.vr_base.specs.Causes.{HasCause, Rose};
+ghost use Rattle.vr_disk.specs.DiskState.{Runs, Sync};
+ghost use Rattle.vr_apply.specs.Texts.{FitsPayloads};
+ghost use Rattle.vr_grid.specs.Blocks.{block_of};
+ghost use Rattle.vr_grid.specs.Grid.{Leaves};
+ghost use Rattle.vr_ckpt.specs.Laws.{Holds, SaveDone, SaveKeeps};
+ghost use Rattle.vr_ckpt.specs.Places.{IsCheckpoint};
+ghost use Rattle.vr_ckpt.specs.Saves.{IsPlaced, blocks_calls, changed, keys_run, root_of, save_calls, saved, sessions_run, table_of, written};
+
+use crate::plan::{Run, plan_text};
+use crate::root::root_block;
+use crate::{CkptFault, Name, Table};
+use std::alloc::Global;
+use vr_apply::Texts;
+use vr_base::{NoMemory, Seq};
+use vr_disk::{DiskFailed, SectorDisk};
+use vr_grid::{Block, write_at};
+
+/// A checkpoint that was saved: the name of its root, and what it has in its blocks.
+#[derive(Debug, Drop, PartialEq, Eq)]
+pub struct Saved {
+    pub root: Name,
+    pub table: Table,
+}
+
+// The table of these texts; the blocks that are written for them are added to the others.
+#[tactic(auto, unfolding(crate::specs::Saves::table_of))]
+fn plan_table(
+    alloc: Global,
+    cluster: u64,
+    texts: &Texts,
+    op: u64,
+    old: &Table,
+    blocks: &mut Seq<Block>,
+) -> Result<Table, NoMemory>
+    requires { FitsPayloads texts.now }
+    ensures table { IfOk result (λ t. t ≡ table_of cluster texts.now op old.now) }
+    ensures blocks { OnOk result (blocks.new ≡ blocks.old ++ (changed (sessions_run cluster op) texts.now.sessions old.now.sessions ++ changed (keys_run cluster op) texts.now.keys old.now.keys)) }
+    ensures placed { OnOk result (All IsPlaced blocks.old → All IsPlaced blocks.new) }
+{
+    let run = Run {
+        cluster,
+        op,
+        low: 1,
+    };
+    let sessions = plan_text(
+        alloc,
+        run,
+        texts.sessions.as_slice(),
+        old.sessions.as_slice(),
+        blocks,
+    )?;
+    let keys = plan_text(
+        alloc,
+        Run { low: 10, ..run },
+        texts.keys.as_slice(),
+        old.keys.as_slice(),
+        blocks,
+    )?;
+    Ok(Table { sessions, keys })
+}
+
+// What is saved; the blocks that are written for it are added to none.
+#[tactic(auto, unfolding(crate::specs::Saves::written))]
+fn plan(
+    alloc: Global,
+    cluster: u64,
+    texts: &Texts,
+    op: u64,
+    old: &Table,
+    blocks: &mut Seq<Block>,
+) -> Result<Saved, NoMemory>
+    requires op { IsCheckpoint op }
+    requires texts { FitsPayloads texts.now }
+    requires none { blocks.old ≡ [] }
+    ensures saved { IfOk result (λ s. s ≡ saved cluster texts.now op old.now) }
+    ensures blocks { OnOk result (blocks.new ≡ written cluster texts.now op old.now) }
+    ensures placed { OnOk result (All IsPlaced blocks.new) }
+{
+    let table = plan_table(alloc, cluster, texts, op, old, blocks)?;
+    let root = root_block(alloc, cluster, texts, op, &table)?;
+    let name = root.name;
+    blocks.push(root)?;
+    Ok(Saved { root: name, table })
+}
+
+// Writes these blocks in order.
+fn write_all<D: SectorDisk>(disk: &mut D, blocks: &[Block]) -> Result<(), DiskFailed>
+    requires { All IsPlaced blocks.now }
+    ensures runs { Runs (blocks_calls blocks.now) (D.told disk.old) (D.told disk.new) (is_ok result) }
+    ensures cause { HasCause (D.faults disk.old) (D.faults disk.new) result }
+{
+    for block in blocks {
+        write_at(disk, block.name.address, block.bytes.as_slice())?;
+    }
+    Ok(())
+}
+
+// Writes these blocks in order, and syncs them.
+#[tactic(auto, using(vr_disk::proofs::Running::Runs_then, vr_disk::proofs::Running::Runs_stopped))]
+fn write_synced<D: SectorDisk>(disk: &mut D, blocks: &[Block]) -> Result<(), DiskFailed>
+    requires { All IsPlaced blocks.now }
+    ensures runs { Runs (blocks_calls blocks.now ++ Sync ∷ []) (D.told disk.old) (D.told disk.new) (is_ok result) }
+    ensures cause { HasCause (D.faults disk.old) (D.faults disk.new) result }
+{
+    write_all(disk, blocks)?;
+    disk.sync()?;
+    Ok(())
+}
+
+/// Saves the texts of checkpoint `op`, a multiple of 32 from 32 to 2^62, over the table of the checkpoint before: the payloads that changed in order, the
+/// root, and one sync. Want of memory comes before the first call.
+#[tactic(auto, unfolding(crate::specs::Saves::save_calls))]
+pub fn save<D: SectorDisk>(
+    alloc: Global,
+    disk: &mut D,
+    cluster: u64,
+    texts: &Texts,
+    op: u64,
+    old: &Table,
+) -> Result<Saved, CkptFault>
+    requires op { IsCheckpoint op }
+    requires texts { FitsPayloads texts.now }
+    ensures saved { IfOk result (λ s. s ≡ saved cluster texts.now op old.now) }
+    ensures runs { Leaves (save_calls cluster texts.now op old.now) (D.told disk.old) (D.told disk.new) result }
+    ensures later { D.faults disk.old ≤ D.faults disk.new }
+    ensures fault { result ≡ Err CkptFault.DiskFault → Rose (D.faults disk.old) (D.faults disk.new) }
+
+    // Over a table that the disk holds it loads at the end as it was saved.
+    ensures done { IfSome (D.told disk.old) (λ d. Holds d.face old.now → SaveDone cluster texts.now op old.now d.face) }
+
+    // The checkpoint before stays whole, at the end, after any of these calls, and in a cut at any.
+    ensures stop { IfSome (D.told disk.old) (λ d. d.face.waiting ≡ [] → SaveKeeps cluster texts.now op old.now d.face) }
+{
+    let mut blocks = Seq::new(alloc);
+    match plan(alloc, cluster, texts, op, old, &mut blocks) {
+        Err(_) => Err(CkptFault::NoMemory),
+        Ok(saved) => match write_synced(disk, blocks.as_slice()) {
+            Err(_) => Err(CkptFault::DiskFault),
+            Ok(()) => Ok(saved),
+        },
+    }
+}

@@ -1,0 +1,35 @@
+//! What a checkpoint has in its blocks.
+ghost use Rattle.std.specs.Prelude.{◌≡◌};
+ghost use Rattle.vr_ckpt.specs.Places.{empty};
+
+use std::alloc::Global;
+use vr_base::{ByteList, Seq};
+use vr_grid::Name;
+
+/// A part of a text, of at most 3,968 bytes, and the block that has it.
+#[derive(Debug, Drop, PartialEq, Eq)]
+pub struct Payload {
+    pub name: Name,
+    pub bytes: ByteList,
+}
+
+/// The payloads of a checkpoint's texts, in order.
+#[derive(Debug, Drop, PartialEq, Eq)]
+pub struct Table {
+    /// At most 9.
+    pub sessions: Seq<Payload>,
+    /// At most 36.
+    pub keys: Seq<Payload>,
+}
+
+impl Table {
+    /// The table of no checkpoint; it takes no memory.
+    pub fn new(alloc: Global) -> Table
+        ensures { result ≡ empty }
+    {
+        Table {
+            sessions: Seq::new(alloc),
+            keys: Seq::new(alloc),
+        }
+    }
+}

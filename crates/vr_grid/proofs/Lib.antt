@@ -1,0 +1,4 @@
+pub mod Contents
+pub mod Made
+pub mod Puts
+pub mod Readings

@@ -1,0 +1,22 @@
+//! The grid: blocks of 4,096 bytes that are read by their names.
+#![tactic(auto)]
+
+mod block;
+mod check;
+mod fault;
+mod laws;
+mod name;
+mod reading;
+mod view;
+mod writing;
+
+pub use block::{Block, DATA, PAYLOAD_AT, PAYLOAD_SIZE, ROOT};
+pub use fault::{CkptFault, DiskFault, Faulty};
+pub use laws::grid_laws;
+pub use name::{Name, NameList};
+pub use reading::read_block;
+pub use view::{BlockView, view_of};
+pub use writing::{put_block, write_at, write_block};
+
+#[cfg(test)]
+mod tests;
