@@ -4,4 +4,7 @@ pub mod Fuses
 pub mod Outcomes
 mod Rows
 pub mod Running
+pub mod Together
+pub mod SectorSteps
 pub mod Stopping
+pub mod Telling

@@ -7,6 +7,7 @@ mod laws;
 mod none;
 mod regions;
 mod sector;
+mod sectors;
 
 pub use buffer::Buffer;
 pub use disk::{DiskFailed, SectorDisk};
@@ -17,3 +18,4 @@ pub use regions::{
     copy_at, header_at, prepare_at,
 };
 pub use sector::{SECTOR_SIZE, Sector};
+pub use sectors::{read_sectors, sector_at, sectors_read_as, write_sectors};

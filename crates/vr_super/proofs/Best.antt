@@ -7,8 +7,9 @@ use Rattle.std.proofs.lemmas.Bool.{and_parts, ltb-true, ltb-false, leb-true, le-
 use Rattle.std.proofs.lemmas.List.Sums.{sum_by-cons}
 use Rattle.std.proofs.lemmas.Slice.Eq.{bytes_eq-Decides}
 use Rattle.vr_base.specs.Bytes.{number}
+use Rattle.vr_disk.specs.Sectors.{has}
 use Rattle.vr_super.specs.Laws.{OpensLaw}
-use Rattle.vr_super.specs.Opens.{agreed, best_of, better, has, is_later, opened}
+use Rattle.vr_super.specs.Opens.{agreed, best_of, better, is_later, opened}
 
 -- one of the copies has these bytes
 abbrev pub Among : List ℕ → List (Option (List ℕ)) → Type 0

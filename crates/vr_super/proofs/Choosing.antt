@@ -4,8 +4,9 @@ use Rattle.std.specs.Prelude.{count_by, map, nat_eq}
 use Rattle.std.specs.Cmp.Lexicographic.{pointwise}
 use Rattle.std.proofs.lemmas.List.{drop_all}
 use Rattle.std.proofs.lemmas.List.Sums.{sum_by-cons}
+use Rattle.vr_disk.specs.Sectors.{has}
 use Rattle.vr_super.specs.declared.reading.Reading.{Reading}
-use Rattle.vr_super.specs.Opens.{best_of, better, has, place_of}
+use Rattle.vr_super.specs.Opens.{best_of, better, place_of}
 use Rattle.vr_super.specs.Seen.{seen}
 
 abbrev pub holds : List ℕ → Reading → Bool

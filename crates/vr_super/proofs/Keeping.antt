@@ -5,20 +5,21 @@ use Rattle.std.specs.Option.{option_and_then}
 use Rattle.std.proofs.lemmas.Bool.{cases_lt, cases_eq, le-leb}
 use Rattle.std.proofs.lemmas.List.{take_all}
 use Rattle.std.proofs.lemmas.List.Sums.{sum_by-cons}
-use Rattle.std.proofs.lemmas.Slice.Eq.{bytes_eq-Decides}
 use Rattle.vr_base.specs.Bytes.{IsBytes, piece}
 use Rattle.vr_base.proofs.Places.{take_both}
 use Rattle.vr_disk.specs.DiskState.{Cell, Write, Sync, Face, IsFace, after, after_all, cut, reads}
 use Rattle.vr_disk.proofs.Frames.{frame_all, reads_back}
 use Rattle.vr_disk.proofs.Stopping.{cuts_both}
+use Rattle.vr_disk.specs.Sectors.{behind, has, together, writes}
+use Rattle.vr_disk.proofs.Together.{after_all_append, has_is, is_has, length_after_all, spares_append, together_cons, together_synced, together_written, writes_spare}
 use Rattle.vr_super.specs.Copies.{IsGood, Saved, copy_bytes, value_of}
-use Rattle.vr_super.specs.Opens.{agreed, behind, copy_reading, good_copies, good_copy, has, if_good, opened, opens, reading}
-use Rattle.vr_super.specs.Calls.{copy_calls, mend_calls, mend_copy, mend_from, mend_unless, save_from, writes}
+use Rattle.vr_super.specs.Opens.{agreed, copy_reading, good_copies, good_copy, if_good, opened, opens}
+use Rattle.vr_super.specs.Calls.{copy_calls, mend_calls, mend_copy, mend_from, mend_unless, save_from}
 use Rattle.vr_super.specs.Laws.{MendLaw, TellsApart, WriteLaw}
 use Rattle.vr_super.proofs.Best.{Among, one, Step, Toward, opened_among, opened_some, opened_toward}
 use Rattle.vr_super.proofs.Format.{length-copy_bytes, value_again, value_found}
-use Rattle.vr_super.proofs.Readings.{after_all_append, copy_is_bytes, copy_within, length_after_all, mend_within, other_after, other_cut, other_head, reading_written}
-use Rattle.vr_super.proofs.Torn.{Either, copy_torn, head_of, head_reads, mend_torn, spares_append, spares_rest}
+use Rattle.vr_super.proofs.Readings.{copy_is_bytes, copy_within, mend_within, other_after, other_cut, other_head}
+use Rattle.vr_super.proofs.Torn.{Either, copy_torn, head_of, head_reads, mend_torn}
 
 -- a copy that reads as the value is good
 good_reads : (v : Saved) (f : Face) (c : ℕ) → IsGood v → copy_reading f c ≡ Some (copy_bytes v) → good_copy f c ≡ Some (copy_bytes v)
@@ -31,11 +32,6 @@ same_good f g c e = ap if_good e
 
 -- ---- what calls leave of a copy in the end
 
-synced : (n i : ℕ) (f : Face) → reading i n (after f Sync) ≡ reading i n f
-unfolding reading
-synced zero i f = refl
-synced (suc n) i f = ap (behind (reads f i)) (synced n (i + 1) f)
-
 mend_waits : (bytes : List ℕ) (f : Face) (c : ℕ) → (after_all f (mend_copy c bytes)).waiting ≡ []
 unfolding mend_copy
 mend_waits bytes f c =
@@ -46,10 +42,6 @@ copy_waits : (bytes : List ℕ) (f : Face) (c : ℕ) → (after_all f (copy_call
 unfolding copy_calls
 copy_waits bytes f c = rw (after_all_append (writes (20 * c) 20 bytes) (Sync ∷ []) f) refl
 
-reading_more : (n i : ℕ) (f : Face) → reading i (suc n) f ≡ behind (reads f i) (reading (i + 1) n f)
-unfolding reading
-reading_more n i f = refl
-
 whole_of : (bytes : List ℕ) → length bytes ≡ 10240 → piece 0 512 bytes ++ take (512 * 19) (drop 512 bytes) ≡ bytes
 unfolding piece
 whole_of bytes n = take_both 512 (512 * 19) bytes ∙ take_all (512 + 512 * 19) bytes (omega arith)
@@ -59,7 +51,7 @@ unfolding copy_reading copy_calls
 copy_done bytes f c n l k =
     let g = after_all f (writes (20 * c) 20 bytes) in
     let joined : after_all f (writes (20 * c) 20 bytes ++ Sync ∷ []) ≡ after g Sync = after_all_append (writes (20 * c) 20 bytes) (Sync ∷ []) f in
-    ap (λ h. reading (20 * c) 20 h) joined ∙ (synced 20 (20 * c) g ∙ (reading_written 20 (20 * c) bytes f (omega arith) ∙ ap Some (take_all (512 * 20) bytes (omega arith))))
+    ap (λ h. together (20 * c) 20 h) joined ∙ (together_synced 20 (20 * c) g ∙ (together_written 20 (20 * c) bytes f (omega arith) ∙ ap Some (take_all (512 * 20) bytes (omega arith))))
 
 mend_done : (bytes : List ℕ) (f : Face) (c : ℕ) → length bytes ≡ 10240 → length f.cells ≡ 1424 → c < 4 → copy_reading (after_all f (mend_copy c bytes)) c ≡ Some bytes
 unfolding copy_reading mend_copy
@@ -69,9 +61,9 @@ mend_done bytes f c n l k =
     let g = after low Sync in
     let h = after_all g (writes (20 * c + 1) 19 (drop 512 bytes)) in
     let joined : after_all g (writes (20 * c + 1) 19 (drop 512 bytes) ++ Sync ∷ []) ≡ after h Sync = after_all_append (writes (20 * c + 1) 19 (drop 512 bytes)) (Sync ∷ []) g in
-    let now : reads h (20 * c) ≡ Some p = ap (λ (c : Cell). c.reads) (frame_all (writes (20 * c + 1) 19 (drop 512 bytes)) g (20 * c) (spares_rest 19 (20 * c + 1) (20 * c) (drop 512 bytes) (omega arith))) ∙ reads_back f (20 * c) p (omega arith) in
-    let rest : reading (20 * c + 1) 19 h ≡ Some (take (512 * 19) (drop 512 bytes)) = reading_written 19 (20 * c + 1) (drop 512 bytes) g (rw length-set (omega arith)) in
-    ap (λ h. reading (20 * c) 20 h) joined ∙ (synced 20 (20 * c) h ∙ (reading_more 19 (20 * c) h ∙ (ap (λ o. behind o (reading (20 * c + 1) 19 h)) now ∙ (ap (behind (Some p)) rest ∙ ap Some (whole_of bytes n)))))
+    let now : reads h (20 * c) ≡ Some p = ap (λ (c : Cell). c.reads) (frame_all (writes (20 * c + 1) 19 (drop 512 bytes)) g (20 * c) (writes_spare 19 (20 * c + 1) (20 * c) (drop 512 bytes) (omega arith))) ∙ reads_back f (20 * c) p (omega arith) in
+    let rest : together (20 * c + 1) 19 h ≡ Some (take (512 * 19) (drop 512 bytes)) = together_written 19 (20 * c + 1) (drop 512 bytes) g (rw length-set (omega arith)) in
+    ap (λ h. together (20 * c) 20 h) joined ∙ (together_synced 20 (20 * c) h ∙ (together_cons 19 (20 * c) h ∙ (ap (λ o. behind o (together (20 * c + 1) 19 h)) now ∙ (ap (behind (Some p)) rest ∙ ap Some (whole_of bytes n)))))
 
 -- the first sector, after the calls of a copy
 mend_head : (bytes : List ℕ) (f : Face) (c : ℕ) → length f.cells ≡ 1424 → c < 4 → reads (after_all f (mend_copy c bytes)) (20 * c) ≡ Some (piece 0 512 bytes)
@@ -80,7 +72,7 @@ mend_head bytes f c l k =
     let p = piece 0 512 bytes in
     let g = after (after f (Write (20 * c) p)) Sync in
     let calls = writes (20 * c + 1) 19 (drop 512 bytes) ++ Sync ∷ [] in
-    ap (λ (c : Cell). c.reads) (frame_all calls g (20 * c) (spares_append (20 * c) (writes (20 * c + 1) 19 (drop 512 bytes)) (Sync ∷ []) (spares_rest 19 (20 * c + 1) (20 * c) (drop 512 bytes) (omega arith)) (tt, tt))) ∙ reads_back f (20 * c) p (omega arith)
+    ap (λ (c : Cell). c.reads) (frame_all calls g (20 * c) (spares_append (20 * c) (writes (20 * c + 1) 19 (drop 512 bytes)) (Sync ∷ []) (writes_spare 19 (20 * c + 1) (20 * c) (drop 512 bytes) (omega arith)) (tt, tt))) ∙ reads_back f (20 * c) p (omega arith)
 
 if_good_reads : (r : Option (List ℕ)) (b : List ℕ) → if_good r ≡ Some b → r ≡ Some b
 if_good_reads None b e = absurd cc
@@ -89,9 +81,6 @@ if_good_reads (Some x) b e = elim (is_some (value_of x)) as (λ y. cond y (Some 
 good_read : (f : Face) (c : ℕ) (b : List ℕ) → good_copy f c ≡ Some b → copy_reading f c ≡ Some b
 unfolding good_copy
 good_read f c b e = if_good_reads (copy_reading f c) b e
-
-reads_has : (bytes : List ℕ) (o : Option (List ℕ)) → o ≡ Some bytes → has bytes o ≡ true
-reads_has bytes o e = rw e ((bytes_eq-Decides bytes bytes).1 refl)
 
 -- ---- mending
 
@@ -107,10 +96,6 @@ record Mended (v : Saved) (f : Face) (k : ℕ) (g : Face) : Type 0 where
 unless_waits : (v : Saved) (f g : Face) (k : ℕ) → g.waiting ≡ [] → (after_all g (mend_unless k (copy_bytes v) f)).waiting ≡ []
 unless_waits v f g k w =
     elim (has (copy_bytes v) (copy_reading f k)) as (λ b. (after_all g (cond b [] (mend_copy k (copy_bytes v)))).waiting ≡ []) [ true ↦ w | false ↦ mend_waits (copy_bytes v) g k ]
-
-has_is : (bytes : List ℕ) (o : Option (List ℕ)) → has bytes o ≡ true → o ≡ Some bytes
-has_is bytes None h = absurd cc
-has_is bytes (Some b) h = ap Some ((bytes_eq-Decides b bytes).0 h)
 
 mended_next : (v : Saved) (f g : Face) (k : ℕ) → IsGood v → IsFace f → k < 4 → Mended v f k g → Mended v f (k + 1) (after_all g (mend_unless k (copy_bytes v) f))
 mended_next v f g k gv h0 l m =
@@ -174,7 +159,7 @@ torn_steps v f g k j code gv l m n t c b =
       | inl e ↦ subst (λ c. Step (copy_bytes v) (good_copy f c) (good_copy h c)) (sym e)
           (elim (mend_torn v g k j code gv m.count m.waiting l t) [
             | inl x ↦ step_left v f h k (x ∙ m.left k (omega arith) l)
-            | inr x ↦ elim x [ inl y ↦ inr (inl y) | inr y ↦ inr (inr (y, λ z. let q : true ≡ false = sym (reads_has (copy_bytes v) (copy_reading f k) (good_read f k (copy_bytes v) z)) ∙ n in cc)) ]
+            | inr x ↦ elim x [ inl y ↦ inr (inl y) | inr y ↦ inr (inr (y, λ z. let q : true ≡ false = sym (is_has (copy_bytes v) (copy_reading f k) (good_read f k (copy_bytes v) z)) ∙ n in cc)) ]
           ])
       | inr d ↦
           let same = other_cut calls g k c j code within m.waiting (λ s. d (sym s)) in
@@ -332,16 +317,16 @@ ends_from (suc n) k old new g j code go gn s m to tn =
 
 two_first : (x : List ℕ) (a b c d : Option (List ℕ)) → a ≡ Some x → b ≡ Some x → agreed (a ∷ b ∷ c ∷ d ∷ []) x ≡ true
 two_first x a b c d p q =
-    let i : one x a ≡ 1 = ap (λ t. cond t 1 0) (reads_has x a p) in
-    let j : one x b ≡ 1 = ap (λ t. cond t 1 0) (reads_has x b q) in
+    let i : one x a ≡ 1 = ap (λ t. cond t 1 0) (is_has x a p) in
+    let j : one x b ≡ 1 = ap (λ t. cond t 1 0) (is_has x b q) in
     let e = sum_by-cons (one x) a (b ∷ c ∷ d ∷ []) in
     let g = sum_by-cons (one x) b (c ∷ d ∷ []) in
     le-leb 2 (count_by (has x) (a ∷ b ∷ c ∷ d ∷ [])) (omega arith)
 
 two_last : (x : List ℕ) (a b c d : Option (List ℕ)) → c ≡ Some x → d ≡ Some x → agreed (a ∷ b ∷ c ∷ d ∷ []) x ≡ true
 two_last x a b c d p q =
-    let i : one x c ≡ 1 = ap (λ t. cond t 1 0) (reads_has x c p) in
-    let j : one x d ≡ 1 = ap (λ t. cond t 1 0) (reads_has x d q) in
+    let i : one x c ≡ 1 = ap (λ t. cond t 1 0) (is_has x c p) in
+    let j : one x d ≡ 1 = ap (λ t. cond t 1 0) (is_has x d q) in
     let e = sum_by-cons (one x) a (b ∷ c ∷ d ∷ []) in
     let g = sum_by-cons (one x) b (c ∷ d ∷ []) in
     let h = sum_by-cons (one x) c (d ∷ []) in

@@ -1,40 +1,16 @@
 -- Sector after sector, and copy after copy.
-use Rattle.std.proofs.Common.{ℕ, suc, ◌+◌, ◌-◌, ◌*◌, ◌≤◌, ◌<◌, ◌≡◌, arith, refl, sym, ap, ◌∙◌, Bool, true, false, cond, List, [], ◌∷◌, ◌++◌, length, drop, take, Option, Some, None, subst, ◌&&◌, ◌≢◌}
-use Rattle.std.proofs.lemmas.List.{drop_all, drop_at, drop-drop, take_at, take-append-drop}
-use Rattle.std.proofs.lemmas.Bool.{and_parts, and_from}
-use Rattle.std.proofs.lemmas.Slice.Eq.{bytes_eq-Decides}
-use Rattle.std.specs.Prelude.{nat_eq, IfSome}
-use Rattle.std.specs.Cmp.Lexicographic.{pointwise}
-use Rattle.vr_base.specs.Bytes.{piece}
-use Rattle.vr_disk.specs.DiskState.{Call, Write, Disk, Face, IsFace, Runs, RunsFrom, after_all, reads, runs}
-use Rattle.vr_disk.proofs.Faces.{there}
+use Rattle.std.proofs.Common.{ℕ, suc, ◌+◌, ◌-◌, ◌≤◌, ◌<◌, ◌≡◌, arith, refl, sym, ap, ◌∙◌, Bool, true, false, cond, List, [], ◌++◌, Option, Some, None, ◌≢◌}
+use Rattle.std.specs.Prelude.{IfSome}
+use Rattle.vr_disk.specs.DiskState.{Disk, Face, IsFace, Runs, RunsFrom, after_all, runs}
 use Rattle.vr_disk.proofs.Running.{Runs_then, Runs_stopped, RunsFrom_then, RunsFrom_stopped, after_is}
-use Rattle.vr_super.specs.Calls.{copy_calls, mend_copy, mend_from, mend_calls, mend_unless, save_from, write_calls, writes}
-use Rattle.vr_super.specs.Opens.{behind, copy_reading, has, opens, reading}
+use Rattle.vr_disk.specs.Sectors.{has}
+use Rattle.vr_disk.proofs.Telling.{runs_const}
+use Rattle.vr_super.specs.Calls.{copy_calls, mend_copy, mend_from, mend_calls, mend_unless, save_from, write_calls}
+use Rattle.vr_super.specs.Opens.{copy_reading, opens}
 use Rattle.vr_super.specs.Copies.{IsGood, Saved, copy_bytes}
 use Rattle.vr_super.specs.Laws.{WriteLeads}
 use Rattle.vr_super.proofs.Keeping.{write_law}
 use Rattle.vr_super.proofs.Readings.{mend_within, other_after}
-
-writes_cons : (i n : ℕ) (bytes : List ℕ) → writes i (suc n) bytes ≡ Write i (piece 0 512 bytes) ∷ writes (i + 1) n (drop 512 bytes)
-unfolding writes
-writes_cons i n bytes = refl
-
-pub writes_step : (at count k : ℕ) (bytes : List ℕ) → k < count
-    → writes (at + k) (count - k) (drop (512 * k) bytes) ≡ Write (at + k) (piece (512 * k) 512 bytes) ∷ writes (at + (k + 1)) (count - (k + 1)) (drop (512 * (k + 1)) bytes)
-unfolding piece
-writes_step at count k bytes l =
-    let n : count - k ≡ suc (count - (k + 1)) = omega arith in
-    let i : at + k + 1 ≡ at + (k + 1) = omega arith in
-    let d : 512 * k + 512 ≡ 512 * (k + 1) = omega arith in
-    ap (λ m. writes (at + k) m (drop (512 * k) bytes)) n
-    ∙ (writes_cons (at + k) (count - (k + 1)) (drop (512 * k) bytes)
-    ∙ (ap (λ j. Write (at + k) (piece 0 512 (drop (512 * k) bytes)) ∷ writes j (count - (k + 1)) (drop 512 (drop (512 * k) bytes))) i
-    ∙ ap (λ b. Write (at + k) (piece (512 * k) 512 bytes) ∷ writes (at + (k + 1)) (count - (k + 1)) b) (drop-drop 512 (512 * k) bytes ∙ ap (λ m. drop m bytes) d)))
-
-pub writes_past : (at count k : ℕ) (bytes : List ℕ) → k ≡ count → writes (at + k) (count - k) (drop (512 * k) bytes) ≡ []
-unfolding writes
-writes_past at count k bytes e = let n : count - k ≡ 0 = omega arith in rw n refl
 
 -- ---- copies
 
@@ -129,72 +105,7 @@ ends_of bytes k (Some d) t l m = m.2.rest t true (rw (mend_past k bytes d.face l
 pub mending_ends : (bytes : List ℕ) (k : ℕ) (first t : Option Disk) → 4 ≤ k → Mending bytes k first t → RunsFrom (mend_from 0 4 bytes) first t true
 mending_ends bytes k first t l m = ends_of bytes k first t l m.is
 
--- ---- a copy read sector after sector
-
-bool_ext : (p q : Bool) → (p ≡ true → q ≡ true) → (q ≡ true → p ≡ true) → p ≡ q
-bool_ext true q f g = sym (f refl)
-bool_ext false true f g = g refl
-bool_ext false false f g = refl
-
-and_false : (p : Bool) → (p && false) ≡ false
-and_false true = refl
-and_false false = refl
-
-both_same : (x y b : List ℕ) → length x ≡ 512 → pointwise nat_eq (x ++ y) b ≡ (pointwise nat_eq x (take 512 b) && pointwise nat_eq y (drop 512 b))
-both_same x y b l =
-    bool_ext _ _
-    (λ e. let s : x ++ y ≡ b = (bytes_eq-Decides (x ++ y) b).0 e in
-    and_from _ _ ((bytes_eq-Decides x (take 512 b)).1 (sym (ap (take 512) (sym s) ∙ take_at x y 512 l))) ((bytes_eq-Decides y (drop 512 b)).1 (sym (ap (drop 512) (sym s) ∙ drop_at x y 512 l))))
-    (λ e. let p = and_parts (pointwise nat_eq x (take 512 b)) (pointwise nat_eq y (drop 512 b)) e in
-    (bytes_eq-Decides (x ++ y) b).1 (ap (λ z. z ++ y) ((bytes_eq-Decides x (take 512 b)).0 p.0) ∙ (ap (λ z. take 512 b ++ z) ((bytes_eq-Decides y (drop 512 b)).0 p.1) ∙ take-append-drop 512 b)))
-
-has_both : (b : List ℕ) (a r : Option (List ℕ)) → ((x : List ℕ) → a ≡ Some x → length x ≡ 512) → has b (behind a r) ≡ (has (take 512 b) a && has (drop 512 b) r)
-has_both b None r h = refl
-has_both b (Some x) None h = sym (and_false (pointwise nat_eq x (take 512 b)))
-has_both b (Some x) (Some y) h = both_same x y b (h x refl)
-
-reading_cons : (n i : ℕ) (f : Face) → reading i (suc n) f ≡ behind (reads f i) (reading (i + 1) n f)
-unfolding reading
-reading_cons n i f = refl
-
-pub has_step : (i k : ℕ) (b : List ℕ) (f : Face) → IsFace f → k < 20 → i + 20 ≤ 1424
-    → has (drop (512 * k) b) (reading (i + k) (20 - k) f) ≡ (has (piece (512 * k) 512 b) (reads f (i + k)) && has (drop (512 * (k + 1)) b) (reading (i + (k + 1)) (20 - (k + 1)) f))
-unfolding piece
-has_step i k b f h l m =
-    let n : 20 - k ≡ suc (20 - (k + 1)) = omega arith in
-    let j : i + k + 1 ≡ i + (k + 1) = omega arith in
-    let d : 512 * k + 512 ≡ 512 * (k + 1) = omega arith in
-    let rest = reading (i + k + 1) (20 - (k + 1)) f in
-    ap (λ m. has (drop (512 * k) b) (reading (i + k) m f)) n
-    ∙ (ap (has (drop (512 * k) b)) (reading_cons (20 - (k + 1)) (i + k) f)
-    ∙ (has_both (drop (512 * k) b) (reads f (i + k)) rest (λ x e. ((there f (i + k) h (omega arith)).reads x e).size)
-    ∙ (ap (λ y. has (take 512 (drop (512 * k) b)) (reads f (i + k)) && has y rest) (drop-drop 512 (512 * k) b ∙ ap (λ m. drop m b) d)
-    ∙ ap (λ m. has (take 512 (drop (512 * k) b)) (reads f (i + k)) && has (drop (512 * (k + 1)) b) (reading m (20 - (k + 1)) f)) j)))
-
-pub has_past : (i k : ℕ) (b : List ℕ) (f : Face) → length b ≡ 10240 → 20 ≤ k → k ≤ 20 → has (drop (512 * k) b) (reading (i + k) (20 - k) f) ≡ true
-unfolding reading
-has_past i k b f l m n =
-    let z : 20 - k ≡ 0 = omega arith in
-    let e : drop (512 * k) b ≡ [] = drop_all (512 * k) b (omega arith) in
-    rw (z, e) refl
-
-pub if_some : {X : Type 0} → (P : X → Type 0) (o : Option X) → ((x : X) → o ≡ Some x → P x) → IfSome o P
-if_some P None h = tt
-if_some P (Some x) h = h x refl
-
-pub some_if : {X : Type 0} → (P : X → Type 0) (o : Option X) (x : X) → IfSome o P → o ≡ Some x → P x
-some_if P None x h e = absurd cc
-some_if P (Some y) x h e = let same : y ≡ x = cc in subst P same h
-
-pub has_start : (c : ℕ) (b : List ℕ) (f : Face) → has b (copy_reading f c) ≡ has (drop (512 * 0) b) (reading (20 * c + 0) (20 - 0) f)
-unfolding copy_reading
-has_start c b f = let z : 20 * c + 0 ≡ 20 * c = omega arith in rw z refl
-
 -- ---- mending and then writing
-
-runs_const : (cs : List Call) (a b : Option Disk) (ok : Bool) → Runs cs a b ok → RunsFrom (λ f. cs) a b ok
-runs_const cs None b ok h = h
-runs_const cs (Some d) b ok h = h
 
 pub write_then : (old new : Saved) (x y : List ℕ) (a b c : Option Disk) (ok : Bool) → x ≡ copy_bytes old → y ≡ copy_bytes new → RunsFrom (mend_from 0 4 x) a b true → Runs (save_from 0 4 y) b c ok → RunsFrom (write_calls old new) a c ok
 write_then old new x y a b c ok p q h k =

@@ -1,21 +1,22 @@
 -- A copy that was being written when the stop came: it is good with the value's bytes, or as before, or bad.
-use Rattle.std.proofs.Common.{ℕ, zero, suc, ◌+◌, ◌-◌, ◌*◌, ◌<◌, ◌≡◌, ◌⊎◌, inl, inr, arith, refl, sym, ap, ◌∙◌, cond, List, [], ◌∷◌, ◌++◌, length, take, drop, get_or, Option, Some, None}
+use Rattle.std.proofs.Common.{ℕ, ◌+◌, ◌-◌, ◌*◌, ◌<◌, ◌≡◌, ◌⊎◌, inl, inr, arith, refl, sym, ap, ◌∙◌, cond, List, [], ◌∷◌, ◌++◌, length, take, drop, get_or, Option, Some, None}
 use Rattle.std.specs.Prelude.{bit_xor, is_some}
 use Rattle.std.specs.List.{AllByRecursion}
 use Rattle.std.proofs.lemmas.Bool.{cases_lt}
 use Rattle.std.proofs.lemmas.List.{get_or-map, get_or-take, get_or_append_left, length-map, length-take, take-take, take-append-le, take-append-drop, take_at}
 use Rattle.vr_base.specs.Bytes.{name_of, piece}
 use Rattle.vr_disk.specs.DiskState.{Call, Write, Sync, Face, Cell, IsFace, after_all, cut, damaged, reads}
-use Rattle.vr_disk.specs.Stops.{Spares, WritesOnly}
+use Rattle.vr_disk.specs.Stops.{WritesOnly}
 use Rattle.vr_disk.proofs.Frames.{frame_cut, reads_back}
 use Rattle.vr_disk.proofs.Faces.{there}
 use Rattle.vr_disk.proofs.Outcomes.{cut_leaves}
 use Rattle.vr_disk.proofs.Stopping.{cuts_both}
+use Rattle.vr_disk.specs.Sectors.{together, writes}
+use Rattle.vr_disk.proofs.Together.{only_append, spares_append, together_first, together_same, writes_only, writes_spare}
 use Rattle.vr_super.specs.Copies.{IsGood, Saved, copy_bytes, named_bytes, value_of}
-use Rattle.vr_super.specs.Opens.{copy_reading, good_copy, if_good, reading}
-use Rattle.vr_super.specs.Calls.{copy_calls, mend_copy, writes}
+use Rattle.vr_super.specs.Opens.{copy_reading, good_copy, if_good}
+use Rattle.vr_super.specs.Calls.{copy_calls, mend_copy}
 use Rattle.vr_super.specs.Laws.{TellsApart}
-use Rattle.vr_super.proofs.Readings.{reading_first, reading_same}
 use Rattle.vr_super.proofs.Format.{good_named, good_version, length-copy_bytes, name-copy_bytes, rest-copy_bytes, value_again}
 
 -- the value's first sector
@@ -75,8 +76,8 @@ by_reading (Some b) bytes h =
 pub head_tells : (v : Saved) (f : Face) (c : ℕ) → IsGood v → c < 4 → reads f (20 * c) ≡ Some (head_of v) → TellsApart f v → OneOf (copy_bytes v) (good_copy f c)
 unfolding good_copy copy_reading
 head_tells v f c g l e t =
-    by_reading (reading (20 * c) 20 f) (copy_bytes v) (λ b u r h.
-    let x = reading_first 19 (20 * c) f b r in
+    by_reading (together (20 * c) 20 f) (copy_bytes v) (λ b u r h.
+    let x = together_first 19 (20 * c) f b r in
     let same : x.first ≡ head_of v = some_same x.first (head_of v) (sym x.reads ∙ e) in
     same_head v b u x.rest g (x.whole ∙ ap (λ y. y ++ x.rest) same) h (t c b l r))
 
@@ -84,31 +85,22 @@ head_tells v f c g l e t =
 pub damaged_bad : (v : Saved) (f : Face) (c : ℕ) → IsGood v → reads f (20 * c) ≡ Some (damaged (head_of v)) → good_copy f c ≡ None
 unfolding good_copy copy_reading
 damaged_bad v f c g e =
-    bad_reading (reading (20 * c) 20 f) (λ b u r h.
-    let x = reading_first 19 (20 * c) f b r in
+    bad_reading (together (20 * c) 20 f) (λ b u r h.
+    let x = together_first 19 (20 * c) f b r in
     let same : x.first ≡ damaged (head_of v) = some_same x.first (damaged (head_of v)) (sym x.reads ∙ e) in
     version_damaged v b u x.rest g (x.whole ∙ ap (λ y. y ++ x.rest) same) h)
 
 -- ---- a copy in the midst of its writes
 
-only_first : (n i k : ℕ) (b bytes : List ℕ) → k < i → AllByRecursion (WritesOnly k b) (writes i n bytes)
-unfolding writes
-only_first zero i k b bytes l = tt
-only_first (suc n) i k b bytes l = ((λ e. absurd (omega arith)), only_first n (i + 1) k b (drop 512 bytes) (omega arith))
-
-only_append : (k : ℕ) (b : List ℕ) (cs ds : List Call) → AllByRecursion (WritesOnly k b) cs → AllByRecursion (WritesOnly k b) ds → AllByRecursion (WritesOnly k b) (cs ++ ds)
-only_append k b [] ds x y = y
-only_append k b (c ∷ cs) ds x y = (x.0, only_append k b cs ds x.1 y)
-
 copy_only : (c : ℕ) (bytes : List ℕ) → AllByRecursion (WritesOnly (20 * c) (piece 0 512 bytes)) (copy_calls c bytes)
 unfolding copy_calls writes
-copy_only c bytes = ((λ e. refl), only_append (20 * c) (piece 0 512 bytes) (writes (20 * c + 1) 19 (drop 512 bytes)) (Sync ∷ []) (only_first 19 (20 * c + 1) (20 * c) (piece 0 512 bytes) (drop 512 bytes) (omega arith)) (tt, tt))
+copy_only c bytes = ((λ e. refl), only_append (20 * c) (piece 0 512 bytes) (writes (20 * c + 1) 19 (drop 512 bytes)) (Sync ∷ []) (writes_only 19 (20 * c + 1) (20 * c) (piece 0 512 bytes) (drop 512 bytes) (omega arith)) (tt, tt))
 
 -- the first sector of a copy that reads as a value
 pub head_reads : (v : Saved) (f : Face) (c : ℕ) → IsGood v → IsFace f → c < 4 → copy_reading f c ≡ Some (copy_bytes v) → reads f (20 * c) ≡ Some (head_of v)
 unfolding copy_reading piece
 head_reads v f c g h l e =
-    let x = reading_first 19 (20 * c) f (copy_bytes v) e in
+    let x = together_first 19 (20 * c) f (copy_bytes v) e in
     let size = (there f (20 * c) h (omega arith)).reads x.first x.reads in
     x.reads ∙ ap Some (sym (ap (take 512) x.whole ∙ take_at x.first x.rest 512 size.size))
 
@@ -136,15 +128,6 @@ first_calls c bytes = Write (20 * c) (piece 0 512 bytes) ∷ Sync ∷ []
 abbrev rest_calls : ℕ → List ℕ → List Call
 rest_calls c bytes = writes (20 * c + 1) 19 (drop 512 bytes) ++ Sync ∷ []
 
-pub spares_append : (k : ℕ) (cs ds : List Call) → AllByRecursion (Spares k) cs → AllByRecursion (Spares k) ds → AllByRecursion (Spares k) (cs ++ ds)
-spares_append k [] ds x y = y
-spares_append k (c ∷ cs) ds x y = (x.0, spares_append k cs ds x.1 y)
-
-pub spares_rest : (n i k : ℕ) (bytes : List ℕ) → k < i → AllByRecursion (Spares k) (writes i n bytes)
-unfolding writes
-spares_rest zero i k bytes l = tt
-spares_rest (suc n) i k bytes l = ((λ e. omega arith), spares_rest n (i + 1) k (drop 512 bytes) (omega arith))
-
 mend_first : (v : Saved) (f : Face) (c j code : ℕ) → IsGood v → length f.cells ≡ 1424 → f.waiting ≡ [] → c < 4
     → let g = cut j code f (first_calls c (copy_bytes v)) in TellsApart g v → (copy_reading g c ≡ copy_reading f c) ⊎ OneOf (copy_bytes v) (good_copy g c)
 unfolding copy_reading
@@ -153,7 +136,7 @@ mend_first v f c j code gv n w l t =
     let g = cut j code f calls in
     let others : (k : ℕ) → 20 * c < k → reads g k ≡ reads f k = λ k a. ap (λ (c : Cell). c.reads) (frame_cut calls f k j code ((λ e. omega arith), (tt, tt)) (rw w refl)) in
     elim (cut_leaves calls f (20 * c) (head_of v) j code (omega arith) ((λ e. refl), (tt, tt)) (rw w refl)) [
-      | inl e ↦ inl (reading_same 20 (20 * c) f g (λ k a b. elim (cases_lt (20 * c) k) [ inl m ↦ others k m | inr m ↦ let same : k ≡ 20 * c = omega arith in rw same e ]))
+      | inl e ↦ inl (together_same 20 (20 * c) f g (λ k a b. elim (cases_lt (20 * c) k) [ inl m ↦ others k m | inr m ↦ let same : k ≡ 20 * c = omega arith in rw same e ]))
       | inr y ↦ elim y [
         | inl e ↦ inr (head_tells v g c gv l e t)
         | inr e ↦ inr (inr (damaged_bad v g c gv e))
@@ -165,7 +148,7 @@ mend_rest : (v : Saved) (f : Face) (c j code : ℕ) → IsGood v → f.waiting �
 mend_rest v f c j code gv w l e t =
     let calls = rest_calls c (copy_bytes v) in
     let g = cut j code f calls in
-    let spared = spares_append (20 * c) (writes (20 * c + 1) 19 (drop 512 (copy_bytes v))) (Sync ∷ []) (spares_rest 19 (20 * c + 1) (20 * c) (drop 512 (copy_bytes v)) (omega arith)) (tt, tt) in
+    let spared = spares_append (20 * c) (writes (20 * c + 1) 19 (drop 512 (copy_bytes v))) (Sync ∷ []) (writes_spare 19 (20 * c + 1) (20 * c) (drop 512 (copy_bytes v)) (omega arith)) (tt, tt) in
     head_tells v g c gv l (ap (λ (c : Cell). c.reads) (frame_cut calls f (20 * c) j code spared (rw w refl)) ∙ e) t
 
 pub mend_torn : (v : Saved) (f : Face) (c j code : ℕ) → IsGood v → length f.cells ≡ 1424 → f.waiting ≡ [] → c < 4

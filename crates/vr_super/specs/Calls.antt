@@ -2,13 +2,9 @@
 use Rattle.std.specs.Prelude.{ℕ, zero, suc, ◌+◌, ◌*◌, if◌then◌else◌, List, [], ◌∷◌, ◌++◌, drop}
 use Rattle.vr_base.specs.Bytes.{piece}
 use Rattle.vr_disk.specs.DiskState.{Call, Write, Sync, Face}
+use Rattle.vr_disk.specs.Sectors.{has, writes}
 use Rattle.vr_super.specs.Copies.{Saved, copy_bytes}
-use Rattle.vr_super.specs.Opens.{copy_reading, has}
-
--- so many sectors from one on, with these bytes
-unfoldable pub writes : ℕ → ℕ → List ℕ → List Call
-writes i zero bytes = []
-writes i (suc n) bytes = Write i (piece 0 512 bytes) ∷ writes (i + 1) n (drop 512 bytes)
+use Rattle.vr_super.specs.Opens.{copy_reading}
 
 -- a copy written and synced
 unfoldable pub copy_calls : ℕ → List ℕ → List Call

@@ -1,24 +1,15 @@
 -- The value that a disk opens as.
-use Rattle.std.specs.Prelude.{ℕ, zero, suc, ◌+◌, ◌*◌, Bool, true, false, ◌&&◌, nat_eq, nat_le, nat_lt, if◌then◌else◌, List, [], ◌∷◌, ◌++◌, Option, None, Some, is_some, count_by}
+use Rattle.std.specs.Prelude.{ℕ, ◌+◌, ◌*◌, Bool, true, ◌&&◌, nat_le, nat_lt, if◌then◌else◌, List, [], ◌∷◌, Option, None, Some, is_some, count_by}
 use Rattle.std.specs.Option.{option_and_then, option_map}
-use Rattle.std.specs.Cmp.Lexicographic.{pointwise}
 use Rattle.std.specs.Int.{w32, w64}
 use Rattle.vr_base.specs.Bytes.{number}
+use Rattle.vr_disk.specs.Sectors.{has, together}
 use Rattle.vr_super.specs.declared.opening.Found.{Found}
-use Rattle.vr_disk.specs.DiskState.{Face, reads}
+use Rattle.vr_disk.specs.DiskState.{Face}
 use Rattle.vr_super.specs.Copies.{Saved, value_of}
 
-abbrev pub behind : Option (List ℕ) → Option (List ℕ) → Option (List ℕ)
-behind None rest = None
-behind (Some bytes) rest = option_map (λ r. bytes ++ r) rest
-
--- what so many sectors from one on read as together, None where one of them can't be read
-unfoldable pub reading : ℕ → ℕ → Face → Option (List ℕ)
-reading i zero f = Some []
-reading i (suc n) f = behind (reads f i) (reading (i + 1) n f)
-
 unfoldable pub copy_reading : Face → ℕ → Option (List ℕ)
-copy_reading f copy = reading (20 * copy) 20 f
+copy_reading f copy = together (20 * copy) 20 f
 
 abbrev pub if_good : Option (List ℕ) → Option (List ℕ)
 if_good None = None
@@ -30,11 +21,6 @@ good_copy f copy = if_good (copy_reading f copy)
 
 abbrev pub good_copies : Face → List (Option (List ℕ))
 good_copies f = good_copy f 0 ∷ good_copy f 1 ∷ good_copy f 2 ∷ good_copy f 3 ∷ []
-
--- byte for byte
-abbrev pub has : List ℕ → Option (List ℕ) → Bool
-has bytes None = false
-has bytes (Some other) = pointwise nat_eq other bytes
 
 -- two good copies have these bytes
 abbrev pub agreed : List (Option (List ℕ)) → List ℕ → Bool

@@ -7,8 +7,7 @@ ghost use Rattle.vr_super.specs.Copies.{value_of};
 ghost use Rattle.vr_super.specs.Seen.{IsHonest, seen};
 
 use crate::check::is_good;
-use vr_base::put;
-use vr_disk::{Sector, SectorDisk};
+use vr_disk::{SectorDisk, read_sectors};
 
 /// A copy that was read.
 #[derive(Clone, Copy)]
@@ -19,6 +18,7 @@ pub struct Reading {
 }
 
 // Reads a copy; false where one of its sectors can't be read.
+#[tactic(auto, unfolding(crate::specs::Opens::copy_reading))]
 fn fill<D: SectorDisk>(disk: &mut D, copy: u32, to: &mut [u8]) -> bool
     requires copy { copy < 4 }
     requires size { length to.old ≡ 10240 }
@@ -26,14 +26,7 @@ fn fill<D: SectorDisk>(disk: &mut D, copy: u32, to: &mut [u8]) -> bool
     ensures faults { D.faults disk.new ≡ D.faults disk.old }
     ensures value { IfSome (D.told disk.old) (λ d. copy_reading d.face copy ≡ (if result then Some to.new else None)) }
 {
-    let mut sector = Sector { bytes: [0; 512] };
-    for k in 0..20 {
-        if !disk.read(20 * copy + k, &mut sector).is_ok() {
-            return false;
-        }
-        put(to, 512 * k as usize, &sector.bytes);
-    }
-    true
+    read_sectors(disk, 20 * copy, 20, to)
 }
 
 // Whether one of these is good and has the bytes.

@@ -2,40 +2,12 @@
 ghost use Rattle.std.specs.Prelude.{◌≡◌, ◌≤◌, ◌<◌, ◌+◌, ◌*◌, ◌++◌, ◌∷◌, [], length, IfSome, is_ok};
 ghost use Rattle.vr_base.specs.Bytes.{piece};
 ghost use Rattle.vr_base.specs.Causes.{HasCause};
-ghost use Rattle.vr_disk.specs.DiskState.{Runs, RunsFrom, Sync, Write, reads};
-ghost use Rattle.vr_super.specs.Opens.{copy_reading, has};
-ghost use Rattle.vr_super.specs.Calls.{copy_calls, mend_copy, mend_unless, writes};
+ghost use Rattle.vr_disk.specs.DiskState.{Runs, RunsFrom, Sync, Write};
+ghost use Rattle.vr_disk.specs.Sectors.{has, writes};
+ghost use Rattle.vr_super.specs.Opens.{copy_reading};
+ghost use Rattle.vr_super.specs.Calls.{copy_calls, mend_copy, mend_unless};
 
-use vr_disk::{DiskFailed, Sector, SectorDisk};
-
-// The 512 bytes from a place on.
-#[tactic(auto, unfolding(vr_base::specs::Bytes::piece))]
-fn sector_at(bytes: &[u8], at: usize) -> Sector
-    requires { at + 512 ≤ length bytes.now }
-    ensures { result.bytes ≡ piece at 512 bytes.now }
-{
-    let mut sector = Sector { bytes: [0; 512] };
-    sector.bytes.copy_from_slice(&bytes[at..at + 512]);
-    sector
-}
-
-// Writes these bytes to so many sectors from one on.
-fn write_sectors<D: SectorDisk>(
-    disk: &mut D,
-    at: u32,
-    count: u32,
-    bytes: &[u8],
-) -> Result<(), DiskFailed>
-    requires within { at + count ≤ 1424 }
-    requires size { length bytes.now ≡ 512 * count }
-    ensures runs { Runs (writes at count bytes.now) (D.told disk.old) (D.told disk.new) (is_ok result) }
-    ensures cause { HasCause (D.faults disk.old) (D.faults disk.new) result }
-{
-    for k in 0..count {
-        disk.write(at + k, &sector_at(bytes, 512 * k as usize))?;
-    }
-    Ok(())
-}
+use vr_disk::{DiskFailed, SectorDisk, sector_at, sectors_read_as, write_sectors};
 
 // Writes these bytes to so many sectors, and syncs them.
 #[tactic(auto, using(vr_disk::proofs::Running::Runs_then, vr_disk::proofs::Running::Runs_stopped))]
@@ -78,20 +50,8 @@ pub fn write_copy<D: SectorDisk>(disk: &mut D, copy: u32, bytes: &[u8]) -> Resul
     write_synced(disk, 20 * copy, 20, bytes)
 }
 
-// Whether a sector reads as the 512 bytes from a place on.
-#[tactic(auto, unfolding(vr_base::specs::Bytes::piece))]
-fn sector_reads_as<D: SectorDisk>(disk: &mut D, i: u32, bytes: &[u8], at: usize) -> bool
-    requires i { i < 1424 }
-    requires size { at + 512 ≤ length bytes.now }
-    ensures told { D.told disk.new ≡ D.told disk.old }
-    ensures value { IfSome (D.told disk.old) (λ d. result ≡ has (piece at 512 bytes.now) (reads d.face i)) }
-    ensures faults { D.faults disk.new ≡ D.faults disk.old }
-{
-    let mut sector = Sector { bytes: [0; 512] };
-    disk.read(i, &mut sector).is_ok() && sector.bytes[..] == bytes[at..at + 512]
-}
-
 /// Whether a copy reads as these bytes.
+#[tactic(auto, unfolding(crate::specs::Opens::copy_reading))]
 pub fn reads_as<D: SectorDisk>(disk: &mut D, copy: u32, bytes: &[u8]) -> bool
     requires copy { copy < 4 }
     requires size { length bytes.now ≡ 10240 }
@@ -99,12 +59,7 @@ pub fn reads_as<D: SectorDisk>(disk: &mut D, copy: u32, bytes: &[u8]) -> bool
     ensures value { IfSome (D.told disk.old) (λ d. result ≡ has bytes.now (copy_reading d.face copy)) }
     ensures faults { D.faults disk.new ≡ D.faults disk.old }
 {
-    for k in 0..20 {
-        if !sector_reads_as(disk, 20 * copy + k, bytes, 512 * k as usize) {
-            return false;
-        }
-    }
-    true
+    sectors_read_as(disk, 20 * copy, 20, bytes)
 }
 
 /// Writes and syncs a copy's first sector, then the others.

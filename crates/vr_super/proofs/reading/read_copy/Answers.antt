@@ -1,8 +1,8 @@
 use Rattle.std.proofs.Common.{◌≡◌, ◌∙◌, ap, sym, Some, None, cond}
 use Rattle.vr_disk.specs.DiskState.{Disk}
+use Rattle.vr_disk.proofs.Telling.{if_some, some_if}
 use Rattle.vr_super.specs.Opens.{copy_reading, good_copy, if_good}
 use Rattle.vr_super.specs.Seen.{seen}
-use Rattle.vr_super.proofs.Steps.{if_some, some_if}
 use Rattle.vr_super.proofs.reading.read_copy.Goals as goal
 
 pub returns-clause-value : goal.returns-clause-value

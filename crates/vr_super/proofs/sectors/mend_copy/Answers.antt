@@ -3,7 +3,8 @@ use Rattle.std.proofs.lemmas.Result.{err_from_is_err_and}
 use Rattle.vr_base.specs.Bytes.{piece}
 use Rattle.vr_disk.specs.DiskState.{Runs, Sync, Write}
 use Rattle.vr_disk.proofs.Running.{Runs_then, Runs_stopped}
-use Rattle.vr_super.specs.Calls.{mend_copy, writes}
+use Rattle.vr_disk.specs.Sectors.{writes}
+use Rattle.vr_super.specs.Calls.{mend_copy}
 use Rattle.vr_super.proofs.sectors.mend_copy.Goals as goal
 
 pub returns-in_err-write_first-clause-runs : goal.returns-in_err-write_first-clause-runs

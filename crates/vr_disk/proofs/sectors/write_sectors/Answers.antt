@@ -3,9 +3,9 @@ use Rattle.std.proofs.lemmas.Result.{err_from_is_err_and}
 use Rattle.vr_disk.specs.DiskState.{Write, Runs}
 use Rattle.vr_disk.proofs.Running.{Runs_then, Runs_stopped, runs_nothing}
 use Rattle.vr_base.specs.Bytes.{piece}
-use Rattle.vr_super.specs.Calls.{writes}
-use Rattle.vr_super.proofs.Steps.{writes_past, writes_step}
-use Rattle.vr_super.proofs.sectors.write_sectors.Goals as goal
+use Rattle.vr_disk.specs.Sectors.{writes}
+use Rattle.vr_disk.proofs.SectorSteps.{writes_past, writes_step}
+use Rattle.vr_disk.proofs.sectors.write_sectors.Goals as goal
 
 pub loop-k-preserved : goal.loop-k-preserved
 loop-k-preserved g c =

@@ -1,7 +1,7 @@
 use Rattle.std.proofs.Common.{◌+◌, ◌-◌, ◌*◌, ◌≤◌, drop, Bool, Option}
 use Rattle.vr_disk.specs.DiskState.{Disk, Runs}
-use Rattle.vr_super.specs.Calls.{writes}
-use Rattle.vr_super.proofs.sectors.write_sectors.Given as goal
+use Rattle.vr_disk.specs.Sectors.{writes}
+use Rattle.vr_disk.proofs.sectors.write_sectors.Given as goal
 
 abbrev pub invariant-loop-k : goal.invariant-loop-k
 invariant-loop-k g l = record {
