@@ -1,2 +1,3 @@
 pub mod Faults
-pub mod Slots
+pub mod Table
+pub mod Told

@@ -41,7 +41,8 @@ fn damage_all(bytes: &mut [u8])
     }
 }
 
-fn damage(sector: &Sector) -> Sector
+/// A sector with every bit turned.
+pub fn damage(sector: &Sector) -> Sector
     ensures { result.bytes ≡ damaged sector.now.bytes }
 {
     let mut out = *sector;

@@ -9,7 +9,7 @@ mod fate;
 mod laws;
 
 pub use cell_disk::CellDisk;
-pub use cells::MemCell;
+pub use cells::{MemCell, damage};
 pub use disk::MemDisk;
 pub use fate::MemVerdict;
 pub use laws::honest_disk;
