@@ -7,3 +7,4 @@ mod Rows
 pub mod Truths
 pub mod SameHeaders
 pub mod Written
+pub mod Putting

@@ -9,6 +9,7 @@ mod header;
 mod operation;
 mod outcome;
 mod part;
+mod placing;
 mod size;
 mod text;
 mod view;

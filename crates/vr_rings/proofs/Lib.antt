@@ -1,0 +1,5 @@
+pub mod Cutting
+pub mod Leaving
+pub mod Spelling
+pub mod Standing
+pub mod Stops

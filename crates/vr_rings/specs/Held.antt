@@ -1,0 +1,91 @@
+-- What a slot holds, and the premise on its readings. An entry is given by its prepare's bytes.
+use Rattle.std.specs.Prelude.{ℕ, zero, suc, ◌+◌, ◌-◌, ◌*◌, ◌/◌, ◌%◌, ◌≡◌, ◌≢◌, Bool, true, ◌&&◌, ◌==◌, nat_eq, nat_le, nat_lt, if◌then◌else◌, List, [], ◌∷◌, ◌++◌, take, replicate, Option, None, Some, is_some}
+use Rattle.std.specs.Cmp.Lexicographic.{pointwise}
+use Rattle.vr_base.specs.Bytes.{piece}
+use Rattle.vr_disk.specs.DiskState.{Call, Write, Sync, Face, Waiting, after, cut_at}
+use Rattle.vr_disk.specs.Regions.{header_at, prepare_at}
+use Rattle.vr_disk.specs.Sectors.{has}
+use Rattle.vr_rings.specs.Slots.{header_of, header_reading, prepare_reading, whole_of}
+
+abbrev pub is_header_sector : List ℕ → Bool
+is_header_sector bytes = is_some (header_of bytes)
+
+abbrev pub is_prepare : List ℕ → Bool
+is_prepare bytes = is_some (whole_of bytes)
+
+-- the header sector of the entry with this prepare
+unfoldable pub header_sector : List ℕ → List ℕ
+header_sector prepare = take 128 prepare ++ replicate 384 0
+
+-- the entry of a header sector and a prepare: both are its own
+unfoldable pub entry_of_both : Option (List ℕ) → Option (List ℕ) → Option (List ℕ)
+entry_of_both header None = None
+entry_of_both header (Some prepare) = if has (header_sector prepare) header && is_prepare prepare then Some prepare else None
+
+-- the entry that a slot reads as
+abbrev pub entry_read : Face → ℕ → Option (List ℕ)
+entry_read f slot = entry_of_both (header_reading f slot) (prepare_reading f slot)
+
+-- ---- what a slot holds
+
+-- from the moment at which a slot reads as an entry it holds that entry
+abbrev pub found : Option (List ℕ) → Option (List ℕ) → Option (List ℕ)
+found (Some prepare) held = Some prepare
+found None held = held
+
+abbrev pub looked : Face → ℕ → Option (List ℕ) → Option (List ℕ)
+looked f slot held = found (entry_read f slot) held
+
+-- one of the four sectors of a slot's prepare
+abbrev pub is_part : ℕ → ℕ → Bool
+is_part slot i = nat_le (prepare_at slot) i && nat_lt i (prepare_at slot + 4)
+
+-- it holds the entry until one of its sectors is written with other bytes than the entry's, or one of its prepare while the
+-- header sector doesn't read as the entry's
+unfoldable pub keeps : Face → ℕ → ℕ → List ℕ → List ℕ → Bool
+keeps f slot i bytes prepare =
+    if i == header_at slot then pointwise nat_eq bytes (header_sector prepare)
+    else (if is_part slot i then has (header_sector prepare) (header_reading f slot) && pointwise nat_eq bytes (piece (512 * (i - prepare_at slot)) 512 prepare)
+    else true)
+
+abbrev pub kept : Face → ℕ → ℕ → List ℕ → Option (List ℕ) → Option (List ℕ)
+kept f slot i bytes None = None
+kept f slot i bytes (Some prepare) = if keeps f slot i bytes prepare then Some prepare else None
+
+-- after a call
+unfoldable pub held_after : Face → Call → ℕ → Option (List ℕ) → Option (List ℕ)
+held_after f (Write i bytes) slot held = looked (after f (Write i bytes)) slot (kept f slot i bytes held)
+held_after f Sync slot held = held
+
+-- after calls
+unfoldable pub held_after_all : Face → List Call → ℕ → Option (List ℕ) → Option (List ℕ)
+held_after_all f [] slot held = held
+held_after_all f (c ∷ cs) slot held = held_after_all (after f c) cs slot (held_after f c slot held)
+
+-- the digit of the code by which a sector that waits is settled, 0 where it doesn't wait
+unfoldable pub digit_at : ℕ → ℕ → List Waiting → ℕ
+digit_at code i [] = 0
+digit_at code i (w ∷ ws) = if w.index == i then code % 3 else digit_at (code / 3) i ws
+
+-- the write that is cut counts as a write unless it leaves its sector as it was
+abbrev pub held_begun : ℕ → Face → Call → ℕ → Option (List ℕ) → Option (List ℕ)
+held_begun code f (Write i bytes) slot held = if digit_at code i (after f (Write i bytes)).waiting == 0 then held else held_after f (Write i bytes) slot held
+held_begun code f Sync slot held = held
+
+-- after a stop at a call
+unfoldable pub held_cut_at : ℕ → Face → Call → ℕ → Option (List ℕ) → Option (List ℕ)
+held_cut_at code f c slot held = looked (cut_at code f c) slot (held_begun code f c slot held)
+
+-- after a stop at the call that comes after j others; past the last call nothing is cut
+unfoldable pub held_cut : ℕ → ℕ → Face → List Call → ℕ → Option (List ℕ) → Option (List ℕ)
+held_cut j code f [] slot held = held
+held_cut zero code f (c ∷ cs) slot held = held_cut_at code f c slot held
+held_cut (suc j) code f (c ∷ cs) slot held = held_cut j code (after f c) cs slot (held_after f c slot held)
+
+-- ---- the premise
+
+-- what a slot reads as it holds; and where it holds an entry, and its header sector reads as a valid header of something
+-- else, its prepare reads as the entry
+pub record Stands (f : Face) (slot : ℕ) (held : Option (List ℕ)) : Type 0 where
+  pub seen : (prepare : List ℕ) → entry_read f slot ≡ Some prepare → held ≡ Some prepare
+  pub prepare : (prepare header : List ℕ) → held ≡ Some prepare → header_reading f slot ≡ Some header → is_header_sector header ≡ true → header ≢ header_sector prepare → prepare_reading f slot ≡ Some prepare

@@ -1,0 +1,17 @@
+//! The two rings of a data file: a sector for the header of each slot's entry, and four for the entry itself.
+#![tactic(auto)]
+
+mod bytes;
+mod fault;
+mod laws;
+mod reading;
+mod slot;
+mod writing;
+
+pub use fault::{Bad, DiskFault, Faulty};
+pub use laws::slot_laws;
+pub use reading::{read_header, read_prepare, read_whole};
+pub use writing::{write_again, write_header, write_new};
+
+#[cfg(test)]
+mod tests;

@@ -1,0 +1,90 @@
+//! Writing a slot.
+ghost use Rattle.std.specs.Prelude.{◌≡◌, [], IfSome, is_ok};
+ghost use Rattle.vr_base.specs.Causes.{HasCause};
+ghost use Rattle.vr_disk.specs.DiskState.{Runs};
+ghost use Rattle.vr_header.specs.Spelling.{IsHeader};
+ghost use Rattle.vr_rings.specs.Slots.{prepare_bytes};
+ghost use Rattle.vr_rings.specs.Calls.{again_calls, header_calls, new_calls, prepare_calls};
+ghost use Rattle.vr_rings.specs.Laws.{AgainLeaves, HeaderLeaves, NewLeaves};
+
+use crate::DiskFault;
+use crate::bytes::{prepare_of, sector_of};
+use crate::slot::slot_of;
+use vr_disk::{DiskFailed, SectorDisk, header_at, prepare_at, write_sectors};
+use vr_header::{Entry, Header};
+
+// Writes the four sectors of an entry, which are these bytes, and syncs them.
+#[tactic(auto, using(vr_disk::proofs::Running::Runs_then, vr_disk::proofs::Running::Runs_stopped), unfolding(crate::specs::Calls::prepare_calls))]
+fn put_prepare<D: SectorDisk>(
+    disk: &mut D,
+    entry: &Entry,
+    bytes: &[u8; 2048],
+) -> Result<(), DiskFailed>
+    requires { bytes.now ≡ prepare_bytes entry.now }
+    ensures runs { Runs (prepare_calls entry.now) (D.told disk.old) (D.told disk.new) (is_ok result) }
+    ensures cause { HasCause (D.faults disk.old) (D.faults disk.new) result }
+{
+    let at = prepare_at(slot_of(&entry.header()));
+    write_sectors(disk, at, 4, bytes)?;
+    disk.sync()?;
+    Ok(())
+}
+
+// Writes the sector of a header, and syncs it.
+#[tactic(auto, unfolding(crate::specs::Calls::header_calls))]
+fn put_header<D: SectorDisk>(disk: &mut D, header: &Header) -> Result<(), DiskFailed>
+    ensures runs { Runs (header_calls header.now) (D.told disk.old) (D.told disk.new) (is_ok result) }
+    ensures header { IsHeader header.now }
+    ensures cause { HasCause (D.faults disk.old) (D.faults disk.new) result }
+{
+    disk.write(header_at(slot_of(header)), &sector_of(header))?;
+    disk.sync()?;
+    Ok(())
+}
+
+/// Writes an entry to its slot, which holds another one or none: the prepare first, then the header sector. It takes no
+/// memory.
+#[tactic(auto, using(vr_disk::proofs::Running::Runs_then, vr_disk::proofs::Running::Runs_stopped, crate::proofs::Leaving::new_leaves))]
+pub fn write_new<D: SectorDisk>(disk: &mut D, entry: &Entry) -> Result<(), DiskFault>
+    ensures runs { Runs (new_calls entry.now) (D.told disk.old) (D.told disk.new) (is_ok result) }
+    ensures cause { HasCause (D.faults disk.old) (D.faults disk.new) result }
+
+    // After all calls the slot reads as the entry; a stop at any of them leaves the header sector as it was, or the
+    // prepare synced already; and the premise on slots is kept.
+    ensures stop { IfSome (D.told disk.old) (λ d. d.face.waiting ≡ [] → NewLeaves entry.now d.face) }
+{
+    let bytes = prepare_of(entry);
+    put_prepare(disk, entry, &bytes)?;
+    put_header(disk, &entry.header())?;
+    Ok(())
+}
+
+/// Writes an entry to its slot, which may hold it already: the header sector first, then the prepare. It takes no memory.
+#[tactic(auto, using(vr_disk::proofs::Running::Runs_then, vr_disk::proofs::Running::Runs_stopped, crate::proofs::Leaving::again_leaves))]
+pub fn write_again<D: SectorDisk>(disk: &mut D, entry: &Entry) -> Result<(), DiskFault>
+    ensures runs { Runs (again_calls entry.now) (D.told disk.old) (D.told disk.new) (is_ok result) }
+    ensures cause { HasCause (D.faults disk.old) (D.faults disk.new) result }
+
+    // After all calls the slot reads as the entry; a stop at any of them leaves the prepare as it was, or the header
+    // sector synced already; and the premise on slots is kept.
+    ensures stop { IfSome (D.told disk.old) (λ d. d.face.waiting ≡ [] → AgainLeaves entry.now d.face) }
+{
+    let bytes = prepare_of(entry);
+    let header = entry.header();
+    put_header(disk, &header)?;
+    put_prepare(disk, entry, &bytes)?;
+    Ok(())
+}
+
+/// Writes the header sector of a slot alone, as an opening does whose prepare reads whole. It takes no memory.
+#[tactic(auto, using(crate::proofs::Leaving::header_leaves))]
+pub fn write_header<D: SectorDisk>(disk: &mut D, header: &Header) -> Result<(), DiskFault>
+    ensures runs { Runs (header_calls header.now) (D.told disk.old) (D.told disk.new) (is_ok result) }
+    ensures cause { HasCause (D.faults disk.old) (D.faults disk.new) result }
+
+    // A stop at any of these calls keeps the premise on slots.
+    ensures stop { IfSome (D.told disk.old) (λ d. d.face.waiting ≡ [] → HeaderLeaves header.now d.face) }
+{
+    put_header(disk, header)?;
+    Ok(())
+}
