@@ -1,6 +1,7 @@
 pub mod Faces
 pub mod Frames
 pub mod Fuses
+pub mod Halting
 pub mod Outcomes
 mod Rows
 pub mod Running

@@ -4,7 +4,7 @@ use Rattle.std.specs.Bool.{MatchBool}
 use Rattle.std.specs.List.{AllByRecursion}
 use Rattle.std.proofs.lemmas.Bool.{cases_eq, cond_both, eq-eqb, ne_eqb, or_parts}
 use Rattle.std.proofs.lemmas.List.Folds.{list_any-append}
-use Rattle.vr_disk.specs.DiskState.{Call, Write, Sync, Face, Cell, Waiting, blank, after, begun, cell, cut, damaged, noted, reads, settle, settled, settled_cell, waits, written}
+use Rattle.vr_disk.specs.DiskState.{Call, Write, Sync, Face, Cell, Waiting, blank, after, after_all, begun, cell, cut, damaged, noted, reads, settle, settled, settled_cell, waits, written}
 use Rattle.vr_disk.specs.Stops.{IsLeft, WritesOnly}
 use Rattle.vr_disk.proofs.Frames.{frame_after, frame_settled, waits_after}
 
@@ -125,3 +125,11 @@ cut_from (c ∷ cs) f i r b (suc j) code l w s = cut_from cs (after f c) i r b j
 
 pub cut_leaves : (cs : List Call) (f : Face) (i : ℕ) (b : List ℕ) (j code : ℕ) → i < length f.cells → AllByRecursion (WritesOnly i b) cs → waits i f.waiting ≡ false → IsLeft (reads f i) b (reads (cut j code f cs) i)
 cut_leaves cs f i b j code l w n = cut_from cs f i (reads f i) b j code l w (untouched refl n)
+
+-- calls that end well
+all_from : (cs : List Call) (f : Face) (i : ℕ) (r : Option (List ℕ)) (b : List ℕ) → i < length f.cells → AllByRecursion (WritesOnly i b) cs → At i r b f → IsLeft r b (reads (after_all f cs) i)
+all_from [] f i r b l w s = at_end i r b f s
+all_from (c ∷ cs) f i r b l w s = all_from cs (after f c) i r b (rw length_after l) w.1 (at_after i r b f c l w.0 s)
+
+pub all_leaves : (cs : List Call) (f : Face) (i : ℕ) (b : List ℕ) → i < length f.cells → AllByRecursion (WritesOnly i b) cs → waits i f.waiting ≡ false → IsLeft (reads f i) b (reads (after_all f cs) i)
+all_leaves cs f i b l w n = all_from cs f i (reads f i) b l w (untouched refl n)

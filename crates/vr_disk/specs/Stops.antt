@@ -1,13 +1,23 @@
 -- What calls leave where one of them fails or is cut short.
-use Rattle.std.specs.Prelude.{ℕ, ◌-◌, ◌<◌, ◌≤◌, ◌≡◌, ◌≢◌, ◌⊎◌, true, false, List, [], ◌++◌, length, take, Option, Some, IfSome}
+use Rattle.std.specs.Prelude.{ℕ, zero, suc, ◌-◌, ◌<◌, ◌≤◌, ◌≡◌, ◌≢◌, ◌⊎◌, true, false, List, [], ◌∷◌, ◌++◌, length, take, Option, None, Some, IfSome}
 use Rattle.std.specs.List.{AllByRecursion}
-use Rattle.vr_disk.specs.DiskState.{Call, Write, Sync, Face, IsContent, IsFace, Disk, Fuse, Attaches, after_all, cut, cell, damaged, reads, waits, runs}
+use Rattle.vr_disk.specs.DiskState.{Call, Write, Sync, Face, IsContent, IsFace, Disk, Fuse, Attaches, after, after_all, cut, cut_at, cell, damaged, reads, waits, runs}
 
 -- the calls before one of them went well, and that one failed or was cut
 pub record Stops (cs : List Call) (f g : Face) : Type 0 where
   pub calls : ℕ
   pub within : calls < length cs
   pub left : (g ≡ after_all f (take calls cs)) ⊎ ((code : ℕ) × (g ≡ cut calls code f cs))
+
+-- calls that stop after so many of them: cut by a code at the next one, or (None) before it
+abbrev pub left_at : Option ℕ → Face → Call → Face
+left_at None f c = f
+left_at (Some code) f c = cut_at code f c
+
+unfoldable pub halted : Option ℕ → ℕ → Face → List Call → Face
+halted h j f [] = f
+halted h zero f (c ∷ cs) = left_at h f c
+halted h (suc j) f (c ∷ cs) = halted h j (after f c) cs
 
 -- calls that end well leave what they leave one after another
 abbrev pub RunsLeaveAfter : Type 0

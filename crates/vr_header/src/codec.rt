@@ -117,8 +117,9 @@ fn code_of(command: Command) -> u8
     }
 }
 
+/// The header that bytes begin with which are known to spell one; it takes no digest.
 #[tactic(auto, using(crate::proofs::Faults::no_fault), unfolding(crate::specs::Spelling::header_at))]
-fn header_at(bytes: &[u8]) -> Header
+pub fn header_at(bytes: &[u8]) -> Header
     requires { fault_of bytes.now ≡ None }
     ensures { result ≡ header_at bytes.now }
 {

@@ -8,7 +8,7 @@ use Rattle.std.proofs.lemmas.List.Sums.{sum_by-cons}
 use Rattle.std.proofs.lemmas.Slice.Eq.{bytes_eq-Decides}
 use Rattle.vr_base.specs.Bytes.{number}
 use Rattle.vr_disk.specs.Sectors.{has}
-use Rattle.vr_super.specs.Laws.{OpensLaw}
+use Rattle.vr_super.specs.Laws.{OpensAgreed}
 use Rattle.vr_super.specs.Opens.{agreed, best_of, better, is_later, opened}
 
 -- one of the copies has these bytes
@@ -323,7 +323,7 @@ opened_wins v cs e = elim (best_wins (agreed cs) v cs None e) [ inl p ↦ let z 
 never_agreed : (b : List ℕ) (cs : List (Option (List ℕ))) → opened cs ≡ None → agreed cs b ≡ true → ⊥
 never_agreed b cs e h = let x = opened_some b cs (agreed_among b cs h) h in let y = x.1 in absurd cc
 
-pub opens_law : OpensLaw
+pub opens_law : (cs : List (Option (List ℕ))) → OpensAgreed cs
 opens_law cs = record {
   agree = λ b e. wins_test (agreed cs) b cs (opened_wins b cs e);
   greatest = λ b c e h. last_among (agreed cs) b c cs (wins_last (agreed cs) b cs (opened_wins b cs e)) (agreed_among c cs h) h;

@@ -3,16 +3,18 @@ use Rattle.std.proofs.Common.{ℕ, ◌≡◌, refl, sym, ap, ◌∙◌, true, fa
 use Rattle.std.specs.Prelude.{is_ok, is_some, map, IsSome, IfErr, IfOk, IfSome}
 use Rattle.std.specs.List.{AllByRecursion}
 use Rattle.std.specs.Option.{option_and_then}
-use Rattle.vr_disk.specs.DiskState.{Disk, RunsFrom}
+use Rattle.vr_disk.specs.DiskState.{Disk, IsFace, Runs, RunsFrom}
 use Rattle.vr_super.specs.declared.reading.Reading.{Reading}
 use Rattle.vr_super.specs.declared.recovering.SuperFault.{SuperFault}
 use Rattle.vr_super.specs.declared.recovering.SuperFault.TheVariants as fault
 use Rattle.vr_super.specs.Copies.{Saved, value_of}
 use Rattle.vr_super.specs.Calls.{mend_calls}
 use Rattle.vr_super.specs.Opens.{good_copies, opened, opens}
+use Rattle.vr_super.specs.Laws.{MendKeeps, Mended}
 use Rattle.vr_super.specs.Recovers.{Chosen, Recovers, RecoversFrom, verdict_of}
 use Rattle.vr_super.specs.Seen.{IsHonest, seen}
 use Rattle.vr_super.proofs.Best.{Among, opened_among}
+use Rattle.vr_super.proofs.Keeping.{mend_law, mend_leaves}
 
 seen_good : (b : List ℕ) (r : Reading) → IsHonest r → seen r ≡ Some b → is_some (value_of b) ≡ true
 seen_good b r h e =
@@ -70,3 +72,33 @@ pub mended_from : (t mid new : Option Disk) (copies : List (Option (List ℕ))) 
     → RunsFrom (mend_calls v) mid new (is_ok r) → IfOk r (λ x. x ≡ v) → IfErr r (λ e. e ≡ fault.DiskFault) → RecoversFrom t new r
 mended_from None mid new copies v r m s c h k f = let h' : RunsFrom (mend_calls v) None new (is_ok r) = rw m at h in h'
 mended_from (Some d) mid new copies v r m s c h k f = let h' : RunsFrom (mend_calls v) (Some d) new (is_ok r) = rw m at h in mended_on d new copies v r s c h' k f
+
+-- ---- what a stop leaves, and what the call leaves
+
+pub mends : (t : Option Disk) → IfSome t (λ d. IsFace d.face) → IfSome t (λ d. d.face.waiting ≡ [] → (v : Saved) → opens d.face ≡ Some v → MendKeeps v d.face)
+mends None w = tt
+mends (Some d) w = λ n v o. mend_law v d.face w n o
+
+same_value : (o : Option Saved) (v x : Saved) → o ≡ Some v → o ≡ Some x → x ≡ v
+same_value o v x a b = let same : Some x ≡ Some v = sym b ∙ a in cc
+
+-- nothing was written
+unwritten : (v : Saved) (d : Disk) (new : Option Disk) → opens d.face ≡ Some v → new ≡ Some d → IfSome new (λ e. Mended v false e.face)
+unwritten v d new o e = rw e (record { done = λ x. absurd cc; kept = λ t. o })
+
+left_on : (d : Disk) (new : Option Disk) (r : Result Saved SuperFault) → IsFace d.face → Recovers d new r → d.face.waiting ≡ [] → (v : Saved) → opens d.face ≡ Some v → IfSome new (λ e. Mended v (is_ok r) e.face)
+left_on d new (Ok x) w h n v o =
+    let same = same_value (opens d.face) v x o h.0 in
+    let ran : Runs (mend_calls v d.face) (Some d) new true = subst (λ (y : Saved). Runs (mend_calls y d.face) (Some d) new true) same h.1 in
+    rw ran.0 (mend_leaves v d true w n o ran.1)
+left_on d new (Err (fault.Lost vs)) w h n v o = let none : None ≡ Some v = sym h.0 ∙ o in absurd cc
+left_on d new (Err fault.DiskFault) w h n v o =
+    let same = same_value (opens d.face) v h.value o h.opens in
+    let ran : Runs (mend_calls v d.face) (Some d) new false = subst (λ (y : Saved). Runs (mend_calls y d.face) (Some d) new false) same h.ran in
+    rw ran.0 (mend_leaves v d false w n o ran.1)
+left_on d new (Err fault.NoMemory) w h n v o = unwritten v d new o h.1
+
+pub left_by : (t new : Option Disk) (r : Result Saved SuperFault) → IfSome t (λ d. IsFace d.face) → RecoversFrom t new r
+    → IfSome t (λ d. d.face.waiting ≡ [] → (v : Saved) → opens d.face ≡ Some v → IfSome new (λ e. Mended v (is_ok r) e.face))
+left_by None new r w h = tt
+left_by (Some d) new r w h = left_on d new r w h

@@ -1,11 +1,12 @@
 -- The headers of a good copy, one after another.
-use Rattle.std.proofs.Common.{ℕ, ◌+◌, ◌-◌, ◌*◌, ◌≤◌, ◌<◌, ◌≡◌, refl, sym, ap, ◌∙◌, true, List, [], ◌∷◌, ◌++◌, length, drop, Option, Some, None, Result, Ok, Err, append_assoc}
+use Rattle.std.proofs.Common.{ℕ, zero, suc, arith, ◌+◌, ◌-◌, ◌*◌, ◌≤◌, ◌<◌, ◌≡◌, refl, sym, ap, ◌∙◌, true, List, [], ◌∷◌, ◌++◌, length, drop, Option, Some, None, Result, Ok, Err, append_assoc}
 use Rattle.std.specs.Prelude.{is_some}
+use Rattle.std.specs.Option.{option_map_or}
 use Rattle.std.specs.Result.{result_ok}
-use Rattle.std.proofs.lemmas.List.{append-nil}
+use Rattle.std.proofs.lemmas.List.{append-nil, drop-drop}
 use Rattle.vr_header.specs.declared.header.Header.{Header}
 use Rattle.vr_header.specs.declared.header.HeaderFault.{HeaderFault}
-use Rattle.vr_header.specs.Spelling.{decoded}
+use Rattle.vr_header.specs.Spelling.{decoded, fault_of, header_at}
 use Rattle.vr_super.specs.declared.fields.Fields.{Fields}
 use Rattle.vr_base.specs.Bytes.{IsBytes}
 use Rattle.vr_super.specs.Copies.{Saved, count_at, fields_at, first_op, list_at, value_of}
@@ -37,17 +38,37 @@ listing_goes f op count i bytes headers all h l e x =
       whole = x.whole ∙ (ap (λ y. headers ++ y) (w.whole ∙ ap (λ y. y ∷ w.others) same) ∙ sym (append_assoc headers (h ∷ []) w.others));
     }
 
-pub listing_breaks : (f : Fields) (op count i : ℕ) (bytes : List ℕ) (headers all : List Header) (x : HeaderFault) → i < count → decoded (drop (128 * i) bytes) ≡ Err x → Listing f op count i bytes headers all → headers ≡ all
-listing_breaks f op count i bytes headers all x l e y =
-    let w = next f op count i bytes headers all l y in
-    let read : None ≡ Some w.header = ap (λ (r : Result Header HeaderFault). result_ok r) (sym e) ∙ w.read in
-    absurd cc
-
 pub listing_ends : (f : Fields) (op count i : ℕ) (bytes : List ℕ) (headers all : List Header) → count ≤ i → Listing f op count i bytes headers all → headers ≡ all
 listing_ends f op count i bytes headers all l x =
     let none : Some [] ≡ Some x.rest = sym (list_past f op count i bytes l) ∙ x.left in
     let same : [] ≡ x.rest = cc in
     sym (x.whole ∙ (ap (λ y. headers ++ y) (sym same) ∙ append-nil headers))
+
+-- ---- headers that read
+
+by_fault : (o : Option HeaderFault) (x h : Header) → option_map_or Err o (Ok x) ≡ Ok h → o ≡ None
+by_fault None x h e = refl
+by_fault (Some y) x h e = absurd cc
+
+fault_none : (t : List ℕ) (h : Header) (r : Result Header HeaderFault) → decoded t ≡ r → result_ok r ≡ Some h → fault_of t ≡ None
+fault_none t h (Ok x) d e = by_fault (fault_of t) (header_at t) x d
+fault_none t h (Err x) d e = absurd cc
+
+pub decoded_at : (t : List ℕ) → fault_of t ≡ None → decoded t ≡ Ok (header_at t)
+decoded_at t e = ap (λ (o : Option HeaderFault). option_map_or Err o (Ok (header_at t))) e
+
+-- each header of a list
+all_read : (n i op : ℕ) (f : Fields) (t : List ℕ) (hs : List Header) → list_at f op n t ≡ Some hs → i < n → fault_of (drop (128 * i) t) ≡ None
+unfolding list_at
+all_read zero i op f t hs e l = absurd (omega arith)
+all_read (suc n) zero op f t hs e l =
+    let w = with_by f op (result_ok (decoded t)) (list_at f (op + 1) n (drop 128 t)) hs e in
+    fault_none t w.header (decoded t) refl w.read
+all_read (suc n) (suc i) op f t hs e l =
+    let w = with_by f op (result_ok (decoded t)) (list_at f (op + 1) n (drop 128 t)) hs e in
+    let size : 128 + 128 * i ≡ 128 * suc i = omega arith in
+    let there = all_read n i (op + 1) f (drop 128 t) w.others w.left (omega arith) in
+    ap fault_of (ap (λ m. drop m t) (sym size) ∙ sym (drop-drop (128 * i) 128 t)) ∙ there
 
 -- ---- a good copy has a value
 
@@ -72,3 +93,8 @@ value_is b hs e h =
 
 pub read_is : (b : List ℕ) (v : Saved) → IsBytes b → length b ≡ 10240 → value_of b ≡ Some v → IsSpelled v b
 read_is b v h l e = let p = value_found b v h e in record { good = p.1; spelled = p.0; size = l }
+
+pub spelled_at : (b : List ℕ) (i : ℕ) → is_some (value_of b) ≡ true → i < count_at b → fault_of (drop (128 * i) (drop 128 b)) ≡ None
+spelled_at b i e l =
+    let p = value_there b e in
+    all_read (count_at b) i (first_op (fields_at b) (count_at b)) (fields_at b) (drop 128 b) p.0.headers (valued b p.0 p.1).headers l

@@ -1,12 +1,14 @@
 -- What sectors one behind the other read as, before and after calls.
-use Rattle.std.proofs.Common.{ℕ, ◌+◌, ◌*◌, ◌≤◌, ◌<◌, ◌≡◌, ◌≢◌, ◌⊎◌, inl, inr, arith, refl, ap, List, [], ◌∷◌, drop, Some}
+use Rattle.std.proofs.Common.{ℕ, ◌+◌, ◌*◌, ◌≤◌, ◌<◌, ◌≡◌, ◌≢◌, ◌⊎◌, inl, inr, arith, refl, ap, Option, List, [], ◌∷◌, drop, Some}
 use Rattle.std.specs.List.{AllByRecursion}
 use Rattle.std.proofs.lemmas.Bool.{cases_lt}
 use Rattle.vr_base.specs.Bytes.{IsBytes}
-use Rattle.vr_disk.specs.DiskState.{Call, Sync, Face, IsFace, Cell, after_all, cut, reads}
-use Rattle.vr_disk.proofs.Frames.{frame_all, frame_cut}
+use Rattle.vr_disk.specs.DiskState.{Call, Sync, Face, IsFace, Cell, after_all, reads}
+use Rattle.vr_disk.proofs.Frames.{frame_all}
 use Rattle.vr_disk.specs.Sectors.{writes}
 use Rattle.vr_disk.proofs.Together.{Within, together_bytes, together_same, within_append, within_spares, writes_within}
+use Rattle.vr_disk.proofs.Halting.{frame_halted}
+use Rattle.vr_disk.specs.Stops.{halted}
 use Rattle.vr_super.specs.Opens.{copy_reading}
 use Rattle.vr_super.specs.Calls.{copy_calls, mend_copy}
 
@@ -34,10 +36,10 @@ unfolding copy_reading
 other_after cs f c d w n =
     together_same 20 (20 * d) f (after_all f cs) (λ k a b. ap (λ (c : Cell). c.reads) (frame_all cs f k (within_spares (20 * c) (20 * c + 20) cs k w (outside c d k n a b))))
 
-pub other_cut : (cs : List Call) (f : Face) (c d j code : ℕ) → AllByRecursion (Within (20 * c) (20 * c + 20)) cs → f.waiting ≡ [] → c ≢ d → copy_reading (cut j code f cs) d ≡ copy_reading f d
+pub other_halted : (cs : List Call) (f : Face) (c d : ℕ) (how : Option ℕ) (j : ℕ) → AllByRecursion (Within (20 * c) (20 * c + 20)) cs → f.waiting ≡ [] → c ≢ d → copy_reading (halted how j f cs) d ≡ copy_reading f d
 unfolding copy_reading
-other_cut cs f c d j code w r n =
-    together_same 20 (20 * d) f (cut j code f cs) (λ k a b. ap (λ (c : Cell). c.reads) (frame_cut cs f k j code (within_spares (20 * c) (20 * c + 20) cs k w (outside c d k n a b)) (rw r refl)))
+other_halted cs f c d how j w r n =
+    together_same 20 (20 * d) f (halted how j f cs) (λ k a b. ap (λ (c : Cell). c.reads) (frame_halted cs f k how j (within_spares (20 * c) (20 * c + 20) cs k w (outside c d k n a b)) (rw r refl)))
 
 -- the first sector of another copy stays too
 pub other_head : (cs : List Call) (f : Face) (c d : ℕ) → AllByRecursion (Within (20 * c) (20 * c + 20)) cs → c ≢ d → reads (after_all f cs) (20 * d) ≡ reads f (20 * d)

@@ -8,8 +8,8 @@ use Rattle.vr_disk.proofs.Telling.{runs_const}
 use Rattle.vr_super.specs.Calls.{copy_calls, mend_copy, mend_from, mend_calls, mend_unless, save_from, write_calls}
 use Rattle.vr_super.specs.Opens.{copy_reading, opens}
 use Rattle.vr_super.specs.Copies.{IsGood, Saved, copy_bytes}
-use Rattle.vr_super.specs.Laws.{WriteLeads}
-use Rattle.vr_super.proofs.Keeping.{write_law}
+use Rattle.vr_super.specs.Laws.{WriteLeads, Written}
+use Rattle.vr_super.proofs.Keeping.{write_law, write_leaves}
 use Rattle.vr_super.proofs.Readings.{mend_within, other_after}
 
 -- ---- copies
@@ -121,3 +121,8 @@ write_stopped old new x a b p h =
 pub leads : (old new : Saved) (t : Option Disk) → IfSome t (λ d. IsFace d.face) → IsGood new → IfSome t (λ d. d.face.waiting ≡ [] → opens d.face ≡ Some old → WriteLeads old new d.face)
 leads old new None w g = tt
 leads old new (Some d) w g = λ r o. write_law old new d.face w r o g
+
+pub left_by : (old new : Saved) (t u : Option Disk) (ok : Bool) → IfSome t (λ d. IsFace d.face) → IsGood new → RunsFrom (write_calls old new) t u ok
+    → IfSome t (λ d. d.face.waiting ≡ [] → opens d.face ≡ Some old → IfSome u (λ e. Written old new ok e.face))
+left_by old new None u ok w g r = tt
+left_by old new (Some d) u ok w g r = λ n o. rw r.0 (write_leaves old new d ok w n o g r.1)

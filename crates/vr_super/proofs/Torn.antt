@@ -5,14 +5,13 @@ use Rattle.std.specs.List.{AllByRecursion}
 use Rattle.std.proofs.lemmas.Bool.{cases_lt}
 use Rattle.std.proofs.lemmas.List.{get_or-map, get_or-take, get_or_append_left, length-map, length-take, take-take, take-append-le, take-append-drop, take_at}
 use Rattle.vr_base.specs.Bytes.{name_of, piece}
-use Rattle.vr_disk.specs.DiskState.{Call, Write, Sync, Face, Cell, IsFace, after_all, cut, damaged, reads}
-use Rattle.vr_disk.specs.Stops.{WritesOnly}
-use Rattle.vr_disk.proofs.Frames.{frame_cut, reads_back}
+use Rattle.vr_disk.specs.DiskState.{Call, Write, Sync, Face, Cell, IsFace, after_all, damaged, reads}
+use Rattle.vr_disk.specs.Stops.{halted, WritesOnly}
+use Rattle.vr_disk.proofs.Frames.{reads_back}
 use Rattle.vr_disk.proofs.Faces.{there}
-use Rattle.vr_disk.proofs.Outcomes.{cut_leaves}
-use Rattle.vr_disk.proofs.Stopping.{cuts_both}
 use Rattle.vr_disk.specs.Sectors.{together, writes}
 use Rattle.vr_disk.proofs.Together.{only_append, spares_append, together_first, together_same, writes_only, writes_spare}
+use Rattle.vr_disk.proofs.Halting.{frame_halted, halt_leaves, halts_both}
 use Rattle.vr_super.specs.Copies.{IsGood, Saved, copy_bytes, named_bytes, value_of}
 use Rattle.vr_super.specs.Opens.{copy_reading, good_copy, if_good}
 use Rattle.vr_super.specs.Calls.{copy_calls, mend_copy}
@@ -108,12 +107,12 @@ head_reads v f c g h l e =
 abbrev pub Either : List ℕ → List ℕ → Option (List ℕ) → Type 0
 Either a b c = (c ≡ Some a) ⊎ ((c ≡ Some b) ⊎ (c ≡ None))
 
-pub copy_torn : (old new : Saved) (f : Face) (c j code : ℕ) → IsGood old → IsGood new → length f.cells ≡ 1424 → f.waiting ≡ [] → c < 4 → reads f (20 * c) ≡ Some (head_of old)
-    → let g = cut j code f (copy_calls c (copy_bytes new)) in TellsApart g old → TellsApart g new → Either (copy_bytes old) (copy_bytes new) (good_copy g c)
-copy_torn old new f c j code go gn n w l before to tn =
+pub copy_torn : (old new : Saved) (f : Face) (c : ℕ) (how : Option ℕ) (j : ℕ) → IsGood old → IsGood new → length f.cells ≡ 1424 → f.waiting ≡ [] → c < 4 → reads f (20 * c) ≡ Some (head_of old)
+    → let g = halted how j f (copy_calls c (copy_bytes new)) in TellsApart g old → TellsApart g new → Either (copy_bytes old) (copy_bytes new) (good_copy g c)
+copy_torn old new f c how j go gn n w l before to tn =
     let calls = copy_calls c (copy_bytes new) in
-    let g = cut j code f calls in
-    elim (cut_leaves calls f (20 * c) (head_of new) j code (omega arith) (copy_only c (copy_bytes new)) (rw w refl)) [
+    let g = halted how j f calls in
+    elim (halt_leaves calls f (20 * c) (head_of new) how j (omega arith) (copy_only c (copy_bytes new)) (rw w refl)) [
       | inl e ↦ elim (head_tells old g c go l (e ∙ before) to) [ inl x ↦ inl x | inr x ↦ inr (inr x) ]
       | inr y ↦ elim y [
         | inl e ↦ elim (head_tells new g c gn l e tn) [ inl x ↦ inr (inl x) | inr x ↦ inr (inr x) ]
@@ -128,14 +127,14 @@ first_calls c bytes = Write (20 * c) (piece 0 512 bytes) ∷ Sync ∷ []
 abbrev rest_calls : ℕ → List ℕ → List Call
 rest_calls c bytes = writes (20 * c + 1) 19 (drop 512 bytes) ++ Sync ∷ []
 
-mend_first : (v : Saved) (f : Face) (c j code : ℕ) → IsGood v → length f.cells ≡ 1424 → f.waiting ≡ [] → c < 4
-    → let g = cut j code f (first_calls c (copy_bytes v)) in TellsApart g v → (copy_reading g c ≡ copy_reading f c) ⊎ OneOf (copy_bytes v) (good_copy g c)
+mend_first : (v : Saved) (f : Face) (c : ℕ) (how : Option ℕ) (j : ℕ) → IsGood v → length f.cells ≡ 1424 → f.waiting ≡ [] → c < 4
+    → let g = halted how j f (first_calls c (copy_bytes v)) in TellsApart g v → (copy_reading g c ≡ copy_reading f c) ⊎ OneOf (copy_bytes v) (good_copy g c)
 unfolding copy_reading
-mend_first v f c j code gv n w l t =
+mend_first v f c how j gv n w l t =
     let calls = first_calls c (copy_bytes v) in
-    let g = cut j code f calls in
-    let others : (k : ℕ) → 20 * c < k → reads g k ≡ reads f k = λ k a. ap (λ (c : Cell). c.reads) (frame_cut calls f k j code ((λ e. omega arith), (tt, tt)) (rw w refl)) in
-    elim (cut_leaves calls f (20 * c) (head_of v) j code (omega arith) ((λ e. refl), (tt, tt)) (rw w refl)) [
+    let g = halted how j f calls in
+    let others : (k : ℕ) → 20 * c < k → reads g k ≡ reads f k = λ k a. ap (λ (c : Cell). c.reads) (frame_halted calls f k how j ((λ e. omega arith), (tt, tt)) (rw w refl)) in
+    elim (halt_leaves calls f (20 * c) (head_of v) how j (omega arith) ((λ e. refl), (tt, tt)) (rw w refl)) [
       | inl e ↦ inl (together_same 20 (20 * c) f g (λ k a b. elim (cases_lt (20 * c) k) [ inl m ↦ others k m | inr m ↦ let same : k ≡ 20 * c = omega arith in rw same e ]))
       | inr y ↦ elim y [
         | inl e ↦ inr (head_tells v g c gv l e t)
@@ -143,28 +142,28 @@ mend_first v f c j code gv n w l t =
       ]
     ]
 
-mend_rest : (v : Saved) (f : Face) (c j code : ℕ) → IsGood v → f.waiting ≡ [] → c < 4 → reads f (20 * c) ≡ Some (head_of v)
-    → let g = cut j code f (rest_calls c (copy_bytes v)) in TellsApart g v → OneOf (copy_bytes v) (good_copy g c)
-mend_rest v f c j code gv w l e t =
+mend_rest : (v : Saved) (f : Face) (c : ℕ) (how : Option ℕ) (j : ℕ) → IsGood v → f.waiting ≡ [] → c < 4 → reads f (20 * c) ≡ Some (head_of v)
+    → let g = halted how j f (rest_calls c (copy_bytes v)) in TellsApart g v → OneOf (copy_bytes v) (good_copy g c)
+mend_rest v f c how j gv w l e t =
     let calls = rest_calls c (copy_bytes v) in
-    let g = cut j code f calls in
+    let g = halted how j f calls in
     let spared = spares_append (20 * c) (writes (20 * c + 1) 19 (drop 512 (copy_bytes v))) (Sync ∷ []) (writes_spare 19 (20 * c + 1) (20 * c) (drop 512 (copy_bytes v)) (omega arith)) (tt, tt) in
-    head_tells v g c gv l (ap (λ (c : Cell). c.reads) (frame_cut calls f (20 * c) j code spared (rw w refl)) ∙ e) t
+    head_tells v g c gv l (ap (λ (c : Cell). c.reads) (frame_halted calls f (20 * c) how j spared (rw w refl)) ∙ e) t
 
-pub mend_torn : (v : Saved) (f : Face) (c j code : ℕ) → IsGood v → length f.cells ≡ 1424 → f.waiting ≡ [] → c < 4
-    → let g = cut j code f (mend_copy c (copy_bytes v)) in TellsApart g v → (copy_reading g c ≡ copy_reading f c) ⊎ OneOf (copy_bytes v) (good_copy g c)
+pub mend_torn : (v : Saved) (f : Face) (c : ℕ) (how : Option ℕ) (j : ℕ) → IsGood v → length f.cells ≡ 1424 → f.waiting ≡ [] → c < 4
+    → let g = halted how j f (mend_copy c (copy_bytes v)) in TellsApart g v → (copy_reading g c ≡ copy_reading f c) ⊎ OneOf (copy_bytes v) (good_copy g c)
 unfolding mend_copy
-mend_torn v f c j code gv n w l t =
+mend_torn v f c how j gv n w l t =
     let first = first_calls c (copy_bytes v) in
     let rest = rest_calls c (copy_bytes v) in
-    let parts = cuts_both first rest f j code in
+    let parts = halts_both first rest f how j in
     elim (cases_lt j 2) [
       | inl m ↦
           let same = parts.first m in
-          rw same (mend_first v f c j code gv n w l (rw same at t))
+          rw same (mend_first v f c how j gv n w l (rw same at t))
       | inr m ↦
           let same = parts.later m in
           let mid = after_all f first in
           let now : reads mid (20 * c) ≡ Some (head_of v) = reads_back f (20 * c) (head_of v) (omega arith) in
-          inr (rw same (mend_rest v mid c (j - 2) code gv refl l now (rw same at t)))
+          inr (rw same (mend_rest v mid c how (j - 2) gv refl l now (rw same at t)))
     ]

@@ -56,7 +56,7 @@ fn better<'a>(
 ) -> Option<&'a Reading>
     ensures { option_map (λ r. r.now.bytes) result ≡ better (agreed (map seen readings.now)) (option_map (λ r. r.now.bytes) best.entry) (seen r.now) }
 {
-    if r.good && is_agreed(readings, &r.bytes) && is_later(&r.bytes, best) {
+    if r.good && is_later(&r.bytes, best) && is_agreed(readings, &r.bytes) {
         Some(r)
     } else {
         best

@@ -1,10 +1,9 @@
 //! Copies as they are read, and the best of them.
-ghost use Rattle.std.specs.Prelude.{◌≡◌, ◌≤◌, ◌<◌, ◌+◌, ◌*◌, ◌∷◌, [], if◌then◌else◌, length, map, IfSome, Some, None, is_some, nat_eq, ◌&&◌};
-ghost use Rattle.std.specs.List.{AllByRecursion, list_any};
-ghost use Rattle.std.specs.Cmp.Lexicographic.{pointwise};
-ghost use Rattle.vr_super.specs.Opens.{copy_reading, good_copies, good_copy, if_good};
+ghost use Rattle.std.specs.Prelude.{◌≡◌, ◌≤◌, ◌<◌, ◌+◌, ◌*◌, ◌∷◌, [], if◌then◌else◌, length, map, take, IfSome, MatchOption, Some, None, is_some};
+ghost use Rattle.std.specs.List.{AllByRecursion};
+ghost use Rattle.vr_super.specs.Opens.{copy_reading, good_copies, good_copy};
 ghost use Rattle.vr_super.specs.Copies.{value_of};
-ghost use Rattle.vr_super.specs.Seen.{IsHonest, seen};
+ghost use Rattle.vr_super.specs.Seen.{IsHonest, IsRead, seen};
 
 use crate::check::is_good;
 use vr_disk::{SectorDisk, read_sectors};
@@ -13,6 +12,8 @@ use vr_disk::{SectorDisk, read_sectors};
 #[derive(Clone, Copy)]
 pub struct Reading {
     pub bytes: [u8; 10240],
+    /// Every sector was read.
+    pub whole: bool,
     /// Every sector was read, and the copy is good.
     pub good: bool,
 }
@@ -29,11 +30,17 @@ fn fill<D: SectorDisk>(disk: &mut D, copy: u32, to: &mut [u8]) -> bool
     read_sectors(disk, 20 * copy, 20, to)
 }
 
-// Whether one of these is good and has the bytes.
-fn has_good(readings: &[Reading], bytes: &[u8; 10240]) -> bool
-    ensures { result ≡ list_any (λ r. r.good && pointwise nat_eq r.bytes bytes.now) readings.now }
+// Whether these bytes are good, where one of these has them.
+fn known(earlier: &[Reading], bytes: &[u8; 10240]) -> Option<bool>
+    requires { AllByRecursion IsHonest earlier.now }
+    ensures { IfSome result (λ good. good ≡ is_some (value_of bytes.now)) }
 {
-    readings.iter().any(|r| r.good && r.bytes == *bytes)
+    for r in earlier {
+        if r.whole && r.bytes == *bytes {
+            return Some(r.good);
+        }
+    }
+    None
 }
 
 // Whether these are the bytes of a good copy, judged anew only where no earlier one has them.
@@ -41,30 +48,36 @@ fn is_good_beside(bytes: &[u8; 10240], earlier: &[Reading]) -> bool
     requires { AllByRecursion IsHonest earlier.now }
     ensures { result ≡ is_some (value_of bytes.now) }
 {
-    has_good(earlier, bytes) || is_good(bytes)
-}
-
-fn judged(whole: bool, bytes: [u8; 10240], earlier: &[Reading]) -> Reading
-    requires { AllByRecursion IsHonest earlier.now }
-    ensures seen { seen result ≡ if_good (if whole then Some bytes else None) }
-    ensures honest { IsHonest result }
-{
-    let good = whole && is_good_beside(&bytes, earlier);
-    Reading { bytes, good }
+    match known(earlier, bytes) {
+        Some(good) => good,
+        None => is_good(bytes),
+    }
 }
 
 // Reads a copy behind these.
-fn read_copy<D: SectorDisk>(disk: &mut D, copy: u32, earlier: &[Reading]) -> Reading
+fn read_beside<D: SectorDisk>(disk: &mut D, copy: u32, earlier: &[Reading], to: &mut Reading)
     requires copy { copy < 4 }
     requires honest { AllByRecursion IsHonest earlier.now }
     ensures told { D.told disk.new ≡ D.told disk.old }
     ensures faults { D.faults disk.new ≡ D.faults disk.old }
-    ensures honest { IsHonest result }
-    ensures value { IfSome (D.told disk.old) (λ d. seen result ≡ good_copy d.face copy) }
+    ensures honest { IsHonest to.new }
+    ensures value { IfSome (D.told disk.old) (λ d. seen to.new ≡ good_copy d.face copy) }
 {
-    let mut bytes = [0; 10240];
-    let whole = fill(disk, copy, &mut bytes);
-    judged(whole, bytes, earlier)
+    to.whole = fill(disk, copy, &mut to.bytes);
+    to.good = to.whole && is_good_beside(&to.bytes, earlier);
+}
+
+// Reads a copy in its place, where those before it were read.
+fn read_copy<D: SectorDisk>(disk: &mut D, copy: u32, readings: &mut [Reading])
+    requires copy { copy < 4 }
+    requires size { length readings.old ≡ 4 }
+    requires honest { AllByRecursion IsHonest (take copy readings.old) }
+    ensures told { D.told disk.new ≡ D.told disk.old }
+    ensures faults { D.faults disk.new ≡ D.faults disk.old }
+    ensures read { IsRead copy (D.told disk.old) readings.old readings.new }
+{
+    let (earlier, rest) = readings.split_at_mut(copy as usize);
+    read_beside(disk, copy, earlier, &mut rest[0]);
 }
 
 /// Reads all four copies.
@@ -74,9 +87,15 @@ pub fn read_all<D: SectorDisk>(disk: &mut D) -> [Reading; 4]
     ensures honest { AllByRecursion IsHonest result }
     ensures value { IfSome (D.told disk.old) (λ d. map seen result ≡ good_copies d.face) }
 {
-    let first = read_copy(disk, 0, &[]);
-    let second = read_copy(disk, 1, &[first]);
-    let third = read_copy(disk, 2, &[first, second]);
-    let fourth = read_copy(disk, 3, &[first, second, third]);
-    [first, second, third, fourth]
+    let unread = Reading {
+        bytes: [0; 10240],
+        whole: false,
+        good: false,
+    };
+    let mut readings = [unread; 4];
+    read_copy(disk, 0, &mut readings);
+    read_copy(disk, 1, &mut readings);
+    read_copy(disk, 2, &mut readings);
+    read_copy(disk, 3, &mut readings);
+    readings
 }

@@ -1,9 +1,12 @@
 //! The value that opens, mended.
-ghost use Rattle.std.specs.Prelude.{◌≡◌, ◌≤◌, map, is_ok, IfOk, IfErr};
+ghost use Rattle.std.specs.Prelude.{◌≡◌, ◌≤◌, [], Some, map, is_ok, IfOk, IfErr, IfSome};
 ghost use Rattle.std.specs.List.{AllByRecursion};
 ghost use Rattle.vr_base.specs.Causes.{HasCause, Rose};
 ghost use Rattle.vr_disk.specs.DiskState.{RunsFrom};
 ghost use Rattle.vr_super.specs.Calls.{mend_calls};
+ghost use Rattle.vr_super.specs.Copies.{Saved};
+ghost use Rattle.vr_super.specs.Laws.{MendKeeps, Mended};
+ghost use Rattle.vr_super.specs.Opens.{opens};
 ghost use Rattle.vr_super.specs.Recovers.{Chosen, RecoversFrom, verdict_of};
 ghost use Rattle.vr_super.specs.Seen.{IsHonest, seen};
 
@@ -80,6 +83,12 @@ pub fn recover<D: SectorDisk>(alloc: Global, disk: &mut D) -> Result<Super, Supe
     ensures value { RecoversFrom (D.told disk.old) (D.told disk.new) result }
     ensures later { D.faults disk.old ≤ D.faults disk.new }
     ensures fault { result ≡ Err SuperFault.DiskFault → Rose (D.faults disk.old) (D.faults disk.new) }
+
+    // A stop at any of its calls leaves a disk that opens as the same value.
+    ensures stop { IfSome (D.told disk.old) (λ d. d.face.waiting ≡ [] → (v : Saved) → opens d.face ≡ Some v → MendKeeps v d.face) }
+
+    // So does the disk as the call leaves it, whatever it answers; after an `Ok` all four copies have the value.
+    ensures left { IfSome (D.told disk.old) (λ d. d.face.waiting ≡ [] → (v : Saved) → opens d.face ≡ Some v → IfSome (D.told disk.new) (λ e. Mended v (is_ok result) e.face)) }
 {
     let readings = read_all(disk);
     match choose(alloc, &readings) {

@@ -3,7 +3,8 @@ ghost use Rattle.std.specs.Prelude.{◌≡◌, ◌≤◌, ◌<◌, [], length, I
 ghost use Rattle.vr_base.specs.Causes.{HasCause};
 ghost use Rattle.vr_disk.specs.DiskState.{Runs, RunsFrom};
 ghost use Rattle.vr_super.specs.Calls.{mend_from, save_from, write_calls};
-ghost use Rattle.vr_super.specs.Laws.{WriteLeads};
+ghost use Rattle.vr_super.specs.Copies.{IsGood};
+ghost use Rattle.vr_super.specs.Laws.{WriteLeads, Written};
 ghost use Rattle.vr_super.specs.Opens.{opens};
 
 use crate::sectors::{mend_unless, write_copy};
@@ -35,12 +36,13 @@ fn save<D: SectorDisk>(disk: &mut D, bytes: &[u8]) -> Result<(), DiskFailed>
     Ok(())
 }
 
-#[tactic(auto, using(std::proofs::lemmas::Grind::common_steps, crate::proofs::Steps::write_then, crate::proofs::Steps::write_stopped, crate::proofs::Steps::leads))]
 // Mends the old value, then writes the new one to all four copies.
+#[tactic(auto, using(std::proofs::lemmas::Grind::common_steps, crate::proofs::Steps::write_then, crate::proofs::Steps::write_stopped, crate::proofs::Steps::leads))]
 fn write_value<D: SectorDisk>(disk: &mut D, old: &Super, new: &Super) -> Result<(), DiskFailed>
     ensures runs { RunsFrom (write_calls old.now new.now) (D.told disk.old) (D.told disk.new) (is_ok result) }
     ensures cause { HasCause (D.faults disk.old) (D.faults disk.new) result }
     ensures stop { IfSome (D.told disk.old) (λ d. d.face.waiting ≡ [] → opens d.face ≡ Some old.now → WriteLeads old.now new.now d.face) }
+    ensures good { IsGood new.now }
 {
     let bytes = new.bytes();
     mend(disk, old.bytes())?;
@@ -56,6 +58,9 @@ pub fn write<D: SectorDisk>(disk: &mut D, old: &Super, new: &Super) -> Result<()
 
     // A stop at any of these calls leaves a disk that opens as the old value or as the new one.
     ensures stop { IfSome (D.told disk.old) (λ d. d.face.waiting ≡ [] → opens d.face ≡ Some old.now → WriteLeads old.now new.now d.face) }
+
+    // So does the disk as the call leaves it, which after an `Ok` opens as the new value.
+    ensures left { IfSome (D.told disk.old) (λ d. d.face.waiting ≡ [] → opens d.face ≡ Some old.now → IfSome (D.told disk.new) (λ e. Written old.now new.now (is_ok result) e.face)) }
 {
     match write_value(disk, old, new) {
         Ok(()) => Ok(()),

@@ -9,7 +9,7 @@ use Rattle.vr_super.proofs.opening.best_of.Goals as goal
 
 -- what a look-up past the end gives
 abbrev none : Reading
-none = record { bytes = []; good = false }
+none = record { bytes = []; whole = false; good = false }
 
 pub loop-r-preserved : goal.loop-r-preserved
 loop-r-preserved c =

@@ -1,6 +1,6 @@
-use Rattle.std.specs.Prelude.{map}
+use Rattle.std.specs.Prelude.{map, Err}
 use Rattle.vr_super.specs.Seen.{seen}
-use Rattle.vr_super.proofs.Choice.{mended_from, stops_from}
+use Rattle.vr_super.proofs.Choice.{left_by, mended_from, mends, stops_from}
 use Rattle.vr_super.proofs.recovering.recover.Goals as goal
 
 pub returns-in-Ok-clause-value : goal.returns-in-Ok-clause-value
@@ -12,3 +12,15 @@ pub returns-in-Err-clause-value : goal.returns-in-Err-clause-value
 returns-in-Err-clause-value g c =
     stops_from (g.D.SectorDisk.told c.args.disk.now) (g.D.SectorDisk.told c.read_all-readings.new.disk) (map seen c.read_all-readings.result) c.in-Err.fault
     c.read_all-readings.ensures.value c.read_all-readings.ensures.told c.in-Err.ensures
+
+pub returns-in-Ok-clause-stop : goal.returns-in-Ok-clause-stop
+returns-in-Ok-clause-stop g c = mends (g.D.SectorDisk.told c.args.disk.now) (g.met.D.SectorDisk.whole c.args.disk.now)
+
+pub returns-in-Err-clause-stop : goal.returns-in-Err-clause-stop
+returns-in-Err-clause-stop g c = mends (g.D.SectorDisk.told c.args.disk.now) (g.met.D.SectorDisk.whole c.args.disk.now)
+
+pub returns-in-Ok-clause-left : goal.returns-in-Ok-clause-left
+returns-in-Ok-clause-left g c = left_by (g.D.SectorDisk.told c.args.disk.now) (g.D.SectorDisk.told c.mended.new.disk) c.mended.result (g.met.D.SectorDisk.whole c.args.disk.now) (returns-in-Ok-clause-value g c)
+
+pub returns-in-Err-clause-left : goal.returns-in-Err-clause-left
+returns-in-Err-clause-left g c = left_by (g.D.SectorDisk.told c.args.disk.now) _ (Err c.in-Err.fault) (g.met.D.SectorDisk.whole c.args.disk.now) (returns-in-Err-clause-value g c)

@@ -1,9 +1,15 @@
-use Rattle.std.proofs.Common.{◌≡◌, arith, drop, List, ℕ, Some}
+use Rattle.std.proofs.Common.{◌≡◌, ◌∙◌, ◌*◌, ap, arith, drop, List, ℕ, Some}
 use Rattle.vr_header.specs.declared.header.Header.{Header}
+use Rattle.vr_header.specs.Spelling.{fault_of}
 use Rattle.vr_super.specs.declared.fields.Fields.{Fields}
 use Rattle.vr_super.specs.Copies.{count_at, list_at}
-use Rattle.vr_super.proofs.Heads.{read_is, value_is}
+use Rattle.vr_super.proofs.Heads.{read_is, spelled_at, value_is}
 use Rattle.vr_super.proofs.value.Super.read.Goals as goal
+
+pub read_list-requires-clause-spelled : goal.read_list-requires-clause-spelled
+read_list-requires-clause-spelled c i l =
+    let b = c.args.bytes.now in
+    ap (λ t. fault_of (drop (128 * i) t)) c.split_at.ensures.back ∙ spelled_at b i c.requires.good (let e = c.few_at-count.ensures.count in omega arith)
 
 pub invariant_of-result : goal.invariant_of-result
 invariant_of-result c =
