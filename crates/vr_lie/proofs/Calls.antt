@@ -84,7 +84,7 @@ no_entry header p e =
     let x : None ≡ Some p = sym (ap (λ b. cond b (Some four) None) n) ∙ e in
     absurd cc
 
-empty_at : (n slot : ℕ) → held_at (table_of (replicate n None)) slot ≡ None
+pub empty_at : (n slot : ℕ) → held_at (table_of (replicate n None)) slot ≡ None
 empty_at zero s = refl
 empty_at (suc n) zero = refl
 empty_at (suc n) (suc s) = empty_at n s

@@ -8,10 +8,10 @@ use Rattle.vr_disk.specs.Regions.{header_at, prepare_at}
 use Rattle.vr_disk.proofs.Frames.{reads_other}
 use Rattle.vr_mem.specs.Lies.{digit_at}
 use Rattle.vr_lie.specs.declared.table.Prepare.{Prepare}
-use Rattle.vr_lie.specs.Faults.{HeldLooked, held_at}
+use Rattle.vr_lie.specs.Faults.{HeldAfter, HeldLooked, held_at}
 use Rattle.vr_rings.specs.Held.{entry_read, found, held_after, held_begun, held_cut_at, is_part, keeps, kept, looked}
 use Rattle.vr_rings.specs.Held as held
-use Rattle.vr_lie.specs.Table.{HeldAfter, HeldBegun, HeldCut, IsTable, held_of, slot_at, table_of}
+use Rattle.vr_lie.specs.Table.{HeldBegun, HeldCut, IsTable, held_of, slot_at, table_of}
 use Rattle.vr_lie.proofs.Slotted.{SameSlot, header_slot, part_slot, same_entry, same_slot}
 
 pub at_table : (held : List (Option Prepare)) (slot : ℕ) → slot < length held → held_at (table_of held) slot ≡ held_of (get_or held slot None)

@@ -5,7 +5,7 @@ use Rattle.vr_mem.specs.Lies.{lied}
 use Rattle.vr_super.specs.Opens.{opens}
 use Rattle.vr_lie.specs.declared.fault.Fault.{Fault}
 use Rattle.vr_lie.specs.declared.fault.Fault.TheVariants.{Damage, Stale, Unread, Misdirect}
-use Rattle.vr_rings.specs.Held.{Stands, entry_read, held_after, held_cut_at, header_sector, is_header_sector, looked}
+use Rattle.vr_rings.specs.Held.{held_after, held_cut_at, header_sector, is_header_sector, looked}
 use Rattle.vr_rings.specs.Slots.{header_reading, prepare_reading}
 
 -- ---- faults
@@ -38,6 +38,10 @@ held_as f c (Cuts code) slot held = held_cut_at code f c slot held
 pub record HeldRan (d : Disk) (c : Call) (old new : List (Option (List ℕ))) : Type 0 where
   pub each : (slot : ℕ) → slot < 64 → held_at new slot ≡ held_as d.face c (judged d.fate).verdict slot (held_at old slot)
 
+-- each slot, after a call that goes through
+pub record HeldAfter (f : Face) (c : Call) (old new : List (Option (List ℕ))) : Type 0 where
+  pub each : (slot : ℕ) → slot < 64 → held_at new slot ≡ held_after f c slot (held_at old slot)
+
 -- each slot, once readings have changed
 pub record HeldLooked (f : Face) (old new : List (Option (List ℕ))) : Type 0 where
   pub each : (slot : ℕ) → slot < 64 → held_at new slot ≡ looked f slot (held_at old slot)
@@ -52,9 +56,3 @@ pub record Holds (f : Face) (slot : ℕ) (held : Option (List ℕ)) : Type 0 whe
 pub record KeepsPremise (f g : Face) (held : List (Option (List ℕ))) : Type 0 where
   pub opens : opens g ≡ opens f
   pub slots : (slot : ℕ) → slot < 64 → Holds f slot (held_at held slot) → Holds g slot (held_at held slot)
-
--- so what stood of the slots stands, with what they hold then
-abbrev pub PremiseStays : Type 0
-PremiseStays =
-    (f g : Face) (old new : List (Option (List ℕ))) → KeepsPremise f g old → HeldLooked g old new
-    → (slot : ℕ) → slot < 64 → Stands f slot (held_at old slot) → Stands g slot (held_at new slot)

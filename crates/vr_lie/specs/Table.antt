@@ -8,7 +8,7 @@ use Rattle.vr_mem.specs.Seen.{reads_of}
 use Rattle.vr_lie.specs.declared.table.Prepare.{Prepare}
 use Rattle.vr_lie.specs.declared.trial.Lie.{Lie}
 use Rattle.vr_lie.specs.Faults.{Holds, held_at}
-use Rattle.vr_rings.specs.Held.{entry_read, held_after, held_begun, held_cut_at, looked, header_sector, is_header_sector}
+use Rattle.vr_rings.specs.Held.{entry_read, held_begun, held_cut_at, looked, header_sector, is_header_sector}
 use Rattle.vr_rings.specs.Slots.{header_reading, prepare_reading}
 
 abbrev pub held_of : Option Prepare → Option (List ℕ)
@@ -42,10 +42,7 @@ both f a b = shown (shown f a) b
 unfoldable pub slot_at : ℕ → Option ℕ
 slot_at i = if nat_lt i 80 then None else (if nat_lt i 144 then Some (i - 80) else (if nat_lt i 400 then Some ((i - 144) / 4) else None))
 
--- each slot, after a call that goes through, or where a write is begun, or after a call that is cut
-pub record HeldAfter (f : Face) (c : Call) (old new : List (Option (List ℕ))) : Type 0 where
-  pub each : (slot : ℕ) → slot < 64 → held_at new slot ≡ held_after f c slot (held_at old slot)
-
+-- each slot, where a write is begun, or after a call that is cut
 pub record HeldBegun (code : ℕ) (f : Face) (c : Call) (old new : List (Option (List ℕ))) : Type 0 where
   pub count : length new ≡ 64
   pub each : (slot : ℕ) → slot < 64 → held_at new slot ≡ held_begun code f c slot (held_at old slot)

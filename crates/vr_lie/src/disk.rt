@@ -5,6 +5,7 @@ ghost use Rattle.vr_disk.specs.DiskState.{Attaches, Runs, Sync, Write, reads};
 ghost use Rattle.vr_mem.specs.Cells.{disk_of};
 ghost use Rattle.vr_mem.specs.Seen.{copies, zero_cell};
 ghost use Rattle.vr_lie.specs.Faults.{HeldLooked, HeldRan, IsFault, KeepsPremise, faulted};
+ghost use Rattle.vr_super.specs.Opens.{opens};
 ghost use Rattle.vr_lie.specs.Table.{IsTable, table_of};
 
 use crate::table::{Prepare, cut_put, cut_sync, put};
@@ -33,6 +34,7 @@ fn no_entries(alloc: Global) -> Result<Vec<Option<Prepare>>, NoMemory>
 }
 
 impl LieDisk {
+    ghost use Rattle.vr_lie.specs.Laws.{AllStand};
     ghost use Rattle.vr_lie.specs.Told.{held_by, told_by};
 
     /// A disk of zeros, of which no call is to fail and no slot holds an entry. All its memory is taken here.
@@ -40,6 +42,7 @@ impl LieDisk {
         ensures face { IfOk result (λ m. (told_by m).face ≡ record { cells = copies 1424 zero_cell; waiting = [] }) }
         ensures fate { IfOk result (λ m. (told_by m).fate ≡ record { fuse = None; made = 0; failing = []; dead = false }) }
         ensures held { IfOk result (λ m. held_by m ≡ replicate 64 None) }
+        ensures premise { IfOk result (λ m. AllStand (told_by m).face (held_by m)) }
         ensures faults { IfOk result (λ m. m.disk.faults ≡ 0) }
         ensures read_faults { IfOk result (λ m. m.read_faults ≡ 0) }
     {
@@ -95,6 +98,8 @@ impl LieDisk {
         ensures exact { result ≡ Faulted.Done ↔ KeepsPremise (told_by self.old).face (faulted (told_by self.old).face fault.now) (held_by self.old) }
         ensures done { result ≡ Faulted.Done → told_by self.new ≡ record (told_by self.old) { face = faulted (told_by self.old).face fault.now } }
         ensures held { result ≡ Faulted.Done → HeldLooked (faulted (told_by self.old).face fault.now) (held_by self.old) (held_by self.new) }
+        ensures premise { AllStand (told_by self.old).face (held_by self.old) → AllStand (told_by self.new).face (held_by self.new) }
+        ensures opens { opens (told_by self.new).face ≡ opens (told_by self.old).face }
         ensures kept_out { result ≡ Faulted.KeptOut → (told_by self.new ≡ told_by self.old) × (held_by self.new ≡ held_by self.old) }
         ensures faults { self.new.disk.faults ≡ self.old.disk.faults }
         ensures read_faults { self.new.read_faults ≡ self.old.read_faults }

@@ -3,9 +3,14 @@
 
 mod disk;
 mod fault;
+mod laws;
 mod reading;
 mod table;
 mod trial;
 
 pub use disk::LieDisk;
 pub use fault::{Fault, Faulted};
+pub use laws::lie_laws;
+
+#[cfg(test)]
+mod tests;
