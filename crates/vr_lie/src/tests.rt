@@ -2,8 +2,9 @@
 ghost use Rattle.std.specs.Prelude.{◌<◌};
 
 use crate::{Fault, Faulted, LieDisk};
+use std::alloc::Global;
 use std::test::Fail;
-use vr_base::{Seq, Sum};
+use vr_base::{NoMemory, Seq, Sum};
 use vr_disk::{DiskFailed, Sector, SectorDisk};
 use vr_header::{Command, Entry, Header, Operation};
 use vr_rings::{write_header, write_new};
@@ -24,9 +25,8 @@ fn reserved() -> Header {
     }
 }
 
-// A disk with a superblock of four good copies, and an entry in slot 1.
-fn written(rt: &HostRuntime) -> Result<LieDisk, Fail> {
-    let mut disk = LieDisk::new(rt.alloc()).map_err(|_| "no memory")?;
+// The superblock's value of a new member.
+fn value(alloc: Global) -> Result<Super, NoMemory> {
     let fields = Fields {
         sequence: 1,
         cluster: 0,
@@ -40,7 +40,13 @@ fn written(rt: &HostRuntime) -> Result<LieDisk, Fail> {
         replica: 1,
         n: 2,
     };
-    let value = Super::new(rt.alloc(), fields, Seq::new(rt.alloc())).map_err(|_| "no memory")?;
+    Super::new(alloc, fields, Seq::new(alloc))
+}
+
+// A disk with a superblock of four good copies, and an entry in slot 1.
+fn written(rt: &HostRuntime) -> Result<LieDisk, Fail> {
+    let mut disk = LieDisk::new(rt.alloc()).map_err(|_| "no memory")?;
+    let value = value(rt.alloc()).map_err(|_| "no memory")?;
     write(&mut disk, &value, &value).map_err(|_| "a write failed")?;
     write_header(&mut disk, &reserved()).map_err(|_| "a write failed")?;
     write_new(&mut disk, &entry()).map_err(|_| "a write failed")?;

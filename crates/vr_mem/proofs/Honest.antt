@@ -1,9 +1,9 @@
 -- An honest disk stays honest under its calls.
-use Rattle.std.proofs.Common.{ℕ, ◌/◌, ◌%◌, ◌<◌, ◌≡◌, refl, sym, ap, ◌∙◌, arith, eqb, Bool, true, false, List, [], ◌∷◌, ◌++◌, length, get_or, set, Some, None, Option, subst, cond}
+use Rattle.std.proofs.Common.{ℕ, ◌/◌, ◌%◌, ◌<◌, ◌≡◌, refl, sym, ◌∙◌, arith, eqb, Bool, true, false, List, [], ◌∷◌, ◌++◌, length, get_or, set, Some, subst, cond}
 use Rattle.std.specs.List.{All, AllByRecursion}
 use Rattle.std.proofs.lemmas.Bool.{cond_both}
 use Rattle.std.proofs.lemmas.List.Elements.{All-set, All-push, recursion_from_All, All-replicate}
-use Rattle.vr_disk.specs.DiskState.{Call, Write, Sync, Cell, Disk, Face, Fate, Verdict, Goes, Fails, Cuts, Waiting, Runs, Attaches, after, attached, attached_as, begun, blank, cell, cut_at, is_to_fail, judged, ran, ran_as, runs, settle, settled, settled_cell, waits, written}
+use Rattle.vr_disk.specs.DiskState.{Call, Write, Sync, Cell, Disk, Face, Fate, Verdict, Goes, Fails, Cuts, Waiting, Runs, Attaches, after, attached, attached_as, begun, blank, cell, is_to_fail, judged, ran, ran_as, runs, settle, settled, settled_cell, waits, written}
 use Rattle.std.specs.Prelude.{◌||◌}
 use Rattle.vr_mem.specs.Honesty.{IsHonest}
 use Rattle.vr_mem.specs.Seen.{copies, zero_cell}

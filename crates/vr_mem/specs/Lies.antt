@@ -1,5 +1,5 @@
 -- Sectors that read as something else than they should hold.
-use Rattle.std.specs.Prelude.{ℕ, zero, ◌%◌, ◌/◌, ◌==◌, if◌then◌else◌, List, [], ◌∷◌, Option, slice_set}
+use Rattle.std.specs.Prelude.{ℕ, ◌%◌, ◌/◌, ◌==◌, if◌then◌else◌, List, [], ◌∷◌, Option, slice_set}
 use Rattle.vr_disk.specs.DiskState.{Face, Waiting, cell}
 
 -- a sector reads as this from now on; what it should hold stays

@@ -1,7 +1,7 @@
-use Rattle.std.proofs.Common.{◌<◌, ◌≡◌, ◌∙◌, arith, ap, length, refl, subst, None, Some}
+use Rattle.std.proofs.Common.{◌<◌, arith, length, refl, None}
 use Rattle.std.specs.Prelude.{map}
 use Rattle.std.proofs.lemmas.List.{length-map}
-use Rattle.vr_disk.specs.DiskState.{IsContent, blank}
+use Rattle.vr_disk.specs.DiskState.{blank}
 use Rattle.vr_mem.specs.declared.cells.MemCell.{MemCell}
 use Rattle.vr_mem.specs.Seen.{cell_of, waiting_of}
 use Rattle.vr_mem.proofs.Settling.{lied_cells, lied_is}

@@ -1,4 +1,4 @@
-use Rattle.std.proofs.Common.{◌<◌, ◌≡◌, ◌∙◌, arith, ap, length, refl, subst, None, Some}
+use Rattle.std.proofs.Common.{◌<◌, ◌≡◌, arith, ap, length, refl, subst, Some}
 use Rattle.std.specs.Prelude.{map}
 use Rattle.std.proofs.lemmas.List.{length-map}
 use Rattle.vr_disk.specs.DiskState.{IsContent, blank}
