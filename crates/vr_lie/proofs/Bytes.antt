@@ -1,5 +1,5 @@
 -- The header sector of an entry, made.
-use Rattle.std.proofs.Common.{ℕ, ◌+◌, ◌≡◌, ap, sym, ◌∙◌, List, [], ◌++◌, length, take, drop, take-append-drop}
+use Rattle.std.proofs.Common.{ℕ, ◌≡◌, ap, sym, ◌∙◌, List, ◌++◌, take, drop, take-append-drop}
 
 pub sector_made : (n : ℕ) (out header prepare zeros : List ℕ) → n ≡ 128 → take n out ≡ header → drop n out ≡ drop n zeros → header ≡ take 128 prepare → out ≡ take 128 prepare ++ drop 128 zeros
 sector_made n out header prepare zeros l t d h =

@@ -1,20 +1,20 @@
 -- Calls by what becomes of them, and the table that they leave.
 use Rattle.std.proofs.Common.{ℕ, zero, suc, ◌+◌, ◌<◌, ◌≤◌, ◌≡◌, refl, sym, ap, ◌∙◌, arith, Bool, true, false, cond, ◌||◌, ◌&&◌, List, [], ◌∷◌, ◌++◌, length, get_or, Option, Some, None, subst}
-use Rattle.std.specs.Prelude.{map, replicate, is_some}
+use Rattle.std.specs.Prelude.{replicate}
 use Rattle.std.proofs.lemmas.List.{get_or-replicate}
-use Rattle.vr_base.specs.Bytes.{number, piece}
-use Rattle.vr_disk.specs.DiskState.{Call, Write, Sync, Cell, Disk, Face, Goes, Fails, Cuts, Runs, Attaches, after, attached, attached_as, blank, cell, cut_at, is_to_fail, judged, reads}
-use Rattle.vr_disk.specs.Regions.{header_at, prepare_at}
-use Rattle.vr_disk.specs.Sectors.{behind, has, together}
+use Rattle.vr_base.specs.Bytes.{number}
+use Rattle.vr_disk.specs.DiskState.{Call, Sync, Cell, Disk, Face, Goes, Fails, Cuts, Runs, Attaches, after, attached, attached_as, blank, cut_at, is_to_fail, judged, reads}
+use Rattle.vr_disk.specs.Regions.{prepare_at}
+use Rattle.vr_disk.specs.Sectors.{has, together}
 use Rattle.vr_disk.proofs.Running.{one_cuts, one_fails, one_goes}
 use Rattle.vr_header.specs.Made.{entry_of}
-use Rattle.vr_header.specs.Spelling.{decoded, fault_of}
+use Rattle.vr_header.specs.Spelling.{fault_of}
 use Rattle.vr_mem.specs.Seen.{copies, zero_cell}
 use Rattle.vr_lie.specs.declared.table.Prepare.{Prepare}
 use Rattle.vr_lie.specs.Faults.{HeldRan, held_at}
-use Rattle.vr_rings.specs.Held.{entry_of_both, entry_read, header_sector, held_after, is_prepare}
-use Rattle.vr_rings.specs.Slots.{header_reading, prepare_reading, size_at, whole_of}
-use Rattle.vr_lie.specs.Table.{IsTable, slot_at, table_of}
+use Rattle.vr_rings.specs.Held.{entry_of_both, header_sector, held_after, is_prepare}
+use Rattle.vr_rings.specs.Slots.{header_reading, size_at, whole_of}
+use Rattle.vr_lie.specs.Table.{IsTable, table_of}
 use Rattle.vr_lie.proofs.Slotted.{same_entry, same_slot}
 
 pub goes_told : (d e g : Disk) (c : Call) → Goes ≡ (judged d.fate).verdict → e ≡ record d { fate = (judged d.fate).next } → g ≡ record e { face = after e.face c } → Runs (c ∷ []) (Some d) (Some g) true
@@ -98,7 +98,7 @@ new_table f held e h =
     let t : IsTable f (table_of (replicate 64 None)) = record {
       count = empty_count 64;
       seen = λ s l p x.
-        let w = zeros_whole f (prepare_at s) e (omega arith) in
-        absurd (no_entry (header_reading f s) p (sym (ap (entry_of_both (header_reading f s)) w) ∙ x));
+          let w = zeros_whole f (prepare_at s) e (omega arith) in
+          absurd (no_entry (header_reading f s) p (sym (ap (entry_of_both (header_reading f s)) w) ∙ x));
     } in
     subst (λ (held : List (Option Prepare)). IsTable f (table_of held)) (sym h) t

@@ -1,5 +1,5 @@
 -- Sectors that read as something else, and as before again.
-use Rattle.std.proofs.Common.{ℕ, zero, suc, ◌<◌, ◌≡◌, ◌≢◌, refl, sym, ap, ◌∙◌, List, [], ◌∷◌, length, get_or, set, length-set, Option, Some, None, get_or-set_other, get_or-set_same, inl, inr}
+use Rattle.std.proofs.Common.{ℕ, zero, suc, ◌<◌, ◌≡◌, ◌≢◌, refl, sym, ap, ◌∙◌, List, [], ◌∷◌, length, get_or, set, length-set, Option, get_or-set_other, get_or-set_same, inl, inr}
 use Rattle.std.proofs.lemmas.Bool.{cases_eq}
 use Rattle.std.proofs.lemmas.List.{set-get_or, set_comm}
 use Rattle.vr_disk.specs.DiskState.{Cell, Face, blank, cell, reads}
@@ -56,12 +56,12 @@ undone_at f i k r s back was l m b w =
     let g = lied f i r in
     let once : lied (lied g k s) k back ≡ lied g k back = lied_again g k s back (rw (cells_lied f i r) m) in
     let rest : lied (lied g k back) i was ≡ f =
-        elim (cases_eq i k) [
-          | inl e ↦
-              let same : lied g k back ≡ lied f k back = ap (λ n. lied (lied f n r) k back) e ∙ lied_again f k r back m in
-              ap (λ h. lied h i was) (same ∙ b) ∙ w
-          | inr d ↦ ap (λ h. lied h i was) (lied_swap f i k r back d ∙ ap (λ h. lied h i r) b) ∙ (lied_again f i r was l ∙ w)
-        ] in
+    elim (cases_eq i k) [
+      | inl e ↦
+          let same : lied g k back ≡ lied f k back = ap (λ n. lied (lied f n r) k back) e ∙ lied_again f k r back m in
+          ap (λ h. lied h i was) (same ∙ b) ∙ w
+      | inr d ↦ ap (λ h. lied h i was) (lied_swap f i k r back d ∙ ap (λ h. lied h i r) b) ∙ (lied_again f i r was l ∙ w)
+    ] in
     ap (λ h. lied h i was) once ∙ rest
 
 pub undone : (f : Face) (a b was back : Lie) → a.at < length f.cells → b.at < length f.cells → was.at ≡ a.at → back.at ≡ b.at → shown f was ≡ f → shown f back ≡ f → both (both f a b) back was ≡ f

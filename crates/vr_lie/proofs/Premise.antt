@@ -1,26 +1,23 @@
 -- Nothing that happens to a disk breaks the premise of its slots.
-use Rattle.std.proofs.Common.{ℕ, ◌<◌, ◌≡◌, ◌≢◌, refl, sym, ap, ◌∙◌, arith, List, [], ◌∷◌, length, Option, Some, None, inl, inr, subst}
-use Rattle.std.specs.Prelude.{true, replicate}
-use Rattle.vr_disk.specs.DiskState.{Call, Disk, Face, IsFace, after}
-use Rattle.vr_rings.specs.Held.{Stands, entry_read, header_sector, held_after, held_cut, is_header_sector, looked}
+use Rattle.std.proofs.Common.{ℕ, ◌<◌, ◌≡◌, sym, ap, ◌∙◌, List, [], ◌∷◌, Option, Some, None, inl, inr, subst}
+use Rattle.vr_disk.specs.DiskState.{Disk, Face, IsFace}
+use Rattle.vr_rings.specs.Held.{Stands, header_sector, held_after, held_cut, looked}
 use Rattle.vr_rings.specs.Slots.{header_reading, prepare_reading}
-use Rattle.vr_rings.specs.Laws.{KeepsSlots}
 use Rattle.vr_rings.proofs.Standing.{both_is, call_stands, look_cases, look_seen}
-use Rattle.vr_lie.specs.declared.fault.Fault.{Fault}
 use Rattle.vr_lie.specs.declared.trial.Lie.{Lie}
-use Rattle.vr_lie.specs.Faults.{HeldAfter, HeldLooked, Holds, KeepsPremise, faulted, held_at}
-use Rattle.vr_lie.specs.Laws.{AllStand, Come, Comes, Goes, Happening, HeldStopped, Lies, PremiseStays, Stops}
+use Rattle.vr_lie.specs.Faults.{HeldLooked, Holds, KeepsPremise, held_at}
+use Rattle.vr_lie.specs.Laws.{AllStand, Comes, Goes, Happening, Lies, PremiseStays, Stops}
 use Rattle.vr_lie.specs.Table.{IsTable, both}
 
 held_stands : (f g : Face) (slot : ℕ) (held : Option (List ℕ)) → (Holds f slot held → Holds g slot held) → Stands f slot held → Stands g slot (looked g slot held)
 held_stands f g s held k h = record {
   seen = λ p e. look_seen g s held p e;
   prepare = λ p x e r v d.
-    let was : Holds f s held = record { prepare = h.prepare } in
-    elim (look_cases g s held p e) [
-      | inl y ↦ let b = both_is (header_reading g s) (prepare_reading g s) p y in let same : Some x ≡ Some (header_sector p) = sym r ∙ b.0 in absurd (d cc)
-      | inr y ↦ (k was).prepare p x y r v d
-    ];
+      let was : Holds f s held = record { prepare = h.prepare } in
+      elim (look_cases g s held p e) [
+        | inl y ↦ let b = both_is (header_reading g s) (prepare_reading g s) p y in let same : Some x ≡ Some (header_sector p) = sym r ∙ b.0 in absurd (d cc)
+        | inr y ↦ (k was).prepare p x y r v d
+      ];
 }
 
 pub fault_stands : (f g : Face) (old new : List (Option (List ℕ))) → KeepsPremise f g old → HeldLooked g old new → AllStand f old → AllStand g new

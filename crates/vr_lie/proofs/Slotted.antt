@@ -1,15 +1,15 @@
 -- Slots whose sectors aren't touched, and the premise as a test.
-use Rattle.std.proofs.Common.{ℕ, zero, suc, ◌+◌, ◌-◌, ◌*◌, ◌/◌, ◌<◌, ◌≤◌, ◌≡◌, ◌≢◌, refl, sym, ap, ◌∙◌, arith, Bool, true, false, cond, ◌&&◌, ◌||◌, not, List, [], ◌∷◌, length, get_or, Option, Some, None, inl, inr}
-use Rattle.std.specs.Prelude.{is_some, nat_eq, nat_lt}
+use Rattle.std.proofs.Common.{ℕ, ◌+◌, ◌<◌, ◌≤◌, ◌≡◌, ◌≢◌, refl, sym, ap, ◌∙◌, arith, true, false, ◌&&◌, ◌||◌, not, List, Option, Some, None}
+use Rattle.std.specs.Prelude.{nat_eq}
 use Rattle.std.specs.Cmp.Lexicographic.{pointwise}
-use Rattle.std.proofs.lemmas.Bool.{and_parts, cases_lt, lt-ltb, le-ltb, not-true}
+use Rattle.std.proofs.lemmas.Bool.{lt-ltb, le-ltb}
 use Rattle.std.proofs.lemmas.Slice.Eq.{bytes_eq-Decides}
 use Rattle.vr_disk.specs.DiskState.{Face, reads}
 use Rattle.vr_disk.specs.Regions.{header_at, prepare_at}
-use Rattle.vr_disk.specs.Sectors.{has, together}
+use Rattle.vr_disk.specs.Sectors.{has}
 use Rattle.vr_disk.proofs.Together.{has_is, is_has, together_same}
 use Rattle.vr_lie.specs.Faults.{Holds}
-use Rattle.vr_rings.specs.Held.{entry_of_both, entry_read, header_sector, is_header_sector}
+use Rattle.vr_rings.specs.Held.{entry_read, header_sector, is_header_sector}
 use Rattle.vr_rings.specs.Slots.{header_reading, prepare_reading}
 use Rattle.vr_lie.specs.Table.{holds, is_other, slot_at}
 

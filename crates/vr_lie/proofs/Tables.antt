@@ -1,9 +1,9 @@
 -- What the slots hold, by the table of the code.
-use Rattle.std.proofs.Common.{ℕ, zero, suc, ◌+◌, ◌/◌, ◌%◌, ◌<◌, ◌≤◌, ◌≡◌, ◌≢◌, refl, sym, ap, ◌∙◌, arith, Bool, true, false, cond, eqb, List, [], ◌∷◌, length, get_or, set, length-set, Option, Some, None, get_or-set_other, get_or-set_same, inl, inr, ◌⊎◌, subst}
-use Rattle.std.specs.Prelude.{map, nat_le, nat_lt, ◌&&◌}
+use Rattle.std.proofs.Common.{ℕ, ◌+◌, ◌/◌, ◌%◌, ◌<◌, ◌≤◌, ◌≡◌, ◌≢◌, refl, sym, ap, ◌∙◌, arith, true, false, cond, eqb, List, [], ◌∷◌, length, get_or, set, length-set, Option, Some, None, get_or-set_other, get_or-set_same, inl, inr}
+use Rattle.std.specs.Prelude.{nat_le, nat_lt}
 use Rattle.std.proofs.lemmas.Bool.{cases_eq, cond_both, eq-eqb, ne_eqb, and_parts, leb-true, ltb-true}
-use Rattle.std.proofs.lemmas.List.{get_or-map, map-set, length-map}
-use Rattle.vr_disk.specs.DiskState.{Face, Call, Write, Sync, Waiting, after, cut_at, reads, settle}
+use Rattle.std.proofs.lemmas.List.{get_or-map, map-set}
+use Rattle.vr_disk.specs.DiskState.{Face, Write, Sync, Waiting, after, settle}
 use Rattle.vr_disk.specs.Regions.{header_at, prepare_at}
 use Rattle.vr_disk.proofs.Frames.{reads_other}
 use Rattle.vr_mem.specs.Lies.{digit_at}
@@ -101,7 +101,7 @@ none_slot i s e = λ z. absurd cc
 pub put_some : (f : Face) (i slot : ℕ) (b : List ℕ) (old new : List (Option (List ℕ))) → IsTable f old → slot_at i ≡ Some slot → slot < 64 → new ≡ set old slot (held_after f (Write i b) slot (held_at old slot)) → HeldAfter f (Write i b) old new
 put_some f i slot b old new t e l n =
     let each = set_each old slot (held_after f (Write i b) slot (held_at old slot)) (λ s. held_after f (Write i b) s (held_at old s)) (let c = t.count in omega arith) refl
-        (λ s m d. sym (untouched f old s i b m t (other_slot i s slot e d))) in
+    (λ s m d. sym (untouched f old s i b m t (other_slot i s slot e d))) in
     record { each = λ s m. ap (λ x. held_at x s) n ∙ each s m }
 
 pub put_none : (f : Face) (i : ℕ) (b : List ℕ) (old : List (Option (List ℕ))) → IsTable f old → slot_at i ≡ None → HeldAfter f (Write i b) old old
@@ -114,7 +114,7 @@ pub begun_some : (code : ℕ) (f : Face) (i slot : ℕ) (b : List ℕ) (old new 
 begun_some code f i slot b old new t e l n =
     let v = held_begun code f (Write i b) slot (held_at old slot) in
     let each = set_each old slot v (λ s. held_begun code f (Write i b) s (held_at old s)) (let c = t.count in omega arith) refl
-        (λ s m d. sym (begun_apart code f old s i b m t (other_slot i s slot e d))) in
+    (λ s m d. sym (begun_apart code f old s i b m t (other_slot i s slot e d))) in
     record { count = ap length n ∙ (length-set old slot v ∙ t.count); each = λ s m. ap (λ x. held_at x s) n ∙ each s m }
 
 pub begun_none : (code : ℕ) (f : Face) (i : ℕ) (b : List ℕ) (old : List (Option (List ℕ))) → IsTable f old → slot_at i ≡ None → HeldBegun code f (Write i b) old old

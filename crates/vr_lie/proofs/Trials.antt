@@ -1,8 +1,8 @@
 -- Faults tried, and undone.
-use Rattle.std.proofs.Common.{ℕ, ◌-◌, ◌/◌, ◌<◌, ◌≤◌, ◌≡◌, ◌≢◌, refl, sym, ap, ◌∙◌, arith, Bool, true, false, cond, not, ◌||◌, List, [], ◌∷◌, length, get_or, set, length-set, Option, Some, None, get_or-set_other, get_or-set_same, inl, inr, ◌⊎◌, subst}
-use Rattle.std.specs.Prelude.{IsTrue, nat_lt}
+use Rattle.std.proofs.Common.{ℕ, ◌-◌, ◌/◌, ◌<◌, ◌≤◌, ◌≡◌, ◌≢◌, refl, sym, ap, ◌∙◌, arith, Bool, true, false, not, ◌||◌, List, length, set, length-set, Option, Some, None, get_or-set_other, get_or-set_same, inl, inr, ◌⊎◌, subst}
+use Rattle.std.specs.Prelude.{IsTrue}
 use Rattle.std.proofs.lemmas.Bool.{cases_eq, cases_lt, lt-ltb, le-ltb}
-use Rattle.vr_disk.specs.DiskState.{Disk, Face, IsFace, reads}
+use Rattle.vr_disk.specs.DiskState.{Disk, Face, IsFace}
 use Rattle.vr_super.specs.Opens.{good_copies, opened, opens}
 use Rattle.vr_mem.specs.Lies.{lied}
 use Rattle.vr_mem.specs.Seen.{reads_of}
@@ -10,12 +10,12 @@ use Rattle.vr_lie.specs.declared.fault.Fault.{Fault}
 use Rattle.vr_lie.specs.declared.fault.Fault.TheVariants.{Damage, Stale, Unread}
 use Rattle.vr_lie.specs.declared.trial.Lie.{Lie}
 use Rattle.vr_lie.specs.Faults.{HeldLooked, Holds, IsFault, KeepsPremise, held_at}
-use Rattle.vr_rings.specs.Held.{Stands, entry_read, found, looked}
+use Rattle.vr_rings.specs.Held.{entry_read, found, looked}
 use Rattle.vr_lie.specs.Table.{IsTable, KeepsSlot, LookedAt, both, holds, shown, slot_at}
 use Rattle.vr_lie.proofs.Lies.{lied_again, reads_both, undone}
 use Rattle.vr_lie.proofs.Opening.{opened_same, same_opened, same_opens}
-use Rattle.vr_lie.proofs.Slotted.{SameSlot, holds_is, is_holds, same_entry, same_holds, same_slot}
-use Rattle.vr_lie.proofs.Tables.{looked_table, untouched_looked}
+use Rattle.vr_lie.proofs.Slotted.{SameSlot, holds_is, is_holds, same_holds, same_slot}
+use Rattle.vr_lie.proofs.Tables.{untouched_looked}
 
 abbrev with_face : Disk → Face → Disk
 with_face d f = record d { face = f }
@@ -49,12 +49,15 @@ still_is f g s p false k r x y e = (λ t h. absurd (let z : false ≡ true = x �
 
 pub slot_keeps : (f g : Face) (at slot : ℕ) (held : List (Option (List ℕ))) (h : Option (List ℕ)) (r : Bool) → slot_at at ≡ Some slot → held_at held slot ≡ h
     → (IsTrue r → Holds f slot h → Holds g slot h) × ((Holds f slot h → Holds g slot h) → IsTrue r) → (IsTrue r → KeepsSlot f g at held) × (KeepsSlot f g at held → IsTrue r)
-slot_keeps f g at slot held h r e i k =
-    (λ t. record { each = λ s z x.
+slot_keeps f g at slot held h r e i k = (
+  λ t. record {
+    each = λ s z x.
         let same : slot ≡ s = (let y : Some slot ≡ Some s = sym e ∙ z in cc) in
         let own : held_at held s ≡ h = ap (held_at held) (sym same) ∙ i in
-        subst (Holds g s) (sym own) (subst (λ s. Holds g s h) same (k.0 t (subst (λ s. Holds f s h) (sym same) (subst (Holds f s) own x)))) },
-    λ z. k.1 (λ x. subst (Holds g slot) i (z.each slot e (subst (Holds f slot) (sym i) x))))
+        subst (Holds g s) (sym own) (subst (λ s. Holds g s h) same (k.0 t (subst (λ s. Holds f s h) (sym same) (subst (Holds f s) own x))));
+  },
+  λ z. k.1 (λ x. subst (Holds g slot) i (z.each slot e (subst (Holds f slot) (sym i) x))),
+)
 
 pub slot_empty : (f g : Face) (at : ℕ) (held : List (Option (List ℕ))) → slot_at at ≡ None → KeepsSlot f g at held
 slot_empty f g at held e = record { each = λ s z x. absurd (let y : None ≡ Some s = sym e ∙ z in cc) }
@@ -105,18 +108,18 @@ looked_again (Some p) h = refl
 pub lied_looked : (f : Face) (a b : Lie) (g h : Face) (old mid new : List (Option (List ℕ))) → IsTable f old → g ≡ both f a b → h ≡ both f a b → LookedAt g a.at old mid → LookedAt h b.at mid new → HeldLooked (both f a b) old new
 lied_looked f a b g h old mid new t x y p q = record {
   each = λ s l.
-    let z = both f a b in
-    let first : (slot_at a.at ≡ Some s → held_at mid s ≡ looked z s (held_at old s)) = λ e. p.own s e ∙ ap (λ g. looked g s (held_at old s)) x in
-    elim (cases_slot (slot_at b.at) s) [
-      | inl e ↦ q.own s e ∙ (ap (λ h. looked h s (held_at mid s)) y ∙ elim (cases_slot (slot_at a.at) s) [
-        | inl k ↦ ap (looked z s) (first k) ∙ looked_again (entry_read z s) (held_at old s)
-        | inr k ↦ ap (looked z s) (p.others s k)
-      ])
-      | inr e ↦ q.others s e ∙ elim (cases_slot (slot_at a.at) s) [
-        | inl k ↦ first k
-        | inr k ↦ p.others s k ∙ sym (untouched_looked f z old s l t (both_same f a b s l k e))
-      ]
-    ];
+      let z = both f a b in
+      let first : (slot_at a.at ≡ Some s → held_at mid s ≡ looked z s (held_at old s)) = λ e. p.own s e ∙ ap (λ g. looked g s (held_at old s)) x in
+      elim (cases_slot (slot_at b.at) s) [
+        | inl e ↦ q.own s e ∙ (ap (λ h. looked h s (held_at mid s)) y ∙ elim (cases_slot (slot_at a.at) s) [
+          | inl k ↦ ap (looked z s) (first k) ∙ looked_again (entry_read z s) (held_at old s)
+          | inr k ↦ ap (looked z s) (p.others s k)
+        ])
+        | inr e ↦ q.others s e ∙ elim (cases_slot (slot_at a.at) s) [
+          | inl k ↦ first k
+          | inr k ↦ p.others s k ∙ sym (untouched_looked f z old s l t (both_same f a b s l k e))
+        ]
+      ];
 }
 
 pub looked_some : (f : Face) (at slot : ℕ) (old new : List (Option (List ℕ))) → length old ≡ 64 → slot_at at ≡ Some slot → slot < 64 → new ≡ set old slot (looked f slot (held_at old slot)) → LookedAt f at old new

@@ -1,6 +1,6 @@
 -- Faults of a disk, and those that break the premise.
 use Rattle.std.specs.Prelude.{ℕ, ◌<◌, ◌≡◌, ◌≢◌, true, List, Option, None, Some, slice_index_or}
-use Rattle.vr_disk.specs.DiskState.{Call, Cell, Disk, Face, Verdict, Goes, Fails, Cuts, cell, damaged, judged}
+use Rattle.vr_disk.specs.DiskState.{Call, Disk, Face, Verdict, Goes, Fails, Cuts, cell, damaged, judged}
 use Rattle.vr_mem.specs.Lies.{lied}
 use Rattle.vr_super.specs.Opens.{opens}
 use Rattle.vr_lie.specs.declared.fault.Fault.{Fault}

@@ -1,5 +1,5 @@
 -- The table of what the slots hold.
-use Rattle.std.specs.Prelude.{ℕ, ◌<◌, ◌≡◌, ◌≢◌, Bool, true, false, not, ◌&&◌, ◌||◌, nat_eq, nat_lt, ◌-◌, ◌/◌, if◌then◌else◌, List, length, map, Option, None, Some}
+use Rattle.std.specs.Prelude.{ℕ, ◌<◌, ◌≡◌, ◌≢◌, Bool, false, not, ◌&&◌, ◌||◌, nat_eq, nat_lt, ◌-◌, ◌/◌, if◌then◌else◌, List, length, map, Option, None, Some}
 use Rattle.std.specs.Cmp.Lexicographic.{pointwise}
 use Rattle.vr_disk.specs.DiskState.{Call, Face}
 use Rattle.vr_disk.specs.Sectors.{has}

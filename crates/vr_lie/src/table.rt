@@ -198,13 +198,7 @@ fn begin_in(
     }
 }
 
-fn begin(
-    disk: &mut CellDisk,
-    held: &mut [Option<Prepare>],
-    i: u32,
-    from: &Sector,
-    code: u64,
-)
+fn begin(disk: &mut CellDisk, held: &mut [Option<Prepare>], i: u32, from: &Sector, code: u64)
     requires i { i < 1424 }
     requires table { IsTable (disk_of disk.old).face (table_of held.old) }
     ensures told { disk_of disk.new ≡ record (disk_of disk.old) { face = after (disk_of disk.old).face (Write i from.now.bytes) } }
@@ -218,13 +212,7 @@ fn begin(
 }
 
 /// A write that is cut by this code.
-pub fn cut_put(
-    disk: &mut CellDisk,
-    held: &mut [Option<Prepare>],
-    i: u32,
-    from: &Sector,
-    code: u64,
-)
+pub fn cut_put(disk: &mut CellDisk, held: &mut [Option<Prepare>], i: u32, from: &Sector, code: u64)
     requires i { i < 1424 }
     requires table { IsTable (disk_of disk.old).face (table_of held.old) }
     ensures told { disk_of disk.new ≡ record (disk_of disk.old) { face = settle code (after (disk_of disk.old).face (Write i from.now.bytes)) } }

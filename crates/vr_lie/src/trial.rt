@@ -134,13 +134,7 @@ fn still_holds(disk: &mut CellDisk, slot: u32, prepare: &[u8], a: &Lie, b: &Lie)
 }
 
 // Whether what holds of a sector's slot still holds where two sectors read as these.
-fn keeps_slot(
-    disk: &mut CellDisk,
-    held: &[Option<Prepare>],
-    at: u32,
-    a: &Lie,
-    b: &Lie,
-) -> bool
+fn keeps_slot(disk: &mut CellDisk, held: &[Option<Prepare>], at: u32, a: &Lie, b: &Lie) -> bool
     requires count { length held.now ≡ 64 }
     requires a { a.now.at < 1424 }
     requires b { b.now.at < 1424 }

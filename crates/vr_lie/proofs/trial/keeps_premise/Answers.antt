@@ -1,4 +1,4 @@
-use Rattle.std.proofs.Common.{◌≡◌, sym, ◌∙◌}
+use Rattle.std.proofs.Common.{◌∙◌}
 use Rattle.vr_mem.specs.Cells.{disk_of}
 use Rattle.vr_lie.specs.Table.{both, table_of}
 use Rattle.vr_lie.proofs.Trials.{keeps_on, premise_is, premise_slot}

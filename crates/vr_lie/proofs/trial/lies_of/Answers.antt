@@ -1,8 +1,6 @@
-use Rattle.std.proofs.Common.{◌<◌, ◌∙◌, ◌≡◌, ap, arith, length, refl, sym, Some, None, inl, inr}
+use Rattle.std.proofs.Common.{◌∙◌, ap, refl, sym, Some, None, inl, inr}
 use Rattle.vr_disk.specs.DiskState.{Cell, cell, damaged}
 use Rattle.vr_mem.specs.Cells.{disk_of}
-use Rattle.vr_lie.specs.declared.trial.Lie.{Lie}
-use Rattle.vr_lie.specs.Faults.{faulted}
 use Rattle.vr_lie.proofs.Trials.{fault_within, told_twice}
 use Rattle.vr_lie.proofs.trial.lies_of.Goals as goal
 

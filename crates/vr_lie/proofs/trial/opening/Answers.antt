@@ -1,4 +1,4 @@
-use Rattle.std.proofs.Common.{ap, arith, sym, ◌≡◌}
+use Rattle.std.proofs.Common.{ap, arith, ◌≡◌}
 use Rattle.vr_disk.specs.DiskState.{Disk}
 use Rattle.vr_mem.specs.Cells.{disk_of}
 use Rattle.vr_lie.proofs.Opening.{found_none, found_opened, opening_is}

@@ -1,4 +1,4 @@
-use Rattle.std.proofs.Common.{◌≡◌, ap, sym}
+use Rattle.std.proofs.Common.{ap, sym}
 use Rattle.vr_disk.specs.DiskState.{Cell}
 use Rattle.vr_mem.specs.Seen.{reads_of}
 use Rattle.vr_lie.proofs.Lies.{lied_same}

@@ -1,5 +1,4 @@
-use Rattle.std.proofs.Common.{◌≡◌}
-use Rattle.vr_disk.specs.DiskState.{Sync, Write}
+use Rattle.vr_disk.specs.DiskState.{Sync}
 use Rattle.vr_mem.specs.Cells.{disk_of}
 use Rattle.vr_lie.proofs.Calls.{clear_table, cuts_told, fails_told, goes_told, sync_held}
 use Rattle.vr_lie.proofs.disk.LieDiskSectorDisk.sync.Goals as goal

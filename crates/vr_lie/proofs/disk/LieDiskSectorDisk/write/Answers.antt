@@ -1,7 +1,6 @@
-use Rattle.std.proofs.Common.{◌≡◌}
-use Rattle.vr_disk.specs.DiskState.{Sync, Write}
+use Rattle.vr_disk.specs.DiskState.{Write}
 use Rattle.vr_mem.specs.Cells.{disk_of}
-use Rattle.vr_lie.proofs.Calls.{clear_table, cuts_told, fails_told, goes_told, sync_held}
+use Rattle.vr_lie.proofs.Calls.{cuts_told, fails_told, goes_told}
 use Rattle.vr_lie.proofs.disk.LieDiskSectorDisk.write.Goals as goal
 
 pub returns-in-Goes-clause-told : goal.returns-in-Goes-clause-told
