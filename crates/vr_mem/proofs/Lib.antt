@@ -1,3 +1,4 @@
+pub mod Honest
 pub mod Made
 pub mod Room
 pub mod Settling

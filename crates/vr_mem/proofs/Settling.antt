@@ -1,15 +1,16 @@
-use Rattle.std.proofs.Common.{ℕ, suc, ◌+◌, ◌/◌, ◌%◌, ◌≤◌, ◌<◌, ◌≡◌, arith, refl, sym, ap, ◌∙◌, true, eqb, ◌||◌, List, [], ◌∷◌, length, get_or, set, drop, drop-cons, add-one}
+use Rattle.std.proofs.Common.{ℕ, suc, ◌+◌, ◌/◌, ◌%◌, ◌≤◌, ◌<◌, ◌≡◌, arith, refl, sym, ap, ◌∙◌, true, false, cond, eqb, ◌||◌, List, Option, Some, length-set, [], ◌∷◌, length, get_or, set, drop, drop-cons, add-one}
 use Rattle.std.specs.Prelude.{map}
 use Rattle.std.specs.List.{list_any}
-use Rattle.std.proofs.lemmas.List.{map-set, get_or-map}
+use Rattle.std.proofs.lemmas.List.{drop_all, map-set, get_or-map}
 use Rattle.std.specs.List.{All, AllByRecursion}
-use Rattle.std.proofs.lemmas.List.Elements.{All-from_recursion, recursion_from_All}
-use Rattle.vr_disk.specs.DiskState.{IsContent, Write, after, settle, IsWaiting, blank, settled, settled_cell, waits}
+use Rattle.std.proofs.lemmas.List.Elements.{All-from_recursion, All-set, recursion_from_All}
+use Rattle.vr_disk.specs.DiskState.{Cell, Face, IsCell, IsContent, IsFace, Waiting, Write, after, cell, settle, IsWaiting, blank, settled, settled_cell, waits}
 use Rattle.vr_mem.specs.declared.cells.MemCell.{MemCell}
 use Rattle.vr_mem.specs.declared.cells.MemWaiting.{MemWaiting}
 use Rattle.std.specs.Vec.{vec_capacity}
-use Rattle.vr_disk.proofs.Faces.{face_after, face_settled}
+use Rattle.vr_disk.proofs.Faces.{face_after, face_settled, there}
 use Rattle.vr_mem.specs.declared.cells.MemFace.{MemFace}
+use Rattle.vr_mem.specs.Lies.{digit_at, lied}
 use Rattle.vr_mem.specs.Seen.{IsMemFace, cell_of, face_of, once, waiting_of}
 
 pub settle_step : (code : ℕ) (ws : List MemWaiting) (i : ℕ) (d : MemWaiting) (cells : List MemCell) (x e : MemCell)
@@ -44,3 +45,39 @@ settled_is code old new h same w r = record { face = rw same (face_settled code 
 pub written_is : (old new : MemFace) (i : ℕ) (bytes : List ℕ) → IsMemFace old → i < 1424 → IsContent bytes → face_of new ≡ after (face_of old) (Write i bytes) → once new.waiting.items ≡ true → 1424 ≤ vec_capacity new.waiting → IsMemFace new
 written_is old new i bytes h l n same o r =
     record { face = rw same (face_after (face_of old) (Write i bytes) h.face (l, n)); once = o; room = r }
+
+-- a sector that reads as something else
+lied_face : (f : Face) (i : ℕ) (r : Option (List ℕ)) → IsFace f → i < 1424 → ((b : List ℕ) → r ≡ Some b → IsContent b) → IsFace (lied f i r)
+unfolding lied
+lied_face f i r h l n =
+    let was = there f i h l in
+    record { count = length-set f.cells i (record (cell f i) { reads = r }) ∙ h.count; cells = All-set IsCell f.cells i (record (cell f i) { reads = r }) (record { truth = was.truth; reads = n; before = was.before }) h.cells; waiting = h.waiting }
+
+pub lied_is : (old new : MemFace) (i : ℕ) (r : Option (List ℕ)) → IsMemFace old → i < 1424 → ((b : List ℕ) → r ≡ Some b → IsContent b) → face_of new ≡ lied (face_of old) i r → new.waiting ≡ old.waiting → IsMemFace new
+lied_is old new i r h l n same w = record { face = rw same (lied_face (face_of old) i r h.face l n); once = rw w h.once; room = rw w h.room }
+
+pub lied_cells : (cells : List MemCell) (ws : List Waiting) (i : ℕ) (was x : MemCell) (d : Cell) (r : Option (List ℕ)) → i < length cells → was ≡ get_or cells i was → cell_of x ≡ record (cell_of was) { reads = r }
+    → let f : Face = record { cells = map cell_of cells; waiting = ws } in let g : Face = record { cells = map cell_of (set cells i x); waiting = ws } in g ≡ lied f i r
+unfolding lied
+lied_cells cells ws i was x d r l w e =
+    let now : get_or (map cell_of cells) i blank ≡ cell_of was = get_or-map cell_of cells i was blank l ∙ ap cell_of (sym w) in
+    rw (map-set, now, e) refl
+
+-- the digit of a sector, from one of those that wait on
+digit_cons : (code k : ℕ) (w : Waiting) (ws : List Waiting) → digit_at code k (w ∷ ws) ≡ cond (eqb w.index k) (code % 3) (digit_at (code / 3) k ws)
+unfolding digit_at
+digit_cons code k w ws = refl
+
+digit_step : (code k : ℕ) (ws : List MemWaiting) (i : ℕ) (d : MemWaiting) → i < length ws
+    → digit_at code k (map waiting_of (drop i ws)) ≡ cond (eqb (get_or ws i d).index k) (code % 3) (digit_at (code / 3) k (map waiting_of (drop (i + 1) ws)))
+digit_step code k ws i d l = rw (add-one, drop-cons ws i d) (digit_cons code k (waiting_of (get_or ws i d)) (map waiting_of (drop (suc i) ws)))
+
+pub digit_here : (code k : ℕ) (ws : List MemWaiting) (i : ℕ) (d : MemWaiting) → i < length ws → eqb (get_or ws i d).index k ≡ true → digit_at code k (map waiting_of (drop i ws)) ≡ code % 3
+digit_here code k ws i d l e = digit_step code k ws i d l ∙ ap (λ b. cond b (code % 3) (digit_at (code / 3) k (map waiting_of (drop (i + 1) ws)))) e
+
+pub digit_later : (code k : ℕ) (ws : List MemWaiting) (i : ℕ) (d : MemWaiting) → i < length ws → eqb (get_or ws i d).index k ≡ false → digit_at code k (map waiting_of (drop i ws)) ≡ digit_at (code / 3) k (map waiting_of (drop (i + 1) ws))
+digit_later code k ws i d l e = digit_step code k ws i d l ∙ ap (λ b. cond b (code % 3) (digit_at (code / 3) k (map waiting_of (drop (i + 1) ws)))) e
+
+pub digit_past : (code k : ℕ) (ws : List MemWaiting) (i : ℕ) → length ws ≤ i → digit_at code k (map waiting_of (drop i ws)) ≡ 0
+unfolding digit_at
+digit_past code k ws i l = rw (drop_all i ws l) refl

@@ -1,2 +1,5 @@
+pub mod Cells
+pub mod Honesty
+pub mod Lies
 pub mod Seen
 pub mod Told

@@ -3,6 +3,7 @@ use Rattle.std.specs.List.{list_any}
 use Rattle.std.specs.Vec.{vec_capacity}
 use Rattle.std.specs.Prelude.{◌==◌, ◌&&◌, ◌≡◌, ◌≤◌, Bool, true, not, ℕ, List, [], ◌∷◌, map, replicate, Option, Some, None}
 use Rattle.vr_disk.specs.DiskState.{Cell, Waiting, Face, IsFace, Fate, Fuse, Verdict, Goes, Fails, Cuts}
+use Rattle.vr_disk.specs.declared.sector.Sector.{Sector}
 use Rattle.vr_mem.specs.declared.cells.MemCell.{MemCell}
 use Rattle.vr_mem.specs.declared.cells.MemWaiting.{MemWaiting}
 use Rattle.vr_mem.specs.declared.cells.MemFace.{MemFace}
@@ -11,9 +12,13 @@ use Rattle.vr_mem.specs.declared.fate.MemFate.{MemFate}
 use Rattle.vr_mem.specs.declared.fate.MemVerdict.{MemVerdict}
 use Rattle.vr_mem.specs.declared.fate.MemVerdict.TheVariants as v
 
--- honest: a sector reads as what it should hold
+-- the bytes of a sector that can be read
+abbrev pub reads_of : Option Sector → Option (List ℕ)
+reads_of None = None
+reads_of (Some s) = Some s.bytes
+
 abbrev pub cell_of : MemCell → Cell
-cell_of c = record { truth = c.truth.bytes; reads = Some c.truth.bytes; before = c.before.bytes }
+cell_of c = record { truth = c.truth.bytes; reads = reads_of c.reads; before = c.before.bytes }
 
 abbrev pub waiting_of : MemWaiting → Waiting
 waiting_of w = record { index = w.index; was = cell_of w.was }

@@ -1,18 +1,21 @@
 //! Sectors in memory, and those that wait for a sync.
-ghost use Rattle.std.specs.Prelude.{◌≡◌, ◌<◌, ◌≤◌, ◌==◌, ◌++◌, ◌∷◌, [], if◌then◌else◌, false, length, map, IfOk};
+ghost use Rattle.std.specs.Prelude.{◌≡◌, ◌<◌, ◌≤◌, ◌==◌, ◌++◌, ◌∷◌, [], if◌then◌else◌, false, length, map, IfOk, None, Some};
 ghost use Rattle.std.specs.List.{list_any, All};
 ghost use Rattle.std.specs.Vec.{vec_capacity};
-ghost use Rattle.vr_disk.specs.DiskState.{after, damaged, IsContent, reads, settle, settled, settled_cell, Write, Sync};
+ghost use Rattle.vr_disk.specs.DiskState.{after, cell, damaged, IsContent, settle, settled, settled_cell, Write, Sync};
+ghost use Rattle.vr_mem.specs.Lies.{digit_at, lied};
 ghost use Rattle.vr_mem.specs.Seen.{IsMemFace, cell_of, copies, face_of, waiting_of, zero_cell};
 
 use std::alloc::Global;
 use vr_base::NoMemory;
 use vr_disk::Sector;
 
-/// A sector: what it holds, and what it held before its last write.
+/// A sector: what it should hold, what it reads as, and what it held before its last write.
 #[derive(Clone, Copy)]
 pub struct MemCell {
     pub truth: Sector,
+    /// `None` where it can't be read.
+    pub reads: Option<Sector>,
     pub before: Sector,
 }
 
@@ -38,7 +41,8 @@ fn damage_all(bytes: &mut [u8])
     }
 }
 
-fn damage(sector: &Sector) -> Sector
+/// A sector with every bit turned.
+pub fn damage(sector: &Sector) -> Sector
     ensures { result.bytes ≡ damaged sector.now.bytes }
 {
     let mut out = *sector;
@@ -52,10 +56,15 @@ fn settle_cell(digit: u64, was: &MemCell, now: &MemCell) -> MemCell
     if digit == 0 {
         *was
     } else if digit == 1 {
-        *now
-    } else {
         MemCell {
-            truth: damage(&now.truth),
+            reads: Some(now.truth),
+            ..*now
+        }
+    } else {
+        let damaged = damage(&now.truth);
+        MemCell {
+            truth: damaged,
+            reads: Some(damaged),
             before: now.before,
         }
     }
@@ -73,6 +82,19 @@ fn settle_all(code: u64, waiting: &[MemWaiting], cells: &mut [MemCell])
         cells[at] = settle_cell(rest % 3, &w.was, &now);
         rest /= 3;
     }
+}
+
+fn digit(code: u64, index: u32, waiting: &[MemWaiting]) -> u64
+    ensures { result ≡ digit_at code index (map waiting_of waiting.now) }
+{
+    let mut rest = code;
+    for w in waiting {
+        if w.index == index {
+            return rest % 3;
+        }
+        rest /= 3;
+    }
+    0
 }
 
 fn is_waiting(index: u32, waiting: &[MemWaiting]) -> bool
@@ -95,14 +117,30 @@ fn note(waiting: &mut Vec<MemWaiting>, index: u32, was: MemCell)
 // A sector after a write of these bytes.
 fn written(bytes: &[u8], was: &MemCell) -> MemCell
     requires { length bytes.now ≡ 512 }
-    ensures cell { result ≡ record { truth = record { bytes = bytes.now }; before = was.now.truth } }
+    ensures cell { result ≡ record { truth = record { bytes = bytes.now }; reads = Some (record { bytes = bytes.now }); before = was.now.truth } }
+    ensures content { IsContent bytes.now }
+{
+    let mut copied = [0; 512];
+    copied.copy_from_slice(bytes);
+    let truth = Sector { bytes: copied };
+    MemCell {
+        truth,
+        reads: Some(truth),
+        before: was.truth,
+    }
+}
+
+// A sector that reads as these bytes.
+fn shown(bytes: &[u8], was: &MemCell) -> MemCell
+    requires { length bytes.now ≡ 512 }
+    ensures cell { result ≡ record was.now { reads = Some (record { bytes = bytes.now }) } }
     ensures content { IsContent bytes.now }
 {
     let mut copied = [0; 512];
     copied.copy_from_slice(bytes);
     MemCell {
-        truth: Sector { bytes: copied },
-        before: was.truth,
+        reads: Some(Sector { bytes: copied }),
+        ..*was
     }
 }
 
@@ -122,6 +160,7 @@ fn zero() -> MemCell
     let zeros = Sector { bytes: [0; 512] };
     MemCell {
         truth: zeros,
+        reads: Some(zeros),
         before: zeros,
     }
 }
@@ -138,12 +177,37 @@ impl MemFace {
         })
     }
 
-    pub fn read(&self, index: u32) -> Sector
+    /// A sector with what it should hold, what it reads as and what it held before its last write.
+    pub fn cell(&self, index: u32) -> MemCell
         requires face { IsMemFace self.now }
         requires index { index < 1424 }
-        ensures { reads (face_of self.now) index ≡ Some result.bytes }
+        ensures { cell (face_of self.now) index ≡ cell_of result }
     {
-        self.cells[index as usize].truth
+        self.cells[index as usize]
+    }
+
+    /// From now on a sector reads as another content, until it is written.
+    pub fn show(&mut self, index: u32, sector: &Sector)
+        requires face { IsMemFace self.old }
+        requires index { index < 1424 }
+        ensures after { face_of self.new ≡ lied (face_of self.old) index (Some sector.now.bytes) }
+        ensures face { IsMemFace self.new }
+    {
+        let at = index as usize;
+        let was = self.cells[at];
+        self.cells[at] = shown(&sector.bytes, &was);
+    }
+
+    /// From now on a sector can't be read, until it is written.
+    pub fn hide(&mut self, index: u32)
+        requires face { IsMemFace self.old }
+        requires index { index < 1424 }
+        ensures after { face_of self.new ≡ lied (face_of self.old) index None }
+        ensures face { IsMemFace self.new }
+    {
+        let at = index as usize;
+        let was = self.cells[at];
+        self.cells[at] = MemCell { reads: None, ..was };
     }
 
     pub fn write(&mut self, index: u32, from: &Sector)
@@ -164,6 +228,13 @@ impl MemFace {
         ensures face { IsMemFace self.new }
     {
         self.waiting.clear();
+    }
+
+    /// The digit of the code by which a sector that waits is settled, 0 where it doesn't wait.
+    pub fn digit(&self, code: u64, index: u32) -> u64
+        ensures { result ≡ digit_at code index (face_of self.now).waiting }
+    {
+        digit(code, index, &self.waiting)
     }
 
     /// What a stop leaves of the sectors that wait.

@@ -1,10 +1,15 @@
-//! An honest disk in memory: what was written reads back, and a stop at a call leaves what the laws of disks say.
+//! An honest disk in memory: what was written reads back, and a stop at a call leaves what the laws of disks say. Below
+//! it a disk whose sectors may read otherwise.
 #![tactic(auto)]
 
+mod cell_disk;
 mod cells;
 mod disk;
 mod fate;
 mod laws;
 
+pub use cell_disk::CellDisk;
+pub use cells::{MemCell, damage};
 pub use disk::MemDisk;
+pub use fate::MemVerdict;
 pub use laws::honest_disk;

@@ -1,4 +1,4 @@
-use Rattle.std.proofs.Common.{◌<◌, length, arith, sym, ◌∙◌, length-set, []}
+use Rattle.std.proofs.Common.{◌<◌, length, arith, sym, ◌∙◌, length-set, [], None}
 use Rattle.std.proofs.lemmas.List.Elements.{All-get_or}
 use Rattle.vr_disk.specs.declared.sector.Sector.{Sector}
 use Rattle.vr_mem.specs.declared.cells.MemCell.{MemCell}
@@ -10,7 +10,7 @@ abbrev no_sector : Sector
 no_sector = record { bytes = [] }
 
 abbrev no_cell : MemCell
-no_cell = record { truth = no_sector; before = no_sector }
+no_cell = record { truth = no_sector; reads = None; before = no_sector }
 
 abbrev no_waiting : MemWaiting
 no_waiting = record { index = 0; was = no_cell }

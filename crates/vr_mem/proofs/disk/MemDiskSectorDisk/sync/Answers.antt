@@ -1,8 +1,7 @@
-use Rattle.vr_disk.proofs.Running.{sync_cuts}
-use Rattle.vr_mem.specs.Seen.{face_of, fate_of}
+use Rattle.vr_disk.specs.DiskState.{Sync}
+use Rattle.vr_mem.specs.Cells.{disk_of}
+use Rattle.vr_mem.proofs.Honest.{one_honest}
 use Rattle.vr_mem.proofs.disk.MemDiskSectorDisk.sync.Goals as goal
 
-pub returns-in-Cuts-clause-told : goal.returns-in-Cuts-clause-told
-returns-in-Cuts-clause-told c =
-    rw (c.fault-in-Cuts.ensures.same, c.fault-in-Cuts.ensures.failed)
-    (sync_cuts (face_of c.args.self.now.face) (face_of c.settle.new.self) (fate_of c.args.self.now.fate) (fate_of c.judge.new.self) c.in-Cuts.code c.in-Cuts.ensures.verdict c.in-Cuts.ensures.next c.settle.ensures.after)
+pub invariant_of-self : goal.invariant_of-self
+invariant_of-self c = record { honest = one_honest (disk_of c.args.self.now.disk) (disk_of c.sync.new.self) Sync _ tt c.args.self.now.honest c.sync.ensures.told }

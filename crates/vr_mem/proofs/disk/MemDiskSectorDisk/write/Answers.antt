@@ -1,8 +1,11 @@
-use Rattle.vr_disk.proofs.Running.{write_cuts}
-use Rattle.vr_mem.specs.Seen.{face_of, fate_of}
+use Rattle.std.proofs.Common.{arith}
+use Rattle.vr_disk.specs.DiskState.{Write}
+use Rattle.vr_mem.specs.Cells.{disk_of}
+use Rattle.vr_mem.proofs.Honest.{one_honest}
 use Rattle.vr_mem.proofs.disk.MemDiskSectorDisk.write.Goals as goal
 
-pub returns-in-Cuts-clause-told : goal.returns-in-Cuts-clause-told
-returns-in-Cuts-clause-told c =
-    rw (c.fault-in-Cuts.ensures.same, c.fault-in-Cuts.ensures.failed)
-    (write_cuts (face_of c.args.self.now.face) (face_of c.write-in-Cuts.new.self) (face_of c.settle.new.self) (fate_of c.args.self.now.fate) (fate_of c.judge.new.self) c.args.i c.args.from.now.bytes c.in-Cuts.code c.in-Cuts.ensures.verdict c.in-Cuts.ensures.next c.write-in-Cuts.ensures.after c.settle.ensures.after)
+pub invariant_of-self : goal.invariant_of-self
+invariant_of-self c = record {
+  honest = one_honest (disk_of c.args.self.now.disk) (disk_of c.write.new.self) (Write c.args.i c.args.from.now.bytes) _
+      (let n = c.args.self.now.disk.sectors.face.count in let i = c.requires in omega arith) c.args.self.now.honest c.write.ensures.told;
+}

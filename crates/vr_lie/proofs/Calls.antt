@@ -1,0 +1,104 @@
+-- Calls by what becomes of them, and the table that they leave.
+use Rattle.std.proofs.Common.{ℕ, zero, suc, ◌+◌, ◌<◌, ◌≤◌, ◌≡◌, refl, sym, ap, ◌∙◌, arith, Bool, true, false, cond, ◌||◌, ◌&&◌, List, [], ◌∷◌, ◌++◌, length, get_or, Option, Some, None, subst}
+use Rattle.std.specs.Prelude.{replicate}
+use Rattle.std.proofs.lemmas.List.{get_or-replicate}
+use Rattle.vr_base.specs.Bytes.{number}
+use Rattle.vr_disk.specs.DiskState.{Call, Sync, Cell, Disk, Face, Goes, Fails, Cuts, Runs, Attaches, after, attached, attached_as, blank, cut_at, is_to_fail, judged, reads}
+use Rattle.vr_disk.specs.Regions.{prepare_at}
+use Rattle.vr_disk.specs.Sectors.{has, together}
+use Rattle.vr_disk.proofs.Running.{one_cuts, one_fails, one_goes}
+use Rattle.vr_header.specs.Made.{entry_of}
+use Rattle.vr_header.specs.Spelling.{fault_of}
+use Rattle.vr_mem.specs.Seen.{copies, zero_cell}
+use Rattle.vr_lie.specs.declared.table.Prepare.{Prepare}
+use Rattle.vr_lie.specs.Faults.{HeldRan, held_at}
+use Rattle.vr_rings.specs.Held.{entry_of_both, header_sector, held_after, is_prepare}
+use Rattle.vr_rings.specs.Slots.{header_reading, size_at, whole_of}
+use Rattle.vr_lie.specs.Table.{IsTable, table_of}
+use Rattle.vr_lie.proofs.Slotted.{same_entry, same_slot}
+
+pub goes_told : (d e g : Disk) (c : Call) → Goes ≡ (judged d.fate).verdict → e ≡ record d { fate = (judged d.fate).next } → g ≡ record e { face = after e.face c } → Runs (c ∷ []) (Some d) (Some g) true
+goes_told d e g c v i j =
+    let there : g ≡ record { face = after d.face c; fate = (judged d.fate).next } = j ∙ ap (λ (e : Disk). let x : Disk = record e { face = after e.face c } in x) i in
+    subst (λ (g : Disk). Runs (c ∷ []) (Some d) (Some g) true) (sym there) (one_goes d.face (after d.face c) d.fate (judged d.fate).next c v refl refl)
+
+pub fails_told : (d e g : Disk) (c : Call) → Fails ≡ (judged d.fate).verdict → e ≡ record d { fate = (judged d.fate).next } → g ≡ e → Runs (c ∷ []) (Some d) (Some g) false
+fails_told d e g c v i j = subst (λ (g : Disk). Runs (c ∷ []) (Some d) (Some g) false) (sym (j ∙ i)) (one_fails d.face d.fate (judged d.fate).next c v refl)
+
+pub cuts_told : (d e g h : Disk) (c : Call) (code : ℕ) → Cuts code ≡ (judged d.fate).verdict → e ≡ record d { fate = (judged d.fate).next } → g ≡ record e { face = cut_at code e.face c } → h ≡ g → Runs (c ∷ []) (Some d) (Some h) false
+cuts_told d e g h c code v i j k =
+    let there : h ≡ record { face = cut_at code d.face c; fate = (judged d.fate).next } = k ∙ (j ∙ ap (λ (e : Disk). let x : Disk = record e { face = cut_at code e.face c } in x) i) in
+    subst (λ (h : Disk). Runs (c ∷ []) (Some d) (Some h) false) (sym there) (one_cuts d.face (cut_at code d.face c) d.fate (judged d.fate).next c code v refl refl)
+
+-- ---- calls that leave each reading
+
+pub same_table : (f g : Face) (held : List (Option (List ℕ))) → ((k : ℕ) → reads g k ≡ reads f k) → IsTable f held → IsTable g held
+same_table f g held h t = record { count = t.count; seen = λ s l p e. t.seen s l p (sym (same_entry f g s (same_slot f g s l (λ k z. h k))) ∙ e) }
+
+attached_as_cells : (d : Disk) (fails : Bool) → (attached_as d fails).disk.face.cells ≡ d.face.cells
+attached_as_cells d true = refl
+attached_as_cells d false = refl
+
+pub attach_table : (d e : Disk) (ok : Bool) (held : List (Option (List ℕ))) → Attaches (Some d) (Some e) ok → IsTable d.face held → IsTable e.face held
+unfolding attached
+attach_table d e ok held h t =
+    let same : e ≡ (attached_as d (d.fate.dead || is_to_fail d.fate)).disk = let x = h.0 in cc in
+    let cells : e.face.cells ≡ d.face.cells = ap (λ (e : Disk). e.face.cells) same ∙ attached_as_cells d (d.fate.dead || is_to_fail d.fate) in
+    same_table d.face e.face held (λ k. ap (λ (cs : List Cell). (get_or cs k blank).reads) cells) t
+
+pub clear_table : (d e g : Disk) (held : List (Option (List ℕ))) → e ≡ record d { fate = (judged d.fate).next } → g ≡ record e { face = after e.face Sync } → IsTable d.face held → IsTable g.face held
+clear_table d e g held i j t =
+    let there : g ≡ record { face = after d.face Sync; fate = (judged d.fate).next } = j ∙ ap (λ (e : Disk). let x : Disk = record e { face = after e.face Sync } in x) i in
+    subst (λ (g : Disk). IsTable g.face held) (sym there) (same_table d.face (after d.face Sync) held (λ k. refl) t)
+
+pub sync_held : (d : Disk) (held : List (Option (List ℕ))) → Goes ≡ (judged d.fate).verdict → HeldRan d Sync held held
+unfolding held_after
+sync_held d held v = record { each = λ s l. rw (← v) refl }
+
+-- ---- a disk of zeros
+
+zeros_read : (f : Face) (i : ℕ) → f ≡ record { cells = copies 1424 zero_cell; waiting = [] } → i < 1424 → reads f i ≡ Some (copies 512 0)
+unfolding copies zero_cell
+zeros_read f i e l = ap (λ (f : Face). reads f i) e ∙ ap (λ (c : Cell). c.reads) (get_or-replicate 1424 i zero_cell blank l)
+
+four : List ℕ
+four = copies 512 0 ++ (copies 512 0 ++ (copies 512 0 ++ (copies 512 0 ++ [])))
+
+zeros_whole : (f : Face) (i : ℕ) → f ≡ record { cells = copies 1424 zero_cell; waiting = [] } → i + 4 ≤ 1424 → together i 4 f ≡ Some four
+unfolding together four
+zeros_whole f i e l =
+    rw (zeros_read f i e (omega arith), zeros_read f (i + 1) e (omega arith), zeros_read f (i + 1 + 1) e (omega arith), zeros_read f (i + 1 + 1 + 1) e (omega arith)) refl
+
+no_prepare : is_prepare four ≡ false
+unfolding four copies whole_of size_at entry_of fault_of number
+no_prepare = refl
+
+and_no : (a b : Bool) → b ≡ false → (a && b) ≡ false
+and_no true b e = e
+and_no false b e = refl
+
+no_entry : (header : Option (List ℕ)) (p : List ℕ) → entry_of_both header (Some four) ≡ Some p → ⊥
+unfolding entry_of_both
+no_entry header p e =
+    let n : (has (header_sector four) header && is_prepare four) ≡ false = and_no (has (header_sector four) header) (is_prepare four) no_prepare in
+    let x : None ≡ Some p = sym (ap (λ b. cond b (Some four) None) n) ∙ e in
+    absurd cc
+
+pub empty_at : (n slot : ℕ) → held_at (table_of (replicate n None)) slot ≡ None
+empty_at zero s = refl
+empty_at (suc n) zero = refl
+empty_at (suc n) (suc s) = empty_at n s
+
+empty_count : (n : ℕ) → length (table_of (replicate n None)) ≡ n
+empty_count zero = refl
+empty_count (suc n) = ap suc (empty_count n)
+
+pub new_table : (f : Face) (held : List (Option Prepare)) → f ≡ record { cells = copies 1424 zero_cell; waiting = [] } → held ≡ replicate 64 None → IsTable f (table_of held)
+new_table f held e h =
+    let t : IsTable f (table_of (replicate 64 None)) = record {
+      count = empty_count 64;
+      seen = λ s l p x.
+          let w = zeros_whole f (prepare_at s) e (omega arith) in
+          absurd (no_entry (header_reading f s) p (sym (ap (entry_of_both (header_reading f s)) w) ∙ x));
+    } in
+    subst (λ (held : List (Option Prepare)). IsTable f (table_of held)) (sym h) t
