@@ -28,7 +28,7 @@ use Rattle.vr_model.specs.declared.memory.Memory.{Memory}
 use Rattle.vr_model.specs.Steps.{outputs}
 use Rattle.vr_msg.specs.Normal.{replication}
 use Rattle.vr_model.specs.Rules.{on_message, react}
-use Rattle.vr_model.specs.World.{World, fresh, fresh_world, Happening, Asks, Arrives, IsAsked, IsHappening, Happened, nothing, message_of, messages, no_face, handled, delivered, happens, later, happen}
+use Rattle.vr_model.specs.World.{World, fresh, fresh_world, Happening, Asks, Arrives, IsAsked, IsHappening, Happened, nothing, message_of, messages, no_face, grouped, handled, delivered, happens, later, happen}
 use Rattle.vr_model.specs.Safe.{HasSent, Vouches, acknowledged, prepared, HasQuorum, IsCommitted, root, stands_on, IsHashed, sent, given, Safe}
 use Rattle.vr_model.proofs.Fronts.{Front, front_refl, get_some}
 use Rattle.vr_model.proofs.Members.{IsTold, IsPrepared, Group, Member, member_next, member_longer}
@@ -129,7 +129,7 @@ same_good : (n : ℕ) (w : World) (before : List Output) → Good n w before →
 same_good n w before h = rw append-nil h
 
 stepped_good : (n : ℕ) (w : World) (before : List Output) (at : ℕ) (m : Memory) (e : Event) (h : Good n w before) → slice_get w.replicas at ≡ Some m → MayHappen n h.log before e → Good n (handled name_of w at e).world (before ++ (handled name_of w at e).outputs)
-unfolding handled
+unfolding grouped
 stepped_good n w before at m e h is may =
     let s = react name_of e m no_face in
     let place : 0 + at ≡ at = omega arith in
@@ -142,10 +142,10 @@ stepped_good n w before at m e h is may =
     })
 
 handled_good : (n : ℕ) (w : World) (before : List Output) (at : ℕ) (e : Event) (h : Good n w before) → MayHappen n h.log before e → Good n (handled name_of w at e).world (before ++ (handled name_of w at e).outputs)
-unfolding handled
+unfolding grouped messages
 handled_good n w before at e h may =
     let cases : (o : Option Memory) → slice_get w.replicas at ≡ o → Good n (handled name_of w at e).world (before ++ (handled name_of w at e).outputs) =
-    elim [ None ↦ λ is. rw is (same_good n w before h) | Some m ↦ λ is. stepped_good n w before at m e h is may ] in
+    elim [ None ↦ λ is. rw (is, append-nil w.sent) (same_good n w before h) | Some m ↦ λ is. stepped_good n w before at m e h is may ] in
     cases (slice_get w.replicas at) refl
 
 -- a message that is kept was put out

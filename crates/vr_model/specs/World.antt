@@ -72,17 +72,23 @@ messages (o ∷ os) = message_of o ++ messages os
 abbrev pub no_face : Face
 no_face = record { cells = []; waiting = [] }
 
--- a replica handles an event; the messages that it sends are kept, in the order sent
-unfoldable pub handled : Hash → World → ℕ → Event → Happened
-handled hash w at event =
+-- one of these replicas handles an event; nothing where there is no such replica
+pub record Grouped : Type 0 where
+  pub replicas : List Memory
+  pub outputs : List Output
+
+unfoldable pub grouped : Hash → List Memory → ℕ → Event → Grouped
+grouped hash replicas at event =
     option_map_or
-    (λ m. let s = react hash event m no_face in
-        record {
-          world = record w { replicas = slice_set w.replicas at s.memory; sent = w.sent ++ messages (outputs s.script) };
-          outputs = outputs s.script;
-        })
-    (slice_get w.replicas at)
-    (nothing w)
+    (λ m. let s = react hash event m no_face in record { replicas = slice_set replicas at s.memory; outputs = outputs s.script })
+    (slice_get replicas at)
+    (record { replicas = replicas; outputs = [] })
+
+-- the messages that it sends are kept, in the order sent
+abbrev pub handled : Hash → World → ℕ → Event → Happened
+handled hash w at event =
+    let g = grouped hash w.replicas at event in
+    record { world = record w { replicas = g.replicas; sent = w.sent ++ messages g.outputs }; outputs = g.outputs }
 
 unfoldable pub delivered : Hash → World → Option Sent → Happened
 delivered hash w None = nothing w
