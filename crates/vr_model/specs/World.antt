@@ -1,5 +1,5 @@
 -- A group of replicas and the messages between them.
-use Rattle.std.specs.Prelude.{ℕ, ◌+◌, ◌%◌, List, [], ◌∷◌, ◌++◌, length, map, slice_get, slice_set, Option, Some, None}
+use Rattle.std.specs.Prelude.{ℕ, ◌%◌, List, [], ◌∷◌, ◌++◌, length, map, slice_get, slice_set, Option, Some, None}
 use Rattle.std.specs.List.{range_with_len}
 use Rattle.std.specs.Option.{option_map_or}
 use Rattle.vr_disk.specs.DiskState.{Face}
@@ -64,10 +64,10 @@ unfoldable pub handled : Hash → World → ℕ → Event → Happened
 handled hash w at event =
     option_map_or
     (λ m. let s = react hash event m no_face in
-        record {
-          world = record w { replicas = slice_set w.replicas at s.memory; sent = w.sent ++ messages (outputs s.script) };
-          outputs = outputs s.script;
-        })
+    record {
+      world = record w { replicas = slice_set w.replicas at s.memory; sent = w.sent ++ messages (outputs s.script) };
+      outputs = outputs s.script;
+    })
     (slice_get w.replicas at)
     (nothing w)
 
