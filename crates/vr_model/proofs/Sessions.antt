@@ -1,5 +1,5 @@
 -- Sessions whose ops are numbers that a reply may carry, and what is replied from them.
-use Rattle.std.proofs.Common.{ℕ, ◌+◌, ◌<◌, ◌≤◌, ◌≡◌, sym, [], ◌∷◌, Option, Some, None, is_some, Bool, eqb, ltb, cond, length, not}
+use Rattle.std.proofs.Common.{ℕ, ◌+◌, [], ◌∷◌, Option, Some, None, is_some, Bool, eqb, ltb, cond, length, not}
 use Rattle.std.specs.List.{AllByRecursion}
 use Rattle.std.specs.Option.{option_map_or}
 use Rattle.std.specs.Ordering.{nat_cmp, eq_by_cmp}
@@ -9,7 +9,6 @@ use Rattle.std.proofs.lemmas.Bool.{cond_both}
 use Rattle.vr_table.specs.Finite.{find, put, without}
 use Rattle.vr_header.specs.Made.{Whole}
 use Rattle.vr_sess.specs.declared.session.Session.{Session}
-use Rattle.vr_sess.specs.declared.session.SessionAnswer.{SessionAnswer}
 use Rattle.vr_sess.specs.declared.session.SessionAnswer.TheVariants as answer
 use Rattle.vr_sess.specs.Sessions as sess
 use Rattle.vr_msg.specs.Numbers.{IsNumber}
@@ -49,8 +48,8 @@ kept_applied m a h f =
     cond_both (ltb (length m) 32) there (cond (is_some (find nat_cmp a.client m)) there instead) (AllByRecursion IsOfNumber)
     (λ t. kept_put a.client s m h f)
     (λ t. cond_both (is_some (find nat_cmp a.client m)) there instead (AllByRecursion IsOfNumber)
-      (λ t. kept_put a.client s m h f)
-      (λ t. kept_put a.client s (sess.without_oldest m) (kept_oldest m (sess.oldest m) h) f))
+    (λ t. kept_put a.client s m h f)
+    (λ t. kept_put a.client s (sess.without_oldest m) (kept_oldest m (sess.oldest m) h) f))
 
 -- an applied entry keeps them
 pub numbers_kept : (s : State) (e : Whole) → HaveNumbers s.sessions → IsNumber e.header.op → HaveNumbers (state.applied s e).state.sessions
@@ -74,8 +73,8 @@ judged_kept request s h =
     cond_both (eqb request s.number) (answer.Repeat s.outcome s.op) (cond (ltb request s.number) answer.Old (cond (eqb request (s.number + 1)) answer.Fresh answer.Gap)) HasNumber
     (λ t. h)
     (λ t. cond_both (ltb request s.number) answer.Old (cond (eqb request (s.number + 1)) answer.Fresh answer.Gap) HasNumber
-      (λ t. tt)
-      (λ t. cond_both (eqb request (s.number + 1)) answer.Fresh answer.Gap HasNumber (λ t. tt) (λ t. tt)))
+    (λ t. tt)
+    (λ t. cond_both (eqb request (s.number + 1)) answer.Fresh answer.Gap HasNumber (λ t. tt) (λ t. tt)))
 
 checked_kept : (o : Option Session) (request : ℕ) → IfSome o (λ s. IsNumber s.op) → HasNumber (option_map_or (sess.judged request) o (cond (eqb request 0) answer.Fresh answer.Evicted))
 checked_kept (Some s) request h = judged_kept request s h

@@ -1,7 +1,6 @@
 -- What code leaves that follows a word, and then another.
 use Rattle.std.proofs.Common.{ℕ, zero, suc, ◌+◌, ◌-◌, ◌<◌, ◌≤◌, arith, ◌≡◌, refl, sym, ap, ◌∙◌, List, [], ◌∷◌, ◌++◌, map, Result, Ok, Err, append_assoc, append-nil}
 use Rattle.vr_base.specs.declared.memory.NoMemory.{NoMemory}
-use Rattle.vr_disk.specs.DiskState.{Face}
 use Rattle.vr_msg.specs.declared.output.Output.{Output}
 use Rattle.vr_model.specs.declared.memory.Memory.{Memory}
 use Rattle.vr_model.specs.Steps.{Effect, Say, Word, ◌⨾◌, quiet, change, says, by, output_of, outputs, face_after, Does, times, Looping}

@@ -1,5 +1,5 @@
 -- The step of a replica: each rule a word, by the number that the decision gives.
-use Rattle.std.specs.Prelude.{ℕ, ◌+◌, ◌-◌, ◌^◌, ◌<◌, ◌≤◌, ◌≡◌, ◌==◌, Bool, false, List, length, drop, Option, Some, None}
+use Rattle.std.specs.Prelude.{ℕ, ◌+◌, ◌^◌, ◌==◌, Bool, false, List, drop}
 use Rattle.std.specs.List.{list_any}
 use Rattle.std.specs.Option.{option_map}
 use Rattle.vr_header.specs.Made.{Whole, made_by}
@@ -16,7 +16,6 @@ use Rattle.vr_msg.specs.declared.frame.Prepare.{Prepare}
 use Rattle.vr_msg.specs.declared.frame.PrepareOk.{PrepareOk}
 use Rattle.vr_msg.specs.declared.request.RequestFields.{RequestFields}
 use Rattle.vr_msg.specs.declared.reply.ReplyKind.TheVariants as reply
-use Rattle.vr_msg.specs.declared.summary.Named.{Named}
 use Rattle.vr_msg.specs.declared.summary.Summary.{Summary}
 use Rattle.vr_msg.specs.declared.summary.Decision.{Decision}
 use Rattle.vr_msg.specs.declared.summary.Decision.TheVariants as rule
@@ -24,7 +23,7 @@ use Rattle.vr_msg.specs.Normal as decide
 use Rattle.vr_model.specs.declared.memory.Memory.{Memory}
 use Rattle.vr_model.specs.declared.named.Asker.{Asker}
 use Rattle.vr_model.specs.Steps.{Word, ◌⨾◌, quiet, change, says, by}
-use Rattle.vr_model.specs.Words.{head, entry_at, head_header, named, prepares, acknowledges, replies, kind_of, write, learn, advance, acknowledged}
+use Rattle.vr_model.specs.Words.{head, entry_at, head_header, named, prepares, acknowledges, replies, write, learn, advance, acknowledged}
 
 abbrev pub Hash : Type 0
 Hash = List ℕ → List ℕ

@@ -1,5 +1,5 @@
 -- What a replica keeps of itself between steps.
-use Rattle.std.specs.Prelude.{ℕ, ◌≡◌, ◌<◌, ◌≤◌, ⊤, length}
+use Rattle.std.specs.Prelude.{◌≡◌, ◌<◌, ◌≤◌, ⊤, length}
 use Rattle.std.specs.List.{AllByRecursion}
 use Rattle.vr_sess.specs.Sessions.{Map}
 use Rattle.vr_sess.specs.declared.session.SessionAnswer.{SessionAnswer}

@@ -1,6 +1,6 @@
 -- A step of a replica: what it does is a script of effects, in order. Definitions are made of words: a word is what a replica
 -- does, with the sectors of its disk as they are then.
-use Rattle.std.specs.Prelude.{ℕ, zero, suc, ◌-◌, ◌≡◌, List, [], ◌∷◌, ◌++◌, map, Result, OnOk, drop}
+use Rattle.std.specs.Prelude.{ℕ, zero, suc, ◌-◌, ◌≡◌, List, [], ◌∷◌, ◌++◌, map, Result, OnOk}
 use Rattle.vr_base.specs.declared.memory.NoMemory.{NoMemory}
 use Rattle.vr_disk.specs.DiskState.{Call, Face, after_all}
 use Rattle.vr_msg.specs.declared.output.Output.{Output}

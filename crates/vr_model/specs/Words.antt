@@ -1,12 +1,10 @@
 -- The words of which rules are made.
-use Rattle.std.specs.Prelude.{ℕ, ◌+◌, ◌-◌, ◌%◌, ◌^◌, ◌<◌, ◌≤◌, ◌≡◌, ◌==◌, ◌&&◌, not, min, max, nat_le, nat_lt, Bool, List, [], ◌∷◌, ◌++◌, length, map, drop, slice_get, slice_set, slice_index_or, Option, Some, None, if◌then◌else◌}
-use Rattle.std.specs.List.{range_with_len, filter, prefix_len, list_any}
-use Rattle.std.specs.Option.{option_map, option_map_or}
-use Rattle.vr_base.specs.declared.replicas.Replicas.{Replicas}
-use Rattle.vr_base.specs.declared.sum.Sum.{Sum}
+use Rattle.std.specs.Prelude.{ℕ, ◌+◌, ◌-◌, ◌==◌, ◌&&◌, not, min, max, Bool, List, [], ◌∷◌, ◌++◌, length, map, slice_get, slice_set, slice_index_or, Option, if◌then◌else◌}
+use Rattle.std.specs.List.{range_with_len, filter}
+use Rattle.std.specs.Option.{option_map_or}
 use Rattle.vr_base.specs.Replicas.{no_replicas, with_replica}
 use Rattle.vr_header.specs.declared.header.Header.{Header}
-use Rattle.vr_header.specs.Made.{Whole, IsEntry}
+use Rattle.vr_header.specs.Made.{Whole}
 use Rattle.vr_header.specs.Names.{name_by, root_by}
 use Rattle.vr_msg.specs.declared.frame.Frame.{Frame}
 use Rattle.vr_msg.specs.declared.frame.Frame.TheVariants as frame

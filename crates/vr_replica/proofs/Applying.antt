@@ -23,9 +23,9 @@ applies e m a b s o o' o'' asked answered left said replied =
     let m' : Memory = record m { applied = m.applied + 1; state = s } in
     let changed : m' ≡ applied e m = ap (λ (t : State). let n : Memory = record m { applied = m.applied + 1; state = t } in n) left in
     let reply : o'' ≡ o' ++ applied_reply e m =
-      replied
-      ∙ ap (λ (x : Asker). o' ++ cond (is_primary m) (replies x (kind_of b) m) []) asked
-      ∙ ap (λ (x : ReplyBody). o' ++ cond (is_primary m) (replies (asker_of e) (kind_of x) m) []) answered
+    replied
+    ∙ ap (λ (x : Asker). o' ++ cond (is_primary m) (replies x (kind_of b) m) []) asked
+    ∙ ap (λ (x : ReplyBody). o' ++ cond (is_primary m) (replies (asker_of e) (kind_of x) m) []) answered
     in
     says_by_then (commit_line e) _ m m' o o' o'' (Ok tt) said
     (says_by_then (applied_reply e) _ m m' o' o'' o'' (Ok tt) reply (change_by (applied e) m m' o'' changed))

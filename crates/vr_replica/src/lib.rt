@@ -10,3 +10,6 @@ mod summary;
 mod words;
 
 pub use replica::Replica;
+
+#[cfg(test)]
+mod tests;

@@ -13,7 +13,10 @@ use std::alloc::{AllocError, Global};
 use vr_apply::ReplyBody;
 use vr_header::{Entry, Header};
 use vr_model::{Asker, Memory};
-use vr_msg::{Answered, Frame, Message, Named, Outbox, Output, Prepare, PrepareOk, Reply, ReplyFields, ReplyKind, RequestFields, Sent};
+use vr_msg::{
+    Answered, Frame, Message, Named, Outbox, Output, Prepare, PrepareOk, Reply, ReplyFields,
+    ReplyKind, RequestFields, Sent,
+};
 
 /// The prepare of an entry.
 fn prepare_of(memory: &Memory, alloc: Global, entry: &Entry) -> Result<Message, AllocError>

@@ -46,12 +46,7 @@ fn next_entry(memory: &Memory, alloc: Global, request: &RequestFields) -> Result
 
 /// Puts a new entry into the log, and sends it.
 #[tactic(auto, using(vr_model::proofs::Stepping::steps), unfolding(vr_model::specs::Rules::make, vr_model::specs::Words::write))]
-fn make(
-    memory: &mut Memory,
-    alloc: Global,
-    entry: &Entry,
-    out: &mut Outbox,
-) -> Result<(), NoMemory>
+fn make(memory: &mut Memory, alloc: Global, entry: &Entry, out: &mut Outbox) -> Result<(), NoMemory>
     requires sound { IsSound memory.old }
     requires room { length memory.old.log < 2 ^ 62 }
     requires view { entry.now.header.view ≤ memory.old.view }
@@ -95,7 +90,12 @@ fn reply_stored(
 {
     match answer {
         SessionAnswer::Fresh => return Ok(()),
-        SessionAnswer::Repeat(outcome, op) => reply(memory, asker, ReplyKind::Outcome(Answered { op, outcome }), out)?,
+        SessionAnswer::Repeat(outcome, op) => reply(
+            memory,
+            asker,
+            ReplyKind::Outcome(Answered { op, outcome }),
+            out,
+        )?,
         SessionAnswer::Old => reply(memory, asker, ReplyKind::Old, out)?,
         SessionAnswer::Gap => reply(memory, asker, ReplyKind::Gap, out)?,
         SessionAnswer::Evicted => reply(memory, asker, ReplyKind::Evicted, out)?,

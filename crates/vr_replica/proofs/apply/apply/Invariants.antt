@@ -8,5 +8,5 @@ abbrev pub invariant-loop-i : goal.invariant-loop-i
 invariant-loop-i l = record {
   sound : IsSound l.memory;
   left : l.memory.applied + (l.times - l.i) ≡ l.memory.commit;
-  step : Looping apply_next l.times l.i l.initial.memory l.memory l.initial.out l.out
+  step : Looping apply_next l.times l.i l.initial.memory l.memory l.initial.out l.out;
 }
