@@ -114,7 +114,7 @@ fn answer_again(memory: &Memory, request: &RequestFields, out: &mut Outbox) -> R
 }
 
 /// Which rule applies to a request.
-fn decide(memory: &Memory, request: &Request) -> Result<Decision, AllocError>
+fn decide(memory: &Memory, request: &Request) -> Result<Decision, NoMemory>
     requires { IsSound memory.now }
     ensures value { IfOk result (λ decision. decision ≡ decide.on_request (request_summary name_of memory.now request.now) request.now) }
     ensures room { IfOk result (λ decision. decision ≡ rule.Made → length memory.now.log < 2 ^ 62) }

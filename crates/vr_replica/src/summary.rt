@@ -11,7 +11,7 @@ ghost use Rattle.vr_model.specs.Sound.{IsSound, HasNumber};
 ghost use Rattle.vr_model.specs.Words.{head, named, entry_at, head_header, is_primary};
 
 use std::alloc::{AllocError, Global};
-use vr_base::Sum;
+use vr_base::{NoMemory, Sum};
 use vr_header::{Entry, Header};
 use vr_model::{Memory, NamedEntry};
 use vr_msg::{Named, RequestFields, Summary};
@@ -113,7 +113,7 @@ fn is_in_flight(memory: &Memory, client: u64) -> bool
 
 /// What the sessions say of a request.
 #[tactic(auto, using(vr_model::proofs::Sessions::answer_numbered))]
-pub fn session_answer(memory: &Memory, request: &RequestFields) -> Result<SessionAnswer, AllocError>
+pub fn session_answer(memory: &Memory, request: &RequestFields) -> Result<SessionAnswer, NoMemory>
     requires { IsSound memory.now }
     ensures value { IfOk result (λ answer. answer ≡ session_answer request.now memory.now) }
     ensures number { IfOk result HasNumber }
