@@ -1,11 +1,11 @@
 -- Apply, Learn and Advance at a replica of a group in view 0.
-use Rattle.std.proofs.Common.{zero, suc, ◌≡◌, ◌≤◌, ◌<◌, ◌⊎◌, inl, inr, ℕ, ◌+◌, ◌-◌, List, [], ◌∷◌, ◌++◌, length, map, take, drop, Bool, true, false, cond, eqb, leb, ltb, refl, arith, Option, Some, None, ap, sym, ◌∙◌, append_assoc, min, max, subst}
+use Rattle.std.proofs.Common.{zero, suc, ◌≡◌, ◌≤◌, ◌<◌, ◌⊎◌, inl, inr, ℕ, ◌+◌, ◌-◌, List, [], ◌++◌, length, map, drop, Bool, true, false, cond, eqb, leb, ltb, refl, arith, Some, ap, sym, ◌∙◌, min, max}
 use Rattle.std.specs.List.{slice_get, prefix_len}
-use Rattle.std.specs.Option.{option_map_or, is_some}
+use Rattle.std.specs.Option.{is_some}
 use Rattle.std.specs.Prelude.{slice_index_or, slice_set}
 use Rattle.std.proofs.lemmas.Bool.{leb-true, eqb-true, eq-eqb}
 use Rattle.std.proofs.lemmas.Bool.Decides.{nat_tests}
-use Rattle.std.proofs.lemmas.List.{append-nil, get_or-set_same, get_or-set_other}
+use Rattle.std.proofs.lemmas.List.{append-nil, get_or-set_other}
 use Rattle.std.proofs.lemmas.Option.{slice_get_within}
 use native.Mathlib.Nat.{zero-mod}
 use Rattle.std.proofs.Common.{drop-cons, length-drop}
@@ -19,13 +19,13 @@ use Rattle.vr_header.specs.Made.{Whole}
 use Rattle.vr_header.specs.Names.{StandsOn, root_header}
 use Rattle.vr_msg.specs.declared.output.Output.{Output}
 use Rattle.vr_model.specs.declared.memory.Memory.{Memory}
-use Rattle.vr_model.specs.Steps.{Effect, Say, Step, Word, face_after, outputs, ◌⨾◌, quiet, change, says, by, times}
-use Rattle.vr_model.specs.Words.{entry_at, commit_line, applied_reply, applied, apply_entry, apply_next, apply, learned, learn, advanced, advance}
+use Rattle.vr_model.specs.Steps.{Say, face_after, outputs, ◌⨾◌, change, says, by, times}
+use Rattle.vr_model.specs.Words.{commit_line, applied_reply, applied, apply_entry, apply_next, apply, learned, learn, advanced, advance}
 use Rattle.vr_msg.specs.Normal.{replication, has_quorum, advanced_to}
 use Rattle.vr_model.specs.Safe.{Vouches, prepared, HasQuorum, IsCommitted, root, stands_on, IsCommittedAt, AreCommitted}
-use Rattle.vr_model.proofs.Fronts.{Front, front_refl, front_le, get_within, get_some, some_same}
-use Rattle.vr_model.proofs.Members.{stood_on, IsChained, IsPrepared, Group, Member}
-use Rattle.vr_model.proofs.Moving.{outputs_append, outputs_said, Left, Outcome, left_none, outcome_then, outcome_quiet, outcome_change, applied_left}
+use Rattle.vr_model.proofs.Fronts.{get_some}
+use Rattle.vr_model.proofs.Members.{IsChained, IsPrepared, Group, Member}
+use Rattle.vr_model.proofs.Moving.{outputs_append, outputs_said, Outcome, outcome_then, outcome_quiet, outcome_change, applied_left}
 
 -- ---- Apply
 
@@ -210,5 +210,5 @@ module _ (n : ℕ) (log : List Whole) (before : List Output) (m : Memory) (g : G
       let counted = h.counted in
       let same : m.commit + prefix_len (has_quorum m.index m.n) (drop m.commit m.acks) ≡ to = rw (h.index, h.size) refl in
       let member : Member n log before 0 (record m { commit = to }) =
-          raised_member n 0 log before m to (omega arith) reach_within (reached (length m.acks - m.commit) m.commit (omega (arith, commit, counted)) h.committed) h in
+      raised_member n 0 log before m to (omega arith) reach_within (reached (length m.acks - m.commit) m.commit (omega (arith, commit, counted)) h.committed) h in
       raised_outcome n 0 log before advanced m f g (rw same member)

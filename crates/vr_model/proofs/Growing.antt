@@ -1,13 +1,9 @@
 -- What is so by some outputs and a log stays so with more of them.
-use Rattle.std.proofs.Common.{zero, suc, ◌≡◌, ◌≤◌, ◌<◌, ℕ, ◌+◌, ◌-◌, List, [], ◌∷◌, ◌++◌, length, take, Bool, true, false, refl, arith, Option, Some, None, ap, sym, ◌∙◌}
-use Rattle.std.specs.List.{slice_get}
-use Rattle.std.specs.Prelude.{⊤}
+use Rattle.std.proofs.Common.{zero, suc, ◌≡◌, ◌≤◌, ◌<◌, ℕ, ◌-◌, List, length, refl, arith, ◌∙◌}
 use Rattle.std.proofs.lemmas.Option.{slice_get_within}
 use Rattle.vr_header.specs.declared.header.Header.{Header}
 use Rattle.vr_header.specs.Made.{Whole}
-use Rattle.vr_sess.specs.Sessions.{checked}
-use Rattle.vr_sess.specs.declared.session.SessionAnswer.TheVariants as answer
-use Rattle.vr_apply.specs.Folds.{state_after, answer_at}
+use Rattle.vr_apply.specs.Folds.{answer_at}
 use Rattle.vr_msg.specs.declared.frame.Frame.{Frame}
 use Rattle.vr_msg.specs.declared.frame.Frame.TheVariants as frame
 use Rattle.vr_msg.specs.declared.output.Output.{Output}
@@ -15,7 +11,7 @@ use Rattle.vr_msg.specs.declared.output.Output.TheVariants as output
 use Rattle.vr_msg.specs.declared.reply.ReplyFields.{ReplyFields}
 use Rattle.vr_msg.specs.declared.reply.ReplyKind.{ReplyKind}
 use Rattle.vr_msg.specs.declared.reply.ReplyKind.TheVariants as reply
-use Rattle.vr_model.specs.Safe.{HasSent, Vouches, acknowledged, prepared, HasQuorum, IsCommitted, root, stands_on, IsCommittedAt, AreCommitted, IsBackedMessage, IsLine, lines_by, answered_after, session_says, IsOutcomeOf, IsReplyOf, IsTrueReply, IsBacked}
+use Rattle.vr_model.specs.Safe.{HasSent, Vouches, acknowledged, prepared, HasQuorum, IsCommitted, root, stands_on, IsCommittedAt, AreCommitted, IsBackedMessage, lines_by, answered_after, session_says, IsReplyOf, IsBacked}
 use Rattle.vr_model.proofs.Fronts.{Front, front_refl, get_some, get_within, take_front}
 
 pub sent_later : (a b : List Output) (r : ℕ) (m : Frame) → Front a b → HasSent a r m → HasSent b r m

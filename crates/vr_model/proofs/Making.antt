@@ -1,8 +1,8 @@
 -- A request at a replica of a group in view 0: a new entry of the log.
-use Rattle.std.proofs.Common.{zero, suc, ◌≡◌, ◌≤◌, ◌<◌, ◌⊎◌, inl, inr, ℕ, ◌+◌, ◌-◌, ◌^◌, List, [], ◌∷◌, ◌++◌, length, map, take, Bool, true, false, not, cond, eqb, refl, arith, Option, Some, None, ap, sym, ◌∙◌, append_assoc, length-append, subst}
-use Rattle.std.specs.List.{slice_get, range_with_len, filter}
+use Rattle.std.proofs.Common.{zero, suc, ◌≡◌, ◌≤◌, ◌<◌, inl, inr, ℕ, ◌+◌, ◌-◌, ◌^◌, List, [], ◌∷◌, ◌++◌, length, map, take, true, false, eqb, refl, arith, Some, ap, sym, ◌∙◌, append_assoc, length-append, subst}
+use Rattle.std.specs.List.{slice_get}
 use Rattle.std.specs.Option.{option_map_or, is_some}
-use Rattle.std.specs.Prelude.{slice_index_or, ◌||◌, nat_le, IsTrue, replicate, get_or}
+use Rattle.std.specs.Prelude.{slice_index_or, nat_le}
 use Rattle.std.proofs.lemmas.Bool.{eqb-true}
 use Rattle.std.proofs.lemmas.Bool.Decides.{nat_tests}
 use Rattle.std.proofs.lemmas.List.{append-nil, take-append-le}
@@ -14,7 +14,6 @@ use Rattle.vr_base.specs.Groups.{quorums_of}
 use Rattle.vr_base.specs.Replicas.{no_replicas, has_replica}
 use Rattle.vr_base.proofs.FieldLaws.{length-name_of, length-bytes16}
 use Rattle.vr_disk.specs.DiskState.{Face}
-use Rattle.vr_header.specs.declared.header.Header.{Header}
 use Rattle.vr_header.specs.declared.operation.Operation.{Operation}
 use Rattle.vr_header.specs.declared.operation.Operation.TheVariants.{Register, Put, Get, Delete}
 use Rattle.vr_header.specs.Bodies.{IsOperation, operation_bytes}
@@ -29,27 +28,23 @@ use Rattle.vr_apply.specs.Folds.{state_after}
 use Rattle.vr_msg.specs.declared.frame.Frame.{Frame}
 use Rattle.vr_msg.specs.declared.frame.Frame.TheVariants as frame
 use Rattle.vr_msg.specs.declared.output.Output.{Output}
-use Rattle.vr_msg.specs.declared.output.Output.TheVariants as output
 use Rattle.vr_msg.specs.declared.request.RequestFields.{RequestFields}
 use Rattle.vr_msg.specs.declared.reply.ReplyFields.{ReplyFields}
 use Rattle.vr_msg.specs.declared.reply.ReplyKind.{ReplyKind}
 use Rattle.vr_msg.specs.declared.reply.ReplyKind.TheVariants as reply
-use Rattle.vr_msg.specs.declared.summary.Decision.{Decision}
-use Rattle.vr_msg.specs.declared.summary.Decision.TheVariants as rule
 use Rattle.vr_msg.specs.Normal as decide
 use Rattle.vr_model.specs.declared.memory.Memory.{Memory}
-use Rattle.vr_model.specs.Steps.{Say, Step, Word, face_after, outputs, ◌⨾◌, quiet, change, says, by}
-use Rattle.vr_model.specs.Words.{is_primary, head_header, others, send, sends_to_all, prepares, replies, written, write, advance}
-use Rattle.vr_model.specs.declared.named.Asker.{Asker}
+use Rattle.vr_model.specs.Steps.{Say, face_after, outputs, ◌⨾◌, quiet, change, says, by}
+use Rattle.vr_model.specs.Words.{head_header, others, send, sends_to_all, prepares, replies, written, write, advance}
 use Rattle.vr_model.specs.Rules.{summary, request_summary, session_answer, request_of, next_entry, make, stored_reply, obey_request, on_request}
 use Rattle.vr_model.specs.World.{IsAsked}
-use Rattle.vr_model.specs.Safe.{HasSent, AreCommitted, lines_by, answered_after, IsReplyOf, IsBacked}
-use Rattle.vr_model.proofs.Fronts.{Front, front_refl, front_append, get_within, get_some, get_more, get_last, each_more, some_same}
+use Rattle.vr_model.specs.Safe.{lines_by, answered_after, IsReplyOf}
+use Rattle.vr_model.proofs.Fronts.{front_refl, front_append, get_within, get_some, get_more, get_last, each_more}
 use Rattle.vr_model.proofs.Growing.{are_committed_later, backed_more}
 use Rattle.vr_model.proofs.Stored.{repeat_stored}
-use Rattle.vr_model.proofs.Members.{stood_on, IsChained, Holds, IsPrepared, Group, last_line, Member, MayCome, told_later, prepared_later, group_next, member_next}
-use Rattle.vr_model.proofs.Moving.{outputs_append, outputs_said, Left, Outcome, NoLines, left_then, outcome_then, outcome_quiet, outcome_reply, AllCome, none, then}
-use Rattle.vr_model.proofs.Applying.{advance_outcome, group_positive}
+use Rattle.vr_model.proofs.Members.{stood_on, IsChained, Holds, IsPrepared, Group, last_line, Member, told_later, group_next, member_next}
+use Rattle.vr_model.proofs.Moving.{outputs_append, outputs_said, Left, Outcome, NoLines, left_then, outcome_quiet, outcome_reply, AllCome, none, then}
+use Rattle.vr_model.proofs.Applying.{advance_outcome}
 use Rattle.vr_model.proofs.Ruling.{decided, not_true, or_parts, leads_zero, sends_come, no_flags}
 
 -- ---- the new entry
@@ -201,8 +196,8 @@ unfolding prepares sends_to_all
 prepares_come n log before e m h holds =
     sends_come n log m.index _ (others m.index m.n) before
     (λ later f.
-        let committed = are_committed_later n before later log log 0 m.commit f (front_refl log) h.committed in
-        (rw (h.view) committed, (refl, h.view, holds, committed)))
+    let committed = are_committed_later n before later log log 0 m.commit f (front_refl log) h.committed in
+    (rw (h.view) committed, (refl, h.view, holds, committed)))
 
 first_sent : (n : ℕ) (before : List Output) (index size : ℕ) (m : Frame) → index ≡ 0 → size ≡ n → is_some (quorums_of n) ≡ true → slice_get (before ++ sends_to_all index size m) (length before) ≡ Some (send 0 m 1)
 first_sent n before index size m i s group = let first = sends_first n m group in rw (i, s, first.1) (get_middle before (send 0 m 1) first.0)
@@ -319,12 +314,24 @@ request_outcome n i log before q m f g h asked =
     let still : Outcome n i log before (quiet m f) = outcome_quiet n i log before m f g h in
     let busy : Outcome n i log before (says (replies (request_of name_of q) reply.Busy) m f) = outcome_reply n i log before (request_of name_of q) reply.Busy m f g h (λ r c p. tt) in
     let redirect : Outcome n i log before (says (replies (request_of name_of q) reply.Redirect) m f) = outcome_reply n i log before (request_of name_of q) reply.Redirect m f g h (λ r c p. tt) in
-    decided (λ d. Outcome n i log before (obey_request name_of q d m f)) (decide.request_rules (request_summary name_of m q) q)
-    (λ _. still, λ group.
-    (λ _. redirect, λ leads.
-    let zero = leads_zero n i log before m h leads in
-    (λ _. busy, λ _.
-    (λ _. still, λ _.
-    (λ _. rw zero (stored_outcome n log before q m f g (rw zero at h) (session_answer q m) refl), λ _.
-    (λ _. busy, λ room.
-    (λ _. rw zero (next_outcome n log before q m f g (rw zero at h) asked (eqb-true q.cluster m.cluster (not_true (eqb q.cluster m.cluster) group)) (or_parts _ _ room).1), λ _. still)))))))
+    decided (λ d. Outcome n i log before (obey_request name_of q d m f)) (decide.request_rules (request_summary name_of m q) q) (
+      λ _. still,
+      λ group. (
+        λ _. redirect,
+        λ leads.
+            let zero = leads_zero n i log before m h leads in (
+              λ _. busy,
+              λ _. (
+                λ _. still,
+                λ _. (
+                  λ _. rw zero (stored_outcome n log before q m f g (rw zero at h) (session_answer q m) refl),
+                  λ _. (
+                    λ _. busy,
+                    λ room.
+                        (λ _. rw zero (next_outcome n log before q m f g (rw zero at h) asked (eqb-true q.cluster m.cluster (not_true (eqb q.cluster m.cluster) group)) (or_parts _ _ room).1), λ _. still),
+                  ),
+                ),
+              ),
+            ),
+      ),
+    )

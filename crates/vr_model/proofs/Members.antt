@@ -1,13 +1,12 @@
 -- What each replica of a group in view 0 keeps: its log is a front of one log, which is the primary's, and what it has applied
 -- is committed.
-use Rattle.std.proofs.Common.{zero, suc, ◌≡◌, ◌≤◌, ◌<◌, ◌⊎◌, inl, inr, ℕ, ◌+◌, ◌-◌, List, [], ◌∷◌, ◌++◌, length, take, drop, Bool, true, false, cond, eqb, refl, arith, Option, Some, None, ap, sym, ◌∙◌, length-append, add-zero}
-use Rattle.std.specs.List.{slice_get, list_any, count_by, AllByRecursion}
+use Rattle.std.proofs.Common.{zero, suc, ◌≡◌, ◌≤◌, ◌<◌, inl, inr, ℕ, ◌+◌, ◌-◌, List, [], ◌∷◌, ◌++◌, length, take, drop, Bool, true, false, cond, arith, Some, ap, sym, ◌∙◌, length-append, add-zero}
+use Rattle.std.specs.List.{slice_get, list_any, count_by}
 use Rattle.std.specs.Option.{option_map_or, is_some}
-use Rattle.std.specs.Prelude.{⊤, slice_index_or}
+use Rattle.std.specs.Prelude.{slice_index_or}
 use Rattle.std.proofs.Math.Bool.{or-false}
 use Rattle.std.proofs.Math.Seq.{drop-append_seam, take-append_seam}
 use Rattle.std.proofs.lemmas.Option.{slice_get_within}
-use Rattle.std.proofs.lemmas.List.{append-nil}
 use Rattle.std.proofs.lemmas.List.Sums.{sum_by_push}
 use Rattle.vr_base.specs.Groups.{quorums_of}
 use Rattle.vr_base.specs.Replicas.{no_replicas, has_replica}
@@ -24,9 +23,9 @@ use Rattle.vr_msg.specs.declared.output.Output.{Output}
 use Rattle.vr_msg.specs.declared.output.Output.TheVariants as output
 use Rattle.vr_msg.specs.declared.output.Sent.{Sent}
 use Rattle.vr_model.specs.declared.memory.Memory.{Memory}
-use Rattle.vr_model.specs.Safe.{HasSent, Vouches, HasQuorum, IsCommitted, root, stands_on, IsCommittedAt, AreCommitted, is_line_of, lines_by, answered_after, IsBacked}
-use Rattle.vr_model.proofs.Fronts.{Front, front_refl, front_append, front_trans, front_le, get_within, get_last, get_more, each_more, take_front}
-use Rattle.vr_model.proofs.Growing.{sent_later, vouches_later, are_committed_later, committed_within, backed_more}
+use Rattle.vr_model.specs.Safe.{HasSent, Vouches, AreCommitted, is_line_of, lines_by, IsBacked}
+use Rattle.vr_model.proofs.Fronts.{Front, front_refl, front_append, front_trans, front_le, get_within, get_more, take_front}
+use Rattle.vr_model.proofs.Growing.{sent_later, vouches_later, are_committed_later}
 use Rattle.vr_model.proofs.Stored.{IsNumbered}
 
 -- ---- the log

@@ -1,26 +1,16 @@
 -- Each word at a replica of a group in view 0.
-use Rattle.std.proofs.Common.{zero, suc, ◌≡◌, ◌≤◌, ◌<◌, ◌⊎◌, inl, inr, ℕ, ◌+◌, ◌-◌, List, [], ◌∷◌, ◌++◌, length, map, take, drop, Bool, true, false, cond, eqb, leb, refl, arith, Option, Some, None, ap, sym, ◌∙◌, append_assoc, length-append, min, max, subst}
-use Rattle.std.specs.List.{slice_get, AllByRecursion, prefix_len}
-use Rattle.std.specs.Option.{option_map_or, is_some}
-use Rattle.std.specs.Prelude.{⊤, slice_index_or}
-use Rattle.std.proofs.lemmas.Bool.{leb-true, eqb-true, eq-eqb}
-use Rattle.std.proofs.lemmas.Bool.Decides.{nat_tests}
-use Rattle.std.proofs.lemmas.List.{append-nil, get_or-set_same, get_or-set_other}
+use Rattle.std.proofs.Common.{suc, ◌≡◌, ◌≤◌, ◌<◌, ◌⊎◌, inl, inr, ℕ, ◌+◌, ◌-◌, List, [], ◌∷◌, ◌++◌, length, map, take, Bool, true, false, cond, eqb, refl, arith, Some, ap, sym, ◌∙◌, append_assoc, subst}
+use Rattle.std.specs.List.{slice_get, AllByRecursion}
+use Rattle.std.proofs.lemmas.Bool.{eqb-true, eq-eqb}
+use Rattle.std.proofs.lemmas.List.{append-nil}
 use Rattle.std.proofs.lemmas.Option.{slice_get_within}
 use native.Mathlib.Nat.{zero-mod}
-use Rattle.vr_base.specs.declared.replicas.Replicas.{Replicas}
-use Rattle.vr_base.specs.Replicas.{no_replicas, with_replica, has_replica, size}
 use Rattle.vr_disk.specs.DiskState.{Face}
-use Rattle.vr_header.specs.declared.header.Header.{Header}
 use Rattle.vr_header.specs.Made.{Whole}
-use Rattle.vr_header.specs.Names.{StandsOn}
 use Rattle.vr_sess.specs.declared.session.SessionAnswer.{SessionAnswer}
 use Rattle.vr_sess.specs.declared.session.SessionAnswer.TheVariants as answer
-use Rattle.vr_sess.specs.Sessions.{checked}
 use Rattle.vr_apply.specs.Folds.{state_after, check, answered, executed, outcome_of, fresh_outcome, answer_at}
 use Rattle.vr_apply.specs.Folds as state
-use Rattle.vr_msg.specs.declared.frame.Frame.{Frame}
-use Rattle.vr_msg.specs.declared.frame.Frame.TheVariants as frame
 use Rattle.vr_msg.specs.declared.output.Output.{Output}
 use Rattle.vr_msg.specs.declared.output.Output.TheVariants as output
 use Rattle.vr_apply.specs.declared.state.State.{State}
@@ -28,17 +18,16 @@ use Rattle.vr_msg.specs.declared.output.Committed.{Committed}
 use Rattle.vr_msg.specs.declared.output.Sent.{Sent}
 use Rattle.vr_msg.specs.declared.reply.ReplyFields.{ReplyFields}
 use Rattle.vr_msg.specs.declared.reply.ReplyKind.{ReplyKind}
-use Rattle.vr_msg.specs.declared.reply.ReplyKind.TheVariants as reply
 use Rattle.vr_msg.specs.Normal.{primary}
 use Rattle.vr_model.specs.declared.memory.Memory.{Memory}
-use Rattle.vr_model.specs.Steps.{Effect, Say, Step, Word, face_after, output_of, outputs, ◌⨾◌, quiet, change, says, by, times}
-use Rattle.vr_model.specs.Words.{is_primary, entry_at, replies, asker_of, kind_of, commit_line, applied_reply, applied, apply_entry, apply_next, apply, learned, learn}
+use Rattle.vr_model.specs.Steps.{Effect, Say, Step, Word, face_after, output_of, outputs, ◌⨾◌, quiet, change, says}
+use Rattle.vr_model.specs.Words.{is_primary, replies, asker_of, kind_of, commit_line, applied_reply, applied}
 use Rattle.vr_model.specs.declared.named.Asker.{Asker}
-use Rattle.vr_model.specs.Safe.{HasSent, Vouches, HasQuorum, IsCommitted, root, stands_on, IsCommittedAt, AreCommitted, IsBackedMessage, IsLine, is_line_of, lines_by, answered_after, session_says, IsOutcomeOf, IsReplyOf, IsTrueReply, IsBacked}
-use Rattle.vr_model.proofs.Fronts.{Front, front_refl, front_append, front_trans, front_le, get_within, get_some, get_more, some_same}
-use Rattle.vr_model.proofs.Growing.{sent_later, vouches_later, are_committed_later, committed_within, backed_more}
+use Rattle.vr_model.specs.Safe.{AreCommitted, is_line_of, lines_by, answered_after, IsReplyOf}
+use Rattle.vr_model.proofs.Fronts.{Front, front_refl, front_append, front_trans, front_le, get_within, some_same}
+use Rattle.vr_model.proofs.Growing.{vouches_later, are_committed_later}
 use Rattle.vr_model.proofs.Stored.{IsNumbered, answer_next, state_next, repeat_stored}
-use Rattle.vr_model.proofs.Members.{stood_on, IsChained, Holds, HoldsName, IsTold, Group, last_line, last_line_next, Member, MayCome, told_later, group_next, member_next, lines_next, lines_line}
+use Rattle.vr_model.proofs.Members.{Group, last_line, last_line_next, Member, MayCome, group_next, member_next, lines_next, lines_line}
 
 -- ---- scripts
 
@@ -187,7 +176,7 @@ applied_says log m lines e r answer.Fresh numbers at l c q is =
     let s = state_after (take m log) in
     let op = numbers m e at in
     let next : answer_at log (m + 1) ≡ Some (record { client = e.header.client; request = e.header.request; answer = answer.Fresh; outcome = Some (outcome_of s e) }) =
-        subst (λ a. answer_at log (m + 1) ≡ Some (record { client = e.header.client; request = e.header.request; answer = a; outcome = fresh_outcome s e a })) is (answer_next log m e at) in
+    subst (λ a. answer_at log (m + 1) ≡ Some (record { client = e.header.client; request = e.header.request; answer = a; outcome = fresh_outcome s e a })) is (answer_next log m e at) in
     record { op = (omega (arith, op), omega (arith, op, l)); answer = rw (op, c, q) next }
 applied_says log m lines e r (answer.Repeat outcome op) numbers at l c q is =
     let within = slice_get_within log m e at in

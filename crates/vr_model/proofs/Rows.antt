@@ -14,7 +14,6 @@ use Rattle.vr_msg.specs.declared.output.Output.{Output}
 use Rattle.vr_msg.specs.declared.output.Output.TheVariants as output
 use Rattle.vr_msg.specs.declared.reply.ReplyKind.{ReplyKind}
 use Rattle.vr_msg.specs.declared.reply.ReplyKind.TheVariants as reply
-use Rattle.vr_msg.specs.declared.request.RequestFields.{RequestFields}
 use Rattle.vr_msg.specs.Normal as decide
 use Rattle.vr_apply.specs.Folds as state
 use Rattle.vr_sess.specs.Sessions as sess
@@ -23,7 +22,7 @@ use Rattle.vr_model.specs.Steps.{face_after, outputs, ◌⨾◌, quiet, change, 
 use Rattle.vr_model.specs.Words.{sends_to_all, prepares, acknowledges, written, write, commit_line, applied_reply, applied, apply_entry, apply_next, apply, learned, learn, advanced, advance, acknowledged}
 use Rattle.vr_msg.specs.Normal.{advanced_to}
 use Rattle.vr_model.specs.Rules.{summary, is_in_flight, request_summary, next_entry, make, on_request, on_prepare, on_prepare_ok, react}
-use Rattle.vr_model.specs.World.{Happening, Asks, Arrives, World, fresh_world, messages, grouped, delivered, happens, happen}
+use Rattle.vr_model.specs.World.{Happening, Asks, Arrives, fresh_world, messages, grouped, delivered, happens, happen}
 
 -- a checksum of one number
 cheap : List ℕ → List ℕ

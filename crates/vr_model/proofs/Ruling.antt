@@ -1,30 +1,14 @@
 -- Each rule at a replica of a group in view 0.
-use Rattle.std.proofs.Common.{zero, suc, ◌≡◌, ◌≤◌, ◌<◌, ◌⊎◌, inl, inr, ℕ, ◌+◌, ◌-◌, ◌^◌, List, [], ◌∷◌, ◌++◌, length, map, take, Bool, true, false, not, cond, eqb, leb, ltb, refl, arith, Option, Some, None, ap, sym, ◌∙◌, append_assoc, length-append, min, max, subst}
-use Rattle.std.specs.List.{slice_get, range_with_len, filter}
-use Rattle.std.specs.Option.{option_map_or, is_some}
-use Rattle.std.specs.Prelude.{slice_index_or, slice_set, ◌||◌, ◌&&◌, ◌==◌, ◌%◌, nat_le, nat_lt, IsTrue, replicate}
-use Rattle.std.proofs.lemmas.Bool.{and_parts, eqb-true, eq-eqb, leb-true, ltb-true}
-use Rattle.std.proofs.lemmas.Bool.Decides.{nat_tests}
-use Rattle.std.proofs.lemmas.List.{append-nil, get_or-set_same, get_or-set_other, take-append-le, length-set}
+use Rattle.std.proofs.Common.{zero, suc, ◌≡◌, ◌<◌, inl, inr, ℕ, ◌+◌, ◌-◌, List, [], ◌∷◌, ◌++◌, length, map, Bool, true, false, not, cond, refl, arith, Some, ap, sym, ◌∙◌, length-append, subst}
+use Rattle.std.specs.List.{slice_get}
+use Rattle.std.specs.Prelude.{slice_index_or, slice_set, ◌||◌}
+use Rattle.std.proofs.lemmas.Bool.{and_parts, eqb-true, ltb-true}
+use Rattle.std.proofs.lemmas.List.{get_or-set_same, get_or-set_other, length-set}
 use Rattle.std.proofs.lemmas.Option.{slice_get_within}
 use Rattle.vr_base.specs.Bytes.{name_of}
-use Rattle.vr_base.specs.declared.replicas.Replicas.{Replicas}
-use Rattle.vr_base.specs.Groups.{quorums_of}
 use Rattle.vr_base.specs.Replicas.{no_replicas, with_replica, has_replica}
-use Rattle.vr_base.proofs.FieldLaws.{length-name_of}
 use Rattle.vr_disk.specs.DiskState.{Face}
-use Rattle.vr_header.specs.declared.header.Header.{Header}
-use Rattle.vr_header.specs.declared.operation.Operation.{Operation}
-use Rattle.vr_header.specs.declared.operation.Operation.TheVariants.{Register, Put, Get, Delete}
-use Rattle.vr_header.specs.Bodies.{IsOperation, operation_bytes}
 use Rattle.vr_header.specs.Made.{Whole}
-use Rattle.vr_header.specs.Names.{root_header, header_name, StandsOn}
-use Rattle.vr_header.specs.Spelling.{IsHeader}
-use Rattle.vr_header.proofs.BodyLaws.{text_limit}
-use Rattle.vr_sess.specs.declared.session.SessionAnswer.{SessionAnswer}
-use Rattle.vr_sess.specs.declared.session.SessionAnswer.TheVariants as answer
-use Rattle.vr_sess.specs.Sessions.{checked}
-use Rattle.vr_apply.specs.Folds.{state_after}
 use Rattle.vr_msg.specs.declared.frame.Frame.{Frame}
 use Rattle.vr_msg.specs.declared.frame.Frame.TheVariants as frame
 use Rattle.vr_msg.specs.declared.frame.Prepare.{Prepare}
@@ -32,27 +16,20 @@ use Rattle.vr_msg.specs.declared.frame.PrepareOk.{PrepareOk}
 use Rattle.vr_msg.specs.declared.output.Output.{Output}
 use Rattle.vr_msg.specs.declared.output.Output.TheVariants as output
 use Rattle.vr_msg.specs.declared.output.Sent.{Sent}
-use Rattle.vr_msg.specs.declared.event.Event.{Event}
-use Rattle.vr_msg.specs.declared.event.Event.TheVariants as event
-use Rattle.vr_msg.specs.declared.request.RequestFields.{RequestFields}
-use Rattle.vr_msg.specs.declared.reply.ReplyFields.{ReplyFields}
-use Rattle.vr_msg.specs.declared.reply.ReplyKind.{ReplyKind}
-use Rattle.vr_msg.specs.declared.reply.ReplyKind.TheVariants as reply
 use Rattle.vr_msg.specs.declared.summary.Decision.{Decision}
 use Rattle.vr_msg.specs.declared.summary.Decision.TheVariants as rule
 use Rattle.vr_msg.specs.Normal as decide
 use Rattle.vr_model.specs.declared.memory.Memory.{Memory}
-use Rattle.vr_model.specs.Steps.{Effect, Say, Step, Word, face_after, outputs, ◌⨾◌, quiet, change, says, by}
-use Rattle.vr_model.specs.Words.{is_primary, named, head_header, others, send, sends_to_all, prepares, acknowledges, replies, written, write, learn, advance, acknowledged}
-use Rattle.vr_model.specs.declared.named.Asker.{Asker}
-use Rattle.vr_model.specs.Rules.{summary, request_summary, session_answer, request_of, next_entry, make, stored_reply, obey_request, on_request, obey_prepare, on_prepare, obey_prepare_ok, on_prepare_ok, on_message, react}
+use Rattle.vr_model.specs.Steps.{face_after, outputs, ◌⨾◌, quiet, change, says, by}
+use Rattle.vr_model.specs.Words.{is_primary, named, send, acknowledges, written, write, learn, advance, acknowledged}
+use Rattle.vr_model.specs.Rules.{summary, obey_prepare, on_prepare, obey_prepare_ok, on_prepare_ok}
 use Rattle.vr_model.specs.Safe.{HasSent, Vouches, AreCommitted, is_line_of, lines_by, answered_after, session_says, IsReplyOf, IsBacked}
 use Rattle.vr_model.specs.Safe as safe
-use Rattle.vr_model.proofs.Fronts.{Front, front_refl, front_append, front_more, front_trans, front_le, get_within, get_some, get_more, get_last, each_more, some_same}
-use Rattle.vr_model.proofs.Growing.{are_committed_later, backed_more, vouches_later}
-use Rattle.vr_model.proofs.Stored.{is_one, repeat_stored}
-use Rattle.vr_model.proofs.Members.{stood_on, IsChained, Holds, HoldsName, IsPrepared, IsTold, Group, last_line, Member, MayCome, told_later, prepared_later, group_next, member_next}
-use Rattle.vr_model.proofs.Moving.{Left, Outcome, left_then, outcome_then, outcome_quiet, outcome_change, outcome_says, outcome_reply, AllCome, none, then, leads_is, left_said}
+use Rattle.vr_model.proofs.Fronts.{Front, front_refl, front_append, front_more, front_trans, get_within, some_same}
+use Rattle.vr_model.proofs.Growing.{are_committed_later}
+use Rattle.vr_model.proofs.Stored.{is_one}
+use Rattle.vr_model.proofs.Members.{Holds, HoldsName, IsTold, Group, Member}
+use Rattle.vr_model.proofs.Moving.{Outcome, outcome_then, outcome_quiet, outcome_change, outcome_says, AllCome, none, then, leads_is}
 use Rattle.vr_model.proofs.Applying.{has_with, learn_outcome, advance_outcome}
 
 -- ---- what decides
@@ -171,15 +148,29 @@ unfolding on_prepare by decide.on_prepare summary
 prepare_outcome n i log before from p m f g h t =
     let still : Outcome n i log before (quiet m f) = outcome_quiet n i log before m f g h in
     let learns : Outcome n i log before (learn p.commit m f) = learn_outcome n i log before p.commit m f g h t.3 in
-    decided (λ d. Outcome n i log before (obey_prepare name_of p d m f)) (decide.prepare_rules (summary name_of m p.entry.header.op) p)
-    (λ _. still, λ _.
-    (λ _. still, λ _.
-    (λ _. learns, λ _.
-    (λ _. still, λ _.
-    (λ _. acknowledged_learn n i log before p.entry p.commit m f g h t.2 t.3, λ _.
-    (λ b. write_acknowledged n i log before p.entry p.commit m f g h t.2 (eqb-true p.entry.header.op (length m.log + 1) (and_parts _ _ (and_parts _ _ b).1).0) t.3, λ _.
-    (λ _. learns, λ _.
-    (λ _. still, λ _. still))))))))
+    decided (λ d. Outcome n i log before (obey_prepare name_of p d m f)) (decide.prepare_rules (summary name_of m p.entry.header.op) p) (
+      λ _. still,
+      λ _. (
+        λ _. still,
+        λ _. (
+          λ _. learns,
+          λ _. (
+            λ _. still,
+            λ _. (
+              λ _. acknowledged_learn n i log before p.entry p.commit m f g h t.2 t.3,
+              λ _. (
+                λ b. write_acknowledged n i log before p.entry p.commit m f g h t.2 (eqb-true p.entry.header.op (length m.log + 1) (and_parts _ _ (and_parts _ _ b).1).0) t.3,
+                λ _. (
+                  λ _. learns,
+                  λ _.
+                      (λ _. still, λ _. still),
+                ),
+              ),
+            ),
+          ),
+        ),
+      ),
+    )
 
 -- ---- a prepare_ok
 
@@ -236,13 +227,15 @@ pub prepare_ok_outcome : (n i : ℕ) (log : List Whole) (before : List Output) (
 unfolding on_prepare_ok by decide.on_prepare_ok summary
 prepare_ok_outcome n i log before a m f g h sent view name =
     let still : Outcome n i log before (quiet m f) = outcome_quiet n i log before m f g h in
-    decided (λ d. Outcome n i log before (obey_prepare_ok a d m f)) (decide.prepare_ok_rules (summary name_of m a.op) a)
-    (λ b.
-        let p = and_parts _ _ b in
-        let from = and_parts _ _ (and_parts _ _ p.0).1 in
-        let leads = (and_parts _ _ p.1).0 in
-        let zero : i ≡ 0 = eqb-true i 0 (sym (leads_is n i log before m h) ∙ leads) in
-        let below = ltb-true a.replica m.n from.0 in
-        let size = h.size in
-        let member = counted_member n log before a m g (rw zero at h) sent view name (rw size at below) in
-        rw zero (counted_outcome n log before a m f g member), λ _. still)
+    decided (λ d. Outcome n i log before (obey_prepare_ok a d m f)) (decide.prepare_ok_rules (summary name_of m a.op) a) (
+      λ b.
+          let p = and_parts _ _ b in
+          let from = and_parts _ _ (and_parts _ _ p.0).1 in
+          let leads = (and_parts _ _ p.1).0 in
+          let zero : i ≡ 0 = eqb-true i 0 (sym (leads_is n i log before m h) ∙ leads) in
+          let below = ltb-true a.replica m.n from.0 in
+          let size = h.size in
+          let member = counted_member n log before a m g (rw zero at h) sent view name (rw size at below) in
+          rw zero (counted_outcome n log before a m f g member),
+      λ _. still,
+    )

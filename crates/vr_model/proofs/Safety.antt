@@ -1,5 +1,5 @@
 -- A group in view 0 is safe, whatever happens to it.
-use Rattle.std.proofs.Common.{zero, suc, ◌≡◌, ◌⊎◌, inl, inr, ◌<◌, ◌≤◌, ℕ, ◌+◌, ◌-◌, ◌%◌, List, [], ◌∷◌, ◌++◌, length, take, map, set, Bool, true, false, cond, refl, ap, sym, ◌∙◌, arith, append_assoc, subst, Option, Some, None}
+use Rattle.std.proofs.Common.{zero, suc, ◌≡◌, inl, inr, ◌<◌, ℕ, ◌+◌, ◌-◌, ◌%◌, List, [], ◌∷◌, ◌++◌, length, map, set, Bool, true, false, cond, refl, ap, sym, ◌∙◌, arith, append_assoc, subst, Option, Some, None}
 use Rattle.std.specs.List.{slice_get, range_with_len, AllByRecursion, count_by}
 use Rattle.std.specs.Option.{IfSome, is_some, option_map_or}
 use Rattle.std.specs.Prelude.{⊤, ◌==◌, slice_index_or}
@@ -9,8 +9,6 @@ use Rattle.std.proofs.lemmas.Option.{slice_get_within}
 use Rattle.vr_base.specs.Bytes.{name_of}
 use Rattle.vr_base.specs.Groups.{quorums_of, these}
 use Rattle.vr_base.specs.declared.table.Quorums.{Quorums}
-use Rattle.vr_base.specs.declared.replicas.Replicas.{Replicas}
-use Rattle.vr_base.specs.Replicas.{has_replica, size}
 use Rattle.vr_disk.specs.DiskState.{Face}
 use Rattle.vr_header.specs.declared.header.Header.{Header}
 use Rattle.vr_header.specs.Made.{Whole}
@@ -28,10 +26,10 @@ use Rattle.vr_model.specs.declared.memory.Memory.{Memory}
 use Rattle.vr_model.specs.Steps.{outputs}
 use Rattle.vr_msg.specs.Normal.{replication}
 use Rattle.vr_model.specs.Rules.{on_message, react}
-use Rattle.vr_model.specs.World.{World, fresh, fresh_world, Happening, Asks, Arrives, IsAsked, IsHappening, Happened, nothing, message_of, messages, no_face, grouped, handled, delivered, happens, later, happen}
+use Rattle.vr_model.specs.World.{World, fresh, fresh_world, Happening, Asks, Arrives, IsAsked, IsHappening, message_of, messages, no_face, grouped, handled, delivered, happens, happen}
 use Rattle.vr_model.specs.Safe.{HasSent, Vouches, acknowledged, prepared, HasQuorum, IsCommitted, root, stands_on, IsHashed, sent, given, Safe}
-use Rattle.vr_model.proofs.Fronts.{Front, front_refl, get_some}
-use Rattle.vr_model.proofs.Members.{IsTold, IsPrepared, Group, Member, member_next, member_longer}
+use Rattle.vr_model.proofs.Fronts.{front_refl}
+use Rattle.vr_model.proofs.Members.{IsTold, Group, Member, member_next, member_longer}
 use Rattle.vr_model.proofs.Moving.{Left, Outcome, NoLines, outcome_quiet}
 use Rattle.vr_model.proofs.Ruling.{prepare_outcome, prepare_ok_outcome}
 use Rattle.vr_model.proofs.Making.{request_outcome}

@@ -1,9 +1,9 @@
 -- What the sessions store is what the entries of the log gave.
-use Rattle.std.proofs.Common.{zero, suc, ◌≡◌, ◌≢◌, ◌≤◌, ◌<◌, ◌⊎◌, inl, inr, ℕ, ◌+◌, ◌-◌, List, [], ◌∷◌, ◌++◌, length, take, Bool, true, false, cond, eqb, refl, arith, Option, Some, None, ap, sym, ◌∙◌, subst}
+use Rattle.std.proofs.Common.{zero, suc, ◌≡◌, ◌≢◌, ◌≤◌, ◌<◌, ◌⊎◌, inl, inr, ℕ, ◌+◌, ◌-◌, List, length, take, Bool, true, false, cond, eqb, refl, arith, Option, Some, None, ap, sym, ◌∙◌, subst}
 use Rattle.std.specs.List.{slice_get}
-use Rattle.std.specs.Option.{option_map, option_map_or}
+use Rattle.std.specs.Option.{option_map_or}
 use Rattle.std.specs.Ordering.{nat_cmp}
-use Rattle.std.specs.Prelude.{is_some, ◌==◌, nat_lt}
+use Rattle.std.specs.Prelude.{is_some, nat_lt}
 use Rattle.std.proofs.lemmas.Bool.{eqb-true}
 use Rattle.std.proofs.lemmas.Bool.Decides.{nat_tests}
 use Rattle.vr_header.specs.declared.outcome.Outcome.{Outcome}
@@ -16,8 +16,7 @@ use Rattle.vr_sess.specs.Sessions.{Map, Asked, judged, checked, oldest, without_
 use Rattle.vr_sess.specs.Sessions as sess
 use Rattle.vr_sess.specs.Effects.{stored}
 use Rattle.vr_sess.proofs.Steps.{find_put_own, find_put_other, find_without_own, find_without_other}
-use Rattle.vr_apply.specs.Folds.{empty, check, asked, applied, answered, executed, outcome_of, fresh_outcome, state_after, answer_at}
-use Rattle.vr_apply.specs.declared.state.State.{State}
+use Rattle.vr_apply.specs.Folds.{check, asked, applied, answered, executed, outcome_of, fresh_outcome, state_after, answer_at}
 use Rattle.vr_apply.proofs.Once.{state_after_more}
 use Rattle.vr_model.proofs.Fronts.{get_some, take_next, some_same}
 
@@ -89,7 +88,7 @@ stored_own log m e numbers at fresh =
     let op = numbers m e at in
     let state = state_after (take m log) in
     let next : answer_at log (m + 1) ≡ Some (record { client = e.header.client; request = e.header.request; answer = answer.Fresh; outcome = Some (outcome_of state e) }) =
-        subst (λ a. answer_at log (m + 1) ≡ Some (record { client = e.header.client; request = e.header.request; answer = a; outcome = fresh_outcome state e a })) fresh (answer_next log m e at) in
+    subst (λ a. answer_at log (m + 1) ≡ Some (record { client = e.header.client; request = e.header.request; answer = a; outcome = fresh_outcome state e a })) fresh (answer_next log m e at) in
     record { op = (omega (arith, op), omega (arith, op)); answer = rw op next }
 
 stored_by : (log : List Whole) (m : ℕ) (e : Whole) (a : SessionAnswer) (c : ℕ) (s : Session) → IsNumbered log → slice_get log m ≡ Some e → check (state_after (take m log)) e ≡ a
@@ -123,14 +122,14 @@ all_stored log numbers (suc m) le c s h =
 judged_repeat : (request : ℕ) (s : Session) (outcome : Outcome) (op : ℕ) → judged request s ≡ answer.Repeat outcome op → (request ≡ s.number) × (outcome ≡ s.outcome) × (op ≡ s.op)
 judged_repeat request s outcome op h =
     let cases : (b d g : Bool) → eqb request s.number ≡ b
-            → cond b (answer.Repeat s.outcome s.op) (cond d answer.Old (cond g answer.Fresh answer.Gap)) ≡ answer.Repeat outcome op → (request ≡ s.number) × (outcome ≡ s.outcome) × (op ≡ s.op) =
-        λ b d g. elim b as (λ x. eqb request s.number ≡ x → cond x (answer.Repeat s.outcome s.op) (cond d answer.Old (cond g answer.Fresh answer.Gap)) ≡ answer.Repeat outcome op → (request ≡ s.number) × (outcome ≡ s.outcome) × (op ≡ s.op)) [
-          | true ↦ λ e k. (eqb-true request s.number e, cc, cc)
-          | false ↦ λ e k. elim d as (λ x. cond x answer.Old (cond g answer.Fresh answer.Gap) ≡ answer.Repeat outcome op → (request ≡ s.number) × (outcome ≡ s.outcome) × (op ≡ s.op)) [
-            | true ↦ λ l. absurd (cc)
-            | false ↦ λ l. elim g as (λ x. cond x answer.Fresh answer.Gap ≡ answer.Repeat outcome op → (request ≡ s.number) × (outcome ≡ s.outcome) × (op ≡ s.op)) [ true ↦ λ j. absurd (cc) | false ↦ λ j. absurd (cc) ] l
-          ] k
-        ] in
+    → cond b (answer.Repeat s.outcome s.op) (cond d answer.Old (cond g answer.Fresh answer.Gap)) ≡ answer.Repeat outcome op → (request ≡ s.number) × (outcome ≡ s.outcome) × (op ≡ s.op) =
+    λ b d g. elim b as (λ x. eqb request s.number ≡ x → cond x (answer.Repeat s.outcome s.op) (cond d answer.Old (cond g answer.Fresh answer.Gap)) ≡ answer.Repeat outcome op → (request ≡ s.number) × (outcome ≡ s.outcome) × (op ≡ s.op)) [
+      | true ↦ λ e k. (eqb-true request s.number e, cc, cc)
+      | false ↦ λ e k. elim d as (λ x. cond x answer.Old (cond g answer.Fresh answer.Gap) ≡ answer.Repeat outcome op → (request ≡ s.number) × (outcome ≡ s.outcome) × (op ≡ s.op)) [
+        | true ↦ λ l. absurd (cc)
+        | false ↦ λ l. elim g as (λ x. cond x answer.Fresh answer.Gap ≡ answer.Repeat outcome op → (request ≡ s.number) × (outcome ≡ s.outcome) × (op ≡ s.op)) [ true ↦ λ j. absurd (cc) | false ↦ λ j. absurd (cc) ] l
+      ] k
+    ] in
     cases (eqb request s.number) (nat_lt request s.number) (eqb request (s.number + 1)) refl h
 
 repeat_by : (o : Option Session) (request : ℕ) (outcome : Outcome) (op : ℕ) → option_map_or (judged request) o (cond (eqb request 0) answer.Fresh answer.Evicted) ≡ answer.Repeat outcome op

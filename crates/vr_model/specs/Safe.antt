@@ -1,5 +1,5 @@
 -- What a group keeps, said of all outputs of its replicas in the order in which they were put out, and of nothing else.
-use Rattle.std.specs.Prelude.{ℕ, ◌+◌, ◌-◌, ◌<◌, ◌≤◌, ◌≡◌, ◌⊎◌, ◌==◌, ⊤, Bool, true, false, List, length, take, drop, count_by, slice_get, Option, Some, None, if◌then◌else◌}
+use Rattle.std.specs.Prelude.{ℕ, ◌-◌, ◌<◌, ◌≤◌, ◌≡◌, ◌==◌, ⊤, Bool, true, false, List, length, take, drop, count_by, slice_get, Some, if◌then◌else◌}
 use Rattle.std.specs.List.{list_any}
 use Rattle.vr_base.specs.declared.replicas.Replicas.{Replicas}
 use Rattle.vr_base.specs.Replicas.{has_replica, size}

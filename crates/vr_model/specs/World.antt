@@ -1,5 +1,5 @@
 -- A group of replicas and the messages between them.
-use Rattle.std.specs.Prelude.{ℕ, ◌+◌, ◌%◌, ◌^◌, ◌<◌, ⊤, List, [], ◌∷◌, ◌++◌, length, map, slice_get, slice_set, Option, Some, None}
+use Rattle.std.specs.Prelude.{ℕ, ◌%◌, ◌^◌, ◌<◌, ⊤, List, [], ◌∷◌, ◌++◌, length, map, slice_get, slice_set, Option, Some, None}
 use Rattle.std.specs.List.{range_with_len}
 use Rattle.std.specs.Option.{option_map_or}
 use Rattle.vr_disk.specs.DiskState.{Face}

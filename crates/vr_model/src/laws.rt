@@ -11,5 +11,4 @@ ghost use Rattle.vr_model.specs.Laws.{GroupIsSafe};
 #[tactic(auto, using(crate::proofs::Safety::safe))]
 pub fn group_laws()
     ensures { GroupIsSafe }
-{
-}
+{}
