@@ -106,9 +106,11 @@ prepare_rules s p =
     ∷ []
 
 abbrev pub prepare_ok_rules : Summary → PrepareOk → Table
-prepare_ok_rules s a =
-    (is_from s a.cluster a.replica
-    && (leads s && (a.view == s.view && (nat_lt s.commit a.op && (nat_le a.op s.head && is_named a.name s.known)))), rule.Counted)
+prepare_ok_rules s a = (
+  is_from s a.cluster a.replica
+      && (leads s && (a.view == s.view && (nat_lt s.commit a.op && (nat_le a.op s.head && is_named a.name s.known)))),
+  rule.Counted,
+)
     ∷ []
 
 unfoldable pub on_request : Summary → RequestFields → Decision

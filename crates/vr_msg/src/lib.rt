@@ -31,8 +31,8 @@ pub use message::Message;
 pub use output::{Chosen, Committed, Outbox, Output, Sent, Started, Waiting};
 pub use reply::{Answered, Reply, ReplyFields, ReplyKind};
 pub use request::{Request, RequestFields};
-pub use summary::{Decision, Named, Summary};
 pub use statement::{DvcBody, Statement, SvBody};
+pub use summary::{Decision, Named, Summary};
 
 #[cfg(test)]
 mod tests;
