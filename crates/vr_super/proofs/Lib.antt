@@ -1,3 +1,4 @@
+pub mod Alike
 pub mod Best
 pub mod Choice
 pub mod Choosing
