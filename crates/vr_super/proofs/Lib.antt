@@ -8,6 +8,7 @@ pub mod Heads
 pub mod Keeping
 pub mod Readings
 pub mod Sealing
+pub mod Shared
 pub mod Spelling
 pub mod Steps
 pub mod Torn
