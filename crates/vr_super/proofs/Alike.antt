@@ -1,9 +1,7 @@
 -- Four copies that read alike.
-use Rattle.std.proofs.Common.{ℕ, zero, suc, ◌∷◌, [], ◌<◌, ◌≤◌, ◌≡◌, inl, inr, arith, refl, sym, ap, ◌∙◌, Bool, true, false, cond, ◌&&◌, List, Option, Some, None, Result, Ok, Err, subst}
-use Rattle.std.specs.Prelude.{is_some, map, nat_eq, IfErr, IfOk, IfSome}
-use Rattle.std.specs.Cmp.Lexicographic.{pointwise}
+use Rattle.std.proofs.Common.{ℕ, zero, suc, ◌∷◌, [], ◌<◌, ◌≡◌, inl, inr, arith, refl, sym, ap, ◌∙◌, true, false, cond, ◌&&◌, List, Option, Some, None, Result, Ok, Err, subst}
+use Rattle.std.specs.Prelude.{is_some, IfErr, IfOk, IfSome}
 use Rattle.std.specs.Int.{w32, w64}
-use Rattle.std.specs.Option.{option_and_then}
 use Rattle.std.proofs.lemmas.Bool.{and_parts}
 use Rattle.std.proofs.lemmas.Slice.Eq.{bytes_eq-Decides}
 use Rattle.vr_base.specs.Bytes.{number}
@@ -16,10 +14,9 @@ use Rattle.vr_super.specs.declared.recovering.SuperFault.TheVariants as fault
 use Rattle.vr_super.specs.declared.recovering.CopyVerdict.TheVariants.{Bad}
 use Rattle.vr_super.specs.Calls.{mend_calls}
 use Rattle.vr_super.specs.Copies.{Saved, copy_bytes, value_of}
-use Rattle.vr_super.specs.Laws.{AllRead}
 use Rattle.vr_super.specs.Opens.{alike, best_of, copy_reading, found_of, four, good_copies, good_copy, if_alike, if_good, opened, opens, place_of}
-use Rattle.vr_super.specs.Recovers.{Chosen, Recovers, RecoversFrom, verdict_of}
-use Rattle.vr_super.proofs.Best.{Among, opened_among, opened_some}
+use Rattle.vr_super.specs.Recovers.{Chosen, Recovers, RecoversFrom}
+use Rattle.vr_super.proofs.Best.{opened_among, opened_some}
 use Rattle.vr_super.proofs.Choice.{chosen_some, chosen_there, opens_is, stops_on}
 use Rattle.vr_super.proofs.Keeping.{good_read, mends_none, opened_of, two_first}
 
@@ -36,10 +33,10 @@ alike_by f b (Some x) r e =
     let test = has x (copy_reading f 1) && (has x (copy_reading f 2) && has x (copy_reading f 3)) in
     elim test as (λ y. test ≡ y → cond y (Some x) None ≡ Some b → Alike f b) [
       | true ↦ λ t e.
-        let same : x ≡ b = cc in
-        let p = and_parts _ _ t in
-        let q = and_parts _ _ p.1 in
-        subst (Alike f) same (record { first = r; second = has_is x (copy_reading f 1) p.0; third = has_is x (copy_reading f 2) q.0; fourth = has_is x (copy_reading f 3) q.1 })
+          let same : x ≡ b = cc in
+          let p = and_parts _ _ t in
+          let q = and_parts _ _ p.1 in
+          subst (Alike f) same (record { first = r; second = has_is x (copy_reading f 1) p.0; third = has_is x (copy_reading f 2) q.0; fourth = has_is x (copy_reading f 3) q.1 })
       | false ↦ λ t e. absurd cc
     ] refl e
 

@@ -18,7 +18,7 @@ use Rattle.vr_disk.specs.Stops.{halted}
 use Rattle.vr_super.specs.Copies.{IsGood, Saved, copy_bytes, value_of}
 use Rattle.vr_super.specs.Opens.{agreed, copy_reading, good_copies, good_copy, if_good, opened, opens}
 use Rattle.vr_super.specs.Calls.{copy_calls, mend_calls, mend_copy, mend_from, mend_unless, save_from, write_calls}
-use Rattle.vr_super.specs.Laws.{AllRead, CountLaw, IsSaved, MendLaw, Mended, OpensOn, TellsApart, WriteLaw, Written}
+use Rattle.vr_super.specs.Laws.{AllRead, CountLaw, MendLaw, Mended, OpensOn, TellsApart, WriteLaw, Written}
 use Rattle.vr_super.proofs.Best.{Among, one, Step, Toward, opened_among, opened_some, opened_toward, opens_law}
 use Rattle.vr_super.proofs.Format.{length-copy_bytes, value_again, value_found}
 use Rattle.vr_super.proofs.Readings.{copy_is_bytes, copy_within, mend_within, other_after, other_halted, other_head}

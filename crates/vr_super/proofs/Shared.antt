@@ -1,5 +1,5 @@
 -- The headers of a value, where they stand in its bytes.
-use Rattle.std.proofs.Common.{◌≡◌, ℕ, zero, suc, ◌+◌, ◌*◌, ◌≤◌, ◌<◌, List, [], ◌∷◌, ◌++◌, length, take, drop, refl, sym, ap, ◌∙◌, append_assoc, arith, Option, Some, None}
+use Rattle.std.proofs.Common.{◌≡◌, ℕ, zero, suc, ◌+◌, ◌*◌, ◌<◌, List, [], ◌∷◌, ◌++◌, length, take, drop, sym, ap, ◌∙◌, append_assoc, arith, Some}
 use Rattle.std.specs.Prelude.{slice_get}
 use Rattle.std.specs.List.{AllByRecursion}
 use Rattle.std.proofs.lemmas.List.{drop-drop, drop_at, take_at}
@@ -8,7 +8,7 @@ use Rattle.vr_base.specs.Bytes.{piece}
 use Rattle.vr_header.specs.declared.header.Header.{Header}
 use Rattle.vr_header.specs.Spelling.{IsHeader, header_bytes}
 use Rattle.vr_header.proofs.HeaderLaws.{length-header_bytes}
-use Rattle.vr_super.specs.Copies.{IsGood, Saved, copy_bytes, list_bytes, zeros}
+use Rattle.vr_super.specs.Copies.{IsGood, Saved, copy_bytes, list_bytes}
 use Rattle.vr_super.proofs.Format.{behind_copy, count_fits}
 
 pub stands_within : (v : Saved) (i : ℕ) (h : Header) → IsGood v → slice_get v.headers i ≡ Some h → i < 64

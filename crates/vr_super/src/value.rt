@@ -63,7 +63,12 @@ impl Super {
     }
 
     /// The value of these numbers and headers, as `new` makes it. Headers that this value has too aren't hashed again.
-    pub fn next(&self, alloc: Global, fields: Fields, headers: HeaderList) -> Result<Super, NoMemory>
+    pub fn next(
+        &self,
+        alloc: Global,
+        fields: Fields,
+        headers: HeaderList,
+    ) -> Result<Super, NoMemory>
         requires { IsGood (record { fields = fields; headers = headers }) }
         ensures { IfOk result (λ s. s ≡ record { fields = fields; headers = headers }) }
     {

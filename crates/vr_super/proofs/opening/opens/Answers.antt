@@ -1,5 +1,3 @@
-use Rattle.std.proofs.Common.{◌≡◌, ◌∙◌, ap, cond, Some, None}
-use Rattle.vr_disk.specs.DiskState.{Disk}
 use Rattle.vr_super.proofs.Alike.{found_from}
 use Rattle.vr_super.proofs.opening.opens.Goals as goal
 

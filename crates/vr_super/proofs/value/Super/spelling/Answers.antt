@@ -1,4 +1,4 @@
-use Rattle.std.proofs.Common.{◌≡◌, ◌∙◌, ◌+◌, ◌*◌, ◌<◌, arith, sym, ap, length}
+use Rattle.std.proofs.Common.{◌∙◌, ◌+◌, ◌*◌, ◌<◌, arith, sym, ap, length}
 use Rattle.vr_base.specs.Bytes.{piece}
 use Rattle.vr_header.specs.Same.{same_header}
 use Rattle.vr_header.specs.Spelling.{header_bytes}
