@@ -23,7 +23,7 @@ count() {
 }
 for headers in '' headers; do
     echo "${headers:-no headers}:"
-    for what in digest make write open look; do
+    for what in digest make next half write open look; do
         few=$(count $what 10 $headers)
         many=$(count $what 110 $headers)
         echo "  $what: $(((many - few) / 100)) instructions"

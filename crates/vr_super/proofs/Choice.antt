@@ -47,11 +47,11 @@ chosen_there copies b e h = rw e (is_some_fact (value_of b) h)
 
 -- ---- over a disk
 
-opens_is : (d : Disk) (copies : List (Option (List ℕ))) → copies ≡ good_copies d.face → opens d.face ≡ option_and_then value_of (opened copies)
+pub opens_is : (d : Disk) (copies : List (Option (List ℕ))) → copies ≡ good_copies d.face → opens d.face ≡ option_and_then value_of (opened copies)
 unfolding opens
 opens_is d copies e = ap (λ c. option_and_then value_of (opened c)) (sym e)
 
-stops_on : (d : Disk) (new : Option Disk) (copies : List (Option (List ℕ))) (e : SuperFault) → copies ≡ good_copies d.face → new ≡ Some d → Chosen copies (Err e) → Recovers d new (Err e)
+pub stops_on : (d : Disk) (new : Option Disk) (copies : List (Option (List ℕ))) (e : SuperFault) → copies ≡ good_copies d.face → new ≡ Some d → Chosen copies (Err e) → Recovers d new (Err e)
 stops_on d new copies (fault.Lost vs) s n c = (opens_is d copies s ∙ c.0, n, c.1 ∙ ap (map verdict_of) s)
 stops_on d new copies fault.DiskFault s n c = elim c [ ]
 stops_on d new copies fault.NoMemory s n c = (subst (λ (o : Option Saved). IsSome o) (sym (opens_is d copies s)) c, n)

@@ -1,15 +1,13 @@
 -- Copies read in their places, and judged.
-use Rattle.std.proofs.Common.{ℕ, zero, suc, ◌+◌, ◌<◌, ◌≡◌, arith, refl, sym, ap, ◌∙◌, Bool, true, false, cond, ◌&&◌, List, [], ◌∷◌, ◌++◌, length, take, get_or, Option, Some, None, subst}
-use Rattle.std.specs.Prelude.{IfSome, is_some, map, nat_eq}
+use Rattle.std.proofs.Common.{ℕ, zero, suc, ◌<◌, ◌≡◌, arith, refl, ap, ◌∙◌, Bool, true, false, cond, ◌&&◌, List, [], ◌∷◌, length, get_or, Some, None}
+use Rattle.std.specs.Prelude.{is_some, nat_eq}
 use Rattle.std.specs.List.{AllByRecursion}
 use Rattle.std.specs.Cmp.Lexicographic.{pointwise}
-use Rattle.std.proofs.lemmas.Bool.{and_parts}
 use Rattle.std.proofs.lemmas.Slice.Eq.{bytes_eq-Decides}
-use Rattle.vr_disk.specs.DiskState.{Disk}
 use Rattle.vr_super.specs.declared.reading.Reading.{Reading}
 use Rattle.vr_super.specs.Copies.{value_of}
-use Rattle.vr_super.specs.Opens.{good_copies, good_copy, if_good}
-use Rattle.vr_super.specs.Seen.{IsHonest, IsRead, seen}
+use Rattle.vr_super.specs.Opens.{if_good}
+use Rattle.vr_super.specs.Seen.{IsHonest}
 
 -- one that was read whole tells of the same bytes whether they are good
 pub tells : (b : List ℕ) (r : Reading) → IsHonest r → r.whole ≡ true → pointwise nat_eq r.bytes b ≡ true → r.good ≡ is_some (value_of b)

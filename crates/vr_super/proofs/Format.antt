@@ -146,7 +146,7 @@ unfolding copy_bytes
 rest-copy_bytes v = drop_at (name_of (named_bytes v)) (named_bytes v) 16 (length-name_of (named_bytes v))
 
 -- behind the first 128 bytes
-abbrev tail_bytes : Saved → List ℕ
+abbrev pub tail_bytes : Saved → List ℕ
 tail_bytes v = list_bytes v.headers ++ zeros (10112 - 128 * length v.headers)
 
 split_copy : (v : Saved) → copy_bytes v ≡ joined (pieces v) ++ tail_bytes v
@@ -159,7 +159,7 @@ length-pieces v f = length-joined (pieces v) ∙ ap total (widths-pieces v f)
 begins : (v : Saved) → IsFields v.fields → BeginsWith layout (pieces v) (copy_bytes v)
 begins v f = record { widths = widths-pieces v f; front = ap (take 128) (split_copy v) ∙ take_at (joined (pieces v)) (tail_bytes v) 128 (length-pieces v f) }
 
-behind_copy : (v : Saved) → IsFields v.fields → drop 128 (copy_bytes v) ≡ tail_bytes v
+pub behind_copy : (v : Saved) → IsFields v.fields → drop 128 (copy_bytes v) ≡ tail_bytes v
 behind_copy v f = ap (drop 128) (split_copy v) ∙ drop_at (joined (pieces v)) (tail_bytes v) 128 (length-pieces v f)
 
 -- what stands at each place of a value's bytes

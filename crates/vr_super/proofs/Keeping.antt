@@ -18,7 +18,7 @@ use Rattle.vr_disk.specs.Stops.{halted}
 use Rattle.vr_super.specs.Copies.{IsGood, Saved, copy_bytes, value_of}
 use Rattle.vr_super.specs.Opens.{agreed, copy_reading, good_copies, good_copy, if_good, opened, opens}
 use Rattle.vr_super.specs.Calls.{copy_calls, mend_calls, mend_copy, mend_from, mend_unless, save_from, write_calls}
-use Rattle.vr_super.specs.Laws.{AllRead, CountLaw, IsSaved, MendLaw, Mended, OpensOn, TellsApart, WriteLaw, Written}
+use Rattle.vr_super.specs.Laws.{AllRead, CountLaw, MendLaw, Mended, OpensOn, TellsApart, WriteLaw, Written}
 use Rattle.vr_super.proofs.Best.{Among, one, Step, Toward, opened_among, opened_some, opened_toward, opens_law}
 use Rattle.vr_super.proofs.Format.{length-copy_bytes, value_again, value_found}
 use Rattle.vr_super.proofs.Readings.{copy_is_bytes, copy_within, mend_within, other_after, other_halted, other_head}
@@ -81,7 +81,7 @@ if_good_reads : (r : Option (List ℕ)) (b : List ℕ) → if_good r ≡ Some b 
 if_good_reads None b e = absurd cc
 if_good_reads (Some x) b e = elim (is_some (value_of x)) as (λ y. cond y (Some x) None ≡ Some b → Some x ≡ Some b) [ true ↦ λ e. e | false ↦ λ e. absurd cc ] e
 
-good_read : (f : Face) (c : ℕ) (b : List ℕ) → good_copy f c ≡ Some b → copy_reading f c ≡ Some b
+pub good_read : (f : Face) (c : ℕ) (b : List ℕ) → good_copy f c ≡ Some b → copy_reading f c ≡ Some b
 unfolding good_copy
 good_read f c b e = if_good_reads (copy_reading f c) b e
 
@@ -201,9 +201,9 @@ toward_of : (v : Saved) (f g : Face) → Steps v f g → Toward (copy_bytes v) (
 toward_of v f g s = (s 0 (omega arith), (s 1 (omega arith), (s 2 (omega arith), (s 3 (omega arith), tt))))
 
 -- the value that opens, by its bytes
-record Opened (f : Face) (v : Saved) : Type 0 where
-  bytes : opened (good_copies f) ≡ Some (copy_bytes v)
-  good : IsGood v
+pub record Opened (f : Face) (v : Saved) : Type 0 where
+  pub bytes : opened (good_copies f) ≡ Some (copy_bytes v)
+  pub good : IsGood v
 
 opens_by : (f : Face) (v : Saved) → IsGood v → opened (good_copies f) ≡ Some (copy_bytes v) → opens f ≡ Some v
 unfolding opens
@@ -237,7 +237,7 @@ opened_by f v (Some b) h x e =
     let p = value_found b v (among_bytes f b h (opened_among b (good_copies f) x)) e in
     record { bytes = x ∙ ap Some p.0; good = p.1 }
 
-opened_of : (f : Face) (v : Saved) → IsFace f → opens f ≡ Some v → Opened f v
+pub opened_of : (f : Face) (v : Saved) → IsFace f → opens f ≡ Some v → Opened f v
 unfolding opens
 opened_of f v h e = opened_by f v (opened (good_copies f)) h refl e
 
@@ -340,7 +340,7 @@ ends_from (suc n) k old new g how j go gn s m to tn =
           rw same (ends_from n (k + 1) old new (after_all g calls) how (j - length calls) go gn (omega arith) (written_next old new g k gn (omega arith) m) (rw same at to) (rw same at tn))
     ]
 
-two_first : (x : List ℕ) (a b c d : Option (List ℕ)) → a ≡ Some x → b ≡ Some x → agreed (a ∷ b ∷ c ∷ d ∷ []) x ≡ true
+pub two_first : (x : List ℕ) (a b c d : Option (List ℕ)) → a ≡ Some x → b ≡ Some x → agreed (a ∷ b ∷ c ∷ d ∷ []) x ≡ true
 two_first x a b c d p q =
     let i : one x a ≡ 1 = ap (λ t. cond t 1 0) (is_has x a p) in
     let j : one x b ≡ 1 = ap (λ t. cond t 1 0) (is_has x b q) in
@@ -472,7 +472,7 @@ opens_on f h = record {
 unless_none : (v : Saved) (f : Face) (k : ℕ) → copy_reading f k ≡ Some (copy_bytes v) → mend_unless k (copy_bytes v) f ≡ []
 unless_none v f k e = ap (λ b. cond b [] (mend_copy k (copy_bytes v))) (is_has (copy_bytes v) (copy_reading f k) e)
 
-mends_none : (n k : ℕ) (v : Saved) (f : Face) → k + n ≤ 4 → AllRead f v → mend_from k n (copy_bytes v) f ≡ []
+pub mends_none : (n k : ℕ) (v : Saved) (f : Face) → k + n ≤ 4 → AllRead f v → mend_from k n (copy_bytes v) f ≡ []
 unfolding mend_from
 mends_none zero k v f l a = refl
 mends_none (suc n) k v f l a = rw (unless_none v f k (a k (omega arith))) (mends_none n (k + 1) v f (omega arith) a)

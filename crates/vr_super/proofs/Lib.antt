@@ -1,3 +1,4 @@
+pub mod Alike
 pub mod Best
 pub mod Choice
 pub mod Choosing
@@ -7,6 +8,7 @@ pub mod Heads
 pub mod Keeping
 pub mod Readings
 pub mod Sealing
+pub mod Shared
 pub mod Spelling
 pub mod Steps
 pub mod Torn

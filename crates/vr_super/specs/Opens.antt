@@ -11,6 +11,15 @@ use Rattle.vr_super.specs.Copies.{Saved, value_of}
 unfoldable pub copy_reading : Face → ℕ → Option (List ℕ)
 copy_reading f copy = together (20 * copy) 20 f
 
+abbrev pub if_alike : Face → Option (List ℕ) → Option (List ℕ)
+if_alike f None = None
+if_alike f (Some bytes) =
+    if has bytes (copy_reading f 1) && (has bytes (copy_reading f 2) && has bytes (copy_reading f 3)) then Some bytes else None
+
+-- the bytes that all four copies read as, None where they differ or one can't be read
+unfoldable pub alike : Face → Option (List ℕ)
+alike f = if_alike f (copy_reading f 0)
+
 abbrev pub if_good : Option (List ℕ) → Option (List ℕ)
 if_good None = None
 if_good (Some bytes) = if is_some (value_of bytes) then Some bytes else None
@@ -18,6 +27,10 @@ if_good (Some bytes) = if is_some (value_of bytes) then Some bytes else None
 -- the bytes of a good copy, None where the copy is bad
 unfoldable pub good_copy : Face → ℕ → Option (List ℕ)
 good_copy f copy = if_good (copy_reading f copy)
+
+-- four copies that are the same
+abbrev pub four : Option (List ℕ) → List (Option (List ℕ))
+four copy = copy ∷ copy ∷ copy ∷ copy ∷ []
 
 abbrev pub good_copies : Face → List (Option (List ℕ))
 good_copies f = good_copy f 0 ∷ good_copy f 1 ∷ good_copy f 2 ∷ good_copy f 3 ∷ []

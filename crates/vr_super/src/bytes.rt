@@ -1,9 +1,10 @@
 //! The bytes of a value.
 ghost use Rattle.std.specs.Prelude.{◌≡◌, ◌≤◌, ◌<◌, ◌++◌, length, take, drop, OnOk, IfOk};
 ghost use Rattle.vr_base.specs.Bytes.{name_of};
+ghost use Rattle.vr_header.specs.Spelling.{header_bytes};
 ghost use Rattle.vr_super.specs.Copies.{IsGood, Saved, copy_bytes, front_bytes, list_bytes};
 
-use crate::Fields;
+use crate::{Fields, Super};
 use std::alloc::Global;
 use vr_base::{NoMemory, checksum, put, put_sum, put_u16, put_u32, put_u64};
 use vr_header::{Header, encode};
@@ -29,12 +30,26 @@ fn front(f: Fields, count: u16) -> [u8; 128]
     out
 }
 
+// The 128 bytes of a header, copied where an old value has it.
+fn spelling(header: &Header, old: Option<&Super>) -> [u8; 128]
+    ensures { result ≡ header_bytes header.now }
+{
+    match old {
+        Some(old) => old.spelling(header),
+        None => encode(header),
+    }
+}
+
 // Adds the bytes of these headers.
-fn push_headers(bytes: &mut Vec<u8>, headers: &[Header]) -> Result<(), NoMemory>
+fn push_headers(
+    bytes: &mut Vec<u8>,
+    headers: &[Header],
+    old: Option<&Super>,
+) -> Result<(), NoMemory>
     ensures { OnOk result (bytes.new.items ≡ bytes.old.items ++ list_bytes headers.now) }
 {
     for header in headers {
-        bytes.extend_from_slice(&encode(header))?;
+        bytes.extend_from_slice(&spelling(header, old))?;
     }
     Ok(())
 }
@@ -49,14 +64,19 @@ fn seal(bytes: &mut [u8])
     put_sum(bytes, 0, sum);
 }
 
-/// The 10,240 bytes of a value that makes a good copy.
-pub fn spell(alloc: Global, fields: &Fields, headers: &[Header]) -> Result<Vec<u8>, NoMemory>
+/// The 10,240 bytes of a value that makes a good copy. Headers that an old value has aren't hashed again.
+pub fn spell(
+    alloc: Global,
+    fields: &Fields,
+    headers: &[Header],
+    old: Option<&Super>,
+) -> Result<Vec<u8>, NoMemory>
     requires { IsGood (record { fields = fields.now; headers = headers.now }) }
     ensures { IfOk result (λ bytes. bytes.items ≡ copy_bytes (record { fields = fields.now; headers = headers.now })) }
 {
     let mut bytes = Vec::with_capacity(alloc, 10240)?;
     bytes.extend_from_slice(&front(*fields, headers.len() as u16))?;
-    push_headers(&mut bytes, headers)?;
+    push_headers(&mut bytes, headers, old)?;
     bytes.resize(10240, 0)?;
     seal(&mut bytes);
     Ok(bytes)

@@ -8,10 +8,14 @@ use crate::Fields;
 use vr_base::{checksum, sum_at, u16_at, u32_at, u64_at};
 use vr_header::{Command, Header, decode};
 
+// The first byte is zero, and each other is as the one before it: whole slices are compared faster than byte by byte.
 fn is_zeros(bytes: &[u8]) -> bool
     ensures { result ≡ is_zeros bytes.now }
 {
-    bytes.iter().all(|b| *b == 0)
+    match bytes {
+        [] => true,
+        [first, rest @ ..] => *first == 0 && rest == &bytes[..rest.len()],
+    }
 }
 
 // A member of a group, and the views that it was in.

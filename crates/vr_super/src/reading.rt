@@ -1,11 +1,12 @@
 //! Copies as they are read, and the best of them.
 ghost use Rattle.std.specs.Prelude.{◌≡◌, ◌≤◌, ◌<◌, ◌+◌, ◌*◌, ◌∷◌, [], if◌then◌else◌, length, map, take, IfSome, MatchOption, Some, None, is_some};
 ghost use Rattle.std.specs.List.{AllByRecursion};
-ghost use Rattle.vr_super.specs.Opens.{copy_reading, good_copies, good_copy};
+ghost use Rattle.vr_super.specs.Opens.{alike, copy_reading, good_copies, good_copy};
 ghost use Rattle.vr_super.specs.Copies.{value_of};
 ghost use Rattle.vr_super.specs.Seen.{IsHonest, IsRead, seen};
 
 use crate::check::is_good;
+use crate::sectors::reads_as;
 use vr_disk::{SectorDisk, read_sectors};
 
 /// A copy that was read.
@@ -80,25 +81,32 @@ fn read_copy<D: SectorDisk>(disk: &mut D, copy: u32, readings: &mut [Reading])
     read_beside(disk, copy, earlier, &mut rest[0]);
 }
 
-/// Room for four copies of which none was read.
-pub fn unread() -> [Reading; 4] {
-    [Reading {
+/// Reads all four copies.
+pub fn read_all<D: SectorDisk>(disk: &mut D) -> [Reading; 4]
+    ensures told { D.told disk.new ≡ D.told disk.old }
+    ensures faults { D.faults disk.new ≡ D.faults disk.old }
+    ensures honest { AllByRecursion IsHonest result }
+    ensures value { IfSome (D.told disk.old) (λ d. map seen result ≡ good_copies d.face) }
+{
+    let mut readings = [Reading {
         bytes: [0; 10240],
         whole: false,
         good: false,
-    }; 4]
+    }; 4];
+    read_copy(disk, 0, &mut readings);
+    read_copy(disk, 1, &mut readings);
+    read_copy(disk, 2, &mut readings);
+    read_copy(disk, 3, &mut readings);
+    readings
 }
 
-/// Reads all four copies.
-pub fn read_all<D: SectorDisk>(disk: &mut D, readings: &mut [Reading])
-    requires { length readings.old ≡ 4 }
+/// Reads copy 0, and tells whether all four copies read as it.
+#[tactic(auto, unfolding(crate::specs::Opens::alike))]
+pub fn read_alike<D: SectorDisk>(disk: &mut D, to: &mut [u8]) -> bool
+    requires { length to.old ≡ 10240 }
     ensures told { D.told disk.new ≡ D.told disk.old }
     ensures faults { D.faults disk.new ≡ D.faults disk.old }
-    ensures honest { AllByRecursion IsHonest readings.new }
-    ensures value { IfSome (D.told disk.old) (λ d. map seen readings.new ≡ good_copies d.face) }
+    ensures value { IfSome (D.told disk.old) (λ d. alike d.face ≡ (if result then Some to.new else None)) }
 {
-    read_copy(disk, 0, readings);
-    read_copy(disk, 1, readings);
-    read_copy(disk, 2, readings);
-    read_copy(disk, 3, readings);
+    fill(disk, 0, to) && reads_as(disk, 1, to) && reads_as(disk, 2, to) && reads_as(disk, 3, to)
 }

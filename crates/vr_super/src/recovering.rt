@@ -1,18 +1,19 @@
 //! The value that opens, mended.
-ghost use Rattle.std.specs.Prelude.{◌≡◌, ◌≤◌, [], Some, map, is_ok, IfOk, IfErr, IfSome};
+ghost use Rattle.std.specs.Prelude.{◌≡◌, ◌≤◌, [], Some, is_some, length, map, is_ok, true, IfOk, IfErr, IfSome};
 ghost use Rattle.std.specs.List.{AllByRecursion};
 ghost use Rattle.vr_base.specs.Causes.{HasCause, Rose};
 ghost use Rattle.vr_disk.specs.DiskState.{RunsFrom};
 ghost use Rattle.vr_super.specs.Calls.{mend_calls};
-ghost use Rattle.vr_super.specs.Copies.{Saved};
+ghost use Rattle.vr_super.specs.Copies.{Saved, value_of};
 ghost use Rattle.vr_super.specs.Laws.{MendKeeps, Mended};
-ghost use Rattle.vr_super.specs.Opens.{opens};
+ghost use Rattle.vr_super.specs.Opens.{four, if_good, opens};
 ghost use Rattle.vr_super.specs.Recovers.{Chosen, RecoversFrom, verdict_of};
 ghost use Rattle.vr_super.specs.Seen.{IsHonest, seen};
 
 use crate::Super;
+use crate::check::is_good;
 use crate::opening::best_of;
-use crate::reading::{Reading, read_all, unread};
+use crate::reading::{Reading, read_alike, read_all};
 use crate::writing::mend;
 use std::alloc::Global;
 use vr_disk::SectorDisk;
@@ -52,6 +53,31 @@ fn verdicts_of(readings: &[Reading; 4]) -> [CopyVerdict; 4]
     [verdict_of(a), verdict_of(b), verdict_of(c), verdict_of(d)]
 }
 
+// The value of a good copy.
+fn read_value(alloc: Global, bytes: &[u8]) -> Result<Super, SuperFault>
+    requires size { length bytes.now ≡ 10240 }
+    requires good { is_some (value_of bytes.now) ≡ true }
+    ensures value { IfOk result (λ v. value_of bytes.now ≡ Some v) }
+    ensures fault { IfErr result (λ e. e ≡ SuperFault.NoMemory) }
+{
+    match Super::read(alloc, bytes) {
+        Ok(value) => Ok(value),
+        Err(_) => Err(SuperFault::NoMemory),
+    }
+}
+
+// The value that four copies open as that read as these bytes.
+fn choose_alike(alloc: Global, bytes: &[u8]) -> Result<Super, SuperFault>
+    requires { length bytes.now ≡ 10240 }
+    ensures { Chosen (four (if_good (Some bytes.now))) result }
+{
+    if is_good(bytes) {
+        read_value(alloc, bytes)
+    } else {
+        Err(SuperFault::Lost([CopyVerdict::Bad; 4]))
+    }
+}
+
 // The value that these copies open as.
 fn choose(alloc: Global, readings: &[Reading; 4]) -> Result<Super, SuperFault>
     requires { AllByRecursion IsHonest readings.now }
@@ -59,10 +85,7 @@ fn choose(alloc: Global, readings: &[Reading; 4]) -> Result<Super, SuperFault>
 {
     match best_of(readings) {
         None => Err(SuperFault::Lost(verdicts_of(readings))),
-        Some(best) => match Super::read(alloc, &best.bytes) {
-            Ok(value) => Ok(value),
-            Err(_) => Err(SuperFault::NoMemory),
-        },
+        Some(best) => read_value(alloc, &best.bytes),
     }
 }
 
@@ -78,6 +101,18 @@ fn mended<D: SectorDisk>(disk: &mut D, value: Super) -> Result<Super, SuperFault
     }
 }
 
+// The value that the disk opens as, with its copies mended, where they may differ.
+fn recover_apart<D: SectorDisk>(alloc: Global, disk: &mut D) -> Result<Super, SuperFault>
+    ensures value { RecoversFrom (D.told disk.old) (D.told disk.new) result }
+    ensures later { D.faults disk.old ≤ D.faults disk.new }
+    ensures fault { result ≡ Err SuperFault.DiskFault → Rose (D.faults disk.old) (D.faults disk.new) }
+{
+    match choose(alloc, &read_all(disk)) {
+        Ok(value) => mended(disk, value),
+        Err(fault) => Err(fault),
+    }
+}
+
 /// The value that the disk opens as, with its copies mended.
 pub fn recover<D: SectorDisk>(alloc: Global, disk: &mut D) -> Result<Super, SuperFault>
     ensures value { RecoversFrom (D.told disk.old) (D.told disk.new) result }
@@ -90,10 +125,10 @@ pub fn recover<D: SectorDisk>(alloc: Global, disk: &mut D) -> Result<Super, Supe
     // So does the disk as the call leaves it, whatever it answers; after an `Ok` all four copies have the value.
     ensures left { IfSome (D.told disk.old) (λ d. d.face.waiting ≡ [] → (v : Saved) → opens d.face ≡ Some v → IfSome (D.told disk.new) (λ e. Mended v (is_ok result) e.face)) }
 {
-    let mut readings = unread();
-    read_all(disk, &mut readings);
-    match choose(alloc, &readings) {
-        Ok(value) => mended(disk, value),
-        Err(fault) => Err(fault),
+    let mut first = [0; 10240];
+    if read_alike(disk, &mut first) {
+        choose_alike(alloc, &first)
+    } else {
+        recover_apart(alloc, disk)
     }
 }

@@ -1,13 +1,48 @@
 //! Stops in the midst of a write, and copies that are damaged.
+ghost use Rattle.vr_super.specs.Copies.{IsGood};
+
 use crate::{CopyVerdict, Fields, Super, SuperFault, opens, recover, write};
 use std::alloc::Global;
 use std::test::Fail;
 use vr_base::{NoMemory, Seq, Sum};
 use vr_disk::{Sector, SectorDisk};
+use vr_header::{Command, Header, HeaderList, Size};
 use vr_mem::MemDisk;
 
-// The value of a new member.
-fn value(alloc: Global, sequence: u64) -> Result<Super, NoMemory> {
+fn made(
+    alloc: Global,
+    fields: Fields,
+    headers: HeaderList,
+    old: Option<&Super>,
+) -> Result<Super, NoMemory>
+    requires { IsGood (record { fields = fields; headers = headers }) }
+{
+    match old {
+        Some(old) => old.next(alloc, fields, headers),
+        None => Super::new(alloc, fields, headers),
+    }
+}
+
+// The value of a member with one entry, made after an old one where there is one.
+fn value(alloc: Global, sequence: u64, old: Option<&Super>) -> Result<Super, NoMemory> {
+    let entry = Header {
+        body: Sum([7; 16]),
+        parent: Sum([0; 16]),
+        request_name: Sum([0; 16]),
+        cluster: 3,
+        client: 5,
+        request: 1,
+        view: 0,
+        op: 1,
+        commit: 0,
+        size: Size::new(129),
+        command: Command::Entry,
+        replica: 0,
+        kind: 0,
+        aux: 0,
+    };
+    let mut headers = Seq::new(alloc);
+    headers.push(entry)?;
     let fields = Fields {
         sequence,
         cluster: 3,
@@ -17,11 +52,11 @@ fn value(alloc: Global, sequence: u64) -> Result<Super, NoMemory> {
         root_address: 0,
         root_name: Sum([0; 16]),
         commit: 0,
-        head: 0,
+        head: 1,
         replica: 1,
         n: 3,
     };
-    Super::new(alloc, fields, Seq::new(alloc))
+    made(alloc, fields, headers, old)
 }
 
 fn sequence_of(alloc: Global, disk: &mut MemDisk) -> Option<u64> {
@@ -34,7 +69,7 @@ fn sequence_of(alloc: Global, disk: &mut MemDisk) -> Option<u64> {
 // A disk with four good copies of sequence 1.
 fn written(rt: &HostRuntime) -> Result<MemDisk, Fail> {
     let mut disk = MemDisk::new(rt.alloc()).map_err(|_| "no memory")?;
-    let first = value(rt.alloc(), 1).map_err(|_| "no memory")?;
+    let first = value(rt.alloc(), 1, None).map_err(|_| "no memory")?;
     write(&mut disk, &first, &first).map_err(|_| "a write failed")?;
     Ok(disk)
 }
@@ -51,8 +86,8 @@ fn stops(rt: HostRuntime) -> Result<(), Fail> {
         (84, 0, 2, false),
     ] {
         let mut disk = written(&rt)?;
-        let first = value(rt.alloc(), 1).map_err(|_| "no memory")?;
-        let second = value(rt.alloc(), 2).map_err(|_| "no memory")?;
+        let first = value(rt.alloc(), 1, None).map_err(|_| "no memory")?;
+        let second = value(rt.alloc(), 2, Some(&first)).map_err(|_| "no memory")?;
         disk.fuse(u64::from(calls) + 1, code);
         let result = write(&mut disk, &first, &second);
         assert_eq!(rt; result.is_err(), fired, "after {calls}");

@@ -1,5 +1,7 @@
 //! A value of the superblock.
-ghost use Rattle.std.specs.Prelude.{◌≡◌, ◌≤◌, IfOk, Some, is_some, length, true};
+ghost use Rattle.std.specs.Prelude.{◌≡◌, ◌≤◌, ◌+◌, IfOk, Some, is_some, length, true};
+ghost use Rattle.vr_base.specs.Bytes.{piece};
+ghost use Rattle.vr_header.specs.Spelling.{header_bytes};
 ghost use Rattle.vr_super.specs.Copies.{IsGood, Saved, copy_bytes, count_at, value_of};
 
 use crate::Fields;
@@ -9,7 +11,7 @@ use crate::listing::read_list;
 use std::alloc::Global;
 use std::marker::Model;
 use vr_base::NoMemory;
-use vr_header::{Header, HeaderList};
+use vr_header::{Header, HeaderList, encode};
 
 /// What a member keeps in its superblock: numbers, and the headers of the last ops up to the head. It makes a good copy.
 #[derive(Drop)]
@@ -40,13 +42,50 @@ fn few_at(bytes: &[u8]) -> usize
     count_at(bytes) as usize
 }
 
+// The 128 bytes from a place on.
+#[tactic(auto, unfolding(vr_base::specs::Bytes::piece))]
+fn header_bytes(bytes: &[u8], at: usize) -> [u8; 128]
+    requires { at + 128 ≤ length bytes.now }
+    ensures { result ≡ piece at 128 bytes.now }
+{
+    let mut copied = [0; 128];
+    copied.copy_from_slice(&bytes[at..at + 128]);
+    copied
+}
+
 impl Super {
     /// The value of these numbers and headers.
     pub fn new(alloc: Global, fields: Fields, headers: HeaderList) -> Result<Super, NoMemory>
         requires { IsGood (record { fields = fields; headers = headers }) }
         ensures { IfOk result (λ s. s ≡ record { fields = fields; headers = headers }) }
     {
-        let bytes = spell(alloc, &fields, headers.as_slice())?;
+        Super::made(alloc, fields, headers, None)
+    }
+
+    /// The value of these numbers and headers, as `new` makes it. Headers that this value has too aren't hashed again.
+    pub fn next(
+        &self,
+        alloc: Global,
+        fields: Fields,
+        headers: HeaderList,
+    ) -> Result<Super, NoMemory>
+        requires { IsGood (record { fields = fields; headers = headers }) }
+        ensures { IfOk result (λ s. s ≡ record { fields = fields; headers = headers }) }
+    {
+        Super::made(alloc, fields, headers, Some(self))
+    }
+
+    // The value of these, where an old value may have some of the headers.
+    fn made(
+        alloc: Global,
+        fields: Fields,
+        headers: HeaderList,
+        old: Option<&Super>,
+    ) -> Result<Super, NoMemory>
+        requires { IsGood (record { fields = fields; headers = headers }) }
+        ensures { IfOk result (λ s. s ≡ record { fields = fields; headers = headers }) }
+    {
+        let bytes = spell(alloc, &fields, headers.as_slice(), old)?;
         Ok(Super {
             fields,
             headers,
@@ -83,6 +122,20 @@ impl Super {
         ensures { result.now ≡ self.now.headers }
     {
         self.headers.as_slice()
+    }
+
+    // The 128 bytes of a header, copied where the list has it in the place of its op.
+    pub(crate) fn spelling(&self, header: &Header) -> [u8; 128]
+        ensures { result ≡ header_bytes header.now }
+    {
+        let Some(first) = self.headers.get(0) else {
+            return encode(header);
+        };
+        let at = header.op.saturating_sub(first.op) as usize;
+        match self.headers.get(at) {
+            Some(same) if same == *header => header_bytes(&self.bytes, 128 + 128 * at),
+            _ => encode(header),
+        }
     }
 
     // The 10,240 bytes of a copy.

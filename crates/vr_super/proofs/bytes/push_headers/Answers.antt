@@ -16,7 +16,7 @@ loop-header-preserved c =
     let h = c.header-item.result in
     let rest = list_bytes (drop (i + 1) hs) in
     let there : header_bytes h ++ rest ≡ list_bytes (drop i hs) = ap (λ x. header_bytes x ++ rest) c.header-item.is ∙ sym (list_more hs i h (omega arith)) in
-    ap (λ x. x ++ rest) (c.in_ok-extend_from_slice.ensures.items ∙ ap (λ x. c.loop-header.bytes.items ++ x) c.encode.ensures.bytes)
+    ap (λ x. x ++ rest) (c.in_ok-extend_from_slice.ensures.items ∙ ap (λ x. c.loop-header.bytes.items ++ x) c.spelling.ensures)
     ∙ (append_assoc c.loop-header.bytes.items (header_bytes h) rest ∙ (ap (λ x. c.loop-header.bytes.items ++ x) there ∙ c.loop-header.invariant))
 
 pub returns : goal.returns

@@ -1,4 +1,4 @@
-use Rattle.std.proofs.Common.{◌≡◌, ◌∙◌, ◌*◌, ap, drop, is_ok, Ok, None}
+use Rattle.std.proofs.Common.{◌≡◌, ◌∙◌, ◌*◌, ap, drop, is_ok, Ok}
 use Rattle.vr_header.specs.Spelling.{decoded, fault_of}
 use Rattle.vr_super.proofs.Heads.{decoded_at, listing_ends, listing_goes, listing_starts}
 use Rattle.vr_super.proofs.listing.read_list.Goals as goal

@@ -4,7 +4,6 @@ use Rattle.vr_disk.specs.DiskState.{Disk}
 use Rattle.vr_disk.proofs.Telling.{if_some, some_if}
 use Rattle.vr_super.specs.Copies.{value_of}
 use Rattle.vr_super.specs.Opens.{copy_reading, good_copy, if_good}
-use Rattle.vr_super.specs.Seen.{seen}
 use Rattle.vr_super.proofs.Filling.{judged_not, judged_so, seen_by}
 use Rattle.vr_super.proofs.reading.read_beside.Goals as goal
 use Rattle.vr_super.proofs.reading.read_beside.Goals.{then-to, else-to}

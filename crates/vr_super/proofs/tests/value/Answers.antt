@@ -1,11 +1,11 @@
 use Rattle.std.proofs.Common.{arith, refl}
-use Rattle.vr_super.specs.Copies.{are_listed, good_fields}
+use Rattle.vr_super.specs.Copies.{are_listed, good_fields, is_listed}
 use Rattle.vr_super.proofs.tests.value.Goals as goal
 
-pub new-requires-2 : goal.new-requires-2
-unfolding good_fields are_listed
-new-requires-2 c =
-    rw c.new.ensures (record {
+pub made-requires : goal.made-requires
+unfolding good_fields are_listed is_listed
+made-requires c =
+    rw (c.in_ok-push.ensures.ok, c.new-headers.ensures, c.new.ensures) (record {
       numbers = record {
         sequence = omega arith;
         cluster = omega arith;
@@ -20,6 +20,23 @@ new-requires-2 c =
         n = omega arith;
       };
       fields = refl;
-      each = tt;
+      each = (
+        record {
+          body = refl;
+          parent = refl;
+          request_name = refl;
+          cluster = omega arith;
+          client = omega arith;
+          request = omega arith;
+          view = omega arith;
+          op = omega arith;
+          commit = omega arith;
+          size = (omega arith, omega arith);
+          replica = omega arith;
+          kind = omega arith;
+          aux = omega arith;
+        },
+        tt,
+      );
       listed = refl;
     })

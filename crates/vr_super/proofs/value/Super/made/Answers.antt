@@ -1,7 +1,7 @@
 use Rattle.std.proofs.Common.{◌≡◌, ◌∙◌, ap, length}
 use Rattle.vr_super.specs.Copies.{Saved, copy_bytes}
 use Rattle.vr_super.proofs.Format.{length-copy_bytes}
-use Rattle.vr_super.proofs.value.Super.new.Goals as goal
+use Rattle.vr_super.proofs.value.Super.made.Goals as goal
 
 pub invariant_of-result : goal.invariant_of-result
 invariant_of-result c =
