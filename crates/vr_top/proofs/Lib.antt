@@ -1,20 +1,8 @@
-pub mod Lists
-pub mod Advance
-pub mod Apply
-pub mod Digits
-pub mod Groups
 pub mod Outputs
-pub mod Sound
-pub mod Worlds
+pub mod Parsed
 pub mod Taken
 pub mod Cuts
 pub mod Plays
 pub mod Streams
 pub mod Whole
-pub mod Fronts
-pub mod Vouching
-pub mod Member
-pub mod Leading
-pub mod Steps
-pub mod Agreement
-mod Rows
+pub mod Agreeing

@@ -9,34 +9,34 @@ use Rattle.memchr.specs.Find.{IsFirstByte, is_byte}
 use Rattle.vr_base.specs.Causes.{Rose}
 use Rattle.vr_edge.specs.Told.{AppendsFront}
 use Rattle.vr_edge.proofs.Told.{appends_nil, appends_trans}
-use Rattle.vr_top.specs.declared.message.Numbered.{Numbered}
+use Rattle.vr_model.specs.World.{no_world}
+use Rattle.vr_sched.specs.Grammar.{longest}
+use Rattle.vr_world.specs.declared.outputs.Numbered.{Numbered}
+use Rattle.vr_world.specs.Group.{Group}
 use Rattle.vr_top.specs.declared.playing.Replay.{Replay}
 use Rattle.vr_top.specs.declared.stop.Stop.{Stop}
 use Rattle.vr_top.specs.declared.stop.Stop.TheVariants as stop
-use Rattle.vr_top.specs.Grammar.{longest}
 use Rattle.vr_top.specs.Lines.{Cut, cut, whole_lines, IsEnd}
 use Rattle.vr_top.specs.Playing.{Played, taken, behind, and_then, plays, heard, hears, if_too_long, IsReplay, Keeps, Hears}
 use Rattle.vr_top.specs.Stops.{Stopped, KeepCause}
 use Rattle.vr_top.specs.Text.{text_of}
 use Rattle.vr_top.specs.Schedule.{limit}
-use Rattle.vr_top.specs.World.{no_world, IsWorld}
 use Rattle.vr_top.proofs.Cuts.{no_end, part_more, part_append, cut_part, cut_line, heard_line, heard_part}
 use Rattle.vr_top.proofs.Outputs.{text_append, text_none}
 use Rattle.vr_top.proofs.Plays.{behind_behind, plays_line, plays_none, and_then_refused, and_then_none, Extends, extends_refl, and_then_extends, too_long}
-use Rattle.vr_top.proofs.Worlds.{no_world_sound}
 
 -- where nothing stands of the next line
-pub sound_between : (s : Replay) → IsWorld s.world → s.number ≤ limit → s.partial ≡ [] → IsReplay s
+pub sound_between : (s : Replay) → s.group.live ≡ true → s.number ≤ limit → s.partial ≡ [] → IsReplay s
 unfolding cut
-sound_between s world few partial = record {
-  world = world;
+sound_between s live few partial = record {
+  live = live;
   part = rw partial refl;
   short = rw partial (omega arith);
   few = few;
 }
 
-pub sound_at_first : (s : Replay) → s.world ≡ no_world → s.number ≡ 0 → s.partial ≡ [] → IsReplay s
-sound_at_first s world number partial = sound_between s (rw world no_world_sound) (rw number (omega arith)) partial
+pub sound_at_first : (s : Replay) → s.group.live ≡ true → s.number ≡ 0 → s.partial ≡ [] → IsReplay s
+sound_at_first s live number partial = sound_between s live (rw number (omega arith)) partial
 
 -- the first LF, as a search finds it
 end_at : (xs : List ℕ) (at : ℕ) → at < length xs → ((k : ℕ) → k < at → eqb (get_or xs k 0) 10 ≡ true → ⊥) → eqb (get_or xs at 0) 10 ≡ true → IsEnd xs at
@@ -63,14 +63,14 @@ found_none xs None h e = no_end xs (λ k l t. h k (omega arith) l t)
 found_none xs (Some at) h e = absurd (cc)
 
 -- one line more of a piece
-hears_line : (s : Replay) (rest : List ℕ) (at : ℕ) → whole_lines s.partial ≡ [] → IsEnd rest at → hears s rest ≡ and_then (taken s.world s.number (s.partial ++ take at rest)).refused (taken s.world s.number (s.partial ++ take at rest)) (plays (taken s.world s.number (s.partial ++ take at rest)).world (taken s.world s.number (s.partial ++ take at rest)).number (heard (drop (at + 1) rest)))
+hears_line : (s : Replay) (rest : List ℕ) (at : ℕ) → whole_lines s.partial ≡ [] → IsEnd rest at → hears s rest ≡ and_then (taken s.group.world s.number (s.partial ++ take at rest)).refused (taken s.group.world s.number (s.partial ++ take at rest)) (plays (taken s.group.world s.number (s.partial ++ take at rest)).world (taken s.group.world s.number (s.partial ++ take at rest)).number (heard (drop (at + 1) rest)))
 hears_line s rest at part end =
     let line = s.partial ++ take at rest in
     let later = drop (at + 1) rest in
-    ap (λ x. plays s.world s.number (heard (s.partial ++ x))) end.whole
-    ∙ ap (λ x. plays s.world s.number (heard x)) (sym (append_assoc s.partial (take at rest) (10 ∷ later)))
-    ∙ ap (plays s.world s.number) (heard_line line later (part_append s.partial (take at rest) part end.before))
-    ∙ plays_line s.world s.number line (heard later)
+    ap (λ x. plays s.group.world s.number (heard (s.partial ++ x))) end.whole
+    ∙ ap (λ x. plays s.group.world s.number (heard x)) (sym (append_assoc s.partial (take at rest) (10 ∷ later)))
+    ∙ ap (plays s.group.world s.number) (heard_line line later (part_append s.partial (take at rest) part end.before))
+    ∙ plays_line s.group.world s.number line (heard later)
 
 last_line : (p rest : List ℕ) (at : ℕ) → whole_lines p ≡ [] → IsEnd rest at → (cut (p ++ rest)).last ≡ (cut (drop (at + 1) rest)).last
 last_line p rest at part end =
@@ -90,17 +90,17 @@ pub piece_start : (s : Replay) (piece : List ℕ) (t : Option (List ℕ)) → In
 piece_start s piece t = record { outputs = []; played = refl; last = refl; text = rw text_none (appends_nil t) }
 
 record Takes (old new : Replay) (text : List ℕ) : Type 0 where
-  world : new.world ≡ (taken old.world old.number text).world
-  number : new.number ≡ (taken old.world old.number text).number
+  world : new.group.world ≡ (taken old.group.world old.number text).world
+  number : new.number ≡ (taken old.group.world old.number text).number
   partial : new.partial ≡ []
 
-next_hears : (old new : Replay) (text rest : List ℕ) → Takes old new text → plays (taken old.world old.number text).world (taken old.world old.number text).number (heard rest) ≡ hears new rest
+next_hears : (old new : Replay) (text rest : List ℕ) → Takes old new text → plays (taken old.group.world old.number text).world (taken old.group.world old.number text).number (heard rest) ≡ hears new rest
 next_hears old new text rest t = rw (t.world, t.number, t.partial) refl
 
-pub piece_more : (first s s' : Replay) (piece rest : List ℕ) (at : ℕ) (t0 t t' : Option (List ℕ)) → InPiece first s piece rest t0 t → whole_lines s.partial ≡ [] → IsEnd rest at → s'.world ≡ (taken s.world s.number (s.partial ++ take at rest)).world → s'.number ≡ (taken s.world s.number (s.partial ++ take at rest)).number → s'.partial ≡ [] → (taken s.world s.number (s.partial ++ take at rest)).refused ≡ None → Appends t t' (text_of (taken s.world s.number (s.partial ++ take at rest)).outputs) → InPiece first s' piece (drop (at + 1) rest) t0 t'
+pub piece_more : (first s s' : Replay) (piece rest : List ℕ) (at : ℕ) (t0 t t' : Option (List ℕ)) → InPiece first s piece rest t0 t → whole_lines s.partial ≡ [] → IsEnd rest at → s'.group.world ≡ (taken s.group.world s.number (s.partial ++ take at rest)).world → s'.number ≡ (taken s.group.world s.number (s.partial ++ take at rest)).number → s'.partial ≡ [] → (taken s.group.world s.number (s.partial ++ take at rest)).refused ≡ None → Appends t t' (text_of (taken s.group.world s.number (s.partial ++ take at rest)).outputs) → InPiece first s' piece (drop (at + 1) rest) t0 t'
 piece_more first s s' piece rest at t0 t t' m part end world number partial accepted text =
     let line = s.partial ++ take at rest in
-    let line_played = taken s.world s.number line in
+    let line_played = taken s.group.world s.number line in
     let later = drop (at + 1) rest in
     let next = hears_line s rest at part end ∙ and_then_none line_played _ line_played.refused accepted in
     let same = next_hears s s' line later (record { world = world; number = number; partial = partial }) in
@@ -156,15 +156,15 @@ stopped_within first before now a b c outputs t u all stop.WriteFault le is f h 
     (rose_from first before now le s.0, front_within a b c outputs t u all is f.grows h s.1)
 stopped_within first before now a b c outputs t u all stop.NoMemory le is f h s = front_within a b c outputs t u all is f.grows h s
 
-pub piece_stopped : (before after now : ℕ) (a b c : Option (List ℕ)) (first s : Replay) (piece rest : List ℕ) (at : ℕ) (why : Stop) → before ≤ after → InPiece first s piece rest a b → whole_lines s.partial ≡ [] → IsEnd rest at → Stopped after now b c (taken s.world s.number (s.partial ++ take at rest)) why → Stopped before now a c (hears first piece) why
+pub piece_stopped : (before after now : ℕ) (a b c : Option (List ℕ)) (first s : Replay) (piece rest : List ℕ) (at : ℕ) (why : Stop) → before ≤ after → InPiece first s piece rest a b → whole_lines s.partial ≡ [] → IsEnd rest at → Stopped after now b c (taken s.group.world s.number (s.partial ++ take at rest)) why → Stopped before now a c (hears first piece) why
 piece_stopped before after now a b c first s piece rest at why le m part end h =
-    let t = taken s.world s.number (s.partial ++ take at rest) in
+    let t = taken s.group.world s.number (s.partial ++ take at rest) in
     stopped_within before after now a b c m.outputs t _ (hears first piece) why le
     (m.played ∙ ap (behind m.outputs) (hears_line s rest at part end)) (follows_and_then t (plays t.world t.number (heard (drop (at + 1) rest)))) m.text h
 
 -- the end of a piece, which has no LF
-hears_part : (s : Replay) (rest : List ℕ) → whole_lines s.partial ≡ [] → whole_lines rest ≡ [] → hears s rest ≡ plays s.world s.number (if_too_long (s.partial ++ rest))
-hears_part s rest part none = ap (plays s.world s.number) (heard_part (s.partial ++ rest) (part_append s.partial rest part none))
+hears_part : (s : Replay) (rest : List ℕ) → whole_lines s.partial ≡ [] → whole_lines rest ≡ [] → hears s rest ≡ plays s.group.world s.number (if_too_long (s.partial ++ rest))
+hears_part s rest part none = ap (plays s.group.world s.number) (heard_part (s.partial ++ rest) (part_append s.partial rest part none))
 
 pub not_long : (bytes : List ℕ) → length bytes ≤ longest → if_too_long bytes ≡ []
 not_long bytes h = grind (arith, nat_tests)
@@ -175,14 +175,14 @@ is_long bytes h = rw (lt-ltb longest (length bytes) h) refl
 pub piece_kept : (first s s' : Replay) (piece rest : List ℕ) (a b : Option (List ℕ)) → IsReplay s → InPiece first s piece rest a b → whole_lines rest ≡ [] → Keeps s s' rest → Hears first s' piece a b
 piece_kept first s s' piece rest a b sound m none k =
     let part = part_append s.partial rest sound.part none in
-    let all = m.played ∙ ap (behind m.outputs) (hears_part s rest sound.part none ∙ ap (plays s.world s.number) (not_long (s.partial ++ rest) k.short) ∙ plays_none s.world s.number) in
+    let all = m.played ∙ ap (behind m.outputs) (hears_part s rest sound.part none ∙ ap (plays s.group.world s.number) (not_long (s.partial ++ rest) k.short) ∙ plays_none s.group.world s.number) in
     record {
-      world = k.world ∙ sym (ap (λ (p : Played). p.world) all);
+      world = ap (λ (g : Group). g.world) k.group ∙ sym (ap (λ (p : Played). p.world) all);
       number = k.number ∙ sym (ap (λ (p : Played). p.number) all);
       accepted = ap (λ (p : Played). p.refused) all;
       partial = k.partial ∙ sym (ap (λ (c : Cut). c.last) (cut_part (s.partial ++ rest) part)) ∙ sym m.last;
       sound = record {
-        world = rw k.world sound.world;
+        live = rw k.group sound.live;
         part = rw k.partial part;
         short = rw k.partial k.short;
         few = rw k.number sound.few;
@@ -193,7 +193,7 @@ piece_kept first s s' piece rest a b sound m none k =
 pub piece_refused : (before now : ℕ) (first s : Replay) (piece rest : List ℕ) (a b : Option (List ℕ)) (why : Stop) → whole_lines s.partial ≡ [] → InPiece first s piece rest a b → whole_lines rest ≡ [] → KeepCause (s.partial ++ rest) s.number why → Stopped before now a b (hears first piece) why
 piece_refused before now first s piece rest a b (stop.Refused k) part m none h =
     let line = s.partial ++ rest in
-    let all = m.played ∙ ap (behind m.outputs) (hears_part s rest part none ∙ ap (plays s.world s.number) (is_long line h.0) ∙ plays_line s.world s.number line [] ∙ ap (λ (p : Played). and_then p.refused p (plays p.world p.number [])) (too_long s.world s.number line h.0)) in (
+    let all = m.played ∙ ap (behind m.outputs) (hears_part s rest part none ∙ ap (plays s.group.world s.number) (is_long line h.0) ∙ plays_line s.group.world s.number line [] ∙ ap (λ (p : Played). and_then p.refused p (plays p.world p.number [])) (too_long s.group.world s.number line h.0)) in (
       ap (λ (p : Played). p.refused) all ∙ ap Some (sym h.1),
       rw (ap (λ (p : Played). text_of p.outputs) all, append-nil m.outputs) m.text,
     )

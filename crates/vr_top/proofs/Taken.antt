@@ -2,8 +2,8 @@
 use Rattle.std.proofs.Common.{◌≡◌, ℕ, List, ap, refl, Option, Some, None}
 use Rattle.vr_edge.specs.Told.{AppendsFront}
 use Rattle.vr_edge.proofs.Told.{appends_nil}
-use Rattle.vr_top.specs.declared.world.World.{World}
-use Rattle.vr_top.specs.declared.line.Line.{Line}
+use Rattle.vr_model.specs.World.{World}
+use Rattle.vr_sched.specs.declared.line.Line.{Line}
 use Rattle.vr_top.specs.Schedule.{line_at}
 use Rattle.vr_top.specs.Playing.{taken, judged}
 

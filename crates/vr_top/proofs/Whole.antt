@@ -6,31 +6,32 @@ use Rattle.std.proofs.lemmas.List.{append-nil}
 use Rattle.std.proofs.lemmas.Bool.Decides.{nat_tests}
 use Rattle.vr_edge.specs.Told.{AppendsFront}
 use Rattle.vr_edge.proofs.Told.{appends_nil, appends_trans, consumes_nil, consumes_trans, consumes_kept, consumes_whole}
-use Rattle.vr_top.specs.declared.line.Line.{Line}
-use Rattle.vr_top.specs.declared.message.Numbered.{Numbered}
+use Rattle.vr_model.specs.World.{World, no_world, fresh_world, happen}
+use Rattle.vr_sched.specs.Grammar.{longest}
+use Rattle.vr_sched.specs.declared.line.Line.{Line}
+use Rattle.vr_world.specs.declared.outputs.Numbered.{Numbered}
+use Rattle.vr_world.specs.Lines.{happenings}
+use Rattle.vr_world.specs.Outputs.{numbered}
 use Rattle.vr_top.specs.declared.playing.Replay.{Replay}
 use Rattle.vr_top.specs.declared.stop.Stop.{Stop}
 use Rattle.vr_top.specs.declared.stop.Stop.TheVariants as stop
-use Rattle.vr_top.specs.declared.world.World.{World}
-use Rattle.vr_top.specs.Grammar.{longest}
 use Rattle.vr_top.specs.Lines.{Cut, cut, whole_lines, if_any, lines_of}
 use Rattle.vr_top.specs.Playing.{Played, judged, taken, behind, and_then, plays, heard, hears, if_too_long, none_left, ends, Hears}
-use Rattle.vr_top.specs.Run.{text_for, IsDone, IsCutShort, IsPartial, Ends}
-use Rattle.vr_top.specs.Schedule.{line_at, accepted, schedule, refused_in}
+use Rattle.vr_top.specs.Run.{text_for, refused_in, IsDone, IsCutShort, IsPartial, Ends}
+use Rattle.vr_top.specs.Schedule.{line_at, schedule, so_far, put_out}
 use Rattle.vr_top.specs.Status.{status_of}
 use Rattle.vr_top.specs.Stops.{Stopped}
 use Rattle.vr_top.specs.Text.{text_of}
-use Rattle.vr_top.specs.World.{no_world, happen}
 use Rattle.vr_top.proofs.Cuts.{extended, cut_append, heard_append, lines_append, last_append, last_part, begins}
 use Rattle.vr_top.proofs.Outputs.{text_append, text_none}
-use Rattle.vr_top.proofs.Plays.{plays_append, plays_line, plays_none, too_long, plays_agrees}
+use Rattle.vr_top.proofs.Plays.{plays_append, plays_line, plays_none, too_long, plays_show}
 use Rattle.vr_top.proofs.Streams.{Follows, follows_refl, stopped_within, rose_from, front_then, not_long}
 
 -- the whole schedule, by its lines played one after another
-text_by_lines : (texts : List (List ℕ)) → text_of (happen no_world (schedule texts).lines).outputs ≡ text_of (plays no_world 0 texts).outputs
-unfolding happen plays
+text_by_lines : (texts : List (List ℕ)) → text_of (put_out (schedule texts)) ≡ text_of (plays no_world 0 texts).outputs
+unfolding plays numbered happen happenings fresh_world
 text_by_lines [] = refl
-text_by_lines (text ∷ texts) = sym (ap text_of (plays_agrees no_world 0 (text ∷ texts)).outputs)
+text_by_lines (text ∷ texts) = sym (ap text_of (plays_show (text ∷ texts)).outputs)
 
 text_whole : (bytes : List ℕ) → text_for bytes ≡ text_of (plays no_world 0 (lines_of bytes)).outputs
 text_whole bytes = text_by_lines (lines_of bytes)
@@ -38,11 +39,11 @@ text_whole bytes = text_by_lines (lines_of bytes)
 refused_by_lines : (texts : List (List ℕ)) (k : ℕ) → (plays no_world 0 texts).refused ≡ Some k → (schedule texts).refused ≡ Some k
 unfolding plays
 refused_by_lines [] k e = absurd (cc)
-refused_by_lines (text ∷ texts) k e = sym (plays_agrees no_world 0 (text ∷ texts)).refused ∙ e
+refused_by_lines (text ∷ texts) k e = sym (plays_show (text ∷ texts)).refused ∙ e
 
 refused_same : (texts : List (List ℕ)) → 0 < length texts → (schedule texts).refused ≡ (plays no_world 0 texts).refused
 refused_same [] some = absurd (omega arith)
-refused_same (text ∷ texts) some = sym (plays_agrees no_world 0 (text ∷ texts)).refused
+refused_same (text ∷ texts) some = sym (plays_show (text ∷ texts)).refused
 
 -- with more lines behind the same ones
 follows_behind : (a : List Numbered) (t u : Played) → Follows t u → Follows (behind a t) (behind a u)
@@ -93,11 +94,11 @@ pub record Midst (left_first left_now taken_first taken_now : Option (List ℕ))
   pub read : List ℕ
   pub outputs : List Numbered
   pub consumed : Consumes left_first left_now read
-  pub played : plays no_world 0 (whole_lines read) ≡ record { world = s.world; number = s.number; refused = None; outputs = outputs }
+  pub played : plays no_world 0 (whole_lines read) ≡ record { world = s.group.world; number = s.number; refused = None; outputs = outputs }
   pub partial : s.partial ≡ (cut read).last
   pub text : Appends taken_first taken_now (text_of outputs)
 
-pub midst_start : (l t : Option (List ℕ)) (s : Replay) → s.world ≡ no_world → s.number ≡ 0 → s.partial ≡ [] → Midst l l t t s
+pub midst_start : (l t : Option (List ℕ)) (s : Replay) → s.group.world ≡ no_world → s.number ≡ 0 → s.partial ≡ [] → Midst l l t t s
 unfolding cut
 midst_start l t s world number partial = record {
   read = [];
@@ -113,7 +114,7 @@ unfolding extended
 lines_extended c ys = refl
 
 -- further lines behind those that were played
-plays_on : (lo l to t : Option (List ℕ)) (s : Replay) (m : Midst lo l to t s) (texts : List (List ℕ)) → plays no_world 0 (whole_lines m.read ++ texts) ≡ behind m.outputs (plays s.world s.number texts)
+plays_on : (lo l to t : Option (List ℕ)) (s : Replay) (m : Midst lo l to t s) (texts : List (List ℕ)) → plays no_world 0 (whole_lines m.read ++ texts) ≡ behind m.outputs (plays s.group.world s.number texts)
 plays_on lo l to t s m texts =
     plays_append no_world 0 (whole_lines m.read) texts
     ∙ ap (λ (p : Played). and_then p.refused p (plays p.world p.number texts)) m.played
@@ -175,12 +176,12 @@ stopped_in_piece s0 s1 k0 k k1 lo l ln to t tn s piece m more le why h =
 -- a read that failed
 pub cut_short : (lo l ln to t : Option (List ℕ)) (s : Replay) → Midst lo l to t s → Keeps l ln → IsCutShort lo ln to t
 cut_short lo l ln to t s m kept =
-    let agrees = plays_agrees no_world 0 (whole_lines m.read) in
+    let shows = plays_show (whole_lines m.read) in
     record {
       read = m.read;
       consumed = consumes_kept lo l ln m.read m.consumed kept;
-      accepted = sym agrees.refused ∙ ap (λ (p : Played). p.refused) m.played;
-      text = rw (← agrees.outputs, m.played) m.text;
+      accepted = sym shows.refused ∙ ap (λ (p : Played). p.refused) m.played;
+      text = rw (← shows.outputs, m.played) m.text;
     }
 
 -- as many lines were taken as there are
@@ -210,13 +211,13 @@ record EndsWith (read : List ℕ) (outputs : List Numbered) (p : Played) : Type 
 last_line : (t u : Played) (n : ℕ) → cond (eqb (suc n) 0) t u ≡ u
 last_line t u n = let e : eqb (suc n) 0 ≡ false = grind (arith, nat_tests) in rw e refl
 
-ends_none : (s : Replay) → s.partial ≡ [] → ends s ≡ none_left s.world s.number
+ends_none : (s : Replay) → s.partial ≡ [] → ends s ≡ none_left s.group.world s.number
 unfolding ends
 ends_none s e = rw e refl
 
-ends_some : (s : Replay) (b : ℕ) (p : List ℕ) → s.partial ≡ b ∷ p → ends s ≡ taken s.world s.number (b ∷ p)
+ends_some : (s : Replay) (b : ℕ) (p : List ℕ) → s.partial ≡ b ∷ p → ends s ≡ taken s.group.world s.number (b ∷ p)
 unfolding ends
-ends_some s b p e = rw e (last_line (none_left s.world s.number) (taken s.world s.number (b ∷ p)) (length p))
+ends_some s b p e = rw e (last_line (none_left s.group.world s.number) (taken s.group.world s.number (b ∷ p)) (length p))
 
 none_refused : (texts : List (List ℕ)) (number : ℕ) → number ≡ length texts → (plays no_world 0 texts).refused ≡ None → (schedule texts).refused ≡ cond (eqb number 0) (Some 1) None
 none_refused [] number n e = rw n refl
@@ -237,7 +238,7 @@ and_nothing_outputs t w number None = append-nil t.outputs
 ends_with : (lo l to t : Option (List ℕ)) (s : Replay) (m : Midst lo l to t s) (p : List ℕ) → s.partial ≡ p → EndsWith m.read m.outputs (ends s)
 ends_with lo l to t s m [] e =
     let texts : lines_of m.read ≡ whole_lines m.read = ap (λ x. whole_lines m.read ++ if_any x) (sym m.partial ∙ e) ∙ append-nil (whole_lines m.read) in
-    let all : plays no_world 0 (lines_of m.read) ≡ record { world = s.world; number = s.number; refused = None; outputs = m.outputs } = ap (plays no_world 0) texts ∙ m.played in
+    let all : plays no_world 0 (lines_of m.read) ≡ record { world = s.group.world; number = s.number; refused = None; outputs = m.outputs } = ap (plays no_world 0) texts ∙ m.played in
     let accepted : (plays no_world 0 (lines_of m.read)).refused ≡ None = ap (λ (p : Played). p.refused) all in
     let count : s.number ≡ length (lines_of m.read) = sym (ap (λ (p : Played). p.number) all) ∙ count_lines no_world 0 (lines_of m.read) accepted ∙ omega arith in
     rw (ends_none s e) (record {
@@ -245,9 +246,9 @@ ends_with lo l to t s m [] e =
       text = text_whole m.read ∙ ap (λ (p : Played). text_of p.outputs) all ∙ sym (append-nil (text_of m.outputs)) ∙ ap (λ x. text_of m.outputs ++ x) (sym text_none);
     })
 ends_with lo l to t s m (b ∷ p) e =
-    let last = taken s.world s.number (b ∷ p) in
+    let last = taken s.group.world s.number (b ∷ p) in
     let texts : lines_of m.read ≡ whole_lines m.read ++ (b ∷ p) ∷ [] = ap (λ x. whole_lines m.read ++ if_any x) (sym m.partial ∙ e) in
-    let all = ap (plays no_world 0) texts ∙ plays_on lo l to t s m ((b ∷ p) ∷ []) ∙ ap (behind m.outputs) (plays_line s.world s.number (b ∷ p) []) in
+    let all = ap (plays no_world 0) texts ∙ plays_on lo l to t s m ((b ∷ p) ∷ []) ∙ ap (behind m.outputs) (plays_line s.group.world s.number (b ∷ p) []) in
     let some : 0 < length (lines_of m.read) = rw texts (omega (arith, length-append (whole_lines m.read) ((b ∷ p) ∷ []))) in
     rw (ends_some s b p e) (record {
       refused = refused_same (lines_of m.read) some ∙ ap (λ (x : Played). x.refused) all ∙ and_nothing_refused last last.world last.number last.refused refl;

@@ -1,16 +1,7 @@
 pub mod Lines
-pub mod Grammar
 pub mod Schedule
-pub mod Entries
-pub mod Rules
-pub mod Sessions
-pub mod Fresh
-pub mod Groups
-pub mod World
-pub mod Outputs
 pub mod Text
 pub mod Playing
 pub mod Stops
 pub mod Run
 pub mod Status
-pub mod Safe

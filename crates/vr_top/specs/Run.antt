@@ -8,17 +8,20 @@ use Rattle.vr_edge.specs.Told.{AppendsFront}
 use Rattle.vr_top.specs.declared.status.Status.{Status}
 use Rattle.vr_top.specs.declared.status.Status.TheVariants as status
 use Rattle.vr_top.specs.Lines.{whole_lines}
-use Rattle.vr_top.specs.Schedule.{accepted, refused_in, replayed}
-use Rattle.vr_top.specs.World.{no_world, happen}
+use Rattle.vr_top.specs.Schedule.{schedule_of, so_far, put_out}
 use Rattle.vr_top.specs.Text.{text_of}
+
+-- the number of the first line of a source that is refused
+abbrev pub refused_in : List ℕ → Option ℕ
+refused_in bytes = (schedule_of bytes).refused
 
 -- the text of the outputs of the lines of a source before the first that is refused
 abbrev pub text_for : List ℕ → List ℕ
-text_for bytes = text_of (replayed bytes).outputs
+text_for bytes = text_of (put_out (schedule_of bytes))
 
 -- the same of the lines that have ended
 abbrev pub text_so_far : List ℕ → List ℕ
-text_so_far bytes = text_of (happen no_world (accepted 0 0 (whole_lines bytes)).lines).outputs
+text_so_far bytes = text_of (put_out (so_far (whole_lines bytes)))
 
 -- the source was read to its end, no line of it is refused, and the sink grew by the text
 pub record IsDone (left_old left_new taken_old taken_new : Option (List ℕ)) : Type 0 where
@@ -35,7 +38,7 @@ pub record IsRefused (k : ℕ) (left_old taken_old taken_new : Option (List ℕ)
 pub record IsCutShort (left_old left_new taken_old taken_new : Option (List ℕ)) : Type 0 where
   pub read : List ℕ
   pub consumed : Consumes left_old left_new read
-  pub accepted : (accepted 0 0 (whole_lines read)).refused ≡ None
+  pub accepted : (so_far (whole_lines read)).refused ≡ None
   pub text : Appends taken_old taken_new (text_so_far read)
 
 -- the sink grew by a front of the text of the lines that were read

@@ -3,10 +3,10 @@ use Rattle.std.specs.Prelude.{ℕ, ◌+◌, ◌≡◌, ◌<◌, ◌≤◌, ⊤, 
 use Rattle.std.specs.Io.KnownBytes.{Appends}
 use Rattle.vr_base.specs.Causes.{Rose}
 use Rattle.vr_edge.specs.Told.{AppendsFront}
-use Rattle.vr_top.specs.Grammar.{longest}
+use Rattle.vr_sched.specs.Grammar.{longest}
 use Rattle.vr_top.specs.Playing.{Played}
 use Rattle.vr_top.specs.Text.{text_of}
-use Rattle.vr_top.specs.declared.line.Line.{Line}
+use Rattle.vr_sched.specs.declared.line.Line.{Line}
 use Rattle.vr_top.specs.declared.stop.Stop.{Stop}
 use Rattle.vr_top.specs.declared.stop.Stop.TheVariants as stop
 

@@ -1,10 +1,8 @@
 //! The whole program over the outside that is handed in.
 ghost use Rattle.std.specs.Prelude.{◌≡◌, ◌↔◌, ◌⊎◌, ℕ, List, true, false, IfSome};
 ghost use Rattle.vr_base.specs.Causes.{Rose};
-ghost use Rattle.vr_top.specs.Run.{IsDone, IsRefused, IsCutShort, IsPartial, Ends, is_replay_words, status_for};
-ghost use Rattle.vr_top.specs.Outputs.{plain};
-ghost use Rattle.vr_top.specs.Safe.{Agree};
-ghost use Rattle.vr_top.specs.Schedule.{refused_in, replayed};
+ghost use Rattle.vr_top.specs.Run.{IsDone, IsRefused, IsCutShort, IsPartial, Ends, is_replay_words, refused_in, status_for};
+ghost use Rattle.vr_top.specs.Schedule.{Agrees, schedule_of};
 
 use crate::{Replay, Status};
 use std::alloc::Global;
@@ -43,7 +41,7 @@ fn is_replay(words: &Vec<String>) -> bool
 
 /// Does all that the program does: of the words, the one command is `replay`, which reads a schedule from the
 /// source and writes the lines of its outputs to the sink.
-#[tactic(auto, using(std::proofs::lemmas::Grind::common_steps, crate::proofs::Agreement::agree))]
+#[tactic(auto, using(std::proofs::lemmas::Grind::common_steps, crate::proofs::Agreeing::agrees))]
 pub fn run<S: Source, K: Sink, D: SectorDisk, L: Link, C: Clock>(
     alloc: Global,
     words: &Vec<String>,
@@ -72,8 +70,8 @@ pub fn run<S: Source, K: Sink, D: SectorDisk, L: Link, C: Clock>(
     // Where no fault comes, the answer is that of the source's bytes, or want of memory.
     ensures complete { is_replay_words words.now.items ≡ true → ¬ Rose (S.faults source.old) (S.faults source.new) → ¬ Rose (K.faults sink.old) (K.faults sink.new) → IfSome (S.left source.old) (λ bytes. (result ≡ status_for (refused_in bytes)) ⊎ (result ≡ Status.NoMemory)) }
 
-    // Whatever the schedule, the replicas agree in the outputs that it comes to.
-    ensures agreement { (bytes : List ℕ) → Agree (replayed bytes).world.n (plain (replayed bytes).outputs) }
+    // Whatever the schedule, in the outputs that it comes to there is one log, and no request is executed twice in it.
+    ensures agreement { (bytes : List ℕ) → Agrees (schedule_of bytes) }
 
     // No other object is called.
     ensures disk { disk.new ≡ disk.old }

@@ -1,18 +1,20 @@
 //! A replay between two pieces of its source.
-ghost use Rattle.std.specs.Prelude.{◌≡◌, ◌≤◌, ◌<◌, ◌∷◌, ◌++◌, [], None, Some, IfOk, OnOk, IfErr, IfSome, string_bytes, length, drop, ◌+◌};
+ghost use Rattle.std.specs.Prelude.{◌≡◌, ◌≤◌, ◌<◌, ◌∷◌, ◌++◌, [], None, Some, true, IfOk, OnOk, IfErr, IfSome, length, drop, ◌+◌};
 ghost use Rattle.std.specs.Io.KnownBytes.{Appends};
 ghost use Rattle.vr_top.specs.Lines.{whole_lines, IsEnd};
+ghost use Rattle.vr_top.specs.Playing.{HasSize, comes};
 ghost use Rattle.vr_top.specs.Schedule.{line_at};
 ghost use Rattle.vr_top.specs.Stops.{JudgeCause};
 ghost use Rattle.vr_top.specs.Text.{text_of};
-ghost use Rattle.vr_top.specs.World.{IsWorld, happens};
+ghost use Rattle.vr_top.specs.declared.stop.Stop.TheVariants as stop;
 
-use crate::line::LONGEST;
-use crate::{Line, Numbered, Stop, World, parse_line};
+use crate::Stop;
 use memchr::memchr;
 use std::alloc::{AllocError, Global};
-use vr_base::{ByteList, Seq};
+use vr_base::{ByteList, NoMemory, Seq};
 use vr_edge::{Sink, write_whole};
+use vr_sched::{LONGEST, Line, LineFault, parse_line, write_text};
+use vr_world::{Numbered, Outputs, World};
 
 /// The most lines of a schedule.
 const LIMIT: u32 = 1_000_000;
@@ -23,35 +25,52 @@ const LF: u8 = b'\n';
 /// A replay between two pieces of its source.
 #[derive(Drop)]
 pub struct Replay {
-    pub world: World,
+    pub group: World,
     /// So many lines were taken.
     pub number: u32,
     /// What has come of the next line.
     pub partial: ByteList,
 }
 
-/// The lines of outputs.
+/// The text of outputs.
 #[tactic(auto, using(std::proofs::lemmas::Grind::common_steps, crate::proofs::Outputs::text_more, crate::proofs::Outputs::text_none))]
-fn outputs_text(alloc: Global, outputs: &[Numbered]) -> Result<String, AllocError>
-    ensures { IfOk result (λ t. string_bytes t ≡ text_of outputs.now) }
+fn outputs_text(alloc: Global, outputs: &[Numbered]) -> Result<ByteList, AllocError>
+    ensures { IfOk result (λ t. t ≡ text_of outputs.now) }
 {
-    let mut text = String::new(alloc);
-    for output in outputs {
-        write!(text, "{output}")?;
+    let mut text = Seq::new(alloc);
+    for put in outputs {
+        write_text(put.number, &put.output, &mut text)?;
     }
     Ok(text)
 }
 
-/// What happens in the world at a line, and the text of its outputs.
-fn play(alloc: Global, world: &mut World, line: &Line) -> Result<String, AllocError>
-    requires { IsWorld world.old }
-    ensures world { OnOk result (world.new ≡ (happens world.old line.now).world) }
-    ensures text { IfOk result (λ t. string_bytes t ≡ text_of (happens world.old line.now).outputs) }
-    ensures sound { OnOk result (IsWorld world.new) }
+/// What happens at a line: the first makes a group.
+#[tactic(auto, unfolding(crate::specs::Playing::comes))]
+fn play(alloc: Global, group: &mut World, line: &Line) -> Result<Outputs, NoMemory>
+    requires live { group.old.live ≡ true }
+    requires size { HasSize line.now }
+    ensures world { OnOk result (group.new.world ≡ (comes group.old.world line.now).world) }
+    ensures outputs { IfOk result (λ o. o ≡ (comes group.old.world line.now).outputs) }
+    ensures live { OnOk result (group.new.live ≡ true) }
 {
-    let mut outputs = Seq::new(alloc);
-    world.step(alloc, line, &mut outputs)?;
-    outputs_text(alloc, outputs.as_slice())
+    if let Line::Cluster(n) = line {
+        *group = World::new(alloc, *n)?;
+        return Ok(Seq::new(alloc));
+    }
+    group.step(alloc, line)
+}
+
+/// The same, with the text of the outputs.
+fn play_text(alloc: Global, group: &mut World, line: &Line) -> Result<ByteList, Stop>
+    requires live { group.old.live ≡ true }
+    requires size { HasSize line.now }
+    ensures world { OnOk result (group.new.world ≡ (comes group.old.world line.now).world) }
+    ensures text { IfOk result (λ t. t ≡ text_of (comes group.old.world line.now).outputs) }
+    ensures live { OnOk result (group.new.live ≡ true) }
+    ensures want { IfErr result (λ why. why ≡ stop.NoMemory) }
+{
+    let outputs = play(alloc, group, line)?;
+    Ok(outputs_text(alloc, outputs.as_slice())?)
 }
 
 /// The place of the first LF, `None` exactly where there is none.
@@ -64,7 +83,7 @@ fn find_end(bytes: &[u8]) -> Option<usize>
 }
 
 /// What stands behind the byte at a place.
-#[tactic(auto, using(std::proofs::lemmas::Grind::common_steps, crate::proofs::Lists::rest_of))]
+#[tactic(auto, using(std::proofs::lemmas::Grind::common_steps, std::proofs::lemmas::List::take_rest))]
 fn after_end(bytes: &[u8], at: usize) -> &[u8]
     requires { at < length bytes.now }
     ensures { result.now ≡ drop (at + 1) bytes.now }
@@ -77,45 +96,47 @@ fn after_end(bytes: &[u8], at: usize) -> &[u8]
 fn judge(alloc: Global, n: u8, number: u32, text: &[u8]) -> Result<Line, Stop>
     requires { number ≤ 1000000 }
     ensures ok { IfOk result (λ line. line_at n number text.now ≡ Some line) }
+    ensures size { IfOk result HasSize }
     ensures room { OnOk result (number < 1000000) }
     ensures cause { IfErr result (JudgeCause (line_at n number text.now) number) }
 {
     if number >= LIMIT {
         return Err(Stop::Refused(number + 1));
     }
-    match parse_line(alloc, n, text)? {
-        Some(line) => Ok(line),
-        None => Err(Stop::Refused(number + 1)),
+    match parse_line(alloc, n, text) {
+        Ok(line) => Ok(line),
+        Err(LineFault::NotALine) => Err(Stop::Refused(number + 1)),
+        Err(LineFault::NoMemory) => Err(Stop::NoMemory),
     }
 }
 
 impl Replay {
-    ghost use Rattle.vr_top.specs.Grammar.{longest};
+    ghost use Rattle.vr_sched.specs.Grammar.{longest};
     ghost use Rattle.vr_top.specs.Playing.{IsReplay, Keeps, Hears, taken, hears, ends};
     ghost use Rattle.vr_top.specs.Stops.{KeepCause, Stopped};
-    ghost use Rattle.vr_top.specs.World.{no_world};
+    ghost use Rattle.vr_model.specs.World.{no_world};
 
     /// Takes the line that stands, and writes its outputs.
     #[tactic(auto, using(std::proofs::lemmas::Grind::common_steps, crate::proofs::Taken::taken_some, crate::proofs::Taken::taken_none, vr_edge::proofs::Told::appends_nil, crate::proofs::Outputs::text_none))]
     fn take_line<K: Sink>(&mut self, alloc: Global, sink: &mut K) -> Result<(), Stop>
-        requires sound { IsWorld self.old.world }
+        requires sound { self.old.group.live ≡ true }
         requires few { self.old.number ≤ 1000000 }
 
-        ensures world { OnOk result (self.new.world ≡ (taken self.old.world self.old.number self.old.partial).world) }
-        ensures number { OnOk result (self.new.number ≡ (taken self.old.world self.old.number self.old.partial).number) }
-        ensures accepted { OnOk result ((taken self.old.world self.old.number self.old.partial).refused ≡ None) }
+        ensures world { OnOk result (self.new.group.world ≡ (taken self.old.group.world self.old.number self.old.partial).world) }
+        ensures number { OnOk result (self.new.number ≡ (taken self.old.group.world self.old.number self.old.partial).number) }
+        ensures accepted { OnOk result ((taken self.old.group.world self.old.number self.old.partial).refused ≡ None) }
         ensures partial { OnOk result (self.new.partial ≡ []) }
-        ensures sound { OnOk result (IsWorld self.new.world) }
+        ensures sound { OnOk result (self.new.group.live ≡ true) }
         ensures few { OnOk result (self.new.number ≤ 1000000) }
 
-        ensures text { OnOk result (Appends (K.taken sink.old) (K.taken sink.new) (text_of (taken self.old.world self.old.number self.old.partial).outputs)) }
+        ensures text { OnOk result (Appends (K.taken sink.old) (K.taken sink.new) (text_of (taken self.old.group.world self.old.number self.old.partial).outputs)) }
 
         ensures later { K.faults sink.old ≤ K.faults sink.new }
-        ensures stopped { IfErr result (Stopped (K.faults sink.old) (K.faults sink.new) (K.taken sink.old) (K.taken sink.new) (taken self.old.world self.old.number self.old.partial)) }
+        ensures stopped { IfErr result (Stopped (K.faults sink.old) (K.faults sink.new) (K.taken sink.old) (K.taken sink.new) (taken self.old.group.world self.old.number self.old.partial)) }
     {
-        let line = judge(alloc, self.world.n, self.number, self.partial.as_slice())?;
-        let text = play(alloc, &mut self.world, &line)?;
-        write_whole(sink, text.as_bytes())?;
+        let line = judge(alloc, self.group.size(), self.number, self.partial.as_slice())?;
+        let text = play_text(alloc, &mut self.group, &line)?;
+        write_whole(sink, text.as_slice())?;
         self.number += 1;
         self.partial.clear();
         Ok(())
@@ -124,20 +145,20 @@ impl Replay {
     /// Takes the line that ends with these bytes.
     #[tactic(auto, using(std::proofs::lemmas::Grind::common_steps, crate::proofs::Taken::front_nil))]
     fn end_line<K: Sink>(&mut self, alloc: Global, sink: &mut K, end: &[u8]) -> Result<(), Stop>
-        requires sound { IsWorld self.old.world }
+        requires sound { self.old.group.live ≡ true }
         requires few { self.old.number ≤ 1000000 }
 
-        ensures world { OnOk result (self.new.world ≡ (taken self.old.world self.old.number (self.old.partial ++ end.now)).world) }
-        ensures number { OnOk result (self.new.number ≡ (taken self.old.world self.old.number (self.old.partial ++ end.now)).number) }
-        ensures accepted { OnOk result ((taken self.old.world self.old.number (self.old.partial ++ end.now)).refused ≡ None) }
+        ensures world { OnOk result (self.new.group.world ≡ (taken self.old.group.world self.old.number (self.old.partial ++ end.now)).world) }
+        ensures number { OnOk result (self.new.number ≡ (taken self.old.group.world self.old.number (self.old.partial ++ end.now)).number) }
+        ensures accepted { OnOk result ((taken self.old.group.world self.old.number (self.old.partial ++ end.now)).refused ≡ None) }
         ensures partial { OnOk result (self.new.partial ≡ []) }
-        ensures sound { OnOk result (IsWorld self.new.world) }
+        ensures sound { OnOk result (self.new.group.live ≡ true) }
         ensures few { OnOk result (self.new.number ≤ 1000000) }
 
-        ensures text { OnOk result (Appends (K.taken sink.old) (K.taken sink.new) (text_of (taken self.old.world self.old.number (self.old.partial ++ end.now)).outputs)) }
+        ensures text { OnOk result (Appends (K.taken sink.old) (K.taken sink.new) (text_of (taken self.old.group.world self.old.number (self.old.partial ++ end.now)).outputs)) }
 
         ensures later { K.faults sink.old ≤ K.faults sink.new }
-        ensures stopped { IfErr result (Stopped (K.faults sink.old) (K.faults sink.new) (K.taken sink.old) (K.taken sink.new) (taken self.old.world self.old.number (self.old.partial ++ end.now))) }
+        ensures stopped { IfErr result (Stopped (K.faults sink.old) (K.faults sink.new) (K.taken sink.old) (K.taken sink.new) (taken self.old.group.world self.old.number (self.old.partial ++ end.now))) }
     {
         self.partial.extend(end)?;
         self.take_line(alloc, sink)
@@ -181,13 +202,13 @@ impl Replay {
 
     /// A replay of which nothing has come.
     pub fn new(alloc: Global) -> Replay
-        ensures world { result.world ≡ no_world }
+        ensures world { result.group.world ≡ no_world }
         ensures number { result.number ≡ 0 }
         ensures partial { result.partial ≡ [] }
         ensures sound { IsReplay result }
     {
         Replay {
-            world: World::empty(alloc),
+            group: World::empty(alloc),
             number: 0,
             partial: Seq::new(alloc),
         }

@@ -3,4 +3,4 @@ use Rattle.vr_top.proofs.Streams.{sound_at_first}
 use Rattle.vr_top.proofs.playing.Replay.new.Goals as goal
 
 pub returns-clause-sound : goal.returns-clause-sound
-returns-clause-sound c = sound_at_first _ c.empty.ensures refl c.new.ensures
+returns-clause-sound c = sound_at_first _ c.empty.ensures.live refl c.new.ensures

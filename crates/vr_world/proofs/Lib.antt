@@ -1,0 +1,4 @@
+pub mod Numbering
+pub mod Making
+pub mod Happenings
+pub mod Keeping

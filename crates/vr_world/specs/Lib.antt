@@ -1,0 +1,4 @@
+pub mod Group
+pub mod Lines
+pub mod Outputs
+pub mod Kept
