@@ -1,18 +1,23 @@
 //! The sectors of a slot, both ways.
-ghost use Rattle.std.specs.Prelude.{◌≡◌, length};
+ghost use Rattle.std.specs.Prelude.{◌≡◌, ◌≤◌, length};
 ghost use Rattle.std.specs.Option.{option_map};
 ghost use Rattle.vr_base.specs.Bytes.{IsBytes};
 ghost use Rattle.vr_header.specs.Spelling.{IsHeader};
+ghost use Rattle.vr_rings.specs.Held.{header_sector};
 ghost use Rattle.vr_rings.specs.Slots.{IsWhole, header_of, is_zeros, prepare_bytes, sector_of, whole_of};
 
 use vr_base::{put, u32_at};
 use vr_disk::Sector;
 use vr_header::{Entry, Header, decode, encode};
 
+static ZEROS: [u8; 2048] = [0; 2048];
+
+// Whether these, at most 2,048, are zeros.
 fn is_zeros(bytes: &[u8]) -> bool
+    requires { length bytes.now ≤ 2048 }
     ensures { result ≡ is_zeros bytes.now }
 {
-    bytes.iter().all(|b| *b == 0)
+    bytes == &ZEROS[..bytes.len()]
 }
 
 /// The header sector of an entry of this header.
@@ -23,6 +28,18 @@ pub fn sector_of(header: &Header) -> Sector
 {
     let mut sector = Sector { bytes: [0; 512] };
     put(&mut sector.bytes, 0, &encode(header));
+    sector
+}
+
+/// The header sector of the entry with this prepare.
+#[tactic(auto, using(crate::proofs::Spelling::header_sector_made))]
+pub fn header_sector(prepare: &[u8]) -> Sector
+    requires { length prepare.now ≡ 2048 }
+    ensures { result.bytes ≡ header_sector prepare.now }
+{
+    let (header, _) = prepare.split_at(128);
+    let mut sector = Sector { bytes: [0; 512] };
+    put(&mut sector.bytes, 0, header);
     sector
 }
 
