@@ -31,7 +31,7 @@ pub fn sector_of(header: &Header) -> Sector
     sector
 }
 
-/// The header sector of the entry with this prepare.
+/// The header sector of the entry with this prepare of 2,048 bytes: the first 128 of them, and zeros.
 #[tactic(auto, using(crate::proofs::Spelling::header_sector_made))]
 pub fn header_sector(prepare: &[u8]) -> Sector
     requires { length prepare.now ≡ 2048 }
@@ -55,7 +55,7 @@ pub fn prepare_of(entry: &Entry) -> [u8; 2048]
     bytes
 }
 
-/// The header that a header sector's bytes are, None exactly where they are none.
+/// The header that a header sector's bytes are, `None` exactly where they aren't a valid header and zeros.
 #[tactic(auto, unfolding(crate::specs::Slots::header_of))]
 pub fn header_of(sector: &Sector) -> Option<Header>
     ensures { result ≡ header_of sector.now.bytes }
@@ -68,7 +68,7 @@ pub fn header_of(sector: &Sector) -> Option<Header>
     }
 }
 
-/// The header of the entry that the bytes of four sectors are, None exactly where they are none.
+/// The header of the entry that the 2,048 bytes of a prepare are, `None` exactly where they aren't a whole entry and zeros.
 pub fn whole_of(bytes: &[u8]) -> Option<Header>
     requires { length bytes.now ≡ 2048 }
     ensures value { result ≡ option_map (λ e. e.header) (whole_of bytes.now) }
