@@ -2,50 +2,25 @@
 ghost use Rattle.std.specs.Prelude.{◌≡◌, ◌<◌, Some, None, IfSome, if◌then◌else◌, length};
 ghost use Rattle.vr_disk.specs.Sectors.{has};
 ghost use Rattle.vr_rings.specs.Held.{header_sector, is_header_sector, is_prepare};
-ghost use Rattle.vr_rings.specs.Slots.{header_reading, is_zeros, prepare_reading};
+ghost use Rattle.vr_rings.specs.Slots.{header_reading, prepare_reading};
 ghost use Rattle.vr_lie.specs.Table.{holds, is_other};
 
-use vr_base::{put, u32_at};
 use vr_disk::{Sector, SectorDisk, header_at, prepare_at, read_sectors, sectors_read_as};
-use vr_header::{Entry, decode};
-
-fn is_zeros(bytes: &[u8]) -> bool
-    ensures { result ≡ is_zeros bytes.now }
-{
-    bytes.iter().all(|b| *b == 0)
-}
+use vr_rings::{header_of, header_sector, whole_of};
 
 // Whether these are a valid header and zeros.
-#[tactic(auto, unfolding(vr_rings::specs::Slots::header_of))]
-fn is_header_sector(bytes: &[u8]) -> bool
-    requires { length bytes.now ≡ 512 }
-    ensures { result ≡ is_header_sector bytes.now }
+fn is_header_sector(sector: &Sector) -> bool
+    ensures { result ≡ is_header_sector sector.now.bytes }
 {
-    let (_, padding) = bytes.split_at(128);
-    is_zeros(padding) && decode(bytes).is_ok()
+    header_of(sector).is_some()
 }
 
 /// Whether these are an entry and zeros.
-#[tactic(auto, unfolding(vr_rings::specs::Slots::whole_of, vr_rings::specs::Slots::size_at))]
 pub fn is_prepare(bytes: &[u8]) -> bool
     requires { length bytes.now ≡ 2048 }
     ensures { result ≡ is_prepare bytes.now }
 {
-    let size = u32_at(bytes, 104).min(2048) as usize;
-    let (entry, padding) = bytes.split_at(size);
-    is_zeros(padding) && Entry::header_in(entry).is_some()
-}
-
-/// The header sector of the entry with this prepare.
-#[tactic(auto, unfolding(vr_rings::specs::Held::header_sector))]
-pub fn header_sector(prepare: &[u8]) -> Sector
-    requires { length prepare.now ≡ 2048 }
-    ensures { result.bytes ≡ header_sector prepare.now }
-{
-    let (header, _) = prepare.split_at(128);
-    let mut sector = Sector { bytes: [0; 512] };
-    put(&mut sector.bytes, 0, header);
-    sector
+    whole_of(bytes).is_some()
 }
 
 /// Whether a slot's header sector reads as that of the entry with this prepare.
@@ -71,7 +46,7 @@ fn has_other<D: SectorDisk>(disk: &mut D, slot: u32, prepare: &[u8]) -> bool
     let mut sector = Sector { bytes: [0; 512] };
     disk.read(header_at(slot), &mut sector).is_ok()
         && sector.bytes != header_sector(prepare).bytes
-        && is_header_sector(&sector.bytes)
+        && is_header_sector(&sector)
 }
 
 /// Reads a slot's prepare; false where one of its sectors can't be read.

@@ -1,15 +1,16 @@
 //! What the slots hold.
-ghost use Rattle.std.specs.Prelude.{◌≡◌, ◌<◌, None, Some, IfSome, if◌then◌else◌, length, nat_eq, slice_set};
-ghost use Rattle.std.specs.Cmp.Lexicographic.{pointwise};
+ghost use Rattle.std.specs.Prelude.{◌≡◌, ◌<◌, None, Some, IfSome, if◌then◌else◌, length, slice_set};
 ghost use Rattle.vr_disk.specs.DiskState.{Sync, Write, after, settle};
 ghost use Rattle.vr_lie.specs.Faults.{HeldAfter, HeldLooked, held_at};
 ghost use Rattle.vr_rings.specs.Held.{found, held_after, held_begun, held_cut_at, is_prepare, keeps, kept, looked};
+ghost use Rattle.vr_disk.specs.Sectors.{has};
 ghost use Rattle.vr_lie.specs.Table.{HeldBegun, HeldCut, IsTable, held_of, slot_at, table_of};
 ghost use Rattle.vr_mem.specs.Cells.{disk_of};
 
-use crate::reading::{has_header, header_sector, is_prepare, read_prepare};
+use crate::reading::{has_header, is_prepare, read_prepare};
 use vr_disk::{Sector, header_at, prepare_at, sector_at};
 use vr_mem::CellDisk;
+use vr_rings::header_sector;
 
 /// The four sectors of an entry's prepare: its header, its body and zeros.
 #[derive(Clone, Copy)]
@@ -34,44 +35,44 @@ pub fn slot_of(i: u32) -> Option<u32>
     }
 }
 
-fn is_same(a: &[u8], b: &[u8]) -> bool
-    ensures { result ≡ pointwise nat_eq a.now b.now }
+// Whether a slot holds the entry with this prepare.
+fn is_held(held: &Option<Prepare>, bytes: &[u8]) -> bool
+    ensures { result ≡ has bytes.now (held_of held.now) }
 {
-    a == b
-}
-
-// What a slot holds that reads as an entry where these are an entry's bytes.
-fn found(bytes: [u8; 2048], held: Option<Prepare>) -> Option<Prepare>
-    ensures { held_of result ≡ found (if is_prepare bytes then Some bytes else None) (held_of held) }
-{
-    if let Some(prepare) = held {
-        if is_same(&prepare.bytes, &bytes) {
-            return held;
-        }
-    }
-    if is_prepare(&bytes) {
-        Some(Prepare { bytes })
-    } else {
-        held
+    match held {
+        Some(prepare) => prepare.bytes.as_slice() == bytes,
+        None => false,
     }
 }
 
-// What a slot holds that held this before its readings changed.
+// A slot holds the entry that it reads as, where these are an entry's bytes. Those of the one that it holds aren't hashed.
+fn find(bytes: &[u8; 2048], held: &mut Option<Prepare>)
+    ensures { held_of held.new ≡ found (if is_prepare bytes.now then Some bytes.now else None) (held_of held.old) }
+{
+    if is_held(held, bytes) {
+        return;
+    }
+    if is_prepare(bytes) {
+        *held = Some(Prepare { bytes: *bytes });
+    }
+}
+
+// Looks at a slot again.
 #[tactic(auto, unfolding(vr_rings::specs::Held::entry_of_both))]
-fn looked(disk: &mut CellDisk, slot: u32, held: Option<Prepare>) -> Option<Prepare>
+fn look_in(disk: &mut CellDisk, slot: u32, held: &mut Option<Prepare>)
     requires { slot < 64 }
     ensures told { disk_of disk.new ≡ disk_of disk.old }
     ensures faults { disk.new.faults ≡ disk.old.faults }
-    ensures value { held_of result ≡ looked (disk_of disk.old).face slot (held_of held) }
+    ensures value { held_of held.new ≡ looked (disk_of disk.old).face slot (held_of held.old) }
 {
     let mut bytes = [0; 2048];
     if !read_prepare(disk, slot, &mut bytes) {
-        return held;
+        return;
     }
     if !has_header(disk, slot, &bytes) {
-        return held;
+        return;
     }
-    found(bytes, held)
+    find(&bytes, held);
 }
 
 /// Looks at a slot again.
@@ -82,8 +83,7 @@ pub fn look(disk: &mut CellDisk, held: &mut [Option<Prepare>], slot: u32)
     ensures faults { disk.new.faults ≡ disk.old.faults }
     ensures held { table_of held.new ≡ slice_set (table_of held.old) slot (looked (disk_of disk.old).face slot (held_at (table_of held.old) slot)) }
 {
-    let at = slot as usize;
-    held[at] = looked(disk, slot, held[at]);
+    look_in(disk, slot, &mut held[slot as usize]);
 }
 
 /// Looks at each slot again.
@@ -120,25 +120,30 @@ fn keeps(disk: &mut CellDisk, slot: u32, i: u32, bytes: &[u8], prepare: &[u8]) -
     true
 }
 
-// What a write leaves of what a slot holds.
-fn kept(
-    disk: &mut CellDisk,
-    slot: u32,
-    i: u32,
-    from: &Sector,
-    held: Option<Prepare>,
-) -> Option<Prepare>
+// Whether a write leaves it that a slot holds what it holds.
+fn keeps_held(disk: &mut CellDisk, slot: u32, i: u32, from: &Sector, held: &Option<Prepare>) -> bool
     requires { slot < 64 }
     ensures told { disk_of disk.new ≡ disk_of disk.old }
     ensures faults { disk.new.faults ≡ disk.old.faults }
-    ensures value { held_of result ≡ kept (disk_of disk.old).face slot i from.now.bytes (held_of held) }
+    ensures value { kept (disk_of disk.old).face slot i from.now.bytes (held_of held.now) ≡ (if result then held_of held.now else None) }
 {
-    if let Some(prepare) = held {
-        if keeps(disk, slot, i, &from.bytes, &prepare.bytes) {
-            return held;
-        }
+    match held {
+        Some(prepare) => keeps(disk, slot, i, &from.bytes, &prepare.bytes),
+        None => true,
     }
-    None
+}
+
+// Looks at a slot that a write leaves what it holds, or nothing.
+fn follow(disk: &mut CellDisk, slot: u32, keeps: bool, held: &mut Option<Prepare>)
+    requires { slot < 64 }
+    ensures told { disk_of disk.new ≡ disk_of disk.old }
+    ensures faults { disk.new.faults ≡ disk.old.faults }
+    ensures value { held_of held.new ≡ looked (disk_of disk.old).face slot (if keeps then held_of held.old else None) }
+{
+    if !keeps {
+        *held = None;
+    }
+    look_in(disk, slot, held);
 }
 
 // Writes a sector of a slot.
@@ -151,9 +156,9 @@ fn put_in(disk: &mut CellDisk, held: &mut [Option<Prepare>], slot: u32, i: u32, 
     ensures held { table_of held.new ≡ slice_set (table_of held.old) slot (held_after (disk_of disk.old).face (Write i from.now.bytes) slot (held_at (table_of held.old) slot)) }
 {
     let at = slot as usize;
-    let kept = kept(disk, slot, i, from, held[at]);
+    let keeps = keeps_held(disk, slot, i, from, &held[at]);
     disk.put(i, from);
-    held[at] = looked(disk, slot, kept);
+    follow(disk, slot, keeps, &mut held[at]);
 }
 
 /// A write that goes through.
@@ -188,13 +193,10 @@ fn begin_in(
     ensures held { table_of held.new ≡ slice_set (table_of held.old) slot (held_begun code (disk_of disk.old).face (Write i from.now.bytes) slot (held_at (table_of held.old) slot)) }
 {
     let at = slot as usize;
-    let was = held[at];
-    let kept = kept(disk, slot, i, from, was);
+    let keeps = keeps_held(disk, slot, i, from, &held[at]);
     disk.put(i, from);
-    if disk.digit(code, i) == 0 {
-        held[at] = was;
-    } else {
-        held[at] = looked(disk, slot, kept);
+    if disk.digit(code, i) != 0 {
+        follow(disk, slot, keeps, &mut held[at]);
     }
 }
 

@@ -145,7 +145,7 @@ fn keeps_slot(disk: &mut CellDisk, held: &[Option<Prepare>], at: u32, a: &Lie, b
     let Some(slot) = slot_of(at) else {
         return true;
     };
-    match held[slot as usize] {
+    match &held[slot as usize] {
         Some(prepare) => still_holds(disk, slot, &prepare.bytes, a, b),
         None => true,
     }

@@ -1,6 +1,7 @@
 -- The sectors of a slot, both ways.
-use Rattle.std.proofs.Common.{ℕ, zero, suc, ◌+◌, ◌-◌, ◌<◌, ◌≡◌, arith, refl, sym, ap, ◌∙◌, true, false, cond, eqb, List, [], ◌∷◌, ◌++◌, length, take, drop, Option, Some, None, Result, Ok, Err, append_assoc, length-append, length-take, length-drop, get_or}
-use Rattle.std.specs.Prelude.{◌↔◌, IfSome, IsTrue, bit_xor, is_some, min, replicate}
+use Rattle.std.proofs.Common.{ℕ, zero, suc, ◌+◌, ◌-◌, ◌<◌, ◌≤◌, ◌≡◌, ◌&&◌, arith, refl, sym, ap, ◌∙◌, true, false, cond, eqb, List, [], ◌∷◌, ◌++◌, length, take, drop, Option, Some, None, Result, Ok, Err, append_assoc, length-append, length-take, length-drop, get_or}
+use Rattle.std.specs.Prelude.{◌↔◌, IfSome, IsTrue, bit_xor, is_some, min, nat_eq, replicate}
+use Rattle.std.specs.Cmp.Lexicographic.{pointwise}
 use Rattle.std.specs.Option.{option_map, option_map_or}
 use Rattle.std.specs.Result.{result_ok}
 use Rattle.std.specs.Int.{w32}
@@ -27,6 +28,12 @@ use Rattle.vr_rings.specs.Slots.{IsWhole, header_of, is_zeros, prepare_bytes, pr
 pub zeros_are : (n : ℕ) → is_zeros (replicate n 0) ≡ true
 zeros_are zero = refl
 zeros_are (suc n) = zeros_are n
+
+-- a comparison with as many zeros
+pub same_zeros : (b : List ℕ) (n : ℕ) → length b ≤ n → pointwise nat_eq b (take (length b) (replicate n 0)) ≡ is_zeros b
+same_zeros [] n l = refl
+same_zeros (x ∷ b) zero l = absurd (omega arith)
+same_zeros (x ∷ b) (suc n) l = ap (λ z. eqb x 0 && z) (same_zeros b n (omega arith))
 
 are_zeros : (b : List ℕ) → is_zeros b ≡ true → b ≡ replicate (length b) 0
 are_zeros [] e = refl
@@ -234,6 +241,15 @@ whole_version b e =
 pub header_sector_is : (e : Whole) → IsHeader e.header → header_sector (prepare_bytes e) ≡ sector_of e.header
 unfolding header_sector sector_of
 header_sector_is e h = ap (λ (x : List ℕ). x ++ replicate 384 0) (prepare_spells e h)
+
+-- the front of a prepare put in front of zeros
+pub header_sector_made : (prepare front new : List ℕ) → length prepare ≡ 2048 → front ≡ take 128 prepare → take (0 + length front) new ≡ front → drop (0 + length front) new ≡ drop (0 + length front) (replicate 512 0) → new ≡ header_sector prepare
+unfolding header_sector
+header_sector_made prepare front new l e t d =
+    let m = length-take 128 prepare in
+    let s = ap length e in
+    let n : 512 - (0 + length front) ≡ 384 = omega arith in
+    over_zeros 512 (0 + length front) front new t d ∙ (ap (λ x. x ++ replicate (512 - (0 + length front)) 0) e ∙ ap (λ k. take 128 prepare ++ replicate k 0) n)
 
 pub damaged_none : (h : Header) → IsHeader h → is_some (header_of (damaged (sector_of h))) ≡ false
 damaged_none h i =

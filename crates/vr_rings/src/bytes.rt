@@ -1,18 +1,23 @@
 //! The sectors of a slot, both ways.
-ghost use Rattle.std.specs.Prelude.{◌≡◌, length};
+ghost use Rattle.std.specs.Prelude.{◌≡◌, ◌≤◌, length};
 ghost use Rattle.std.specs.Option.{option_map};
 ghost use Rattle.vr_base.specs.Bytes.{IsBytes};
 ghost use Rattle.vr_header.specs.Spelling.{IsHeader};
+ghost use Rattle.vr_rings.specs.Held.{header_sector};
 ghost use Rattle.vr_rings.specs.Slots.{IsWhole, header_of, is_zeros, prepare_bytes, sector_of, whole_of};
 
 use vr_base::{put, u32_at};
 use vr_disk::Sector;
 use vr_header::{Entry, Header, decode, encode};
 
+static ZEROS: [u8; 2048] = [0; 2048];
+
+// Whether these, at most 2,048, are zeros.
 fn is_zeros(bytes: &[u8]) -> bool
+    requires { length bytes.now ≤ 2048 }
     ensures { result ≡ is_zeros bytes.now }
 {
-    bytes.iter().all(|b| *b == 0)
+    bytes == &ZEROS[..bytes.len()]
 }
 
 /// The header sector of an entry of this header.
@@ -23,6 +28,18 @@ pub fn sector_of(header: &Header) -> Sector
 {
     let mut sector = Sector { bytes: [0; 512] };
     put(&mut sector.bytes, 0, &encode(header));
+    sector
+}
+
+/// The header sector of the entry with this prepare of 2,048 bytes: the first 128 of them, and zeros.
+#[tactic(auto, using(crate::proofs::Spelling::header_sector_made))]
+pub fn header_sector(prepare: &[u8]) -> Sector
+    requires { length prepare.now ≡ 2048 }
+    ensures { result.bytes ≡ header_sector prepare.now }
+{
+    let (header, _) = prepare.split_at(128);
+    let mut sector = Sector { bytes: [0; 512] };
+    put(&mut sector.bytes, 0, header);
     sector
 }
 
@@ -38,7 +55,7 @@ pub fn prepare_of(entry: &Entry) -> [u8; 2048]
     bytes
 }
 
-/// The header that a header sector's bytes are, None exactly where they are none.
+/// The header that a header sector's bytes are, `None` exactly where they aren't a valid header and zeros.
 #[tactic(auto, unfolding(crate::specs::Slots::header_of))]
 pub fn header_of(sector: &Sector) -> Option<Header>
     ensures { result ≡ header_of sector.now.bytes }
@@ -51,7 +68,7 @@ pub fn header_of(sector: &Sector) -> Option<Header>
     }
 }
 
-/// The header of the entry that the bytes of four sectors are, None exactly where they are none.
+/// The header of the entry that the 2,048 bytes of a prepare are, `None` exactly where they aren't a whole entry and zeros.
 pub fn whole_of(bytes: &[u8]) -> Option<Header>
     requires { length bytes.now ≡ 2048 }
     ensures value { result ≡ option_map (λ e. e.header) (whole_of bytes.now) }

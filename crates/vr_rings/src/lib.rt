@@ -8,6 +8,7 @@ mod reading;
 mod slot;
 mod writing;
 
+pub use bytes::{header_of, header_sector, whole_of};
 pub use fault::{Bad, DiskFault, Faulty};
 pub use laws::slot_laws;
 pub use reading::{read_header, read_prepare, read_whole};

@@ -2,15 +2,14 @@
 ghost use Rattle.std.specs.Prelude.{◌≡◌, [], IfSome, is_ok};
 ghost use Rattle.vr_base.specs.Causes.{HasCause};
 ghost use Rattle.vr_disk.specs.DiskState.{Runs};
-ghost use Rattle.vr_header.specs.Spelling.{IsHeader};
-ghost use Rattle.vr_rings.specs.Slots.{prepare_bytes};
+ghost use Rattle.vr_rings.specs.Slots.{prepare_bytes, sector_of};
 ghost use Rattle.vr_rings.specs.Calls.{again_calls, header_calls, new_calls, prepare_calls};
 ghost use Rattle.vr_rings.specs.Laws.{AgainLeaves, HeaderLeaves, NewLeaves};
 
 use crate::DiskFault;
-use crate::bytes::{prepare_of, sector_of};
+use crate::bytes::{header_sector, prepare_of, sector_of};
 use crate::slot::slot_of;
-use vr_disk::{DiskFailed, SectorDisk, header_at, prepare_at, write_sectors};
+use vr_disk::{DiskFailed, Sector, SectorDisk, header_at, prepare_at, write_sectors};
 use vr_header::{Entry, Header};
 
 // Writes the four sectors of an entry, which are these bytes, and syncs them.
@@ -30,14 +29,18 @@ fn put_prepare<D: SectorDisk>(
     Ok(())
 }
 
-// Writes the sector of a header, and syncs it.
+// Writes the sector of a header, which is this one, and syncs it.
 #[tactic(auto, unfolding(crate::specs::Calls::header_calls))]
-fn put_header<D: SectorDisk>(disk: &mut D, header: &Header) -> Result<(), DiskFailed>
+fn put_header<D: SectorDisk>(
+    disk: &mut D,
+    header: &Header,
+    sector: &Sector,
+) -> Result<(), DiskFailed>
+    requires { sector.now.bytes ≡ sector_of header.now }
     ensures runs { Runs (header_calls header.now) (D.told disk.old) (D.told disk.new) (is_ok result) }
-    ensures header { IsHeader header.now }
     ensures cause { HasCause (D.faults disk.old) (D.faults disk.new) result }
 {
-    disk.write(header_at(slot_of(header)), &sector_of(header))?;
+    disk.write(header_at(slot_of(header)), sector)?;
     disk.sync()?;
     Ok(())
 }
@@ -55,7 +58,7 @@ pub fn write_new<D: SectorDisk>(disk: &mut D, entry: &Entry) -> Result<(), DiskF
 {
     let bytes = prepare_of(entry);
     put_prepare(disk, entry, &bytes)?;
-    put_header(disk, &entry.header())?;
+    put_header(disk, &entry.header(), &header_sector(&bytes))?;
     Ok(())
 }
 
@@ -69,10 +72,10 @@ pub fn write_again<D: SectorDisk>(disk: &mut D, entry: &Entry) -> Result<(), Dis
     // sector synced already; and the premise on slots is kept.
     ensures stop { IfSome (D.told disk.old) (λ d. d.face.waiting ≡ [] → AgainLeaves entry.now d.face) }
 {
-    let bytes = prepare_of(entry);
-    let header = entry.header();
-    put_header(disk, &header)?;
-    put_prepare(disk, entry, &bytes)?;
+    let prepare = prepare_of(entry);
+    let sector = header_sector(&prepare);
+    put_header(disk, &entry.header(), &sector)?;
+    put_prepare(disk, entry, &prepare)?;
     Ok(())
 }
 
@@ -85,6 +88,6 @@ pub fn write_header<D: SectorDisk>(disk: &mut D, header: &Header) -> Result<(), 
     // A stop at any of these calls keeps the premise on slots.
     ensures stop { IfSome (D.told disk.old) (λ d. d.face.waiting ≡ [] → HeaderLeaves header.now d.face) }
 {
-    put_header(disk, header)?;
+    put_header(disk, header, &sector_of(header))?;
     Ok(())
 }
