@@ -1,0 +1,143 @@
+-- What every run of a group keeps, said of its outputs in order, of what was stated, and of what each replica had applied.
+use Rattle.std.specs.Prelude.{ℕ, ◌+◌, ◌-◌, ◌<◌, ◌≤◌, ◌≡◌, ◌==◌, ⊤, true, List, [], ◌∷◌, ◌++◌, length, take, drop, filter_map, slice_get, slice_index_or, Option, None, Some, if◌then◌else◌}
+use Rattle.std.specs.List.{list_any, range_with_len}
+use Rattle.std.specs.Option.{option_map_or}
+use Rattle.vr_base.specs.declared.replicas.Replicas.{Replicas}
+use Rattle.vr_base.specs.Groups.{quorums_of}
+use Rattle.vr_base.specs.Replicas.{has_replica, size}
+use Rattle.vr_header.specs.declared.header.Header.{Header}
+use Rattle.vr_header.specs.Made.{Whole}
+use Rattle.vr_header.specs.NoCollision.{NoCollision}
+use Rattle.vr_header.specs.Spelling.{IsHeader}
+use Rattle.vr_msg.specs.declared.event.Event.{Event}
+use Rattle.vr_msg.specs.declared.event.Event.TheVariants as event
+use Rattle.vr_msg.specs.declared.frame.Frame.{Frame}
+use Rattle.vr_msg.specs.declared.frame.Frame.TheVariants as frame
+use Rattle.vr_msg.specs.declared.output.Chosen.{Chosen}
+use Rattle.vr_msg.specs.declared.output.Output.{Output}
+use Rattle.vr_msg.specs.declared.output.Output.TheVariants as output
+use Rattle.vr_msg.specs.declared.reply.ReplyFields.{ReplyFields}
+use Rattle.vr_msg.specs.declared.statement.Statement.{Statement}
+use Rattle.vr_msg.specs.Choice.{IsIntact, denies}
+use Rattle.vr_model.specs.Safe.{Vouches, IsCommitted, AreCommitted, IsBackedMessage, IsLine, IsReplyOf, IsHashed, is_line_of, lines_by}
+use Rattle.vr_rules.specs.Replica.{Replica, statement_of}
+use Rattle.vr_rules.specs.Group.{Move, Steps, Cuts, Stops, Starts, StartsCut, Played}
+
+-- ---- what was put out
+
+-- all outputs of a run, in order
+unfoldable pub outputs : List Played → List Output
+outputs [] = []
+outputs (p ∷ ps) = p.moved.outputs ++ outputs ps
+
+-- an output of a run: at move `move` of it, the output of that number
+pub record IsOutput (run : List Played) (move number : ℕ) (p : Played) (o : Output) : Type 0 where
+  pub at : slice_get run move ≡ Some p
+  pub is : slice_get p.moved.outputs number ≡ Some o
+
+-- what was put out before it
+abbrev pub before : List Played → ℕ → ℕ → Played → List Output
+before run move number p = outputs (take move run) ++ take number p.moved.outputs
+
+-- ---- a committed entry keeps its number in every later view
+
+abbrev pub CarriesEntry : ℕ → Header → Frame → Type 0
+CarriesEntry view c (frame.Prepare p) = view < p.view → p.entry.header.op ≡ c.op → p.entry.header ≡ c
+CarriesEntry view c (frame.StartView v) = view < v.view → v.body.lo < c.op → c.op ≤ v.head → slice_get v.body.headers (c.op - (v.body.lo + 1)) ≡ Some c
+CarriesEntry view c _ = ⊤
+
+-- of an entry that is committed in a view: what is said in a later one
+abbrev pub KeepsEntry : ℕ → Header → Output → Type 0
+KeepsEntry view c (output.Send s) = CarriesEntry view c s.message
+KeepsEntry view c (output.Choose l) = view < l.view → c.op ≤ l.head
+KeepsEntry view c _ = ⊤
+
+-- ---- replies
+
+-- the replica that a step begins with
+abbrev pub actor : Played → ℕ → Option Replica
+actor p index = option_map_or (λ m. m.replica) (slice_get p.before.members index) None
+
+-- So many had it applied when it answered: those before the step, and those of the step's commit lines before the reply. A
+-- commit line that stands last is of the entry whose reply comes right behind it, and that is answered after the entries before it.
+abbrev pub applied_then : ℕ → Replica → List Output → ℕ
+applied_then index r said =
+    r.applied + lines_by index said - (if list_any (is_line_of index) (drop (length said - 1) said) then 1 else 0)
+
+-- what was applied is committed, and a reply is the plain sessions' and machine's over it
+pub record IsTrueReply (n : ℕ) (log : List Whole) (run : List Played) (move number : ℕ) (p : Played) (a : ReplyFields) : Type 0 where
+  pub replica : Replica
+  pub is_of : actor p a.replica ≡ Some replica
+  pub applied : AreCommitted n (before run move number p) log a.view (replica.applied + lines_by a.replica (take number p.moved.outputs))
+  pub said : IsReplyOf log (replica.applied + lines_by a.replica (take number p.moved.outputs)) (applied_then a.replica replica (take number p.moved.outputs)) a a.kind
+
+-- ---- only a nack quorum shortens a log
+
+-- the event of a move
+abbrev pub event_of : Move → Option Event
+event_of (Steps at arrival e face) = Some e
+event_of (Cuts at arrival e face effects) = Some e
+event_of (Stops at) = None
+event_of (Starts at value face) = None
+event_of (StartsCut at value face effects) = None
+
+-- the statement that an event brings of this replica
+abbrev pub brought_in : ℕ → Frame → Option Statement
+brought_in i (frame.DoViewChange d) = if d.replica == i then Some d.statement else None
+brought_in i _ = None
+
+abbrev pub brought : ℕ → Event → Option Statement
+brought i (event.Deliver message) = brought_in i message
+brought i (event.Request q) = None
+brought i event.Tick = None
+
+abbrev pub or_else : Option Statement → Option Statement → Option Statement
+or_else (Some s) other = Some s
+or_else None other = other
+
+-- What a replica that chooses the log of a view has heard of replica i: its own statement; the one that the event brings; or
+-- the one that it had before, where it didn't enter the view only in this step.
+abbrev pub heard_from : ℕ → Event → Replica → ℕ → Option Statement
+heard_from view e r i =
+    if i == r.index then Some (statement_of r)
+    else or_else (brought i e) (if r.view == view then slice_index_or r.statements i None else None)
+
+unfoldable pub all_heard : ℕ → Event → Replica → List Statement
+all_heard view e r = filter_map (heard_from view e r) (range_with_len 0 r.n)
+
+-- one that denies an op, and vouches for nothing there in the log's view, in the whole run
+pub record IsDenier (n : ℕ) (said : List Output) (heard : List Statement) (log_view op i : ℕ) (s : Option Statement) : Type 0 where
+  pub statement : Statement
+  pub stated : s ≡ Some statement
+  pub denies : denies heard op statement ≡ true
+  pub silent : (c : Header) → c.op ≡ op → ¬ Vouches n said log_view i c
+
+-- a choice of a log: each op above the greatest commit number is intact, and a nack quorum denies the next
+pub record IsJustified (n : ℕ) (said : List Output) (p : Played) (l : Chosen) : Type 0 where
+  pub replica : Replica
+  pub is_of : actor p l.replica ≡ Some replica
+  pub event : Event
+  pub by_event : event_of p.move ≡ Some event
+  pub intact : (k : ℕ) → l.commit < k → k ≤ l.head → IsIntact (all_heard l.view event replica) k
+  pub deniers : Replicas
+  pub enough : option_map_or (λ q. q.nack) (quorums_of n) 0 ≤ size deniers
+  pub each : (i : ℕ) → has_replica deniers i ≡ true → IsDenier n said (all_heard l.view event replica) l.log_view (l.head + 1) i (heard_from l.view event replica i)
+
+-- ---- all together
+
+-- each output is backed by those before it, and by the log
+abbrev pub IsBacked : ℕ → List Whole → List Played → ℕ → ℕ → Played → Output → Type 0
+IsBacked n log run move number p (output.Send s) = IsBackedMessage n (before run move number p) log s.message
+IsBacked n log run move number p (output.Commit c) = IsLine n (before run move number p) log c
+IsBacked n log run move number p (output.Reply a) = IsTrueReply n log run move number p a
+IsBacked n log run move number p (output.Choose l) = IsJustified n (outputs run) p l
+IsBacked n log run move number p _ = ⊤
+
+-- A run of a group of n replicas: there is one log.
+pub record Safe (n : ℕ) (run : List Played) : Type 0 where
+  pub log : List Whole
+  -- an entry that is committed is the log's at its number, where names don't collide
+  pub one : (view : ℕ) (c : Header) → IsHeader c → NoCollision (IsHashed (outputs run) c) → 0 < c.op → IsCommitted n (outputs run) view c → (e : Whole) × (slice_get log (c.op - 1) ≡ Some e) × (e.header ≡ c)
+  pub backed : (move number : ℕ) (p : Played) (o : Output) → IsOutput run move number p o → IsBacked n log run move number p o
+  -- and what is said in later views has it, too
+  pub kept : (view : ℕ) (c : Header) → IsHeader c → NoCollision (IsHashed (outputs run) c) → 0 < c.op → IsCommitted n (outputs run) view c → (move number : ℕ) (p : Played) (o : Output) → IsOutput run move number p o → KeepsEntry view c o
