@@ -11,3 +11,4 @@ pub mod Group
 pub mod Safe
 pub mod Sound
 pub mod Laws
+pub mod Trace
