@@ -14,7 +14,7 @@ use Rattle.vr_msg.specs.declared.output.Sent.{Sent}
 use Rattle.vr_msg.specs.declared.request.RequestFields.{RequestFields}
 use Rattle.vr_msg.specs.Logs.{header_of}
 use Rattle.vr_super.specs.Copies.{Saved}
-use Rattle.vr_rules.specs.Replica.{Replica, part_at}
+use Rattle.vr_rules.specs.Replica.{Replica, part_at, parts_from}
 use Rattle.vr_rules.specs.Steps.{Effect, Write, Rewrite, Save, Mend, Checkpoint, PutBlock, Say, Step, outputs}
 use Rattle.vr_rules.specs.Rules.{react}
 use Rattle.vr_rules.specs.Opening.{blank, first_value, fresh, listed, opening, recover_parts, was_stored}
@@ -111,6 +111,22 @@ made_in (e ∷ es) = made_by_effect e ++ made_in es
 -- of the window the Parts that are read from a value and such readings
 abbrev pub recovered : Saved → Face → Replica
 recovered v f = (recover_parts v sectors (blank v) f).replica
+
+-- the Parts of the window
+abbrev pub found : Saved → Face → List Part
+found v f = parts_from (recovered v f) (v.fields.checkpoint + 1)
+
+-- an entry that is found stored is kept from then on, though nothing is written
+abbrev pub keeps_found : Part → Member → Member
+keeps_found (Here h) m = with_kept h.op (Some h) m
+keeps_found (Lost h) m = m
+keeps_found (Wanted h) m = m
+keeps_found Unknown m = m
+keeps_found Nothing m = m
+
+unfoldable pub keeps_all : List Part → Member → Member
+keeps_all [] m = m
+keeps_all (p ∷ ps) m = keeps_all ps (keeps_found p m)
 
 -- the header of an entry that was made for this op in this view
 pub record IsMadeFor (made : List Header) (view op : ℕ) (h : Header) : Type 0 where
@@ -218,7 +234,8 @@ pub data Moves (g : Group) : Move → Moved → Type 0 where
   cuts : (at : ℕ) (arrival : Arrival) (event : Event) (face : Face) (effects : ℕ) (m : Member) (r : Replica) → Runs g at m r → IsArrival g at arrival event
       → Moves g (Cuts at arrival event face effects) (cut_short g at m (stepped event r face) effects)
   stops : (at : ℕ) (m : Member) → slice_get g.members at ≡ Some m → Moves g (Stops at) (with_script g at (record m { replica = None }) [] [])
-  starts : (at : ℕ) (value : Saved) (face : Face) (m : Member) → Opens g at m value face → Moves g (Starts at value face) (finished g at m (started value face))
+  starts : (at : ℕ) (value : Saved) (face : Face) (m : Member) → Opens g at m value face
+      → Moves g (Starts at value face) (finished g at (keeps_all (found value face) m) (started value face))
   starts_cut : (at : ℕ) (value : Saved) (face : Face) (effects : ℕ) (m : Member) → Opens g at m value face
       → Moves g (StartsCut at value face effects) (cut_short g at m (started value face) effects)
 
