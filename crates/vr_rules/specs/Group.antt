@@ -13,6 +13,7 @@ use Rattle.vr_msg.specs.declared.output.Output.{Output}
 use Rattle.vr_msg.specs.declared.output.Sent.{Sent}
 use Rattle.vr_msg.specs.declared.request.RequestFields.{RequestFields}
 use Rattle.vr_msg.specs.Logs.{header_of}
+use Rattle.vr_model.specs.World.{IsAsked}
 use Rattle.vr_super.specs.Copies.{Saved}
 use Rattle.vr_rules.specs.Replica.{Replica, part_at, parts_from}
 use Rattle.vr_rules.specs.Steps.{Effect, Write, Rewrite, Save, Mend, Checkpoint, PutBlock, Say, Step, outputs}
@@ -185,9 +186,9 @@ pub data Move : Type 0 where
   -- the same, cut
   StartsCut : (at : ℕ) (value : Saved) (face : Face) (effects : ℕ) → Move
 
--- the event that reaches this member
+-- the event that reaches this member: a request that can be asked, a message that was sent to it, a tick
 abbrev pub IsArrival : Group → ℕ → Arrival → Event → Type 0
-IsArrival g at (Asked q) e = e ≡ event.Request q
+IsArrival g at (Asked q) e = IsAsked q × (e ≡ event.Request q)
 IsArrival g at (Message number) e = (s : Sent) × (slice_get g.sent number ≡ Some s) × (s.to ≡ at) × (e ≡ event.Deliver s.message)
 IsArrival g at Time e = e ≡ event.Tick
 
