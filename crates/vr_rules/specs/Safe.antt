@@ -1,5 +1,5 @@
 -- What every run of a group keeps, said of its outputs in order, of what was stated, and of what each replica had applied.
-use Rattle.std.specs.Prelude.{ℕ, ◌+◌, ◌-◌, ◌<◌, ◌≤◌, ◌≡◌, ◌==◌, ⊤, true, List, [], ◌∷◌, ◌++◌, length, take, drop, filter_map, slice_get, slice_index_or, Option, None, Some, if◌then◌else◌}
+use Rattle.std.specs.Prelude.{ℕ, ◌+◌, ◌-◌, ◌<◌, ◌≤◌, ◌≡◌, ◌==◌, ⊤, true, List, [], ◌∷◌, ◌++◌, length, take, drop, filter_map, slice_get, slice_index_or, Contains, Option, None, Some, if◌then◌else◌}
 use Rattle.std.specs.List.{list_any, range_with_len}
 use Rattle.std.specs.Option.{option_map_or}
 use Rattle.vr_base.specs.declared.replicas.Replicas.{Replicas}
@@ -8,7 +8,7 @@ use Rattle.vr_base.specs.Replicas.{has_replica, size}
 use Rattle.vr_header.specs.declared.header.Header.{Header}
 use Rattle.vr_header.specs.Made.{Whole}
 use Rattle.vr_header.specs.NoCollision.{NoCollision}
-use Rattle.vr_header.specs.Spelling.{IsHeader}
+use Rattle.vr_header.specs.Spelling.{IsHeader, named_bytes}
 use Rattle.vr_msg.specs.declared.event.Event.{Event}
 use Rattle.vr_msg.specs.declared.event.Event.TheVariants as event
 use Rattle.vr_msg.specs.declared.frame.Frame.{Frame}
@@ -19,7 +19,7 @@ use Rattle.vr_msg.specs.declared.output.Output.TheVariants as output
 use Rattle.vr_msg.specs.declared.reply.ReplyFields.{ReplyFields}
 use Rattle.vr_msg.specs.declared.statement.Statement.{Statement}
 use Rattle.vr_msg.specs.Choice.{IsIntact, denies}
-use Rattle.vr_model.specs.Safe.{Vouches, IsCommitted, AreCommitted, IsBackedMessage, IsLine, IsReplyOf, IsHashed, is_line_of, lines_by}
+use Rattle.vr_model.specs.Safe.{Vouches, IsCommitted, AreCommitted, IsBackedMessage, IsLine, IsReplyOf, is_line_of, lines_by}
 use Rattle.vr_rules.specs.Replica.{Replica, statement_of}
 use Rattle.vr_rules.specs.Group.{Move, Steps, Cuts, Stops, Starts, StartsCut, Played}
 
@@ -133,11 +133,18 @@ IsBacked n log run move number p (output.Reply a) = IsTrueReply n log run move n
 IsBacked n log run move number p (output.Choose l) = IsJustified n (outputs run) p l
 IsBacked n log run move number p _ = ⊤
 
+-- The bytes that were hashed for the names of entries in play, and of one more header: those of each entry that a member ever
+-- began to write. It may be committed though no prepare of it was sent: by replicas that found it stored, and by those to which
+-- these gave it.
+pub data IsHashed (run : List Played) (c : Header) : List ℕ → Type 0 where
+  made : (p : Played) (h : Header) → Contains run p → Contains p.moved.group.made h → IsHashed run c (named_bytes h)
+  given : IsHashed run c (named_bytes c)
+
 -- A run of a group of n replicas: there is one log.
 pub record Safe (n : ℕ) (run : List Played) : Type 0 where
   pub log : List Whole
   -- an entry that is committed is the log's at its number, where names don't collide
-  pub one : (view : ℕ) (c : Header) → IsHeader c → NoCollision (IsHashed (outputs run) c) → 0 < c.op → IsCommitted n (outputs run) view c → (e : Whole) × (slice_get log (c.op - 1) ≡ Some e) × (e.header ≡ c)
+  pub one : (view : ℕ) (c : Header) → IsHeader c → NoCollision (IsHashed run c) → 0 < c.op → IsCommitted n (outputs run) view c → (e : Whole) × (slice_get log (c.op - 1) ≡ Some e) × (e.header ≡ c)
   pub backed : (move number : ℕ) (p : Played) (o : Output) → IsOutput run move number p o → IsBacked n log run move number p o
   -- and what is said in later views has it, too
-  pub kept : (view : ℕ) (c : Header) → IsHeader c → NoCollision (IsHashed (outputs run) c) → 0 < c.op → IsCommitted n (outputs run) view c → (move number : ℕ) (p : Played) (o : Output) → IsOutput run move number p o → KeepsEntry view c o
+  pub kept : (view : ℕ) (c : Header) → IsHeader c → NoCollision (IsHashed run c) → 0 < c.op → IsCommitted n (outputs run) view c → (move number : ℕ) (p : Played) (o : Output) → IsOutput run move number p o → KeepsEntry view c o
