@@ -204,15 +204,17 @@ pub record Opens (g : Group) (at : ℕ) (m : Member) (v : Saved) (f : Face) : Ty
   pub value : MayOpen m v
   pub sound : AreSound v (kept_at m) g.made (recovered v f)
 
--- what a move leaves of the group, and puts out
+-- what a move leaves of the group, the effects that were begun in it, and what it puts out
 pub record Moved : Type 0 where
   pub group : Group
+  pub script : List Effect
   pub outputs : List Output
 
 -- what a member's script leaves
 abbrev pub with_script : Group → ℕ → Member → List Effect → List Output → Moved
-with_script g at m made said = record {
-  group = record { n = g.n; members = slice_set g.members at m; sent = g.sent ++ messages said; made = g.made ++ made_in made };
+with_script g at m begun said = record {
+  group = record { n = g.n; members = slice_set g.members at m; sent = g.sent ++ messages said; made = g.made ++ made_in begun };
+  script = begun;
   outputs = said;
 }
 

@@ -1,5 +1,5 @@
 -- What every run of a group keeps, said of its outputs in order, of what was stated, and of what each replica had applied.
-use Rattle.std.specs.Prelude.{ℕ, ◌+◌, ◌-◌, ◌<◌, ◌≤◌, ◌≡◌, ◌==◌, ⊤, true, List, [], ◌∷◌, ◌++◌, length, take, drop, filter_map, slice_get, slice_index_or, Contains, Option, None, Some, if◌then◌else◌}
+use Rattle.std.specs.Prelude.{ℕ, ◌+◌, ◌-◌, ◌<◌, ◌≤◌, ◌≡◌, ◌==◌, ⊤, Bool, true, List, [], ◌∷◌, ◌++◌, length, take, drop, filter_map, slice_get, slice_index_or, Contains, Option, None, Some, if◌then◌else◌}
 use Rattle.std.specs.List.{list_any, range_with_len}
 use Rattle.std.specs.Option.{option_map_or}
 use Rattle.vr_base.specs.declared.replicas.Replicas.{Replicas}
@@ -7,6 +7,8 @@ use Rattle.vr_base.specs.Groups.{quorums_of}
 use Rattle.vr_base.specs.Replicas.{has_replica, size}
 use Rattle.vr_header.specs.declared.header.Header.{Header}
 use Rattle.vr_header.specs.Made.{Whole}
+use Rattle.vr_header.specs.Bodies.{operation_bytes}
+use Rattle.vr_header.specs.Names.{root_header}
 use Rattle.vr_header.specs.NoCollision.{NoCollision}
 use Rattle.vr_header.specs.Spelling.{IsHeader, named_bytes}
 use Rattle.vr_msg.specs.declared.event.Event.{Event}
@@ -19,6 +21,15 @@ use Rattle.vr_msg.specs.declared.output.Output.TheVariants as output
 use Rattle.vr_msg.specs.declared.reply.ReplyFields.{ReplyFields}
 use Rattle.vr_msg.specs.declared.statement.Statement.{Statement}
 use Rattle.vr_msg.specs.Choice.{IsIntact, denies}
+use Rattle.vr_apply.specs.declared.codec.Texts.{Texts}
+use Rattle.vr_disk.specs.DiskState.{Face}
+use Rattle.vr_rings.specs.Slots.{whole_in}
+use Rattle.vr_grid.specs.Blocks.{Content, block_header, block_of, named}
+use Rattle.vr_grid.specs.Grid.{named_at}
+use Rattle.vr_grid.specs.declared.name.Name.{Name}
+use Rattle.vr_ckpt.specs.Saves.{written}
+use Rattle.vr_ckpt.specs.declared.table.Table.{Table}
+use Rattle.vr_rules.specs.Steps.{Effect, Write, Checkpoint, PutBlock}
 use Rattle.vr_model.specs.Safe.{Vouches, IsCommitted, AreCommitted, IsBackedMessage, IsLine, IsReplyOf, is_line_of, lines_by}
 use Rattle.vr_rules.specs.Replica.{Replica, statement_of}
 use Rattle.vr_rules.specs.Group.{Move, Steps, Cuts, Stops, Starts, StartsCut, Played}
@@ -72,6 +83,14 @@ pub record IsTrueReply (n : ℕ) (log : List Whole) (run : List Played) (move nu
   pub said : IsReplyOf log (replica.applied + lines_by a.replica (take number p.moved.outputs)) (applied_then a.replica replica (take number p.moved.outputs)) a a.kind
 
 -- ---- only a nack quorum shortens a log
+
+-- the readings of a move
+abbrev pub faces_of : Move → List Face
+faces_of (Steps at arrival e face) = face ∷ []
+faces_of (Cuts at arrival e face effects) = face ∷ []
+faces_of (Stops at) = []
+faces_of (Starts at value face) = face ∷ []
+faces_of (StartsCut at value face effects) = face ∷ []
 
 -- the event of a move
 abbrev pub event_of : Move → Option Event
@@ -133,11 +152,30 @@ IsBacked n log run move number p (output.Reply a) = IsTrueReply n log run move n
 IsBacked n log run move number p (output.Choose l) = IsJustified n (outputs run) p l
 IsBacked n log run move number p _ = ⊤
 
--- The bytes that were hashed for the names of entries in play, and of one more header: those of each entry that a member ever
--- began to write. It may be committed though no prepare of it was sent: by replicas that found it stored, and by those to which
--- these gave it.
+-- What a disk may give: the entries of its slots, and the contents of its blocks, each by the bytes that have a name.
+pub data IsRead (f : Face) : List ℕ → Type 0 where
+  header : (slot : ℕ) (e : Whole) → whole_in f slot ≡ Some e → IsRead f (named_bytes e.header)
+  operation : (slot : ℕ) (e : Whole) → whole_in f slot ≡ Some e → IsRead f (operation_bytes e.operation)
+  block : (name : Name) (c : Content) → named_at f name ≡ Some c → IsRead f (named_bytes (block_header c))
+  payload : (name : Name) (c : Content) → named_at f name ≡ Some c → IsRead f c.payload
+
+-- what an effect hashes: an entry that is written, the blocks of a checkpoint, and one that was given
+pub data IsWritten : Effect → List ℕ → Type 0 where
+  header : (again : Bool) (e : Whole) → IsWritten (Write again e) (named_bytes e.header)
+  operation : (again : Bool) (e : Whole) → IsWritten (Write again e) (operation_bytes e.operation)
+  block : (cluster : ℕ) (texts : Texts) (op : ℕ) (old : Table) (c : Content) → Contains (written cluster texts op old) (block_of c)
+      → IsWritten (Checkpoint cluster texts op old) (named_bytes (block_header c))
+  payload : (cluster : ℕ) (texts : Texts) (op : ℕ) (old : Table) (c : Content) → Contains (written cluster texts op old) (block_of c)
+      → IsWritten (Checkpoint cluster texts op old) c.payload
+  put : (name : Name) (bytes : List ℕ) (c : Content) → named name bytes ≡ Some c → IsWritten (PutBlock name bytes) (named_bytes (block_header c))
+  given : (name : Name) (bytes : List ℕ) (c : Content) → named name bytes ≡ Some c → IsWritten (PutBlock name bytes) c.payload
+
+-- The bytes that were hashed for names in play: those of whatever a member read or wrote in the run, also in a step that was
+-- cut, and of one more header. An entry may be committed though no prepare of it was sent, by replicas that found it stored and
+-- by those to which these gave it.
 pub data IsHashed (run : List Played) (c : Header) : List ℕ → Type 0 where
-  made : (p : Played) (h : Header) → Contains run p → Contains p.moved.group.made h → IsHashed run c (named_bytes h)
+  read : (p : Played) (f : Face) (bytes : List ℕ) → Contains run p → Contains (faces_of p.move) f → IsRead f bytes → IsHashed run c bytes
+  wrote : (p : Played) (e : Effect) (bytes : List ℕ) → Contains run p → Contains p.moved.script e → IsWritten e bytes → IsHashed run c bytes
   given : IsHashed run c (named_bytes c)
 
 -- A run of a group of n replicas: there is one log.
@@ -145,6 +183,6 @@ pub record Safe (n : ℕ) (run : List Played) : Type 0 where
   pub log : List Whole
   -- an entry that is committed is the log's at its number, where names don't collide
   pub one : (view : ℕ) (c : Header) → IsHeader c → NoCollision (IsHashed run c) → 0 < c.op → IsCommitted n (outputs run) view c → (e : Whole) × (slice_get log (c.op - 1) ≡ Some e) × (e.header ≡ c)
-  pub backed : (move number : ℕ) (p : Played) (o : Output) → IsOutput run move number p o → IsBacked n log run move number p o
+  pub backed : (move number : ℕ) (p : Played) (o : Output) → NoCollision (IsHashed run (root_header 0)) → IsOutput run move number p o → IsBacked n log run move number p o
   -- and what is said in later views has it, too
   pub kept : (view : ℕ) (c : Header) → IsHeader c → NoCollision (IsHashed run c) → 0 < c.op → IsCommitted n (outputs run) view c → (move number : ℕ) (p : Played) (o : Output) → IsOutput run move number p o → KeepsEntry view c o
