@@ -1,0 +1,274 @@
+-- Which rule applies to an event: tables of conditions in their order. The first whose condition holds is the rule.
+use Rattle.std.specs.Prelude.{ℕ, ◌+◌, ◌-◌, Bool, true, false, not, ◌&&◌, ◌||◌, ◌==◌, nat_lt, nat_le, List, [], ◌∷◌, take, is_some, if◌then◌else◌}
+use Rattle.std.specs.List.{list_any}
+use Rattle.std.specs.Option.{option_map_or}
+use Rattle.vr_base.specs.declared.sum.Sum.{Sum}
+use Rattle.vr_base.specs.Replicas.{has_replica}
+use Rattle.vr_header.specs.declared.header.Header.{Header}
+use Rattle.vr_header.specs.Names.{name_by}
+use Rattle.vr_header.specs.Same.{same_header}
+use Rattle.vr_msg.specs.declared.frame.Commit.{Commit}
+use Rattle.vr_msg.specs.declared.frame.DoViewChange.{DoViewChange}
+use Rattle.vr_msg.specs.declared.frame.GetBlock.{GetBlock}
+use Rattle.vr_msg.specs.declared.frame.GetPrepare.{GetPrepare}
+use Rattle.vr_msg.specs.declared.frame.GetView.{GetView}
+use Rattle.vr_msg.specs.declared.frame.GiveBlock.{GiveBlock}
+use Rattle.vr_msg.specs.declared.frame.GivePrepare.{GivePrepare}
+use Rattle.vr_msg.specs.declared.frame.Prepare.{Prepare}
+use Rattle.vr_msg.specs.declared.frame.PrepareOk.{PrepareOk}
+use Rattle.vr_msg.specs.declared.frame.StartView.{StartView}
+use Rattle.vr_msg.specs.declared.frame.StartViewChange.{StartViewChange}
+use Rattle.vr_msg.specs.declared.request.RequestFields.{RequestFields}
+use Rattle.vr_msg.specs.Logs.{header_of}
+use Rattle.vr_msg.specs.Normal.{primary, same_sum, pipeline, last_op}
+use Rattle.vr_sess.specs.Asks.{is_fresh}
+use Rattle.vr_sess.specs.Sessions.{checked}
+use Rattle.vr_sess.specs.declared.session.SessionAnswer.{SessionAnswer}
+use Rattle.vr_grid.specs.declared.name.Name.{Name}
+use Rattle.vr_rules.specs.Replica.{Replica, is_started, is_primary, leads, window_end, part_at, header_at, parts_from, head, head_header, is_here, is_absent}
+use Rattle.vr_rules.specs.Words.{Log, may_take, is_loaded}
+
+-- Each rule has a number, by which it stands in the tables of docs/RULES.md.
+pub data Rule : Type 0 where
+  Ignored : Rule
+  -- a request
+  Redirected : Rule  -- 1
+  Behind : Rule  -- 2
+  InFlight : Rule  -- 3
+  Answered : Rule  -- 4
+  Full : Rule  -- 5
+  Made : Rule  -- 6
+  -- a prepare
+  PreparedBefore : Rule  -- 7
+  PreparedLater : Rule  -- 8
+  Past : Rule  -- 9
+  Beyond : Rule  -- 10
+  Known : Rule  -- 11
+  Next : Rule  -- 12
+  Ahead : Rule  -- 13
+  Other : Rule  -- 14
+  -- a prepare_ok
+  Counted : Rule  -- 15
+  -- a commit
+  CommitBefore : Rule  -- 16
+  CommitLater : Rule  -- 17
+  CommitHeard : Rule  -- 18
+  -- a start_view_change
+  ChangeBefore : Rule  -- 19
+  ChangeLater : Rule  -- 20
+  ChangeHeard : Rule  -- 21
+  ChangeDone : Rule  -- 22
+  -- a do_view_change
+  StatedBefore : Rule  -- 23
+  StatedLate : Rule  -- 24
+  Stated : Rule  -- 25
+  -- a start_view
+  Taken : Rule  -- 26
+  -- a get_view
+  ViewGiven : Rule  -- 27
+  -- a get_prepare
+  EntryGiven : Rule  -- 28
+  -- a give_prepare
+  EntryTaken : Rule  -- 29
+  -- a get_block
+  BlockGiven : Rule  -- 30
+  -- a give_block
+  BlockTaken : Rule  -- 31
+  -- a tick
+  TickedPrimary : Rule  -- 32
+  TickedBackup : Rule  -- 33
+  TickedChanging : Rule  -- 34
+
+-- the number of a rule, 0 for none
+abbrev pub number_of : Rule → ℕ
+number_of Ignored = 0
+number_of Redirected = 1
+number_of Behind = 2
+number_of InFlight = 3
+number_of Answered = 4
+number_of Full = 5
+number_of Made = 6
+number_of PreparedBefore = 7
+number_of PreparedLater = 8
+number_of Past = 9
+number_of Beyond = 10
+number_of Known = 11
+number_of Next = 12
+number_of Ahead = 13
+number_of Other = 14
+number_of Counted = 15
+number_of CommitBefore = 16
+number_of CommitLater = 17
+number_of CommitHeard = 18
+number_of ChangeBefore = 19
+number_of ChangeLater = 20
+number_of ChangeHeard = 21
+number_of ChangeDone = 22
+number_of StatedBefore = 23
+number_of StatedLate = 24
+number_of Stated = 25
+number_of Taken = 26
+number_of ViewGiven = 27
+number_of EntryGiven = 28
+number_of EntryTaken = 29
+number_of BlockGiven = 30
+number_of BlockTaken = 31
+number_of TickedPrimary = 32
+number_of TickedBackup = 33
+number_of TickedChanging = 34
+
+-- conditions with what they decide, in order; where none holds the event is ignored
+abbrev pub Table : Type 0
+Table = List (Bool × Rule)
+
+unfoldable pub first_of : Table → Rule
+first_of [] = Ignored
+first_of (row ∷ rows) = if row.0 then row.1 else first_of rows
+
+abbrev pub Hash : Type 0
+Hash = List ℕ → List ℕ
+
+-- ---- of messages
+
+-- it is of the same group, and from another replica of it
+abbrev pub is_from : ℕ → ℕ → Replica → Bool
+is_from cluster sender r = (cluster == r.cluster) && (nat_lt sender r.n && not (sender == r.index))
+
+-- it is from the primary of its view, too
+abbrev pub is_from_primary : ℕ → ℕ → ℕ → Replica → Bool
+is_from_primary cluster sender view r = is_from cluster sender r && (sender == primary r.n view)
+
+-- op k has a known header, and it is this one
+abbrev pub is_known : Header → ℕ → Replica → Bool
+is_known h k r = option_map_or (λ d. same_header d h) (header_at r k) false
+
+-- the known header of op k has this name
+abbrev pub is_named : Hash → Sum → ℕ → Replica → Bool
+is_named hash name k r = option_map_or (λ d. same_sum (name_by hash d) name) (header_at r k) false
+
+abbrev pub is_unknown : ℕ → Replica → Bool
+is_unknown k r = not (is_some (header_at r k))
+
+-- ---- a request
+
+-- an entry of the client stands above the commit number
+unfoldable pub is_in_flight : ℕ → Replica → Bool
+is_in_flight client r =
+    list_any (λ p. option_map_or (λ h. h.client == client) (header_of p) false) (take (head r - r.commit) (parts_from r (r.commit + 1)))
+
+abbrev pub session_answer : RequestFields → Replica → SessionAnswer
+session_answer q r = checked r.state.sessions q.client q.request
+
+abbrev pub request_table : RequestFields → Replica → Table
+request_table q r =
+    (not (q.cluster == r.cluster), Ignored)
+    ∷ (not (leads r), Redirected)
+    ∷ (not (is_loaded r) || nat_lt r.applied r.commit, Behind)
+    ∷ (is_in_flight q.client r, InFlight)
+    ∷ (not (is_fresh (session_answer q r)), Answered)
+    ∷ (nat_le pipeline (head r - r.commit) || nat_le last_op (head r), Full)
+    ∷ (true, Made)
+    ∷ []
+
+-- ---- a prepare
+
+abbrev pub prepare_table : Hash → Prepare → Replica → Table
+prepare_table hash p r =
+    let h = p.entry.header in
+    (not (is_from_primary h.cluster p.replica p.view r), Ignored)
+    ∷ (nat_lt p.view r.view, PreparedBefore)
+    ∷ (nat_lt r.log_view p.view, PreparedLater)
+    ∷ (nat_le h.op r.checkpoint, Past)
+    ∷ (nat_lt (window_end r) h.op, Beyond)
+    ∷ (is_known h h.op r, Known)
+    ∷ (is_unknown h.op r && ((h.op == head r + 1) && same_sum h.parent (name_by hash (head_header hash r))), Next)
+    ∷ (is_unknown h.op r && nat_lt (head r + 1) h.op, Ahead)
+    ∷ (true, Other)
+    ∷ []
+
+-- ---- a prepare_ok
+
+abbrev pub prepare_ok_table : Hash → PrepareOk → Replica → Table
+prepare_ok_table hash a r =
+    (not (is_from a.cluster a.replica r), Ignored)
+    ∷ (leads r && ((a.view == r.view) && (nat_lt r.commit a.op && (nat_le a.op (head r) && is_named hash a.name a.op r))), Counted)
+    ∷ []
+
+-- ---- a commit
+
+abbrev pub commit_table : Commit → Replica → Table
+commit_table c r =
+    (not (is_from_primary c.cluster c.replica c.view r), Ignored)
+    ∷ (nat_lt c.view r.view, CommitBefore)
+    ∷ (nat_lt r.log_view c.view, CommitLater)
+    ∷ (true, CommitHeard)
+    ∷ []
+
+-- ---- view changes
+
+abbrev pub start_view_change_table : StartViewChange → Replica → Table
+start_view_change_table c r =
+    (not (is_from c.cluster c.replica r), Ignored)
+    ∷ (nat_lt c.view r.view, ChangeBefore)
+    ∷ (nat_lt r.view c.view, ChangeLater)
+    ∷ (not (is_started r) && not (has_replica r.heard c.replica), ChangeHeard)
+    ∷ (is_started r && is_primary r, ChangeDone)
+    ∷ []
+
+abbrev pub do_view_change_table : DoViewChange → Replica → Table
+do_view_change_table d r =
+    (not (is_from d.cluster d.replica r), Ignored)
+    ∷ (nat_lt d.view r.view || not (r.index == primary r.n d.view), StatedBefore)
+    ∷ ((d.view == r.view) && is_started r, StatedLate)
+    ∷ (true, Stated)
+    ∷ []
+
+abbrev pub log_of : StartView → Log
+log_of v = record { view = v.view; lo = v.body.lo; headers = v.body.headers; head = v.head; commit = v.commit }
+
+abbrev pub start_view_table : Hash → StartView → Replica → Table
+start_view_table hash v r =
+    (not (is_from_primary v.cluster v.replica v.view r), Ignored)
+    ∷ (may_take hash (log_of v) r && not (r.index == primary r.n v.view), Taken)
+    ∷ []
+
+abbrev pub get_view_table : GetView → Replica → Table
+get_view_table g r = (not (is_from g.cluster g.replica r), Ignored) ∷ (leads r && nat_le g.view r.view, ViewGiven) ∷ []
+
+-- ---- repair
+
+abbrev pub get_prepare_table : Hash → GetPrepare → Replica → Table
+get_prepare_table hash g r =
+    (not (is_from g.cluster g.replica r), Ignored)
+    ∷ (is_named hash g.name g.op r && is_here (part_at r g.op), EntryGiven)
+    ∷ []
+
+abbrev pub give_prepare_table : GivePrepare → Replica → Table
+give_prepare_table g r =
+    let h = g.entry.header in
+    (not (is_from h.cluster g.replica r), Ignored)
+    ∷ (nat_lt r.checkpoint h.op && (is_known h h.op r && is_absent (part_at r h.op)), EntryTaken)
+    ∷ []
+
+-- whether the block that is asked for reads under its name
+abbrev pub get_block_table : Bool → GetBlock → Replica → Table
+get_block_table reads g r = (not (is_from g.cluster g.replica r), Ignored) ∷ (reads, BlockGiven) ∷ []
+
+-- the missing block of this address
+abbrev pub has_missing : (Name → Bool) → Replica → Bool
+has_missing test r = list_any test r.missing
+
+-- these bytes are a missing block that belongs at this address
+abbrev pub is_wanted : (Name → List ℕ → Bool) → GiveBlock → Name → Bool
+is_wanted is_block g name = (name.address == g.address) && is_block name g.block
+
+abbrev pub give_block_table : (Name → List ℕ → Bool) → GiveBlock → Replica → Table
+give_block_table is_block g r =
+    (not (is_from g.cluster g.replica r), Ignored)
+    ∷ (has_missing (is_wanted is_block g) r, BlockTaken)
+    ∷ []
+
+-- ---- a tick
+
+abbrev pub tick_table : Replica → Table
+tick_table r = (leads r, TickedPrimary) ∷ (is_started r, TickedBackup) ∷ (true, TickedChanging) ∷ []

@@ -1,0 +1,14 @@
+pub mod Replica
+pub mod Steps
+pub mod Words
+pub mod Deciding
+pub mod Rules
+pub mod Opening
+pub mod Sectors
+pub mod World
+pub mod Lying
+pub mod Group
+pub mod Safe
+pub mod Sound
+pub mod Laws
+pub mod Trace

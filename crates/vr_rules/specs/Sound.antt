@@ -1,0 +1,39 @@
+-- What a replica keeps of itself between steps.
+use Rattle.std.specs.Prelude.{ℕ, ◌+◌, ◌%◌, ◌<◌, ◌≤◌, ◌≡◌, ◌≢◌, true, is_some, [], length, Some}
+use Rattle.vr_base.specs.Groups.{quorums_of}
+use Rattle.vr_header.specs.declared.header.Header.{Header}
+use Rattle.vr_header.specs.Spelling.{IsHeader}
+use Rattle.vr_msg.specs.Logs.{IsEntryAt}
+use Rattle.vr_rules.specs.Replica.{Replica, head, header_at, window_end}
+
+-- checkpoint, applied, commit number, head and window stand in this order
+pub record IsOrdered (r : Replica) : Type 0 where
+  pub applied : r.checkpoint ≤ r.applied
+  pub commit : r.applied ≤ r.commit
+  pub known : r.commit ≤ head r
+  pub window : head r ≤ window_end r
+  pub views : r.log_view ≤ r.view
+
+-- the lists of ops reach to the end of the window, and begin no later than with the op behind the checkpoint
+pub record IsListed (r : Replica) : Type 0 where
+  pub first : 1 ≤ r.first
+  pub reach : r.first ≤ r.checkpoint + 1
+  pub parts : r.first + length r.parts ≡ r.checkpoint + 65
+  pub ackers : length r.ackers ≡ length r.parts
+  pub statements : length r.statements ≡ r.n
+
+-- the known header of an op is that of an entry of the group for it, made in a view up to the log's
+pub record KnowsEntries (r : Replica) : Type 0 where
+  pub each : (k : ℕ) (h : Header) → header_at r k ≡ Some h → IsHeader h × IsEntryAt r.cluster r.log_view k h
+
+pub record IsSound (r : Replica) : Type 0 where
+  pub size : is_some (quorums_of r.n) ≡ true
+  pub member : r.index < r.n
+  pub order : IsOrdered r
+  pub lists : IsListed r
+  pub entries : KnowsEntries r
+  pub checkpoint : r.checkpoint % 32 ≡ 0
+  -- the next checkpoint isn't reached
+  pub near : r.applied < r.checkpoint + 32
+  -- while blocks are missing nothing is applied
+  pub waits : r.missing ≢ [] → r.applied ≡ r.checkpoint

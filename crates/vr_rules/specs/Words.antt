@@ -1,0 +1,468 @@
+-- The words of which rules are made.
+use Rattle.std.specs.Prelude.{ℕ, ◌+◌, ◌-◌, ◌%◌, ◌==◌, ◌&&◌, ◌||◌, not, min, max, Bool, true, false, nat_lt, nat_le, List, [], ◌∷◌, ◌++◌, length, map, replicate, filter_map, find, filter, slice_get, slice_index_or, Option, Some, None, is_some, Result, Ok, Err, if◌then◌else◌}
+use Rattle.std.specs.List.{range_with_len, prefix_len}
+use Rattle.std.specs.Option.{option_and_then, option_map_or}
+use Rattle.vr_base.specs.Groups.{quorums_of}
+use Rattle.vr_base.specs.declared.replicas.Replicas.{Replicas}
+use Rattle.vr_base.specs.Replicas.{no_replicas, with_replica, size}
+use Rattle.vr_header.specs.declared.header.Header.{Header}
+use Rattle.vr_header.specs.declared.part.Part.{Part}
+use Rattle.vr_header.specs.declared.part.Part.TheVariants.{Here, Lost, Wanted, Unknown, Nothing}
+use Rattle.vr_header.specs.Made.{Whole}
+use Rattle.vr_header.specs.Names.{name_by}
+use Rattle.vr_header.specs.Same.{same_header}
+use Rattle.vr_msg.specs.declared.frame.Frame.{Frame}
+use Rattle.vr_msg.specs.declared.frame.Frame.TheVariants as frame
+use Rattle.vr_msg.specs.declared.output.Output.{Output}
+use Rattle.vr_msg.specs.declared.output.Output.TheVariants as output
+use Rattle.vr_msg.specs.declared.reply.ReplyKind.{ReplyKind}
+use Rattle.vr_msg.specs.declared.reply.ReplyKind.TheVariants as reply
+use Rattle.vr_msg.specs.declared.statement.Statement.{Statement}
+use Rattle.vr_msg.specs.declared.choice.Choice.{Choice}
+use Rattle.vr_msg.specs.declared.choice.Choice.TheVariants.{Ends, WaitsAt, TooFew}
+use Rattle.vr_msg.specs.Choice.{choice, top_commit, top_view, ops}
+use Rattle.vr_msg.specs.Logs.{header_of}
+use Rattle.vr_msg.specs.Normal.{primary, same_sum}
+use Rattle.vr_apply.specs.Folds as state
+use Rattle.vr_apply.specs.Texts.{state_decoded, texts_of}
+use Rattle.vr_apply.specs.declared.reply.ReplyBody.{ReplyBody}
+use Rattle.vr_apply.specs.declared.reply.ReplyBody.TheVariants as body
+use Rattle.vr_apply.specs.declared.state.State.{State}
+use Rattle.vr_table.specs.declared.fault.StateFault.{StateFault}
+use Rattle.vr_super.specs.Copies.{Saved}
+use Rattle.vr_grid.specs.declared.name.Name.{Name}
+use Rattle.vr_ckpt.specs.declared.found.Load.{Load}
+use Rattle.vr_ckpt.specs.declared.found.Load.TheVariants.{Loaded, Missing}
+use Rattle.vr_ckpt.specs.declared.saving.Saved as checkpoint
+use Rattle.vr_ckpt.specs.declared.table.Table.{Table}
+use Rattle.vr_base.specs.declared.sum.Sum.{Sum}
+use Rattle.vr_rules.specs.Replica.{Replica, replication, view_change, is_started, is_primary, leads, last_view, window_end, part_at, header_at, parts_from, head, run, run_start, is_here, is_absent, trimmed, ackers_at, statement_of, forgetting, with_part}
+use Rattle.vr_rules.specs.Steps.{Effect, Write, Save, Checkpoint, Setting, Word, ◌⨾◌, quiet, change, does, says, by, naming, reading, when, times, each}
+
+-- ---- outputs
+
+-- the other replicas, ascending
+abbrev pub others : ℕ → ℕ → List ℕ
+others index n = filter (λ to. not (to == index)) (range_with_len 0 n)
+
+abbrev pub send : ℕ → Frame → Replica → Output
+send to message r = output.Send (record { from = r.index; to = to; message = message })
+
+abbrev pub send_to : ℕ → Frame → Replica → List Output
+send_to to message r = send to message r ∷ []
+
+unfoldable pub send_to_all : (Replica → Frame) → Replica → List Output
+send_to_all message r = map (λ to. send to (message r) r) (others r.index r.n)
+
+abbrev pub to_primary : (Replica → Frame) → Replica → List Output
+to_primary message r = send_to (primary r.n r.view) (message r) r
+
+-- ---- messages, with present values
+
+abbrev pub prepare : Whole → Replica → Frame
+prepare e r = frame.Prepare (record { replica = r.index; view = r.view; commit = r.commit; entry = e })
+
+-- the entry of this header is stored
+abbrev pub prepare_ok : (List ℕ → List ℕ) → Header → Replica → Frame
+prepare_ok hash h r =
+    frame.PrepareOk (record { cluster = r.cluster; replica = r.index; view = r.view; op = h.op; name = name_by hash h; made = h.view })
+
+abbrev pub commit_message : Replica → Frame
+commit_message r = frame.Commit (record { cluster = r.cluster; replica = r.index; view = r.view; head = head r; commit = r.commit })
+
+abbrev pub start_view_change : Replica → Frame
+start_view_change r = frame.StartViewChange (record { cluster = r.cluster; replica = r.index; view = r.view })
+
+abbrev pub do_view_change : Replica → Frame
+do_view_change r =
+    frame.DoViewChange (record { cluster = r.cluster; replica = r.index; view = r.view; statement = statement_of r })
+
+abbrev pub start_view : Replica → Frame
+start_view r =
+    frame.StartView (record { cluster = r.cluster; replica = r.index; view = r.view; head = head r; commit = r.commit; body = record { lo = run_start r; headers = run r } })
+
+abbrev pub get_view : ℕ → Replica → Frame
+get_view view r = frame.GetView (record { cluster = r.cluster; replica = r.index; view = view })
+
+abbrev pub get_prepare : (List ℕ → List ℕ) → Header → Replica → Frame
+get_prepare hash h r =
+    frame.GetPrepare (record { cluster = r.cluster; replica = r.index; op = h.op; name = name_by hash h; made = h.view })
+
+abbrev pub give_prepare : Whole → Replica → Frame
+give_prepare e r = frame.GivePrepare (record { replica = r.index; entry = e })
+
+abbrev pub get_block : Name → Replica → Frame
+get_block name r = frame.GetBlock (record { cluster = r.cluster; replica = r.index; address = name.address; name = name.sum })
+
+abbrev pub give_block : ℕ → List ℕ → Replica → Frame
+give_block address block r = frame.GiveBlock (record { cluster = r.cluster; replica = r.index; address = address; block = block })
+
+-- ---- lines and replies
+
+-- who asked: a request's client and number, and the name of its header
+pub record Asker : Type 0 where
+  pub client : ℕ
+  pub request : ℕ
+  pub name : Sum
+
+abbrev pub replies : Asker → ReplyKind → Replica → List Output
+replies a kind r =
+    output.Reply (record { cluster = r.cluster; replica = r.index; view = r.view; client = a.client; request = a.request; request_name = a.name; kind = kind })
+    ∷ []
+
+-- an entry's request
+abbrev pub asker_of : Whole → Asker
+asker_of e = record { client = e.header.client; request = e.header.request; name = e.header.request_name }
+
+abbrev pub kind_of : ReplyBody → ReplyKind
+kind_of (body.Outcome outcome op) = reply.Outcome (record { op = op; outcome = outcome })
+kind_of body.Old = reply.Old
+kind_of body.Gap = reply.Gap
+kind_of body.Evicted = reply.Evicted
+
+abbrev pub commit_line : Whole → Replica → List Output
+commit_line e r = output.Commit (record { replica = r.index; entry = e }) ∷ []
+
+-- at the primary of a view that is started
+abbrev pub applied_reply : Whole → Replica → List Output
+applied_reply e r = if leads r then replies (asker_of e) (kind_of (state.applied r.state e).reply) r else []
+
+abbrev pub start_line : Replica → List Output
+start_line r = output.Start (record { replica = r.index; view = r.view; log_view = r.log_view; commit = r.commit }) ∷ []
+
+abbrev pub wait_line : ℕ → Replica → List Output
+wait_line op r = output.Wait (record { replica = r.index; view = r.view; op = op }) ∷ []
+
+-- ---- Save: the superblock takes the present values, and the known headers that reach the head
+
+unfoldable pub value_of : Replica → Saved
+value_of r = record {
+  fields = record {
+    sequence = r.saved.fields.sequence + 1;
+    cluster = r.cluster;
+    view = r.view;
+    log_view = r.log_view;
+    checkpoint = r.checkpoint;
+    root_address = r.root.address;
+    root_name = r.root.sum;
+    commit = r.commit;
+    head = head r;
+    replica = r.index;
+    n = r.n;
+  };
+  headers = run r;
+}
+
+abbrev pub saves : Replica → Effect
+saves r = Save r.saved (value_of r)
+
+abbrev pub with_saved : Replica → Replica
+with_saved r = record r { saved = value_of r }
+
+unfoldable pub save : {F : Type 0} → Word F
+save = does saves ⨾ change with_saved
+
+-- ---- Enter: a view is entered, and the others hear of it
+
+abbrev pub no_ackers : Replica → List Replicas
+no_ackers r = replicate (length r.parts) no_replicas
+
+abbrev pub no_statements : Replica → List (Option Statement)
+no_statements r = replicate r.n None
+
+unfoldable pub entered : ℕ → Replica → Replica
+entered view r =
+    record r { view = view; ackers = no_ackers r; statements = no_statements r; heard = with_replica no_replicas r.index; idle = 0 }
+
+abbrev pub rested : Replica → Replica
+rested r = record r { idle = 0 }
+
+-- views end; past the last one there is none to enter
+unfoldable pub enter : {F : Type 0} → ℕ → Word F
+enter view =
+    if nat_lt last_view view then change rested
+    else change (entered view) ⨾ save ⨾ says (send_to_all start_view_change)
+
+-- ---- Write: an entry is stored. Where the slot may hold it already, the header comes first.
+
+abbrev pub may_be_stored : Part → Bool
+may_be_stored (Here h) = true
+may_be_stored (Lost h) = true
+may_be_stored (Wanted h) = false
+may_be_stored Unknown = true
+may_be_stored Nothing = false
+
+abbrev pub writes : Whole → Replica → Effect
+writes e r = Write (may_be_stored (part_at r e.header.op)) e
+
+abbrev pub stored : Whole → Replica → Replica
+stored e r = forgetting (with_part e.header.op (Here e.header) r)
+
+unfoldable pub write : {F : Type 0} → Whole → Word F
+write e = does (writes e) ⨾ change (stored e)
+
+-- an entry that is stored isn't written again
+unfoldable pub accept : {F : Type 0} → Whole → Word F
+accept e = by (λ r. when (not (is_here (part_at r e.header.op))) (write e))
+
+-- ---- what is read: an entry that can't be read is lost
+
+-- the entry of this header, where its slot has it
+abbrev pub entry_of : {F : Type 0} → Header → Setting F → F → Option Whole
+entry_of h s f = option_and_then (λ e. if same_header e.header h then Some e else None) (s.entry f (h.op % 64))
+
+abbrev pub lost : Header → Replica → Replica
+lost h r = with_part h.op (Lost h) r
+
+abbrev pub or_lost : {F : Type 0} → Header → (Whole → Word F) → Option Whole → Word F
+or_lost h w None = change (lost h)
+or_lost h w (Some e) = w e
+
+-- a word with the entry of an op that is stored
+abbrev pub with_entry : {F : Type 0} → (Whole → Word F) → Part → Word F
+with_entry w (Here h) = reading (entry_of h) (or_lost h w)
+with_entry w (Lost h) = quiet
+with_entry w (Wanted h) = quiet
+with_entry w Unknown = quiet
+with_entry w Nothing = quiet
+
+unfoldable pub with_entry_at : {F : Type 0} → ℕ → (Whole → Word F) → Word F
+with_entry_at op w = by (λ r. with_entry w (part_at r op))
+
+-- ---- Apply: the stored entries up to the commit number, in order. Each is a commit line, and at the primary a reply; every
+-- 32 ops a checkpoint is written.
+
+abbrev pub applied : Whole → Replica → Replica
+applied e r = record r { applied = r.applied + 1; state = (state.applied r.state e).state }
+
+abbrev pub checkpoints : Replica → Effect
+checkpoints r = Checkpoint r.cluster (texts_of r.state) r.applied r.table
+
+-- the window moves up with the checkpoint
+unfoldable pub with_checkpoint : checkpoint.Saved → Replica → Replica
+with_checkpoint c r = record r {
+  checkpoint = r.applied;
+  root = c.root;
+  table = c.table;
+  parts = r.parts ++ replicate (r.applied - r.checkpoint) Nothing;
+  ackers = r.ackers ++ replicate (r.applied - r.checkpoint) no_replicas;
+}
+
+abbrev pub checkpoint_of : {F : Type 0} → Replica → Setting F → F → checkpoint.Saved
+checkpoint_of r s f = s.saved r.cluster (texts_of r.state) r.applied r.table
+
+unfoldable pub make_checkpoint : {F : Type 0} → Word F
+make_checkpoint = by (λ r. reading (checkpoint_of r) (λ c. does checkpoints ⨾ change (with_checkpoint c) ⨾ save))
+
+abbrev pub is_checkpoint : ℕ → Bool
+is_checkpoint op = op % 32 == 0
+
+unfoldable pub apply_entry : {F : Type 0} → Whole → Word F
+apply_entry e =
+    says (commit_line e) ⨾ says (applied_reply e) ⨾ change (applied e) ⨾ by (λ r. when (is_checkpoint r.applied) make_checkpoint)
+
+abbrev pub is_loaded : Replica → Bool
+is_loaded r = length r.missing == 0
+
+unfoldable pub apply_next : {F : Type 0} → Word F
+apply_next = by (λ r. when (is_loaded r && nat_lt r.applied r.commit) (with_entry_at (r.applied + 1) apply_entry))
+
+unfoldable pub apply : {F : Type 0} → Word F
+apply = by (λ r. times (r.commit - r.applied) apply_next)
+
+-- ---- Advance: at the primary of a started view the commit number rises over the ops that a replication quorum has, itself
+-- counted where the entry is stored
+
+abbrev pub votes : Replica → ℕ → Replicas
+votes r op = if is_here (part_at r op) then with_replica (ackers_at r op) r.index else ackers_at r op
+
+abbrev pub has_quorum : Replica → ℕ → Bool
+has_quorum r op = nat_le (replication r.n) (size (votes r op))
+
+unfoldable pub advanced : Replica → Replica
+advanced r = record r { commit = r.commit + prefix_len (has_quorum r) (ops r.commit (head r)) }
+
+unfoldable pub advance : {F : Type 0} → Word F
+advance = change advanced ⨾ apply
+
+-- ---- Learn: a commit number is heard of, and holds as far as the log goes
+
+abbrev pub learned : ℕ → Replica → Replica
+learned c r = record r { commit = max r.commit (min c (head r)) }
+
+unfoldable pub learn : {F : Type 0} → ℕ → Word F
+learn c = change (learned c) ⨾ apply
+
+-- ---- Take: the log of a view is taken over
+
+-- the log of a view: its headers of the ops above lo, up to its head, and a commit number
+pub record Log : Type 0 where
+  pub view : ℕ
+  pub lo : ℕ
+  pub headers : List Header
+  pub head : ℕ
+  pub commit : ℕ
+
+-- each header has the name of the one before it as its parent
+unfoldable pub is_chain_from : (List ℕ → List ℕ) → Header → List Header → Bool
+is_chain_from hash d [] = true
+is_chain_from hash d (h ∷ hs) = same_sum h.parent (name_by hash d) && is_chain_from hash h hs
+
+abbrev pub is_chain : (List ℕ → List ℕ) → List Header → Bool
+is_chain hash [] = true
+is_chain hash (h ∷ hs) = is_chain_from hash h hs
+
+-- of a later view, or of this one, where it isn't started or the log is longer
+abbrev pub is_newer : Log → Replica → Bool
+is_newer l r =
+    nat_lt r.view l.view || ((l.view == r.view) && (nat_lt r.log_view l.view || ((l.view == r.log_view) && nat_lt (head r) l.head)))
+
+-- there is room for it, it reaches down to what is committed here, and it ends where something is known
+abbrev pub fits : Log → Replica → Bool
+fits l r =
+    nat_le l.head (window_end r) && (nat_le l.lo r.commit && (nat_le r.commit l.head
+    && (nat_lt r.checkpoint l.head || ((l.head == 0) || is_some (header_at r l.head)))))
+
+unfoldable pub may_take : (List ℕ → List ℕ) → Log → Replica → Bool
+may_take hash l r = is_newer l r && (fits l r && is_chain hash l.headers)
+
+-- the header that the log has at an op
+abbrev pub log_header : Log → ℕ → Option Header
+log_header l k = if nat_le k l.lo then None else slice_get l.headers (k - (l.lo + 1))
+
+-- a Part for which the log has this header
+abbrev pub replaced_by : Header → Part → Part
+replaced_by e (Here h) = if same_header h e then Here h else Wanted e
+replaced_by e (Lost h) = if same_header h e then Lost h else Wanted e
+replaced_by e (Wanted h) = Wanted e
+replaced_by e Unknown = Lost e
+replaced_by e Nothing = Wanted e
+
+-- a Part above the log's end: nothing, where the log is of a later view than the replica's
+abbrev pub above_end : Log → Replica → Part → Part
+above_end l r p = if nat_lt r.log_view l.view then Nothing else p
+
+unfoldable pub taken_part : Log → Replica → ℕ → Part
+taken_part l r k =
+    if nat_le k r.checkpoint then part_at r k
+    else (if nat_le k l.head then option_map_or (λ e. replaced_by e (part_at r k)) (log_header l k) (part_at r k)
+    else above_end l r (part_at r k))
+
+unfoldable pub taken : Log → Replica → Replica
+taken l r = forgetting (record r {
+  view = l.view;
+  log_view = l.view;
+  idle = 0;
+  parts = map (taken_part l r) (range_with_len r.first (length r.parts));
+  ackers = no_ackers r;
+  heard = no_replicas;
+  statements = no_statements r;
+  commit = max r.commit l.commit;
+})
+
+unfoldable pub take : {F : Type 0} → Log → Word F
+take l = change (taken l) ⨾ save
+
+-- ---- Try: the primary of a view that isn't started chooses its log
+
+-- an entry that can be read, to all others
+unfoldable pub prepare_again : {F : Type 0} → ℕ → Word F
+prepare_again op = with_entry_at op (λ e. says (send_to_all (prepare e)))
+
+-- what the replicas have stated, with its own statement, in their order
+unfoldable pub stated : Replica → List Statement
+stated r = filter_map (λ i. if i == r.index then Some (statement_of r) else slice_index_or r.statements i None) (range_with_len 0 r.n)
+
+-- the op of the last header, or the greatest commit number where there is none
+abbrev pub log_end : ℕ → List Header → ℕ
+log_end commit hs = option_map_or (λ h. h.op) (slice_get hs (length hs - 1)) commit
+
+abbrev pub chosen_log : Replica → List Statement → List Header → Log
+chosen_log r ss hs = record {
+  view = r.view;
+  lo = log_end (top_commit ss) hs - length hs;
+  headers = hs;
+  head = log_end (top_commit ss) hs;
+  commit = top_commit ss;
+}
+
+abbrev pub choose_line : List Statement → Log → Replica → List Output
+choose_line ss l r =
+    output.Choose (record { replica = r.index; view = r.view; log_view = top_view ss; commit = l.commit; head = l.head; own = trimmed (parts_from r (r.commit + 1)) })
+    ∷ []
+
+unfoldable pub begin_view : {F : Type 0} → List Statement → Log → Word F
+begin_view ss l =
+    says (choose_line ss l) ⨾ take l ⨾ says (send_to_all start_view) ⨾ by (λ r. each prepare_again (ops r.commit l.head)) ⨾ apply
+
+unfoldable pub try_log : {F : Type 0} → List Statement → Log → Word F
+try_log ss l = naming (λ hash. by (λ r. if may_take hash l r then begin_view ss l else says (wait_line l.head)))
+
+abbrev pub obey_choice : {F : Type 0} → List Statement → Choice → Word F
+obey_choice ss TooFew = quiet
+obey_choice ss (WaitsAt op) = says (wait_line op)
+obey_choice ss (Ends headers) = by (λ r. try_log ss (chosen_log r ss headers))
+
+abbrev pub decided : Replica → Choice
+decided r = option_map_or (λ q. choice q (stated r)) (quorums_of r.n) TooFew
+
+unfoldable pub try : {F : Type 0} → Word F
+try = by (λ r. when (is_primary r && not (is_started r)) (obey_choice (stated r) (decided r)))
+
+-- ---- Speak: where enough replicas have entered the view, its primary tries, and another one states its log
+
+unfoldable pub speak : {F : Type 0} → Word F
+speak =
+    by (λ r. when (nat_le (view_change r.n) (size r.heard)) (if is_primary r then try else says (to_primary do_view_change)))
+
+-- ---- Resend: an entry that was stored late is told of
+
+unfoldable pub resend : {F : Type 0} → Whole → Word F
+resend e =
+    naming (λ hash. by (λ r. when (is_started r && nat_lt r.commit e.header.op) (if is_primary r then says (send_to_all (prepare e)) else says (to_primary (prepare_ok hash e.header)))))
+
+-- ---- Ask: a peer is asked for what is missing
+
+abbrev pub peer : Replica → ℕ
+peer r = (r.index + 1 + r.turn) % r.n
+
+abbrev pub turned : Replica → Replica
+turned r = record r { turn = (r.turn + 1) % (r.n - 1) }
+
+unfoldable pub ask_peer : {F : Type 0} → (Replica → Frame) → Word F
+ask_peer message = says (λ r. send_to (peer r) (message r) r) ⨾ change turned
+
+-- the header of the least op above the applied ones whose entry is absent
+abbrev pub least_absent : Replica → Option Header
+least_absent r = option_and_then header_of (find is_absent (parts_from r (r.applied + 1)))
+
+abbrev pub ask_for : {F : Type 0} → List Name → Option Header → Word F
+ask_for (name ∷ names) absent = ask_peer (get_block name)
+ask_for [] (Some h) = naming (λ hash. ask_peer (get_prepare hash h))
+ask_for [] None = quiet
+
+unfoldable pub ask : {F : Type 0} → Word F
+ask = by (λ r. ask_for r.missing (least_absent r))
+
+-- ---- loading a checkpoint
+
+unfoldable pub with_state : Table → State → Replica → Replica
+with_state table s r = record r { table = table; state = s; missing = [] }
+
+abbrev pub with_missing : List Name → Replica → Replica
+with_missing names r = record r { missing = names }
+
+-- a root whose state doesn't decode counts as missing
+abbrev pub loaded_state : Name → Table → Result State StateFault → Replica → Replica
+loaded_state root table (Ok s) r = with_state table s r
+loaded_state root table (Err fault) r = with_missing (root ∷ []) r
+
+abbrev pub loads : Name → Load → Replica → Replica
+loads root (Loaded texts table) r = loaded_state root table (state_decoded texts) r
+loads root (Missing names) r = with_missing names r
+
+abbrev pub checkpoint_at : {F : Type 0} → Name → Setting F → F → Load
+checkpoint_at root s f = s.loaded f root
+
+unfoldable pub load : {F : Type 0} → Word F
+load = by (λ r. when (nat_lt 0 r.checkpoint) (reading (checkpoint_at r.root) (λ l. change (loads r.root l))))
