@@ -1,3 +1,4 @@
 pub mod Heads
 pub mod Keeping
 pub mod Combining
+pub mod Storing
