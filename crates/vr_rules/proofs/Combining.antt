@@ -10,8 +10,8 @@ use Rattle.vr_rules.specs.Sound.{IsSound}
 use Rattle.vr_rules.proofs.Keeping.{Kept, kept_same, kept_more}
 
 -- of one replica and disk
-abbrev pub KeptBy : {F : Type 0} → Word F → Setting F → Replica → F → Type 0
-KeptBy w s r f = Kept r (w s r f).replica
+pub record KeptBy {F : Type 0} (w : Word F) (s : Setting F) (r : Replica) (f : F) : Type 0 where
+  pub kept : Kept r (w s r f).replica
 
 -- of every one
 pub record Keeps {F : Type 0} (w : Word F) : Type 0 where
@@ -23,42 +23,42 @@ pub kept_then : {F : Type 0} (v w : Word F) (s : Setting F) (r : Replica) (f : F
 unfolding ◌⨾◌
 kept_then v w s r f h k =
     let a = v s r f in
-    kept_more r a.replica (w s a.replica (after_all s f a.script)).replica h (k.every s a.replica (after_all s f a.script) h.sound)
+    record { kept = kept_more r a.replica (w s a.replica (after_all s f a.script)).replica h.kept (k.every s a.replica (after_all s f a.script) h.kept.sound).kept }
 
 pub kept_change_then : {F : Type 0} (g : Replica → Replica) (w : Word F) (s : Setting F) (r : Replica) (f : F) → Kept r (g r)
     → ((d : F) → KeptBy w s (g r) d) → KeptBy (change g ⨾ w) s r f
 unfolding ◌⨾◌ change
-kept_change_then g w s r f h k = kept_more r (g r) (w s (g r) (after_all s f [])).replica h (k (after_all s f []))
+kept_change_then g w s r f h k = record { kept = kept_more r (g r) (w s (g r) (after_all s f [])).replica h (k (after_all s f [])).kept }
 
 pub kept_says_then : {F : Type 0} (os : Replica → List Output) (w : Word F) (s : Setting F) (r : Replica) (f : F) → ((d : F) → KeptBy w s r d)
     → KeptBy (says os ⨾ w) s r f
 unfolding ◌⨾◌ says
-kept_says_then os w s r f k = k (after_all s f (map Say (os r)))
+kept_says_then os w s r f k = record { kept = (k (after_all s f (map Say (os r)))).kept }
 
 pub kept_does_then : {F : Type 0} (e : Replica → Effect) (w : Word F) (s : Setting F) (r : Replica) (f : F) → ((d : F) → KeptBy w s r d)
     → KeptBy (does e ⨾ w) s r f
 unfolding ◌⨾◌ does
-kept_does_then e w s r f k = k (after_all s f (e r ∷ []))
+kept_does_then e w s r f k = record { kept = (k (after_all s f (e r ∷ []))).kept }
 
 pub kept_change : {F : Type 0} (g : Replica → Replica) (s : Setting F) (r : Replica) (f : F) → Kept r (g r) → KeptBy {F = F} (change g) s r f
 unfolding change
-kept_change g s r f h = h
+kept_change g s r f h = record { kept = h }
 
 pub kept_by : {F : Type 0} (w : Replica → Word F) (s : Setting F) (r : Replica) (f : F) → KeptBy (w r) s r f → KeptBy (by w) s r f
 unfolding by
-kept_by w s r f h = h
+kept_by w s r f h = record { kept = h.kept }
 
 pub kept_naming : {F : Type 0} (w : (List ℕ → List ℕ) → Word F) (s : Setting F) (r : Replica) (f : F) → KeptBy (w s.hash) s r f → KeptBy (naming w) s r f
 unfolding naming
-kept_naming w s r f h = h
+kept_naming w s r f h = record { kept = h.kept }
 
 pub kept_reading : {F X : Type 0} (g : Setting F → F → X) (w : X → Word F) (s : Setting F) (r : Replica) (f : F) → KeptBy (w (g s f)) s r f → KeptBy (reading g w) s r f
 unfolding reading
-kept_reading g w s r f h = h
+kept_reading g w s r f h = record { kept = h.kept }
 
 pub kept_quiet : {F : Type 0} (s : Setting F) (r : Replica) (f : F) → IsSound r → KeptBy {F = F} quiet s r f
 unfolding quiet
-kept_quiet s r f h = kept_same r h
+kept_quiet s r f h = record { kept = kept_same r h }
 
 pub kept_if : {F : Type 0} (b : Bool) (v w : Word F) (s : Setting F) (r : Replica) (f : F) → (b ≡ true → KeptBy v s r f) → (b ≡ false → KeptBy w s r f) → KeptBy (cond b v w) s r f
 kept_if true v w s r f h k = h refl
@@ -77,11 +77,11 @@ keeps_quiet = record { every = λ s r f sound. kept_quiet s r f sound }
 
 pub keeps_says : {F : Type 0} (os : Replica → List Output) → Keeps {F = F} (says os)
 unfolding says
-keeps_says os = record { every = λ s r f sound. kept_same r sound }
+keeps_says os = record { every = λ s r f sound. record { kept = kept_same r sound } }
 
 pub keeps_does : {F : Type 0} (e : Replica → Effect) → Keeps {F = F} (does e)
 unfolding does
-keeps_does e = record { every = λ s r f sound. kept_same r sound }
+keeps_does e = record { every = λ s r f sound. record { kept = kept_same r sound } }
 
 pub keeps_change : {F : Type 0} (g : Replica → Replica) → ((r : Replica) → IsSound r → Kept r (g r)) → Keeps {F = F} (change g)
 keeps_change g h = record { every = λ s r f sound. kept_change g s r f (h r sound) }

@@ -2,3 +2,4 @@ pub mod Heads
 pub mod Keeping
 pub mod Combining
 pub mod Storing
+pub mod Wording
