@@ -192,3 +192,22 @@ forgetting_head r s =
     let up = head_reaches q (head r) t (λ k a b. ap has_header (forgetting_at r k (omega arith)) ∙ head_knows r k s (omega arith) b) in
     let down = head_reaches r (head q) s (λ k a b. sym (ap has_header (forgetting_at r k (omega arith))) ∙ head_knows q k t (omega arith) b) in
     omega (arith, up, down)
+
+-- ---- Parts are made anew, by their ops
+
+abbrev pub remade : (ℕ → Part) → Replica → Replica
+remade g r = record r { parts = map g (range_with_len r.first (length r.parts)) }
+
+pub remade_spans : (g : ℕ → Part) (r : Replica) → Spans r → Spans (remade g r)
+remade_spans g r s = record { reach = s.reach; parts = rw (length-map-range_with_len g r.first (length r.parts)) s.parts }
+
+pub remade_at : (g : ℕ → Part) (r : Replica) (k : ℕ) → r.first ≤ k → k < r.first + length r.parts → part_at (remade g r) k ≡ g k
+remade_at g r k a b =
+    part_within (remade g r) k a ∙ get_or-map-range_with_len g r.first (length r.parts) (k - r.first) k Nothing (omega arith) (omega arith)
+
+-- nothing is known of other ops
+pub remade_known : (g : ℕ → Part) (r : Replica) (k : ℕ) → Spans r → knows (remade g r) k ≡ true → part_at (remade g r) k ≡ g k
+remade_known g r k s e =
+    let w = known_within (remade g r) k (remade_spans g r s) e in
+    let p = s.parts in
+    remade_at g r k w.0 (omega (arith, w.1))

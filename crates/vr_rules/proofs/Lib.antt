@@ -3,3 +3,4 @@ pub mod Keeping
 pub mod Combining
 pub mod Storing
 pub mod Wording
+pub mod Taking
