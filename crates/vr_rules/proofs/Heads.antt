@@ -14,7 +14,7 @@ use Rattle.vr_rules.specs.Replica.{Replica, part_at, head, forgetting, with_part
 -- ---- lists
 
 -- where each of the first ones passes, so many do
-prefix_reaches : {X : Type 0} (p : X → Bool) (xs : List X) (m : ℕ) (d : X) → p d ≡ false → ((i : ℕ) → i < m → p (get_or xs i d) ≡ true) → m ≤ prefix_len p xs
+pub prefix_reaches : {X : Type 0} (p : X → Bool) (xs : List X) (m : ℕ) (d : X) → p d ≡ false → ((i : ℕ) → i < m → p (get_or xs i d) ≡ true) → m ≤ prefix_len p xs
 prefix_reaches p xs zero d n h = omega arith
 prefix_reaches p [] (suc m) d n h = absurd (true≢false (sym (h 0 (omega arith)) ∙ n))
 prefix_reaches p (x ∷ xs) (suc m) d n h =

@@ -4,3 +4,4 @@ pub mod Combining
 pub mod Storing
 pub mod Wording
 pub mod Taking
+pub mod Stating
