@@ -5,3 +5,6 @@ pub mod Storing
 pub mod Wording
 pub mod Taking
 pub mod Stating
+pub mod Trying
+pub mod Ruling
+pub mod Reacting

@@ -141,7 +141,6 @@ pub record Run (r : Replica) : Type 0 where
   pub known : (k : ℕ) → run_start r < k → k ≤ head r → knows r k ≡ true
 
 pub run_of : (r : Replica) → IsSound r → Run r
-unfolding run_start
 run_of r h =
     let s = spans_of r h in
     let few = h.lists.few in

@@ -126,7 +126,7 @@ taken_entry l r k h sound log v e =
       | none past i ↦ let no_header : None ≡ Some h = sym i ∙ e in absurd cc
     ]
 
-log_reaches : {X : Type 0} (xs : List X) (i : ℕ) → i < length xs → (x : X) × (slice_get xs i ≡ Some x)
+pub log_reaches : {X : Type 0} (xs : List X) (i : ℕ) → i < length xs → (x : X) × (slice_get xs i ≡ Some x)
 log_reaches [] i l = absurd (omega arith)
 log_reaches (x ∷ xs) zero l = (x, refl)
 log_reaches (x ∷ xs) (suc i) l = log_reaches xs i (omega arith)
