@@ -8,3 +8,4 @@ pub mod Stating
 pub mod Trying
 pub mod Ruling
 pub mod Reacting
+pub mod Slots
