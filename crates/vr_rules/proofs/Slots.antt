@@ -144,3 +144,124 @@ value_is v g =
       each = λ i h at. subst (λ j. IsHeader h × IsEntryAt f.cluster f.log_view (j + i) h) place
           (list_is f (first_op f n) v.headers i h (omega arith) (omega arith) (ltb-true f.log_view (2 ^ 32 - 1) m3.1) g.each g.listed at);
     }
+
+-- ---- a slot
+
+-- of an op's header: it is that of an entry for it, of the last log view at most
+abbrev pub IsOf : Saved → ℕ → Header → Type 0
+IsOf v k h = IsHeader h × IsEntryAt v.fields.cluster v.fields.log_view k h
+
+-- what reads has the values that a header has
+pub record Reads (x : Slot) : Type 0 where
+  pub header : (h : Header) → x.header ≡ Some h → IsHeader h
+  pub entry : (e : Whole) → x.entry ≡ Some e → IsHeader e.header
+
+listed_header : (v : Saved) (k : ℕ) (h : Header) → Value v → listed v k ≡ Some h → IsOf v k h
+listed_header v k h w e =
+    elim (cases_lt k (first_listed v)) [
+      | inl before ↦ let no_header : None ≡ Some h = rw (lt-ltb k (first_listed v) before) at e in absurd cc
+      | inr from ↦
+          let there : slice_get v.headers (k - first_listed v) ≡ Some h = rw (le-ltb k (first_listed v) from) at e in
+          let place : first_listed v + (k - first_listed v) ≡ k = omega arith in
+          subst (λ j. IsOf v j h) place (w.each (k - first_listed v) h there)
+    ]
+
+listed_there : (v : Saved) (k : ℕ) → Value v → v.fields.checkpoint < k → k ≤ v.fields.head → (h : Header) × (listed v k ≡ Some h)
+listed_there v k w a b =
+    let first = w.first in
+    let reach = w.reach in
+    let there = log_reaches v.headers (k - first_listed v) (omega arith) in
+    (there.0, rw (le-ltb k (first_listed v) (omega arith)) (there.1))
+
+right_view : (v : Saved) (k : ℕ) (h : Header) (o : Option Header) → Value v → listed v k ≡ o → option_map_or (same_header h) o false ≡ true → h.view ≤ v.fields.log_view
+right_view v k h None w l e = absurd cc
+right_view v k h (Some d) w l e =
+    let same = same_header_is h d e in
+    let view = (listed_header v k d w l).1.made in
+    omega (arith, view, ap (λ (x : Header). x.view) same)
+
+may_be_is : (v : Saved) (k : ℕ) (h : Header) → Value v → IsHeader h → may_be v k h ≡ true → IsOf v k h
+may_be_is v k h w is e =
+    let a = and_parts (made.is_entry_header h) _ e in
+    let b = and_parts (h.cluster == v.fields.cluster) _ a.1 in
+    let c = and_parts (h.op == k) (is_right v k h) b.1 in
+    let view : h.view ≤ v.fields.log_view =
+    elim (is_listed v k) as (λ t. cond t (option_map_or (same_header h) (listed v k) false) (h.view == v.fields.log_view) ≡ true → h.view ≤ v.fields.log_view) [
+      | true ↦ λ t. right_view v k h (listed v k) w refl t
+      | false ↦ λ t. let same = eqb-true h.view v.fields.log_view t in omega arith
+    ] c.1 in
+    (is, record { entry = entry_header_of h a.0; of_group = eqb-true h.cluster v.fields.cluster b.0; at_op = eqb-true h.op k c.0; made = view })
+
+-- what a Part may be that an opening finds
+pub record Right (v : Saved) (k : ℕ) (p : Part) : Type 0 where
+  pub header : (h : Header) → header_of p ≡ Some h → IsOf v k h
+  pub known : v.fields.checkpoint < k → k ≤ v.fields.head → has_header p ≡ true
+
+right_header : (v : Saved) (k : ℕ) (h : Header) (p : Part) → IsOf v k h → header_of p ≡ Some h → Right v k p
+right_header v k h p is e =
+    record {
+      header = λ g i. let same : h ≡ g = search (rules, e, i) in subst (IsOf v k) same is;
+      known = λ a b. rw e refl;
+    }
+
+right_none : (v : Saved) (k : ℕ) (p : Part) → is_listed v k ≡ false → header_of p ≡ None → Right v k p
+right_none v k p n e =
+    record {
+      header = λ g i. let no_header : None ≡ Some g = sym e ∙ i in absurd cc;
+      known = λ a b. absurd (true≢false (sym (le-leb k v.fields.head b) ∙ n));
+    }
+
+-- a Part that is made of a header that may be missing
+right_some : (v : Saved) (k : ℕ) (make : Header → Part) (o : Option Header) → ((h : Header) → header_of (make h) ≡ Some h) → ((h : Header) → o ≡ Some h → IsOf v k h)
+    → (v.fields.checkpoint < k → k ≤ v.fields.head → (h : Header) × (o ≡ Some h)) → Right v k (some_part make o)
+right_some v k make None m is there =
+    record {
+      header = λ g i. absurd cc;
+      known = λ a b. let t = there a b in let no_header : None ≡ Some t.0 = t.1 in absurd cc;
+    }
+right_some v k make (Some h) m is there = right_header v k h (make h) (is h refl) (m h)
+
+right_named : (v : Saved) (k : ℕ) (make : Header → Part) → ((h : Header) → header_of (make h) ≡ Some h) → Value v → Right v k (some_part make (listed v k))
+right_named v k make m w = right_some v k make (listed v k) m (λ h e. listed_header v k h w e) (λ a b. listed_there v k w a b)
+
+-- where a prepare fits
+right_entry : (v : Saved) (k : ℕ) (x : Slot) (e : Whole) → Value v → Reads x → x.entry ≡ Some e → entry_fits v k x e ≡ true → Right v k (part.Here e.header)
+right_entry v k x e w reads at t =
+    right_header v k e.header (part.Here e.header) (may_be_is v k e.header w (reads.entry e at) (and_parts (may_be v k e.header) _ t).0) refl
+
+-- where none does: by the header sector, and by whether the op is named
+right_unread : (v : Saved) (k : ℕ) (x : Slot) (o : Option Header) (named : Bool) → Value v → Reads x → x.header ≡ o → is_listed v k ≡ named
+    → Right v k (part_by v k x (verdict_of (header_kind v k o) prepare.Not named))
+right_unread v k x None true w reads e n = rw n (right_named v k part.Lost (λ h. refl) w)
+right_unread v k x None false w reads e n = right_none v k part.Unknown n refl
+right_unread v k x (Some h) named w reads e n =
+    elim (may_be v k h) as (λ b. may_be v k h ≡ b → Right v k (part_by v k x (verdict_of (cond b header.Fits header.Other) prepare.Not named))) [
+      | true ↦ λ t.
+          elim named as (λ b. is_listed v k ≡ b → Right v k (some_part part.Lost (cond (is_listed v k) (listed v k) x.header))) [
+            | true ↦ λ i. rw i (right_named v k part.Lost (λ g. refl) w)
+            | false ↦ λ i. rw (i, e) (right_header v k h (part.Lost h) (may_be_is v k h w (reads.header h e) t) refl)
+          ] n
+      | false ↦ λ t.
+          elim named as (λ b. is_listed v k ≡ b → Right v k (part_by v k x (verdict_of header.Other prepare.Not b))) [
+            | true ↦ λ i. rw i (right_named v k part.Wanted (λ g. refl) w)
+            | false ↦ λ i. right_none v k part.Nothing i refl
+          ] n
+    ] refl
+
+fits_here : (v : Saved) (k : ℕ) (x : Slot) (kind : HeaderReading) (named : Bool) → part_by v k x (verdict_of kind prepare.Fits named) ≡ some_part part.Here (entry_header x)
+fits_here v k x header.Fits named = refl
+fits_here v k x header.Other named = refl
+fits_here v k x header.Bad named = refl
+
+right_by : (v : Saved) (k : ℕ) (x : Slot) (o : Option Whole) → Value v → Reads x → x.entry ≡ o
+    → Right v k (part_by v k x (verdict_of (header_kind v k x.header) (cond (option_map_or (entry_fits v k x) o false) prepare.Fits prepare.Not) (is_listed v k)))
+right_by v k x None w reads e = right_unread v k x x.header (is_listed v k) w reads refl refl
+right_by v k x (Some e) w reads at =
+    elim (entry_fits v k x e) as (λ b. entry_fits v k x e ≡ b → Right v k (part_by v k x (verdict_of (header_kind v k x.header) (cond b prepare.Fits prepare.Not) (is_listed v k)))) [
+      | true ↦ λ t. rw (fits_here v k x (header_kind v k x.header) (is_listed v k), at) (right_entry v k x e w reads at t)
+      | false ↦ λ t. right_unread v k x x.header (is_listed v k) w reads refl refl
+    ] refl
+
+-- a slot's Part
+pub slot_right : (v : Saved) (k : ℕ) (x : Slot) → Value v → Reads x → Right v k (part_by v k x (slot_verdict v k x))
+slot_right v k x w reads = right_by v k x x.entry w reads refl
