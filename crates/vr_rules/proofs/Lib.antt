@@ -9,3 +9,4 @@ pub mod Trying
 pub mod Ruling
 pub mod Reacting
 pub mod Slots
+pub mod Openings

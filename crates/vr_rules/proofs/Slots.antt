@@ -197,7 +197,7 @@ pub record Right (v : Saved) (k : ℕ) (p : Part) : Type 0 where
   pub header : (h : Header) → header_of p ≡ Some h → IsOf v k h
   pub known : v.fields.checkpoint < k → k ≤ v.fields.head → has_header p ≡ true
 
-right_header : (v : Saved) (k : ℕ) (h : Header) (p : Part) → IsOf v k h → header_of p ≡ Some h → Right v k p
+pub right_header : (v : Saved) (k : ℕ) (h : Header) (p : Part) → IsOf v k h → header_of p ≡ Some h → Right v k p
 right_header v k h p is e =
     record {
       header = λ g i. let same : h ≡ g = search (rules, e, i) in subst (IsOf v k) same is;
