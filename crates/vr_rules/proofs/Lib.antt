@@ -1,0 +1,12 @@
+pub mod Heads
+pub mod Keeping
+pub mod Combining
+pub mod Storing
+pub mod Wording
+pub mod Taking
+pub mod Stating
+pub mod Trying
+pub mod Ruling
+pub mod Reacting
+pub mod Slots
+pub mod Openings
