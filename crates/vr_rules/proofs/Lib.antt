@@ -1,3 +1,4 @@
 pub mod Plain
 pub mod Rows
 pub mod Views
+pub mod Windows

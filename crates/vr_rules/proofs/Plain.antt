@@ -1,7 +1,7 @@
 -- A plain disk, on which worked rows are computed: it has values and no bytes, and never lies. Names are made by a cheap checksum.
-use Rattle.std.proofs.Common.{ℕ, ◌+◌, ◌-◌, ◌*◌, ◌/◌, ◌%◌, ◌==◌, ◌&&◌, nat_lt, Bool, true, false, not, List, [], ◌∷◌, ◌++◌, length, map, replicate, slice_set, slice_index_or, Option, Some, None, fold, if◌then◌else◌}
+use Rattle.std.proofs.Common.{ℕ, ◌+◌, ◌-◌, ◌*◌, ◌/◌, ◌%◌, ◌==◌, ◌&&◌, nat_lt, Bool, true, false, not, List, [], ◌∷◌, ◌++◌, length, map, replicate, slice_get, slice_set, slice_index_or, Option, Some, None, fold, if◌then◌else◌}
 use Rattle.std.specs.List.{range_with_len}
-use Rattle.std.specs.Option.{option_map_or}
+use Rattle.std.specs.Option.{option_and_then, option_map, option_map_or}
 use Rattle.std.specs.Fmt.{digits}
 use Rattle.vr_base.specs.Bytes.{bytes16, bytes32, bytes64}
 use Rattle.vr_base.specs.declared.sum.Sum.{Sum}
@@ -13,14 +13,18 @@ use Rattle.vr_header.specs.Made.{Whole}
 use Rattle.vr_header.specs.Names.{no_name}
 use Rattle.vr_header.specs.Same.{same_header}
 use Rattle.vr_header.specs.Spelling.{named_bytes}
-use Rattle.vr_header.specs.Text as text
+use Rattle.vr_header.specs.Text.{is_text}
 use Rattle.vr_msg.specs.declared.output.Output.{Output}
 use Rattle.vr_msg.specs.Choice.{choice, named_by, row_end, log_headers}
 use Rattle.vr_msg.specs.Normal.{same_sum}
 use Rattle.vr_apply.specs.Folds as state
 use Rattle.vr_apply.specs.declared.codec.Texts.{Texts}
+use Rattle.vr_table.specs.Front.{byte_from, number_from, piece_from}
+use Rattle.vr_table.specs.Table.{table_text, count_from, read_on, decoded}
 use Rattle.vr_sess.specs.Sessions as sess
+use Rattle.vr_sess.specs.Texts.{session_text, value_from, outcome_of, outcome_from, numbers_from, session_from}
 use Rattle.vr_kv.specs.Kv as kv
+use Rattle.vr_kv.specs.Pairs.{pair_text, pieces_from, pair_from}
 use Rattle.vr_super.specs.Copies.{Saved}
 use Rattle.vr_lie.specs.declared.fault.Fault.{Fault}
 use Rattle.vr_lie.specs.declared.fault.Fault.TheVariants as fault
@@ -37,7 +41,7 @@ use Rattle.vr_rules.specs.Words.{send_to_all, value_of, save, entered, enter, wr
 use Rattle.vr_rules.specs.Deciding.{first_of, is_in_flight}
 use Rattle.vr_rules.specs.Rules.{next_entry, make, on_request, on_prepare, on_prepare_ok, on_commit, on_start_view_change, on_do_view_change, acknowledge_stored, on_start_view, on_get_view, on_get_prepare, on_give_prepare, on_get_block, put_block, on_give_block, on_tick, react, rule_for}
 use Rattle.vr_rules.specs.Opening.{blank, first_value, recover_op, recover_old, clouded, recover_parts, opening, opened}
-use Rattle.vr_rules.specs.World.{Hazards, Happening, Asks, World, message_of, messages, at_member, fresh_world, happen}
+use Rattle.vr_rules.specs.World.{Hazards, Happened, Happening, Asks, message_of, messages, at_member, fresh_world, happen}
 
 -- ---- names
 
@@ -169,7 +173,17 @@ unfoldable pub lines : ℕ → List Output → List (List ℕ)
 lines m [] = []
 lines m (o ∷ os) = output_text m o ∷ lines (m + length (message_of o)) os
 
--- The lines of what happens to a fresh group of n. Whoever computes a row or a rule names this one definition.
+-- What happens to a fresh group of n. Whoever computes something of it names this definition, which lists all that is computed with.
+unfoldable pub after_fresh : ℕ → List Happening → Happened Plain
+unfolding cheap formatted lines digits bytes16 bytes32 bytes64 operation_bytes outcome_bytes is_text byte_from number_from piece_from table_text count_from read_on decoded session_text value_from outcome_of outcome_from numbers_from session_from pair_text pieces_from pair_from same_header named_bytes choice named_by row_end log_headers state.applied state.answered state.executed sess.checked sess.applied sess.oldest sess.without_oldest kv.applied kv.putting kv.getting kv.deleting numbered viewed letters_of statement_text prepare_text prepare_ok_text commit_text do_view_change_text start_view_text get_prepare_text give_prepare_text sent_text committed_text reply_text chosen_text waiting_text started_text part_at head run statement_of forgetting with_part outputs after_all ◌⨾◌ quiet change does says by naming reading times each send_to_all value_of save entered enter write accept with_entry_at with_checkpoint make_checkpoint apply_entry apply_next apply advanced advance learn is_chain_from may_take taken_part taken take prepare_again stated begin_view try_log try speak resend ask_peer ask with_state load first_of is_in_flight next_entry make on_request on_prepare on_prepare_ok on_commit on_start_view_change on_do_view_change acknowledge_stored on_start_view on_get_view on_get_prepare on_give_prepare on_get_block put_block on_give_block on_tick react rule_for blank recover_op recover_old clouded recover_parts opening opened messages at_member fresh_world happen
+after_fresh n xs = happen hazards (fresh_world hazards n) xs
+
+-- its lines
 unfoldable pub replayed : ℕ → List Happening → List (List ℕ)
-unfolding cheap formatted lines digits bytes16 bytes32 bytes64 operation_bytes outcome_bytes same_header named_bytes choice named_by row_end log_headers state.applied state.answered state.executed sess.checked sess.applied sess.oldest sess.without_oldest kv.applied kv.putting kv.getting kv.deleting numbered viewed letters_of statement_text prepare_text prepare_ok_text commit_text do_view_change_text start_view_text get_prepare_text give_prepare_text sent_text committed_text reply_text chosen_text waiting_text started_text part_at head run statement_of forgetting with_part outputs after_all ◌⨾◌ quiet change does says by naming reading times each send_to_all value_of save entered enter write accept with_entry_at with_checkpoint make_checkpoint apply_entry apply_next apply advanced advance learn is_chain_from may_take taken_part taken take prepare_again stated begin_view try_log try speak resend ask_peer ask with_state load first_of is_in_flight next_entry make on_request on_prepare on_prepare_ok on_commit on_start_view_change on_do_view_change acknowledge_stored on_start_view on_get_view on_get_prepare on_give_prepare on_get_block put_block on_give_block on_tick react rule_for blank recover_op recover_old clouded recover_parts opening opened messages at_member fresh_world happen
-replayed n xs = lines 0 (happen hazards (fresh_world hazards n) xs).outputs
+unfolding after_fresh
+replayed n xs = lines 0 (after_fresh n xs).outputs
+
+-- something of a replica after it; None where that one is stopped
+unfoldable pub seen : {X : Type 0} → (Replica → X) → ℕ → ℕ → List Happening → Option X
+unfolding after_fresh
+seen look r n xs = option_and_then (λ m. option_map look m.replica) (slice_get (after_fresh n xs).world.members r)
