@@ -2,3 +2,4 @@ pub mod Plain
 pub mod Rows
 pub mod Views
 pub mod Windows
+pub mod Long

@@ -1,9 +1,10 @@
 -- Worked rows of view changes.
-use Rattle.std.proofs.Common.{ℕ, ◌≡◌, List, [], ◌∷◌, ◌++◌, codes, drop, refl}
+use Rattle.std.proofs.Common.{ℕ, ◌≡◌, List, [], ◌∷◌, ◌++◌, codes, drop, Some, refl}
 use Rattle.vr_header.specs.declared.operation.Operation.TheVariants.{Register, Put}
 use Rattle.vr_lie.specs.declared.fault.Fault.TheVariants.{Damage}
+use Rattle.vr_sched.specs.Text.{letters_of}
 use Rattle.vr_rules.specs.World.{Happening, Arrives, Ticks, Stops, Starts, Lies}
-use Rattle.vr_rules.proofs.Plain.{asks, replayed}
+use Rattle.vr_rules.proofs.Plain.{asks, replayed, seen}
 
 abbrev five_ticks : ℕ → List Happening
 five_ticks r = Ticks r ∷ Ticks r ∷ Ticks r ∷ Ticks r ∷ Ticks r ∷ []
@@ -47,7 +48,10 @@ unfolding replayed
 drops = refl
 
 -- The stopped primary comes back, and never leads its old view. Its own op 2 is replaced, and is wanted: it applies op 1 alone.
-recovers : drop 27 (replayed 3 (dropping ++ Starts 0 ∷ asks 0 9 0 Register ∷ Arrives 19 ∷ Arrives 21 ∷ []))
+abbrev recovering : List Happening
+recovering = dropping ++ Starts 0 ∷ asks 0 9 0 Register ∷ Arrives 19 ∷ Arrives 21 ∷ []
+
+recovers : drop 27 (replayed 3 recovering)
     ≡ codes "start 0 view 1 log_view 0 commit 0"
     ∷ codes "send 19 0 1 start_view_change view 1"
     ∷ codes "send 20 0 2 start_view_change view 1"
@@ -57,6 +61,10 @@ recovers : drop 27 (replayed 3 (dropping ++ Starts 0 ∷ asks 0 9 0 Register ∷
     ∷ []
 unfolding replayed
 recovers = refl
+
+replaced : seen (λ r. letters_of r.parts) 0 3 recovering ≡ Some (codes "hw")
+unfolding seen
+replaced = refl
 
 -- An acknowledged entry whose header sector and prepare are both damaged isn't denied: the choice waits for a replica that has it.
 abbrev waiting : List Happening
