@@ -3,3 +3,5 @@ pub mod Rows
 pub mod Views
 pub mod Windows
 pub mod Long
+pub mod Acting
+pub mod ActingOn
