@@ -90,7 +90,7 @@ abbrev pub candidate : Replica
 candidate = in_view 2 0 (two 2)
 
 -- both ops are applied
-abbrev settled : Replica
+abbrev pub settled : Replica
 settled =
     record primary {
       commit = 2;

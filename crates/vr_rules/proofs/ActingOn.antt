@@ -20,7 +20,7 @@ use Rattle.vr_rules.proofs.Plain.{Plain, after_fresh, cheap, plain, root_block, 
 
 -- ---- start_view_changes
 
-abbrev start_view_change : ℕ → ℕ → ℕ → Event
+abbrev pub start_view_change : ℕ → ℕ → ℕ → Event
 start_view_change cluster sender view = Deliver (frame.StartViewChange (record { cluster = cluster; replica = sender; view = view }))
 
 -- `changing` has heard of replica 2, and not of replica 0
@@ -57,7 +57,7 @@ statements_ignored = refl
 
 -- ---- start_views
 
-abbrev start_view : ℕ → ℕ → ℕ → ℕ → List Header → Event
+abbrev pub start_view : ℕ → ℕ → ℕ → ℕ → List Header → Event
 start_view sender view head lo headers =
     Deliver (frame.StartView (record { cluster = 0; replica = sender; view = view; head = head; commit = 0; body = record { lo = lo; headers = headers } }))
 
@@ -107,10 +107,10 @@ views_ignored = refl
 
 -- ---- repair of entries
 
-abbrev get_prepare : ℕ → ℕ → ℕ → Sum → Event
+abbrev pub get_prepare : ℕ → ℕ → ℕ → Sum → Event
 get_prepare cluster sender op name = Deliver (frame.GetPrepare (record { cluster = cluster; replica = sender; op = op; name = name; made = 0 }))
 
-abbrev give_prepare : ℕ → Header → Event
+abbrev pub give_prepare : ℕ → Header → Event
 give_prepare sender h = Deliver (frame.GivePrepare (record { replica = sender; entry = record { header = h; operation = get } }))
 
 -- who has the entry gives it, in any view

@@ -5,3 +5,4 @@ pub mod Windows
 pub mod Long
 pub mod Acting
 pub mod ActingOn
+pub mod Doing
