@@ -23,7 +23,7 @@ use Rattle.vr_rules.proofs.Plain.{Plain, after_fresh, lines, plain}
 
 -- ---- what is looked at
 
-abbrev entry : Header → Whole
+abbrev pub entry : Header → Whole
 entry h = record { header = h; operation = if h.op == 1 then Register else get }
 
 -- a disk with these entries

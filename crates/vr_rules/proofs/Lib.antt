@@ -6,3 +6,4 @@ pub mod Long
 pub mod Acting
 pub mod ActingOn
 pub mod Doing
+pub mod Openings
