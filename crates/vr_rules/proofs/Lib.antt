@@ -7,3 +7,4 @@ pub mod Acting
 pub mod ActingOn
 pub mod Doing
 pub mod Openings
+pub mod Cuts

@@ -1,5 +1,5 @@
--- A plain disk, on which worked rows are computed: it has values and no bytes, and never lies. Names are made by a cheap checksum.
-use Rattle.std.proofs.Common.{ℕ, ◌+◌, ◌-◌, ◌*◌, ◌/◌, ◌%◌, ◌==◌, ◌&&◌, nat_lt, Bool, true, false, not, List, [], ◌∷◌, ◌++◌, length, map, replicate, slice_get, slice_set, slice_index_or, Option, Some, None, fold, if◌then◌else◌}
+-- A plain disk, on which worked rows are computed: it has values and no bytes. Names are made by a cheap checksum.
+use Rattle.std.proofs.Common.{ℕ, ◌+◌, ◌-◌, ◌*◌, ◌/◌, ◌%◌, ◌^◌, ◌==◌, ◌&&◌, ◌||◌, nat_lt, nat_le, Bool, true, false, not, List, [], ◌∷◌, ◌++◌, length, map, replicate, slice_get, slice_set, slice_index_or, Option, Some, None, fold, if◌then◌else◌}
 use Rattle.std.specs.List.{range_with_len}
 use Rattle.std.specs.Option.{option_and_then, option_map, option_map_or}
 use Rattle.std.specs.Fmt.{digits}
@@ -142,7 +142,7 @@ plain = record {
   after = after;
 }
 
--- ---- faults: a damaged sector makes a header, an entry or a root unreadable; no other fault is put in, and no step is cut
+-- ---- faults: a damaged sector makes a header, an entry or a root unreadable; no other fault is put in
 
 abbrev pub damaged : ℕ → Plain → Plain
 damaged sector f =
@@ -154,12 +154,56 @@ abbrev pub faulted : Plain → Fault → Option Plain
 faulted f (fault.Damage sector) = if nat_lt sector 80 then None else Some (damaged sector f)
 faulted f _ = None
 
+-- ---- stops: an entry is four sectors and a sync, and a header and a sync; a value is four copies of twenty sectors and a sync.
+-- Stops in a checkpoint or a block aren't told apart.
+
+abbrev pub calls : Effect → ℕ
+calls (Write again e) = 7
+calls (Rewrite h) = 2
+calls (Save old new) = 84
+calls _ = 0
+
+-- by the code's lowest digit the header is the old one, the new one, or damaged
+abbrev pub cut_header : ℕ → Header → Plain → Plain
+cut_header code h f =
+    if code % 3 == 0 then f
+    else (if code % 3 == 1 then with_header h f else record f { headers = slice_set f.headers (h.op % 64) None })
+
+-- a prepare is the old one, the new one where all four sectors are, or torn
+abbrev pub cut_prepare : ℕ → ℕ → Whole → Plain → Plain
+cut_prepare call code e f =
+    if code == 0 then f
+    else (if nat_le 3 call && (code % 81 == 40) then with_entry e f
+    else record f { entries = slice_set f.entries (e.header.op % 64) None })
+
+-- two copies are enough for the new value; twenty new sectors are the digits of this code
+abbrev pub cut_value : ℕ → ℕ → Saved → Plain → Plain
+cut_value call code new f =
+    if nat_le 42 call || ((call == 41) && (code % 3 ^ 20 == 1743392200)) then record f { value = new } else f
+
+abbrev pub cut_effect : ℕ → ℕ → Plain → Effect → Plain
+cut_effect call code f (Write false e) =
+    if nat_lt call 5 then cut_prepare call code e f else cut_header code e.header (with_entry e f)
+cut_effect call code f (Write true e) =
+    if nat_lt call 2 then cut_header code e.header f else cut_prepare (call - 2) code e (with_header e.header f)
+cut_effect call code f (Rewrite h) = cut_header code h f
+cut_effect call code f (Save old new) = cut_value call code new f
+cut_effect call code f _ = f
+
+unfoldable pub cut : ℕ → ℕ → Plain → List Effect → Plain
+cut call code f [] = f
+cut call code f (e ∷ es) = if nat_lt call (calls e) then cut_effect call code f e else cut (call - calls e) code (after f e) es
+
+unfoldable pub count : List Effect → ℕ
+count [] = 0
+count (e ∷ es) = calls e + count es
+
 abbrev pub hazards : Hazards Plain
 hazards = record {
   setting = plain;
   formatted = formatted;
-  count = λ f script. 0;
-  cut = λ calls code f script. f;
+  count = λ f script. count script;
+  cut = cut;
   faulted = faulted;
 }
 
@@ -175,7 +219,7 @@ lines m (o ∷ os) = output_text m o ∷ lines (m + length (message_of o)) os
 
 -- What happens to a fresh group of n. Whoever computes something of it names this definition, which lists all that is computed with.
 unfoldable pub after_fresh : ℕ → List Happening → Happened Plain
-unfolding cheap formatted lines digits bytes16 bytes32 bytes64 operation_bytes outcome_bytes is_text byte_from number_from piece_from table_text count_from read_on decoded session_text value_from outcome_of outcome_from numbers_from session_from pair_text pieces_from pair_from same_header named_bytes choice named_by row_end log_headers state.applied state.answered state.executed sess.checked sess.applied sess.oldest sess.without_oldest kv.applied kv.putting kv.getting kv.deleting numbered viewed letters_of statement_text prepare_text prepare_ok_text commit_text do_view_change_text start_view_text get_prepare_text give_prepare_text sent_text committed_text reply_text chosen_text waiting_text started_text part_at head run statement_of forgetting with_part outputs after_all ◌⨾◌ quiet change does says by naming reading times each send_to_all value_of save entered enter write accept with_entry_at with_checkpoint make_checkpoint apply_entry apply_next apply advanced advance learn is_chain_from may_take taken_part taken take prepare_again stated begin_view try_log try speak resend ask_peer ask with_state load first_of is_in_flight next_entry make on_request on_prepare on_prepare_ok on_commit on_start_view_change on_do_view_change acknowledge_stored on_start_view on_get_view on_get_prepare on_give_prepare on_get_block put_block on_give_block on_tick react rule_for blank recover_op recover_old clouded recover_parts opening opened messages at_member fresh_world happen
+unfolding cheap formatted count cut lines digits bytes16 bytes32 bytes64 operation_bytes outcome_bytes is_text byte_from number_from piece_from table_text count_from read_on decoded session_text value_from outcome_of outcome_from numbers_from session_from pair_text pieces_from pair_from same_header named_bytes choice named_by row_end log_headers state.applied state.answered state.executed sess.checked sess.applied sess.oldest sess.without_oldest kv.applied kv.putting kv.getting kv.deleting numbered viewed letters_of statement_text prepare_text prepare_ok_text commit_text do_view_change_text start_view_text get_prepare_text give_prepare_text sent_text committed_text reply_text chosen_text waiting_text started_text part_at head run statement_of forgetting with_part outputs after_all ◌⨾◌ quiet change does says by naming reading times each send_to_all value_of save entered enter write accept with_entry_at with_checkpoint make_checkpoint apply_entry apply_next apply advanced advance learn is_chain_from may_take taken_part taken take prepare_again stated begin_view try_log try speak resend ask_peer ask with_state load first_of is_in_flight next_entry make on_request on_prepare on_prepare_ok on_commit on_start_view_change on_do_view_change acknowledge_stored on_start_view on_get_view on_get_prepare on_give_prepare on_get_block put_block on_give_block on_tick react rule_for blank recover_op recover_old clouded recover_parts opening opened messages at_member fresh_world happen
 after_fresh n xs = happen hazards (fresh_world hazards n) xs
 
 -- its lines
