@@ -11,15 +11,13 @@ use Rattle.vr_header.specs.declared.part.Part.{Part}
 use Rattle.vr_header.specs.declared.part.Part.TheVariants.{Here, Lost, Wanted, Unknown, Nothing}
 use Rattle.vr_header.specs.Names.{name_by, no_name, root_by}
 use Rattle.vr_msg.specs.declared.event.Event.{Event}
-use Rattle.vr_msg.specs.declared.event.Event.TheVariants.{Request, Deliver, Tick}
+use Rattle.vr_msg.specs.declared.event.Event.TheVariants.{Request, Deliver}
 use Rattle.vr_msg.specs.declared.frame.Frame.TheVariants as frame
-use Rattle.vr_msg.specs.declared.reply.ReplyKind.TheVariants as reply
-use Rattle.vr_grid.specs.declared.name.Name.{Name}
 use Rattle.vr_rules.specs.Replica.{Replica, last_view}
 use Rattle.vr_rules.specs.Deciding.{number_of}
 use Rattle.vr_rules.specs.Rules.{rule_for}
 use Rattle.vr_rules.specs.Opening.{fresh}
-use Rattle.vr_rules.proofs.Plain.{Plain, after_fresh, cheap, formatted, plain, root_block, root_name}
+use Rattle.vr_rules.proofs.Plain.{Plain, after_fresh, cheap, formatted, plain, root_name}
 
 -- ---- entries of client 7: op 1 is a register, and each stands on the one before it
 

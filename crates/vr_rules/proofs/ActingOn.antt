@@ -1,9 +1,7 @@
 -- The same for the messages of view changes and repair, and for ticks.
-use Rattle.std.proofs.Common.{ℕ, ◌+◌, ◌-◌, ◌^◌, ◌≡◌, List, [], ◌∷◌, ◌++◌, length, map, replicate, refl, true, Some}
-use Rattle.std.specs.List.{range_with_len}
+use Rattle.std.proofs.Common.{ℕ, ◌-◌, ◌^◌, ◌≡◌, List, [], ◌∷◌, ◌++◌, map, replicate, refl, true, Some}
 use Rattle.vr_base.specs.declared.sum.Sum.{Sum}
 use Rattle.vr_header.specs.declared.header.Header.{Header}
-use Rattle.vr_header.specs.declared.part.Part.{Part}
 use Rattle.vr_header.specs.declared.part.Part.TheVariants.{Here, Lost, Wanted, Unknown, Nothing}
 use Rattle.vr_header.specs.Names.{no_name}
 use Rattle.vr_msg.specs.declared.event.Event.{Event}
@@ -11,12 +9,11 @@ use Rattle.vr_msg.specs.declared.event.Event.TheVariants.{Deliver, Tick}
 use Rattle.vr_msg.specs.declared.frame.Frame.TheVariants as frame
 use Rattle.vr_msg.specs.declared.reply.ReplyKind.TheVariants as reply
 use Rattle.vr_grid.specs.declared.name.Name.{Name}
-use Rattle.vr_rules.specs.Replica.{Replica}
 use Rattle.vr_rules.specs.Deciding.{number_of}
 use Rattle.vr_rules.specs.Rules.{rule_for}
 use Rattle.vr_rules.specs.Opening.{fresh}
 use Rattle.vr_rules.proofs.Acting.{header, name, h1, h2, h3, g2, with_parts, in_view, two, primary, backup, changing, candidate, at_checkpoint, frozen, spent, disk, rules, ask, get, prepare, commit}
-use Rattle.vr_rules.proofs.Plain.{Plain, after_fresh, cheap, plain, root_block, root_name}
+use Rattle.vr_rules.proofs.Plain.{Plain, after_fresh, plain, root_block, root_name}
 
 -- ---- start_view_changes
 

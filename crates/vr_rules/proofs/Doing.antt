@@ -1,7 +1,6 @@
 -- What rules do where a rule's words are easily read otherwise: the order of effects and lines, what is read, and what isn't done.
-use Rattle.std.proofs.Common.{ℕ, ◌+◌, ◌-◌, ◌^◌, ◌==◌, ◌≡◌, true, false, List, [], ◌∷◌, ◌++◌, map, flat_map, replicate, codes, refl, if◌then◌else◌}
+use Rattle.std.proofs.Common.{ℕ, ◌==◌, ◌≡◌, true, false, List, [], ◌∷◌, ◌++◌, map, flat_map, replicate, codes, refl, if◌then◌else◌}
 use Rattle.vr_base.specs.Replicas.{no_replicas, with_replica}
-use Rattle.vr_base.specs.declared.sum.Sum.{Sum}
 use Rattle.vr_header.specs.declared.header.Header.{Header}
 use Rattle.vr_header.specs.declared.operation.Operation.TheVariants.{Register}
 use Rattle.vr_header.specs.declared.part.Part.{Part}
@@ -16,7 +15,6 @@ use Rattle.vr_sched.specs.Text.{letters_of}
 use Rattle.vr_rules.specs.Replica.{Replica, last_view}
 use Rattle.vr_rules.specs.Steps.{Effect, Write, Rewrite, Save, Mend, Checkpoint, PutBlock, Say, Step, after_all, outputs}
 use Rattle.vr_rules.specs.Rules.{react}
-use Rattle.vr_rules.specs.Opening.{fresh}
 use Rattle.vr_rules.proofs.Acting.{header, name, h1, h2, h3, g2, with_parts, in_view, two, primary, backup, changing, settled, at_checkpoint, disk, ask, get, prepare, commit}
 use Rattle.vr_rules.proofs.ActingOn.{start_view_change, start_view, get_prepare, give_prepare}
 use Rattle.vr_rules.proofs.Plain.{Plain, after_fresh, lines, plain}
@@ -119,10 +117,13 @@ past_tells = refl
 -- ---- a view is entered and told of, and then what was stated
 
 enters : both_of both backup (start_view_change 0 0 2)
-    ≡ (codes "send 0 1 0 start_view_change view 2"
-    ∷ codes "send 1 1 2 start_view_change view 2"
-    ∷ codes "send 2 1 2 do_view_change view 2 log 0 commit 1 head 2 parts h"
-    ∷ [], codes "Ssss")
+    ≡ (
+      codes "send 0 1 0 start_view_change view 2"
+          ∷ codes "send 1 1 2 start_view_change view 2"
+          ∷ codes "send 2 1 2 do_view_change view 2 log 0 commit 1 head 2 parts h"
+          ∷ [],
+      codes "Ssss",
+    )
 unfolding after_fresh
 enters = refl
 
@@ -136,14 +137,17 @@ stating c h parts = record { log_view = 0; commit = c; head = h; body = record {
 -- The choice is told before the log is taken over and saved. Op 1 is committed; of the others those that are stored and read are
 -- sent. Replica 2 has lost op 2, which replica 0 has.
 begins : both_of (storing (h1 ∷ h3 ∷ [])) (with_parts (Here h1 ∷ Lost h2 ∷ Here h3 ∷ []) (two 2)) (states (stating 2 3 (Here h1 ∷ Here h2 ∷ Here h3 ∷ [])))
-    ≡ (codes "send 0 2 0 start_view_change view 2"
-    ∷ codes "send 1 2 1 start_view_change view 2"
-    ∷ codes "choose 2 view 2 log 0 commit 2 head 3 own lh"
-    ∷ codes "send 2 2 0 start_view view 2 op 3 commit 2"
-    ∷ codes "send 3 2 1 start_view view 2 op 3 commit 2"
-    ∷ codes "send 4 2 0 prepare view 2 op 3 made 0 commit 2"
-    ∷ codes "send 5 2 1 prepare view 2 op 3 made 0 commit 2"
-    ∷ [], codes "SsssSssss")
+    ≡ (
+      codes "send 0 2 0 start_view_change view 2"
+          ∷ codes "send 1 2 1 start_view_change view 2"
+          ∷ codes "choose 2 view 2 log 0 commit 2 head 3 own lh"
+          ∷ codes "send 2 2 0 start_view view 2 op 3 commit 2"
+          ∷ codes "send 3 2 1 start_view view 2 op 3 commit 2"
+          ∷ codes "send 4 2 0 prepare view 2 op 3 made 0 commit 2"
+          ∷ codes "send 5 2 1 prepare view 2 op 3 made 0 commit 2"
+          ∷ [],
+      codes "SsssSssss",
+    )
 unfolding after_fresh
 begins = refl
 
@@ -163,10 +167,13 @@ unfolding after_fresh
 unread = refl
 
 unread_at_tick : parts_of (storing (h1 ∷ [])) primary Tick
-    ≡ (codes "send 0 0 1 commit view 0 op 2 commit 1"
-    ∷ codes "send 1 0 2 commit view 0 op 2 commit 1"
-    ∷ codes "send 2 0 1 get_prepare op 2 made 0"
-    ∷ [], codes "hl")
+    ≡ (
+      codes "send 0 0 1 commit view 0 op 2 commit 1"
+          ∷ codes "send 1 0 2 commit view 0 op 2 commit 1"
+          ∷ codes "send 2 0 1 get_prepare op 2 made 0"
+          ∷ [],
+      codes "hl",
+    )
 unfolding after_fresh
 unread_at_tick = refl
 

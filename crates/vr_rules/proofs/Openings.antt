@@ -1,18 +1,17 @@
 -- What a replica finds when it is opened, and what it does then.
-use Rattle.std.proofs.Common.{ℕ, ◌+◌, ◌-◌, ◌*◌, ◌^◌, ◌%◌, ◌≡◌, List, [], ◌∷◌, ◌++◌, length, map, flat_map, slice_set, Option, Some, None, codes, refl}
+use Rattle.std.proofs.Common.{ℕ, ◌+◌, ◌-◌, ◌^◌, ◌%◌, ◌≡◌, List, [], ◌∷◌, ◌++◌, map, flat_map, slice_set, Option, Some, None, codes, refl}
 use Rattle.std.specs.Option.{option_map_or}
 use Rattle.vr_header.specs.declared.header.Header.{Header}
-use Rattle.vr_header.specs.declared.part.Part.TheVariants.{Lost}
 use Rattle.vr_header.specs.Made.{Whole}
 use Rattle.vr_header.specs.Names.{no_name}
 use Rattle.vr_super.specs.Copies.{Saved}
 use Rattle.vr_sched.specs.Text.{letters_of}
-use Rattle.vr_rules.specs.Replica.{Replica, last_view, header_at}
+use Rattle.vr_rules.specs.Replica.{last_view, header_at}
 use Rattle.vr_rules.specs.Steps.{Step, outputs}
 use Rattle.vr_rules.specs.Opening.{opened}
-use Rattle.vr_rules.proofs.Acting.{header, name, h1, h2}
+use Rattle.vr_rules.proofs.Acting.{header, name, h1}
 use Rattle.vr_rules.proofs.Doing.{entry, effect_letter}
-use Rattle.vr_rules.proofs.Plain.{Plain, Kept, after_fresh, formatted, lines, plain, reserved, root_name}
+use Rattle.vr_rules.proofs.Plain.{Plain, after_fresh, formatted, lines, plain, reserved, root_name}
 
 -- ---- disks of replica 1 of three
 
@@ -149,21 +148,27 @@ opens_backup = refl
 
 -- a primary leaves its view, saves that before the start line, and tells it behind what it applies; it replies to no one
 opens_primary : both (one 4 4)
-    ≡ (codes "start 1 view 5 log_view 4 commit 1"
-    ∷ codes "commit 1 op 1 view 0 client 7 request 0 register"
-    ∷ codes "send 0 1 0 start_view_change view 5"
-    ∷ codes "send 1 1 2 start_view_change view 5"
-    ∷ [], codes "MSssss")
+    ≡ (
+      codes "start 1 view 5 log_view 4 commit 1"
+          ∷ codes "commit 1 op 1 view 0 client 7 request 0 register"
+          ∷ codes "send 0 1 0 start_view_change view 5"
+          ∷ codes "send 1 1 2 start_view_change view 5"
+          ∷ [],
+      codes "MSssss",
+    )
 unfolding after_fresh
 opens_primary = refl
 
 -- in a view that isn't started it saves nothing
 opens_changing : both (one 4 3)
-    ≡ (codes "start 1 view 4 log_view 3 commit 1"
-    ∷ codes "commit 1 op 1 view 0 client 7 request 0 register"
-    ∷ codes "send 0 1 0 start_view_change view 4"
-    ∷ codes "send 1 1 2 start_view_change view 4"
-    ∷ [], codes "Mssss")
+    ≡ (
+      codes "start 1 view 4 log_view 3 commit 1"
+          ∷ codes "commit 1 op 1 view 0 client 7 request 0 register"
+          ∷ codes "send 0 1 0 start_view_change view 4"
+          ∷ codes "send 1 1 2 start_view_change view 4"
+          ∷ [],
+      codes "Mssss",
+    )
 unfolding after_fresh
 opens_changing = refl
 

@@ -1,10 +1,9 @@
 -- A plain disk, on which worked rows are computed: it has values and no bytes. Names are made by a cheap checksum.
-use Rattle.std.proofs.Common.{ℕ, ◌+◌, ◌-◌, ◌*◌, ◌/◌, ◌%◌, ◌^◌, ◌==◌, ◌&&◌, ◌||◌, nat_lt, nat_le, Bool, true, false, not, List, [], ◌∷◌, ◌++◌, length, map, replicate, slice_get, slice_set, slice_index_or, Option, Some, None, fold, if◌then◌else◌}
+use Rattle.std.proofs.Common.{ℕ, ◌+◌, ◌-◌, ◌*◌, ◌/◌, ◌%◌, ◌^◌, ◌==◌, ◌&&◌, ◌||◌, nat_lt, nat_le, Bool, true, false, not, List, [], ◌∷◌, length, map, replicate, slice_get, slice_set, slice_index_or, Option, Some, None, fold, if◌then◌else◌}
 use Rattle.std.specs.List.{range_with_len}
 use Rattle.std.specs.Option.{option_and_then, option_map, option_map_or}
 use Rattle.std.specs.Fmt.{digits}
 use Rattle.vr_base.specs.Bytes.{bytes16, bytes32, bytes64}
-use Rattle.vr_base.specs.declared.sum.Sum.{Sum}
 use Rattle.vr_header.specs.declared.command.Command.TheVariants as command
 use Rattle.vr_header.specs.declared.header.Header.{Header}
 use Rattle.vr_header.specs.declared.operation.Operation.{Operation}
@@ -32,8 +31,6 @@ use Rattle.vr_grid.specs.declared.name.Name.{Name}
 use Rattle.vr_ckpt.specs.Places as places
 use Rattle.vr_ckpt.specs.declared.found.Load.{Load}
 use Rattle.vr_ckpt.specs.declared.found.Load.TheVariants.{Loaded, Missing}
-use Rattle.vr_ckpt.specs.declared.saving.Saved as checkpoint
-use Rattle.vr_ckpt.specs.declared.table.Table.{Table}
 use Rattle.vr_sched.specs.Text.{numbered, viewed, letters_of, statement_text, prepare_text, prepare_ok_text, commit_text, do_view_change_text, start_view_text, get_prepare_text, give_prepare_text, sent_text, committed_text, reply_text, chosen_text, waiting_text, started_text, output_text}
 use Rattle.vr_rules.specs.Replica.{Replica, part_at, head, run, statement_of, forgetting, with_part}
 use Rattle.vr_rules.specs.Steps.{Effect, Write, Rewrite, Save, Mend, Checkpoint, PutBlock, Say, Setting, outputs, after_all, ◌⨾◌, quiet, change, does, says, by, naming, reading, times, each}

@@ -2,7 +2,7 @@
 use Rattle.std.proofs.Common.{ℕ, ◌+◌, ◌≡◌, List, [], ◌∷◌, ◌++◌, map, codes, drop, refl}
 use Rattle.std.specs.List.{range_with_len}
 use Rattle.vr_header.specs.declared.operation.Operation.TheVariants.{Register, Put, Get}
-use Rattle.vr_rules.specs.World.{Happening, Arrives, Ticks, Stops, Starts}
+use Rattle.vr_rules.specs.World.{Happening, Arrives, Ticks}
 use Rattle.vr_rules.proofs.Plain.{asks, replayed}
 
 -- a register and a put
