@@ -1,6 +1,7 @@
 -- What rules do where a rule's words are easily read otherwise: the order of effects and lines, what is read, and what isn't done.
-use Rattle.std.proofs.Common.{ℕ, ◌==◌, ◌≡◌, true, false, List, [], ◌∷◌, ◌++◌, map, flat_map, replicate, codes, refl, if◌then◌else◌}
-use Rattle.vr_base.specs.Replicas.{no_replicas, with_replica}
+use Rattle.std.proofs.Common.{ℕ, ◌==◌, ◌≡◌, true, false, List, [], ◌∷◌, ◌++◌, map, flat_map, replicate, slice_index_or, is_some, count_by, sum_by, Some, None, codes, refl, if◌then◌else◌}
+use Rattle.std.specs.Option.{option_map_or}
+use Rattle.vr_base.specs.Replicas.{no_replicas, with_replica, size}
 use Rattle.vr_header.specs.declared.header.Header.{Header}
 use Rattle.vr_header.specs.declared.operation.Operation.TheVariants.{Register}
 use Rattle.vr_header.specs.declared.part.Part.{Part}
@@ -191,6 +192,16 @@ turns : map (λ f. (step f primary Tick).replica.turn) (storing (h1 ∷ []) ∷ 
 unfolding after_fresh
 turns = refl
 
+-- each of the others in its turn
+peers : map (λ t. said (storing (h1 ∷ [])) (record (with_parts (Here h1 ∷ Lost h2 ∷ []) (two 2)) { turn = t }) Tick) (0 ∷ 1 ∷ [])
+    ≡ (codes "send 0 2 0 get_prepare op 2 made 0" ∷ []) ∷ (codes "send 0 2 1 get_prepare op 2 made 0" ∷ []) ∷ []
+unfolding after_fresh
+peers = refl
+
+turns_back : map (λ t. (step (storing (h1 ∷ [])) (record (with_parts (Here h1 ∷ Lost h2 ∷ []) (two 2)) { turn = t }) Tick).replica.turn) (0 ∷ 1 ∷ []) ≡ 1 ∷ 0 ∷ []
+unfolding after_fresh
+turns_back = refl
+
 -- ---- an entry that comes late is told of, and makes no commit in its step, though a quorum has it
 
 abbrev lacking : Replica → Replica
@@ -263,3 +274,42 @@ changing_tick : said both (lacking changing) Tick
     ∷ []
 unfolding after_fresh
 changing_tick = refl
+
+-- ---- what a view change empties: who has acknowledged what, what was stated, who was heard
+
+abbrev counted : Replica → List ℕ
+counted r = sum_by size r.ackers ∷ count_by is_some r.statements ∷ size r.heard ∷ []
+
+abbrev busy : Replica → Replica
+busy r =
+    record (acked r) {
+      statements = replicate 3 (Some (stating 0 0 []));
+      heard = with_replica (with_replica (with_replica no_replicas 0) 1) 2;
+      idle = 9;
+    }
+
+abbrev counts_after : Replica → Event → List ℕ
+counts_after r e = counted (step both (busy r) e).replica
+
+empties : counts_after backup Tick ∷ counts_after changing Tick ∷ counts_after backup (start_view_change 0 2 1) ∷ counts_after changing (start_view_change 0 2 3) ∷ counts_after backup (start_view 2 2 2 0 (h1 ∷ h2 ∷ [])) ∷ []
+    ≡ (0 ∷ 0 ∷ 1 ∷ []) ∷ (0 ∷ 0 ∷ 1 ∷ []) ∷ (0 ∷ 0 ∷ 2 ∷ []) ∷ (0 ∷ 0 ∷ 2 ∷ []) ∷ (0 ∷ 0 ∷ 0 ∷ []) ∷ []
+unfolding after_fresh
+empties = refl
+
+-- a statement for a later view, with which the choice waits, is kept behind the emptying; one that begins the view empties all
+keeps_statement : counts_after (in_view 3 3 (lacking (two 2))) (Deliver (frame.DoViewChange (record { cluster = 0; replica = 0; view = 5; statement = stating 0 0 (Unknown ∷ []) })))
+    ≡ 0 ∷ 1 ∷ 1 ∷ []
+unfolding after_fresh
+keeps_statement = refl
+
+begins_empty : counts_after (two 2) (states (stating 1 2 (Here h1 ∷ Here h2 ∷ []))) ≡ 0 ∷ 0 ∷ 0 ∷ []
+unfolding after_fresh
+begins_empty = refl
+
+-- a later statement takes the place of an earlier one of the same replica
+abbrev stated_by_0 : Replica → ℕ
+stated_by_0 r = option_map_or (λ (s : Statement). s.head) (slice_index_or r.statements 0 None) 0
+
+replaces : stated_by_0 (step both (record (two 2) { view = 2; statements = Some (stating 0 1 (Here h1 ∷ [])) ∷ None ∷ None ∷ []; parts = Here h1 ∷ Unknown ∷ replicate 62 Nothing }) (states (stating 0 2 (Here h1 ∷ Lost h2 ∷ [])))).replica ≡ 2
+unfolding after_fresh
+replaces = refl

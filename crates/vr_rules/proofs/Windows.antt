@@ -53,22 +53,22 @@ put_of_two k = asks 0 7 k put ∷ Arrives (2 * k) ∷ Arrives (2 * k + 1) ∷ []
 abbrev puts_of_two : ℕ → List Happening
 puts_of_two n = asks 0 7 0 Register ∷ Arrives 0 ∷ Arrives 1 ∷ flat_map put_of_two (range_with_len 1 n)
 
--- commit number, applied op, checkpoint, the address of its root, the end of the list of Parts, and what the superblock says of
+-- commit number, applied op, checkpoint, the address of its root, the ends of the lists of Parts and ackers, and what the superblock says of
 -- commit number, checkpoint and head
 abbrev numbers : Replica → List ℕ
 numbers r =
-    r.commit ∷ r.applied ∷ r.checkpoint ∷ r.root.address ∷ (r.first + length r.parts) ∷ r.saved.fields.commit ∷ r.saved.fields.checkpoint ∷ r.saved.fields.head ∷ []
+    r.commit ∷ r.applied ∷ r.checkpoint ∷ r.root.address ∷ (r.first + length r.parts) ∷ (r.first + length r.ackers) ∷ r.saved.fields.commit ∷ r.saved.fields.checkpoint ∷ r.saved.fields.head ∷ []
 
-before_checkpoint : seen numbers 0 2 (puts_of_two 30) ≡ Some (31 ∷ 31 ∷ 0 ∷ 0 ∷ 65 ∷ 0 ∷ 0 ∷ 0 ∷ [])
+before_checkpoint : seen numbers 0 2 (puts_of_two 30) ≡ Some (31 ∷ 31 ∷ 0 ∷ 0 ∷ 65 ∷ 65 ∷ 0 ∷ 0 ∷ 0 ∷ [])
 unfolding seen
 before_checkpoint = refl
 
-at_checkpoint : seen numbers 0 2 (puts_of_two 31) ≡ Some (32 ∷ 32 ∷ 32 ∷ 64 ∷ 97 ∷ 32 ∷ 32 ∷ 32 ∷ [])
+at_checkpoint : seen numbers 0 2 (puts_of_two 31) ≡ Some (32 ∷ 32 ∷ 32 ∷ 64 ∷ 97 ∷ 97 ∷ 32 ∷ 32 ∷ 32 ∷ [])
 unfolding seen
 at_checkpoint = refl
 
 -- the other replica hears with op 33 that op 32 is committed
-at_backup : seen numbers 1 2 (puts_of_two 32) ≡ Some (32 ∷ 32 ∷ 32 ∷ 64 ∷ 97 ∷ 32 ∷ 32 ∷ 33 ∷ [])
+at_backup : seen numbers 1 2 (puts_of_two 32) ≡ Some (32 ∷ 32 ∷ 32 ∷ 64 ∷ 97 ∷ 97 ∷ 32 ∷ 32 ∷ 33 ∷ [])
 unfolding seen
 at_backup = refl
 
