@@ -10,3 +10,13 @@ pub mod Ruling
 pub mod Reacting
 pub mod Slots
 pub mod Openings
+pub mod Plain
+pub mod Rows
+pub mod Views
+pub mod Windows
+pub mod Long
+pub mod Acting
+pub mod ActingOn
+pub mod Doing
+pub mod Opened
+pub mod Cuts
