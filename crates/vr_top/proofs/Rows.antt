@@ -26,12 +26,21 @@ use Rattle.vr_top.specs.Run.{text_for, text_so_far, refused_in}
 use Rattle.vr_top.specs.Schedule.{accepted}
 use Rattle.vr_top.specs.Text.{text_of}
 
--- one register, with its prepare, its acknowledgement and its reply; the last line lacks its end
-one_register : text_for (codes "cluster 2\nrequest 0 7 0 register\ndeliver 0\ndeliver 1")
+-- a put, a get, and the get asked again; the last line lacks its end
+put_and_get : text_for
+    (codes "cluster 2\nrequest 0 7 0 register\ndeliver 0\ndeliver 1\nrequest 0 7 1 put color green\ndeliver 2\ndeliver 3\n"
+    ++ codes "request 0 7 2 get color\ndeliver 4\ndeliver 5\nrequest 0 7 2 get color")
     ≡ codes "send 0 0 1 prepare view 0 op 1 made 0 commit 0\nsend 1 1 0 prepare_ok view 0 op 1 made 0\n"
     ++ codes "commit 0 op 1 view 0 client 7 request 0 register\nreply 0 client 7 request 0 op 1 session\n"
-unfolding name_of sha256 first_words schedule rounds compress hash_after digest_bytes operation_bytes named_bytes is_text decide.first_of decide.on_request decide.on_prepare decide.on_prepare_ok state.applied state.answered state.executed sess.checked sess.applied kv.applied face_after outputs ◌⨾◌ quiet change says by times sends_to_all prepares acknowledges written write commit_line applied_reply applied apply_entry apply_next apply learned learn advanced_to advanced advance acknowledged summary is_in_flight request_summary next_entry make on_request on_prepare on_prepare_ok react fresh_world messages grouped delivered happens happen bytes16 bytes32 bytes64 same_header digits_on number_of parse line_words operation_words asked_by words_of text.numbered text.viewed text.prepare_text text.prepare_ok_text text.sent_text text.committed_text text.reply_text happenings numbered cut accepted text_of digits
-one_register = refl
+    ++ codes "send 2 0 1 prepare view 0 op 2 made 0 commit 1\nsend 3 1 0 prepare_ok view 0 op 2 made 0\n"
+    ++ codes "commit 1 op 1 view 0 client 7 request 0 register\n"
+    ++ codes "commit 0 op 2 view 0 client 7 request 1 put color green\nreply 0 client 7 request 1 op 2 ok\n"
+    ++ codes "send 4 0 1 prepare view 0 op 3 made 0 commit 2\nsend 5 1 0 prepare_ok view 0 op 3 made 0\n"
+    ++ codes "commit 1 op 2 view 0 client 7 request 1 put color green\n"
+    ++ codes "commit 0 op 3 view 0 client 7 request 2 get color\nreply 0 client 7 request 2 op 3 value green\n"
+    ++ codes "reply 0 client 7 request 2 op 3 value green\n"
+unfolding name_of sha256 first_words schedule rounds compress hash_after digest_bytes operation_bytes named_bytes is_text decide.first_of decide.on_request decide.on_prepare decide.on_prepare_ok state.applied state.answered state.executed sess.checked sess.applied kv.applied kv.putting kv.getting face_after outputs ◌⨾◌ quiet change says by times sends_to_all prepares acknowledges written write commit_line applied_reply applied apply_entry apply_next apply learned learn advanced_to advanced advance acknowledged summary is_in_flight request_summary next_entry make on_request on_prepare on_prepare_ok react fresh_world messages grouped delivered happens happen bytes16 bytes32 bytes64 same_header digits_on number_of parse line_words operation_words asked_by words_of text.numbered text.viewed text.prepare_text text.prepare_ok_text text.sent_text text.committed_text text.reply_text happenings numbered cut accepted text_of digits
+put_and_get = refl
 
 -- a replica that does not lead, and then a line that is refused
 redirect : text_for (codes "cluster 2\nrequest 1 7 1 put a b\ntick 9\n") ≡ codes "reply 1 client 7 request 1 redirect 0\n"
