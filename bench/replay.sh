@@ -12,23 +12,31 @@ folder=${1:-$(mktemp -d)}
 mkdir -p "$folder"
 [ $# -gt 0 ] || trap 'rm -rf "$folder"' EXIT
 
-# A schedule of so many lines over so many replicas: one client after the other registers, each operation is
-# delivered to as many backups as commit it, and each acknowledgement to the primary. After every tenth operation
-# its client asks again, and after every hundredth a backup is asked.
+# A schedule of so many lines over so many replicas: eight clients register, and then put and get in turn, each key of
+# a hundred over and over. Each operation is delivered to as many backups as commit it, and each acknowledgement to the
+# primary. After every tenth operation its client asks again, and after every hundredth a backup is asked.
 schedule() {
     awk -v lines="$1" -v n="$2" '
         function line(text) { print text; if (++printed >= lines) exit }
+        function operation(op, number) {
+            if (number == 0) return "register"
+            if (int(op / 8) % 2) return sprintf("put key%02d value%010d", op % 100, op)
+            return sprintf("get key%02d", op % 100)
+        }
         BEGIN {
             backups = n == 6 || n == 5 ? 2 : 1
             line("cluster " n)
             for (op = 1; ; op++) {
-                line("request 0 " op " 0 register")
+                client = op % 8 + 1
+                number = asked[client]++
+                request = client " " number " " operation(op, number)
+                line("request 0 " request)
                 first = sent; sent += n - 1
                 for (b = 0; b < backups; b++) line("deliver " first + b)
                 for (b = 0; b < backups; b++) line("deliver " sent + b)
                 sent += backups
-                if (op % 10 == 0) line("request 0 " op " 0 register")
-                if (op % 100 == 0) line("request 1 " op " 0 register")
+                if (op % 10 == 0) line("request 0 " request)
+                if (op % 100 == 0) line("request 1 " request)
             }
         }'
 }

@@ -6,3 +6,4 @@ pub mod Plays
 pub mod Streams
 pub mod Whole
 pub mod Agreeing
+mod Rows
