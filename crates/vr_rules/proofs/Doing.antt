@@ -1,5 +1,5 @@
 -- What rules do where a rule's words are easily read otherwise: the order of effects and lines, what is read, and what isn't done.
-use Rattle.std.proofs.Common.{ℕ, ◌==◌, ◌≡◌, true, false, List, [], ◌∷◌, ◌++◌, map, flat_map, replicate, slice_index_or, is_some, count_by, sum_by, Some, None, codes, refl, if◌then◌else◌}
+use Rattle.std.proofs.Common.{ℕ, ◌==◌, ◌≡◌, true, false, List, [], ◌∷◌, ◌++◌, map, drop, flat_map, replicate, slice_index_or, is_some, count_by, sum_by, Some, None, codes, refl, if◌then◌else◌}
 use Rattle.std.specs.Option.{option_map_or}
 use Rattle.vr_base.specs.Replicas.{no_replicas, with_replica, size}
 use Rattle.vr_header.specs.declared.header.Header.{Header}
@@ -239,6 +239,14 @@ takes : map (λ p. letters both (with_parts (Here h1 ∷ p ∷ Here h3 ∷ []) c
     ≡ codes "hh" ∷ codes "hl" ∷ codes "hw" ∷ codes "hw" ∷ codes "hw" ∷ codes "hw" ∷ codes "hl" ∷ codes "hw" ∷ []
 unfolding after_fresh
 takes = refl
+
+abbrev k1 : Header
+k1 = header 0 0 1 no_name
+
+-- every op above the checkpoint is looked at, also one that is committed; what the log doesn't reach down to stays
+takes_all : map (λ lo. letters both (in_view 2 0 backup) (start_view 2 2 2 lo (drop lo (k1 ∷ header 0 0 2 (name k1) ∷ [])))) (0 ∷ 1 ∷ []) ≡ codes "ww" ∷ codes "hw" ∷ []
+unfolding after_fresh
+takes_all = refl
 
 -- in a view that is started they stay
 takes_longer : letters both (with_parts (Here h1 ∷ Nothing ∷ Unknown ∷ Here (header 0 2 4 no_name) ∷ []) (in_view 2 2 backup)) (start_view 2 2 2 1 (h2 ∷ [])) ≡ codes "hwuh"
