@@ -147,6 +147,11 @@ in_flight : rules primary (ask 7 1 get ∷ ask 7 2 get ∷ ask 8 0 Register ∷ 
 unfolding after_fresh
 in_flight = refl
 
+-- what is known past the head isn't in flight
+not_in_flight : rules (with_parts (Here h1 ∷ Nothing ∷ Here h3 ∷ []) primary) (ask 7 1 get ∷ []) ≡ 6 ∷ []
+unfolding after_fresh
+not_in_flight = refl
+
 -- a repeat, an old one, the next one, a gap; without a session
 answered : rules settled (ask 7 1 get ∷ ask 7 0 Register ∷ ask 7 2 get ∷ ask 7 3 get ∷ ask 8 1 get ∷ ask 8 0 Register ∷ []) ≡ 4 ∷ 4 ∷ 6 ∷ 4 ∷ 4 ∷ 6 ∷ []
 unfolding after_fresh

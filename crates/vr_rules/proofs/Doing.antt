@@ -1,5 +1,5 @@
 -- What rules do where a rule's words are easily read otherwise: the order of effects and lines, what is read, and what isn't done.
-use Rattle.std.proofs.Common.{ℕ, ◌==◌, ◌≡◌, true, false, List, [], ◌∷◌, ◌++◌, map, flat_map, replicate, slice_index_or, is_some, count_by, sum_by, Some, None, codes, refl, if◌then◌else◌}
+use Rattle.std.proofs.Common.{ℕ, ◌==◌, ◌≡◌, true, false, List, [], ◌∷◌, ◌++◌, length, map, drop, flat_map, replicate, slice_index_or, is_some, count_by, sum_by, Some, None, codes, refl, if◌then◌else◌}
 use Rattle.std.specs.Option.{option_map_or}
 use Rattle.vr_base.specs.Replicas.{no_replicas, with_replica, size}
 use Rattle.vr_header.specs.declared.header.Header.{Header}
@@ -18,7 +18,7 @@ use Rattle.vr_rules.specs.Steps.{Effect, Write, Rewrite, Save, Mend, Checkpoint,
 use Rattle.vr_rules.specs.Rules.{react}
 use Rattle.vr_rules.proofs.Acting.{header, name, h1, h2, h3, g2, with_parts, in_view, two, primary, backup, changing, settled, at_checkpoint, disk, ask, get, prepare, commit}
 use Rattle.vr_rules.proofs.ActingOn.{start_view_change, start_view, get_prepare, give_prepare}
-use Rattle.vr_rules.proofs.Plain.{Plain, after_fresh, lines, plain}
+use Rattle.vr_rules.proofs.Plain.{Plain, after_fresh, lines, plain, root_name}
 
 -- ---- what is looked at
 
@@ -114,6 +114,12 @@ past_tells : said (storing (header 0 0 33 no_name ∷ [])) (with_parts (Here (he
     ≡ codes "commit 1 op 33 view 0 client 7 request 32 get a" ∷ []
 unfolding after_fresh
 past_tells = refl
+
+-- nothing is applied while a block is missing, though the commit number rises
+waits_for_blocks : (λ (s : Step). s.replica.commit ∷ s.replica.applied ∷ length s.script ∷ []) (step (storing (header 0 0 33 no_name ∷ [])) (record (with_parts (Here (header 0 0 33 no_name) ∷ []) (at_checkpoint 32 [] 1)) { missing = root_name 32 ∷ [] }) (committing 33 (header 0 0 5 no_name)))
+    ≡ 33 ∷ 32 ∷ 0 ∷ []
+unfolding after_fresh
+waits_for_blocks = refl
 
 -- ---- a view is entered and told of, and then what was stated
 
@@ -239,6 +245,14 @@ takes : map (λ p. letters both (with_parts (Here h1 ∷ p ∷ Here h3 ∷ []) c
     ≡ codes "hh" ∷ codes "hl" ∷ codes "hw" ∷ codes "hw" ∷ codes "hw" ∷ codes "hw" ∷ codes "hl" ∷ codes "hw" ∷ []
 unfolding after_fresh
 takes = refl
+
+abbrev k1 : Header
+k1 = header 0 0 1 no_name
+
+-- every op above the checkpoint is looked at, also one that is committed; what the log doesn't reach down to stays
+takes_all : map (λ lo. letters both (in_view 2 0 backup) (start_view 2 2 2 lo (drop lo (k1 ∷ header 0 0 2 (name k1) ∷ [])))) (0 ∷ 1 ∷ []) ≡ codes "ww" ∷ codes "hw" ∷ []
+unfolding after_fresh
+takes_all = refl
 
 -- in a view that is started they stay
 takes_longer : letters both (with_parts (Here h1 ∷ Nothing ∷ Unknown ∷ Here (header 0 2 4 no_name) ∷ []) (in_view 2 2 backup)) (start_view 2 2 2 1 (h2 ∷ [])) ≡ codes "hwuh"
