@@ -10,7 +10,7 @@ use Rattle.vr_msg.specs.Forms.{IsFrame}
 use Rattle.vr_super.specs.Copies.{IsGood, Saved}
 use Rattle.vr_rules.specs.Replica.{Replica}
 use Rattle.vr_rules.specs.Steps.{Setting, Step, outputs}
-use Rattle.vr_rules.specs.Deciding.{Rule, Ignored, InFlight, PreparedBefore, CommitBefore, ChangeBefore, StatedBefore}
+use Rattle.vr_rules.specs.Deciding.{Rule, Ignored, InFlight, PreparedBefore, Beyond, Other, CommitBefore, ChangeBefore, StatedBefore}
 use Rattle.vr_rules.specs.Rules.{react, rule_for}
 use Rattle.vr_rules.specs.Opening.{blank, opening}
 use Rattle.vr_rules.specs.Sound.{IsSound}
@@ -56,6 +56,16 @@ SaysNothing _ = ⊥
 
 abbrev pub NothingIsDone : Type 0 → Type 0
 NothingIsDone F = (s : Setting F) (f : F) (r : Replica) (e : Event) → SaysNothing (rule_for s f r e) → react e s r f ≡ record { replica = r; script = [] }
+
+-- a prepare of the view that is past the window, or that the log has no place for: its sender is heard of, and that is all
+abbrev pub OnlyHears : Rule → Type 0
+OnlyHears Beyond = ⊤
+OnlyHears Other = ⊤
+OnlyHears _ = ⊥
+
+abbrev pub OnlyHearingIsDone : Type 0 → Type 0
+OnlyHearingIsDone F =
+    (s : Setting F) (f : F) (r : Replica) (e : Event) → OnlyHears (rule_for s f r e) → react e s r f ≡ record { replica = record r { idle = 0 }; script = [] }
 
 -- ---- what is saved and sent
 

@@ -1,2 +1,6 @@
 //! The whole protocol as definitions: a replica with its disk, its step and its opening, and a group of replicas.
 #![tactic(auto)]
+
+mod sending;
+
+pub use sending::{nothing_is_done, only_hearing_is_done};
