@@ -1,1 +1,4 @@
 pub mod Silent
+pub mod SendsScripts
+pub mod SilentWaits
+pub mod SilentSteps

@@ -3,4 +3,4 @@
 
 mod sending;
 
-pub use sending::{nothing_is_done, only_hearing_is_done};
+pub use sending::{nothing_is_done, only_hearing_is_done, waits_change_no_part};
