@@ -1,7 +1,10 @@
 -- What holds of every step and every opening, whatever the disk.
-use Rattle.std.specs.Prelude.{◌<◌, ◌≤◌, ◌≡◌, ◌≢◌, ⊤, [], Contains}
+use Rattle.std.specs.Prelude.{ℕ, ◌+◌, ◌<◌, ◌≤◌, ◌≡◌, ◌≢◌, ⊤, [], All, Contains}
 use Rattle.vr_msg.specs.declared.event.Event.{Event}
 use Rattle.vr_msg.specs.declared.event.Event.TheVariants as event
+use Rattle.vr_msg.specs.declared.frame.Frame.{Frame}
+use Rattle.vr_msg.specs.declared.frame.Frame.TheVariants as frame
+use Rattle.vr_msg.specs.declared.output.Output.{Output}
 use Rattle.vr_msg.specs.declared.output.Output.TheVariants as output
 use Rattle.vr_msg.specs.declared.output.Sent.{Sent}
 use Rattle.vr_msg.specs.declared.output.Waiting.{Waiting}
@@ -67,17 +70,81 @@ abbrev pub OnlyHearingIsDone : Type 0 → Type 0
 OnlyHearingIsDone F =
     (s : Setting F) (f : F) (r : Replica) (e : Event) → OnlyHears (rule_for s f r e) → react e s r f ≡ record { replica = record r { idle = 0 }; script = [] }
 
--- ---- what is saved and sent
+-- ---- what is put out carries present values
 
--- each value that a step saves makes a good copy
-abbrev pub SavesAreGood : Type 0
-SavesAreGood = ⊤
+-- it is one of its group, its log isn't of a view after its own, and the next peer that it asks is another replica
+pub record IsPlaced (r : Replica) : Type 0 where
+  pub member : r.index < r.n
+  pub views : r.log_view ≤ r.view
+  pub peer : r.turn + 1 < r.n
 
--- a message carries the values that its sender has at the end of the step
-pub record IsPresent (r : Replica) (s : Sent) : Type 0 where
-  pub from : s.from ≡ r.index
-  pub to : s.to < r.n
-  pub other : s.to ≢ r.index
+-- the group and the sender that a message names
+pub record IsBy (r : Replica) (group sender : ℕ) : Type 0 where
+  pub cluster : group ≡ r.cluster
+  pub replica : sender ≡ r.index
+
+-- a commit number between those at the beginning and at the end
+pub record IsCommitOf (old new : Replica) (commit : ℕ) : Type 0 where
+  pub from : old.commit ≤ commit
+  pub upto : commit ≤ new.commit
+
+-- A replica, old and then new, sends no requests and no replies as messages. The others name it, are of its view at the end, and
+-- have its commit number; which views may be asked for is said apart. A prepare has its entry's group.
+abbrev pub IsPresentFrame : (ℕ → Type 0) → Replica → Replica → Frame → Type 0
+IsPresentFrame MayAsk old new (frame.Request q) = ⊥
+IsPresentFrame MayAsk old new (frame.Reply a) = ⊥
+IsPresentFrame MayAsk old new (frame.Prepare p) = (p.replica ≡ new.index) × (p.view ≡ new.view) × IsCommitOf old new p.commit
+IsPresentFrame MayAsk old new (frame.PrepareOk a) = IsBy new a.cluster a.replica × (a.view ≡ new.view)
+IsPresentFrame MayAsk old new (frame.Commit c) = IsBy new c.cluster c.replica × (c.view ≡ new.view) × IsCommitOf old new c.commit
+IsPresentFrame MayAsk old new (frame.StartViewChange c) = IsBy new c.cluster c.replica × (c.view ≡ new.view)
+IsPresentFrame MayAsk old new (frame.DoViewChange d) = IsBy new d.cluster d.replica × (d.view ≡ new.view) × IsCommitOf old new d.statement.commit
+IsPresentFrame MayAsk old new (frame.StartView v) = IsBy new v.cluster v.replica × (v.view ≡ new.view) × IsCommitOf old new v.commit
+IsPresentFrame MayAsk old new (frame.GetView g) = IsBy new g.cluster g.replica × MayAsk g.view
+IsPresentFrame MayAsk old new (frame.GetPrepare g) = IsBy new g.cluster g.replica
+IsPresentFrame MayAsk old new (frame.GivePrepare g) = g.replica ≡ new.index
+IsPresentFrame MayAsk old new (frame.GetBlock g) = IsBy new g.cluster g.replica
+IsPresentFrame MayAsk old new (frame.GiveBlock g) = IsBy new g.cluster g.replica
+
+-- from the replica to another one of its group
+pub record IsPresentSend (MayAsk : ℕ → ℕ → Type 0) (old new : Replica) (s : Sent) : Type 0 where
+  pub from : s.from ≡ new.index
+  pub to : s.to < new.n
+  pub other : s.to ≢ new.index
+  pub message : IsPresentFrame (MayAsk s.to) old new s.message
+
+-- lines and replies too name the replica, and its view at the end
+abbrev pub IsPresentOutput : (ℕ → ℕ → Type 0) → Replica → Replica → Output → Type 0
+IsPresentOutput MayAsk old new (output.Send s) = IsPresentSend MayAsk old new s
+IsPresentOutput MayAsk old new (output.Commit c) = c.replica ≡ new.index
+IsPresentOutput MayAsk old new (output.Reply a) = IsBy new a.cluster a.replica × (a.view ≡ new.view)
+IsPresentOutput MayAsk old new (output.Choose c) = (c.replica ≡ new.index) × (c.view ≡ new.view)
+IsPresentOutput MayAsk old new (output.Wait w) = (w.replica ≡ new.index) × (w.view ≡ new.view)
+IsPresentOutput MayAsk old new (output.Start s) = (s.replica ≡ new.index) × (s.view ≡ new.view) × IsCommitOf old new s.commit
+IsPresentOutput MayAsk old new (output.Halted r) = ⊥
+IsPresentOutput MayAsk old new output.Done = ⊥
+IsPresentOutput MayAsk old new output.KeptOut = ⊥
+
+-- the replica keeps its place, and what it puts out carries its values
+pub record IsPresent (MayAsk : ℕ → ℕ → Type 0) (old : Replica) (x : Step) : Type 0 where
+  pub cluster : x.replica.cluster ≡ old.cluster
+  pub index : x.replica.index ≡ old.index
+  pub n : x.replica.n ≡ old.n
+  pub commit : old.commit ≤ x.replica.commit
+  pub placed : IsPlaced x.replica
+  pub each : All (IsPresentOutput MayAsk old x.replica) (outputs x.script)
+
+-- the sender of a message is asked for the view of that message
+abbrev pub Answers : Event → ℕ → ℕ → Type 0
+Answers (event.Deliver (frame.Prepare p)) to view = (to ≡ p.replica) × (view ≡ p.view)
+Answers (event.Deliver (frame.Commit c)) to view = (to ≡ c.replica) × (view ≡ c.view)
+Answers _ to view = ⊥
+
+abbrev pub StepsArePresent : Type 0 → Type 0
+StepsArePresent F = (s : Setting F) (f : F) (r : Replica) (e : Event) → IsPlaced r → IsPresent (Answers e) r (react e s r f)
+
+-- an opening asks for no view
+abbrev pub OpeningsArePresent : Type 0 → Type 0
+OpeningsArePresent F = (s : Setting F) (f : F) (v : Saved) → IsGood v → IsPresent (λ to view. ⊥) (blank v) (opening v s (blank v) f)
 
 -- ---- a wait changes no Part
 
