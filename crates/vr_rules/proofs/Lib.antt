@@ -2,5 +2,6 @@ pub mod Silent
 pub mod SendsScripts
 pub mod SendsPlaces
 pub mod SendsCalm
+pub mod SendsWords
 pub mod SilentWaits
 pub mod SilentSteps
