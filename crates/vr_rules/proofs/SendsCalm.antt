@@ -210,3 +210,22 @@ pub present_calm : {F : Type 0} (MayAsk : ℕ → ℕ → Type 0) (s : Setting F
 present_calm MayAsk s r f w p k =
     let q = k.each s r f (near_itself r p) in
     record { cluster = q.near.same.cluster; index = q.near.same.index; n = q.near.same.n; commit = q.near.same.commit; placed = q.near.placed; each = q.said }
+
+-- a step that begins with what puts out nothing, and goes on elsewhere
+pub present_after : {F : Type 0} (MayAsk : ℕ → ℕ → Type 0) (s : Setting F) (r : Replica) (f : F) (v w : Word F) → Same r (v s r f).replica → outputs (v s r f).script ≡ []
+    → IsPresent MayAsk (v s r f).replica (w s (v s r f).replica (after_all s f (v s r f).script)) → IsPresent MayAsk r ((v ⨾ w) s r f)
+unfolding ◌⨾◌
+present_after MayAsk s r f v w p mute h =
+    let a = v s r f in
+    let b = w s a.replica (after_all s f a.script) in
+    let up : r.commit ≤ a.replica.commit = p.commit in
+    let more : a.replica.commit ≤ b.replica.commit = h.commit in
+    record {
+      cluster = h.cluster ∙ p.cluster;
+      index = h.index ∙ p.index;
+      n = h.n ∙ p.n;
+      commit = omega (arith, up, more);
+      placed = h.placed;
+      each = rw (outputs_append a.script b.script, mute)
+          (All-weaker (IsPresentOutput MayAsk a.replica b.replica) (IsPresentOutput MayAsk r b.replica) (λ x. output_later r a.replica b.replica b.replica MayAsk x up (same_itself b.replica)) (outputs b.script) h.each);
+    }
