@@ -4,5 +4,6 @@ pub mod SendsPlaces
 pub mod SendsCalm
 pub mod SendsWords
 pub mod SendsRules
+pub mod SendsSteps
 pub mod SilentWaits
 pub mod SilentSteps
