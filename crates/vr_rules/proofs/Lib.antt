@@ -5,5 +5,6 @@ pub mod SendsCalm
 pub mod SendsWords
 pub mod SendsRules
 pub mod SendsSteps
+pub mod SendsOpening
 pub mod SilentWaits
 pub mod SilentSteps

@@ -1,5 +1,5 @@
 -- Words that keep a replica in its place: its group, its index, its view, and no lower commit number. What they put out carries these.
-use Rattle.std.proofs.Common.{arith, ◌≡◌, ◌≢◌, ◌≤◌, ◌<◌, ◌+◌, refl, sym, ap, ◌∙◌, ℕ, zero, suc, Bool, true, false, cond, List, [], ◌∷◌, ◌++◌, map}
+use Rattle.std.proofs.Common.{arith, ◌≡◌, ◌≤◌, ◌<◌, refl, sym, ◌∙◌, ℕ, zero, suc, Bool, true, false, cond, List, [], ◌∷◌, ◌++◌}
 use Rattle.std.specs.Prelude.{All}
 use Rattle.std.proofs.lemmas.List.Elements.{All-nil, All-cons, All-append, All-map, All-weaker}
 use Rattle.vr_msg.specs.declared.frame.Frame.{Frame}
@@ -104,8 +104,8 @@ said_both : (MayAsk : ℕ → ℕ → Type 0) (r a b : Replica) (xs ys : List Ef
     → All (IsPresentOutput MayAsk r b) (outputs (xs ++ ys))
 said_both MayAsk r a b xs ys p q h k =
     rw (outputs_append xs ys) (All-append (IsPresentOutput MayAsk r b) (outputs xs) (outputs ys)
-        (All-weaker (IsPresentOutput MayAsk r a) (IsPresentOutput MayAsk r b) (λ o. output_later r r a b MayAsk o (omega arith) q) (outputs xs) h)
-        (All-weaker (IsPresentOutput MayAsk a b) (IsPresentOutput MayAsk r b) (λ o. output_later r a b b MayAsk o p.commit (same_itself b)) (outputs ys) k))
+    (All-weaker (IsPresentOutput MayAsk r a) (IsPresentOutput MayAsk r b) (λ o. output_later r r a b MayAsk o (omega arith) q) (outputs xs) h)
+    (All-weaker (IsPresentOutput MayAsk a b) (IsPresentOutput MayAsk r b) (λ o. output_later r a b b MayAsk o p.commit (same_itself b)) (outputs ys) k))
 
 module _ {F : Type 0} {MayAsk : ℕ → ℕ → Type 0} {o : Replica} where
   pub calm_then : (v w : Word F) → Calm MayAsk o v → Calm MayAsk o w → Calm MayAsk o (v ⨾ w)
@@ -181,8 +181,8 @@ module _ {F : Type 0} {MayAsk : ℕ → ℕ → Type 0} {o : Replica} where
   unfolding words.send_to_all
   calm_all message h =
       calm_says _ (λ r near. All-map (IsPresentOutput MayAsk r r) (λ to. words.send to (message r) r) (words.others r.index r.n)
-          (All-weaker (IsOther r.index r.n) (λ to. IsPresentOutput MayAsk r r (words.send to (message r) r)) (λ to t. record { from = refl; to = t.0; other = t.1; message = h r near to })
-              (words.others r.index r.n) (others_are r.index r.n)))
+      (All-weaker (IsOther r.index r.n) (λ to. IsPresentOutput MayAsk r r (words.send to (message r) r)) (λ to t. record { from = refl; to = t.0; other = t.1; message = h r near to })
+      (words.others r.index r.n) (others_are r.index r.n)))
 
 -- ---- a step that begins elsewhere, and goes on calmly
 

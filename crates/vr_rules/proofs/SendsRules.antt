@@ -1,17 +1,11 @@
 -- What each rule puts out carries present values.
-use Rattle.std.proofs.Common.{arith, ◌≡◌, ◌≢◌, ◌≤◌, ◌<◌, ◌+◌, ◌%◌, refl, sym, ap, ◌∙◌, ℕ, Bool, true, false, cond, not, List, [], ◌∷◌, Option, Some, None}
-use Rattle.std.specs.Prelude.{All, ◌&&◌, nat_lt, nat_le, nat_eq, is_some}
+use Rattle.std.proofs.Common.{arith, ◌≡◌, ◌<◌, refl, sym, ◌∙◌, ℕ, Bool, true, false, List, ◌∷◌, Option, Some, None}
+use Rattle.std.specs.Prelude.{nat_eq}
 use Rattle.std.specs.Option.{option_map_or}
-use Rattle.std.proofs.lemmas.Bool.{cond_both, and_parts, not-true, not-false, eqb-true, eqb-false, ltb-false, ltb-true, ne_eqb}
-use Rattle.std.proofs.lemmas.List.Elements.{All-nil}
+use Rattle.std.proofs.lemmas.Bool.{cond_both, and_parts, not-true, eqb-true, eqb-false, ltb-true, ne_eqb}
 use Rattle.vr_header.specs.declared.header.Header.{Header}
 use Rattle.vr_grid.specs.declared.name.Name.{Name}
-use Rattle.vr_msg.specs.declared.event.Event.{Event}
-use Rattle.vr_msg.specs.declared.event.Event.TheVariants as event
 use Rattle.vr_msg.specs.declared.frame.Commit.{Commit}
-use Rattle.vr_msg.specs.declared.frame.DoViewChange.{DoViewChange}
-use Rattle.vr_msg.specs.declared.frame.Frame.{Frame}
-use Rattle.vr_msg.specs.declared.frame.Frame.TheVariants as frame
 use Rattle.vr_msg.specs.declared.frame.GetBlock.{GetBlock}
 use Rattle.vr_msg.specs.declared.frame.GetPrepare.{GetPrepare}
 use Rattle.vr_msg.specs.declared.frame.GetView.{GetView}
@@ -19,22 +13,19 @@ use Rattle.vr_msg.specs.declared.frame.GiveBlock.{GiveBlock}
 use Rattle.vr_msg.specs.declared.frame.GivePrepare.{GivePrepare}
 use Rattle.vr_msg.specs.declared.frame.Prepare.{Prepare}
 use Rattle.vr_msg.specs.declared.frame.PrepareOk.{PrepareOk}
-use Rattle.vr_msg.specs.declared.frame.StartView.{StartView}
-use Rattle.vr_msg.specs.declared.frame.StartViewChange.{StartViewChange}
 use Rattle.vr_msg.specs.declared.request.RequestFields.{RequestFields}
 use Rattle.vr_msg.specs.Normal.{primary}
 use Rattle.vr_sess.specs.declared.session.SessionAnswer.{SessionAnswer}
 use Rattle.vr_sess.specs.declared.session.SessionAnswer.TheVariants as answer
-use Rattle.vr_rules.specs.Replica.{Replica, last_view, is_primary, is_frozen, forgetting}
-use Rattle.vr_rules.specs.Steps.{Setting, Step, Word, ◌⨾◌, quiet, change, does, says, by, naming, reading, outputs, after_all}
+use Rattle.vr_rules.specs.Replica.{Replica, is_primary}
+use Rattle.vr_rules.specs.Steps.{quiet, outputs}
 use Rattle.vr_rules.specs.Words as words
-use Rattle.vr_rules.specs.Deciding.{Rule, Table, Hash, Redirected, Behind, Answered, Full, Made, PreparedLater, Past, Beyond, Known, Next, Ahead, Other, Counted, CommitLater, CommitHeard, ChangeLater, ChangeHeard, ChangeDone, StatedLate, Stated, Taken, ViewGiven, EntryGiven, EntryTaken, BlockGiven, BlockTaken, TickedPrimary, TickedBackup, TickedChanging, is_from, is_from_primary, log_of, request_table, prepare_table, prepare_ok_table, commit_table, start_view_change_table, do_view_change_table, start_view_table, get_view_table, get_prepare_table, give_prepare_table, get_block_table, give_block_table, tick_table}
+use Rattle.vr_rules.specs.Deciding.{Rule, Table, Hash, Redirected, Behind, Answered, Full, Made, PreparedLater, Past, Beyond, Known, Next, Ahead, Other, Counted, CommitLater, CommitHeard, ViewGiven, EntryGiven, EntryTaken, BlockGiven, BlockTaken, is_from, is_from_primary}
 use Rattle.vr_rules.specs.Deciding.{first_of as first_row}
 use Rattle.vr_rules.specs.Rules as rules
-use Rattle.vr_rules.specs.Laws.{IsPlaced, IsPresent, IsPresentFrame, Answers, StepsArePresent}
 use Rattle.vr_rules.proofs.SendsPlaces.{IsOther}
-use Rattle.vr_rules.proofs.SendsCalm.{Same, Near, near_itself, Calm, calm_then, calm_quiet, calm_does, calm_by, calm_naming, calm_reading, calm_if, calm_when, calm_each, calm_send, calm_all, present_then, present_after, present_calm}
-use Rattle.vr_rules.proofs.SendsWords.{place, near_place, own, own_commit, primary_stays, calm_keeps, calm_primary, calm_save, calm_write, calm_accept, calm_entry, calm_replies, calm_apply, calm_advance, calm_learn, calm_prepare_again, calm_try, calm_speak, calm_resend, calm_ask, calm_load}
+use Rattle.vr_rules.proofs.SendsCalm.{Near, Calm, calm_then, calm_quiet, calm_does, calm_by, calm_when, calm_send, calm_all}
+use Rattle.vr_rules.proofs.SendsWords.{own, own_commit, calm_keeps, calm_primary, calm_write, calm_accept, calm_entry, calm_replies, calm_apply, calm_advance, calm_learn, calm_prepare_again, calm_resend, calm_ask, calm_load}
 
 -- ---- senders
 

@@ -1,5 +1,5 @@
 -- What scripts put out.
-use Rattle.std.proofs.Common.{◌≡◌, refl, sym, ap, ◌∙◌, ℕ, List, [], ◌∷◌, ◌++◌, map, append_assoc}
+use Rattle.std.proofs.Common.{◌≡◌, refl, sym, ap, ◌∙◌, List, [], ◌∷◌, ◌++◌, map, append_assoc}
 use Rattle.vr_msg.specs.declared.output.Output.{Output}
 use Rattle.vr_rules.specs.Steps.{Effect, Say, output_of, outputs}
 

@@ -1,7 +1,7 @@
 -- What each step puts out carries present values.
-use Rattle.std.proofs.Common.{arith, ◌≡◌, ◌≤◌, ◌<◌, ◌+◌, refl, sym, ap, ◌∙◌, ℕ, Bool, true, false, cond, not, List, [], ◌∷◌}
-use Rattle.std.specs.Prelude.{All, ◌&&◌, nat_lt, nat_le, nat_eq, is_some}
-use Rattle.std.proofs.lemmas.Bool.{cond_both, and_parts, not-true, not-false, ltb-false, ltb-true}
+use Rattle.std.proofs.Common.{arith, ◌≡◌, ◌≤◌, ◌<◌, ◌+◌, refl, ℕ, Bool, true, false, cond, not, List, [], ◌∷◌}
+use Rattle.std.specs.Prelude.{nat_lt, nat_le, nat_eq}
+use Rattle.std.proofs.lemmas.Bool.{cond_both, and_parts, not-false, ltb-false, ltb-true}
 use Rattle.std.proofs.lemmas.List.Elements.{All-nil}
 use Rattle.vr_msg.specs.declared.event.Event.{Event}
 use Rattle.vr_msg.specs.declared.event.Event.TheVariants as event
@@ -13,16 +13,16 @@ use Rattle.vr_msg.specs.declared.frame.Prepare.{Prepare}
 use Rattle.vr_msg.specs.declared.frame.StartView.{StartView}
 use Rattle.vr_msg.specs.declared.frame.StartViewChange.{StartViewChange}
 use Rattle.vr_msg.specs.Normal.{primary}
-use Rattle.vr_rules.specs.Replica.{Replica, last_view, is_primary, is_frozen, head, forgetting}
-use Rattle.vr_rules.specs.Steps.{Setting, Step, Word, ◌⨾◌, quiet, change, does, says, by, naming, reading, each, outputs, after_all}
+use Rattle.vr_rules.specs.Replica.{Replica, last_view, is_frozen, forgetting}
+use Rattle.vr_rules.specs.Steps.{Setting, Word, ◌⨾◌, quiet, change, does, says, by, naming, reading, outputs, after_all}
 use Rattle.vr_rules.specs.Words as words
-use Rattle.vr_rules.specs.Deciding.{Rule, Hash, Ignored, PreparedBefore, PreparedLater, ChangeBefore, ChangeLater, ChangeHeard, ChangeDone, StatedBefore, StatedLate, Stated, Taken, TickedPrimary, TickedBackup, TickedChanging, is_from, is_from_primary, log_of, request_table, prepare_table, prepare_ok_table, commit_table, start_view_change_table, do_view_change_table, start_view_table, get_view_table, get_prepare_table, give_prepare_table, get_block_table, give_block_table, tick_table}
+use Rattle.vr_rules.specs.Deciding.{Rule, Hash, Ignored, PreparedBefore, PreparedLater, ChangeBefore, ChangeLater, ChangeHeard, ChangeDone, StatedLate, Stated, Taken, TickedPrimary, TickedBackup, TickedChanging, is_from, is_from_primary, log_of}
 use Rattle.vr_rules.specs.Deciding.{first_of as first_row}
 use Rattle.vr_rules.specs.Rules as rules
 use Rattle.vr_rules.specs.Laws.{IsPlaced, IsPresent, Answers, StepsArePresent}
 use Rattle.vr_rules.proofs.SendsPlaces.{IsOther}
-use Rattle.vr_rules.proofs.SendsCalm.{Same, Near, near_itself, Calm, calm_then, calm_quiet, calm_by, calm_all, calm_each, calm_if, present_then, present_after, present_calm}
-use Rattle.vr_rules.proofs.SendsWords.{near_place, own, own_commit, calm_keeps, calm_save, calm_apply, calm_try, calm_speak, calm_ask}
+use Rattle.vr_rules.proofs.SendsCalm.{Near, Calm, calm_then, calm_quiet, calm_by, calm_all, calm_each, present_then, present_after, present_calm}
+use Rattle.vr_rules.proofs.SendsWords.{near_place, own, calm_keeps, calm_save, calm_apply, calm_try, calm_speak, calm_ask}
 use Rattle.vr_rules.proofs.SendsRules.{from_is, not_primary, row, calm_ask_view, calm_tell, calm_request, calm_prepare, calm_prepare_ok, calm_commit, calm_acknowledge_stored, calm_get_view, calm_get_prepare, calm_give_prepare, calm_get_block, calm_give_block, calm_primary_ticks}
 
 module _ {F : Type 0} (MayAsk : ℕ → ℕ → Type 0) (s : Setting F) (r : Replica) (f : F) (p : IsPlaced r) where
@@ -38,8 +38,8 @@ module _ {F : Type 0} (MayAsk : ℕ → ℕ → Type 0) (s : Setting F) (r : Rep
   unfolding words.enter
   enters v l =
       cond_both (nat_lt last_view v) (change words.rested) (change (words.entered v) ⨾ words.save ⨾ says (words.send_to_all words.start_view_change)) (λ (w : Word F). IsPresent MayAsk r (w s r f))
-          (λ _. calmly _ (calm_keeps _ (λ r. refl)))
-          (λ _. present_then MayAsk s r f _ _ (entering v l) (calm_then _ _ calm_save (calm_all _ (λ r near to. (own r, refl)))))
+      (λ _. calmly _ (calm_keeps _ (λ r. refl)))
+      (λ _. present_then MayAsk s r f _ _ (entering v l) (calm_then _ _ calm_save (calm_all _ (λ r near to. (own r, refl)))))
 
   -- the log of a view is taken over
   taking : (l : words.Log) → IsPresent MayAsk r (change (words.taken l) s r f)
@@ -63,8 +63,8 @@ module _ {F : Type 0} (MayAsk : ℕ → ℕ → Type 0) (s : Setting F) (r : Rep
   unfolding by
   may_enter v =
       cond_both (nat_lt r.view v) (words.enter v) quiet (λ (w : Word F). IsPresent MayAsk r (w s r f))
-          (λ e. let below : r.view < v = ltb-true r.view v e in let views : r.log_view ≤ r.view = p.views in enters v (omega (arith, below, views)))
-          (λ _. calmly _ calm_quiet)
+      (λ e. let below : r.view < v = ltb-true r.view v e in let views : r.log_view ≤ r.view = p.views in enters v (omega (arith, below, views)))
+      (λ _. calmly _ calm_quiet)
 
   hears_statement : (d : DoViewChange) (rule : Rule) → IsOther r.index r.n d.replica → IsPresent MayAsk r (rules.obey_do_view_change d rule s r f)
   hears_statement d StatedLate h = calmly _ (calm_tell _ h)
@@ -96,8 +96,8 @@ module _ {F : Type 0} (MayAsk : ℕ → ℕ → Type 0) (s : Setting F) (r : Rep
   unfolding by
   changing_goes_on =
       cond_both (nat_le 10 r.idle) rules.next_view (says (words.send_to_all words.start_view_change) ⨾ words.speak ⨾ words.ask) (λ (w : Word F). IsPresent MayAsk r (w s r f))
-          (λ _. next_view)
-          (λ _. calmly _ (calm_then _ _ (calm_all _ (λ r near to. (own r, refl))) (calm_then _ _ calm_speak calm_ask)))
+      (λ _. next_view)
+      (λ _. calmly _ (calm_then _ _ (calm_all _ (λ r near to. (own r, refl))) (calm_then _ _ calm_speak calm_ask)))
 
 module _ {F : Type 0} (MayAsk : ℕ → ℕ → Type 0) (s : Setting F) (r : Replica) (f : F) (p : IsPlaced r) where
   idler_near : Near r (rules.idler r)
@@ -118,8 +118,8 @@ module _ {F : Type 0} (s : Setting F) (r : Replica) (f : F) (h : IsPlaced r) whe
       → IsPresent MayAsk r (obey (first_row ((not (is_from cluster sender r), Ignored) ∷ rows)) s r f)
   from_other MayAsk cluster sender obey rows e k =
       row (not (is_from cluster sender r)) Ignored rows (λ rule. IsPresent MayAsk r (obey rule s r f))
-          (λ _. rw e (calmly MayAsk s r f h quiet calm_quiet))
-          (λ b. k (from_is cluster sender r (not-false _ b)))
+      (λ _. rw e (calmly MayAsk s r f h quiet calm_quiet))
+      (λ b. k (from_is cluster sender r (not-false _ b)))
 
   present_prepare : (p : Prepare) → IsPresent (Answers (event.Deliver (frame.Prepare p))) r (rules.on_prepare p s r f)
   unfolding rules.on_prepare naming by
@@ -127,33 +127,33 @@ module _ {F : Type 0} (s : Setting F) (r : Replica) (f : F) (h : IsPlaced r) whe
       let a = Answers (event.Deliver (frame.Prepare p)) in
       let obey : Rule → Word F = rules.obey_prepare s.hash p in
       row _ Ignored _ (λ rule. IsPresent a r (obey rule s r f)) (λ _. calmly a s r f h _ calm_quiet) (λ b.
-          let from : is_from_primary p.entry.header.cluster p.replica p.view r ≡ true = not-false _ b in
-          let other = from_is p.entry.header.cluster p.replica r (and_parts _ _ from).0 in
-          row (nat_lt p.view r.view) PreparedBefore _ (λ rule. IsPresent a r (obey rule s r f)) (λ _. calmly a s r f h _ calm_quiet) (λ c.
-              let least : r.view ≤ p.view = ltb-false p.view r.view c in
-              row (nat_lt r.log_view p.view) PreparedLater _ (λ rule. IsPresent a r (obey rule s r f)) (λ _. calmly a s r f h _ (calm_ask_view p.view p.replica other (refl, refl))) (λ d.
-                  let most : p.view ≤ r.log_view = ltb-false r.log_view p.view d in
-                  let views : r.log_view ≤ r.view = h.views in
-                  let same : p.view ≡ r.view = omega (arith, least, most, views) in
-                  let backup : nat_eq r.index (primary r.n p.view) ≡ false = not_primary p.entry.header.cluster p.replica p.view r from in
-                  calmly a s r f h _ (calm_prepare s.hash p _ other (refl, refl) (rw same at backup)))))
+      let from : is_from_primary p.entry.header.cluster p.replica p.view r ≡ true = not-false _ b in
+      let other = from_is p.entry.header.cluster p.replica r (and_parts _ _ from).0 in
+      row (nat_lt p.view r.view) PreparedBefore _ (λ rule. IsPresent a r (obey rule s r f)) (λ _. calmly a s r f h _ calm_quiet) (λ c.
+      let least : r.view ≤ p.view = ltb-false p.view r.view c in
+      row (nat_lt r.log_view p.view) PreparedLater _ (λ rule. IsPresent a r (obey rule s r f)) (λ _. calmly a s r f h _ (calm_ask_view p.view p.replica other (refl, refl))) (λ d.
+      let most : p.view ≤ r.log_view = ltb-false r.log_view p.view d in
+      let views : r.log_view ≤ r.view = h.views in
+      let same : p.view ≡ r.view = omega (arith, least, most, views) in
+      let backup : nat_eq r.index (primary r.n p.view) ≡ false = not_primary p.entry.header.cluster p.replica p.view r from in
+      calmly a s r f h _ (calm_prepare s.hash p _ other (refl, refl) (rw same at backup)))))
 
   present_commit : (c : Commit) → IsPresent (Answers (event.Deliver (frame.Commit c))) r (rules.on_commit c s r f)
   unfolding rules.on_commit by
   present_commit c =
       let a = Answers (event.Deliver (frame.Commit c)) in
       row _ Ignored _ (λ rule. IsPresent a r (rules.obey_commit {F = F} c rule s r f)) (λ _. calmly a s r f h _ calm_quiet) (λ b.
-          let from : is_from_primary c.cluster c.replica c.view r ≡ true = not-false _ b in
-          calmly a s r f h _ (calm_commit c _ (from_is c.cluster c.replica r (and_parts _ _ from).0) (refl, refl)))
+      let from : is_from_primary c.cluster c.replica c.view r ≡ true = not-false _ b in
+      calmly a s r f h _ (calm_commit c _ (from_is c.cluster c.replica r (and_parts _ _ from).0) (refl, refl)))
 
   present_change : (MayAsk : ℕ → ℕ → Type 0) (c : StartViewChange) → IsPresent MayAsk r (rules.on_start_view_change c s r f)
   unfolding rules.on_start_view_change by
   present_change a c =
       from_other a c.cluster c.replica (rules.obey_start_view_change c) _ refl (λ other.
-          row (nat_lt c.view r.view) ChangeBefore _ (λ rule. IsPresent a r (rules.obey_start_view_change {F = F} c rule s r f)) (λ _. calmly a s r f h _ calm_quiet) (λ b.
-              let least : r.view ≤ c.view = ltb-false c.view r.view b in
-              let views : r.log_view ≤ r.view = h.views in
-              hears_change a s r f h c _ other (omega (arith, least, views))))
+      row (nat_lt c.view r.view) ChangeBefore _ (λ rule. IsPresent a r (rules.obey_start_view_change {F = F} c rule s r f)) (λ _. calmly a s r f h _ calm_quiet) (λ b.
+      let least : r.view ≤ c.view = ltb-false c.view r.view b in
+      let views : r.log_view ≤ r.view = h.views in
+      hears_change a s r f h c _ other (omega (arith, least, views))))
 
   present_statement : (MayAsk : ℕ → ℕ → Type 0) (d : DoViewChange) → IsPresent MayAsk r (rules.on_do_view_change d s r f)
   unfolding rules.on_do_view_change by
@@ -163,7 +163,7 @@ module _ {F : Type 0} (s : Setting F) (r : Replica) (f : F) (h : IsPlaced r) whe
   unfolding rules.on_start_view naming by
   present_view a v =
       row _ Ignored _ (λ rule. IsPresent a r (rules.obey_start_view {F = F} s.hash v rule s r f)) (λ _. calmly a s r f h _ calm_quiet) (λ b.
-          takes_view a s r f h s.hash v _ (not_primary v.cluster v.replica v.view r (not-false _ b)))
+      takes_view a s r f h s.hash v _ (not_primary v.cluster v.replica v.view r (not-false _ b)))
 
   present_message : (m : Frame) → IsPresent (Answers (event.Deliver m)) r (rules.on_message m s r f)
   unfolding rules.on_request rules.on_prepare_ok rules.on_get_view rules.on_get_prepare rules.on_give_prepare rules.on_get_block rules.on_give_block naming by reading

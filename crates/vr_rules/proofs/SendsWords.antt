@@ -1,6 +1,6 @@
 -- The words that are calm: all but those that enter a view.
-use Rattle.std.proofs.Common.{arith, ◌≡◌, ◌≢◌, ◌≤◌, ◌<◌, ◌+◌, ◌%◌, refl, sym, ap, ◌∙◌, ℕ, zero, suc, Bool, true, false, cond, not, List, [], ◌∷◌, Option, Some, None}
-use Rattle.std.specs.Prelude.{All, ◌&&◌}
+use Rattle.std.proofs.Common.{arith, ◌≡◌, ◌≤◌, ◌<◌, ◌+◌, ◌%◌, refl, sym, ap, ◌∙◌, ℕ, false, List, [], ◌∷◌, Option, Some, None}
+use Rattle.std.specs.Prelude.{All}
 use Rattle.std.proofs.lemmas.Bool.{cond_both, eqb-false}
 use Rattle.std.proofs.lemmas.Nat.{mod_below}
 use Rattle.std.proofs.lemmas.List.Elements.{All-nil, All-cons}
@@ -17,18 +17,17 @@ use Rattle.vr_apply.specs.Texts.{state_decoded}
 use Rattle.vr_table.specs.declared.fault.StateFault.{StateFault}
 use Rattle.std.proofs.Common.{Result, Ok, Err}
 use Rattle.vr_msg.specs.declared.frame.Frame.{Frame}
-use Rattle.vr_msg.specs.declared.output.Output.{Output}
 use Rattle.vr_msg.specs.declared.reply.ReplyKind.{ReplyKind}
 use Rattle.vr_msg.specs.declared.statement.Statement.{Statement}
 use Rattle.vr_msg.specs.declared.choice.Choice.{Choice}
 use Rattle.vr_msg.specs.declared.choice.Choice.TheVariants.{Ends, WaitsAt, TooFew}
 use Rattle.vr_msg.specs.Normal.{primary}
 use Rattle.vr_rules.specs.Replica.{Replica, leads, is_primary, statement_of, forgetting, with_part}
-use Rattle.vr_rules.specs.Steps.{Effect, Setting, Word, ◌⨾◌, quiet, change, does, says, by, naming, reading, times, each, outputs}
+use Rattle.vr_rules.specs.Steps.{Word, change, says, outputs}
 use Rattle.vr_rules.specs.Words as words
 use Rattle.vr_rules.specs.Laws.{IsPlaced, IsBy, IsCommitOf, IsPresentFrame, IsPresentOutput}
 use Rattle.vr_rules.proofs.SendsPlaces.{IsOther, peer_is, turn_is}
-use Rattle.vr_rules.proofs.SendsCalm.{Same, same_itself, Near, Calm, calm_then, calm_quiet, calm_change, calm_does, calm_says, calm_by, calm_naming, calm_reading, calm_if, calm_when, calm_times, calm_each, calm_one, calm_send, calm_all}
+use Rattle.vr_rules.proofs.SendsCalm.{Near, Calm, calm_then, calm_quiet, calm_change, calm_does, calm_says, calm_by, calm_naming, calm_reading, calm_if, calm_when, calm_times, calm_each, calm_one, calm_send, calm_all}
 
 -- what a change of other fields keeps
 pub record Place : Type 0 where
@@ -133,7 +132,7 @@ module _ {F : Type 0} {MayAsk : ℕ → ℕ → Type 0} {o : Replica} where
   calm_reply : (e : Whole) → Calm {F = F} MayAsk o (says (words.applied_reply e))
   calm_reply e =
       calm_says _ (λ r near. cond_both (leads r) (words.replies (words.asker_of e) (words.kind_of _) r) [] (λ os. All (IsPresentOutput MayAsk r r) os)
-          (λ _. All-cons (IsPresentOutput MayAsk r r) _ [] (own r, refl) (All-nil (IsPresentOutput MayAsk r r))) (λ _. All-nil (IsPresentOutput MayAsk r r)))
+      (λ _. All-cons (IsPresentOutput MayAsk r r) _ [] (own r, refl) (All-nil (IsPresentOutput MayAsk r r))) (λ _. All-nil (IsPresentOutput MayAsk r r)))
 
   calm_checkpoint : Calm {F = F} MayAsk o words.make_checkpoint
   unfolding words.make_checkpoint words.with_checkpoint outputs
@@ -161,14 +160,14 @@ module _ {F : Type 0} {MayAsk : ℕ → ℕ → Type 0} {o : Replica} where
   unfolding words.take words.taken forgetting
   calm_take l e =
       calm_then _ _
-          (calm_change _ (λ r near.
-            let member : r.index < r.n = near.placed.member in
-            let peer : r.turn + 1 < r.n = near.placed.peer in
-            record {
-              same = record { cluster = refl; index = refl; n = refl; view = e ∙ sym near.same.view; commit = omega arith };
-              placed = record { member = member; views = omega arith; peer = peer };
-            }))
-          calm_save
+      (calm_change _ (λ r near.
+      let member : r.index < r.n = near.placed.member in
+      let peer : r.turn + 1 < r.n = near.placed.peer in
+      record {
+        same = record { cluster = refl; index = refl; n = refl; view = e ∙ sym near.same.view; commit = omega arith };
+        placed = record { member = member; views = omega arith; peer = peer };
+      }))
+      calm_save
 
   pub calm_prepare_again : (op : ℕ) → Calm {F = F} MayAsk o (words.prepare_again op)
   unfolding words.prepare_again
@@ -178,9 +177,9 @@ module _ {F : Type 0} {MayAsk : ℕ → ℕ → Type 0} {o : Replica} where
   unfolding words.begin_view
   calm_begin ss l e =
       calm_then _ _ (calm_one _ (λ r near. (refl, refl)))
-          (calm_then _ _ (calm_take l e)
-            (calm_then _ _ (calm_all _ (λ r near to. (own r, refl, own_commit r)))
-              (calm_then _ _ (calm_by _ (λ r near. calm_each _ _ calm_prepare_again)) calm_apply)))
+      (calm_then _ _ (calm_take l e)
+      (calm_then _ _ (calm_all _ (λ r near to. (own r, refl, own_commit r)))
+      (calm_then _ _ (calm_by _ (λ r near. calm_each _ _ calm_prepare_again)) calm_apply)))
 
   calm_waits : (op : ℕ) → Calm {F = F} MayAsk o (says (words.wait_line op))
   calm_waits op = calm_one _ (λ r near. (refl, refl))
@@ -208,17 +207,17 @@ module _ {F : Type 0} {MayAsk : ℕ → ℕ → Type 0} {o : Replica} where
   unfolding words.resend
   calm_resend e =
       calm_naming _ (λ hash. calm_by _ (λ r near. calm_when _ _ (calm_if _ _ _
-          (λ _. calm_all _ (λ r near to. (refl, refl, own_commit r)))
-          (λ q. calm_primary _ (sym (primary_stays o r near) ∙ q) (λ r near. (own r, refl))))))
+      (λ _. calm_all _ (λ r near to. (refl, refl, own_commit r)))
+      (λ q. calm_primary _ (sym (primary_stays o r near) ∙ q) (λ r near. (own r, refl))))))
 
   calm_ask_peer : (message : Replica → Frame) → ((r : Replica) (to : ℕ) → IsPresentFrame (MayAsk to) r r (message r)) → Calm {F = F} MayAsk o (words.ask_peer message)
   unfolding words.ask_peer
   calm_ask_peer message h =
       calm_then _ _ (calm_send words.peer message (λ r near. peer_is r.index r.n r.turn near.placed.member near.placed.peer) (λ r near. h r _))
-          (calm_change _ (λ r near. record {
-            same = record { cluster = refl; index = refl; n = refl; view = refl; commit = omega arith };
-            placed = record { member = near.placed.member; views = near.placed.views; peer = turn_is r.n r.turn near.placed.peer };
-          }))
+      (calm_change _ (λ r near. record {
+        same = record { cluster = refl; index = refl; n = refl; view = refl; commit = omega arith };
+        placed = record { member = near.placed.member; views = near.placed.views; peer = turn_is r.n r.turn near.placed.peer };
+      }))
 
   calm_ask_for : (names : List Name) (absent : Option Header) → Calm {F = F} MayAsk o (words.ask_for names absent)
   calm_ask_for (name ∷ names) absent = calm_ask_peer _ (λ r to. own r)

@@ -58,8 +58,8 @@ module _ {F : Type 0} where
   unfolding react rule_for by quiet
   nothing_is_done s f r e h =
       elim (is_frozen r) as (λ b. SaysNothing (cond b Ignored (event_rule s f r e)) → (cond (not b) (on_event e) quiet) s r f ≡ record { replica = r; script = [] }) [
-        true ↦ λ _. refl
-      | false ↦ λ k. silent_event e s r f k
+        | true ↦ λ _. refl
+        | false ↦ λ k. silent_event e s r f k
       ] h
 
 -- ---- the two rules that only end the idle time are a prepare's
@@ -84,12 +84,11 @@ unfolding first_row one_hears
 none_hears [] e h = h
 none_hears (row ∷ rows) e h =
     elim (row.0) as (λ b. OnlyHears (cond b row.1 (first_row rows)) → ⊥) [
-      true ↦ λ k. let t = it_hears row.1 k in absurd (grind (arith, t, e))
-    | false ↦ λ k. none_hears rows (grind (arith, e)) k
+      | true ↦ λ k. let t = it_hears row.1 k in absurd (grind (arith, t, e))
+      | false ↦ λ k. none_hears rows (grind (arith, e)) k
     ] h
 
 module _ {F : Type 0} where
-
   prepare_hears : (hash : Hash) (p : Prepare) (rule : Rule) → OnlyHears rule → obey_prepare {F = F} hash p rule ≡ change rested
   prepare_hears hash p Beyond h = refl
   prepare_hears hash p Other h = refl
@@ -121,6 +120,6 @@ module _ {F : Type 0} where
   unfolding react rule_for by quiet
   only_hearing_is_done s f r e h =
       elim (is_frozen r) as (λ b. OnlyHears (cond b Ignored (event_rule s f r e)) → (cond (not b) (on_event e) quiet) s r f ≡ record { replica = rested r; script = [] }) [
-        true ↦ λ k. absurd k
-      | false ↦ λ k. hears_event e s r f k
+        | true ↦ λ k. absurd k
+        | false ↦ λ k. hears_event e s r f k
       ] h

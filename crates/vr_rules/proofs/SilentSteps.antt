@@ -1,6 +1,6 @@
 -- Each rule says no wait, or it changes no Part.
-use Rattle.std.proofs.Common.{◌≡◌, ◌⊎◌, inl, inr, refl, sym, ap, ◌∙◌, ℕ, Bool, true, false, cond, not, List, [], ◌∷◌, ◌++◌, Option, Some, None}
-use Rattle.std.specs.Prelude.{All, Contains, nat_lt, nat_le}
+use Rattle.std.proofs.Common.{◌≡◌, ◌⊎◌, inl, inr, refl, ◌∙◌, ℕ, Bool, true, false, cond, List, [], ◌∷◌, Option, Some, None}
+use Rattle.std.specs.Prelude.{All}
 use Rattle.std.specs.Option.{option_map_or}
 use Rattle.std.proofs.lemmas.List.Elements.{All-append, All-contains}
 use Rattle.vr_header.specs.declared.header.Header.{Header}
@@ -23,20 +23,19 @@ use Rattle.vr_msg.specs.declared.frame.StartViewChange.{StartViewChange}
 use Rattle.vr_msg.specs.declared.request.RequestFields.{RequestFields}
 use Rattle.vr_msg.specs.declared.output.Output.{Output}
 use Rattle.vr_msg.specs.declared.output.Output.TheVariants as output
-use Rattle.vr_msg.specs.declared.output.Waiting.{Waiting}
 use Rattle.vr_msg.specs.declared.statement.Statement.{Statement}
 use Rattle.vr_msg.specs.declared.choice.Choice.{Choice}
 use Rattle.vr_msg.specs.declared.choice.Choice.TheVariants.{Ends, WaitsAt, TooFew}
 use Rattle.vr_sess.specs.declared.session.SessionAnswer.{SessionAnswer}
 use Rattle.vr_sess.specs.declared.session.SessionAnswer.TheVariants as answer
 use Rattle.vr_rules.specs.Replica.{Replica}
-use Rattle.vr_rules.specs.Steps.{Effect, Setting, Step, Word, ◌⨾◌, quiet, change, does, says, by, naming, reading, outputs, after_all}
+use Rattle.vr_rules.specs.Steps.{Effect, Setting, Step, Word, ◌⨾◌, quiet, change, does, says, by, naming, outputs, after_all}
 use Rattle.vr_rules.specs.Words as words
 use Rattle.vr_rules.specs.Deciding.{Rule, Hash, Redirected, Behind, Answered, Full, Made, PreparedLater, Past, Beyond, Known, Next, Ahead, Other, Counted, CommitLater, CommitHeard, ChangeLater, ChangeHeard, ChangeDone, StatedLate, Stated, Taken, ViewGiven, EntryGiven, EntryTaken, BlockGiven, BlockTaken, TickedPrimary, TickedBackup, TickedChanging}
 use Rattle.vr_rules.specs.Rules as rules
-use Rattle.vr_rules.specs.Laws.{HasWaited, WaitsChangeNoPart}
+use Rattle.vr_rules.specs.Laws.{WaitsChangeNoPart}
 use Rattle.vr_rules.proofs.SendsScripts.{outputs_append}
-use Rattle.vr_rules.proofs.SilentWaits.{IsNoWait, Mute, mute_then, mute_quiet, mute_change, mute_does, mute_says, mute_by, mute_naming, mute_reading, mute_if, mute_each, mute_one, mute_all, mute_save, mute_write, mute_entry, mute_apply, mute_take, mute_prepare_again, mute_begin, mute_advance, mute_learn, mute_accept, mute_resend, mute_load}
+use Rattle.vr_rules.proofs.SilentWaits.{IsNoWait, Mute, mute_then, mute_quiet, mute_change, mute_does, mute_by, mute_naming, mute_reading, mute_if, mute_each, mute_one, mute_all, mute_write, mute_entry, mute_apply, mute_take, mute_prepare_again, mute_begin, mute_advance, mute_learn, mute_accept, mute_resend, mute_load}
 
 record IsStill (r : Replica) (x : Step) : Type 0 where
   first : x.replica.first ≡ r.first
@@ -134,8 +133,8 @@ module _ {F : Type 0} where
         let b = w s a.replica g in
         let p = h.still s r f in
         elim (k.each s a.replica g) [
-          inl m ↦ inl (rw (outputs_append a.script b.script) (All-append IsNoWait (outputs a.script) (outputs b.script) (h.mute.said s r f) m))
-        | inr q ↦ inr (record { first = q.first ∙ p.first; parts = q.parts ∙ p.parts })
+          | inl m ↦ inl (rw (outputs_append a.script b.script) (All-append IsNoWait (outputs a.script) (outputs b.script) (h.mute.said s r f) m))
+          | inr q ↦ inr (record { first = q.first ∙ p.first; parts = q.parts ∙ p.parts })
         ];
   }
 
@@ -148,8 +147,8 @@ module _ {F : Type 0} where
         let b = w s a.replica g in
         let q = k.still s a.replica g in
         elim (h.each s r f) [
-          inl m ↦ inl (rw (outputs_append a.script b.script) (All-append IsNoWait (outputs a.script) (outputs b.script) m (k.mute.said s a.replica g)))
-        | inr p ↦ inr (record { first = q.first ∙ p.first; parts = q.parts ∙ p.parts })
+          | inl m ↦ inl (rw (outputs_append a.script b.script) (All-append IsNoWait (outputs a.script) (outputs b.script) m (k.mute.said s a.replica g)))
+          | inr p ↦ inr (record { first = q.first ∙ p.first; parts = q.parts ∙ p.parts })
         ];
   }
 
@@ -277,7 +276,7 @@ module _ {F : Type 0} where
   steady_tick TickedBackup = steady_still _ (still_then _ _ (still_change _ (λ r. refl) (λ r. refl)) (still_by _ (λ r. still_if _ _ _ (still_by _ (λ r. still_enter _)) still_ask)))
   steady_tick TickedChanging =
       steady_after _ _ (still_change _ (λ r. refl) (λ r. refl)) (steady_by _ (λ r. steady_if _ _ _ (steady_still _ (still_by _ (λ r. still_enter _)))
-          (steady_after _ _ (still_says _ (mute_all _)) (steady_before _ _ steady_speak still_ask))))
+      (steady_after _ _ (still_says _ (mute_all _)) (steady_before _ _ steady_speak still_ask))))
   steady_tick _ = steady_still _ still_quiet
 
   -- ---- all events
@@ -311,6 +310,6 @@ module _ {F : Type 0} where
   pub waits_change_no_part : WaitsChangeNoPart F
   waits_change_no_part s f r e w =
       elim ((steady_react e).each s r f) [
-        inl m ↦ absurd (All-contains IsNoWait (outputs (rules.react e s r f).script) (output.Wait w.line) m w.is)
-      | inr q ↦ (q.first, q.parts)
+        | inl m ↦ absurd (All-contains IsNoWait (outputs (rules.react e s r f).script) (output.Wait w.line) m w.is)
+        | inr q ↦ (q.first, q.parts)
       ]

@@ -1,22 +1,18 @@
 -- A step that waits changes no Part: most words say no wait, and what the others do beside it changes no Part.
-use Rattle.std.proofs.Common.{◌≡◌, refl, sym, ap, ◌∙◌, ℕ, zero, suc, Bool, true, false, cond, not, List, [], ◌∷◌, ◌++◌, map, filter, Option, Some, None, inl, inr}
-use Rattle.std.specs.Prelude.{All, Contains, nat_lt, nat_le, is_some, ⊤}
+use Rattle.std.proofs.Common.{◌≡◌, refl, ℕ, zero, suc, Bool, true, false, cond, List, [], ◌∷◌, Option, Some, None}
+use Rattle.std.specs.Prelude.{All, ⊤}
 use Rattle.std.proofs.lemmas.Bool.{cond_both}
-use Rattle.std.proofs.lemmas.List.Elements.{All-nil, All-cons, All-append, All-map, All-contains, All-from_recursion}
-use Rattle.vr_base.specs.declared.sum.Sum.{Sum}
+use Rattle.std.proofs.lemmas.List.Elements.{All-nil, All-cons, All-append, All-map}
 use Rattle.vr_header.specs.declared.header.Header.{Header}
 use Rattle.vr_header.specs.declared.part.Part.{Part}
 use Rattle.vr_header.specs.declared.part.Part.TheVariants.{Here, Lost, Wanted, Unknown, Nothing}
 use Rattle.vr_header.specs.Made.{Whole}
-use Rattle.vr_grid.specs.declared.name.Name.{Name}
 use Rattle.vr_msg.specs.declared.frame.Frame.{Frame}
 use Rattle.vr_msg.specs.declared.output.Output.{Output}
 use Rattle.vr_msg.specs.declared.output.Output.TheVariants as output
 use Rattle.vr_msg.specs.declared.statement.Statement.{Statement}
-use Rattle.vr_msg.specs.declared.choice.Choice.{Choice}
-use Rattle.vr_msg.specs.declared.choice.Choice.TheVariants.{Ends, WaitsAt, TooFew}
-use Rattle.vr_rules.specs.Replica.{Replica, last_view, leads}
-use Rattle.vr_rules.specs.Steps.{Effect, Setting, Step, Word, ◌⨾◌, quiet, change, does, says, by, naming, reading, times, each, outputs, after_all}
+use Rattle.vr_rules.specs.Replica.{Replica, leads}
+use Rattle.vr_rules.specs.Steps.{Effect, Setting, Word, ◌⨾◌, quiet, change, does, says, by, naming, reading, times, each, outputs, after_all}
 use Rattle.vr_rules.specs.Words as words
 use Rattle.vr_rules.proofs.SendsScripts.{outputs_append, outputs_said}
 

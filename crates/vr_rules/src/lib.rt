@@ -3,4 +3,7 @@
 
 mod sending;
 
-pub use sending::{nothing_is_done, only_hearing_is_done, waits_change_no_part};
+pub use sending::{
+    nothing_is_done, only_hearing_is_done, openings_are_present, steps_are_present,
+    waits_change_no_part,
+};

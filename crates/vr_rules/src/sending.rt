@@ -1,6 +1,6 @@
 // What every step and every opening puts out and saves. Each function is a law: its contract is the statement, and it does nothing.
 
-ghost use Rattle.vr_rules.specs.Laws.{NothingIsDone, OnlyHearingIsDone, WaitsChangeNoPart};
+ghost use Rattle.vr_rules.specs.Laws.{NothingIsDone, OnlyHearingIsDone, OpeningsArePresent, StepsArePresent, WaitsChangeNoPart};
 
 /// A rule that says nothing leaves the replica as it is, and its step has no effects.
 pub fn nothing_is_done<F>()
@@ -15,4 +15,15 @@ pub fn only_hearing_is_done<F>()
 /// A step that puts out that the choice waits changes nothing of what is known of the ops.
 pub fn waits_change_no_part<F>()
     ensures { WaitsChangeNoPart F }
+{}
+
+/// Messages, replies and lines of a step name its replica and are of the replica's view at the end, go to another replica of its
+/// group, and carry a commit number that it had during the step. A view is asked for of the sender of a message of that view.
+pub fn steps_are_present<F>()
+    ensures { StepsArePresent F }
+{}
+
+/// So are those of an opening, from any value that makes a good copy.
+pub fn openings_are_present<F>()
+    ensures { OpeningsArePresent F }
 {}
