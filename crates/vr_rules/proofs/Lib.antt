@@ -8,3 +8,14 @@ pub mod SendsSteps
 pub mod SendsOpening
 pub mod SilentWaits
 pub mod SilentSteps
+pub mod Heads
+pub mod Keeping
+pub mod Combining
+pub mod Storing
+pub mod Wording
+pub mod Taking
+pub mod Stating
+pub mod Trying
+pub mod Ruling
+pub mod SavesCore
+pub mod Reacting
