@@ -19,3 +19,5 @@ pub mod Trying
 pub mod Ruling
 pub mod SavesCore
 pub mod Reacting
+pub mod Slots
+pub mod Openings

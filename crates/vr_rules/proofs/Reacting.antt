@@ -1,5 +1,5 @@
 -- A step keeps a sound replica sound: requests, blocks, ticks, and each event.
-use Rattle.std.proofs.Common.{ℕ, ◌+◌, ◌-◌, ◌*◌, ◌≤◌, ◌<◌, ◌≡◌, ◌≢◌, ◌∙◌, ◌^◌, inl, inr, zero, suc, arith, refl, sym, ap, subst, Bool, true, false, not, cond, List, [], ◌∷◌, length, Option, Some, None, rules}
+use Rattle.std.proofs.Common.{ℕ, ◌+◌, ◌-◌, ◌*◌, ◌≤◌, ◌<◌, ◌≡◌, ◌≢◌, ◌∙◌, ◌^◌, inl, inr, zero, suc, arith, refl, sym, ap, subst, Bool, true, false, not, cond, List, [], ◌∷◌, ◌++◌, length, Option, Some, None, rules}
 use Rattle.std.specs.Prelude.{find, filter, is_some, nat_lt, nat_le, ◌&&◌, ◌||◌, ◌==◌}
 use Rattle.std.proofs.lemmas.Bool.{and_parts, or_parts, not-false, not-true, ltb-true, ltb-false, leb-true, leb-false, eqb-true}
 use Rattle.std.proofs.lemmas.List.{nil_from_length, length-append}
@@ -93,3 +93,159 @@ may_store_next hash q r names h m g v w a b c =
         made = omega arith;
       };
     }
+
+keeps_stored_reply : {F : Type 0} (a : Asker) (x : SessionAnswer) → Keeps {F = F} (stored_reply a x)
+keeps_stored_reply a answer.Fresh = keeps_quiet
+keeps_stored_reply a (answer.Repeat outcome op) = keeps_says _
+keeps_stored_reply a answer.Old = keeps_says _
+keeps_stored_reply a answer.Gap = keeps_says _
+keeps_stored_reply a answer.Evicted = keeps_says _
+
+kept_make : {F : Type 0} (e : Whole) (s : Setting F) (r : Replica) (f : F) → IsSound r → MayStore e r → KeptBy (make e) s r f
+unfolding make
+kept_make e s r f h m = kept_then (write e) _ s r f (kept_write e s r f h m) (keeps_then _ _ (keeps_says _) keeps_advance)
+
+kept_request : {F : Type 0} (q : RequestFields) (s : Setting F) (r : Replica) (f : F) → HasNames s → IsSound r → IsMessage (frame.Request q) → r.view ≤ last_view
+    → KeptBy (on_request q) s r f
+unfolding on_request
+kept_request q s r f names h m last =
+    let idle = (keeps_quiet).every s r f h in
+    kept_naming _ s r f (kept_by _ s r f (by_rows (λ x. KeptBy (obey_request s.hash q x) s r f) (request_table q r) (
+      λ t. idle,
+      λ n0. (
+        λ t. (keeps_says _).every s r f h,
+        λ n1. (
+          λ t. (keeps_says _).every s r f h,
+          λ n2. (
+            λ t. idle,
+            λ n3. (
+              λ t. kept_by _ s r f ((keeps_stored_reply (asker_by s.hash q) (session_answer q r)).every s r f h),
+              λ n4. (
+                λ t. (keeps_says _).every s r f h,
+                λ n5. (
+                  λ t.
+                      let lead = and_parts (is_started r) (is_primary r) (not-false _ n1) in
+                      let behind = or_parts (not (is_loaded r)) (nat_lt r.applied r.commit) n2 in
+                      let full = or_parts (nat_le 8 (head r - r.commit)) (nat_le (2 ^ 62) (head r)) n5 in
+                      let few = leb-false 8 (head r - r.commit) full.0 in
+                      let known = h.order.known in
+                      let may = may_store_next s.hash q r names h m (eqb-true q.cluster r.cluster (not-false _ n0)) (eqb-true r.view r.log_view lead.0) last (ltb-false r.applied r.commit behind.1) (omega arith) (leb-false (2 ^ 62) (head r) full.1) in
+                      kept_by _ s r f (kept_make (next_entry s.hash q r) s r f h may),
+                  λ n6. idle,
+                ),
+              ),
+            ),
+          ),
+        ),
+      ),
+    )))
+
+-- ---- blocks
+
+keeps_give_read : {F : Type 0} (g : GetBlock) (o : Option (List ℕ)) → Keeps {F = F} (give_read g o)
+keeps_give_read g None = keeps_quiet
+keeps_give_read g (Some block) = keeps_says _
+
+keeps_get_block : {F : Type 0} (g : GetBlock) → Keeps {F = F} (on_get_block g)
+unfolding on_get_block
+keeps_get_block g = record {
+  every = λ s r f h.
+      let idle = (keeps_quiet).every s r f h in
+      let block = block_at (asked_block g) s f in
+      kept_reading _ _ s r f (kept_by _ s r f (by_rows (λ x. KeptBy (obey_get_block g block x) s r f) (get_block_table (is_some block) g r) (
+        λ t. idle,
+        λ n0. (λ t. (keeps_give_read g block).every s r f h, λ n1. idle),
+      )));
+}
+
+filter_none : {X : Type 0} (p : X → Bool) (xs : List X) → filter p xs ≢ [] → xs ≢ []
+filter_none p xs n e = n (ap (filter p) e)
+
+kept_without : (name : Name) (r : Replica) → IsSound r → Kept r (without name r)
+kept_without name r h = record {
+  sound = sound_missing r (filter (λ (m : Name). not (m.address == name.address)) r.missing) (λ n. h.waits (filter_none _ r.missing n)) h;
+  rises = record { view = omega arith; log_view = omega arith; commit = omega arith; applied = omega arith; checkpoint = omega arith };
+}
+
+kept_put_block : {F : Type 0} (name : Name) (block : List ℕ) (s : Setting F) (r : Replica) (f : F) → IsSound r → r.missing ≢ [] → KeptBy (put_block name block) s r f
+unfolding put_block
+kept_put_block name block s r f h n =
+    let k = kept_without name r h in
+    kept_does_then _ _ s r f (λ d.
+    kept_change_then (without name) _ s r d k (λ e.
+    kept_by _ s (without name r) e (kept_when (is_loaded (without name r)) load s (without name r) e k.sound (λ t. kept_load s (without name r) e k.sound (h.waits n)))))
+
+kept_put_found : {F : Type 0} (block : List ℕ) (p : Name → Bool) (o : Option Name) (s : Setting F) (r : Replica) (f : F) → IsSound r → find p r.missing ≡ o → KeptBy (put_found block o) s r f
+kept_put_found block p None s r f h e = keeps_quiet.every s r f h
+kept_put_found block p (Some name) s r f h e =
+    kept_then (put_block name block) apply s r f (kept_put_block name block s r f h (λ n. let no_name : None ≡ Some name = rw n at e in absurd cc)) keeps_apply
+
+keeps_give_block : {F : Type 0} (g : GiveBlock) → Keeps {F = F} (on_give_block g)
+unfolding on_give_block
+keeps_give_block g = record {
+  every = λ s r f h.
+      let idle = (keeps_quiet).every s r f h in
+      let is_block = test_of s f in
+      kept_reading _ _ s r f (kept_by _ s r f (by_rows (λ x. KeptBy (obey_give_block is_block g x) s r f) (give_block_table is_block g r) (
+        λ t. idle,
+        λ n0. (λ t. kept_by _ s r f (kept_put_found g.block (is_wanted is_block g) (find (is_wanted is_block g) r.missing) s r f h refl), λ n1. idle),
+      )));
+}
+
+-- ---- ticks
+
+keeps_idler : {F : Type 0} → Keeps {F = F} (change idler)
+keeps_idler = keeps_change idler (λ r h. kept_alike r (idler r) refl (record { view = omega arith; log_view = omega arith; commit = omega arith; applied = omega arith; checkpoint = omega arith }) h)
+
+keeps_next_view : {F : Type 0} → Keeps {F = F} next_view
+keeps_next_view = record { every = λ s r f h. kept_by _ s r f (kept_enter (r.view + 1) s r f h (omega arith)) }
+
+keeps_tick : {F : Type 0} → Keeps {F = F} on_tick
+unfolding on_tick
+keeps_tick = record {
+  every = λ s r f h.
+      kept_by _ s r f (by_rows (λ x. KeptBy (obey_tick x) s r f) (tick_table r) (
+        λ t. (keeps_then _ _ (keeps_says _) (keeps_then _ _ (keeps_by _ (λ r. keeps_when (nat_lt r.commit (head r)) _ (keeps_prepare_again (r.commit + 1)))) keeps_ask)).every s r f h,
+        λ n0. (
+          λ t. (keeps_then _ _ keeps_idler (keeps_by _ (λ r. keeps_if (nat_le 5 r.idle) next_view ask keeps_next_view keeps_ask))).every s r f h,
+          λ n1. (
+            λ t. (keeps_then _ _ keeps_idler (keeps_by _ (λ r. keeps_if (nat_le 10 r.idle) next_view _ keeps_next_view (keeps_then _ _ (keeps_says _) (keeps_then _ _ keeps_speak keeps_ask))))).every s r f h,
+            λ n2. (keeps_quiet).every s r f h,
+          ),
+        ),
+      ));
+}
+
+-- ---- each event
+
+kept_message : {F : Type 0} (m : Frame) (s : Setting F) (r : Replica) (f : F) → HasNames s → IsSound r → IsMessage m → r.view ≤ last_view → KeptBy (on_message m) s r f
+kept_message (frame.Request q) s r f names h m last = kept_request q s r f names h m last
+kept_message (frame.Reply a) s r f names h m last = keeps_quiet.every s r f h
+kept_message (frame.Prepare p) s r f names h m last = (keeps_prepare p m).every s r f h
+kept_message (frame.PrepareOk a) s r f names h m last = (keeps_prepare_ok a).every s r f h
+kept_message (frame.Commit c) s r f names h m last = (keeps_commit c).every s r f h
+kept_message (frame.StartViewChange c) s r f names h m last = (keeps_start_view_change c).every s r f h
+kept_message (frame.DoViewChange d) s r f names h m last = (keeps_do_view_change d m).every s r f h
+kept_message (frame.StartView v) s r f names h m last = (keeps_start_view v m).every s r f h
+kept_message (frame.GetView g) s r f names h m last = (keeps_get_view g).every s r f h
+kept_message (frame.GetPrepare g) s r f names h m last = (keeps_get_prepare g).every s r f h
+kept_message (frame.GivePrepare g) s r f names h m last = (keeps_give_prepare g).every s r f h
+kept_message (frame.GetBlock g) s r f names h m last = (keeps_get_block g).every s r f h
+kept_message (frame.GiveBlock g) s r f names h m last = (keeps_give_block g).every s r f h
+
+kept_event : {F : Type 0} (e : Event) (s : Setting F) (r : Replica) (f : F) → HasNames s → IsSound r → IsEvent e → r.view ≤ last_view → KeptBy (on_event e) s r f
+kept_event (event.Request q) s r f names h m last = kept_request q s r f names h m last
+kept_event (event.Deliver message) s r f names h m last = kept_message message s r f names h m last
+kept_event event.Tick s r f names h m last = keeps_tick.every s r f h
+
+kept_react : {F : Type 0} (e : Event) (s : Setting F) (r : Replica) (f : F) → HasNames s → IsSound r → IsEvent e → KeptBy (react e) s r f
+unfolding react
+kept_react e s r f names h m =
+    kept_by _ s r f (kept_when (not (is_frozen r)) (on_event e) s r f h (λ t.
+    kept_event e s r f names h m (ltb-false last_view r.view (or_parts (nat_lt last_view r.view) (is_spent r) (not-true _ t)).0)))
+
+pub steps_stay_sound : {F : Type 0} → StepsStaySound F
+steps_stay_sound = λ s f r e names h m. (kept_react e s r f names h m).kept.sound
+
+pub steps_rise : {F : Type 0} → StepsRise F
+steps_rise = λ s f r e names h m. (kept_react e s r f names h m).kept.rises
