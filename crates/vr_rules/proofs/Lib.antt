@@ -21,3 +21,5 @@ pub mod SavesCore
 pub mod Reacting
 pub mod Slots
 pub mod Openings
+pub mod SavesWell
+pub mod SavesParts

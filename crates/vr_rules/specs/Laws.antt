@@ -14,13 +14,15 @@ use Rattle.vr_msg.specs.declared.output.Sent.{Sent}
 use Rattle.vr_msg.specs.declared.output.Waiting.{Waiting}
 use Rattle.vr_msg.specs.Forms.{IsFrame}
 use Rattle.vr_msg.specs.Spelling.{IsBodyValue, frame_header}
+use Rattle.vr_apply.specs.declared.codec.Texts.{Texts}
+use Rattle.vr_ckpt.specs.declared.table.Table.{Table}
 use Rattle.vr_super.specs.Copies.{IsGood, Saved}
 use Rattle.vr_rules.specs.Replica.{Replica}
-use Rattle.vr_rules.specs.Steps.{Effect, Mend, Rewrite, Setting, Step, after_all, outputs}
+use Rattle.vr_rules.specs.Steps.{Effect, Save, Mend, Rewrite, Setting, Step, after_all, outputs}
 use Rattle.vr_rules.specs.Deciding.{Rule, Ignored, InFlight, PreparedBefore, Beyond, Other, CommitBefore, ChangeBefore, StatedBefore}
 use Rattle.vr_rules.specs.Rules.{react, rule_for}
 use Rattle.vr_rules.specs.Opening.{blank, opening}
-use Rattle.vr_rules.specs.Sound.{IsSound}
+use Rattle.vr_rules.specs.Sound.{IsSound, IsSavable}
 
 -- a message of the program: it has the form of its kind, and its numbers and texts are those that the program has
 pub record IsMessage (m : Frame) : Type 0 where
@@ -94,6 +96,26 @@ OnlyHears _ = ⊥
 abbrev pub OnlyHearingIsDone : Type 0 → Type 0
 OnlyHearingIsDone F =
     (s : Setting F) (f : F) (r : Replica) (e : Event) → OnlyHears (rule_for s f r e) → react e s r f ≡ record { replica = record r { idle = 0 }; script = [] }
+
+-- ---- what is saved makes a good copy
+
+-- the roots of the checkpoints that are written stand in the grid, and have names
+pub record SavesRoots {F : Type 0} (s : Setting F) : Type 0 where
+  pub address : (cluster : ℕ) (texts : Texts) (op : ℕ) (old : Table) → (s.saved cluster texts op old).root.address < 128
+  pub name : (cluster : ℕ) (texts : Texts) (op : ℕ) (old : Table) → length (s.saved cluster texts op old).root.sum.0 ≡ 16
+
+-- what is saved, if anything, makes a good copy
+abbrev pub IsGoodSave : Effect → Type 0
+IsGoodSave (Save old new) = IsGood new
+IsGoodSave _ = ⊤
+
+-- and what the step leaves can be saved again
+pub record SavesWell (x : Step) : Type 0 where
+  pub each : All IsGoodSave x.script
+  pub savable : IsSavable x.replica
+
+abbrev pub StepsSaveWell : Type 0 → Type 0
+StepsSaveWell F = (s : Setting F) (f : F) (r : Replica) (e : Event) → HasNames s → SavesRoots s → IsSound r → IsSavable r → IsEvent e → SavesWell (react e s r f)
 
 -- ---- what is put out carries present values
 
