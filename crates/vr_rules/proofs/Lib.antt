@@ -23,3 +23,4 @@ pub mod Slots
 pub mod Openings
 pub mod SavesWell
 pub mod SavesParts
+pub mod SavesWords

@@ -33,13 +33,13 @@ topped_later r q t c up stays h some =
           subst (λ k. knows q k ≡ true) end (stays known)
     ]
 
-topped_part : (k : ℕ) (p : Part) (r : Replica) → Spans r → r.first ≤ k → k ≤ r.checkpoint + 64 → has_header p ≡ true → Topped r → Topped (with_part k p r)
+pub topped_part : (k : ℕ) (p : Part) (r : Replica) → Spans r → r.first ≤ k → k ≤ r.checkpoint + 64 → has_header p ≡ true → Topped r → Topped (with_part k p r)
 unfolding with_part
 topped_part k p r s a b is h =
     let t = with_part_spans k p r s in
     topped_later r (with_part k p r) t refl (head_least r (with_part k p r) s t refl (λ j e. with_part_known k p r j s a b (λ _. is) e)) (λ e. with_part_known k p r r.checkpoint s a b (λ _. is) e) h
 
-topped_forgetting : (r : Replica) → Spans r → Topped r → Topped (forgetting r)
+pub topped_forgetting : (r : Replica) → Spans r → Topped r → Topped (forgetting r)
 topped_forgetting r s h some =
     let same = forgetting_head r s in
     let known = h (omega (arith, same, some)) in
@@ -61,7 +61,7 @@ savable_stored e r h m v =
         topped_forgetting (with_part k (Here e.header) r) (with_part_spans k (Here e.header) r s) (topped_part k (Here e.header) r s (omega arith) m.window refl v.top) in
     record { cluster = v.cluster; view = v.view; log_view = v.log_view; address = v.address; name = v.name; none = v.none; top = top }
 
-savable_part : (k : ℕ) (p : Part) (r : Replica) → IsSavable r → Topped (with_part k p r) → IsSavable (with_part k p r)
+pub savable_part : (k : ℕ) (p : Part) (r : Replica) → IsSavable r → Topped (with_part k p r) → IsSavable (with_part k p r)
 unfolding with_part
 savable_part k p r v top = record { cluster = v.cluster; view = v.view; log_view = v.log_view; address = v.address; name = v.name; none = v.none; top = top }
 
@@ -81,7 +81,7 @@ savable_entered view r l v = record { cluster = v.cluster; view = l; log_view = 
 
 -- ---- a checkpoint is made
 
-topped_moved : (c : checkpoint.Saved) (e : Whole) (r : Replica) → IsSound r → r.applied < r.commit → Topped (moved c e r)
+pub topped_moved : (c : checkpoint.Saved) (e : Whole) (r : Replica) → IsSound r → r.applied < r.commit → Topped (moved c e r)
 topped_moved c e r h a some =
     let same = moved_head c e r h a in
     let known = h.order.known in
@@ -89,7 +89,7 @@ topped_moved c e r h a some =
     let at : knows (moved c e r) (head r) ≡ true = ap has_header (moved_at c e r (head r)) ∙ head_knows r (head r) (spans_of r h) (omega arith) (omega arith) in
     subst (λ k. knows (moved c e r) k ≡ true) (sym same) at
 
-savable_move : (c : checkpoint.Saved) (r : Replica) → c.root.address < 128 → length c.root.sum.0 ≡ 16 → 0 < r.applied → IsSavable r → Topped (with_checkpoint c r) → IsSavable (with_checkpoint c r)
+pub savable_move : (c : checkpoint.Saved) (r : Replica) → c.root.address < 128 → length c.root.sum.0 ≡ 16 → 0 < r.applied → IsSavable r → Topped (with_checkpoint c r) → IsSavable (with_checkpoint c r)
 unfolding with_checkpoint
 savable_move c r a b some v top =
     record { cluster = v.cluster; view = v.view; log_view = v.log_view; address = a; name = b; none = λ e. absurd (omega (arith, e, some)); top = top }
