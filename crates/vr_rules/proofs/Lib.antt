@@ -24,3 +24,4 @@ pub mod Openings
 pub mod SavesWell
 pub mod SavesParts
 pub mod SavesWords
+pub mod SavesTrying

@@ -38,7 +38,7 @@ use Rattle.vr_rules.proofs.SavesParts.{Topped, savable_stored, savable_lost, sav
 keeps_turned : {F : Type 0} → Keeps {F = F} (change turned)
 keeps_turned = keeps_change turned (λ r h. kept_alike r (turned r) refl (record { view = omega arith; log_view = omega arith; commit = omega arith; applied = omega arith; checkpoint = omega arith }) h)
 
-well_stored : (v n : ℕ) (e : Whole) (r : Replica) → MayStore e r → Well v n r → Well v n (stored e r)
+pub well_stored : (v n : ℕ) (e : Whole) (r : Replica) → MayStore e r → Well v n r → Well v n (stored e r)
 unfolding forgetting with_part
 well_stored v n e r m h = record { sound = (kept_stored e r h.sound m).sound; savable = savable_stored e r h.sound m h.savable; view = h.view; room = h.room }
 
@@ -46,7 +46,7 @@ well_lost : (v n k : ℕ) (g : Header) (r : Replica) → part_at r k ≡ Here g 
 unfolding with_part
 well_lost v n k g r e h = record { sound = (kept_lost k g r h.sound e).sound; savable = savable_lost k g r h.sound e h.savable; view = h.view; room = h.room }
 
-well_entered : (v n view : ℕ) (r : Replica) → r.view ≤ view → view < v → v ≤ 2 ^ 32 → Well v n r → Well v n (entered view r)
+pub well_entered : (v n view : ℕ) (r : Replica) → r.view ≤ view → view < v → v ≤ 2 ^ 32 → Well v n r → Well v n (entered view r)
 unfolding entered
 well_entered v n view r a b c h =
     record { sound = (kept_entered view r h.sound a).sound; savable = savable_entered view r (omega arith) h.savable; view = b; room = h.room }
@@ -61,7 +61,7 @@ unfolding with_checkpoint
 well_moved v n c e r a b l m d h =
     record { sound = (kept_moved c e r h.sound l m d).sound; savable = savable_moved c e r a b h.sound l h.savable; view = h.view; room = h.room }
 
-well_taken : (v n : ℕ) (hash : List ℕ → List ℕ) (l : Log) (r : Replica) → IsLogFor r l → may_take hash l r ≡ true → l.view < v → v ≤ 2 ^ 32 - 1 → Well v n r → Well v n (taken l r)
+pub well_taken : (v n : ℕ) (hash : List ℕ → List ℕ) (l : Log) (r : Replica) → IsLogFor r l → may_take hash l r ≡ true → l.view < v → v ≤ 2 ^ 32 - 1 → Well v n r → Well v n (taken l r)
 unfolding taken forgetting
 well_taken v n hash l r log may b c h =
     record {
@@ -72,13 +72,13 @@ well_taken v n hash l r log may b c h =
     }
 
 module _ {F : Type 0} (v : ℕ) (s : Setting F) where
-  goods_alike : (c : ℕ) (g : Replica → Replica) → Keeps {F = F} (change g) → ((r : Replica) → body (g r) ≡ body r) → ((r : Replica) → (g r).saved ≡ r.saved) → Good {F = F} v c (change g) s
+  pub goods_alike : (c : ℕ) (g : Replica → Replica) → Keeps {F = F} (change g) → ((r : Replica) → body (g r) ≡ body r) → ((r : Replica) → (g r).saved ≡ r.saved) → Good {F = F} v c (change g) s
   goods_alike c g k e same = goods_more v s 0 c (change g) (omega arith) (goods_change v s g k e same)
 
-  goods_tell : (c : ℕ) (os : Replica → List Output) → Good {F = F} v c (says os) s
+  pub goods_tell : (c : ℕ) (os : Replica → List Output) → Good {F = F} v c (says os) s
   goods_tell c os = goods_more v s 0 c (says os) (omega arith) (goods_says v s os)
 
-  goods_rest : (c : ℕ) → Good {F = F} v c quiet s
+  pub goods_rest : (c : ℕ) → Good {F = F} v c quiet s
   goods_rest c = goods_more v s 0 c quiet (omega arith) (goods_quiet v s)
 
   -- ---- entering, storing
