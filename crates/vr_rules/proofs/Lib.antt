@@ -25,3 +25,5 @@ pub mod SavesWell
 pub mod SavesParts
 pub mod SavesWords
 pub mod SavesTrying
+pub mod SavesRules
+pub mod SavesSteps

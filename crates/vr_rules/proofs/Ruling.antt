@@ -60,7 +60,7 @@ group_of_primary cluster sender view r e = group_of cluster sender r (and_parts 
 
 -- ---- prepares
 
-may_store_prepare : (p : Prepare) (r : Replica) → IsMessage (frame.Prepare p) → p.entry.header.cluster ≡ r.cluster → p.view ≤ r.log_view → r.checkpoint < p.entry.header.op
+pub may_store_prepare : (p : Prepare) (r : Replica) → IsMessage (frame.Prepare p) → p.entry.header.cluster ≡ r.cluster → p.view ≤ r.log_view → r.checkpoint < p.entry.header.op
     → p.entry.header.op ≤ r.checkpoint + 64 → MayStore p.entry (rested r)
 may_store_prepare p r m g v a b =
     let form = m.form in

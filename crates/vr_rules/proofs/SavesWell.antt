@@ -80,6 +80,12 @@ module _ {F : Type 0} (v : ℕ) (s : Setting F) where
       let p = k x.replica (after_all s f x.script) h.well in
       record { saves = All-append IsGoodSave x.script (b s x.replica (after_all s f x.script)).script h.saves p.saves; well = p.well }
 
+  pub good_then_at : (n : ℕ) (a b : Word F) (r : Replica) (f : F) → All IsGoodSave (a s r f).script → GoodBy v n b s (a s r f).replica (after_all s f (a s r f).script) → GoodBy v n (a ⨾ b) s r f
+  unfolding ◌⨾◌
+  good_then_at n a b r f h p =
+      let x = a s r f in
+      record { saves = All-append IsGoodSave x.script (b s x.replica (after_all s f x.script)).script h p.saves; well = p.well }
+
   pub good_change_then : (n : ℕ) (g : Replica → Replica) (w : Word F) (r : Replica) (f : F) → ((d : F) → GoodBy v n w s (g r) d) → GoodBy v n (change g ⨾ w) s r f
   unfolding ◌⨾◌ change
   good_change_then n g w r f k = let p = k (after_all s f []) in record { saves = p.saves; well = p.well }
