@@ -1,6 +1,5 @@
 -- Changes of single fields keep a replica sound.
-use Rattle.std.proofs.Common.{ℕ, ◌+◌, ◌-◌, ◌*◌, ◌%◌, ◌≤◌, ◌<◌, ◌≡◌, ◌≢◌, ◌∙◌, inl, inr, arith, refl, sym, ap, subst, true, List, [], length, get_or, drop, Option, Some, None, is_some}
-use Rattle.std.proofs.lemmas.Bool.{cases_lt}
+use Rattle.std.proofs.Common.{ℕ, ◌+◌, ◌-◌, ◌%◌, ◌≤◌, ◌<◌, ◌≡◌, ◌≢◌, ◌∙◌, arith, sym, ap, true, List, [], length, get_or, drop, Option, Some, None, is_some}
 use Rattle.std.proofs.lemmas.List.{length-drop}
 use Rattle.vr_base.specs.declared.replicas.Replicas.{Replicas}
 use Rattle.vr_base.specs.Groups.{quorums_of}
@@ -10,9 +9,9 @@ use Rattle.vr_msg.specs.declared.statement.Statement.{Statement}
 use Rattle.vr_apply.specs.Folds.{empty}
 use Rattle.vr_ckpt.specs.Places as places
 use Rattle.vr_grid.specs.declared.name.Name.{Name}
-use Rattle.vr_rules.specs.Replica.{Replica, part_at, head, header_at, forgetting}
+use Rattle.vr_rules.specs.Replica.{Replica, part_at, head, forgetting}
 use Rattle.vr_rules.specs.Opening.{first_value}
-use Rattle.vr_rules.specs.Sound.{IsOrdered, IsListed, KnowsEntries, IsStated, KnowsStatements, IsSound}
+use Rattle.vr_rules.specs.Sound.{IsOrdered, KnowsEntries, IsStated, KnowsStatements, IsSound}
 use Rattle.vr_rules.specs.Laws.{Rises}
 use Rattle.vr_rules.proofs.Heads.{Spans, gone, forgetting_spans, forgetting_known, forgetting_head, forgetting_first}
 

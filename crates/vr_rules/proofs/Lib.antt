@@ -27,3 +27,4 @@ pub mod SavesWords
 pub mod SavesTrying
 pub mod SavesRules
 pub mod SavesSteps
+pub mod SavesSectors

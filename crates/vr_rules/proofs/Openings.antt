@@ -1,7 +1,7 @@
 -- An opening gives a sound replica, whatever reads.
-use Rattle.std.proofs.Common.{ℕ, zero, suc, ◌+◌, ◌-◌, ◌%◌, ◌*◌, ◌≤◌, ◌<◌, ◌≡◌, ◌≢◌, ◌∙◌, ◌⊎◌, inl, inr, arith, refl, sym, ap, subst, Bool, true, false, cond, List, [], ◌∷◌, ◌++◌, length, get_or, set, map, replicate, Option, Some, None}
-use Rattle.std.specs.Prelude.{filter, slice_get, is_some, nat_le, ◌&&◌, not}
-use Rattle.std.specs.List.{AllByRecursion, range_with_len}
+use Rattle.std.proofs.Common.{ℕ, zero, suc, ◌+◌, ◌-◌, ◌%◌, ◌≤◌, ◌<◌, ◌≡◌, ◌∙◌, ◌⊎◌, inl, inr, arith, refl, sym, ap, subst, Bool, true, false, cond, List, [], ◌∷◌, ◌++◌, length, Option, Some, None}
+use Rattle.std.specs.Prelude.{filter, slice_get, is_some, nat_le, not}
+use Rattle.std.specs.List.{range_with_len}
 use Rattle.std.specs.Option.{option_map}
 use Rattle.std.proofs.lemmas.Bool.{cases_lt, cases_eq, leb-true}
 use Rattle.std.proofs.lemmas.List.{length-set, length-replicate, get_or-replicate, get_or_past}
@@ -11,21 +11,19 @@ use Rattle.vr_header.specs.declared.header.Header.{Header}
 use Rattle.vr_header.specs.declared.part.Part.{Part}
 use Rattle.vr_header.specs.declared.part.Part.TheVariants as part
 use Rattle.vr_header.specs.Made.{Whole}
-use Rattle.vr_msg.specs.Choice.{ops}
-use Rattle.vr_msg.specs.declared.statement.Statement.{Statement}
 use Rattle.vr_msg.specs.Logs.{has_header, header_of}
 use Rattle.vr_recover.specs.declared.readings.Verdict.{Verdict}
 use Rattle.vr_recover.specs.declared.readings.Verdict.TheVariants as verdict
-use Rattle.vr_super.specs.Copies.{Saved, IsGood}
-use Rattle.vr_rules.specs.Replica.{Replica, part_at, head, is_spent, is_started, leads, last_view, forgetting, with_part}
+use Rattle.vr_super.specs.Copies.{Saved}
+use Rattle.vr_rules.specs.Replica.{Replica, part_at, is_spent, is_started, leads, last_view, forgetting, with_part}
 use Rattle.vr_rules.specs.Steps.{Effect, Mend, Rewrite, Setting, Step, Word, ◌⨾◌, quiet, change, does, says, by, reading, when, each, after_all}
-use Rattle.vr_rules.specs.Words.{entry_of, save, start_line, load, apply, with_saved, saves}
-use Rattle.vr_rules.specs.Opening.{first_listed, blank, Slot, slot_at, slot_verdict, entry_header, part_by, rewrite, mend_slot, recover_op, old_part, recover_old, old_headers, clouded_part, clouded_at, clouded, stored_above, is_listed, recover_parts, in_next_view, leave_view, heard_itself, announce, opening}
-use Rattle.vr_rules.specs.Sound.{IsStated, IsSound}
+use Rattle.vr_rules.specs.Words.{entry_of, save, send_to_all, start_view_change, start_line, load, apply}
+use Rattle.vr_rules.specs.Opening.{first_listed, blank, Slot, slot_at, slot_verdict, entry_header, part_by, rewrite, mend_slot, recover_op, old_part, recover_old, clouded_part, clouded_at, clouded, stored_above, is_listed, recover_parts, in_next_view, leave_view, heard_itself, announce, opening}
+use Rattle.vr_rules.specs.Sound.{IsSound}
 use Rattle.vr_rules.specs.Laws.{IsMending, ReadsHeaders, OpeningsAreSound}
-use Rattle.vr_rules.proofs.Heads.{Spans, knows, part_within, part_past, part_before, known_within, knows_some, head_within, head_reaches, with_part_at, with_part_other, remade, remade_at, remade_known, remade_spans, forgetting_checkpoint}
-use Rattle.vr_rules.proofs.Keeping.{Kept, Roomy, kept_more, sound_view, sound_alike, sound_forgetting}
-use Rattle.vr_rules.proofs.Combining.{KeptBy, Keeps, kept_then, kept_by, kept_when, kept_quiet, keeps_then, keeps_says, keeps_change, keeps_by, keeps_when}
+use Rattle.vr_rules.proofs.Heads.{Spans, knows, part_within, part_before, known_within, knows_some, head_within, head_reaches, with_part_at, with_part_other, remade, remade_at, remade_known, forgetting_checkpoint}
+use Rattle.vr_rules.proofs.Keeping.{Kept, Roomy, sound_view, sound_forgetting}
+use Rattle.vr_rules.proofs.Combining.{Keeps, kept_then, kept_when, keeps_then, keeps_says, keeps_change, keeps_by, keeps_when}
 use Rattle.vr_rules.proofs.Slots.{Value, value_is, IsOf, Reads, Right, right_header, slot_right}
 use Rattle.vr_rules.proofs.Wording.{kept_alike, keeps_save, keeps_apply, kept_load, none_stated}
 
@@ -339,9 +337,9 @@ recovered v s f w k =
 kept_next : (r : Replica) → IsSound r → Kept r (in_next_view r)
 kept_next r h = record {
   sound = sound_view r (r.view + 1) r.statements (omega arith) h.lists.statements (λ i s e.
-  let is = h.stated.each i s e in
-  let low = is.view in
-  record { statement = is.statement; values = is.values; view = omega arith }) h;
+      let is = h.stated.each i s e in
+      let low = is.view in
+      record { statement = is.statement; values = is.values; view = omega arith }) h;
   rises = record { view = omega arith; log_view = omega arith; commit = omega arith; applied = omega arith; checkpoint = omega arith };
 }
 
@@ -349,9 +347,36 @@ keeps_leave_view : {F : Type 0} → Keeps {F = F} leave_view
 keeps_leave_view = keeps_by _ (λ r. keeps_when (leads r) _ (keeps_then _ _ (keeps_change in_next_view kept_next) keeps_save))
 
 -- nothing is applied as a view is left
-left_applied : {F : Type 0} (b c : Bool) (s : Setting F) (r : Replica) (f : F) → r.applied ≡ r.checkpoint
-    → (when b (by (λ r. when c (change in_next_view ⨾ save))) s r f).replica.applied ≡ (when b (by (λ r. when c (change in_next_view ⨾ save))) s r f).replica.checkpoint
-unfolding by save change does quiet ◌⨾◌
-left_applied true true s r f e = e
-left_applied true false s r f e = e
-left_applied false c s r f e = e
+same_applied : {F : Type 0} (b : Bool) (s : Setting F) (r : Replica) (f : F) → r.applied ≡ r.checkpoint
+    → (when b (change in_next_view ⨾ save) s r f).replica.applied ≡ (when b (change in_next_view ⨾ save) s r f).replica.checkpoint
+unfolding save change does quiet ◌⨾◌
+same_applied true s r f e = e
+same_applied false s r f e = e
+
+left_applied : {F : Type 0} (b : Bool) (s : Setting F) (r : Replica) (f : F) → r.applied ≡ r.checkpoint
+    → (when b leave_view s r f).replica.applied ≡ (when b leave_view s r f).replica.checkpoint
+unfolding by quiet
+left_applied true s r f e = same_applied (leads r) s r f e
+left_applied false s r f e = e
+
+keeps_announce : {F : Type 0} → Keeps {F = F} announce
+keeps_announce =
+    let itself = keeps_change heard_itself (λ r h. kept_alike r (heard_itself r) refl (record { view = omega arith; log_view = omega arith; commit = omega arith; applied = omega arith; checkpoint = omega arith }) h) in
+    let told = keeps_by _ (λ r. keeps_when (nat_le r.view last_view) (says (send_to_all start_view_change)) (keeps_says _)) in
+    keeps_by _ (λ r. keeps_when (not (is_started r)) _ (keeps_then _ _ itself told))
+
+sound_rest : {F : Type 0} (s : Setting F) (r : Replica) (f : F) → Opened r
+    → IsSound ((by (λ r. when (not (is_spent r)) leave_view) ⨾ says start_line ⨾ by (λ r. when (not (is_spent r)) (load ⨾ apply ⨾ announce))) s r f).replica
+unfolding ◌⨾◌ by says
+sound_rest {F} s r f h =
+    let a : Step = when (not (is_spent r)) leave_view s r f in
+    let q : Replica = a.replica in
+    let k : IsSound q = ((keeps_when (not (is_spent r)) leave_view keeps_leave_view).every s r f h.sound).kept.sound in
+    let e : q.applied ≡ q.checkpoint = left_applied (not (is_spent r)) s r f h.applied in
+    (kept_when (not (is_spent q)) (load ⨾ apply ⨾ announce) s q _ k (λ t. kept_then load (apply ⨾ announce) s q _ (kept_load s q _ k e) (keeps_then apply announce keeps_apply keeps_announce))).kept.sound
+
+pub openings_are_sound : {F : Type 0} → OpeningsAreSound F
+unfolding opening ◌⨾◌ does after_all
+openings_are_sound = λ s f v k g.
+    let d = s.after f (Mend v) in
+    sound_rest s (recover_parts v s (blank v) d).replica _ (recovered v s d (value_is v g) (reads_after s f (Mend v) g k))

@@ -1,8 +1,8 @@
 -- Each rule for a message of a replica keeps a sound one sound.
-use Rattle.std.proofs.Common.{ℕ, ◌+◌, ◌-◌, ◌≤◌, ◌<◌, ◌≡◌, ◌≢◌, ◌∙◌, ◌⊎◌, inl, inr, zero, suc, arith, refl, sym, ap, subst, Bool, true, false, not, cond, List, [], ◌∷◌, length, get_or, set, Option, Some, None, rules}
-use Rattle.std.specs.Prelude.{slice_get, find, nat_lt, nat_le, ◌&&◌, ◌==◌}
+use Rattle.std.proofs.Common.{ℕ, ◌+◌, ◌-◌, ◌≤◌, ◌<◌, ◌≡◌, ◌∙◌, ◌⊎◌, inl, inr, zero, suc, arith, refl, sym, ap, subst, Bool, true, false, not, cond, List, [], ◌∷◌, length, get_or, set, Option, Some, None, rules}
+use Rattle.std.specs.Prelude.{slice_get, nat_lt, nat_le, ◌==◌}
 use Rattle.std.specs.Option.{option_map_or}
-use Rattle.std.proofs.lemmas.Bool.{and_parts, or_parts, cases_eq, cases_lt, not-true, not-false, ltb-true, ltb-false, le-ltb, leb-true, leb-false, eqb-true}
+use Rattle.std.proofs.lemmas.Bool.{and_parts, or_parts, cases_eq, cases_lt, not-false, ltb-true, ltb-false, le-ltb, leb-false, eqb-true}
 use Rattle.std.proofs.lemmas.List.{length-set, get_or-set_same, get_or-set_other, set_past}
 use Rattle.vr_header.specs.declared.header.Header.{Header}
 use Rattle.vr_header.specs.Made.{Whole}
@@ -23,16 +23,16 @@ use Rattle.vr_msg.specs.declared.statement.Statement.{Statement}
 use Rattle.vr_msg.specs.Choice.{ops}
 use Rattle.vr_msg.specs.Logs.{IsEntryAt}
 use Rattle.vr_msg.specs.Spelling.{AreHeaders}
-use Rattle.vr_rules.specs.Replica.{Replica, last_view, ackers_at, header_at, head, is_here, part_at}
-use Rattle.vr_rules.specs.Steps.{Setting, Word, ◌⨾◌, quiet, change, does, says, by, when, each, after_all}
-use Rattle.vr_rules.specs.Words.{Log, entered, enter, rested, save, write, accept, apply, learn, may_take, take, try, resend}
+use Rattle.vr_rules.specs.Replica.{Replica, last_view, header_at, head, is_here, part_at}
+use Rattle.vr_rules.specs.Steps.{Setting, ◌⨾◌, quiet, change, does, says, by, when, after_all}
+use Rattle.vr_rules.specs.Words.{entered, enter, rested, save, write, accept, learn, may_take, take, try}
 use Rattle.vr_rules.specs.Deciding.{Rule, Ignored, Table, first_of, Hash, prepare_table, prepare_ok_table, commit_table, start_view_change_table, do_view_change_table, log_of, start_view_table, get_view_table, get_prepare_table, give_prepare_table, is_from, is_from_primary, is_known}
-use Rattle.vr_rules.specs.Rules.{acknowledge, ask_view, obey_prepare, on_prepare, acknowledged, obey_prepare_ok, on_prepare_ok, obey_commit, on_commit, heard_of, tell_view, obey_start_view_change, on_start_view_change, with_statement, obey_do_view_change, on_do_view_change, acknowledge_stored, obey_start_view, on_start_view, obey_get_view, on_get_view, obey_get_prepare, on_get_prepare, obey_give_prepare, on_give_prepare}
+use Rattle.vr_rules.specs.Rules.{acknowledge, ask_view, obey_prepare, on_prepare, acknowledged, obey_prepare_ok, on_prepare_ok, obey_commit, on_commit, heard_of, obey_start_view_change, on_start_view_change, with_statement, obey_do_view_change, on_do_view_change, acknowledge_stored, obey_start_view, on_start_view, obey_get_view, on_get_view, obey_get_prepare, on_get_prepare, obey_give_prepare, on_give_prepare}
 use Rattle.vr_rules.specs.Sound.{IsStated, IsSound}
 use Rattle.vr_rules.specs.Laws.{IsMessage}
 use Rattle.vr_rules.proofs.Heads.{known_within, knows_some}
 use Rattle.vr_rules.proofs.Keeping.{Kept, kept_more, spans_of, sound_ackers, sound_view}
-use Rattle.vr_rules.proofs.Combining.{KeptBy, Keeps, kept_then, kept_change_then, kept_by, kept_naming, kept_if, kept_when, keeps_then, keeps_quiet, keeps_says, keeps_change, keeps_by, keeps_when, keeps_each}
+use Rattle.vr_rules.proofs.Combining.{KeptBy, Keeps, kept_then, kept_change_then, kept_by, kept_naming, kept_when, keeps_then, keeps_quiet, keeps_says, keeps_change, keeps_by, keeps_when, keeps_each}
 use Rattle.vr_rules.proofs.Storing.{MayStore}
 use Rattle.vr_rules.proofs.Taking.{IsLogFor, may_take_is, kept_take}
 use Rattle.vr_rules.proofs.Trying.{from_at, keeps_try, keeps_speak}

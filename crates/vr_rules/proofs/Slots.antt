@@ -1,9 +1,9 @@
 -- What a value of the superblock and the readings of a slot say of an op.
-use Rattle.std.proofs.Common.{ℕ, zero, suc, ◌+◌, ◌-◌, ◌%◌, ◌*◌, ◌^◌, ◌≤◌, ◌<◌, ◌≡◌, ◌≢◌, ◌∙◌, inl, inr, arith, refl, sym, ap, subst, Bool, true, false, not, cond, List, [], ◌∷◌, length, min, Option, Some, None, rules}
-use Rattle.std.specs.Prelude.{slice_get, is_some, nat_lt, nat_le, ◌&&◌, ◌||◌, ◌==◌}
+use Rattle.std.proofs.Common.{ℕ, zero, suc, ◌+◌, ◌-◌, ◌%◌, ◌^◌, ◌≤◌, ◌<◌, ◌≡◌, ◌∙◌, inl, inr, arith, refl, sym, ap, subst, Bool, true, false, cond, List, [], ◌∷◌, length, min, Option, Some, None, rules}
+use Rattle.std.specs.Prelude.{slice_get, is_some, nat_lt, nat_le, ◌&&◌, ◌==◌}
 use Rattle.std.specs.List.{AllByRecursion}
-use Rattle.std.specs.Option.{option_map, option_map_or}
-use Rattle.std.proofs.lemmas.Bool.{and_parts, cases_lt, cases_Bool, ltb-true, ltb-false, lt-ltb, le-ltb, le-leb, lt-leb, leb-true, leb-false, eqb-true, true≢false}
+use Rattle.std.specs.Option.{option_map_or}
+use Rattle.std.proofs.lemmas.Bool.{and_parts, cases_lt, ltb-true, lt-ltb, le-ltb, le-leb, leb-true, eqb-true, true≢false}
 use Rattle.vr_base.specs.Groups.{quorums_of}
 use Rattle.vr_header.specs.declared.command.Command.{Command}
 use Rattle.vr_header.specs.declared.command.Command.TheVariants.{Entry}
@@ -19,13 +19,12 @@ use Rattle.vr_header.proofs.SameHeaders.{same_header_is}
 use Rattle.vr_msg.specs.Logs.{IsEntryAt, has_header, header_of}
 use Rattle.vr_recover.specs.declared.readings.HeaderReading.{HeaderReading}
 use Rattle.vr_recover.specs.declared.readings.HeaderReading.TheVariants as header
-use Rattle.vr_recover.specs.declared.readings.PrepareReading.{PrepareReading}
 use Rattle.vr_recover.specs.declared.readings.PrepareReading.TheVariants as prepare
 use Rattle.vr_recover.specs.Verdict.{verdict_of}
 use Rattle.vr_super.specs.declared.fields.Fields.{Fields}
 use Rattle.vr_super.specs.Copies.{Saved, IsGood, is_entry_command, is_entry_header, are_listed, first_op, good_fields, good_member, good_window, good_root, good_count}
 use Rattle.vr_super.specs.Copies as copies
-use Rattle.vr_rules.specs.Opening.{first_listed, listed, is_listed, is_right, may_be, Slot, header_fits, header_kind, entry_fits, entry_kind, slot_verdict, some_part, known_header, entry_header, part_by}
+use Rattle.vr_rules.specs.Opening.{first_listed, listed, is_listed, is_right, may_be, Slot, header_kind, entry_fits, slot_verdict, some_part, entry_header, part_by}
 use Rattle.vr_rules.proofs.Taking.{log_reaches}
 
 -- ---- a value that makes a good copy

@@ -1,5 +1,5 @@
 -- What a sound replica states of its log is of the form of a statement.
-use Rattle.std.proofs.Common.{ℕ, zero, suc, ◌+◌, ◌-◌, ◌*◌, ◌≤◌, ◌<◌, ◌≡◌, ◌≢◌, ◌∙◌, inl, inr, arith, refl, sym, ap, subst, Bool, true, false, cond, List, [], ◌∷◌, length, get_or, take, drop, reverse, Option, Some, None}
+use Rattle.std.proofs.Common.{ℕ, zero, suc, ◌+◌, ◌-◌, ◌≤◌, ◌<◌, ◌≡◌, ◌∙◌, inl, inr, arith, refl, sym, ap, subst, true, List, [], ◌∷◌, length, get_or, take, drop, reverse, Some}
 use Rattle.std.specs.Prelude.{slice_get, filter_map}
 use Rattle.std.specs.List.{prefix_len, take_while}
 use Rattle.std.proofs.lemmas.Bool.{cases_lt, true≢false}
@@ -9,11 +9,11 @@ use Rattle.vr_header.specs.declared.header.Header.{Header}
 use Rattle.vr_header.specs.declared.part.Part.{Part}
 use Rattle.vr_header.specs.declared.part.Part.TheVariants.{Here, Lost, Wanted, Unknown, Nothing}
 use Rattle.vr_header.specs.Spelling.{IsHeader}
-use Rattle.vr_msg.specs.Logs.{FromOp, IsEntryAt, IsPartAt, IsStatement, has_header, header_of}
+use Rattle.vr_msg.specs.Logs.{FromOp, IsEntryAt, IsPartAt, has_header, header_of}
 use Rattle.vr_msg.specs.Spelling.{AreHeaders}
 use Rattle.vr_rules.specs.Replica.{Replica, part_at, parts_from, head, run, run_start, is_nothing, trimmed, statement_of}
 use Rattle.vr_rules.specs.Sound.{IsStated, IsSound}
-use Rattle.vr_rules.proofs.Heads.{Spans, prefix_reaches, knows, part_within, head_from, head_within, head_knows, head_stops}
+use Rattle.vr_rules.proofs.Heads.{prefix_reaches, knows, part_within, head_from, head_within, head_knows, head_stops}
 use Rattle.vr_rules.proofs.Keeping.{spans_of}
 use Rattle.vr_rules.proofs.Storing.{head_number}
 
@@ -82,8 +82,7 @@ trimmed_short ps =
 all_from : {X : Type 0} (P : ℕ → X → Type 0) (op : ℕ) (d : X) (xs : List X) → ((i : ℕ) → i < length xs → P (op + i) (get_or xs i d)) → FromOp P op xs
 all_from P op d [] h = tt
 all_from P op d (x ∷ xs) h =
-    let e : op + 0 ≡ op = omega arith in
-    (
+    let e : op + 0 ≡ op = omega arith in (
       subst (λ k. P k x) e (h 0 (omega arith)),
       all_from P (op + 1) d xs (λ i l. let f : op + suc i ≡ op + 1 + i = omega arith in subst (λ k. P k (get_or xs i d)) f (h (suc i) (omega arith))),
     )

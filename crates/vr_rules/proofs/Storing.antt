@@ -1,5 +1,5 @@
 -- Changes of Parts keep a replica sound: an entry is stored or lost, a checkpoint is made.
-use Rattle.std.proofs.Common.{ℕ, ◌+◌, ◌-◌, ◌*◌, ◌%◌, ◌≤◌, ◌<◌, ◌≡◌, ◌≢◌, ◌∙◌, inl, inr, arith, refl, sym, ap, subst, ◌^◌, true, cond, List, [], ◌++◌, length, get_or, set, replicate, Option, Some, None}
+use Rattle.std.proofs.Common.{ℕ, ◌+◌, ◌-◌, ◌%◌, ◌≤◌, ◌<◌, ◌≡◌, ◌∙◌, inl, inr, arith, refl, sym, ap, subst, ◌^◌, true, cond, List, [], ◌++◌, length, get_or, set, replicate, Some}
 use Rattle.std.specs.Prelude.{nat_lt}
 use Rattle.std.proofs.lemmas.Bool.{cases_lt, cases_eq}
 use Rattle.std.proofs.lemmas.List.{length-append, length-replicate, length-set, get_or_append_left, get_or-append_right, get_or-replicate, get_or_past}
@@ -15,7 +15,7 @@ use Rattle.vr_rules.specs.Replica.{Replica, part_at, head, with_part}
 use Rattle.vr_rules.specs.Words.{applied, lost, stored, with_checkpoint}
 use Rattle.vr_rules.specs.Sound.{IsSound}
 use Rattle.vr_rules.specs.Laws.{Rises}
-use Rattle.vr_rules.proofs.Heads.{Spans, knows, known_within, knows_some, some_known, head_from, head_within, head_knows, head_reaches, head_least, part_within, part_before, part_past, with_part_spans, with_part_at, with_part_other}
+use Rattle.vr_rules.proofs.Heads.{Spans, knows, known_within, knows_some, some_known, head_from, head_within, head_knows, head_reaches, head_least, with_part_spans, with_part_at, with_part_other}
 use Rattle.vr_rules.proofs.Keeping.{Kept, Roomy, spans_of, sound_few, sound_forgetting, rises_forgetting, sound_applied, sound_alike}
 
 -- what a Part may be set to: it knows an entry's header

@@ -1,9 +1,9 @@
 -- A log that is taken over leaves a sound replica.
-use Rattle.std.proofs.Common.{ℕ, ◌+◌, ◌-◌, ◌*◌, ◌≤◌, ◌<◌, ◌≡◌, ◌≢◌, ◌∙◌, zero, suc, inl, inr, arith, refl, sym, ap, subst, Bool, true, false, cond, List, [], ◌∷◌, length, map, max, Option, Some, None, rules}
+use Rattle.std.proofs.Common.{ℕ, ◌+◌, ◌-◌, ◌≤◌, ◌<◌, ◌≡◌, ◌∙◌, zero, suc, inl, inr, arith, refl, sym, ap, subst, Bool, true, false, cond, List, [], ◌∷◌, length, map, max, Option, Some, None, rules}
 use Rattle.std.specs.Prelude.{slice_get, nat_lt, nat_le, ◌&&◌, ◌||◌, ◌==◌}
 use Rattle.std.specs.List.{range_with_len}
 use Rattle.std.specs.Option.{option_map_or}
-use Rattle.std.proofs.lemmas.Bool.{and_parts, or_cases, cases_lt, le-leb, lt-leb, leb-true, ltb-true, eqb-true, true≢false}
+use Rattle.std.proofs.lemmas.Bool.{and_parts, or_cases, cases_lt, le-leb, lt-leb, leb-true, ltb-true, eqb-true}
 use Rattle.std.proofs.lemmas.List.{length-replicate}
 use Rattle.std.proofs.lemmas.List.FromFn.{length-map-range_with_len}
 use Rattle.vr_base.specs.Replicas.{no_replicas}
@@ -14,14 +14,13 @@ use Rattle.vr_header.specs.Same.{same_header}
 use Rattle.vr_header.specs.Spelling.{IsHeader}
 use Rattle.vr_header.proofs.SameHeaders.{same_header_is}
 use Rattle.vr_msg.specs.Logs.{IsEntryAt, has_header, header_of}
-use Rattle.vr_rules.specs.Replica.{Replica, part_at, head, forgetting}
-use Rattle.vr_rules.specs.Steps.{Setting, ◌⨾◌, change}
-use Rattle.vr_rules.specs.Words.{Log, is_newer, fits, is_chain, may_take, log_header, replaced_by, above_end, taken_part, taken, no_ackers, no_statements, save, take}
+use Rattle.vr_rules.specs.Replica.{Replica, part_at, head}
+use Rattle.vr_rules.specs.Steps.{Setting}
+use Rattle.vr_rules.specs.Words.{Log, is_newer, fits, is_chain, may_take, log_header, replaced_by, taken_part, taken, no_ackers, no_statements, save, take}
 use Rattle.vr_rules.specs.Sound.{IsSound}
-use Rattle.vr_rules.specs.Laws.{Rises}
-use Rattle.vr_rules.proofs.Heads.{Spans, knows, knows_some, some_known, head_within, head_knows, head_reaches, remade, remade_spans, remade_at, remade_known}
+use Rattle.vr_rules.proofs.Heads.{Spans, knows_some, head_within, head_knows, head_reaches, remade, remade_spans, remade_at, remade_known}
 use Rattle.vr_rules.proofs.Keeping.{Kept, Roomy, spans_of, sound_forgetting, rises_forgetting}
-use Rattle.vr_rules.proofs.Combining.{KeptBy, kept_then, kept_change, kept_change_then}
+use Rattle.vr_rules.proofs.Combining.{KeptBy, kept_change_then}
 use Rattle.vr_rules.proofs.Wording.{none_stated, keeps_save}
 
 -- the log of a view of this replica's group: its headers are those of entries of the ops above lo

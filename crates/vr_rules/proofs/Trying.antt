@@ -1,6 +1,6 @@
 -- The primary of a view that isn't started takes over a log that its group's statements give.
-use Rattle.std.proofs.Common.{ℕ, zero, suc, ◌+◌, ◌-◌, ◌≤◌, ◌<◌, ◌≡◌, ◌≢◌, ◌∙◌, inl, inr, arith, refl, sym, ap, subst, Bool, true, false, cond, List, [], ◌∷◌, length, get_or, min, max, Option, Some, None, eqb, rules}
-use Rattle.std.specs.Prelude.{All, slice_get, filter_map, nat_le, not, ◌&&◌, ◌==◌}
+use Rattle.std.proofs.Common.{ℕ, zero, suc, ◌+◌, ◌-◌, ◌≤◌, ◌<◌, ◌≡◌, ◌∙◌, inl, inr, arith, refl, sym, ap, subst, Bool, true, false, cond, List, [], ◌∷◌, length, get_or, Option, Some, None, eqb, rules}
+use Rattle.std.specs.Prelude.{All, slice_get, filter_map, nat_le, not, ◌&&◌}
 use Rattle.std.specs.List.{find, range_with_len, cons_option}
 use Rattle.std.specs.Option.{option_and_then, option_map_or}
 use Rattle.std.proofs.lemmas.Bool.{cases_lt, le-leb, lt-leb, lt-ltb, le-ltb}
@@ -14,17 +14,16 @@ use Rattle.vr_header.specs.Spelling.{IsHeader}
 use Rattle.vr_msg.specs.declared.choice.Choice.{Choice}
 use Rattle.vr_msg.specs.declared.choice.Choice.TheVariants.{Ends, WaitsAt, TooFew}
 use Rattle.vr_msg.specs.declared.statement.Statement.{Statement}
-use Rattle.vr_msg.specs.Choice.{EndsWith, IsChoice, choice, chosen_header, farthest, header_at, log_start, named, named_by, ops, start_of, top_commit, top_view}
-use Rattle.vr_msg.specs.Choice as stating
+use Rattle.vr_msg.specs.Choice.{IsChoice, choice, chosen_header, farthest, header_at, log_start, named, named_by, ops, start_of, top_commit, top_view}
 use Rattle.vr_msg.specs.Logs.{FromOp, IsEntryAt, IsStatement, header_of}
-use Rattle.vr_msg.specs.Spelling.{AreHeaders, known}
-use Rattle.vr_choose.proofs.Bounds.{IsBounded, bounded, some_statements}
+use Rattle.vr_msg.specs.Spelling.{AreHeaders}
+use Rattle.vr_choose.proofs.Bounds.{bounded, some_statements}
 use Rattle.vr_choose.proofs.Choices.{choice_meets}
 use Rattle.vr_choose.proofs.Logs.{found}
 use Rattle.vr_choose.proofs.Standing.{headers_stand}
 use Rattle.vr_rules.specs.Replica.{Replica, head, is_primary, is_started, view_change, statement_of}
-use Rattle.vr_rules.specs.Steps.{Setting, Word, ◌⨾◌, quiet, says, by, naming, when, each}
-use Rattle.vr_rules.specs.Words.{Log, may_take, take, send_to_all, to_primary, do_view_change, start_view, wait_line, prepare_again, apply, stated, log_end, chosen_log, choose_line, begin_view, try_log, obey_choice, decided, try, speak}
+use Rattle.vr_rules.specs.Steps.{Setting, says}
+use Rattle.vr_rules.specs.Words.{Log, may_take, take, to_primary, do_view_change, wait_line, prepare_again, stated, log_end, chosen_log, choose_line, begin_view, try_log, obey_choice, decided, try, speak}
 use Rattle.vr_rules.specs.Sound.{IsStated, IsSound}
 use Rattle.vr_rules.proofs.Combining.{KeptBy, Keeps, kept_then, kept_says_then, kept_by, kept_naming, kept_if, kept_when, keeps_then, keeps_quiet, keeps_says, keeps_by, keeps_when, keeps_if, keeps_each}
 use Rattle.vr_rules.proofs.Stating.{own_statement}
@@ -147,8 +146,7 @@ chosen_log_is r q ss hs all e =
           let start : log_start ss top + 1 + i ≡ log_end (top_commit ss) hs - length hs + 1 + i = omega (arith, end) in
           let place : log_start ss top + 1 + i - (log_start ss top + 1) ≡ i = omega arith in
           let chosen : slice_get hs i ≡ chosen_header ss (log_start ss top + 1 + i) = subst (λ j. slice_get hs j ≡ chosen_header ss (log_start ss top + 1 + i)) place (log.each (log_start ss top + 1 + i) (omega arith) (omega arith)) in
-          let entry : IsEntryAt r.cluster r.view (log_start ss top + 1 + i) h = record { entry = is.entry; of_group = is.of_group; at_op = is.at_op; made = omega arith } in
-          (
+          let entry : IsEntryAt r.cluster r.view (log_start ss top + 1 + i) h = record { entry = is.entry; of_group = is.of_group; at_op = is.at_op; made = omega arith } in (
             chosen_is r.cluster r.view (log_start ss top + 1 + i) ss h all (sym chosen ∙ at),
             subst (λ k. IsEntryAt r.cluster r.view k h) start entry,
           );

@@ -1,8 +1,8 @@
 -- The words keep every replica sound: saving, entering a view, storing, applying, learning, asking, loading.
-use Rattle.std.proofs.Common.{ℕ, zero, suc, ◌+◌, ◌-◌, ◌%◌, ◌≤◌, ◌<◌, ◌≡◌, ◌≢◌, ◌∙◌, inl, inr, arith, refl, sym, ap, subst, Bool, true, false, cond, List, [], ◌∷◌, length, get_or, replicate, min, max, Option, Some, None, Ok, Err, eqb, ltb}
-use Rattle.std.specs.Prelude.{nat_lt, filter, ◌==◌, ◌&&◌, not}
+use Rattle.std.proofs.Common.{ℕ, ◌+◌, ◌-◌, ◌%◌, ◌≤◌, ◌<◌, ◌≡◌, ◌≢◌, ◌∙◌, inl, inr, arith, refl, sym, Bool, true, false, List, [], ◌∷◌, length, get_or, replicate, min, max, Option, Some, None, Ok, Err}
+use Rattle.std.specs.Prelude.{nat_lt}
 use Rattle.std.specs.List.{prefix_len}
-use Rattle.std.proofs.lemmas.Bool.{and_parts, cases_lt, ltb-true, ltb-false, leb-true, eqb-true, eqb-false}
+use Rattle.std.proofs.lemmas.Bool.{and_parts, cases_lt, ltb-true, eqb-true, eqb-false}
 use Rattle.std.proofs.lemmas.List.{length-replicate, get_or-replicate, get_or_past, nil_from_length}
 use Rattle.std.proofs.lemmas.List.FromFn.{length-range_with_len}
 use Rattle.std.proofs.lemmas.List.Sums.{prefix_len-le-length}
@@ -23,13 +23,13 @@ use Rattle.vr_apply.specs.declared.state.State.{State}
 use Rattle.vr_apply.specs.Texts.{state_decoded}
 use Rattle.vr_table.specs.declared.fault.StateFault.{StateFault}
 use Rattle.std.specs.Prelude.{Result}
-use Rattle.vr_rules.specs.Replica.{Replica, last_view, part_at, head, is_here, is_primary, is_started}
-use Rattle.vr_rules.specs.Steps.{Setting, Word, ◌⨾◌, quiet, change, does, says, by, naming, reading, when, times, each}
-use Rattle.vr_rules.specs.Words.{Log, value_of, saves, with_saved, save, no_ackers, no_statements, entered, rested, enter, writes, stored, write, accept, entry_of, or_lost, lost, with_entry, with_entry_at, applied, checkpoints, with_checkpoint, checkpoint_of, make_checkpoint, is_checkpoint, commit_line, applied_reply, apply_entry, is_loaded, apply_next, apply, has_quorum, advanced, advance, learned, learn, prepare_again, resend, turned, ask_peer, ask_for, ask, with_state, with_missing, loaded_state, loads, checkpoint_at, load}
-use Rattle.vr_rules.specs.Sound.{IsStated, IsSound}
+use Rattle.vr_rules.specs.Replica.{Replica, last_view, part_at, head}
+use Rattle.vr_rules.specs.Steps.{Setting, Word, ◌⨾◌, quiet, change, does, says, by, reading, when}
+use Rattle.vr_rules.specs.Words.{saves, with_saved, save, no_ackers, no_statements, entered, rested, enter, writes, stored, write, accept, entry_of, or_lost, lost, with_entry, with_entry_at, applied, with_checkpoint, checkpoint_of, make_checkpoint, is_checkpoint, apply_entry, is_loaded, apply_next, apply, has_quorum, advanced, advance, learned, learn, prepare_again, resend, turned, ask_peer, ask_for, ask, with_state, with_missing, loaded_state, loads, checkpoint_at, load}
+use Rattle.vr_rules.specs.Sound.{IsSound}
 use Rattle.vr_rules.specs.Laws.{Rises}
-use Rattle.vr_rules.proofs.Keeping.{Kept, core, kept_same, kept_more, rises_same, sound_alike, sound_commit, sound_ackers, sound_missing, sound_view}
-use Rattle.vr_rules.proofs.Combining.{KeptBy, Keeps, kept_then, kept_change_then, kept_says_then, kept_does_then, kept_change, kept_by, kept_naming, kept_reading, kept_quiet, kept_if, kept_when, keeps_then, keeps_quiet, keeps_says, keeps_does, keeps_change, keeps_by, keeps_naming, keeps_reading, keeps_if, keeps_when, keeps_times, keeps_each}
+use Rattle.vr_rules.proofs.Keeping.{Kept, core, kept_more, sound_alike, sound_commit, sound_ackers, sound_missing, sound_view}
+use Rattle.vr_rules.proofs.Combining.{KeptBy, Keeps, kept_change_then, kept_does_then, kept_change, kept_by, kept_reading, kept_quiet, kept_if, kept_when, keeps_then, keeps_quiet, keeps_says, keeps_does, keeps_change, keeps_by, keeps_naming, keeps_if, keeps_when, keeps_times}
 use Rattle.vr_rules.proofs.Storing.{MayStore, kept_stored, kept_lost, kept_moved, kept_applied}
 
 -- a change of fields that soundness doesn't ask for

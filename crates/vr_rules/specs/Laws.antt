@@ -22,6 +22,7 @@ use Rattle.vr_rules.specs.Steps.{Effect, Save, Mend, Rewrite, Setting, Step, aft
 use Rattle.vr_rules.specs.Deciding.{Rule, Ignored, InFlight, PreparedBefore, Beyond, Other, CommitBefore, ChangeBefore, StatedBefore}
 use Rattle.vr_rules.specs.Rules.{react, rule_for}
 use Rattle.vr_rules.specs.Opening.{blank, opening}
+use Rattle.vr_rules.specs.Sectors.{sectors}
 use Rattle.vr_rules.specs.Sound.{IsSound, IsSavable}
 
 -- a message of the program: it has the form of its kind, and its numbers and texts are those that the program has
@@ -116,6 +117,10 @@ pub record SavesWell (x : Step) : Type 0 where
 
 abbrev pub StepsSaveWell : Type 0 → Type 0
 StepsSaveWell F = (s : Setting F) (f : F) (r : Replica) (e : Event) → HasNames s → SavesRoots s → IsSound r → IsSavable r → IsEvent e → SavesWell (react e s r f)
+
+-- the program's sectors are such a disk
+abbrev pub SectorsFit : Type 0
+SectorsFit = HasNames sectors × SavesRoots sectors
 
 -- ---- what is put out carries present values
 

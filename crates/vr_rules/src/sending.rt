@@ -1,6 +1,14 @@
 // What every step and every opening puts out and saves. Each function is a law: its contract is the statement, and it does nothing.
 
-ghost use Rattle.vr_rules.specs.Laws.{NothingIsDone, OnlyHearingIsDone, OpeningsArePresent, StepsArePresent, WaitsChangeNoPart};
+ghost use Rattle.vr_rules.specs.Laws.{
+  NothingIsDone,
+  OnlyHearingIsDone,
+  OpeningsArePresent,
+  SectorsFit,
+  StepsArePresent,
+  StepsSaveWell,
+  WaitsChangeNoPart,
+};
 
 /// A rule that says nothing leaves the replica as it is, and its step has no effects.
 pub fn nothing_is_done<F>()
@@ -26,4 +34,15 @@ pub fn steps_are_present<F>()
 /// So are those of an opening, from any value that makes a good copy.
 pub fn openings_are_present<F>()
     ensures { OpeningsArePresent F }
+{}
+
+/// Each value that a step saves makes a good copy, and what the step leaves can be saved again: from a sound replica that can be
+/// saved, for every event of the program.
+pub fn steps_save_well<F>()
+    ensures { StepsSaveWell F }
+{}
+
+/// The program's sectors have names of 16 bytes, and the roots of its checkpoints stand in the grid.
+pub fn sectors_fit()
+    ensures { SectorsFit }
 {}
