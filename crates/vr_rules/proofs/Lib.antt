@@ -1,3 +1,13 @@
+pub mod Silent
+pub mod SendsScripts
+pub mod SendsPlaces
+pub mod SendsCalm
+pub mod SendsWords
+pub mod SendsRules
+pub mod SendsSteps
+pub mod SendsOpening
+pub mod SilentWaits
+pub mod SilentSteps
 pub mod Heads
 pub mod Keeping
 pub mod Combining
@@ -7,6 +17,7 @@ pub mod Taking
 pub mod Stating
 pub mod Trying
 pub mod Ruling
+pub mod SavesCore
 pub mod Reacting
 pub mod Slots
 pub mod Openings
@@ -20,3 +31,10 @@ pub mod ActingOn
 pub mod Doing
 pub mod Opened
 pub mod Cuts
+pub mod SavesWell
+pub mod SavesParts
+pub mod SavesWords
+pub mod SavesTrying
+pub mod SavesRules
+pub mod SavesSteps
+pub mod SavesSectors

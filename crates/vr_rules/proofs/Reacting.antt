@@ -46,7 +46,7 @@ operation_size (Put key value) h =
 operation_size (Get key) h = let k = text_limit 64 key h in (omega arith, omega (arith, k))
 operation_size (Delete key) h = let k = text_limit 64 key h in (omega arith, omega (arith, k))
 
-may_store_next : (hash : Hash) (q : RequestFields) (r : Replica) → ((bytes : List ℕ) → length (hash bytes) ≡ 16) → IsSound r → IsMessage (frame.Request q)
+pub may_store_next : (hash : Hash) (q : RequestFields) (r : Replica) → ((bytes : List ℕ) → length (hash bytes) ≡ 16) → IsSound r → IsMessage (frame.Request q)
     → q.cluster ≡ r.cluster → r.view ≡ r.log_view → r.view ≤ last_view → r.commit ≤ r.applied → head r < r.commit + 8 → head r < 2 ^ 62 → MayStore (next_entry hash q r) r
 unfolding next_entry
 may_store_next hash q r names h m g v w a b c =
@@ -158,7 +158,7 @@ keeps_get_block g = record {
 filter_none : {X : Type 0} (p : X → Bool) (xs : List X) → filter p xs ≢ [] → xs ≢ []
 filter_none p xs n e = n (ap (filter p) e)
 
-kept_without : (name : Name) (r : Replica) → IsSound r → Kept r (without name r)
+pub kept_without : (name : Name) (r : Replica) → IsSound r → Kept r (without name r)
 kept_without name r h = record {
   sound = sound_missing r (filter (λ (m : Name). not (m.address == name.address)) r.missing) (λ n. h.waits (filter_none _ r.missing n)) h;
   rises = record { view = omega arith; log_view = omega arith; commit = omega arith; applied = omega arith; checkpoint = omega arith };
@@ -191,7 +191,7 @@ keeps_give_block g = record {
 
 -- ---- ticks
 
-keeps_idler : {F : Type 0} → Keeps {F = F} (change idler)
+pub keeps_idler : {F : Type 0} → Keeps {F = F} (change idler)
 keeps_idler = keeps_change idler (λ r h. kept_alike r (idler r) refl (record { view = omega arith; log_view = omega arith; commit = omega arith; applied = omega arith; checkpoint = omega arith }) h)
 
 keeps_next_view : {F : Type 0} → Keeps {F = F} next_view

@@ -60,7 +60,7 @@ group_of_primary cluster sender view r e = group_of cluster sender r (and_parts 
 
 -- ---- prepares
 
-may_store_prepare : (p : Prepare) (r : Replica) → IsMessage (frame.Prepare p) → p.entry.header.cluster ≡ r.cluster → p.view ≤ r.log_view → r.checkpoint < p.entry.header.op
+pub may_store_prepare : (p : Prepare) (r : Replica) → IsMessage (frame.Prepare p) → p.entry.header.cluster ≡ r.cluster → p.view ≤ r.log_view → r.checkpoint < p.entry.header.op
     → p.entry.header.op ≤ r.checkpoint + 64 → MayStore p.entry (rested r)
 may_store_prepare p r m g v a b =
     let form = m.form in
@@ -122,7 +122,7 @@ keeps_prepare p m = record {
 
 -- ---- prepare_oks and commits
 
-keeps_acknowledged : {F : Type 0} (a : PrepareOk) → Keeps {F = F} (change (acknowledged a))
+pub keeps_acknowledged : {F : Type 0} (a : PrepareOk) → Keeps {F = F} (change (acknowledged a))
 keeps_acknowledged a = keeps_change (acknowledged a) (λ r h.
     record {
       sound = sound_ackers r _ (length-set r.ackers (a.op - r.first) _) h;
@@ -162,7 +162,7 @@ keeps_commit c = record {
 
 -- ---- view changes
 
-keeps_heard : {F : Type 0} (sender : ℕ) → Keeps {F = F} (change (heard_of sender))
+pub keeps_heard : {F : Type 0} (sender : ℕ) → Keeps {F = F} (change (heard_of sender))
 keeps_heard sender = keeps_change (heard_of sender) (λ r h. kept_alike r (heard_of sender r) refl (record { view = omega arith; log_view = omega arith; commit = omega arith; applied = omega arith; checkpoint = omega arith }) h)
 
 pub keeps_start_view_change : {F : Type 0} (c : StartViewChange) → Keeps {F = F} (on_start_view_change c)
@@ -197,7 +197,7 @@ with_statement_each i t ss j x e =
       ]
     ]
 
-kept_statement : (i : ℕ) (t : Statement) (r : Replica) → IsSound r → IsStated r.cluster r.view t → Kept r (with_statement i t r)
+pub kept_statement : (i : ℕ) (t : Statement) (r : Replica) → IsSound r → IsStated r.cluster r.view t → Kept r (with_statement i t r)
 kept_statement i t r h is = record {
   sound = sound_view r r.view (set r.statements i (Some t)) (omega arith) (length-set r.statements i (Some t) ∙ h.lists.statements) (λ j x e. elim (with_statement_each i t r.statements j x e) [
     | inl same ↦ subst (IsStated r.cluster r.view) same is
@@ -207,7 +207,7 @@ kept_statement i t r h is = record {
 }
 
 -- the view that is entered is the replica's then
-in_view : {F : Type 0} (v : ℕ) (b : Bool) (s : Setting F) (r : Replica) (f : F) → nat_lt r.view v ≡ b → nat_lt last_view v ≡ false → r.view ≤ v
+pub in_view : {F : Type 0} (v : ℕ) (b : Bool) (s : Setting F) (r : Replica) (f : F) → nat_lt r.view v ≡ b → nat_lt last_view v ≡ false → r.view ≤ v
     → ((when b (enter v) s r f).replica.view ≡ v) × ((when b (enter v) s r f).replica.cluster ≡ r.cluster)
 unfolding enter entered save says change does quiet ◌⨾◌
 in_view v true s r f e l a = rw l (refl, refl)
@@ -258,7 +258,7 @@ header_in [] i h all e = absurd cc
 header_in (g ∷ hs) zero h all e = let same : g ≡ h = cc in subst IsHeader same all.0
 header_in (g ∷ hs) (suc i) h all e = header_in hs i h all.1 e
 
-told_log : (v : StartView) (r : Replica) → IsMessage (frame.StartView v) → v.cluster ≡ r.cluster → IsLogFor r (log_of v)
+pub told_log : (v : StartView) (r : Replica) → IsMessage (frame.StartView v) → v.cluster ≡ r.cluster → IsLogFor r (log_of v)
 told_log v r m g =
     let form = m.form in
     record {
@@ -321,7 +321,7 @@ known_is : (h : Header) (o : Option Header) → option_map_or (λ d. same_header
 known_is h None e = absurd cc
 known_is h (Some d) e = ap Some (same_header_is d h e)
 
-may_store_given : (e : Whole) (r : Replica) → IsSound r → r.checkpoint < e.header.op → is_known e.header e.header.op r ≡ true → MayStore e r
+pub may_store_given : (e : Whole) (r : Replica) → IsSound r → r.checkpoint < e.header.op → is_known e.header e.header.op r ≡ true → MayStore e r
 may_store_given e r h a k =
     let there : header_at r e.header.op ≡ Some e.header = known_is e.header (header_at r e.header.op) k in
     let is = h.entries.each e.header.op e.header there in

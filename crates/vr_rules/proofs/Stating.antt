@@ -105,17 +105,17 @@ are_known (Nothing ∷ ps) all = are_known ps (λ i g e. all (suc i) g e)
 -- ---- the run of known headers that ends at the head
 
 -- the Parts up to the head, the last one first
-abbrev back : Replica → List Part
+abbrev pub back : Replica → List Part
 back r = reverse (take (head r + 1 - r.first) r.parts)
 
-back_size : (r : Replica) → IsSound r → length (back r) ≡ head r + 1 - r.first
+pub back_size : (r : Replica) → IsSound r → length (back r) ≡ head r + 1 - r.first
 back_size r h =
     let s = spans_of r h in
     let parts = s.parts in
     let within = head_within r s in
     length-reverse (take (head r + 1 - r.first) r.parts) ∙ length-take-le (head r + 1 - r.first) r.parts (omega arith)
 
-back_at : (r : Replica) (i : ℕ) → IsSound r → i < head r + 1 - r.first → get_or (back r) i Nothing ≡ part_at r (head r - i)
+pub back_at : (r : Replica) (i : ℕ) → IsSound r → i < head r + 1 - r.first → get_or (back r) i Nothing ≡ part_at r (head r - i)
 back_at r i h l =
     let s = spans_of r h in
     let parts = s.parts in
@@ -128,7 +128,7 @@ back_at r i h l =
     ∙ get_or-take n r.parts (head r - i - r.first) Nothing (omega arith)
     ∙ sym (part_within r (head r - i) (omega arith))
 
-run_size : (r : Replica) → length (run r) ≡ prefix_len has_header (back r)
+pub run_size : (r : Replica) → length (run r) ≡ prefix_len has_header (back r)
 unfolding run
 run_size r = length-reverse (filter_map header_of (take_while has_header (back r))) ∙ run_length (back r)
 

@@ -22,7 +22,7 @@ use Rattle.vr_rules.proofs.Keeping.{Kept, Roomy, spans_of, sound_few, sound_forg
 abbrev pub MayBe : ℕ → Part → Replica → Type 0
 MayBe k p r = (h : Header) → header_of p ≡ Some h → IsHeader h × IsEntryAt r.cluster r.log_view k h
 
-with_part_known : (k : ℕ) (p : Part) (r : Replica) (j : ℕ) → Spans r → r.first ≤ k → k ≤ r.checkpoint + 64 → (knows r k ≡ true → has_header p ≡ true)
+pub with_part_known : (k : ℕ) (p : Part) (r : Replica) (j : ℕ) → Spans r → r.first ≤ k → k ≤ r.checkpoint + 64 → (knows r k ≡ true → has_header p ≡ true)
     → knows r j ≡ true → knows (with_part k p r) j ≡ true
 with_part_known k p r j s a b stays e =
     let sp = s.parts in
@@ -154,10 +154,10 @@ more_nothing ps n i =
     ]
 
 -- a replica whose window has moved up
-abbrev moved : checkpoint.Saved → Whole → Replica → Replica
+abbrev pub moved : checkpoint.Saved → Whole → Replica → Replica
 moved c e r = with_checkpoint c (applied e r)
 
-moved_at : (c : checkpoint.Saved) (e : Whole) (r : Replica) (k : ℕ) → part_at (moved c e r) k ≡ part_at r k
+pub moved_at : (c : checkpoint.Saved) (e : Whole) (r : Replica) (k : ℕ) → part_at (moved c e r) k ≡ part_at r k
 unfolding with_checkpoint part_at
 moved_at c e r k = ap (λ p. cond (nat_lt k r.first) Nothing p) (more_nothing r.parts (r.applied + 1 - r.checkpoint) (k - r.first))
 
@@ -172,7 +172,7 @@ moved_spans c e r h =
     let more = length-replicate n (Nothing) in
     record { reach = omega arith; parts = omega (arith, size, more) }
 
-moved_head : (c : checkpoint.Saved) (e : Whole) (r : Replica) → IsSound r → r.applied < r.commit → head (moved c e r) ≡ head r
+pub moved_head : (c : checkpoint.Saved) (e : Whole) (r : Replica) → IsSound r → r.applied < r.commit → head (moved c e r) ≡ head r
 unfolding with_checkpoint
 moved_head c e r h a =
     let n : ℕ = r.applied + 1 - r.checkpoint in

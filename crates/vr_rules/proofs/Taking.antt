@@ -131,7 +131,7 @@ log_reaches (x ∷ xs) zero l = (x, refl)
 log_reaches (x ∷ xs) (suc i) l = log_reaches xs i (omega arith)
 
 -- each op up to the log's end is known
-taken_known : (l : Log) (r : Replica) (k : ℕ) → IsSound r → IsLogFor r l → MayTake l r → r.checkpoint < k → k ≤ l.head → has_header (taken_part l r k) ≡ true
+pub taken_known : (l : Log) (r : Replica) (k : ℕ) → IsSound r → IsLogFor r l → MayTake l r → r.checkpoint < k → k ≤ l.head → has_header (taken_part l r k) ≡ true
 unfolding taken_part
 taken_known l r k sound log m a b =
     let count = log.count in
@@ -146,7 +146,7 @@ taken_known l r k sound log m a b =
     ])
 
 -- before ops are forgotten
-abbrev over : Log → Replica → Replica
+abbrev pub over : Log → Replica → Replica
 over l r = record r {
   view = l.view;
   log_view = l.view;
@@ -158,11 +158,11 @@ over l r = record r {
   commit = max r.commit l.commit;
 }
 
-over_at : (l : Log) (r : Replica) (k : ℕ) → part_at (over l r) k ≡ part_at (remade (taken_part l r) r) k
+pub over_at : (l : Log) (r : Replica) (k : ℕ) → part_at (over l r) k ≡ part_at (remade (taken_part l r) r) k
 unfolding part_at
 over_at l r k = refl
 
-over_spans : (l : Log) (r : Replica) → Spans r → Spans (over l r)
+pub over_spans : (l : Log) (r : Replica) → Spans r → Spans (over l r)
 over_spans l r s = let t = remade_spans (taken_part l r) r s in record { reach = t.reach; parts = t.parts }
 
 roomy_over : (l : Log) (r : Replica) → IsSound r → IsLogFor r l → MayTake l r → Roomy (over l r)

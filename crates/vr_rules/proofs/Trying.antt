@@ -66,7 +66,7 @@ known_header (Nothing ∷ ps) (suc i) h all e = known_header ps i h all e
 
 -- ---- what is stated
 
-all_stated : (r : Replica) → IsSound r → All (IsStated r.cluster r.view) (stated r)
+pub all_stated : (r : Replica) → IsSound r → All (IsStated r.cluster r.view) (stated r)
 unfolding stated
 all_stated r h =
     each_kept (IsStated r.cluster r.view) (λ i. cond (eqb i r.index) (Some (statement_of r)) (get_or r.statements i None)) (range_with_len 0 r.n) (λ i s e.
@@ -125,7 +125,7 @@ log_end_is cluster ss head (h ∷ hs) whole low all =
     let last : slice_get (h ∷ hs) (length (h ∷ hs) - 1) ≡ Some there.0 = ap (slice_get (h ∷ hs)) place ∙ there.1 in
     rw last (omega arith)
 
-chosen_log_is : (r : Replica) (q : Quorums) (ss : List Statement) (hs : List Header) → All (IsStated r.cluster r.view) ss → choice q ss ≡ Ends hs → IsLogFor r (chosen_log r ss hs)
+pub chosen_log_is : (r : Replica) (q : Quorums) (ss : List Statement) (hs : List Header) → All (IsStated r.cluster r.view) ss → choice q ss ≡ Ends hs → IsLogFor r (chosen_log r ss hs)
 chosen_log_is r q ss hs all e =
     let are = All-weaker (IsStated r.cluster r.view) (IsStatement r.cluster) (λ s i. i.statement) ss all in
     let meets : IsChoice q ss (Ends hs) = subst (IsChoice q ss) e (choice_meets q ss (bounded ss (some_statements r.cluster ss are))) in
@@ -173,7 +173,7 @@ kept_try_log ss l s r f h log =
     (λ t. kept_begin_view ss l s r f h log (may_take_is s.hash l r t))
     (λ t. (keeps_says (wait_line l.head)).every s r f h)))
 
-decided_ends : (n : ℕ) (ss : List Statement) (hs : List Header) (o : Option Quorums) → option_map_or (λ q. choice q ss) o TooFew ≡ Ends hs → (q : Quorums) × (choice q ss ≡ Ends hs)
+pub decided_ends : (n : ℕ) (ss : List Statement) (hs : List Header) (o : Option Quorums) → option_map_or (λ q. choice q ss) o TooFew ≡ Ends hs → (q : Quorums) × (choice q ss ≡ Ends hs)
 decided_ends n ss hs None e = absurd cc
 decided_ends n ss hs (Some q) e = (q, e)
 

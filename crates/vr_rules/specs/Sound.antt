@@ -1,5 +1,5 @@
 -- What a replica keeps of itself between steps.
-use Rattle.std.specs.Prelude.{ℕ, ◌+◌, ◌%◌, ◌<◌, ◌≤◌, ◌≡◌, ◌≢◌, true, is_some, [], length, slice_index_or, Some, None}
+use Rattle.std.specs.Prelude.{ℕ, ◌+◌, ◌-◌, ◌%◌, ◌^◌, ◌<◌, ◌≤◌, ◌≡◌, ◌≢◌, true, is_some, [], length, slice_index_or, Some, None}
 use Rattle.vr_base.specs.Groups.{quorums_of}
 use Rattle.vr_header.specs.declared.header.Header.{Header}
 use Rattle.vr_header.specs.Spelling.{IsHeader}
@@ -7,6 +7,7 @@ use Rattle.vr_msg.specs.declared.statement.Statement.{Statement}
 use Rattle.vr_msg.specs.Logs.{IsEntryAt, IsStatement}
 use Rattle.vr_msg.specs.Numbers.{IsNumber}
 use Rattle.vr_msg.specs.Spelling.{AreHeaders, known}
+use Rattle.vr_super.specs.Copies.{is_zeros}
 use Rattle.vr_rules.specs.Replica.{Replica, head, header_at, window_end}
 
 -- checkpoint, applied, commit number, head and window stand in this order
@@ -53,3 +54,15 @@ pub record IsSound (r : Replica) : Type 0 where
   pub near : r.applied < r.checkpoint + 32
   -- while blocks are missing nothing is applied
   pub waits : r.missing ≢ [] → r.applied ≡ r.checkpoint
+
+-- What it can save of itself beside: its numbers have their types, its root is that of a checkpoint, and the header at its head is
+-- known, where that isn't 0.
+pub record IsSavable (r : Replica) : Type 0 where
+  pub cluster : r.cluster < 2 ^ 64
+  pub view : r.view < 2 ^ 32
+  pub log_view : r.log_view < 2 ^ 32 - 1
+  pub address : r.root.address < 128
+  pub name : length r.root.sum.0 ≡ 16
+  -- without a checkpoint there is no root
+  pub none : r.checkpoint ≡ 0 → (r.root.address ≡ 0) × (is_zeros r.root.sum.0 ≡ true)
+  pub top : 0 < head r → is_some (header_at r (head r)) ≡ true

@@ -1,0 +1,315 @@
+-- Each rule says no wait, or it changes no Part.
+use Rattle.std.proofs.Common.{◌≡◌, ◌⊎◌, inl, inr, refl, ◌∙◌, ℕ, Bool, true, false, cond, List, [], ◌∷◌, Option, Some, None}
+use Rattle.std.specs.Prelude.{All}
+use Rattle.std.specs.Option.{option_map_or}
+use Rattle.std.proofs.lemmas.List.Elements.{All-append, All-contains}
+use Rattle.vr_header.specs.declared.header.Header.{Header}
+use Rattle.vr_grid.specs.declared.name.Name.{Name}
+use Rattle.vr_msg.specs.declared.event.Event.{Event}
+use Rattle.vr_msg.specs.declared.event.Event.TheVariants as event
+use Rattle.vr_msg.specs.declared.frame.Commit.{Commit}
+use Rattle.vr_msg.specs.declared.frame.DoViewChange.{DoViewChange}
+use Rattle.vr_msg.specs.declared.frame.Frame.{Frame}
+use Rattle.vr_msg.specs.declared.frame.Frame.TheVariants as frame
+use Rattle.vr_msg.specs.declared.frame.GetBlock.{GetBlock}
+use Rattle.vr_msg.specs.declared.frame.GetPrepare.{GetPrepare}
+use Rattle.vr_msg.specs.declared.frame.GetView.{GetView}
+use Rattle.vr_msg.specs.declared.frame.GiveBlock.{GiveBlock}
+use Rattle.vr_msg.specs.declared.frame.GivePrepare.{GivePrepare}
+use Rattle.vr_msg.specs.declared.frame.Prepare.{Prepare}
+use Rattle.vr_msg.specs.declared.frame.PrepareOk.{PrepareOk}
+use Rattle.vr_msg.specs.declared.frame.StartView.{StartView}
+use Rattle.vr_msg.specs.declared.frame.StartViewChange.{StartViewChange}
+use Rattle.vr_msg.specs.declared.request.RequestFields.{RequestFields}
+use Rattle.vr_msg.specs.declared.output.Output.{Output}
+use Rattle.vr_msg.specs.declared.output.Output.TheVariants as output
+use Rattle.vr_msg.specs.declared.statement.Statement.{Statement}
+use Rattle.vr_msg.specs.declared.choice.Choice.{Choice}
+use Rattle.vr_msg.specs.declared.choice.Choice.TheVariants.{Ends, WaitsAt, TooFew}
+use Rattle.vr_sess.specs.declared.session.SessionAnswer.{SessionAnswer}
+use Rattle.vr_sess.specs.declared.session.SessionAnswer.TheVariants as answer
+use Rattle.vr_rules.specs.Replica.{Replica}
+use Rattle.vr_rules.specs.Steps.{Effect, Setting, Step, Word, ◌⨾◌, quiet, change, does, says, by, naming, outputs, after_all}
+use Rattle.vr_rules.specs.Words as words
+use Rattle.vr_rules.specs.Deciding.{Rule, Hash, Redirected, Behind, Answered, Full, Made, PreparedLater, Past, Beyond, Known, Next, Ahead, Other, Counted, CommitLater, CommitHeard, ChangeLater, ChangeHeard, ChangeDone, StatedLate, Stated, Taken, ViewGiven, EntryGiven, EntryTaken, BlockGiven, BlockTaken, TickedPrimary, TickedBackup, TickedChanging}
+use Rattle.vr_rules.specs.Rules as rules
+use Rattle.vr_rules.specs.Laws.{WaitsChangeNoPart}
+use Rattle.vr_rules.proofs.SendsScripts.{outputs_append}
+use Rattle.vr_rules.proofs.SilentWaits.{IsNoWait, Mute, mute_then, mute_quiet, mute_change, mute_does, mute_by, mute_naming, mute_reading, mute_if, mute_each, mute_one, mute_all, mute_write, mute_entry, mute_apply, mute_take, mute_prepare_again, mute_begin, mute_advance, mute_learn, mute_accept, mute_resend, mute_load}
+
+record IsStill (r : Replica) (x : Step) : Type 0 where
+  first : x.replica.first ≡ r.first
+  parts : x.replica.parts ≡ r.parts
+
+module _ {F : Type 0} where
+  -- no wait is said, and no Part changes
+  record Still (w : Word F) : Type 0 where
+    mute : Mute w
+    still : (s : Setting F) (r : Replica) (f : F) → IsStill r (w s r f)
+
+  -- no wait is said, or no Part changes
+  record Steady (w : Word F) : Type 0 where
+    each : (s : Setting F) (r : Replica) (f : F) → All IsNoWait (outputs (w s r f).script) ⊎ IsStill r (w s r f)
+
+  still_then : (v w : Word F) → Still v → Still w → Still (v ⨾ w)
+  unfolding ◌⨾◌
+  still_then v w h k = record {
+    mute = mute_then v w h.mute k.mute;
+    still = λ s r f.
+        let a = v s r f in
+        let p = h.still s r f in
+        let q = k.still s a.replica (after_all s f a.script) in
+        record { first = q.first ∙ p.first; parts = q.parts ∙ p.parts };
+  }
+
+  still_quiet : Still quiet
+  unfolding quiet
+  still_quiet = record { mute = mute_quiet; still = λ s r f. record { first = refl; parts = refl } }
+
+  still_change : (g : Replica → Replica) → ((r : Replica) → (g r).first ≡ r.first) → ((r : Replica) → (g r).parts ≡ r.parts) → Still (change g)
+  unfolding change
+  still_change g a b = record { mute = mute_change g; still = λ s r f. record { first = a r; parts = b r } }
+
+  still_says : (os : Replica → List Output) → Mute {F = F} (says os) → Still (says os)
+  unfolding says
+  still_says os m = record { mute = m; still = λ s r f. record { first = refl; parts = refl } }
+
+  still_does : (e : Replica → Effect) → Mute {F = F} (does e) → Still (does e)
+  unfolding does
+  still_does e m = record { mute = m; still = λ s r f. record { first = refl; parts = refl } }
+
+  still_by : (w : Replica → Word F) → ((r : Replica) → Still (w r)) → Still (by w)
+  unfolding by
+  still_by w h = record { mute = mute_by w (λ r. (h r).mute); still = λ s r f. (h r).still s r f }
+
+  still_naming : (w : Hash → Word F) → ((hash : Hash) → Still (w hash)) → Still (naming w)
+  unfolding naming
+  still_naming w h = record { mute = mute_naming w (λ hash. (h hash).mute); still = λ s r f. (h s.hash).still s r f }
+
+  still_if : (b : Bool) (v w : Word F) → Still v → Still w → Still (cond b v w)
+  still_if true v w h k = h
+  still_if false v w h k = k
+
+  still_save : Still words.save
+  unfolding words.save outputs
+  still_save = still_then _ _ (still_does _ (mute_does _ (λ r. refl))) (still_change _ (λ r. refl) (λ r. refl))
+
+  still_enter : (v : ℕ) → Still (words.enter v)
+  unfolding words.enter words.entered
+  still_enter v =
+      still_if _ _ _ (still_change _ (λ r. refl) (λ r. refl)) (still_then _ _ (still_change _ (λ r. refl) (λ r. refl)) (still_then _ _ still_save (still_says _ (mute_all _))))
+
+  still_ask_peer : (message : Replica → Frame) → Still (words.ask_peer message)
+  unfolding words.ask_peer
+  still_ask_peer message = still_then _ _ (still_says _ (mute_one _ (λ r. tt))) (still_change _ (λ r. refl) (λ r. refl))
+
+  still_ask_for : (names : List Name) (absent : Option Header) → Still (words.ask_for names absent)
+  still_ask_for (name ∷ names) absent = still_ask_peer _
+  still_ask_for [] (Some h) = still_naming _ (λ hash. still_ask_peer _)
+  still_ask_for [] None = still_quiet
+
+  still_ask : Still words.ask
+  unfolding words.ask
+  still_ask = still_by _ (λ r. still_ask_for _ _)
+
+  -- ---- what may wait
+
+  steady_mute : (w : Word F) → Mute w → Steady w
+  steady_mute w h = record { each = λ s r f. inl (h.said s r f) }
+
+  steady_still : (w : Word F) → Still w → Steady w
+  steady_still w h = record { each = λ s r f. inr (h.still s r f) }
+
+  steady_waits : (op : ℕ) → Steady (says (words.wait_line op))
+  unfolding says
+  steady_waits op = record { each = λ s r f. inr (record { first = refl; parts = refl }) }
+
+  steady_after : (v w : Word F) → Still v → Steady w → Steady (v ⨾ w)
+  unfolding ◌⨾◌
+  steady_after v w h k = record {
+    each = λ s r f.
+        let a = v s r f in
+        let g = after_all s f a.script in
+        let b = w s a.replica g in
+        let p = h.still s r f in
+        elim (k.each s a.replica g) [
+          | inl m ↦ inl (rw (outputs_append a.script b.script) (All-append IsNoWait (outputs a.script) (outputs b.script) (h.mute.said s r f) m))
+          | inr q ↦ inr (record { first = q.first ∙ p.first; parts = q.parts ∙ p.parts })
+        ];
+  }
+
+  steady_before : (v w : Word F) → Steady v → Still w → Steady (v ⨾ w)
+  unfolding ◌⨾◌
+  steady_before v w h k = record {
+    each = λ s r f.
+        let a = v s r f in
+        let g = after_all s f a.script in
+        let b = w s a.replica g in
+        let q = k.still s a.replica g in
+        elim (h.each s r f) [
+          | inl m ↦ inl (rw (outputs_append a.script b.script) (All-append IsNoWait (outputs a.script) (outputs b.script) m (k.mute.said s a.replica g)))
+          | inr p ↦ inr (record { first = q.first ∙ p.first; parts = q.parts ∙ p.parts })
+        ];
+  }
+
+  steady_by : (w : Replica → Word F) → ((r : Replica) → Steady (w r)) → Steady (by w)
+  unfolding by
+  steady_by w h = record { each = λ s r f. (h r).each s r f }
+
+  steady_naming : (w : Hash → Word F) → ((hash : Hash) → Steady (w hash)) → Steady (naming w)
+  unfolding naming
+  steady_naming w h = record { each = λ s r f. (h s.hash).each s r f }
+
+  steady_if : (b : Bool) (v w : Word F) → Steady v → Steady w → Steady (cond b v w)
+  steady_if true v w h k = h
+  steady_if false v w h k = k
+
+  steady_choice : (ss : List Statement) (c : Choice) → Steady (words.obey_choice ss c)
+  unfolding words.try_log
+  steady_choice ss TooFew = steady_still _ still_quiet
+  steady_choice ss (WaitsAt op) = steady_waits op
+  steady_choice ss (Ends headers) =
+      steady_by _ (λ r. steady_naming _ (λ hash. steady_by _ (λ r'. steady_if _ _ _ (steady_mute _ (mute_begin ss (words.chosen_log r ss headers))) (steady_waits _))))
+
+  steady_try : Steady words.try
+  unfolding words.try
+  steady_try = steady_by _ (λ r. steady_if _ _ _ (steady_choice _ _) (steady_still _ still_quiet))
+
+  steady_speak : Steady words.speak
+  unfolding words.speak
+  steady_speak = steady_by _ (λ r. steady_if _ _ _ (steady_if _ _ _ steady_try (steady_mute _ (mute_one _ (λ r. tt)))) (steady_still _ still_quiet))
+
+  -- ---- the rules
+
+  mute_replies : (a : words.Asker) (x : SessionAnswer) → Mute {F = F} (rules.stored_reply a x)
+  mute_replies a answer.Fresh = mute_quiet
+  mute_replies a (answer.Repeat outcome op) = mute_one _ (λ r. tt)
+  mute_replies a answer.Old = mute_one _ (λ r. tt)
+  mute_replies a answer.Gap = mute_one _ (λ r. tt)
+  mute_replies a answer.Evicted = mute_one _ (λ r. tt)
+
+  mute_request : (hash : Hash) (q : RequestFields) (rule : Rule) → Mute {F = F} (rules.obey_request hash q rule)
+  unfolding rules.make
+  mute_request hash q Redirected = mute_one _ (λ r. tt)
+  mute_request hash q Behind = mute_one _ (λ r. tt)
+  mute_request hash q Answered = mute_by _ (λ r. mute_replies _ _)
+  mute_request hash q Full = mute_one _ (λ r. tt)
+  mute_request hash q Made = mute_by _ (λ r. mute_then _ _ (mute_write _) (mute_then _ _ (mute_all _) mute_advance))
+  mute_request hash q _ = mute_quiet
+
+  mute_prepare : (hash : Hash) (p : Prepare) (rule : Rule) → Mute {F = F} (rules.obey_prepare hash p rule)
+  mute_prepare hash p PreparedLater = mute_one _ (λ r. tt)
+  mute_prepare hash p Past = mute_then _ _ (mute_change _) (mute_learn _)
+  mute_prepare hash p Beyond = mute_change _
+  mute_prepare hash p Known = mute_then _ _ (mute_change _) (mute_then _ _ (mute_accept _) (mute_then _ _ (mute_one _ (λ r. tt)) (mute_learn _)))
+  mute_prepare hash p Next = mute_then _ _ (mute_change _) (mute_then _ _ (mute_write _) (mute_then _ _ (mute_one _ (λ r. tt)) (mute_learn _)))
+  mute_prepare hash p Ahead = mute_then _ _ (mute_change _) (mute_then _ _ (mute_one _ (λ r. tt)) (mute_learn _))
+  mute_prepare hash p Other = mute_change _
+  mute_prepare hash p _ = mute_quiet
+
+  mute_prepare_ok : (a : PrepareOk) (rule : Rule) → Mute {F = F} (rules.obey_prepare_ok a rule)
+  mute_prepare_ok a Counted = mute_then _ _ (mute_change _) mute_advance
+  mute_prepare_ok a _ = mute_quiet
+
+  mute_commit : (c : Commit) (rule : Rule) → Mute {F = F} (rules.obey_commit c rule)
+  mute_commit c CommitLater = mute_one _ (λ r. tt)
+  mute_commit c CommitHeard = mute_then _ _ (mute_change _) (mute_then _ _ (mute_by _ (λ r. mute_if _ _ _ (mute_one _ (λ r. tt)) mute_quiet)) (mute_learn _))
+  mute_commit c _ = mute_quiet
+
+  steady_change : (c : StartViewChange) (rule : Rule) → Steady (rules.obey_start_view_change c rule)
+  steady_change c ChangeLater = steady_after _ _ (still_enter _) (steady_after _ _ (still_change _ (λ r. refl) (λ r. refl)) steady_speak)
+  steady_change c ChangeHeard = steady_after _ _ (still_change _ (λ r. refl) (λ r. refl)) steady_speak
+  steady_change c ChangeDone = steady_mute _ (mute_one _ (λ r. tt))
+  steady_change c _ = steady_still _ still_quiet
+
+  steady_statement : (d : DoViewChange) (rule : Rule) → Steady (rules.obey_do_view_change d rule)
+  steady_statement d StatedLate = steady_mute _ (mute_one _ (λ r. tt))
+  steady_statement d Stated =
+      steady_after _ _ (still_by _ (λ r. still_if _ _ _ (still_enter _) still_quiet)) (steady_after _ _ (still_change _ (λ r. refl) (λ r. refl)) steady_try)
+  steady_statement d _ = steady_still _ still_quiet
+
+  mute_acknowledged : (hash : Hash) (h : Option Header) → Mute {F = F} (option_map_or (rules.acknowledge hash) h quiet)
+  mute_acknowledged hash None = mute_quiet
+  mute_acknowledged hash (Some h) = mute_one _ (λ r. tt)
+
+  mute_stored : (hash : Hash) (op : ℕ) → Mute {F = F} (rules.acknowledge_stored hash op)
+  unfolding rules.acknowledge_stored
+  mute_stored hash op = mute_by _ (λ r. mute_if _ _ _ (mute_acknowledged hash _) mute_quiet)
+
+  mute_start_view : (hash : Hash) (v : StartView) (rule : Rule) → Mute {F = F} (rules.obey_start_view hash v rule)
+  mute_start_view hash v Taken = mute_then _ _ (mute_take _) (mute_then _ _ (mute_by _ (λ r. mute_each _ _ (mute_stored hash))) mute_apply)
+  mute_start_view hash v _ = mute_quiet
+
+  mute_get_view : (g : GetView) (rule : Rule) → Mute {F = F} (rules.obey_get_view g rule)
+  mute_get_view g ViewGiven = mute_one _ (λ r. tt)
+  mute_get_view g _ = mute_quiet
+
+  mute_get_prepare : (g : GetPrepare) (rule : Rule) → Mute {F = F} (rules.obey_get_prepare g rule)
+  mute_get_prepare g EntryGiven = mute_entry _ _ (λ e. mute_one _ (λ r. tt))
+  mute_get_prepare g _ = mute_quiet
+
+  mute_give_prepare : (g : GivePrepare) (rule : Rule) → Mute {F = F} (rules.obey_give_prepare g rule)
+  mute_give_prepare g EntryTaken = mute_then _ _ (mute_write _) (mute_then _ _ (mute_resend _) mute_apply)
+  mute_give_prepare g _ = mute_quiet
+
+  mute_read : (g : GetBlock) (block : Option (List ℕ)) → Mute {F = F} (rules.give_read g block)
+  mute_read g None = mute_quiet
+  mute_read g (Some block) = mute_one _ (λ r. tt)
+
+  mute_get_block : (g : GetBlock) (block : Option (List ℕ)) (rule : Rule) → Mute {F = F} (rules.obey_get_block g block rule)
+  mute_get_block g block BlockGiven = mute_read g block
+  mute_get_block g block _ = mute_quiet
+
+  mute_put : (block : List ℕ) (name : Option Name) → Mute {F = F} (rules.put_found block name)
+  unfolding rules.put_block outputs
+  mute_put block None = mute_quiet
+  mute_put block (Some name) =
+      mute_then _ _ (mute_then _ _ (mute_does _ (λ r. refl)) (mute_then _ _ (mute_change _) (mute_by _ (λ r. mute_if _ _ _ mute_load mute_quiet)))) mute_apply
+
+  mute_give_block : (is_block : Name → List ℕ → Bool) (g : GiveBlock) (rule : Rule) → Mute {F = F} (rules.obey_give_block is_block g rule)
+  mute_give_block is_block g BlockTaken = mute_by _ (λ r. mute_put _ _)
+  mute_give_block is_block g _ = mute_quiet
+
+  steady_tick : (rule : Rule) → Steady (rules.obey_tick rule)
+  steady_tick TickedPrimary =
+      steady_mute _ (mute_then _ _ (mute_all _) (mute_then _ _ (mute_by _ (λ r. mute_if _ _ _ (mute_prepare_again _) mute_quiet)) still_ask.mute))
+  steady_tick TickedBackup = steady_still _ (still_then _ _ (still_change _ (λ r. refl) (λ r. refl)) (still_by _ (λ r. still_if _ _ _ (still_by _ (λ r. still_enter _)) still_ask)))
+  steady_tick TickedChanging =
+      steady_after _ _ (still_change _ (λ r. refl) (λ r. refl)) (steady_by _ (λ r. steady_if _ _ _ (steady_still _ (still_by _ (λ r. still_enter _)))
+      (steady_after _ _ (still_says _ (mute_all _)) (steady_before _ _ steady_speak still_ask))))
+  steady_tick _ = steady_still _ still_quiet
+
+  -- ---- all events
+
+  steady_message : (m : Frame) → Steady (rules.on_message m)
+  unfolding rules.on_request rules.on_prepare rules.on_prepare_ok rules.on_commit rules.on_start_view_change rules.on_do_view_change rules.on_start_view rules.on_get_view rules.on_get_prepare rules.on_give_prepare rules.on_get_block rules.on_give_block
+  steady_message (frame.Request q) = steady_mute _ (mute_naming _ (λ hash. mute_by _ (λ r. mute_request hash q _)))
+  steady_message (frame.Reply a) = steady_still _ still_quiet
+  steady_message (frame.Prepare p) = steady_mute _ (mute_naming _ (λ hash. mute_by _ (λ r. mute_prepare hash p _)))
+  steady_message (frame.PrepareOk a) = steady_mute _ (mute_naming _ (λ hash. mute_by _ (λ r. mute_prepare_ok a _)))
+  steady_message (frame.Commit c) = steady_mute _ (mute_by _ (λ r. mute_commit c _))
+  steady_message (frame.StartViewChange c) = steady_by _ (λ r. steady_change c _)
+  steady_message (frame.DoViewChange d) = steady_by _ (λ r. steady_statement d _)
+  steady_message (frame.StartView v) = steady_mute _ (mute_naming _ (λ hash. mute_by _ (λ r. mute_start_view hash v _)))
+  steady_message (frame.GetView g) = steady_mute _ (mute_by _ (λ r. mute_get_view g _))
+  steady_message (frame.GetPrepare g) = steady_mute _ (mute_naming _ (λ hash. mute_by _ (λ r. mute_get_prepare g _)))
+  steady_message (frame.GivePrepare g) = steady_mute _ (mute_by _ (λ r. mute_give_prepare g _))
+  steady_message (frame.GetBlock g) = steady_mute _ (mute_reading _ _ (λ block. mute_by _ (λ r. mute_get_block g block _)))
+  steady_message (frame.GiveBlock g) = steady_mute _ (mute_reading _ _ (λ is_block. mute_by _ (λ r. mute_give_block is_block g _)))
+
+  steady_event : (e : Event) → Steady (rules.on_event e)
+  unfolding rules.on_request rules.on_tick
+  steady_event (event.Request q) = steady_mute _ (mute_naming _ (λ hash. mute_by _ (λ r. mute_request hash q _)))
+  steady_event (event.Deliver m) = steady_message m
+  steady_event event.Tick = steady_by _ (λ r. steady_tick _)
+
+  steady_react : (e : Event) → Steady (rules.react e)
+  unfolding rules.react
+  steady_react e = steady_by _ (λ r. steady_if _ _ _ (steady_event e) (steady_still _ still_quiet))
+
+  pub waits_change_no_part : WaitsChangeNoPart F
+  waits_change_no_part s f r e w =
+      elim ((steady_react e).each s r f) [
+        | inl m ↦ absurd (All-contains IsNoWait (outputs (rules.react e s r f).script) (output.Wait w.line) m w.is)
+        | inr q ↦ (q.first, q.parts)
+      ]

@@ -1,0 +1,5 @@
+use Rattle.vr_rules.proofs.Silent as silent
+use Rattle.vr_rules.proofs.sending.nothing_is_done.Goals as goal
+
+pub returns : goal.returns
+returns g _ = silent.nothing_is_done

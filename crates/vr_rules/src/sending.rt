@@ -1,0 +1,48 @@
+// What every step and every opening puts out and saves. Each function is a law: its contract is the statement, and it does nothing.
+
+ghost use Rattle.vr_rules.specs.Laws.{
+  NothingIsDone,
+  OnlyHearingIsDone,
+  OpeningsArePresent,
+  SectorsFit,
+  StepsArePresent,
+  StepsSaveWell,
+  WaitsChangeNoPart,
+};
+
+/// A rule that says nothing leaves the replica as it is, and its step has no effects.
+pub fn nothing_is_done<F>()
+    ensures { NothingIsDone F }
+{}
+
+/// A prepare of the view that finds no place in the log only ends the replica's idle time.
+pub fn only_hearing_is_done<F>()
+    ensures { OnlyHearingIsDone F }
+{}
+
+/// A step that puts out that the choice waits changes nothing of what is known of the ops.
+pub fn waits_change_no_part<F>()
+    ensures { WaitsChangeNoPart F }
+{}
+
+/// Messages, replies and lines of a step name its replica and are of the replica's view at the end, go to another replica of its
+/// group, and carry a commit number that it had during the step. A view is asked for of the sender of a message of that view.
+pub fn steps_are_present<F>()
+    ensures { StepsArePresent F }
+{}
+
+/// So are those of an opening, from any value that makes a good copy.
+pub fn openings_are_present<F>()
+    ensures { OpeningsArePresent F }
+{}
+
+/// Each value that a step saves makes a good copy, and what the step leaves can be saved again: from a sound replica that can be
+/// saved, for every event of the program.
+pub fn steps_save_well<F>()
+    ensures { StepsSaveWell F }
+{}
+
+/// The program's sectors have names of 16 bytes, and the roots of its checkpoints stand in the grid.
+pub fn sectors_fit()
+    ensures { SectorsFit }
+{}
