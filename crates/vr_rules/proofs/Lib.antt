@@ -10,3 +10,4 @@ pub mod Ruling
 pub mod Reacting
 pub mod Slots
 pub mod Openings
+pub mod Rising

@@ -59,7 +59,7 @@ pub record Rises (old new : Replica) : Type 0 where
   pub checkpoint : old.checkpoint ≤ new.checkpoint
 
 abbrev pub StepsRise : Type 0 → Type 0
-StepsRise F = (s : Setting F) (f : F) (r : Replica) (e : Event) → HasNames s → IsSound r → IsEvent e → Rises r (react e s r f).replica
+StepsRise F = (s : Setting F) (f : F) (r : Replica) (e : Event) → IsSound r → IsEvent e → Rises r (react e s r f).replica
 
 -- ---- checkpoint, applied, commit number, head and window keep their order
 
