@@ -38,3 +38,4 @@ pub mod SavesTrying
 pub mod SavesRules
 pub mod SavesSteps
 pub mod SavesSectors
+pub mod Rising

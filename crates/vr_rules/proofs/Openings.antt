@@ -32,13 +32,13 @@ use Rattle.vr_rules.proofs.Wording.{kept_alike, keeps_save, keeps_apply, kept_lo
 reads_after : {F : Type 0} (s : Setting F) (f : F) (e : Effect) → IsMending e → ReadsHeaders s f → ReadsHeaders s (s.after f e)
 unfolding after_all
 reads_after s f e is h = record {
-  header = λ es all slot g at. h.header (e ∷ es) (is, all) slot g at;
-  entry = λ es all slot g at. h.entry (e ∷ es) (is, all) slot g at;
+  header = λ es all slot g l at. h.header (e ∷ es) (is, all) slot g l at;
+  entry = λ es all slot g l at. h.entry (e ∷ es) (is, all) slot g l at;
 }
 
 reads_slot : {F : Type 0} (s : Setting F) (f : F) (k : ℕ) → ReadsHeaders s f → Reads (slot_at k s f)
 unfolding after_all
-reads_slot s f k h = record { header = λ g e. h.header [] tt (k % 64) g e; entry = λ e i. h.entry [] tt (k % 64) e i }
+reads_slot s f k h = record { header = λ g e. h.header [] tt (k % 64) g (omega arith) e; entry = λ e i. h.entry [] tt (k % 64) e (omega arith) i }
 
 -- ---- a replica whose Parts are found up to an op
 

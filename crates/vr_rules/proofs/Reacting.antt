@@ -26,7 +26,7 @@ use Rattle.vr_rules.specs.Words.{Asker, write, apply, is_loaded, ask, load}
 use Rattle.vr_rules.specs.Deciding.{Hash, session_answer, request_table, get_block_table, is_wanted, give_block_table, tick_table}
 use Rattle.vr_rules.specs.Rules.{asker_by, next_entry, make, stored_reply, obey_request, on_request, asked_block, block_at, give_read, obey_get_block, on_get_block, without, put_block, put_found, test_of, obey_give_block, on_give_block, idler, next_view, obey_tick, on_tick, on_message, on_event, react}
 use Rattle.vr_rules.specs.Sound.{IsSound}
-use Rattle.vr_rules.specs.Laws.{IsMessage, IsEvent, HasNames, StepsRise, StepsStaySound}
+use Rattle.vr_rules.specs.Laws.{IsMessage, IsEvent, HasNames, StepsStaySound}
 use Rattle.vr_rules.proofs.Keeping.{Kept, sound_missing}
 use Rattle.vr_rules.proofs.Combining.{KeptBy, Keeps, kept_then, kept_change_then, kept_does_then, kept_by, kept_naming, kept_reading, kept_when, keeps_then, keeps_quiet, keeps_says, keeps_change, keeps_by, keeps_when, keeps_if}
 use Rattle.vr_rules.proofs.Storing.{MayStore}
@@ -91,7 +91,7 @@ may_store_next hash q r names h m g v w a b c =
       };
     }
 
-keeps_stored_reply : {F : Type 0} (a : Asker) (x : SessionAnswer) → Keeps {F = F} (stored_reply a x)
+pub keeps_stored_reply : {F : Type 0} (a : Asker) (x : SessionAnswer) → Keeps {F = F} (stored_reply a x)
 keeps_stored_reply a answer.Fresh = keeps_quiet
 keeps_stored_reply a (answer.Repeat outcome op) = keeps_says _
 keeps_stored_reply a answer.Old = keeps_says _
@@ -143,7 +143,7 @@ keeps_give_read : {F : Type 0} (g : GetBlock) (o : Option (List ℕ)) → Keeps 
 keeps_give_read g None = keeps_quiet
 keeps_give_read g (Some block) = keeps_says _
 
-keeps_get_block : {F : Type 0} (g : GetBlock) → Keeps {F = F} (on_get_block g)
+pub keeps_get_block : {F : Type 0} (g : GetBlock) → Keeps {F = F} (on_get_block g)
 unfolding on_get_block
 keeps_get_block g = record {
   every = λ s r f h.
@@ -177,7 +177,7 @@ kept_put_found block p None s r f h e = keeps_quiet.every s r f h
 kept_put_found block p (Some name) s r f h e =
     kept_then (put_block name block) apply s r f (kept_put_block name block s r f h (λ n. let no_name : None ≡ Some name = rw n at e in absurd cc)) keeps_apply
 
-keeps_give_block : {F : Type 0} (g : GiveBlock) → Keeps {F = F} (on_give_block g)
+pub keeps_give_block : {F : Type 0} (g : GiveBlock) → Keeps {F = F} (on_give_block g)
 unfolding on_give_block
 keeps_give_block g = record {
   every = λ s r f h.
@@ -197,7 +197,7 @@ keeps_idler = keeps_change idler (λ r h. kept_alike r (idler r) refl (record { 
 keeps_next_view : {F : Type 0} → Keeps {F = F} next_view
 keeps_next_view = record { every = λ s r f h. kept_by _ s r f (kept_enter (r.view + 1) s r f h (omega arith)) }
 
-keeps_tick : {F : Type 0} → Keeps {F = F} on_tick
+pub keeps_tick : {F : Type 0} → Keeps {F = F} on_tick
 unfolding on_tick
 keeps_tick = record {
   every = λ s r f h.
@@ -243,6 +243,3 @@ kept_react e s r f names h m =
 
 pub steps_stay_sound : {F : Type 0} → StepsStaySound F
 steps_stay_sound = λ s f r e names h m. (kept_react e s r f names h m).kept.sound
-
-pub steps_rise : {F : Type 0} → StepsRise F
-steps_rise = λ s f r e names h m. (kept_react e s r f names h m).kept.rises

@@ -49,8 +49,8 @@ IsMending _ = ⊥
 
 -- the headers that read on a disk, whatever is mended of it, have the values that a header of the program has
 pub record ReadsHeaders {F : Type 0} (s : Setting F) (f : F) : Type 0 where
-  pub header : (es : List Effect) → AllByRecursion IsMending es → (slot : ℕ) (h : Header) → s.header (after_all s f es) slot ≡ Some h → IsHeader h
-  pub entry : (es : List Effect) → AllByRecursion IsMending es → (slot : ℕ) (e : Whole) → s.entry (after_all s f es) slot ≡ Some e → IsHeader e.header
+  pub header : (es : List Effect) → AllByRecursion IsMending es → (slot : ℕ) (h : Header) → slot < 64 → s.header (after_all s f es) slot ≡ Some h → IsHeader h
+  pub entry : (es : List Effect) → AllByRecursion IsMending es → (slot : ℕ) (e : Whole) → slot < 64 → s.entry (after_all s f es) slot ≡ Some e → IsHeader e.header
 
 -- ---- nothing is taken back
 
@@ -63,7 +63,7 @@ pub record Rises (old new : Replica) : Type 0 where
   pub checkpoint : old.checkpoint ≤ new.checkpoint
 
 abbrev pub StepsRise : Type 0 → Type 0
-StepsRise F = (s : Setting F) (f : F) (r : Replica) (e : Event) → HasNames s → IsSound r → IsEvent e → Rises r (react e s r f).replica
+StepsRise F = (s : Setting F) (f : F) (r : Replica) (e : Event) → IsSound r → IsEvent e → Rises r (react e s r f).replica
 
 -- ---- checkpoint, applied, commit number, head and window keep their order
 
