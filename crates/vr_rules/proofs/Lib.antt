@@ -28,3 +28,5 @@ pub mod SavesTrying
 pub mod SavesRules
 pub mod SavesSteps
 pub mod SavesSectors
+pub mod SavesFound
+pub mod SavesOpening

@@ -1,13 +1,11 @@
 -- The value that a sound replica saves makes a good copy.
-use Rattle.std.proofs.Common.{arith, ◌≡◌, ◌≤◌, ◌<◌, ◌+◌, ◌-◌, ◌%◌, ◌^◌, inl, inr, refl, sym, ap, ◌∙◌, subst, ℕ, zero, suc, Bool, true, false, cond, List, [], ◌∷◌, ◌++◌, length, get_or, min, Option, Some, None, is_some}
-use Rattle.std.specs.Prelude.{take_while, filter_map, reverse, nat_le, nat_lt, nat_eq, ◌&&◌, ◌||◌, ⊤}
-use Rattle.std.specs.List.{prefix_len, AllByRecursion}
-use Rattle.std.proofs.lemmas.Bool.{and_from, or_left, or_right, cond_both, cases_lt, cases_eq, true≢false, ne_eqb, le-leb, lt-ltb, eq-eqb, eqb-true}
+use Rattle.std.proofs.Common.{arith, ◌≡◌, ◌≤◌, ◌<◌, ◌+◌, ◌-◌, ◌%◌, ◌^◌, inl, inr, refl, sym, ap, ◌∙◌, subst, ℕ, zero, suc, true, List, [], ◌∷◌, ◌++◌, length, get_or, min, Some, is_some}
+use Rattle.std.specs.Prelude.{take_while, filter_map, reverse, nat_lt, nat_eq, ◌&&◌, ◌||◌}
+use Rattle.std.specs.List.{AllByRecursion}
+use Rattle.std.proofs.lemmas.Bool.{and_from, or_left, or_right, cases_lt, cases_eq, true≢false, ne_eqb, le-leb, lt-ltb, eq-eqb}
 use Rattle.std.proofs.lemmas.List.{length-reverse, reverse-append}
 use Rattle.std.proofs.lemmas.List.Sums.{take_while-cons}
-use Rattle.vr_base.specs.Groups.{quorums_of, these}
-use Rattle.vr_header.specs.declared.command.Command.{Command}
-use Rattle.vr_header.specs.declared.command.Command.TheVariants.{Entry}
+use Rattle.vr_base.specs.Groups.{quorums_of}
 use Rattle.vr_header.specs.declared.header.Header.{Header}
 use Rattle.vr_header.specs.declared.part.Part.{Part}
 use Rattle.vr_header.specs.declared.part.Part.TheVariants.{Here, Lost, Wanted, Unknown, Nothing}
@@ -15,14 +13,14 @@ use Rattle.vr_header.specs.Made.{IsEntryHeader}
 use Rattle.vr_header.specs.Spelling.{IsHeader}
 use Rattle.vr_msg.specs.Logs.{FromOp, IsEntryAt, header_of, has_header}
 use Rattle.vr_super.specs.declared.fields.Fields.{Fields}
-use Rattle.vr_super.specs.Copies.{Saved, IsFields, IsGood, good_fields, is_zeros, is_entry_command, is_entry_header, is_listed, are_listed, first_op}
+use Rattle.vr_super.specs.Copies.{IsGood, good_fields, is_zeros, is_entry_command, is_entry_header, is_listed, are_listed}
 use Rattle.vr_rules.specs.Replica.{Replica, part_at, head, run, run_start}
 use Rattle.vr_rules.specs.Words.{value_of}
 use Rattle.vr_rules.specs.Sound.{IsSound, IsSavable}
 use Rattle.vr_rules.proofs.Heads.{known_within, prefix_reaches}
 use Rattle.vr_rules.proofs.Keeping.{spans_of}
 use Rattle.vr_rules.proofs.Storing.{head_number}
-use Rattle.vr_rules.proofs.Stating.{Run, run_of, back, back_at, back_size, run_size}
+use Rattle.vr_rules.proofs.Stating.{run_of, back, back_at, run_size}
 
 -- ---- lists by op
 
@@ -89,15 +87,15 @@ run_listed r h =
     let size : length (run r) ≡ length (heads (back r)) = length-reverse (heads (back r)) in
     let begin : head r + 1 - length (heads (back r)) ≡ run_start r + 1 = omega (arith, size, start) in
     subst (λ k. FromOp (Listed r) k (run r)) begin
-        (in_order (Listed r) (head r) (back r) (omega (arith, size, start)) (λ i g l e.
-            h.entries.each (head r - i) g (sym (ap header_of (back_at r i h (omega (arith, size, start, first, l)))) ∙ e)))
+    (in_order (Listed r) (head r) (back r) (omega (arith, size, start)) (λ i g l e.
+    h.entries.each (head r - i) g (sym (ap header_of (back_at r i h (omega (arith, size, start, first, l)))) ∙ e)))
 
 entry_header_is : (h : Header) → IsEntryHeader h → is_entry_header h ≡ true
 entry_header_is h is =
     let command : is_entry_command h.command ≡ true = rw is.command refl in
     and_from _ _
-        (and_from _ _ command (and_from _ _ (lt-ltb 128 h.size is.size.0) (le-leb h.size 2048 is.size.1)))
-        (and_from _ _ (and_from _ _ (eq-eqb h.commit 0 is.commit) (eq-eqb h.replica 0 is.replica)) (and_from _ _ (eq-eqb h.kind 0 is.kind) (eq-eqb h.aux 0 is.aux)))
+    (and_from _ _ command (and_from _ _ (lt-ltb 128 h.size is.size.0) (le-leb h.size 2048 is.size.1)))
+    (and_from _ _ (and_from _ _ (eq-eqb h.commit 0 is.commit) (eq-eqb h.replica 0 is.replica)) (and_from _ _ (eq-eqb h.kind 0 is.kind) (eq-eqb h.aux 0 is.aux)))
 
 each_header : (r : Replica) (op : ℕ) (hs : List Header) → FromOp (Listed r) op hs → AllByRecursion IsHeader hs
 each_header r op [] h = tt
@@ -110,8 +108,8 @@ all_listed r f op (x ∷ xs) a b h =
     let is = h.0.1 in
     let made = is.made in
     and_from _ _
-        (and_from _ _ (entry_header_is x is.entry) (and_from _ _ (eq-eqb x.op op is.at_op) (and_from _ _ (eq-eqb x.cluster f.cluster (is.of_group ∙ sym a)) (le-leb x.view f.log_view (omega (arith, made, b))))))
-        (all_listed r f (op + 1) xs a b h.1)
+    (and_from _ _ (entry_header_is x is.entry) (and_from _ _ (eq-eqb x.op op is.at_op) (and_from _ _ (eq-eqb x.cluster f.cluster (is.of_group ∙ sym a)) (le-leb x.view f.log_view (omega (arith, made, b))))))
+    (all_listed r f (op + 1) xs a b h.1)
 
 -- ---- groups have from 2 to 6 replicas
 
@@ -124,18 +122,18 @@ size_of n e =
     elim (cases_eq n 2) [
       | inl two ↦ (omega arith, omega arith)
       | inr a ↦ elim (cases_eq n 3) [
-          | inl three ↦ (omega arith, omega arith)
-          | inr b ↦ elim (cases_eq n 4) [
-              | inl four ↦ (omega arith, omega arith)
-              | inr c ↦ elim (cases_eq n 5) [
-                  | inl five ↦ (omega arith, omega arith)
-                  | inr d ↦ elim (cases_eq n 6) [
-                      | inl six ↦ (omega arith, omega arith)
-                      | inr g ↦ absurd (true≢false (sym e ∙ rw (ne_eqb n 2 a, ne_eqb n 3 b, ne_eqb n 4 c, ne_eqb n 5 d, ne_eqb n 6 g) refl))
-                    ]
-                ]
+        | inl three ↦ (omega arith, omega arith)
+        | inr b ↦ elim (cases_eq n 4) [
+          | inl four ↦ (omega arith, omega arith)
+          | inr c ↦ elim (cases_eq n 5) [
+            | inl five ↦ (omega arith, omega arith)
+            | inr d ↦ elim (cases_eq n 6) [
+              | inl six ↦ (omega arith, omega arith)
+              | inr g ↦ absurd (true≢false (sym e ∙ rw (ne_eqb n 2 a, ne_eqb n 3 b, ne_eqb n 4 c, ne_eqb n 5 d, ne_eqb n 6 g) refl))
             ]
+          ]
         ]
+      ]
     ]
 
 -- ---- the value
@@ -200,14 +198,14 @@ value_is_good r h v room =
       };
       fields = and_from _ _
           (and_from _ _ (and_from _ _ (le-leb 2 r.n size.0) (le-leb r.n 6 size.1))
-            (and_from _ _ (lt-ltb r.index r.n member) (and_from _ _ (le-leb r.log_view r.view views) (lt-ltb r.log_view (2 ^ 32 - 1) log_view))))
+          (and_from _ _ (lt-ltb r.index r.n member) (and_from _ _ (le-leb r.log_view r.view views) (lt-ltb r.log_view (2 ^ 32 - 1) log_view))))
           (and_from _ _
-            (and_from _ _ (eq-eqb (r.checkpoint % 32) 0 h.checkpoint)
-              (and_from _ _ (and_from _ _ (le-leb r.checkpoint r.commit (omega arith)) (le-leb r.commit (head r) known)) (and_from _ _ (le-leb (head r - r.checkpoint) 64 (omega arith)) (le-leb (head r) (2 ^ 62) number))))
-            (and_from _ _
-              (and_from _ _ (lt-ltb r.root.address 128 address) (good_root_is r v))
-              (and_from _ _ (and_from _ _ (le-leb (head r - r.checkpoint) (length (run r)) (omega arith)) (le-leb (min (head r) 1) (length (run r)) top))
-                (and_from _ _ (le-leb (length (run r)) (head r) (omega arith)) (le-leb (length (run r)) 64 w.short)))));
+          (and_from _ _ (eq-eqb (r.checkpoint % 32) 0 h.checkpoint)
+          (and_from _ _ (and_from _ _ (le-leb r.checkpoint r.commit (omega arith)) (le-leb r.commit (head r) known)) (and_from _ _ (le-leb (head r - r.checkpoint) 64 (omega arith)) (le-leb (head r) (2 ^ 62) number))))
+          (and_from _ _
+          (and_from _ _ (lt-ltb r.root.address 128 address) (good_root_is r v))
+          (and_from _ _ (and_from _ _ (le-leb (head r - r.checkpoint) (length (run r)) (omega arith)) (le-leb (min (head r) 1) (length (run r)) top))
+          (and_from _ _ (le-leb (length (run r)) (head r) (omega arith)) (le-leb (length (run r)) 64 w.short)))));
       each = each_header r (run_start r + 1) (run r) listed;
       listed = all_listed r _ (run_start r + 1) (run r) refl refl listed;
     }

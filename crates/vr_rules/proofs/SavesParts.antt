@@ -1,5 +1,5 @@
 -- Changes of Parts leave what can be saved.
-use Rattle.std.proofs.Common.{arith, ◌≡◌, ◌⊎◌, ◌≤◌, ◌<◌, ◌+◌, ◌-◌, ◌^◌, inl, inr, refl, sym, ap, ◌∙◌, subst, ℕ, Bool, true, false, cond, List, [], ◌∷◌, length, Option, Some, None, is_some}
+use Rattle.std.proofs.Common.{arith, ◌≡◌, ◌⊎◌, ◌≤◌, ◌<◌, ◌+◌, ◌-◌, ◌^◌, inl, inr, refl, sym, ap, ◌∙◌, subst, ℕ, true, List, length, Some, is_some}
 use Rattle.std.specs.Prelude.{nat_lt, nat_le, nat_eq, ◌&&◌, ◌||◌}
 use Rattle.std.proofs.lemmas.Bool.{and_parts, or_cases, cases_lt, ltb-true, eqb-true, le-leb}
 use Rattle.vr_ckpt.specs.declared.saving.Saved as checkpoint
@@ -11,7 +11,7 @@ use Rattle.vr_msg.specs.Logs.{header_of, has_header}
 use Rattle.vr_rules.specs.Replica.{Replica, part_at, head, header_at, forgetting, with_part}
 use Rattle.vr_rules.specs.Words.{Log, stored, lost, entered, with_checkpoint, taken, taken_part, fits, is_newer, is_chain, may_take}
 use Rattle.vr_rules.specs.Sound.{IsSound, IsSavable}
-use Rattle.vr_rules.proofs.Heads.{Spans, gone, knows, known_within, head_from, head_knows, head_least, head_reaches, with_part_spans, with_part_at, forgetting_at, forgetting_head, forgetting_spans, remade_at}
+use Rattle.vr_rules.proofs.Heads.{Spans, knows, known_within, head_from, head_knows, head_least, head_reaches, with_part_spans, forgetting_at, forgetting_head, remade_at}
 use Rattle.vr_rules.proofs.Keeping.{spans_of}
 use Rattle.vr_rules.proofs.Storing.{MayStore, with_part_known, moved, moved_at, moved_head}
 use Rattle.vr_rules.proofs.Taking.{IsLogFor, MayTake, over, over_at, over_spans, taken_known}
@@ -58,7 +58,7 @@ savable_stored e r h m v =
     let reach = s.reach in
     let above = m.above in
     let top : Topped (stored e r) =
-        topped_forgetting (with_part k (Here e.header) r) (with_part_spans k (Here e.header) r s) (topped_part k (Here e.header) r s (omega arith) m.window refl v.top) in
+    topped_forgetting (with_part k (Here e.header) r) (with_part_spans k (Here e.header) r s) (topped_part k (Here e.header) r s (omega arith) m.window refl v.top) in
     record { cluster = v.cluster; view = v.view; log_view = v.log_view; address = v.address; name = v.name; none = v.none; top = top }
 
 pub savable_part : (k : ℕ) (p : Part) (r : Replica) → IsSavable r → Topped (with_part k p r) → IsSavable (with_part k p r)
@@ -108,9 +108,9 @@ ends_known hash l r e =
     elim (or_cases (nat_lt r.checkpoint l.head) (nat_eq l.head 0 || is_some (header_at r l.head)) g.1) [
       | inl above ↦ inl (ltb-true r.checkpoint l.head above)
       | inr rest ↦ elim (or_cases (nat_eq l.head 0) (is_some (header_at r l.head)) rest) [
-          | inl none ↦ inr (inl (eqb-true l.head 0 none))
-          | inr known ↦ inr (inr known)
-        ]
+        | inl none ↦ inr (inl (eqb-true l.head 0 none))
+        | inr known ↦ inr (inr known)
+      ]
     ]
 
 -- nothing changes up to the checkpoint
@@ -135,20 +135,20 @@ taken_top l r h log m ends some =
     elim (cases_lt r.checkpoint (head q)) [
       | inl above ↦ head_knows q (head q) t above (omega arith)
       | inr at ↦ elim ends [
-          | inl more ↦ absurd (omega arith)
-          | inr rest ↦ elim rest [
-              | inl zero ↦ absurd (omega arith)
-              | inr known ↦
-                  let end : l.head ≡ r.checkpoint = omega arith in
-                  let same : head q ≡ r.checkpoint = omega arith in
-                  let there : knows r r.checkpoint ≡ true = subst (λ k. knows r k ≡ true) end known in
-                  let within = known_within r r.checkpoint s there in
-                  let first = within.0 in
-                  let stays : taken_part l r r.checkpoint ≡ part_at r r.checkpoint = old_part l r r.checkpoint (omega arith) in
-                  let here = ap has_header (over_at l r r.checkpoint ∙ remade_at (taken_part l r) r r.checkpoint (omega arith) (omega arith) ∙ stays) ∙ there in
-                  subst (λ k. knows q k ≡ true) (sym same) here
-            ]
+        | inl more ↦ absurd (omega arith)
+        | inr rest ↦ elim rest [
+          | inl zero ↦ absurd (omega arith)
+          | inr known ↦
+              let end : l.head ≡ r.checkpoint = omega arith in
+              let same : head q ≡ r.checkpoint = omega arith in
+              let there : knows r r.checkpoint ≡ true = subst (λ k. knows r k ≡ true) end known in
+              let within = known_within r r.checkpoint s there in
+              let first = within.0 in
+              let stays : taken_part l r r.checkpoint ≡ part_at r r.checkpoint = old_part l r r.checkpoint (omega arith) in
+              let here = ap has_header (over_at l r r.checkpoint ∙ remade_at (taken_part l r) r r.checkpoint (omega arith) (omega arith) ∙ stays) ∙ there in
+              subst (λ k. knows q k ≡ true) (sym same) here
         ]
+      ]
     ]
 
 savable_over : (l : Log) (r : Replica) → l.view < 2 ^ 32 - 1 → IsSavable r → Topped (forgetting (over l r)) → IsSavable (forgetting (over l r))

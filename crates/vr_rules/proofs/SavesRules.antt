@@ -1,46 +1,25 @@
 -- The rules save values that make good copies.
-use Rattle.std.proofs.Common.{arith, ◌≡◌, ◌≢◌, ◌≤◌, ◌<◌, ◌+◌, ◌-◌, ◌^◌, refl, sym, ap, ◌∙◌, ℕ, Bool, true, false, cond, not, List, [], ◌∷◌, length, Option, Some, None, is_some}
-use Rattle.std.specs.Prelude.{All, nat_lt, nat_le, ◌&&◌, ◌||◌, find}
-use Rattle.std.specs.Option.{option_map_or}
-use Rattle.std.proofs.lemmas.Bool.{and_parts, or_parts, not-true, not-false, ltb-true, ltb-false, leb-false, eqb-true, le-ltb}
-use Rattle.vr_header.specs.declared.header.Header.{Header}
-use Rattle.vr_grid.specs.declared.name.Name.{Name}
-use Rattle.vr_msg.specs.declared.event.Event.{Event}
-use Rattle.vr_msg.specs.declared.event.Event.TheVariants as event
+use Rattle.std.proofs.Common.{arith, ◌≡◌, ◌≤◌, ◌+◌, ◌-◌, ◌^◌, refl, ℕ, false, not, List}
+use Rattle.std.specs.Prelude.{nat_lt, nat_le}
+use Rattle.std.proofs.lemmas.Bool.{ltb-true, ltb-false, leb-false}
 use Rattle.vr_msg.specs.declared.frame.Commit.{Commit}
-use Rattle.vr_msg.specs.declared.frame.DoViewChange.{DoViewChange}
-use Rattle.vr_msg.specs.declared.frame.Frame.{Frame}
 use Rattle.vr_msg.specs.declared.frame.Frame.TheVariants as frame
-use Rattle.vr_msg.specs.declared.frame.GetBlock.{GetBlock}
-use Rattle.vr_msg.specs.declared.frame.GetPrepare.{GetPrepare}
-use Rattle.vr_msg.specs.declared.frame.GetView.{GetView}
-use Rattle.vr_msg.specs.declared.frame.GiveBlock.{GiveBlock}
-use Rattle.vr_msg.specs.declared.frame.GivePrepare.{GivePrepare}
 use Rattle.vr_msg.specs.declared.frame.Prepare.{Prepare}
 use Rattle.vr_msg.specs.declared.frame.PrepareOk.{PrepareOk}
-use Rattle.vr_msg.specs.declared.frame.StartView.{StartView}
 use Rattle.vr_msg.specs.declared.frame.StartViewChange.{StartViewChange}
 use Rattle.vr_msg.specs.declared.output.Output.{Output}
-use Rattle.vr_msg.specs.declared.request.RequestFields.{RequestFields}
-use Rattle.vr_msg.specs.Choice.{ops}
-use Rattle.vr_sess.specs.declared.session.SessionAnswer.{SessionAnswer}
-use Rattle.vr_sess.specs.declared.session.SessionAnswer.TheVariants as answer
-use Rattle.vr_rules.specs.Replica.{Replica, last_view, part_at, head, header_at, is_here, is_primary, is_started, is_spent, is_frozen}
-use Rattle.vr_rules.specs.Steps.{Setting, Step, Word, ◌⨾◌, quiet, change, does, says, by, naming, reading, when, each, after_all}
-use Rattle.vr_rules.specs.Words.{Asker, rested, enter, accept, write, is_loaded, apply, advance, learn, take, may_take, prepare_again, try, speak, resend, ask, load}
-use Rattle.vr_rules.specs.Deciding.{Rule, Hash, is_from_primary, request_table, prepare_table, prepare_ok_table, commit_table, start_view_change_table, do_view_change_table, log_of, start_view_table, get_view_table, get_prepare_table, give_prepare_table, get_block_table, is_wanted, give_block_table, tick_table, session_answer}
+use Rattle.vr_rules.specs.Replica.{Replica, head}
+use Rattle.vr_rules.specs.Steps.{Setting, Word, ◌⨾◌, quiet, change, says}
+use Rattle.vr_rules.specs.Words.{rested, enter, accept, write, learn, speak}
+use Rattle.vr_rules.specs.Deciding.{Hash, is_from_primary, prepare_table, prepare_ok_table, commit_table, start_view_change_table}
 use Rattle.vr_rules.specs.Rules as rules
-use Rattle.vr_rules.specs.Sound.{IsSound, IsStated, IsSavable}
-use Rattle.vr_rules.specs.Laws.{IsMessage, IsEvent, HasNames, IsGoodSave, SavesRoots, SavesWell, StepsSaveWell}
-use Rattle.vr_rules.proofs.Keeping.{Kept}
-use Rattle.vr_rules.proofs.Combining.{Keeps, keeps_change}
+use Rattle.vr_rules.specs.Laws.{IsMessage, SavesRoots}
 use Rattle.vr_rules.proofs.Storing.{MayStore}
-use Rattle.vr_rules.proofs.Wording.{kept_alike, keeps_rested, kept_rested, kept_enter}
-use Rattle.vr_rules.proofs.Ruling.{by_rows, group_of, group_of_primary, may_store_prepare, keeps_acknowledged, keeps_heard, kept_statement, in_view, told_log, may_store_given}
-use Rattle.vr_rules.proofs.Reacting.{may_store_next, kept_without, keeps_idler}
-use Rattle.vr_rules.proofs.SavesWell.{Well, GoodBy, Good, well_less, well_alike, good_then, good_change_then, good_does_then, good_quiet, good_by, good_naming, good_reading, good_if, good_when, goods_more, goods_then, goods_says, goods_change, goods_by, goods_if, goods_when, goods_each}
-use Rattle.vr_rules.proofs.SavesWords.{goods_alike, goods_tell, goods_rest, good_enter, good_write, good_accept, goods_entry, goods_prepare_again, goods_resend, goods_ask, goods_apply}
-use Rattle.vr_rules.proofs.SavesTrying.{good_load, good_take, goods_advance, goods_learn, goods_try, goods_speak}
+use Rattle.vr_rules.proofs.Wording.{keeps_rested, kept_rested}
+use Rattle.vr_rules.proofs.Ruling.{by_rows, group_of_primary, may_store_prepare, keeps_acknowledged, keeps_heard}
+use Rattle.vr_rules.proofs.SavesWell.{Well, GoodBy, Good, well_less, well_alike, good_then, good_change_then, good_by, good_naming, goods_then, goods_says, goods_change, goods_by, goods_when}
+use Rattle.vr_rules.proofs.SavesWords.{goods_rest, good_enter, good_write, good_accept}
+use Rattle.vr_rules.proofs.SavesTrying.{goods_advance, goods_learn, goods_speak}
 
 -- the views of steps
 abbrev pub views : ℕ
@@ -76,13 +55,13 @@ module _ {F : Type 0} (s : Setting F) (roots : SavesRoots s) where
       → GoodBy {F = F} views 0 (change rested ⨾ accept p.entry ⨾ rules.acknowledge s.hash p.entry.header ⨾ learn p.commit) s r f
   good_known p r f m h =
       good_change_then views s 0 rested _ r f (λ d. good_then views s 64 0 (accept p.entry) _ (rested r) d
-          (good_accept views s 64 p.entry (rested r) d m (well_less views 64 most (rested r) (omega arith) (well_rested most r h))) (λ q x w. (then_learns s.hash p).every 0 q x w))
+      (good_accept views s 64 p.entry (rested r) d m (well_less views 64 most (rested r) (omega arith) (well_rested most r h))) (λ q x w. (then_learns s.hash p).every 0 q x w))
 
   good_next : (p : Prepare) (r : Replica) (f : F) → MayStore p.entry (rested r) → Well views most r
       → GoodBy {F = F} views 0 (change rested ⨾ write p.entry ⨾ rules.acknowledge s.hash p.entry.header ⨾ learn p.commit) s r f
   good_next p r f m h =
       good_change_then views s 0 rested _ r f (λ d. good_then views s 64 0 (write p.entry) _ (rested r) d
-          (good_write views s 64 p.entry (rested r) d m (well_less views 64 most (rested r) (omega arith) (well_rested most r h))) (λ q x w. (then_learns s.hash p).every 0 q x w))
+      (good_write views s 64 p.entry (rested r) d m (well_less views 64 most (rested r) (omega arith) (well_rested most r h))) (λ q x w. (then_learns s.hash p).every 0 q x w))
 
   pub good_prepare : (p : Prepare) (r : Replica) (f : F) → IsMessage (frame.Prepare p) → Well views most r → GoodBy {F = F} views 0 (rules.on_prepare p) s r f
   unfolding rules.on_prepare
@@ -91,23 +70,29 @@ module _ {F : Type 0} (s : Setting F) (roots : SavesRoots s) where
       let idle = idles r f h in
       let rests = fit 0 (change rested) (omega arith) goods_rested r f h in
       let may : not (is_from_primary p.entry.header.cluster p.replica p.view r) ≡ false → nat_lt r.log_view p.view ≡ false → nat_le op r.checkpoint ≡ false
-          → nat_lt (r.checkpoint + 64) op ≡ false → MayStore p.entry (rested r) =
-          λ a b c d. may_store_prepare p r m (group_of_primary p.entry.header.cluster p.replica p.view r a) (ltb-false r.log_view p.view b) (leb-false op r.checkpoint c) (ltb-false (r.checkpoint + 64) op d) in
+      → nat_lt (r.checkpoint + 64) op ≡ false → MayStore p.entry (rested r) =
+      λ a b c d. may_store_prepare p r m (group_of_primary p.entry.header.cluster p.replica p.view r a) (ltb-false r.log_view p.view b) (leb-false op r.checkpoint c) (ltb-false (r.checkpoint + 64) op d) in
       good_naming views s 0 _ r f (good_by views s 0 _ r f (by_rows (λ x. GoodBy views 0 (rules.obey_prepare s.hash p x) s r f) (prepare_table s.hash p r) (
         λ t. idle,
-        λ n0. (λ t. idle, λ n1. (
-          λ t. tells _ r f h,
-          λ n2. (
-            λ t. fit 64 _ (omega arith) (goods_then views s 0 64 _ _ goods_rested (goods_learn views s roots p.commit)) r f h,
-            λ n3. (λ t. rests, λ n4. (
-              λ t. good_known p r f (may n0 n2 n3 n4) h,
-              λ n5. (
-                λ t. good_next p r f (may n0 n2 n3 n4) h,
-                λ n6. (λ t. fit 64 _ (omega arith) (goods_then views s 0 64 _ _ goods_rested (goods_then views s 0 64 _ _ (goods_says views s _) (goods_learn views s roots p.commit))) r f h, λ n7. (λ t. rests, λ n8. idle)),
+        λ n0. (
+          λ t. idle,
+          λ n1. (
+            λ t. tells _ r f h,
+            λ n2. (
+              λ t. fit 64 _ (omega arith) (goods_then views s 0 64 _ _ goods_rested (goods_learn views s roots p.commit)) r f h,
+              λ n3. (
+                λ t. rests,
+                λ n4. (
+                  λ t. good_known p r f (may n0 n2 n3 n4) h,
+                  λ n5. (
+                    λ t. good_next p r f (may n0 n2 n3 n4) h,
+                    λ n6. (λ t. fit 64 _ (omega arith) (goods_then views s 0 64 _ _ goods_rested (goods_then views s 0 64 _ _ (goods_says views s _) (goods_learn views s roots p.commit))) r f h, λ n7. (λ t. rests, λ n8. idle)),
+                  ),
+                ),
               ),
-            )),
+            ),
           ),
-        )),
+        ),
       )))
 
   pub good_prepare_ok : (a : PrepareOk) (r : Replica) (f : F) → Well views most r → GoodBy {F = F} views 0 (rules.on_prepare_ok a) s r f
@@ -123,13 +108,16 @@ module _ {F : Type 0} (s : Setting F) (roots : SavesRoots s) where
   good_commit c r f h =
       good_by views s 0 _ r f (by_rows (λ x. GoodBy views 0 (rules.obey_commit c x) s r f) (commit_table c r) (
         λ t. idles r f h,
-        λ n0. (λ t. idles r f h, λ n1. (
-          λ t. tells _ r f h,
-          λ n2. (
-            λ t. fit 64 _ (omega arith) (goods_then views s 0 64 _ _ goods_rested (goods_then views s 0 64 _ _ (goods_by views s 0 _ (λ r. goods_when views s 0 (nat_lt (head r) c.head) (rules.ask_view c.view c.replica) (goods_says views s _))) (goods_learn views s roots c.commit))) r f h,
-            λ n3. idles r f h,
+        λ n0. (
+          λ t. idles r f h,
+          λ n1. (
+            λ t. tells _ r f h,
+            λ n2. (
+              λ t. fit 64 _ (omega arith) (goods_then views s 0 64 _ _ goods_rested (goods_then views s 0 64 _ _ (goods_by views s 0 _ (λ r. goods_when views s 0 (nat_lt (head r) c.head) (rules.ask_view c.view c.replica) (goods_says views s _))) (goods_learn views s roots c.commit))) r f h,
+              λ n3. idles r f h,
+            ),
           ),
-        )),
+        ),
       ))
 
   -- ---- view changes
@@ -142,8 +130,11 @@ module _ {F : Type 0} (s : Setting F) (roots : SavesRoots s) where
   good_change_of_view c r f h =
       good_by views s 0 _ r f (by_rows (λ x. GoodBy views 0 (rules.obey_start_view_change c x) s r f) (start_view_change_table c r) (
         λ t. idles r f h,
-        λ n0. (λ t. idles r f h, λ n1. (
-          λ t. good_then views s 65 0 (enter c.view) _ r f (good_enter views s 65 c.view r f (let l = ltb-true r.view c.view t in omega arith) (omega arith) (well_less views (65 + 1) most r (omega arith) h)) (λ q x w. (goods_heard c.replica).every 0 q x w),
-          λ n2. (λ t. fit 65 _ (omega arith) (goods_heard c.replica) r f h, λ n3. (λ t. tells _ r f h, λ n4. idles r f h)),
-        )),
+        λ n0. (
+          λ t. idles r f h,
+          λ n1. (
+            λ t. good_then views s 65 0 (enter c.view) _ r f (good_enter views s 65 c.view r f (let l = ltb-true r.view c.view t in omega arith) (omega arith) (well_less views (65 + 1) most r (omega arith) h)) (λ q x w. (goods_heard c.replica).every 0 q x w),
+            λ n2. (λ t. fit 65 _ (omega arith) (goods_heard c.replica) r f h, λ n3. (λ t. tells _ r f h, λ n4. idles r f h)),
+          ),
+        ),
       ))

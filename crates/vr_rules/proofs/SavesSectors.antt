@@ -1,9 +1,8 @@
 -- The program's sectors are a disk of which steps save well.
-use Rattle.std.proofs.Common.{arith, ◌≡◌, ◌<◌, ◌*◌, ◌/◌, ◌%◌, ℕ, List, length}
+use Rattle.std.proofs.Common.{arith, ◌<◌, ◌/◌, ◌%◌}
 use Rattle.std.proofs.lemmas.Nat.{mod_below}
 use Rattle.vr_base.proofs.FieldLaws.{length-name_of}
 use Rattle.vr_ckpt.specs.Saves.{root_of}
-use Rattle.vr_rules.specs.Sectors.{sectors}
 use Rattle.vr_rules.specs.Laws.{SectorsFit}
 
 pub sectors_fit : SectorsFit

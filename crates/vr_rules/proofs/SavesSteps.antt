@@ -1,8 +1,8 @@
 -- Each step saves values that make good copies.
-use Rattle.std.proofs.Common.{arith, ◌≡◌, ◌≢◌, ◌≤◌, ◌<◌, ◌+◌, ◌-◌, ◌^◌, refl, sym, ap, ◌∙◌, ℕ, Bool, true, false, cond, not, List, [], ◌∷◌, length, Option, Some, None, is_some}
-use Rattle.std.specs.Prelude.{All, nat_lt, nat_le, ◌&&◌, ◌||◌, find}
+use Rattle.std.proofs.Common.{arith, ◌≡◌, ◌≢◌, ◌≤◌, ◌+◌, ◌-◌, ◌^◌, refl, ℕ, Bool, true, false, not, List, [], Option, Some, None, is_some}
+use Rattle.std.specs.Prelude.{nat_lt, nat_le, find}
 use Rattle.std.specs.Option.{option_map_or}
-use Rattle.std.proofs.lemmas.Bool.{and_parts, or_parts, not-true, not-false, ltb-true, ltb-false, leb-false, eqb-true, le-ltb}
+use Rattle.std.proofs.lemmas.Bool.{and_parts, or_parts, not-false, ltb-true, ltb-false, leb-false, eqb-true, le-ltb}
 use Rattle.std.proofs.lemmas.List.Elements.{All-nil}
 use Rattle.vr_header.specs.declared.header.Header.{Header}
 use Rattle.vr_header.specs.Made.{Whole}
@@ -23,20 +23,17 @@ use Rattle.vr_msg.specs.Choice.{ops}
 use Rattle.vr_sess.specs.declared.session.SessionAnswer.{SessionAnswer}
 use Rattle.vr_sess.specs.declared.session.SessionAnswer.TheVariants as answer
 use Rattle.vr_rules.specs.Replica.{Replica, last_view, part_at, head, header_at, is_here, is_primary, is_started, is_spent, is_frozen}
-use Rattle.vr_rules.specs.Steps.{Setting, Step, Word, ◌⨾◌, quiet, change, does, says, by, naming, reading, when, each, after_all}
-use Rattle.vr_rules.specs.Words.{Asker, rested, enter, write, is_loaded, apply, advance, take, may_take, prepare_again, try, speak, resend, ask, load}
+use Rattle.vr_rules.specs.Steps.{Setting, ◌⨾◌, quiet, change, by, when}
+use Rattle.vr_rules.specs.Words.{Asker, enter, write, is_loaded, apply, take, may_take, try, ask, load}
 use Rattle.vr_rules.specs.Deciding.{Hash, is_known, request_table, do_view_change_table, log_of, start_view_table, get_view_table, get_prepare_table, give_prepare_table, get_block_table, is_wanted, give_block_table, tick_table, session_answer}
 use Rattle.vr_rules.specs.Rules as rules
 use Rattle.vr_rules.specs.Sound.{IsSound, IsStated, IsSavable}
 use Rattle.vr_rules.specs.Laws.{IsMessage, IsEvent, HasNames, IsGoodSave, SavesRoots, SavesWell, StepsSaveWell}
-use Rattle.vr_rules.proofs.Keeping.{Kept}
-use Rattle.vr_rules.proofs.Combining.{kept_when}
 use Rattle.vr_rules.proofs.Storing.{MayStore}
-use Rattle.vr_rules.proofs.Wording.{kept_enter}
 use Rattle.vr_rules.proofs.Ruling.{by_rows, group_of, group_of_primary, kept_statement, in_view, told_log, may_store_given}
 use Rattle.vr_rules.proofs.Reacting.{may_store_next, kept_without, keeps_idler}
-use Rattle.vr_rules.proofs.SavesWell.{Well, GoodBy, Good, well_less, well_alike, good_then, good_then_at, good_change_then, good_does_then, good_quiet, good_by, good_naming, good_reading, good_if, good_when, goods_more, goods_then, goods_says, goods_change, goods_by, goods_if, goods_when, goods_each}
-use Rattle.vr_rules.proofs.SavesWords.{goods_alike, goods_tell, goods_rest, good_enter, good_write, goods_entry, goods_prepare_again, goods_resend, goods_ask, goods_apply}
+use Rattle.vr_rules.proofs.SavesWell.{Well, GoodBy, Good, well_less, well_alike, good_then, good_then_at, good_change_then, good_does_then, good_by, good_naming, good_reading, good_when, goods_more, goods_then, goods_says, goods_change, goods_by, goods_if, goods_when, goods_each}
+use Rattle.vr_rules.proofs.SavesWords.{goods_rest, good_enter, good_write, goods_entry, goods_prepare_again, goods_resend, goods_ask, goods_apply}
 use Rattle.vr_rules.proofs.SavesTrying.{good_load, good_take, goods_advance, goods_try, goods_speak}
 use Rattle.vr_rules.proofs.SavesRules.{views, most, fit, idles, tells, good_prepare, good_prepare_ok, good_commit, good_change_of_view}
 
@@ -46,7 +43,7 @@ module _ {F : Type 0} (s : Setting F) (roots : SavesRoots s) where
   good_entering : (d : DoViewChange) (r : Replica) (f : F) → r.view ≤ d.view → Well views most r → GoodBy {F = F} views 65 (when (nat_lt r.view d.view) (enter d.view)) s r f
   good_entering d r f a h =
       good_when views s 65 (nat_lt r.view d.view) (enter d.view) r f (well_less views 65 most r (omega arith) h)
-          (λ t. good_enter views s 65 d.view r f a (omega arith) (well_less views (65 + 1) most r (omega arith) h))
+      (λ t. good_enter views s 65 d.view r f a (omega arith) (well_less views (65 + 1) most r (omega arith) h))
 
   good_stated : (d : DoViewChange) (r : Replica) (f : F) → IsMessage (frame.DoViewChange d) → d.cluster ≡ r.cluster → r.view ≤ d.view → Well views most r
       → GoodBy {F = F} views 0 (by (λ r. when (nat_lt r.view d.view) (enter d.view)) ⨾ change (rules.with_statement d.replica d.statement) ⨾ try) s r f
@@ -62,22 +59,25 @@ module _ {F : Type 0} (s : Setting F) (roots : SavesRoots s) where
       let older = form.log_view in
       let is : IsStated q.cluster q.view d.statement = rw (at.0, at.1, ← g) (record { statement = form.statement; values = m.body; view = omega arith }) in
       let stated : Well views 65 (rules.with_statement d.replica d.statement q) =
-          well_alike views 65 q (rules.with_statement d.replica d.statement q) refl refl (kept_statement d.replica d.statement q e.well.sound is).sound e.well in
+      well_alike views 65 q (rules.with_statement d.replica d.statement q) refl refl (kept_statement d.replica d.statement q e.well.sound is).sound e.well in
       good_then_at views s 0 (by (λ r. when (nat_lt r.view d.view) (enter d.view))) _ r f e.saves
-          (good_change_then views s 0 (rules.with_statement d.replica d.statement) try q _ (λ x. (goods_try views s roots (omega arith)).every 0 (rules.with_statement d.replica d.statement q) x stated))
+      (good_change_then views s 0 (rules.with_statement d.replica d.statement) try q _ (λ x. (goods_try views s roots (omega arith)).every 0 (rules.with_statement d.replica d.statement q) x stated))
 
   good_statement : (d : DoViewChange) (r : Replica) (f : F) → IsMessage (frame.DoViewChange d) → Well views most r → GoodBy {F = F} views 0 (rules.on_do_view_change d) s r f
   unfolding rules.on_do_view_change
   good_statement d r f m h =
       good_by views s 0 _ r f (by_rows (λ x. GoodBy views 0 (rules.obey_do_view_change d x) s r f) (do_view_change_table d r) (
         λ t. idles s roots r f h,
-        λ n0. (λ t. idles s roots r f h, λ n1. (
-          λ t. tells s roots _ r f h,
-          λ n2. (
-            λ t. good_stated d r f m (group_of d.cluster d.replica r (not-false _ n0)) (ltb-false d.view r.view (or_parts (nat_lt d.view r.view) _ n1).0) h,
-            λ n3. idles s roots r f h,
+        λ n0. (
+          λ t. idles s roots r f h,
+          λ n1. (
+            λ t. tells s roots _ r f h,
+            λ n2. (
+              λ t. good_stated d r f m (group_of d.cluster d.replica r (not-false _ n0)) (ltb-false d.view r.view (or_parts (nat_lt d.view r.view) _ n1).0) h,
+              λ n3. idles s roots r f h,
+            ),
           ),
-        )),
+        ),
       ))
 
   -- ---- start_views
@@ -100,7 +100,7 @@ module _ {F : Type 0} (s : Setting F) (roots : SavesRoots s) where
               let log = told_log v r m (group_of_primary v.cluster v.replica v.view r n0) in
               let may = (and_parts (may_take s.hash (log_of v) r) _ t).0 in
               good_then views s 64 0 (take (log_of v)) _ r f (good_take views s 64 (log_of v) r f log may m.form.view (omega arith) (well_less views (64 + 1) most r (omega arith) h)) (λ q x w.
-                  (goods_then views s 0 64 _ _ (goods_by views s 0 _ (λ r. goods_each views s (rules.acknowledge_stored s.hash) (ops r.commit v.head) (goods_acknowledge_stored s.hash))) (goods_apply views s roots)).every 0 q x w),
+              (goods_then views s 0 64 _ _ (goods_by views s 0 _ (λ r. goods_each views s (rules.acknowledge_stored s.hash) (ops r.commit v.head) (goods_acknowledge_stored s.hash))) (goods_apply views s roots)).every 0 q x w),
           λ n1. idles s roots r f h,
         ),
       )))
@@ -131,7 +131,7 @@ module _ {F : Type 0} (s : Setting F) (roots : SavesRoots s) where
               let a = and_parts (nat_lt r.checkpoint op) _ t in
               let b = and_parts (is_known g.entry.header op r) _ a.1 in
               good_then views s 64 0 (write g.entry) _ r f (good_write views s 64 g.entry r f (may_store_given g.entry r h.sound (ltb-true r.checkpoint op a.0) b.0) (well_less views 64 most r (omega arith) h)) (λ q x w.
-                  (goods_then views s 0 64 _ _ (goods_resend views s g.entry) (goods_apply views s roots)).every 0 q x w),
+              (goods_then views s 0 64 _ _ (goods_resend views s g.entry) (goods_apply views s roots)).every 0 q x w),
           λ n1. idles s roots r f h,
         ),
       ))
@@ -149,7 +149,7 @@ module _ {F : Type 0} (s : Setting F) (roots : SavesRoots s) where
   unfolding rules.make
   good_make e r f m h =
       good_then views s 64 0 (write e) _ r f (good_write views s 64 e r f m (well_less views 64 most r (omega arith) h)) (λ q x w.
-          (goods_then views s 0 64 _ _ (goods_says views s _) (goods_advance views s roots)).every 0 q x w)
+      (goods_then views s 0 64 _ _ (goods_says views s _) (goods_advance views s roots)).every 0 q x w)
 
   good_request : (q : RequestFields) (r : Replica) (f : F) → HasNames s → IsMessage (frame.Request q) → Well views most r → GoodBy {F = F} views 0 (rules.on_request q) s r f
   unfolding rules.on_request
@@ -157,20 +157,32 @@ module _ {F : Type 0} (s : Setting F) (roots : SavesRoots s) where
       let below = h.view in
       good_naming views s 0 _ r f (good_by views s 0 _ r f (by_rows (λ x. GoodBy views 0 (rules.obey_request s.hash q x) s r f) (request_table q r) (
         λ t. idles s roots r f h,
-        λ n0. (λ t. tells s roots _ r f h, λ n1. (λ t. tells s roots _ r f h, λ n2. (λ t. idles s roots r f h, λ n3. (
-          λ t. good_by views s 0 _ r f (fit s roots 0 _ (omega arith) (goods_stored_reply (rules.asker_by s.hash q) (session_answer q r)) r f h),
-          λ n4. (λ t. tells s roots _ r f h, λ n5. (
-            λ t.
-                let lead = and_parts (is_started r) (is_primary r) (not-false _ n1) in
-                let behind = or_parts (not (is_loaded r)) (nat_lt r.applied r.commit) n2 in
-                let full = or_parts (nat_le 8 (head r - r.commit)) (nat_le (2 ^ 62) (head r)) n5 in
-                let few = leb-false 8 (head r - r.commit) full.0 in
-                let known = h.sound.order.known in
-                let may = may_store_next s.hash q r names h.sound m (eqb-true q.cluster r.cluster (not-false _ n0)) (eqb-true r.view r.log_view lead.0) (omega arith) (ltb-false r.applied r.commit behind.1) (omega arith) (leb-false (2 ^ 62) (head r) full.1) in
-                good_by views s 0 _ r f (good_make (rules.next_entry s.hash q r) r f may h),
-            λ n6. idles s roots r f h,
-          )),
-        )))),
+        λ n0. (
+          λ t. tells s roots _ r f h,
+          λ n1. (
+            λ t. tells s roots _ r f h,
+            λ n2. (
+              λ t. idles s roots r f h,
+              λ n3. (
+                λ t. good_by views s 0 _ r f (fit s roots 0 _ (omega arith) (goods_stored_reply (rules.asker_by s.hash q) (session_answer q r)) r f h),
+                λ n4. (
+                  λ t. tells s roots _ r f h,
+                  λ n5. (
+                    λ t.
+                        let lead = and_parts (is_started r) (is_primary r) (not-false _ n1) in
+                        let behind = or_parts (not (is_loaded r)) (nat_lt r.applied r.commit) n2 in
+                        let full = or_parts (nat_le 8 (head r - r.commit)) (nat_le (2 ^ 62) (head r)) n5 in
+                        let few = leb-false 8 (head r - r.commit) full.0 in
+                        let known = h.sound.order.known in
+                        let may = may_store_next s.hash q r names h.sound m (eqb-true q.cluster r.cluster (not-false _ n0)) (eqb-true r.view r.log_view lead.0) (omega arith) (ltb-false r.applied r.commit behind.1) (omega arith) (leb-false (2 ^ 62) (head r) full.1) in
+                        good_by views s 0 _ r f (good_make (rules.next_entry s.hash q r) r f may h),
+                    λ n6. idles s roots r f h,
+                  ),
+                ),
+              ),
+            ),
+          ),
+        ),
       )))
 
   -- ---- blocks
@@ -193,13 +205,13 @@ module _ {F : Type 0} (s : Setting F) (roots : SavesRoots s) where
   good_put_block n name block r f some h =
       let w : Well views n (rules.without name r) = well_alike views n r (rules.without name r) refl refl (kept_without name r h.sound).sound h in
       good_does_then views s n _ _ r f tt (λ d. good_change_then views s n (rules.without name) _ r d (λ x.
-          good_by views s n _ (rules.without name r) x (good_when views s n (is_loaded (rules.without name r)) load (rules.without name r) x w (λ t. good_load views s n (rules.without name r) x (h.sound.waits some) w))))
+      good_by views s n _ (rules.without name r) x (good_when views s n (is_loaded (rules.without name r)) load (rules.without name r) x w (λ t. good_load views s n (rules.without name r) x (h.sound.waits some) w))))
 
   good_put_found : (block : List ℕ) (p : Name → Bool) (o : Option Name) (r : Replica) (f : F) → find p r.missing ≡ o → Well views most r → GoodBy {F = F} views 0 (rules.put_found block o) s r f
   good_put_found block p None r f e h = idles s roots r f h
   good_put_found block p (Some name) r f e h =
       good_then views s 64 0 (rules.put_block name block) apply r f (good_put_block 64 name block r f (λ n. let no_name : None ≡ Some name = rw n at e in absurd cc) (well_less views 64 most r (omega arith) h)) (λ q x w.
-          (goods_apply views s roots).every 0 q x w)
+      (goods_apply views s roots).every 0 q x w)
 
   good_give_block : (g : GiveBlock) (r : Replica) (f : F) → Well views most r → GoodBy {F = F} views 0 (rules.on_give_block g) s r f
   unfolding rules.on_give_block

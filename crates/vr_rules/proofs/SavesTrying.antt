@@ -1,6 +1,6 @@
 -- Words that move the commit number, take a log over or load a checkpoint save values that make good copies.
-use Rattle.std.proofs.Common.{arith, ◌≡◌, ◌≤◌, ◌<◌, ◌+◌, ◌-◌, ◌^◌, refl, sym, ap, ◌∙◌, ℕ, zero, suc, Bool, true, false, cond, not, List, [], ◌∷◌, length, min, max, Option, Some, None, is_some, Result, Ok, Err}
-use Rattle.std.specs.Prelude.{All, nat_lt, nat_le, ◌&&◌}
+use Rattle.std.proofs.Common.{arith, ◌≡◌, ◌≤◌, ◌<◌, ◌+◌, ◌-◌, ◌^◌, refl, ℕ, true, not, List, [], min, max, Result, Ok, Err}
+use Rattle.std.specs.Prelude.{nat_lt, nat_le, ◌&&◌}
 use Rattle.std.specs.List.{prefix_len}
 use Rattle.std.proofs.lemmas.Bool.{cond_both}
 use Rattle.std.proofs.lemmas.List.Elements.{All-nil}
@@ -19,7 +19,7 @@ use Rattle.vr_msg.specs.declared.choice.Choice.TheVariants.{Ends, WaitsAt, TooFe
 use Rattle.vr_msg.specs.declared.statement.Statement.{Statement}
 use Rattle.vr_msg.specs.Choice.{ops}
 use Rattle.vr_rules.specs.Replica.{Replica, head, is_primary, is_started, view_change}
-use Rattle.vr_rules.specs.Steps.{Setting, Word, ◌⨾◌, quiet, change, says, by, naming, reading, when, each}
+use Rattle.vr_rules.specs.Steps.{Setting, Word, quiet, change, says, by, reading}
 use Rattle.vr_rules.specs.Words.{Log, save, has_quorum, advanced, advance, learned, learn, taken, take, prepare_again, may_take, chosen_log, choose_line, wait_line, begin_view, try_log, stated, decided, obey_choice, try, to_primary, do_view_change, speak, with_state, loaded_state, loads, checkpoint_at, load, apply}
 use Rattle.vr_rules.specs.Sound.{IsSound}
 use Rattle.vr_rules.specs.Laws.{IsGoodSave, SavesRoots}
@@ -28,7 +28,7 @@ use Rattle.vr_rules.proofs.Combining.{Keeps, keeps_change}
 use Rattle.vr_rules.proofs.Wording.{kept_load}
 use Rattle.vr_rules.proofs.Taking.{IsLogFor}
 use Rattle.vr_rules.proofs.Trying.{chosen_log_is, all_stated, decided_ends}
-use Rattle.vr_rules.proofs.SavesWell.{Well, GoodBy, Good, well_less, well_alike, body, good_then, good_change_then, good_says_then, good_quiet, good_by, good_naming, good_if, good_when, goods_more, goods_then, goods_says, goods_change, goods_by, goods_if, goods_when, goods_each, goods_save}
+use Rattle.vr_rules.proofs.SavesWell.{Well, GoodBy, Good, well_less, well_alike, body, good_then, good_change_then, good_says_then, good_by, good_naming, good_if, good_when, goods_then, goods_says, goods_change, goods_by, goods_if, goods_when, goods_each, goods_save}
 use Rattle.vr_rules.proofs.SavesWords.{well_taken, goods_tell, goods_rest, goods_prepare_again, goods_apply}
 
 -- ---- commit numbers
@@ -68,7 +68,7 @@ load_leaves : {F : Type 0} (s : Setting F) (r : Replica) (f : F) → Unloaded r 
 unfolding load by reading change quiet
 load_leaves {F} s r f =
     cond_both (nat_lt 0 r.checkpoint) (reading (checkpoint_at r.root) (λ l. change (loads r.root l))) quiet (λ (w : Word F). Unloaded r (w s r f).replica × ((w s r f).script ≡ []))
-        (λ _. (loads_leave r.root (checkpoint_at r.root s f) r, refl)) (λ _. (record { body_same = refl; saved_same = refl }, refl))
+    (λ _. (loads_leave r.root (checkpoint_at r.root s f) r, refl)) (λ _. (record { body_same = refl; saved_same = refl }, refl))
 
 module _ {F : Type 0} (v : ℕ) (s : Setting F) where
   pub good_load : (n : ℕ) (r : Replica) (f : F) → r.applied ≡ r.checkpoint → Well v n r → GoodBy {F = F} v n load s r f
@@ -96,15 +96,15 @@ module _ {F : Type 0} (v : ℕ) (s : Setting F) (roots : SavesRoots s) where
   unfolding begin_view
   good_begin n ss l r f log may a b h =
       good_says_then v s n (choose_line ss l) _ r f (λ d.
-          good_then v s (n + 64) n (take l) _ r d (good_take v s (n + 64) l r d log may a b (well_less v (n + 64 + 1) (n + 65) r (omega arith) h)) (λ q x w.
-              (goods_then v s 0 64 _ _ (goods_says v s _) (goods_then v s 0 64 _ _ (goods_by v s 0 _ (λ r. goods_each v s prepare_again (ops r.commit l.head) (goods_prepare_again v s))) (goods_apply v s roots))).every n q x w))
+      good_then v s (n + 64) n (take l) _ r d (good_take v s (n + 64) l r d log may a b (well_less v (n + 64 + 1) (n + 65) r (omega arith) h)) (λ q x w.
+      (goods_then v s 0 64 _ _ (goods_says v s _) (goods_then v s 0 64 _ _ (goods_by v s 0 _ (λ r. goods_each v s prepare_again (ops r.commit l.head) (goods_prepare_again v s))) (goods_apply v s roots))).every n q x w))
 
   good_try_log : (n : ℕ) (ss : List Statement) (l : Log) (r : Replica) (f : F) → IsLogFor r l → l.view < v → v ≤ 2 ^ 32 - 1 → Well v (n + 65) r → GoodBy {F = F} v n (try_log ss l) s r f
   unfolding try_log
   good_try_log n ss l r f log a b h =
       good_naming v s n _ r f (good_by v s n _ r f (good_if v s n (may_take s.hash l r) (begin_view ss l) (says (wait_line l.head)) r f
-          (λ t. good_begin n ss l r f log t a b h)
-          (λ t. (goods_tell v s 65 (wait_line l.head)).every n r f h)))
+      (λ t. good_begin n ss l r f log t a b h)
+      (λ t. (goods_tell v s 65 (wait_line l.head)).every n r f h)))
 
   good_choice : (n : ℕ) (c : Choice) (r : Replica) (f : F) → decided r ≡ c → v ≤ 2 ^ 32 - 1 → Well v (n + 65) r → GoodBy {F = F} v n (obey_choice (stated r) c) s r f
   good_choice n TooFew r f e b h = (goods_rest v s 65).every n r f h
@@ -118,7 +118,7 @@ module _ {F : Type 0} (v : ℕ) (s : Setting F) (roots : SavesRoots s) where
   goods_try b = record {
     every = λ n r f h.
         good_by v s n _ r f (good_when v s n (is_primary r && not (is_started r)) (obey_choice (stated r) (decided r)) r f (well_less v n (n + 65) r (omega arith) h)
-          (λ t. good_choice n (decided r) r f refl b h));
+        (λ t. good_choice n (decided r) r f refl b h));
   }
 
   pub goods_speak : v ≤ 2 ^ 32 - 1 → Good {F = F} v 65 speak s

@@ -1,13 +1,13 @@
 -- Scripts whose saves make good copies, and what is made of them.
-use Rattle.std.proofs.Common.{arith, ◌≡◌, ◌≤◌, ◌<◌, ◌+◌, ◌-◌, ◌^◌, refl, sym, ap, ◌∙◌, subst, ℕ, zero, suc, Bool, true, false, cond, List, [], ◌∷◌, ◌++◌, map, length, is_some}
-use Rattle.std.specs.Prelude.{All, ⊤}
+use Rattle.std.proofs.Common.{arith, ◌≡◌, ◌≤◌, ◌<◌, ◌+◌, ◌^◌, refl, ap, ℕ, zero, suc, Bool, true, false, cond, List, [], ◌∷◌, map}
+use Rattle.std.specs.Prelude.{All}
 use Rattle.std.proofs.lemmas.List.Elements.{All-nil, All-cons, All-append, All-map}
 use Rattle.vr_base.specs.Replicas.{no_replicas}
 use Rattle.vr_apply.specs.Folds.{empty}
 use Rattle.vr_ckpt.specs.Places as places
 use Rattle.vr_msg.specs.declared.output.Output.{Output}
 use Rattle.vr_rules.specs.Replica.{Replica, head, part_at}
-use Rattle.vr_rules.specs.Steps.{Effect, Save, Say, Setting, Step, Word, ◌⨾◌, quiet, change, does, says, by, naming, reading, when, times, each, after_all}
+use Rattle.vr_rules.specs.Steps.{Effect, Say, Setting, Word, ◌⨾◌, quiet, change, does, says, by, naming, reading, when, times, each, after_all}
 use Rattle.vr_rules.specs.Words.{save, saves, with_saved, value_of}
 use Rattle.vr_rules.specs.Opening.{first_value}
 use Rattle.vr_rules.specs.Sound.{IsSound, IsSavable}

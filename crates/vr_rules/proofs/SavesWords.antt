@@ -1,39 +1,28 @@
 -- The words save values that make good copies.
-use Rattle.std.proofs.Common.{arith, ◌≡◌, ◌≢◌, ◌≤◌, ◌<◌, ◌+◌, ◌-◌, ◌%◌, ◌^◌, inl, inr, refl, sym, ap, ◌∙◌, subst, ℕ, zero, suc, Bool, true, false, cond, not, List, [], ◌∷◌, length, Option, Some, None, is_some, Result, Ok, Err}
-use Rattle.std.specs.Prelude.{nat_lt, nat_le, ◌&&◌, ◌==◌}
-use Rattle.std.proofs.lemmas.Bool.{and_parts, cases_lt, ltb-true, ltb-false, eqb-true, eqb-false}
+use Rattle.std.proofs.Common.{arith, ◌≡◌, ◌≤◌, ◌<◌, ◌+◌, ◌-◌, ◌%◌, ◌^◌, refl, sym, ℕ, Bool, true, false, List, [], ◌∷◌, length, Option, Some, None}
+use Rattle.std.specs.Prelude.{nat_lt}
+use Rattle.std.proofs.lemmas.Bool.{and_parts, ltb-true, ltb-false, eqb-true, eqb-false}
 use Rattle.std.proofs.lemmas.List.{nil_from_length}
-use Rattle.vr_ckpt.specs.declared.found.Load.{Load}
-use Rattle.vr_ckpt.specs.declared.found.Load.TheVariants.{Loaded, Missing}
 use Rattle.vr_ckpt.specs.declared.saving.Saved as checkpoint
-use Rattle.vr_ckpt.specs.declared.table.Table.{Table}
-use Rattle.vr_apply.specs.declared.state.State.{State}
-use Rattle.vr_apply.specs.Texts.{state_decoded, texts_of}
-use Rattle.vr_table.specs.declared.fault.StateFault.{StateFault}
+use Rattle.vr_apply.specs.Texts.{texts_of}
 use Rattle.vr_grid.specs.declared.name.Name.{Name}
 use Rattle.vr_header.specs.declared.header.Header.{Header}
 use Rattle.vr_header.specs.declared.part.Part.{Part}
 use Rattle.vr_header.specs.declared.part.Part.TheVariants.{Here, Lost, Wanted, Unknown, Nothing}
 use Rattle.vr_header.specs.Made.{Whole}
-use Rattle.vr_msg.specs.declared.choice.Choice.{Choice}
-use Rattle.vr_msg.specs.declared.choice.Choice.TheVariants.{Ends, WaitsAt, TooFew}
 use Rattle.vr_msg.specs.declared.frame.Frame.{Frame}
 use Rattle.vr_msg.specs.declared.output.Output.{Output}
-use Rattle.vr_msg.specs.declared.statement.Statement.{Statement}
-use Rattle.vr_msg.specs.Choice.{ops}
-use Rattle.vr_base.specs.Groups.{quorums_of}
-use Rattle.vr_rules.specs.Replica.{Replica, last_view, part_at, head, is_primary, is_started, view_change, forgetting, with_part}
-use Rattle.vr_rules.specs.Steps.{Effect, Setting, Word, ◌⨾◌, quiet, change, does, says, by, naming, reading, when, times, each}
-use Rattle.vr_rules.specs.Words.{Log, save, entered, rested, enter, writes, stored, write, accept, entry_of, or_lost, lost, with_entry, with_entry_at, applied, checkpoints, with_checkpoint, checkpoint_of, make_checkpoint, is_checkpoint, commit_line, applied_reply, apply_entry, is_loaded, apply_next, apply, has_quorum, advanced, advance, learned, learn, taken, take, prepare_again, may_take, chosen_log, choose_line, wait_line, begin_view, try_log, stated, decided, obey_choice, try, to_primary, do_view_change, speak, resend, turned, ask_peer, ask_for, ask, with_state, with_missing, loaded_state, loads, checkpoint_at, load}
+use Rattle.vr_rules.specs.Replica.{Replica, last_view, part_at, forgetting, with_part}
+use Rattle.vr_rules.specs.Steps.{Setting, Word, quiet, change, says, when}
+use Rattle.vr_rules.specs.Words.{Log, save, entered, rested, enter, writes, stored, write, accept, entry_of, or_lost, lost, with_entry, with_entry_at, applied, checkpoints, with_checkpoint, checkpoint_of, make_checkpoint, is_checkpoint, commit_line, applied_reply, apply_entry, is_loaded, apply_next, apply, taken, prepare_again, may_take, resend, turned, ask_peer, ask_for, ask}
 use Rattle.vr_rules.specs.Sound.{IsSound, IsSavable}
-use Rattle.vr_rules.specs.Laws.{IsGoodSave, SavesRoots}
-use Rattle.vr_rules.proofs.Keeping.{kept_same}
-use Rattle.vr_rules.proofs.Combining.{KeptBy, Keeps, keeps_change}
-use Rattle.vr_rules.proofs.Storing.{MayStore, kept_stored, kept_lost, kept_moved, kept_applied, moved}
-use Rattle.vr_rules.proofs.Wording.{kept_alike, keeps_rested, kept_entered, keeps_advance, kept_load}
-use Rattle.vr_rules.proofs.Taking.{IsLogFor, MayTake, may_take_is, kept_taken}
-use Rattle.vr_rules.proofs.SavesWell.{Well, GoodBy, Good, well_less, well_alike, savable_alike, body, good_then, good_change_then, good_says_then, good_does_then, good_change, good_quiet, good_by, good_naming, good_reading, good_if, good_when, goods_more, goods_then, goods_quiet, goods_says, goods_change, goods_by, goods_naming, goods_if, goods_when, goods_times, goods_each, goods_save}
-use Rattle.vr_rules.proofs.SavesParts.{Topped, savable_stored, savable_lost, savable_entered, savable_move, topped_moved, savable_taken}
+use Rattle.vr_rules.specs.Laws.{SavesRoots}
+use Rattle.vr_rules.proofs.Combining.{Keeps, keeps_change}
+use Rattle.vr_rules.proofs.Storing.{MayStore, kept_stored, kept_lost, kept_moved, kept_applied}
+use Rattle.vr_rules.proofs.Wording.{kept_alike, keeps_rested, kept_entered}
+use Rattle.vr_rules.proofs.Taking.{IsLogFor, may_take_is, kept_taken}
+use Rattle.vr_rules.proofs.SavesWell.{Well, GoodBy, Good, well_less, well_alike, savable_alike, body, good_change_then, good_says_then, good_does_then, good_change, good_quiet, good_by, good_reading, good_if, good_when, goods_more, goods_then, goods_quiet, goods_says, goods_change, goods_by, goods_naming, goods_if, goods_when, goods_times, goods_save}
+use Rattle.vr_rules.proofs.SavesParts.{savable_stored, savable_lost, savable_entered, savable_move, topped_moved, savable_taken}
 
 keeps_turned : {F : Type 0} → Keeps {F = F} (change turned)
 keeps_turned = keeps_change turned (λ r h. kept_alike r (turned r) refl (record { view = omega arith; log_view = omega arith; commit = omega arith; applied = omega arith; checkpoint = omega arith }) h)
@@ -87,11 +76,11 @@ module _ {F : Type 0} (v : ℕ) (s : Setting F) where
   unfolding enter
   good_enter n view r f a b h =
       good_if v s n (nat_lt last_view view) (change rested) _ r f
-          (λ e. (goods_alike 1 rested keeps_rested (λ r. refl) (λ r. refl)).every n r f h)
-          (λ e.
-            let low = ltb-false last_view view e in
-            good_change_then v s n (entered view) _ r f (λ d. (goods_then v s 1 0 save _ (goods_save v s) (goods_says v s _)).every n (entered view r) d
-              (well_entered v (n + 1) view r a (omega (arith, low, b)) (omega (arith, b)) h)))
+      (λ e. (goods_alike 1 rested keeps_rested (λ r. refl) (λ r. refl)).every n r f h)
+      (λ e.
+      let low = ltb-false last_view view e in
+      good_change_then v s n (entered view) _ r f (λ d. (goods_then v s 1 0 save _ (goods_save v s) (goods_says v s _)).every n (entered view r) d
+      (well_entered v (n + 1) view r a (omega (arith, low, b)) (omega (arith, b)) h)))
 
   pub good_write : (n : ℕ) (e : Whole) (r : Replica) (f : F) → MayStore e r → Well v n r → GoodBy {F = F} v n (write e) s r f
   unfolding write
@@ -151,8 +140,8 @@ module _ {F : Type 0} (v : ℕ) (s : Setting F) (roots : SavesRoots s) where
       let q : Replica = applied e r in
       let c : checkpoint.Saved = checkpoint_of q s f in
       good_by v s n _ q f (good_reading v s n (checkpoint_of q) _ q f (good_does_then v s n checkpoints _ q f tt (λ x.
-          good_change_then v s n (with_checkpoint c) save q x (λ y. (goods_save v s).every n (with_checkpoint c q) y
-            (well_moved v (n + 1) c e r (roots.address q.cluster (texts_of q.state) q.applied q.table) (roots.name q.cluster (texts_of q.state) q.applied q.table) a m d h)))))
+      good_change_then v s n (with_checkpoint c) save q x (λ y. (goods_save v s).every n (with_checkpoint c q) y
+      (well_moved v (n + 1) c e r (roots.address q.cluster (texts_of q.state) q.applied q.table) (roots.name q.cluster (texts_of q.state) q.applied q.table) a m d h)))))
 
   well_applied : (n : ℕ) (e : Whole) (r : Replica) → r.applied < r.commit → r.missing ≡ [] → ((r.applied + 1) % 32 ≡ 0 → ⊥) → Well v n r → Well v n (applied e r)
   well_applied n e r a m d h = well_alike v n r (applied e r) refl refl (kept_applied e r h.sound a m d).sound h
@@ -167,7 +156,7 @@ module _ {F : Type 0} (v : ℕ) (s : Setting F) (roots : SavesRoots s) where
   unfolding apply_entry
   good_apply_entry n e r f a m h =
       good_says_then v s n (commit_line e) _ r f (λ d. good_says_then v s n (applied_reply e) _ r d (λ x. good_change_then v s n (applied e) _ r x (λ y.
-          good_by v s n _ (applied e r) y (good_applied n e r y (is_checkpoint (r.applied + 1)) refl a m h))))
+      good_by v s n _ (applied e r) y (good_applied n e r y (is_checkpoint (r.applied + 1)) refl a m h))))
 
   goods_apply_next : Good {F = F} v 1 apply_next s
   unfolding apply_next
@@ -175,9 +164,9 @@ module _ {F : Type 0} (v : ℕ) (s : Setting F) (roots : SavesRoots s) where
     every = λ n r f h.
         let less = well_less v n (n + 1) r (omega arith) h in
         good_by v s n _ r f (good_when v s n _ _ r f less (λ t.
-            let p = and_parts (is_loaded r) (nat_lt r.applied r.commit) t in
-            let m : r.missing ≡ [] = nil_from_length r.missing (eqb-true (length r.missing) 0 p.0) in
-            good_entry v s n (r.applied + 1) apply_entry r f less (λ e. good_apply_entry n e r f (ltb-true r.applied r.commit p.1) m h)));
+        let p = and_parts (is_loaded r) (nat_lt r.applied r.commit) t in
+        let m : r.missing ≡ [] = nil_from_length r.missing (eqb-true (length r.missing) 0 p.0) in
+        good_entry v s n (r.applied + 1) apply_entry r f less (λ e. good_apply_entry n e r f (ltb-true r.applied r.commit p.1) m h)));
   }
 
   -- at most a window of ops is applied
