@@ -39,3 +39,5 @@ pub mod SavesRules
 pub mod SavesSteps
 pub mod SavesSectors
 pub mod Rising
+pub mod SavesFound
+pub mod SavesOpening

@@ -29,7 +29,7 @@ use Rattle.vr_rules.proofs.Wording.{kept_alike, keeps_save, keeps_apply, kept_lo
 
 -- ---- disks that are mended
 
-reads_after : {F : Type 0} (s : Setting F) (f : F) (e : Effect) → IsMending e → ReadsHeaders s f → ReadsHeaders s (s.after f e)
+pub reads_after : {F : Type 0} (s : Setting F) (f : F) (e : Effect) → IsMending e → ReadsHeaders s f → ReadsHeaders s (s.after f e)
 unfolding after_all
 reads_after s f e is h = record {
   header = λ es all slot g l at. h.header (e ∷ es) (is, all) slot g l at;
@@ -48,7 +48,7 @@ pub record Partly (v : Saved) (reached : ℕ) (r : Replica) : Type 0 where
   pub entries : (k : ℕ) (h : Header) → header_of (part_at r k) ≡ Some h → IsOf v k h
   pub known : (k : ℕ) → v.fields.checkpoint < k → k ≤ reached → k ≤ v.fields.head → knows r k ≡ true
 
-first_is : (v : Saved) (n : ℕ) (r : Replica) → Partly v n r → r.first ≡ first_listed v
+pub first_is : (v : Saved) (n : ℕ) (r : Replica) → Partly v n r → r.first ≡ first_listed v
 unfolding blank
 first_is v n r h = ap (λ (x : Replica). x.first) h.is
 
@@ -60,7 +60,7 @@ applied_is : (v : Saved) (n : ℕ) (r : Replica) → Partly v n r → r.applied 
 unfolding blank
 applied_is v n r h = ap (λ (x : Replica). x.applied) h.is
 
-partly_spans : (v : Saved) (n : ℕ) (r : Replica) → Value v → Partly v n r → Spans r
+pub partly_spans : (v : Saved) (n : ℕ) (r : Replica) → Value v → Partly v n r → Spans r
 partly_spans v n r w h =
     let first = first_is v n r h in
     let checkpoint = checkpoint_is v n r h in
@@ -151,7 +151,7 @@ found_mend v n x verdict.Nothing s r f reads h k = found_quiet v n s r f h k
 found_mend v n x verdict.Unknown s r f reads h k = found_quiet v n s r f h k
 
 -- an op of the window, above those that are found
-found_op : {F : Type 0} (v : Saved) (n : ℕ) (s : Setting F) (r : Replica) (f : F) → Value v → v.fields.checkpoint ≤ n → n < v.fields.checkpoint + 64 → Partly v n r → ReadsHeaders s f
+pub found_op : {F : Type 0} (v : Saved) (n : ℕ) (s : Setting F) (r : Replica) (f : F) → Value v → v.fields.checkpoint ≤ n → n < v.fields.checkpoint + 64 → Partly v n r → ReadsHeaders s f
     → Found v (n + 1) (recover_op v (n + 1)) s r f
 unfolding recover_op reading
 found_op v n s r f w a b h k =
@@ -163,7 +163,7 @@ found_op v n s r f w a b h k =
     (λ q g i j. found_change v (n + 1) _ s q g (partly_part v n (n + 1) (n + 1) (part_by v (n + 1) x t) q w i (slot_right v (n + 1) x w reads) (omega arith) (omega arith) (inr (refl, omega arith))) j) in
     record { partly = all.partly; reads = all.reads }
 
-found_ops : {F : Type 0} (v : Saved) (n count : ℕ) (s : Setting F) (r : Replica) (f : F) → Value v → v.fields.checkpoint ≤ n → n + count ≤ v.fields.checkpoint + 64 → Partly v n r → ReadsHeaders s f
+pub found_ops : {F : Type 0} (v : Saved) (n count : ℕ) (s : Setting F) (r : Replica) (f : F) → Value v → v.fields.checkpoint ≤ n → n + count ≤ v.fields.checkpoint + 64 → Partly v n r → ReadsHeaders s f
     → Found v (n + count) (each (recover_op v) (range_with_len (n + 1) count)) s r f
 unfolding each
 found_ops v n zero s r f w a b h k = let same : n ≡ n + 0 = omega arith in subst (λ m. Found v m quiet s r f) same (found_quiet v n s r f h k)
@@ -176,14 +176,14 @@ found_ops v n (suc count) s r f w a b h k =
 -- ---- ops of the checkpoint
 
 -- of a header of the value's list
-abbrev IsOld : Saved → Header → Type 0
+abbrev pub IsOld : Saved → Header → Type 0
 IsOld v h = IsOf v h.op h × (first_listed v ≤ h.op)
 
 old_right : (v : Saved) (h : Header) (o : Option Whole) → IsOld v h → Right v h.op (old_part h o)
 old_right v h None is = right_header v h.op h (part.Lost h) is.0 refl
 old_right v h (Some e) is = right_header v h.op h (part.Here h) is.0 refl
 
-found_old : {F : Type 0} (v : Saved) (h : Header) (s : Setting F) (r : Replica) (f : F) → Value v → IsOld v h → h.op ≤ v.fields.checkpoint → Partly v v.fields.checkpoint r → ReadsHeaders s f
+pub found_old : {F : Type 0} (v : Saved) (h : Header) (s : Setting F) (r : Replica) (f : F) → Value v → IsOld v h → h.op ≤ v.fields.checkpoint → Partly v v.fields.checkpoint r → ReadsHeaders s f
     → Found v v.fields.checkpoint (recover_old h) s r f
 unfolding recover_old reading
 found_old v h s r f w is a p k =
@@ -192,7 +192,7 @@ found_old v h s r f w is a p k =
     (partly_part v v.fields.checkpoint v.fields.checkpoint h.op (old_part h o) r w p (old_right v h o is) is.1 (omega arith) (inl (omega arith))) k in
     record { partly = at.partly; reads = at.reads }
 
-found_olds : {F : Type 0} (v : Saved) (hs : List Header) (s : Setting F) (r : Replica) (f : F) → Value v → ((i : ℕ) (h : Header) → slice_get hs i ≡ Some h → IsOld v h)
+pub found_olds : {F : Type 0} (v : Saved) (hs : List Header) (s : Setting F) (r : Replica) (f : F) → Value v → ((i : ℕ) (h : Header) → slice_get hs i ≡ Some h → IsOld v h)
     → Partly v v.fields.checkpoint r → ReadsHeaders s f → Found v v.fields.checkpoint (each recover_old (filter (λ h. nat_le h.op v.fields.checkpoint) hs)) s r f
 unfolding each
 found_olds v [] s r f w are p k = found_quiet v v.fields.checkpoint s r f p k
@@ -223,7 +223,7 @@ blank_size : (v : Saved) → length (blank v).parts ≡ v.fields.checkpoint + 65
 unfolding blank
 blank_size v = length-replicate (v.fields.checkpoint + 65 - first_listed v) (part.Nothing)
 
-partly_blank : (v : Saved) → Partly v v.fields.checkpoint (blank v)
+pub partly_blank : (v : Saved) → Partly v v.fields.checkpoint (blank v)
 partly_blank v = record {
   is = refl;
   size = blank_size v;
@@ -241,14 +241,14 @@ clouded_same b part.Unknown = refl
 clouded_same true part.Nothing = refl
 clouded_same false part.Nothing = refl
 
-clouded_header : (v : Saved) (r : Replica) (k : ℕ) → header_of (clouded_at v r k) ≡ header_of (part_at r k)
+pub clouded_header : (v : Saved) (r : Replica) (k : ℕ) → header_of (clouded_at v r k) ≡ header_of (part_at r k)
 clouded_header v r k =
     elim (is_listed v k) as (λ b. header_of (cond b (part_at r k) (clouded_part (stored_above r k) (part_at r k))) ≡ header_of (part_at r k)) [
       | true ↦ refl
       | false ↦ clouded_same (stored_above r k) (part_at r k)
     ]
 
-partly_clouded : (v : Saved) (n : ℕ) (r : Replica) → Value v → Partly v n r → Partly v n (clouded v r)
+pub partly_clouded : (v : Saved) (n : ℕ) (r : Replica) → Value v → Partly v n r → Partly v n (clouded v r)
 unfolding clouded
 partly_clouded v n r w h =
     let s = partly_spans v n r w h in
@@ -318,7 +318,7 @@ opened_clouded : {F : Type 0} (v : Saved) (n : ℕ) (s : Setting F) (r : Replica
 unfolding ◌⨾◌ change
 opened_clouded v n s r f w h l = opened_forgetting v n (clouded v r) w (partly_clouded v n r w h) l
 
-recovered : {F : Type 0} (v : Saved) (s : Setting F) (f : F) → Value v → ReadsHeaders s f → Opened (recover_parts v s (blank v) f).replica
+pub recovered : {F : Type 0} (v : Saved) (s : Setting F) (f : F) → Value v → ReadsHeaders s f → Opened (recover_parts v s (blank v) f).replica
 unfolding recover_parts
 recovered v s f w k =
     let c : ℕ = v.fields.checkpoint in
@@ -334,7 +334,7 @@ recovered v s f w k =
 
 -- ---- the rest of an opening
 
-kept_next : (r : Replica) → IsSound r → Kept r (in_next_view r)
+pub kept_next : (r : Replica) → IsSound r → Kept r (in_next_view r)
 kept_next r h = record {
   sound = sound_view r (r.view + 1) r.statements (omega arith) h.lists.statements (λ i s e.
       let is = h.stated.each i s e in
@@ -353,13 +353,13 @@ unfolding save change does quiet ◌⨾◌
 same_applied true s r f e = e
 same_applied false s r f e = e
 
-left_applied : {F : Type 0} (b : Bool) (s : Setting F) (r : Replica) (f : F) → r.applied ≡ r.checkpoint
+pub left_applied : {F : Type 0} (b : Bool) (s : Setting F) (r : Replica) (f : F) → r.applied ≡ r.checkpoint
     → (when b leave_view s r f).replica.applied ≡ (when b leave_view s r f).replica.checkpoint
 unfolding by quiet
 left_applied true s r f e = same_applied (leads r) s r f e
 left_applied false s r f e = e
 
-keeps_announce : {F : Type 0} → Keeps {F = F} announce
+pub keeps_announce : {F : Type 0} → Keeps {F = F} announce
 keeps_announce =
     let itself = keeps_change heard_itself (λ r h. kept_alike r (heard_itself r) refl (record { view = omega arith; log_view = omega arith; commit = omega arith; applied = omega arith; checkpoint = omega arith }) h) in
     let told = keeps_by _ (λ r. keeps_when (nat_le r.view last_view) (says (send_to_all start_view_change)) (keeps_says _)) in

@@ -1,12 +1,12 @@
 -- What each opening puts out carries present values.
-use Rattle.std.proofs.Common.{arith, ◌≡◌, ◌≤◌, refl, ℕ, true, cond, not, List, [], ◌∷◌, Option, Some, None}
-use Rattle.std.specs.Prelude.{nat_lt, nat_le, ◌&&◌, ◌^◌, ◌-◌}
+use Rattle.std.proofs.Common.{arith, ◌≡◌, ◌≤◌, refl, ℕ, cond, not, List, [], ◌∷◌, Option, Some, None}
+use Rattle.std.specs.Prelude.{length, nat_lt, nat_le, ◌&&◌, ◌^◌, ◌-◌}
 use Rattle.std.proofs.lemmas.Bool.{cond_both, and_parts, ltb-true, leb-true}
 use Rattle.std.proofs.lemmas.List.Elements.{All-nil}
 use Rattle.vr_header.specs.declared.header.Header.{Header}
 use Rattle.vr_recover.specs.declared.readings.Verdict.{Verdict}
 use Rattle.vr_recover.specs.declared.readings.Verdict.TheVariants as verdict
-use Rattle.vr_super.specs.Copies.{Saved, IsGood, good_fields}
+use Rattle.vr_super.specs.Copies.{Saved, IsGood, good_fields, good_member, good_window, good_root, good_count}
 use Rattle.vr_rules.specs.Replica.{Replica, is_spent, leads, forgetting, with_part}
 use Rattle.vr_rules.specs.Steps.{Effect, Setting, Word, ◌⨾◌, quiet, change, does, says, by, reading, each, outputs, after_all}
 use Rattle.vr_rules.specs.Words as words
@@ -115,13 +115,14 @@ module _ {F : Type 0} (MayAsk : ℕ → ℕ → Type 0) (s : Setting F) (r : Rep
 blank_placed : (v : Saved) → IsGood v → IsPlaced (start.blank v)
 unfolding start.blank good_fields
 blank_placed v g =
-    let member = (and_parts _ _ g.fields).0 in
-    let size = and_parts _ _ (and_parts _ _ member).0 in
-    let rest : (nat_lt v.fields.replica v.fields.n ≡ true) × ((nat_le v.fields.log_view v.fields.view && nat_lt v.fields.log_view (2 ^ 32 - 1)) ≡ true) = and_parts _ _ (and_parts _ _ member).1 in
-    let least : 2 ≤ v.fields.n = leb-true 2 v.fields.n size.0 in
+    let k = v.fields in
+    let a = and_parts (good_member k) (good_window k && (good_root k && good_count k (length v.headers))) g.fields in
+    let b = and_parts (nat_le 2 k.n && nat_le k.n 6) (nat_lt k.replica k.n && (nat_le k.log_view k.view && nat_lt k.log_view (2 ^ 32 - 1))) a.0 in
+    let c = and_parts (nat_lt k.replica k.n) (nat_le k.log_view k.view && nat_lt k.log_view (2 ^ 32 - 1)) b.1 in
+    let least : 2 ≤ v.fields.n = leb-true 2 k.n (and_parts (nat_le 2 k.n) (nat_le k.n 6) b.0).0 in
     record {
-      member = ltb-true v.fields.replica v.fields.n rest.0;
-      views = leb-true v.fields.log_view v.fields.view (and_parts _ _ rest.1).0;
+      member = ltb-true k.replica k.n c.0;
+      views = leb-true k.log_view k.view (and_parts (nat_le k.log_view k.view) (nat_lt k.log_view (2 ^ 32 - 1)) c.1).0;
       peer = omega (arith, least);
     }
 

@@ -118,6 +118,10 @@ pub record SavesWell (x : Step) : Type 0 where
 abbrev pub StepsSaveWell : Type 0 → Type 0
 StepsSaveWell F = (s : Setting F) (f : F) (r : Replica) (e : Event) → HasNames s → SavesRoots s → IsSound r → IsSavable r → IsEvent e → SavesWell (react e s r f)
 
+-- from every value that makes a good copy, whatever headers read
+abbrev pub OpeningsSaveWell : Type 0 → Type 0
+OpeningsSaveWell F = (s : Setting F) (f : F) (v : Saved) → ReadsHeaders s f → SavesRoots s → IsGood v → SavesWell (opening v s (blank v) f)
+
 -- the program's sectors are such a disk
 abbrev pub SectorsFit : Type 0
 SectorsFit = HasNames sectors × SavesRoots sectors

@@ -4,6 +4,7 @@ ghost use Rattle.vr_rules.specs.Laws.{
   NothingIsDone,
   OnlyHearingIsDone,
   OpeningsArePresent,
+  OpeningsSaveWell,
   SectorsFit,
   StepsArePresent,
   StepsSaveWell,
@@ -40,6 +41,11 @@ pub fn openings_are_present<F>()
 /// saved, for every event of the program.
 pub fn steps_save_well<F>()
     ensures { StepsSaveWell F }
+{}
+
+/// So does each opening, from any value that makes a good copy, whatever headers read.
+pub fn openings_save_well<F>()
+    ensures { OpeningsSaveWell F }
 {}
 
 /// The program's sectors have names of 16 bytes, and the roots of its checkpoints stand in the grid.
