@@ -274,7 +274,7 @@ one_block c d h k apart heads e =
 pub payload_size : (h : Header) (b : List ℕ) → length b ≡ 4096 → 128 ≤ h.size → h.size ≤ 4096 → length (content_at h b).payload ≡ h.size - 128
 payload_size h b l a s = length-piece 128 (h.size - 128) b (omega arith)
 
-sum_in : (b : List ℕ) (h : Header) → Spells h b → piece 0 16 b ≡ (header_name h).0
+pub sum_in : (b : List ℕ) (h : Header) → Spells h b → piece 0 16 b ≡ (header_name h).0
 unfolding header_bytes piece
 sum_in b h e =
     let n = name_of (named_bytes h) in

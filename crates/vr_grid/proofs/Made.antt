@@ -2,6 +2,7 @@
 use Rattle.std.proofs.Common.{ℕ, ◌+◌, ◌-◌, ◌≤◌, ◌≡◌, arith, ap, ◌∙◌, Bool, List, ◌++◌, length, take, append_assoc, length-append, Option}
 use Rattle.std.specs.Prelude.{replicate}
 use Rattle.std.proofs.lemmas.List.{take_all}
+use Rattle.vr_base.specs.Bytes.{piece}
 use Rattle.vr_base.specs.declared.sum.Sum.{Sum}
 use Rattle.vr_disk.specs.DiskState.{Disk, Runs}
 use Rattle.vr_header.specs.Names.{header_name}
@@ -11,6 +12,7 @@ use Rattle.vr_header.proofs.HeaderLaws.{length-header_bytes}
 use Rattle.vr_grid.specs.Blocks.{Content, block_bytes, block_header, block_name, block_of}
 use Rattle.vr_grid.specs.Grid.{block_calls}
 use Rattle.vr_grid.specs.declared.block.Block.{Block}
+use Rattle.vr_grid.proofs.Contents.{sum_in}
 
 bytes_are : (c : Content) (h : Header) (one two three : List ℕ) (n : ℕ) → length c.payload ≤ 3968 → IsHeader h → h ≡ block_header c → one ≡ header_bytes h → two ≡ one ++ c.payload
     → n ≡ length two → three ≡ take 4096 two ++ replicate (4096 - n) 0 → three ≡ block_bytes c
@@ -21,6 +23,13 @@ bytes_are c h one two three n l i e a b m s =
     let zero : 4096 - n ≡ 3968 - length c.payload = omega arith in
     s ∙ (ap (λ x. x ++ replicate (4096 - n) 0) (take_all 4096 two (omega arith) ∙ (b ∙ ap (λ x. x ++ c.payload) (a ∙ ap header_bytes e)))
     ∙ (append_assoc (header_bytes (block_header c)) c.payload (replicate (4096 - n) 0) ∙ ap (λ k. header_bytes (block_header c) ++ (c.payload ++ replicate k 0)) zero))
+
+-- a header's bytes begin with its name
+pub name_in : (h : Header) (sum : Sum) (front : List ℕ) → IsHeader h → front ≡ header_bytes h → sum.0 ≡ piece 0 16 front → sum ≡ header_name h
+name_in h sum front i e s =
+    let l = ap length e ∙ length-header_bytes h i in
+    let same : sum.0 ≡ (header_name h).0 = s ∙ sum_in front h (take_all 128 front (omega arith) ∙ e) in
+    ap (λ (x : List ℕ). let s : Sum = record { 0 = x } in s) same
 
 pub made_is : (c : Content) (h : Header) (sum : Sum) (one two three bytes : List ℕ) (n : ℕ) → length c.payload ≤ 3968 → IsHeader h → h ≡ block_header c → sum ≡ header_name h → one ≡ header_bytes h → two ≡ one ++ c.payload
     → n ≡ length two → three ≡ take 4096 two ++ replicate (4096 - n) 0 → bytes ≡ three

@@ -4,7 +4,7 @@ ghost use Rattle.vr_grid.specs.Blocks.{Content, IsContent, block_header, block_o
 
 use crate::Name;
 use std::alloc::{AllocError, Global};
-use vr_base::{ByteList, Seq, Sum, checksum};
+use vr_base::{ByteList, Seq, Sum, checksum, sum_at};
 use vr_header::{Command, Header, Size, encode};
 
 /// The kind of a block with a part of a text.
@@ -68,7 +68,7 @@ impl Block {
     {
         let header = block_header(cluster, address, op, kind, payload);
         let front = encode(&header);
-        let sum = header.name();
+        let sum = sum_at(&front, 0);
         let mut bytes = Vec::with_capacity(alloc, 4096)?;
         bytes.extend_from_slice(&front)?;
         bytes.extend_from_slice(payload)?;

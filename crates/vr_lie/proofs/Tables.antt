@@ -10,7 +10,6 @@ use Rattle.vr_mem.specs.Lies.{digit_at}
 use Rattle.vr_lie.specs.declared.table.Prepare.{Prepare}
 use Rattle.vr_lie.specs.Faults.{HeldAfter, HeldLooked, held_at}
 use Rattle.vr_rings.specs.Held.{entry_read, found, held_after, held_begun, held_cut_at, is_part, keeps, kept, looked}
-use Rattle.vr_rings.specs.Held as held
 use Rattle.vr_lie.specs.Table.{HeldBegun, HeldCut, IsTable, held_of, slot_at, table_of}
 use Rattle.vr_lie.proofs.Slotted.{SameSlot, header_slot, part_slot, same_entry, same_slot}
 
@@ -19,11 +18,6 @@ at_table held s l = get_or-map held_of held s None None l
 
 pub set_table : (held : List (Option Prepare)) (slot : ℕ) (x : Option Prepare) (v : Option (List ℕ)) → held_of x ≡ v → table_of (set held slot x) ≡ set (table_of held) slot v
 set_table held s x v e = map-set held_of held s x ∙ ap (set (table_of held) s) e
-
-pub same_digit : (code i : ℕ) (ws : List Waiting) → held.digit_at code i ws ≡ digit_at code i ws
-unfolding held.digit_at digit_at
-same_digit code i [] = refl
-same_digit code i (w ∷ ws) = ap (cond (eqb w.index i) (code % 3)) (same_digit (code / 3) i ws)
 
 pub looks : (f : Face) (slot : ℕ) (h v r : Option (List ℕ)) → r ≡ looked f slot h → v ≡ h → r ≡ looked f slot v
 looks f s h v r e k = e ∙ ap (looked f s) (sym k)
@@ -108,7 +102,7 @@ pub put_none : (f : Face) (i : ℕ) (b : List ℕ) (old : List (Option (List ℕ
 put_none f i b old t e = record { each = λ s m. sym (untouched f old s i b m t (none_slot i s e)) }
 
 begun_apart : (code : ℕ) (f : Face) (table : List (Option (List ℕ))) (slot i : ℕ) (b : List ℕ) → slot < 64 → IsTable f table → slot_at i ≢ Some slot → held_begun code f (Write i b) slot (held_at table slot) ≡ held_at table slot
-begun_apart code f table s i b l t d = cond_both (eqb (held.digit_at code i (after f (Write i b)).waiting) 0) (held_at table s) _ (λ x. x ≡ held_at table s) (λ _. refl) (λ _. untouched f table s i b l t d)
+begun_apart code f table s i b l t d = cond_both (eqb (digit_at code i (after f (Write i b)).waiting) 0) (held_at table s) _ (λ x. x ≡ held_at table s) (λ _. refl) (λ _. untouched f table s i b l t d)
 
 pub begun_some : (code : ℕ) (f : Face) (i slot : ℕ) (b : List ℕ) (old new : List (Option (List ℕ))) → IsTable f old → slot_at i ≡ Some slot → slot < 64 → new ≡ set old slot (held_begun code f (Write i b) slot (held_at old slot)) → HeldBegun code f (Write i b) old new
 begun_some code f i slot b old new t e l n =
@@ -155,9 +149,9 @@ all_looked f n old new l h = record { each = λ s m. h.each s (omega arith) }
 
 -- a write that is begun, by whether it is settled as old
 pub begins_old : (code : ℕ) (f : Face) (i : ℕ) (b : List ℕ) (slot d : ℕ) (h : Option (List ℕ)) (ws : List Waiting) → d ≡ digit_at code i ws → ws ≡ (after f (Write i b)).waiting → d ≡ 0 → h ≡ held_begun code f (Write i b) slot h
-begins_old code f i b s d h ws e w z = let t : eqb (held.digit_at code i (after f (Write i b)).waiting) 0 ≡ true = eq-eqb _ 0 (same_digit code i (after f (Write i b)).waiting ∙ (ap (digit_at code i) (sym w) ∙ (sym e ∙ z))) in rw t refl
+begins_old code f i b s d h ws e w z = let t : eqb (digit_at code i (after f (Write i b)).waiting) 0 ≡ true = eq-eqb _ 0 (ap (digit_at code i) (sym w) ∙ (sym e ∙ z)) in rw t refl
 
 pub begins_new : (code : ℕ) (f : Face) (i : ℕ) (b : List ℕ) (slot d : ℕ) (h r : Option (List ℕ)) (ws : List Waiting) → d ≡ digit_at code i ws → ws ≡ (after f (Write i b)).waiting → d ≢ 0 → r ≡ held_after f (Write i b) slot h → r ≡ held_begun code f (Write i b) slot h
 begins_new code f i b s d h r ws e w z k =
-    let t : eqb (held.digit_at code i (after f (Write i b)).waiting) 0 ≡ false = ne_eqb _ 0 (λ y. z (e ∙ (ap (digit_at code i) w ∙ (sym (same_digit code i (after f (Write i b)).waiting) ∙ y)))) in
+    let t : eqb (digit_at code i (after f (Write i b)).waiting) 0 ≡ false = ne_eqb _ 0 (λ y. z (e ∙ (ap (digit_at code i) w ∙ y))) in
     rw t k

@@ -14,7 +14,8 @@ use Rattle.vr_disk.specs.Stops.{IsLeft}
 use Rattle.vr_disk.proofs.Frames.{frame_cut, reads_back, waits_after}
 use Rattle.vr_disk.proofs.Outcomes.{cut_leaves}
 use Rattle.vr_disk.proofs.Together.{is_has, together_same}
-use Rattle.vr_rings.specs.Held.{Stands, digit_at, entry_of_both, entry_read, found, header_sector, held_after, held_after_all, held_begun, held_cut, held_cut_at, is_prepare, keeps, looked}
+use Rattle.vr_mem.specs.Lies.{digit_at}
+use Rattle.vr_rings.specs.Held.{Stands, entry_of_both, entry_read, found, header_sector, held_after, held_after_all, held_begun, held_cut, held_cut_at, is_prepare, keeps, looked}
 use Rattle.vr_rings.specs.Laws.{LastsIn, TellsPrepare}
 use Rattle.vr_rings.specs.Slots.{header_reading, prepare_reading}
 use Rattle.vr_rings.proofs.Cutting.{cut_spares}

@@ -1,10 +1,11 @@
 -- What a slot holds, and the premise on its readings. An entry is given by its prepare's bytes.
-use Rattle.std.specs.Prelude.{ℕ, zero, suc, ◌+◌, ◌-◌, ◌*◌, ◌/◌, ◌%◌, ◌≡◌, ◌≢◌, Bool, true, ◌&&◌, ◌==◌, nat_eq, nat_le, nat_lt, if◌then◌else◌, List, [], ◌∷◌, ◌++◌, take, replicate, Option, None, Some, is_some}
+use Rattle.std.specs.Prelude.{ℕ, zero, suc, ◌+◌, ◌-◌, ◌*◌, ◌≡◌, ◌≢◌, Bool, true, ◌&&◌, ◌==◌, nat_eq, nat_le, nat_lt, if◌then◌else◌, List, [], ◌∷◌, ◌++◌, take, replicate, Option, None, Some, is_some}
 use Rattle.std.specs.Cmp.Lexicographic.{pointwise}
 use Rattle.vr_base.specs.Bytes.{piece}
-use Rattle.vr_disk.specs.DiskState.{Call, Write, Sync, Face, Waiting, after, cut_at}
+use Rattle.vr_disk.specs.DiskState.{Call, Write, Sync, Face, after, cut_at}
 use Rattle.vr_disk.specs.Regions.{header_at, prepare_at}
 use Rattle.vr_disk.specs.Sectors.{has}
+use Rattle.vr_mem.specs.Lies.{digit_at}
 use Rattle.vr_rings.specs.Slots.{header_of, header_reading, prepare_reading, whole_of}
 
 abbrev pub is_header_sector : List ℕ → Bool
@@ -61,11 +62,6 @@ held_after f Sync slot held = held
 unfoldable pub held_after_all : Face → List Call → ℕ → Option (List ℕ) → Option (List ℕ)
 held_after_all f [] slot held = held
 held_after_all f (c ∷ cs) slot held = held_after_all (after f c) cs slot (held_after f c slot held)
-
--- the digit of the code by which a sector that waits is settled, 0 where it doesn't wait
-unfoldable pub digit_at : ℕ → ℕ → List Waiting → ℕ
-digit_at code i [] = 0
-digit_at code i (w ∷ ws) = if w.index == i then code % 3 else digit_at (code / 3) i ws
 
 -- the write that is cut counts as a write unless it leaves its sector as it was
 abbrev pub held_begun : ℕ → Face → Call → ℕ → Option (List ℕ) → Option (List ℕ)
