@@ -46,10 +46,10 @@ fn lines_move_a_group_on_one_by_one(rt: HostRuntime) -> Result<(), Fail> {
     let made = world.step(alloc, &Line::Cluster(2))?;
     assert_eq!(rt; made.len(), 0);
     for (line, want) in ROWS {
+        assert!(rt; world.live());
         let outputs = world.step(alloc, &read(alloc, line)?)?;
         assert_eq!(rt; text(alloc, &outputs)?.as_slice(), want.as_bytes(), "at {line}");
     }
-    assert!(rt; world.live());
     Ok(())
 }
 
