@@ -134,7 +134,12 @@ impl Replay {
         ensures later { K.faults sink.old ≤ K.faults sink.new }
         ensures stopped { IfErr result (Stopped (K.faults sink.old) (K.faults sink.new) (K.taken sink.old) (K.taken sink.new) (taken self.old.group.world self.old.number self.old.partial)) }
     {
-        let line = judge(alloc, self.group.size(), self.number, self.partial.as_slice())?;
+        let line = judge(
+            alloc,
+            self.group.size(),
+            self.number,
+            self.partial.as_slice(),
+        )?;
         let text = play_text(alloc, &mut self.group, &line)?;
         write_whole(sink, text.as_slice())?;
         self.number += 1;

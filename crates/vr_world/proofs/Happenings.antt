@@ -77,7 +77,7 @@ grows hash w (x ∷ xs) =
     record {
       size = b.size ∙ a.size;
       sent = b.sent ∙ ap (λ ss. ss ++ messages (happen hash h.world xs).outputs) a.sent ∙ append_assoc w.sent (messages h.outputs) (messages (happen hash h.world xs).outputs)
-        ∙ ap (λ ss. w.sent ++ ss) (sym (messages_append h.outputs (happen hash h.world xs).outputs));
+          ∙ ap (λ ss. w.sent ++ ss) (sym (messages_append h.outputs (happen hash h.world xs).outputs));
     }
 
 pub size_after : (hash : Hash) (w : World) (xs : List Happening) → (happen hash w xs).world.n ≡ w.n
@@ -142,7 +142,7 @@ going_more lines i l first now next to_first to_now to_next h is g world outputs
     record {
       world = world ∙ ap (λ (w : World). (happen name_of w ys).world) g.world ∙ sym all.world ∙ ap (λ zs. (happen name_of first zs).world) next_is;
       outputs = put ∙ append_assoc to_first (numbered (length first.sent) a.outputs) (numbered (length a.world.sent) b.outputs) ∙ ap (λ x. to_first ++ x) (sym joined)
-        ∙ ap (λ zs. to_first ++ numbered (length first.sent) (happen name_of first zs).outputs) next_is;
+          ∙ ap (λ zs. to_first ++ numbered (length first.sent) (happen name_of first zs).outputs) next_is;
       real = rw (← next_is) (real_append xs ys g.real real);
     }
 

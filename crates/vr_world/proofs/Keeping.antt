@@ -79,7 +79,7 @@ after log (suc k) second client request some later d e =
 at_most_once : (log : List Whole) → AtMostOnce log
 at_most_once log = record {
   once = λ first second client request later d e.
-      after log first second client request d.number later (entry_of log first client request d) (entry_of log second client request e)
+      after log first second client request d.number later (entry_of log first client request d) (entry_of log second client request e);
 }
 
 has_quorums : (n : ℕ) → 2 ≤ n → n ≤ 6 → is_some (quorums_of n) ≡ true

@@ -37,7 +37,13 @@ impl Members {
         ensures ready { OnOk result (AreReady self.new.replicas.items) }
     {
         let mut out = Seq::new(alloc);
-        ask_at(&mut self.replicas, alloc, usize::from(replica), request, &mut out)?;
+        ask_at(
+            &mut self.replicas,
+            alloc,
+            usize::from(replica),
+            request,
+            &mut out,
+        )?;
         record_outputs(alloc, &mut self.sent, out, to)?;
         Ok(())
     }

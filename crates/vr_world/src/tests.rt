@@ -48,7 +48,11 @@ fn lines_move_a_group_on_one_by_one(rt: HostRuntime) -> Result<(), Fail> {
     for (line, want) in ROWS {
         assert!(rt; world.live());
         let outputs = world.step(alloc, &read(alloc, line)?)?;
-        assert_eq!(rt; text(alloc, &outputs)?.as_slice(), want.as_bytes(), "at {line}");
+        assert_eq!(rt;
+            text(alloc, &outputs)?.as_slice(),
+            want.as_bytes(),
+            "at {line}"
+        );
     }
     Ok(())
 }

@@ -9,9 +9,9 @@ ghost use Rattle.vr_world.specs.Kept.{Keeps};
 ghost use Rattle.vr_world.specs.Lines.{happening, happenings};
 ghost use Rattle.vr_world.specs.Outputs.{numbered};
 
+use crate::Outputs;
 use crate::members::Members;
 use crate::replicas::make_replicas;
-use crate::Outputs;
 use std::alloc::Global;
 use std::marker::Model;
 use vr_base::{NoMemory, Seq};
@@ -75,12 +75,7 @@ fn know_request(request: &Request)
 
 /// What a line says happens to the members.
 #[tactic(auto, using(std::proofs::lemmas::Grind::common_steps, crate::proofs::Happenings::happen_one, crate::proofs::Happenings::happen_none, crate::proofs::Numbering::numbered_none))]
-fn play(
-    members: &mut Members,
-    alloc: Global,
-    line: &Line,
-    to: &mut Outputs,
-) -> Result<(), NoMemory>
+fn play(members: &mut Members, alloc: Global, line: &Line, to: &mut Outputs) -> Result<(), NoMemory>
     requires { AreReady members.old.replicas.items }
     ensures world { OnOk result (world_of members.new ≡ (happen name_of (world_of members.old) (happening line.now)).world) }
     ensures outputs { OnOk result (to.new ≡ to.old ++ numbered (length members.old.sent) (happen name_of (world_of members.old) (happening line.now)).outputs) }
