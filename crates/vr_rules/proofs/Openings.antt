@@ -17,7 +17,8 @@ use Rattle.vr_recover.specs.declared.readings.Verdict.TheVariants as verdict
 use Rattle.vr_super.specs.Copies.{Saved}
 use Rattle.vr_rules.specs.Replica.{Replica, part_at, is_spent, is_started, leads, last_view, forgetting, with_part}
 use Rattle.vr_rules.specs.Steps.{Effect, Mend, Rewrite, Setting, Step, Word, ◌⨾◌, quiet, change, does, says, by, reading, when, each, after_all}
-use Rattle.vr_rules.specs.Words.{entry_of, save, send_to_all, start_view_change, start_line, load, apply}
+use Rattle.vr_rules.specs.Outputs.{send_to_all, start_view_change, start_line}
+use Rattle.vr_rules.specs.Words.{entry_of, save, load, apply}
 use Rattle.vr_rules.specs.Opening.{first_listed, blank, Slot, slot_at, slot_verdict, entry_header, part_by, rewrite, mend_slot, recover_op, old_part, recover_old, clouded_part, clouded_at, clouded, stored_above, is_listed, recover_parts, in_next_view, leave_view, heard_itself, announce, opening}
 use Rattle.vr_rules.specs.Sound.{IsSound}
 use Rattle.vr_rules.specs.Laws.{IsMending, ReadsHeaders, OpeningsAreSound}

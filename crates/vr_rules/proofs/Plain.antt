@@ -34,7 +34,8 @@ use Rattle.vr_ckpt.specs.declared.found.Load.TheVariants.{Loaded, Missing}
 use Rattle.vr_sched.specs.Text.{numbered, viewed, letters_of, statement_text, prepare_text, prepare_ok_text, commit_text, do_view_change_text, start_view_text, get_prepare_text, give_prepare_text, sent_text, committed_text, reply_text, chosen_text, waiting_text, started_text, output_text}
 use Rattle.vr_rules.specs.Replica.{Replica, part_at, head, run, statement_of, forgetting, with_part}
 use Rattle.vr_rules.specs.Steps.{Effect, Write, Rewrite, Save, Mend, Checkpoint, PutBlock, Say, Setting, outputs, after_all, ◌⨾◌, quiet, change, does, says, by, naming, reading, times, each}
-use Rattle.vr_rules.specs.Words.{send_to_all, value_of, save, entered, enter, write, accept, with_entry_at, with_checkpoint, make_checkpoint, apply_entry, apply_next, apply, advanced, advance, learn, is_chain_from, may_take, taken_part, taken, take, prepare_again, stated, begin_view, try_log, try, speak, resend, ask_peer, ask, with_state, load}
+use Rattle.vr_rules.specs.Outputs.{send_to_all}
+use Rattle.vr_rules.specs.Words.{value_of, save, entered, enter, write, accept, with_entry_at, with_checkpoint, make_checkpoint, apply_entry, apply_next, apply, advanced, advance, learn, is_chain_from, may_take, taken_part, taken, take, prepare_again, stated, begin_view, try_log, try, speak, resend, ask_peer, ask, with_state, load}
 use Rattle.vr_rules.specs.Deciding.{first_of, is_in_flight}
 use Rattle.vr_rules.specs.Rules.{next_entry, make, on_request, on_prepare, on_prepare_ok, on_commit, on_start_view_change, on_do_view_change, acknowledge_stored, on_start_view, on_get_view, on_get_prepare, on_give_prepare, on_get_block, put_block, on_give_block, on_tick, react, rule_for}
 use Rattle.vr_rules.specs.Opening.{blank, first_value, recover_op, recover_old, clouded, recover_parts, opening, opened}

@@ -9,7 +9,8 @@ use Rattle.vr_recover.specs.declared.readings.Verdict.TheVariants as verdict
 use Rattle.vr_super.specs.Copies.{Saved}
 use Rattle.vr_rules.specs.Replica.{Replica, head, part_at, is_spent, is_started, is_primary, leads, last_view}
 use Rattle.vr_rules.specs.Steps.{Effect, Mend, Say, Setting, Word, ◌⨾◌, quiet, change, does, says, by, reading, when, each, after_all}
-use Rattle.vr_rules.specs.Words.{save, send_to_all, start_view_change, start_line, apply, load}
+use Rattle.vr_rules.specs.Outputs.{send_to_all, start_view_change, start_line}
+use Rattle.vr_rules.specs.Words.{save, apply, load}
 use Rattle.vr_rules.specs.Opening.{Slot, blank, recover_old, recover_op, recover_parts, mend_slot, rewrite, leave_view, in_next_view, heard_itself, announce, opening}
 use Rattle.vr_rules.specs.Sound.{IsSavable}
 use Rattle.vr_rules.specs.Laws.{IsGoodSave, SavesRoots, SavesWell, OpeningsSaveWell}

@@ -24,7 +24,8 @@ use Rattle.vr_sess.specs.declared.session.SessionAnswer.{SessionAnswer}
 use Rattle.vr_sess.specs.declared.session.SessionAnswer.TheVariants as answer
 use Rattle.vr_rules.specs.Replica.{Replica, last_view, part_at, head, header_at, is_here, is_primary, is_started, is_spent, is_frozen}
 use Rattle.vr_rules.specs.Steps.{Setting, ◌⨾◌, quiet, change, by, when}
-use Rattle.vr_rules.specs.Words.{Asker, enter, write, is_loaded, apply, take, may_take, try, ask, load}
+use Rattle.vr_rules.specs.Outputs.{Asker}
+use Rattle.vr_rules.specs.Words.{enter, write, is_loaded, apply, take, may_take, try, ask, load}
 use Rattle.vr_rules.specs.Deciding.{Hash, is_known, request_table, do_view_change_table, log_of, start_view_table, get_view_table, get_prepare_table, give_prepare_table, get_block_table, is_wanted, give_block_table, tick_table, session_answer}
 use Rattle.vr_rules.specs.Rules as rules
 use Rattle.vr_rules.specs.Sound.{IsSound, IsStated, IsSavable}

@@ -20,7 +20,8 @@ use Rattle.vr_msg.specs.declared.statement.Statement.{Statement}
 use Rattle.vr_msg.specs.Choice.{ops}
 use Rattle.vr_rules.specs.Replica.{Replica, head, is_primary, is_started, view_change}
 use Rattle.vr_rules.specs.Steps.{Setting, Word, quiet, change, says, by, reading}
-use Rattle.vr_rules.specs.Words.{Log, save, has_quorum, advanced, advance, learned, learn, taken, take, prepare_again, may_take, chosen_log, choose_line, wait_line, begin_view, try_log, stated, decided, obey_choice, try, to_primary, do_view_change, speak, with_state, loaded_state, loads, checkpoint_at, load, apply}
+use Rattle.vr_rules.specs.Outputs.{wait_line, to_primary, do_view_change}
+use Rattle.vr_rules.specs.Words.{Log, save, has_quorum, advanced, advance, learned, learn, taken, take, prepare_again, may_take, chosen_log, choose_line, begin_view, try_log, stated, decided, obey_choice, try, speak, with_state, loaded_state, loads, checkpoint_at, load, apply}
 use Rattle.vr_rules.specs.Sound.{IsSound}
 use Rattle.vr_rules.specs.Laws.{IsGoodSave, SavesRoots}
 use Rattle.vr_rules.proofs.Keeping.{Kept, sound_commit}

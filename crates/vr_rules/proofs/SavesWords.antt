@@ -14,7 +14,8 @@ use Rattle.vr_msg.specs.declared.frame.Frame.{Frame}
 use Rattle.vr_msg.specs.declared.output.Output.{Output}
 use Rattle.vr_rules.specs.Replica.{Replica, last_view, part_at, forgetting, with_part}
 use Rattle.vr_rules.specs.Steps.{Setting, Word, quiet, change, says, when}
-use Rattle.vr_rules.specs.Words.{Log, save, entered, rested, enter, writes, stored, write, accept, entry_of, or_lost, lost, with_entry, with_entry_at, applied, checkpoints, with_checkpoint, checkpoint_of, make_checkpoint, is_checkpoint, commit_line, applied_reply, apply_entry, is_loaded, apply_next, apply, taken, prepare_again, may_take, resend, turned, ask_peer, ask_for, ask}
+use Rattle.vr_rules.specs.Outputs.{commit_line, applied_reply}
+use Rattle.vr_rules.specs.Words.{Log, save, entered, rested, enter, writes, stored, write, accept, entry_of, or_lost, lost, with_entry, with_entry_at, applied, checkpoints, with_checkpoint, checkpoint_of, make_checkpoint, is_checkpoint, apply_entry, is_loaded, apply_next, apply, taken, prepare_again, may_take, resend, turned, ask_peer, ask_for, ask}
 use Rattle.vr_rules.specs.Sound.{IsSound, IsSavable}
 use Rattle.vr_rules.specs.Laws.{SavesRoots}
 use Rattle.vr_rules.proofs.Combining.{Keeps, keeps_change}

@@ -9,7 +9,7 @@ use Rattle.vr_msg.specs.declared.output.Output.TheVariants as output
 use Rattle.vr_msg.specs.declared.output.Sent.{Sent}
 use Rattle.vr_rules.specs.Replica.{Replica}
 use Rattle.vr_rules.specs.Steps.{Effect, Setting, Step, Word, ◌⨾◌, quiet, change, does, says, by, naming, reading, times, each, outputs, after_all}
-use Rattle.vr_rules.specs.Words as words
+use Rattle.vr_rules.specs.Outputs as told
 use Rattle.vr_rules.specs.Laws.{IsPlaced, IsBy, IsCommitOf, IsPresentFrame, IsPresentSend, IsPresentOutput, IsPresent}
 use Rattle.vr_rules.proofs.SendsScripts.{outputs_append, outputs_said}
 use Rattle.vr_rules.proofs.SendsPlaces.{IsOther, others_are}
@@ -174,15 +174,15 @@ module _ {F : Type 0} {MayAsk : ℕ → ℕ → Type 0} {o : Replica} where
 
   -- a message to one, and to all others
   pub calm_send : (to : Replica → ℕ) (message : Replica → Frame) → ((r : Replica) → Near o r → IsOther r.index r.n (to r)) → ((r : Replica) → Near o r → IsPresentFrame (MayAsk (to r)) r r (message r))
-      → Calm {F = F} MayAsk o (says (λ r. words.send_to (to r) (message r) r))
+      → Calm {F = F} MayAsk o (says (λ r. told.send_to (to r) (message r) r))
   calm_send to message h k = calm_one _ (λ r near. let t = h r near in record { from = refl; to = t.0; other = t.1; message = k r near })
 
-  pub calm_all : (message : Replica → Frame) → ((r : Replica) → Near o r → (to : ℕ) → IsPresentFrame (MayAsk to) r r (message r)) → Calm {F = F} MayAsk o (says (words.send_to_all message))
-  unfolding words.send_to_all
+  pub calm_all : (message : Replica → Frame) → ((r : Replica) → Near o r → (to : ℕ) → IsPresentFrame (MayAsk to) r r (message r)) → Calm {F = F} MayAsk o (says (told.send_to_all message))
+  unfolding told.send_to_all
   calm_all message h =
-      calm_says _ (λ r near. All-map (IsPresentOutput MayAsk r r) (λ to. words.send to (message r) r) (words.others r.index r.n)
-      (All-weaker (IsOther r.index r.n) (λ to. IsPresentOutput MayAsk r r (words.send to (message r) r)) (λ to t. record { from = refl; to = t.0; other = t.1; message = h r near to })
-      (words.others r.index r.n) (others_are r.index r.n)))
+      calm_says _ (λ r near. All-map (IsPresentOutput MayAsk r r) (λ to. told.send to (message r) r) (told.others r.index r.n)
+      (All-weaker (IsOther r.index r.n) (λ to. IsPresentOutput MayAsk r r (told.send to (message r) r)) (λ to t. record { from = refl; to = t.0; other = t.1; message = h r near to })
+      (told.others r.index r.n) (others_are r.index r.n)))
 
 -- ---- a step that begins elsewhere, and goes on calmly
 

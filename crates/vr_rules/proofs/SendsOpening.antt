@@ -9,6 +9,7 @@ use Rattle.vr_recover.specs.declared.readings.Verdict.TheVariants as verdict
 use Rattle.vr_super.specs.Copies.{Saved, IsGood, good_fields, good_member, good_window, good_root, good_count}
 use Rattle.vr_rules.specs.Replica.{Replica, is_spent, leads, forgetting, with_part}
 use Rattle.vr_rules.specs.Steps.{Effect, Setting, Word, ◌⨾◌, quiet, change, does, says, by, reading, each, outputs, after_all}
+use Rattle.vr_rules.specs.Outputs as told
 use Rattle.vr_rules.specs.Words as words
 use Rattle.vr_rules.specs.Opening as start
 use Rattle.vr_rules.specs.Laws.{IsPlaced, IsPresent, OpeningsArePresent}
@@ -88,7 +89,7 @@ module _ {F : Type 0} {MayAsk : ℕ → ℕ → Type 0} {o : Replica} where
       calm_by _ (λ r near. calm_when _ _ (calm_then _ _ (calm_keeps _ (λ r. refl)) (calm_by _ (λ r near. calm_when _ _ (calm_all _ (λ r near to. (own r, refl)))))))
 
   -- from the start line on
-  calm_started : Calm {F = F} MayAsk o (says words.start_line ⨾ by (λ r. cond (not (is_spent r)) (words.load ⨾ words.apply ⨾ start.announce) quiet))
+  calm_started : Calm {F = F} MayAsk o (says told.start_line ⨾ by (λ r. cond (not (is_spent r)) (words.load ⨾ words.apply ⨾ start.announce) quiet))
   calm_started = calm_then _ _ (calm_one _ (λ r near. (refl, refl, own_commit r))) (calm_by _ (λ r near. calm_when _ _ (calm_then _ _ calm_load (calm_then _ _ calm_apply calm_announce))))
 
 module _ {F : Type 0} (MayAsk : ℕ → ℕ → Type 0) (s : Setting F) (r : Replica) (f : F) (p : IsPlaced r) where
@@ -109,7 +110,7 @@ module _ {F : Type 0} (MayAsk : ℕ → ℕ → Type 0) (s : Setting F) (r : Rep
   may_leave =
       cond_both (not (is_spent r)) start.leave_view quiet (λ (w : Word F). IsPresent MayAsk r (w s r f)) (λ _. leaves) (λ _. present_calm MayAsk s r f quiet p calm_quiet)
 
-  opens : IsPresent MayAsk r ((by (λ r. cond (not (is_spent r)) start.leave_view quiet) ⨾ says words.start_line ⨾ by (λ r. cond (not (is_spent r)) (words.load ⨾ words.apply ⨾ start.announce) quiet)) s r f)
+  opens : IsPresent MayAsk r ((by (λ r. cond (not (is_spent r)) start.leave_view quiet) ⨾ says told.start_line ⨾ by (λ r. cond (not (is_spent r)) (words.load ⨾ words.apply ⨾ start.announce) quiet)) s r f)
   opens = present_then MayAsk s r f _ _ may_leave calm_started
 
 blank_placed : (v : Saved) → IsGood v → IsPlaced (start.blank v)
@@ -127,7 +128,7 @@ blank_placed v g =
     }
 
 module _ {F : Type 0} (MayAsk : ℕ → ℕ → Type 0) (s : Setting F) (f : F) (v : Saved) (r : Replica) (p : IsPlaced r) where
-  recovers : IsPresent MayAsk r ((start.recover_parts v ⨾ by (λ r. cond (not (is_spent r)) start.leave_view quiet) ⨾ says words.start_line ⨾ by (λ r. cond (not (is_spent r)) (words.load ⨾ words.apply ⨾ start.announce) quiet)) s r f)
+  recovers : IsPresent MayAsk r ((start.recover_parts v ⨾ by (λ r. cond (not (is_spent r)) start.leave_view quiet) ⨾ says told.start_line ⨾ by (λ r. cond (not (is_spent r)) (words.load ⨾ words.apply ⨾ start.announce) quiet)) s r f)
   recovers =
       let c = (calm_recover {F = F} {MayAsk = MayAsk} {o = r} v).each s r f (near_itself r p) in
       present_after MayAsk s r f (start.recover_parts v) _ c.near.same ((dumb_recover v).none s r f)

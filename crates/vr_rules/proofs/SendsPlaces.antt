@@ -6,7 +6,7 @@ use Rattle.std.proofs.lemmas.Bool.{cond_both, eqb-false, not-true, cases_lt}
 use Rattle.std.proofs.lemmas.Nat.{mod-mul-add, mod_below}
 use Rattle.std.proofs.Math.Nat.{mod-eq_of_lt}
 use Rattle.std.proofs.lemmas.List.Elements.{All-nil, All-cons}
-use Rattle.vr_rules.specs.Words.{others}
+use Rattle.vr_rules.specs.Outputs.{others}
 
 abbrev pub IsOther : ℕ → ℕ → ℕ → Type 0
 IsOther index n to = (to < n) × (to ≢ index)

@@ -19,7 +19,7 @@ use Rattle.vr_sess.specs.declared.session.SessionAnswer.{SessionAnswer}
 use Rattle.vr_sess.specs.declared.session.SessionAnswer.TheVariants as answer
 use Rattle.vr_rules.specs.Replica.{Replica, is_primary}
 use Rattle.vr_rules.specs.Steps.{quiet, outputs}
-use Rattle.vr_rules.specs.Words as words
+use Rattle.vr_rules.specs.Outputs as told
 use Rattle.vr_rules.specs.Deciding.{Rule, Table, Hash, Redirected, Behind, Answered, Full, Made, PreparedLater, Past, Beyond, Known, Next, Ahead, Other, Counted, CommitLater, CommitHeard, ViewGiven, EntryGiven, EntryTaken, BlockGiven, BlockTaken, is_from, is_from_primary}
 use Rattle.vr_rules.specs.Deciding.{first_of as first_row}
 use Rattle.vr_rules.specs.Rules as rules
@@ -59,15 +59,15 @@ row b rule rows P h k = cond_both b rule (first_row rows) P h k
 
 module _ {F : Type 0} {MayAsk : ℕ → ℕ → Type 0} {o : Replica} where
   pub calm_ask_view : (view sender : ℕ) → IsOther o.index o.n sender → MayAsk sender view → Calm {F = F} MayAsk o (rules.ask_view view sender)
-  calm_ask_view view sender h may = calm_send (λ r. sender) (words.get_view view) (λ r near. other_stays o r sender near h) (λ r near. (own r, may))
+  calm_ask_view view sender h may = calm_send (λ r. sender) (told.get_view view) (λ r near. other_stays o r sender near h) (λ r near. (own r, may))
 
   pub calm_tell : (to : ℕ) → IsOther o.index o.n to → Calm {F = F} MayAsk o (rules.tell_view to)
-  calm_tell to h = calm_send (λ r. to) words.start_view (λ r near. other_stays o r to near h) (λ r near. (own r, refl, own_commit r))
+  calm_tell to h = calm_send (λ r. to) told.start_view (λ r near. other_stays o r to near h) (λ r near. (own r, refl, own_commit r))
 
   pub calm_acknowledge : (hash : Hash) (h : Header) → is_primary o ≡ false → Calm {F = F} MayAsk o (rules.acknowledge hash h)
   calm_acknowledge hash h e = calm_primary _ e (λ r near. (own r, refl))
 
-  pub calm_stored_reply : (a : words.Asker) (x : SessionAnswer) → Calm {F = F} MayAsk o (rules.stored_reply a x)
+  pub calm_stored_reply : (a : told.Asker) (x : SessionAnswer) → Calm {F = F} MayAsk o (rules.stored_reply a x)
   calm_stored_reply a answer.Fresh = calm_quiet
   calm_stored_reply a (answer.Repeat outcome op) = calm_replies a _
   calm_stored_reply a answer.Old = calm_replies a _
@@ -116,7 +116,7 @@ module _ {F : Type 0} {MayAsk : ℕ → ℕ → Type 0} {o : Replica} where
   calm_get_view g _ h = calm_quiet
 
   pub calm_get_prepare : (g : GetPrepare) (rule : Rule) → IsOther o.index o.n g.replica → Calm {F = F} MayAsk o (rules.obey_get_prepare g rule)
-  calm_get_prepare g EntryGiven h = calm_entry _ _ (λ e. calm_send (λ r. g.replica) (words.give_prepare e) (λ r near. other_stays o r _ near h) (λ r near. refl))
+  calm_get_prepare g EntryGiven h = calm_entry _ _ (λ e. calm_send (λ r. g.replica) (told.give_prepare e) (λ r near. other_stays o r _ near h) (λ r near. refl))
   calm_get_prepare g _ h = calm_quiet
 
   pub calm_give_prepare : (g : GivePrepare) (rule : Rule) → Calm {F = F} MayAsk o (rules.obey_give_prepare g rule)
@@ -125,7 +125,7 @@ module _ {F : Type 0} {MayAsk : ℕ → ℕ → Type 0} {o : Replica} where
 
   pub calm_read : (g : GetBlock) (block : Option (List ℕ)) → IsOther o.index o.n g.replica → Calm {F = F} MayAsk o (rules.give_read g block)
   calm_read g None h = calm_quiet
-  calm_read g (Some block) h = calm_send (λ r. g.replica) (words.give_block g.address block) (λ r near. other_stays o r _ near h) (λ r near. own r)
+  calm_read g (Some block) h = calm_send (λ r. g.replica) (told.give_block g.address block) (λ r near. other_stays o r _ near h) (λ r near. own r)
 
   pub calm_get_block : (g : GetBlock) (block : Option (List ℕ)) (rule : Rule) → IsOther o.index o.n g.replica → Calm {F = F} MayAsk o (rules.obey_get_block g block rule)
   calm_get_block g block BlockGiven h = calm_read g block h

@@ -15,6 +15,7 @@ use Rattle.vr_msg.specs.declared.frame.StartViewChange.{StartViewChange}
 use Rattle.vr_msg.specs.Normal.{primary}
 use Rattle.vr_rules.specs.Replica.{Replica, last_view, is_frozen, forgetting}
 use Rattle.vr_rules.specs.Steps.{Setting, Word, ◌⨾◌, quiet, change, does, says, by, naming, reading, outputs, after_all}
+use Rattle.vr_rules.specs.Outputs as told
 use Rattle.vr_rules.specs.Words as words
 use Rattle.vr_rules.specs.Deciding.{Rule, Hash, Ignored, PreparedBefore, PreparedLater, ChangeBefore, ChangeLater, ChangeHeard, ChangeDone, StatedLate, Stated, Taken, TickedPrimary, TickedBackup, TickedChanging, is_from, is_from_primary, log_of}
 use Rattle.vr_rules.specs.Deciding.{first_of as first_row}
@@ -37,7 +38,7 @@ module _ {F : Type 0} (MayAsk : ℕ → ℕ → Type 0) (s : Setting F) (r : Rep
   enters : (v : ℕ) → r.log_view ≤ v → IsPresent MayAsk r (words.enter v s r f)
   unfolding words.enter
   enters v l =
-      cond_both (nat_lt last_view v) (change words.rested) (change (words.entered v) ⨾ words.save ⨾ says (words.send_to_all words.start_view_change)) (λ (w : Word F). IsPresent MayAsk r (w s r f))
+      cond_both (nat_lt last_view v) (change words.rested) (change (words.entered v) ⨾ words.save ⨾ says (told.send_to_all told.start_view_change)) (λ (w : Word F). IsPresent MayAsk r (w s r f))
       (λ _. calmly _ (calm_keeps _ (λ r. refl)))
       (λ _. present_then MayAsk s r f _ _ (entering v l) (calm_then _ _ calm_save (calm_all _ (λ r near to. (own r, refl)))))
 
@@ -92,10 +93,10 @@ module _ {F : Type 0} (MayAsk : ℕ → ℕ → Type 0) (s : Setting F) (r : Rep
   unfolding by
   backup_goes_on = cond_both (nat_le 5 r.idle) rules.next_view words.ask (λ (w : Word F). IsPresent MayAsk r (w s r f)) (λ _. next_view) (λ _. calmly _ calm_ask)
 
-  changing_goes_on : IsPresent MayAsk r (by (λ r. cond (nat_le 10 r.idle) rules.next_view (says (words.send_to_all words.start_view_change) ⨾ words.speak ⨾ words.ask)) s r f)
+  changing_goes_on : IsPresent MayAsk r (by (λ r. cond (nat_le 10 r.idle) rules.next_view (says (told.send_to_all told.start_view_change) ⨾ words.speak ⨾ words.ask)) s r f)
   unfolding by
   changing_goes_on =
-      cond_both (nat_le 10 r.idle) rules.next_view (says (words.send_to_all words.start_view_change) ⨾ words.speak ⨾ words.ask) (λ (w : Word F). IsPresent MayAsk r (w s r f))
+      cond_both (nat_le 10 r.idle) rules.next_view (says (told.send_to_all told.start_view_change) ⨾ words.speak ⨾ words.ask) (λ (w : Word F). IsPresent MayAsk r (w s r f))
       (λ _. next_view)
       (λ _. calmly _ (calm_then _ _ (calm_all _ (λ r near to. (own r, refl))) (calm_then _ _ calm_speak calm_ask)))
 

@@ -24,6 +24,7 @@ use Rattle.vr_msg.specs.declared.choice.Choice.TheVariants.{Ends, WaitsAt, TooFe
 use Rattle.vr_msg.specs.Normal.{primary}
 use Rattle.vr_rules.specs.Replica.{Replica, leads, is_primary, statement_of, forgetting, with_part}
 use Rattle.vr_rules.specs.Steps.{Word, change, says, outputs}
+use Rattle.vr_rules.specs.Outputs as told
 use Rattle.vr_rules.specs.Words as words
 use Rattle.vr_rules.specs.Laws.{IsPlaced, IsBy, IsCommitOf, IsPresentFrame, IsPresentOutput}
 use Rattle.vr_rules.proofs.SendsPlaces.{IsOther, peer_is, turn_is}
@@ -95,7 +96,7 @@ module _ {F : Type 0} {MayAsk : ℕ → ℕ → Type 0} {o : Replica} where
 
   -- a message to the primary, from another replica
   pub calm_primary : (message : Replica → Frame) → is_primary o ≡ false → ((r : Replica) → Near o r → IsPresentFrame (MayAsk (primary r.n r.view)) r r (message r))
-      → Calm {F = F} MayAsk o (says (words.to_primary message))
+      → Calm {F = F} MayAsk o (says (told.to_primary message))
   calm_primary message e h = calm_send (λ r. primary r.n r.view) message (λ r near. primary_is r near.placed (primary_stays o r near ∙ e)) h
 
   pub calm_save : Calm {F = F} MayAsk o words.save
@@ -126,12 +127,12 @@ module _ {F : Type 0} {MayAsk : ℕ → ℕ → Type 0} {o : Replica} where
   unfolding words.with_entry_at
   calm_entry op w k = calm_by _ (λ r near. calm_part w _ k)
 
-  pub calm_replies : (x : words.Asker) (kind : Replica → ReplyKind) → Calm {F = F} MayAsk o (says (λ r. words.replies x (kind r) r))
+  pub calm_replies : (x : told.Asker) (kind : Replica → ReplyKind) → Calm {F = F} MayAsk o (says (λ r. told.replies x (kind r) r))
   calm_replies x kind = calm_one _ (λ r near. (own r, refl))
 
-  calm_reply : (e : Whole) → Calm {F = F} MayAsk o (says (words.applied_reply e))
+  calm_reply : (e : Whole) → Calm {F = F} MayAsk o (says (told.applied_reply e))
   calm_reply e =
-      calm_says _ (λ r near. cond_both (leads r) (words.replies (words.asker_of e) (words.kind_of _) r) [] (λ os. All (IsPresentOutput MayAsk r r) os)
+      calm_says _ (λ r near. cond_both (leads r) (told.replies (told.asker_of e) (told.kind_of _) r) [] (λ os. All (IsPresentOutput MayAsk r r) os)
       (λ _. All-cons (IsPresentOutput MayAsk r r) _ [] (own r, refl) (All-nil (IsPresentOutput MayAsk r r))) (λ _. All-nil (IsPresentOutput MayAsk r r)))
 
   calm_checkpoint : Calm {F = F} MayAsk o words.make_checkpoint
@@ -181,13 +182,13 @@ module _ {F : Type 0} {MayAsk : ℕ → ℕ → Type 0} {o : Replica} where
       (calm_then _ _ (calm_all _ (λ r near to. (own r, refl, own_commit r)))
       (calm_then _ _ (calm_by _ (λ r near. calm_each _ _ calm_prepare_again)) calm_apply)))
 
-  calm_waits : (op : ℕ) → Calm {F = F} MayAsk o (says (words.wait_line op))
+  calm_waits : (op : ℕ) → Calm {F = F} MayAsk o (says (told.wait_line op))
   calm_waits op = calm_one _ (λ r near. (refl, refl))
 
   calm_try_log : (ss : List Statement) (l : words.Log) → l.view ≡ o.view → Calm {F = F} MayAsk o (words.try_log ss l)
   unfolding words.try_log
   calm_try_log ss l e =
-      calm_naming _ (λ hash. calm_by _ (λ r near. calm_if (words.may_take hash l r) (words.begin_view ss l) (says (words.wait_line l.head)) (λ _. calm_begin ss l e) (λ _. calm_waits l.head)))
+      calm_naming _ (λ hash. calm_by _ (λ r near. calm_if (words.may_take hash l r) (words.begin_view ss l) (says (told.wait_line l.head)) (λ _. calm_begin ss l e) (λ _. calm_waits l.head)))
 
   calm_choice : (ss : List Statement) (c : Choice) → Calm {F = F} MayAsk o (words.obey_choice ss c)
   calm_choice ss TooFew = calm_quiet

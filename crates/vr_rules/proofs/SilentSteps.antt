@@ -30,6 +30,7 @@ use Rattle.vr_sess.specs.declared.session.SessionAnswer.{SessionAnswer}
 use Rattle.vr_sess.specs.declared.session.SessionAnswer.TheVariants as answer
 use Rattle.vr_rules.specs.Replica.{Replica}
 use Rattle.vr_rules.specs.Steps.{Effect, Setting, Step, Word, ◌⨾◌, quiet, change, does, says, by, naming, outputs, after_all}
+use Rattle.vr_rules.specs.Outputs as told
 use Rattle.vr_rules.specs.Words as words
 use Rattle.vr_rules.specs.Deciding.{Rule, Hash, Redirected, Behind, Answered, Full, Made, PreparedLater, Past, Beyond, Known, Next, Ahead, Other, Counted, CommitLater, CommitHeard, ChangeLater, ChangeHeard, ChangeDone, StatedLate, Stated, Taken, ViewGiven, EntryGiven, EntryTaken, BlockGiven, BlockTaken, TickedPrimary, TickedBackup, TickedChanging}
 use Rattle.vr_rules.specs.Rules as rules
@@ -120,7 +121,7 @@ module _ {F : Type 0} where
   steady_still : (w : Word F) → Still w → Steady w
   steady_still w h = record { each = λ s r f. inr (h.still s r f) }
 
-  steady_waits : (op : ℕ) → Steady (says (words.wait_line op))
+  steady_waits : (op : ℕ) → Steady (says (told.wait_line op))
   unfolding says
   steady_waits op = record { each = λ s r f. inr (record { first = refl; parts = refl }) }
 
@@ -181,7 +182,7 @@ module _ {F : Type 0} where
 
   -- ---- the rules
 
-  mute_replies : (a : words.Asker) (x : SessionAnswer) → Mute {F = F} (rules.stored_reply a x)
+  mute_replies : (a : told.Asker) (x : SessionAnswer) → Mute {F = F} (rules.stored_reply a x)
   mute_replies a answer.Fresh = mute_quiet
   mute_replies a (answer.Repeat outcome op) = mute_one _ (λ r. tt)
   mute_replies a answer.Old = mute_one _ (λ r. tt)

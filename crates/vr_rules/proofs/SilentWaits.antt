@@ -13,6 +13,7 @@ use Rattle.vr_msg.specs.declared.output.Output.TheVariants as output
 use Rattle.vr_msg.specs.declared.statement.Statement.{Statement}
 use Rattle.vr_rules.specs.Replica.{Replica, leads}
 use Rattle.vr_rules.specs.Steps.{Effect, Setting, Word, ◌⨾◌, quiet, change, does, says, by, naming, reading, times, each, outputs, after_all}
+use Rattle.vr_rules.specs.Outputs as told
 use Rattle.vr_rules.specs.Words as words
 use Rattle.vr_rules.proofs.SendsScripts.{outputs_append, outputs_said}
 
@@ -80,9 +81,9 @@ module _ {F : Type 0} where
   pub mute_one : (o : Replica → Output) → ((r : Replica) → IsNoWait (o r)) → Mute (says (λ r. o r ∷ []))
   mute_one o n = mute_says _ (λ r. All-cons IsNoWait (o r) [] (n r) (All-nil IsNoWait))
 
-  pub mute_all : (message : Replica → Frame) → Mute (says (words.send_to_all message))
-  unfolding words.send_to_all
-  mute_all message = mute_says _ (λ r. All-map IsNoWait (λ to. words.send to (message r) r) (words.others r.index r.n) (λ k d l. tt))
+  pub mute_all : (message : Replica → Frame) → Mute (says (told.send_to_all message))
+  unfolding told.send_to_all
+  mute_all message = mute_says _ (λ r. All-map IsNoWait (λ to. told.send to (message r) r) (told.others r.index r.n) (λ k d l. tt))
 
   pub mute_save : Mute words.save
   unfolding words.save outputs
@@ -107,9 +108,9 @@ module _ {F : Type 0} where
   unfolding words.with_entry_at
   mute_entry op w k = mute_by _ (λ r. mute_part w _ k)
 
-  mute_reply : (e : Whole) → Mute (says (words.applied_reply e))
+  mute_reply : (e : Whole) → Mute (says (told.applied_reply e))
   mute_reply e =
-      mute_says _ (λ r. cond_both (leads r) (words.replies (words.asker_of e) (words.kind_of _) r) [] (λ os. All IsNoWait os) (λ _. All-cons IsNoWait _ [] tt (All-nil IsNoWait)) (λ _. All-nil IsNoWait))
+      mute_says _ (λ r. cond_both (leads r) (told.replies (told.asker_of e) (told.kind_of _) r) [] (λ os. All IsNoWait os) (λ _. All-cons IsNoWait _ [] tt (All-nil IsNoWait)) (λ _. All-nil IsNoWait))
 
   mute_checkpoint : Mute words.make_checkpoint
   unfolding words.make_checkpoint outputs

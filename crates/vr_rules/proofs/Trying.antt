@@ -23,7 +23,8 @@ use Rattle.vr_choose.proofs.Logs.{found}
 use Rattle.vr_choose.proofs.Standing.{headers_stand}
 use Rattle.vr_rules.specs.Replica.{Replica, head, is_primary, is_started, view_change, statement_of}
 use Rattle.vr_rules.specs.Steps.{Setting, says}
-use Rattle.vr_rules.specs.Words.{Log, may_take, take, to_primary, do_view_change, wait_line, prepare_again, stated, log_end, chosen_log, choose_line, begin_view, try_log, obey_choice, decided, try, speak}
+use Rattle.vr_rules.specs.Outputs.{to_primary, do_view_change, wait_line}
+use Rattle.vr_rules.specs.Words.{Log, may_take, take, prepare_again, stated, log_end, chosen_log, choose_line, begin_view, try_log, obey_choice, decided, try, speak}
 use Rattle.vr_rules.specs.Sound.{IsStated, IsSound}
 use Rattle.vr_rules.proofs.Combining.{KeptBy, Keeps, kept_then, kept_says_then, kept_by, kept_naming, kept_if, kept_when, keeps_then, keeps_quiet, keeps_says, keeps_by, keeps_when, keeps_if, keeps_each}
 use Rattle.vr_rules.proofs.Stating.{own_statement}

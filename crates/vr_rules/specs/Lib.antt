@@ -1,5 +1,6 @@
 pub mod Replica
 pub mod Steps
+pub mod Outputs
 pub mod Words
 pub mod Deciding
 pub mod Rules

@@ -22,7 +22,8 @@ use Rattle.vr_recover.specs.Verdict.{verdict_of}
 use Rattle.vr_ckpt.specs.Places as places
 use Rattle.vr_rules.specs.Replica.{Replica, is_started, leads, is_spent, last_view, part_at, forgetting, with_part}
 use Rattle.vr_rules.specs.Steps.{Mend, Rewrite, Setting, Step, Word, ◌⨾◌, quiet, change, does, says, by, reading, when, each}
-use Rattle.vr_rules.specs.Words.{send_to_all, start_view_change, start_line, save, apply, load, entry_of}
+use Rattle.vr_rules.specs.Outputs.{send_to_all, start_view_change, start_line}
+use Rattle.vr_rules.specs.Words.{save, apply, load, entry_of}
 
 -- ---- a group that is made
 
