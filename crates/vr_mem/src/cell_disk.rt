@@ -29,6 +29,7 @@ impl CellDisk {
         ensures face { IfOk result (λ m. (disk_of m).face ≡ record { cells = copies 1424 zero_cell; waiting = [] }) }
         ensures fate { IfOk result (λ m. (disk_of m).fate ≡ record { fuse = None; made = 0; failing = []; dead = false }) }
         ensures faults { IfOk result (λ m. m.faults ≡ 0) }
+        ensures read_faults { IfOk result (λ m. m.read_faults ≡ 0) }
     {
         Ok(CellDisk {
             face: MemFace::new(alloc)?,
@@ -47,6 +48,7 @@ impl CellDisk {
     pub fn fail(&mut self, list: Vec<u64>)
         ensures told { disk_of self.new ≡ record (disk_of self.old) { fate = record (disk_of self.old).fate { made = 0; failing = list.items } } }
         ensures faults { self.new.faults ≡ self.old.faults }
+        ensures read_faults { self.new.read_faults ≡ self.old.read_faults }
     {
         self.fate.made = 0;
         self.fate.failing = list;
@@ -57,6 +59,7 @@ impl CellDisk {
         requires { 1 ≤ j }
         ensures told { disk_of self.new ≡ record (disk_of self.old) { fate = record (disk_of self.old).fate { fuse = Some (record { calls = j - 1; code = code }) } } }
         ensures faults { self.new.faults ≡ self.old.faults }
+        ensures read_faults { self.new.read_faults ≡ self.old.read_faults }
     {
         self.fate.fuse = Some(MemFuse { calls: j - 1, code });
     }
@@ -72,6 +75,7 @@ impl CellDisk {
     pub fn revive(&mut self)
         ensures told { disk_of self.new ≡ record (disk_of self.old) { fate = record (disk_of self.old).fate { dead = false } } }
         ensures faults { self.new.faults ≡ self.old.faults }
+        ensures read_faults { self.new.read_faults ≡ self.old.read_faults }
     {
         self.fate.dead = false;
     }
@@ -89,6 +93,7 @@ impl CellDisk {
         requires { i < 1424 }
         ensures told { disk_of self.new ≡ record (disk_of self.old) { face = lied (disk_of self.old).face i (Some sector.now.bytes) } }
         ensures faults { self.new.faults ≡ self.old.faults }
+        ensures read_faults { self.new.read_faults ≡ self.old.read_faults }
     {
         self.face.show(i, sector);
     }
@@ -98,6 +103,7 @@ impl CellDisk {
         requires { i < 1424 }
         ensures told { disk_of self.new ≡ record (disk_of self.old) { face = lied (disk_of self.old).face i None } }
         ensures faults { self.new.faults ≡ self.old.faults }
+        ensures read_faults { self.new.read_faults ≡ self.old.read_faults }
     {
         self.face.hide(i);
     }
@@ -107,6 +113,7 @@ impl CellDisk {
         ensures verdict { verdict_of result ≡ (judged (disk_of self.old).fate).verdict }
         ensures told { disk_of self.new ≡ record (disk_of self.old) { fate = (judged (disk_of self.old).fate).next } }
         ensures faults { self.new.faults ≡ self.old.faults }
+        ensures read_faults { self.new.read_faults ≡ self.old.read_faults }
     {
         self.fate.judge()
     }
@@ -116,6 +123,7 @@ impl CellDisk {
         requires { i < 1424 }
         ensures told { disk_of self.new ≡ record (disk_of self.old) { face = after (disk_of self.old).face (Write i from.now.bytes) } }
         ensures faults { self.new.faults ≡ self.old.faults }
+        ensures read_faults { self.new.read_faults ≡ self.old.read_faults }
     {
         self.face.write(i, from);
     }
@@ -124,6 +132,7 @@ impl CellDisk {
     pub fn clear(&mut self)
         ensures told { disk_of self.new ≡ record (disk_of self.old) { face = after (disk_of self.old).face Sync } }
         ensures faults { self.new.faults ≡ self.old.faults }
+        ensures read_faults { self.new.read_faults ≡ self.old.read_faults }
     {
         self.face.sync();
     }
@@ -132,6 +141,7 @@ impl CellDisk {
     pub fn settle(&mut self, code: u64)
         ensures told { disk_of self.new ≡ record (disk_of self.old) { face = settle code (disk_of self.old).face } }
         ensures faults { self.new.faults ≡ self.old.faults }
+        ensures read_faults { self.new.read_faults ≡ self.old.read_faults }
     {
         self.face.settle(code);
     }

@@ -24,6 +24,7 @@ impl MemDisk {
         ensures face { IfOk result (λ m. (told_by m).face ≡ record { cells = copies 1424 zero_cell; waiting = [] }) }
         ensures fate { IfOk result (λ m. (told_by m).fate ≡ record { fuse = None; made = 0; failing = []; dead = false }) }
         ensures faults { IfOk result (λ m. m.disk.faults ≡ 0) }
+        ensures read_faults { IfOk result (λ m. m.disk.read_faults ≡ 0) }
     {
         Ok(MemDisk {
             disk: CellDisk::new(alloc)?,
@@ -34,6 +35,7 @@ impl MemDisk {
     pub fn fail(&mut self, list: Vec<u64>)
         ensures told { told_by self.new ≡ record (told_by self.old) { fate = record (told_by self.old).fate { made = 0; failing = list.items } } }
         ensures faults { self.new.disk.faults ≡ self.old.disk.faults }
+        ensures read_faults { self.new.disk.read_faults ≡ self.old.disk.read_faults }
     {
         self.disk.fail(list);
     }
@@ -43,6 +45,7 @@ impl MemDisk {
         requires { 1 ≤ j }
         ensures told { told_by self.new ≡ record (told_by self.old) { fate = record (told_by self.old).fate { fuse = Some (record { calls = j - 1; code = code }) } } }
         ensures faults { self.new.disk.faults ≡ self.old.disk.faults }
+        ensures read_faults { self.new.disk.read_faults ≡ self.old.disk.read_faults }
     {
         self.disk.fuse(j, code);
     }
@@ -58,6 +61,7 @@ impl MemDisk {
     pub fn revive(&mut self)
         ensures told { told_by self.new ≡ record (told_by self.old) { fate = record (told_by self.old).fate { dead = false } } }
         ensures faults { self.new.disk.faults ≡ self.old.disk.faults }
+        ensures read_faults { self.new.disk.read_faults ≡ self.old.disk.read_faults }
     {
         self.disk.revive();
     }
