@@ -95,6 +95,11 @@ settled code (w ∷ ws) cells =
 abbrev pub settle : ℕ → Face → Face
 settle code f = record { cells = settled code f.waiting f.cells; waiting = [] }
 
+-- the digit of the code by which a sector that waits is settled, 0 where it doesn't wait
+unfoldable pub digit_at : ℕ → ℕ → List Waiting → ℕ
+digit_at code i [] = 0
+digit_at code i (w ∷ ws) = if w.index == i then code % 3 else digit_at (code / 3) i ws
+
 -- a stop at a call: where that is a write, its sector counts among those that wait
 abbrev pub begun : Face → Call → Face
 begun f (Write i bytes) = after f (Write i bytes)

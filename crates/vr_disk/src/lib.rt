@@ -3,6 +3,7 @@
 
 mod buffer;
 mod disk;
+mod fault;
 mod laws;
 mod none;
 mod regions;
@@ -11,6 +12,7 @@ mod sectors;
 
 pub use buffer::Buffer;
 pub use disk::{DiskFailed, SectorDisk};
+pub use fault::{DiskFault, Faulty};
 pub use laws::disk_laws;
 pub use none::NoDisk;
 pub use regions::{

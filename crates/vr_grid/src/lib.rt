@@ -11,7 +11,7 @@ mod view;
 mod writing;
 
 pub use block::{Block, DATA, PAYLOAD_AT, PAYLOAD_SIZE, ROOT};
-pub use fault::{CkptFault, DiskFault, Faulty};
+pub use fault::CkptFault;
 pub use laws::grid_laws;
 pub use name::{Name, NameList};
 pub use reading::read_block;

@@ -3,9 +3,9 @@ ghost use Rattle.std.specs.Prelude.{◌≡◌, ◌<◌, Some, None, length, if�
 ghost use Rattle.vr_grid.specs.Blocks.{named};
 ghost use Rattle.vr_grid.specs.Grid.{IsWhole, block_reading, named_at};
 
+use crate::Name;
 use crate::check::payload_of;
-use crate::{Faulty, Name};
-use vr_disk::{BLOCK_SECTORS, Buffer, SectorDisk, block_at, read_sectors};
+use vr_disk::{BLOCK_SECTORS, Buffer, Faulty, SectorDisk, block_at, read_sectors};
 
 // Reads the eight sectors of a block; false where one of them can't be read.
 #[tactic(auto, unfolding(crate::specs::Grid::block_reading))]

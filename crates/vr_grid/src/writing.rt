@@ -6,9 +6,9 @@ ghost use Rattle.vr_grid.specs.Blocks.{Content, block_bytes, block_name, is_kind
 ghost use Rattle.vr_grid.specs.Grid.{Leaves, block_calls, put_calls};
 ghost use Rattle.vr_grid.specs.Laws.{PutLeaves};
 
-use crate::{Block, CkptFault, DiskFault, Name};
+use crate::{Block, CkptFault, Name};
 use std::alloc::Global;
-use vr_disk::{BLOCK_SECTORS, DiskFailed, SectorDisk, block_at, write_sectors};
+use vr_disk::{BLOCK_SECTORS, DiskFailed, DiskFault, SectorDisk, block_at, write_sectors};
 
 /// Writes the eight sectors of a block; it takes no memory.
 #[tactic(auto, unfolding(crate::specs::Grid::block_calls))]

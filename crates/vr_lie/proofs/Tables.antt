@@ -3,10 +3,9 @@ use Rattle.std.proofs.Common.{ℕ, ◌+◌, ◌/◌, ◌%◌, ◌<◌, ◌≤◌
 use Rattle.std.specs.Prelude.{nat_le, nat_lt}
 use Rattle.std.proofs.lemmas.Bool.{cases_eq, cond_both, eq-eqb, ne_eqb, and_parts, leb-true, ltb-true}
 use Rattle.std.proofs.lemmas.List.{get_or-map, map-set}
-use Rattle.vr_disk.specs.DiskState.{Face, Write, Sync, Waiting, after, settle}
+use Rattle.vr_disk.specs.DiskState.{Face, Write, Sync, Waiting, after, digit_at, settle}
 use Rattle.vr_disk.specs.Regions.{header_at, prepare_at}
 use Rattle.vr_disk.proofs.Frames.{reads_other}
-use Rattle.vr_mem.specs.Lies.{digit_at}
 use Rattle.vr_lie.specs.declared.table.Prepare.{Prepare}
 use Rattle.vr_lie.specs.Faults.{HeldAfter, HeldLooked, held_at}
 use Rattle.vr_rings.specs.Held.{entry_read, found, held_after, held_begun, held_cut_at, is_part, keeps, kept, looked}

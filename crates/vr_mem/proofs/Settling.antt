@@ -4,13 +4,13 @@ use Rattle.std.specs.List.{list_any}
 use Rattle.std.proofs.lemmas.List.{drop_all, map-set, get_or-map}
 use Rattle.std.specs.List.{All, AllByRecursion}
 use Rattle.std.proofs.lemmas.List.Elements.{All-from_recursion, All-set, recursion_from_All}
-use Rattle.vr_disk.specs.DiskState.{Cell, Face, IsCell, IsContent, IsFace, Waiting, Write, after, cell, settle, IsWaiting, blank, settled, settled_cell, waits}
+use Rattle.vr_disk.specs.DiskState.{Cell, Face, IsCell, IsContent, IsFace, Waiting, Write, after, cell, digit_at, settle, IsWaiting, blank, settled, settled_cell, waits}
 use Rattle.vr_mem.specs.declared.cells.MemCell.{MemCell}
 use Rattle.vr_mem.specs.declared.cells.MemWaiting.{MemWaiting}
 use Rattle.std.specs.Vec.{vec_capacity}
 use Rattle.vr_disk.proofs.Faces.{face_after, face_settled, there}
 use Rattle.vr_mem.specs.declared.cells.MemFace.{MemFace}
-use Rattle.vr_mem.specs.Lies.{digit_at, lied}
+use Rattle.vr_mem.specs.Lies.{lied}
 use Rattle.vr_mem.specs.Seen.{IsMemFace, cell_of, face_of, once, waiting_of}
 
 pub settle_step : (code : ℕ) (ws : List MemWaiting) (i : ℕ) (d : MemWaiting) (cells : List MemCell) (x e : MemCell)

@@ -2,8 +2,8 @@
 ghost use Rattle.std.specs.Prelude.{◌≡◌, ◌<◌, ◌≤◌, ◌==◌, ◌++◌, ◌∷◌, [], if◌then◌else◌, false, length, map, IfOk, None, Some};
 ghost use Rattle.std.specs.List.{list_any, All};
 ghost use Rattle.std.specs.Vec.{vec_capacity};
-ghost use Rattle.vr_disk.specs.DiskState.{after, cell, damaged, IsContent, settle, settled, settled_cell, Write, Sync};
-ghost use Rattle.vr_mem.specs.Lies.{digit_at, lied};
+ghost use Rattle.vr_disk.specs.DiskState.{after, cell, damaged, digit_at, IsContent, settle, settled, settled_cell, Write, Sync};
+ghost use Rattle.vr_mem.specs.Lies.{lied};
 ghost use Rattle.vr_mem.specs.Seen.{IsMemFace, cell_of, copies, face_of, waiting_of, zero_cell};
 
 use std::alloc::Global;

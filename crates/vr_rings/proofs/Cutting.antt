@@ -2,14 +2,13 @@
 use Rattle.std.proofs.Common.{ℕ, zero, suc, ◌+◌, ◌-◌, ◌%◌, ◌≤◌, ◌<◌, ◌≡◌, ◌≢◌, ◌⊎◌, inl, inr, arith, refl, sym, ap, ◌∙◌, true, false, cond, eqb, List, [], ◌∷◌, ◌++◌, length, get_or, set, Option, Some, length-set, get_or-set_other, get_or-set_same}
 use Rattle.std.specs.List.{AllByRecursion}
 use Rattle.std.proofs.lemmas.Bool.{cases_eq, cases_lt, eq-eqb, eqb-true}
-use Rattle.vr_disk.specs.DiskState.{Call, Write, Sync, Cell, Face, after, after_all, blank, cell, cut, cut_at, damaged, noted, settled, settled_cell, waits, written}
+use Rattle.vr_disk.specs.DiskState.{Call, Write, Sync, Cell, Face, after, after_all, blank, cell, cut, cut_at, damaged, digit_at, noted, settled, settled_cell, waits, written}
 use Rattle.vr_disk.specs.Regions.{header_at, prepare_at}
 use Rattle.vr_disk.specs.Stops.{IsLeft, Spares}
 use Rattle.vr_disk.proofs.Frames.{frame_cut, reads_back, waits_after}
 use Rattle.vr_disk.proofs.Outcomes.{cut_leaves}
 use Rattle.vr_disk.proofs.Stopping.{cuts_both}
 use Rattle.vr_disk.proofs.Together.{Within, length_after_all, together_same}
-use Rattle.vr_mem.specs.Lies.{digit_at}
 use Rattle.vr_rings.specs.Held.{Stands, header_sector, held_after, held_after_all, held_begun, held_cut, held_cut_at, is_header_sector, kept, looked}
 use Rattle.vr_rings.specs.Slots.{header_reading, prepare_reading}
 use Rattle.vr_rings.proofs.Standing.{Apart, Heads, Mid, apart_held, both_is, call_stands, calls_stand, header_other, kept_is, keeps_header, look_cases, look_mid, look_seen, look_stands, mid_stands, part_mid, prepare_other, same_stands}

@@ -7,14 +7,13 @@ use Rattle.std.proofs.lemmas.Bool.{and_parts, and_from, eq-eqb, le-leb, lt-ltb, 
 use Rattle.std.proofs.lemmas.List.{get_or-map}
 use Rattle.std.proofs.lemmas.Slice.Eq.{bytes_eq-Decides}
 use Rattle.vr_base.specs.Bytes.{piece}
-use Rattle.vr_disk.specs.DiskState.{Call, Write, Sync, Cell, Face, after, after_all, cut, cut_at, damaged, waits}
+use Rattle.vr_disk.specs.DiskState.{Call, Write, Sync, Cell, Face, after, after_all, cut, cut_at, damaged, digit_at, waits}
 use Rattle.vr_disk.specs.Regions.{header_at, prepare_at}
 use Rattle.vr_disk.specs.Sectors.{has}
 use Rattle.vr_disk.specs.Stops.{IsLeft}
 use Rattle.vr_disk.proofs.Frames.{frame_cut, reads_back, waits_after}
 use Rattle.vr_disk.proofs.Outcomes.{cut_leaves}
 use Rattle.vr_disk.proofs.Together.{is_has, together_same}
-use Rattle.vr_mem.specs.Lies.{digit_at}
 use Rattle.vr_rings.specs.Held.{Stands, entry_of_both, entry_read, found, header_sector, held_after, held_after_all, held_begun, held_cut, held_cut_at, is_prepare, keeps, looked}
 use Rattle.vr_rings.specs.Laws.{LastsIn, TellsPrepare}
 use Rattle.vr_rings.specs.Slots.{header_reading, prepare_reading}

@@ -2,10 +2,9 @@
 use Rattle.std.specs.Prelude.{ℕ, zero, suc, ◌+◌, ◌-◌, ◌*◌, ◌≡◌, ◌≢◌, Bool, true, ◌&&◌, ◌==◌, nat_eq, nat_le, nat_lt, if◌then◌else◌, List, [], ◌∷◌, ◌++◌, take, replicate, Option, None, Some, is_some}
 use Rattle.std.specs.Cmp.Lexicographic.{pointwise}
 use Rattle.vr_base.specs.Bytes.{piece}
-use Rattle.vr_disk.specs.DiskState.{Call, Write, Sync, Face, after, cut_at}
+use Rattle.vr_disk.specs.DiskState.{Call, Write, Sync, Face, after, cut_at, digit_at}
 use Rattle.vr_disk.specs.Regions.{header_at, prepare_at}
 use Rattle.vr_disk.specs.Sectors.{has}
-use Rattle.vr_mem.specs.Lies.{digit_at}
 use Rattle.vr_rings.specs.Slots.{header_of, header_reading, prepare_reading, whole_of}
 
 abbrev pub is_header_sector : List ℕ → Bool

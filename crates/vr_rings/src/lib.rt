@@ -9,7 +9,7 @@ mod slot;
 mod writing;
 
 pub use bytes::{header_of, header_sector, whole_of};
-pub use fault::{Bad, DiskFault, Faulty};
+pub use fault::Bad;
 pub use laws::slot_laws;
 pub use reading::{read_header, read_prepare, read_whole};
 pub use writing::{write_again, write_header, write_new};

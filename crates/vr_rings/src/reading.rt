@@ -8,9 +8,9 @@ ghost use Rattle.vr_disk.specs.Sectors.{together};
 ghost use Rattle.vr_rings.specs.Readings.{BeginsWith, Found};
 ghost use Rattle.vr_rings.specs.Slots.{header_in, whole_in, whole_of};
 
+use crate::Bad;
 use crate::bytes::{header_of, whole_of};
-use crate::{Bad, Faulty};
-use vr_disk::{Buffer, Sector, SectorDisk, header_at, prepare_at, read_sectors};
+use vr_disk::{Buffer, Faulty, Sector, SectorDisk, header_at, prepare_at, read_sectors};
 use vr_header::Header;
 
 /// The header that a slot's header sector reads as, None exactly where it can't be read or is no valid header with zeros

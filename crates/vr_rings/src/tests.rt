@@ -3,7 +3,7 @@ ghost use Rattle.std.specs.Prelude.{◌≤◌, ◌<◌, ◌^◌};
 
 use super::*;
 use std::test::Fail;
-use vr_disk::{Buffer, DiskFailed, Sector, SectorDisk};
+use vr_disk::{Buffer, DiskFailed, Faulty, Sector, SectorDisk};
 use vr_header::{Entry, Header, Operation};
 use vr_mem::MemDisk;
 

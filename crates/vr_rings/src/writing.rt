@@ -6,10 +6,9 @@ ghost use Rattle.vr_rings.specs.Slots.{prepare_bytes, sector_of};
 ghost use Rattle.vr_rings.specs.Calls.{again_calls, header_calls, new_calls, prepare_calls};
 ghost use Rattle.vr_rings.specs.Laws.{AgainLeaves, HeaderLeaves, NewLeaves};
 
-use crate::DiskFault;
 use crate::bytes::{header_sector, prepare_of, sector_of};
 use crate::slot::slot_of;
-use vr_disk::{DiskFailed, Sector, SectorDisk, header_at, prepare_at, write_sectors};
+use vr_disk::{DiskFailed, DiskFault, Sector, SectorDisk, header_at, prepare_at, write_sectors};
 use vr_header::{Entry, Header};
 
 // Writes the four sectors of an entry, which are these bytes, and syncs them.

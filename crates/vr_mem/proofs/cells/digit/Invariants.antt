@@ -1,6 +1,6 @@
 use Rattle.std.proofs.Common.{◌≡◌, drop}
 use Rattle.std.specs.Prelude.{map}
-use Rattle.vr_mem.specs.Lies.{digit_at}
+use Rattle.vr_disk.specs.DiskState.{digit_at}
 use Rattle.vr_mem.specs.Seen.{waiting_of}
 use Rattle.vr_mem.proofs.cells.digit.Given as goal
 
