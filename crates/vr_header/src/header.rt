@@ -63,8 +63,15 @@ impl Header {
     pub fn root(cluster: u64) -> Header
         ensures { result ≡ root_header cluster }
     {
+        Header::over(checksum(&[]), cluster)
+    }
+
+    // The root's header with this body: all else is as there.
+    fn over(body: Sum, cluster: u64) -> Header
+        ensures { result ≡ record (root_header cluster) { body = body } }
+    {
         Header {
-            body: checksum(&[]),
+            body,
             parent: Sum([0; 16]),
             request_name: Sum([0; 16]),
             cluster,
@@ -86,12 +93,11 @@ impl Header {
         ensures { result ≡ request_header cluster client request operation.now }
     {
         Header {
-            body: operation.body_name(),
             client,
             request,
             size: operation.size(),
             command: Command::Request,
-            ..Header::root(cluster)
+            ..Header::over(operation.body_name(), cluster)
         }
     }
 
