@@ -189,3 +189,7 @@ frame_missing b h i e r =
 
 pub some_message : (b : List ℕ) (h : Header) → IsBytes b → inspected b ≡ Ok h → (m : Frame) × Spells m b
 some_message b h i e = let x = inspected_found b h i e in (x.message.message, spells_found b h x)
+
+-- memory is wanted only for bytes that spell a message
+pub no_memory : (b : List ℕ) (f : MsgFault) → inspected b ≡ Err f → f ≡ fault.NoMemory → ⊥
+no_memory b f e n = subst (IsFault b) n (fault_found b f e)

@@ -33,6 +33,9 @@ pub fn decode(alloc: Global, bytes: &[u8]) -> Result<Message, MsgFault>
     ensures fault { IfErr result (λ f. f ≢ MsgFault.NoMemory → IsFault bytes.now f) }
     ensures only { (m : Frame) → Spells m bytes.now → (result ≡ Ok m) ⊎ (result ≡ Err MsgFault.NoMemory) }
 
+    // Only a message can want memory.
+    ensures memory { result ≡ Err MsgFault.NoMemory → (m : Frame) × Spells m bytes.now }
+
     // No other message's spelling begins the bytes.
     ensures alone { IfOk result (λ m. (other : Frame) (front rest : List ℕ) → Spells other front → front ++ rest ≡ bytes.now → other ≡ m) }
 {

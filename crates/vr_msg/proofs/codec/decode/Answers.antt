@@ -1,5 +1,5 @@
-use Rattle.std.proofs.Common.{sym, ◌∙◌}
-use Rattle.vr_msg.proofs.Decided.{fault_found, is_alone, none_spells, only_one}
+use Rattle.std.proofs.Common.{arith, sym, ◌∙◌}
+use Rattle.vr_msg.proofs.Decided.{fault_found, is_alone, no_memory, none_spells, only_one, some_message}
 use Rattle.vr_msg.proofs.codec.decode.Goals as goal
 
 pub returns-in-Ok-clause-only : goal.returns-in-Ok-clause-only
@@ -13,3 +13,9 @@ returns-in-Err-clause-fault c = λ _. fault_found c.args.bytes.now c.in-Err.faul
 
 pub returns-in-Err-clause-only : goal.returns-in-Err-clause-only
 returns-in-Err-clause-only c = none_spells c.args.bytes.now c.in-Err.fault _ (sym c.inspect.ensures ∙ c.in-Err.is)
+
+pub returns-in-Ok-clause-memory : goal.returns-in-Ok-clause-memory
+returns-in-Ok-clause-memory c = λ _. some_message c.args.bytes.now c.in-Ok.header (λ i. omega (arith, c.type_inv.bytes i)) (sym c.inspect.ensures ∙ c.in-Ok.is)
+
+pub returns-in-Err-clause-memory : goal.returns-in-Err-clause-memory
+returns-in-Err-clause-memory c = λ e. absurd (no_memory c.args.bytes.now c.in-Err.fault (sym c.inspect.ensures ∙ c.in-Err.is) cc)
