@@ -1,5 +1,5 @@
 -- Calls that stop, by a cut or by a call that fails.
-use Rattle.std.proofs.Common.{ℕ, zero, suc, ◌-◌, ◌≤◌, ◌<◌, ◌≡◌, ◌⊎◌, inl, inr, arith, refl, sym, ap, ◌∙◌, false, List, [], ◌∷◌, ◌++◌, length, take, Option, None, Some, subst}
+use Rattle.std.proofs.Common.{ℕ, zero, suc, ◌-◌, ◌≤◌, ◌<◌, ◌≡◌, inl, inr, arith, refl, sym, ap, ◌∙◌, false, List, [], ◌∷◌, ◌++◌, length, take, Option, None, Some, subst}
 use Rattle.std.specs.List.{AllByRecursion}
 use Rattle.vr_disk.specs.DiskState.{Call, Face, after, after_all, cell, cut, reads, waits}
 use Rattle.vr_disk.specs.Stops.{IsLeft, Spares, Stops, WritesOnly, halted}

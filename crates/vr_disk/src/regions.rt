@@ -2,6 +2,8 @@
 ghost use Rattle.std.specs.Prelude.{◌≡◌, ◌<◌, ◌≤◌, ◌+◌};
 ghost use Rattle.vr_disk.specs.Regions.{copy_at, header_at, prepare_at, block_at};
 
+use crate::SECTOR_SIZE;
+
 /// The number of sectors.
 pub const SECTORS: u32 = 1424;
 
@@ -22,6 +24,17 @@ pub const BLOCKS: u32 = 128;
 
 /// The number of sectors of a block.
 pub const BLOCK_SECTORS: u32 = 8;
+
+// The regions lie one behind the other, from the first sector to the last, and a block has 4,096 bytes.
+const _: () = prove!(COPY_SECTORS * COPIES == 80);
+
+const _: () = prove!(80 + SLOTS == 144);
+
+const _: () = prove!(144 + PREPARE_SECTORS * SLOTS == 400);
+
+const _: () = prove!(400 + BLOCK_SECTORS * BLOCKS == SECTORS);
+
+const _: () = prove!(BLOCK_SECTORS as usize * SECTOR_SIZE == 4096);
 
 /// Sector `k` of a copy of the superblock.
 pub fn copy_at(copy: u32, k: u32) -> u32

@@ -1,7 +1,7 @@
 //! Sectors one behind the other, written and read together.
-ghost use Rattle.std.specs.Prelude.{◌≡◌, ◌≤◌, ◌<◌, ◌+◌, ◌*◌, Some, None, if◌then◌else◌, length, IfSome, is_ok};
+ghost use Rattle.std.specs.Prelude.{◌≡◌, ◌≤◌, ◌<◌, ◌+◌, ◌*◌, Some, None, false, if◌then◌else◌, length, IfSome, is_ok};
 ghost use Rattle.vr_base.specs.Bytes.{piece};
-ghost use Rattle.vr_base.specs.Causes.{HasCause};
+ghost use Rattle.vr_base.specs.Causes.{HasCause, Rose};
 ghost use Rattle.vr_disk.specs.DiskState.{Runs, reads};
 ghost use Rattle.vr_disk.specs.Sectors.{has, together, writes};
 
@@ -30,6 +30,7 @@ pub fn write_sectors<D: SectorDisk>(
     requires size { length bytes.now ≡ 512 * count }
     ensures runs { Runs (writes at count bytes.now) (D.told disk.old) (D.told disk.new) (is_ok result) }
     ensures cause { HasCause (D.faults disk.old) (D.faults disk.new) result }
+    ensures others { D.read_faults disk.new ≡ D.read_faults disk.old }
 {
     for k in 0..count {
         disk.write(at + k, &sector_at(bytes, 512 * k as usize))?;
@@ -44,6 +45,7 @@ pub fn read_sectors<D: SectorDisk>(disk: &mut D, at: u32, count: u32, to: &mut [
     ensures told { D.told disk.new ≡ D.told disk.old }
     ensures faults { D.faults disk.new ≡ D.faults disk.old }
     ensures value { IfSome (D.told disk.old) (λ d. together at count d.face ≡ (if result then Some to.new else None)) }
+    ensures cause { result ≡ false → Rose (D.read_faults disk.old) (D.read_faults disk.new) }
 {
     let mut sector = Sector { bytes: [0; 512] };
     for k in 0..count {

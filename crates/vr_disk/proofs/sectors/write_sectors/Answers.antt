@@ -1,4 +1,4 @@
-use Rattle.std.proofs.Common.{◌≡◌, ◌+◌, ◌-◌, ◌*◌, ◌<◌, arith, drop, true, false, [], ◌∷◌}
+use Rattle.std.proofs.Common.{◌≡◌, ◌∙◌, ◌+◌, ◌-◌, ◌*◌, ◌<◌, arith, drop, true, false, [], ◌∷◌}
 use Rattle.std.proofs.lemmas.Result.{err_from_is_err_and}
 use Rattle.vr_disk.specs.DiskState.{Write, Runs}
 use Rattle.vr_disk.proofs.Running.{Runs_then, Runs_stopped, runs_nothing}
@@ -17,6 +17,7 @@ loop-k-preserved g c =
     record {
       runs = λ new ok h. c.loop-k.invariant.runs new ok (rw (writes_step c.args.at c.args.count k bytes l) (Runs_then call _ _ _ _ _ one h));
       later = let h = c.in_ok-write.ensures.cause.later in let i = c.loop-k.invariant.later in omega arith;
+      others = c.in_ok-write.ensures.others ∙ c.loop-k.invariant.others;
     }
 
 pub returns-in_err-write-clause-runs : goal.returns-in_err-write-clause-runs
