@@ -4,7 +4,7 @@ ghost use Rattle.vr_msg.specs.Asking.{IsReplyKind};
 ghost use Rattle.vr_msg.specs.Forms.{IsFrame};
 
 use crate::{Line, LineFault, parse_line, text, write_text};
-use std::alloc::Global;
+use std::alloc::{AllocError, Global};
 use std::process::Abort;
 use std::test::Fail;
 use vr_base::{ByteList, Seq, Sum};
@@ -41,8 +41,13 @@ fn asked(operation: Operation) -> Result<Entry, Fail> {
     Ok(Entry::of_request(&header, operation, 0, 2, NAME))
 }
 
-fn writes(rt: &impl Abort, alloc: Global, output: &Output, line: &[u8]) -> Result<(), Fail> {
-    assert_eq!(rt; text(alloc, 6, output)?.as_slice(), line);
+/// The line of an output. Each function that drops one is dear to prove: only this one and `add` do.
+fn line_of(alloc: Global, output: Output) -> Result<ByteList, AllocError> {
+    text(alloc, 6, &output)
+}
+
+fn writes(rt: &impl Abort, alloc: Global, output: Output, line: &[u8]) -> Result<(), Fail> {
+    assert_eq!(rt; line_of(alloc, output)?.as_slice(), line);
     Ok(())
 }
 
@@ -56,7 +61,7 @@ fn sends(rt: &impl Abort, alloc: Global, frame: Frame, line: &[u8]) -> Result<()
         to: 0,
         message,
     });
-    writes(rt, alloc, &output, line)
+    writes(rt, alloc, output, line)
 }
 
 #[test]
@@ -226,7 +231,7 @@ fn commits(rt: &impl Abort, alloc: Global, operation: Operation, line: &[u8]) ->
     writes(
         rt,
         alloc,
-        &Output::Commit(Committed { replica: 0, entry }),
+        Output::Commit(Committed { replica: 0, entry }),
         line,
     )
 }
@@ -275,7 +280,7 @@ fn replies(rt: &impl Abort, alloc: Global, kind: ReplyKind, line: &[u8]) -> Resu
         request_name: NAME,
         kind,
     });
-    writes(rt, alloc, &Output::Reply(reply), line)
+    writes(rt, alloc, Output::Reply(reply), line)
 }
 
 fn answers(rt: &impl Abort, alloc: Global, outcome: Outcome, line: &[u8]) -> Result<(), Fail> {
@@ -353,91 +358,78 @@ fn replies_to_clients(rt: HostRuntime) -> Result<(), Fail> {
     )
 }
 
-fn chooses(rt: &impl Abort, alloc: Global, own: Seq<Part>, line: &[u8]) -> Result<(), Fail> {
+fn chooses(rt: &impl Abort, alloc: Global, own: Vec<Part>, line: &[u8]) -> Result<(), Fail> {
     let chosen = Chosen {
         replica: 1,
         view: 1,
         log_view: 0,
         commit: 0,
         head: 1,
-        own,
+        own: Seq::from_vec(own),
     };
-    writes(rt, alloc, &Output::Choose(chosen), line)
+    writes(rt, alloc, Output::Choose(chosen), line)
 }
 
 #[test]
 fn letters_of_parts(rt: HostRuntime) -> Result<(), Fail> {
     let alloc = rt.alloc();
     let header = registered().header();
-    let mut own = Seq::new(alloc);
-    chooses(
-        &rt,
-        alloc,
-        own.try_clone(alloc)?,
-        b"choose 1 view 1 log 0 commit 0 head 1 own -\n",
-    )?;
-    own.push(Part::Nothing)?;
-    chooses(
-        &rt,
-        alloc,
-        own.try_clone(alloc)?,
-        b"choose 1 view 1 log 0 commit 0 head 1 own -\n",
-    )?;
-    for part in [
+    let none = b"choose 1 view 1 log 0 commit 0 head 1 own -\n";
+    chooses(&rt, alloc, Vec::new(alloc), none)?;
+    chooses(&rt, alloc, vec![in alloc; Part::Nothing]?, none)?;
+    let own = vec![in alloc;
+        Part::Nothing,
         Part::Here(header),
         Part::Lost(header),
         Part::Wanted(header),
         Part::Unknown,
         Part::Nothing,
-    ] {
-        own.push(part)?;
-    }
-    chooses(
-        &rt,
-        alloc,
-        own,
-        b"choose 1 view 1 log 0 commit 0 head 1 own nhlwu\n",
-    )
+    ]?;
+    let line = b"choose 1 view 1 log 0 commit 0 head 1 own nhlwu\n";
+    chooses(&rt, alloc, own, line)
+}
+
+/// Adds the line of an output, and drops it.
+fn add(output: Output, to: &mut ByteList) -> Result<(), AllocError> {
+    write_text(0, &output, to)
 }
 
 #[test]
 fn one_buffer_takes_all_lines(rt: HostRuntime) -> Result<(), Fail> {
-    let alloc = rt.alloc();
-    let mut all = ByteList::new(alloc);
-    let wait = Output::Wait(Waiting {
+    let mut all = ByteList::new(rt.alloc());
+    let wait = Waiting {
         replica: 1,
         view: 1,
         op: 1,
-    });
-    let start = Output::Start(Started {
+    };
+    let start = Started {
         replica: 1,
         view: 0,
         log_view: 0,
         commit: 32,
-    });
-    for output in [
-        wait,
-        start,
-        Output::Halted(1),
-        Output::Done,
-        Output::KeptOut,
-    ] {
-        write_text(0, &output, &mut all)?;
-    }
+    };
+    add(Output::Wait(wait), &mut all)?;
+    add(Output::Start(start), &mut all)?;
+    add(Output::Halted(1), &mut all)?;
+    add(Output::Done, &mut all)?;
+    add(Output::KeptOut, &mut all)?;
     let lines =
         b"wait 1 view 1 op 1\nstart 1 view 0 log_view 0 commit 32\nhalt 1\ndone\nkept out\n";
     assert_eq!(rt; all.as_slice(), lines.as_slice());
     Ok(())
 }
 
+/// What a line is read as, in a group of so many replicas.
+fn reads(rt: &impl Abort, alloc: Global, n: u8, line: &[u8], want: Result<Line, LineFault>) {
+    assert_eq!(rt; parse_line(alloc, n, line), want, "at {line:?}");
+}
+
 #[test]
 fn lines_are_read(rt: HostRuntime) -> Result<(), Fail> {
     let alloc = rt.alloc();
-    assert_eq!(rt; parse_line(alloc, 0, b"cluster 3"), Ok(Line::Cluster(3)));
-    assert_eq!(rt;
-        parse_line(alloc, 3, b"deliver 18446744073709551615"),
-        Ok(Line::Deliver(u64::MAX))
-    );
+    reads(&rt, alloc, 0, b"cluster 3", Ok(Line::Cluster(3)));
+    let last = Ok(Line::Deliver(u64::MAX));
+    reads(&rt, alloc, 3, b"deliver 18446744073709551615", last);
     let operation = Operation::Put(key(alloc, b"a")?, value(alloc, b"b")?);
     let request = Request::new(RequestFields {
         cluster: 0,
@@ -449,13 +441,12 @@ fn lines_are_read(rt: HostRuntime) -> Result<(), Fail> {
         replica: 2,
         request,
     };
-    assert_eq!(rt; parse_line(alloc, 3, b"request 2 7 1 put a b"), Ok(line));
+    reads(&rt, alloc, 3, b"request 2 7 1 put a b", Ok(line));
     Ok(())
 }
 
 #[test]
-fn other_lines_are_refused(rt: HostRuntime) -> Result<(), Fail> {
-    let alloc = rt.alloc();
+fn other_lines_are_refused(rt: HostRuntime) {
     let lines: [&[u8]; 8] = [
         b"",
         b"cluster 3",
@@ -467,7 +458,6 @@ fn other_lines_are_refused(rt: HostRuntime) -> Result<(), Fail> {
         b"request 2 7 1 get a ",
     ];
     for line in lines {
-        assert_eq!(rt; parse_line(alloc, 3, line), Err(LineFault::NotALine));
+        reads(&rt, rt.alloc(), 3, line, Err(LineFault::NotALine));
     }
-    Ok(())
 }
