@@ -1,6 +1,8 @@
 use crate::{KEYS, Kv, Machine};
 use std::alloc::Global;
+use std::process::Abort;
 use std::test::Fail;
+use vr_base::{ByteList, NoMemory};
 use vr_header::{Key, Operation, Outcome, Value};
 use vr_table::StateFault;
 
@@ -26,14 +28,42 @@ fn full(alloc: Global) -> Result<Kv, Fail> {
     Ok(kv)
 }
 
+/// Applies an operation, and drops it.
+fn answer(kv: &mut Kv, operation: Operation) -> Result<Outcome, NoMemory> {
+    kv.apply(&operation)
+}
+
+/// Compares two outcomes, and drops them. Each function that drops values is dear to prove, the more so the more often
+/// it can end early, so tests leave that to small functions.
+fn check(rt: &impl Abort, outcome: Outcome, want: Outcome) {
+    assert_eq!(rt; outcome, want);
+}
+
+fn check_full(rt: &impl Abort, alloc: Global, kv: &mut Kv) -> Result<(), Fail> {
+    assert_eq!(rt; kv.len(), KEYS);
+    check(rt, put(kv, alloc, b"zz")?, Outcome::Full);
+    check(rt, put(kv, alloc, b"a0")?, Outcome::Ok);
+    assert_eq!(rt; kv.len(), KEYS);
+    Ok(())
+}
+
 #[test]
 fn a_key_more_finds_no_room(rt: HostRuntime) -> Result<(), Fail> {
     let alloc = rt.alloc();
     let mut kv = full(alloc)?;
-    assert_eq!(rt; kv.len(), KEYS);
-    assert_eq!(rt; put(&mut kv, alloc, b"zz")?, Outcome::Full);
-    assert_eq!(rt; put(&mut kv, alloc, b"a0")?, Outcome::Ok);
-    assert_eq!(rt; kv.len(), KEYS);
+    check_full(&rt, alloc, &mut kv)
+}
+
+fn check_keys(rt: &impl Abort, alloc: Global, kv: &mut Kv) -> Result<(), Fail> {
+    let absent = answer(kv, Operation::Get(key(alloc, b"a")?))?;
+    check(rt, absent, Outcome::Absent);
+    check(rt, put(kv, alloc, b"a")?, Outcome::Ok);
+    let found = answer(kv, Operation::Get(key(alloc, b"a")?))?;
+    check(rt, found, Outcome::Value(value(alloc, b"v")?));
+    let deleted = answer(kv, Operation::Delete(key(alloc, b"a")?))?;
+    check(rt, deleted, Outcome::Ok);
+    let absent = answer(kv, Operation::Delete(key(alloc, b"a")?))?;
+    check(rt, absent, Outcome::Absent);
     Ok(())
 }
 
@@ -41,29 +71,29 @@ fn a_key_more_finds_no_room(rt: HostRuntime) -> Result<(), Fail> {
 fn keys_come_and_go(rt: HostRuntime) -> Result<(), Fail> {
     let alloc = rt.alloc();
     let mut kv = Kv::new(alloc);
-    let get = Operation::Get(key(alloc, b"a")?);
-    let delete = Operation::Delete(key(alloc, b"a")?);
-    assert_eq!(rt; kv.apply(&get)?, Outcome::Absent);
-    assert_eq!(rt; put(&mut kv, alloc, b"a")?, Outcome::Ok);
-    assert_eq!(rt; kv.apply(&get)?, Outcome::Value(value(alloc, b"v")?));
-    assert_eq!(rt; kv.apply(&delete)?, Outcome::Ok);
-    assert_eq!(rt; kv.apply(&delete)?, Outcome::Absent);
-    Ok(())
+    check_keys(&rt, alloc, &mut kv)
+}
+
+/// The text of a machine with keys a and b.
+fn text_of_two(alloc: Global) -> Result<ByteList, Fail> {
+    let mut kv = Kv::new(alloc);
+    put(&mut kv, alloc, b"b")?;
+    put(&mut kv, alloc, b"a")?;
+    Ok(kv.encode_state()?)
+}
+
+/// The text of the machine that a text is read as.
+fn text_again(alloc: Global, text: &[u8]) -> Result<ByteList, Fail> {
+    let kv = <Kv as Machine>::decode_state(alloc, text)?;
+    Ok(Machine::encode_state(&kv)?)
 }
 
 #[test]
 fn a_text_is_read_back(rt: HostRuntime) -> Result<(), Fail> {
     let alloc = rt.alloc();
-    let mut kv = Kv::new(alloc);
-    put(&mut kv, alloc, b"b")?;
-    put(&mut kv, alloc, b"a")?;
-    let text = kv.encode_state()?;
-    assert_eq!(rt;
-        text.as_slice(),
-        b"\x00\x02\x01\x00\x01av\x01\x00\x01bv".as_slice()
-    );
-    let again = <Kv as Machine>::decode_state(alloc, text.as_slice())?;
-    assert_eq!(rt; Machine::encode_state(&again)?.as_slice(), text.as_slice());
+    let text = b"\x00\x02\x01\x00\x01av\x01\x00\x01bv".as_slice();
+    assert_eq!(rt; text_of_two(alloc)?.as_slice(), text);
+    assert_eq!(rt; text_again(alloc, text)?.as_slice(), text);
     Ok(())
 }
 
