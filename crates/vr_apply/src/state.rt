@@ -1,7 +1,6 @@
 //! Sessions and machine together.
-ghost use Rattle.std.specs.Prelude.{◌≡◌, ◌≤◌, ◌+◌, ◌/◌, List, [], ◌∷◌, ◌++◌, length, Ok, IfOk, IfErr, OnErr};
+ghost use Rattle.std.specs.Prelude.{◌≡◌, ◌≤◌, ◌+◌, List, [], ◌∷◌, ◌++◌, length, Ok, IfOk, IfErr, OnErr};
 ghost use Rattle.vr_header.specs.Made.{Whole};
-ghost use Rattle.vr_header.specs.declared.operation.Operation.{Operation};
 ghost use Rattle.vr_kv.specs.Kv.{IsKv};
 ghost use Rattle.vr_sess.specs.Sessions.{checked, IsSessions};
 ghost use Rattle.vr_table.specs.Table.{IsOrNoMemory};
@@ -13,7 +12,7 @@ use crate::codec::Texts;
 use crate::reply::ReplyBody;
 use std::alloc::Global;
 use vr_base::NoMemory;
-use vr_header::{Entry, Operation};
+use vr_header::Entry;
 use vr_kv::Kv;
 use vr_sess::{SessionAnswer, Sessions};
 use vr_table::StateFault;

@@ -1,5 +1,5 @@
 //! Chains of headers.
-ghost use Rattle.std.specs.Prelude.{◌≡◌, MatchResult};
+ghost use Rattle.std.specs.Prelude.{MatchResult};
 ghost use Rattle.vr_chain.specs.Chain.{IsChain, BreaksAt};
 
 use vr_base::Sum;

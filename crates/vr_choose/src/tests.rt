@@ -1,5 +1,5 @@
 //! Choices made of statements.
-ghost use Rattle.std.specs.Prelude.{◌≡◌, ◌≤◌, ◌<◌, ◌-◌, ◌^◌, IfOk};
+ghost use Rattle.std.specs.Prelude.{◌≤◌, ◌<◌, ◌-◌, ◌^◌, IfOk};
 ghost use Rattle.vr_msg.specs.Logs.{IsEntryAt};
 ghost use Rattle.vr_choose.specs.Statements.{IsSomeStatement};
 

@@ -1,5 +1,5 @@
 //! What a checkpoint has in its blocks, and which of them are written: made before the first call.
-ghost use Rattle.std.specs.Prelude.{◌≡◌, ◌≤◌, ◌<◌, ◌+◌, ◌*◌, ◌++◌, length, OnOk, IfOk, Some, None};
+ghost use Rattle.std.specs.Prelude.{◌≡◌, ◌≤◌, ◌<◌, ◌+◌, ◌*◌, ◌++◌, length, OnOk, IfOk, Some};
 ghost use Rattle.std.specs.List.{All};
 ghost use Rattle.vr_apply.specs.Texts.{payloads};
 ghost use Rattle.vr_ckpt.specs.Places.{first_place, other_place};

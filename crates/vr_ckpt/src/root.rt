@@ -1,10 +1,10 @@
 //! Roots: blocks that name the others of their checkpoint.
-ghost use Rattle.std.specs.Prelude.{◌≡◌, ◌≤◌, ◌<◌, ◌+◌, ◌*◌, ◌++◌, length, OnOk, IfOk, IfSome, Some, None, true, ◌==◌};
+ghost use Rattle.std.specs.Prelude.{◌≡◌, ◌≤◌, ◌<◌, ◌+◌, ◌*◌, ◌++◌, length, OnOk, IfOk, Some, None, true, ◌==◌};
 ghost use Rattle.vr_base.specs.Bytes.{bytes16, bytes32, bytes64};
 ghost use Rattle.vr_apply.specs.Texts.{FitsPayloads, payloads};
 ghost use Rattle.vr_grid.specs.Blocks.{Content, block_of};
 ghost use Rattle.vr_ckpt.specs.Loads.{both_named, has_numbers, keys_size, name_at, names_at, read_root, root_in, sessions_size};
-ghost use Rattle.vr_ckpt.specs.Places.{IsCheckpoint, is_place, root_place};
+ghost use Rattle.vr_ckpt.specs.Places.{is_place, root_place};
 ghost use Rattle.vr_ckpt.specs.Saves.{IsPlaced, names_bytes, root_of, root_payload};
 
 use crate::{Name, NameList, Payload, Table};

@@ -1,14 +1,13 @@
 //! A checkpoint saved.
-ghost use Rattle.std.specs.Prelude.{◌≡◌, ◌≤◌, ◌<◌, ◌++◌, length, OnOk, IfOk, IfSome, is_ok, [], ◌∷◌, Err};
+ghost use Rattle.std.specs.Prelude.{◌≡◌, ◌≤◌, ◌<◌, ◌++◌, OnOk, IfOk, IfSome, is_ok, [], ◌∷◌, Err};
 ghost use Rattle.std.specs.List.{All};
 ghost use Rattle.vr_base.specs.Causes.{HasCause, Rose};
 ghost use Rattle.vr_disk.specs.DiskState.{Runs, Sync};
 ghost use Rattle.vr_apply.specs.Texts.{FitsPayloads};
-ghost use Rattle.vr_grid.specs.Blocks.{block_of};
 ghost use Rattle.vr_grid.specs.Grid.{Leaves};
 ghost use Rattle.vr_ckpt.specs.Laws.{Holds, SaveDone, SaveKeeps};
 ghost use Rattle.vr_ckpt.specs.Places.{IsCheckpoint};
-ghost use Rattle.vr_ckpt.specs.Saves.{IsPlaced, blocks_calls, changed, keys_run, root_of, save_calls, saved, sessions_run, table_of, written};
+ghost use Rattle.vr_ckpt.specs.Saves.{IsPlaced, blocks_calls, changed, keys_run, save_calls, saved, sessions_run, table_of, written};
 
 use crate::plan::{Run, plan_text};
 use crate::root::root_block;

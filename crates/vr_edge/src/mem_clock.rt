@@ -1,5 +1,5 @@
 //! A clock in memory.
-ghost use Rattle.std.specs.Prelude.{◌≡◌, List, ℕ, Option, Some, drop};
+ghost use Rattle.std.specs.Prelude.{◌≡◌, Some, drop};
 
 use crate::Clock;
 use vr_base::Seq;

@@ -1,9 +1,9 @@
 //! A link in memory.
-ghost use Rattle.std.specs.Prelude.{◌≡◌, ◌≤◌, [], ◌∷◌, List, ℕ, Option, Some, IfOk, IfSome, vec_capacity, if◌then◌else◌, length, vec_len};
+ghost use Rattle.std.specs.Prelude.{◌≡◌, ◌≤◌, [], ◌∷◌, Option, Some, IfOk, IfSome, vec_capacity, if◌then◌else◌, length};
 ghost use Rattle.std.specs.Option.{option_map, option_to_list};
 ghost use Rattle.vr_base.specs.Causes.{HasCause};
 ghost use Rattle.vr_edge.specs.Counts.{is_listed, one_more};
-ghost use Rattle.vr_edge.specs.Datagrams.{Arrival, sent_by, received_by};
+ghost use Rattle.vr_edge.specs.Datagrams.{sent_by, received_by};
 ghost use Rattle.vr_edge.specs.Told.{Grows, IsNothing};
 
 use crate::calls::is_listed;

@@ -1,5 +1,5 @@
 //! What a link in memory was given to send, in room that is made at first.
-ghost use Rattle.std.specs.Prelude.{◌≡◌, ◌≤◌, true, ℕ, [], ◌∷◌, Some, None, IfOk, IfSome, length, vec_len, vec_capacity, if◌then◌else◌, ◌&&◌, not, slice_get, option_and_then};
+ghost use Rattle.std.specs.Prelude.{◌≡◌, ◌≤◌, true, [], ◌∷◌, Some, None, IfOk, length, vec_len, vec_capacity, if◌then◌else◌, ◌&&◌, not, slice_get, option_and_then};
 ghost use Rattle.std.specs.Option.{option_map};
 ghost use Rattle.vr_edge.specs.Marks.{are_within};
 

@@ -1,6 +1,6 @@
 //! A block as it is written.
-ghost use Rattle.std.specs.Prelude.{◌≡◌, ◌≤◌, ◌<◌, length, IfOk, true};
-ghost use Rattle.vr_grid.specs.Blocks.{Content, IsContent, block_header, block_of, is_kind};
+ghost use Rattle.std.specs.Prelude.{◌≡◌, ◌≤◌, ◌<◌, length, IfOk};
+ghost use Rattle.vr_grid.specs.Blocks.{block_header, block_of};
 
 use crate::Name;
 use std::alloc::{AllocError, Global};

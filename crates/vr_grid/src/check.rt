@@ -1,11 +1,11 @@
 //! Whether bytes are the whole block of a name.
-ghost use Rattle.std.specs.Prelude.{◌≡◌, ◌≤◌, ◌<◌, ◌-◌, length, drop, Ok, true, nat_eq, ◌==◌, ◌&&◌};
+ghost use Rattle.std.specs.Prelude.{◌≡◌, ◌<◌, ◌-◌, length, Ok, nat_eq, ◌==◌, ◌&&◌};
 ghost use Rattle.std.specs.Option.{option_map};
 ghost use Rattle.std.specs.Cmp.Lexicographic.{pointwise};
 ghost use Rattle.vr_base.specs.Bytes.{piece};
 ghost use Rattle.vr_header.specs.Names.{header_name};
 ghost use Rattle.vr_header.specs.Spelling.{decoded};
-ghost use Rattle.vr_grid.specs.Blocks.{block_header, content_at, content_of, is_block, is_kind, is_zeros, named, with_header};
+ghost use Rattle.vr_grid.specs.Blocks.{block_header, is_block, is_kind, is_zeros, named};
 
 use crate::Name;
 use crate::block::block_header;

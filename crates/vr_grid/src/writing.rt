@@ -1,8 +1,8 @@
 //! Blocks written to their addresses.
-ghost use Rattle.std.specs.Prelude.{◌≡◌, ◌≤◌, ◌<◌, [], length, IfErr, IfOk, IfSome, is_ok, is_some, true, Ok, Err, OnErr};
+ghost use Rattle.std.specs.Prelude.{◌≡◌, ◌≤◌, ◌<◌, [], length, IfOk, IfSome, is_ok, is_some, true, Ok, Err};
 ghost use Rattle.vr_base.specs.Causes.{HasCause, Rose};
 ghost use Rattle.vr_disk.specs.DiskState.{Runs};
-ghost use Rattle.vr_grid.specs.Blocks.{Content, block_bytes, block_name, is_kind, named};
+ghost use Rattle.vr_grid.specs.Blocks.{block_bytes, block_name, is_kind, named};
 ghost use Rattle.vr_grid.specs.Grid.{Leaves, block_calls, put_calls};
 ghost use Rattle.vr_grid.specs.Laws.{PutLeaves};
 

@@ -1,5 +1,5 @@
 //! The 128 bytes of a header, both ways.
-ghost use Rattle.std.specs.Prelude.{◌≡◌, ◌≤◌, ◌<◌, ◌+◌, ◌++◌, length, take, drop, Some, None, Ok, IfOk, is_ok, slice_index, IsTrue, true};
+ghost use Rattle.std.specs.Prelude.{◌≡◌, ◌≤◌, ◌<◌, length, drop, Some, None, Ok, IfOk, is_ok, true};
 ghost use Rattle.vr_base.specs.Bytes.{name_of};
 ghost use Rattle.vr_header.specs.declared.header.Header.{Header};
 ghost use Rattle.vr_header.specs.Spelling.{Spells, IsHeader, code_of, command_of, decoded, fault_of, header_at, header_bytes, is_named, is_size, named_bytes};

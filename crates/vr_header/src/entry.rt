@@ -1,5 +1,5 @@
 //! Entries of the log.
-ghost use Rattle.std.specs.Prelude.{◌≡◌, ◌+◌, ◌-◌, ◌^◌, ◌<◌, ◌≤◌, ◌++◌, Some, IfOk, IfSome, OnOk, is_some, length, true};
+ghost use Rattle.std.specs.Prelude.{◌≡◌, ◌+◌, ◌-◌, ◌^◌, ◌<◌, ◌≤◌, ◌++◌, Some, IfOk, IfSome, OnOk, is_some, true};
 ghost use Rattle.std.specs.Option.{option_map};
 ghost use Rattle.vr_base.specs.Bytes.{name_of};
 ghost use Rattle.vr_header.specs.Bodies.{IsOperation};

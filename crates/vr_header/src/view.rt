@@ -2,7 +2,7 @@
 ghost use Rattle.std.specs.Prelude.{◌≡◌, ◌<◌, ◌≤◌, IsTrue, Some, is_some, length, drop, nat_eq, true};
 ghost use Rattle.std.specs.Cmp.Lexicographic.{pointwise};
 ghost use Rattle.vr_base.specs.Bytes.{name_of};
-ghost use Rattle.std.specs.Option.{option_map, option_copied};
+ghost use Rattle.std.specs.Option.{option_map};
 ghost use Rattle.vr_header.specs.Bodies.{key_of, operation_of, outcome_of, pair_of, value_of};
 ghost use Rattle.vr_header.specs.Made.{entry_of, is_register, is_whole};
 ghost use Rattle.vr_header.specs.Views.{entry_seen, operation_seen, outcome_seen};

@@ -1,5 +1,5 @@
 //! A machine read from its text.
-ghost use Rattle.std.specs.Prelude.{◌≡◌, ℕ, suc, List, [], ◌∷◌, ◌++◌, Ok, IfOk, IfErr, MatchResult, IsTrue};
+ghost use Rattle.std.specs.Prelude.{◌≡◌, ℕ, suc, [], ◌∷◌, ◌++◌, Ok, IfOk, IfErr};
 ghost use Rattle.vr_table.specs.Finite.{byte_order, is_sorted, IsMap};
 ghost use Rattle.vr_table.specs.Table.{read_on, IsOrNoMemory};
 ghost use Rattle.vr_kv.specs.Pairs.{pair_from, kv_decoded};

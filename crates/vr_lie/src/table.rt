@@ -2,7 +2,7 @@
 ghost use Rattle.std.specs.Prelude.{◌≡◌, ◌<◌, None, Some, IfSome, if◌then◌else◌, length, slice_set};
 ghost use Rattle.vr_disk.specs.DiskState.{Sync, Write, after, settle};
 ghost use Rattle.vr_lie.specs.Faults.{HeldAfter, HeldLooked, held_at};
-ghost use Rattle.vr_rings.specs.Held.{found, held_after, held_begun, held_cut_at, is_prepare, keeps, kept, looked};
+ghost use Rattle.vr_rings.specs.Held.{found, held_after, held_begun, is_prepare, keeps, kept, looked};
 ghost use Rattle.vr_disk.specs.Sectors.{has};
 ghost use Rattle.vr_lie.specs.Table.{HeldBegun, HeldCut, IsTable, held_of, slot_at, table_of};
 ghost use Rattle.vr_mem.specs.Cells.{disk_of};

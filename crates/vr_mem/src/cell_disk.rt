@@ -1,9 +1,9 @@
 //! A disk in memory whose sectors may read as something else than they should hold.
 ghost use Rattle.std.specs.Prelude.{◌≡◌, ◌-◌, ◌≤◌, ◌<◌, Some, None, false, [], IfOk, is_ok};
 ghost use Rattle.vr_base.specs.Causes.{HasCause};
-ghost use Rattle.vr_disk.specs.DiskState.{Disk, Sync, Write, after, cell, digit_at, judged, settle};
+ghost use Rattle.vr_disk.specs.DiskState.{Sync, Write, after, cell, digit_at, judged, settle};
 ghost use Rattle.vr_mem.specs.Lies.{lied};
-ghost use Rattle.vr_mem.specs.Seen.{IsMemFace, cell_of, copies, face_of, fate_of, verdict_of, zero_cell};
+ghost use Rattle.vr_mem.specs.Seen.{IsMemFace, cell_of, copies, verdict_of, zero_cell};
 
 use crate::cells::{MemCell, MemFace};
 use crate::fate::{MemFate, MemFuse, MemVerdict};

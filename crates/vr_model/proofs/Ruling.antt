@@ -23,7 +23,7 @@ use Rattle.vr_model.specs.declared.memory.Memory.{Memory}
 use Rattle.vr_model.specs.Steps.{face_after, outputs, ◌⨾◌, quiet, change, says, by}
 use Rattle.vr_model.specs.Words.{is_primary, named, send, acknowledges, written, write, learn, advance, acknowledged}
 use Rattle.vr_model.specs.Rules.{summary, obey_prepare, on_prepare, obey_prepare_ok, on_prepare_ok}
-use Rattle.vr_model.specs.Safe.{HasSent, Vouches, AreCommitted, is_line_of, lines_by, answered_after, session_says, IsReplyOf, IsBacked}
+use Rattle.vr_model.specs.Safe.{HasSent, Vouches, AreCommitted, IsBacked}
 use Rattle.vr_model.specs.Safe as safe
 use Rattle.vr_model.proofs.Fronts.{Front, front_refl, front_append, front_more, front_trans, get_within, some_same}
 use Rattle.vr_model.proofs.Growing.{are_committed_later}

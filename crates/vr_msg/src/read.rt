@@ -7,7 +7,7 @@ ghost use Rattle.vr_header.specs.Spelling.{decoded};
 ghost use Rattle.vr_header.specs.declared.command.Command.{Command};
 ghost use Rattle.vr_msg.specs.declared.frame.Frame.{Frame};
 ghost use Rattle.vr_msg.specs.Shapes.{body_fits, is_asked, knows, numbers_fit};
-ghost use Rattle.vr_msg.specs.Reading.{kind_at, headers_at, are_headers, are_parts, part_at, rest_at, parts_at, body_at, bare_for, needs_view, frame_for, frame_at};
+ghost use Rattle.vr_msg.specs.Reading.{kind_at, headers_at, are_headers, are_parts, part_at, rest_at, parts_at, body_at, bare_for, needs_view, frame_for};
 
 use crate::shape::knows;
 use crate::{

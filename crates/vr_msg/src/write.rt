@@ -1,10 +1,6 @@
 //! The bytes after the header of a message.
 ghost use Rattle.std.specs.Prelude.{◌≡◌, ◌≤◌, ◌++◌, ◌∷◌, [], OnOk, length, map};
 ghost use Rattle.vr_base.specs.Bytes.{bytes16, bytes64};
-ghost use Rattle.vr_header.specs.Bodies.{IsOperation, IsOutcome, operation_bytes};
-ghost use Rattle.vr_header.specs.Made.{entry_bytes};
-ghost use Rattle.vr_header.specs.Spelling.{IsHeader};
-ghost use Rattle.vr_msg.specs.Logs.{header_of};
 ghost use Rattle.vr_msg.specs.Forms.{IsFrame};
 ghost use Rattle.vr_msg.specs.Spelling.{AreHeaders, IsBodyValue, IsKindValue, body_bytes, headers_bytes, kind_bytes, known, parts_bytes, tag};
 

@@ -1,5 +1,5 @@
 //! What a summary says of the replica.
-ghost use Rattle.std.specs.Prelude.{◌≡◌, ◌==◌, ◌&&◌, not, nat_lt, ◌<◌};
+ghost use Rattle.std.specs.Prelude.{◌≡◌, ◌==◌, ◌&&◌, ◌<◌};
 ghost use Rattle.vr_msg.specs.Normal.{primary, is_started, leads, is_from};
 
 use vr_msg::Summary;

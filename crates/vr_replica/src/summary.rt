@@ -1,9 +1,8 @@
 //! What decisions read of a replica.
-ghost use Rattle.std.specs.Prelude.{◌≡◌, ◌≤◌, ◌+◌, ◌==◌, ◌<◌, drop, length, IfOk};
+ghost use Rattle.std.specs.Prelude.{◌≡◌, ◌≤◌, ◌+◌, ◌==◌, ◌<◌, length, IfOk};
 ghost use Rattle.std.specs.List.{list_any};
 ghost use Rattle.std.specs.Option.{option_map};
 ghost use Rattle.vr_base.specs.Bytes.{name_of};
-ghost use Rattle.vr_header.specs.Made.{Whole};
 ghost use Rattle.vr_header.specs.Names.{name_by};
 ghost use Rattle.vr_sess.specs.Asks.{is_fresh};
 ghost use Rattle.vr_model.specs.Rules.{summary, request_summary, is_in_flight, session_answer};

@@ -1,5 +1,5 @@
 //! Reading a slot.
-ghost use Rattle.std.specs.Prelude.{◌≡◌, ◌<◌, ◌↔◌, ◌++◌, Some, None, IfSome, IfOk, IsTrue, OnErr, is_ok, is_some, drop, length, if◌then◌else◌};
+ghost use Rattle.std.specs.Prelude.{◌≡◌, ◌<◌, ◌↔◌, Some, None, IfSome, IfOk, IsTrue, OnErr, is_ok, length};
 ghost use Rattle.std.specs.Option.{option_map};
 ghost use Rattle.std.specs.Result.{result_ok};
 ghost use Rattle.vr_base.specs.Bytes.{IsBytes};

@@ -10,7 +10,7 @@ use Rattle.vr_header.specs.declared.command.Command.TheVariants.{Entry}
 use Rattle.vr_header.specs.declared.header.Header.{Header}
 use Rattle.vr_header.specs.declared.part.Part.{Part}
 use Rattle.vr_header.specs.declared.part.Part.TheVariants as part
-use Rattle.vr_header.specs.Made.{Whole, IsEntryHeader}
+use Rattle.vr_header.specs.Made.{Whole}
 use Rattle.vr_header.specs.Made as made
 use Rattle.vr_header.specs.Same.{same_header}
 use Rattle.vr_header.specs.Spelling.{IsHeader}

@@ -1,5 +1,4 @@
 //! Lines read and lines written, row by row.
-ghost use Rattle.std.specs.Prelude.{◌≡◌};
 ghost use Rattle.vr_msg.specs.Asking.{IsReplyKind};
 ghost use Rattle.vr_msg.specs.Forms.{IsFrame};
 

@@ -1,7 +1,7 @@
 //! The text of the sessions, written and read.
-ghost use Rattle.std.specs.Prelude.{◌≡◌, ◌≤◌, ℕ, suc, [], ◌∷◌, ◌++◌, length, Ok, IfOk, IfErr};
+ghost use Rattle.std.specs.Prelude.{◌≡◌, ◌≤◌, ℕ, suc, [], length, Ok, IfOk, IfErr};
 ghost use Rattle.std.specs.Ordering.{nat_cmp};
-ghost use Rattle.vr_table.specs.Finite.{is_sorted, IsMap};
+ghost use Rattle.vr_table.specs.Finite.{IsMap};
 ghost use Rattle.vr_table.specs.Table.{read_on, IsOrNoMemory};
 ghost use Rattle.vr_sess.specs.Texts.{session_from, sessions_text, sessions_decoded};
 

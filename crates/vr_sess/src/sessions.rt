@@ -1,5 +1,5 @@
 //! The sessions of a replica.
-ghost use Rattle.std.specs.Prelude.{◌≡◌, ℕ, List, [], ◌∷◌, ◌++◌, ◌≤◌, length, Ok, IfOk, IfErr, OnOk, OnErr};
+ghost use Rattle.std.specs.Prelude.{◌≡◌, List, [], ◌∷◌, ◌++◌, ◌≤◌, length, Ok, IfOk, IfErr, OnOk, OnErr};
 ghost use Rattle.std.specs.Ordering.{nat_cmp};
 ghost use Rattle.vr_table.specs.Table.{IsOrNoMemory, IsFirstFault};
 ghost use Rattle.vr_sess.specs.Asks.{sessions_after, AtMostOnce};
@@ -8,7 +8,7 @@ ghost use Rattle.vr_sess.specs.Sessions.{Map, Asked, checked, applied, Fits, Out
 ghost use Rattle.vr_sess.specs.Texts.{session_text, sessions_text, sessions_decoded};
 
 use crate::codec::{encode_table, read_table};
-use crate::session::{Session, SessionAnswer, judge, new_session};
+use crate::session::{SessionAnswer, judge, new_session};
 use crate::table::{Table, insert, oldest, remove};
 use std::alloc::Global;
 use std::marker::Model;

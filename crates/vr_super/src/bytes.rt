@@ -1,8 +1,8 @@
 //! The bytes of a value.
-ghost use Rattle.std.specs.Prelude.{◌≡◌, ◌≤◌, ◌<◌, ◌++◌, length, take, drop, OnOk, IfOk};
+ghost use Rattle.std.specs.Prelude.{◌≡◌, ◌≤◌, ◌<◌, ◌++◌, length, drop, OnOk, IfOk};
 ghost use Rattle.vr_base.specs.Bytes.{name_of};
 ghost use Rattle.vr_header.specs.Spelling.{header_bytes};
-ghost use Rattle.vr_super.specs.Copies.{IsGood, Saved, copy_bytes, front_bytes, list_bytes};
+ghost use Rattle.vr_super.specs.Copies.{IsGood, copy_bytes, front_bytes, list_bytes};
 
 use crate::{Fields, Super};
 use std::alloc::Global;

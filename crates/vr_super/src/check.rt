@@ -1,5 +1,5 @@
 //! Whether a copy is good.
-ghost use Rattle.std.specs.Prelude.{◌≡◌, ◌+◌, ◌*◌, ◌-◌, ◌^◌, ◌≤◌, ◌<◌, ◌==◌, length, drop, is_some, true, false, Some, [], MatchOption, IfSome};
+ghost use Rattle.std.specs.Prelude.{◌≡◌, ◌+◌, ◌*◌, ◌-◌, ◌^◌, ◌≤◌, ◌<◌, ◌==◌, length, is_some, true, false, Some, [], MatchOption, IfSome};
 ghost use Rattle.std.specs.Result.{result_ok};
 ghost use Rattle.vr_header.specs.Spelling.{decoded};
 ghost use Rattle.vr_super.specs.Copies.{count_at, fields_at, good_count, good_fields, good_member, good_root, good_window, is_entry_command, is_entry_header, is_listed, is_closed, is_named, is_zeros, list_at, value_of, with_listed};

@@ -1,5 +1,5 @@
 //! Copies as they are read, and the best of them.
-ghost use Rattle.std.specs.Prelude.{◌≡◌, ◌≤◌, ◌<◌, ◌+◌, ◌*◌, ◌∷◌, [], if◌then◌else◌, length, map, take, IfSome, MatchOption, Some, None, is_some};
+ghost use Rattle.std.specs.Prelude.{◌≡◌, ◌<◌, ◌*◌, if◌then◌else◌, length, map, take, IfSome, Some, None, is_some};
 ghost use Rattle.std.specs.List.{AllByRecursion};
 ghost use Rattle.vr_super.specs.Opens.{alike, copy_reading, good_copies, good_copy};
 ghost use Rattle.vr_super.specs.Copies.{value_of};

@@ -1,5 +1,5 @@
 //! Mending and writing a value.
-ghost use Rattle.std.specs.Prelude.{◌≡◌, ◌≤◌, ◌<◌, [], length, IfErr, IfSome, is_ok, Some};
+ghost use Rattle.std.specs.Prelude.{◌≡◌, ◌<◌, [], length, IfErr, IfSome, is_ok, Some};
 ghost use Rattle.vr_base.specs.Causes.{HasCause};
 ghost use Rattle.vr_disk.specs.DiskState.{Runs, RunsFrom};
 ghost use Rattle.vr_super.specs.Calls.{mend_from, save_from, write_calls};

@@ -1,7 +1,7 @@
 //! What bytes begin with: a number, the highest byte first, or a piece of some length.
-ghost use Rattle.std.specs.Prelude.{◌≡◌, ℕ, ◌≤◌, Ok, Err, MatchResult};
+ghost use Rattle.std.specs.Prelude.{◌≡◌, Ok, Err, MatchResult};
 ghost use Rattle.std.specs.Option.{option_map};
-ghost use Rattle.std.specs.Int.{w8, w16, w32, w64};
+ghost use Rattle.std.specs.Int.{w16, w32, w64};
 ghost use Rattle.vr_table.specs.Front.{piece_from, number_from, byte_from};
 ghost use Rattle.vr_table.specs.Table.{count_from};
 

@@ -1,8 +1,7 @@
 -- A group keeps one log, and executes no request twice, whatever its schedule.
-use Rattle.std.proofs.Common.{◌≡◌, ◌<◌, ◌≤◌, ℕ, ◌+◌, List, [], ◌∷◌, ◌++◌, refl, arith, Option, Some, None}
+use Rattle.std.proofs.Common.{◌≡◌, ◌≤◌, ℕ, ◌+◌, List, [], ◌∷◌, ◌++◌, refl, arith, Option, Some, None}
 use Rattle.std.specs.List.{AllByRecursion}
 use Rattle.std.specs.Option.{option_map_or}
-use Rattle.vr_base.specs.Bytes.{name_of}
 use Rattle.vr_model.specs.World.{Happening, IsHappening, happen}
 use Rattle.vr_sched.specs.declared.line.Line.{Line}
 use Rattle.vr_sched.specs.declared.line.Line.TheVariants as line
@@ -10,7 +9,7 @@ use Rattle.vr_world.specs.Lines.{happening, happenings}
 use Rattle.vr_world.proofs.Happenings.{happenings_more}
 use Rattle.vr_world.proofs.Keeping.{keeps}
 use Rattle.vr_top.specs.Lines.{lines_of}
-use Rattle.vr_top.specs.Schedule.{Schedule, line_at, accepted, begun, so_far, schedule, schedule_of, refuses, with_line, Agrees}
+use Rattle.vr_top.specs.Schedule.{Schedule, line_at, accepted, begun, schedule, schedule_of, refuses, with_line, Agrees}
 use Rattle.vr_top.proofs.Parsed.{IsLineOf, line_at_fits}
 use Rattle.vr_top.proofs.Plays.{size_kept}
 

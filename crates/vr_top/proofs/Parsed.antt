@@ -1,21 +1,18 @@
 -- What the lines of a schedule are.
-use Rattle.std.proofs.Common.{zero, suc, ◌≡◌, ◌<◌, ◌≤◌, ℕ, ◌+◌, ◌-◌, ◌*◌, ◌^◌, List, [], ◌∷◌, length, Bool, true, false, cond, not, eqb, ltb, refl, ap, sym, ◌∙◌, arith, Option, Some, None}
+use Rattle.std.proofs.Common.{◌≡◌, ◌<◌, ◌≤◌, ℕ, ◌+◌, ◌-◌, ◌*◌, ◌^◌, List, [], ◌∷◌, length, Bool, true, false, cond, eqb, ltb, refl, arith, Option, Some, None}
 use Rattle.std.specs.Prelude.{nat_le, nat_lt, ◌&&◌, codes, IsTrue}
 use Rattle.std.specs.Option.{IfSome, option_map, option_and_then}
 use Rattle.std.specs.Str.{bytes_eq}
 use Rattle.std.proofs.lemmas.Bool.Decides.{nat_tests}
 use Rattle.vr_header.specs.Bodies.{IsOperation}
-use Rattle.vr_header.specs.Made.{is_register}
 use Rattle.vr_header.specs.Text.{is_text, text_of}
 use Rattle.vr_header.specs.declared.operation.Operation.{Operation}
 use Rattle.vr_header.specs.declared.operation.Operation.TheVariants as operation
-use Rattle.vr_msg.specs.Asking.{IsRequest}
-use Rattle.vr_msg.specs.declared.request.RequestFields.{RequestFields}
 use Rattle.vr_model.specs.World.{IsAsked}
 use Rattle.vr_sched.specs.declared.line.Line.{Line}
 use Rattle.vr_sched.specs.declared.line.Line.TheVariants as line
 use Rattle.vr_sched.specs.declared.request.Asked.{Asked}
-use Rattle.vr_sched.specs.Grammar.{longest, parse, line_words, line_behind, cluster_line, deliver_line, request_line, asked_by, behind_asked, request_for, is_fitting, operation_words, operation_behind, register_words, put_words, pair_of, key_word}
+use Rattle.vr_sched.specs.Grammar.{longest, parse, line_words, line_behind, cluster_line, deliver_line, request_line, asked_by, behind_asked, request_for, is_fitting, operation_words, register_words, put_words, pair_of, key_word}
 use Rattle.vr_sched.specs.Numbers.{is_digit, with_digit, digits_on, number_of, number_below}
 use Rattle.vr_sched.specs.Words.{words_of, only_word}
 use Rattle.vr_top.specs.Playing.{HasSize}

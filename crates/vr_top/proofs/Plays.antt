@@ -4,7 +4,7 @@ use Rattle.std.specs.Option.{option_map_or}
 use Rattle.std.proofs.lemmas.List.{append-nil}
 use Rattle.std.proofs.lemmas.Bool.{lt-ltb}
 use Rattle.vr_base.specs.Bytes.{name_of}
-use Rattle.vr_model.specs.World.{World, Happening, no_world, fresh_world, happen}
+use Rattle.vr_model.specs.World.{World, no_world, fresh_world, happen}
 use Rattle.vr_sched.specs.declared.line.Line.{Line}
 use Rattle.vr_sched.specs.declared.line.Line.TheVariants as line
 use Rattle.vr_sched.specs.Grammar.{longest, parse, line_words}

@@ -1,5 +1,5 @@
 -- Worked rows, computed: a schedule, and the text of its outputs or the first line that is refused.
-use Rattle.std.proofs.Common.{◌≡◌, ◌++◌, codes, refl, Some, None}
+use Rattle.std.proofs.Common.{◌≡◌, ◌++◌, codes, refl, Some}
 use Rattle.std.specs.Fmt.{digits}
 use Rattle.vr_base.specs.Bytes.{name_of, bytes16, bytes32, bytes64, sha256, first_words, schedule, rounds, compress, hash_after, digest_bytes}
 use Rattle.vr_header.specs.Bodies.{operation_bytes}

@@ -9,7 +9,6 @@ use Rattle.memchr.specs.Find.{IsFirstByte, is_byte}
 use Rattle.vr_base.specs.Causes.{Rose}
 use Rattle.vr_edge.specs.Told.{AppendsFront}
 use Rattle.vr_edge.proofs.Told.{appends_nil, appends_trans}
-use Rattle.vr_model.specs.World.{no_world}
 use Rattle.vr_sched.specs.Grammar.{longest}
 use Rattle.vr_world.specs.declared.outputs.Numbered.{Numbered}
 use Rattle.vr_world.specs.Group.{Group}

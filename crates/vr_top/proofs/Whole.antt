@@ -18,7 +18,7 @@ use Rattle.vr_top.specs.declared.stop.Stop.TheVariants as stop
 use Rattle.vr_top.specs.Lines.{Cut, cut, whole_lines, if_any, lines_of}
 use Rattle.vr_top.specs.Playing.{Played, judged, taken, behind, and_then, plays, heard, hears, if_too_long, none_left, ends, Hears}
 use Rattle.vr_top.specs.Run.{text_for, refused_in, IsDone, IsCutShort, IsPartial, Ends}
-use Rattle.vr_top.specs.Schedule.{line_at, schedule, so_far, put_out}
+use Rattle.vr_top.specs.Schedule.{line_at, schedule, put_out}
 use Rattle.vr_top.specs.Status.{status_of}
 use Rattle.vr_top.specs.Stops.{Stopped}
 use Rattle.vr_top.specs.Text.{text_of}

@@ -1,5 +1,5 @@
 //! A replay between two pieces of its source.
-ghost use Rattle.std.specs.Prelude.{◌≡◌, ◌≤◌, ◌<◌, ◌∷◌, ◌++◌, [], None, Some, true, IfOk, OnOk, IfErr, IfSome, length, drop, ◌+◌};
+ghost use Rattle.std.specs.Prelude.{◌≡◌, ◌≤◌, ◌<◌, ◌++◌, [], None, Some, true, IfOk, OnOk, IfErr, IfSome, length, drop, ◌+◌};
 ghost use Rattle.std.specs.Io.KnownBytes.{Appends};
 ghost use Rattle.vr_top.specs.Lines.{whole_lines, IsEnd};
 ghost use Rattle.vr_top.specs.Playing.{HasSize, comes};

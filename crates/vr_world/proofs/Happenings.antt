@@ -1,16 +1,15 @@
 -- Happenings one after the other, and the numbers of the messages of their outputs.
 use Rattle.std.proofs.lemmas.Option.{slice_get_past}
 use Rattle.std.proofs.lemmas.Bool.Decides.{nat_tests}
-use Rattle.std.proofs.Common.{false, ltb, ◌%◌, take_all, ◌≡◌, ◌<◌, ◌≤◌, ℕ, ◌+◌, List, [], ◌∷◌, ◌++◌, length, take, drop, get_or, refl, ap, sym, ◌∙◌, arith, append_assoc, length-append, Option, Some, None}
+use Rattle.std.proofs.Common.{false, ltb, ◌%◌, take_all, ◌≡◌, ◌<◌, ◌≤◌, ℕ, ◌+◌, List, [], ◌∷◌, ◌++◌, length, take, get_or, refl, ap, sym, ◌∙◌, arith, append_assoc, length-append, Option, Some, None}
 use Rattle.std.specs.List.{flat_map, slice_get, AllByRecursion}
 use Rattle.std.proofs.lemmas.Grind.{flat_map-append}
 use Rattle.std.proofs.lemmas.List.{append-nil, take_more}
 use Rattle.vr_msg.specs.declared.output.Output.{Output}
 use Rattle.vr_msg.specs.declared.output.Sent.{Sent}
-use Rattle.vr_msg.specs.declared.event.Event.{Event}
 use Rattle.vr_base.specs.Bytes.{name_of}
 use Rattle.vr_model.specs.Rules.{Hash}
-use Rattle.vr_model.specs.World.{World, Happening, Asks, Arrives, IsHappening, message_of, messages, handled, delivered, happens, happen}
+use Rattle.vr_model.specs.World.{World, Happening, Asks, Arrives, IsHappening, message_of, messages, delivered, happens, happen}
 use Rattle.vr_sched.specs.declared.line.Line.{Line}
 use Rattle.vr_world.specs.Lines.{happening, happenings}
 use Rattle.vr_world.specs.declared.outputs.Numbered.{Numbered}

@@ -1,5 +1,5 @@
 -- What a group keeps, whatever happens to it.
-use Rattle.std.proofs.Common.{zero, suc, ◌≡◌, ◌<◌, ◌≤◌, ℕ, ◌+◌, ◌-◌, List, [], ◌∷◌, ◌++◌, length, take, drop, true, refl, ap, sym, ◌∙◌, arith, append_assoc, Option, Some, None}
+use Rattle.std.proofs.Common.{zero, suc, ◌≡◌, ◌<◌, ◌≤◌, ℕ, ◌+◌, ◌-◌, List, [], ◌∷◌, ◌++◌, take, drop, true, refl, ap, sym, ◌∙◌, arith, append_assoc, Option, Some, None}
 use Rattle.std.specs.List.{slice_get, AllByRecursion}
 use Rattle.std.specs.Option.{option_map, is_some}
 use Rattle.std.specs.Prelude.{IsTrue}
@@ -13,7 +13,6 @@ use Rattle.vr_sess.specs.declared.session.SessionAnswer.{SessionAnswer}
 use Rattle.vr_sess.specs.declared.session.SessionAnswer.TheVariants as answer
 use Rattle.vr_apply.specs.Folds.{Answer, check, fresh_outcome, fresh_at, state_after, answer_at, begins_session}
 use Rattle.vr_apply.proofs.Once.{each_once}
-use Rattle.vr_model.specs.Safe.{Safe}
 use Rattle.vr_model.specs.World.{World, Happening, IsHappening, fresh_world, happen}
 use Rattle.vr_model.proofs.Fronts.{take_next, some_same}
 use Rattle.vr_model.proofs.Safety.{safe}

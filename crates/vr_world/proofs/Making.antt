@@ -1,7 +1,7 @@
 -- Replicas that are being made, and one that took a step.
-use Rattle.std.proofs.Common.{zero, suc, length, ◌≤◌, ◌<◌, ◌≡◌, ℕ, ◌+◌, List, [], ◌∷◌, ◌++◌, map, set, get_or, refl, ap, sym, ◌∙◌, arith, Option, Some, None, Ok, Err, Result}
+use Rattle.std.proofs.Common.{zero, suc, length, ◌≤◌, ◌<◌, ◌≡◌, ℕ, ◌+◌, List, [], ◌∷◌, ◌++◌, map, get_or, refl, ap, sym, ◌∙◌, arith, Some, Ok, Err, Result}
 use Rattle.std.specs.List.{range_with_len, slice_get}
-use Rattle.std.specs.Prelude.{slice_set, OnOk, OnErr, true}
+use Rattle.std.specs.Prelude.{slice_set, OnOk, true}
 use Rattle.std.proofs.lemmas.List.{map-append}
 use Rattle.std.proofs.lemmas.List.Elements.{All-push}
 use Rattle.vr_model.specs.Sound.{IsSound}
@@ -14,7 +14,7 @@ use Rattle.vr_msg.specs.declared.output.Output.{Output}
 use Rattle.vr_model.specs.declared.memory.Memory.{Memory}
 use Rattle.vr_model.specs.Rules.{react}
 use Rattle.vr_model.specs.Steps.{Does, outputs}
-use Rattle.vr_model.specs.World.{fresh, fresh_world, no_world, no_face, grouped}
+use Rattle.vr_model.specs.World.{fresh, no_world, no_face, grouped}
 use Rattle.vr_replica.specs.declared.replica.Replica.{Replica}
 use Rattle.vr_world.specs.Group.{memories, IsReady, AreReady}
 

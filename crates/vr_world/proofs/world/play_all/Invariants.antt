@@ -1,5 +1,3 @@
-use Rattle.std.proofs.Common.{◌≡◌, ◌++◌, drop, length}
-use Rattle.vr_base.specs.Bytes.{name_of}
 use Rattle.vr_world.specs.Group.{AreReady, world_of}
 use Rattle.vr_world.proofs.Happenings.{Going}
 use Rattle.vr_world.proofs.world.play_all.Given as goal

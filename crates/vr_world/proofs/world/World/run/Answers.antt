@@ -1,4 +1,3 @@
-use Rattle.std.proofs.lemmas.Result.{on_ok_weaker}
 use Rattle.vr_world.proofs.Keeping.{keeps_of}
 use Rattle.vr_world.proofs.world.World.run.Goals as goal
 
