@@ -8,6 +8,3 @@ mod state;
 pub use codec::Texts;
 pub use reply::ReplyBody;
 pub use state::State;
-
-#[cfg(test)]
-mod tests;

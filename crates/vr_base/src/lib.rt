@@ -17,6 +17,3 @@ pub use replicas::Replicas;
 pub use seq::{ByteList, Seq};
 pub use sum::{Sum, checksum, checksum_of_parts};
 pub use table::{Config, Quorums};
-
-#[cfg(test)]
-mod tests;

@@ -43,6 +43,3 @@ pub fn choose(
     let headers = walk::log_headers(alloc, view, commit, gap - 1, statements)?;
     Ok(Choice::Ends(headers))
 }
-
-#[cfg(test)]
-mod tests;

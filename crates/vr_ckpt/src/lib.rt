@@ -15,6 +15,3 @@ pub use loading::load;
 pub use saving::{Saved, save};
 pub use table::{Payload, Table};
 pub use vr_grid::{CkptFault, Name, NameList};
-
-#[cfg(test)]
-mod tests;

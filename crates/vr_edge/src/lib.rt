@@ -28,6 +28,3 @@ pub use script::LinkScript;
 pub use sink::{Sink, WriteFailed};
 pub use source::{ReadFailed, Source};
 pub use write_all::write_whole;
-
-#[cfg(test)]
-mod tests;

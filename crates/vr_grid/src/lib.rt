@@ -17,6 +17,3 @@ pub use name::{Name, NameList};
 pub use reading::read_block;
 pub use view::{BlockView, view_of};
 pub use writing::{put_block, write_at, write_block};
-
-#[cfg(test)]
-mod tests;

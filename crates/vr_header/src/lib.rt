@@ -23,6 +23,3 @@ pub use outcome::Outcome;
 pub use part::Part;
 pub use size::Size;
 pub use text::{Key, Text, Value};
-
-#[cfg(test)]
-mod tests;

@@ -9,6 +9,3 @@ mod pair;
 
 pub use kv::{KEYS, Kv};
 pub use machine::Machine;
-
-#[cfg(test)]
-mod tests;

@@ -11,6 +11,3 @@ mod trial;
 pub use disk::LieDisk;
 pub use fault::{Fault, Faulted};
 pub use laws::lie_laws;
-
-#[cfg(test)]
-mod tests;

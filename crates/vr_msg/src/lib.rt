@@ -33,6 +33,3 @@ pub use reply::{Answered, Reply, ReplyFields, ReplyKind};
 pub use request::{Request, RequestFields};
 pub use statement::{DvcBody, Statement, SvBody};
 pub use summary::{Decision, Named, Summary};
-
-#[cfg(test)]
-mod tests;

@@ -12,6 +12,3 @@ pub use laws::first_decides;
 pub use messages::{on_prepare, on_prepare_ok};
 pub use requests::on_request;
 pub use state::primary;
-
-#[cfg(test)]
-mod tests;

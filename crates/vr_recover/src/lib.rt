@@ -28,6 +28,3 @@ pub fn verdict(header: HeaderReading, prepare: PrepareReading, named: bool) -> V
         (HeaderReading::Bad, PrepareReading::Not) => Verdict::Unknown,
     }
 }
-
-#[cfg(test)]
-mod tests;

@@ -10,6 +10,3 @@ mod summary;
 mod words;
 
 pub use replica::Replica;
-
-#[cfg(test)]
-mod tests;

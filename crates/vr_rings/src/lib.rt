@@ -13,6 +13,3 @@ pub use fault::Bad;
 pub use laws::slot_laws;
 pub use reading::{read_header, read_prepare, read_whole};
 pub use writing::{write_again, write_header, write_new};
-
-#[cfg(test)]
-mod tests;

@@ -13,6 +13,3 @@ mod words;
 
 pub use line::{LONGEST, Line, LineFault, parse_line};
 pub use printing::{text, write_text};
-
-#[cfg(test)]
-mod tests;

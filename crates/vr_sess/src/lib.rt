@@ -9,6 +9,3 @@ mod text;
 
 pub use session::{Session, SessionAnswer};
 pub use sessions::{SESSIONS, Sessions};
-
-#[cfg(test)]
-mod tests;

@@ -19,6 +19,3 @@ pub use opening::{Found, opens};
 pub use recovering::{CopyVerdict, SuperFault, recover};
 pub use value::Super;
 pub use writing::write;
-
-#[cfg(test)]
-mod tests;

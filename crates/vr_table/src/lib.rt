@@ -7,6 +7,3 @@ mod front;
 
 pub use fault::StateFault;
 pub use front::{split_byte, split_count, split_piece, split_u16, split_u32, split_u64};
-
-#[cfg(test)]
-mod tests;

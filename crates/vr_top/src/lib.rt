@@ -11,6 +11,3 @@ pub use command::run;
 use playing::Replay;
 pub use status::{Status, code, status_line};
 use stop::Stop;
-
-#[cfg(test)]
-mod tests;

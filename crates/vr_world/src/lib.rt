@@ -8,6 +8,3 @@ mod world;
 
 pub use outputs::{Numbered, Outputs};
 pub use world::World;
-
-#[cfg(test)]
-mod tests;
