@@ -245,15 +245,28 @@ fn do_view_change(commit: u64, head: u64) -> Header {
     }
 }
 
+fn log_reads_again(rt: &impl Abort, alloc: Global, header: Header, count: u64) -> Result<(), Fail> {
+    let body = headers(alloc, 11, count)?;
+    reads_again(rt, alloc, header, body.as_slice())
+}
+
+fn log_has_bad_shape(
+    rt: &impl Abort,
+    alloc: Global,
+    header: Header,
+    count: u64,
+) -> Result<(), Fail> {
+    let body = headers(alloc, 11, count)?;
+    has_bad_shape(rt, alloc, header, body.as_slice())
+}
+
 #[test]
 fn a_log_has_at_most_64_headers(rt: HostRuntime) -> Result<(), Fail> {
     let alloc = rt.alloc();
-    let most = headers(alloc, 11, 64)?;
-    reads_again(&rt, alloc, start_view(74, 10), most.as_slice())?;
-    let more = headers(alloc, 11, 65)?;
-    has_bad_shape(&rt, alloc, start_view(75, 10), more.as_slice())?;
-    has_bad_shape(&rt, alloc, start_view(73, 10), most.as_slice())?;
-    has_bad_shape(&rt, alloc, start_view(73, 9), most.as_slice())?;
+    log_reads_again(&rt, alloc, start_view(74, 10), 64)?;
+    log_has_bad_shape(&rt, alloc, start_view(75, 10), 65)?;
+    log_has_bad_shape(&rt, alloc, start_view(73, 10), 64)?;
+    log_has_bad_shape(&rt, alloc, start_view(73, 9), 64)?;
     reads_again(&rt, alloc, start_view(0, 0), &[])?;
     has_bad_shape(&rt, alloc, start_view(5, 6), &[])?;
     let early = Header {
@@ -265,12 +278,36 @@ fn a_log_has_at_most_64_headers(rt: HostRuntime) -> Result<(), Fail> {
         cluster: 6,
         ..start_view(74, 10)
     };
-    has_bad_shape(&rt, alloc, other, most.as_slice())?;
+    log_has_bad_shape(&rt, alloc, other, 64)?;
     let before = Header {
         view: 0,
         ..start_view(74, 10)
     };
-    has_bad_shape(&rt, alloc, before, most.as_slice())
+    log_has_bad_shape(&rt, alloc, before, 64)
+}
+
+// What a statement's body has: the first op, a tag for each, and so many headers.
+#[derive(Clone, Copy)]
+struct Told<'a>(u64, &'a [u8], u64);
+
+fn statement_reads_again(
+    rt: &impl Abort,
+    alloc: Global,
+    header: Header,
+    told: Told<'_>,
+) -> Result<(), Fail> {
+    let body = statement(alloc, told.0, told.1, told.2)?;
+    reads_again(rt, alloc, header, body.as_slice())
+}
+
+fn statement_has_bad_shape(
+    rt: &impl Abort,
+    alloc: Global,
+    header: Header,
+    told: Told<'_>,
+) -> Result<(), Fail> {
+    let body = statement(alloc, told.0, told.1, told.2)?;
+    has_bad_shape(rt, alloc, header, body.as_slice())
 }
 
 #[test]
@@ -281,65 +318,25 @@ fn a_statement_has_at_most_128_tags(rt: HostRuntime) -> Result<(), Fail> {
     tags[1] = 3;
     tags[2] = 2;
     let (most, _) = tags.split_at(128);
-    reads_again(
-        &rt,
-        alloc,
-        do_view_change(6, 9),
-        statement(alloc, 7, most, 3)?.as_slice(),
-    )?;
-    has_bad_shape(
-        &rt,
-        alloc,
-        do_view_change(6, 9),
-        statement(alloc, 7, &tags, 3)?.as_slice(),
-    )?;
-    has_bad_shape(
-        &rt,
-        alloc,
-        do_view_change(6, 10),
-        statement(alloc, 7, most, 3)?.as_slice(),
-    )?;
-    has_bad_shape(
-        &rt,
-        alloc,
-        do_view_change(5, 9),
-        statement(alloc, 7, most, 3)?.as_slice(),
-    )?;
-    has_bad_shape(
-        &rt,
-        alloc,
-        do_view_change(6, 9),
-        statement(alloc, 7, most, 2)?.as_slice(),
-    )?;
-    reads_again(
-        &rt,
-        alloc,
-        do_view_change(0, 0),
-        statement(alloc, 1, &[], 0)?.as_slice(),
-    )?;
-    has_bad_shape(
-        &rt,
-        alloc,
-        do_view_change(0, 0),
-        statement(alloc, 1, &[0], 0)?.as_slice(),
-    )?;
-    has_bad_shape(
-        &rt,
-        alloc,
-        do_view_change(0, 0),
-        statement(alloc, 1, &[5], 0)?.as_slice(),
-    )?;
-    has_bad_shape(
-        &rt,
-        alloc,
-        do_view_change(0, 0),
-        statement(alloc, 0, &[], 0)?.as_slice(),
-    )?;
+    statement_reads_again(&rt, alloc, do_view_change(6, 9), Told(7, most, 3))?;
+    for (commit, head, first, tags, known) in [
+        (6, 9, 7, tags.as_slice(), 3),
+        (6, 10, 7, most, 3),
+        (5, 9, 7, most, 3),
+        (6, 9, 7, most, 2),
+        (0, 0, 1, &[0], 0),
+        (0, 0, 1, &[5], 0),
+        (0, 0, 0, &[], 0),
+    ] {
+        let header = do_view_change(commit, head);
+        statement_has_bad_shape(&rt, alloc, header, Told(first, tags, known))?;
+    }
+    statement_reads_again(&rt, alloc, do_view_change(0, 0), Told(1, &[], 0))?;
     let later = Header {
         aux: 3,
         ..do_view_change(0, 0)
     };
-    has_bad_shape(&rt, alloc, later, statement(alloc, 1, &[], 0)?.as_slice())
+    statement_has_bad_shape(&rt, alloc, later, Told(1, &[], 0))
 }
 
 #[test]
