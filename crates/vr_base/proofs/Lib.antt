@@ -2,4 +2,5 @@ pub mod Count
 pub mod FieldLaws
 pub mod Places
 mod Rows
+pub mod Sets
 pub mod Writing
