@@ -7,6 +7,7 @@ use Rattle.vr_msg.specs.declared.statement.Statement.{Statement}
 use Rattle.vr_msg.specs.Logs.{IsEntryAt, IsStatement}
 use Rattle.vr_msg.specs.Numbers.{IsNumber}
 use Rattle.vr_msg.specs.Spelling.{AreHeaders, known}
+use Rattle.vr_sess.specs.Sessions.{HaveNumbers}
 use Rattle.vr_super.specs.Copies.{is_zeros}
 use Rattle.vr_rules.specs.Replica.{Replica, head, header_at, window_end}
 
@@ -19,7 +20,7 @@ pub record IsOrdered (r : Replica) : Type 0 where
   pub views : r.log_view ≤ r.view
   pub number : IsNumber r.checkpoint
 
--- the lists of ops reach to the end of the window, and begin no later than with the op behind the checkpoint
+-- the lists of ops reach to the end of the window, and begin no later than with the op after the checkpoint
 pub record IsListed (r : Replica) : Type 0 where
   pub first : 1 ≤ r.first
   pub reach : r.first ≤ r.checkpoint + 1
@@ -54,6 +55,8 @@ pub record IsSound (r : Replica) : Type 0 where
   pub near : r.applied < r.checkpoint + 32
   -- while blocks are missing nothing is applied
   pub waits : r.missing ≢ [] → r.applied ≡ r.checkpoint
+  -- what its sessions answer can be replied
+  pub numbers : HaveNumbers r.state.sessions
 
 -- What it can save of itself beside: its numbers have their types, its root is that of a checkpoint, and the header at its head is
 -- known, where that isn't 0.
