@@ -48,7 +48,9 @@ use Rattle.vr_msg.specs.declared.statement.Statement.{Statement}
 use Rattle.vr_rules.proofs.SilentWaits.{IsPlain, Mute, plain_are, mute_all, mute_apply, mute_by, mute_change, mute_each, mute_if, mute_naming, mute_one, mute_prepare_again, mute_quiet, mute_reading, mute_take, mute_then}
 use Rattle.vr_rules.proofs.SilentSteps.{still_enter, still_ask, mute_commit, mute_get_block, mute_get_prepare, mute_get_view, mute_give_block, mute_give_prepare, mute_prepare, mute_prepare_ok, mute_request, mute_start_view}
 use Rattle.vr_rules.proofs.SendsScripts.{outputs_append, outputs_said}
-use Rattle.vr_rules.specs.Deciding.{is_from, start_view_change_table, do_view_change_table, tick_table, Rule, Hash, Redirected, Behind, Answered, Full, Made, PreparedLater, Past, Beyond, Known, Next, Ahead, Other, Counted, CommitLater, CommitHeard, Taken, ViewGiven, EntryGiven, EntryTaken, BlockGiven, BlockTaken}
+use Rattle.vr_rules.specs.Deciding.{is_from, start_view_change_table, do_view_change_table, tick_table, Hash}
+use Rattle.vr_rules.specs.declared.rule.Rule.{Rule}
+use Rattle.vr_rules.specs.declared.rule.Rule.TheVariants.{Redirected, Behind, Answered, Full, Made, PreparedLater, Past, Beyond, Known, Next, Ahead, Other, Counted, CommitLater, CommitHeard, Taken, ViewGiven, EntryGiven, EntryTaken, BlockGiven, BlockTaken}
 use Rattle.vr_rules.specs.Outputs as told
 use Rattle.vr_rules.specs.Rules as rules
 use Rattle.vr_sess.specs.declared.session.SessionAnswer.TheVariants as answer
