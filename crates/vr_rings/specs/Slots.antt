@@ -1,10 +1,9 @@
 -- The slots of the two rings: what their sectors hold for an entry, and what they read as.
 use Rattle.std.specs.Prelude.{ℕ, ◌-◌, ◌%◌, ◌≡◌, Bool, ◌==◌, if◌then◌else◌, List, ◌++◌, length, take, drop, replicate, Option, None, Some}
-use Rattle.std.specs.List.{list_all}
 use Rattle.std.specs.Option.{option_and_then}
 use Rattle.std.specs.Result.{result_ok}
 use Rattle.std.specs.Int.{w32}
-use Rattle.vr_base.specs.Bytes.{number}
+use Rattle.vr_base.specs.Bytes.{is_zeros, number}
 use Rattle.vr_disk.specs.DiskState.{Face, reads}
 use Rattle.vr_disk.specs.Regions.{header_at, prepare_at}
 use Rattle.vr_disk.specs.Sectors.{together}
@@ -34,9 +33,6 @@ unfoldable pub prepare_bytes : Whole → List ℕ
 prepare_bytes e = entry_bytes e ++ replicate (2048 - length (entry_bytes e)) 0
 
 -- ---- what bytes are
-
-abbrev pub is_zeros : List ℕ → Bool
-is_zeros bytes = list_all (λ b. b == 0) bytes
 
 -- the header of a header sector's bytes, None where they are no header and zeros
 unfoldable pub header_of : List ℕ → Option Header

@@ -2,10 +2,10 @@
 use Rattle.std.specs.Prelude.{ℕ, zero, suc, ◌+◌, ◌-◌, ◌*◌, ◌%◌, ◌^◌, ◌<◌, ◌≡◌, Bool, true, false, ◌&&◌, ◌||◌, ◌==◌, nat_eq, nat_le, nat_lt, min, if◌then◌else◌, List, [], ◌∷◌, ◌++◌, length, drop, replicate, slice_index, Option, None, Some}
 use Rattle.std.specs.Option.{option_map}
 use Rattle.std.specs.Result.{result_ok}
-use Rattle.std.specs.List.{AllByRecursion, list_all}
+use Rattle.std.specs.List.{AllByRecursion}
 use Rattle.std.specs.Int.{w16, w32, w64}
 use Rattle.std.specs.Cmp.Lexicographic.{pointwise}
-use Rattle.vr_base.specs.Bytes.{bytes16, bytes32, bytes64, joined, name_of, number, piece}
+use Rattle.vr_base.specs.Bytes.{bytes16, bytes32, bytes64, is_zeros, joined, name_of, number, piece}
 use Rattle.vr_header.specs.declared.command.Command.{Command}
 use Rattle.vr_header.specs.declared.command.Command.TheVariants.{Entry}
 use Rattle.vr_header.specs.declared.header.Header.{Header}
@@ -45,9 +45,6 @@ unfoldable pub copy_bytes : Saved → List ℕ
 copy_bytes v = name_of (named_bytes v) ++ named_bytes v
 
 -- ---- which values make a good copy
-
-abbrev pub is_zeros : List ℕ → Bool
-is_zeros bytes = list_all (λ b. b == 0) bytes
 
 -- a member of a group, and the views that it was in
 abbrev pub good_member : Fields → Bool
