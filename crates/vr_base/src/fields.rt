@@ -5,6 +5,7 @@ ghost use Rattle.vr_base.specs.Bytes.{bytes16, bytes32, bytes64, number, piece};
 
 use crate::Sum;
 use crate::sum::sixteen;
+use byteorder::{BigEndian, ByteOrder};
 
 /// The number in the two bytes from `at` on.
 #[tactic(auto, unfolding(crate::specs::Bytes::number))]
@@ -58,33 +59,33 @@ pub fn put(out: &mut [u8], at: usize, bytes: &[u8])
 }
 
 /// Writes a number into the two bytes from `at` on.
-#[tactic(auto, unfolding(crate::specs::Bytes::bytes16))]
+#[tactic(auto, using(std::proofs::lemmas::Grind::common_steps, crate::proofs::Writing::puts), unfolding(crate::specs::Bytes::bytes16))]
 pub fn put_u16(out: &mut [u8], at: usize, n: u16)
     requires { at + 2 ≤ length out.old }
     ensures front { take (at + 2) out.new ≡ take at out.old ++ bytes16 n }
     ensures back { drop (at + 2) out.new ≡ drop (at + 2) out.old }
 {
-    put(out, at, &n.to_be_bytes());
+    BigEndian::write_u16(&mut out[at..at + 2], n);
 }
 
 /// Writes a number into the four bytes from `at` on.
-#[tactic(auto, unfolding(crate::specs::Bytes::bytes32))]
+#[tactic(auto, using(std::proofs::lemmas::Grind::common_steps, crate::proofs::Writing::puts), unfolding(crate::specs::Bytes::bytes32))]
 pub fn put_u32(out: &mut [u8], at: usize, n: u32)
     requires { at + 4 ≤ length out.old }
     ensures front { take (at + 4) out.new ≡ take at out.old ++ bytes32 n }
     ensures back { drop (at + 4) out.new ≡ drop (at + 4) out.old }
 {
-    put(out, at, &n.to_be_bytes());
+    BigEndian::write_u32(&mut out[at..at + 4], n);
 }
 
 /// Writes a number into the eight bytes from `at` on.
-#[tactic(auto, unfolding(crate::specs::Bytes::bytes64))]
+#[tactic(auto, using(std::proofs::lemmas::Grind::common_steps, crate::proofs::Writing::puts), unfolding(crate::specs::Bytes::bytes64))]
 pub fn put_u64(out: &mut [u8], at: usize, n: u64)
     requires { at + 8 ≤ length out.old }
     ensures front { take (at + 8) out.new ≡ take at out.old ++ bytes64 n }
     ensures back { drop (at + 8) out.new ≡ drop (at + 8) out.old }
 {
-    put(out, at, &n.to_be_bytes());
+    BigEndian::write_u64(&mut out[at..at + 8], n);
 }
 
 /// Writes a name into the 16 bytes from `at` on.
