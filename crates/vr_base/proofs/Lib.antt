@@ -2,5 +2,6 @@ pub mod Count
 pub mod FieldLaws
 pub mod Places
 mod Rows
+pub mod Sets
 pub mod Writing
 pub mod ZeroLaws

@@ -39,9 +39,9 @@ use Rattle.vr_model.specs.Words.{head_header, others, send, sends_to_all, prepar
 use Rattle.vr_model.specs.Rules.{summary, request_summary, session_answer, request_of, next_entry, make, stored_reply, obey_request, on_request}
 use Rattle.vr_model.specs.World.{IsAsked}
 use Rattle.vr_model.specs.Safe.{lines_by, answered_after, IsReplyOf}
-use Rattle.vr_model.proofs.Fronts.{front_refl, front_append, get_within, get_some, get_more, get_last, each_more}
+use Rattle.vr_apply.proofs.Fronts.{front_refl, front_append, get_within, get_some, get_more, get_last, each_more}
 use Rattle.vr_model.proofs.Growing.{are_committed_later, backed_more}
-use Rattle.vr_model.proofs.Stored.{repeat_stored}
+use Rattle.vr_apply.proofs.Stored.{repeat_stored}
 use Rattle.vr_model.proofs.Members.{stood_on, IsChained, Holds, IsPrepared, Group, last_line, Member, told_later, group_next, member_next}
 use Rattle.vr_model.proofs.Moving.{outputs_append, outputs_said, Left, Outcome, NoLines, left_then, outcome_quiet, outcome_reply, AllCome, none, then}
 use Rattle.vr_model.proofs.Applying.{advance_outcome}

@@ -10,6 +10,7 @@ use Rattle.vr_disk.specs.Sectors.{together}
 use Rattle.vr_header.specs.declared.header.Header.{Header}
 use Rattle.vr_header.specs.Bodies.{IsOperation}
 use Rattle.vr_header.specs.Made.{IsEntry, Whole, entry_bytes, entry_of}
+use Rattle.vr_header.specs.Same.{same_header}
 use Rattle.vr_header.specs.Spelling.{IsHeader, decoded, header_bytes}
 
 -- an op's slot
@@ -62,6 +63,10 @@ header_in f slot = option_and_then header_of (header_reading f slot)
 -- the whole entry of the prepare
 unfoldable pub whole_in : Face → ℕ → Option Whole
 whole_in f slot = option_and_then whole_of (prepare_reading f slot)
+
+-- the entry of this header, where its slot has it
+abbrev pub entry_for : Face → Header → Option Whole
+entry_for f h = option_and_then (λ e. if same_header e.header h then Some e else None) (whole_in f (slot_of h))
 
 -- the slot reads as the entry
 pub record ReadsAs (f : Face) (e : Whole) : Type 0 where

@@ -18,7 +18,7 @@ use Rattle.vr_sess.specs.Effects.{stored}
 use Rattle.vr_sess.proofs.Steps.{find_put_own, find_put_other, find_without_own, find_without_other}
 use Rattle.vr_apply.specs.Folds.{check, asked, applied, answered, executed, outcome_of, fresh_outcome, state_after, answer_at}
 use Rattle.vr_apply.proofs.Once.{state_after_more}
-use Rattle.vr_model.proofs.Fronts.{get_some, take_next, some_same}
+use Rattle.vr_apply.proofs.Fronts.{get_some, take_next, some_same}
 
 -- ---- one request stored
 
