@@ -1,3 +1,4 @@
+pub mod AreBytes
 pub mod Count
 pub mod FieldLaws
 pub mod Places

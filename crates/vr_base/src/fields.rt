@@ -1,7 +1,7 @@
 //! Fields at their places in bytes, numbers with the highest byte first.
 ghost use Rattle.std.specs.Prelude.{◌≡◌, ◌+◌, ◌≤◌, ◌++◌, length, take, drop};
 ghost use Rattle.std.specs.Int.{w16, w32, w64};
-ghost use Rattle.vr_base.specs.Bytes.{bytes16, bytes32, bytes64, number, piece};
+ghost use Rattle.vr_base.specs.Bytes.{IsBytes, bytes16, bytes32, bytes64, number, piece};
 
 use crate::Sum;
 use crate::sum::sixteen;
@@ -53,6 +53,7 @@ pub fn put(out: &mut [u8], at: usize, bytes: &[u8])
     requires { at + length bytes.now ≤ length out.old }
     ensures front { take (at + length bytes.now) out.new ≡ take at out.old ++ bytes.now }
     ensures back { drop (at + length bytes.now) out.new ≡ drop (at + length bytes.now) out.old }
+    ensures each { IsBytes bytes.now }
 {
     let end = at + bytes.len();
     out[at..end].copy_from_slice(bytes);
@@ -93,6 +94,7 @@ pub fn put_sum(out: &mut [u8], at: usize, sum: Sum)
     requires { at + 16 ≤ length out.old }
     ensures front { take (at + 16) out.new ≡ take at out.old ++ sum.0 }
     ensures back { drop (at + 16) out.new ≡ drop (at + 16) out.old }
+    ensures each { IsBytes sum.0 }
 {
     put(out, at, &sum.0);
 }

@@ -8,6 +8,7 @@ use Rattle.std.proofs.lemmas.List.{take_at, drop_at, take-append-drop, take-take
 use Rattle.std.proofs.lemmas.Slice.Eq.{bytes_eq-Decides}
 use Rattle.vr_base.specs.Bytes.{IsBytes, is_zeros, name_of, piece}
 use Rattle.vr_base.proofs.ZeroLaws.{are_zeros, zeros_are}
+use Rattle.vr_base.proofs.AreBytes.{IsBytes-name_of, IsBytes-zeros}
 use Rattle.vr_base.proofs.FieldLaws.{length-name_of, length-piece}
 use Rattle.vr_header.specs.Names.{header_name}
 use Rattle.vr_header.specs.Same.{same_header}
@@ -38,8 +39,11 @@ header_is c h =
     let k = kind_below c.kind h.kind in
     record {
       body = length-name_of c.payload;
+      body_bytes = IsBytes-name_of c.payload;
       parent = refl;
+      parent_bytes = IsBytes-zeros 16;
       request_name = refl;
+      request_name_bytes = IsBytes-zeros 16;
       cluster = h.cluster;
       client = omega arith;
       request = omega arith;

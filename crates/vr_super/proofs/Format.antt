@@ -10,7 +10,7 @@ use Rattle.std.proofs.lemmas.List.{take_at, drop_at, take-append-drop, drop-drop
 use Rattle.std.proofs.lemmas.Slice.Eq.{bytes_eq-Decides}
 use Rattle.vr_base.proofs.ZeroLaws.{zeros_are as blank_are, are_zeros as are_blank}
 use Rattle.vr_base.specs.Bytes.{IsBytes, bytes16, bytes32, bytes64, is_zeros, joined, name_of, number, piece}
-use Rattle.vr_base.proofs.FieldLaws.{length-name_of, length-bytes16, length-bytes32, length-bytes64, number16_of, number32_of, number64_of, number16_back, number32_back, number64_back, length-piece, byte_of, byte_back}
+use Rattle.vr_base.proofs.FieldLaws.{IsBytes-piece, length-name_of, length-bytes16, length-bytes32, length-bytes64, number16_of, number32_of, number64_of, number16_back, number32_back, number64_back, length-piece, byte_of, byte_back}
 use Rattle.vr_base.proofs.Places.{BeginsWith, cut, joined-cut, length-joined, piece_there, place, take_both, total, widths}
 use Rattle.vr_header.specs.declared.header.Header.{Header}
 use Rattle.vr_header.specs.declared.header.HeaderFault.{HeaderFault}
@@ -324,6 +324,7 @@ numbers_fit b f s = record {
   checkpoint = (number64_back 40 b f (omega (arith, s.long))).1;
   root_address = (number64_back 48 b f (omega (arith, s.long))).1;
   root_name = length-piece 56 16 b (omega (arith, s.long));
+  root_name_bytes = IsBytes-piece 56 16 b f;
   commit = (number64_back 72 b f (omega (arith, s.long))).1;
   head = (number64_back 80 b f (omega (arith, s.long))).1;
   replica = f 90;
