@@ -1,7 +1,7 @@
 use Rattle.std.proofs.Common.{◌≡◌, ◌≤◌, length, ◌+◌, ◌-◌, drop}
 use Rattle.std.specs.List.{prefix_len}
 use Rattle.vr_msg.specs.Normal.{has_quorum}
-use Rattle.vr_normal.proofs.commit.advance.Given as goal
+use Rattle.vr_memory_rules.proofs.commit.advance.Given as goal
 
 abbrev pub invariant-loop-reached : goal.invariant-loop-reached
 invariant-loop-reached l = record {

@@ -38,7 +38,7 @@ fn decide_prepare(memory: &Memory, prepare: &Prepare) -> Decision
     ensures value { result ≡ decide.on_prepare (summary name_of memory.now prepare.now.entry.header.op) prepare.now }
     ensures next { result ≡ rule.Next → prepare.now.entry.header.op ≡ length memory.now.log + 1 }
 {
-    vr_normal::on_prepare(&summarize(memory, prepare.entry.header().op), prepare)
+    vr_memory_rules::on_prepare(&summarize(memory, prepare.entry.header().op), prepare)
 }
 
 /// The entry is known already.
@@ -120,7 +120,7 @@ fn decide_ack(memory: &Memory, ack: &PrepareOk) -> Decision
     ensures value { result ≡ decide.on_prepare_ok (summary name_of memory.now ack.now.op) ack.now }
     ensures open { result ≡ rule.Counted → (0 < ack.now.op) × (ack.now.op ≤ length memory.now.log) }
 {
-    vr_normal::on_prepare_ok(&summarize(memory, ack.op), ack)
+    vr_memory_rules::on_prepare_ok(&summarize(memory, ack.op), ack)
 }
 
 /// Counts an acknowledgement.

@@ -1,7 +1,7 @@
 use Rattle.std.proofs.Common.{◌≡◌, refl}
 use Rattle.vr_model.specs.Words.{asker_of}
-use Rattle.vr_replica.proofs.Applying.{applies}
-use Rattle.vr_replica.proofs.apply.apply_entry.Goals as goal
+use Rattle.vr_memory.proofs.Applying.{applies}
+use Rattle.vr_memory.proofs.apply.apply_entry.Goals as goal
 
 -- src/apply.rt:17:1
 pub returns-clause-step : goal.returns-clause-step

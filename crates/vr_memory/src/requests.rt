@@ -121,7 +121,7 @@ fn decide(memory: &Memory, request: &Request) -> Result<Decision, NoMemory>
 {
     let answer = session_answer(memory, request.fields())?;
     let summary = summarize_request(memory, request.fields(), &answer);
-    Ok(vr_normal::on_request(&summary, request))
+    Ok(vr_memory_rules::on_request(&summary, request))
 }
 
 #[tactic(auto, using(vr_model::proofs::Stepping::steps))]

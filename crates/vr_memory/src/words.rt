@@ -45,7 +45,7 @@ pub fn advance_commit(memory: &mut Memory)
     ensures advanced { memory.new ≡ advanced memory.old }
     ensures sound { IsSound memory.new }
 {
-    memory.commit = vr_normal::advance(
+    memory.commit = vr_memory_rules::advance(
         memory.index,
         memory.n,
         memory.commit,

@@ -76,7 +76,7 @@ pub fn acknowledge(memory: &Memory, entry: &Named, out: &mut Outbox) -> Result<(
     };
     out.push(Output::Send(Sent {
         from: memory.index,
-        to: vr_normal::primary(memory.n, memory.view),
+        to: vr_memory_rules::primary(memory.n, memory.view),
         message: Message::new(Frame::PrepareOk(ack)),
     }))
 }

@@ -2,7 +2,7 @@ use Rattle.std.proofs.Common.{◌≡◌, ◌+◌, ◌-◌}
 use Rattle.vr_model.specs.Sound.{IsSound}
 use Rattle.vr_model.specs.Steps.{Looping}
 use Rattle.vr_model.specs.Words.{apply_next}
-use Rattle.vr_replica.proofs.apply.apply.Given as goal
+use Rattle.vr_memory.proofs.apply.apply.Given as goal
 
 abbrev pub invariant-loop-i : goal.invariant-loop-i
 invariant-loop-i l = record {

@@ -2,7 +2,7 @@
 use Rattle.std.proofs.Common.{ℕ, zero, suc, ◌<◌, ◌≡◌, refl, arith, inl, inr, Bool, true, false, cond, [], ◌∷◌}
 use Rattle.vr_msg.specs.declared.summary.Decision.{Decision}
 use Rattle.vr_msg.specs.Normal.{Table, first_of}
-use Rattle.vr_normal.specs.Laws.{holds_at, decision_at, IsFirst, Decides}
+use Rattle.vr_memory_rules.specs.Laws.{holds_at, decision_at, IsFirst, Decides}
 
 -- a row before the others
 first_here : (d : Decision) (rows : Table) → Decides ((true, d) ∷ rows) d
