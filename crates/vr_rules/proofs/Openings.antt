@@ -70,7 +70,7 @@ partly_spans v n r w h =
     record { reach = omega (arith, first, checkpoint); parts = omega (arith, first, checkpoint) }
 
 -- one more Part
-partly_part : (v : Saved) (n m k : ℕ) (p : Part) (r : Replica) → Value v → Partly v n r → Right v k p → first_listed v ≤ k → k ≤ v.fields.checkpoint + 64
+pub partly_part : (v : Saved) (n m k : ℕ) (p : Part) (r : Replica) → Value v → Partly v n r → Right v k p → first_listed v ≤ k → k ≤ v.fields.checkpoint + 64
     → (m ≤ n) ⊎ ((m ≡ k) × (k ≤ n + 1)) → Partly v m (with_part k p r)
 unfolding with_part
 partly_part v n m k p r w h right a b more =
@@ -180,7 +180,7 @@ found_ops v n (suc count) s r f w a b h k =
 abbrev pub IsOld : Saved → Header → Type 0
 IsOld v h = IsOf v h.op h × (first_listed v ≤ h.op)
 
-old_right : (v : Saved) (h : Header) (o : Option Whole) → IsOld v h → Right v h.op (old_part h o)
+pub old_right : (v : Saved) (h : Header) (o : Option Whole) → IsOld v h → Right v h.op (old_part h o)
 old_right v h None is = right_header v h.op h (part.Lost h) is.0 refl
 old_right v h (Some e) is = right_header v h.op h (part.Here h) is.0 refl
 
@@ -302,7 +302,7 @@ forgetting_applied : (r : Replica) → (forgetting r).applied ≡ r.applied
 unfolding forgetting
 forgetting_applied r = refl
 
-opened_forgetting : (v : Saved) (n : ℕ) (r : Replica) → Value v → Partly v n r → v.fields.head ≤ n → Opened (forgetting r)
+pub opened_forgetting : (v : Saved) (n : ℕ) (r : Replica) → Value v → Partly v n r → v.fields.head ≤ n → Opened (forgetting r)
 opened_forgetting v n r w h l =
     let roomy = roomy_of v n r.parts w (subst (Partly v n) h.is h) l in
     record {

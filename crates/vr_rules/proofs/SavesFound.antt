@@ -23,12 +23,12 @@ use Rattle.vr_rules.proofs.Slots.{Value, IsOf}
 use Rattle.vr_rules.proofs.Openings.{Partly, partly_spans, first_is, found_op, found_old, found_olds, found_ops, partly_blank, partly_clouded, clouded_header, IsOld}
 use Rattle.vr_rules.proofs.SavesParts.{Topped, topped_forgetting}
 
-known_old : (h : Header) (o : Option Whole) → has_header (old_part h o) ≡ true
+pub known_old : (h : Header) (o : Option Whole) → has_header (old_part h o) ≡ true
 known_old h None = refl
 known_old h (Some e) = refl
 
 -- a known op stays so as the Part of another op, or a known one, is set
-set_keeps : (c k : ℕ) (p : Part) (r : Replica) → r.first ≤ k → k < r.first + length r.parts → (c ≡ k → has_header p ≡ true) → (knows r c ≡ true) ⊎ (c ≡ k) → knows (with_part k p r) c ≡ true
+pub set_keeps : (c k : ℕ) (p : Part) (r : Replica) → r.first ≤ k → k < r.first + length r.parts → (c ≡ k → has_header p ≡ true) → (knows r c ≡ true) ⊎ (c ≡ k) → knows (with_part k p r) c ≡ true
 set_keeps c k p r a b is e =
     elim (cases_eq c k) [
       | inl same ↦ rw same (ap has_header (with_part_at k p r a b) ∙ is same)
@@ -39,7 +39,7 @@ set_keeps c k p r a b is e =
     ]
 
 -- a header of the list has this op
-Lists : ℕ → List Header → Type 0
+abbrev pub Lists : ℕ → List Header → Type 0
 Lists c hs = (i : ℕ) × (h : Header) × (slice_get hs i ≡ Some h) × (h.op ≡ c)
 
 old_known : {F : Type 0} (v : Saved) (h : Header) (s : Setting F) (r : Replica) (f : F) → Value v → IsOld v h → h.op ≤ v.fields.checkpoint → Partly v v.fields.checkpoint r
@@ -59,7 +59,7 @@ this_or_later v h hs s r f w is a p (inl e) = inl (old_known v h s r f w is a p 
 this_or_later v h hs s r f w is a p (inr (zero, g, at, op)) = let same : h ≡ g = cc in inl (old_known v h s r f w is a p (inr (sym op ∙ sym (ap (λ (x : Header). x.op) same))))
 this_or_later v h hs s r f w is a p (inr (suc i, g, at, op)) = inr (i, g, at, op)
 
-only_later : (c : ℕ) (h : Header) (hs : List Header) (r : Replica) → c < h.op → (knows r c ≡ true) ⊎ Lists c (h ∷ hs) → (knows r c ≡ true) ⊎ Lists c hs
+pub only_later : (c : ℕ) (h : Header) (hs : List Header) (r : Replica) → c < h.op → (knows r c ≡ true) ⊎ Lists c (h ∷ hs) → (knows r c ≡ true) ⊎ Lists c hs
 unfolding Lists
 only_later c h hs r l (inl e) = inl e
 only_later c h hs r l (inr (zero, g, at, op)) = let same : h ≡ g = cc in let o : h.op ≡ g.op = ap (λ (x : Header). x.op) same in absurd (omega arith)
@@ -117,7 +117,7 @@ ops_known v n (suc count) s r f w a b p k e =
     let x = recover_op v (n + 1) s r f in
     ops_known v (n + 1) count s x.replica (after_all s f x.script) w (omega arith) (omega arith) found.partly found.reads (op_known v n s r f w a (omega arith) p e)
 
-clouded_known : (v : Saved) (n k : ℕ) (r : Replica) → Value v → Partly v n r → knows r k ≡ true → knows (clouded v r) k ≡ true
+pub clouded_known : (v : Saved) (n k : ℕ) (r : Replica) → Value v → Partly v n r → knows r k ≡ true → knows (clouded v r) k ≡ true
 unfolding clouded
 clouded_known v n k r w p e =
     let sp = partly_spans v n r w p in
@@ -128,7 +128,7 @@ clouded_known v n k r w p e =
 -- ---- at the head
 
 -- the list has the header of the value's head
-lists_head : (v : Saved) → Value v → 0 < length v.headers → Lists v.fields.head v.headers
+pub lists_head : (v : Saved) → Value v → 0 < length v.headers → Lists v.fields.head v.headers
 unfolding Lists
 lists_head v w some =
     let there = log_reaches v.headers (length v.headers - 1) (omega arith) in
@@ -140,7 +140,7 @@ blank_checkpoint : (v : Saved) → (blank v).checkpoint ≡ v.fields.checkpoint
 unfolding blank
 blank_checkpoint v = refl
 
-found_topped : (v : Saved) (n : ℕ) (r : Replica) → Value v → Partly v n r → v.fields.head ≤ n → (v.fields.head ≡ v.fields.checkpoint → 0 < v.fields.head → knows r v.fields.checkpoint ≡ true) → Topped r
+pub found_topped : (v : Saved) (n : ℕ) (r : Replica) → Value v → Partly v n r → v.fields.head ≤ n → (v.fields.head ≡ v.fields.checkpoint → 0 < v.fields.head → knows r v.fields.checkpoint ≡ true) → Topped r
 found_topped v n r w p l last some =
     let s = partly_spans v n r w p in
     let c : r.checkpoint ≡ v.fields.checkpoint = ap (λ (x : Replica). x.checkpoint) p.is ∙ blank_checkpoint v in
@@ -157,7 +157,7 @@ found_topped v n r w p l last some =
 
 -- ---- what is recovered
 
-savable_found : (v : Saved) (ps : List Part) → IsGood v → Topped (record (blank v) { parts = ps }) → IsSavable (record (blank v) { parts = ps })
+pub savable_found : (v : Saved) (ps : List Part) → IsGood v → Topped (record (blank v) { parts = ps }) → IsSavable (record (blank v) { parts = ps })
 unfolding blank good_fields
 savable_found v ps g top =
     let k = v.fields in
@@ -180,11 +180,11 @@ savable_found v ps g top =
       top = top;
     }
 
-savable_forgetting : (r : Replica) → IsSavable r → Topped (forgetting r) → IsSavable (forgetting r)
+pub savable_forgetting : (r : Replica) → IsSavable r → Topped (forgetting r) → IsSavable (forgetting r)
 unfolding forgetting
 savable_forgetting r v top = record { cluster = v.cluster; view = v.view; log_view = v.log_view; address = v.address; name = v.name; none = v.none; top = top }
 
-list_size : (v : Saved) → IsGood v → 0 < v.fields.head → 0 < length v.headers
+pub list_size : (v : Saved) → IsGood v → 0 < v.fields.head → 0 < length v.headers
 unfolding good_fields
 list_size v g some =
     let k = v.fields in

@@ -75,7 +75,7 @@ module _ {F : Type 0} where
 abbrev every : ℕ
 every = 2 ^ 32
 
-savable_next : (r : Replica) → r.view + 1 < 2 ^ 32 → IsSavable r → IsSavable (in_next_view r)
+pub savable_next : (r : Replica) → r.view + 1 < 2 ^ 32 → IsSavable r → IsSavable (in_next_view r)
 unfolding head part_at
 savable_next r l v = record { cluster = v.cluster; view = l; log_view = v.log_view; address = v.address; name = v.name; none = v.none; top = v.top }
 

@@ -195,7 +195,7 @@ kept_loaded root table (Ok t) r h e =
     record { sound = sound_alike (with_missing [] r) (record r { table = table; state = t; missing = [] }) refl k.sound; rises = record { view = omega arith; log_view = omega arith; commit = omega arith; applied = omega arith; checkpoint = omega arith } }
 kept_loaded root table (Err fault) r h e = kept_missing (root ∷ []) r h (λ n. e)
 
-kept_loads : (root : Name) (l : Load) (r : Replica) → IsSound r → r.applied ≡ r.checkpoint → Kept r (loads root l r)
+pub kept_loads : (root : Name) (l : Load) (r : Replica) → IsSound r → r.applied ≡ r.checkpoint → Kept r (loads root l r)
 kept_loads root (Loaded texts table) r h e = kept_loaded root table (state_decoded texts) r h e
 kept_loads root (Missing names) r h e = kept_missing names r h (λ n. e)
 

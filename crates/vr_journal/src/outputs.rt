@@ -1,0 +1,65 @@
+//! What a replica puts out.
+ghost use Rattle.std.specs.Prelude.{◌≡◌, ◌≤◌, ◌<◌, ◌++◌, ◌∷◌, [], IfOk, OnOk, if◌then◌else◌};
+ghost use Rattle.vr_base.specs.Bytes.{name_of};
+ghost use Rattle.vr_header.specs.Made.{IsEntryHeader};
+ghost use Rattle.vr_msg.specs.Asking.{IsReplyKind};
+ghost use Rattle.vr_msg.specs.Normal.{primary};
+ghost use Rattle.vr_rules.specs.Replica.{last_view};
+ghost use Rattle.vr_rules.specs.Outputs.{send_to, send_to_all, to_primary, start_view_change, prepare_ok, replies, asker_of};
+ghost use Rattle.vr_journal.specs.Ready.{IsReady};
+
+use crate::group::primary;
+use crate::Replica;
+use std::alloc::AllocError;
+use vr_header::Header;
+use vr_msg::{
+    Frame, Message, Outbox, Output, PrepareOk, Sent, StartViewChange,
+};
+
+impl Replica {
+    /// The others hear that it has entered its view.
+    #[tactic(auto, using(std::proofs::lemmas::Grind::common_steps, crate::proofs::Sending::sends_more, crate::proofs::Sending::sends_none), unfolding(vr_rules::specs::Outputs::send_to_all, crate::specs::Sends::sends))]
+    pub(crate) fn tell_change(&self, out: &mut Outbox) -> Result<(), AllocError>
+        requires { self.now.view ≤ last_view }
+        ensures { OnOk result (out.new ≡ out.old ++ send_to_all start_view_change self.now) }
+    {
+        let change = StartViewChange {
+            cluster: self.cluster,
+            replica: self.index,
+            view: self.view,
+        };
+        for to in 0..self.n {
+            if to != self.index {
+                out.push(Output::Send(Sent {
+                    from: self.index,
+                    to,
+                    message: Message::start_view_change(change),
+                }))?;
+            }
+        }
+        Ok(())
+    }
+
+    /// Tells the primary that the entry of this header is stored.
+    #[tactic(auto, using(crate::proofs::Memory::some_member))]
+    pub(crate) fn acknowledge(&self, header: &Header, out: &mut Outbox) -> Result<(), AllocError>
+        requires ready { IsReady self.now }
+        requires view { self.now.view ≤ last_view }
+        requires entry { IsEntryHeader header.now }
+        ensures { OnOk result (out.new ≡ out.old ++ to_primary (prepare_ok name_of header.now) self.now) }
+    {
+        let ok = PrepareOk {
+            cluster: self.cluster,
+            replica: self.index,
+            view: self.view,
+            op: header.op,
+            name: header.name(),
+            made: header.view,
+        };
+        out.push(Output::Send(Sent {
+            from: self.index,
+            to: primary(self.n, self.view),
+            message: Message::prepare_ok(ok),
+        }))
+    }
+}
