@@ -16,10 +16,10 @@ use Rattle.vr_msg.specs.declared.output.Output.TheVariants as output
 use Rattle.vr_rules.specs.Replica.{Replica, leads, part_at}
 use Rattle.vr_rules.specs.Outputs.{kind_of, replies, commit_line, applied_reply}
 use Rattle.vr_rules.specs.Words.{applied, apply_entry, apply_next, with_entry, with_entry_at, is_loaded, is_checkpoint, make_checkpoint}
-use Rattle.vr_journal.specs.declared.halt.Halt.{Halt}
-use Rattle.vr_journal.specs.Does.{Does}
+use Rattle.vr_step.specs.declared.halt.Halt.{Halt}
+use Rattle.vr_step.specs.Does.{Does}
 use Rattle.vr_journal.specs.Ready.{MayApply, due}
-use Rattle.vr_journal.proofs.Stepping.{says_by_then, change_by_then, does_by, does_quiet}
+use Rattle.vr_step.proofs.Stepping.{says_by_then, change_by_then, does_by, does_quiet}
 
 kind_same : (b : ReplyBody) → model.kind_of b ≡ kind_of b
 kind_same (body.Outcome outcome op) = refl

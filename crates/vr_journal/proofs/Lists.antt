@@ -116,3 +116,6 @@ run_more xs i h e =
 pub run_stops : (xs : List Part) (i : ℕ) → i < length xs → header_of (get_or xs i Nothing) ≡ None → run_of (i + 1) xs ≡ []
 unfolding run_of
 run_stops xs i l e = rw (back_more xs i l, none_more (get_or xs i Nothing) (reverse (take i xs)) e) refl
+
+pub places_more : {X : Type 0} (i : ℕ) (x : X) → replicate i x ++ x ∷ [] ≡ replicate (i + 1) x
+places_more i x = more_one [] i x

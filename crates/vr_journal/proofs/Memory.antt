@@ -63,25 +63,25 @@ value_is r f hs h l e i = rw (e, i) (value_is_good r h.sound h.savable l)
 
 pub ready_saved : (r q : Replica) → q ≡ with_saved r → IsReady r → IsReady q
 unfolding IsReady
-ready_saved r q e h = rw e (record { sound = sound_alike r (with_saved r) refl h.sound; savable = savable_alike r (with_saved r) refl h.savable; numbers = h.numbers })
+ready_saved r q e h = rw e (record { sound = sound_alike r (with_saved r) refl h.sound; savable = savable_alike r (with_saved r) refl h.savable; numbers = h.numbers; idle = h.idle })
 
 pub ready_rested : (r q : Replica) → q ≡ rested r → IsReady r → IsReady q
 unfolding IsReady
-ready_rested r q e h = rw e (record { sound = sound_alike r (rested r) refl h.sound; savable = savable_alike r (rested r) refl h.savable; numbers = h.numbers })
+ready_rested r q e h = rw e (record { sound = sound_alike r (rested r) refl h.sound; savable = savable_alike r (rested r) refl h.savable; numbers = h.numbers; idle = omega arith })
 
 pub ready_stored : (e : Whole) (r q : Replica) → q ≡ stored e r → MayStore e r → IsReady r → IsReady q
 unfolding IsReady MayStore forgetting with_part
 ready_stored e r q i m h =
     let may : May e r = record { above = m.above; window = m.window; header = m.header; is_entry = m.is_entry } in
-    rw i (record { sound = (kept_stored e r h.sound may).sound; savable = savable_stored e r h.sound may h.savable; numbers = h.numbers })
+    rw i (record { sound = (kept_stored e r h.sound may).sound; savable = savable_stored e r h.sound may h.savable; numbers = h.numbers; idle = h.idle })
 
 pub ready_entered : (view : ℕ) (r q : Replica) → q ≡ entered view r → r.view ≤ view → view < 2 ^ 32 → IsReady r → IsReady q
 unfolding IsReady entered
-ready_entered view r q e a b h = rw e (record { sound = (kept_entered view r h.sound a).sound; savable = savable_entered view r b h.savable; numbers = h.numbers })
+ready_entered view r q e a b h = rw e (record { sound = (kept_entered view r h.sound a).sound; savable = savable_entered view r b h.savable; numbers = h.numbers; idle = omega arith })
 
 pub ready_lost : (k : ℕ) (g : Header) (r q : Replica) → q ≡ lost g r → part_at r k ≡ Here g → IsReady r → IsReady q
 unfolding IsReady with_part
-ready_lost k g r q e i h = rw e (record { sound = (kept_lost k g r h.sound i).sound; savable = savable_lost k g r h.sound i h.savable; numbers = h.numbers })
+ready_lost k g r q e i h = rw e (record { sound = (kept_lost k g r h.sound i).sound; savable = savable_lost k g r h.sound i h.savable; numbers = h.numbers; idle = h.idle })
 
 pub in_window : (e : Whole) (r : Replica) → MayStore e r → HasWindow r → (r.first ≤ e.header.op) × (e.header.op - r.first < length r.parts)
 unfolding MayStore
@@ -121,7 +121,7 @@ ready_applied q d h =
     let m = h.may in
     let kept = kept_applied e r m.ready.sound m.known m.loaded (eqb-false ((r.applied + 1) % 32) 0 due) in
     let numbers : HaveNumbers (applied e r).state.sessions = rw is at h.numbers in
-    rw is (record { sound = kept.sound; savable = savable_alike r (applied e r) refl m.ready.savable; numbers = numbers })
+    rw is (record { sound = kept.sound; savable = savable_alike r (applied e r) refl m.ready.savable; numbers = numbers; idle = m.ready.idle })
 
 -- where one is made
 pub ready_moved : (c : checkpoint.Saved) (q p : Replica) (cluster : ℕ) (texts : Texts) (op : ℕ) (old : Table) → is_checkpoint q.applied ≡ true → HasApplied q
@@ -140,7 +140,7 @@ ready_moved c q p cluster texts op old d h s i =
     let kept = kept_moved c e r m.ready.sound known m.loaded (eqb-true ((r.applied + 1) % 32) 0 due) in
     let savable = savable_move c (applied e r) address name (omega arith) (savable_alike r (applied e r) refl m.ready.savable) (topped_moved c e r m.ready.sound known) in
     let numbers : HaveNumbers (applied e r).state.sessions = rw is at h.numbers in
-    rw (i, is) (record { sound = kept.sound; savable = savable; numbers = numbers })
+    rw (i, is) (record { sound = kept.sound; savable = savable; numbers = numbers; idle = m.ready.idle })
 
 -- there is room for the window to move up
 pub room_to_move : (q : Replica) → HasApplied q → (length q.parts + (q.applied - q.checkpoint) ≤ 128) × (length q.ackers + (q.applied - q.checkpoint) ≤ 128)
@@ -220,7 +220,7 @@ pub ready_learned : (c : ℕ) (r q : Replica) → q ≡ learned c r → IsReady 
 unfolding IsReady
 ready_learned c r q e h =
     let known = h.sound.order.known in
-    rw e (record { sound = sound_commit r (max r.commit (min c (head r))) (omega arith) (omega arith) h.sound; savable = savable_alike r (learned c r) refl h.savable; numbers = h.numbers })
+    rw e (record { sound = sound_commit r (max r.commit (min c (head r))) (omega arith) (omega arith) h.sound; savable = savable_alike r (learned c r) refl h.savable; numbers = h.numbers; idle = h.idle })
 
 -- where an entry may be stored is left to what soundness doesn't ask for
 pub store_rested : (e : Whole) (r q : Replica) → q ≡ rested r → MayStore e r → MayStore e q

@@ -6,7 +6,7 @@ use Rattle.vr_rings.specs.Calls.{again_calls, new_calls, header_calls}
 use Rattle.vr_grid.specs.Grid.{put_calls}
 use Rattle.vr_grid.specs.declared.name.Name.{Name}
 use Rattle.vr_header.specs.declared.header.Header.{Header}
-use Rattle.vr_journal.specs.Gives.{rewrites, puts}
+use Rattle.vr_journal.specs.Effects.{rewrites, puts}
 use Rattle.vr_rules.specs.Replica.{Replica, part_at}
 use Rattle.vr_super.specs.Calls.{write_calls}
 use Rattle.vr_super.specs.Copies.{Saved}
@@ -21,10 +21,10 @@ use Rattle.vr_grid.specs.declared.fault.CkptFault.TheVariants as fault
 use Rattle.vr_msg.specs.declared.output.Output.{Output}
 use Rattle.vr_rules.specs.Steps.{◌⨾◌, change, does}
 use Rattle.vr_rules.specs.Words.{checkpoints, checkpoint_of, with_checkpoint, make_checkpoint, save}
-use Rattle.vr_journal.specs.declared.halt.Halt.{Halt}
-use Rattle.vr_journal.specs.declared.halt.Halt.TheVariants.{DiskFault, NoMemory}
-use Rattle.vr_journal.proofs.Stepping.{performs_ok, performs_fault, performs_want, performed, performs_halted, does_by, does_reading, does_then, does_no_memory, change_by_then}
-use Rattle.vr_journal.specs.Does.{Does, Finds, Performs, PerformsTo}
+use Rattle.vr_step.specs.declared.halt.Halt.{Halt}
+use Rattle.vr_step.specs.declared.halt.Halt.TheVariants.{DiskFault, NoMemory}
+use Rattle.vr_step.proofs.Stepping.{performs_ok, performs_fault, performs_want, performed, performs_halted, does_by, does_reading, does_then, does_no_memory, change_by_then}
+use Rattle.vr_step.specs.Does.{Does, Finds, Performs, PerformsTo}
 
 -- calls that don't depend on what the disk holds
 pub runs_from : (cs : List Call) (d d' : Option Disk) (ok : Bool) → Runs cs d d' ok → RunsFrom (λ f. cs) d d' ok

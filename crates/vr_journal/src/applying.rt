@@ -8,15 +8,15 @@ ghost use Rattle.vr_msg.specs.Asking.{IsReplyKind};
 ghost use Rattle.vr_rules.specs.Replica.{last_view, leads, part_at};
 ghost use Rattle.vr_rules.specs.Outputs.{replies, asker_of, kind_of, commit_line, applied_reply};
 ghost use Rattle.vr_rules.specs.Steps.{when, by};
-ghost use Rattle.vr_rules.specs.Words.{checkpoints, with_checkpoint, make_checkpoint, is_checkpoint, is_loaded, applied, apply_entry, apply_next, apply, with_entry};
-ghost use Rattle.vr_journal.specs.Does.{Does, Caused, PerformsTo, done};
+ghost use Rattle.vr_rules.specs.Words.{checkpoints, with_checkpoint, make_checkpoint, is_checkpoint, is_loaded, applied, apply_entry, apply_next, apply, with_entry, learn};
+ghost use Rattle.vr_step.specs.Does.{Does, Caused, PerformsTo, done};
 ghost use Rattle.vr_header.specs.declared.part.Part.TheVariants.{Here};
 ghost use Rattle.vr_journal.specs.Ready.{IsReady, MayApply, HasApplied, due};
 
 use crate::reading::find_entry;
-use crate::group::primary;
-use crate::{Halt, Replica};
+use crate::Replica;
 use std::alloc::{AllocError, Global};
+use vr_step::Halt;
 use vr_apply::ReplyBody;
 use vr_base::{NoMemory, Replicas, Sum};
 use vr_ckpt::Saved;
@@ -84,7 +84,7 @@ impl Replica {
 
 impl Replica {
     /// Replies to a request.
-    pub(crate) fn reply(
+    pub fn reply(
         &self,
         client: u64,
         request: u32,
@@ -105,13 +105,6 @@ impl Replica {
             request_name: name,
             kind,
         })))
-    }
-
-    pub(crate) fn leads(&self) -> bool
-        requires { 0 < self.now.n }
-        ensures { result ≡ leads self.now }
-    {
-        self.view == self.log_view && self.index == primary(self.n, self.view)
     }
 
     /// Replies what an applied entry answers, at the primary alone.
@@ -191,7 +184,7 @@ impl Replica {
     }
 
     /// Applies an entry.
-    #[tactic(auto, using(crate::proofs::Applies::entry_then, crate::proofs::Stepping::wants, crate::proofs::Memory::has_applied))]
+    #[tactic(auto, using(crate::proofs::Applies::entry_then, vr_step::proofs::Stepping::wants, crate::proofs::Memory::has_applied))]
     fn apply_entry<D: SectorDisk>(
         &mut self,
         alloc: Global,
@@ -213,7 +206,7 @@ impl Replica {
     }
 
     // Applies the entry of this header, which is stored.
-    #[tactic(auto, using(crate::proofs::Stepping::readings, crate::proofs::Stepping::wants, crate::proofs::Memory::readies, crate::proofs::Memory::may_ready))]
+    #[tactic(auto, using(vr_step::proofs::Stepping::readings, vr_step::proofs::Stepping::wants, crate::proofs::Memory::readies, crate::proofs::Memory::may_ready))]
     fn apply_found<D: SectorDisk>(
         &mut self,
         alloc: Global,
@@ -240,7 +233,7 @@ impl Replica {
     }
 
     // Applies the next entry, of which this is known.
-    #[tactic(auto, using(crate::proofs::Stepping::kinds, crate::proofs::Memory::here_op, crate::proofs::Memory::may_ready))]
+    #[tactic(auto, using(vr_step::proofs::Stepping::kinds, crate::proofs::Memory::here_op, crate::proofs::Memory::may_ready))]
     fn apply_part<D: SectorDisk>(
         &mut self,
         alloc: Global,
@@ -266,7 +259,7 @@ impl Replica {
     fn may_apply(&self) -> bool
         ensures { result ≡ (is_loaded self.now && nat_lt self.now.applied self.now.commit) }
     {
-        self.missing.len() == 0 && self.applied < self.commit
+        self.is_loaded() && self.applied < self.commit
     }
 
     // Applies the next entry, if it may.
@@ -294,8 +287,8 @@ impl Replica {
     }
 
     /// Applies the stored entries up to the commit number.
-    #[tactic(auto, using(crate::proofs::Stepping::loops, crate::proofs::Memory::few_to_apply), unfolding(vr_rules::specs::Words::apply))]
-    pub(crate) fn apply<D: SectorDisk>(
+    #[tactic(auto, using(vr_step::proofs::Stepping::loops, crate::proofs::Memory::few_to_apply), unfolding(vr_rules::specs::Words::apply))]
+    pub fn apply<D: SectorDisk>(
         &mut self,
         alloc: Global,
         disk: &mut D,
@@ -322,5 +315,24 @@ impl Replica {
         ensures few { result ≤ 64 }
     {
         self.commit.saturating_sub(self.applied)
+    }
+
+    /// Learns a commit number, and applies.
+    #[tactic(auto, using(vr_step::proofs::Stepping::steps, crate::proofs::Memory::readies, crate::proofs::Memory::window_of), unfolding(vr_rules::specs::Words::learn))]
+    pub fn learn<D: SectorDisk>(
+        &mut self,
+        alloc: Global,
+        disk: &mut D,
+        commit: u64,
+        out: &mut Outbox,
+    ) -> Result<(), Halt>
+        requires ready { IsReady self.old }
+        requires room { self.old.saved.fields.sequence + 64 < 2 ^ 64 }
+        ensures ready { OnOk result (IsReady self.new) }
+        ensures cause { Caused (D.faults disk.old) (D.faults disk.new) result }
+        ensures step { Does (learn commit) self.old self.new (D.told disk.old) (D.told disk.new) out.old out.new result }
+    {
+        self.learn_commit(commit);
+        self.apply(alloc, disk, out)
     }
 }

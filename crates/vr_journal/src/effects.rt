@@ -3,8 +3,8 @@ ghost use Rattle.std.specs.Prelude.{◌≡◌, ◌<◌, ◌≤◌, ◌+◌, ◌^
 ghost use Rattle.vr_base.specs.Causes.{HasCause};
 ghost use Rattle.vr_rules.specs.Words.{writes, saves, with_saved, checkpoints, value_of, checkpoint_of};
 ghost use Rattle.vr_grid.specs.Blocks.{named};
-ghost use Rattle.vr_journal.specs.Gives.{rewrites, puts};
-ghost use Rattle.vr_journal.specs.Does.{Performs, PerformsTo, Caused};
+ghost use Rattle.vr_journal.specs.Effects.{rewrites, puts};
+ghost use Rattle.vr_step.specs.Does.{Performs, PerformsTo, Caused};
 
 use crate::parts::may_be_stored;
 use crate::Replica;
@@ -17,7 +17,7 @@ use vr_super::Super;
 impl Replica {
     /// Writes an entry into its slot.
     #[tactic(auto, using(crate::proofs::Performing::write_is_again, crate::proofs::Performing::write_is_new))]
-    pub(crate) fn write_entry<D: SectorDisk>(
+    pub fn write_entry<D: SectorDisk>(
         &self,
         disk: &mut D,
         entry: &Entry,
@@ -34,7 +34,7 @@ impl Replica {
 
     /// Writes this value over the one last saved, and keeps it.
     #[tactic(auto, using(crate::proofs::Performing::save_is, crate::proofs::Performing::one_spent))]
-    pub(crate) fn save_value<D: SectorDisk>(
+    pub fn save_value<D: SectorDisk>(
         &mut self,
         disk: &mut D,
         value: Super,
@@ -56,7 +56,7 @@ impl Replica {
 
     /// Writes the header sector of a slot alone.
     #[tactic(auto, using(crate::proofs::Performing::rewrite_is))]
-    pub(crate) fn rewrite_header<D: SectorDisk>(
+    pub fn rewrite_header<D: SectorDisk>(
         &self,
         disk: &mut D,
         header: &Header,
@@ -69,7 +69,7 @@ impl Replica {
 
     /// Writes a whole block under its name.
     #[tactic(auto, using(crate::proofs::Performing::put_is))]
-    pub(crate) fn put_block<D: SectorDisk>(
+    pub fn put_block<D: SectorDisk>(
         &self,
         disk: &mut D,
         name: &Name,

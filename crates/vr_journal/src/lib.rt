@@ -1,24 +1,24 @@
-//! A replica over a disk of sectors: its words, and how it opens.
+//! What a replica has in memory beside its disk, and the words of which its rules are made.
 #![tactic(auto)]
 
 mod applying;
-mod begin;
+mod blank;
+mod changes;
 mod effects;
+mod fields;
 mod group;
-mod halt;
-mod finding;
-mod heeding;
-mod opening;
+mod loading;
 mod outputs;
 mod parts;
+mod places;
 mod reading;
-mod reopen;
-mod repair;
 mod replica;
 mod window;
 mod words;
 
-pub use halt::Halt;
-pub use reopen::{Refusal, recover};
+pub use group::primary;
+pub use parts::{has_header, header_of, is_here, same_header};
+pub use places::Places;
+pub use reading::find_entry;
 pub use replica::Replica;
 pub use window::Window;

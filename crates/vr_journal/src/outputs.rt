@@ -5,7 +5,7 @@ ghost use Rattle.vr_header.specs.Made.{IsEntryHeader};
 ghost use Rattle.vr_msg.specs.Asking.{IsReplyKind};
 ghost use Rattle.vr_msg.specs.Normal.{primary};
 ghost use Rattle.vr_rules.specs.Replica.{last_view};
-ghost use Rattle.vr_rules.specs.Outputs.{send_to, send_to_all, to_primary, start_view_change, prepare_ok, replies, asker_of};
+ghost use Rattle.vr_rules.specs.Outputs.{send_to, send_to_all, to_primary, start_view_change, prepare_ok, start_line};
 ghost use Rattle.vr_journal.specs.Ready.{IsReady};
 
 use crate::group::primary;
@@ -13,13 +13,13 @@ use crate::Replica;
 use std::alloc::AllocError;
 use vr_header::Header;
 use vr_msg::{
-    Frame, Message, Outbox, Output, PrepareOk, Sent, StartViewChange,
+    Message, Outbox, Output, PrepareOk, Sent, StartViewChange, Started,
 };
 
 impl Replica {
     /// The others hear that it has entered its view.
     #[tactic(auto, using(std::proofs::lemmas::Grind::common_steps, crate::proofs::Sending::sends_more, crate::proofs::Sending::sends_none), unfolding(vr_rules::specs::Outputs::send_to_all, crate::specs::Sends::sends))]
-    pub(crate) fn tell_change(&self, out: &mut Outbox) -> Result<(), AllocError>
+    pub fn tell_change(&self, out: &mut Outbox) -> Result<(), AllocError>
         requires { self.now.view ≤ last_view }
         ensures { OnOk result (out.new ≡ out.old ++ send_to_all start_view_change self.now) }
     {
@@ -42,7 +42,7 @@ impl Replica {
 
     /// Tells the primary that the entry of this header is stored.
     #[tactic(auto, using(crate::proofs::Memory::some_member))]
-    pub(crate) fn acknowledge(&self, header: &Header, out: &mut Outbox) -> Result<(), AllocError>
+    pub fn acknowledge(&self, header: &Header, out: &mut Outbox) -> Result<(), AllocError>
         requires ready { IsReady self.now }
         requires view { self.now.view ≤ last_view }
         requires entry { IsEntryHeader header.now }
@@ -60,6 +60,18 @@ impl Replica {
             from: self.index,
             to: primary(self.n, self.view),
             message: Message::prepare_ok(ok),
+        }))
+    }
+
+    /// Tells that it has recovered.
+    pub fn say_start(&self, out: &mut Outbox) -> Result<(), AllocError>
+        ensures { OnOk result (out.new ≡ out.old ++ start_line self.now) }
+    {
+        out.push(Output::Start(Started {
+            replica: self.index,
+            view: self.view,
+            log_view: self.log_view,
+            commit: self.commit,
         }))
     }
 }

@@ -1,14 +1,14 @@
 //! What a replica has in memory.
 
-use crate::Window;
-use crate::parts::{known_at, known_from, run_of};
+use crate::parts::{known_from, run_of};
+use crate::{Places, Window};
 use std::alloc::{AllocError, Global};
 use std::marker::Model;
 use vr_apply::State;
 use vr_base::{NoMemory, Replicas};
 use vr_ckpt::Table;
 use vr_grid::{Name, NameList};
-use vr_header::{Entry, Header, HeaderList, Part};
+use vr_header::{HeaderList, Part};
 use vr_msg::Statement;
 use vr_super::{Fields, Super};
 
@@ -31,7 +31,7 @@ pub struct Replica {
     pub(crate) parts: Window<Part>,
     pub(crate) ackers: Window<Replicas>,
     pub(crate) heard: Replicas,
-    pub(crate) statements: Window<Option<Statement>>,
+    pub(crate) statements: Places<Statement>,
     pub(crate) idle: u64,
     pub(crate) turn: u8,
     pub(crate) saved: Super,
@@ -67,19 +67,14 @@ impl Model for Replica {
 }
 
 impl Replica {
-    ghost use Rattle.std.specs.Prelude.{◌≡◌, OnOk, IfOk, None, ◌<◌, ◌≤◌, ◌+◌, ◌^◌, length, ◌-◌};
-    ghost use Rattle.vr_rules.specs.Replica.{is_started, is_primary, leads, part_at, with_part, window_end, head, run, header_at, forgetting};
-    ghost use Rattle.vr_rules.specs.Words.{rested, value_of, with_saved, stored, entered, lost, learned};
-    ghost use Rattle.vr_journal.specs.Ready.{IsReady, HasWindow, MayStore};
+    ghost use Rattle.std.specs.Prelude.{◌≡◌, IfOk, ◌<◌, ◌≤◌, ◌+◌, ◌^◌};
+    ghost use Rattle.vr_rules.specs.Replica.{part_at, head, run};
+    ghost use Rattle.vr_rules.specs.Words.{value_of};
+    ghost use Rattle.vr_journal.specs.Ready.{IsReady, HasWindow};
 
-    pub(crate) fn is_started(&self) -> bool
-        ensures { result ≡ is_started self.now }
-    {
-        self.view == self.log_view
-    }
-
+    /// What is known of an op: nothing of forgotten ones and past the window.
     #[tactic(auto, unfolding(vr_rules::specs::Replica::part_at))]
-    pub(crate) fn part_at(&self, op: u64) -> Part
+    pub fn part_at(&self, op: u64) -> Part
         ensures { result ≡ part_at self.now op }
     {
         if op < self.first {
@@ -91,7 +86,7 @@ impl Replica {
 
     /// The greatest op up to which, above the checkpoint, each header is known.
     #[tactic(auto, using(crate::proofs::Memory::bounds), unfolding(vr_rules::specs::Replica::head))]
-    pub(crate) fn head(&self) -> u64
+    pub fn head(&self) -> u64
         requires { HasWindow self.now }
         ensures head { result ≡ head self.now }
         ensures within { result ≤ self.now.checkpoint + 64 }
@@ -102,7 +97,7 @@ impl Replica {
 
     /// The known headers that reach the head without a hole.
     #[tactic(auto, using(crate::proofs::Memory::bounds), unfolding(vr_rules::specs::Replica::run, crate::specs::Runs::run_of))]
-    pub(crate) fn run(&self, alloc: Global) -> Result<HeaderList, AllocError>
+    pub fn run(&self, alloc: Global) -> Result<HeaderList, AllocError>
         requires { HasWindow self.now }
         ensures { IfOk result (λ hs. hs ≡ run self.now) }
     {
@@ -110,8 +105,9 @@ impl Replica {
         run_of(alloc, &self.parts, count)
     }
 
+    // Its numbers as they are saved next.
     #[tactic(auto, using(crate::proofs::Memory::bounds), unfolding(vr_rules::specs::Words::value_of))]
-    pub(crate) fn fields(&self) -> Fields
+    fn fields(&self) -> Fields
         requires window { HasWindow self.now }
         requires room { self.now.saved.fields.sequence + 1 < 2 ^ 64 }
         ensures { result ≡ (value_of self.now).fields }
@@ -133,86 +129,12 @@ impl Replica {
 
     /// What is saved of it.
     #[tactic(auto, using(crate::proofs::Memory::value_is, crate::proofs::Memory::window_of), unfolding(vr_rules::specs::Words::value_of))]
-    pub(crate) fn value(&self, alloc: Global) -> Result<Super, NoMemory>
+    pub fn value(&self, alloc: Global) -> Result<Super, NoMemory>
         requires ready { IsReady self.now }
         requires room { self.now.saved.fields.sequence + 1 < 2 ^ 64 }
         ensures { IfOk result (λ v. v ≡ value_of self.now) }
     {
         let headers = self.run(alloc)?;
         self.saved.next(alloc, self.fields(), headers)
-    }
-
-    #[tactic(auto, unfolding(vr_rules::specs::Replica::with_part))]
-    pub(crate) fn put_part(&mut self, op: u64, part: Part)
-        requires from { self.old.first ≤ op }
-        requires within { op - self.old.first < length self.old.parts }
-        ensures put { self.new ≡ with_part op part self.old }
-        ensures view { self.new.view ≡ self.old.view }
-        ensures saved { self.new.saved ≡ self.old.saved }
-    {
-        let at = (op - self.first) as usize;
-        self.parts.replace(at, part);
-    }
-
-    /// Lets go what stands before the last 64 ops up to the head.
-    #[tactic(auto, using(crate::proofs::Memory::bounds), unfolding(vr_rules::specs::Replica::forgetting))]
-    pub(crate) fn forget(&mut self)
-        requires { HasWindow self.old }
-        ensures forgotten { self.new ≡ forgetting self.old }
-        ensures view { self.new.view ≡ self.old.view }
-        ensures saved { self.new.saved ≡ self.old.saved }
-    {
-        let gone = self.head().saturating_sub(63).saturating_sub(self.first);
-        self.first += gone;
-        self.parts.forget(gone as usize);
-        self.ackers.forget(gone as usize);
-    }
-
-    /// An entry is stored.
-    #[tactic(auto, using(crate::proofs::Memory::window_part))]
-    pub(crate) fn store(&mut self, entry: &Entry)
-        requires window { HasWindow self.old }
-        requires may { MayStore entry.now self.old }
-        ensures stored { self.new ≡ stored entry.now self.old }
-        ensures view { self.new.view ≡ self.old.view }
-        ensures saved { self.new.saved ≡ self.old.saved }
-    {
-        let header = entry.header();
-        let op = header.op;
-        self.put_part(op, Part::Here(header));
-        self.forget();
-    }
-
-    pub(crate) fn rest(&mut self)
-        ensures rested { self.new ≡ rested self.old }
-        ensures view { self.new.view ≡ self.old.view }
-        ensures saved { self.new.saved ≡ self.old.saved }
-    {
-        self.idle = 0;
-    }
-
-    #[tactic(auto, unfolding(vr_rules::specs::Words::learned))]
-    pub(crate) fn learn_commit(&mut self, commit: u64)
-        requires { HasWindow self.old }
-        ensures learned { self.new ≡ learned commit self.old }
-        ensures view { self.new.view ≡ self.old.view }
-        ensures saved { self.new.saved ≡ self.old.saved }
-    {
-        self.commit = self.commit.max(commit.min(self.head()));
-    }
-
-    /// Is of this view from now on, of which it knows nothing.
-    #[tactic(auto, unfolding(vr_rules::specs::Words::entered))]
-    pub(crate) fn turn_to(&mut self, view: u32)
-        requires { HasWindow self.old }
-        ensures entered { self.new ≡ entered view self.old }
-        ensures view { self.new.view ≡ view }
-        ensures saved { self.new.saved ≡ self.old.saved }
-    {
-        self.view = view;
-        self.ackers.fill(Replicas::none());
-        self.statements.clear_items();
-        self.heard = Replicas::none().with(self.index);
-        self.idle = 0;
     }
 }

@@ -4,12 +4,13 @@ ghost use Rattle.vr_rules.specs.Words.{save, write, accept, enter, entered, valu
 ghost use Rattle.vr_rules.specs.Outputs.{send_to_all, start_view_change};
 ghost use Rattle.vr_rules.specs.Steps.{◌⨾◌, change, says};
 ghost use Rattle.vr_rules.specs.Replica.{last_view};
-ghost use Rattle.vr_journal.specs.Does.{Does, Caused};
+ghost use Rattle.vr_step.specs.Does.{Does, Caused};
 ghost use Rattle.vr_journal.specs.Ready.{IsReady, MayStore};
 
 use crate::parts::is_here;
-use crate::{Halt, Replica};
+use crate::Replica;
 use std::alloc::Global;
+use vr_step::Halt;
 use vr_disk::SectorDisk;
 use vr_header::Entry;
 use vr_msg::Outbox;
@@ -17,7 +18,7 @@ use vr_super::Super;
 
 impl Replica {
     /// Saves this value, which is the present one.
-    #[tactic(auto, using(crate::proofs::Stepping::effects, crate::proofs::Memory::readies), unfolding(vr_rules::specs::Words::save))]
+    #[tactic(auto, using(vr_step::proofs::Stepping::effects, crate::proofs::Memory::readies), unfolding(vr_rules::specs::Words::save))]
     fn save_made<D: SectorDisk>(
         &mut self,
         disk: &mut D,
@@ -40,8 +41,8 @@ impl Replica {
     }
 
     /// Saves the present values.
-    #[tactic(auto, using(crate::proofs::Stepping::wants))]
-    pub(crate) fn save<D: SectorDisk>(
+    #[tactic(auto, using(vr_step::proofs::Stepping::wants))]
+    pub fn save<D: SectorDisk>(
         &mut self,
         alloc: Global,
         disk: &mut D,
@@ -61,8 +62,8 @@ impl Replica {
     }
 
     /// Stores an entry.
-    #[tactic(auto, using(crate::proofs::Stepping::effects, crate::proofs::Memory::window_of, crate::proofs::Memory::readies), unfolding(vr_rules::specs::Words::write))]
-    pub(crate) fn write<D: SectorDisk>(
+    #[tactic(auto, using(vr_step::proofs::Stepping::effects, crate::proofs::Memory::window_of, crate::proofs::Memory::readies), unfolding(vr_rules::specs::Words::write))]
+    pub fn write<D: SectorDisk>(
         &mut self,
         disk: &mut D,
         entry: &Entry,
@@ -82,8 +83,8 @@ impl Replica {
     }
 
     /// Stores an entry unless it is stored.
-    #[tactic(auto, using(crate::proofs::Stepping::steps), unfolding(vr_rules::specs::Words::accept))]
-    pub(crate) fn accept<D: SectorDisk>(
+    #[tactic(auto, using(vr_step::proofs::Stepping::steps), unfolding(vr_rules::specs::Words::accept))]
+    pub fn accept<D: SectorDisk>(
         &mut self,
         disk: &mut D,
         entry: &Entry,
@@ -105,7 +106,7 @@ impl Replica {
     }
 
     /// Enters a view, and the others hear of it.
-    #[tactic(auto, using(crate::proofs::Stepping::steps, crate::proofs::Memory::readies, crate::proofs::Memory::window_of))]
+    #[tactic(auto, using(vr_step::proofs::Stepping::steps, crate::proofs::Memory::readies, crate::proofs::Memory::window_of))]
     fn enter_now<D: SectorDisk>(
         &mut self,
         alloc: Global,
@@ -118,6 +119,8 @@ impl Replica {
         requires later { self.old.view ≤ view }
         requires within { view ≤ last_view }
         ensures ready { OnOk result (IsReady self.new) }
+        ensures spent { OnOk result (self.new.saved.fields.sequence ≤ self.old.saved.fields.sequence + 1) }
+        ensures made { OnOk result (self.new ≡ with_saved (entered view self.old)) }
         ensures cause { Caused (D.faults disk.old) (D.faults disk.new) result }
         ensures step { Does (change (entered view) ⨾ save ⨾ says (send_to_all start_view_change)) self.old self.new (D.told disk.old) (D.told disk.new) out.old out.new result }
     {
@@ -128,8 +131,8 @@ impl Replica {
     }
 
     /// Enters a view, and the others hear of it; past the last view there is none to enter.
-    #[tactic(auto, using(crate::proofs::Stepping::steps, crate::proofs::Memory::readies), unfolding(vr_rules::specs::Words::enter))]
-    pub(crate) fn enter<D: SectorDisk>(
+    #[tactic(auto, using(vr_step::proofs::Stepping::steps, crate::proofs::Memory::readies), unfolding(vr_rules::specs::Words::enter))]
+    pub fn enter<D: SectorDisk>(
         &mut self,
         alloc: Global,
         disk: &mut D,
@@ -140,6 +143,8 @@ impl Replica {
         requires room { self.old.saved.fields.sequence + 1 < 2 ^ 64 }
         requires later { self.old.view ≤ view }
         ensures ready { OnOk result (IsReady self.new) }
+        ensures spent { OnOk result (self.new.saved.fields.sequence ≤ self.old.saved.fields.sequence + 1) }
+        ensures made { OnOk result (view ≤ last_view → self.new ≡ with_saved (entered view self.old)) }
         ensures cause { Caused (D.faults disk.old) (D.faults disk.new) result }
         ensures step { Does (enter view) self.old self.new (D.told disk.old) (D.told disk.new) out.old out.new result }
     {

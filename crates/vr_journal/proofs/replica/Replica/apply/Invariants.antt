@@ -1,6 +1,6 @@
 use Rattle.std.proofs.Common.{◌≡◌, ◌+◌, ◌≤◌}
 use Rattle.vr_rules.specs.Words.{apply_next}
-use Rattle.vr_journal.specs.Does.{Looping}
+use Rattle.vr_step.specs.Does.{Looping}
 use Rattle.vr_journal.specs.Ready.{IsReady}
 use Rattle.vr_journal.proofs.replica.Replica.apply.Given as goal
 

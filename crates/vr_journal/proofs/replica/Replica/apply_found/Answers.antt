@@ -1,4 +1,4 @@
-use Rattle.vr_journal.proofs.Stepping.{found_lost}
+use Rattle.vr_step.proofs.Stepping.{found_lost}
 use Rattle.vr_journal.proofs.replica.Replica.apply_found.Goals as goal
 
 pub returns-in-None-clause-step : goal.returns-in-None-clause-step

@@ -1,5 +1,5 @@
 use Rattle.std.proofs.Common.{sym}
-use Rattle.vr_journal.proofs.Begins.{load_then}
+use Rattle.vr_journal.proofs.Loads.{load_then}
 use Rattle.vr_journal.proofs.replica.Replica.load.Goals as goal
 
 pub returns-in_ok-take_load-clause-step : goal.returns-in_ok-take_load-clause-step

@@ -1,5 +1,0 @@
-use Rattle.vr_journal.proofs.Clouds.{window_clouded}
-use Rattle.vr_journal.proofs.replica.Replica.recover_parts.Goals as goal
-
-pub forget-requires : goal.forget-requires
-forget-requires g c = window_clouded _ _ _ c.in_ok-recover_ops.ensures.opening c.cloud.ensures.clouded

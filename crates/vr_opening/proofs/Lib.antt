@@ -1,0 +1,5 @@
+pub mod Slots
+pub mod Olds
+pub mod Clouds
+pub mod Begins
+pub mod Recovers
