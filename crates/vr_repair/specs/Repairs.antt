@@ -1,0 +1,27 @@
+-- Which rule a decision is, and the words of repair with names.
+use Rattle.std.specs.Prelude.{ℕ, Bool, List, is_some}
+use Rattle.vr_grid.specs.Blocks.{named}
+use Rattle.vr_grid.specs.declared.name.Name.{Name}
+use Rattle.vr_header.specs.Made.{Whole}
+use Rattle.vr_msg.specs.declared.output.Output.{Output}
+use Rattle.vr_rules.specs.Deciding.{Rule, Ignored, EntryGiven, EntryTaken, BlockGiven, BlockTaken}
+use Rattle.vr_rules.specs.Outputs.{give_prepare, send_to}
+use Rattle.vr_rules.specs.Replica.{Replica}
+use Rattle.vr_rules.specs.Steps.{Word, says}
+use Rattle.vr_repair.specs.declared.deciding.Repair.{Repair}
+use Rattle.vr_repair.specs.declared.deciding.Repair.TheVariants as repair
+
+abbrev pub rule_of : Repair → Rule
+rule_of repair.Ignored = Ignored
+rule_of repair.EntryGiven = EntryGiven
+rule_of repair.EntryTaken = EntryTaken
+rule_of repair.BlockGiven = BlockGiven
+rule_of (repair.BlockTaken name) = BlockTaken
+
+-- these bytes are the whole block of this name
+abbrev pub is_block : Name → List ℕ → Bool
+is_block name bytes = is_some (named name bytes)
+
+-- an entry that is given to one replica
+abbrev pub gives : {F : Type 0} → ℕ → Whole → Word F
+gives to e = says (λ r. send_to to (give_prepare e r) r)
