@@ -31,7 +31,6 @@ pub runs_from : (cs : List Call) (d d' : Option Disk) (ok : Bool) → Runs cs d 
 runs_from cs None d' ok h = h
 runs_from cs (Some x) d' ok h = h
 
-
 pub write_is_again : (e : Whole) (r : Replica) (d d' : Option Disk) (ok : Bool) → may_be_stored (part_at r e.header.op) ≡ true → Runs (again_calls e) d d' ok → Performs (writes e) r d d' ok
 write_is_again e r d d' ok i h = record { silent = refl; ran = rw i (runs_from (again_calls e) d d' ok h) }
 

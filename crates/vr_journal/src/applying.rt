@@ -13,10 +13,9 @@ ghost use Rattle.vr_step.specs.Does.{Does, Caused, PerformsTo, done};
 ghost use Rattle.vr_header.specs.declared.part.Part.TheVariants.{Here};
 ghost use Rattle.vr_journal.specs.Ready.{IsReady, MayApply, HasApplied, due};
 
-use crate::reading::find_entry;
 use crate::Replica;
+use crate::reading::find_entry;
 use std::alloc::{AllocError, Global};
-use vr_step::Halt;
 use vr_apply::ReplyBody;
 use vr_base::{NoMemory, Replicas, Sum};
 use vr_ckpt::Saved;
@@ -24,6 +23,7 @@ use vr_disk::SectorDisk;
 use vr_grid::CkptFault;
 use vr_header::{Entry, Header, Part};
 use vr_msg::{Answered, Committed, Outbox, Output, Reply, ReplyFields, ReplyKind};
+use vr_step::Halt;
 
 impl Replica {
     /// Writes a checkpoint of the op just applied.
@@ -121,7 +121,13 @@ impl Replica {
     {
         if self.leads() {
             let kind = kind_of(body);
-            self.reply(header.client, header.request, header.request_name, kind, out)
+            self.reply(
+                header.client,
+                header.request,
+                header.request_name,
+                kind,
+                out,
+            )
         } else {
             Ok(())
         }

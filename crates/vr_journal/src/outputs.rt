@@ -8,13 +8,11 @@ ghost use Rattle.vr_rules.specs.Replica.{last_view};
 ghost use Rattle.vr_rules.specs.Outputs.{send_to, send_to_all, to_primary, start_view_change, prepare_ok, start_line};
 ghost use Rattle.vr_journal.specs.Ready.{IsReady};
 
-use crate::group::primary;
 use crate::Replica;
+use crate::group::primary;
 use std::alloc::AllocError;
 use vr_header::Header;
-use vr_msg::{
-    Message, Outbox, Output, PrepareOk, Sent, StartViewChange, Started,
-};
+use vr_msg::{Message, Outbox, Output, PrepareOk, Sent, StartViewChange, Started};
 
 impl Replica {
     /// The others hear that it has entered its view.

@@ -6,7 +6,6 @@ ghost use Rattle.vr_header.specs.declared.part.Part.TheVariants.{Nothing};
 ghost use Rattle.vr_msg.specs.Logs.{has_header, header_of};
 ghost use Rattle.vr_rules.specs.Replica.{is_here, is_absent};
 ghost use Rattle.vr_rules.specs.Words.{may_be_stored};
-
 ghost use Rattle.vr_journal.specs.Runs.{run_of};
 
 use crate::Window;

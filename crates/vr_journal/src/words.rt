@@ -7,13 +7,13 @@ ghost use Rattle.vr_rules.specs.Replica.{last_view};
 ghost use Rattle.vr_step.specs.Does.{Does, Caused};
 ghost use Rattle.vr_journal.specs.Ready.{IsReady, MayStore};
 
-use crate::parts::is_here;
 use crate::Replica;
+use crate::parts::is_here;
 use std::alloc::Global;
-use vr_step::Halt;
 use vr_disk::SectorDisk;
 use vr_header::Entry;
 use vr_msg::Outbox;
+use vr_step::Halt;
 use vr_super::Super;
 
 impl Replica {

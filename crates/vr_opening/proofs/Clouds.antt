@@ -80,9 +80,9 @@ map_shift f g a b zero h = refl
 map_shift f g a b (suc n) h =
     let one : f a ≡ g b = subst (λ k. f k ≡ g b) (omega arith) (subst (λ k. f (a + 0) ≡ g k) (omega arith) (h 0)) in
     let rest = map_shift f g (a + 1) (b + 1) n (λ j.
-        let l : a + suc j ≡ a + 1 + j = omega arith in
-        let m : b + suc j ≡ b + 1 + j = omega arith in
-        subst (λ k. f k ≡ g (b + 1 + j)) l (subst (λ k. f (a + suc j) ≡ g k) m (h (suc j)))) in
+    let l : a + suc j ≡ a + 1 + j = omega arith in
+    let m : b + suc j ≡ b + 1 + j = omega arith in
+    subst (λ k. f k ≡ g (b + 1 + j)) l (subst (λ k. f (a + suc j) ≡ g k) m (h (suc j)))) in
     rw one (ap (λ zs. g b ∷ zs) rest)
 
 cloud_same : (r : Replica) (j : ℕ) → cloud_by r.saved r.first r.parts j ≡ clouded_at r.saved r (r.first + j)
@@ -96,7 +96,7 @@ pub cloud_all : (i : ℕ) (r q : Replica) → i ≡ length r.parts → q ≡ clo
 unfolding cloud_to clouded
 cloud_all i r q e k =
     let whole : map (cloud_by r.saved r.first r.parts) (range_with_len 0 (length r.parts)) ≡ map (clouded_at r.saved r) (range_with_len r.first (length r.parts))
-        = map_shift (cloud_by r.saved r.first r.parts) (clouded_at r.saved r) 0 r.first (length r.parts) (λ j. let z : 0 + j ≡ j = omega arith in rw z (cloud_same r j)) in
+    = map_shift (cloud_by r.saved r.first r.parts) (clouded_at r.saved r) 0 r.first (length r.parts) (λ j. let z : 0 + j ≡ j = omega arith in rw z (cloud_same r j)) in
     k ∙ rw (e, drop_all (length r.parts) r.parts (omega arith), append-nil (map (cloud_by r.saved r.first r.parts) (range_with_len 0 (length r.parts)))) (ap (λ zs. record r { parts = zs }) whole)
 
 cloud_length : (i : ℕ) (r : Replica) → i ≤ length r.parts → length (cloud_to i r).parts ≡ length r.parts

@@ -131,7 +131,7 @@ unfolding each ◌⨾◌ quiet after_all
 each_passing v [] s r f = refl
 each_passing v (h ∷ hs) s r f =
     elim (nat_le h.op v.fields.checkpoint) as (λ b. (when {F = Face} b (recover_old h) ⨾ each (recover_listed v) hs) s r f
-        ≡ each recover_old (cond b (h ∷ filter (λ g. nat_le g.op v.fields.checkpoint) hs) (filter (λ g. nat_le g.op v.fields.checkpoint) hs)) s r f) [
+    ≡ each recover_old (cond b (h ∷ filter (λ g. nat_le g.op v.fields.checkpoint) hs) (filter (λ g. nat_le g.op v.fields.checkpoint) hs)) s r f) [
       | true ↦
           let a : Step = recover_old h s r f in
           ap (λ (b : Step). record { replica = b.replica; script = a.script ++ b.script }) (each_passing v hs s a.replica (after_all s f a.script))

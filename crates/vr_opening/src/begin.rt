@@ -73,7 +73,11 @@ fn tell_view(replica: &Replica, out: &mut Outbox) -> Result<(), AllocError>
 
 /// The others hear of a view that isn't started.
 #[tactic(auto, using(crate::proofs::Begins::announce_then, crate::proofs::Begins::announce_none, crate::proofs::Begins::ready_heard, vr_step::proofs::Stepping::does_no_memory))]
-fn announce<D: SectorDisk>(replica: &mut Replica, _disk: &mut D, out: &mut Outbox) -> Result<(), Halt>
+fn announce<D: SectorDisk>(
+    replica: &mut Replica,
+    _disk: &mut D,
+    out: &mut Outbox,
+) -> Result<(), Halt>
     requires ready { IsReady replica.old }
     ensures ready { OnOk result (IsReady replica.new) }
     ensures cause { Caused (D.faults _disk.old) (D.faults _disk.new) result }

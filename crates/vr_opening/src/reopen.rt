@@ -11,10 +11,10 @@ ghost use Rattle.vr_step.specs.declared.halt.Halt.TheVariants as Halt;
 
 use crate::begin::open_mended;
 use std::alloc::Global;
-use vr_disk::SectorDisk;
-use vr_msg::Outbox;
 use vr_base::Config;
+use vr_disk::SectorDisk;
 use vr_journal::Replica;
+use vr_msg::Outbox;
 use vr_step::Halt;
 use vr_super::{CopyVerdict, Super, SuperFault};
 
