@@ -1,5 +1,6 @@
 -- Which rule a decision is, and the words of repair with names.
-use Rattle.std.specs.Prelude.{ℕ, Bool, List, is_some}
+use Rattle.std.specs.Prelude.{ℕ, Bool, List, Option, None, Some, is_some, slice_get, if◌then◌else◌}
+use Rattle.std.specs.Option.{option_and_then}
 use Rattle.vr_grid.specs.Blocks.{named}
 use Rattle.vr_grid.specs.declared.name.Name.{Name}
 use Rattle.vr_header.specs.Made.{Whole}
@@ -25,3 +26,7 @@ is_block name bytes = is_some (named name bytes)
 -- an entry that is given to one replica
 abbrev pub gives : {F : Type 0} → ℕ → Whole → Word F
 gives to e = says (λ r. send_to to (give_prepare e r) r)
+
+-- the item at a place, where it passes a test
+abbrev pub found_at : {X : Type 0} → (X → Bool) → List X → ℕ → Option X
+found_at p xs i = option_and_then (λ x. if p x then Some x else None) (slice_get xs i)

@@ -1,15 +1,15 @@
 //! Which rule a message of repair leads to.
-ghost use Rattle.std.specs.Prelude.{◌≡◌, Bool, Some, find, if◌then◌else◌};
+ghost use Rattle.std.specs.Prelude.{◌≡◌, Bool, if◌then◌else◌};
 ghost use Rattle.vr_base.specs.Bytes.{name_of};
 ghost use Rattle.vr_journal.specs.Ready.{IsReady, MayStore};
-ghost use Rattle.vr_repair.specs.Repairs.{is_block, rule_of};
-ghost use Rattle.vr_rules.specs.Deciding.{Ignored, first_of, get_block_table, get_prepare_table, give_block_table, give_prepare_table, is_wanted};
+ghost use Rattle.vr_repair.specs.Repairs.{rule_of};
+ghost use Rattle.vr_rules.specs.Deciding.{Ignored, first_of, get_block_table, get_prepare_table, give_prepare_table};
 ghost use Rattle.vr_rules.specs.Replica.{is_absent};
 
-use vr_grid::{Name, is_block_of};
+use vr_grid::Name;
 use vr_header::Part;
 use vr_journal::{Replica, is_here};
-use vr_msg::{GetBlock, GetPrepare, GiveBlock, GivePrepare};
+use vr_msg::{GetBlock, GetPrepare, GivePrepare};
 
 /// What a message of repair leads to, by the name of its rule.
 #[derive(Clone, Copy, Debug, PartialEq, Eq)]
@@ -78,35 +78,5 @@ pub fn decide_get_block(replica: &Replica, get: &GetBlock) -> Repair
         Repair::BlockGiven
     } else {
         Repair::Ignored
-    }
-}
-
-// The name of the missing block that the bytes are.
-#[tactic(auto, using(crate::proofs::Rules::found_more, crate::proofs::Rules::found_here, crate::proofs::Rules::found_past))]
-fn find_missing(replica: &Replica, give: &GiveBlock) -> Option<Name>
-    ensures { result ≡ find (is_wanted is_block give.now) replica.now.missing }
-{
-    let missing = replica.missing().as_slice();
-    for i in 0..missing.len() {
-        let name = missing[i];
-        if name.address == give.address && is_block_of(give.block.as_slice(), &name) {
-            return Some(name);
-        }
-    }
-    None
-}
-
-/// Which rule a give_block leads to. The block that is taken is the whole one of a name that is missing.
-#[tactic(auto, using(crate::proofs::Rules::wanted_some, crate::proofs::Rules::wanted_none), unfolding(vr_rules::specs::Deciding::first_of))]
-pub fn decide_give_block(replica: &Replica, give: &GiveBlock) -> Repair
-    ensures rule { first_of (give_block_table is_block give.now replica.now) ≡ rule_of result }
-    ensures name { (name : Name) → result ≡ Repair.BlockTaken name → find (is_wanted is_block give.now) replica.now.missing ≡ Some name }
-{
-    if !replica.is_from(give.cluster, give.replica) {
-        return Repair::Ignored;
-    }
-    match find_missing(replica, give) {
-        Some(name) => Repair::BlockTaken(name),
-        None => Repair::Ignored,
     }
 }

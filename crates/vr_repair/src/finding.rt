@@ -1,16 +1,13 @@
 //! What a replica reads to give it, or to tell of it.
-ghost use Rattle.std.specs.Prelude.{◌≡◌, ◌≤◌, IfOk, IfSome, OnOk, length};
+ghost use Rattle.std.specs.Prelude.{◌≡◌, ◌≤◌, IfOk, IfSome, OnOk};
 ghost use Rattle.vr_header.specs.declared.part.Part.TheVariants.{Here};
 ghost use Rattle.vr_journal.specs.Ready.{IsReady};
 ghost use Rattle.vr_repair.specs.Reads.{Reads};
 ghost use Rattle.vr_rules.specs.Replica.{part_at};
-ghost use Rattle.vr_rules.specs.Rules.{block_at};
-ghost use Rattle.vr_step.specs.Does.{Finds};
 
-use std::alloc::{AllocError, Global};
-use vr_base::{ByteList, NoMemory, Seq};
-use vr_disk::{Buffer, SectorDisk};
-use vr_grid::{Name, read_block};
+use std::alloc::Global;
+use vr_base::NoMemory;
+use vr_disk::SectorDisk;
 use vr_header::{Entry, Header, Part};
 use vr_journal::{Replica, find_entry};
 
@@ -61,32 +58,5 @@ pub fn read_entry<D: SectorDisk>(
     match replica.part_at(op) {
         Part::Here(header) => read_stored(replica, alloc, disk, &header),
         _ => Ok(None),
-    }
-}
-
-fn bytes_of(alloc: Global, buffer: &Buffer) -> Result<ByteList, AllocError>
-    ensures { IfOk result (λ bytes. bytes ≡ buffer.now) }
-{
-    let mut bytes = Seq::new(alloc);
-    bytes.extend(buffer.as_slice())?;
-    Ok(bytes)
-}
-
-/// The whole block that reads under this name, of 4,096 bytes; `None` where none does.
-#[tactic(auto, using(crate::proofs::Reading::block_found, crate::proofs::Reading::block_none))]
-pub fn find_block<D: SectorDisk>(
-    alloc: Global,
-    disk: &mut D,
-    name: &Name,
-) -> Result<Option<ByteList>, NoMemory>
-    ensures told { D.told disk.new ≡ D.told disk.old }
-    ensures faults { D.faults disk.new ≡ D.faults disk.old }
-    ensures found { IfOk result (λ block. Finds (block_at name.now) (D.told disk.old) (D.told disk.new) block) }
-    ensures size { IfOk result (λ block. IfSome block (λ bytes. length bytes ≡ 4096)) }
-{
-    let mut buffer = Buffer::new(alloc)?;
-    match read_block(disk, name, &mut buffer) {
-        Err(_) => Ok(None),
-        Ok(_) => Ok(Some(bytes_of(alloc, &buffer)?)),
     }
 }

@@ -3,7 +3,6 @@
 //! Each word and each rule has one clause on replica, disk and outputs: that what it does is the word of the definitions.
 #![tactic(auto)]
 
-mod blocks;
 mod commits;
 mod deciding;
 mod entries;
@@ -11,10 +10,9 @@ mod finding;
 mod missing;
 mod retelling;
 
-pub use blocks::{handle_get_block, handle_give_block};
 pub use commits::advance;
-pub use deciding::Repair;
+pub use deciding::{Repair, decide_get_block, decide_get_prepare, decide_give_prepare};
 pub use entries::{handle_get_prepare, handle_give_prepare};
-pub use finding::{find_block, read_entry};
+pub use finding::read_entry;
 pub use missing::{ask, put_block};
 pub use retelling::{prepare_again, resend};

@@ -3,7 +3,7 @@ use Rattle.std.specs.List.{prefix_len}
 use Rattle.vr_msg.specs.Choice.{ops}
 use Rattle.vr_rules.specs.Replica.{head}
 use Rattle.vr_rules.specs.Words.{has_quorum}
-use Rattle.vr_journal.proofs.repairing.Replica.agreed.Given as goal
+use Rattle.vr_journal.proofs.replica.Replica.agreed.Given as goal
 
 abbrev pub invariant-loop-op : goal.invariant-loop-op
 invariant-loop-op l = record {
