@@ -141,7 +141,7 @@ fn entry_kind(replica: &Replica, op: u64, seen: &Seen) -> PrepareReading
 
 /// What is known of an op.
 #[tactic(auto, unfolding(crate::specs::Finding::verdict_by))]
-fn verdict(replica: &Replica, op: u64, seen: &Seen) -> Verdict
+fn judge(replica: &Replica, op: u64, seen: &Seen) -> Verdict
     ensures { result ≡ verdict_by replica.now.saved op seen.now.header seen.now.entry }
 {
     verdict(
@@ -223,7 +223,7 @@ pub fn recover_op<D: SectorDisk>(
     ensures step { Does (recover_op replica.old.saved op) replica.old replica.new (D.told disk.old) (D.told disk.new) out.old out.new result }
 {
     let seen = look(disk, op, buffer);
-    let verdict = verdict(replica, op, &seen);
+    let verdict = judge(replica, op, &seen);
     match mend(replica, disk, &seen.entry, verdict, out) {
         Ok(()) => {
             let part = part_from(replica, op, &seen, verdict);

@@ -37,7 +37,7 @@ fn save<D: SectorDisk>(disk: &mut D, bytes: &[u8]) -> Result<(), DiskFailed>
 }
 
 /// Writes a value to all four copies of a disk that has none to be mended.
-pub fn format<D: SectorDisk>(disk: &mut D, value: &Super) -> Result<(), DiskFault>
+pub fn write_copies<D: SectorDisk>(disk: &mut D, value: &Super) -> Result<(), DiskFault>
     ensures runs { Runs (save_from 0 4 (copy_bytes value.now)) (D.told disk.old) (D.told disk.new) (is_ok result) }
     ensures cause { HasCause (D.faults disk.old) (D.faults disk.new) result }
 {
