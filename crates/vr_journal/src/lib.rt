@@ -13,6 +13,9 @@ mod parts;
 mod places;
 mod reading;
 mod replica;
+mod stating;
+mod taking;
+mod telling;
 mod window;
 mod words;
 
@@ -21,4 +24,5 @@ pub use parts::{has_header, header_of, is_here, same_header};
 pub use places::Places;
 pub use reading::find_entry;
 pub use replica::Replica;
+pub use taking::Log;
 pub use window::Window;
