@@ -15,6 +15,9 @@ mod places;
 mod reading;
 mod repairing;
 mod replica;
+mod stating;
+mod taking;
+mod telling;
 mod window;
 mod words;
 
@@ -23,4 +26,5 @@ pub use parts::{has_header, header_of, is_here, same_header};
 pub use places::Places;
 pub use reading::find_entry;
 pub use replica::Replica;
+pub use taking::Log;
 pub use window::Window;
