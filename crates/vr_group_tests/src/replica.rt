@@ -3,7 +3,7 @@ use std::test::Fail;
 use vr_base::Seq;
 use vr_header::Operation;
 use vr_msg::{Event, Frame, Message, Outbox, Output, ReplyKind, Request, RequestFields, Sent};
-use vr_replica::Replica;
+use vr_memory::Replica;
 
 /// Client 7 registers.
 fn register() -> Request {

@@ -11,7 +11,7 @@ use crate::replicas::{ask_at, deliver_at};
 use std::alloc::Global;
 use vr_base::{NoMemory, Seq};
 use vr_msg::{Outbox, Request, Sent};
-use vr_replica::Replica;
+use vr_memory::Replica;
 
 /// The replicas of a group, and every message that they have sent.
 #[derive(Drop)]
