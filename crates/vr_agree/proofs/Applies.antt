@@ -1,4 +1,4 @@
--- Apply: each commit line, with the reply behind it; and the other words, which reply nothing.
+-- Apply: each commit line, with the reply after it; and the other words, which reply nothing.
 use Rattle.std.proofs.Common.{ℕ, suc, ◌+◌, ◌-◌, ◌≡◌, ◌∙◌, arith, refl, sym, ap, subst, Bool, true, false, cond, eqb, List, [], ◌∷◌, ◌++◌, map, length, take, Option, Some, None}
 use Rattle.std.specs.Prelude.{slice_get, nat_lt, not, ◌&&◌}
 use Rattle.std.proofs.lemmas.Bool.{and_parts, eq-eqb, eqb-true}
@@ -21,7 +21,7 @@ use Rattle.vr_msg.specs.declared.choice.Choice.{Choice}
 use Rattle.vr_msg.specs.declared.choice.Choice.TheVariants.{Ends, WaitsAt, TooFew}
 use Rattle.vr_msg.specs.Choice.{ops}
 use Rattle.vr_grid.specs.declared.name.Name.{Name}
-use Rattle.vr_model.proofs.Stored.{answer_next, repeat_stored, state_next}
+use Rattle.vr_apply.proofs.Stored.{answer_next, repeat_stored, state_next}
 use Rattle.vr_rules.specs.Outputs.{kind_of, replies, asker_of, commit_line, applied_reply, send, send_to, send_to_all, others, to_primary, prepare, prepare_ok, start_view, start_view_change, do_view_change, get_block, get_prepare, wait_line}
 use Rattle.vr_rules.specs.Replica.{Replica, leads, part_at, with_part, forgetting, last_view, is_primary, is_started, is_here}
 use Rattle.vr_rules.specs.Steps.{Say, Setting, Word, ◌⨾◌, quiet, change, does, says, by, reading, when, times, each, outputs, after_all}

@@ -21,7 +21,7 @@ use Rattle.vr_safe.specs.Chains.{Setup}
 use Rattle.vr_safe.specs.Reflecting.{entries_by}
 use Rattle.vr_rules.specs.Commitment as said
 use Rattle.vr_rules.specs.Commitment.{HasSent, IsCommitted, HasQuorum}
-use Rattle.vr_rules.specs.Safe.{outputs}
+use Rattle.vr_rules.specs.Safe.{run_outputs}
 use Rattle.vr_agree.specs.Followed.{IsFollowed, IsFrom}
 use Rattle.vr_agree.proofs.Sets.{in_get, set_of}
 use Rattle.vr_agree.proofs.Traces.{came, from_of, outputs_front, vouch_said}
@@ -33,15 +33,15 @@ same_sum_is a b h = let bytes = (bytes_eq-Decides a.0 b.0).0 h in λ i. record {
 sent_is : (s : Sent) (r : ℕ) (m : Frame) → s.from ≡ r → s.message ≡ m → s ≡ record { from = r; to = s.to; message = m }
 sent_is s r m e f = λ i. record { from = e i; to = s.to; message = f i }
 
-module _ (cluster n : ℕ) (u : Setup) (run : List Played) (x : IsFollowed cluster n u run) (t : ℕ) (within : t ≤ length run) (outs : List Output) (has : (o : Output) → In o (outputs (take t run)) → In o outs) where
-  has_sent : (s : Sent) (r : ℕ) (m : Frame) → In (output.Send s) (outputs (take t run)) → s.from ≡ r → s.message ≡ m → HasSent outs r m
+module _ (cluster n : ℕ) (u : Setup) (run : List Played) (x : IsFollowed cluster n u run) (t : ℕ) (within : t ≤ length run) (outs : List Output) (has : (o : Output) → In o (run_outputs (take t run)) → In o outs) where
+  has_sent : (s : Sent) (r : ℕ) (m : Frame) → In (output.Send s) (run_outputs (take t run)) → s.from ≡ r → s.message ≡ m → HasSent outs r m
   has_sent s r m i e f =
       let y = in_get outs (output.Send s) (has (output.Send s) i) in
       record { at = y.0; to = s.to; is = subst (λ (w : Sent). slice_get outs y.0 ≡ Some (output.Send w)) (sent_is s r m e f) y.1 }
 
   vouch_back : (view k r : ℕ) (c : Header) → c.op ≡ k → Vouches u.quorums (x.group t).sent r view k c → said.Vouches n outs view r c
   vouch_back view k r c op (inl i) =
-      let y = vouch_said u (outputs (take t run)) (machine.Prepare_ok r view k c) (came cluster n u run x t within (machine.Prepare_ok r view k c) i) in
+      let y = vouch_said u (run_outputs (take t run)) (machine.Prepare_ok r view k c) (came cluster n u run x t within (machine.Prepare_ok r view k c) i) in
       let s = y.0 in
       let a = y.1 in
       let from : s.from ≡ a.replica = subst (IsFrom s.from) y.3 (from_of cluster n u run x s (outputs_front run t (output.Send s) y.2)) in
@@ -49,7 +49,7 @@ module _ (cluster n : ℕ) (u : Setup) (run : List Played) (x : IsFollowed clust
   vouch_back view k r c op (inr p) =
       let i = p.1.1 in
       let m = machine.Prepare r view k c p.1.0 in
-      let y = vouch_said u (outputs (take t run)) m (came cluster n u run x t within m i) in
+      let y = vouch_said u (run_outputs (take t run)) m (came cluster n u run x t within m i) in
       let s = y.0 in
       let a = y.1 in
       let from : s.from ≡ a.replica = subst (IsFrom s.from) y.3 (from_of cluster n u run x s (outputs_front run t (output.Send s) y.2)) in

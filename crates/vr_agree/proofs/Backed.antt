@@ -31,7 +31,7 @@ use Rattle.vr_protocol.proofs.Moves.{reached_good}
 use Rattle.vr_safe.specs.Chains.{Setup, WasSent}
 use Rattle.vr_safe.specs.Reflecting.{entries_by}
 use Rattle.vr_rules.specs.Commitment.{IsCommitted, AreCommitted, IsBackedMessage, IsLine}
-use Rattle.vr_rules.specs.Safe.{IsHashed, IsOutput, KeepsEntry, CarriesEntry, wrote, given, before, outputs}
+use Rattle.vr_rules.specs.Safe.{IsHashed, IsOutput, KeepsEntry, CarriesEntry, wrote, given, before, run_outputs}
 use Rattle.vr_rules.specs.Safe as safe
 use Rattle.vr_safe.specs.Finished.{AreBacked, IsNumbered}
 use Rattle.vr_agree.specs.Followed.{IsFollowed, IsGoodEntry, IsLineOf}
@@ -66,7 +66,7 @@ module _ (cluster n : ℕ) (u : Setup) (run : List Played) (x : IsFollowed clust
     earlier = before run move number p
 
     back_then : (v k : ℕ) (c : Header) → law.Committed u.quorums (entries_by u.hash u.cluster) (x.group move).sent v k c → IsCommitted cluster n earlier v c
-    back_then = back cluster n u run x move within earlier (λ o i. in_left (outputs (take move run)) (take number p.moved.outputs) o i)
+    back_then = back cluster n u run x move within earlier (λ o i. in_left (run_outputs (take move run)) (take number p.moved.outputs) o i)
 
     pub backed_numbers : (view commit : ℕ) → AreBacked u (x.group move).sent view commit → AreCommitted cluster n earlier (the_log cluster n u run x) view commit
     backed_numbers view commit f op z l =
@@ -112,7 +112,7 @@ module _ (cluster n : ℕ) (u : Setup) (run : List Played) (x : IsFollowed clust
 
   -- ---- an entry that is committed
 
-  module _ (view : ℕ) (c : Header) (fits : IsHeader c) (never : NoCollision (IsHashed run c)) (above : 0 < c.op) (committed : IsCommitted cluster n (outputs run) view c) where
+  module _ (view : ℕ) (c : Header) (fits : IsHeader c) (never : NoCollision (IsHashed run c)) (above : 0 < c.op) (committed : IsCommitted cluster n (run_outputs run) view c) where
     is : CommittedAt cluster n u run x view c.op c × WasWritten run c
     is = is_committed cluster n u run x c never view c fits given above committed
 
@@ -128,7 +128,7 @@ module _ (cluster n : ℕ) (u : Setup) (run : List Played) (x : IsFollowed clust
     abbrev Was : Frame → Type 0
     Was f = WasSent u end.sent f
 
-    carries : (s : Sent) (m : Frame) → s.message ≡ m → In (output.Send s) (outputs run) → CarriesEntry view c m
+    carries : (s : Sent) (m : Frame) → s.message ≡ m → In (output.Send s) (run_outputs run) → CarriesEntry view c m
     carries s (frame.Prepare m) e i = λ less op.
         let told = subst (λ (f : Frame). Was f) e (sent_of cluster n u run x s i) in
         lasts.prepared m.replica m.view m.entry.header m.commit (subst (λ k. In (machine.Prepare m.replica m.view k m.entry.header m.commit) end.sent) op told) (omega arith)
@@ -149,7 +149,7 @@ module _ (cluster n : ℕ) (u : Setup) (run : List Played) (x : IsFollowed clust
     carries s (frame.GetBlock m) e i = tt
     carries s (frame.GiveBlock m) e i = tt
 
-    keeps : (o : Output) → In o (outputs run) → KeepsEntry view c o
+    keeps : (o : Output) → In o (run_outputs run) → KeepsEntry view c o
     keeps (output.Send s) i = carries s s.message refl i
     keeps (output.Choose l) i =
         λ less.

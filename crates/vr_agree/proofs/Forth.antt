@@ -25,7 +25,7 @@ use Rattle.vr_safe.proofs.Counting.{size_count}
 use Rattle.vr_safe.proofs.Making.{logged_made}
 use Rattle.vr_rules.specs.Commitment as said
 use Rattle.vr_rules.specs.Commitment.{IsCommitted, HasQuorum}
-use Rattle.vr_rules.specs.Safe.{IsHashed, wrote, IsWritten, outputs}
+use Rattle.vr_rules.specs.Safe.{IsHashed, wrote, IsWritten, run_outputs}
 use Rattle.vr_rules.specs.Safe as safe
 use Rattle.vr_agree.specs.Followed.{IsFollowed}
 use Rattle.vr_agree.proofs.Sets.{get_in}
@@ -55,15 +55,15 @@ module _ (cluster n : ℕ) (u : Setup) (run : List Played) (x : IsFollowed clust
   name_same h = ap (λ (f : List ℕ → List ℕ). name_by f h) x.hash_is
 
   -- who vouches by outputs vouches in the machine, for a header of that name
-  pub vouch_told : (view r : ℕ) (c : Header) → said.Vouches n (outputs run) view r c → (h : Header) × VouchedFor r view c.op h × (header_name h ≡ header_name c)
+  pub vouch_told : (view r : ℕ) (c : Header) → said.Vouches n (run_outputs run) view r c → (h : Header) × VouchedFor r view c.op h × (header_name h ≡ header_name c)
   vouch_told view r c (said.acknowledged a s of_view of_op name) =
-      let i = get_in (outputs run) s.at _ s.is in
+      let i = get_in (run_outputs run) s.at _ s.is in
       let told = sent_of cluster n u run x _ i in
       let from : r ≡ a.replica = from_of cluster n u run x _ i in
       let is = ok_is told.0 a.replica r a.view view a.op c.op (sym from) of_view of_op in
       (told.0, inl (subst (λ (m : Message Header). In m end.sent) is told.2), sym (name_same told.0) ∙ (told.1 ∙ name))
   vouch_told view r c (said.prepared p s leads of_view same) =
-      let i = get_in (outputs run) s.at _ s.is in
+      let i = get_in (run_outputs run) s.at _ s.is in
       let told = sent_of cluster n u run x _ i in
       let from : r ≡ p.replica = from_of cluster n u run x _ i in
       let is = prepare_is p.entry.header c p.replica r p.view view p.commit (sym from) of_view same in
@@ -100,7 +100,7 @@ module _ (cluster n : ℕ) (u : Setup) (run : List Played) (x : IsFollowed clust
       pub committed : CommittedAt view c.op header
       pub written : 0 < c.op → WasWritten run header × (header_name header ≡ header_name c)
 
-    pub told : (view : ℕ) (c : Header) → IsCommitted cluster n (outputs run) view c → Told view c
+    pub told : (view : ℕ) (c : Header) → IsCommitted cluster n (run_outputs run) view c → Told view c
     told _ _ said.root = record { header = root_by u.hash u.cluster; committed = at_root; written = λ l. absurd (omega (arith, l)) }
     told _ _ (said.stands_on earlier view d c prior le stands quorum) =
         let before = told earlier d prior in
@@ -124,7 +124,7 @@ module _ (cluster n : ℕ) (u : Setup) (run : List Played) (x : IsFollowed clust
         record { header = h; committed = subst (λ (k : ℕ). CommittedAt view k h) (sym op) done; written = λ l. (wh, v.2) }
 
     -- the header itself, where its bytes count among those hashed
-    pub is_committed : (view : ℕ) (c : Header) → IsHeader c → IsHashed run c0 (named_bytes c) → 0 < c.op → IsCommitted cluster n (outputs run) view c → CommittedAt view c.op c × WasWritten run c
+    pub is_committed : (view : ℕ) (c : Header) → IsHeader c → IsHashed run c0 (named_bytes c) → 0 < c.op → IsCommitted cluster n (run_outputs run) view c → CommittedAt view c.op c × WasWritten run c
     is_committed view c fits hashed above h =
         let t = told view c h in
         let w = t.written above in

@@ -221,32 +221,23 @@ next_backs r t =
     rw off refl
 
 module _ {F : Type 0} (s : Setting F) where
-  abbrev leaves : Word F
-  leaves = by (λ r. cond (not (is_spent r)) opening.leave_view quiet)
-
-  abbrev goes_on : Word F
-  goes_on = by (λ r. cond (not (is_spent r)) (words.load ⨾ (words.apply ⨾ opening.announce)) quiet)
-
-  -- one that isn't spent doesn't lead then
-  leaves_backs : (r : Replica) (d : F) → is_spent (leaves s r d).replica ≡ false → Backs (leaves s r d).replica
+  -- it doesn't lead then
+  left_backs : (r : Replica) (d : F) → Backs (opening.leave_view s r d).replica
   unfolding by change quiet ◌⨾◌ words.save does
-  leaves_backs r d =
+  left_backs r d =
       let left : (c : Bool) → leads r ≡ c → Backs ((cond c (change opening.in_next_view ⨾ words.save) quiet) s r d).replica = elim [ true ↦ λ t. next_backs r t | false ↦ λ t. t ] in
-      let go : (b : Bool) → not (is_spent r) ≡ b → is_spent ((cond b opening.leave_view quiet) s r d).replica ≡ false → Backs ((cond b opening.leave_view quiet) s r d).replica = elim [
-        | true ↦ λ t free. left (leads r) refl
-        | false ↦ λ t free. absurd (true≢false (sym (ap not free) ∙ t))
-      ] in
-      go (not (is_spent r)) refl
+      left (leads r) refl
 
-  goes_on_said : (r : Replica) (d : F) → (is_spent r ≡ false → Backs r) → Every IsHush (outputs (goes_on s r d).script)
-  unfolding by quiet outputs
-  goes_on_said r d h =
+  going_on_said : (r : Replica) (d : F) → Every IsHush (outputs (opening.going_on s r d).script)
+  unfolding says outputs
+  going_on_said r d =
       let all : Hush Backs {F = F} (words.load ⨾ (words.apply ⨾ opening.announce)) = hush_then Backs words.load _ hush_load (hush_then Backs words.apply opening.announce hush_apply hush_announce) in
-      let go : (b : Bool) → not (is_spent r) ≡ b → Every IsHush (outputs ((cond b (words.load ⨾ (words.apply ⨾ opening.announce)) quiet) s r d).script) = elim [
-        | true ↦ λ t. (all.each s r d (h (not-true (is_spent r) t))).said
-        | false ↦ λ t. tt
-      ] in
-      go (not (is_spent r)) refl
+      both_said opening.leave_view _ s r d (hush_leave.each s r d tt).said
+      (λ c. let q = (opening.leave_view s r d).replica in both_said (says start_line) _ s q c (tt, tt) (λ e. (all.each s q e (left_backs r d)).said))
+
+  resuming_said : (r : Replica) (d : F) → Every IsHush (outputs (opening.resuming s r d).script)
+  unfolding by says outputs
+  resuming_said r d = cond_both (is_spent r) (says start_line) opening.going_on (λ (w : Word F). Every IsHush (outputs (w s r d).script)) (λ t. (tt, tt)) (λ t. going_on_said r d)
 
   opening_said : (v : Saved) (f : F) → Every IsHush (outputs (opening.opening v s (opening.blank v) f).script)
   unfolding opening.opening does says outputs
@@ -254,10 +245,7 @@ module _ {F : Type 0} (s : Setting F) where
       let r0 = opening.blank v in
       both_said (does (λ r. Mend v)) _ s r0 f tt
       (λ d1. both_said (opening.recover_parts v) _ s r0 d1 ((hush_parts v).each s r0 d1 tt).said
-      (λ d2.
-      let r1 = (opening.recover_parts v s r0 d1).replica in
-      both_said leaves _ s r1 d2 ((hush_by Any _ (λ r. hush_if Any (not (is_spent r)) opening.leave_view quiet hush_leave (hush_quiet Any))).each s r1 d2 tt).said
-      (λ d3. let r2 = (leaves s r1 d2).replica in both_said (says start_line) goes_on s r2 d3 (tt, tt) (λ d4. goes_on_said r2 d4 (leaves_backs r1 d2)))))
+      (λ d2. resuming_said (opening.recover_parts v s r0 d1).replica d2))
 
   -- an opening replies nothing
   pub opening_silent : (v : Saved) (f : F) (a : ReplyFields) → In (output.Reply a) (outputs (opening.opening v s (opening.blank v) f).script) → ⊥

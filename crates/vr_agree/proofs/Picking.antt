@@ -45,8 +45,9 @@ use Rattle.vr_msg.specs.declared.output.Output.TheVariants as output
 use Rattle.vr_msg.specs.declared.output.Output.{Output}
 use Rattle.vr_msg.specs.declared.request.RequestFields.{RequestFields}
 use Rattle.vr_msg.specs.declared.statement.Statement.{Statement}
+use Rattle.vr_rules.proofs.SilentWaits.{IsPlain, Mute, plain_are, mute_all, mute_apply, mute_by, mute_change, mute_each, mute_if, mute_naming, mute_one, mute_prepare_again, mute_quiet, mute_reading, mute_take, mute_then}
+use Rattle.vr_rules.proofs.SilentSteps.{still_enter, still_ask, mute_commit, mute_get_block, mute_get_prepare, mute_get_view, mute_give_block, mute_give_prepare, mute_prepare, mute_prepare_ok, mute_request, mute_start_view}
 use Rattle.vr_rules.proofs.SendsScripts.{outputs_append, outputs_said}
-use Rattle.vr_rules.proofs.SendsScripts.{outputs_append}
 use Rattle.vr_rules.specs.Deciding.{is_from, start_view_change_table, do_view_change_table, tick_table, Rule, Hash, Redirected, Behind, Answered, Full, Made, PreparedLater, Past, Beyond, Known, Next, Ahead, Other, Counted, CommitLater, CommitHeard, Taken, ViewGiven, EntryGiven, EntryTaken, BlockGiven, BlockTaken}
 use Rattle.vr_rules.specs.Outputs as told
 use Rattle.vr_rules.specs.Rules as rules
@@ -65,219 +66,26 @@ module _ (P : Chosen → Type 0) where
   abbrev MayPick : Replica → Type 0
   MayPick r = (hs : List Header) → decided r ≡ Ends hs → P (line_of r hs)
 
+  plain_picked : (o : Output) → IsPlain o → IsPicked o
+  plain_picked (output.Wait line) h = tt
+  plain_picked (output.Send s) h = tt
+  plain_picked (output.Reply a) h = tt
+  plain_picked (output.Commit c) h = tt
+  plain_picked (output.Choose c) h = absurd h
+  plain_picked (output.Start s) h = tt
+  plain_picked (output.Halted r) h = tt
+  plain_picked output.Done h = tt
+  plain_picked output.KeptOut h = tt
+
   module _ {F : Type 0} where
-    pub record Picks (w : Word F) : Type 0 where
-      pub said : (s : Setting F) (r : Replica) (f : F) → All IsPicked (outputs (w s r f).script)
-
-    picks_then : (v w : Word F) → Picks v → Picks w → Picks (v ⨾ w)
-    unfolding ◌⨾◌
-    picks_then v w h k = record {
-      said = λ s r f.
-          let a = v s r f in
-          let b = w s a.replica (after_all s f a.script) in
-          rw (outputs_append a.script b.script) (All-append IsPicked (outputs a.script) (outputs b.script) (h.said s r f) (k.said s a.replica (after_all s f a.script)));
-    }
-
-    picks_quiet : Picks quiet
-    unfolding quiet outputs
-    picks_quiet = record { said = λ s r f. All-nil IsPicked }
-
-    picks_change : (g : Replica → Replica) → Picks (change g)
-    unfolding change outputs
-    picks_change g = record { said = λ s r f. All-nil IsPicked }
-
-    picks_does : (e : Replica → Effect) → ((r : Replica) → outputs (e r ∷ []) ≡ []) → Picks (does e)
-    unfolding does
-    picks_does e n = record { said = λ s r f. rw (n r) (All-nil IsPicked) }
-
-    picks_says : (os : Replica → List Output) → ((r : Replica) → All IsPicked (os r)) → Picks (says os)
-    unfolding says
-    picks_says os n = record { said = λ s r f. rw (outputs_said (os r)) (n r) }
-
-    picks_by : (w : Replica → Word F) → ((r : Replica) → Picks (w r)) → Picks (by w)
-    unfolding by
-    picks_by w h = record { said = λ s r f. (h r).said s r f }
-
-    picks_naming : (w : (List ℕ → List ℕ) → Word F) → ((hash : List ℕ → List ℕ) → Picks (w hash)) → Picks (naming w)
-    unfolding naming
-    picks_naming w h = record { said = λ s r f. (h s.hash).said s r f }
-
-    picks_reading : {X : Type 0} (g : Setting F → F → X) (w : X → Word F) → ((x : X) → Picks (w x)) → Picks (reading g w)
-    unfolding reading
-    picks_reading g w h = record { said = λ s r f. (h (g s f)).said s r f }
-
-    picks_if : (b : Bool) (v w : Word F) → Picks v → Picks w → Picks (cond b v w)
-    picks_if true v w h k = h
-    picks_if false v w h k = k
-
-    picks_times : (n : ℕ) (w : Word F) → Picks w → Picks (times n w)
-    unfolding times
-    picks_times zero w h = picks_quiet
-    picks_times (suc n) w h = picks_then w (times n w) h (picks_times n w h)
-
-    picks_each : {X : Type 0} (w : X → Word F) (xs : List X) → ((x : X) → Picks (w x)) → Picks (each w xs)
-    unfolding each
-    picks_each w [] h = picks_quiet
-    picks_each w (x ∷ xs) h = picks_then (w x) (each w xs) (h x) (picks_each w xs h)
-
-    -- ---- words
-
-    picks_one : (o : Replica → Output) → ((r : Replica) → IsPicked (o r)) → Picks (says (λ r. o r ∷ []))
-    picks_one o n = picks_says _ (λ r. All-cons IsPicked (o r) [] (n r) (All-nil IsPicked))
-
-    picks_all : (message : Replica → Frame) → Picks (says (told.send_to_all message))
-    unfolding told.send_to_all
-    picks_all message = picks_says _ (λ r. All-map IsPicked (λ to. told.send to (message r) r) (told.others r.index r.n) (λ k d l. tt))
-
-    picks_save : Picks words.save
-    unfolding words.save outputs
-    picks_save = picks_then _ _ (picks_does _ (λ r. refl)) (picks_change _)
-
-    picks_write : (e : Whole) → Picks (words.write e)
-    unfolding words.write outputs
-    picks_write e = picks_then _ _ (picks_does _ (λ r. refl)) (picks_change _)
-
-    picks_or_lost : (h : Header) (w : Whole → Word F) (e : Option Whole) → ((e : Whole) → Picks (w e)) → Picks (words.or_lost h w e)
-    picks_or_lost h w None k = picks_change _
-    picks_or_lost h w (Some e) k = k e
-
-    picks_part : (w : Whole → Word F) (p : Part) → ((e : Whole) → Picks (w e)) → Picks (words.with_entry w p)
-    picks_part w (Here h) k = picks_reading _ _ (λ e. picks_or_lost h w e k)
-    picks_part w (Lost h) k = picks_quiet
-    picks_part w (Wanted h) k = picks_quiet
-    picks_part w Unknown k = picks_quiet
-    picks_part w Nothing k = picks_quiet
-
-    picks_entry : (op : ℕ) (w : Whole → Word F) → ((e : Whole) → Picks (w e)) → Picks (words.with_entry_at op w)
-    unfolding words.with_entry_at
-    picks_entry op w k = picks_by _ (λ r. picks_part w _ k)
-
-    picks_reply : (e : Whole) → Picks (says (told.applied_reply e))
-    picks_reply e =
-        picks_says _ (λ r. cond_both (leads r) (told.replies (told.asker_of e) (told.kind_of _) r) [] (λ os. All IsPicked os) (λ _. All-cons IsPicked _ [] tt (All-nil IsPicked)) (λ _. All-nil IsPicked))
-
-    picks_checkpoint : Picks words.make_checkpoint
-    unfolding words.make_checkpoint outputs
-    picks_checkpoint = picks_by _ (λ r. picks_reading _ _ (λ c. picks_then _ _ (picks_does _ (λ r. refl)) (picks_then _ _ (picks_change _) picks_save)))
-
-    picks_apply_entry : (e : Whole) → Picks (words.apply_entry e)
-    unfolding words.apply_entry
-    picks_apply_entry e =
-        picks_then _ _ (picks_one _ (λ r. tt)) (picks_then _ _ (picks_reply e) (picks_then _ _ (picks_change _) (picks_by _ (λ r. picks_if _ _ _ picks_checkpoint picks_quiet))))
-
-    picks_apply : Picks words.apply
-    unfolding words.apply words.apply_next
-    picks_apply = picks_by _ (λ r. picks_times _ _ (picks_by _ (λ r. picks_if _ _ _ (picks_entry _ _ picks_apply_entry) picks_quiet)))
-
-    picks_take : (l : words.Log) → Picks (words.take l)
-    unfolding words.take
-    picks_take l = picks_then _ _ (picks_change _) picks_save
-
-    picks_prepare_again : (op : ℕ) → Picks (words.prepare_again op)
-    unfolding words.prepare_again
-    picks_prepare_again op = picks_entry op _ (λ e. picks_all _)
-
-    picks_advance : Picks words.advance
-    unfolding words.advance
-    picks_advance = picks_then _ _ (picks_change _) picks_apply
-
-    picks_learn : (c : ℕ) → Picks (words.learn c)
-    unfolding words.learn
-    picks_learn c = picks_then _ _ (picks_change _) picks_apply
-
-    picks_accept : (e : Whole) → Picks (words.accept e)
-    unfolding words.accept
-    picks_accept e = picks_by _ (λ r. picks_if _ _ _ (picks_write e) picks_quiet)
-
-    picks_resend : (e : Whole) → Picks (words.resend e)
-    unfolding words.resend
-    picks_resend e = picks_naming _ (λ hash. picks_by _ (λ r. picks_if _ _ _ (picks_if _ _ _ (picks_all _) (picks_one _ (λ r. tt))) picks_quiet))
-
-    picks_load : Picks words.load
-    unfolding words.load
-    picks_load = picks_by _ (λ r. picks_if _ _ _ (picks_reading _ _ (λ l. picks_change _)) picks_quiet)
-
-    picks_replies : (a : told.Asker) (x : SessionAnswer) → Picks (rules.stored_reply a x)
-    picks_replies a answer.Fresh = picks_quiet
-    picks_replies a (answer.Repeat outcome op) = picks_one _ (λ r. tt)
-    picks_replies a answer.Old = picks_one _ (λ r. tt)
-    picks_replies a answer.Gap = picks_one _ (λ r. tt)
-    picks_replies a answer.Evicted = picks_one _ (λ r. tt)
-
-    picks_request : (hash : Hash) (q : RequestFields) (rule : Rule) → Picks (rules.obey_request hash q rule)
-    unfolding rules.make
-    picks_request hash q Redirected = picks_one _ (λ r. tt)
-    picks_request hash q Behind = picks_one _ (λ r. tt)
-    picks_request hash q Answered = picks_by _ (λ r. picks_replies _ _)
-    picks_request hash q Full = picks_one _ (λ r. tt)
-    picks_request hash q Made = picks_by _ (λ r. picks_then _ _ (picks_write _) (picks_then _ _ (picks_all _) picks_advance))
-    picks_request hash q _ = picks_quiet
-
-    picks_prepare : (hash : Hash) (p : Prepare) (rule : Rule) → Picks (rules.obey_prepare hash p rule)
-    picks_prepare hash p PreparedLater = picks_one _ (λ r. tt)
-    picks_prepare hash p Past = picks_then _ _ (picks_change _) (picks_learn _)
-    picks_prepare hash p Beyond = picks_change _
-    picks_prepare hash p Known = picks_then _ _ (picks_change _) (picks_then _ _ (picks_accept _) (picks_then _ _ (picks_one _ (λ r. tt)) (picks_learn _)))
-    picks_prepare hash p Next = picks_then _ _ (picks_change _) (picks_then _ _ (picks_write _) (picks_then _ _ (picks_one _ (λ r. tt)) (picks_learn _)))
-    picks_prepare hash p Ahead = picks_then _ _ (picks_change _) (picks_then _ _ (picks_one _ (λ r. tt)) (picks_learn _))
-    picks_prepare hash p Other = picks_change _
-    picks_prepare hash p _ = picks_quiet
-
-    picks_prepare_ok : (a : PrepareOk) (rule : Rule) → Picks (rules.obey_prepare_ok a rule)
-    picks_prepare_ok a Counted = picks_then _ _ (picks_change _) picks_advance
-    picks_prepare_ok a _ = picks_quiet
-
-    picks_commit : (c : Commit) (rule : Rule) → Picks (rules.obey_commit c rule)
-    picks_commit c CommitLater = picks_one _ (λ r. tt)
-    picks_commit c CommitHeard = picks_then _ _ (picks_change _) (picks_then _ _ (picks_by _ (λ r. picks_if _ _ _ (picks_one _ (λ r. tt)) picks_quiet)) (picks_learn _))
-    picks_commit c _ = picks_quiet
-
-    picks_acknowledged : (hash : Hash) (h : Option Header) → Picks (option_map_or (rules.acknowledge hash) h quiet)
-    picks_acknowledged hash None = picks_quiet
-    picks_acknowledged hash (Some h) = picks_one _ (λ r. tt)
-
-    picks_stored : (hash : Hash) (op : ℕ) → Picks (rules.acknowledge_stored hash op)
-    unfolding rules.acknowledge_stored
-    picks_stored hash op = picks_by _ (λ r. picks_if _ _ _ (picks_acknowledged hash _) picks_quiet)
-
-    picks_start_view : (hash : Hash) (v : StartView) (rule : Rule) → Picks (rules.obey_start_view hash v rule)
-    picks_start_view hash v Taken = picks_then _ _ (picks_take _) (picks_then _ _ (picks_by _ (λ r. picks_each _ _ (picks_stored hash))) picks_apply)
-    picks_start_view hash v _ = picks_quiet
-
-    picks_get_view : (g : GetView) (rule : Rule) → Picks (rules.obey_get_view g rule)
-    picks_get_view g ViewGiven = picks_one _ (λ r. tt)
-    picks_get_view g _ = picks_quiet
-
-    picks_get_prepare : (g : GetPrepare) (rule : Rule) → Picks (rules.obey_get_prepare g rule)
-    picks_get_prepare g EntryGiven = picks_entry _ _ (λ e. picks_one _ (λ r. tt))
-    picks_get_prepare g _ = picks_quiet
-
-    picks_give_prepare : (g : GivePrepare) (rule : Rule) → Picks (rules.obey_give_prepare g rule)
-    picks_give_prepare g EntryTaken = picks_then _ _ (picks_write _) (picks_then _ _ (picks_resend _) picks_apply)
-    picks_give_prepare g _ = picks_quiet
-
-    picks_read : (g : GetBlock) (block : Option (List ℕ)) → Picks (rules.give_read g block)
-    picks_read g None = picks_quiet
-    picks_read g (Some block) = picks_one _ (λ r. tt)
-
-    picks_get_block : (g : GetBlock) (block : Option (List ℕ)) (rule : Rule) → Picks (rules.obey_get_block g block rule)
-    picks_get_block g block BlockGiven = picks_read g block
-    picks_get_block g block _ = picks_quiet
-
-    picks_put : (block : List ℕ) (name : Option Name) → Picks (rules.put_found block name)
-    unfolding rules.put_block outputs
-    picks_put block None = picks_quiet
-    picks_put block (Some name) =
-        picks_then _ _ (picks_then _ _ (picks_does _ (λ r. refl)) (picks_then _ _ (picks_change _) (picks_by _ (λ r. picks_if _ _ _ picks_load picks_quiet)))) picks_apply
-
-    picks_give_block : (is_block : Name → List ℕ → Bool) (g : GiveBlock) (rule : Rule) → Picks (rules.obey_give_block is_block g rule)
-    picks_give_block is_block g BlockTaken = picks_by _ (λ r. picks_put _ _)
-    picks_give_block is_block g _ = picks_quiet
-
     -- ---- at one replica
 
     abbrev PicksAt : Setting F → Replica → F → Word F → Type 0
     PicksAt s r f w = All IsPicked (outputs (w s r f).script)
+
+    -- a word that says neither waits nor choices
+    plain : {w : Word F} → Mute w → (s : Setting F) (r : Replica) (f : F) → PicksAt s r f w
+    plain {w} m s r f = plain_are IsPicked plain_picked (outputs (w s r f).script) (m.said s r f)
 
     at_then : (v w : Word F) (s : Setting F) (r : Replica) (f : F) → PicksAt s r f v → ((d : F) → PicksAt s (v s r f).replica d w) → PicksAt s r f (v ⨾ w)
     unfolding ◌⨾◌
@@ -296,45 +104,32 @@ module _ (P : Chosen → Type 0) where
     begin_at hs s r f p =
         let l = words.chosen_log r (stated r) hs in
         at_then (says (words.choose_line (stated r) l)) _ s r f (rw (outputs_said (words.choose_line (stated r) l r)) (All-cons IsPicked _ [] p (All-nil IsPicked)))
-        (λ d. (picks_then _ _ (picks_take l) (picks_then _ _ (picks_all _) (picks_then _ _ (picks_by _ (λ r. picks_each _ _ picks_prepare_again)) picks_apply))).said s r d)
+        (λ d. plain (mute_then _ _ (mute_take l) (mute_then _ _ (mute_all _) (mute_then _ _ (mute_by _ (λ r. mute_each _ _ mute_prepare_again)) mute_apply))) s r d)
 
-    waits_at : (op : ℕ) → Picks (says (told.wait_line op))
-    waits_at op = picks_says (told.wait_line op) (λ r. All-cons IsPicked _ [] tt (All-nil IsPicked))
+    waits_at : (op : ℕ) (s : Setting F) (r : Replica) (f : F) → PicksAt s r f (says (told.wait_line op))
+    unfolding says
+    waits_at op s r f = rw (outputs_said (told.wait_line op r)) (All-cons IsPicked _ [] tt (All-nil IsPicked))
 
     choice_at : (c : Choice) (s : Setting F) (r : Replica) (f : F) → decided r ≡ c → MayPick r → PicksAt s r f (words.obey_choice (stated r) c)
     unfolding words.try_log naming by
-    choice_at TooFew s r f e may = picks_quiet.said s r f
-    choice_at (WaitsAt op) s r f e may = (waits_at op).said s r f
+    choice_at TooFew s r f e may = plain mute_quiet s r f
+    choice_at (WaitsAt op) s r f e may = waits_at op s r f
     choice_at (Ends hs) s r f e may =
         let l = words.chosen_log r (stated r) hs in
-        at_if (words.may_take s.hash l r) (words.begin_view (stated r) l) (says (told.wait_line l.head)) s r f (λ t. begin_at hs s r f (may hs e)) (λ t. (waits_at l.head).said s r f)
+        at_if (words.may_take s.hash l r) (words.begin_view (stated r) l) (says (told.wait_line l.head)) s r f (λ t. begin_at hs s r f (may hs e)) (λ t. waits_at l.head s r f)
 
     try_at : (s : Setting F) (r : Replica) (f : F) → MayPick r → PicksAt s r f words.try
     unfolding words.try by
-    try_at s r f may = at_if (is_primary r && not (is_started r)) (words.obey_choice (stated r) (decided r)) quiet s r f (λ t. choice_at (decided r) s r f refl may) (λ t. picks_quiet.said s r f)
+    try_at s r f may = at_if (is_primary r && not (is_started r)) (words.obey_choice (stated r) (decided r)) quiet s r f (λ t. choice_at (decided r) s r f refl may) (λ t. plain mute_quiet s r f)
 
-    says_statement : Picks (says (told.to_primary told.do_view_change))
-    says_statement = picks_says (told.to_primary told.do_view_change) (λ r. All-cons IsPicked _ [] tt (All-nil IsPicked))
+    says_statement : Mute {F = F} (says (told.to_primary told.do_view_change))
+    says_statement = mute_one _ (λ r. tt)
 
     speak_at : (s : Setting F) (r : Replica) (f : F) → MayPick r → PicksAt s r f words.speak
     unfolding words.speak by
     speak_at s r f may =
         at_if (nat_le (view_change r.n) (size r.heard)) (cond (is_primary r) words.try (says (told.to_primary told.do_view_change))) quiet s r f
-        (λ t. at_if (is_primary r) words.try (says (told.to_primary told.do_view_change)) s r f (λ t. try_at s r f may) (λ t. says_statement.said s r f)) (λ t. picks_quiet.said s r f)
-
-    picks_enter : (v : ℕ) → Picks (words.enter v)
-    unfolding words.enter
-    picks_enter v = picks_if _ _ _ (picks_change _) (picks_then _ _ (picks_change _) (picks_then _ _ picks_save (picks_all _)))
-
-    picks_ask_for : (names : List Name) (absent : Option Header) → Picks (words.ask_for names absent)
-    unfolding words.ask_peer
-    picks_ask_for (name ∷ names) absent = picks_then _ _ (picks_one _ (λ r. tt)) (picks_change _)
-    picks_ask_for [] (Some h) = picks_naming _ (λ hash. picks_then _ _ (picks_one _ (λ r. tt)) (picks_change _))
-    picks_ask_for [] None = picks_quiet
-
-    picks_ask : Picks words.ask
-    unfolding words.ask
-    picks_ask = picks_by _ (λ r. picks_ask_for _ _)
+        (λ t. at_if (is_primary r) words.try (says (told.to_primary told.do_view_change)) s r f (λ t. try_at s r f may) (λ t. plain says_statement s r f)) (λ t. plain mute_quiet s r f)
 
 -- ---- what was heard
 
@@ -458,7 +253,7 @@ module _ {F : Type 0} (s : Setting F) (o : Replica) (f : F) (sound : IsSound o) 
   unfolding change
   heard_at e c x d h =
       let Q = IsChosenBy e o in
-      at_then Q (change (rules.heard_of c.replica)) words.speak s x d ((picks_change Q (rules.heard_of c.replica)).said s x d) (λ d. speak_at Q s (rules.heard_of c.replica x) d (may_pick e o (rules.heard_of c.replica x) h))
+      at_then Q (change (rules.heard_of c.replica)) words.speak s x d (plain Q (mute_change (rules.heard_of c.replica)) s x d) (λ d. speak_at Q s (rules.heard_of c.replica x) d (may_pick e o (rules.heard_of c.replica x) h))
 
   -- rules 20 and 21
   change_at : (c : StartViewChange) → Right (event.Deliver (frame.StartViewChange c)) (rules.on_start_view_change c)
@@ -466,8 +261,8 @@ module _ {F : Type 0} (s : Setting F) (o : Replica) (f : F) (sound : IsSound o) 
   change_at c =
       let e = event.Deliver (frame.StartViewChange c) in
       let Q = IsChosenBy e o in
-      let idle : Right e quiet = (picks_quiet Q).said s o f in
-      let told_view : Right e (rules.tell_view c.replica) = (picks_one Q _ (λ r. tt)).said s o f in
+      let idle : Right e quiet = plain Q mute_quiet s o f in
+      let told_view : Right e (rules.tell_view c.replica) = plain Q (mute_one _ (λ r. tt)) s o f in
       let heard : (x : Replica) (d : F) → GoesOn o x → PicksAt Q s x d (change (rules.heard_of c.replica) ⨾ words.speak) =
       λ x d g. heard_at e c x d (hears_none e o (rules.heard_of c.replica x) (no_brought c) (goes_heard c.replica o x g)) in
       by_rows (λ z. Right e (rules.obey_start_view_change c z)) (start_view_change_table c o) (
@@ -475,7 +270,7 @@ module _ {F : Type 0} (s : Setting F) (o : Replica) (f : F) (sound : IsSound o) 
         λ n0. (
           λ t. idle,
           λ n1. (
-            λ t. at_then Q (words.enter c.view) _ s o f ((picks_enter Q c.view).said s o f) (λ d. heard (words.enter c.view s o f).replica d (entered_is c.view s o f sound (ltb-true o.view c.view t))),
+            λ t. at_then Q (words.enter c.view) _ s o f (plain Q (still_enter c.view).mute s o f) (λ d. heard (words.enter c.view s o f).replica d (entered_is c.view s o f sound (ltb-true o.view c.view t))),
             λ n2. (λ t. heard o f (goes_itself o sound), λ n3. (λ t. told_view, λ n4. idle)),
           ),
         ),
@@ -493,15 +288,15 @@ module _ {F : Type 0} (s : Setting F) (o : Replica) (f : F) (sound : IsSound o) 
       let e = event.Deliver (frame.DoViewChange d) in
       let Q = IsChosenBy e o in
       let y = rules.with_statement d.replica d.statement x in
-      at_then Q (change (rules.with_statement d.replica d.statement)) words.try s x g ((picks_change Q (rules.with_statement d.replica d.statement)).said s x g) (λ k. try_at Q s y k (may_pick e o y (hears_statement d o x h member)))
+      at_then Q (change (rules.with_statement d.replica d.statement)) words.try s x g (plain Q (mute_change (rules.with_statement d.replica d.statement)) s x g) (λ k. try_at Q s y k (may_pick e o y (hears_statement d o x h member)))
 
   statement_at : (d : DoViewChange) → Right (event.Deliver (frame.DoViewChange d)) (rules.on_do_view_change d)
   unfolding rules.on_do_view_change by quiet
   statement_at d =
       let e = event.Deliver (frame.DoViewChange d) in
       let Q = IsChosenBy e o in
-      let idle : Right e quiet = (picks_quiet Q).said s o f in
-      let told_view : Right e (rules.tell_view d.replica) = (picks_one Q _ (λ r. tt)).said s o f in
+      let idle : Right e quiet = plain Q mute_quiet s o f in
+      let told_view : Right e (rules.tell_view d.replica) = plain Q (mute_one _ (λ r. tt)) s o f in
       by_rows (λ z. Right e (rules.obey_do_view_change d z)) (do_view_change_table d o) (
         λ t. idle,
         λ n0. (
@@ -515,7 +310,7 @@ module _ {F : Type 0} (s : Setting F) (o : Replica) (f : F) (sound : IsSound o) 
                   let first : Word F = by (λ r. cond (nat_lt r.view d.view) (words.enter d.view) quiet) in
                   let rest : Word F = change (rules.with_statement d.replica d.statement) ⨾ words.try in
                   let on : GoesOn o (first s o f).replica = entered_or d (nat_lt o.view d.view) refl in
-                  at_then Q first rest s o f ((picks_by Q _ (λ r. picks_if Q (nat_lt r.view d.view) (words.enter d.view) quiet (picks_enter Q d.view) (picks_quiet Q))).said s o f)
+                  at_then Q first rest s o f (plain Q (mute_by _ (λ r. mute_if (nat_lt r.view d.view) (words.enter d.view) quiet (still_enter d.view).mute mute_quiet)) s o f)
                   (λ g. try_stated d (first s o f).replica g on (let m = on.n in omega arith)),
               λ n3. idle,
             ),
@@ -529,52 +324,52 @@ module _ {F : Type 0} (s : Setting F) (o : Replica) (f : F) (sound : IsSound o) 
   tick_at =
       let e = event.Tick in
       let Q = IsChosenBy e o in
-      let next : Picks Q rules.next_view = picks_by Q _ (λ r. picks_enter Q (r.view + 1)) in
-      let asks = picks_ask Q in
-      let idles : Picks Q (change rules.idler) = picks_change Q rules.idler in
+      let next : Mute rules.next_view = mute_by _ (λ r. (still_enter (r.view + 1)).mute) in
+      let asks = still_ask.mute in
+      let idles : Mute (change rules.idler) = mute_change rules.idler in
       let x = rules.idler o in
       let on = hears_none e o x (λ i. refl) (goes_idler o sound) in
       let speaks : (d : F) → PicksAt Q s x d (says (told.send_to_all told.start_view_change) ⨾ (words.speak ⨾ words.ask)) =
-      λ d. at_then Q (says (told.send_to_all told.start_view_change)) (words.speak ⨾ words.ask) s x d ((picks_all Q told.start_view_change).said s x d)
-      (λ g. at_then Q words.speak words.ask s x g (speak_at Q s x g (may_pick e o x on)) (λ h. asks.said s (words.speak s x g).replica h)) in
+      λ d. at_then Q (says (told.send_to_all told.start_view_change)) (words.speak ⨾ words.ask) s x d (plain Q (mute_all told.start_view_change) s x d)
+      (λ g. at_then Q words.speak words.ask s x g (speak_at Q s x g (may_pick e o x on)) (λ h. plain Q asks s (words.speak s x g).replica h)) in
       by_rows (λ z. Right e (rules.obey_tick z)) (tick_table o) (
-        λ t. (picks_then Q (says (told.send_to_all told.commit_message)) _ (picks_all Q told.commit_message)
-            (picks_then Q (by (λ r. cond (nat_lt r.commit (head r)) (words.prepare_again (r.commit + 1)) quiet)) words.ask (picks_by Q _ (λ r. picks_if Q (nat_lt r.commit (head r)) (words.prepare_again (r.commit + 1)) quiet (picks_prepare_again Q (r.commit + 1)) (picks_quiet Q))) asks)).said s o f,
+        λ t. plain Q (mute_then (says (told.send_to_all told.commit_message)) _ (mute_all told.commit_message)
+            (mute_then (by (λ r. cond (nat_lt r.commit (head r)) (words.prepare_again (r.commit + 1)) quiet)) words.ask (mute_by _ (λ r. mute_if (nat_lt r.commit (head r)) (words.prepare_again (r.commit + 1)) quiet (mute_prepare_again (r.commit + 1)) mute_quiet)) asks)) s o f,
         λ n0. (
-          λ t. (picks_then Q (change rules.idler) (by (λ r. cond (nat_le 5 r.idle) rules.next_view words.ask)) idles (picks_by Q _ (λ r. picks_if Q (nat_le 5 r.idle) rules.next_view words.ask next asks))).said s o f,
+          λ t. plain Q (mute_then (change rules.idler) (by (λ r. cond (nat_le 5 r.idle) rules.next_view words.ask)) idles (mute_by _ (λ r. mute_if (nat_le 5 r.idle) rules.next_view words.ask next asks))) s o f,
           λ n1. (
-            λ t. at_then Q (change rules.idler) (by (λ r. cond (nat_le 10 r.idle) rules.next_view (says (told.send_to_all told.start_view_change) ⨾ (words.speak ⨾ words.ask)))) s o f (idles.said s o f)
-                (λ d. at_if Q (nat_le 10 x.idle) rules.next_view (says (told.send_to_all told.start_view_change) ⨾ (words.speak ⨾ words.ask)) s x d (λ t. next.said s x d) (λ t. speaks d)),
-            λ n2. (picks_quiet Q).said s o f,
+            λ t. at_then Q (change rules.idler) (by (λ r. cond (nat_le 10 r.idle) rules.next_view (says (told.send_to_all told.start_view_change) ⨾ (words.speak ⨾ words.ask)))) s o f (plain Q idles s o f)
+                (λ d. at_if Q (nat_le 10 x.idle) rules.next_view (says (told.send_to_all told.start_view_change) ⨾ (words.speak ⨾ words.ask)) s x d (λ t. plain Q next s x d) (λ t. speaks d)),
+            λ n2. plain Q mute_quiet s o f,
           ),
         ),
       )
 
   message_at : (m : Frame) → Right (event.Deliver m) (rules.on_message m)
   unfolding rules.on_request rules.on_prepare rules.on_prepare_ok rules.on_commit rules.on_start_view rules.on_get_view rules.on_get_prepare rules.on_give_prepare rules.on_get_block rules.on_give_block
-  message_at (frame.Request q) = let Q = IsChosenBy (event.Deliver (frame.Request q)) o in (picks_naming Q _ (λ hash. picks_by Q _ (λ r. picks_request Q hash q _))).said s o f
-  message_at (frame.Reply a) = (picks_quiet (IsChosenBy (event.Deliver (frame.Reply a)) o)).said s o f
-  message_at (frame.Prepare p) = let Q = IsChosenBy (event.Deliver (frame.Prepare p)) o in (picks_naming Q _ (λ hash. picks_by Q _ (λ r. picks_prepare Q hash p _))).said s o f
-  message_at (frame.PrepareOk a) = let Q = IsChosenBy (event.Deliver (frame.PrepareOk a)) o in (picks_naming Q _ (λ hash. picks_by Q _ (λ r. picks_prepare_ok Q a _))).said s o f
-  message_at (frame.Commit c) = let Q = IsChosenBy (event.Deliver (frame.Commit c)) o in (picks_by Q _ (λ r. picks_commit Q c _)).said s o f
+  message_at (frame.Request q) = let Q = IsChosenBy (event.Deliver (frame.Request q)) o in plain Q (mute_naming _ (λ hash. mute_by _ (λ r. mute_request hash q _))) s o f
+  message_at (frame.Reply a) = plain (IsChosenBy (event.Deliver (frame.Reply a)) o) mute_quiet s o f
+  message_at (frame.Prepare p) = let Q = IsChosenBy (event.Deliver (frame.Prepare p)) o in plain Q (mute_naming _ (λ hash. mute_by _ (λ r. mute_prepare hash p _))) s o f
+  message_at (frame.PrepareOk a) = let Q = IsChosenBy (event.Deliver (frame.PrepareOk a)) o in plain Q (mute_naming _ (λ hash. mute_by _ (λ r. mute_prepare_ok a _))) s o f
+  message_at (frame.Commit c) = let Q = IsChosenBy (event.Deliver (frame.Commit c)) o in plain Q (mute_by _ (λ r. mute_commit c _)) s o f
   message_at (frame.StartViewChange c) = change_at c
   message_at (frame.DoViewChange d) = statement_at d
-  message_at (frame.StartView v) = let Q = IsChosenBy (event.Deliver (frame.StartView v)) o in (picks_naming Q _ (λ hash. picks_by Q _ (λ r. picks_start_view Q hash v _))).said s o f
-  message_at (frame.GetView g) = let Q = IsChosenBy (event.Deliver (frame.GetView g)) o in (picks_by Q _ (λ r. picks_get_view Q g _)).said s o f
-  message_at (frame.GetPrepare g) = let Q = IsChosenBy (event.Deliver (frame.GetPrepare g)) o in (picks_naming Q _ (λ hash. picks_by Q _ (λ r. picks_get_prepare Q g _))).said s o f
-  message_at (frame.GivePrepare g) = let Q = IsChosenBy (event.Deliver (frame.GivePrepare g)) o in (picks_by Q _ (λ r. picks_give_prepare Q g _)).said s o f
-  message_at (frame.GetBlock g) = let Q = IsChosenBy (event.Deliver (frame.GetBlock g)) o in (picks_reading Q _ _ (λ block. picks_by Q _ (λ r. picks_get_block Q g block _))).said s o f
-  message_at (frame.GiveBlock g) = let Q = IsChosenBy (event.Deliver (frame.GiveBlock g)) o in (picks_reading Q _ _ (λ is_block. picks_by Q _ (λ r. picks_give_block Q is_block g _))).said s o f
+  message_at (frame.StartView v) = let Q = IsChosenBy (event.Deliver (frame.StartView v)) o in plain Q (mute_naming _ (λ hash. mute_by _ (λ r. mute_start_view hash v _))) s o f
+  message_at (frame.GetView g) = let Q = IsChosenBy (event.Deliver (frame.GetView g)) o in plain Q (mute_by _ (λ r. mute_get_view g _)) s o f
+  message_at (frame.GetPrepare g) = let Q = IsChosenBy (event.Deliver (frame.GetPrepare g)) o in plain Q (mute_naming _ (λ hash. mute_by _ (λ r. mute_get_prepare g _))) s o f
+  message_at (frame.GivePrepare g) = let Q = IsChosenBy (event.Deliver (frame.GivePrepare g)) o in plain Q (mute_by _ (λ r. mute_give_prepare g _)) s o f
+  message_at (frame.GetBlock g) = let Q = IsChosenBy (event.Deliver (frame.GetBlock g)) o in plain Q (mute_reading _ _ (λ block. mute_by _ (λ r. mute_get_block g block _))) s o f
+  message_at (frame.GiveBlock g) = let Q = IsChosenBy (event.Deliver (frame.GiveBlock g)) o in plain Q (mute_reading _ _ (λ is_block. mute_by _ (λ r. mute_give_block is_block g _))) s o f
 
   event_at : (e : Event) → Right e (rules.on_event e)
   unfolding rules.on_request
-  event_at (event.Request q) = let Q = IsChosenBy (event.Request q) o in (picks_naming Q _ (λ hash. picks_by Q _ (λ r. picks_request Q hash q _))).said s o f
+  event_at (event.Request q) = let Q = IsChosenBy (event.Request q) o in plain Q (mute_naming _ (λ hash. mute_by _ (λ r. mute_request hash q _))) s o f
   event_at (event.Deliver m) = message_at m
   event_at event.Tick = tick_at
 
   react_at : (e : Event) → Right e (rules.react e)
   unfolding rules.react by
-  react_at e = at_if (IsChosenBy e o) (not (is_frozen o)) (rules.on_event e) quiet s o f (λ t. event_at e) (λ t. (picks_quiet (IsChosenBy e o)).said s o f)
+  react_at e = at_if (IsChosenBy e o) (not (is_frozen o)) (rules.on_event e) quiet s o f (λ t. event_at e) (λ t. plain (IsChosenBy e o) mute_quiet s o f)
 
   -- each choose line of a step
   pub chosen_by : (e : Event) (l : Chosen) → Contains (outputs (rules.react e s o f).script) (output.Choose l) → IsChosenBy e o l

@@ -14,7 +14,7 @@ use Rattle.vr_msg.specs.declared.output.Output.{Output}
 use Rattle.vr_msg.specs.declared.output.Output.TheVariants as output
 use Rattle.vr_msg.specs.declared.output.Committed.{Committed}
 use Rattle.vr_msg.specs.declared.reply.ReplyFields.{ReplyFields}
-use Rattle.vr_rules.specs.Group.{Arrival, Group, Member, Move, Moved, Moves, Played, Run, Runs, Starts, Steps, ended, finished, fresh_group, fresh_member, goes, starts, starts_cut, steps, stops, cuts, stepped, started, mended, resumed, once_mended, opening_script, cut_in_two, carried_out, cut_after, found, keeps_all}
+use Rattle.vr_rules.specs.Group.{Arrival, Group, Member, Move, Moved, Moves, Played, Run, Runs, Recovers, Steps, ended, finished, fresh_group, fresh_member, goes, recovers, recovers_cut, steps, crashes, cuts, stepped, started, mended, resumed, once_mended, opening_script, cut_in_two, carried_out, cut_after, found, keeps_all}
 use Rattle.vr_rules.specs.Replica.{Replica, is_frozen}
 use Rattle.vr_rules.specs.Opening.{blank, fresh}
 use Rattle.vr_rules.specs.Rules.{react}
@@ -196,14 +196,14 @@ module _ (cluster n : ℕ) (u : Setup) (run : List Played) (x : IsFollowed clust
       let same : step.replica ≡ q = (let o : Some step.replica ≡ Some q = e' in cc) in
       subst (λ r. is_frozen r ≡ false → HasState log r) same (had_after t p is at arrival e f m r refl refl runs (have at m r runs)) free)
   moved_have t g _ _ is (cuts at arrival e f k m r runs came) have = changed_have log g _ at (record (cut_after k (stepped e r f).script m) { replica = None }) refl have (λ q e' free. absurd cc)
-  moved_have t g _ _ is (stops at m member) have = changed_have log g _ at (record m { replica = None }) refl have (λ q e' free. absurd cc)
-  moved_have t g _ _ is (starts at v d m opens) have =
+  moved_have t g _ _ is (crashes at m member) have = changed_have log g _ at (record m { replica = None }) refl have (λ q e' free. absurd cc)
+  moved_have t g _ _ is (recovers at v d m opens) have =
       let h = started g at m v d in
-      let p : Played = record { before = g; move = Starts at v d; moved = h } in
+      let p : Played = record { before = g; move = Recovers at v d; moved = h } in
       changed_have log g h.group at (record (carried_out (resumed v d).script (once_mended v d m)) { replica = Some (resumed v d).replica }) refl have (λ q e' free.
       let same : (resumed v d).replica ≡ q = (let o : Some (resumed v d).replica ≡ Some q = e' in cc) in
       subst (λ r. is_frozen r ≡ false → HasState log r) same (y.opens never log (is_log cluster n u run x) t at p v d is refl) free)
-  moved_have t g _ _ is (starts_cut at v f k m opens) have = changed_have log g _ at (record (cut_in_two (mended v f).script (resumed v f).script (keeps_all (found v f)) k m) { replica = None }) refl have (λ q e' free. absurd cc)
+  moved_have t g _ _ is (recovers_cut at v f k m opens) have = changed_have log g _ at (record (cut_in_two (mended v f).script (resumed v f).script (keeps_all (found v f)) k m) { replica = None }) refl have (λ q e' free. absurd cc)
 
   -- a group that was just made
   fresh_have : AllHave log (fresh_group cluster n)
@@ -266,9 +266,9 @@ module _ (cluster n : ℕ) (u : Setup) (run : List Played) (x : IsFollowed clust
         ] in
         go (is_frozen r) refl
     reply_of_move g _ _ is (cuts at arrival e f k m r runs came) there = absurd cc
-    reply_of_move g _ _ is (stops at m member) there = absurd cc
-    reply_of_move g _ _ is (starts at v f m opens) there = absurd (opening_silent lying v f a (subst (λ (s : Step). In (output.Reply a) (outputs s.script)) (sym (opening_in_two v f)) (get_in (outputs (opening_script v f)) number (output.Reply a) there)))
-    reply_of_move g _ _ is (starts_cut at v f k m opens) there = absurd cc
+    reply_of_move g _ _ is (crashes at m member) there = absurd cc
+    reply_of_move g _ _ is (recovers at v f m opens) there = absurd (opening_silent lying v f a (subst (λ (s : Step). In (output.Reply a) (outputs s.script)) (sym (opening_in_two v f)) (get_in (outputs (opening_script v f)) number (output.Reply a) there)))
+    reply_of_move g _ _ is (recovers_cut at v f k m opens) there = absurd cc
 
     pub true_reply : (p : Played) → slice_get run t ≡ Some p → slice_get p.moved.outputs number ≡ Some (output.Reply a) → IsTrueReply cluster n log run t number p a
     true_reply p is there = reply_of_move p.before p.move p.moved is (move_of (fresh_group cluster n) run y.of_run t p is) there

@@ -23,7 +23,7 @@ use Rattle.vr_protocol.specs.Members as machine
 use Rattle.vr_safe.specs.Chains.{Setup, Every, WasSent}
 use Rattle.vr_safe.specs.Finished.{IsSaid, acknowledged, prepared, a_commit, a_start, a_statement}
 use Rattle.vr_safe.proofs.Finishing.{said_more, true_more}
-use Rattle.vr_rules.specs.Safe.{outputs}
+use Rattle.vr_rules.specs.Safe.{run_outputs}
 use Rattle.vr_agree.specs.Followed.{IsFrom, IsGoodEntry, IsSo, IsFollowed}
 use Rattle.vr_agree.proofs.Sets.{get_in, in_left, in_right, every_at, in_get}
 
@@ -44,31 +44,31 @@ every_in P xs x i h = let p = in_get xs x i in every_at P xs p.0 x p.1 h
 
 -- ---- outputs of a run
 
-pub outputs_next : (run : List Played) (t : ℕ) (p : Played) → slice_get run t ≡ Some p → outputs (take (suc t) run) ≡ outputs (take t run) ++ p.moved.outputs
-unfolding outputs
+pub outputs_next : (run : List Played) (t : ℕ) (p : Played) → slice_get run t ≡ Some p → run_outputs (take (suc t) run) ≡ run_outputs (take t run) ++ p.moved.outputs
+unfolding run_outputs
 outputs_next [] t p e = absurd cc
 outputs_next (q ∷ run) zero p e = let s : q ≡ p = (let o : Some q ≡ Some p = e in cc) in append-nil q.moved.outputs ∙ ap (λ (x : Played). x.moved.outputs) s
-outputs_next (q ∷ run) (suc t) p e = ap (λ (os : List Output). q.moved.outputs ++ os) (outputs_next run t p e) ∙ sym (append_assoc q.moved.outputs (outputs (take t run)) p.moved.outputs)
+outputs_next (q ∷ run) (suc t) p e = ap (λ (os : List Output). q.moved.outputs ++ os) (outputs_next run t p e) ∙ sym (append_assoc q.moved.outputs (run_outputs (take t run)) p.moved.outputs)
 
 -- an output of the run is one of a move
-pub output_of_move : (run : List Played) (o : Output) → In o (outputs run) → (t : ℕ) × (p : Played) × (slice_get run t ≡ Some p) × In o p.moved.outputs
-unfolding outputs
+pub output_of_move : (run : List Played) (o : Output) → In o (run_outputs run) → (t : ℕ) × (p : Played) × (slice_get run t ≡ Some p) × In o p.moved.outputs
+unfolding run_outputs
 output_of_move [] o h = absurd h
 output_of_move (q ∷ run) o h =
-    elim (in_either q.moved.outputs (outputs run) o h) [
+    elim (in_either q.moved.outputs (run_outputs run) o h) [
       | inl here ↦ (0, q, refl, here)
       | inr later ↦ let r = output_of_move run o later in (suc r.0, r.1, r.2, r.3)
     ]
 
-pub outputs_front : (run : List Played) (t : ℕ) (o : Output) → In o (outputs (take t run)) → In o (outputs run)
-unfolding outputs
+pub outputs_front : (run : List Played) (t : ℕ) (o : Output) → In o (run_outputs (take t run)) → In o (run_outputs run)
+unfolding run_outputs
 outputs_front [] zero o h = h
 outputs_front [] (suc t) o h = h
 outputs_front (q ∷ run) zero o h = absurd h
 outputs_front (q ∷ run) (suc t) o h =
-    elim (in_either q.moved.outputs (outputs (take t run)) o h) [
-      | inl here ↦ in_left q.moved.outputs (outputs run) o here
-      | inr later ↦ in_right q.moved.outputs (outputs run) o (outputs_front run t o later)
+    elim (in_either q.moved.outputs (run_outputs (take t run)) o h) [
+      | inl here ↦ in_left q.moved.outputs (run_outputs run) o here
+      | inr later ↦ in_right q.moved.outputs (run_outputs run) o (outputs_front run t o later)
     ]
 
 -- ---- what a vouch was said by
@@ -138,29 +138,29 @@ module _ (cluster n : ℕ) (u : Setup) (run : List Played) (x : IsFollowed clust
       ]
 
   -- what was sent was put out
-  pub came : (t : ℕ) → t ≤ length run → (m : Message Header) → In m (x.group t).sent → IsSaid u (outputs (take t run)) m
+  pub came : (t : ℕ) → t ≤ length run → (m : Message Header) → In m (x.group t).sent → IsSaid u (run_outputs (take t run)) m
   came zero l m h = absurd (subst (In m) x.none_sent h)
   came (suc t) l m h =
       let p = log_reaches run t (omega arith) in
       let next = outputs_next run t p.0 p.1 in
       subst (λ (os : List Output). IsSaid u os m) (sym next) (elim ((x.carried t p.0 p.1).only m h) [
-        | inl old ↦ said_more u (outputs (take t run)) (outputs (take t run) ++ p.0.moved.outputs) (λ o i. in_left (outputs (take t run)) p.0.moved.outputs o i) m (came t (omega arith) m old)
-        | inr said ↦ said_more u p.0.moved.outputs (outputs (take t run) ++ p.0.moved.outputs) (λ o i. in_right (outputs (take t run)) p.0.moved.outputs o i) m said
+        | inl old ↦ said_more u (run_outputs (take t run)) (run_outputs (take t run) ++ p.0.moved.outputs) (λ o i. in_left (run_outputs (take t run)) p.0.moved.outputs o i) m (came t (omega arith) m old)
+        | inr said ↦ said_more u p.0.moved.outputs (run_outputs (take t run) ++ p.0.moved.outputs) (λ o i. in_right (run_outputs (take t run)) p.0.moved.outputs o i) m said
       ])
 
   -- what was put out is so
-  pub said_of : (o : Output) → In o (outputs run) → (t : ℕ) × (p : Played) × (slice_get run t ≡ Some p) × IsSo cluster u run (x.group t) (x.group (suc t)) p o
+  pub said_of : (o : Output) → In o (run_outputs run) → (t : ℕ) × (p : Played) × (slice_get run t ≡ Some p) × IsSo cluster u run (x.group t) (x.group (suc t)) p o
   said_of o h =
       let y = output_of_move run o h in
       (y.0, y.1, y.2, every_in (IsSo cluster u run (x.group y.0) (x.group (suc y.0)) y.1) y.1.moved.outputs o y.3 (x.carried y.0 y.1 y.2).said)
 
-  pub sent_of : (s : Sent) → In (output.Send s) (outputs run) → WasSent u last.sent s.message
+  pub sent_of : (s : Sent) → In (output.Send s) (run_outputs run) → WasSent u last.sent s.message
   sent_of s h =
       let y = said_of (output.Send s) h in
       let within = slice_get_within run y.0 y.1 y.2 in
       (true_more u (x.group y.0).sent (x.group (suc y.0)).sent last.sent (λ m i. sent_later (length run) (suc y.0) (omega arith) (omega arith) m i) (output.Send s) (y.3.sent, y.3.numbered)).0
 
-  pub from_of : (s : Sent) → In (output.Send s) (outputs run) → IsFrom s.from s.message
+  pub from_of : (s : Sent) → In (output.Send s) (run_outputs run) → IsFrom s.from s.message
   from_of s h = (said_of (output.Send s) h).3.from
 
   pub written_of : (t : ℕ) → t ≤ length run → (z : Made Header) → In z (x.group t).made → WasWritten run z.entry
@@ -175,8 +175,8 @@ module _ (cluster n : ℕ) (u : Setup) (run : List Played) (x : IsFollowed clust
       ]
 
 -- an output of a move is one of the run
-pub output_in : (run : List Played) (t : ℕ) (p : Played) (o : Output) → slice_get run t ≡ Some p → In o p.moved.outputs → In o (outputs run)
-unfolding outputs
+pub output_in : (run : List Played) (t : ℕ) (p : Played) (o : Output) → slice_get run t ≡ Some p → In o p.moved.outputs → In o (run_outputs run)
+unfolding run_outputs
 output_in [] t p o e i = absurd cc
-output_in (q ∷ run) zero p o e i = let s : p ≡ q = (let o : Some q ≡ Some p = e in cc) in in_left q.moved.outputs (outputs run) o (subst (λ (x : Played). In o x.moved.outputs) s i)
-output_in (q ∷ run) (suc t) p o e i = in_right q.moved.outputs (outputs run) o (output_in run t p o e i)
+output_in (q ∷ run) zero p o e i = let s : p ≡ q = (let o : Some q ≡ Some p = e in cc) in in_left q.moved.outputs (run_outputs run) o (subst (λ (x : Played). In o x.moved.outputs) s i)
+output_in (q ∷ run) (suc t) p o e i = in_right q.moved.outputs (run_outputs run) o (output_in run t p o e i)

@@ -33,7 +33,7 @@ unfoldable pub lines : ℕ → List Output → ℕ
 lines i [] = 0
 lines i (o ∷ os) = one_if (is_line_of i o) + lines i os
 
--- a commit line behind m applied entries is of the log's next one
+-- a commit line after m applied entries is of the log's next one
 abbrev pub IsLined : List Whole → ℕ → Output → Type 0
 IsLined log m (output.Commit c) = slice_get log m ≡ Some c.entry
 IsLined log m _ = ⊤
@@ -42,7 +42,7 @@ unfoldable pub Lined : List Whole → ℕ → ℕ → List Output → Type 0
 Lined log i m [] = ⊤
 Lined log i m (o ∷ os) = IsLined log m o × Lined log i (m + one_if (is_line_of i o)) os
 
--- a reply behind m applied entries; where the last output was the line of the m-th, it answers after those before it
+-- a reply after m applied entries; where the last output was the line of the m-th, it answers after those before it
 abbrev pub IsTold : List Whole → ℕ → Bool → Output → Type 0
 IsTold log m b (output.Reply a) = IsReplyOf log m (m - one_if b) a a.kind
 IsTold log m b _ = ⊤

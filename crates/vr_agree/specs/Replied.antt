@@ -8,7 +8,7 @@ use Rattle.vr_msg.specs.declared.output.Output.{Output}
 use Rattle.vr_msg.specs.declared.output.Output.TheVariants as output
 use Rattle.vr_msg.specs.declared.reply.ReplyFields.{ReplyFields}
 use Rattle.vr_super.specs.Copies.{Saved}
-use Rattle.vr_rules.specs.Group.{Arrival, Member, Played, Run, Runs, Starts, Steps, fresh_group, resumed, stepped}
+use Rattle.vr_rules.specs.Group.{Arrival, Member, Played, Run, Runs, Recovers, Steps, fresh_group, resumed, stepped}
 use Rattle.vr_header.specs.Bodies.{operation_bytes}
 use Rattle.vr_header.specs.Names.{root_header}
 use Rattle.vr_header.specs.NoCollision.{NoCollision}
@@ -26,7 +26,7 @@ use Rattle.vr_safe.specs.Finished.{AreBacked}
 use Rattle.vr_agree.specs.Followed.{IsFollowed, IsGoodEntry}
 use Rattle.vr_agree.specs.Answering.{one_if, HasState, PutsWell}
 
--- behind m applied entries a commit line of replica i is of the next op
+-- after m applied entries a commit line of replica i is of the next op
 abbrev pub IsInOrder : ℕ → ℕ → Output → Type 0
 IsInOrder i m (output.Commit c) = c.entry.header.op ≡ m + 1
 IsInOrder i m _ = ⊤
@@ -69,4 +69,4 @@ pub record IsReplied (cluster n : ℕ) (u : Setup) (run : List Played) (x : IsFo
   pub puts : NoCollision (IsHashed run (root_header cluster)) → (log : List Whole) → IsLogOf cluster u run (x.group (length run)).sent log
       → (t at : ℕ) (arrival : Arrival) (p : Played) (e : Event) (d : Lying) (m : Member) (r : Replica) → slice_get run t ≡ Some p → p.move ≡ Steps at arrival e d → Runs p.before at m r → PutsWell log lying r d e
   pub opens : NoCollision (IsHashed run (root_header cluster)) → (log : List Whole) → IsLogOf cluster u run (x.group (length run)).sent log
-      → (t at : ℕ) (p : Played) (v : Saved) (d : Lying) → slice_get run t ≡ Some p → p.move ≡ Starts at v d → is_frozen (resumed v d).replica ≡ false → HasState log (resumed v d).replica
+      → (t at : ℕ) (p : Played) (v : Saved) (d : Lying) → slice_get run t ≡ Some p → p.move ≡ Recovers at v d → is_frozen (resumed v d).replica ≡ false → HasState log (resumed v d).replica

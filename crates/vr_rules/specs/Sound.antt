@@ -8,6 +8,7 @@ use Rattle.vr_msg.specs.declared.statement.Statement.{Statement}
 use Rattle.vr_msg.specs.Logs.{IsEntryAt, IsStatement}
 use Rattle.vr_msg.specs.Numbers.{IsNumber}
 use Rattle.vr_msg.specs.Spelling.{AreHeaders, known}
+use Rattle.vr_sess.specs.Sessions.{HaveNumbers}
 use Rattle.vr_super.specs.Copies.{is_zeros}
 use Rattle.vr_rules.specs.Replica.{Replica, head, header_at, window_end}
 
@@ -20,7 +21,7 @@ pub record IsOrdered (r : Replica) : Type 0 where
   pub views : r.log_view ≤ r.view
   pub number : IsNumber r.checkpoint
 
--- the lists of ops reach to the end of the window, and begin no later than with the op behind the checkpoint
+-- the lists of ops reach to the end of the window, and begin no later than with the op after the checkpoint
 pub record IsListed (r : Replica) : Type 0 where
   pub first : 1 ≤ r.first
   pub reach : r.first ≤ r.checkpoint + 1
@@ -55,6 +56,8 @@ pub record IsSound (r : Replica) : Type 0 where
   pub near : r.applied < r.checkpoint + 32
   -- while blocks are missing nothing is applied
   pub waits : r.missing ≢ [] → r.applied ≡ r.checkpoint
+  -- what its sessions answer can be replied
+  pub numbers : HaveNumbers r.state.sessions
 
 -- the bytes of a name
 abbrev pub IsNameBytes : List ℕ → Type 0
