@@ -12,6 +12,7 @@ use Rattle.std.proofs.Math.Seq.{get_or-append_seam}
 use Rattle.vr_base.specs.Bytes.{name_of, bytes16}
 use Rattle.vr_base.specs.Groups.{quorums_of}
 use Rattle.vr_base.specs.Replicas.{no_replicas, has_replica}
+use Rattle.vr_base.proofs.AreBytes.{IsBytes-name_of}
 use Rattle.vr_base.proofs.FieldLaws.{length-name_of, length-bytes16}
 use Rattle.vr_disk.specs.DiskState.{Face}
 use Rattle.vr_header.specs.declared.operation.Operation.{Operation}
@@ -69,8 +70,11 @@ made_header n i log before q m h a cluster room =
     let view = h.view in
     record {
       body = length-name_of _;
+      body_bytes = IsBytes-name_of _;
       parent = length-name_of _;
+      parent_bytes = IsBytes-name_of _;
       request_name = length-name_of _;
+      request_name_bytes = IsBytes-name_of _;
       cluster = omega (arith, cluster);
       client = a.client;
       request = a.request;

@@ -18,7 +18,7 @@ use Rattle.vr_rules.specs.Replica.{Replica, last_view, part_at, forgetting, with
 use Rattle.vr_rules.specs.Steps.{Setting, Word, quiet, change, says, when}
 use Rattle.vr_rules.specs.Outputs.{commit_line, applied_reply}
 use Rattle.vr_rules.specs.Words.{Log, save, entered, rested, enter, writes, stored, write, accept, entry_of, or_lost, lost, with_entry, with_entry_at, applied, checkpoints, with_checkpoint, checkpoint_of, make_checkpoint, is_checkpoint, apply_entry, is_loaded, apply_next, apply, taken, prepare_again, may_take, resend, turned, ask_peer, ask_for, ask}
-use Rattle.vr_rules.specs.Sound.{IsSound, IsSavable}
+use Rattle.vr_rules.specs.Sound.{IsNameBytes, IsSound, IsSavable}
 use Rattle.vr_rules.specs.Laws.{SavesRoots}
 use Rattle.vr_rules.proofs.Combining.{Keeps, keeps_change}
 use Rattle.vr_rules.proofs.Storing.{MayStore, kept_stored, kept_lost, kept_moved, kept_applied}
@@ -43,11 +43,11 @@ unfolding entered
 well_entered v n view r a b c h =
     record { sound = (kept_entered view r h.sound a).sound; savable = savable_entered view r (omega arith) h.savable; view = b; room = h.room }
 
-savable_moved : (c : checkpoint.Saved) (e : Whole) (r : Replica) → c.root.address < 128 → length c.root.sum.0 ≡ 16 → IsSound r → r.applied < r.commit → IsSavable r
+savable_moved : (c : checkpoint.Saved) (e : Whole) (r : Replica) → c.root.address < 128 → IsNameBytes c.root.sum.0 → IsSound r → r.applied < r.commit → IsSavable r
     → IsSavable (with_checkpoint c (applied e r))
 savable_moved c e r a b h l w = savable_move c (applied e r) a b (omega arith) (savable_alike r (applied e r) refl w) (topped_moved c e r h l)
 
-well_moved : (v n : ℕ) (c : checkpoint.Saved) (e : Whole) (r : Replica) → c.root.address < 128 → length c.root.sum.0 ≡ 16 → IsNumber e.header.op → r.applied < r.commit → r.missing ≡ [] → (r.applied + 1) % 32 ≡ 0
+well_moved : (v n : ℕ) (c : checkpoint.Saved) (e : Whole) (r : Replica) → c.root.address < 128 → IsNameBytes c.root.sum.0 → IsNumber e.header.op → r.applied < r.commit → r.missing ≡ [] → (r.applied + 1) % 32 ≡ 0
     → Well v n r → Well v n (with_checkpoint c (applied e r))
 unfolding with_checkpoint
 well_moved v n c e r a b k l m d h =
