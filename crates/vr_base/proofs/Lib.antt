@@ -3,3 +3,4 @@ pub mod FieldLaws
 pub mod Places
 mod Rows
 pub mod Writing
+pub mod ZeroLaws
