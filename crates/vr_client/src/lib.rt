@@ -1,0 +1,9 @@
+//! A client of a group: it asks one operation after another, and hears each one's own answer.
+#![tactic(auto)]
+
+mod answer;
+mod asking;
+mod core;
+
+pub use answer::{Answer, AskFault};
+pub use core::ClientCore;

@@ -1,0 +1,5 @@
+pub mod Cutting
+pub mod Ending
+pub mod Outputs
+pub mod Running
+pub mod Turning

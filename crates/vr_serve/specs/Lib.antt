@@ -1,0 +1,4 @@
+pub mod Causes
+pub mod Events
+pub mod Outputs
+pub mod Runs
