@@ -1,1 +1,3 @@
-pub mod Asking
+pub mod Keeping
+pub mod Turns
+pub mod Waits

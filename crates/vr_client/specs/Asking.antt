@@ -20,7 +20,7 @@ use Rattle.vr_client.specs.declared.answer.AskFault.{AskFault}
 use Rattle.vr_client.specs.declared.answer.AskFault.TheVariants as fault
 use Rattle.vr_client.specs.declared.answer.Heed.{Heed}
 use Rattle.vr_client.specs.declared.answer.Heed.TheVariants.{Ignored, Moved, Answered}
-use Rattle.vr_client.specs.declared.core.ClientCore.{ClientCore}
+use Rattle.vr_client.specs.declared.client.ClientCore.{ClientCore}
 
 -- one ask: in a group of n, the name and the bytes of the request, and so many turns
 pub record Ask : Type 0 where
@@ -47,6 +47,14 @@ request_in c operation = record { cluster = c.cluster; client = c.id; request = 
 -- the ask of the request that a client has made
 abbrev pub ask_in : ClientCore → Sum → ℕ → Ask
 ask_in c name turns = record { cluster = c.cluster; n = c.n; name = name; bytes = c.bytes.items; turns = turns }
+
+-- all but the port, and the room for what comes, is as it was
+pub record Keeps (old new : ClientCore) : Type 0 where
+  pub cluster : new.cluster ≡ old.cluster
+  pub id : new.id ≡ old.id
+  pub n : new.n ≡ old.n
+  pub number : new.number ≡ old.number
+  pub bytes : new.bytes.items ≡ old.bytes.items
 
 -- what is heeded moves the client to another port, or leaves it where it is
 abbrev pub moved : Heed → ℕ → ℕ

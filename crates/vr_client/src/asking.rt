@@ -1,6 +1,6 @@
 //! An ask, turn by turn.
 ghost use Rattle.std.specs.Prelude.{◌≡◌, ◌<◌, ◌+◌, ◌^◌, ◌↔◌, ◌⊎◌, [], ◌∷◌, Option, IfOk, IfErr, OnOk, MatchOption};
-ghost use Rattle.vr_client.specs.Asking.{AskCause, Fails, Hears, IsAsked, IsSilent, IsUnasked, Turned, ask_in, ask_of, go_on_port, go_on_to, moved, moved_to, request_in, requests};
+ghost use Rattle.vr_client.specs.Asking.{AskCause, Fails, Hears, IsAsked, IsSilent, IsUnasked, Keeps, Turned, ask_in, ask_of, go_on_port, go_on_to, moved, moved_to, request_in, requests};
 ghost use Rattle.vr_client.specs.Heeding.{MovesWithin};
 ghost use Rattle.vr_client.specs.declared.answer.Heed.TheVariants as did;
 ghost use Rattle.vr_edge.specs.Datagrams.{Arrival};
@@ -9,6 +9,7 @@ ghost use Rattle.vr_header.specs.Names.{header_name, request_header};
 ghost use Rattle.vr_header.specs.declared.operation.Operation.TheVariants.{Register};
 ghost use Rattle.vr_mail.specs.Sends.{Sends};
 ghost use Rattle.vr_mail.specs.declared.receiving.Letter.{Letter};
+ghost use Rattle.vr_msg.specs.Asking.{IsRequest};
 ghost use Rattle.vr_msg.specs.Spelling.{spelling};
 ghost use Rattle.vr_msg.specs.declared.frame.Frame.TheVariants as frame;
 
@@ -21,32 +22,44 @@ use vr_header::{Header, Operation};
 use vr_mail::{receive_letter, send_bytes};
 use vr_msg::{Message, Request, RequestFields, encode};
 
+/// Puts the bytes of a request in the place of what is there.
+fn spell(fields: RequestFields, bytes: &mut Vec<u8>) -> Result<(), AllocError>
+    requires { IsRequest fields }
+    ensures { OnOk result (bytes.new.items ≡ spelling (frame.Request fields)) }
+{
+    bytes.clear();
+    encode(&Message::request(Request::new(fields)), bytes)
+}
+
 impl ClientCore {
     /// Makes the next request, and returns its name.
     fn write_request(&mut self, operation: &Operation) -> Result<Sum, AllocError>
         requires number { self.old.number < 2 ^ 32 }
         requires first { (operation.now ≡ Register) ↔ (self.old.number ≡ 0) }
-        ensures core { self.new ≡ record self.old { number = self.old.number + 1; bytes = self.new.bytes } }
+        ensures group { (self.new.cluster ≡ self.old.cluster) × (self.new.n ≡ self.old.n) }
+        ensures client { (self.new.id ≡ self.old.id) × (self.new.port ≡ self.old.port) }
+        ensures number { self.new.number ≡ self.old.number + 1 }
         ensures bytes { OnOk result (self.new.bytes.items ≡ spelling (frame.Request (request_in self.old operation.now))) }
         ensures name { IfOk result (λ name. name ≡ header_name (request_header self.old.cluster self.old.id self.old.number operation.now)) }
     {
         let number = self.number as u32;
         self.number += 1;
-        self.bytes.clear();
-        let request = Request::new(RequestFields {
+        let fields = RequestFields {
             cluster: self.cluster,
             client: self.id,
             request: number,
             operation: operation.try_clone(self.alloc)?,
-        });
-        encode(&Message::request(request), &mut self.bytes)?;
+        };
+        spell(fields, &mut self.bytes)?;
         Ok(Header::of_request(self.cluster, self.id, number, operation).name())
     }
 
     /// Sends the request to a port, which is the one that it asks from then on.
+    #[tactic(auto, using(std::proofs::lemmas::Grind::common_steps, crate::proofs::Keeping::keeps_same, crate::proofs::Keeping::keeps_later, crate::proofs::Keeping::no_requests, vr_mail::proofs::Sent::sends_nil))]
     fn ask_at<L: Link>(&mut self, link: &mut L, port: u32)
         requires { port < self.old.n }
-        ensures core { self.new ≡ record self.old { port = port } }
+        ensures core { Keeps self.old self.new }
+        ensures port { self.new.port ≡ port }
         ensures sent { Sends (datagram_at port self.old.bytes.items ∷ []) (L.sent link.old) (L.sent link.new) }
         ensures received { L.received link.new ≡ L.received link.old }
         ensures faults { L.faults link.new ≡ L.faults link.old }
@@ -56,8 +69,10 @@ impl ClientCore {
     }
 
     /// One receive, and what it makes of that.
+    #[tactic(auto, using(std::proofs::lemmas::Grind::common_steps, crate::proofs::Keeping::keeps_same, crate::proofs::Keeping::keeps_later, crate::proofs::Keeping::no_requests, vr_mail::proofs::Sent::sends_nil))]
     fn hear<L: Link>(&mut self, link: &mut L, name: &Sum) -> Result<Heed, AskFault>
-        ensures core { self.new ≡ record self.old { to = self.new.to } }
+        ensures core { Keeps self.old self.new }
+        ensures stays { self.new.port ≡ self.old.port }
         ensures heard { IfOk result (Hears self.old.cluster self.old.n name.now (L.received link.old) (L.received link.new)) }
         ensures port { IfOk result (MovesWithin self.old.n) }
         ensures failed { IfErr result (Fails (L.received link.old) (L.received link.new)) }
@@ -69,11 +84,13 @@ impl ClientCore {
     }
 
     /// Goes where it was told to; what it heard may be the answer.
+    #[tactic(auto, using(std::proofs::lemmas::Grind::common_steps, crate::proofs::Keeping::keeps_same, crate::proofs::Keeping::keeps_later, crate::proofs::Keeping::no_requests, vr_mail::proofs::Sent::sends_nil))]
     fn follow<L: Link>(&mut self, link: &mut L, heard: Heed) -> Option<Answer>
         requires { MovesWithin self.old.n heard }
-        ensures core { self.new ≡ record self.old { port = moved heard self.old.port } }
+        ensures core { Keeps self.old self.new }
+        ensures port { self.new.port ≡ moved heard self.old.port }
         ensures sent { Sends (requests self.old.bytes.items (moved_to heard)) (L.sent link.old) (L.sent link.new) }
-        ensures answer { MatchOption result (λ answer. heard ≡ did.Answered answer) (IsSilent heard) }
+        ensures answer { MatchOption result (IsSilent heard) (λ answer. heard ≡ did.Answered answer) }
         ensures received { L.received link.new ≡ L.received link.old }
         ensures faults { L.faults link.new ≡ L.faults link.old }
     {
@@ -88,9 +105,11 @@ impl ClientCore {
     }
 
     /// After each 50 turns, if turns are left, it asks the next member.
+    #[tactic(auto, using(std::proofs::lemmas::Grind::common_steps, crate::proofs::Keeping::keeps_same, crate::proofs::Keeping::keeps_later, crate::proofs::Keeping::no_requests, vr_mail::proofs::Sent::sends_nil))]
     fn go_on<L: Link>(&mut self, link: &mut L, turns: u64, done: u64)
         requires { done < turns }
-        ensures core { self.new ≡ record self.old { port = go_on_port self.old.n turns done self.old.port } }
+        ensures core { Keeps self.old self.new }
+        ensures port { self.new.port ≡ go_on_port self.old.n turns done self.old.port }
         ensures sent { Sends (requests self.old.bytes.items (go_on_to self.old.n turns done self.old.port)) (L.sent link.old) (L.sent link.new) }
         ensures received { L.received link.new ≡ L.received link.old }
         ensures faults { L.faults link.new ≡ L.faults link.old }
@@ -101,6 +120,7 @@ impl ClientCore {
     }
 
     /// One turn, behind so many others.
+    #[tactic(auto, using(std::proofs::lemmas::Grind::common_steps, crate::proofs::Keeping::keeps_same, crate::proofs::Keeping::keeps_later, crate::proofs::Keeping::cause_later, crate::proofs::Turns::turned_none, crate::proofs::Turns::turned_answer))]
     fn turn<L: Link>(
         &mut self,
         link: &mut L,
@@ -109,7 +129,7 @@ impl ClientCore {
         done: u64,
     ) -> Result<Option<Answer>, AskFault>
         requires { done < turns }
-        ensures core { self.new ≡ record self.old { port = self.new.port; to = self.new.to } }
+        ensures core { Keeps self.old self.new }
         ensures turned { IfOk result (Turned (ask_in self.old name.now turns) done self.old.port self.new.port (L.sent link.old) (L.sent link.new) (L.received link.old) (L.received link.new)) }
         ensures failed { IfErr result (Fails (L.received link.old) (L.received link.new)) }
         ensures stays { IfErr result (λ _. (self.new.port ≡ self.old.port) × (L.sent link.new ≡ L.sent link.old)) }
@@ -125,7 +145,7 @@ impl ClientCore {
 
     /// Asks, and waits so many turns.
     fn wait<L: Link>(&mut self, link: &mut L, name: &Sum, turns: u64) -> Result<Answer, AskFault>
-        ensures core { self.new ≡ record self.old { port = self.new.port; to = self.new.to } }
+        ensures core { Keeps self.old self.new }
         ensures run { IsAsked (ask_in self.old name.now turns) self.old.port self.new.port (L.sent link.old) (L.sent link.new) (L.received link.old) (L.received link.new) result }
         ensures cause { AskCause (L.faults link.old) (L.faults link.new) result }
     {

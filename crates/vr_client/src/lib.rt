@@ -3,7 +3,7 @@
 
 mod answer;
 mod asking;
-mod core;
+mod client;
 
 pub use answer::{Answer, AskFault};
-pub use core::ClientCore;
+pub use client::ClientCore;

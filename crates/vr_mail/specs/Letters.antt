@@ -39,9 +39,9 @@ abbrev pub Reads : ℕ → List ℕ → Option Frame → Type 0
 Reads cluster bytes None = IsRefused cluster bytes
 Reads cluster bytes (Some m) = IsOfGroup cluster bytes m
 
--- what a receive brings: refused bytes are as if nothing came
+-- what a receive that went well brings: refused bytes are as if nothing came
 abbrev pub Brings : ℕ → Arrival → Option Letter → Type 0
-Brings cluster Failed letter = letter ≡ None
+Brings cluster Failed letter = ⊥
 Brings cluster Nothing letter = letter ≡ None
 Brings cluster (Came d) None = IsRefused cluster d.bytes
 Brings cluster (Came d) (Some letter) = (letter.port ≡ d.port) × IsOfGroup cluster d.bytes letter.message

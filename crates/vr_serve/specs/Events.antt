@@ -1,6 +1,6 @@
 -- What happens at a member in turns: at each one receive, and then one look at the clock.
 use Rattle.std.specs.Prelude.{ℕ, ◌+◌, List, [], ◌∷◌, ◌++◌, Option, None, Some, ◌≡◌, ◌⊎◌, if◌then◌else◌, nat_lt, nat_le, Bool, ◌||◌, map}
-use Rattle.vr_edge.specs.Datagrams.{Arrival}
+use Rattle.vr_edge.specs.Datagrams.{Arrival, Failed}
 use Rattle.vr_edge.specs.Told.{GivesNext}
 use Rattle.vr_mail.specs.Letters.{AreBrought, Brings, IsMessage}
 use Rattle.vr_mail.specs.declared.receiving.Letter.{Letter}
@@ -86,6 +86,6 @@ letters turns = map (λ t. t.letter) turns
 abbrev pub AreTurns : ℕ → List Turn → Type 0
 AreTurns cluster turns = AreBrought cluster (arrivals turns) (letters turns)
 
--- what a turn that was cut off began with: where memory was short for a message, nothing comes of that
+-- what a turn that was cut off began with: nothing comes of a receive that failed, or for whose message memory was short
 abbrev pub Begins : ℕ → Arrival → Option Letter → Type 0
-Begins cluster arrival letter = Brings cluster arrival letter ⊎ (IsMessage arrival × (letter ≡ None))
+Begins cluster arrival letter = Brings cluster arrival letter ⊎ (((arrival ≡ Failed) ⊎ IsMessage arrival) × (letter ≡ None))

@@ -18,6 +18,7 @@ use vr_mail::receive_letter;
 use vr_msg::{Event, Outbox};
 
 /// One receive, and what comes of it.
+#[tactic(auto, using(crate::proofs::Ending::rose_later, crate::proofs::Ending::causes_none))]
 fn arrive<M: Member, D: SectorDisk, K: Sink, L: Link>(
     alloc: Global,
     cluster: u64,
@@ -50,6 +51,7 @@ fn arrive<M: Member, D: SectorDisk, K: Sink, L: Link>(
 }
 
 /// What comes of a look at the clock. It returns the last tick after it.
+#[tactic(auto, using(crate::proofs::Ending::rose_later, crate::proofs::Ending::causes_none))]
 fn beat<M: Member, D: SectorDisk, K: Sink, L: Link>(
     alloc: Global,
     member: &mut M,
@@ -84,6 +86,7 @@ fn beat<M: Member, D: SectorDisk, K: Sink, L: Link>(
 }
 
 /// One turn. It returns the last tick after it.
+#[tactic(auto, using(crate::proofs::Ending::rose_later, crate::proofs::Ending::causes_none))]
 fn turn<M: Member, D: SectorDisk, K: Sink, L: Link, C: Clock>(
     alloc: Global,
     cluster: u64,
@@ -116,6 +119,7 @@ fn turn<M: Member, D: SectorDisk, K: Sink, L: Link, C: Clock>(
 }
 
 /// Puts out what came first, and then does so many turns.
+#[tactic(auto, using(crate::proofs::Ending::rose_later, crate::proofs::Ending::causes_none))]
 pub fn serve<M: Member, D: SectorDisk, K: Sink, L: Link, C: Clock>(
     alloc: Global,
     cluster: u64,

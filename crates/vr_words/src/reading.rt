@@ -45,7 +45,7 @@ fn command_at(
 }
 
 /// The command that was entered.
-#[tactic(auto, using(crate::proofs::Asked::entered_some, crate::proofs::Asked::entered_none))]
+#[tactic(auto, using(crate::proofs::Found::entered_some, crate::proofs::Found::entered_none))]
 fn entered(alloc: Global, matches: &ArgMatches<'_>) -> Result<Option<Command>, AllocError>
     ensures { IfOk result (λ c. option_map says c ≡ option_and_then (λ p. asked_at p.0 p.1) (subcommand_rows_of matches.now)) }
 {
@@ -57,7 +57,7 @@ fn entered(alloc: Global, matches: &ArgMatches<'_>) -> Result<Option<Command>, A
 
 /// The command that words are: `Usage` exactly where they aren't one of the forms with its numbers in range, want of
 /// memory aside.
-#[tactic(auto, using(crate::proofs::Asked::asked_by, crate::proofs::Asked::refused_by))]
+#[tactic(auto, using(crate::proofs::Found::asked_by, crate::proofs::Found::refused_by))]
 pub fn parse(alloc: Global, words: &[String]) -> Result<Command, WordsFault>
     ensures said { IfOk result (λ c. asked (map string_bytes words.now) ≡ Some (says c)) }
     ensures usage { result ≡ Err WordsFault.Usage → asked (map string_bytes words.now) ≡ None }

@@ -41,6 +41,13 @@ ports_more a done port k (m ∷ ls) l at =
     ap (λ x. ports_in a done port m ++ x) (ports_more a (done + 1) (port_after a done port m) k ls l same)
     ∙ sym (assoc (ports_in a done port m) (ports_of a (done + 1) (port_after a done port m) ls) (ports_in a k (port_at a (done + 1) (port_after a done port m) ls) l))
 
+requests_more : (a : Ask) (count port : ℕ) (ls : List (Option Letter)) (l : Option Letter) → count ≡ 0 + length ls
+    → requests a.bytes (port ∷ ports_of a 0 port (ls ++ l ∷ []))
+    ≡ requests a.bytes (port ∷ ports_of a 0 port ls) ++ requests a.bytes (ports_in a count (port_at a 0 port ls) l)
+requests_more a count port ls l k =
+    ap (λ (ps : List ℕ). requests a.bytes (port ∷ ps)) (ports_more a 0 port count ls l k)
+    ∙ requests_append a.bytes (port ∷ ports_of a 0 port ls) (ports_in a count (port_at a 0 port ls) l)
+
 silent_more : (a : Ask) (ls : List (Option Letter)) (l : Option Letter) → AreSilent a ls → IsSilent (heed a.n a.name l) → AreSilent a (ls ++ l ∷ [])
 silent_more a [] l s new = (new, tt)
 silent_more a (m ∷ ls) l s new = (s.0, silent_more a ls l s.1 new)
@@ -85,7 +92,7 @@ waiting_more a count port mid port' u u' u'' got got' got'' w t =
       silent = silent_more a w.letters t.1 w.silent t.4.0;
       received = grows_trans got got' got'' w.arrivals (t.0 ∷ []) w.received t.2;
       at = t.4.1 ∙ (ap (λ p. port_after a count p t.1) w.at ∙ sym (port_more a 0 port count w.letters t.1 k));
-      asked = rw (ports_more a 0 port count w.letters t.1 k, requests_append)
+      asked = subst (λ l. Sends l u u'') (sym (requests_more a count port w.letters t.1 k))
           (sends_trans u u' u'' (requests a.bytes (port ∷ ports_of a 0 port w.letters)) (requests a.bytes (ports_in a count (port_at a 0 port w.letters) t.1))
           w.asked (subst (λ p. Sends (requests a.bytes (ports_in a count p t.1)) u' u'') w.at t.4.2));
     }
