@@ -66,16 +66,16 @@ pub record Waiting (a : Ask) (count port port' : ℕ) (u u' : Option (List (Opti
   pub at : port' ≡ port_at a 0 port letters
   pub asked : Sends (requests a.bytes (port ∷ ports_of a 0 port letters)) u u'
 
-pub waiting_begins : (a : Ask) (port : ℕ) (u u' : Option (List (Option Datagram))) (got got' : Option (List Arrival)) → got' ≡ got
-    → Sends (datagram_at port a.bytes ∷ []) u u' → Waiting a 0 port port u u' got got'
-waiting_begins a port u u' got got' same sent = record {
+pub waiting_begins : (a : Ask) (port port' : ℕ) (u u' : Option (List (Option Datagram))) (got got' : Option (List Arrival)) → port' ≡ port
+    → got' ≡ got → Sends (datagram_at port a.bytes ∷ []) u u' → Waiting a 0 port port' u u' got got'
+waiting_begins a port port' u u' got got' there same sent = record {
   arrivals = [];
   letters = [];
   counted = refl;
   brought = tt;
   silent = tt;
   received = rw same (grows_nil got);
-  at = refl;
+  at = there;
   asked = sent;
 }
 

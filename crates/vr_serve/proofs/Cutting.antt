@@ -1,10 +1,16 @@
 -- Early ends, one piece after another.
-use Rattle.std.proofs.Common.{◌≡◌, ◌∙◌, List, [], ◌∷◌, ◌++◌, ℕ, Option, Result, Ok, Err, OnErr, refl, ap, sym}
+use Rattle.std.proofs.Common.{◌≡◌, ◌∙◌, List, [], ◌∷◌, ◌++◌, ℕ, Option, None, Result, Ok, Err, OnErr, OnOk, refl, ap, sym, inl, inr}
 use Rattle.vr_disk.specs.DiskState.{Disk}
+use Rattle.vr_edge.specs.Datagrams.{Arrival}
+use Rattle.vr_edge.specs.Told.{Grows}
 use Rattle.vr_edge.specs.declared.datagram.Datagram.{Datagram}
+use Rattle.vr_mail.specs.Letters.{Gives}
+use Rattle.vr_mail.specs.declared.receiving.Letter.{Letter}
+use Rattle.vr_mail.specs.declared.receiving.ReceiveFault.{ReceiveFault}
+use Rattle.vr_mail.specs.declared.receiving.ReceiveFault.TheVariants as received
 use Rattle.vr_mail.proofs.Growing.{assoc}
 use Rattle.vr_msg.specs.declared.output.Output.{Output}
-use Rattle.vr_serve.specs.Events.{Come}
+use Rattle.vr_serve.specs.Events.{Begins, Come, Turn, comes_of, events_of}
 use Rattle.vr_serve.specs.Outputs.{datagrams_for, heard, text_from}
 use Rattle.vr_serve.specs.Runs.{At, Cut, Doing, Passed, PutsFront}
 use Rattle.vr_serve.proofs.Running.{passed_none, passed_trans}
@@ -68,3 +74,26 @@ on_err (Err e) X x = x
 pub on_err_then : {T E : Type 0} (r : Result T E) (X Y : Type 0) → (X → Y) → OnErr r X → OnErr r Y
 on_err_then (Ok t) X Y f x = tt
 on_err_then (Err e) X Y f x = f x
+
+pub on_ok_then : {T E : Type 0} (r : Result T E) (X Y : Type 0) → (X → Y) → OnOk r X → OnOk r Y
+on_ok_then (Ok t) X Y f x = f x
+on_ok_then (Err e) X Y f x = tt
+
+pub on_ok_all : {T E : Type 0} (r : Result T E) (X Y Z P : Type 0) → (X → Y → Z → P) → OnOk r X → OnOk r Y → OnOk r Z → OnOk r P
+on_ok_all (Ok t) X Y Z P f x y z = f x y z
+on_ok_all (Err e) X Y Z P f x y z = tt
+
+-- an early end at a receive
+abbrev pub CutArrival : {S : Type 0} → Doing S → At S → ℕ → (got got' : Option (List Arrival)) → Option (List ℕ) → Option (List (Option Datagram)) → Type 0
+CutArrival does a cluster got got' t u =
+    (x : Arrival) × (l : Option Letter) × Grows got got' (x ∷ []) × Begins cluster x l × Cut does a (comes_of l) t u
+
+-- an early end in a turn
+abbrev pub CutTurn : {S : Type 0} → Doing S → At S → ℕ → ℕ → (got got' : Option (List Arrival)) → Option (List ℕ) → Option (List (Option Datagram)) → Type 0
+CutTurn does a cluster last got got' t u =
+    (x : Turn) × Grows got got' (x.arrival ∷ []) × Begins cluster x.arrival x.letter × Cut does a (events_of last x) t u
+
+-- nothing comes of a receive that failed
+pub failed_begins : (cluster : ℕ) (arrival : Arrival) (f : ReceiveFault) → Gives cluster arrival (Err f) → Begins cluster arrival None
+failed_begins cluster arrival received.Link gives = inr (inl gives, refl)
+failed_begins cluster arrival received.NoMemory gives = inr (inr gives, refl)

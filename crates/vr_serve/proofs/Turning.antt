@@ -1,5 +1,5 @@
 -- Turns one after another.
-use Rattle.std.proofs.Common.{◌≡◌, ◌∙◌, ℕ, ◌+◌, ◌<◌, ◌≤◌, List, [], ◌∷◌, ◌++◌, Option, refl, ap, sym, map, length, arith, Result, Ok, Err, IfOk, OnOk, nat_le, true}
+use Rattle.std.proofs.Common.{◌≡◌, ◌∙◌, ℕ, ◌+◌, ◌<◌, ◌≤◌, List, [], ◌∷◌, ◌++◌, Option, refl, ap, sym, map, length, arith, Result, Ok, Err, IfOk, OnOk, nat_le, true, false}
 use Rattle.std.proofs.lemmas.Grind.{common_steps}
 use Rattle.vr_disk.specs.DiskState.{Disk}
 use Rattle.vr_edge.specs.Told.{GivesNext, Grows}
@@ -35,6 +35,13 @@ gives_more a b c (m ∷ numbers) n given next = (given.0, given.1, gives_more gi
 length_more : {X : Type 0} (xs : List X) (x : X) → length (xs ++ x ∷ []) ≡ length xs + 1
 length_more xs x = grind (arith, common_steps)
 
+le_false : (a b : ℕ) → b < a → nat_le a b ≡ false
+le_false a b h = grind arith
+
+-- no tick is due before 100 after the last one
+pub due_none : (last now : ℕ) → now < last + 100 → due last now ≡ []
+due_none last now h = rw (le_false (last + 100) now h) refl
+
 le_true : (a b : ℕ) → a ≤ b → nat_le a b ≡ true
 le_true a b h = grind arith
 
@@ -61,16 +68,16 @@ pub record Serving {S : Type 0} (does : Doing S) (cluster count last : ℕ) (fir
   pub passed : Passed does (begun_at member disk first taken sent) b (happened begins turns)
 
 pub serving_begins : {S : Type 0} (does : Doing S) (cluster last : ℕ) (first : List Output) (member : S) (disk : Option Disk)
-    (left left' : Option (List ℕ)) (got : Option (List Arrival)) (t t' : Option (List ℕ)) (u u' : Option (List (Option Datagram)))
+    (left left' : Option (List ℕ)) (got got' : Option (List Arrival)) (t t' : Option (List ℕ)) (u u' : Option (List (Option Datagram)))
     (number : ℕ) (clients : List Client) → PutsFirst first t t' u u' → number ≡ numbers_after 0 first → clients ≡ [] → GivesNext left left' last
-    → Serving does cluster 0 last first member disk left left' got got t u (at member disk number clients t' u')
-serving_begins does cluster last first member disk left left' got t t' u u' number clients puts numbered none next = record {
+    → got' ≡ got → Serving does cluster 0 last first member disk left left' got got' t u (at member disk number clients t' u')
+serving_begins does cluster last first member disk left left' got got' t t' u u' number clients puts numbered none next same = record {
   begins = last;
   turns = [];
   counted = refl;
   ticked = refl;
   clock = (left', next, refl);
-  received = grows_nil got;
+  received = rw same (grows_nil got);
   brought = tt;
   taken = t';
   sent = u';
