@@ -1,5 +1,5 @@
 -- What stays of a client from call to call.
-use Rattle.std.proofs.Common.{◌≡◌, ◌∙◌, ℕ, ◌≤◌, List, [], Result, refl, ap, arith}
+use Rattle.std.proofs.Common.{◌≡◌, ◌∙◌, ℕ, ◌≤◌, List, [], Result, refl, arith}
 use Rattle.vr_base.specs.Causes.{Rose}
 use Rattle.vr_base.specs.declared.sum.Sum.{Sum}
 use Rattle.vr_client.specs.Asking.{AskCause, Keeps, ask_in, requests}

@@ -1,7 +1,7 @@
 -- Receives one after another.
-use Rattle.std.proofs.Common.{◌≡◌, ℕ, List, [], ◌∷◌, ◌++◌, Option, Some, None, refl, sym}
+use Rattle.std.proofs.Common.{ℕ, List, [], ◌∷◌, ◌++◌, Option, Some, None, refl}
 use Rattle.vr_edge.specs.Datagrams.{Arrival, Failed, Nothing, Came}
-use Rattle.vr_mail.specs.Letters.{AreBrought, AreStilled, Brings, IsOfGroup, IsRefused, RefusedAreNothing, Stills}
+use Rattle.vr_mail.specs.Letters.{AreBrought, Brings, RefusedAreNothing, Stills}
 use Rattle.vr_mail.specs.declared.receiving.Letter.{Letter}
 
 pub brought_more : (cluster : ℕ) (arrivals : List Arrival) (letters : List (Option Letter)) (a : Arrival) (l : Option Letter)

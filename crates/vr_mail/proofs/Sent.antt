@@ -1,11 +1,11 @@
 -- Sends one after another.
-use Rattle.std.proofs.Common.{◌≡◌, ℕ, List, [], ◌∷◌, ◌++◌, Option, Result, Ok, Err, ap, subst}
+use Rattle.std.proofs.Common.{◌≡◌, ℕ, List, [], ◌∷◌, ◌++◌, Option, Result, Ok, Err, ap}
 use Rattle.vr_edge.specs.Told.{Grows}
 use Rattle.vr_edge.specs.Datagrams.{sent_by}
 use Rattle.vr_edge.specs.Sending.{datagram_at}
 use Rattle.vr_edge.specs.declared.datagram.Datagram.{Datagram}
 use Rattle.vr_mail.specs.Sends.{AreOf, IsOf, Sends}
-use Rattle.vr_mail.proofs.Growing.{append_nil, grows_nil, grows_trans}
+use Rattle.vr_mail.proofs.Growing.{grows_nil, grows_trans}
 
 are_of_append : (ds es : List Datagram) (os ps : List (Option Datagram)) → AreOf ds os → AreOf es ps → AreOf (ds ++ es) (os ++ ps)
 are_of_append [] es [] ps a b = b

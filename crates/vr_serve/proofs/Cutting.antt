@@ -1,5 +1,5 @@
 -- Early ends, one piece after another.
-use Rattle.std.proofs.Common.{◌≡◌, ◌∙◌, List, [], ◌∷◌, ◌++◌, ℕ, Option, None, Result, Ok, Err, OnErr, OnOk, refl, ap, sym, inl, inr}
+use Rattle.std.proofs.Common.{◌∙◌, List, [], ◌∷◌, ◌++◌, ℕ, Option, None, Result, Ok, Err, OnErr, OnOk, refl, ap, sym, inl, inr}
 use Rattle.vr_disk.specs.DiskState.{Disk}
 use Rattle.vr_edge.specs.Datagrams.{Arrival}
 use Rattle.vr_edge.specs.Told.{Grows}

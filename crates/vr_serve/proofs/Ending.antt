@@ -1,7 +1,7 @@
 -- Causes of an early end, one call after another.
 use Rattle.std.proofs.Common.{ℕ, ◌≤◌, Result, Ok, Err, arith}
 use Rattle.vr_base.specs.Causes.{Rose}
-use Rattle.vr_serve.specs.Causes.{Counts, HasCauses, counts}
+use Rattle.vr_serve.specs.Causes.{HasCauses, counts}
 use Rattle.vr_serve.specs.declared.stop.Stop.{Stop}
 use Rattle.vr_serve.specs.declared.stop.Stop.TheVariants as stop
 

@@ -7,10 +7,10 @@ use Rattle.vr_edge.specs.Datagrams.{Arrival}
 use Rattle.vr_edge.specs.declared.datagram.Datagram.{Datagram}
 use Rattle.vr_mail.proofs.Brought.{brought_more}
 use Rattle.vr_mail.proofs.Growing.{append_nil, assoc, grows_nil, grows_trans}
-use Rattle.vr_mail.specs.Letters.{AreBrought, Brings}
+use Rattle.vr_mail.specs.Letters.{Brings}
 use Rattle.vr_msg.specs.declared.event.Event.TheVariants.{Tick}
 use Rattle.vr_msg.specs.declared.output.Output.{Output}
-use Rattle.vr_serve.specs.Events.{AreTurns, Begins, Come, Gives, Turn, arrivals, due, events_of, happened, last_after, last_of, letters}
+use Rattle.vr_serve.specs.Events.{AreTurns, Begins, Gives, Turn, arrivals, due, events_of, happened, last_after, last_of, letters}
 use Rattle.vr_serve.specs.Outputs.{numbers_after}
 use Rattle.vr_serve.specs.Runs.{At, Cut, Doing, IsCutInTurn, IsServed, Passed, PutsFirst, at, begun_at}
 use Rattle.vr_serve.specs.declared.clients.Client.{Client}

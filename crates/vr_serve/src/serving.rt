@@ -142,7 +142,9 @@ pub fn serve<M: Member, D: SectorDisk, K: Sink, L: Link, C: Clock>(
     post.put_out(sink, link, first)?;
     let mut last = clock.now();
     for _ in 0..turns {
-        last = turn(alloc, cluster, member, disk, sink, link, clock, &mut post, last)?;
+        last = turn(
+            alloc, cluster, member, disk, sink, link, clock, &mut post, last,
+        )?;
     }
     Ok(())
 }

@@ -1,7 +1,7 @@
 -- What the words ask for, by what clap finds.
-use Rattle.std.proofs.Common.{◌≡◌, ◌≢◌, ◌∙◌, ◌⊎◌, ℕ, List, [], ◌∷◌, Option, Some, None, length, true, refl, ap, ap₂, sym, inl, inr, if◌then◌else◌, ◌==◌, ◌×◌}
-use Rattle.std.proofs.Math.Option.{some-injective}
-use Rattle.std.specs.Prelude.{Box, option_and_then, option_map}
+use Rattle.std.proofs.Common.{◌≡◌, ◌≢◌, ◌∙◌, ◌⊎◌, ℕ, List, [], ◌∷◌, Option, Some, None, length, true, refl, ap, ap₂, sym, inl, inr, if◌then◌else◌, ◌==◌, arith, false}
+use Rattle.std.proofs.lemmas.Grind.{common_steps}
+use Rattle.std.specs.Prelude.{Box, option_and_then, option_map, unwrap_or}
 use Rattle.std.specs.Box.{box_value}
 use Rattle.clap.specs.Simple.{subcommand_rows}
 use Rattle.clap.specs.Words.{HasKind, HasMatchesOf, IsAmong, Kinds, Row, Text, fault_of, is_simple, kind_of, subcommand_of, subcommand_rows_of}
@@ -23,7 +23,7 @@ chosen kinds x none = rw none refl
 
 not_chosen : {X : Type 0} (kinds : Kinds) (k : ErrorKind) (x : Option X) → IsAmong k kinds → (if length kinds == 0 then x else None) ≡ None
 not_chosen [] k x among = absurd among
-not_chosen (y ∷ kinds) k x among = refl
+not_chosen (y ∷ kinds) k x among = let some : (length (y ∷ kinds) == 0) ≡ false = grind (arith, common_steps) in rw some refl
 
 -- what the words ask for, where clap finds no fault in them
 pub asked_by : (words : List Text) (m : ArgMatches) → fault_of the_command words ≡ [] → HasMatchesOf the_command words m
@@ -46,7 +46,7 @@ pub entered_some : {Z : Type 0} (s : Option (Box SubCommand Z)) (name : Text) (r
     → option_map (λ p. p.1) (subcommand_rows s) ≡ Some rows → subcommand_rows s ≡ Some (name, rows)
 entered_some None name rows a b = absurd (let clash : None ≡ Some name = a in cc)
 entered_some (Some x) name rows a b =
-    ap₂ (λ (n : Text) (r : List Row). Some (n, r)) (some-injective ((out-SubCommand (box_value x)).name.now) name a) (some-injective _ rows b)
+    ap₂ (λ (n : Text) (r : List Row). Some (n, r)) (ap (λ (o : Option Text). unwrap_or o []) a) (ap (λ (o : Option (List Row)). unwrap_or o []) b)
 
 pub entered_none : {Z : Type 0} (s : Option (Box SubCommand Z)) → option_map (λ b. (out-SubCommand (box_value b)).name.now) s ≡ None
     → subcommand_rows s ≡ None

@@ -1,5 +1,5 @@
 -- What a parse found, by its rows, and texts one after another.
-use Rattle.std.proofs.Common.{◌≡◌, ◌∙◌, ℕ, ◌+◌, ◌<◌, List, [], ◌∷◌, ◌++◌, Option, map, length, take, get_or, refl, ap, ap₂, sym}
+use Rattle.std.proofs.Common.{◌≡◌, ◌∙◌, ℕ, suc, ◌+◌, ◌<◌, List, [], ◌∷◌, ◌++◌, Option, map, length, take, get_or, refl, ap, ap₂, sym}
 use Rattle.std.proofs.lemmas.List.{take_all, take_more}
 use Rattle.std.specs.Borrow.{Bor}
 use Rattle.std.specs.Global.{Global}
@@ -17,14 +17,14 @@ all_in_rows = raw_values-rows
 
 map_length : {X Y : Type 0} (f : X → Y) (xs : List X) → length (map f xs) ≡ length xs
 map_length f [] = refl
-map_length f (x ∷ xs) = ap (λ n. n + 1) (map_length f xs)
+map_length f (x ∷ xs) = ap suc (map_length f xs)
 
 map_append : {X Y : Type 0} (f : X → Y) (xs ys : List X) → map f (xs ++ ys) ≡ map f xs ++ map f ys
 map_append f [] ys = refl
 map_append f (x ∷ xs) ys = ap (λ l. f x ∷ l) (map_append f xs ys)
 
-pub texts_length : (texts : Bor (List (Bor Text))) → length (texts_now texts) ≡ length texts.now
-texts_length texts = map_length (λ text. text.now) texts.now
+pub texts_length : (texts : List (Bor Text)) → length (texts_now texts) ≡ length texts
+texts_length texts = map_length (λ text. text.now) texts
 
 -- one text more is copied
 pub copied_more : (copies : List (String Global)) (s : String Global) (texts : List (Bor Text)) (i : ℕ) (d : Bor Text) → i < length texts

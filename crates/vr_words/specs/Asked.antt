@@ -56,8 +56,8 @@ says (command.Node w) = Node (node_says w)
 says (command.Client w) = Client (client_says w)
 
 -- the texts behind references
-abbrev pub texts_now : Bor (List (Bor Text)) → List Text
-texts_now texts = map (λ text. text.now) texts.now
+abbrev pub texts_now : List (Bor Text) → List Text
+texts_now texts = map (λ text. text.now) texts
 
 -- what the values of a command say, as they stand on the command line
 abbrev pub node_texts_say : NodeTexts → NodeAsked
@@ -66,12 +66,12 @@ node_texts_say t = record {
   replica = t.replica;
   file = t.file.now;
   turns = t.turns;
-  peers = texts_now t.peers;
+  peers = texts_now t.peers.now;
   is_fresh = t.is_fresh;
 }
 
 abbrev pub client_texts_say : ClientTexts → ClientAsked
-client_texts_say t = record { cluster = t.cluster; id = t.id; turns = t.turns; peers = texts_now t.peers }
+client_texts_say t = record { cluster = t.cluster; id = t.id; turns = t.turns; peers = texts_now t.peers.now }
 
 -- the number of an argument: decimal digits without sign or leading zeros, below 2 ^ 64
 abbrev pub number_at : Text → List Row → Option ℕ

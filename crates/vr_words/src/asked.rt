@@ -34,7 +34,7 @@ fn below_at(matches: &ArgMatches<'_>, bound: u64, id: &str) -> Option<u64>
 /// All values of the argument for addresses.
 #[tactic(auto, using(crate::proofs::Rows::all_in_rows))]
 fn all_at<'m, 'a>(matches: &'m ArgMatches<'a>) -> Option<&'m [&'a str]>
-    ensures { option_map texts_now result ≡ all_of (codes "addr") (rows_of (found_of matches.now)) }
+    ensures { option_map (λ texts. texts_now texts.now) result ≡ all_of (codes "addr") (rows_of (found_of matches.now)) }
 {
     matches.get_raw("addr")
 }
@@ -49,7 +49,7 @@ fn is_size(n: usize) -> bool
 /// The addresses, as they stand on the command line.
 #[tactic(auto, using(std::proofs::lemmas::Grind::common_steps, crate::proofs::Rows::texts_length), unfolding(crate::specs::Asked::peers_at))]
 fn peers_at<'m, 'a>(matches: &'m ArgMatches<'a>) -> Option<&'m [&'a str]>
-    ensures { option_map texts_now result ≡ peers_at (rows_of (found_of matches.now)) }
+    ensures { option_map (λ texts. texts_now texts.now) result ≡ peers_at (rows_of (found_of matches.now)) }
 {
     let peers = all_at(matches)?;
     if is_size(peers.len()) { Some(peers) } else { None }
@@ -112,7 +112,7 @@ fn member_at<'m, 'a>(
     peers: &'m [&'a str],
 ) -> Option<NodeTexts<'m, 'a>>
     requires { length peers.now ≤ 6 }
-    ensures { option_map node_texts_say result ≡ member_at (texts_now peers) (rows_of (found_of matches.now)) }
+    ensures { option_map node_texts_say result ≡ member_at (texts_now peers.now) (rows_of (found_of matches.now)) }
 {
     let cluster = number_at(matches, "cluster")?;
     let replica = below_at(matches, peers.len() as u64, "replica")? as u8;
@@ -134,7 +134,7 @@ fn asker_at<'m, 'a>(
     matches: &ArgMatches<'a>,
     peers: &'m [&'a str],
 ) -> Option<ClientTexts<'m, 'a>>
-    ensures { option_map client_texts_say result ≡ asker_at (texts_now peers) (rows_of (found_of matches.now)) }
+    ensures { option_map client_texts_say result ≡ asker_at (texts_now peers.now) (rows_of (found_of matches.now)) }
 {
     let cluster = number_at(matches, "cluster")?;
     let id = id_at(matches)?;

@@ -1,7 +1,7 @@
 //! The words of a command line.
-ghost use Rattle.std.specs.Prelude.{◌≡◌, IfOk, None, Some, map, option_and_then, string_bytes};
+ghost use Rattle.std.specs.Prelude.{◌≡◌, ◌≢◌, IfOk, None, Some, map, option_and_then, string_bytes};
 ghost use Rattle.std.specs.Option.{option_map};
-ghost use Rattle.clap.specs.Words.{FailsBy, HasMatchesOf, fault_of, found_of, rows_of, subcommand_rows_of};
+ghost use Rattle.clap.specs.Words.{FailsBy, HasMatchesOf, fault_of, found_of, kind_of, rows_of, subcommand_rows_of};
 ghost use Rattle.vr_words.specs.Asked.{asked, asked_at, says};
 ghost use Rattle.vr_words.specs.Forms.{the_command};
 
@@ -55,6 +55,16 @@ fn entered(alloc: Global, matches: &ArgMatches<'_>) -> Result<Option<Command>, A
     }
 }
 
+/// Why `clap` didn't take the words.
+fn fault_for(error: &Error) -> WordsFault
+    ensures { result ≡ WordsFault.Usage → kind_of error.now ≢ ErrorKind.OutOfMemory }
+{
+    match error.kind() {
+        ErrorKind::OutOfMemory => WordsFault::NoMemory,
+        _ => WordsFault::Usage,
+    }
+}
+
 /// The command that words are: `Usage` exactly where they aren't one of the forms with its numbers in range, want of
 /// memory aside.
 #[tactic(auto, using(crate::proofs::Found::asked_by, crate::proofs::Found::refused_by))]
@@ -64,8 +74,7 @@ pub fn parse(alloc: Global, words: &[String]) -> Result<Command, WordsFault>
 {
     let matches = match matches_of(alloc, words) {
         Ok(matches) => matches,
-        Err(error) if error.kind() == ErrorKind::OutOfMemory => return Err(WordsFault::NoMemory),
-        Err(_) => return Err(WordsFault::Usage),
+        Err(error) => return Err(fault_for(&error)),
     };
     match entered(alloc, &matches) {
         Ok(Some(command)) => Ok(command),

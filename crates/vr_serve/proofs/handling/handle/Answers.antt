@@ -1,4 +1,4 @@
-use Rattle.std.proofs.Common.{◌≡◌, ◌∙◌, [], ◌∷◌, ap, subst}
+use Rattle.std.proofs.Common.{◌∙◌, [], ◌∷◌, ap, subst}
 use Rattle.vr_mail.specs.Sends.{Sends}
 use Rattle.vr_serve.proofs.Cutting.{cut_event, cut_none, on_err, on_err_then, on_ok_all}
 use Rattle.vr_serve.proofs.Running.{passed_one}
@@ -40,5 +40,5 @@ returns-clause-cut g c =
     cut_event g.M.Member.does a c.step.new.self (g.D.SectorDisk.told c.step.new.disk) come c.step.new.out (g.K.Sink.taken c.put_out.new.sink)
     (g.L.Link.sent c.put_out.new.link) c.in_ok-step.ensures.done
     (subst (λ cs. PutsFront (text_from c.args.post.now.number c.step.new.out) (datagrams_for cs c.step.new.out) (g.K.Sink.taken c.args.sink.now)
-        (g.K.Sink.taken c.put_out.new.sink) (g.L.Link.sent c.args.link.now) (g.L.Link.sent c.put_out.new.link)) c.in_ok-hear.ensures front))
+    (g.K.Sink.taken c.put_out.new.sink) (g.L.Link.sent c.args.link.now) (g.L.Link.sent c.put_out.new.link)) c.in_ok-hear.ensures front))
     c.put_out.ensures.front

@@ -50,10 +50,10 @@ returns-in_err-last-clause-cut g c =
     let r = c.in_err-last.ensures.cut in
     on_err c.from_residual-in_err-last.result
     (IsCutBefore c.args.first (g.L.Link.received c.args.link.now) (g.L.Link.received c.turn.new.link) (g.K.Sink.taken c.args.sink.now) (g.K.Sink.taken c.turn.new.sink)
-        (g.L.Link.sent c.args.link.now) (g.L.Link.sent c.turn.new.link)
-        ⊎ IsCutInTurn g.M.Member.does c.args.cluster c.args.turns c.args.first c.args.member.now (g.D.SectorDisk.told c.args.disk.now) (g.L.Link.received c.args.link.now)
-        (g.L.Link.received c.turn.new.link) (g.K.Sink.taken c.args.sink.now) (g.K.Sink.taken c.turn.new.sink) (g.L.Link.sent c.args.link.now) (g.L.Link.sent c.turn.new.link))
+    (g.L.Link.sent c.args.link.now) (g.L.Link.sent c.turn.new.link)
+    ⊎ IsCutInTurn g.M.Member.does c.args.cluster c.args.turns c.args.first c.args.member.now (g.D.SectorDisk.told c.args.disk.now) (g.L.Link.received c.args.link.now)
+    (g.L.Link.received c.turn.new.link) (g.K.Sink.taken c.args.sink.now) (g.K.Sink.taken c.turn.new.sink) (g.L.Link.sent c.args.link.now) (g.L.Link.sent c.turn.new.link))
     (inr (serving_cut g.M.Member.does c.args.cluster c.loop.counter c.loop.last c.args.turns c.args.first c.args.member.now (g.D.SectorDisk.told c.args.disk.now)
-        (g.C.Clock.left c.args.clock.now) (g.C.Clock.left c.loop.clock) (g.L.Link.received c.args.link.now) (g.L.Link.received c.loop.link) (g.L.Link.received c.turn.new.link)
-        (g.K.Sink.taken c.args.sink.now) (g.K.Sink.taken c.turn.new.sink) (g.L.Link.sent c.args.link.now) (g.L.Link.sent c.turn.new.link)
-        b r.0 c.loop.invariant.serving c.loop-test.true r.1 r.2 r.3))
+    (g.C.Clock.left c.args.clock.now) (g.C.Clock.left c.loop.clock) (g.L.Link.received c.args.link.now) (g.L.Link.received c.loop.link) (g.L.Link.received c.turn.new.link)
+    (g.K.Sink.taken c.args.sink.now) (g.K.Sink.taken c.turn.new.sink) (g.L.Link.sent c.args.link.now) (g.L.Link.sent c.turn.new.link)
+    b r.0 c.loop.invariant.serving c.loop-test.true r.1 r.2 r.3))

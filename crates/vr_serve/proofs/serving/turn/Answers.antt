@@ -11,7 +11,7 @@ returns-in_err-arrive-clause-cut g c =
     let a = at c.args.member.now (g.D.SectorDisk.told c.args.disk.now) c.args.post.now.number c.args.post.now.clients.items (g.K.Sink.taken c.args.sink.now) (g.L.Link.sent c.args.link.now) in
     let r = c.in_err-arrive.ensures.cut in
     on_err c.from_residual.result (CutTurn g.M.Member.does a c.args.cluster c.args.last (g.L.Link.received c.args.link.now) (g.L.Link.received c.arrive.new.link)
-        (g.K.Sink.taken c.arrive.new.sink) (g.L.Link.sent c.arrive.new.link))
+    (g.K.Sink.taken c.arrive.new.sink) (g.L.Link.sent c.arrive.new.link))
     (turn_of r.0 r.1 0, r.2, r.3, cut_before g.M.Member.does a (comes_of r.1) (due c.args.last 0) (g.K.Sink.taken c.arrive.new.sink) (g.L.Link.sent c.arrive.new.link) r.4)
 
 pub returns-clause-turned : goal.returns-clause-turned
@@ -35,7 +35,7 @@ returns-clause-cut g c =
     let b = at c.arrive.new.member (g.D.SectorDisk.told c.arrive.new.disk) c.arrive.new.post.number c.arrive.new.post.clients.items (g.K.Sink.taken c.arrive.new.sink) (g.L.Link.sent c.arrive.new.link) in
     let r = c.in_ok-arrive.ensures.passed in
     on_err_then c.beat.result _ (CutTurn g.M.Member.does a c.args.cluster c.args.last (g.L.Link.received c.args.link.now) (g.L.Link.received c.beat.new.link)
-        (g.K.Sink.taken c.beat.new.sink) (g.L.Link.sent c.beat.new.link)) (λ cut. (
+    (g.K.Sink.taken c.beat.new.sink) (g.L.Link.sent c.beat.new.link)) (λ cut. (
       turn_of r.0 r.1 c.now-now.result,
       rw c.beat.ensures.received r.2,
       inl r.3,
