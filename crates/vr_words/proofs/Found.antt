@@ -1,5 +1,5 @@
 -- What the words ask for, by what clap finds.
-use Rattle.std.proofs.Common.{◌≡◌, ◌≢◌, ◌∙◌, ◌⊎◌, ℕ, List, [], ◌∷◌, Option, Some, None, length, true, refl, ap, ap₂, sym, inl, inr, if◌then◌else◌, ◌==◌, arith, false}
+use Rattle.std.proofs.Common.{◌≡◌, ◌≢◌, ◌∙◌, ◌⊎◌, ℕ, List, [], ◌∷◌, Option, Some, None, length, true, refl, ap, ap₂, sym, inl, inr, if◌then◌else◌, ◌==◌, arith, false, Result, Ok, Err}
 use Rattle.std.proofs.lemmas.Grind.{common_steps}
 use Rattle.std.specs.Prelude.{Box, option_and_then, option_map, unwrap_or}
 use Rattle.std.specs.Box.{box_value}
@@ -11,6 +11,9 @@ use Rattle.clap.specs.declared.error.kind.ErrorKind.TheVariants as kind
 use Rattle.clap.specs.declared.parser.matches.ArgMatches.{ArgMatches}
 use Rattle.clap.specs.declared.parser.matches.ArgMatches.TheViews.{out-ArgMatches, out-SubCommand}
 use Rattle.clap.specs.declared.parser.matches.SubCommand.{SubCommand}
+use Rattle.vr_words.specs.declared.command.Command.{Command}
+use Rattle.vr_words.specs.declared.command.WordsFault.{WordsFault}
+use Rattle.vr_words.specs.declared.command.WordsFault.TheVariants as words
 use Rattle.vr_words.specs.Asked.{Asked, asked, asked_at}
 use Rattle.vr_words.specs.Forms.{the_command}
 
@@ -52,3 +55,10 @@ pub entered_none : {Z : Type 0} (s : Option (Box SubCommand Z)) → option_map (
     → subcommand_rows s ≡ None
 entered_none None a = refl
 entered_none (Some x) a = absurd (let clash : Some ((out-SubCommand (box_value x)).name.now) ≡ None = a in cc)
+
+fault_in : Result Command WordsFault → WordsFault
+fault_in (Ok c) = words.Usage
+fault_in (Err f) = f
+
+pub same_fault : (f g : WordsFault) → ◌≡◌ {A = Result Command WordsFault} (Err f) (Err g) → f ≡ g
+same_fault f g e = ap fault_in e

@@ -1,5 +1,5 @@
 //! What the values of a command say.
-ghost use Rattle.std.specs.Prelude.{◌≡◌, ◌≤◌, IfOk, codes, length, map, string_bytes};
+ghost use Rattle.std.specs.Prelude.{◌≡◌, ◌≤◌, IfOk, IfSome, codes, length, map, string_bytes, true};
 ghost use Rattle.std.specs.Option.{option_map};
 ghost use Rattle.clap.specs.Words.{all_of, first_of, found_of, rows_of};
 ghost use Rattle.vr_words.specs.Asked.{asker_at, below_at, client_at, client_says, client_texts_say, fresh_at, id_at, is_size, member_at, node_at, node_says, node_texts_say, number_at, peers_at, soak_at, texts_now};
@@ -41,7 +41,8 @@ fn all_at<'m, 'a>(matches: &'m ArgMatches<'a>) -> Option<&'m [&'a str]>
 
 /// Whether a group has so many members.
 fn is_size(n: usize) -> bool
-    ensures { result ≡ is_size n }
+    ensures value { result ≡ is_size n }
+    ensures few { result ≡ true → n ≤ 6 }
 {
     n >= 2 && n <= 6
 }
@@ -49,7 +50,8 @@ fn is_size(n: usize) -> bool
 /// The addresses, as they stand on the command line.
 #[tactic(auto, using(std::proofs::lemmas::Grind::common_steps, crate::proofs::Rows::texts_length), unfolding(crate::specs::Asked::peers_at))]
 fn peers_at<'m, 'a>(matches: &'m ArgMatches<'a>) -> Option<&'m [&'a str]>
-    ensures { option_map (λ texts. texts_now texts.now) result ≡ peers_at (rows_of (found_of matches.now)) }
+    ensures peers { option_map (λ texts. texts_now texts.now) result ≡ peers_at (rows_of (found_of matches.now)) }
+    ensures few { IfSome result (λ peers. length peers.now ≤ 6) }
 {
     let peers = all_at(matches)?;
     if is_size(peers.len()) { Some(peers) } else { None }
@@ -150,7 +152,7 @@ fn asker_at<'m, 'a>(
 /// Texts of one's own.
 #[tactic(auto, using(std::proofs::lemmas::Grind::common_steps, crate::proofs::Rows::copied_more))]
 fn copied(alloc: Global, texts: &[&str]) -> Result<Vec<String>, AllocError>
-    ensures { IfOk result (λ copies. map string_bytes copies.items ≡ texts_now texts) }
+    ensures { IfOk result (λ copies. map string_bytes copies.items ≡ texts_now texts.now) }
 {
     let mut copies = Vec::new(alloc);
     for text in texts {
