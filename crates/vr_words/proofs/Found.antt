@@ -56,7 +56,7 @@ pub entered_none : {Z : Type 0} (s : Option (Box SubCommand Z)) → option_map (
 entered_none None a = refl
 entered_none (Some x) a = absurd (let clash : Some ((out-SubCommand (box_value x)).name.now) ≡ None = a in cc)
 
-fault_in : Result Command WordsFault → WordsFault
+abbrev fault_in : Result Command WordsFault → WordsFault
 fault_in (Ok c) = words.Usage
 fault_in (Err f) = f
 
