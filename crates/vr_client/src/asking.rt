@@ -17,10 +17,11 @@ use crate::answer::{Heed, heed_letter};
 use crate::{Answer, AskFault, ClientCore};
 use std::alloc::AllocError;
 use vr_base::Sum;
+use vr_codec::encode;
 use vr_edge::Link;
 use vr_header::{Header, Operation};
 use vr_mail::{receive_letter, send_bytes};
-use vr_msg::{Message, Request, RequestFields, encode};
+use vr_msg::{Message, Request, RequestFields};
 
 /// Puts the bytes of a request in the place of what is there.
 fn spell(fields: RequestFields, bytes: &mut Vec<u8>) -> Result<(), AllocError>

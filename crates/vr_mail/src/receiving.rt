@@ -9,8 +9,9 @@ ghost use Rattle.vr_mail.specs.declared.receiving.ReceiveFault.TheVariants as fa
 
 use crate::cluster::cluster_of;
 use std::alloc::{AllocError, Global};
+use vr_codec::{MsgFault, decode};
 use vr_edge::{Link, LinkFailed, RECEIVE_ROOM, Received};
-use vr_msg::{Message, MsgFault, decode};
+use vr_msg::Message;
 
 /// A message that came, and the port of its sender.
 #[derive(Debug, Drop, PartialEq, Eq)]

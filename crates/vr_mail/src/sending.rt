@@ -5,8 +5,9 @@ ghost use Rattle.vr_mail.specs.Sends.{Sends};
 ghost use Rattle.vr_msg.specs.Spelling.{spelling};
 
 use std::alloc::AllocError;
+use vr_codec::encode;
 use vr_edge::Link;
-use vr_msg::{Message, encode};
+use vr_msg::Message;
 
 /// Sends bytes to a port; if that fails they are lost, and nothing else.
 pub fn send_bytes<L: Link>(link: &mut L, port: u32, bytes: &[u8])

@@ -6,9 +6,10 @@ use std::alloc::{AllocError, Global};
 use std::test::Fail;
 use vr_base::ByteList;
 use vr_client::{Answer, AskFault, ClientCore};
+use vr_codec::encode;
 use vr_edge::{Datagram, LinkRoom, LinkScript, MemLink};
 use vr_header::{Operation, Outcome};
-use vr_msg::{Answered, Message, Reply, ReplyKind, Request, RequestFields, encode};
+use vr_msg::{Answered, Message, Reply, ReplyKind, Request, RequestFields};
 
 /// A client of group 5 registers.
 fn register(client: u64) -> Request {

@@ -5,11 +5,12 @@ ghost use Rattle.std.specs.Prelude.{⊤, true};
 use std::alloc::{AllocError, Global};
 use std::test::Fail;
 use vr_base::{ByteList, Seq};
+use vr_codec::encode;
 use vr_disk::{NoDisk, SectorDisk};
 use vr_edge::{Datagram, LinkRoom, LinkScript, MemClock, MemLink, MemSink};
 use vr_header::Operation;
 use vr_msg::{
-    Event, GetView, Message, Outbox, Output, Reply, ReplyKind, Request, RequestFields, Sent, encode,
+    Event, GetView, Message, Outbox, Output, Reply, ReplyKind, Request, RequestFields, Sent,
 };
 use vr_serve::{Halt, Member, Stop, serve};
 

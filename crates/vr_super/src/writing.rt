@@ -3,13 +3,13 @@ ghost use Rattle.std.specs.Prelude.{◌≡◌, ◌<◌, [], length, IfErr, IfSom
 ghost use Rattle.vr_base.specs.Causes.{HasCause};
 ghost use Rattle.vr_disk.specs.DiskState.{Runs, RunsFrom};
 ghost use Rattle.vr_super.specs.Calls.{mend_from, save_from, write_calls};
-ghost use Rattle.vr_super.specs.Copies.{IsGood};
+ghost use Rattle.vr_super.specs.Copies.{IsGood, copy_bytes};
 ghost use Rattle.vr_super.specs.Laws.{WriteLeads, Written};
 ghost use Rattle.vr_super.specs.Opens.{opens};
 
 use crate::sectors::{mend_unless, write_copy};
 use crate::{Super, SuperFault};
-use vr_disk::{DiskFailed, SectorDisk};
+use vr_disk::{DiskFailed, DiskFault, SectorDisk};
 
 /// Mends each copy that doesn't read as these bytes.
 pub fn mend<D: SectorDisk>(disk: &mut D, bytes: &[u8]) -> Result<(), DiskFailed>
@@ -33,6 +33,15 @@ fn save<D: SectorDisk>(disk: &mut D, bytes: &[u8]) -> Result<(), DiskFailed>
     for copy in 0..4 {
         write_copy(disk, copy, bytes)?;
     }
+    Ok(())
+}
+
+/// Writes a value to all four copies of a disk that has none to be mended.
+pub fn write_copies<D: SectorDisk>(disk: &mut D, value: &Super) -> Result<(), DiskFault>
+    ensures runs { Runs (save_from 0 4 (copy_bytes value.now)) (D.told disk.old) (D.told disk.new) (is_ok result) }
+    ensures cause { HasCause (D.faults disk.old) (D.faults disk.new) result }
+{
+    save(disk, value.bytes())?;
     Ok(())
 }
 

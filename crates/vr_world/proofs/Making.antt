@@ -15,7 +15,7 @@ use Rattle.vr_model.specs.declared.memory.Memory.{Memory}
 use Rattle.vr_model.specs.Rules.{react}
 use Rattle.vr_model.specs.Steps.{Does, outputs}
 use Rattle.vr_model.specs.World.{fresh, no_world, no_face, grouped}
-use Rattle.vr_replica.specs.declared.replica.Replica.{Replica}
+use Rattle.vr_memory.specs.declared.replica.Replica.{Replica}
 use Rattle.vr_world.specs.Group.{memories, IsReady, AreReady}
 
 pub memories_more : (rs : List Replica) (r : Replica) → memories (rs ++ r ∷ []) ≡ memories rs ++ r.memory ∷ []

@@ -3,7 +3,7 @@ use Rattle.std.specs.Prelude.{◌≡◌, Bool, true, List, All, map}
 use Rattle.vr_model.specs.declared.memory.Memory.{Memory}
 use Rattle.vr_model.specs.Sound.{IsSound}
 use Rattle.vr_model.specs.World.{World}
-use Rattle.vr_replica.specs.declared.replica.Replica.{Replica}
+use Rattle.vr_memory.specs.declared.replica.Replica.{Replica}
 use Rattle.vr_world.specs.declared.members.Members.{Members}
 
 -- replicas and messages, and whether the group goes on

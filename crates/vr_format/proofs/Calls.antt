@@ -1,0 +1,56 @@
+-- Calls that are made one after the other.
+use Rattle.std.proofs.Common.{arith, ℕ, zero, suc, ◌≡◌, ◌<◌, ◌≤◌, ◌+◌, ◌-◌, refl, sym, ap, subst, List, [], ◌∷◌, ◌++◌, map, Option, Bool, true, false}
+use Rattle.std.specs.List.{range_with_len}
+use Rattle.vr_disk.specs.DiskState.{Call, Write, Disk, Runs}
+use Rattle.vr_disk.proofs.Running.{Runs_then, Runs_stopped, runs_nothing}
+use Rattle.vr_rules.specs.Lying.{zero_prepares, zero_sector, reserved_headers}
+use Rattle.vr_format.specs.Calls.{zero_call, reserved_call, calls_from, Making}
+
+calls_past : (c : ℕ → Call) (i end : ℕ) → end ≤ i → calls_from c i end ≡ []
+unfolding calls_from
+calls_past c i end l = let none : end - i ≡ 0 = omega arith in rw none refl
+
+calls_step : (c : ℕ → Call) (i end : ℕ) → i < end → calls_from c i end ≡ c i ∷ calls_from c (i + 1) end
+unfolding calls_from
+calls_step c i end l = let more : end - i ≡ suc (end - (i + 1)) = omega arith in rw more refl
+
+making_goes : (c : ℕ → Call) (i end : ℕ) (cs : List Call) (d d' d'' : Option Disk) → i < end → Making cs (calls_from c i end) d d' → Runs (c i ∷ []) d' d'' true → Making cs (calls_from c (i + 1) end) d d''
+making_goes c i end cs d d' d'' l m one = record {
+  goes = λ e ok h. m.goes e ok (rw (calls_step c i end l) (Runs_then (c i ∷ []) (calls_from c (i + 1) end) d' d'' e ok one h));
+}
+
+making_stops : (c : ℕ → Call) (i end : ℕ) (cs : List Call) (d d' d'' : Option Disk) → i < end → Making cs (calls_from c i end) d d' → Runs (c i ∷ []) d' d'' false → Runs cs d d'' false
+making_stops c i end cs d d' d'' l m one = m.goes d'' false (rw (calls_step c i end l) (Runs_stopped (c i ∷ []) (calls_from c (i + 1) end) d' d'' one))
+
+making_ends : (c : ℕ → Call) (i end : ℕ) (cs : List Call) (d d' : Option Disk) → end ≤ i → Making cs (calls_from c i end) d d' → Runs cs d d' true
+making_ends c i end cs d d' l m = m.goes d' true (rw (calls_past c i end l) (runs_nothing d'))
+
+-- ---- zeros
+
+pub zeros_begin : (d : Option Disk) → Making zero_prepares (calls_from zero_call 144 400) d d
+unfolding calls_from
+zeros_begin d = record { goes = λ e ok h. h }
+
+pub zeros_go : (i : ℕ) (b : List ℕ) (cs : List Call) (d d' d'' : Option Disk) → i < 400 → b ≡ zero_sector → Making cs (calls_from zero_call i 400) d d' → Runs (Write i b ∷ []) d' d'' true → Making cs (calls_from zero_call (i + 1) 400) d d''
+zeros_go i b cs d d' d'' l e m one = making_goes zero_call i 400 cs d d' d'' l m (rw e at one)
+
+pub zeros_stop : (i : ℕ) (b : List ℕ) (cs : List Call) (d d' d'' : Option Disk) → i < 400 → b ≡ zero_sector → Making cs (calls_from zero_call i 400) d d' → Runs (Write i b ∷ []) d' d'' false → Runs cs d d'' false
+zeros_stop i b cs d d' d'' l e m one = making_stops zero_call i 400 cs d d' d'' l m (rw e at one)
+
+pub zeros_end : (i : ℕ) (cs : List Call) (d d' : Option Disk) → 400 ≤ i → Making cs (calls_from zero_call i 400) d d' → Runs cs d d' true
+zeros_end i cs d d' l m = making_ends zero_call i 400 cs d d' l m
+
+-- ---- headers
+
+pub headers_begin : (cluster : ℕ) (d : Option Disk) → Making (reserved_headers cluster) (calls_from (reserved_call cluster) 0 64) d d
+unfolding calls_from
+headers_begin cluster d = record { goes = λ e ok h. h }
+
+pub headers_go : (cluster i : ℕ) (cs : List Call) (d d' d'' : Option Disk) → i < 64 → Making cs (calls_from (reserved_call cluster) i 64) d d' → Runs (reserved_call cluster i ∷ []) d' d'' true → Making cs (calls_from (reserved_call cluster) (i + 1) 64) d d''
+headers_go cluster i cs d d' d'' l m one = making_goes (reserved_call cluster) i 64 cs d d' d'' l m one
+
+pub headers_stop : (cluster i : ℕ) (cs : List Call) (d d' d'' : Option Disk) → i < 64 → Making cs (calls_from (reserved_call cluster) i 64) d d' → Runs (reserved_call cluster i ∷ []) d' d'' false → Runs cs d d'' false
+headers_stop cluster i cs d d' d'' l m one = making_stops (reserved_call cluster) i 64 cs d d' d'' l m one
+
+pub headers_end : (cluster i : ℕ) (cs : List Call) (d d' : Option Disk) → 64 ≤ i → Making cs (calls_from (reserved_call cluster) i 64) d d' → Runs cs d d' true
+headers_end cluster i cs d d' l m = making_ends (reserved_call cluster) i 64 cs d d' l m

@@ -1,0 +1,21 @@
+-- Calls that are made one after the other.
+use Rattle.std.specs.Prelude.{ℕ, ◌-◌, List, map, Option, Bool, true}
+use Rattle.std.specs.List.{range_with_len}
+use Rattle.vr_disk.specs.DiskState.{Call, Write, Disk, Runs}
+use Rattle.vr_disk.specs.Regions.{header_at}
+use Rattle.vr_rings.specs.Slots.{sector_of}
+use Rattle.vr_rules.specs.Lying.{reserved_header, zero_sector}
+
+abbrev pub zero_call : ℕ → Call
+zero_call i = Write i zero_sector
+
+abbrev pub reserved_call : ℕ → ℕ → Call
+reserved_call cluster slot = Write (header_at slot) (sector_of (reserved_header cluster slot))
+
+-- those from a number on, up to another one
+unfoldable pub calls_from : (ℕ → Call) → ℕ → ℕ → List Call
+calls_from c i end = map c (range_with_len i (end - i))
+
+-- in the middle of calls: what the rest does, the whole does
+pub record Making (cs rest : List Call) (d d' : Option Disk) : Type 0 where
+  pub goes : (d'' : Option Disk) (ok : Bool) → Runs rest d' d'' ok → Runs cs d d'' ok

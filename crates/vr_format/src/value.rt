@@ -1,0 +1,37 @@
+//! The value with which a member begins.
+ghost use Rattle.std.specs.Prelude.{◌≡◌, ◌<◌, IfOk, is_some, true};
+ghost use Rattle.vr_base.specs.Groups.{quorums_of};
+ghost use Rattle.vr_rules.specs.Opening.{first_value};
+
+use std::alloc::Global;
+use vr_base::{Config, NoMemory, Seq, Sum};
+use vr_super::{Fields, Super};
+
+// Its numbers.
+fn first_fields(config: &Config) -> Fields
+    ensures { result ≡ (first_value config.now.cluster config.now.n config.now.replica).fields }
+{
+    Fields {
+        sequence: 1,
+        cluster: config.cluster,
+        view: 0,
+        log_view: 0,
+        checkpoint: 0,
+        root_address: 0,
+        root_name: Sum([0; 16]),
+        commit: 0,
+        head: 0,
+        replica: config.replica,
+        n: config.n,
+    }
+}
+
+/// The superblock's value of a member of a new group.
+#[tactic(auto, using(crate::proofs::First::first_good))]
+pub fn first_value(alloc: Global, config: &Config) -> Result<Super, NoMemory>
+    requires size { is_some (quorums_of config.now.n) ≡ true }
+    requires member { config.now.replica < config.now.n }
+    ensures { IfOk result (λ v. v ≡ first_value config.now.cluster config.now.n config.now.replica) }
+{
+    Super::new(alloc, first_fields(config), Seq::new(alloc))
+}

@@ -1,0 +1,97 @@
+//! The calls that format a disk.
+ghost use Rattle.std.specs.Prelude.{◌≡◌, ◌<◌, ◌∷◌, [], is_ok};
+ghost use Rattle.vr_base.specs.Causes.{HasCause};
+ghost use Rattle.vr_disk.specs.DiskState.{Runs, Write};
+ghost use Rattle.vr_disk.specs.Regions.{header_at};
+ghost use Rattle.vr_header.specs.Spelling.{IsHeader};
+ghost use Rattle.vr_rings.specs.Slots.{sector_of};
+ghost use Rattle.vr_rules.specs.Lying.{format_calls, reserved_header, reserved_headers, zero_prepares};
+ghost use Rattle.vr_rules.specs.Opening.{first_value};
+ghost use Rattle.vr_format.specs.Calls.{reserved_call};
+
+use vr_base::{Config, Sum, checksum, put};
+use vr_disk::{DiskFailed, DiskFault, Sector, SectorDisk, header_at};
+use vr_header::{Command, Header, Size, encode};
+use vr_super::Super;
+
+/// Writes zeros to all prepares.
+#[tactic(auto, using(crate::proofs::Calls::zeros_begin, crate::proofs::Calls::zeros_go, crate::proofs::Calls::zeros_stop, crate::proofs::Calls::zeros_end))]
+fn zero_prepares<D: SectorDisk>(disk: &mut D) -> Result<(), DiskFailed>
+    ensures runs { Runs zero_prepares (D.told disk.old) (D.told disk.new) (is_ok result) }
+    ensures cause { HasCause (D.faults disk.old) (D.faults disk.new) result }
+{
+    let zeros = Sector { bytes: [0; 512] };
+    for i in 144..400u32 {
+        disk.write(i, &zeros)?;
+    }
+    Ok(())
+}
+
+// The header of a slot that has no entry yet.
+fn reserved_header(cluster: u64, slot: u32) -> Header
+    ensures { result ≡ reserved_header cluster slot }
+{
+    let none = Sum([0; 16]);
+    Header {
+        body: checksum(&[]),
+        parent: none,
+        request_name: none,
+        cluster,
+        client: 0,
+        request: 0,
+        view: 0,
+        op: slot as u64,
+        commit: 0,
+        size: Size::new(128),
+        command: Command::Reserved,
+        replica: 0,
+        kind: 0,
+        aux: 0,
+    }
+}
+
+// The sector of a header.
+#[tactic(auto, using(vr_rings::proofs::Spelling::spelled_sector))]
+fn sector_of(header: &Header) -> Sector
+    ensures bytes { result.bytes ≡ sector_of header.now }
+{
+    let mut sector = Sector { bytes: [0; 512] };
+    put(&mut sector.bytes, 0, &encode(header));
+    sector
+}
+
+// Writes the header of a slot that has no entry yet.
+fn reserve<D: SectorDisk>(disk: &mut D, cluster: u64, slot: u32) -> Result<(), DiskFailed>
+    requires { slot < 64 }
+    ensures runs { Runs (reserved_call cluster slot ∷ []) (D.told disk.old) (D.told disk.new) (is_ok result) }
+    ensures cause { HasCause (D.faults disk.old) (D.faults disk.new) result }
+{
+    let sector = sector_of(&reserved_header(cluster, slot));
+    disk.write(header_at(slot), &sector)
+}
+
+/// Writes the headers of all slots.
+#[tactic(auto, using(crate::proofs::Calls::headers_begin, crate::proofs::Calls::headers_go, crate::proofs::Calls::headers_stop, crate::proofs::Calls::headers_end))]
+fn reserve_all<D: SectorDisk>(disk: &mut D, cluster: u64) -> Result<(), DiskFailed>
+    ensures runs { Runs (reserved_headers cluster) (D.told disk.old) (D.told disk.new) (is_ok result) }
+    ensures cause { HasCause (D.faults disk.old) (D.faults disk.new) result }
+{
+    for slot in 0..64u32 {
+        reserve(disk, cluster, slot)?;
+    }
+    Ok(())
+}
+
+/// Formats the disk of a member of a new group, whose first value this is: zeros to the prepares, a header to each slot, one sync,
+/// and the four copies of the value.
+#[tactic(auto, using(vr_disk::proofs::Running::Runs_then, vr_disk::proofs::Running::Runs_stopped))]
+pub fn format<D: SectorDisk>(disk: &mut D, config: &Config, value: &Super) -> Result<(), DiskFault>
+    requires { value.now ≡ first_value config.now.cluster config.now.n config.now.replica }
+    ensures runs { Runs (format_calls config.now.cluster config.now.n config.now.replica) (D.told disk.old) (D.told disk.new) (is_ok result) }
+    ensures cause { HasCause (D.faults disk.old) (D.faults disk.new) result }
+{
+    zero_prepares(disk)?;
+    reserve_all(disk, config.cluster)?;
+    disk.sync()?;
+    vr_super::write_copies(disk, value)
+}

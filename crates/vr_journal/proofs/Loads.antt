@@ -1,0 +1,89 @@
+-- What loading a checkpoint leaves.
+use Rattle.std.proofs.Common.{◌≡◌, ◌≤◌, refl, Bool, List, [], ◌∷◌, Option, Some, None, true, false, Result, Ok, Err}
+use Rattle.std.specs.Prelude.{IfSome, nat_lt}
+use Rattle.vr_apply.specs.declared.codec.Texts.{Texts}
+use Rattle.vr_apply.specs.declared.state.State.{State}
+use Rattle.vr_apply.specs.Texts.{state_decoded}
+use Rattle.vr_ckpt.specs.declared.found.Load.{Load}
+use Rattle.vr_ckpt.specs.declared.found.Load.TheVariants.{Loaded, Missing}
+use Rattle.vr_ckpt.specs.declared.table.Table.{Table}
+use Rattle.vr_ckpt.specs.Loads.{loaded}
+use Rattle.vr_disk.specs.DiskState.{Disk}
+use Rattle.vr_grid.specs.declared.name.Name.{Name}
+use Rattle.vr_model.specs.Sound.{HaveNumbers}
+use Rattle.vr_msg.specs.declared.output.Output.{Output}
+use Rattle.vr_table.specs.declared.fault.StateFault.{StateFault}
+use Rattle.vr_table.specs.declared.fault.StateFault.TheVariants as fault
+use Rattle.vr_table.specs.Table.{IsOrNoMemory}
+use Rattle.vr_rules.specs.Replica.{Replica}
+use Rattle.vr_rules.specs.Sound.{IsSavable}
+use Rattle.vr_rules.specs.Words.{load, loads, loaded_state, with_state, with_missing, checkpoint_at}
+use Rattle.vr_rules.proofs.SavesWell.{savable_alike}
+use Rattle.vr_rules.proofs.Wording.{kept_loads}
+use Rattle.vr_step.specs.Does.{Does, Finds}
+use Rattle.vr_step.proofs.Stepping.{does_by, does_quiet, does_reading, change_by}
+use Rattle.vr_journal.specs.Ready.{IsReady, MayLoad, TextsHaveNumbers, Decodes, NotDecoded}
+
+pub ready_opened : (r : Replica) → MayLoad r → IsReady r
+unfolding MayLoad
+ready_opened r h = h.ready
+
+pub not_decoded : (t : Texts) (f : StateFault) → IsOrNoMemory (state_decoded t) f → (f ≡ fault.NoMemory → ⊥) → NotDecoded t
+not_decoded t fault.Torn h n = record { fault = fault.Torn; is = h }
+not_decoded t fault.NotSorted h n = record { fault = fault.NotSorted; is = h }
+not_decoded t fault.TooMany h n = record { fault = fault.TooMany; is = h }
+not_decoded t fault.NoMemory h n = absurd (n refl)
+
+pub loads_state : (t : Texts) (table : Table) (s : State) (r q : Replica) → Decodes t (Some s) → q ≡ with_state table s r → q ≡ loads r.root (Loaded t table) r
+loads_state t table s r q d e = rw d e
+
+pub loads_none : (t : Texts) (table : Table) (r q : Replica) (names : List Name) → Decodes t None → names ≡ r.root ∷ [] → q ≡ with_missing names r → q ≡ loads r.root (Loaded t table) r
+loads_none t table r q names d n e = rw d.is (rw n at e)
+
+pub checkpoint_found : (root : Name) (l : Load) (d d' : Option Disk) → d' ≡ d → IfSome d (λ x. l ≡ loaded x.face root) → Finds (checkpoint_at root) d d' l
+checkpoint_found root l d d' e h = record { same = e; value = h }
+
+pub load_then : (l : Load) (r q : Replica) (d d' : Option Disk) (o : List Output) → nat_lt 0 r.checkpoint ≡ true → Finds (checkpoint_at r.root) d d' l → q ≡ loads r.root l r → Does load r q d d' o o (Ok tt)
+unfolding load
+load_then l r q d d' o t f e = does_by _ r q d d' o o (Ok tt) (rw t (does_reading (checkpoint_at r.root) _ l r q d d' d' o o (Ok tt) f (change_by (loads r.root l) r q d' o e)))
+
+pub load_none : (r : Replica) (d : Option Disk) (o : List Output) → nat_lt 0 r.checkpoint ≡ false → Does load r r d d o o (Ok tt)
+unfolding load
+load_none r d o t = does_by _ r r d d o o (Ok tt) (rw t (does_quiet r d o))
+
+loaded_numbers : (root : Name) (table : Table) (r : Replica) (t : Texts) (x : Result State StateFault) → TextsHaveNumbers → state_decoded t ≡ x → HaveNumbers r.state.sessions → HaveNumbers (loaded_state root table x r).state.sessions
+unfolding with_state
+loaded_numbers root table r t (Ok s) n e h = n t s e
+loaded_numbers root table r t (Err f) n e h = h
+
+loads_numbers : (root : Name) (l : Load) (r : Replica) → TextsHaveNumbers → HaveNumbers r.state.sessions → HaveNumbers (loads root l r).state.sessions
+loads_numbers root (Loaded t table) r n h = loaded_numbers root table r t (state_decoded t) n refl h
+loads_numbers root (Missing names) r n h = h
+
+loaded_savable : (root : Name) (table : Table) (x : Result State StateFault) (r : Replica) → IsSavable r → IsSavable (loaded_state root table x r)
+unfolding with_state
+loaded_savable root table (Ok s) r h = savable_alike r (with_state table s r) refl h
+loaded_savable root table (Err f) r h = savable_alike r (with_missing (root ∷ []) r) refl h
+
+loads_savable : (root : Name) (l : Load) (r : Replica) → IsSavable r → IsSavable (loads root l r)
+loads_savable root (Loaded t table) r h = loaded_savable root table (state_decoded t) r h
+loads_savable root (Missing names) r h = savable_alike r (with_missing names r) refl h
+
+loaded_idle : (root : Name) (table : Table) (x : Result State StateFault) (r : Replica) → r.idle ≤ 9 → (loaded_state root table x r).idle ≤ 9
+unfolding with_state
+loaded_idle root table (Ok s) r h = h
+loaded_idle root table (Err f) r h = h
+
+loads_idle : (root : Name) (l : Load) (r : Replica) → r.idle ≤ 9 → (loads root l r).idle ≤ 9
+loads_idle root (Loaded t table) r h = loaded_idle root table (state_decoded t) r h
+loads_idle root (Missing names) r h = h
+
+pub ready_loaded : (l : Load) (r q : Replica) → TextsHaveNumbers → MayLoad r → q ≡ loads r.root l r → IsReady q
+unfolding MayLoad IsReady
+ready_loaded l r q n h e =
+    rw e (record {
+      sound = (kept_loads r.root l r h.ready.sound h.applied).sound;
+      savable = loads_savable r.root l r h.ready.savable;
+      numbers = loads_numbers r.root l r n h.ready.numbers;
+      idle = loads_idle r.root l r h.ready.idle;
+    })

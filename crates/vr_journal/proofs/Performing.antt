@@ -1,0 +1,104 @@
+-- What the calls of the storage crates are as effects.
+use Rattle.std.proofs.Common.{arith, ℕ, ◌≤◌, ◌+◌, ◌≡◌, refl, List, Bool, true, false, Option, Some, None, Result, Ok, Err}
+use Rattle.vr_disk.specs.DiskState.{Call, Disk, Runs, RunsFrom}
+use Rattle.vr_header.specs.Made.{Whole}
+use Rattle.vr_rings.specs.Calls.{again_calls, new_calls, header_calls}
+use Rattle.vr_grid.specs.Grid.{put_calls}
+use Rattle.vr_grid.specs.declared.name.Name.{Name}
+use Rattle.vr_header.specs.declared.header.Header.{Header}
+use Rattle.vr_journal.specs.Effects.{rewrites, puts}
+use Rattle.vr_rules.specs.Replica.{Replica, part_at}
+use Rattle.vr_super.specs.Calls.{write_calls}
+use Rattle.vr_super.specs.Copies.{Saved}
+use Rattle.vr_rules.specs.Words.{writes, saves, value_of, may_be_stored}
+use Rattle.vr_apply.specs.declared.codec.Texts.{Texts}
+use Rattle.vr_apply.specs.Texts.{texts_of}
+use Rattle.vr_ckpt.specs.declared.saving.Saved as checkpoint
+use Rattle.vr_ckpt.specs.Saves.{save_calls, saved}
+use Rattle.vr_grid.specs.Grid.{Leaves}
+use Rattle.vr_grid.specs.declared.fault.CkptFault.{CkptFault}
+use Rattle.vr_grid.specs.declared.fault.CkptFault.TheVariants as fault
+use Rattle.vr_msg.specs.declared.output.Output.{Output}
+use Rattle.vr_rules.specs.Steps.{◌⨾◌, change, does}
+use Rattle.vr_rules.specs.Words.{checkpoints, checkpoint_of, with_checkpoint, make_checkpoint, save}
+use Rattle.vr_step.specs.declared.halt.Halt.{Halt}
+use Rattle.vr_step.specs.declared.halt.Halt.TheVariants.{DiskFault, NoMemory}
+use Rattle.vr_step.proofs.Stepping.{performs_ok, performs_fault, performs_want, performed, performs_halted, does_by, does_reading, does_then, does_no_memory, change_by_then}
+use Rattle.vr_step.specs.Does.{Does, Finds, Performs, PerformsTo}
+
+-- calls that don't depend on what the disk holds
+pub runs_from : (cs : List Call) (d d' : Option Disk) (ok : Bool) → Runs cs d d' ok → RunsFrom (λ f. cs) d d' ok
+runs_from cs None d' ok h = h
+runs_from cs (Some x) d' ok h = h
+
+pub write_is_again : (e : Whole) (r : Replica) (d d' : Option Disk) (ok : Bool) → may_be_stored (part_at r e.header.op) ≡ true → Runs (again_calls e) d d' ok → Performs (writes e) r d d' ok
+write_is_again e r d d' ok i h = record { silent = refl; ran = rw i (runs_from (again_calls e) d d' ok h) }
+
+pub write_is_new : (e : Whole) (r : Replica) (d d' : Option Disk) (ok : Bool) → may_be_stored (part_at r e.header.op) ≡ false → Runs (new_calls e) d d' ok → Performs (writes e) r d d' ok
+write_is_new e r d d' ok i h = record { silent = refl; ran = rw i (runs_from (new_calls e) d d' ok h) }
+
+pub save_is : (r : Replica) (v : Saved) (d d' : Option Disk) (ok : Bool) → v ≡ value_of r → RunsFrom (write_calls r.saved v) d d' ok → Performs saves r d d' ok
+save_is r v d d' ok e h = let k = rw e at h in record { silent = refl; ran = k }
+
+pub one_spent : (r : Replica) (v : Saved) → v ≡ value_of r → v.fields.sequence ≤ r.saved.fields.sequence + 1
+unfolding value_of
+one_spent r v e = rw e (omega arith)
+
+pub rewrite_is : (h : Header) (r : Replica) (d d' : Option Disk) (ok : Bool) → Runs (header_calls h) d d' ok → Performs (rewrites h) r d d' ok
+unfolding rewrites
+rewrite_is h r d d' ok k = record { silent = refl; ran = runs_from (header_calls h) d d' ok k }
+
+pub put_is : (name : Name) (block : List ℕ) (r : Replica) (d d' : Option Disk) (ok : Bool) → Runs (put_calls name.address block) d d' ok → Performs (puts name block) r d d' ok
+unfolding puts
+put_is name block r d d' ok k = record { silent = refl; ran = runs_from (put_calls name.address block) d d' ok k }
+
+-- ---- a checkpoint
+
+module _ (r : Replica) (texts : Texts) (d d' : Option Disk) (res : Result checkpoint.Saved CkptFault) (t : texts ≡ texts_of r.state) (h : Leaves (save_calls r.cluster texts r.applied r.table) d d' res) where
+  pub checkpoint_ok : (c : checkpoint.Saved) → res ≡ Ok c → PerformsTo checkpoints r d d' (Ok tt)
+  checkpoint_ok c e =
+      let k : Runs (save_calls r.cluster (texts_of r.state) r.applied r.table) d d' true = rw (e, t) at h in
+      performs_ok checkpoints r d d' (record { silent = refl; ran = runs_from (save_calls r.cluster (texts_of r.state) r.applied r.table) d d' true k })
+
+  pub checkpoint_fault : res ≡ Err fault.DiskFault → PerformsTo checkpoints r d d' (Err DiskFault)
+  checkpoint_fault e =
+      let k : Runs (save_calls r.cluster (texts_of r.state) r.applied r.table) d d' false = rw (e, t) at h in
+      performs_fault checkpoints r d d' (record { silent = refl; ran = runs_from (save_calls r.cluster (texts_of r.state) r.applied r.table) d d' false k })
+
+  pub checkpoint_want : res ≡ Err fault.NoMemory → PerformsTo checkpoints r d d' (Err NoMemory)
+  checkpoint_want e =
+      let k : d' ≡ d = rw e at h in
+      rw k (performs_want checkpoints r d refl)
+
+-- before anything is written
+pub checkpoint_none : (r : Replica) (d : Option Disk) → PerformsTo checkpoints r d d (Err NoMemory)
+checkpoint_none r d = performs_want checkpoints r d refl
+
+checkpoint_found : (r : Replica) (d : Option Disk) → Finds (checkpoint_of r) d d (saved r.cluster (texts_of r.state) r.applied r.table)
+checkpoint_found r None = record { same = refl; value = tt }
+checkpoint_found r (Some y) = record { same = refl; value = refl }
+
+pub checkpoint_then : (r q r2 : Replica) (c : checkpoint.Saved) (d d1 d2 : Option Disk) (o o' : List Output) (res : Result (Unit {0}) Halt) → PerformsTo checkpoints r d d1 (Ok tt)
+    → c ≡ saved r.cluster (texts_of r.state) r.applied r.table → q ≡ with_checkpoint c r → Does save q r2 d1 d2 o o' res → Does make_checkpoint r r2 d d2 o o' res
+unfolding make_checkpoint
+checkpoint_then r q r2 c d d1 d2 o o' res p s e h =
+    let v : checkpoint.Saved = saved r.cluster (texts_of r.state) r.applied r.table in
+    let i : q ≡ with_checkpoint v r = rw s at e in
+    does_by _ r r2 d d2 o o' res (does_reading (checkpoint_of r) _ v r r2 d d d2 o o' res (checkpoint_found r d)
+    (does_then (does checkpoints) (change (with_checkpoint v) ⨾ save) r r r2 d d1 d2 o o o' res (performed checkpoints r r d d1 o p) (change_by_then (with_checkpoint v) save r q r2 d1 d2 o o' res i h)))
+
+pub checkpoint_stopped : (r q : Replica) (d d1 : Option Disk) (o o' : List Output) (halt : Halt) → PerformsTo checkpoints r d d1 (Err halt) → Does make_checkpoint r q d d1 o o' (Err halt)
+unfolding make_checkpoint
+checkpoint_stopped r q d d1 o o' halt p =
+    let v : checkpoint.Saved = saved r.cluster (texts_of r.state) r.applied r.table in
+    does_by _ r q d d1 o o' (Err halt) (does_reading (checkpoint_of r) _ v r q d d d1 o o' (Err halt) (checkpoint_found r d) (performs_halted checkpoints (change (with_checkpoint v) ⨾ save) r q d d1 o o' halt p))
+
+-- the window can't move for want of memory
+pub checkpoint_wanted : (r q : Replica) (d d1 : Option Disk) (o o' : List Output) → PerformsTo checkpoints r d d1 (Ok tt) → Does make_checkpoint r q d d1 o o' (Err NoMemory)
+unfolding make_checkpoint
+checkpoint_wanted r q d d1 o o' p =
+    let v : checkpoint.Saved = saved r.cluster (texts_of r.state) r.applied r.table in
+    does_by _ r q d d1 o o' (Err NoMemory) (does_reading (checkpoint_of r) _ v r q d d d1 o o' (Err NoMemory) (checkpoint_found r d)
+    (does_then (does checkpoints) (change (with_checkpoint v) ⨾ save) r r q d d1 d1 o o o' (Err NoMemory) (performed checkpoints r r d d1 o p) (does_no_memory (change (with_checkpoint v) ⨾ save) r q d1 o o')))
+
+pub ruleset checkpoint_made = (checkpoint_ok, checkpoint_fault, checkpoint_want, checkpoint_none)

@@ -1,0 +1,5 @@
+use Rattle.std.proofs.Common.{◌≡◌, ◌-◌, take, drop}
+use Rattle.vr_journal.proofs.stating.told_from.Given as goal
+
+abbrev pub invariant-loop-i : goal.invariant-loop-i
+invariant-loop-i l = l.told ≡ take (l.i - l.from) (drop l.from l.parts)

@@ -1,0 +1,30 @@
+//! What a replica has in memory beside its disk, and the words of which its rules are made.
+#![tactic(auto)]
+
+mod applying;
+mod blank;
+mod changes;
+mod effects;
+mod fields;
+mod giving;
+mod group;
+mod loading;
+mod outputs;
+mod parts;
+mod places;
+mod reading;
+mod repairing;
+mod replica;
+mod stating;
+mod taking;
+mod telling;
+mod window;
+mod words;
+
+pub use group::primary;
+pub use parts::{has_header, header_of, is_here, same_header};
+pub use places::Places;
+pub use reading::find_entry;
+pub use replica::Replica;
+pub use taking::Log;
+pub use window::Window;

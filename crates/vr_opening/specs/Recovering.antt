@@ -1,0 +1,74 @@
+-- A replica is recovered from its disk.
+use Rattle.std.specs.Prelude.{◌≡◌, ◌≢◌, List, map, Option, Some, None, IfSome, true, Result, Ok, Err}
+use Rattle.vr_base.specs.declared.table.Config.{Config}
+use Rattle.vr_disk.specs.DiskState.{Disk, Face, Runs}
+use Rattle.vr_msg.specs.declared.output.Output.{Output}
+use Rattle.vr_super.specs.Calls.{mend_calls}
+use Rattle.vr_super.specs.Copies.{Saved}
+use Rattle.vr_super.specs.Opens.{opens, good_copies}
+use Rattle.vr_super.specs.Recovers.{verdict_of}
+use Rattle.vr_super.specs.declared.recovering.CopyVerdict.{CopyVerdict}
+use Rattle.vr_rules.specs.Replica.{Replica}
+use Rattle.vr_rules.specs.Steps.{Word, ◌⨾◌, says}
+use Rattle.vr_rules.specs.Outputs.{start_line}
+use Rattle.vr_rules.specs.Words.{load, apply}
+use Rattle.vr_rules.specs.Opening.{recover_parts, leave_view, announce, opening, blank}
+use Rattle.vr_step.specs.declared.halt.Halt.{Halt}
+use Rattle.vr_opening.specs.declared.reopen.Refusal.{Refusal}
+use Rattle.vr_opening.specs.declared.reopen.Refusal.TheVariants.{Lost, OtherMember, Halted}
+use Rattle.vr_step.specs.Does.{Does}
+use Rattle.vr_opening.specs.Finding.{unspent}
+
+-- an opening, behind the mending of the superblock
+abbrev pub after_mend : Saved → Word Face
+after_mend v = recover_parts v ⨾ unspent leave_view ⨾ says start_line ⨾ unspent (load ⨾ apply ⨾ announce)
+
+-- a word whose function gives the replica
+abbrev pub DoesTo : Word Face → Replica → Option Disk → Option Disk → List Output → List Output → Result Replica Halt → Type 0
+DoesTo w r d d' o o' (Ok q) = Does w r q d d' o o' (Ok tt)
+DoesTo w r d d' o o' (Err halt) = Does w r r d d' o o' (Err halt)
+
+abbrev pub config_of : Saved → Config
+config_of v = record { cluster = v.fields.cluster; replica = v.fields.replica; n = v.fields.n }
+
+-- no two good copies agree, and no call is made
+pub record LosesValue (d d' : Option Disk) (verdicts : List CopyVerdict) : Type 0 where
+  pub untold : d ≡ None → d' ≡ None
+  pub told : (x : Disk) → d ≡ Some x → (opens x.face ≡ None) × (d' ≡ Some x) × (verdicts ≡ map verdict_of (good_copies x.face))
+
+-- the value that opens is mended
+pub record MendsValue (v : Saved) (d d' : Option Disk) : Type 0 where
+  pub untold : d ≡ None → d' ≡ None
+  pub told : (x : Disk) → d ≡ Some x → (opens x.face ≡ Some v) × Runs (mend_calls v x.face) (Some x) d' true
+
+-- a word for the value that opens; where the disk tells nothing, for any
+pub record BeginsWith (w : Saved → Word Face) (d d' : Option Disk) (o o' : List Output) (result : Result Replica Halt) : Type 0 where
+  pub value : Saved
+  pub opens : IfSome d (λ x. opens x.face ≡ Some value)
+  pub step : DoesTo (w value) (blank value) d d' o o' result
+
+abbrev pub FindsValue : Option Disk → Option Disk → Result Saved Refusal → Type 0
+FindsValue d d' (Ok v) = MendsValue v d d'
+FindsValue d d' (Err (Lost verdicts)) = LosesValue d d' verdicts
+FindsValue d d' (Err (OtherMember found)) = ⊥
+FindsValue d d' (Err (Halted halt)) = (o : List Output) → BeginsWith opening d d' o o (Err halt)
+
+-- the value is that of another member
+pub record IsOther (asked found : Config) (d d' : Option Disk) : Type 0 where
+  pub value : Saved
+  pub mended : MendsValue value d d'
+  pub named : found ≡ config_of value
+  pub other : found ≢ asked
+
+-- the replica that opens is that of the member asked for
+pub record IsAsked (asked : Config) (d d' : Option Disk) (o o' : List Output) (r : Replica) : Type 0 where
+  pub value : Saved
+  pub named : config_of value ≡ asked
+  pub opens : IfSome d (λ x. opens x.face ≡ Some value)
+  pub step : Does (opening value) (blank value) r d d' o o' (Ok tt)
+
+abbrev pub Recovered : Config → Option Disk → Option Disk → List Output → List Output → Result Replica Refusal → Type 0
+Recovered asked d d' o o' (Ok r) = IsAsked asked d d' o o' r
+Recovered asked d d' o o' (Err (Lost verdicts)) = LosesValue d d' verdicts
+Recovered asked d d' o o' (Err (OtherMember found)) = IsOther asked found d d'
+Recovered asked d d' o o' (Err (Halted halt)) = BeginsWith opening d d' o o' (Err halt)

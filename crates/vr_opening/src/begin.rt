@@ -1,0 +1,174 @@
+//! What a replica does as it opens, once its Parts are found.
+ghost use Rattle.std.specs.Prelude.{◌≡◌, ◌<◌, ◌≤◌, ◌+◌, ◌++◌, ◌^◌, [], OnOk, nat_le, if◌then◌else◌};
+ghost use Rattle.vr_rules.specs.Opening.{recover_parts, leave_view, announce};
+ghost use Rattle.vr_rules.specs.Outputs.{start_line, send_to_all, start_view_change};
+ghost use Rattle.vr_rules.specs.Replica.{is_spent, is_started, leads, last_view};
+ghost use Rattle.vr_rules.specs.Words.{save, load, apply};
+ghost use Rattle.vr_rules.specs.Steps.{says, ◌⨾◌};
+ghost use Rattle.vr_step.specs.Does.{Does, Caused};
+ghost use Rattle.vr_journal.specs.Ready.{IsReady, MayLoad, TextsHaveNumbers};
+ghost use Rattle.vr_opening.specs.Finding.{IsOpeningOld, unspent};
+
+use crate::opening::recover_parts;
+use std::alloc::{AllocError, Global};
+use vr_disk::SectorDisk;
+use vr_journal::Replica;
+use vr_msg::Outbox;
+use vr_step::Halt;
+
+#[tactic(auto, using(crate::proofs::Begins::opened_saved, vr_journal::proofs::Loads::ready_opened))]
+fn save_opened<D: SectorDisk>(
+    replica: &mut Replica,
+    alloc: Global,
+    disk: &mut D,
+    out: &mut Outbox,
+) -> Result<(), Halt>
+    requires opened { MayLoad replica.old }
+    requires room { replica.old.saved.fields.sequence + 1 < 2 ^ 64 }
+    ensures opened { OnOk result (MayLoad replica.new) }
+    ensures spent { OnOk result (replica.new.saved.fields.sequence ≤ replica.old.saved.fields.sequence + 1) }
+    ensures cause { Caused (D.faults disk.old) (D.faults disk.new) result }
+    ensures step { Does save replica.old replica.new (D.told disk.old) (D.told disk.new) out.old out.new result }
+{
+    match replica.save(alloc, disk, out) {
+        Ok(()) => Ok(()),
+        Err(halt) => Err(halt),
+    }
+}
+
+/// A primary that comes back doesn't lead its old view again.
+#[tactic(auto, using(crate::proofs::Begins::leave_then, crate::proofs::Begins::leave_none, crate::proofs::Begins::opened_next, crate::proofs::Begins::opened_member))]
+fn leave_view<D: SectorDisk>(
+    replica: &mut Replica,
+    alloc: Global,
+    disk: &mut D,
+    out: &mut Outbox,
+) -> Result<(), Halt>
+    requires opened { MayLoad replica.old }
+    requires room { replica.old.saved.fields.sequence + 1 < 2 ^ 64 }
+    ensures opened { OnOk result (MayLoad replica.new) }
+    ensures spent { OnOk result (replica.new.saved.fields.sequence ≤ replica.old.saved.fields.sequence + 1) }
+    ensures cause { Caused (D.faults disk.old) (D.faults disk.new) result }
+    ensures step { Does leave_view replica.old replica.new (D.told disk.old) (D.told disk.new) out.old out.new result }
+{
+    if replica.leads() {
+        replica.to_next_view();
+        save_opened(replica, alloc, disk, out)
+    } else {
+        Ok(())
+    }
+}
+
+// ---- the others hear of it
+
+fn tell_view(replica: &Replica, out: &mut Outbox) -> Result<(), AllocError>
+    ensures { OnOk result (out.new ≡ out.old ++ (if nat_le replica.now.view last_view then send_to_all start_view_change replica.now else [])) }
+{
+    if replica.view() <= 4_294_967_294 {
+        replica.tell_change(out)
+    } else {
+        Ok(())
+    }
+}
+
+/// The others hear of a view that isn't started.
+#[tactic(auto, using(crate::proofs::Begins::announce_then, crate::proofs::Begins::announce_none, crate::proofs::Begins::ready_heard, vr_step::proofs::Stepping::does_no_memory))]
+fn announce<D: SectorDisk>(
+    replica: &mut Replica,
+    _disk: &mut D,
+    out: &mut Outbox,
+) -> Result<(), Halt>
+    requires ready { IsReady replica.old }
+    ensures ready { OnOk result (IsReady replica.new) }
+    ensures cause { Caused (D.faults _disk.old) (D.faults _disk.new) result }
+    ensures step { Does announce replica.old replica.new (D.told _disk.old) (D.told _disk.new) out.old out.new result }
+{
+    if replica.is_started() {
+        Ok(())
+    } else {
+        replica.hear_itself();
+        tell_view(replica, out)?;
+        Ok(())
+    }
+}
+
+// Loads, applies, and tells.
+#[tactic(auto, using(vr_step::proofs::Stepping::steps))]
+fn settle<D: SectorDisk>(
+    replica: &mut Replica,
+    alloc: Global,
+    disk: &mut D,
+    out: &mut Outbox,
+) -> Result<(), Halt>
+    requires opened { MayLoad replica.old }
+    requires numbers { TextsHaveNumbers }
+    requires room { replica.old.saved.fields.sequence + 64 < 2 ^ 64 }
+    ensures ready { OnOk result (IsReady replica.new) }
+    ensures cause { Caused (D.faults disk.old) (D.faults disk.new) result }
+    ensures step { Does (load ⨾ apply ⨾ announce) replica.old replica.new (D.told disk.old) (D.told disk.new) out.old out.new result }
+{
+    replica.load(alloc, disk, out)?;
+    replica.apply(alloc, disk, out)?;
+    announce(replica, disk, out)
+}
+
+// Where sequence numbers are at their end no view is left.
+#[tactic(auto, using(crate::proofs::Begins::unspent_then, crate::proofs::Begins::spent_none, crate::proofs::Begins::unspent_room))]
+fn leave_unspent<D: SectorDisk>(
+    replica: &mut Replica,
+    alloc: Global,
+    disk: &mut D,
+    out: &mut Outbox,
+) -> Result<(), Halt>
+    requires opened { MayLoad replica.old }
+    ensures opened { OnOk result (MayLoad replica.new) }
+    ensures cause { Caused (D.faults disk.old) (D.faults disk.new) result }
+    ensures step { Does (unspent leave_view) replica.old replica.new (D.told disk.old) (D.told disk.new) out.old out.new result }
+{
+    if replica.is_spent() {
+        Ok(())
+    } else {
+        leave_view(replica, alloc, disk, out)
+    }
+}
+
+// Nor is anything loaded then, or sent.
+#[tactic(auto, using(crate::proofs::Begins::unspent_then, crate::proofs::Begins::spent_none, crate::proofs::Begins::unspent_room, vr_journal::proofs::Loads::ready_opened))]
+fn settle_unspent<D: SectorDisk>(
+    replica: &mut Replica,
+    alloc: Global,
+    disk: &mut D,
+    out: &mut Outbox,
+) -> Result<(), Halt>
+    requires opened { MayLoad replica.old }
+    requires numbers { TextsHaveNumbers }
+    ensures ready { OnOk result (IsReady replica.new) }
+    ensures cause { Caused (D.faults disk.old) (D.faults disk.new) result }
+    ensures step { Does (unspent (load ⨾ apply ⨾ announce)) replica.old replica.new (D.told disk.old) (D.told disk.new) out.old out.new result }
+{
+    if replica.is_spent() {
+        Ok(())
+    } else {
+        settle(replica, alloc, disk, out)
+    }
+}
+
+/// All that a replica does as it opens, behind the mending of its superblock.
+#[tactic(auto, using(vr_step::proofs::Stepping::steps))]
+pub fn open_mended<D: SectorDisk>(
+    replica: &mut Replica,
+    alloc: Global,
+    disk: &mut D,
+    out: &mut Outbox,
+) -> Result<(), Halt>
+    requires opening { IsOpeningOld 0 replica.old }
+    requires numbers { TextsHaveNumbers }
+    ensures ready { OnOk result (IsReady replica.new) }
+    ensures cause { Caused (D.faults disk.old) (D.faults disk.new) result }
+    ensures step { Does (recover_parts replica.old.saved ⨾ unspent leave_view ⨾ says start_line ⨾ unspent (load ⨾ apply ⨾ announce)) replica.old replica.new (D.told disk.old) (D.told disk.new) out.old out.new result }
+{
+    recover_parts(replica, alloc, disk, out)?;
+    leave_unspent(replica, alloc, disk, out)?;
+    replica.say_start(out)?;
+    settle_unspent(replica, alloc, disk, out)
+}

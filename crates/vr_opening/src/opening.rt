@@ -1,0 +1,306 @@
+//! How a replica finds its Parts again.
+ghost use Rattle.std.specs.Prelude.{◌≡◌, ◌<◌, ◌≤◌, ◌+◌, ◌-◌, IfOk, OnOk, Some, length, nat_le, slice_get, slice_set, slice_index_or, drop, ◌^◌, true};
+ghost use Rattle.std.specs.List.{list_any};
+ghost use Rattle.vr_msg.specs.Choice.{ops};
+ghost use Rattle.vr_rules.specs.Opening.{old_part, recover_old, recover_op, recover_parts, old_headers, was_stored, clouded, blank};
+ghost use Rattle.vr_header.specs.declared.part.Part.TheVariants.{Nothing};
+ghost use Rattle.vr_rules.specs.Steps.{each};
+ghost use Rattle.vr_step.specs.Does.{Does, Caused};
+ghost use Rattle.vr_journal.specs.Ready.{HasWindow, MayLoad};
+ghost use Rattle.vr_opening.specs.Finding.{IsOpening, IsOpeningOld, recover_listed, DoesAt, cloud_by};
+
+use crate::finding::{is_listed, recover_op};
+use std::alloc::Global;
+use vr_disk::{Buffer, SectorDisk};
+use vr_header::{Entry, Header, Part};
+use vr_journal::{Replica, find_entry};
+use vr_msg::Outbox;
+use vr_step::Halt;
+
+fn old_part(header: &Header, found: &Option<Entry>) -> Part
+    ensures { result ≡ old_part header.now found.now }
+{
+    match found {
+        Some(_) => Part::Here(*header),
+        None => Part::Lost(*header),
+    }
+}
+
+fn was_stored(part: &Part) -> bool
+    ensures { result ≡ was_stored part.now }
+{
+    match part {
+        Part::Here(_) | Part::Lost(_) => true,
+        Part::Wanted(_) | Part::Unknown | Part::Nothing => false,
+    }
+}
+
+// Finds what is known of an op of the checkpoint, of which the value has this header.
+#[tactic(auto, using(crate::proofs::Olds::old_then, crate::proofs::Olds::old_window, crate::proofs::Olds::opening_old, vr_step::proofs::Stepping::does_no_memory))]
+fn recover_old<D: SectorDisk>(
+    replica: &mut Replica,
+    alloc: Global,
+    disk: &mut D,
+    i: usize,
+    header: &Header,
+    _out: &mut Outbox,
+) -> Result<(), Halt>
+    requires opening { IsOpeningOld i replica.old }
+    requires header { slice_get replica.old.saved.headers i ≡ Some header.now }
+    requires low { header.now.op ≤ replica.old.saved.fields.checkpoint }
+    ensures opening { OnOk result (IsOpeningOld (i + 1) replica.new) }
+    ensures saved { OnOk result (replica.new.saved ≡ replica.old.saved) }
+    ensures cause { Caused (D.faults disk.old) (D.faults disk.new) result }
+    ensures step { Does (recover_old header.now) replica.old replica.new (D.told disk.old) (D.told disk.new) _out.old _out.new result }
+{
+    let found = find_entry(alloc, disk, header)?;
+    let part = old_part(header, &found);
+    replica.put_part(header.op, part);
+    Ok(())
+}
+
+fn is_old(replica: &Replica, header: &Header) -> bool
+    ensures { result ≡ nat_le header.now.op replica.now.saved.fields.checkpoint }
+{
+    header.op <= replica.saved().fields().checkpoint
+}
+
+fn names(replica: &Replica) -> usize
+    ensures { result ≡ length replica.now.saved.headers }
+{
+    replica.saved().headers().len()
+}
+
+fn named(replica: &Replica, i: usize) -> Header
+    requires { i < length replica.now.saved.headers }
+    ensures { slice_get replica.now.saved.headers i ≡ Some result }
+{
+    replica.saved().headers()[i]
+}
+
+#[tactic(auto, using(crate::proofs::Olds::nth_fits))]
+fn op_at(replica: &Replica, i: u64) -> u64
+    requires opening { IsOpening (replica.now.saved.fields.checkpoint + i) replica.now }
+    requires within { i < 64 }
+    ensures { result ≡ replica.now.saved.fields.checkpoint + 1 + i }
+{
+    replica.saved().fields().checkpoint + 1 + i
+}
+
+// The same where the op is one of the checkpoint.
+#[tactic(auto, using(vr_step::proofs::Stepping::does_quiet, crate::proofs::Olds::old_skipped))]
+fn recover_listed<D: SectorDisk>(
+    replica: &mut Replica,
+    alloc: Global,
+    disk: &mut D,
+    i: usize,
+    header: &Header,
+    out: &mut Outbox,
+) -> Result<(), Halt>
+    requires opening { IsOpeningOld i replica.old }
+    requires header { slice_get replica.old.saved.headers i ≡ Some header.now }
+    ensures opening { OnOk result (IsOpeningOld (i + 1) replica.new) }
+    ensures saved { OnOk result (replica.new.saved ≡ replica.old.saved) }
+    ensures cause { Caused (D.faults disk.old) (D.faults disk.new) result }
+    ensures step { Does (recover_listed replica.old.saved header.now) replica.old replica.new (D.told disk.old) (D.told disk.new) out.old out.new result }
+{
+    if is_old(replica, header) {
+        recover_old(replica, alloc, disk, i, header, out)
+    } else {
+        Ok(())
+    }
+}
+
+// The same for the header at a place.
+#[tactic(auto, using(crate::proofs::Olds::one_header))]
+fn recover_at<D: SectorDisk>(
+    replica: &mut Replica,
+    alloc: Global,
+    disk: &mut D,
+    i: usize,
+    out: &mut Outbox,
+) -> Result<(), Halt>
+    requires opening { IsOpeningOld i replica.old }
+    requires within { i < length replica.old.saved.headers }
+    ensures opening { OnOk result (IsOpeningOld (i + 1) replica.new) }
+    ensures saved { OnOk result (replica.new.saved ≡ replica.old.saved) }
+    ensures cause { Caused (D.faults disk.old) (D.faults disk.new) result }
+    ensures step { DoesAt (recover_listed replica.old.saved) replica.old.saved.headers i replica.old replica.new (D.told disk.old) (D.told disk.new) out.old out.new result }
+{
+    let header = named(replica, i);
+    recover_listed(replica, alloc, disk, i, &header, out)
+}
+
+/// Finds what is known of the ops of the checkpoint that the value names.
+#[tactic(auto, using(vr_step::proofs::Stepping::going_begins, crate::proofs::Olds::olds_at, crate::proofs::Olds::olds_end, crate::proofs::Olds::olds_stopped, crate::proofs::Olds::olds_found))]
+fn recover_olds<D: SectorDisk>(
+    replica: &mut Replica,
+    alloc: Global,
+    disk: &mut D,
+    out: &mut Outbox,
+) -> Result<(), Halt>
+    requires opening { IsOpeningOld 0 replica.old }
+    ensures opening { OnOk result (IsOpening replica.old.saved.fields.checkpoint replica.new) }
+    ensures saved { OnOk result (replica.new.saved ≡ replica.old.saved) }
+    ensures cause { Caused (D.faults disk.old) (D.faults disk.new) result }
+    ensures step { Does (each recover_old (old_headers replica.old.saved)) replica.old replica.new (D.told disk.old) (D.told disk.new) out.old out.new result }
+{
+    let count = names(replica);
+    for i in 0..count {
+        recover_at(replica, alloc, disk, i, out)?;
+    }
+    Ok(())
+}
+
+// An op of the window by its place there.
+#[tactic(auto, using(crate::proofs::Olds::nth_before, crate::proofs::Olds::nth_after, crate::proofs::Olds::nth_step, crate::proofs::Olds::nth_fits))]
+fn recover_nth<D: SectorDisk>(
+    replica: &mut Replica,
+    disk: &mut D,
+    i: u64,
+    buffer: &mut Buffer,
+    out: &mut Outbox,
+) -> Result<(), Halt>
+    requires opening { IsOpening (replica.old.saved.fields.checkpoint + i) replica.old }
+    requires within { i < 64 }
+    ensures opening { OnOk result (IsOpening (replica.old.saved.fields.checkpoint + (i + 1)) replica.new) }
+    ensures saved { OnOk result (replica.new.saved ≡ replica.old.saved) }
+    ensures cause { Caused (D.faults disk.old) (D.faults disk.new) result }
+    ensures step { DoesAt (recover_op replica.old.saved) (ops replica.old.saved.fields.checkpoint (replica.old.saved.fields.checkpoint + 64)) i replica.old replica.new (D.told disk.old) (D.told disk.new) out.old out.new result }
+{
+    let op = op_at(replica, i);
+    recover_op(replica, disk, op, buffer, out)
+}
+
+/// Finds what is known of the ops of the window.
+#[tactic(auto, using(vr_step::proofs::Stepping::going_begins, vr_step::proofs::Stepping::going_ends, crate::proofs::Olds::ops_at, crate::proofs::Olds::ops_stopped, crate::proofs::Olds::ops_begin, crate::proofs::Olds::ops_length))]
+fn recover_window<D: SectorDisk>(
+    replica: &mut Replica,
+    disk: &mut D,
+    buffer: &mut Buffer,
+    out: &mut Outbox,
+) -> Result<(), Halt>
+    requires opening { IsOpening replica.old.saved.fields.checkpoint replica.old }
+    ensures opening { OnOk result (IsOpening (replica.old.saved.fields.checkpoint + 64) replica.new) }
+    ensures saved { OnOk result (replica.new.saved ≡ replica.old.saved) }
+    ensures cause { Caused (D.faults disk.old) (D.faults disk.new) result }
+    ensures step { Does (each (recover_op replica.old.saved) (ops replica.old.saved.fields.checkpoint (replica.old.saved.fields.checkpoint + 64))) replica.old replica.new (D.told disk.old) (D.told disk.new) out.old out.new result }
+{
+    for i in 0..64u64 {
+        match recover_nth(replica, disk, i, buffer, out) {
+            Ok(()) => {}
+            Err(halt) => return Err(halt),
+        }
+    }
+    Ok(())
+}
+
+// The same with a buffer of its own.
+#[tactic(auto, using(vr_step::proofs::Stepping::does_no_memory))]
+fn recover_ops<D: SectorDisk>(
+    replica: &mut Replica,
+    alloc: Global,
+    disk: &mut D,
+    out: &mut Outbox,
+) -> Result<(), Halt>
+    requires opening { IsOpening replica.old.saved.fields.checkpoint replica.old }
+    ensures opening { OnOk result (IsOpening (replica.old.saved.fields.checkpoint + 64) replica.new) }
+    ensures saved { OnOk result (replica.new.saved ≡ replica.old.saved) }
+    ensures cause { Caused (D.faults disk.old) (D.faults disk.new) result }
+    ensures step { Does (each (recover_op replica.old.saved) (ops replica.old.saved.fields.checkpoint (replica.old.saved.fields.checkpoint + 64))) replica.old replica.new (D.told disk.old) (D.told disk.new) out.old out.new result }
+{
+    let mut buffer = Buffer::new(alloc)?;
+    recover_window(replica, disk, &mut buffer, out)
+}
+
+#[tactic(auto, using(vr_journal::proofs::Lists::past_is, vr_journal::proofs::Lists::found_is))]
+fn is_stored(replica: &Replica, at: usize) -> bool
+    ensures { result ≡ was_stored (slice_index_or replica.now.parts at Nothing) }
+{
+    match replica.parts().item(at) {
+        Some(part) => was_stored(part),
+        None => false,
+    }
+}
+
+// Whether something is stored from a place on.
+#[tactic(auto, using(crate::proofs::Clouds::any_more, crate::proofs::Clouds::any_found, crate::proofs::Clouds::any_past))]
+fn is_stored_from(replica: &Replica, at: usize) -> bool
+    ensures { result ≡ list_any was_stored (drop at replica.now.parts) }
+{
+    for i in at..replica.parts().len() {
+        if is_stored(replica, i) {
+            return true;
+        }
+    }
+    false
+}
+
+fn cloud_by(replica: &Replica, at: usize) -> Part
+    requires fits { replica.now.first + at < 2 ^ 63 }
+    ensures { result ≡ cloud_by replica.now.saved replica.now.first replica.now.parts at }
+{
+    let part = replica.parts().get_or(at, Part::Nothing);
+    if is_listed(replica, replica.first() + at as u64) {
+        part
+    } else {
+        match part {
+            Part::Nothing => {
+                if is_stored_from(replica, at + 1) {
+                    Part::Unknown
+                } else {
+                    Part::Nothing
+                }
+            }
+            _ => part,
+        }
+    }
+}
+
+fn places(replica: &Replica) -> usize
+    ensures { result ≡ length replica.now.parts }
+{
+    replica.parts().len()
+}
+
+fn cloud_one(replica: &mut Replica, at: usize)
+    requires fits { replica.old.first + at < 2 ^ 63 }
+    requires within { at < length replica.old.parts }
+    ensures { replica.new ≡ record replica.old { parts = slice_set replica.old.parts at (cloud_by replica.old.saved replica.old.first replica.old.parts at) } }
+{
+    let part = cloud_by(replica, at);
+    replica.replace_part(at, part);
+}
+
+/// Nothing is denied of an op above the value's head and below one that was stored.
+#[tactic(auto, using(crate::proofs::Clouds::cloud_none, crate::proofs::Clouds::cloud_more, crate::proofs::Clouds::cloud_all, crate::proofs::Clouds::cloud_room, crate::proofs::Clouds::cloud_within, crate::proofs::Clouds::cloud_saved))]
+fn cloud(replica: &mut Replica)
+    requires { HasWindow replica.old }
+    ensures clouded { replica.new ≡ clouded replica.old.saved replica.old }
+    ensures saved { replica.new.saved ≡ replica.old.saved }
+{
+    for i in 0..places(replica) {
+        cloud_one(replica, i);
+    }
+}
+
+/// Finds its Parts again.
+#[tactic(auto, using(crate::proofs::Clouds::parts_then, crate::proofs::Clouds::parts_stopped, crate::proofs::Clouds::parts_halted, crate::proofs::Clouds::window_opening, crate::proofs::Clouds::window_clouded, crate::proofs::Clouds::opened_ready))]
+pub fn recover_parts<D: SectorDisk>(
+    replica: &mut Replica,
+    alloc: Global,
+    disk: &mut D,
+    out: &mut Outbox,
+) -> Result<(), Halt>
+    requires opening { IsOpeningOld 0 replica.old }
+    ensures opened { OnOk result (MayLoad replica.new) }
+    ensures saved { OnOk result (replica.new.saved ≡ replica.old.saved) }
+    ensures cause { Caused (D.faults disk.old) (D.faults disk.new) result }
+    ensures step { Does (recover_parts replica.old.saved) replica.old replica.new (D.told disk.old) (D.told disk.new) out.old out.new result }
+{
+    recover_olds(replica, alloc, disk, out)?;
+    recover_ops(replica, alloc, disk, out)?;
+    cloud(replica);
+    replica.forget();
+    Ok(())
+}

@@ -1,0 +1,128 @@
+//! A replica is recovered from its disk.
+ghost use Rattle.std.specs.Prelude.{◌≡◌, ◌≢◌, ◌≤◌, true, false, IfOk, IfErr, Ok};
+ghost use Rattle.vr_base.specs.Causes.{Rose};
+ghost use Rattle.vr_opening.specs.declared.reopen.Refusal.TheVariants as Refusal;
+ghost use Rattle.vr_step.specs.Does.{Caused};
+ghost use Rattle.vr_journal.specs.Ready.{IsReady, TextsHaveNumbers};
+ghost use Rattle.vr_opening.specs.Finding.{IsOpeningOld};
+ghost use Rattle.vr_rules.specs.Opening.{blank};
+ghost use Rattle.vr_opening.specs.Recovering.{after_mend, DoesTo, config_of, FindsValue, Recovered};
+ghost use Rattle.vr_step.specs.declared.halt.Halt.TheVariants as Halt;
+
+use crate::begin::open_mended;
+use std::alloc::Global;
+use vr_base::Config;
+use vr_disk::SectorDisk;
+use vr_journal::Replica;
+use vr_msg::Outbox;
+use vr_step::Halt;
+use vr_super::{CopyVerdict, Super, SuperFault};
+
+// The replica of a value that makes a good copy, before it looks at its disk.
+#[tactic(auto, using(crate::proofs::Begins::opening_blank))]
+fn begun(alloc: Global, value: Super) -> Result<Replica, Halt>
+    ensures blank { IfOk result (λ r. r ≡ blank value) }
+    ensures opening { IfOk result (λ r. IsOpeningOld 0 r) }
+    ensures err { IfErr result (λ e. e ≡ Halt.NoMemory) }
+{
+    let _fields = value.fields();
+    match Replica::blank(alloc, value) {
+        Ok(replica) => Ok(replica),
+        Err(_) => Err(Halt::NoMemory),
+    }
+}
+
+// The replica of a value that is mended.
+#[tactic(auto, using(crate::proofs::Recovers::begun_wanted, crate::proofs::Recovers::begun_stopped, crate::proofs::Recovers::begun_then))]
+fn open_value<D: SectorDisk>(
+    alloc: Global,
+    disk: &mut D,
+    value: Super,
+    out: &mut Outbox,
+) -> Result<Replica, Halt>
+    requires numbers { TextsHaveNumbers }
+    ensures ready { IfOk result IsReady }
+    ensures cause { Caused (D.faults disk.old) (D.faults disk.new) result }
+    ensures step { DoesTo (after_mend value) (blank value) (D.told disk.old) (D.told disk.new) out.old out.new result }
+{
+    match begun(alloc, value) {
+        Err(_) => Err(Halt::NoMemory),
+        Ok(mut replica) => match open_mended(&mut replica, alloc, disk, out) {
+            Ok(()) => Ok(replica),
+            Err(halt) => Err(halt),
+        },
+    }
+}
+
+/// Why a disk gives no replica.
+#[derive(Clone, Copy, Debug, PartialEq, Eq)]
+pub enum Refusal {
+    /// No two good copies of the superblock agree.
+    Lost([CopyVerdict; 4]),
+    /// The disk is that of another member: of this one.
+    OtherMember(Config),
+    Halted(Halt),
+}
+
+fn config_of(value: &Super) -> Config
+    ensures { result ≡ config_of value.now }
+{
+    let f = value.fields();
+    Config {
+        cluster: f.cluster,
+        replica: f.replica,
+        n: f.n,
+    }
+}
+
+// What stood in the way of the superblock's value.
+#[tactic(auto, using(crate::proofs::Recovers::found_value, crate::proofs::Recovers::lost, crate::proofs::Recovers::mend_faulted, crate::proofs::Recovers::mend_wanted))]
+fn find_value<D: SectorDisk>(alloc: Global, disk: &mut D) -> Result<Super, Refusal>
+    ensures later { D.faults disk.old ≤ D.faults disk.new }
+    ensures fault { IfErr result (λ e. e ≡ Refusal.Halted Halt.DiskFault → Rose (D.faults disk.old) (D.faults disk.new)) }
+    ensures value { FindsValue (D.told disk.old) (D.told disk.new) result }
+{
+    match vr_super::recover(alloc, disk) {
+        Ok(value) => Ok(value),
+        Err(SuperFault::Lost(verdicts)) => Err(Refusal::Lost(verdicts)),
+        Err(SuperFault::DiskFault) => Err(Refusal::Halted(Halt::DiskFault)),
+        Err(SuperFault::NoMemory) => Err(Refusal::Halted(Halt::NoMemory)),
+    }
+}
+
+fn is_same(found: &Config, asked: &Config) -> bool
+    ensures same { result ≡ true → found.now ≡ asked.now }
+    ensures other { result ≡ false → found.now ≢ asked.now }
+{
+    *found == *asked
+}
+
+/// The replica of a disk, if the disk is that of the member that is asked for.
+#[tactic(auto, using(crate::proofs::Recovers::recovered, crate::proofs::Recovers::halted, crate::proofs::Recovers::other_member, crate::proofs::Recovers::refused))]
+pub fn recover<D: SectorDisk>(
+    alloc: Global,
+    disk: &mut D,
+    asked: &Config,
+    out: &mut Outbox,
+) -> Result<Replica, Refusal>
+    requires numbers { TextsHaveNumbers }
+    ensures ready { IfOk result IsReady }
+    ensures later { D.faults disk.old ≤ D.faults disk.new }
+    ensures fault { IfErr result (λ e. e ≡ Refusal.Halted Halt.DiskFault → Rose (D.faults disk.old) (D.faults disk.new)) }
+    ensures step { Recovered asked.now (D.told disk.old) (D.told disk.new) out.old out.new result }
+{
+    match find_value(alloc, disk) {
+        Err(refusal) => Err(refusal),
+        Ok(value) => {
+            let found = config_of(&value);
+            if is_same(&found, asked) {
+                match open_value(alloc, disk, value, out) {
+                    Ok(replica) => Ok(replica),
+                    Err(halt) => Err(Refusal::Halted(halt)),
+                }
+            } else {
+                Err(Refusal::OtherMember(found))
+            }
+        }
+    }
+}

@@ -1,0 +1,105 @@
+-- Words of repair by what their code does.
+use Rattle.std.proofs.Common.{◌≡◌, ◌≤◌, ◌++◌, refl, ap, sym, ◌∙◌, arith, cond, Bool, true, false, ℕ, List, [], ◌∷◌, Option, Some, None, Result, Ok, Err, slice_get}
+use Rattle.std.specs.Prelude.{nat_lt, ◌&&◌, if◌then◌else◌}
+use Rattle.vr_base.specs.Bytes.{name_of}
+use Rattle.vr_disk.specs.DiskState.{Disk, Face}
+use Rattle.vr_grid.specs.declared.name.Name.{Name}
+use Rattle.vr_header.specs.declared.header.Header.{Header}
+use Rattle.vr_header.specs.Made.{Whole}
+use Rattle.vr_journal.specs.Effects.{puts}
+use Rattle.vr_journal.specs.Ready.{IsReady, MayLoad}
+use Rattle.vr_journal.proofs.Repairs.{ready_dropped}
+use Rattle.vr_msg.specs.declared.output.Output.{Output}
+use Rattle.vr_repair.specs.Reads.{Reads, loads_whole}
+use Rattle.vr_rules.specs.Outputs.{get_block, get_prepare, prepare, prepare_ok, send_to_all, to_primary}
+use Rattle.vr_rules.specs.Replica.{Replica, is_primary, is_started}
+use Rattle.vr_rules.specs.Rules.{put_block, without}
+use Rattle.vr_rules.specs.Steps.{PutBlock, Word, says}
+use Rattle.vr_rules.specs.Words.{ask, ask_for, ask_peer, is_loaded, least_absent, load, prepare_again, resend}
+use Rattle.vr_step.specs.declared.halt.Halt.{Halt}
+use Rattle.vr_step.specs.declared.halt.Halt.TheVariants.{DiskFault, NoMemory}
+use Rattle.vr_step.specs.Does.{Does, Performs}
+use Rattle.vr_step.proofs.Stepping.{change_by_then, does_by, does_naming, does_no_memory, does_quiet, effect_stopped, effect_then, says_by}
+
+-- want of memory, where the disk is as it was
+pub wanted : (w : Word Face) (r q : Replica) (d d' : Option Disk) (o o' : List Output) → d' ≡ d → Does w r q d d' o o' (Err NoMemory)
+wanted w r q d d' o o' e = rw e (does_no_memory w r q d o o')
+
+-- ---- entries that are told of again
+
+either : (b : Bool) (x y : Replica → List Output) (r : Replica) (d : Option Disk) (o o' : List Output) → o' ≡ o ++ cond b (x r) (y r) → Does (cond b (says x) (says y)) r r d d o o' (Ok tt)
+either true x y r d o o' e = says_by x r d o o' e
+either false x y r d o o' e = says_by y r d o o' e
+
+module _ (e : Whole) (r : Replica) (d : Option Disk) where
+  pub resent : (o o' : List Output) → (is_started r && nat_lt r.commit e.header.op) ≡ true
+      → o' ≡ o ++ (if is_primary r then send_to_all (prepare e) r else to_primary (prepare_ok name_of e.header) r) → Does (resend e) r r d d o o' (Ok tt)
+  unfolding resend
+  resent o o' t said =
+      does_naming _ r r d d o o' (Ok tt) (does_by _ r r d d o o' (Ok tt) (rw t (either (is_primary r) (send_to_all (prepare e)) (to_primary (prepare_ok name_of e.header)) r d o o' said)))
+
+  pub not_resent : (o : List Output) → (is_started r && nat_lt r.commit e.header.op) ≡ false → Does (resend e) r r d d o o (Ok tt)
+  unfolding resend
+  not_resent o t = does_naming _ r r d d o o (Ok tt) (does_by _ r r d d o o (Ok tt) (rw t (does_quiet r d o)))
+
+module _ (op : ℕ) (r q : Replica) (d d' : Option Disk) (found : Option Whole) (reads : Reads op r q d d' found) where
+  pub prepared_again : (e : Whole) (o o' : List Output) → found ≡ Some e → o' ≡ o ++ send_to_all (prepare e) q → Does (prepare_again op) r q d d' o o' (Ok tt)
+  unfolding prepare_again
+  prepared_again e o o' is said = reads.some (λ x. says (send_to_all (prepare x))) e q d' o o' (Ok tt) is (says_by (send_to_all (prepare e)) q d' o o' said)
+
+  pub not_prepared : (o : List Output) → found ≡ None → Does (prepare_again op) r q d d' o o (Ok tt)
+  unfolding prepare_again
+  not_prepared o is = reads.none (λ x. says (send_to_all (prepare x))) o is
+
+-- ---- what is asked for
+
+module _ (r q : Replica) (d d' : Option Disk) (o o' : List Output) (result : Result (Unit {0}) Halt) where
+  first_asked : (names : List Name) (name : Name) (absent : Option Header) → slice_get names 0 ≡ Some name → Does (ask_peer (get_block name)) r q d d' o o' result → Does (ask_for names absent) r q d d' o o' result
+  first_asked [] name absent e h = absurd cc
+  first_asked (n ∷ names) name absent e h = let same : n ≡ name = cc in rw same h
+
+  none_asked : (names : List Name) (absent : Option Header) → slice_get names 0 ≡ None → Does (ask_for [] absent) r q d d' o o' result → Does (ask_for names absent) r q d d' o o' result
+  none_asked [] absent e h = h
+  none_asked (n ∷ names) absent e h = absurd cc
+
+  pub asked_block : (name : Name) → slice_get r.missing 0 ≡ Some name → Does (ask_peer (get_block name)) r q d d' o o' result → Does ask r q d d' o o' result
+  unfolding ask
+  asked_block name e h = does_by _ r q d d' o o' result (first_asked r.missing name (least_absent r) e h)
+
+  pub asked_absent : slice_get r.missing 0 ≡ None → Does (ask_for [] (least_absent r)) r q d d' o o' result → Does ask r q d d' o o' result
+  unfolding ask
+  asked_absent e h = does_by _ r q d d' o o' result (none_asked r.missing (least_absent r) e h)
+
+  pub asked_entry : (absent : Option Header) (h : Header) → absent ≡ Some h → Does (ask_peer (get_prepare name_of h)) r q d d' o o' result → Does (ask_for [] absent) r q d d' o o' result
+  asked_entry absent h e k = rw e (does_naming _ r q d d' o o' result k)
+
+pub asked_none : (absent : Option Header) (r : Replica) (d : Option Disk) (o : List Output) → absent ≡ None → Does (ask_for [] absent) r r d d o o (Ok tt)
+asked_none absent r d o e = rw e (does_quiet r d o)
+
+-- ---- a block is put
+
+pub may_ready : (r : Replica) → MayLoad r → IsReady r
+unfolding MayLoad
+may_ready r h = h.ready
+
+pub may_dropped : (name : Name) (r q : Replica) → q ≡ without name r → MayLoad r → MayLoad q
+unfolding MayLoad
+may_dropped name r q e h = let ready : IsReady q = ready_dropped name r q e h.ready in rw e (record { ready = rw e at ready; applied = h.applied })
+
+pub loaded_whole : (r q : Replica) (d d' : Option Disk) (o o' : List Output) (result : Result (Unit {0}) Halt) → is_loaded r ≡ true → Does load r q d d' o o' result → Does loads_whole r q d d' o o' result
+unfolding loads_whole
+loaded_whole r q d d' o o' result t h = does_by _ r q d d' o o' result (rw t h)
+
+pub loaded_not : (r : Replica) (d : Option Disk) (o : List Output) → is_loaded r ≡ false → Does loads_whole r r d d o o (Ok tt)
+unfolding loads_whole
+loaded_not r d o t = does_by _ r r d d o o (Ok tt) (rw t (does_quiet r d o))
+
+module _ (name : Name) (block : List ℕ) (r q : Replica) (d d' : Option Disk) where
+  pub put_then : (r2 : Replica) (d2 : Option Disk) (o o2 : List Output) (result : Result (Unit {0}) Halt) → Performs (puts name block) r d d' true → q ≡ without name r → Does loads_whole q r2 d' d2 o o2 result
+      → Does (put_block name block) r r2 d d2 o o2 result
+  unfolding put_block puts loads_whole
+  put_then r2 d2 o o2 result p e h = effect_then (λ x. PutBlock name block) _ r r2 d d' d2 o o2 result p (change_by_then (without name) _ r q r2 d' d2 o o2 result e h)
+
+  pub put_stopped : (o o2 : List Output) → Performs (puts name block) r d d' false → Does (put_block name block) r q d d' o o2 (Err DiskFault)
+  unfolding put_block puts
+  put_stopped o o2 p = effect_stopped (λ x. PutBlock name block) _ r q d d' o o2 p

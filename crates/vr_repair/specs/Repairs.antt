@@ -1,0 +1,32 @@
+-- Which rule a decision is, and the words of repair with names.
+use Rattle.std.specs.Prelude.{ℕ, Bool, List, Option, None, Some, is_some, slice_get, if◌then◌else◌}
+use Rattle.std.specs.Option.{option_and_then}
+use Rattle.vr_grid.specs.Blocks.{named}
+use Rattle.vr_grid.specs.declared.name.Name.{Name}
+use Rattle.vr_header.specs.Made.{Whole}
+use Rattle.vr_msg.specs.declared.output.Output.{Output}
+use Rattle.vr_rules.specs.Deciding.{Rule, Ignored, EntryGiven, EntryTaken, BlockGiven, BlockTaken}
+use Rattle.vr_rules.specs.Outputs.{give_prepare, send_to}
+use Rattle.vr_rules.specs.Replica.{Replica}
+use Rattle.vr_rules.specs.Steps.{Word, says}
+use Rattle.vr_repair.specs.declared.deciding.Repair.{Repair}
+use Rattle.vr_repair.specs.declared.deciding.Repair.TheVariants as repair
+
+abbrev pub rule_of : Repair → Rule
+rule_of repair.Ignored = Ignored
+rule_of repair.EntryGiven = EntryGiven
+rule_of repair.EntryTaken = EntryTaken
+rule_of repair.BlockGiven = BlockGiven
+rule_of (repair.BlockTaken name) = BlockTaken
+
+-- these bytes are the whole block of this name
+abbrev pub is_block : Name → List ℕ → Bool
+is_block name bytes = is_some (named name bytes)
+
+-- an entry that is given to one replica
+abbrev pub gives : {F : Type 0} → ℕ → Whole → Word F
+gives to e = says (λ r. send_to to (give_prepare e r) r)
+
+-- the item at a place, where it passes a test
+abbrev pub found_at : {X : Type 0} → (X → Bool) → List X → ℕ → Option X
+found_at p xs i = option_and_then (λ x. if p x then Some x else None) (slice_get xs i)

@@ -1,0 +1,30 @@
+//! Commit numbers rise.
+ghost use Rattle.std.specs.Prelude.{◌<◌, ◌+◌, ◌^◌, OnOk};
+ghost use Rattle.vr_journal.specs.Ready.{IsReady};
+ghost use Rattle.vr_rules.specs.Words.{advance};
+ghost use Rattle.vr_step.specs.Does.{Caused, Does};
+
+use std::alloc::Global;
+use vr_disk::SectorDisk;
+use vr_journal::Replica;
+use vr_msg::Outbox;
+use vr_step::Halt;
+
+/// The commit number rises, up to the head, over each op that a replication quorum has acknowledged, the replica itself counted where the
+/// entry is stored; then what is committed is applied.
+#[tactic(auto, using(vr_step::proofs::Stepping::steps, vr_journal::proofs::Memory::window_of, vr_journal::proofs::Repairs::ready_advanced), unfolding(vr_rules::specs::Words::advance))]
+pub fn advance<D: SectorDisk>(
+    replica: &mut Replica,
+    alloc: Global,
+    disk: &mut D,
+    out: &mut Outbox,
+) -> Result<(), Halt>
+    requires ready { IsReady replica.old }
+    requires room { replica.old.saved.fields.sequence + 64 < 2 ^ 64 }
+    ensures ready { OnOk result (IsReady replica.new) }
+    ensures cause { Caused (D.faults disk.old) (D.faults disk.new) result }
+    ensures step { Does advance replica.old replica.new (D.told disk.old) (D.told disk.new) out.old out.new result }
+{
+    replica.advance_commit();
+    replica.apply(alloc, disk, out)
+}

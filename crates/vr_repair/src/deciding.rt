@@ -1,0 +1,82 @@
+//! Which rule a message of repair leads to.
+ghost use Rattle.std.specs.Prelude.{◌≡◌, Bool, if◌then◌else◌};
+ghost use Rattle.vr_base.specs.Bytes.{name_of};
+ghost use Rattle.vr_journal.specs.Ready.{IsReady, MayStore};
+ghost use Rattle.vr_repair.specs.Repairs.{rule_of};
+ghost use Rattle.vr_rules.specs.Deciding.{Ignored, first_of, get_block_table, get_prepare_table, give_prepare_table};
+ghost use Rattle.vr_rules.specs.Replica.{is_absent};
+
+use vr_grid::Name;
+use vr_header::Part;
+use vr_journal::{Replica, is_here};
+use vr_msg::{GetBlock, GetPrepare, GivePrepare};
+
+/// What a message of repair leads to, by the name of its rule.
+#[derive(Clone, Copy, Debug, PartialEq, Eq)]
+pub enum Repair {
+    /// Nothing is done.
+    Ignored,
+    /// The entry that is asked for is read, and given.
+    EntryGiven,
+    /// The entry was lost or wanted, and is stored.
+    EntryTaken,
+    /// The block that is asked for is given.
+    BlockGiven,
+    /// The block of this name was missing, and is put.
+    BlockTaken(Name),
+}
+
+/// Which rule a get_prepare leads to.
+#[tactic(auto, unfolding(vr_rules::specs::Deciding::first_of))]
+pub fn decide_get_prepare(replica: &Replica, get: &GetPrepare) -> Repair
+    ensures { first_of (get_prepare_table name_of get.now replica.now) ≡ rule_of result }
+{
+    if replica.is_from(get.cluster, get.replica)
+        && replica.is_named(&get.name, get.op)
+        && is_here(&replica.part_at(get.op))
+    {
+        Repair::EntryGiven
+    } else {
+        Repair::Ignored
+    }
+}
+
+fn is_absent(part: &Part) -> bool
+    ensures { result ≡ is_absent part.now }
+{
+    match part {
+        Part::Lost(_) | Part::Wanted(_) => true,
+        Part::Here(_) | Part::Unknown | Part::Nothing => false,
+    }
+}
+
+/// Which rule a give_prepare leads to. An entry that is taken is one that may be stored.
+#[tactic(auto, using(crate::proofs::Rules::may_take), unfolding(vr_rules::specs::Deciding::first_of))]
+pub fn decide_give_prepare(replica: &Replica, give: &GivePrepare) -> Repair
+    requires { IsReady replica.now }
+    ensures rule { first_of (give_prepare_table give.now replica.now) ≡ rule_of result }
+    ensures may { result ≡ Repair.EntryTaken → MayStore give.now.entry replica.now }
+{
+    let header = give.entry.header();
+    if replica.is_from(header.cluster, give.replica)
+        && replica.checkpoint() < header.op
+        && replica.is_known(&header, header.op)
+        && is_absent(&replica.part_at(header.op))
+    {
+        Repair::EntryTaken
+    } else {
+        Repair::Ignored
+    }
+}
+
+/// Which rule a get_block leads to where the block reads; where it doesn't nothing is done.
+#[tactic(auto, unfolding(vr_rules::specs::Deciding::first_of))]
+pub fn decide_get_block(replica: &Replica, get: &GetBlock) -> Repair
+    ensures { (reads : Bool) → first_of (get_block_table reads get.now replica.now) ≡ (if reads then rule_of result else Ignored) }
+{
+    if replica.is_from(get.cluster, get.replica) {
+        Repair::BlockGiven
+    } else {
+        Repair::Ignored
+    }
+}

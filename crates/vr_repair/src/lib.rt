@@ -1,0 +1,20 @@
+//! Repair: commit numbers rise and entries are told of again; entries and blocks that are missing are asked for, given and taken.
+//!
+//! Each word and each rule has one clause on replica, disk and outputs: that what it does is the word of the definitions.
+#![tactic(auto)]
+
+mod commits;
+mod deciding;
+mod entries;
+mod finding;
+mod laws;
+mod missing;
+mod retelling;
+
+pub use commits::advance;
+pub use deciding::{Repair, decide_get_block, decide_get_prepare, decide_give_prepare};
+pub use entries::{handle_get_prepare, handle_give_prepare};
+pub use finding::read_entry;
+pub use laws::repair_laws;
+pub use missing::{ask, put_block};
+pub use retelling::{prepare_again, resend};

@@ -1,0 +1,136 @@
+//! What is missing is asked for, and put.
+ghost use Rattle.std.specs.Prelude.{◌≡◌, OnOk, [], is_some, true};
+ghost use Rattle.vr_base.specs.Bytes.{name_of};
+ghost use Rattle.vr_grid.specs.Blocks.{named};
+ghost use Rattle.vr_header.specs.Made.{IsEntryHeader};
+ghost use Rattle.vr_journal.specs.Ready.{IsReady, MayLoad, TextsHaveNumbers};
+ghost use Rattle.vr_repair.specs.Reads.{loads_whole};
+ghost use Rattle.vr_rules.specs.Outputs.{get_block, get_prepare};
+ghost use Rattle.vr_rules.specs.Rules.{put_block};
+ghost use Rattle.vr_rules.specs.Words.{ask, ask_for, ask_peer, least_absent};
+ghost use Rattle.vr_step.specs.Does.{Caused, Does};
+
+use std::alloc::Global;
+use vr_disk::SectorDisk;
+use vr_grid::Name;
+use vr_header::Header;
+use vr_journal::Replica;
+use vr_msg::Outbox;
+use vr_step::Halt;
+
+// Asks a peer for a block.
+#[tactic(auto, using(vr_step::proofs::Stepping::steps, vr_journal::proofs::Repairs::ready_turned, vr_journal::proofs::Repairs::ready_size), unfolding(vr_rules::specs::Words::ask_peer))]
+fn ask_block<D: SectorDisk>(
+    replica: &mut Replica,
+    _disk: &mut D,
+    name: &Name,
+    out: &mut Outbox,
+) -> Result<(), Halt>
+    requires ready { IsReady replica.old }
+    ensures ready { OnOk result (IsReady replica.new) }
+    ensures cause { Caused (D.faults _disk.old) (D.faults _disk.new) result }
+    ensures step { Does (ask_peer (get_block name.now)) replica.old replica.new (D.told _disk.old) (D.told _disk.new) out.old out.new result }
+{
+    replica.ask_block(name, out)?;
+    replica.turn_peer();
+    Ok(())
+}
+
+// Asks a peer for an entry.
+#[tactic(auto, using(vr_step::proofs::Stepping::steps, vr_journal::proofs::Repairs::ready_turned, vr_journal::proofs::Repairs::ready_size), unfolding(vr_rules::specs::Words::ask_peer))]
+fn ask_entry<D: SectorDisk>(
+    replica: &mut Replica,
+    _disk: &mut D,
+    header: &Header,
+    out: &mut Outbox,
+) -> Result<(), Halt>
+    requires ready { IsReady replica.old }
+    requires entry { IsEntryHeader header.now }
+    ensures ready { OnOk result (IsReady replica.new) }
+    ensures cause { Caused (D.faults _disk.old) (D.faults _disk.new) result }
+    ensures step { Does (ask_peer (get_prepare name_of header.now)) replica.old replica.new (D.told _disk.old) (D.told _disk.new) out.old out.new result }
+{
+    replica.ask_entry(header, out)?;
+    replica.turn_peer();
+    Ok(())
+}
+
+// Asks a peer for the least entry that is absent.
+#[tactic(auto, using(crate::proofs::Words::asked_entry, crate::proofs::Words::asked_none, vr_journal::proofs::Memory::next_fits, vr_journal::proofs::Repairs::ready_absent))]
+fn ask_absent<D: SectorDisk>(
+    replica: &mut Replica,
+    disk: &mut D,
+    out: &mut Outbox,
+) -> Result<(), Halt>
+    requires ready { IsReady replica.old }
+    ensures ready { OnOk result (IsReady replica.new) }
+    ensures cause { Caused (D.faults disk.old) (D.faults disk.new) result }
+    ensures step { Does (ask_for [] (least_absent replica.old)) replica.old replica.new (D.told disk.old) (D.told disk.new) out.old out.new result }
+{
+    match replica.least_absent() {
+        Some(header) => ask_entry(replica, disk, &header, out),
+        None => Ok(()),
+    }
+}
+
+/// Asks the peer whose turn it is for what is missing: the first of the blocks that are, else the least entry that isn't stored or can't be
+/// read. Where nothing is missing nothing is asked.
+#[tactic(auto, using(crate::proofs::Words::asked_block, crate::proofs::Words::asked_absent))]
+pub fn ask<D: SectorDisk>(replica: &mut Replica, disk: &mut D, out: &mut Outbox) -> Result<(), Halt>
+    requires ready { IsReady replica.old }
+    ensures ready { OnOk result (IsReady replica.new) }
+    ensures cause { Caused (D.faults disk.old) (D.faults disk.new) result }
+    ensures step { Does ask replica.old replica.new (D.told disk.old) (D.told disk.new) out.old out.new result }
+{
+    match replica.missing().get(0) {
+        Some(name) => ask_block(replica, disk, &name, out),
+        None => ask_absent(replica, disk, out),
+    }
+}
+
+// Loads the checkpoint where none of its blocks is missing any more.
+#[tactic(auto, using(crate::proofs::Words::loaded_whole, crate::proofs::Words::loaded_not, crate::proofs::Words::may_ready))]
+fn load_whole<D: SectorDisk>(
+    replica: &mut Replica,
+    alloc: Global,
+    disk: &mut D,
+    out: &mut Outbox,
+) -> Result<(), Halt>
+    requires may { MayLoad replica.old }
+    requires numbers { TextsHaveNumbers }
+    ensures ready { OnOk result (IsReady replica.new) }
+    ensures view { OnOk result (replica.new.view ≡ replica.old.view) }
+    ensures saved { OnOk result (replica.new.saved ≡ replica.old.saved) }
+    ensures cause { Caused (D.faults disk.old) (D.faults disk.new) result }
+    ensures step { Does loads_whole replica.old replica.new (D.told disk.old) (D.told disk.new) out.old out.new result }
+{
+    if replica.is_loaded() {
+        replica.load(alloc, disk, out)
+    } else {
+        Ok(())
+    }
+}
+
+/// Puts the whole block of this name, which isn't missing any more. After the last one, and after the root, the checkpoint is loaded anew.
+#[tactic(auto, using(crate::proofs::Words::put_then, crate::proofs::Words::put_stopped, crate::proofs::Words::may_dropped))]
+pub fn put_block<D: SectorDisk>(
+    replica: &mut Replica,
+    alloc: Global,
+    disk: &mut D,
+    name: &Name,
+    block: &[u8],
+    out: &mut Outbox,
+) -> Result<(), Halt>
+    requires may { MayLoad replica.old }
+    requires named { is_some (named name.now block.now) ≡ true }
+    requires numbers { TextsHaveNumbers }
+    ensures ready { OnOk result (IsReady replica.new) }
+    ensures view { OnOk result (replica.new.view ≡ replica.old.view) }
+    ensures saved { OnOk result (replica.new.saved ≡ replica.old.saved) }
+    ensures cause { Caused (D.faults disk.old) (D.faults disk.new) result }
+    ensures step { Does (put_block name.now block.now) replica.old replica.new (D.told disk.old) (D.told disk.new) out.old out.new result }
+{
+    replica.put_block(disk, name, block)?;
+    replica.drop_missing(name);
+    load_whole(replica, alloc, disk, out)
+}

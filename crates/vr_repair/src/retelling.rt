@@ -1,0 +1,82 @@
+//! Entries that are told of again.
+ghost use Rattle.std.specs.Prelude.{◌≡◌, ◌≤◌, ◌++◌, ◌&&◌, nat_lt, OnOk, if◌then◌else◌};
+ghost use Rattle.vr_base.specs.Bytes.{name_of};
+ghost use Rattle.vr_journal.specs.Ready.{IsReady};
+ghost use Rattle.vr_rules.specs.Outputs.{prepare, prepare_ok, send_to_all, to_primary};
+ghost use Rattle.vr_rules.specs.Replica.{is_primary, is_started, last_view};
+ghost use Rattle.vr_rules.specs.Words.{prepare_again, resend};
+ghost use Rattle.vr_step.specs.Does.{Caused, Does};
+
+use crate::finding::read_entry;
+use std::alloc::{AllocError, Global};
+use vr_disk::SectorDisk;
+use vr_header::Entry;
+use vr_journal::Replica;
+use vr_msg::Outbox;
+use vr_step::Halt;
+
+fn is_open(replica: &Replica, entry: &Entry) -> bool
+    ensures { result ≡ (is_started replica.now && nat_lt replica.now.commit entry.now.header.op) }
+{
+    replica.is_started() && replica.commit() < entry.header().op
+}
+
+// The primary prepares the entry to all, a backup tells the primary that it is stored.
+fn tell(replica: &Replica, alloc: Global, entry: &Entry, out: &mut Outbox) -> Result<(), AllocError>
+    requires ready { IsReady replica.now }
+    requires view { replica.now.view ≤ last_view }
+    requires made { entry.now.header.view ≤ replica.now.view }
+    ensures { OnOk result (out.new ≡ out.old ++ (if is_primary replica.now then send_to_all (prepare entry.now) replica.now else to_primary (prepare_ok name_of entry.now.header) replica.now)) }
+{
+    if replica.is_primary() {
+        replica.send_prepare(alloc, entry, out)
+    } else {
+        replica.acknowledge(&entry.header(), out)
+    }
+}
+
+/// Tells of an entry that was stored late: where the view is started and the entry stands above the commit number, the primary prepares it to
+/// all, and a backup tells the primary that it is stored.
+#[tactic(auto, using(crate::proofs::Words::resent, crate::proofs::Words::not_resent, vr_step::proofs::Stepping::wants))]
+pub fn resend<D: SectorDisk>(
+    replica: &Replica,
+    alloc: Global,
+    _disk: &mut D,
+    entry: &Entry,
+    out: &mut Outbox,
+) -> Result<(), Halt>
+    requires ready { IsReady replica.now }
+    requires view { replica.now.view ≤ last_view }
+    requires made { entry.now.header.view ≤ replica.now.view }
+    ensures cause { Caused (D.faults _disk.old) (D.faults _disk.new) result }
+    ensures step { Does (resend entry.now) replica.now replica.now (D.told _disk.old) (D.told _disk.new) out.old out.new result }
+{
+    if is_open(replica, entry) {
+        tell(replica, alloc, entry, out)?;
+    }
+    Ok(())
+}
+
+/// Reads the entry of an op where it is stored, and prepares it to all others.
+#[tactic(auto, using(crate::proofs::Words::prepared_again, crate::proofs::Words::not_prepared, vr_step::proofs::Stepping::wants))]
+pub fn prepare_again<D: SectorDisk>(
+    replica: &mut Replica,
+    alloc: Global,
+    disk: &mut D,
+    op: u64,
+    out: &mut Outbox,
+) -> Result<(), Halt>
+    requires ready { IsReady replica.old }
+    requires view { replica.old.view ≤ last_view }
+    ensures ready { OnOk result (IsReady replica.new) }
+    ensures view { OnOk result (replica.new.view ≡ replica.old.view) }
+    ensures saved { OnOk result (replica.new.saved ≡ replica.old.saved) }
+    ensures cause { Caused (D.faults disk.old) (D.faults disk.new) result }
+    ensures step { Does (prepare_again op) replica.old replica.new (D.told disk.old) (D.told disk.new) out.old out.new result }
+{
+    match read_entry(replica, alloc, disk, op)? {
+        Some(entry) => replica.send_prepare(alloc, &entry, out)?,
+        None => {}
+    }
+    Ok(())
+}

@@ -1,0 +1,8 @@
+//! What code leaves that follows a word of the definitions: one clause for words, rules and steps, with its laws.
+#![tactic(auto)]
+
+mod halt;
+mod laws;
+
+pub use halt::Halt;
+pub use laws::stop_laws;

@@ -1,0 +1,73 @@
+-- What the statements of a group decide, and the log that its primary chooses.
+use Rattle.std.proofs.Common.{arith, ℕ, ◌≡◌, ◌≤◌, ◌<◌, ◌+◌, ◌-◌, ◌^◌, ◌∙◌, refl, sym, subst, List, ◌++◌, Option, Result, Ok, Err}
+use Rattle.std.specs.Prelude.{All}
+use Rattle.std.proofs.lemmas.List.Elements.{All-weaker}
+use Rattle.vr_base.specs.Groups.{quorums_of}
+use Rattle.vr_choose.specs.Statements.{IsSomeStatement}
+use Rattle.vr_choose.proofs.Bounds.{some_statements}
+use Rattle.vr_disk.specs.DiskState.{Disk}
+use Rattle.vr_header.specs.declared.header.Header.{Header}
+use Rattle.vr_msg.specs.declared.choice.Choice.{Choice}
+use Rattle.vr_msg.specs.declared.choice.Choice.TheVariants.{Ends, WaitsAt, TooFew}
+use Rattle.vr_msg.specs.declared.output.Output.{Output}
+use Rattle.vr_msg.specs.declared.statement.Statement.{Statement}
+use Rattle.vr_msg.specs.Logs.{IsStatement}
+use Rattle.vr_rules.specs.Outputs.{wait_line}
+use Rattle.vr_rules.specs.Replica.{Replica, last_view}
+use Rattle.vr_rules.specs.Sound.{IsStated}
+use Rattle.vr_rules.specs.Words.{Log, chosen_log, decided, obey_choice, stated, try_log}
+use Rattle.vr_rules.proofs.Storing.{head_number}
+use Rattle.vr_rules.proofs.Taking.{may_take_is}
+use Rattle.vr_rules.proofs.Trying.{all_stated, chosen_log_is, decided_ends}
+use Rattle.vr_base.specs.Bytes.{name_of}
+use Rattle.vr_step.specs.declared.halt.Halt.{Halt}
+use Rattle.vr_step.specs.Does.{Does}
+use Rattle.vr_step.proofs.Stepping.{does_by, does_quiet, says_by}
+use Rattle.vr_journal.specs.Ready.{IsReady}
+use Rattle.vr_view.specs.Logs.{IsTaught, MayTake}
+
+pub some_stated : (r : Replica) (ss : List Statement) → IsReady r → ss ≡ stated r → All IsSomeStatement ss
+unfolding IsReady
+some_stated r ss h e =
+    rw e (some_statements r.cluster (stated r) (All-weaker (IsStated r.cluster r.view) (IsStatement r.cluster) (λ s i. i.statement) (stated r) (all_stated r h.sound)))
+
+-- the log that it chooses is one of its group
+pub chosen_taught : (r : Replica) (ss : List Statement) (c : Choice) (hs : List Header) (l : Log) → IsReady r → r.view ≤ last_view → ss ≡ stated r → c ≡ decided r → c ≡ Ends hs → l ≡ chosen_log r ss hs → IsTaught l r
+unfolding IsReady IsTaught
+chosen_taught r ss c hs l h v e k i m =
+    let q = decided_ends r.n (stated r) hs (quorums_of r.n) (sym k ∙ i) in
+    rw (m, e) (record { log = λ values. chosen_log_is r q.0 (stated r) hs (all_stated r h.sound) q.1; view = v })
+
+-- numbers of ops
+pub commit_small : (r : Replica) (n : ℕ) → n ≡ r.commit → IsReady r → n < 2 ^ 63
+unfolding IsReady
+commit_small r n e h = let a = h.sound.order.known in let b = head_number r h.sound in omega arith
+
+pub head_small : (l : Log) (r : Replica) → MayTake l r → IsReady r → l.head < 2 ^ 63
+unfolding IsReady MayTake
+head_small l r m h =
+    let may = may_take_is name_of l r m.may in
+    let room = may.room in
+    let number = h.sound.order.number in
+    omega arith
+
+-- ---- the choice is obeyed
+
+module _ (r : Replica) (c : Choice) where
+  pub choice_few : (d : Option Disk) (o : List Output) → c ≡ decided r → c ≡ TooFew → Does (obey_choice (stated r) (decided r)) r r d d o o (Ok tt)
+  choice_few d o e k = let same : decided r ≡ TooFew = sym e ∙ k in subst (λ (x : Choice). Does (obey_choice (stated r) x) r r d d o o (Ok tt)) (sym same) (does_quiet r d o)
+
+  pub choice_waits : (op : ℕ) (d : Option Disk) (o o' : List Output) → c ≡ decided r → c ≡ WaitsAt op → o' ≡ o ++ wait_line op r → Does (obey_choice (stated r) (decided r)) r r d d o o' (Ok tt)
+  choice_waits op d o o' e k i =
+      let same : decided r ≡ WaitsAt op = sym e ∙ k in
+      subst (λ (x : Choice). Does (obey_choice (stated r) x) r r d d o o' (Ok tt)) (sym same) (says_by (wait_line op) r d o o' i)
+
+  pub choice_ends : (hs : List Header) (ss : List Statement) (l : Log) (r' : Replica) (d d' : Option Disk) (o o' : List Output) (result : Result (Unit {0}) Halt) → c ≡ decided r → c ≡ Ends hs
+      → ss ≡ stated r → l ≡ chosen_log r ss hs → Does (try_log ss l) r r' d d' o o' result → Does (obey_choice (stated r) (decided r)) r r' d d' o o' result
+  choice_ends hs ss l r' d d' o o' result e k s i h =
+      let same : decided r ≡ Ends hs = sym e ∙ k in
+      let log : l ≡ chosen_log r (stated r) hs = i ∙ rw s refl in
+      subst (λ (x : Choice). Does (obey_choice (stated r) x) r r' d d' o o' result) (sym same)
+      (does_by (λ (x : Replica). try_log (stated r) (chosen_log x (stated r) hs)) r r' d d' o o' result (rw (s, log) at h))
+
+pub ruleset choices = (choice_few, choice_waits, choice_ends)

@@ -1,0 +1,7 @@
+pub mod Takes
+pub mod Goes
+pub mod Choices
+pub mod Changes
+pub mod States
+pub mod Starts
+pub mod Copies

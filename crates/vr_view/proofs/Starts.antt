@@ -1,0 +1,145 @@
+-- Start_views and get_views: which rule applies, and what it is.
+use Rattle.std.proofs.Common.{arith, ℕ, zero, suc, slice_get, ◌∷◌, ◌≡◌, ◌≤◌, ◌<◌, ◌+◌, ◌-◌, ◌^◌, ◌∙◌, refl, sym, ap, subst, true, false, not, List, [], ◌++◌, Option, Some, Result, Ok, Err, append-nil}
+use Rattle.std.specs.Prelude.{◌&&◌}
+use Rattle.std.proofs.lemmas.Bool.{and_parts}
+use Rattle.vr_base.specs.Bytes.{name_of}
+use Rattle.vr_disk.specs.DiskState.{Disk, Face}
+use Rattle.vr_header.specs.declared.header.Header.{Header}
+use Rattle.vr_header.specs.declared.part.Part.{Part}
+use Rattle.vr_header.specs.declared.part.Part.TheVariants.{Here, Lost, Wanted, Unknown, Nothing}
+use Rattle.vr_header.specs.Made.{IsEntryHeader}
+use Rattle.vr_header.specs.Spelling.{IsHeader}
+use Rattle.vr_msg.specs.declared.frame.GetView.{GetView}
+use Rattle.vr_msg.specs.declared.frame.StartView.{StartView}
+use Rattle.vr_msg.specs.declared.output.Output.{Output}
+use Rattle.vr_msg.specs.Choice.{ops}
+use Rattle.vr_msg.specs.Logs.{IsEntryAt, header_of}
+use Rattle.vr_msg.specs.Spelling.{AreHeaders}
+use Rattle.vr_rules.specs.Deciding.{Rule, Ignored, Taken, ViewGiven, first_of, get_view_table, log_of, start_view_table}
+use Rattle.vr_rules.specs.Outputs.{send_to, start_view}
+use Rattle.vr_rules.specs.Replica.{Replica, last_view, part_at}
+use Rattle.vr_rules.specs.Rules.{acknowledge_stored, obey_get_view, obey_start_view, on_get_view, on_start_view}
+use Rattle.vr_rules.specs.Steps.{Word, ◌⨾◌, by, each}
+use Rattle.vr_rules.specs.Words.{Log, apply, may_take, take}
+use Rattle.vr_rules.proofs.Ruling.{by_rows, group_of_primary}
+use Rattle.vr_rules.proofs.Taking.{IsLogFor}
+use Rattle.vr_rules.proofs.Trying.{from_at}
+use Rattle.vr_step.specs.declared.halt.Halt.{Halt}
+use Rattle.vr_step.specs.Does.{Does}
+use Rattle.vr_step.proofs.Stepping.{does_by, does_naming, does_quiet, does_then, says_by}
+use Rattle.vr_journal.specs.Ready.{IsReady}
+use Rattle.vr_view.specs.declared.starting.StartRule.{StartRule}
+use Rattle.vr_view.specs.declared.starting.StartRule.TheVariants as started
+use Rattle.vr_view.specs.declared.starting.ViewRule.{ViewRule}
+use Rattle.vr_view.specs.declared.starting.ViewRule.TheVariants as asked
+use Rattle.vr_view.specs.Acks.{ack_of, stored_ack}
+use Rattle.vr_view.specs.Logs.{MayTake}
+use Rattle.vr_view.specs.Messages.{IsStarting}
+use Rattle.vr_view.specs.Named.{start_rule, view_rule}
+use Rattle.vr_view.specs.Telling.{Tells}
+use Rattle.vr_view.proofs.Goes.{GoesOver, over_begins, over_goes, over_ends}
+
+-- ---- entries that are stored are acknowledged
+
+-- the header of a stored entry
+pub here_entry : (op : ℕ) (h : Header) (r : Replica) → part_at r op ≡ Here h → IsReady r → IsEntryHeader h
+unfolding IsReady
+here_entry op h r e ready = (ready.sound.entries.each op h (ap header_of e)).1.entry
+
+part_acked : (p : Part) (op : ℕ) (r : Replica) (d : Option Disk) (o o' : List Output) → part_at r op ≡ p → o' ≡ o ++ ack_of p r → Does (acknowledge_stored name_of op) r r d d o o' (Ok tt)
+unfolding acknowledge_stored
+part_acked (Here h) op r d o o' e i = does_by _ r r d d o o' (Ok tt) (rw e (says_by _ r d o o' i))
+part_acked (Lost h) op r d o o' e i = does_by _ r r d d o o' (Ok tt) (rw (e, i, append-nil o) (does_quiet r d o))
+part_acked (Wanted h) op r d o o' e i = does_by _ r r d d o o' (Ok tt) (rw (e, i, append-nil o) (does_quiet r d o))
+part_acked Unknown op r d o o' e i = does_by _ r r d d o o' (Ok tt) (rw (e, i, append-nil o) (does_quiet r d o))
+part_acked Nothing op r d o o' e i = does_by _ r r d d o o' (Ok tt) (rw (e, i, append-nil o) (does_quiet r d o))
+
+-- in the middle of acknowledging the ops above c up to h
+pub record Acking (c h i : ℕ) (r : Replica) (o o' : List Output) : Type 0 where
+  pub every : (d : Option Disk) → GoesOver (acknowledge_stored name_of) c h i r r d d o o'
+
+pub acking_begins : (c h : ℕ) (r : Replica) (o : List Output) → Acking c h 0 r o o
+acking_begins c h r o = record { every = λ d. over_begins (acknowledge_stored name_of) c h r d o }
+
+pub acking_goes : (c h i op : ℕ) (r : Replica) (o o' o'' : List Output) → Acking c h i r o o' → i < h - c → op ≡ c + 1 + i → o'' ≡ o' ++ stored_ack op r → Acking c h (i + 1) r o o''
+acking_goes c h i op r o o' o'' g l e k = record {
+  every = λ d. over_goes (acknowledge_stored name_of) c h i op r r r d d d o o' o'' (g.every d) l e (part_acked (part_at r op) op r d o' o'' refl k);
+}
+
+pub acking_ends : (c h i : ℕ) (r : Replica) (o o' : List Output) → Acking c h i r o o' → h - c ≤ i → c ≡ r.commit → Tells (by (λ (x : Replica). each (acknowledge_stored name_of) (ops x.commit h))) r o o'
+acking_ends c h i r o o' g l b = record { every = λ d. over_ends (acknowledge_stored name_of) c h i r r d d o o' (g.every d) l b }
+
+pub ruleset acks = (acking_begins, acking_goes, acking_ends)
+
+pub told : (w : Word Face) (r : Replica) (d : Option Disk) (o o' : List Output) → Tells w r o o' → Does w r r d d o o' (Ok tt)
+told w r d o o' t = t.every d
+
+-- ---- the log that a start_view tells of
+
+told_log : (v : StartView) (r : Replica) → IsStarting v → v.cluster ≡ r.cluster → AreHeaders v.body.headers → IsLogFor r (log_of v)
+unfolding IsStarting
+told_log v r m g w = record {
+  commit = m.commit;
+  count = m.count;
+  each = λ i h e. (
+    header_in v.body.headers i h w e,
+    subst (λ c. IsEntryAt c v.view (v.body.lo + 1 + i) h) g (from_at (IsEntryAt v.cluster v.view) (v.body.lo + 1) v.body.headers i h m.headers e),
+  );
+}
+  where
+    header_in : (hs : List Header) (i : ℕ) (h : Header) → AreHeaders hs → slice_get hs i ≡ Some h → IsHeader h
+    header_in [] i h all e = absurd cc
+    header_in (g ∷ hs) zero h all e = let same : g ≡ h = cc in subst IsHeader same all.0
+    header_in (g ∷ hs) (suc i) h all e = header_in hs i h all.1 e
+
+view_started : (v : StartView) → IsStarting v → v.view ≤ last_view
+unfolding IsStarting
+view_started v m = let view = m.view in omega arith
+
+taken_by : (v : StartView) (r : Replica) → first_of (start_view_table name_of v r) ≡ Taken → IsStarting v → AreHeaders v.body.headers → MayTake (log_of v) r
+unfolding MayTake
+taken_by v r k m w =
+    by_rows (λ x. x ≡ Taken → MayTake (log_of v) r) (start_view_table name_of v r) (
+      λ t e. absurd cc,
+      λ n0. (
+        λ t e. record {
+          log = told_log v r m (group_of_primary v.cluster v.replica v.view r n0) w;
+          view = view_started v m;
+          may = (and_parts (may_take name_of (log_of v) r) _ t).0;
+        },
+        λ n1 e. absurd cc,
+      ),
+    ) k
+
+pub may_follow : (v : StartView) (l : Log) (r : Replica) (x : StartRule) → first_of (start_view_table name_of v r) ≡ start_rule x → (x ≡ started.Taken → AreHeaders v.body.headers) → x ≡ started.Taken → l ≡ log_of v
+    → IsStarting v → MayTake l r
+may_follow v l r x e w k i m = rw i (taken_by v r (e ∙ ap start_rule k) m (w k))
+
+-- ---- the rules
+
+module _ (v : StartView) (r r' : Replica) (d d' : Option Disk) (o o' : List Output) where
+  obeyed : (x : Rule) (result : Result (Unit {0}) Halt) → first_of (start_view_table name_of v r) ≡ x → Does (obey_start_view name_of v x) r r' d d' o o' result → Does (on_start_view v) r r' d d' o o' result
+  unfolding on_start_view
+  obeyed x result e h = does_naming _ r r' d d' o o' result (does_by _ r r' d d' o o' result (subst (λ y. Does (obey_start_view name_of v y) r r' d d' o o' result) (sym e) h))
+
+  pub start_taken : (l : Log) (x : StartRule) (result : Result (Unit {0}) Halt) → first_of (start_view_table name_of v r) ≡ start_rule x → x ≡ started.Taken → l ≡ log_of v
+      → Does (take l ⨾ by (λ (x : Replica). each (acknowledge_stored name_of) (ops x.commit l.head)) ⨾ apply) r r' d d' o o' result → Does (on_start_view v) r r' d d' o o' result
+  start_taken l x result e k i h = obeyed Taken result (e ∙ ap start_rule k) (rw i at h)
+
+pub start_ignored : (v : StartView) (r : Replica) (d : Option Disk) (o : List Output) (x : StartRule) → first_of (start_view_table name_of v r) ≡ start_rule x → x ≡ started.Ignored → Does (on_start_view v) r r d d o o (Ok tt)
+start_ignored v r d o x e k = obeyed v r r d d o o Ignored (Ok tt) (e ∙ ap start_rule k) (does_quiet r d o)
+
+pub ruleset starts = (start_taken, start_ignored)
+
+asked_by : (g : GetView) (r : Replica) (d : Option Disk) (o o' : List Output) (x : Rule) → first_of (get_view_table g r) ≡ x → Does (obey_get_view g x) r r d d o o' (Ok tt) → Does (on_get_view g) r r d d o o' (Ok tt)
+unfolding on_get_view
+asked_by g r d o o' x e h = does_by _ r r d d o o' (Ok tt) (subst (λ y. Does (obey_get_view g y) r r d d o o' (Ok tt)) (sym e) h)
+
+module _ (g : GetView) (r : Replica) (d : Option Disk) (o : List Output) (x : ViewRule) where
+  pub view_ignored : first_of (get_view_table g r) ≡ view_rule x → x ≡ asked.Ignored → Does (on_get_view g) r r d d o o (Ok tt)
+  view_ignored e k = asked_by g r d o o Ignored (e ∙ ap view_rule k) (does_quiet r d o)
+
+  pub view_given : (o' : List Output) → first_of (get_view_table g r) ≡ view_rule x → x ≡ asked.Given → o' ≡ o ++ send_to g.replica (start_view r) r → Does (on_get_view g) r r d d o o' (Ok tt)
+  view_given o' e k i = asked_by g r d o o' ViewGiven (e ∙ ap view_rule k) (says_by _ r d o o' i)
+
+pub ruleset gives = (view_ignored, view_given)

@@ -1,0 +1,127 @@
+//! A replica has entered a view: start_view_changes.
+ghost use Rattle.std.specs.Prelude.{◌≡◌, ◌<◌, ◌≤◌, ◌+◌, ◌^◌, OnOk};
+ghost use Rattle.vr_journal.specs.Ready.{IsReady};
+ghost use Rattle.vr_rules.specs.Deciding.{first_of, start_view_change_table};
+ghost use Rattle.vr_rules.specs.Replica.{last_view};
+ghost use Rattle.vr_rules.specs.Rules.{heard_of, on_start_view_change};
+ghost use Rattle.vr_rules.specs.Steps.{◌⨾◌, change};
+ghost use Rattle.vr_rules.specs.Words.{enter, speak};
+ghost use Rattle.vr_step.specs.Does.{Caused, Does};
+ghost use Rattle.vr_view.specs.Named.{change_rule};
+
+use crate::trying::speak;
+use std::alloc::Global;
+use vr_disk::SectorDisk;
+use vr_journal::Replica;
+use vr_msg::{Outbox, StartViewChange};
+use vr_step::Halt;
+
+/// What a start_view_change leads to.
+#[derive(Clone, Copy, Debug, PartialEq, Eq)]
+pub enum ChangeRule {
+    /// It isn't from another replica of the group, or tells nothing new.
+    Ignored,
+    /// It is of a view before the replica's.
+    Before,
+    /// It is of a later view, which is entered.
+    Later,
+    /// The replica's own view, which isn't started, was entered by one more.
+    Heard,
+    /// The replica leads its view: the sender is told of the log.
+    Done,
+}
+
+/// Which rule applies to a start_view_change.
+#[tactic(auto, unfolding(vr_rules::specs::Deciding::first_of))]
+pub fn decide_start_view_change(replica: &Replica, change: &StartViewChange) -> ChangeRule
+    requires { 0 < replica.now.n }
+    ensures { first_of (start_view_change_table change.now replica.now) ≡ change_rule result }
+{
+    if !replica.is_from(change.cluster, change.replica) {
+        ChangeRule::Ignored
+    } else if change.view < replica.view() {
+        ChangeRule::Before
+    } else if replica.view() < change.view {
+        ChangeRule::Later
+    } else if !replica.is_started() && !replica.heard().has(change.replica) {
+        ChangeRule::Heard
+    } else if replica.leads() {
+        ChangeRule::Done
+    } else {
+        ChangeRule::Ignored
+    }
+}
+
+/// Enters the later view that a replica has entered, and speaks there.
+#[tactic(auto, using(vr_step::proofs::Stepping::steps, crate::proofs::Changes::later))]
+fn enter_later<D: SectorDisk>(
+    replica: &mut Replica,
+    alloc: Global,
+    disk: &mut D,
+    change: &StartViewChange,
+    out: &mut Outbox,
+) -> Result<(), Halt>
+    requires ready { IsReady replica.old }
+    requires later { replica.old.view < change.now.view }
+    requires last { change.now.view ≤ last_view }
+    requires room { replica.old.saved.fields.sequence + 66 < 2 ^ 64 }
+    ensures ready { OnOk result (IsReady replica.new) }
+    ensures cause { Caused (D.faults disk.old) (D.faults disk.new) result }
+    ensures step { Does (enter change.now.view ⨾ change (heard_of change.now.replica) ⨾ speak) replica.old replica.new (D.told disk.old) (D.told disk.new) out.old out.new result }
+{
+    replica.enter(alloc, disk, change.view, out)?;
+    replica.hear(change.replica);
+    speak(replica, alloc, disk, out)
+}
+
+/// Hears of one more replica in its view, which isn't started, and speaks.
+#[tactic(auto, using(vr_step::proofs::Stepping::steps, crate::proofs::Changes::heard))]
+fn hear_one<D: SectorDisk>(
+    replica: &mut Replica,
+    alloc: Global,
+    disk: &mut D,
+    sender: u8,
+    out: &mut Outbox,
+) -> Result<(), Halt>
+    requires ready { IsReady replica.old }
+    requires view { replica.old.view ≤ last_view }
+    requires changing { replica.old.log_view < replica.old.view }
+    requires room { replica.old.saved.fields.sequence + 65 < 2 ^ 64 }
+    ensures ready { OnOk result (IsReady replica.new) }
+    ensures cause { Caused (D.faults disk.old) (D.faults disk.new) result }
+    ensures step { Does (change (heard_of sender) ⨾ speak) replica.old replica.new (D.told disk.old) (D.told disk.new) out.old out.new result }
+{
+    replica.hear(sender);
+    speak(replica, alloc, disk, out)
+}
+
+/// A replica has entered a view. A later one is entered too, and it counts there; in a view that isn't
+/// started it counts, and where enough have entered it the replica speaks; the primary of a view that is
+/// started tells it of the log.
+#[tactic(auto, using(crate::proofs::Changes::changes, crate::proofs::Changes::means, vr_journal::proofs::Memory::some_member, vr_step::proofs::Stepping::wants))]
+pub fn handle_start_view_change<D: SectorDisk>(
+    replica: &mut Replica,
+    alloc: Global,
+    disk: &mut D,
+    change: &StartViewChange,
+    out: &mut Outbox,
+) -> Result<(), Halt>
+    requires ready { IsReady replica.old }
+    requires view { replica.old.view ≤ last_view }
+    requires last { change.now.view ≤ last_view }
+    requires room { replica.old.saved.fields.sequence + 66 < 2 ^ 64 }
+    ensures ready { OnOk result (IsReady replica.new) }
+    ensures cause { Caused (D.faults disk.old) (D.faults disk.new) result }
+    ensures step { Does (on_start_view_change change.now) replica.old replica.new (D.told disk.old) (D.told disk.new) out.old out.new result }
+{
+    match decide_start_view_change(replica, change) {
+        ChangeRule::Ignored => Ok(()),
+        ChangeRule::Before => Ok(()),
+        ChangeRule::Later => enter_later(replica, alloc, disk, change, out),
+        ChangeRule::Heard => hear_one(replica, alloc, disk, change.replica, out),
+        ChangeRule::Done => {
+            replica.tell_view(alloc, change.replica, out)?;
+            Ok(())
+        }
+    }
+}

@@ -1,0 +1,182 @@
+//! The log of a view that is started: start_views, and get_views that ask for one.
+ghost use Rattle.std.specs.Prelude.{◌≡◌, ◌<◌, ◌≤◌, ◌+◌, ◌^◌, ◌++◌, OnOk};
+ghost use Rattle.vr_base.specs.Bytes.{name_of};
+ghost use Rattle.vr_journal.specs.Ready.{IsReady};
+ghost use Rattle.vr_msg.specs.Choice.{ops};
+ghost use Rattle.vr_msg.specs.Spelling.{AreHeaders};
+ghost use Rattle.vr_rules.specs.Deciding.{first_of, get_view_table, log_of, start_view_table};
+ghost use Rattle.vr_rules.specs.Replica.{last_view};
+ghost use Rattle.vr_rules.specs.Rules.{acknowledge_stored, on_get_view, on_start_view};
+ghost use Rattle.vr_rules.specs.Steps.{◌⨾◌, by, each};
+ghost use Rattle.vr_rules.specs.Words.{apply, take};
+ghost use Rattle.vr_step.specs.Does.{Caused, Does};
+ghost use Rattle.vr_view.specs.Logs.{MayTake};
+ghost use Rattle.vr_view.specs.Messages.{IsStarting};
+ghost use Rattle.vr_view.specs.Named.{start_rule, view_rule};
+ghost use Rattle.vr_view.specs.Telling.{Tells};
+ghost use Rattle.vr_view.specs.declared.starting.StartRule.{StartRule};
+ghost use Rattle.vr_view.specs.Acks.{stored_ack};
+
+use crate::taking::take;
+use std::alloc::{AllocError, Global};
+use vr_disk::SectorDisk;
+use vr_header::Part;
+use vr_journal::{Log, Replica, primary};
+use vr_msg::{GetView, Outbox, StartView};
+use vr_step::Halt;
+
+/// What a start_view leads to.
+#[derive(Clone, Copy, Debug, PartialEq, Eq)]
+pub enum StartRule {
+    /// It isn't from the primary of its view, or its log may not be taken over.
+    Ignored,
+    /// Its log is taken over.
+    Taken,
+}
+
+/// What a get_view leads to.
+#[derive(Clone, Copy, Debug, PartialEq, Eq)]
+pub enum ViewRule {
+    /// It isn't from another replica of the group, or the replica doesn't lead a view that is late enough.
+    Ignored,
+    /// The sender is told of the log.
+    Given,
+}
+
+/// The log that a start_view tells of.
+fn log_of(start: &StartView) -> Log<'_>
+    ensures { result ≡ log_of start.now }
+{
+    Log {
+        view: start.view,
+        lo: start.body.lo,
+        headers: &start.body.headers,
+        head: start.head,
+        commit: start.commit,
+    }
+}
+
+/// Which rule applies to a start_view; one that is taken has headers with the values of the program.
+#[tactic(auto, using(vr_journal::proofs::Memory::window_of, vr_journal::proofs::Memory::some_member), unfolding(vr_rules::specs::Deciding::first_of))]
+pub fn decide_start_view(replica: &Replica, start: &StartView) -> StartRule
+    requires { IsReady replica.now }
+    ensures rule { first_of (start_view_table name_of start.now replica.now) ≡ start_rule result }
+    ensures values { result ≡ StartRule.Taken → AreHeaders start.now.body.headers }
+{
+    let log = log_of(start);
+    if !replica.is_from_primary(start.cluster, start.replica, start.view) {
+        StartRule::Ignored
+    } else if replica.may_take(&log) && replica.index() != primary(replica.n(), start.view) {
+        StartRule::Taken
+    } else {
+        StartRule::Ignored
+    }
+}
+
+/// Which rule applies to a get_view.
+#[tactic(auto, unfolding(vr_rules::specs::Deciding::first_of))]
+pub fn decide_get_view(replica: &Replica, get: &GetView) -> ViewRule
+    requires { 0 < replica.now.n }
+    ensures { first_of (get_view_table get.now replica.now) ≡ view_rule result }
+{
+    if !replica.is_from(get.cluster, get.replica) {
+        ViewRule::Ignored
+    } else if replica.leads() && get.view <= replica.view() {
+        ViewRule::Given
+    } else {
+        ViewRule::Ignored
+    }
+}
+
+/// Acknowledges the entry of an op if it is stored.
+#[tactic(auto, using(crate::proofs::Starts::here_entry))]
+fn acknowledge_stored(replica: &Replica, op: u64, out: &mut Outbox) -> Result<(), AllocError>
+    requires ready { IsReady replica.now }
+    requires view { replica.now.view ≤ last_view }
+    ensures { OnOk result (out.new ≡ out.old ++ stored_ack op replica.now) }
+{
+    match replica.part_at(op) {
+        Part::Here(header) => replica.acknowledge(&header, out),
+        _ => Ok(()),
+    }
+}
+
+/// Acknowledges each entry that is stored, from the op above its commit number on to the head.
+#[tactic(auto, using(crate::proofs::Starts::acks))]
+fn acknowledge_all(replica: &Replica, head: u64, out: &mut Outbox) -> Result<(), AllocError>
+    requires ready { IsReady replica.now }
+    requires view { replica.now.view ≤ last_view }
+    requires number { head < 2 ^ 63 }
+    ensures { OnOk result (Tells (by (λ r. each (acknowledge_stored name_of) (ops r.commit head))) replica.now out.old out.new) }
+{
+    let commit = replica.commit();
+    for i in 0..head.saturating_sub(commit) {
+        acknowledge_stored(replica, commit + 1 + i, out)?;
+    }
+    Ok(())
+}
+
+/// Takes over a log that may be taken, acknowledges what is stored of it, and applies.
+#[tactic(auto, using(vr_step::proofs::Stepping::steps, crate::proofs::Takes::taken_low, crate::proofs::Choices::head_small, crate::proofs::Starts::told))]
+fn follow<D: SectorDisk>(
+    replica: &mut Replica,
+    alloc: Global,
+    disk: &mut D,
+    log: &Log,
+    out: &mut Outbox,
+) -> Result<(), Halt>
+    requires ready { IsReady replica.old }
+    requires may { MayTake log.now replica.old }
+    requires room { replica.old.saved.fields.sequence + 65 < 2 ^ 64 }
+    ensures ready { OnOk result (IsReady replica.new) }
+    ensures cause { Caused (D.faults disk.old) (D.faults disk.new) result }
+    ensures step { Does (take log.now ⨾ by (λ r. each (acknowledge_stored name_of) (ops r.commit log.now.head)) ⨾ apply) replica.old replica.new (D.told disk.old) (D.told disk.new) out.old out.new result }
+{
+    take(replica, alloc, disk, log, out)?;
+    acknowledge_all(replica, log.head, out)?;
+    replica.apply(alloc, disk, out)
+}
+
+/// The primary of a view tells of its log. Where it is newer than the replica's, fits and is a chain, it
+/// is taken over, the entries of it that are stored are acknowledged, and what is committed is applied.
+#[tactic(auto, using(crate::proofs::Starts::starts, crate::proofs::Starts::may_follow))]
+pub fn handle_start_view<D: SectorDisk>(
+    replica: &mut Replica,
+    alloc: Global,
+    disk: &mut D,
+    start: &StartView,
+    out: &mut Outbox,
+) -> Result<(), Halt>
+    requires ready { IsReady replica.old }
+    requires message { IsStarting start.now }
+    requires room { replica.old.saved.fields.sequence + 65 < 2 ^ 64 }
+    ensures ready { OnOk result (IsReady replica.new) }
+    ensures cause { Caused (D.faults disk.old) (D.faults disk.new) result }
+    ensures step { Does (on_start_view start.now) replica.old replica.new (D.told disk.old) (D.told disk.new) out.old out.new result }
+{
+    match decide_start_view(replica, start) {
+        StartRule::Ignored => Ok(()),
+        StartRule::Taken => follow(replica, alloc, disk, &log_of(start), out),
+    }
+}
+
+/// A replica asks for the log of a view: where this one leads that view or a later one, it is told.
+#[tactic(auto, using(crate::proofs::Starts::gives, vr_journal::proofs::Memory::some_member, vr_step::proofs::Stepping::wants))]
+pub fn handle_get_view<D: SectorDisk>(
+    replica: &Replica,
+    alloc: Global,
+    _disk: &mut D,
+    get: &GetView,
+    out: &mut Outbox,
+) -> Result<(), Halt>
+    requires ready { IsReady replica.now }
+    requires view { replica.now.view ≤ last_view }
+    ensures cause { Caused (D.faults _disk.old) (D.faults _disk.new) result }
+    ensures step { Does (on_get_view get.now) replica.now replica.now (D.told _disk.old) (D.told _disk.new) out.old out.new result }
+{
+    match decide_get_view(replica, get) {
+        ViewRule::Ignored => {}
+        ViewRule::Given => replica.tell_view(alloc, get.replica, out)?,
+    }
+    Ok(())
+}

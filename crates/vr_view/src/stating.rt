@@ -1,0 +1,175 @@
+//! A replica states its log for a view: do_view_changes.
+ghost use Rattle.std.specs.Prelude.{◌≡◌, ◌<◌, ◌≤◌, ◌+◌, ◌^◌, ◌∷◌, [], IfOk, OnOk, nat_lt};
+ghost use Rattle.vr_journal.specs.Ready.{IsReady};
+ghost use Rattle.vr_msg.specs.Spelling.{AreHeaders, known};
+ghost use Rattle.vr_rules.specs.Deciding.{Stated, do_view_change_table, first_of};
+ghost use Rattle.vr_rules.specs.Replica.{last_view};
+ghost use Rattle.vr_rules.specs.Rules.{on_do_view_change, with_statement};
+ghost use Rattle.vr_rules.specs.Steps.{◌⨾◌, by, change, when};
+ghost use Rattle.vr_rules.specs.Words.{enter, try};
+ghost use Rattle.vr_step.specs.Does.{Caused, Does};
+ghost use Rattle.vr_view.specs.Messages.{IsStating};
+ghost use Rattle.vr_view.specs.Named.{state_rule};
+
+use crate::trying::try_view;
+use std::alloc::{AllocError, Global};
+use vr_base::Seq;
+use vr_disk::SectorDisk;
+use vr_header::Part;
+use vr_journal::{Replica, primary};
+use vr_msg::{DoViewChange, DvcBody, Outbox, Statement};
+use vr_step::Halt;
+
+/// What a do_view_change leads to.
+#[derive(Clone, Copy, Debug, PartialEq, Eq)]
+pub enum StateRule {
+    /// It isn't from another replica of the group.
+    Ignored,
+    /// It is of a view before the replica's, or of one whose primary the replica isn't.
+    Before,
+    /// The view is started already: the sender is told of the log.
+    Late,
+    /// The statement is kept.
+    Stated,
+}
+
+/// Which rule applies to a do_view_change.
+#[tactic(auto, unfolding(vr_rules::specs::Deciding::first_of))]
+pub fn decide_do_view_change(replica: &Replica, change: &DoViewChange) -> StateRule
+    requires { 0 < replica.now.n }
+    ensures { first_of (do_view_change_table change.now replica.now) ≡ state_rule result }
+{
+    if !replica.is_from(change.cluster, change.replica) {
+        StateRule::Ignored
+    } else if change.view < replica.view() || replica.index() != primary(replica.n(), change.view) {
+        StateRule::Before
+    } else if change.view == replica.view() && replica.is_started() {
+        StateRule::Late
+    } else {
+        StateRule::Stated
+    }
+}
+
+/// The same Part; its header has the values of the program.
+fn copy_part(part: &Part) -> Part
+    ensures same { result ≡ part.now }
+    ensures values { AreHeaders (known (part.now ∷ [])) }
+{
+    match *part {
+        Part::Here(header) => Part::Here(header),
+        Part::Lost(header) => Part::Lost(header),
+        Part::Wanted(header) => Part::Wanted(header),
+        Part::Unknown => Part::Unknown,
+        Part::Nothing => Part::Nothing,
+    }
+}
+
+/// The same Parts; their headers have the values of the program.
+#[tactic(auto, using(crate::proofs::Copies::copies))]
+fn copy_parts(alloc: Global, parts: &[Part]) -> Result<Seq<Part>, AllocError>
+    ensures same { IfOk result (λ copy. copy ≡ parts.now) }
+    ensures values { OnOk result (AreHeaders (known parts.now)) }
+{
+    let mut copy = Seq::from_vec(Vec::with_capacity(alloc, parts.len())?);
+    for part in parts {
+        copy.push(copy_part(part))?;
+    }
+    Ok(copy)
+}
+
+/// The same statement; its headers have the values of the program.
+fn copy_statement(alloc: Global, statement: &Statement) -> Result<Statement, AllocError>
+    ensures same { IfOk result (λ copy. copy ≡ statement.now) }
+    ensures values { OnOk result (AreHeaders (known statement.now.body.parts)) }
+{
+    Ok(Statement {
+        log_view: statement.log_view,
+        commit: statement.commit,
+        head: statement.head,
+        body: DvcBody {
+            first: statement.body.first,
+            parts: copy_parts(alloc, statement.body.parts.as_slice())?,
+        },
+    })
+}
+
+/// Enters a view that is later than its own.
+#[tactic(auto, using(crate::proofs::States::enters))]
+fn enter_up_to<D: SectorDisk>(
+    replica: &mut Replica,
+    alloc: Global,
+    disk: &mut D,
+    view: u32,
+    out: &mut Outbox,
+) -> Result<(), Halt>
+    requires ready { IsReady replica.old }
+    requires later { replica.old.view ≤ view }
+    requires last { view ≤ last_view }
+    requires room { replica.old.saved.fields.sequence + 1 < 2 ^ 64 }
+    ensures ready { OnOk result (IsReady replica.new) }
+    ensures view { OnOk result (replica.new.view ≡ view) }
+    ensures group { OnOk result (replica.new.cluster ≡ replica.old.cluster) }
+    ensures size { OnOk result (replica.new.n ≡ replica.old.n) }
+    ensures spent { OnOk result (replica.new.saved.fields.sequence ≤ replica.old.saved.fields.sequence + 1) }
+    ensures cause { Caused (D.faults disk.old) (D.faults disk.new) result }
+    ensures step { Does (by (λ r. when (nat_lt r.view view) (enter view))) replica.old replica.new (D.told disk.old) (D.told disk.new) out.old out.new result }
+{
+    if replica.view() < view {
+        replica.enter(alloc, disk, view, out)
+    } else {
+        Ok(())
+    }
+}
+
+/// Keeps what a replica states of its log, in the view for which it does, and tries to begin that.
+#[tactic(auto, using(vr_step::proofs::Stepping::steps, crate::proofs::States::states))]
+fn keep<D: SectorDisk>(
+    replica: &mut Replica,
+    alloc: Global,
+    disk: &mut D,
+    change: &DoViewChange,
+    out: &mut Outbox,
+) -> Result<(), Halt>
+    requires ready { IsReady replica.old }
+    requires message { IsStating change.now }
+    requires rule { first_of (do_view_change_table change.now replica.old) ≡ Stated }
+    requires room { replica.old.saved.fields.sequence + 66 < 2 ^ 64 }
+    ensures ready { OnOk result (IsReady replica.new) }
+    ensures cause { Caused (D.faults disk.old) (D.faults disk.new) result }
+    ensures step { Does (by (λ r. when (nat_lt r.view change.now.view) (enter change.now.view)) ⨾ change (with_statement change.now.replica change.now.statement) ⨾ try) replica.old replica.new (D.told disk.old) (D.told disk.new) out.old out.new result }
+{
+    enter_up_to(replica, alloc, disk, change.view, out)?;
+    let statement = copy_statement(alloc, &change.statement)?;
+    replica.keep_statement(change.replica, statement);
+    try_view(replica, alloc, disk, out)
+}
+
+/// A replica states its log for a view whose primary this one is. Where the view is started already, the
+/// sender is told of its log; else the view is entered if it is a later one, the statement is kept, and
+/// the replica tries to begin it.
+#[tactic(auto, using(crate::proofs::States::rules, vr_journal::proofs::Memory::some_member, vr_step::proofs::Stepping::wants))]
+pub fn handle_do_view_change<D: SectorDisk>(
+    replica: &mut Replica,
+    alloc: Global,
+    disk: &mut D,
+    change: &DoViewChange,
+    out: &mut Outbox,
+) -> Result<(), Halt>
+    requires ready { IsReady replica.old }
+    requires view { replica.old.view ≤ last_view }
+    requires message { IsStating change.now }
+    requires room { replica.old.saved.fields.sequence + 66 < 2 ^ 64 }
+    ensures ready { OnOk result (IsReady replica.new) }
+    ensures cause { Caused (D.faults disk.old) (D.faults disk.new) result }
+    ensures step { Does (on_do_view_change change.now) replica.old replica.new (D.told disk.old) (D.told disk.new) out.old out.new result }
+{
+    match decide_do_view_change(replica, change) {
+        StateRule::Ignored => Ok(()),
+        StateRule::Before => Ok(()),
+        StateRule::Late => {
+            replica.tell_view(alloc, change.replica, out)?;
+            Ok(())
+        }
+        StateRule::Stated => keep(replica, alloc, disk, change, out),
+    }
+}

@@ -1,0 +1,34 @@
+//! Take: the log of a view is taken over.
+ghost use Rattle.std.specs.Prelude.{◌≡◌, ◌<◌, ◌≤◌, ◌+◌, ◌^◌, OnOk};
+ghost use Rattle.vr_rules.specs.Words.{take};
+ghost use Rattle.vr_step.specs.Does.{Does, Caused};
+ghost use Rattle.vr_journal.specs.Ready.{IsReady};
+ghost use Rattle.vr_view.specs.Logs.{MayTake};
+
+use std::alloc::Global;
+use vr_disk::SectorDisk;
+use vr_journal::{Log, Replica};
+use vr_msg::Outbox;
+use vr_step::Halt;
+
+/// Takes over the log of a view, and saves that it has it.
+#[tactic(auto, using(vr_step::proofs::Stepping::steps, crate::proofs::Takes::takes, vr_journal::proofs::Memory::window_of), unfolding(vr_rules::specs::Words::take))]
+pub fn take<D: SectorDisk>(
+    replica: &mut Replica,
+    alloc: Global,
+    disk: &mut D,
+    log: &Log,
+    out: &mut Outbox,
+) -> Result<(), Halt>
+    requires ready { IsReady replica.old }
+    requires may { MayTake log.now replica.old }
+    requires room { replica.old.saved.fields.sequence + 1 < 2 ^ 64 }
+    ensures ready { OnOk result (IsReady replica.new) }
+    ensures view { OnOk result (replica.new.view ≡ log.now.view) }
+    ensures spent { OnOk result (replica.new.saved.fields.sequence ≤ replica.old.saved.fields.sequence + 1) }
+    ensures cause { Caused (D.faults disk.old) (D.faults disk.new) result }
+    ensures step { Does (take log.now) replica.old replica.new (D.told disk.old) (D.told disk.new) out.old out.new result }
+{
+    replica.take_over(log);
+    replica.save(alloc, disk, out)
+}

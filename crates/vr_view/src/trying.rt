@@ -1,0 +1,232 @@
+//! Try: the primary of a view that isn't started chooses the log with which it begins.
+ghost use Rattle.std.specs.Prelude.{◌≡◌, ◌<◌, ◌≤◌, ◌+◌, ◌^◌, IfOk, OnOk, nat_le};
+ghost use Rattle.vr_base.specs.Replicas.{size};
+ghost use Rattle.vr_journal.specs.Ready.{IsReady};
+ghost use Rattle.vr_msg.specs.Choice.{ops};
+ghost use Rattle.vr_rules.specs.Replica.{last_view, view_change};
+ghost use Rattle.vr_rules.specs.Steps.{by, each};
+ghost use Rattle.vr_rules.specs.Words.{begin_view, chosen_log, decided, log_end, obey_choice, prepare_again, speak, stated, try, try_log};
+ghost use Rattle.vr_step.specs.Does.{Caused, Does};
+ghost use Rattle.vr_view.specs.Logs.{IsTaught, MayTake};
+
+use crate::taking::take;
+use std::alloc::{AllocError, Global};
+use vr_base::{Seq, quorums};
+use vr_choose::{choose, top_commit, top_view};
+use vr_disk::SectorDisk;
+use vr_header::HeaderList;
+use vr_journal::{Log, Replica};
+use vr_msg::{Choice, Outbox, Statement};
+use vr_repair::prepare_again;
+use vr_step::Halt;
+
+/// The op of the last header, or the commit number where there is none.
+fn log_end(commit: u64, headers: &HeaderList) -> u64
+    ensures { result ≡ log_end commit headers.now }
+{
+    match headers.get(headers.len().saturating_sub(1)) {
+        Some(header) => header.op,
+        None => commit,
+    }
+}
+
+/// The log of the replica's view with these headers, and the greatest commit number that was stated.
+fn chosen_log<'a>(
+    replica: &Replica,
+    statements: &Seq<Statement>,
+    headers: &'a HeaderList,
+) -> Log<'a>
+    ensures { result ≡ chosen_log replica.now statements.now headers.now }
+{
+    let commit = top_commit(statements.as_slice());
+    let head = log_end(commit, headers);
+    Log {
+        view: replica.view(),
+        lo: head.saturating_sub(headers.len() as u64),
+        headers,
+        head,
+        commit,
+    }
+}
+
+/// What the statements of the group decide of the log of its view.
+#[tactic(auto, using(crate::proofs::Choices::some_stated))]
+fn decide(
+    replica: &Replica,
+    alloc: Global,
+    statements: &Seq<Statement>,
+) -> Result<Choice, AllocError>
+    requires ready { IsReady replica.now }
+    requires stated { statements.now ≡ stated replica.now }
+    ensures { IfOk result (λ c. c ≡ decided replica.now) }
+{
+    match quorums(replica.n()) {
+        Some(quorums) => choose(alloc, statements.as_slice(), &quorums),
+        None => Ok(Choice::TooFew),
+    }
+}
+
+/// Prepares again each entry that it can read, from the one above its commit number on to the head.
+#[tactic(auto, using(crate::proofs::Goes::goes))]
+fn prepare_all<D: SectorDisk>(
+    replica: &mut Replica,
+    alloc: Global,
+    disk: &mut D,
+    head: u64,
+    out: &mut Outbox,
+) -> Result<(), Halt>
+    requires ready { IsReady replica.old }
+    requires view { replica.old.view ≤ last_view }
+    requires number { head < 2 ^ 63 }
+    ensures ready { OnOk result (IsReady replica.new) }
+    ensures saved { OnOk result (replica.new.saved ≡ replica.old.saved) }
+    ensures cause { Caused (D.faults disk.old) (D.faults disk.new) result }
+    ensures step { Does (by (λ r. each prepare_again (ops r.commit head))) replica.old replica.new (D.told disk.old) (D.told disk.new) out.old out.new result }
+{
+    let commit = replica.commit();
+    for i in 0..head.saturating_sub(commit) {
+        prepare_again(replica, alloc, disk, commit + 1 + i, out)?;
+    }
+    Ok(())
+}
+
+/// Begins its view with this log: it takes it over, the others hear of it, and what can be read above
+/// the commit number is prepared again and then applied.
+#[tactic(auto, using(vr_step::proofs::Stepping::steps, crate::proofs::Takes::taken_low, crate::proofs::Choices::commit_small, crate::proofs::Choices::head_small), unfolding(vr_rules::specs::Words::begin_view))]
+fn begin_view<D: SectorDisk>(
+    replica: &mut Replica,
+    alloc: Global,
+    disk: &mut D,
+    statements: &Seq<Statement>,
+    log: &Log,
+    out: &mut Outbox,
+) -> Result<(), Halt>
+    requires ready { IsReady replica.old }
+    requires may { MayTake log.now replica.old }
+    requires room { replica.old.saved.fields.sequence + 65 < 2 ^ 64 }
+    ensures ready { OnOk result (IsReady replica.new) }
+    ensures cause { Caused (D.faults disk.old) (D.faults disk.new) result }
+    ensures step { Does (begin_view statements.now log.now) replica.old replica.new (D.told disk.old) (D.told disk.new) out.old out.new result }
+{
+    let log_view = top_view(statements.as_slice());
+    replica.tell_choice(alloc, log_view, log.commit, log.head, out)?;
+    take(replica, alloc, disk, log, out)?;
+    replica.tell_views(alloc, out)?;
+    prepare_all(replica, alloc, disk, log.head, out)?;
+    replica.apply(alloc, disk, out)
+}
+
+/// Begins its view with this log if it may take it, and waits otherwise.
+#[tactic(auto, using(vr_step::proofs::Stepping::steps, crate::proofs::Takes::may_take_now, vr_journal::proofs::Memory::window_of), unfolding(vr_rules::specs::Words::try_log))]
+fn try_log<D: SectorDisk>(
+    replica: &mut Replica,
+    alloc: Global,
+    disk: &mut D,
+    statements: &Seq<Statement>,
+    log: &Log,
+    out: &mut Outbox,
+) -> Result<(), Halt>
+    requires ready { IsReady replica.old }
+    requires taught { IsTaught log.now replica.old }
+    requires room { replica.old.saved.fields.sequence + 65 < 2 ^ 64 }
+    ensures ready { OnOk result (IsReady replica.new) }
+    ensures cause { Caused (D.faults disk.old) (D.faults disk.new) result }
+    ensures step { Does (try_log statements.now log.now) replica.old replica.new (D.told disk.old) (D.told disk.new) out.old out.new result }
+{
+    if replica.may_take(log) {
+        begin_view(replica, alloc, disk, statements, log, out)
+    } else {
+        replica.tell_wait(log.head, out)?;
+        Ok(())
+    }
+}
+
+/// Obeys what the statements of the group decide.
+#[tactic(auto, using(crate::proofs::Choices::choices, crate::proofs::Choices::chosen_taught, vr_journal::proofs::Memory::window_of, vr_step::proofs::Stepping::wants))]
+fn choose_log<D: SectorDisk>(
+    replica: &mut Replica,
+    alloc: Global,
+    disk: &mut D,
+    out: &mut Outbox,
+) -> Result<(), Halt>
+    requires ready { IsReady replica.old }
+    requires view { replica.old.view ≤ last_view }
+    requires room { replica.old.saved.fields.sequence + 65 < 2 ^ 64 }
+    ensures ready { OnOk result (IsReady replica.new) }
+    ensures cause { Caused (D.faults disk.old) (D.faults disk.new) result }
+    ensures step { Does (obey_choice (stated replica.old) (decided replica.old)) replica.old replica.new (D.told disk.old) (D.told disk.new) out.old out.new result }
+{
+    let statements = replica.stated(alloc)?;
+    match decide(replica, alloc, &statements)? {
+        Choice::TooFew => Ok(()),
+        Choice::WaitsAt(op) => {
+            replica.tell_wait(op, out)?;
+            Ok(())
+        }
+        Choice::Ends(headers) => {
+            let log = chosen_log(replica, &statements, &headers);
+            try_log(replica, alloc, disk, &statements, &log, out)
+        }
+    }
+}
+
+/// Tries to begin its view: the primary of a view that isn't started chooses its log from what the
+/// replicas have stated, and begins the view if they leave no doubt.
+#[tactic(auto, using(vr_step::proofs::Stepping::steps, vr_journal::proofs::Memory::some_member), unfolding(vr_rules::specs::Words::try))]
+pub fn try_view<D: SectorDisk>(
+    replica: &mut Replica,
+    alloc: Global,
+    disk: &mut D,
+    out: &mut Outbox,
+) -> Result<(), Halt>
+    requires ready { IsReady replica.old }
+    requires view { replica.old.view ≤ last_view }
+    requires room { replica.old.saved.fields.sequence + 65 < 2 ^ 64 }
+    ensures ready { OnOk result (IsReady replica.new) }
+    ensures cause { Caused (D.faults disk.old) (D.faults disk.new) result }
+    ensures step { Does try replica.old replica.new (D.told disk.old) (D.told disk.new) out.old out.new result }
+{
+    if replica.is_primary() && !replica.is_started() {
+        choose_log(replica, alloc, disk, out)
+    } else {
+        Ok(())
+    }
+}
+
+/// Whether a view-change quorum is known to have entered its view.
+fn is_heard(replica: &Replica) -> bool
+    ensures { result ≡ nat_le (view_change replica.now.n) (size replica.now.heard) }
+{
+    match quorums(replica.n()) {
+        Some(quorums) => quorums.view_change as usize <= replica.heard().size(),
+        None => true,
+    }
+}
+
+/// Speaks, in a view that isn't started: where enough replicas have entered it, its primary tries to
+/// begin it, and another one states its log to the primary.
+#[tactic(auto, using(vr_step::proofs::Stepping::steps, vr_journal::proofs::Memory::some_member), unfolding(vr_rules::specs::Words::speak))]
+pub fn speak<D: SectorDisk>(
+    replica: &mut Replica,
+    alloc: Global,
+    disk: &mut D,
+    out: &mut Outbox,
+) -> Result<(), Halt>
+    requires ready { IsReady replica.old }
+    requires view { replica.old.view ≤ last_view }
+    requires changing { replica.old.log_view < replica.old.view }
+    requires room { replica.old.saved.fields.sequence + 65 < 2 ^ 64 }
+    ensures ready { OnOk result (IsReady replica.new) }
+    ensures cause { Caused (D.faults disk.old) (D.faults disk.new) result }
+    ensures step { Does speak replica.old replica.new (D.told disk.old) (D.told disk.new) out.old out.new result }
+{
+    if !is_heard(replica) {
+        return Ok(());
+    }
+    if replica.is_primary() {
+        try_view(replica, alloc, disk, out)
+    } else {
+        replica.tell_statement(alloc, out)?;
+        Ok(())
+    }
+}
