@@ -4,6 +4,8 @@
 mod answer;
 mod asking;
 mod client;
+mod laws;
 
 pub use answer::{Answer, AskFault};
 pub use client::ClientCore;
+pub use laws::ask_laws;

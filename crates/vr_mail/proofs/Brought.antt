@@ -11,7 +11,7 @@ brought_more cluster [] (m ∷ ls) a l b new = absurd b
 brought_more cluster (x ∷ xs) [] a l b new = absurd b
 brought_more cluster (x ∷ xs) (m ∷ ls) a l b new = (b.0, brought_more cluster xs ls a l b.1 new)
 
-stilled_one : (cluster : ℕ) (a s : Arrival) (l : Option Letter) → Brings cluster a l → Stills cluster a s → Brings cluster s l
+pub stilled_one : (cluster : ℕ) (a s : Arrival) (l : Option Letter) → Brings cluster a l → Stills cluster a s → Brings cluster s l
 stilled_one cluster Failed s l b still = absurd b
 stilled_one cluster Nothing s l b still = rw still b
 stilled_one cluster (Came d) Failed l b still = absurd still

@@ -2,4 +2,5 @@ pub mod Cutting
 pub mod Ending
 pub mod Outputs
 pub mod Running
+pub mod Stilling
 pub mod Turning

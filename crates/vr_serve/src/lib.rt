@@ -3,12 +3,14 @@
 
 mod clients;
 mod handling;
+mod laws;
 mod member;
 mod output;
 mod post;
 mod serving;
 mod stop;
 
+pub use laws::serve_laws;
 pub use member::{Halt, Member};
 pub use serving::serve;
 pub use stop::Stop;
