@@ -88,7 +88,12 @@ fn registered() -> Result<Answer, AskFault> {
 #[test]
 fn a_quiet_link_gives_no_answer(rt: HostRuntime) -> Result<(), Fail> {
     let alloc = rt.alloc();
-    for (turns, asked) in [(3, [0].as_slice()), (50, &[0]), (51, &[0, 1]), (120, &[0, 1, 0])] {
+    for (turns, asked) in [
+        (3, [0].as_slice()),
+        (50, &[0]),
+        (51, &[0, 1]),
+        (120, &[0, 1, 0]),
+    ] {
         let (answer, ports) = ask(alloc, Vec::new(alloc), Vec::new(alloc), turns)?;
         assert!(rt; answer == Err(AskFault::NoAnswer));
         assert_eq!(rt; ports.as_slice(), asked);
@@ -110,9 +115,16 @@ fn an_answer_ends_it(rt: HostRuntime) -> Result<(), Fail> {
 }
 
 #[test]
-fn busy_and_anothers_reply_are_ignored_and_a_redirect_goes_at_once(rt: HostRuntime) -> Result<(), Fail> {
+fn busy_and_anothers_reply_are_ignored_and_a_redirect_goes_at_once(
+    rt: HostRuntime,
+) -> Result<(), Fail> {
     let alloc = rt.alloc();
-    let arrivals = vec![in alloc; reply(alloc, 7, 0, ReplyKind::Busy)?, session(alloc, 8)?, reply(alloc, 7, 3, ReplyKind::Redirect)?, session(alloc, 7)?]?;
+    let arrivals = vec![in alloc;
+        reply(alloc, 7, 0, ReplyKind::Busy)?,
+        session(alloc, 8)?,
+        reply(alloc, 7, 3, ReplyKind::Redirect)?,
+        session(alloc, 7)?,
+    ]?;
     let (answer, ports) = ask(alloc, arrivals, Vec::new(alloc), 4)?;
     assert!(rt; answer == registered());
     assert_eq!(rt; ports.as_slice(), [0, 1].as_slice());

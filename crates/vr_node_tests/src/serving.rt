@@ -82,7 +82,12 @@ fn arrivals(alloc: Global) -> Result<Vec<Option<Datagram>>, AllocError> {
     let mut cut = Vec::new(alloc);
     cut.extend_from_slice(&[0; 128])?;
     let bytes = ByteList::from_vec(cut);
-    let list = vec![in alloc; None, request(alloc, 6, 7)?, request(alloc, 5, 7)?, Some(Datagram { port: 9, bytes })]?;
+    let list = vec![in alloc;
+        None,
+        request(alloc, 6, 7)?,
+        request(alloc, 5, 7)?,
+        Some(Datagram { port: 9, bytes }),
+    ]?;
     Ok(list)
 }
 

@@ -54,7 +54,11 @@ fn peers_at<'m, 'a>(matches: &'m ArgMatches<'a>) -> Option<&'m [&'a str]>
     ensures few { IfSome result (λ peers. length peers.now ≤ 6) }
 {
     let peers = all_at(matches)?;
-    if is_size(peers.len()) { Some(peers) } else { None }
+    if is_size(peers.len()) {
+        Some(peers)
+    } else {
+        None
+    }
 }
 
 /// Whether the member is made anew.
@@ -109,10 +113,7 @@ struct ClientTexts<'m, 'a> {
 
 /// The values of `node` beside the addresses.
 #[tactic(auto, using(std::proofs::lemmas::Grind::common_steps, crate::proofs::Rows::texts_length), unfolding(crate::specs::Asked::member_at))]
-fn member_at<'m, 'a>(
-    matches: &ArgMatches<'a>,
-    peers: &'m [&'a str],
-) -> Option<NodeTexts<'m, 'a>>
+fn member_at<'m, 'a>(matches: &ArgMatches<'a>, peers: &'m [&'a str]) -> Option<NodeTexts<'m, 'a>>
     requires { length peers.now ≤ 6 }
     ensures { option_map node_texts_say result ≡ member_at (texts_now peers.now) (rows_of (found_of matches.now)) }
 {
@@ -132,10 +133,7 @@ fn member_at<'m, 'a>(
 
 /// The values of `client` beside the addresses.
 #[tactic(auto, unfolding(crate::specs::Asked::asker_at))]
-fn asker_at<'m, 'a>(
-    matches: &ArgMatches<'a>,
-    peers: &'m [&'a str],
-) -> Option<ClientTexts<'m, 'a>>
+fn asker_at<'m, 'a>(matches: &ArgMatches<'a>, peers: &'m [&'a str]) -> Option<ClientTexts<'m, 'a>>
     ensures { option_map client_texts_say result ≡ asker_at (texts_now peers.now) (rows_of (found_of matches.now)) }
 {
     let cluster = number_at(matches, "cluster")?;
@@ -180,10 +178,7 @@ fn client_texts<'m, 'a>(matches: &'m ArgMatches<'a>) -> Option<ClientTexts<'m, '
 }
 
 /// The same with texts of one's own.
-pub fn node_at(
-    alloc: Global,
-    matches: &ArgMatches<'_>,
-) -> Result<Option<NodeWords>, AllocError>
+pub fn node_at(alloc: Global, matches: &ArgMatches<'_>) -> Result<Option<NodeWords>, AllocError>
     ensures { IfOk result (λ words. option_map node_says words ≡ node_at (rows_of (found_of matches.now))) }
 {
     let Some(texts) = node_texts(matches) else {
@@ -200,10 +195,7 @@ pub fn node_at(
 }
 
 /// The same with texts of one's own.
-pub fn client_at(
-    alloc: Global,
-    matches: &ArgMatches<'_>,
-) -> Result<Option<ClientWords>, AllocError>
+pub fn client_at(alloc: Global, matches: &ArgMatches<'_>) -> Result<Option<ClientWords>, AllocError>
     ensures { IfOk result (λ words. option_map client_says words ≡ client_at (rows_of (found_of matches.now))) }
 {
     let Some(texts) = client_texts(matches) else {
