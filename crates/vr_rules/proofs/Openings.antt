@@ -269,7 +269,7 @@ partly_clouded v n r w h =
 
 -- ---- all Parts
 
-roomy_of : (v : Saved) (n : ℕ) (ps : List Part) → Value v → Partly v n (record (blank v) { parts = ps }) → v.fields.head ≤ n → Roomy (record (blank v) { parts = ps })
+pub roomy_of : (v : Saved) (n : ℕ) (ps : List Part) → Value v → Partly v n (record (blank v) { parts = ps }) → v.fields.head ≤ n → Roomy (record (blank v) { parts = ps })
 unfolding blank
 roomy_of v n ps w h l =
     let q : Replica = record (blank v) { parts = ps } in

@@ -72,7 +72,7 @@ module _ {F : Type 0} where
 -- ---- the rest
 
 -- views of an opening
-abbrev every : ℕ
+abbrev pub every : ℕ
 every = 2 ^ 32
 
 pub savable_next : (r : Replica) → r.view + 1 < 2 ^ 32 → IsSavable r → IsSavable (in_next_view r)
@@ -94,7 +94,7 @@ module _ {F : Type 0} (s : Setting F) (roots : SavesRoots s) where
       goods_by every s 0 _ (λ r. goods_when every s 0 _ _ (goods_then every s 0 0 _ _ (goods_change every s heard_itself keeps_itself (λ r. refl) (λ r. refl))
       (goods_by every s 0 _ (λ r. goods_when every s 0 (nat_le r.view last_view) (says (send_to_all start_view_change)) (goods_says every s _)))))
 
-  good_leave : (n : ℕ) (b : Bool) (r : Replica) (f : F) → Well every (n + 1) r → GoodBy {F = F} every n (when b leave_view) s r f
+  pub good_leave : (n : ℕ) (b : Bool) (r : Replica) (f : F) → Well every (n + 1) r → GoodBy {F = F} every n (when b leave_view) s r f
   good_leave n b r f h =
       let less = well_less every n (n + 1) r (omega arith) h in
       good_when every s n b leave_view r f less (λ t. good_by every s n _ r f (good_when every s n (leads r) _ r f less (λ e.

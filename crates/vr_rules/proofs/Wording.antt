@@ -126,7 +126,7 @@ kept_apply_entry : {F : Type 0} (e : Whole) (s : Setting F) (r : Replica) (f : F
 unfolding apply_entry says change by ◌⨾◌
 kept_apply_entry e s r f h a m = record { kept = kept_applied_then e s r _ (is_checkpoint (r.applied + 1)) refl h a m }
 
-keeps_apply_next : {F : Type 0} → Keeps {F = F} apply_next
+pub keeps_apply_next : {F : Type 0} → Keeps {F = F} apply_next
 unfolding apply_next
 keeps_apply_next = record {
   every = λ s r f h.
