@@ -4,7 +4,6 @@ ghost use Rattle.vr_base.specs.Causes.{Rose};
 ghost use Rattle.vr_base.specs.Groups.{quorums_of};
 ghost use Rattle.vr_opening.specs.Making.{Made};
 ghost use Rattle.vr_opening.specs.Recovering.{Recovered};
-ghost use Rattle.vr_journal.specs.Ready.{TextsHaveNumbers};
 ghost use Rattle.vr_rules.specs.Replica.{header_at, part_at};
 ghost use Rattle.vr_rules.specs.Rules.{react};
 ghost use Rattle.vr_step.specs.Does.{Caused, Does};
@@ -74,7 +73,6 @@ impl Replica {
         config: &Config,
         out: &mut Outbox,
     ) -> Result<Replica, Refusal>
-        requires numbers { TextsHaveNumbers }
         ensures running { IfOk result (λ r. r.running ≡ true) }
         ensures later { D.faults disk.old ≤ D.faults disk.new }
         ensures fault { IfErr result (λ e. e ≡ Refusal.Halted Halt.DiskFault → Rose (D.faults disk.old) (D.faults disk.new)) }
@@ -104,7 +102,6 @@ impl Replica {
         out: &mut Outbox,
     ) -> Result<(), Halt>
         requires running { self.old.running ≡ true }
-        requires numbers { TextsHaveNumbers }
         ensures running { self.new.running ≡ is_ok result }
         ensures halt { OnErr result (out.new ≡ []) }
         ensures cause { Caused (D.faults disk.old) (D.faults disk.new) result }

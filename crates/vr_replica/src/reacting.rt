@@ -1,6 +1,6 @@
 //! The step of a replica: the rule of each event.
 ghost use Rattle.std.specs.Prelude.{◌≡◌, ◌<◌, ◌≤◌, ◌+◌, ◌^◌, OnOk};
-ghost use Rattle.vr_journal.specs.Ready.{IsReady, TextsHaveNumbers};
+ghost use Rattle.vr_journal.specs.Ready.{IsReady};
 ghost use Rattle.vr_rules.specs.Replica.{is_frozen, last_view};
 ghost use Rattle.vr_rules.specs.Rules.{on_event, on_message, react};
 ghost use Rattle.vr_step.specs.Does.{Caused, Does};
@@ -26,7 +26,6 @@ fn handle_message<D: SectorDisk>(
     requires ready { IsReady replica.old }
     requires view { replica.old.view ≤ last_view }
     requires room { replica.old.saved.fields.sequence + 66 < 2 ^ 64 }
-    requires numbers { TextsHaveNumbers }
     ensures ready { OnOk result (IsReady replica.new) }
     ensures cause { Caused (D.faults disk.old) (D.faults disk.new) result }
     ensures step { Does (on_message message.now) replica.old replica.new (D.told disk.old) (D.told disk.new) out.old out.new result }
@@ -62,7 +61,6 @@ fn handle<D: SectorDisk>(
     requires ready { IsReady replica.old }
     requires view { replica.old.view ≤ last_view }
     requires room { replica.old.saved.fields.sequence + 66 < 2 ^ 64 }
-    requires numbers { TextsHaveNumbers }
     ensures ready { OnOk result (IsReady replica.new) }
     ensures cause { Caused (D.faults disk.old) (D.faults disk.new) result }
     ensures step { Does (on_event event.now) replica.old replica.new (D.told disk.old) (D.told disk.new) out.old out.new result }
@@ -91,7 +89,6 @@ pub fn react<D: SectorDisk>(
     out: &mut Outbox,
 ) -> Result<(), Halt>
     requires ready { IsReady replica.old }
-    requires numbers { TextsHaveNumbers }
     ensures ready { OnOk result (IsReady replica.new) }
     ensures cause { Caused (D.faults disk.old) (D.faults disk.new) result }
     ensures step { Does (react event.now) replica.old replica.new (D.told disk.old) (D.told disk.new) out.old out.new result }
