@@ -1,4 +1,0 @@
-pub mod Counts
-pub mod Commits
-pub mod Prepares
-pub mod Requests
