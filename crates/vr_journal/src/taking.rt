@@ -92,7 +92,7 @@ fn replaced_by(header: Header, part: Part) -> Part
     }
 }
 
-impl Log {
+impl Log<'_> {
     /// The header that it has at an op.
     fn header(&self, op: u64) -> Option<Header>
         ensures { result ≡ log_header self.now op }
