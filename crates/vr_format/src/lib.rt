@@ -1,8 +1,8 @@
 //! The disk of a new member: zeros where entries go, a header for each empty slot, and the first value of the superblock.
 #![tactic(auto)]
 
-mod first;
-mod format;
+mod value;
+mod writing;
 
-pub use first::first_value;
-pub use format::format;
+pub use value::first_value;
+pub use writing::format;

@@ -216,6 +216,14 @@ few_to_apply r h =
     let c = o.window in
     omega arith
 
+pub head_fits : (r : Replica) → IsReady r → head r ≤ 2 ^ 62
+unfolding IsReady
+head_fits r h = head_number r h.sound
+
+pub commit_fits : (r : Replica) → IsReady r → r.commit ≤ 2 ^ 62
+unfolding IsReady
+commit_fits r h = let a = h.sound.order.known in let b = head_number r h.sound in omega arith
+
 pub ready_learned : (c : ℕ) (r q : Replica) → q ≡ learned c r → IsReady r → IsReady q
 unfolding IsReady
 ready_learned c r q e h =

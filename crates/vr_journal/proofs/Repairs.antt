@@ -2,7 +2,9 @@
 use Rattle.std.proofs.Common.{arith, ℕ, zero, suc, ◌+◌, ◌-◌, ◌≤◌, ◌<◌, ◌≡◌, ◌≢◌, ◌^◌, refl, sym, ap, ◌∙◌, true, false, Bool, not, List, [], ◌∷◌, length, drop, get_or, filter, Option, Some, None, add-one}
 use Rattle.std.specs.Prelude.{find, is_some, ◌==◌}
 use Rattle.std.specs.List.{prefix_len, range_with_len}
-use Rattle.std.proofs.lemmas.List.{drop_all}
+use Rattle.std.specs.Option.{option_and_then}
+use Rattle.std.proofs.lemmas.Bool.{cond_both}
+use Rattle.std.proofs.lemmas.List.{drop_all, get_or-drop}
 use Rattle.std.proofs.lemmas.List.FromFn.{length-range_with_len}
 use Rattle.std.proofs.lemmas.List.Sums.{prefix_len-le-length}
 use Rattle.vr_base.specs.Groups.{quorums_of}
@@ -10,10 +12,13 @@ use Rattle.vr_grid.specs.declared.name.Name.{Name}
 use Rattle.vr_header.specs.declared.header.Header.{Header}
 use Rattle.vr_header.specs.declared.part.Part.{Part}
 use Rattle.vr_header.specs.declared.part.Part.TheVariants.{Here, Lost, Wanted, Unknown, Nothing}
+use Rattle.vr_header.specs.Made.{IsEntryHeader}
 use Rattle.vr_msg.specs.Choice.{ops}
-use Rattle.vr_rules.specs.Replica.{Replica, head}
+use Rattle.vr_msg.specs.Logs.{header_of}
+use Rattle.vr_rules.specs.Replica.{Replica, head, is_absent, part_at}
 use Rattle.vr_rules.specs.Rules.{without}
-use Rattle.vr_rules.specs.Words.{advanced, has_quorum, turned}
+use Rattle.vr_rules.specs.Words.{advanced, has_quorum, least_absent, turned}
+use Rattle.vr_rules.proofs.Heads.{part_within}
 use Rattle.vr_rules.proofs.Keeping.{sound_alike, sound_commit}
 use Rattle.vr_rules.proofs.Reacting.{kept_without}
 use Rattle.vr_rules.proofs.SavesWell.{savable_alike}
@@ -98,3 +103,25 @@ size_least (suc (suc n)) e = omega arith
 pub ready_size : (r : Replica) → IsReady r → 2 ≤ r.n
 unfolding IsReady
 ready_size r h = size_least r.n h.sound.size
+
+-- ---- what is asked for is an entry's header
+
+found_place : (p : Part → Bool) (xs : List Part) (x : Part) → find p xs ≡ Some x → (i : ℕ) × (get_or xs i Nothing ≡ x)
+found_place p [] x e = absurd cc
+found_place p (y ∷ xs) x e =
+    cond_both (p y) (Some y) (find p xs) (λ o. o ≡ Some x → (i : ℕ) × (get_or (y ∷ xs) i Nothing ≡ x)) (λ t k. (0, cc)) (λ f k. let there = found_place p xs x k in (suc there.0, there.1)) e
+
+absent_part : (o : Option Part) (h : Header) → option_and_then header_of o ≡ Some h → (p : Part) × (o ≡ Some p) × (header_of p ≡ Some h)
+absent_part None h e = absurd cc
+absent_part (Some p) h e = (p, refl, e)
+
+pub ready_absent : (r : Replica) (h : Header) → IsReady r → least_absent r ≡ Some h → IsEntryHeader h
+unfolding IsReady
+ready_absent r h ready e =
+    let n : ℕ = r.applied + 1 - r.first in
+    let p = absent_part (find is_absent (drop n r.parts)) h e in
+    let i = found_place is_absent (drop n r.parts) p.0 p.1.0 in
+    let k : ℕ = r.first + (n + i.0) in
+    let place : k - r.first ≡ n + i.0 = omega arith in
+    let there : part_at r k ≡ p.0 = part_within r k (omega arith) ∙ ap (λ j. get_or r.parts j Nothing) place ∙ sym (get_or-drop n r.parts i.0 Nothing) ∙ i.1 in
+    (ready.sound.entries.each k h (ap header_of there ∙ p.1.1)).1.entry

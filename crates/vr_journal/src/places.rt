@@ -61,7 +61,15 @@ impl<T: Drop> Places<T> {
         ensures { self.new ≡ replicate (length self.old) None }
     {
         for i in 0..self.len() {
-            self.items[i] = None;
+            self.empty(i);
         }
+    }
+
+    // Empties a place.
+    fn empty(&mut self, at: usize)
+        requires { at < length self.old }
+        ensures { self.new ≡ slice_set self.old at None }
+    {
+        self.items[at] = None;
     }
 }

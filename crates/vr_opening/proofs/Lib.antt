@@ -3,3 +3,4 @@ pub mod Olds
 pub mod Clouds
 pub mod Begins
 pub mod Recovers
+pub mod Makes

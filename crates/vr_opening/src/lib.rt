@@ -1,9 +1,11 @@
-//! How a replica opens: from the disk of its member, or from no other.
+//! How a replica begins: of a new member, whose disk is formatted, and recovered from the disk of its member.
 #![tactic(auto)]
 
 mod begin;
 mod finding;
+mod new_member;
 mod opening;
 mod reopen;
 
+pub use new_member::{FreshFault, fresh};
 pub use reopen::{Refusal, recover};

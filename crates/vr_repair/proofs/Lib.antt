@@ -1,3 +1,4 @@
 pub mod Reading
+pub mod Repaired
 pub mod Rules
 pub mod Words

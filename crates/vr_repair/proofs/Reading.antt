@@ -13,7 +13,7 @@ use Rattle.vr_journal.specs.Ready.{IsReady}
 use Rattle.vr_msg.specs.Logs.{header_of}
 use Rattle.vr_msg.specs.declared.output.Output.{Output}
 use Rattle.vr_repair.specs.Reads.{Reads}
-use Rattle.vr_rules.specs.Replica.{Replica, part_at}
+use Rattle.vr_rules.specs.Replica.{Replica, is_here, part_at}
 use Rattle.vr_rules.specs.Rules.{block_at}
 use Rattle.vr_rules.specs.Sectors.{block_in}
 use Rattle.vr_rules.specs.Steps.{Word}
@@ -29,40 +29,38 @@ at_part : (op : ℕ) (p : Part) (w : Whole → Word Face) (r r' : Replica) (d d'
 unfolding with_entry_at
 at_part op p w r r' d d' o o' result e h = does_by _ r r' d d' o o' result (rw e at h)
 
-module _ (h : Header) (r q : Replica) (d d' : Option Disk) (found : Option Whole) (here : part_at r h.op ≡ Here h) (read : Finds (entry_of h) d d' found) where
-  pub here_read : (e : Whole) → found ≡ Some e → q ≡ r → Reads h.op r q d d' found
-  here_read e is same =
-      let f : Finds (entry_of h) d d' (Some e) = rw is at read in
+module _ (h : Header) (r q : Replica) (d d' : Option Disk) (found shown : Option Whole) (here : part_at r h.op ≡ Here h) (read : Finds (entry_of h) d d' found) where
+  pub here_read : (e : Whole) → found ≡ Some e → shown ≡ Some e → q ≡ r → Reads h.op r q d d' shown
+  here_read e is say same =
       record {
         some = λ w x r' d'' o o' result i k.
-            let g : Finds (entry_of h) d d' (Some x) = rw i at read in
+            let one : e ≡ x = cc in
+            let g : Finds (entry_of h) d d' (Some x) = rw (is, one) at read in
             let j : Does (w x) r r' d' d'' o o' result = rw same at k in
             at_part h.op (Here h) w r r' d d'' o o' result (sym here) (found_then h w x r r' d d' d'' o o' result g j);
         none = λ w o i. absurd cc;
       }
 
-  pub here_lost : found ≡ None → q ≡ lost h r → Reads h.op r q d d' found
-  here_lost is e =
+  pub here_lost : found ≡ None → shown ≡ None → q ≡ lost h r → Reads h.op r q d d' shown
+  here_lost is say e =
       let f : Finds (entry_of h) d d' None = rw is at read in
       record {
         some = λ w x r' d'' o o' result i k. absurd cc;
         none = λ w o i. at_part h.op (Here h) w r q d d' o o (Ok tt) (sym here) (found_lost h w r q d d' o f e);
       }
 
+quiet_at : (p : Part) → is_here p ≡ false → (w : Whole → Word Face) (r : Replica) (d : Option Disk) (o : List Output) → Does (with_entry w p) r r d d o o (Ok tt)
+quiet_at (Here h) n w r d o = absurd cc
+quiet_at (Lost h) n w r d o = does_quiet r d o
+quiet_at (Wanted h) n w r d o = does_quiet r d o
+quiet_at Unknown n w r d o = does_quiet r d o
+quiet_at Nothing n w r d o = does_quiet r d o
 
-pub not_here : (op : ℕ) (p : Part) (r : Replica) (d d' : Option Disk) (found : Option Whole) → p ≡ part_at r op → ((h : Header) → p ≡ Here h → ⊥) → found ≡ None → d' ≡ d → Reads op r r d d' found
-not_here op p r d d' found e n is same =
-    let quiet_at : (x : Part) → ((h : Header) → x ≡ Here h → ⊥) → (w : Whole → Word Face) (o : List Output) → Does (with_entry w x) r r d d o o (Ok tt) =
-    elim [
-      | Here h ↦ λ k w o. absurd (k h refl)
-      | Lost h ↦ λ k w o. does_quiet r d o
-      | Wanted h ↦ λ k w o. does_quiet r d o
-      | Unknown ↦ λ k w o. does_quiet r d o
-      | Nothing ↦ λ k w o. does_quiet r d o
-    ] in
+pub not_here : (op : ℕ) (p : Part) (r : Replica) (d d' : Option Disk) (shown : Option Whole) → p ≡ part_at r op → is_here p ≡ false → shown ≡ None → d' ≡ d → Reads op r r d d' shown
+not_here op p r d d' shown e n say same =
     record {
       some = λ w x r' d'' o o' result i k. absurd cc;
-      none = λ w o i. rw same (at_part op p w r r d d o o (Ok tt) e (quiet_at p n w o));
+      none = λ w o i. rw same (at_part op p w r r d d o o (Ok tt) e (quiet_at p n w r d o));
     }
 
 -- an entry that is stored was made in no later view

@@ -38,8 +38,32 @@ fn read_stored<D: SectorDisk>(
     }
 }
 
-/// Reads the entry of an op where it is stored; one that can't be read is lost. `None`: there is none to be had. It changes nothing on the disk.
+// Reads the entry of an op of which this is known.
 #[tactic(auto, using(crate::proofs::Reading::not_here, vr_journal::proofs::Memory::here_op))]
+fn read_part<D: SectorDisk>(
+    replica: &mut Replica,
+    alloc: Global,
+    disk: &mut D,
+    op: u64,
+    part: Part,
+) -> Result<Option<Entry>, NoMemory>
+    requires ready { IsReady replica.old }
+    requires part { part ≡ part_at replica.old op }
+    ensures ready { OnOk result (IsReady replica.new) }
+    ensures view { OnOk result (replica.new.view ≡ replica.old.view) }
+    ensures saved { OnOk result (replica.new.saved ≡ replica.old.saved) }
+    ensures told { D.told disk.new ≡ D.told disk.old }
+    ensures faults { D.faults disk.new ≡ D.faults disk.old }
+    ensures made { IfOk result (λ found. IfSome found (λ e. e.header.view ≤ replica.new.view)) }
+    ensures reads { IfOk result (λ found. Reads op replica.old replica.new (D.told disk.old) (D.told disk.new) found) }
+{
+    match part {
+        Part::Here(header) => read_stored(replica, alloc, disk, &header),
+        _ => Ok(None),
+    }
+}
+
+/// Reads the entry of an op where it is stored; one that can't be read is lost. `None`: there is none to be had. It changes nothing on the disk.
 pub fn read_entry<D: SectorDisk>(
     replica: &mut Replica,
     alloc: Global,
@@ -55,8 +79,6 @@ pub fn read_entry<D: SectorDisk>(
     ensures made { IfOk result (λ found. IfSome found (λ e. e.header.view ≤ replica.new.view)) }
     ensures reads { IfOk result (λ found. Reads op replica.old replica.new (D.told disk.old) (D.told disk.new) found) }
 {
-    match replica.part_at(op) {
-        Part::Here(header) => read_stored(replica, alloc, disk, &header),
-        _ => Ok(None),
-    }
+    let part = replica.part_at(op);
+    read_part(replica, alloc, disk, op, part)
 }

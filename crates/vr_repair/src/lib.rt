@@ -7,6 +7,7 @@ mod commits;
 mod deciding;
 mod entries;
 mod finding;
+mod laws;
 mod missing;
 mod retelling;
 
@@ -14,5 +15,6 @@ pub use commits::advance;
 pub use deciding::{Repair, decide_get_block, decide_get_prepare, decide_give_prepare};
 pub use entries::{handle_get_prepare, handle_give_prepare};
 pub use finding::read_entry;
+pub use laws::repair_laws;
 pub use missing::{ask, put_block};
 pub use retelling::{prepare_again, resend};

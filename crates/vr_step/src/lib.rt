@@ -2,5 +2,7 @@
 #![tactic(auto)]
 
 mod halt;
+mod laws;
 
 pub use halt::Halt;
+pub use laws::stop_laws;

@@ -1,0 +1,90 @@
+//! The replica of a member of a new group.
+ghost use Rattle.std.specs.Prelude.{◌≡◌, ◌<◌, ◌≤◌, IfErr, IfOk, IfSome, is_ok, is_some, true};
+ghost use Rattle.vr_base.specs.Causes.{HasCause, Rose};
+ghost use Rattle.vr_base.specs.Groups.{quorums_of};
+ghost use Rattle.vr_disk.specs.DiskState.{Runs};
+ghost use Rattle.vr_journal.specs.Ready.{IsReady};
+ghost use Rattle.vr_rules.specs.Lying.{format_calls};
+ghost use Rattle.vr_rules.specs.Opening.{fresh};
+ghost use Rattle.vr_super.specs.Opens.{good_copies, opened};
+ghost use Rattle.vr_opening.specs.Making.{Made};
+ghost use Rattle.vr_opening.specs.declared.new_member.FreshFault.TheVariants as FreshFault;
+
+use std::alloc::Global;
+use vr_base::{Config, NoMemory};
+use vr_disk::{DiskFault, SectorDisk};
+use vr_format::{first_value, format};
+use vr_journal::Replica;
+use vr_super::opens;
+
+/// Why a disk gives no new member.
+#[derive(Clone, Copy, Debug, PartialEq, Eq)]
+pub enum FreshFault {
+    /// Two good copies of a superblock agree: the disk is a member's.
+    Occupied,
+    /// A write or a sync of the disk failed.
+    DiskFault,
+    /// There was no memory; nothing was written.
+    NoMemory,
+}
+
+// Whether two good copies of a superblock agree.
+#[tactic(auto, using(crate::proofs::Makes::found_opened))]
+fn is_occupied<D: SectorDisk>(disk: &mut D) -> bool
+    ensures told { D.told disk.new ≡ D.told disk.old }
+    ensures faults { D.faults disk.new ≡ D.faults disk.old }
+    ensures value { IfSome (D.told disk.old) (λ d. result ≡ is_some (opened (good_copies d.face))) }
+{
+    opens(disk).is_some()
+}
+
+// The replica, before its disk is formatted.
+fn make_member(alloc: Global, config: &Config) -> Result<Replica, NoMemory>
+    requires size { is_some (quorums_of config.now.n) ≡ true }
+    requires member { config.now.replica < config.now.n }
+    ensures { IfOk result (λ r. r ≡ fresh config.now.cluster config.now.n config.now.replica) }
+{
+    let value = first_value(alloc, config)?;
+    Replica::blank(alloc, value)
+}
+
+// Formats its disk.
+#[tactic(auto, using(crate::proofs::Makes::fresh_saved))]
+fn write_format<D: SectorDisk>(
+    disk: &mut D,
+    config: &Config,
+    replica: &Replica,
+) -> Result<(), DiskFault>
+    requires { replica.now ≡ fresh config.now.cluster config.now.n config.now.replica }
+    ensures runs { Runs (format_calls config.now.cluster config.now.n config.now.replica) (D.told disk.old) (D.told disk.new) (is_ok result) }
+    ensures cause { HasCause (D.faults disk.old) (D.faults disk.new) result }
+{
+    format(disk, config, replica.saved())
+}
+
+/// The replica of a member of a new group, whose disk is formatted: `Occupied` exactly where two good copies of a superblock
+/// agree, and then nothing is written.
+#[tactic(auto, using(crate::proofs::Makes::occupied, crate::proofs::Makes::wanted, crate::proofs::Makes::made, crate::proofs::Makes::stopped, crate::proofs::Makes::fresh_ready))]
+pub fn fresh<D: SectorDisk>(
+    alloc: Global,
+    disk: &mut D,
+    config: &Config,
+) -> Result<Replica, FreshFault>
+    requires size { is_some (quorums_of config.now.n) ≡ true }
+    requires member { config.now.replica < config.now.n }
+    ensures ready { IfOk result IsReady }
+    ensures later { D.faults disk.old ≤ D.faults disk.new }
+    ensures fault { IfErr result (λ e. e ≡ FreshFault.DiskFault → Rose (D.faults disk.old) (D.faults disk.new)) }
+    ensures made { Made config.now (D.told disk.old) (D.told disk.new) result }
+{
+    if is_occupied(disk) {
+        return Err(FreshFault::Occupied);
+    }
+    match make_member(alloc, config) {
+        Err(_) => Err(FreshFault::NoMemory),
+        Ok(replica) => match write_format(disk, config, &replica) {
+            Ok(()) => Ok(replica),
+            Err(_) => Err(FreshFault::DiskFault),
+        },
+    }
+}

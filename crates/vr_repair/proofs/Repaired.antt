@@ -1,0 +1,78 @@
+-- What a copy that comes makes good.
+use Rattle.std.proofs.Common.{arith, ◌≡◌, ◌≤◌, ◌<◌, ◌+◌, ◌-◌, ◌%◌, ◌∙◌, refl, sym, ap, ℕ, Bool, true, false, not, cond, filter, List, [], ◌∷◌, length, Option, Some, None, is_some}
+use Rattle.std.specs.Prelude.{IfSome, find, ◌==◌}
+use Rattle.std.proofs.lemmas.Bool.{lt-ltb}
+use Rattle.vr_disk.specs.DiskState as disk
+use Rattle.vr_disk.specs.DiskState.{Disk, Face, Fate, IsFace}
+use Rattle.vr_grid.specs.Blocks.{named}
+use Rattle.vr_grid.specs.Grid.{block_reading, named_at, put_calls}
+use Rattle.vr_grid.specs.declared.name.Name.{Name}
+use Rattle.vr_grid.proofs.Puts.{name_fits, put_law}
+use Rattle.vr_header.specs.declared.part.Part.{Part}
+use Rattle.vr_header.specs.declared.part.Part.TheVariants.{Here}
+use Rattle.vr_header.specs.Made.{Whole}
+use Rattle.vr_journal.specs.Ready.{IsReady, MayStore}
+use Rattle.vr_rings.specs.Calls.{again_calls, new_calls}
+use Rattle.vr_rings.specs.Slots.{IsWhole, slot_of, whole_in}
+use Rattle.vr_rings.proofs.Leaving.{again_leaves, new_leaves}
+use Rattle.vr_rules.specs.Replica.{Replica, forgetting, head, part_at, with_part}
+use Rattle.vr_rules.specs.Rules.{without}
+use Rattle.vr_rules.specs.Sectors.{block_in, calls_of, sectors}
+use Rattle.vr_rules.specs.Steps.{◌⨾◌, PutBlock, after_all, change, does}
+use Rattle.vr_rules.specs.Words.{may_be_stored, stored, write}
+use Rattle.vr_rules.proofs.Heads.{Spans, forgetting_at, gone, head_within, with_part_at, with_part_spans}
+use Rattle.vr_rules.proofs.Keeping.{spans_of}
+use Rattle.vr_repair.specs.Laws.{BlockRepaired, BlocksAreRepaired, EntriesAreRepaired, EntryRepaired}
+
+-- ---- entries
+
+-- an op above the checkpoint isn't forgotten when its entry is stored
+stored_here : (e : Whole) (r : Replica) → IsReady r → MayStore e r → part_at (stored e r) e.header.op ≡ Here e.header
+unfolding IsReady MayStore
+stored_here e r h m =
+    let k : ℕ = e.header.op in
+    let s = spans_of r h.sound in
+    let q : Replica = with_part k (Here e.header) r in
+    let t : Spans q = with_part_spans k (Here e.header) r s in
+    let top = head_within q t in
+    let above = m.above in
+    let window = m.window in
+    let reach = s.reach in
+    let parts = s.parts in
+    forgetting_at q k (stays k (Here e.header) r h.sound m.above top) ∙ with_part_at k (Here e.header) r (omega arith) (omega arith)
+
+calm : Fate
+calm = record { fuse = None; made = 0; failing = []; dead = false }
+
+entry_reads : (again : Bool) (e : Whole) (f : Face) → IsWhole e → IsFace f → f.waiting ≡ [] → whole_in (disk.after_all f (cond again (again_calls e) (new_calls e))) (slot_of e.header) ≡ Some e
+entry_reads true e f w h rest = (again_leaves e (Some (record { face = f; fate = calm })) h w rest).done.whole
+entry_reads false e f w h rest = (new_leaves e (Some (record { face = f; fate = calm })) h w rest).done.whole
+
+pub entries_repaired : EntriesAreRepaired
+unfolding write ◌⨾◌ does change after_all slot_of
+entries_repaired e r f h m w face rest = record {
+  here = stored_here e r h m;
+  reads = entry_reads (may_be_stored (part_at r e.header.op)) e f w face rest;
+}
+
+-- ---- blocks
+
+none_left : (name : Name) (names : List Name) → find (λ (m : Name). m.address == name.address) (filter (λ (m : Name). not (m.address == name.address)) names) ≡ None
+none_left name [] = refl
+none_left name (m ∷ names) =
+    elim (m.address == name.address) as (λ b. (m.address == name.address) ≡ b → find (λ (x : Name). x.address == name.address) (cond (not b) (m ∷ filter (λ (x : Name). not (x.address == name.address)) names) (filter (λ (x : Name). not (x.address == name.address)) names)) ≡ None) [
+      | true ↦ λ e. none_left name names
+      | false ↦ λ e. rw e (none_left name names)
+    ] refl
+
+-- a whole block that its sectors read as is read under its name
+pub block_there : (f : Face) (name : Name) (block : List ℕ) → is_some (named name block) ≡ true → name.address < 128 → block_reading f name.address ≡ Some block → block_in f name ≡ Some block
+unfolding named_at
+block_there f name block n low read = rw (lt-ltb name.address 128 low, read, n) refl
+
+pub blocks_repaired : BlocksAreRepaired
+unfolding after_all
+blocks_repaired name block r f n face rest =
+    let fits = name_fits name block n in
+    let read = (put_law name.address block f fits.0 fits.1 face rest).done in
+    record { gone = none_left name r.missing; reads = block_there (disk.after_all f (put_calls name.address block)) name block n fits.0 read }

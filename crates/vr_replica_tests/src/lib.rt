@@ -1,0 +1,5 @@
+//! Tests of a replica on its disk.
+#![tactic(auto)]
+
+#[cfg(test)]
+mod opening;
