@@ -30,7 +30,7 @@ use Rattle.vr_journal.specs.Ready.{IsReady}
 
 pub absent_more : (xs : List Part) (i : ℕ) → absent_header (get_or xs i Nothing) ≡ None → first_absent (drop i xs) ≡ first_absent (drop (i + 1) xs)
 absent_more [] zero e = refl
-absent_more [] (suc i) e = refl
+absent_more [] (suc i) e = rw add-one refl
 absent_more (Here h ∷ xs) zero e = refl
 absent_more (Lost h ∷ xs) zero e = absurd cc
 absent_more (Wanted h ∷ xs) zero e = absurd cc
@@ -120,8 +120,8 @@ unfolding IsReady
 ready_absent r h ready e =
     let n : ℕ = r.applied + 1 - r.first in
     let p = absent_part (find is_absent (drop n r.parts)) h e in
-    let i = found_place is_absent (drop n r.parts) p.0 p.1.0 in
+    let i = found_place is_absent (drop n r.parts) p.0 p.1 in
     let k : ℕ = r.first + (n + i.0) in
     let place : k - r.first ≡ n + i.0 = omega arith in
     let there : part_at r k ≡ p.0 = part_within r k (omega arith) ∙ ap (λ j. get_or r.parts j Nothing) place ∙ sym (get_or-drop n r.parts i.0 Nothing) ∙ i.1 in
-    (ready.sound.entries.each k h (ap header_of there ∙ p.1.1)).1.entry
+    (ready.sound.entries.each k h (ap header_of there ∙ p.2)).1.entry
