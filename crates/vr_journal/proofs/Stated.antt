@@ -146,4 +146,8 @@ unfolding stated_to
 stated_more r i o ss ts e k t =
     t ∙ rw (k, range_more 0 i i (omega arith), filter_map-append (stated_by r) (range_with_len 0 i) (i ∷ []), one_stated r i o e) refl
 
-pub ruleset alls = (stated_none, stated_more)
+pub stated_all : (r : Replica) (i n : ℕ) (ss : List Statement) → n ≡ r.n → n ≤ i → i ≤ n → ss ≡ stated_to r i → ss ≡ stated r
+unfolding stated_to stated
+stated_all r i n ss e a b k = let same : i ≡ r.n = omega arith in k ∙ rw same refl
+
+pub ruleset alls = (stated_none, stated_more, stated_all)
