@@ -1,10 +1,10 @@
-use Rattle.std.proofs.Common.{arith, refl}
+use Rattle.std.proofs.Common.{◌∙◌, arith, refl}
 use Rattle.std.proofs.lemmas.Result.{err_from_is_err_and}
 use Rattle.vr_format.proofs.Calls.{headers_begin, headers_go, headers_stop}
 use Rattle.vr_format.proofs.writing.reserve_all.Goals as goal
 
 pub loop-slot-init : goal.loop-slot-init
-loop-slot-init g c = record { making = headers_begin c.args.cluster _; later = omega arith }
+loop-slot-init g c = record { making = headers_begin c.args.cluster _; faults = refl }
 
 pub returns-in_err-reserve-clause-runs : goal.returns-in_err-reserve-clause-runs
 returns-in_err-reserve-clause-runs g c =
@@ -14,5 +14,5 @@ returns-in_err-reserve-clause-runs g c =
 pub loop-slot-preserved : goal.loop-slot-preserved
 loop-slot-preserved g c = record {
   making = headers_go c.args.cluster c.loop-slot.slot _ _ _ _ (omega arith) c.loop-slot.invariant.making c.in_ok-reserve.ensures.runs;
-  later = let h = c.in_ok-reserve.ensures.cause.later in let i = c.loop-slot.invariant.later in omega arith;
+  faults = c.in_ok-reserve.ensures.cause.kept ∙ c.loop-slot.invariant.faults;
 }

@@ -1,4 +1,4 @@
-use Rattle.std.proofs.Common.{arith, refl}
+use Rattle.std.proofs.Common.{◌∙◌, arith, refl}
 use Rattle.std.proofs.lemmas.Result.{err_from_is_err_and}
 use Rattle.vr_format.proofs.Calls.{zeros_go, zeros_stop}
 use Rattle.vr_format.proofs.writing.write_zeros.Goals as goal
@@ -11,5 +11,5 @@ returns-in_err-write-clause-runs g c =
 pub loop-i-preserved : goal.loop-i-preserved
 loop-i-preserved g c = record {
   making = zeros_go c.loop-i.i _ _ _ _ _ (omega arith) refl c.loop-i.invariant.making c.in_ok-write.ensures.told;
-  later = let h = c.in_ok-write.ensures.cause.later in let i = c.loop-i.invariant.later in omega arith;
+  faults = c.in_ok-write.ensures.cause.kept ∙ c.loop-i.invariant.faults;
 }
