@@ -9,11 +9,11 @@ ghost use Rattle.vr_header.specs.Spelling.{IsHeader};
 ghost use Rattle.vr_msg.specs.Forms.{IsFrame};
 ghost use Rattle.vr_msg.specs.Spelling.{IsBodyValue, Spells, body_bytes, frame_header, spelling};
 
+use crate::MsgFault;
 use crate::head::{command_for, header_before, with_fields};
 use crate::read::read_frame;
 use crate::shape::inspect;
 use crate::write::write_body;
-use crate::MsgFault;
 use std::alloc::{AllocError, Global};
 use vr_base::put;
 use vr_header::Header;

@@ -3,12 +3,12 @@ ghost use Rattle.std.specs.Prelude.{◌≡◌, ◌≤◌, length};
 ghost use Rattle.vr_msg.specs.declared.frame.Frame.{Frame};
 ghost use Rattle.vr_msg.specs.Spelling.{command_for, header_before, kind_number, kind_op, with_fields};
 
+use vr_base::{Sum, checksum};
+use vr_header::{Command, Header, Size};
 use vr_msg::{
     Commit, DoViewChange, Frame, GetBlock, GetPrepare, GetView, GiveBlock, GivePrepare, Prepare,
     PrepareOk, Reply, ReplyKind, Request, StartView, StartViewChange,
 };
-use vr_base::{Sum, checksum};
-use vr_header::{Command, Header, Size};
 
 /// The command of a message.
 pub(crate) fn command_for(frame: &Frame) -> Command

@@ -10,14 +10,14 @@ ghost use Rattle.vr_codec.specs.Shapes.{body_fits, is_asked, knows, numbers_fit}
 ghost use Rattle.vr_codec.specs.Reading.{kind_at, headers_at, are_headers, are_parts, part_at, rest_at, parts_at, body_at, bare_for, needs_view, frame_for};
 
 use crate::shape::knows;
+use std::alloc::{AllocError, Global};
+use vr_base::{ByteList, Seq, u16_at, u64_at};
+use vr_header::{Command, Entry, Header, HeaderList, Operation, Outcome, Part, header_at};
 use vr_msg::{
     Answered, Commit, DoViewChange, DvcBody, Frame, GetBlock, GetPrepare, GetView, GiveBlock,
     GivePrepare, Prepare, PrepareOk, Reply, ReplyFields, ReplyKind, Request, RequestFields,
     StartView, StartViewChange, Statement, SvBody,
 };
-use std::alloc::{AllocError, Global};
-use vr_base::{ByteList, Seq, u16_at, u64_at};
-use vr_header::{Command, Entry, Header, HeaderList, Operation, Outcome, Part, header_at};
 
 #[tactic(auto, unfolding(crate::specs::Reading::kind_at))]
 fn read_kind(alloc: Global, kind: u8, op: u64, body: &[u8]) -> Result<Option<ReplyKind>, AllocError>

@@ -1,5 +1,5 @@
 //! Sectors one behind the other, written and read together.
-ghost use Rattle.std.specs.Prelude.{◌≡◌, ◌≤◌, ◌<◌, ◌+◌, ◌*◌, Some, None, false, if◌then◌else◌, length, IfSome, is_ok};
+ghost use Rattle.std.specs.Prelude.{◌≡◌, ◌≤◌, ◌<◌, ◌+◌, ◌*◌, Some, None, if◌then◌else◌, length, IfSome, is_ok};
 ghost use Rattle.vr_base.specs.Bytes.{piece};
 ghost use Rattle.vr_base.specs.Causes.{HasCause, one_more};
 ghost use Rattle.vr_disk.specs.DiskState.{Runs, reads};

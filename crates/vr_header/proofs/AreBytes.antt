@@ -41,24 +41,55 @@ one : (x : ℕ) → x < 256 → IsBytes (x ∷ [])
 one x small = IsBytes-one x [] small IsBytes-none
 
 fields_are : (h : Header) → IsHeader h → AllBytes (field_bytes h)
-fields_are h f =
-    (f.body_bytes,
-    (f.parent_bytes,
-    (f.request_name_bytes,
-    (IsBytes-bytes64 h.cluster,
-    (IsBytes-bytes64 h.client,
-    (IsBytes-bytes32 h.request,
-    (IsBytes-bytes32 h.view,
-    (IsBytes-bytes64 h.op,
-    (IsBytes-bytes64 h.commit,
-    (IsBytes-bytes32 h.size,
-    (one (code_of h.command) (code_small h.command),
-    (one h.replica f.replica,
-    (one 1 (omega arith),
-    (one h.kind f.kind,
-    (IsBytes-bytes64 h.aux,
-    (IsBytes-zeros 8,
-    tt))))))))))))))))
+fields_are h f = (
+  f.body_bytes,
+  (
+    f.parent_bytes,
+    (
+      f.request_name_bytes,
+      (
+        IsBytes-bytes64 h.cluster,
+        (
+          IsBytes-bytes64 h.client,
+          (
+            IsBytes-bytes32 h.request,
+            (
+              IsBytes-bytes32 h.view,
+              (
+                IsBytes-bytes64 h.op,
+                (
+                  IsBytes-bytes64 h.commit,
+                  (
+                    IsBytes-bytes32 h.size,
+                    (
+                      one (code_of h.command) (code_small h.command),
+                      (
+                        one h.replica f.replica,
+                        (
+                          one 1 (omega arith),
+                          (
+                            one h.kind f.kind,
+                            (
+                              IsBytes-bytes64 h.aux,
+                              (
+                                IsBytes-zeros 8,
+                                tt,
+                              ),
+                            ),
+                          ),
+                        ),
+                      ),
+                    ),
+                  ),
+                ),
+              ),
+            ),
+          ),
+        ),
+      ),
+    ),
+  ),
+)
 
 pub named_bytes-are : (h : Header) → IsHeader h → IsBytes (named_bytes h)
 unfolding named_bytes
@@ -88,8 +119,8 @@ operation_bytes-are Register g = one 1 (omega arith)
 operation_bytes-are (Put key value) g =
     let k = text_limit 64 key g.0 in
     IsBytes-append (2 ∷ length key ∷ bytes16 (length value)) (key ++ value)
-      (IsBytes-one 2 (length key ∷ bytes16 (length value)) (omega arith) (IsBytes-one (length key) (bytes16 (length value)) (omega arith) (IsBytes-bytes16 (length value))))
-      (IsBytes-append key value (text-are 64 key g.0) (text-are 1024 value g.1))
+    (IsBytes-one 2 (length key ∷ bytes16 (length value)) (omega arith) (IsBytes-one (length key) (bytes16 (length value)) (omega arith) (IsBytes-bytes16 (length value))))
+    (IsBytes-append key value (text-are 64 key g.0) (text-are 1024 value g.1))
 operation_bytes-are (Get key) g =
     let k = text_limit 64 key g in
     IsBytes-one 3 (length key ∷ key) (omega arith) (IsBytes-one (length key) key (omega arith) (text-are 64 key g))

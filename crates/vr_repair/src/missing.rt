@@ -76,11 +76,7 @@ fn ask_absent<D: SectorDisk>(
 /// Asks the peer whose turn it is for what is missing: the first of the blocks that are, else the least entry that isn't stored or can't be
 /// read. Where nothing is missing nothing is asked.
 #[tactic(auto, using(crate::proofs::Words::asked_block, crate::proofs::Words::asked_absent))]
-pub fn ask<D: SectorDisk>(
-    replica: &mut Replica,
-    disk: &mut D,
-    out: &mut Outbox,
-) -> Result<(), Halt>
+pub fn ask<D: SectorDisk>(replica: &mut Replica, disk: &mut D, out: &mut Outbox) -> Result<(), Halt>
     requires ready { IsReady replica.old }
     ensures ready { OnOk result (IsReady replica.new) }
     ensures cause { Caused (D.faults disk.old) (D.faults disk.new) result }

@@ -50,7 +50,10 @@ fn a_new_member_is_recovered(rt: HostRuntime) -> Result<(), Fail> {
         let config = member(7, replica);
         assert_eq!(rt; first_fault(&rt, &mut disk, &config), None);
         assert_eq!(rt; open(&rt, &mut disk, &config), Answer::Ready(0, view));
-        assert_eq!(rt; first_fault(&rt, &mut disk, &config), Some(FreshFault::Occupied));
+        assert_eq!(rt;
+            first_fault(&rt, &mut disk, &config),
+            Some(FreshFault::Occupied)
+        );
         let other = Answer::Refused(Refusal::OtherMember(config));
         assert_eq!(rt; open(&rt, &mut disk, &member(8, replica)), other);
     }
@@ -64,8 +67,16 @@ fn a_call_fails(rt: HostRuntime) -> Result<(), Fail> {
         let mut list = Vec::new(rt.alloc());
         list.push(number)?;
         disk.fail(list);
-        let fault = if number < 406 { Some(FreshFault::DiskFault) } else { None };
-        assert_eq!(rt; first_fault(&rt, &mut disk, &member(7, 0)), fault, "call {number}");
+        let fault = if number < 406 {
+            Some(FreshFault::DiskFault)
+        } else {
+            None
+        };
+        assert_eq!(rt;
+            first_fault(&rt, &mut disk, &member(7, 0)),
+            fault,
+            "call {number}"
+        );
     }
     Ok(())
 }

@@ -18,7 +18,7 @@ use Rattle.vr_rules.specs.Laws.{IsEvent, IsGoodSave}
 use Rattle.vr_rules.specs.Own.{IsOwn, IsOwnValue, IsAt, IsOwnStep}
 use Rattle.vr_rules.proofs.OwnSteps.{steps_are_own, openings_are_own}
 use Rattle.vr_rules.specs.Fit.{IsFit, IsFitStep, MayCome, ReadsWell}
-use Rattle.vr_rules.specs.Group.{Member, Group, Arrival, Asked, Message, Time, Move, Steps, Cuts, Stops, Starts, StartsCut, Moved, Moves, Played, Run, begins, ends, begins_first, carried_out, cut_after, keeps_found, keeps_all, found, fresh_member, fresh_group, IsArrival, Opens, MayOpen, Runs, finished, cut_short, cut_in_two, stepped, mended, recovered, resumed, once_mended, opening_script, started, start_cut, made_in}
+use Rattle.vr_rules.specs.Group.{Member, Group, Arrival, Asked, Message, Time, Move, Steps, Cuts, Crashes, Recovers, RecoversCut, Moved, Moves, Played, Run, begins, ends, begins_first, carried_out, cut_after, keeps_found, keeps_all, found, fresh_member, fresh_group, IsArrival, Opens, MayOpen, Runs, finished, cut_short, cut_in_two, stepped, mended, recovered, resumed, once_mended, opening_script, started, start_cut, made_in}
 use Rattle.vr_rules.specs.Group as group
 use Rattle.vr_rules.specs.GroupFit.{IsFitReplica, IsFitValue, IsMade, IsFitMember, IsFitGroup, IsFitArrival, IsFitMove, IsFitPlayed, GroupsFit}
 use Rattle.vr_rules.proofs.Reacting.{steps_stay_sound}
@@ -232,12 +232,12 @@ moves_fit c g _ _ h k (group.cuts at arrival e d j m r runs i) =
     let is = h.members at m runs.member in
     let run = is.running r runs.running in
     cuts_short c g at m (stepped e r d) j h (values_of c g.n at m is) (step_is c g.n at r e d run.0 run.1 (arrives c g at arrival e h k.0 i) k.1)
-moves_fit c g _ _ h k (group.stops at m there) =
+moves_fit c g _ _ h k (group.crashes at m there) =
     one_moved c g at (record m { replica = None }) [] [] h (stopped c g.n at m (values_of c g.n at m (h.members at m there))) (All-nil IsFit) (All-nil MayCome)
-moves_fit c g _ _ h k (group.starts at v d m o) =
+moves_fit c g _ _ h k (group.recovers at v d m o) =
     let is = h.members at m o.member in
     starts_fit c g at m v d h (values_of c g.n at m is) (start_is c g.n at v d (good_value c g.n at m v is o.value) k)
-moves_fit c g _ _ h k (group.starts_cut at v d j m o) =
+moves_fit c g _ _ h k (group.recovers_cut at v d j m o) =
     let is = h.members at m o.member in
     starts_cut_fit c g at m v d j h (values_of c g.n at m is) (start_is c g.n at v d (good_value c g.n at m v is o.value) k)
 

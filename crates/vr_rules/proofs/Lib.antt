@@ -50,10 +50,10 @@ pub mod FitOpening
 pub mod FitLoads
 pub mod FitDisks
 pub mod FitFresh
-pub mod FitStrange
 pub mod PinnedWords
 pub mod PinnedSteps
 pub mod FitGroups
 pub mod OwnWords
 pub mod OwnSteps
 pub mod Halves
+pub mod Replying

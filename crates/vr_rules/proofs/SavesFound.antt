@@ -169,7 +169,7 @@ savable_found v ps g top =
       view = g.numbers.view;
       log_view = ltb-true v.fields.log_view (2 ^ 32 - 1) (and_parts (nat_le k.log_view k.view) (nat_lt k.log_view (2 ^ 32 - 1)) member.1).1;
       address = ltb-true v.fields.root_address 128 root.0;
-      name = g.numbers.root_name;
+      name = (g.numbers.root_name, g.numbers.root_name_bytes);
       none = λ e. elim (or_cases (nat_lt 0 v.fields.checkpoint) (nat_eq v.fields.root_address 0 && is_zeros v.fields.root_name.0) root.1) [
         | inl some ↦ let l : 0 < v.fields.checkpoint = ltb-true 0 v.fields.checkpoint some in let none : v.fields.checkpoint ≡ 0 = e in absurd (omega (arith, l, none))
         | inr rest ↦ let z = and_parts (nat_eq v.fields.root_address 0) (is_zeros v.fields.root_name.0) rest in (eqb-true v.fields.root_address 0 z.0, z.1)

@@ -7,7 +7,7 @@ use Rattle.vr_super.specs.Copies.{Saved, IsGood}
 use Rattle.vr_rules.specs.Replica.{Replica}
 use Rattle.vr_rules.specs.Lying.{lying}
 use Rattle.vr_rules.specs.Sound.{IsSound, IsSavable}
-use Rattle.vr_rules.specs.Group.{Member, Group, Arrival, Asked, Message, Time, Move, Steps, Cuts, Stops, Starts, StartsCut, Moved, Moves, Played, Run, fresh_group}
+use Rattle.vr_rules.specs.Group.{Member, Group, Arrival, Asked, Message, Time, Move, Steps, Cuts, Crashes, Recovers, RecoversCut, Moved, Moves, Played, Run, fresh_group}
 use Rattle.vr_rules.specs.Own.{IsOwnValue, IsAt}
 use Rattle.vr_rules.specs.Fit.{IsBlockName, MayCome, ReadsWell}
 
@@ -45,9 +45,9 @@ IsFitArrival Time = ⊤
 abbrev pub IsFitMove : Move → Type 0
 IsFitMove (Steps at arrival event disk) = IsFitArrival arrival × ReadsWell lying disk
 IsFitMove (Cuts at arrival event disk effects) = IsFitArrival arrival × ReadsWell lying disk
-IsFitMove (Stops at) = ⊤
-IsFitMove (Starts at value disk) = ReadsWell lying disk
-IsFitMove (StartsCut at value disk effects) = ReadsWell lying disk
+IsFitMove (Crashes at) = ⊤
+IsFitMove (Recovers at value disk) = ReadsWell lying disk
+IsFitMove (RecoversCut at value disk effects) = ReadsWell lying disk
 
 -- before and after a move
 abbrev pub IsFitPlayed : ℕ → Played → Type 0

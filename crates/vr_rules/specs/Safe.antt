@@ -32,14 +32,14 @@ use Rattle.vr_ckpt.specs.declared.table.Table.{Table}
 use Rattle.vr_rules.specs.Steps.{Effect, Write, Checkpoint, PutBlock}
 use Rattle.vr_rules.specs.Commitment.{Vouches, IsCommitted, AreCommitted, IsBackedMessage, IsLine, IsReplyOf, is_line_of, lines_by}
 use Rattle.vr_rules.specs.Replica.{Replica, statement_of}
-use Rattle.vr_rules.specs.Group.{Move, Steps, Cuts, Stops, Starts, StartsCut, Played}
+use Rattle.vr_rules.specs.Group.{Move, Steps, Cuts, Crashes, Recovers, RecoversCut, Played}
 
 -- ---- what was put out
 
 -- all outputs of a run, in order
-unfoldable pub outputs : List Played → List Output
-outputs [] = []
-outputs (p ∷ ps) = p.moved.outputs ++ outputs ps
+unfoldable pub run_outputs : List Played → List Output
+run_outputs [] = []
+run_outputs (p ∷ ps) = p.moved.outputs ++ run_outputs ps
 
 -- an output of a run: at move `move` of it, the output of that number
 pub record IsOutput (run : List Played) (move number : ℕ) (p : Played) (o : Output) : Type 0 where
@@ -48,7 +48,7 @@ pub record IsOutput (run : List Played) (move number : ℕ) (p : Played) (o : Ou
 
 -- what was put out before it
 abbrev pub before : List Played → ℕ → ℕ → Played → List Output
-before run move number p = outputs (take move run) ++ take number p.moved.outputs
+before run move number p = run_outputs (take move run) ++ take number p.moved.outputs
 
 -- ---- a committed entry keeps its number in every later view
 
@@ -70,7 +70,7 @@ abbrev pub actor : Played → ℕ → Option Replica
 actor p index = option_map_or (λ m. m.replica) (slice_get p.before.members index) None
 
 -- So many had it applied when it answered: those before the step, and those of the step's commit lines before the reply. A
--- commit line that stands last is of the entry whose reply comes right behind it, and that is answered after the entries before it.
+-- commit line that stands last is of the entry whose reply comes right after it, and that is answered after the entries before it.
 abbrev pub applied_then : ℕ → Replica → List Output → ℕ
 applied_then index r said =
     r.applied + lines_by index said - (if list_any (is_line_of index) (drop (length said - 1) said) then 1 else 0)
@@ -88,17 +88,17 @@ pub record IsTrueReply (cluster n : ℕ) (log : List Whole) (run : List Played) 
 abbrev pub faces_of : Move → List Face
 faces_of (Steps at arrival e disk) = disk.face ∷ []
 faces_of (Cuts at arrival e disk effects) = disk.face ∷ []
-faces_of (Stops at) = []
-faces_of (Starts at value disk) = disk.face ∷ []
-faces_of (StartsCut at value disk effects) = disk.face ∷ []
+faces_of (Crashes at) = []
+faces_of (Recovers at value disk) = disk.face ∷ []
+faces_of (RecoversCut at value disk effects) = disk.face ∷ []
 
 -- the event of a move
 abbrev pub event_of : Move → Option Event
 event_of (Steps at arrival e disk) = Some e
 event_of (Cuts at arrival e disk effects) = Some e
-event_of (Stops at) = None
-event_of (Starts at value disk) = None
-event_of (StartsCut at value disk effects) = None
+event_of (Crashes at) = None
+event_of (Recovers at value disk) = None
+event_of (RecoversCut at value disk effects) = None
 
 -- the statement that an event brings of this replica
 abbrev pub brought_in : ℕ → Frame → Option Statement
@@ -153,7 +153,7 @@ abbrev pub IsBacked : ℕ → ℕ → List Whole → List Played → ℕ → ℕ
 IsBacked cluster n log run move number p (output.Send s) = IsBackedMessage cluster n (before run move number p) log s.message
 IsBacked cluster n log run move number p (output.Commit c) = IsLine cluster n (before run move number p) log c
 IsBacked cluster n log run move number p (output.Reply a) = IsTrueReply cluster n log run move number p a
-IsBacked cluster n log run move number p (output.Choose l) = IsJustified n (outputs run) p l
+IsBacked cluster n log run move number p (output.Choose l) = IsJustified n (run_outputs run) p l
 IsBacked cluster n log run move number p _ = ⊤
 
 -- What a disk may give: the entries of its slots, and the contents of its blocks, each by the bytes that have a name.
@@ -186,7 +186,7 @@ pub data IsHashed (run : List Played) (c : Header) : List ℕ → Type 0 where
 pub record Safe (cluster n : ℕ) (run : List Played) : Type 0 where
   pub log : List Whole
   -- an entry that is committed is the log's at its number, where names don't collide
-  pub one : (view : ℕ) (c : Header) → IsHeader c → NoCollision (IsHashed run c) → 0 < c.op → IsCommitted cluster n (outputs run) view c → (e : Whole) × (slice_get log (c.op - 1) ≡ Some e) × (e.header ≡ c)
+  pub one : (view : ℕ) (c : Header) → IsHeader c → NoCollision (IsHashed run c) → 0 < c.op → IsCommitted cluster n (run_outputs run) view c → (e : Whole) × (slice_get log (c.op - 1) ≡ Some e) × (e.header ≡ c)
   pub backed : (move number : ℕ) (p : Played) (o : Output) → NoCollision (IsHashed run (root_header cluster)) → IsOutput run move number p o → IsBacked cluster n log run move number p o
   -- and what is said in later views has it, too
-  pub kept : (view : ℕ) (c : Header) → IsHeader c → NoCollision (IsHashed run c) → 0 < c.op → IsCommitted cluster n (outputs run) view c → (move number : ℕ) (p : Played) (o : Output) → IsOutput run move number p o → KeepsEntry view c o
+  pub kept : (view : ℕ) (c : Header) → IsHeader c → NoCollision (IsHashed run c) → 0 < c.op → IsCommitted cluster n (run_outputs run) view c → (move number : ℕ) (p : Played) (o : Output) → IsOutput run move number p o → KeepsEntry view c o
