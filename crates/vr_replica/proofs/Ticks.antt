@@ -52,7 +52,6 @@ enter_alike : (view : ℕ) (s : Setting Face) (r : Replica) (f : Face) → enter
 unfolding enter
 enter_alike view s r f = enters_alike (nat_lt last_view view) view _ s r f
 
-
 -- ---- each kind of tick
 
 module _ (r r' : Replica) (d d' : Option Disk) (o o' : List Output) (result : Result (Unit {0}) Halt) where
