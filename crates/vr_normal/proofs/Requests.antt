@@ -41,7 +41,7 @@ any_step : (client : ℕ) (xs : List Part) (i n : ℕ) → list_any (is_of clien
 any_step client [] zero zero = refl
 any_step client [] zero (suc n) = refl
 any_step client [] (suc i) zero = refl
-any_step client [] (suc i) (suc n) = refl
+any_step client [] (suc i) (suc n) = rw add-one refl
 any_step client (x ∷ xs) zero n = refl
 any_step client (x ∷ xs) (suc i) n = rw add-one (rw add-one at (any_step client xs i n))
 
