@@ -26,8 +26,8 @@ use Rattle.vr_apply.specs.declared.codec.Texts.{Texts}
 use Rattle.vr_ckpt.specs.declared.table.Table.{Table}
 use Rattle.vr_ckpt.specs.declared.saving.Saved as checkpoint
 use Rattle.vr_ckpt.specs.Places.{IsCheckpoint}
-use Rattle.vr_model.specs.Sound.{HaveNumbers}
-use Rattle.vr_model.proofs.Sessions.{numbers_kept}
+use Rattle.vr_sess.specs.Sessions.{HaveNumbers}
+use Rattle.vr_apply.proofs.Numbers.{numbers_kept}
 use Rattle.std.specs.Prelude.{max, min, Bool, true, false, ◌&&◌, nat_lt}
 use Rattle.std.proofs.Common.{◌∙◌, ap}
 use Rattle.std.proofs.lemmas.Bool.{and_parts, ltb-true, eqb-true, eqb-false}

@@ -11,7 +11,7 @@ use Rattle.vr_ckpt.specs.declared.table.Table.{Table}
 use Rattle.vr_ckpt.specs.Loads.{loaded}
 use Rattle.vr_disk.specs.DiskState.{Disk, Face}
 use Rattle.vr_grid.specs.declared.name.Name.{Name}
-use Rattle.vr_model.specs.Sound.{HaveNumbers}
+use Rattle.vr_sess.specs.Sessions.{HaveNumbers}
 use Rattle.vr_msg.specs.declared.output.Output.{Output}
 use Rattle.vr_table.specs.declared.fault.StateFault.{StateFault}
 use Rattle.vr_table.specs.declared.fault.StateFault.TheVariants as fault

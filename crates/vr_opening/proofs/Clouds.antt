@@ -8,7 +8,7 @@ use Rattle.vr_base.specs.Replicas.{no_replicas}
 use Rattle.vr_disk.specs.DiskState.{Disk}
 use Rattle.vr_header.specs.declared.part.Part.{Part}
 use Rattle.vr_header.specs.declared.part.Part.TheVariants.{Nothing}
-use Rattle.vr_model.specs.Sound.{HaveNumbers}
+use Rattle.vr_sess.specs.Sessions.{HaveNumbers}
 use Rattle.vr_msg.specs.declared.output.Output.{Output}
 use Rattle.vr_msg.specs.Choice.{ops}
 use Rattle.vr_super.specs.Copies.{Saved}

@@ -29,7 +29,7 @@ use Rattle.vr_table.specs.declared.fault.StateFault.{StateFault}
 use Rattle.vr_apply.specs.declared.codec.Texts.{Texts}
 use Rattle.vr_apply.specs.declared.state.State.{State}
 use Rattle.vr_apply.specs.Texts.{state_decoded}
-use Rattle.vr_model.specs.Sound.{HaveNumbers}
+use Rattle.vr_sess.specs.Sessions.{HaveNumbers}
 
 -- the Parts of its ops are found up to n, which isn't below the checkpoint
 pub record Opening (n : ℕ) (r : Replica) : Type 0 where

@@ -6,7 +6,7 @@ ghost use Rattle.vr_rules.specs.Replica.{is_spent, is_started, leads, last_view}
 ghost use Rattle.vr_rules.specs.Words.{save, load, apply};
 ghost use Rattle.vr_rules.specs.Steps.{says, ◌⨾◌};
 ghost use Rattle.vr_step.specs.Does.{Does, Caused};
-ghost use Rattle.vr_journal.specs.Ready.{IsReady, MayLoad, TextsHaveNumbers};
+ghost use Rattle.vr_journal.specs.Ready.{IsReady, MayLoad};
 ghost use Rattle.vr_opening.specs.Finding.{IsOpeningOld, unspent};
 
 use crate::opening::recover_parts;
@@ -101,7 +101,6 @@ fn settle<D: SectorDisk>(
     out: &mut Outbox,
 ) -> Result<(), Halt>
     requires opened { MayLoad replica.old }
-    requires numbers { TextsHaveNumbers }
     requires room { replica.old.saved.fields.sequence + 64 < 2 ^ 64 }
     ensures ready { OnOk result (IsReady replica.new) }
     ensures cause { Caused (D.faults disk.old) (D.faults disk.new) result }
@@ -141,7 +140,6 @@ fn settle_unspent<D: SectorDisk>(
     out: &mut Outbox,
 ) -> Result<(), Halt>
     requires opened { MayLoad replica.old }
-    requires numbers { TextsHaveNumbers }
     ensures ready { OnOk result (IsReady replica.new) }
     ensures cause { Caused (D.faults disk.old) (D.faults disk.new) result }
     ensures step { Does (unspent (load ⨾ apply ⨾ announce)) replica.old replica.new (D.told disk.old) (D.told disk.new) out.old out.new result }
@@ -162,7 +160,6 @@ pub fn open_mended<D: SectorDisk>(
     out: &mut Outbox,
 ) -> Result<(), Halt>
     requires opening { IsOpeningOld 0 replica.old }
-    requires numbers { TextsHaveNumbers }
     ensures ready { OnOk result (IsReady replica.new) }
     ensures cause { Caused (D.faults disk.old) (D.faults disk.new) result }
     ensures step { Does (recover_parts replica.old.saved ⨾ unspent leave_view ⨾ says start_line ⨾ unspent (load ⨾ apply ⨾ announce)) replica.old replica.new (D.told disk.old) (D.told disk.new) out.old out.new result }

@@ -6,5 +6,4 @@ ghost use Rattle.vr_repair.specs.Laws.{BlocksAreRepaired, EntriesAreRepaired};
 pub fn repair_laws()
     ensures entries { EntriesAreRepaired }
     ensures blocks { BlocksAreRepaired }
-{
-}
+{}

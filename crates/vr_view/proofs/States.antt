@@ -71,12 +71,18 @@ pub stated_means : (d : DoViewChange) (r : Replica) → first_of (do_view_change
 stated_means d r =
     by_rows (λ x. x ≡ Stated → ToKeep d r) (do_view_change_table d r) (
       λ t e. absurd cc,
-      λ n0. (λ t e. absurd cc, λ n1. (λ t e. absurd cc, λ n2. (
-        λ t e.
-            let from = not_false (is_from d.cluster d.replica r) n0 in
-            record { later = ltb-false d.view r.view (or_false (nat_lt d.view r.view) _ n1); group = group_of d.cluster d.replica r from; sender = from_is d.cluster d.replica r from },
-        λ n3 e. absurd cc,
-      ))),
+      λ n0. (
+        λ t e. absurd cc,
+        λ n1. (
+          λ t e. absurd cc,
+          λ n2. (
+            λ t e.
+                let from = not_false (is_from d.cluster d.replica r) n0 in
+                record { later = ltb-false d.view r.view (or_false (nat_lt d.view r.view) _ n1); group = group_of d.cluster d.replica r from; sender = from_is d.cluster d.replica r from },
+            λ n3 e. absurd cc,
+          ),
+        ),
+      ),
     )
 
 pub ready_stated : (d : DoViewChange) (r q : Replica) (s : Statement) → q ≡ with_statement d.replica s r → s ≡ d.statement → AreHeaders (known d.statement.body.parts) → IsStating d → r.view ≡ d.view → r.cluster ≡ d.cluster → IsReady r → IsReady q

@@ -2,7 +2,7 @@
 use Rattle.std.proofs.Common.{arith, ℕ, ◌≡◌, ◌≤◌, ◌<◌, ◌+◌, ◌^◌, refl, sym, Bool, true}
 use Rattle.std.proofs.Common.{◌∙◌}
 use Rattle.vr_base.specs.Bytes.{name_of}
-use Rattle.vr_model.specs.Sound.{HaveNumbers}
+use Rattle.vr_sess.specs.Sessions.{HaveNumbers}
 use Rattle.vr_msg.specs.Spelling.{AreHeaders}
 use Rattle.vr_rules.specs.Replica.{Replica, forgetting, last_view}
 use Rattle.vr_rules.specs.Words.{Log, may_take, taken}
