@@ -2,6 +2,7 @@
 use Rattle.std.proofs.Common.{arith, ℕ, ◌≡◌, ◌<◌, ◌≤◌, ◌+◌, ◌^◌, ◌∙◌, inl, inr, refl, sym, true, true≢false}
 use Rattle.std.specs.Prelude.{is_some}
 use Rattle.std.proofs.lemmas.Bool.{and_from, cases_eq, le-leb, lt-ltb, ne_eqb}
+use Rattle.vr_base.proofs.AreBytes.{IsBytes-zeros}
 use Rattle.vr_base.specs.Groups.{quorums_of}
 use Rattle.vr_super.specs.Copies.{IsGood, good_fields, good_member, are_listed}
 use Rattle.vr_rules.specs.Opening.{first_value}
@@ -42,6 +43,7 @@ first_good cluster n index c i k s m =
         checkpoint = omega arith;
         root_address = omega arith;
         root_name = refl;
+        root_name_bytes = IsBytes-zeros 16;
         commit = omega arith;
         head = omega arith;
         replica = i;

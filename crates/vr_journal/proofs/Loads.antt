@@ -4,14 +4,12 @@ use Rattle.std.specs.Prelude.{IfSome, nat_lt}
 use Rattle.vr_apply.specs.declared.codec.Texts.{Texts}
 use Rattle.vr_apply.specs.declared.state.State.{State}
 use Rattle.vr_apply.specs.Texts.{state_decoded}
-use Rattle.vr_apply.proofs.Numbers.{texts_have_numbers}
 use Rattle.vr_ckpt.specs.declared.found.Load.{Load}
 use Rattle.vr_ckpt.specs.declared.found.Load.TheVariants.{Loaded, Missing}
 use Rattle.vr_ckpt.specs.declared.table.Table.{Table}
 use Rattle.vr_ckpt.specs.Loads.{loaded}
 use Rattle.vr_disk.specs.DiskState.{Disk}
 use Rattle.vr_grid.specs.declared.name.Name.{Name}
-use Rattle.vr_sess.specs.Sessions.{HaveNumbers}
 use Rattle.vr_msg.specs.declared.output.Output.{Output}
 use Rattle.vr_table.specs.declared.fault.StateFault.{StateFault}
 use Rattle.vr_table.specs.declared.fault.StateFault.TheVariants as fault
@@ -52,15 +50,6 @@ pub load_none : (r : Replica) (d : Option Disk) (o : List Output) → nat_lt 0 r
 unfolding load
 load_none r d o t = does_by _ r r d d o o (Ok tt) (rw t (does_quiet r d o))
 
-loaded_numbers : (root : Name) (table : Table) (r : Replica) (t : Texts) (x : Result State StateFault) → state_decoded t ≡ x → HaveNumbers r.state.sessions → HaveNumbers (loaded_state root table x r).state.sessions
-unfolding with_state
-loaded_numbers root table r t (Ok s) e h = texts_have_numbers t s e
-loaded_numbers root table r t (Err f) e h = h
-
-loads_numbers : (root : Name) (l : Load) (r : Replica) → HaveNumbers r.state.sessions → HaveNumbers (loads root l r).state.sessions
-loads_numbers root (Loaded t table) r h = loaded_numbers root table r t (state_decoded t) refl h
-loads_numbers root (Missing names) r h = h
-
 loaded_savable : (root : Name) (table : Table) (x : Result State StateFault) (r : Replica) → IsSavable r → IsSavable (loaded_state root table x r)
 unfolding with_state
 loaded_savable root table (Ok s) r h = savable_alike r (with_state table s r) refl h
@@ -85,6 +74,5 @@ ready_loaded l r q h e =
     rw e (record {
       sound = (kept_loads r.root l r h.ready.sound h.applied).sound;
       savable = loads_savable r.root l r h.ready.savable;
-      numbers = loads_numbers r.root l r h.ready.numbers;
       idle = loads_idle r.root l r h.ready.idle;
     })

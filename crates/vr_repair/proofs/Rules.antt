@@ -20,7 +20,9 @@ use Rattle.vr_repair.specs.declared.deciding.Repair.{Repair}
 use Rattle.vr_repair.specs.declared.deciding.Repair.TheVariants as repair
 use Rattle.vr_repair.specs.Reads.{Reads}
 use Rattle.vr_repair.specs.Repairs.{found_at, gives, is_block, rule_of}
-use Rattle.vr_rules.specs.Deciding.{Rule, Ignored, BlockTaken, first_of, get_block_table, get_prepare_table, give_block_table, give_prepare_table, is_known, is_wanted}
+use Rattle.vr_rules.specs.Deciding.{first_of, get_block_table, get_prepare_table, give_block_table, give_prepare_table, is_known, is_wanted}
+use Rattle.vr_rules.specs.declared.rule.Rule.{Rule}
+use Rattle.vr_rules.specs.declared.rule.Rule.TheVariants.{Ignored, BlockTaken}
 use Rattle.vr_rules.specs.Outputs.{give_block, give_prepare, send_to}
 use Rattle.vr_rules.specs.Replica.{Replica}
 use Rattle.vr_rules.specs.Rules.{asked_block, block_at, give_read, obey_get_block, obey_get_prepare, obey_give_block, obey_give_prepare, on_get_block, on_get_prepare, on_give_block, on_give_prepare, put_found, test_of}

@@ -4,7 +4,9 @@ use Rattle.std.specs.Prelude.{nat_le, nat_lt, nat_eq, if◌then◌else◌}
 use Rattle.std.proofs.lemmas.Bool.{le-leb, lt-leb, leb-true, leb-false, eqb-false}
 use Rattle.vr_disk.specs.DiskState.{Disk, Face}
 use Rattle.vr_msg.specs.declared.output.Output.{Output}
-use Rattle.vr_rules.specs.Deciding.{Rule, TickedPrimary, TickedBackup, TickedChanging, first_of, tick_table}
+use Rattle.vr_rules.specs.Deciding.{first_of, tick_table}
+use Rattle.vr_rules.specs.declared.rule.Rule.{Rule}
+use Rattle.vr_rules.specs.declared.rule.Rule.TheVariants.{TickedPrimary, TickedBackup, TickedChanging}
 use Rattle.vr_rules.specs.Replica.{Replica, head, last_view}
 use Rattle.vr_rules.specs.Rules.{idler, next_view, backup_ticks, changing_ticks, primary_ticks, obey_tick, on_tick}
 use Rattle.vr_rules.specs.Sectors.{sectors}
@@ -26,7 +28,7 @@ pub ready_waits : (n : ℕ) (r q : Replica) → nat_le n r.idle ≡ false → n 
 unfolding IsReady
 ready_waits n r q w l e h =
     let few = leb-false n r.idle w in
-    rw e (record { sound = sound_alike r (idler r) refl h.sound; savable = savable_alike r (idler r) refl h.savable; numbers = h.numbers; idle = omega arith })
+    rw e (record { sound = sound_alike r (idler r) refl h.sound; savable = savable_alike r (idler r) refl h.savable; idle = omega arith })
 
 pub idle_fits : (r : Replica) → IsReady r → r.idle + 1 < 2 ^ 64
 unfolding IsReady
@@ -49,7 +51,6 @@ enters_alike false view w s r f = refl
 enter_alike : (view : ℕ) (s : Setting Face) (r : Replica) (f : Face) → enter view s (idler r) f ≡ enter view s r f
 unfolding enter
 enter_alike view s r f = enters_alike (nat_lt last_view view) view _ s r f
-
 
 -- ---- each kind of tick
 

@@ -1,6 +1,7 @@
 -- What a tick leads to.
 use Rattle.std.specs.Prelude.{◌+◌, nat_lt}
-use Rattle.vr_rules.specs.Deciding.{Rule, TickedPrimary, TickedBackup, TickedChanging}
+use Rattle.vr_rules.specs.declared.rule.Rule.{Rule}
+use Rattle.vr_rules.specs.declared.rule.Rule.TheVariants.{TickedPrimary, TickedBackup, TickedChanging}
 use Rattle.vr_rules.specs.Outputs.{send_to_all, start_view_change}
 use Rattle.vr_rules.specs.Replica.{head}
 use Rattle.vr_rules.specs.Steps.{Word, ◌⨾◌, by, says, when}

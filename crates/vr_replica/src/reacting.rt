@@ -13,7 +13,9 @@ use vr_msg::{Event, Frame, Message, Outbox};
 use vr_normal::{handle_commit, handle_prepare, handle_prepare_ok, handle_request};
 use vr_repair::{handle_get_block, handle_get_prepare, handle_give_block, handle_give_prepare};
 use vr_step::Halt;
-use vr_view::{handle_do_view_change, handle_get_view, handle_start_view, handle_start_view_change};
+use vr_view::{
+    handle_do_view_change, handle_get_view, handle_start_view, handle_start_view_change,
+};
 
 // A message arrives. Replies aren't for replicas.
 fn handle_message<D: SectorDisk>(
