@@ -96,17 +96,16 @@ give_prepare_ignored g x r d o e n = give_prepare_obeyed g x r r d d o o (Ok tt)
 
 -- ---- get_block
 
-pub block_read : (g : GetBlock) (r : Replica) (d d' : Option Disk) (o o' : List Output) (found : Option (List ℕ)) (b : List ℕ) → Finds (block_at (asked_block g)) d d' found → found ≡ Some b
-    → o' ≡ o ++ send_to g.replica (give_block g.address b r) r → Does (reading (block_at (asked_block g)) (give_read g)) r r d d' o o' (Ok tt)
-block_read g r d d' o o' found b f is said =
-    let k : Finds (block_at (asked_block g)) d d' (Some b) = rw is at f in
-    does_reading (block_at (asked_block g)) (give_read g) (Some b) r r d d' d' o o' (Ok tt) k (says_by (λ x. send_to g.replica (give_block g.address b x) x) r d' o o' said)
+module _ (g : GetBlock) (r : Replica) (d d' : Option Disk) (name : Name) (found : Option (List ℕ)) (read : Finds (block_at name) d d' found) (asked : name ≡ asked_block g) where
+  pub block_read : (b : List ℕ) (o o' : List Output) → found ≡ Some b → o' ≡ o ++ send_to g.replica (give_block g.address b r) r → Does (reading (block_at (asked_block g)) (give_read g)) r r d d' o o' (Ok tt)
+  block_read b o o' is said =
+      let k : Finds (block_at (asked_block g)) d d' (Some b) = rw (asked, is) at read in
+      does_reading (block_at (asked_block g)) (give_read g) (Some b) r r d d' d' o o' (Ok tt) k (says_by (λ x. send_to g.replica (give_block g.address b x) x) r d' o o' said)
 
-pub block_unread : (g : GetBlock) (r : Replica) (d d' : Option Disk) (o : List Output) (found : Option (List ℕ)) → Finds (block_at (asked_block g)) d d' found → found ≡ None
-    → Does (reading (block_at (asked_block g)) (give_read g)) r r d d' o o (Ok tt)
-block_unread g r d d' o found f is =
-    let k : Finds (block_at (asked_block g)) d d' None = rw is at f in
-    does_reading (block_at (asked_block g)) (give_read g) None r r d d' d' o o (Ok tt) k (does_quiet r d' o)
+  pub block_unread : (o : List Output) → found ≡ None → Does (reading (block_at (asked_block g)) (give_read g)) r r d d' o o (Ok tt)
+  block_unread o is =
+      let k : Finds (block_at (asked_block g)) d d' None = rw (asked, is) at read in
+      does_reading (block_at (asked_block g)) (give_read g) None r r d d' d' o o (Ok tt) k (does_quiet r d' o)
 
 abbrev pub DecidesBlock : GetBlock → Repair → Replica → Type 0
 DecidesBlock g x r = (reads : Bool) → first_of (get_block_table reads g r) ≡ (if reads then rule_of x else Ignored)
