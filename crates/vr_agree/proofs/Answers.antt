@@ -39,7 +39,8 @@ use Rattle.vr_msg.specs.declared.request.RequestFields.{RequestFields}
 use Rattle.vr_msg.specs.declared.statement.Statement.{Statement}
 use Rattle.vr_msg.specs.Choice.{ops}
 use Rattle.vr_apply.proofs.Stored.{repeat_stored}
-use Rattle.vr_rules.specs.Outputs.{Asker, replies, send_to, send_to_all, prepare, commit_message, start_view, start_view_change, get_view, give_prepare, give_block}
+use Rattle.vr_rules.specs.Outputs.{replies, send_to, send_to_all, prepare, commit_message, start_view, start_view_change, get_view, give_prepare, give_block}
+use Rattle.vr_rules.specs.declared.asker.Asker.{Asker}
 use Rattle.vr_rules.specs.Replica.{Replica, is_frozen, part_at, header_at, head, is_here}
 use Rattle.vr_rules.specs.Steps.{Step, Setting, Word, ◌⨾◌, quiet, change, does, says, by, naming, reading, when, each, outputs, after_all, PutBlock}
 use Rattle.vr_rules.specs.Words.{rested, write, accept, enter, apply, advance, learn, is_loaded, load, loads, loaded_state, checkpoint_at, try, speak, resend, ask, prepare_again, with_entry_at}

@@ -1,9 +1,9 @@
 -- An opening replies nothing: none that goes on to apply leads its view.
-use Rattle.std.proofs.Common.{ℕ, zero, suc, ◌+◌, ◌≡◌, ◌∙◌, refl, sym, ap, arith, Bool, true, false, cond, eqb, List, [], ◌∷◌, Option, Some, None}
+use Rattle.std.proofs.Common.{ℕ, zero, suc, ◌+◌, ◌≡◌, refl, arith, Bool, true, false, cond, eqb, List, [], ◌∷◌, Option, Some, None}
 use Rattle.vr_apply.specs.Texts.{state_decoded}
 use Rattle.std.proofs.lemmas.List.Elements.{All-nil, All-cons, All-contains}
 use Rattle.std.specs.Prelude.{⊤, All, Contains, Ok, Err, nat_lt, nat_le, not}
-use Rattle.std.proofs.lemmas.Bool.{and_parts, eqb-true, ne_eqb, not-true, true≢false}
+use Rattle.std.proofs.lemmas.Bool.{and_parts, eqb-true, ne_eqb, cond_both}
 use Rattle.vr_header.specs.declared.header.Header.{Header}
 use Rattle.vr_header.specs.declared.part.Part.{Part}
 use Rattle.vr_header.specs.declared.part.Part.TheVariants.{Here, Lost, Wanted, Unknown, Nothing}

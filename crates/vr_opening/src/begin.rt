@@ -37,7 +37,7 @@ fn save_opened<D: SectorDisk>(
 }
 
 /// A primary that comes back doesn't lead its old view again.
-#[tactic(auto, using(crate::proofs::Begins::leave_then, crate::proofs::Begins::leave_none, crate::proofs::Begins::opened_next, crate::proofs::Begins::opened_member))]
+#[tactic(auto, using(crate::proofs::Begins::leave_then, crate::proofs::Begins::leave_none, crate::proofs::Begins::next_fits, crate::proofs::Begins::opened_next, crate::proofs::Begins::opened_member))]
 fn leave_view<D: SectorDisk>(
     replica: &mut Replica,
     alloc: Global,

@@ -18,6 +18,7 @@ use vr_view::{
 };
 
 // A message arrives. Replies aren't for replicas.
+#[tactic(auto, using(crate::proofs::Forms::forms, vr_step::proofs::Stepping::does_quiet))]
 fn handle_message<D: SectorDisk>(
     replica: &mut Replica,
     alloc: Global,
@@ -52,7 +53,6 @@ fn handle_message<D: SectorDisk>(
 }
 
 // What happens, at a replica whose views and sequence numbers aren't at their end.
-#[tactic(auto, using(vr_step::proofs::Stepping::does_quiet))]
 fn handle<D: SectorDisk>(
     replica: &mut Replica,
     alloc: Global,

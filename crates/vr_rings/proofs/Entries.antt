@@ -13,7 +13,8 @@ use Rattle.vr_header.specs.Made.{Whole, entry_of}
 use Rattle.vr_header.specs.Same.{same_header}
 use Rattle.vr_header.proofs.SameHeaders.{same_header_of, same_header_is}
 use Rattle.vr_rings.specs.Readings.{BeginsWith, Found}
-use Rattle.vr_rings.specs.Slots.{IsWhole, entry_for, is_zeros, size_at, slot_of, whole_in, whole_of}
+use Rattle.vr_base.specs.Bytes.{is_zeros}
+use Rattle.vr_rings.specs.Slots.{IsWhole, entry_for, size_at, slot_of, whole_in, whole_of}
 use Rattle.vr_rings.proofs.Spelling.{whole_again}
 
 -- the bytes of the entry with which a buffer begins

@@ -273,7 +273,7 @@ partly_clouded v n r w h =
 -- ---- all Parts
 
 -- no session has an op
-empty_numbers : HaveNumbers empty.sessions
+pub empty_numbers : HaveNumbers empty.sessions
 unfolding HaveNumbers
 empty_numbers = tt
 

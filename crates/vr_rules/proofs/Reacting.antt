@@ -22,7 +22,7 @@ use Rattle.vr_sess.specs.declared.session.SessionAnswer.{SessionAnswer}
 use Rattle.vr_sess.specs.declared.session.SessionAnswer.TheVariants as answer
 use Rattle.vr_rules.specs.Replica.{Replica, last_view, is_started, is_primary, is_spent, is_frozen, head}
 use Rattle.vr_rules.specs.Steps.{Setting, change}
-use Rattle.vr_rules.specs.Outputs.{Asker}
+use Rattle.vr_rules.specs.declared.asker.Asker.{Asker}
 use Rattle.vr_rules.specs.Words.{write, apply, is_loaded, ask, load}
 use Rattle.vr_rules.specs.Deciding.{Hash, session_answer, request_table, get_block_table, is_wanted, give_block_table, tick_table}
 use Rattle.vr_rules.specs.Rules.{asker_by, next_entry, make, stored_reply, obey_request, on_request, asked_block, block_at, give_read, obey_get_block, on_get_block, without, put_block, put_found, test_of, obey_give_block, on_give_block, idler, next_view, obey_tick, on_tick, on_message, on_event, react}

@@ -30,9 +30,12 @@ use Rattle.vr_sess.specs.declared.session.SessionAnswer.{SessionAnswer}
 use Rattle.vr_sess.specs.declared.session.SessionAnswer.TheVariants as answer
 use Rattle.vr_rules.specs.Replica.{Replica}
 use Rattle.vr_rules.specs.Steps.{Effect, Setting, Step, Word, ◌⨾◌, quiet, change, does, says, by, naming, outputs, after_all}
+use Rattle.vr_rules.specs.declared.asker.Asker.{Asker}
 use Rattle.vr_rules.specs.Outputs as told
 use Rattle.vr_rules.specs.Words as words
-use Rattle.vr_rules.specs.Deciding.{Rule, Hash, Redirected, Behind, Answered, Full, Made, PreparedLater, Past, Beyond, Known, Next, Ahead, Other, Counted, CommitLater, CommitHeard, ChangeLater, ChangeHeard, ChangeDone, StatedLate, Stated, Taken, ViewGiven, EntryGiven, EntryTaken, BlockGiven, BlockTaken, TickedPrimary, TickedBackup, TickedChanging}
+use Rattle.vr_rules.specs.Deciding.{Hash}
+use Rattle.vr_rules.specs.declared.rule.Rule.{Rule}
+use Rattle.vr_rules.specs.declared.rule.Rule.TheVariants.{Redirected, Behind, Answered, Full, Made, PreparedLater, Past, Beyond, Known, Next, Ahead, Other, Counted, CommitLater, CommitHeard, ChangeLater, ChangeHeard, ChangeDone, StatedLate, Stated, Taken, ViewGiven, EntryGiven, EntryTaken, BlockGiven, BlockTaken, TickedPrimary, TickedBackup, TickedChanging}
 use Rattle.vr_rules.specs.Rules as rules
 use Rattle.vr_rules.specs.Laws.{WaitsChangeNoPart}
 use Rattle.vr_rules.proofs.SendsScripts.{outputs_append}
@@ -185,7 +188,7 @@ module _ {F : Type 0} where
 
   -- ---- the rules
 
-  mute_replies : (a : told.Asker) (x : SessionAnswer) → Mute {F = F} (rules.stored_reply a x)
+  mute_replies : (a : Asker) (x : SessionAnswer) → Mute {F = F} (rules.stored_reply a x)
   mute_replies a answer.Fresh = mute_quiet
   mute_replies a (answer.Repeat outcome op) = mute_one _ (λ r. tt)
   mute_replies a answer.Old = mute_one _ (λ r. tt)

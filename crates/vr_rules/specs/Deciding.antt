@@ -20,8 +20,8 @@ use Rattle.vr_msg.specs.declared.frame.PrepareOk.{PrepareOk}
 use Rattle.vr_msg.specs.declared.frame.StartView.{StartView}
 use Rattle.vr_msg.specs.declared.frame.StartViewChange.{StartViewChange}
 use Rattle.vr_msg.specs.declared.request.RequestFields.{RequestFields}
-pub use Rattle.vr_rules.specs.declared.rule.Rule.{Rule}
-pub use Rattle.vr_rules.specs.declared.rule.Rule.TheVariants.{Ignored, Redirected, Behind, InFlight, Answered, Full, Made, PreparedBefore, PreparedLater, Past, Beyond, Known, Next, Ahead, Other, Counted, CommitBefore, CommitLater, CommitHeard, ChangeBefore, ChangeLater, ChangeHeard, ChangeDone, StatedBefore, StatedLate, Stated, Taken, ViewGiven, EntryGiven, EntryTaken, BlockGiven, BlockTaken, TickedPrimary, TickedBackup, TickedChanging}
+use Rattle.vr_rules.specs.declared.rule.Rule.{Rule}
+use Rattle.vr_rules.specs.declared.rule.Rule.TheVariants.{Ignored, Redirected, Behind, InFlight, Answered, Full, Made, PreparedBefore, PreparedLater, Past, Beyond, Known, Next, Ahead, Other, Counted, CommitBefore, CommitLater, CommitHeard, ChangeBefore, ChangeLater, ChangeHeard, ChangeDone, StatedBefore, StatedLate, Stated, Taken, ViewGiven, EntryGiven, EntryTaken, BlockGiven, BlockTaken, TickedPrimary, TickedBackup, TickedChanging}
 use Rattle.vr_msg.specs.Logs.{header_of}
 use Rattle.vr_msg.specs.Normal.{primary, same_sum, pipeline, last_op}
 use Rattle.vr_sess.specs.Asks.{is_fresh}

@@ -15,7 +15,7 @@ use Rattle.vr_apply.specs.Folds as state
 use Rattle.vr_apply.specs.declared.reply.ReplyBody.{ReplyBody}
 use Rattle.vr_apply.specs.declared.reply.ReplyBody.TheVariants as body
 use Rattle.vr_grid.specs.declared.name.Name.{Name}
-pub use Rattle.vr_rules.specs.declared.asker.Asker.{Asker}
+use Rattle.vr_rules.specs.declared.asker.Asker.{Asker}
 use Rattle.vr_rules.specs.Replica.{Replica, leads, head, run, run_start, statement_of}
 
 -- ---- outputs
