@@ -7,7 +7,9 @@ use Rattle.vr_msg.specs.declared.frame.DoViewChange.{DoViewChange}
 use Rattle.vr_msg.specs.declared.output.Output.{Output}
 use Rattle.vr_msg.specs.declared.statement.Statement.{Statement}
 use Rattle.vr_msg.specs.Spelling.{AreHeaders, known}
-use Rattle.vr_rules.specs.Deciding.{Rule, Ignored, StatedBefore, StatedLate, Stated, first_of, do_view_change_table, is_from}
+use Rattle.vr_rules.specs.Deciding.{first_of, do_view_change_table, is_from}
+use Rattle.vr_rules.specs.declared.rule.Rule.{Rule}
+use Rattle.vr_rules.specs.declared.rule.Rule.TheVariants.{Ignored, StatedBefore, StatedLate, Stated}
 use Rattle.vr_rules.specs.Outputs.{send_to, start_view}
 use Rattle.vr_rules.specs.Replica.{Replica, last_view}
 use Rattle.vr_rules.specs.Rules.{obey_do_view_change, on_do_view_change, with_statement}
@@ -93,7 +95,6 @@ ready_stated d r q s e i w m v g h =
     rw (e, i) (record {
       sound = (kept_statement d.replica d.statement r h.sound is).sound;
       savable = savable_alike r (with_statement d.replica d.statement r) refl h.savable;
-      numbers = h.numbers;
       idle = h.idle;
     })
 

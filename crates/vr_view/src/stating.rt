@@ -2,7 +2,8 @@
 ghost use Rattle.std.specs.Prelude.{◌≡◌, ◌<◌, ◌≤◌, ◌+◌, ◌^◌, ◌∷◌, [], IfOk, OnOk, nat_lt};
 ghost use Rattle.vr_journal.specs.Ready.{IsReady};
 ghost use Rattle.vr_msg.specs.Spelling.{AreHeaders, known};
-ghost use Rattle.vr_rules.specs.Deciding.{Stated, do_view_change_table, first_of};
+ghost use Rattle.vr_rules.specs.Deciding.{do_view_change_table, first_of};
+ghost use Rattle.vr_rules.specs.declared.rule.Rule.TheVariants.{Stated};
 ghost use Rattle.vr_rules.specs.Replica.{last_view};
 ghost use Rattle.vr_rules.specs.Rules.{on_do_view_change, with_statement};
 ghost use Rattle.vr_rules.specs.Steps.{◌⨾◌, by, change, when};
@@ -35,15 +36,15 @@ pub enum StateRule {
 
 /// Which rule applies to a do_view_change.
 #[tactic(auto, unfolding(vr_rules::specs::Deciding::first_of))]
-pub fn decide_do_view_change(replica: &Replica, change: &DoViewChange) -> StateRule
+pub fn decide_do_view_change(replica: &Replica, message: &DoViewChange) -> StateRule
     requires { 0 < replica.now.n }
-    ensures { first_of (do_view_change_table change.now replica.now) ≡ state_rule result }
+    ensures { first_of (do_view_change_table message.now replica.now) ≡ state_rule result }
 {
-    if !replica.is_from(change.cluster, change.replica) {
+    if !replica.is_from(message.cluster, message.replica) {
         StateRule::Ignored
-    } else if change.view < replica.view() || replica.index() != primary(replica.n(), change.view) {
+    } else if message.view < replica.view() || replica.index() != primary(replica.n(), message.view) {
         StateRule::Before
-    } else if change.view == replica.view() && replica.is_started() {
+    } else if message.view == replica.view() && replica.is_started() {
         StateRule::Late
     } else {
         StateRule::Stated
@@ -127,20 +128,20 @@ fn keep<D: SectorDisk>(
     replica: &mut Replica,
     alloc: Global,
     disk: &mut D,
-    change: &DoViewChange,
+    message: &DoViewChange,
     out: &mut Outbox,
 ) -> Result<(), Halt>
     requires ready { IsReady replica.old }
-    requires message { IsStating change.now }
-    requires rule { first_of (do_view_change_table change.now replica.old) ≡ Stated }
+    requires message { IsStating message.now }
+    requires rule { first_of (do_view_change_table message.now replica.old) ≡ Stated }
     requires room { replica.old.saved.fields.sequence + 66 < 2 ^ 64 }
     ensures ready { OnOk result (IsReady replica.new) }
     ensures cause { Caused (D.faults disk.old) (D.faults disk.new) result }
-    ensures step { Does (by (λ r. when (nat_lt r.view change.now.view) (enter change.now.view)) ⨾ change (with_statement change.now.replica change.now.statement) ⨾ try) replica.old replica.new (D.told disk.old) (D.told disk.new) out.old out.new result }
+    ensures step { Does (by (λ r. when (nat_lt r.view message.now.view) (enter message.now.view)) ⨾ change (with_statement message.now.replica message.now.statement) ⨾ try) replica.old replica.new (D.told disk.old) (D.told disk.new) out.old out.new result }
 {
-    enter_up_to(replica, alloc, disk, change.view, out)?;
-    let statement = copy_statement(alloc, &change.statement)?;
-    replica.keep_statement(change.replica, statement);
+    enter_up_to(replica, alloc, disk, message.view, out)?;
+    let statement = copy_statement(alloc, &message.statement)?;
+    replica.keep_statement(message.replica, statement);
     try_view(replica, alloc, disk, out)
 }
 
@@ -152,24 +153,24 @@ pub fn handle_do_view_change<D: SectorDisk>(
     replica: &mut Replica,
     alloc: Global,
     disk: &mut D,
-    change: &DoViewChange,
+    message: &DoViewChange,
     out: &mut Outbox,
 ) -> Result<(), Halt>
     requires ready { IsReady replica.old }
     requires view { replica.old.view ≤ last_view }
-    requires message { IsStating change.now }
+    requires message { IsStating message.now }
     requires room { replica.old.saved.fields.sequence + 66 < 2 ^ 64 }
     ensures ready { OnOk result (IsReady replica.new) }
     ensures cause { Caused (D.faults disk.old) (D.faults disk.new) result }
-    ensures step { Does (on_do_view_change change.now) replica.old replica.new (D.told disk.old) (D.told disk.new) out.old out.new result }
+    ensures step { Does (on_do_view_change message.now) replica.old replica.new (D.told disk.old) (D.told disk.new) out.old out.new result }
 {
-    match decide_do_view_change(replica, change) {
+    match decide_do_view_change(replica, message) {
         StateRule::Ignored => Ok(()),
         StateRule::Before => Ok(()),
         StateRule::Late => {
-            replica.tell_view(alloc, change.replica, out)?;
+            replica.tell_view(alloc, message.replica, out)?;
             Ok(())
         }
-        StateRule::Stated => keep(replica, alloc, disk, change, out),
+        StateRule::Stated => keep(replica, alloc, disk, message, out),
     }
 }
