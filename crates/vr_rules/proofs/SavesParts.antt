@@ -1,5 +1,5 @@
 -- Changes of Parts leave what can be saved.
-use Rattle.std.proofs.Common.{arith, ◌≡◌, ◌⊎◌, ◌≤◌, ◌<◌, ◌+◌, ◌-◌, ◌^◌, inl, inr, refl, sym, ap, ◌∙◌, subst, ℕ, true, List, length, Some, is_some}
+use Rattle.std.proofs.Common.{arith, ◌≡◌, ◌⊎◌, ◌≤◌, ◌<◌, ◌+◌, ◌-◌, ◌^◌, inl, inr, refl, sym, ap, ◌∙◌, subst, ℕ, true, List, Some, is_some}
 use Rattle.std.specs.Prelude.{nat_lt, nat_le, nat_eq, ◌&&◌, ◌||◌}
 use Rattle.std.proofs.lemmas.Bool.{and_parts, or_cases, cases_lt, ltb-true, eqb-true, le-leb}
 use Rattle.vr_ckpt.specs.declared.saving.Saved as checkpoint

@@ -1,6 +1,6 @@
 -- What a replica keeps of itself between steps.
 use Rattle.std.specs.Prelude.{ℕ, ◌+◌, ◌-◌, ◌%◌, ◌^◌, ◌<◌, ◌≤◌, ◌≡◌, ◌≢◌, true, is_some, List, [], length, slice_index_or, Some, None}
-use Rattle.vr_base.specs.Bytes.{IsBytes}
+use Rattle.vr_base.specs.Bytes.{IsBytes, is_zeros}
 use Rattle.vr_base.specs.Groups.{quorums_of}
 use Rattle.vr_header.specs.declared.header.Header.{Header}
 use Rattle.vr_header.specs.Spelling.{IsHeader}
@@ -9,7 +9,6 @@ use Rattle.vr_msg.specs.Logs.{IsEntryAt, IsStatement}
 use Rattle.vr_msg.specs.Numbers.{IsNumber}
 use Rattle.vr_msg.specs.Spelling.{AreHeaders, known}
 use Rattle.vr_sess.specs.Sessions.{HaveNumbers}
-use Rattle.vr_super.specs.Copies.{is_zeros}
 use Rattle.vr_rules.specs.Replica.{Replica, head, header_at, window_end}
 
 -- checkpoint, applied, commit number, head and window stand in this order
