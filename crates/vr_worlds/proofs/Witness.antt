@@ -3,7 +3,8 @@ use Rattle.std.proofs.Common.{ℕ, ◌≡◌, ◌⊎◌, inl, inr, refl, sym, ap
 use Rattle.std.specs.Prelude.{slice_get}
 use Rattle.std.specs.List.{AllByRecursion}
 use Rattle.vr_msg.specs.declared.event.Event.TheVariants as event
-use Rattle.vr_rules.specs.Replica.{Replica}
+use Rattle.vr_rules.specs.Outputs.{send_to_all}
+use Rattle.vr_rules.specs.Replica.{head}
 use Rattle.vr_rules.specs.Steps.{◌⨾◌, by, change, does, naming, quiet, reading, says}
 use Rattle.vr_rules.specs.Rules as rules
 use Rattle.vr_rules.specs.Words as words
@@ -39,7 +40,7 @@ none_hashed b (inr (inr (inr h))) = h
 
 -- the primary tells the other one of its commit number
 tick_blocks : AllByRecursion WritesBlocks (stepping event.Tick (fresh_host hazards 2 0) (fresh 0 2 0)).script
-unfolding ◌⨾◌ by says change quiet naming first_of blank rules.react rules.on_tick words.ask words.ask_peer
+unfolding ◌⨾◌ by says change quiet naming first_of blank head send_to_all rules.react rules.on_tick words.ask words.ask_peer
 tick_blocks = (tt, tt)
 
 pub some_schedule_may : SomeScheduleMay
