@@ -132,10 +132,7 @@ fn decide_open(replica: &Replica, request: &RequestFields) -> Result<RequestRule
 
 /// Which rule applies to a request, with what the sessions answer where it isn't fresh.
 #[tactic(auto, using(vr_journal::proofs::Memory::some_member), unfolding(vr_rules::specs::Deciding::first_of, crate::specs::Requests::Answers))]
-pub fn decide_request(
-    replica: &Replica,
-    request: &RequestFields,
-) -> Result<RequestRule, NoMemory>
+pub fn decide_request(replica: &Replica, request: &RequestFields) -> Result<RequestRule, NoMemory>
     requires { IsReady replica.now }
     ensures rule { IfOk result (λ x. first_of (request_table request.now replica.now) ≡ request_rule x) }
     ensures answer { IfOk result (λ x. Answers x request.now replica.now) }
