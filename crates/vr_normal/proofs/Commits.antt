@@ -4,7 +4,9 @@ use Rattle.std.specs.Prelude.{nat_lt}
 use Rattle.vr_disk.specs.DiskState.{Disk}
 use Rattle.vr_msg.specs.declared.frame.Commit.{Commit}
 use Rattle.vr_msg.specs.declared.output.Output.{Output}
-use Rattle.vr_rules.specs.Deciding.{Rule, Ignored, CommitBefore, CommitLater, CommitHeard, first_of, commit_table}
+use Rattle.vr_rules.specs.Deciding.{first_of, commit_table}
+use Rattle.vr_rules.specs.declared.rule.Rule.{Rule}
+use Rattle.vr_rules.specs.declared.rule.Rule.TheVariants.{Ignored, CommitBefore, CommitLater, CommitHeard}
 use Rattle.vr_rules.specs.Outputs.{send_to, get_view}
 use Rattle.vr_rules.specs.Replica.{Replica, head, last_view}
 use Rattle.vr_rules.specs.Rules.{obey_commit, on_commit}

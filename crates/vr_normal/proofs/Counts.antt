@@ -7,7 +7,9 @@ use Rattle.vr_base.specs.Bytes.{name_of}
 use Rattle.vr_disk.specs.DiskState.{Disk}
 use Rattle.vr_msg.specs.declared.frame.PrepareOk.{PrepareOk}
 use Rattle.vr_msg.specs.declared.output.Output.{Output}
-use Rattle.vr_rules.specs.Deciding.{Rule, Ignored, Counted, first_of, prepare_ok_table}
+use Rattle.vr_rules.specs.Deciding.{first_of, prepare_ok_table}
+use Rattle.vr_rules.specs.declared.rule.Rule.{Rule}
+use Rattle.vr_rules.specs.declared.rule.Rule.TheVariants.{Ignored, Counted}
 use Rattle.vr_rules.specs.Replica.{Replica, head, leads}
 use Rattle.vr_rules.specs.Rules.{acknowledged, obey_prepare_ok, on_prepare_ok}
 use Rattle.vr_rules.specs.Steps.{◌⨾◌, change}
@@ -65,7 +67,6 @@ ready_counted a r q e h =
     rw e (record {
       sound = sound_ackers r _ (length-set r.ackers (a.op - r.first) _) h.sound;
       savable = savable_alike r (acknowledged a r) refl h.savable;
-      numbers = h.numbers;
       idle = h.idle;
     })
 

@@ -8,7 +8,9 @@ use Rattle.vr_header.specs.Made.{IsEntryHeader}
 use Rattle.vr_header.specs.Spelling.{IsHeader}
 use Rattle.vr_msg.specs.declared.frame.Prepare.{Prepare}
 use Rattle.vr_msg.specs.declared.output.Output.{Output}
-use Rattle.vr_rules.specs.Deciding.{Rule, Ignored, PreparedBefore, PreparedLater, Past, Beyond, Known, Next, Ahead, Other, first_of, is_from_primary, prepare_table}
+use Rattle.vr_rules.specs.Deciding.{first_of, is_from_primary, prepare_table}
+use Rattle.vr_rules.specs.declared.rule.Rule.{Rule}
+use Rattle.vr_rules.specs.declared.rule.Rule.TheVariants.{Ignored, PreparedBefore, PreparedLater, Past, Beyond, Known, Next, Ahead, Other}
 use Rattle.vr_rules.specs.Outputs.{send_to, get_view}
 use Rattle.vr_rules.specs.Replica.{Replica, last_view}
 use Rattle.vr_rules.specs.Rules.{acknowledge, ask_view, obey_prepare, on_prepare}

@@ -12,10 +12,13 @@ use Rattle.vr_header.specs.Spelling.{IsHeader}
 use Rattle.vr_msg.specs.declared.output.Output.{Output}
 use Rattle.vr_msg.specs.declared.reply.ReplyKind.TheVariants as reply
 use Rattle.vr_msg.specs.declared.request.RequestFields.{RequestFields}
-use Rattle.vr_model.specs.Sound.{HasNumber}
-use Rattle.vr_model.proofs.Sessions as sessions
-use Rattle.vr_rules.specs.Deciding.{Rule, Ignored, Redirected, Behind, InFlight, Answered, Full, Made, first_of, is_in_flight, request_table, session_answer}
-use Rattle.vr_rules.specs.Outputs.{Asker, replies}
+use Rattle.vr_rules.proofs.Replying.{HasNumber}
+use Rattle.vr_rules.proofs.Replying as sessions
+use Rattle.vr_rules.specs.Deciding.{first_of, is_in_flight, request_table, session_answer}
+use Rattle.vr_rules.specs.declared.rule.Rule.{Rule}
+use Rattle.vr_rules.specs.declared.rule.Rule.TheVariants.{Ignored, Redirected, Behind, InFlight, Answered, Full, Made}
+use Rattle.vr_rules.specs.Outputs.{replies}
+use Rattle.vr_rules.specs.declared.asker.Asker.{Asker}
 use Rattle.vr_rules.specs.Replica.{Replica, head, is_primary, is_started, last_view, leads}
 use Rattle.vr_rules.specs.Rules.{asker_by, make, next_entry, obey_request, on_request, stored_reply}
 use Rattle.vr_rules.specs.Steps.{by}
@@ -133,7 +136,7 @@ answer_is q r x a h k = rw k at h
 
 pub answer_fits : (q : RequestFields) (r : Replica) (x : RequestRule) (a : SessionAnswer) → IsReady r → Answers x q r → x ≡ rule.Answered a → HasNumber a
 unfolding IsReady
-answer_fits q r x a h i k = rw (answer_is q r x a i k) (sessions.answer_numbered r.state.sessions q.client q.request h.numbers)
+answer_fits q r x a h i k = rw (answer_is q r x a i k) (sessions.answer_numbered r.state.sessions q.client q.request h.sound.numbers)
 
 stored_said : (a : Asker) (x : SessionAnswer) (r : Replica) (d : Option Disk) (o o' : List Output) → o' ≡ o ++ stored_replies a x r → Does (stored_reply a x) r r d d o o' (Ok tt)
 stored_said a answer.Fresh r d o o' e = rw (e, append-nil o) (does_quiet r d o)

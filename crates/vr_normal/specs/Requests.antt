@@ -4,8 +4,10 @@ use Rattle.vr_msg.specs.declared.output.Output.{Output}
 use Rattle.vr_msg.specs.declared.reply.ReplyKind.TheVariants as reply
 use Rattle.vr_msg.specs.declared.request.RequestFields.{RequestFields}
 use Rattle.vr_msg.specs.Normal.{last_op, pipeline}
-use Rattle.vr_rules.specs.Deciding.{Table, Answered, Full, Made, session_answer}
-use Rattle.vr_rules.specs.Outputs.{Asker, replies}
+use Rattle.vr_rules.specs.Deciding.{Table, session_answer}
+use Rattle.vr_rules.specs.declared.rule.Rule.TheVariants.{Answered, Full, Made}
+use Rattle.vr_rules.specs.Outputs.{replies}
+use Rattle.vr_rules.specs.declared.asker.Asker.{Asker}
 use Rattle.vr_rules.specs.Replica.{Replica, head}
 use Rattle.vr_sess.specs.Asks.{is_fresh}
 use Rattle.vr_sess.specs.declared.session.SessionAnswer.{SessionAnswer}

@@ -2,7 +2,8 @@
 ghost use Rattle.std.specs.Prelude.{◌≡◌, ◌<◌, ◌≤◌, ◌+◌, ◌^◌, ◌&&◌, ◌==◌, nat_le, nat_lt, OnOk};
 ghost use Rattle.vr_base.specs.Bytes.{name_of};
 ghost use Rattle.vr_journal.specs.Ready.{IsReady};
-ghost use Rattle.vr_rules.specs.Deciding.{Counted, first_of, is_named, prepare_ok_table};
+ghost use Rattle.vr_rules.specs.Deciding.{first_of, is_named, prepare_ok_table};
+ghost use Rattle.vr_rules.specs.declared.rule.Rule.TheVariants.{Counted};
 ghost use Rattle.vr_rules.specs.Replica.{head, leads};
 ghost use Rattle.vr_rules.specs.Rules.{acknowledged, on_prepare_ok};
 ghost use Rattle.vr_rules.specs.Steps.{◌⨾◌, change};

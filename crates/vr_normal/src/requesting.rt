@@ -12,7 +12,7 @@ ghost use Rattle.vr_rules.specs.Rules.{asker_by, on_request};
 ghost use Rattle.vr_rules.specs.Words.{is_loaded};
 ghost use Rattle.vr_sess.specs.Asks.{is_fresh};
 ghost use Rattle.vr_step.specs.Does.{Caused, Does};
-ghost use Rattle.vr_model.specs.Sound.{HasNumber};
+ghost use Rattle.vr_rules.proofs.Replying.{HasNumber};
 ghost use Rattle.vr_normal.specs.Named.{request_rule};
 ghost use Rattle.vr_normal.specs.Requests.{Answers, open_rows, stored_replies};
 ghost use Rattle.vr_normal.specs.Words.{any_of, is_of};
