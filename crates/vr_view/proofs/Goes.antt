@@ -31,17 +31,16 @@ module _ (w : ℕ → Word Face) (c h : ℕ) where
   over_goes i op r r' r'' d d' d'' o o' o'' g l e k =
       going_goes w (ops c h) i 0 r r' r'' d d' d'' o o' o'' (rw size l) g (subst (λ x. Does (w x) r' r'' d' d'' o' o'' (Ok tt)) (rw (nth i l) e) k)
 
-  pub over_stops : (i op : ℕ) (r r' r'' s : Replica) (d d' d'' : Option Disk) (o o' o'' p : List Output) (e : Halt)
-      → GoesOver w c h i r r' d d' o o' → i < h - c → op ≡ c + 1 + i → c ≡ r.commit → Does (w op) r' r'' d' d'' o' o'' (Err e) → Does (by (λ (x : Replica). each w (ops x.commit h))) r s d d'' o p (Err e)
+  pub over_stops : (i op top : ℕ) (r r' r'' s : Replica) (d d' d'' : Option Disk) (o o' o'' p : List Output) (e : Halt)
+      → GoesOver w c h i r r' d d' o o' → i < h - c → op ≡ c + 1 + i → c ≡ r.commit → h ≡ top → Does (w op) r' r'' d' d'' o' o'' (Err e) → Does (by (λ (x : Replica). each w (ops x.commit top))) r s d d'' o p (Err e)
   unfolding GoesOver
-  over_stops i op r r' r'' s d d' d'' o o' o'' p e g l q b k =
-      does_by _ r s d d'' o p (Err e) (subst (λ x. Does (each w (ops x h)) r s d d'' o p (Err e)) b
+  over_stops i op top r r' r'' s d d' d'' o o' o'' p e g l q b t k =
+      does_by _ r s d d'' o p (Err e) (rw (← b, ← t)
       (going_stops w (ops c h) i 0 r r' r'' s d d' d'' o o' o'' p e (rw size l) g (subst (λ x. Does (w x) r' r'' d' d'' o' o'' (Err e)) (rw (nth i l) q) k)))
 
-  pub over_ends : (i : ℕ) (r r' : Replica) (d d' : Option Disk) (o o' : List Output) → GoesOver w c h i r r' d d' o o' → h - c ≤ i → c ≡ r.commit
-      → Does (by (λ (x : Replica). each w (ops x.commit h))) r r' d d' o o' (Ok tt)
+  pub over_ends : (i top : ℕ) (r r' : Replica) (d d' : Option Disk) (o o' : List Output) → GoesOver w c h i r r' d d' o o' → h - c ≤ i → c ≡ r.commit → h ≡ top
+      → Does (by (λ (x : Replica). each w (ops x.commit top))) r r' d d' o o' (Ok tt)
   unfolding GoesOver
-  over_ends i r r' d d' o o' g l b =
-      does_by _ r r' d d' o o' (Ok tt) (subst (λ x. Does (each w (ops x h)) r r' d d' o o' (Ok tt)) b (going_ends w (ops c h) i r r' d d' o o' (rw size l) g))
+  over_ends i top r r' d d' o o' g l b t = does_by _ r r' d d' o o' (Ok tt) (rw (← b, ← t) (going_ends w (ops c h) i r r' d d' o o' (rw size l) g))
 
 pub ruleset goes = (over_begins, over_goes, over_stops, over_ends)

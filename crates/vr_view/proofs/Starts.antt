@@ -68,8 +68,8 @@ acking_goes c h i op r o o' o'' g l e k = record {
   every = λ d. over_goes (acknowledge_stored name_of) c h i op r r r d d d o o' o'' (g.every d) l e (part_acked (part_at r op) op r d o' o'' refl k);
 }
 
-pub acking_ends : (c h i : ℕ) (r : Replica) (o o' : List Output) → Acking c h i r o o' → h - c ≤ i → c ≡ r.commit → Tells (by (λ (x : Replica). each (acknowledge_stored name_of) (ops x.commit h))) r o o'
-acking_ends c h i r o o' g l b = record { every = λ d. over_ends (acknowledge_stored name_of) c h i r r d d o o' (g.every d) l b }
+pub acking_ends : (c h i top : ℕ) (r : Replica) (o o' : List Output) → Acking c h i r o o' → h - c ≤ i → c ≡ r.commit → h ≡ top → Tells (by (λ (x : Replica). each (acknowledge_stored name_of) (ops x.commit top))) r o o'
+acking_ends c h i top r o o' g l b t = record { every = λ d. over_ends (acknowledge_stored name_of) c h i top r r d d o o' (g.every d) l b t }
 
 pub ruleset acks = (acking_begins, acking_goes, acking_ends)
 

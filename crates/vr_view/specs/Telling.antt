@@ -1,15 +1,17 @@
 -- What is told in the course of a word that leaves replica and disk as they are.
-use Rattle.std.specs.Prelude.{ℕ, List, Option, Ok}
+use Rattle.std.specs.Prelude.{List, Option, Ok}
 use Rattle.vr_disk.specs.DiskState.{Disk, Face}
 use Rattle.vr_msg.specs.declared.output.Output.{Output}
 use Rattle.vr_rules.specs.Replica.{Replica}
-use Rattle.vr_rules.specs.Steps.{Word}
-use Rattle.vr_step.specs.Does.{Does, Going}
+use Rattle.vr_header.specs.Made.{Whole}
+use Rattle.vr_rules.specs.Outputs.{prepare, send_to_all}
+use Rattle.vr_rules.specs.Steps.{Word, says}
+use Rattle.vr_step.specs.Does.{Does}
 
 -- these outputs are the word's, on any disk
 pub record Tells (w : Word Face) (r : Replica) (o o' : List Output) : Type 0 where
   pub every : (d : Option Disk) → Does w r r d d o o' (Ok tt)
 
--- in the middle of a loop that does a word for each of a list
-pub record GoesOn {X : Type 0} (w : X → Word Face) (xs : List X) (i : ℕ) (r : Replica) (o o' : List Output) : Type 0 where
-  pub every : (d : Option Disk) → Going w xs i r r d d o o'
+-- an entry is prepared to all others
+unfoldable pub again : {F : Type 0} → Whole → Word F
+again e = says (send_to_all (prepare e))
