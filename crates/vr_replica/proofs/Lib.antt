@@ -2,3 +2,4 @@ pub mod Ticks
 pub mod Reacts
 pub mod Reads
 pub mod Forms
+pub mod Stopped
