@@ -6,14 +6,14 @@ top=$(cd "$(dirname "$0")/.." && pwd)
 work=$(mktemp -d)
 trap 'rm -rf "$work"' EXIT
 mkdir "$work/crates"
-for name in vr_base vr_header vr_msg; do
+for name in vr_base vr_header vr_msg vr_codec; do
     cp -r "$top/crates/$name" "$work/crates/$name"
 done
 cp -r "$top/bench/codec" "$work/crates/codec_bench"
 # Sources of a crate end in .txt here, since no check of the repository reads them.
 find "$work/crates/codec_bench" -name '*.txt' | while read -r file; do mv "$file" "${file%.txt}"; done
-grep -E '^(vr_base|vr_header|vr_msg):' "$top/crates.txt" > "$work/crates.txt"
-echo 'codec_bench: vr_base vr_header vr_msg' >> "$work/crates.txt"
+grep -E '^(vr_base|vr_header|vr_msg|vr_codec):' "$top/crates.txt" > "$work/crates.txt"
+echo 'codec_bench: vr_base vr_header vr_msg vr_codec' >> "$work/crates.txt"
 cd "$work/crates/codec_bench"
 rt run --jobs 1
 # Instructions of one piece of work.

@@ -51,9 +51,7 @@ fn main(rt: HostRuntime) -> ExitCode {
         Ok(line) => {
             let _ = eprintln!(rt; "{line}");
         }
-        Err(AllocError) => {
-            let _ = eprintln!(rt; "{status}");
-        }
+        Err(AllocError) => {}
     }
     ExitCode::from(code(&status))
 }

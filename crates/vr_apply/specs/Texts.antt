@@ -1,5 +1,5 @@
 -- The two texts of a state.
-use Rattle.std.specs.Prelude.{ℕ, ◌+◌, ◌/◌, ◌≤◌, ◌⊎◌, length, Result, Ok, Err}
+use Rattle.std.specs.Prelude.{ℕ, ◌≡◌, ◌+◌, ◌/◌, ◌≤◌, ◌⊎◌, length, Result, Ok, Err}
 use Rattle.std.specs.Ordering.{nat_cmp}
 use Rattle.vr_kv.specs.Pairs.{pair_text, kv_text, kv_decoded}
 use Rattle.vr_kv.specs.Pairs as pairs
@@ -24,6 +24,10 @@ both_read (Ok sessions) (Ok machine) = Ok (record { sessions = sessions; machine
 -- the state of these texts, or the first fault
 abbrev pub state_decoded : Texts → Result State StateFault
 state_decoded t = both_read (sessions_decoded t.sessions) (kv_decoded t.keys)
+
+-- what is read of any texts has numbers that an entry may have
+abbrev pub TextsHaveNumbers : Type 0
+TextsHaveNumbers = (t : Texts) (s : State) → state_decoded t ≡ Ok s → sess.HaveNumbers s.sessions
 
 -- the sessions' text is one, and the fault is the first of the keys'
 pub record IsFaultOfKeys (t : Texts) (fault : StateFault) : Type 0 where

@@ -5,7 +5,7 @@ ghost use Rattle.vr_kv.specs.Kv.{IsKv};
 ghost use Rattle.vr_sess.specs.Sessions.{checked, IsSessions};
 ghost use Rattle.vr_table.specs.Table.{IsOrNoMemory};
 ghost use Rattle.vr_apply.specs.Folds.{empty, applied, executed, answered, state_after, LeavesOneTable, EachOnce};
-ghost use Rattle.vr_apply.specs.Texts.{texts_of, state_decoded, IsFirstFaultOf, FitsPayloads};
+ghost use Rattle.vr_apply.specs.Texts.{texts_of, state_decoded, IsFirstFaultOf, FitsPayloads, TextsHaveNumbers};
 ghost use Rattle.vr_apply.specs.declared.state.State.{State};
 
 use crate::codec::Texts;
@@ -111,10 +111,12 @@ impl State {
         Ok(Texts { sessions, keys })
     }
 
-    /// The state of these texts, or the first fault: that of the sessions' text before that of the keys'.
+    /// The state of these texts, or the first fault: that of the sessions' text before that of the keys'. Each session's op
+    /// is at most 2^62.
     pub fn decode_state(alloc: Global, texts: &Texts) -> Result<State, StateFault>
         ensures decoded { IfOk result (λ state. state_decoded texts.now ≡ Ok state) }
         ensures texts { IfOk result (λ state. texts_of state ≡ texts.now) }
+        ensures numbers { TextsHaveNumbers }
         ensures fault { IfErr result (IsOrNoMemory (state_decoded texts.now)) }
         ensures first { IfErr result (IsFirstFaultOf texts.now) }
     {

@@ -1,5 +1,8 @@
+pub mod AreBytes
 pub mod Count
 pub mod FieldLaws
 pub mod Places
 mod Rows
+pub mod Sets
 pub mod Writing
+pub mod ZeroLaws

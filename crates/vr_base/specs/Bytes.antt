@@ -1,5 +1,6 @@
 -- Names, fields and numbers as bytes.
-use Rattle.std.specs.Prelude.{ℕ, ◌<◌, List, [], ◌∷◌, ◌++◌, take, drop, slice_index}
+use Rattle.std.specs.Prelude.{ℕ, ◌≡◌, ◌<◌, Bool, ◌==◌, List, [], ◌∷◌, ◌++◌, length, take, drop, slice_index}
+use Rattle.std.specs.List.{list_all}
 use Rattle.std.specs.Int.{Width, byte_len, from_be_bytes, to_be_bytes, w16, w32, w64}
 unfoldable pub use Rattle.sha2.specs.Sha256.{sha256, first_words, schedule, rounds, compress, hash_after, digest_bytes}
 
@@ -33,3 +34,11 @@ joined (p ∷ ps) = p ++ joined ps
 -- each is a byte's value
 abbrev pub IsBytes : List ℕ → Type 0
 IsBytes bytes = (i : ℕ) → slice_index bytes i < 256
+
+-- each is 0
+abbrev pub is_zeros : List ℕ → Bool
+is_zeros bytes = list_all (λ b. b == 0) bytes
+
+-- what was there still begins it
+abbrev pub KeepsFront : List ℕ → List ℕ → Type 0
+KeepsFront before now = take (length before) now ≡ before

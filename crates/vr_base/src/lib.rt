@@ -9,6 +9,7 @@ mod replicas;
 mod seq;
 mod sum;
 mod table;
+mod zeros;
 
 pub use fields::{put, put_sum, put_u16, put_u32, put_u64, sum_at, u16_at, u32_at, u64_at};
 pub use groups::quorums;
@@ -17,3 +18,4 @@ pub use replicas::Replicas;
 pub use seq::{ByteList, Seq};
 pub use sum::{Sum, checksum, checksum_of_parts};
 pub use table::{Config, Quorums};
+pub use zeros::is_zeros;

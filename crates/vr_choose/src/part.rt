@@ -1,7 +1,5 @@
 //! What one statement says of one op.
 ghost use Rattle.std.specs.Prelude.{◌≡◌};
-ghost use Rattle.vr_header.specs.Same.{same_header};
-ghost use Rattle.vr_msg.specs.Logs.{header_of};
 ghost use Rattle.vr_msg.specs.Choice.{part_at, header_at, is_here, denies_as_newest, denies_named, denies_by};
 
 use vr_header::{Header, Part};
@@ -23,37 +21,18 @@ fn part_at(k: u64, s: &Statement) -> Part
     }
 }
 
-fn header_of(part: &Part) -> Option<Header>
-    ensures { result ≡ header_of part.now }
-{
-    match part {
-        Part::Here(h) => Some(*h),
-        Part::Lost(h) => Some(*h),
-        Part::Wanted(h) => Some(*h),
-        Part::Unknown => None,
-        Part::Nothing => None,
-    }
-}
-
 /// The header that the statement knows of op `k`.
 pub fn header_at(k: u64, s: &Statement) -> Option<Header>
     ensures { result ≡ header_at k s.now }
 {
-    header_of(&part_at(k, s))
-}
-
-#[tactic(auto, unfolding(vr_header::specs::Same::same_header))]
-fn same_header(a: &Header, b: &Header) -> bool
-    ensures { result ≡ same_header a.now b.now }
-{
-    a == b
+    part_at(k, s).header()
 }
 
 fn is_here(e: &Header, part: &Part) -> bool
     ensures { result ≡ is_here e.now part.now }
 {
     match part {
-        Part::Here(h) => same_header(h, e),
+        Part::Here(h) => h.is(e),
         _ => false,
     }
 }
@@ -75,8 +54,8 @@ fn denies_named(e: &Header, part: &Part) -> bool
     ensures { result ≡ denies_named e.now part.now }
 {
     match part {
-        Part::Here(h) => !same_header(h, e),
-        Part::Lost(h) => !same_header(h, e),
+        Part::Here(h) => !h.is(e),
+        Part::Lost(h) => !h.is(e),
         Part::Wanted(_) => true,
         Part::Unknown => false,
         Part::Nothing => true,

@@ -20,7 +20,7 @@ damaged_byte bytes i h =
       | inr g ↦ rw (get_or_past (damaged bytes) i 0 (let n = length-map bytes (λ b. bit_xor b 255) in omega arith)) (omega arith)
     ]
 
-damaged_content : (bytes : List ℕ) → IsContent bytes → IsContent (damaged bytes)
+pub damaged_content : (bytes : List ℕ) → IsContent bytes → IsContent (damaged bytes)
 damaged_content bytes h = record { size = length-map bytes (λ b. bit_xor b 255) ∙ h.size; each = λ i. damaged_byte bytes i h.each }
 
 pub there : (f : Face) (i : ℕ) → IsFace f → i < 1424 → IsCell (cell f i)

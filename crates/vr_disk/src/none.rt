@@ -4,7 +4,7 @@ ghost use Rattle.vr_base.specs.Causes.{HasCause};
 
 use crate::{DiskFailed, Sector, SectorDisk};
 
-/// A disk that isn't there: each call fails and raises its count.
+/// A disk that isn't there: each call fails and adds one to its count.
 #[derive(Drop)]
 pub struct NoDisk {
     faults: u64,

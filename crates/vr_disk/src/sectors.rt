@@ -1,7 +1,7 @@
 //! Sectors one behind the other, written and read together.
-ghost use Rattle.std.specs.Prelude.{◌≡◌, ◌≤◌, ◌<◌, ◌+◌, ◌*◌, Some, None, false, if◌then◌else◌, length, IfSome, is_ok};
+ghost use Rattle.std.specs.Prelude.{◌≡◌, ◌≤◌, ◌<◌, ◌+◌, ◌*◌, Some, None, if◌then◌else◌, length, IfSome, is_ok};
 ghost use Rattle.vr_base.specs.Bytes.{piece};
-ghost use Rattle.vr_base.specs.Causes.{HasCause, Rose};
+ghost use Rattle.vr_base.specs.Causes.{HasCause, one_more};
 ghost use Rattle.vr_disk.specs.DiskState.{Runs, reads};
 ghost use Rattle.vr_disk.specs.Sectors.{has, together, writes};
 
@@ -45,7 +45,7 @@ pub fn read_sectors<D: SectorDisk>(disk: &mut D, at: u32, count: u32, to: &mut [
     ensures told { D.told disk.new ≡ D.told disk.old }
     ensures faults { D.faults disk.new ≡ D.faults disk.old }
     ensures value { IfSome (D.told disk.old) (λ d. together at count d.face ≡ (if result then Some to.new else None)) }
-    ensures cause { result ≡ false → Rose (D.read_faults disk.old) (D.read_faults disk.new) }
+    ensures cause { D.read_faults disk.new ≡ (if result then D.read_faults disk.old else one_more (D.read_faults disk.old)) }
 {
     let mut sector = Sector { bytes: [0; 512] };
     for k in 0..count {

@@ -1,9 +1,8 @@
 //! A sink in memory.
-ghost use Rattle.std.specs.Prelude.{◌≡◌, ◌≤◌, ◌<◌, [], Some, IfOk, length, vec_len, vec_capacity, if◌then◌else◌};
+ghost use Rattle.std.specs.Prelude.{◌≡◌, ◌≤◌, [], Some, IfOk, length, vec_len, vec_capacity, if◌then◌else◌};
 ghost use Rattle.std.specs.Io.{WritesAtMost};
 ghost use Rattle.std.specs.Io.KnownBytes.{WriteAppends};
-ghost use Rattle.vr_base.specs.Causes.{HasCause, Rose};
-ghost use Rattle.vr_edge.specs.Counts.{one_more};
+ghost use Rattle.vr_edge.specs.Counts.{HasWriteCause, one_more};
 
 use crate::calls::is_listed;
 use crate::{Sink, WriteFailed};
@@ -58,8 +57,7 @@ impl Sink for MemSink {
     fn write(&mut self, from: &[u8]) -> Result<usize, WriteFailed>
         ensures bound { WritesAtMost result from.now }
         ensures bytes { WriteAppends (⟦<MemSink as Sink>⟧.taken self.old) (⟦<MemSink as Sink>⟧.taken self.new) result from.now }
-        ensures cause { HasCause self.old.faults self.new.faults result }
-        ensures none { result ≡ Ok 0 → 0 < length from.now → Rose self.old.faults self.new.faults }
+        ensures cause { HasWriteCause self.old.faults self.new.faults (length from.now) result }
         ensures result { result ≡ sink_takes self.old (length from.now) }
         ensures calls { self.new.calls ≡ one_more self.old.calls }
         ensures failing { self.new.failing ≡ self.old.failing }

@@ -1,8 +1,8 @@
 //! A sink of bytes.
-ghost use Rattle.std.specs.Prelude.{◌≡◌, List, ℕ, Option, ◌<◌, length};
+ghost use Rattle.std.specs.Prelude.{List, ℕ, Option, length};
 ghost use Rattle.std.specs.Io.{WritesAtMost};
 ghost use Rattle.std.specs.Io.KnownBytes.{WriteAppends};
-ghost use Rattle.vr_base.specs.Causes.{HasCause, Rose};
+ghost use Rattle.vr_edge.specs.Counts.{HasWriteCause};
 
 use thiserror::Error;
 
@@ -15,7 +15,7 @@ pub trait Sink {
     /// The bytes that were taken, where the sink tells them.
     ghost taken: { Self → Option (List ℕ) };
 
-    /// How often a write has failed.
+    /// How often a write has failed, or has taken nothing of a piece that is not empty.
     ghost faults: { Self → ℕ };
 
     /// Takes bytes from the front of `from`, and returns how many. 0 of a piece that is not empty is a fault
@@ -23,6 +23,5 @@ pub trait Sink {
     fn write(&mut self, from: &[u8]) -> Result<usize, WriteFailed>
         ensures bound { WritesAtMost result from.now }
         ensures bytes { WriteAppends (taken self.old) (taken self.new) result from.now }
-        ensures cause { HasCause (faults self.old) (faults self.new) result }
-        ensures none { result ≡ Ok 0 → 0 < length from.now → Rose (faults self.old) (faults self.new) };
+        ensures cause { HasWriteCause (faults self.old) (faults self.new) (length from.now) result };
 }

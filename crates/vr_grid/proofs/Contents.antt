@@ -6,7 +6,9 @@ use Rattle.std.specs.Cmp.Lexicographic.{pointwise}
 use Rattle.std.proofs.lemmas.Bool.{and_parts, and_from, eqb-true, eq-eqb, leb-true, le-leb, ltb-true, lt-ltb}
 use Rattle.std.proofs.lemmas.List.{take_at, drop_at, take-append-drop, take-take, drop-drop, length-replicate}
 use Rattle.std.proofs.lemmas.Slice.Eq.{bytes_eq-Decides}
-use Rattle.vr_base.specs.Bytes.{IsBytes, name_of, piece}
+use Rattle.vr_base.specs.Bytes.{IsBytes, is_zeros, name_of, piece}
+use Rattle.vr_base.proofs.ZeroLaws.{are_zeros, zeros_are}
+use Rattle.vr_base.proofs.AreBytes.{IsBytes-name_of, IsBytes-zeros}
 use Rattle.vr_base.proofs.FieldLaws.{length-name_of, length-piece}
 use Rattle.vr_header.specs.Names.{header_name}
 use Rattle.vr_header.specs.Same.{same_header}
@@ -16,19 +18,9 @@ use Rattle.vr_header.specs.declared.header.HeaderFault.{HeaderFault}
 use Rattle.vr_header.proofs.HeaderLaws.{decoded_again, decoded_found, length-header_bytes}
 use Rattle.vr_header.proofs.NameLaws.{one_header_of_bytes}
 use Rattle.vr_header.proofs.SameHeaders.{same_header_is, same_header_of}
-use Rattle.vr_grid.specs.Blocks.{Content, IsContent, block_bytes, block_header, block_name, content_at, content_of, has_name, if_named, is_block, is_kind, is_zeros, named, with_header}
+use Rattle.vr_grid.specs.Blocks.{Content, IsContent, block_bytes, block_header, block_name, content_at, content_of, has_name, if_named, is_block, is_kind, named, with_header}
 use Rattle.vr_grid.specs.Laws.{OneBlock, OneSpelling, OwnNames}
 use Rattle.vr_grid.specs.declared.name.Name.{Name}
-
--- ---- zeros
-
-zeros_are : (n : ℕ) → is_zeros (replicate n 0) ≡ true
-zeros_are zero = refl
-zeros_are (suc n) = zeros_are n
-
-are_zeros : (b : List ℕ) → is_zeros b ≡ true → b ≡ replicate (length b) 0
-are_zeros [] e = refl
-are_zeros (x ∷ b) e = let p = and_parts (eqb x 0) (is_zeros b) e in ap (λ y. x ∷ y) (are_zeros b p.1) ∙ ap (λ y. y ∷ replicate (length b) 0) (eqb-true x 0 p.0)
 
 -- ---- the header
 
@@ -47,8 +39,11 @@ header_is c h =
     let k = kind_below c.kind h.kind in
     record {
       body = length-name_of c.payload;
+      body_bytes = IsBytes-name_of c.payload;
       parent = refl;
+      parent_bytes = IsBytes-zeros 16;
       request_name = refl;
+      request_name_bytes = IsBytes-zeros 16;
       cluster = h.cluster;
       client = omega arith;
       request = omega arith;

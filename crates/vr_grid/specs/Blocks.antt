@@ -1,8 +1,7 @@
 -- Blocks of 4,096 bytes: what one holds, its name, and its bytes both ways.
 use Rattle.std.specs.Prelude.{ℕ, ◌+◌, ◌-◌, ◌^◌, ◌≤◌, ◌<◌, ◌≡◌, Bool, true, ◌&&◌, ◌||◌, ◌==◌, nat_eq, nat_le, nat_lt, if◌then◌else◌, List, ◌++◌, length, drop, replicate, Option, None, Some, Result, Ok, Err}
 use Rattle.std.specs.Cmp.Lexicographic.{pointwise}
-use Rattle.std.specs.List.{list_all}
-use Rattle.vr_base.specs.Bytes.{name_of, piece}
+use Rattle.vr_base.specs.Bytes.{is_zeros, name_of, piece}
 use Rattle.vr_header.specs.Names.{header_name, no_name}
 use Rattle.vr_header.specs.Same.{same_header}
 use Rattle.vr_header.specs.Spelling.{decoded, header_bytes}
@@ -65,9 +64,6 @@ unfoldable pub block_of : Content → Block
 block_of c = record { name = block_name c; bytes = block_bytes c }
 
 -- ---- the content of bytes
-
-abbrev pub is_zeros : List ℕ → Bool
-is_zeros bytes = list_all (λ b. b == 0) bytes
 
 -- what stands behind a header
 abbrev pub content_at : Header → List ℕ → Content

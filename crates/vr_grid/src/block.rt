@@ -13,6 +13,9 @@ pub const DATA: u8 = 2;
 /// The kind of a block that names the others of its checkpoint.
 pub const ROOT: u8 = 3;
 
+/// How many bytes a block has.
+pub const BLOCK_SIZE: usize = 4096;
+
 /// The greatest number of bytes in a payload.
 pub const PAYLOAD_SIZE: usize = 3968;
 

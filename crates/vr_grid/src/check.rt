@@ -5,18 +5,12 @@ ghost use Rattle.std.specs.Cmp.Lexicographic.{pointwise};
 ghost use Rattle.vr_base.specs.Bytes.{piece};
 ghost use Rattle.vr_header.specs.Names.{header_name};
 ghost use Rattle.vr_header.specs.Spelling.{decoded};
-ghost use Rattle.vr_grid.specs.Blocks.{block_header, is_block, is_kind, is_zeros, named};
+ghost use Rattle.vr_grid.specs.Blocks.{block_header, is_block, is_kind, named};
 
 use crate::Name;
 use crate::block::block_header;
-use vr_base::sum_at;
+use vr_base::{is_zeros, sum_at};
 use vr_header::{Header, decode};
-
-fn is_zeros(bytes: &[u8]) -> bool
-    ensures { result ≡ is_zeros bytes.now }
-{
-    bytes.iter().all(|b| *b == 0)
-}
 
 fn is_kind(kind: u8) -> bool
     ensures { result ≡ is_kind kind }

@@ -6,14 +6,16 @@ mod check;
 mod fault;
 mod laws;
 mod name;
+mod naming;
 mod reading;
 mod view;
 mod writing;
 
-pub use block::{Block, DATA, PAYLOAD_AT, PAYLOAD_SIZE, ROOT};
+pub use block::{BLOCK_SIZE, Block, DATA, PAYLOAD_AT, PAYLOAD_SIZE, ROOT};
 pub use fault::CkptFault;
 pub use laws::grid_laws;
 pub use name::{Name, NameList};
+pub use naming::is_block_of;
 pub use reading::read_block;
 pub use view::{BlockView, view_of};
 pub use writing::{put_block, write_at, write_block};

@@ -49,7 +49,7 @@ pub fn write_block<D: SectorDisk>(
     }
 }
 
-/// Puts a whole block of 4,096 bytes to the address of its name, and syncs it; it takes no memory.
+/// Puts a whole block of 4,096 bytes, which `is_block_of` tells, to the address of its name, and syncs it; it takes no memory.
 #[tactic(auto, using(vr_disk::proofs::Running::Runs_then, vr_disk::proofs::Running::Runs_stopped), unfolding(crate::specs::Grid::put_calls))]
 pub fn put_block<D: SectorDisk>(disk: &mut D, name: &Name, block: &[u8]) -> Result<(), DiskFault>
     requires { is_some (named name.now block.now) ≡ true }

@@ -3,8 +3,8 @@ ghost use Rattle.std.specs.Prelude.{◌≡◌};
 use std::test::Fail;
 use vr_base::{Replicas, Sum};
 use vr_header::{Entry, Header, Operation};
-use vr_msg::{Prepare, PrepareOk, Request, RequestFields, Summary};
 use vr_memory_rules::{advance, first_decides, on_prepare, on_prepare_ok, on_request};
+use vr_msg::{Prepare, PrepareOk, Request, RequestFields, Summary};
 
 /// Replica `index` of 3 in view 1, which replica 1 leads, with ops 1 to 5, of which 3 are committed.
 fn summary(index: u8) -> Summary

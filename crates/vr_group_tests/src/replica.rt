@@ -2,8 +2,8 @@ use std::alloc::{AllocError, Global};
 use std::test::Fail;
 use vr_base::Seq;
 use vr_header::Operation;
-use vr_msg::{Event, Frame, Message, Outbox, Output, ReplyKind, Request, RequestFields, Sent};
 use vr_memory::Replica;
+use vr_msg::{Event, Frame, Message, Outbox, Output, ReplyKind, Request, RequestFields, Sent};
 
 /// Client 7 registers.
 fn register() -> Request {

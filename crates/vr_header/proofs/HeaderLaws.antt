@@ -7,7 +7,7 @@ use Rattle.std.proofs.lemmas.Bool.{le-ltb}
 use Rattle.std.proofs.lemmas.List.{take_at, drop_at, take-append-drop}
 use Rattle.std.proofs.lemmas.Slice.Eq.{bytes_eq-Decides}
 use Rattle.vr_base.specs.Bytes.{IsBytes, bytes32, bytes64, joined, name_of, number, piece}
-use Rattle.vr_base.proofs.FieldLaws.{length-name_of, length-bytes32, length-bytes64, number32_of, number64_of, number32_back, number64_back, length-piece, byte_of, byte_back}
+use Rattle.vr_base.proofs.FieldLaws.{IsBytes-piece, length-name_of, length-bytes32, length-bytes64, number32_of, number64_of, number32_back, number64_back, length-piece, byte_of, byte_back}
 use Rattle.vr_base.proofs.Places.{BeginsWith, cut, joined-cut, length-joined, piece_there, place, take_both, total, widths}
 use Rattle.vr_header.specs.declared.command.Command.{Command}
 use Rattle.vr_header.specs.declared.command.Command.TheVariants.{Reserved, Root, Entry, Request, Reply, Prepare, PrepareOk, Commit, StartViewChange, DoViewChange, StartView, GetView, GetPrepare, GivePrepare, GetBlock, GiveBlock, Block}
@@ -181,8 +181,11 @@ fits : (b : List ℕ) → IsBytes b → IsSound b → IsHeader (header_at b)
 unfolding header_at
 fits b f s = record {
   body = length-piece 16 16 b (omega (arith, s.long));
+  body_bytes = IsBytes-piece 16 16 b f;
   parent = length-piece 32 16 b (omega (arith, s.long));
+  parent_bytes = IsBytes-piece 32 16 b f;
   request_name = length-piece 48 16 b (omega (arith, s.long));
+  request_name_bytes = IsBytes-piece 48 16 b f;
   cluster = (number64_back 64 b f (omega (arith, s.long))).1;
   client = (number64_back 72 b f (omega (arith, s.long))).1;
   request = (number32_back 80 b f (omega (arith, s.long))).1;

@@ -1,3 +1,4 @@
+pub mod AreBytes
 pub mod BodyLaws
 pub mod EntryLaws
 pub mod Faults

@@ -2,6 +2,7 @@ pub mod Bodies
 pub mod Made
 pub mod Names
 pub mod NoCollision
+pub mod Parts
 pub mod Same
 pub mod Spelling
 pub mod Text

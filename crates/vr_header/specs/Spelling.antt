@@ -3,7 +3,7 @@ use Rattle.std.specs.Prelude.{ℕ, suc, zero, ◌^◌, ◌<◌, ◌≤◌, ◌�
 use Rattle.std.specs.Option.{option_map_or}
 use Rattle.std.specs.Int.{w32, w64}
 use Rattle.std.specs.Cmp.Lexicographic.{pointwise}
-use Rattle.vr_base.specs.Bytes.{bytes32, bytes64, joined, name_of, number, piece}
+use Rattle.vr_base.specs.Bytes.{IsBytes, bytes32, bytes64, joined, name_of, number, piece}
 use Rattle.vr_header.specs.declared.command.Command.{Command}
 use Rattle.vr_header.specs.declared.command.Command.TheVariants.{Reserved, Root, Entry, Request, Reply, Prepare, PrepareOk, Commit, StartViewChange, DoViewChange, StartView, GetView, GetPrepare, GivePrepare, GetBlock, GiveBlock, Block}
 use Rattle.vr_header.specs.declared.header.Header.{Header}
@@ -64,8 +64,11 @@ is_size n = nat_le 128 n && nat_le n 20480
 -- the values that a header of the program has
 pub record IsHeader (h : Header) : Type 0 where
   pub body : length h.body.0 ≡ 16
+  pub body_bytes : IsBytes h.body.0
   pub parent : length h.parent.0 ≡ 16
+  pub parent_bytes : IsBytes h.parent.0
   pub request_name : length h.request_name.0 ≡ 16
+  pub request_name_bytes : IsBytes h.request_name.0
   pub cluster : h.cluster < 2 ^ 64
   pub client : h.client < 2 ^ 64
   pub request : h.request < 2 ^ 32

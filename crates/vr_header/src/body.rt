@@ -1,6 +1,6 @@
 //! The bytes of operations and outcomes, both ways.
-ghost use Rattle.std.specs.Prelude.{◌≡◌, ◌++◌, ◌+◌, ◌≤◌, Some, IfOk, IfSome, OnOk, is_some, length};
-ghost use Rattle.vr_base.specs.Bytes.{name_of};
+ghost use Rattle.std.specs.Prelude.{◌≡◌, ◌++◌, ◌+◌, ◌≤◌, Some, IfOk, IfSome, OnOk, OnErr, is_some, length};
+ghost use Rattle.vr_base.specs.Bytes.{KeepsFront, name_of};
 ghost use Rattle.vr_header.specs.declared.operation.Operation.{Operation};
 ghost use Rattle.vr_header.specs.declared.outcome.Outcome.{Outcome};
 ghost use Rattle.vr_header.specs.Bodies.{IsOperation, IsOutcome, operation_bytes, operation_of, outcome_bytes, outcome_of};
@@ -22,9 +22,10 @@ impl Operation {
     }
 
     /// Adds the spelling at the end. An `Err` may have added some of it.
-    #[tactic(auto, using(std::proofs::lemmas::Grind::common_steps), unfolding(crate::specs::Bodies::operation_bytes, vr_base::specs::Bytes::bytes16))]
+    #[tactic(auto, using(std::proofs::lemmas::Grind::common_steps, vr_base::proofs::Writing::kept_before), unfolding(crate::specs::Bodies::operation_bytes, vr_base::specs::Bytes::bytes16))]
     pub fn write_body(&self, to: &mut Vec<u8>) -> Result<(), AllocError>
         ensures ok { OnOk result (to.new.items ≡ to.old.items ++ operation_bytes self.now) }
+        ensures front { OnErr result (KeepsFront to.old.items to.new.items) }
         ensures texts { IsOperation self.now }
     {
         match self {
@@ -118,9 +119,10 @@ impl Outcome {
     }
 
     /// Adds the spelling at the end. An `Err` may have added some of it.
-    #[tactic(auto, using(std::proofs::lemmas::Grind::common_steps), unfolding(crate::specs::Bodies::outcome_bytes, vr_base::specs::Bytes::bytes16))]
+    #[tactic(auto, using(std::proofs::lemmas::Grind::common_steps, vr_base::proofs::Writing::kept_before), unfolding(crate::specs::Bodies::outcome_bytes, vr_base::specs::Bytes::bytes16))]
     pub fn write_body(&self, to: &mut Vec<u8>) -> Result<(), AllocError>
         ensures ok { OnOk result (to.new.items ≡ to.old.items ++ outcome_bytes self.now) }
+        ensures front { OnErr result (KeepsFront to.old.items to.new.items) }
         ensures texts { IsOutcome self.now }
     {
         match self {

@@ -1,7 +1,7 @@
 //! Entries of the log.
-ghost use Rattle.std.specs.Prelude.{◌≡◌, ◌+◌, ◌-◌, ◌^◌, ◌<◌, ◌≤◌, ◌++◌, Some, IfOk, IfSome, OnOk, is_some, true};
+ghost use Rattle.std.specs.Prelude.{◌≡◌, ◌+◌, ◌-◌, ◌^◌, ◌<◌, ◌≤◌, ◌++◌, Some, IfOk, IfSome, OnOk, OnErr, is_some, true};
 ghost use Rattle.std.specs.Option.{option_map};
-ghost use Rattle.vr_base.specs.Bytes.{name_of};
+ghost use Rattle.vr_base.specs.Bytes.{KeepsFront, name_of};
 ghost use Rattle.vr_header.specs.Bodies.{IsOperation};
 ghost use Rattle.vr_header.specs.Made.{IsEntry, IsRequest, Whole, entry_bytes, entry_of, made_by};
 ghost use Rattle.vr_header.specs.Spelling.{IsHeader};
@@ -90,9 +90,10 @@ impl Entry {
 
     /// Adds the spelling at the end: the header, and the operation behind it. An `Err` may have added
     /// some of it.
-    #[tactic(auto, using(std::proofs::lemmas::Grind::common_steps), unfolding(crate::specs::Made::entry_bytes))]
+    #[tactic(auto, using(std::proofs::lemmas::Grind::common_steps, vr_base::proofs::Writing::kept_before), unfolding(crate::specs::Made::entry_bytes))]
     pub fn write(&self, to: &mut Vec<u8>) -> Result<(), AllocError>
         ensures ok { OnOk result (to.new.items ≡ to.old.items ++ entry_bytes self.now) }
+        ensures front { OnErr result (KeepsFront to.old.items to.new.items) }
         ensures header { OnOk result (IsHeader self.now.header) }
         ensures operation { OnOk result (IsOperation self.now.operation) }
     {

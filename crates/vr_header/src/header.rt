@@ -58,6 +58,7 @@ impl Header {
     ghost use Rattle.std.specs.Prelude.{◌≡◌, ◌↔◌, IsTrue};
     ghost use Rattle.vr_header.specs.Made.{IsEntryHeader, is_bare, is_entry_header};
     ghost use Rattle.vr_header.specs.Names.{header_name, request_header, root_header};
+    ghost use Rattle.vr_header.specs.Same.{same_header};
 
     /// What op 1 of a group stands on.
     pub fn root(cluster: u64) -> Header
@@ -106,6 +107,14 @@ impl Header {
         ensures { result ≡ header_name self.now }
     {
         name_of_rest(&written(*self))
+    }
+
+    /// Whether the two headers are one.
+    #[tactic(auto, unfolding(crate::specs::Same::same_header))]
+    pub fn is(&self, other: &Header) -> bool
+        ensures { result ≡ same_header self.now other.now }
+    {
+        self == other
     }
 
     /// Whether an entry may have this header.

@@ -16,3 +16,18 @@ pub enum Part {
     /// Nothing was stored.
     Nothing,
 }
+
+impl Part {
+    ghost use Rattle.std.specs.Prelude.{◌≡◌};
+    ghost use Rattle.vr_header.specs.Parts.{header_of};
+
+    /// The header that it knows.
+    pub fn header(&self) -> Option<Header>
+        ensures { result ≡ header_of self.now }
+    {
+        match self {
+            Part::Here(header) | Part::Lost(header) | Part::Wanted(header) => Some(*header),
+            Part::Unknown | Part::Nothing => None,
+        }
+    }
+}

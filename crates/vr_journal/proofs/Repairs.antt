@@ -77,17 +77,16 @@ ready_advanced r q e h =
     rw e (record {
       sound = sound_commit r (r.commit + n) (omega arith) (omega (arith, few, size, known)) h.sound;
       savable = savable_alike r (record r { commit = r.commit + n }) refl h.savable;
-      numbers = h.numbers;
       idle = h.idle;
     })
 
 pub ready_turned : (r q : Replica) → q ≡ turned r → IsReady r → IsReady q
 unfolding IsReady
-ready_turned r q e h = rw e (record { sound = sound_alike r (turned r) refl h.sound; savable = savable_alike r (turned r) refl h.savable; numbers = h.numbers; idle = h.idle })
+ready_turned r q e h = rw e (record { sound = sound_alike r (turned r) refl h.sound; savable = savable_alike r (turned r) refl h.savable; idle = h.idle })
 
 pub ready_dropped : (name : Name) (r q : Replica) → q ≡ without name r → IsReady r → IsReady q
 unfolding IsReady
-ready_dropped name r q e h = rw e (record { sound = (kept_without name r h.sound).sound; savable = savable_alike r (without name r) refl h.savable; numbers = h.numbers; idle = h.idle })
+ready_dropped name r q e h = rw e (record { sound = (kept_without name r h.sound).sound; savable = savable_alike r (without name r) refl h.savable; idle = h.idle })
 
 -- the numbers of a ready replica fit into messages
 pub ready_commit : (r : Replica) → IsReady r → r.commit ≤ 2 ^ 62

@@ -72,9 +72,9 @@ map_shift f g a b zero h = refl
 map_shift f g a b (suc n) h =
     let one : f a ≡ g b = subst (λ k. f k ≡ g b) (omega arith) (subst (λ k. f (a + 0) ≡ g k) (omega arith) (h 0)) in
     let rest = map_shift f g (a + 1) (b + 1) n (λ j.
-        let l : a + suc j ≡ a + 1 + j = omega arith in
-        let m : b + suc j ≡ b + 1 + j = omega arith in
-        subst (λ k. f k ≡ g (b + 1 + j)) l (subst (λ k. f (a + suc j) ≡ g k) m (h (suc j)))) in
+    let l : a + suc j ≡ a + 1 + j = omega arith in
+    let m : b + suc j ≡ b + 1 + j = omega arith in
+    subst (λ k. f k ≡ g (b + 1 + j)) l (subst (λ k. f (a + suc j) ≡ g k) m (h (suc j)))) in
     rw one (ap (λ zs. g b ∷ zs) rest)
 
 pub taken_none : (l : Log) (r : Replica) → r ≡ taken_to l 0 r
@@ -96,7 +96,7 @@ taken_more l i r q p m e k =
     let put : set all i (f i) ≡ xs ++ f i ∷ ys = subst (λ j. set all j (f i) ≡ xs ++ f i ∷ ys) n (row_set xs (drop i r.parts) (f i) ∙ rw rest refl) in
     let more : map f (range_with_len 0 (i + 1)) ≡ xs ++ f i ∷ [] = map-range_with_len_more f 0 i i (omega arith) in
     let parts : set all i (taken_by l r.checkpoint r.log_view (r.first + i) (get_or all i Nothing)) ≡ map f (range_with_len 0 (i + 1)) ++ ys
-        = rw (same, more) (put ∙ sym (append_assoc xs (f i ∷ []) ys)) in
+    = rw (same, more) (put ∙ sym (append_assoc xs (f i ∷ []) ys)) in
     k ∙ rw e (ap (λ zs. record r { parts = zs }) parts)
 
 taken_same : (l : Log) (r : Replica) (j : ℕ) → taken_at l r.checkpoint r.log_view r.first r.parts j ≡ taken_part l r (r.first + j)
@@ -114,7 +114,7 @@ unfolding taken_to
 taken_all l i r q e k =
     let f : ℕ → Part = taken_at l r.checkpoint r.log_view r.first r.parts in
     let whole : map f (range_with_len 0 (length r.parts)) ≡ map (taken_part l r) (range_with_len r.first (length r.parts))
-        = map_shift f (taken_part l r) 0 r.first (length r.parts) (λ j. let z : 0 + j ≡ j = omega arith in rw z (taken_same l r j)) in
+    = map_shift f (taken_part l r) 0 r.first (length r.parts) (λ j. let z : 0 + j ≡ j = omega arith in rw z (taken_same l r j)) in
     k ∙ rw (e, drop_all (length r.parts) r.parts (omega arith), append-nil (map f (range_with_len 0 (length r.parts)))) (ap (λ zs. record r { parts = zs }) whole)
 
 taken_length : (l : Log) (i : ℕ) (r : Replica) → i ≤ length r.parts → length (taken_to l i r).parts ≡ length r.parts

@@ -12,7 +12,9 @@ use std::alloc::{AllocError, Global};
 use vr_base::ByteList;
 use vr_grid::Name;
 use vr_header::{Entry, Header};
-use vr_msg::{GetBlock, GetPrepare, GiveBlock, GivePrepare, Message, Outbox, Output, Prepare, Sent};
+use vr_msg::{
+    GetBlock, GetPrepare, GiveBlock, GivePrepare, Message, Outbox, Output, Prepare, Sent,
+};
 
 impl Replica {
     // The prepare of an entry.
@@ -34,7 +36,12 @@ impl Replica {
 
     /// Prepares an entry to all others.
     #[tactic(auto, using(std::proofs::lemmas::Grind::common_steps, crate::proofs::Sending::sends_more, crate::proofs::Sending::sends_none), unfolding(vr_rules::specs::Outputs::send_to_all, crate::specs::Sends::sends))]
-    pub fn send_prepare(&self, alloc: Global, entry: &Entry, out: &mut Outbox) -> Result<(), AllocError>
+    pub fn send_prepare(
+        &self,
+        alloc: Global,
+        entry: &Entry,
+        out: &mut Outbox,
+    ) -> Result<(), AllocError>
         requires ready { IsReady self.now }
         requires view { self.now.view ≤ last_view }
         requires made { entry.now.header.view ≤ self.now.view }
@@ -69,7 +76,13 @@ impl Replica {
     }
 
     /// Gives a whole block to the replica that asked for it.
-    pub fn give_block(&self, to: u8, address: u64, block: ByteList, out: &mut Outbox) -> Result<(), AllocError>
+    pub fn give_block(
+        &self,
+        to: u8,
+        address: u64,
+        block: ByteList,
+        out: &mut Outbox,
+    ) -> Result<(), AllocError>
         requires { length block ≡ 4096 }
         ensures { OnOk result (out.new ≡ out.old ++ send_to to (give_block address block self.now) self.now) }
     {

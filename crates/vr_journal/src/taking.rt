@@ -28,7 +28,7 @@ pub struct Log<'a> {
 
 impl<'a> Model for Log<'a> {
     ghost use Rattle.vr_msg.specs.Spelling.{AreHeaders};
-ghost use Rattle.vr_rules.specs.Words.{Log as Known};
+    ghost use Rattle.vr_rules.specs.Words.{Log as Known};
 
     ghost Value = { Known };
 
@@ -196,7 +196,12 @@ impl Replica {
         ensures { self.new ≡ record self.old { parts = slice_set self.old.parts at (taken_by log.now self.old.checkpoint self.old.log_view (self.old.first + at) (slice_index_or self.old.parts at Nothing)) } }
     {
         let known = self.parts.get_or(at, Part::Nothing);
-        let part = log.part(self.checkpoint, self.log_view, self.first + at as u64, known);
+        let part = log.part(
+            self.checkpoint,
+            self.log_view,
+            self.first + at as u64,
+            known,
+        );
         self.parts.replace(at, part);
     }
 

@@ -25,7 +25,12 @@ impl Replica {
 
     /// Sends a message to each of the others.
     #[tactic(auto, using(std::proofs::lemmas::Grind::common_steps, crate::proofs::Sending::sends_more, crate::proofs::Sending::sends_none))]
-    pub fn tell_others(&self, alloc: Global, message: &Message, out: &mut Outbox) -> Result<(), AllocError>
+    pub fn tell_others(
+        &self,
+        alloc: Global,
+        message: &Message,
+        out: &mut Outbox,
+    ) -> Result<(), AllocError>
         ensures { OnOk result (out.new ≡ out.old ++ sends self.now.index self.now.n message.now) }
     {
         for to in 0..self.n {
@@ -103,7 +108,14 @@ impl Replica {
 
     /// A line on the log that it chose, which ends at `head`: with the greatest log view and commit
     /// number of what was stated.
-    pub fn tell_choice(&self, alloc: Global, log_view: u32, commit: u64, head: u64, out: &mut Outbox) -> Result<(), AllocError>
+    pub fn tell_choice(
+        &self,
+        alloc: Global,
+        log_view: u32,
+        commit: u64,
+        head: u64,
+        out: &mut Outbox,
+    ) -> Result<(), AllocError>
         requires { self.now.commit < 2 ^ 63 }
         ensures { OnOk result (out.new ≡ out.old ++ chosen_line log_view commit head self.now) }
     {

@@ -14,7 +14,7 @@ use vr_model::Memory;
 use vr_msg::{Committed, Outbox, Output};
 
 /// Applies an entry: a commit line, and at the primary a reply.
-#[tactic(auto, using(vr_model::proofs::Sessions::numbers_kept, vr_model::proofs::Sessions::reply_numbered), unfolding(vr_model::specs::Words::applied))]
+#[tactic(auto, using(vr_apply::proofs::Numbers::numbers_kept, vr_model::proofs::Sessions::reply_numbered), unfolding(vr_model::specs::Words::applied))]
 fn apply_entry(memory: &mut Memory, entry: Entry, out: &mut Outbox) -> Result<(), NoMemory>
     requires sound { IsSound memory.old }
     requires room { memory.old.applied < memory.old.commit }

@@ -28,7 +28,8 @@ pub fn is_primary(memory: &Memory) -> bool
     requires { IsSound memory.now }
     ensures { result ≡ is_primary memory.now }
 {
-    memory.view == memory.log_view && memory.index == vr_memory_rules::primary(memory.n, memory.view)
+    memory.view == memory.log_view
+        && memory.index == vr_memory_rules::primary(memory.n, memory.view)
 }
 
 /// The known header of an op, with its name.

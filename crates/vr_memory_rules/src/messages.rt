@@ -1,6 +1,5 @@
 //! Prepares, and their acknowledgements.
 ghost use Rattle.std.specs.Prelude.{◌≡◌, ◌+◌, ◌-◌, ◌^◌, ◌<◌, ◌≤◌, ◌==◌, ◌&&◌, true, not, nat_lt, nat_le, is_some};
-ghost use Rattle.vr_header.specs.Same.{same_header};
 ghost use Rattle.vr_msg.specs.declared.summary.Decision.TheVariants as rule;
 ghost use Rattle.vr_msg.specs.Normal.{on_prepare, on_prepare_ok, same_sum, is_known, is_named, is_from, is_started, leads, primary};
 
@@ -15,18 +14,11 @@ fn same_sum(a: &Sum, b: &Sum) -> bool
     a == b
 }
 
-#[tactic(auto, unfolding(vr_header::specs::Same::same_header))]
-fn same_header(a: &Header, b: &Header) -> bool
-    ensures { result ≡ same_header a.now b.now }
-{
-    a == b
-}
-
 fn is_known(header: &Header, known: &Option<Named>) -> bool
     ensures { result ≡ is_known header.now known.now }
 {
     match known {
-        Some(known) => same_header(&known.header, header),
+        Some(known) => known.header.is(header),
         None => false,
     }
 }

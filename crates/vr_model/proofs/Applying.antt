@@ -11,6 +11,7 @@ use native.Mathlib.Nat.{zero-mod}
 use Rattle.std.proofs.Common.{drop-cons, length-drop}
 use Rattle.std.proofs.lemmas.List.{drop_all}
 use Rattle.std.proofs.lemmas.List.Sums.{prefix_len-le-length}
+use Rattle.vr_base.proofs.Sets.{has_with}
 use Rattle.vr_base.specs.Groups.{quorums_of}
 use Rattle.vr_base.specs.declared.replicas.Replicas.{Replicas}
 use Rattle.vr_base.specs.Replicas.{no_replicas, with_replica, has_replica, size}
@@ -23,7 +24,7 @@ use Rattle.vr_model.specs.Steps.{Say, face_after, outputs, ◌⨾◌, change, sa
 use Rattle.vr_model.specs.Words.{commit_line, applied_reply, applied, apply_entry, apply_next, apply, learned, learn, advanced, advance}
 use Rattle.vr_msg.specs.Normal.{replication, has_quorum, advanced_to}
 use Rattle.vr_model.specs.Safe.{Vouches, prepared, HasQuorum, IsCommitted, root, stands_on, IsCommittedAt, AreCommitted}
-use Rattle.vr_model.proofs.Fronts.{get_some}
+use Rattle.vr_apply.proofs.Fronts.{get_some}
 use Rattle.vr_model.proofs.Members.{IsChained, IsPrepared, Group, Member}
 use Rattle.vr_model.proofs.Moving.{outputs_append, outputs_said, Outcome, outcome_then, outcome_quiet, outcome_change, applied_left}
 
@@ -108,18 +109,6 @@ learn_outcome n i log before c m f g h committed =
     (raised_member n i log before m (max m.commit (min c (length m.log))) (omega arith) (omega (arith, w)) (most n log before m.commit c (length m.log) h.committed committed) h)
 
 -- ---- Advance
-
-has_other : (s : Replicas) (i r : ℕ) → (r ≡ i → ⊥) → has_replica (with_replica s i) r ≡ true → has_replica s r ≡ true
-has_other s i r other h =
-    let cases : (b : Bool) → has_replica (cond b (record { 0 = slice_set s.0 i true }) s) r ≡ true → has_replica s r ≡ true =
-    elim [ true ↦ λ k. sym (get_or-set_other s.0 i r true false other) ∙ k | false ↦ λ k. k ] in
-    cases (ltb i 6) h
-
-pub has_with : (s : Replicas) (i r : ℕ) → has_replica (with_replica s i) r ≡ true → (r ≡ i) ⊎ (has_replica s r ≡ true)
-has_with s i r h =
-    let cases : (b : Bool) → eqb r i ≡ b → (r ≡ i) ⊎ (has_replica s r ≡ true) =
-    elim [ true ↦ λ e. inl (eqb-true r i e) | false ↦ λ e. inr (has_other s i r (λ z. let t = eq-eqb r i z in absurd (cc)) h) ] in
-    cases (eqb r i) refl
 
 -- the primary has prepared an entry, so it vouches for it
 pub led_vouches : (n : ℕ) (before : List Output) (e : Whole) → IsPrepared before e → Vouches n before 0 0 e.header

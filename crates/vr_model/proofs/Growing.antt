@@ -12,7 +12,7 @@ use Rattle.vr_msg.specs.declared.reply.ReplyFields.{ReplyFields}
 use Rattle.vr_msg.specs.declared.reply.ReplyKind.{ReplyKind}
 use Rattle.vr_msg.specs.declared.reply.ReplyKind.TheVariants as reply
 use Rattle.vr_model.specs.Safe.{HasSent, Vouches, acknowledged, prepared, HasQuorum, IsCommitted, root, stands_on, IsCommittedAt, AreCommitted, IsBackedMessage, lines_by, answered_after, session_says, IsReplyOf, IsBacked}
-use Rattle.vr_model.proofs.Fronts.{Front, front_refl, get_some, get_within, take_front}
+use Rattle.vr_apply.proofs.Fronts.{Front, front_refl, get_some, get_within, take_front}
 
 pub sent_later : (a b : List Output) (r : ℕ) (m : Frame) → Front a b → HasSent a r m → HasSent b r m
 sent_later a b r m f h = record { at = h.at; to = h.to; is = get_within a b h.at _ f h.is }

@@ -12,6 +12,7 @@ use Rattle.std.proofs.Math.Seq.{get_or-append_seam}
 use Rattle.vr_base.specs.Bytes.{name_of, bytes16}
 use Rattle.vr_base.specs.Groups.{quorums_of}
 use Rattle.vr_base.specs.Replicas.{no_replicas, has_replica}
+use Rattle.vr_base.proofs.AreBytes.{IsBytes-name_of}
 use Rattle.vr_base.proofs.FieldLaws.{length-name_of, length-bytes16}
 use Rattle.vr_disk.specs.DiskState.{Face}
 use Rattle.vr_header.specs.declared.operation.Operation.{Operation}
@@ -39,9 +40,9 @@ use Rattle.vr_model.specs.Words.{head_header, others, send, sends_to_all, prepar
 use Rattle.vr_model.specs.Rules.{summary, request_summary, session_answer, request_of, next_entry, make, stored_reply, obey_request, on_request}
 use Rattle.vr_model.specs.World.{IsAsked}
 use Rattle.vr_model.specs.Safe.{lines_by, answered_after, IsReplyOf}
-use Rattle.vr_model.proofs.Fronts.{front_refl, front_append, get_within, get_some, get_more, get_last, each_more}
+use Rattle.vr_apply.proofs.Fronts.{front_refl, front_append, get_within, get_some, get_more, get_last, each_more}
 use Rattle.vr_model.proofs.Growing.{are_committed_later, backed_more}
-use Rattle.vr_model.proofs.Stored.{repeat_stored}
+use Rattle.vr_apply.proofs.Stored.{repeat_stored}
 use Rattle.vr_model.proofs.Members.{stood_on, IsChained, Holds, IsPrepared, Group, last_line, Member, told_later, group_next, member_next}
 use Rattle.vr_model.proofs.Moving.{outputs_append, outputs_said, Left, Outcome, NoLines, left_then, outcome_quiet, outcome_reply, AllCome, none, then}
 use Rattle.vr_model.proofs.Applying.{advance_outcome}
@@ -69,8 +70,11 @@ made_header n i log before q m h a cluster room =
     let view = h.view in
     record {
       body = length-name_of _;
+      body_bytes = IsBytes-name_of _;
       parent = length-name_of _;
+      parent_bytes = IsBytes-name_of _;
       request_name = length-name_of _;
+      request_name_bytes = IsBytes-name_of _;
       cluster = omega (arith, cluster);
       client = a.client;
       request = a.request;

@@ -24,9 +24,9 @@ use Rattle.vr_msg.specs.declared.output.Output.TheVariants as output
 use Rattle.vr_msg.specs.declared.output.Sent.{Sent}
 use Rattle.vr_model.specs.declared.memory.Memory.{Memory}
 use Rattle.vr_model.specs.Safe.{HasSent, Vouches, AreCommitted, is_line_of, lines_by, IsBacked}
-use Rattle.vr_model.proofs.Fronts.{Front, front_refl, front_append, front_trans, front_le, get_within, get_more, take_front}
+use Rattle.vr_apply.proofs.Fronts.{Front, front_refl, front_append, front_trans, front_le, get_within, get_more, take_front}
 use Rattle.vr_model.proofs.Growing.{sent_later, vouches_later, are_committed_later}
-use Rattle.vr_model.proofs.Stored.{IsNumbered}
+use Rattle.vr_apply.proofs.Stored.{IsNumbered}
 
 -- ---- the log
 

@@ -24,9 +24,9 @@ use Rattle.vr_model.specs.Steps.{Effect, Say, Step, Word, face_after, output_of,
 use Rattle.vr_model.specs.Words.{is_primary, replies, asker_of, kind_of, commit_line, applied_reply, applied}
 use Rattle.vr_model.specs.declared.named.Asker.{Asker}
 use Rattle.vr_model.specs.Safe.{AreCommitted, is_line_of, lines_by, answered_after, IsReplyOf}
-use Rattle.vr_model.proofs.Fronts.{Front, front_refl, front_append, front_trans, front_le, get_within, some_same}
+use Rattle.vr_apply.proofs.Fronts.{Front, front_refl, front_append, front_trans, front_le, get_within, some_same}
 use Rattle.vr_model.proofs.Growing.{vouches_later, are_committed_later}
-use Rattle.vr_model.proofs.Stored.{IsNumbered, answer_next, state_next, repeat_stored}
+use Rattle.vr_apply.proofs.Stored.{IsNumbered, answer_next, state_next, repeat_stored}
 use Rattle.vr_model.proofs.Members.{Group, last_line, last_line_next, Member, MayCome, group_next, member_next, lines_next, lines_line}
 
 -- ---- scripts

@@ -5,6 +5,7 @@ use Rattle.std.specs.Prelude.{slice_index_or, slice_set, ◌||◌}
 use Rattle.std.proofs.lemmas.Bool.{and_parts, eqb-true, ltb-true}
 use Rattle.std.proofs.lemmas.List.{get_or-set_same, get_or-set_other, length-set}
 use Rattle.std.proofs.lemmas.Option.{slice_get_within}
+use Rattle.vr_base.proofs.Sets.{has_with}
 use Rattle.vr_base.specs.Bytes.{name_of}
 use Rattle.vr_base.specs.Replicas.{no_replicas, with_replica, has_replica}
 use Rattle.vr_disk.specs.DiskState.{Face}
@@ -25,12 +26,12 @@ use Rattle.vr_model.specs.Words.{is_primary, named, send, acknowledges, written,
 use Rattle.vr_model.specs.Rules.{summary, obey_prepare, on_prepare, obey_prepare_ok, on_prepare_ok}
 use Rattle.vr_model.specs.Safe.{HasSent, Vouches, AreCommitted, IsBacked}
 use Rattle.vr_model.specs.Safe as safe
-use Rattle.vr_model.proofs.Fronts.{Front, front_refl, front_append, front_more, front_trans, get_within, some_same}
+use Rattle.vr_apply.proofs.Fronts.{Front, front_refl, front_append, front_more, front_trans, get_within, some_same}
 use Rattle.vr_model.proofs.Growing.{are_committed_later}
-use Rattle.vr_model.proofs.Stored.{is_one}
+use Rattle.vr_apply.proofs.Stored.{is_one}
 use Rattle.vr_model.proofs.Members.{Holds, HoldsName, IsTold, Group, Member}
 use Rattle.vr_model.proofs.Moving.{Outcome, outcome_then, outcome_quiet, outcome_change, outcome_says, AllCome, none, then, leads_is}
-use Rattle.vr_model.proofs.Applying.{has_with, learn_outcome, advance_outcome}
+use Rattle.vr_model.proofs.Applying.{learn_outcome, advance_outcome}
 
 -- ---- what decides
 

@@ -28,7 +28,7 @@ use Rattle.vr_msg.specs.Normal.{replication}
 use Rattle.vr_model.specs.Rules.{on_message, react}
 use Rattle.vr_model.specs.World.{World, fresh, fresh_world, Happening, Asks, Arrives, IsAsked, IsHappening, message_of, messages, no_face, grouped, handled, delivered, happens, happen}
 use Rattle.vr_model.specs.Safe.{HasSent, Vouches, acknowledged, prepared, HasQuorum, IsCommitted, root, stands_on, IsHashed, sent, given, Safe}
-use Rattle.vr_model.proofs.Fronts.{front_refl}
+use Rattle.vr_apply.proofs.Fronts.{front_refl}
 use Rattle.vr_model.proofs.Members.{IsTold, Group, Member, member_next, member_longer}
 use Rattle.vr_model.proofs.Moving.{Left, Outcome, NoLines, outcome_quiet}
 use Rattle.vr_model.proofs.Ruling.{prepare_outcome, prepare_ok_outcome}

@@ -17,51 +17,11 @@ use Rattle.vr_apply.specs.Folds as state
 use Rattle.std.specs.Prelude.{IfSome}
 use Rattle.vr_msg.specs.Asking.{IsReplyKind}
 use Rattle.vr_model.specs.Words.{kind_of}
-use Rattle.vr_model.specs.Sound.{HaveNumbers, HasNumber}
+use Rattle.vr_sess.specs.Sessions.{HaveNumbers}
+use Rattle.vr_model.specs.Sound.{HasNumber}
 
 abbrev IsOfNumber : ℕ × Session → Type 0
 IsOfNumber s = IsNumber s.1.op
-
-kept_put : (key : ℕ) (s : Session) (m : sess.Map) → AllByRecursion IsOfNumber m → IsNumber s.op → AllByRecursion IsOfNumber (put nat_cmp key s m)
-kept_put key s [] h f = (f, tt)
-kept_put key s (e ∷ es) h f =
-    elim (nat_cmp key e.0) as (λ o. AllByRecursion IsOfNumber (by_order o ((key, s) ∷ e ∷ es) ((e.0, s) ∷ es) (e ∷ put nat_cmp key s es))) [
-      | Less ↦ (f, h)
-      | Equal ↦ (f, h.1)
-      | Greater ↦ (h.0, kept_put key s es h.1 f)
-    ]
-
-kept_where : (p : ℕ → Bool) (m : sess.Map) → AllByRecursion IsOfNumber m → AllByRecursion IsOfNumber (where_key nat_cmp p m)
-kept_where p [] h = tt
-kept_where p (e ∷ es) h = cond_both (p e.0) (e ∷ where_key nat_cmp p es) (where_key nat_cmp p es) (AllByRecursion IsOfNumber) (λ t. (h.0, kept_where p es h.1)) (λ f. kept_where p es h.1)
-
-kept_oldest : (m : sess.Map) (o : Option (ℕ × ℕ)) → AllByRecursion IsOfNumber m → AllByRecursion IsOfNumber (option_map_or (λ d. without nat_cmp d.0 m) o m)
-kept_oldest m None h = h
-kept_oldest m (Some d) h = kept_where (λ x. not (eq_by_cmp nat_cmp d.0 x)) m h
-
-kept_applied : (m : sess.Map) (a : sess.Asked) → AllByRecursion IsOfNumber m → IsNumber a.op → AllByRecursion IsOfNumber (sess.applied m a)
-unfolding sess.applied sess.without_oldest
-kept_applied m a h f =
-    let s : Session = record { number = a.request; op = a.op; outcome = a.outcome } in
-    let there = put nat_cmp a.client s m in
-    let instead = put nat_cmp a.client s (sess.without_oldest m) in
-    cond_both (ltb (length m) 32) there (cond (is_some (find nat_cmp a.client m)) there instead) (AllByRecursion IsOfNumber)
-    (λ t. kept_put a.client s m h f)
-    (λ t. cond_both (is_some (find nat_cmp a.client m)) there instead (AllByRecursion IsOfNumber)
-    (λ t. kept_put a.client s m h f)
-    (λ t. kept_put a.client s (sess.without_oldest m) (kept_oldest m (sess.oldest m) h) f))
-
--- an applied entry keeps them
-pub numbers_kept : (s : State) (e : Whole) → HaveNumbers s.sessions → IsNumber e.header.op → HaveNumbers (state.applied s e).state.sessions
-unfolding HaveNumbers state.applied state.answered state.executed
-numbers_kept s e h f =
-    elim (state.check s e) as (λ a. AllByRecursion IsOfNumber (state.answered s e a).state.sessions) [
-      | answer.Fresh ↦ kept_applied s.sessions (state.asked s e) h f
-      | answer.Repeat outcome op ↦ h
-      | answer.Old ↦ h
-      | answer.Gap ↦ h
-      | answer.Evicted ↦ h
-    ]
 
 find_kept : (key : ℕ) (m : sess.Map) → AllByRecursion IsOfNumber m → IfSome (find nat_cmp key m) (λ s. IsNumber s.op)
 find_kept key [] h = tt

@@ -1,15 +1,10 @@
 -- What a replica keeps of itself between steps.
 use Rattle.std.specs.Prelude.{◌≡◌, ◌<◌, ◌≤◌, ⊤, length}
-use Rattle.std.specs.List.{AllByRecursion}
-use Rattle.vr_sess.specs.Sessions.{Map}
+pub use Rattle.vr_sess.specs.Sessions.{HaveNumbers}
 use Rattle.vr_sess.specs.declared.session.SessionAnswer.{SessionAnswer}
 use Rattle.vr_sess.specs.declared.session.SessionAnswer.TheVariants as answer
 use Rattle.vr_msg.specs.Numbers.{IsNumber, IsView}
 use Rattle.vr_model.specs.declared.memory.Memory.{Memory}
-
--- each session's last op is one that a reply may carry
-unfoldable pub HaveNumbers : Map → Type 0
-HaveNumbers sessions = AllByRecursion (λ s. IsNumber s.1.op) sessions
 
 pub record IsSound (m : Memory) : Type 0 where
   pub least : 2 ≤ m.n

@@ -1,10 +1,7 @@
 pub mod Asking
-pub mod Deciding
 pub mod Choice
 pub mod Forms
 pub mod Logs
 pub mod Normal
 pub mod Numbers
-pub mod Reading
-pub mod Shapes
 pub mod Spelling

@@ -5,6 +5,7 @@ use Rattle.vr_header.specs.declared.header.Header.{Header}
 use Rattle.vr_header.specs.declared.part.Part.{Part}
 use Rattle.vr_header.specs.declared.part.Part.TheVariants.{Here, Lost, Wanted, Unknown, Nothing}
 use Rattle.vr_header.specs.Made.{IsEntryHeader}
+pub use Rattle.vr_header.specs.Parts.{header_of, has_header}
 use Rattle.vr_msg.specs.declared.statement.Statement.{Statement}
 use Rattle.vr_msg.specs.Numbers.{IsNumber}
 
@@ -19,17 +20,6 @@ pub record IsEntryAt (cluster last op : ℕ) (h : Header) : Type 0 where
   pub of_group : h.cluster ≡ cluster
   pub at_op : h.op ≡ op
   pub made : h.view ≤ last
-
--- the header that a Part knows
-abbrev pub header_of : Part → Option Header
-header_of (Here h) = Some h
-header_of (Lost h) = Some h
-header_of (Wanted h) = Some h
-header_of Unknown = None
-header_of Nothing = None
-
-abbrev pub has_header : Part → Bool
-has_header p = is_some (header_of p)
 
 -- the header that the Part knows, if any, is of an entry
 abbrev pub IsPartAt : ℕ → ℕ → ℕ → Part → Type 0

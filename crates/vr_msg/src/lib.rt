@@ -1,28 +1,21 @@
-//! The messages of the protocol, the events and outputs of a replica, and the bytes of a message.
+//! The messages of the protocol, the events and outputs of a replica, what a replica's decisions read and give (`summary`, `choice`),
+//! and the definitions of each: forms, spelling, tables. The bytes of a message are read and written in `vr_codec`.
 #![tactic(auto)]
 
 mod choice;
-mod codec;
 mod copy;
 mod event;
-mod fault;
 mod frame;
-mod head;
 mod make;
 mod message;
 mod output;
-mod read;
 mod reply;
 mod request;
-mod shape;
 mod statement;
 mod summary;
-mod write;
 
 pub use choice::Choice;
-pub use codec::{decode, encode, judge};
 pub use event::Event;
-pub use fault::MsgFault;
 pub use frame::{
     Commit, DoViewChange, Frame, GetBlock, GetPrepare, GetView, GiveBlock, GivePrepare, Prepare,
     PrepareOk, StartView, StartViewChange,

@@ -1,5 +1,5 @@
 -- What a copy that comes makes good.
-use Rattle.std.proofs.Common.{arith, ◌≡◌, ◌≤◌, ◌<◌, ◌+◌, ◌-◌, ◌%◌, ◌∙◌, refl, sym, ap, ℕ, Bool, true, false, not, cond, filter, List, [], ◌∷◌, length, Option, Some, None, is_some}
+use Rattle.std.proofs.Common.{arith, ◌≡◌, ◌≤◌, ◌<◌, ◌+◌, ◌-◌, ◌%◌, ◌∙◌, refl, sym, ap, ℕ, Bool, true, false, not, cond, filter, set, List, [], ◌∷◌, length, Option, Some, None, is_some}
 use Rattle.std.specs.Prelude.{IfSome, find, ◌==◌}
 use Rattle.std.proofs.lemmas.Bool.{lt-ltb}
 use Rattle.vr_disk.specs.DiskState as disk
@@ -28,18 +28,18 @@ use Rattle.vr_repair.specs.Laws.{BlockRepaired, BlocksAreRepaired, EntriesAreRep
 
 -- an op above the checkpoint isn't forgotten when its entry is stored
 stored_here : (e : Whole) (r : Replica) → IsReady r → MayStore e r → part_at (stored e r) e.header.op ≡ Here e.header
-unfolding IsReady MayStore
+unfolding IsReady MayStore with_part
 stored_here e r h m =
     let k : ℕ = e.header.op in
     let s = spans_of r h.sound in
-    let q : Replica = with_part k (Here e.header) r in
+    let q : Replica = record r { parts = set r.parts (k - r.first) (Here e.header) } in
     let t : Spans q = with_part_spans k (Here e.header) r s in
-    let top = head_within q t in
+    let top : head q ≤ r.checkpoint + 64 = head_within q t in
     let above = m.above in
     let window = m.window in
     let reach = s.reach in
     let parts = s.parts in
-    forgetting_at q k (stays k (Here e.header) r h.sound m.above top) ∙ with_part_at k (Here e.header) r (omega arith) (omega arith)
+    forgetting_at q k (omega (arith, top, above, reach)) ∙ with_part_at k (Here e.header) r (omega (arith, above, reach)) (omega (arith, window, parts))
 
 calm : Fate
 calm = record { fuse = None; made = 0; failing = []; dead = false }
@@ -49,7 +49,7 @@ entry_reads true e f w h rest = (again_leaves e (Some (record { face = f; fate =
 entry_reads false e f w h rest = (new_leaves e (Some (record { face = f; fate = calm })) h w rest).done.whole
 
 pub entries_repaired : EntriesAreRepaired
-unfolding write ◌⨾◌ does change after_all slot_of
+unfolding write ◌⨾◌ does change after_all
 entries_repaired e r f h m w face rest = record {
   here = stored_here e r h m;
   reads = entry_reads (may_be_stored (part_at r e.header.op)) e f w face rest;

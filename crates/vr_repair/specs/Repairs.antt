@@ -5,7 +5,8 @@ use Rattle.vr_grid.specs.Blocks.{named}
 use Rattle.vr_grid.specs.declared.name.Name.{Name}
 use Rattle.vr_header.specs.Made.{Whole}
 use Rattle.vr_msg.specs.declared.output.Output.{Output}
-use Rattle.vr_rules.specs.Deciding.{Rule, Ignored, EntryGiven, EntryTaken, BlockGiven, BlockTaken}
+use Rattle.vr_rules.specs.declared.rule.Rule.{Rule}
+use Rattle.vr_rules.specs.declared.rule.Rule.TheVariants.{Ignored, EntryGiven, EntryTaken, BlockGiven, BlockTaken}
 use Rattle.vr_rules.specs.Outputs.{give_prepare, send_to}
 use Rattle.vr_rules.specs.Replica.{Replica}
 use Rattle.vr_rules.specs.Steps.{Word, says}

@@ -3,7 +3,7 @@ ghost use Rattle.std.specs.Prelude.{◌≡◌, OnOk, [], is_some, true};
 ghost use Rattle.vr_base.specs.Bytes.{name_of};
 ghost use Rattle.vr_grid.specs.Blocks.{named};
 ghost use Rattle.vr_header.specs.Made.{IsEntryHeader};
-ghost use Rattle.vr_journal.specs.Ready.{IsReady, MayLoad, TextsHaveNumbers};
+ghost use Rattle.vr_journal.specs.Ready.{IsReady, MayLoad};
 ghost use Rattle.vr_repair.specs.Reads.{loads_whole};
 ghost use Rattle.vr_rules.specs.Outputs.{get_block, get_prepare};
 ghost use Rattle.vr_rules.specs.Rules.{put_block};
@@ -76,11 +76,7 @@ fn ask_absent<D: SectorDisk>(
 /// Asks the peer whose turn it is for what is missing: the first of the blocks that are, else the least entry that isn't stored or can't be
 /// read. Where nothing is missing nothing is asked.
 #[tactic(auto, using(crate::proofs::Words::asked_block, crate::proofs::Words::asked_absent))]
-pub fn ask<D: SectorDisk>(
-    replica: &mut Replica,
-    disk: &mut D,
-    out: &mut Outbox,
-) -> Result<(), Halt>
+pub fn ask<D: SectorDisk>(replica: &mut Replica, disk: &mut D, out: &mut Outbox) -> Result<(), Halt>
     requires ready { IsReady replica.old }
     ensures ready { OnOk result (IsReady replica.new) }
     ensures cause { Caused (D.faults disk.old) (D.faults disk.new) result }
@@ -101,7 +97,6 @@ fn load_whole<D: SectorDisk>(
     out: &mut Outbox,
 ) -> Result<(), Halt>
     requires may { MayLoad replica.old }
-    requires numbers { TextsHaveNumbers }
     ensures ready { OnOk result (IsReady replica.new) }
     ensures view { OnOk result (replica.new.view ≡ replica.old.view) }
     ensures saved { OnOk result (replica.new.saved ≡ replica.old.saved) }
@@ -127,7 +122,6 @@ pub fn put_block<D: SectorDisk>(
 ) -> Result<(), Halt>
     requires may { MayLoad replica.old }
     requires named { is_some (named name.now block.now) ≡ true }
-    requires numbers { TextsHaveNumbers }
     ensures ready { OnOk result (IsReady replica.new) }
     ensures view { OnOk result (replica.new.view ≡ replica.old.view) }
     ensures saved { OnOk result (replica.new.saved ≡ replica.old.saved) }

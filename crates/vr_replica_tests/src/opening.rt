@@ -1,7 +1,6 @@
 //! A member is made on its disk, and recovered from it.
 ghost use Rattle.std.specs.Prelude.{is_some, true, ◌≡◌, ◌<◌};
 ghost use Rattle.vr_base.specs.Groups.{quorums_of};
-ghost use Rattle.vr_journal.specs.Ready.{TextsHaveNumbers};
 
 use std::alloc::Global;
 use std::test::Fail;
@@ -26,7 +25,6 @@ enum Answer {
 }
 
 fn open(rt: &HostRuntime, disk: &mut MemDisk, config: &Config) -> Answer
-    requires { TextsHaveNumbers }
 {
     let mut out = Seq::new(rt.alloc());
     match recover(rt.alloc(), disk, config, &mut out) {
@@ -52,7 +50,10 @@ fn a_new_member_is_recovered(rt: HostRuntime) -> Result<(), Fail> {
         let config = member(7, replica);
         assert_eq!(rt; first_fault(&rt, &mut disk, &config), None);
         assert_eq!(rt; open(&rt, &mut disk, &config), Answer::Ready(0, view));
-        assert_eq!(rt; first_fault(&rt, &mut disk, &config), Some(FreshFault::Occupied));
+        assert_eq!(rt;
+            first_fault(&rt, &mut disk, &config),
+            Some(FreshFault::Occupied)
+        );
         let other = Answer::Refused(Refusal::OtherMember(config));
         assert_eq!(rt; open(&rt, &mut disk, &member(8, replica)), other);
     }
@@ -66,8 +67,16 @@ fn a_call_fails(rt: HostRuntime) -> Result<(), Fail> {
         let mut list = Vec::new(rt.alloc());
         list.push(number)?;
         disk.fail(list);
-        let fault = if number < 406 { Some(FreshFault::DiskFault) } else { None };
-        assert_eq!(rt; first_fault(&rt, &mut disk, &member(7, 0)), fault, "call {number}");
+        let fault = if number < 406 {
+            Some(FreshFault::DiskFault)
+        } else {
+            None
+        };
+        assert_eq!(rt;
+            first_fault(&rt, &mut disk, &member(7, 0)),
+            fault,
+            "call {number}"
+        );
     }
     Ok(())
 }

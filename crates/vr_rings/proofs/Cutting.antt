@@ -208,7 +208,7 @@ abbrev pub CutKeeps : ℕ → List Call → Type 0
 CutKeeps slot cs =
     (f : Face) (held : Option (List ℕ)) (j code : ℕ) → length f.cells ≡ 1424 → f.waiting ≡ [] → Stands f slot held → Stands (cut j code f cs) slot (held_cut j code f cs slot held)
 
-held_both : (cs ds : List Call) (f : Face) (slot : ℕ) (held : Option (List ℕ)) (j code : ℕ)
+pub held_both : (cs ds : List Call) (f : Face) (slot : ℕ) (held : Option (List ℕ)) (j code : ℕ)
     → (j < length cs → held_cut j code f (cs ++ ds) slot held ≡ held_cut j code f cs slot held) × (length cs ≤ j → held_cut j code f (cs ++ ds) slot held ≡ held_cut (j - length cs) code (after_all f cs) ds slot (held_after_all f cs slot held))
 unfolding held_cut held_after_all
 held_both [] ds f slot held j code = (λ l. absurd (omega arith), λ l. let e : j - 0 ≡ j = omega arith in rw e refl)

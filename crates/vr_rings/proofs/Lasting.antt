@@ -15,7 +15,7 @@ use Rattle.vr_disk.proofs.Frames.{frame_cut, reads_back, waits_after}
 use Rattle.vr_disk.proofs.Outcomes.{cut_leaves}
 use Rattle.vr_disk.proofs.Together.{is_has, together_same}
 use Rattle.vr_rings.specs.Held.{Stands, entry_of_both, entry_read, found, header_sector, held_after, held_after_all, held_begun, held_cut, held_cut_at, is_prepare, keeps, looked}
-use Rattle.vr_rings.specs.Laws.{LastsIn, TellsPrepare}
+use Rattle.vr_rings.specs.Laws.{LastsIn, TellsPrepare, TellsUpTo}
 use Rattle.vr_rings.specs.Slots.{header_reading, prepare_reading}
 use Rattle.vr_rings.proofs.Cutting.{cut_spares}
 use Rattle.vr_rings.proofs.Spelling.{whole_version}
@@ -28,7 +28,7 @@ Own g slot p = header_reading g slot ≡ Some (header_sector p)
 some_is : (a b : List ℕ) → Some a ≡ Some b → a ≡ b
 some_is a b e = cc
 
-both_whole : (h r : Option (List ℕ)) (p : List ℕ) → entry_of_both h r ≡ Some p → is_prepare p ≡ true
+pub both_whole : (h r : Option (List ℕ)) (p : List ℕ) → entry_of_both h r ≡ Some p → is_prepare p ≡ true
 unfolding entry_of_both
 both_whole h None p e = absurd cc
 both_whole h (Some q) p e =
@@ -77,12 +77,12 @@ unfolding held_after
 piece_held g slot Sync p a o t = refl
 piece_held g slot (Write i b) p a o t = held_own g slot i b p (piece_keeps g slot i b p a o) (own_after g slot (Write i b) p a o) t
 
-pieces_front : (cs : List Call) (j : ℕ) (g : Face) (slot : ℕ) (p : List ℕ) → AllByRecursion (Pieces slot p) cs → Own g slot p → ((k : ℕ) → TellsPrepare (after_all g (take k cs)) slot p) → held_after_all g (take j cs) slot (Some p) ≡ Some p
+pieces_front : (cs : List Call) (j : ℕ) (g : Face) (slot : ℕ) (p : List ℕ) → AllByRecursion (Pieces slot p) cs → Own g slot p → TellsUpTo j cs g slot p → held_after_all g (take j cs) slot (Some p) ≡ Some p
 unfolding held_after_all
 pieces_front cs zero g slot p a o t = refl
 pieces_front [] (suc j) g slot p a o t = refl
 pieces_front (c ∷ cs) (suc j) g slot p a o t =
-    ap (held_after_all (after g c) (take j cs) slot) (piece_held g slot c p a.0 o (t 1)) ∙ pieces_front cs j (after g c) slot p a.1 (own_after g slot c p a.0 o) (λ k. t (suc k))
+    ap (held_after_all (after g c) (take j cs) slot) (piece_held g slot c p a.0 o (t 0 (omega arith))) ∙ pieces_front cs j (after g c) slot p a.1 (own_after g slot c p a.0 o) (λ k l. t (suc k) (omega (arith, l)))
 
 piece_cut : (g : Face) (slot code : ℕ) (c : Call) (p : List ℕ) → Pieces slot p c → Own g slot p → waits (header_at slot) g.waiting ≡ false → TellsPrepare (after g c) slot p → TellsPrepare (cut_at code g c) slot p → held_cut_at code g c slot (Some p) ≡ Some p
 unfolding held_cut_at
@@ -96,13 +96,13 @@ piece_rests : (g : Face) (slot : ℕ) (c : Call) (p : List ℕ) → Pieces slot 
 piece_rests g slot Sync p a w = refl
 piece_rests g slot (Write i b) p a w = let d : i ≢ header_at slot = λ e. let l = a.0 in omega arith in waits_after g (Write i b) (header_at slot) d w
 
-pieces_cut : (cs : List Call) (j code : ℕ) (g : Face) (slot : ℕ) (p : List ℕ) → AllByRecursion (Pieces slot p) cs → Own g slot p → waits (header_at slot) g.waiting ≡ false → ((k : ℕ) → TellsPrepare (after_all g (take k cs)) slot p)
+pieces_cut : (cs : List Call) (j code : ℕ) (g : Face) (slot : ℕ) (p : List ℕ) → AllByRecursion (Pieces slot p) cs → Own g slot p → waits (header_at slot) g.waiting ≡ false → TellsUpTo (suc j) cs g slot p
     → TellsPrepare (cut j code g cs) slot p → held_cut j code g cs slot (Some p) ≡ Some p
 unfolding cut held_cut
 pieces_cut [] j code g slot p a o w t u = refl
-pieces_cut (c ∷ cs) zero code g slot p a o w t u = piece_cut g slot code c p a.0 o w (t 1) u
+pieces_cut (c ∷ cs) zero code g slot p a o w t u = piece_cut g slot code c p a.0 o w (t 0 (omega arith)) u
 pieces_cut (c ∷ cs) (suc j) code g slot p a o w t u =
-    ap (held_cut j code (after g c) cs slot) (piece_held g slot c p a.0 o (t 1)) ∙ pieces_cut cs j code (after g c) slot p a.1 (own_after g slot c p a.0 o) (piece_rests g slot c p a.0 w) (λ k. t (suc k)) u
+    ap (held_cut j code (after g c) cs slot) (piece_held g slot c p a.0 o (t 0 (omega arith))) ∙ pieces_cut cs j code (after g c) slot p a.1 (own_after g slot c p a.0 o) (piece_rests g slot c p a.0 w) (λ k l. t (suc k) (omega (arith, l))) u
 
 -- ---- the header sector first
 
@@ -133,7 +133,7 @@ header_look f x slot b p same long version pr left s t =
 pub lasts_in : (cs : List Call) (f : Face) (slot : ℕ) (b p : List ℕ) → slot < 64 → length f.cells ≡ 1424 → f.waiting ≡ [] → b ≡ header_sector p → 110 < length b → get_or b 110 0 ≡ 1 → AllByRecursion (Pieces slot p) cs
     → LastsIn (Write (header_at slot) b ∷ Sync ∷ cs) f slot p
 unfolding cut held_cut held_cut_at held_after_all keeps
-lasts_in cs f slot b p l n r same long version a s t =
+lasts_in cs f slot b p l n r same long version a s =
     let i = header_at slot in
     let first : Call = Write i b in
     let two : List Call = first ∷ Sync ∷ [] in
@@ -141,15 +141,15 @@ lasts_in cs f slot b p l n r same long version a s t =
     let there : header_at slot < length f.cells = omega arith in
     let own : Own g slot p = reads_back f i b there ∙ ap Some same in
     let keeping : keeps f slot i b p ≡ true = rw (eq-eqb i i refl) ((bytes_eq-Decides b (header_sector p)).1 same) in
-    let held : held_after f first slot (Some p) ≡ Some p = held_own f slot i b p keeping own (t 1) in
+    let held : TellsPrepare g slot p → held_after f first slot (Some p) ≡ Some p = held_own f slot i b p keeping own in
     let left : (j code : ℕ) → IsLeft (header_reading f slot) b (header_reading (cut j code f two) slot) = λ j code. cut_leaves two f i b j code there ((λ x. refl), (tt, tt)) (rw r refl) in
     let pr : (j code : ℕ) → prepare_reading (cut j code f two) slot ≡ prepare_reading f slot =
     λ j code. together_same 4 (prepare_at slot) f (cut j code f two) (λ k x y. ap (λ (c : Cell). c.reads) (frame_cut two f k j code ((λ z. omega arith), (tt, tt)) (rw r refl))) in
     record {
-      front = elim [ zero ↦ refl | suc j ↦ ap (held_after_all g (take j (Sync ∷ cs)) slot) held ∙ pieces_front (Sync ∷ cs) j g slot p (tt, a) own (λ k. t (suc k)) ];
-      stopped = λ j code. elim j as (λ j. TellsPrepare (cut j code f (first ∷ Sync ∷ cs)) slot p → held_cut j code f (first ∷ Sync ∷ cs) slot (Some p) ≡ Some p) [
-        | zero ↦ λ u. ap (looked (cut_at code f first) slot) (begun_own f slot i code b p held) ∙ header_look f (cut_at code f first) slot b p same long version (pr 0 code) (left 0 code) s u
-        | suc zero ↦ λ u. ap (looked (cut_at code g Sync) slot) held ∙ header_look f (cut_at code g Sync) slot b p same long version (pr 1 code) (left 1 code) s u
-        | suc (suc k) ↦ λ u. ap (held_cut k code (after g Sync) cs slot) (sync_held g slot (held_after f first slot (Some p)) ∙ held) ∙ pieces_cut cs k code (after g Sync) slot p a own refl (λ k. t (suc (suc k))) u
+      front = elim [ zero ↦ λ t. refl | suc j ↦ λ t. ap (held_after_all g (take j (Sync ∷ cs)) slot) (held (t 0 (omega arith))) ∙ pieces_front (Sync ∷ cs) j g slot p (tt, a) own (λ k l. t (suc k) (omega (arith, l))) ];
+      stopped = λ j code. elim j as (λ j. TellsUpTo (suc j) (first ∷ Sync ∷ cs) f slot p → TellsPrepare (cut j code f (first ∷ Sync ∷ cs)) slot p → held_cut j code f (first ∷ Sync ∷ cs) slot (Some p) ≡ Some p) [
+        | zero ↦ λ t u. ap (looked (cut_at code f first) slot) (begun_own f slot i code b p (held (t 0 (omega arith)))) ∙ header_look f (cut_at code f first) slot b p same long version (pr 0 code) (left 0 code) s u
+        | suc zero ↦ λ t u. ap (looked (cut_at code g Sync) slot) (held (t 0 (omega arith))) ∙ header_look f (cut_at code g Sync) slot b p same long version (pr 1 code) (left 1 code) s u
+        | suc (suc k) ↦ λ t u. ap (held_cut k code (after g Sync) cs slot) (sync_held g slot (held_after f first slot (Some p)) ∙ held (t 0 (omega arith))) ∙ pieces_cut cs k code (after g Sync) slot p a own refl (λ m l. t (suc (suc m)) (omega (arith, l))) u
       ];
     }

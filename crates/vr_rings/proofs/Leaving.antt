@@ -197,7 +197,7 @@ header_lasts h f p i n r e = let long = length-sector h i in lasts_in [] f (slot
 
 -- ---- what the slot holds in the end
 
-entry_reads : (g : Face) (e : Whole) → IsWhole e → ReadsAs g e → entry_read g (slot_of e.header) ≡ Some (prepare_bytes e)
+pub entry_reads : (g : Face) (e : Whole) → IsWhole e → ReadsAs g e → entry_read g (slot_of e.header) ≡ Some (prepare_bytes e)
 unfolding entry_of_both
 entry_reads g e w r =
     let p = prepare_bytes e in

@@ -1,4 +1,5 @@
 pub mod Cutting
+pub mod Entries
 pub mod Lasting
 pub mod Leaving
 pub mod Spelling

@@ -7,7 +7,8 @@ use Rattle.std.specs.Result.{result_ok}
 use Rattle.std.specs.Int.{w32}
 use Rattle.std.proofs.lemmas.Bool.{and_parts, eqb-true}
 use Rattle.std.proofs.lemmas.List.{drop-replicate, drop_at, drop_min, get_or-map, get_or-take, get_or_append_left, length-replicate, take-append-drop, take_at, take_min}
-use Rattle.vr_base.specs.Bytes.{IsBytes, number, piece}
+use Rattle.vr_base.specs.Bytes.{IsBytes, is_zeros, number, piece}
+use Rattle.vr_base.proofs.ZeroLaws.{are_zeros, zeros_are}
 use Rattle.vr_base.proofs.FieldLaws.{IsBytes-piece}
 use Rattle.vr_disk.specs.Buffers.{with_bytes}
 use Rattle.vr_disk.specs.DiskState.{Disk, damaged}
@@ -23,21 +24,7 @@ use Rattle.vr_header.proofs.Putting.{length-entry}
 use Rattle.vr_rings.specs.Held.{header_sector}
 use Rattle.vr_rings.specs.Laws.{OneSpelling}
 use Rattle.vr_rings.specs.Readings.{BeginsWith}
-use Rattle.vr_rings.specs.Slots.{IsWhole, header_of, is_zeros, prepare_bytes, prepare_reading, sector_of, size_at, whole_in, whole_of}
-
-pub zeros_are : (n : ℕ) → is_zeros (replicate n 0) ≡ true
-zeros_are zero = refl
-zeros_are (suc n) = zeros_are n
-
--- a comparison with as many zeros
-pub same_zeros : (b : List ℕ) (n : ℕ) → length b ≤ n → pointwise nat_eq b (take (length b) (replicate n 0)) ≡ is_zeros b
-same_zeros [] n l = refl
-same_zeros (x ∷ b) zero l = absurd (omega arith)
-same_zeros (x ∷ b) (suc n) l = ap (λ z. eqb x 0 && z) (same_zeros b n (omega arith))
-
-are_zeros : (b : List ℕ) → is_zeros b ≡ true → b ≡ replicate (length b) 0
-are_zeros [] e = refl
-are_zeros (x ∷ b) e = let p = and_parts (eqb x 0) (is_zeros b) e in ap (λ y. x ∷ y) (are_zeros b p.1) ∙ ap (λ y. y ∷ replicate (length b) 0) (eqb-true x 0 p.0)
+use Rattle.vr_rings.specs.Slots.{IsWhole, header_of, prepare_bytes, prepare_reading, sector_of, size_at, whole_in, whole_of}
 
 -- bytes put in front of zeros
 pub over_zeros : (n k : ℕ) (x new : List ℕ) → take k new ≡ x → drop k new ≡ drop k (replicate n 0) → new ≡ x ++ replicate (n - k) 0

@@ -1,5 +1,5 @@
 -- What a stop in the midst of a write leaves of the slots, and that what is read was written so.
-use Rattle.std.specs.Prelude.{ℕ, ◌+◌, ◌<◌, ◌≡◌, ◌⊎◌, false, true, List, take, length, Option, Some}
+use Rattle.std.specs.Prelude.{ℕ, suc, ◌+◌, ◌<◌, ◌≡◌, ◌⊎◌, false, true, List, take, length, Option, Some}
 use Rattle.vr_base.specs.Bytes.{IsBytes}
 use Rattle.vr_disk.specs.DiskState.{Call, Face, after_all, cell, cut, waits}
 use Rattle.vr_disk.specs.Regions.{header_at, prepare_at}
@@ -27,13 +27,17 @@ abbrev pub TellsPrepare : Face → ℕ → List ℕ → Type 0
 TellsPrepare f slot prepare =
     (other : List ℕ) → prepare_reading f slot ≡ Some other → is_prepare other ≡ true → header_sector other ≡ header_sector prepare → other ≡ prepare
 
--- what the slot held it holds throughout
+-- none after each of the first j of these calls
+abbrev pub TellsUpTo : ℕ → List Call → Face → ℕ → List ℕ → Type 0
+TellsUpTo j cs f slot prepare = (k : ℕ) → k < j → TellsPrepare (after_all f (take (suc k) cs)) slot prepare
+
+-- what the slot held it holds throughout, where there is none up to where the calls came, and none in what a stop leaves
 pub record Lasts (cs : List Call) (f : Face) (slot : ℕ) (prepare : List ℕ) : Type 0 where
-  pub front : (j : ℕ) → held_after_all f (take j cs) slot (Some prepare) ≡ Some prepare
-  pub stopped : (j code : ℕ) → TellsPrepare (cut j code f cs) slot prepare → held_cut j code f cs slot (Some prepare) ≡ Some prepare
+  pub front : (j : ℕ) → TellsUpTo j cs f slot prepare → held_after_all f (take j cs) slot (Some prepare) ≡ Some prepare
+  pub stopped : (j code : ℕ) → TellsUpTo (suc j) cs f slot prepare → TellsPrepare (cut j code f cs) slot prepare → held_cut j code f cs slot (Some prepare) ≡ Some prepare
 
 abbrev pub LastsIn : List Call → Face → ℕ → List ℕ → Type 0
-LastsIn cs f slot prepare = Stands f slot (Some prepare) → ((k : ℕ) → TellsPrepare (after_all f (take k cs)) slot prepare) → Lasts cs f slot prepare
+LastsIn cs f slot prepare = Stands f slot (Some prepare) → Lasts cs f slot prepare
 
 -- ---- what a stop leaves of the slot itself
 

@@ -1,16 +1,16 @@
 -- The slots of the two rings: what their sectors hold for an entry, and what they read as.
 use Rattle.std.specs.Prelude.{ℕ, ◌-◌, ◌%◌, ◌≡◌, Bool, ◌==◌, if◌then◌else◌, List, ◌++◌, length, take, drop, replicate, Option, None, Some}
-use Rattle.std.specs.List.{list_all}
 use Rattle.std.specs.Option.{option_and_then}
 use Rattle.std.specs.Result.{result_ok}
 use Rattle.std.specs.Int.{w32}
-use Rattle.vr_base.specs.Bytes.{number}
+use Rattle.vr_base.specs.Bytes.{is_zeros, number}
 use Rattle.vr_disk.specs.DiskState.{Face, reads}
 use Rattle.vr_disk.specs.Regions.{header_at, prepare_at}
 use Rattle.vr_disk.specs.Sectors.{together}
 use Rattle.vr_header.specs.declared.header.Header.{Header}
 use Rattle.vr_header.specs.Bodies.{IsOperation}
 use Rattle.vr_header.specs.Made.{IsEntry, Whole, entry_bytes, entry_of}
+use Rattle.vr_header.specs.Same.{same_header}
 use Rattle.vr_header.specs.Spelling.{IsHeader, decoded, header_bytes}
 
 -- an op's slot
@@ -34,9 +34,6 @@ unfoldable pub prepare_bytes : Whole → List ℕ
 prepare_bytes e = entry_bytes e ++ replicate (2048 - length (entry_bytes e)) 0
 
 -- ---- what bytes are
-
-abbrev pub is_zeros : List ℕ → Bool
-is_zeros bytes = list_all (λ b. b == 0) bytes
 
 -- the header of a header sector's bytes, None where they are no header and zeros
 unfoldable pub header_of : List ℕ → Option Header
@@ -66,6 +63,10 @@ header_in f slot = option_and_then header_of (header_reading f slot)
 -- the whole entry of the prepare
 unfoldable pub whole_in : Face → ℕ → Option Whole
 whole_in f slot = option_and_then whole_of (prepare_reading f slot)
+
+-- the entry of this header, where its slot has it
+abbrev pub entry_for : Face → Header → Option Whole
+entry_for f h = option_and_then (λ e. if same_header e.header h then Some e else None) (whole_in f (slot_of h))
 
 -- the slot reads as the entry
 pub record ReadsAs (f : Face) (e : Whole) : Type 0 where

@@ -4,21 +4,11 @@ ghost use Rattle.std.specs.Option.{option_map};
 ghost use Rattle.vr_base.specs.Bytes.{IsBytes};
 ghost use Rattle.vr_header.specs.Spelling.{IsHeader};
 ghost use Rattle.vr_rings.specs.Held.{header_sector};
-ghost use Rattle.vr_rings.specs.Slots.{IsWhole, header_of, is_zeros, prepare_bytes, sector_of, whole_of};
+ghost use Rattle.vr_rings.specs.Slots.{IsWhole, header_of, prepare_bytes, sector_of, whole_of};
 
-use vr_base::{put, u32_at};
+use vr_base::{is_zeros, put, u32_at};
 use vr_disk::Sector;
 use vr_header::{Entry, Header, decode, encode};
-
-static ZEROS: [u8; 2048] = [0; 2048];
-
-// Whether these, at most 2,048, are zeros.
-fn is_zeros(bytes: &[u8]) -> bool
-    requires { length bytes.now ≤ 2048 }
-    ensures { result ≡ is_zeros bytes.now }
-{
-    bytes == &ZEROS[..bytes.len()]
-}
 
 /// The header sector of an entry of this header.
 #[tactic(auto, using(crate::proofs::Spelling::spelled_sector))]

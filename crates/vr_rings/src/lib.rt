@@ -3,6 +3,7 @@
 
 mod bytes;
 mod fault;
+mod finding;
 mod laws;
 mod reading;
 mod slot;
@@ -10,6 +11,7 @@ mod writing;
 
 pub use bytes::{header_of, header_sector, whole_of};
 pub use fault::Bad;
+pub use finding::find_entry;
 pub use laws::slot_laws;
 pub use reading::{read_header, read_prepare, read_whole};
 pub use writing::{write_again, write_header, write_new};

@@ -1,4 +1,4 @@
--- Worked rows of stops. A fuse lets so many calls through: the sixth is cut behind five.
+-- Worked rows of stops. A fuse lets so many calls through: the sixth is cut after five.
 use Rattle.std.proofs.Common.{ℕ, ◌≡◌, List, [], ◌∷◌, ◌++◌, map, replicate, codes, refl}
 use Rattle.vr_header.specs.declared.operation.Operation.TheVariants.{Register}
 use Rattle.vr_rules.specs.World.{Happening, Arrives, Fuses, Ticks, Stops, Starts}

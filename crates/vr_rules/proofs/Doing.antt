@@ -310,7 +310,7 @@ empties : counts_after backup Tick ∷ counts_after changing Tick ∷ counts_aft
 unfolding after_fresh
 empties = refl
 
--- a statement for a later view, with which the choice waits, is kept behind the emptying; one that begins the view empties all
+-- a statement for a later view, with which the choice waits, is kept after the emptying; one that begins the view empties all
 keeps_statement : counts_after (in_view 3 3 (lacking (two 2))) (Deliver (frame.DoViewChange (record { cluster = 0; replica = 0; view = 5; statement = stating 0 0 (Unknown ∷ []) })))
     ≡ 0 ∷ 1 ∷ 1 ∷ []
 unfolding after_fresh

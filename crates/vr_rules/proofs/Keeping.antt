@@ -6,7 +6,8 @@ use Rattle.vr_base.specs.Groups.{quorums_of}
 use Rattle.vr_base.specs.Replicas.{no_replicas}
 use Rattle.vr_header.specs.Names.{no_name}
 use Rattle.vr_msg.specs.declared.statement.Statement.{Statement}
-use Rattle.vr_apply.specs.Folds.{empty}
+use Rattle.vr_apply.specs.declared.state.State.{State}
+use Rattle.vr_sess.specs.Sessions.{HaveNumbers}
 use Rattle.vr_ckpt.specs.Places as places
 use Rattle.vr_grid.specs.declared.name.Name.{Name}
 use Rattle.vr_rules.specs.Replica.{Replica, part_at, head, forgetting}
@@ -57,7 +58,6 @@ core r = record r {
   saved = first_value 0 0 0;
   root = record { address = 0; sum = no_name };
   table = places.empty;
-  state = empty;
 }
 
 into_core : (r : Replica) → IsSound r → IsSound (core r)
@@ -75,6 +75,7 @@ into_core r h =
       checkpoint = h.checkpoint;
       near = h.near;
       waits = h.waits;
+      numbers = h.numbers;
     }
 
 from_core : (r : Replica) → IsSound (core r) → IsSound r
@@ -92,6 +93,7 @@ from_core r h =
       checkpoint = h.checkpoint;
       near = h.near;
       waits = h.waits;
+      numbers = h.numbers;
     }
 
 pub sound_alike : (r q : Replica) → core q ≡ core r → IsSound r → IsSound q
@@ -115,6 +117,25 @@ sound_commit r c a b h =
       checkpoint = h.checkpoint;
       near = h.near;
       waits = h.waits;
+      numbers = h.numbers;
+    }
+
+pub sound_state : (r : Replica) (t : State) → HaveNumbers t.sessions → IsSound r → IsSound (record r { state = t })
+unfolding head part_at
+sound_state r t n h =
+    let o = h.order in
+    let l = h.lists in
+    record {
+      size = h.size;
+      member = h.member;
+      order = record { applied = o.applied; commit = o.commit; known = o.known; window = o.window; views = o.views; number = o.number };
+      lists = record { first = l.first; reach = l.reach; parts = l.parts; ackers = l.ackers; statements = l.statements; few = l.few };
+      entries = record { each = h.entries.each };
+      stated = record { each = h.stated.each };
+      checkpoint = h.checkpoint;
+      near = h.near;
+      waits = h.waits;
+      numbers = n;
     }
 
 pub sound_ackers : (r : Replica) (acks : List Replicas) → length acks ≡ length r.ackers → IsSound r → IsSound (record r { ackers = acks })
@@ -132,6 +153,7 @@ sound_ackers r acks e h =
       checkpoint = h.checkpoint;
       near = h.near;
       waits = h.waits;
+      numbers = h.numbers;
     }
 
 pub sound_missing : (r : Replica) (names : List Name) → (names ≢ [] → r.applied ≡ r.checkpoint) → IsSound r → IsSound (record r { missing = names })
@@ -149,6 +171,7 @@ sound_missing r names w h =
       checkpoint = h.checkpoint;
       near = h.near;
       waits = w;
+      numbers = h.numbers;
     }
 
 -- a greater view, and what is stated for it
@@ -169,6 +192,7 @@ sound_view r v ss a n each h =
       checkpoint = h.checkpoint;
       near = h.near;
       waits = h.waits;
+      numbers = h.numbers;
     }
 
 pub sound_applied : (r : Replica) → r.applied < r.commit → r.missing ≡ [] → r.applied + 1 < r.checkpoint + 32 → IsSound r → IsSound (record r { applied = r.applied + 1 })
@@ -187,6 +211,7 @@ sound_applied r a m b h =
       checkpoint = h.checkpoint;
       near = b;
       waits = λ n. absurd (n m);
+      numbers = h.numbers;
     }
 
 -- ---- sound but for ops that should be forgotten
@@ -204,6 +229,7 @@ pub record Roomy (r : Replica) : Type 0 where
   pub checkpoint : r.checkpoint % 32 ≡ 0
   pub near : r.applied < r.checkpoint + 32
   pub waits : r.missing ≢ [] → r.applied ≡ r.checkpoint
+  pub numbers : HaveNumbers r.state.sessions
 
 pub sound_few : (r : Replica) → Roomy r → head r < r.first + 64 → IsSound r
 sound_few r h few = record {
@@ -216,6 +242,7 @@ sound_few r h few = record {
   checkpoint = h.checkpoint;
   near = h.near;
   waits = h.waits;
+  numbers = h.numbers;
 }
 
 roomy_forgetting : (r : Replica) → Roomy r → Roomy (forgetting r)
@@ -239,6 +266,7 @@ roomy_forgetting r h =
       checkpoint = h.checkpoint;
       near = h.near;
       waits = h.waits;
+      numbers = h.numbers;
     }
 
 few_forgetting : (r : Replica) → Spans r → head (forgetting r) < (forgetting r).first + 64

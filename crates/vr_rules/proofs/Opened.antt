@@ -146,7 +146,7 @@ opens_backup : both (one 0 0) ≡ (codes "start 1 view 0 log_view 0 commit 1" �
 unfolding after_fresh
 opens_backup = refl
 
--- a primary leaves its view, saves that before the start line, and tells it behind what it applies; it replies to no one
+-- a primary leaves its view, saves that before the start line, and tells it after what it applies; it replies to no one
 opens_primary : both (one 4 4)
     ≡ (
       codes "start 1 view 5 log_view 4 commit 1"
@@ -194,3 +194,16 @@ opens_spent : map both (with_slot 1 None (Some (entry h1)) (with_sequence (2 ^ 6
     ∷ []
 unfolding after_fresh
 opens_spent = refl
+
+-- what is judged is the value that is opened: a primary with the last number that isn't past the end saves its next view, and goes on
+opens_at_the_end : both (with_sequence (2 ^ 64 - 256) (one 4 4))
+    ≡ (
+      codes "start 1 view 5 log_view 4 commit 1"
+          ∷ codes "commit 1 op 1 view 0 client 7 request 0 register"
+          ∷ codes "send 0 1 0 start_view_change view 5"
+          ∷ codes "send 1 1 2 start_view_change view 5"
+          ∷ [],
+      codes "MSssss",
+    )
+unfolding after_fresh
+opens_at_the_end = refl

@@ -6,6 +6,9 @@ use Rattle.std.specs.Option.{option_map}
 use Rattle.std.proofs.lemmas.Bool.{cases_lt, cases_eq, leb-true}
 use Rattle.std.proofs.lemmas.List.{length-set, length-replicate, get_or-replicate, get_or_past}
 use Rattle.std.proofs.lemmas.List.FromFn.{length-map-range_with_len}
+use Rattle.std.proofs.lemmas.Bool.{cond_both}
+use Rattle.vr_sess.specs.Sessions.{HaveNumbers}
+use Rattle.vr_apply.specs.Folds.{empty}
 use Rattle.vr_base.specs.Replicas.{no_replicas}
 use Rattle.vr_header.specs.declared.header.Header.{Header}
 use Rattle.vr_header.specs.declared.part.Part.{Part}
@@ -16,15 +19,15 @@ use Rattle.vr_recover.specs.declared.readings.Verdict.{Verdict}
 use Rattle.vr_recover.specs.declared.readings.Verdict.TheVariants as verdict
 use Rattle.vr_super.specs.Copies.{Saved}
 use Rattle.vr_rules.specs.Replica.{Replica, part_at, is_spent, is_started, leads, last_view, forgetting, with_part}
-use Rattle.vr_rules.specs.Steps.{Effect, Mend, Rewrite, Setting, Step, Word, ◌⨾◌, quiet, change, does, says, by, reading, when, each, after_all}
+use Rattle.vr_rules.specs.Steps.{Effect, Mend, Rewrite, Setting, Word, ◌⨾◌, quiet, change, does, says, by, reading, when, each, after_all}
 use Rattle.vr_rules.specs.Outputs.{send_to_all, start_view_change, start_line}
 use Rattle.vr_rules.specs.Words.{entry_of, save, load, apply}
-use Rattle.vr_rules.specs.Opening.{first_listed, blank, Slot, slot_at, slot_verdict, entry_header, part_by, rewrite, mend_slot, recover_op, old_part, recover_old, clouded_part, clouded_at, clouded, stored_above, is_listed, recover_parts, in_next_view, leave_view, heard_itself, announce, opening}
+use Rattle.vr_rules.specs.Opening.{first_listed, blank, Slot, slot_at, slot_verdict, entry_header, part_by, rewrite, mend_slot, recover_op, old_part, recover_old, clouded_part, clouded_at, clouded, stored_above, is_listed, recover_parts, in_next_view, leave_view, heard_itself, announce, opening, going_on, resuming}
 use Rattle.vr_rules.specs.Sound.{IsSound}
 use Rattle.vr_rules.specs.Laws.{IsMending, ReadsHeaders, OpeningsAreSound}
 use Rattle.vr_rules.proofs.Heads.{Spans, knows, part_within, part_before, known_within, knows_some, head_within, head_reaches, with_part_at, with_part_other, remade, remade_at, remade_known, forgetting_checkpoint}
 use Rattle.vr_rules.proofs.Keeping.{Kept, Roomy, sound_view, sound_forgetting}
-use Rattle.vr_rules.proofs.Combining.{Keeps, kept_then, kept_when, keeps_then, keeps_says, keeps_change, keeps_by, keeps_when}
+use Rattle.vr_rules.proofs.Combining.{Keeps, kept_then, keeps_then, keeps_says, keeps_change, keeps_by, keeps_when}
 use Rattle.vr_rules.proofs.Slots.{Value, value_is, IsOf, Reads, Right, right_header, slot_right}
 use Rattle.vr_rules.proofs.Wording.{kept_alike, keeps_save, keeps_apply, kept_load, none_stated}
 
@@ -269,7 +272,12 @@ partly_clouded v n r w h =
 
 -- ---- all Parts
 
-roomy_of : (v : Saved) (n : ℕ) (ps : List Part) → Value v → Partly v n (record (blank v) { parts = ps }) → v.fields.head ≤ n → Roomy (record (blank v) { parts = ps })
+-- no session has an op
+pub empty_numbers : HaveNumbers empty.sessions
+unfolding HaveNumbers
+empty_numbers = tt
+
+pub roomy_of : (v : Saved) (n : ℕ) (ps : List Part) → Value v → Partly v n (record (blank v) { parts = ps }) → v.fields.head ≤ n → Roomy (record (blank v) { parts = ps })
 unfolding blank
 roomy_of v n ps w h l =
     let q : Replica = record (blank v) { parts = ps } in
@@ -291,6 +299,7 @@ roomy_of v n ps w h l =
       checkpoint = w.whole;
       near = omega arith;
       waits = λ m. absurd (m refl);
+      numbers = empty_numbers;
     }
 
 -- sound, and with nothing applied above the checkpoint
@@ -354,11 +363,9 @@ unfolding save change does quiet ◌⨾◌
 same_applied true s r f e = e
 same_applied false s r f e = e
 
-pub left_applied : {F : Type 0} (b : Bool) (s : Setting F) (r : Replica) (f : F) → r.applied ≡ r.checkpoint
-    → (when b leave_view s r f).replica.applied ≡ (when b leave_view s r f).replica.checkpoint
-unfolding by quiet
-left_applied true s r f e = same_applied (leads r) s r f e
-left_applied false s r f e = e
+pub left_applied : {F : Type 0} (s : Setting F) (r : Replica) (f : F) → r.applied ≡ r.checkpoint → (leave_view s r f).replica.applied ≡ (leave_view s r f).replica.checkpoint
+unfolding by
+left_applied s r f e = same_applied (leads r) s r f e
 
 pub keeps_announce : {F : Type 0} → Keeps {F = F} announce
 keeps_announce =
@@ -366,15 +373,17 @@ keeps_announce =
     let told = keeps_by _ (λ r. keeps_when (nat_le r.view last_view) (says (send_to_all start_view_change)) (keeps_says _)) in
     keeps_by _ (λ r. keeps_when (not (is_started r)) _ (keeps_then _ _ itself told))
 
-sound_rest : {F : Type 0} (s : Setting F) (r : Replica) (f : F) → Opened r
-    → IsSound ((by (λ r. when (not (is_spent r)) leave_view) ⨾ says start_line ⨾ by (λ r. when (not (is_spent r)) (load ⨾ apply ⨾ announce))) s r f).replica
-unfolding ◌⨾◌ by says
-sound_rest {F} s r f h =
-    let a : Step = when (not (is_spent r)) leave_view s r f in
-    let q : Replica = a.replica in
-    let k : IsSound q = ((keeps_when (not (is_spent r)) leave_view keeps_leave_view).every s r f h.sound).kept.sound in
-    let e : q.applied ≡ q.checkpoint = left_applied (not (is_spent r)) s r f h.applied in
-    (kept_when (not (is_spent q)) (load ⨾ apply ⨾ announce) s q _ k (λ t. kept_then load (apply ⨾ announce) s q _ (kept_load s q _ k e) (keeps_then apply announce keeps_apply keeps_announce))).kept.sound
+sound_on : {F : Type 0} (s : Setting F) (r : Replica) (f : F) → Opened r → IsSound (going_on s r f).replica
+unfolding ◌⨾◌ says
+sound_on s r f h =
+    let q : Replica = (leave_view s r f).replica in
+    let k : IsSound q = (keeps_leave_view.every s r f h.sound).kept.sound in
+    let e : q.applied ≡ q.checkpoint = left_applied s r f h.applied in
+    (kept_then load (apply ⨾ announce) s q _ (kept_load s q _ k e) (keeps_then apply announce keeps_apply keeps_announce)).kept.sound
+
+sound_rest : {F : Type 0} (s : Setting F) (r : Replica) (f : F) → Opened r → IsSound (resuming s r f).replica
+unfolding by says
+sound_rest {F} s r f h = cond_both (is_spent r) (says start_line) going_on (λ (w : Word F). IsSound (w s r f).replica) (λ t. h.sound) (λ t. sound_on s r f h)
 
 pub openings_are_sound : {F : Type 0} → OpeningsAreSound F
 unfolding opening ◌⨾◌ does after_all

@@ -136,7 +136,7 @@ plain = record {
   block = λ f name. option_map_or (λ k. Some (root_block k.op)) (kept_under f name) None;
   is_block = is_block;
   loaded = loaded;
-  saved = λ cluster texts op old. record { root = root_name op; table = places.empty };
+  save_state = λ cluster texts op old. record { root = root_name op; table = places.empty };
   after = after;
 }
 

@@ -22,11 +22,11 @@ use Rattle.vr_sess.specs.declared.session.SessionAnswer.{SessionAnswer}
 use Rattle.vr_sess.specs.declared.session.SessionAnswer.TheVariants as answer
 use Rattle.vr_rules.specs.Replica.{Replica, last_view, is_started, is_primary, is_spent, is_frozen, head}
 use Rattle.vr_rules.specs.Steps.{Setting, change}
-use Rattle.vr_rules.specs.Outputs.{Asker}
+use Rattle.vr_rules.specs.declared.asker.Asker.{Asker}
 use Rattle.vr_rules.specs.Words.{write, apply, is_loaded, ask, load}
 use Rattle.vr_rules.specs.Deciding.{Hash, session_answer, request_table, get_block_table, is_wanted, give_block_table, tick_table}
 use Rattle.vr_rules.specs.Rules.{asker_by, next_entry, make, stored_reply, obey_request, on_request, asked_block, block_at, give_read, obey_get_block, on_get_block, without, put_block, put_found, test_of, obey_give_block, on_give_block, idler, next_view, obey_tick, on_tick, on_message, on_event, react}
-use Rattle.vr_rules.specs.Sound.{IsSound}
+use Rattle.vr_rules.specs.Sound.{IsNameBytes, IsSound}
 use Rattle.vr_rules.specs.Laws.{IsMessage, IsEvent, HasNames, StepsStaySound}
 use Rattle.vr_rules.proofs.Keeping.{Kept, sound_missing}
 use Rattle.vr_rules.proofs.Combining.{KeptBy, Keeps, kept_then, kept_change_then, kept_does_then, kept_by, kept_naming, kept_reading, kept_when, keeps_then, keeps_quiet, keeps_says, keeps_change, keeps_by, keeps_when, keeps_if}
@@ -47,7 +47,7 @@ operation_size (Put key value) h =
 operation_size (Get key) h = let k = text_limit 64 key h in (omega arith, omega (arith, k))
 operation_size (Delete key) h = let k = text_limit 64 key h in (omega arith, omega (arith, k))
 
-pub may_store_next : (hash : Hash) (q : RequestFields) (r : Replica) → ((bytes : List ℕ) → length (hash bytes) ≡ 16) → IsSound r → IsMessage (frame.Request q)
+pub may_store_next : (hash : Hash) (q : RequestFields) (r : Replica) → ((bytes : List ℕ) → IsNameBytes (hash bytes)) → IsSound r → IsMessage (frame.Request q)
     → q.cluster ≡ r.cluster → r.view ≡ r.log_view → r.view ≤ last_view → r.commit ≤ r.applied → head r < r.commit + 8 → head r < 2 ^ 62 → MayStore (next_entry hash q r) r
 unfolding next_entry
 may_store_next hash q r names h m g v w a b c =
@@ -61,9 +61,12 @@ may_store_next hash q r names h m g v w a b c =
       above = omega arith;
       window = omega arith;
       header = record {
-        body = names _;
-        parent = names _;
-        request_name = names _;
+        body = (names _).0;
+        body_bytes = (names _).1;
+        parent = (names _).0;
+        parent_bytes = (names _).1;
+        request_name = (names _).0;
+        request_name_bytes = (names _).1;
         cluster = omega (arith, cluster, g);
         client = m.header.client;
         request = m.header.request;

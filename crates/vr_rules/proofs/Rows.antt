@@ -25,7 +25,7 @@ plain_path : replayed 3 plain
 unfolding replayed
 plain_path = refl
 
--- the lines of what happens behind the plain path
+-- the lines of what happens beyond the plain path
 abbrev after_plain : List Happening → List (List ℕ)
 after_plain xs = drop 11 (replayed 3 (plain ++ xs))
 

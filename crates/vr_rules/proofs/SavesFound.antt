@@ -3,6 +3,7 @@ use Rattle.std.proofs.Common.{arith, ◌≡◌, ◌⊎◌, ◌≤◌, ◌<◌, �
 use Rattle.std.specs.Prelude.{filter, slice_get, nat_lt, nat_le, nat_eq, ◌&&◌, ◌||◌}
 use Rattle.std.specs.List.{range_with_len}
 use Rattle.std.proofs.lemmas.Bool.{and_parts, or_cases, cases_lt, cases_eq, ltb-true, leb-true, leb-false, eqb-true}
+use Rattle.vr_base.specs.Bytes.{is_zeros}
 use Rattle.vr_header.specs.declared.header.Header.{Header}
 use Rattle.vr_header.specs.declared.part.Part.{Part}
 use Rattle.vr_header.specs.Made.{Whole}
@@ -10,7 +11,7 @@ use Rattle.vr_msg.specs.Choice.{ops}
 use Rattle.vr_msg.specs.Logs.{has_header}
 use Rattle.vr_recover.specs.declared.readings.Verdict.{Verdict}
 use Rattle.vr_recover.specs.declared.readings.Verdict.TheVariants as verdict
-use Rattle.vr_super.specs.Copies.{Saved, IsGood, good_fields, good_member, good_window, good_root, good_count, is_zeros}
+use Rattle.vr_super.specs.Copies.{Saved, IsGood, good_fields, good_member, good_window, good_root, good_count}
 use Rattle.vr_rules.specs.Replica.{Replica, head, forgetting, with_part}
 use Rattle.vr_rules.specs.Steps.{Setting, ◌⨾◌, quiet, change, does, reading, each, after_all}
 use Rattle.vr_rules.specs.Words.{entry_of}
@@ -54,13 +55,11 @@ old_known v h s r f w is a p e =
 
 this_or_later : {F : Type 0} (v : Saved) (h : Header) (hs : List Header) (s : Setting F) (r : Replica) (f : F) → Value v → IsOld v h → h.op ≤ v.fields.checkpoint → Partly v v.fields.checkpoint r
     → (knows r v.fields.checkpoint ≡ true) ⊎ Lists v.fields.checkpoint (h ∷ hs) → (knows (recover_old h s r f).replica v.fields.checkpoint ≡ true) ⊎ Lists v.fields.checkpoint hs
-unfolding Lists
 this_or_later v h hs s r f w is a p (inl e) = inl (old_known v h s r f w is a p (inl e))
 this_or_later v h hs s r f w is a p (inr (zero, g, at, op)) = let same : h ≡ g = cc in inl (old_known v h s r f w is a p (inr (sym op ∙ sym (ap (λ (x : Header). x.op) same))))
 this_or_later v h hs s r f w is a p (inr (suc i, g, at, op)) = inr (i, g, at, op)
 
 pub only_later : (c : ℕ) (h : Header) (hs : List Header) (r : Replica) → c < h.op → (knows r c ≡ true) ⊎ Lists c (h ∷ hs) → (knows r c ≡ true) ⊎ Lists c hs
-unfolding Lists
 only_later c h hs r l (inl e) = inl e
 only_later c h hs r l (inr (zero, g, at, op)) = let same : h ≡ g = cc in let o : h.op ≡ g.op = ap (λ (x : Header). x.op) same in absurd (omega arith)
 only_later c h hs r l (inr (suc i, g, at, op)) = inr (i, g, at, op)
@@ -68,7 +67,7 @@ only_later c h hs r l (inr (suc i, g, at, op)) = inr (i, g, at, op)
 olds_known : {F : Type 0} (v : Saved) (hs : List Header) (s : Setting F) (r : Replica) (f : F) → Value v → ((i : ℕ) (h : Header) → slice_get hs i ≡ Some h → IsOld v h)
     → Partly v v.fields.checkpoint r → ReadsHeaders s f → (knows r v.fields.checkpoint ≡ true) ⊎ Lists v.fields.checkpoint hs
     → knows (each recover_old (filter (λ h. nat_le h.op v.fields.checkpoint) hs) s r f).replica v.fields.checkpoint ≡ true
-unfolding each quiet Lists ◌⨾◌
+unfolding each quiet ◌⨾◌
 olds_known v [] s r f w are p k (inl e) = e
 olds_known v [] s r f w are p k (inr l) = let no : None ≡ Some l.1 = l.2 in absurd cc
 olds_known {F} v (h ∷ hs) s r f w are p k e =
@@ -129,7 +128,6 @@ clouded_known v n k r w p e =
 
 -- the list has the header of the value's head
 pub lists_head : (v : Saved) → Value v → 0 < length v.headers → Lists v.fields.head v.headers
-unfolding Lists
 lists_head v w some =
     let there = log_reaches v.headers (length v.headers - 1) (omega arith) in
     let is = (w.each (length v.headers - 1) there.0 there.1).1 in
@@ -172,7 +170,7 @@ savable_found v ps g top =
       view = g.numbers.view;
       log_view = ltb-true v.fields.log_view (2 ^ 32 - 1) (and_parts (nat_le k.log_view k.view) (nat_lt k.log_view (2 ^ 32 - 1)) member.1).1;
       address = ltb-true v.fields.root_address 128 root.0;
-      name = g.numbers.root_name;
+      name = (g.numbers.root_name, g.numbers.root_name_bytes);
       none = λ e. elim (or_cases (nat_lt 0 v.fields.checkpoint) (nat_eq v.fields.root_address 0 && is_zeros v.fields.root_name.0) root.1) [
         | inl some ↦ let l : 0 < v.fields.checkpoint = ltb-true 0 v.fields.checkpoint some in let none : v.fields.checkpoint ≡ 0 = e in absurd (omega (arith, l, none))
         | inr rest ↦ let z = and_parts (nat_eq v.fields.root_address 0) (is_zeros v.fields.root_name.0) rest in (eqb-true v.fields.root_address 0 z.0, z.1)

@@ -1,5 +1,5 @@
 -- Each opening saves values that make good copies.
-use Rattle.std.proofs.Common.{arith, ◌≡◌, ◌<◌, ◌+◌, ◌-◌, ◌^◌, refl, ℕ, Bool, true, false, not, List, [], ◌∷◌, map, Option, Some, None}
+use Rattle.std.proofs.Common.{arith, ◌≡◌, ◌<◌, ◌+◌, ◌-◌, ◌^◌, refl, ℕ, Bool, true, false, List, [], ◌∷◌, Option, Some, None}
 use Rattle.std.specs.Prelude.{All, nat_le}
 use Rattle.std.proofs.lemmas.Bool.{and_parts, ltb-false, eqb-true}
 use Rattle.std.proofs.lemmas.List.Elements.{All-nil, All-cons, All-append, All-map}
@@ -8,10 +8,10 @@ use Rattle.vr_recover.specs.declared.readings.Verdict.{Verdict}
 use Rattle.vr_recover.specs.declared.readings.Verdict.TheVariants as verdict
 use Rattle.vr_super.specs.Copies.{Saved}
 use Rattle.vr_rules.specs.Replica.{Replica, head, part_at, is_spent, is_started, is_primary, leads, last_view}
-use Rattle.vr_rules.specs.Steps.{Effect, Mend, Say, Setting, Word, ◌⨾◌, quiet, change, does, says, by, reading, when, each, after_all}
+use Rattle.vr_rules.specs.Steps.{Effect, Mend, Say, Setting, Word, ◌⨾◌, quiet, change, does, says, by, reading, each, after_all}
 use Rattle.vr_rules.specs.Outputs.{send_to_all, start_view_change, start_line}
 use Rattle.vr_rules.specs.Words.{save, apply, load}
-use Rattle.vr_rules.specs.Opening.{Slot, blank, recover_old, recover_op, recover_parts, mend_slot, rewrite, leave_view, in_next_view, heard_itself, announce, opening}
+use Rattle.vr_rules.specs.Opening.{Slot, blank, recover_old, recover_op, recover_parts, mend_slot, rewrite, leave_view, in_next_view, heard_itself, announce, opening, going_on, resuming}
 use Rattle.vr_rules.specs.Sound.{IsSavable}
 use Rattle.vr_rules.specs.Laws.{IsGoodSave, SavesRoots, SavesWell, OpeningsSaveWell}
 use Rattle.vr_rules.proofs.Combining.{Keeps, keeps_change}
@@ -72,7 +72,7 @@ module _ {F : Type 0} where
 -- ---- the rest
 
 -- views of an opening
-abbrev every : ℕ
+abbrev pub every : ℕ
 every = 2 ^ 32
 
 pub savable_next : (r : Replica) → r.view + 1 < 2 ^ 32 → IsSavable r → IsSavable (in_next_view r)
@@ -94,38 +94,32 @@ module _ {F : Type 0} (s : Setting F) (roots : SavesRoots s) where
       goods_by every s 0 _ (λ r. goods_when every s 0 _ _ (goods_then every s 0 0 _ _ (goods_change every s heard_itself keeps_itself (λ r. refl) (λ r. refl))
       (goods_by every s 0 _ (λ r. goods_when every s 0 (nat_le r.view last_view) (says (send_to_all start_view_change)) (goods_says every s _)))))
 
-  good_leave : (n : ℕ) (b : Bool) (r : Replica) (f : F) → Well every (n + 1) r → GoodBy {F = F} every n (when b leave_view) s r f
-  good_leave n b r f h =
+  pub good_leave : (n : ℕ) (r : Replica) (f : F) → Well every (n + 1) r → GoodBy {F = F} every n leave_view s r f
+  good_leave n r f h =
       let less = well_less every n (n + 1) r (omega arith) h in
-      good_when every s n b leave_view r f less (λ t. good_by every s n _ r f (good_when every s n (leads r) _ r f less (λ e.
-      good_change_then every s n in_next_view save r f (λ d. (goods_save every s).every n (in_next_view r) d (well_next (n + 1) r e h)))))
+      good_by every s n _ r f (good_when every s n (leads r) _ r f less (λ e.
+      good_change_then every s n in_next_view save r f (λ d. (goods_save every s).every n (in_next_view r) d (well_next (n + 1) r e h))))
 
-  good_rest : (r : Replica) (f : F) → r.applied ≡ r.checkpoint → Well every 65 r
-      → GoodBy {F = F} every 0 (by (λ r. when (not (is_spent r)) leave_view) ⨾ says start_line ⨾ by (λ r. when (not (is_spent r)) (load ⨾ apply ⨾ announce))) s r f
-  unfolding by
+  good_rest : (r : Replica) (f : F) → r.applied ≡ r.checkpoint → Well every 65 r → GoodBy {F = F} every 0 going_on s r f
   good_rest r f e h =
-      let b : Bool = not (is_spent r) in
-      let a = when b leave_view s r f in
-      let q : Replica = a.replica in
-      let l = good_leave 64 b r f h in
-      let same : q.applied ≡ q.checkpoint = left_applied b s r f e in
-      good_then_at every s 0 (by (λ r. when (not (is_spent r)) leave_view)) _ r f l.saves (good_says_then every s 0 start_line _ q _ (λ d.
-      good_by every s 0 (λ x. when (not (is_spent x)) (load ⨾ apply ⨾ announce)) q d (good_when every s 0 (not (is_spent q)) (load ⨾ apply ⨾ announce) q d (well_less every 0 64 q (omega arith) l.well) (λ t.
-      good_then every s 64 0 load (apply ⨾ announce) q d (good_load every s 64 q d same l.well) (λ x y w. (goods_then every s 64 0 apply announce (goods_apply every s roots) goods_announce).every 0 x y w)))))
+      let q : Replica = (leave_view s r f).replica in
+      let l = good_leave 64 r f h in
+      let same : q.applied ≡ q.checkpoint = left_applied s r f e in
+      good_then_at every s 0 leave_view _ r f l.saves (good_says_then every s 0 start_line _ q _ (λ d.
+      good_then every s 64 0 load (apply ⨾ announce) q d (good_load every s 64 q d same l.well) (λ x y w. (goods_then every s 64 0 apply announce (goods_apply every s roots) goods_announce).every 0 x y w)))
 
 -- where sequence numbers are at their end nothing is saved
-spent_rest : {F : Type 0} (s : Setting F) (r : Replica) (f : F) → is_spent r ≡ true → IsSavable r
-    → SavesWell ((by (λ r. when (not (is_spent r)) leave_view) ⨾ says start_line ⨾ by (λ r. when (not (is_spent r)) (load ⨾ apply ⨾ announce))) s r f)
-unfolding ◌⨾◌ by says quiet
-spent_rest s r f e v = rw e (rw e (record { each = All-append IsGoodSave (map Say (start_line r)) [] (All-map IsGoodSave Say (start_line r) (λ k d l. tt)) (All-nil IsGoodSave); savable = v }))
+spent_rest : {F : Type 0} (s : Setting F) (r : Replica) (f : F) → is_spent r ≡ true → IsSavable r → SavesWell (resuming s r f)
+unfolding by says
+spent_rest s r f e v = rw e (record { each = All-map IsGoodSave Say (start_line r) (λ k d l. tt); savable = v })
 
-rest_saves : {F : Type 0} (s : Setting F) (r : Replica) (f : F) (b : Bool) → is_spent r ≡ b → SavesRoots s → Opened r → IsSavable r
-    → SavesWell ((by (λ r. when (not (is_spent r)) leave_view) ⨾ says start_line ⨾ by (λ r. when (not (is_spent r)) (load ⨾ apply ⨾ announce))) s r f)
+rest_saves : {F : Type 0} (s : Setting F) (r : Replica) (f : F) (b : Bool) → is_spent r ≡ b → SavesRoots s → Opened r → IsSavable r → SavesWell (resuming s r f)
+unfolding by
 rest_saves s r f true e roots o v = spent_rest s r f e v
 rest_saves s r f false e roots o v =
     let room = ltb-false (2 ^ 64 - 256) r.saved.fields.sequence e in
     let g = good_rest s roots r f o.applied (record { sound = o.sound; savable = v; view = v.view; room = omega (arith, room) }) in
-    record { each = g.saves; savable = g.well.savable }
+    rw e (record { each = g.saves; savable = g.well.savable })
 
 saves_then : {F : Type 0} (s : Setting F) (r : Replica) (f : F) (a b : Word F) → All IsGoodSave (a s r f).script → SavesWell (b s (a s r f).replica (after_all s f (a s r f).script)) → SavesWell ((a ⨾ b) s r f)
 unfolding ◌⨾◌

@@ -1,5 +1,5 @@
 -- Changes of Parts leave what can be saved.
-use Rattle.std.proofs.Common.{arith, ◌≡◌, ◌⊎◌, ◌≤◌, ◌<◌, ◌+◌, ◌-◌, ◌^◌, inl, inr, refl, sym, ap, ◌∙◌, subst, ℕ, true, List, length, Some, is_some}
+use Rattle.std.proofs.Common.{arith, ◌≡◌, ◌⊎◌, ◌≤◌, ◌<◌, ◌+◌, ◌-◌, ◌^◌, inl, inr, refl, sym, ap, ◌∙◌, subst, ℕ, true, List, Some, is_some}
 use Rattle.std.specs.Prelude.{nat_lt, nat_le, nat_eq, ◌&&◌, ◌||◌}
 use Rattle.std.proofs.lemmas.Bool.{and_parts, or_cases, cases_lt, ltb-true, eqb-true, le-leb}
 use Rattle.vr_ckpt.specs.declared.saving.Saved as checkpoint
@@ -10,7 +10,7 @@ use Rattle.vr_header.specs.Made.{Whole}
 use Rattle.vr_msg.specs.Logs.{header_of, has_header}
 use Rattle.vr_rules.specs.Replica.{Replica, part_at, head, header_at, forgetting, with_part}
 use Rattle.vr_rules.specs.Words.{Log, stored, lost, entered, with_checkpoint, taken, taken_part, fits, is_newer, is_chain, may_take}
-use Rattle.vr_rules.specs.Sound.{IsSound, IsSavable}
+use Rattle.vr_rules.specs.Sound.{IsNameBytes, IsSound, IsSavable}
 use Rattle.vr_rules.proofs.Heads.{Spans, knows, known_within, head_from, head_knows, head_least, head_reaches, with_part_spans, forgetting_at, forgetting_head, remade_at}
 use Rattle.vr_rules.proofs.Keeping.{spans_of}
 use Rattle.vr_rules.proofs.Storing.{MayStore, with_part_known, moved, moved_at, moved_head}
@@ -89,7 +89,7 @@ topped_moved c e r h a some =
     let at : knows (moved c e r) (head r) ≡ true = ap has_header (moved_at c e r (head r)) ∙ head_knows r (head r) (spans_of r h) (omega arith) (omega arith) in
     subst (λ k. knows (moved c e r) k ≡ true) (sym same) at
 
-pub savable_move : (c : checkpoint.Saved) (r : Replica) → c.root.address < 128 → length c.root.sum.0 ≡ 16 → 0 < r.applied → IsSavable r → Topped (with_checkpoint c r) → IsSavable (with_checkpoint c r)
+pub savable_move : (c : checkpoint.Saved) (r : Replica) → c.root.address < 128 → IsNameBytes c.root.sum.0 → 0 < r.applied → IsSavable r → Topped (with_checkpoint c r) → IsSavable (with_checkpoint c r)
 unfolding with_checkpoint
 savable_move c r a b some v top =
     record { cluster = v.cluster; view = v.view; log_view = v.log_view; address = a; name = b; none = λ e. absurd (omega (arith, e, some)); top = top }

@@ -3,6 +3,8 @@ use Rattle.std.proofs.Common.{arith, ◌≡◌, ◌≤◌, ◌<◌, ◌+◌, ◌
 use Rattle.std.specs.Prelude.{nat_lt}
 use Rattle.std.proofs.lemmas.Bool.{and_parts, ltb-true, ltb-false, eqb-true, eqb-false}
 use Rattle.std.proofs.lemmas.List.{nil_from_length}
+use Rattle.vr_rules.proofs.Wording.{entry_numbered, read_is}
+use Rattle.vr_msg.specs.Numbers.{IsNumber}
 use Rattle.vr_ckpt.specs.declared.saving.Saved as checkpoint
 use Rattle.vr_apply.specs.Texts.{texts_of}
 use Rattle.vr_grid.specs.declared.name.Name.{Name}
@@ -16,7 +18,7 @@ use Rattle.vr_rules.specs.Replica.{Replica, last_view, part_at, forgetting, with
 use Rattle.vr_rules.specs.Steps.{Setting, Word, quiet, change, says, when}
 use Rattle.vr_rules.specs.Outputs.{commit_line, applied_reply}
 use Rattle.vr_rules.specs.Words.{Log, save, entered, rested, enter, writes, stored, write, accept, entry_of, or_lost, lost, with_entry, with_entry_at, applied, checkpoints, with_checkpoint, checkpoint_of, make_checkpoint, is_checkpoint, apply_entry, is_loaded, apply_next, apply, taken, prepare_again, may_take, resend, turned, ask_peer, ask_for, ask}
-use Rattle.vr_rules.specs.Sound.{IsSound, IsSavable}
+use Rattle.vr_rules.specs.Sound.{IsNameBytes, IsSound, IsSavable}
 use Rattle.vr_rules.specs.Laws.{SavesRoots}
 use Rattle.vr_rules.proofs.Combining.{Keeps, keeps_change}
 use Rattle.vr_rules.proofs.Storing.{MayStore, kept_stored, kept_lost, kept_moved, kept_applied}
@@ -41,15 +43,15 @@ unfolding entered
 well_entered v n view r a b c h =
     record { sound = (kept_entered view r h.sound a).sound; savable = savable_entered view r (omega arith) h.savable; view = b; room = h.room }
 
-savable_moved : (c : checkpoint.Saved) (e : Whole) (r : Replica) → c.root.address < 128 → length c.root.sum.0 ≡ 16 → IsSound r → r.applied < r.commit → IsSavable r
+savable_moved : (c : checkpoint.Saved) (e : Whole) (r : Replica) → c.root.address < 128 → IsNameBytes c.root.sum.0 → IsSound r → r.applied < r.commit → IsSavable r
     → IsSavable (with_checkpoint c (applied e r))
 savable_moved c e r a b h l w = savable_move c (applied e r) a b (omega arith) (savable_alike r (applied e r) refl w) (topped_moved c e r h l)
 
-well_moved : (v n : ℕ) (c : checkpoint.Saved) (e : Whole) (r : Replica) → c.root.address < 128 → length c.root.sum.0 ≡ 16 → r.applied < r.commit → r.missing ≡ [] → (r.applied + 1) % 32 ≡ 0
+well_moved : (v n : ℕ) (c : checkpoint.Saved) (e : Whole) (r : Replica) → c.root.address < 128 → IsNameBytes c.root.sum.0 → IsNumber e.header.op → r.applied < r.commit → r.missing ≡ [] → (r.applied + 1) % 32 ≡ 0
     → Well v n r → Well v n (with_checkpoint c (applied e r))
 unfolding with_checkpoint
-well_moved v n c e r a b l m d h =
-    record { sound = (kept_moved c e r h.sound l m d).sound; savable = savable_moved c e r a b h.sound l h.savable; view = h.view; room = h.room }
+well_moved v n c e r a b k l m d h =
+    record { sound = (kept_moved c e r h.sound k l m d).sound; savable = savable_moved c e r a b h.sound l h.savable; view = h.view; room = h.room }
 
 pub well_taken : (v n : ℕ) (hash : List ℕ → List ℕ) (l : Log) (r : Replica) → IsLogFor r l → may_take hash l r ≡ true → l.view < v → v ≤ 2 ^ 32 - 1 → Well v n r → Well v n (taken l r)
 unfolding taken forgetting
@@ -93,23 +95,25 @@ module _ {F : Type 0} (v : ℕ) (s : Setting F) where
 
   -- ---- reading
 
-  good_or_lost : (n k : ℕ) (g : Header) (w : Whole → Word F) (o : Option Whole) (r : Replica) (f : F) → part_at r k ≡ Here g → Well v n r → ((e : Whole) → GoodBy v n (w e) s r f) → GoodBy v n (or_lost g w o) s r f
+  good_or_lost : (n k : ℕ) (g : Header) (w : Whole → Word F) (o : Option Whole) (r : Replica) (f : F) → part_at r k ≡ Here g → Well v n r → ((e : Whole) → o ≡ Some e → GoodBy v n (w e) s r f) → GoodBy v n (or_lost g w o) s r f
   good_or_lost n k g w None r f e h all = good_change v s n (lost g) r f (well_lost v n k g r e h)
-  good_or_lost n k g w (Some x) r f e h all = all x
+  good_or_lost n k g w (Some x) r f e h all = all x refl
 
-  good_part : (n k : ℕ) (w : Whole → Word F) (p : Part) (r : Replica) (f : F) → part_at r k ≡ p → Well v n r → ((e : Whole) → GoodBy v n (w e) s r f) → GoodBy v n (with_entry w p) s r f
-  good_part n k w (Here g) r f e h all = good_reading v s n (entry_of g) (or_lost g w) r f (good_or_lost n k g w (entry_of g s f) r f e h all)
+  good_part : (n k : ℕ) (w : Whole → Word F) (p : Part) (r : Replica) (f : F) → part_at r k ≡ p → Well v n r → ((e : Whole) → IsNumber e.header.op → GoodBy v n (w e) s r f) → GoodBy v n (with_entry w p) s r f
+  good_part n k w (Here g) r f e h all =
+      good_reading v s n (entry_of g) (or_lost g w) r f (good_or_lost n k g w (entry_of g s f) r f e h
+      (λ d i. all d (entry_numbered k g r d h.sound e (read_is g (s.entry f (g.op % 64)) d i))))
   good_part n k w (Lost g) r f e h all = good_quiet v s n r f h
   good_part n k w (Wanted g) r f e h all = good_quiet v s n r f h
   good_part n k w Unknown r f e h all = good_quiet v s n r f h
   good_part n k w Nothing r f e h all = good_quiet v s n r f h
 
-  pub good_entry : (n k : ℕ) (w : Whole → Word F) (r : Replica) (f : F) → Well v n r → ((e : Whole) → GoodBy v n (w e) s r f) → GoodBy v n (with_entry_at k w) s r f
+  pub good_entry : (n k : ℕ) (w : Whole → Word F) (r : Replica) (f : F) → Well v n r → ((e : Whole) → IsNumber e.header.op → GoodBy v n (w e) s r f) → GoodBy v n (with_entry_at k w) s r f
   unfolding with_entry_at
   good_entry n k w r f h all = good_by v s n _ r f (good_part n k w (part_at r k) r f refl h all)
 
   pub goods_entry : (k : ℕ) (w : Whole → Word F) → ((e : Whole) → Good v 0 (w e) s) → Good v 0 (with_entry_at k w) s
-  goods_entry k w all = record { every = λ n r f h. good_entry n k w r f (well_less v n (n + 0) r (omega arith) h) (λ e. (all e).every n r f h) }
+  goods_entry k w all = record { every = λ n r f h. good_entry n k w r f (well_less v n (n + 0) r (omega arith) h) (λ e i. (all e).every n r f h) }
 
   pub goods_prepare_again : (op : ℕ) → Good {F = F} v 0 (prepare_again op) s
   unfolding prepare_again
@@ -135,29 +139,29 @@ module _ {F : Type 0} (v : ℕ) (s : Setting F) where
 module _ {F : Type 0} (v : ℕ) (s : Setting F) (roots : SavesRoots s) where
   -- ---- applying
 
-  good_checkpoint : (n : ℕ) (e : Whole) (r : Replica) (f : F) → r.applied < r.commit → r.missing ≡ [] → (r.applied + 1) % 32 ≡ 0 → Well v (n + 1) r → GoodBy {F = F} v n make_checkpoint s (applied e r) f
+  good_checkpoint : (n : ℕ) (e : Whole) (r : Replica) (f : F) → IsNumber e.header.op → r.applied < r.commit → r.missing ≡ [] → (r.applied + 1) % 32 ≡ 0 → Well v (n + 1) r → GoodBy {F = F} v n make_checkpoint s (applied e r) f
   unfolding make_checkpoint
-  good_checkpoint n e r f a m d h =
+  good_checkpoint n e r f k a m d h =
       let q : Replica = applied e r in
       let c : checkpoint.Saved = checkpoint_of q s f in
       good_by v s n _ q f (good_reading v s n (checkpoint_of q) _ q f (good_does_then v s n checkpoints _ q f tt (λ x.
       good_change_then v s n (with_checkpoint c) save q x (λ y. (goods_save v s).every n (with_checkpoint c q) y
-      (well_moved v (n + 1) c e r (roots.address q.cluster (texts_of q.state) q.applied q.table) (roots.name q.cluster (texts_of q.state) q.applied q.table) a m d h)))))
+      (well_moved v (n + 1) c e r (roots.address q.cluster (texts_of q.state) q.applied q.table) (roots.name q.cluster (texts_of q.state) q.applied q.table) k a m d h)))))
 
-  well_applied : (n : ℕ) (e : Whole) (r : Replica) → r.applied < r.commit → r.missing ≡ [] → ((r.applied + 1) % 32 ≡ 0 → ⊥) → Well v n r → Well v n (applied e r)
-  well_applied n e r a m d h = well_alike v n r (applied e r) refl refl (kept_applied e r h.sound a m d).sound h
+  well_applied : (n : ℕ) (e : Whole) (r : Replica) → IsNumber e.header.op → r.applied < r.commit → r.missing ≡ [] → ((r.applied + 1) % 32 ≡ 0 → ⊥) → Well v n r → Well v n (applied e r)
+  well_applied n e r k a m d h = well_alike v n r (applied e r) refl refl (kept_applied e r h.sound k a m d).sound h
 
-  good_applied : (n : ℕ) (e : Whole) (r : Replica) (f : F) (b : Bool) → b ≡ is_checkpoint (r.applied + 1) → r.applied < r.commit → r.missing ≡ [] → Well v (n + 1) r
+  good_applied : (n : ℕ) (e : Whole) (r : Replica) (f : F) (b : Bool) → b ≡ is_checkpoint (r.applied + 1) → IsNumber e.header.op → r.applied < r.commit → r.missing ≡ [] → Well v (n + 1) r
       → GoodBy {F = F} v n (when b make_checkpoint) s (applied e r) f
-  good_applied n e r f true i a m h = good_checkpoint n e r f a m (eqb-true ((r.applied + 1) % 32) 0 (sym i)) h
-  good_applied n e r f false i a m h =
-      good_quiet v s n (applied e r) f (well_less v n (n + 1) (applied e r) (omega arith) (well_applied (n + 1) e r a m (eqb-false ((r.applied + 1) % 32) 0 (sym i)) h))
+  good_applied n e r f true i k a m h = good_checkpoint n e r f k a m (eqb-true ((r.applied + 1) % 32) 0 (sym i)) h
+  good_applied n e r f false i k a m h =
+      good_quiet v s n (applied e r) f (well_less v n (n + 1) (applied e r) (omega arith) (well_applied (n + 1) e r k a m (eqb-false ((r.applied + 1) % 32) 0 (sym i)) h))
 
-  good_apply_entry : (n : ℕ) (e : Whole) (r : Replica) (f : F) → r.applied < r.commit → r.missing ≡ [] → Well v (n + 1) r → GoodBy {F = F} v n (apply_entry e) s r f
+  good_apply_entry : (n : ℕ) (e : Whole) (r : Replica) (f : F) → IsNumber e.header.op → r.applied < r.commit → r.missing ≡ [] → Well v (n + 1) r → GoodBy {F = F} v n (apply_entry e) s r f
   unfolding apply_entry
-  good_apply_entry n e r f a m h =
+  good_apply_entry n e r f k a m h =
       good_says_then v s n (commit_line e) _ r f (λ d. good_says_then v s n (applied_reply e) _ r d (λ x. good_change_then v s n (applied e) _ r x (λ y.
-      good_by v s n _ (applied e r) y (good_applied n e r y (is_checkpoint (r.applied + 1)) refl a m h))))
+      good_by v s n _ (applied e r) y (good_applied n e r y (is_checkpoint (r.applied + 1)) refl k a m h))))
 
   goods_apply_next : Good {F = F} v 1 apply_next s
   unfolding apply_next
@@ -167,7 +171,7 @@ module _ {F : Type 0} (v : ℕ) (s : Setting F) (roots : SavesRoots s) where
         good_by v s n _ r f (good_when v s n _ _ r f less (λ t.
         let p = and_parts (is_loaded r) (nat_lt r.applied r.commit) t in
         let m : r.missing ≡ [] = nil_from_length r.missing (eqb-true (length r.missing) 0 p.0) in
-        good_entry v s n (r.applied + 1) apply_entry r f less (λ e. good_apply_entry n e r f (ltb-true r.applied r.commit p.1) m h)));
+        good_entry v s n (r.applied + 1) apply_entry r f less (λ e k. good_apply_entry n e r f k (ltb-true r.applied r.commit p.1) m h)));
   }
 
   -- at most a window of ops is applied

@@ -19,8 +19,11 @@ use Rattle.vr_sess.specs.declared.session.SessionAnswer.{SessionAnswer}
 use Rattle.vr_sess.specs.declared.session.SessionAnswer.TheVariants as answer
 use Rattle.vr_rules.specs.Replica.{Replica, is_primary}
 use Rattle.vr_rules.specs.Steps.{quiet, outputs}
+use Rattle.vr_rules.specs.declared.asker.Asker.{Asker}
 use Rattle.vr_rules.specs.Outputs as told
-use Rattle.vr_rules.specs.Deciding.{Rule, Table, Hash, Redirected, Behind, Answered, Full, Made, PreparedLater, Past, Beyond, Known, Next, Ahead, Other, Counted, CommitLater, CommitHeard, ViewGiven, EntryGiven, EntryTaken, BlockGiven, BlockTaken, is_from, is_from_primary}
+use Rattle.vr_rules.specs.Deciding.{Table, Hash, is_from, is_from_primary}
+use Rattle.vr_rules.specs.declared.rule.Rule.{Rule}
+use Rattle.vr_rules.specs.declared.rule.Rule.TheVariants.{Redirected, Behind, Answered, Full, Made, PreparedLater, Past, Beyond, Known, Next, Ahead, Other, Counted, CommitLater, CommitHeard, ViewGiven, EntryGiven, EntryTaken, BlockGiven, BlockTaken}
 use Rattle.vr_rules.specs.Deciding.{first_of as first_row}
 use Rattle.vr_rules.specs.Rules as rules
 use Rattle.vr_rules.proofs.SendsPlaces.{IsOther}
@@ -67,7 +70,7 @@ module _ {F : Type 0} {MayAsk : ℕ → ℕ → Type 0} {o : Replica} where
   pub calm_acknowledge : (hash : Hash) (h : Header) → is_primary o ≡ false → Calm {F = F} MayAsk o (rules.acknowledge hash h)
   calm_acknowledge hash h e = calm_primary _ e (λ r near. (own r, refl))
 
-  pub calm_stored_reply : (a : told.Asker) (x : SessionAnswer) → Calm {F = F} MayAsk o (rules.stored_reply a x)
+  pub calm_stored_reply : (a : Asker) (x : SessionAnswer) → Calm {F = F} MayAsk o (rules.stored_reply a x)
   calm_stored_reply a answer.Fresh = calm_quiet
   calm_stored_reply a (answer.Repeat outcome op) = calm_replies a _
   calm_stored_reply a answer.Old = calm_replies a _

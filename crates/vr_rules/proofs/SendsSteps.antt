@@ -17,7 +17,9 @@ use Rattle.vr_rules.specs.Replica.{Replica, last_view, is_frozen, forgetting}
 use Rattle.vr_rules.specs.Steps.{Setting, Word, ◌⨾◌, quiet, change, does, says, by, naming, reading, outputs, after_all}
 use Rattle.vr_rules.specs.Outputs as told
 use Rattle.vr_rules.specs.Words as words
-use Rattle.vr_rules.specs.Deciding.{Rule, Hash, Ignored, PreparedBefore, PreparedLater, ChangeBefore, ChangeLater, ChangeHeard, ChangeDone, StatedLate, Stated, Taken, TickedPrimary, TickedBackup, TickedChanging, is_from, is_from_primary, log_of}
+use Rattle.vr_rules.specs.Deciding.{Hash, is_from, is_from_primary, log_of}
+use Rattle.vr_rules.specs.declared.rule.Rule.{Rule}
+use Rattle.vr_rules.specs.declared.rule.Rule.TheVariants.{Ignored, PreparedBefore, PreparedLater, ChangeBefore, ChangeLater, ChangeHeard, ChangeDone, StatedLate, Stated, Taken, TickedPrimary, TickedBackup, TickedChanging}
 use Rattle.vr_rules.specs.Deciding.{first_of as first_row}
 use Rattle.vr_rules.specs.Rules as rules
 use Rattle.vr_rules.specs.Laws.{IsPlaced, IsPresent, Answers, StepsArePresent}

@@ -24,6 +24,7 @@ use Rattle.vr_msg.specs.declared.choice.Choice.TheVariants.{Ends, WaitsAt, TooFe
 use Rattle.vr_msg.specs.Normal.{primary}
 use Rattle.vr_rules.specs.Replica.{Replica, leads, is_primary, statement_of, forgetting, with_part}
 use Rattle.vr_rules.specs.Steps.{Word, change, says, outputs}
+use Rattle.vr_rules.specs.declared.asker.Asker.{Asker}
 use Rattle.vr_rules.specs.Outputs as told
 use Rattle.vr_rules.specs.Words as words
 use Rattle.vr_rules.specs.Laws.{IsPlaced, IsBy, IsCommitOf, IsPresentFrame, IsPresentOutput}
@@ -127,7 +128,7 @@ module _ {F : Type 0} {MayAsk : ℕ → ℕ → Type 0} {o : Replica} where
   unfolding words.with_entry_at
   calm_entry op w k = calm_by _ (λ r near. calm_part w _ k)
 
-  pub calm_replies : (x : told.Asker) (kind : Replica → ReplyKind) → Calm {F = F} MayAsk o (says (λ r. told.replies x (kind r) r))
+  pub calm_replies : (x : Asker) (kind : Replica → ReplyKind) → Calm {F = F} MayAsk o (says (λ r. told.replies x (kind r) r))
   calm_replies x kind = calm_one _ (λ r near. (own r, refl))
 
   calm_reply : (e : Whole) → Calm {F = F} MayAsk o (says (told.applied_reply e))

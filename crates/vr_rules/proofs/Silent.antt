@@ -8,7 +8,9 @@ use Rattle.vr_msg.specs.declared.frame.Prepare.{Prepare}
 use Rattle.vr_rules.specs.Replica.{Replica, is_frozen}
 use Rattle.vr_rules.specs.Steps.{Setting, Word, quiet, change, by, naming, reading}
 use Rattle.vr_rules.specs.Words.{rested}
-use Rattle.vr_rules.specs.Deciding.{Rule, Table, Hash, Ignored, InFlight, PreparedBefore, Beyond, Other, CommitBefore, ChangeBefore, StatedBefore, request_table, prepare_table, prepare_ok_table, commit_table, start_view_change_table, do_view_change_table, start_view_table, get_view_table, get_prepare_table, give_prepare_table, get_block_table, give_block_table, tick_table}
+use Rattle.vr_rules.specs.Deciding.{Table, Hash, request_table, prepare_table, prepare_ok_table, commit_table, start_view_change_table, do_view_change_table, start_view_table, get_view_table, get_prepare_table, give_prepare_table, get_block_table, give_block_table, tick_table}
+use Rattle.vr_rules.specs.declared.rule.Rule.{Rule}
+use Rattle.vr_rules.specs.declared.rule.Rule.TheVariants.{Ignored, InFlight, PreparedBefore, Beyond, Other, CommitBefore, ChangeBefore, StatedBefore}
 use Rattle.vr_rules.specs.Deciding.{first_of as first_row}
 use Rattle.vr_rules.specs.Rules.{asked_block, obey_request, obey_prepare, obey_prepare_ok, obey_commit, obey_start_view_change, obey_do_view_change, obey_start_view, obey_get_view, obey_get_prepare, obey_give_prepare, obey_get_block, obey_give_block, obey_tick, on_request, on_prepare, on_prepare_ok, on_commit, on_start_view_change, on_do_view_change, on_start_view, on_get_view, on_get_prepare, on_give_prepare, on_get_block, on_give_block, on_tick, on_message, on_event, react, message_rule, event_rule, rule_for}
 use Rattle.vr_rules.specs.Laws.{SaysNothing, NothingIsDone, OnlyHears, OnlyHearingIsDone}

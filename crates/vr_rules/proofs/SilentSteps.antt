@@ -30,23 +30,26 @@ use Rattle.vr_sess.specs.declared.session.SessionAnswer.{SessionAnswer}
 use Rattle.vr_sess.specs.declared.session.SessionAnswer.TheVariants as answer
 use Rattle.vr_rules.specs.Replica.{Replica}
 use Rattle.vr_rules.specs.Steps.{Effect, Setting, Step, Word, ◌⨾◌, quiet, change, does, says, by, naming, outputs, after_all}
+use Rattle.vr_rules.specs.declared.asker.Asker.{Asker}
 use Rattle.vr_rules.specs.Outputs as told
 use Rattle.vr_rules.specs.Words as words
-use Rattle.vr_rules.specs.Deciding.{Rule, Hash, Redirected, Behind, Answered, Full, Made, PreparedLater, Past, Beyond, Known, Next, Ahead, Other, Counted, CommitLater, CommitHeard, ChangeLater, ChangeHeard, ChangeDone, StatedLate, Stated, Taken, ViewGiven, EntryGiven, EntryTaken, BlockGiven, BlockTaken, TickedPrimary, TickedBackup, TickedChanging}
+use Rattle.vr_rules.specs.Deciding.{Hash}
+use Rattle.vr_rules.specs.declared.rule.Rule.{Rule}
+use Rattle.vr_rules.specs.declared.rule.Rule.TheVariants.{Redirected, Behind, Answered, Full, Made, PreparedLater, Past, Beyond, Known, Next, Ahead, Other, Counted, CommitLater, CommitHeard, ChangeLater, ChangeHeard, ChangeDone, StatedLate, Stated, Taken, ViewGiven, EntryGiven, EntryTaken, BlockGiven, BlockTaken, TickedPrimary, TickedBackup, TickedChanging}
 use Rattle.vr_rules.specs.Rules as rules
 use Rattle.vr_rules.specs.Laws.{WaitsChangeNoPart}
 use Rattle.vr_rules.proofs.SendsScripts.{outputs_append}
-use Rattle.vr_rules.proofs.SilentWaits.{IsNoWait, Mute, mute_then, mute_quiet, mute_change, mute_does, mute_by, mute_naming, mute_reading, mute_if, mute_each, mute_one, mute_all, mute_write, mute_entry, mute_apply, mute_take, mute_prepare_again, mute_begin, mute_advance, mute_learn, mute_accept, mute_resend, mute_load}
+use Rattle.vr_rules.proofs.SilentWaits.{IsNoWait, Mute, Unwaiting, unwaiting_mute, mute_then, mute_quiet, mute_change, mute_does, mute_by, mute_naming, mute_reading, mute_if, mute_each, mute_one, mute_all, mute_write, mute_entry, mute_apply, mute_take, mute_prepare_again, unwaiting_begin, mute_advance, mute_learn, mute_accept, mute_resend, mute_load}
 
-record IsStill (r : Replica) (x : Step) : Type 0 where
-  first : x.replica.first ≡ r.first
-  parts : x.replica.parts ≡ r.parts
+pub record IsStill (r : Replica) (x : Step) : Type 0 where
+  pub first : x.replica.first ≡ r.first
+  pub parts : x.replica.parts ≡ r.parts
 
 module _ {F : Type 0} where
   -- no wait is said, and no Part changes
-  record Still (w : Word F) : Type 0 where
-    mute : Mute w
-    still : (s : Setting F) (r : Replica) (f : F) → IsStill r (w s r f)
+  pub record Still (w : Word F) : Type 0 where
+    pub mute : Mute w
+    pub still : (s : Setting F) (r : Replica) (f : F) → IsStill r (w s r f)
 
   -- no wait is said, or no Part changes
   record Steady (w : Word F) : Type 0 where
@@ -95,7 +98,7 @@ module _ {F : Type 0} where
   unfolding words.save outputs
   still_save = still_then _ _ (still_does _ (mute_does _ (λ r. refl))) (still_change _ (λ r. refl) (λ r. refl))
 
-  still_enter : (v : ℕ) → Still (words.enter v)
+  pub still_enter : (v : ℕ) → Still (words.enter v)
   unfolding words.enter words.entered
   still_enter v =
       still_if _ _ _ (still_change _ (λ r. refl) (λ r. refl)) (still_then _ _ (still_change _ (λ r. refl) (λ r. refl)) (still_then _ _ still_save (still_says _ (mute_all _))))
@@ -109,14 +112,17 @@ module _ {F : Type 0} where
   still_ask_for [] (Some h) = still_naming _ (λ hash. still_ask_peer _)
   still_ask_for [] None = still_quiet
 
-  still_ask : Still words.ask
+  pub still_ask : Still words.ask
   unfolding words.ask
   still_ask = still_by _ (λ r. still_ask_for _ _)
 
   -- ---- what may wait
 
   steady_mute : (w : Word F) → Mute w → Steady w
-  steady_mute w h = record { each = λ s r f. inl (h.said s r f) }
+  steady_mute w h = record { each = λ s r f. inl ((unwaiting_mute w h).said s r f) }
+
+  steady_unwaiting : (w : Word F) → Unwaiting w → Steady w
+  steady_unwaiting w h = record { each = λ s r f. inl (h.said s r f) }
 
   steady_still : (w : Word F) → Still w → Steady w
   steady_still w h = record { each = λ s r f. inr (h.still s r f) }
@@ -134,7 +140,7 @@ module _ {F : Type 0} where
         let b = w s a.replica g in
         let p = h.still s r f in
         elim (k.each s a.replica g) [
-          | inl m ↦ inl (rw (outputs_append a.script b.script) (All-append IsNoWait (outputs a.script) (outputs b.script) (h.mute.said s r f) m))
+          | inl m ↦ inl (rw (outputs_append a.script b.script) (All-append IsNoWait (outputs a.script) (outputs b.script) ((unwaiting_mute v h.mute).said s r f) m))
           | inr q ↦ inr (record { first = q.first ∙ p.first; parts = q.parts ∙ p.parts })
         ];
   }
@@ -148,7 +154,7 @@ module _ {F : Type 0} where
         let b = w s a.replica g in
         let q = k.still s a.replica g in
         elim (h.each s r f) [
-          | inl m ↦ inl (rw (outputs_append a.script b.script) (All-append IsNoWait (outputs a.script) (outputs b.script) m (k.mute.said s a.replica g)))
+          | inl m ↦ inl (rw (outputs_append a.script b.script) (All-append IsNoWait (outputs a.script) (outputs b.script) m ((unwaiting_mute w k.mute).said s a.replica g)))
           | inr p ↦ inr (record { first = q.first ∙ p.first; parts = q.parts ∙ p.parts })
         ];
   }
@@ -170,7 +176,7 @@ module _ {F : Type 0} where
   steady_choice ss TooFew = steady_still _ still_quiet
   steady_choice ss (WaitsAt op) = steady_waits op
   steady_choice ss (Ends headers) =
-      steady_by _ (λ r. steady_naming _ (λ hash. steady_by _ (λ r'. steady_if _ _ _ (steady_mute _ (mute_begin ss (words.chosen_log r ss headers))) (steady_waits _))))
+      steady_by _ (λ r. steady_naming _ (λ hash. steady_by _ (λ r'. steady_if _ _ _ (steady_unwaiting _ (unwaiting_begin ss (words.chosen_log r ss headers))) (steady_waits _))))
 
   steady_try : Steady words.try
   unfolding words.try
@@ -182,14 +188,14 @@ module _ {F : Type 0} where
 
   -- ---- the rules
 
-  mute_replies : (a : told.Asker) (x : SessionAnswer) → Mute {F = F} (rules.stored_reply a x)
+  mute_replies : (a : Asker) (x : SessionAnswer) → Mute {F = F} (rules.stored_reply a x)
   mute_replies a answer.Fresh = mute_quiet
   mute_replies a (answer.Repeat outcome op) = mute_one _ (λ r. tt)
   mute_replies a answer.Old = mute_one _ (λ r. tt)
   mute_replies a answer.Gap = mute_one _ (λ r. tt)
   mute_replies a answer.Evicted = mute_one _ (λ r. tt)
 
-  mute_request : (hash : Hash) (q : RequestFields) (rule : Rule) → Mute {F = F} (rules.obey_request hash q rule)
+  pub mute_request : (hash : Hash) (q : RequestFields) (rule : Rule) → Mute {F = F} (rules.obey_request hash q rule)
   unfolding rules.make
   mute_request hash q Redirected = mute_one _ (λ r. tt)
   mute_request hash q Behind = mute_one _ (λ r. tt)
@@ -198,7 +204,7 @@ module _ {F : Type 0} where
   mute_request hash q Made = mute_by _ (λ r. mute_then _ _ (mute_write _) (mute_then _ _ (mute_all _) mute_advance))
   mute_request hash q _ = mute_quiet
 
-  mute_prepare : (hash : Hash) (p : Prepare) (rule : Rule) → Mute {F = F} (rules.obey_prepare hash p rule)
+  pub mute_prepare : (hash : Hash) (p : Prepare) (rule : Rule) → Mute {F = F} (rules.obey_prepare hash p rule)
   mute_prepare hash p PreparedLater = mute_one _ (λ r. tt)
   mute_prepare hash p Past = mute_then _ _ (mute_change _) (mute_learn _)
   mute_prepare hash p Beyond = mute_change _
@@ -208,11 +214,11 @@ module _ {F : Type 0} where
   mute_prepare hash p Other = mute_change _
   mute_prepare hash p _ = mute_quiet
 
-  mute_prepare_ok : (a : PrepareOk) (rule : Rule) → Mute {F = F} (rules.obey_prepare_ok a rule)
+  pub mute_prepare_ok : (a : PrepareOk) (rule : Rule) → Mute {F = F} (rules.obey_prepare_ok a rule)
   mute_prepare_ok a Counted = mute_then _ _ (mute_change _) mute_advance
   mute_prepare_ok a _ = mute_quiet
 
-  mute_commit : (c : Commit) (rule : Rule) → Mute {F = F} (rules.obey_commit c rule)
+  pub mute_commit : (c : Commit) (rule : Rule) → Mute {F = F} (rules.obey_commit c rule)
   mute_commit c CommitLater = mute_one _ (λ r. tt)
   mute_commit c CommitHeard = mute_then _ _ (mute_change _) (mute_then _ _ (mute_by _ (λ r. mute_if _ _ _ (mute_one _ (λ r. tt)) mute_quiet)) (mute_learn _))
   mute_commit c _ = mute_quiet
@@ -237,19 +243,19 @@ module _ {F : Type 0} where
   unfolding rules.acknowledge_stored
   mute_stored hash op = mute_by _ (λ r. mute_if _ _ _ (mute_acknowledged hash _) mute_quiet)
 
-  mute_start_view : (hash : Hash) (v : StartView) (rule : Rule) → Mute {F = F} (rules.obey_start_view hash v rule)
+  pub mute_start_view : (hash : Hash) (v : StartView) (rule : Rule) → Mute {F = F} (rules.obey_start_view hash v rule)
   mute_start_view hash v Taken = mute_then _ _ (mute_take _) (mute_then _ _ (mute_by _ (λ r. mute_each _ _ (mute_stored hash))) mute_apply)
   mute_start_view hash v _ = mute_quiet
 
-  mute_get_view : (g : GetView) (rule : Rule) → Mute {F = F} (rules.obey_get_view g rule)
+  pub mute_get_view : (g : GetView) (rule : Rule) → Mute {F = F} (rules.obey_get_view g rule)
   mute_get_view g ViewGiven = mute_one _ (λ r. tt)
   mute_get_view g _ = mute_quiet
 
-  mute_get_prepare : (g : GetPrepare) (rule : Rule) → Mute {F = F} (rules.obey_get_prepare g rule)
+  pub mute_get_prepare : (g : GetPrepare) (rule : Rule) → Mute {F = F} (rules.obey_get_prepare g rule)
   mute_get_prepare g EntryGiven = mute_entry _ _ (λ e. mute_one _ (λ r. tt))
   mute_get_prepare g _ = mute_quiet
 
-  mute_give_prepare : (g : GivePrepare) (rule : Rule) → Mute {F = F} (rules.obey_give_prepare g rule)
+  pub mute_give_prepare : (g : GivePrepare) (rule : Rule) → Mute {F = F} (rules.obey_give_prepare g rule)
   mute_give_prepare g EntryTaken = mute_then _ _ (mute_write _) (mute_then _ _ (mute_resend _) mute_apply)
   mute_give_prepare g _ = mute_quiet
 
@@ -257,7 +263,7 @@ module _ {F : Type 0} where
   mute_read g None = mute_quiet
   mute_read g (Some block) = mute_one _ (λ r. tt)
 
-  mute_get_block : (g : GetBlock) (block : Option (List ℕ)) (rule : Rule) → Mute {F = F} (rules.obey_get_block g block rule)
+  pub mute_get_block : (g : GetBlock) (block : Option (List ℕ)) (rule : Rule) → Mute {F = F} (rules.obey_get_block g block rule)
   mute_get_block g block BlockGiven = mute_read g block
   mute_get_block g block _ = mute_quiet
 
@@ -267,7 +273,7 @@ module _ {F : Type 0} where
   mute_put block (Some name) =
       mute_then _ _ (mute_then _ _ (mute_does _ (λ r. refl)) (mute_then _ _ (mute_change _) (mute_by _ (λ r. mute_if _ _ _ mute_load mute_quiet)))) mute_apply
 
-  mute_give_block : (is_block : Name → List ℕ → Bool) (g : GiveBlock) (rule : Rule) → Mute {F = F} (rules.obey_give_block is_block g rule)
+  pub mute_give_block : (is_block : Name → List ℕ → Bool) (g : GiveBlock) (rule : Rule) → Mute {F = F} (rules.obey_give_block is_block g rule)
   mute_give_block is_block g BlockTaken = mute_by _ (λ r. mute_put _ _)
   mute_give_block is_block g _ = mute_quiet
 

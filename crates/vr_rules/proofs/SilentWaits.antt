@@ -1,8 +1,8 @@
--- A step that waits changes no Part: most words say no wait, and what the others do beside it changes no Part.
-use Rattle.std.proofs.Common.{◌≡◌, refl, ℕ, zero, suc, Bool, true, false, cond, List, [], ◌∷◌, Option, Some, None}
+-- Most words say neither that a choice waits nor that a log is chosen.
+use Rattle.std.proofs.Common.{◌≡◌, refl, ℕ, zero, suc, Bool, true, false, cond, List, [], ◌∷◌, Option, Some, None, map}
 use Rattle.std.specs.Prelude.{All, ⊤}
 use Rattle.std.proofs.lemmas.Bool.{cond_both}
-use Rattle.std.proofs.lemmas.List.Elements.{All-nil, All-cons, All-append, All-map}
+use Rattle.std.proofs.lemmas.List.Elements.{All-nil, All-cons, All-append, All-map, All-head, All-tail}
 use Rattle.vr_header.specs.declared.header.Header.{Header}
 use Rattle.vr_header.specs.declared.part.Part.{Part}
 use Rattle.vr_header.specs.declared.part.Part.TheVariants.{Here, Lost, Wanted, Unknown, Nothing}
@@ -12,18 +12,40 @@ use Rattle.vr_msg.specs.declared.output.Output.{Output}
 use Rattle.vr_msg.specs.declared.output.Output.TheVariants as output
 use Rattle.vr_msg.specs.declared.statement.Statement.{Statement}
 use Rattle.vr_rules.specs.Replica.{Replica, leads}
-use Rattle.vr_rules.specs.Steps.{Effect, Setting, Word, ◌⨾◌, quiet, change, does, says, by, naming, reading, times, each, outputs, after_all}
+use Rattle.vr_rules.specs.Steps.{Effect, Setting, Word, ◌⨾◌, quiet, change, does, says, by, naming, reading, times, each, outputs, after_all, Say}
 use Rattle.vr_rules.specs.Outputs as told
 use Rattle.vr_rules.specs.Words as words
 use Rattle.vr_rules.proofs.SendsScripts.{outputs_append, outputs_said}
+
+-- neither a wait nor a choice
+abbrev pub IsPlain : Output → Type 0
+IsPlain (output.Wait line) = ⊥
+IsPlain (output.Choose line) = ⊥
+IsPlain _ = ⊤
 
 abbrev pub IsNoWait : Output → Type 0
 IsNoWait (output.Wait line) = ⊥
 IsNoWait _ = ⊤
 
+-- whatever holds of all plain outputs holds of each of these
+pub plain_are : (P : Output → Type 0) → ((o : Output) → IsPlain o → P o) → (os : List Output) → All IsPlain os → All P os
+plain_are P h [] k = All-nil P
+plain_are P h (o ∷ os) k = All-cons P o os (h o (All-head IsPlain o os k)) (plain_are P h os (All-tail IsPlain o os k))
+
+plain_waits : (o : Output) → IsPlain o → IsNoWait o
+plain_waits (output.Wait line) h = h
+plain_waits (output.Send s) h = tt
+plain_waits (output.Reply a) h = tt
+plain_waits (output.Commit c) h = tt
+plain_waits (output.Choose c) h = tt
+plain_waits (output.Start s) h = tt
+plain_waits (output.Halted r) h = tt
+plain_waits output.Done h = tt
+plain_waits output.KeptOut h = tt
+
 module _ {F : Type 0} where
   pub record Mute (w : Word F) : Type 0 where
-    pub said : (s : Setting F) (r : Replica) (f : F) → All IsNoWait (outputs (w s r f).script)
+    pub said : (s : Setting F) (r : Replica) (f : F) → All IsPlain (outputs (w s r f).script)
 
   pub mute_then : (v w : Word F) → Mute v → Mute w → Mute (v ⨾ w)
   unfolding ◌⨾◌
@@ -31,22 +53,22 @@ module _ {F : Type 0} where
     said = λ s r f.
         let a = v s r f in
         let b = w s a.replica (after_all s f a.script) in
-        rw (outputs_append a.script b.script) (All-append IsNoWait (outputs a.script) (outputs b.script) (h.said s r f) (k.said s a.replica (after_all s f a.script)));
+        rw (outputs_append a.script b.script) (All-append IsPlain (outputs a.script) (outputs b.script) (h.said s r f) (k.said s a.replica (after_all s f a.script)));
   }
 
   pub mute_quiet : Mute quiet
   unfolding quiet outputs
-  mute_quiet = record { said = λ s r f. All-nil IsNoWait }
+  mute_quiet = record { said = λ s r f. All-nil IsPlain }
 
   pub mute_change : (g : Replica → Replica) → Mute (change g)
   unfolding change outputs
-  mute_change g = record { said = λ s r f. All-nil IsNoWait }
+  mute_change g = record { said = λ s r f. All-nil IsPlain }
 
   pub mute_does : (e : Replica → Effect) → ((r : Replica) → outputs (e r ∷ []) ≡ []) → Mute (does e)
   unfolding does
-  mute_does e n = record { said = λ s r f. rw (n r) (All-nil IsNoWait) }
+  mute_does e n = record { said = λ s r f. rw (n r) (All-nil IsPlain) }
 
-  pub mute_says : (os : Replica → List Output) → ((r : Replica) → All IsNoWait (os r)) → Mute (says os)
+  pub mute_says : (os : Replica → List Output) → ((r : Replica) → All IsPlain (os r)) → Mute (says os)
   unfolding says
   mute_says os n = record { said = λ s r f. rw (outputs_said (os r)) (n r) }
 
@@ -78,12 +100,12 @@ module _ {F : Type 0} where
 
   -- ---- words
 
-  pub mute_one : (o : Replica → Output) → ((r : Replica) → IsNoWait (o r)) → Mute (says (λ r. o r ∷ []))
-  mute_one o n = mute_says _ (λ r. All-cons IsNoWait (o r) [] (n r) (All-nil IsNoWait))
+  pub mute_one : (o : Replica → Output) → ((r : Replica) → IsPlain (o r)) → Mute (says (λ r. o r ∷ []))
+  mute_one o n = mute_says _ (λ r. All-cons IsPlain (o r) [] (n r) (All-nil IsPlain))
 
   pub mute_all : (message : Replica → Frame) → Mute (says (told.send_to_all message))
   unfolding told.send_to_all
-  mute_all message = mute_says _ (λ r. All-map IsNoWait (λ to. told.send to (message r) r) (told.others r.index r.n) (λ k d l. tt))
+  mute_all message = mute_says _ (λ r. All-map IsPlain (λ to. told.send to (message r) r) (told.others r.index r.n) (λ k d l. tt))
 
   pub mute_save : Mute words.save
   unfolding words.save outputs
@@ -110,7 +132,7 @@ module _ {F : Type 0} where
 
   mute_reply : (e : Whole) → Mute (says (told.applied_reply e))
   mute_reply e =
-      mute_says _ (λ r. cond_both (leads r) (told.replies (told.asker_of e) (told.kind_of _) r) [] (λ os. All IsNoWait os) (λ _. All-cons IsNoWait _ [] tt (All-nil IsNoWait)) (λ _. All-nil IsNoWait))
+      mute_says _ (λ r. cond_both (leads r) (told.replies (told.asker_of e) (told.kind_of _) r) [] (λ os. All IsPlain os) (λ _. All-cons IsPlain _ [] tt (All-nil IsPlain)) (λ _. All-nil IsPlain))
 
   mute_checkpoint : Mute words.make_checkpoint
   unfolding words.make_checkpoint outputs
@@ -133,10 +155,27 @@ module _ {F : Type 0} where
   unfolding words.prepare_again
   mute_prepare_again op = mute_entry op _ (λ e. mute_all _)
 
-  pub mute_begin : (ss : List Statement) (l : words.Log) → Mute (words.begin_view ss l)
+  -- no wait, though a choice it may be
+  pub record Unwaiting (w : Word F) : Type 0 where
+    pub said : (s : Setting F) (r : Replica) (f : F) → All IsNoWait (outputs (w s r f).script)
+
+  pub unwaiting_mute : (w : Word F) → Mute w → Unwaiting w
+  unwaiting_mute w h = record { said = λ s r f. plain_are IsNoWait plain_waits (outputs (w s r f).script) (h.said s r f) }
+
+  unwaiting_says : (os : Replica → List Output) (w : Word F) → ((r : Replica) → All IsNoWait (os r)) → Mute w → Unwaiting (says os ⨾ w)
+  unfolding ◌⨾◌ says
+  unwaiting_says os w n h = record {
+    said = λ s r f.
+        let d = after_all s f (map Say (os r)) in
+        let b = w s r d in
+        rw (outputs_append (map Say (os r)) b.script, outputs_said (os r)) (All-append IsNoWait (os r) (outputs b.script) (n r) ((unwaiting_mute w h).said s r d));
+  }
+
+  pub unwaiting_begin : (ss : List Statement) (l : words.Log) → Unwaiting (words.begin_view ss l)
   unfolding words.begin_view
-  mute_begin ss l =
-      mute_then _ _ (mute_one _ (λ r. tt)) (mute_then _ _ (mute_take l) (mute_then _ _ (mute_all _) (mute_then _ _ (mute_by _ (λ r. mute_each _ _ mute_prepare_again)) mute_apply)))
+  unwaiting_begin ss l =
+      unwaiting_says (words.choose_line ss l) _ (λ r. All-cons IsNoWait _ [] tt (All-nil IsNoWait))
+      (mute_then _ _ (mute_take l) (mute_then _ _ (mute_all _) (mute_then _ _ (mute_by _ (λ r. mute_each _ _ mute_prepare_again)) mute_apply)))
 
   pub mute_advance : Mute words.advance
   unfolding words.advance

@@ -5,13 +5,10 @@ use Rattle.std.specs.List.{AllByRecursion}
 use Rattle.std.specs.Option.{option_map_or}
 use Rattle.std.proofs.lemmas.Bool.{and_parts, cases_lt, ltb-true, lt-ltb, le-ltb, le-leb, leb-true, eqb-true, true≢false}
 use Rattle.vr_base.specs.Groups.{quorums_of}
-use Rattle.vr_header.specs.declared.command.Command.{Command}
-use Rattle.vr_header.specs.declared.command.Command.TheVariants.{Entry}
 use Rattle.vr_header.specs.declared.header.Header.{Header}
 use Rattle.vr_header.specs.declared.part.Part.{Part}
 use Rattle.vr_header.specs.declared.part.Part.TheVariants as part
-use Rattle.vr_header.specs.Made.{Whole}
-use Rattle.vr_header.specs.Made as made
+use Rattle.vr_header.specs.Made.{Whole, is_entry_header}
 use Rattle.vr_header.specs.Same.{same_header}
 use Rattle.vr_header.specs.Spelling.{IsHeader}
 use Rattle.vr_header.proofs.EntryLaws.{entry_header_of}
@@ -22,7 +19,7 @@ use Rattle.vr_recover.specs.declared.readings.HeaderReading.TheVariants as heade
 use Rattle.vr_recover.specs.declared.readings.PrepareReading.TheVariants as prepare
 use Rattle.vr_recover.specs.Verdict.{verdict_of}
 use Rattle.vr_super.specs.declared.fields.Fields.{Fields}
-use Rattle.vr_super.specs.Copies.{Saved, IsGood, is_entry_command, is_entry_header, are_listed, first_op, good_fields, good_member, good_window, good_root, good_count}
+use Rattle.vr_super.specs.Copies.{Saved, IsGood, are_listed, first_op, good_fields, good_member, good_window, good_root, good_count}
 use Rattle.vr_super.specs.Copies as copies
 use Rattle.vr_rules.specs.Opening.{first_listed, listed, is_listed, is_right, may_be, Slot, header_kind, entry_fits, slot_verdict, some_part, entry_header, part_by}
 use Rattle.vr_rules.proofs.Taking.{log_reaches}
@@ -54,10 +51,6 @@ group_size (suc (suc (suc (suc (suc zero))))) a b = refl
 group_size (suc (suc (suc (suc (suc (suc zero)))))) a b = refl
 group_size (suc (suc (suc (suc (suc (suc (suc n))))))) a b = absurd (omega arith)
 
-entry_command : (c : Command) → is_entry_command c ≡ true → c ≡ Entry
-entry_command Entry e = refl
-entry_command _ e = absurd cc
-
 -- a header of the list
 listed_is : (f : Fields) (op : ℕ) (h : Header) → 1 ≤ op → op ≤ 2 ^ 62 → f.log_view < 2 ^ 32 - 1 → copies.is_listed f op h ≡ true → IsEntryAt f.cluster f.log_view op h
 unfolding copies.is_listed
@@ -65,28 +58,11 @@ listed_is f op h a b c e =
     let t = and_parts (is_entry_header h) _ e in
     let t1 = and_parts (h.op == op) _ t.1 in
     let t2 = and_parts (h.cluster == f.cluster) (nat_le h.view f.log_view) t1.1 in
-    let p = and_parts (is_entry_command h.command && (nat_lt 128 h.size && nat_le h.size 2048)) _ t.0 in
-    let p1 = and_parts (is_entry_command h.command) _ p.0 in
-    let p2 = and_parts (nat_lt 128 h.size) (nat_le h.size 2048) p1.1 in
-    let q = and_parts ((h.commit == 0) && (h.replica == 0)) _ p.1 in
-    let q1 = and_parts (h.commit == 0) (h.replica == 0) q.0 in
-    let q2 = and_parts (h.kind == 0) (h.aux == 0) q.1 in
-    let at = eqb-true h.op op t1.0 in
-    let view = leb-true h.view f.log_view t2.1 in
     record {
-      entry = record {
-        command = entry_command h.command p1.0;
-        size = (ltb-true 128 h.size p2.0, leb-true h.size 2048 p2.1);
-        view = omega arith;
-        op = (omega arith, omega arith);
-        commit = eqb-true h.commit 0 q1.0;
-        replica = eqb-true h.replica 0 q1.1;
-        kind = eqb-true h.kind 0 q2.0;
-        aux = eqb-true h.aux 0 q2.1;
-      };
+      entry = entry_header_of h t.0;
       of_group = eqb-true h.cluster f.cluster t2.0;
-      at_op = at;
-      made = view;
+      at_op = eqb-true h.op op t1.0;
+      made = leb-true h.view f.log_view t2.1;
     }
 
 list_is : (f : Fields) (op : ℕ) (hs : List Header) (i : ℕ) (h : Header) → 1 ≤ op → op + length hs ≤ 2 ^ 62 + 1 → f.log_view < 2 ^ 32 - 1 → AllByRecursion IsHeader hs
@@ -181,7 +157,7 @@ right_view v k h (Some d) w l e =
 
 may_be_is : (v : Saved) (k : ℕ) (h : Header) → Value v → IsHeader h → may_be v k h ≡ true → IsOf v k h
 may_be_is v k h w is e =
-    let a = and_parts (made.is_entry_header h) _ e in
+    let a = and_parts (is_entry_header h) _ e in
     let b = and_parts (h.cluster == v.fields.cluster) _ a.1 in
     let c = and_parts (h.op == k) (is_right v k h) b.1 in
     let view : h.view ≤ v.fields.log_view =

@@ -165,10 +165,10 @@ run_of r h =
 -- ---- the statement
 
 -- the Parts that it gives
-abbrev given : Replica → List Part
+abbrev pub given : Replica → List Part
 given r = trimmed (parts_from r (run_start r + 1))
 
-given_at : (r : Replica) (i : ℕ) → IsSound r → get_or (given r) i Nothing ≡ part_at r (run_start r + 1 + i)
+pub given_at : (r : Replica) (i : ℕ) → IsSound r → get_or (given r) i Nothing ≡ part_at r (run_start r + 1 + i)
 given_at r i h =
     let first = (run_of r h).first in
     let d : ℕ = run_start r + 1 - r.first in

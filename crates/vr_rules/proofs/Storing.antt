@@ -3,6 +3,9 @@ use Rattle.std.proofs.Common.{ℕ, ◌+◌, ◌-◌, ◌%◌, ◌≤◌, ◌<◌
 use Rattle.std.specs.Prelude.{nat_lt}
 use Rattle.std.proofs.lemmas.Bool.{cases_lt, cases_eq}
 use Rattle.std.proofs.lemmas.List.{length-append, length-replicate, length-set, get_or_append_left, get_or-append_right, get_or-replicate, get_or_past}
+use Rattle.vr_msg.specs.Numbers.{IsNumber}
+use Rattle.vr_apply.proofs.Numbers.{numbers_kept}
+use Rattle.vr_apply.specs.Folds as state
 use Rattle.vr_base.specs.Replicas.{no_replicas}
 use Rattle.vr_ckpt.specs.declared.saving.Saved as checkpoint
 use Rattle.vr_header.specs.declared.header.Header.{Header}
@@ -16,7 +19,7 @@ use Rattle.vr_rules.specs.Words.{applied, lost, stored, with_checkpoint}
 use Rattle.vr_rules.specs.Sound.{IsSound}
 use Rattle.vr_rules.specs.Laws.{Rises}
 use Rattle.vr_rules.proofs.Heads.{Spans, knows, known_within, knows_some, some_known, head_from, head_within, head_knows, head_reaches, head_least, with_part_spans, with_part_at, with_part_other}
-use Rattle.vr_rules.proofs.Keeping.{Kept, Roomy, spans_of, sound_few, sound_forgetting, rises_forgetting, sound_applied, sound_alike}
+use Rattle.vr_rules.proofs.Keeping.{Kept, Roomy, spans_of, sound_few, sound_forgetting, rises_forgetting, sound_applied, sound_state}
 
 -- what a Part may be set to: it knows an entry's header
 abbrev pub MayBe : ℕ → Part → Replica → Type 0
@@ -66,6 +69,7 @@ roomy_part k p r h a b stays may =
       checkpoint = h.checkpoint;
       near = h.near;
       waits = h.waits;
+      numbers = h.numbers;
     }
 
 rises_with_part : (k : ℕ) (p : Part) (r : Replica) → Rises r (with_part k p r)
@@ -189,9 +193,9 @@ moved_head c e r h a =
     ]) in
     omega (arith, up, down)
 
-pub kept_moved : (c : checkpoint.Saved) (e : Whole) (r : Replica) → IsSound r → r.applied < r.commit → r.missing ≡ [] → (r.applied + 1) % 32 ≡ 0 → Kept r (moved c e r)
+pub kept_moved : (c : checkpoint.Saved) (e : Whole) (r : Replica) → IsSound r → IsNumber e.header.op → r.applied < r.commit → r.missing ≡ [] → (r.applied + 1) % 32 ≡ 0 → Kept r (moved c e r)
 unfolding with_checkpoint
-kept_moved c e r h a m d =
+kept_moved c e r h k a m d =
     let n : ℕ = r.applied + 1 - r.checkpoint in
     let q : Replica = moved c e r in
     let o = h.order in
@@ -220,14 +224,15 @@ kept_moved c e r h a m d =
       checkpoint = d;
       near = omega arith;
       waits = λ i. absurd (i m);
+      numbers = numbers_kept r.state e h.numbers k;
     } in
     record {
       sound = sound_few q roomy (omega (arith, same));
       rises = record { view = omega arith; log_view = omega arith; commit = omega arith; applied = omega arith; checkpoint = omega arith };
     }
 
-pub kept_applied : (e : Whole) (r : Replica) → IsSound r → r.applied < r.commit → r.missing ≡ [] → ((r.applied + 1) % 32 ≡ 0 → ⊥) → Kept r (applied e r)
-kept_applied e r h a m d =
+pub kept_applied : (e : Whole) (r : Replica) → IsSound r → IsNumber e.header.op → r.applied < r.commit → r.missing ≡ [] → ((r.applied + 1) % 32 ≡ 0 → ⊥) → Kept r (applied e r)
+kept_applied e r h k a m d =
     let near = h.near in
     let low = h.order.applied in
     let base = h.checkpoint in
@@ -236,6 +241,6 @@ kept_applied e r h a m d =
       | inr g ↦ let at : r.applied + 1 ≡ r.checkpoint + 32 = omega arith in absurd (d (omega (arith, at, base)))
     ] in
     record {
-      sound = sound_alike (record r { applied = r.applied + 1 }) (applied e r) refl (sound_applied r a m more h);
+      sound = sound_state (record r { applied = r.applied + 1 }) (state.applied r.state e).state (numbers_kept r.state e h.numbers k) (sound_applied r a m more h);
       rises = record { view = omega arith; log_view = omega arith; commit = omega arith; applied = omega arith; checkpoint = omega arith };
     }

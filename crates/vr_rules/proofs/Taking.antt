@@ -201,6 +201,7 @@ roomy_over l r h log m =
       checkpoint = h.checkpoint;
       near = h.near;
       waits = h.waits;
+      numbers = h.numbers;
     }
 
 pub kept_taken : (l : Log) (r : Replica) → IsSound r → IsLogFor r l → MayTake l r → Kept r (taken l r)

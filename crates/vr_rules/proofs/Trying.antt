@@ -115,7 +115,7 @@ start_low : (C head : ℕ) (o : Option Statement) → option_map_or (start_of C 
 start_low C head None = omega arith
 start_low C head (Some s) = omega arith
 
-log_end_is : (cluster : ℕ) (ss : List Statement) (head : ℕ) (hs : List Header) → log_start ss head + length hs ≡ head → top_commit ss ≤ head
+pub log_end_is : (cluster : ℕ) (ss : List Statement) (head : ℕ) (hs : List Header) → log_start ss head + length hs ≡ head → top_commit ss ≤ head
     → FromOp (IsEntryAt cluster (top_view ss)) (log_start ss head + 1) hs → log_end (top_commit ss) hs ≡ head
 log_end_is cluster ss head [] whole low all = let start = start_low (top_commit ss) head (farthest ss) in omega arith
 log_end_is cluster ss head (h ∷ hs) whole low all =

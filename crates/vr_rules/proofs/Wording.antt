@@ -1,11 +1,18 @@
 -- The words keep every replica sound: saving, entering a view, storing, applying, learning, asking, loading.
-use Rattle.std.proofs.Common.{ℕ, ◌+◌, ◌-◌, ◌%◌, ◌≤◌, ◌<◌, ◌≡◌, ◌≢◌, ◌∙◌, inl, inr, arith, refl, sym, Bool, true, false, List, [], ◌∷◌, length, get_or, replicate, min, max, Option, Some, None, Ok, Err}
+use Rattle.std.proofs.Common.{ℕ, ◌+◌, ◌-◌, ◌%◌, ◌≤◌, ◌<◌, ◌≡◌, ◌≢◌, ◌∙◌, inl, inr, arith, refl, sym, Bool, true, false, List, [], ◌∷◌, length, get_or, replicate, min, max, Option, Some, None, Ok, Err, cond, ap, subst}
 use Rattle.std.specs.Prelude.{nat_lt}
 use Rattle.std.specs.List.{prefix_len}
 use Rattle.std.proofs.lemmas.Bool.{and_parts, cases_lt, ltb-true, eqb-true, eqb-false}
 use Rattle.std.proofs.lemmas.List.{length-replicate, get_or-replicate, get_or_past, nil_from_length}
 use Rattle.std.proofs.lemmas.List.FromFn.{length-range_with_len}
 use Rattle.std.proofs.lemmas.List.Sums.{prefix_len-le-length}
+use Rattle.std.specs.Option.{option_and_then}
+use Rattle.vr_msg.specs.Logs.{header_of}
+use Rattle.vr_header.proofs.SameHeaders.{same_header_is}
+use Rattle.vr_header.specs.Same.{same_header}
+use Rattle.vr_msg.specs.Numbers.{IsNumber}
+use Rattle.vr_sess.specs.Sessions.{HaveNumbers}
+use Rattle.vr_apply.proofs.Numbers.{texts_have_numbers}
 use Rattle.vr_base.specs.Replicas.{no_replicas, with_replica}
 use Rattle.vr_ckpt.specs.declared.found.Load.{Load}
 use Rattle.vr_ckpt.specs.declared.found.Load.TheVariants.{Loaded, Missing}
@@ -28,7 +35,7 @@ use Rattle.vr_rules.specs.Steps.{Setting, Word, ◌⨾◌, quiet, change, does, 
 use Rattle.vr_rules.specs.Words.{saves, with_saved, save, no_ackers, no_statements, entered, rested, enter, writes, stored, write, accept, entry_of, or_lost, lost, with_entry, with_entry_at, applied, with_checkpoint, checkpoint_of, make_checkpoint, is_checkpoint, apply_entry, is_loaded, apply_next, apply, has_quorum, advanced, advance, learned, learn, prepare_again, resend, turned, ask_peer, ask_for, ask, with_state, with_missing, loaded_state, loads, checkpoint_at, load}
 use Rattle.vr_rules.specs.Sound.{IsSound}
 use Rattle.vr_rules.specs.Laws.{Rises}
-use Rattle.vr_rules.proofs.Keeping.{Kept, core, kept_more, sound_alike, sound_commit, sound_ackers, sound_missing, sound_view}
+use Rattle.vr_rules.proofs.Keeping.{Kept, core, kept_more, sound_alike, sound_commit, sound_ackers, sound_missing, sound_view, sound_state}
 use Rattle.vr_rules.proofs.Combining.{KeptBy, Keeps, kept_change_then, kept_does_then, kept_change, kept_by, kept_reading, kept_quiet, kept_if, kept_when, keeps_then, keeps_quiet, keeps_says, keeps_does, keeps_change, keeps_by, keeps_naming, keeps_if, keeps_when, keeps_times}
 use Rattle.vr_rules.proofs.Storing.{MayStore, kept_stored, kept_lost, kept_moved, kept_applied}
 
@@ -85,55 +92,72 @@ pub kept_accept : {F : Type 0} (e : Whole) (s : Setting F) (r : Replica) (f : F)
 unfolding accept
 kept_accept e s r f h m = kept_by _ s r f (kept_when _ (write e) s r f h (λ t. kept_write e s r f h m))
 
+-- what is read under a header is its entry
+pub read_is : (h : Header) (o : Option Whole) (e : Whole) → option_and_then (λ d. cond (same_header d.header h) (Some d) None) o ≡ Some e → e.header ≡ h
+read_is h None e t = absurd cc
+read_is h (Some d) e t =
+    elim (same_header d.header h) as (λ b. same_header d.header h ≡ b → cond b (Some d) None ≡ Some e → e.header ≡ h) [
+      | true ↦ λ c n. let same : d ≡ e = cc in subst (λ (y : Whole). y.header ≡ h) same (same_header_is d.header h c)
+      | false ↦ λ c n. absurd cc
+    ] refl t
+
 kept_or_lost : {F : Type 0} (h : Header) (w : Whole → Word F) (o : Option Whole) (s : Setting F) (r : Replica) (f : F) → Kept r (lost h r)
-    → ((e : Whole) → KeptBy (w e) s r f) → KeptBy (or_lost h w o) s r f
+    → ((e : Whole) → o ≡ Some e → KeptBy (w e) s r f) → KeptBy (or_lost h w o) s r f
 kept_or_lost h w None s r f l k = kept_change (lost h) s r f l
-kept_or_lost h w (Some e) s r f l k = k e
+kept_or_lost h w (Some e) s r f l k = k e refl
+
+-- the entry of an op that is known has the number of one
+pub entry_numbered : (op : ℕ) (h : Header) (r : Replica) (e : Whole) → IsSound r → part_at r op ≡ Here h → e.header ≡ h → IsNumber e.header.op
+entry_numbered op h r e sound is same =
+    let top = (sound.entries.each op h (ap header_of is)).1.entry.op.1 in
+    rw same top
 
 kept_with_entry : {F : Type 0} (w : Whole → Word F) (op : ℕ) (p : Part) (s : Setting F) (r : Replica) (f : F) → IsSound r → part_at r op ≡ p
-    → ((e : Whole) → KeptBy (w e) s r f) → KeptBy (with_entry w p) s r f
-kept_with_entry w op (Here h) s r f sound e k = kept_reading (entry_of h) (or_lost h w) s r f (kept_or_lost h w (entry_of h s f) s r f (kept_lost op h r sound e) k)
+    → ((e : Whole) → IsNumber e.header.op → KeptBy (w e) s r f) → KeptBy (with_entry w p) s r f
+kept_with_entry w op (Here h) s r f sound e k =
+    kept_reading (entry_of h) (or_lost h w) s r f (kept_or_lost h w (entry_of h s f) s r f (kept_lost op h r sound e)
+    (λ d i. k d (entry_numbered op h r d sound e (read_is h (s.entry f (h.op % 64)) d i))))
 kept_with_entry w op (Lost h) s r f sound e k = kept_quiet s r f sound
 kept_with_entry w op (Wanted h) s r f sound e k = kept_quiet s r f sound
 kept_with_entry w op Unknown s r f sound e k = kept_quiet s r f sound
 kept_with_entry w op Nothing s r f sound e k = kept_quiet s r f sound
 
-pub kept_with_entry_at : {F : Type 0} (op : ℕ) (w : Whole → Word F) (s : Setting F) (r : Replica) (f : F) → IsSound r → ((e : Whole) → KeptBy (w e) s r f) → KeptBy (with_entry_at op w) s r f
+pub kept_with_entry_at : {F : Type 0} (op : ℕ) (w : Whole → Word F) (s : Setting F) (r : Replica) (f : F) → IsSound r → ((e : Whole) → IsNumber e.header.op → KeptBy (w e) s r f) → KeptBy (with_entry_at op w) s r f
 unfolding with_entry_at
 kept_with_entry_at op w s r f h k = kept_by _ s r f (kept_with_entry w op (part_at r op) s r f h refl k)
 
 pub keeps_with_entry_at : {F : Type 0} (op : ℕ) (w : Whole → Word F) → ((e : Whole) → Keeps (w e)) → Keeps (with_entry_at op w)
-keeps_with_entry_at op w h = record { every = λ s r f sound. kept_with_entry_at op w s r f sound (λ e. (h e).every s r f sound) }
+keeps_with_entry_at op w h = record { every = λ s r f sound. kept_with_entry_at op w s r f sound (λ e i. (h e).every s r f sound) }
 
 -- ---- applying
 
-kept_make_checkpoint : {F : Type 0} (e : Whole) (s : Setting F) (r : Replica) (f : F) → IsSound r → r.applied < r.commit → r.missing ≡ [] → (r.applied + 1) % 32 ≡ 0
+kept_make_checkpoint : {F : Type 0} (e : Whole) (s : Setting F) (r : Replica) (f : F) → IsSound r → IsNumber e.header.op → r.applied < r.commit → r.missing ≡ [] → (r.applied + 1) % 32 ≡ 0
     → Kept r (make_checkpoint s (applied e r) f).replica
 unfolding make_checkpoint by reading ◌⨾◌ does change
-kept_make_checkpoint e s r f h a m d =
+kept_make_checkpoint e s r f h k a m d =
     let q : Replica = applied e r in
     let c : checkpoint.Saved = checkpoint_of q s f in
-    let k : Kept r (with_checkpoint c q) = kept_moved c e r h a m d in
-    kept_more r (with_checkpoint c q) _ k (keeps_save.every s (with_checkpoint c q) _ k.sound).kept
+    let moves : Kept r (with_checkpoint c q) = kept_moved c e r h k a m d in
+    kept_more r (with_checkpoint c q) _ moves (keeps_save.every s (with_checkpoint c q) _ moves.sound).kept
 
-kept_applied_then : {F : Type 0} (e : Whole) (s : Setting F) (r : Replica) (f : F) (b : Bool) → b ≡ is_checkpoint (r.applied + 1) → IsSound r → r.applied < r.commit → r.missing ≡ []
+kept_applied_then : {F : Type 0} (e : Whole) (s : Setting F) (r : Replica) (f : F) (b : Bool) → b ≡ is_checkpoint (r.applied + 1) → IsSound r → IsNumber e.header.op → r.applied < r.commit → r.missing ≡ []
     → Kept r (when b make_checkpoint s (applied e r) f).replica
 unfolding quiet
-kept_applied_then e s r f true i h a m = kept_make_checkpoint e s r f h a m (eqb-true ((r.applied + 1) % 32) 0 (sym i))
-kept_applied_then e s r f false i h a m = kept_applied e r h a m (eqb-false ((r.applied + 1) % 32) 0 (sym i))
+kept_applied_then e s r f true i h k a m = kept_make_checkpoint e s r f h k a m (eqb-true ((r.applied + 1) % 32) 0 (sym i))
+kept_applied_then e s r f false i h k a m = kept_applied e r h k a m (eqb-false ((r.applied + 1) % 32) 0 (sym i))
 
-kept_apply_entry : {F : Type 0} (e : Whole) (s : Setting F) (r : Replica) (f : F) → IsSound r → r.applied < r.commit → r.missing ≡ [] → KeptBy (apply_entry e) s r f
+kept_apply_entry : {F : Type 0} (e : Whole) (s : Setting F) (r : Replica) (f : F) → IsSound r → IsNumber e.header.op → r.applied < r.commit → r.missing ≡ [] → KeptBy (apply_entry e) s r f
 unfolding apply_entry says change by ◌⨾◌
-kept_apply_entry e s r f h a m = record { kept = kept_applied_then e s r _ (is_checkpoint (r.applied + 1)) refl h a m }
+kept_apply_entry e s r f h k a m = record { kept = kept_applied_then e s r _ (is_checkpoint (r.applied + 1)) refl h k a m }
 
-keeps_apply_next : {F : Type 0} → Keeps {F = F} apply_next
+pub keeps_apply_next : {F : Type 0} → Keeps {F = F} apply_next
 unfolding apply_next
 keeps_apply_next = record {
   every = λ s r f h.
       kept_by _ s r f (kept_when _ _ s r f h (λ t.
       let p = and_parts (is_loaded r) (nat_lt r.applied r.commit) t in
       let m : r.missing ≡ [] = nil_from_length r.missing (eqb-true (length r.missing) 0 p.0) in
-      kept_with_entry_at (r.applied + 1) apply_entry s r f h (λ e. kept_apply_entry e s r f h (ltb-true r.applied r.commit p.1) m)));
+      kept_with_entry_at (r.applied + 1) apply_entry s r f h (λ e k. kept_apply_entry e s r f h k (ltb-true r.applied r.commit p.1) m)));
 }
 
 pub keeps_apply : {F : Type 0} → Keeps {F = F} apply
@@ -188,15 +212,15 @@ keeps_ask = keeps_by _ (λ r. keeps_ask_for r.missing _)
 kept_missing : (names : List Name) (r : Replica) → IsSound r → (names ≢ [] → r.applied ≡ r.checkpoint) → Kept r (with_missing names r)
 kept_missing names r h w = record { sound = sound_missing r names w h; rises = record { view = omega arith; log_view = omega arith; commit = omega arith; applied = omega arith; checkpoint = omega arith } }
 
-kept_loaded : (root : Name) (table : Table) (o : Result State StateFault) (r : Replica) → IsSound r → r.applied ≡ r.checkpoint → Kept r (loaded_state root table o r)
+kept_loaded : (root : Name) (table : Table) (o : Result State StateFault) (r : Replica) → IsSound r → r.applied ≡ r.checkpoint → ((t : State) → o ≡ Ok t → HaveNumbers t.sessions) → Kept r (loaded_state root table o r)
 unfolding with_state
-kept_loaded root table (Ok t) r h e =
+kept_loaded root table (Ok t) r h e n =
     let k = kept_missing [] r h (λ n. absurd (n refl)) in
-    record { sound = sound_alike (with_missing [] r) (record r { table = table; state = t; missing = [] }) refl k.sound; rises = record { view = omega arith; log_view = omega arith; commit = omega arith; applied = omega arith; checkpoint = omega arith } }
-kept_loaded root table (Err fault) r h e = kept_missing (root ∷ []) r h (λ n. e)
+    record { sound = sound_alike (record (with_missing [] r) { state = t }) (record r { table = table; state = t; missing = [] }) refl (sound_state (with_missing [] r) t (n t refl) k.sound); rises = record { view = omega arith; log_view = omega arith; commit = omega arith; applied = omega arith; checkpoint = omega arith } }
+kept_loaded root table (Err fault) r h e n = kept_missing (root ∷ []) r h (λ n. e)
 
 pub kept_loads : (root : Name) (l : Load) (r : Replica) → IsSound r → r.applied ≡ r.checkpoint → Kept r (loads root l r)
-kept_loads root (Loaded texts table) r h e = kept_loaded root table (state_decoded texts) r h e
+kept_loads root (Loaded texts table) r h e = kept_loaded root table (state_decoded texts) r h e (texts_have_numbers texts)
 kept_loads root (Missing names) r h e = kept_missing names r h (λ n. e)
 
 -- where nothing is applied yet above the checkpoint

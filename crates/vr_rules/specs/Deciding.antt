@@ -1,4 +1,5 @@
 -- Which rule applies to an event: tables of conditions in their order. The first whose condition holds is the rule.
+-- Each rule has a number, by which it stands in the tables of docs/RULES.md.
 use Rattle.std.specs.Prelude.{ℕ, ◌+◌, ◌-◌, Bool, true, false, not, ◌&&◌, ◌||◌, ◌==◌, nat_lt, nat_le, List, [], ◌∷◌, take, is_some, if◌then◌else◌}
 use Rattle.std.specs.List.{list_any}
 use Rattle.std.specs.Option.{option_map_or}
@@ -19,6 +20,8 @@ use Rattle.vr_msg.specs.declared.frame.PrepareOk.{PrepareOk}
 use Rattle.vr_msg.specs.declared.frame.StartView.{StartView}
 use Rattle.vr_msg.specs.declared.frame.StartViewChange.{StartViewChange}
 use Rattle.vr_msg.specs.declared.request.RequestFields.{RequestFields}
+use Rattle.vr_rules.specs.declared.rule.Rule.{Rule}
+use Rattle.vr_rules.specs.declared.rule.Rule.TheVariants.{Ignored, Redirected, Behind, InFlight, Answered, Full, Made, PreparedBefore, PreparedLater, Past, Beyond, Known, Next, Ahead, Other, Counted, CommitBefore, CommitLater, CommitHeard, ChangeBefore, ChangeLater, ChangeHeard, ChangeDone, StatedBefore, StatedLate, Stated, Taken, ViewGiven, EntryGiven, EntryTaken, BlockGiven, BlockTaken, TickedPrimary, TickedBackup, TickedChanging}
 use Rattle.vr_msg.specs.Logs.{header_of}
 use Rattle.vr_msg.specs.Normal.{primary, same_sum, pipeline, last_op}
 use Rattle.vr_sess.specs.Asks.{is_fresh}
@@ -27,57 +30,6 @@ use Rattle.vr_sess.specs.declared.session.SessionAnswer.{SessionAnswer}
 use Rattle.vr_grid.specs.declared.name.Name.{Name}
 use Rattle.vr_rules.specs.Replica.{Replica, is_started, is_primary, leads, window_end, part_at, header_at, parts_from, head, head_header, is_here, is_absent}
 use Rattle.vr_rules.specs.Words.{Log, may_take, is_loaded}
-
--- Each rule has a number, by which it stands in the tables of docs/RULES.md.
-pub data Rule : Type 0 where
-  Ignored : Rule
-  -- a request
-  Redirected : Rule  -- 1
-  Behind : Rule  -- 2
-  InFlight : Rule  -- 3
-  Answered : Rule  -- 4
-  Full : Rule  -- 5
-  Made : Rule  -- 6
-  -- a prepare
-  PreparedBefore : Rule  -- 7
-  PreparedLater : Rule  -- 8
-  Past : Rule  -- 9
-  Beyond : Rule  -- 10
-  Known : Rule  -- 11
-  Next : Rule  -- 12
-  Ahead : Rule  -- 13
-  Other : Rule  -- 14
-  -- a prepare_ok
-  Counted : Rule  -- 15
-  -- a commit
-  CommitBefore : Rule  -- 16
-  CommitLater : Rule  -- 17
-  CommitHeard : Rule  -- 18
-  -- a start_view_change
-  ChangeBefore : Rule  -- 19
-  ChangeLater : Rule  -- 20
-  ChangeHeard : Rule  -- 21
-  ChangeDone : Rule  -- 22
-  -- a do_view_change
-  StatedBefore : Rule  -- 23
-  StatedLate : Rule  -- 24
-  Stated : Rule  -- 25
-  -- a start_view
-  Taken : Rule  -- 26
-  -- a get_view
-  ViewGiven : Rule  -- 27
-  -- a get_prepare
-  EntryGiven : Rule  -- 28
-  -- a give_prepare
-  EntryTaken : Rule  -- 29
-  -- a get_block
-  BlockGiven : Rule  -- 30
-  -- a give_block
-  BlockTaken : Rule  -- 31
-  -- a tick
-  TickedPrimary : Rule  -- 32
-  TickedBackup : Rule  -- 33
-  TickedChanging : Rule  -- 34
 
 -- the number of a rule, 0 for none
 abbrev pub number_of : Rule → ℕ

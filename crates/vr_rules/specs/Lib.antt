@@ -9,7 +9,12 @@ pub mod Sectors
 pub mod World
 pub mod Lying
 pub mod Group
+pub mod Commitment
 pub mod Safe
 pub mod Sound
 pub mod Laws
+pub mod Fit
+pub mod Pinned
+pub mod Own
+pub mod GroupFit
 pub mod Trace

@@ -122,7 +122,7 @@ lying = record {
   block = λ d. sectors.block d.face;
   is_block = sectors.is_block;
   loaded = λ d. sectors.loaded d.face;
-  saved = sectors.saved;
+  save_state = sectors.save_state;
   after = λ d e. after_calls d (calls_of e d.face);
 }
 

@@ -15,7 +15,7 @@ use Rattle.vr_apply.specs.Folds as state
 use Rattle.vr_apply.specs.declared.reply.ReplyBody.{ReplyBody}
 use Rattle.vr_apply.specs.declared.reply.ReplyBody.TheVariants as body
 use Rattle.vr_grid.specs.declared.name.Name.{Name}
-use Rattle.vr_base.specs.declared.sum.Sum.{Sum}
+use Rattle.vr_rules.specs.declared.asker.Asker.{Asker}
 use Rattle.vr_rules.specs.Replica.{Replica, leads, head, run, run_start, statement_of}
 
 -- ---- outputs
@@ -77,12 +77,6 @@ abbrev pub give_block : ℕ → List ℕ → Replica → Frame
 give_block address block r = frame.GiveBlock (record { cluster = r.cluster; replica = r.index; address = address; block = block })
 
 -- ---- lines and replies
-
--- who asked: a request's client and number, and the name of its header
-pub record Asker : Type 0 where
-  pub client : ℕ
-  pub request : ℕ
-  pub name : Sum
 
 abbrev pub replies : Asker → ReplyKind → Replica → List Output
 replies a kind r =

@@ -29,9 +29,12 @@ use Rattle.vr_msg.specs.Choice.{ops}
 use Rattle.vr_grid.specs.declared.name.Name.{Name}
 use Rattle.vr_rules.specs.Replica.{Replica, is_frozen, part_at, header_at, ackers_at, head, head_header, is_here}
 use Rattle.vr_rules.specs.Steps.{PutBlock, Setting, Word, ◌⨾◌, quiet, change, does, says, by, naming, reading, when, each}
-use Rattle.vr_rules.specs.Outputs.{Asker, send_to, send_to_all, to_primary, prepare, prepare_ok, commit_message, start_view_change, start_view, get_view, give_prepare, give_block, replies}
+use Rattle.vr_rules.specs.Outputs.{send_to, send_to_all, to_primary, prepare, prepare_ok, commit_message, start_view_change, start_view, get_view, give_prepare, give_block, replies}
+use Rattle.vr_rules.specs.declared.asker.Asker.{Asker}
 use Rattle.vr_rules.specs.Words.{enter, rested, write, accept, with_entry_at, apply, is_loaded, advance, learn, take, prepare_again, try, speak, resend, ask, load}
-use Rattle.vr_rules.specs.Deciding.{Rule, Ignored, Redirected, Behind, Answered, Full, Made, PreparedLater, Past, Beyond, Known, Next, Ahead, Other, Counted, CommitLater, CommitHeard, ChangeLater, ChangeHeard, ChangeDone, StatedLate, Stated, Taken, ViewGiven, EntryGiven, EntryTaken, BlockGiven, BlockTaken, TickedPrimary, TickedBackup, TickedChanging, Hash, first_of, session_answer, request_table, prepare_table, prepare_ok_table, commit_table, start_view_change_table, do_view_change_table, log_of, start_view_table, get_view_table, get_prepare_table, give_prepare_table, get_block_table, is_wanted, give_block_table, tick_table}
+use Rattle.vr_rules.specs.Deciding.{Hash, first_of, session_answer, request_table, prepare_table, prepare_ok_table, commit_table, start_view_change_table, do_view_change_table, log_of, start_view_table, get_view_table, get_prepare_table, give_prepare_table, get_block_table, is_wanted, give_block_table, tick_table}
+use Rattle.vr_rules.specs.declared.rule.Rule.{Rule}
+use Rattle.vr_rules.specs.declared.rule.Rule.TheVariants.{Ignored, Redirected, Behind, Answered, Full, Made, PreparedLater, Past, Beyond, Known, Next, Ahead, Other, Counted, CommitLater, CommitHeard, ChangeLater, ChangeHeard, ChangeDone, StatedLate, Stated, Taken, ViewGiven, EntryGiven, EntryTaken, BlockGiven, BlockTaken, TickedPrimary, TickedBackup, TickedChanging}
 
 -- ---- requests (rules 1 to 6)
 

@@ -20,7 +20,7 @@ use Rattle.vr_msg.specs.declared.output.Output.{Output}
 use Rattle.vr_msg.specs.declared.output.Output.TheVariants as output
 use Rattle.vr_msg.specs.declared.reply.ReplyFields.{ReplyFields}
 use Rattle.vr_msg.specs.declared.statement.Statement.{Statement}
-use Rattle.vr_msg.specs.Choice.{IsIntact, denies}
+use Rattle.vr_msg.specs.Choice.{IsIntact, denies, top_commit, top_view}
 use Rattle.vr_apply.specs.declared.codec.Texts.{Texts}
 use Rattle.vr_disk.specs.DiskState.{Face}
 use Rattle.vr_rings.specs.Slots.{whole_in}
@@ -30,16 +30,16 @@ use Rattle.vr_grid.specs.declared.name.Name.{Name}
 use Rattle.vr_ckpt.specs.Saves.{written}
 use Rattle.vr_ckpt.specs.declared.table.Table.{Table}
 use Rattle.vr_rules.specs.Steps.{Effect, Write, Checkpoint, PutBlock}
-use Rattle.vr_model.specs.Safe.{Vouches, IsCommitted, AreCommitted, IsBackedMessage, IsLine, IsReplyOf, is_line_of, lines_by}
+use Rattle.vr_rules.specs.Commitment.{Vouches, IsCommitted, AreCommitted, IsBackedMessage, IsLine, IsReplyOf, is_line_of, lines_by}
 use Rattle.vr_rules.specs.Replica.{Replica, statement_of}
-use Rattle.vr_rules.specs.Group.{Move, Steps, Cuts, Stops, Starts, StartsCut, Played}
+use Rattle.vr_rules.specs.Group.{Move, Steps, Cuts, Crashes, Recovers, RecoversCut, Played}
 
 -- ---- what was put out
 
 -- all outputs of a run, in order
-unfoldable pub outputs : List Played → List Output
-outputs [] = []
-outputs (p ∷ ps) = p.moved.outputs ++ outputs ps
+unfoldable pub run_outputs : List Played → List Output
+run_outputs [] = []
+run_outputs (p ∷ ps) = p.moved.outputs ++ run_outputs ps
 
 -- an output of a run: at move `move` of it, the output of that number
 pub record IsOutput (run : List Played) (move number : ℕ) (p : Played) (o : Output) : Type 0 where
@@ -48,7 +48,7 @@ pub record IsOutput (run : List Played) (move number : ℕ) (p : Played) (o : Ou
 
 -- what was put out before it
 abbrev pub before : List Played → ℕ → ℕ → Played → List Output
-before run move number p = outputs (take move run) ++ take number p.moved.outputs
+before run move number p = run_outputs (take move run) ++ take number p.moved.outputs
 
 -- ---- a committed entry keeps its number in every later view
 
@@ -70,35 +70,35 @@ abbrev pub actor : Played → ℕ → Option Replica
 actor p index = option_map_or (λ m. m.replica) (slice_get p.before.members index) None
 
 -- So many had it applied when it answered: those before the step, and those of the step's commit lines before the reply. A
--- commit line that stands last is of the entry whose reply comes right behind it, and that is answered after the entries before it.
+-- commit line that stands last is of the entry whose reply comes right after it, and that is answered after the entries before it.
 abbrev pub applied_then : ℕ → Replica → List Output → ℕ
 applied_then index r said =
     r.applied + lines_by index said - (if list_any (is_line_of index) (drop (length said - 1) said) then 1 else 0)
 
 -- what was applied is committed, and a reply is the plain sessions' and machine's over it
-pub record IsTrueReply (n : ℕ) (log : List Whole) (run : List Played) (move number : ℕ) (p : Played) (a : ReplyFields) : Type 0 where
+pub record IsTrueReply (cluster n : ℕ) (log : List Whole) (run : List Played) (move number : ℕ) (p : Played) (a : ReplyFields) : Type 0 where
   pub replica : Replica
   pub is_of : actor p a.replica ≡ Some replica
-  pub applied : AreCommitted n (before run move number p) log a.view (replica.applied + lines_by a.replica (take number p.moved.outputs))
+  pub applied : AreCommitted cluster n (before run move number p) log a.view (replica.applied + lines_by a.replica (take number p.moved.outputs))
   pub said : IsReplyOf log (replica.applied + lines_by a.replica (take number p.moved.outputs)) (applied_then a.replica replica (take number p.moved.outputs)) a a.kind
 
 -- ---- only a nack quorum shortens a log
 
 -- the readings of a move
 abbrev pub faces_of : Move → List Face
-faces_of (Steps at arrival e face) = face ∷ []
-faces_of (Cuts at arrival e face effects) = face ∷ []
-faces_of (Stops at) = []
-faces_of (Starts at value face) = face ∷ []
-faces_of (StartsCut at value face effects) = face ∷ []
+faces_of (Steps at arrival e disk) = disk.face ∷ []
+faces_of (Cuts at arrival e disk effects) = disk.face ∷ []
+faces_of (Crashes at) = []
+faces_of (Recovers at value disk) = disk.face ∷ []
+faces_of (RecoversCut at value disk effects) = disk.face ∷ []
 
 -- the event of a move
 abbrev pub event_of : Move → Option Event
-event_of (Steps at arrival e face) = Some e
-event_of (Cuts at arrival e face effects) = Some e
-event_of (Stops at) = None
-event_of (Starts at value face) = None
-event_of (StartsCut at value face effects) = None
+event_of (Steps at arrival e disk) = Some e
+event_of (Cuts at arrival e disk effects) = Some e
+event_of (Crashes at) = None
+event_of (Recovers at value disk) = None
+event_of (RecoversCut at value disk effects) = None
 
 -- the statement that an event brings of this replica
 abbrev pub brought_in : ℕ → Frame → Option Statement
@@ -131,12 +131,16 @@ pub record IsDenier (n : ℕ) (said : List Output) (heard : List Statement) (log
   pub denies : denies heard op statement ≡ true
   pub silent : (c : Header) → c.op ≡ op → ¬ Vouches n said log_view i c
 
--- a choice of a log: each op above the greatest commit number is intact, and a nack quorum denies the next
+-- A choice of a log, from what was heard: its log view and its commit number are the greatest there, each op above that commit number is
+-- intact, and a nack quorum denies the next.
 pub record IsJustified (n : ℕ) (said : List Output) (p : Played) (l : Chosen) : Type 0 where
   pub replica : Replica
   pub is_of : actor p l.replica ≡ Some replica
   pub event : Event
   pub by_event : event_of p.move ≡ Some event
+  pub log_view : l.log_view ≡ top_view (all_heard l.view event replica)
+  pub commit : l.commit ≡ top_commit (all_heard l.view event replica)
+  pub reach : l.commit ≤ l.head
   pub intact : (k : ℕ) → l.commit < k → k ≤ l.head → IsIntact (all_heard l.view event replica) k
   pub deniers : Replicas
   pub enough : option_map_or (λ q. q.nack) (quorums_of n) 0 ≤ size deniers
@@ -145,12 +149,12 @@ pub record IsJustified (n : ℕ) (said : List Output) (p : Played) (l : Chosen) 
 -- ---- all together
 
 -- each output is backed by those before it, and by the log
-abbrev pub IsBacked : ℕ → List Whole → List Played → ℕ → ℕ → Played → Output → Type 0
-IsBacked n log run move number p (output.Send s) = IsBackedMessage n (before run move number p) log s.message
-IsBacked n log run move number p (output.Commit c) = IsLine n (before run move number p) log c
-IsBacked n log run move number p (output.Reply a) = IsTrueReply n log run move number p a
-IsBacked n log run move number p (output.Choose l) = IsJustified n (outputs run) p l
-IsBacked n log run move number p _ = ⊤
+abbrev pub IsBacked : ℕ → ℕ → List Whole → List Played → ℕ → ℕ → Played → Output → Type 0
+IsBacked cluster n log run move number p (output.Send s) = IsBackedMessage cluster n (before run move number p) log s.message
+IsBacked cluster n log run move number p (output.Commit c) = IsLine cluster n (before run move number p) log c
+IsBacked cluster n log run move number p (output.Reply a) = IsTrueReply cluster n log run move number p a
+IsBacked cluster n log run move number p (output.Choose l) = IsJustified n (run_outputs run) p l
+IsBacked cluster n log run move number p _ = ⊤
 
 -- What a disk may give: the entries of its slots, and the contents of its blocks, each by the bytes that have a name.
 pub data IsRead (f : Face) : List ℕ → Type 0 where
@@ -178,11 +182,11 @@ pub data IsHashed (run : List Played) (c : Header) : List ℕ → Type 0 where
   wrote : (p : Played) (e : Effect) (bytes : List ℕ) → Contains run p → Contains p.moved.script e → IsWritten e bytes → IsHashed run c bytes
   given : IsHashed run c (named_bytes c)
 
--- A run of a group of n replicas: there is one log.
-pub record Safe (n : ℕ) (run : List Played) : Type 0 where
+-- A run of a group of n replicas with this number: there is one log.
+pub record Safe (cluster n : ℕ) (run : List Played) : Type 0 where
   pub log : List Whole
   -- an entry that is committed is the log's at its number, where names don't collide
-  pub one : (view : ℕ) (c : Header) → IsHeader c → NoCollision (IsHashed run c) → 0 < c.op → IsCommitted n (outputs run) view c → (e : Whole) × (slice_get log (c.op - 1) ≡ Some e) × (e.header ≡ c)
-  pub backed : (move number : ℕ) (p : Played) (o : Output) → NoCollision (IsHashed run (root_header 0)) → IsOutput run move number p o → IsBacked n log run move number p o
+  pub one : (view : ℕ) (c : Header) → IsHeader c → NoCollision (IsHashed run c) → 0 < c.op → IsCommitted cluster n (run_outputs run) view c → (e : Whole) × (slice_get log (c.op - 1) ≡ Some e) × (e.header ≡ c)
+  pub backed : (move number : ℕ) (p : Played) (o : Output) → NoCollision (IsHashed run (root_header cluster)) → IsOutput run move number p o → IsBacked cluster n log run move number p o
   -- and what is said in later views has it, too
-  pub kept : (view : ℕ) (c : Header) → IsHeader c → NoCollision (IsHashed run c) → 0 < c.op → IsCommitted n (outputs run) view c → (move number : ℕ) (p : Played) (o : Output) → IsOutput run move number p o → KeepsEntry view c o
+  pub kept : (view : ℕ) (c : Header) → IsHeader c → NoCollision (IsHashed run c) → 0 < c.op → IsCommitted cluster n (run_outputs run) view c → (move number : ℕ) (p : Played) (o : Output) → IsOutput run move number p o → KeepsEntry view c o

@@ -43,6 +43,6 @@ sectors = record {
   block = block_in;
   is_block = λ name bytes. is_some (named name bytes);
   loaded = loaded;
-  saved = saved;
+  save_state = saved;
   after = λ f e. disk.after_all f (calls_of e f);
 }

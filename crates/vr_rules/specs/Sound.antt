@@ -1,5 +1,6 @@
 -- What a replica keeps of itself between steps.
-use Rattle.std.specs.Prelude.{ℕ, ◌+◌, ◌-◌, ◌%◌, ◌^◌, ◌<◌, ◌≤◌, ◌≡◌, ◌≢◌, true, is_some, [], length, slice_index_or, Some, None}
+use Rattle.std.specs.Prelude.{ℕ, ◌+◌, ◌-◌, ◌%◌, ◌^◌, ◌<◌, ◌≤◌, ◌≡◌, ◌≢◌, true, is_some, List, [], length, slice_index_or, Some, None}
+use Rattle.vr_base.specs.Bytes.{IsBytes, is_zeros}
 use Rattle.vr_base.specs.Groups.{quorums_of}
 use Rattle.vr_header.specs.declared.header.Header.{Header}
 use Rattle.vr_header.specs.Spelling.{IsHeader}
@@ -7,7 +8,7 @@ use Rattle.vr_msg.specs.declared.statement.Statement.{Statement}
 use Rattle.vr_msg.specs.Logs.{IsEntryAt, IsStatement}
 use Rattle.vr_msg.specs.Numbers.{IsNumber}
 use Rattle.vr_msg.specs.Spelling.{AreHeaders, known}
-use Rattle.vr_super.specs.Copies.{is_zeros}
+use Rattle.vr_sess.specs.Sessions.{HaveNumbers}
 use Rattle.vr_rules.specs.Replica.{Replica, head, header_at, window_end}
 
 -- checkpoint, applied, commit number, head and window stand in this order
@@ -19,7 +20,7 @@ pub record IsOrdered (r : Replica) : Type 0 where
   pub views : r.log_view ≤ r.view
   pub number : IsNumber r.checkpoint
 
--- the lists of ops reach to the end of the window, and begin no later than with the op behind the checkpoint
+-- the lists of ops reach to the end of the window, and begin no later than with the op after the checkpoint
 pub record IsListed (r : Replica) : Type 0 where
   pub first : 1 ≤ r.first
   pub reach : r.first ≤ r.checkpoint + 1
@@ -54,6 +55,12 @@ pub record IsSound (r : Replica) : Type 0 where
   pub near : r.applied < r.checkpoint + 32
   -- while blocks are missing nothing is applied
   pub waits : r.missing ≢ [] → r.applied ≡ r.checkpoint
+  -- what its sessions answer can be replied
+  pub numbers : HaveNumbers r.state.sessions
+
+-- the bytes of a name
+abbrev pub IsNameBytes : List ℕ → Type 0
+IsNameBytes bytes = (length bytes ≡ 16) × IsBytes bytes
 
 -- What it can save of itself beside: its numbers have their types, its root is that of a checkpoint, and the header at its head is
 -- known, where that isn't 0.
@@ -62,7 +69,7 @@ pub record IsSavable (r : Replica) : Type 0 where
   pub view : r.view < 2 ^ 32
   pub log_view : r.log_view < 2 ^ 32 - 1
   pub address : r.root.address < 128
-  pub name : length r.root.sum.0 ≡ 16
+  pub name : IsNameBytes r.root.sum.0
   -- without a checkpoint there is no root
   pub none : r.checkpoint ≡ 0 → (r.root.address ≡ 0) × (is_zeros r.root.sum.0 ≡ true)
   pub top : 0 < head r → is_some (header_at r (head r)) ≡ true

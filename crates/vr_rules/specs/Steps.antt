@@ -56,7 +56,7 @@ pub record Setting (F : Type 0) : Type 0 where
   -- the checkpoint whose root has this name
   pub loaded : F → Name → Load
   -- the root and table of a checkpoint of these texts, by its op and the table before
-  pub saved : ℕ → Texts → ℕ → Table → checkpoint.Saved
+  pub save_state : ℕ → Texts → ℕ → Table → checkpoint.Saved
   -- the disk after an effect
   pub after : F → Effect → F
 

@@ -17,9 +17,9 @@ trace hz w (x ∷ xs) =
     record { line = x; outputs = h.outputs; world = h.world } ∷ trace hz h.world xs
 
 -- all outputs in order
-unfoldable pub outputs : {F : Type 0} → List (Traced F) → List Output
-outputs [] = []
-outputs (t ∷ ts) = t.outputs ++ outputs ts
+unfoldable pub trace_outputs : {F : Type 0} → List (Traced F) → List Output
+trace_outputs [] = []
+trace_outputs (t ∷ ts) = t.outputs ++ trace_outputs ts
 
 -- a line for each output; messages are numbered in the order sent, the first of these m
 unfoldable pub text_from : ℕ → List Output → List ℕ
@@ -27,4 +27,4 @@ text_from m [] = []
 text_from m (o ∷ os) = line_text m o ++ text_from (m + length (message_of o)) os
 
 abbrev pub text : {F : Type 0} → List (Traced F) → List ℕ
-text ts = text_from 0 (outputs ts)
+text ts = text_from 0 (trace_outputs ts)

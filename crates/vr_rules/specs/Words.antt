@@ -150,7 +150,7 @@ with_checkpoint c r = record r {
 }
 
 abbrev pub checkpoint_of : {F : Type 0} → Replica → Setting F → F → checkpoint.Saved
-checkpoint_of r s f = s.saved r.cluster (texts_of r.state) r.applied r.table
+checkpoint_of r s f = s.save_state r.cluster (texts_of r.state) r.applied r.table
 
 unfoldable pub make_checkpoint : {F : Type 0} → Word F
 make_checkpoint = by (λ r. reading (checkpoint_of r) (λ c. does checkpoints ⨾ change (with_checkpoint c) ⨾ save))

@@ -1,8 +1,10 @@
 -- A group of replicas with their disks, and what the lines of a schedule do to it.
-use Rattle.std.specs.Prelude.{ℕ, ◌-◌, ◌%◌, nat_le, List, [], ◌∷◌, ◌++◌, length, map, slice_get, slice_set, Option, Some, None, if◌then◌else◌}
+use Rattle.std.specs.Prelude.{ℕ, ◌-◌, ◌%◌, ◌^◌, ◌<◌, nat_le, List, [], ◌∷◌, ◌++◌, length, map, slice_get, slice_set, Option, Some, None, if◌then◌else◌}
 use Rattle.std.specs.List.{range_with_len}
 use Rattle.std.specs.Option.{option_map_or}
 use Rattle.vr_disk.specs.DiskState.{Fuse}
+use Rattle.vr_header.specs.Bodies.{IsOperation}
+use Rattle.vr_msg.specs.Asking.{IsRequest}
 use Rattle.vr_msg.specs.declared.event.Event.{Event}
 use Rattle.vr_msg.specs.declared.event.Event.TheVariants as event
 use Rattle.vr_msg.specs.declared.output.Output.{Output}
@@ -27,8 +29,8 @@ pub record Hazards (F : Type 0) : Type 0 where
   -- a fault; none where it is kept out
   pub faulted : F → Fault → Option F
 
--- a replica, none while it is stopped, with its disk and its fuse
-pub record Member (F : Type 0) : Type 0 where
+-- what hosts a member of the group: its replica, none while it is stopped, its disk and its fuse
+pub record Host (F : Type 0) : Type 0 where
   pub replica : Option Replica
   pub disk : F
   pub fuse : Option Fuse
@@ -36,10 +38,17 @@ pub record Member (F : Type 0) : Type 0 where
 -- and each message sent so far; before there is a group n is 0
 pub record World (F : Type 0) : Type 0 where
   pub n : ℕ
-  pub members : List (Member F)
+  pub members : List (Host F)
   pub sent : List Sent
 
 -- ---- lines
+
+-- a request that can be asked
+pub record IsAsked (q : RequestFields) : Type 0 where
+  pub form : IsRequest q
+  pub client : q.client < 2 ^ 64
+  pub request : q.request < 2 ^ 32
+  pub operation : IsOperation q.operation
 
 pub data Happening : Type 0 where
   -- a group of so many replicas begins
@@ -63,60 +72,60 @@ pub data Happening : Type 0 where
 
 -- what it leaves of a member, and puts out
 pub record Acted (F : Type 0) : Type 0 where
-  pub member : Member F
+  pub member : Host F
   pub outputs : List Output
 
-abbrev pub stays : {F : Type 0} → Member F → Acted F
+abbrev pub stays : {F : Type 0} → Host F → Acted F
 stays m = record { member = m; outputs = [] }
 
-abbrev pub went : {F : Type 0} → Hazards F → Member F → Step → Option Fuse → Acted F
+abbrev pub went : {F : Type 0} → Hazards F → Host F → Step → Option Fuse → Acted F
 went hz m s fuse = record {
   member = record { replica = Some s.replica; disk = after_all hz.setting m.disk s.script; fuse = fuse };
   outputs = outputs s.script;
 }
 
 -- a step that is cut puts out nothing but that it was
-abbrev pub halted : {F : Type 0} → Hazards F → ℕ → Member F → Step → Fuse → Acted F
+abbrev pub halted : {F : Type 0} → Hazards F → ℕ → Host F → Step → Fuse → Acted F
 halted hz index m s u =
     record { member = record { replica = None; disk = hz.cut u.calls u.code m.disk s.script; fuse = None }; outputs = output.Halted index ∷ [] }
 
-abbrev pub went_or_halted : {F : Type 0} → Hazards F → ℕ → Member F → Step → Option Fuse → Acted F
+abbrev pub went_or_halted : {F : Type 0} → Hazards F → ℕ → Host F → Step → Option Fuse → Acted F
 went_or_halted hz index m s None = went hz m s None
 went_or_halted hz index m s (Some u) =
     let made = hz.count m.disk s.script in
     if nat_le made u.calls then went hz m s (Some (record { calls = u.calls - made; code = u.code })) else halted hz index m s u
 
 -- a step, which the fuse may cut
-abbrev pub acts : {F : Type 0} → Hazards F → ℕ → Member F → Step → Acted F
+abbrev pub acts : {F : Type 0} → Hazards F → ℕ → Host F → Step → Acted F
 acts hz index m s = went_or_halted hz index m s m.fuse
 
 -- a stopped replica handles no event
-abbrev pub handled_by : {F : Type 0} → Hazards F → ℕ → Event → Member F → Option Replica → Acted F
+abbrev pub handled_by : {F : Type 0} → Hazards F → ℕ → Event → Host F → Option Replica → Acted F
 handled_by hz index event m None = stays m
 handled_by hz index event m (Some r) = acts hz index m (react event hz.setting r m.disk)
 
-abbrev pub handles : {F : Type 0} → Hazards F → Event → ℕ → Member F → Acted F
+abbrev pub handles : {F : Type 0} → Hazards F → Event → ℕ → Host F → Acted F
 handles hz event index m = handled_by hz index event m m.replica
 
-abbrev pub stops : {F : Type 0} → ℕ → Member F → Acted F
+abbrev pub stops : {F : Type 0} → ℕ → Host F → Acted F
 stops index m = stays (record { replica = None; disk = m.disk; fuse = m.fuse })
 
 -- a running replica isn't started again
-abbrev pub started_by : {F : Type 0} → Hazards F → ℕ → Member F → Option Replica → Acted F
+abbrev pub started_by : {F : Type 0} → Hazards F → ℕ → Host F → Option Replica → Acted F
 started_by hz index m (Some r) = stays m
 started_by hz index m None = option_map_or (acts hz index m) (opened hz.setting m.disk) (stays m)
 
-abbrev pub starts : {F : Type 0} → Hazards F → ℕ → Member F → Acted F
+abbrev pub starts : {F : Type 0} → Hazards F → ℕ → Host F → Acted F
 starts hz index m = started_by hz index m m.replica
 
-abbrev pub fused : {F : Type 0} → ℕ → ℕ → ℕ → Member F → Acted F
+abbrev pub fused : {F : Type 0} → ℕ → ℕ → ℕ → Host F → Acted F
 fused calls code index m = stays (record { replica = m.replica; disk = m.disk; fuse = Some (record { calls = calls; code = code }) })
 
-abbrev pub lied : {F : Type 0} → Member F → Option F → Acted F
+abbrev pub lied : {F : Type 0} → Host F → Option F → Acted F
 lied m None = record { member = m; outputs = output.KeptOut ∷ [] }
 lied m (Some disk) = record { member = record { replica = m.replica; disk = disk; fuse = m.fuse }; outputs = output.Done ∷ [] }
 
-abbrev pub lies : {F : Type 0} → Hazards F → Fault → ℕ → Member F → Acted F
+abbrev pub lies : {F : Type 0} → Hazards F → Fault → ℕ → Host F → Acted F
 lies hz fault index m = lied m (hz.faulted m.disk fault)
 
 -- ---- the world
@@ -145,7 +154,7 @@ with_member w index a = record {
 }
 
 -- one of the members acts; nothing where there is no such member
-unfoldable pub at_member : {F : Type 0} → World F → ℕ → (ℕ → Member F → Acted F) → Happened F
+unfoldable pub at_member : {F : Type 0} → World F → ℕ → (ℕ → Host F → Acted F) → Happened F
 at_member w index act = option_map_or (λ m. with_member w index (act index m)) (slice_get w.members index) (nothing w)
 
 abbrev pub delivered : {F : Type 0} → Hazards F → World F → Option Sent → Happened F
@@ -153,11 +162,11 @@ delivered hz w None = nothing w
 delivered hz w (Some s) = at_member w s.to (handles hz (event.Deliver s.message))
 
 -- a group that is made has number 0, and its disks are formatted
-abbrev pub fresh_member : {F : Type 0} → Hazards F → ℕ → ℕ → Member F
-fresh_member hz n index = record { replica = Some (fresh 0 n index); disk = hz.formatted 0 n index; fuse = None }
+abbrev pub fresh_host : {F : Type 0} → Hazards F → ℕ → ℕ → Host F
+fresh_host hz n index = record { replica = Some (fresh 0 n index); disk = hz.formatted 0 n index; fuse = None }
 
 unfoldable pub fresh_world : {F : Type 0} → Hazards F → ℕ → World F
-fresh_world hz n = record { n = n; members = map (fresh_member hz n) (range_with_len 0 n); sent = [] }
+fresh_world hz n = record { n = n; members = map (fresh_host hz n) (range_with_len 0 n); sent = [] }
 
 abbrev pub no_world : {F : Type 0} → World F
 no_world = record { n = 0; members = []; sent = [] }

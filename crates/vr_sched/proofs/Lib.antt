@@ -1,3 +1,4 @@
+pub mod Fronts
 pub mod Digits
 mod Rows
 pub mod Cuts

@@ -1,6 +1,7 @@
 //! The text of messages between replicas.
 ghost use Rattle.std.specs.Prelude.{◌≡◌, ◌++◌, ◌≤◌, ◌+◌, ◌^◌, OnOk};
 ghost use Rattle.vr_msg.specs.Forms.{IsFrame};
+ghost use Rattle.vr_sched.specs.Fronts.{IsFront};
 ghost use Rattle.vr_sched.specs.Text.{commit_text, do_view_change_text, frame_text, get_prepare_text, give_prepare_text, prepare_ok_text, prepare_text, start_view_text, stated, statement_text};
 
 use crate::parts::put_parts;
@@ -12,9 +13,10 @@ use vr_msg::{
     Commit, DoViewChange, Frame, GetPrepare, GivePrepare, Prepare, PrepareOk, StartView, Statement,
 };
 
-#[tactic(auto, using(std::proofs::lemmas::Grind::common_steps), unfolding(crate::specs::Text::prepare_text))]
+#[tactic(auto, using(std::proofs::lemmas::Grind::common_steps, crate::proofs::Fronts::front_then), unfolding(crate::specs::Text::prepare_text))]
 fn put_prepare(to: &mut ByteList, p: &Prepare) -> Result<(), AllocError>
-    ensures { OnOk result (to.new ≡ to.old ++ prepare_text p.now) }
+    ensures text { OnOk result (to.new ≡ to.old ++ prepare_text p.now) }
+    ensures front { IsFront to.old to.new }
 {
     let header = p.entry.header();
     put_view(to, "prepare", p.view)?;
@@ -23,27 +25,30 @@ fn put_prepare(to: &mut ByteList, p: &Prepare) -> Result<(), AllocError>
     put_number(to, " commit ", p.commit)
 }
 
-#[tactic(auto, using(std::proofs::lemmas::Grind::common_steps), unfolding(crate::specs::Text::prepare_ok_text))]
+#[tactic(auto, using(std::proofs::lemmas::Grind::common_steps, crate::proofs::Fronts::front_then), unfolding(crate::specs::Text::prepare_ok_text))]
 fn put_prepare_ok(to: &mut ByteList, p: &PrepareOk) -> Result<(), AllocError>
-    ensures { OnOk result (to.new ≡ to.old ++ prepare_ok_text p.now) }
+    ensures text { OnOk result (to.new ≡ to.old ++ prepare_ok_text p.now) }
+    ensures front { IsFront to.old to.new }
 {
     put_view(to, "prepare_ok", p.view)?;
     put(to, " ")?;
     put_entry(to, p.op, p.made)
 }
 
-#[tactic(auto, using(std::proofs::lemmas::Grind::common_steps), unfolding(crate::specs::Text::commit_text))]
+#[tactic(auto, using(std::proofs::lemmas::Grind::common_steps, crate::proofs::Fronts::front_then), unfolding(crate::specs::Text::commit_text))]
 fn put_commit(to: &mut ByteList, c: &Commit) -> Result<(), AllocError>
-    ensures { OnOk result (to.new ≡ to.old ++ commit_text c.now) }
+    ensures text { OnOk result (to.new ≡ to.old ++ commit_text c.now) }
+    ensures front { IsFront to.old to.new }
 {
     put_view(to, "commit", c.view)?;
     put_number(to, " op ", c.head)?;
     put_number(to, " commit ", c.commit)
 }
 
-#[tactic(auto, using(std::proofs::lemmas::Grind::common_steps), unfolding(crate::specs::Text::start_view_text))]
+#[tactic(auto, using(std::proofs::lemmas::Grind::common_steps, crate::proofs::Fronts::front_then), unfolding(crate::specs::Text::start_view_text))]
 fn put_start_view(to: &mut ByteList, v: &StartView) -> Result<(), AllocError>
-    ensures { OnOk result (to.new ≡ to.old ++ start_view_text v.now) }
+    ensures text { OnOk result (to.new ≡ to.old ++ start_view_text v.now) }
+    ensures front { IsFront to.old to.new }
 {
     put_view(to, "start_view", v.view)?;
     put_number(to, " op ", v.head)?;
@@ -51,11 +56,12 @@ fn put_start_view(to: &mut ByteList, v: &StartView) -> Result<(), AllocError>
 }
 
 /// What a replica states of its log; its Parts are told from the op after its commit number on.
-#[tactic(auto, using(std::proofs::lemmas::Grind::common_steps), unfolding(crate::specs::Text::statement_text))]
+#[tactic(auto, using(std::proofs::lemmas::Grind::common_steps, crate::proofs::Fronts::front_then), unfolding(crate::specs::Text::statement_text))]
 fn put_statement(to: &mut ByteList, s: &Statement) -> Result<(), AllocError>
     requires first { s.now.body.first ≤ s.now.commit + 1 }
     requires commit { s.now.commit ≤ 2 ^ 62 }
-    ensures { OnOk result (to.new ≡ to.old ++ statement_text s.now) }
+    ensures text { OnOk result (to.new ≡ to.old ++ statement_text s.now) }
+    ensures front { IsFront to.old to.new }
 {
     put_number(to, " log ", u64::from(s.log_view))?;
     put_number(to, " commit ", s.commit)?;
@@ -79,21 +85,23 @@ fn stated(s: &Statement) -> &[Part]
     }
 }
 
-#[tactic(auto, using(std::proofs::lemmas::Grind::common_steps), unfolding(crate::specs::Text::do_view_change_text))]
+#[tactic(auto, using(std::proofs::lemmas::Grind::common_steps, crate::proofs::Fronts::front_then), unfolding(crate::specs::Text::do_view_change_text))]
 fn put_do_view_change(to: &mut ByteList, d: &DoViewChange) -> Result<(), AllocError>
     requires first { d.now.statement.body.first ≤ d.now.statement.commit + 1 }
     requires commit { d.now.statement.commit ≤ 2 ^ 62 }
-    ensures { OnOk result (to.new ≡ to.old ++ do_view_change_text d.now) }
+    ensures text { OnOk result (to.new ≡ to.old ++ do_view_change_text d.now) }
+    ensures front { IsFront to.old to.new }
 {
     put_view(to, "do_view_change", d.view)?;
     put_statement(to, &d.statement)
 }
 
 /// What a message says; of a request or a reply, which replicas don't send each other, only what it is.
-#[tactic(auto, using(std::proofs::lemmas::Grind::common_steps))]
+#[tactic(auto, using(std::proofs::lemmas::Grind::common_steps, crate::proofs::Fronts::front_then))]
 pub fn put_frame(to: &mut ByteList, frame: &Frame) -> Result<(), AllocError>
     requires { IsFrame frame.now }
-    ensures { OnOk result (to.new ≡ to.old ++ frame_text frame.now) }
+    ensures text { OnOk result (to.new ≡ to.old ++ frame_text frame.now) }
+    ensures front { IsFront to.old to.new }
 {
     match frame {
         Frame::Request(_) => put(to, "request"),
@@ -112,17 +120,19 @@ pub fn put_frame(to: &mut ByteList, frame: &Frame) -> Result<(), AllocError>
     }
 }
 
-#[tactic(auto, using(std::proofs::lemmas::Grind::common_steps), unfolding(crate::specs::Text::get_prepare_text))]
+#[tactic(auto, using(std::proofs::lemmas::Grind::common_steps, crate::proofs::Fronts::front_then), unfolding(crate::specs::Text::get_prepare_text))]
 fn put_get_prepare(to: &mut ByteList, g: &GetPrepare) -> Result<(), AllocError>
-    ensures { OnOk result (to.new ≡ to.old ++ get_prepare_text g.now) }
+    ensures text { OnOk result (to.new ≡ to.old ++ get_prepare_text g.now) }
+    ensures front { IsFront to.old to.new }
 {
     put(to, "get_prepare ")?;
     put_entry(to, g.op, g.made)
 }
 
-#[tactic(auto, using(std::proofs::lemmas::Grind::common_steps), unfolding(crate::specs::Text::give_prepare_text))]
+#[tactic(auto, using(std::proofs::lemmas::Grind::common_steps, crate::proofs::Fronts::front_then), unfolding(crate::specs::Text::give_prepare_text))]
 fn put_give_prepare(to: &mut ByteList, g: &GivePrepare) -> Result<(), AllocError>
-    ensures { OnOk result (to.new ≡ to.old ++ give_prepare_text g.now) }
+    ensures text { OnOk result (to.new ≡ to.old ++ give_prepare_text g.now) }
+    ensures front { IsFront to.old to.new }
 {
     let header = g.entry.header();
     put(to, "give_prepare ")?;

@@ -1,8 +1,9 @@
 //! The letters of Parts.
 ghost use Rattle.std.specs.Prelude.{◌≡◌, ◌++◌, OnOk, map};
+ghost use Rattle.vr_sched.specs.Fronts.{IsFront};
 ghost use Rattle.vr_sched.specs.Text.{letter, letters_of, parts_text};
 
-use crate::texts::put;
+use crate::texts::{put, put_bytes};
 use std::alloc::AllocError;
 use vr_base::ByteList;
 use vr_header::Part;
@@ -34,20 +35,22 @@ fn known(parts: &[Part]) -> &[Part]
     &[]
 }
 
-#[tactic(auto, using(std::proofs::lemmas::Grind::common_steps))]
+#[tactic(auto, using(std::proofs::lemmas::Grind::common_steps, crate::proofs::Fronts::front_same, crate::proofs::Fronts::front_then))]
 fn put_letters(to: &mut ByteList, parts: &[Part]) -> Result<(), AllocError>
-    ensures { OnOk result (to.new ≡ to.old ++ map letter parts.now) }
+    ensures text { OnOk result (to.new ≡ to.old ++ map letter parts.now) }
+    ensures front { IsFront to.old to.new }
 {
     for part in parts {
-        to.push(letter(part))?;
+        put_bytes(to, &[letter(part)])?;
     }
     Ok(())
 }
 
 /// A letter for each Part up to the last that isn't `Nothing`, `-` where there is none.
-#[tactic(auto, using(std::proofs::lemmas::Grind::common_steps))]
+#[tactic(auto, using(std::proofs::lemmas::Grind::common_steps, crate::proofs::Fronts::front_then))]
 pub fn put_parts(to: &mut ByteList, parts: &[Part]) -> Result<(), AllocError>
-    ensures { OnOk result (to.new ≡ to.old ++ parts_text parts.now) }
+    ensures text { OnOk result (to.new ≡ to.old ++ parts_text parts.now) }
+    ensures front { IsFront to.old to.new }
 {
     let known = known(parts);
     if known.is_empty() {

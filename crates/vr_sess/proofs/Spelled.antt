@@ -1,10 +1,10 @@
 -- A session is read back from its text, and so are all together.
-use Rattle.std.proofs.Common.{◌≡◌, ℕ, ◌*◌, ◌^◌, ◌<◌, ◌≤◌, List, [], ◌∷◌, ◌++◌, length, Option, Some, None, Ok, Bool, true, false, eqb, cond, refl, sym, ◌∙◌, ap, subst, arith}
+use Rattle.std.proofs.Common.{◌≡◌, ℕ, ◌*◌, ◌^◌, ◌<◌, ◌≤◌, List, [], ◌∷◌, ◌++◌, length, Option, Some, None, Ok, Bool, true, false, eqb, leb, cond, refl, sym, ◌∙◌, ap, subst, arith}
 use Rattle.std.specs.List.{AllByRecursion, flat_map}
 use Rattle.std.specs.Option.{option_and_then}
 use Rattle.std.specs.Ordering.{nat_cmp}
 use Rattle.std.specs.Int.{w16, w32, w64}
-use Rattle.std.proofs.lemmas.Bool.{eqb-true}
+use Rattle.std.proofs.lemmas.Bool.{eqb-true, leb-true, le-leb}
 use Rattle.std.proofs.lemmas.List.{append_assoc, length-append}
 use Rattle.vr_base.specs.Bytes.{IsBytes, bytes16, bytes32, bytes64}
 use Rattle.vr_base.proofs.FieldLaws.{length-bytes16, length-bytes32, length-bytes64}
@@ -18,17 +18,17 @@ use Rattle.vr_table.specs.Table.{table_text, IsOrNoMemory, IsFirstFault}
 use Rattle.vr_table.proofs.Fronts.{byte_reads, byte_only, number_reads, number_only, number_small, piece_reads, piece_only, field16, field32, field64, IsBytes-behind, same_some}
 use Rattle.vr_table.proofs.Tables.{IsReader, decoded-table_text, table_text-one, decoded_first, decoded_found}
 use Rattle.vr_sess.specs.declared.session.Session.{Session}
-use Rattle.vr_sess.specs.Sessions.{Map, OutcomeFits, Fits, IsSessions}
+use Rattle.vr_sess.specs.Sessions.{Map, OutcomeFits, Fits, IsSessions, last_op}
 use Rattle.vr_sess.specs.Texts.{session_text, value_from, outcome_of, outcome_from, numbers_from, session_from, sessions_text, sessions_decoded}
 use Rattle.vr_sess.proofs.Values.{value_length}
 
 -- what a look-up that goes on gave
-and_then_some : {A B : Type 0} (f : A → Option B) (o : Option A) (y : B) → option_and_then f o ≡ Some y → (x : A) × (o ≡ Some x) × (f x ≡ Some y)
+pub and_then_some : {A B : Type 0} (f : A → Option B) (o : Option A) (y : B) → option_and_then f o ≡ Some y → (x : A) × (o ≡ Some x) × (f x ≡ Some y)
 and_then_some f None y e = absurd cc
 and_then_some f (Some x) y e = (x, refl, e)
 
 -- what a test let through
-chosen : {A : Type 0} (b : Bool) (x y : A) → cond b (Some x) None ≡ Some y → (b ≡ true) × (x ≡ y)
+pub chosen : {A : Type 0} (b : Bool) (x y : A) → cond b (Some x) None ≡ Some y → (b ≡ true) × (x ≡ y)
 chosen true x y e = (refl, same_some x y e)
 chosen false x y e = absurd cc
 
@@ -56,7 +56,8 @@ session_reads e rest fits =
       regroup (bytes64 e.0) (bytes32 e.1.number) (bytes64 e.1.op) (outcome_bytes e.1.outcome) rest,
       number_reads bytes64 w64 (2 ^ 64) field64 e.0 (bytes32 e.1.number ++ (bytes64 e.1.op ++ (outcome_bytes e.1.outcome ++ rest))) fits.client,
       number_reads bytes32 w32 (2 ^ 32) field32 e.1.number (bytes64 e.1.op ++ (outcome_bytes e.1.outcome ++ rest)) fits.number,
-      number_reads bytes64 w64 (2 ^ 64) field64 e.1.op (outcome_bytes e.1.outcome ++ rest) fits.op,
+      number_reads bytes64 w64 (2 ^ 64) field64 e.1.op (outcome_bytes e.1.outcome ++ rest) (omega (arith, fits.op)),
+      le-leb e.1.op last_op fits.op,
       outcome_reads e.1.outcome rest fits.outcome,
     ) refl
 
@@ -124,24 +125,25 @@ outcome_only bytes are o rest is =
     (only.0, whole ∙ only.1)
 
 numbers_only : (bytes : List ℕ) → IsBytes bytes → (n : ℕ × (ℕ × ℕ)) (rest : List ℕ) → numbers_from bytes ≡ Some (n, rest)
-    → (bytes ≡ bytes64 n.0 ++ (bytes32 n.1.0 ++ (bytes64 n.1.1 ++ rest))) × (n.0 < 2 ^ 64) × (n.1.0 < 2 ^ 32) × (n.1.1 < 2 ^ 64) × IsBytes rest
+    → (bytes ≡ bytes64 n.0 ++ (bytes32 n.1.0 ++ (bytes64 n.1.1 ++ rest))) × (n.0 < 2 ^ 64) × (n.1.0 < 2 ^ 32) × (n.1.1 ≤ last_op) × IsBytes rest
 unfolding numbers_from
 numbers_only bytes are n rest is =
     let client = and_then_some _ (number_from w64 bytes) (n, rest) is in
     let number = and_then_some _ (number_from w32 client.0.1) (n, rest) client.2 in
     let op = and_then_some _ (number_from w64 number.0.1) (n, rest) number.2 in
-    let whole = same_some ((client.0.0, (number.0.0, op.0.0)), op.0.1) (n, rest) op.2 in
+    let low = chosen (leb op.0.0 last_op) ((client.0.0, (number.0.0, op.0.0)), op.0.1) (n, rest) op.2 in
+    let whole = low.1 in
     let is_client = number_only bytes64 w64 (2 ^ 64) field64 bytes are client.0.0 client.0.1 client.1 in
     let are_client = IsBytes-behind (bytes64 client.0.0) client.0.1 (subst IsBytes is_client are) in
     let is_number = number_only bytes32 w32 (2 ^ 32) field32 client.0.1 are_client number.0.0 number.0.1 number.1 in
     let are_number = IsBytes-behind (bytes32 number.0.0) number.0.1 (subst IsBytes is_number are_client) in
     let is_op = number_only bytes64 w64 (2 ^ 64) field64 number.0.1 are_number op.0.0 op.0.1 op.1 in
     let are_op = IsBytes-behind (bytes64 op.0.0) op.0.1 (subst IsBytes is_op are_number) in
-    subst (λ (p : (ℕ × (ℕ × ℕ)) × List ℕ). (bytes ≡ bytes64 p.0.0 ++ (bytes32 p.0.1.0 ++ (bytes64 p.0.1.1 ++ p.1))) × (p.0.0 < 2 ^ 64) × (p.0.1.0 < 2 ^ 32) × (p.0.1.1 < 2 ^ 64) × IsBytes p.1) whole (
+    subst (λ (p : (ℕ × (ℕ × ℕ)) × List ℕ). (bytes ≡ bytes64 p.0.0 ++ (bytes32 p.0.1.0 ++ (bytes64 p.0.1.1 ++ p.1))) × (p.0.0 < 2 ^ 64) × (p.0.1.0 < 2 ^ 32) × (p.0.1.1 ≤ last_op) × IsBytes p.1) whole (
       is_client ∙ ap (λ t. bytes64 client.0.0 ++ t) (is_number ∙ ap (λ t. bytes32 number.0.0 ++ t) is_op),
       number_small bytes64 w64 (2 ^ 64) field64 bytes are client.0.0 client.0.1 client.1,
       number_small bytes32 w32 (2 ^ 32) field32 client.0.1 are_client number.0.0 number.0.1 number.1,
-      number_small bytes64 w64 (2 ^ 64) field64 number.0.1 are_number op.0.0 op.0.1 op.1,
+      leb-true op.0.0 last_op low.0,
       are_op,
     )
 

@@ -71,10 +71,14 @@ OutcomeFits outcome.Full = Unit {0}
 OutcomeFits outcome.Absent = Unit {0}
 OutcomeFits (outcome.Value value) = IsTrue (is_text 1024 value)
 
+-- the greatest number of an entry
+abbrev pub last_op : ℕ
+last_op = 2 ^ 62
+
 pub record Fits (e : ℕ × Session) : Type 0 where
   pub client : e.0 < 2 ^ 64
   pub number : e.1.number < 2 ^ 32
-  pub op : e.1.op < 2 ^ 64
+  pub op : e.1.op ≤ last_op
   pub outcome : OutcomeFits e.1.outcome
 
 -- what is true of all sessions together
@@ -82,3 +86,7 @@ pub record IsSessions (m : Map) : Type 0 where
   pub is_map : IsMap nat_cmp m
   pub fit : AllByRecursion Fits m
   pub few : length m ≤ 32
+
+-- each session's op is the number of an entry that may be
+unfoldable pub HaveNumbers : Map → Type 0
+HaveNumbers m = AllByRecursion (λ s. s.1.op ≤ last_op) m

@@ -1,5 +1,5 @@
 -- The text of sessions.
-use Rattle.std.specs.Prelude.{ℕ, List, ◌++◌, Option, Some, None, Result, ◌==◌, if◌then◌else◌}
+use Rattle.std.specs.Prelude.{ℕ, List, ◌++◌, Option, Some, None, Result, ◌==◌, nat_le, if◌then◌else◌}
 use Rattle.std.specs.Option.{option_and_then}
 use Rattle.std.specs.Ordering.{nat_cmp}
 use Rattle.std.specs.Int.{w16, w32, w64}
@@ -12,7 +12,7 @@ use Rattle.vr_table.specs.declared.fault.StateFault.{StateFault}
 use Rattle.vr_table.specs.Front.{byte_from, number_from, piece_from}
 use Rattle.vr_table.specs.Table.{table_text, decoded}
 use Rattle.vr_sess.specs.declared.session.Session.{Session}
-use Rattle.vr_sess.specs.Sessions.{Map}
+use Rattle.vr_sess.specs.Sessions.{Map, last_op}
 
 -- the client in eight bytes, the request in four, the op in eight, the outcome
 unfoldable pub session_text : ℕ × Session → List ℕ
@@ -36,10 +36,10 @@ outcome_of kind rest =
 unfoldable pub outcome_from : List ℕ → Option (Outcome × List ℕ)
 outcome_from bytes = option_and_then (λ kind. outcome_of kind.0 kind.1) (byte_from bytes)
 
--- client, request and op at the front, and the bytes behind them
+-- client, request and an op that an entry may have, at the front, and the bytes behind them
 unfoldable pub numbers_from : List ℕ → Option ((ℕ × (ℕ × ℕ)) × List ℕ)
 numbers_from bytes =
-    option_and_then (λ client. option_and_then (λ number. option_and_then (λ op. Some ((client.0, (number.0, op.0)), op.1))
+    option_and_then (λ client. option_and_then (λ number. option_and_then (λ op. if nat_le op.0 last_op then Some ((client.0, (number.0, op.0)), op.1) else None)
     (number_from w64 number.1)) (number_from w32 client.1)) (number_from w64 bytes)
 
 -- the client with its session that the bytes begin with, and the bytes behind it

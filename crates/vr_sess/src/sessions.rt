@@ -4,7 +4,7 @@ ghost use Rattle.std.specs.Ordering.{nat_cmp};
 ghost use Rattle.vr_table.specs.Table.{IsOrNoMemory, IsFirstFault};
 ghost use Rattle.vr_sess.specs.Asks.{sessions_after, AtMostOnce};
 ghost use Rattle.vr_sess.specs.Effects.{Effect};
-ghost use Rattle.vr_sess.specs.Sessions.{Map, Asked, checked, applied, Fits, OutcomeFits, IsSessions};
+ghost use Rattle.vr_sess.specs.Sessions.{Map, Asked, checked, applied, Fits, OutcomeFits, IsSessions, HaveNumbers, last_op};
 ghost use Rattle.vr_sess.specs.Texts.{session_text, sessions_text, sessions_decoded};
 
 use crate::codec::{encode_table, read_table};
@@ -73,7 +73,7 @@ impl Sessions {
         }
     }
 
-    /// Stores a fresh request that was executed as entry `op` of the log, and what it gave. Where 32 sessions are held, a
+    /// Stores a fresh request that was executed as entry `op` of the log, at most 2^62, and what it gave. Where 32 sessions are held, a
     /// register first takes out the one whose last op is least, of several that of the least client. An `Err` is want of
     /// memory, and changes nothing.
     pub fn apply(
@@ -83,7 +83,8 @@ impl Sessions {
         request: u32,
         outcome: &Outcome,
     ) -> Result<(), NoMemory>
-        requires { checked self.old client request ≡ SessionAnswer.Fresh }
+        requires fresh { checked self.old client request ≡ SessionAnswer.Fresh }
+        requires number { op ≤ last_op }
         ensures ok { OnOk result (self.new ≡ applied self.old (record { op = op; client = client; request = request; outcome = outcome.now })) }
         ensures effect { OnOk result (Effect self.old self.new (record { op = op; client = client; request = request; outcome = outcome.now })) }
         ensures fold { (before : List Asked) → self.old ≡ sessions_after before → OnOk result (self.new ≡ sessions_after (before ++ record { op = op; client = client; request = request; outcome = outcome.now } ∷ [])) }
@@ -102,6 +103,7 @@ impl Sessions {
         request: u32,
         outcome: &Outcome,
     ) -> Result<(), NoMemory>
+        requires number { op ≤ last_op }
         ensures fits { OnOk result (OutcomeFits outcome.now) }
         ensures ok { OnOk result (self.new ≡ applied self.old (record { op = op; client = client; request = request; outcome = outcome.now })) }
         ensures err { OnErr result (self.new ≡ self.old) }
@@ -138,10 +140,11 @@ impl Sessions {
         Ok(text)
     }
 
-    /// The sessions of this text, or the first fault from the front.
+    /// The sessions of this text, each with an op of at most 2^62, or the first fault from the front.
     pub fn decode_state(alloc: Global, bytes: &[u8]) -> Result<Sessions, StateFault>
         ensures decoded { IfOk result (λ sessions. sessions_decoded bytes.now ≡ Ok sessions) }
         ensures text { IfOk result (λ sessions. sessions_text sessions ≡ bytes.now) }
+        ensures numbers { IfOk result HaveNumbers }
         ensures fault { IfErr result (IsOrNoMemory (sessions_decoded bytes.now)) }
         ensures first { IfErr result (IsFirstFault nat_cmp session_text Fits 32 bytes.now) }
     {

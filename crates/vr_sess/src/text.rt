@@ -11,7 +11,6 @@ use vr_header::{Outcome, Value};
 use vr_table::{split_byte, split_piece, split_u16, split_u32, split_u64};
 
 /// Adds the bytes of a client's session at the end.
-
 pub fn write_session(text: &mut ByteList, client: u64, session: &Session) -> Result<(), NoMemory>
     ensures { OnOk result (text.new ≡ text.old ++ session_text (client, session.now)) }
 {
@@ -47,6 +46,9 @@ fn write_value(text: &mut ByteList, value: &Value) -> Result<(), NoMemory>
     Ok(())
 }
 
+/// The greatest number of an entry.
+const LAST_OP: u64 = 1 << 62;
+
 /// A client, a request and an op, and the bytes behind them.
 #[derive(Clone, Copy)]
 struct Numbers<'a> {
@@ -63,6 +65,9 @@ fn split_numbers(bytes: &[u8]) -> Option<Numbers<'_>>
     let (client, rest) = split_u64(bytes)?;
     let (number, rest) = split_u32(rest)?;
     let (op, rest) = split_u64(rest)?;
+    if op > LAST_OP {
+        return None;
+    }
     Some(Numbers {
         client,
         number,

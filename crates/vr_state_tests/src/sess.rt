@@ -1,3 +1,5 @@
+ghost use Rattle.std.specs.Prelude.{◌≤◌, ◌^◌};
+
 use std::alloc::Global;
 use std::process::Abort;
 use std::test::Fail;
@@ -7,7 +9,9 @@ use vr_sess::{SESSIONS, SessionAnswer, Sessions};
 use vr_table::StateFault;
 
 /// Clients 1 to `count` register in turn.
-fn registered(alloc: Global, count: u64) -> Result<Sessions, Fail> {
+fn registered(alloc: Global, count: u64) -> Result<Sessions, Fail>
+    requires { count ≤ 2 ^ 62 }
+{
     let mut sessions = Sessions::new(alloc);
     for client in 0..count {
         register(&mut sessions, client + 1)?;
@@ -15,7 +19,9 @@ fn registered(alloc: Global, count: u64) -> Result<Sessions, Fail> {
     Ok(sessions)
 }
 
-fn register(sessions: &mut Sessions, client: u64) -> Result<(), Fail> {
+fn register(sessions: &mut Sessions, client: u64) -> Result<(), Fail>
+    requires { client ≤ 2 ^ 62 }
+{
     store(sessions, client, client, 0, &Outcome::Session)
 }
 
@@ -26,7 +32,9 @@ fn store(
     client: u64,
     request: u32,
     outcome: &Outcome,
-) -> Result<(), Fail> {
+) -> Result<(), Fail>
+    requires { op ≤ 2 ^ 62 }
+{
     match sessions.check(client, request)? {
         SessionAnswer::Fresh => Ok(sessions.apply(op, client, request, outcome)?),
         _ => Err("not fresh")?,
@@ -118,7 +126,10 @@ fn bytes_are_judged_from_the_front(rt: HostRuntime) {
     let alloc = rt.alloc();
     let two =
         b"\x00\x02\x00\x00\x00\x00\x00\x00\x00\x02\x00\x00\x00\x00\x00\x00\x00\x00\x00\x00\x00\x01\x01\x00\x00\x00\x00\x00\x00\x00\x01\x00\x00\x00\x00\x00\x00\x00\x00\x00\x00\x00\x02\x01";
+    let past_the_last_op =
+        b"\x00\x01\x00\x00\x00\x00\x00\x00\x00\x01\x00\x00\x00\x00\x40\x00\x00\x00\x00\x00\x00\x01\x01";
     assert_eq!(rt; fault(alloc, two), Some(StateFault::NotSorted));
+    assert_eq!(rt; fault(alloc, past_the_last_op), Some(StateFault::Torn));
     assert_eq!(rt; fault(alloc, b"\x00\x21"), Some(StateFault::TooMany));
     assert_eq!(rt; fault(alloc, b"\x00\x01\x00"), Some(StateFault::Torn));
     assert_eq!(rt; fault(alloc, b"\x00\x00\x00"), Some(StateFault::Torn));

@@ -8,15 +8,16 @@ use Rattle.std.specs.List.{AllByRecursion}
 use Rattle.std.proofs.lemmas.Bool.{and_parts, and_from, eqb-true, eq-eqb, leb-true}
 use Rattle.std.proofs.lemmas.List.{take_at, drop_at, take-append-drop, drop-drop, get_or-drop, length-replicate}
 use Rattle.std.proofs.lemmas.Slice.Eq.{bytes_eq-Decides}
-use Rattle.vr_base.specs.Bytes.{IsBytes, bytes16, bytes32, bytes64, joined, name_of, number, piece}
-use Rattle.vr_base.proofs.FieldLaws.{length-name_of, length-bytes16, length-bytes32, length-bytes64, number16_of, number32_of, number64_of, number16_back, number32_back, number64_back, length-piece, byte_of, byte_back}
+use Rattle.vr_base.proofs.ZeroLaws.{zeros_are as blank_are, are_zeros as are_blank}
+use Rattle.vr_base.specs.Bytes.{IsBytes, bytes16, bytes32, bytes64, is_zeros, joined, name_of, number, piece}
+use Rattle.vr_base.proofs.FieldLaws.{IsBytes-piece, length-name_of, length-bytes16, length-bytes32, length-bytes64, number16_of, number32_of, number64_of, number16_back, number32_back, number64_back, length-piece, byte_of, byte_back}
 use Rattle.vr_base.proofs.Places.{BeginsWith, cut, joined-cut, length-joined, piece_there, place, take_both, total, widths}
 use Rattle.vr_header.specs.declared.header.Header.{Header}
 use Rattle.vr_header.specs.declared.header.HeaderFault.{HeaderFault}
 use Rattle.vr_header.specs.Spelling.{IsHeader, Spells, decoded, header_bytes}
 use Rattle.vr_header.proofs.HeaderLaws.{decoded_again, decoded_found, length-header_bytes}
 use Rattle.vr_super.specs.declared.fields.Fields.{Fields}
-use Rattle.vr_super.specs.Copies.{IsFields, IsGood, Saved, are_listed, copy_bytes, count_at, field_bytes, fields_at, first_op, front_bytes, good_count, good_fields, good_member, good_root, good_window, is_closed, is_listed, is_named, is_sealed, is_zeros, list_at, list_bytes, named_bytes, value_of, with_listed, zeros}
+use Rattle.vr_super.specs.Copies.{IsFields, IsGood, Saved, are_listed, copy_bytes, count_at, field_bytes, fields_at, first_op, front_bytes, good_count, good_fields, good_member, good_root, good_window, is_closed, is_listed, is_named, is_sealed, list_at, list_bytes, named_bytes, value_of, with_listed, zeros}
 
 -- ---- what a good copy has
 
@@ -76,13 +77,11 @@ good_version b v e = (valued b v e).is_sealed.version
 
 zeros_are : (n : ℕ) → is_zeros (zeros n) ≡ true
 unfolding zeros
-zeros_are zero = refl
-zeros_are (suc n) = zeros_are n
+zeros_are n = blank_are n
 
 are_zeros : (b : List ℕ) → is_zeros b ≡ true → b ≡ zeros (length b)
 unfolding zeros
-are_zeros [] e = refl
-are_zeros (x ∷ b) e = let p = and_parts (eqb x 0) (is_zeros b) e in ap (λ y. x ∷ y) (are_zeros b p.1) ∙ ap (λ y. y ∷ zeros (length b)) (eqb-true x 0 p.0)
+are_zeros b e = are_blank b e
 
 length-zeros : (n : ℕ) → length (zeros n) ≡ n
 unfolding zeros
@@ -325,6 +324,7 @@ numbers_fit b f s = record {
   checkpoint = (number64_back 40 b f (omega (arith, s.long))).1;
   root_address = (number64_back 48 b f (omega (arith, s.long))).1;
   root_name = length-piece 56 16 b (omega (arith, s.long));
+  root_name_bytes = IsBytes-piece 56 16 b f;
   commit = (number64_back 72 b f (omega (arith, s.long))).1;
   head = (number64_back 80 b f (omega (arith, s.long))).1;
   replica = f 90;

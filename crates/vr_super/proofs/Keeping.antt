@@ -49,7 +49,7 @@ whole_of : (bytes : List ℕ) → length bytes ≡ 10240 → piece 0 512 bytes +
 unfolding piece
 whole_of bytes n = take_both 512 (512 * 19) bytes ∙ take_all (512 + 512 * 19) bytes (omega arith)
 
-copy_done : (bytes : List ℕ) (f : Face) (c : ℕ) → length bytes ≡ 10240 → length f.cells ≡ 1424 → c < 4 → copy_reading (after_all f (copy_calls c bytes)) c ≡ Some bytes
+pub copy_done : (bytes : List ℕ) (f : Face) (c : ℕ) → length bytes ≡ 10240 → length f.cells ≡ 1424 → c < 4 → copy_reading (after_all f (copy_calls c bytes)) c ≡ Some bytes
 unfolding copy_reading copy_calls
 copy_done bytes f c n l k =
     let g = after_all f (writes (20 * c) 20 bytes) in
@@ -413,7 +413,7 @@ write_law old new f h w e gn =
 -- ---- the disk as a call leaves it
 
 -- four copies that read as a value open as it
-reads_open : (v : Saved) (g : Face) → IsGood v → AllRead g v → opens g ≡ Some v
+pub reads_open : (v : Saved) (g : Face) → IsGood v → AllRead g v → opens g ≡ Some v
 reads_open v g gv a =
     let b = copy_bytes v in
     let at : (c : ℕ) → c < 4 → good_copy g c ≡ Some b = λ c l. good_reads v g c gv (a c l) in

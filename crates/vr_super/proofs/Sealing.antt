@@ -9,7 +9,7 @@ use Rattle.std.proofs.lemmas.List.{drop-drop, take_all}
 use Rattle.vr_header.specs.declared.header.Header.{Header}
 use Rattle.vr_header.specs.Spelling.{decoded}
 use Rattle.vr_super.specs.declared.fields.Fields.{Fields}
-use Rattle.vr_super.specs.Copies.{Saved, count_at, fields_at, first_op, good_count, good_fields, good_member, good_root, good_window, is_closed, is_listed, is_sealed, is_zeros, list_at, value_of, with_listed}
+use Rattle.vr_super.specs.Copies.{Saved, count_at, fields_at, first_op, good_count, good_fields, good_member, good_root, good_window, is_closed, is_listed, is_sealed, list_at, value_of, with_listed}
 
 -- a value's fields and count that stand
 pub head_holds : (f : Fields) (count : ℕ) → good_fields f count ≡ true → count ≤ f.head
@@ -86,24 +86,3 @@ window_holds f count e =
     let r = and_parts (eqb (f.checkpoint % 32) 0) ((leb f.checkpoint f.commit && leb f.commit f.head) && (leb (f.head - f.checkpoint) 64 && leb f.head (2 ^ 62))) q.0 in
     let s = and_parts (leb f.checkpoint f.commit && leb f.commit f.head) (leb (f.head - f.checkpoint) 64 && leb f.head (2 ^ 62)) r.1 in
     leb-true f.head (2 ^ 62) (and_parts (leb (f.head - f.checkpoint) 64) (leb f.head (2 ^ 62)) s.1).1
-
--- ---- zeros, each as the one before it
-
-shifted : (b : ℕ) (bs : List ℕ) → b ≡ 0 → pointwise nat_eq bs (take (length bs) (b ∷ bs)) ≡ is_zeros bs
-shifted b [] z = refl
-shifted b (c ∷ bs) z =
-    let same : pointwise nat_eq (c ∷ bs) (take (length (c ∷ bs)) (b ∷ c ∷ bs)) ≡ (eqb c 0 && pointwise nat_eq bs (take (length bs) (c ∷ bs))) = rw z refl in
-    same
-    ∙ (elim (eqb c 0) as (λ x. eqb c 0 ≡ x → (x && pointwise nat_eq bs (take (length bs) (c ∷ bs))) ≡ (x && is_zeros bs)) [
-      | true ↦ λ e. shifted c bs (eqb-true c 0 e)
-      | false ↦ λ e. refl
-    ] refl)
-
-pub zeros_by : (bytes : List ℕ) (first : ℕ) → 1 ≤ length bytes → first ≡ get_or bytes 0 0 → first ≡ 0
-    → let rest = take (length bytes - 1) (drop 1 bytes) in pointwise nat_eq rest (take (length rest) bytes) ≡ is_zeros bytes
-zeros_by [] first l f z = absurd (omega arith)
-zeros_by (b ∷ bs) first l f z =
-    let size : length (b ∷ bs) - 1 ≡ length bs = omega arith in
-    let all : take (length (b ∷ bs) - 1) bs ≡ bs = ap (λ n. take n bs) size ∙ take_all (length bs) bs (omega arith) in
-    let zero : b ≡ 0 = sym f ∙ z in
-    ap (λ x. pointwise nat_eq x (take (length x) (b ∷ bs))) all ∙ (shifted b bs zero ∙ ap (λ x. x && is_zeros bs) (sym (eq-eqb b 0 zero)))

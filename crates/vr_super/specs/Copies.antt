@@ -2,13 +2,12 @@
 use Rattle.std.specs.Prelude.{ℕ, zero, suc, ◌+◌, ◌-◌, ◌*◌, ◌%◌, ◌^◌, ◌<◌, ◌≡◌, Bool, true, false, ◌&&◌, ◌||◌, ◌==◌, nat_eq, nat_le, nat_lt, min, if◌then◌else◌, List, [], ◌∷◌, ◌++◌, length, drop, replicate, slice_index, Option, None, Some}
 use Rattle.std.specs.Option.{option_map}
 use Rattle.std.specs.Result.{result_ok}
-use Rattle.std.specs.List.{AllByRecursion, list_all}
+use Rattle.std.specs.List.{AllByRecursion}
 use Rattle.std.specs.Int.{w16, w32, w64}
 use Rattle.std.specs.Cmp.Lexicographic.{pointwise}
-use Rattle.vr_base.specs.Bytes.{bytes16, bytes32, bytes64, joined, name_of, number, piece}
-use Rattle.vr_header.specs.declared.command.Command.{Command}
-use Rattle.vr_header.specs.declared.command.Command.TheVariants.{Entry}
+use Rattle.vr_base.specs.Bytes.{IsBytes, bytes16, bytes32, bytes64, is_zeros, joined, name_of, number, piece}
 use Rattle.vr_header.specs.declared.header.Header.{Header}
+use Rattle.vr_header.specs.Made.{is_entry_header}
 use Rattle.vr_header.specs.Spelling.{IsHeader, decoded, header_bytes}
 use Rattle.vr_super.specs.declared.fields.Fields.{Fields}
 
@@ -46,9 +45,6 @@ copy_bytes v = name_of (named_bytes v) ++ named_bytes v
 
 -- ---- which values make a good copy
 
-abbrev pub is_zeros : List ℕ → Bool
-is_zeros bytes = list_all (λ b. b == 0) bytes
-
 -- a member of a group, and the views that it was in
 abbrev pub good_member : Fields → Bool
 good_member f = (nat_le 2 f.n && nat_le f.n 6) && (nat_lt f.replica f.n && (nat_le f.log_view f.view && nat_lt f.log_view (2 ^ 32 - 1)))
@@ -68,15 +64,6 @@ good_count f count = (nat_le (f.head - f.checkpoint) count && nat_le (min f.head
 
 unfoldable pub good_fields : Fields → ℕ → Bool
 good_fields f count = good_member f && (good_window f && (good_root f && good_count f count))
-
-abbrev pub is_entry_command : Command → Bool
-is_entry_command Entry = true
-is_entry_command _ = false
-
--- the header of an entry
-abbrev pub is_entry_header : Header → Bool
-is_entry_header h =
-    (is_entry_command h.command && (nat_lt 128 h.size && nat_le h.size 2048)) && (((h.commit == 0) && (h.replica == 0)) && ((h.kind == 0) && (h.aux == 0)))
 
 -- the header of an entry of this group with this op
 unfoldable pub is_listed : Fields → ℕ → Header → Bool
@@ -100,6 +87,7 @@ pub record IsFields (f : Fields) : Type 0 where
   pub checkpoint : f.checkpoint < 2 ^ 64
   pub root_address : f.root_address < 2 ^ 64
   pub root_name : length f.root_name.0 ≡ 16
+  pub root_name_bytes : IsBytes f.root_name.0
   pub commit : f.commit < 2 ^ 64
   pub head : f.head < 2 ^ 64
   pub replica : f.replica < 256

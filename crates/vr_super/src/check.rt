@@ -2,21 +2,11 @@
 ghost use Rattle.std.specs.Prelude.{◌≡◌, ◌+◌, ◌*◌, ◌-◌, ◌^◌, ◌≤◌, ◌<◌, ◌==◌, length, is_some, true, false, Some, [], MatchOption, IfSome};
 ghost use Rattle.std.specs.Result.{result_ok};
 ghost use Rattle.vr_header.specs.Spelling.{decoded};
-ghost use Rattle.vr_super.specs.Copies.{count_at, fields_at, good_count, good_fields, good_member, good_root, good_window, is_entry_command, is_entry_header, is_listed, is_closed, is_named, is_zeros, list_at, value_of, with_listed};
+ghost use Rattle.vr_super.specs.Copies.{count_at, fields_at, good_count, good_fields, good_member, good_root, good_window, is_listed, is_closed, is_named, list_at, value_of, with_listed};
 
 use crate::Fields;
-use vr_base::{checksum, sum_at, u16_at, u32_at, u64_at};
-use vr_header::{Command, Header, decode};
-
-// The first byte is zero, and each other is as the one before it: whole slices are compared faster than byte by byte.
-fn is_zeros(bytes: &[u8]) -> bool
-    ensures { result ≡ is_zeros bytes.now }
-{
-    match bytes {
-        [] => true,
-        [first, rest @ ..] => *first == 0 && rest == &bytes[..rest.len()],
-    }
-}
+use vr_base::{checksum, is_zeros, sum_at, u16_at, u32_at, u64_at};
+use vr_header::{Header, decode};
 
 // A member of a group, and the views that it was in.
 fn is_member(f: &Fields) -> bool
@@ -71,32 +61,11 @@ fn checked_count(f: &Fields, count: u64) -> Option<u64>
     }
 }
 
-fn is_entry_command(command: Command) -> bool
-    ensures { result ≡ is_entry_command command }
-{
-    match command {
-        Command::Entry => true,
-        _ => false,
-    }
-}
-
-fn is_entry_header(h: &Header) -> bool
-    ensures { result ≡ is_entry_header h.now }
-{
-    is_entry_command(h.command)
-        && 128 < h.size.get()
-        && h.size.get() <= 2048
-        && h.commit == 0
-        && h.replica == 0
-        && h.kind == 0
-        && h.aux == 0
-}
-
 #[tactic(auto, unfolding(crate::specs::Copies::is_listed))]
 fn is_listed(f: &Fields, op: u64, h: &Header) -> bool
     ensures { result ≡ is_listed f.now op h.now }
 {
-    is_entry_header(h) && h.op == op && h.cluster == f.cluster && h.view <= f.log_view
+    h.is_entry() && h.op == op && h.cluster == f.cluster && h.view <= f.log_view
 }
 
 /// The numbers of a copy.

@@ -1,6 +1,7 @@
 pub mod Outputs
 pub mod Parsed
 pub mod Taken
+pub mod Counts
 pub mod Cuts
 pub mod Plays
 pub mod Streams

@@ -1,5 +1,5 @@
 -- A replay seen from its whole schedule.
-use Rattle.std.proofs.Common.{suc, ◌≡◌, ◌<◌, ◌≤◌, ℕ, ◌+◌, List, [], ◌∷◌, ◌++◌, length, Bool, true, false, cond, eqb, ltb, refl, ap, sym, ◌∙◌, arith, append_assoc, length-append, Option, Some, None}
+use Rattle.std.proofs.Common.{suc, ◌≡◌, ◌<◌, ◌≤◌, ℕ, ◌+◌, List, [], ◌∷◌, ◌++◌, length, Bool, true, false, cond, eqb, ltb, refl, ap, sym, ◌∙◌, arith, append_assoc, length-append, Option, Some, None, inl, inr}
 use Rattle.std.specs.Option.{IfSome}
 use Rattle.std.specs.Io.KnownBytes.{Appends, Consumes, Keeps, IsAtEnd}
 use Rattle.std.proofs.lemmas.List.{append-nil}
@@ -16,9 +16,9 @@ use Rattle.vr_top.specs.declared.playing.Replay.{Replay}
 use Rattle.vr_top.specs.declared.stop.Stop.{Stop}
 use Rattle.vr_top.specs.declared.stop.Stop.TheVariants as stop
 use Rattle.vr_top.specs.Lines.{Cut, cut, whole_lines, if_any, lines_of}
-use Rattle.vr_top.specs.Playing.{Played, judged, taken, behind, and_then, plays, heard, hears, if_too_long, none_left, ends, Hears}
-use Rattle.vr_top.specs.Run.{text_for, refused_in, IsDone, IsCutShort, IsPartial, Ends}
-use Rattle.vr_top.specs.Schedule.{line_at, schedule, put_out}
+use Rattle.vr_top.specs.Playing.{Played, judged, taken, behind, and_then, plays, heard, hears, if_too_long, none_left, ends, Hears, IsReplay}
+use Rattle.vr_top.specs.Run.{text_for, text_so_far, refused_in, IsDone, IsCutShort, IsPartial, Ends}
+use Rattle.vr_top.specs.Schedule.{line_at, schedule, so_far, put_out}
 use Rattle.vr_top.specs.Status.{status_of}
 use Rattle.vr_top.specs.Stops.{Stopped}
 use Rattle.vr_top.specs.Text.{text_of}
@@ -147,40 +147,73 @@ some_read None b read P h p = tt
 some_read (Some xs) None read P h p = absurd h
 some_read (Some xs) (Some ys) read P h p = rw h (p ys)
 
-front_longer : (a b : Option (List ℕ)) (xs ys more : List ℕ) → AppendsFront a b xs → ys ≡ xs ++ more → AppendsFront a b ys
-front_longer a b xs ys more h e = (h.0, h.1 ++ more, h.2, sym (append_assoc h.0 h.1 more) ∙ ap (λ x. x ++ more) h.3 ∙ sym e)
+-- the end of a piece puts out nothing: a line that is too long is refused
+silent : (o : Option ℕ) (t later : Played) → later.outputs ≡ [] → (and_then o t later).outputs ≡ t.outputs
+silent (Some k) t later e = refl
+silent None t later e = ap (λ x. t.outputs ++ x) e ∙ append-nil t.outputs
+
+long_silent : (w : World) (number : ℕ) (p : List ℕ) → (plays w number (if_too_long p)).outputs ≡ []
+long_silent w number p =
+    let cases : (b : Bool) → ltb longest (length p) ≡ b → (plays w number (cond b (p ∷ []) [])).outputs ≡ [] = elim [
+      | true ↦ λ e.
+          let long : longest < length p = grind (arith, nat_tests) in
+          ap (λ (t : Played). t.outputs) (plays_line w number p [] ∙ ap (λ (t : Played). and_then t.refused t (plays t.world t.number [])) (too_long w number p long))
+      | false ↦ λ e. ap (λ (t : Played). t.outputs) (plays_none w number)
+    ] in
+    cases (ltb longest (length p)) refl
+
+text_heard : (read : List ℕ) → text_of (plays no_world 0 (heard read)).outputs ≡ text_so_far read
+unfolding heard
+text_heard read =
+    let whole = plays no_world 0 (whole_lines read) in
+    let last = plays whole.world whole.number (if_too_long (cut read).last) in
+    ap text_of
+    (ap (λ (p : Played). p.outputs) (plays_append no_world 0 (whole_lines read) (if_too_long (cut read).last))
+    ∙ silent whole.refused whole last (long_silent whole.world whole.number (cut read).last)
+    ∙ (plays_show (whole_lines read)).outputs)
 
 partial_front : (lo ln to tn : Option (List ℕ)) (read : List ℕ) → Consumes lo ln read → AppendsFront to tn (text_of (plays no_world 0 (heard read)).outputs) → IsPartial lo ln to tn
-partial_front lo ln to tn read all h =
-    let grows = (follows_heard read []).grows in
-    let text : text_for read ≡ text_of (plays no_world 0 (heard read)).outputs ++ text_of grows.more =
-    text_whole read ∙ ap (λ x. text_of (plays no_world 0 (lines_of x)).outputs) (sym (append-nil read)) ∙ ap text_of grows.is ∙ text_append (plays no_world 0 (heard read)).outputs grows.more in
-    record { read = read; consumed = all; text = front_longer to tn _ _ (text_of grows.more) h text }
+partial_front lo ln to tn read all h = record { read = read; consumed = all; text = inl (rw text_heard at h) }
 
-whole_stopped : (s0 s1 k0 k1 : ℕ) (lo ln to tn : Option (List ℕ)) (read : List ℕ) → Consumes lo ln read → (why : Stop) → Stopped k0 k1 to tn (plays no_world 0 (heard read)) why → Ends s0 s1 k0 k1 lo ln to tn (status_of why)
-whole_stopped s0 s1 k0 k1 lo ln to tn read all (stop.Refused line) h =
-    record {
-      line = some_read lo ln read (λ bytes. refused_in bytes ≡ Some line) all (λ rest. refused_by_lines (lines_of (read ++ rest)) line (ap (λ (p : Played). p.refused) ((follows_heard read rest).same line h.0) ∙ h.0));
-      text = some_read lo ln read (λ bytes. Appends to tn (text_for bytes)) all (λ rest. rw (text_whole (read ++ rest), (follows_heard read rest).same line h.0) h.1);
-    }
-whole_stopped s0 s1 k0 k1 lo ln to tn read all stop.WriteFault h = (h.0, partial_front lo ln to tn read all h.1)
-whole_stopped s0 s1 k0 k1 lo ln to tn read all stop.NoMemory h = partial_front lo ln to tn read all h
+-- no line is refused in the midst of a replay
+accepted_so_far : (lo l to t : Option (List ℕ)) (s : Replay) (m : Midst lo l to t s) → IsReplay s → (so_far (heard m.read)).refused ≡ None
+accepted_so_far lo l to t s m sound =
+    let short : length (cut m.read).last ≤ longest = rw (← m.partial) sound.short in
+    sym (plays_show (heard m.read)).refused
+    ∙ ap (λ x. (plays no_world 0 x).refused) (sym (heard_short m.read short))
+    ∙ ap (λ (p : Played). p.refused) m.played
 
-pub stopped_in_piece : (s0 s1 k0 k k1 : ℕ) (lo l ln to t tn : Option (List ℕ)) (s : Replay) (piece : List ℕ) → Midst lo l to t s → Consumes l ln piece → k0 ≤ k → (why : Stop) → Stopped k k1 t tn (hears s piece) why → Ends s0 s1 k0 k1 lo ln to tn (status_of why)
-stopped_in_piece s0 s1 k0 k k1 lo l ln to t tn s piece m more le why h =
+whole_stopped : (s0 s1 k0 k1 : ℕ) (lo ln to tn : Option (List ℕ)) (read piece : List ℕ) → s1 ≡ s0 → (so_far (heard read)).refused ≡ None → length piece ≤ 4096 → Consumes lo ln (read ++ piece) → (why : Stop) → Stopped k0 k1 to tn (plays no_world 0 (heard (read ++ piece))) why → Ends s0 s1 k0 k1 lo ln to tn (status_of why)
+whole_stopped s0 s1 k0 k1 lo ln to tn read piece counts accepted size all (stop.Refused line) h = (
+  counts,
+  record {
+    read = read;
+    piece = piece;
+    consumed = all;
+    size = size;
+    accepted = accepted;
+    line = some_read lo ln (read ++ piece) (λ bytes. refused_in bytes ≡ Some line) all (λ rest. refused_by_lines (lines_of ((read ++ piece) ++ rest)) line (ap (λ (p : Played). p.refused) ((follows_heard (read ++ piece) rest).same line h.0) ∙ h.0));
+    text = some_read lo ln (read ++ piece) (λ bytes. Appends to tn (text_for bytes)) all (λ rest. rw (text_whole ((read ++ piece) ++ rest), (follows_heard (read ++ piece) rest).same line h.0) h.1);
+  },
+)
+whole_stopped s0 s1 k0 k1 lo ln to tn read piece counts accepted size all stop.WriteFault h = (counts, h.0, partial_front lo ln to tn (read ++ piece) all h.1)
+whole_stopped s0 s1 k0 k1 lo ln to tn read piece counts accepted size all stop.NoMemory h = (counts, partial_front lo ln to tn (read ++ piece) all h)
+
+pub stopped_in_piece : (s0 s1 k0 k k1 : ℕ) (lo l ln to t tn : Option (List ℕ)) (s : Replay) (piece : List ℕ) → Midst lo l to t s → IsReplay s → s1 ≡ s0 → Consumes l ln piece → length piece ≤ 4096 → k0 ≤ k → (why : Stop) → Stopped k k1 t tn (hears s piece) why → Ends s0 s1 k0 k1 lo ln to tn (status_of why)
+stopped_in_piece s0 s1 k0 k k1 lo l ln to t tn s piece m sound counts more size le why h =
     let texts = heard_append m.read piece ∙ ap (λ p. whole_lines m.read ++ heard (p ++ piece)) (sym m.partial) in
     let all = ap (plays no_world 0) texts ∙ plays_on lo l to t s m (heard (s.partial ++ piece)) in
-    whole_stopped s0 s1 k0 k1 lo ln to tn (m.read ++ piece) (consumes_trans lo l ln m.read piece m.consumed more) why
+    whole_stopped s0 s1 k0 k1 lo ln to tn m.read piece counts (accepted_so_far lo l to t s m sound) size (consumes_trans lo l ln m.read piece m.consumed more) why
     (stopped_within k0 k k1 to t tn m.outputs (hears s piece) (hears s piece) _ why le all (follows_refl (hears s piece)) m.text h)
 
 -- a read that failed
-pub cut_short : (lo l ln to t : Option (List ℕ)) (s : Replay) → Midst lo l to t s → Keeps l ln → IsCutShort lo ln to t
-cut_short lo l ln to t s m kept =
+pub cut_short : (lo l ln to t : Option (List ℕ)) (s : Replay) → Midst lo l to t s → IsReplay s → Keeps l ln → IsCutShort lo ln to t
+cut_short lo l ln to t s m sound kept =
     let shows = plays_show (whole_lines m.read) in
     record {
       read = m.read;
       consumed = consumes_kept lo l ln m.read m.consumed kept;
-      accepted = sym shows.refused ∙ ap (λ (p : Played). p.refused) m.played;
+      accepted = accepted_so_far lo l to t s m sound;
       text = rw (← shows.outputs, m.played) m.text;
     }
 
@@ -268,29 +301,37 @@ done_at_end lo l ln to t tn s m last e accepted text =
       text = consumes_whole lo ln m.read (λ bytes. Appends to tn (text_for bytes)) all e (rw whole.text (appends_trans to t tn _ _ m.text text));
     }
 
-front_at_end : (lo l ln to t tn : Option (List ℕ)) (s : Replay) → Midst lo l to t s → Consumes l ln [] → AppendsFront t tn (text_of (ends s).outputs) → IsPartial lo ln to tn
-front_at_end lo l ln to t tn s m last h =
+front_at_end : (lo l ln to t tn : Option (List ℕ)) (s : Replay) → Midst lo l to t s → Consumes l ln [] → IsAtEnd ln → AppendsFront t tn (text_of (ends s).outputs) → IsPartial lo ln to tn
+front_at_end lo l ln to t tn s m last e h =
     let whole = ended lo l to t s m in
     record {
       read = m.read;
       consumed = rw append-nil at (consumes_trans lo l ln m.read [] m.consumed last);
-      text = front_then to t tn (text_of m.outputs) (text_of (ends s).outputs) _ [] m.text h (whole.text ∙ sym (append-nil _));
+      text = inr (e, front_then to t tn (text_of m.outputs) (text_of (ends s).outputs) _ [] m.text h (whole.text ∙ sym (append-nil _)));
     }
 
 -- a stop at the end of the source
-pub stopped_at_end : (s0 s1 k0 k k1 : ℕ) (lo l ln to t tn : Option (List ℕ)) (s : Replay) → Midst lo l to t s → Consumes l ln [] → IsAtEnd ln → k0 ≤ k → (why : Stop) → Stopped k k1 t tn (ends s) why → Ends s0 s1 k0 k1 lo ln to tn (status_of why)
-stopped_at_end s0 s1 k0 k k1 lo l ln to t tn s m last e le (stop.Refused line) h =
-    let all = rw append-nil at (consumes_trans lo l ln m.read [] m.consumed last) in
-    let whole = ended lo l to t s m in
-    record {
-      line = consumes_whole lo ln m.read (λ bytes. refused_in bytes ≡ Some line) all e (whole.refused ∙ h.0);
-      text = consumes_whole lo ln m.read (λ bytes. Appends to tn (text_for bytes)) all e (rw whole.text (appends_trans to t tn _ _ m.text h.1));
-    }
-stopped_at_end s0 s1 k0 k k1 lo l ln to t tn s m last e le stop.WriteFault h = (rose_from k0 k k1 le h.0, front_at_end lo l ln to t tn s m last h.1)
-stopped_at_end s0 s1 k0 k k1 lo l ln to t tn s m last e le stop.NoMemory h = front_at_end lo l ln to t tn s m last h
+pub stopped_at_end : (s0 s1 k0 k k1 : ℕ) (lo l ln to t tn : Option (List ℕ)) (s : Replay) → Midst lo l to t s → IsReplay s → s1 ≡ s0 → Consumes l ln [] → IsAtEnd ln → k0 ≤ k → (why : Stop) → Stopped k k1 t tn (ends s) why → Ends s0 s1 k0 k1 lo ln to tn (status_of why)
+stopped_at_end s0 s1 k0 k k1 lo l ln to t tn s m sound counts last e le (stop.Refused line) h =
+    let joined = consumes_trans lo l ln m.read [] m.consumed last in
+    let all = rw append-nil at joined in
+    let whole = ended lo l to t s m in (
+      counts,
+      record {
+        read = m.read;
+        piece = [];
+        consumed = joined;
+        size = omega arith;
+        accepted = accepted_so_far lo l to t s m sound;
+        line = consumes_whole lo ln m.read (λ bytes. refused_in bytes ≡ Some line) all e (whole.refused ∙ h.0);
+        text = consumes_whole lo ln m.read (λ bytes. Appends to tn (text_for bytes)) all e (rw whole.text (appends_trans to t tn _ _ m.text h.1));
+      },
+    )
+stopped_at_end s0 s1 k0 k k1 lo l ln to t tn s m sound counts last e le stop.WriteFault h = (counts, rose_from k0 k k1 le h.0, front_at_end lo l ln to t tn s m last e h.1)
+stopped_at_end s0 s1 k0 k k1 lo l ln to t tn s m sound counts last e le stop.NoMemory h = (counts, front_at_end lo l ln to t tn s m last e h)
 
 -- a stop between two reads
 pub midst_partial : (lo l to t : Option (List ℕ)) (s : Replay) → Midst lo l to t s → IsPartial lo l to t
 midst_partial lo l to t s m =
-    let h = ended lo l to t s m in
-    record { read = m.read; consumed = m.consumed; text = (text_of m.outputs, text_of (ends s).outputs, m.text, sym h.text) }
+    let text : text_of m.outputs ≡ text_so_far m.read = ap text_of (sym (ap (λ (p : Played). p.outputs) m.played) ∙ (plays_show (whole_lines m.read)).outputs) in
+    record { read = m.read; consumed = m.consumed; text = inl (text_of m.outputs, [], m.text, append-nil (text_of m.outputs) ∙ text) }

@@ -1,13 +1,14 @@
 -- What a run with the command `replay` comes to.
-use Rattle.std.specs.Prelude.{ℕ, ◌≡◌, List, [], ◌∷◌, Option, Some, None, IfSome, codes, Bool, false, String, string_bytes}
+use Rattle.std.specs.Prelude.{ℕ, ◌≡◌, ◌≤◌, ◌++◌, ◌⊎◌, length, List, [], ◌∷◌, Option, Some, None, IfSome, codes, Bool, false, String, string_bytes}
 use Rattle.std.specs.Io.KnownBytes.{Appends, Consumes, IsAtEnd}
 use Rattle.std.specs.Global.{Global}
 use Rattle.std.specs.Str.{bytes_eq}
-use Rattle.vr_base.specs.Causes.{Rose}
+use Rattle.vr_base.specs.Causes.{Rose, one_more}
 use Rattle.vr_edge.specs.Told.{AppendsFront}
 use Rattle.vr_top.specs.declared.status.Status.{Status}
 use Rattle.vr_top.specs.declared.status.Status.TheVariants as status
 use Rattle.vr_top.specs.Lines.{whole_lines}
+use Rattle.vr_top.specs.Playing.{heard}
 use Rattle.vr_top.specs.Schedule.{schedule_of, so_far, put_out}
 use Rattle.vr_top.specs.Text.{text_of}
 
@@ -29,32 +30,44 @@ pub record IsDone (left_old left_new taken_old taken_new : Option (List ℕ)) : 
   pub accepted : IfSome left_old (λ bytes. refused_in bytes ≡ None)
   pub text : IfSome left_old (λ bytes. Appends taken_old taken_new (text_for bytes))
 
--- line k is the first that is refused, and the sink grew by the text of those before it
-pub record IsRefused (k : ℕ) (left_old taken_old taken_new : Option (List ℕ)) : Type 0 where
+-- Line k is the first that is refused, and the sink grew by the text of those before it. Nothing was read behind the piece in
+-- which the line is refused: at its end, as soon as it is too long, or at the end of the source.
+pub record IsRefused (k : ℕ) (left_old left_new taken_old taken_new : Option (List ℕ)) : Type 0 where
+  pub read : List ℕ
+  pub piece : List ℕ
+  pub consumed : Consumes left_old left_new (read ++ piece)
+  pub size : length piece ≤ 4096
+  pub accepted : (so_far (heard read)).refused ≡ None
   pub line : IfSome left_old (λ bytes. refused_in bytes ≡ Some k)
   pub text : IfSome left_old (λ bytes. Appends taken_old taken_new (text_for bytes))
 
--- the sink grew by the text of the whole lines among the bytes that were read
+-- the sink grew by the text of the whole lines among the bytes that were read, and no line of them is refused, nor is the next too long
 pub record IsCutShort (left_old left_new taken_old taken_new : Option (List ℕ)) : Type 0 where
   pub read : List ℕ
   pub consumed : Consumes left_old left_new read
-  pub accepted : (so_far (whole_lines read)).refused ≡ None
+  pub accepted : (so_far (heard read)).refused ≡ None
   pub text : Appends taken_old taken_new (text_so_far read)
 
--- the sink grew by a front of the text of the lines that were read
+-- the sink grew by a front of the text of the whole lines among the bytes that were read, or of all lines where the source is at
+-- its end
 pub record IsPartial (left_old left_new taken_old taken_new : Option (List ℕ)) : Type 0 where
   pub read : List ℕ
   pub consumed : Consumes left_old left_new read
-  pub text : AppendsFront taken_old taken_new (text_for read)
+  pub text : AppendsFront taken_old taken_new (text_so_far read) ⊎ (IsAtEnd left_new × AppendsFront taken_old taken_new (text_for read))
 
--- how a replay ends; s and k count the faults of source and sink
+-- how a replay ends; s and k count the faults of source and sink: a read that fails is told, and no other answer leaves one untold
 abbrev pub Ends : (s s' k k' : ℕ) (left_old left_new taken_old taken_new : Option (List ℕ)) → Status → Type 0
-Ends s s' k k' lo ln to tn status.Done = IsDone lo ln to tn
+Ends s s' k k' lo ln to tn status.Done = (s' ≡ s) × IsDone lo ln to tn
 Ends s s' k k' lo ln to tn status.Usage = ⊥
-Ends s s' k k' lo ln to tn (status.Refused line) = IsRefused line lo to tn
-Ends s s' k k' lo ln to tn status.ReadFault = Rose s s' × IsCutShort lo ln to tn
-Ends s s' k k' lo ln to tn status.WriteFault = Rose k k' × IsPartial lo ln to tn
-Ends s s' k k' lo ln to tn status.NoMemory = IsPartial lo ln to tn
+Ends s s' k k' lo ln to tn (status.Refused line) = (s' ≡ s) × IsRefused line lo ln to tn
+Ends s s' k k' lo ln to tn status.ReadFault = (s' ≡ one_more s) × IsCutShort lo ln to tn
+Ends s s' k k' lo ln to tn status.WriteFault = (s' ≡ s) × Rose k k' × IsPartial lo ln to tn
+Ends s s' k k' lo ln to tn status.NoMemory = (s' ≡ s) × IsPartial lo ln to tn
+
+-- a count of the source's faults at the end
+abbrev pub count_after : Status → ℕ → ℕ
+count_after status.ReadFault count = one_more count
+count_after _ count = count
 
 -- the status that a source's bytes have where no fault comes
 abbrev pub status_for : Option ℕ → Status

@@ -1,7 +1,7 @@
 //! The whole program over the outside that is handed in.
 ghost use Rattle.std.specs.Prelude.{◌≡◌, ◌↔◌, ◌⊎◌, ℕ, List, true, false, IfSome};
 ghost use Rattle.vr_base.specs.Causes.{Rose};
-ghost use Rattle.vr_top.specs.Run.{IsDone, IsRefused, IsCutShort, IsPartial, Ends, is_replay_words, refused_in, status_for};
+ghost use Rattle.vr_top.specs.Run.{IsDone, IsRefused, IsCutShort, IsPartial, Ends, count_after, is_replay_words, refused_in, status_for};
 ghost use Rattle.vr_top.specs.Schedule.{Agrees, schedule_of};
 
 use crate::{Replay, Status};
@@ -58,13 +58,13 @@ pub fn run<S: Source, K: Sink, D: SectorDisk, L: Link, C: Clock>(
 
     // What was read and written.
     ensures done { result ≡ Status.Done → IsDone (S.left source.old) (S.left source.new) (K.taken sink.old) (K.taken sink.new) }
-    ensures refused { (line : ℕ) → result ≡ Status.Refused line → IsRefused line (S.left source.old) (K.taken sink.old) (K.taken sink.new) }
+    ensures refused { (line : ℕ) → result ≡ Status.Refused line → IsRefused line (S.left source.old) (S.left source.new) (K.taken sink.old) (K.taken sink.new) }
     ensures read_text { result ≡ Status.ReadFault → IsCutShort (S.left source.old) (S.left source.new) (K.taken sink.old) (K.taken sink.new) }
     ensures write_text { result ≡ Status.WriteFault → IsPartial (S.left source.old) (S.left source.new) (K.taken sink.old) (K.taken sink.new) }
     ensures memory_text { result ≡ Status.NoMemory → IsPartial (S.left source.old) (S.left source.new) (K.taken sink.old) (K.taken sink.new) }
 
-    // A fault has its cause in the object that was handed in.
-    ensures read { result ≡ Status.ReadFault → Rose (S.faults source.old) (S.faults source.new) }
+    // A fault has its cause in the object that was handed in, and a read that failed is told: no other answer leaves one.
+    ensures read { S.faults source.new ≡ count_after result (S.faults source.old) }
     ensures write { result ≡ Status.WriteFault → Rose (K.faults sink.old) (K.faults sink.new) }
 
     // Where no fault comes, the answer is that of the source's bytes, or want of memory.

@@ -15,7 +15,9 @@ use Rattle.vr_msg.specs.declared.output.Output.{Output}
 use Rattle.vr_msg.specs.Choice.{ops}
 use Rattle.vr_msg.specs.Logs.{IsEntryAt, header_of}
 use Rattle.vr_msg.specs.Spelling.{AreHeaders}
-use Rattle.vr_rules.specs.Deciding.{Rule, Ignored, Taken, ViewGiven, first_of, get_view_table, log_of, start_view_table}
+use Rattle.vr_rules.specs.Deciding.{first_of, get_view_table, log_of, start_view_table}
+use Rattle.vr_rules.specs.declared.rule.Rule.{Rule}
+use Rattle.vr_rules.specs.declared.rule.Rule.TheVariants.{Ignored, Taken, ViewGiven}
 use Rattle.vr_rules.specs.Outputs.{send_to, start_view}
 use Rattle.vr_rules.specs.Replica.{Replica, last_view, part_at}
 use Rattle.vr_rules.specs.Rules.{acknowledge_stored, obey_get_view, obey_start_view, on_get_view, on_start_view}

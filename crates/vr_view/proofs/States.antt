@@ -7,7 +7,9 @@ use Rattle.vr_msg.specs.declared.frame.DoViewChange.{DoViewChange}
 use Rattle.vr_msg.specs.declared.output.Output.{Output}
 use Rattle.vr_msg.specs.declared.statement.Statement.{Statement}
 use Rattle.vr_msg.specs.Spelling.{AreHeaders, known}
-use Rattle.vr_rules.specs.Deciding.{Rule, Ignored, StatedBefore, StatedLate, Stated, first_of, do_view_change_table, is_from}
+use Rattle.vr_rules.specs.Deciding.{first_of, do_view_change_table, is_from}
+use Rattle.vr_rules.specs.declared.rule.Rule.{Rule}
+use Rattle.vr_rules.specs.declared.rule.Rule.TheVariants.{Ignored, StatedBefore, StatedLate, Stated}
 use Rattle.vr_rules.specs.Outputs.{send_to, start_view}
 use Rattle.vr_rules.specs.Replica.{Replica, last_view}
 use Rattle.vr_rules.specs.Rules.{obey_do_view_change, on_do_view_change, with_statement}
@@ -71,12 +73,18 @@ pub stated_means : (d : DoViewChange) (r : Replica) → first_of (do_view_change
 stated_means d r =
     by_rows (λ x. x ≡ Stated → ToKeep d r) (do_view_change_table d r) (
       λ t e. absurd cc,
-      λ n0. (λ t e. absurd cc, λ n1. (λ t e. absurd cc, λ n2. (
-        λ t e.
-            let from = not_false (is_from d.cluster d.replica r) n0 in
-            record { later = ltb-false d.view r.view (or_false (nat_lt d.view r.view) _ n1); group = group_of d.cluster d.replica r from; sender = from_is d.cluster d.replica r from },
-        λ n3 e. absurd cc,
-      ))),
+      λ n0. (
+        λ t e. absurd cc,
+        λ n1. (
+          λ t e. absurd cc,
+          λ n2. (
+            λ t e.
+                let from = not_false (is_from d.cluster d.replica r) n0 in
+                record { later = ltb-false d.view r.view (or_false (nat_lt d.view r.view) _ n1); group = group_of d.cluster d.replica r from; sender = from_is d.cluster d.replica r from },
+            λ n3 e. absurd cc,
+          ),
+        ),
+      ),
     )
 
 pub ready_stated : (d : DoViewChange) (r q : Replica) (s : Statement) → q ≡ with_statement d.replica s r → s ≡ d.statement → AreHeaders (known d.statement.body.parts) → IsStating d → r.view ≡ d.view → r.cluster ≡ d.cluster → IsReady r → IsReady q
@@ -87,7 +95,6 @@ ready_stated d r q s e i w m v g h =
     rw (e, i) (record {
       sound = (kept_statement d.replica d.statement r h.sound is).sound;
       savable = savable_alike r (with_statement d.replica d.statement r) refl h.savable;
-      numbers = h.numbers;
       idle = h.idle;
     })
 

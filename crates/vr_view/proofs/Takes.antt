@@ -3,7 +3,6 @@ use Rattle.std.proofs.Common.{arith, ℕ, ◌≡◌, ◌≤◌, ◌<◌, ◌+◌
 use Rattle.std.proofs.Common.{◌∙◌, Result, Ok, Err}
 use Rattle.std.specs.Prelude.{OnOk}
 use Rattle.vr_base.specs.Bytes.{name_of}
-use Rattle.vr_model.specs.Sound.{HaveNumbers}
 use Rattle.vr_msg.specs.Spelling.{AreHeaders}
 use Rattle.vr_rules.specs.Replica.{Replica, forgetting, last_view}
 use Rattle.vr_rules.specs.Words.{Log, may_take, taken}
@@ -11,10 +10,6 @@ use Rattle.vr_rules.proofs.SavesParts.{savable_taken}
 use Rattle.vr_rules.proofs.Taking.{may_take_is, kept_taken}
 use Rattle.vr_journal.specs.Ready.{IsReady}
 use Rattle.vr_view.specs.Logs.{IsTaught, MayTake}
-
-numbers_taken : (l : Log) (r : Replica) → HaveNumbers r.state.sessions → HaveNumbers (taken l r).state.sessions
-unfolding taken forgetting
-numbers_taken l r h = h
 
 idle_taken : (l : Log) (r : Replica) → (taken l r).idle ≤ 9
 unfolding taken forgetting
@@ -28,7 +23,6 @@ ready_taken l r q e m h =
     rw e (record {
       sound = (kept_taken l r h.sound m.log may).sound;
       savable = savable_taken name_of l r h.sound m.log may m.may (omega arith) h.savable;
-      numbers = numbers_taken l r h.numbers;
       idle = idle_taken l r;
     })
 

@@ -12,7 +12,9 @@ mod trying;
 
 pub use again::prepare_again;
 pub use changing::{ChangeRule, decide_start_view_change, handle_start_view_change};
-pub use starting::{StartRule, ViewRule, decide_get_view, decide_start_view, handle_get_view, handle_start_view};
+pub use starting::{
+    StartRule, ViewRule, decide_get_view, decide_start_view, handle_get_view, handle_start_view,
+};
 pub use stating::{StateRule, decide_do_view_change, handle_do_view_change};
 pub use taking::take;
 pub use trying::{speak, try_view};

@@ -2,7 +2,8 @@
 ghost use Rattle.std.specs.Prelude.{◌≡◌, ◌<◌, ◌≤◌, ◌+◌, ◌^◌, ◌∷◌, [], IfOk, OnOk, nat_lt};
 ghost use Rattle.vr_journal.specs.Ready.{IsReady};
 ghost use Rattle.vr_msg.specs.Spelling.{AreHeaders, known};
-ghost use Rattle.vr_rules.specs.Deciding.{Stated, do_view_change_table, first_of};
+ghost use Rattle.vr_rules.specs.Deciding.{do_view_change_table, first_of};
+ghost use Rattle.vr_rules.specs.declared.rule.Rule.TheVariants.{Stated};
 ghost use Rattle.vr_rules.specs.Replica.{last_view};
 ghost use Rattle.vr_rules.specs.Rules.{on_do_view_change, with_statement};
 ghost use Rattle.vr_rules.specs.Steps.{◌⨾◌, by, change, when};

@@ -51,7 +51,11 @@ fn chosen_log<'a>(
 
 /// What the statements of the group decide of the log of its view.
 #[tactic(auto, using(crate::proofs::Choices::some_stated))]
-fn decide(replica: &Replica, alloc: Global, statements: &Seq<Statement>) -> Result<Choice, AllocError>
+fn decide(
+    replica: &Replica,
+    alloc: Global,
+    statements: &Seq<Statement>,
+) -> Result<Choice, AllocError>
     requires ready { IsReady replica.now }
     requires stated { statements.now ≡ stated replica.now }
     ensures { IfOk result (λ c. c ≡ decided replica.now) }

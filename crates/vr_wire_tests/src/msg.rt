@@ -3,8 +3,9 @@ use std::alloc::{AllocError, Global};
 use std::process::Abort;
 use std::test::Fail;
 use vr_base::{Sum, checksum};
+use vr_codec::{MsgFault, decode, encode, judge};
 use vr_header::{Command, Header, HeaderFault, Size};
-use vr_msg::{Commit, Message, MsgFault, decode, encode, judge};
+use vr_msg::{Commit, Message};
 
 const NAME: Sum = Sum([7; 16]);
 

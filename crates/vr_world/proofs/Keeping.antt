@@ -14,7 +14,7 @@ use Rattle.vr_sess.specs.declared.session.SessionAnswer.TheVariants as answer
 use Rattle.vr_apply.specs.Folds.{Answer, check, fresh_outcome, fresh_at, state_after, answer_at, begins_session}
 use Rattle.vr_apply.proofs.Once.{each_once}
 use Rattle.vr_model.specs.World.{World, Happening, IsHappening, fresh_world, happen}
-use Rattle.vr_model.proofs.Fronts.{take_next, some_same}
+use Rattle.vr_apply.proofs.Fronts.{take_next, some_same}
 use Rattle.vr_model.proofs.Safety.{safe}
 use Rattle.vr_world.specs.Kept.{IsExecuted, AtMostOnce, Keeps}
 

@@ -10,8 +10,8 @@ use crate::outputs::record_outputs;
 use crate::replicas::{ask_at, deliver_at};
 use std::alloc::Global;
 use vr_base::{NoMemory, Seq};
-use vr_msg::{Outbox, Request, Sent};
 use vr_memory::Replica;
+use vr_msg::{Outbox, Request, Sent};
 
 /// The replicas of a group, and every message that they have sent.
 #[derive(Drop)]

@@ -8,8 +8,8 @@ ghost use Rattle.vr_world.specs.Group.{memories, AreReady};
 
 use std::alloc::{AllocError, Global};
 use vr_base::NoMemory;
-use vr_msg::{Message, Outbox, Request};
 use vr_memory::Replica;
+use vr_msg::{Message, Outbox, Request};
 
 /// Replicas of a new group.
 #[tactic(auto, using(std::proofs::lemmas::Grind::common_steps, crate::proofs::Making::fresh_more, crate::proofs::Making::memories_more, crate::proofs::Making::memories_none, crate::proofs::Making::ready_more))]

@@ -1,4 +1,4 @@
-use Rattle.std.proofs.Common.{◌+◌, arith, drop, true, false}
+use Rattle.std.proofs.Common.{◌∙◌, ◌+◌, arith, drop, true, false}
 use Rattle.std.proofs.lemmas.Result.{err_from_is_err_and}
 use Rattle.vr_disk.specs.DiskState.{Runs}
 use Rattle.vr_disk.proofs.Running.{Runs_stopped, Runs_then, runs_nothing}
@@ -16,7 +16,7 @@ loop-block-preserved g c =
     let one : Runs call (g.D.SectorDisk.told c.loop-block.disk) (g.D.SectorDisk.told c.write_at.new.disk) true = rw c.as_slice.ensures at c.in_ok-write_at.ensures.runs in
     record {
       runs = λ new ok h. c.loop-block.invariant.runs new ok (rw (calls_more bs i b c.loop-block-test.true c.block-item.is) (Runs_then call (blocks_calls (drop (i + 1) bs)) _ _ _ _ one h));
-      later = let h = c.in_ok-write_at.ensures.cause.later in let k = c.loop-block.invariant.later in omega arith;
+      faults = c.in_ok-write_at.ensures.cause.kept ∙ c.loop-block.invariant.faults;
     }
 
 pub returns-in_err-write_at-clause-runs : goal.returns-in_err-write_at-clause-runs

@@ -6,7 +6,7 @@ use Rattle.vr_disk.proofs.Telling.{if_some, reads_to}
 use Rattle.vr_disk.proofs.sectors.read_sectors.Goals as goal
 
 pub loop-k-init : goal.loop-k-init
-loop-k-init g c = record { told = refl; faults = refl; later = omega arith; size = c.requires.size; rest = λ d e. fill_start c.args.at c.args.count c.args.to.now d.face }
+loop-k-init g c = record { told = refl; faults = refl; read_faults = refl; size = c.requires.size; rest = λ d e. fill_start c.args.at c.args.count c.args.to.now d.face }
 
 pub loop-k-preserved : goal.loop-k-preserved
 loop-k-preserved g c =
@@ -19,7 +19,7 @@ loop-k-preserved g c =
     record {
       told = c.read.ensures.told ∙ told;
       faults = c.read.ensures.others ∙ c.loop-k.invariant.faults;
-      later = let h = c.read.ensures.cause.later in let i = c.loop-k.invariant.later in omega arith;
+      read_faults = grind (arith, c.read.ensures.cause.kept, c.loop-k.invariant.read_faults, ok);
       size = let z = c.loop-k.invariant.size in omega arith;
       rest = λ d e.
           let read : reads d.face (i + k) ≡ Some s = reads_to (i + k) (g.D.SectorDisk.told c.loop-k.disk) _ d c.read.ensures.bytes (told ∙ e) ∙ ap (λ b. cond b (Some s) None) ok in

@@ -16,7 +16,7 @@ loop-k-preserved g c =
     let one : Runs call (g.D.SectorDisk.told c.loop-k.disk) (g.D.SectorDisk.told c.write.new.self) true = rw c.sector_at.ensures at c.in_ok-write.ensures.told in
     record {
       runs = λ new ok h. c.loop-k.invariant.runs new ok (rw (writes_step c.args.at c.args.count k bytes l) (Runs_then call _ _ _ _ _ one h));
-      later = let h = c.in_ok-write.ensures.cause.later in let i = c.loop-k.invariant.later in omega arith;
+      faults = c.in_ok-write.ensures.cause.kept ∙ c.loop-k.invariant.faults;
       others = c.in_ok-write.ensures.others ∙ c.loop-k.invariant.others;
     }
 

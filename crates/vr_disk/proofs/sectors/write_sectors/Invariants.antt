@@ -1,4 +1,4 @@
-use Rattle.std.proofs.Common.{◌≡◌, ◌+◌, ◌-◌, ◌*◌, ◌≤◌, drop, Bool, Option}
+use Rattle.std.proofs.Common.{◌≡◌, ◌+◌, ◌-◌, ◌*◌, drop, Bool, Option}
 use Rattle.vr_disk.specs.DiskState.{Disk, Runs}
 use Rattle.vr_disk.specs.Sectors.{writes}
 use Rattle.vr_disk.proofs.sectors.write_sectors.Given as goal
@@ -6,6 +6,6 @@ use Rattle.vr_disk.proofs.sectors.write_sectors.Given as goal
 abbrev pub invariant-loop-k : goal.invariant-loop-k
 invariant-loop-k g l = record {
   runs : (new : Option Disk) (ok : Bool) → Runs (writes (l.at + l.k) (l.count - l.k) (drop (512 * l.k) l.bytes)) (g.D.SectorDisk.told l.disk) new ok → Runs (writes l.at l.count l.bytes) (g.D.SectorDisk.told l.fn.disk) new ok;
-  later : g.D.SectorDisk.faults l.fn.disk ≤ g.D.SectorDisk.faults l.disk;
+  faults : g.D.SectorDisk.faults l.disk ≡ g.D.SectorDisk.faults l.fn.disk;
   others : g.D.SectorDisk.read_faults l.disk ≡ g.D.SectorDisk.read_faults l.fn.disk;
 }

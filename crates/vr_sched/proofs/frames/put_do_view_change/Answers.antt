@@ -3,9 +3,9 @@ use Rattle.std.proofs.lemmas.Result.{on_ok_weaker}
 use Rattle.vr_sched.specs.Text.{do_view_change_text, statement_text, viewed}
 use Rattle.vr_sched.proofs.frames.put_do_view_change.Goals as goal
 
-pub returns : goal.returns
+pub returns-clause-text : goal.returns-clause-text
 unfolding do_view_change_text
-returns c =
+returns-clause-text c =
     on_ok_weaker c.put_statement.result
-    (λ e. e ∙ (ap (λ t. t ++ statement_text c.args.d.now.statement) c.in_ok-put_view.ensures ∙ append_assoc c.args.to.now (viewed (codes "do_view_change") c.args.d.now.view) (statement_text c.args.d.now.statement)))
-    c.put_statement.ensures
+    (λ e. e ∙ (ap (λ t. t ++ statement_text c.args.d.now.statement) c.in_ok-put_view.ensures.text ∙ append_assoc c.args.to.now (viewed (codes "do_view_change") c.args.d.now.view) (statement_text c.args.d.now.statement)))
+    c.put_statement.ensures.text

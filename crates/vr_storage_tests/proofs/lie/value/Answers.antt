@@ -1,4 +1,5 @@
 use Rattle.std.proofs.Common.{arith, refl}
+use Rattle.vr_base.proofs.AreBytes.{IsBytes-zeros}
 use Rattle.vr_super.specs.Copies.{are_listed, good_fields}
 use Rattle.vr_storage_tests.proofs.lie.value.Goals as goal
 
@@ -14,6 +15,7 @@ new-requires-2 c =
         checkpoint = omega arith;
         root_address = omega arith;
         root_name = refl;
+        root_name_bytes = IsBytes-zeros 16;
         commit = omega arith;
         head = omega arith;
         replica = omega arith;

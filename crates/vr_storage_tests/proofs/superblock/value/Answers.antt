@@ -1,6 +1,14 @@
-use Rattle.std.proofs.Common.{arith, refl}
+use Rattle.std.proofs.Common.{ℕ, zero, suc, arith, refl}
+use Rattle.std.specs.Prelude.{replicate}
+use Rattle.vr_base.specs.Bytes.{IsBytes}
+use Rattle.vr_base.proofs.AreBytes.{IsBytes-zeros}
 use Rattle.vr_super.specs.Copies.{are_listed, good_fields, is_listed}
 use Rattle.vr_storage_tests.proofs.superblock.value.Goals as goal
+
+sevens : (n : ℕ) → IsBytes (replicate n 7)
+sevens zero i = omega arith
+sevens (suc n) zero = omega arith
+sevens (suc n) (suc i) = sevens n i
 
 pub made-requires : goal.made-requires
 unfolding good_fields are_listed is_listed
@@ -14,6 +22,7 @@ made-requires c =
         checkpoint = omega arith;
         root_address = omega arith;
         root_name = refl;
+        root_name_bytes = IsBytes-zeros 16;
         commit = omega arith;
         head = omega arith;
         replica = omega arith;
@@ -23,8 +32,11 @@ made-requires c =
       each = (
         record {
           body = refl;
+          body_bytes = sevens 16;
           parent = refl;
+          parent_bytes = IsBytes-zeros 16;
           request_name = refl;
+          request_name_bytes = IsBytes-zeros 16;
           cluster = omega arith;
           client = omega arith;
           request = omega arith;

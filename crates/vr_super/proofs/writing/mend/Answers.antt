@@ -1,17 +1,17 @@
-use Rattle.std.proofs.Common.{◌<◌, arith}
+use Rattle.std.proofs.Common.{◌∙◌, ◌<◌, arith, refl}
 use Rattle.std.proofs.lemmas.Result.{err_from_is_err_and}
 use Rattle.vr_super.proofs.Steps.{mending_ends, mending_goes, mending_starts, mending_stops}
 use Rattle.vr_super.proofs.writing.mend.Goals as goal
 
 pub loop-copy-init : goal.loop-copy-init
-loop-copy-init g c = record { mending = mending_starts c.args.bytes.now (g.D.SectorDisk.told c.args.disk.now); later = omega arith }
+loop-copy-init g c = record { mending = mending_starts c.args.bytes.now (g.D.SectorDisk.told c.args.disk.now); faults = refl }
 
 pub loop-copy-preserved : goal.loop-copy-preserved
 loop-copy-preserved g c =
     let l : c.loop-copy.copy < 4 = omega arith in
     record {
       mending = mending_goes c.args.bytes.now c.loop-copy.copy _ _ _ l c.loop-copy.invariant.mending c.in_ok-mend_unless.ensures.runs;
-      later = let h = c.in_ok-mend_unless.ensures.cause.later in let i = c.loop-copy.invariant.later in omega arith;
+      faults = c.in_ok-mend_unless.ensures.cause.kept ∙ c.loop-copy.invariant.faults;
     }
 
 pub returns-in_err-mend_unless-clause-runs : goal.returns-in_err-mend_unless-clause-runs

@@ -1,4 +1,4 @@
-use Rattle.std.proofs.Common.{◌+◌, ◌-◌, ◌<◌, ◌≤◌, arith}
+use Rattle.std.proofs.Common.{◌∙◌, ◌+◌, ◌-◌, ◌<◌, ◌≤◌, arith}
 use Rattle.std.proofs.lemmas.Result.{err_from_is_err_and}
 use Rattle.vr_disk.proofs.Running.{Runs_then, Runs_stopped, runs_nothing}
 use Rattle.vr_super.specs.Calls.{copy_calls, save_from}
@@ -12,7 +12,7 @@ loop-copy-preserved g c =
     let l : k < 4 = omega arith in
     record {
       runs = λ new ok h. c.loop-copy.invariant.runs new ok (rw (save_step k bytes l) (Runs_then (copy_calls k bytes) (save_from (k + 1) (4 - (k + 1)) bytes) _ _ _ _ c.in_ok-write_copy.ensures.runs h));
-      later = let h = c.in_ok-write_copy.ensures.cause.later in let i = c.loop-copy.invariant.later in omega arith;
+      faults = c.in_ok-write_copy.ensures.cause.kept ∙ c.loop-copy.invariant.faults;
     }
 
 pub returns-in_err-write_copy-clause-runs : goal.returns-in_err-write_copy-clause-runs

@@ -1,4 +1,4 @@
-use Rattle.std.proofs.Common.{◌-◌, ◌≤◌, Bool, Option}
+use Rattle.std.proofs.Common.{◌-◌, ◌≡◌, Bool, Option}
 use Rattle.vr_disk.specs.DiskState.{Disk, Runs}
 use Rattle.vr_super.specs.Calls.{save_from}
 use Rattle.vr_super.proofs.writing.save.Given as goal
@@ -6,5 +6,5 @@ use Rattle.vr_super.proofs.writing.save.Given as goal
 abbrev pub invariant-loop-copy : goal.invariant-loop-copy
 invariant-loop-copy g l = record {
   runs : (new : Option Disk) (ok : Bool) → Runs (save_from l.copy (4 - l.copy) l.bytes) (g.D.SectorDisk.told l.disk) new ok → Runs (save_from 0 4 l.bytes) (g.D.SectorDisk.told l.fn.disk) new ok;
-  later : g.D.SectorDisk.faults l.fn.disk ≤ g.D.SectorDisk.faults l.disk;
+  faults : g.D.SectorDisk.faults l.disk ≡ g.D.SectorDisk.faults l.fn.disk;
 }

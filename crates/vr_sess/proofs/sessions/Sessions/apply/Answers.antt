@@ -22,4 +22,4 @@ returns-clause-effect c =
 pub returns-clause-fold : goal.returns-clause-fold
 returns-clause-fold c before is =
     let a : Asked = record { op = c.args.op; client = c.args.client; request = c.args.request; outcome = c.args.outcome.now } in
-    c.in_ok-store.ensures.ok ∙ (sym (asked_fresh c.args.self.now a c.requires) ∙ (ap (λ (m : Map). asked m a) is ∙ sym (sessions_after_more before a)))
+    c.in_ok-store.ensures.ok ∙ (sym (asked_fresh c.args.self.now a c.requires.fresh) ∙ (ap (λ (m : Map). asked m a) is ∙ sym (sessions_after_more before a)))

@@ -1,6 +1,7 @@
 -- What was read are sessions with this text; a fault is the first.
 use Rattle.std.proofs.Common.{arith}
 use Rattle.std.proofs.lemmas.Result.{err_from_is_err_and}
+use Rattle.vr_sess.proofs.Numbers.{decoded_numbers}
 use Rattle.vr_sess.proofs.Spelled.{sessions_found, sessions_fault}
 use Rattle.vr_sess.proofs.sessions.Sessions.decode_state.Goals as goal
 
@@ -14,3 +15,6 @@ invariant_of-result c = (sessions_found c.args.bytes.now (λ i. omega (arith, c.
 
 pub returns-clause-text : goal.returns-clause-text
 returns-clause-text c = (sessions_found c.args.bytes.now (λ i. omega (arith, c.type_inv.bytes i)) c.in_ok-table.table.entries c.in_ok-table.ensures.table).1
+
+pub returns-clause-numbers : goal.returns-clause-numbers
+returns-clause-numbers c = decoded_numbers c.args.bytes.now c.in_ok-table.table.entries c.in_ok-table.ensures.table

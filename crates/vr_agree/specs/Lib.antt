@@ -1,0 +1,5 @@
+pub mod Followed
+pub mod Answering
+pub mod Replied
+pub mod Picked
+pub mod Laws

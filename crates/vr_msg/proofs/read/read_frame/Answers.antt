@@ -1,5 +1,0 @@
-use Rattle.vr_msg.proofs.Fitting.{log_found}
-use Rattle.vr_msg.proofs.read.read_frame.Goals as goal
-
-pub read_start_view-requires-clause-lo : goal.read_start_view-requires-clause-lo
-read_start_view-requires-clause-lo c = (log_found _ _ (rw c.in-StartView.is at c.requires.body)).0

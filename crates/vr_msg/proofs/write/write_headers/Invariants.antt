@@ -1,9 +1,0 @@
-use Rattle.std.proofs.Common.{◌≡◌, ◌++◌, drop}
-use Rattle.vr_msg.specs.Spelling.{AreHeaders, headers_bytes}
-use Rattle.vr_msg.proofs.write.write_headers.Given as goal
-
-abbrev pub invariant-loop-header : goal.invariant-loop-header
-invariant-loop-header l = record {
-  bytes : l.to.items ++ headers_bytes (drop l.header-index l.headers) ≡ l.initial.to.items ++ headers_bytes l.headers;
-  values : AreHeaders (drop l.header-index l.headers) → AreHeaders l.headers;
-}

@@ -1,0 +1,4 @@
+pub mod Ticks
+pub mod Reacts
+pub mod Reads
+pub mod Forms

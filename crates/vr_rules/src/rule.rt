@@ -1,0 +1,123 @@
+//! Which rule applies to an event.
+ghost use Rattle.std.specs.Prelude.{◌≡◌};
+ghost use Rattle.vr_rules.specs.Deciding.{number_of};
+
+/// Which rule applies to an event. Each has a number, by which it stands in the tables of docs/RULES.md.
+#[derive(Clone, Copy, Debug, PartialEq, Eq)]
+pub enum Rule {
+    /// None: the event is ignored.
+    Ignored,
+    /// 1, a request: another replica leads.
+    Redirected,
+    /// 2: not all that is committed is applied, or blocks are missing.
+    Behind,
+    /// 3: an entry of the client stands above the commit number.
+    InFlight,
+    /// 4: the sessions answer it.
+    Answered,
+    /// 5: eight entries stand above the commit number, or op numbers are at their end.
+    Full,
+    /// 6: a new entry is made.
+    Made,
+    /// 7, a prepare: it is of a view that is left.
+    PreparedBefore,
+    /// 8: it is of a view whose log isn't here yet.
+    PreparedLater,
+    /// 9: the op is in the checkpoint.
+    Past,
+    /// 10: the op is past the window.
+    Beyond,
+    /// 11: its header is known.
+    Known,
+    /// 12: it is the next op, and stands on the head.
+    Next,
+    /// 13: ops before it are missing.
+    Ahead,
+    /// 14: another header is known, or it doesn't stand on the head.
+    Other,
+    /// 15, a prepare_ok: it counts.
+    Counted,
+    /// 16, a commit: it is of a view that is left.
+    CommitBefore,
+    /// 17: it is of a view whose log isn't here yet.
+    CommitLater,
+    /// 18: the commit number is learned.
+    CommitHeard,
+    /// 19, a start_view_change: it is of a view that is left.
+    ChangeBefore,
+    /// 20: it is of a later view, which is entered.
+    ChangeLater,
+    /// 21: its sender is heard.
+    ChangeHeard,
+    /// 22: the view has begun: its sender is told of it.
+    ChangeDone,
+    /// 23, a do_view_change: it is of a view that is left, or that another replica leads.
+    StatedBefore,
+    /// 24: the view has begun: its sender is told of it.
+    StatedLate,
+    /// 25: the statement is kept.
+    Stated,
+    /// 26, a start_view: the log is taken over.
+    Taken,
+    /// 27, a get_view: the log of the view is given.
+    ViewGiven,
+    /// 28, a get_prepare: the entry is given.
+    EntryGiven,
+    /// 29, a give_prepare: the entry is stored.
+    EntryTaken,
+    /// 30, a get_block: the block is given.
+    BlockGiven,
+    /// 31, a give_block: the block is stored.
+    BlockTaken,
+    /// 32, a tick: at the primary.
+    TickedPrimary,
+    /// 33: at another replica of a view that has begun.
+    TickedBackup,
+    /// 34: at a replica whose view hasn't begun.
+    TickedChanging,
+}
+
+impl Rule {
+    /// The number of the rule, 0 for none.
+    pub fn number(self) -> u8
+        ensures { result ≡ number_of self }
+    {
+        match self {
+            Rule::Ignored => 0,
+            Rule::Redirected => 1,
+            Rule::Behind => 2,
+            Rule::InFlight => 3,
+            Rule::Answered => 4,
+            Rule::Full => 5,
+            Rule::Made => 6,
+            Rule::PreparedBefore => 7,
+            Rule::PreparedLater => 8,
+            Rule::Past => 9,
+            Rule::Beyond => 10,
+            Rule::Known => 11,
+            Rule::Next => 12,
+            Rule::Ahead => 13,
+            Rule::Other => 14,
+            Rule::Counted => 15,
+            Rule::CommitBefore => 16,
+            Rule::CommitLater => 17,
+            Rule::CommitHeard => 18,
+            Rule::ChangeBefore => 19,
+            Rule::ChangeLater => 20,
+            Rule::ChangeHeard => 21,
+            Rule::ChangeDone => 22,
+            Rule::StatedBefore => 23,
+            Rule::StatedLate => 24,
+            Rule::Stated => 25,
+            Rule::Taken => 26,
+            Rule::ViewGiven => 27,
+            Rule::EntryGiven => 28,
+            Rule::EntryTaken => 29,
+            Rule::BlockGiven => 30,
+            Rule::BlockTaken => 31,
+            Rule::TickedPrimary => 32,
+            Rule::TickedBackup => 33,
+            Rule::TickedChanging => 34,
+        }
+    }
+}
