@@ -96,17 +96,16 @@ give_prepare_ignored g x r d o e n = give_prepare_obeyed g x r r d d o o (Ok tt)
 
 -- ---- get_block
 
-pub block_read : (g : GetBlock) (r : Replica) (d d' : Option Disk) (o o' : List Output) (found : Option (List ℕ)) (b : List ℕ) → Finds (block_at (asked_block g)) d d' found → found ≡ Some b
-    → o' ≡ o ++ send_to g.replica (give_block g.address b r) r → Does (reading (block_at (asked_block g)) (give_read g)) r r d d' o o' (Ok tt)
-block_read g r d d' o o' found b f is said =
-    let k : Finds (block_at (asked_block g)) d d' (Some b) = rw is at f in
-    does_reading (block_at (asked_block g)) (give_read g) (Some b) r r d d' d' o o' (Ok tt) k (says_by (λ x. send_to g.replica (give_block g.address b x) x) r d' o o' said)
+module _ (g : GetBlock) (r : Replica) (d d' : Option Disk) (name : Name) (found : Option (List ℕ)) (read : Finds (block_at name) d d' found) (asked : name ≡ asked_block g) where
+  pub block_read : (b : List ℕ) (o o' : List Output) → found ≡ Some b → o' ≡ o ++ send_to g.replica (give_block g.address b r) r → Does (reading (block_at (asked_block g)) (give_read g)) r r d d' o o' (Ok tt)
+  block_read b o o' is said =
+      let k : Finds (block_at (asked_block g)) d d' (Some b) = rw (asked, is) at read in
+      does_reading (block_at (asked_block g)) (give_read g) (Some b) r r d d' d' o o' (Ok tt) k (says_by (λ x. send_to g.replica (give_block g.address b x) x) r d' o o' said)
 
-pub block_unread : (g : GetBlock) (r : Replica) (d d' : Option Disk) (o : List Output) (found : Option (List ℕ)) → Finds (block_at (asked_block g)) d d' found → found ≡ None
-    → Does (reading (block_at (asked_block g)) (give_read g)) r r d d' o o (Ok tt)
-block_unread g r d d' o found f is =
-    let k : Finds (block_at (asked_block g)) d d' None = rw is at f in
-    does_reading (block_at (asked_block g)) (give_read g) None r r d d' d' o o (Ok tt) k (does_quiet r d' o)
+  pub block_unread : (o : List Output) → found ≡ None → Does (reading (block_at (asked_block g)) (give_read g)) r r d d' o o (Ok tt)
+  block_unread o is =
+      let k : Finds (block_at (asked_block g)) d d' None = rw (asked, is) at read in
+      does_reading (block_at (asked_block g)) (give_read g) None r r d d' d' o o (Ok tt) k (does_quiet r d' o)
 
 abbrev pub DecidesBlock : GetBlock → Repair → Replica → Type 0
 DecidesBlock g x r = (reads : Bool) → first_of (get_block_table reads g r) ≡ (if reads then rule_of x else Ignored)
@@ -147,19 +146,14 @@ get_block_ignored g x r d o e n =
 
 pub found_more : {X : Type 0} (p : X → Bool) (xs : List X) (i : ℕ) → found_at p xs i ≡ None → find p (drop i xs) ≡ find p (drop (i + 1) xs)
 found_more p [] zero e = refl
-<<<<<<< HEAD
 found_more p [] (suc i) e = rw add-one refl
 found_more p (x ∷ xs) zero e = elim (p x) as (λ b. cond b (Some x) None ≡ None → cond b (Some x) (find p xs) ≡ find p xs) [ | true ↦ λ k. absurd cc | false ↦ λ k. refl ] e
-=======
-found_more p [] (suc i) e = refl
-found_more p (x ∷ xs) zero e = elim (p x) as (λ b. cond b (Some x) None ≡ None → cond b (Some x) (find p xs) ≡ find p xs) [ true ↦ λ k. absurd cc | false ↦ λ k. refl ] e
->>>>>>> db7b3de6f388a88bee81c6e9f837ae2b337c47c4
 found_more p (x ∷ xs) (suc i) e = rw add-one (rw add-one at (found_more p xs i e))
 
 pub found_here : {X : Type 0} (p : X → Bool) (xs : List X) (i : ℕ) (y : X) → found_at p xs i ≡ Some y → find p (drop i xs) ≡ Some y
 found_here p [] zero y e = absurd cc
 found_here p [] (suc i) y e = absurd cc
-found_here p (x ∷ xs) zero y e = elim (p x) as (λ b. cond b (Some x) None ≡ Some y → cond b (Some x) (find p xs) ≡ Some y) [ true ↦ λ k. k | false ↦ λ k. absurd cc ] e
+found_here p (x ∷ xs) zero y e = elim (p x) as (λ b. cond b (Some x) None ≡ Some y → cond b (Some x) (find p xs) ≡ Some y) [ | true ↦ λ k. k | false ↦ λ k. absurd cc ] e
 found_here p (x ∷ xs) (suc i) y e = found_here p xs i y e
 
 pub found_past : {X : Type 0} (p : X → Bool) (xs : List X) (i : ℕ) → length xs ≤ i → find p (drop i xs) ≡ None
@@ -167,11 +161,11 @@ found_past p xs i l = rw (drop_all i xs l) refl
 
 pub wanted_some : {X : Type 0} (p : X → Bool) (xs : List X) (y : X) → find p xs ≡ Some y → list_any p xs ≡ true
 wanted_some p [] y e = absurd cc
-wanted_some p (x ∷ xs) y e = elim (p x) as (λ b. cond b (Some x) (find p xs) ≡ Some y → (b || list_any p xs) ≡ true) [ true ↦ λ k. refl | false ↦ λ k. wanted_some p xs y k ] e
+wanted_some p (x ∷ xs) y e = elim (p x) as (λ b. cond b (Some x) (find p xs) ≡ Some y → (b || list_any p xs) ≡ true) [ | true ↦ λ k. refl | false ↦ λ k. wanted_some p xs y k ] e
 
 pub wanted_none : {X : Type 0} (p : X → Bool) (xs : List X) → find p xs ≡ None → list_any p xs ≡ false
 wanted_none p [] e = refl
-wanted_none p (x ∷ xs) e = elim (p x) as (λ b. cond b (Some x) (find p xs) ≡ None → (b || list_any p xs) ≡ false) [ true ↦ λ k. absurd cc | false ↦ λ k. wanted_none p xs k ] e
+wanted_none p (x ∷ xs) e = elim (p x) as (λ b. cond b (Some x) (find p xs) ≡ None → (b || list_any p xs) ≡ false) [ | true ↦ λ k. absurd cc | false ↦ λ k. wanted_none p xs k ] e
 
 -- what is found passes the test
 passes : {X : Type 0} (p : X → Bool) (xs : List X) (y : X) → find p xs ≡ Some y → p y ≡ true
