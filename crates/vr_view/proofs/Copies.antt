@@ -4,6 +4,7 @@ use Rattle.std.proofs.lemmas.List.{drop_all, take-all}
 use Rattle.vr_header.specs.declared.header.Header.{Header}
 use Rattle.vr_header.specs.declared.part.Part.{Part}
 use Rattle.vr_header.specs.declared.part.Part.TheVariants.{Here, Lost, Wanted, Unknown, Nothing}
+use Rattle.vr_header.specs.Spelling.{IsHeader}
 use Rattle.vr_msg.specs.Spelling.{AreHeaders, known}
 
 pub copied_none : (xs : List Part) → [] ≡ take 0 xs
@@ -33,3 +34,16 @@ pub known_all : (xs : List Part) (i : ℕ) → length xs ≤ i → AreHeaders (k
 known_all xs i l = rw (drop_all i xs l) tt
 
 pub ruleset copies = (copied_none, copied_more, copied_all, known_more, known_all)
+
+-- ---- of one Part
+
+pub here_valued : (p : Part) (h g : Header) → p ≡ Here h → g ≡ h → IsHeader g → AreHeaders (known (p ∷ []))
+here_valued p h g e k is = rw (e, ← k) (is, tt)
+
+pub lost_valued : (p : Part) (h g : Header) → p ≡ Lost h → g ≡ h → IsHeader g → AreHeaders (known (p ∷ []))
+lost_valued p h g e k is = rw (e, ← k) (is, tt)
+
+pub wanted_valued : (p : Part) (h g : Header) → p ≡ Wanted h → g ≡ h → IsHeader g → AreHeaders (known (p ∷ []))
+wanted_valued p h g e k is = rw (e, ← k) (is, tt)
+
+pub ruleset valued = (here_valued, lost_valued, wanted_valued)
