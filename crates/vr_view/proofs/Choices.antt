@@ -13,10 +13,11 @@ use Rattle.vr_msg.specs.declared.output.Output.{Output}
 use Rattle.vr_msg.specs.declared.statement.Statement.{Statement}
 use Rattle.vr_msg.specs.Choice.{top_view}
 use Rattle.vr_msg.specs.Logs.{IsStatement}
-use Rattle.vr_rules.specs.Outputs.{wait_line}
+use Rattle.vr_rules.specs.Outputs.{send_to_all, start_view, wait_line}
+use Rattle.vr_rules.specs.Steps.{◌⨾◌, says}
 use Rattle.vr_rules.specs.Replica.{Replica, is_primary, is_started, last_view}
 use Rattle.vr_rules.specs.Sound.{IsStated}
-use Rattle.vr_rules.specs.Words.{Log, choose_line, chosen_log, decided, obey_choice, stated, try, try_log}
+use Rattle.vr_rules.specs.Words.{Log, apply, begin_view, choose_line, chosen_log, decided, obey_choice, prepare_again, stated, take, try, try_log}
 use Rattle.vr_rules.proofs.Storing.{head_number}
 use Rattle.vr_rules.proofs.Taking.{may_take_is}
 use Rattle.vr_rules.proofs.Trying.{all_stated, chosen_log_is, decided_ends}
@@ -27,6 +28,7 @@ use Rattle.vr_step.proofs.Stepping.{does_by, does_quiet, says_by}
 use Rattle.vr_journal.specs.Choosing.{chosen_line}
 use Rattle.vr_journal.specs.Ready.{IsReady}
 use Rattle.vr_view.specs.Logs.{IsTaught, MayTake}
+use Rattle.vr_view.specs.Telling.{each_to}
 
 pub some_stated : (r : Replica) (ss : List Statement) → IsReady r → ss ≡ stated r → All IsSomeStatement ss
 unfolding IsReady
@@ -92,3 +94,10 @@ module _ (r : Replica) (b : Bool) where
   try_rests d o e t = let no : (is_primary r && not (is_started r)) ≡ false = sym e ∙ t in does_by _ r r d d o o (Ok tt) (rw no (does_quiet r d o))
 
 pub ruleset tries = (try_chooses, try_rests)
+
+-- ---- a view is begun
+
+pub begins : (ss : List Statement) (l : Log) (r r' : Replica) (d d' : Option Disk) (o o' : List Output) (result : Result (Unit {0}) Halt)
+    → Does (says (choose_line ss l) ⨾ take l ⨾ says (send_to_all start_view) ⨾ each_to prepare_again l.head ⨾ apply) r r' d d' o o' result → Does (begin_view ss l) r r' d d' o o' result
+unfolding begin_view each_to
+begins ss l r r' d d' o o' result h = h

@@ -26,14 +26,17 @@ use Rattle.vr_view.specs.declared.stating.StateRule.{StateRule}
 use Rattle.vr_view.specs.declared.stating.StateRule.TheVariants as rule
 use Rattle.vr_view.specs.Messages.{IsStating}
 use Rattle.vr_view.specs.Named.{state_rule}
+use Rattle.vr_view.specs.Telling.{entering}
 
 -- ---- a later view is entered
 
 module _ (view : ℕ) (r q : Replica) (d d' : Option Disk) (o o' : List Output) where
-  pub enter_then : (result : Result (Unit {0}) Halt) → r.view < view → Does (enter view) r q d d' o o' result → Does (by (λ (x : Replica). when (nat_lt x.view view) (enter view))) r q d d' o o' result
+  pub enter_then : (result : Result (Unit {0}) Halt) → r.view < view → Does (enter view) r q d d' o o' result → Does (entering view) r q d d' o o' result
+  unfolding entering
   enter_then result l h = does_by _ r q d d' o o' result (rw (lt-ltb r.view view l) h)
 
-pub enter_none : (view : ℕ) (r : Replica) (d : Option Disk) (o : List Output) → view ≤ r.view → Does (by (λ (x : Replica). when (nat_lt x.view view) (enter view))) r r d d o o (Ok tt)
+pub enter_none : (view : ℕ) (r : Replica) (d : Option Disk) (o : List Output) → view ≤ r.view → Does (entering view) r r d d o o (Ok tt)
+unfolding entering
 enter_none view r d o l = does_by _ r r d d o o (Ok tt) (rw (le-ltb r.view view l) (does_quiet r d o))
 
 pub view_entered : (view : ℕ) (r q : Replica) → q ≡ with_saved (entered view r) → q.view ≡ view
@@ -118,7 +121,8 @@ module _ (c : DoViewChange) (r r' : Replica) (d d' : Option Disk) (o o' : List O
   obeyed x result e h = does_by _ r r' d d' o o' result (subst (λ y. Does (obey_do_view_change c y) r r' d d' o o' result) (sym e) h)
 
   pub state_stated : (x : StateRule) (result : Result (Unit {0}) Halt) → first_of (do_view_change_table c r) ≡ state_rule x → x ≡ rule.Stated
-      → Does (by (λ (x : Replica). when (nat_lt x.view c.view) (enter c.view)) ⨾ change (with_statement c.replica c.statement) ⨾ try) r r' d d' o o' result → Does (on_do_view_change c) r r' d d' o o' result
+      → Does (entering c.view ⨾ change (with_statement c.replica c.statement) ⨾ try) r r' d d' o o' result → Does (on_do_view_change c) r r' d d' o o' result
+  unfolding entering
   state_stated x result e k h = obeyed Stated result (e ∙ ap state_rule k) h
 
 pub state_is : (c : DoViewChange) (r : Replica) (x : StateRule) → first_of (do_view_change_table c r) ≡ state_rule x → x ≡ rule.Stated → first_of (do_view_change_table c r) ≡ Stated

@@ -1,5 +1,5 @@
 //! A replica states its log for a view: do_view_changes.
-ghost use Rattle.std.specs.Prelude.{◌≡◌, ◌<◌, ◌≤◌, ◌+◌, ◌^◌, ◌∷◌, [], IfOk, OnOk, nat_lt};
+ghost use Rattle.std.specs.Prelude.{◌≡◌, ◌<◌, ◌≤◌, ◌+◌, ◌^◌, ◌∷◌, [], IfOk, OnOk};
 ghost use Rattle.vr_header.specs.Spelling.{IsHeader};
 ghost use Rattle.vr_journal.specs.Ready.{IsReady};
 ghost use Rattle.vr_msg.specs.Spelling.{AreHeaders, known};
@@ -7,11 +7,12 @@ ghost use Rattle.vr_rules.specs.Deciding.{do_view_change_table, first_of};
 ghost use Rattle.vr_rules.specs.declared.rule.Rule.TheVariants.{Stated};
 ghost use Rattle.vr_rules.specs.Replica.{last_view};
 ghost use Rattle.vr_rules.specs.Rules.{on_do_view_change, with_statement};
-ghost use Rattle.vr_rules.specs.Steps.{◌⨾◌, by, change, when};
-ghost use Rattle.vr_rules.specs.Words.{enter, try};
+ghost use Rattle.vr_rules.specs.Steps.{◌⨾◌, change};
+ghost use Rattle.vr_rules.specs.Words.{try};
 ghost use Rattle.vr_step.specs.Does.{Caused, Does};
 ghost use Rattle.vr_view.specs.Messages.{IsStating};
 ghost use Rattle.vr_view.specs.Named.{state_rule};
+ghost use Rattle.vr_view.specs.Telling.{entering};
 
 use crate::trying::try_view;
 use std::alloc::{AllocError, Global};
@@ -125,7 +126,7 @@ fn enter_later<D: SectorDisk>(
     ensures size { OnOk result (replica.new.n ≡ replica.old.n) }
     ensures spent { OnOk result (replica.new.saved.fields.sequence ≤ replica.old.saved.fields.sequence + 1) }
     ensures cause { Caused (D.faults disk.old) (D.faults disk.new) result }
-    ensures step { Does (by (λ r. when (nat_lt r.view view) (enter view))) replica.old replica.new (D.told disk.old) (D.told disk.new) out.old out.new result }
+    ensures step { Does (entering view) replica.old replica.new (D.told disk.old) (D.told disk.new) out.old out.new result }
 {
     match replica.enter(alloc, disk, view, out) {
         Ok(()) => Ok(()),
@@ -152,7 +153,7 @@ fn enter_up_to<D: SectorDisk>(
     ensures size { OnOk result (replica.new.n ≡ replica.old.n) }
     ensures spent { OnOk result (replica.new.saved.fields.sequence ≤ replica.old.saved.fields.sequence + 1) }
     ensures cause { Caused (D.faults disk.old) (D.faults disk.new) result }
-    ensures step { Does (by (λ r. when (nat_lt r.view view) (enter view))) replica.old replica.new (D.told disk.old) (D.told disk.new) out.old out.new result }
+    ensures step { Does (entering view) replica.old replica.new (D.told disk.old) (D.told disk.new) out.old out.new result }
 {
     if replica.view() < view {
         enter_later(replica, alloc, disk, view, out)
@@ -176,7 +177,7 @@ fn keep<D: SectorDisk>(
     requires room { replica.old.saved.fields.sequence + 66 < 2 ^ 64 }
     ensures ready { OnOk result (IsReady replica.new) }
     ensures cause { Caused (D.faults disk.old) (D.faults disk.new) result }
-    ensures step { Does (by (λ r. when (nat_lt r.view message.now.view) (enter message.now.view)) ⨾ change (with_statement message.now.replica message.now.statement) ⨾ try) replica.old replica.new (D.told disk.old) (D.told disk.new) out.old out.new result }
+    ensures step { Does (entering message.now.view ⨾ change (with_statement message.now.replica message.now.statement) ⨾ try) replica.old replica.new (D.told disk.old) (D.told disk.new) out.old out.new result }
 {
     enter_up_to(replica, alloc, disk, message.view, out)?;
     let statement = copy_statement(alloc, &message.statement)?;

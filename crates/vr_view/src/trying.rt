@@ -2,12 +2,11 @@
 ghost use Rattle.std.specs.Prelude.{◌≡◌, ◌<◌, ◌≤◌, ◌+◌, ◌^◌, ◌++◌, IfOk, OnOk, ◌&&◌, nat_le, not};
 ghost use Rattle.vr_base.specs.Replicas.{size};
 ghost use Rattle.vr_journal.specs.Ready.{IsReady};
-ghost use Rattle.vr_msg.specs.Choice.{ops};
 ghost use Rattle.vr_rules.specs.Replica.{is_primary, is_started, last_view, view_change};
-ghost use Rattle.vr_rules.specs.Steps.{by, each};
 ghost use Rattle.vr_rules.specs.Words.{begin_view, choose_line, chosen_log, decided, log_end, obey_choice, prepare_again, speak, stated, try, try_log};
 ghost use Rattle.vr_step.specs.Does.{Caused, Does};
 ghost use Rattle.vr_view.specs.Logs.{IsTaught, MayTake};
+ghost use Rattle.vr_view.specs.Telling.{each_to};
 
 use crate::again::prepare_again;
 use crate::taking::{commit_of, head_of, take};
@@ -81,7 +80,7 @@ fn prepare_all<D: SectorDisk>(
     ensures ready { OnOk result (IsReady replica.new) }
     ensures saved { OnOk result (replica.new.saved ≡ replica.old.saved) }
     ensures cause { Caused (D.faults disk.old) (D.faults disk.new) result }
-    ensures step { Does (by (λ r. each prepare_again (ops r.commit log.now.head))) replica.old replica.new (D.told disk.old) (D.told disk.new) out.old out.new result }
+    ensures step { Does (each_to prepare_again log.now.head) replica.old replica.new (D.told disk.old) (D.told disk.new) out.old out.new result }
 {
     let commit = replica.commit();
     let head = head_of(log);
@@ -113,7 +112,7 @@ fn tell_choice(
 
 /// Begins its view with this log: it takes it over, the others hear of it, and what can be read above
 /// the commit number is prepared again and then applied.
-#[tactic(auto, using(vr_step::proofs::Stepping::steps, crate::proofs::Takes::taken_low, crate::proofs::Choices::head_small), unfolding(vr_rules::specs::Words::begin_view))]
+#[tactic(auto, using(vr_step::proofs::Stepping::steps, crate::proofs::Takes::taken_low, crate::proofs::Choices::head_small, crate::proofs::Choices::begins))]
 fn begin_view<D: SectorDisk>(
     replica: &mut Replica,
     alloc: Global,
