@@ -44,7 +44,9 @@ pub fn decide_do_view_change(replica: &Replica, message: &DoViewChange) -> State
 {
     if !replica.is_from(message.cluster, message.replica) {
         StateRule::Ignored
-    } else if message.view < replica.view() || replica.index() != primary(replica.n(), message.view) {
+    } else if message.view < replica.view()
+        || replica.index() != primary(replica.n(), message.view)
+    {
         StateRule::Before
     } else if message.view == replica.view() && replica.is_started() {
         StateRule::Late
