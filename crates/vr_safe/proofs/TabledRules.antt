@@ -229,7 +229,7 @@ module _ (u : Setup) (fits : Fits u) (start : Group Header) (i : ℕ) where
               λ a. held (ask_view c.view c.replica) (stays_says _),
               λ n2. (
                 λ a. held (change rested ⨾ by (λ r. when (nat_lt (head r) c.head) (ask_view c.view c.replica)) ⨾ learn c.commit)
-                (stays_then (change rested) _ stays_rested (stays_then (by (λ r. when (nat_lt (head r) c.head) (ask_view c.view c.replica))) (learn c.commit) (stays_by _ (λ r. stays_when (nat_lt (head r) c.head) _ (stays_says _))) (stays_learn c.commit))),
+                    (stays_then (change rested) _ stays_rested (stays_then (by (λ r. when (nat_lt (head r) c.head) (ask_view c.view c.replica))) (learn c.commit) (stays_by _ (λ r. stays_when (nat_lt (head r) c.head) _ (stays_says _))) (stays_learn c.commit))),
                 λ n3. idle,
               ),
             ),
@@ -456,7 +456,7 @@ module _ (u : Setup) (fits : Fits u) (start : Group Header) (i : ℕ) where
         let views = x.sound.order.views in
         by_rows (λ z. Tabled u start i (obey_tick z t r f)) (tick_table r) (
           λ a. held primary_ticks
-          (stays_then (says (send_to_all commit_message)) _ (stays_says _) (stays_then (by (λ r. when (nat_lt r.commit (head r)) (prepare_again (r.commit + 1)))) ask (stays_by _ (λ r. stays_when (nat_lt r.commit (head r)) _ (stays_again (r.commit + 1)))) stays_ask)),
+              (stays_then (says (send_to_all commit_message)) _ (stays_says _) (stays_then (by (λ r. when (nat_lt r.commit (head r)) (prepare_again (r.commit + 1)))) ask (stays_by _ (λ r. stays_when (nat_lt r.commit (head r)) _ (stays_again (r.commit + 1)))) stays_ask)),
           λ n0. (
             λ a. tabled_change_then u start i idler _ t r f (λ d. tabled_if u start i (nat_le 5 (idler r).idle) next_view ask t (idler r) d (λ b. next (idler r) d y idle_tables) (λ b. tabled_stays u start i ask t (idler r) d stays_ask y.sound idle_tables)),
             λ n1. (
