@@ -24,8 +24,7 @@ enum Answer {
     Refused(Refusal),
 }
 
-fn open(rt: &HostRuntime, disk: &mut MemDisk, config: &Config) -> Answer
-{
+fn open(rt: &HostRuntime, disk: &mut MemDisk, config: &Config) -> Answer {
     let mut out = Seq::new(rt.alloc());
     match recover(rt.alloc(), disk, config, &mut out) {
         Ok(replica) => Answer::Ready(replica.commit(), replica.view()),
