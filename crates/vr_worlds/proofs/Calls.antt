@@ -1,8 +1,8 @@
 -- The calls of effects write sectors of 512 bytes.
-use Rattle.std.proofs.Common.{ℕ, zero, suc, ◌+◌, ◌*◌, ◌-◌, ◌≤◌, ◌<◌, ◌≡◌, ◌∙◌, arith, refl, sym, subst, true, false, cond, List, [], ◌∷◌, ◌++◌, length, drop, map}
+use Rattle.std.proofs.Common.{ℕ, zero, suc, ◌+◌, ◌*◌, ◌-◌, ◌≤◌, ◌<◌, ◌≡◌, arith, refl, true, false, cond, List, [], ◌∷◌, ◌++◌, length, drop, map}
 use Rattle.std.specs.Prelude.{replicate}
 use Rattle.std.specs.List.{AllByRecursion, range_with_len}
-use Rattle.std.proofs.lemmas.List.{get_or-drop, length-append, length-drop, length-replicate}
+use Rattle.std.proofs.lemmas.List.{get_or-drop, length-drop, length-replicate}
 use Rattle.vr_base.specs.Bytes.{IsBytes, name_of, piece}
 use Rattle.vr_base.proofs.FieldLaws.{IsBytes-piece, length-piece}
 use Rattle.vr_base.proofs.AreBytes.{AllBytes, IsBytes-append, IsBytes-bytes16, IsBytes-bytes32, IsBytes-bytes64, IsBytes-joined, IsBytes-name_of, IsBytes-none, IsBytes-one, IsBytes-zeros}
@@ -10,10 +10,8 @@ use Rattle.vr_disk.specs.DiskState.{Call, Write, Sync, Face, IsContent}
 use Rattle.vr_disk.specs.Sectors.{has, writes}
 use Rattle.vr_disk.specs.Stops.{IsCall}
 use Rattle.vr_disk.specs.Regions.{header_at, prepare_at}
-use Rattle.vr_header.specs.declared.command.Command.TheVariants as command
 use Rattle.vr_header.specs.declared.header.Header.{Header}
 use Rattle.vr_header.specs.Made.{Whole, entry_bytes}
-use Rattle.vr_header.specs.Names.{no_name}
 use Rattle.vr_header.specs.Spelling.{IsHeader, header_bytes}
 use Rattle.vr_header.proofs.AreBytes.{entry_bytes-are, header_bytes-are}
 use Rattle.vr_base.proofs.FieldLaws.{length-name_of}

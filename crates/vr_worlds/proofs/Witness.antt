@@ -1,19 +1,18 @@
 -- A schedule of which all holds that is asked.
-use Rattle.std.proofs.Common.{ℕ, ◌≡◌, ◌⊎◌, inl, inr, refl, sym, ap, ◌∙◌, subst, List, [], ◌∷◌, Option, Some, None}
-use Rattle.std.specs.Prelude.{slice_get}
+use Rattle.std.proofs.Common.{ℕ, ◌≡◌, inl, inr, refl, sym, ◌∙◌, subst, List, [], ◌∷◌, Some, None}
 use Rattle.std.specs.List.{AllByRecursion}
 use Rattle.vr_msg.specs.declared.event.Event.TheVariants as event
 use Rattle.vr_rules.specs.Outputs.{send_to_all}
 use Rattle.vr_rules.specs.Replica.{head}
-use Rattle.vr_rules.specs.Steps.{◌⨾◌, by, change, does, naming, quiet, reading, says}
+use Rattle.vr_rules.specs.Steps.{◌⨾◌, by, change, naming, quiet, says}
 use Rattle.vr_rules.specs.Rules as rules
 use Rattle.vr_rules.specs.Words as words
 use Rattle.vr_rules.specs.Opening.{blank, fresh}
-use Rattle.vr_rules.specs.Lying.{Lying, hazards, lying}
-use Rattle.vr_rules.specs.World.{Fuses, Happening, Host, Stops, Ticks, World, fresh_host, fresh_world, happens}
+use Rattle.vr_rules.specs.Lying.{Lying, hazards}
+use Rattle.vr_rules.specs.World.{Fuses, Stops, Ticks, World, fresh_host, fresh_world}
 use Rattle.vr_rules.specs.Deciding.{first_of}
 use Rattle.vr_worlds.specs.Laws.{SomeScheduleMay}
-use Rattle.vr_worlds.specs.Worlds.{IsHashed, IsHashedAt, IsHashedCut, Work, WritesBlocks, stepping, work_of}
+use Rattle.vr_worlds.specs.Worlds.{IsHashed, IsHashedCut, Work, WritesBlocks, stepping, work_of}
 
 abbrev start : World Lying
 start = fresh_world hazards 2
