@@ -1,6 +1,6 @@
 -- A block that a replica reads.
-use Rattle.std.proofs.Common.{ℕ, ◌≡◌, ◌≤◌, ◌<◌, ◌*◌, refl, Bool, true, false, cond, List, Option, Some, None, is_some}
-use Rattle.std.specs.Prelude.{IfSome, nat_lt}
+use Rattle.std.proofs.Common.{ℕ, ◌≡◌, ◌≤◌, ◌<◌, refl, Bool, cond, List, Option, Some, None, is_some}
+use Rattle.std.specs.Prelude.{IfSome}
 use Rattle.std.proofs.lemmas.Bool.{le-ltb, lt-ltb}
 use Rattle.vr_disk.specs.DiskState.{Disk, Face}
 use Rattle.vr_disk.specs.Regions as region

@@ -1,8 +1,7 @@
 -- Rules of repair by what their tables say.
-use Rattle.std.proofs.Common.{◌≡◌, ◌≢◌, ◌≤◌, ◌<◌, ◌+◌, ◌-◌, ◌++◌, refl, ap, sym, subst, ◌∙◌, arith, add-one, cond, Bool, true, false, ℕ, zero, suc, length, drop, List, [], ◌∷◌, Option, Some, None, Result, Ok, Err, is_some, slice_get}
-use Rattle.std.specs.Prelude.{find, nat_lt, ◌&&◌, ◌||◌, ◌==◌, if◌then◌else◌}
+use Rattle.std.proofs.Common.{◌≡◌, ◌≤◌, ◌+◌, ◌++◌, refl, sym, subst, arith, add-one, cond, Bool, true, false, ℕ, zero, suc, length, drop, List, [], ◌∷◌, Option, Some, None, Result, Ok, is_some}
+use Rattle.std.specs.Prelude.{find, nat_lt, ◌||◌, ◌==◌, if◌then◌else◌}
 use Rattle.std.specs.List.{list_any}
-use Rattle.std.specs.Option.{option_and_then}
 use Rattle.std.proofs.lemmas.Bool.{and_parts, cond_both, ltb-true}
 use Rattle.std.proofs.lemmas.List.{drop_all}
 use Rattle.vr_base.specs.Bytes.{name_of}
@@ -21,13 +20,12 @@ use Rattle.vr_repair.specs.declared.deciding.Repair.TheVariants as repair
 use Rattle.vr_repair.specs.Reads.{Reads}
 use Rattle.vr_repair.specs.Repairs.{found_at, gives, is_block, rule_of}
 use Rattle.vr_rules.specs.Deciding.{first_of, get_block_table, get_prepare_table, give_block_table, give_prepare_table, is_known, is_wanted}
-use Rattle.vr_rules.specs.declared.rule.Rule.{Rule}
 use Rattle.vr_rules.specs.declared.rule.Rule.TheVariants.{Ignored, BlockTaken}
 use Rattle.vr_rules.specs.Outputs.{give_block, give_prepare, send_to}
 use Rattle.vr_rules.specs.Replica.{Replica}
 use Rattle.vr_rules.specs.Rules.{asked_block, block_at, give_read, obey_get_block, obey_get_prepare, obey_give_block, obey_give_prepare, on_get_block, on_get_prepare, on_give_block, on_give_prepare, put_found, test_of}
 use Rattle.vr_rules.specs.Sectors.{sectors}
-use Rattle.vr_rules.specs.Steps.{Word, ◌⨾◌, by, quiet, reading}
+use Rattle.vr_rules.specs.Steps.{◌⨾◌, by, quiet, reading}
 use Rattle.vr_rules.specs.Words.{apply, resend, with_entry_at, write}
 use Rattle.vr_rules.proofs.Ruling.{may_store_given}
 use Rattle.vr_rules.proofs.Storing.{MayStore as May}
