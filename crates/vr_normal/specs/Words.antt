@@ -9,7 +9,7 @@ use Rattle.vr_rules.specs.Replica.{head}
 use Rattle.vr_rules.specs.Rules.{ask_view}
 use Rattle.vr_rules.specs.Steps.{Word, by, when}
 
--- where the primary's log is longer, it is asked for
+-- where the log of the primary is longer, it is asked for
 unfoldable pub asks_behind : {F : Type 0} → Commit → Word F
 asks_behind c = by (λ r. when (nat_lt (head r) c.head) (ask_view c.view c.replica))
 
@@ -17,6 +17,6 @@ asks_behind c = by (λ r. when (nat_lt (head r) c.head) (ask_view c.view c.repli
 abbrev pub is_of : ℕ → Part → Bool
 is_of client p = option_map_or (λ h. h.client == client) (header_of p) false
 
--- one of the places up to an end is
+-- one of the headers from place i on, up to another place, is
 unfoldable pub any_of : ℕ → List Part → ℕ → ℕ → Bool
 any_of client ps i end = list_any (is_of client) (take (end - i) (drop i ps))

@@ -32,12 +32,7 @@ pub enum CommitRule {
 }
 
 /// Asks a replica for the log of a view.
-pub fn ask_view(
-    replica: &Replica,
-    view: u32,
-    to: u8,
-    out: &mut Outbox,
-) -> Result<(), AllocError>
+pub fn ask_view(replica: &Replica, view: u32, to: u8, out: &mut Outbox) -> Result<(), AllocError>
     requires { view ≤ last_view }
     ensures { OnOk result (out.new ≡ out.old ++ send_to to (get_view view replica.now) replica.now) }
 {

@@ -38,7 +38,7 @@ pub enum RequestRule {
     Behind,
     /// A request of the client stands above the commit number.
     InFlight,
-    /// The sessions answer so: it isn't fresh.
+    /// It isn't fresh: what the sessions answer.
     Answered(SessionAnswer),
     /// There is no room for it.
     Full,
@@ -48,7 +48,7 @@ pub enum RequestRule {
 
 // ---- which rule applies
 
-// Whether the op at a place is known to be of this client.
+// Whether the header that is known at a place is of this client's request.
 #[tactic(auto, using(vr_journal::proofs::Lists::past_is, vr_journal::proofs::Lists::found_is))]
 fn is_of(parts: &Window<Part>, client: u64, at: usize) -> bool
     ensures { result ≡ is_of client (slice_index_or parts.now at Nothing) }
@@ -62,7 +62,7 @@ fn is_of(parts: &Window<Part>, client: u64, at: usize) -> bool
     }
 }
 
-// Whether one of the places up to an end is.
+// Whether one of the headers from a place on, up to another, is.
 #[tactic(auto, using(crate::proofs::Requests::any_more, crate::proofs::Requests::any_found, crate::proofs::Requests::any_past))]
 fn any_of(parts: &Window<Part>, client: u64, from: usize, end: usize) -> bool
     ensures { result ≡ any_of client parts.now from end }
@@ -113,7 +113,7 @@ fn is_fresh(answer: &SessionAnswer) -> bool
     }
 }
 
-// Which rule applies to a request that the primary may take up: what the sessions answer, or whether there is room.
+// Which rule applies where nothing else is to be done first: by what the sessions answer, and whether there is room.
 #[tactic(auto, unfolding(vr_rules::specs::Deciding::first_of, crate::specs::Requests::Answers))]
 fn decide_open(replica: &Replica, request: &RequestFields) -> Result<RequestRule, NoMemory>
     requires { IsReady replica.now }
@@ -132,10 +132,7 @@ fn decide_open(replica: &Replica, request: &RequestFields) -> Result<RequestRule
 
 /// Which rule applies to a request, with what the sessions answer where it isn't fresh.
 #[tactic(auto, using(vr_journal::proofs::Memory::some_member), unfolding(vr_rules::specs::Deciding::first_of, crate::specs::Requests::Answers))]
-pub fn decide_request(
-    replica: &Replica,
-    request: &RequestFields,
-) -> Result<RequestRule, NoMemory>
+pub fn decide_request(replica: &Replica, request: &RequestFields) -> Result<RequestRule, NoMemory>
     requires { IsReady replica.now }
     ensures rule { IfOk result (λ x. first_of (request_table request.now replica.now) ≡ request_rule x) }
     ensures answer { IfOk result (λ x. Answers x request.now replica.now) }
@@ -254,8 +251,9 @@ fn obey_request<D: SectorDisk>(
     }
 }
 
-/// A client asks. The primary makes the next entry of a fresh request, stores it, and prepares it to the others; another request is
-/// answered again, or with why there is none; one that is under way is left.
+/// A client asks. The primary makes the next entry of a fresh request, stores it, and prepares it to the others. One that isn't fresh is
+/// replied to with the outcome that is stored, or with why there is none; one that is in flight isn't replied to yet. A replica that doesn't
+/// lead redirects, and one that is behind or has no room replies that it is busy.
 #[tactic(auto, using(vr_step::proofs::Stepping::wants))]
 pub fn handle_request<D: SectorDisk>(
     replica: &mut Replica,

@@ -1,6 +1,6 @@
 -- A block that a replica reads.
-use Rattle.std.proofs.Common.{ℕ, ◌≡◌, ◌≤◌, ◌<◌, ◌*◌, refl, Bool, true, false, cond, List, Option, Some, None, is_some}
-use Rattle.std.specs.Prelude.{IfSome, nat_lt}
+use Rattle.std.proofs.Common.{ℕ, ◌≡◌, ◌≤◌, ◌<◌, refl, Bool, cond, List, Option, Some, None, is_some}
+use Rattle.std.specs.Prelude.{IfSome}
 use Rattle.std.proofs.lemmas.Bool.{le-ltb, lt-ltb}
 use Rattle.vr_disk.specs.DiskState.{Disk, Face}
 use Rattle.vr_disk.specs.Regions as region
@@ -26,7 +26,7 @@ as_named f name b whole l e w = rw (lt-ltb name.address 128 l, e, w) refl
 
 module _ (name : Name) (d d' : Option Disk) (same : d' ≡ d) where
   pub block_past : 128 ≤ name.address → Finds (block_at name) d d' None
-  block_past l = elim d as (λ x. d' ≡ x → Finds (block_at name) x d' None) [ | None ↦ λ s. record { same = s; value = tt } | Some y ↦ λ s. record { same = s; value = past_grid y.face name l } ] same
+  block_past l = elim d as (λ x. d' ≡ x → Finds (block_at name) x d' None) [ None ↦ λ s. record { same = s; value = tt } | Some y ↦ λ s. record { same = s; value = past_grid y.face name l } ] same
 
   pub block_unread : name.address < 128 → IfSome d (λ y. together (region.block_at name.address) 8 y.face ≡ None) → Finds (block_at name) d d' None
   block_unread l = elim d as (λ x. d' ≡ x → IfSome x (λ (y : Disk). together (region.block_at name.address) 8 y.face ≡ None) → Finds (block_at name) x d' None) [

@@ -1,6 +1,6 @@
 -- What a copy that comes makes good.
-use Rattle.std.proofs.Common.{arith, ◌≡◌, ◌≤◌, ◌<◌, ◌+◌, ◌-◌, ◌%◌, ◌∙◌, refl, sym, ap, ℕ, Bool, true, false, not, cond, filter, set, List, [], ◌∷◌, length, Option, Some, None, is_some}
-use Rattle.std.specs.Prelude.{IfSome, find, ◌==◌}
+use Rattle.std.proofs.Common.{arith, ◌≡◌, ◌≤◌, ◌<◌, ◌+◌, ◌-◌, ◌∙◌, refl, ℕ, Bool, true, false, not, cond, filter, set, List, [], ◌∷◌, Some, None, is_some}
+use Rattle.std.specs.Prelude.{find, ◌==◌}
 use Rattle.std.proofs.lemmas.Bool.{lt-ltb}
 use Rattle.vr_disk.specs.DiskState as disk
 use Rattle.vr_disk.specs.DiskState.{Disk, Face, Fate, IsFace}
@@ -8,21 +8,19 @@ use Rattle.vr_grid.specs.Blocks.{named}
 use Rattle.vr_grid.specs.Grid.{block_reading, named_at, put_calls}
 use Rattle.vr_grid.specs.declared.name.Name.{Name}
 use Rattle.vr_grid.proofs.Puts.{name_fits, put_law}
-use Rattle.vr_header.specs.declared.part.Part.{Part}
 use Rattle.vr_header.specs.declared.part.Part.TheVariants.{Here}
 use Rattle.vr_header.specs.Made.{Whole}
 use Rattle.vr_journal.specs.Ready.{IsReady, MayStore}
 use Rattle.vr_rings.specs.Calls.{again_calls, new_calls}
 use Rattle.vr_rings.specs.Slots.{IsWhole, slot_of, whole_in}
 use Rattle.vr_rings.proofs.Leaving.{again_leaves, new_leaves}
-use Rattle.vr_rules.specs.Replica.{Replica, forgetting, head, part_at, with_part}
-use Rattle.vr_rules.specs.Rules.{without}
-use Rattle.vr_rules.specs.Sectors.{block_in, calls_of, sectors}
-use Rattle.vr_rules.specs.Steps.{◌⨾◌, PutBlock, after_all, change, does}
+use Rattle.vr_rules.specs.Replica.{Replica, head, part_at, with_part}
+use Rattle.vr_rules.specs.Sectors.{block_in}
+use Rattle.vr_rules.specs.Steps.{◌⨾◌, after_all, change, does}
 use Rattle.vr_rules.specs.Words.{may_be_stored, stored, write}
-use Rattle.vr_rules.proofs.Heads.{Spans, forgetting_at, gone, head_within, with_part_at, with_part_spans}
+use Rattle.vr_rules.proofs.Heads.{Spans, forgetting_at, head_within, with_part_at, with_part_spans}
 use Rattle.vr_rules.proofs.Keeping.{spans_of}
-use Rattle.vr_repair.specs.Laws.{BlockRepaired, BlocksAreRepaired, EntriesAreRepaired, EntryRepaired}
+use Rattle.vr_repair.specs.Laws.{BlocksAreRepaired, EntriesAreRepaired}
 
 -- ---- entries
 

@@ -1,8 +1,7 @@
 -- Rules of repair by what their tables say.
-use Rattle.std.proofs.Common.{◌≡◌, ◌≢◌, ◌≤◌, ◌<◌, ◌+◌, ◌-◌, ◌++◌, refl, ap, sym, subst, ◌∙◌, arith, add-one, cond, Bool, true, false, ℕ, zero, suc, length, drop, List, [], ◌∷◌, Option, Some, None, Result, Ok, Err, is_some, slice_get}
-use Rattle.std.specs.Prelude.{find, nat_lt, ◌&&◌, ◌||◌, ◌==◌, if◌then◌else◌}
+use Rattle.std.proofs.Common.{◌≡◌, ◌≤◌, ◌+◌, ◌++◌, refl, sym, subst, arith, add-one, cond, Bool, true, false, ℕ, zero, suc, length, drop, List, [], ◌∷◌, Option, Some, None, Result, Ok, is_some}
+use Rattle.std.specs.Prelude.{find, nat_lt, ◌||◌, ◌==◌, if◌then◌else◌}
 use Rattle.std.specs.List.{list_any}
-use Rattle.std.specs.Option.{option_and_then}
 use Rattle.std.proofs.lemmas.Bool.{and_parts, cond_both, ltb-true}
 use Rattle.std.proofs.lemmas.List.{drop_all}
 use Rattle.vr_base.specs.Bytes.{name_of}
@@ -21,13 +20,12 @@ use Rattle.vr_repair.specs.declared.deciding.Repair.TheVariants as repair
 use Rattle.vr_repair.specs.Reads.{Reads}
 use Rattle.vr_repair.specs.Repairs.{found_at, gives, is_block, rule_of}
 use Rattle.vr_rules.specs.Deciding.{first_of, get_block_table, get_prepare_table, give_block_table, give_prepare_table, is_known, is_wanted}
-use Rattle.vr_rules.specs.declared.rule.Rule.{Rule}
 use Rattle.vr_rules.specs.declared.rule.Rule.TheVariants.{Ignored, BlockTaken}
 use Rattle.vr_rules.specs.Outputs.{give_block, give_prepare, send_to}
 use Rattle.vr_rules.specs.Replica.{Replica}
 use Rattle.vr_rules.specs.Rules.{asked_block, block_at, give_read, obey_get_block, obey_get_prepare, obey_give_block, obey_give_prepare, on_get_block, on_get_prepare, on_give_block, on_give_prepare, put_found, test_of}
 use Rattle.vr_rules.specs.Sectors.{sectors}
-use Rattle.vr_rules.specs.Steps.{Word, ◌⨾◌, by, quiet, reading}
+use Rattle.vr_rules.specs.Steps.{◌⨾◌, by, quiet, reading}
 use Rattle.vr_rules.specs.Words.{apply, resend, with_entry_at, write}
 use Rattle.vr_rules.proofs.Ruling.{may_store_given}
 use Rattle.vr_rules.proofs.Storing.{MayStore as May}
@@ -147,13 +145,13 @@ get_block_ignored g x r d o e n =
 pub found_more : {X : Type 0} (p : X → Bool) (xs : List X) (i : ℕ) → found_at p xs i ≡ None → find p (drop i xs) ≡ find p (drop (i + 1) xs)
 found_more p [] zero e = refl
 found_more p [] (suc i) e = rw add-one refl
-found_more p (x ∷ xs) zero e = elim (p x) as (λ b. cond b (Some x) None ≡ None → cond b (Some x) (find p xs) ≡ find p xs) [ | true ↦ λ k. absurd cc | false ↦ λ k. refl ] e
+found_more p (x ∷ xs) zero e = elim (p x) as (λ b. cond b (Some x) None ≡ None → cond b (Some x) (find p xs) ≡ find p xs) [ true ↦ λ k. absurd cc | false ↦ λ k. refl ] e
 found_more p (x ∷ xs) (suc i) e = rw add-one (rw add-one at (found_more p xs i e))
 
 pub found_here : {X : Type 0} (p : X → Bool) (xs : List X) (i : ℕ) (y : X) → found_at p xs i ≡ Some y → find p (drop i xs) ≡ Some y
 found_here p [] zero y e = absurd cc
 found_here p [] (suc i) y e = absurd cc
-found_here p (x ∷ xs) zero y e = elim (p x) as (λ b. cond b (Some x) None ≡ Some y → cond b (Some x) (find p xs) ≡ Some y) [ | true ↦ λ k. k | false ↦ λ k. absurd cc ] e
+found_here p (x ∷ xs) zero y e = elim (p x) as (λ b. cond b (Some x) None ≡ Some y → cond b (Some x) (find p xs) ≡ Some y) [ true ↦ λ k. k | false ↦ λ k. absurd cc ] e
 found_here p (x ∷ xs) (suc i) y e = found_here p xs i y e
 
 pub found_past : {X : Type 0} (p : X → Bool) (xs : List X) (i : ℕ) → length xs ≤ i → find p (drop i xs) ≡ None
@@ -161,11 +159,11 @@ found_past p xs i l = rw (drop_all i xs l) refl
 
 pub wanted_some : {X : Type 0} (p : X → Bool) (xs : List X) (y : X) → find p xs ≡ Some y → list_any p xs ≡ true
 wanted_some p [] y e = absurd cc
-wanted_some p (x ∷ xs) y e = elim (p x) as (λ b. cond b (Some x) (find p xs) ≡ Some y → (b || list_any p xs) ≡ true) [ | true ↦ λ k. refl | false ↦ λ k. wanted_some p xs y k ] e
+wanted_some p (x ∷ xs) y e = elim (p x) as (λ b. cond b (Some x) (find p xs) ≡ Some y → (b || list_any p xs) ≡ true) [ true ↦ λ k. refl | false ↦ λ k. wanted_some p xs y k ] e
 
 pub wanted_none : {X : Type 0} (p : X → Bool) (xs : List X) → find p xs ≡ None → list_any p xs ≡ false
 wanted_none p [] e = refl
-wanted_none p (x ∷ xs) e = elim (p x) as (λ b. cond b (Some x) (find p xs) ≡ None → (b || list_any p xs) ≡ false) [ | true ↦ λ k. absurd cc | false ↦ λ k. wanted_none p xs k ] e
+wanted_none p (x ∷ xs) e = elim (p x) as (λ b. cond b (Some x) (find p xs) ≡ None → (b || list_any p xs) ≡ false) [ true ↦ λ k. absurd cc | false ↦ λ k. wanted_none p xs k ] e
 
 -- what is found passes the test
 passes : {X : Type 0} (p : X → Bool) (xs : List X) (y : X) → find p xs ≡ Some y → p y ≡ true

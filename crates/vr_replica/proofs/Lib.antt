@@ -1,4 +1,5 @@
 pub mod Ticks
 pub mod Reacts
-pub mod Reads
+pub mod EntryReadings
 pub mod Forms
+pub mod Stopped

@@ -12,7 +12,7 @@ use vr_header::{Entry, Header, Part};
 use vr_journal::{Replica, find_entry};
 
 // Reads the entry of this header, which is stored; one that can't be read is lost.
-#[tactic(auto, using(crate::proofs::Reads::found, vr_journal::proofs::Memory::readies))]
+#[tactic(auto, using(crate::proofs::EntryReadings::found, vr_journal::proofs::Memory::readies))]
 fn read_stored<D: SectorDisk>(
     replica: &mut Replica,
     alloc: Global,

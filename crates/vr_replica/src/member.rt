@@ -67,6 +67,7 @@ impl Replica {
 
     /// The replica of a disk, if the disk is that of the member that is asked for: the superblock's value that opens is mended, the log is
     /// found again, a primary's view is left, the checkpoint is loaded, what is committed is applied, and the others are told.
+    #[tactic(auto, using(crate::proofs::Stopped::cleared))]
     pub fn recover<D: SectorDisk>(
         alloc: Global,
         disk: &mut D,
@@ -94,6 +95,7 @@ impl Replica {
 
     /// Handles an event in one step, which puts out what is to be sent, replied and told. After an `Err` the replica has stopped: it
     /// puts out nothing, and takes no further step.
+    #[tactic(auto, using(crate::proofs::Stopped::halted))]
     pub fn step<D: SectorDisk>(
         &mut self,
         alloc: Global,
