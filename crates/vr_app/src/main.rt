@@ -1,16 +1,12 @@
 //! Replays a schedule from standard input.
 #![tactic(auto)]
 
-mod std_sink;
-mod std_source;
-
 use std::alloc::AllocError;
 use std::io::ErrorKind;
 use std::process::ExitCode;
-use std_sink::StdSink;
-use std_source::StdSource;
 use vr_disk::NoDisk;
 use vr_edge::{LinkRoom, LinkScript, MemClock, MemLink};
+use vr_real::{StdSink, StdSource};
 use vr_top::{Status, code, run, status_line};
 
 /// The words after the program's name, `None` where one of them is no text.

@@ -1,7 +1,6 @@
 //! A member is made on its disk, and recovered from it.
 ghost use Rattle.std.specs.Prelude.{is_some, true, ◌≡◌, ◌<◌};
 ghost use Rattle.vr_base.specs.Groups.{quorums_of};
-ghost use Rattle.vr_journal.specs.Ready.{TextsHaveNumbers};
 
 use std::alloc::Global;
 use std::test::Fail;
@@ -25,9 +24,7 @@ enum Answer {
     Refused(Refusal),
 }
 
-fn open(rt: &HostRuntime, disk: &mut MemDisk, config: &Config) -> Answer
-    requires { TextsHaveNumbers }
-{
+fn open(rt: &HostRuntime, disk: &mut MemDisk, config: &Config) -> Answer {
     let mut out = Seq::new(rt.alloc());
     match recover(rt.alloc(), disk, config, &mut out) {
         Ok(replica) => Answer::Ready(replica.commit(), replica.view()),

@@ -12,4 +12,5 @@ mod texts;
 mod words;
 
 pub use line::{LONGEST, Line, LineFault, parse_line};
+pub use number::{read_below, read_number};
 pub use printing::{text, write_text};

@@ -1,0 +1,182 @@
+//! An ask, turn by turn.
+ghost use Rattle.std.specs.Prelude.{◌≡◌, ◌<◌, ◌+◌, ◌^◌, ◌↔◌, ◌⊎◌, [], ◌∷◌, Option, IfOk, IfErr, OnOk, MatchOption};
+ghost use Rattle.vr_client.specs.Asking.{AskCause, Fails, Hears, IsAsked, IsSilent, IsUnasked, Keeps, Turned, ask_in, ask_of, go_on_port, go_on_to, moved, moved_to, request_in, requests};
+ghost use Rattle.vr_client.specs.Heeding.{MovesWithin};
+ghost use Rattle.vr_client.specs.declared.answer.Heed.TheVariants as did;
+ghost use Rattle.vr_edge.specs.Datagrams.{Arrival};
+ghost use Rattle.vr_edge.specs.Sending.{datagram_at};
+ghost use Rattle.vr_header.specs.Names.{header_name, request_header};
+ghost use Rattle.vr_header.specs.declared.operation.Operation.TheVariants.{Register};
+ghost use Rattle.vr_mail.specs.Sends.{Sends};
+ghost use Rattle.vr_mail.specs.declared.receiving.Letter.{Letter};
+ghost use Rattle.vr_msg.specs.Asking.{IsRequest};
+ghost use Rattle.vr_msg.specs.Spelling.{spelling};
+ghost use Rattle.vr_msg.specs.declared.frame.Frame.TheVariants as frame;
+
+use crate::answer::{Heed, heed_letter};
+use crate::{Answer, AskFault, ClientCore};
+use std::alloc::AllocError;
+use vr_base::Sum;
+use vr_codec::encode;
+use vr_edge::Link;
+use vr_header::{Header, Operation};
+use vr_mail::{receive_letter, send_bytes};
+use vr_msg::{Message, Request, RequestFields};
+
+/// Puts the bytes of a request in the place of what is there.
+fn spell(fields: RequestFields, bytes: &mut Vec<u8>) -> Result<(), AllocError>
+    requires { IsRequest fields }
+    ensures { OnOk result (bytes.new.items ≡ spelling (frame.Request fields)) }
+{
+    bytes.clear();
+    encode(&Message::request(Request::new(fields)), bytes)
+}
+
+impl ClientCore {
+    /// Makes the next request, and returns its name.
+    fn write_request(&mut self, operation: &Operation) -> Result<Sum, AllocError>
+        requires number { self.old.number < 2 ^ 32 }
+        requires first { (operation.now ≡ Register) ↔ (self.old.number ≡ 0) }
+        ensures group { (self.new.cluster ≡ self.old.cluster) × (self.new.n ≡ self.old.n) }
+        ensures client { (self.new.id ≡ self.old.id) × (self.new.port ≡ self.old.port) }
+        ensures number { self.new.number ≡ self.old.number + 1 }
+        ensures bytes { OnOk result (self.new.bytes.items ≡ spelling (frame.Request (request_in self.old operation.now))) }
+        ensures name { IfOk result (λ name. name ≡ header_name (request_header self.old.cluster self.old.id self.old.number operation.now)) }
+    {
+        let number = self.number as u32;
+        self.number += 1;
+        let fields = RequestFields {
+            cluster: self.cluster,
+            client: self.id,
+            request: number,
+            operation: operation.try_clone(self.alloc)?,
+        };
+        spell(fields, &mut self.bytes)?;
+        Ok(Header::of_request(self.cluster, self.id, number, operation).name())
+    }
+
+    /// Sends the request to a port, which is the one that it asks from then on.
+    #[tactic(auto, using(std::proofs::lemmas::Grind::common_steps, crate::proofs::Keeping::keeps_same, crate::proofs::Keeping::keeps_later, crate::proofs::Keeping::no_requests, vr_mail::proofs::Sent::sends_nil))]
+    fn ask_at<L: Link>(&mut self, link: &mut L, port: u32)
+        requires { port < self.old.n }
+        ensures core { Keeps self.old self.new }
+        ensures port { self.new.port ≡ port }
+        ensures sent { Sends (datagram_at port self.old.bytes.items ∷ []) (L.sent link.old) (L.sent link.new) }
+        ensures received { L.received link.new ≡ L.received link.old }
+        ensures faults { L.faults link.new ≡ L.faults link.old }
+    {
+        self.port = port;
+        send_bytes(link, port, self.bytes.as_slice());
+    }
+
+    /// One receive, and what it makes of that.
+    #[tactic(auto, using(std::proofs::lemmas::Grind::common_steps, crate::proofs::Keeping::keeps_same, crate::proofs::Keeping::keeps_later, crate::proofs::Keeping::no_requests, vr_mail::proofs::Sent::sends_nil))]
+    fn hear<L: Link>(&mut self, link: &mut L, name: &Sum) -> Result<Heed, AskFault>
+        ensures core { Keeps self.old self.new }
+        ensures stays { self.new.port ≡ self.old.port }
+        ensures heard { IfOk result (Hears self.old.cluster self.old.n name.now (L.received link.old) (L.received link.new)) }
+        ensures port { IfOk result (MovesWithin self.old.n) }
+        ensures failed { IfErr result (Fails (L.received link.old) (L.received link.new)) }
+        ensures cause { AskCause (L.faults link.old) (L.faults link.new) result }
+        ensures sent { L.sent link.new ≡ L.sent link.old }
+    {
+        let letter = receive_letter(self.alloc, link, self.cluster, &mut self.to)?;
+        Ok(heed_letter(self.n, name, letter))
+    }
+
+    /// Goes where it was told to; what it heard may be the answer.
+    #[tactic(auto, using(std::proofs::lemmas::Grind::common_steps, crate::proofs::Keeping::keeps_same, crate::proofs::Keeping::keeps_later, crate::proofs::Keeping::no_requests, vr_mail::proofs::Sent::sends_nil))]
+    fn follow<L: Link>(&mut self, link: &mut L, heard: Heed) -> Option<Answer>
+        requires { MovesWithin self.old.n heard }
+        ensures core { Keeps self.old self.new }
+        ensures port { self.new.port ≡ moved heard self.old.port }
+        ensures sent { Sends (requests self.old.bytes.items (moved_to heard)) (L.sent link.old) (L.sent link.new) }
+        ensures answer { MatchOption result (IsSilent heard) (λ answer. heard ≡ did.Answered answer) }
+        ensures received { L.received link.new ≡ L.received link.old }
+        ensures faults { L.faults link.new ≡ L.faults link.old }
+    {
+        match heard {
+            Heed::Ignored => None,
+            Heed::Moved(port) => {
+                self.ask_at(link, port);
+                None
+            }
+            Heed::Answered(answer) => Some(answer),
+        }
+    }
+
+    /// After each 50 turns, if turns are left, it asks the next member.
+    #[tactic(auto, using(std::proofs::lemmas::Grind::common_steps, crate::proofs::Keeping::keeps_same, crate::proofs::Keeping::keeps_later, crate::proofs::Keeping::no_requests, vr_mail::proofs::Sent::sends_nil))]
+    fn go_on<L: Link>(&mut self, link: &mut L, turns: u64, done: u64)
+        requires { done < turns }
+        ensures core { Keeps self.old self.new }
+        ensures port { self.new.port ≡ go_on_port self.old.n turns done self.old.port }
+        ensures sent { Sends (requests self.old.bytes.items (go_on_to self.old.n turns done self.old.port)) (L.sent link.old) (L.sent link.new) }
+        ensures received { L.received link.new ≡ L.received link.old }
+        ensures faults { L.faults link.new ≡ L.faults link.old }
+    {
+        if (done + 1) % 50 == 0 && done + 1 < turns {
+            self.ask_at(link, (self.port + 1) % u32::from(self.n));
+        }
+    }
+
+    /// One turn, behind so many others.
+    #[tactic(auto, using(std::proofs::lemmas::Grind::common_steps, crate::proofs::Keeping::keeps_same, crate::proofs::Keeping::keeps_later, crate::proofs::Keeping::cause_later, crate::proofs::Turns::turned_none, crate::proofs::Turns::turned_answer))]
+    fn turn<L: Link>(
+        &mut self,
+        link: &mut L,
+        name: &Sum,
+        turns: u64,
+        done: u64,
+    ) -> Result<Option<Answer>, AskFault>
+        requires { done < turns }
+        ensures core { Keeps self.old self.new }
+        ensures turned { IfOk result (Turned (ask_in self.old name.now turns) done self.old.port self.new.port (L.sent link.old) (L.sent link.new) (L.received link.old) (L.received link.new)) }
+        ensures failed { IfErr result (Fails (L.received link.old) (L.received link.new)) }
+        ensures stays { IfErr result (λ _. (self.new.port ≡ self.old.port) × (L.sent link.new ≡ L.sent link.old)) }
+        ensures cause { AskCause (L.faults link.old) (L.faults link.new) result }
+    {
+        let heard = self.hear(link, name)?;
+        if let Some(answer) = self.follow(link, heard) {
+            return Ok(Some(answer));
+        }
+        self.go_on(link, turns, done);
+        Ok(None)
+    }
+
+    /// Asks, and waits so many turns.
+    #[tactic(auto, using(std::proofs::lemmas::Grind::common_steps, crate::proofs::Keeping::keeps_later, crate::proofs::Keeping::cause_later, crate::proofs::Keeping::rose_later, crate::proofs::Waits::waited_all))]
+    fn wait<L: Link>(&mut self, link: &mut L, name: &Sum, turns: u64) -> Result<Answer, AskFault>
+        ensures core { Keeps self.old self.new }
+        ensures run { IsAsked (ask_in self.old name.now turns) self.old.port self.new.port (L.sent link.old) (L.sent link.new) (L.received link.old) (L.received link.new) result }
+        ensures cause { AskCause (L.faults link.old) (L.faults link.new) result }
+    {
+        self.ask_at(link, self.port);
+        for done in 0..turns {
+            if let Some(answer) = self.turn(link, name, turns, done)? {
+                return Ok(answer);
+            }
+        }
+        Err(AskFault::NoAnswer)
+    }
+
+    /// Asks for an operation: `Register` first, with number 0, and then any other, each with the next number. It waits
+    /// for so many receives, and hears the answer to this request alone. Whatever it answers, the number is used up.
+    pub fn ask<L: Link>(
+        &mut self,
+        link: &mut L,
+        operation: &Operation,
+        turns: u64,
+    ) -> Result<Answer, AskFault>
+        requires number { self.old.number < 2 ^ 32 }
+        requires first { (operation.now ≡ Register) ↔ (self.old.number ≡ 0) }
+        ensures run { IsAsked (ask_of self.old.n (request_in self.old operation.now) turns) self.old.port self.new.port (L.sent link.old) (L.sent link.new) (L.received link.old) (L.received link.new) result ⊎ IsUnasked self.old.port self.new.port (L.sent link.old) (L.sent link.new) (L.received link.old) (L.received link.new) result }
+        ensures number { self.new.number ≡ self.old.number + 1 }
+        ensures group { (self.new.cluster ≡ self.old.cluster) × (self.new.n ≡ self.old.n) }
+        ensures id { self.new.id ≡ self.old.id }
+        ensures cause { AskCause (L.faults link.old) (L.faults link.new) result }
+    {
+        let name = self.write_request(operation)?;
+        self.wait(link, &name, turns)
+    }
+}

@@ -1,0 +1,51 @@
+//! A client between two asks.
+ghost use Rattle.std.specs.Prelude.{◌≡◌, ◌≢◌, ◌≤◌, ◌<◌, ◌+◌, ◌^◌, ◌↔◌, ◌⊎◌, IfOk, vec_capacity};
+ghost use Rattle.vr_base.specs.Groups.{quorums_of};
+ghost use Rattle.vr_edge.specs.declared.link.TheConstants.{RECEIVE_ROOM};
+ghost use Rattle.vr_header.specs.declared.operation.Operation.TheVariants.{Register};
+
+use std::alloc::Global;
+use vr_base::NoMemory;
+use vr_edge::RECEIVE_ROOM;
+
+/// A client of a group between two asks. It asks one member at a time, whose port it keeps.
+#[derive(Debug, Drop)]
+pub struct ClientCore {
+    pub(crate) alloc: Global,
+    pub(crate) cluster: u64,
+    pub(crate) id: u64,
+    pub(crate) n: u8,
+    /// The port that it asks.
+    pub(crate) port: u32,
+    /// The number of the next request.
+    pub(crate) number: u64,
+    /// Room for what comes.
+    pub(crate) to: Vec<u8>,
+    /// The bytes of the last request.
+    pub(crate) bytes: Vec<u8>,
+    ghost within: { port < n },
+    ghost room: { RECEIVE_ROOM ≤ vec_capacity to },
+}
+
+impl ClientCore {
+    /// The client `id` of a group of `n`, which asks the member with port 0 first, and its next request is its first.
+    pub fn new(alloc: Global, cluster: u64, id: u64, n: u8) -> Result<ClientCore, NoMemory>
+        requires id { id ≢ 0 }
+        requires size { (2 ≤ n) × (n ≤ 6) }
+        ensures group { IfOk result (λ c. (c.cluster ≡ cluster) × (c.n ≡ n)) }
+        ensures id { IfOk result (λ c. c.id ≡ id) }
+        ensures port { IfOk result (λ c. c.port ≡ 0) }
+        ensures number { IfOk result (λ c. c.number ≡ 0) }
+    {
+        Ok(ClientCore {
+            alloc,
+            cluster,
+            id,
+            n,
+            port: 0,
+            number: 0,
+            to: Vec::with_capacity(alloc, RECEIVE_ROOM)?,
+            bytes: Vec::new(alloc),
+        })
+    }
+}

@@ -1,0 +1,91 @@
+-- Messages of one group among all that comes over a link.
+use Rattle.std.specs.Prelude.{ℕ, ◌≡◌, ◌≤◌, ⊤, List, [], ◌∷◌, Option, Some, None, Result, Ok, Err}
+use Rattle.vr_base.specs.Causes.{Rose}
+use Rattle.vr_edge.specs.Datagrams.{Arrival, Failed, Nothing, Came}
+use Rattle.vr_msg.specs.Spelling.{Spells}
+use Rattle.vr_msg.specs.declared.frame.Frame.{Frame}
+use Rattle.vr_msg.specs.declared.frame.Frame.TheVariants as frame
+use Rattle.vr_mail.specs.declared.receiving.Letter.{Letter}
+use Rattle.vr_mail.specs.declared.receiving.ReceiveFault.{ReceiveFault}
+use Rattle.vr_mail.specs.declared.receiving.ReceiveFault.TheVariants as fault
+
+-- the number of the group that a message is of
+abbrev pub cluster_of : Frame → ℕ
+cluster_of (frame.Request q) = q.cluster
+cluster_of (frame.Reply r) = r.cluster
+cluster_of (frame.Prepare p) = p.entry.header.cluster
+cluster_of (frame.PrepareOk p) = p.cluster
+cluster_of (frame.Commit c) = c.cluster
+cluster_of (frame.StartViewChange s) = s.cluster
+cluster_of (frame.DoViewChange d) = d.cluster
+cluster_of (frame.StartView v) = v.cluster
+cluster_of (frame.GetView g) = g.cluster
+cluster_of (frame.GetPrepare g) = g.cluster
+cluster_of (frame.GivePrepare g) = g.entry.header.cluster
+cluster_of (frame.GetBlock g) = g.cluster
+cluster_of (frame.GiveBlock g) = g.cluster
+
+-- the bytes are this message, and it is of this group
+pub record IsOfGroup (cluster : ℕ) (bytes : List ℕ) (m : Frame) : Type 0 where
+  pub spelled : Spells m bytes
+  pub group : cluster_of m ≡ cluster
+
+-- the bytes are no message of this group
+abbrev pub IsRefused : ℕ → List ℕ → Type 0
+IsRefused cluster bytes = (m : Frame) → ¬ IsOfGroup cluster bytes m
+
+-- what a member of this group reads of bytes
+abbrev pub Reads : ℕ → List ℕ → Option Frame → Type 0
+Reads cluster bytes None = IsRefused cluster bytes
+Reads cluster bytes (Some m) = IsOfGroup cluster bytes m
+
+-- what a receive that went well brings: refused bytes are as if nothing came
+abbrev pub Brings : ℕ → Arrival → Option Letter → Type 0
+Brings cluster Failed letter = ⊥
+Brings cluster Nothing letter = letter ≡ None
+Brings cluster (Came d) None = IsRefused cluster d.bytes
+Brings cluster (Came d) (Some letter) = (letter.port ≡ d.port) × IsOfGroup cluster d.bytes letter.message
+
+-- a datagram came that is a message
+abbrev pub IsMessage : Arrival → Type 0
+IsMessage Failed = ⊥
+IsMessage Nothing = ⊥
+IsMessage (Came d) = (m : Frame) × Spells m d.bytes
+
+-- what a receive answers
+abbrev pub Gives : ℕ → Arrival → Result (Option Letter) ReceiveFault → Type 0
+Gives cluster arrival (Ok letter) = Brings cluster arrival letter
+Gives cluster arrival (Err fault.Link) = arrival ≡ Failed
+Gives cluster arrival (Err fault.NoMemory) = IsMessage arrival
+
+-- the link's faults don't fall, and where it failed they rose
+pub record ReceiveCause {T : Type 0} (before now : ℕ) (result : Result T ReceiveFault) : Type 0 where
+  pub later : before ≤ now
+  pub failed : result ≡ Err fault.Link → Rose before now
+
+-- the same receive; or nothing, in place of a datagram that is refused
+abbrev pub Stills : ℕ → Arrival → Arrival → Type 0
+Stills cluster Failed still = still ≡ Failed
+Stills cluster Nothing still = still ≡ Nothing
+Stills cluster (Came d) Failed = ⊥
+Stills cluster (Came d) Nothing = IsRefused cluster d.bytes
+Stills cluster (Came d) (Came e) = e ≡ d
+
+-- the same of receives one after another
+abbrev pub AreBrought : ℕ → List Arrival → List (Option Letter) → Type 0
+AreBrought cluster [] [] = ⊤
+AreBrought cluster [] (l ∷ ls) = ⊥
+AreBrought cluster (a ∷ arrivals) [] = ⊥
+AreBrought cluster (a ∷ arrivals) (l ∷ ls) = Brings cluster a l × AreBrought cluster arrivals ls
+
+abbrev pub AreStilled : ℕ → List Arrival → List Arrival → Type 0
+AreStilled cluster [] [] = ⊤
+AreStilled cluster [] (s ∷ ss) = ⊥
+AreStilled cluster (a ∷ arrivals) [] = ⊥
+AreStilled cluster (a ∷ arrivals) (s ∷ ss) = Stills cluster a s × AreStilled cluster arrivals ss
+
+-- a list of receives in which each refused datagram may be replaced by nothing brings the same
+abbrev pub RefusedAreNothing : Type 0
+RefusedAreNothing =
+    (cluster : ℕ) (arrivals stilled : List Arrival) (letters : List (Option Letter))
+    → AreBrought cluster arrivals letters → AreStilled cluster arrivals stilled → AreBrought cluster stilled letters

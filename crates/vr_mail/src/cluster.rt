@@ -1,0 +1,26 @@
+//! The group of a message.
+ghost use Rattle.std.specs.Prelude.{◌≡◌};
+ghost use Rattle.vr_mail.specs.Letters.{cluster_of};
+
+use vr_msg::Frame;
+
+/// The number of the group that a message is of.
+pub fn cluster_of(frame: &Frame) -> u64
+    ensures { result ≡ cluster_of frame.now }
+{
+    match frame {
+        Frame::Request(request) => request.fields().cluster,
+        Frame::Reply(reply) => reply.fields().cluster,
+        Frame::Prepare(prepare) => prepare.entry.header().cluster,
+        Frame::PrepareOk(ok) => ok.cluster,
+        Frame::Commit(commit) => commit.cluster,
+        Frame::StartViewChange(change) => change.cluster,
+        Frame::DoViewChange(change) => change.cluster,
+        Frame::StartView(start) => start.cluster,
+        Frame::GetView(get) => get.cluster,
+        Frame::GetPrepare(get) => get.cluster,
+        Frame::GivePrepare(give) => give.entry.header().cluster,
+        Frame::GetBlock(get) => get.cluster,
+        Frame::GiveBlock(give) => give.cluster,
+    }
+}

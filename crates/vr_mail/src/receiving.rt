@@ -1,0 +1,82 @@
+//! What comes over a link.
+ghost use Rattle.std.specs.Prelude.{◌≡◌, ◌≤◌, [], ◌∷◌, IfOk, OnErr, vec_capacity};
+ghost use Rattle.vr_edge.specs.Datagrams.{Arrival};
+ghost use Rattle.vr_edge.specs.Told.{Grows};
+ghost use Rattle.vr_mail.specs.Letters.{Gives, Reads, ReceiveCause};
+ghost use Rattle.vr_msg.specs.Spelling.{Spells};
+ghost use Rattle.vr_msg.specs.declared.frame.Frame.{Frame};
+ghost use Rattle.vr_mail.specs.declared.receiving.ReceiveFault.TheVariants as fault;
+
+use crate::cluster::cluster_of;
+use std::alloc::{AllocError, Global};
+use vr_codec::{MsgFault, decode};
+use vr_edge::{Link, LinkFailed, RECEIVE_ROOM, Received};
+use vr_msg::Message;
+
+/// A message that came, and the port of its sender.
+#[derive(Debug, Drop, PartialEq, Eq)]
+pub struct Letter {
+    pub port: u32,
+    pub message: Message,
+}
+
+/// Why nothing could be received.
+#[derive(Clone, Copy, Debug, PartialEq, Eq)]
+pub enum ReceiveFault {
+    /// The link failed.
+    Link,
+    /// There was no memory for a message that came.
+    NoMemory,
+}
+
+impl From<LinkFailed> for ReceiveFault {
+    ghost from_gives = { λ _ e. e ≡ fault.Link };
+
+    fn from(_failed: LinkFailed) -> ReceiveFault {
+        ReceiveFault::Link
+    }
+}
+
+impl From<AllocError> for ReceiveFault {
+    ghost from_gives = { λ _ e. e ≡ fault.NoMemory };
+
+    fn from(_error: AllocError) -> ReceiveFault {
+        ReceiveFault::NoMemory
+    }
+}
+
+/// The message of a group that bytes spell.
+fn read_message(alloc: Global, cluster: u64, bytes: &[u8]) -> Result<Option<Message>, AllocError>
+    ensures reads { IfOk result (Reads cluster bytes.now) }
+    ensures wants { OnErr result ((m : Frame) × Spells m bytes.now) }
+{
+    match decode(alloc, bytes) {
+        Ok(message) if cluster_of(message.frame()) == cluster => Ok(Some(message)),
+        Ok(_) => Ok(None),
+        Err(MsgFault::NoMemory) => Err(AllocError),
+        Err(_) => Ok(None),
+    }
+}
+
+/// One receive. Bytes that are no message of the group are as if nothing came.
+pub fn receive_letter<L: Link>(
+    alloc: Global,
+    link: &mut L,
+    cluster: u64,
+    to: &mut Vec<u8>,
+) -> Result<Option<Letter>, ReceiveFault>
+    requires { RECEIVE_ROOM ≤ vec_capacity to.old }
+    ensures received { (arrival : Arrival) × Grows (L.received link.old) (L.received link.new) (arrival ∷ []) × Gives cluster arrival result }
+    ensures cause { ReceiveCause (L.faults link.old) (L.faults link.new) result }
+    ensures sent { L.sent link.new ≡ L.sent link.old }
+    ensures others { L.send_faults link.new ≡ L.send_faults link.old }
+    ensures room { RECEIVE_ROOM ≤ vec_capacity to.new }
+{
+    let Received::Datagram(port) = link.receive(to)? else {
+        return Ok(None);
+    };
+    match read_message(alloc, cluster, to.as_slice())? {
+        Some(message) => Ok(Some(Letter { port, message })),
+        None => Ok(None),
+    }
+}

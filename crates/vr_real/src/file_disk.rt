@@ -1,0 +1,137 @@
+//! A disk of sectors in a file.
+ghost use Rattle.std.specs.Prelude.{◌≡◌, ◌<◌, None};
+ghost use Rattle.vr_base.specs.Causes.{HasCause};
+
+use crate::counting::counted;
+use std::fs::{File, Files, OpenOptions};
+use std::io;
+use std::io::ErrorKind;
+use std::os::unix::fs::FileExt;
+use std::path::Path;
+use vr_disk::{DiskFailed, SECTOR_SIZE, SECTORS, Sector, SectorDisk};
+
+/// The bytes of the file.
+const FILE_SIZE: u64 = SECTORS as u64 * SECTOR_SIZE as u64;
+
+/// A disk of sectors in a file of the system: sector i stands at byte 512 i. It tells nothing. Each call is a call of the
+/// system, and fails where that does or where no file is attached; what is written goes through the system's page cache.
+#[derive(Drop)]
+pub struct FileDisk<R> {
+    files: R,
+    file: Option<File>,
+    faults: u64,
+    read_faults: u64,
+}
+
+/// Writes zeros to each sector that lies wholly behind this length, so that no later write has to find room for it.
+fn fill(file: &File, len: u64) -> io::Result<()> {
+    let zeros = [0u8; SECTOR_SIZE];
+    for i in 0..SECTORS {
+        if place(i) >= len {
+            file.write_all_at(&zeros, place(i))?;
+        }
+    }
+    Ok(())
+}
+
+/// Syncs the folder of a file, so that the name of a file that was just made stays.
+fn sync_folder<R: Files<File = File>>(files: &R, name: &str) -> io::Result<()> {
+    let folder = match Path::new(name).parent() {
+        Some(parent) if !parent.as_str().is_empty() => parent.as_str(),
+        _ => ".",
+    };
+    File::open(files, folder)?.sync_all()
+}
+
+/// The file with this name, opened and synced; where it has to be made or is too short, zeros stand behind what it had.
+fn open<R: Files<File = File>>(files: &R, name: &str) -> io::Result<File> {
+    let file = OpenOptions::new()
+        .read(true)
+        .write(true)
+        .create(true)
+        .open(files, name)?;
+    let len = file.metadata()?.len();
+    if len < FILE_SIZE {
+        file.set_len(FILE_SIZE)?;
+        fill(&file, len)?;
+        sync_folder(files, name)?;
+    }
+    file.sync_all()?;
+    Ok(file)
+}
+
+/// The place of a sector in the file.
+fn place(i: u32) -> u64 {
+    u64::from(i) * SECTOR_SIZE as u64
+}
+
+/// A disk was called before its file was opened.
+fn not_attached() -> io::Error {
+    io::Error::from(ErrorKind::NotFound)
+}
+
+impl<R> FileDisk<R> {
+    /// A disk without its file, which `attach` opens through `files`.
+    pub fn new(files: R) -> FileDisk<R>
+        ensures { result ≡ record { files = files; file = None; faults = 0; read_faults = 0 } }
+    {
+        FileDisk {
+            files,
+            file: None,
+            faults: 0,
+            read_faults: 0,
+        }
+    }
+
+    /// Reads a sector from its place.
+    fn read_at(&self, i: u32, to: &mut Sector) -> io::Result<()> {
+        match &self.file {
+            Some(file) => file.read_exact_at(&mut to.bytes, place(i)),
+            None => Err(not_attached()),
+        }
+    }
+
+    /// Writes a sector to its place.
+    fn write_at(&self, i: u32, from: &Sector) -> io::Result<()> {
+        match &self.file {
+            Some(file) => file.write_all_at(&from.bytes, place(i)),
+            None => Err(not_attached()),
+        }
+    }
+
+    /// Waits until the disk has what was written.
+    fn sync_data(&self) -> io::Result<()> {
+        match &self.file {
+            Some(file) => file.sync_data(),
+            None => Err(not_attached()),
+        }
+    }
+}
+
+impl<R: Files<File = File>> SectorDisk for FileDisk<R> {
+    ghost told = { λ _. None };
+
+    ghost faults = { λ d. d.faults };
+
+    ghost read_faults = { λ d. d.read_faults };
+
+    ghost whole = { λ _. tt };
+
+    fn attach(&mut self, name: &str) -> Result<(), DiskFailed> {
+        let opened = open(&self.files, name);
+        self.file = Some(counted(opened, &mut self.faults, DiskFailed)?);
+        Ok(())
+    }
+
+    fn read(&mut self, i: u32, to: &mut Sector) -> Result<(), DiskFailed> {
+        counted(self.read_at(i, to), &mut self.read_faults, DiskFailed)
+    }
+
+    fn write(&mut self, i: u32, from: &Sector) -> Result<(), DiskFailed> {
+        counted(self.write_at(i, from), &mut self.faults, DiskFailed)
+    }
+
+    fn sync(&mut self) -> Result<(), DiskFailed> {
+        counted(self.sync_data(), &mut self.faults, DiskFailed)
+    }
+}

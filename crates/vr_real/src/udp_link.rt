@@ -1,0 +1,163 @@
+//! A link over a socket of datagrams.
+ghost use Rattle.std.specs.Prelude.{◌≡◌, ◌≤◌, None, vec_capacity};
+ghost use Rattle.vr_base.specs.Causes.{HasCause};
+
+use crate::counting::counted;
+use crate::ports::Ports;
+use std::alloc::{AllocError, Global};
+use std::io;
+use std::io::ErrorKind;
+use std::net::{IpAddr, Ipv4Addr, Ipv6Addr, Net, SocketAddr, ToSocketAddrs, UdpSocket};
+use std::time::Duration;
+use vr_edge::{Link, LinkFailed, RECEIVE_ROOM, Received};
+
+/// How long a receive is to wait for a datagram. The system may round it up to one of its own ticks, and one more:
+/// 4 become 8 where it has 250 of them a second, which is at most the 10 that a receive may take.
+const WAIT_MILLIS: u64 = 4;
+
+/// Datagrams over UDP. It tells nothing. A receive waits at most ten milliseconds; the ports of the peers are those of
+/// their addresses, and the last 64 other senders have ports behind them, of which a new sender takes the oldest's.
+#[derive(Drop)]
+pub struct UdpLink<R> {
+    alloc: Global,
+    net: R,
+    socket: Option<UdpSocket>,
+    ports: Ports,
+    room: Vec<u8>,
+    faults: u64,
+    send_faults: u64,
+}
+
+/// The first address that a text names.
+fn address_of<R: Net>(net: &R, text: &str) -> io::Result<SocketAddr> {
+    match text.to_socket_addrs(net)?.next() {
+        Some(address) => Ok(address),
+        None => Err(io::Error::from(ErrorKind::InvalidInput)),
+    }
+}
+
+/// The addresses of all texts.
+fn addresses_of<R: Net>(
+    alloc: Global,
+    net: &R,
+    texts: &Vec<String>,
+) -> io::Result<Vec<SocketAddr>> {
+    let mut addresses = Vec::new(alloc);
+    for text in texts.iter() {
+        addresses.push(address_of(net, text.as_str())?)?;
+    }
+    Ok(addresses)
+}
+
+/// The own address; without one, any of the kind that the peers have.
+fn own_address<R: Net>(net: &R, own: &str, peers: &Vec<SocketAddr>) -> io::Result<SocketAddr> {
+    if !own.is_empty() {
+        return address_of(net, own);
+    }
+    match peers.first() {
+        Some(SocketAddr::V6(_)) => Ok(SocketAddr::new(IpAddr::V6(Ipv6Addr::UNSPECIFIED), 0)),
+        _ => Ok(SocketAddr::new(IpAddr::V4(Ipv4Addr::UNSPECIFIED), 0)),
+    }
+}
+
+/// A socket at an address, whose receives wait a little.
+fn bind<R: Net>(net: &R, own: SocketAddr) -> io::Result<UdpSocket> {
+    let socket = UdpSocket::bind(net, own)?;
+    socket.set_read_timeout(Some(Duration::from_millis(WAIT_MILLIS)))?;
+    Ok(socket)
+}
+
+/// Whether nothing was there to be received.
+fn is_quiet(error: &io::Error) -> bool {
+    matches!(
+        error.kind(),
+        ErrorKind::WouldBlock | ErrorKind::TimedOut | ErrorKind::Interrupted
+    )
+}
+
+impl<R: Drop> UdpLink<R> {
+    /// A link without its socket, which `attach` opens through `net`.
+    pub fn new(alloc: Global, net: R) -> Result<UdpLink<R>, AllocError> {
+        let mut room = Vec::new(alloc);
+        room.resize(RECEIVE_ROOM, 0)?;
+        Ok(UdpLink {
+            alloc,
+            net,
+            socket: None,
+            ports: Ports::new(alloc)?,
+            room,
+            faults: 0,
+            send_faults: 0,
+        })
+    }
+
+    /// Sends to the address of a port.
+    fn send_to(&self, to: u32, bytes: &[u8]) -> io::Result<()> {
+        let (Some(socket), Some(address)) = (&self.socket, self.ports.address(to)) else {
+            return Err(io::Error::from(ErrorKind::NotConnected));
+        };
+        socket.send_to(bytes, address)?;
+        Ok(())
+    }
+
+    /// Receives into its own room, and copies what came. It returns the sender's port.
+    fn receive_from(&mut self, to: &mut Vec<u8>) -> io::Result<u32>
+        requires { RECEIVE_ROOM ≤ vec_capacity to.old }
+        ensures room { RECEIVE_ROOM ≤ vec_capacity to.new }
+        ensures faults { self.new.faults ≡ self.old.faults }
+        ensures others { self.new.send_faults ≡ self.old.send_faults }
+    {
+        to.clear();
+        let Some(socket) = &self.socket else {
+            return Err(io::Error::from(ErrorKind::NotConnected));
+        };
+        let (count, address) = socket.recv_from(&mut self.room)?;
+        to.extend_from_slice(&self.room[..count.min(RECEIVE_ROOM)])
+            .unwrap();
+        Ok(self.ports.port_of(address))
+    }
+}
+
+impl<R: Net + Drop> UdpLink<R> {
+    /// Opens the socket, and takes the peers.
+    fn open(&mut self, own: &str, peers: &Vec<String>) -> io::Result<()>
+        ensures faults { self.new.faults ≡ self.old.faults }
+        ensures others { self.new.send_faults ≡ self.old.send_faults }
+    {
+        let peers = addresses_of(self.alloc, &self.net, peers)?;
+        let own = own_address(&self.net, own, &peers)?;
+        self.socket = Some(bind(&self.net, own)?);
+        self.ports.set_peers(peers);
+        Ok(())
+    }
+}
+
+impl<R: Net + Drop> Link for UdpLink<R> {
+    ghost sent = { λ _. None };
+
+    ghost received = { λ _. None };
+
+    ghost waiting = { λ _. None };
+
+    ghost faults = { λ l. l.faults };
+
+    ghost send_faults = { λ l. l.send_faults };
+
+    fn attach(&mut self, own: &str, peers: &Vec<String>) -> Result<(), LinkFailed> {
+        let opened = self.open(own, peers);
+        counted(opened, &mut self.faults, LinkFailed)
+    }
+
+    fn send(&mut self, to: u32, bytes: &[u8]) -> Result<(), LinkFailed> {
+        let sent = self.send_to(to, bytes);
+        counted(sent, &mut self.send_faults, LinkFailed)
+    }
+
+    fn receive(&mut self, to: &mut Vec<u8>) -> Result<Received, LinkFailed> {
+        match self.receive_from(to) {
+            Ok(port) => Ok(Received::Datagram(port)),
+            Err(error) if is_quiet(&error) => Ok(Received::Quiet),
+            Err(error) => counted(Err(error), &mut self.faults, LinkFailed),
+        }
+    }
+}

@@ -1,0 +1,6 @@
+pub mod Cutting
+pub mod Ending
+pub mod Outputs
+pub mod Running
+pub mod Stilling
+pub mod Turning

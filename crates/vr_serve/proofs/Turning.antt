@@ -1,0 +1,154 @@
+-- Turns one after another.
+use Rattle.std.proofs.Common.{◌≡◌, ◌∙◌, ℕ, ◌+◌, ◌<◌, ◌≤◌, List, [], ◌∷◌, ◌++◌, Option, refl, ap, sym, map, length, arith, Result, Ok, Err, IfOk, OnOk, nat_le, true, false}
+use Rattle.std.proofs.lemmas.Grind.{common_steps}
+use Rattle.vr_disk.specs.DiskState.{Disk}
+use Rattle.vr_edge.specs.Told.{GivesNext, Grows}
+use Rattle.vr_edge.specs.Datagrams.{Arrival}
+use Rattle.vr_edge.specs.declared.datagram.Datagram.{Datagram}
+use Rattle.vr_mail.proofs.Brought.{brought_more}
+use Rattle.vr_mail.proofs.Growing.{append_nil, assoc, grows_nil, grows_trans}
+use Rattle.vr_mail.specs.Letters.{Brings}
+use Rattle.vr_msg.specs.declared.event.Event.TheVariants.{Tick}
+use Rattle.vr_msg.specs.declared.output.Output.{Output}
+use Rattle.vr_serve.specs.Events.{AreTurns, Begins, Gives, Turn, arrivals, due, events_of, happened, last_after, last_of, letters}
+use Rattle.vr_serve.specs.Outputs.{numbers_after}
+use Rattle.vr_serve.specs.Runs.{At, Cut, Doing, IsCutInTurn, IsServed, Passed, PutsFirst, at, begun_at}
+use Rattle.vr_serve.specs.declared.clients.Client.{Client}
+use Rattle.vr_serve.proofs.Cutting.{cut_after}
+use Rattle.vr_serve.proofs.Running.{map_append, passed_none, passed_trans}
+
+last_more : (last : ℕ) (turns : List Turn) (turn : Turn) → last_of last (turns ++ turn ∷ []) ≡ last_after (last_of last turns) turn.now
+last_more last [] turn = refl
+last_more last (t ∷ turns) turn = last_more (last_after last t.now) turns turn
+
+happened_more : (last : ℕ) (turns : List Turn) (turn : Turn)
+    → happened last (turns ++ turn ∷ []) ≡ happened last turns ++ events_of (last_of last turns) turn
+happened_more last [] turn = append_nil (events_of last turn)
+happened_more last (t ∷ turns) turn =
+    ap (λ l. events_of last t ++ l) (happened_more (last_after last t.now) turns turn)
+    ∙ sym (assoc (events_of last t) (happened (last_after last t.now) turns) (events_of (last_of (last_after last t.now) turns) turn))
+
+gives_more : (a b c : Option (List ℕ)) (numbers : List ℕ) (n : ℕ) → Gives a numbers b → GivesNext b c n → Gives a (numbers ++ n ∷ []) c
+gives_more a b c [] n given next = (c, rw (sym given) next, refl)
+gives_more a b c (m ∷ numbers) n given next = (given.0, given.1, gives_more given.0 b c numbers n given.2 next)
+
+length_more : {X : Type 0} (xs : List X) (x : X) → length (xs ++ x ∷ []) ≡ length xs + 1
+length_more xs x = grind (arith, common_steps)
+
+le_false : (a b : ℕ) → b < a → nat_le a b ≡ false
+le_false a b h = grind arith
+
+-- no tick is due before 100 after the last one
+pub due_none : (last now : ℕ) → now < last + 100 → due last now ≡ []
+due_none last now h = rw (le_false (last + 100) now h) refl
+
+le_true : (a b : ℕ) → a ≤ b → nat_le a b ≡ true
+le_true a b h = grind arith
+
+pub due_tick : (last now : ℕ) → last + 100 ≤ now → due last now ≡ record { port = 0; event = Tick } ∷ []
+due_tick last now h = rw (le_true (last + 100) now h) refl
+
+pub both : {T E : Type 0} (r : Result T E) (P : T → Type 0) (X : Type 0) (Q : T → Type 0) → ((t : T) → P t → X → Q t) → IfOk r P → OnOk r X → IfOk r Q
+both (Ok t) P X Q f p x = f t p x
+both (Err e) P X Q f p x = tt
+
+-- so many turns are done, and the run stands at b
+pub record Serving {S : Type 0} (does : Doing S) (cluster count last : ℕ) (first : List Output) (member : S) (disk : Option Disk)
+    (left left' : Option (List ℕ)) (got got' : Option (List Arrival)) (t : Option (List ℕ)) (u : Option (List (Option Datagram))) (b : At S) : Type 0 where
+  pub begins : ℕ
+  pub turns : List Turn
+  pub counted : length turns ≡ count
+  pub ticked : last ≡ last_of begins turns
+  pub clock : Gives left (begins ∷ map (λ x. x.now) turns) left'
+  pub received : Grows got got' (arrivals turns)
+  pub brought : AreTurns cluster turns
+  pub taken : Option (List ℕ)
+  pub sent : Option (List (Option Datagram))
+  pub puts : PutsFirst first t taken u sent
+  pub passed : Passed does (begun_at member disk first taken sent) b (happened begins turns)
+
+pub serving_begins : {S : Type 0} (does : Doing S) (cluster last : ℕ) (first : List Output) (member : S) (disk : Option Disk)
+    (left left' : Option (List ℕ)) (got got' : Option (List Arrival)) (t t' : Option (List ℕ)) (u u' : Option (List (Option Datagram)))
+    (number : ℕ) (clients : List Client) → PutsFirst first t t' u u' → number ≡ numbers_after 0 first → clients ≡ [] → GivesNext left left' last
+    → got' ≡ got → Serving does cluster 0 last first member disk left left' got got' t u (at member disk number clients t' u')
+serving_begins does cluster last first member disk left left' got got' t t' u u' number clients puts numbered none next same = record {
+  begins = last;
+  turns = [];
+  counted = refl;
+  ticked = refl;
+  clock = (left', next, refl);
+  received = rw same (grows_nil got);
+  brought = tt;
+  taken = t';
+  sent = u';
+  puts = puts;
+  passed = passed_none does (begun_at member disk first t' u') number clients numbered none;
+}
+
+brought_turn : (cluster : ℕ) (turns : List Turn) (turn : Turn) → AreTurns cluster turns → Brings cluster turn.arrival turn.letter
+    → AreTurns cluster (turns ++ turn ∷ [])
+brought_turn cluster turns turn b new =
+    rw (map_append (λ (x : Turn). x.arrival) turns (turn ∷ []), map_append (λ (x : Turn). x.letter) turns (turn ∷ []))
+    (brought_more cluster (arrivals turns) (letters turns) turn.arrival turn.letter b new)
+
+pub serving_more : {S : Type 0} (does : Doing S) (cluster count last after : ℕ) (first : List Output) (member : S) (disk : Option Disk)
+    (left left' left'' : Option (List ℕ)) (got got' got'' : Option (List Arrival)) (t : Option (List ℕ)) (u : Option (List (Option Datagram)))
+    (b c : At S) (turn : Turn) → Serving does cluster count last first member disk left left' got got' t u b
+    → after ≡ last_after last turn.now → Grows got' got'' (turn.arrival ∷ []) → Brings cluster turn.arrival turn.letter
+    → GivesNext left' left'' turn.now → Passed does b c (events_of last turn)
+    → Serving does cluster (count + 1) after first member disk left left'' got got'' t u c
+serving_more does cluster count last after first member disk left left' left'' got got' got'' t u b c turn s is more new next passed = record {
+  begins = s.begins;
+  turns = s.turns ++ turn ∷ [];
+  counted = length_more s.turns turn ∙ ap (λ n. n + 1) s.counted;
+  ticked = is ∙ (ap (λ n. last_after n turn.now) s.ticked ∙ sym (last_more s.begins s.turns turn));
+  clock = rw (map_append (λ (x : Turn). x.now) s.turns (turn ∷ [])) (gives_more left left' left'' (s.begins ∷ map (λ x. x.now) s.turns) turn.now s.clock next);
+  received = rw (map_append (λ (x : Turn). x.arrival) s.turns (turn ∷ [])) (grows_trans got got' got'' (arrivals s.turns) (turn.arrival ∷ []) s.received more);
+  brought = brought_turn cluster s.turns turn s.brought new;
+  taken = s.taken;
+  sent = s.sent;
+  puts = s.puts;
+  passed = rw (happened_more s.begins s.turns turn) (passed_trans does (begun_at member disk first s.taken s.sent) b c (happened s.begins s.turns)
+      (events_of (last_of s.begins s.turns) turn) s.passed (rw (sym s.ticked) passed));
+}
+
+pub served : {S : Type 0} (does : Doing S) (cluster count last : ℕ) (first : List Output) (member member' : S) (disk disk' : Option Disk)
+    (left left' : Option (List ℕ)) (got got' : Option (List Arrival)) (t t' : Option (List ℕ)) (u u' : Option (List (Option Datagram)))
+    (number : ℕ) (clients : List Client)
+    → Serving does cluster count last first member disk left left' got got' t u (at member' disk' number clients t' u')
+    → IsServed does cluster count first member member' disk disk' left left' got got' t t' u u'
+served does cluster count last first member member' disk disk' left left' got got' t t' u u' number clients s = record {
+  begins = s.begins;
+  turns = s.turns;
+  counted = s.counted;
+  clock = s.clock;
+  received = s.received;
+  brought = s.brought;
+  taken = s.taken;
+  sent = s.sent;
+  puts = s.puts;
+  number = number;
+  clients = clients;
+  passed = s.passed;
+}
+
+-- an early end in the turn behind these
+pub serving_cut : {S : Type 0} (does : Doing S) (cluster count last limit : ℕ) (first : List Output) (member : S) (disk : Option Disk)
+    (left left' : Option (List ℕ)) (got got' got'' : Option (List Arrival)) (t t' : Option (List ℕ)) (u u' : Option (List (Option Datagram)))
+    (b : At S) (turn : Turn) → Serving does cluster count last first member disk left left' got got' t u b → count < limit
+    → Grows got' got'' (turn.arrival ∷ []) → Begins cluster turn.arrival turn.letter → Cut does b (events_of last turn) t' u'
+    → IsCutInTurn does cluster limit first member disk got got'' t t' u u'
+serving_cut does cluster count last limit first member disk left left' got got' got'' t t' u u' b turn s lt more begun cut = record {
+  begins = s.begins;
+  turns = s.turns;
+  last = turn;
+  counted = omega (arith, s.counted, lt);
+  received = grows_trans got got' got'' (arrivals s.turns) (turn.arrival ∷ []) s.received more;
+  brought = s.brought;
+  begun = begun;
+  taken = s.taken;
+  sent = s.sent;
+  puts = s.puts;
+  cut = rw (happened_more s.begins s.turns turn) (cut_after does (begun_at member disk first s.taken s.sent) b (happened s.begins s.turns)
+      (events_of (last_of s.begins s.turns) turn) t' u' s.passed (rw (sym s.ticked) cut));
+}

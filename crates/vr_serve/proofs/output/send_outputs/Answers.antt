@@ -1,0 +1,15 @@
+use Rattle.std.proofs.Common.{rules, ◌≡◌, ◌∙◌, ◌∷◌}
+use Rattle.vr_serve.proofs.Outputs.{sending_next}
+use Rattle.vr_serve.specs.Outputs.{datagrams_for}
+use Rattle.vr_serve.proofs.output.send_outputs.Goals as goal
+
+pub loop-output-preserved : goal.loop-output-preserved
+loop-output-preserved g c =
+    let is : c.loop-output.output-iterator.rest.items ≡ c.in-Some.output ∷ c.next.new.self.rest.items = search rules in
+    record {
+      sending = sending_next c.args.clients.now (datagrams_for c.args.clients.now c.args.outputs) c.loop-output.output-iterator.rest.items c.in-Some.output
+          c.next.new.self.rest.items (g.L.Link.sent c.args.link.now) (g.L.Link.sent c.loop-output.link) (g.L.Link.sent c.send_output.new.link)
+          is c.loop-output.invariant.sending c.in_ok-send_output.ensures.sent;
+      received = c.send_output.ensures.received ∙ c.loop-output.invariant.received;
+      faults = c.send_output.ensures.faults ∙ c.loop-output.invariant.faults;
+    }

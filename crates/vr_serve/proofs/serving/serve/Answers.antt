@@ -1,0 +1,59 @@
+use Rattle.std.proofs.Common.{◌≡◌, ◌∙◌, ◌⊎◌, [], ap, arith, inr, subst}
+use Rattle.std.specs.Io.KnownBytes.{Appends}
+use Rattle.vr_mail.specs.Sends.{Sends}
+use Rattle.vr_serve.proofs.Cutting.{on_err}
+use Rattle.vr_serve.proofs.Turning.{serving_begins, serving_cut, serving_more}
+use Rattle.vr_serve.specs.Outputs.{datagrams_for, numbers_after, text_from}
+use Rattle.vr_serve.specs.Runs.{IsCutBefore, IsCutInTurn, at}
+use Rattle.vr_serve.proofs.serving.serve.Goals as goal
+
+pub loop-init : goal.loop-init
+loop-init g c =
+    let zero : c.in_ok-post.post.number ≡ 0 = c.in_ok-post.ensures.number in
+    let none : c.in_ok-post.post.clients.items ≡ [] = c.in_ok-post.ensures.clients in
+    record {
+      running = c.requires;
+      disk = omega arith;
+      write = c.put_out.ensures.causes.write;
+      link = c.put_out.ensures.causes.link;
+      serving = serving_begins g.M.Member.does c.args.cluster c.now-last.result c.args.first c.args.member.now (g.D.SectorDisk.told c.args.disk.now)
+          (g.C.Clock.left c.args.clock.now) (g.C.Clock.left c.now-last.new.self) (g.L.Link.received c.args.link.now) (g.L.Link.received c.put_out.new.link)
+          (g.K.Sink.taken c.args.sink.now) (g.K.Sink.taken c.put_out.new.sink) (g.L.Link.sent c.args.link.now) (g.L.Link.sent c.put_out.new.link)
+          c.put_out.new.self.number c.put_out.new.self.clients.items
+          (record {
+            taken = subst (λ m. Appends (g.K.Sink.taken c.args.sink.now) (g.K.Sink.taken c.put_out.new.sink) (text_from m c.args.first)) zero c.in_ok-put_out.ensures.taken;
+            sent = subst (λ cs. Sends (datagrams_for cs c.args.first) (g.L.Link.sent c.args.link.now) (g.L.Link.sent c.put_out.new.link)) none c.in_ok-put_out.ensures.sent;
+          })
+          (c.in_ok-put_out.ensures.number ∙ ap (λ m. numbers_after m c.args.first) zero)
+          (ap (λ v. v.items) c.put_out.ensures.clients ∙ none) c.now-last.ensures c.put_out.ensures.received;
+    }
+
+pub loop-preserved : goal.loop-preserved
+loop-preserved g c =
+    let b = at c.loop.member (g.D.SectorDisk.told c.loop.disk) c.loop.post.number c.loop.post.clients.items (g.K.Sink.taken c.loop.sink) (g.L.Link.sent c.loop.link) in
+    let e = at c.turn.new.member (g.D.SectorDisk.told c.turn.new.disk) c.turn.new.post.number c.turn.new.post.clients.items (g.K.Sink.taken c.turn.new.sink) (g.L.Link.sent c.turn.new.link) in
+    let t = c.in_ok-last.ensures.turned in
+    record {
+      running = c.in_ok-last.ensures.running;
+      disk = omega (arith, c.loop.invariant.disk, c.turn.ensures.causes.disk);
+      write = omega (arith, c.loop.invariant.write, c.turn.ensures.causes.write);
+      link = omega (arith, c.loop.invariant.link, c.turn.ensures.causes.link);
+      serving = serving_more g.M.Member.does c.args.cluster c.loop.counter c.loop.last c.in_ok-last.last c.args.first c.args.member.now (g.D.SectorDisk.told c.args.disk.now)
+          (g.C.Clock.left c.args.clock.now) (g.C.Clock.left c.loop.clock) (g.C.Clock.left c.turn.new.clock)
+          (g.L.Link.received c.args.link.now) (g.L.Link.received c.loop.link) (g.L.Link.received c.turn.new.link)
+          (g.K.Sink.taken c.args.sink.now) (g.L.Link.sent c.args.link.now) b e t.0 c.loop.invariant.serving t.1 t.2 t.3 t.4 t.5;
+    }
+
+pub returns-in_err-last-clause-cut : goal.returns-in_err-last-clause-cut
+returns-in_err-last-clause-cut g c =
+    let b = at c.loop.member (g.D.SectorDisk.told c.loop.disk) c.loop.post.number c.loop.post.clients.items (g.K.Sink.taken c.loop.sink) (g.L.Link.sent c.loop.link) in
+    let r = c.in_err-last.ensures.cut in
+    on_err c.from_residual-in_err-last.result
+    (IsCutBefore c.args.first (g.L.Link.received c.args.link.now) (g.L.Link.received c.turn.new.link) (g.K.Sink.taken c.args.sink.now) (g.K.Sink.taken c.turn.new.sink)
+    (g.L.Link.sent c.args.link.now) (g.L.Link.sent c.turn.new.link)
+    ⊎ IsCutInTurn g.M.Member.does c.args.cluster c.args.turns c.args.first c.args.member.now (g.D.SectorDisk.told c.args.disk.now) (g.L.Link.received c.args.link.now)
+    (g.L.Link.received c.turn.new.link) (g.K.Sink.taken c.args.sink.now) (g.K.Sink.taken c.turn.new.sink) (g.L.Link.sent c.args.link.now) (g.L.Link.sent c.turn.new.link))
+    (inr (serving_cut g.M.Member.does c.args.cluster c.loop.counter c.loop.last c.args.turns c.args.first c.args.member.now (g.D.SectorDisk.told c.args.disk.now)
+    (g.C.Clock.left c.args.clock.now) (g.C.Clock.left c.loop.clock) (g.L.Link.received c.args.link.now) (g.L.Link.received c.loop.link) (g.L.Link.received c.turn.new.link)
+    (g.K.Sink.taken c.args.sink.now) (g.K.Sink.taken c.turn.new.sink) (g.L.Link.sent c.args.link.now) (g.L.Link.sent c.turn.new.link)
+    b r.0 c.loop.invariant.serving c.loop-test.true r.1 r.2 r.3))

@@ -1,0 +1,5 @@
+pub mod Causes
+pub mod Events
+pub mod Laws
+pub mod Outputs
+pub mod Runs

@@ -1,0 +1,55 @@
+//! The clients that were heard last.
+ghost use Rattle.std.specs.Prelude.{◌≡◌, ◌==◌, OnOk};
+ghost use Rattle.std.specs.List.{position};
+ghost use Rattle.vr_serve.specs.Outputs.{heard, others, port_of};
+
+use std::alloc::AllocError;
+use vr_msg::Event;
+
+/// The most clients whose ports are kept.
+const MOST: usize = 64;
+
+/// A client, and the port of its latest request.
+#[derive(Clone, Copy, Debug, PartialEq, Eq)]
+pub struct Client {
+    pub id: u64,
+    pub port: u32,
+}
+
+/// The port of a client, where it is among the last ones heard.
+pub fn port_of(clients: &[Client], id: u64) -> Option<u32>
+    ensures { result ≡ port_of id clients.now }
+{
+    Some(clients.iter().find(|client| client.id == id)?.port)
+}
+
+/// The place of a client.
+fn place_of(clients: &[Client], id: u64) -> Option<usize>
+    ensures { result ≡ position (λ c. c.id == id) clients.now }
+{
+    clients.iter().position(|client| client.id == id)
+}
+
+/// Takes the last place of a client; where it has none, that of the 64th.
+fn make_place(clients: &mut Vec<Client>, id: u64)
+    ensures { clients.new.items ≡ others id clients.old.items }
+{
+    match place_of(clients, id) {
+        Some(at) => {
+            let _ = clients.remove(at);
+        }
+        None => clients.truncate(MOST - 1),
+    }
+}
+
+/// A client is heard with its request: its place is the first.
+pub fn hear(clients: &mut Vec<Client>, port: u32, event: &Event) -> Result<(), AllocError>
+    ensures { OnOk result (clients.new.items ≡ heard (record { port = port; event = event.now }) clients.old.items) }
+{
+    if let Event::Request(request) = event {
+        let id = request.fields().client;
+        make_place(clients, id);
+        clients.insert(0, Client { id, port })?;
+    }
+    Ok(())
+}

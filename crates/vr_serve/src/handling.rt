@@ -1,0 +1,54 @@
+//! One event.
+ghost use Rattle.std.specs.Prelude.{◌≡◌, ◌≤◌, [], ◌∷◌, OnOk, OnErr, true};
+ghost use Rattle.vr_serve.specs.Causes.{HasCauses, counts};
+ghost use Rattle.vr_serve.specs.Events.{event_of};
+ghost use Rattle.vr_serve.specs.Runs.{Cut, Passed, at};
+
+use crate::clients::hear;
+use crate::post::Post;
+use crate::{Member, Stop};
+use std::alloc::Global;
+use vr_base::Seq;
+use vr_disk::SectorDisk;
+use vr_edge::{Link, Sink};
+use vr_msg::{Event, Frame, Message};
+
+/// The event that a message is.
+pub fn event_of(message: Message) -> Event
+    ensures { result ≡ event_of message }
+{
+    match message.into_frame() {
+        Frame::Request(request) => Event::Request(request),
+        frame => Event::Deliver(Message::new(frame)),
+    }
+}
+
+/// An event that came from a port: one step, its text, and then its datagrams.
+#[tactic(auto, using(std::proofs::lemmas::Grind::common_steps, crate::proofs::Cutting::cut_none, crate::proofs::Cutting::cut_event, crate::proofs::Running::passed_one, crate::proofs::Ending::causes_put))]
+pub fn handle<M: Member, D: SectorDisk, K: Sink, L: Link>(
+    alloc: Global,
+    member: &mut M,
+    disk: &mut D,
+    sink: &mut K,
+    link: &mut L,
+    post: &mut Post,
+    port: u32,
+    event: &Event,
+) -> Result<(), Stop>
+    requires { M.runs member.old ≡ true }
+    ensures running { OnOk result (M.runs member.new ≡ true) }
+    ensures causes { HasCauses (counts (D.faults disk.old) (K.faults sink.old) (L.faults link.old)) (counts (D.faults disk.new) (K.faults sink.new) (L.faults link.new)) result }
+    ensures received { L.received link.new ≡ L.received link.old }
+    ensures passed { OnOk result (Passed M.does
+        (at member.old (D.told disk.old) post.old.number post.old.clients.items (K.taken sink.old) (L.sent link.old))
+        (at member.new (D.told disk.new) post.new.number post.new.clients.items (K.taken sink.new) (L.sent link.new))
+        (record { port = port; event = event.now } ∷ [])) }
+    ensures cut { OnErr result (Cut M.does
+        (at member.old (D.told disk.old) post.old.number post.old.clients.items (K.taken sink.old) (L.sent link.old))
+        (record { port = port; event = event.now } ∷ []) (K.taken sink.new) (L.sent link.new)) }
+{
+    hear(&mut post.clients, port, event)?;
+    let mut outputs = Seq::new(alloc);
+    member.step(alloc, disk, event, &mut outputs)?;
+    post.put_out(sink, link, outputs)
+}

@@ -1,0 +1,16 @@
+//! A member of a group at work: a loop of turns around a replica, over a disk, a link, a clock and a sink.
+#![tactic(auto)]
+
+mod clients;
+mod handling;
+mod laws;
+mod member;
+mod output;
+mod post;
+mod serving;
+mod stop;
+
+pub use laws::serve_laws;
+pub use member::{Halt, Member};
+pub use serving::serve;
+pub use stop::Stop;

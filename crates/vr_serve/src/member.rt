@@ -1,0 +1,42 @@
+//! What the loop goes around.
+ghost use Rattle.std.specs.Prelude.{◌≡◌, [], List, Bool, Option, OnOk, true};
+ghost use Rattle.vr_disk.specs.DiskState.{Disk};
+ghost use Rattle.vr_msg.specs.declared.event.Event.{Event};
+ghost use Rattle.vr_msg.specs.declared.output.Output.{Output};
+ghost use Rattle.vr_serve.specs.Causes.{HaltCause};
+
+use std::alloc::Global;
+use vr_disk::SectorDisk;
+use vr_msg::{Event, Outbox};
+
+/// Why a member stopped in the midst of a step.
+#[derive(Clone, Copy, Debug, PartialEq, Eq)]
+pub enum Halt {
+    /// A write or a sync of its disk failed.
+    Disk,
+    NoMemory,
+}
+
+/// A replica as the loop sees it.
+pub trait Member {
+    /// What a step does: the replica before, what its disk tells, the event, the outputs, the replica after, and what
+    /// its disk tells then.
+    ghost does: { Self → Option Disk → Event → List Output → Self → Option Disk → Type 0 };
+
+    /// Whether it runs; it doesn't after a halt.
+    ghost runs: { Self → Bool };
+
+    /// Handles one event whole, and puts its outputs into `out`.
+    fn step<D: SectorDisk>(
+        &mut self,
+        alloc: Global,
+        disk: &mut D,
+        event: &Event,
+        out: &mut Outbox,
+    ) -> Result<(), Halt>
+        requires running { runs self.old ≡ true }
+        requires empty { out.old ≡ [] }
+        ensures done { OnOk result (does self.old (D.told disk.old) event.now out.new self.new (D.told disk.new)) }
+        ensures running { OnOk result (runs self.new ≡ true) }
+        ensures cause { HaltCause (D.faults disk.old) (D.faults disk.new) result };
+}

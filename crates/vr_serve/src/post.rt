@@ -1,0 +1,70 @@
+//! What the loop keeps of a run, and how it puts outputs out.
+ghost use Rattle.std.specs.Prelude.{◌≡◌, ◌≤◌, [], IfOk, OnOk, OnErr, vec_capacity};
+ghost use Rattle.std.specs.Io.KnownBytes.{Appends};
+ghost use Rattle.vr_edge.specs.declared.link.TheConstants.{RECEIVE_ROOM};
+ghost use Rattle.vr_mail.specs.Sends.{Sends};
+ghost use Rattle.vr_serve.specs.Causes.{HasCauses, counts};
+ghost use Rattle.vr_serve.specs.Outputs.{datagrams_for, numbers_after, text_from};
+ghost use Rattle.vr_serve.specs.Runs.{PutsFront};
+
+use crate::Stop;
+use crate::clients::Client;
+use crate::output::{put_text, send_outputs};
+use std::alloc::{AllocError, Global};
+use vr_base::{ByteList, Seq};
+use vr_edge::{Link, RECEIVE_ROOM, Sink, write_whole};
+use vr_msg::Outbox;
+
+/// What the loop keeps of a run, and its rooms.
+#[derive(Debug, Drop)]
+pub struct Post {
+    /// The number of the next message.
+    pub number: u64,
+    /// The clients heard last, the latest first.
+    pub clients: Vec<Client>,
+    text: ByteList,
+    bytes: Vec<u8>,
+    /// Room for what comes.
+    pub to: Vec<u8>,
+    ghost room: { RECEIVE_ROOM ≤ vec_capacity to },
+}
+
+impl Post {
+    /// No message was sent and no client heard.
+    pub fn new(alloc: Global) -> Result<Post, AllocError>
+        ensures number { IfOk result (λ p. p.number ≡ 0) }
+        ensures clients { IfOk result (λ p. p.clients.items ≡ []) }
+    {
+        Ok(Post {
+            number: 0,
+            clients: Vec::new(alloc),
+            text: Seq::new(alloc),
+            bytes: Vec::new(alloc),
+            to: Vec::with_capacity(alloc, RECEIVE_ROOM)?,
+        })
+    }
+
+    /// Writes the text of outputs whole, and then sends their datagrams in order.
+    #[tactic(auto, using(std::proofs::lemmas::Grind::common_steps, crate::proofs::Outputs::puts_none, crate::proofs::Outputs::puts_text, crate::proofs::Outputs::puts_sent, crate::proofs::Ending::rose_later))]
+    pub fn put_out<K: Sink, L: Link>(
+        &mut self,
+        sink: &mut K,
+        link: &mut L,
+        outputs: Outbox,
+    ) -> Result<(), Stop>
+        ensures taken { OnOk result (Appends (K.taken sink.old) (K.taken sink.new) (text_from self.old.number outputs)) }
+        ensures sent { OnOk result (Sends (datagrams_for self.old.clients.items outputs) (L.sent link.old) (L.sent link.new)) }
+        ensures number { OnOk result (self.new.number ≡ numbers_after self.old.number outputs) }
+        ensures clients { self.new.clients ≡ self.old.clients }
+        ensures front { OnErr result (PutsFront (text_from self.old.number outputs) (datagrams_for self.old.clients.items outputs) (K.taken sink.old) (K.taken sink.new) (L.sent link.old) (L.sent link.new)) }
+        ensures causes { HasCauses (counts 0 (K.faults sink.old) (L.faults link.old)) (counts 0 (K.faults sink.new) (L.faults link.new)) result }
+        ensures received { L.received link.new ≡ L.received link.old }
+        ensures faults { L.faults link.new ≡ L.faults link.old }
+    {
+        self.text.clear();
+        put_text(&mut self.number, outputs.as_slice(), &mut self.text)?;
+        write_whole(sink, self.text.as_slice())?;
+        send_outputs(link, &self.clients, outputs, &mut self.bytes)?;
+        Ok(())
+    }
+}

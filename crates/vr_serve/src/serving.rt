@@ -1,0 +1,150 @@
+//! The loop.
+ghost use Rattle.std.specs.Prelude.{◌≡◌, ◌≤◌, ◌⊎◌, [], ◌∷◌, Option, OnOk, OnErr, IfOk, true};
+ghost use Rattle.vr_edge.specs.Datagrams.{Arrival};
+ghost use Rattle.vr_edge.specs.Told.{GivesNext, Grows};
+ghost use Rattle.vr_mail.specs.Letters.{Brings};
+ghost use Rattle.vr_mail.specs.declared.receiving.Letter.{Letter};
+ghost use Rattle.vr_serve.specs.Causes.{HasCauses, counts};
+ghost use Rattle.vr_serve.specs.Events.{Begins, Turn, comes_of, due, events_of, last_after};
+ghost use Rattle.vr_serve.specs.Runs.{Cut, IsCutBefore, IsCutInTurn, IsServed, Passed, at};
+
+use crate::handling::{event_of, handle};
+use crate::post::Post;
+use crate::{Member, Stop};
+use std::alloc::Global;
+use vr_disk::SectorDisk;
+use vr_edge::{Clock, Link, Sink};
+use vr_mail::receive_letter;
+use vr_msg::{Event, Outbox};
+
+/// One receive, and what comes of it.
+#[tactic(auto, using(crate::proofs::Ending::rose_later, crate::proofs::Ending::causes_none))]
+fn arrive<M: Member, D: SectorDisk, K: Sink, L: Link>(
+    alloc: Global,
+    cluster: u64,
+    member: &mut M,
+    disk: &mut D,
+    sink: &mut K,
+    link: &mut L,
+    post: &mut Post,
+) -> Result<(), Stop>
+    requires { M.runs member.old ≡ true }
+    ensures running { OnOk result (M.runs member.new ≡ true) }
+    ensures causes { HasCauses (counts (D.faults disk.old) (K.faults sink.old) (L.faults link.old)) (counts (D.faults disk.new) (K.faults sink.new) (L.faults link.new)) result }
+    ensures passed { OnOk result ((arrival : Arrival) × (letter : Option Letter) × Grows (L.received link.old) (L.received link.new) (arrival ∷ [])
+        × Brings cluster arrival letter × Passed M.does
+        (at member.old (D.told disk.old) post.old.number post.old.clients.items (K.taken sink.old) (L.sent link.old))
+        (at member.new (D.told disk.new) post.new.number post.new.clients.items (K.taken sink.new) (L.sent link.new))
+        (comes_of letter)) }
+    ensures cut { OnErr result ((arrival : Arrival) × (letter : Option Letter) × Grows (L.received link.old) (L.received link.new) (arrival ∷ [])
+        × Begins cluster arrival letter × Cut M.does
+        (at member.old (D.told disk.old) post.old.number post.old.clients.items (K.taken sink.old) (L.sent link.old))
+        (comes_of letter) (K.taken sink.new) (L.sent link.new)) }
+{
+    match receive_letter(alloc, link, cluster, &mut post.to)? {
+        Some(letter) => {
+            let event = event_of(letter.message);
+            handle(alloc, member, disk, sink, link, post, letter.port, &event)
+        }
+        None => Ok(()),
+    }
+}
+
+/// What comes of a look at the clock. It returns the last tick after it.
+#[tactic(auto, using(crate::proofs::Ending::rose_later, crate::proofs::Ending::causes_none))]
+fn beat<M: Member, D: SectorDisk, K: Sink, L: Link>(
+    alloc: Global,
+    member: &mut M,
+    disk: &mut D,
+    sink: &mut K,
+    link: &mut L,
+    post: &mut Post,
+    last: u64,
+    now: u64,
+) -> Result<u64, Stop>
+    requires { M.runs member.old ≡ true }
+    ensures running { OnOk result (M.runs member.new ≡ true) }
+    ensures causes { HasCauses (counts (D.faults disk.old) (K.faults sink.old) (L.faults link.old)) (counts (D.faults disk.new) (K.faults sink.new) (L.faults link.new)) result }
+    ensures received { L.received link.new ≡ L.received link.old }
+    ensures last { IfOk result (λ after. after ≡ last_after last now) }
+    ensures passed { OnOk result (Passed M.does
+        (at member.old (D.told disk.old) post.old.number post.old.clients.items (K.taken sink.old) (L.sent link.old))
+        (at member.new (D.told disk.new) post.new.number post.new.clients.items (K.taken sink.new) (L.sent link.new))
+        (due last now)) }
+    ensures cut { OnErr result (Cut M.does
+        (at member.old (D.told disk.old) post.old.number post.old.clients.items (K.taken sink.old) (L.sent link.old))
+        (due last now) (K.taken sink.new) (L.sent link.new)) }
+{
+    if now < last {
+        return Ok(now);
+    }
+    if now - last < 100 {
+        return Ok(last);
+    }
+    handle(alloc, member, disk, sink, link, post, 0, &Event::Tick)?;
+    Ok(now)
+}
+
+/// One turn. It returns the last tick after it.
+#[tactic(auto, using(crate::proofs::Ending::rose_later, crate::proofs::Ending::causes_none))]
+fn turn<M: Member, D: SectorDisk, K: Sink, L: Link, C: Clock>(
+    alloc: Global,
+    cluster: u64,
+    member: &mut M,
+    disk: &mut D,
+    sink: &mut K,
+    link: &mut L,
+    clock: &mut C,
+    post: &mut Post,
+    last: u64,
+) -> Result<u64, Stop>
+    requires { M.runs member.old ≡ true }
+    ensures running { OnOk result (M.runs member.new ≡ true) }
+    ensures causes { HasCauses (counts (D.faults disk.old) (K.faults sink.old) (L.faults link.old)) (counts (D.faults disk.new) (K.faults sink.new) (L.faults link.new)) result }
+    ensures turned { IfOk result (λ after. (turn : Turn) × (after ≡ last_after last turn.now)
+        × Grows (L.received link.old) (L.received link.new) (turn.arrival ∷ []) × Brings cluster turn.arrival turn.letter
+        × GivesNext (C.left clock.old) (C.left clock.new) turn.now
+        × Passed M.does
+        (at member.old (D.told disk.old) post.old.number post.old.clients.items (K.taken sink.old) (L.sent link.old))
+        (at member.new (D.told disk.new) post.new.number post.new.clients.items (K.taken sink.new) (L.sent link.new))
+        (events_of last turn)) }
+    ensures cut { OnErr result ((turn : Turn) × Grows (L.received link.old) (L.received link.new) (turn.arrival ∷ [])
+        × Begins cluster turn.arrival turn.letter × Cut M.does
+        (at member.old (D.told disk.old) post.old.number post.old.clients.items (K.taken sink.old) (L.sent link.old))
+        (events_of last turn) (K.taken sink.new) (L.sent link.new)) }
+{
+    arrive(alloc, cluster, member, disk, sink, link, post)?;
+    let now = clock.now();
+    beat(alloc, member, disk, sink, link, post, last, now)
+}
+
+/// Puts out what came first, and then does so many turns.
+#[tactic(auto, using(crate::proofs::Ending::rose_later, crate::proofs::Ending::causes_none))]
+pub fn serve<M: Member, D: SectorDisk, K: Sink, L: Link, C: Clock>(
+    alloc: Global,
+    cluster: u64,
+    member: &mut M,
+    first: Outbox,
+    disk: &mut D,
+    link: &mut L,
+    clock: &mut C,
+    sink: &mut K,
+    turns: u64,
+) -> Result<(), Stop>
+    requires { M.runs member.old ≡ true }
+    ensures running { OnOk result (M.runs member.new ≡ true) }
+    ensures causes { HasCauses (counts (D.faults disk.old) (K.faults sink.old) (L.faults link.old)) (counts (D.faults disk.new) (K.faults sink.new) (L.faults link.new)) result }
+    ensures done { OnOk result (IsServed M.does cluster turns first member.old member.new (D.told disk.old) (D.told disk.new) (C.left clock.old) (C.left clock.new) (L.received link.old) (L.received link.new) (K.taken sink.old) (K.taken sink.new) (L.sent link.old) (L.sent link.new)) }
+    ensures cut { OnErr result (IsCutBefore first (L.received link.old) (L.received link.new) (K.taken sink.old) (K.taken sink.new) (L.sent link.old) (L.sent link.new)
+        ⊎ IsCutInTurn M.does cluster turns first member.old (D.told disk.old) (L.received link.old) (L.received link.new) (K.taken sink.old) (K.taken sink.new) (L.sent link.old) (L.sent link.new)) }
+{
+    let mut post = Post::new(alloc)?;
+    post.put_out(sink, link, first)?;
+    let mut last = clock.now();
+    for _ in 0..turns {
+        last = turn(
+            alloc, cluster, member, disk, sink, link, clock, &mut post, last,
+        )?;
+    }
+    Ok(())
+}

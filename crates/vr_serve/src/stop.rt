@@ -1,0 +1,62 @@
+//! Why the loop ended before its turns were done.
+ghost use Rattle.std.specs.Prelude.{◌≡◌};
+ghost use Rattle.vr_serve.specs.declared.stop.Stop.TheVariants as stop;
+
+use crate::Halt;
+use std::alloc::AllocError;
+use vr_edge::WriteFailed;
+use vr_mail::ReceiveFault;
+
+/// Why the loop ended before its turns were done.
+#[derive(Clone, Copy, Debug, PartialEq, Eq)]
+pub enum Stop {
+    /// A write or a sync of the disk failed.
+    Disk,
+    /// A receive failed.
+    Link,
+    /// The sink failed.
+    Write,
+    NoMemory,
+}
+
+impl From<Halt> for Stop {
+    ghost use Rattle.vr_serve.specs.Causes.{stop_of};
+
+    ghost from_gives = { λ h e. e ≡ stop_of h };
+
+    fn from(halt: Halt) -> Stop {
+        match halt {
+            Halt::Disk => Stop::Disk,
+            Halt::NoMemory => Stop::NoMemory,
+        }
+    }
+}
+
+impl From<ReceiveFault> for Stop {
+    ghost use Rattle.vr_serve.specs.Causes.{received_stop};
+
+    ghost from_gives = { λ f e. e ≡ received_stop f };
+
+    fn from(fault: ReceiveFault) -> Stop {
+        match fault {
+            ReceiveFault::Link => Stop::Link,
+            ReceiveFault::NoMemory => Stop::NoMemory,
+        }
+    }
+}
+
+impl From<WriteFailed> for Stop {
+    ghost from_gives = { λ _ e. e ≡ stop.Write };
+
+    fn from(_failed: WriteFailed) -> Stop {
+        Stop::Write
+    }
+}
+
+impl From<AllocError> for Stop {
+    ghost from_gives = { λ _ e. e ≡ stop.NoMemory };
+
+    fn from(_error: AllocError) -> Stop {
+        Stop::NoMemory
+    }
+}

@@ -1,0 +1,149 @@
+-- What the words of a command line ask for.
+use Rattle.std.specs.Prelude.{ℕ, List, length, map, Bool, false, ◌&&◌, ◌==◌, nat_le, if◌then◌else◌, Option, Some, None, option_and_then, codes, String, string_bytes}
+use Rattle.std.specs.Borrow.{Bor}
+use Rattle.std.specs.Global.{Global}
+use Rattle.std.specs.Option.{option_map, option_map_or}
+use Rattle.std.specs.Str.{bytes_eq}
+use Rattle.clap.specs.Words.{Row, Text, all_of, fault_of, first_of, subcommand_of}
+use Rattle.vr_sched.specs.Numbers.{number_below, number_of}
+use Rattle.vr_words.specs.Forms.{the_command}
+use Rattle.vr_words.specs.declared.asked.ClientTexts.{ClientTexts}
+use Rattle.vr_words.specs.declared.asked.NodeTexts.{NodeTexts}
+use Rattle.vr_words.specs.declared.command.ClientWords.{ClientWords}
+use Rattle.vr_words.specs.declared.command.Command.{Command}
+use Rattle.vr_words.specs.declared.command.Command.TheVariants as command
+use Rattle.vr_words.specs.declared.command.NodeWords.{NodeWords}
+use Rattle.vr_words.specs.declared.command.SoakWords.{SoakWords}
+
+pub record NodeAsked : Type 0 where
+  pub cluster : ℕ
+  pub replica : ℕ
+  pub file : Text
+  pub turns : ℕ
+  pub peers : List Text
+  pub is_fresh : Bool
+
+pub record ClientAsked : Type 0 where
+  pub cluster : ℕ
+  pub id : ℕ
+  pub turns : ℕ
+  pub peers : List Text
+
+pub data Asked : Type 0 where
+  Replay : Asked
+  Soak : SoakWords → Asked
+  Node : NodeAsked → Asked
+  Client : ClientAsked → Asked
+
+-- what a command of the program asks for
+abbrev pub node_says : NodeWords → NodeAsked
+node_says w = record {
+  cluster = w.cluster;
+  replica = w.replica;
+  file = string_bytes w.file;
+  turns = w.turns;
+  peers = map string_bytes w.peers.items;
+  is_fresh = w.is_fresh;
+}
+
+abbrev pub client_says : ClientWords → ClientAsked
+client_says w = record { cluster = w.cluster; id = w.id; turns = w.turns; peers = map string_bytes w.peers.items }
+
+abbrev pub says : Command → Asked
+says command.Replay = Replay
+says (command.Soak w) = Soak w
+says (command.Node w) = Node (node_says w)
+says (command.Client w) = Client (client_says w)
+
+-- the texts behind references
+abbrev pub texts_now : List (Bor Text) → List Text
+texts_now texts = map (λ text. text.now) texts
+
+-- what the values of a command say, as they stand on the command line
+abbrev pub node_texts_say : NodeTexts → NodeAsked
+node_texts_say t = record {
+  cluster = t.cluster;
+  replica = t.replica;
+  file = t.file.now;
+  turns = t.turns;
+  peers = texts_now t.peers.now;
+  is_fresh = t.is_fresh;
+}
+
+abbrev pub client_texts_say : ClientTexts → ClientAsked
+client_texts_say t = record { cluster = t.cluster; id = t.id; turns = t.turns; peers = texts_now t.peers.now }
+
+-- the number of an argument: decimal digits without sign or leading zeros, below 2 ^ 64
+abbrev pub number_at : Text → List Row → Option ℕ
+number_at id rows = option_and_then number_of (first_of id rows)
+
+-- the same below a bound
+abbrev pub below_at : ℕ → Text → List Row → Option ℕ
+below_at bound id rows = option_and_then (number_below bound) (first_of id rows)
+
+-- a group has so many members
+abbrev pub is_size : ℕ → Bool
+is_size n = nat_le 2 n && nat_le n 6
+
+-- from 2 to 6 addresses
+unfoldable pub peers_at : List Row → Option (List Text)
+peers_at rows = option_and_then (λ peers. if is_size (length peers) then Some peers else None) (all_of (codes "addr") rows)
+
+-- whether the flag stands there
+unfoldable pub fresh_at : List Row → Bool
+fresh_at rows = option_map_or (λ text. bytes_eq text (codes "true")) (first_of (codes "fresh") rows) false
+
+unfoldable pub soak_at : List Row → Option SoakWords
+soak_at rows =
+    option_and_then
+    (λ seed. option_map (λ count. record { seed = seed; count = count }) (below_at 1000000 (codes "count") rows))
+    (number_at (codes "seed") rows)
+
+-- a member of so many peers
+unfoldable pub member_at : List Text → List Row → Option NodeAsked
+member_at peers rows =
+    option_and_then
+    (λ cluster. option_and_then
+    (λ replica. option_and_then
+    (λ file. option_map
+    (λ turns. record { cluster = cluster; replica = replica; file = file; turns = turns; peers = peers; is_fresh = fresh_at rows })
+    (number_at (codes "turns") rows))
+    (first_of (codes "file") rows))
+    (below_at (length peers) (codes "replica") rows))
+    (number_at (codes "cluster") rows)
+
+unfoldable pub node_at : List Row → Option NodeAsked
+node_at rows = option_and_then (λ peers. member_at peers rows) (peers_at rows)
+
+-- a number that isn't 0
+unfoldable pub id_at : List Row → Option ℕ
+id_at rows = option_and_then (λ id. if id == 0 then None else Some id) (number_at (codes "id") rows)
+
+unfoldable pub asker_at : List Text → List Row → Option ClientAsked
+asker_at peers rows =
+    option_and_then
+    (λ cluster. option_and_then
+    (λ id. option_map (λ turns. record { cluster = cluster; id = id; turns = turns; peers = peers }) (number_at (codes "turns") rows))
+    (id_at rows))
+    (number_at (codes "cluster") rows)
+
+unfoldable pub client_at : List Row → Option ClientAsked
+client_at rows = option_and_then (λ peers. asker_at peers rows) (peers_at rows)
+
+-- what a command with these values asks for
+unfoldable pub asked_at : Text → List Row → Option Asked
+asked_at name rows =
+    if bytes_eq name (codes "replay") then Some Replay
+    else (if bytes_eq name (codes "soak") then option_map Soak (soak_at rows)
+    else (if bytes_eq name (codes "node") then option_map Node (node_at rows)
+    else (if bytes_eq name (codes "client") then option_map Client (client_at rows)
+    else None)))
+
+-- clap finds no fault in the words
+abbrev pub is_taken : List Text → Bool
+is_taken words = length (fault_of the_command words) == 0
+
+-- what the words ask for; None where they aren't one of the forms
+unfoldable pub asked : List Text → Option Asked
+asked words =
+    if is_taken words then option_and_then (λ p. asked_at p.0 p.1) (subcommand_of the_command words) else None

@@ -1,0 +1,210 @@
+//! What the values of a command say.
+ghost use Rattle.std.specs.Prelude.{◌≡◌, ◌≤◌, IfOk, IfSome, codes, length, map, string_bytes, true};
+ghost use Rattle.std.specs.Option.{option_map};
+ghost use Rattle.clap.specs.Words.{all_of, first_of, found_of, rows_of};
+ghost use Rattle.vr_words.specs.Asked.{asker_at, below_at, client_at, client_says, client_texts_say, fresh_at, id_at, is_size, member_at, node_at, node_says, node_texts_say, number_at, peers_at, soak_at, texts_now};
+
+use crate::command::{ClientWords, NodeWords, SoakWords};
+use clap::ArgMatches;
+use std::alloc::{AllocError, Global};
+use vr_sched::{read_below, read_number};
+
+/// The text of an argument.
+#[tactic(auto, using(crate::proofs::Rows::first_in_rows))]
+fn text_at<'a>(matches: &ArgMatches<'a>, id: &str) -> Option<&'a str>
+    ensures { option_map (λ text. text.now) result ≡ first_of id.now (rows_of (found_of matches.now)) }
+{
+    matches.get_str(id)
+}
+
+/// The number of an argument.
+fn number_at(matches: &ArgMatches<'_>, id: &str) -> Option<u64>
+    ensures { result ≡ number_at id.now (rows_of (found_of matches.now)) }
+{
+    read_number(text_at(matches, id)?.as_bytes())
+}
+
+/// The number of an argument, below a bound.
+fn below_at(matches: &ArgMatches<'_>, bound: u64, id: &str) -> Option<u64>
+    ensures { result ≡ below_at bound id.now (rows_of (found_of matches.now)) }
+{
+    read_below(bound, text_at(matches, id)?.as_bytes())
+}
+
+/// All values of the argument for addresses.
+#[tactic(auto, using(crate::proofs::Rows::all_in_rows))]
+fn all_at<'m, 'a>(matches: &'m ArgMatches<'a>) -> Option<&'m [&'a str]>
+    ensures { option_map (λ texts. texts_now texts.now) result ≡ all_of (codes "addr") (rows_of (found_of matches.now)) }
+{
+    matches.get_raw("addr")
+}
+
+/// Whether a group has so many members.
+fn is_size(n: usize) -> bool
+    ensures value { result ≡ is_size n }
+    ensures few { result ≡ true → n ≤ 6 }
+{
+    n >= 2 && n <= 6
+}
+
+/// The addresses, as they stand on the command line.
+#[tactic(auto, using(std::proofs::lemmas::Grind::common_steps, crate::proofs::Rows::texts_length), unfolding(crate::specs::Asked::peers_at))]
+fn peers_at<'m, 'a>(matches: &'m ArgMatches<'a>) -> Option<&'m [&'a str]>
+    ensures peers { option_map (λ texts. texts_now texts.now) result ≡ peers_at (rows_of (found_of matches.now)) }
+    ensures few { IfSome result (λ peers. length peers.now ≤ 6) }
+{
+    let peers = all_at(matches)?;
+    if is_size(peers.len()) {
+        Some(peers)
+    } else {
+        None
+    }
+}
+
+/// Whether the member is made anew.
+#[tactic(auto, unfolding(crate::specs::Asked::fresh_at))]
+fn fresh_at(matches: &ArgMatches<'_>) -> bool
+    ensures { result ≡ fresh_at (rows_of (found_of matches.now)) }
+{
+    match text_at(matches, "fresh") {
+        Some(text) => text == "true",
+        None => false,
+    }
+}
+
+/// The values of `soak`.
+#[tactic(auto, unfolding(crate::specs::Asked::soak_at))]
+pub fn soak_at(matches: &ArgMatches<'_>) -> Option<SoakWords>
+    ensures { result ≡ soak_at (rows_of (found_of matches.now)) }
+{
+    let seed = number_at(matches, "seed")?;
+    let count = below_at(matches, 1_000_000, "count")? as u32;
+    Some(SoakWords { seed, count })
+}
+
+/// The client of a group, which isn't 0.
+#[tactic(auto, unfolding(crate::specs::Asked::id_at))]
+fn id_at(matches: &ArgMatches<'_>) -> Option<u64>
+    ensures { result ≡ id_at (rows_of (found_of matches.now)) }
+{
+    let id = number_at(matches, "id")?;
+    if id == 0 { None } else { Some(id) }
+}
+
+/// The values of `node`, as they stand on the command line.
+#[derive(Clone, Copy)]
+struct NodeTexts<'m, 'a> {
+    cluster: u64,
+    replica: u8,
+    file: &'a str,
+    turns: u64,
+    peers: &'m [&'a str],
+    is_fresh: bool,
+}
+
+/// The values of `client`, as they stand on the command line.
+#[derive(Clone, Copy)]
+struct ClientTexts<'m, 'a> {
+    cluster: u64,
+    id: u64,
+    turns: u64,
+    peers: &'m [&'a str],
+}
+
+/// The values of `node` beside the addresses.
+#[tactic(auto, using(std::proofs::lemmas::Grind::common_steps, crate::proofs::Rows::texts_length), unfolding(crate::specs::Asked::member_at))]
+fn member_at<'m, 'a>(matches: &ArgMatches<'a>, peers: &'m [&'a str]) -> Option<NodeTexts<'m, 'a>>
+    requires { length peers.now ≤ 6 }
+    ensures { option_map node_texts_say result ≡ member_at (texts_now peers.now) (rows_of (found_of matches.now)) }
+{
+    let cluster = number_at(matches, "cluster")?;
+    let replica = below_at(matches, peers.len() as u64, "replica")? as u8;
+    let file = text_at(matches, "file")?;
+    let turns = number_at(matches, "turns")?;
+    Some(NodeTexts {
+        cluster,
+        replica,
+        file,
+        turns,
+        peers,
+        is_fresh: fresh_at(matches),
+    })
+}
+
+/// The values of `client` beside the addresses.
+#[tactic(auto, unfolding(crate::specs::Asked::asker_at))]
+fn asker_at<'m, 'a>(matches: &ArgMatches<'a>, peers: &'m [&'a str]) -> Option<ClientTexts<'m, 'a>>
+    ensures { option_map client_texts_say result ≡ asker_at (texts_now peers.now) (rows_of (found_of matches.now)) }
+{
+    let cluster = number_at(matches, "cluster")?;
+    let id = id_at(matches)?;
+    let turns = number_at(matches, "turns")?;
+    Some(ClientTexts {
+        cluster,
+        id,
+        turns,
+        peers,
+    })
+}
+
+/// Texts of one's own.
+#[tactic(auto, using(std::proofs::lemmas::Grind::common_steps, crate::proofs::Rows::copied_more))]
+fn copied(alloc: Global, texts: &[&str]) -> Result<Vec<String>, AllocError>
+    ensures { IfOk result (λ copies. map string_bytes copies.items ≡ texts_now texts.now) }
+{
+    let mut copies = Vec::new(alloc);
+    for text in texts {
+        copies.push(String::from_str(alloc, text)?)?;
+    }
+    Ok(copies)
+}
+
+/// The values of `node`, where they are in range.
+#[tactic(auto, unfolding(crate::specs::Asked::node_at))]
+fn node_texts<'m, 'a>(matches: &'m ArgMatches<'a>) -> Option<NodeTexts<'m, 'a>>
+    ensures { option_map node_texts_say result ≡ node_at (rows_of (found_of matches.now)) }
+{
+    let peers = peers_at(matches)?;
+    member_at(matches, peers)
+}
+
+/// The values of `client`, where they are in range.
+#[tactic(auto, unfolding(crate::specs::Asked::client_at))]
+fn client_texts<'m, 'a>(matches: &'m ArgMatches<'a>) -> Option<ClientTexts<'m, 'a>>
+    ensures { option_map client_texts_say result ≡ client_at (rows_of (found_of matches.now)) }
+{
+    let peers = peers_at(matches)?;
+    asker_at(matches, peers)
+}
+
+/// The same with texts of one's own.
+pub fn node_at(alloc: Global, matches: &ArgMatches<'_>) -> Result<Option<NodeWords>, AllocError>
+    ensures { IfOk result (λ words. option_map node_says words ≡ node_at (rows_of (found_of matches.now))) }
+{
+    let Some(texts) = node_texts(matches) else {
+        return Ok(None);
+    };
+    Ok(Some(NodeWords {
+        cluster: texts.cluster,
+        replica: texts.replica,
+        file: String::from_str(alloc, texts.file)?,
+        turns: texts.turns,
+        peers: copied(alloc, texts.peers)?,
+        is_fresh: texts.is_fresh,
+    }))
+}
+
+/// The same with texts of one's own.
+pub fn client_at(alloc: Global, matches: &ArgMatches<'_>) -> Result<Option<ClientWords>, AllocError>
+    ensures { IfOk result (λ words. option_map client_says words ≡ client_at (rows_of (found_of matches.now))) }
+{
+    let Some(texts) = client_texts(matches) else {
+        return Ok(None);
+    };
+    Ok(Some(ClientWords {
+        cluster: texts.cluster,
+        id: texts.id,
+        turns: texts.turns,
+        peers: copied(alloc, texts.peers)?,
+    }))
+}

@@ -1,0 +1,50 @@
+//! What a command line asks for.
+
+/// Why words are no command.
+#[derive(Clone, Copy, Debug, PartialEq, Eq)]
+pub enum WordsFault {
+    /// They aren't one of the forms, or a number or a count is out of its range.
+    Usage,
+    NoMemory,
+}
+
+/// `soak SEED COUNT`.
+#[derive(Clone, Copy, Debug, PartialEq, Eq)]
+pub struct SoakWords {
+    pub seed: u64,
+    /// At most 999,999.
+    pub count: u32,
+}
+
+/// `node CLUSTER REPLICA FILE TURNS ADDR..`, with `--fresh` or not.
+#[derive(Debug, Drop, PartialEq, Eq)]
+pub struct NodeWords {
+    pub cluster: u64,
+    /// Below the number of peers.
+    pub replica: u8,
+    pub file: String,
+    pub turns: u64,
+    /// From 2 to 6 addresses.
+    pub peers: Vec<String>,
+    pub is_fresh: bool,
+}
+
+/// `client CLUSTER ID TURNS ADDR..`.
+#[derive(Debug, Drop, PartialEq, Eq)]
+pub struct ClientWords {
+    pub cluster: u64,
+    /// Not 0.
+    pub id: u64,
+    pub turns: u64,
+    /// From 2 to 6 addresses.
+    pub peers: Vec<String>,
+}
+
+/// A command.
+#[derive(Debug, Drop, PartialEq, Eq)]
+pub enum Command {
+    Replay,
+    Soak(SoakWords),
+    Node(NodeWords),
+    Client(ClientWords),
+}

@@ -1,0 +1,10 @@
+//! The command line: which of the four commands its words are, with their numbers, texts and addresses.
+#![tactic(auto)]
+
+mod asked;
+mod command;
+mod forms;
+mod reading;
+
+pub use command::{ClientWords, Command, NodeWords, SoakWords, WordsFault};
+pub use reading::parse;
