@@ -336,10 +336,12 @@ module _ (u : Setup) (fits : Fits u) (hash : u.hash ≡ lying.hash) (g : group.G
       let p = leaves x.script (local m) in
       let k : Local = keeping v x (carried x.script (local m)) in
       let q = leaves y.script k in
-      let found : k.member ≡ once_mended v d m = ap (keeps_all (group.found v d)) p.member in
-      (c.finishes.after, ends_chained u g s bridge fit at (opening_script v d) s (begun_same u s at (opening_script v d)) y.replica (carried_out y.script (once_mended v d m)) (carried y.script k) c.finishes.after c.finishes.ends
-      (q.member ∙ ap (carried_out y.script) found) (q.made ∙ (ap (λ (hs : List Header). hs ++ made_in y.script) p.made ∙ sym (made_append x.script y.script)))
-      (q.said ∙ (ap (λ (os : List Output). os ++ outputs y.script) p.said ∙ sym (outputs_append x.script y.script))) c.tables)
+      let found : k.member ≡ once_mended v d m = ap (keeps_all (group.found v d)) p.member in (
+        c.finishes.after,
+        ends_chained u g s bridge fit at (opening_script v d) s (begun_same u s at (opening_script v d)) y.replica (carried_out y.script (once_mended v d m)) (carried y.script k) c.finishes.after c.finishes.ends
+            (q.member ∙ ap (carried_out y.script) found) (q.made ∙ (ap (λ (hs : List Header). hs ++ made_in y.script) p.made ∙ sym (made_append x.script y.script)))
+            (q.said ∙ (ap (λ (os : List Output). os ++ outputs y.script) p.said ∙ sym (outputs_append x.script y.script))) c.tables,
+      )
 
   starts_cut_so : (at : ℕ) (m : group.Member) (v : Saved) (d : Lying) (k : ℕ) → Opens g at m v d → ReadsWell lying d → (z : Group Header) × Chained u s z (group.start_cut g at m v d k)
   starts_cut_so at m v d k o reads =
@@ -381,4 +383,4 @@ runs_so u fits hash g s _ fit h (group.goes _ move moved later m rest) bridge =
     let one = All-head (λ (p : Played). IsFitMove p.move) p later h in
     let z = moves_so u fits hash g s fit bridge move moved one m in
     let next = groups_fit.each u.cluster g move moved fit one m in
-    (z.0, (z.1, runs_so u fits hash moved.group z.0 later next (All-tail (λ (p : Played). IsFitMove p.move) p later h) rest z.1.bridges))
+    (z.0, z.1, runs_so u fits hash moved.group z.0 later next (All-tail (λ (p : Played). IsFitMove p.move) p later h) rest z.1.bridges)
