@@ -3,6 +3,7 @@ use Rattle.std.specs.Prelude.{ℕ, ◌≡◌, ◌⊎◌, ⊤, List, [], ◌∷�
 use Rattle.vr_header.specs.declared.header.Header.{Header}
 use Rattle.vr_msg.specs.declared.output.Sent.{Sent}
 use Rattle.vr_rules.specs.Replica.{Replica}
+use Rattle.vr_rules.specs.Lying.{lying}
 use Rattle.vr_rules.specs.Group as group
 use Rattle.vr_rules.specs.Group.{Moved, Played, made_in}
 use Rattle.vr_protocol.specs.Basics.{In}
@@ -11,7 +12,7 @@ use Rattle.vr_protocol.specs.Members.{Choice, Memory, Message}
 use Rattle.vr_safe.specs.Reflecting.{IsDisk, KeepsStored, Reflects}
 use Rattle.vr_safe.specs.Chains.{Setup, IsReached, Every, WasMade, WasSent}
 use Rattle.vr_safe.specs.Finished.{IsSaid, IsTrue}
-use Rattle.vr_safe.specs.Tables.{HasTables}
+use Rattle.vr_safe.specs.Tables.{Fits, HasTables}
 
 -- a running replica is what a memory of the machine says, what it has stored is kept, and its tables are true
 pub record IsRunning (u : Setup) (s : Group Header) (i : ℕ) (m : group.Member) (r : Replica) : Type 0 where
@@ -50,3 +51,17 @@ pub record Chained (u : Setup) (s a : Group Header) (moved : Moved) : Type 0 whe
 abbrev pub Follows : Setup → Group Header → List Played → Type 0
 Follows u s [] = ⊤
 Follows u s (p ∷ ps) = (a : Group Header) × Chained u s a p.moved × Follows u a ps
+
+-- A run of a group that was just made, from a group of the machine on in which nothing was sent or made; with the names of the program
+-- and the quorums of its size.
+pub record FollowsFresh (cluster n : ℕ) (run : List Played) : Type 0 where
+  pub setup : Setup
+  pub fits : Fits setup
+  pub hash_is : setup.hash ≡ lying.hash
+  pub cluster_is : setup.cluster ≡ cluster
+  pub size_is : setup.quorums.n ≡ n
+  pub first : Group Header
+  pub bridges : Bridges setup (group.fresh_group cluster n) first
+  pub none_sent : first.sent ≡ []
+  pub none_made : first.made ≡ []
+  pub follows : Follows setup first run
