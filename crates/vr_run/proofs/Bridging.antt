@@ -1,6 +1,6 @@
 -- Each move of a group is a chain of the machine's moves.
-use Rattle.std.proofs.Common.{ℕ, zero, suc, ◌+◌, ◌-◌, ◌%◌, ◌≤◌, ◌<◌, ◌≡◌, ◌≢◌, ◌∙◌, ◌⊎◌, inl, inr, arith, refl, sym, ap, subst, Bool, true, false, cond, List, [], ◌∷◌, ◌++◌, length, take, Option, Some, None}
-use Rattle.std.specs.Prelude.{All, Contains, nat_lt, slice_get, slice_set}
+use Rattle.std.proofs.Common.{ℕ, zero, suc, ◌+◌, ◌-◌, ◌%◌, ◌≤◌, ◌≡◌, ◌≢◌, ◌∙◌, ◌⊎◌, inl, inr, arith, refl, sym, ap, subst, Bool, List, [], ◌∷◌, ◌++◌, length, take, Some, None}
+use Rattle.std.specs.Prelude.{All, slice_get, slice_set}
 use Rattle.std.proofs.lemmas.Bool.{cases_lt, le-ltb, lt-ltb}
 use Rattle.std.proofs.lemmas.List.{append_assoc, drop_all, take_all, take-append-le}
 use Rattle.std.proofs.Math.Seq.{take-append-add}
@@ -10,12 +10,10 @@ use Rattle.vr_header.specs.Made.{Whole}
 use Rattle.vr_msg.specs.declared.event.Event.{Event}
 use Rattle.vr_msg.specs.declared.output.Output.{Output}
 use Rattle.vr_msg.specs.declared.output.Output.TheVariants as output
-use Rattle.vr_msg.specs.declared.output.Sent.{Sent}
 use Rattle.vr_super.specs.Copies.{Saved}
 use Rattle.vr_rules.specs.Replica.{Replica}
 use Rattle.vr_rules.specs.Steps.{Effect, Write, outputs}
 use Rattle.vr_rules.specs.Lying.{Lying, lying}
-use Rattle.vr_rules.specs.Opening.{blank, mending}
 use Rattle.vr_rules.specs.World.{messages}
 use Rattle.vr_rules.specs.Group as group
 use Rattle.vr_rules.specs.Group.{Arrival, Asked, Message, Time, IsArrival, MayOpen, Move, Moved, Moves, Opens, Played, Run, carried_out, cut_after, cut_in_two, keeps_all, made_in, mended, once_mended, opening_script, resumed, stepped, with_script}
@@ -33,9 +31,9 @@ use Rattle.vr_protocol.specs.Members as machine
 use Rattle.vr_protocol.specs.Members.{Choice}
 use Rattle.vr_safe.specs.Local.{Local, carried, WhereverCut}
 use Rattle.vr_safe.specs.Reflecting.{IsDisk, KeepsStored}
-use Rattle.vr_safe.specs.Chains.{Setup, IsReached, Every, Mid, Stopped, WasMade, WasSent}
+use Rattle.vr_safe.specs.Chains.{Setup, IsReached, Every, Mid, Stopped, WasMade}
 use Rattle.vr_safe.specs.Finished.{Finished, IsSaid, IsTrue}
-use Rattle.vr_safe.specs.Tables.{Fits, HasTables, HasVouchedAt, Tables}
+use Rattle.vr_safe.specs.Tables.{Fits, HasTables, HasVouchedAt}
 use Rattle.vr_safe.specs.Begins.{Begins, IsChain, as_it_was, one_made, with_made}
 use Rattle.vr_safe.specs.Openings.{MayBegin, keeping}
 use Rattle.vr_safe.specs.Laws.{MayArrive}

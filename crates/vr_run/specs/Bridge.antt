@@ -1,5 +1,5 @@
 -- How the machine's group stands for a group of the rules, and what of it a move carries on.
-use Rattle.std.specs.Prelude.{ℕ, ◌≡◌, ◌⊎◌, ⊤, List, [], ◌∷◌, All, slice_get, Option, Some, None}
+use Rattle.std.specs.Prelude.{ℕ, ◌≡◌, ◌⊎◌, ⊤, List, [], ◌∷◌, All, slice_get, Some, None}
 use Rattle.vr_header.specs.declared.header.Header.{Header}
 use Rattle.vr_msg.specs.declared.output.Sent.{Sent}
 use Rattle.vr_rules.specs.Replica.{Replica}
