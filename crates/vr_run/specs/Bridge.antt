@@ -1,0 +1,67 @@
+-- How the machine's group stands for a group of the rules, and what of it a move carries on.
+use Rattle.std.specs.Prelude.{ℕ, ◌≡◌, ◌⊎◌, ⊤, List, [], ◌∷◌, All, slice_get, Some, None}
+use Rattle.vr_header.specs.declared.header.Header.{Header}
+use Rattle.vr_msg.specs.declared.output.Sent.{Sent}
+use Rattle.vr_rules.specs.Replica.{Replica}
+use Rattle.vr_rules.specs.Lying.{lying}
+use Rattle.vr_rules.specs.Group as group
+use Rattle.vr_rules.specs.Group.{Moved, Played, made_in}
+use Rattle.vr_protocol.specs.Basics.{In}
+use Rattle.vr_protocol.specs.Group.{Group, Made}
+use Rattle.vr_protocol.specs.Members.{Choice, Memory, Message}
+use Rattle.vr_safe.specs.Reflecting.{IsDisk, KeepsStored, Reflects}
+use Rattle.vr_safe.specs.Chains.{Setup, IsReached, Every, WasMade, WasSent}
+use Rattle.vr_safe.specs.Finished.{IsSaid, IsTrue}
+use Rattle.vr_safe.specs.Tables.{Fits, HasTables}
+
+-- a running replica is what a memory of the machine says, what it has stored is kept, and its tables are true
+pub record IsRunning (u : Setup) (s : Group Header) (i : ℕ) (m : group.Member) (r : Replica) : Type 0 where
+  pub memory : Memory Header
+  pub running : (s.members i).memory ≡ Some memory
+  pub reflects : Reflects r memory
+  pub stored : KeepsStored r m
+  pub tables : HasTables u s i r
+
+pub record IsMember (u : Setup) (s : Group Header) (i : ℕ) (m : group.Member) : Type 0 where
+  pub disk : IsDisk m (s.members i)
+  pub running : (r : Replica) → m.replica ≡ Some r → IsRunning u s i m r
+  pub stopped : m.replica ≡ None → (s.members i).memory ≡ None
+
+abbrev pub IsSent : Setup → Group Header → Sent → Type 0
+IsSent u s w = WasSent u s.sent w.message
+
+-- the machine's group stands for the group: each member for its member, and what was sent and made was so in the machine
+pub record Bridges (u : Setup) (g : group.Group) (s : Group Header) : Type 0 where
+  pub reached : IsReached u s
+  pub size : g.n ≡ u.quorums.n
+  pub members : (i : ℕ) (m : group.Member) → slice_get g.members i ≡ Some m → IsMember u s i m
+  pub sent : All (IsSent u s) g.sent
+  pub made : All (WasMade s.made) g.made
+
+-- What a move leaves: nothing is taken back, what was put out is true, and nothing else was sent or made.
+pub record Chained (u : Setup) (s a : Group Header) (moved : Moved) : Type 0 where
+  pub bridges : Bridges u moved.group a
+  pub sent : (m : Message Header) → In m s.sent → In m a.sent
+  pub chosen : (c : Choice Header) → In c s.chosen → In c a.chosen
+  pub told : Every (IsTrue u s.sent a.sent) moved.outputs
+  pub only : (m : Message Header) → In m a.sent → In m s.sent ⊎ IsSaid u moved.outputs m
+  pub made : (x : Made Header) → In x a.made → In x s.made ⊎ In x.entry (made_in moved.script)
+
+-- a run, move by move
+abbrev pub Follows : Setup → Group Header → List Played → Type 0
+Follows u s [] = ⊤
+Follows u s (p ∷ ps) = (a : Group Header) × Chained u s a p.moved × Follows u a ps
+
+-- A run of a group that was just made, from a group of the machine on in which nothing was sent or made; with the names of the program
+-- and the quorums of its size.
+pub record FollowsFresh (cluster n : ℕ) (run : List Played) : Type 0 where
+  pub setup : Setup
+  pub fits : Fits setup
+  pub hash_is : setup.hash ≡ lying.hash
+  pub cluster_is : setup.cluster ≡ cluster
+  pub size_is : setup.quorums.n ≡ n
+  pub first : Group Header
+  pub bridges : Bridges setup (group.fresh_group cluster n) first
+  pub none_sent : first.sent ≡ []
+  pub none_made : first.made ≡ []
+  pub follows : Follows setup first run

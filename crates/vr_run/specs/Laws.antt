@@ -1,0 +1,27 @@
+-- Every move, and every run, of a group is one of the machine.
+use Rattle.std.specs.Prelude.{ℕ, ◌^◌, ◌<◌, ◌≤◌, ◌≡◌, List, All}
+use Rattle.vr_header.specs.declared.header.Header.{Header}
+use Rattle.vr_rules.specs.Lying.{lying}
+use Rattle.vr_rules.specs.Group as group
+use Rattle.vr_rules.specs.Group.{Move, Moved, Moves, Played, Run, fresh_group}
+use Rattle.vr_rules.specs.GroupFit.{IsFitGroup, IsFitMove}
+use Rattle.vr_protocol.specs.Group.{Group}
+use Rattle.vr_safe.specs.Chains.{Setup}
+use Rattle.vr_safe.specs.Tables.{Fits}
+use Rattle.vr_run.specs.Bridge.{Bridges, Chained, Follows, FollowsFresh}
+
+-- of a fit group, as every one of a run from a fresh one is, with the program's names and the quorums of its size
+abbrev pub MovesAreChains : Type 0
+MovesAreChains =
+    (u : Setup) (g : group.Group) (s : Group Header) (move : Move) (moved : Moved) → Fits u → u.hash ≡ lying.hash → IsFitGroup u.cluster g → IsFitMove move → Moves g move moved → Bridges u g s
+    → (a : Group Header) × Chained u s a moved
+
+abbrev pub RunsAreChains : Type 0
+RunsAreChains =
+    (u : Setup) (g : group.Group) (s : Group Header) (run : List Played) → Fits u → u.hash ≡ lying.hash → IsFitGroup u.cluster g → All (λ p. IsFitMove p.move) run → Run g run → Bridges u g s
+    → Follows u s run
+
+-- and so is every one of a group that was just made
+abbrev pub FreshRunsAreChains : Type 0
+FreshRunsAreChains =
+    (cluster n : ℕ) (run : List Played) → cluster < 2 ^ 64 → 2 ≤ n → n ≤ 6 → All (λ p. IsFitMove p.move) run → Run (fresh_group cluster n) run → FollowsFresh cluster n run
