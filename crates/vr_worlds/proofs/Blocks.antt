@@ -49,7 +49,7 @@ unfolding header_bytes named_bytes block_header
 header_long c =
     let h = block_header c in
     let ps = field_bytes h in
-    let w : total (widths ps) ≡ 112 = rw (length-name_of, length-bytes64, length-bytes64, length-bytes32, length-bytes32, length-bytes64, length-bytes64, length-bytes32, length-bytes64) refl in
+    let w : total (widths ps) ≡ 112 = rw (length-name_of, length-bytes64, length-bytes64, length-bytes32, length-bytes32, length-bytes64, length-bytes64) refl in
     let all = length-append (name_of (joined ps)) (joined ps) in
     let name = length-name_of (joined ps) in
     let rest = length-joined ps in

@@ -174,10 +174,10 @@ gathers f size (name ∷ names) face h =
       | Some b ↦ λ e. record { named = (All-head IsGoodName name names h, rest.named); text = IsBytes-append b (text_of more.payloads) (data_are f name (min size 3968) b face e) rest.text }
     ] refl
 
-pub record LoadsWell (texts : Texts) (table : Table) : Type 0 where
+pub record LoadsWell (texts : Texts) (t : Table) : Type 0 where
   pub sessions : IsBytes texts.sessions
   pub keys : IsBytes texts.keys
-  pub table : TableNamed table
+  pub table : TableNamed t
 
 load_well : (s k : Gathered) (ns : List Name) (texts : Texts) (table : Table) → Gathers s → Gathers k → load_of s k ns ≡ Loaded texts table → LoadsWell texts table
 load_well s k (n ∷ ns) texts table a b e = absurd cc

@@ -200,7 +200,7 @@ b_each w (x ∷ xs) h = b_then (w x) (each w xs) (h x) (b_each w xs h)
 
 pub b_save : Stocking save
 unfolding save does change ◌⨾◌
-b_save = record { chained = c_save; each = λ n i r d a k. record { blocks = (tt, tt); stock = a.stock } }
+b_save = record { chained = c_save; each = λ n i r d a k. record { blocks = (tt, tt); stock = record { sessions = a.stock.sessions; machine = a.stock.machine; old_sessions = a.stock.old_sessions; old_keys = a.stock.old_keys } } }
 
 pub b_write : (e : Whole) → Stocking (write e)
 unfolding write does change ◌⨾◌ forgetting with_part

@@ -29,12 +29,12 @@ use Rattle.vr_msg.specs.declared.request.RequestFields.{RequestFields}
 use Rattle.vr_sess.specs.declared.session.SessionAnswer.{SessionAnswer}
 use Rattle.vr_sess.specs.declared.session.SessionAnswer.TheVariants as answer
 use Rattle.vr_rules.specs.Replica.{Replica, header_at, forgetting, with_part}
-use Rattle.vr_rules.specs.Steps.{PutBlock, ◌⨾◌, quiet, change, does}
+use Rattle.vr_rules.specs.Steps.{PutBlock, ◌⨾◌, by, quiet, change, does}
 use Rattle.vr_rules.specs.Outputs.{commit_message, prepare, start_line, start_view_change}
 use Rattle.vr_rules.specs.declared.asker.Asker.{Asker}
 use Rattle.vr_rules.specs.Words.{load, rested, speak}
 use Rattle.vr_rules.specs.Lying.{Lying, lying}
-use Rattle.vr_rules.specs.Deciding.{Hash, is_wanted, session_answer}
+use Rattle.vr_rules.specs.Deciding.{Hash, first_of, get_block_table, give_block_table, is_wanted, session_answer}
 use Rattle.vr_rules.specs.declared.rule.Rule.{Rule}
 use Rattle.vr_rules.specs.declared.rule.Rule.TheVariants.{Redirected, Behind, Answered, Full, Made, PreparedLater, Past, Beyond, Known, Next, Ahead, Other, Counted, CommitLater, CommitHeard, ChangeLater, ChangeHeard, ChangeDone, StatedLate, Stated, Taken, ViewGiven, EntryGiven, EntryTaken, BlockGiven, BlockTaken, TickedPrimary, TickedBackup, TickedChanging}
 use Rattle.vr_rules.specs.Rules as rules
@@ -205,8 +205,12 @@ r_message (frame.StartView v) given = b_naming _ (λ hash. b_by _ (λ r. r_view 
 r_message (frame.GetView g) given = b_by _ (λ r. r_get_view g _)
 r_message (frame.GetPrepare g) given = b_naming _ (λ hash. b_by _ (λ r. r_get_prepare g _))
 r_message (frame.GivePrepare g) given = b_by _ (λ r. r_give_prepare g _)
-r_message (frame.GetBlock g) given = b_reading (rules.block_at (rules.asked_block g)) _ (λ o. c_by _ (λ r. c_obey_get_block g o _)) (λ d f. b_by _ (λ r. r_get_block g (lying.block d (rules.asked_block g)) _ (λ b e. block_are d.face (rules.asked_block g) b f e)))
-r_message (frame.GiveBlock g) given = b_reading rules.test_of _ (λ t. c_by _ (λ r. c_obey_give_block t g _)) (λ d f. b_by _ (λ r. r_give_block g _ given))
+r_message (frame.GetBlock g) given =
+    b_reading (rules.block_at (rules.asked_block g)) (λ o. by (λ r. rules.obey_get_block g o (first_of (get_block_table (is_some o) g r)))) (λ o. c_by _ (λ r. c_obey_get_block g o (first_of (get_block_table (is_some o) g r))))
+    (λ d f. b_by _ (λ r. r_get_block g (lying.block d (rules.asked_block g)) (first_of (get_block_table (is_some (lying.block d (rules.asked_block g))) g r)) (λ b e. block_are d.face (rules.asked_block g) b f e)))
+r_message (frame.GiveBlock g) given =
+    b_reading rules.test_of (λ t. by (λ r. rules.obey_give_block t g (first_of (give_block_table t g r)))) (λ t. c_by _ (λ r. c_obey_give_block t g (first_of (give_block_table t g r))))
+    (λ d f. b_by _ (λ r. r_give_block g (first_of (give_block_table lying.is_block g r)) given))
 
 r_event : (e : Event) → IsGivenEvent e → Stocking (rules.on_event e)
 unfolding rules.on_tick

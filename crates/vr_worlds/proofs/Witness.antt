@@ -12,7 +12,7 @@ use Rattle.vr_rules.specs.Lying.{Lying, hazards}
 use Rattle.vr_rules.specs.World.{Fuses, Stops, Ticks, World, fresh_host, fresh_world}
 use Rattle.vr_rules.specs.Deciding.{first_of}
 use Rattle.vr_worlds.specs.Laws.{SomeScheduleMay}
-use Rattle.vr_worlds.specs.Worlds.{IsHashed, IsHashedCut, Work, WritesBlocks, stepping, work_of}
+use Rattle.vr_worlds.specs.Worlds.{IsHashed, IsHashedCut, Work, stepping, work_of}
 
 abbrev start : World Lying
 start = fresh_world hazards 2
