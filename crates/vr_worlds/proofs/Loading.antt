@@ -18,7 +18,6 @@ use Rattle.vr_ckpt.specs.Places.{is_place, root_place}
 use Rattle.vr_ckpt.specs.declared.found.Load.TheVariants.{Loaded, Missing}
 use Rattle.vr_ckpt.specs.declared.loading.Gathered.{Gathered}
 use Rattle.vr_ckpt.specs.declared.root.Root.{Root}
-
 use Rattle.std.specs.List.{AllByRecursion}
 use Rattle.std.proofs.Common.{sym, ap, ◌∙◌}
 use Rattle.vr_base.proofs.AreBytes.{IsBytes-append, IsBytes-none}

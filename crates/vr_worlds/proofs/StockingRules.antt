@@ -39,7 +39,6 @@ use Rattle.vr_rules.specs.declared.rule.Rule.{Rule}
 use Rattle.vr_rules.specs.declared.rule.Rule.TheVariants.{Redirected, Behind, Answered, Full, Made, PreparedLater, Past, Beyond, Known, Next, Ahead, Other, Counted, CommitLater, CommitHeard, ChangeLater, ChangeHeard, ChangeDone, StatedLate, Stated, Taken, ViewGiven, EntryGiven, EntryTaken, BlockGiven, BlockTaken, TickedPrimary, TickedBackup, TickedChanging}
 use Rattle.vr_rules.specs.Rules as rules
 use Rattle.vr_rules.specs.Opening.{announce, heard_itself, in_next_view, leave_view, resuming}
-
 use Rattle.std.proofs.Common.{ap, false, subst, cond, ◌<◌}
 use Rattle.std.specs.Prelude.{is_some}
 use Rattle.vr_base.specs.Bytes.{IsBytes}
@@ -221,7 +220,6 @@ r_event event.Tick given = b_by _ (λ r. r_tick _)
 pub b_react : (e : Event) → IsGivenEvent e → Stocking (rules.react e)
 unfolding rules.react
 b_react e given = b_by _ (λ r. b_when _ _ (r_event e given))
-
 
 -- ---- an opening, after what it mends and finds
 
