@@ -12,7 +12,7 @@ use Rattle.vr_rules.specs.Lying.{Lying, hazards}
 use Rattle.vr_rules.specs.World.{Fuses, Stops, Ticks, World, fresh_host, fresh_world}
 use Rattle.vr_rules.specs.Deciding.{first_of}
 use Rattle.vr_worlds.specs.Laws.{SomeScheduleMay}
-use Rattle.vr_worlds.specs.Worlds.{IsHashed, IsHashedCut, Work, WritesBlocks, stepping, work_of}
+use Rattle.vr_worlds.specs.Worlds.{IsHashed, IsHashedCut, Work, stepping, work_of}
 
 abbrev start : World Lying
 start = fresh_world hazards 2
@@ -37,15 +37,9 @@ none_hashed b (inr (inl h)) = let bad : None ≡ Some h.0 = h.1 in absurd cc
 none_hashed b (inr (inr (inl h))) = let bad : None ≡ Some h.0 = h.1 in absurd cc
 none_hashed b (inr (inr (inr h))) = h
 
--- the primary tells the other one of its commit number
-tick_blocks : AllByRecursion WritesBlocks (stepping event.Tick (fresh_host hazards 2 0) (fresh 0 2 0)).script
-unfolding ◌⨾◌ by says change quiet naming first_of blank head send_to_all rules.react rules.on_tick words.ask words.ask_peer
-tick_blocks = (tt, tt)
-
 pub some_schedule_may : SomeScheduleMay
 some_schedule_may = record {
   lines = (tt, (tt, (tt, tt)));
   names = λ a b p q same. absurd (none_hashed a p);
   unforged = (tt, (tt, (tt, tt)));
-  blocks = (λ k e. subst (λ (k : Work). AllByRecursion WritesBlocks k.script) (work_same k e) tick_blocks, (λ k e. (let bad : None ≡ Some k = e in absurd cc), (λ k e. (let bad : None ≡ Some k = e in absurd cc), tt)));
 }
