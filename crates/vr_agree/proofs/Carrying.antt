@@ -19,7 +19,7 @@ use Rattle.vr_msg.specs.Logs.{IsStatement}
 use Rattle.vr_protocol.specs.Members as machine
 use Rattle.vr_rules.specs.Group.{Played, made_in}
 use Rattle.vr_agree.specs.Picked.{IsChosenBy}
-use Rattle.vr_rules.specs.Laws.{IsPresentFrame, IsPresentOutput}
+use Rattle.vr_rules.specs.Laws.{IsEvent, IsPresentFrame, IsPresentOutput}
 use Rattle.vr_rules.specs.Replica.{Replica}
 use Rattle.vr_rules.specs.Steps.{Write}
 use Rattle.vr_protocol.specs.Basics.{In}
@@ -126,14 +126,14 @@ pub record IsMadeFrom (u : Setup) (chosen : List (machine.Choice Header)) (e : E
   pub of_heard : (j : ℕ) → made.heard j ≡ told_if (heard_from l.view e r j)
   pub of_log : (k : ℕ) → made.log k ≡ named (all_heard l.view e r) k
 
-pub choice_line : (u : Setup) (chosen : List (machine.Choice Header)) (p : Played) (e : Event) (r : Replica) (l : Chosen) → actor p l.replica ≡ Some r → event_of p.move ≡ Some e → r.n ≡ u.quorums.n → All (IsStatement u.cluster) (all_heard l.view e r)
+pub choice_line : (u : Setup) (chosen : List (machine.Choice Header)) (p : Played) (e : Event) (r : Replica) (l : Chosen) → actor p l.replica ≡ Some r → event_of p.move ≡ Some e → r.n ≡ u.quorums.n → r.cluster ≡ u.cluster → IsEvent e
     → IsChosenBy e r l → IsMadeFrom u chosen e r l → IsChoiceLine u chosen p l
-choice_line u chosen p e r l is_of by_event size statements c m = record {
+choice_line u chosen p e r l is_of by_event size group came c m = record {
   replica = r;
   is_of = is_of;
   event = e;
   by_event = by_event;
-  statements = statements;
+  statements = subst (λ k. All (IsStatement k) (all_heard l.view e r)) group (c.statements came);
   sizes = c.sizes;
   sizes_are = ap quorums_of (sym size) ∙ c.sizes_are;
   headers = c.headers;

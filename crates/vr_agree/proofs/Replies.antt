@@ -118,7 +118,7 @@ changed_have log g h at m same have own j m' r runs free =
     ]
 
 -- a move of the run
-move_of : (g : Group) (ps : List Played) → Run g ps → (k : ℕ) (p : Played) → slice_get ps k ≡ Some p → Moves p.before p.move p.moved
+pub move_of : (g : Group) (ps : List Played) → Run g ps → (k : ℕ) (p : Played) → slice_get ps k ≡ Some p → Moves p.before p.move p.moved
 move_of _ _ (ended g) k p e = absurd cc
 move_of _ _ (goes g move moved later moves rest) zero p e =
     let s : record { before = g; move = move; moved = moved } ≡ p = (let o : Some (record { before = g; move = move; moved = moved }) ≡ Some p = e in cc) in

@@ -14,7 +14,7 @@ use Rattle.vr_agree.specs.Answering.{one_if, HasState, lines, Lined, IsTold, Tol
 
 -- ---- lists of outputs
 
-lines_append : (i : ℕ) (a b : List Output) → lines i (a ++ b) ≡ lines i a + lines i b
+pub lines_append : (i : ℕ) (a b : List Output) → lines i (a ++ b) ≡ lines i a + lines i b
 unfolding lines
 lines_append i [] b = omega arith
 lines_append i (o ∷ a) b = let e = lines_append i a b in omega arith

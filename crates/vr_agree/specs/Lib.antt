@@ -3,3 +3,4 @@ pub mod Answering
 pub mod Replied
 pub mod Picked
 pub mod Laws
+pub mod Written

@@ -2,6 +2,7 @@
 #![tactic(auto)]
 
 ghost use Rattle.vr_agree.specs.Laws.{FollowedRunsAreSafe, OpeningsReplyNothing, StepsAnswer, StepsChoose};
+ghost use Rattle.vr_agree.specs.Written.{RunsWriteGood};
 
 /// A run that the machine follows is safe.
 pub fn followed_runs_are_safe()
@@ -21,4 +22,9 @@ pub fn steps_choose<F>()
 /// An opening replies nothing.
 pub fn openings_reply_nothing<F>()
     ensures { OpeningsReplyNothing F }
+{}
+
+/// Each entry that is written in a run has the values of the program, also in a move that is cut.
+pub fn runs_write_good()
+    ensures { RunsWriteGood }
 {}
