@@ -34,7 +34,8 @@ use Rattle.vr_rules.specs.Safe.{IsHashed, actor, all_heard, event_of, heard_from
 use Rattle.vr_agree.specs.Followed.{IsCarried, IsChoiceLine, IsFrom, IsGoodEntry, IsSo, told_if}
 use Rattle.vr_agree.specs.Replied.{IsServed}
 use Rattle.vr_agree.proofs.Machine.{number_is}
-use Rattle.vr_agree.proofs.Traces.{every_in, in_contains}
+use Rattle.vr_agree.proofs.Traces.{every_in}
+use Rattle.vr_agree.proofs.Sets.{in_contains}
 
 every_of : {X : Type 0} (P : X → Type 0) (xs : List X) → ((x : X) → In x xs → P x) → Every P xs
 every_of P [] f = tt
@@ -100,9 +101,8 @@ module _ (cluster : ℕ) (u : Setup) (run : List Played) (before after : Group H
     so output.KeptOut j t h = tt
 
     -- a step
-    pub carried_is : ((z : Made Header) → In z after.made → In z before.made ⊎ In z.entry (made_in p.moved.script)) → ((again : Bool) (e : Whole) → In (Write again e) p.moved.script → IsGoodEntry e)
-        → IsCarried cluster u run before after p
-    carried_is made written =
+    pub carried_is : ((z : Made Header) → In z after.made → In z before.made ⊎ In z.entry (made_in p.moved.script)) → IsCarried cluster u run before after p
+    carried_is made =
         let told : Every (IsTrue u before.sent after.sent) p.moved.outputs = subst (Every (IsTrue u before.sent after.sent)) said x.told in
         record {
           sent = x.kept;
@@ -111,7 +111,6 @@ module _ (cluster : ℕ) (u : Setup) (run : List Played) (before after : Group H
               (All-contains (IsPresentOutput MayAsk r q) p.moved.outputs o present (in_contains p.moved.outputs o j)));
           only = λ m h. elim (x.only m h) [ inl old ↦ inl old | inr new ↦ inr (subst (λ os. IsSaid u os m) said new) ];
           made = made;
-          written = written;
         }
 
 -- ---- choose lines: the rules' half is a law of every step (steps_choose); the machine's half is asked for

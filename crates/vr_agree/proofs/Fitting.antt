@@ -12,7 +12,7 @@ use Rattle.vr_rules.specs.Opening.{blank, opening}
 use Rattle.vr_rules.specs.Lying.{Lying, lying}
 use Rattle.vr_rules.specs.Laws.{IsEvent}
 use Rattle.vr_rules.specs.Fit.{IsFit, MayCome, ReadsWell}
-use Rattle.vr_rules.specs.Group.{Member, Group, Arrival, Asked, Message, Time, Move, Moved, Moves, Played, Run, fresh_group, IsArrival, MayOpen, opening_script, stepped}
+use Rattle.vr_rules.specs.Group.{Member, Group, Arrival, Asked, Message, Time, Move, Moved, Moves, Played, Run, ended, goes, fresh_group, IsArrival, MayOpen, opening_script, stepped}
 use Rattle.vr_rules.specs.Group as group
 use Rattle.vr_rules.specs.GroupFit.{IsFitReplica, IsFitValue, IsFitMember, IsFitGroup, IsFitArrival, IsFitMove, IsFitPlayed}
 use Rattle.vr_rules.proofs.Halves.{in_two, opening_in_two}
@@ -22,10 +22,17 @@ use Rattle.vr_rules.proofs.FitOpening.{openings_fit}
 use Rattle.vr_rules.proofs.FitDisks.{disks_fit}
 use Rattle.vr_rules.proofs.FitGroups.{groups_fit}
 use Rattle.vr_protocol.specs.Basics.{In}
-use Rattle.vr_agree.specs.Followed.{IsGoodEntry}
-use Rattle.vr_agree.specs.Written.{WritesGood, IsFitRun}
-use Rattle.vr_agree.proofs.Replies.{move_of}
-use Rattle.vr_agree.proofs.Traces.{in_contains}
+use Rattle.vr_agree.proofs.Sets.{in_contains}
+use Rattle.vr_agree.specs.Followed.{IsFitRun, IsGoodEntry}
+use Rattle.vr_agree.specs.Written.{WritesGood}
+
+-- a move of the run
+pub move_of : (g : Group) (ps : List Played) → Run g ps → (k : ℕ) (p : Played) → slice_get ps k ≡ Some p → Moves p.before p.move p.moved
+move_of _ _ (ended g) k p e = absurd cc
+move_of _ _ (goes g move moved later moves rest) zero p e =
+    let s : record { before = g; move = move; moved = moved } ≡ p = (let o : Some (record { before = g; move = move; moved = moved }) ≡ Some p = e in cc) in
+    subst (λ (p : Played). Moves p.before p.move p.moved) s moves
+move_of _ _ (goes g move moved later moves rest) (suc k) p e = move_of moved.group later rest k p e
 
 pub good_whole : (e : Whole) → IsWhole e → IsGoodEntry e
 good_whole e h = record { header = h.header; body = h.entry.body; operation = h.operation }
@@ -52,7 +59,7 @@ step_fit r e d h m k = (steps_fit lying d r e disks_fit.lies disks_fit.roots k h
 opening_fit : (c n i : ℕ) (v : Saved) (d : Lying) → IsFitValue c n i v → ReadsWell lying d → All IsFit (opening_script v d)
 opening_fit c n i v d g k = subst (λ (x : Step). All IsFit x.script) (opening_in_two v d) (openings_fit lying d v disks_fit.lies disks_fit.roots k g.0).each
 
-good_value : (c n i : ℕ) (m : Member) (v : Saved) → IsFitMember c n i m → MayOpen m v → IsFitValue c n i v
+pub good_value : (c n i : ℕ) (m : Member) (v : Saved) → IsFitMember c n i m → MayOpen m v → IsFitValue c n i v
 good_value c n i m v h (inl e) = subst (IsFitValue c n i) e h.last
 good_value c n i m v h (inr e) = h.under v e
 

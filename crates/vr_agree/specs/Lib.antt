@@ -4,3 +4,4 @@ pub mod Replied
 pub mod Picked
 pub mod Laws
 pub mod Written
+pub mod Ordered
