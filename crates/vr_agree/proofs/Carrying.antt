@@ -1,5 +1,5 @@
 -- A step that is a chain of the machine's moves gives what is asked of a move of the run, but for what is named here.
-use Rattle.std.proofs.Common.{ℕ, ◌≡◌, ◌∙◌, ◌⊎◌, inl, inr, arith, refl, sym, ap, subst, Bool, List, [], ◌∷◌, Some}
+use Rattle.std.proofs.Common.{ℕ, ◌≡◌, ◌∙◌, ◌⊎◌, inl, inr, arith, refl, sym, ap, subst, List, [], ◌∷◌, Some}
 use Rattle.std.specs.Prelude.{All}
 use Rattle.std.proofs.lemmas.List.Elements.{All-contains}
 use Rattle.vr_header.specs.declared.header.Header.{Header}
@@ -21,7 +21,6 @@ use Rattle.vr_rules.specs.Group.{Played, made_in}
 use Rattle.vr_agree.specs.Picked.{IsChosenBy}
 use Rattle.vr_rules.specs.Laws.{IsEvent, IsPresentFrame, IsPresentOutput}
 use Rattle.vr_rules.specs.Replica.{Replica}
-use Rattle.vr_rules.specs.Steps.{Write}
 use Rattle.vr_protocol.specs.Basics.{In}
 use Rattle.vr_protocol.specs.Group.{Group, Made}
 use Rattle.vr_protocol.specs.Laws as law

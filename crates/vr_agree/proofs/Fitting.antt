@@ -1,27 +1,25 @@
 -- Every move of a run of a group writes good entries.
-use Rattle.std.proofs.Common.{ℕ, zero, suc, ◌^◌, ◌<◌, ◌≡◌, inl, inr, ◌+◌, refl, sym, subst, Bool, List, [], ◌∷◌, ◌++◌, take, Some, None}
+use Rattle.std.proofs.Common.{ℕ, zero, suc, ◌≡◌, inl, inr, ◌+◌, subst, List, [], ◌∷◌, Some}
 use Rattle.std.specs.Prelude.{All, slice_get}
-use Rattle.std.proofs.lemmas.List.Elements.{All-nil, All-cons, All-head, All-tail, All-take, All-contains}
+use Rattle.std.proofs.lemmas.List.Elements.{All-nil, All-head, All-tail, All-take, All-contains}
 use Rattle.vr_header.specs.Made.{Whole}
 use Rattle.vr_rings.specs.Slots.{IsWhole}
 use Rattle.vr_msg.specs.declared.event.Event.{Event}
 use Rattle.vr_super.specs.Copies.{Saved}
 use Rattle.vr_rules.specs.Replica.{Replica}
 use Rattle.vr_rules.specs.Steps.{Effect, Write, Step}
-use Rattle.vr_rules.specs.Opening.{blank, opening}
 use Rattle.vr_rules.specs.Lying.{Lying, lying}
 use Rattle.vr_rules.specs.Laws.{IsEvent}
 use Rattle.vr_rules.specs.Fit.{IsFit, MayCome, ReadsWell}
 use Rattle.vr_rules.specs.Group.{Member, Group, Arrival, Asked, Message, Time, Move, Moved, Moves, Played, Run, ended, goes, fresh_group, IsArrival, MayOpen, opening_script, stepped}
 use Rattle.vr_rules.specs.Group as group
 use Rattle.vr_rules.specs.GroupFit.{IsFitReplica, IsFitValue, IsFitMember, IsFitGroup, IsFitArrival, IsFitMove, IsFitPlayed}
-use Rattle.vr_rules.proofs.Halves.{in_two, opening_in_two}
+use Rattle.vr_rules.proofs.Halves.{opening_in_two}
 use Rattle.vr_rules.proofs.FitMessages.{asked_may_come}
 use Rattle.vr_rules.proofs.FitSteps.{steps_fit}
 use Rattle.vr_rules.proofs.FitOpening.{openings_fit}
 use Rattle.vr_rules.proofs.FitDisks.{disks_fit}
 use Rattle.vr_rules.proofs.FitGroups.{groups_fit}
-use Rattle.vr_protocol.specs.Basics.{In}
 use Rattle.vr_agree.proofs.Sets.{in_contains}
 use Rattle.vr_agree.specs.Followed.{IsFitRun, IsGoodEntry}
 use Rattle.vr_agree.specs.Written.{WritesGood}

@@ -1,5 +1,5 @@
 -- The commit lines of each rule come in order.
-use Rattle.std.proofs.Common.{ℕ, ◌+◌, ◌-◌, ◌^◌, ◌<◌, ◌≤◌, ◌≡◌, ◌≢◌, ◌∙◌, arith, refl, sym, ap, subst, Bool, true, false, cond, List, [], ◌∷◌, length, map, min, max, Option, Some, None}
+use Rattle.std.proofs.Common.{ℕ, ◌+◌, ◌-◌, ◌^◌, ◌≤◌, ◌≡◌, ◌≢◌, arith, refl, Bool, true, false, cond, List, [], map, min, max, Option, Some, None}
 use Rattle.std.specs.Prelude.{nat_lt, nat_le, not, is_some, ◌&&◌}
 use Rattle.std.specs.List.{find, prefix_len}
 use Rattle.std.proofs.lemmas.List.FromFn.{length-range_with_len}

@@ -17,11 +17,11 @@ use Rattle.vr_msg.specs.declared.output.Output.{Output}
 use Rattle.vr_msg.specs.declared.output.Output.TheVariants as output
 use Rattle.vr_msg.specs.Logs.{header_of}
 use Rattle.vr_grid.specs.declared.name.Name.{Name}
-use Rattle.vr_rules.specs.Outputs.{kind_of, replies, asker_of, commit_line, applied_reply, send, send_to, send_to_all, others, to_primary, prepare, prepare_ok, start_view_change, get_block, get_prepare}
+use Rattle.vr_rules.specs.Outputs.{kind_of, replies, asker_of, commit_line, applied_reply, send, send_to_all, others, to_primary, prepare, prepare_ok, start_view_change, get_block, get_prepare}
 use Rattle.vr_rules.specs.Replica.{Replica, leads, part_at, with_part, forgetting, last_view, is_primary, is_started, is_here}
 use Rattle.vr_rules.specs.Sound.{IsSound}
 use Rattle.vr_rules.specs.Steps.{Effect, Say, Setting, Step, Word, ◌⨾◌, quiet, change, does, says, by, naming, reading, when, times, each, outputs, after_all}
-use Rattle.vr_rules.specs.Words.{Log, rested, entered, enter, saves, with_saved, save, writes, stored, write, accept, entry_of, lost, or_lost, with_entry, with_entry_at, applied, checkpoints, with_checkpoint, checkpoint_of, make_checkpoint, is_checkpoint, apply_entry, is_loaded, apply_next, apply, advanced, advance, learned, learn, taken, take as take_over, prepare_again, resend, turned, ask_peer, ask_for, ask, least_absent, load, loads, checkpoint_at}
+use Rattle.vr_rules.specs.Words.{Log, rested, entered, enter, saves, with_saved, save, writes, stored, write, accept, entry_of, lost, or_lost, with_entry, with_entry_at, applied, checkpoints, with_checkpoint, checkpoint_of, make_checkpoint, is_checkpoint, apply_entry, is_loaded, apply_next, apply, taken, take as take_over, prepare_again, resend, turned, ask_peer, ask_for, ask, least_absent, load, loads, checkpoint_at}
 use Rattle.vr_rules.specs.Commitment.{is_line_of}
 use Rattle.vr_rules.proofs.SendsScripts.{outputs_append, outputs_said}
 use Rattle.vr_rules.proofs.Combining.{KeptBy, Keeps}

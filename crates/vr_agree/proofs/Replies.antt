@@ -26,8 +26,7 @@ use Rattle.vr_safe.specs.Chains.{Setup}
 use Rattle.vr_rules.specs.Commitment.{IsReplyOf, is_line_of, lines_by}
 use Rattle.vr_rules.specs.Safe.{IsHashed, IsTrueReply}
 use Rattle.vr_agree.specs.Followed.{IsFollowed, IsSo}
-use Rattle.vr_agree.specs.Answering.{one_if, HasState, lines, IsLined, Lined, IsTold, Told, Leaves}
-use Rattle.vr_agree.specs.Ordered.{AreInOrder, IsInOrder}
+use Rattle.vr_agree.specs.Answering.{one_if, HasState, lines, IsTold, Told, Leaves}
 use Rattle.vr_agree.specs.Replied.{IsReplied, IsServed}
 use Rattle.vr_agree.proofs.Fitting.{arrives, fit_at, good_value, move_of}
 use Rattle.vr_agree.proofs.Orders.{in_order_lined}

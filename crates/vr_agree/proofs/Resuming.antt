@@ -1,5 +1,5 @@
 -- An opening keeps the state of the log past its load.
-use Rattle.std.proofs.Common.{ℕ, ◌≡◌, ◌∙◌, ◌⊎◌, inl, inr, refl, sym, ap, subst, Bool, true, false, cond, List, [], ◌∷◌, ◌++◌, Some}
+use Rattle.std.proofs.Common.{◌≡◌, ◌∙◌, refl, sym, subst, Bool, true, false, cond, List, [], ◌++◌, Some}
 use Rattle.std.specs.Prelude.{nat_lt, nat_le, not, slice_get, ◌||◌, ◌-◌}
 use Rattle.std.proofs.lemmas.Bool.{true≢false}
 use Rattle.vr_header.specs.Made.{Whole}
@@ -8,14 +8,14 @@ use Rattle.vr_msg.specs.declared.output.Output.{Output}
 use Rattle.vr_msg.specs.declared.output.Output.TheVariants as output
 use Rattle.vr_super.specs.Copies.{Saved, IsGood}
 use Rattle.vr_rules.specs.Fit.{ReadsWell}
-use Rattle.vr_rules.specs.Group.{mended, recovered, resumed, opening_script}
+use Rattle.vr_rules.specs.Group.{mended, recovered, resumed}
 use Rattle.vr_rules.specs.Lying.{Lying, lying}
-use Rattle.vr_rules.specs.Opening.{announce, blank, going_on, heard_itself, in_next_view, leave_view, recover_parts, resuming}
+use Rattle.vr_rules.specs.Opening.{announce, going_on, heard_itself, in_next_view, leave_view}
 use Rattle.vr_rules.specs.Outputs.{send_to_all, start_line, start_view_change}
 use Rattle.vr_rules.specs.Replica.{Replica, is_frozen, is_spent, is_started, last_view, leads}
 use Rattle.vr_rules.specs.Sound.{IsSound}
-use Rattle.vr_rules.specs.Steps.{Effect, Mend, Setting, Step, Word, ◌⨾◌, by, change, does, quiet, says, when, outputs, after_all}
-use Rattle.vr_rules.specs.Words.{apply, load, save}
+use Rattle.vr_rules.specs.Steps.{Effect, Mend, Setting, Word, ◌⨾◌, by, change, does, quiet, says, when, outputs, after_all}
+use Rattle.vr_rules.specs.Words.{apply, load}
 use Rattle.vr_rules.proofs.Combining.{Keeps, keeps_then, keeps_by, keeps_change, keeps_when}
 use Rattle.vr_rules.proofs.FitOpening.{headers_of}
 use Rattle.vr_rules.proofs.Openings as opening

@@ -1,6 +1,6 @@
 -- What the machine of small moves gives of a run of a group: for each move of the run a chain of the machine's, at whose end all that
 -- was put out is so, and nothing else was sent, made or chosen. It is what a run of the machine gives for what is said of its outputs.
-use Rattle.std.specs.Prelude.{ℕ, suc, ◌^◌, ◌<◌, ◌≤◌, ◌≡◌, ◌⊎◌, ⊤, Bool, List, [], length, All, slice_get, Option, Some, None}
+use Rattle.std.specs.Prelude.{ℕ, suc, ◌^◌, ◌<◌, ◌≤◌, ◌≡◌, ◌⊎◌, ⊤, List, [], length, All, slice_get, Option, Some, None}
 use Rattle.vr_base.specs.Bytes.{name_of}
 use Rattle.vr_header.specs.declared.header.Header.{Header}
 use Rattle.vr_header.specs.Bodies.{IsOperation, operation_bytes}

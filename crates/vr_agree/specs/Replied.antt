@@ -1,6 +1,6 @@
 -- What the run of a group gives beside, for its replies: of steps, that commit numbers are backed; and that a checkpoint that is loaded
 -- is that of the log.
-use Rattle.std.specs.Prelude.{ℕ, ◌+◌, ◌-◌, ◌<◌, ◌≤◌, ◌≡◌, ⊤, false, List, [], ◌∷◌, length, slice_get, Some}
+use Rattle.std.specs.Prelude.{ℕ, ◌-◌, ◌<◌, ◌≤◌, ◌≡◌, false, List, length, slice_get, Some}
 use Rattle.vr_header.specs.declared.header.Header.{Header}
 use Rattle.vr_header.specs.Made.{Whole}
 use Rattle.vr_msg.specs.declared.event.Event.{Event}
