@@ -1,5 +1,5 @@
 //! The value with which a member begins.
-ghost use Rattle.std.specs.Prelude.{◌≡◌, ◌<◌, IfOk, is_some, true};
+ghost use Rattle.std.specs.Prelude.{◌≡◌, ◌<◌, ◌^◌, IfOk, is_some, true};
 ghost use Rattle.vr_base.specs.Groups.{quorums_of};
 ghost use Rattle.vr_rules.specs.Opening.{first_value};
 
@@ -8,8 +8,11 @@ use vr_base::{Config, NoMemory, Seq, Sum};
 use vr_super::{Fields, Super};
 
 // Its numbers.
-fn first_fields(config: &Config) -> Fields
-    ensures { result ≡ (first_value config.now.cluster config.now.n config.now.replica).fields }
+fn first_fields(config: Config) -> Fields
+    ensures value { result ≡ (first_value config.cluster config.n config.replica).fields }
+    ensures cluster { config.cluster < 2 ^ 64 }
+    ensures replica { config.replica < 256 }
+    ensures n { config.n < 256 }
 {
     Fields {
         sequence: 1,
@@ -33,5 +36,5 @@ pub fn first_value(alloc: Global, config: &Config) -> Result<Super, NoMemory>
     requires member { config.now.replica < config.now.n }
     ensures { IfOk result (λ v. v ≡ first_value config.now.cluster config.now.n config.now.replica) }
 {
-    Super::new(alloc, first_fields(config), Seq::new(alloc))
+    Super::new(alloc, first_fields(*config), Seq::new(alloc))
 }

@@ -16,7 +16,7 @@ use vr_super::Super;
 
 /// Writes zeros to all prepares.
 #[tactic(auto, using(crate::proofs::Calls::zeros_begin, crate::proofs::Calls::zeros_go, crate::proofs::Calls::zeros_stop, crate::proofs::Calls::zeros_end))]
-fn zero_prepares<D: SectorDisk>(disk: &mut D) -> Result<(), DiskFailed>
+fn write_zeros<D: SectorDisk>(disk: &mut D) -> Result<(), DiskFailed>
     ensures runs { Runs zero_prepares (D.told disk.old) (D.told disk.new) (is_ok result) }
     ensures cause { HasCause (D.faults disk.old) (D.faults disk.new) result }
 {
@@ -90,7 +90,7 @@ pub fn format<D: SectorDisk>(disk: &mut D, config: &Config, value: &Super) -> Re
     ensures runs { Runs (format_calls config.now.cluster config.now.n config.now.replica) (D.told disk.old) (D.told disk.new) (is_ok result) }
     ensures cause { HasCause (D.faults disk.old) (D.faults disk.new) result }
 {
-    zero_prepares(disk)?;
+    write_zeros(disk)?;
     reserve_all(disk, config.cluster)?;
     disk.sync()?;
     vr_super::write_copies(disk, value)

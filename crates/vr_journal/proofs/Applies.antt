@@ -8,8 +8,7 @@ use Rattle.vr_apply.specs.Folds as state
 use Rattle.vr_disk.specs.DiskState.{Disk}
 use Rattle.vr_header.specs.declared.header.Header.{Header}
 use Rattle.vr_header.specs.Made.{Whole, IsEntry}
-use Rattle.vr_model.specs.Words as model
-use Rattle.vr_model.proofs.Sessions.{reply_numbered}
+use Rattle.vr_rules.proofs.Replying.{reply_numbered}
 use Rattle.vr_msg.specs.Asking.{IsReplyKind}
 use Rattle.vr_msg.specs.declared.output.Output.{Output}
 use Rattle.vr_msg.specs.declared.output.Output.TheVariants as output
@@ -21,16 +20,10 @@ use Rattle.vr_step.specs.Does.{Does}
 use Rattle.vr_journal.specs.Ready.{MayApply, due}
 use Rattle.vr_step.proofs.Stepping.{says_by_then, change_by_then, does_by, does_quiet}
 
-kind_same : (b : ReplyBody) → model.kind_of b ≡ kind_of b
-kind_same (body.Outcome outcome op) = refl
-kind_same body.Old = refl
-kind_same body.Gap = refl
-kind_same body.Evicted = refl
-
 -- what is replied has a number that a reply may carry
 pub reply_fits : (r : Replica) (t : State) (e : Whole) (b : ReplyBody) → t ≡ r.state → MayApply r → IsEntry e → b ≡ (state.applied t e).reply → IsReplyKind (kind_of b)
 unfolding MayApply
-reply_fits r t e b s m n i = rw (i, s) (subst IsReplyKind (kind_same (state.applied r.state e).reply) (reply_numbered r.state e m.ready.numbers n.header.op.1))
+reply_fits r t e b s m n i = rw (i, s) (reply_numbered r.state e m.ready.sound.numbers n.header.op.1)
 
 -- the lines of an applied entry, as they are put out of the replica with the new state
 pub said_applied : (r : Replica) (t : State) (e : Whole) (h : Header) (b : ReplyBody) (o o1 o2 : List Output) → h ≡ e.header → b ≡ (state.applied r.state e).reply

@@ -10,7 +10,6 @@ use Rattle.vr_ckpt.specs.declared.table.Table.{Table}
 use Rattle.vr_ckpt.specs.Loads.{loaded}
 use Rattle.vr_disk.specs.DiskState.{Disk}
 use Rattle.vr_grid.specs.declared.name.Name.{Name}
-use Rattle.vr_model.specs.Sound.{HaveNumbers}
 use Rattle.vr_msg.specs.declared.output.Output.{Output}
 use Rattle.vr_table.specs.declared.fault.StateFault.{StateFault}
 use Rattle.vr_table.specs.declared.fault.StateFault.TheVariants as fault
@@ -22,7 +21,7 @@ use Rattle.vr_rules.proofs.SavesWell.{savable_alike}
 use Rattle.vr_rules.proofs.Wording.{kept_loads}
 use Rattle.vr_step.specs.Does.{Does, Finds}
 use Rattle.vr_step.proofs.Stepping.{does_by, does_quiet, does_reading, change_by}
-use Rattle.vr_journal.specs.Ready.{IsReady, MayLoad, TextsHaveNumbers, Decodes, NotDecoded}
+use Rattle.vr_journal.specs.Ready.{IsReady, MayLoad, Decodes, NotDecoded}
 
 pub ready_opened : (r : Replica) → MayLoad r → IsReady r
 unfolding MayLoad
@@ -51,15 +50,6 @@ pub load_none : (r : Replica) (d : Option Disk) (o : List Output) → nat_lt 0 r
 unfolding load
 load_none r d o t = does_by _ r r d d o o (Ok tt) (rw t (does_quiet r d o))
 
-loaded_numbers : (root : Name) (table : Table) (r : Replica) (t : Texts) (x : Result State StateFault) → TextsHaveNumbers → state_decoded t ≡ x → HaveNumbers r.state.sessions → HaveNumbers (loaded_state root table x r).state.sessions
-unfolding with_state
-loaded_numbers root table r t (Ok s) n e h = n t s e
-loaded_numbers root table r t (Err f) n e h = h
-
-loads_numbers : (root : Name) (l : Load) (r : Replica) → TextsHaveNumbers → HaveNumbers r.state.sessions → HaveNumbers (loads root l r).state.sessions
-loads_numbers root (Loaded t table) r n h = loaded_numbers root table r t (state_decoded t) n refl h
-loads_numbers root (Missing names) r n h = h
-
 loaded_savable : (root : Name) (table : Table) (x : Result State StateFault) (r : Replica) → IsSavable r → IsSavable (loaded_state root table x r)
 unfolding with_state
 loaded_savable root table (Ok s) r h = savable_alike r (with_state table s r) refl h
@@ -78,12 +68,11 @@ loads_idle : (root : Name) (l : Load) (r : Replica) → r.idle ≤ 9 → (loads 
 loads_idle root (Loaded t table) r h = loaded_idle root table (state_decoded t) r h
 loads_idle root (Missing names) r h = h
 
-pub ready_loaded : (l : Load) (r q : Replica) → TextsHaveNumbers → MayLoad r → q ≡ loads r.root l r → IsReady q
+pub ready_loaded : (l : Load) (r q : Replica) → MayLoad r → q ≡ loads r.root l r → IsReady q
 unfolding MayLoad IsReady
-ready_loaded l r q n h e =
+ready_loaded l r q h e =
     rw e (record {
       sound = (kept_loads r.root l r h.ready.sound h.applied).sound;
       savable = loads_savable r.root l r h.ready.savable;
-      numbers = loads_numbers r.root l r n h.ready.numbers;
       idle = loads_idle r.root l r h.ready.idle;
     })

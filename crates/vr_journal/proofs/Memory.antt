@@ -26,8 +26,7 @@ use Rattle.vr_apply.specs.declared.codec.Texts.{Texts}
 use Rattle.vr_ckpt.specs.declared.table.Table.{Table}
 use Rattle.vr_ckpt.specs.declared.saving.Saved as checkpoint
 use Rattle.vr_ckpt.specs.Places.{IsCheckpoint}
-use Rattle.vr_model.specs.Sound.{HaveNumbers}
-use Rattle.vr_model.proofs.Sessions.{numbers_kept}
+use Rattle.vr_rules.specs.Sound.{IsNameBytes}
 use Rattle.std.specs.Prelude.{max, min, Bool, true, false, ◌&&◌, nat_lt}
 use Rattle.std.proofs.Common.{◌∙◌, ap}
 use Rattle.std.proofs.lemmas.Bool.{and_parts, ltb-true, eqb-true, eqb-false}
@@ -63,25 +62,25 @@ value_is r f hs h l e i = rw (e, i) (value_is_good r h.sound h.savable l)
 
 pub ready_saved : (r q : Replica) → q ≡ with_saved r → IsReady r → IsReady q
 unfolding IsReady
-ready_saved r q e h = rw e (record { sound = sound_alike r (with_saved r) refl h.sound; savable = savable_alike r (with_saved r) refl h.savable; numbers = h.numbers; idle = h.idle })
+ready_saved r q e h = rw e (record { sound = sound_alike r (with_saved r) refl h.sound; savable = savable_alike r (with_saved r) refl h.savable; idle = h.idle })
 
 pub ready_rested : (r q : Replica) → q ≡ rested r → IsReady r → IsReady q
 unfolding IsReady
-ready_rested r q e h = rw e (record { sound = sound_alike r (rested r) refl h.sound; savable = savable_alike r (rested r) refl h.savable; numbers = h.numbers; idle = omega arith })
+ready_rested r q e h = rw e (record { sound = sound_alike r (rested r) refl h.sound; savable = savable_alike r (rested r) refl h.savable; idle = omega arith })
 
 pub ready_stored : (e : Whole) (r q : Replica) → q ≡ stored e r → MayStore e r → IsReady r → IsReady q
 unfolding IsReady MayStore forgetting with_part
 ready_stored e r q i m h =
     let may : May e r = record { above = m.above; window = m.window; header = m.header; is_entry = m.is_entry } in
-    rw i (record { sound = (kept_stored e r h.sound may).sound; savable = savable_stored e r h.sound may h.savable; numbers = h.numbers; idle = h.idle })
+    rw i (record { sound = (kept_stored e r h.sound may).sound; savable = savable_stored e r h.sound may h.savable; idle = h.idle })
 
 pub ready_entered : (view : ℕ) (r q : Replica) → q ≡ entered view r → r.view ≤ view → view < 2 ^ 32 → IsReady r → IsReady q
 unfolding IsReady entered
-ready_entered view r q e a b h = rw e (record { sound = (kept_entered view r h.sound a).sound; savable = savable_entered view r b h.savable; numbers = h.numbers; idle = omega arith })
+ready_entered view r q e a b h = rw e (record { sound = (kept_entered view r h.sound a).sound; savable = savable_entered view r b h.savable; idle = omega arith })
 
 pub ready_lost : (k : ℕ) (g : Header) (r q : Replica) → q ≡ lost g r → part_at r k ≡ Here g → IsReady r → IsReady q
 unfolding IsReady with_part
-ready_lost k g r q e i h = rw e (record { sound = (kept_lost k g r h.sound i).sound; savable = savable_lost k g r h.sound i h.savable; numbers = h.numbers; idle = h.idle })
+ready_lost k g r q e i h = rw e (record { sound = (kept_lost k g r h.sound i).sound; savable = savable_lost k g r h.sound i h.savable; idle = h.idle })
 
 pub in_window : (e : Whole) (r : Replica) → MayStore e r → HasWindow r → (r.first ≤ e.header.op) × (e.header.op - r.first < length r.parts)
 unfolding MayStore
@@ -108,7 +107,7 @@ may_ready r h = h.ready
 
 pub has_applied : (e : Whole) (r q : Replica) → q ≡ applied e r → MayApply r → IsEntry e → HasApplied q
 unfolding HasApplied MayApply
-has_applied e r q i m n = record { before = r; entry = e; may = m; is = i; numbers = rw i (numbers_kept r.state e m.ready.numbers n.header.op.1) }
+has_applied e r q i m n = record { before = r; entry = e; may = m; is = i; op = n.header.op.1 }
 
 -- where no checkpoint is due
 pub ready_applied : (q : Replica) → is_checkpoint q.applied ≡ false → HasApplied q → IsReady q
@@ -119,13 +118,12 @@ ready_applied q d h =
     let is : q ≡ applied e r = h.is in
     let due : is_checkpoint (r.applied + 1) ≡ false = rw is at d in
     let m = h.may in
-    let kept = kept_applied e r m.ready.sound m.known m.loaded (eqb-false ((r.applied + 1) % 32) 0 due) in
-    let numbers : HaveNumbers (applied e r).state.sessions = rw is at h.numbers in
-    rw is (record { sound = kept.sound; savable = savable_alike r (applied e r) refl m.ready.savable; numbers = numbers; idle = m.ready.idle })
+    let kept = kept_applied e r m.ready.sound h.op m.known m.loaded (eqb-false ((r.applied + 1) % 32) 0 due) in
+    rw is (record { sound = kept.sound; savable = savable_alike r (applied e r) refl m.ready.savable; idle = m.ready.idle })
 
 -- where one is made
 pub ready_moved : (c : checkpoint.Saved) (q p : Replica) (cluster : ℕ) (texts : Texts) (op : ℕ) (old : Table) → is_checkpoint q.applied ≡ true → HasApplied q
-    → c ≡ sectors.saved cluster texts op old → p ≡ with_checkpoint c q → IsReady p
+    → c ≡ sectors.save_state cluster texts op old → p ≡ with_checkpoint c q → IsReady p
 unfolding IsReady HasApplied with_checkpoint
 ready_moved c q p cluster texts op old d h s i =
     let r : Replica = h.before in
@@ -136,11 +134,10 @@ ready_moved c q p cluster texts op old d h s i =
     let known = m.known in
     let roots = sectors_fit.1 in
     let address : c.root.address < 128 = rw s (roots.address cluster texts op old) in
-    let name : length c.root.sum.0 ≡ 16 = rw s (roots.name cluster texts op old) in
-    let kept = kept_moved c e r m.ready.sound known m.loaded (eqb-true ((r.applied + 1) % 32) 0 due) in
+    let name : IsNameBytes c.root.sum.0 = rw s (roots.name cluster texts op old) in
+    let kept = kept_moved c e r m.ready.sound h.op known m.loaded (eqb-true ((r.applied + 1) % 32) 0 due) in
     let savable = savable_move c (applied e r) address name (omega arith) (savable_alike r (applied e r) refl m.ready.savable) (topped_moved c e r m.ready.sound known) in
-    let numbers : HaveNumbers (applied e r).state.sessions = rw is at h.numbers in
-    rw (i, is) (record { sound = kept.sound; savable = savable; numbers = numbers; idle = m.ready.idle })
+    rw (i, is) (record { sound = kept.sound; savable = savable; idle = m.ready.idle })
 
 -- there is room for the window to move up
 pub room_to_move : (q : Replica) → HasApplied q → (length q.parts + (q.applied - q.checkpoint) ≤ 128) × (length q.ackers + (q.applied - q.checkpoint) ≤ 128)
@@ -228,7 +225,7 @@ pub ready_learned : (c : ℕ) (r q : Replica) → q ≡ learned c r → IsReady 
 unfolding IsReady
 ready_learned c r q e h =
     let known = h.sound.order.known in
-    rw e (record { sound = sound_commit r (max r.commit (min c (head r))) (omega arith) (omega arith) h.sound; savable = savable_alike r (learned c r) refl h.savable; numbers = h.numbers; idle = h.idle })
+    rw e (record { sound = sound_commit r (max r.commit (min c (head r))) (omega arith) (omega arith) h.sound; savable = savable_alike r (learned c r) refl h.savable; idle = h.idle })
 
 -- where an entry may be stored is left to what soundness doesn't ask for
 pub store_rested : (e : Whole) (r q : Replica) → q ≡ rested r → MayStore e r → MayStore e q

@@ -30,7 +30,7 @@ use Rattle.vr_journal.specs.Ready.{IsReady}
 
 pub absent_more : (xs : List Part) (i : ℕ) → absent_header (get_or xs i Nothing) ≡ None → first_absent (drop i xs) ≡ first_absent (drop (i + 1) xs)
 absent_more [] zero e = refl
-absent_more [] (suc i) e = refl
+absent_more [] (suc i) e = rw add-one refl
 absent_more (Here h ∷ xs) zero e = refl
 absent_more (Lost h ∷ xs) zero e = absurd cc
 absent_more (Wanted h ∷ xs) zero e = absurd cc
@@ -77,17 +77,16 @@ ready_advanced r q e h =
     rw e (record {
       sound = sound_commit r (r.commit + n) (omega arith) (omega (arith, few, size, known)) h.sound;
       savable = savable_alike r (record r { commit = r.commit + n }) refl h.savable;
-      numbers = h.numbers;
       idle = h.idle;
     })
 
 pub ready_turned : (r q : Replica) → q ≡ turned r → IsReady r → IsReady q
 unfolding IsReady
-ready_turned r q e h = rw e (record { sound = sound_alike r (turned r) refl h.sound; savable = savable_alike r (turned r) refl h.savable; numbers = h.numbers; idle = h.idle })
+ready_turned r q e h = rw e (record { sound = sound_alike r (turned r) refl h.sound; savable = savable_alike r (turned r) refl h.savable; idle = h.idle })
 
 pub ready_dropped : (name : Name) (r q : Replica) → q ≡ without name r → IsReady r → IsReady q
 unfolding IsReady
-ready_dropped name r q e h = rw e (record { sound = (kept_without name r h.sound).sound; savable = savable_alike r (without name r) refl h.savable; numbers = h.numbers; idle = h.idle })
+ready_dropped name r q e h = rw e (record { sound = (kept_without name r h.sound).sound; savable = savable_alike r (without name r) refl h.savable; idle = h.idle })
 
 -- the numbers of a ready replica fit into messages
 pub ready_commit : (r : Replica) → IsReady r → r.commit ≤ 2 ^ 62
@@ -120,8 +119,8 @@ unfolding IsReady
 ready_absent r h ready e =
     let n : ℕ = r.applied + 1 - r.first in
     let p = absent_part (find is_absent (drop n r.parts)) h e in
-    let i = found_place is_absent (drop n r.parts) p.0 p.1.0 in
+    let i = found_place is_absent (drop n r.parts) p.0 p.1 in
     let k : ℕ = r.first + (n + i.0) in
     let place : k - r.first ≡ n + i.0 = omega arith in
     let there : part_at r k ≡ p.0 = part_within r k (omega arith) ∙ ap (λ j. get_or r.parts j Nothing) place ∙ sym (get_or-drop n r.parts i.0 Nothing) ∙ i.1 in
-    (ready.sound.entries.each k h (ap header_of there ∙ p.1.1)).1.entry
+    (ready.sound.entries.each k h (ap header_of there ∙ p.2)).1.entry

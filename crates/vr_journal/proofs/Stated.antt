@@ -5,7 +5,7 @@ use Rattle.std.specs.List.{prefix_len, range_with_len, filter_map}
 use Rattle.std.specs.Option.{option_to_list}
 use Rattle.std.proofs.lemmas.Bool.{cases_lt, cases_eq, eq-eqb, ne_eqb}
 use Rattle.std.proofs.lemmas.Grind.{common_steps}
-use Rattle.std.proofs.lemmas.List.{drop_all, reverse-append, length-append, length-drop, length-reverse, length-take-le, take-all}
+use Rattle.std.proofs.lemmas.List.{drop_all, reverse-append, length-append, length-drop, length-reverse, length-take-le, take_all}
 use Rattle.std.proofs.lemmas.List.Sums.{prefix_len-le-length}
 use Rattle.std.proofs.lemmas.List.Folds.{prefix_len-append}
 use Rattle.std.proofs.lemmas.List.Elements.{filter_map-append}
@@ -27,16 +27,28 @@ take_one [] i l = absurd (omega arith)
 take_one (x ∷ xs) zero l = refl
 take_one (x ∷ xs) (suc i) l = rw add-one (ap (λ ys. x ∷ ys) (rw add-one at (take_one xs i (omega arith))))
 
-last_one : (ps : List Part) (p : Part) → last_told (ps ++ p ∷ []) ≡ cond (is_nothing p) (last_told ps) (length ps + 1)
+first_told : (p : Part) (ps : List Part) → is_nothing p ≡ false → prefix_len is_nothing (p ∷ ps) ≡ 0
+first_told p ps e = rw e refl
+
+first_untold : (p : Part) (ps : List Part) → is_nothing p ≡ true → prefix_len is_nothing (p ∷ ps) ≡ prefix_len is_nothing ps + 1
+first_untold p ps e = rw e (omega arith)
+
+last_back : (ps : List Part) (p : Part) → reverse (ps ++ p ∷ []) ≡ p ∷ reverse ps
+last_back ps p = reverse-append ps (p ∷ [])
+
+one_told : (ps : List Part) (p : Part) → is_nothing p ≡ false → last_told (ps ++ p ∷ []) ≡ length ps + 1
 unfolding last_told
-last_one ps p =
+one_told ps p e =
     let size = length-append ps (p ∷ []) in
-    let few = prefix_len-le-length is_nothing (reverse ps) in
-    let n = length-reverse ps in
-    rw (reverse-append ps (p ∷ [])) (elim (is_nothing p) as (λ b. length (ps ++ p ∷ []) - cond b (suc (prefix_len is_nothing (reverse ps))) 0 ≡ cond b (length ps - prefix_len is_nothing (reverse ps)) (length ps + 1)) [
-      | true ↦ omega (arith, size)
-      | false ↦ omega (arith, size)
-    ])
+    let none = first_told p (reverse ps) e in
+    rw (last_back ps p) (omega (arith, size, none))
+
+one_untold : (ps : List Part) (p : Part) → is_nothing p ≡ true → last_told (ps ++ p ∷ []) ≡ last_told ps
+unfolding last_told
+one_untold ps p e =
+    let size = length-append ps (p ∷ []) in
+    let some = first_untold p (reverse ps) e in
+    rw (last_back ps p) (omega (arith, size, some))
 
 pub last_none : (xs : List Part) → 0 ≡ last_told (take 0 xs)
 unfolding last_told
@@ -46,15 +58,15 @@ pub last_more : (xs : List Part) (i : ℕ) → i < length xs → not (is_nothing
 last_more xs i l e =
     let p : is_nothing (get_or xs i Nothing) ≡ false = elim (is_nothing (get_or xs i Nothing)) as (λ b. not b ≡ true → b ≡ false) [ true ↦ λ t. cc | false ↦ λ t. refl ] e in
     let n : length (take i xs) ≡ i = length-take-le i xs (omega arith) in
-    rw (take_one xs i l, last_one (take i xs) (get_or xs i Nothing), p, n) refl
+    rw (take_one xs i l, one_told (take i xs) (get_or xs i Nothing) p, n) refl
 
 pub last_less : (xs : List Part) (i : ℕ) → i < length xs → not (is_nothing (get_or xs i Nothing)) ≡ false → last_told (take i xs) ≡ last_told (take (i + 1) xs)
 last_less xs i l e =
     let p : is_nothing (get_or xs i Nothing) ≡ true = elim (is_nothing (get_or xs i Nothing)) as (λ b. not b ≡ false → b ≡ true) [ true ↦ λ t. refl | false ↦ λ t. cc ] e in
-    rw (take_one xs i l, last_one (take i xs) (get_or xs i Nothing), p) refl
+    rw (take_one xs i l, one_untold (take i xs) (get_or xs i Nothing) p) refl
 
 pub last_all : (xs : List Part) (i : ℕ) → length xs ≤ i → last_told (take i xs) ≡ last_told xs
-last_all xs i l = rw (take-all i xs l) refl
+last_all xs i l = rw (take_all i xs l) refl
 
 pub last_within : (xs : List Part) → last_told xs ≤ length xs
 unfolding last_told
@@ -134,4 +146,8 @@ unfolding stated_to
 stated_more r i o ss ts e k t =
     t ∙ rw (k, range_more 0 i i (omega arith), filter_map-append (stated_by r) (range_with_len 0 i) (i ∷ []), one_stated r i o e) refl
 
-pub ruleset alls = (stated_none, stated_more)
+pub stated_all : (r : Replica) (i n : ℕ) (ss : List Statement) → n ≡ r.n → n ≤ i → i ≤ n → ss ≡ stated_to r i → ss ≡ stated r
+unfolding stated_to stated
+stated_all r i n ss e a b k = let same : i ≡ r.n = omega arith in k ∙ rw same refl
+
+pub ruleset alls = (stated_none, stated_more, stated_all)

@@ -29,19 +29,23 @@ chain_more hash (x ∷ y ∷ ys) zero a b e k =
     let p : x ≡ a = cc in
     let q : y ≡ b = cc in
     rw (p, q) refl
-chain_more hash (x ∷ xs) (suc i) a b e k = rw add-one (rw add-one at (chain_more hash xs i a b e (rw add-one at k)))
+chain_more hash (x ∷ xs) (suc i) a b e k =
+    let next : slice_get xs (i + 1) ≡ Some b = rw add-one (rw add-one at k) in
+    rw add-one (rw add-one at (chain_more hash xs i a b e next))
 
 pub chain_last : (hash : List ℕ → List ℕ) (hs : List Header) (i : ℕ) → i < length hs → slice_get hs (i + 1) ≡ None → is_chain hash (drop i hs) ≡ (true && is_chain hash (drop (i + 1) hs))
 unfolding is_chain_from
 chain_last hash [] i l k = absurd (omega arith)
 chain_last hash (x ∷ []) zero l k = refl
 chain_last hash (x ∷ y ∷ ys) zero l k = absurd cc
-chain_last hash (x ∷ xs) (suc i) l k = rw add-one (rw add-one at (chain_last hash xs i (omega arith) (rw add-one at k)))
+chain_last hash (x ∷ xs) (suc i) l k =
+    let next : slice_get xs (i + 1) ≡ None = rw add-one (rw add-one at k) in
+    rw add-one (rw add-one at (chain_last hash xs i (omega arith) next))
 
 pub values_more : (hs : List Header) (i : ℕ) (a : Header) → slice_get hs i ≡ Some a → IsHeader a → AreHeaders (drop (i + 1) hs) → AreHeaders (drop i hs)
 values_more [] i a e is h = absurd cc
 values_more (x ∷ xs) zero a e is h = let p : x ≡ a = cc in (rw p is, h)
-values_more (x ∷ xs) (suc i) a e is h = values_more xs i a e is (rw add-one at h)
+values_more (x ∷ xs) (suc i) a e is h = values_more xs i a e is (rw add-one (rw add-one at h))
 
 pub ruleset links = (chain_more, chain_last, values_more)
 

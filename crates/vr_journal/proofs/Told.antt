@@ -22,20 +22,20 @@ listed_views r op (x ∷ xs) l h =
     let made = is.made in
     (record { entry = is.entry; of_group = is.of_group; at_op = is.at_op; made = omega arith }, listed_views r (op + 1) xs l h.1)
 
-pub may_start : (r : Replica) (hs : List Header) (lo top : ℕ) → IsReady r → r.view ≤ last_view → hs ≡ run r → top ≡ head r → lo ≡ top - length hs
-    → IsStartView (record { cluster = r.cluster; replica = r.index; view = r.view; head = top; commit = r.commit; body = record { lo = lo; headers = hs } })
+pub may_start : (q r : Replica) (hs : List Header) (lo top n : ℕ) → q ≡ r → IsReady r → r.view ≤ last_view → hs ≡ run r → top ≡ head r → n ≡ length hs → lo ≡ top - n
+    → IsStartView (record { cluster = q.cluster; replica = q.index; view = q.view; head = top; commit = q.commit; body = record { lo = lo; headers = hs } })
 unfolding IsReady
-may_start r hs lo top h v e i k =
+may_start q r hs lo top n same h v e i l k =
     let s = h.sound in
     let w = run_of r s in
     let start = w.start in
     let listed = listed_views r (run_start r + 1) (run r) s.order.views (run_listed r s) in
-    rw (k, e, i) (record { view = omega arith; head = head_number r s; commit = s.order.known; count = omega arith; short = w.short; headers = listed })
+    rw (same, k, l, e, i) (record { view = omega arith; head = head_number r s; commit = s.order.known; count = omega arith; short = w.short; headers = listed })
 
-pub may_state : (r : Replica) (s : Statement) → IsReady r → r.view ≤ last_view → r.log_view < r.view → s ≡ statement_of r
-    → IsDoViewChange (record { cluster = r.cluster; replica = r.index; view = r.view; statement = s })
+pub may_state : (q r : Replica) (s : Statement) → q ≡ r → IsReady r → r.view ≤ last_view → r.log_view < r.view → s ≡ statement_of r
+    → IsDoViewChange (record { cluster = q.cluster; replica = q.index; view = q.view; statement = s })
 unfolding IsReady statement_of
-may_state r s h v l e = rw e (record { view = omega arith; log_view = l; statement = (own_statement r h.sound).statement })
+may_state q r s same h v l e = rw (same, e) (record { view = omega arith; log_view = l; statement = (own_statement r h.sound).statement })
 
 pub all_told : (message : Replica → Frame) (m : Frame) (r : Replica) → m ≡ message r → sends r.index r.n m ≡ send_to_all message r
 unfolding sends send_to_all

@@ -3,7 +3,7 @@ ghost use Rattle.std.specs.Prelude.{◌≡◌, ◌∷◌, [], IfOk, OnOk, nat_lt
 ghost use Rattle.vr_ckpt.specs.declared.found.Load.{Load};
 ghost use Rattle.vr_rules.specs.Words.{load, loads, with_state, checkpoint_at};
 ghost use Rattle.vr_step.specs.Does.{Does, Finds, Caused};
-ghost use Rattle.vr_journal.specs.Ready.{IsReady, MayLoad, TextsHaveNumbers, Decodes};
+ghost use Rattle.vr_journal.specs.Ready.{IsReady, MayLoad, Decodes};
 
 use crate::Replica;
 use std::alloc::{AllocError, Global};
@@ -105,7 +105,6 @@ impl Replica {
         _out: &mut Outbox,
     ) -> Result<(), Halt>
         requires opened { MayLoad self.old }
-        requires numbers { TextsHaveNumbers }
         ensures ready { OnOk result (IsReady self.new) }
         ensures view { OnOk result (self.new.view ≡ self.old.view) }
         ensures saved { OnOk result (self.new.saved ≡ self.old.saved) }

@@ -1,5 +1,5 @@
 //! What repair looks for in a replica, and what it changes.
-ghost use Rattle.std.specs.Prelude.{◌≡◌, ◌<◌, ◌≤◌, ◌+◌, ◌^◌, drop, slice_index_or};
+ghost use Rattle.std.specs.Prelude.{◌≡◌, ◌<◌, ◌≤◌, ◌+◌, ◌%◌, ◌^◌, ◌==◌, not, drop, filter, slice_index_or};
 ghost use Rattle.std.specs.List.{prefix_len};
 ghost use Rattle.vr_header.specs.declared.part.Part.TheVariants.{Nothing};
 ghost use Rattle.vr_msg.specs.Choice.{ops};
@@ -12,7 +12,7 @@ ghost use Rattle.vr_journal.specs.Ready.{HasWindow};
 use crate::parts::is_here;
 use crate::{Replica, Window};
 use vr_base::{Replicas, quorums};
-use vr_grid::Name;
+use vr_grid::{Name, NameList};
 use vr_header::{Header, Part};
 
 // How many replicas have to have an op before it is committed.
@@ -57,6 +57,21 @@ fn first_absent(parts: &Window<Part>, from: usize) -> Option<Header>
         }
     }
     None
+}
+
+// Which replica of `n` stands so many behind another one.
+fn place_after(index: u8, turn: u8, n: u8) -> u8
+    requires { 0 < n }
+    ensures { result ≡ (index + 1 + turn) % n }
+{
+    ((u32::from(index) + 1 + u32::from(turn)) % u32::from(n)) as u8
+}
+
+// The names of other addresses are left.
+fn drop_address(names: &mut NameList, address: u64)
+    ensures { names.new ≡ filter (λ name. not (name.address == address)) names.old }
+{
+    names.retain(|name| name.address != address);
 }
 
 impl Replica {
@@ -120,7 +135,7 @@ impl Replica {
         requires { 0 < self.now.n }
         ensures { result ≡ peer self.now }
     {
-        ((u32::from(self.index) + 1 + u32::from(self.turn)) % u32::from(self.n)) as u8
+        place_after(self.index, self.turn, self.n)
     }
 
     /// The next peer's turn comes.
@@ -139,7 +154,6 @@ impl Replica {
         ensures view { self.new.view ≡ self.old.view }
         ensures saved { self.new.saved ≡ self.old.saved }
     {
-        let address = name.address;
-        self.missing.retain(|missing| missing.address != address);
+        drop_address(&mut self.missing, name.address);
     }
 }

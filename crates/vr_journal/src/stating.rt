@@ -137,7 +137,7 @@ impl Replica {
         ensures { IfOk result (λ ss. ss ≡ stated self.now) }
     {
         let mut all = Seq::new(alloc);
-        for i in 0..self.n {
+        for i in 0..self.n() {
             let one = self.stated_by(alloc, i)?;
             push_some(&mut all, one)?;
         }

@@ -1,9 +1,10 @@
 //! The log of a view, and how a replica takes it over.
-ghost use Rattle.std.specs.Prelude.{◌≡◌, ◌<◌, ◌≤◌, ◌+◌, ◌^◌, ◌&&◌, drop, length, map, true, slice_get, slice_set, slice_index_or, max};
+ghost use Rattle.std.specs.Prelude.{◌≡◌, ◌<◌, ◌≤◌, ◌+◌, ◌^◌, ◌&&◌, drop, length, map, true, Some, slice_get, slice_set, slice_index_or, max};
 ghost use Rattle.std.specs.List.{range_with_len};
 ghost use Rattle.vr_base.specs.Bytes.{name_of};
 ghost use Rattle.vr_base.specs.Replicas.{no_replicas};
 ghost use Rattle.vr_header.specs.declared.part.Part.TheVariants.{Nothing};
+ghost use Rattle.vr_header.specs.Spelling.{IsHeader};
 ghost use Rattle.vr_journal.specs.Ready.{HasWindow};
 ghost use Rattle.vr_journal.specs.Takes.{knows_at, taken_by};
 ghost use Rattle.vr_msg.specs.Spelling.{AreHeaders};
@@ -40,15 +41,40 @@ impl<'a> Model for Log<'a> {
     } };
 }
 
-/// Whether the header behind this place, if any, has the name of the one there as its parent.
+// The same header, which has the values of the program.
+fn valued(header: Header) -> Header
+    ensures same { result ≡ header }
+    ensures values { IsHeader result }
+{
+    header
+}
+
+// The header at a place.
+fn header_in(headers: &[Header], at: usize) -> Header
+    requires { at < length headers.now }
+    ensures at { slice_get headers.now at ≡ Some result }
+    ensures values { IsHeader result }
+{
+    valued(headers[at])
+}
+
+// The header behind a place, if any.
+fn next_in(headers: &[Header], at: usize) -> Option<Header>
+    requires { at < length headers.now }
+    ensures { slice_get headers.now (at + 1) ≡ result }
+{
+    headers.get(at + 1).copied()
+}
+
+// Whether the header behind this place, if any, has the name of the one there as its parent.
 #[tactic(auto, using(crate::proofs::Taken::links))]
 fn follows(headers: &[Header], at: usize) -> bool
     requires { at < length headers.now }
     ensures chain { is_chain name_of (drop at headers.now) ≡ (result && is_chain name_of (drop (at + 1) headers.now)) }
     ensures values { AreHeaders (drop (at + 1) headers.now) → AreHeaders (drop at headers.now) }
 {
-    let header = headers[at];
-    match headers.get(at + 1) {
+    let header = header_in(headers, at);
+    match next_in(headers, at) {
         Some(next) => next.parent == header.name(),
         None => true,
     }
@@ -92,7 +118,7 @@ fn replaced_by(header: Header, part: Part) -> Part
     }
 }
 
-impl Log {
+impl Log<'_> {
     /// The header that it has at an op.
     fn header(&self, op: u64) -> Option<Header>
         ensures { result ≡ log_header self.now op }
@@ -164,7 +190,6 @@ impl Replica {
     }
 
     /// Takes the log over at one place of the list.
-    #[tactic(auto, using(crate::proofs::Taken::fits_number))]
     fn take_part(&mut self, log: &Log, at: usize)
         requires fits { self.old.first + at < 2 ^ 63 }
         requires within { at < length self.old.parts }

@@ -1,6 +1,7 @@
 //! The loop over objects in memory, around a member that answers each request with `busy`, and asks member 1 for its
 //! view at each tick.
-ghost use Rattle.std.specs.Prelude.{⊤, true};
+ghost use Rattle.std.specs.Prelude.{ℕ, ⊤, true};
+ghost use Rattle.vr_serve.specs.Causes.{HaltCause};
 
 use std::alloc::{AllocError, Global};
 use std::test::Fail;
@@ -31,7 +32,9 @@ fn get_view() -> Output {
     })
 }
 
-fn put(out: &mut Outbox, output: Output) -> Result<(), Halt> {
+fn put(out: &mut Outbox, output: Output) -> Result<(), Halt>
+    ensures { (faults : ℕ) → HaltCause faults faults result }
+{
     match out.push(output) {
         Ok(()) => Ok(()),
         Err(_) => Err(Halt::NoMemory),

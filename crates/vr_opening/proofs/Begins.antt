@@ -11,19 +11,18 @@ use Rattle.vr_ckpt.specs.declared.table.Table.{Table}
 use Rattle.vr_ckpt.specs.Loads.{loaded}
 use Rattle.vr_disk.specs.DiskState.{Disk, Face}
 use Rattle.vr_grid.specs.declared.name.Name.{Name}
-use Rattle.vr_model.specs.Sound.{HaveNumbers}
 use Rattle.vr_msg.specs.declared.output.Output.{Output}
 use Rattle.vr_table.specs.declared.fault.StateFault.{StateFault}
 use Rattle.vr_table.specs.declared.fault.StateFault.TheVariants as fault
 use Rattle.vr_table.specs.Table.{IsOrNoMemory}
 use Rattle.vr_super.specs.Copies.{Saved, IsGood, good_fields, good_member, good_window, good_root, good_count}
 use Rattle.vr_rules.specs.Replica.{Replica, leads, is_started, is_primary, is_spent, last_view}
-use Rattle.vr_rules.specs.Outputs.{send_to_all, start_view_change}
+use Rattle.vr_rules.specs.Outputs.{send_to_all, start_line, start_view_change}
 use Rattle.std.proofs.Common.{cond, append-nil}
 use Rattle.vr_rules.specs.Sound.{IsSavable}
 use Rattle.vr_rules.specs.Steps.{Word, when, says}
 use Rattle.vr_rules.specs.Words.{load, loads, loaded_state, with_state, with_missing, checkpoint_at, with_saved, save}
-use Rattle.vr_rules.specs.Opening.{blank, first_listed, in_next_view, leave_view, heard_itself, announce}
+use Rattle.vr_rules.specs.Opening.{blank, first_listed, in_next_view, leave_view, heard_itself, announce, going_on, resuming}
 use Rattle.vr_rules.proofs.Slots.{value_is}
 use Rattle.vr_rules.proofs.Openings.{partly_blank, kept_next}
 use Rattle.vr_rules.proofs.SavesFound.{lists_head, list_size, Lists}
@@ -34,7 +33,7 @@ use Rattle.vr_rules.proofs.Keeping.{sound_alike}
 use Rattle.vr_step.specs.declared.halt.Halt.{Halt}
 use Rattle.vr_step.specs.Does.{Does, Finds}
 use Rattle.vr_journal.specs.Ready.{IsReady, MayLoad}
-use Rattle.vr_opening.specs.Finding.{IsOpeningOld, unspent}
+use Rattle.vr_opening.specs.Finding.{IsOpeningOld}
 use Rattle.vr_step.proofs.Stepping.{does_by, does_quiet, does_reading, change_by, change_by_then, says_by}
 
 pub opening_blank : (v : Saved) (r : Replica) → r ≡ blank v → IsGood v → IsOpeningOld 0 r
@@ -66,7 +65,7 @@ opened_next r q h l e =
     let same = same_views r l in
     let low = h.ready.savable.log_view in
     rw e (record {
-      ready = record { sound = (kept_next r h.ready.sound).sound; savable = savable_next r (omega arith) h.ready.savable; numbers = h.ready.numbers; idle = h.ready.idle };
+      ready = record { sound = (kept_next r h.ready.sound).sound; savable = savable_next r (omega arith) h.ready.savable; idle = h.ready.idle };
       applied = h.applied;
     })
 
@@ -74,7 +73,7 @@ pub opened_saved : (r q : Replica) → MayLoad r → q ≡ with_saved r → MayL
 unfolding MayLoad IsReady
 opened_saved r q h e =
     rw e (record {
-      ready = record { sound = sound_alike r (with_saved r) refl h.ready.sound; savable = savable_alike r (with_saved r) refl h.ready.savable; numbers = h.ready.numbers; idle = h.ready.idle };
+      ready = record { sound = sound_alike r (with_saved r) refl h.ready.sound; savable = savable_alike r (with_saved r) refl h.ready.savable; idle = h.ready.idle };
       applied = h.applied;
     })
 
@@ -89,7 +88,7 @@ leave_none r d o l = does_by _ r r d d o o (Ok tt) (rw l (does_quiet r d o))
 pub ready_heard : (r q : Replica) → IsReady r → q ≡ heard_itself r → IsReady q
 unfolding IsReady
 ready_heard r q h e =
-    rw e (record { sound = sound_alike r (heard_itself r) refl h.sound; savable = savable_alike r (heard_itself r) refl h.savable; numbers = h.numbers; idle = h.idle })
+    rw e (record { sound = sound_alike r (heard_itself r) refl h.sound; savable = savable_alike r (heard_itself r) refl h.savable; idle = h.idle })
 
 told_view : (b : Bool) (r : Replica) (d : Option Disk) (o o2 : List Output) → o2 ≡ o ++ cond b (send_to_all start_view_change r) [] → Does (when b (says (send_to_all start_view_change))) r r d d o o2 (Ok tt)
 told_view true r d o o2 e = says_by (send_to_all start_view_change) r d o o2 e
@@ -104,11 +103,11 @@ announce_none r d o l = does_by _ r r d d o o (Ok tt) (rw l (does_quiet r d o))
 
 -- ---- at the end of the sequence numbers
 
-pub unspent_then : (w : Word Face) (r r2 : Replica) (d d2 : Option Disk) (o o2 : List Output) (res : Result (Unit {0}) Halt) → is_spent r ≡ false → Does w r r2 d d2 o o2 res → Does (unspent w) r r2 d d2 o o2 res
-unspent_then w r r2 d d2 o o2 res e h = does_by _ r r2 d d2 o o2 res (rw e h)
+pub resumed : (r r2 : Replica) (d d2 : Option Disk) (o o2 : List Output) (res : Result (Unit {0}) Halt) → is_spent r ≡ false → Does going_on r r2 d d2 o o2 res → Does resuming r r2 d d2 o o2 res
+resumed r r2 d d2 o o2 res e h = does_by _ r r2 d d2 o o2 res (rw e h)
 
-pub spent_none : (w : Word Face) (r : Replica) (d : Option Disk) (o : List Output) → is_spent r ≡ true → Does (unspent w) r r d d o o (Ok tt)
-spent_none w r d o e = does_by _ r r d d o o (Ok tt) (rw e (does_quiet r d o))
+pub spent : (r : Replica) (d : Option Disk) (o o2 : List Output) → is_spent r ≡ true → o2 ≡ o ++ start_line r → Does resuming r r d d o o2 (Ok tt)
+spent r d o o2 e h = does_by _ r r d d o o2 (Ok tt) (rw e (says_by start_line r d o o2 h))
 
-pub unspent_room : (r : Replica) → is_spent r ≡ false → r.saved.fields.sequence + 64 < 2 ^ 64
+pub unspent_room : (r : Replica) → is_spent r ≡ false → r.saved.fields.sequence + 65 < 2 ^ 64
 unspent_room r e = let l = ltb-false (2 ^ 64 - 256) r.saved.fields.sequence e in omega arith

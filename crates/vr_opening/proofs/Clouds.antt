@@ -8,7 +8,6 @@ use Rattle.vr_base.specs.Replicas.{no_replicas}
 use Rattle.vr_disk.specs.DiskState.{Disk}
 use Rattle.vr_header.specs.declared.part.Part.{Part}
 use Rattle.vr_header.specs.declared.part.Part.TheVariants.{Nothing}
-use Rattle.vr_model.specs.Sound.{HaveNumbers}
 use Rattle.vr_msg.specs.declared.output.Output.{Output}
 use Rattle.vr_msg.specs.Choice.{ops}
 use Rattle.vr_super.specs.Copies.{Saved}
@@ -175,14 +174,6 @@ pub window_clouded : (n : ℕ) (r q : Replica) → IsOpening n r → q ≡ cloud
 unfolding IsOpening
 window_clouded n r q h e = let w = value_is r.saved h.good in rw e (partly_window r.saved n (clouded r.saved r) w (partly_clouded r.saved n r w h.partly))
 
-numbers_blank : (v : Saved) (ps : List Part) → HaveNumbers (record (blank v) { parts = ps }).state.sessions
-unfolding blank HaveNumbers
-numbers_blank v ps = tt
-
-forgetting_numbers : (r : Replica) → HaveNumbers r.state.sessions → HaveNumbers (forgetting r).state.sessions
-unfolding forgetting
-forgetting_numbers r h = h
-
 idle_blank : (v : Saved) (ps : List Part) → (record (blank v) { parts = ps }).idle ≤ 9
 unfolding blank
 idle_blank v ps = omega arith
@@ -204,9 +195,8 @@ opened_ready c r q p h e i j =
     let opened = opened_forgetting v n x w found last in
     let top = found_topped v n x w found last (λ a b. clouded_known v n v.fields.checkpoint r w h.partly (h.top a b)) in
     let savable : IsSavable x = subst IsSavable (sym found.is) (savable_found v x.parts h.good (subst Topped found.is top)) in
-    let numbers : HaveNumbers x.state.sessions = subst (λ (y : Replica). HaveNumbers y.state.sessions) (sym found.is) (numbers_blank v x.parts) in
     let idle : x.idle ≤ 9 = subst (λ (y : Replica). y.idle ≤ 9) (sym found.is) (idle_blank v x.parts) in
     rw (j, i) (record {
-      ready = record { sound = opened.sound; savable = savable_forgetting x savable (topped_forgetting x (partly_spans v n x w found) top); numbers = forgetting_numbers x numbers; idle = forgetting_idle x idle };
+      ready = record { sound = opened.sound; savable = savable_forgetting x savable (topped_forgetting x (partly_spans v n x w found) top); idle = forgetting_idle x idle };
       applied = opened.applied;
     })

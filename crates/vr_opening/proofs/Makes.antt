@@ -14,7 +14,6 @@ use Rattle.vr_rules.specs.Sound.{IsSound, IsSavable}
 use Rattle.vr_rules.proofs.Slots.{value_is}
 use Rattle.vr_rules.proofs.Openings.{partly_blank, opened_forgetting}
 use Rattle.vr_rules.proofs.SavesFound.{found_topped, savable_found}
-use Rattle.vr_model.specs.Sound.{HaveNumbers}
 use Rattle.vr_format.proofs.First.{first_good}
 use Rattle.vr_journal.specs.Ready.{IsReady}
 use Rattle.vr_opening.specs.declared.new_member.FreshFault.{FreshFault}
@@ -51,10 +50,6 @@ fresh_forgets : (cluster n index : ℕ) → forgetting (fresh cluster n index) �
 unfolding forgetting head blank
 fresh_forgets cluster n index = refl
 
-fresh_numbers : (cluster n index : ℕ) → HaveNumbers (fresh cluster n index).state.sessions
-unfolding blank HaveNumbers
-fresh_numbers cluster n index = tt
-
 fresh_idle : (cluster n index : ℕ) → (fresh cluster n index).idle ≤ 9
 unfolding blank
 fresh_idle cluster n index = omega arith
@@ -70,4 +65,4 @@ fresh_ready cluster n index r a b c s m e =
     let top = found_topped v 0 x w part (omega arith) (λ i j. absurd (omega (arith, j))) in
     let sound : IsSound x = subst IsSound (fresh_forgets cluster n index) (opened_forgetting v 0 x w part (omega arith)).sound in
     let savable : IsSavable x = savable_found v x.parts g top in
-    rw e (record { sound = sound; savable = savable; numbers = fresh_numbers cluster n index; idle = fresh_idle cluster n index })
+    rw e (record { sound = sound; savable = savable; idle = fresh_idle cluster n index })

@@ -29,7 +29,6 @@ use Rattle.vr_table.specs.declared.fault.StateFault.{StateFault}
 use Rattle.vr_apply.specs.declared.codec.Texts.{Texts}
 use Rattle.vr_apply.specs.declared.state.State.{State}
 use Rattle.vr_apply.specs.Texts.{state_decoded}
-use Rattle.vr_model.specs.Sound.{HaveNumbers}
 
 -- the Parts of its ops are found up to n, which isn't below the checkpoint
 pub record Opening (n : ℕ) (r : Replica) : Type 0 where
@@ -101,7 +100,3 @@ cloud_to i r = record r { parts = map (cloud_by r.saved r.first r.parts) (range_
 -- a word for the item at a place of a list
 unfoldable pub DoesAt : {X : Type 0} → (X → Word Face) → List X → ℕ → Replica → Replica → Option Disk → Option Disk → List Output → List Output → Result (Unit {0}) Halt → Type 0
 DoesAt {X} w xs i r r' d d' o o' result = (x : X) → slice_get xs i ≡ Some x → Does (w x) r r' d d' o o' result
-
--- a word that a replica at the end of its sequence numbers doesn't do
-abbrev pub unspent : {F : Type 0} → Word F → Word F
-unspent w = by (λ r. when (not (is_spent r)) w)

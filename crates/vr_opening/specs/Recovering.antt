@@ -9,19 +9,16 @@ use Rattle.vr_super.specs.Opens.{opens, good_copies}
 use Rattle.vr_super.specs.Recovers.{verdict_of}
 use Rattle.vr_super.specs.declared.recovering.CopyVerdict.{CopyVerdict}
 use Rattle.vr_rules.specs.Replica.{Replica}
-use Rattle.vr_rules.specs.Steps.{Word, ◌⨾◌, says}
-use Rattle.vr_rules.specs.Outputs.{start_line}
-use Rattle.vr_rules.specs.Words.{load, apply}
-use Rattle.vr_rules.specs.Opening.{recover_parts, leave_view, announce, opening, blank}
+use Rattle.vr_rules.specs.Steps.{Word, ◌⨾◌}
+use Rattle.vr_rules.specs.Opening.{recover_parts, resuming, opening, blank}
 use Rattle.vr_step.specs.declared.halt.Halt.{Halt}
 use Rattle.vr_opening.specs.declared.reopen.Refusal.{Refusal}
 use Rattle.vr_opening.specs.declared.reopen.Refusal.TheVariants.{Lost, OtherMember, Halted}
 use Rattle.vr_step.specs.Does.{Does}
-use Rattle.vr_opening.specs.Finding.{unspent}
 
 -- an opening, behind the mending of the superblock
 abbrev pub after_mend : Saved → Word Face
-after_mend v = recover_parts v ⨾ unspent leave_view ⨾ says start_line ⨾ unspent (load ⨾ apply ⨾ announce)
+after_mend v = recover_parts v ⨾ resuming
 
 -- a word whose function gives the replica
 abbrev pub DoesTo : Word Face → Replica → Option Disk → Option Disk → List Output → List Output → Result Replica Halt → Type 0

@@ -1,13 +1,13 @@
 //! What a replica does as it opens, once its Parts are found.
 ghost use Rattle.std.specs.Prelude.{◌≡◌, ◌<◌, ◌≤◌, ◌+◌, ◌++◌, ◌^◌, [], OnOk, nat_le, if◌then◌else◌};
-ghost use Rattle.vr_rules.specs.Opening.{recover_parts, leave_view, announce};
+ghost use Rattle.vr_rules.specs.Opening.{announce, going_on, leave_view, recover_parts, resuming};
 ghost use Rattle.vr_rules.specs.Outputs.{start_line, send_to_all, start_view_change};
 ghost use Rattle.vr_rules.specs.Replica.{is_spent, is_started, leads, last_view};
-ghost use Rattle.vr_rules.specs.Words.{save, load, apply};
-ghost use Rattle.vr_rules.specs.Steps.{says, ◌⨾◌};
+ghost use Rattle.vr_rules.specs.Words.{save};
+ghost use Rattle.vr_rules.specs.Steps.{◌⨾◌};
 ghost use Rattle.vr_step.specs.Does.{Does, Caused};
-ghost use Rattle.vr_journal.specs.Ready.{IsReady, MayLoad, TextsHaveNumbers};
-ghost use Rattle.vr_opening.specs.Finding.{IsOpeningOld, unspent};
+ghost use Rattle.vr_journal.specs.Ready.{IsReady, MayLoad};
+ghost use Rattle.vr_opening.specs.Finding.{IsOpeningOld};
 
 use crate::opening::recover_parts;
 use std::alloc::{AllocError, Global};
@@ -37,7 +37,7 @@ fn save_opened<D: SectorDisk>(
 }
 
 /// A primary that comes back doesn't lead its old view again.
-#[tactic(auto, using(crate::proofs::Begins::leave_then, crate::proofs::Begins::leave_none, crate::proofs::Begins::opened_next, crate::proofs::Begins::opened_member))]
+#[tactic(auto, using(crate::proofs::Begins::leave_then, crate::proofs::Begins::leave_none, crate::proofs::Begins::next_fits, crate::proofs::Begins::opened_next, crate::proofs::Begins::opened_member))]
 fn leave_view<D: SectorDisk>(
     replica: &mut Replica,
     alloc: Global,
@@ -92,64 +92,45 @@ fn announce<D: SectorDisk>(
     }
 }
 
-// Loads, applies, and tells.
-#[tactic(auto, using(vr_step::proofs::Stepping::steps))]
-fn settle<D: SectorDisk>(
+// What comes of an opening: a primary leaves its view, the checkpoint is loaded, what is committed is applied, and the others are told.
+#[tactic(auto, using(vr_step::proofs::Stepping::steps, vr_journal::proofs::Loads::ready_opened))]
+fn go_on<D: SectorDisk>(
     replica: &mut Replica,
     alloc: Global,
     disk: &mut D,
     out: &mut Outbox,
 ) -> Result<(), Halt>
     requires opened { MayLoad replica.old }
-    requires numbers { TextsHaveNumbers }
-    requires room { replica.old.saved.fields.sequence + 64 < 2 ^ 64 }
+    requires room { replica.old.saved.fields.sequence + 65 < 2 ^ 64 }
     ensures ready { OnOk result (IsReady replica.new) }
     ensures cause { Caused (D.faults disk.old) (D.faults disk.new) result }
-    ensures step { Does (load ⨾ apply ⨾ announce) replica.old replica.new (D.told disk.old) (D.told disk.new) out.old out.new result }
+    ensures step { Does going_on replica.old replica.new (D.told disk.old) (D.told disk.new) out.old out.new result }
 {
+    leave_view(replica, alloc, disk, out)?;
+    replica.say_start(out)?;
     replica.load(alloc, disk, out)?;
     replica.apply(alloc, disk, out)?;
     announce(replica, disk, out)
 }
 
-// Where sequence numbers are at their end no view is left.
-#[tactic(auto, using(crate::proofs::Begins::unspent_then, crate::proofs::Begins::spent_none, crate::proofs::Begins::unspent_room))]
-fn leave_unspent<D: SectorDisk>(
+// The same, unless sequence numbers are at their end: then nothing is written any more, and nothing sent.
+#[tactic(auto, using(crate::proofs::Begins::resumed, crate::proofs::Begins::spent, crate::proofs::Begins::unspent_room, vr_journal::proofs::Loads::ready_opened, vr_step::proofs::Stepping::wants))]
+fn resume<D: SectorDisk>(
     replica: &mut Replica,
     alloc: Global,
     disk: &mut D,
     out: &mut Outbox,
 ) -> Result<(), Halt>
     requires opened { MayLoad replica.old }
-    ensures opened { OnOk result (MayLoad replica.new) }
-    ensures cause { Caused (D.faults disk.old) (D.faults disk.new) result }
-    ensures step { Does (unspent leave_view) replica.old replica.new (D.told disk.old) (D.told disk.new) out.old out.new result }
-{
-    if replica.is_spent() {
-        Ok(())
-    } else {
-        leave_view(replica, alloc, disk, out)
-    }
-}
-
-// Nor is anything loaded then, or sent.
-#[tactic(auto, using(crate::proofs::Begins::unspent_then, crate::proofs::Begins::spent_none, crate::proofs::Begins::unspent_room, vr_journal::proofs::Loads::ready_opened))]
-fn settle_unspent<D: SectorDisk>(
-    replica: &mut Replica,
-    alloc: Global,
-    disk: &mut D,
-    out: &mut Outbox,
-) -> Result<(), Halt>
-    requires opened { MayLoad replica.old }
-    requires numbers { TextsHaveNumbers }
     ensures ready { OnOk result (IsReady replica.new) }
     ensures cause { Caused (D.faults disk.old) (D.faults disk.new) result }
-    ensures step { Does (unspent (load ⨾ apply ⨾ announce)) replica.old replica.new (D.told disk.old) (D.told disk.new) out.old out.new result }
+    ensures step { Does resuming replica.old replica.new (D.told disk.old) (D.told disk.new) out.old out.new result }
 {
     if replica.is_spent() {
+        replica.say_start(out)?;
         Ok(())
     } else {
-        settle(replica, alloc, disk, out)
+        go_on(replica, alloc, disk, out)
     }
 }
 
@@ -162,13 +143,10 @@ pub fn open_mended<D: SectorDisk>(
     out: &mut Outbox,
 ) -> Result<(), Halt>
     requires opening { IsOpeningOld 0 replica.old }
-    requires numbers { TextsHaveNumbers }
     ensures ready { OnOk result (IsReady replica.new) }
     ensures cause { Caused (D.faults disk.old) (D.faults disk.new) result }
-    ensures step { Does (recover_parts replica.old.saved ⨾ unspent leave_view ⨾ says start_line ⨾ unspent (load ⨾ apply ⨾ announce)) replica.old replica.new (D.told disk.old) (D.told disk.new) out.old out.new result }
+    ensures step { Does (recover_parts replica.old.saved ⨾ resuming) replica.old replica.new (D.told disk.old) (D.told disk.new) out.old out.new result }
 {
     recover_parts(replica, alloc, disk, out)?;
-    leave_unspent(replica, alloc, disk, out)?;
-    replica.say_start(out)?;
-    settle_unspent(replica, alloc, disk, out)
+    resume(replica, alloc, disk, out)
 }

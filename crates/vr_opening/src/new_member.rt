@@ -39,12 +39,14 @@ fn is_occupied<D: SectorDisk>(disk: &mut D) -> bool
 }
 
 // The replica, before its disk is formatted.
-fn make_member(alloc: Global, config: &Config) -> Result<Replica, NoMemory>
-    requires size { is_some (quorums_of config.now.n) ≡ true }
-    requires member { config.now.replica < config.now.n }
-    ensures { IfOk result (λ r. r ≡ fresh config.now.cluster config.now.n config.now.replica) }
+#[tactic(auto, using(crate::proofs::Makes::fresh_ready))]
+fn make_member(alloc: Global, config: Config) -> Result<Replica, NoMemory>
+    requires size { is_some (quorums_of config.n) ≡ true }
+    requires member { config.replica < config.n }
+    ensures made { IfOk result (λ r. r ≡ fresh config.cluster config.n config.replica) }
+    ensures ready { IfOk result IsReady }
 {
-    let value = first_value(alloc, config)?;
+    let value = first_value(alloc, &config)?;
     Replica::blank(alloc, value)
 }
 
@@ -64,7 +66,7 @@ fn write_format<D: SectorDisk>(
 
 /// The replica of a member of a new group, whose disk is formatted: `Occupied` exactly where two good copies of a superblock
 /// agree, and then nothing is written.
-#[tactic(auto, using(crate::proofs::Makes::occupied, crate::proofs::Makes::wanted, crate::proofs::Makes::made, crate::proofs::Makes::stopped, crate::proofs::Makes::fresh_ready))]
+#[tactic(auto, using(crate::proofs::Makes::occupied, crate::proofs::Makes::wanted, crate::proofs::Makes::made, crate::proofs::Makes::stopped))]
 pub fn fresh<D: SectorDisk>(
     alloc: Global,
     disk: &mut D,
@@ -80,7 +82,7 @@ pub fn fresh<D: SectorDisk>(
     if is_occupied(disk) {
         return Err(FreshFault::Occupied);
     }
-    match make_member(alloc, config) {
+    match make_member(alloc, *config) {
         Err(_) => Err(FreshFault::NoMemory),
         Ok(replica) => match write_format(disk, config, &replica) {
             Ok(()) => Ok(replica),

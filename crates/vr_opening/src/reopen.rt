@@ -3,7 +3,7 @@ ghost use Rattle.std.specs.Prelude.{◌≡◌, ◌≢◌, ◌≤◌, true, false
 ghost use Rattle.vr_base.specs.Causes.{Rose};
 ghost use Rattle.vr_opening.specs.declared.reopen.Refusal.TheVariants as Refusal;
 ghost use Rattle.vr_step.specs.Does.{Caused};
-ghost use Rattle.vr_journal.specs.Ready.{IsReady, TextsHaveNumbers};
+ghost use Rattle.vr_journal.specs.Ready.{IsReady};
 ghost use Rattle.vr_opening.specs.Finding.{IsOpeningOld};
 ghost use Rattle.vr_rules.specs.Opening.{blank};
 ghost use Rattle.vr_opening.specs.Recovering.{after_mend, DoesTo, config_of, FindsValue, Recovered};
@@ -40,7 +40,6 @@ fn open_value<D: SectorDisk>(
     value: Super,
     out: &mut Outbox,
 ) -> Result<Replica, Halt>
-    requires numbers { TextsHaveNumbers }
     ensures ready { IfOk result IsReady }
     ensures cause { Caused (D.faults disk.old) (D.faults disk.new) result }
     ensures step { DoesTo (after_mend value) (blank value) (D.told disk.old) (D.told disk.new) out.old out.new result }
@@ -105,7 +104,6 @@ pub fn recover<D: SectorDisk>(
     asked: &Config,
     out: &mut Outbox,
 ) -> Result<Replica, Refusal>
-    requires numbers { TextsHaveNumbers }
     ensures ready { IfOk result IsReady }
     ensures later { D.faults disk.old ≤ D.faults disk.new }
     ensures fault { IfErr result (λ e. e ≡ Refusal.Halted Halt.DiskFault → Rose (D.faults disk.old) (D.faults disk.new)) }

@@ -1,10 +1,6 @@
 -- What is read of a slot or a block is what a word reads there.
-use Rattle.std.proofs.Common.{◌≡◌, ◌≤◌, refl, ap, arith, ℕ, List, Option, Some, None, Result, Ok, Err, true, false, is_some, sym, ◌∙◌}
-use Rattle.std.specs.Prelude.{IfSome, nat_lt, if◌then◌else◌}
+use Rattle.std.proofs.Common.{◌≡◌, ◌≤◌, ap, arith, ℕ, List, Option, Some, None, Result, Ok, false, sym}
 use Rattle.vr_disk.specs.DiskState.{Disk, Face}
-use Rattle.vr_grid.specs.Blocks.{Content, named}
-use Rattle.vr_grid.specs.Grid.{block_reading, named_at}
-use Rattle.vr_grid.specs.declared.name.Name.{Name}
 use Rattle.vr_header.specs.declared.header.Header.{Header}
 use Rattle.vr_header.specs.declared.part.Part.{Part}
 use Rattle.vr_header.specs.declared.part.Part.TheVariants.{Here, Lost, Wanted, Unknown, Nothing}
@@ -14,13 +10,11 @@ use Rattle.vr_msg.specs.Logs.{header_of}
 use Rattle.vr_msg.specs.declared.output.Output.{Output}
 use Rattle.vr_repair.specs.Reads.{Reads}
 use Rattle.vr_rules.specs.Replica.{Replica, is_here, part_at}
-use Rattle.vr_rules.specs.Rules.{block_at}
-use Rattle.vr_rules.specs.Sectors.{block_in}
 use Rattle.vr_rules.specs.Steps.{Word}
 use Rattle.vr_rules.specs.Words.{entry_of, lost, with_entry, with_entry_at}
 use Rattle.vr_step.specs.declared.halt.Halt.{Halt}
 use Rattle.vr_step.specs.Does.{Does, Finds}
-use Rattle.vr_step.proofs.Stepping.{does_by, does_quiet, found_then, found_lost, here_then}
+use Rattle.vr_step.proofs.Stepping.{does_by, does_quiet, found_then, found_lost}
 
 -- ---- the entry of an op
 

@@ -1,6 +1,6 @@
 -- What a copy that comes makes good.
-use Rattle.std.proofs.Common.{arith, ◌≡◌, ◌≤◌, ◌<◌, ◌+◌, ◌-◌, ◌%◌, ◌∙◌, refl, sym, ap, ℕ, Bool, true, false, not, cond, filter, List, [], ◌∷◌, length, Option, Some, None, is_some}
-use Rattle.std.specs.Prelude.{IfSome, find, ◌==◌}
+use Rattle.std.proofs.Common.{arith, ◌≡◌, ◌≤◌, ◌<◌, ◌+◌, ◌-◌, ◌∙◌, refl, ℕ, Bool, true, false, not, cond, filter, set, List, [], ◌∷◌, Some, None, is_some}
+use Rattle.std.specs.Prelude.{find, ◌==◌}
 use Rattle.std.proofs.lemmas.Bool.{lt-ltb}
 use Rattle.vr_disk.specs.DiskState as disk
 use Rattle.vr_disk.specs.DiskState.{Disk, Face, Fate, IsFace}
@@ -8,38 +8,36 @@ use Rattle.vr_grid.specs.Blocks.{named}
 use Rattle.vr_grid.specs.Grid.{block_reading, named_at, put_calls}
 use Rattle.vr_grid.specs.declared.name.Name.{Name}
 use Rattle.vr_grid.proofs.Puts.{name_fits, put_law}
-use Rattle.vr_header.specs.declared.part.Part.{Part}
 use Rattle.vr_header.specs.declared.part.Part.TheVariants.{Here}
 use Rattle.vr_header.specs.Made.{Whole}
 use Rattle.vr_journal.specs.Ready.{IsReady, MayStore}
 use Rattle.vr_rings.specs.Calls.{again_calls, new_calls}
 use Rattle.vr_rings.specs.Slots.{IsWhole, slot_of, whole_in}
 use Rattle.vr_rings.proofs.Leaving.{again_leaves, new_leaves}
-use Rattle.vr_rules.specs.Replica.{Replica, forgetting, head, part_at, with_part}
-use Rattle.vr_rules.specs.Rules.{without}
-use Rattle.vr_rules.specs.Sectors.{block_in, calls_of, sectors}
-use Rattle.vr_rules.specs.Steps.{◌⨾◌, PutBlock, after_all, change, does}
+use Rattle.vr_rules.specs.Replica.{Replica, head, part_at, with_part}
+use Rattle.vr_rules.specs.Sectors.{block_in}
+use Rattle.vr_rules.specs.Steps.{◌⨾◌, after_all, change, does}
 use Rattle.vr_rules.specs.Words.{may_be_stored, stored, write}
-use Rattle.vr_rules.proofs.Heads.{Spans, forgetting_at, gone, head_within, with_part_at, with_part_spans}
+use Rattle.vr_rules.proofs.Heads.{Spans, forgetting_at, head_within, with_part_at, with_part_spans}
 use Rattle.vr_rules.proofs.Keeping.{spans_of}
-use Rattle.vr_repair.specs.Laws.{BlockRepaired, BlocksAreRepaired, EntriesAreRepaired, EntryRepaired}
+use Rattle.vr_repair.specs.Laws.{BlocksAreRepaired, EntriesAreRepaired}
 
 -- ---- entries
 
 -- an op above the checkpoint isn't forgotten when its entry is stored
 stored_here : (e : Whole) (r : Replica) → IsReady r → MayStore e r → part_at (stored e r) e.header.op ≡ Here e.header
-unfolding IsReady MayStore
+unfolding IsReady MayStore with_part
 stored_here e r h m =
     let k : ℕ = e.header.op in
     let s = spans_of r h.sound in
-    let q : Replica = with_part k (Here e.header) r in
+    let q : Replica = record r { parts = set r.parts (k - r.first) (Here e.header) } in
     let t : Spans q = with_part_spans k (Here e.header) r s in
-    let top = head_within q t in
+    let top : head q ≤ r.checkpoint + 64 = head_within q t in
     let above = m.above in
     let window = m.window in
     let reach = s.reach in
     let parts = s.parts in
-    forgetting_at q k (stays k (Here e.header) r h.sound m.above top) ∙ with_part_at k (Here e.header) r (omega arith) (omega arith)
+    forgetting_at q k (omega (arith, top, above, reach)) ∙ with_part_at k (Here e.header) r (omega (arith, above, reach)) (omega (arith, window, parts))
 
 calm : Fate
 calm = record { fuse = None; made = 0; failing = []; dead = false }
@@ -49,7 +47,7 @@ entry_reads true e f w h rest = (again_leaves e (Some (record { face = f; fate =
 entry_reads false e f w h rest = (new_leaves e (Some (record { face = f; fate = calm })) h w rest).done.whole
 
 pub entries_repaired : EntriesAreRepaired
-unfolding write ◌⨾◌ does change after_all slot_of
+unfolding write ◌⨾◌ does change after_all
 entries_repaired e r f h m w face rest = record {
   here = stored_here e r h m;
   reads = entry_reads (may_be_stored (part_at r e.header.op)) e f w face rest;

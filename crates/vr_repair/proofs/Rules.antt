@@ -1,8 +1,7 @@
 -- Rules of repair by what their tables say.
-use Rattle.std.proofs.Common.{◌≡◌, ◌≢◌, ◌≤◌, ◌<◌, ◌+◌, ◌-◌, ◌++◌, refl, ap, sym, subst, ◌∙◌, arith, add-one, cond, Bool, true, false, ℕ, zero, suc, length, drop, List, [], ◌∷◌, Option, Some, None, Result, Ok, Err, is_some, slice_get}
-use Rattle.std.specs.Prelude.{find, nat_lt, ◌&&◌, ◌||◌, ◌==◌, if◌then◌else◌}
+use Rattle.std.proofs.Common.{◌≡◌, ◌≤◌, ◌+◌, ◌++◌, refl, sym, subst, arith, add-one, cond, Bool, true, false, ℕ, zero, suc, length, drop, List, [], ◌∷◌, Option, Some, None, Result, Ok, is_some}
+use Rattle.std.specs.Prelude.{find, nat_lt, ◌||◌, ◌==◌, if◌then◌else◌}
 use Rattle.std.specs.List.{list_any}
-use Rattle.std.specs.Option.{option_and_then}
 use Rattle.std.proofs.lemmas.Bool.{and_parts, cond_both, ltb-true}
 use Rattle.std.proofs.lemmas.List.{drop_all}
 use Rattle.vr_base.specs.Bytes.{name_of}
@@ -20,12 +19,13 @@ use Rattle.vr_repair.specs.declared.deciding.Repair.{Repair}
 use Rattle.vr_repair.specs.declared.deciding.Repair.TheVariants as repair
 use Rattle.vr_repair.specs.Reads.{Reads}
 use Rattle.vr_repair.specs.Repairs.{found_at, gives, is_block, rule_of}
-use Rattle.vr_rules.specs.Deciding.{Rule, Ignored, BlockTaken, first_of, get_block_table, get_prepare_table, give_block_table, give_prepare_table, is_known, is_wanted}
+use Rattle.vr_rules.specs.Deciding.{first_of, get_block_table, get_prepare_table, give_block_table, give_prepare_table, is_known, is_wanted}
+use Rattle.vr_rules.specs.declared.rule.Rule.TheVariants.{Ignored, BlockTaken}
 use Rattle.vr_rules.specs.Outputs.{give_block, give_prepare, send_to}
 use Rattle.vr_rules.specs.Replica.{Replica}
 use Rattle.vr_rules.specs.Rules.{asked_block, block_at, give_read, obey_get_block, obey_get_prepare, obey_give_block, obey_give_prepare, on_get_block, on_get_prepare, on_give_block, on_give_prepare, put_found, test_of}
 use Rattle.vr_rules.specs.Sectors.{sectors}
-use Rattle.vr_rules.specs.Steps.{Word, ◌⨾◌, by, quiet, reading}
+use Rattle.vr_rules.specs.Steps.{◌⨾◌, by, quiet, reading}
 use Rattle.vr_rules.specs.Words.{apply, resend, with_entry_at, write}
 use Rattle.vr_rules.proofs.Ruling.{may_store_given}
 use Rattle.vr_rules.proofs.Storing.{MayStore as May}
@@ -43,21 +43,14 @@ module _ (g : GetPrepare) (x : Repair) (r r' : Replica) (d d' : Option Disk) (o 
   pub entry_given : first_of (get_prepare_table name_of g r) ≡ rule_of x → x ≡ repair.EntryGiven → Does (with_entry_at g.op (gives g.replica)) r r' d d' o o' result → Does (on_get_prepare g) r r' d d' o o' result
   entry_given e is h = get_prepare_obeyed e (rw is h)
 
-pub gives_entry : Repair → Bool
-gives_entry repair.Ignored = false
-gives_entry repair.EntryGiven = true
-gives_entry repair.EntryTaken = false
-gives_entry repair.BlockGiven = false
-gives_entry (repair.BlockTaken name) = false
-
-get_prepare_quiet : (g : GetPrepare) (x : Repair) (r : Replica) (d : Option Disk) (o : List Output) → gives_entry x ≡ false → Does (obey_get_prepare g (rule_of x)) r r d d o o (Ok tt)
+get_prepare_quiet : (g : GetPrepare) (x : Repair) (r : Replica) (d : Option Disk) (o : List Output) → (x ≡ repair.EntryGiven → ⊥) → Does (obey_get_prepare g (rule_of x)) r r d d o o (Ok tt)
 get_prepare_quiet g repair.Ignored r d o n = does_quiet r d o
-get_prepare_quiet g repair.EntryGiven r d o n = absurd cc
+get_prepare_quiet g repair.EntryGiven r d o n = absurd (n refl)
 get_prepare_quiet g repair.EntryTaken r d o n = does_quiet r d o
 get_prepare_quiet g repair.BlockGiven r d o n = does_quiet r d o
 get_prepare_quiet g (repair.BlockTaken name) r d o n = does_quiet r d o
 
-pub get_prepare_ignored : (g : GetPrepare) (x : Repair) (r : Replica) (d : Option Disk) (o : List Output) → first_of (get_prepare_table name_of g r) ≡ rule_of x → gives_entry x ≡ false → Does (on_get_prepare g) r r d d o o (Ok tt)
+pub get_prepare_ignored : (g : GetPrepare) (x : Repair) (r : Replica) (d : Option Disk) (o : List Output) → first_of (get_prepare_table name_of g r) ≡ rule_of x → (x ≡ repair.EntryGiven → ⊥) → Does (on_get_prepare g) r r d d o o (Ok tt)
 get_prepare_ignored g x r d o e n = get_prepare_obeyed g x r r d d o o (Ok tt) e (get_prepare_quiet g x r d o n)
 
 module _ (op to : ℕ) (r q : Replica) (d d' : Option Disk) (found : Option Whole) (reads : Reads op r q d d' found) where
@@ -89,43 +82,28 @@ module _ (g : GivePrepare) (x : Repair) (r r' : Replica) (d d' : Option Disk) (o
   pub entry_taken : first_of (give_prepare_table g r) ≡ rule_of x → x ≡ repair.EntryTaken → Does (write g.entry ⨾ resend g.entry ⨾ apply) r r' d d' o o' result → Does (on_give_prepare g) r r' d d' o o' result
   entry_taken e is h = give_prepare_obeyed e (rw is h)
 
-pub takes_entry : Repair → Bool
-takes_entry repair.Ignored = false
-takes_entry repair.EntryGiven = false
-takes_entry repair.EntryTaken = true
-takes_entry repair.BlockGiven = false
-takes_entry (repair.BlockTaken name) = false
-
-give_prepare_quiet : (g : GivePrepare) (x : Repair) (r : Replica) (d : Option Disk) (o : List Output) → takes_entry x ≡ false → Does (obey_give_prepare g (rule_of x)) r r d d o o (Ok tt)
+give_prepare_quiet : (g : GivePrepare) (x : Repair) (r : Replica) (d : Option Disk) (o : List Output) → (x ≡ repair.EntryTaken → ⊥) → Does (obey_give_prepare g (rule_of x)) r r d d o o (Ok tt)
 give_prepare_quiet g repair.Ignored r d o n = does_quiet r d o
 give_prepare_quiet g repair.EntryGiven r d o n = does_quiet r d o
-give_prepare_quiet g repair.EntryTaken r d o n = absurd cc
+give_prepare_quiet g repair.EntryTaken r d o n = absurd (n refl)
 give_prepare_quiet g repair.BlockGiven r d o n = does_quiet r d o
 give_prepare_quiet g (repair.BlockTaken name) r d o n = does_quiet r d o
 
-pub give_prepare_ignored : (g : GivePrepare) (x : Repair) (r : Replica) (d : Option Disk) (o : List Output) → first_of (give_prepare_table g r) ≡ rule_of x → takes_entry x ≡ false → Does (on_give_prepare g) r r d d o o (Ok tt)
+pub give_prepare_ignored : (g : GivePrepare) (x : Repair) (r : Replica) (d : Option Disk) (o : List Output) → first_of (give_prepare_table g r) ≡ rule_of x → (x ≡ repair.EntryTaken → ⊥) → Does (on_give_prepare g) r r d d o o (Ok tt)
 give_prepare_ignored g x r d o e n = give_prepare_obeyed g x r r d d o o (Ok tt) e (give_prepare_quiet g x r d o n)
 
 -- ---- get_block
 
-pub block_read : (g : GetBlock) (r : Replica) (d d' : Option Disk) (o o' : List Output) (found : Option (List ℕ)) (b : List ℕ) → Finds (block_at (asked_block g)) d d' found → found ≡ Some b
-    → o' ≡ o ++ send_to g.replica (give_block g.address b r) r → Does (reading (block_at (asked_block g)) (give_read g)) r r d d' o o' (Ok tt)
-block_read g r d d' o o' found b f is said =
-    let k : Finds (block_at (asked_block g)) d d' (Some b) = rw is at f in
-    does_reading (block_at (asked_block g)) (give_read g) (Some b) r r d d' d' o o' (Ok tt) k (says_by (λ x. send_to g.replica (give_block g.address b x) x) r d' o o' said)
+module _ (g : GetBlock) (r : Replica) (d d' : Option Disk) (name : Name) (found : Option (List ℕ)) (read : Finds (block_at name) d d' found) (asked : name ≡ asked_block g) where
+  pub block_read : (b : List ℕ) (o o' : List Output) → found ≡ Some b → o' ≡ o ++ send_to g.replica (give_block g.address b r) r → Does (reading (block_at (asked_block g)) (give_read g)) r r d d' o o' (Ok tt)
+  block_read b o o' is said =
+      let k : Finds (block_at (asked_block g)) d d' (Some b) = rw (asked, is) at read in
+      does_reading (block_at (asked_block g)) (give_read g) (Some b) r r d d' d' o o' (Ok tt) k (says_by (λ x. send_to g.replica (give_block g.address b x) x) r d' o o' said)
 
-pub block_unread : (g : GetBlock) (r : Replica) (d d' : Option Disk) (o : List Output) (found : Option (List ℕ)) → Finds (block_at (asked_block g)) d d' found → found ≡ None
-    → Does (reading (block_at (asked_block g)) (give_read g)) r r d d' o o (Ok tt)
-block_unread g r d d' o found f is =
-    let k : Finds (block_at (asked_block g)) d d' None = rw is at f in
-    does_reading (block_at (asked_block g)) (give_read g) None r r d d' d' o o (Ok tt) k (does_quiet r d' o)
-
-pub gives_block : Repair → Bool
-gives_block repair.Ignored = false
-gives_block repair.EntryGiven = false
-gives_block repair.EntryTaken = false
-gives_block repair.BlockGiven = true
-gives_block (repair.BlockTaken name) = false
+  pub block_unread : (o : List Output) → found ≡ None → Does (reading (block_at (asked_block g)) (give_read g)) r r d d' o o (Ok tt)
+  block_unread o is =
+      let k : Finds (block_at (asked_block g)) d d' None = rw (asked, is) at read in
+      does_reading (block_at (asked_block g)) (give_read g) None r r d d' d' o o (Ok tt) k (does_quiet r d' o)
 
 abbrev pub DecidesBlock : GetBlock → Repair → Replica → Type 0
 DecidesBlock g x r = (reads : Bool) → first_of (get_block_table reads g r) ≡ (if reads then rule_of x else Ignored)
@@ -135,12 +113,12 @@ gives_as : (g : GetBlock) (r : Replica) (block : Option (List ℕ)) → DecidesB
 gives_as g r None e = rw (e false) refl
 gives_as g r (Some b) e = rw (e true) refl
 
-ignores_as : (g : GetBlock) (x : Repair) (r : Replica) (block : Option (List ℕ)) → DecidesBlock g x r → gives_block x ≡ false → obey_get_block {F = Face} g block (first_of (get_block_table (is_some block) g r)) ≡ quiet
+ignores_as : (g : GetBlock) (x : Repair) (r : Replica) (block : Option (List ℕ)) → DecidesBlock g x r → (x ≡ repair.BlockGiven → ⊥) → obey_get_block {F = Face} g block (first_of (get_block_table (is_some block) g r)) ≡ quiet
 ignores_as g x r None e n = rw (e false) refl
 ignores_as g repair.Ignored r (Some b) e n = rw (e true) refl
 ignores_as g repair.EntryGiven r (Some b) e n = rw (e true) refl
 ignores_as g repair.EntryTaken r (Some b) e n = rw (e true) refl
-ignores_as g repair.BlockGiven r (Some b) e n = absurd cc
+ignores_as g repair.BlockGiven r (Some b) e n = absurd (n refl)
 ignores_as g (repair.BlockTaken name) r (Some b) e n = rw (e true) refl
 
 pub block_given : (g : GetBlock) (x : Repair) (r r' : Replica) (d d' : Option Disk) (o o' : List Output) (result : Result (Unit {0}) Halt) → DecidesBlock g x r → x ≡ repair.BlockGiven
@@ -153,7 +131,7 @@ block_given g x r r' d d' o o' result e is h =
       told = λ y i. subst (λ w. LeftBy (w sectors r y.face) r' y d' o o' result) (sym (gives_as g r (block_at (asked_block g) sectors y.face) k)) (h.told y i);
     }
 
-pub get_block_ignored : (g : GetBlock) (x : Repair) (r : Replica) (d : Option Disk) (o : List Output) → DecidesBlock g x r → gives_block x ≡ false → Does (on_get_block g) r r d d o o (Ok tt)
+pub get_block_ignored : (g : GetBlock) (x : Repair) (r : Replica) (d : Option Disk) (o : List Output) → DecidesBlock g x r → (x ≡ repair.BlockGiven → ⊥) → Does (on_get_block g) r r d d o o (Ok tt)
 unfolding on_get_block reading by
 get_block_ignored g x r d o e n =
     let h = does_quiet r d o in
@@ -166,7 +144,7 @@ get_block_ignored g x r d o e n =
 
 pub found_more : {X : Type 0} (p : X → Bool) (xs : List X) (i : ℕ) → found_at p xs i ≡ None → find p (drop i xs) ≡ find p (drop (i + 1) xs)
 found_more p [] zero e = refl
-found_more p [] (suc i) e = refl
+found_more p [] (suc i) e = rw add-one refl
 found_more p (x ∷ xs) zero e = elim (p x) as (λ b. cond b (Some x) None ≡ None → cond b (Some x) (find p xs) ≡ find p xs) [ true ↦ λ k. absurd cc | false ↦ λ k. refl ] e
 found_more p (x ∷ xs) (suc i) e = rw add-one (rw add-one at (found_more p xs i e))
 
@@ -215,19 +193,12 @@ block_taken g x name r r' d d' o o' result e is found h =
     let t : first_of (give_block_table is_block g r) ≡ BlockTaken = rw is at e in
     tests g r r' d d' o o' result (rw t (does_by _ r r' d d' o o' result (rw found h)))
 
-pub takes_block : Repair → Bool
-takes_block repair.Ignored = false
-takes_block repair.EntryGiven = false
-takes_block repair.EntryTaken = false
-takes_block repair.BlockGiven = false
-takes_block (repair.BlockTaken name) = true
-
-give_block_quiet : (g : GiveBlock) (x : Repair) (r : Replica) (d : Option Disk) (o : List Output) → takes_block x ≡ false → Does (obey_give_block is_block g (rule_of x)) r r d d o o (Ok tt)
+give_block_quiet : (g : GiveBlock) (x : Repair) (r : Replica) (d : Option Disk) (o : List Output) → ((name : Name) → x ≡ repair.BlockTaken name → ⊥) → Does (obey_give_block is_block g (rule_of x)) r r d d o o (Ok tt)
 give_block_quiet g repair.Ignored r d o n = does_quiet r d o
 give_block_quiet g repair.EntryGiven r d o n = does_quiet r d o
 give_block_quiet g repair.EntryTaken r d o n = does_quiet r d o
 give_block_quiet g repair.BlockGiven r d o n = does_quiet r d o
-give_block_quiet g (repair.BlockTaken name) r d o n = absurd cc
+give_block_quiet g (repair.BlockTaken name) r d o n = absurd (n name refl)
 
-pub give_block_ignored : (g : GiveBlock) (x : Repair) (r : Replica) (d : Option Disk) (o : List Output) → first_of (give_block_table is_block g r) ≡ rule_of x → takes_block x ≡ false → Does (on_give_block g) r r d d o o (Ok tt)
+pub give_block_ignored : (g : GiveBlock) (x : Repair) (r : Replica) (d : Option Disk) (o : List Output) → first_of (give_block_table is_block g r) ≡ rule_of x → ((name : Name) → x ≡ repair.BlockTaken name → ⊥) → Does (on_give_block g) r r d d o o (Ok tt)
 give_block_ignored g x r d o e n = tests g r r d d o o (Ok tt) (rw e (give_block_quiet g x r d o n))

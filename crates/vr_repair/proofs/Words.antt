@@ -1,5 +1,5 @@
 -- Words of repair by what their code does.
-use Rattle.std.proofs.Common.{◌≡◌, ◌≤◌, ◌++◌, refl, ap, sym, ◌∙◌, arith, cond, Bool, true, false, ℕ, List, [], ◌∷◌, Option, Some, None, Result, Ok, Err, slice_get}
+use Rattle.std.proofs.Common.{◌≡◌, ◌++◌, cond, Bool, true, false, ℕ, List, [], ◌∷◌, Option, Some, None, Result, Ok, Err, slice_get}
 use Rattle.std.specs.Prelude.{nat_lt, ◌&&◌, if◌then◌else◌}
 use Rattle.vr_base.specs.Bytes.{name_of}
 use Rattle.vr_disk.specs.DiskState.{Disk, Face}

@@ -4,10 +4,9 @@ use Rattle.std.specs.Option.{option_and_then}
 use Rattle.vr_grid.specs.Blocks.{named}
 use Rattle.vr_grid.specs.declared.name.Name.{Name}
 use Rattle.vr_header.specs.Made.{Whole}
-use Rattle.vr_msg.specs.declared.output.Output.{Output}
-use Rattle.vr_rules.specs.Deciding.{Rule, Ignored, EntryGiven, EntryTaken, BlockGiven, BlockTaken}
+use Rattle.vr_rules.specs.declared.rule.Rule.{Rule}
+use Rattle.vr_rules.specs.declared.rule.Rule.TheVariants.{Ignored, EntryGiven, EntryTaken, BlockGiven, BlockTaken}
 use Rattle.vr_rules.specs.Outputs.{give_prepare, send_to}
-use Rattle.vr_rules.specs.Replica.{Replica}
 use Rattle.vr_rules.specs.Steps.{Word, says}
 use Rattle.vr_repair.specs.declared.deciding.Repair.{Repair}
 use Rattle.vr_repair.specs.declared.deciding.Repair.TheVariants as repair

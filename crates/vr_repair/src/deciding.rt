@@ -3,7 +3,8 @@ ghost use Rattle.std.specs.Prelude.{◌≡◌, Bool, if◌then◌else◌};
 ghost use Rattle.vr_base.specs.Bytes.{name_of};
 ghost use Rattle.vr_journal.specs.Ready.{IsReady, MayStore};
 ghost use Rattle.vr_repair.specs.Repairs.{rule_of};
-ghost use Rattle.vr_rules.specs.Deciding.{Ignored, first_of, get_block_table, get_prepare_table, give_prepare_table};
+ghost use Rattle.vr_rules.specs.Deciding.{first_of, get_block_table, get_prepare_table, give_prepare_table};
+ghost use Rattle.vr_rules.specs.declared.rule.Rule.TheVariants.{Ignored};
 ghost use Rattle.vr_rules.specs.Replica.{is_absent};
 
 use vr_grid::Name;

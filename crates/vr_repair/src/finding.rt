@@ -1,13 +1,16 @@
 //! What a replica reads to give it, or to tell of it.
-ghost use Rattle.std.specs.Prelude.{◌≡◌, ◌≤◌, IfOk, IfSome, OnOk};
+ghost use Rattle.std.specs.Prelude.{◌≡◌, ◌≤◌, IfOk, IfSome, None, OnOk, Some, length, if◌then◌else◌};
 ghost use Rattle.vr_header.specs.declared.part.Part.TheVariants.{Here};
 ghost use Rattle.vr_journal.specs.Ready.{IsReady};
 ghost use Rattle.vr_repair.specs.Reads.{Reads};
 ghost use Rattle.vr_rules.specs.Replica.{part_at};
+ghost use Rattle.vr_rules.specs.Rules.{block_at};
+ghost use Rattle.vr_step.specs.Does.{Finds};
 
-use std::alloc::Global;
-use vr_base::NoMemory;
-use vr_disk::SectorDisk;
+use std::alloc::{AllocError, Global};
+use vr_base::{ByteList, NoMemory, Seq};
+use vr_disk::{BLOCK_SECTORS, SectorDisk, block_at, read_sectors};
+use vr_grid::{Name, is_block_of};
 use vr_header::{Entry, Header, Part};
 use vr_journal::{Replica, find_entry};
 
@@ -81,4 +84,49 @@ pub fn read_entry<D: SectorDisk>(
 {
     let part = replica.part_at(op);
     read_part(replica, alloc, disk, op, part)
+}
+
+fn list_of(alloc: Global, bytes: &[u8]) -> Result<ByteList, AllocError>
+    ensures { IfOk result (λ list. list ≡ bytes.now) }
+{
+    let mut list = Seq::new(alloc);
+    list.extend(bytes)?;
+    Ok(list)
+}
+
+// Whether a block can be read, and is the whole one of this name.
+#[tactic(auto, using(crate::proofs::BlockReadings::block_past, crate::proofs::BlockReadings::block_unread, crate::proofs::BlockReadings::block_as))]
+fn read_whole<D: SectorDisk>(disk: &mut D, name: &Name, to: &mut [u8]) -> bool
+    requires { length to.old ≡ 4096 }
+    ensures told { D.told disk.new ≡ D.told disk.old }
+    ensures faults { D.faults disk.new ≡ D.faults disk.old }
+    ensures found { Finds (block_at name.now) (D.told disk.old) (D.told disk.new) (if result then Some to.new else None) }
+    ensures size { length to.new ≡ 4096 }
+{
+    if name.address >= 128 {
+        return false;
+    }
+    if !read_sectors(disk, block_at(name.address as u32), BLOCK_SECTORS, to) {
+        return false;
+    }
+    is_block_of(to, name)
+}
+
+/// The whole block that reads under this name, of 4,096 bytes; `None` where none does. Memory is taken for the block alone.
+pub fn find_block<D: SectorDisk>(
+    alloc: Global,
+    disk: &mut D,
+    name: &Name,
+) -> Result<Option<ByteList>, NoMemory>
+    ensures told { D.told disk.new ≡ D.told disk.old }
+    ensures faults { D.faults disk.new ≡ D.faults disk.old }
+    ensures found { IfOk result (λ block. Finds (block_at name.now) (D.told disk.old) (D.told disk.new) block) }
+    ensures size { IfOk result (λ block. IfSome block (λ bytes. length bytes ≡ 4096)) }
+{
+    let mut bytes = [0; 4096];
+    if read_whole(disk, name, &mut bytes) {
+        Ok(Some(list_of(alloc, &bytes)?))
+    } else {
+        Ok(None)
+    }
 }

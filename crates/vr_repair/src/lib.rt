@@ -3,6 +3,7 @@
 //! Each word and each rule has one clause on replica, disk and outputs: that what it does is the word of the definitions.
 #![tactic(auto)]
 
+mod blocks;
 mod commits;
 mod deciding;
 mod entries;
@@ -10,11 +11,14 @@ mod finding;
 mod laws;
 mod missing;
 mod retelling;
+mod wanting;
 
+pub use blocks::{handle_get_block, handle_give_block};
 pub use commits::advance;
 pub use deciding::{Repair, decide_get_block, decide_get_prepare, decide_give_prepare};
 pub use entries::{handle_get_prepare, handle_give_prepare};
-pub use finding::read_entry;
+pub use finding::{find_block, read_entry};
 pub use laws::repair_laws;
 pub use missing::{ask, put_block};
 pub use retelling::{prepare_again, resend};
+pub use wanting::decide_give_block;

@@ -3,7 +3,7 @@ ghost use Rattle.std.specs.Prelude.{◌≡◌, OnOk, [], is_some, true};
 ghost use Rattle.vr_base.specs.Bytes.{name_of};
 ghost use Rattle.vr_grid.specs.Blocks.{named};
 ghost use Rattle.vr_header.specs.Made.{IsEntryHeader};
-ghost use Rattle.vr_journal.specs.Ready.{IsReady, MayLoad, TextsHaveNumbers};
+ghost use Rattle.vr_journal.specs.Ready.{IsReady, MayLoad};
 ghost use Rattle.vr_repair.specs.Reads.{loads_whole};
 ghost use Rattle.vr_rules.specs.Outputs.{get_block, get_prepare};
 ghost use Rattle.vr_rules.specs.Rules.{put_block};
@@ -97,7 +97,6 @@ fn load_whole<D: SectorDisk>(
     out: &mut Outbox,
 ) -> Result<(), Halt>
     requires may { MayLoad replica.old }
-    requires numbers { TextsHaveNumbers }
     ensures ready { OnOk result (IsReady replica.new) }
     ensures view { OnOk result (replica.new.view ≡ replica.old.view) }
     ensures saved { OnOk result (replica.new.saved ≡ replica.old.saved) }
@@ -123,7 +122,6 @@ pub fn put_block<D: SectorDisk>(
 ) -> Result<(), Halt>
     requires may { MayLoad replica.old }
     requires named { is_some (named name.now block.now) ≡ true }
-    requires numbers { TextsHaveNumbers }
     ensures ready { OnOk result (IsReady replica.new) }
     ensures view { OnOk result (replica.new.view ≡ replica.old.view) }
     ensures saved { OnOk result (replica.new.saved ≡ replica.old.saved) }

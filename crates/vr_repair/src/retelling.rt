@@ -22,6 +22,7 @@ fn is_open(replica: &Replica, entry: &Entry) -> bool
 }
 
 // The primary prepares the entry to all, a backup tells the primary that it is stored.
+#[tactic(auto, using(vr_journal::proofs::Memory::some_member))]
 fn tell(replica: &Replica, alloc: Global, entry: &Entry, out: &mut Outbox) -> Result<(), AllocError>
     requires ready { IsReady replica.now }
     requires view { replica.now.view ≤ last_view }

@@ -39,28 +39,28 @@ record Values (c n i : ℕ) (m : Member) : Type 0 where
   under : (v : Saved) → m.under ≡ Some v → IsFitValue c n i v
 
 -- what is known of an effect
-record Known (c n i : ℕ) (es : List Effect) : Type 0 where
-  fit : All IsFit es
-  saves : All IsGoodSave es
-  own : All (IsOwn c n i) es
+pub record Known (c n i : ℕ) (es : List Effect) : Type 0 where
+  pub fit : All IsFit es
+  pub saves : All IsGoodSave es
+  pub own : All (IsOwn c n i) es
 
-known_first : (c n i : ℕ) (e : Effect) (es : List Effect) → Known c n i (e ∷ es) → IsFit e × IsGoodSave e × IsOwn c n i e
+pub known_first : (c n i : ℕ) (e : Effect) (es : List Effect) → Known c n i (e ∷ es) → IsFit e × IsGoodSave e × IsOwn c n i e
 known_first c n i e es k = (All-head IsFit e es k.fit, All-head IsGoodSave e es k.saves, All-head (IsOwn c n i) e es k.own)
 
-known_rest : (c n i : ℕ) (e : Effect) (es : List Effect) → Known c n i (e ∷ es) → Known c n i es
+pub known_rest : (c n i : ℕ) (e : Effect) (es : List Effect) → Known c n i (e ∷ es) → Known c n i es
 known_rest c n i e es k = record { fit = All-tail IsFit e es k.fit; saves = All-tail IsGoodSave e es k.saves; own = All-tail (IsOwn c n i) e es k.own }
 
 known_take : (c n i k : ℕ) (es : List Effect) → Known c n i es → Known c n i (take k es)
 known_take c n i k es h = record { fit = All-take IsFit k es h.fit; saves = All-take IsGoodSave k es h.saves; own = All-take (IsOwn c n i) k es h.own }
 
-known_left : (c n i : ℕ) (xs ys : List Effect) → Known c n i (xs ++ ys) → Known c n i xs
+pub known_left : (c n i : ℕ) (xs ys : List Effect) → Known c n i (xs ++ ys) → Known c n i xs
 known_left c n i [] ys h = record { fit = All-nil IsFit; saves = All-nil IsGoodSave; own = All-nil (IsOwn c n i) }
 known_left c n i (x ∷ xs) ys h =
     let one = known_first c n i x (xs ++ ys) h in
     let rest = known_left c n i xs ys (known_rest c n i x (xs ++ ys) h) in
     record { fit = All-cons IsFit x xs one.0 rest.fit; saves = All-cons IsGoodSave x xs one.1 rest.saves; own = All-cons (IsOwn c n i) x xs one.2 rest.own }
 
-known_right : (c n i : ℕ) (xs ys : List Effect) → Known c n i (xs ++ ys) → Known c n i ys
+pub known_right : (c n i : ℕ) (xs ys : List Effect) → Known c n i (xs ++ ys) → Known c n i ys
 known_right c n i [] ys h = h
 known_right c n i (x ∷ xs) ys h = known_right c n i xs ys (known_rest c n i x (xs ++ ys) h)
 
@@ -123,7 +123,7 @@ module _ (c n i : ℕ) where
   stopped : (m : Member) → Values c n i m → IsFitMember c n i (record m { replica = None })
   stopped m v = record { running = λ q e. absurd cc; last = v.last; under = v.under }
 
-  good_value : (m : Member) (v : Saved) → IsFitMember c n i m → MayOpen m v → IsFitValue c n i v
+  pub good_value : (m : Member) (v : Saved) → IsFitMember c n i m → MayOpen m v → IsFitValue c n i v
   good_value m v h (inl e) = subst (IsFitValue c n i) e h.last
   good_value m v h (inr e) = h.under v e
 
@@ -166,20 +166,20 @@ one_moved c g at m es said h k fit s = record {
 
 -- ---- what arrives may come
 
-arrives : (c : ℕ) (g : Group) (at : ℕ) (a : Arrival) (e : Event) → IsFitGroup c g → IsFitArrival a → IsArrival g at a e → IsEvent e
+pub arrives : (c : ℕ) (g : Group) (at : ℕ) (a : Arrival) (e : Event) → IsFitGroup c g → IsFitArrival a → IsArrival g at a e → IsEvent e
 arrives c g at (Asked q) e h l i = rw i.1 (asked_may_come q i.0 l)
 arrives c g at (Message number) e h l i = rw i.3 (at_place MayCome g.sent number i.0 h.sent i.1)
 arrives c g at Time e h l i = rw i tt
 
 -- ---- steps and openings
 
-record Stepped (c n i : ℕ) (x : Step) : Type 0 where
-  fit : IsFitStep x
-  known : Known c n i x.script
-  replica : IsFitReplica x.replica
-  at : IsAt c n i x.replica
+pub record Stepped (c n i : ℕ) (x : Step) : Type 0 where
+  pub fit : IsFitStep x
+  pub known : Known c n i x.script
+  pub replica : IsFitReplica x.replica
+  pub at : IsAt c n i x.replica
 
-step_is : (c n i : ℕ) (r : Replica) (e : Event) (d : Lying) → IsFitReplica r → IsAt c n i r → IsEvent e → ReadsWell lying d → Stepped c n i (stepped e r d)
+pub step_is : (c n i : ℕ) (r : Replica) (e : Event) (d : Lying) → IsFitReplica r → IsAt c n i r → IsEvent e → ReadsWell lying d → Stepped c n i (stepped e r d)
 step_is c n i r e d h at m k =
     let fit = steps_fit lying d r e disks_fit.lies disks_fit.roots k h.sound h.savable h.missing m in
     let saves = steps_save_well lying d r e disks_fit.names disks_fit.roots h.sound h.savable m in
@@ -193,7 +193,7 @@ opening_is c n i v d g k =
     let own : IsOwnStep c n i (opening v lying (blank v) d) = rw (← g.1.cluster, ← g.1.n, ← g.1.index) (openings_are_own lying d v) in
     record { fit = fit; known = record { fit = fit.each; saves = saves.each; own = own.each }; replica = record { sound = openings_are_sound lying d v (headers_of lying d k) g.0; savable = saves.savable; missing = fit.missing }; at = own.replica }
 
-start_is : (c n i : ℕ) (v : Saved) (d : Lying) → IsFitValue c n i v → ReadsWell lying d → Stepped c n i (in_two v d)
+pub start_is : (c n i : ℕ) (v : Saved) (d : Lying) → IsFitValue c n i v → ReadsWell lying d → Stepped c n i (in_two v d)
 start_is c n i v d g k = subst (Stepped c n i) (opening_in_two v d) (opening_is c n i v d g k)
 
 finishes : (c : ℕ) (g : Group) (at : ℕ) (m : Member) (x : Step) → IsFitGroup c g → Values c g.n at m → Stepped c g.n at x → IsFitGroup c (finished g at m x).group
@@ -264,7 +264,7 @@ fresh_at c n from (suc count) (suc j) m e =
     let at : from + suc j ≡ from + 1 + j = omega arith in
     (rw at rest.0, omega (arith, rest.1))
 
-fresh_group_fits : (c n : ℕ) → c < 2 ^ 64 → 2 ≤ n → n ≤ 6 → IsFitGroup c (fresh_group c n)
+pub fresh_group_fits : (c n : ℕ) → c < 2 ^ 64 → 2 ≤ n → n ≤ 6 → IsFitGroup c (fresh_group c n)
 unfolding fresh_group
 fresh_group_fits c n l a b = record {
   members = λ at m e. let k = fresh_at c n 0 n at m e in let same : at ≡ 0 + at = omega arith in subst (IsFitMember c n at) k.0 (subst (λ j. IsFitMember c n at (fresh_member c n j)) same (fresh_is c n at l a b k.1));

@@ -1,7 +1,12 @@
 -- Causes of an early end, one call after another.
-use Rattle.std.proofs.Common.{ℕ, ◌≤◌, Result, Ok, Err, arith}
+use Rattle.std.proofs.Common.{ℕ, ◌≡◌, ◌≤◌, List, [], ◌∷◌, Option, Result, Ok, Err, arith, ap, subst}
 use Rattle.vr_base.specs.Causes.{Rose}
-use Rattle.vr_serve.specs.Causes.{HasCauses, counts}
+use Rattle.vr_edge.specs.Datagrams.{Arrival, Failed}
+use Rattle.vr_edge.specs.Told.{Grows}
+use Rattle.vr_mail.specs.Letters.{Gives}
+use Rattle.vr_mail.specs.declared.receiving.ReceiveFault.{ReceiveFault}
+use Rattle.vr_mail.specs.declared.receiving.ReceiveFault.TheVariants as received
+use Rattle.vr_serve.specs.Causes.{HasCauses, counts, received_stop}
 use Rattle.vr_serve.specs.declared.stop.Stop.{Stop}
 use Rattle.vr_serve.specs.declared.stop.Stop.TheVariants as stop
 
@@ -31,3 +36,16 @@ causes_put d d' w w' l l' (Err stop.Disk) x c = absurd (let no : Rose 0 0 = c.st
 causes_put d d' w w' l l' (Err stop.Link) x c = record { disk = x; write = c.write; link = c.link; stop = c.stop }
 causes_put d d' w w' l l' (Err stop.Write) x c = record { disk = x; write = c.write; link = c.link; stop = c.stop }
 causes_put d d' w w' l l' (Err stop.NoMemory) x c = record { disk = x; write = c.write; link = c.link; stop = tt }
+
+-- a receive that failed is told as such
+pub link_failed : (cluster : ℕ) (f : ReceiveFault) (old new : Option (List Arrival)) (arrival : Arrival) → Grows old new (arrival ∷ [])
+    → Gives cluster arrival (Err f) → received_stop f ≡ stop.Link → Grows old new (Failed ∷ [])
+link_failed cluster received.Link old new arrival grows gives is = subst (λ a. Grows old new (a ∷ [])) gives grows
+link_failed cluster received.NoMemory old new arrival grows gives is = absurd (let clash : stop.NoMemory ≡ stop.Link = is in cc)
+
+abbrev stop_in : {T : Type 0} → Result T Stop → Stop
+stop_in (Ok t) = stop.Link
+stop_in (Err s) = s
+
+pub same_stop : {T : Type 0} (s t : Stop) → ◌≡◌ {A = Result T Stop} (Err s) (Err t) → s ≡ t
+same_stop s t e = ap stop_in e

@@ -1,5 +1,5 @@
 //! One event.
-ghost use Rattle.std.specs.Prelude.{◌≡◌, ◌≤◌, [], ◌∷◌, OnOk, OnErr, true};
+ghost use Rattle.std.specs.Prelude.{◌≡◌, ◌≢◌, ◌≤◌, [], ◌∷◌, OnOk, OnErr, true};
 ghost use Rattle.vr_serve.specs.Causes.{HasCauses, counts};
 ghost use Rattle.vr_serve.specs.Events.{event_of};
 ghost use Rattle.vr_serve.specs.Runs.{Cut, Passed, at};
@@ -39,6 +39,7 @@ pub fn handle<M: Member, D: SectorDisk, K: Sink, L: Link>(
     ensures running { OnOk result (M.runs member.new ≡ true) }
     ensures causes { HasCauses (counts (D.faults disk.old) (K.faults sink.old) (L.faults link.old)) (counts (D.faults disk.new) (K.faults sink.new) (L.faults link.new)) result }
     ensures received { L.received link.new ≡ L.received link.old }
+    ensures unlinked { result ≢ Err Stop.Link }
     ensures passed { OnOk result (Passed M.does
         (at member.old (D.told disk.old) post.old.number post.old.clients.items (K.taken sink.old) (L.sent link.old))
         (at member.new (D.told disk.new) post.new.number post.new.clients.items (K.taken sink.new) (L.sent link.new))

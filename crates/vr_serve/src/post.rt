@@ -1,5 +1,5 @@
 //! What the loop keeps of a run, and how it puts outputs out.
-ghost use Rattle.std.specs.Prelude.{◌≡◌, ◌≤◌, [], IfOk, OnOk, OnErr, vec_capacity};
+ghost use Rattle.std.specs.Prelude.{◌≡◌, ◌≢◌, ◌≤◌, [], IfOk, OnOk, OnErr, vec_capacity};
 ghost use Rattle.std.specs.Io.KnownBytes.{Appends};
 ghost use Rattle.vr_edge.specs.declared.link.TheConstants.{RECEIVE_ROOM};
 ghost use Rattle.vr_mail.specs.Sends.{Sends};
@@ -57,6 +57,7 @@ impl Post {
         ensures number { OnOk result (self.new.number ≡ numbers_after self.old.number outputs) }
         ensures clients { self.new.clients ≡ self.old.clients }
         ensures front { OnErr result (PutsFront (text_from self.old.number outputs) (datagrams_for self.old.clients.items outputs) (K.taken sink.old) (K.taken sink.new) (L.sent link.old) (L.sent link.new)) }
+        ensures unlinked { result ≢ Err Stop.Link }
         ensures causes { HasCauses (counts 0 (K.faults sink.old) (L.faults link.old)) (counts 0 (K.faults sink.new) (L.faults link.new)) result }
         ensures received { L.received link.new ≡ L.received link.old }
         ensures faults { L.faults link.new ≡ L.faults link.old }

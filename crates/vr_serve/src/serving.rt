@@ -1,12 +1,12 @@
 //! The loop.
-ghost use Rattle.std.specs.Prelude.{◌≡◌, ◌≤◌, ◌⊎◌, [], ◌∷◌, Option, OnOk, OnErr, IfOk, true};
-ghost use Rattle.vr_edge.specs.Datagrams.{Arrival};
+ghost use Rattle.std.specs.Prelude.{◌≡◌, ◌≢◌, ◌≤◌, ◌⊎◌, [], ◌∷◌, Option, OnOk, OnErr, IfOk, true};
+ghost use Rattle.vr_edge.specs.Datagrams.{Arrival, Failed};
 ghost use Rattle.vr_edge.specs.Told.{GivesNext, Grows};
 ghost use Rattle.vr_mail.specs.Letters.{Brings};
 ghost use Rattle.vr_mail.specs.declared.receiving.Letter.{Letter};
 ghost use Rattle.vr_serve.specs.Causes.{HasCauses, counts};
 ghost use Rattle.vr_serve.specs.Events.{Begins, Turn, comes_of, due, events_of, last_after};
-ghost use Rattle.vr_serve.specs.Runs.{Cut, IsCutBefore, IsCutInTurn, IsServed, Passed, at};
+ghost use Rattle.vr_serve.specs.Runs.{Cut, EndsFailed, IsCutBefore, IsCutInTurn, IsServed, Passed, at};
 
 use crate::handling::{event_of, handle};
 use crate::post::Post;
@@ -31,6 +31,7 @@ fn arrive<M: Member, D: SectorDisk, K: Sink, L: Link>(
     requires { M.runs member.old ≡ true }
     ensures running { OnOk result (M.runs member.new ≡ true) }
     ensures causes { HasCauses (counts (D.faults disk.old) (K.faults sink.old) (L.faults link.old)) (counts (D.faults disk.new) (K.faults sink.new) (L.faults link.new)) result }
+    ensures linked { result ≡ Err Stop.Link → Grows (L.received link.old) (L.received link.new) (Failed ∷ []) }
     ensures passed { OnOk result ((arrival : Arrival) × (letter : Option Letter) × Grows (L.received link.old) (L.received link.new) (arrival ∷ [])
         × Brings cluster arrival letter × Passed M.does
         (at member.old (D.told disk.old) post.old.number post.old.clients.items (K.taken sink.old) (L.sent link.old))
@@ -66,6 +67,7 @@ fn beat<M: Member, D: SectorDisk, K: Sink, L: Link>(
     ensures running { OnOk result (M.runs member.new ≡ true) }
     ensures causes { HasCauses (counts (D.faults disk.old) (K.faults sink.old) (L.faults link.old)) (counts (D.faults disk.new) (K.faults sink.new) (L.faults link.new)) result }
     ensures received { L.received link.new ≡ L.received link.old }
+    ensures unlinked { result ≢ Err Stop.Link }
     ensures last { IfOk result (λ after. after ≡ last_after last now) }
     ensures passed { OnOk result (Passed M.does
         (at member.old (D.told disk.old) post.old.number post.old.clients.items (K.taken sink.old) (L.sent link.old))
@@ -101,6 +103,7 @@ fn turn<M: Member, D: SectorDisk, K: Sink, L: Link, C: Clock>(
     requires { M.runs member.old ≡ true }
     ensures running { OnOk result (M.runs member.new ≡ true) }
     ensures causes { HasCauses (counts (D.faults disk.old) (K.faults sink.old) (L.faults link.old)) (counts (D.faults disk.new) (K.faults sink.new) (L.faults link.new)) result }
+    ensures linked { result ≡ Err Stop.Link → Grows (L.received link.old) (L.received link.new) (Failed ∷ []) }
     ensures turned { IfOk result (λ after. (turn : Turn) × (after ≡ last_after last turn.now)
         × Grows (L.received link.old) (L.received link.new) (turn.arrival ∷ []) × Brings cluster turn.arrival turn.letter
         × GivesNext (C.left clock.old) (C.left clock.new) turn.now
@@ -134,6 +137,7 @@ pub fn serve<M: Member, D: SectorDisk, K: Sink, L: Link, C: Clock>(
     requires { M.runs member.old ≡ true }
     ensures running { OnOk result (M.runs member.new ≡ true) }
     ensures causes { HasCauses (counts (D.faults disk.old) (K.faults sink.old) (L.faults link.old)) (counts (D.faults disk.new) (K.faults sink.new) (L.faults link.new)) result }
+    ensures linked { result ≡ Err Stop.Link → EndsFailed (L.received link.old) (L.received link.new) }
     ensures done { OnOk result (IsServed M.does cluster turns first member.old member.new (D.told disk.old) (D.told disk.new) (C.left clock.old) (C.left clock.new) (L.received link.old) (L.received link.new) (K.taken sink.old) (K.taken sink.new) (L.sent link.old) (L.sent link.new)) }
     ensures cut { OnErr result (IsCutBefore first (L.received link.old) (L.received link.new) (K.taken sink.old) (K.taken sink.new) (L.sent link.old) (L.sent link.new)
         ⊎ IsCutInTurn M.does cluster turns first member.old (D.told disk.old) (L.received link.old) (L.received link.new) (K.taken sink.old) (K.taken sink.new) (L.sent link.old) (L.sent link.new)) }

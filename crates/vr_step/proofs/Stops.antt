@@ -26,10 +26,10 @@ well_done w r r' d d' o o' h =
     let cs = calls_in w r d in
     record {
       replica = l.0;
-      said = l.1.0;
+      said = l.1;
       left = (runs cs d).disk;
-      is = l.1.1.0;
-      face = after_is cs d (sym l.1.1.1) ∙ sym (face_is (step_of w r d).script d.face);
+      is = l.2.0;
+      face = after_is cs d (sym l.2.1) ∙ sym (face_is (step_of w r d).script d.face);
     }
 
 pub fault_stops : FaultIsStop
@@ -45,13 +45,13 @@ want_front w r r' d d' o o' h =
       left = (runs l.made d).disk;
       is = l.ran.0;
       count = length l.made;
-      face = after_is l.made d (sym l.ran.1) ∙ ap (λ cs. disk.after_all d.face cs) (sym (rw l.whole (take_front l.made l.left)));
+      face = after_is l.made d (sym l.ran.1) ∙ ap (λ (cs : List Call). disk.after_all d.face cs) (sym (ap (λ (cs : List Call). take (length l.made) cs) l.whole ∙ take_front l.made l.left));
     }
 
 pub fuse_cuts : FuseIsCut
-fuse_cuts w r r' d d' o o' (Ok tt) fuse a l h =
+fuse_cuts w r r' d d' o o' (Ok x) fuse a l h =
     let off = ((armed_goes_off (calls_in w r d) d fuse a.alive a.none a.armed).0 l).1 in
-    absurd (true≢false ((h.told d refl).1.1.1 ∙ off.stopped))
+    absurd (true≢false ((h.told d refl).2.1 ∙ off.stopped))
 fuse_cuts w r r' d d' o o' (Err DiskFault) fuse a l h =
     let off = ((armed_goes_off (calls_in w r d) d fuse a.alive a.none a.armed).0 l).1 in
     inr (refl, record { left = (runs (calls_in w r d) d).disk; is = (h.told d refl).0; face = off.left })

@@ -1,4 +1,4 @@
-//! What code leaves that follows a word of the definitions: one clause for words, rules and steps, with its laws.
+//! What code leaves that follows a word of the definitions, on a disk that may tell: one clause for words, rules and steps, with its laws.
 #![tactic(auto)]
 
 mod halt;

@@ -5,7 +5,9 @@ use Rattle.std.proofs.lemmas.Bool.{and_parts, ltb-true, eqb-false}
 use Rattle.vr_disk.specs.DiskState.{Disk}
 use Rattle.vr_msg.specs.declared.frame.StartViewChange.{StartViewChange}
 use Rattle.vr_msg.specs.declared.output.Output.{Output}
-use Rattle.vr_rules.specs.Deciding.{Rule, Ignored, ChangeBefore, ChangeLater, ChangeHeard, ChangeDone, first_of, start_view_change_table}
+use Rattle.vr_rules.specs.Deciding.{first_of, start_view_change_table}
+use Rattle.vr_rules.specs.declared.rule.Rule.{Rule}
+use Rattle.vr_rules.specs.declared.rule.Rule.TheVariants.{Ignored, ChangeBefore, ChangeLater, ChangeHeard, ChangeDone}
 use Rattle.vr_rules.specs.Outputs.{send_to, start_view}
 use Rattle.vr_rules.specs.Replica.{Replica, is_started, last_view}
 use Rattle.vr_rules.specs.Rules.{heard_of, obey_start_view_change, on_start_view_change}
@@ -56,7 +58,7 @@ pub ruleset means = (later_means, heard_means)
 pub ready_heard : (sender : ℕ) (r q : Replica) → q ≡ heard_of sender r → IsReady r → IsReady q
 unfolding IsReady
 ready_heard sender r q e h =
-    rw e (record { sound = sound_alike r (heard_of sender r) refl h.sound; savable = savable_alike r (heard_of sender r) refl h.savable; numbers = h.numbers; idle = h.idle })
+    rw e (record { sound = sound_alike r (heard_of sender r) refl h.sound; savable = savable_alike r (heard_of sender r) refl h.savable; idle = h.idle })
 
 pub log_view_heard : (sender : ℕ) (r q : Replica) → q ≡ heard_of sender r → q.log_view ≡ r.log_view
 log_view_heard sender r q e = ap (λ (x : Replica). x.log_view) e

@@ -1,6 +1,6 @@
 -- What the statements of a group decide, and the log that its primary chooses.
 use Rattle.std.proofs.Common.{arith, ℕ, ◌≡◌, ◌≤◌, ◌<◌, ◌+◌, ◌-◌, ◌^◌, ◌∙◌, refl, sym, subst, List, ◌++◌, Option, Result, Ok, Err}
-use Rattle.std.specs.Prelude.{All}
+use Rattle.std.specs.Prelude.{All, Bool, true, false, ◌&&◌, not}
 use Rattle.std.proofs.lemmas.List.Elements.{All-weaker}
 use Rattle.vr_base.specs.Groups.{quorums_of}
 use Rattle.vr_choose.specs.Statements.{IsSomeStatement}
@@ -11,11 +11,13 @@ use Rattle.vr_msg.specs.declared.choice.Choice.{Choice}
 use Rattle.vr_msg.specs.declared.choice.Choice.TheVariants.{Ends, WaitsAt, TooFew}
 use Rattle.vr_msg.specs.declared.output.Output.{Output}
 use Rattle.vr_msg.specs.declared.statement.Statement.{Statement}
+use Rattle.vr_msg.specs.Choice.{top_view}
 use Rattle.vr_msg.specs.Logs.{IsStatement}
-use Rattle.vr_rules.specs.Outputs.{wait_line}
-use Rattle.vr_rules.specs.Replica.{Replica, last_view}
+use Rattle.vr_rules.specs.Outputs.{send_to_all, start_view, wait_line}
+use Rattle.vr_rules.specs.Steps.{◌⨾◌, says}
+use Rattle.vr_rules.specs.Replica.{Replica, is_primary, is_started, last_view}
 use Rattle.vr_rules.specs.Sound.{IsStated}
-use Rattle.vr_rules.specs.Words.{Log, chosen_log, decided, obey_choice, stated, try_log}
+use Rattle.vr_rules.specs.Words.{Log, apply, begin_view, choose_line, chosen_log, decided, obey_choice, prepare_again, stated, take, try, try_log}
 use Rattle.vr_rules.proofs.Storing.{head_number}
 use Rattle.vr_rules.proofs.Taking.{may_take_is}
 use Rattle.vr_rules.proofs.Trying.{all_stated, chosen_log_is, decided_ends}
@@ -23,8 +25,10 @@ use Rattle.vr_base.specs.Bytes.{name_of}
 use Rattle.vr_step.specs.declared.halt.Halt.{Halt}
 use Rattle.vr_step.specs.Does.{Does}
 use Rattle.vr_step.proofs.Stepping.{does_by, does_quiet, says_by}
+use Rattle.vr_journal.specs.Choosing.{chosen_line}
 use Rattle.vr_journal.specs.Ready.{IsReady}
 use Rattle.vr_view.specs.Logs.{IsTaught, MayTake}
+use Rattle.vr_view.specs.Telling.{each_to}
 
 pub some_stated : (r : Replica) (ss : List Statement) → IsReady r → ss ≡ stated r → All IsSomeStatement ss
 unfolding IsReady
@@ -51,6 +55,11 @@ head_small l r m h =
     let number = h.sound.order.number in
     omega arith
 
+-- the line on a log that was chosen
+pub choice_told : (ss : List Statement) (l : Log) (r : Replica) (view commit top : ℕ) (o o' : List Output) → view ≡ top_view ss → commit ≡ l.commit → top ≡ l.head → o' ≡ o ++ chosen_line view commit top r
+    → o' ≡ o ++ choose_line ss l r
+choice_told ss l r view commit top o o' a b c e = e ∙ rw (a, b, c) refl
+
 -- ---- the choice is obeyed
 
 module _ (r : Replica) (c : Choice) where
@@ -71,3 +80,24 @@ module _ (r : Replica) (c : Choice) where
       (does_by (λ (x : Replica). try_log (stated r) (chosen_log x (stated r) hs)) r r' d d' o o' result (rw (s, log) at h))
 
 pub ruleset choices = (choice_few, choice_waits, choice_ends)
+
+-- ---- whether it chooses
+
+module _ (r : Replica) (b : Bool) where
+  pub try_chooses : (r' : Replica) (d d' : Option Disk) (o o' : List Output) (result : Result (Unit {0}) Halt) → b ≡ (is_primary r && not (is_started r)) → b ≡ true
+      → Does (obey_choice (stated r) (decided r)) r r' d d' o o' result → Does try r r' d d' o o' result
+  unfolding try
+  try_chooses r' d d' o o' result e t h = let yes : (is_primary r && not (is_started r)) ≡ true = sym e ∙ t in does_by _ r r' d d' o o' result (rw yes h)
+
+  pub try_rests : (d : Option Disk) (o : List Output) → b ≡ (is_primary r && not (is_started r)) → b ≡ false → Does try r r d d o o (Ok tt)
+  unfolding try
+  try_rests d o e t = let no : (is_primary r && not (is_started r)) ≡ false = sym e ∙ t in does_by _ r r d d o o (Ok tt) (rw no (does_quiet r d o))
+
+pub ruleset tries = (try_chooses, try_rests)
+
+-- ---- a view is begun
+
+pub begins : (ss : List Statement) (l : Log) (r r' : Replica) (d d' : Option Disk) (o o' : List Output) (result : Result (Unit {0}) Halt)
+    → Does (says (choose_line ss l) ⨾ take l ⨾ says (send_to_all start_view) ⨾ each_to prepare_again l.head ⨾ apply) r r' d d' o o' result → Does (begin_view ss l) r r' d d' o o' result
+unfolding begin_view each_to
+begins ss l r r' d d' o o' result h = h

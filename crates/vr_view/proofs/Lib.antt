@@ -5,3 +5,4 @@ pub mod Changes
 pub mod States
 pub mod Starts
 pub mod Copies
+pub mod Prepared

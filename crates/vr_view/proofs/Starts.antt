@@ -12,14 +12,15 @@ use Rattle.vr_header.specs.Spelling.{IsHeader}
 use Rattle.vr_msg.specs.declared.frame.GetView.{GetView}
 use Rattle.vr_msg.specs.declared.frame.StartView.{StartView}
 use Rattle.vr_msg.specs.declared.output.Output.{Output}
-use Rattle.vr_msg.specs.Choice.{ops}
 use Rattle.vr_msg.specs.Logs.{IsEntryAt, header_of}
 use Rattle.vr_msg.specs.Spelling.{AreHeaders}
-use Rattle.vr_rules.specs.Deciding.{Rule, Ignored, Taken, ViewGiven, first_of, get_view_table, log_of, start_view_table}
+use Rattle.vr_rules.specs.Deciding.{first_of, get_view_table, log_of, start_view_table}
+use Rattle.vr_rules.specs.declared.rule.Rule.{Rule}
+use Rattle.vr_rules.specs.declared.rule.Rule.TheVariants.{Ignored, Taken, ViewGiven}
 use Rattle.vr_rules.specs.Outputs.{send_to, start_view}
 use Rattle.vr_rules.specs.Replica.{Replica, last_view, part_at}
 use Rattle.vr_rules.specs.Rules.{acknowledge_stored, obey_get_view, obey_start_view, on_get_view, on_start_view}
-use Rattle.vr_rules.specs.Steps.{Word, ◌⨾◌, by, each}
+use Rattle.vr_rules.specs.Steps.{Word, ◌⨾◌}
 use Rattle.vr_rules.specs.Words.{Log, apply, may_take, take}
 use Rattle.vr_rules.proofs.Ruling.{by_rows, group_of_primary}
 use Rattle.vr_rules.proofs.Taking.{IsLogFor}
@@ -36,7 +37,7 @@ use Rattle.vr_view.specs.Acks.{ack_of, stored_ack}
 use Rattle.vr_view.specs.Logs.{MayTake}
 use Rattle.vr_view.specs.Messages.{IsStarting}
 use Rattle.vr_view.specs.Named.{start_rule, view_rule}
-use Rattle.vr_view.specs.Telling.{Tells}
+use Rattle.vr_view.specs.Telling.{Tells, each_to}
 use Rattle.vr_view.proofs.Goes.{GoesOver, over_begins, over_goes, over_ends}
 
 -- ---- entries that are stored are acknowledged
@@ -66,8 +67,8 @@ acking_goes c h i op r o o' o'' g l e k = record {
   every = λ d. over_goes (acknowledge_stored name_of) c h i op r r r d d d o o' o'' (g.every d) l e (part_acked (part_at r op) op r d o' o'' refl k);
 }
 
-pub acking_ends : (c h i : ℕ) (r : Replica) (o o' : List Output) → Acking c h i r o o' → h - c ≤ i → c ≡ r.commit → Tells (by (λ (x : Replica). each (acknowledge_stored name_of) (ops x.commit h))) r o o'
-acking_ends c h i r o o' g l b = record { every = λ d. over_ends (acknowledge_stored name_of) c h i r r d d o o' (g.every d) l b }
+pub acking_ends : (c h i top : ℕ) (r : Replica) (o o' : List Output) → Acking c h i r o o' → h - c ≤ i → c ≡ r.commit → h ≡ top → Tells (each_to (acknowledge_stored name_of) top) r o o'
+acking_ends c h i top r o o' g l b t = record { every = λ d. over_ends (acknowledge_stored name_of) c h i top r r d d o o' (g.every d) l b t }
 
 pub ruleset acks = (acking_begins, acking_goes, acking_ends)
 
@@ -123,7 +124,8 @@ module _ (v : StartView) (r r' : Replica) (d d' : Option Disk) (o o' : List Outp
   obeyed x result e h = does_naming _ r r' d d' o o' result (does_by _ r r' d d' o o' result (subst (λ y. Does (obey_start_view name_of v y) r r' d d' o o' result) (sym e) h))
 
   pub start_taken : (l : Log) (x : StartRule) (result : Result (Unit {0}) Halt) → first_of (start_view_table name_of v r) ≡ start_rule x → x ≡ started.Taken → l ≡ log_of v
-      → Does (take l ⨾ by (λ (x : Replica). each (acknowledge_stored name_of) (ops x.commit l.head)) ⨾ apply) r r' d d' o o' result → Does (on_start_view v) r r' d d' o o' result
+      → Does (take l ⨾ each_to (acknowledge_stored name_of) l.head ⨾ apply) r r' d d' o o' result → Does (on_start_view v) r r' d d' o o' result
+  unfolding each_to
   start_taken l x result e k i h = obeyed Taken result (e ∙ ap start_rule k) (rw i at h)
 
 pub start_ignored : (v : StartView) (r : Replica) (d : Option Disk) (o : List Output) (x : StartRule) → first_of (start_view_table name_of v r) ≡ start_rule x → x ≡ started.Ignored → Does (on_start_view v) r r d d o o (Ok tt)

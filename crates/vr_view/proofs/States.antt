@@ -7,7 +7,9 @@ use Rattle.vr_msg.specs.declared.frame.DoViewChange.{DoViewChange}
 use Rattle.vr_msg.specs.declared.output.Output.{Output}
 use Rattle.vr_msg.specs.declared.statement.Statement.{Statement}
 use Rattle.vr_msg.specs.Spelling.{AreHeaders, known}
-use Rattle.vr_rules.specs.Deciding.{Rule, Ignored, StatedBefore, StatedLate, Stated, first_of, do_view_change_table, is_from}
+use Rattle.vr_rules.specs.Deciding.{first_of, do_view_change_table, is_from}
+use Rattle.vr_rules.specs.declared.rule.Rule.{Rule}
+use Rattle.vr_rules.specs.declared.rule.Rule.TheVariants.{Ignored, StatedBefore, StatedLate, Stated}
 use Rattle.vr_rules.specs.Outputs.{send_to, start_view}
 use Rattle.vr_rules.specs.Replica.{Replica, last_view}
 use Rattle.vr_rules.specs.Rules.{obey_do_view_change, on_do_view_change, with_statement}
@@ -24,14 +26,17 @@ use Rattle.vr_view.specs.declared.stating.StateRule.{StateRule}
 use Rattle.vr_view.specs.declared.stating.StateRule.TheVariants as rule
 use Rattle.vr_view.specs.Messages.{IsStating}
 use Rattle.vr_view.specs.Named.{state_rule}
+use Rattle.vr_view.specs.Telling.{entering}
 
 -- ---- a later view is entered
 
 module _ (view : ℕ) (r q : Replica) (d d' : Option Disk) (o o' : List Output) where
-  pub enter_then : (result : Result (Unit {0}) Halt) → r.view < view → Does (enter view) r q d d' o o' result → Does (by (λ (x : Replica). when (nat_lt x.view view) (enter view))) r q d d' o o' result
+  pub enter_then : (result : Result (Unit {0}) Halt) → r.view < view → Does (enter view) r q d d' o o' result → Does (entering view) r q d d' o o' result
+  unfolding entering
   enter_then result l h = does_by _ r q d d' o o' result (rw (lt-ltb r.view view l) h)
 
-pub enter_none : (view : ℕ) (r : Replica) (d : Option Disk) (o : List Output) → view ≤ r.view → Does (by (λ (x : Replica). when (nat_lt x.view view) (enter view))) r r d d o o (Ok tt)
+pub enter_none : (view : ℕ) (r : Replica) (d : Option Disk) (o : List Output) → view ≤ r.view → Does (entering view) r r d d o o (Ok tt)
+unfolding entering
 enter_none view r d o l = does_by _ r r d d o o (Ok tt) (rw (le-ltb r.view view l) (does_quiet r d o))
 
 pub view_entered : (view : ℕ) (r q : Replica) → q ≡ with_saved (entered view r) → q.view ≡ view
@@ -93,7 +98,6 @@ ready_stated d r q s e i w m v g h =
     rw (e, i) (record {
       sound = (kept_statement d.replica d.statement r h.sound is).sound;
       savable = savable_alike r (with_statement d.replica d.statement r) refl h.savable;
-      numbers = h.numbers;
       idle = h.idle;
     })
 
@@ -117,7 +121,8 @@ module _ (c : DoViewChange) (r r' : Replica) (d d' : Option Disk) (o o' : List O
   obeyed x result e h = does_by _ r r' d d' o o' result (subst (λ y. Does (obey_do_view_change c y) r r' d d' o o' result) (sym e) h)
 
   pub state_stated : (x : StateRule) (result : Result (Unit {0}) Halt) → first_of (do_view_change_table c r) ≡ state_rule x → x ≡ rule.Stated
-      → Does (by (λ (x : Replica). when (nat_lt x.view c.view) (enter c.view)) ⨾ change (with_statement c.replica c.statement) ⨾ try) r r' d d' o o' result → Does (on_do_view_change c) r r' d d' o o' result
+      → Does (entering c.view ⨾ change (with_statement c.replica c.statement) ⨾ try) r r' d d' o o' result → Does (on_do_view_change c) r r' d d' o o' result
+  unfolding entering
   state_stated x result e k h = obeyed Stated result (e ∙ ap state_rule k) h
 
 pub state_is : (c : DoViewChange) (r : Replica) (x : StateRule) → first_of (do_view_change_table c r) ≡ state_rule x → x ≡ rule.Stated → first_of (do_view_change_table c r) ≡ Stated

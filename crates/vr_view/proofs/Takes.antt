@@ -1,8 +1,8 @@
 -- Readiness where a log is taken over.
 use Rattle.std.proofs.Common.{arith, ℕ, ◌≡◌, ◌≤◌, ◌<◌, ◌+◌, ◌^◌, refl, sym, Bool, true}
-use Rattle.std.proofs.Common.{◌∙◌}
+use Rattle.std.proofs.Common.{◌∙◌, Result, Ok, Err}
+use Rattle.std.specs.Prelude.{OnOk}
 use Rattle.vr_base.specs.Bytes.{name_of}
-use Rattle.vr_model.specs.Sound.{HaveNumbers}
 use Rattle.vr_msg.specs.Spelling.{AreHeaders}
 use Rattle.vr_rules.specs.Replica.{Replica, forgetting, last_view}
 use Rattle.vr_rules.specs.Words.{Log, may_take, taken}
@@ -10,10 +10,6 @@ use Rattle.vr_rules.proofs.SavesParts.{savable_taken}
 use Rattle.vr_rules.proofs.Taking.{may_take_is, kept_taken}
 use Rattle.vr_journal.specs.Ready.{IsReady}
 use Rattle.vr_view.specs.Logs.{IsTaught, MayTake}
-
-numbers_taken : (l : Log) (r : Replica) → HaveNumbers r.state.sessions → HaveNumbers (taken l r).state.sessions
-unfolding taken forgetting
-numbers_taken l r h = h
 
 idle_taken : (l : Log) (r : Replica) → (taken l r).idle ≤ 9
 unfolding taken forgetting
@@ -27,13 +23,17 @@ ready_taken l r q e m h =
     rw e (record {
       sound = (kept_taken l r h.sound m.log may).sound;
       savable = savable_taken name_of l r h.sound m.log may m.may (omega arith) h.savable;
-      numbers = numbers_taken l r h.numbers;
       idle = idle_taken l r;
     })
 
 pub view_taken : (l : Log) (r q : Replica) → q ≡ taken l r → q.view ≡ l.view
 unfolding taken forgetting
 view_taken l r q e = rw e refl
+
+-- what stays as it was, where all went well
+pub stays_ok : {T E : Type 0} (result : Result T E) (x y z : ℕ) → OnOk result (x ≡ y) → y ≡ z → OnOk result (x ≡ z)
+stays_ok (Ok t) x y z a b = a ∙ b
+stays_ok (Err e) x y z a b = tt
 
 pub may_take_now : (l : Log) (r : Replica) (b : Bool) → IsTaught l r → b ≡ may_take name_of l r → (b ≡ true → AreHeaders l.headers) → b ≡ true → MayTake l r
 unfolding IsTaught MayTake

@@ -1,6 +1,6 @@
 -- The rules by their names in the program.
-use Rattle.vr_rules.specs.Deciding as rules
-use Rattle.vr_rules.specs.Deciding.{Rule}
+use Rattle.vr_rules.specs.declared.rule.Rule.TheVariants as rules
+use Rattle.vr_rules.specs.declared.rule.Rule.{Rule}
 use Rattle.vr_view.specs.declared.changing.ChangeRule.{ChangeRule}
 use Rattle.vr_view.specs.declared.changing.ChangeRule.TheVariants as change
 use Rattle.vr_view.specs.declared.stating.StateRule.{StateRule}

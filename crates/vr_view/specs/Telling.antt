@@ -1,15 +1,27 @@
 -- What is told in the course of a word that leaves replica and disk as they are.
-use Rattle.std.specs.Prelude.{ℕ, List, Option, Ok}
+use Rattle.std.specs.Prelude.{ℕ, List, Option, Ok, nat_lt}
 use Rattle.vr_disk.specs.DiskState.{Disk, Face}
 use Rattle.vr_msg.specs.declared.output.Output.{Output}
 use Rattle.vr_rules.specs.Replica.{Replica}
-use Rattle.vr_rules.specs.Steps.{Word}
-use Rattle.vr_step.specs.Does.{Does, Going}
+use Rattle.vr_header.specs.Made.{Whole}
+use Rattle.vr_rules.specs.Outputs.{prepare, send_to_all}
+use Rattle.vr_rules.specs.Steps.{Word, by, each, says, when}
+use Rattle.vr_rules.specs.Words.{enter}
+use Rattle.vr_msg.specs.Choice.{ops}
+use Rattle.vr_step.specs.Does.{Does}
 
 -- these outputs are the word's, on any disk
 pub record Tells (w : Word Face) (r : Replica) (o o' : List Output) : Type 0 where
   pub every : (d : Option Disk) → Does w r r d d o o' (Ok tt)
 
--- in the middle of a loop that does a word for each of a list
-pub record GoesOn {X : Type 0} (w : X → Word Face) (xs : List X) (i : ℕ) (r : Replica) (o o' : List Output) : Type 0 where
-  pub every : (d : Option Disk) → Going w xs i r r d d o o'
+-- an entry is prepared to all others
+unfoldable pub again : {F : Type 0} → Whole → Word F
+again e = says (send_to_all (prepare e))
+
+-- a word for each op above the commit number, up to this one
+unfoldable pub each_to : {F : Type 0} → (ℕ → Word F) → ℕ → Word F
+each_to w top = by (λ r. each w (ops r.commit top))
+
+-- a view is entered unless the replica is in it
+unfoldable pub entering : {F : Type 0} → ℕ → Word F
+entering view = by (λ r. when (nat_lt r.view view) (enter view))

@@ -33,17 +33,17 @@ pub enum ChangeRule {
 
 /// Which rule applies to a start_view_change.
 #[tactic(auto, unfolding(vr_rules::specs::Deciding::first_of))]
-pub fn decide_start_view_change(replica: &Replica, change: &StartViewChange) -> ChangeRule
+pub fn decide_start_view_change(replica: &Replica, message: &StartViewChange) -> ChangeRule
     requires { 0 < replica.now.n }
-    ensures { first_of (start_view_change_table change.now replica.now) ≡ change_rule result }
+    ensures { first_of (start_view_change_table message.now replica.now) ≡ change_rule result }
 {
-    if !replica.is_from(change.cluster, change.replica) {
+    if !replica.is_from(message.cluster, message.replica) {
         ChangeRule::Ignored
-    } else if change.view < replica.view() {
+    } else if message.view < replica.view() {
         ChangeRule::Before
-    } else if replica.view() < change.view {
+    } else if replica.view() < message.view {
         ChangeRule::Later
-    } else if !replica.is_started() && !replica.heard().has(change.replica) {
+    } else if !replica.is_started() && !replica.heard().has(message.replica) {
         ChangeRule::Heard
     } else if replica.leads() {
         ChangeRule::Done
@@ -58,19 +58,19 @@ fn enter_later<D: SectorDisk>(
     replica: &mut Replica,
     alloc: Global,
     disk: &mut D,
-    change: &StartViewChange,
+    message: &StartViewChange,
     out: &mut Outbox,
 ) -> Result<(), Halt>
     requires ready { IsReady replica.old }
-    requires later { replica.old.view < change.now.view }
-    requires last { change.now.view ≤ last_view }
+    requires later { replica.old.view < message.now.view }
+    requires last { message.now.view ≤ last_view }
     requires room { replica.old.saved.fields.sequence + 66 < 2 ^ 64 }
     ensures ready { OnOk result (IsReady replica.new) }
     ensures cause { Caused (D.faults disk.old) (D.faults disk.new) result }
-    ensures step { Does (enter change.now.view ⨾ change (heard_of change.now.replica) ⨾ speak) replica.old replica.new (D.told disk.old) (D.told disk.new) out.old out.new result }
+    ensures step { Does (enter message.now.view ⨾ change (heard_of message.now.replica) ⨾ speak) replica.old replica.new (D.told disk.old) (D.told disk.new) out.old out.new result }
 {
-    replica.enter(alloc, disk, change.view, out)?;
-    replica.hear(change.replica);
+    replica.enter(alloc, disk, message.view, out)?;
+    replica.hear(message.replica);
     speak(replica, alloc, disk, out)
 }
 
@@ -103,24 +103,24 @@ pub fn handle_start_view_change<D: SectorDisk>(
     replica: &mut Replica,
     alloc: Global,
     disk: &mut D,
-    change: &StartViewChange,
+    message: &StartViewChange,
     out: &mut Outbox,
 ) -> Result<(), Halt>
     requires ready { IsReady replica.old }
     requires view { replica.old.view ≤ last_view }
-    requires last { change.now.view ≤ last_view }
+    requires last { message.now.view ≤ last_view }
     requires room { replica.old.saved.fields.sequence + 66 < 2 ^ 64 }
     ensures ready { OnOk result (IsReady replica.new) }
     ensures cause { Caused (D.faults disk.old) (D.faults disk.new) result }
-    ensures step { Does (on_start_view_change change.now) replica.old replica.new (D.told disk.old) (D.told disk.new) out.old out.new result }
+    ensures step { Does (on_start_view_change message.now) replica.old replica.new (D.told disk.old) (D.told disk.new) out.old out.new result }
 {
-    match decide_start_view_change(replica, change) {
+    match decide_start_view_change(replica, message) {
         ChangeRule::Ignored => Ok(()),
         ChangeRule::Before => Ok(()),
-        ChangeRule::Later => enter_later(replica, alloc, disk, change, out),
-        ChangeRule::Heard => hear_one(replica, alloc, disk, change.replica, out),
+        ChangeRule::Later => enter_later(replica, alloc, disk, message, out),
+        ChangeRule::Heard => hear_one(replica, alloc, disk, message.replica, out),
         ChangeRule::Done => {
-            replica.tell_view(alloc, change.replica, out)?;
+            replica.tell_view(alloc, message.replica, out)?;
             Ok(())
         }
     }

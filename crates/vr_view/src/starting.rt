@@ -2,22 +2,21 @@
 ghost use Rattle.std.specs.Prelude.{◌≡◌, ◌<◌, ◌≤◌, ◌+◌, ◌^◌, ◌++◌, OnOk};
 ghost use Rattle.vr_base.specs.Bytes.{name_of};
 ghost use Rattle.vr_journal.specs.Ready.{IsReady};
-ghost use Rattle.vr_msg.specs.Choice.{ops};
 ghost use Rattle.vr_msg.specs.Spelling.{AreHeaders};
 ghost use Rattle.vr_rules.specs.Deciding.{first_of, get_view_table, log_of, start_view_table};
 ghost use Rattle.vr_rules.specs.Replica.{last_view};
 ghost use Rattle.vr_rules.specs.Rules.{acknowledge_stored, on_get_view, on_start_view};
-ghost use Rattle.vr_rules.specs.Steps.{◌⨾◌, by, each};
+ghost use Rattle.vr_rules.specs.Steps.{◌⨾◌};
 ghost use Rattle.vr_rules.specs.Words.{apply, take};
 ghost use Rattle.vr_step.specs.Does.{Caused, Does};
 ghost use Rattle.vr_view.specs.Logs.{MayTake};
 ghost use Rattle.vr_view.specs.Messages.{IsStarting};
 ghost use Rattle.vr_view.specs.Named.{start_rule, view_rule};
-ghost use Rattle.vr_view.specs.Telling.{Tells};
+ghost use Rattle.vr_view.specs.Telling.{Tells, each_to};
 ghost use Rattle.vr_view.specs.declared.starting.StartRule.{StartRule};
 ghost use Rattle.vr_view.specs.Acks.{stored_ack};
 
-use crate::taking::take;
+use crate::taking::{head_of, take};
 use std::alloc::{AllocError, Global};
 use vr_disk::SectorDisk;
 use vr_header::Part;
@@ -101,15 +100,16 @@ fn acknowledge_stored(replica: &Replica, op: u64, out: &mut Outbox) -> Result<()
     }
 }
 
-/// Acknowledges each entry that is stored, from the op above its commit number on to the head.
+/// Acknowledges each entry that is stored, from the op above its commit number on to the log's head.
 #[tactic(auto, using(crate::proofs::Starts::acks))]
-fn acknowledge_all(replica: &Replica, head: u64, out: &mut Outbox) -> Result<(), AllocError>
+fn acknowledge_all(replica: &Replica, log: &Log, out: &mut Outbox) -> Result<(), AllocError>
     requires ready { IsReady replica.now }
     requires view { replica.now.view ≤ last_view }
-    requires number { head < 2 ^ 63 }
-    ensures { OnOk result (Tells (by (λ r. each (acknowledge_stored name_of) (ops r.commit head))) replica.now out.old out.new) }
+    requires number { log.now.head < 2 ^ 63 }
+    ensures { OnOk result (Tells (each_to (acknowledge_stored name_of) log.now.head) replica.now out.old out.new) }
 {
     let commit = replica.commit();
+    let head = head_of(log);
     for i in 0..head.saturating_sub(commit) {
         acknowledge_stored(replica, commit + 1 + i, out)?;
     }
@@ -130,10 +130,10 @@ fn follow<D: SectorDisk>(
     requires room { replica.old.saved.fields.sequence + 65 < 2 ^ 64 }
     ensures ready { OnOk result (IsReady replica.new) }
     ensures cause { Caused (D.faults disk.old) (D.faults disk.new) result }
-    ensures step { Does (take log.now ⨾ by (λ r. each (acknowledge_stored name_of) (ops r.commit log.now.head)) ⨾ apply) replica.old replica.new (D.told disk.old) (D.told disk.new) out.old out.new result }
+    ensures step { Does (take log.now ⨾ each_to (acknowledge_stored name_of) log.now.head ⨾ apply) replica.old replica.new (D.told disk.old) (D.told disk.new) out.old out.new result }
 {
     take(replica, alloc, disk, log, out)?;
-    acknowledge_all(replica, log.head, out)?;
+    acknowledge_all(replica, log, out)?;
     replica.apply(alloc, disk, out)
 }
 

@@ -1,21 +1,24 @@
 //! A replica states its log for a view: do_view_changes.
-ghost use Rattle.std.specs.Prelude.{◌≡◌, ◌<◌, ◌≤◌, ◌+◌, ◌^◌, ◌∷◌, [], IfOk, OnOk, nat_lt};
+ghost use Rattle.std.specs.Prelude.{◌≡◌, ◌<◌, ◌≤◌, ◌+◌, ◌^◌, ◌∷◌, [], IfOk, OnOk};
+ghost use Rattle.vr_header.specs.Spelling.{IsHeader};
 ghost use Rattle.vr_journal.specs.Ready.{IsReady};
 ghost use Rattle.vr_msg.specs.Spelling.{AreHeaders, known};
-ghost use Rattle.vr_rules.specs.Deciding.{Stated, do_view_change_table, first_of};
+ghost use Rattle.vr_rules.specs.Deciding.{do_view_change_table, first_of};
+ghost use Rattle.vr_rules.specs.declared.rule.Rule.TheVariants.{Stated};
 ghost use Rattle.vr_rules.specs.Replica.{last_view};
 ghost use Rattle.vr_rules.specs.Rules.{on_do_view_change, with_statement};
-ghost use Rattle.vr_rules.specs.Steps.{◌⨾◌, by, change, when};
-ghost use Rattle.vr_rules.specs.Words.{enter, try};
+ghost use Rattle.vr_rules.specs.Steps.{◌⨾◌, change};
+ghost use Rattle.vr_rules.specs.Words.{try};
 ghost use Rattle.vr_step.specs.Does.{Caused, Does};
 ghost use Rattle.vr_view.specs.Messages.{IsStating};
 ghost use Rattle.vr_view.specs.Named.{state_rule};
+ghost use Rattle.vr_view.specs.Telling.{entering};
 
 use crate::trying::try_view;
 use std::alloc::{AllocError, Global};
 use vr_base::Seq;
 use vr_disk::SectorDisk;
-use vr_header::Part;
+use vr_header::{Header, Part};
 use vr_journal::{Replica, primary};
 use vr_msg::{DoViewChange, DvcBody, Outbox, Statement};
 use vr_step::Halt;
@@ -35,30 +38,41 @@ pub enum StateRule {
 
 /// Which rule applies to a do_view_change.
 #[tactic(auto, unfolding(vr_rules::specs::Deciding::first_of))]
-pub fn decide_do_view_change(replica: &Replica, change: &DoViewChange) -> StateRule
+pub fn decide_do_view_change(replica: &Replica, message: &DoViewChange) -> StateRule
     requires { 0 < replica.now.n }
-    ensures { first_of (do_view_change_table change.now replica.now) ≡ state_rule result }
+    ensures { first_of (do_view_change_table message.now replica.now) ≡ state_rule result }
 {
-    if !replica.is_from(change.cluster, change.replica) {
+    if !replica.is_from(message.cluster, message.replica) {
         StateRule::Ignored
-    } else if change.view < replica.view() || replica.index() != primary(replica.n(), change.view) {
+    } else if message.view < replica.view()
+        || replica.index() != primary(replica.n(), message.view)
+    {
         StateRule::Before
-    } else if change.view == replica.view() && replica.is_started() {
+    } else if message.view == replica.view() && replica.is_started() {
         StateRule::Late
     } else {
         StateRule::Stated
     }
 }
 
+// The same header, which has the values of the program.
+fn valued(header: Header) -> Header
+    ensures same { result ≡ header }
+    ensures values { IsHeader result }
+{
+    header
+}
+
 /// The same Part; its header has the values of the program.
+#[tactic(auto, using(crate::proofs::Copies::valued))]
 fn copy_part(part: &Part) -> Part
     ensures same { result ≡ part.now }
     ensures values { AreHeaders (known (part.now ∷ [])) }
 {
-    match *part {
-        Part::Here(header) => Part::Here(header),
-        Part::Lost(header) => Part::Lost(header),
-        Part::Wanted(header) => Part::Wanted(header),
+    match part {
+        Part::Here(header) => Part::Here(valued(*header)),
+        Part::Lost(header) => Part::Lost(valued(*header)),
+        Part::Wanted(header) => Part::Wanted(valued(*header)),
         Part::Unknown => Part::Unknown,
         Part::Nothing => Part::Nothing,
     }
@@ -93,7 +107,34 @@ fn copy_statement(alloc: Global, statement: &Statement) -> Result<Statement, All
     })
 }
 
-/// Enters a view that is later than its own.
+// Enters a view that is later than its own.
+#[tactic(auto, using(crate::proofs::States::enters))]
+fn enter_later<D: SectorDisk>(
+    replica: &mut Replica,
+    alloc: Global,
+    disk: &mut D,
+    view: u32,
+    out: &mut Outbox,
+) -> Result<(), Halt>
+    requires ready { IsReady replica.old }
+    requires later { replica.old.view < view }
+    requires last { view ≤ last_view }
+    requires room { replica.old.saved.fields.sequence + 1 < 2 ^ 64 }
+    ensures ready { OnOk result (IsReady replica.new) }
+    ensures view { OnOk result (replica.new.view ≡ view) }
+    ensures group { OnOk result (replica.new.cluster ≡ replica.old.cluster) }
+    ensures size { OnOk result (replica.new.n ≡ replica.old.n) }
+    ensures spent { OnOk result (replica.new.saved.fields.sequence ≤ replica.old.saved.fields.sequence + 1) }
+    ensures cause { Caused (D.faults disk.old) (D.faults disk.new) result }
+    ensures step { Does (entering view) replica.old replica.new (D.told disk.old) (D.told disk.new) out.old out.new result }
+{
+    match replica.enter(alloc, disk, view, out) {
+        Ok(()) => Ok(()),
+        Err(halt) => Err(halt),
+    }
+}
+
+/// Enters a view unless it is in it.
 #[tactic(auto, using(crate::proofs::States::enters))]
 fn enter_up_to<D: SectorDisk>(
     replica: &mut Replica,
@@ -112,10 +153,10 @@ fn enter_up_to<D: SectorDisk>(
     ensures size { OnOk result (replica.new.n ≡ replica.old.n) }
     ensures spent { OnOk result (replica.new.saved.fields.sequence ≤ replica.old.saved.fields.sequence + 1) }
     ensures cause { Caused (D.faults disk.old) (D.faults disk.new) result }
-    ensures step { Does (by (λ r. when (nat_lt r.view view) (enter view))) replica.old replica.new (D.told disk.old) (D.told disk.new) out.old out.new result }
+    ensures step { Does (entering view) replica.old replica.new (D.told disk.old) (D.told disk.new) out.old out.new result }
 {
     if replica.view() < view {
-        replica.enter(alloc, disk, view, out)
+        enter_later(replica, alloc, disk, view, out)
     } else {
         Ok(())
     }
@@ -127,20 +168,20 @@ fn keep<D: SectorDisk>(
     replica: &mut Replica,
     alloc: Global,
     disk: &mut D,
-    change: &DoViewChange,
+    message: &DoViewChange,
     out: &mut Outbox,
 ) -> Result<(), Halt>
     requires ready { IsReady replica.old }
-    requires message { IsStating change.now }
-    requires rule { first_of (do_view_change_table change.now replica.old) ≡ Stated }
+    requires message { IsStating message.now }
+    requires rule { first_of (do_view_change_table message.now replica.old) ≡ Stated }
     requires room { replica.old.saved.fields.sequence + 66 < 2 ^ 64 }
     ensures ready { OnOk result (IsReady replica.new) }
     ensures cause { Caused (D.faults disk.old) (D.faults disk.new) result }
-    ensures step { Does (by (λ r. when (nat_lt r.view change.now.view) (enter change.now.view)) ⨾ change (with_statement change.now.replica change.now.statement) ⨾ try) replica.old replica.new (D.told disk.old) (D.told disk.new) out.old out.new result }
+    ensures step { Does (entering message.now.view ⨾ change (with_statement message.now.replica message.now.statement) ⨾ try) replica.old replica.new (D.told disk.old) (D.told disk.new) out.old out.new result }
 {
-    enter_up_to(replica, alloc, disk, change.view, out)?;
-    let statement = copy_statement(alloc, &change.statement)?;
-    replica.keep_statement(change.replica, statement);
+    enter_up_to(replica, alloc, disk, message.view, out)?;
+    let statement = copy_statement(alloc, &message.statement)?;
+    replica.keep_statement(message.replica, statement);
     try_view(replica, alloc, disk, out)
 }
 
@@ -152,24 +193,24 @@ pub fn handle_do_view_change<D: SectorDisk>(
     replica: &mut Replica,
     alloc: Global,
     disk: &mut D,
-    change: &DoViewChange,
+    message: &DoViewChange,
     out: &mut Outbox,
 ) -> Result<(), Halt>
     requires ready { IsReady replica.old }
     requires view { replica.old.view ≤ last_view }
-    requires message { IsStating change.now }
+    requires message { IsStating message.now }
     requires room { replica.old.saved.fields.sequence + 66 < 2 ^ 64 }
     ensures ready { OnOk result (IsReady replica.new) }
     ensures cause { Caused (D.faults disk.old) (D.faults disk.new) result }
-    ensures step { Does (on_do_view_change change.now) replica.old replica.new (D.told disk.old) (D.told disk.new) out.old out.new result }
+    ensures step { Does (on_do_view_change message.now) replica.old replica.new (D.told disk.old) (D.told disk.new) out.old out.new result }
 {
-    match decide_do_view_change(replica, change) {
+    match decide_do_view_change(replica, message) {
         StateRule::Ignored => Ok(()),
         StateRule::Before => Ok(()),
         StateRule::Late => {
-            replica.tell_view(alloc, change.replica, out)?;
+            replica.tell_view(alloc, message.replica, out)?;
             Ok(())
         }
-        StateRule::Stated => keep(replica, alloc, disk, change, out),
+        StateRule::Stated => keep(replica, alloc, disk, message, out),
     }
 }

@@ -11,6 +11,20 @@ use vr_journal::{Log, Replica};
 use vr_msg::Outbox;
 use vr_step::Halt;
 
+/// Where a log ends.
+pub fn head_of(log: &Log) -> u64
+    ensures { result ≡ log.now.head }
+{
+    log.head
+}
+
+/// The commit number of a log.
+pub fn commit_of(log: &Log) -> u64
+    ensures { result ≡ log.now.commit }
+{
+    log.commit
+}
+
 /// Takes over the log of a view, and saves that it has it.
 #[tactic(auto, using(vr_step::proofs::Stepping::steps, crate::proofs::Takes::takes, vr_journal::proofs::Memory::window_of), unfolding(vr_rules::specs::Words::take))]
 pub fn take<D: SectorDisk>(

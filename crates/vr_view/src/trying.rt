@@ -1,15 +1,15 @@
 //! Try: the primary of a view that isn't started chooses the log with which it begins.
-ghost use Rattle.std.specs.Prelude.{◌≡◌, ◌<◌, ◌≤◌, ◌+◌, ◌^◌, IfOk, OnOk, nat_le};
+ghost use Rattle.std.specs.Prelude.{◌≡◌, ◌<◌, ◌≤◌, ◌+◌, ◌^◌, ◌++◌, IfOk, OnOk, ◌&&◌, nat_le, not};
 ghost use Rattle.vr_base.specs.Replicas.{size};
 ghost use Rattle.vr_journal.specs.Ready.{IsReady};
-ghost use Rattle.vr_msg.specs.Choice.{ops};
-ghost use Rattle.vr_rules.specs.Replica.{last_view, view_change};
-ghost use Rattle.vr_rules.specs.Steps.{by, each};
-ghost use Rattle.vr_rules.specs.Words.{begin_view, chosen_log, decided, log_end, obey_choice, prepare_again, speak, stated, try, try_log};
+ghost use Rattle.vr_rules.specs.Replica.{is_primary, is_started, last_view, view_change};
+ghost use Rattle.vr_rules.specs.Words.{begin_view, choose_line, chosen_log, decided, log_end, obey_choice, prepare_again, speak, stated, try, try_log};
 ghost use Rattle.vr_step.specs.Does.{Caused, Does};
 ghost use Rattle.vr_view.specs.Logs.{IsTaught, MayTake};
+ghost use Rattle.vr_view.specs.Telling.{each_to};
 
-use crate::taking::take;
+use crate::again::prepare_again;
+use crate::taking::{commit_of, head_of, take};
 use std::alloc::{AllocError, Global};
 use vr_base::{Seq, quorums};
 use vr_choose::{choose, top_commit, top_view};
@@ -17,7 +17,6 @@ use vr_disk::SectorDisk;
 use vr_header::HeaderList;
 use vr_journal::{Log, Replica};
 use vr_msg::{Choice, Outbox, Statement};
-use vr_repair::prepare_again;
 use vr_step::Halt;
 
 /// The op of the last header, or the commit number where there is none.
@@ -66,33 +65,54 @@ fn decide(
     }
 }
 
-/// Prepares again each entry that it can read, from the one above its commit number on to the head.
+/// Prepares again each entry that it can read, from the one above its commit number on to the log's head.
 #[tactic(auto, using(crate::proofs::Goes::goes))]
 fn prepare_all<D: SectorDisk>(
     replica: &mut Replica,
     alloc: Global,
     disk: &mut D,
-    head: u64,
+    log: &Log,
     out: &mut Outbox,
 ) -> Result<(), Halt>
     requires ready { IsReady replica.old }
     requires view { replica.old.view ≤ last_view }
-    requires number { head < 2 ^ 63 }
+    requires number { log.now.head < 2 ^ 63 }
     ensures ready { OnOk result (IsReady replica.new) }
     ensures saved { OnOk result (replica.new.saved ≡ replica.old.saved) }
     ensures cause { Caused (D.faults disk.old) (D.faults disk.new) result }
-    ensures step { Does (by (λ r. each prepare_again (ops r.commit head))) replica.old replica.new (D.told disk.old) (D.told disk.new) out.old out.new result }
+    ensures step { Does (each_to prepare_again log.now.head) replica.old replica.new (D.told disk.old) (D.told disk.new) out.old out.new result }
 {
     let commit = replica.commit();
+    let head = head_of(log);
     for i in 0..head.saturating_sub(commit) {
-        prepare_again(replica, alloc, disk, commit + 1 + i, out)?;
+        match prepare_again(replica, alloc, disk, commit + 1 + i, out) {
+            Ok(()) => {}
+            Err(halt) => return Err(halt),
+        }
     }
+    Ok(())
+}
+
+/// A line on the log that it chose.
+#[tactic(auto, using(crate::proofs::Choices::choice_told, crate::proofs::Choices::commit_small))]
+fn tell_choice(
+    replica: &Replica,
+    alloc: Global,
+    statements: &Seq<Statement>,
+    log: &Log,
+    out: &mut Outbox,
+) -> Result<(), AllocError>
+    requires { IsReady replica.now }
+    ensures { OnOk result (out.new ≡ out.old ++ choose_line statements.now log.now replica.now) }
+{
+    let view = top_view(statements.as_slice());
+    replica.tell_choice(alloc, view, commit_of(log), head_of(log), out)?;
     Ok(())
 }
 
 /// Begins its view with this log: it takes it over, the others hear of it, and what can be read above
 /// the commit number is prepared again and then applied.
-#[tactic(auto, using(vr_step::proofs::Stepping::steps, crate::proofs::Takes::taken_low, crate::proofs::Choices::commit_small, crate::proofs::Choices::head_small), unfolding(vr_rules::specs::Words::begin_view))]
+#[tactic(auto, using(vr_step::proofs::Stepping::steps, crate::proofs::Takes::taken_low, crate::proofs::Choices::head_small, crate::proofs::Choices::begins))]
 fn begin_view<D: SectorDisk>(
     replica: &mut Replica,
     alloc: Global,
@@ -108,11 +128,10 @@ fn begin_view<D: SectorDisk>(
     ensures cause { Caused (D.faults disk.old) (D.faults disk.new) result }
     ensures step { Does (begin_view statements.now log.now) replica.old replica.new (D.told disk.old) (D.told disk.new) out.old out.new result }
 {
-    let log_view = top_view(statements.as_slice());
-    replica.tell_choice(alloc, log_view, log.commit, log.head, out)?;
+    tell_choice(replica, alloc, statements, log, out)?;
     take(replica, alloc, disk, log, out)?;
     replica.tell_views(alloc, out)?;
-    prepare_all(replica, alloc, disk, log.head, out)?;
+    prepare_all(replica, alloc, disk, log, out)?;
     replica.apply(alloc, disk, out)
 }
 
@@ -170,9 +189,17 @@ fn choose_log<D: SectorDisk>(
     }
 }
 
+/// Whether it is the primary of a view that isn't started.
+fn may_try(replica: &Replica) -> bool
+    requires { 0 < replica.now.n }
+    ensures { result ≡ (is_primary replica.now && not (is_started replica.now)) }
+{
+    replica.is_primary() && !replica.is_started()
+}
+
 /// Tries to begin its view: the primary of a view that isn't started chooses its log from what the
 /// replicas have stated, and begins the view if they leave no doubt.
-#[tactic(auto, using(vr_step::proofs::Stepping::steps, vr_journal::proofs::Memory::some_member), unfolding(vr_rules::specs::Words::try))]
+#[tactic(auto, using(crate::proofs::Choices::tries, vr_journal::proofs::Memory::some_member))]
 pub fn try_view<D: SectorDisk>(
     replica: &mut Replica,
     alloc: Global,
@@ -186,7 +213,7 @@ pub fn try_view<D: SectorDisk>(
     ensures cause { Caused (D.faults disk.old) (D.faults disk.new) result }
     ensures step { Does try replica.old replica.new (D.told disk.old) (D.told disk.new) out.old out.new result }
 {
-    if replica.is_primary() && !replica.is_started() {
+    if may_try(replica) {
         choose_log(replica, alloc, disk, out)
     } else {
         Ok(())

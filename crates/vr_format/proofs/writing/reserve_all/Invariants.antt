@@ -1,4 +1,4 @@
-use Rattle.std.proofs.Common.{◌≤◌}
+use Rattle.std.proofs.Common.{◌≡◌}
 use Rattle.vr_rules.specs.Lying.{reserved_headers}
 use Rattle.vr_format.specs.Calls.{reserved_call, calls_from, Making}
 use Rattle.vr_format.proofs.writing.reserve_all.Given as goal
@@ -6,5 +6,5 @@ use Rattle.vr_format.proofs.writing.reserve_all.Given as goal
 abbrev pub invariant-loop-slot : goal.invariant-loop-slot
 invariant-loop-slot g l = record {
   making : Making (reserved_headers l.cluster) (calls_from (reserved_call l.cluster) l.slot 64) (g.D.SectorDisk.told l.fn.disk) (g.D.SectorDisk.told l.disk);
-  later : g.D.SectorDisk.faults l.fn.disk ≤ g.D.SectorDisk.faults l.disk;
+  faults : g.D.SectorDisk.faults l.disk ≡ g.D.SectorDisk.faults l.fn.disk;
 }

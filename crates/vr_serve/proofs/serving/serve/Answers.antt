@@ -1,9 +1,14 @@
-use Rattle.std.proofs.Common.{◌≡◌, ◌∙◌, ◌⊎◌, [], ap, arith, inr, subst}
+use Rattle.std.proofs.Common.{Err, ◌∷◌, rules, sym, ◌≡◌, ◌∙◌, ◌⊎◌, [], ap, arith, inr, subst}
 use Rattle.std.specs.Io.KnownBytes.{Appends}
+use Rattle.vr_edge.specs.Datagrams.{Failed}
+use Rattle.vr_mail.proofs.Growing.{grows_trans}
 use Rattle.vr_mail.specs.Sends.{Sends}
 use Rattle.vr_serve.proofs.Cutting.{on_err}
+use Rattle.vr_serve.proofs.Ending.{same_stop}
 use Rattle.vr_serve.proofs.Turning.{serving_begins, serving_cut, serving_more}
+use Rattle.vr_serve.specs.Events.{arrivals}
 use Rattle.vr_serve.specs.Outputs.{datagrams_for, numbers_after, text_from}
+use Rattle.vr_serve.specs.declared.stop.Stop.TheVariants.{Link}
 use Rattle.vr_serve.specs.Runs.{IsCutBefore, IsCutInTurn, at}
 use Rattle.vr_serve.proofs.serving.serve.Goals as goal
 
@@ -57,3 +62,13 @@ returns-in_err-last-clause-cut g c =
     (g.C.Clock.left c.args.clock.now) (g.C.Clock.left c.loop.clock) (g.L.Link.received c.args.link.now) (g.L.Link.received c.loop.link) (g.L.Link.received c.turn.new.link)
     (g.K.Sink.taken c.args.sink.now) (g.K.Sink.taken c.turn.new.sink) (g.L.Link.sent c.args.link.now) (g.L.Link.sent c.turn.new.link)
     b r.0 c.loop.invariant.serving c.loop-test.true r.1 r.2 r.3))
+
+pub returns-in_err-last-clause-linked : goal.returns-in_err-last-clause-linked
+returns-in_err-last-clause-linked g c =
+    let is : c.from_residual-in_err-last.result ≡ Err c.in_err-last.field-0.0 = search rules in
+    let s = c.loop.invariant.serving in
+    λ link. let why : c.in_err-last.field-0.0 ≡ Link = same_stop c.in_err-last.field-0.0 Link (sym is ∙ link) in (
+      arrivals s.turns,
+      grows_trans (g.L.Link.received c.args.link.now) (g.L.Link.received c.loop.link) (g.L.Link.received c.turn.new.link)
+          (arrivals s.turns) (Failed ∷ []) s.received (c.in_err-last.ensures.linked (ap (λ f. Err f) why)),
+    )

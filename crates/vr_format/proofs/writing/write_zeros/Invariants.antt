@@ -1,0 +1,10 @@
+use Rattle.std.proofs.Common.{◌≡◌}
+use Rattle.vr_rules.specs.Lying.{zero_prepares}
+use Rattle.vr_format.specs.Calls.{zero_call, calls_from, Making}
+use Rattle.vr_format.proofs.writing.write_zeros.Given as goal
+
+abbrev pub invariant-loop-i : goal.invariant-loop-i
+invariant-loop-i g l = record {
+  making : Making zero_prepares (calls_from zero_call l.i 400) (g.D.SectorDisk.told l.fn.disk) (g.D.SectorDisk.told l.disk);
+  faults : g.D.SectorDisk.faults l.disk ≡ g.D.SectorDisk.faults l.fn.disk;
+}

@@ -1,0 +1,4 @@
+pub mod Counts
+pub mod Commits
+pub mod Prepares
+pub mod Requests

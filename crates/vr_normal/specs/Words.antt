@@ -1,0 +1,22 @@
+-- Words of the normal case, and what they ask of the log.
+use Rattle.std.specs.Prelude.{ℕ, ◌-◌, Bool, false, ◌==◌, nat_lt, List, drop, take}
+use Rattle.std.specs.List.{list_any}
+use Rattle.std.specs.Option.{option_map_or}
+use Rattle.vr_header.specs.declared.part.Part.{Part}
+use Rattle.vr_msg.specs.declared.frame.Commit.{Commit}
+use Rattle.vr_msg.specs.Logs.{header_of}
+use Rattle.vr_rules.specs.Replica.{head}
+use Rattle.vr_rules.specs.Rules.{ask_view}
+use Rattle.vr_rules.specs.Steps.{Word, by, when}
+
+-- where the log of the primary is longer, it is asked for
+unfoldable pub asks_behind : {F : Type 0} → Commit → Word F
+asks_behind c = by (λ r. when (nat_lt (head r) c.head) (ask_view c.view c.replica))
+
+-- a known header is of this client's request
+abbrev pub is_of : ℕ → Part → Bool
+is_of client p = option_map_or (λ h. h.client == client) (header_of p) false
+
+-- one of the headers from place i on, up to another place, is
+unfoldable pub any_of : ℕ → List Part → ℕ → ℕ → Bool
+any_of client ps i end = list_any (is_of client) (take (end - i) (drop i ps))

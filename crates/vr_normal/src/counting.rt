@@ -1,0 +1,99 @@
+//! Acknowledgements are counted: prepare_oks.
+ghost use Rattle.std.specs.Prelude.{◌≡◌, ◌<◌, ◌≤◌, ◌+◌, ◌^◌, ◌&&◌, ◌==◌, nat_le, nat_lt, OnOk};
+ghost use Rattle.vr_base.specs.Bytes.{name_of};
+ghost use Rattle.vr_journal.specs.Ready.{IsReady};
+ghost use Rattle.vr_rules.specs.Deciding.{first_of, is_named, prepare_ok_table};
+ghost use Rattle.vr_rules.specs.declared.rule.Rule.TheVariants.{Counted};
+ghost use Rattle.vr_rules.specs.Replica.{head, leads};
+ghost use Rattle.vr_rules.specs.Rules.{acknowledged, on_prepare_ok};
+ghost use Rattle.vr_rules.specs.Steps.{◌⨾◌, change};
+ghost use Rattle.vr_rules.specs.Words.{advance};
+ghost use Rattle.vr_step.specs.Does.{Caused, Does};
+ghost use Rattle.vr_normal.specs.Named.{count_rule};
+ghost use Rattle.vr_normal.specs.declared.counting.CountRule.TheVariants as CountRule;
+
+use std::alloc::Global;
+use vr_disk::SectorDisk;
+use vr_journal::Replica;
+use vr_msg::{Outbox, PrepareOk};
+use vr_repair::advance;
+use vr_step::Halt;
+
+/// What a prepare_ok leads to.
+#[derive(Clone, Copy, Debug, PartialEq, Eq)]
+pub enum CountRule {
+    /// It isn't from another replica of the group, or of no open entry of the view that this replica leads.
+    Ignored,
+    /// It is counted.
+    Counted,
+}
+
+// Whether it is of an open entry of the view that this replica leads.
+#[tactic(auto, using(vr_journal::proofs::Memory::window_of, vr_journal::proofs::Memory::some_member))]
+fn is_open(replica: &Replica, ack: &PrepareOk) -> bool
+    requires { IsReady replica.now }
+    ensures { result ≡ (leads replica.now && ((ack.now.view == replica.now.view) && (nat_lt replica.now.commit ack.now.op && (nat_le ack.now.op (head replica.now) && is_named name_of ack.now.name ack.now.op replica.now)))) }
+{
+    replica.leads()
+        && ack.view == replica.view()
+        && replica.commit() < ack.op
+        && ack.op <= replica.head()
+        && replica.is_named(&ack.name, ack.op)
+}
+
+/// Which rule applies to a prepare_ok.
+#[tactic(auto, unfolding(vr_rules::specs::Deciding::first_of))]
+pub fn decide_prepare_ok(replica: &Replica, ack: &PrepareOk) -> CountRule
+    requires { IsReady replica.now }
+    ensures { first_of (prepare_ok_table name_of ack.now replica.now) ≡ count_rule result }
+{
+    if !replica.is_from(ack.cluster, ack.replica) {
+        CountRule::Ignored
+    } else if is_open(replica, ack) {
+        CountRule::Counted
+    } else {
+        CountRule::Ignored
+    }
+}
+
+// It is counted, and the commit number rises as far as it may.
+#[tactic(auto, using(vr_step::proofs::Stepping::steps, crate::proofs::Counts::counted_from, crate::proofs::Counts::counted_within, crate::proofs::Counts::ready_counted))]
+fn count<D: SectorDisk>(
+    replica: &mut Replica,
+    alloc: Global,
+    disk: &mut D,
+    ack: &PrepareOk,
+    out: &mut Outbox,
+) -> Result<(), Halt>
+    requires ready { IsReady replica.old }
+    requires rule { first_of (prepare_ok_table name_of ack.now replica.old) ≡ Counted }
+    requires room { replica.old.saved.fields.sequence + 64 < 2 ^ 64 }
+    ensures ready { OnOk result (IsReady replica.new) }
+    ensures cause { Caused (D.faults disk.old) (D.faults disk.new) result }
+    ensures step { Does (change (acknowledged ack.now) ⨾ advance) replica.old replica.new (D.told disk.old) (D.told disk.new) out.old out.new result }
+{
+    replica.add_acker(ack);
+    advance(replica, alloc, disk, out)
+}
+
+/// A backup has stored an entry. Where that is open in the view that this replica leads it is counted, and the commit number rises as
+/// far as a quorum has stored the entries.
+#[tactic(auto, using(crate::proofs::Counts::rules))]
+pub fn handle_prepare_ok<D: SectorDisk>(
+    replica: &mut Replica,
+    alloc: Global,
+    disk: &mut D,
+    ack: &PrepareOk,
+    out: &mut Outbox,
+) -> Result<(), Halt>
+    requires ready { IsReady replica.old }
+    requires room { replica.old.saved.fields.sequence + 64 < 2 ^ 64 }
+    ensures ready { OnOk result (IsReady replica.new) }
+    ensures cause { Caused (D.faults disk.old) (D.faults disk.new) result }
+    ensures step { Does (on_prepare_ok ack.now) replica.old replica.new (D.told disk.old) (D.told disk.new) out.old out.new result }
+{
+    match decide_prepare_ok(replica, ack) {
+        CountRule::Ignored => Ok(()),
+        CountRule::Counted => count(replica, alloc, disk, ack, out),
+    }
+}

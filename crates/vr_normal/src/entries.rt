@@ -1,0 +1,23 @@
+//! Headers of entries.
+ghost use Rattle.std.specs.Prelude.{◌≡◌};
+ghost use Rattle.vr_header.specs.Made.{IsEntryHeader};
+ghost use Rattle.vr_header.specs.Spelling.{IsHeader};
+
+use vr_header::{Entry, Header};
+
+// A header that is there has the values of one.
+fn valued(header: Header) -> Header
+    ensures same { result ≡ header }
+    ensures values { IsHeader result }
+{
+    header
+}
+
+/// The header of an entry, which has the values of one.
+pub fn header_of(entry: &Entry) -> Header
+    ensures same { result ≡ entry.now.header }
+    ensures values { IsHeader entry.now.header }
+    ensures entry { IsEntryHeader entry.now.header }
+{
+    valued(entry.header())
+}

@@ -1,0 +1,139 @@
+//! How far the log is committed is learned: commits.
+ghost use Rattle.std.specs.Prelude.{◌≡◌, ◌<◌, ◌≤◌, ◌+◌, ◌++◌, ◌^◌, nat_lt, OnOk};
+ghost use Rattle.vr_journal.specs.Ready.{IsReady};
+ghost use Rattle.vr_rules.specs.Deciding.{commit_table, first_of};
+ghost use Rattle.vr_rules.specs.Outputs.{get_view, send_to};
+ghost use Rattle.vr_rules.specs.Replica.{head, last_view};
+ghost use Rattle.vr_rules.specs.Rules.{on_commit};
+ghost use Rattle.vr_rules.specs.Steps.{◌⨾◌, change};
+ghost use Rattle.vr_rules.specs.Words.{learn, rested};
+ghost use Rattle.vr_step.specs.Does.{Caused, Does};
+ghost use Rattle.vr_normal.specs.Messages.{IsCommitting};
+ghost use Rattle.vr_normal.specs.Named.{commit_rule};
+ghost use Rattle.vr_normal.specs.Words.{asks_behind};
+
+use std::alloc::{AllocError, Global};
+use vr_disk::SectorDisk;
+use vr_journal::Replica;
+use vr_msg::{Commit, GetView, Message, Outbox};
+use vr_step::Halt;
+
+/// What a commit leads to.
+#[derive(Clone, Copy, Debug, PartialEq, Eq)]
+pub enum CommitRule {
+    /// It isn't from the primary of its view, another replica of the group.
+    Ignored,
+    /// It is of a view before the replica's.
+    Before,
+    /// It is of a view whose log the replica doesn't have, and asks for.
+    Later,
+    /// The commit number is learned.
+    Heard,
+}
+
+/// Asks a replica for the log of a view.
+pub fn ask_view(replica: &Replica, view: u32, to: u8, out: &mut Outbox) -> Result<(), AllocError>
+    requires { view ≤ last_view }
+    ensures { OnOk result (out.new ≡ out.old ++ send_to to (get_view view replica.now) replica.now) }
+{
+    let message = Message::get_view(GetView {
+        cluster: replica.cluster(),
+        replica: replica.index(),
+        view,
+    });
+    replica.tell(to, message, out)
+}
+
+/// Which rule applies to a commit.
+#[tactic(auto, using(vr_journal::proofs::Memory::some_member), unfolding(vr_rules::specs::Deciding::first_of))]
+pub fn decide_commit(replica: &Replica, commit: &Commit) -> CommitRule
+    requires { IsReady replica.now }
+    ensures { first_of (commit_table commit.now replica.now) ≡ commit_rule result }
+{
+    if !replica.is_from_primary(commit.cluster, commit.replica, commit.view) {
+        CommitRule::Ignored
+    } else if commit.view < replica.view() {
+        CommitRule::Before
+    } else if replica.log_view() < commit.view {
+        CommitRule::Later
+    } else {
+        CommitRule::Heard
+    }
+}
+
+// Whether the primary's log is longer.
+#[tactic(auto, using(vr_journal::proofs::Memory::window_of))]
+fn is_behind(replica: &Replica, commit: &Commit) -> bool
+    requires { IsReady replica.now }
+    ensures { result ≡ nat_lt (head replica.now) commit.now.head }
+{
+    replica.head() < commit.head
+}
+
+// Asks for the log where the primary's is longer.
+#[tactic(auto, using(crate::proofs::Commits::behind, vr_step::proofs::Stepping::wants))]
+fn ask_behind<D: SectorDisk>(
+    replica: &Replica,
+    _disk: &mut D,
+    commit: &Commit,
+    out: &mut Outbox,
+) -> Result<(), Halt>
+    requires ready { IsReady replica.now }
+    requires view { commit.now.view ≤ last_view }
+    ensures cause { Caused (D.faults _disk.old) (D.faults _disk.new) result }
+    ensures step { Does (asks_behind commit.now) replica.now replica.now (D.told _disk.old) (D.told _disk.new) out.old out.new result }
+{
+    if is_behind(replica, commit) {
+        ask_view(replica, commit.view, commit.replica, out)?;
+    }
+    Ok(())
+}
+
+// The primary is heard, and the commit number learned.
+#[tactic(auto, using(vr_step::proofs::Stepping::steps, vr_journal::proofs::Memory::readies))]
+fn hear<D: SectorDisk>(
+    replica: &mut Replica,
+    alloc: Global,
+    disk: &mut D,
+    commit: &Commit,
+    out: &mut Outbox,
+) -> Result<(), Halt>
+    requires ready { IsReady replica.old }
+    requires view { commit.now.view ≤ last_view }
+    requires room { replica.old.saved.fields.sequence + 64 < 2 ^ 64 }
+    ensures ready { OnOk result (IsReady replica.new) }
+    ensures cause { Caused (D.faults disk.old) (D.faults disk.new) result }
+    ensures step { Does (change rested ⨾ asks_behind commit.now ⨾ learn commit.now.commit) replica.old replica.new (D.told disk.old) (D.told disk.new) out.old out.new result }
+{
+    replica.rest();
+    ask_behind(replica, disk, commit, out)?;
+    replica.learn(alloc, disk, commit.commit, out)
+}
+
+/// The primary tells how far its log goes, and how far it is committed. A replica that has the view's log learns the commit number, and
+/// asks for the log where its own is shorter; one that hasn't asks for the log.
+#[tactic(auto, using(crate::proofs::Commits::rules, crate::proofs::Commits::view_fits, vr_step::proofs::Stepping::wants))]
+pub fn handle_commit<D: SectorDisk>(
+    replica: &mut Replica,
+    alloc: Global,
+    disk: &mut D,
+    commit: &Commit,
+    out: &mut Outbox,
+) -> Result<(), Halt>
+    requires ready { IsReady replica.old }
+    requires message { IsCommitting commit.now }
+    requires room { replica.old.saved.fields.sequence + 64 < 2 ^ 64 }
+    ensures ready { OnOk result (IsReady replica.new) }
+    ensures cause { Caused (D.faults disk.old) (D.faults disk.new) result }
+    ensures step { Does (on_commit commit.now) replica.old replica.new (D.told disk.old) (D.told disk.new) out.old out.new result }
+{
+    match decide_commit(replica, commit) {
+        CommitRule::Ignored => Ok(()),
+        CommitRule::Before => Ok(()),
+        CommitRule::Later => {
+            ask_view(replica, commit.view, commit.replica, out)?;
+            Ok(())
+        }
+        CommitRule::Heard => hear(replica, alloc, disk, commit, out),
+    }
+}

@@ -1,0 +1,119 @@
+//! A request becomes the next entry.
+ghost use Rattle.std.specs.Prelude.{◌≡◌, ◌<◌, ◌≤◌, ◌+◌, ◌^◌, IfOk, OnOk};
+ghost use Rattle.vr_base.specs.Bytes.{name_of};
+ghost use Rattle.vr_header.specs.Names.{name_by};
+ghost use Rattle.vr_journal.specs.Ready.{IsReady, MayStore};
+ghost use Rattle.vr_msg.specs.Asking.{IsRequest};
+ghost use Rattle.vr_rules.specs.Deciding.{first_of, request_table};
+ghost use Rattle.vr_rules.specs.declared.rule.Rule.TheVariants.{Made};
+ghost use Rattle.vr_rules.specs.Replica.{head, head_header, last_view};
+ghost use Rattle.vr_rules.specs.Rules.{make, next_entry};
+ghost use Rattle.vr_rules.specs.Steps.{by};
+ghost use Rattle.vr_step.specs.Does.{Caused, Does};
+
+use crate::entries::header_of;
+use std::alloc::{AllocError, Global};
+use vr_base::Sum;
+use vr_disk::SectorDisk;
+use vr_header::{Entry, Header};
+use vr_journal::Replica;
+use vr_msg::{Outbox, RequestFields};
+use vr_repair::advance;
+use vr_step::Halt;
+
+/// The name of what the next entry stands on.
+#[tactic(auto, using(vr_journal::proofs::Memory::window_of))]
+pub fn head_name(replica: &Replica) -> Sum
+    requires { IsReady replica.now }
+    ensures { result ≡ name_by name_of (head_header name_of replica.now) }
+{
+    match replica.header_at(replica.head()) {
+        Some(header) => header.name(),
+        None => Header::root(replica.cluster()).name(),
+    }
+}
+
+// The op of the next entry.
+#[tactic(auto, using(vr_journal::proofs::Memory::window_of))]
+fn next_op(replica: &Replica) -> u64
+    requires ready { IsReady replica.now }
+    requires room { head replica.now < 2 ^ 62 }
+    ensures op { result ≡ head replica.now + 1 }
+    ensures number { result ≤ 2 ^ 62 }
+{
+    replica.head() + 1
+}
+
+/// The next entry, of this request.
+#[tactic(auto, unfolding(vr_rules::specs::Rules::next_entry))]
+fn next_entry(
+    replica: &Replica,
+    alloc: Global,
+    request: &RequestFields,
+) -> Result<Entry, AllocError>
+    requires ready { IsReady replica.now }
+    requires view { replica.now.view ≤ last_view }
+    requires room { head replica.now < 2 ^ 62 }
+    requires form { IsRequest request.now }
+    ensures value { IfOk result (λ entry. entry ≡ next_entry name_of request.now replica.now) }
+{
+    let header = Header::of_request(
+        request.cluster,
+        request.client,
+        request.request,
+        &request.operation,
+    );
+    Ok(Entry::of_request(
+        &header,
+        request.operation.try_clone(alloc)?,
+        replica.view(),
+        next_op(replica),
+        head_name(replica),
+    ))
+}
+
+/// An entry is stored, prepared to the others, and counted.
+#[tactic(auto, using(vr_step::proofs::Stepping::steps, vr_journal::proofs::Memory::readies), unfolding(vr_rules::specs::Rules::make))]
+fn make<D: SectorDisk>(
+    replica: &mut Replica,
+    alloc: Global,
+    disk: &mut D,
+    entry: &Entry,
+    out: &mut Outbox,
+) -> Result<(), Halt>
+    requires ready { IsReady replica.old }
+    requires may { MayStore entry.now replica.old }
+    requires made { entry.now.header.view ≤ replica.old.view }
+    requires view { replica.old.view ≤ last_view }
+    requires room { replica.old.saved.fields.sequence + 64 < 2 ^ 64 }
+    ensures ready { OnOk result (IsReady replica.new) }
+    ensures cause { Caused (D.faults disk.old) (D.faults disk.new) result }
+    ensures step { Does (make entry.now) replica.old replica.new (D.told disk.old) (D.told disk.new) out.old out.new result }
+{
+    replica.write(disk, entry, out)?;
+    replica.send_prepare(alloc, entry, out)?;
+    advance(replica, alloc, disk, out)
+}
+
+/// The next entry is made of this request.
+#[tactic(auto, using(vr_step::proofs::Stepping::steps, crate::proofs::Requests::may_make, crate::proofs::Requests::made_view, crate::proofs::Requests::head_room))]
+pub fn make_next<D: SectorDisk>(
+    replica: &mut Replica,
+    alloc: Global,
+    disk: &mut D,
+    request: &RequestFields,
+    out: &mut Outbox,
+) -> Result<(), Halt>
+    requires ready { IsReady replica.old }
+    requires view { replica.old.view ≤ last_view }
+    requires form { IsRequest request.now }
+    requires rule { first_of (request_table request.now replica.old) ≡ Made }
+    requires room { replica.old.saved.fields.sequence + 64 < 2 ^ 64 }
+    ensures ready { OnOk result (IsReady replica.new) }
+    ensures cause { Caused (D.faults disk.old) (D.faults disk.new) result }
+    ensures step { Does (by (λ r. make (next_entry name_of request.now r))) replica.old replica.new (D.told disk.old) (D.told disk.new) out.old out.new result }
+{
+    let entry = next_entry(replica, alloc, request)?;
+    let _header = header_of(&entry);
+    make(replica, alloc, disk, &entry, out)
+}

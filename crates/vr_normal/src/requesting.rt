@@ -1,0 +1,274 @@
+//! Requests of clients.
+ghost use Rattle.std.specs.Prelude.{◌≡◌, ◌<◌, ◌≤◌, ◌+◌, ◌-◌, ◌++◌, ◌^◌, ◌||◌, not, nat_le, nat_lt, slice_index_or, IfOk, OnOk};
+ghost use Rattle.vr_base.specs.Bytes.{name_of};
+ghost use Rattle.vr_header.specs.declared.part.Part.TheVariants.{Nothing};
+ghost use Rattle.vr_journal.specs.Ready.{IsReady};
+ghost use Rattle.vr_msg.specs.Asking.{IsRequest, IsReplyKind};
+ghost use Rattle.vr_msg.specs.Normal.{last_op, pipeline};
+ghost use Rattle.vr_rules.specs.Deciding.{first_of, is_in_flight, request_table};
+ghost use Rattle.vr_rules.specs.Outputs.{replies};
+ghost use Rattle.vr_rules.specs.Replica.{head, last_view};
+ghost use Rattle.vr_rules.specs.Rules.{asker_by, on_request};
+ghost use Rattle.vr_rules.specs.Words.{is_loaded};
+ghost use Rattle.vr_sess.specs.Asks.{is_fresh};
+ghost use Rattle.vr_step.specs.Does.{Caused, Does};
+ghost use Rattle.vr_rules.proofs.Replying.{HasNumber};
+ghost use Rattle.vr_normal.specs.Named.{request_rule};
+ghost use Rattle.vr_normal.specs.Requests.{Answers, open_rows, stored_replies};
+ghost use Rattle.vr_normal.specs.Words.{any_of, is_of};
+
+use crate::making::make_next;
+use std::alloc::{AllocError, Global};
+use vr_base::{NoMemory, Sum};
+use vr_disk::SectorDisk;
+use vr_header::{Header, Part};
+use vr_journal::{Replica, Window, header_of};
+use vr_msg::{Answered, Outbox, ReplyKind, Request, RequestFields};
+use vr_sess::SessionAnswer;
+use vr_step::Halt;
+
+/// What a request leads to.
+#[derive(Debug, Drop, PartialEq, Eq)]
+pub enum RequestRule {
+    /// It is of another group.
+    Ignored,
+    /// This replica doesn't lead its view.
+    Redirected,
+    /// What is committed isn't applied yet.
+    Behind,
+    /// A request of the client stands above the commit number.
+    InFlight,
+    /// It isn't fresh: what the sessions answer.
+    Answered(SessionAnswer),
+    /// There is no room for it.
+    Full,
+    /// It becomes the next entry.
+    Made,
+}
+
+// ---- which rule applies
+
+// Whether the header that is known at a place is of this client's request.
+#[tactic(auto, using(vr_journal::proofs::Lists::past_is, vr_journal::proofs::Lists::found_is))]
+fn is_of(parts: &Window<Part>, client: u64, at: usize) -> bool
+    ensures { result ≡ is_of client (slice_index_or parts.now at Nothing) }
+{
+    match parts.item(at) {
+        Some(part) => match header_of(part) {
+            Some(header) => header.client == client,
+            None => false,
+        },
+        None => false,
+    }
+}
+
+// Whether one of the headers from a place on, up to another, is.
+#[tactic(auto, using(crate::proofs::Requests::any_more, crate::proofs::Requests::any_found, crate::proofs::Requests::any_past))]
+fn any_of(parts: &Window<Part>, client: u64, from: usize, end: usize) -> bool
+    ensures { result ≡ any_of client parts.now from end }
+{
+    for i in from..end {
+        if is_of(parts, client, i) {
+            return true;
+        }
+    }
+    false
+}
+
+// Whether an entry of the client stands above the commit number.
+#[tactic(auto, using(vr_journal::proofs::Memory::window_of, vr_journal::proofs::Memory::commit_fits, crate::proofs::Requests::flight_is))]
+fn is_in_flight(replica: &Replica, client: u64) -> bool
+    requires { IsReady replica.now }
+    ensures { result ≡ is_in_flight client replica.now }
+{
+    let first = replica.first();
+    let from = (replica.commit() + 1).saturating_sub(first) as usize;
+    let end = (replica.head() + 1).saturating_sub(first) as usize;
+    any_of(replica.parts(), client, from, end)
+}
+
+// Whether what is committed isn't applied yet.
+fn is_late(replica: &Replica) -> bool
+    ensures { result ≡ (not (is_loaded replica.now) || nat_lt replica.now.applied replica.now.commit) }
+{
+    !replica.is_loaded() || replica.applied() < replica.commit()
+}
+
+// Whether there is no room for one more entry.
+#[tactic(auto, using(vr_journal::proofs::Memory::window_of))]
+fn is_full(replica: &Replica) -> bool
+    requires { IsReady replica.now }
+    ensures { result ≡ (nat_le pipeline (head replica.now - replica.now.commit) || nat_le last_op (head replica.now)) }
+{
+    let head = replica.head();
+    8 <= head.saturating_sub(replica.commit()) || 1 << 62 <= head
+}
+
+fn is_fresh(answer: &SessionAnswer) -> bool
+    ensures { result ≡ is_fresh answer.now }
+{
+    match answer {
+        SessionAnswer::Fresh => true,
+        _ => false,
+    }
+}
+
+// Which rule applies where nothing else is to be done first: by what the sessions answer, and whether there is room.
+#[tactic(auto, unfolding(vr_rules::specs::Deciding::first_of, crate::specs::Requests::Answers))]
+fn decide_open(replica: &Replica, request: &RequestFields) -> Result<RequestRule, NoMemory>
+    requires { IsReady replica.now }
+    ensures rule { IfOk result (λ x. first_of (open_rows request.now replica.now) ≡ request_rule x) }
+    ensures answer { IfOk result (λ x. Answers x request.now replica.now) }
+{
+    let answer = replica.state().check(request.client, request.request)?;
+    if !is_fresh(&answer) {
+        Ok(RequestRule::Answered(answer))
+    } else if is_full(replica) {
+        Ok(RequestRule::Full)
+    } else {
+        Ok(RequestRule::Made)
+    }
+}
+
+/// Which rule applies to a request, with what the sessions answer where it isn't fresh.
+#[tactic(auto, using(vr_journal::proofs::Memory::some_member), unfolding(vr_rules::specs::Deciding::first_of, crate::specs::Requests::Answers))]
+pub fn decide_request(replica: &Replica, request: &RequestFields) -> Result<RequestRule, NoMemory>
+    requires { IsReady replica.now }
+    ensures rule { IfOk result (λ x. first_of (request_table request.now replica.now) ≡ request_rule x) }
+    ensures answer { IfOk result (λ x. Answers x request.now replica.now) }
+{
+    if request.cluster != replica.cluster() {
+        Ok(RequestRule::Ignored)
+    } else if !replica.leads() {
+        Ok(RequestRule::Redirected)
+    } else if is_late(replica) {
+        Ok(RequestRule::Behind)
+    } else if is_in_flight(replica, request.client) {
+        Ok(RequestRule::InFlight)
+    } else {
+        decide_open(replica, request)
+    }
+}
+
+// ---- what is done
+
+// The name of a request.
+fn request_name(request: &RequestFields) -> Sum
+    ensures { result ≡ (asker_by name_of request.now).name }
+{
+    Header::of_request(
+        request.cluster,
+        request.client,
+        request.request,
+        &request.operation,
+    )
+    .name()
+}
+
+// Replies to a request.
+fn reply_to(
+    replica: &Replica,
+    request: &RequestFields,
+    kind: ReplyKind,
+    out: &mut Outbox,
+) -> Result<(), AllocError>
+    requires view { replica.now.view ≤ last_view }
+    requires kind { IsReplyKind kind }
+    ensures { OnOk result (out.new ≡ out.old ++ replies (asker_by name_of request.now) kind replica.now) }
+{
+    replica.reply(
+        request.client,
+        request.request,
+        request_name(request),
+        kind,
+        out,
+    )
+}
+
+// Replies what the sessions answer to a request that isn't fresh.
+fn reply_stored(
+    replica: &Replica,
+    request: &RequestFields,
+    answer: SessionAnswer,
+    out: &mut Outbox,
+) -> Result<(), AllocError>
+    requires view { replica.now.view ≤ last_view }
+    requires number { HasNumber answer }
+    ensures { OnOk result (out.new ≡ out.old ++ stored_replies (asker_by name_of request.now) answer replica.now) }
+{
+    match answer {
+        SessionAnswer::Fresh => Ok(()),
+        SessionAnswer::Repeat(outcome, op) => {
+            let kind = ReplyKind::Outcome(Answered { op, outcome });
+            reply_to(replica, request, kind, out)
+        }
+        SessionAnswer::Old => reply_to(replica, request, ReplyKind::Old, out),
+        SessionAnswer::Gap => reply_to(replica, request, ReplyKind::Gap, out),
+        SessionAnswer::Evicted => reply_to(replica, request, ReplyKind::Evicted, out),
+    }
+}
+
+// Does what the rule says.
+#[tactic(auto, using(crate::proofs::Requests::rules, vr_step::proofs::Stepping::wants))]
+fn obey_request<D: SectorDisk>(
+    replica: &mut Replica,
+    alloc: Global,
+    disk: &mut D,
+    request: &RequestFields,
+    rule: RequestRule,
+    out: &mut Outbox,
+) -> Result<(), Halt>
+    requires ready { IsReady replica.old }
+    requires view { replica.old.view ≤ last_view }
+    requires form { IsRequest request.now }
+    requires rule { first_of (request_table request.now replica.old) ≡ request_rule rule }
+    requires answer { Answers rule request.now replica.old }
+    requires room { replica.old.saved.fields.sequence + 64 < 2 ^ 64 }
+    ensures ready { OnOk result (IsReady replica.new) }
+    ensures cause { Caused (D.faults disk.old) (D.faults disk.new) result }
+    ensures step { Does (on_request request.now) replica.old replica.new (D.told disk.old) (D.told disk.new) out.old out.new result }
+{
+    match rule {
+        RequestRule::Ignored => Ok(()),
+        RequestRule::Redirected => {
+            reply_to(replica, request, ReplyKind::Redirect, out)?;
+            Ok(())
+        }
+        RequestRule::Behind => {
+            reply_to(replica, request, ReplyKind::Busy, out)?;
+            Ok(())
+        }
+        RequestRule::InFlight => Ok(()),
+        RequestRule::Answered(answer) => {
+            reply_stored(replica, request, answer, out)?;
+            Ok(())
+        }
+        RequestRule::Full => {
+            reply_to(replica, request, ReplyKind::Busy, out)?;
+            Ok(())
+        }
+        RequestRule::Made => make_next(replica, alloc, disk, request, out),
+    }
+}
+
+/// A client asks. The primary makes the next entry of a fresh request, stores it, and prepares it to the others. One that isn't fresh is
+/// replied to with the outcome that is stored, or with why there is none; one that is in flight isn't replied to yet. A replica that doesn't
+/// lead redirects, and one that is behind or has no room replies that it is busy.
+#[tactic(auto, using(vr_step::proofs::Stepping::wants))]
+pub fn handle_request<D: SectorDisk>(
+    replica: &mut Replica,
+    alloc: Global,
+    disk: &mut D,
+    request: &Request,
+    out: &mut Outbox,
+) -> Result<(), Halt>
+    requires ready { IsReady replica.old }
+    requires view { replica.old.view ≤ last_view }
+    requires room { replica.old.saved.fields.sequence + 64 < 2 ^ 64 }
+    ensures ready { OnOk result (IsReady replica.new) }
+    ensures cause { Caused (D.faults disk.old) (D.faults disk.new) result }
+    ensures step { Does (on_request request.now) replica.old replica.new (D.told disk.old) (D.told disk.new) out.old out.new result }
+{
+    let rule = decide_request(replica, request.fields())?;
+    obey_request(replica, alloc, disk, request.fields(), rule, out)
+}

@@ -1,0 +1,231 @@
+//! Entries of the primary are stored, and acknowledged: prepares.
+ghost use Rattle.std.specs.Prelude.{◌≡◌, ◌<◌, ◌≤◌, ◌+◌, ◌^◌, ◌&&◌, ◌==◌, nat_lt, OnOk};
+ghost use Rattle.vr_base.specs.Bytes.{name_of};
+ghost use Rattle.vr_header.specs.Names.{name_by};
+ghost use Rattle.vr_journal.specs.Ready.{IsReady, MayStore};
+ghost use Rattle.vr_msg.specs.Normal.{same_sum};
+ghost use Rattle.vr_rules.specs.Deciding.{first_of, is_unknown, prepare_table};
+ghost use Rattle.vr_rules.specs.Replica.{head, head_header, last_view};
+ghost use Rattle.vr_rules.specs.Rules.{acknowledge, ask_view, on_prepare};
+ghost use Rattle.vr_rules.specs.Steps.{◌⨾◌, change};
+ghost use Rattle.vr_rules.specs.Words.{accept, learn, rested, write};
+ghost use Rattle.vr_step.specs.Does.{Caused, Does};
+ghost use Rattle.vr_normal.specs.Messages.{IsPreparing};
+ghost use Rattle.vr_normal.specs.Named.{prepare_rule};
+
+use crate::entries::header_of;
+use crate::learning::ask_view;
+use crate::making::head_name;
+use std::alloc::Global;
+use vr_disk::SectorDisk;
+use vr_header::Header;
+use vr_journal::Replica;
+use vr_msg::{Outbox, Prepare};
+use vr_step::Halt;
+
+/// What a prepare leads to.
+#[derive(Clone, Copy, Debug, PartialEq, Eq)]
+pub enum PrepareRule {
+    /// It isn't from the primary of its view, another replica of the group.
+    Ignored,
+    /// It is of a view before the replica's.
+    Before,
+    /// It is of a view whose log the replica doesn't have, and asks for.
+    Later,
+    /// Its op is one of the checkpoint.
+    Past,
+    /// Its op is past the window.
+    Beyond,
+    /// Its header is known.
+    Known,
+    /// It is the next entry.
+    Next,
+    /// Entries before it are missing.
+    Ahead,
+    /// It finds no place.
+    Other,
+}
+
+// Whether it is the next entry: the head's op and name come before it.
+#[tactic(auto, using(vr_journal::proofs::Memory::window_of, vr_journal::proofs::Memory::head_fits))]
+fn is_next(replica: &Replica, header: &Header) -> bool
+    requires { IsReady replica.now }
+    ensures { result ≡ (is_unknown header.now.op replica.now && ((header.now.op == head replica.now + 1) && same_sum header.now.parent (name_by name_of (head_header name_of replica.now)))) }
+{
+    replica.is_unknown(header.op)
+        && header.op == replica.head() + 1
+        && header.parent == head_name(replica)
+}
+
+// Whether entries before it are missing.
+#[tactic(auto, using(vr_journal::proofs::Memory::window_of, vr_journal::proofs::Memory::head_fits))]
+fn is_ahead(replica: &Replica, header: &Header) -> bool
+    requires { IsReady replica.now }
+    ensures { result ≡ (is_unknown header.now.op replica.now && nat_lt (head replica.now + 1) header.now.op) }
+{
+    replica.is_unknown(header.op) && replica.head() + 1 < header.op
+}
+
+// Whether it is past the window.
+#[tactic(auto, using(vr_journal::proofs::Memory::window_of))]
+fn is_beyond(replica: &Replica, op: u64) -> bool
+    requires { IsReady replica.now }
+    ensures { result ≡ nat_lt (replica.now.checkpoint + 64) op }
+{
+    replica.checkpoint() + 64 < op
+}
+
+/// Which rule applies to a prepare.
+#[tactic(auto, using(vr_journal::proofs::Memory::some_member), unfolding(vr_rules::specs::Deciding::first_of))]
+pub fn decide_prepare(replica: &Replica, prepare: &Prepare) -> PrepareRule
+    requires { IsReady replica.now }
+    ensures { first_of (prepare_table name_of prepare.now replica.now) ≡ prepare_rule result }
+{
+    let header = prepare.entry.header();
+    if !replica.is_from_primary(header.cluster, prepare.replica, prepare.view) {
+        PrepareRule::Ignored
+    } else if prepare.view < replica.view() {
+        PrepareRule::Before
+    } else if replica.log_view() < prepare.view {
+        PrepareRule::Later
+    } else if header.op <= replica.checkpoint() {
+        PrepareRule::Past
+    } else if is_beyond(replica, header.op) {
+        PrepareRule::Beyond
+    } else if replica.is_known(&header, header.op) {
+        PrepareRule::Known
+    } else if is_next(replica, &header) {
+        PrepareRule::Next
+    } else if is_ahead(replica, &header) {
+        PrepareRule::Ahead
+    } else {
+        PrepareRule::Other
+    }
+}
+
+// The primary is heard, and the commit number learned.
+#[tactic(auto, using(vr_step::proofs::Stepping::steps, vr_journal::proofs::Memory::readies))]
+fn hear<D: SectorDisk>(
+    replica: &mut Replica,
+    alloc: Global,
+    disk: &mut D,
+    commit: u64,
+    out: &mut Outbox,
+) -> Result<(), Halt>
+    requires ready { IsReady replica.old }
+    requires room { replica.old.saved.fields.sequence + 64 < 2 ^ 64 }
+    ensures ready { OnOk result (IsReady replica.new) }
+    ensures cause { Caused (D.faults disk.old) (D.faults disk.new) result }
+    ensures step { Does (change rested ⨾ learn commit) replica.old replica.new (D.told disk.old) (D.told disk.new) out.old out.new result }
+{
+    replica.rest();
+    replica.learn(alloc, disk, commit, out)
+}
+
+// The entry of a known header is stored unless it is, and acknowledged.
+#[tactic(auto, using(vr_step::proofs::Stepping::steps, vr_journal::proofs::Memory::readies))]
+fn store_known<D: SectorDisk>(
+    replica: &mut Replica,
+    alloc: Global,
+    disk: &mut D,
+    prepare: &Prepare,
+    out: &mut Outbox,
+) -> Result<(), Halt>
+    requires ready { IsReady replica.old }
+    requires may { MayStore prepare.now.entry replica.old }
+    requires view { replica.old.view ≤ last_view }
+    requires room { replica.old.saved.fields.sequence + 64 < 2 ^ 64 }
+    ensures ready { OnOk result (IsReady replica.new) }
+    ensures cause { Caused (D.faults disk.old) (D.faults disk.new) result }
+    ensures step { Does (change rested ⨾ accept prepare.now.entry ⨾ acknowledge name_of prepare.now.entry.header ⨾ learn prepare.now.commit) replica.old replica.new (D.told disk.old) (D.told disk.new) out.old out.new result }
+{
+    replica.rest();
+    replica.accept(disk, &prepare.entry, out)?;
+    replica.acknowledge(&prepare.entry.header(), out)?;
+    replica.learn(alloc, disk, prepare.commit, out)
+}
+
+// The next entry is stored, and acknowledged.
+#[tactic(auto, using(vr_step::proofs::Stepping::steps, vr_journal::proofs::Memory::readies))]
+fn store_next<D: SectorDisk>(
+    replica: &mut Replica,
+    alloc: Global,
+    disk: &mut D,
+    prepare: &Prepare,
+    out: &mut Outbox,
+) -> Result<(), Halt>
+    requires ready { IsReady replica.old }
+    requires may { MayStore prepare.now.entry replica.old }
+    requires view { replica.old.view ≤ last_view }
+    requires room { replica.old.saved.fields.sequence + 64 < 2 ^ 64 }
+    ensures ready { OnOk result (IsReady replica.new) }
+    ensures cause { Caused (D.faults disk.old) (D.faults disk.new) result }
+    ensures step { Does (change rested ⨾ write prepare.now.entry ⨾ acknowledge name_of prepare.now.entry.header ⨾ learn prepare.now.commit) replica.old replica.new (D.told disk.old) (D.told disk.new) out.old out.new result }
+{
+    replica.rest();
+    replica.write(disk, &prepare.entry, out)?;
+    replica.acknowledge(&prepare.entry.header(), out)?;
+    replica.learn(alloc, disk, prepare.commit, out)
+}
+
+// The log is asked for, since entries before this one are missing.
+#[tactic(auto, using(vr_step::proofs::Stepping::steps, vr_journal::proofs::Memory::readies))]
+fn ask_ahead<D: SectorDisk>(
+    replica: &mut Replica,
+    alloc: Global,
+    disk: &mut D,
+    prepare: &Prepare,
+    out: &mut Outbox,
+) -> Result<(), Halt>
+    requires ready { IsReady replica.old }
+    requires view { prepare.now.view ≤ last_view }
+    requires room { replica.old.saved.fields.sequence + 64 < 2 ^ 64 }
+    ensures ready { OnOk result (IsReady replica.new) }
+    ensures cause { Caused (D.faults disk.old) (D.faults disk.new) result }
+    ensures step { Does (change rested ⨾ ask_view prepare.now.view prepare.now.replica ⨾ learn prepare.now.commit) replica.old replica.new (D.told disk.old) (D.told disk.new) out.old out.new result }
+{
+    replica.rest();
+    ask_view(replica, prepare.view, prepare.replica, out)?;
+    replica.learn(alloc, disk, prepare.commit, out)
+}
+
+/// The primary prepares an entry. A replica that has the view's log stores it where it is known or the next one, acknowledges it, and
+/// learns the commit number; one that misses entries before it, or the view's log, asks for that.
+#[tactic(auto, using(crate::proofs::Prepares::rules, crate::proofs::Prepares::may_store, crate::proofs::Prepares::view_fits, vr_journal::proofs::Memory::readies, vr_step::proofs::Stepping::wants))]
+pub fn handle_prepare<D: SectorDisk>(
+    replica: &mut Replica,
+    alloc: Global,
+    disk: &mut D,
+    prepare: &Prepare,
+    out: &mut Outbox,
+) -> Result<(), Halt>
+    requires ready { IsReady replica.old }
+    requires view { replica.old.view ≤ last_view }
+    requires message { IsPreparing prepare.now }
+    requires room { replica.old.saved.fields.sequence + 64 < 2 ^ 64 }
+    ensures ready { OnOk result (IsReady replica.new) }
+    ensures cause { Caused (D.faults disk.old) (D.faults disk.new) result }
+    ensures step { Does (on_prepare prepare.now) replica.old replica.new (D.told disk.old) (D.told disk.new) out.old out.new result }
+{
+    let _header = header_of(&prepare.entry);
+    match decide_prepare(replica, prepare) {
+        PrepareRule::Ignored => Ok(()),
+        PrepareRule::Before => Ok(()),
+        PrepareRule::Later => {
+            ask_view(replica, prepare.view, prepare.replica, out)?;
+            Ok(())
+        }
+        PrepareRule::Past => hear(replica, alloc, disk, prepare.commit, out),
+        PrepareRule::Beyond => {
+            replica.rest();
+            Ok(())
+        }
+        PrepareRule::Known => store_known(replica, alloc, disk, prepare, out),
+        PrepareRule::Next => store_next(replica, alloc, disk, prepare, out),
+        PrepareRule::Ahead => ask_ahead(replica, alloc, disk, prepare, out),
+        PrepareRule::Other => {
+            replica.rest();
+            Ok(())
+        }
+    }
+}

@@ -1,0 +1,108 @@
+//! Repair of blocks.
+ghost use Rattle.std.specs.Prelude.{◌≡◌, ◌<◌, ◌+◌, ◌^◌, OnOk, Some, find};
+ghost use Rattle.vr_journal.specs.Ready.{IsReady};
+ghost use Rattle.vr_repair.specs.Repairs.{is_block};
+ghost use Rattle.vr_rules.specs.Deciding.{is_wanted};
+ghost use Rattle.vr_rules.specs.Rules.{asked_block, block_at, give_read, on_get_block, on_give_block, put_found};
+ghost use Rattle.vr_rules.specs.Steps.{reading};
+ghost use Rattle.vr_step.specs.Does.{Caused, Does};
+
+use crate::deciding::{Repair, decide_get_block};
+use crate::finding::find_block;
+use crate::missing::put_block;
+use crate::wanting::decide_give_block;
+use std::alloc::Global;
+use vr_disk::SectorDisk;
+use vr_grid::Name;
+use vr_journal::Replica;
+use vr_msg::{GetBlock, GiveBlock, Outbox};
+use vr_step::Halt;
+
+fn asked_block(get: &GetBlock) -> Name
+    ensures { result ≡ asked_block get.now }
+{
+    Name {
+        address: get.address,
+        sum: get.name,
+    }
+}
+
+// Gives the block that is asked for, where it reads.
+#[tactic(auto, using(crate::proofs::Rules::block_read, crate::proofs::Rules::block_unread, vr_step::proofs::Stepping::wants))]
+fn give_block<D: SectorDisk>(
+    replica: &Replica,
+    alloc: Global,
+    disk: &mut D,
+    get: &GetBlock,
+    out: &mut Outbox,
+) -> Result<(), Halt>
+    ensures cause { Caused (D.faults disk.old) (D.faults disk.new) result }
+    ensures step { Does (reading (block_at (asked_block get.now)) (give_read get.now)) replica.now replica.now (D.told disk.old) (D.told disk.new) out.old out.new result }
+{
+    match find_block(alloc, disk, &asked_block(get))? {
+        Some(block) => replica.give_block(get.replica, get.address, block, out)?,
+        None => {}
+    }
+    Ok(())
+}
+
+/// A replica asks for a block: where one reads whole under this name, it is given.
+#[tactic(auto, using(crate::proofs::Rules::block_given, crate::proofs::Rules::get_block_ignored))]
+pub fn handle_get_block<D: SectorDisk>(
+    replica: &Replica,
+    alloc: Global,
+    disk: &mut D,
+    get: &GetBlock,
+    out: &mut Outbox,
+) -> Result<(), Halt>
+    ensures cause { Caused (D.faults disk.old) (D.faults disk.new) result }
+    ensures step { Does (on_get_block get.now) replica.now replica.now (D.told disk.old) (D.told disk.new) out.old out.new result }
+{
+    match decide_get_block(replica, get) {
+        Repair::BlockGiven => give_block(replica, alloc, disk, get, out),
+        _ => Ok(()),
+    }
+}
+
+// Puts a block that was missing, and applies.
+#[tactic(auto, using(vr_step::proofs::Stepping::steps, crate::proofs::Rules::may_put, crate::proofs::Rules::is_put))]
+fn take_block<D: SectorDisk>(
+    replica: &mut Replica,
+    alloc: Global,
+    disk: &mut D,
+    give: &GiveBlock,
+    name: Name,
+    out: &mut Outbox,
+) -> Result<(), Halt>
+    requires ready { IsReady replica.old }
+    requires found { find (is_wanted is_block give.now) replica.old.missing ≡ Some name }
+    requires room { replica.old.saved.fields.sequence + 64 < 2 ^ 64 }
+    ensures ready { OnOk result (IsReady replica.new) }
+    ensures cause { Caused (D.faults disk.old) (D.faults disk.new) result }
+    ensures step { Does (put_found give.now.block (Some name)) replica.old replica.new (D.told disk.old) (D.told disk.new) out.old out.new result }
+{
+    put_block(replica, alloc, disk, &name, give.block.as_slice(), out)?;
+    replica.apply(alloc, disk, out)
+}
+
+/// A block comes that was asked for: where a block of this address is missing, and the bytes are that block, whole and of its name, it is put.
+/// After the last one, and after the root, the checkpoint is loaded anew; then what can be is applied.
+#[tactic(auto, using(crate::proofs::Rules::block_taken, crate::proofs::Rules::give_block_ignored))]
+pub fn handle_give_block<D: SectorDisk>(
+    replica: &mut Replica,
+    alloc: Global,
+    disk: &mut D,
+    give: &GiveBlock,
+    out: &mut Outbox,
+) -> Result<(), Halt>
+    requires ready { IsReady replica.old }
+    requires room { replica.old.saved.fields.sequence + 64 < 2 ^ 64 }
+    ensures ready { OnOk result (IsReady replica.new) }
+    ensures cause { Caused (D.faults disk.old) (D.faults disk.new) result }
+    ensures step { Does (on_give_block give.now) replica.old replica.new (D.told disk.old) (D.told disk.new) out.old out.new result }
+{
+    match decide_give_block(replica, give) {
+        Repair::BlockTaken(name) => take_block(replica, alloc, disk, give, name, out),
+        _ => Ok(()),
+    }
+}

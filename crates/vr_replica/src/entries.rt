@@ -1,0 +1,62 @@
+//! Entries are read.
+ghost use Rattle.std.specs.Prelude.{◌≡◌, IfOk, IfSome, OnErr, OnOk};
+ghost use Rattle.vr_header.specs.declared.part.Part.TheVariants.{Here};
+ghost use Rattle.vr_journal.specs.Ready.{IsReady};
+ghost use Rattle.vr_rules.specs.Replica.{part_at};
+ghost use Rattle.vr_replica.specs.Entries.{after_reading, entry_by};
+
+use std::alloc::Global;
+use vr_base::NoMemory;
+use vr_disk::SectorDisk;
+use vr_header::{Entry, Header, Part};
+use vr_journal::{Replica, find_entry};
+
+// Reads the entry of this header, which is stored; one that can't be read is lost.
+#[tactic(auto, using(crate::proofs::EntryReadings::found, vr_journal::proofs::Memory::readies))]
+fn read_stored<D: SectorDisk>(
+    replica: &mut Replica,
+    alloc: Global,
+    disk: &mut D,
+    header: &Header,
+) -> Result<Option<Entry>, NoMemory>
+    requires ready { IsReady replica.old }
+    requires here { part_at replica.old header.now.op ≡ Here header.now }
+    ensures ready { IsReady replica.new }
+    ensures told { D.told disk.new ≡ D.told disk.old }
+    ensures faults { D.faults disk.new ≡ D.faults disk.old }
+    ensures value { IfOk result (λ found. IfSome (D.told disk.old) (λ d. found ≡ entry_by (Here header.now) d.face)) }
+    ensures left { IfOk result (λ found. replica.new ≡ after_reading (Here header.now) found replica.old) }
+    ensures kept { OnErr result (replica.new ≡ replica.old) }
+{
+    match find_entry(alloc, disk, header) {
+        Ok(Some(entry)) => Ok(Some(entry)),
+        Ok(None) => {
+            replica.lose(header);
+            Ok(None)
+        }
+        Err(fault) => Err(fault),
+    }
+}
+
+/// Reads the entry of an op where it is stored; one that can't be read is lost. `None`: there is none to be had. It changes nothing on
+/// the disk, and an `Err` changes nothing.
+#[tactic(auto, using(vr_journal::proofs::Memory::here_op))]
+pub fn read_entry<D: SectorDisk>(
+    replica: &mut Replica,
+    alloc: Global,
+    disk: &mut D,
+    op: u64,
+) -> Result<Option<Entry>, NoMemory>
+    requires ready { IsReady replica.old }
+    ensures ready { IsReady replica.new }
+    ensures told { D.told disk.new ≡ D.told disk.old }
+    ensures faults { D.faults disk.new ≡ D.faults disk.old }
+    ensures value { IfOk result (λ found. IfSome (D.told disk.old) (λ d. found ≡ entry_by (part_at replica.old op) d.face)) }
+    ensures left { IfOk result (λ found. replica.new ≡ after_reading (part_at replica.old op) found replica.old) }
+    ensures kept { OnErr result (replica.new ≡ replica.old) }
+{
+    match replica.part_at(op) {
+        Part::Here(header) => read_stored(replica, alloc, disk, &header),
+        _ => Ok(None),
+    }
+}

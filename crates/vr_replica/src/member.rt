@@ -1,0 +1,177 @@
+//! A replica as its member runs it.
+ghost use Rattle.std.specs.Prelude.{◌≡◌, ◌<◌, ◌≤◌, [], IfErr, IfOk, IfSome, OnErr, is_ok, is_some, true};
+ghost use Rattle.vr_base.specs.Causes.{Rose};
+ghost use Rattle.vr_base.specs.Groups.{quorums_of};
+ghost use Rattle.vr_opening.specs.Making.{Made};
+ghost use Rattle.vr_opening.specs.Recovering.{Recovered};
+ghost use Rattle.vr_rules.specs.Replica.{header_at, part_at};
+ghost use Rattle.vr_rules.specs.Rules.{react};
+ghost use Rattle.vr_step.specs.Does.{Caused, Does};
+ghost use Rattle.vr_replica.specs.Entries.{after_reading, entry_by};
+ghost use Rattle.vr_replica.specs.Running.{memory_of};
+
+use crate::entries::read_entry;
+use crate::reacting::react;
+use std::alloc::Global;
+use std::marker::Model;
+use vr_base::{Config, NoMemory};
+use vr_disk::SectorDisk;
+use vr_header::Entry;
+use vr_journal::Replica as Memory;
+use vr_msg::{Event, Outbox};
+use vr_opening::{FreshFault, Refusal};
+use vr_step::Halt;
+
+/// A replica of a group. Contracts see what it has in memory, and whether it runs: a step that stops ends that, for good.
+#[derive(Drop)]
+pub struct Replica {
+    memory: Memory,
+    running: bool,
+}
+
+impl Model for Replica {
+    ghost use Rattle.std.specs.Prelude.{◌≡◌, true};
+    ghost use Rattle.vr_journal.specs.Ready.{IsReady};
+    ghost use Rattle.vr_replica.specs.Running.{Running};
+
+    ghost Value = { Running };
+
+    ghost view = { λ r. record { memory = r.memory; running = r.running } };
+
+    ghost invariant = { λ r. r.running ≡ true → IsReady r.memory };
+}
+
+impl Replica {
+    /// The replica of a member of a new group, whose disk is formatted. `Occupied` exactly where two good copies of a superblock agree,
+    /// and then nothing is written; `DiskFault` where a call failed; after `NoMemory` nothing was written.
+    pub fn fresh<D: SectorDisk>(
+        alloc: Global,
+        disk: &mut D,
+        config: &Config,
+    ) -> Result<Replica, FreshFault>
+        requires size { is_some (quorums_of config.now.n) ≡ true }
+        requires member { config.now.replica < config.now.n }
+        ensures running { IfOk result (λ r. r.running ≡ true) }
+        ensures later { D.faults disk.old ≤ D.faults disk.new }
+        ensures fault { IfErr result (λ e. e ≡ FreshFault.DiskFault → Rose (D.faults disk.old) (D.faults disk.new)) }
+        ensures made { Made config.now (D.told disk.old) (D.told disk.new) (memory_of result) }
+    {
+        match vr_opening::fresh(alloc, disk, config) {
+            Ok(memory) => Ok(Replica {
+                memory,
+                running: true,
+            }),
+            Err(fault) => Err(fault),
+        }
+    }
+
+    /// The replica of a disk, if the disk is that of the member that is asked for: the superblock's value that opens is mended, the log is
+    /// found again, a primary's view is left, the checkpoint is loaded, what is committed is applied, and the others are told.
+    #[tactic(auto, using(crate::proofs::Stopped::cleared))]
+    pub fn recover<D: SectorDisk>(
+        alloc: Global,
+        disk: &mut D,
+        config: &Config,
+        out: &mut Outbox,
+    ) -> Result<Replica, Refusal>
+        ensures running { IfOk result (λ r. r.running ≡ true) }
+        ensures later { D.faults disk.old ≤ D.faults disk.new }
+        ensures fault { IfErr result (λ e. e ≡ Refusal.Halted Halt.DiskFault → Rose (D.faults disk.old) (D.faults disk.new)) }
+        ensures halt { OnErr result (out.new ≡ []) }
+        ensures recovered { Recovered config.now (D.told disk.old) (D.told disk.new) [] out.new (memory_of result) }
+    {
+        out.clear();
+        match vr_opening::recover(alloc, disk, config, out) {
+            Ok(memory) => Ok(Replica {
+                memory,
+                running: true,
+            }),
+            Err(refusal) => {
+                out.clear();
+                Err(refusal)
+            }
+        }
+    }
+
+    /// Handles an event in one step, which puts out what is to be sent, replied and told. After an `Err` the replica has stopped: it
+    /// puts out nothing, and takes no further step.
+    #[tactic(auto, using(crate::proofs::Stopped::halted))]
+    pub fn step<D: SectorDisk>(
+        &mut self,
+        alloc: Global,
+        disk: &mut D,
+        event: &Event,
+        out: &mut Outbox,
+    ) -> Result<(), Halt>
+        requires running { self.old.running ≡ true }
+        ensures running { self.new.running ≡ is_ok result }
+        ensures halt { OnErr result (out.new ≡ []) }
+        ensures cause { Caused (D.faults disk.old) (D.faults disk.new) result }
+        ensures step { Does (react event.now) self.old.memory self.new.memory (D.told disk.old) (D.told disk.new) [] out.new result }
+    {
+        out.clear();
+        match react(&mut self.memory, alloc, disk, event, out) {
+            Ok(()) => Ok(()),
+            Err(halt) => {
+                self.running = false;
+                out.clear();
+                Err(halt)
+            }
+        }
+    }
+}
+
+impl Replica {
+    /// Whether it takes steps. After a step that stopped it doesn't.
+    pub fn running(&self) -> bool
+        ensures { result ≡ self.now.running }
+    {
+        self.running
+    }
+
+    /// The group, the number in it, and its size.
+    pub fn config(&self) -> Config
+        ensures { result ≡ record { cluster = self.now.memory.cluster; replica = self.now.memory.index; n = self.now.memory.n } }
+    {
+        self.memory.config()
+    }
+
+    pub fn view(&self) -> u32
+        ensures { result ≡ self.now.memory.view }
+    {
+        self.memory.view()
+    }
+
+    pub fn commit(&self) -> u64
+        ensures { result ≡ self.now.memory.commit }
+    {
+        self.memory.commit()
+    }
+
+    /// Whether the header of an op is known.
+    pub fn names(&self, op: u64) -> bool
+        ensures { result ≡ is_some (header_at self.now.memory op) }
+    {
+        self.memory.header_at(op).is_some()
+    }
+
+    /// Reads the entry of an op whose header is known. `None`: it isn't stored, or can't be read, and then it is lost. It changes nothing on
+    /// the disk, and an `Err` changes nothing.
+    pub fn read<D: SectorDisk>(
+        &mut self,
+        alloc: Global,
+        disk: &mut D,
+        op: u64,
+    ) -> Result<Option<Entry>, NoMemory>
+        requires running { self.old.running ≡ true }
+        requires names { is_some (header_at self.old.memory op) ≡ true }
+        ensures running { self.new.running ≡ true }
+        ensures told { D.told disk.new ≡ D.told disk.old }
+        ensures faults { D.faults disk.new ≡ D.faults disk.old }
+        ensures value { IfOk result (λ found. IfSome (D.told disk.old) (λ d. found ≡ entry_by (part_at self.old.memory op) d.face)) }
+        ensures left { IfOk result (λ found. self.new.memory ≡ after_reading (part_at self.old.memory op) found self.old.memory) }
+        ensures kept { OnErr result (self.new ≡ self.old) }
+    {
+        read_entry(&mut self.memory, alloc, disk, op)
+    }
+}

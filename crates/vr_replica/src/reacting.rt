@@ -1,0 +1,103 @@
+//! The step of a replica: the rule of each event.
+ghost use Rattle.std.specs.Prelude.{◌≡◌, ◌<◌, ◌≤◌, ◌+◌, ◌^◌, OnOk};
+ghost use Rattle.vr_journal.specs.Ready.{IsReady};
+ghost use Rattle.vr_rules.specs.Replica.{is_frozen, last_view};
+ghost use Rattle.vr_rules.specs.Rules.{on_event, on_message, react};
+ghost use Rattle.vr_step.specs.Does.{Caused, Does};
+
+use crate::ticking::handle_tick;
+use std::alloc::Global;
+use vr_disk::SectorDisk;
+use vr_journal::Replica;
+use vr_msg::{Event, Frame, Message, Outbox};
+use vr_normal::{handle_commit, handle_prepare, handle_prepare_ok, handle_request};
+use vr_repair::{handle_get_block, handle_get_prepare, handle_give_block, handle_give_prepare};
+use vr_step::Halt;
+use vr_view::{
+    handle_do_view_change, handle_get_view, handle_start_view, handle_start_view_change,
+};
+
+// A message arrives. Replies aren't for replicas.
+#[tactic(auto, using(crate::proofs::Forms::forms, vr_step::proofs::Stepping::does_quiet))]
+fn handle_message<D: SectorDisk>(
+    replica: &mut Replica,
+    alloc: Global,
+    disk: &mut D,
+    message: &Message,
+    out: &mut Outbox,
+) -> Result<(), Halt>
+    requires ready { IsReady replica.old }
+    requires view { replica.old.view ≤ last_view }
+    requires room { replica.old.saved.fields.sequence + 66 < 2 ^ 64 }
+    ensures ready { OnOk result (IsReady replica.new) }
+    ensures cause { Caused (D.faults disk.old) (D.faults disk.new) result }
+    ensures step { Does (on_message message.now) replica.old replica.new (D.told disk.old) (D.told disk.new) out.old out.new result }
+{
+    match message.frame() {
+        Frame::Request(request) => handle_request(replica, alloc, disk, request, out),
+        Frame::Reply(_) => Ok(()),
+        Frame::Prepare(prepare) => handle_prepare(replica, alloc, disk, prepare, out),
+        Frame::PrepareOk(ack) => handle_prepare_ok(replica, alloc, disk, ack, out),
+        Frame::Commit(commit) => handle_commit(replica, alloc, disk, commit, out),
+        Frame::StartViewChange(change) => {
+            handle_start_view_change(replica, alloc, disk, change, out)
+        }
+        Frame::DoViewChange(change) => handle_do_view_change(replica, alloc, disk, change, out),
+        Frame::StartView(start) => handle_start_view(replica, alloc, disk, start, out),
+        Frame::GetView(get) => handle_get_view(replica, alloc, disk, get, out),
+        Frame::GetPrepare(get) => handle_get_prepare(replica, alloc, disk, get, out),
+        Frame::GivePrepare(give) => handle_give_prepare(replica, alloc, disk, give, out),
+        Frame::GetBlock(get) => handle_get_block(replica, alloc, disk, get, out),
+        Frame::GiveBlock(give) => handle_give_block(replica, alloc, disk, give, out),
+    }
+}
+
+// What happens, at a replica whose views and sequence numbers aren't at their end.
+fn handle<D: SectorDisk>(
+    replica: &mut Replica,
+    alloc: Global,
+    disk: &mut D,
+    event: &Event,
+    out: &mut Outbox,
+) -> Result<(), Halt>
+    requires ready { IsReady replica.old }
+    requires view { replica.old.view ≤ last_view }
+    requires room { replica.old.saved.fields.sequence + 66 < 2 ^ 64 }
+    ensures ready { OnOk result (IsReady replica.new) }
+    ensures cause { Caused (D.faults disk.old) (D.faults disk.new) result }
+    ensures step { Does (on_event event.now) replica.old replica.new (D.told disk.old) (D.told disk.new) out.old out.new result }
+{
+    match event {
+        Event::Request(request) => handle_request(replica, alloc, disk, request, out),
+        Event::Deliver(message) => handle_message(replica, alloc, disk, message, out),
+        Event::Tick => handle_tick(replica, alloc, disk, out),
+    }
+}
+
+// Whether its views or sequence numbers are at their end.
+fn is_frozen(replica: &Replica) -> bool
+    ensures { result ≡ is_frozen replica.now }
+{
+    4_294_967_294 < replica.view() || replica.is_spent()
+}
+
+/// The step of an event; where views or sequence numbers are at their end, every event is ignored.
+#[tactic(auto, using(crate::proofs::Reacts::frozen, crate::proofs::Reacts::goes, crate::proofs::Reacts::view_room, crate::proofs::Reacts::save_room))]
+pub fn react<D: SectorDisk>(
+    replica: &mut Replica,
+    alloc: Global,
+    disk: &mut D,
+    event: &Event,
+    out: &mut Outbox,
+) -> Result<(), Halt>
+    requires ready { IsReady replica.old }
+    ensures ready { OnOk result (IsReady replica.new) }
+    ensures cause { Caused (D.faults disk.old) (D.faults disk.new) result }
+    ensures step { Does (react event.now) replica.old replica.new (D.told disk.old) (D.told disk.new) out.old out.new result }
+{
+    if is_frozen(replica) {
+        Ok(())
+    } else {
+        handle(replica, alloc, disk, event, out)
+    }
+}

@@ -1,0 +1,215 @@
+//! Time goes by.
+ghost use Rattle.std.specs.Prelude.{◌≡◌, ◌<◌, ◌≤◌, ◌+◌, ◌^◌, OnOk, nat_le, nat_lt};
+ghost use Rattle.vr_journal.specs.Ready.{IsReady};
+ghost use Rattle.vr_rules.specs.Deciding.{first_of, tick_table};
+ghost use Rattle.vr_rules.specs.Replica.{head, last_view};
+ghost use Rattle.vr_rules.specs.Rules.{backup_ticks, changing_ticks, on_tick, primary_ticks};
+ghost use Rattle.vr_rules.specs.Words.{enter};
+ghost use Rattle.vr_step.specs.Does.{Caused, Does};
+ghost use Rattle.vr_replica.specs.Ticks.{tells_all, tells_first, rule_of};
+ghost use Rattle.vr_replica.specs.declared.ticking.Tick.TheVariants as Tick;
+
+use std::alloc::Global;
+use vr_disk::SectorDisk;
+use vr_journal::Replica;
+use vr_msg::Outbox;
+use vr_repair::{ask, prepare_again};
+use vr_step::Halt;
+use vr_view::speak;
+
+/// What a tick finds the replica to be.
+#[derive(Clone, Copy, Debug, PartialEq, Eq)]
+pub enum Tick {
+    /// The primary of a view that is started.
+    Primary,
+    /// A backup of a view that is started.
+    Backup,
+    /// Its view isn't started.
+    Changing,
+}
+
+/// Which rule applies to a tick.
+#[tactic(auto, using(vr_journal::proofs::Memory::some_member, crate::proofs::Ticks::unstarted), unfolding(vr_rules::specs::Deciding::first_of))]
+pub fn decide_tick(replica: &Replica) -> Tick
+    requires { IsReady replica.now }
+    ensures rule { first_of (tick_table replica.now) ≡ rule_of result }
+    ensures changing { result ≡ Tick.Changing → replica.now.log_view < replica.now.view }
+{
+    if replica.leads() {
+        Tick::Primary
+    } else if replica.is_started() {
+        Tick::Backup
+    } else {
+        Tick::Changing
+    }
+}
+
+// ---- at the primary
+
+// Whether an op above the commit number is known.
+#[tactic(auto, using(vr_journal::proofs::Memory::window_of))]
+fn has_open(replica: &Replica) -> bool
+    requires { IsReady replica.now }
+    ensures { result ≡ nat_lt replica.now.commit (head replica.now) }
+{
+    replica.commit() < replica.head()
+}
+
+// The first op above the commit number is sent again, if there is one.
+#[tactic(auto, using(crate::proofs::Ticks::first_told, crate::proofs::Ticks::none_told, crate::proofs::Ticks::next_fits))]
+fn tell_first<D: SectorDisk>(
+    replica: &mut Replica,
+    alloc: Global,
+    disk: &mut D,
+    out: &mut Outbox,
+) -> Result<(), Halt>
+    requires ready { IsReady replica.old }
+    requires view { replica.old.view ≤ last_view }
+    ensures ready { OnOk result (IsReady replica.new) }
+    ensures cause { Caused (D.faults disk.old) (D.faults disk.new) result }
+    ensures step { Does tells_first replica.old replica.new (D.told disk.old) (D.told disk.new) out.old out.new result }
+{
+    if has_open(replica) {
+        let op = replica.commit() + 1;
+        prepare_again(replica, alloc, disk, op, out)
+    } else {
+        Ok(())
+    }
+}
+
+// The primary tells how far its log goes, sends the first open entry again, and asks for what is missing.
+#[tactic(auto, using(vr_step::proofs::Stepping::steps), unfolding(crate::specs::Ticks::tells_first))]
+fn tick_primary<D: SectorDisk>(
+    replica: &mut Replica,
+    alloc: Global,
+    disk: &mut D,
+    out: &mut Outbox,
+) -> Result<(), Halt>
+    requires ready { IsReady replica.old }
+    requires view { replica.old.view ≤ last_view }
+    ensures ready { OnOk result (IsReady replica.new) }
+    ensures cause { Caused (D.faults disk.old) (D.faults disk.new) result }
+    ensures step { Does primary_ticks replica.old replica.new (D.told disk.old) (D.told disk.new) out.old out.new result }
+{
+    replica.tell_commit(out)?;
+    tell_first(replica, alloc, disk, out)?;
+    ask(replica, disk, out)
+}
+
+// ---- at a backup, and where the view isn't started
+
+// Whether it has been idle for so many ticks.
+fn is_idle_for(replica: &Replica, ticks: u64) -> bool
+    ensures { result ≡ nat_le ticks replica.now.idle }
+{
+    ticks <= replica.idle()
+}
+
+// The next view is entered.
+#[tactic(auto, using(crate::proofs::Ticks::next_entered))]
+fn enter_next<D: SectorDisk>(
+    replica: &mut Replica,
+    alloc: Global,
+    disk: &mut D,
+    out: &mut Outbox,
+) -> Result<(), Halt>
+    requires ready { IsReady replica.old }
+    requires view { replica.old.view ≤ last_view }
+    requires room { replica.old.saved.fields.sequence + 1 < 2 ^ 64 }
+    ensures ready { OnOk result (IsReady replica.new) }
+    ensures cause { Caused (D.faults disk.old) (D.faults disk.new) result }
+    ensures step { Does (enter (replica.old.view + 1)) replica.old replica.new (D.told disk.old) (D.told disk.new) out.old out.new result }
+{
+    let view = replica.view() + 1;
+    replica.enter(alloc, disk, view, out)
+}
+
+// A backup that has heard nothing for five ticks enters the next view; before, it asks for what is missing.
+#[tactic(auto, using(crate::proofs::Ticks::backup_due, crate::proofs::Ticks::backup_waits, crate::proofs::Ticks::ready_waits, crate::proofs::Ticks::idle_fits))]
+fn tick_backup<D: SectorDisk>(
+    replica: &mut Replica,
+    alloc: Global,
+    disk: &mut D,
+    out: &mut Outbox,
+) -> Result<(), Halt>
+    requires ready { IsReady replica.old }
+    requires view { replica.old.view ≤ last_view }
+    requires room { replica.old.saved.fields.sequence + 1 < 2 ^ 64 }
+    ensures ready { OnOk result (IsReady replica.new) }
+    ensures cause { Caused (D.faults disk.old) (D.faults disk.new) result }
+    ensures step { Does backup_ticks replica.old replica.new (D.told disk.old) (D.told disk.new) out.old out.new result }
+{
+    if is_idle_for(replica, 4) {
+        enter_next(replica, alloc, disk, out)
+    } else {
+        replica.idle_on();
+        ask(replica, disk, out)
+    }
+}
+
+// It tells the view that it has entered, states its log, and asks for what is missing.
+#[tactic(auto, using(vr_step::proofs::Stepping::steps))]
+fn tell_all<D: SectorDisk>(
+    replica: &mut Replica,
+    alloc: Global,
+    disk: &mut D,
+    out: &mut Outbox,
+) -> Result<(), Halt>
+    requires ready { IsReady replica.old }
+    requires view { replica.old.view ≤ last_view }
+    requires changing { replica.old.log_view < replica.old.view }
+    requires room { replica.old.saved.fields.sequence + 65 < 2 ^ 64 }
+    ensures ready { OnOk result (IsReady replica.new) }
+    ensures cause { Caused (D.faults disk.old) (D.faults disk.new) result }
+    ensures step { Does tells_all replica.old replica.new (D.told disk.old) (D.told disk.new) out.old out.new result }
+{
+    replica.tell_change(out)?;
+    speak(replica, alloc, disk, out)?;
+    ask(replica, disk, out)
+}
+
+// A replica whose view isn't started enters the next one after ten ticks; before, it tells of this one.
+#[tactic(auto, using(crate::proofs::Ticks::changing_due, crate::proofs::Ticks::changing_waits, crate::proofs::Ticks::ready_waits, crate::proofs::Ticks::idle_fits))]
+fn tick_changing<D: SectorDisk>(
+    replica: &mut Replica,
+    alloc: Global,
+    disk: &mut D,
+    out: &mut Outbox,
+) -> Result<(), Halt>
+    requires ready { IsReady replica.old }
+    requires view { replica.old.view ≤ last_view }
+    requires changing { replica.old.log_view < replica.old.view }
+    requires room { replica.old.saved.fields.sequence + 65 < 2 ^ 64 }
+    ensures ready { OnOk result (IsReady replica.new) }
+    ensures cause { Caused (D.faults disk.old) (D.faults disk.new) result }
+    ensures step { Does changing_ticks replica.old replica.new (D.told disk.old) (D.told disk.new) out.old out.new result }
+{
+    if is_idle_for(replica, 9) {
+        enter_next(replica, alloc, disk, out)
+    } else {
+        replica.idle_on();
+        tell_all(replica, alloc, disk, out)
+    }
+}
+
+/// Time goes by.
+#[tactic(auto, using(crate::proofs::Ticks::primary_ticked, crate::proofs::Ticks::backup_ticked, crate::proofs::Ticks::changing_ticked))]
+pub fn handle_tick<D: SectorDisk>(
+    replica: &mut Replica,
+    alloc: Global,
+    disk: &mut D,
+    out: &mut Outbox,
+) -> Result<(), Halt>
+    requires ready { IsReady replica.old }
+    requires view { replica.old.view ≤ last_view }
+    requires room { replica.old.saved.fields.sequence + 65 < 2 ^ 64 }
+    ensures ready { OnOk result (IsReady replica.new) }
+    ensures cause { Caused (D.faults disk.old) (D.faults disk.new) result }
+    ensures step { Does on_tick replica.old replica.new (D.told disk.old) (D.told disk.new) out.old out.new result }
+{
+    match decide_tick(replica) {
+        Tick::Primary => tick_primary(replica, alloc, disk, out),
+        Tick::Backup => tick_backup(replica, alloc, disk, out),
+        Tick::Changing => tick_changing(replica, alloc, disk, out),
+    }
+}

@@ -1,5 +1,0 @@
-//! Tests of a replica on its disk.
-#![tactic(auto)]
-
-#[cfg(test)]
-mod opening;
