@@ -67,7 +67,7 @@ keeps_idler r = record { index = refl; applied = refl; state = refl; missing = r
 
 -- ---- a load
 
-loads_place : (root : Name) (l : Load) (r : Replica) → ((loads root l r).index ≡ r.index) × ((loads root l r).applied ≡ r.applied)
+pub loads_place : (root : Name) (l : Load) (r : Replica) → ((loads root l r).index ≡ r.index) × ((loads root l r).applied ≡ r.applied)
 unfolding word.with_state
 loads_place root (Missing names) r = (refl, refl)
 loads_place root (Loaded texts table) r =

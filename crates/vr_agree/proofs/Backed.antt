@@ -35,8 +35,8 @@ use Rattle.vr_rules.specs.Safe.{IsHashed, IsOutput, KeepsEntry, CarriesEntry, wr
 use Rattle.vr_rules.specs.Safe as safe
 use Rattle.vr_safe.specs.Finished.{AreBacked, IsNumbered}
 use Rattle.vr_agree.specs.Followed.{IsFollowed, IsGoodEntry, IsLineOf}
-use Rattle.vr_agree.proofs.Sets.{get_in, in_left}
-use Rattle.vr_agree.proofs.Traces.{WasWritten, last, sent_later, chosen_later, said_of, sent_of, in_contains, output_in}
+use Rattle.vr_agree.proofs.Sets.{get_in, in_left, in_contains}
+use Rattle.vr_agree.proofs.Traces.{WasWritten, last, sent_later, chosen_later, said_of, sent_of, output_in}
 use Rattle.vr_agree.proofs.Machine.{committed_more, number_is}
 use Rattle.vr_agree.proofs.Forth.{CommittedAt, good, is_committed}
 use Rattle.vr_agree.proofs.Back.{back}

@@ -1,5 +1,5 @@
 -- A step that is a chain of the machine's moves gives what is asked of a move of the run, but for what is named here.
-use Rattle.std.proofs.Common.{ℕ, ◌≡◌, ◌∙◌, ◌⊎◌, inl, inr, arith, refl, sym, ap, subst, Bool, List, [], ◌∷◌, Some}
+use Rattle.std.proofs.Common.{ℕ, ◌≡◌, ◌∙◌, ◌⊎◌, inl, inr, arith, refl, sym, ap, subst, List, [], ◌∷◌, Some}
 use Rattle.std.specs.Prelude.{All}
 use Rattle.std.proofs.lemmas.List.Elements.{All-contains}
 use Rattle.vr_header.specs.declared.header.Header.{Header}
@@ -19,9 +19,8 @@ use Rattle.vr_msg.specs.Logs.{IsStatement}
 use Rattle.vr_protocol.specs.Members as machine
 use Rattle.vr_rules.specs.Group.{Played, made_in}
 use Rattle.vr_agree.specs.Picked.{IsChosenBy}
-use Rattle.vr_rules.specs.Laws.{IsPresentFrame, IsPresentOutput}
+use Rattle.vr_rules.specs.Laws.{IsEvent, IsPresentFrame, IsPresentOutput}
 use Rattle.vr_rules.specs.Replica.{Replica}
-use Rattle.vr_rules.specs.Steps.{Write}
 use Rattle.vr_protocol.specs.Basics.{In}
 use Rattle.vr_protocol.specs.Group.{Group, Made}
 use Rattle.vr_protocol.specs.Laws as law
@@ -34,7 +33,8 @@ use Rattle.vr_rules.specs.Safe.{IsHashed, actor, all_heard, event_of, heard_from
 use Rattle.vr_agree.specs.Followed.{IsCarried, IsChoiceLine, IsFrom, IsGoodEntry, IsSo, told_if}
 use Rattle.vr_agree.specs.Replied.{IsServed}
 use Rattle.vr_agree.proofs.Machine.{number_is}
-use Rattle.vr_agree.proofs.Traces.{every_in, in_contains}
+use Rattle.vr_agree.proofs.Traces.{every_in}
+use Rattle.vr_agree.proofs.Sets.{in_contains}
 
 every_of : {X : Type 0} (P : X → Type 0) (xs : List X) → ((x : X) → In x xs → P x) → Every P xs
 every_of P [] f = tt
@@ -100,9 +100,8 @@ module _ (cluster : ℕ) (u : Setup) (run : List Played) (before after : Group H
     so output.KeptOut j t h = tt
 
     -- a step
-    pub carried_is : ((z : Made Header) → In z after.made → In z before.made ⊎ In z.entry (made_in p.moved.script)) → ((again : Bool) (e : Whole) → In (Write again e) p.moved.script → IsGoodEntry e)
-        → IsCarried cluster u run before after p
-    carried_is made written =
+    pub carried_is : ((z : Made Header) → In z after.made → In z before.made ⊎ In z.entry (made_in p.moved.script)) → IsCarried cluster u run before after p
+    carried_is made =
         let told : Every (IsTrue u before.sent after.sent) p.moved.outputs = subst (Every (IsTrue u before.sent after.sent)) said x.told in
         record {
           sent = x.kept;
@@ -111,7 +110,6 @@ module _ (cluster : ℕ) (u : Setup) (run : List Played) (before after : Group H
               (All-contains (IsPresentOutput MayAsk r q) p.moved.outputs o present (in_contains p.moved.outputs o j)));
           only = λ m h. elim (x.only m h) [ inl old ↦ inl old | inr new ↦ inr (subst (λ os. IsSaid u os m) said new) ];
           made = made;
-          written = written;
         }
 
 -- ---- choose lines: the rules' half is a law of every step (steps_choose); the machine's half is asked for
@@ -126,14 +124,14 @@ pub record IsMadeFrom (u : Setup) (chosen : List (machine.Choice Header)) (e : E
   pub of_heard : (j : ℕ) → made.heard j ≡ told_if (heard_from l.view e r j)
   pub of_log : (k : ℕ) → made.log k ≡ named (all_heard l.view e r) k
 
-pub choice_line : (u : Setup) (chosen : List (machine.Choice Header)) (p : Played) (e : Event) (r : Replica) (l : Chosen) → actor p l.replica ≡ Some r → event_of p.move ≡ Some e → r.n ≡ u.quorums.n → All (IsStatement u.cluster) (all_heard l.view e r)
+pub choice_line : (u : Setup) (chosen : List (machine.Choice Header)) (p : Played) (e : Event) (r : Replica) (l : Chosen) → actor p l.replica ≡ Some r → event_of p.move ≡ Some e → r.n ≡ u.quorums.n → r.cluster ≡ u.cluster → IsEvent e
     → IsChosenBy e r l → IsMadeFrom u chosen e r l → IsChoiceLine u chosen p l
-choice_line u chosen p e r l is_of by_event size statements c m = record {
+choice_line u chosen p e r l is_of by_event size group came c m = record {
   replica = r;
   is_of = is_of;
   event = e;
   by_event = by_event;
-  statements = statements;
+  statements = subst (λ k. All (IsStatement k) (all_heard l.view e r)) group (c.statements came);
   sizes = c.sizes;
   sizes_are = ap quorums_of (sym size) ∙ c.sizes_are;
   headers = c.headers;

@@ -28,8 +28,8 @@ use Rattle.vr_rules.specs.Commitment.{IsCommitted, HasQuorum}
 use Rattle.vr_rules.specs.Safe.{IsHashed, wrote, IsWritten, run_outputs}
 use Rattle.vr_rules.specs.Safe as safe
 use Rattle.vr_agree.specs.Followed.{IsFollowed}
-use Rattle.vr_agree.proofs.Sets.{get_in}
-use Rattle.vr_agree.proofs.Traces.{WasWritten, last, in_contains, sent_of, from_of, written_of}
+use Rattle.vr_agree.proofs.Sets.{get_in, in_contains}
+use Rattle.vr_agree.proofs.Traces.{WasWritten, last, sent_of, from_of, written_of}
 use Rattle.vr_agree.proofs.Machine.{joins}
 
 ok_is : (h : Header) (r s v w k l : ℕ) → r ≡ s → v ≡ w → k ≡ l → machine.Prepare_ok r v k h ≡ machine.Prepare_ok s w l h

@@ -16,8 +16,8 @@ use Rattle.vr_safe.specs.Chains.{Setup}
 use Rattle.vr_safe.specs.Reflecting.{entries_by}
 use Rattle.vr_safe.proofs.Making.{logged_made}
 use Rattle.vr_agree.specs.Followed.{IsFollowed}
-use Rattle.vr_agree.proofs.Sets.{bound, greatest, Listed, listed}
-use Rattle.vr_agree.proofs.Traces.{WasWritten, in_contains, last, written_of}
+use Rattle.vr_agree.proofs.Sets.{bound, greatest, Listed, listed, in_contains}
+use Rattle.vr_agree.proofs.Traces.{WasWritten, last, written_of}
 use Rattle.vr_agree.proofs.Machine.{committed_begun, logged}
 use Rattle.vr_agree.proofs.Forth.{CommittedAt, good}
 

@@ -1,9 +1,9 @@
 -- A choose line of a step is of the choice of the rules from what its replica has heard.
-use Rattle.std.proofs.Common.{ℕ, replicate, ◌+◌, ◌<◌, ◌≡◌, ◌∙◌, inl, inr, refl, sym, ap, arith, Bool, true, false, cond, eqb, get_or, set, length, List, [], ◌∷◌, Option, Some, None}
+use Rattle.std.proofs.Common.{ℕ, replicate, ◌+◌, ◌<◌, ◌≡◌, ◌∙◌, inl, inr, refl, sym, ap, subst, arith, Bool, true, false, cond, eqb, get_or, set, length, List, [], ◌∷◌, Option, Some, None}
 use Rattle.std.specs.Prelude.{All, ⊤, nat_lt, nat_le, not, ◌&&◌, ◌==◌, Contains}
-use Rattle.std.specs.List.{filter_map, range_with_len}
+use Rattle.std.specs.List.{cons_option, filter_map, range_with_len}
 use Rattle.std.specs.Option.{option_map_or}
-use Rattle.std.proofs.lemmas.Bool.{and_parts, cases_eq, cases_lt, eq-eqb, ne_eqb, ltb-true, not-false}
+use Rattle.std.proofs.lemmas.Bool.{and_parts, cases_eq, cases_lt, eq-eqb, eqb-true, ne_eqb, ltb-true, not-false}
 use Rattle.std.proofs.lemmas.List.{get_or-set_same, get_or-set_other, get_or_past, get_or-replicate, length-replicate}
 use Rattle.std.proofs.lemmas.List.Elements.{All-nil, All-cons, All-append, All-contains}
 use Rattle.vr_base.specs.Groups.{quorums_of}
@@ -17,6 +17,9 @@ use Rattle.vr_rules.specs.Words as words
 use Rattle.vr_rules.specs.Words.{decided, log_end, stated}
 use Rattle.vr_rules.proofs.Ruling.{by_rows}
 use Rattle.vr_rules.specs.Sound.{IsSound}
+use Rattle.vr_rules.specs.Laws.{IsEvent}
+use Rattle.vr_msg.specs.Logs.{IsStatement}
+use Rattle.vr_rules.proofs.Stating.{own_statement}
 use Rattle.vr_rules.specs.Safe.{all_heard, brought, heard_from, or_else}
 use Rattle.vr_agree.specs.Picked.{IsChosenBy}
 use Rattle.vr_header.specs.declared.header.Header.{Header}
@@ -135,6 +138,8 @@ record Hears (e : Event) (o r : Replica) : Type 0 where
   n : r.n ≡ o.n
   own : statement_of r ≡ statement_of o
   others : (i : ℕ) → get_or r.statements i None ≡ or_else (brought i e) (cond (eqb o.view r.view) (get_or o.statements i None) None)
+  -- what was brought is of the group
+  group : (i : ℕ) (t : Statement) → brought i e ≡ Some t → IsEvent e → IsStatement o.cluster t
 
 cell : (i j k : ℕ) (a b : Statement) (y z : Option Statement) → j ≡ k → a ≡ b → y ≡ z → cond (eqb i j) (Some a) y ≡ cond (eqb i k) (Some b) z
 cell i j k a b y z e f g = λ p. cond (eqb i (e p)) (Some (f p)) (g p)
@@ -146,16 +151,46 @@ stated_is e o r h =
     λ i. cell i r.index o.index (statement_of r) (statement_of o) _ _ h.index h.own (h.others i) in
     filter_same (λ i. cond (eqb i r.index) (Some (statement_of r)) (get_or r.statements i None)) (heard_from r.view e o) (range_with_len 0 r.n) each ∙ ap (λ m. filter_map (heard_from r.view e o) (range_with_len 0 m)) h.n
 
+each_heard : {X : Type 0} (P : X → Type 0) (f : ℕ → Option X) (is : List ℕ) → ((i : ℕ) (x : X) → f i ≡ Some x → P x) → All P (filter_map f is)
+each_heard P f [] h = All-nil P
+each_heard {X} P f (i ∷ is) h =
+    let rest = each_heard P f is h in
+    elim (f i) as (λ (o : Option X). f i ≡ o → All P (cons_option o (filter_map f is))) [
+      | None ↦ λ e. rest
+      | Some x ↦ λ e. All-cons P x (filter_map f is) (h i x e) rest
+    ] refl
+
+-- a statement that was there before
+before_is : (b : Bool) (i : ℕ) (o : Replica) (t : Statement) → IsSound o → cond b (get_or o.statements i None) None ≡ Some t → IsStatement o.cluster t
+before_is true i o t sound e = (sound.stated.each i t e).statement
+before_is false i o t sound e = absurd cc
+
+-- a statement that was heard
+heard_is : (e : Event) (o r : Replica) (i : ℕ) (t : Statement) → IsSound o → Hears e o r → IsEvent e → heard_from r.view e o i ≡ Some t → IsStatement o.cluster t
+heard_is e o r i t sound h came is =
+    elim (eqb i o.index) as (λ b. cond b (Some (statement_of o)) (or_else (brought i e) (cond (eqb o.view r.view) (get_or o.statements i None) None)) ≡ Some t → IsStatement o.cluster t) [
+      | true ↦ λ x. let same : statement_of o ≡ t = (let z : Some (statement_of o) ≡ Some t = x in cc) in subst (IsStatement o.cluster) same (own_statement o sound).statement
+      | false ↦ elim (brought i e) as (λ b. brought i e ≡ b → or_else b (cond (eqb o.view r.view) (get_or o.statements i None) None) ≡ Some t → IsStatement o.cluster t) [
+        | Some s ↦ λ y x. h.group i t (y ∙ x) came
+        | None ↦ λ y x. before_is (eqb o.view r.view) i o t sound x
+      ] refl
+    ] is
+
+all_are : (e : Event) (o r : Replica) → IsSound o → Hears e o r → IsEvent e → All (IsStatement o.cluster) (all_heard r.view e o)
+unfolding all_heard
+all_are e o r sound h came = each_heard (IsStatement o.cluster) (heard_from r.view e o) (range_with_len 0 o.n) (λ i t is. heard_is e o r i t sound h came is)
+
 decided_of : (o : Option Quorums) (ss : List Statement) (hs : List Header) → option_map_or (λ q. choice q ss) o TooFew ≡ Ends hs → (q : Quorums) × (o ≡ Some q) × (choice q ss ≡ Ends hs)
 decided_of None ss hs e = absurd cc
 decided_of (Some q) ss hs e = (q, refl, e)
 
-may_pick : (e : Event) (o r : Replica) → Hears e o r → MayPick (IsChosenBy e o) r
-may_pick e o r h hs is =
+may_pick : (e : Event) (o r : Replica) → IsSound o → Hears e o r → MayPick (IsChosenBy e o) r
+may_pick e o r sound h hs is =
     let d = decided_of (quorums_of r.n) (stated r) hs is in
     let same = stated_is e o r h in
     record {
       place = h.index;
+      statements = all_are e o r sound h;
       sizes = d.0;
       sizes_are = ap quorums_of (sym h.n) ∙ d.1;
       headers = hs;
@@ -197,7 +232,7 @@ unfolding statement_of run head
 goes_heard sender o x h = record { index = h.index; n = h.n; own = h.own; long = h.long; others = h.others }
 
 hears_none : (e : Event) (o x : Replica) → ((i : ℕ) → brought i e ≡ None) → GoesOn o x → Hears e o x
-hears_none e o x none h = record { index = h.index; n = h.n; own = h.own; others = λ i. rw (none i) (h.others i) }
+hears_none e o x none h = record { index = h.index; n = h.n; own = h.own; others = λ i. rw (none i) (h.others i); group = λ i t is came. let no : None ≡ Some t = sym (none i) ∙ is in absurd cc }
 
 -- ---- the steps
 
@@ -214,10 +249,19 @@ entered_is v s o f sound less =
     ] in
     go (nat_lt last_view v)
 
+-- the statement that was brought
+brought_here : (d : DoViewChange) (i : ℕ) (t : Statement) → brought i (event.Deliver (frame.DoViewChange d)) ≡ Some t → IsStatement d.cluster d.statement → IsStatement d.cluster t
+brought_here d i t is h =
+    elim (eqb d.replica i) as (λ b. cond b (Some d.statement) None ≡ Some t → IsStatement d.cluster t) [
+      | true ↦ λ e. let same : d.statement ≡ t = (let z : Some d.statement ≡ Some t = e in cc) in subst (IsStatement d.cluster) same h
+      | false ↦ λ e. absurd cc
+    ] is
+
 -- a statement is taken in
-hears_statement : (d : DoViewChange) (o x : Replica) → GoesOn o x → d.replica < x.n → Hears (event.Deliver (frame.DoViewChange d)) o (rules.with_statement d.replica d.statement x)
+hears_statement : (d : DoViewChange) (o x : Replica) → GoesOn o x → d.replica < x.n → d.cluster ≡ o.cluster → Hears (event.Deliver (frame.DoViewChange d)) o (rules.with_statement d.replica d.statement x)
 unfolding statement_of run head
-hears_statement d o x h member = record {
+hears_statement d o x h member of_group = record {
+  group = λ i t is came. subst (λ c. IsStatement c t) of_group (brought_here d i t is came.form.statement);
   index = h.index;
   n = h.n;
   own = h.own;
@@ -237,7 +281,7 @@ module _ {F : Type 0} (s : Setting F) (o : Replica) (f : F) (sound : IsSound o) 
   unfolding change
   heard_at e c x d h =
       let Q = IsChosenBy e o in
-      at_then Q (change (rules.heard_of c.replica)) words.speak s x d (plain Q (mute_change (rules.heard_of c.replica)) s x d) (λ d. speak_at Q s (rules.heard_of c.replica x) d (may_pick e o (rules.heard_of c.replica x) h))
+      at_then Q (change (rules.heard_of c.replica)) words.speak s x d (plain Q (mute_change (rules.heard_of c.replica)) s x d) (λ d. speak_at Q s (rules.heard_of c.replica x) d (may_pick e o (rules.heard_of c.replica x) sound h))
 
   -- rules 20 and 21
   change_at : (c : StartViewChange) → Right (event.Deliver (frame.StartViewChange c)) (rules.on_start_view_change c)
@@ -266,13 +310,13 @@ module _ {F : Type 0} (s : Setting F) (o : Replica) (f : F) (sound : IsSound o) 
   entered_or d false t = goes_itself o sound
 
   -- rule 25
-  try_stated : (d : DoViewChange) (x : Replica) (g : F) → GoesOn o x → d.replica < x.n → PicksAt (IsChosenBy (event.Deliver (frame.DoViewChange d)) o) s x g (change (rules.with_statement d.replica d.statement) ⨾ words.try)
+  try_stated : (d : DoViewChange) (x : Replica) (g : F) → GoesOn o x → d.replica < x.n → d.cluster ≡ o.cluster → PicksAt (IsChosenBy (event.Deliver (frame.DoViewChange d)) o) s x g (change (rules.with_statement d.replica d.statement) ⨾ words.try)
   unfolding change
-  try_stated d x g h member =
+  try_stated d x g h member of_group =
       let e = event.Deliver (frame.DoViewChange d) in
       let Q = IsChosenBy e o in
       let y = rules.with_statement d.replica d.statement x in
-      at_then Q (change (rules.with_statement d.replica d.statement)) words.try s x g (plain Q (mute_change (rules.with_statement d.replica d.statement)) s x g) (λ k. try_at Q s y k (may_pick e o y (hears_statement d o x h member)))
+      at_then Q (change (rules.with_statement d.replica d.statement)) words.try s x g (plain Q (mute_change (rules.with_statement d.replica d.statement)) s x g) (λ k. try_at Q s y k (may_pick e o y sound (hears_statement d o x h member of_group)))
 
   statement_at : (d : DoViewChange) → Right (event.Deliver (frame.DoViewChange d)) (rules.on_do_view_change d)
   unfolding rules.on_do_view_change by quiet
@@ -295,7 +339,7 @@ module _ {F : Type 0} (s : Setting F) (o : Replica) (f : F) (sound : IsSound o) 
                   let rest : Word F = change (rules.with_statement d.replica d.statement) ⨾ words.try in
                   let on : GoesOn o (first s o f).replica = entered_or d (nat_lt o.view d.view) refl in
                   at_then Q first rest s o f (plain Q (mute_by _ (λ r. mute_if (nat_lt r.view d.view) (words.enter d.view) quiet (still_enter d.view).mute mute_quiet)) s o f)
-                  (λ g. try_stated d (first s o f).replica g on (let m = on.n in omega arith)),
+                  (λ g. try_stated d (first s o f).replica g on (let m = on.n in omega arith) (eqb-true d.cluster o.cluster from.0)),
               λ n3. idle,
             ),
           ),
@@ -315,7 +359,7 @@ module _ {F : Type 0} (s : Setting F) (o : Replica) (f : F) (sound : IsSound o) 
       let on = hears_none e o x (λ i. refl) (goes_idler o sound) in
       let speaks : (d : F) → PicksAt Q s x d (says (told.send_to_all told.start_view_change) ⨾ (words.speak ⨾ words.ask)) =
       λ d. at_then Q (says (told.send_to_all told.start_view_change)) (words.speak ⨾ words.ask) s x d (plain Q (mute_all told.start_view_change) s x d)
-      (λ g. at_then Q words.speak words.ask s x g (speak_at Q s x g (may_pick e o x on)) (λ h. plain Q asks s (words.speak s x g).replica h)) in
+      (λ g. at_then Q words.speak words.ask s x g (speak_at Q s x g (may_pick e o x sound on)) (λ h. plain Q asks s (words.speak s x g).replica h)) in
       by_rows (λ z. Right e (rules.obey_tick z)) (tick_table o) (
         λ t. plain Q (mute_then (says (told.send_to_all told.commit_message)) _ (mute_all told.commit_message)
             (mute_then (by (λ r. cond (nat_lt r.commit (head r)) (words.prepare_again (r.commit + 1)) quiet)) words.ask (mute_by _ (λ r. mute_if (nat_lt r.commit (head r)) (words.prepare_again (r.commit + 1)) quiet (mute_prepare_again (r.commit + 1)) mute_quiet)) asks)) s o f,

@@ -14,7 +14,7 @@ use Rattle.vr_msg.specs.declared.output.Output.{Output}
 use Rattle.vr_msg.specs.declared.output.Output.TheVariants as output
 use Rattle.vr_msg.specs.declared.output.Committed.{Committed}
 use Rattle.vr_msg.specs.declared.reply.ReplyFields.{ReplyFields}
-use Rattle.vr_rules.specs.Group.{Arrival, Group, Member, Move, Moved, Moves, Played, Run, Runs, Recovers, Steps, ended, finished, fresh_group, fresh_member, goes, recovers, recovers_cut, steps, crashes, cuts, stepped, started, mended, resumed, once_mended, opening_script, cut_in_two, carried_out, cut_after, found, keeps_all}
+use Rattle.vr_rules.specs.Group.{Arrival, IsArrival, Group, Member, Move, Moved, Moves, Played, Run, Runs, Recovers, Steps, ended, finished, fresh_group, fresh_member, goes, recovers, recovers_cut, steps, crashes, cuts, stepped, started, mended, resumed, once_mended, opening_script, cut_in_two, carried_out, cut_after, found, keeps_all}
 use Rattle.vr_rules.specs.Replica.{Replica, is_frozen}
 use Rattle.vr_rules.specs.Opening.{blank, fresh}
 use Rattle.vr_rules.specs.Rules.{react}
@@ -26,8 +26,14 @@ use Rattle.vr_safe.specs.Chains.{Setup}
 use Rattle.vr_rules.specs.Commitment.{IsReplyOf, is_line_of, lines_by}
 use Rattle.vr_rules.specs.Safe.{IsHashed, IsTrueReply}
 use Rattle.vr_agree.specs.Followed.{IsFollowed, IsSo}
-use Rattle.vr_agree.specs.Answering.{one_if, HasState, lines, IsLined, Lined, IsTold, Told, Leaves}
-use Rattle.vr_agree.specs.Replied.{AreInOrder, IsInOrder, IsReplied, IsServed}
+use Rattle.vr_agree.specs.Answering.{one_if, HasState, lines, IsTold, Told, Leaves}
+use Rattle.vr_agree.specs.Replied.{IsReplied, IsServed}
+use Rattle.vr_agree.proofs.Fitting.{arrives, fit_at, good_value, move_of}
+use Rattle.vr_agree.proofs.Orders.{in_order_lined}
+use Rattle.vr_agree.proofs.Resuming.{resumed_have, said_right}
+use Rattle.vr_agree.proofs.Ordering.{come_in_order}
+use Rattle.vr_rules.specs.GroupFit.{IsFitMove}
+use Rattle.vr_rules.proofs.FitDisks.{disks_fit}
 use Rattle.vr_agree.proofs.Sets.{get_in}
 use Rattle.vr_agree.proofs.Traces.{every_in}
 use Rattle.vr_agree.proofs.Log.{the_log, log_numbered, is_log, in_log}
@@ -86,24 +92,6 @@ unfolding after
 after_is i [] = refl
 after_is i (o ∷ os) = after_some i false o os ∙ ap (λ k. list_any (is_line_of i) (drop k (o ∷ os))) (let z : length os ≡ suc (length os) - 1 = omega arith in z)
 
--- lines in order are the log's, where each is the log's at its op
-in_order_lined : (log : List Whole) (i m : ℕ) (os : List Output) → AreInOrder i m os → ((c : Committed) → In (output.Commit c) os → slice_get log (c.entry.header.op - 1) ≡ Some c.entry) → Lined log i m os
-unfolding AreInOrder Lined
-in_order_lined log i m [] h f = tt
-in_order_lined log i m (o ∷ os) h f =
-    let one : (p : Output) → o ≡ p → IsInOrder i m p → IsLined log m p = elim [
-      | output.Commit c ↦ λ e k. subst (λ n. slice_get log n ≡ Some c.entry) (let z : c.entry.header.op - 1 ≡ m = omega arith in z) (f c (inl (sym e)))
-      | output.Send s ↦ λ e k. tt
-      | output.Reply a ↦ λ e k. tt
-      | output.Choose c ↦ λ e k. tt
-      | output.Wait w ↦ λ e k. tt
-      | output.Start s ↦ λ e k. tt
-      | output.Halted r ↦ λ e k. tt
-      | output.Done ↦ λ e k. tt
-      | output.KeptOut ↦ λ e k. tt
-    ] in
-    (one o refl h.0, in_order_lined log i (m + one_if (is_line_of i o)) os h.1 (λ c j. f c (inr j)))
-
 -- ---- moves
 
 -- each member that runs, and isn't at the end of its numbers, has the state of the log
@@ -116,14 +104,6 @@ changed_have log g h at m same have own j m' r runs free =
       | inl new ↦ own r (ap (λ (z : Member). z.replica) (sym new.1) ∙ runs.running) free
       | inr old ↦ have j m' r (record { member = old; running = runs.running }) free
     ]
-
--- a move of the run
-move_of : (g : Group) (ps : List Played) → Run g ps → (k : ℕ) (p : Played) → slice_get ps k ≡ Some p → Moves p.before p.move p.moved
-move_of _ _ (ended g) k p e = absurd cc
-move_of _ _ (goes g move moved later moves rest) zero p e =
-    let s : record { before = g; move = move; moved = moved } ≡ p = (let o : Some (record { before = g; move = move; moved = moved }) ≡ Some p = e in cc) in
-    subst (λ (p : Played). Moves p.before p.move p.moved) s moves
-move_of _ _ (goes g move moved later moves rest) (suc k) p e = move_of moved.group later rest k p e
 
 -- a frozen replica does nothing
 frozen_stays : (e : Event) (r : Replica) (f : Lying) → is_frozen r ≡ true → is_frozen (stepped e r f).replica ≡ false → ⊥
@@ -166,22 +146,25 @@ module _ (cluster n : ℕ) (u : Setup) (run : List Played) (x : IsFollowed clust
     line_at c i = (backed_line cluster n u run x t 0 p is never c (every_in (IsSo cluster u run (x.group t) (x.group (suc t)) p) p.moved.outputs (output.Commit c) i (x.carried t p is).said)).at
 
     -- a step
-    step_leaves : (at : ℕ) (arrival : Arrival) (e : Event) (f : Lying) (m : Member) (r : Replica) → p.move ≡ Steps at arrival e f → Runs p.before at m r → p.moved.outputs ≡ outputs (stepped e r f).script → HasState log r
+    step_leaves : (at : ℕ) (arrival : Arrival) (e : Event) (f : Lying) (m : Member) (r : Replica) → p.move ≡ Steps at arrival e f → IsArrival p.before at arrival e → Runs p.before at m r → p.moved.outputs ≡ outputs (stepped e r f).script → HasState log r
         → Leaves log r false (stepped e r f)
-    step_leaves at arrival e f m r move runs said had =
-        let step = y.steps t at arrival p e f m r is move runs in
+    step_leaves at arrival e f m r move came runs said had =
         let served = y.served t at p m r is runs in
+        let fit = fit_at cluster n run x.fit t p is in
+        let own = (fit.0.0.members at m runs.member).running r runs.running in
+        let may : IsFitMove (Steps at arrival e f) = subst IsFitMove move fit.1 in
+        let order = come_in_order lying r f e disks_fit.names own.0.sound (arrives cluster p.before at arrival e fit.0.0 may.0 came) in
         let puts = y.puts never log (is_log cluster n u run x) t at arrival p e f m r is move runs in
-        let lined = in_order_lined log r.index r.applied (outputs (stepped e r f).script) step.ordered (λ c i. line_at c (subst (λ (os : List Output). In (output.Commit c) os) (sym said) i)) in
+        let lined = in_order_lined log r.index r.applied (outputs (stepped e r f).script) order.ordered (λ c i. line_at c (subst (λ (os : List Output). In (output.Commit c) os) (sym said) i)) in
         right_react log (log_numbered cluster n u run x) lying r f (applied_within t (let w = slice_get_within run t p is in omega arith) r served) e puts had lined
 
   -- a step of a replica that has its state, or is frozen and does nothing
-  had_after : (t : ℕ) (p : Played) (is : slice_get run t ≡ Some p) (at : ℕ) (arrival : Arrival) (e : Event) (f : Lying) (m : Member) (r : Replica) → p.move ≡ Steps at arrival e f → p.moved.outputs ≡ outputs (stepped e r f).script → Runs p.before at m r
+  had_after : (t : ℕ) (p : Played) (is : slice_get run t ≡ Some p) (at : ℕ) (arrival : Arrival) (e : Event) (f : Lying) (m : Member) (r : Replica) → p.move ≡ Steps at arrival e f → IsArrival p.before at arrival e → p.moved.outputs ≡ outputs (stepped e r f).script → Runs p.before at m r
       → (is_frozen r ≡ false → HasState log r) → is_frozen (stepped e r f).replica ≡ false → HasState log (stepped e r f).replica
   unfolding react by
-  had_after t p is at arrival e f m r move said runs had free =
+  had_after t p is at arrival e f m r move came said runs had free =
       let go : (b : Bool) → is_frozen r ≡ b → HasState log (stepped e r f).replica = elim [
-        | false ↦ λ z. (step_leaves t p is at arrival e f m r move runs said (had z)).state
+        | false ↦ λ z. (step_leaves t p is at arrival e f m r move came runs said (had z)).state
         | true ↦ λ z. absurd (frozen_stays e r f z free)
       ] in
       go (is_frozen r) refl
@@ -194,7 +177,7 @@ module _ (cluster n : ℕ) (u : Setup) (run : List Played) (x : IsFollowed clust
       let p : Played = record { before = g; move = Steps at arrival e f; moved = h } in
       changed_have log g h.group at (record (carried_out step.script m) { replica = Some step.replica }) refl have (λ q e' free.
       let same : step.replica ≡ q = (let o : Some step.replica ≡ Some q = e' in cc) in
-      subst (λ r. is_frozen r ≡ false → HasState log r) same (had_after t p is at arrival e f m r refl refl runs (have at m r runs)) free)
+      subst (λ r. is_frozen r ≡ false → HasState log r) same (had_after t p is at arrival e f m r refl came refl runs (have at m r runs)) free)
   moved_have t g _ _ is (cuts at arrival e f k m r runs came) have = changed_have log g _ at (record (cut_after k (stepped e r f).script m) { replica = None }) refl have (λ q e' free. absurd cc)
   moved_have t g _ _ is (crashes at m member) have = changed_have log g _ at (record m { replica = None }) refl have (λ q e' free. absurd cc)
   moved_have t g _ _ is (recovers at v d m opens) have =
@@ -202,7 +185,11 @@ module _ (cluster n : ℕ) (u : Setup) (run : List Played) (x : IsFollowed clust
       let p : Played = record { before = g; move = Recovers at v d; moved = h } in
       changed_have log g h.group at (record (carried_out (resumed v d).script (once_mended v d m)) { replica = Some (resumed v d).replica }) refl have (λ q e' free.
       let same : (resumed v d).replica ≡ q = (let o : Some (resumed v d).replica ≡ Some q = e' in cc) in
-      subst (λ r. is_frozen r ≡ false → HasState log r) same (y.opens never log (is_log cluster n u run x) t at p v d is refl) free)
+      subst (λ r. is_frozen r ≡ false → HasState log r) same (λ free.
+      let fit = fit_at cluster n run x.fit t p is in
+      let good = (good_value cluster g.n at m v (fit.0.0.members at m opens.member) opens.value).0 in
+      let had = y.loads never log (is_log cluster n u run x) t at p v d is refl free in
+      resumed_have log (log_numbered cluster n u run x) v d good fit.1 free had (λ c i. line_at t p is c (said_right (mended v d).script (resumed v d).script (output.Commit c) i))) free)
   moved_have t g _ _ is (recovers_cut at v f k m opens) have = changed_have log g _ at (record (cut_in_two (mended v f).script (resumed v f).script (keeps_all (found v f)) k m) { replica = None }) refl have (λ q e' free. absurd cc)
 
   -- a group that was just made
@@ -222,20 +209,20 @@ module _ (cluster n : ℕ) (u : Setup) (run : List Played) (x : IsFollowed clust
       all_have (suc d) moved.group later rest (λ j q i. subst (λ z. slice_get run z ≡ Some q) (let z : d + suc j ≡ suc d + j = omega arith in z) (sub (suc j) q i)) (moved_have (d + 0) g move moved (sub zero _ refl) moves have) k p e
 
   have_at : (t : ℕ) (p : Played) → slice_get run t ≡ Some p → AllHave log p.before
-  have_at t p e = all_have 0 (fresh_group cluster n) run y.of_run (λ k q i. subst (λ z. slice_get run z ≡ Some q) (let z : k ≡ 0 + k = omega arith in z) i) fresh_have t p e
+  have_at t p e = all_have 0 (fresh_group cluster n) run x.fit.of_run (λ k q i. subst (λ z. slice_get run z ≡ Some q) (let z : k ≡ 0 + k = omega arith in z) i) fresh_have t p e
 
   -- ---- a reply
 
   module _ (t number : ℕ) (a : ReplyFields) where
-    reply_of_step : (p : Played) (is : slice_get run t ≡ Some p) (at : ℕ) (arrival : Arrival) (e : Event) (f : Lying) (m : Member) (r : Replica) → p.move ≡ Steps at arrival e f → p.moved.outputs ≡ outputs (stepped e r f).script → Runs p.before at m r
+    reply_of_step : (p : Played) (is : slice_get run t ≡ Some p) (at : ℕ) (arrival : Arrival) (e : Event) (f : Lying) (m : Member) (r : Replica) → p.move ≡ Steps at arrival e f → IsArrival p.before at arrival e → p.moved.outputs ≡ outputs (stepped e r f).script → Runs p.before at m r
         → slice_get p.moved.outputs number ≡ Some (output.Reply a) → HasState log r → IsTrueReply cluster n log run t number p a
-    reply_of_step p is at arrival e f m r move said runs there had =
+    reply_of_step p is at arrival e f m r move came said runs there had =
         let os = p.moved.outputs in
         let front = take number os in
-        let left = step_leaves t p is at arrival e f m r move runs said had in
+        let left = step_leaves t p is at arrival e f m r move came runs said had in
         let step = y.steps t at arrival p e f m r is move runs in
         let own = step.present a (subst (λ (z : List Output). In (output.Reply a) z) said (get_in os number (output.Reply a) there)) in
-        let place : a.replica ≡ at = own.0 ∙ y.place t at p m r is runs in
+        let place : a.replica ≡ at = own.0 ∙ (((fit_at cluster n run x.fit t p is).0.0.members at m runs.member).running r runs.running).1.index in
         let by_lines : lines_by a.replica front ≡ lines r.index front = lines_are a.replica front ∙ ap (λ i. lines i front) own.0 in
         let few : lines r.index front ≤ lines r.index os = lines_front r.index number os in
         let applied : (stepped e r f).replica.applied ≡ r.applied + lines r.index os = left.applied ∙ ap (λ (z : List Output). r.applied + lines r.index z) (sym said) in
@@ -261,7 +248,7 @@ module _ (cluster n : ℕ) (u : Setup) (run : List Played) (x : IsFollowed clust
     reply_of_move g _ _ is (steps at arrival e f m r runs came) there =
         let p : Played = record { before = g; move = Steps at arrival e f; moved = finished g at m (stepped e r f) } in
         let go : (b : Bool) → is_frozen r ≡ b → IsTrueReply cluster n log run t number p a = elim [
-          | false ↦ λ z. reply_of_step p is at arrival e f m r refl refl runs there (have_at t p is at m r runs z)
+          | false ↦ λ z. reply_of_step p is at arrival e f m r refl came refl runs there (have_at t p is at m r runs z)
           | true ↦ λ z. absurd (frozen_silent e r f number (output.Reply a) z there)
         ] in
         go (is_frozen r) refl
@@ -271,4 +258,4 @@ module _ (cluster n : ℕ) (u : Setup) (run : List Played) (x : IsFollowed clust
     reply_of_move g _ _ is (recovers_cut at v f k m opens) there = absurd cc
 
     pub true_reply : (p : Played) → slice_get run t ≡ Some p → slice_get p.moved.outputs number ≡ Some (output.Reply a) → IsTrueReply cluster n log run t number p a
-    true_reply p is there = reply_of_move p.before p.move p.moved is (move_of (fresh_group cluster n) run y.of_run t p is) there
+    true_reply p is there = reply_of_move p.before p.move p.moved is (move_of (fresh_group cluster n) run x.fit.of_run t p is) there

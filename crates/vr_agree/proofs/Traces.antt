@@ -1,6 +1,6 @@
 -- Along a run: what was sent and made stays so, and comes from what was put out and written.
 use Rattle.std.proofs.Common.{ℕ, zero, suc, ◌≤◌, ◌≡◌, ◌∙◌, ◌⊎◌, inl, inr, arith, refl, sym, ap, subst, Bool, List, [], ◌∷◌, ◌++◌, length, take, Some}
-use Rattle.std.specs.Prelude.{Contains, slice_get}
+use Rattle.std.specs.Prelude.{slice_get}
 use Rattle.std.proofs.lemmas.Bool.{cases_eq}
 use Rattle.std.proofs.lemmas.Option.{slice_get_within}
 use Rattle.std.proofs.lemmas.List.{append_assoc, append-nil}
@@ -25,14 +25,10 @@ use Rattle.vr_safe.specs.Finished.{IsSaid, acknowledged, prepared, a_commit, a_s
 use Rattle.vr_safe.proofs.Finishing.{said_more, true_more}
 use Rattle.vr_rules.specs.Safe.{run_outputs}
 use Rattle.vr_agree.specs.Followed.{IsFrom, IsGoodEntry, IsSo, IsFollowed}
+use Rattle.vr_agree.proofs.Fitting.{writes_good}
 use Rattle.vr_agree.proofs.Sets.{get_in, in_left, in_right, every_at, in_get}
 
 -- ---- lists
-
-pub in_contains : {X : Type 0} (xs : List X) (x : X) → In x xs → Contains xs x
-in_contains [] x h = absurd h
-in_contains (y ∷ xs) x (inl e) = (0, omega arith, sym e)
-in_contains (y ∷ xs) x (inr h) = let p = in_contains xs x h in let l = p.1 in (suc p.0, omega arith, p.2)
 
 pub in_either : {X : Type 0} (xs ys : List X) (x : X) → In x (xs ++ ys) → In x xs ⊎ In x ys
 in_either [] ys x h = inr h
@@ -171,7 +167,7 @@ module _ (cluster n : ℕ) (u : Setup) (run : List Played) (x : IsFollowed clust
         | inl old ↦ written_of t (omega arith) z old
         | inr made ↦
             let y = made_written p.0.moved.script z.entry made in
-            record { entry = y.1; is = y.3; good = (x.carried t p.0 p.1).written y.0 y.1 y.2; move = p.0; of_run = get_in run t p.0 p.1; again = y.0; of_move = y.2 }
+            record { entry = y.1; is = y.3; good = writes_good cluster n run x.fit t p.0 p.1 y.0 y.1 y.2; move = p.0; of_run = get_in run t p.0 p.1; again = y.0; of_move = y.2 }
       ]
 
 -- an output of a move is one of the run

@@ -14,7 +14,7 @@ use Rattle.vr_agree.specs.Answering.{one_if, HasState, lines, Lined, IsTold, Tol
 
 -- ---- lists of outputs
 
-lines_append : (i : ℕ) (a b : List Output) → lines i (a ++ b) ≡ lines i a + lines i b
+pub lines_append : (i : ℕ) (a b : List Output) → lines i (a ++ b) ≡ lines i a + lines i b
 unfolding lines
 lines_append i [] b = omega arith
 lines_append i (o ∷ a) b = let e = lines_append i a b in omega arith
@@ -88,7 +88,7 @@ pub record Keeps (r q : Replica) : Type 0 where
 pub keeps_itself : (r : Replica) → Keeps r r
 keeps_itself r = record { index = refl; applied = refl; state = refl; missing = refl }
 
-keeps_state : (log : List Whole) (r q : Replica) → Keeps r q → HasState log r → HasState log q
+pub keeps_state : (log : List Whole) (r q : Replica) → Keeps r q → HasState log r → HasState log q
 keeps_state log r q k h = λ none. k.state ∙ (h (sym k.missing ∙ none) ∙ ap (λ n. state_after (take n log)) (sym k.applied))
 
 -- ---- words

@@ -1,6 +1,6 @@
 -- What the machine of small moves gives of a run of a group: for each move of the run a chain of the machine's, at whose end all that
 -- was put out is so, and nothing else was sent, made or chosen. It is what a run of the machine gives for what is said of its outputs.
-use Rattle.std.specs.Prelude.{ℕ, suc, ◌<◌, ◌≤◌, ◌≡◌, ◌⊎◌, ⊤, Bool, List, [], length, All, slice_get, Option, Some, None}
+use Rattle.std.specs.Prelude.{ℕ, suc, ◌^◌, ◌<◌, ◌≤◌, ◌≡◌, ◌⊎◌, ⊤, List, [], length, All, slice_get, Option, Some, None}
 use Rattle.vr_base.specs.Bytes.{name_of}
 use Rattle.vr_header.specs.declared.header.Header.{Header}
 use Rattle.vr_header.specs.Bodies.{IsOperation, operation_bytes}
@@ -20,9 +20,9 @@ use Rattle.vr_msg.specs.Choice.{choice, named, top_commit, top_view}
 use Rattle.vr_msg.specs.Logs.{IsStatement}
 use Rattle.vr_base.specs.Groups.{quorums_of}
 use Rattle.vr_base.specs.declared.table.Quorums.{Quorums}
-use Rattle.vr_rules.specs.Group.{Played, made_in}
+use Rattle.vr_rules.specs.Group.{Played, Run, fresh_group, made_in}
+use Rattle.vr_rules.specs.GroupFit.{IsFitMove}
 use Rattle.vr_rules.specs.Replica.{Replica}
-use Rattle.vr_rules.specs.Steps.{Write}
 use Rattle.vr_rules.specs.Words.{log_end}
 use Rattle.vr_protocol.specs.Basics.{In}
 use Rattle.vr_protocol.specs.Group.{Group, Made}
@@ -100,6 +100,14 @@ IsSo cluster u run before after p _ = ⊤
 
 -- ---- a move, and a run
 
+-- a run of a group that is made, in which each move reads what the program has
+pub record IsFitRun (cluster n : ℕ) (run : List Played) : Type 0 where
+  pub number : cluster < 2 ^ 64
+  pub few : 2 ≤ n
+  pub many : n ≤ 6
+  pub moves : All (λ p. IsFitMove p.move) run
+  pub of_run : Run (fresh_group cluster n) run
+
 pub record IsCarried (cluster : ℕ) (u : Setup) (run : List Played) (before after : Group Header) (p : Played) : Type 0 where
   -- nothing is taken back
   pub sent : (m : Message Header) → In m before.sent → In m after.sent
@@ -109,13 +117,13 @@ pub record IsCarried (cluster : ℕ) (u : Setup) (run : List Played) (before aft
   -- nothing else was sent, and only what was written was made
   pub only : (m : Message Header) → In m after.sent → In m before.sent ⊎ IsSaid u p.moved.outputs m
   pub made : (x : Made Header) → In x after.made → In x before.made ⊎ In x.entry (made_in p.moved.script)
-  pub written : (again : Bool) (e : Whole) → In (Write again e) p.moved.script → IsGoodEntry e
 
 pub record IsFollowed (cluster n : ℕ) (u : Setup) (run : List Played) : Type 0 where
   pub hash_is : u.hash ≡ name_of
   pub cluster_is : u.cluster ≡ cluster
   pub size_is : u.quorums.n ≡ n
   pub fits : Fits u
+  pub fit : IsFitRun cluster n run
   -- the machine's group after so many moves of the run
   pub group : ℕ → Group Header
   pub reached : (t : ℕ) → t ≤ length run → IsReached u (group t)

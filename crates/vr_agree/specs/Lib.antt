@@ -3,3 +3,5 @@ pub mod Answering
 pub mod Replied
 pub mod Picked
 pub mod Laws
+pub mod Written
+pub mod Ordered

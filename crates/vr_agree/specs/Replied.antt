@@ -1,6 +1,6 @@
--- What the run of a group gives beside, for its replies: of steps, that their commit lines come in order and that commit numbers are
--- backed; and that a checkpoint that is loaded is that of the log.
-use Rattle.std.specs.Prelude.{ℕ, ◌+◌, ◌-◌, ◌<◌, ◌≤◌, ◌≡◌, ⊤, false, List, [], ◌∷◌, length, slice_get, Some}
+-- What the run of a group gives beside, for its replies: of steps, that commit numbers are backed; and that a checkpoint that is loaded
+-- is that of the log.
+use Rattle.std.specs.Prelude.{ℕ, ◌-◌, ◌<◌, ◌≤◌, ◌≡◌, false, List, length, slice_get, Some}
 use Rattle.vr_header.specs.declared.header.Header.{Header}
 use Rattle.vr_header.specs.Made.{Whole}
 use Rattle.vr_msg.specs.declared.event.Event.{Event}
@@ -8,32 +8,25 @@ use Rattle.vr_msg.specs.declared.output.Output.{Output}
 use Rattle.vr_msg.specs.declared.output.Output.TheVariants as output
 use Rattle.vr_msg.specs.declared.reply.ReplyFields.{ReplyFields}
 use Rattle.vr_super.specs.Copies.{Saved}
-use Rattle.vr_rules.specs.Group.{Arrival, Member, Played, Run, Runs, Recovers, Steps, fresh_group, resumed, stepped}
+use Rattle.vr_rules.specs.Group.{Arrival, Member, Played, Runs, Recovers, Steps, mended, recovered, resumed, stepped}
 use Rattle.vr_header.specs.Bodies.{operation_bytes}
 use Rattle.vr_header.specs.Names.{root_header}
 use Rattle.vr_header.specs.NoCollision.{NoCollision}
 use Rattle.vr_rules.specs.Safe.{IsHashed}
 use Rattle.vr_rules.specs.Replica.{Replica, is_frozen}
 use Rattle.vr_rules.specs.Lying.{Lying, lying}
-use Rattle.vr_rules.specs.Steps.{outputs}
+use Rattle.vr_rules.specs.Steps.{Step, ◌⨾◌, after_all, outputs, says}
+use Rattle.vr_rules.specs.Opening.{leave_view}
+use Rattle.vr_rules.specs.Outputs.{start_line}
+use Rattle.vr_rules.specs.Words.{load}
 use Rattle.vr_protocol.specs.Basics.{In}
 use Rattle.vr_protocol.specs.Laws.{Committed}
 use Rattle.vr_protocol.specs.Members.{Message}
 use Rattle.vr_safe.specs.Reflecting.{entries_by}
 use Rattle.vr_safe.specs.Chains.{Setup}
-use Rattle.vr_rules.specs.Commitment.{is_line_of}
 use Rattle.vr_safe.specs.Finished.{AreBacked}
 use Rattle.vr_agree.specs.Followed.{IsFollowed, IsGoodEntry}
-use Rattle.vr_agree.specs.Answering.{one_if, HasState, PutsWell}
-
--- after m applied entries a commit line of replica i is of the next op
-abbrev pub IsInOrder : ℕ → ℕ → Output → Type 0
-IsInOrder i m (output.Commit c) = c.entry.header.op ≡ m + 1
-IsInOrder i m _ = ⊤
-
-unfoldable pub AreInOrder : ℕ → ℕ → List Output → Type 0
-AreInOrder i m [] = ⊤
-AreInOrder i m (o ∷ os) = IsInOrder i m o × AreInOrder i (m + one_if (is_line_of i o)) os
+use Rattle.vr_agree.specs.Answering.{HasState, PutsWell}
 
 -- what a replica has applied is committed
 pub record IsServed (u : Setup) (sent : List (Message Header)) (q : Replica) : Type 0 where
@@ -43,7 +36,6 @@ pub record IsServed (u : Setup) (sent : List (Message Header)) (q : Replica) : T
 
 -- a step from r to q, by what was sent before it
 pub record IsStepped (u : Setup) (sent : List (Message Header)) (r q : Replica) (os : List Output) : Type 0 where
-  pub ordered : AreInOrder r.index r.applied os
   pub served : IsServed u sent q
   pub present : (a : ReplyFields) → In (output.Reply a) os → (a.replica ≡ r.index) × (a.view ≡ q.view)
 
@@ -58,15 +50,17 @@ pub record HasEntry (cluster : ℕ) (run : List Played) (log : List Whole) (k : 
 abbrev pub IsLogOf : ℕ → Setup → List Played → List (Message Header) → List Whole → Type 0
 IsLogOf cluster u run sent log = (v k : ℕ) (c : Header) → 0 < k → Committed u.quorums (entries_by u.hash u.cluster) sent v k c → HasEntry cluster run log k c
 
+-- an opening once it has loaded its checkpoint
+abbrev pub has_loaded : Saved → Lying → Step
+has_loaded v d = (leave_view ⨾ says start_line ⨾ load) lying (recovered v d) (after_all lying d (mended v d).script)
+
 pub record IsReplied (cluster n : ℕ) (u : Setup) (run : List Played) (x : IsFollowed cluster n u run) : Type 0 where
-  pub of_run : Run (fresh_group cluster n) run
   -- of each member that runs before a move
-  pub place : (t at : ℕ) (p : Played) (m : Member) (r : Replica) → slice_get run t ≡ Some p → Runs p.before at m r → r.index ≡ at
   pub served : (t at : ℕ) (p : Played) (m : Member) (r : Replica) → slice_get run t ≡ Some p → Runs p.before at m r → IsServed u (x.group t).sent r
   pub steps : (t at : ℕ) (arrival : Arrival) (p : Played) (e : Event) (d : Lying) (m : Member) (r : Replica) → slice_get run t ≡ Some p → p.move ≡ Steps at arrival e d → Runs p.before at m r
       → IsStepped u (x.group t).sent r (stepped e r d).replica (outputs (stepped e r d).script)
   -- a checkpoint that is loaded is that of the log, where names don't collide
   pub puts : NoCollision (IsHashed run (root_header cluster)) → (log : List Whole) → IsLogOf cluster u run (x.group (length run)).sent log
       → (t at : ℕ) (arrival : Arrival) (p : Played) (e : Event) (d : Lying) (m : Member) (r : Replica) → slice_get run t ≡ Some p → p.move ≡ Steps at arrival e d → Runs p.before at m r → PutsWell log lying r d e
-  pub opens : NoCollision (IsHashed run (root_header cluster)) → (log : List Whole) → IsLogOf cluster u run (x.group (length run)).sent log
-      → (t at : ℕ) (p : Played) (v : Saved) (d : Lying) → slice_get run t ≡ Some p → p.move ≡ Recovers at v d → is_frozen (resumed v d).replica ≡ false → HasState log (resumed v d).replica
+  pub loads : NoCollision (IsHashed run (root_header cluster)) → (log : List Whole) → IsLogOf cluster u run (x.group (length run)).sent log
+      → (t at : ℕ) (p : Played) (v : Saved) (d : Lying) → slice_get run t ≡ Some p → p.move ≡ Recovers at v d → is_frozen (resumed v d).replica ≡ false → HasState log (has_loaded v d).replica

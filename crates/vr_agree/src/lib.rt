@@ -2,6 +2,8 @@
 #![tactic(auto)]
 
 ghost use Rattle.vr_agree.specs.Laws.{FollowedRunsAreSafe, OpeningsReplyNothing, StepsAnswer, StepsChoose};
+ghost use Rattle.vr_agree.specs.Ordered.{StepsComeInOrder};
+ghost use Rattle.vr_agree.specs.Written.{RunsWriteGood, StepsReadGood};
 
 /// A run that the machine follows is safe.
 pub fn followed_runs_are_safe()
@@ -21,4 +23,20 @@ pub fn steps_choose<F>()
 /// An opening replies nothing.
 pub fn openings_reply_nothing<F>()
     ensures { OpeningsReplyNothing F }
+{}
+
+/// Each entry that is written in a run has the values of the program, also in a move that is cut.
+pub fn runs_write_good()
+    ensures { RunsWriteGood }
+{}
+
+/// The commit lines of a step are of the ops after those that its replica had applied, in order, and each is of an entry that reads at
+/// a slot.
+pub fn steps_come_in_order<F>()
+    ensures { StepsComeInOrder F }
+{}
+
+/// On a disk that reads well each commit line of a step is of an entry with the values of the program.
+pub fn steps_read_good<F>()
+    ensures { StepsReadGood F }
 {}

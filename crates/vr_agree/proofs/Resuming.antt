@@ -1,0 +1,110 @@
+-- An opening keeps the state of the log past its load.
+use Rattle.std.proofs.Common.{◌≡◌, ◌∙◌, refl, sym, subst, Bool, true, false, cond, List, [], ◌++◌, Some}
+use Rattle.std.specs.Prelude.{nat_lt, nat_le, not, slice_get, ◌||◌, ◌-◌}
+use Rattle.std.proofs.lemmas.Bool.{true≢false}
+use Rattle.vr_header.specs.Made.{Whole}
+use Rattle.vr_msg.specs.declared.output.Committed.{Committed}
+use Rattle.vr_msg.specs.declared.output.Output.{Output}
+use Rattle.vr_msg.specs.declared.output.Output.TheVariants as output
+use Rattle.vr_super.specs.Copies.{Saved, IsGood}
+use Rattle.vr_rules.specs.Fit.{ReadsWell}
+use Rattle.vr_rules.specs.Group.{mended, recovered, resumed}
+use Rattle.vr_rules.specs.Lying.{Lying, lying}
+use Rattle.vr_rules.specs.Opening.{announce, going_on, heard_itself, in_next_view, leave_view}
+use Rattle.vr_rules.specs.Outputs.{send_to_all, start_line, start_view_change}
+use Rattle.vr_rules.specs.Replica.{Replica, is_frozen, is_spent, is_started, last_view, leads}
+use Rattle.vr_rules.specs.Sound.{IsSound}
+use Rattle.vr_rules.specs.Steps.{Effect, Mend, Setting, Word, ◌⨾◌, by, change, does, quiet, says, when, outputs, after_all}
+use Rattle.vr_rules.specs.Words.{apply, load}
+use Rattle.vr_rules.proofs.Combining.{Keeps, keeps_then, keeps_by, keeps_change, keeps_when}
+use Rattle.vr_rules.proofs.FitOpening.{headers_of}
+use Rattle.vr_rules.proofs.Openings as opening
+use Rattle.vr_rules.proofs.Openings.{Opened, kept_next, left_applied, reads_after}
+use Rattle.vr_rules.proofs.SendsScripts.{outputs_append}
+use Rattle.vr_rules.proofs.Slots.{value_is}
+use Rattle.vr_rules.proofs.Wording.{keeps_save, kept_load}
+use Rattle.vr_protocol.specs.Basics.{In}
+use Rattle.vr_agree.specs.Answering.{HasState, IsNumbered, Lined}
+use Rattle.vr_agree.specs.Replied.{has_loaded}
+use Rattle.vr_agree.proofs.Applies.{fair_apply}
+use Rattle.vr_agree.proofs.Orders.{in_order_lined, orderly_apply}
+use Rattle.vr_agree.proofs.Sets.{in_left, in_right}
+use Rattle.vr_agree.proofs.Words as words
+
+keeps_leave : {F : Type 0} → Keeps {F = F} leave_view
+keeps_leave = keeps_by _ (λ r. keeps_when (leads r) _ (keeps_then _ _ (keeps_change in_next_view kept_next) keeps_save))
+
+-- what was found is sound
+found_opened : (v : Saved) (d : Lying) → IsGood v → ReadsWell lying d → Opened (recovered v d)
+unfolding ◌⨾◌ does after_all
+found_opened v d good reads = opening.recovered v lying (lying.after d (Mend v)) (value_is v good) (reads_after lying d (Mend v) good (headers_of lying d reads))
+
+-- what a part of a script says is said in it
+said_left : (xs ys : List Effect) (o : Output) → In o (outputs xs) → In o (outputs (xs ++ ys))
+said_left xs ys o i = subst (λ (os : List Output). In o os) (sym (outputs_append xs ys)) (in_left (outputs xs) (outputs ys) o i)
+
+pub said_right : (xs ys : List Effect) (o : Output) → In o (outputs ys) → In o (outputs (xs ++ ys))
+said_right xs ys o i = subst (λ (os : List Output). In o os) (sym (outputs_append xs ys)) (in_right (outputs xs) (outputs ys) o i)
+
+-- what is announced leaves the state
+announced : {F : Type 0} (s : Setting F) (r : Replica) (f : F) → words.Keeps r (announce s r f).replica
+unfolding by change says quiet ◌⨾◌
+announced {F} s r f =
+    let told : Word F = says (send_to_all start_view_change) in
+    let inner : (c : Bool) → words.Keeps r ((cond c told quiet) s (heard_itself r) (after_all s f [])).replica = elim [
+      | true ↦ record { index = refl; applied = refl; state = refl; missing = refl }
+      | false ↦ record { index = refl; applied = refl; state = refl; missing = refl }
+    ] in
+    let go : (b : Bool) → words.Keeps r ((cond b (change heard_itself ⨾ by (λ r. when (nat_le r.view last_view) told)) quiet) s r f).replica = elim [
+      | true ↦ inner (nat_le r.view last_view)
+      | false ↦ record { index = refl; applied = refl; state = refl; missing = refl }
+    ] in
+    go (not (is_started r))
+
+spent_frozen : (a b : Bool) → b ≡ true → (a || b) ≡ true
+spent_frozen true b e = refl
+spent_frozen false b e = e
+
+module _ (log : List Whole) (numbers : IsNumbered log) (v : Saved) (d : Lying) (good : IsGood v) (reads : ReadsWell lying d) where
+  abbrev AreLines : List Effect → Type 0
+  AreLines es = (c : Committed) → In (output.Commit c) (outputs es) → slice_get log (c.entry.header.op - 1) ≡ Some c.entry
+
+  abbrev on_disk : Lying
+  on_disk = after_all lying d (mended v d).script
+
+  loaded_sound : IsSound (has_loaded v d).replica
+  unfolding ◌⨾◌ says
+  loaded_sound =
+      let h = found_opened v d good reads in
+      let q : Replica = (leave_view lying (recovered v d) on_disk).replica in
+      let k : IsSound q = (keeps_leave.every lying (recovered v d) on_disk h.sound).kept.sound in
+      let e : q.applied ≡ q.checkpoint = left_applied lying (recovered v d) on_disk h.applied in
+      (kept_load lying q _ k e).kept.sound
+
+  going_have : HasState log (has_loaded v d).replica → AreLines (going_on lying (recovered v d) on_disk).script → HasState log (going_on lying (recovered v d) on_disk).replica
+  unfolding ◌⨾◌
+  going_have had are =
+      let a = leave_view lying (recovered v d) on_disk in
+      let d1 = after_all lying on_disk a.script in
+      let b = says start_line lying a.replica d1 in
+      let d2 = after_all lying d1 b.script in
+      let l = load lying b.replica d2 in
+      let d3 = after_all lying d2 l.script in
+      let p = apply lying l.replica d3 in
+      let d4 = after_all lying d3 p.script in
+      let n = announce lying p.replica d4 in
+      let lined : Lined log l.replica.index l.replica.applied (outputs p.script) =
+      in_order_lined log l.replica.index l.replica.applied (outputs p.script) (orderly_apply.every lying l.replica d3 loaded_sound).ordered (λ c i.
+      are c (said_right a.script (b.script ++ (l.script ++ (p.script ++ n.script))) (output.Commit c) (said_right b.script (l.script ++ (p.script ++ n.script)) (output.Commit c) (said_right l.script (p.script ++ n.script) (output.Commit c) (said_left p.script n.script (output.Commit c) i))))) in
+      words.keeps_state log p.replica n.replica (announced lying p.replica d4) ((fair_apply log numbers).each lying l.replica d3 had lined true).state
+
+  pub resumed_have : is_frozen (resumed v d).replica ≡ false → HasState log (has_loaded v d).replica → AreLines (resumed v d).script → HasState log (resumed v d).replica
+  unfolding by says
+  resumed_have free had are =
+      let q : Replica = recovered v d in
+      let go : (b : Bool) → is_spent q ≡ b → is_frozen ((cond b (says start_line) going_on) lying q on_disk).replica ≡ false → AreLines ((cond b (says start_line) going_on) lying q on_disk).script
+      → HasState log ((cond b (says start_line) going_on) lying q on_disk).replica = elim [
+        | true ↦ λ z free are. absurd (true≢false (sym (spent_frozen (nat_lt last_view q.view) (is_spent q) z) ∙ free))
+        | false ↦ λ z free are. going_have had are
+      ] in
+      go (is_spent q) refl free are
