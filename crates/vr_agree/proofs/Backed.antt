@@ -35,6 +35,7 @@ use Rattle.vr_rules.specs.Safe.{IsHashed, IsOutput, KeepsEntry, CarriesEntry, wr
 use Rattle.vr_rules.specs.Safe as safe
 use Rattle.vr_safe.specs.Finished.{AreBacked, IsNumbered}
 use Rattle.vr_agree.specs.Followed.{IsFollowed, IsGoodEntry, IsLineOf}
+use Rattle.vr_agree.proofs.Reading.{runs_read}
 use Rattle.vr_agree.proofs.Sets.{get_in, in_left, in_contains}
 use Rattle.vr_agree.proofs.Traces.{WasWritten, last, sent_later, chosen_later, said_of, sent_of, output_in}
 use Rattle.vr_agree.proofs.Machine.{committed_more, number_is}
@@ -100,15 +101,18 @@ module _ (cluster n : ℕ) (u : Setup) (run : List Played) (x : IsFollowed clust
     backed_frame (frame.GiveBlock m) f = tt
 
     -- a commit line
-    pub backed_line : NoCollision (IsHashed run (root_header cluster)) → (c : Committed) → IsLineOf cluster u run (x.group move).sent c.entry → IsLine cluster n earlier (the_log cluster n u run x) c
-    backed_line never c f =
+    pub backed_line : NoCollision (IsHashed run (root_header cluster)) → (c : Committed) → In (output.Commit c) p.moved.outputs → IsLineOf cluster u run (x.group move).sent c.entry → IsLine cluster n earlier (the_log cluster n u run x) c
+    backed_line never c i f =
         let h = c.entry.header in
-        let w = in_log cluster n u run x f.view h.op h f.above (at_end move within f.view h.op h f.committed) in
+        let read = runs_read cluster n run x.fit move p at c i in
+        let op = read.form.op.0 in
+        let above : 0 < h.op = omega arith in
+        let w = in_log cluster n u run x f.view h.op h above (at_end move within f.view h.op h f.committed) in
         let e = w.0 in
         let hashed : IsHashed run (root_header cluster) (operation_bytes e.entry.operation) =
         wrote e.move (Write e.again e.entry) _ (in_contains run e.move e.of_run) (in_contains e.move.moved.script _ e.of_move) (safe.IsWritten.operation e.again e.entry) in
-        let same = one_whole (IsHashed run (root_header cluster)) never e.entry c.entry e.is e.good f.good hashed f.hashed in
-        record { at = w.1 ∙ ap Some same; number = f.above; view = f.view; committed = back_then f.view h.op h f.committed }
+        let same = one_whole (IsHashed run (root_header cluster)) never e.entry c.entry e.is e.good read.good hashed f.hashed in
+        record { at = w.1 ∙ ap Some same; number = above; view = f.view; committed = back_then f.view h.op h f.committed }
 
   -- ---- an entry that is committed
 

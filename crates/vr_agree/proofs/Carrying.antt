@@ -4,7 +4,6 @@ use Rattle.std.specs.Prelude.{All}
 use Rattle.std.proofs.lemmas.List.Elements.{All-contains}
 use Rattle.vr_header.specs.declared.header.Header.{Header}
 use Rattle.vr_header.specs.Bodies.{operation_bytes}
-use Rattle.vr_header.specs.Made.{IsEntryHeader, Whole}
 use Rattle.vr_header.specs.Names.{root_header}
 use Rattle.vr_msg.specs.declared.frame.Frame.{Frame}
 use Rattle.vr_msg.specs.declared.frame.Frame.TheVariants as frame
@@ -30,7 +29,7 @@ use Rattle.vr_safe.specs.Finished.{Finished, IsSaid, IsTrue}
 use Rattle.vr_safe.specs.Local.{Local}
 use Rattle.vr_safe.specs.Reflecting.{entries_by}
 use Rattle.vr_rules.specs.Safe.{IsHashed, actor, all_heard, event_of, heard_from}
-use Rattle.vr_agree.specs.Followed.{IsCarried, IsChoiceLine, IsFrom, IsGoodEntry, IsSo, told_if}
+use Rattle.vr_agree.specs.Followed.{IsCarried, IsChoiceLine, IsFrom, IsSo, told_if}
 use Rattle.vr_agree.specs.Replied.{IsServed}
 use Rattle.vr_agree.proofs.Machine.{number_is}
 use Rattle.vr_agree.proofs.Traces.{every_in}
@@ -39,12 +38,6 @@ use Rattle.vr_agree.proofs.Sets.{in_contains}
 every_of : {X : Type 0} (P : X → Type 0) (xs : List X) → ((x : X) → In x xs → P x) → Every P xs
 every_of P [] f = tt
 every_of P (x ∷ xs) f = (f x (inl refl), every_of P xs (λ y i. f y (inr i)))
-
--- an entry of a line, as it was read
-pub record IsReadEntry (cluster : ℕ) (run : List Played) (e : Whole) : Type 0 where
-  pub form : IsEntryHeader e.header
-  pub good : IsGoodEntry e
-  pub hashed : IsHashed run (root_header cluster) (operation_bytes e.operation)
 
 from_is : (MayAsk : ℕ → Type 0) (old new : Replica) (from : ℕ) (m : Frame) → from ≡ new.index → IsPresentFrame MayAsk old new m → IsFrom from m
 from_is MayAsk old new from (frame.Prepare p) e h = e ∙ sym h.0
@@ -75,21 +68,18 @@ module _ (cluster : ℕ) (u : Setup) (run : List Played) (before after : Group H
       }
 
   module _ (MayAsk : ℕ → ℕ → Type 0) (present : All (IsPresentOutput MayAsk r q) p.moved.outputs)
-      (lines : (c : Committed) → In (output.Commit c) p.moved.outputs → IsReadEntry cluster run c.entry)
+      (lines : (c : Committed) → In (output.Commit c) p.moved.outputs → IsHashed run (root_header cluster) (operation_bytes c.entry.operation))
       (choices : (c : Chosen) → In (output.Choose c) p.moved.outputs → IsChoiceLine u after.chosen p c) where
     so : (o : Output) → In o p.moved.outputs → IsTrue u before.sent after.sent o → IsPresentOutput MayAsk r q o → IsSo cluster u run before after p o
     so (output.Send s) j t h = record { sent = t.0; from = from_is (MayAsk s.to) r q s.from s.message h.from h.message; numbered = t.1 }
     so (output.Commit c) j t h =
-        let e = lines c j in
         let good = reached_good u.quorums (entries_by u.hash u.cluster) before reached in
         let b = t.is in
         let number = number_is u.quorums (entries_by u.hash u.cluster) good.0 before good.1 b.0 t.number c.entry.header b.2 in
         record {
           view = b.0;
           committed = subst (λ k. law.Committed u.quorums (entries_by u.hash u.cluster) before.sent b.0 k c.entry.header) (sym number) b.2;
-          above = let o = e.form.op.0 in omega arith;
-          good = e.good;
-          hashed = e.hashed;
+          hashed = lines c j;
         }
     so (output.Choose c) j t h = choices c j
     so (output.Reply a) j t h = tt

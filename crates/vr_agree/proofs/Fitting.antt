@@ -54,7 +54,7 @@ arrives c g at Time e h l i = rw i tt
 step_fit : (r : Replica) (e : Event) (d : Lying) → IsFitReplica r → IsEvent e → ReadsWell lying d → All IsFit (stepped e r d).script
 step_fit r e d h m k = (steps_fit lying d r e disks_fit.lies disks_fit.roots k h.sound h.savable h.missing m).each
 
-opening_fit : (c n i : ℕ) (v : Saved) (d : Lying) → IsFitValue c n i v → ReadsWell lying d → All IsFit (opening_script v d)
+pub opening_fit : (c n i : ℕ) (v : Saved) (d : Lying) → IsFitValue c n i v → ReadsWell lying d → All IsFit (opening_script v d)
 opening_fit c n i v d g k = subst (λ (x : Step). All IsFit x.script) (opening_in_two v d) (openings_fit lying d v disks_fit.lies disks_fit.roots k g.0).each
 
 pub good_value : (c n i : ℕ) (m : Member) (v : Saved) → IsFitMember c n i m → MayOpen m v → IsFitValue c n i v

@@ -274,7 +274,7 @@ module _ {F : Type 0} where
   pub quiet_rested : Quiet {F = F} (change rested)
   quiet_rested = quiet_change rested (λ r. refl) (λ r. refl)
 
-  quiet_save : Quiet {F = F} save
+  pub quiet_save : Quiet {F = F} save
   unfolding save outputs
   quiet_save = quiet_then (does saves) (change with_saved) (quiet_does saves (λ r. tt)) (quiet_change with_saved (λ r. refl) (λ r. refl))
 

@@ -143,7 +143,7 @@ module _ (cluster n : ℕ) (u : Setup) (run : List Played) (x : IsFollowed clust
   -- at one place of the run
   module _ (t : ℕ) (p : Played) (is : slice_get run t ≡ Some p) where
     line_at : (c : Committed) → In (output.Commit c) p.moved.outputs → slice_get log (c.entry.header.op - 1) ≡ Some c.entry
-    line_at c i = (backed_line cluster n u run x t 0 p is never c (every_in (IsSo cluster u run (x.group t) (x.group (suc t)) p) p.moved.outputs (output.Commit c) i (x.carried t p is).said)).at
+    line_at c i = (backed_line cluster n u run x t 0 p is never c i (every_in (IsSo cluster u run (x.group t) (x.group (suc t)) p) p.moved.outputs (output.Commit c) i (x.carried t p is).said)).at
 
     -- a step
     step_leaves : (at : ℕ) (arrival : Arrival) (e : Event) (f : Lying) (m : Member) (r : Replica) → p.move ≡ Steps at arrival e f → IsArrival p.before at arrival e → Runs p.before at m r → p.moved.outputs ≡ outputs (stepped e r f).script → HasState log r

@@ -55,12 +55,11 @@ pub record IsGoodEntry (e : Whole) : Type 0 where
   pub body : IsBodyOf e.header e.operation
   pub operation : IsOperation e.operation
 
--- a commit line is of an entry that is committed by what was sent before, and that was read or written in the run
+-- a commit line is of an entry that is committed by what was sent before, and that was read or written in the run: its operation's bytes
+-- were hashed
 pub record IsLineOf (cluster : ℕ) (u : Setup) (run : List Played) (before : List (Message Header)) (e : Whole) : Type 0 where
   pub view : ℕ
   pub committed : Committed u.quorums (entries_by u.hash u.cluster) before view e.header.op e.header
-  pub above : 0 < e.header.op
-  pub good : IsGoodEntry e
   pub hashed : IsHashed run (root_header cluster) (operation_bytes e.operation)
 
 -- the machine's statement of one that was heard

@@ -32,3 +32,7 @@ abbrev pub StepsReadGood : Type 0 → Type 0
 StepsReadGood F =
     (s : Setting F) (f : F) (r : Replica) (e : Event) → IsProgram s → SavesRoots s → ReadsWell s f → IsSound r → IsSavable r → All IsBlockName r.missing → IsEvent e
     → (c : Committed) → In (output.Commit c) (outputs (react e s r f).script) → IsWellRead c.entry
+
+-- so is each in a run, those of openings too
+abbrev pub RunsReadGood : Type 0
+RunsReadGood = (cluster n : ℕ) (run : List Played) → IsFitRun cluster n run → (t : ℕ) (p : Played) → slice_get run t ≡ Some p → (c : Committed) → In (output.Commit c) p.moved.outputs → IsWellRead c.entry

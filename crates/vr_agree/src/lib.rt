@@ -3,7 +3,7 @@
 
 ghost use Rattle.vr_agree.specs.Laws.{FollowedRunsAreSafe, OpeningsReplyNothing, StepsAnswer, StepsChoose};
 ghost use Rattle.vr_agree.specs.Ordered.{StepsComeInOrder};
-ghost use Rattle.vr_agree.specs.Written.{RunsWriteGood, StepsReadGood};
+ghost use Rattle.vr_agree.specs.Written.{RunsReadGood, RunsWriteGood, StepsReadGood};
 
 /// A run that the machine follows is safe.
 pub fn followed_runs_are_safe()
@@ -39,4 +39,9 @@ pub fn steps_come_in_order<F>()
 /// On a disk that reads well each commit line of a step is of an entry with the values of the program.
 pub fn steps_read_good<F>()
     ensures { StepsReadGood F }
+{}
+
+/// So has each one that is committed in a run, in steps and in openings.
+pub fn runs_read_good()
+    ensures { RunsReadGood }
 {}
