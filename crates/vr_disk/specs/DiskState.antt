@@ -137,16 +137,16 @@ counted t = record { fuse = t.fuse; made = next_number t; failing = t.failing; d
 abbrev pub is_to_fail : Fate → Bool
 is_to_fail t = list_any (λ n. n == next_number t) t.failing
 
-pub data Verdict : Type 0 where
-  Goes : Verdict
-  Fails : Verdict
-  Cuts : (code : ℕ) → Verdict
+pub data CallVerdict : Type 0 where
+  Goes : CallVerdict
+  Fails : CallVerdict
+  Cuts : (code : ℕ) → CallVerdict
 
 pub record Judged : Type 0 where
-  pub verdict : Verdict
+  pub verdict : CallVerdict
   pub next : Fate
 
-abbrev pub by_list : Fate → Verdict
+abbrev pub by_list : Fate → CallVerdict
 by_list t = if is_to_fail t then Fails else Goes
 
 abbrev pub judged_armed : Fate → ℕ → ℕ → Judged
@@ -173,7 +173,7 @@ pub record Ran : Type 0 where
   pub disk : Disk
   pub ok : Bool
 
-abbrev pub ran_as : Face → Fate → Call → Verdict → Ran
+abbrev pub ran_as : Face → Fate → Call → CallVerdict → Ran
 ran_as f t c Goes = record { disk = record { face = after f c; fate = t }; ok = true }
 ran_as f t c Fails = record { disk = record { face = f; fate = t }; ok = false }
 ran_as f t c (Cuts code) = record { disk = record { face = cut_at code f c; fate = t }; ok = false }

@@ -1,6 +1,6 @@
 //! The regions of a data file.
 ghost use Rattle.std.specs.Prelude.{◌≡◌, ◌<◌, ◌≤◌, ◌+◌};
-ghost use Rattle.vr_disk.specs.Regions.{copy_at, header_at, prepare_at, block_at};
+ghost use Rattle.vr_disk.specs.Regions.{copy_place, header_place, prepare_place, block_place};
 
 use crate::SECTOR_SIZE;
 
@@ -37,37 +37,37 @@ const _: () = prove!(400 + BLOCK_SECTORS * BLOCKS == SECTORS);
 const _: () = prove!(BLOCK_SECTORS as usize * SECTOR_SIZE == 4096);
 
 /// Sector `k` of a copy of the superblock.
-pub fn copy_at(copy: u32, k: u32) -> u32
+pub fn copy_place(copy: u32, k: u32) -> u32
     requires copy { copy < COPIES }
     requires k { k < COPY_SECTORS }
-    ensures place { result ≡ copy_at copy k }
+    ensures place { result ≡ copy_place copy k }
     ensures within { result < 80 }
 {
     COPY_SECTORS * copy + k
 }
 
 /// The sector of a slot's header.
-pub fn header_at(slot: u32) -> u32
+pub fn header_place(slot: u32) -> u32
     requires { slot < SLOTS }
-    ensures place { result ≡ header_at slot }
+    ensures place { result ≡ header_place slot }
     ensures within { result < 144 }
 {
     80 + slot
 }
 
 /// The first sector of a slot's prepare.
-pub fn prepare_at(slot: u32) -> u32
+pub fn prepare_place(slot: u32) -> u32
     requires { slot < SLOTS }
-    ensures place { result ≡ prepare_at slot }
+    ensures place { result ≡ prepare_place slot }
     ensures within { result + PREPARE_SECTORS ≤ 400 }
 {
     144 + PREPARE_SECTORS * slot
 }
 
 /// The first sector of a block of the grid.
-pub fn block_at(address: u32) -> u32
+pub fn block_place(address: u32) -> u32
     requires { address < BLOCKS }
-    ensures place { result ≡ block_at address }
+    ensures place { result ≡ block_place address }
     ensures within { result + BLOCK_SECTORS ≤ SECTORS }
 {
     400 + BLOCK_SECTORS * address

@@ -5,7 +5,7 @@ ghost use Rattle.vr_grid.specs.Grid.{IsWhole, block_reading, named_at};
 
 use crate::Name;
 use crate::check::payload_of;
-use vr_disk::{BLOCK_SECTORS, Buffer, Faulty, SectorDisk, block_at, read_sectors};
+use vr_disk::{BLOCK_SECTORS, Buffer, Faulty, SectorDisk, block_place, read_sectors};
 
 // Reads the eight sectors of a block; false where one of them can't be read.
 #[tactic(auto, unfolding(crate::specs::Grid::block_reading))]
@@ -16,7 +16,7 @@ fn fill<D: SectorDisk>(disk: &mut D, address: u32, to: &mut [u8]) -> bool
     ensures faults { D.faults disk.new ≡ D.faults disk.old }
     ensures value { IfSome (D.told disk.old) (λ d. block_reading d.face address ≡ (if result then Some to.new else None)) }
 {
-    read_sectors(disk, block_at(address), BLOCK_SECTORS, to)
+    read_sectors(disk, block_place(address), BLOCK_SECTORS, to)
 }
 
 /// Reads the block of this name; it takes no memory. After an `Ok` the buffer holds the whole block, whose payload begins at byte 128 and has this

@@ -8,7 +8,7 @@ ghost use Rattle.vr_grid.specs.Laws.{PutLeaves};
 
 use crate::{Block, CkptFault, Name};
 use std::alloc::Global;
-use vr_disk::{BLOCK_SECTORS, DiskFailed, DiskFault, SectorDisk, block_at, write_sectors};
+use vr_disk::{BLOCK_SECTORS, DiskFailed, DiskFault, SectorDisk, block_place, write_sectors};
 
 /// Writes the eight sectors of a block; it takes no memory.
 #[tactic(auto, unfolding(crate::specs::Grid::block_calls))]
@@ -18,7 +18,7 @@ pub fn write_at<D: SectorDisk>(disk: &mut D, address: u64, bytes: &[u8]) -> Resu
     ensures runs { Runs (block_calls address bytes.now) (D.told disk.old) (D.told disk.new) (is_ok result) }
     ensures cause { HasCause (D.faults disk.old) (D.faults disk.new) result }
 {
-    write_sectors(disk, block_at(address as u32), BLOCK_SECTORS, bytes)
+    write_sectors(disk, block_place(address as u32), BLOCK_SECTORS, bytes)
 }
 
 /// Makes the block of checkpoint `op` at an address below 128, of this kind (`DATA` or `ROOT`), with a payload of at most

@@ -4,7 +4,7 @@ use Rattle.std.specs.Prelude.{replicate}
 use Rattle.std.proofs.lemmas.List.{get_or-replicate}
 use Rattle.vr_base.specs.Bytes.{number}
 use Rattle.vr_disk.specs.DiskState.{Call, Sync, Cell, Disk, Face, Goes, Fails, Cuts, Runs, Attaches, after, attached, attached_as, blank, cut_at, is_to_fail, judged, reads}
-use Rattle.vr_disk.specs.Regions.{prepare_at}
+use Rattle.vr_disk.specs.Regions.{prepare_place}
 use Rattle.vr_disk.specs.Sectors.{has, together}
 use Rattle.vr_disk.proofs.Running.{one_cuts, one_fails, one_goes}
 use Rattle.vr_header.specs.Made.{entry_of}
@@ -98,7 +98,7 @@ new_table f held e h =
     let t : IsTable f (table_of (replicate 64 None)) = record {
       count = empty_count 64;
       seen = λ s l p x.
-          let w = zeros_whole f (prepare_at s) e (omega arith) in
+          let w = zeros_whole f (prepare_place s) e (omega arith) in
           absurd (no_entry (header_reading f s) p (sym (ap (entry_of_both (header_reading f s)) w) ∙ x));
     } in
     subst (λ (held : List (Option Prepare)). IsTable f (table_of held)) (sym h) t

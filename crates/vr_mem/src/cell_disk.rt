@@ -3,7 +3,7 @@ ghost use Rattle.std.specs.Prelude.{◌≡◌, ◌-◌, ◌≤◌, ◌<◌, Some
 ghost use Rattle.vr_base.specs.Causes.{HasCause};
 ghost use Rattle.vr_disk.specs.DiskState.{Sync, Write, after, cell, digit_at, judged, settle};
 ghost use Rattle.vr_mem.specs.Lies.{lied};
-ghost use Rattle.vr_mem.specs.Seen.{IsMemFace, cell_of, copies, verdict_of, zero_cell};
+ghost use Rattle.vr_mem.specs.Seen.{IsMemFace, cell_of, copies, call_verdict, zero_cell};
 
 use crate::cells::{MemCell, MemFace};
 use crate::fate::{MemFate, MemFuse, MemVerdict};
@@ -110,7 +110,7 @@ impl CellDisk {
 
     /// What becomes of the next write or sync, which this counts.
     pub fn judge(&mut self) -> MemVerdict
-        ensures verdict { verdict_of result ≡ (judged (disk_of self.old).fate).verdict }
+        ensures verdict { call_verdict result ≡ (judged (disk_of self.old).fate).verdict }
         ensures told { disk_of self.new ≡ record (disk_of self.old) { fate = (judged (disk_of self.old).fate).next } }
         ensures faults { self.new.faults ≡ self.old.faults }
         ensures read_faults { self.new.read_faults ≡ self.old.read_faults }
