@@ -133,7 +133,7 @@ goes_bytes : (r : Run) (x : ℕ) (bytes : List ℕ) → (goes_to r x bytes).payl
 unfolding goes_to
 goes_bytes r x bytes = refl
 
-part_bytes : (r : Run) (text : List ℕ) (old : List Payload) (i : ℕ) → (payload_blocks_at r text old i).payload.bytes ≡ payload_at text i
+pub part_bytes : (r : Run) (text : List ℕ) (old : List Payload) (i : ℕ) → (payload_blocks_at r text old i).payload.bytes ≡ payload_at text i
 part_bytes r text old i =
     elim (part_cases r i (payload_at text i) (slice_get old i)) [
       | inl s ↦ ap (λ (x : PayloadBlocks). x.payload.bytes) s.is ∙ s.same
@@ -255,11 +255,11 @@ sizes op ls lk n x y =
     let i = length-bytes16 n in
     omega arith
 
-record Fit (n : Name) : Type 0 where
-  sum : length n.sum.0 ≡ 16
-  address : n.address < 2 ^ 64
+pub record Fit (n : Name) : Type 0 where
+  pub sum : length n.sum.0 ≡ 16
+  pub address : n.address < 2 ^ 64
 
-fit_name : (b : List ℕ) (n : Name) (c : Content) → n.address < 128 → named n b ≡ Some c → Fit n
+pub fit_name : (b : List ℕ) (n : Name) (c : Content) → n.address < 128 → named n b ≡ Some c → Fit n
 fit_name b n c l e =
     let p = (named_found n b c e).1 in
     record { sum = ap (λ (n : Name). length n.sum.0) (sym p) ∙ length-name_of _; address = omega arith }
@@ -280,14 +280,14 @@ fit_of g n size bytes e = by_test (ltb n.address 128) refl e
     by_test true t e = by_reading (block_reading g n.address) (ltb-true n.address 128 t) e
     by_test false t e = absurd cc
 
-abbrev Fits : List Payload → Type 0
+abbrev pub Fits : List Payload → Type 0
 Fits ps = AllByRecursion (λ (p : Payload). Fit p.name) ps
 
 fits_held : (g : Face) (low : ℕ) (ps : List Payload) → HoldsFrom g low ps → Fits ps
 fits_held g low [] h = tt
 fits_held g low (p ∷ ps) h = (fit_of g p.name (length p.bytes) p.bytes h.1, fits_held g (low + 1) ps h.2)
 
-goes_fit : (r : Run) (x : ℕ) (bytes : List ℕ) → x < 128 → Fit (goes_to r x bytes).payload.name
+pub goes_fit : (r : Run) (x : ℕ) (bytes : List ℕ) → x < 128 → Fit (goes_to r x bytes).payload.name
 unfolding goes_to data_content
 goes_fit r x bytes l = record { sum = length-name_of _; address = omega arith }
 
@@ -302,7 +302,7 @@ fits_new r text old i (suc n) l h = (
   fits_new r text old (i + 1) n (omega arith) h,
 )
 
-length-names : (ps : List Payload) → Fits ps → length (names_bytes ps) ≡ 24 * length ps
+pub length-names : (ps : List Payload) → Fits ps → length (names_bytes ps) ≡ 24 * length ps
 unfolding names_bytes
 length-names [] h = refl
 length-names (p ∷ ps) h =
@@ -314,7 +314,7 @@ length-names (p ∷ ps) h =
     omega arith
 
 -- one name at its place
-name_there : (b rest : List ℕ) (i : ℕ) (n : Name) → Fit n → drop (18 + 24 * i) b ≡ bytes64 n.address ++ (n.sum.0 ++ rest) → name_at b i ≡ n
+pub name_there : (b rest : List ℕ) (i : ℕ) (n : Name) → Fit n → drop (18 + 24 * i) b ≡ bytes64 n.address ++ (n.sum.0 ++ rest) → name_at b i ≡ n
 unfolding name_at piece
 name_there b rest i n f e =
     let address : number w64 (18 + 24 * i) b ≡ n.address = number64_there b (18 + 24 * i) n.address (ap (take 8) e ∙ take_at (bytes64 n.address) (n.sum.0 ++ rest) 8 (length-bytes64 n.address)) f.address in
@@ -324,7 +324,7 @@ name_there b rest i n f e =
     ap (λ (k : ℕ). let x : Name = record { address = k; sum = record { 0 = take 16 (drop (26 + 24 * i) b) } } in x) address
     ∙ ap (λ (s : List ℕ). let x : Name = record { address = n.address; sum = record { 0 = s } } in x) sum
 
-after_name : (b rest : List ℕ) (i : ℕ) (n : Name) → Fit n → drop (18 + 24 * i) b ≡ bytes64 n.address ++ (n.sum.0 ++ rest) → drop (18 + 24 * (i + 1)) b ≡ rest
+pub after_name : (b rest : List ℕ) (i : ℕ) (n : Name) → Fit n → drop (18 + 24 * i) b ≡ bytes64 n.address ++ (n.sum.0 ++ rest) → drop (18 + 24 * (i + 1)) b ≡ rest
 after_name b rest i n f e =
     let m : 18 + 24 * (i + 1) ≡ 18 + 24 * i + 8 + 16 = omega arith in
     ap (λ k. drop k b) m ∙ (sym (drop-drop 16 (18 + 24 * i + 8) b) ∙ (ap (drop 16) (sym (drop-drop 8 (18 + 24 * i) b) ∙ (ap (drop 8) e ∙ drop_at (bytes64 n.address) (n.sum.0 ++ rest) 8 (length-bytes64 n.address))) ∙ drop_at n.sum.0 rest 16 f.sum))
@@ -341,15 +341,15 @@ names_there g low b rest i (p ∷ ps) h e =
 
 -- ---- the root
 
-record RootWords (op ls lk : ℕ) (t : PayloadTable) (p : List ℕ) : Type 0 where
-  op_there : number w64 0 p ≡ op
-  sessions_there : sessions_size p ≡ ls
-  keys_there : keys_size p ≡ lk
-  count_there : number w16 16 p ≡ length t.sessions + length t.keys
-  names : drop 18 p ≡ names_bytes t.sessions ++ names_bytes t.keys
-  size : length p ≡ 18 + (length (names_bytes t.sessions) + length (names_bytes t.keys))
+pub record RootWords (op ls lk : ℕ) (t : PayloadTable) (p : List ℕ) : Type 0 where
+  pub op_there : number w64 0 p ≡ op
+  pub sessions_there : sessions_size p ≡ ls
+  pub keys_there : keys_size p ≡ lk
+  pub count_there : number w16 16 p ≡ length t.sessions + length t.keys
+  pub names : drop 18 p ≡ names_bytes t.sessions ++ names_bytes t.keys
+  pub size : length p ≡ 18 + (length (names_bytes t.sessions) + length (names_bytes t.keys))
 
-words : (op ls lk : ℕ) (t : PayloadTable) → op < 2 ^ 64 → ls < 2 ^ 32 → lk < 2 ^ 32 → length t.sessions + length t.keys < 2 ^ 16 → RootWords op ls lk t (root_payload op ls lk t)
+pub words : (op ls lk : ℕ) (t : PayloadTable) → op < 2 ^ 64 → ls < 2 ^ 32 → lk < 2 ^ 32 → length t.sessions + length t.keys < 2 ^ 16 → RootWords op ls lk t (root_payload op ls lk t)
 unfolding root_payload sessions_size keys_size
 words op ls lk t a b c d =
     let n = length t.sessions + length t.keys in

@@ -65,7 +65,12 @@ fn root_front(op: u64, sessions: u32, keys: u32, count: u16) -> [u8; 18]
 
 // The payload of a root.
 #[tactic(auto, unfolding(crate::specs::Saves::root_payload))]
-fn root_payload(alloc: Global, op: u64, texts: &Texts, table: &PayloadTable) -> Result<Vec<u8>, NoMemory>
+fn root_payload(
+    alloc: Global,
+    op: u64,
+    texts: &Texts,
+    table: &PayloadTable,
+) -> Result<Vec<u8>, NoMemory>
     requires texts { FitsPayloads texts.now }
     requires sessions { length table.now.sessions ≡ payloads (length texts.now.sessions) }
     requires keys { length table.now.keys ≡ payloads (length texts.now.keys) }

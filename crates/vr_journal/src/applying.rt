@@ -28,7 +28,11 @@ use vr_step::Halt;
 impl Replica {
     /// Writes a checkpoint of the op just applied.
     #[tactic(auto, using(crate::proofs::Performing::checkpoint_made, crate::proofs::Memory::due_number))]
-    fn put_checkpoint<D: SectorDisk>(&self, alloc: Global, disk: &mut D) -> Result<SavedCheckpoint, Halt>
+    fn put_checkpoint<D: SectorDisk>(
+        &self,
+        alloc: Global,
+        disk: &mut D,
+    ) -> Result<SavedCheckpoint, Halt>
         requires due { is_checkpoint self.now.applied ≡ true }
         requires applied { HasApplied self.now }
         ensures runs { PerformsTo checkpoints self.now (D.told disk.old) (D.told disk.new) (done result) }

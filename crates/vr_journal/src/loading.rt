@@ -51,7 +51,12 @@ impl Replica {
 
     // The state that was loaded, or what is missing of it. A root whose state doesn't decode counts as missing.
     #[tactic(auto, using(crate::proofs::Loads::loads_state, crate::proofs::Loads::loads_none))]
-    fn take_texts(&mut self, alloc: Global, texts: Texts, table: PayloadTable) -> Result<(), NoMemory>
+    fn take_texts(
+        &mut self,
+        alloc: Global,
+        texts: Texts,
+        table: PayloadTable,
+    ) -> Result<(), NoMemory>
         ensures loaded { OnOk result (self.new ≡ loads self.old.root (Load.Loaded texts table) self.old) }
         ensures view { OnOk result (self.new.view ≡ self.old.view) }
         ensures saved { OnOk result (self.new.saved ≡ self.old.saved) }

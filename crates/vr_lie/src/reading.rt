@@ -32,7 +32,8 @@ pub fn has_header<D: SectorDisk>(disk: &mut D, slot: u32, prepare: &[u8]) -> boo
     ensures value { IfSome (D.told disk.old) (λ d. result ≡ has (header_sector prepare.now) (header_reading d.face slot)) }
 {
     let mut sector = Sector { bytes: [0; 512] };
-    disk.read(header_place(slot), &mut sector).is_ok() && sector.bytes == header_sector(prepare).bytes
+    disk.read(header_place(slot), &mut sector).is_ok()
+        && sector.bytes == header_sector(prepare).bytes
 }
 
 // Whether a slot's header sector reads as a valid header, but not as that of the entry with this prepare.

@@ -8,7 +8,9 @@ ghost use Rattle.vr_rings.specs.Laws.{AgainLeaves, HeaderLeaves, NewLeaves};
 
 use crate::bytes::{header_sector, prepare_of, sector_of};
 use crate::slot::slot_of;
-use vr_disk::{DiskFailed, DiskFault, Sector, SectorDisk, header_place, prepare_place, write_sectors};
+use vr_disk::{
+    DiskFailed, DiskFault, Sector, SectorDisk, header_place, prepare_place, write_sectors,
+};
 use vr_header::{Entry, Header};
 
 // Writes the four sectors of an entry, which are these bytes, and syncs them.

@@ -256,7 +256,7 @@ fresh_is c n i l a b m =
       under = λ v e. absurd cc;
     }
 
-fresh_at : (c n from count j : ℕ) (m : Member) → slice_get (map (fresh_member c n) (range_with_len from count)) j ≡ Some m → (fresh_member c n (from + j) ≡ m) × (j < count)
+pub fresh_at : (c n from count j : ℕ) (m : Member) → slice_get (map (fresh_member c n) (range_with_len from count)) j ≡ Some m → (fresh_member c n (from + j) ≡ m) × (j < count)
 fresh_at c n from zero j m e = absurd cc
 fresh_at c n from (suc count) zero m e = let at : from + 0 ≡ from = omega arith in (rw at cc, omega arith)
 fresh_at c n from (suc count) (suc j) m e =

@@ -56,7 +56,11 @@ fn read_all(alloc: Global, count: u16, bytes: &[u8]) -> Result<SessionTable, Sta
 
 /// Reads one session more, and gives the bytes behind it.
 #[tactic(auto, unfolding(vr_table::specs::Table::read_on))]
-fn read_next<'a>(alloc: Global, table: &mut SessionTable, bytes: &'a [u8]) -> Result<&'a [u8], StateFault>
+fn read_next<'a>(
+    alloc: Global,
+    table: &mut SessionTable,
+    bytes: &'a [u8],
+) -> Result<&'a [u8], StateFault>
     requires { IsMap nat_cmp table.old.entries }
     ensures is_map { IfOk result (λ _. IsMap nat_cmp table.new.entries) }
     ensures rest { IfOk result (λ rest. (n : ℕ) → read_on nat_cmp session_from (suc n) table.old.entries bytes.now ≡ read_on nat_cmp session_from n table.new.entries rest.now) }

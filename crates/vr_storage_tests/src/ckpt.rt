@@ -6,7 +6,7 @@ use std::alloc::Global;
 use std::test::Fail;
 use vr_apply::Texts;
 use vr_base::Seq;
-use vr_ckpt::{Load, Name, SavedCheckpoint, PayloadTable, load, save};
+use vr_ckpt::{Load, Name, PayloadTable, SavedCheckpoint, load, save};
 use vr_disk::{Sector, SectorDisk};
 use vr_mem::MemDisk;
 

@@ -50,7 +50,12 @@ fn copy_verdicts(readings: &[Reading; 4]) -> [CopyVerdict; 4]
     ensures { result ≡ map copy_verdict (map seen readings.now) }
 {
     let [a, b, c, d] = readings;
-    [copy_verdict(a), copy_verdict(b), copy_verdict(c), copy_verdict(d)]
+    [
+        copy_verdict(a),
+        copy_verdict(b),
+        copy_verdict(c),
+        copy_verdict(d),
+    ]
 }
 
 // The value of a good copy.

@@ -1,6 +1,6 @@
 use std::test::Fail;
 use vr_header::{
-    Command, Entry, Header, Key, Operation, Outcome, Value, decode, encode, decoded_header,
+    Command, Entry, Header, Key, Operation, Outcome, Value, decode, decoded_header, encode,
 };
 
 fn put(rt: &HostRuntime) -> Result<Operation, Fail> {
