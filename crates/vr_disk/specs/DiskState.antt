@@ -137,6 +137,7 @@ counted t = record { fuse = t.fuse; made = next_number t; failing = t.failing; d
 abbrev pub is_to_fail : Fate → Bool
 is_to_fail t = list_any (λ n. n == next_number t) t.failing
 
+-- what becomes of a call
 pub data CallVerdict : Type 0 where
   Goes : CallVerdict
   Fails : CallVerdict
