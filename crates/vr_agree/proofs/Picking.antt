@@ -1,20 +1,18 @@
 -- A choose line of a step is of the choice of the rules from what its replica has heard.
-use Rattle.std.proofs.Common.{ℕ, replicate, ◌+◌, ◌<◌, ◌≡◌, ◌∙◌, inl, inr, refl, sym, ap, subst, arith, Bool, true, false, cond, eqb, get_or, set, length, List, [], ◌∷◌, Option, Some, None}
+use Rattle.std.proofs.Common.{ℕ, ◌+◌, ◌<◌, ◌≡◌, ◌∙◌, inl, inr, refl, sym, ap, subst, arith, Bool, true, false, cond, eqb, get_or, List, [], ◌∷◌, Option, Some, None}
 use Rattle.std.specs.Prelude.{All, ⊤, nat_lt, nat_le, not, ◌&&◌, ◌==◌, Contains}
 use Rattle.std.specs.List.{cons_option, filter_map, range_with_len}
 use Rattle.std.specs.Option.{option_map_or}
-use Rattle.std.proofs.lemmas.Bool.{and_parts, cases_eq, cases_lt, eq-eqb, eqb-true, ne_eqb, ltb-true, not-false}
-use Rattle.std.proofs.lemmas.List.{get_or-set_same, get_or-set_other, get_or_past, get_or-replicate, length-replicate}
-use Rattle.std.proofs.lemmas.List.Elements.{All-nil, All-cons, All-append, All-contains}
+use Rattle.std.proofs.lemmas.Bool.{and_parts, eqb-true, ltb-true, not-false}
+use Rattle.std.proofs.lemmas.List.Elements.{All-nil, All-cons, All-contains}
 use Rattle.vr_base.specs.Groups.{quorums_of}
-use Rattle.vr_base.specs.Replicas.{size}
 use Rattle.vr_base.specs.declared.table.Quorums.{Quorums}
 use Rattle.vr_msg.specs.declared.output.Chosen.{Chosen}
 use Rattle.vr_msg.specs.Choice.{choice, top_commit, top_view}
-use Rattle.vr_rules.specs.Replica.{Replica, is_frozen, is_primary, is_started, last_view, view_change, statement_of, run, head, parts_from, trimmed}
-use Rattle.vr_rules.specs.Steps.{Setting, Word, ◌⨾◌, quiet, change, does, says, by, naming, outputs, after_all}
+use Rattle.vr_rules.specs.Replica.{Replica, is_frozen, last_view, statement_of, head}
+use Rattle.vr_rules.specs.Steps.{Setting, Word, ◌⨾◌, quiet, change, does, says, by, outputs}
 use Rattle.vr_rules.specs.Words as words
-use Rattle.vr_rules.specs.Words.{decided, log_end, stated}
+use Rattle.vr_rules.specs.Words.{log_end, stated}
 use Rattle.vr_rules.proofs.Ruling.{by_rows}
 use Rattle.vr_rules.specs.Sound.{IsSound}
 use Rattle.vr_rules.specs.Laws.{IsEvent}
@@ -23,8 +21,7 @@ use Rattle.vr_rules.proofs.Stating.{own_statement}
 use Rattle.vr_rules.specs.Safe.{all_heard, brought, heard_from, or_else}
 use Rattle.vr_agree.specs.Picked.{IsChosenBy}
 use Rattle.vr_header.specs.declared.header.Header.{Header}
-use Rattle.vr_msg.specs.declared.choice.Choice.TheVariants.{Ends, WaitsAt, TooFew}
-use Rattle.vr_msg.specs.declared.choice.Choice.{Choice}
+use Rattle.vr_msg.specs.declared.choice.Choice.TheVariants.{Ends, TooFew}
 use Rattle.vr_msg.specs.declared.event.Event.TheVariants as event
 use Rattle.vr_msg.specs.declared.event.Event.{Event}
 use Rattle.vr_msg.specs.declared.frame.DoViewChange.{DoViewChange}
@@ -32,14 +29,13 @@ use Rattle.vr_msg.specs.declared.frame.Frame.TheVariants as frame
 use Rattle.vr_msg.specs.declared.frame.Frame.{Frame}
 use Rattle.vr_msg.specs.declared.frame.StartViewChange.{StartViewChange}
 use Rattle.vr_msg.specs.declared.output.Output.TheVariants as output
-use Rattle.vr_msg.specs.declared.output.Output.{Output}
 use Rattle.vr_msg.specs.declared.statement.Statement.{Statement}
-use Rattle.vr_rules.proofs.SilentWaits.{IsPlain, Mute, plain_are, mute_all, mute_apply, mute_by, mute_change, mute_each, mute_if, mute_naming, mute_one, mute_prepare_again, mute_quiet, mute_reading, mute_take, mute_then}
+use Rattle.vr_rules.proofs.SilentWaits.{Mute, mute_all, mute_by, mute_change, mute_if, mute_naming, mute_one, mute_prepare_again, mute_quiet, mute_reading, mute_then}
 use Rattle.vr_rules.proofs.SilentSteps.{still_enter, still_ask, mute_commit, mute_get_block, mute_get_prepare, mute_get_view, mute_give_block, mute_give_prepare, mute_prepare, mute_prepare_ok, mute_request, mute_start_view}
-use Rattle.vr_rules.proofs.SendsScripts.{outputs_append, outputs_said}
 use Rattle.vr_rules.specs.Deciding.{is_from, start_view_change_table, do_view_change_table, tick_table}
 use Rattle.vr_rules.specs.Outputs as told
 use Rattle.vr_rules.specs.Rules as rules
+use Rattle.vr_safe.proofs.Picking.{GoesOn, Hears, IsPicked, MayPick, PicksAt, at_if, at_then, goes_entered, goes_heard, goes_idler, goes_itself, goes_rested, hears_none, hears_statement, no_brought, plain, speak_at, stated_is, try_at}
 
 each_heard : {X : Type 0} (P : X → Type 0) (f : ℕ → Option X) (is : List ℕ) → ((i : ℕ) (x : X) → f i ≡ Some x → P x) → All P (filter_map f is)
 each_heard P f [] h = All-nil P
