@@ -13,6 +13,9 @@ pub const COPIES: u32 = 4;
 /// The number of sectors of a copy.
 pub const COPY_SECTORS: u32 = 20;
 
+/// The number of bytes of a copy.
+pub const COPY_SIZE: usize = 10240;
+
 /// The number of slots, each with a sector for its header and four for its prepare.
 pub const SLOTS: u32 = 64;
 
@@ -25,7 +28,7 @@ pub const BLOCKS: u32 = 128;
 /// The number of sectors of a block.
 pub const BLOCK_SECTORS: u32 = 8;
 
-// The regions lie one behind the other, from the first sector to the last, and a block has 4,096 bytes.
+// The regions lie one behind the other, from the first sector to the last; a block has 4,096 bytes, a copy 10,240.
 const _: () = prove!(COPY_SECTORS * COPIES == 80);
 
 const _: () = prove!(80 + SLOTS == 144);
@@ -35,6 +38,8 @@ const _: () = prove!(144 + PREPARE_SECTORS * SLOTS == 400);
 const _: () = prove!(400 + BLOCK_SECTORS * BLOCKS == SECTORS);
 
 const _: () = prove!(BLOCK_SECTORS as usize * SECTOR_SIZE == 4096);
+
+const _: () = prove!(COPY_SECTORS as usize * SECTOR_SIZE == COPY_SIZE);
 
 /// Sector `k` of a copy of the superblock.
 pub fn copy_place(copy: u32, k: u32) -> u32

@@ -1,5 +1,5 @@
 //! Blocks read by their names.
-ghost use Rattle.std.specs.Prelude.{◌≡◌, ◌<◌, Some, None, length, if◌then◌else◌, IfOk, IfSome, OnErr, is_ok};
+ghost use Rattle.std.specs.Prelude.{◌≡◌, ◌<◌, ◌≤◌, Some, None, length, if◌then◌else◌, IfOk, IfSome, OnErr, is_ok};
 ghost use Rattle.vr_grid.specs.Blocks.{named};
 ghost use Rattle.vr_grid.specs.Grid.{IsWhole, block_reading, named_at};
 
@@ -14,6 +14,7 @@ fn fill<D: SectorDisk>(disk: &mut D, address: u32, to: &mut [u8]) -> bool
     requires size { length to.old ≡ 4096 }
     ensures told { D.told disk.new ≡ D.told disk.old }
     ensures faults { D.faults disk.new ≡ D.faults disk.old }
+    ensures reads { D.read_faults disk.old ≤ D.read_faults disk.new }
     ensures value { IfSome (D.told disk.old) (λ d. block_reading d.face address ≡ (if result then Some to.new else None)) }
 {
     read_sectors(disk, block_place(address), BLOCK_SECTORS, to)
@@ -28,6 +29,7 @@ pub fn read_block<D: SectorDisk>(
 ) -> Result<usize, Faulty>
     ensures told { D.told disk.new ≡ D.told disk.old }
     ensures faults { D.faults disk.new ≡ D.faults disk.old }
+    ensures reads { D.read_faults disk.old ≤ D.read_faults disk.new }
     ensures exact { IfSome (D.told disk.old) (λ d. named_at d.face name.now ≡ (if is_ok result then named name.now to.new else None)) }
     ensures whole { IfOk result (λ size. IsWhole name.now to.new size) }
     ensures same { OnErr result (to.new ≡ to.old) }

@@ -1,7 +1,8 @@
 //! The value that opens, mended.
 ghost use Rattle.std.specs.Prelude.{◌≡◌, ◌≤◌, [], Some, is_some, length, map, is_ok, true, IfOk, IfErr, IfSome};
 ghost use Rattle.std.specs.List.{AllByRecursion};
-ghost use Rattle.vr_base.specs.Causes.{HasCause, Rose};
+ghost use Rattle.vr_base.specs.Causes.{HasCause};
+ghost use Rattle.vr_disk.specs.Counts.{CountsFault};
 ghost use Rattle.vr_disk.specs.DiskState.{RunsFrom};
 ghost use Rattle.vr_super.specs.Calls.{mend_calls};
 ghost use Rattle.vr_super.specs.Copies.{SuperValue, value_of};
@@ -99,6 +100,7 @@ fn mended<D: SectorDisk>(disk: &mut D, value: Super) -> Result<Super, SuperFault
     ensures kept { IfOk result (λ v. v ≡ value) }
     ensures fault { IfErr result (λ e. e ≡ SuperFault.DiskFault) }
     ensures cause { HasCause (D.faults disk.old) (D.faults disk.new) result }
+    ensures reads { D.read_faults disk.old ≤ D.read_faults disk.new }
 {
     match mend(disk, value.bytes()) {
         Ok(()) => Ok(value),
@@ -109,8 +111,8 @@ fn mended<D: SectorDisk>(disk: &mut D, value: Super) -> Result<Super, SuperFault
 // The value that the disk opens as, with its copies mended, where they may differ.
 fn recover_apart<D: SectorDisk>(alloc: Global, disk: &mut D) -> Result<Super, SuperFault>
     ensures value { RecoversFrom (D.told disk.old) (D.told disk.new) result }
-    ensures later { D.faults disk.old ≤ D.faults disk.new }
-    ensures fault { result ≡ Err SuperFault.DiskFault → Rose (D.faults disk.old) (D.faults disk.new) }
+    ensures cause { CountsFault SuperFault.DiskFault (D.faults disk.old) (D.faults disk.new) result }
+    ensures reads { D.read_faults disk.old ≤ D.read_faults disk.new }
 {
     match choose(alloc, &read_all(disk)) {
         Ok(value) => mended(disk, value),
@@ -121,8 +123,8 @@ fn recover_apart<D: SectorDisk>(alloc: Global, disk: &mut D) -> Result<Super, Su
 /// The value that the disk opens as, with its copies mended.
 pub fn recover<D: SectorDisk>(alloc: Global, disk: &mut D) -> Result<Super, SuperFault>
     ensures value { RecoversFrom (D.told disk.old) (D.told disk.new) result }
-    ensures later { D.faults disk.old ≤ D.faults disk.new }
-    ensures fault { result ≡ Err SuperFault.DiskFault → Rose (D.faults disk.old) (D.faults disk.new) }
+    ensures cause { CountsFault SuperFault.DiskFault (D.faults disk.old) (D.faults disk.new) result }
+    ensures reads { D.read_faults disk.old ≤ D.read_faults disk.new }
 
     // A stop at any of its calls leaves a disk that opens as the same value.
     ensures stop { IfSome (D.told disk.old) (λ d. d.face.waiting ≡ [] → (v : SuperValue) → opens d.face ≡ Some v → MendKeeps v d.face) }
