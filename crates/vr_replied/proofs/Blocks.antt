@@ -1,5 +1,5 @@
 -- What a checkpoint loads as, where names don't collide: the texts that its root was written for.
-use Rattle.std.proofs.Common.{ℕ, zero, suc, ◌+◌, ◌-◌, ◌*◌, ◌^◌, ◌≤◌, ◌<◌, ◌≡◌, ◌∙◌, inl, inr, arith, refl, sym, ap, subst, Bool, true, false, cond, ltb, ◌&&◌, List, [], ◌∷◌, ◌++◌, length, take, drop, Option, Some, None, append_assoc}
+use Rattle.std.proofs.Common.{ℕ, zero, suc, ◌+◌, ◌-◌, ◌*◌, ◌^◌, ◌≤◌, ◌<◌, ◌≡◌, ◌∙◌, inl, inr, arith, refl, sym, ap, subst, Bool, true, false, cond, ltb, eqb, ◌&&◌, List, [], ◌∷◌, ◌++◌, length, take, drop, Option, Some, None, append_assoc}
 use Rattle.std.specs.Prelude.{map, min, slice_get, Contains}
 use Rattle.std.specs.List.{AllByRecursion}
 use Rattle.std.specs.Option.{option_and_then, option_map}
@@ -64,8 +64,8 @@ names_found low b rest i (p ∷ ps) ns h e is =
 
 -- a root that is read
 record RootIn (b : List ℕ) (r : Root) : Type 0 where
-  sessions_size : r.sessions_size ≡ sessions_size b
-  keys_size : r.keys_size ≡ keys_size b
+  sessions_long : r.sessions_size ≡ sessions_size b
+  keys_long : r.keys_size ≡ keys_size b
   sessions : names_at 1 b 0 (payloads (sessions_size b)) ≡ Some r.sessions
   keys : names_at 10 b (payloads (sessions_size b)) (payloads (keys_size b)) ≡ Some r.keys
 
@@ -80,7 +80,7 @@ root_found : (b : List ℕ) (r : Root) → root_in b ≡ Some r → RootIn b r
 unfolding root_in
 root_found b r e =
     let p = both_found b (names_at 1 b 0 (payloads (sessions_size b))) (names_at 10 b (payloads (sessions_size b)) (payloads (keys_size b))) r e in
-    record { sessions_size = p.2; keys_size = p.3; sessions = p.0; keys = p.1 }
+    record { sessions_long = p.2; keys_long = p.3; sessions = p.0; keys = p.1 }
 
 read_found : (c : Content) (r : Root) → read_root c ≡ Some r → root_in c.payload ≡ Some r
 unfolding read_root
@@ -205,7 +205,7 @@ module _ (f : Face) where
   data_found name size bytes e =
       elim (named_at f name) as (λ o. named_at f name ≡ o → option_and_then (data_of size) o ≡ Some bytes → (c : Content) × (named_at f name ≡ Some c) × (c.payload ≡ bytes)) [
         | None ↦ λ n e. absurd cc
-        | Some c ↦ λ n e. elim ((c.kind == 2) && (length c.payload == size)) as (λ b. cond b (Some c.payload) None ≡ Some bytes → (c : Content) × (named_at f name ≡ Some c) × (c.payload ≡ bytes)) [
+        | Some c ↦ λ n e. elim (eqb c.kind 2 && eqb (length c.payload) size) as (λ b. cond b (Some c.payload) None ≡ Some bytes → (c : Content) × (named_at f name ≡ Some c) × (c.payload ≡ bytes)) [
           | true ↦ λ e. (c, n, (let same : c.payload ≡ bytes = cc in same))
           | false ↦ λ e. absurd cc
         ] e
@@ -216,6 +216,10 @@ unfolding table_of
 same_texts cluster op texts old =
     ap (λ (x : List ℕ). let y : Texts = record { sessions = x; keys = text_of (payloads_of (keys_run cluster op) texts.keys old.keys) } in y) (text_again (sessions_run cluster op) texts.sessions old.sessions)
     ∙ ap (λ (x : List ℕ). let y : Texts = record { sessions = texts.sessions; keys = x } in y) (text_again (keys_run cluster op) texts.keys old.keys)
+
+payload_of : (cluster op : ℕ) (texts : Texts) (t : PayloadTable) → (root_of cluster texts op t).payload ≡ root_payload op (length texts.sessions) (length texts.keys) t
+unfolding root_of
+payload_of cluster op texts t = refl
 
 module _ (H : List ℕ → Type 0) (never : NoCollision H) where
   -- a name is that of one payload
@@ -296,28 +300,20 @@ module _ (H : List ℕ → Type 0) (never : NoCollision H) where
           ap (λ ns. text_of (gathered f r.keys_size ns).payloads) n.1 ∙ text_same r.keys_size t.keys kept.keys (ap (λ ns. (gathered f r.keys_size ns).missing) (sym n.1) ∙ none.1) in
           l.1 ∙ (ap (λ (x : List ℕ). let y : Texts = record { sessions = x; keys = text_of k.payloads } in y) one ∙ ap (λ (x : List ℕ). let y : Texts = record { sessions = text_of t.sessions; keys = x } in y) two)
 
-      loads_texts : IsHashedBlock H (root_of cluster texts op t) → (found : Texts) (table : PayloadTable) → loaded f (block_name (root_of cluster texts op t)) ≡ Loaded found table → found ≡ record { sessions = text_of t.sessions; keys = text_of t.keys }
-      unfolding loaded root_at root_of
-      loads_texts hashed found table e = by_content (named_at f name) refl e
-        where
-          abbrev root : Content
-          root = root_of cluster texts op t
+      module _ (root : Content) (is : root.payload ≡ root_payload op (length texts.sessions) (length texts.keys) t) (hashed : IsHashedBlock H root) (found : Texts) (table : PayloadTable) where
+        by_root : (c : Content) → named_at f (block_name root) ≡ Some c → (o : Option Root) → read_root c ≡ o → load_by f (block_name root) o ≡ Loaded found table → found ≡ record { sessions = text_of t.sessions; keys = text_of t.keys }
+        by_root c n None r e = absurd cc
+        by_root c n (Some r) i e =
+            let same : c.payload ≡ root_payload op (length texts.sessions) (length texts.keys) t = same_payload c root (reads (block_name root) c n) hashed (named_here f (block_name root) c n).0 ∙ is in
+            load_right r (subst (λ b. RootIn b r) same (root_found c.payload r (read_found c r i))) found table e
 
-          abbrev name : Name
-          name = block_name root
+        by_content : (o : Option Content) → named_at f (block_name root) ≡ o → load_by f (block_name root) (option_and_then read_root o) ≡ Loaded found table → found ≡ record { sessions = text_of t.sessions; keys = text_of t.keys }
+        by_content None n e = absurd cc
+        by_content (Some c) n e = by_root c n (read_root c) refl e
 
-          abbrev Right : Type 0
-          Right = found ≡ record { sessions = text_of t.sessions; keys = text_of t.keys }
-
-          by_root : (c : Content) → named_at f name ≡ Some c → (o : Option Root) → read_root c ≡ o → load_by f name o ≡ Loaded found table → Right
-          by_root c n None r e = absurd cc
-          by_root c n (Some r) i e =
-              let same : c.payload ≡ root.payload = same_payload c root (reads name c n) hashed (named_here f name c n).0 in
-              load_right r (subst (λ b. RootIn b r) same (root_found c.payload r (read_found c r i))) found table e
-
-          by_content : (o : Option Content) → named_at f name ≡ o → load_by f name (option_and_then read_root o) ≡ Loaded found table → Right
-          by_content None n e = absurd cc
-          by_content (Some c) n e = by_root c n (read_root c) refl e
+        loads_texts : loaded f (block_name root) ≡ Loaded found table → found ≡ record { sessions = text_of t.sessions; keys = text_of t.keys }
+        unfolding loaded root_at
+        loads_texts e = by_content (named_at f (block_name root)) refl e
 
     -- a checkpoint that is loaded has the texts that it was made of, and its table is one of blocks that were hashed
     pub loads_as : (cluster op : ℕ) (texts : Texts) (old : PayloadTable) → op < 2 ^ 64 → FitsPayloads texts → IsTable H old → IsWrittenOut H cluster texts op old → (found : Texts) (table : PayloadTable)
@@ -325,5 +321,5 @@ module _ (H : List ℕ → Type 0) (never : NoCollision H) where
     loads_as cluster op texts old small fits kept hashed found table e =
         let t = table_of cluster texts op old in
         let held = each_held f (block_name (root_of cluster texts op t)) found table e in
-        let right = loads_texts cluster op texts t small fits (table_kept H cluster texts op old fits kept hashed) (sessions_count cluster texts op old t refl) (keys_count cluster texts op old t refl) (root_hashed H cluster texts op old hashed) found table e in
+        let right = loads_texts cluster op texts t small fits (table_kept H cluster texts op old fits kept hashed) (sessions_count cluster texts op old t refl) (keys_count cluster texts op old t refl) (root_of cluster texts op t) (payload_of cluster op texts t) (root_hashed H cluster texts op old hashed) found table e in
         (right ∙ same_texts cluster op texts old, record { sessions = held_kept 1 table.sessions held.sessions; keys = held_kept 10 table.keys held.keys })
