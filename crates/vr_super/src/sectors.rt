@@ -7,7 +7,9 @@ ghost use Rattle.vr_disk.specs.Sectors.{has, writes};
 ghost use Rattle.vr_super.specs.Opens.{copy_reading};
 ghost use Rattle.vr_super.specs.Calls.{copy_calls, mend_copy, mend_unless};
 
-use vr_disk::{COPY_SIZE, SECTORS, DiskFailed, SectorDisk, sector_at, sectors_read_as, write_sectors};
+use vr_disk::{
+    COPY_SIZE, DiskFailed, SECTORS, SectorDisk, sector_at, sectors_read_as, write_sectors,
+};
 
 // Writes these bytes to so many sectors, and syncs them.
 #[tactic(auto, using(vr_disk::proofs::Running::Runs_then, vr_disk::proofs::Running::Runs_stopped))]
