@@ -174,6 +174,10 @@ module _ (H : List ℕ → Type 0) where
 
 -- ---- what reads under a name
 
+-- every block that reads was hashed
+abbrev pub ReadsHashed : (List ℕ → Type 0) → Face → Type 0
+ReadsHashed H f = (name : Name) (c : Content) → named_at f name ≡ Some c → IsHashedBlock H c
+
 front_name : (c : Content) → take 16 (named_bytes (block_header c)) ≡ name_of c.payload
 unfolding named_bytes block_header
 front_name c = take_at (name_of c.payload) _ 16 (length-name_of c.payload)
@@ -229,11 +233,7 @@ module _ (H : List ℕ → Type 0) (never : NoCollision H) where
       let bytes = never (named_bytes (block_header c)) (named_bytes (block_header d)) h.header k.header names in
       never c.payload d.payload h.payload k.payload (sym (front_name c) ∙ (ap (take 16) bytes ∙ front_name d))
 
-  -- every block that reads was hashed
-  abbrev pub ReadsHashed : Face → Type 0
-  ReadsHashed f = (name : Name) (c : Content) → named_at f name ≡ Some c → IsHashedBlock H c
-
-  module _ (f : Face) (reads : ReadsHashed f) where
+  module _ (f : Face) (reads : ReadsHashed H f) where
     data_kept : (name : Name) (size : ℕ) (bytes : List ℕ) → data_at f name size ≡ Some bytes → IsKept H (record { name = name; bytes = bytes })
     data_kept name size bytes e =
         let d = data_found f name size bytes e in

@@ -15,7 +15,6 @@ use Rattle.vr_disk.proofs.Frames.{frame_all}
 use Rattle.vr_disk.proofs.Together.{after_all_append, length_after_all, spares_append, together_same, together_synced, together_written, within_spares}
 use Rattle.vr_header.specs.declared.header.Header.{Header}
 use Rattle.vr_header.specs.Made.{Whole}
-use Rattle.vr_header.specs.NoCollision.{NoCollision}
 use Rattle.vr_super.specs.Copies.{copy_bytes}
 use Rattle.vr_super.specs.Calls.{mend_calls, save_from, write_calls}
 use Rattle.vr_rings.specs.Calls.{again_calls, header_calls, new_calls, prepare_calls}
@@ -132,7 +131,7 @@ named_there f name b c l r n = rw (lt-ltb name.address 128 l, r) n
 some_content : (name : Name) (b : List ℕ) → is_some (named name b) ≡ true → (c : Content) × (named name b ≡ Some c)
 some_content name b e = elim (named name b) as (λ o. named name b ≡ o → is_some o ≡ true → (c : Content) × (named name b ≡ Some c)) [ None ↦ λ n e. absurd cc | Some c ↦ λ n e. (c, n) ] refl e
 
-module _ (H : List ℕ → Type 0) (never : NoCollision H) where
+module _ (H : List ℕ → Type 0) where
   pub put_hashed : (d : Lying) (name : Name) (block : List ℕ) → is_some (named name block) ≡ true → Begun H (PutBlock name block) → ReadsHashed H d.face → ReadsHashed H (lying.after d (PutBlock name block)).face
   put_hashed d name block whole begun reads other c e =
       let g = disk.after_all d.face (put_calls name.address block) in

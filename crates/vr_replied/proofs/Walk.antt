@@ -44,11 +44,11 @@ IsBorne H log _ = ⊤
 
 module _ (H : List ℕ → Type 0) (log : List Whole) where
   -- each is borne, where those up to it may be
-  Bears : ℕ → ℕ → Lying → List Effect → Type 0
+  unfoldable pub Bears : ℕ → ℕ → Lying → List Effect → Type 0
   Bears i m d [] = ⊤
   Bears i m d (e ∷ es) = May H log m d e → IsBorne H log e × Bears i (m + lines i (output_of e)) (lying.after d e) es
 
-  AllMay : ℕ → ℕ → Lying → List Effect → Type 0
+  unfoldable pub AllMay : ℕ → ℕ → Lying → List Effect → Type 0
   AllMay i m d [] = ⊤
   AllMay i m d (e ∷ es) = May H log m d e × AllMay i (m + lines i (output_of e)) (lying.after d e) es
 
