@@ -49,7 +49,7 @@ state_is log (suc m) h =
     let e = h m (omega arith) in
     subst IsState (sym (state_next log m e.entry e.at)) (state_kept (state_at log m) e.entry (state_is log m (λ k l. h k (omega arith))) e.whole)
 
-texts_fit : (log : List Whole) (m : ℕ) → AreSettled log m → FitsPayloads (texts_of (state_at log m))
+pub texts_fit : (log : List Whole) (m : ℕ) → AreSettled log m → FitsPayloads (texts_of (state_at log m))
 texts_fit log m h = let t = text_of_state (state_at log m) (state_is log m h) in record { sessions = t.few_sessions; keys = t.few_keys }
 
 texts_read : (s : State) → IsState s → state_decoded (texts_of s) ≡ Ok s

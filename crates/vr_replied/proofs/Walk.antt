@@ -42,6 +42,38 @@ IsBorne H log (Save old new) = IsRooted H log new
 IsBorne H log (Mend v) = IsRooted H log v
 IsBorne H log _ = ⊤
 
+-- ---- effects that write no block and say no line
+
+abbrev pub IsOther : Output → Type 0
+IsOther (output.Commit c) = ⊥
+IsOther _ = ⊤
+
+abbrev pub IsCalm : Effect → Type 0
+IsCalm (Say o) = IsOther o
+IsCalm e = IsBeside e
+
+other_lines : (i : ℕ) (o : Output) → IsOther o → lines i (o ∷ []) ≡ 0
+unfolding lines
+other_lines i (output.Send s) h = refl
+other_lines i (output.Commit c) h = absurd h
+other_lines i (output.Reply a) h = refl
+other_lines i (output.Choose c) h = refl
+other_lines i (output.Wait w) h = refl
+other_lines i (output.Start s) h = refl
+other_lines i (output.Halted r) h = refl
+other_lines i output.Done h = refl
+other_lines i output.KeptOut h = refl
+
+calm_lines : (i : ℕ) (e : Effect) → IsCalm e → lines i (output_of e) ≡ 0
+unfolding lines
+calm_lines i (Write again e) h = refl
+calm_lines i (Rewrite x) h = refl
+calm_lines i (Save old new) h = refl
+calm_lines i (Mend v) h = refl
+calm_lines i (Checkpoint cluster texts op old) h = refl
+calm_lines i (PutBlock name block) h = refl
+calm_lines i (Say o) h = other_lines i o h
+
 module _ (H : List ℕ → Type 0) (log : List Whole) where
   -- each is borne, where those up to it may be
   unfoldable pub Bears : ℕ → ℕ → Lying → List Effect → Type 0
@@ -148,47 +180,17 @@ module _ (H : List ℕ → Type 0) (log : List Whole) where
 
   -- ---- words that write no block and say no line
 
-  abbrev pub IsOther : Output → Type 0
-  IsOther (output.Commit c) = ⊥
-  IsOther _ = ⊤
-
-  abbrev pub IsCalm : Effect → Type 0
-  IsCalm (Say o) = IsOther o
-  IsCalm e = IsBeside e
-
-  other_lines : (i : ℕ) (o : Output) → IsOther o → lines i (o ∷ []) ≡ 0
-  unfolding lines
-  other_lines i (output.Send s) h = refl
-  other_lines i (output.Commit c) h = absurd h
-  other_lines i (output.Reply a) h = refl
-  other_lines i (output.Choose c) h = refl
-  other_lines i (output.Wait w) h = refl
-  other_lines i (output.Start s) h = refl
-  other_lines i (output.Halted r) h = refl
-  other_lines i output.Done h = refl
-  other_lines i output.KeptOut h = refl
-
-  calm_lines : (i : ℕ) (e : Effect) → IsCalm e → lines i (output_of e) ≡ 0
-  unfolding lines
-  calm_lines i (Write again e) h = refl
-  calm_lines i (Rewrite x) h = refl
-  calm_lines i (Save old new) h = refl
-  calm_lines i (Mend v) h = refl
-  calm_lines i (Checkpoint cluster texts op old) h = refl
-  calm_lines i (PutBlock name block) h = refl
-  calm_lines i (Say o) h = other_lines i o h
-
   -- P is of what a replica has, its checkpoint is the log's, and calm effects keep it
   pub record Steady (P : Core → Lying → Type 0) : Type 0 where
     pub rooted : (k : Core) (d : Lying) → P k d → 0 < k.checkpoint → IsRootOf H log k.checkpoint k.root
     pub calm : (k : Core) (d : Lying) (e : Effect) → IsCalm e → P k d → P k (lying.after d e)
 
-  calm_bears : (i m : ℕ) (d : Lying) (es : List Effect) → Every (IsBorne H log) es → Bears i m d es
+  pub calm_bears : (i m : ℕ) (d : Lying) (es : List Effect) → Every (IsBorne H log) es → Bears i m d es
   unfolding Bears
   calm_bears i m d [] b = tt
   calm_bears i m d (e ∷ es) b = λ may. (b.0, calm_bears i (m + lines i (output_of e)) (lying.after d e) es b.1)
 
-  all_lines : (i m : ℕ) (es : List Effect) → Every IsCalm es → m ≡ m + lines i (outputs es)
+  pub all_lines : (i m : ℕ) (es : List Effect) → Every IsCalm es → m ≡ m + lines i (outputs es)
   unfolding outputs lines
   all_lines i m [] c = omega arith
   all_lines i m (e ∷ es) c =
@@ -225,11 +227,11 @@ module _ (H : List ℕ → Type 0) (log : List Whole) where
     unfolding does
     walks_does e calm borne = record { every = λ r d p. calm_well r r d (e r ∷ []) refl (calm r, tt) (borne r d p, tt) p }
 
-    said_calm : (os : List Output) → Every IsOther os → Every IsCalm (map Say os)
+    pub said_calm : (os : List Output) → Every IsOther os → Every IsCalm (map Say os)
     said_calm [] h = tt
     said_calm (o ∷ os) h = (h.0, said_calm os h.1)
 
-    said_borne : (os : List Output) → Every (IsBorne H log) (map Say os)
+    pub said_borne : (os : List Output) → Every (IsBorne H log) (map Say os)
     said_borne [] = tt
     said_borne (o ∷ os) = (tt, said_borne os)
 
