@@ -37,7 +37,7 @@ module _ (u : Setup) (fits : Fits u) (hash : u.hash ≡ lying.hash) (g : group.G
       record {
         applied = order.commit;
         views = order.views;
-        backed = λ k z a. subst (λ v. (h : Header) × Backed u.quorums (entries_by u.hash u.cluster) s.sent v k h) f.log_view (counted u s at r (local u fits hash g s fit bridge m) s x k z (let c = f.commit in omega arith));
+        backed = λ k z a. subst (λ v. (h : Header) × Backed u.quorums (entries_by u.hash u.cluster) s.sent v k h) f.log_view (counted u s at r (local m) s x k z (let c = f.commit in omega arith));
       }
 
   stepped_now : (at : ℕ) (a : Arrival) (e : Event) (d : Lying) (m : Member) (r : Replica) → Runs g at m r → IsFitArrival a → IsArrival g at a e → IsPlaced r

@@ -250,10 +250,11 @@ cut_so u b at k es l cuts end =
           record { left = carried es l; stopped = end; member = y.member ∙ sym n.0; made = y.made ∙ ap (λ (ys : List Effect). l.made ++ made_in ys) (sym n.1) }
     ]
 
-module _ (u : Setup) (fits : Fits u) (hash : u.hash ≡ lying.hash) (g : group.Group) (s : Group Header) (fit : IsFitGroup u.cluster g) (bridge : Bridges u g s) where
-  abbrev pub local : group.Member → Local
-  local m = record { member = m; made = []; said = [] }
+-- a member at the beginning of a step
+abbrev pub local : group.Member → Local
+local m = record { member = m; made = []; said = [] }
 
+module _ (u : Setup) (fits : Fits u) (hash : u.hash ≡ lying.hash) (g : group.Group) (s : Group Header) (fit : IsFitGroup u.cluster g) (bridge : Bridges u g s) where
   -- a running member in the machine
   pub mid_of : (at : ℕ) (m : group.Member) (r : Replica) → slice_get g.members at ≡ Some m → m.replica ≡ Some r → Mid u s at r (local m) s
   mid_of at m r there runs =
