@@ -216,7 +216,6 @@ module _ (u : Setup) (start : Group Header) (i : ℕ) (e : Event) (o : Replica) 
       let b = w t a.replica d in
       let cs = h.goes.after.chosen in
       let y = k (mid_from u start i a.replica (carried a.script l) h.goes.after h.goes.ends) in
-      let g = goes_back u start i cs h.goes.ends.under.chosen (carried a.script l) b y in
       let kept : (c : Choice Header) → In c cs → In c y.after.chosen = y.ends.under.chosen in
       record {
         goes = record { after = y.after; ends = rw (carried_append a.script b.script l) (mid_back u start i cs h.goes.ends.under.chosen b.replica (carried b.script (carried a.script l)) y.after y.ends); cuts = cut_append (Stopped u start i) a.script b.script l h.goes.cuts (cuts_back u start i cs h.goes.ends.under.chosen b.script (carried a.script l) y.cuts) };
