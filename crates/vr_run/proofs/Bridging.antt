@@ -86,12 +86,12 @@ sent_told u before a (output.KeptOut ∷ os) h = sent_told u before a os h.1
 
 -- the group in which it begins, beside the one before: at most one more entry was made, in a view of its primary's, and of the effects that
 -- are carried out the first begins to write it
-record Begun (u : Setup) (s : Group Header) (at : ℕ) (es : List Effect) (b : Group Header) : Type 0 where
-  sent : b.sent ≡ s.sent
-  chosen : b.chosen ≡ s.chosen
-  members : (j : ℕ) → b.members j ≡ s.members j
-  kept : (x : Made Header) → In x s.made → In x b.made
-  made : (x : Made Header) → In x b.made → In x s.made ⊎ ((at ≡ x.view % u.quorums.n) × In x.entry (made_in es))
+pub record Begun (u : Setup) (s : Group Header) (at : ℕ) (es : List Effect) (b : Group Header) : Type 0 where
+  pub sent : b.sent ≡ s.sent
+  pub chosen : b.chosen ≡ s.chosen
+  pub members : (j : ℕ) → b.members j ≡ s.members j
+  pub kept : (x : Made Header) → In x s.made → In x b.made
+  pub made : (x : Made Header) → In x b.made → In x s.made ⊎ ((at ≡ x.view % u.quorums.n) × In x.entry (made_in es))
 
 begun_same : (u : Setup) (s : Group Header) (at : ℕ) (es : List Effect) → Begun u s at es s
 begun_same u s at es = record { sent = refl; chosen = refl; members = λ j. refl; kept = λ x h. h; made = λ x h. inl h }
@@ -100,7 +100,7 @@ first_made : (again : Bool) (e : Whole) (later : List Effect) (x : Header) → x
 unfolding made_in
 first_made again e later x same = inl same
 
-begun_of : (u : Setup) (s : Group Header) (at : ℕ) (es : List Effect) (b : Group Header) → Begins u s at es b → Begun u s at es b
+pub begun_of : (u : Setup) (s : Group Header) (at : ℕ) (es : List Effect) (b : Group Header) → Begins u s at es b → Begun u s at es b
 begun_of u s at es _ as_it_was = begun_same u s at es
 begun_of u s at es _ (one_made again e later is first new) = record {
   sent = refl;
@@ -250,12 +250,13 @@ cut_so u b at k es l cuts end =
           record { left = carried es l; stopped = end; member = y.member ∙ sym n.0; made = y.made ∙ ap (λ (ys : List Effect). l.made ++ made_in ys) (sym n.1) }
     ]
 
-module _ (u : Setup) (fits : Fits u) (hash : u.hash ≡ lying.hash) (g : group.Group) (s : Group Header) (fit : IsFitGroup u.cluster g) (bridge : Bridges u g s) where
-  abbrev local : group.Member → Local
-  local m = record { member = m; made = []; said = [] }
+-- a member at the beginning of a step
+abbrev pub local : group.Member → Local
+local m = record { member = m; made = []; said = [] }
 
+module _ (u : Setup) (fits : Fits u) (hash : u.hash ≡ lying.hash) (g : group.Group) (s : Group Header) (fit : IsFitGroup u.cluster g) (bridge : Bridges u g s) where
   -- a running member in the machine
-  mid_of : (at : ℕ) (m : group.Member) (r : Replica) → slice_get g.members at ≡ Some m → m.replica ≡ Some r → Mid u s at r (local m) s
+  pub mid_of : (at : ℕ) (m : group.Member) (r : Replica) → slice_get g.members at ≡ Some m → m.replica ≡ Some r → Mid u s at r (local m) s
   mid_of at m r there runs =
       let x = bridge.members at m there in
       let y = x.running r runs in
@@ -285,7 +286,7 @@ module _ (u : Setup) (fits : Fits u) (hash : u.hash ≡ lying.hash) (g : group.G
       let rs : Some r ≡ Some r2 = sym runs ∙ (ap (λ (z : group.Member). z.replica) one ∙ other.running) in
       cc
 
-  chain_of : (at : ℕ) (a : Arrival) (e : Event) (d : Lying) (m : group.Member) (r : Replica) → slice_get g.members at ≡ Some m → m.replica ≡ Some r → IsFitArrival a → IsArrival g at a e → ChainChooses u s at (local m) e r (stepped e r d)
+  pub chain_of : (at : ℕ) (a : Arrival) (e : Event) (d : Lying) (m : group.Member) (r : Replica) → slice_get g.members at ≡ Some m → m.replica ≡ Some r → IsFitArrival a → IsArrival g at a e → ChainChooses u s at (local m) e r (stepped e r d)
   chain_of at a e d m r there runs h i =
       let f = (fit.members at m there).running r runs in
       chain_react u fits s at lying r d (local m) (mid_of at m r there runs) ((bridge.members at m there).running r runs).tables (sym hash) f.1.cluster disks_fit.names f.0.savable.top tt e (arrives at a e h i)

@@ -1,5 +1,5 @@
 -- Words that may say a choose line: what they choose is among the choices of the machine at their end.
-use Rattle.std.proofs.Common.{ℕ, ◌≡◌, ◌∙◌, refl, sym, ap, subst, Bool, true, false, cond, List, [], ◌∷◌, ◌++◌, Option, None, Some}
+use Rattle.std.proofs.Common.{ℕ, ◌≡◌, ◌∙◌, refl, ap, Bool, true, false, cond, List, [], ◌∷◌, ◌++◌}
 use Rattle.std.specs.Prelude.{All}
 use Rattle.std.proofs.lemmas.List.Elements.{All-append, All-weaker}
 use Rattle.vr_header.specs.declared.header.Header.{Header}
@@ -54,19 +54,16 @@ module _ (u : Setup) (start : Group Header) (i : ℕ) (cs : List (Choice Header)
   under_back : (l : Local) (s : Group Header) → Under u (with_chosen cs start) i l s → Under u start i l s
   under_back l s x = record { reached = x.reached; sent = x.sent; chosen = λ c h. x.chosen c (more c h); others = x.others; disk = x.disk; made = x.made; none_made = x.none_made }
 
-  mid_back : (r : Replica) (l : Local) (s : Group Header) → Mid u (with_chosen cs start) i r l s → Mid u start i r l s
+  pub mid_back : (r : Replica) (l : Local) (s : Group Header) → Mid u (with_chosen cs start) i r l s → Mid u start i r l s
   mid_back r l s x =
       record { under = under_back l s x.under; memory = x.memory; running = x.running; reflects = x.reflects; sound = x.sound; place = x.place; size = x.size; stored = x.stored; ready = x.ready }
 
   stopped_back : (l : Local) → Stopped u (with_chosen cs start) i l → Stopped u start i l
   stopped_back l x = record { group = x.group; under = under_back l x.group x.under; still = x.still }
 
-  cuts_back : (es : List Effect) (l : Local) → WhereverCut (Stopped u (with_chosen cs start) i) es l → WhereverCut (Stopped u start i) es l
+  pub cuts_back : (es : List Effect) (l : Local) → WhereverCut (Stopped u (with_chosen cs start) i) es l → WhereverCut (Stopped u start i) es l
   cuts_back [] l h = tt
   cuts_back (e ∷ es) l h = (stopped_back (begun e l) h.0, cuts_back es (through e l) h.1)
-
-  pub goes_back : (l : Local) (x : Step) → Goes u (with_chosen cs start) i l x → Goes u start i l x
-  goes_back l x h = record { after = h.after; ends = mid_back x.replica (carried x.script l) h.after h.ends; cuts = cuts_back x.script l h.cuts }
 
   finished_back : (r : Replica) (l : Local) (s : Group Header) → Finished u (with_chosen cs start) i r l s → Finished u start i r l s
   finished_back r l s x = record {
@@ -158,7 +155,7 @@ then_so u start i v w t r f l C h k =
 
 module _ (u : Setup) (start : Group Header) (i : ℕ) (e : Event) (o : Replica) where
   -- a chain, and its choices
-  pub record Chooses (l : Local) (x : Step) : Type 0 where
+  pub record GoesAndChooses (l : Local) (x : Step) : Type 0 where
     pub goes : Goes u start i l x
     pub made : AreMade goes.after.chosen e o x.script
 
@@ -167,33 +164,33 @@ module _ (u : Setup) (start : Group Header) (i : ℕ) (e : Event) (o : Replica) 
     pub finishes : Finishes u start i l x
     pub made : AreMade finishes.after.chosen e o x.script
 
-  pub chooses_none : {F : Type 0} (w : Word F) → Mute w → (t : Setting F) (r : Replica) (f : F) (l : Local) → Goes u start i l (w t r f) → Chooses l (w t r f)
+  pub chooses_none : {F : Type 0} (w : Word F) → Mute w → (t : Setting F) (r : Replica) (f : F) (l : Local) → Goes u start i l (w t r f) → GoesAndChooses l (w t r f)
   chooses_none w m t r f l h = record { goes = h; made = are_none h.after.chosen e o w m t r f }
 
-  pub chooses_by : {F : Type 0} (w : Replica → Word F) (t : Setting F) (r : Replica) (f : F) (l : Local) → Chooses l (w r t r f) → Chooses l (by w t r f)
+  pub chooses_by : {F : Type 0} (w : Replica → Word F) (t : Setting F) (r : Replica) (f : F) (l : Local) → GoesAndChooses l (w r t r f) → GoesAndChooses l (by w t r f)
   unfolding by
   chooses_by w t r f l h = record { goes = record { after = h.goes.after; ends = h.goes.ends; cuts = h.goes.cuts }; made = h.made }
 
-  pub chooses_naming : {F : Type 0} (w : (List ℕ → List ℕ) → Word F) (t : Setting F) (r : Replica) (f : F) (l : Local) → Chooses l (w t.hash t r f) → Chooses l (naming w t r f)
+  pub chooses_naming : {F : Type 0} (w : (List ℕ → List ℕ) → Word F) (t : Setting F) (r : Replica) (f : F) (l : Local) → GoesAndChooses l (w t.hash t r f) → GoesAndChooses l (naming w t r f)
   unfolding naming
   chooses_naming w t r f l h = record { goes = record { after = h.goes.after; ends = h.goes.ends; cuts = h.goes.cuts }; made = h.made }
 
-  pub chooses_if : {F : Type 0} (b : Bool) (v w : Word F) (t : Setting F) (r : Replica) (f : F) (l : Local) → (b ≡ true → Chooses l (v t r f)) → (b ≡ false → Chooses l (w t r f)) → Chooses l (cond b v w t r f)
+  pub chooses_if : {F : Type 0} (b : Bool) (v w : Word F) (t : Setting F) (r : Replica) (f : F) (l : Local) → (b ≡ true → GoesAndChooses l (v t r f)) → (b ≡ false → GoesAndChooses l (w t r f)) → GoesAndChooses l (cond b v w t r f)
   chooses_if true v w t r f l h k = h refl
   chooses_if false v w t r f l h k = k refl
 
-  pub chooses_changed : {F : Type 0} (g : Replica → Replica) (w : Word F) (t : Setting F) (r : Replica) (f : F) (l : Local) → ((d : F) → Chooses l (w t (g r) d)) → Chooses l ((change g ⨾ w) t r f)
+  pub chooses_changed : {F : Type 0} (g : Replica → Replica) (w : Word F) (t : Setting F) (r : Replica) (f : F) (l : Local) → ((d : F) → GoesAndChooses l (w t (g r) d)) → GoesAndChooses l ((change g ⨾ w) t r f)
   unfolding change ◌⨾◌
   chooses_changed g w t r f l go = let h = go (after_all t f []) in record { goes = record { after = h.goes.after; ends = h.goes.ends; cuts = h.goes.cuts }; made = h.made }
 
-  pub chooses_quiet_then : {F : Type 0} (w : Word F) (t : Setting F) (r : Replica) (f : F) (l : Local) → ((d : F) → Chooses l (w t r d)) → Chooses l ((quiet ⨾ w) t r f)
+  pub chooses_quiet_then : {F : Type 0} (w : Word F) (t : Setting F) (r : Replica) (f : F) (l : Local) → ((d : F) → GoesAndChooses l (w t r d)) → GoesAndChooses l ((quiet ⨾ w) t r f)
   unfolding quiet ◌⨾◌
   chooses_quiet_then w t r f l go = let h = go (after_all t f []) in record { goes = record { after = h.goes.after; ends = h.goes.ends; cuts = h.goes.cuts }; made = h.made }
 
   -- a chain without a choice, and then one that may choose
   pub then_chooses : {F : Type 0} (v w : Word F) → Mute v → (t : Setting F) (r : Replica) (f : F) (l : Local) → Goes u start i l (v t r f)
-      → ((a : Group Header) → Mid u start i (v t r f).replica (carried (v t r f).script l) a → Chooses (carried (v t r f).script l) (w t (v t r f).replica (after_all t f (v t r f).script)))
-      → Chooses l ((v ⨾ w) t r f)
+      → ((a : Group Header) → Mid u start i (v t r f).replica (carried (v t r f).script l) a → GoesAndChooses (carried (v t r f).script l) (w t (v t r f).replica (after_all t f (v t r f).script)))
+      → GoesAndChooses l ((v ⨾ w) t r f)
   unfolding ◌⨾◌
   then_chooses v w m t r f l h k =
       let a = v t r f in
@@ -205,10 +202,10 @@ module _ (u : Setup) (start : Group Header) (i : ℕ) (e : Event) (o : Replica) 
       }
 
   -- one that may choose, and then one without a choice
-  pub chooses_then : {F : Type 0} (v w : Word F) → Mute w → (t : Setting F) (r : Replica) (f : F) (l : Local) (h : Chooses l (v t r f))
+  pub chooses_then : {F : Type 0} (v w : Word F) → Mute w → (t : Setting F) (r : Replica) (f : F) (l : Local) (h : GoesAndChooses l (v t r f))
       → (Mid u (with_chosen h.goes.after.chosen start) i (v t r f).replica (carried (v t r f).script l) h.goes.after
       → Goes u (with_chosen h.goes.after.chosen start) i (carried (v t r f).script l) (w t (v t r f).replica (after_all t f (v t r f).script)))
-      → Chooses l ((v ⨾ w) t r f)
+      → GoesAndChooses l ((v ⨾ w) t r f)
   unfolding ◌⨾◌
   chooses_then v w m t r f l h k =
       let a = v t r f in
@@ -216,7 +213,6 @@ module _ (u : Setup) (start : Group Header) (i : ℕ) (e : Event) (o : Replica) 
       let b = w t a.replica d in
       let cs = h.goes.after.chosen in
       let y = k (mid_from u start i a.replica (carried a.script l) h.goes.after h.goes.ends) in
-      let g = goes_back u start i cs h.goes.ends.under.chosen (carried a.script l) b y in
       let kept : (c : Choice Header) → In c cs → In c y.after.chosen = y.ends.under.chosen in
       record {
         goes = record { after = y.after; ends = rw (carried_append a.script b.script l) (mid_back u start i cs h.goes.ends.under.chosen b.replica (carried b.script (carried a.script l)) y.after y.ends); cuts = cut_append (Stopped u start i) a.script b.script l h.goes.cuts (cuts_back u start i cs h.goes.ends.under.chosen b.script (carried a.script l) y.cuts) };
@@ -225,7 +221,7 @@ module _ (u : Setup) (start : Group Header) (i : ℕ) (e : Event) (o : Replica) 
 
   -- ---- the end of a step
 
-  pub concludes_goes : (l : Local) (x : Step) → Chooses l x → Concludes l x
+  pub concludes_goes : (l : Local) (x : Step) → GoesAndChooses l x → Concludes l x
   concludes_goes l x h =
       let g = h.goes in
       let cs = g.after.chosen in

@@ -1,10 +1,10 @@
 -- Choose lines of words, and what the replica at which a log is chosen has heard.
-use Rattle.std.proofs.Common.{ℕ, replicate, ◌<◌, ◌≡◌, ◌∙◌, inl, inr, refl, sym, ap, subst, arith, Bool, true, false, cond, eqb, get_or, set, length, List, [], Option, Some, None}
+use Rattle.std.proofs.Common.{ℕ, replicate, ◌+◌, ◌<◌, ◌≡◌, ◌∙◌, inl, inr, refl, sym, ap, subst, arith, Bool, true, false, cond, eqb, get_or, set, length, List, [], ◌∷◌, Option, Some, None}
 use Rattle.std.specs.Prelude.{All, ⊤, nat_le, not, ◌&&◌}
 use Rattle.std.specs.List.{filter_map, range_with_len}
 use Rattle.std.proofs.lemmas.Bool.{cases_eq, cases_lt, eq-eqb, ne_eqb}
 use Rattle.std.proofs.lemmas.List.{get_or-set_same, get_or-set_other, get_or_past, get_or-replicate, length-replicate}
-use Rattle.std.proofs.lemmas.List.Elements.{All-nil, All-cons, All-append, All-weaker}
+use Rattle.std.proofs.lemmas.List.Elements.{All-nil, All-cons, All-append}
 use Rattle.vr_base.specs.Replicas.{size}
 use Rattle.vr_msg.specs.declared.output.Chosen.{Chosen}
 use Rattle.vr_msg.specs.Choice.{top_commit, top_view}
@@ -35,6 +35,10 @@ use Rattle.vr_rules.specs.Rules as rules
 abbrev pub line_of : Replica → List Header → Chosen
 line_of r hs =
     record { replica = r.index; view = r.view; log_view = top_view (stated r); commit = top_commit (stated r); head = log_end (top_commit (stated r)) hs; own = trimmed (parts_from r (r.commit + 1)) }
+
+-- a statement that is sent is no line
+pub says_statement : {F : Type 0} → Mute {F = F} (says (told.to_primary told.do_view_change))
+says_statement = mute_one _ (λ r. tt)
 
 module _ (P : Chosen → Type 0) where
   abbrev pub IsPicked : Output → Type 0
@@ -99,9 +103,6 @@ module _ (P : Chosen → Type 0) where
     pub try_at : (s : Setting F) (r : Replica) (f : F) → MayPick r → PicksAt s r f words.try
     unfolding words.try by
     try_at s r f may = at_if (is_primary r && not (is_started r)) (words.obey_choice (stated r) (decided r)) quiet s r f (λ t. choice_at (decided r) s r f refl may) (λ t. plain mute_quiet s r f)
-
-    pub says_statement : Mute {F = F} (says (told.to_primary told.do_view_change))
-    says_statement = mute_one _ (λ r. tt)
 
     pub speak_at : (s : Setting F) (r : Replica) (f : F) → MayPick r → PicksAt s r f words.speak
     unfolding words.speak by
