@@ -5,3 +5,5 @@ pub mod Walk
 pub mod Words
 pub mod Reacting
 pub mod Opening
+pub mod Members
+pub mod Serving

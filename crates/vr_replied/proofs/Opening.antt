@@ -1,6 +1,6 @@
 -- An opening keeps a value's checkpoint the log's, and loads it.
 use Rattle.std.proofs.Common.{ℕ, ◌+◌, ◌<◌, ◌≡◌, ◌≢◌, ◌∙◌, arith, refl, sym, ap, subst, Bool, true, false, cond, List, [], ◌∷◌, ◌++◌, Option, Some, None}
-use Rattle.std.specs.Prelude.{nat_lt}
+use Rattle.std.specs.Prelude.{is_some, nat_lt}
 use Rattle.vr_header.specs.declared.header.Header.{Header}
 use Rattle.vr_header.specs.Made.{Whole}
 use Rattle.vr_header.specs.NoCollision.{NoCollision}
@@ -9,21 +9,25 @@ use Rattle.vr_apply.specs.declared.state.State.{State}
 use Rattle.vr_msg.specs.declared.output.Output.{Output}
 use Rattle.vr_msg.specs.declared.output.Output.TheVariants as output
 use Rattle.vr_super.specs.Copies.{SuperValue}
+use Rattle.vr_grid.specs.Blocks.{named}
+use Rattle.vr_grid.specs.declared.name.Name.{Name}
 use Rattle.vr_recover.specs.declared.readings.Verdict.{Verdict}
 use Rattle.vr_recover.specs.declared.readings.Verdict.TheVariants as verdict
+use Rattle.vr_rules.specs.Group.{mended}
 use Rattle.vr_rules.specs.Lying.{Lying, lying}
 use Rattle.vr_rules.specs.Opening.{Slot, announce, blank, clouded, entry_header, going_on, heard_itself, in_next_view, leave_view, mend_slot, mending, old_headers, old_part, part_by, recover_old, recover_op, recover_parts, resuming, rewrite, slot_at, slot_verdict}
 use Rattle.vr_rules.specs.Outputs.{send_to_all, start_line, start_view_change}
 use Rattle.vr_rules.specs.Replica.{Replica, forgetting, is_spent, is_started, last_view, leads, with_part}
-use Rattle.vr_rules.specs.Steps.{Effect, Write, Rewrite, Save, Mend, Checkpoint, PutBlock, Say, Step, Word, ◌⨾◌, quiet, change, does, says, by, reading, when, each, output_of}
-use Rattle.vr_rules.specs.Words.{apply, checkpoint_at, entry_of, load, loads, save}
+use Rattle.vr_rules.specs.Steps.{Effect, Write, Rewrite, Save, Mend, Checkpoint, PutBlock, Say, Setting, Word, ◌⨾◌, quiet, change, does, says, by, reading, when, each, after_all, output_of}
+use Rattle.vr_rules.specs.Rules.{put_block, without}
+use Rattle.vr_rules.specs.Words.{apply, checkpoint_at, entry_of, is_loaded, load, loads, save}
 use Rattle.vr_safe.specs.Chains.{Every}
 use Rattle.vr_agree.specs.Answering.{lines}
 use Rattle.vr_replied.proofs.Blocks.{IsTable, ReadsHashed}
-use Rattle.vr_replied.proofs.Disks.{IsBeside, beside_hashed}
+use Rattle.vr_replied.proofs.Disks.{Begun, IsBeside, beside_hashed}
 use Rattle.vr_replied.proofs.Values.{Core, IsRooted, Rests, Stands, core, state_at}
 use Rattle.vr_replied.proofs.Walk.{AllMay, IsCalm, IsOther, May, MaySay, Steady, Walks, Well, WellAt, then_at, walks_by, walks_change, walks_does, walks_each, walks_if, walks_quiet, walks_reading, walks_save, walks_says, walks_then, walks_when}
-use Rattle.vr_replied.proofs.Words.{Keeps, S, all_others, go_all, go_apply, go_by, go_change, go_then, go_when, load_at}
+use Rattle.vr_replied.proofs.Words.{Keeps, S, all_others, go_all, go_apply, go_by, go_change, go_then, go_when, load_at, put_at}
 
 -- before its checkpoint is loaded
 pub record Waits (H : List ℕ → Type 0) (log : List Whole) (k : Core) (d : Lying) : Type 0 where
@@ -55,6 +59,66 @@ blank_waits H log v d rooted reads = record {
   blank = refl;
   reads = reads;
 }
+
+-- ---- what is mended writes no block, and says nothing
+
+calm_both : (xs ys : List Effect) → Every IsCalm xs → Every IsCalm ys → Every IsCalm (xs ++ ys)
+calm_both [] ys a b = b
+calm_both (x ∷ xs) ys a b = (a.0, calm_both xs ys a.1 b)
+
+record Calmly (w : Word Lying) : Type 0 where
+  every : (r : Replica) (d : Lying) → Every IsCalm (w lying r d).script
+
+c_then : (v w : Word Lying) → Calmly v → Calmly w → Calmly (v ⨾ w)
+unfolding ◌⨾◌
+c_then v w h k = record { every = λ r d. calm_both (v lying r d).script _ (h.every r d) (k.every (v lying r d).replica (after_all lying d (v lying r d).script)) }
+
+c_quiet : Calmly quiet
+unfolding quiet
+c_quiet = record { every = λ r d. tt }
+
+c_change : (g : Replica → Replica) → Calmly (change g)
+unfolding change
+c_change g = record { every = λ r d. tt }
+
+c_does : (e : Replica → Effect) → ((r : Replica) → IsCalm (e r)) → Calmly (does e)
+unfolding does
+c_does e h = record { every = λ r d. (h r, tt) }
+
+c_reading : {X : Type 0} (g : Setting Lying → Lying → X) (w : X → Word Lying) → ((x : X) → Calmly (w x)) → Calmly (reading g w)
+unfolding reading
+c_reading g w h = record { every = λ r d. (h (g lying d)).every r d }
+
+c_each : {X : Type 0} (w : X → Word Lying) (xs : List X) → ((x : X) → Calmly (w x)) → Calmly (each w xs)
+unfolding each
+c_each w [] h = c_quiet
+c_each w (x ∷ xs) h = c_then (w x) (each w xs) (h x) (c_each w xs h)
+
+c_rewrite : (o : Option Header) → Calmly (rewrite o)
+c_rewrite None = c_quiet
+c_rewrite (Some h) = c_does (λ r. Rewrite h) (λ r. tt)
+
+c_mend : (x : Slot) (t : Verdict) → Calmly (mend_slot x t)
+c_mend x verdict.Rewrite = c_rewrite (entry_header x)
+c_mend x _ = c_quiet
+
+c_old : (h : Header) → Calmly (recover_old h)
+unfolding recover_old
+c_old h = c_reading (entry_of h) _ (λ e. c_change (with_part h.op (old_part h e)))
+
+c_op : (v : SuperValue) (k : ℕ) → Calmly (recover_op v k)
+unfolding recover_op
+c_op v k = c_reading (slot_at k) _ (λ x. c_then (mend_slot x (slot_verdict v k x)) _ (c_mend x (slot_verdict v k x)) (c_change (with_part k (part_by v k x (slot_verdict v k x)))))
+
+mends_calmly : (v : SuperValue) → Calmly (mending v)
+unfolding recover_parts
+mends_calmly v =
+    c_then (does (λ r. Mend v)) _ (c_does (λ r. Mend v) (λ r. tt))
+    (c_then (each recover_old (old_headers v)) _ (c_each recover_old (old_headers v) c_old)
+    (c_then (each (recover_op v) _) _ (c_each (recover_op v) _ (c_op v)) (c_then (change (clouded v)) (change forgetting) (c_change (clouded v)) (c_change forgetting))))
+
+pub mending_calm : (v : SuperValue) (d : Lying) → Every IsCalm (mended v d).script
+mending_calm v d = (mends_calmly v).every (blank v) d
 
 module _ (H : List ℕ → Type 0) (never : NoCollision H) (log : List Whole) where
   abbrev pub L : Core → Lying → Type 0
@@ -165,15 +229,11 @@ module _ (H : List ℕ → Type 0) (never : NoCollision H) (log : List Whole) wh
   all_calm i m d [] c = tt
   all_calm i m d (e ∷ es) c = (calm_may m d e c.0, all_calm i (m + lines i (output_of e)) (lying.after d e) es c.1)
 
-  calm_both : (xs ys : List Effect) → Every IsCalm xs → Every IsCalm ys → Every IsCalm (xs ++ ys)
-  calm_both [] ys a b = b
-  calm_both (x ∷ xs) ys a b = (a.0, calm_both xs ys a.1 b)
-
   leave_calm : (r : Replica) (d : Lying) → Every IsCalm (leave_view lying r d).script
   unfolding by quiet change save does ◌⨾◌
   leave_calm r d = elim (leads r) as (λ b. Every IsCalm ((when b (change in_next_view ⨾ save)) lying r d).script) [ true ↦ (tt, tt) | false ↦ tt ]
 
-  load_calm : (r : Replica) (d : Lying) → Every IsCalm (load lying r d).script
+  pub load_calm : (r : Replica) (d : Lying) → Every IsCalm (load lying r d).script
   unfolding load by reading change quiet
   load_calm r d = elim (nat_lt 0 r.checkpoint) as (λ b. Every IsCalm ((when b (reading (checkpoint_at r.root) (λ l. change (loads r.root l)))) lying r d).script) [ true ↦ tt | false ↦ tt ]
 
@@ -184,3 +244,19 @@ module _ (H : List ℕ → Type 0) (never : NoCollision H) (log : List Whole) wh
   -- the checkpoint of a value that is opened, once it is loaded
   pub loads_value : (r : Replica) (d : Lying) → L (core r) d → Stands H log (core ((leave_view ⨾ says start_line ⨾ load) lying r d).replica)
   loads_value r d p = ((loaded_at r d p).left (all_calm r.index r.applied d _ (loads_calmly r d))).holds
+
+  when_calm : (b : Bool) (r : Replica) (d : Lying) → Every IsCalm (when b load lying r d).script
+  unfolding quiet
+  when_calm true r d = load_calm r d
+  when_calm false r d = tt
+
+  puts_may : (name : Name) (block : List ℕ) (r : Replica) (d : Lying) → Begun H (PutBlock name block) → AllMay H log r.index r.applied d (put_block name block lying r d).script
+  unfolding put_block does change by ◌⨾◌ after_all AllMay
+  puts_may name block r d begun =
+      let e : Lying = lying.after d (PutBlock name block) in
+      (begun, all_calm r.index _ e (when (is_loaded (without name r)) load lying (without name r) e).script (when_calm (is_loaded (without name r)) (without name r) e))
+
+  -- a missing block is put, and a checkpoint is loaded where it was the last one
+  pub puts_state : (name : Name) (block : List ℕ) (r : Replica) (d : Lying) → is_some (named name block) ≡ true → r.missing ≢ [] → r.applied ≡ r.checkpoint → ReadsHashed H d.face → Stands H log (core r) → Begun H (PutBlock name block)
+      → Stands H log (core (put_block name block lying r d).replica)
+  puts_state name block r d whole some same reads h begun = ((put_at H never log name block r d whole some same reads h).left (puts_may name block r d begun)).holds

@@ -1,6 +1,7 @@
 -- The rules keep a replica's checkpoint and state the log's.
 use Rattle.std.proofs.Common.{ℕ, ◌≡◌, ◌≢◌, ◌∙◌, refl, sym, subst, Bool, true, false, cond, List, [], ◌∷◌, Option, Some, None}
-use Rattle.std.specs.Prelude.{find, is_some, not, ◌==◌}
+use Rattle.std.specs.Prelude.{find, is_some, not, ◌==◌, ◌||◌}
+use Rattle.std.specs.List.{list_any}
 use Rattle.std.specs.Option.{option_map_or}
 use Rattle.std.proofs.lemmas.Bool.{and_parts}
 use Rattle.vr_header.specs.declared.header.Header.{Header}
@@ -29,11 +30,12 @@ use Rattle.vr_sess.specs.declared.session.SessionAnswer.TheVariants as answer
 use Rattle.vr_rules.specs.declared.asker.Asker.{Asker}
 use Rattle.vr_rules.specs.declared.rule.Rule.{Rule}
 use Rattle.vr_rules.specs.declared.rule.Rule.TheVariants.{Redirected, Behind, Answered, Full, Made, PreparedLater, Past, Beyond, Known, Next, Ahead, Other, Counted, CommitLater, CommitHeard, ChangeLater, ChangeHeard, ChangeDone, StatedLate, Stated, Taken, ViewGiven, EntryGiven, EntryTaken, BlockGiven, BlockTaken, TickedPrimary, TickedBackup, TickedChanging}
-use Rattle.vr_rules.specs.Deciding.{Hash, first_of, give_block_table, is_wanted, session_answer}
+use Rattle.vr_rules.specs.Deciding.{Hash, first_of, give_block_table, is_from, is_wanted, session_answer}
+use Rattle.vr_rules.specs.Group.{stepped}
 use Rattle.vr_rules.specs.Lying.{Lying, lying}
 use Rattle.vr_rules.specs.Replica.{Replica, header_at, is_frozen}
 use Rattle.vr_rules.specs.Rules as rules
-use Rattle.vr_rules.specs.Steps.{Step, Word, ◌⨾◌, quiet, change, by, reading, when}
+use Rattle.vr_rules.specs.Steps.{Effect, PutBlock, Word, ◌⨾◌, quiet, change, does, by, reading, when}
 use Rattle.vr_rules.specs.Words.{apply, rested, speak}
 use Rattle.vr_replied.proofs.Blocks.{ReadsHashed}
 use Rattle.vr_replied.proofs.Values.{Stands, core}
@@ -41,13 +43,26 @@ use Rattle.vr_replied.proofs.Walk.{WellAt, then_at}
 use Rattle.vr_replied.proofs.Words.{Keeps, S, go_accept, go_advance, go_again, go_all, go_apply, go_ask, go_by, go_change, go_each, go_enter, go_entry, go_if, go_learn, go_naming, go_quiet, go_reading, go_resend, go_says, go_speak, go_take, go_then, go_try, go_when, go_write, put_at}
 
 -- a block that is found wanted is one of those that are missing
-found_wanted : (p : Name → Bool) (names : List Name) (name : Name) → find p names ≡ Some name → (p name ≡ true) × (names ≢ [])
+pub found_wanted : (p : Name → Bool) (names : List Name) (name : Name) → find p names ≡ Some name → (p name ≡ true) × (names ≢ [])
 found_wanted p [] name e = absurd cc
 found_wanted p (x ∷ names) name e =
     elim (p x) as (λ b. p x ≡ b → cond b (Some x) (find p names) ≡ Some name → (p name ≡ true) × (x ∷ names ≢ [])) [
       | true ↦ λ t e. (let same : x ≡ name = cc in subst (λ y. p y ≡ true) same t, λ none. absurd cc)
       | false ↦ λ t e. ((found_wanted p names name e).0, λ none. absurd cc)
     ] refl e
+
+found_any : (p : Name → Bool) (names : List Name) (name : Name) → find p names ≡ Some name → list_any p names ≡ true
+found_any p [] name e = absurd cc
+found_any p (x ∷ names) name e =
+    elim (p x) as (λ b. cond b (Some x) (find p names) ≡ Some name → (b || list_any p names) ≡ true) [ true ↦ λ e. refl | false ↦ λ e. found_any p names name e ] e
+
+-- a missing block that is given by another replica of the group is put first
+pub puts_first : (g : GiveBlock) (name : Name) (r : Replica) (d : Lying) → is_frozen r ≡ false → is_from g.cluster g.replica r ≡ true → find (is_wanted lying.is_block g) r.missing ≡ Some name
+    → (later : List Effect) × ((stepped (event.Deliver (frame.GiveBlock g)) r d).script ≡ PutBlock name g.block ∷ later)
+unfolding rules.react rules.on_give_block rules.put_block first_of by reading does change ◌⨾◌
+puts_first g name r d free from found =
+    let any : list_any (is_wanted lying.is_block g) r.missing ≡ true = found_any (is_wanted lying.is_block g) r.missing name found in
+    rw (free, from, any, found) (_, refl)
 
 module _ (H : List ℕ → Type 0) (never : NoCollision H) (log : List Whole) where
   keeps_rested : Keeps H never log (change rested)
