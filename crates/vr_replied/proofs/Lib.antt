@@ -7,3 +7,6 @@ pub mod Reacting
 pub mod Opening
 pub mod Members
 pub mod Serving
+pub mod Lines
+pub mod Runs
+pub mod Replying
