@@ -325,7 +325,7 @@ module _ (u : Setup) (fits : Fits u) (hash : u.hash ≡ lying.hash) (g : group.G
   value_of at m v h (inl e) = subst (IsFitValue u.cluster g.n at) e h.last
   value_of at m v h (inr e) = h.under v e
 
-  may_begin : (at : ℕ) (m : group.Member) (v : SuperValue) (d : Lying) → Opens g at m v d → ReadsWell lying d → MayBegin u s at (local m) g.made v lying d
+  pub may_begin : (at : ℕ) (m : group.Member) (v : SuperValue) (d : Lying) → Opens g at m v d → ReadsWell lying d → MayBegin u s at (local m) g.made v lying d
   may_begin at m v d o reads =
       let x = bridge.members at m o.member in
       let f = value_of at m v (fit.members at m o.member) o.value in
