@@ -38,7 +38,7 @@ behind_none : (a : Option (List ℕ)) → behind a None ≡ None
 behind_none None = refl
 behind_none (Some x) = refl
 
-together_past : (n i : ℕ) (f : Face) → length f.cells ≤ i + n → together i (suc n) f ≡ None
+pub together_past : (n i : ℕ) (f : Face) → length f.cells ≤ i + n → together i (suc n) f ≡ None
 unfolding together
 together_past zero i f l = ap (λ o. behind o (Some [])) (reads_past f i (omega arith))
 together_past (suc n) i f l = ap (behind (reads f i)) (together_past n (i + 1) f (omega arith)) ∙ behind_none (reads f i)
