@@ -28,7 +28,7 @@ use Rattle.vr_safe.specs.Choices.{IsMadeFrom}
 use Rattle.vr_safe.specs.Finished.{Finished, IsSaid, IsTrue}
 use Rattle.vr_safe.specs.Local.{Local}
 use Rattle.vr_safe.specs.Reflecting.{entries_by}
-use Rattle.vr_rules.specs.Safe.{IsHashed, actor, all_heard, event_of, heard_from}
+use Rattle.vr_rules.specs.Safe.{IsHashed, actor, all_heard, event_of}
 use Rattle.vr_agree.specs.Followed.{IsCarried, IsChoiceLine, IsFrom, IsSo}
 use Rattle.vr_agree.specs.Replied.{IsServed}
 use Rattle.vr_agree.proofs.Machine.{number_is}

@@ -1,6 +1,6 @@
 -- A choose line is of a choice from what was heard, in which a nack quorum denies the next op; and none of those ever vouches for
 -- anything there.
-use Rattle.std.proofs.Common.{ℕ, suc, ◌+◌, ◌<◌, ◌≡◌, ◌∙◌, arith, refl, sym, ap, subst, Bool, true, false, cond, List, length, Option, Some, None, rules}
+use Rattle.std.proofs.Common.{ℕ, suc, ◌+◌, ◌<◌, ◌≡◌, ◌∙◌, arith, refl, sym, ap, subst, Bool, true, false, cond, List, length, Option, Some, None}
 use Rattle.std.specs.Prelude.{slice_get, ◌==◌, not}
 use Rattle.std.specs.Option.{option_map_or}
 use Rattle.std.proofs.lemmas.Bool.{ne_eqb, true≢false}
@@ -24,7 +24,6 @@ use Rattle.vr_rules.proofs.Trying.{log_end_is}
 use Rattle.vr_protocol.specs.Choosing.{Denies, plainly, other, silent}
 use Rattle.vr_protocol.specs.Group.{Group, Vouches}
 use Rattle.vr_protocol.specs.Laws.{CutByNacks}
-use Rattle.vr_protocol.specs.Members as machine
 use Rattle.vr_protocol.specs.Parts.{header, denied}
 use Rattle.vr_protocol.proofs.Laws.{cut_by_nacks}
 use Rattle.vr_safe.specs.Chains.{Setup, statement_told}

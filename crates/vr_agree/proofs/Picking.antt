@@ -1,6 +1,6 @@
 -- A choose line of a step is of the choice of the rules from what its replica has heard.
-use Rattle.std.proofs.Common.{ℕ, ◌+◌, ◌<◌, ◌≡◌, ◌∙◌, inl, inr, refl, sym, ap, subst, arith, Bool, true, false, cond, eqb, get_or, List, [], ◌∷◌, Option, Some, None}
-use Rattle.std.specs.Prelude.{All, ⊤, nat_lt, nat_le, not, ◌&&◌, ◌==◌, Contains}
+use Rattle.std.proofs.Common.{ℕ, ◌+◌, ◌<◌, ◌≡◌, ◌∙◌, refl, sym, ap, subst, arith, Bool, true, false, cond, eqb, get_or, List, [], ◌∷◌, Option, Some, None}
+use Rattle.std.specs.Prelude.{All, nat_lt, nat_le, not, ◌&&◌, ◌==◌, Contains}
 use Rattle.std.specs.List.{cons_option, filter_map, range_with_len}
 use Rattle.std.specs.Option.{option_map_or}
 use Rattle.std.proofs.lemmas.Bool.{and_parts, eqb-true, ltb-true, not-false}

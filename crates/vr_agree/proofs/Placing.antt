@@ -1,5 +1,5 @@
 -- Each running member of a run has its place among the others, and what a move puts out carries its values.
-use Rattle.std.proofs.Common.{ℕ, zero, suc, ◌+◌, ◌<◌, ◌≤◌, ◌^◌, ◌≡◌, ◌≢◌, ◌∙◌, ◌⊎◌, inl, inr, arith, refl, sym, ap, subst, List, [], ◌∷◌, Some, None}
+use Rattle.std.proofs.Common.{ℕ, zero, suc, ◌+◌, ◌<◌, ◌≤◌, ◌^◌, ◌≡◌, ◌∙◌, ◌⊎◌, inl, inr, arith, ap, subst, List, [], ◌∷◌, Some}
 use Rattle.std.specs.Prelude.{All, slice_get, slice_set}
 use Rattle.std.proofs.lemmas.List.Elements.{All-head, All-tail}
 use Rattle.vr_super.specs.Copies.{SuperValue}
@@ -8,7 +8,6 @@ use Rattle.vr_rules.specs.Replica.{Replica}
 use Rattle.vr_rules.specs.Lying.{Lying, lying}
 use Rattle.vr_rules.specs.Laws.{Answers, IsPlaced, IsPresent}
 use Rattle.vr_rules.specs.Opening.{blank, fresh}
-use Rattle.vr_rules.specs.Steps.{Step}
 use Rattle.vr_rules.specs.Group.{Member, Group, Move, Moved, Moves, Played, Run, Runs, ended, goes, fresh_group, opening_script, resumed, stepped}
 use Rattle.vr_rules.specs.Group as group
 use Rattle.vr_rules.specs.GroupFit.{IsFitGroup, IsFitMember, IsFitMove}

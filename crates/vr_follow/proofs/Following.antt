@@ -1,5 +1,5 @@
 -- Every run of a group that was just made is followed, move by move.
-use Rattle.std.proofs.Common.{ℕ, zero, suc, ◌≤◌, ◌≡◌, ◌∙◌, refl, sym, ap, subst, List, [], ◌∷◌, length, Some}
+use Rattle.std.proofs.Common.{ℕ, zero, suc, ◌≡◌, sym, subst, List, [], ◌∷◌, Some}
 use Rattle.std.specs.Prelude.{Contains, slice_get}
 use Rattle.vr_base.specs.Bytes.{name_of}
 use Rattle.vr_header.specs.declared.header.Header.{Header}
@@ -18,7 +18,7 @@ use Rattle.vr_protocol.specs.Basics.{In}
 use Rattle.vr_protocol.specs.Group.{Group}
 use Rattle.vr_protocol.specs.Laws as law
 use Rattle.vr_protocol.proofs.Moves.{reached_good}
-use Rattle.vr_safe.specs.Chains.{Setup, Every, IsReached}
+use Rattle.vr_safe.specs.Chains.{Setup, IsReached}
 use Rattle.vr_safe.specs.Finished.{IsTrue}
 use Rattle.vr_safe.specs.Reflecting.{entries_by}
 use Rattle.vr_safe.specs.Tables.{Fits}

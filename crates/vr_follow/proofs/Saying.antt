@@ -1,6 +1,6 @@
 -- What a move puts out: its messages name their sender, its commit lines are of entries that were hashed, and its choose lines are of the
 -- machine's choices.
-use Rattle.std.proofs.Common.{ℕ, ◌≡◌, ◌∙◌, ◌⊎◌, inl, inr, refl, sym, ap, subst, Bool, List, [], ◌∷◌, ◌++◌, Some, None}
+use Rattle.std.proofs.Common.{ℕ, ◌≡◌, ◌∙◌, inl, inr, refl, sym, ap, subst, List, [], ◌∷◌, ◌++◌, Some, None}
 use Rattle.std.specs.Prelude.{All, Contains, ◌<◌, slice_get}
 use Rattle.std.specs.Option.{option_map_or}
 use Rattle.std.proofs.lemmas.List.{append_assoc}
@@ -10,13 +10,11 @@ use Rattle.vr_header.specs.declared.header.Header.{Header}
 use Rattle.vr_header.specs.Bodies.{operation_bytes}
 use Rattle.vr_header.specs.Made.{Whole}
 use Rattle.vr_header.specs.Names.{root_header}
-use Rattle.vr_msg.specs.declared.event.Event.{Event}
 use Rattle.vr_msg.specs.declared.output.Chosen.{Chosen}
 use Rattle.vr_msg.specs.declared.output.Committed.{Committed}
 use Rattle.vr_msg.specs.declared.output.Output.{Output}
 use Rattle.vr_msg.specs.declared.output.Output.TheVariants as output
 use Rattle.vr_msg.specs.declared.output.Sent.{Sent}
-use Rattle.vr_super.specs.Copies.{SuperValue}
 use Rattle.vr_rules.specs.Fit.{IsFit}
 use Rattle.vr_rules.specs.Group.{Member, Group, Move, Moved, Moves, Played, mended, opening_script, resumed, stepped}
 use Rattle.vr_rules.specs.Group as group

@@ -1,5 +1,5 @@
 -- An opening says no choose line.
-use Rattle.std.proofs.Common.{ℕ, ◌+◌, ◌≡◌, refl, List, [], ◌++◌, Option, Some, None}
+use Rattle.std.proofs.Common.{ℕ, ◌+◌, refl, [], Option, Some, None}
 use Rattle.std.specs.Prelude.{All, Contains, nat_le, not}
 use Rattle.std.proofs.lemmas.List.Elements.{All-nil, All-cons, All-append, All-contains}
 use Rattle.vr_header.specs.declared.header.Header.{Header}
@@ -14,7 +14,7 @@ use Rattle.vr_rules.specs.Lying.{Lying, lying}
 use Rattle.vr_rules.specs.Opening.{Slot, announce, blank, clouded, entry_header, going_on, heard_itself, in_next_view, leave_view, mend_slot, mending, old_headers, old_part, part_by, recover_old, recover_op, recover_parts, resuming, rewrite, slot_at, slot_verdict}
 use Rattle.vr_rules.specs.Outputs.{send_to_all, start_line, start_view_change}
 use Rattle.vr_rules.specs.Replica.{forgetting, is_spent, is_started, last_view, leads, with_part}
-use Rattle.vr_rules.specs.Steps.{Effect, Mend, Rewrite, Word, ◌⨾◌, by, change, does, quiet, says, outputs, after_all}
+use Rattle.vr_rules.specs.Steps.{Mend, Rewrite, change, does, quiet, says, outputs, after_all}
 use Rattle.vr_rules.specs.Words.{entry_of, load, save, apply}
 use Rattle.vr_rules.proofs.SendsScripts.{outputs_append}
 use Rattle.vr_rules.proofs.SilentWaits.{IsPlain, Mute, mute_all, mute_apply, mute_by, mute_change, mute_does, mute_each, mute_if, mute_load, mute_quiet, mute_reading, mute_save, mute_says, mute_then}
