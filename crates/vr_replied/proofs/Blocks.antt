@@ -19,19 +19,18 @@ use Rattle.vr_grid.specs.Blocks.{named}
 use Rattle.vr_grid.specs.declared.block.Block.{Block}
 use Rattle.vr_grid.specs.declared.name.Name.{Name}
 use Rattle.vr_grid.proofs.Contents.{named_found}
-use Rattle.vr_ckpt.specs.Laws.{Holds, HoldsFrom}
+use Rattle.vr_ckpt.specs.Laws.{HoldsFrom}
 use Rattle.vr_ckpt.specs.Loads.{both_named, data_at, data_of, gathered, gathered_both, is_root, keys_size, load_by, load_of, loaded, name_at, names_at, read_root, root_at, root_in, sessions_size, text_of, with_data, with_name}
 use Rattle.vr_ckpt.specs.Places.{is_place}
 use Rattle.vr_ckpt.specs.Saves.{PayloadBlocks, blocks_from, changed, data_content, goes_to, names_bytes, payload_blocks_at, payload_at, payloads_from, payloads_of, keys_run, root_of, root_payload, sessions_run, table_of, written}
-use Rattle.vr_ckpt.specs.declared.found.Load.{Load}
-use Rattle.vr_ckpt.specs.declared.found.Load.TheVariants.{Loaded, Missing}
+use Rattle.vr_ckpt.specs.declared.found.Load.TheVariants.{Loaded}
 use Rattle.vr_ckpt.specs.declared.loading.Gathered.{Gathered}
 use Rattle.vr_ckpt.specs.declared.plan.Run.{Run}
 use Rattle.vr_ckpt.specs.declared.root.Root.{Root}
 use Rattle.vr_ckpt.specs.declared.table.Payload.{Payload}
 use Rattle.vr_ckpt.specs.declared.table.PayloadTable.{PayloadTable}
 use Rattle.vr_ckpt.proofs.Apart.{AtPlace, part_cases}
-use Rattle.vr_ckpt.proofs.Done.{Fit, Fits, RootWords, after_name, goes_fit, length-names, name_there, text_again, words}
+use Rattle.vr_ckpt.proofs.Done.{Fit, Fits, after_name, goes_fit, length-names, name_there, text_again, words}
 use Rattle.vr_ckpt.proofs.Keeping.{each_held}
 use Rattle.vr_ckpt.proofs.Planning.{keys_count, sessions_count}
 

@@ -1,5 +1,5 @@
 -- What a checkpoint's root stands for in a run, and what a replica has of it: the state of the log's first entries.
-use Rattle.std.proofs.Common.{ℕ, zero, suc, ◌+◌, ◌^◌, ◌<◌, ◌≡◌, ◌≢◌, ◌∙◌, arith, refl, sym, ap, subst, List, [], ◌∷◌, take, Option, Some, None}
+use Rattle.std.proofs.Common.{ℕ, zero, suc, ◌+◌, ◌^◌, ◌<◌, ◌≡◌, ◌≢◌, ◌∙◌, arith, refl, sym, ap, subst, List, [], take, Some}
 use Rattle.std.specs.Prelude.{slice_get, Result, Ok, Err}
 use Rattle.vr_header.specs.Made.{Whole}
 use Rattle.vr_header.specs.NoCollision.{NoCollision}
