@@ -30,7 +30,7 @@ use Rattle.vr_rules.specs.Safe.{IsWritten}
 use Rattle.vr_rules.specs.Steps.{Effect, Write, Rewrite, Save, Mend, Checkpoint, PutBlock, Say}
 use Rattle.vr_rules.proofs.FitDisks.{header_spares, mend_spares, prepare_spares, save_spares}
 use Rattle.vr_agree.proofs.Slots.{together_past}
-use Rattle.vr_replied.proofs.Blocks.{IsHashedBlock, ReadsHashed}
+use Rattle.vr_replied.specs.Hashed.{IsHashedBlock, ReadsHashed}
 
 -- what it hashes was hashed
 abbrev pub Begun : (List ℕ → Type 0) → Effect → Type 0

@@ -22,7 +22,7 @@ use Rattle.vr_rules.specs.Rules.{put_block, without}
 use Rattle.vr_rules.specs.Words.{apply, checkpoint_at, entry_of, is_loaded, load, loads, save}
 use Rattle.vr_safe.specs.Chains.{Every}
 use Rattle.vr_agree.specs.Answering.{lines}
-use Rattle.vr_replied.proofs.Blocks.{ReadsHashed}
+use Rattle.vr_replied.specs.Hashed.{ReadsHashed}
 use Rattle.vr_replied.proofs.Disks.{Begun, IsBeside, beside_hashed}
 use Rattle.vr_replied.proofs.Values.{Core, IsRooted, Rests, Stands, core, state_at}
 use Rattle.vr_replied.proofs.Walk.{AllMay, IsCalm, IsOther, May, MaySay, Steady, Walks, WellAt, then_at, walks_by, walks_change, walks_does, walks_each, walks_quiet, walks_reading, walks_save, walks_says, walks_then, walks_when}

@@ -53,7 +53,7 @@ use Rattle.vr_agree.proofs.Resuming.{on_disk, resumed_order, said_right}
 use Rattle.vr_agree.proofs.Sets.{get_in, in_contains, in_left, in_right}
 use Rattle.vr_agree.proofs.Slots.{read_or_written}
 use Rattle.vr_agree.proofs.Traces.{every_in}
-use Rattle.vr_replied.proofs.Blocks.{ReadsHashed}
+use Rattle.vr_replied.specs.Hashed.{ReadsHashed}
 use Rattle.vr_replied.proofs.Disks.{Begun}
 use Rattle.vr_replied.proofs.Lines.{lines_may}
 use Rattle.vr_replied.proofs.Members.{Values, bears_front, borne_all, carried_values, cut_values, every_front, kept_values}

@@ -36,7 +36,8 @@ use Rattle.vr_safe.specs.Chains.{Every}
 use Rattle.vr_safe.proofs.Repairs.{every_mapped}
 use Rattle.vr_agree.specs.Answering.{lines}
 use Rattle.vr_agree.proofs.Answers.{loads_place}
-use Rattle.vr_replied.proofs.Blocks.{IsWrittenOut, ReadsHashed, table_kept}
+use Rattle.vr_replied.specs.Hashed.{IsWrittenOut, ReadsHashed}
+use Rattle.vr_replied.proofs.Blocks.{table_kept}
 use Rattle.vr_replied.proofs.Disks.{Begun, put_hashed}
 use Rattle.vr_replied.proofs.Values.{Core, IsSettled, Rests, Stands, core, loads_stand, state_at, texts_fit}
 use Rattle.vr_replied.proofs.Walk.{AllMay, Bears, IsBorne, IsCalm, IsOther, May, Steady, Walks, Well, WellAt, all_lines, calm_bears, said_borne, said_calm, then_at, walks_by, walks_change, walks_does, walks_each, walks_if, walks_naming, walks_quiet, walks_reading, walks_save, walks_says, walks_then, walks_times, walks_when}
