@@ -13,7 +13,6 @@ use Rattle.vr_msg.specs.declared.output.Output.{Output}
 use Rattle.vr_msg.specs.declared.output.Output.TheVariants as output
 use Rattle.vr_base.specs.Groups.{quorums_of}
 use Rattle.vr_msg.specs.declared.event.Event.{Event}
-use Rattle.vr_msg.specs.Choice.{named}
 use Rattle.vr_msg.specs.Logs.{IsStatement}
 use Rattle.vr_protocol.specs.Members as machine
 use Rattle.vr_rules.specs.Group.{Played, made_in}
@@ -25,21 +24,22 @@ use Rattle.vr_protocol.specs.Group.{Group, Made}
 use Rattle.vr_protocol.specs.Laws as law
 use Rattle.vr_protocol.proofs.Moves.{reached_good}
 use Rattle.vr_safe.specs.Chains.{Setup, Every, IsReached}
+use Rattle.vr_safe.specs.Choices.{IsMadeFrom}
 use Rattle.vr_safe.specs.Finished.{Finished, IsSaid, IsTrue}
 use Rattle.vr_safe.specs.Local.{Local}
 use Rattle.vr_safe.specs.Reflecting.{entries_by}
-use Rattle.vr_rules.specs.Safe.{IsHashed, actor, all_heard, event_of, heard_from}
-use Rattle.vr_agree.specs.Followed.{IsCarried, IsChoiceLine, IsFrom, IsSo, told_if}
+use Rattle.vr_rules.specs.Safe.{IsHashed, actor, all_heard, event_of}
+use Rattle.vr_agree.specs.Followed.{IsCarried, IsChoiceLine, IsFrom, IsSo}
 use Rattle.vr_agree.specs.Replied.{IsServed}
 use Rattle.vr_agree.proofs.Machine.{number_is}
 use Rattle.vr_agree.proofs.Traces.{every_in}
 use Rattle.vr_agree.proofs.Sets.{in_contains}
 
-every_of : {X : Type 0} (P : X → Type 0) (xs : List X) → ((x : X) → In x xs → P x) → Every P xs
+pub every_of : {X : Type 0} (P : X → Type 0) (xs : List X) → ((x : X) → In x xs → P x) → Every P xs
 every_of P [] f = tt
 every_of P (x ∷ xs) f = (f x (inl refl), every_of P xs (λ y i. f y (inr i)))
 
-from_is : (MayAsk : ℕ → Type 0) (old new : Replica) (from : ℕ) (m : Frame) → from ≡ new.index → IsPresentFrame MayAsk old new m → IsFrom from m
+pub from_is : (MayAsk : ℕ → Type 0) (old new : Replica) (from : ℕ) (m : Frame) → from ≡ new.index → IsPresentFrame MayAsk old new m → IsFrom from m
 from_is MayAsk old new from (frame.Prepare p) e h = e ∙ sym h.0
 from_is MayAsk old new from (frame.PrepareOk a) e h = e ∙ sym h.0.replica
 from_is MayAsk old new from (frame.Request q) e h = tt
@@ -104,18 +104,8 @@ module _ (cluster : ℕ) (u : Setup) (run : List Played) (before after : Group H
 
 -- ---- choose lines: the rules' half is a law of every step (steps_choose); the machine's half is asked for
 
--- the choice of a line is one of the machine, with what was heard
-pub record IsMadeFrom (u : Setup) (chosen : List (machine.Choice Header)) (e : Event) (r : Replica) (l : Chosen) : Type 0 where
-  pub made : machine.Choice Header
-  pub is_made : In made chosen
-  pub of_view : made.view ≡ l.view
-  pub of_log_view : made.log_view ≡ l.log_view
-  pub of_head : made.head ≡ l.head
-  pub of_heard : (j : ℕ) → made.heard j ≡ told_if (heard_from l.view e r j)
-  pub of_log : (k : ℕ) → made.log k ≡ named (all_heard l.view e r) k
-
 pub choice_line : (u : Setup) (chosen : List (machine.Choice Header)) (p : Played) (e : Event) (r : Replica) (l : Chosen) → actor p l.replica ≡ Some r → event_of p.move ≡ Some e → r.n ≡ u.quorums.n → r.cluster ≡ u.cluster → IsEvent e
-    → IsChosenBy e r l → IsMadeFrom u chosen e r l → IsChoiceLine u chosen p l
+    → IsChosenBy e r l → IsMadeFrom chosen e r l → IsChoiceLine u chosen p l
 choice_line u chosen p e r l is_of by_event size group came c m = record {
   replica = r;
   is_of = is_of;

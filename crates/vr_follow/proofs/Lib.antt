@@ -1,0 +1,4 @@
+pub mod Silence
+pub mod Saying
+pub mod Following
+pub mod Serving
