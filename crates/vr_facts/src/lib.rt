@@ -9,6 +9,7 @@ ghost use Rattle.vr_facts.specs.Laws.{
   StatementsStayTrue,
   VouchedIsKept,
 };
+ghost use Rattle.vr_facts.specs.Counted.{PrimariesCountTruly};
 
 /// What a disk has saved never goes back, and a member vouches only in the view in which it is, with that view's log.
 pub fn disks_always_move_on<H>()
@@ -38,4 +39,9 @@ pub fn quorums_meet<H>()
 /// All up to each commit number is committed, in a view at most its own.
 pub fn each_commit_number_is_backed<H>()
     ensures { EachCommitNumberIsBacked H }
+{}
+
+/// Whoever a primary counts has vouched for the entry that its view's log has there.
+pub fn primaries_count_truly()
+    ensures { PrimariesCountTruly }
 {}
