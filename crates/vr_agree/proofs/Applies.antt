@@ -11,7 +11,7 @@ use Rattle.vr_header.specs.Made.{Whole}
 use Rattle.vr_apply.specs.Folds.{state_after, check, answered, executed, outcome_of, fresh_outcome, answer_at}
 use Rattle.vr_apply.specs.Folds as state
 use Rattle.vr_apply.specs.declared.state.State.{State}
-use Rattle.vr_ckpt.specs.declared.saving.Saved as checkpoint
+use Rattle.vr_ckpt.specs.declared.saving.SavedCheckpoint as checkpoint
 use Rattle.vr_sess.specs.declared.session.SessionAnswer.{SessionAnswer}
 use Rattle.vr_sess.specs.declared.session.SessionAnswer.TheVariants as answer
 use Rattle.vr_msg.specs.declared.frame.Frame.{Frame}
@@ -45,7 +45,7 @@ keeps_lost : (h : Header) (r : Replica) → Keeps r (lost h r)
 unfolding with_part
 keeps_lost h r = record { index = refl; applied = refl; state = refl; missing = refl }
 
-keeps_checkpoint : (c : checkpoint.Saved) (r : Replica) → Keeps r (with_checkpoint c r)
+keeps_checkpoint : (c : checkpoint.SavedCheckpoint) (r : Replica) → Keeps r (with_checkpoint c r)
 unfolding with_checkpoint
 keeps_checkpoint c r = record { index = refl; applied = refl; state = refl; missing = refl }
 

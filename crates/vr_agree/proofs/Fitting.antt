@@ -5,7 +5,7 @@ use Rattle.std.proofs.lemmas.List.Elements.{All-nil, All-head, All-tail, All-tak
 use Rattle.vr_header.specs.Made.{Whole}
 use Rattle.vr_rings.specs.Slots.{IsWhole}
 use Rattle.vr_msg.specs.declared.event.Event.{Event}
-use Rattle.vr_super.specs.Copies.{Saved}
+use Rattle.vr_super.specs.Copies.{SuperValue}
 use Rattle.vr_rules.specs.Replica.{Replica}
 use Rattle.vr_rules.specs.Steps.{Effect, Write, Step}
 use Rattle.vr_rules.specs.Lying.{Lying, lying}
@@ -54,10 +54,10 @@ arrives c g at Time e h l i = rw i tt
 step_fit : (r : Replica) (e : Event) (d : Lying) → IsFitReplica r → IsEvent e → ReadsWell lying d → All IsFit (stepped e r d).script
 step_fit r e d h m k = (steps_fit lying d r e disks_fit.lies disks_fit.roots k h.sound h.savable h.missing m).each
 
-pub opening_fit : (c n i : ℕ) (v : Saved) (d : Lying) → IsFitValue c n i v → ReadsWell lying d → All IsFit (opening_script v d)
+pub opening_fit : (c n i : ℕ) (v : SuperValue) (d : Lying) → IsFitValue c n i v → ReadsWell lying d → All IsFit (opening_script v d)
 opening_fit c n i v d g k = subst (λ (x : Step). All IsFit x.script) (opening_in_two v d) (openings_fit lying d v disks_fit.lies disks_fit.roots k g.0).each
 
-pub good_value : (c n i : ℕ) (m : Member) (v : Saved) → IsFitMember c n i m → MayOpen m v → IsFitValue c n i v
+pub good_value : (c n i : ℕ) (m : Member) (v : SuperValue) → IsFitMember c n i m → MayOpen m v → IsFitValue c n i v
 good_value c n i m v h (inl e) = subst (IsFitValue c n i) e h.last
 good_value c n i m v h (inr e) = h.under v e
 

@@ -15,7 +15,7 @@ use Rattle.vr_msg.specs.declared.output.Output.TheVariants as output
 use Rattle.vr_msg.specs.declared.reply.ReplyFields.{ReplyFields}
 use Rattle.vr_recover.specs.declared.readings.Verdict.{Verdict}
 use Rattle.vr_recover.specs.declared.readings.Verdict.TheVariants as verdict
-use Rattle.vr_super.specs.Copies.{Saved}
+use Rattle.vr_super.specs.Copies.{SuperValue}
 use Rattle.vr_msg.specs.Choice.{ops}
 use Rattle.vr_rules.specs.Outputs.{applied_reply, commit_line, others, send, send_to_all, start_line, start_view_change}
 use Rattle.vr_rules.specs.Replica.{Replica, forgetting, is_spent, is_started, last_view, leads, part_at, with_part}
@@ -118,7 +118,7 @@ module _ {F : Type 0} where
   hush_change_any : (g : Replica → Replica) → Hush Any {F = F} (change g)
   hush_change_any g = hush_change Any g (λ r c. tt)
 
-  hush_op : (v : Saved) (k : ℕ) → Hush Any {F = F} (opening.recover_op v k)
+  hush_op : (v : SuperValue) (k : ℕ) → Hush Any {F = F} (opening.recover_op v k)
   unfolding opening.recover_op
   hush_op v k = hush_reading Any (opening.slot_at k) _ (λ x. hush_then Any (opening.mend_slot x (opening.slot_verdict v k x)) _ (hush_mend x (opening.slot_verdict v k x)) (hush_change_any _))
 
@@ -126,7 +126,7 @@ module _ {F : Type 0} where
   unfolding opening.recover_old
   hush_old h = hush_reading Any (words.entry_of h) _ (λ e. hush_change_any _)
 
-  hush_parts : (v : Saved) → Hush Any {F = F} (opening.recover_parts v)
+  hush_parts : (v : SuperValue) → Hush Any {F = F} (opening.recover_parts v)
   unfolding opening.recover_parts
   hush_parts v =
       hush_then Any (each opening.recover_old (opening.old_headers v)) _ (hush_each Any opening.recover_old (opening.old_headers v) hush_old)
@@ -239,7 +239,7 @@ module _ {F : Type 0} (s : Setting F) where
   unfolding by says outputs
   resuming_said r d = cond_both (is_spent r) (says start_line) opening.going_on (λ (w : Word F). Every IsHush (outputs (w s r d).script)) (λ t. (tt, tt)) (λ t. going_on_said r d)
 
-  opening_said : (v : Saved) (f : F) → Every IsHush (outputs (opening.opening v s (opening.blank v) f).script)
+  opening_said : (v : SuperValue) (f : F) → Every IsHush (outputs (opening.opening v s (opening.blank v) f).script)
   unfolding opening.opening does says outputs
   opening_said v f =
       let r0 = opening.blank v in
@@ -248,11 +248,11 @@ module _ {F : Type 0} (s : Setting F) where
       (λ d2. resuming_said (opening.recover_parts v s r0 d1).replica d2))
 
   -- an opening replies nothing
-  pub opening_silent : (v : Saved) (f : F) (a : ReplyFields) → In (output.Reply a) (outputs (opening.opening v s (opening.blank v) f).script) → ⊥
+  pub opening_silent : (v : SuperValue) (f : F) (a : ReplyFields) → In (output.Reply a) (outputs (opening.opening v s (opening.blank v) f).script) → ⊥
   opening_silent v f a i = every_in IsHush (outputs (opening.opening v s (opening.blank v) f).script) (output.Reply a) i (opening_said v f)
 
-  opening_all : (v : Saved) (f : F) → All IsHush (outputs (opening.opening v s (opening.blank v) f).script)
+  opening_all : (v : SuperValue) (f : F) → All IsHush (outputs (opening.opening v s (opening.blank v) f).script)
   opening_all v f = all_every IsHush (outputs (opening.opening v s (opening.blank v) f).script) (opening_said v f)
 
-  pub opening_replies_nothing : (v : Saved) (f : F) (a : ReplyFields) → Contains (outputs (opening.opening v s (opening.blank v) f).script) (output.Reply a) → ⊥
+  pub opening_replies_nothing : (v : SuperValue) (f : F) (a : ReplyFields) → Contains (outputs (opening.opening v s (opening.blank v) f).script) (output.Reply a) → ⊥
   opening_replies_nothing v f a i = All-contains IsHush (outputs (opening.opening v s (opening.blank v) f).script) (output.Reply a) (opening_all v f) i

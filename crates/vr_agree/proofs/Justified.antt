@@ -75,11 +75,11 @@ another a b Unknown e d = absurd cc
 another a b Nothing e d = refl
 
 denied_back : (ss : List Statement) (k w : ℕ) (log : ℕ → Option Header) (t : Statement) → w ≡ top_view ss → ((j : ℕ) → log j ≡ named ss j) → Denies w k log (statement_told t) → denies ss k t ≡ true
-denied_back ss k w log t same is (plainly d) = both_true (t.log_view == top_view ss) _ _ (newest (stated.part_at k t) d) (older (named ss k) (stated.part_at k t) d)
+denied_back ss k w log t same is (plainly d) = both_true (t.log_view == top_view ss) _ _ (newest (stated.stated_part k t) d) (older (named ss k) (stated.stated_part k t) d)
 denied_back ss k w log t same is (other a b less e f d) =
     let off : (t.log_view == top_view ss) ≡ false = ne_eqb t.log_view (top_view ss) (λ s. let l : t.log_view < w = less in absurd (omega arith)) in
     let at : named ss k ≡ Some a = sym (is k) ∙ e in
-    rw (off, at) (another a b (stated.part_at k t) f d)
+    rw (off, at) (another a b (stated.stated_part k t) f d)
 denied_back ss k w log t same is (silent less e) =
     let off : (t.log_view == top_view ss) ≡ false = ne_eqb t.log_view (top_view ss) (λ s. let l : t.log_view < w = less in absurd (omega arith)) in
     let at : named ss k ≡ None = sym (is k) ∙ e in

@@ -5,7 +5,7 @@ use Rattle.std.proofs.lemmas.List.Elements.{All-nil, All-cons, All-head, All-tai
 use Rattle.vr_msg.specs.declared.output.Committed.{Committed}
 use Rattle.vr_msg.specs.declared.output.Output.{Output}
 use Rattle.vr_msg.specs.declared.output.Output.TheVariants as output
-use Rattle.vr_super.specs.Copies.{Saved}
+use Rattle.vr_super.specs.Copies.{SuperValue}
 use Rattle.vr_rules.specs.Fit.{IsFit, ReadsWell}
 use Rattle.vr_rules.specs.Group.{Group, Move, Moved, Moves, Played, fresh_group, mended, opening_script, resumed}
 use Rattle.vr_rules.specs.Group as group
@@ -45,7 +45,7 @@ fit_back [] ys h = h
 fit_back (x ∷ xs) ys h = fit_back xs ys (All-tail IsFit x (xs ++ ys) h)
 
 -- an opening mends without a line, and reads then what it applies
-opening_reads : (c n i : ℕ) (v : Saved) (d : Lying) → IsFitValue c n i v → ReadsWell lying d → (l : Committed) → In (output.Commit l) (outputs (opening_script v d)) → IsWellRead l.entry
+opening_reads : (c n i : ℕ) (v : SuperValue) (d : Lying) → IsFitValue c n i v → ReadsWell lying d → (l : Committed) → In (output.Commit l) (outputs (opening_script v d)) → IsWellRead l.entry
 opening_reads c n i v d g k l j =
     let xs = (mended v d).script in
     let ys = (resumed v d).script in

@@ -6,7 +6,7 @@ use Rattle.vr_header.specs.Made.{Whole}
 use Rattle.vr_msg.specs.declared.output.Committed.{Committed}
 use Rattle.vr_msg.specs.declared.output.Output.{Output}
 use Rattle.vr_msg.specs.declared.output.Output.TheVariants as output
-use Rattle.vr_super.specs.Copies.{Saved, IsGood}
+use Rattle.vr_super.specs.Copies.{SuperValue, IsGood}
 use Rattle.vr_rules.specs.Fit.{ReadsWell}
 use Rattle.vr_rules.specs.Group.{mended, recovered, resumed}
 use Rattle.vr_rules.specs.Lying.{Lying, lying}
@@ -40,7 +40,7 @@ keeps_leave : {F : Type 0} → Keeps {F = F} leave_view
 keeps_leave = keeps_by _ (λ r. keeps_when (leads r) _ (keeps_then _ _ (keeps_change in_next_view kept_next) keeps_save))
 
 -- what was found is sound
-found_opened : (v : Saved) (d : Lying) → IsGood v → ReadsWell lying d → Opened (recovered v d)
+found_opened : (v : SuperValue) (d : Lying) → IsGood v → ReadsWell lying d → Opened (recovered v d)
 unfolding ◌⨾◌ does after_all
 found_opened v d good reads = opening.recovered v lying (lying.after d (Mend v)) (value_is v good) (reads_after lying d (Mend v) good (headers_of lying d reads))
 
@@ -70,7 +70,7 @@ spent_frozen : (a b : Bool) → b ≡ true → (a || b) ≡ true
 spent_frozen true b e = refl
 spent_frozen false b e = e
 
-abbrev pub on_disk : Saved → Lying → Lying
+abbrev pub on_disk : SuperValue → Lying → Lying
 on_disk v d = after_all lying d (mended v d).script
 
 -- ---- the words of an opening say no lines, but for those that are applied
@@ -93,12 +93,12 @@ module _ {F : Type 0} where
   unfolding recover_old with_part
   quiet_old h = quiet_reading (entry_of h) _ (λ e. quiet_change (with_part h.op (old_part h e)) (λ r. refl) (λ r. refl))
 
-  quiet_op : (v : Saved) (k : ℕ) → Quiet {F = F} (recover_op v k)
+  quiet_op : (v : SuperValue) (k : ℕ) → Quiet {F = F} (recover_op v k)
   unfolding recover_op with_part
   quiet_op v k = quiet_reading (slot_at k) _ (λ x.
       quiet_then (mend_slot x (slot_verdict v k x)) _ (quiet_slot x (slot_verdict v k x)) (quiet_change (with_part k (part_by v k x (slot_verdict v k x))) (λ r. refl) (λ r. refl)))
 
-  pub quiet_mending : (v : Saved) → Quiet {F = F} (mending v)
+  pub quiet_mending : (v : SuperValue) → Quiet {F = F} (mending v)
   unfolding recover_parts clouded forgetting outputs
   quiet_mending v =
       quiet_then (does (λ r. Mend v)) _ (quiet_does (λ r. Mend v) (λ r. tt))
@@ -116,7 +116,7 @@ module _ {F : Type 0} where
   quiet_announce = quiet_by _ (λ r. quiet_when (not (is_started r)) _
       (quiet_then (change heard_itself) _ (quiet_change heard_itself (λ r. refl) (λ r. refl)) (quiet_by _ (λ r. quiet_when (nat_le r.view last_view) _ (quiet_sends start_view_change)))))
 
-module _ (v : Saved) (d : Lying) (good : IsGood v) (reads : ReadsWell lying d) where
+module _ (v : SuperValue) (d : Lying) (good : IsGood v) (reads : ReadsWell lying d) where
   loaded_sound : IsSound (has_loaded v d).replica
   unfolding ◌⨾◌ says
   loaded_sound =
@@ -153,7 +153,7 @@ module _ (v : Saved) (d : Lying) (good : IsGood v) (reads : ReadsWell lying d) w
       ] in
       go (is_spent (recovered v d))
 
-module _ (log : List Whole) (numbers : IsNumbered log) (v : Saved) (d : Lying) (good : IsGood v) (reads : ReadsWell lying d) where
+module _ (log : List Whole) (numbers : IsNumbered log) (v : SuperValue) (d : Lying) (good : IsGood v) (reads : ReadsWell lying d) where
   abbrev AreLines : List Effect → Type 0
   AreLines es = (c : Committed) → In (output.Commit c) (outputs es) → slice_get log (c.entry.header.op - 1) ≡ Some c.entry
 

@@ -5,7 +5,7 @@ use Rattle.vr_msg.specs.declared.event.Event.{Event}
 use Rattle.vr_msg.specs.declared.output.Chosen.{Chosen}
 use Rattle.vr_msg.specs.declared.output.Output.TheVariants as output
 use Rattle.vr_msg.specs.declared.reply.ReplyFields.{ReplyFields}
-use Rattle.vr_super.specs.Copies.{Saved}
+use Rattle.vr_super.specs.Copies.{SuperValue}
 use Rattle.vr_rules.specs.Opening.{blank, opening}
 use Rattle.vr_rules.specs.Group.{Played}
 use Rattle.vr_rules.specs.Replica.{Replica}
@@ -36,4 +36,4 @@ StepsChoose F = (s : Setting F) (r : Replica) (f : F) (e : Event) → IsSound r 
 
 -- an opening replies nothing: none that goes on to apply leads its view
 abbrev pub OpeningsReplyNothing : Type 0 → Type 0
-OpeningsReplyNothing F = (s : Setting F) (v : Saved) (f : F) (a : ReplyFields) → Contains (outputs (opening v s (blank v) f).script) (output.Reply a) → ⊥
+OpeningsReplyNothing F = (s : Setting F) (v : SuperValue) (f : F) (a : ReplyFields) → Contains (outputs (opening v s (blank v) f).script) (output.Reply a) → ⊥

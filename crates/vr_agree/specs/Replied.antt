@@ -7,7 +7,7 @@ use Rattle.vr_msg.specs.declared.event.Event.{Event}
 use Rattle.vr_msg.specs.declared.output.Output.{Output}
 use Rattle.vr_msg.specs.declared.output.Output.TheVariants as output
 use Rattle.vr_msg.specs.declared.reply.ReplyFields.{ReplyFields}
-use Rattle.vr_super.specs.Copies.{Saved}
+use Rattle.vr_super.specs.Copies.{SuperValue}
 use Rattle.vr_rules.specs.Group.{Arrival, Member, Played, Runs, Recovers, Steps, mended, recovered, resumed, stepped}
 use Rattle.vr_header.specs.Bodies.{operation_bytes}
 use Rattle.vr_header.specs.Names.{root_header}
@@ -51,7 +51,7 @@ abbrev pub IsLogOf : ℕ → Setup → List Played → List (Message Header) →
 IsLogOf cluster u run sent log = (v k : ℕ) (c : Header) → 0 < k → Committed u.quorums (entries_by u.hash u.cluster) sent v k c → HasEntry cluster run log k c
 
 -- an opening once it has loaded its checkpoint
-abbrev pub has_loaded : Saved → Lying → Step
+abbrev pub has_loaded : SuperValue → Lying → Step
 has_loaded v d = (leave_view ⨾ says start_line ⨾ load) lying (recovered v d) (after_all lying d (mended v d).script)
 
 pub record IsReplied (cluster n : ℕ) (u : Setup) (run : List Played) (x : IsFollowed cluster n u run) : Type 0 where
@@ -63,4 +63,4 @@ pub record IsReplied (cluster n : ℕ) (u : Setup) (run : List Played) (x : IsFo
   pub puts : NoCollision (IsHashed run (root_header cluster)) → (log : List Whole) → IsLogOf cluster u run (x.group (length run)).sent log
       → (t at : ℕ) (arrival : Arrival) (p : Played) (e : Event) (d : Lying) (m : Member) (r : Replica) → slice_get run t ≡ Some p → p.move ≡ Steps at arrival e d → Runs p.before at m r → PutsWell log lying r d e
   pub loads : NoCollision (IsHashed run (root_header cluster)) → (log : List Whole) → IsLogOf cluster u run (x.group (length run)).sent log
-      → (t at : ℕ) (p : Played) (v : Saved) (d : Lying) → slice_get run t ≡ Some p → p.move ≡ Recovers at v d → is_frozen (resumed v d).replica ≡ false → HasState log (has_loaded v d).replica
+      → (t at : ℕ) (p : Played) (v : SuperValue) (d : Lying) → slice_get run t ≡ Some p → p.move ≡ Recovers at v d → is_frozen (resumed v d).replica ≡ false → HasState log (has_loaded v d).replica

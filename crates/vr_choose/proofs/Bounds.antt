@@ -8,7 +8,7 @@ use Rattle.std.proofs.lemmas.List.Sums.{prefix_len_passes}
 use Rattle.vr_header.specs.declared.part.Part.TheVariants.{Nothing}
 use Rattle.vr_msg.specs.declared.statement.Statement.{Statement}
 use Rattle.vr_msg.specs.Logs.{IsStatement, has_header}
-use Rattle.vr_msg.specs.Choice.{header_at}
+use Rattle.vr_msg.specs.Choice.{stated_header}
 use Rattle.vr_choose.specs.Statements.{IsSomeStatement}
 
 pub record IsBounded (s : Statement) : Type 0 where
@@ -18,9 +18,9 @@ pub record IsBounded (s : Statement) : Type 0 where
   pub short : length s.body.parts ≤ 128
   pub small : s.head ≤ 2 ^ 62
   -- its headers from first to head are known
-  pub known : (k : ℕ) → s.body.first ≤ k → k ≤ s.head → IsSome (header_at k s)
+  pub known : (k : ℕ) → s.body.first ≤ k → k ≤ s.head → IsSome (stated_header k s)
 
-known_of : (cluster : ℕ) (s : Statement) → IsStatement cluster s → (k : ℕ) → s.body.first ≤ k → k ≤ s.head → IsSome (header_at k s)
+known_of : (cluster : ℕ) (s : Statement) → IsStatement cluster s → (k : ℕ) → s.body.first ≤ k → k ≤ s.head → IsSome (stated_header k s)
 known_of cluster s is k l m =
     let xs = s.body.parts in
     let run = is.run in

@@ -10,7 +10,7 @@ use Rattle.vr_header.specs.declared.header.Header.{Header}
 use Rattle.vr_header.specs.declared.part.Part.{Part}
 use Rattle.vr_header.specs.declared.part.Part.TheVariants.{Here, Lost, Wanted, Unknown, Nothing}
 use Rattle.vr_msg.specs.declared.statement.Statement.{Statement}
-use Rattle.vr_msg.specs.Choice.{part_at, is_here, named, intact, intact_by, IsIntact, reach, top_commit}
+use Rattle.vr_msg.specs.Choice.{stated_part, is_here, named, intact, intact_by, IsIntact, reach, top_commit}
 use Rattle.vr_choose.proofs.Bounds.{IsBounded}
 use Rattle.vr_header.proofs.SameHeaders.{same_header_is, same_header_of}
 
@@ -28,8 +28,8 @@ here_of e p h = rw h (same_header_of e e refl)
 by_header : (ss : List Statement) (k : ℕ) (o : Option Header) → named ss k ≡ o → intact_by o k ss ≡ true → IsIntact ss k
 by_header ss k None n t = cc
 by_header ss k (Some e) n t =
-    let a = Any-from_list_any (λ (s : Statement). is_here e (part_at k s)) ss t in
-    record { header = e; is_named = n; here = (a.0, a.1, a.2, a.3, here_is e (part_at k a.1) a.4) }
+    let a = Any-from_list_any (λ (s : Statement). is_here e (stated_part k s)) ss t in
+    record { header = e; is_named = n; here = (a.0, a.1, a.2, a.3, here_is e (stated_part k a.1) a.4) }
 
 pub intact_is : (ss : List Statement) (k : ℕ) → intact ss k ≡ true → IsIntact ss k
 intact_is ss k t = by_header ss k (named ss k) refl t
@@ -37,17 +37,17 @@ intact_is ss k t = by_header ss k (named ss k) refl t
 pub intact_of : (ss : List Statement) (k : ℕ) → IsIntact ss k → intact ss k ≡ true
 intact_of ss k i =
     let a = i.here in
-    rw (i.is_named) (list_any-from_Any (λ (s : Statement). is_here i.header (part_at k s)) ss (a.0, a.1, a.2, a.3, here_of i.header (part_at k a.1) a.4))
+    rw (i.is_named) (list_any-from_Any (λ (s : Statement). is_here i.header (stated_part k s)) ss (a.0, a.1, a.2, a.3, here_of i.header (stated_part k a.1) a.4))
 
-part_past : (s : Statement) (k : ℕ) → s.body.first + length s.body.parts ≤ k → part_at k s ≡ Nothing
+part_past : (s : Statement) (k : ℕ) → s.body.first + length s.body.parts ≤ k → stated_part k s ≡ Nothing
 part_past s k h =
     let far : length s.body.parts ≤ k - s.body.first = omega arith in
     rw (le-ltb k s.body.first (omega arith)) (get_or_past s.body.parts (k - s.body.first) Nothing far)
 
-here_within : (e : Header) (k : ℕ) (ss : List Statement) → list_any (λ s. is_here e (part_at k s)) ss ≡ true → k < reach ss
+here_within : (e : Header) (k : ℕ) (ss : List Statement) → list_any (λ s. is_here e (stated_part k s)) ss ≡ true → k < reach ss
 here_within e k [] h = cc
 here_within e k (s ∷ ss) h =
-    elim (or_cases (is_here e (part_at k s)) (list_any (λ s. is_here e (part_at k s)) ss) h) [
+    elim (or_cases (is_here e (stated_part k s)) (list_any (λ s. is_here e (stated_part k s)) ss) h) [
       | inl t ↦ elim (cases_lt k (s.body.first + length s.body.parts)) [ inl l ↦ omega arith | inr g ↦ let u : is_here e Nothing ≡ true = rw (part_past s k g) at t in cc ]
       | inr t ↦ let rest = here_within e k ss t in omega arith
     ]

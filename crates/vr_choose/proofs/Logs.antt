@@ -7,7 +7,7 @@ use Rattle.std.proofs.lemmas.Bool.{cases_lt, le-leb, lt-leb, eqb-true}
 use Rattle.std.proofs.lemmas.List.Elements.{All-head, All-tail}
 use Rattle.vr_header.specs.declared.header.Header.{Header}
 use Rattle.vr_msg.specs.declared.statement.Statement.{Statement}
-use Rattle.vr_msg.specs.Choice.{header_at, top_commit, named, IsIntact, farthest, start_of, log_start, chosen_header, IsLog, log_headers}
+use Rattle.vr_msg.specs.Choice.{stated_header, top_commit, named, IsIntact, farthest, start_of, log_start, chosen_header, IsLog, log_headers}
 use Rattle.vr_choose.proofs.Bounds.{IsBounded}
 
 -- where each number of a range has an item, all are there, in order
@@ -51,7 +51,7 @@ found P p (y ∷ ys) x e all =
 
 -- up to the greatest commit number, the first statement that has it knows each header from the start on
 known_front : (C head k : ℕ) (o : Option Statement) → ((s : Statement) → o ≡ Some s → (s.commit ≡ C) × IsBounded s)
-    → option_map_or (start_of C head) o C < k → k ≤ C → IsSome (option_and_then (header_at k) o)
+    → option_map_or (start_of C head) o C < k → k ≤ C → IsSome (option_and_then (stated_header k) o)
 known_front C head k None h l m = absurd (omega arith)
 known_front C head k (Some s) h l m =
     let p = h s refl in
@@ -67,7 +67,7 @@ farthest_is ss all s e =
 known_open : (ss : List Statement) (k : ℕ) → IsIntact ss k → IsSome (named ss k)
 known_open ss k i = rw (i.is_named) refl
 
-pub chosen_front : (ss : List Statement) (k : ℕ) → k ≤ top_commit ss → chosen_header ss k ≡ option_and_then (header_at k) (farthest ss)
+pub chosen_front : (ss : List Statement) (k : ℕ) → k ≤ top_commit ss → chosen_header ss k ≡ option_and_then (stated_header k) (farthest ss)
 chosen_front ss k m = rw (le-leb k (top_commit ss) m) refl
 
 pub chosen_open : (ss : List Statement) (k : ℕ) → top_commit ss < k → chosen_header ss k ≡ named ss k

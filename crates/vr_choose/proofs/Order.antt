@@ -10,7 +10,7 @@ use Rattle.vr_base.specs.declared.table.Quorums.{Quorums}
 use Rattle.vr_header.specs.declared.header.Header.{Header}
 use Rattle.vr_msg.specs.declared.statement.Statement.{Statement}
 use Rattle.vr_msg.specs.declared.choice.Choice.TheVariants.{Ends, WaitsAt, TooFew}
-use Rattle.vr_msg.specs.Choice.{part_at, header_at, is_here, top_view, top_commit, reach, named, intact, intact_by, denies_by, denials, ops, row_end, farthest, start_of, log_start, chosen_header, log_headers, choice}
+use Rattle.vr_msg.specs.Choice.{stated_part, stated_header, is_here, top_view, top_commit, reach, named, intact, intact_by, denies_by, denials, ops, row_end, farthest, start_of, log_start, chosen_header, log_headers, choice}
 use Rattle.vr_choose.specs.Laws.{KeepsOrder}
 
 -- the greatest of a number of each statement
@@ -67,7 +67,7 @@ same_reach ss ts p = reach_is ss ∙ same_greatest (λ s. s.body.first + length 
 
 intact_in : (e : Option Header) (k : ℕ) (ss ts : List Statement) → IsPermutation ss ts → intact_by e k ss ≡ intact_by e k ts
 intact_in None k ss ts p = refl
-intact_in (Some e) k ss ts p = list_any-IsPermutation (λ s. is_here e (part_at k s)) ss ts p
+intact_in (Some e) k ss ts p = list_any-IsPermutation (λ s. is_here e (stated_part k s)) ss ts p
 
 module _ (ss ts : List Statement) (p : IsPermutation ss ts) (names : (k : ℕ) → named ss k ≡ named ts k) (far : farthest ss ≡ farthest ts) where
   same_intact : (k : ℕ) → intact ss k ≡ intact ts k
@@ -94,7 +94,7 @@ module _ (ss ts : List Statement) (p : IsPermutation ss ts) (names : (k : ℕ) �
   same_header_chosen : (k : ℕ) → chosen_header ss k ≡ chosen_header ts k
   same_header_chosen k =
       let commit = same_commit ss ts p in
-      λ i. cond (leb k (commit i)) (option_and_then (header_at k) (far i)) (names k i)
+      λ i. cond (leb k (commit i)) (option_and_then (stated_header k) (far i)) (names k i)
 
   same_headers : (head : ℕ) → log_headers ss head ≡ log_headers ts head
   unfolding log_headers

@@ -10,7 +10,7 @@ use Rattle.vr_header.specs.declared.part.Part.{Part}
 use Rattle.vr_header.specs.declared.part.Part.TheVariants.{Here, Lost, Wanted, Unknown, Nothing}
 use Rattle.vr_msg.specs.declared.statement.Statement.{Statement}
 use Rattle.vr_msg.specs.Logs.{FromOp, IsEntryAt, IsPartAt, IsStatement, header_of}
-use Rattle.vr_msg.specs.Choice.{header_at, top_view, top_commit, named, farthest, start_of, log_start, chosen_header}
+use Rattle.vr_msg.specs.Choice.{stated_header, top_view, top_commit, named, farthest, start_of, log_start, chosen_header}
 use Rattle.vr_choose.specs.Laws.{HeadersStand, HeadersFew}
 use Rattle.vr_choose.proofs.Logs.{found, chosen_front, chosen_open}
 use Rattle.vr_choose.proofs.Named.{names_of}
@@ -35,7 +35,7 @@ part_header cluster last op (Wanted g) h is e = let same : g ≡ h = cc in subst
 part_header cluster last op Unknown h is e = cc
 part_header cluster last op Nothing h is e = cc
 
-stated_stands : (cluster k : ℕ) (s : Statement) (h : Header) → IsStatement cluster s → header_at k s ≡ Some h → IsEntryAt cluster s.log_view k h
+stated_stands : (cluster k : ℕ) (s : Statement) (h : Header) → IsStatement cluster s → stated_header k s ≡ Some h → IsEntryAt cluster s.log_view k h
 stated_stands cluster k s h is e =
     elim (cases_lt k s.body.first) [
       | inl before ↦ let none : header_of Nothing ≡ Some h = rw (lt-ltb k s.body.first before) at e in cc
@@ -55,7 +55,7 @@ later : (cluster last most op : ℕ) (h : Header) → last ≤ most → IsEntryA
 later cluster last most op h l is = let made = is.made in record { entry = is.entry; of_group = is.of_group; at_op = is.at_op; made = omega arith }
 
 front_stands : (cluster k : ℕ) (ss : List Statement) (h : Header) (o : Option Statement) → All (IsStatement cluster) ss → farthest ss ≡ o
-    → option_and_then (header_at k) o ≡ Some h → IsEntryAt cluster (top_view ss) k h
+    → option_and_then (stated_header k) o ≡ Some h → IsEntryAt cluster (top_view ss) k h
 front_stands cluster k ss h None all f e = cc
 front_stands cluster k ss h (Some s) all f e =
     let is = (found (IsStatement cluster) (λ (s : Statement). s.commit == top_commit ss) ss s f all).1 in

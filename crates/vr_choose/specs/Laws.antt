@@ -9,7 +9,7 @@ use Rattle.vr_header.specs.declared.header.Header.{Header}
 use Rattle.vr_msg.specs.declared.statement.Statement.{Statement}
 use Rattle.vr_msg.specs.declared.choice.Choice.{Choice}
 use Rattle.vr_msg.specs.Logs.{FromOp, IsEntryAt, IsStatement}
-use Rattle.vr_msg.specs.Choice.{header_at, top_view, top_commit, log_start, IsLog, choice, denies, named, farthest, EndsAt, IsChoice}
+use Rattle.vr_msg.specs.Choice.{stated_header, top_view, top_commit, log_start, IsLog, choice, denies, named, farthest, EndsAt, IsChoice}
 
 -- of the table of quorums, by the size of the group
 abbrev pub EachColumn : Type 0
@@ -56,7 +56,7 @@ KeepsOrder =
 abbrev pub NamesAgree : List Statement → Type 0
 NamesAgree ss =
     (k : ℕ) (s t : Statement) (a b : Header) → Contains ss s → Contains ss t → s.log_view ≡ top_view ss → t.log_view ≡ top_view ss
-    → header_at k s ≡ Some a → header_at k t ≡ Some b → a ≡ b
+    → stated_header k s ≡ Some a → stated_header k t ≡ Some b → a ≡ b
 
 -- then statements in another order name the same headers
 abbrev pub KeepsNames : Type 0

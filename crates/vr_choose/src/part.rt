@@ -1,13 +1,13 @@
 //! What one statement says of one op.
 ghost use Rattle.std.specs.Prelude.{◌≡◌};
-ghost use Rattle.vr_msg.specs.Choice.{part_at, header_at, is_here, denies_as_newest, denies_named, denies_by};
+ghost use Rattle.vr_msg.specs.Choice.{stated_part, stated_header, is_here, denies_as_newest, denies_named, denies_by};
 
 use vr_header::{Header, Part};
 use vr_msg::Statement;
 
 /// What the statement says of op `k`.
-fn part_at(k: u64, s: &Statement) -> Part
-    ensures { result ≡ part_at k s.now }
+fn stated_part(k: u64, s: &Statement) -> Part
+    ensures { result ≡ stated_part k s.now }
 {
     if k < s.body.first {
         return Part::Nothing;
@@ -22,10 +22,10 @@ fn part_at(k: u64, s: &Statement) -> Part
 }
 
 /// The header that the statement knows of op `k`.
-pub fn header_at(k: u64, s: &Statement) -> Option<Header>
-    ensures { result ≡ header_at k s.now }
+pub fn stated_header(k: u64, s: &Statement) -> Option<Header>
+    ensures { result ≡ stated_header k s.now }
 {
-    part_at(k, s).header()
+    stated_part(k, s).header()
 }
 
 fn is_here(e: &Header, part: &Part) -> bool
@@ -39,9 +39,9 @@ fn is_here(e: &Header, part: &Part) -> bool
 
 /// Whether the statement has the entry of this header at op `k`.
 pub fn has_here(e: &Header, k: u64, s: &Statement) -> bool
-    ensures { result ≡ is_here e.now (part_at k s.now) }
+    ensures { result ≡ is_here e.now (stated_part k s.now) }
 {
-    is_here(e, &part_at(k, s))
+    is_here(e, &stated_part(k, s))
 }
 
 fn denies_as_newest(part: &Part) -> bool
@@ -67,7 +67,7 @@ fn denies_named(e: &Header, part: &Part) -> bool
 pub fn denies(view: u32, e: &Option<Header>, k: u64, s: &Statement) -> bool
     ensures { result ≡ denies_by view e.now k s.now }
 {
-    let part = part_at(k, s);
+    let part = stated_part(k, s);
     if s.log_view == view {
         denies_as_newest(&part)
     } else {

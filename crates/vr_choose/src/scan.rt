@@ -2,9 +2,9 @@
 ghost use Rattle.std.specs.Prelude.{◌≡◌, ◌==◌, count_by};
 ghost use Rattle.std.specs.List.{list_any, find};
 ghost use Rattle.std.specs.Option.{option_copied};
-ghost use Rattle.vr_msg.specs.Choice.{part_at, is_here, top_view, top_commit, named_by, intact_by, denies_by};
+ghost use Rattle.vr_msg.specs.Choice.{stated_part, is_here, top_view, top_commit, named_by, intact_by, denies_by};
 
-use crate::part::{denies, has_here, header_at};
+use crate::part::{denies, has_here, stated_header};
 use vr_header::Header;
 use vr_msg::Statement;
 
@@ -41,7 +41,7 @@ pub fn named_by(view: u32, k: u64, statements: &[Statement]) -> Option<Header>
 {
     for s in statements {
         if s.log_view == view {
-            let header = header_at(k, s);
+            let header = stated_header(k, s);
             if header.is_some() {
                 return header;
             }
@@ -51,7 +51,7 @@ pub fn named_by(view: u32, k: u64, statements: &[Statement]) -> Option<Header>
 }
 
 fn any_here(e: &Header, k: u64, statements: &[Statement]) -> bool
-    ensures { result ≡ list_any (λ s. is_here e.now (part_at k s)) statements.now }
+    ensures { result ≡ list_any (λ s. is_here e.now (stated_part k s)) statements.now }
 {
     statements.iter().any(|s| has_here(e, k, s))
 }

@@ -1,10 +1,10 @@
 //! How far the intact ops reach, and the headers up to there.
 ghost use Rattle.std.specs.Prelude.{◌≡◌, ◌≤◌, ◌<◌, ◌+◌, ◌^◌, ◌++◌, All, IfOk, OnOk, nat_le, if◌then◌else◌};
 ghost use Rattle.std.specs.Option.{option_and_then, option_map_or, option_copied, option_to_list};
-ghost use Rattle.vr_msg.specs.Choice.{header_at, top_view, top_commit, named_by, row_end, start_of, log_headers};
+ghost use Rattle.vr_msg.specs.Choice.{stated_header, top_view, top_commit, named_by, row_end, start_of, log_headers};
 ghost use Rattle.vr_choose.specs.Statements.{IsSomeStatement};
 
-use crate::part::header_at;
+use crate::part::stated_header;
 use crate::scan::{is_intact, named_by, with_commit};
 use std::alloc::{AllocError, Global};
 use vr_header::{Header, HeaderList};
@@ -47,12 +47,12 @@ fn chosen_header(
     k: u64,
     statements: &[Statement],
 ) -> Option<Header>
-    ensures { result ≡ (if nat_le k commit then option_and_then (header_at k) (option_copied far.entry) else named_by view k statements.now) }
+    ensures { result ≡ (if nat_le k commit then option_and_then (stated_header k) (option_copied far.entry) else named_by view k statements.now) }
 {
     if k <= commit {
         match far {
             None => None,
-            Some(s) => header_at(k, s),
+            Some(s) => stated_header(k, s),
         }
     } else {
         named_by(view, k, statements)

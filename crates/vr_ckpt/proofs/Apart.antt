@@ -10,10 +10,10 @@ use Rattle.vr_apply.specs.declared.codec.Texts.{Texts}
 use Rattle.vr_grid.specs.Blocks.{block_of}
 use Rattle.vr_grid.specs.declared.block.Block.{Block}
 use Rattle.vr_ckpt.specs.Places.{first_place, is_place, other_place, root_place}
-use Rattle.vr_ckpt.specs.Saves.{Part, blocks_from, changed, data_content, goes_to, keys_run, part, part_at, payload_at, root_of, sessions_run, stays, table_of, written}
+use Rattle.vr_ckpt.specs.Saves.{PayloadBlocks, blocks_from, changed, data_content, goes_to, keys_run, payload_blocks, payload_blocks_at, payload_at, root_of, sessions_run, stays, table_of, written}
 use Rattle.vr_ckpt.specs.declared.plan.Run.{Run}
 use Rattle.vr_ckpt.specs.declared.table.Payload.{Payload}
-use Rattle.vr_ckpt.specs.declared.table.Table.{Table}
+use Rattle.vr_ckpt.specs.declared.table.PayloadTable.{PayloadTable}
 use Rattle.vr_ckpt.proofs.Planning.{part_first, part_other, part_same}
 
 -- one of two places
@@ -48,22 +48,22 @@ places_apart p q a b (inr x) (inr y) d l m e = d (omega arith)
 
 -- ---- a payload stays, or goes to another block
 
-pub record Stays (o : Option Payload) (bytes : List ℕ) (x : Part) : Type 0 where
+pub record Stays (o : Option Payload) (bytes : List ℕ) (x : PayloadBlocks) : Type 0 where
   pub payload : Payload
   pub there : o ≡ Some payload
   pub same : payload.bytes ≡ bytes
   pub is : x ≡ stays payload
 
-pub record Goes (r : Run) (i : ℕ) (bytes : List ℕ) (o : Option Payload) (x : Part) : Type 0 where
+pub record Goes (r : Run) (i : ℕ) (bytes : List ℕ) (o : Option Payload) (x : PayloadBlocks) : Type 0 where
   pub address : ℕ
   pub at : AtPlace (r.low + i) address
   pub away : (p : Payload) → o ≡ Some p → address ≢ p.name.address
   pub is : x ≡ goes_to r address bytes
 
-pub part_cases : (r : Run) (i : ℕ) (bytes : List ℕ) (o : Option Payload) → Stays o bytes (part r i bytes o) ⊎ Goes r i bytes o (part r i bytes o)
+pub part_cases : (r : Run) (i : ℕ) (bytes : List ℕ) (o : Option Payload) → Stays o bytes (payload_blocks r i bytes o) ⊎ Goes r i bytes o (payload_blocks r i bytes o)
 part_cases r i bytes None = inr (record { address = first_place r.op (r.low + i); at = first_at r.op (r.low + i); away = λ p e. absurd cc; is = part_first r i bytes })
 part_cases r i bytes (Some p) =
-    elim (pointwise nat_eq p.bytes bytes) as (λ t. pointwise nat_eq p.bytes bytes ≡ t → Stays (Some p) bytes (part r i bytes (Some p)) ⊎ Goes r i bytes (Some p) (part r i bytes (Some p))) [
+    elim (pointwise nat_eq p.bytes bytes) as (λ t. pointwise nat_eq p.bytes bytes ≡ t → Stays (Some p) bytes (payload_blocks r i bytes (Some p)) ⊎ Goes r i bytes (Some p) (payload_blocks r i bytes (Some p))) [
       | true ↦ λ t. inl (record { payload = p; there = refl; same = (bytes_eq-Decides p.bytes bytes).0 t; is = part_same r i bytes p t })
       | false ↦ λ t. inr (record {
         address = other_place (r.low + i) p.name.address;
@@ -90,18 +90,18 @@ goes_avoids r x a bytes d = (d, tt)
 abbrev pub Elsewhere : Run → List Payload → ℕ → ℕ → Type 0
 Elsewhere r old k a = (x : ℕ) → AtPlace (r.low + k) x → ((p : Payload) → slice_get old k ≡ Some p → x ≢ p.name.address) → x ≢ a
 
-part_avoids : (r : Run) (text : List ℕ) (old : List Payload) (i a : ℕ) → Elsewhere r old i a → Avoids a (part_at r text old i).blocks
+part_avoids : (r : Run) (text : List ℕ) (old : List Payload) (i a : ℕ) → Elsewhere r old i a → Avoids a (payload_blocks_at r text old i).blocks
 part_avoids r text old i a h =
     elim (part_cases r i (payload_at text i) (slice_get old i)) [
-      | inl s ↦ subst (λ (x : Part). Avoids a x.blocks) (sym s.is) tt
-      | inr g ↦ subst (λ (x : Part). Avoids a x.blocks) (sym g.is) (goes_avoids r g.address a (payload_at text i) (h g.address g.at g.away))
+      | inl s ↦ subst (λ (x : PayloadBlocks). Avoids a x.blocks) (sym s.is) tt
+      | inr g ↦ subst (λ (x : PayloadBlocks). Avoids a x.blocks) (sym g.is) (goes_avoids r g.address a (payload_at text i) (h g.address g.at g.away))
     ]
 
 pub avoid : (r : Run) (text : List ℕ) (old : List Payload) (i n a : ℕ) → ((k : ℕ) → i ≤ k → k < i + n → Elsewhere r old k a) → Avoids a (blocks_from r text old i n)
 unfolding blocks_from
 avoid r text old i zero a h = tt
 avoid r text old i (suc n) a h =
-    avoids_append a (part_at r text old i).blocks (blocks_from r text old (i + 1) n) (part_avoids r text old i a (h i (omega arith) (omega arith)))
+    avoids_append a (payload_blocks_at r text old i).blocks (blocks_from r text old (i + 1) n) (part_avoids r text old i a (h i (omega arith) (omega arith)))
     (avoid r text old (i + 1) n a (λ k l m. h k (omega arith) (omega arith)))
 
 -- of another place
@@ -122,11 +122,11 @@ by_number r old k j p s at l m =
 pub root_at_place : (op : ℕ) → AtPlace 0 (root_place op)
 root_at_place op = let l : (op / 32) % 2 < 2 = omega arith in elim (cases_lt ((op / 32) % 2) 1) [ inl a ↦ inl (omega arith) | inr b ↦ inr (omega arith) ]
 
-pub root_avoids : (cluster op a : ℕ) (texts : Texts) (t : Table) → root_place op ≢ a → Avoids a (block_of (root_of cluster texts op t) ∷ [])
+pub root_avoids : (cluster op a : ℕ) (texts : Texts) (t : PayloadTable) → root_place op ≢ a → Avoids a (block_of (root_of cluster texts op t) ∷ [])
 unfolding block_of root_of
 root_avoids cluster op a texts t d = (d, tt)
 
-pub session_avoided : (cluster : ℕ) (texts : Texts) (op : ℕ) (old : Table) (j : ℕ) (p : Payload) → FitsPayloads texts → slice_get old.sessions j ≡ Some p → j < 9 → AtPlace (1 + j) p.name.address → Avoids p.name.address (written cluster texts op old)
+pub session_avoided : (cluster : ℕ) (texts : Texts) (op : ℕ) (old : PayloadTable) (j : ℕ) (p : Payload) → FitsPayloads texts → slice_get old.sessions j ≡ Some p → j < 9 → AtPlace (1 + j) p.name.address → Avoids p.name.address (written cluster texts op old)
 unfolding written
 session_avoided cluster texts op old j p f s l at =
     let n = f.sessions in
@@ -137,7 +137,7 @@ session_avoided cluster texts op old j p f s l at =
     (avoid (keys_run cluster op) texts.keys old.keys 0 (payloads (length texts.keys)) p.name.address (λ k a b. by_place (keys_run cluster op) old.keys k (1 + j) p.name.address at (λ e. absurd (omega arith)) (omega arith) (omega arith)))
     (root_avoids cluster op p.name.address texts (table_of cluster texts op old) (places_apart 0 (1 + j) (root_place op) p.name.address (root_at_place op) at (λ e. absurd (omega arith)) (omega arith) (omega arith))))
 
-pub key_avoided : (cluster : ℕ) (texts : Texts) (op : ℕ) (old : Table) (j : ℕ) (p : Payload) → FitsPayloads texts → slice_get old.keys j ≡ Some p → j < 36 → AtPlace (10 + j) p.name.address → Avoids p.name.address (written cluster texts op old)
+pub key_avoided : (cluster : ℕ) (texts : Texts) (op : ℕ) (old : PayloadTable) (j : ℕ) (p : Payload) → FitsPayloads texts → slice_get old.keys j ≡ Some p → j < 36 → AtPlace (10 + j) p.name.address → Avoids p.name.address (written cluster texts op old)
 unfolding written
 key_avoided cluster texts op old j p f s l at =
     let n = f.sessions in
@@ -148,7 +148,7 @@ key_avoided cluster texts op old j p f s l at =
     (avoid (keys_run cluster op) texts.keys old.keys 0 (payloads (length texts.keys)) p.name.address (λ k a b. by_number (keys_run cluster op) old.keys k j p s at (omega arith) (omega arith)))
     (root_avoids cluster op p.name.address texts (table_of cluster texts op old) (places_apart 0 (10 + j) (root_place op) p.name.address (root_at_place op) at (λ e. absurd (omega arith)) (omega arith) (omega arith))))
 
-pub root_avoided : (cluster : ℕ) (texts : Texts) (op : ℕ) (old : Table) (a : ℕ) → FitsPayloads texts → AtPlace 0 a → root_place op ≢ a → Avoids a (written cluster texts op old)
+pub root_avoided : (cluster : ℕ) (texts : Texts) (op : ℕ) (old : PayloadTable) (a : ℕ) → FitsPayloads texts → AtPlace 0 a → root_place op ≢ a → Avoids a (written cluster texts op old)
 unfolding written
 root_avoided cluster texts op old a f at d =
     let n = f.sessions in

@@ -23,11 +23,11 @@ use Rattle.vr_ckpt.specs.Loads.{data_at, data_of, gathered, has_numbers, keys_si
 use Rattle.vr_ckpt.specs.declared.found.Load.TheVariants.{Loaded}
 use Rattle.vr_ckpt.specs.Laws.{DoneLaw, Holds, HoldsFrom, SaveDone}
 use Rattle.vr_ckpt.specs.Places.{IsCheckpoint, is_place, root_place}
-use Rattle.vr_ckpt.specs.Saves.{Part, blocks_calls, blocks_from, changed, data_content, goes_to, names_bytes, part_at, payload_at, payloads_from, payloads_of, keys_run, root_of, root_payload, save_calls, sessions_run, table_of, written}
+use Rattle.vr_ckpt.specs.Saves.{PayloadBlocks, blocks_calls, blocks_from, changed, data_content, goes_to, names_bytes, payload_blocks_at, payload_at, payloads_from, payloads_of, keys_run, root_of, root_payload, save_calls, sessions_run, table_of, written}
 use Rattle.vr_ckpt.specs.declared.plan.Run.{Run}
 use Rattle.vr_ckpt.specs.declared.root.Root.{Root}
 use Rattle.vr_ckpt.specs.declared.table.Payload.{Payload}
-use Rattle.vr_ckpt.specs.declared.table.Table.{Table}
+use Rattle.vr_ckpt.specs.declared.table.PayloadTable.{PayloadTable}
 use Rattle.vr_ckpt.proofs.Apart.{AtPlace, Avoids, avoid, avoids_append, by_place, key_avoided, part_cases, place_of, places_apart, root_at_place, root_avoids, session_avoided}
 use Rattle.vr_ckpt.proofs.Keeping.{All, SameAt, blocks_same, data_same, gathered_of, loaded_of, same_after}
 use Rattle.vr_ckpt.proofs.Planning.{keys_count, payload_short, sessions_count}
@@ -86,18 +86,18 @@ wider : (r : Run) (i n : ℕ) (bs : List Block) → AllByRecursion (At r (i + 1)
 wider r i n [] h = tt
 wider r i n (b ∷ bs) h = (record { number = h.0.number; least = let l = h.0.least in omega arith; most = let l = h.0.most in omega arith; place = h.0.place }, wider r i n bs h.1)
 
-part_blocks : (P : List Block → Type 0) (r : Run) (text : List ℕ) (old : List Payload) (i : ℕ) → P [] → ((x : ℕ) → AtPlace (r.low + i) x → P (goes_to r x (payload_at text i)).blocks) → P (part_at r text old i).blocks
+part_blocks : (P : List Block → Type 0) (r : Run) (text : List ℕ) (old : List Payload) (i : ℕ) → P [] → ((x : ℕ) → AtPlace (r.low + i) x → P (goes_to r x (payload_at text i)).blocks) → P (payload_blocks_at r text old i).blocks
 part_blocks P r text old i none some =
     elim (part_cases r i (payload_at text i) (slice_get old i)) [
-      | inl s ↦ subst (λ (x : Part). P x.blocks) (sym s.is) none
-      | inr g ↦ subst (λ (x : Part). P x.blocks) (sym g.is) (some g.address g.at)
+      | inl s ↦ subst (λ (x : PayloadBlocks). P x.blocks) (sym s.is) none
+      | inr g ↦ subst (λ (x : PayloadBlocks). P x.blocks) (sym g.is) (some g.address g.at)
     ]
 
 pub all_at : (r : Run) (text : List ℕ) (old : List Payload) (i n : ℕ) → AllByRecursion (At r i n) (blocks_from r text old i n)
 unfolding blocks_from
 all_at r text old i zero = tt
 all_at r text old i (suc n) =
-    all_append (At r i (suc n)) (part_at r text old i).blocks (blocks_from r text old (i + 1) n)
+    all_append (At r i (suc n)) (payload_blocks_at r text old i).blocks (blocks_from r text old (i + 1) n)
     (part_blocks (AllByRecursion (At r i (suc n))) r text old i tt (λ x a. goes_at r i (suc n) i x (payload_at text i) (omega arith) (omega arith) a))
     (wider r i n (blocks_from r text old (i + 1) n) (all_at r text old (i + 1) n))
 
@@ -114,7 +114,7 @@ unfolding blocks_from
 text_distinct r text old i zero l = tt
 text_distinct r text old i (suc n) l =
     let later = blocks_from r text old (i + 1) n in
-    distinct_append (part_at r text old i).blocks later
+    distinct_append (payload_blocks_at r text old i).blocks later
     (part_blocks Distinct r text old i tt (λ x a. goes_distinct r x (payload_at text i)))
     (text_distinct r text old (i + 1) n (omega arith))
     (part_blocks (AllByRecursion (λ (b : Block). Avoids b.name.address later)) r text old i tt (λ x a. goes_apart r x (payload_at text i) later
@@ -133,11 +133,11 @@ goes_bytes : (r : Run) (x : ℕ) (bytes : List ℕ) → (goes_to r x bytes).payl
 unfolding goes_to
 goes_bytes r x bytes = refl
 
-part_bytes : (r : Run) (text : List ℕ) (old : List Payload) (i : ℕ) → (part_at r text old i).payload.bytes ≡ payload_at text i
+pub part_bytes : (r : Run) (text : List ℕ) (old : List Payload) (i : ℕ) → (payload_blocks_at r text old i).payload.bytes ≡ payload_at text i
 part_bytes r text old i =
     elim (part_cases r i (payload_at text i) (slice_get old i)) [
-      | inl s ↦ ap (λ (x : Part). x.payload.bytes) s.is ∙ s.same
-      | inr g ↦ ap (λ (x : Part). x.payload.bytes) g.is ∙ goes_bytes r g.address (payload_at text i)
+      | inl s ↦ ap (λ (x : PayloadBlocks). x.payload.bytes) s.is ∙ s.same
+      | inr g ↦ ap (λ (x : PayloadBlocks). x.payload.bytes) g.is ∙ goes_bytes r g.address (payload_at text i)
     ]
 
 text_from : (r : Run) (text : List ℕ) (old : List Payload) (i n : ℕ) → length text ≤ 3968 * (i + n) → text_of (payloads_from r text old i n) ≡ drop (3968 * i) text
@@ -183,13 +183,13 @@ below : (low x : ℕ) → low < 64 → AtPlace low x → x < 128
 below low x l (inl e) = omega arith
 below low x l (inr e) = omega arith
 
-part_held : (g : Face) (r : Run) (text : List ℕ) (old : List Payload) (i : ℕ) → r.cluster < 2 ^ 64 → r.op < 2 ^ 64 → r.low + i < 64 → AllByRecursion (Back g) (part_at r text old i).blocks
-    → ((p : Payload) → slice_get old i ≡ Some p → Held g (r.low + i) p) → Held g (r.low + i) (part_at r text old i).payload
+part_held : (g : Face) (r : Run) (text : List ℕ) (old : List Payload) (i : ℕ) → r.cluster < 2 ^ 64 → r.op < 2 ^ 64 → r.low + i < 64 → AllByRecursion (Back g) (payload_blocks_at r text old i).blocks
+    → ((p : Payload) → slice_get old i ≡ Some p → Held g (r.low + i) p) → Held g (r.low + i) (payload_blocks_at r text old i).payload
 part_held g r text old i c o l h kept =
     elim (part_cases r i (payload_at text i) (slice_get old i)) [
-      | inl s ↦ subst (λ (x : Part). Held g (r.low + i) x.payload) (sym s.is) (kept s.payload s.there)
-      | inr x ↦ subst (λ (y : Part). Held g (r.low + i) y.payload) (sym x.is)
-          (goes_held g r (r.low + i) x.address (payload_at text i) c o (below (r.low + i) x.address l x.at) (payload_short text i) x.at (subst (λ (y : Part). AllByRecursion (Back g) y.blocks) x.is h))
+      | inl s ↦ subst (λ (x : PayloadBlocks). Held g (r.low + i) x.payload) (sym s.is) (kept s.payload s.there)
+      | inr x ↦ subst (λ (y : PayloadBlocks). Held g (r.low + i) y.payload) (sym x.is)
+          (goes_held g r (r.low + i) x.address (payload_at text i) c o (below (r.low + i) x.address l x.at) (payload_short text i) x.at (subst (λ (y : PayloadBlocks). AllByRecursion (Back g) y.blocks) x.is h))
     ]
 
 pub holds_new : (g : Face) (r : Run) (text : List ℕ) (old : List Payload) (i n : ℕ) → r.cluster < 2 ^ 64 → r.op < 2 ^ 64 → r.low + (i + n) ≤ 64 → AllByRecursion (Back g) (blocks_from r text old i n)
@@ -197,7 +197,7 @@ pub holds_new : (g : Face) (r : Run) (text : List ℕ) (old : List Payload) (i n
 unfolding payloads_from blocks_from
 holds_new g r text old i zero c o l h kept = tt
 holds_new g r text old i (suc n) c o l h kept =
-    let s = all_split (Back g) (part_at r text old i).blocks (blocks_from r text old (i + 1) n) h in
+    let s = all_split (Back g) (payload_blocks_at r text old i).blocks (blocks_from r text old (i + 1) n) h in
     let p = part_held g r text old i c o (omega arith) s.0 (λ p e. kept i p e (omega arith) (omega arith)) in
     let m : r.low + i + 1 ≡ r.low + (i + 1) = omega arith in
     (p.0, p.1, rw m (holds_new g r text old (i + 1) n c o (omega arith) s.1 (λ j p e a b. kept j p e (omega arith) (omega arith))))
@@ -255,11 +255,11 @@ sizes op ls lk n x y =
     let i = length-bytes16 n in
     omega arith
 
-record Fit (n : Name) : Type 0 where
-  sum : length n.sum.0 ≡ 16
-  address : n.address < 2 ^ 64
+pub record Fit (n : Name) : Type 0 where
+  pub sum : length n.sum.0 ≡ 16
+  pub address : n.address < 2 ^ 64
 
-fit_name : (b : List ℕ) (n : Name) (c : Content) → n.address < 128 → named n b ≡ Some c → Fit n
+pub fit_name : (b : List ℕ) (n : Name) (c : Content) → n.address < 128 → named n b ≡ Some c → Fit n
 fit_name b n c l e =
     let p = (named_found n b c e).1 in
     record { sum = ap (λ (n : Name). length n.sum.0) (sym p) ∙ length-name_of _; address = omega arith }
@@ -280,14 +280,14 @@ fit_of g n size bytes e = by_test (ltb n.address 128) refl e
     by_test true t e = by_reading (block_reading g n.address) (ltb-true n.address 128 t) e
     by_test false t e = absurd cc
 
-abbrev Fits : List Payload → Type 0
+abbrev pub Fits : List Payload → Type 0
 Fits ps = AllByRecursion (λ (p : Payload). Fit p.name) ps
 
 fits_held : (g : Face) (low : ℕ) (ps : List Payload) → HoldsFrom g low ps → Fits ps
 fits_held g low [] h = tt
 fits_held g low (p ∷ ps) h = (fit_of g p.name (length p.bytes) p.bytes h.1, fits_held g (low + 1) ps h.2)
 
-goes_fit : (r : Run) (x : ℕ) (bytes : List ℕ) → x < 128 → Fit (goes_to r x bytes).payload.name
+pub goes_fit : (r : Run) (x : ℕ) (bytes : List ℕ) → x < 128 → Fit (goes_to r x bytes).payload.name
 unfolding goes_to data_content
 goes_fit r x bytes l = record { sum = length-name_of _; address = omega arith }
 
@@ -296,13 +296,13 @@ unfolding payloads_from
 fits_new r text old i zero l h = tt
 fits_new r text old i (suc n) l h = (
   elim (part_cases r i (payload_at text i) (slice_get old i)) [
-    | inl s ↦ subst (λ (x : Part). Fit x.payload.name) (sym s.is) (h i s.payload s.there)
-    | inr x ↦ subst (λ (y : Part). Fit y.payload.name) (sym x.is) (goes_fit r x.address (payload_at text i) (below (r.low + i) x.address (omega arith) x.at))
+    | inl s ↦ subst (λ (x : PayloadBlocks). Fit x.payload.name) (sym s.is) (h i s.payload s.there)
+    | inr x ↦ subst (λ (y : PayloadBlocks). Fit y.payload.name) (sym x.is) (goes_fit r x.address (payload_at text i) (below (r.low + i) x.address (omega arith) x.at))
   ],
   fits_new r text old (i + 1) n (omega arith) h,
 )
 
-length-names : (ps : List Payload) → Fits ps → length (names_bytes ps) ≡ 24 * length ps
+pub length-names : (ps : List Payload) → Fits ps → length (names_bytes ps) ≡ 24 * length ps
 unfolding names_bytes
 length-names [] h = refl
 length-names (p ∷ ps) h =
@@ -314,7 +314,7 @@ length-names (p ∷ ps) h =
     omega arith
 
 -- one name at its place
-name_there : (b rest : List ℕ) (i : ℕ) (n : Name) → Fit n → drop (18 + 24 * i) b ≡ bytes64 n.address ++ (n.sum.0 ++ rest) → name_at b i ≡ n
+pub name_there : (b rest : List ℕ) (i : ℕ) (n : Name) → Fit n → drop (18 + 24 * i) b ≡ bytes64 n.address ++ (n.sum.0 ++ rest) → name_at b i ≡ n
 unfolding name_at piece
 name_there b rest i n f e =
     let address : number w64 (18 + 24 * i) b ≡ n.address = number64_there b (18 + 24 * i) n.address (ap (take 8) e ∙ take_at (bytes64 n.address) (n.sum.0 ++ rest) 8 (length-bytes64 n.address)) f.address in
@@ -324,7 +324,7 @@ name_there b rest i n f e =
     ap (λ (k : ℕ). let x : Name = record { address = k; sum = record { 0 = take 16 (drop (26 + 24 * i) b) } } in x) address
     ∙ ap (λ (s : List ℕ). let x : Name = record { address = n.address; sum = record { 0 = s } } in x) sum
 
-after_name : (b rest : List ℕ) (i : ℕ) (n : Name) → Fit n → drop (18 + 24 * i) b ≡ bytes64 n.address ++ (n.sum.0 ++ rest) → drop (18 + 24 * (i + 1)) b ≡ rest
+pub after_name : (b rest : List ℕ) (i : ℕ) (n : Name) → Fit n → drop (18 + 24 * i) b ≡ bytes64 n.address ++ (n.sum.0 ++ rest) → drop (18 + 24 * (i + 1)) b ≡ rest
 after_name b rest i n f e =
     let m : 18 + 24 * (i + 1) ≡ 18 + 24 * i + 8 + 16 = omega arith in
     ap (λ k. drop k b) m ∙ (sym (drop-drop 16 (18 + 24 * i + 8) b) ∙ (ap (drop 16) (sym (drop-drop 8 (18 + 24 * i) b) ∙ (ap (drop 8) e ∙ drop_at (bytes64 n.address) (n.sum.0 ++ rest) 8 (length-bytes64 n.address))) ∙ drop_at n.sum.0 rest 16 f.sum))
@@ -341,15 +341,15 @@ names_there g low b rest i (p ∷ ps) h e =
 
 -- ---- the root
 
-record RootWords (op ls lk : ℕ) (t : Table) (p : List ℕ) : Type 0 where
-  op_there : number w64 0 p ≡ op
-  sessions_there : sessions_size p ≡ ls
-  keys_there : keys_size p ≡ lk
-  count_there : number w16 16 p ≡ length t.sessions + length t.keys
-  names : drop 18 p ≡ names_bytes t.sessions ++ names_bytes t.keys
-  size : length p ≡ 18 + (length (names_bytes t.sessions) + length (names_bytes t.keys))
+pub record RootWords (op ls lk : ℕ) (t : PayloadTable) (p : List ℕ) : Type 0 where
+  pub op_there : number w64 0 p ≡ op
+  pub sessions_there : sessions_size p ≡ ls
+  pub keys_there : keys_size p ≡ lk
+  pub count_there : number w16 16 p ≡ length t.sessions + length t.keys
+  pub names : drop 18 p ≡ names_bytes t.sessions ++ names_bytes t.keys
+  pub size : length p ≡ 18 + (length (names_bytes t.sessions) + length (names_bytes t.keys))
 
-words : (op ls lk : ℕ) (t : Table) → op < 2 ^ 64 → ls < 2 ^ 32 → lk < 2 ^ 32 → length t.sessions + length t.keys < 2 ^ 16 → RootWords op ls lk t (root_payload op ls lk t)
+pub words : (op ls lk : ℕ) (t : PayloadTable) → op < 2 ^ 64 → ls < 2 ^ 32 → lk < 2 ^ 32 → length t.sessions + length t.keys < 2 ^ 16 → RootWords op ls lk t (root_payload op ls lk t)
 unfolding root_payload sessions_size keys_size
 words op ls lk t a b c d =
     let n = length t.sessions + length t.keys in
@@ -371,7 +371,7 @@ words op ls lk t a b c d =
       size = sizes op ls lk n (names_bytes t.sessions) (names_bytes t.keys);
     }
 
-root_read : (g : Face) (cluster op : ℕ) (texts : Texts) (t : Table) → op < 2 ^ 64 → FitsPayloads texts → HoldsFrom g 1 t.sessions → HoldsFrom g 10 t.keys → length t.sessions ≡ payloads (length texts.sessions) → length t.keys ≡ payloads (length texts.keys)
+root_read : (g : Face) (cluster op : ℕ) (texts : Texts) (t : PayloadTable) → op < 2 ^ 64 → FitsPayloads texts → HoldsFrom g 1 t.sessions → HoldsFrom g 10 t.keys → length t.sessions ≡ payloads (length texts.sessions) → length t.keys ≡ payloads (length texts.keys)
     → read_root (root_of cluster texts op t) ≡ Some (record { sessions_size = length texts.sessions; keys_size = length texts.keys; sessions = names_of t.sessions; keys = names_of t.keys })
 unfolding read_root root_of root_in has_numbers
 root_read g cluster op texts t a fits hs hk ns nk =
@@ -431,7 +431,7 @@ text_sized : (r : Run) (text : List ℕ) (old : List Payload) (i n : ℕ) → r.
 unfolding blocks_from
 text_sized r text old i zero c o l = tt
 text_sized r text old i (suc n) c o l =
-    all_append Sized (part_at r text old i).blocks (blocks_from r text old (i + 1) n)
+    all_append Sized (payload_blocks_at r text old i).blocks (blocks_from r text old (i + 1) n)
     (part_blocks (AllByRecursion Sized) r text old i tt (λ x a. goes_sized r x (payload_at text i) c o (below (r.low + i) x (omega arith) a) (payload_short text i)))
     (text_sized r text old (i + 1) n c o (omega arith))
 
@@ -440,7 +440,7 @@ unfolding block_reading
 synced_back f [] h = tt
 synced_back f (b ∷ bs) h = (together_synced 8 (400 + 8 * b.name.address) f ∙ h.0, synced_back f bs h.1)
 
-root_fits : (cluster op : ℕ) (texts : Texts) (t : Table) → cluster < 2 ^ 64 → op < 2 ^ 64 → FitsPayloads texts → Fits t.sessions → Fits t.keys → length t.sessions ≡ payloads (length texts.sessions) → length t.keys ≡ payloads (length texts.keys)
+root_fits : (cluster op : ℕ) (texts : Texts) (t : PayloadTable) → cluster < 2 ^ 64 → op < 2 ^ 64 → FitsPayloads texts → Fits t.sessions → Fits t.keys → length t.sessions ≡ payloads (length texts.sessions) → length t.keys ≡ payloads (length texts.keys)
     → IsContent (root_of cluster texts op t)
 unfolding root_of
 root_fits cluster op texts t c o fits a b n m =
@@ -466,17 +466,17 @@ unfolding root_at
 root_there g c r e s = ap (option_and_then read_root) e ∙ s
 
 -- the texts of a checkpoint, its table, and what is written
-record Parts (cluster : ℕ) (texts : Texts) (op : ℕ) (old t : Table) (xs ys : List Block) (root : Content) : Type 0 where
+record Parts (cluster : ℕ) (texts : Texts) (op : ℕ) (old t : PayloadTable) (xs ys : List Block) (root : Content) : Type 0 where
   sessions : t.sessions ≡ payloads_of (sessions_run cluster op) texts.sessions old.sessions
   keys : t.keys ≡ payloads_of (keys_run cluster op) texts.keys old.keys
   whole : written cluster texts op old ≡ xs ++ (ys ++ block_of root ∷ [])
 
-parts : (cluster : ℕ) (texts : Texts) (op : ℕ) (old : Table)
+parts : (cluster : ℕ) (texts : Texts) (op : ℕ) (old : PayloadTable)
     → Parts cluster texts op old (table_of cluster texts op old) (changed (sessions_run cluster op) texts.sessions old.sessions) (changed (keys_run cluster op) texts.keys old.keys) (root_of cluster texts op (table_of cluster texts op old))
 unfolding table_of written
 parts cluster texts op old = record { sessions = refl; keys = refl; whole = refl }
 
-session_apart : (cluster : ℕ) (texts : Texts) (op : ℕ) (old t : Table) (b : Block) → FitsPayloads texts → At (sessions_run cluster op) 0 (payloads (length texts.sessions)) b
+session_apart : (cluster : ℕ) (texts : Texts) (op : ℕ) (old t : PayloadTable) (b : Block) → FitsPayloads texts → At (sessions_run cluster op) 0 (payloads (length texts.sessions)) b
     → Avoids b.name.address (changed (keys_run cluster op) texts.keys old.keys ++ block_of (root_of cluster texts op t) ∷ [])
 session_apart cluster texts op old t b fits at =
     let n = fits.sessions in
@@ -486,13 +486,13 @@ session_apart cluster texts op old t b fits at =
     (avoid (keys_run cluster op) texts.keys old.keys 0 (payloads (length texts.keys)) b.name.address (λ k x y. by_place (keys_run cluster op) old.keys k (1 + at.number) b.name.address at.place (λ e. absurd (omega arith)) (omega arith) (omega arith)))
     (root_avoids cluster op b.name.address texts t (places_apart 0 (1 + at.number) (root_place op) b.name.address (root_at_place op) at.place (λ e. absurd (omega arith)) (omega arith) (omega arith)))
 
-key_apart : (cluster : ℕ) (texts : Texts) (op : ℕ) (t : Table) (b : Block) → FitsPayloads texts → At (keys_run cluster op) 0 (payloads (length texts.keys)) b → Avoids b.name.address (block_of (root_of cluster texts op t) ∷ [])
+key_apart : (cluster : ℕ) (texts : Texts) (op : ℕ) (t : PayloadTable) (b : Block) → FitsPayloads texts → At (keys_run cluster op) 0 (payloads (length texts.keys)) b → Avoids b.name.address (block_of (root_of cluster texts op t) ∷ [])
 key_apart cluster texts op t b fits at =
     let m = fits.keys in
     let l = at.most in
     root_avoids cluster op b.name.address texts t (places_apart 0 (10 + at.number) (root_place op) b.name.address (root_at_place op) at.place (λ e. absurd (omega arith)) (omega arith) (omega arith))
 
-written_distinct : (cluster : ℕ) (texts : Texts) (op : ℕ) (old t : Table) → FitsPayloads texts
+written_distinct : (cluster : ℕ) (texts : Texts) (op : ℕ) (old t : PayloadTable) → FitsPayloads texts
     → Distinct (changed (sessions_run cluster op) texts.sessions old.sessions ++ (changed (keys_run cluster op) texts.keys old.keys ++ block_of (root_of cluster texts op t) ∷ []))
 written_distinct cluster texts op old t fits =
     let n = fits.sessions in
@@ -511,11 +511,11 @@ written_distinct cluster texts op old t fits =
 held_same : (f g : Face) (low : ℕ) (p : Payload) → SameAt f g p.name.address → Held f low p → Held g low p
 held_same f g low p s h = (h.0, data_same f g p.name (length p.bytes) s ∙ h.1)
 
-face_of_save : (cluster : ℕ) (texts : Texts) (op : ℕ) (old : Table) (f : Face) → after_all f (save_calls cluster texts op old) ≡ after (after_all f (blocks_calls (written cluster texts op old))) Sync
+face_of_save : (cluster : ℕ) (texts : Texts) (op : ℕ) (old : PayloadTable) (f : Face) → after_all f (save_calls cluster texts op old) ≡ after (after_all f (blocks_calls (written cluster texts op old))) Sync
 unfolding save_calls
 face_of_save cluster texts op old f = after_all_append (blocks_calls (written cluster texts op old)) (Sync ∷ []) f
 
-all_read : (cluster : ℕ) (texts : Texts) (op : ℕ) (old : Table) (f : Face) → cluster < 2 ^ 64 → op < 2 ^ 64 → FitsPayloads texts → IsFace f → Holds f old
+all_read : (cluster : ℕ) (texts : Texts) (op : ℕ) (old : PayloadTable) (f : Face) → cluster < 2 ^ 64 → op < 2 ^ 64 → FitsPayloads texts → IsFace f → Holds f old
     → AllByRecursion (Back (after_all f (save_calls cluster texts op old))) (changed (sessions_run cluster op) texts.sessions old.sessions ++ (changed (keys_run cluster op) texts.keys old.keys ++ block_of (root_of cluster texts op (table_of cluster texts op old)) ∷ []))
 all_read cluster texts op old f c o fits face h =
     let n = fits.sessions in
@@ -536,11 +536,11 @@ all_read cluster texts op old f c o fits face h =
     let e : after_all f (save_calls cluster texts op old) ≡ after (after_all f (blocks_calls (xs ++ (ys ++ rs)))) Sync = face_of_save cluster texts op old f ∙ ap (λ bs. after (after_all f (blocks_calls bs)) Sync) p.whole in
     subst (λ (g : Face). AllByRecursion (Back g) (xs ++ (ys ++ rs))) (sym e) (synced_back (after_all f (blocks_calls (xs ++ (ys ++ rs)))) (xs ++ (ys ++ rs)) back)
 
-same_texts : (texts : Texts) (t : Table) → text_of t.sessions ≡ texts.sessions → text_of t.keys ≡ texts.keys → (let x : Texts = record { sessions = text_of t.sessions; keys = text_of t.keys } in x) ≡ texts
+same_texts : (texts : Texts) (t : PayloadTable) → text_of t.sessions ≡ texts.sessions → text_of t.keys ≡ texts.keys → (let x : Texts = record { sessions = text_of t.sessions; keys = text_of t.keys } in x) ≡ texts
 same_texts texts t a b =
     ap (λ (y : List ℕ). let x : Texts = record { sessions = y; keys = text_of t.keys } in x) a ∙ ap (λ (y : List ℕ). let x : Texts = record { sessions = texts.sessions; keys = y } in x) b
 
-pub done : (cluster : ℕ) (texts : Texts) (op : ℕ) (old : Table) (f : Face) → cluster < 2 ^ 64 → op < 2 ^ 64 → FitsPayloads texts → IsFace f → Holds f old → SaveDone cluster texts op old f
+pub done : (cluster : ℕ) (texts : Texts) (op : ℕ) (old : PayloadTable) (f : Face) → cluster < 2 ^ 64 → op < 2 ^ 64 → FitsPayloads texts → IsFace f → Holds f old → SaveDone cluster texts op old f
 done cluster texts op old f c o fits face h =
     let n = fits.sessions in
     let m = fits.keys in
@@ -573,7 +573,7 @@ done cluster texts op old f c o fits face h =
 pub done_law : DoneLaw
 done_law cluster texts op old f c is fits face h = let m = is.most in done cluster texts op old f c (omega arith) fits face h
 
-pub dones : (t : Option Disk) (cluster : ℕ) (texts : Texts) (op : ℕ) (old : Table) → IfSome t (λ (d : Disk). IsFace d.face) → cluster < 2 ^ 64 → IsCheckpoint op → FitsPayloads texts
+pub dones : (t : Option Disk) (cluster : ℕ) (texts : Texts) (op : ℕ) (old : PayloadTable) → IfSome t (λ (d : Disk). IsFace d.face) → cluster < 2 ^ 64 → IsCheckpoint op → FitsPayloads texts
     → IfSome t (λ (d : Disk). Holds d.face old → SaveDone cluster texts op old d.face)
 dones t cluster texts op old face c is fits =
     if_some (λ (d : Disk). Holds d.face old → SaveDone cluster texts op old d.face) t (λ d e h. done_law cluster texts op old d.face c is fits (some_if (λ (d : Disk). IsFace d.face) t d face e) h)

@@ -7,7 +7,7 @@ use Rattle.std.proofs.lemmas.Bool.{and_parts, cases_lt, eqb-true}
 use Rattle.vr_apply.specs.Texts.{FitsPayloads, payloads}
 use Rattle.vr_apply.specs.declared.codec.Texts.{Texts}
 use Rattle.vr_disk.specs.DiskState.{Call, Cell, Disk, Face, Sync, after_all, cut}
-use Rattle.vr_disk.specs.Regions.{block_at}
+use Rattle.vr_disk.specs.Regions.{block_place}
 use Rattle.vr_disk.specs.Stops.{Spares}
 use Rattle.vr_disk.proofs.Frames.{frame_all, frame_cut}
 use Rattle.vr_disk.proofs.Telling.{if_some}
@@ -26,7 +26,7 @@ use Rattle.vr_ckpt.specs.declared.found.Load.TheVariants.{Loaded}
 use Rattle.vr_ckpt.specs.declared.loading.Gathered.{Gathered}
 use Rattle.vr_ckpt.specs.declared.root.Root.{Root}
 use Rattle.vr_ckpt.specs.declared.table.Payload.{Payload}
-use Rattle.vr_ckpt.specs.declared.table.Table.{Table}
+use Rattle.vr_ckpt.specs.declared.table.PayloadTable.{PayloadTable}
 use Rattle.vr_ckpt.proofs.Apart.{AtPlace, Avoids, key_avoided, place_of, root_at_place, root_avoided, session_avoided}
 use Rattle.vr_ckpt.proofs.Roots.{numbers_of}
 
@@ -35,36 +35,36 @@ use Rattle.vr_ckpt.proofs.Roots.{numbers_of}
 abbrev pub SameAt : Face → Face → ℕ → Type 0
 SameAt f g a = block_reading g a ≡ block_reading f a
 
-outside : (a x i : ℕ) → x ≢ a → block_at a ≤ i → i < block_at a + 8 → (i < block_at x) ⊎ (block_at x + 8 ≤ i)
+outside : (a x i : ℕ) → x ≢ a → block_place a ≤ i → i < block_place a + 8 → (i < block_place x) ⊎ (block_place x + 8 ≤ i)
 outside a x i d l m = elim (cases_lt a x) [ inl b ↦ inl (omega arith) | inr g ↦ elim (cases_lt x a) [ inl b ↦ inr (omega arith) | inr h ↦ absurd (d (omega arith)) ] ]
 
-blocks_spare : (bs : List Block) (a i : ℕ) → Avoids a bs → block_at a ≤ i → i < block_at a + 8 → AllByRecursion (Spares i) (blocks_calls bs)
+blocks_spare : (bs : List Block) (a i : ℕ) → Avoids a bs → block_place a ≤ i → i < block_place a + 8 → AllByRecursion (Spares i) (blocks_calls bs)
 unfolding blocks_calls
 blocks_spare [] a i h l m = tt
 blocks_spare (b ∷ bs) a i h l m =
     let x = b.name.address in
     spares_append i (block_calls x b.bytes) (blocks_calls bs)
-    (within_spares (block_at x) (block_at x + 8) (block_calls x b.bytes) i (block_within x b.bytes) (outside a x i h.0 l m))
+    (within_spares (block_place x) (block_place x + 8) (block_calls x b.bytes) i (block_within x b.bytes) (outside a x i h.0 l m))
     (blocks_spare bs a i h.1 l m)
 
 -- after blocks are written
 pub blocks_same : (bs : List Block) (f : Face) (a : ℕ) → Avoids a bs → SameAt f (after_all f (blocks_calls bs)) a
 unfolding block_reading
-blocks_same bs f a h = together_same 8 (block_at a) f (after_all f (blocks_calls bs)) (λ k l m. ap (λ (c : Cell). c.reads) (frame_all (blocks_calls bs) f k (blocks_spare bs a k h l m)))
+blocks_same bs f a h = together_same 8 (block_place a) f (after_all f (blocks_calls bs)) (λ k l m. ap (λ (c : Cell). c.reads) (frame_all (blocks_calls bs) f k (blocks_spare bs a k h l m)))
 
-save_spares : (cluster : ℕ) (texts : Texts) (op : ℕ) (old : Table) (a i : ℕ) → Avoids a (written cluster texts op old) → block_at a ≤ i → i < block_at a + 8 → AllByRecursion (Spares i) (save_calls cluster texts op old)
+save_spares : (cluster : ℕ) (texts : Texts) (op : ℕ) (old : PayloadTable) (a i : ℕ) → Avoids a (written cluster texts op old) → block_place a ≤ i → i < block_place a + 8 → AllByRecursion (Spares i) (save_calls cluster texts op old)
 unfolding save_calls
 save_spares cluster texts op old a i h l m = spares_append i (blocks_calls (written cluster texts op old)) (Sync ∷ []) (blocks_spare (written cluster texts op old) a i h l m) (tt, tt)
 
-pub same_after : (cluster : ℕ) (texts : Texts) (op : ℕ) (old : Table) (f : Face) (a : ℕ) → Avoids a (written cluster texts op old) → SameAt f (after_all f (save_calls cluster texts op old)) a
+pub same_after : (cluster : ℕ) (texts : Texts) (op : ℕ) (old : PayloadTable) (f : Face) (a : ℕ) → Avoids a (written cluster texts op old) → SameAt f (after_all f (save_calls cluster texts op old)) a
 unfolding block_reading
 same_after cluster texts op old f a h =
-    together_same 8 (block_at a) f (after_all f (save_calls cluster texts op old)) (λ k l m. ap (λ (c : Cell). c.reads) (frame_all (save_calls cluster texts op old) f k (save_spares cluster texts op old a k h l m)))
+    together_same 8 (block_place a) f (after_all f (save_calls cluster texts op old)) (λ k l m. ap (λ (c : Cell). c.reads) (frame_all (save_calls cluster texts op old) f k (save_spares cluster texts op old a k h l m)))
 
-pub same_cut : (cluster : ℕ) (texts : Texts) (op : ℕ) (old : Table) (f : Face) (a j code : ℕ) → f.waiting ≡ [] → Avoids a (written cluster texts op old) → SameAt f (cut j code f (save_calls cluster texts op old)) a
+pub same_cut : (cluster : ℕ) (texts : Texts) (op : ℕ) (old : PayloadTable) (f : Face) (a j code : ℕ) → f.waiting ≡ [] → Avoids a (written cluster texts op old) → SameAt f (cut j code f (save_calls cluster texts op old)) a
 unfolding block_reading
 same_cut cluster texts op old f a j code w h =
-    together_same 8 (block_at a) f (cut j code f (save_calls cluster texts op old))
+    together_same 8 (block_place a) f (cut j code f (save_calls cluster texts op old))
     (λ k l m. ap (λ (c : Cell). c.reads) (frame_cut (save_calls cluster texts op old) f k j code (save_spares cluster texts op old a k h l m) (rw w refl)))
 
 front_spares : (cs : List Call) (n i : ℕ) → AllByRecursion (Spares i) cs → AllByRecursion (Spares i) (take n cs)
@@ -72,11 +72,11 @@ front_spares cs zero i h = tt
 front_spares [] (suc n) i h = tt
 front_spares (c ∷ cs) (suc n) i h = (h.0, front_spares cs n i h.1)
 
-pub same_front : (cluster : ℕ) (texts : Texts) (op : ℕ) (old : Table) (f : Face) (a j : ℕ) → Avoids a (written cluster texts op old) → SameAt f (after_all f (take j (save_calls cluster texts op old))) a
+pub same_front : (cluster : ℕ) (texts : Texts) (op : ℕ) (old : PayloadTable) (f : Face) (a j : ℕ) → Avoids a (written cluster texts op old) → SameAt f (after_all f (take j (save_calls cluster texts op old))) a
 unfolding block_reading
 same_front cluster texts op old f a j h =
     let cs = save_calls cluster texts op old in
-    together_same 8 (block_at a) f (after_all f (take j cs)) (λ k l m. ap (λ (c : Cell). c.reads) (frame_all (take j cs) f k (front_spares cs j k (save_spares cluster texts op old a k h l m))))
+    together_same 8 (block_place a) f (after_all f (take j cs)) (λ k l m. ap (λ (c : Cell). c.reads) (frame_all (take j cs) f k (front_spares cs j k (save_spares cluster texts op old a k h l m))))
 
 -- ---- what reads the same
 
@@ -137,7 +137,7 @@ gathered_same f g (n ∷ ns) size ps e s =
 
 -- ---- a checkpoint that loads, part by part
 
-record Loads (f : Face) (root : Name) (texts : Texts) (t : Table) : Type 0 where
+record Loads (f : Face) (root : Name) (texts : Texts) (t : PayloadTable) : Type 0 where
   found : Root
   at : root_at f root ≡ Some found
   sessions : gathered f found.sessions_size found.sessions ≡ All t.sessions
@@ -148,19 +148,19 @@ none_left : {X : Type 0} → (xs ys : List X) → xs ++ ys ≡ [] → (xs ≡ []
 none_left [] ys e = (refl, e)
 none_left (x ∷ xs) ys e = absurd cc
 
-record Both (s k : Gathered) (texts : Texts) (t : Table) : Type 0 where
+record Both (s k : Gathered) (texts : Texts) (t : PayloadTable) : Type 0 where
   none : s.missing ++ k.missing ≡ []
   made : texts ≡ record { sessions = text_of s.payloads; keys = text_of k.payloads }
   table : t ≡ record { sessions = s.payloads; keys = k.payloads }
 
-both_by : (s k : Gathered) (ns : List Name) (texts : Texts) (t : Table) → s.missing ++ k.missing ≡ ns → load_of s k ns ≡ Loaded texts t → Both s k texts t
+both_by : (s k : Gathered) (ns : List Name) (texts : Texts) (t : PayloadTable) → s.missing ++ k.missing ≡ ns → load_of s k ns ≡ Loaded texts t → Both s k texts t
 both_by s k [] texts t n e =
     let a : record { sessions = text_of s.payloads; keys = text_of k.payloads } ≡ texts = cc in
     let b : record { sessions = s.payloads; keys = k.payloads } ≡ t = cc in
     record { none = n; made = sym a; table = sym b }
 both_by s k (x ∷ ns) texts t n e = absurd cc
 
-loads_by : (f : Face) (root : Name) (texts : Texts) (t : Table) (o : Option Root) → root_at f root ≡ o → load_by f root o ≡ Loaded texts t → Loads f root texts t
+loads_by : (f : Face) (root : Name) (texts : Texts) (t : PayloadTable) (o : Option Root) → root_at f root ≡ o → load_by f root o ≡ Loaded texts t → Loads f root texts t
 loads_by f root texts t None r e = absurd cc
 loads_by f root texts t (Some x) r e =
     let s = gathered f x.sessions_size x.sessions in
@@ -170,21 +170,21 @@ loads_by f root texts t (Some x) r e =
     record {
       found = x;
       at = r;
-      sessions = ap (λ (m : List Name). let y : Gathered = record { payloads = s.payloads; missing = m } in y) n.0 ∙ ap (λ (t : Table). All t.sessions) (sym b.table);
-      keys = ap (λ (m : List Name). let y : Gathered = record { payloads = k.payloads; missing = m } in y) n.1 ∙ ap (λ (t : Table). All t.keys) (sym b.table);
-      made = b.made ∙ ap (λ (t : Table). let y : Texts = record { sessions = text_of t.sessions; keys = text_of t.keys } in y) (sym b.table);
+      sessions = ap (λ (m : List Name). let y : Gathered = record { payloads = s.payloads; missing = m } in y) n.0 ∙ ap (λ (t : PayloadTable). All t.sessions) (sym b.table);
+      keys = ap (λ (m : List Name). let y : Gathered = record { payloads = k.payloads; missing = m } in y) n.1 ∙ ap (λ (t : PayloadTable). All t.keys) (sym b.table);
+      made = b.made ∙ ap (λ (t : PayloadTable). let y : Texts = record { sessions = text_of t.sessions; keys = text_of t.keys } in y) (sym b.table);
     }
 
-loads_of : (f : Face) (root : Name) (texts : Texts) (t : Table) → loaded f root ≡ Loaded texts t → Loads f root texts t
+loads_of : (f : Face) (root : Name) (texts : Texts) (t : PayloadTable) → loaded f root ≡ Loaded texts t → Loads f root texts t
 unfolding loaded
 loads_of f root texts t e = loads_by f root texts t (root_at f root) refl e
 
-pub loaded_of : (f : Face) (root : Name) (r : Root) (t : Table) → root_at f root ≡ Some r → gathered f r.sessions_size r.sessions ≡ All t.sessions → gathered f r.keys_size r.keys ≡ All t.keys
+pub loaded_of : (f : Face) (root : Name) (r : Root) (t : PayloadTable) → root_at f root ≡ Some r → gathered f r.sessions_size r.sessions ≡ All t.sessions → gathered f r.keys_size r.keys ≡ All t.keys
     → loaded f root ≡ Loaded (record { sessions = text_of t.sessions; keys = text_of t.keys }) t
 unfolding loaded
 loaded_of f root r t e s k = rw (e, s, k) refl
 
-loaded_same : (f g : Face) (root : Name) (texts : Texts) (t : Table) → loaded f root ≡ Loaded texts t → SameAt f g root.address → AllSame f g t.sessions → AllSame f g t.keys → loaded g root ≡ Loaded texts t
+loaded_same : (f g : Face) (root : Name) (texts : Texts) (t : PayloadTable) → loaded f root ≡ Loaded texts t → SameAt f g root.address → AllSame f g t.sessions → AllSame f g t.keys → loaded g root ≡ Loaded texts t
 loaded_same f g root texts t e r s k =
     let l = loads_of f root texts t e in
     let x = l.found in
@@ -316,7 +316,7 @@ read_of_root f name r e = by_test (nat_lt name.address 128) e
     by_test true e = by_reading (block_reading f name.address) e
     by_test false e = absurd cc
 
-pub each_held : (f : Face) (root : Name) (texts : Texts) (t : Table) → loaded f root ≡ Loaded texts t → Holds f t
+pub each_held : (f : Face) (root : Name) (texts : Texts) (t : PayloadTable) → loaded f root ≡ Loaded texts t → Holds f t
 each_held f root texts t e =
     let l = loads_of f root texts t e in
     let said = (read_of_root f root l.found l.at).said in
@@ -335,7 +335,7 @@ tables_held = record { none = λ f. record { sessions = tt; few_sessions = omega
 
 -- ---- kept
 
-keeps_by : (cluster : ℕ) (texts : Texts) (op : ℕ) (old : Table) (f g : Face) → FitsPayloads texts → ((a : ℕ) → Avoids a (written cluster texts op old) → SameAt f g a)
+keeps_by : (cluster : ℕ) (texts : Texts) (op : ℕ) (old : PayloadTable) (f g : Face) → FitsPayloads texts → ((a : ℕ) → Avoids a (written cluster texts op old) → SameAt f g a)
     → (root : Name) (before : Texts) → root.address ≢ root_place op → loaded f root ≡ Loaded before old → loaded g root ≡ Loaded before old
 keeps_by cluster texts op old f g fits same root before d e =
     let h = each_held f root before old e in
@@ -355,5 +355,5 @@ keep_law cluster texts op old f fits w = record {
   stopped = λ root before j code d e. keeps_by cluster texts op old f (cut j code f (save_calls cluster texts op old)) fits (λ a h. same_cut cluster texts op old f a j code w h) root before d e;
 }
 
-pub keeps : (t : Option Disk) (cluster : ℕ) (texts : Texts) (op : ℕ) (old : Table) → FitsPayloads texts → IfSome t (λ (d : Disk). d.face.waiting ≡ [] → SaveKeeps cluster texts op old d.face)
+pub keeps : (t : Option Disk) (cluster : ℕ) (texts : Texts) (op : ℕ) (old : PayloadTable) → FitsPayloads texts → IfSome t (λ (d : Disk). d.face.waiting ≡ [] → SaveKeeps cluster texts op old d.face)
 keeps t cluster texts op old fits = if_some (λ (d : Disk). d.face.waiting ≡ [] → SaveKeeps cluster texts op old d.face) t (λ d e w. keep_law cluster texts op old d.face fits w)

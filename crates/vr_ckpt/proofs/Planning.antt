@@ -15,9 +15,9 @@ use Rattle.vr_grid.specs.declared.name.Name.{Name}
 use Rattle.vr_grid.specs.declared.block.Block.{Block}
 use Rattle.vr_grid.proofs.Made.{name_of_made}
 use Rattle.vr_ckpt.specs.Places.{first_place, other_place}
-use Rattle.vr_ckpt.specs.Saves.{IsPlaced, blocks_calls, blocks_from, data_content, goes_to, keys_run, part, part_at, payload_at, payloads_from, root_of, saved, sessions_run, stays, table_of}
-use Rattle.vr_ckpt.specs.declared.saving.Saved.{Saved}
-use Rattle.vr_ckpt.specs.declared.table.Table.{Table}
+use Rattle.vr_ckpt.specs.Saves.{IsPlaced, blocks_calls, blocks_from, data_content, goes_to, keys_run, payload_blocks, payload_blocks_at, payload_at, payloads_from, root_of, saved_checkpoint, sessions_run, stays, table_of}
+use Rattle.vr_ckpt.specs.declared.saving.SavedCheckpoint.{SavedCheckpoint}
+use Rattle.vr_ckpt.specs.declared.table.PayloadTable.{PayloadTable}
 use Rattle.vr_ckpt.specs.declared.plan.Run.{Run}
 use Rattle.vr_ckpt.specs.declared.table.Payload.{Payload}
 
@@ -52,53 +52,53 @@ unfolding data_content
 content_is r a bytes = refl
 
 -- a part by what the checkpoint before had
-pub part_same : (r : Run) (i : ℕ) (bytes : List ℕ) (p : Payload) → pointwise nat_eq p.bytes bytes ≡ true → part r i bytes (Some p) ≡ stays p
-unfolding part
+pub part_same : (r : Run) (i : ℕ) (bytes : List ℕ) (p : Payload) → pointwise nat_eq p.bytes bytes ≡ true → payload_blocks r i bytes (Some p) ≡ stays p
+unfolding payload_blocks
 part_same r i bytes p e = rw e refl
 
-pub part_other : (r : Run) (i : ℕ) (bytes : List ℕ) (p : Payload) → pointwise nat_eq p.bytes bytes ≡ false → part r i bytes (Some p) ≡ goes_to r (other_place (r.low + i) p.name.address) bytes
-unfolding part
+pub part_other : (r : Run) (i : ℕ) (bytes : List ℕ) (p : Payload) → pointwise nat_eq p.bytes bytes ≡ false → payload_blocks r i bytes (Some p) ≡ goes_to r (other_place (r.low + i) p.name.address) bytes
+unfolding payload_blocks
 part_other r i bytes p e = rw e refl
 
-pub part_first : (r : Run) (i : ℕ) (bytes : List ℕ) → part r i bytes None ≡ goes_to r (first_place r.op (r.low + i)) bytes
-unfolding part
+pub part_first : (r : Run) (i : ℕ) (bytes : List ℕ) → payload_blocks r i bytes None ≡ goes_to r (first_place r.op (r.low + i)) bytes
+unfolding payload_blocks
 part_first r i bytes = refl
 
-pub part_kept : (r : Run) (text : List ℕ) (old : List Payload) (i : ℕ) (d : Payload) → i < length old → part_at r text old i ≡ part r i (payload_at text i) (Some (get_or old i d))
-part_kept r text old i d l = ap (part r i (payload_at text i)) (slice_get-get_or old i d l)
+pub part_kept : (r : Run) (text : List ℕ) (old : List Payload) (i : ℕ) (d : Payload) → i < length old → payload_blocks_at r text old i ≡ payload_blocks r i (payload_at text i) (Some (get_or old i d))
+part_kept r text old i d l = ap (payload_blocks r i (payload_at text i)) (slice_get-get_or old i d l)
 
 past : {X : Type 0} → (xs : List X) (i : ℕ) → length xs ≤ i → slice_get xs i ≡ None
 past [] i l = refl
 past (x ∷ xs) zero l = absurd (omega arith)
 past (x ∷ xs) (suc i) l = past xs i (omega arith)
 
-pub part_new : (r : Run) (text : List ℕ) (old : List Payload) (i : ℕ) → length old ≤ i → part_at r text old i ≡ goes_to r (first_place r.op (r.low + i)) (payload_at text i)
-part_new r text old i l = ap (part r i (payload_at text i)) (past old i l) ∙ part_first r i (payload_at text i)
+pub part_new : (r : Run) (text : List ℕ) (old : List Payload) (i : ℕ) → length old ≤ i → payload_blocks_at r text old i ≡ goes_to r (first_place r.op (r.low + i)) (payload_at text i)
+part_new r text old i l = ap (payload_blocks r i (payload_at text i)) (past old i l) ∙ part_first r i (payload_at text i)
 
 -- the loop over payloads
-payloads_cons : (r : Run) (text : List ℕ) (old : List Payload) (i n : ℕ) → payloads_from r text old i (suc n) ≡ (part_at r text old i).payload ∷ payloads_from r text old (i + 1) n
+payloads_cons : (r : Run) (text : List ℕ) (old : List Payload) (i n : ℕ) → payloads_from r text old i (suc n) ≡ (payload_blocks_at r text old i).payload ∷ payloads_from r text old (i + 1) n
 unfolding payloads_from
 payloads_cons r text old i n = refl
 
-blocks_cons : (r : Run) (text : List ℕ) (old : List Payload) (i n : ℕ) → blocks_from r text old i (suc n) ≡ (part_at r text old i).blocks ++ blocks_from r text old (i + 1) n
+blocks_cons : (r : Run) (text : List ℕ) (old : List Payload) (i n : ℕ) → blocks_from r text old i (suc n) ≡ (payload_blocks_at r text old i).blocks ++ blocks_from r text old (i + 1) n
 unfolding blocks_from
 blocks_cons r text old i n = refl
 
-pub payloads_step : (r : Run) (text : List ℕ) (old : List Payload) (i n : ℕ) (ps qs all : List Payload) (p : Payload) → i < n → p ≡ (part_at r text old i).payload → qs ≡ ps ++ p ∷ []
+pub payloads_step : (r : Run) (text : List ℕ) (old : List Payload) (i n : ℕ) (ps qs all : List Payload) (p : Payload) → i < n → p ≡ (payload_blocks_at r text old i).payload → qs ≡ ps ++ p ∷ []
     → ps ++ payloads_from r text old i (n - i) ≡ all → qs ++ payloads_from r text old (i + 1) (n - (i + 1)) ≡ all
 payloads_step r text old i n ps qs all p l e s h =
     let m : n - i ≡ suc (n - (i + 1)) = omega arith in
     let rest = payloads_from r text old (i + 1) (n - (i + 1)) in
     ap (λ x. x ++ rest) (s ∙ ap (λ (x : Payload). ps ++ x ∷ []) e)
-    ∙ (append_assoc ps ((part_at r text old i).payload ∷ []) rest ∙ (ap (λ x. ps ++ x) (sym (payloads_cons r text old i (n - (i + 1)))) ∙ (ap (λ m. ps ++ payloads_from r text old i m) (sym m) ∙ h)))
+    ∙ (append_assoc ps ((payload_blocks_at r text old i).payload ∷ []) rest ∙ (ap (λ x. ps ++ x) (sym (payloads_cons r text old i (n - (i + 1)))) ∙ (ap (λ m. ps ++ payloads_from r text old i m) (sym m) ∙ h)))
 
-pub blocks_step : (r : Run) (text : List ℕ) (old : List Payload) (i n : ℕ) (bs cs all : List Block) → i < n → cs ≡ bs ++ (part_at r text old i).blocks
+pub blocks_step : (r : Run) (text : List ℕ) (old : List Payload) (i n : ℕ) (bs cs all : List Block) → i < n → cs ≡ bs ++ (payload_blocks_at r text old i).blocks
     → bs ++ blocks_from r text old i (n - i) ≡ all → cs ++ blocks_from r text old (i + 1) (n - (i + 1)) ≡ all
 blocks_step r text old i n bs cs all l s h =
     let m : n - i ≡ suc (n - (i + 1)) = omega arith in
     let rest = blocks_from r text old (i + 1) (n - (i + 1)) in
     ap (λ x. x ++ rest) s
-    ∙ (append_assoc bs (part_at r text old i).blocks rest ∙ (ap (λ x. bs ++ x) (sym (blocks_cons r text old i (n - (i + 1)))) ∙ (ap (λ m. bs ++ blocks_from r text old i m) (sym m) ∙ h)))
+    ∙ (append_assoc bs (payload_blocks_at r text old i).blocks rest ∙ (ap (λ x. bs ++ x) (sym (blocks_cons r text old i (n - (i + 1)))) ∙ (ap (λ m. bs ++ blocks_from r text old i m) (sym m) ∙ h)))
 
 pub payloads_end : (r : Run) (text : List ℕ) (old : List Payload) (i n : ℕ) (ps all : List Payload) → n ≤ i → ps ++ payloads_from r text old i (n - i) ≡ all → ps ≡ all
 unfolding payloads_from
@@ -128,18 +128,18 @@ unfolding payloads_from
 length-payloads_from r text old i zero = refl
 length-payloads_from r text old i (suc n) = ap suc (length-payloads_from r text old (i + 1) n)
 
-pub sessions_count : (cluster : ℕ) (texts : Texts) (op : ℕ) (old t : Table) → t ≡ table_of cluster texts op old → length t.sessions ≡ payloads (length texts.sessions)
+pub sessions_count : (cluster : ℕ) (texts : Texts) (op : ℕ) (old t : PayloadTable) → t ≡ table_of cluster texts op old → length t.sessions ≡ payloads (length texts.sessions)
 unfolding table_of
-sessions_count cluster texts op old t e = ap (λ (t : Table). length t.sessions) e ∙ length-payloads_from (sessions_run cluster op) texts.sessions old.sessions 0 (payloads (length texts.sessions))
+sessions_count cluster texts op old t e = ap (λ (t : PayloadTable). length t.sessions) e ∙ length-payloads_from (sessions_run cluster op) texts.sessions old.sessions 0 (payloads (length texts.sessions))
 
-pub keys_count : (cluster : ℕ) (texts : Texts) (op : ℕ) (old t : Table) → t ≡ table_of cluster texts op old → length t.keys ≡ payloads (length texts.keys)
+pub keys_count : (cluster : ℕ) (texts : Texts) (op : ℕ) (old t : PayloadTable) → t ≡ table_of cluster texts op old → length t.keys ≡ payloads (length texts.keys)
 unfolding table_of
-keys_count cluster texts op old t e = ap (λ (t : Table). length t.keys) e ∙ length-payloads_from (keys_run cluster op) texts.keys old.keys 0 (payloads (length texts.keys))
+keys_count cluster texts op old t e = ap (λ (t : PayloadTable). length t.keys) e ∙ length-payloads_from (keys_run cluster op) texts.keys old.keys 0 (payloads (length texts.keys))
 
-pub saved_is : (cluster : ℕ) (texts : Texts) (op : ℕ) (old t : Table) (b : Block) → t ≡ table_of cluster texts op old → b ≡ block_of (root_of cluster texts op t) → (let x : Saved = record { root = b.name; table = t } in x) ≡ saved cluster texts op old
+pub saved_is : (cluster : ℕ) (texts : Texts) (op : ℕ) (old t : PayloadTable) (b : Block) → t ≡ table_of cluster texts op old → b ≡ block_of (root_of cluster texts op t) → (let x : SavedCheckpoint = record { root = b.name; table = t } in x) ≡ saved_checkpoint cluster texts op old
 saved_is cluster texts op old t b e s =
-    ap (λ (n : Name). let x : Saved = record { root = n; table = t } in x) (name_of_made b (root_of cluster texts op t) s)
-    ∙ ap (λ (t : Table). let x : Saved = record { root = block_name (root_of cluster texts op t); table = t } in x) e
+    ap (λ (n : Name). let x : SavedCheckpoint = record { root = n; table = t } in x) (name_of_made b (root_of cluster texts op t) s)
+    ∙ ap (λ (t : PayloadTable). let x : SavedCheckpoint = record { root = block_name (root_of cluster texts op t); table = t } in x) e
 
 -- the loop over blocks
 pub calls_more : (bs : List Block) (i : ℕ) (b : Block) → i < length bs → b ≡ get_or bs i b → blocks_calls (drop i bs) ≡ block_calls b.name.address b.bytes ++ blocks_calls (drop (i + 1) bs)

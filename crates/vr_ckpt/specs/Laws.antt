@@ -6,10 +6,10 @@ use Rattle.vr_apply.specs.declared.codec.Texts.{Texts}
 use Rattle.vr_grid.specs.declared.name.Name.{Name}
 use Rattle.vr_ckpt.specs.Loads.{data_at, loaded}
 use Rattle.vr_ckpt.specs.Places.{IsCheckpoint, empty, is_place, keys_place, root_place, sessions_place}
-use Rattle.vr_ckpt.specs.Saves.{save_calls, saved}
+use Rattle.vr_ckpt.specs.Saves.{save_calls, saved_checkpoint}
 use Rattle.vr_ckpt.specs.declared.found.Load.TheVariants.{Loaded}
 use Rattle.vr_ckpt.specs.declared.table.Payload.{Payload}
-use Rattle.vr_ckpt.specs.declared.table.Table.{Table}
+use Rattle.vr_ckpt.specs.declared.table.PayloadTable.{PayloadTable}
 
 -- each payload stands at one of its places and reads as it is kept
 abbrev pub HoldsFrom : Face → ℕ → List Payload → Type 0
@@ -17,7 +17,7 @@ HoldsFrom f low [] = Unit {0}
 HoldsFrom f low (p ∷ ps) = (is_place low p.name.address ≡ true) × (data_at f p.name (length p.bytes) ≡ Some p.bytes) × HoldsFrom f (low + 1) ps
 
 -- the disk holds what a table names
-pub record Holds (f : Face) (t : Table) : Type 0 where
+pub record Holds (f : Face) (t : PayloadTable) : Type 0 where
   pub sessions : HoldsFrom f sessions_place t.sessions
   pub few_sessions : length t.sessions ≤ 9
   pub keys : HoldsFrom f keys_place t.keys
@@ -26,10 +26,10 @@ pub record Holds (f : Face) (t : Table) : Type 0 where
 -- the table of no checkpoint is held, and so is each that is loaded
 pub record TablesHeld : Type 0 where
   pub none : (f : Face) → Holds f empty
-  pub each : (f : Face) (root : Name) (texts : Texts) (t : Table) → loaded f root ≡ Loaded texts t → Holds f t
+  pub each : (f : Face) (root : Name) (texts : Texts) (t : PayloadTable) → loaded f root ≡ Loaded texts t → Holds f t
 
 -- the checkpoint before, whose root stands at the other place, loads as before: at the end, after any of the calls, and in a cut at any
-pub record SaveKeeps (cluster : ℕ) (texts : Texts) (op : ℕ) (old : Table) (f : Face) : Type 0 where
+pub record SaveKeeps (cluster : ℕ) (texts : Texts) (op : ℕ) (old : PayloadTable) (f : Face) : Type 0 where
   pub kept : (root : Name) (before : Texts) → root.address ≢ root_place op → loaded f root ≡ Loaded before old
       → loaded (after_all f (save_calls cluster texts op old)) root ≡ Loaded before old
   pub front : (root : Name) (before : Texts) (j : ℕ) → root.address ≢ root_place op → loaded f root ≡ Loaded before old
@@ -38,15 +38,15 @@ pub record SaveKeeps (cluster : ℕ) (texts : Texts) (op : ℕ) (old : Table) (f
       → loaded (cut j code f (save_calls cluster texts op old)) root ≡ Loaded before old
 
 abbrev pub KeepLaw : Type 0
-KeepLaw = (cluster : ℕ) (texts : Texts) (op : ℕ) (old : Table) (f : Face) → FitsPayloads texts → f.waiting ≡ [] → SaveKeeps cluster texts op old f
+KeepLaw = (cluster : ℕ) (texts : Texts) (op : ℕ) (old : PayloadTable) (f : Face) → FitsPayloads texts → f.waiting ≡ [] → SaveKeeps cluster texts op old f
 
 -- a checkpoint over one whose table is held loads as it was saved
-abbrev pub SaveDone : ℕ → Texts → ℕ → Table → Face → Type 0
-SaveDone cluster texts op old f = loaded (after_all f (save_calls cluster texts op old)) (saved cluster texts op old).root ≡ Loaded texts (saved cluster texts op old).table
+abbrev pub SaveDone : ℕ → Texts → ℕ → PayloadTable → Face → Type 0
+SaveDone cluster texts op old f = loaded (after_all f (save_calls cluster texts op old)) (saved_checkpoint cluster texts op old).root ≡ Loaded texts (saved_checkpoint cluster texts op old).table
 
 abbrev pub DoneLaw : Type 0
 DoneLaw =
-    (cluster : ℕ) (texts : Texts) (op : ℕ) (old : Table) (f : Face) → cluster < 2 ^ 64 → IsCheckpoint op → FitsPayloads texts → IsFace f → Holds f old → SaveDone cluster texts op old f
+    (cluster : ℕ) (texts : Texts) (op : ℕ) (old : PayloadTable) (f : Face) → cluster < 2 ^ 64 → IsCheckpoint op → FitsPayloads texts → IsFace f → Holds f old → SaveDone cluster texts op old f
 
 -- two checkpoints one after the other have their roots at different places
 abbrev pub RootsApart : Type 0

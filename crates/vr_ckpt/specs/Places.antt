@@ -1,9 +1,9 @@
 -- Where the blocks of checkpoints stand. Each payload of a text has two places in the grid, 64 apart.
 use Rattle.std.specs.Prelude.{ℕ, ◌+◌, ◌*◌, ◌/◌, ◌%◌, ◌^◌, ◌≤◌, ◌≡◌, Bool, ◌||◌, ◌==◌, if◌then◌else◌, []}
-use Rattle.vr_ckpt.specs.declared.table.Table.{Table}
+use Rattle.vr_ckpt.specs.declared.table.PayloadTable.{PayloadTable}
 
 -- the table of no checkpoint
-abbrev pub empty : Table
+abbrev pub empty : PayloadTable
 empty = record { sessions = []; keys = [] }
 
 -- the number of a checkpoint: its op

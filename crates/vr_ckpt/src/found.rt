@@ -1,13 +1,13 @@
 //! What a disk has of a checkpoint.
 
-use crate::{NameList, Table};
+use crate::{NameList, PayloadTable};
 use vr_apply::Texts;
 
 /// What a disk has of a checkpoint.
 #[derive(Drop)]
 pub enum Load {
     /// The texts and the table of their blocks.
-    Loaded(Texts, Table),
+    Loaded(Texts, PayloadTable),
     /// The names of the faulty blocks, at least one: the root alone, or data blocks in order.
     Missing(NameList),
 }

@@ -12,6 +12,6 @@ mod table;
 pub use found::Load;
 pub use laws::checkpoint_laws;
 pub use loading::load;
-pub use saving::{Saved, save};
-pub use table::{Payload, Table};
+pub use saving::{SavedCheckpoint, save};
+pub use table::{Payload, PayloadTable};
 pub use vr_grid::{CkptFault, Name, NameList};

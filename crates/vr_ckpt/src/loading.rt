@@ -6,7 +6,7 @@ ghost use Rattle.vr_ckpt.specs.declared.loading.Gathered.{Gathered};
 ghost use Rattle.vr_ckpt.specs.declared.found.Load.TheVariants as Load;
 
 use crate::root::{Root, read_root};
-use crate::{Load, Name, NameList, Payload, Table};
+use crate::{Load, Name, NameList, Payload, PayloadTable};
 use std::alloc::Global;
 use vr_apply::Texts;
 use vr_base::{ByteList, NoMemory, Seq};
@@ -139,7 +139,7 @@ fn load_of(alloc: Global, sessions: Gathered, keys: Gathered) -> Result<Load, No
         sessions: text_of(alloc, sessions.as_slice())?,
         keys: text_of(alloc, keys.as_slice())?,
     };
-    Ok(Load::Loaded(texts, Table { sessions, keys }))
+    Ok(Load::Loaded(texts, PayloadTable { sessions, keys }))
 }
 
 // What a root names.

@@ -3,7 +3,7 @@ ghost use Rattle.std.specs.Prelude.{◌≡◌, ◌≤◌, ◌<◌, ◌+◌, ◌*
 ghost use Rattle.std.specs.List.{All};
 ghost use Rattle.vr_apply.specs.Texts.{payloads};
 ghost use Rattle.vr_ckpt.specs.Places.{first_place, other_place};
-ghost use Rattle.vr_ckpt.specs.Saves.{IsPlaced, changed, goes_to, part, part_at, payload_at, payloads_of};
+ghost use Rattle.vr_ckpt.specs.Saves.{IsPlaced, changed, goes_to, payload_blocks, payload_blocks_at, payload_at, payloads_of};
 
 use crate::Payload;
 use std::alloc::Global;
@@ -89,8 +89,8 @@ fn goes_on(
 ) -> Result<Payload, NoMemory>
     requires size { length bytes.now ≤ 3968 }
     requires low { run.low + i < 64 }
-    ensures payload { IfOk result (λ p. p ≡ (part run i bytes.now (Some old.now)).payload) }
-    ensures blocks { OnOk result (blocks.new ≡ blocks.old ++ (part run i bytes.now (Some old.now)).blocks) }
+    ensures payload { IfOk result (λ p. p ≡ (payload_blocks run i bytes.now (Some old.now)).payload) }
+    ensures blocks { OnOk result (blocks.new ≡ blocks.old ++ (payload_blocks run i bytes.now (Some old.now)).blocks) }
     ensures placed { OnOk result (All IsPlaced blocks.old → All IsPlaced blocks.new) }
 {
     if old.bytes.as_slice() == bytes {
@@ -115,8 +115,8 @@ fn plan_payload(
     requires begins { 3968 * i ≤ length text.now }
     requires few { i < 36 }
     requires low { run.low + i < 64 }
-    ensures payload { IfOk result (λ p. p ≡ (part_at run text.now old.now i).payload) }
-    ensures blocks { OnOk result (blocks.new ≡ blocks.old ++ (part_at run text.now old.now i).blocks) }
+    ensures payload { IfOk result (λ p. p ≡ (payload_blocks_at run text.now old.now i).payload) }
+    ensures blocks { OnOk result (blocks.new ≡ blocks.old ++ (payload_blocks_at run text.now old.now i).blocks) }
     ensures placed { OnOk result (All IsPlaced blocks.old → All IsPlaced blocks.new) }
 {
     let bytes = payload_at(text, i);

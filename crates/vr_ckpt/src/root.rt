@@ -7,7 +7,7 @@ ghost use Rattle.vr_ckpt.specs.Loads.{both_named, has_numbers, keys_size, name_a
 ghost use Rattle.vr_ckpt.specs.Places.{is_place, root_place};
 ghost use Rattle.vr_ckpt.specs.Saves.{IsPlaced, names_bytes, root_of, root_payload};
 
-use crate::{Name, NameList, Payload, Table};
+use crate::{Name, NameList, Payload, PayloadTable};
 use std::alloc::Global;
 use vr_apply::Texts;
 use vr_base::{NoMemory, Seq, put_u16, put_u32, put_u64, sum_at, u16_at, u32_at, u64_at};
@@ -65,7 +65,12 @@ fn root_front(op: u64, sessions: u32, keys: u32, count: u16) -> [u8; 18]
 
 // The payload of a root.
 #[tactic(auto, unfolding(crate::specs::Saves::root_payload))]
-fn root_payload(alloc: Global, op: u64, texts: &Texts, table: &Table) -> Result<Vec<u8>, NoMemory>
+fn root_payload(
+    alloc: Global,
+    op: u64,
+    texts: &Texts,
+    table: &PayloadTable,
+) -> Result<Vec<u8>, NoMemory>
     requires texts { FitsPayloads texts.now }
     requires sessions { length table.now.sessions ≡ payloads (length texts.now.sessions) }
     requires keys { length table.now.keys ≡ payloads (length texts.now.keys) }
@@ -88,7 +93,7 @@ pub fn root_block(
     cluster: u64,
     texts: &Texts,
     op: u64,
-    table: &Table,
+    table: &PayloadTable,
 ) -> Result<Block, NoMemory>
     requires texts { FitsPayloads texts.now }
     requires sessions { length table.now.sessions ≡ payloads (length texts.now.sessions) }

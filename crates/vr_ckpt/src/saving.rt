@@ -7,11 +7,11 @@ ghost use Rattle.vr_apply.specs.Texts.{FitsPayloads};
 ghost use Rattle.vr_grid.specs.Grid.{Leaves};
 ghost use Rattle.vr_ckpt.specs.Laws.{Holds, SaveDone, SaveKeeps};
 ghost use Rattle.vr_ckpt.specs.Places.{IsCheckpoint};
-ghost use Rattle.vr_ckpt.specs.Saves.{IsPlaced, blocks_calls, changed, keys_run, save_calls, saved, sessions_run, table_of, written};
+ghost use Rattle.vr_ckpt.specs.Saves.{IsPlaced, blocks_calls, changed, keys_run, save_calls, saved_checkpoint, sessions_run, table_of, written};
 
 use crate::plan::{Run, plan_text};
 use crate::root::root_block;
-use crate::{CkptFault, Name, Table};
+use crate::{CkptFault, Name, PayloadTable};
 use std::alloc::Global;
 use vr_apply::Texts;
 use vr_base::{NoMemory, Seq};
@@ -20,9 +20,9 @@ use vr_grid::{Block, write_at};
 
 /// A checkpoint that was saved: the name of its root, and what it has in its blocks.
 #[derive(Debug, Drop, PartialEq, Eq)]
-pub struct Saved {
+pub struct SavedCheckpoint {
     pub root: Name,
-    pub table: Table,
+    pub table: PayloadTable,
 }
 
 // The table of these texts; the blocks that are written for them are added to the others.
@@ -32,9 +32,9 @@ fn plan_table(
     cluster: u64,
     texts: &Texts,
     op: u64,
-    old: &Table,
+    old: &PayloadTable,
     blocks: &mut Seq<Block>,
-) -> Result<Table, NoMemory>
+) -> Result<PayloadTable, NoMemory>
     requires { FitsPayloads texts.now }
     ensures table { IfOk result (λ t. t ≡ table_of cluster texts.now op old.now) }
     ensures blocks { OnOk result (blocks.new ≡ blocks.old ++ (changed (sessions_run cluster op) texts.now.sessions old.now.sessions ++ changed (keys_run cluster op) texts.now.keys old.now.keys)) }
@@ -59,7 +59,7 @@ fn plan_table(
         old.keys.as_slice(),
         blocks,
     )?;
-    Ok(Table { sessions, keys })
+    Ok(PayloadTable { sessions, keys })
 }
 
 // What is saved; the blocks that are written for it are added to none.
@@ -69,13 +69,13 @@ fn plan(
     cluster: u64,
     texts: &Texts,
     op: u64,
-    old: &Table,
+    old: &PayloadTable,
     blocks: &mut Seq<Block>,
-) -> Result<Saved, NoMemory>
+) -> Result<SavedCheckpoint, NoMemory>
     requires op { IsCheckpoint op }
     requires texts { FitsPayloads texts.now }
     requires none { blocks.old ≡ [] }
-    ensures saved { IfOk result (λ s. s ≡ saved cluster texts.now op old.now) }
+    ensures saved { IfOk result (λ s. s ≡ saved_checkpoint cluster texts.now op old.now) }
     ensures blocks { OnOk result (blocks.new ≡ written cluster texts.now op old.now) }
     ensures placed { OnOk result (All IsPlaced blocks.new) }
 {
@@ -83,7 +83,7 @@ fn plan(
     let root = root_block(alloc, cluster, texts, op, &table)?;
     let name = root.name;
     blocks.push(root)?;
-    Ok(Saved { root: name, table })
+    Ok(SavedCheckpoint { root: name, table })
 }
 
 // Writes these blocks in order.
@@ -119,11 +119,11 @@ pub fn save<D: SectorDisk>(
     cluster: u64,
     texts: &Texts,
     op: u64,
-    old: &Table,
-) -> Result<Saved, CkptFault>
+    old: &PayloadTable,
+) -> Result<SavedCheckpoint, CkptFault>
     requires op { IsCheckpoint op }
     requires texts { FitsPayloads texts.now }
-    ensures saved { IfOk result (λ s. s ≡ saved cluster texts.now op old.now) }
+    ensures saved { IfOk result (λ s. s ≡ saved_checkpoint cluster texts.now op old.now) }
     ensures runs { Leaves (save_calls cluster texts.now op old.now) (D.told disk.old) (D.told disk.new) result }
     ensures later { D.faults disk.old ≤ D.faults disk.new }
     ensures fault { result ≡ Err CkptFault.DiskFault → Rose (D.faults disk.old) (D.faults disk.new) }

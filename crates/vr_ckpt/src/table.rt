@@ -15,19 +15,19 @@ pub struct Payload {
 
 /// The payloads of a checkpoint's texts, in order.
 #[derive(Debug, Drop, PartialEq, Eq)]
-pub struct Table {
+pub struct PayloadTable {
     /// At most 9.
     pub sessions: Seq<Payload>,
     /// At most 36.
     pub keys: Seq<Payload>,
 }
 
-impl Table {
+impl PayloadTable {
     /// The table of no checkpoint; it takes no memory.
-    pub fn new(alloc: Global) -> Table
+    pub fn new(alloc: Global) -> PayloadTable
         ensures { result ≡ empty }
     {
-        Table {
+        PayloadTable {
             sessions: Seq::new(alloc),
             keys: Seq::new(alloc),
         }

@@ -7,7 +7,7 @@ use Rattle.std.proofs.lemmas.Bool.{eq-eqb, eqb-true, leb-false, leb-true, ltb-fa
 use Rattle.std.proofs.lemmas.List.{drop_all}
 use Rattle.vr_header.specs.declared.header.Header.{Header}
 use Rattle.vr_header.specs.declared.header.HeaderFault.{HeaderFault}
-use Rattle.vr_header.specs.Spelling.{decoded, fault_of, header_at}
+use Rattle.vr_header.specs.Spelling.{decoded, fault_of, decoded_header}
 use Rattle.vr_header.specs.declared.outcome.Outcome.{Outcome}
 use Rattle.vr_header.proofs.Faults.{no_fault}
 use Rattle.std.specs.Int.{w16, w64}
@@ -18,7 +18,7 @@ use Rattle.vr_header.specs.Bodies.{IsOperation, operation_bytes, operation_of, o
 use Rattle.vr_msg.specs.declared.reply.ReplyKind.{ReplyKind}
 use Rattle.vr_msg.specs.declared.reply.ReplyKind.TheVariants as reply
 use Rattle.vr_msg.specs.Asking.{IsReplyKind}
-use Rattle.vr_codec.specs.Reading.{are_headers, kind_at, are_parts, headers_at, part_at, parts_at, rest_at}
+use Rattle.vr_codec.specs.Reading.{are_headers, kind_at, are_parts, headers_at, part_of_tag, parts_at, rest_at}
 use Rattle.vr_header.specs.Made.{Whole, entry_of}
 use Rattle.vr_codec.specs.Shapes.{after_tag, begins_entry, entry_fits, is_at, headers_fit, is_asked, is_ok_entry_at, is_view, knows, log_fits, numbers_fit, parts_fit, statement_fits, tags_fit, tags_run}
 
@@ -27,9 +27,9 @@ both true b e = (refl, e)
 both false b e = absurd cc
 
 -- what was decoded is at its places, and there was no fault
-pub no_fault_in : (b : List ℕ) (h : Header) → decoded b ≡ Ok h → (fault_of b ≡ None) × (header_at b ≡ h)
+pub no_fault_in : (b : List ℕ) (h : Header) → decoded b ≡ Ok h → (fault_of b ≡ None) × (decoded_header b ≡ h)
 no_fault_in b h e =
-    let cases : (o : Option HeaderFault) → fault_of b ≡ o → (fault_of b ≡ None) × (header_at b ≡ h) =
+    let cases : (o : Option HeaderFault) → fault_of b ≡ o → (fault_of b ≡ None) × (decoded_header b ≡ h) =
     elim [
       | None ↦ λ o. (o, (let r = rw o at e in cc))
       | Some f ↦ λ o. absurd (let r = rw o at e in cc)
@@ -82,7 +82,7 @@ pub numbers : (h : Header) → numbers_fit h ≡ true → (h.op ≤ 2 ^ 62) × (
 unfolding numbers_fit
 numbers h e = let a = both _ _ e in let b = both _ _ a.1 in (leb-true _ _ b.0, leb-true _ _ b.1)
 
-pub header_of_ok : (b : List ℕ) (h : Header) → decoded b ≡ Ok h → h ≡ header_at b
+pub header_of_ok : (b : List ℕ) (h : Header) → decoded b ≡ Ok h → h ≡ decoded_header b
 header_of_ok b h e = sym (no_fault_in b h e).1
 
 pub long_of_ok : (b : List ℕ) → is_ok (decoded b) ≡ true → 128 ≤ length b
@@ -94,7 +94,7 @@ long_of_ok b e =
     ] in
     cases (decoded b) refl e
 
-pub headers_at_more : (count i : ℕ) (rest : List ℕ) → i < count → headers_at (count - i) rest ≡ header_at rest ∷ headers_at (count - (i + 1)) (drop 128 rest)
+pub headers_at_more : (count i : ℕ) (rest : List ℕ) → i < count → headers_at (count - i) rest ≡ decoded_header rest ∷ headers_at (count - (i + 1)) (drop 128 rest)
 unfolding headers_at
 headers_at_more count i rest l = let n : count - i ≡ suc (count - (i + 1)) = omega arith in rw n refl
 
@@ -109,7 +109,7 @@ are_headers_more count i rest l = let n : count - i ≡ suc (count - (i + 1)) = 
 pub ruleset reading_headers = (headers_at_more, headers_at_none, are_headers_more, long_of_ok)
 
 pub parts_at_more : (i : ℕ) (tags bytes : List ℕ) → i < length tags
-    → parts_at (drop i tags) bytes ≡ part_at (get_or tags i 0) bytes ∷ parts_at (drop (i + 1) tags) (rest_at (get_or tags i 0) bytes)
+    → parts_at (drop i tags) bytes ≡ part_of_tag (get_or tags i 0) bytes ∷ parts_at (drop (i + 1) tags) (rest_at (get_or tags i 0) bytes)
 unfolding parts_at
 parts_at_more i tags bytes l = let e : i + 1 ≡ suc i = omega arith in rw (e, drop-cons tags i 0) refl
 
@@ -128,9 +128,9 @@ pub headers_next : (count i : ℕ) (rest : List ℕ) → i < count → are_heade
 headers_next count i rest l e = (both _ _ (sym (are_headers_more count i rest l) ∙ e)).1
 
 pub headers_read : (count i : ℕ) (rest : List ℕ) (before all : List Header) → i < count → before ++ headers_at (count - i) rest ≡ all
-    → (before ++ header_at rest ∷ []) ++ headers_at (count - (i + 1)) (drop 128 rest) ≡ all
+    → (before ++ decoded_header rest ∷ []) ++ headers_at (count - (i + 1)) (drop 128 rest) ≡ all
 headers_read count i rest before all l e =
-    append_assoc before (header_at rest ∷ []) (headers_at (count - (i + 1)) (drop 128 rest)) ∙ (ap (λ hs. before ++ hs) (sym (headers_at_more count i rest l)) ∙ e)
+    append_assoc before (decoded_header rest ∷ []) (headers_at (count - (i + 1)) (drop 128 rest)) ∙ (ap (λ hs. before ++ hs) (sym (headers_at_more count i rest l)) ∙ e)
 
 pub one_byte : (o : Operation) → IsOperation o → (o ≡ Register) ↔ (length (operation_bytes o) ≡ 1)
 unfolding operation_bytes

@@ -7,7 +7,7 @@ use Rattle.vr_base.specs.Bytes.{IsBytes}
 use Rattle.vr_header.specs.declared.header.Header.{Header}
 use Rattle.vr_header.specs.declared.header.HeaderFault.{HeaderFault}
 use Rattle.vr_header.specs.Made.{is_entry_header}
-use Rattle.vr_header.specs.Spelling.{IsHeader, Spells, decoded, header_at, header_bytes}
+use Rattle.vr_header.specs.Spelling.{IsHeader, Spells, decoded, decoded_header, header_bytes}
 use Rattle.vr_header.proofs.EntryLaws.{entry_header_of, is_entry_header_of}
 use Rattle.vr_header.proofs.HeaderLaws.{decoded_again, decoded_found, length-header_bytes}
 use Rattle.vr_msg.specs.Logs.{FromOp, IsEntryAt}
@@ -20,7 +20,7 @@ use Rattle.vr_codec.proofs.Fitting.{both, no_fault_in}
 pub decoded_front : (h : Header) (r : List ℕ) → IsHeader h → decoded (header_bytes h ++ r) ≡ Ok h
 decoded_front h r i = decoded_again h (header_bytes h ++ r) i (take_at (header_bytes h) r 128 (length-header_bytes h i))
 
-pub header_front : (h : Header) (r : List ℕ) → IsHeader h → header_at (header_bytes h ++ r) ≡ h
+pub header_front : (h : Header) (r : List ℕ) → IsHeader h → decoded_header (header_bytes h ++ r) ≡ h
 header_front h r i = (no_fault_in (header_bytes h ++ r) h (decoded_front h r i)).1
 
 pub rest_front : (h : Header) (r : List ℕ) → IsHeader h → drop 128 (header_bytes h ++ r) ≡ r
@@ -30,7 +30,7 @@ rest_front h r i = drop_at (header_bytes h) r 128 (length-header_bytes h i)
 pub record FrontFound (h : Header) (b : List ℕ) : Type 0 where
   pub spelled : b ≡ header_bytes h ++ drop 128 b
   pub header : IsHeader h
-  pub there : header_at b ≡ h
+  pub there : decoded_header b ≡ h
 
 pub front_found : (b : List ℕ) (h : Header) → IsBytes b → decoded b ≡ Ok h → FrontFound h b
 front_found b h i e =
@@ -67,8 +67,8 @@ unfolding begins_entry
 begins_true cluster last op h r i e = rw (decoded_front h r i, is_entry_header_of h e.entry, at_true cluster last op h e.of_group e.at_op e.made) refl
 
 pub record BeginsFound (cluster last op : ℕ) (b : List ℕ) : Type 0 where
-  pub front : FrontFound (header_at b) b
-  pub entry : IsEntryAt cluster last op (header_at b)
+  pub front : FrontFound (decoded_header b) b
+  pub entry : IsEntryAt cluster last op (decoded_header b)
 
 pub begins_found : (cluster last op : ℕ) (b : List ℕ) → IsBytes b → begins_entry cluster last op b ≡ true → BeginsFound cluster last op b
 unfolding begins_entry
@@ -119,7 +119,7 @@ headers_found cluster last op (suc n) b i e =
     let first = begins_found cluster last op b i p.0 in
     let rest = headers_found cluster last (op + 1) n (drop 128 b) (IsBytes-drop 128 b i) p.1 in
     record {
-      spelled = ap (λ x. header_bytes (header_at b) ++ x) rest.spelled ∙ sym first.front.spelled;
+      spelled = ap (λ x. header_bytes (decoded_header b) ++ x) rest.spelled ∙ sym first.front.spelled;
       values = (first.front.header, rest.values);
       entries = (first.entry, rest.entries);
       count = ap suc rest.count;

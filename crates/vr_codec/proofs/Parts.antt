@@ -11,10 +11,10 @@ use Rattle.vr_base.proofs.FieldLaws.{length-bytes16, length-bytes64, number16_ba
 use Rattle.vr_base.proofs.Places.{drop_both, take_both}
 use Rattle.vr_header.specs.declared.part.Part.{Part}
 use Rattle.vr_header.specs.declared.part.Part.TheVariants.{Here, Lost, Wanted, Unknown, Nothing}
-use Rattle.vr_header.specs.Spelling.{header_at, header_bytes}
+use Rattle.vr_header.specs.Spelling.{decoded_header, header_bytes}
 use Rattle.vr_msg.specs.declared.statement.DvcBody.{DvcBody}
 use Rattle.vr_msg.specs.Logs.{FromOp, IsPartAt, has_header}
-use Rattle.vr_codec.specs.Reading.{body_at, part_at, parts_at, rest_at}
+use Rattle.vr_codec.specs.Reading.{body_at, part_of_tag, parts_at, rest_at}
 use Rattle.vr_codec.specs.Shapes.{after_tag, begins_entry, knows, tags_fit}
 use Rattle.vr_msg.specs.Spelling.{AreHeaders, headers_bytes, known, parts_bytes, tag}
 use Rattle.vr_codec.proofs.Lists.{IsBytes-drop, begins_found, begins_true, header_front, nothing, rest_front}
@@ -24,7 +24,7 @@ unfolding piece
 piece_is k n b = refl
 
 pub parts_again : (ps : List Part) → AreHeaders (known ps) → parts_at (map tag ps) (headers_bytes (known ps)) ≡ ps
-unfolding parts_at part_at rest_at
+unfolding parts_at part_of_tag rest_at
 parts_again [] a = refl
 parts_again (Here h ∷ ps) a = rw (header_front h (headers_bytes (known ps)) a.0, rest_front h (headers_bytes (known ps)) a.0) (ap (λ x. Here h ∷ x) (parts_again ps a.1))
 parts_again (Lost h ∷ ps) a = rw (header_front h (headers_bytes (known ps)) a.0, rest_front h (headers_bytes (known ps)) a.0) (ap (λ x. Lost h ∷ x) (parts_again ps a.1))
@@ -143,52 +143,52 @@ fits_split true F x e = (refl, e)
 fits_split false F x e = absurd cc
 
 step_here : (cluster last op : ℕ) (ts b : List ℕ) → IsBytes b → Step cluster last op ts b 1
-unfolding tags_fit after_tag parts_at part_at rest_at
+unfolding tags_fit after_tag parts_at part_of_tag rest_at
 step_here cluster last op ts b i more e =
     let p = fits_split (begins_entry cluster last op b) (tags_fit cluster last ts (op + 1)) (drop 128 b) e in
     let first = begins_found cluster last op b i p.0 in
     let rest = more (drop 128 b) (IsBytes-drop 128 b i) p.1 in
     record {
       tags = ap (λ x. 1 ∷ x) rest.tags;
-      spelled = ap (λ x. header_bytes (header_at b) ++ x) rest.spelled ∙ sym first.front.spelled;
+      spelled = ap (λ x. header_bytes (decoded_header b) ++ x) rest.spelled ∙ sym first.front.spelled;
       values = (first.front.header, rest.values);
       parts = (first.entry, rest.parts);
     }
 
 step_lost : (cluster last op : ℕ) (ts b : List ℕ) → IsBytes b → Step cluster last op ts b 2
-unfolding tags_fit after_tag parts_at part_at rest_at
+unfolding tags_fit after_tag parts_at part_of_tag rest_at
 step_lost cluster last op ts b i more e =
     let p = fits_split (begins_entry cluster last op b) (tags_fit cluster last ts (op + 1)) (drop 128 b) e in
     let first = begins_found cluster last op b i p.0 in
     let rest = more (drop 128 b) (IsBytes-drop 128 b i) p.1 in
     record {
       tags = ap (λ x. 2 ∷ x) rest.tags;
-      spelled = ap (λ x. header_bytes (header_at b) ++ x) rest.spelled ∙ sym first.front.spelled;
+      spelled = ap (λ x. header_bytes (decoded_header b) ++ x) rest.spelled ∙ sym first.front.spelled;
       values = (first.front.header, rest.values);
       parts = (first.entry, rest.parts);
     }
 
 step_wanted : (cluster last op : ℕ) (ts b : List ℕ) → IsBytes b → Step cluster last op ts b 3
-unfolding tags_fit after_tag parts_at part_at rest_at
+unfolding tags_fit after_tag parts_at part_of_tag rest_at
 step_wanted cluster last op ts b i more e =
     let p = fits_split (begins_entry cluster last op b) (tags_fit cluster last ts (op + 1)) (drop 128 b) e in
     let first = begins_found cluster last op b i p.0 in
     let rest = more (drop 128 b) (IsBytes-drop 128 b i) p.1 in
     record {
       tags = ap (λ x. 3 ∷ x) rest.tags;
-      spelled = ap (λ x. header_bytes (header_at b) ++ x) rest.spelled ∙ sym first.front.spelled;
+      spelled = ap (λ x. header_bytes (decoded_header b) ++ x) rest.spelled ∙ sym first.front.spelled;
       values = (first.front.header, rest.values);
       parts = (first.entry, rest.parts);
     }
 
 step_nothing : (cluster last op : ℕ) (ts b : List ℕ) → IsBytes b → Step cluster last op ts b 0
-unfolding tags_fit after_tag parts_at part_at rest_at
+unfolding tags_fit after_tag parts_at part_of_tag rest_at
 step_nothing cluster last op ts b i more e =
     let rest = more b i e in
     record { tags = ap (λ x. 0 ∷ x) rest.tags; spelled = rest.spelled; values = rest.values; parts = (tt, rest.parts) }
 
 step_unknown : (cluster last op : ℕ) (ts b : List ℕ) → IsBytes b → Step cluster last op ts b 4
-unfolding tags_fit after_tag parts_at part_at rest_at
+unfolding tags_fit after_tag parts_at part_of_tag rest_at
 step_unknown cluster last op ts b i more e =
     let rest = more b i e in
     record { tags = ap (λ x. 4 ∷ x) rest.tags; spelled = rest.spelled; values = rest.values; parts = (tt, rest.parts) }

@@ -10,7 +10,7 @@ use Rattle.vr_header.specs.declared.part.Part.{Part}
 use Rattle.vr_header.specs.declared.part.Part.TheVariants.{Here, Lost, Wanted, Unknown, Nothing}
 use Rattle.vr_header.specs.Bodies.{operation_of, outcome_of}
 use Rattle.vr_header.specs.Made.{entry_of}
-use Rattle.vr_header.specs.Spelling.{decoded, header_at}
+use Rattle.vr_header.specs.Spelling.{decoded, decoded_header}
 use Rattle.vr_msg.specs.declared.frame.Frame.{Frame}
 use Rattle.vr_msg.specs.declared.frame.Frame.TheVariants as frame
 use Rattle.vr_msg.specs.declared.reply.ReplyKind.{ReplyKind}
@@ -30,19 +30,19 @@ kind_at kind op body =
 -- so many headers, one after another
 unfoldable pub headers_at : ℕ → List ℕ → List Header
 headers_at zero bytes = []
-headers_at (suc n) bytes = header_at bytes ∷ headers_at n (drop 128 bytes)
+headers_at (suc n) bytes = decoded_header bytes ∷ headers_at n (drop 128 bytes)
 
 -- a header stands at each of these places
 unfoldable pub are_headers : ℕ → List ℕ → Bool
 are_headers zero bytes = true
 are_headers (suc n) bytes = is_ok (decoded bytes) && are_headers n (drop 128 bytes)
 
-unfoldable pub part_at : ℕ → List ℕ → Part
-part_at tag bytes =
+unfoldable pub part_of_tag : ℕ → List ℕ → Part
+part_of_tag tag bytes =
     if tag == 0 then Nothing
-    else (if tag == 1 then Here (header_at bytes)
-    else (if tag == 2 then Lost (header_at bytes)
-    else (if tag == 3 then Wanted (header_at bytes) else Unknown)))
+    else (if tag == 1 then Here (decoded_header bytes)
+    else (if tag == 2 then Lost (decoded_header bytes)
+    else (if tag == 3 then Wanted (decoded_header bytes) else Unknown)))
 
 -- the bytes after the header of a tag that speaks of one
 unfoldable pub rest_at : ℕ → List ℕ → List ℕ
@@ -51,7 +51,7 @@ rest_at tag bytes = if knows tag then drop 128 bytes else bytes
 -- a Part for each tag
 unfoldable pub parts_at : List ℕ → List ℕ → List Part
 parts_at [] bytes = []
-parts_at (t ∷ ts) bytes = part_at t bytes ∷ parts_at ts (rest_at t bytes)
+parts_at (t ∷ ts) bytes = part_of_tag t bytes ∷ parts_at ts (rest_at t bytes)
 
 -- a header stands wherever a tag speaks of one
 unfoldable pub are_parts : List ℕ → List ℕ → Bool

@@ -7,12 +7,12 @@ ghost use Rattle.vr_header.specs.Spelling.{decoded};
 ghost use Rattle.vr_header.specs.declared.command.Command.{Command};
 ghost use Rattle.vr_msg.specs.declared.frame.Frame.{Frame};
 ghost use Rattle.vr_codec.specs.Shapes.{body_fits, is_asked, knows, numbers_fit};
-ghost use Rattle.vr_codec.specs.Reading.{kind_at, headers_at, are_headers, are_parts, part_at, rest_at, parts_at, body_at, bare_for, needs_view, frame_for};
+ghost use Rattle.vr_codec.specs.Reading.{kind_at, headers_at, are_headers, are_parts, part_of_tag, rest_at, parts_at, body_at, bare_for, needs_view, frame_for};
 
 use crate::shape::knows;
 use std::alloc::{AllocError, Global};
 use vr_base::{ByteList, Seq, u16_at, u64_at};
-use vr_header::{Command, Entry, Header, HeaderList, Operation, Outcome, Part, header_at};
+use vr_header::{Command, Entry, Header, HeaderList, Operation, Outcome, Part, decoded_header};
 use vr_msg::{
     Answered, Commit, DoViewChange, DvcBody, Frame, GetBlock, GetPrepare, GetView, GiveBlock,
     GivePrepare, Prepare, PrepareOk, Reply, ReplyFields, ReplyKind, Request, RequestFields,
@@ -45,23 +45,23 @@ fn read_headers(alloc: Global, count: u64, bytes: &[u8]) -> Result<HeaderList, A
     let mut headers = Vec::new(alloc);
     let mut rest = bytes;
     for i in 0..count {
-        headers.push(header_at(rest))?;
+        headers.push(decoded_header(rest))?;
         let (_, after) = rest.split_at(128);
         rest = after;
     }
     Ok(HeaderList::from_vec(headers))
 }
 
-#[tactic(auto, using(std::proofs::lemmas::Grind::common_steps), unfolding(crate::specs::Reading::part_at))]
+#[tactic(auto, using(std::proofs::lemmas::Grind::common_steps), unfolding(crate::specs::Reading::part_of_tag))]
 fn read_part(tag: u8, bytes: &[u8]) -> Part
     requires { (not (knows tag) || is_ok (decoded bytes.now)) ≡ true }
-    ensures { result ≡ part_at tag bytes.now }
+    ensures { result ≡ part_of_tag tag bytes.now }
 {
     match tag {
         0 => Part::Nothing,
-        1 => Part::Here(header_at(bytes)),
-        2 => Part::Lost(header_at(bytes)),
-        3 => Part::Wanted(header_at(bytes)),
+        1 => Part::Here(decoded_header(bytes)),
+        2 => Part::Lost(decoded_header(bytes)),
+        3 => Part::Wanted(decoded_header(bytes)),
         _ => Part::Unknown,
     }
 }

@@ -1,9 +1,9 @@
 -- The regions of a data file lie one behind the other and fill it; a settled sector by each digit.
 use Rattle.std.proofs.Common.{◌≡◌, ◌∷◌, [], List, ℕ, refl, Some}
-use Rattle.vr_disk.specs.Regions.{copy_at, header_at, prepare_at, block_at}
+use Rattle.vr_disk.specs.Regions.{copy_place, header_place, prepare_place, block_place}
 use Rattle.vr_disk.specs.DiskState.{Cell, Face, Call, Write, Sync, cut}
 
-regions : copy_at 0 0 ∷ copy_at 4 0 ∷ header_at 64 ∷ prepare_at 64 ∷ block_at 128 ∷ [] ≡ 0 ∷ header_at 0 ∷ prepare_at 0 ∷ block_at 0 ∷ 1424 ∷ []
+regions : copy_place 0 0 ∷ copy_place 4 0 ∷ header_place 64 ∷ prepare_place 64 ∷ block_place 128 ∷ [] ≡ 0 ∷ header_place 0 ∷ prepare_place 0 ∷ block_place 0 ∷ 1424 ∷ []
 regions = refl
 
 abbrev holds : ℕ → Cell

@@ -7,7 +7,7 @@ use Rattle.vr_disk.proofs.Running.{ran_ok}
 ran_not : (d : Disk) (c : Call) → (ran d c).ok ≡ false → ((ran d c).disk.face ≡ d.face) ⊎ ((code : ℕ) × ((ran d c).disk.face ≡ cut_at code d.face c))
 unfolding ran
 ran_not d c h =
-    elim (judged d.fate).verdict as (λ v. (ran_as d.face (judged d.fate).next c v).ok ≡ false → ((ran_as d.face (judged d.fate).next c v).disk.face ≡ d.face) ⊎ ((code : ℕ) × ((ran_as d.face (judged d.fate).next c v).disk.face ≡ cut_at code d.face c))) [
+    elim (judged d.fate).verdict as (λ v. (ran_as d.face (judged d.fate).next d.beside c v).ok ≡ false → ((ran_as d.face (judged d.fate).next d.beside c v).disk.face ≡ d.face) ⊎ ((code : ℕ) × ((ran_as d.face (judged d.fate).next d.beside c v).disk.face ≡ cut_at code d.face c))) [
       | Goes ↦ λ h. cc
       | Fails ↦ λ h. inl refl
       | Cuts code ↦ λ h. inr (code, refl)

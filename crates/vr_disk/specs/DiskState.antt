@@ -137,16 +137,17 @@ counted t = record { fuse = t.fuse; made = next_number t; failing = t.failing; d
 abbrev pub is_to_fail : Fate → Bool
 is_to_fail t = list_any (λ n. n == next_number t) t.failing
 
-pub data Verdict : Type 0 where
-  Goes : Verdict
-  Fails : Verdict
-  Cuts : (code : ℕ) → Verdict
+-- what becomes of a call
+pub data CallVerdict : Type 0 where
+  Goes : CallVerdict
+  Fails : CallVerdict
+  Cuts : (code : ℕ) → CallVerdict
 
 pub record Judged : Type 0 where
-  pub verdict : Verdict
+  pub verdict : CallVerdict
   pub next : Fate
 
-abbrev pub by_list : Fate → Verdict
+abbrev pub by_list : Fate → CallVerdict
 by_list t = if is_to_fail t then Fails else Goes
 
 abbrev pub judged_armed : Fate → ℕ → ℕ → Judged
@@ -164,23 +165,35 @@ judged t = if t.dead then record { verdict = Fails; next = counted t } else judg
 
 -- ---- a disk that tells what it holds
 
+-- what a disk keeps beside its sectors, row by row, and what a call leaves of that
+pub record Beside : Type 0 where
+  pub rows : List (Option (List ℕ))
+  pub next : Face → Call → CallVerdict → List (Option (List ℕ)) → List (Option (List ℕ))
+
+abbrev pub nothing_beside : Beside
+nothing_beside = record { rows = []; next = λ f c v rows. rows }
+
+abbrev pub beside_after : Beside → Face → Call → CallVerdict → Beside
+beside_after b f c v = record { rows = b.next f c v b.rows; next = b.next }
+
 pub record Disk : Type 0 where
   pub face : Face
   pub fate : Fate
+  pub beside : Beside
 
 -- what calls left, and whether all went well
 pub record Ran : Type 0 where
   pub disk : Disk
   pub ok : Bool
 
-abbrev pub ran_as : Face → Fate → Call → Verdict → Ran
-ran_as f t c Goes = record { disk = record { face = after f c; fate = t }; ok = true }
-ran_as f t c Fails = record { disk = record { face = f; fate = t }; ok = false }
-ran_as f t c (Cuts code) = record { disk = record { face = cut_at code f c; fate = t }; ok = false }
+abbrev pub ran_as : Face → Fate → Beside → Call → CallVerdict → Ran
+ran_as f t b c Goes = record { disk = record { face = after f c; fate = t; beside = beside_after b f c Goes }; ok = true }
+ran_as f t b c Fails = record { disk = record { face = f; fate = t; beside = b }; ok = false }
+ran_as f t b c (Cuts code) = record { disk = record { face = cut_at code f c; fate = t; beside = beside_after b f c (Cuts code) }; ok = false }
 
 -- one call
 unfoldable pub ran : Disk → Call → Ran
-ran d c = ran_as d.face (judged d.fate).next c (judged d.fate).verdict
+ran d c = ran_as d.face (judged d.fate).next d.beside c (judged d.fate).verdict
 
 -- calls one after another, up to the first that doesn't go well
 abbrev pub goes_on : Ran → (Disk → Ran) → Ran
@@ -192,8 +205,8 @@ runs (c ∷ cs) d = goes_on (ran d c) (runs cs)
 
 -- attaching is a barrier: after it no sector waits
 abbrev pub attached_as : Disk → Bool → Ran
-attached_as d true = record { disk = record { face = d.face; fate = counted d.fate }; ok = false }
-attached_as d false = record { disk = record { face = after d.face Sync; fate = counted d.fate }; ok = true }
+attached_as d true = record { disk = record { face = d.face; fate = counted d.fate; beside = d.beside }; ok = false }
+attached_as d false = record { disk = record { face = after d.face Sync; fate = counted d.fate; beside = d.beside }; ok = true }
 
 unfoldable pub attached : Disk → Ran
 attached d = attached_as d (d.fate.dead || is_to_fail d.fate)

@@ -1,4 +1,5 @@
 pub mod Buffers
+pub mod Counts
 pub mod DiskState
 pub mod Regions
 pub mod Sectors

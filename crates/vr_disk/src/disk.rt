@@ -3,7 +3,7 @@ ghost use Rattle.std.specs.Prelude.{◌≡◌, ◌<◌, ℕ, [], ◌∷◌, Opti
 ghost use Rattle.vr_base.specs.Causes.{HasCause};
 ghost use Rattle.vr_disk.specs.DiskState.{Disk, IsFace, Attaches, ReadsTo, Runs, Write, Sync};
 
-use crate::Sector;
+use crate::{SECTORS, Sector};
 
 /// A call of a disk that failed.
 #[derive(Clone, Copy, Debug, PartialEq, Eq)]
@@ -29,7 +29,7 @@ pub trait SectorDisk {
 
     /// Reads a sector. After an `Err` the contents of `to` are open.
     fn read(&mut self, i: u32, to: &mut Sector) -> Result<(), DiskFailed>
-        requires { i < 1424 }
+        requires { i < SECTORS }
         ensures told { told self.new ≡ told self.old }
         ensures bytes { ReadsTo i (told self.old) (if is_ok result then Some to.new.bytes else None) }
         ensures cause { HasCause (read_faults self.old) (read_faults self.new) result }
@@ -37,7 +37,7 @@ pub trait SectorDisk {
 
     /// Writes a sector.
     fn write(&mut self, i: u32, from: &Sector) -> Result<(), DiskFailed>
-        requires { i < 1424 }
+        requires { i < SECTORS }
         ensures told { Runs (Write i from.now.bytes ∷ []) (told self.old) (told self.new) (is_ok result) }
         ensures cause { HasCause (faults self.old) (faults self.new) result }
         ensures others { read_faults self.new ≡ read_faults self.old };

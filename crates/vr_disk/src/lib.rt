@@ -16,8 +16,8 @@ pub use fault::{DiskFault, Faulty};
 pub use laws::disk_laws;
 pub use none::NoDisk;
 pub use regions::{
-    BLOCK_SECTORS, BLOCKS, COPIES, COPY_SECTORS, PREPARE_SECTORS, SECTORS, SLOTS, block_at,
-    copy_at, header_at, prepare_at,
+    BLOCK_SECTORS, BLOCKS, COPIES, COPY_SECTORS, COPY_SIZE, PREPARE_SECTORS, SECTORS, SLOTS,
+    block_place, copy_place, header_place, prepare_place,
 };
 pub use sector::{SECTOR_SIZE, Sector};
 pub use sectors::{read_sectors, sector_at, sectors_read_as, write_sectors};

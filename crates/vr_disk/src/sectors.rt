@@ -5,7 +5,7 @@ ghost use Rattle.vr_base.specs.Causes.{HasCause, one_more};
 ghost use Rattle.vr_disk.specs.DiskState.{Runs, reads};
 ghost use Rattle.vr_disk.specs.Sectors.{has, together, writes};
 
-use crate::{DiskFailed, Sector, SectorDisk};
+use crate::{DiskFailed, SECTORS, Sector, SectorDisk};
 use vr_base::put;
 
 /// The 512 bytes from a place on.
@@ -26,7 +26,7 @@ pub fn write_sectors<D: SectorDisk>(
     count: u32,
     bytes: &[u8],
 ) -> Result<(), DiskFailed>
-    requires within { at + count ≤ 1424 }
+    requires within { at + count ≤ SECTORS }
     requires size { length bytes.now ≡ 512 * count }
     ensures runs { Runs (writes at count bytes.now) (D.told disk.old) (D.told disk.new) (is_ok result) }
     ensures cause { HasCause (D.faults disk.old) (D.faults disk.new) result }
@@ -40,11 +40,12 @@ pub fn write_sectors<D: SectorDisk>(
 
 /// Reads so many sectors from one on; false where one of them can't be read, and then the bytes of `to` are open.
 pub fn read_sectors<D: SectorDisk>(disk: &mut D, at: u32, count: u32, to: &mut [u8]) -> bool
-    requires within { at + count ≤ 1424 }
+    requires within { at + count ≤ SECTORS }
     requires size { length to.old ≡ 512 * count }
     ensures told { D.told disk.new ≡ D.told disk.old }
     ensures faults { D.faults disk.new ≡ D.faults disk.old }
     ensures value { IfSome (D.told disk.old) (λ d. together at count d.face ≡ (if result then Some to.new else None)) }
+    ensures reads { D.read_faults disk.old ≤ D.read_faults disk.new }
     ensures cause { D.read_faults disk.new ≡ (if result then D.read_faults disk.old else one_more (D.read_faults disk.old)) }
 {
     let mut sector = Sector { bytes: [0; 512] };
@@ -60,11 +61,12 @@ pub fn read_sectors<D: SectorDisk>(disk: &mut D, at: u32, count: u32, to: &mut [
 // Whether a sector reads as the 512 bytes from a place on.
 #[tactic(auto, unfolding(vr_base::specs::Bytes::piece))]
 fn sector_reads_as<D: SectorDisk>(disk: &mut D, i: u32, bytes: &[u8], at: usize) -> bool
-    requires i { i < 1424 }
+    requires i { i < SECTORS }
     requires size { at + 512 ≤ length bytes.now }
     ensures told { D.told disk.new ≡ D.told disk.old }
     ensures value { IfSome (D.told disk.old) (λ d. result ≡ has (piece at 512 bytes.now) (reads d.face i)) }
     ensures faults { D.faults disk.new ≡ D.faults disk.old }
+    ensures reads { D.read_faults disk.old ≤ D.read_faults disk.new }
 {
     let mut sector = Sector { bytes: [0; 512] };
     disk.read(i, &mut sector).is_ok() && sector.bytes[..] == bytes[at..at + 512]
@@ -72,11 +74,12 @@ fn sector_reads_as<D: SectorDisk>(disk: &mut D, i: u32, bytes: &[u8], at: usize)
 
 /// Whether so many sectors from one on read as these bytes.
 pub fn sectors_read_as<D: SectorDisk>(disk: &mut D, at: u32, count: u32, bytes: &[u8]) -> bool
-    requires within { at + count ≤ 1424 }
+    requires within { at + count ≤ SECTORS }
     requires size { length bytes.now ≡ 512 * count }
     ensures told { D.told disk.new ≡ D.told disk.old }
     ensures faults { D.faults disk.new ≡ D.faults disk.old }
     ensures value { IfSome (D.told disk.old) (λ d. result ≡ has bytes.now (together at count d.face)) }
+    ensures reads { D.read_faults disk.old ≤ D.read_faults disk.new }
 {
     for k in 0..count {
         if !sector_reads_as(disk, at + k, bytes, 512 * k as usize) {

@@ -3,7 +3,7 @@ use Rattle.std.proofs.Common.{ℕ, ◌≡◌, Bool, true, false, List, [], ◌�
 use Rattle.vr_disk.specs.DiskState.{Call, Sync, Disk, Runs}
 use Rattle.vr_disk.proofs.Running.{Runs_then, Runs_stopped}
 use Rattle.vr_super.specs.Calls.{save_from}
-use Rattle.vr_super.specs.Copies.{Saved, copy_bytes}
+use Rattle.vr_super.specs.Copies.{SuperValue, copy_bytes}
 use Rattle.vr_rules.specs.Lying.{format_calls, reserved_headers, zero_prepares}
 use Rattle.vr_rules.specs.Opening.{first_value}
 
@@ -29,7 +29,7 @@ module _ (cluster n index : ℕ) where
   unfolding format_calls
   sync_stopped a b c d h i j = Runs_then zero_prepares headers a b d false h (Runs_then (reserved_headers cluster) synced b c d false i (Runs_stopped (Sync ∷ []) copies c d j))
 
-  pub all_formatted : (v : Saved) (ok : Bool) (a b c d e : Option Disk) → v ≡ first_value cluster n index → Runs zero_prepares a b true → Runs (reserved_headers cluster) b c true → Runs (Sync ∷ []) c d true
+  pub all_formatted : (v : SuperValue) (ok : Bool) (a b c d e : Option Disk) → v ≡ first_value cluster n index → Runs zero_prepares a b true → Runs (reserved_headers cluster) b c true → Runs (Sync ∷ []) c d true
       → Runs (save_from 0 4 (copy_bytes v)) d e ok → Runs (format_calls cluster n index) a e ok
   unfolding format_calls
   all_formatted v ok a b c d e is h i j k =

@@ -2,7 +2,7 @@
 use Rattle.std.specs.Prelude.{ℕ, ◌-◌, List, map, Option, Bool, true}
 use Rattle.std.specs.List.{range_with_len}
 use Rattle.vr_disk.specs.DiskState.{Call, Write, Disk, Runs}
-use Rattle.vr_disk.specs.Regions.{header_at}
+use Rattle.vr_disk.specs.Regions.{header_place}
 use Rattle.vr_rings.specs.Slots.{sector_of}
 use Rattle.vr_rules.specs.Lying.{reserved_header, zero_sector}
 
@@ -10,7 +10,7 @@ abbrev pub zero_call : ℕ → Call
 zero_call i = Write i zero_sector
 
 abbrev pub reserved_call : ℕ → ℕ → Call
-reserved_call cluster slot = Write (header_at slot) (sector_of (reserved_header cluster slot))
+reserved_call cluster slot = Write (header_place slot) (sector_of (reserved_header cluster slot))
 
 -- those from a number on, up to another one
 unfoldable pub calls_from : (ℕ → Call) → ℕ → ℕ → List Call

@@ -2,7 +2,7 @@
 ghost use Rattle.std.specs.Prelude.{◌≡◌, ◌<◌, ◌∷◌, [], is_ok};
 ghost use Rattle.vr_base.specs.Causes.{HasCause};
 ghost use Rattle.vr_disk.specs.DiskState.{Runs, Write};
-ghost use Rattle.vr_disk.specs.Regions.{header_at};
+ghost use Rattle.vr_disk.specs.Regions.{header_place};
 ghost use Rattle.vr_header.specs.Spelling.{IsHeader};
 ghost use Rattle.vr_rings.specs.Slots.{sector_of};
 ghost use Rattle.vr_rules.specs.Lying.{format_calls, reserved_header, reserved_headers, zero_prepares};
@@ -10,7 +10,7 @@ ghost use Rattle.vr_rules.specs.Opening.{first_value};
 ghost use Rattle.vr_format.specs.Calls.{reserved_call};
 
 use vr_base::{Config, Sum, checksum, put};
-use vr_disk::{DiskFailed, DiskFault, Sector, SectorDisk, header_at};
+use vr_disk::{DiskFailed, DiskFault, Sector, SectorDisk, header_place};
 use vr_header::{Command, Header, Size, encode};
 use vr_super::Super;
 
@@ -67,7 +67,7 @@ fn reserve<D: SectorDisk>(disk: &mut D, cluster: u64, slot: u32) -> Result<(), D
     ensures cause { HasCause (D.faults disk.old) (D.faults disk.new) result }
 {
     let sector = sector_of(&reserved_header(cluster, slot));
-    disk.write(header_at(slot), &sector)
+    disk.write(header_place(slot), &sector)
 }
 
 /// Writes the headers of all slots.

@@ -4,7 +4,7 @@ use Rattle.std.specs.Prelude.{IfSome, is_some}
 use Rattle.std.specs.List.{AllByRecursion}
 use Rattle.std.proofs.lemmas.List.{take_all}
 use Rattle.vr_disk.specs.DiskState.{Disk, Face, IsFace, Sync, after_all}
-use Rattle.vr_disk.specs.Regions.{block_at}
+use Rattle.vr_disk.specs.Regions.{block_place}
 use Rattle.vr_disk.specs.Sectors.{together}
 use Rattle.vr_disk.proofs.Frames.{frame_all, frame_cut}
 use Rattle.vr_disk.proofs.Telling.{if_some, some_if}
@@ -18,23 +18,23 @@ use Rattle.vr_grid.proofs.Contents.{named_found, read_of, fits_address}
 -- a block's sectors, written
 pub written_reads : (address : ℕ) (bytes : List ℕ) (f : Face) → address < 128 → length bytes ≡ 4096 → length f.cells ≡ 1424 → block_reading (after_all f (block_calls address bytes)) address ≡ Some bytes
 unfolding block_reading block_calls
-written_reads address bytes f a l n = together_written 8 (block_at address) bytes f (omega arith) ∙ ap Some (take_all 4096 bytes (omega arith))
+written_reads address bytes f a l n = together_written 8 (block_place address) bytes f (omega arith) ∙ ap Some (take_all 4096 bytes (omega arith))
 
-pub block_within : (address : ℕ) (bytes : List ℕ) → AllByRecursion (Within (block_at address) (block_at address + 8)) (block_calls address bytes)
+pub block_within : (address : ℕ) (bytes : List ℕ) → AllByRecursion (Within (block_place address) (block_place address + 8)) (block_calls address bytes)
 unfolding block_calls
-block_within address bytes = writes_within (block_at address) (block_at address + 8) 8 (block_at address) bytes (omega arith) (omega arith)
+block_within address bytes = writes_within (block_place address) (block_place address + 8) 8 (block_place address) bytes (omega arith) (omega arith)
 
-put_within : (address : ℕ) (bytes : List ℕ) → AllByRecursion (Within (block_at address) (block_at address + 8)) (put_calls address bytes)
+put_within : (address : ℕ) (bytes : List ℕ) → AllByRecursion (Within (block_place address) (block_place address + 8)) (put_calls address bytes)
 unfolding put_calls Within
-put_within address bytes = within_append (block_at address) (block_at address + 8) (block_calls address bytes) (Sync ∷ []) (block_within address bytes) (tt, tt)
+put_within address bytes = within_append (block_place address) (block_place address + 8) (block_calls address bytes) (Sync ∷ []) (block_within address bytes) (tt, tt)
 
 pub put_law : PutLaw
 unfolding put_calls block_reading
 put_law address bytes f a l h w = record {
-  done = ap (together (block_at address) 8) (after_all_append (block_calls address bytes) (Sync ∷ []) f)
-      ∙ (together_synced 8 (block_at address) (after_all f (block_calls address bytes)) ∙ written_reads address bytes f a l h.count);
+  done = ap (together (block_place address) 8) (after_all_append (block_calls address bytes) (Sync ∷ []) f)
+      ∙ (together_synced 8 (block_place address) (after_all f (block_calls address bytes)) ∙ written_reads address bytes f a l h.count);
   others = λ i o.
-      let s = within_spares (block_at address) (block_at address + 8) (put_calls address bytes) i (put_within address bytes) o in
+      let s = within_spares (block_place address) (block_place address + 8) (put_calls address bytes) i (put_within address bytes) o in
       (frame_all (put_calls address bytes) f i s, λ j code. frame_cut (put_calls address bytes) f i j code s (rw w refl));
 }
 

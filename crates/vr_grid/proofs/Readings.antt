@@ -4,7 +4,7 @@ use Rattle.std.specs.Prelude.{IfSome, slice_index}
 use Rattle.std.specs.Option.{option_and_then, option_map, option_map_or}
 use Rattle.std.specs.Int.{w64}
 use Rattle.vr_base.specs.Bytes.{IsBytes, number, piece}
-use Rattle.vr_header.specs.Spelling.{decoded, fault_of, header_at}
+use Rattle.vr_header.specs.Spelling.{decoded, fault_of, decoded_header}
 use Rattle.vr_header.specs.declared.header.Header.{Header}
 use Rattle.vr_header.specs.declared.header.HeaderFault.{HeaderFault}
 use Rattle.vr_grid.proofs.Contents.{Read, named_found, payload_size, read_of, sizes_of}
@@ -53,16 +53,16 @@ whole_of name b n (Some c) s e = let same : n ≡ length c.payload = cc in recor
 
 -- ---- what a whole block says of itself
 
-read_header : (b : List ℕ) (h : Header) → decoded b ≡ Ok h → header_at b ≡ h
+read_header : (b : List ℕ) (h : Header) → decoded b ≡ Ok h → decoded_header b ≡ h
 read_header b h e =
-    elim (fault_of b) as (λ (o : Option HeaderFault). option_map_or Err o (Ok (header_at b)) ≡ Ok h → header_at b ≡ h) [ None ↦ λ e. cc | Some x ↦ λ e. absurd cc ] e
+    elim (fault_of b) as (λ (o : Option HeaderFault). option_map_or Err o (Ok (decoded_header b)) ≡ Ok h → decoded_header b ≡ h) [ None ↦ λ e. cc | Some x ↦ λ e. absurd cc ] e
 
-kind_there : (b : List ℕ) → (header_at b).kind ≡ slice_index b 111
-unfolding header_at
+kind_there : (b : List ℕ) → (decoded_header b).kind ≡ slice_index b 111
+unfolding decoded_header
 kind_there b = refl
 
-op_there : (b : List ℕ) → (header_at b).op ≡ number w64 88 b
-unfolding header_at
+op_there : (b : List ℕ) → (decoded_header b).op ≡ number w64 88 b
+unfolding decoded_header
 op_there b = refl
 
 -- its parts stand at their places

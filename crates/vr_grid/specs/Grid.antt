@@ -2,7 +2,7 @@
 use Rattle.std.specs.Prelude.{ℕ, ◌≡◌, true, false, nat_lt, if◌then◌else◌, List, [], ◌∷◌, ◌++◌, length, Option, None, Some, Result, Ok, Err}
 use Rattle.std.specs.Option.{option_and_then}
 use Rattle.vr_disk.specs.DiskState.{Call, Disk, Sync, Face, Runs}
-use Rattle.vr_disk.specs.Regions.{block_at}
+use Rattle.vr_disk.specs.Regions.{block_place}
 use Rattle.vr_disk.specs.Sectors.{together, writes}
 use Rattle.vr_grid.specs.Blocks.{Content, named}
 use Rattle.vr_grid.specs.declared.fault.CkptFault.{CkptFault}
@@ -11,7 +11,7 @@ use Rattle.vr_grid.specs.declared.name.Name.{Name}
 
 -- what the eight sectors of a block read as together, None where one of them can't be read
 unfoldable pub block_reading : Face → ℕ → Option (List ℕ)
-block_reading f address = together (block_at address) 8 f
+block_reading f address = together (block_place address) 8 f
 
 -- the block that reads under a name; None: it is faulty
 unfoldable pub named_at : Face → Name → Option Content
@@ -19,7 +19,7 @@ named_at f name = if nat_lt name.address 128 then option_and_then (named name) (
 
 -- the eight sectors of a block
 unfoldable pub block_calls : ℕ → List ℕ → List Call
-block_calls address bytes = writes (block_at address) 8 bytes
+block_calls address bytes = writes (block_place address) 8 bytes
 
 -- a block written and synced
 unfoldable pub put_calls : ℕ → List ℕ → List Call

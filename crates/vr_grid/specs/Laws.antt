@@ -2,7 +2,7 @@
 use Rattle.std.specs.Prelude.{ℕ, ◌+◌, ◌≤◌, ◌<◌, ◌≡◌, ◌⊎◌, List, [], length, Some}
 use Rattle.vr_base.specs.Bytes.{IsBytes, name_of}
 use Rattle.vr_disk.specs.DiskState.{Face, IsFace, after_all, cell, cut}
-use Rattle.vr_disk.specs.Regions.{block_at}
+use Rattle.vr_disk.specs.Regions.{block_place}
 use Rattle.vr_header.specs.Spelling.{named_bytes}
 use Rattle.vr_grid.specs.Blocks.{Content, IsContent, block_bytes, block_header, block_name, content_of, named}
 use Rattle.vr_grid.specs.Grid.{block_reading, put_calls}
@@ -31,7 +31,7 @@ OneBlock =
 -- a block that is put reads as it was put, and no other sector changes, at the end or in a cut
 pub record PutLeaves (address : ℕ) (bytes : List ℕ) (f : Face) : Type 0 where
   pub done : block_reading (after_all f (put_calls address bytes)) address ≡ Some bytes
-  pub others : (i : ℕ) → (i < block_at address) ⊎ (block_at address + 8 ≤ i)
+  pub others : (i : ℕ) → (i < block_place address) ⊎ (block_place address + 8 ≤ i)
       → (cell (after_all f (put_calls address bytes)) i ≡ cell f i) × ((j code : ℕ) → cell (cut j code f (put_calls address bytes)) i ≡ cell f i)
 
 abbrev pub PutLaw : Type 0

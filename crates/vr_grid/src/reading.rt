@@ -1,11 +1,11 @@
 //! Blocks read by their names.
-ghost use Rattle.std.specs.Prelude.{◌≡◌, ◌<◌, Some, None, length, if◌then◌else◌, IfOk, IfSome, OnErr, is_ok};
+ghost use Rattle.std.specs.Prelude.{◌≡◌, ◌<◌, ◌≤◌, Some, None, length, if◌then◌else◌, IfOk, IfSome, OnErr, is_ok};
 ghost use Rattle.vr_grid.specs.Blocks.{named};
 ghost use Rattle.vr_grid.specs.Grid.{IsWhole, block_reading, named_at};
 
 use crate::Name;
 use crate::check::payload_of;
-use vr_disk::{BLOCK_SECTORS, Buffer, Faulty, SectorDisk, block_at, read_sectors};
+use vr_disk::{BLOCK_SECTORS, Buffer, Faulty, SectorDisk, block_place, read_sectors};
 
 // Reads the eight sectors of a block; false where one of them can't be read.
 #[tactic(auto, unfolding(crate::specs::Grid::block_reading))]
@@ -14,9 +14,10 @@ fn fill<D: SectorDisk>(disk: &mut D, address: u32, to: &mut [u8]) -> bool
     requires size { length to.old ≡ 4096 }
     ensures told { D.told disk.new ≡ D.told disk.old }
     ensures faults { D.faults disk.new ≡ D.faults disk.old }
+    ensures reads { D.read_faults disk.old ≤ D.read_faults disk.new }
     ensures value { IfSome (D.told disk.old) (λ d. block_reading d.face address ≡ (if result then Some to.new else None)) }
 {
-    read_sectors(disk, block_at(address), BLOCK_SECTORS, to)
+    read_sectors(disk, block_place(address), BLOCK_SECTORS, to)
 }
 
 /// Reads the block of this name; it takes no memory. After an `Ok` the buffer holds the whole block, whose payload begins at byte 128 and has this
@@ -28,6 +29,7 @@ pub fn read_block<D: SectorDisk>(
 ) -> Result<usize, Faulty>
     ensures told { D.told disk.new ≡ D.told disk.old }
     ensures faults { D.faults disk.new ≡ D.faults disk.old }
+    ensures reads { D.read_faults disk.old ≤ D.read_faults disk.new }
     ensures exact { IfSome (D.told disk.old) (λ d. named_at d.face name.now ≡ (if is_ok result then named name.now to.new else None)) }
     ensures whole { IfOk result (λ size. IsWhole name.now to.new size) }
     ensures same { OnErr result (to.new ≡ to.old) }

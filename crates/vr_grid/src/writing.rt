@@ -1,6 +1,7 @@
 //! Blocks written to their addresses.
-ghost use Rattle.std.specs.Prelude.{◌≡◌, ◌≤◌, ◌<◌, [], length, IfOk, IfSome, is_ok, is_some, true, Ok, Err};
-ghost use Rattle.vr_base.specs.Causes.{HasCause, Rose};
+ghost use Rattle.std.specs.Prelude.{◌≡◌, ◌≤◌, ◌<◌, [], length, IfOk, IfSome, is_ok, is_some, true};
+ghost use Rattle.vr_base.specs.Causes.{HasCause};
+ghost use Rattle.vr_disk.specs.Counts.{CountsFault};
 ghost use Rattle.vr_disk.specs.DiskState.{Runs};
 ghost use Rattle.vr_grid.specs.Blocks.{block_bytes, block_name, is_kind, named};
 ghost use Rattle.vr_grid.specs.Grid.{Leaves, block_calls, put_calls};
@@ -8,7 +9,7 @@ ghost use Rattle.vr_grid.specs.Laws.{PutLeaves};
 
 use crate::{Block, CkptFault, Name};
 use std::alloc::Global;
-use vr_disk::{BLOCK_SECTORS, DiskFailed, DiskFault, SectorDisk, block_at, write_sectors};
+use vr_disk::{BLOCK_SECTORS, DiskFailed, DiskFault, SectorDisk, block_place, write_sectors};
 
 /// Writes the eight sectors of a block; it takes no memory.
 #[tactic(auto, unfolding(crate::specs::Grid::block_calls))]
@@ -17,8 +18,9 @@ pub fn write_at<D: SectorDisk>(disk: &mut D, address: u64, bytes: &[u8]) -> Resu
     requires size { length bytes.now ≡ 4096 }
     ensures runs { Runs (block_calls address bytes.now) (D.told disk.old) (D.told disk.new) (is_ok result) }
     ensures cause { HasCause (D.faults disk.old) (D.faults disk.new) result }
+    ensures others { D.read_faults disk.new ≡ D.read_faults disk.old }
 {
-    write_sectors(disk, block_at(address as u32), BLOCK_SECTORS, bytes)
+    write_sectors(disk, block_place(address as u32), BLOCK_SECTORS, bytes)
 }
 
 /// Makes the block of checkpoint `op` at an address below 128, of this kind (`DATA` or `ROOT`), with a payload of at most
@@ -37,8 +39,8 @@ pub fn write_block<D: SectorDisk>(
     requires payload { length payload.now ≤ 3968 }
     ensures name { IfOk result (λ n. n ≡ block_name (record { cluster = cluster; address = address; op = op; kind = kind; payload = payload.now })) }
     ensures runs { Leaves (block_calls address (block_bytes (record { cluster = cluster; address = address; op = op; kind = kind; payload = payload.now }))) (D.told disk.old) (D.told disk.new) result }
-    ensures later { D.faults disk.old ≤ D.faults disk.new }
-    ensures fault { result ≡ Err CkptFault.DiskFault → Rose (D.faults disk.old) (D.faults disk.new) }
+    ensures cause { CountsFault CkptFault.DiskFault (D.faults disk.old) (D.faults disk.new) result }
+    ensures others { D.read_faults disk.new ≡ D.read_faults disk.old }
 {
     match Block::new(alloc, cluster, address, op, kind, payload) {
         Err(_) => Err(CkptFault::NoMemory),
@@ -55,6 +57,7 @@ pub fn put_block<D: SectorDisk>(disk: &mut D, name: &Name, block: &[u8]) -> Resu
     requires { is_some (named name.now block.now) ≡ true }
     ensures runs { Runs (put_calls name.now.address block.now) (D.told disk.old) (D.told disk.new) (is_ok result) }
     ensures cause { HasCause (D.faults disk.old) (D.faults disk.new) result }
+    ensures others { D.read_faults disk.new ≡ D.read_faults disk.old }
 
     // At the end the block reads as it was put. A stop at any of these calls changes no other sector.
     ensures stop { IfSome (D.told disk.old) (λ d. d.face.waiting ≡ [] → PutLeaves name.now.address block.now d.face) }

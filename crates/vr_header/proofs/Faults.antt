@@ -6,7 +6,7 @@ use Rattle.std.proofs.lemmas.Bool.{ltb-false, eqb-true}
 use Rattle.vr_header.specs.declared.header.HeaderFault.{HeaderFault}
 use Rattle.vr_base.specs.Bytes.{number}
 use Rattle.vr_header.proofs.Truths.{not_false, size_of}
-use Rattle.vr_header.specs.Spelling.{command_of, decoded, fault_of, header_at, is_named}
+use Rattle.vr_header.specs.Spelling.{command_of, decoded, fault_of, decoded_header, is_named}
 
 -- each test passed
 pub record IsSound (b : List ℕ) : Type 0 where
@@ -55,5 +55,5 @@ none_of_ok b e =
 pub no_fault_of_ok : (b : List ℕ) → is_ok (decoded b) ≡ true → (128 ≤ length b) × (128 ≤ number w32 104 b) × (number w32 104 b ≤ 20480)
 no_fault_of_ok b e = no_fault b (none_of_ok b e)
 
-pub read_at : (b : List ℕ) → is_ok (decoded b) ≡ true → decoded b ≡ Ok (header_at b)
+pub read_at : (b : List ℕ) → is_ok (decoded b) ≡ true → decoded b ≡ Ok (decoded_header b)
 read_at b e = rw (none_of_ok b e) refl

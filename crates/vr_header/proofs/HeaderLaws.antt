@@ -12,7 +12,7 @@ use Rattle.vr_base.proofs.Places.{BeginsWith, cut, joined-cut, length-joined, pi
 use Rattle.vr_header.specs.declared.command.Command.{Command}
 use Rattle.vr_header.specs.declared.command.Command.TheVariants.{Reserved, Root, Entry, Request, Reply, Prepare, PrepareOk, Commit, StartViewChange, DoViewChange, StartView, GetView, GetPrepare, GivePrepare, GetBlock, GiveBlock, Block}
 use Rattle.vr_header.specs.declared.header.Header.{Header}
-use Rattle.vr_header.specs.Spelling.{IsHeader, Spells, code_of, command_of, decoded, fault_of, field_bytes, header_at, header_bytes, is_named, named_bytes}
+use Rattle.vr_header.specs.Spelling.{IsHeader, Spells, code_of, command_of, decoded, fault_of, field_bytes, decoded_header, header_bytes, is_named, named_bytes}
 use Rattle.vr_header.proofs.Faults.{IsSound, sound}
 use Rattle.vr_header.proofs.Truths.{is_size_of}
 
@@ -123,16 +123,16 @@ fault_of-spelled h b f s =
     let command : command_of (get_or b 108 0) ≡ Some h.command = ap command_of t.command ∙ command_again h.command in
     rw (le-ltb (length b) 128 (long h b f s), t.name, named h b f s, (bytes_eq-Decides (name_of (named_bytes h)) (name_of (named_bytes h))).1 refl, command, t.version, t.size, is_size_of h.size f.size, t.zeros) refl
 
-header_at-spelled : (h : Header) (b : List ℕ) → IsHeader h → Spells h b → header_at b ≡ h
-unfolding header_at
-header_at-spelled h b f s =
+decoded_header-spelled : (h : Header) (b : List ℕ) → IsHeader h → Spells h b → decoded_header b ≡ h
+unfolding decoded_header
+decoded_header-spelled h b f s =
     let t = standing h b f s in
     let command : command_of (get_or b 108 0) ≡ Some h.command = ap command_of t.command ∙ command_again h.command in
     rw (t.body, t.parent, t.request_name, t.cluster, t.client, t.request, t.view, t.op, t.commit, t.size, command, t.replica, t.kind, t.aux) refl
 
 -- what is spelled so is read
 pub decoded_again : (h : Header) (b : List ℕ) → IsHeader h → Spells h b → decoded b ≡ Ok h
-decoded_again h b f s = rw (fault_of-spelled h b f s, header_at-spelled h b f s) refl
+decoded_again h b f s = rw (fault_of-spelled h b f s, decoded_header-spelled h b f s) refl
 
 code_back : (code : ℕ) (c : Command) → is_none (command_of code) ≡ false → unwrap_or (command_of code) Reserved ≡ c → code ≡ code_of c
 unfolding command_of
@@ -157,9 +157,9 @@ code_back (suc (suc (suc (suc (suc (suc (suc (suc (suc (suc (suc (suc (suc (suc 
 code_back (suc (suc (suc (suc (suc (suc (suc (suc (suc (suc (suc (suc (suc (suc (suc (suc (suc (suc k)))))))))))))))))) c n e = absurd cc
 
 -- the fields at their places, written again, are the bytes
-field_bytes-header_at : (b : List ℕ) → IsBytes b → IsSound b → field_bytes (header_at b) ≡ cut 16 (16 ∷ 16 ∷ 16 ∷ 8 ∷ 8 ∷ 4 ∷ 4 ∷ 8 ∷ 8 ∷ 4 ∷ 1 ∷ 1 ∷ 1 ∷ 1 ∷ 8 ∷ 8 ∷ []) b
-unfolding header_at
-field_bytes-header_at b f s =
+field_bytes-decoded_header : (b : List ℕ) → IsBytes b → IsSound b → field_bytes (decoded_header b) ≡ cut 16 (16 ∷ 16 ∷ 16 ∷ 8 ∷ 8 ∷ 4 ∷ 4 ∷ 8 ∷ 8 ∷ 4 ∷ 1 ∷ 1 ∷ 1 ∷ 1 ∷ 8 ∷ 8 ∷ []) b
+unfolding decoded_header
+field_bytes-decoded_header b f s =
     let n64 : (k : ℕ) → k + 8 ≤ 128 → bytes64 (number w64 k b) ≡ piece k 8 b = λ k d. (number64_back k b f (omega (arith, s.long))).0 in
     let n32 : (k : ℕ) → k + 4 ≤ 128 → bytes32 (number w32 k b) ≡ piece k 4 b = λ k d. (number32_back k b f (omega (arith, s.long))).0 in
     let one : (k : ℕ) → k < 128 → get_or b k 0 ∷ [] ≡ piece k 1 b = λ k d. byte_back k b (omega (arith, s.long)) in
@@ -169,16 +169,16 @@ field_bytes-header_at b f s =
     let zeros : replicate 8 0 ≡ piece 120 8 b = sym bytes64-zero ∙ (ap bytes64 (sym s.zeros) ∙ n64 120 (omega arith)) in
     rw (n64 64 (omega arith), n64 72 (omega arith), n32 80 (omega arith), n32 84 (omega arith), n64 88 (omega arith), n64 96 (omega arith), n32 104 (omega arith), n64 112 (omega arith), command, one 109 (omega arith), version, one 111 (omega arith), zeros) refl
 
-header_bytes-header_at : (b : List ℕ) → IsBytes b → IsSound b → Spells (header_at b) b
+header_bytes-decoded_header : (b : List ℕ) → IsBytes b → IsSound b → Spells (decoded_header b) b
 unfolding header_bytes named_bytes is_named piece
-header_bytes-header_at b f s =
+header_bytes-decoded_header b f s =
     let t = take 112 (drop 16 b) in
-    let named : named_bytes (header_at b) ≡ t = ap joined (field_bytes-header_at b f s) ∙ joined-cut (16 ∷ 16 ∷ 16 ∷ 8 ∷ 8 ∷ 4 ∷ 4 ∷ 8 ∷ 8 ∷ 4 ∷ 1 ∷ 1 ∷ 1 ∷ 1 ∷ 8 ∷ 8 ∷ []) 16 b in
+    let named : named_bytes (decoded_header b) ≡ t = ap joined (field_bytes-decoded_header b f s) ∙ joined-cut (16 ∷ 16 ∷ 16 ∷ 8 ∷ 8 ∷ 4 ∷ 4 ∷ 8 ∷ 8 ∷ 4 ∷ 1 ∷ 1 ∷ 1 ∷ 1 ∷ 8 ∷ 8 ∷ []) 16 b in
     let name : take 16 (drop 0 b) ≡ name_of t = (bytes_eq-Decides (take 16 (drop 0 b)) (name_of t)).0 s.named in
     sym (take_both 16 112 b) ∙ (ap (λ x. x ++ t) name ∙ ap (λ x. name_of x ++ x) (sym named))
 
-fits : (b : List ℕ) → IsBytes b → IsSound b → IsHeader (header_at b)
-unfolding header_at
+fits : (b : List ℕ) → IsBytes b → IsSound b → IsHeader (decoded_header b)
+unfolding decoded_header
 fits b f s = record {
   body = length-piece 16 16 b (omega (arith, s.long));
   body_bytes = IsBytes-piece 16 16 b f;
@@ -201,7 +201,7 @@ fits b f s = record {
 -- what is read is spelled so
 pub decoded_found : (b : List ℕ) → IsBytes b → IfOk (decoded b) (λ h. Spells h b × IsHeader h)
 decoded_found b f =
-    elim (fault_of b) as (λ o. fault_of b ≡ o → IfOk (option_map_or Err o (Ok (header_at b))) (λ h. Spells h b × IsHeader h)) [
-      | None ↦ λ e. let s = sound b e in (header_bytes-header_at b f s, fits b f s)
+    elim (fault_of b) as (λ o. fault_of b ≡ o → IfOk (option_map_or Err o (Ok (decoded_header b))) (λ h. Spells h b × IsHeader h)) [
+      | None ↦ λ e. let s = sound b e in (header_bytes-decoded_header b f s, fits b f s)
       | Some x ↦ λ e. tt
     ] refl

@@ -9,7 +9,7 @@ use Rattle.vr_header.specs.declared.outcome.Outcome.TheVariants as outcome
 use Rattle.vr_header.specs.Bodies.{key_of, operation_bytes, operation_of, outcome_bytes, outcome_of, pair_of, value_of}
 use Rattle.vr_header.specs.Made.{is_entry_header}
 use Rattle.vr_header.specs.Names.{no_name, root_header}
-use Rattle.vr_header.specs.Spelling.{code_of, command_of, commands, decoded, fault_of, header_at, header_bytes, is_named, named_bytes}
+use Rattle.vr_header.specs.Spelling.{code_of, command_of, commands, decoded, fault_of, decoded_header, header_bytes, is_named, named_bytes}
 use Rattle.vr_header.specs.Text.{is_text}
 
 -- 17 commands, numbered from 1
@@ -60,7 +60,7 @@ unfolding commit header_bytes named_bytes bytes32 bytes64 name_of sha256 first_w
 commit_spelled = refl
 
 commit_read : decoded (commit_bytes ++ codes "more") ≡ Ok commit
-unfolding commit command_of fault_of header_at is_named number piece name_of sha256 first_words schedule rounds compress hash_after digest_bytes
+unfolding commit command_of fault_of decoded_header is_named number piece name_of sha256 first_words schedule rounds compress hash_after digest_bytes
 commit_read = refl
 
 -- these bytes in the place of those from a place on, with the name made right again

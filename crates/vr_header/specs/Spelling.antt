@@ -95,8 +95,8 @@ fault_of bytes =
     else (if not (number w64 120 bytes == 0) then Some NotZero else None)))))
 
 -- the header whose fields stand at these places
-unfoldable pub header_at : List ℕ → Header
-header_at bytes = record {
+unfoldable pub decoded_header : List ℕ → Header
+decoded_header bytes = record {
   body = record { 0 = piece 16 16 bytes };
   parent = record { 0 = piece 32 16 bytes };
   request_name = record { 0 = piece 48 16 bytes };
@@ -115,4 +115,4 @@ header_at bytes = record {
 
 -- the header, or the first fault that applies
 abbrev pub decoded : List ℕ → Result Header HeaderFault
-decoded bytes = option_map_or Err (fault_of bytes) (Ok (header_at bytes))
+decoded bytes = option_map_or Err (fault_of bytes) (Ok (decoded_header bytes))

@@ -2,7 +2,7 @@
 ghost use Rattle.std.specs.Prelude.{◌≡◌, ◌≤◌, ◌<◌, length, drop, Some, None, Ok, IfOk, is_ok, true};
 ghost use Rattle.vr_base.specs.Bytes.{name_of};
 ghost use Rattle.vr_header.specs.declared.header.Header.{Header};
-ghost use Rattle.vr_header.specs.Spelling.{Spells, IsHeader, code_of, command_of, decoded, fault_of, header_at, header_bytes, is_named, is_size, named_bytes};
+ghost use Rattle.vr_header.specs.Spelling.{Spells, IsHeader, code_of, command_of, decoded, fault_of, decoded_header, header_bytes, is_named, is_size, named_bytes};
 
 use crate::{Command, Header, HeaderFault, Size};
 use vr_base::{Sum, checksum, put, put_sum, put_u32, put_u64, sum_at, u32_at, u64_at};
@@ -21,7 +21,7 @@ fn read(bytes: &[u8]) -> Result<Header, HeaderFault>
 {
     match fault_of(bytes) {
         Some(fault) => Err(fault),
-        None => Ok(header_at(bytes)),
+        None => Ok(decoded_header(bytes)),
     }
 }
 
@@ -118,10 +118,10 @@ fn code_of(command: Command) -> u8
 }
 
 /// The header that the first 128 bytes spell, where they are known to spell one; nothing is hashed.
-#[tactic(auto, using(crate::proofs::Faults::no_fault_of_ok, crate::proofs::Faults::read_at), unfolding(crate::specs::Spelling::header_at))]
-pub fn header_at(bytes: &[u8]) -> Header
+#[tactic(auto, using(crate::proofs::Faults::no_fault_of_ok, crate::proofs::Faults::read_at), unfolding(crate::specs::Spelling::decoded_header))]
+pub fn decoded_header(bytes: &[u8]) -> Header
     requires { is_ok (decoded bytes.now) ≡ true }
-    ensures fields { result ≡ header_at bytes.now }
+    ensures fields { result ≡ decoded_header bytes.now }
     ensures exact { decoded bytes.now ≡ Ok result }
 {
     Header {

@@ -14,7 +14,7 @@ mod size;
 mod text;
 mod view;
 
-pub use codec::{decode, encode, header_at};
+pub use codec::{decode, decoded_header, encode};
 pub use command::Command;
 pub use entry::Entry;
 pub use header::{Header, HeaderFault, HeaderList};

@@ -8,7 +8,7 @@ ghost use Rattle.vr_header.specs.Made.{entry_of, is_register, is_whole};
 ghost use Rattle.vr_header.specs.Views.{entry_seen, operation_seen, outcome_seen};
 
 use crate::text::is_text;
-use crate::{Header, decode, header_at};
+use crate::{Header, decode, decoded_header};
 use vr_base::{Sum, checksum};
 
 /// An operation whose texts stand in the bytes that it was read from.
@@ -135,7 +135,7 @@ pub fn entry_at(bytes: &[u8]) -> EntryView<'_>
     requires { is_some (entry_of bytes.now) ≡ true }
     ensures { entry_of bytes.now ≡ Some (entry_seen result) }
 {
-    let header = header_at(bytes);
+    let header = decoded_header(bytes);
     let (_, body) = bytes.split_at(128);
     let operation = read_operation(body).unwrap();
     EntryView { header, operation }

@@ -6,7 +6,7 @@ use Rattle.vr_apply.specs.declared.state.State.{State}
 use Rattle.vr_apply.specs.Texts.{state_decoded}
 use Rattle.vr_ckpt.specs.declared.found.Load.{Load}
 use Rattle.vr_ckpt.specs.declared.found.Load.TheVariants.{Loaded, Missing}
-use Rattle.vr_ckpt.specs.declared.table.Table.{Table}
+use Rattle.vr_ckpt.specs.declared.table.PayloadTable.{PayloadTable}
 use Rattle.vr_ckpt.specs.Loads.{loaded}
 use Rattle.vr_disk.specs.DiskState.{Disk}
 use Rattle.vr_grid.specs.declared.name.Name.{Name}
@@ -33,10 +33,10 @@ not_decoded t fault.NotSorted h n = record { fault = fault.NotSorted; is = h }
 not_decoded t fault.TooMany h n = record { fault = fault.TooMany; is = h }
 not_decoded t fault.NoMemory h n = absurd (n refl)
 
-pub loads_state : (t : Texts) (table : Table) (s : State) (r q : Replica) → Decodes t (Some s) → q ≡ with_state table s r → q ≡ loads r.root (Loaded t table) r
+pub loads_state : (t : Texts) (table : PayloadTable) (s : State) (r q : Replica) → Decodes t (Some s) → q ≡ with_state table s r → q ≡ loads r.root (Loaded t table) r
 loads_state t table s r q d e = rw d e
 
-pub loads_none : (t : Texts) (table : Table) (r q : Replica) (names : List Name) → Decodes t None → names ≡ r.root ∷ [] → q ≡ with_missing names r → q ≡ loads r.root (Loaded t table) r
+pub loads_none : (t : Texts) (table : PayloadTable) (r q : Replica) (names : List Name) → Decodes t None → names ≡ r.root ∷ [] → q ≡ with_missing names r → q ≡ loads r.root (Loaded t table) r
 loads_none t table r q names d n e = rw d.is (rw n at e)
 
 pub checkpoint_found : (root : Name) (l : Load) (d d' : Option Disk) → d' ≡ d → IfSome d (λ x. l ≡ loaded x.face root) → Finds (checkpoint_at root) d d' l
@@ -50,7 +50,7 @@ pub load_none : (r : Replica) (d : Option Disk) (o : List Output) → nat_lt 0 r
 unfolding load
 load_none r d o t = does_by _ r r d d o o (Ok tt) (rw t (does_quiet r d o))
 
-loaded_savable : (root : Name) (table : Table) (x : Result State StateFault) (r : Replica) → IsSavable r → IsSavable (loaded_state root table x r)
+loaded_savable : (root : Name) (table : PayloadTable) (x : Result State StateFault) (r : Replica) → IsSavable r → IsSavable (loaded_state root table x r)
 unfolding with_state
 loaded_savable root table (Ok s) r h = savable_alike r (with_state table s r) refl h
 loaded_savable root table (Err f) r h = savable_alike r (with_missing (root ∷ []) r) refl h
@@ -59,7 +59,7 @@ loads_savable : (root : Name) (l : Load) (r : Replica) → IsSavable r → IsSav
 loads_savable root (Loaded t table) r h = loaded_savable root table (state_decoded t) r h
 loads_savable root (Missing names) r h = savable_alike r (with_missing names r) refl h
 
-loaded_idle : (root : Name) (table : Table) (x : Result State StateFault) (r : Replica) → r.idle ≤ 9 → (loaded_state root table x r).idle ≤ 9
+loaded_idle : (root : Name) (table : PayloadTable) (x : Result State StateFault) (r : Replica) → r.idle ≤ 9 → (loaded_state root table x r).idle ≤ 9
 unfolding with_state
 loaded_idle root table (Ok s) r h = h
 loaded_idle root table (Err f) r h = h

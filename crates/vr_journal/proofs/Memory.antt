@@ -23,8 +23,8 @@ use Rattle.vr_rules.proofs.SavesSectors.{sectors_fit}
 use Rattle.vr_rules.specs.Words.{with_checkpoint, is_checkpoint, is_loaded}
 use Rattle.vr_rules.specs.Sectors.{sectors}
 use Rattle.vr_apply.specs.declared.codec.Texts.{Texts}
-use Rattle.vr_ckpt.specs.declared.table.Table.{Table}
-use Rattle.vr_ckpt.specs.declared.saving.Saved as checkpoint
+use Rattle.vr_ckpt.specs.declared.table.PayloadTable.{PayloadTable}
+use Rattle.vr_ckpt.specs.declared.saving.SavedCheckpoint as checkpoint
 use Rattle.vr_ckpt.specs.Places.{IsCheckpoint}
 use Rattle.vr_rules.specs.Sound.{IsNameBytes}
 use Rattle.std.specs.Prelude.{max, min, Bool, true, false, ◌&&◌, nat_lt}
@@ -122,7 +122,7 @@ ready_applied q d h =
     rw is (record { sound = kept.sound; savable = savable_alike r (applied e r) refl m.ready.savable; idle = m.ready.idle })
 
 -- where one is made
-pub ready_moved : (c : checkpoint.Saved) (q p : Replica) (cluster : ℕ) (texts : Texts) (op : ℕ) (old : Table) → is_checkpoint q.applied ≡ true → HasApplied q
+pub ready_moved : (c : checkpoint.SavedCheckpoint) (q p : Replica) (cluster : ℕ) (texts : Texts) (op : ℕ) (old : PayloadTable) → is_checkpoint q.applied ≡ true → HasApplied q
     → c ≡ sectors.save_state cluster texts op old → p ≡ with_checkpoint c q → IsReady p
 unfolding IsReady HasApplied with_checkpoint
 ready_moved c q p cluster texts op old d h s i =

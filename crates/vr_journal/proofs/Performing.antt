@@ -9,12 +9,12 @@ use Rattle.vr_header.specs.declared.header.Header.{Header}
 use Rattle.vr_journal.specs.Effects.{rewrites, puts}
 use Rattle.vr_rules.specs.Replica.{Replica, part_at}
 use Rattle.vr_super.specs.Calls.{write_calls}
-use Rattle.vr_super.specs.Copies.{Saved}
+use Rattle.vr_super.specs.Copies.{SuperValue}
 use Rattle.vr_rules.specs.Words.{writes, saves, value_of, may_be_stored}
 use Rattle.vr_apply.specs.declared.codec.Texts.{Texts}
 use Rattle.vr_apply.specs.Texts.{texts_of}
-use Rattle.vr_ckpt.specs.declared.saving.Saved as checkpoint
-use Rattle.vr_ckpt.specs.Saves.{save_calls, saved}
+use Rattle.vr_ckpt.specs.declared.saving.SavedCheckpoint as checkpoint
+use Rattle.vr_ckpt.specs.Saves.{save_calls, saved_checkpoint}
 use Rattle.vr_grid.specs.Grid.{Leaves}
 use Rattle.vr_grid.specs.declared.fault.CkptFault.{CkptFault}
 use Rattle.vr_grid.specs.declared.fault.CkptFault.TheVariants as fault
@@ -37,10 +37,10 @@ write_is_again e r d d' ok i h = record { silent = refl; ran = rw i (runs_from (
 pub write_is_new : (e : Whole) (r : Replica) (d d' : Option Disk) (ok : Bool) → may_be_stored (part_at r e.header.op) ≡ false → Runs (new_calls e) d d' ok → Performs (writes e) r d d' ok
 write_is_new e r d d' ok i h = record { silent = refl; ran = rw i (runs_from (new_calls e) d d' ok h) }
 
-pub save_is : (r : Replica) (v : Saved) (d d' : Option Disk) (ok : Bool) → v ≡ value_of r → RunsFrom (write_calls r.saved v) d d' ok → Performs saves r d d' ok
+pub save_is : (r : Replica) (v : SuperValue) (d d' : Option Disk) (ok : Bool) → v ≡ value_of r → RunsFrom (write_calls r.saved v) d d' ok → Performs saves r d d' ok
 save_is r v d d' ok e h = let k = rw e at h in record { silent = refl; ran = k }
 
-pub one_spent : (r : Replica) (v : Saved) → v ≡ value_of r → v.fields.sequence ≤ r.saved.fields.sequence + 1
+pub one_spent : (r : Replica) (v : SuperValue) → v ≡ value_of r → v.fields.sequence ≤ r.saved.fields.sequence + 1
 unfolding value_of
 one_spent r v e = rw e (omega arith)
 
@@ -54,8 +54,8 @@ put_is name block r d d' ok k = record { silent = refl; ran = runs_from (put_cal
 
 -- ---- a checkpoint
 
-module _ (r : Replica) (texts : Texts) (d d' : Option Disk) (res : Result checkpoint.Saved CkptFault) (t : texts ≡ texts_of r.state) (h : Leaves (save_calls r.cluster texts r.applied r.table) d d' res) where
-  pub checkpoint_ok : (c : checkpoint.Saved) → res ≡ Ok c → PerformsTo checkpoints r d d' (Ok tt)
+module _ (r : Replica) (texts : Texts) (d d' : Option Disk) (res : Result checkpoint.SavedCheckpoint CkptFault) (t : texts ≡ texts_of r.state) (h : Leaves (save_calls r.cluster texts r.applied r.table) d d' res) where
+  pub checkpoint_ok : (c : checkpoint.SavedCheckpoint) → res ≡ Ok c → PerformsTo checkpoints r d d' (Ok tt)
   checkpoint_ok c e =
       let k : Runs (save_calls r.cluster (texts_of r.state) r.applied r.table) d d' true = rw (e, t) at h in
       performs_ok checkpoints r d d' (record { silent = refl; ran = runs_from (save_calls r.cluster (texts_of r.state) r.applied r.table) d d' true k })
@@ -74,15 +74,15 @@ module _ (r : Replica) (texts : Texts) (d d' : Option Disk) (res : Result checkp
 pub checkpoint_none : (r : Replica) (d : Option Disk) → PerformsTo checkpoints r d d (Err NoMemory)
 checkpoint_none r d = performs_want checkpoints r d refl
 
-checkpoint_found : (r : Replica) (d : Option Disk) → Finds (checkpoint_of r) d d (saved r.cluster (texts_of r.state) r.applied r.table)
+checkpoint_found : (r : Replica) (d : Option Disk) → Finds (checkpoint_of r) d d (saved_checkpoint r.cluster (texts_of r.state) r.applied r.table)
 checkpoint_found r None = record { same = refl; value = tt }
 checkpoint_found r (Some y) = record { same = refl; value = refl }
 
-pub checkpoint_then : (r q r2 : Replica) (c : checkpoint.Saved) (d d1 d2 : Option Disk) (o o' : List Output) (res : Result (Unit {0}) Halt) → PerformsTo checkpoints r d d1 (Ok tt)
-    → c ≡ saved r.cluster (texts_of r.state) r.applied r.table → q ≡ with_checkpoint c r → Does save q r2 d1 d2 o o' res → Does make_checkpoint r r2 d d2 o o' res
+pub checkpoint_then : (r q r2 : Replica) (c : checkpoint.SavedCheckpoint) (d d1 d2 : Option Disk) (o o' : List Output) (res : Result (Unit {0}) Halt) → PerformsTo checkpoints r d d1 (Ok tt)
+    → c ≡ saved_checkpoint r.cluster (texts_of r.state) r.applied r.table → q ≡ with_checkpoint c r → Does save q r2 d1 d2 o o' res → Does make_checkpoint r r2 d d2 o o' res
 unfolding make_checkpoint
 checkpoint_then r q r2 c d d1 d2 o o' res p s e h =
-    let v : checkpoint.Saved = saved r.cluster (texts_of r.state) r.applied r.table in
+    let v : checkpoint.SavedCheckpoint = saved_checkpoint r.cluster (texts_of r.state) r.applied r.table in
     let i : q ≡ with_checkpoint v r = rw s at e in
     does_by _ r r2 d d2 o o' res (does_reading (checkpoint_of r) _ v r r2 d d d2 o o' res (checkpoint_found r d)
     (does_then (does checkpoints) (change (with_checkpoint v) ⨾ save) r r r2 d d1 d2 o o o' res (performed checkpoints r r d d1 o p) (change_by_then (with_checkpoint v) save r q r2 d1 d2 o o' res i h)))
@@ -90,14 +90,14 @@ checkpoint_then r q r2 c d d1 d2 o o' res p s e h =
 pub checkpoint_stopped : (r q : Replica) (d d1 : Option Disk) (o o' : List Output) (halt : Halt) → PerformsTo checkpoints r d d1 (Err halt) → Does make_checkpoint r q d d1 o o' (Err halt)
 unfolding make_checkpoint
 checkpoint_stopped r q d d1 o o' halt p =
-    let v : checkpoint.Saved = saved r.cluster (texts_of r.state) r.applied r.table in
+    let v : checkpoint.SavedCheckpoint = saved_checkpoint r.cluster (texts_of r.state) r.applied r.table in
     does_by _ r q d d1 o o' (Err halt) (does_reading (checkpoint_of r) _ v r q d d d1 o o' (Err halt) (checkpoint_found r d) (performs_halted checkpoints (change (with_checkpoint v) ⨾ save) r q d d1 o o' halt p))
 
 -- the window can't move for want of memory
 pub checkpoint_wanted : (r q : Replica) (d d1 : Option Disk) (o o' : List Output) → PerformsTo checkpoints r d d1 (Ok tt) → Does make_checkpoint r q d d1 o o' (Err NoMemory)
 unfolding make_checkpoint
 checkpoint_wanted r q d d1 o o' p =
-    let v : checkpoint.Saved = saved r.cluster (texts_of r.state) r.applied r.table in
+    let v : checkpoint.SavedCheckpoint = saved_checkpoint r.cluster (texts_of r.state) r.applied r.table in
     does_by _ r q d d1 o o' (Err NoMemory) (does_reading (checkpoint_of r) _ v r q d d d1 o o' (Err NoMemory) (checkpoint_found r d)
     (does_then (does checkpoints) (change (with_checkpoint v) ⨾ save) r r q d d1 d1 o o o' (Err NoMemory) (performed checkpoints r r d d1 o p) (does_no_memory (change (with_checkpoint v) ⨾ save) r q d1 o o')))
 

@@ -2,7 +2,7 @@
 ghost use Rattle.std.specs.Prelude.{◌≡◌, ◌<◌, ◌≤◌, ◌+◌, ◌-◌, ◌++◌, ◌^◌, ◌&&◌, nat_lt, IfOk, OnOk, true, false, if◌then◌else◌, [], IfErr};
 ghost use Rattle.vr_base.specs.Causes.{HasCause};
 ghost use Rattle.vr_ckpt.specs.Places.{IsCheckpoint};
-ghost use Rattle.vr_ckpt.specs.Saves.{saved};
+ghost use Rattle.vr_ckpt.specs.Saves.{saved_checkpoint};
 ghost use Rattle.vr_apply.specs.Texts.{texts_of};
 ghost use Rattle.vr_msg.specs.Asking.{IsReplyKind};
 ghost use Rattle.vr_rules.specs.Replica.{last_view, leads, part_at};
@@ -18,7 +18,7 @@ use crate::reading::find_entry;
 use std::alloc::{AllocError, Global};
 use vr_apply::ReplyBody;
 use vr_base::{NoMemory, Replicas, Sum};
-use vr_ckpt::Saved;
+use vr_ckpt::SavedCheckpoint;
 use vr_disk::SectorDisk;
 use vr_grid::CkptFault;
 use vr_header::{Entry, Header, Part};
@@ -28,11 +28,15 @@ use vr_step::Halt;
 impl Replica {
     /// Writes a checkpoint of the op just applied.
     #[tactic(auto, using(crate::proofs::Performing::checkpoint_made, crate::proofs::Memory::due_number))]
-    fn put_checkpoint<D: SectorDisk>(&self, alloc: Global, disk: &mut D) -> Result<Saved, Halt>
+    fn put_checkpoint<D: SectorDisk>(
+        &self,
+        alloc: Global,
+        disk: &mut D,
+    ) -> Result<SavedCheckpoint, Halt>
         requires due { is_checkpoint self.now.applied ≡ true }
         requires applied { HasApplied self.now }
         ensures runs { PerformsTo checkpoints self.now (D.told disk.old) (D.told disk.new) (done result) }
-        ensures saved { IfOk result (λ c. c ≡ saved self.now.cluster (texts_of self.now.state) self.now.applied self.now.table) }
+        ensures saved { IfOk result (λ c. c ≡ saved_checkpoint self.now.cluster (texts_of self.now.state) self.now.applied self.now.table) }
         ensures cause { Caused (D.faults disk.old) (D.faults disk.new) result }
     {
         let texts = self.state.encode_state()?;
@@ -45,7 +49,7 @@ impl Replica {
 
     /// The window moves up with the checkpoint.
     #[tactic(auto, using(crate::proofs::Memory::room_to_move), unfolding(vr_rules::specs::Words::with_checkpoint))]
-    fn move_window(&mut self, saved: Saved)
+    fn move_window(&mut self, saved: SavedCheckpoint)
         requires { HasApplied self.old }
         ensures moved { self.new ≡ with_checkpoint saved self.old }
         ensures view { self.new.view ≡ self.old.view }

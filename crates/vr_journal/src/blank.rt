@@ -6,7 +6,7 @@ use crate::{Places, Replica, Window};
 use std::alloc::Global;
 use vr_apply::State;
 use vr_base::{NoMemory, Replicas, Seq};
-use vr_ckpt::Table;
+use vr_ckpt::PayloadTable;
 use vr_grid::Name;
 use vr_header::Part;
 use vr_super::Super;
@@ -56,7 +56,7 @@ impl Replica {
                 address: f.root_address,
                 sum: f.root_name,
             },
-            table: Table {
+            table: PayloadTable {
                 sessions: Seq::new(alloc),
                 keys: Seq::new(alloc),
             },

@@ -9,7 +9,7 @@ use crate::Replica;
 use std::alloc::{AllocError, Global};
 use vr_apply::{State, Texts};
 use vr_base::{NoMemory, Seq};
-use vr_ckpt::{Load, Table};
+use vr_ckpt::{Load, PayloadTable};
 use vr_disk::SectorDisk;
 use vr_grid::{Name, NameList};
 use vr_msg::Outbox;
@@ -39,7 +39,7 @@ fn only(alloc: Global, name: Name) -> Result<NameList, AllocError>
 impl Replica {
     // The state of the checkpoint is there.
     #[tactic(auto, unfolding(vr_rules::specs::Words::with_state))]
-    fn take_state(&mut self, alloc: Global, table: Table, state: State)
+    fn take_state(&mut self, alloc: Global, table: PayloadTable, state: State)
         ensures taken { self.new ≡ with_state table state self.old }
         ensures view { self.new.view ≡ self.old.view }
         ensures saved { self.new.saved ≡ self.old.saved }
@@ -51,7 +51,12 @@ impl Replica {
 
     // The state that was loaded, or what is missing of it. A root whose state doesn't decode counts as missing.
     #[tactic(auto, using(crate::proofs::Loads::loads_state, crate::proofs::Loads::loads_none))]
-    fn take_texts(&mut self, alloc: Global, texts: Texts, table: Table) -> Result<(), NoMemory>
+    fn take_texts(
+        &mut self,
+        alloc: Global,
+        texts: Texts,
+        table: PayloadTable,
+    ) -> Result<(), NoMemory>
         ensures loaded { OnOk result (self.new ≡ loads self.old.root (Load.Loaded texts table) self.old) }
         ensures view { OnOk result (self.new.view ≡ self.old.view) }
         ensures saved { OnOk result (self.new.saved ≡ self.old.saved) }

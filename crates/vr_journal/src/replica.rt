@@ -6,7 +6,7 @@ use std::alloc::{AllocError, Global};
 use std::marker::Model;
 use vr_apply::State;
 use vr_base::{NoMemory, Replicas};
-use vr_ckpt::Table;
+use vr_ckpt::PayloadTable;
 use vr_grid::{Name, NameList};
 use vr_header::{HeaderList, Part};
 use vr_msg::Statement;
@@ -24,7 +24,7 @@ pub struct Replica {
     pub(crate) applied: u64,
     pub(crate) checkpoint: u64,
     pub(crate) root: Name,
-    pub(crate) table: Table,
+    pub(crate) table: PayloadTable,
     pub(crate) state: State,
     pub(crate) missing: NameList,
     pub(crate) first: u64,

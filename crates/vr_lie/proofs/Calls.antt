@@ -3,8 +3,8 @@ use Rattle.std.proofs.Common.{ℕ, zero, suc, ◌+◌, ◌<◌, ◌≤◌, ◌�
 use Rattle.std.specs.Prelude.{replicate}
 use Rattle.std.proofs.lemmas.List.{get_or-replicate}
 use Rattle.vr_base.specs.Bytes.{number}
-use Rattle.vr_disk.specs.DiskState.{Call, Sync, Cell, Disk, Face, Goes, Fails, Cuts, Runs, Attaches, after, attached, attached_as, blank, cut_at, is_to_fail, judged, reads}
-use Rattle.vr_disk.specs.Regions.{prepare_at}
+use Rattle.vr_disk.specs.DiskState.{Beside, Call, Sync, Cell, Disk, Face, Fate, Goes, Fails, Cuts, Runs, Attaches, after, attached, attached_as, blank, cut_at, is_to_fail, judged, nothing_beside, reads}
+use Rattle.vr_disk.specs.Regions.{prepare_place}
 use Rattle.vr_disk.specs.Sectors.{has, together}
 use Rattle.vr_disk.proofs.Running.{one_cuts, one_fails, one_goes}
 use Rattle.vr_header.specs.Made.{entry_of}
@@ -17,18 +17,32 @@ use Rattle.vr_rings.specs.Slots.{header_reading, size_at, whole_of}
 use Rattle.vr_lie.specs.Table.{IsTable, table_of}
 use Rattle.vr_lie.proofs.Slotted.{same_entry, same_slot}
 
-pub goes_told : (d e g : Disk) (c : Call) → Goes ≡ (judged d.fate).verdict → e ≡ record d { fate = (judged d.fate).next } → g ≡ record e { face = after e.face c } → Runs (c ∷ []) (Some d) (Some g) true
-goes_told d e g c v i j =
-    let there : g ≡ record { face = after d.face c; fate = (judged d.fate).next } = j ∙ ap (λ (e : Disk). let x : Disk = record e { face = after e.face c } in x) i in
-    subst (λ (g : Disk). Runs (c ∷ []) (Some d) (Some g) true) (sym there) (one_goes d.face (after d.face c) d.fate (judged d.fate).next c v refl refl)
+-- the disk below keeps nothing beside its sectors
+abbrev plain : Face → Fate → Disk
+plain f t = record { face = f; fate = t; beside = nothing_beside }
 
-pub fails_told : (d e g : Disk) (c : Call) → Fails ≡ (judged d.fate).verdict → e ≡ record d { fate = (judged d.fate).next } → g ≡ e → Runs (c ∷ []) (Some d) (Some g) false
-fails_told d e g c v i j = subst (λ (g : Disk). Runs (c ∷ []) (Some d) (Some g) false) (sym (j ∙ i)) (one_fails d.face d.fate (judged d.fate).next c v refl)
+is_plain : (d : Disk) → d.beside ≡ nothing_beside → d ≡ plain d.face d.fate
+is_plain d n = ap (λ (b : Beside). let x : Disk = record { face = d.face; fate = d.fate; beside = b } in x) n
 
-pub cuts_told : (d e g h : Disk) (c : Call) (code : ℕ) → Cuts code ≡ (judged d.fate).verdict → e ≡ record d { fate = (judged d.fate).next } → g ≡ record e { face = cut_at code e.face c } → h ≡ g → Runs (c ∷ []) (Some d) (Some h) false
-cuts_told d e g h c code v i j k =
-    let there : h ≡ record { face = cut_at code d.face c; fate = (judged d.fate).next } = k ∙ (j ∙ ap (λ (e : Disk). let x : Disk = record e { face = cut_at code e.face c } in x) i) in
-    subst (λ (h : Disk). Runs (c ∷ []) (Some d) (Some h) false) (sym there) (one_cuts d.face (cut_at code d.face c) d.fate (judged d.fate).next c code v refl refl)
+pub goes_told : (d e g : Disk) (c : Call) → d.beside ≡ nothing_beside → Goes ≡ (judged d.fate).verdict → e ≡ record d { fate = (judged d.fate).next } → g ≡ record e { face = after e.face c } → Runs (c ∷ []) (Some d) (Some g) true
+goes_told d e g c n v i j =
+    let there : g ≡ record d { face = after d.face c; fate = (judged d.fate).next } = j ∙ ap (λ (e : Disk). let x : Disk = record e { face = after e.face c } in x) i in
+    let end : g ≡ plain (after d.face c) (judged d.fate).next = there ∙ ap (λ (b : Beside). let x : Disk = record { face = after d.face c; fate = (judged d.fate).next; beside = b } in x) n in
+    subst (λ (x : Disk). Runs (c ∷ []) (Some x) (Some g) true) (sym (is_plain d n))
+    (subst (λ (g : Disk). Runs (c ∷ []) (Some (plain d.face d.fate)) (Some g) true) (sym end) (one_goes d.face (after d.face c) d.fate (judged d.fate).next c v refl refl))
+
+pub fails_told : (d e g : Disk) (c : Call) → d.beside ≡ nothing_beside → Fails ≡ (judged d.fate).verdict → e ≡ record d { fate = (judged d.fate).next } → g ≡ e → Runs (c ∷ []) (Some d) (Some g) false
+fails_told d e g c n v i j =
+    let end : g ≡ plain d.face (judged d.fate).next = j ∙ i ∙ ap (λ (b : Beside). let x : Disk = record { face = d.face; fate = (judged d.fate).next; beside = b } in x) n in
+    subst (λ (x : Disk). Runs (c ∷ []) (Some x) (Some g) false) (sym (is_plain d n))
+    (subst (λ (g : Disk). Runs (c ∷ []) (Some (plain d.face d.fate)) (Some g) false) (sym end) (one_fails d.face d.fate (judged d.fate).next c v refl))
+
+pub cuts_told : (d e g h : Disk) (c : Call) (code : ℕ) → d.beside ≡ nothing_beside → Cuts code ≡ (judged d.fate).verdict → e ≡ record d { fate = (judged d.fate).next } → g ≡ record e { face = cut_at code e.face c } → h ≡ g → Runs (c ∷ []) (Some d) (Some h) false
+cuts_told d e g h c code n v i j k =
+    let there : h ≡ record d { face = cut_at code d.face c; fate = (judged d.fate).next } = k ∙ (j ∙ ap (λ (e : Disk). let x : Disk = record e { face = cut_at code e.face c } in x) i) in
+    let end : h ≡ plain (cut_at code d.face c) (judged d.fate).next = there ∙ ap (λ (b : Beside). let x : Disk = record { face = cut_at code d.face c; fate = (judged d.fate).next; beside = b } in x) n in
+    subst (λ (x : Disk). Runs (c ∷ []) (Some x) (Some h) false) (sym (is_plain d n))
+    (subst (λ (h : Disk). Runs (c ∷ []) (Some (plain d.face d.fate)) (Some h) false) (sym end) (one_cuts d.face (cut_at code d.face c) d.fate (judged d.fate).next c code v refl refl))
 
 -- ---- calls that leave each reading
 
@@ -48,8 +62,8 @@ attach_table d e ok held h t =
 
 pub clear_table : (d e g : Disk) (held : List (Option (List ℕ))) → e ≡ record d { fate = (judged d.fate).next } → g ≡ record e { face = after e.face Sync } → IsTable d.face held → IsTable g.face held
 clear_table d e g held i j t =
-    let there : g ≡ record { face = after d.face Sync; fate = (judged d.fate).next } = j ∙ ap (λ (e : Disk). let x : Disk = record e { face = after e.face Sync } in x) i in
-    subst (λ (g : Disk). IsTable g.face held) (sym there) (same_table d.face (after d.face Sync) held (λ k. refl) t)
+    let there : g.face ≡ after d.face Sync = ap (λ (g : Disk). g.face) j ∙ ap (λ (e : Disk). after e.face Sync) i in
+    subst (λ (f : Face). IsTable f held) (sym there) (same_table d.face (after d.face Sync) held (λ k. refl) t)
 
 pub sync_held : (d : Disk) (held : List (Option (List ℕ))) → Goes ≡ (judged d.fate).verdict → HeldRan d Sync held held
 unfolding held_after
@@ -98,7 +112,7 @@ new_table f held e h =
     let t : IsTable f (table_of (replicate 64 None)) = record {
       count = empty_count 64;
       seen = λ s l p x.
-          let w = zeros_whole f (prepare_at s) e (omega arith) in
+          let w = zeros_whole f (prepare_place s) e (omega arith) in
           absurd (no_entry (header_reading f s) p (sym (ap (entry_of_both (header_reading f s)) w) ∙ x));
     } in
     subst (λ (held : List (Option Prepare)). IsTable f (table_of held)) (sym h) t

@@ -7,7 +7,7 @@ use Rattle.vr_disk.specs.DiskState.{Face, IsFace, reads}
 use Rattle.vr_disk.specs.Sectors.{has, together}
 use Rattle.vr_disk.proofs.Together.{has_is, is_has, together_bytes, together_same}
 use Rattle.vr_super.specs.declared.opening.Found.{Found}
-use Rattle.vr_super.specs.Copies.{Saved, copy_bytes, value_of}
+use Rattle.vr_super.specs.Copies.{SuperValue, copy_bytes, value_of}
 use Rattle.vr_super.specs.Opens.{copy_reading, found_as, found_of, good_copies, good_copy, if_good, opened, opens, place_of}
 use Rattle.vr_super.proofs.Best.{Among, opened_among}
 use Rattle.vr_super.proofs.Format.{value_found}
@@ -92,13 +92,13 @@ opens_by : (f : Face) (o : Option (List ℕ)) → opened (good_copies f) ≡ o �
 unfolding opens
 opens_by f o e = ap (option_and_then value_of) e
 
-some_value : (o : Option Saved) → is_some o ≡ true → (v : Saved) × (o ≡ Some v)
+some_value : (o : Option SuperValue) → is_some o ≡ true → (v : SuperValue) × (o ≡ Some v)
 some_value None e = absurd cc
 some_value (Some v) e = (v, refl)
 
 -- what is opened has a value, of which it is the one spelling
 pub record Valued (f : Face) (b : List ℕ) : Type 0 where
-  pub value : Saved
+  pub value : SuperValue
   pub opens : opens f ≡ Some value
   pub bytes : b ≡ copy_bytes value
 

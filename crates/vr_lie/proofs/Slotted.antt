@@ -5,7 +5,7 @@ use Rattle.std.specs.Cmp.Lexicographic.{pointwise}
 use Rattle.std.proofs.lemmas.Bool.{lt-ltb, le-ltb}
 use Rattle.std.proofs.lemmas.Slice.Eq.{bytes_eq-Decides}
 use Rattle.vr_disk.specs.DiskState.{Face, reads}
-use Rattle.vr_disk.specs.Regions.{header_at, prepare_at}
+use Rattle.vr_disk.specs.Regions.{header_place, prepare_place}
 use Rattle.vr_disk.specs.Sectors.{has}
 use Rattle.vr_disk.proofs.Together.{has_is, is_has, together_same}
 use Rattle.vr_lie.specs.Faults.{Holds}
@@ -15,11 +15,11 @@ use Rattle.vr_lie.specs.Table.{holds, is_other, slot_at}
 
 -- ---- which sectors are a slot's
 
-pub header_slot : (slot : ℕ) → slot < 64 → slot_at (header_at slot) ≡ Some slot
+pub header_slot : (slot : ℕ) → slot < 64 → slot_at (header_place slot) ≡ Some slot
 unfolding slot_at
 header_slot s l = rw (le-ltb (80 + s) 80 (omega arith), lt-ltb (80 + s) 144 (omega arith)) (ap Some (omega arith))
 
-pub part_slot : (slot i : ℕ) → slot < 64 → prepare_at slot ≤ i → i < prepare_at slot + 4 → slot_at i ≡ Some slot
+pub part_slot : (slot i : ℕ) → slot < 64 → prepare_place slot ≤ i → i < prepare_place slot + 4 → slot_at i ≡ Some slot
 unfolding slot_at
 part_slot s i l a b = rw (le-ltb i 80 (omega arith), le-ltb i 144 (omega arith), lt-ltb i 400 (omega arith)) (ap Some (omega arith))
 
@@ -30,8 +30,8 @@ pub record SameSlot (f g : Face) (slot : ℕ) : Type 0 where
 
 pub same_slot : (f g : Face) (slot : ℕ) → slot < 64 → ((k : ℕ) → slot_at k ≡ Some slot → reads g k ≡ reads f k) → SameSlot f g slot
 same_slot f g s l h = record {
-  header = h (header_at s) (header_slot s l);
-  prepare = together_same 4 (prepare_at s) f g (λ k a b. h k (part_slot s k l a b));
+  header = h (header_place s) (header_slot s l);
+  prepare = together_same 4 (prepare_place s) f g (λ k a b. h k (part_slot s k l a b));
 }
 
 pub same_entry : (f g : Face) (slot : ℕ) → SameSlot f g slot → entry_read g slot ≡ entry_read f slot

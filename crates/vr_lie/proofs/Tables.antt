@@ -4,7 +4,7 @@ use Rattle.std.specs.Prelude.{nat_le, nat_lt}
 use Rattle.std.proofs.lemmas.Bool.{cases_eq, cond_both, eq-eqb, ne_eqb, and_parts, leb-true, ltb-true}
 use Rattle.std.proofs.lemmas.List.{get_or-map, map-set}
 use Rattle.vr_disk.specs.DiskState.{Face, Write, Sync, Waiting, after, digit_at, settle}
-use Rattle.vr_disk.specs.Regions.{header_at, prepare_at}
+use Rattle.vr_disk.specs.Regions.{header_place, prepare_place}
 use Rattle.vr_disk.proofs.Frames.{reads_other}
 use Rattle.vr_lie.specs.declared.table.Prepare.{Prepare}
 use Rattle.vr_lie.specs.Faults.{HeldAfter, HeldLooked, held_at}
@@ -38,15 +38,15 @@ untouched_looked f g held s l t h = found_again (entry_read g s) (held_at held s
 not_part : (slot i : ℕ) → slot < 64 → slot_at i ≢ Some slot → is_part slot i ≡ false
 not_part s i l d =
     elim (is_part s i) as (λ x. is_part s i ≡ x → x ≡ false) [
-      | true ↦ λ x. let q = and_parts (nat_le (prepare_at s) i) (nat_lt i (prepare_at s + 4)) x in absurd (d (part_slot s i l (leb-true (prepare_at s) i q.0) (ltb-true i (prepare_at s + 4) q.1)))
+      | true ↦ λ x. let q = and_parts (nat_le (prepare_place s) i) (nat_lt i (prepare_place s + 4)) x in absurd (d (part_slot s i l (leb-true (prepare_place s) i q.0) (ltb-true i (prepare_place s + 4) q.1)))
       | false ↦ λ x. refl
     ] refl
 
 keeps_apart : (f : Face) (slot i : ℕ) (b p : List ℕ) → slot < 64 → slot_at i ≢ Some slot → keeps f slot i b p ≡ true
 unfolding keeps
 keeps_apart f s i b p l d =
-    let h : i ≢ header_at s = λ e. d (ap slot_at e ∙ header_slot s l) in
-    rw (ne_eqb i (header_at s) h, not_part s i l d) refl
+    let h : i ≢ header_place s = λ e. d (ap slot_at e ∙ header_slot s l) in
+    rw (ne_eqb i (header_place s) h, not_part s i l d) refl
 
 kept_apart : (f : Face) (slot i : ℕ) (b : List ℕ) (h : Option (List ℕ)) → slot < 64 → slot_at i ≢ Some slot → kept f slot i b h ≡ h
 kept_apart f s i b None l d = refl

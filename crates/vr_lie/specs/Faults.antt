@@ -1,6 +1,6 @@
 -- Faults of a disk, and those that break the premise.
 use Rattle.std.specs.Prelude.{ℕ, ◌<◌, ◌≡◌, ◌≢◌, true, List, Option, None, Some, slice_index_or}
-use Rattle.vr_disk.specs.DiskState.{Call, Disk, Face, Verdict, Goes, Fails, Cuts, cell, damaged, judged}
+use Rattle.vr_disk.specs.DiskState.{Call, Disk, Face, CallVerdict, Goes, Fails, Cuts, cell, damaged, judged}
 use Rattle.vr_mem.specs.Lies.{lied}
 use Rattle.vr_super.specs.Opens.{opens}
 use Rattle.vr_lie.specs.declared.fault.Fault.{Fault}
@@ -29,7 +29,7 @@ abbrev pub held_at : List (Option (List ℕ)) → ℕ → Option (List ℕ)
 held_at held slot = slice_index_or held slot None
 
 -- by what becomes of a call
-abbrev pub held_as : Face → Call → Verdict → ℕ → Option (List ℕ) → Option (List ℕ)
+abbrev pub held_as : Face → Call → CallVerdict → ℕ → Option (List ℕ) → Option (List ℕ)
 held_as f c Goes slot held = held_after f c slot held
 held_as f c Fails slot held = held
 held_as f c (Cuts code) slot held = held_cut_at code f c slot held

@@ -5,7 +5,7 @@ ghost use Rattle.vr_rings.specs.Held.{header_sector, is_header_sector, is_prepar
 ghost use Rattle.vr_rings.specs.Slots.{header_reading, prepare_reading};
 ghost use Rattle.vr_lie.specs.Table.{holds, is_other};
 
-use vr_disk::{Sector, SectorDisk, header_at, prepare_at, read_sectors, sectors_read_as};
+use vr_disk::{Sector, SectorDisk, header_place, prepare_place, read_sectors, sectors_read_as};
 use vr_rings::{header_of, header_sector, whole_of};
 
 // Whether these are a valid header and zeros.
@@ -32,7 +32,8 @@ pub fn has_header<D: SectorDisk>(disk: &mut D, slot: u32, prepare: &[u8]) -> boo
     ensures value { IfSome (D.told disk.old) (λ d. result ≡ has (header_sector prepare.now) (header_reading d.face slot)) }
 {
     let mut sector = Sector { bytes: [0; 512] };
-    disk.read(header_at(slot), &mut sector).is_ok() && sector.bytes == header_sector(prepare).bytes
+    disk.read(header_place(slot), &mut sector).is_ok()
+        && sector.bytes == header_sector(prepare).bytes
 }
 
 // Whether a slot's header sector reads as a valid header, but not as that of the entry with this prepare.
@@ -44,7 +45,7 @@ fn has_other<D: SectorDisk>(disk: &mut D, slot: u32, prepare: &[u8]) -> bool
     ensures value { IfSome (D.told disk.old) (λ d. result ≡ is_other prepare.now (header_reading d.face slot)) }
 {
     let mut sector = Sector { bytes: [0; 512] };
-    disk.read(header_at(slot), &mut sector).is_ok()
+    disk.read(header_place(slot), &mut sector).is_ok()
         && sector.bytes != header_sector(prepare).bytes
         && is_header_sector(&sector)
 }
@@ -58,7 +59,7 @@ pub fn read_prepare<D: SectorDisk>(disk: &mut D, slot: u32, to: &mut [u8]) -> bo
     ensures size { length to.new ≡ 2048 }
     ensures value { IfSome (D.told disk.old) (λ d. prepare_reading d.face slot ≡ (if result then Some to.new else None)) }
 {
-    read_sectors(disk, prepare_at(slot), 4, to)
+    read_sectors(disk, prepare_place(slot), 4, to)
 }
 
 /// Whether the premise holds of a slot that holds the entry with this prepare.
@@ -70,5 +71,5 @@ pub fn holds<D: SectorDisk>(disk: &mut D, slot: u32, prepare: &[u8]) -> bool
     ensures faults { D.faults disk.new ≡ D.faults disk.old }
     ensures value { IfSome (D.told disk.old) (λ d. result ≡ holds d.face slot prepare.now) }
 {
-    !has_other(disk, slot, prepare) || sectors_read_as(disk, prepare_at(slot), 4, prepare)
+    !has_other(disk, slot, prepare) || sectors_read_as(disk, prepare_place(slot), 4, prepare)
 }

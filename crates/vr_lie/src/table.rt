@@ -8,7 +8,7 @@ ghost use Rattle.vr_lie.specs.Table.{HeldBegun, HeldCut, IsTable, held_of, slot_
 ghost use Rattle.vr_mem.specs.Cells.{disk_of};
 
 use crate::reading::{has_header, is_prepare, read_prepare};
-use vr_disk::{Sector, header_at, prepare_at, sector_at};
+use vr_disk::{Sector, header_place, prepare_place, sector_at};
 use vr_mem::CellDisk;
 use vr_rings::header_sector;
 
@@ -109,10 +109,10 @@ fn keeps(disk: &mut CellDisk, slot: u32, i: u32, bytes: &[u8], prepare: &[u8]) -
     ensures faults { disk.new.faults ≡ disk.old.faults }
     ensures value { result ≡ keeps (disk_of disk.old).face slot i bytes.now prepare.now }
 {
-    if i == header_at(slot) {
+    if i == header_place(slot) {
         return bytes == header_sector(prepare).bytes.as_slice();
     }
-    let first = prepare_at(slot);
+    let first = prepare_place(slot);
     if first <= i && i < first + 4 {
         let part = sector_at(prepare, 512 * (i - first) as usize);
         return has_header(disk, slot, prepare) && bytes == part.bytes.as_slice();

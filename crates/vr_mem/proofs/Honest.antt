@@ -3,7 +3,7 @@ use Rattle.std.proofs.Common.{ℕ, ◌/◌, ◌%◌, ◌<◌, ◌≡◌, refl, s
 use Rattle.std.specs.List.{All, AllByRecursion}
 use Rattle.std.proofs.lemmas.Bool.{cond_both}
 use Rattle.std.proofs.lemmas.List.Elements.{All-set, All-push, recursion_from_All, All-replicate}
-use Rattle.vr_disk.specs.DiskState.{Call, Write, Sync, Cell, Disk, Face, Fate, Verdict, Goes, Fails, Cuts, Waiting, Runs, Attaches, after, attached, attached_as, begun, blank, cell, is_to_fail, judged, ran, ran_as, runs, settle, settled, settled_cell, waits, written}
+use Rattle.vr_disk.specs.DiskState.{Beside, Call, Write, Sync, Cell, Disk, Face, Fate, CallVerdict, Goes, Fails, Cuts, Waiting, Runs, Attaches, after, attached, attached_as, begun, blank, cell, is_to_fail, judged, ran, ran_as, runs, settle, settled, settled_cell, waits, written}
 use Rattle.std.specs.Prelude.{◌||◌}
 use Rattle.vr_mem.specs.Honesty.{IsHonest}
 use Rattle.vr_mem.specs.Seen.{copies, zero_cell}
@@ -45,14 +45,14 @@ begun_honest : (f : Face) (c : Call) → Within f c → IsHonest f → IsHonest 
 begun_honest f (Write i bytes) l h = honest_after f (Write i bytes) l h
 begun_honest f Sync l h = h
 
-ran_as_honest : (f : Face) (t : Fate) (c : Call) (v : Verdict) → Within f c → IsHonest f → IsHonest (ran_as f t c v).disk.face
-ran_as_honest f t c Goes l h = honest_after f c l h
-ran_as_honest f t c Fails l h = h
-ran_as_honest f t c (Cuts code) l h = settle_honest code (begun f c) (begun_honest f c l h)
+ran_as_honest : (f : Face) (t : Fate) (b : Beside) (c : Call) (v : CallVerdict) → Within f c → IsHonest f → IsHonest (ran_as f t b c v).disk.face
+ran_as_honest f t b c Goes l h = honest_after f c l h
+ran_as_honest f t b c Fails l h = h
+ran_as_honest f t b c (Cuts code) l h = settle_honest code (begun f c) (begun_honest f c l h)
 
 ran_honest : (d : Disk) (c : Call) → Within d.face c → IsHonest d.face → IsHonest (ran d c).disk.face
 unfolding ran
-ran_honest d c l h = ran_as_honest d.face (judged d.fate).next c (judged d.fate).verdict l h
+ran_honest d c l h = ran_as_honest d.face (judged d.fate).next d.beside c (judged d.fate).verdict l h
 
 runs_one : (d : Disk) (c : Call) → (runs (c ∷ []) d).disk ≡ (ran d c).disk
 runs_one d c = elim (ran d c).ok as (λ b. (cond b (record { disk = (ran d c).disk; ok = true }) (ran d c)).disk ≡ (ran d c).disk) [ true ↦ refl | false ↦ refl ]

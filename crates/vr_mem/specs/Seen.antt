@@ -2,7 +2,7 @@
 use Rattle.std.specs.List.{list_any}
 use Rattle.std.specs.Vec.{vec_capacity}
 use Rattle.std.specs.Prelude.{◌==◌, ◌&&◌, ◌≡◌, ◌≤◌, Bool, true, not, ℕ, List, [], ◌∷◌, map, replicate, Option, Some, None}
-use Rattle.vr_disk.specs.DiskState.{Cell, Waiting, Face, IsFace, Fate, Fuse, Verdict, Goes, Fails, Cuts}
+use Rattle.vr_disk.specs.DiskState.{Cell, Waiting, Face, IsFace, Fate, Fuse, CallVerdict, Goes, Fails, Cuts}
 use Rattle.vr_disk.specs.declared.sector.Sector.{Sector}
 use Rattle.vr_mem.specs.declared.cells.MemCell.{MemCell}
 use Rattle.vr_mem.specs.declared.cells.MemWaiting.{MemWaiting}
@@ -33,10 +33,10 @@ fuse_of (Some u) = Some (record { calls = u.calls; code = u.code })
 abbrev pub fate_of : MemFate → Fate
 fate_of t = record { fuse = fuse_of t.fuse; made = t.made; failing = t.failing.items; dead = t.dead }
 
-abbrev pub verdict_of : MemVerdict → Verdict
-verdict_of v.Goes = Goes
-verdict_of v.Fails = Fails
-verdict_of (v.Cuts code) = Cuts code
+abbrev pub call_verdict : MemVerdict → CallVerdict
+call_verdict v.Goes = Goes
+call_verdict v.Fails = Fails
+call_verdict (v.Cuts code) = Cuts code
 
 -- no sector waits twice
 abbrev pub once : List MemWaiting → Bool

@@ -3,13 +3,13 @@ ghost use Rattle.std.specs.Prelude.{◌≡◌, ◌-◌, ◌≤◌, ◌<◌, Some
 ghost use Rattle.vr_base.specs.Causes.{HasCause};
 ghost use Rattle.vr_disk.specs.DiskState.{Sync, Write, after, cell, digit_at, judged, settle};
 ghost use Rattle.vr_mem.specs.Lies.{lied};
-ghost use Rattle.vr_mem.specs.Seen.{IsMemFace, cell_of, copies, verdict_of, zero_cell};
+ghost use Rattle.vr_mem.specs.Seen.{IsMemFace, cell_of, copies, call_verdict, zero_cell};
 
 use crate::cells::{MemCell, MemFace};
 use crate::fate::{MemFate, MemFuse, MemVerdict};
 use std::alloc::Global;
 use vr_base::NoMemory;
-use vr_disk::{DiskFailed, Sector, SectorDisk};
+use vr_disk::{DiskFailed, SECTORS, Sector, SectorDisk};
 
 /// A disk of 1,424 sectors in memory. A read gives what the sector reads as, and fails where it can't be read.
 #[derive(Drop)]
@@ -26,7 +26,7 @@ impl CellDisk {
 
     /// A disk of zeros, of which no call is to fail. All its memory is taken here.
     pub fn new(alloc: Global) -> Result<CellDisk, NoMemory>
-        ensures face { IfOk result (λ m. (disk_of m).face ≡ record { cells = copies 1424 zero_cell; waiting = [] }) }
+        ensures face { IfOk result (λ m. (disk_of m).face ≡ record { cells = copies SECTORS zero_cell; waiting = [] }) }
         ensures fate { IfOk result (λ m. (disk_of m).fate ≡ record { fuse = None; made = 0; failing = []; dead = false }) }
         ensures faults { IfOk result (λ m. m.faults ≡ 0) }
         ensures read_faults { IfOk result (λ m. m.read_faults ≡ 0) }
@@ -82,7 +82,7 @@ impl CellDisk {
 
     /// A sector.
     pub fn cell(&self, i: u32) -> MemCell
-        requires { i < 1424 }
+        requires { i < SECTORS }
         ensures { cell (disk_of self.now).face i ≡ cell_of result }
     {
         self.face.cell(i)
@@ -90,7 +90,7 @@ impl CellDisk {
 
     /// From now on a sector reads as this, until it is written.
     pub fn show(&mut self, i: u32, sector: &Sector)
-        requires { i < 1424 }
+        requires { i < SECTORS }
         ensures told { disk_of self.new ≡ record (disk_of self.old) { face = lied (disk_of self.old).face i (Some sector.now.bytes) } }
         ensures faults { self.new.faults ≡ self.old.faults }
         ensures read_faults { self.new.read_faults ≡ self.old.read_faults }
@@ -100,7 +100,7 @@ impl CellDisk {
 
     /// From now on a sector can't be read, until it is written.
     pub fn hide(&mut self, i: u32)
-        requires { i < 1424 }
+        requires { i < SECTORS }
         ensures told { disk_of self.new ≡ record (disk_of self.old) { face = lied (disk_of self.old).face i None } }
         ensures faults { self.new.faults ≡ self.old.faults }
         ensures read_faults { self.new.read_faults ≡ self.old.read_faults }
@@ -110,7 +110,7 @@ impl CellDisk {
 
     /// What becomes of the next write or sync, which this counts.
     pub fn judge(&mut self) -> MemVerdict
-        ensures verdict { verdict_of result ≡ (judged (disk_of self.old).fate).verdict }
+        ensures verdict { call_verdict result ≡ (judged (disk_of self.old).fate).verdict }
         ensures told { disk_of self.new ≡ record (disk_of self.old) { fate = (judged (disk_of self.old).fate).next } }
         ensures faults { self.new.faults ≡ self.old.faults }
         ensures read_faults { self.new.read_faults ≡ self.old.read_faults }
@@ -120,7 +120,7 @@ impl CellDisk {
 
     /// A write that goes through.
     pub fn put(&mut self, i: u32, from: &Sector)
-        requires { i < 1424 }
+        requires { i < SECTORS }
         ensures told { disk_of self.new ≡ record (disk_of self.old) { face = after (disk_of self.old).face (Write i from.now.bytes) } }
         ensures faults { self.new.faults ≡ self.old.faults }
         ensures read_faults { self.new.read_faults ≡ self.old.read_faults }

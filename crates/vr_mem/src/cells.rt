@@ -8,7 +8,7 @@ ghost use Rattle.vr_mem.specs.Seen.{IsMemFace, cell_of, copies, face_of, waiting
 
 use std::alloc::Global;
 use vr_base::NoMemory;
-use vr_disk::Sector;
+use vr_disk::{SECTORS, Sector};
 
 /// A sector: what it should hold, what it reads as, and what it held before its last write.
 #[derive(Clone, Copy)]
@@ -168,19 +168,19 @@ fn zero() -> MemCell
 impl MemFace {
     /// 1,424 sectors of zeros, with room for each of them to wait.
     pub fn new(alloc: Global) -> Result<MemFace, NoMemory>
-        ensures face { IfOk result (λ f. face_of f ≡ record { cells = copies 1424 zero_cell; waiting = [] }) }
+        ensures face { IfOk result (λ f. face_of f ≡ record { cells = copies SECTORS zero_cell; waiting = [] }) }
         ensures whole { IfOk result IsMemFace }
     {
         Ok(MemFace {
-            cells: filled(alloc, 1424, zero())?,
-            waiting: Vec::with_capacity(alloc, 1424)?,
+            cells: filled(alloc, SECTORS as usize, zero())?,
+            waiting: Vec::with_capacity(alloc, SECTORS as usize)?,
         })
     }
 
     /// A sector with what it should hold, what it reads as and what it held before its last write.
     pub fn cell(&self, index: u32) -> MemCell
         requires face { IsMemFace self.now }
-        requires index { index < 1424 }
+        requires index { index < SECTORS }
         ensures { cell (face_of self.now) index ≡ cell_of result }
     {
         self.cells[index as usize]
@@ -189,7 +189,7 @@ impl MemFace {
     /// From now on a sector reads as another content, until it is written.
     pub fn show(&mut self, index: u32, sector: &Sector)
         requires face { IsMemFace self.old }
-        requires index { index < 1424 }
+        requires index { index < SECTORS }
         ensures after { face_of self.new ≡ lied (face_of self.old) index (Some sector.now.bytes) }
         ensures face { IsMemFace self.new }
     {
@@ -201,7 +201,7 @@ impl MemFace {
     /// From now on a sector can't be read, until it is written.
     pub fn hide(&mut self, index: u32)
         requires face { IsMemFace self.old }
-        requires index { index < 1424 }
+        requires index { index < SECTORS }
         ensures after { face_of self.new ≡ lied (face_of self.old) index None }
         ensures face { IsMemFace self.new }
     {
@@ -212,7 +212,7 @@ impl MemFace {
 
     pub fn write(&mut self, index: u32, from: &Sector)
         requires face { IsMemFace self.old }
-        requires index { index < 1424 }
+        requires index { index < SECTORS }
         ensures after { face_of self.new ≡ after (face_of self.old) (Write index from.now.bytes) }
         ensures face { IsMemFace self.new }
     {

@@ -7,7 +7,7 @@ ghost use Rattle.vr_mem.specs.Cells.{disk_of};
 use crate::CellDisk;
 use std::alloc::Global;
 use vr_base::NoMemory;
-use vr_disk::{DiskFailed, Sector, SectorDisk};
+use vr_disk::{DiskFailed, SECTORS, Sector, SectorDisk};
 
 /// A disk of 1,424 sectors in memory. Its reads give what it holds and never fail.
 #[derive(Drop)]
@@ -21,7 +21,7 @@ impl MemDisk {
 
     /// A disk of zeros, of which no call is to fail. All its memory is taken here.
     pub fn new(alloc: Global) -> Result<MemDisk, NoMemory>
-        ensures face { IfOk result (λ m. (told_by m).face ≡ record { cells = copies 1424 zero_cell; waiting = [] }) }
+        ensures face { IfOk result (λ m. (told_by m).face ≡ record { cells = copies SECTORS zero_cell; waiting = [] }) }
         ensures fate { IfOk result (λ m. (told_by m).fate ≡ record { fuse = None; made = 0; failing = []; dead = false }) }
         ensures faults { IfOk result (λ m. m.disk.faults ≡ 0) }
         ensures read_faults { IfOk result (λ m. m.disk.read_faults ≡ 0) }

@@ -2,7 +2,7 @@
 ghost use Rattle.std.specs.Prelude.{◌≡◌, ◌==◌, ◌||◌, not};
 ghost use Rattle.std.specs.List.{list_any};
 ghost use Rattle.vr_disk.specs.DiskState.{judged, is_to_fail, counted};
-ghost use Rattle.vr_mem.specs.Seen.{fate_of, verdict_of};
+ghost use Rattle.vr_mem.specs.Seen.{fate_of, call_verdict};
 
 /// It lets so many writes and syncs through, and cuts the next one.
 #[derive(Clone, Copy)]
@@ -59,7 +59,7 @@ impl MemFate {
 
     /// What becomes of a write or a sync.
     pub fn judge(&mut self) -> MemVerdict
-        ensures verdict { verdict_of result ≡ (judged (fate_of self.old)).verdict }
+        ensures verdict { call_verdict result ≡ (judged (fate_of self.old)).verdict }
         ensures next { fate_of self.new ≡ (judged (fate_of self.old)).next }
     {
         let fails = self.count();

@@ -13,12 +13,12 @@ use Rattle.vr_header.specs.Same.{same_header}
 use Rattle.vr_msg.specs.Logs.{header_of}
 
 -- What a statement says of op k: it has nothing before its list and past it.
-abbrev pub part_at : ℕ → Statement → Part
-part_at k s = if nat_lt k s.body.first then Nothing else slice_index_or s.body.parts (k - s.body.first) Nothing
+abbrev pub stated_part : ℕ → Statement → Part
+stated_part k s = if nat_lt k s.body.first then Nothing else slice_index_or s.body.parts (k - s.body.first) Nothing
 
 -- the header that it knows
-abbrev pub header_at : ℕ → Statement → Option Header
-header_at k s = header_of (part_at k s)
+abbrev pub stated_header : ℕ → Statement → Option Header
+stated_header k s = header_of (stated_part k s)
 
 -- the greatest log view
 abbrev pub top_view : List Statement → ℕ
@@ -32,7 +32,7 @@ top_commit (s ∷ ss) = max s.commit (top_commit ss)
 
 -- The header named at k: that of the first statement of log view w with a header there.
 unfoldable pub named_by : ℕ → ℕ → List Statement → Option Header
-named_by w k ss = option_and_then (header_at k) (find (λ s. (s.log_view == w) && is_some (header_at k s)) ss)
+named_by w k ss = option_and_then (stated_header k) (find (λ s. (s.log_view == w) && is_some (stated_header k s)) ss)
 
 -- the header named at k by the greatest log view
 abbrev pub named : List Statement → ℕ → Option Header
@@ -49,7 +49,7 @@ is_here e Nothing = false
 -- whether some statement has the entry of the header named at k
 abbrev pub intact_by : Option Header → ℕ → List Statement → Bool
 intact_by None k ss = false
-intact_by (Some e) k ss = list_any (λ s. is_here e (part_at k s)) ss
+intact_by (Some e) k ss = list_any (λ s. is_here e (stated_part k s)) ss
 
 abbrev pub intact : List Statement → ℕ → Bool
 intact ss k = intact_by (named ss k) k ss
@@ -58,7 +58,7 @@ intact ss k = intact_by (named ss k) k ss
 pub record IsIntact (ss : List Statement) (k : ℕ) : Type 0 where
   pub header : Header
   pub is_named : named ss k ≡ Some header
-  pub here : Any (λ s. part_at k s ≡ Here header) ss
+  pub here : Any (λ s. stated_part k s ≡ Here header) ss
 
 -- A statement of the greatest log view denies an op of which it has nothing, or which it never stored.
 abbrev pub denies_as_newest : Part → Bool
@@ -83,7 +83,7 @@ denies_as_older (Some e) part = denies_named e part
 
 -- the statement denies op k, where w is the greatest log view and e the header named at k
 abbrev pub denies_by : ℕ → Option Header → ℕ → Statement → Bool
-denies_by w e k s = if s.log_view == w then denies_as_newest (part_at k s) else denies_as_older e (part_at k s)
+denies_by w e k s = if s.log_view == w then denies_as_newest (stated_part k s) else denies_as_older e (stated_part k s)
 
 abbrev pub denies : List Statement → ℕ → Statement → Bool
 denies ss k s = denies_by (top_view ss) (named ss k) k s
@@ -112,7 +112,7 @@ log_start ss head = option_map_or (start_of (top_commit ss) head) (farthest ss) 
 
 -- the header of op k in the new log
 abbrev pub chosen_header : List Statement → ℕ → Option Header
-chosen_header ss k = if nat_le k (top_commit ss) then option_and_then (header_at k) (farthest ss) else named ss k
+chosen_header ss k = if nat_le k (top_commit ss) then option_and_then (stated_header k) (farthest ss) else named ss k
 
 -- the headers of the log that ends at head, in order
 pub record IsLog (ss : List Statement) (head : ℕ) (headers : List Header) : Type 0 where

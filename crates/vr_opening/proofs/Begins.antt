@@ -7,7 +7,7 @@ use Rattle.vr_apply.specs.declared.state.State.{State}
 use Rattle.vr_apply.specs.Texts.{state_decoded}
 use Rattle.vr_ckpt.specs.declared.found.Load.{Load}
 use Rattle.vr_ckpt.specs.declared.found.Load.TheVariants.{Loaded, Missing}
-use Rattle.vr_ckpt.specs.declared.table.Table.{Table}
+use Rattle.vr_ckpt.specs.declared.table.PayloadTable.{PayloadTable}
 use Rattle.vr_ckpt.specs.Loads.{loaded}
 use Rattle.vr_disk.specs.DiskState.{Disk, Face}
 use Rattle.vr_grid.specs.declared.name.Name.{Name}
@@ -15,7 +15,7 @@ use Rattle.vr_msg.specs.declared.output.Output.{Output}
 use Rattle.vr_table.specs.declared.fault.StateFault.{StateFault}
 use Rattle.vr_table.specs.declared.fault.StateFault.TheVariants as fault
 use Rattle.vr_table.specs.Table.{IsOrNoMemory}
-use Rattle.vr_super.specs.Copies.{Saved, IsGood, good_fields, good_member, good_window, good_root, good_count}
+use Rattle.vr_super.specs.Copies.{SuperValue, IsGood, good_fields, good_member, good_window, good_root, good_count}
 use Rattle.vr_rules.specs.Replica.{Replica, leads, is_started, is_primary, is_spent, last_view}
 use Rattle.vr_rules.specs.Outputs.{send_to_all, start_line, start_view_change}
 use Rattle.std.proofs.Common.{cond, append-nil}
@@ -36,7 +36,7 @@ use Rattle.vr_journal.specs.Ready.{IsReady, MayLoad}
 use Rattle.vr_opening.specs.Finding.{IsOpeningOld}
 use Rattle.vr_step.proofs.Stepping.{does_by, does_quiet, does_reading, change_by, change_by_then, says_by}
 
-pub opening_blank : (v : Saved) (r : Replica) → r ≡ blank v → IsGood v → IsOpeningOld 0 r
+pub opening_blank : (v : SuperValue) (r : Replica) → r ≡ blank v → IsGood v → IsOpeningOld 0 r
 unfolding IsOpeningOld blank
 opening_blank v r e g =
     let w = value_is v g in

@@ -10,7 +10,7 @@ use Rattle.vr_header.specs.declared.part.Part.{Part}
 use Rattle.vr_header.specs.declared.part.Part.TheVariants.{Nothing}
 use Rattle.vr_msg.specs.declared.output.Output.{Output}
 use Rattle.vr_msg.specs.Choice.{ops}
-use Rattle.vr_super.specs.Copies.{Saved}
+use Rattle.vr_super.specs.Copies.{SuperValue}
 use Rattle.vr_rules.specs.Replica.{Replica, forgetting, part_at}
 use Rattle.vr_rules.specs.Steps.{change, each}
 use Rattle.vr_rules.specs.Sound.{IsSavable}
@@ -120,33 +120,33 @@ cloud_room i r q l e w = let parts = w.parts in let number = w.number in rw e (o
 
 -- ---- the word
 
-pub parts_then : (v : Saved) (r r1 r2 q p : Replica) (d d1 d2 : Option Disk) (o o1 o2 : List Output) → r1.saved ≡ v → r2.saved ≡ r1.saved
+pub parts_then : (v : SuperValue) (r r1 r2 q p : Replica) (d d1 d2 : Option Disk) (o o1 o2 : List Output) → r1.saved ≡ v → r2.saved ≡ r1.saved
     → Does (each recover_old (old_headers v)) r r1 d d1 o o1 (Ok tt)
     → Does (each (recover_op r1.saved) (ops r1.saved.fields.checkpoint (r1.saved.fields.checkpoint + 64))) r1 r2 d1 d2 o1 o2 (Ok tt)
     → q ≡ clouded r2.saved r2 → p ≡ forgetting q → Does (recover_parts v) r p d d2 o o2 (Ok tt)
 unfolding recover_parts
 parts_then v r r1 r2 q p d d1 d2 o o1 o2 e i h k l m =
     does_then _ _ r r1 p d d1 d2 o o1 o2 (Ok tt) h
-    (does_then _ _ r1 r2 p d1 d2 d2 o1 o2 o2 (Ok tt) (subst (λ (x : Saved). Does (each (recover_op x) (ops x.fields.checkpoint (x.fields.checkpoint + 64))) r1 r2 d1 d2 o1 o2 (Ok tt)) e k)
-    (change_by_then (clouded v) (change forgetting) r2 q p d2 d2 o2 o2 (Ok tt) (subst (λ (x : Saved). q ≡ clouded x r2) (i ∙ e) l) (change_by forgetting q p d2 o2 m)))
+    (does_then _ _ r1 r2 p d1 d2 d2 o1 o2 o2 (Ok tt) (subst (λ (x : SuperValue). Does (each (recover_op x) (ops x.fields.checkpoint (x.fields.checkpoint + 64))) r1 r2 d1 d2 o1 o2 (Ok tt)) e k)
+    (change_by_then (clouded v) (change forgetting) r2 q p d2 d2 o2 o2 (Ok tt) (subst (λ (x : SuperValue). q ≡ clouded x r2) (i ∙ e) l) (change_by forgetting q p d2 o2 m)))
 
-pub parts_halted : (v : Saved) (r r1 r2 q : Replica) (d d1 d2 : Option Disk) (o o1 o2 o3 : List Output) (halt : Halt) → r1.saved ≡ v
+pub parts_halted : (v : SuperValue) (r r1 r2 q : Replica) (d d1 d2 : Option Disk) (o o1 o2 o3 : List Output) (halt : Halt) → r1.saved ≡ v
     → Does (each recover_old (old_headers v)) r r1 d d1 o o1 (Ok tt)
     → Does (each (recover_op r1.saved) (ops r1.saved.fields.checkpoint (r1.saved.fields.checkpoint + 64))) r1 r2 d1 d2 o1 o2 (Err halt)
     → Does (recover_parts v) r q d d2 o o3 (Err halt)
 unfolding recover_parts
 parts_halted v r r1 r2 q d d1 d2 o o1 o2 o3 halt e h k =
     does_then _ _ r r1 q d d1 d2 o o1 o3 (Err halt) h
-    (does_stopped _ _ r1 r2 q d1 d2 o1 o2 o3 halt (subst (λ (x : Saved). Does (each (recover_op x) (ops x.fields.checkpoint (x.fields.checkpoint + 64))) r1 r2 d1 d2 o1 o2 (Err halt)) e k))
+    (does_stopped _ _ r1 r2 q d1 d2 o1 o2 o3 halt (subst (λ (x : SuperValue). Does (each (recover_op x) (ops x.fields.checkpoint (x.fields.checkpoint + 64))) r1 r2 d1 d2 o1 o2 (Err halt)) e k))
 
-pub parts_stopped : (v : Saved) (r r1 q : Replica) (d d1 : Option Disk) (o o1 o2 : List Output) (halt : Halt) → Does (each recover_old (old_headers v)) r r1 d d1 o o1 (Err halt)
+pub parts_stopped : (v : SuperValue) (r r1 q : Replica) (d d1 : Option Disk) (o o1 o2 : List Output) (halt : Halt) → Does (each recover_old (old_headers v)) r r1 d d1 o o1 (Err halt)
     → Does (recover_parts v) r q d d1 o o2 (Err halt)
 unfolding recover_parts
 parts_stopped v r r1 q d d1 o o1 o2 halt h = does_stopped _ _ r r1 q d d1 o o1 o2 halt h
 
 -- ---- what the replica is
 
-window_blank : (v : Saved) (ps : List Part) → Value v → length ps ≡ v.fields.checkpoint + 65 - first_listed v → HasWindow (record (blank v) { parts = ps })
+window_blank : (v : SuperValue) (ps : List Part) → Value v → length ps ≡ v.fields.checkpoint + 65 - first_listed v → HasWindow (record (blank v) { parts = ps })
 unfolding blank
 window_blank v ps w n =
     let reach = w.reach in
@@ -163,7 +163,7 @@ window_blank v ps w n =
       number = omega arith;
     }
 
-partly_window : (v : Saved) (n : ℕ) (r : Replica) → Value v → Partly v n r → HasWindow r
+partly_window : (v : SuperValue) (n : ℕ) (r : Replica) → Value v → Partly v n r → HasWindow r
 partly_window v n r w p = subst HasWindow (sym p.is) (window_blank v r.parts w p.size)
 
 pub window_opening : (n : ℕ) (r : Replica) → IsOpening n r → HasWindow r
@@ -174,7 +174,7 @@ pub window_clouded : (n : ℕ) (r q : Replica) → IsOpening n r → q ≡ cloud
 unfolding IsOpening
 window_clouded n r q h e = let w = value_is r.saved h.good in rw e (partly_window r.saved n (clouded r.saved r) w (partly_clouded r.saved n r w h.partly))
 
-idle_blank : (v : Saved) (ps : List Part) → (record (blank v) { parts = ps }).idle ≤ 9
+idle_blank : (v : SuperValue) (ps : List Part) → (record (blank v) { parts = ps }).idle ≤ 9
 unfolding blank
 idle_blank v ps = omega arith
 
@@ -185,7 +185,7 @@ forgetting_idle r h = h
 pub opened_ready : (c : ℕ) (r q p : Replica) → IsOpening (c + 64) r → c ≡ r.saved.fields.checkpoint → q ≡ clouded r.saved r → p ≡ forgetting q → MayLoad p
 unfolding IsOpening MayLoad IsReady
 opened_ready c r q p h e i j =
-    let v : Saved = r.saved in
+    let v : SuperValue = r.saved in
     let n : ℕ = c + 64 in
     let w = value_is v h.good in
     let window = w.window in

@@ -5,7 +5,7 @@ use Rattle.vr_base.specs.declared.table.Config.{Config}
 use Rattle.vr_base.specs.Groups.{quorums_of}
 use Rattle.vr_disk.specs.DiskState.{Disk, Runs}
 use Rattle.vr_super.specs.declared.opening.Found.{Found}
-use Rattle.vr_super.specs.Copies.{Saved, IsGood}
+use Rattle.vr_super.specs.Copies.{SuperValue, IsGood}
 use Rattle.vr_super.specs.Opens.{good_copies, opened, found_of}
 use Rattle.vr_rules.specs.Opening.{fresh, blank, first_value}
 use Rattle.vr_rules.specs.Replica.{Replica, forgetting}
@@ -57,7 +57,7 @@ fresh_idle cluster n index = omega arith
 pub fresh_ready : (cluster n index : ℕ) (r : Replica) → cluster < 2 ^ 64 → index < 256 → n < 256 → is_some (quorums_of n) ≡ true → index < n → r ≡ fresh cluster n index → IsReady r
 unfolding IsReady
 fresh_ready cluster n index r a b c s m e =
-    let v : Saved = first_value cluster n index in
+    let v : SuperValue = first_value cluster n index in
     let g : IsGood v = first_good cluster n index a b c s m in
     let w = value_is v g in
     let x : Replica = blank v in

@@ -12,7 +12,7 @@ use Rattle.vr_header.specs.Made.{Whole}
 use Rattle.vr_msg.specs.declared.output.Output.{Output}
 use Rattle.vr_msg.specs.Choice.{ops}
 use Rattle.vr_msg.specs.Logs.{has_header}
-use Rattle.vr_super.specs.Copies.{Saved, IsGood}
+use Rattle.vr_super.specs.Copies.{SuperValue, IsGood}
 use Rattle.vr_rules.specs.Replica.{Replica, with_part}
 use Rattle.vr_rules.specs.Steps.{Setting, Step, Word, ◌⨾◌, each, when, quiet, after_all}
 use Rattle.vr_rules.specs.Sectors.{sectors}
@@ -34,7 +34,7 @@ unfolding recover_old
 old_then h e p r q d d' o f i j = does_reading (entry_of h) _ e r q d d' d' o o (Ok tt) f (change_by _ r q d' o (rw (← i) j))
 
 -- the header at a place of the value's list
-is_old : (v : Saved) (i : ℕ) (h : Header) → IsGood v → slice_get v.headers i ≡ Some h → IsOld v h
+is_old : (v : SuperValue) (i : ℕ) (h : Header) → IsGood v → slice_get v.headers i ≡ Some h → IsOld v h
 is_old v i h g e =
     let w = value_is v g in
     let is = w.each i h e in
@@ -68,7 +68,7 @@ pub opening_old : (i : ℕ) (h : Header) (e : Option Whole) (p : Part) (r q : Re
     → p ≡ old_part h e → q ≡ with_part h.op p r → IsOpeningOld (i + 1) q
 unfolding IsOpeningOld with_part
 opening_old i h e p r q o at l k m =
-    let v : Saved = r.saved in
+    let v : SuperValue = r.saved in
     let w = value_is v o.good in
     let old = is_old v i h o.good at in
     let from = old.1 in
@@ -88,7 +88,7 @@ opening_old i h e p r q o at l k m =
 pub old_skipped : (i : ℕ) (h : Header) (r : Replica) → IsOpeningOld i r → slice_get r.saved.headers i ≡ Some h → nat_le h.op r.saved.fields.checkpoint ≡ false → IsOpeningOld (i + 1) r
 unfolding IsOpeningOld
 old_skipped i h r o at l =
-    let v : Saved = r.saved in
+    let v : SuperValue = r.saved in
     let rest : drop i v.headers ≡ h ∷ drop (i + 1) v.headers = drop_at v.headers i h at in
     record {
       good = o.good;
@@ -126,7 +126,7 @@ pub ruleset goings = (going_begins, going_at, going_at_stops, going_ends)
 -- ---- the ops of the checkpoint
 
 -- each header of a list that passes a test
-each_passing : (v : Saved) (hs : List Header) (s : Setting Face) (r : Replica) (f : Face) → each (recover_listed v) hs s r f ≡ each recover_old (filter (λ h. nat_le h.op v.fields.checkpoint) hs) s r f
+each_passing : (v : SuperValue) (hs : List Header) (s : Setting Face) (r : Replica) (f : Face) → each (recover_listed v) hs s r f ≡ each recover_old (filter (λ h. nat_le h.op v.fields.checkpoint) hs) s r f
 unfolding each ◌⨾◌ quiet after_all
 each_passing v [] s r f = refl
 each_passing v (h ∷ hs) s r f =
@@ -142,19 +142,19 @@ does_alike : (w u : Word Face) (r r' : Replica) (d d' : Option Disk) (o o' : Lis
     → Does w r r' d d' o o' result → Does u r r' d d' o o' result
 does_alike w u r r' d d' o o' result same h = record { untold = h.untold; told = λ x e. subst (λ s. LeftBy s r' x d' o o' result) (same x.face) (h.told x e) }
 
-pub olds_passing : (v : Saved) (r r' : Replica) (d d' : Option Disk) (o o' : List Output) (result : Result (Unit {0}) Halt) → Does (each (recover_listed v) v.headers) r r' d d' o o' result
+pub olds_passing : (v : SuperValue) (r r' : Replica) (d d' : Option Disk) (o o' : List Output) (result : Result (Unit {0}) Halt) → Does (each (recover_listed v) v.headers) r r' d d' o o' result
     → Does (each recover_old (old_headers v)) r r' d d' o o' result
 olds_passing v r r' d d' o o' result h = does_alike (each (recover_listed v) v.headers) (each recover_old (old_headers v)) r r' d d' o o' result (λ f. each_passing v v.headers sectors r f) h
 
-pub olds_end : (v : Saved) (i : ℕ) (r r' : Replica) (d d' : Option Disk) (o o' : List Output) → length v.headers ≤ i → Going (recover_listed v) v.headers i r r' d d' o o'
+pub olds_end : (v : SuperValue) (i : ℕ) (r r' : Replica) (d d' : Option Disk) (o o' : List Output) → length v.headers ≤ i → Going (recover_listed v) v.headers i r r' d d' o o'
     → Does (each recover_old (old_headers v)) r r' d d' o o' (Ok tt)
 olds_end v i r r' d d' o o' l h = olds_passing v r r' d d' o o' (Ok tt) (going_ends (recover_listed v) v.headers i r r' d d' o o' l h)
 
-pub olds_at : (v u : Saved) (i : ℕ) (r r' r'' : Replica) (d d' d'' : Option Disk) (o o' o'' : List Output)
+pub olds_at : (v u : SuperValue) (i : ℕ) (r r' r'' : Replica) (d d' d'' : Option Disk) (o o' o'' : List Output)
     → i < length v.headers → u ≡ v → Going (recover_listed v) v.headers i r r' d d' o o' → DoesAt (recover_listed u) u.headers i r' r'' d' d'' o' o'' (Ok tt) → Going (recover_listed v) v.headers (i + 1) r r'' d d'' o o''
 olds_at v u i r r' r'' d d' d'' o o' o'' l e h k = going_at (recover_listed v) v.headers i r r' r'' d d' d'' o o' o'' l h (subst (λ x. DoesAt (recover_listed x) x.headers i r' r'' d' d'' o' o'' (Ok tt)) e k)
 
-pub olds_stopped : (v u : Saved) (i : ℕ) (r r' r'' s : Replica) (d d' d'' : Option Disk) (o o' o'' p : List Output) (e : Halt)
+pub olds_stopped : (v u : SuperValue) (i : ℕ) (r r' r'' s : Replica) (d d' d'' : Option Disk) (o o' o'' p : List Output) (e : Halt)
     → i < length v.headers → u ≡ v → Going (recover_listed v) v.headers i r r' d d' o o' → DoesAt (recover_listed u) u.headers i r' r'' d' d'' o' o'' (Err e) → Does (each recover_old (old_headers v)) r s d d'' o p (Err e)
 olds_stopped v u i r r' r'' s d d' d'' o o' o'' p e l q h k =
     olds_passing v r s d d'' o p (Err e) (going_at_stops (recover_listed v) v.headers i r r' r'' s d d' d'' o o' o'' p e l h
@@ -190,7 +190,7 @@ pub nth_fits : (n : ℕ) (r : Replica) → IsOpening n r → r.saved.fields.chec
 unfolding IsOpening
 nth_fits n r o = let w = value_is r.saved o.good in let a = w.commit in let b = w.head in let c = w.number in omega arith
 
-pub nth_step : (v : Saved) (c i k : ℕ) (r q : Replica) (d d' : Option Disk) (o o' : List Output) (result : Result (Unit {0}) Halt) → k ≡ c + 1 + i → Does (recover_op v k) r q d d' o o' result
+pub nth_step : (v : SuperValue) (c i k : ℕ) (r q : Replica) (d d' : Option Disk) (o o' : List Output) (result : Result (Unit {0}) Halt) → k ≡ c + 1 + i → Does (recover_op v k) r q d d' o o' result
     → DoesAt (recover_op v) (ops c (c + 64)) i r q d d' o o' result
 unfolding DoesAt
 nth_step v c i k r q d d' o o' result e h = λ j at. let is = range_at (c + 1) (c + 64 - c) i j at in let same : k ≡ j = omega (arith, is) in subst (λ m. Does (recover_op v m) r q d d' o o' result) same h
@@ -203,14 +203,14 @@ ops_length c = let n = length-range_with_len (c + 1) (c + 64 - c) in omega (arit
 
 -- ---- by a header that is read of the list
 
-pub one_header : (v : Saved) (i : ℕ) (g : Header) (r q : Replica) (d d' : Option Disk) (o o' : List Output) (result : Result (Unit {0}) Halt) → slice_get v.headers i ≡ Some g
+pub one_header : (v : SuperValue) (i : ℕ) (g : Header) (r q : Replica) (d d' : Option Disk) (o o' : List Output) (result : Result (Unit {0}) Halt) → slice_get v.headers i ≡ Some g
     → Does (recover_listed v g) r q d d' o o' result → DoesAt (recover_listed v) v.headers i r q d d' o o' result
 unfolding DoesAt
 one_header v i g r q d d' o o' result at k = λ h e. subst (λ x. Does (recover_listed v x) r q d d' o o' result) (one_is v.headers i g h at e) k
 
 -- ---- the window's loop
 
-pub ops_at : (v u : Saved) (i : ℕ) (r r' r'' : Replica) (d d' d'' : Option Disk) (o o' o'' : List Output)
+pub ops_at : (v u : SuperValue) (i : ℕ) (r r' r'' : Replica) (d d' d'' : Option Disk) (o o' o'' : List Output)
     → i < 64 → u ≡ v → Going (recover_op v) (ops v.fields.checkpoint (v.fields.checkpoint + 64)) i r r' d d' o o'
     → DoesAt (recover_op u) (ops u.fields.checkpoint (u.fields.checkpoint + 64)) i r' r'' d' d'' o' o'' (Ok tt) → Going (recover_op v) (ops v.fields.checkpoint (v.fields.checkpoint + 64)) (i + 1) r r'' d d'' o o''
 ops_at v u i r r' r'' d d' d'' o o' o'' l e h k =
@@ -218,7 +218,7 @@ ops_at v u i r r' r'' d d' d'' o o' o'' l e h k =
     going_at (recover_op v) (ops v.fields.checkpoint (v.fields.checkpoint + 64)) i r r' r'' d d' d'' o o' o'' (omega (arith, n)) h
     (subst (λ x. DoesAt (recover_op x) (ops x.fields.checkpoint (x.fields.checkpoint + 64)) i r' r'' d' d'' o' o'' (Ok tt)) e k)
 
-pub ops_stopped : (v u : Saved) (i : ℕ) (r r' r'' s : Replica) (d d' d'' : Option Disk) (o o' o'' p : List Output) (e : Halt)
+pub ops_stopped : (v u : SuperValue) (i : ℕ) (r r' r'' s : Replica) (d d' d'' : Option Disk) (o o' o'' p : List Output) (e : Halt)
     → i < 64 → u ≡ v → Going (recover_op v) (ops v.fields.checkpoint (v.fields.checkpoint + 64)) i r r' d d' o o'
     → DoesAt (recover_op u) (ops u.fields.checkpoint (u.fields.checkpoint + 64)) i r' r'' d' d'' o' o'' (Err e) → Does (each (recover_op v) (ops v.fields.checkpoint (v.fields.checkpoint + 64))) r s d d'' o p (Err e)
 ops_stopped v u i r r' r'' s d d' d'' o o' o'' p e l q h k =

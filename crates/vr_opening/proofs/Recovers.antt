@@ -5,9 +5,9 @@ use Rattle.vr_base.specs.declared.table.Config.{Config}
 use Rattle.vr_disk.specs.DiskState.{Disk, Face, Runs, RunsFrom}
 use Rattle.vr_msg.specs.declared.output.Output.{Output}
 use Rattle.vr_super.specs.Calls.{mend_calls}
-use Rattle.vr_super.specs.Copies.{Saved}
+use Rattle.vr_super.specs.Copies.{SuperValue}
 use Rattle.vr_super.specs.Opens.{opens, good_copies}
-use Rattle.vr_super.specs.Recovers.{RecoversFrom, verdict_of}
+use Rattle.vr_super.specs.Recovers.{RecoversFrom, copy_verdict}
 use Rattle.vr_super.specs.declared.recovering.CopyVerdict.{CopyVerdict}
 use Rattle.vr_super.specs.declared.recovering.SuperFault.TheVariants as fault
 use Rattle.vr_rules.specs.Replica.{Replica}
@@ -21,10 +21,10 @@ use Rattle.vr_step.specs.Does.{Does, Performs}
 use Rattle.vr_opening.specs.Recovering.{after_mend, DoesTo, config_of, LosesValue, MendsValue, BeginsWith, FindsValue, IsOther, IsAsked, Recovered}
 use Rattle.vr_step.proofs.Stepping.{does_no_memory, effect_then, effect_stopped}
 
-pub begun_wanted : (v : Saved) (d : Option Disk) (o : List Output) → DoesTo (after_mend v) (blank v) d d o o (Err NoMemory)
+pub begun_wanted : (v : SuperValue) (d : Option Disk) (o : List Output) → DoesTo (after_mend v) (blank v) d d o o (Err NoMemory)
 begun_wanted v d o = does_no_memory (after_mend v) (blank v) (blank v) d o o
 
-saved_blank : (v : Saved) → (blank v).saved ≡ v
+saved_blank : (v : SuperValue) → (blank v).saved ≡ v
 unfolding blank
 saved_blank v = refl
 
@@ -33,53 +33,53 @@ other : (w : Word Face) (r a b : Replica) (d d' : Option Disk) (o o' : List Outp
 other w r a b d d' o o' DiskFault k = record { untold = k.untold; told = k.told }
 other w r a b d d' o o' NoMemory k = record { untold = k.untold; told = k.told }
 
-pub begun_then : (v : Saved) (r q : Replica) (d d' : Option Disk) (o o' : List Output) → r ≡ blank v → Does (after_mend r.saved) r q d d' o o' (Ok tt) → DoesTo (after_mend v) (blank v) d d' o o' (Ok q)
+pub begun_then : (v : SuperValue) (r q : Replica) (d d' : Option Disk) (o o' : List Output) → r ≡ blank v → Does (after_mend r.saved) r q d d' o o' (Ok tt) → DoesTo (after_mend v) (blank v) d d' o o' (Ok q)
 begun_then v r q d d' o o' e h =
     let k : Does (after_mend (blank v).saved) (blank v) q d d' o o' (Ok tt) = rw e at h in
     subst (λ x. Does (after_mend x) (blank v) q d d' o o' (Ok tt)) (saved_blank v) k
 
-pub begun_stopped : (v : Saved) (r q : Replica) (d d' : Option Disk) (o o' : List Output) (halt : Halt) → r ≡ blank v → Does (after_mend r.saved) r q d d' o o' (Err halt) → DoesTo (after_mend v) (blank v) d d' o o' (Err halt)
+pub begun_stopped : (v : SuperValue) (r q : Replica) (d d' : Option Disk) (o o' : List Output) (halt : Halt) → r ≡ blank v → Does (after_mend r.saved) r q d d' o o' (Err halt) → DoesTo (after_mend v) (blank v) d d' o o' (Err halt)
 begun_stopped v r q d d' o o' halt e h =
     let k : Does (after_mend (blank v).saved) (blank v) q d d' o o' (Err halt) = rw e at h in
     other (after_mend v) (blank v) q (blank v) d d' o o' halt (subst (λ x. Does (after_mend x) (blank v) q d d' o o' (Err halt)) (saved_blank v) k)
 
 -- ---- with the mending before it
 
-mends : (v : Saved) (r : Replica) (d d' : Option Disk) (ok : Bool) → RunsFrom (mend_calls v) d d' ok → Performs (λ r. Mend v) r d d' ok
+mends : (v : SuperValue) (r : Replica) (d d' : Option Disk) (ok : Bool) → RunsFrom (mend_calls v) d d' ok → Performs (λ r. Mend v) r d d' ok
 mends v r d d' ok h = record { silent = refl; ran = h }
 
-runs_of : (v : Saved) (d d' : Option Disk) → MendsValue v d d' → RunsFrom (mend_calls v) d d' true
+runs_of : (v : SuperValue) (d d' : Option Disk) → MendsValue v d d' → RunsFrom (mend_calls v) d d' true
 runs_of v None d' m = m.untold refl
 runs_of v (Some x) d' m = (m.told x refl).1
 
-opens_of : (v : Saved) (d d' : Option Disk) → MendsValue v d d' → IfSome d (λ x. opens x.face ≡ Some v)
+opens_of : (v : SuperValue) (d d' : Option Disk) → MendsValue v d d' → IfSome d (λ x. opens x.face ≡ Some v)
 opens_of v None d' m = tt
 opens_of v (Some x) d' m = (m.told x refl).0
 
-mended_then : (v : Saved) (q : Replica) (d d1 d2 : Option Disk) (o o' : List Output) (res : Result (Unit {0}) Halt) → MendsValue v d d1 → Does (after_mend v) (blank v) q d1 d2 o o' res → Does (opening v) (blank v) q d d2 o o' res
+mended_then : (v : SuperValue) (q : Replica) (d d1 d2 : Option Disk) (o o' : List Output) (res : Result (Unit {0}) Halt) → MendsValue v d d1 → Does (after_mend v) (blank v) q d1 d2 o o' res → Does (opening v) (blank v) q d d2 o o' res
 unfolding opening
 mended_then v q d d1 d2 o o' res m h = effect_then (λ r. Mend v) (after_mend v) (blank v) q d d1 d2 o o' res (mends v (blank v) d d1 true (runs_of v d d1 m)) h
 
-pub found_value : (v : Saved) (d d' : Option Disk) → RecoversFrom d d' (Ok v) → MendsValue v d d'
+pub found_value : (v : SuperValue) (d d' : Option Disk) → RecoversFrom d d' (Ok v) → MendsValue v d d'
 found_value v None d' h = record { untold = λ e. h; told = λ x e. cc }
 found_value v (Some y) d' h = record { untold = λ e. cc; told = λ x e. let same : y ≡ x = search rules in subst (λ (z : Disk). (opens z.face ≡ Some v) × Runs (mend_calls v z.face) (Some z) d' true) same h }
 
 pub lost : (vs : List CopyVerdict) (d d' : Option Disk) → RecoversFrom d d' (Err (fault.Lost vs)) → LosesValue d d' vs
 lost vs None d' h = record { untold = λ e. h; told = λ x e. cc }
 lost vs (Some y) d' h =
-    record { untold = λ e. cc; told = λ x e. let same : y ≡ x = search rules in subst (λ (z : Disk). (opens z.face ≡ None) × (d' ≡ Some z) × (vs ≡ map verdict_of (good_copies z.face))) same h }
+    record { untold = λ e. cc; told = λ x e. let same : y ≡ x = search rules in subst (λ (z : Disk). (opens z.face ≡ None) × (d' ≡ Some z) × (vs ≡ map copy_verdict (good_copies z.face))) same h }
 
-any_value : Saved
+any_value : SuperValue
 any_value = first_value 0 0 0
 
 pub mend_faulted : (d d' : Option Disk) → RecoversFrom d d' (Err fault.DiskFault) → (o : List Output) → BeginsWith opening d d' o o (Err DiskFault)
 unfolding opening
 mend_faulted None d' h o = record { value = any_value; opens = tt; step = record { untold = λ e. h; told = λ x e. cc } }
 mend_faulted (Some y) d' h o =
-    let v : Saved = h.value in
+    let v : SuperValue = h.value in
     record { value = v; opens = h.opens; step = effect_stopped (λ r. Mend v) (after_mend v) (blank v) (blank v) (Some y) d' o o (mends v (blank v) (Some y) d' false h.ran) }
 
-some_value : (o : Option Saved) → IsSome o → (v : Saved) × (o ≡ Some v)
+some_value : (o : Option SuperValue) → IsSome o → (v : SuperValue) × (o ≡ Some v)
 some_value None h = absurd cc
 some_value (Some v) h = (v, refl)
 
@@ -90,14 +90,14 @@ mend_wanted (Some y) d' h o =
     let t = some_value (opens y.face) h.0 in
     record { value = t.0; opens = t.1; step = rw h.1 (does_no_memory (opening t.0) (blank t.0) (blank t.0) (Some y) o o) }
 
-pub recovered : (asked found : Config) (v : Saved) (q : Replica) (d d1 d2 : Option Disk) (o o' : List Output) → found ≡ config_of v → found ≡ asked → MendsValue v d d1 → DoesTo (after_mend v) (blank v) d1 d2 o o' (Ok q)
+pub recovered : (asked found : Config) (v : SuperValue) (q : Replica) (d d1 d2 : Option Disk) (o o' : List Output) → found ≡ config_of v → found ≡ asked → MendsValue v d d1 → DoesTo (after_mend v) (blank v) d1 d2 o o' (Ok q)
     → IsAsked asked d d2 o o' q
 recovered asked found v q d d1 d2 o o' e i m h = record { value = v; named = sym e ∙ i; opens = opens_of v d d1 m; step = mended_then v q d d1 d2 o o' (Ok tt) m h }
 
-pub halted : (v : Saved) (d d1 d2 : Option Disk) (o o' : List Output) (halt : Halt) → MendsValue v d d1 → DoesTo (after_mend v) (blank v) d1 d2 o o' (Err halt) → BeginsWith opening d d2 o o' (Err halt)
+pub halted : (v : SuperValue) (d d1 d2 : Option Disk) (o o' : List Output) (halt : Halt) → MendsValue v d d1 → DoesTo (after_mend v) (blank v) d1 d2 o o' (Err halt) → BeginsWith opening d d2 o o' (Err halt)
 halted v d d1 d2 o o' halt m h = record { value = v; opens = opens_of v d d1 m; step = mended_then v (blank v) d d1 d2 o o' (Err halt) m h }
 
-pub other_member : (asked found : Config) (v : Saved) (d d' : Option Disk) → found ≡ config_of v → (found ≡ asked → ⊥) → MendsValue v d d' → IsOther asked found d d'
+pub other_member : (asked found : Config) (v : SuperValue) (d d' : Option Disk) → found ≡ config_of v → (found ≡ asked → ⊥) → MendsValue v d d' → IsOther asked found d d'
 other_member asked found v d d' e n m = record { value = v; mended = m; named = e; other = n }
 
 pub refused : (asked : Config) (d d' : Option Disk) (o : List Output) (x : Refusal) → FindsValue d d' (Err x) → Recovered asked d d' o o (Err x)

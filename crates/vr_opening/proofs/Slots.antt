@@ -13,7 +13,7 @@ use Rattle.vr_header.specs.Made.{Whole}
 use Rattle.vr_header.specs.Spelling.{IsHeader}
 use Rattle.vr_rings.specs.Readings.{BeginsWith}
 use Rattle.vr_rings.specs.Slots.{header_in, whole_in}
-use Rattle.vr_super.specs.Copies.{Saved, IsGood}
+use Rattle.vr_super.specs.Copies.{SuperValue, IsGood}
 use Rattle.vr_rules.specs.Sectors.{sectors}
 use Rattle.vr_rules.specs.Replica.{Replica, with_part}
 use Rattle.vr_rules.specs.Steps.{Rewrite, change}
@@ -84,16 +84,16 @@ looked_none k slot a (Some x) d1 d2 s i j f g m =
 
 -- ---- an op's Part, by what reads
 
-entry_same : (v : Saved) (k : ℕ) (x : Slot) (o : Option Whole) (b : Option Header) → option_map (λ (e : Whole). e.header) o ≡ b
+entry_same : (v : SuperValue) (k : ℕ) (x : Slot) (o : Option Whole) (b : Option Header) → option_map (λ (e : Whole). e.header) o ≡ b
     → cond (option_map_or (entry_fits v k x) o false) prepare.Fits prepare.Not ≡ entry_by v k x.header b
 entry_same v k x None b e = rw (← e) refl
 entry_same v k x (Some w) b e = rw (← e) refl
 
-pub verdict_same : (v : Saved) (k : ℕ) (x : Slot) (a b : Option Header) → x.header ≡ a → entry_header x ≡ b → slot_verdict v k x ≡ verdict_by v k a b
+pub verdict_same : (v : SuperValue) (k : ℕ) (x : Slot) (a b : Option Header) → x.header ≡ a → entry_header x ≡ b → slot_verdict v k x ≡ verdict_by v k a b
 unfolding verdict_by
 verdict_same v k x a b i j = rw (← i) (ap (λ p. verdict_of (header_kind v k x.header) p (is_listed v k)) (entry_same v k x x.entry b j))
 
-pub part_same : (v : Saved) (k : ℕ) (x : Slot) (a b : Option Header) (t : Verdict) → x.header ≡ a → entry_header x ≡ b → part_by v k x t ≡ part_from v k a b t
+pub part_same : (v : SuperValue) (k : ℕ) (x : Slot) (a b : Option Header) (t : Verdict) → x.header ≡ a → entry_header x ≡ b → part_by v k x t ≡ part_from v k a b t
 unfolding part_from
 part_same v k x a b verdict.Here i j = rw (← j) refl
 part_same v k x a b verdict.Rewrite i j = rw (← j) refl
@@ -120,7 +120,7 @@ pub rewrite_stopped : (h : Header) (r q : Replica) (d d' : Option Disk) (o o' : 
 unfolding rewrites
 rewrite_stopped h r q d d' o o' p = does_effect_stopped (λ r. Rewrite h) r q d d' o o' p
 
-pub op_then : (v : Saved) (k : ℕ) (a b : Option Header) (t : Verdict) (r q : Replica) (d d1 d2 : Option Disk) (o o' : List Output) → Looked k d d1 a b → t ≡ verdict_by v k a b
+pub op_then : (v : SuperValue) (k : ℕ) (a b : Option Header) (t : Verdict) (r q : Replica) (d d1 d2 : Option Disk) (o o' : List Output) → Looked k d d1 a b → t ≡ verdict_by v k a b
     → Does (mend_by b t) r r d1 d2 o o' (Ok tt) → q ≡ with_part k (part_from v k a b t) r → Does (recover_op v k) r q d d2 o o' (Ok tt)
 unfolding recover_op
 op_then v k a b t r q d d1 d2 o o' l e h i =
@@ -131,7 +131,7 @@ op_then v k a b t r q d d1 d2 o o' l e h i =
     (rw same (mend_is x b t r r d1 d2 o o' (Ok tt) l.whole h))
     (change_by _ r q d2 o' (rw (same, part_same v k x a b t l.head l.whole) i)))
 
-pub op_stopped : (v : Saved) (k : ℕ) (a b : Option Header) (t : Verdict) (r q : Replica) (d d1 d2 : Option Disk) (o o' : List Output) (e : Halt) → Looked k d d1 a b → t ≡ verdict_by v k a b
+pub op_stopped : (v : SuperValue) (k : ℕ) (a b : Option Header) (t : Verdict) (r q : Replica) (d d1 d2 : Option Disk) (o o' : List Output) (e : Halt) → Looked k d d1 a b → t ≡ verdict_by v k a b
     → Does (mend_by b t) r r d1 d2 o o' (Err e) → Does (recover_op v k) r q d d2 o o' (Err e)
 unfolding recover_op
 op_stopped v k a b t r q d d1 d2 o o' halt l e h =
@@ -143,7 +143,7 @@ op_stopped v k a b t r q d d1 d2 o o' halt l e h =
 
 -- ---- what a replica is then
 
-saved_is : (v : Saved) (n : ℕ) (r : Replica) → Partly v n r → r.saved ≡ v
+saved_is : (v : SuperValue) (n : ℕ) (r : Replica) → Partly v n r → r.saved ≡ v
 unfolding blank
 saved_is v n r p = ap (λ (x : Replica). x.saved) p.is
 
@@ -151,7 +151,7 @@ pub opening_op : (k : ℕ) (a b : Option Header) (t : Verdict) (r q : Replica) (
     → r.saved.fields.checkpoint < k → k ≤ r.saved.fields.checkpoint + 64 → IsOpening (k - 1) r → q ≡ with_part k (part_from r.saved k a b t) r → IsOpening k q
 unfolding IsOpening with_part
 opening_op k a b t r q d d' l e low high h i =
-    let v : Saved = r.saved in
+    let v : SuperValue = r.saved in
     let w = value_is v h.good in
     let x : Slot = l.slot in
     let same : slot_verdict v k x ≡ t = verdict_same v k x a b l.head l.whole ∙ sym e in

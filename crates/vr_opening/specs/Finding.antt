@@ -6,7 +6,7 @@ use Rattle.vr_header.specs.declared.header.Header.{Header}
 use Rattle.vr_header.specs.declared.part.Part.{Part}
 use Rattle.vr_header.specs.declared.part.Part.TheVariants as part
 use Rattle.vr_header.specs.Same.{same_header}
-use Rattle.vr_super.specs.Copies.{Saved, IsGood}
+use Rattle.vr_super.specs.Copies.{SuperValue, IsGood}
 use Rattle.vr_recover.specs.declared.readings.PrepareReading.{PrepareReading}
 use Rattle.vr_recover.specs.declared.readings.PrepareReading.TheVariants as prepare
 use Rattle.vr_recover.specs.declared.readings.Verdict.{Verdict}
@@ -58,19 +58,19 @@ pub record Looked (k : ℕ) (d d' : Option Disk) (header entry : Option Header) 
   pub reads : Reads slot
   pub found : Finds (slot_at k) d d' slot
 
-abbrev pub fits_by : Saved → ℕ → Option Header → Header → Bool
+abbrev pub fits_by : SuperValue → ℕ → Option Header → Header → Bool
 fits_by v k a g = may_be v k g && (not (option_map_or (may_be v k) a false) || option_map_or (same_header g) a false)
 
-abbrev pub entry_by : Saved → ℕ → Option Header → Option Header → PrepareReading
+abbrev pub entry_by : SuperValue → ℕ → Option Header → Option Header → PrepareReading
 entry_by v k a b = if option_map_or (fits_by v k a) b false then prepare.Fits else prepare.Not
 
-unfoldable pub verdict_by : Saved → ℕ → Option Header → Option Header → Verdict
+unfoldable pub verdict_by : SuperValue → ℕ → Option Header → Option Header → Verdict
 verdict_by v k a b = verdict_of (header_kind v k a) (entry_by v k a b) (is_listed v k)
 
-abbrev pub known_by : Saved → ℕ → Option Header → Option Header
+abbrev pub known_by : SuperValue → ℕ → Option Header → Option Header
 known_by v k a = if is_listed v k then listed v k else a
 
-unfoldable pub part_from : Saved → ℕ → Option Header → Option Header → Verdict → Part
+unfoldable pub part_from : SuperValue → ℕ → Option Header → Option Header → Verdict → Part
 part_from v k a b verdict.Here = some_part part.Here b
 part_from v k a b verdict.Rewrite = some_part part.Here b
 part_from v k a b verdict.Lost = some_part part.Lost (known_by v k a)
@@ -83,13 +83,13 @@ mend_by b verdict.Rewrite = rewrite b
 mend_by b _ = quiet
 
 -- a header of the value's list, which may be above the checkpoint
-abbrev pub recover_listed : {F : Type 0} → Saved → Header → Word F
+abbrev pub recover_listed : {F : Type 0} → SuperValue → Header → Word F
 recover_listed v h = when (nat_le h.op v.fields.checkpoint) (recover_old h)
 
 -- ---- all are found
 
 -- the Part at a place of a list that begins with this op
-abbrev pub cloud_by : Saved → ℕ → List Part → ℕ → Part
+abbrev pub cloud_by : SuperValue → ℕ → List Part → ℕ → Part
 cloud_by v first ps i =
     if is_listed v (first + i) then slice_index_or ps i part.Nothing else clouded_part (list_any was_stored (drop (i + 1) ps)) (slice_index_or ps i part.Nothing)
 

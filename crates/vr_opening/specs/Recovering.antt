@@ -4,9 +4,9 @@ use Rattle.vr_base.specs.declared.table.Config.{Config}
 use Rattle.vr_disk.specs.DiskState.{Disk, Face, Runs}
 use Rattle.vr_msg.specs.declared.output.Output.{Output}
 use Rattle.vr_super.specs.Calls.{mend_calls}
-use Rattle.vr_super.specs.Copies.{Saved}
+use Rattle.vr_super.specs.Copies.{SuperValue}
 use Rattle.vr_super.specs.Opens.{opens, good_copies}
-use Rattle.vr_super.specs.Recovers.{verdict_of}
+use Rattle.vr_super.specs.Recovers.{copy_verdict}
 use Rattle.vr_super.specs.declared.recovering.CopyVerdict.{CopyVerdict}
 use Rattle.vr_rules.specs.Replica.{Replica}
 use Rattle.vr_rules.specs.Steps.{Word, ◌⨾◌}
@@ -17,7 +17,7 @@ use Rattle.vr_opening.specs.declared.reopen.Refusal.TheVariants.{Lost, OtherMemb
 use Rattle.vr_step.specs.Does.{Does}
 
 -- an opening, behind the mending of the superblock
-abbrev pub after_mend : Saved → Word Face
+abbrev pub after_mend : SuperValue → Word Face
 after_mend v = recover_parts v ⨾ resuming
 
 -- a word whose function gives the replica
@@ -25,26 +25,26 @@ abbrev pub DoesTo : Word Face → Replica → Option Disk → Option Disk → Li
 DoesTo w r d d' o o' (Ok q) = Does w r q d d' o o' (Ok tt)
 DoesTo w r d d' o o' (Err halt) = Does w r r d d' o o' (Err halt)
 
-abbrev pub config_of : Saved → Config
+abbrev pub config_of : SuperValue → Config
 config_of v = record { cluster = v.fields.cluster; replica = v.fields.replica; n = v.fields.n }
 
 -- no two good copies agree, and no call is made
 pub record LosesValue (d d' : Option Disk) (verdicts : List CopyVerdict) : Type 0 where
   pub untold : d ≡ None → d' ≡ None
-  pub told : (x : Disk) → d ≡ Some x → (opens x.face ≡ None) × (d' ≡ Some x) × (verdicts ≡ map verdict_of (good_copies x.face))
+  pub told : (x : Disk) → d ≡ Some x → (opens x.face ≡ None) × (d' ≡ Some x) × (verdicts ≡ map copy_verdict (good_copies x.face))
 
 -- the value that opens is mended
-pub record MendsValue (v : Saved) (d d' : Option Disk) : Type 0 where
+pub record MendsValue (v : SuperValue) (d d' : Option Disk) : Type 0 where
   pub untold : d ≡ None → d' ≡ None
   pub told : (x : Disk) → d ≡ Some x → (opens x.face ≡ Some v) × Runs (mend_calls v x.face) (Some x) d' true
 
 -- a word for the value that opens; where the disk tells nothing, for any
-pub record BeginsWith (w : Saved → Word Face) (d d' : Option Disk) (o o' : List Output) (result : Result Replica Halt) : Type 0 where
-  pub value : Saved
+pub record BeginsWith (w : SuperValue → Word Face) (d d' : Option Disk) (o o' : List Output) (result : Result Replica Halt) : Type 0 where
+  pub value : SuperValue
   pub opens : IfSome d (λ x. opens x.face ≡ Some value)
   pub step : DoesTo (w value) (blank value) d d' o o' result
 
-abbrev pub FindsValue : Option Disk → Option Disk → Result Saved Refusal → Type 0
+abbrev pub FindsValue : Option Disk → Option Disk → Result SuperValue Refusal → Type 0
 FindsValue d d' (Ok v) = MendsValue v d d'
 FindsValue d d' (Err (Lost verdicts)) = LosesValue d d' verdicts
 FindsValue d d' (Err (OtherMember found)) = ⊥
@@ -52,14 +52,14 @@ FindsValue d d' (Err (Halted halt)) = (o : List Output) → BeginsWith opening d
 
 -- the value is that of another member
 pub record IsOther (asked found : Config) (d d' : Option Disk) : Type 0 where
-  pub value : Saved
+  pub value : SuperValue
   pub mended : MendsValue value d d'
   pub named : found ≡ config_of value
   pub other : found ≢ asked
 
 -- the replica that opens is that of the member asked for
 pub record IsAsked (asked : Config) (d d' : Option Disk) (o o' : List Output) (r : Replica) : Type 0 where
-  pub value : Saved
+  pub value : SuperValue
   pub named : config_of value ≡ asked
   pub opens : IfSome d (λ x. opens x.face ≡ Some value)
   pub step : Does (opening value) (blank value) r d d' o o' (Ok tt)

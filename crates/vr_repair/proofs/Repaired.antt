@@ -3,7 +3,7 @@ use Rattle.std.proofs.Common.{arith, ◌≡◌, ◌≤◌, ◌<◌, ◌+◌, ◌
 use Rattle.std.specs.Prelude.{find, ◌==◌}
 use Rattle.std.proofs.lemmas.Bool.{lt-ltb}
 use Rattle.vr_disk.specs.DiskState as disk
-use Rattle.vr_disk.specs.DiskState.{Disk, Face, Fate, IsFace}
+use Rattle.vr_disk.specs.DiskState.{Disk, Face, Fate, IsFace, nothing_beside}
 use Rattle.vr_grid.specs.Blocks.{named}
 use Rattle.vr_grid.specs.Grid.{block_reading, named_at, put_calls}
 use Rattle.vr_grid.specs.declared.name.Name.{Name}
@@ -43,8 +43,8 @@ calm : Fate
 calm = record { fuse = None; made = 0; failing = []; dead = false }
 
 entry_reads : (again : Bool) (e : Whole) (f : Face) → IsWhole e → IsFace f → f.waiting ≡ [] → whole_in (disk.after_all f (cond again (again_calls e) (new_calls e))) (slot_of e.header) ≡ Some e
-entry_reads true e f w h rest = (again_leaves e (Some (record { face = f; fate = calm })) h w rest).done.whole
-entry_reads false e f w h rest = (new_leaves e (Some (record { face = f; fate = calm })) h w rest).done.whole
+entry_reads true e f w h rest = (again_leaves e (Some (record { face = f; fate = calm; beside = nothing_beside })) h w rest).done.whole
+entry_reads false e f w h rest = (new_leaves e (Some (record { face = f; fate = calm; beside = nothing_beside })) h w rest).done.whole
 
 pub entries_repaired : EntriesAreRepaired
 unfolding write ◌⨾◌ does change after_all

@@ -9,7 +9,7 @@ ghost use Rattle.vr_step.specs.Does.{Finds};
 
 use std::alloc::{AllocError, Global};
 use vr_base::{ByteList, NoMemory, Seq};
-use vr_disk::{BLOCK_SECTORS, SectorDisk, block_at, read_sectors};
+use vr_disk::{BLOCK_SECTORS, SectorDisk, block_place, read_sectors};
 use vr_grid::{Name, is_block_of};
 use vr_header::{Entry, Header, Part};
 use vr_journal::{Replica, find_entry};
@@ -106,7 +106,7 @@ fn read_whole<D: SectorDisk>(disk: &mut D, name: &Name, to: &mut [u8]) -> bool
     if name.address >= 128 {
         return false;
     }
-    if !read_sectors(disk, block_at(name.address as u32), BLOCK_SECTORS, to) {
+    if !read_sectors(disk, block_place(name.address as u32), BLOCK_SECTORS, to) {
         return false;
     }
     is_block_of(to, name)

@@ -3,7 +3,7 @@ use Rattle.std.proofs.Common.{ℕ, zero, suc, ◌+◌, ◌-◌, ◌%◌, ◌≤�
 use Rattle.std.specs.List.{AllByRecursion}
 use Rattle.std.proofs.lemmas.Bool.{cases_eq, cases_lt, eq-eqb, eqb-true}
 use Rattle.vr_disk.specs.DiskState.{Call, Write, Sync, Cell, Face, after, after_all, blank, cell, cut, cut_at, damaged, digit_at, noted, settled, settled_cell, waits, written}
-use Rattle.vr_disk.specs.Regions.{header_at, prepare_at}
+use Rattle.vr_disk.specs.Regions.{header_place, prepare_place}
 use Rattle.vr_disk.specs.Stops.{IsLeft, Spares}
 use Rattle.vr_disk.proofs.Frames.{frame_cut, reads_back, waits_after}
 use Rattle.vr_disk.proofs.Outcomes.{cut_leaves}
@@ -17,14 +17,14 @@ use Rattle.vr_rings.proofs.Standing.{Apart, Heads, Mid, apart_held, both_is, cal
 
 -- the sectors of a slot
 abbrev pub InSlot : ℕ → ℕ → Type 0
-InSlot slot k = (k ≡ header_at slot) ⊎ ((prepare_at slot ≤ k) × (k < prepare_at slot + 4))
+InSlot slot k = (k ≡ header_place slot) ⊎ ((prepare_place slot ≤ k) × (k < prepare_place slot + 4))
 
 abbrev Still : Face → Face → ℕ → Type 0
 Still f g slot = (k : ℕ) → InSlot slot k → cell g k ≡ cell f k
 
 pub still_stands : (f g : Face) (slot : ℕ) (held : Option (List ℕ)) → Still f g slot → Stands f slot held → Stands g slot held
 still_stands f g slot held h s =
-    same_stands f g slot held (ap (λ (c : Cell). c.reads) (h (header_at slot) (inl refl))) (together_same 4 (prepare_at slot) f g (λ k a b. ap (λ (c : Cell). c.reads) (h k (inr (a, b))))) s
+    same_stands f g slot held (ap (λ (c : Cell). c.reads) (h (header_place slot) (inl refl))) (together_same 4 (prepare_place slot) f g (λ k a b. ap (λ (c : Cell). c.reads) (h k (inr (a, b))))) s
 
 -- ---- the first write since a sync, cut and settled as it was
 
@@ -59,9 +59,9 @@ cut_spares f c code k s w = frame_cut (c ∷ []) f k 0 code (s, tt) w
 
 pub data Ready (f : Face) (slot : ℕ) (held : Option (List ℕ)) : Type 0 where
   rest : f.waiting ≡ [] → Stands f slot held → Ready f slot held
-  mid : Mid f slot held → waits (header_at slot) f.waiting ≡ false → Ready f slot held
+  mid : Mid f slot held → waits (header_place slot) f.waiting ≡ false → Ready f slot held
 
-header_rests : (f : Face) (slot : ℕ) (held : Option (List ℕ)) → Ready f slot held → waits (header_at slot) f.waiting ≡ false
+header_rests : (f : Face) (slot : ℕ) (held : Option (List ℕ)) → Ready f slot held → waits (header_place slot) f.waiting ≡ false
 header_rests f slot held (rest e s) = rw e refl
 header_rests f slot held (mid m w) = w
 
@@ -73,14 +73,14 @@ ready_stands f slot held (mid m w) = mid_stands f slot held m
 heads_stay : (f g : Face) (slot : ℕ) (held : Option (List ℕ)) → header_reading g slot ≡ header_reading f slot → Heads f slot held → Stands g slot (looked g slot held)
 heads_stay f g slot held e h = mid_stands g slot (looked g slot held) (look_mid g slot held (λ p x. e ∙ h p x))
 
-part_cut_now : (f : Face) (slot i code : ℕ) (b : List ℕ) (held : Option (List ℕ)) → length f.cells ≡ 1424 → slot < 64 → prepare_at slot ≤ i → i < prepare_at slot + 4 → Ready f slot held
+part_cut_now : (f : Face) (slot i code : ℕ) (b : List ℕ) (held : Option (List ℕ)) → length f.cells ≡ 1424 → slot < 64 → prepare_place slot ≤ i → i < prepare_place slot + 4 → Ready f slot held
     → Stands (cut_at code f (Write i b)) slot (held_cut_at code f (Write i b) slot held)
 unfolding held_cut_at
 part_cut_now f slot i code b held n l low high r =
     let g = cut_at code f (Write i b) in
     let waiting = (after f (Write i b)).waiting in
-    let d : i ≢ header_at slot = λ e. omega arith in
-    let same : header_reading g slot ≡ header_reading f slot = ap (λ (c : Cell). c.reads) (cut_spares f (Write i b) code (header_at slot) d (header_rests f slot held r)) in
+    let d : i ≢ header_place slot = λ e. omega arith in
+    let same : header_reading g slot ≡ header_reading f slot = ap (λ (c : Cell). c.reads) (cut_spares f (Write i b) code (header_place slot) d (header_rests f slot held r)) in
     let by_ready : Ready f slot held → digit_at code i waiting ≡ 0 → Stands g slot (looked g slot held) = elim [
       | rest e s ↦ λ z. look_stands g slot held (still_stands f g slot held (λ k x. undone f i code b k e (omega arith) (sym (first_digit f i code b e) ∙ z)) s)
       | mid m w ↦ λ z. heads_stay f g slot held same m.heads
@@ -93,10 +93,10 @@ part_cut_now f slot i code b held n l low high r =
 sync_cut_now : (f : Face) (slot code : ℕ) (held : Option (List ℕ)) → Ready f slot held → Stands (cut_at code f Sync) slot (held_cut_at code f Sync slot held)
 unfolding held_cut_at
 sync_cut_now f slot code held (rest e s) = look_stands (cut_at code f Sync) slot held (still_stands f (cut_at code f Sync) slot held (λ k x. settled_still f code k e) s)
-sync_cut_now f slot code held (mid m w) = heads_stay f (cut_at code f Sync) slot held (ap (λ (c : Cell). c.reads) (cut_spares f Sync code (header_at slot) tt w)) m.heads
+sync_cut_now f slot code held (mid m w) = heads_stay f (cut_at code f Sync) slot held (ap (λ (c : Cell). c.reads) (cut_spares f Sync code (header_place slot) tt w)) m.heads
 
 abbrev pub Parts : ℕ → List Call → Type 0
-Parts slot cs = AllByRecursion (Within (prepare_at slot) (prepare_at slot + 4)) cs
+Parts slot cs = AllByRecursion (Within (prepare_place slot) (prepare_place slot + 4)) cs
 
 pub part_cut : (cs : List Call) (f : Face) (slot : ℕ) (held : Option (List ℕ)) (j code : ℕ) → slot < 64 → length f.cells ≡ 1424 → Parts slot cs → Ready f slot held → Stands (cut j code f cs) slot (held_cut j code f cs slot held)
 unfolding cut held_cut Within
@@ -105,20 +105,20 @@ part_cut (Write i b ∷ cs) f slot held zero code l n a r = part_cut_now f slot 
 part_cut (Sync ∷ cs) f slot held zero code l n a r = sync_cut_now f slot code held r
 part_cut (Write i b ∷ cs) f slot held (suc j) code l n a r =
     let p = a.0 in
-    let d : i ≢ header_at slot = λ e. omega arith in
+    let d : i ≢ header_place slot = λ e. omega arith in
     part_cut cs (after f (Write i b)) slot (held_after f (Write i b) slot held) j code l (length_after_all (Write i b ∷ []) f ∙ n) a.1
-    (mid (part_mid f slot i b held p.0 p.1) (waits_after f (Write i b) (header_at slot) d (header_rests f slot held r)))
+    (mid (part_mid f slot i b held p.0 p.1) (waits_after f (Write i b) (header_place slot) d (header_rests f slot held r)))
 part_cut (Sync ∷ cs) f slot held (suc j) code l n a r =
     part_cut cs (after f Sync) slot (held_after f Sync slot held) j code l n a.1 (rest refl (call_stands f Sync slot held l n (ready_stands f slot held r)))
 
 -- ---- the header sector is written
 
 -- of what the slot holds then: its header sector was written, and it was held or its prepare reads so
-header_held : (f : Face) (slot : ℕ) (b : List ℕ) (held : Option (List ℕ)) (p : List ℕ) → header_at slot < length f.cells → held_after f (Write (header_at slot) b) slot held ≡ Some p
+header_held : (f : Face) (slot : ℕ) (b : List ℕ) (held : Option (List ℕ)) (p : List ℕ) → header_place slot < length f.cells → held_after f (Write (header_place slot) b) slot held ≡ Some p
     → (b ≡ header_sector p) × ((held ≡ Some p) ⊎ (prepare_reading f slot ≡ Some p))
 unfolding held_after
 header_held f slot b held p l e =
-    let i = header_at slot in
+    let i = header_place slot in
     let g = after f (Write i b) in
     elim (look_cases g slot (kept f slot i b held) p e) [
       | inl x ↦
@@ -128,11 +128,11 @@ header_held f slot b held p l e =
       | inr x ↦ let y = kept_is f slot i b held p x in (keeps_header f slot b p y.1, inl y.0)
     ]
 
-header_left : (f g : Face) (slot : ℕ) (b : List ℕ) (held : Option (List ℕ)) → header_at slot < length f.cells → is_header_sector (damaged b) ≡ false
+header_left : (f g : Face) (slot : ℕ) (b : List ℕ) (held : Option (List ℕ)) → header_place slot < length f.cells → is_header_sector (damaged b) ≡ false
     → prepare_reading g slot ≡ prepare_reading f slot → IsLeft (header_reading f slot) b (header_reading g slot) → Stands f slot held
-    → Stands g slot (looked g slot (held_after f (Write (header_at slot) b) slot held))
+    → Stands g slot (looked g slot (held_after f (Write (header_place slot) b) slot held))
 header_left f g slot b held l bad pr left s =
-    let now = held_after f (Write (header_at slot) b) slot held in
+    let now = held_after f (Write (header_place slot) b) slot held in
     record {
       seen = λ p e. look_seen g slot now p e;
       prepare = λ p header e r v d. elim (look_cases g slot now p e) [
@@ -150,15 +150,15 @@ header_left f g slot b held l bad pr left s =
     }
 
 pub header_cut : (f : Face) (slot : ℕ) (b : List ℕ) (held : Option (List ℕ)) (j code : ℕ) → slot < 64 → length f.cells ≡ 1424 → f.waiting ≡ [] → is_header_sector (damaged b) ≡ false → Stands f slot held
-    → Stands (cut j code f (Write (header_at slot) b ∷ Sync ∷ [])) slot (held_cut j code f (Write (header_at slot) b ∷ Sync ∷ []) slot held)
+    → Stands (cut j code f (Write (header_place slot) b ∷ Sync ∷ [])) slot (held_cut j code f (Write (header_place slot) b ∷ Sync ∷ []) slot held)
 unfolding cut held_cut held_cut_at held_after held_after_all
 header_cut f slot b held j code l n e bad s =
-    let i = header_at slot in
+    let i = header_place slot in
     let cs : List Call = Write i b ∷ Sync ∷ [] in
-    let there : header_at slot < length f.cells = omega arith in
+    let there : header_place slot < length f.cells = omega arith in
     let left : (j : ℕ) → IsLeft (header_reading f slot) b (header_reading (cut j code f cs) slot) = λ j. cut_leaves cs f i b j code there ((λ x. refl), (tt, tt)) (rw e refl) in
     let pr : (j : ℕ) → prepare_reading (cut j code f cs) slot ≡ prepare_reading f slot =
-    λ j. together_same 4 (prepare_at slot) f (cut j code f cs) (λ k a c. ap (λ (c : Cell). c.reads) (frame_cut cs f k j code ((λ x. omega arith), (tt, tt)) (rw e refl))) in
+    λ j. together_same 4 (prepare_place slot) f (cut j code f cs) (λ k a c. ap (λ (c : Cell). c.reads) (frame_cut cs f k j code ((λ x. omega arith), (tt, tt)) (rw e refl))) in
     let g = cut_at code f (Write i b) in
     let waiting = (after f (Write i b)).waiting in
     let first : Stands g slot (looked g slot (held_begun code f (Write i b) slot held)) =

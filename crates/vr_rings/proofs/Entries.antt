@@ -18,8 +18,8 @@ use Rattle.vr_rings.specs.Slots.{IsWhole, entry_for, size_at, slot_of, whole_in,
 use Rattle.vr_rings.proofs.Spelling.{whole_again}
 
 -- the bytes of the entry with which a buffer begins
-abbrev Part : List ℕ → List ℕ
-Part b = take (min (number w32 104 (take 2048 b)) 2048) (take 2048 b)
+abbrev FrontOf : List ℕ → List ℕ
+FrontOf b = take (min (number w32 104 (take 2048 b)) 2048) (take 2048 b)
 
 begun : (h : Header) (b : List ℕ) (w : BeginsWith h b) → whole_of (take 2048 b) ≡ Some w.entry
 begun h b w = rw w.bytes (whole_again w.entry w.whole)
@@ -37,17 +37,17 @@ take_min n m xs l = elim (cases_lt n m) [
   | inr high ↦ let e : min n m ≡ m = omega arith in rw (e, take_all m xs l, take_all n xs (omega arith)) refl
 ]
 
-front_is : (h : Header) (b part : List ℕ) (w : BeginsWith h b) → length b ≡ 4096 → part ≡ Part b → entry_of part ≡ Some w.entry
+front_is : (h : Header) (b part : List ℕ) (w : BeginsWith h b) → length b ≡ 4096 → part ≡ FrontOf b → entry_of part ≡ Some w.entry
 unfolding size_at
 front_is h b part w n e =
     let p : List ℕ = take 2048 b in
     let short : length p ≤ 2048 = let k = length-take 2048 b in omega arith in
     rw (e, take_min (number w32 104 p) 2048 p short) (whole_entry p w.entry (begun h b w))
 
-pub entry_there : (h : Header) (b part : List ℕ) → BeginsWith h b → length b ≡ 4096 → part ≡ Part b → is_some (entry_of part) ≡ true
+pub entry_there : (h : Header) (b part : List ℕ) → BeginsWith h b → length b ≡ 4096 → part ≡ FrontOf b → is_some (entry_of part) ≡ true
 entry_there h b part w n e = rw (front_is h b part w n e) refl
 
-pub entry_is : (h : Header) (b part : List ℕ) (x : Whole) → BeginsWith h b → length b ≡ 4096 → part ≡ Part b → entry_of part ≡ Some x
+pub entry_is : (h : Header) (b part : List ℕ) (x : Whole) → BeginsWith h b → length b ≡ 4096 → part ≡ FrontOf b → entry_of part ≡ Some x
     → (whole_of (take 2048 b) ≡ Some x) × (x.header ≡ h) × IsWhole x
 entry_is h b part x w n e f =
     let same : w.entry ≡ x = let k : Some w.entry ≡ Some x = sym (front_is h b part w n e) ∙ f in cc in

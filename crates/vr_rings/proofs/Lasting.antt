@@ -8,7 +8,7 @@ use Rattle.std.proofs.lemmas.List.{get_or-map}
 use Rattle.std.proofs.lemmas.Slice.Eq.{bytes_eq-Decides}
 use Rattle.vr_base.specs.Bytes.{piece}
 use Rattle.vr_disk.specs.DiskState.{Call, Write, Sync, Cell, Face, after, after_all, cut, cut_at, damaged, digit_at, waits}
-use Rattle.vr_disk.specs.Regions.{header_at, prepare_at}
+use Rattle.vr_disk.specs.Regions.{header_place, prepare_place}
 use Rattle.vr_disk.specs.Sectors.{has}
 use Rattle.vr_disk.specs.Stops.{IsLeft}
 use Rattle.vr_disk.proofs.Frames.{frame_cut, reads_back, waits_after}
@@ -58,19 +58,19 @@ begun_own g slot i code b p h =
 -- ---- the prepare's sectors, once the header sector reads as the entry's
 
 abbrev pub Pieces : ℕ → List ℕ → Call → Type 0
-Pieces slot p (Write i b) = (prepare_at slot ≤ i) × (i < prepare_at slot + 4) × (b ≡ piece (512 * (i - prepare_at slot)) 512 p)
+Pieces slot p (Write i b) = (prepare_place slot ≤ i) × (i < prepare_place slot + 4) × (b ≡ piece (512 * (i - prepare_place slot)) 512 p)
 Pieces slot p Sync = Unit {0}
 
 piece_keeps : (g : Face) (slot i : ℕ) (b p : List ℕ) → Pieces slot p (Write i b) → Own g slot p → keeps g slot i b p ≡ true
 unfolding keeps
 piece_keeps g slot i b p a o =
-    let d : i ≢ header_at slot = λ e. let l = a.0 in omega arith in
-    rw (ne_eqb i (header_at slot) d, le-leb (prepare_at slot) i a.0, lt-ltb i (prepare_at slot + 4) a.1)
-    (and_from (has (header_sector p) (header_reading g slot)) (pointwise nat_eq b (piece (512 * (i - prepare_at slot)) 512 p)) (is_has (header_sector p) (header_reading g slot) o) ((bytes_eq-Decides b (piece (512 * (i - prepare_at slot)) 512 p)).1 a.2))
+    let d : i ≢ header_place slot = λ e. let l = a.0 in omega arith in
+    rw (ne_eqb i (header_place slot) d, le-leb (prepare_place slot) i a.0, lt-ltb i (prepare_place slot + 4) a.1)
+    (and_from (has (header_sector p) (header_reading g slot)) (pointwise nat_eq b (piece (512 * (i - prepare_place slot)) 512 p)) (is_has (header_sector p) (header_reading g slot) o) ((bytes_eq-Decides b (piece (512 * (i - prepare_place slot)) 512 p)).1 a.2))
 
 own_after : (g : Face) (slot : ℕ) (c : Call) (p : List ℕ) → Pieces slot p c → Own g slot p → Own (after g c) slot p
 own_after g slot Sync p a o = o
-own_after g slot (Write i b) p a o = let d : i ≢ header_at slot = λ e. let l = a.0 in omega arith in header_other g slot i b d ∙ o
+own_after g slot (Write i b) p a o = let d : i ≢ header_place slot = λ e. let l = a.0 in omega arith in header_other g slot i b d ∙ o
 
 piece_held : (g : Face) (slot : ℕ) (c : Call) (p : List ℕ) → Pieces slot p c → Own g slot p → TellsPrepare (after g c) slot p → held_after g c slot (Some p) ≡ Some p
 unfolding held_after
@@ -84,19 +84,19 @@ pieces_front [] (suc j) g slot p a o t = refl
 pieces_front (c ∷ cs) (suc j) g slot p a o t =
     ap (held_after_all (after g c) (take j cs) slot) (piece_held g slot c p a.0 o (t 0 (omega arith))) ∙ pieces_front cs j (after g c) slot p a.1 (own_after g slot c p a.0 o) (λ k l. t (suc k) (omega (arith, l)))
 
-piece_cut : (g : Face) (slot code : ℕ) (c : Call) (p : List ℕ) → Pieces slot p c → Own g slot p → waits (header_at slot) g.waiting ≡ false → TellsPrepare (after g c) slot p → TellsPrepare (cut_at code g c) slot p → held_cut_at code g c slot (Some p) ≡ Some p
+piece_cut : (g : Face) (slot code : ℕ) (c : Call) (p : List ℕ) → Pieces slot p c → Own g slot p → waits (header_place slot) g.waiting ≡ false → TellsPrepare (after g c) slot p → TellsPrepare (cut_at code g c) slot p → held_cut_at code g c slot (Some p) ≡ Some p
 unfolding held_cut_at
-piece_cut g slot code Sync p a o w t u = look_own (cut_at code g Sync) slot p (ap (λ (c : Cell). c.reads) (cut_spares g Sync code (header_at slot) tt w) ∙ o) u
+piece_cut g slot code Sync p a o w t u = look_own (cut_at code g Sync) slot p (ap (λ (c : Cell). c.reads) (cut_spares g Sync code (header_place slot) tt w) ∙ o) u
 piece_cut g slot code (Write i b) p a o w t u =
-    let d : i ≢ header_at slot = λ e. let l = a.0 in omega arith in
+    let d : i ≢ header_place slot = λ e. let l = a.0 in omega arith in
     let x = cut_at code g (Write i b) in
-    ap (looked x slot) (begun_own g slot i code b p (piece_held g slot (Write i b) p a o t)) ∙ look_own x slot p (ap (λ (c : Cell). c.reads) (cut_spares g (Write i b) code (header_at slot) d w) ∙ o) u
+    ap (looked x slot) (begun_own g slot i code b p (piece_held g slot (Write i b) p a o t)) ∙ look_own x slot p (ap (λ (c : Cell). c.reads) (cut_spares g (Write i b) code (header_place slot) d w) ∙ o) u
 
-piece_rests : (g : Face) (slot : ℕ) (c : Call) (p : List ℕ) → Pieces slot p c → waits (header_at slot) g.waiting ≡ false → waits (header_at slot) (after g c).waiting ≡ false
+piece_rests : (g : Face) (slot : ℕ) (c : Call) (p : List ℕ) → Pieces slot p c → waits (header_place slot) g.waiting ≡ false → waits (header_place slot) (after g c).waiting ≡ false
 piece_rests g slot Sync p a w = refl
-piece_rests g slot (Write i b) p a w = let d : i ≢ header_at slot = λ e. let l = a.0 in omega arith in waits_after g (Write i b) (header_at slot) d w
+piece_rests g slot (Write i b) p a w = let d : i ≢ header_place slot = λ e. let l = a.0 in omega arith in waits_after g (Write i b) (header_place slot) d w
 
-pieces_cut : (cs : List Call) (j code : ℕ) (g : Face) (slot : ℕ) (p : List ℕ) → AllByRecursion (Pieces slot p) cs → Own g slot p → waits (header_at slot) g.waiting ≡ false → TellsUpTo (suc j) cs g slot p
+pieces_cut : (cs : List Call) (j code : ℕ) (g : Face) (slot : ℕ) (p : List ℕ) → AllByRecursion (Pieces slot p) cs → Own g slot p → waits (header_place slot) g.waiting ≡ false → TellsUpTo (suc j) cs g slot p
     → TellsPrepare (cut j code g cs) slot p → held_cut j code g cs slot (Some p) ≡ Some p
 unfolding cut held_cut
 pieces_cut [] j code g slot p a o w t u = refl
@@ -131,20 +131,20 @@ header_look f x slot b p same long version pr left s t =
     ]
 
 pub lasts_in : (cs : List Call) (f : Face) (slot : ℕ) (b p : List ℕ) → slot < 64 → length f.cells ≡ 1424 → f.waiting ≡ [] → b ≡ header_sector p → 110 < length b → get_or b 110 0 ≡ 1 → AllByRecursion (Pieces slot p) cs
-    → LastsIn (Write (header_at slot) b ∷ Sync ∷ cs) f slot p
+    → LastsIn (Write (header_place slot) b ∷ Sync ∷ cs) f slot p
 unfolding cut held_cut held_cut_at held_after_all keeps
 lasts_in cs f slot b p l n r same long version a s =
-    let i = header_at slot in
+    let i = header_place slot in
     let first : Call = Write i b in
     let two : List Call = first ∷ Sync ∷ [] in
     let g = after f first in
-    let there : header_at slot < length f.cells = omega arith in
+    let there : header_place slot < length f.cells = omega arith in
     let own : Own g slot p = reads_back f i b there ∙ ap Some same in
     let keeping : keeps f slot i b p ≡ true = rw (eq-eqb i i refl) ((bytes_eq-Decides b (header_sector p)).1 same) in
     let held : TellsPrepare g slot p → held_after f first slot (Some p) ≡ Some p = held_own f slot i b p keeping own in
     let left : (j code : ℕ) → IsLeft (header_reading f slot) b (header_reading (cut j code f two) slot) = λ j code. cut_leaves two f i b j code there ((λ x. refl), (tt, tt)) (rw r refl) in
     let pr : (j code : ℕ) → prepare_reading (cut j code f two) slot ≡ prepare_reading f slot =
-    λ j code. together_same 4 (prepare_at slot) f (cut j code f two) (λ k x y. ap (λ (c : Cell). c.reads) (frame_cut two f k j code ((λ z. omega arith), (tt, tt)) (rw r refl))) in
+    λ j code. together_same 4 (prepare_place slot) f (cut j code f two) (λ k x y. ap (λ (c : Cell). c.reads) (frame_cut two f k j code ((λ z. omega arith), (tt, tt)) (rw r refl))) in
     record {
       front = elim [ zero ↦ λ t. refl | suc j ↦ λ t. ap (held_after_all g (take j (Sync ∷ cs)) slot) (held (t 0 (omega arith))) ∙ pieces_front (Sync ∷ cs) j g slot p (tt, a) own (λ k l. t (suc k) (omega (arith, l))) ];
       stopped = λ j code. elim j as (λ j. TellsUpTo (suc j) (first ∷ Sync ∷ cs) f slot p → TellsPrepare (cut j code f (first ∷ Sync ∷ cs)) slot p → held_cut j code f (first ∷ Sync ∷ cs) slot (Some p) ≡ Some p) [

@@ -8,7 +8,7 @@ use Rattle.std.proofs.lemmas.List.{drop-drop, take_all}
 use Rattle.vr_base.specs.Bytes.{piece}
 use Rattle.vr_rings.specs.Held.{Stands, entry_of_both, entry_read, header_sector, held_after_all, is_prepare}
 use Rattle.vr_disk.specs.DiskState.{Call, Write, Sync, Cell, Disk, Face, IsFace, after_all, reads, waits}
-use Rattle.vr_disk.specs.Regions.{header_at, prepare_at}
+use Rattle.vr_disk.specs.Regions.{header_place, prepare_place}
 use Rattle.vr_disk.specs.Sectors.{has, together, writes}
 use Rattle.vr_disk.specs.Stops.{Spares, Stops}
 use Rattle.vr_disk.proofs.Frames.{frame_all, reads_back}
@@ -30,19 +30,19 @@ slot_below h = omega arith
 
 -- ---- each half keeps the premise of each slot
 
-within_calls : (e : Whole) → AllByRecursion (Within (prepare_at (slot_of e.header)) (prepare_at (slot_of e.header) + 4)) (prepare_calls e)
+within_calls : (e : Whole) → AllByRecursion (Within (prepare_place (slot_of e.header)) (prepare_place (slot_of e.header) + 4)) (prepare_calls e)
 unfolding prepare_calls Within
 within_calls e =
-    let at = prepare_at (slot_of e.header) in
+    let at = prepare_place (slot_of e.header) in
     within_append at (at + 4) (writes at 4 (prepare_bytes e)) (Sync ∷ []) (writes_within at (at + 4) 4 at (prepare_bytes e) (omega arith) (omega arith)) (tt, tt)
 
 -- the prepare of another slot
-within_apart : (s slot : ℕ) (cs : List Call) → s < 64 → slot < 64 → s ≢ slot → AllByRecursion (Within (prepare_at s) (prepare_at s + 4)) cs → AllByRecursion (AllApart slot) cs
+within_apart : (s slot : ℕ) (cs : List Call) → s < 64 → slot < 64 → s ≢ slot → AllByRecursion (Within (prepare_place s) (prepare_place s + 4)) cs → AllByRecursion (AllApart slot) cs
 unfolding Within
 within_apart s slot [] a b d w = tt
 within_apart s slot (Write i x ∷ cs) a b d w =
     let p = w.0 in
-    let other : (i < prepare_at slot) ⊎ (prepare_at slot + 4 ≤ i) = elim (cases_lt s slot) [ inl l ↦ inl (omega arith) | inr g ↦ inr (omega arith) ] in
+    let other : (i < prepare_place slot) ⊎ (prepare_place slot + 4 ≤ i) = elim (cases_lt s slot) [ inl l ↦ inl (omega arith) | inr g ↦ inr (omega arith) ] in
     (((λ e. omega arith), other), within_apart s slot cs a b d w.1)
 within_apart s slot (Sync ∷ cs) a b d w = (tt, within_apart s slot cs a b d w.1)
 
@@ -50,7 +50,7 @@ prepare_keeps : (e : Whole) (slot : ℕ) → slot < 64 → CutKeeps slot (prepar
 prepare_keeps e slot l f held j code n r s =
     elim (cases_eq (slot_of e.header) slot) [
       | inl same ↦
-          let w = subst (λ slot. AllByRecursion (Within (prepare_at slot) (prepare_at slot + 4)) (prepare_calls e)) same (within_calls e) in
+          let w = subst (λ slot. AllByRecursion (Within (prepare_place slot) (prepare_place slot + 4)) (prepare_calls e)) same (within_calls e) in
           part_cut (prepare_calls e) f slot held j code l n w (rest r s)
       | inr other ↦ apart_cut (prepare_calls e) f slot held j code l n (within_apart (slot_of e.header) slot (prepare_calls e) (slot_below e.header) l other (within_calls e)) (λ k x. rw r refl) s
     ]
@@ -60,15 +60,15 @@ unfolding header_calls
 header_keeps h slot i l f held j code n r s =
     elim (cases_eq slot (slot_of h)) [
       | inl same ↦
-          subst (λ at. CutKeeps slot (Write (header_at at) (sector_of h) ∷ Sync ∷ [])) same (λ f held j code n r s. header_cut f slot (sector_of h) held j code l n r (damaged_none h i) s) f held j code n r s
+          subst (λ at. CutKeeps slot (Write (header_place at) (sector_of h) ∷ Sync ∷ [])) same (λ f held j code n r s. header_cut f slot (sector_of h) held j code l n r (damaged_none h i) s) f held j code n r s
       | inr other ↦
           let b = slot_below h in
-          apart_cut (Write (header_at (slot_of h)) (sector_of h) ∷ Sync ∷ []) f slot held j code l n (((λ e. other (omega arith)), inl (omega arith)), (tt, tt)) (λ k x. rw r refl) s
+          apart_cut (Write (header_place (slot_of h)) (sector_of h) ∷ Sync ∷ []) f slot held j code l n (((λ e. other (omega arith)), inl (omega arith)), (tt, tt)) (λ k x. rw r refl) s
     ]
 
 prepare_rests : (e : Whole) (f : Face) → (after_all f (prepare_calls e)).waiting ≡ []
 unfolding prepare_calls
-prepare_rests e f = ap (λ (g : Face). g.waiting) (after_all_append (writes (prepare_at (slot_of e.header)) 4 (prepare_bytes e)) (Sync ∷ []) f)
+prepare_rests e f = ap (λ (g : Face). g.waiting) (after_all_append (writes (prepare_place (slot_of e.header)) 4 (prepare_bytes e)) (Sync ∷ []) f)
 
 header_rests : (h : Header) (f : Face) → (after_all f (header_calls h)).waiting ≡ []
 unfolding header_calls
@@ -82,7 +82,7 @@ keeps_slots cs f n r k slot held l s = record { front = λ j. calls_stand (take 
 prepare_done : (e : Whole) (f : Face) → length f.cells ≡ 1424 → length (prepare_bytes e) ≡ 2048 → prepare_reading (after_all f (prepare_calls e)) (slot_of e.header) ≡ Some (prepare_bytes e)
 unfolding prepare_calls
 prepare_done e f n l =
-    let at = prepare_at (slot_of e.header) in
+    let at = prepare_place (slot_of e.header) in
     let b = slot_below e.header in
     let g = after_all f (writes at 4 (prepare_bytes e)) in
     ap (λ (g : Face). together at 4 g) (after_all_append (writes at 4 (prepare_bytes e)) (Sync ∷ []) f)
@@ -90,7 +90,7 @@ prepare_done e f n l =
 
 header_done : (h : Header) (f : Face) → length f.cells ≡ 1424 → header_reading (after_all f (header_calls h)) (slot_of h) ≡ Some (sector_of h)
 unfolding header_calls
-header_done h f n = let b = slot_below h in reads_back f (header_at (slot_of h)) (sector_of h) (omega arith)
+header_done h f n = let b = slot_below h in reads_back f (header_place (slot_of h)) (sector_of h) (omega arith)
 
 -- the bytes of an entry's sectors read as the entry
 reads_as : (g : Face) (e : Whole) → IsWhole e → header_reading g (slot_of e.header) ≡ Some (sector_of e.header) → prepare_reading g (slot_of e.header) ≡ Some (prepare_bytes e) → ReadsAs g e
@@ -99,17 +99,17 @@ reads_as g e w h p = record { header = h; prepare = p; head = ap (option_and_the
 
 -- ---- the halves leave each other's sectors
 
-header_spares : (h : Header) (k : ℕ) → k < 4 → AllByRecursion (Spares (prepare_at (slot_of h) + k)) (header_calls h)
+header_spares : (h : Header) (k : ℕ) → k < 4 → AllByRecursion (Spares (prepare_place (slot_of h) + k)) (header_calls h)
 unfolding header_calls
 header_spares h k l = ((λ e. omega arith), (tt, tt))
 
-prepare_spares : (e : Whole) → AllByRecursion (Spares (header_at (slot_of e.header))) (prepare_calls e)
-prepare_spares e = within_spares (prepare_at (slot_of e.header)) (prepare_at (slot_of e.header) + 4) (prepare_calls e) (header_at (slot_of e.header)) (within_calls e) (inl (omega arith))
+prepare_spares : (e : Whole) → AllByRecursion (Spares (header_place (slot_of e.header))) (prepare_calls e)
+prepare_spares e = within_spares (prepare_place (slot_of e.header)) (prepare_place (slot_of e.header) + 4) (prepare_calls e) (header_place (slot_of e.header)) (within_calls e) (inl (omega arith))
 
 -- the prepare reads the same where its sectors are the same
-prepare_same : (f g : Face) (slot : ℕ) → ((k : ℕ) → k < 4 → reads g (prepare_at slot + k) ≡ reads f (prepare_at slot + k)) → prepare_reading g slot ≡ prepare_reading f slot
+prepare_same : (f g : Face) (slot : ℕ) → ((k : ℕ) → k < 4 → reads g (prepare_place slot + k) ≡ reads f (prepare_place slot + k)) → prepare_reading g slot ≡ prepare_reading f slot
 prepare_same f g slot h =
-    together_same 4 (prepare_at slot) f g (λ k a b. let n : prepare_at slot + (k - prepare_at slot) ≡ k = omega arith in subst (λ k. reads g k ≡ reads f k) n (h (k - prepare_at slot) (omega arith)))
+    together_same 4 (prepare_place slot) f g (λ k a b. let n : prepare_place slot + (k - prepare_place slot) ≡ k = omega arith in subst (λ k. reads g k ≡ reads f k) n (h (k - prepare_place slot) (omega arith)))
 
 new_done : (e : Whole) (f : Face) → length f.cells ≡ 1424 → IsWhole e → ReadsAs (after_all f (new_calls e)) e
 new_done e f n w =
@@ -120,7 +120,7 @@ new_done e f n w =
     reads_as (after_all f (new_calls e)) e w
     (ap (λ g. header_reading g slot) all ∙ header_done e.header g (length_after_all (prepare_calls e) f ∙ n))
     (ap (λ g. prepare_reading g slot) all
-    ∙ (prepare_same g (after_all g (header_calls e.header)) slot (λ k m. ap (λ (c : Cell). c.reads) (frame_all (header_calls e.header) g (prepare_at slot + k) (header_spares e.header k m))) ∙ prepare_done e f n l))
+    ∙ (prepare_same g (after_all g (header_calls e.header)) slot (λ k m. ap (λ (c : Cell). c.reads) (frame_all (header_calls e.header) g (prepare_place slot + k) (header_spares e.header k m))) ∙ prepare_done e f n l))
 
 again_done : (e : Whole) (f : Face) → length f.cells ≡ 1424 → IsWhole e → ReadsAs (after_all f (again_calls e)) e
 again_done e f n w =
@@ -129,7 +129,7 @@ again_done e f n w =
     let slot = slot_of e.header in
     let all = after_all_append (header_calls e.header) (prepare_calls e) f in
     reads_as (after_all f (again_calls e)) e w
-    (ap (λ g. header_reading g slot) all ∙ (ap (λ (c : Cell). c.reads) (frame_all (prepare_calls e) g (header_at slot) (prepare_spares e)) ∙ header_done e.header f n))
+    (ap (λ g. header_reading g slot) all ∙ (ap (λ (c : Cell). c.reads) (frame_all (prepare_calls e) g (header_place slot) (prepare_spares e)) ∙ header_done e.header f n))
     (ap (λ g. prepare_reading g slot) all ∙ prepare_done e g (length_after_all (header_calls e.header) f ∙ n) l)
 
 -- ---- a stop
@@ -140,10 +140,10 @@ new_stopped e f g n r l s =
     let mid = after_all f (prepare_calls e) in
     let quiet : (k : ℕ) → waits k mid.waiting ≡ false = λ k. rw (prepare_rests e f) refl in
     elim (stops_both (prepare_calls e) (header_calls e.header) f g s) [
-      | inl a ↦ inl (stops_spared (prepare_calls e) f g (header_at slot) (prepare_spares e) (rw r refl) a).0
+      | inl a ↦ inl (stops_spared (prepare_calls e) f g (header_place slot) (prepare_spares e) (rw r refl) a).0
       | inr b ↦ inr (record {
-        reads = prepare_same mid g slot (λ k m. ap (λ (c : Cell). c.reads) (stops_spared (header_calls e.header) mid g (prepare_at slot + k) (header_spares e.header k m) (quiet (prepare_at slot + k)) b).0) ∙ prepare_done e f n l;
-        rests = λ k m. (stops_spared (header_calls e.header) mid g (prepare_at slot + k) (header_spares e.header k m) (quiet (prepare_at slot + k)) b).1;
+        reads = prepare_same mid g slot (λ k m. ap (λ (c : Cell). c.reads) (stops_spared (header_calls e.header) mid g (prepare_place slot + k) (header_spares e.header k m) (quiet (prepare_place slot + k)) b).0) ∙ prepare_done e f n l;
+        rests = λ k m. (stops_spared (header_calls e.header) mid g (prepare_place slot + k) (header_spares e.header k m) (quiet (prepare_place slot + k)) b).1;
       })
     ]
 
@@ -151,21 +151,21 @@ again_stopped : (e : Whole) (f g : Face) → length f.cells ≡ 1424 → f.waiti
 again_stopped e f g n r s =
     let slot = slot_of e.header in
     let mid = after_all f (header_calls e.header) in
-    let quiet : waits (header_at slot) mid.waiting ≡ false = rw (header_rests e.header f) refl in
+    let quiet : waits (header_place slot) mid.waiting ≡ false = rw (header_rests e.header f) refl in
     elim (stops_both (header_calls e.header) (prepare_calls e) f g s) [
-      | inl a ↦ inl (λ k m. (stops_spared (header_calls e.header) f g (prepare_at slot + k) (header_spares e.header k m) (rw r refl) a).0)
+      | inl a ↦ inl (λ k m. (stops_spared (header_calls e.header) f g (prepare_place slot + k) (header_spares e.header k m) (rw r refl) a).0)
       | inr b ↦
-          let p = stops_spared (prepare_calls e) mid g (header_at slot) (prepare_spares e) quiet b in
+          let p = stops_spared (prepare_calls e) mid g (header_place slot) (prepare_spares e) quiet b in
           inr (record { reads = ap (λ (c : Cell). c.reads) p.0 ∙ header_done e.header f n; rests = p.1 })
     ]
 
 -- ---- an entry that the slot holds already
 
-pieces_of : (n k slot : ℕ) (p : List ℕ) → k + n ≤ 4 → AllByRecursion (Pieces slot p) (writes (prepare_at slot + k) n (drop (512 * k) p))
+pieces_of : (n k slot : ℕ) (p : List ℕ) → k + n ≤ 4 → AllByRecursion (Pieces slot p) (writes (prepare_place slot + k) n (drop (512 * k) p))
 unfolding writes piece
 pieces_of zero k slot p l = tt
 pieces_of (suc n) k slot p l =
-    let at = prepare_at slot in
+    let at = prepare_place slot in
     let i : k ≡ at + k - at = omega arith in
     let next : at + k + 1 ≡ at + (k + 1) = omega arith in
     let size : 512 * k + 512 ≡ 512 * (k + 1) = omega arith in
@@ -182,8 +182,8 @@ unfolding prepare_calls
 prepare_pieces e =
     let slot = slot_of e.header in
     let p = prepare_bytes e in
-    let first : AllByRecursion (Pieces slot p) (writes (prepare_at slot) 4 p) = let z : prepare_at slot + 0 ≡ prepare_at slot = omega arith in subst (λ i. AllByRecursion (Pieces slot p) (writes i 4 p)) z (pieces_of 4 0 slot p (omega arith)) in
-    all_append slot p (writes (prepare_at slot) 4 p) (Sync ∷ []) first (tt, tt)
+    let first : AllByRecursion (Pieces slot p) (writes (prepare_place slot) 4 p) = let z : prepare_place slot + 0 ≡ prepare_place slot = omega arith in subst (λ i. AllByRecursion (Pieces slot p) (writes i 4 p)) z (pieces_of 4 0 slot p (omega arith)) in
+    all_append slot p (writes (prepare_place slot) 4 p) (Sync ∷ []) first (tt, tt)
 
 again_lasts : (e : Whole) (f : Face) → IsWhole e → length f.cells ≡ 1424 → f.waiting ≡ [] → LastsIn (again_calls e) f (slot_of e.header) (prepare_bytes e)
 unfolding header_calls

@@ -16,7 +16,7 @@ use Rattle.vr_header.specs.declared.header.Header.{Header}
 use Rattle.vr_header.specs.declared.header.HeaderFault.{HeaderFault}
 use Rattle.vr_header.specs.Bodies.{operation_bytes}
 use Rattle.vr_header.specs.Made.{Whole, entry_bytes, entry_of, with_header}
-use Rattle.vr_header.specs.Spelling.{IsHeader, Spells, decoded, fault_of, header_at, header_bytes}
+use Rattle.vr_header.specs.Spelling.{IsHeader, Spells, decoded, fault_of, decoded_header, header_bytes}
 use Rattle.vr_header.proofs.EntryLaws.{IsSpelled, entry_again, entry_found}
 use Rattle.vr_header.proofs.Faults.{sound}
 use Rattle.vr_header.proofs.HeaderLaws.{decoded_again, decoded_found, length-header_bytes}
@@ -85,10 +85,10 @@ header_found b h f n e =
 
 -- the size that the header in front gives
 size_of : (b : List ℕ) (h : Header) → decoded b ≡ Ok h → size_at b ≡ h.size
-unfolding size_at header_at
+unfolding size_at decoded_header
 size_of b h e =
-    elim (fault_of b) as (λ o. option_map_or Err o (Ok (header_at b)) ≡ Ok h → number w32 104 b ≡ h.size) [
-      | None ↦ λ e. let same : header_at b ≡ h = cc in ap (λ (x : Header). x.size) same
+    elim (fault_of b) as (λ o. option_map_or Err o (Ok (decoded_header b)) ≡ Ok h → number w32 104 b ≡ h.size) [
+      | None ↦ λ e. let same : decoded_header b ≡ h = cc in ap (λ (x : Header). x.size) same
       | Some x ↦ λ e. absurd cc
     ] e
 
@@ -194,7 +194,7 @@ some_header : (b : List ℕ) → is_some (header_of b) ≡ true → fault_of b �
 unfolding header_of
 some_header b e =
     elim (is_zeros (drop 128 b)) as (λ z. is_some (cond z (result_ok (decoded b)) None) ≡ true → fault_of b ≡ None) [
-      | true ↦ λ e. elim (fault_of b) as (λ o. is_some (result_ok (option_map_or Err o (Ok (header_at b)))) ≡ true → o ≡ None) [ None ↦ λ e. refl | Some x ↦ λ e. absurd cc ] e
+      | true ↦ λ e. elim (fault_of b) as (λ o. is_some (result_ok (option_map_or Err o (Ok (decoded_header b)))) ≡ true → o ≡ None) [ None ↦ λ e. refl | Some x ↦ λ e. absurd cc ] e
       | false ↦ λ e. absurd cc
     ] e
 
@@ -203,7 +203,7 @@ sector_version h i = (sound (sector_of h) (some_header (sector_of h) (ap is_some
 
 some_entry : (b : List ℕ) → is_some (entry_of b) ≡ true → fault_of b ≡ None
 unfolding entry_of
-some_entry b e = elim (fault_of b) as (λ o. is_some (with_header b (option_map_or Err o (Ok (header_at b)))) ≡ true → o ≡ None) [ None ↦ λ e. refl | Some x ↦ λ e. absurd cc ] e
+some_entry b e = elim (fault_of b) as (λ o. is_some (with_header b (option_map_or Err o (Ok (decoded_header b)))) ≡ true → o ≡ None) [ None ↦ λ e. refl | Some x ↦ λ e. absurd cc ] e
 
 some_whole : (b : List ℕ) → is_some (whole_of b) ≡ true → fault_of (take (size_at b) b) ≡ None
 unfolding whole_of

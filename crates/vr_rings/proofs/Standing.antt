@@ -5,7 +5,7 @@ use Rattle.std.specs.Cmp.Lexicographic.{pointwise}
 use Rattle.std.proofs.lemmas.Bool.{and_parts, cases_eq, cases_lt, eq-eqb, le-leb, lt-ltb, ne_eqb, le-ltb, lt-leb}
 use Rattle.std.proofs.lemmas.Slice.Eq.{bytes_eq-Decides}
 use Rattle.vr_disk.specs.DiskState.{Call, Write, Sync, Face, after, after_all}
-use Rattle.vr_disk.specs.Regions.{header_at, prepare_at}
+use Rattle.vr_disk.specs.Regions.{header_place, prepare_place}
 use Rattle.vr_disk.specs.Sectors.{has}
 use Rattle.vr_disk.proofs.Frames.{reads_back, reads_other}
 use Rattle.vr_disk.proofs.Together.{has_is, length_after_all, together_same, together_synced}
@@ -73,32 +73,32 @@ kept_is f slot i b (Some q) p e =
       | false ↦ λ t e. absurd cc
     ] refl e
 
-part_true : (slot i : ℕ) → prepare_at slot ≤ i → i < prepare_at slot + 4 → is_part slot i ≡ true
-part_true slot i a b = rw (le-leb (prepare_at slot) i a, lt-ltb i (prepare_at slot + 4) b) refl
+part_true : (slot i : ℕ) → prepare_place slot ≤ i → i < prepare_place slot + 4 → is_part slot i ≡ true
+part_true slot i a b = rw (le-leb (prepare_place slot) i a, lt-ltb i (prepare_place slot + 4) b) refl
 
 -- a sector outside a slot
 abbrev pub Apart : ℕ → ℕ → Type 0
-Apart slot i = (i ≢ header_at slot) × ((i < prepare_at slot) ⊎ (prepare_at slot + 4 ≤ i))
+Apart slot i = (i ≢ header_place slot) × ((i < prepare_place slot) ⊎ (prepare_place slot + 4 ≤ i))
 
-part_false : (slot i : ℕ) → (i < prepare_at slot) ⊎ (prepare_at slot + 4 ≤ i) → is_part slot i ≡ false
-part_false slot i (inl l) = rw (lt-leb (prepare_at slot) i l) refl
-part_false slot i (inr g) = rw (le-leb (prepare_at slot) i (omega arith), le-ltb i (prepare_at slot + 4) g) refl
+part_false : (slot i : ℕ) → (i < prepare_place slot) ⊎ (prepare_place slot + 4 ≤ i) → is_part slot i ≡ false
+part_false slot i (inl l) = rw (lt-leb (prepare_place slot) i l) refl
+part_false slot i (inr g) = rw (le-leb (prepare_place slot) i (omega arith), le-ltb i (prepare_place slot + 4) g) refl
 
-keeps_part : (f : Face) (slot i : ℕ) (b p : List ℕ) → i ≢ header_at slot → is_part slot i ≡ true → keeps f slot i b p ≡ true → header_reading f slot ≡ Some (header_sector p)
+keeps_part : (f : Face) (slot i : ℕ) (b p : List ℕ) → i ≢ header_place slot → is_part slot i ≡ true → keeps f slot i b p ≡ true → header_reading f slot ≡ Some (header_sector p)
 unfolding keeps
 keeps_part f slot i b p d t k =
-    let k' : (has (header_sector p) (header_reading f slot) && pointwise nat_eq b _) ≡ true = rw (ne_eqb i (header_at slot) d, t) at k in
+    let k' : (has (header_sector p) (header_reading f slot) && pointwise nat_eq b _) ≡ true = rw (ne_eqb i (header_place slot) d, t) at k in
     has_is (header_sector p) (header_reading f slot) (and_parts _ _ k').0
 
-pub keeps_header : (f : Face) (slot : ℕ) (b p : List ℕ) → keeps f slot (header_at slot) b p ≡ true → b ≡ header_sector p
+pub keeps_header : (f : Face) (slot : ℕ) (b p : List ℕ) → keeps f slot (header_place slot) b p ≡ true → b ≡ header_sector p
 unfolding keeps
 keeps_header f slot b p k =
-    let k' : pointwise nat_eq b (header_sector p) ≡ true = rw (eq-eqb (header_at slot) (header_at slot) refl) at k in
+    let k' : pointwise nat_eq b (header_sector p) ≡ true = rw (eq-eqb (header_place slot) (header_place slot) refl) at k in
     (bytes_eq-Decides b (header_sector p)).0 k'
 
 keeps_apart : (f : Face) (slot i : ℕ) (b p : List ℕ) → Apart slot i → keeps f slot i b p ≡ true
 unfolding keeps
-keeps_apart f slot i b p a = rw (ne_eqb i (header_at slot) a.0, part_false slot i a.1) refl
+keeps_apart f slot i b p a = rw (ne_eqb i (header_place slot) a.0, part_false slot i a.1) refl
 
 kept_apart : (f : Face) (slot i : ℕ) (b : List ℕ) (held : Option (List ℕ)) → Apart slot i → kept f slot i b held ≡ held
 kept_apart f slot i b None a = refl
@@ -106,25 +106,25 @@ kept_apart f slot i b (Some p) a = rw (keeps_apart f slot i b p a) refl
 
 -- ---- readings after a write
 
-pub header_other : (f : Face) (slot i : ℕ) (b : List ℕ) → i ≢ header_at slot → header_reading (after f (Write i b)) slot ≡ header_reading f slot
-header_other f slot i b d = reads_other f i (header_at slot) b (λ e. d (sym e))
+pub header_other : (f : Face) (slot i : ℕ) (b : List ℕ) → i ≢ header_place slot → header_reading (after f (Write i b)) slot ≡ header_reading f slot
+header_other f slot i b d = reads_other f i (header_place slot) b (λ e. d (sym e))
 
-pub prepare_other : (f : Face) (slot i : ℕ) (b : List ℕ) → (i < prepare_at slot) ⊎ (prepare_at slot + 4 ≤ i) → prepare_reading (after f (Write i b)) slot ≡ prepare_reading f slot
+pub prepare_other : (f : Face) (slot i : ℕ) (b : List ℕ) → (i < prepare_place slot) ⊎ (prepare_place slot + 4 ≤ i) → prepare_reading (after f (Write i b)) slot ≡ prepare_reading f slot
 prepare_other f slot i b o =
-    together_same 4 (prepare_at slot) f (after f (Write i b)) (λ k a c. reads_other f i k b (λ e. elim o [ inl l ↦ omega arith | inr l ↦ omega arith ]))
+    together_same 4 (prepare_place slot) f (after f (Write i b)) (λ k a c. reads_other f i k b (λ e. elim o [ inl l ↦ omega arith | inr l ↦ omega arith ]))
 
 -- ---- a sector of the prepare is written, or the header sector, or another one
 
-pub part_mid : (f : Face) (slot i : ℕ) (b : List ℕ) (held : Option (List ℕ)) → prepare_at slot ≤ i → i < prepare_at slot + 4 → Mid (after f (Write i b)) slot (held_after f (Write i b) slot held)
+pub part_mid : (f : Face) (slot i : ℕ) (b : List ℕ) (held : Option (List ℕ)) → prepare_place slot ≤ i → i < prepare_place slot + 4 → Mid (after f (Write i b)) slot (held_after f (Write i b) slot held)
 unfolding held_after
 part_mid f slot i b held l m =
-    let d : i ≢ header_at slot = λ e. omega arith in
+    let d : i ≢ header_place slot = λ e. omega arith in
     look_mid (after f (Write i b)) slot (kept f slot i b held) (λ p e. header_other f slot i b d ∙ keeps_part f slot i b p d (part_true slot i l m) (kept_is f slot i b held p e).1)
 
-pub header_mid : (f : Face) (slot : ℕ) (b : List ℕ) (held : Option (List ℕ)) → header_at slot < length f.cells → Mid (after f (Write (header_at slot) b)) slot (held_after f (Write (header_at slot) b) slot held)
+pub header_mid : (f : Face) (slot : ℕ) (b : List ℕ) (held : Option (List ℕ)) → header_place slot < length f.cells → Mid (after f (Write (header_place slot) b)) slot (held_after f (Write (header_place slot) b) slot held)
 unfolding held_after
 header_mid f slot b held l =
-    let i = header_at slot in
+    let i = header_place slot in
     look_mid (after f (Write i b)) slot (kept f slot i b held) (λ p e. reads_back f i b l ∙ ap Some (keeps_header f slot b p (kept_is f slot i b held p e).1))
 
 apart_stands : (f : Face) (slot i : ℕ) (b : List ℕ) (held : Option (List ℕ)) → Apart slot i → Stands f slot held → Stands (after f (Write i b)) slot held
@@ -140,7 +140,7 @@ apart_after : (f : Face) (slot i : ℕ) (b : List ℕ) (held : Option (List ℕ)
 apart_after f slot i b held a s = subst (λ h. Stands (after f (Write i b)) slot h) (sym (apart_held f slot i b held a s)) (apart_stands f slot i b held a s)
 
 pub sync_stands : (f : Face) (slot : ℕ) (held : Option (List ℕ)) → Stands f slot held → Stands (after f Sync) slot held
-sync_stands f slot held s = same_stands f (after f Sync) slot held refl (together_synced 4 (prepare_at slot) f) s
+sync_stands f slot held s = same_stands f (after f Sync) slot held refl (together_synced 4 (prepare_place slot) f) s
 
 -- ---- any calls
 
@@ -148,11 +148,11 @@ pub call_stands : (f : Face) (c : Call) (slot : ℕ) (held : Option (List ℕ)) 
 unfolding held_after
 call_stands f Sync slot held l n s = sync_stands f slot held s
 call_stands f (Write i b) slot held l n s =
-    elim (cases_eq i (header_at slot)) [
+    elim (cases_eq i (header_place slot)) [
       | inl e ↦ subst (λ i. Stands (after f (Write i b)) slot (held_after f (Write i b) slot held)) (sym e) (mid_stands _ slot _ (header_mid f slot b held (omega arith)))
-      | inr d ↦ elim (cases_lt i (prepare_at slot)) [
+      | inr d ↦ elim (cases_lt i (prepare_place slot)) [
         | inl low ↦ apart_after f slot i b held (d, inl low) s
-        | inr high ↦ elim (cases_lt i (prepare_at slot + 4)) [
+        | inr high ↦ elim (cases_lt i (prepare_place slot + 4)) [
           | inl in_part ↦ mid_stands _ slot _ (part_mid f slot i b held high in_part)
           | inr past ↦ apart_after f slot i b held (d, inr past) s
         ]

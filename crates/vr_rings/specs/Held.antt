@@ -3,7 +3,7 @@ use Rattle.std.specs.Prelude.{ℕ, zero, suc, ◌+◌, ◌-◌, ◌*◌, ◌≡�
 use Rattle.std.specs.Cmp.Lexicographic.{pointwise}
 use Rattle.vr_base.specs.Bytes.{piece}
 use Rattle.vr_disk.specs.DiskState.{Call, Write, Sync, Face, after, cut_at, digit_at}
-use Rattle.vr_disk.specs.Regions.{header_at, prepare_at}
+use Rattle.vr_disk.specs.Regions.{header_place, prepare_place}
 use Rattle.vr_disk.specs.Sectors.{has}
 use Rattle.vr_rings.specs.Slots.{header_of, header_reading, prepare_reading, whole_of}
 
@@ -38,14 +38,14 @@ looked f slot held = found (entry_read f slot) held
 
 -- one of the four sectors of a slot's prepare
 abbrev pub is_part : ℕ → ℕ → Bool
-is_part slot i = nat_le (prepare_at slot) i && nat_lt i (prepare_at slot + 4)
+is_part slot i = nat_le (prepare_place slot) i && nat_lt i (prepare_place slot + 4)
 
 -- it holds the entry until one of its sectors is written with other bytes than the entry's, or one of its prepare while the
 -- header sector doesn't read as the entry's
 unfoldable pub keeps : Face → ℕ → ℕ → List ℕ → List ℕ → Bool
 keeps f slot i bytes prepare =
-    if i == header_at slot then pointwise nat_eq bytes (header_sector prepare)
-    else (if is_part slot i then has (header_sector prepare) (header_reading f slot) && pointwise nat_eq bytes (piece (512 * (i - prepare_at slot)) 512 prepare)
+    if i == header_place slot then pointwise nat_eq bytes (header_sector prepare)
+    else (if is_part slot i then has (header_sector prepare) (header_reading f slot) && pointwise nat_eq bytes (piece (512 * (i - prepare_place slot)) 512 prepare)
     else true)
 
 abbrev pub kept : Face → ℕ → ℕ → List ℕ → Option (List ℕ) → Option (List ℕ)

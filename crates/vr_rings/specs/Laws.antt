@@ -2,7 +2,7 @@
 use Rattle.std.specs.Prelude.{ℕ, suc, ◌+◌, ◌<◌, ◌≡◌, ◌⊎◌, false, true, List, take, length, Option, Some}
 use Rattle.vr_base.specs.Bytes.{IsBytes}
 use Rattle.vr_disk.specs.DiskState.{Call, Face, after_all, cell, cut, waits}
-use Rattle.vr_disk.specs.Regions.{header_at, prepare_at}
+use Rattle.vr_disk.specs.Regions.{header_place, prepare_place}
 use Rattle.vr_disk.specs.Stops.{Stops}
 use Rattle.vr_header.specs.declared.header.Header.{Header}
 use Rattle.vr_header.specs.Made.{Whole}
@@ -44,20 +44,20 @@ LastsIn cs f slot prepare = Stands f slot (Some prepare) → Lasts cs f slot pre
 -- the prepare reads as the entry, and is synced
 pub record Synced (f : Face) (e : Whole) : Type 0 where
   pub reads : prepare_reading f (slot_of e.header) ≡ Some (prepare_bytes e)
-  pub rests : (k : ℕ) → k < 4 → waits (prepare_at (slot_of e.header) + k) f.waiting ≡ false
+  pub rests : (k : ℕ) → k < 4 → waits (prepare_place (slot_of e.header) + k) f.waiting ≡ false
 
 -- the header sector is untouched, or the prepare is synced already
 abbrev pub HeaderWaits : Whole → Face → Face → Type 0
-HeaderWaits e f g = (cell g (header_at (slot_of e.header)) ≡ cell f (header_at (slot_of e.header))) ⊎ Synced g e
+HeaderWaits e f g = (cell g (header_place (slot_of e.header)) ≡ cell f (header_place (slot_of e.header))) ⊎ Synced g e
 
 -- the header sector reads as the header, and is synced
 pub record HeaderSynced (f : Face) (h : Header) : Type 0 where
   pub reads : header_reading f (slot_of h) ≡ Some (sector_of h)
-  pub rests : waits (header_at (slot_of h)) f.waiting ≡ false
+  pub rests : waits (header_place (slot_of h)) f.waiting ≡ false
 
 -- the prepare is untouched, or the header is synced already
 abbrev pub PrepareWaits : Whole → Face → Face → Type 0
-PrepareWaits e f g = ((k : ℕ) → k < 4 → cell g (prepare_at (slot_of e.header) + k) ≡ cell f (prepare_at (slot_of e.header) + k)) ⊎ HeaderSynced g e.header
+PrepareWaits e f g = ((k : ℕ) → k < 4 → cell g (prepare_place (slot_of e.header) + k) ≡ cell f (prepare_place (slot_of e.header) + k)) ⊎ HeaderSynced g e.header
 
 -- an entry written in the place of another one, on a disk on which nothing waits
 pub record NewLeaves (e : Whole) (f : Face) : Type 0 where

@@ -5,7 +5,7 @@ use Rattle.std.specs.Result.{result_ok}
 use Rattle.std.specs.Int.{w32}
 use Rattle.vr_base.specs.Bytes.{is_zeros, number}
 use Rattle.vr_disk.specs.DiskState.{Face, reads}
-use Rattle.vr_disk.specs.Regions.{header_at, prepare_at}
+use Rattle.vr_disk.specs.Regions.{header_place, prepare_place}
 use Rattle.vr_disk.specs.Sectors.{together}
 use Rattle.vr_header.specs.declared.header.Header.{Header}
 use Rattle.vr_header.specs.Bodies.{IsOperation}
@@ -51,10 +51,10 @@ whole_of bytes = if is_zeros (drop (size_at bytes) bytes) then entry_of (take (s
 
 -- its header sector and its prepare, None where one of their sectors can't be read
 abbrev pub header_reading : Face → ℕ → Option (List ℕ)
-header_reading f slot = reads f (header_at slot)
+header_reading f slot = reads f (header_place slot)
 
 abbrev pub prepare_reading : Face → ℕ → Option (List ℕ)
-prepare_reading f slot = together (prepare_at slot) 4 f
+prepare_reading f slot = together (prepare_place slot) 4 f
 
 -- the valid header of the header sector
 unfoldable pub header_in : Face → ℕ → Option Header

@@ -3,14 +3,14 @@ ghost use Rattle.std.specs.Prelude.{◌≡◌, ◌<◌, ◌↔◌, Some, None, I
 ghost use Rattle.std.specs.Option.{option_map};
 ghost use Rattle.std.specs.Result.{result_ok};
 ghost use Rattle.vr_base.specs.Bytes.{IsBytes};
-ghost use Rattle.vr_disk.specs.Regions.{prepare_at};
+ghost use Rattle.vr_disk.specs.Regions.{prepare_place};
 ghost use Rattle.vr_disk.specs.Sectors.{together};
 ghost use Rattle.vr_rings.specs.Readings.{BeginsWith, Found};
 ghost use Rattle.vr_rings.specs.Slots.{header_in, whole_in, whole_of};
 
 use crate::Bad;
 use crate::bytes::{header_of, whole_of};
-use vr_disk::{Buffer, Faulty, Sector, SectorDisk, header_at, prepare_at, read_sectors};
+use vr_disk::{Buffer, Faulty, Sector, SectorDisk, header_place, prepare_place, read_sectors};
 use vr_header::Header;
 
 /// The header that a slot's header sector reads as, None exactly where it can't be read or is no valid header with zeros
@@ -23,7 +23,7 @@ pub fn read_header<D: SectorDisk>(disk: &mut D, slot: u32) -> Option<Header>
     ensures value { IfSome (D.told disk.old) (λ d. result ≡ header_in d.face slot) }
 {
     let mut sector = Sector { bytes: [0; 512] };
-    if disk.read(header_at(slot), &mut sector).is_ok() {
+    if disk.read(header_place(slot), &mut sector).is_ok() {
         header_of(&sector)
     } else {
         None
@@ -41,9 +41,9 @@ fn fetch<D: SectorDisk>(disk: &mut D, slot: u32, to: &mut [u8]) -> Option<Header
     ensures each { IfSome result (λ _. IsBytes to.new) }
     ensures whole { IfSome result (λ h. option_map (λ e. e.header) (whole_of to.new) ≡ Some h) }
     ensures value { IfSome (D.told disk.old) (λ d. result ≡ option_map (λ e. e.header) (whole_in d.face slot)) }
-    ensures bytes { IfSome (D.told disk.old) (λ d. IfSome result (λ h. together (prepare_at slot) 4 d.face ≡ Some to.new)) }
+    ensures bytes { IfSome (D.told disk.old) (λ d. IfSome result (λ h. together (prepare_place slot) 4 d.face ≡ Some to.new)) }
 {
-    if read_sectors(disk, prepare_at(slot), 4, to) {
+    if read_sectors(disk, prepare_place(slot), 4, to) {
         whole_of(to)
     } else {
         None

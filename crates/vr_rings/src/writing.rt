@@ -8,7 +8,9 @@ ghost use Rattle.vr_rings.specs.Laws.{AgainLeaves, HeaderLeaves, NewLeaves};
 
 use crate::bytes::{header_sector, prepare_of, sector_of};
 use crate::slot::slot_of;
-use vr_disk::{DiskFailed, DiskFault, Sector, SectorDisk, header_at, prepare_at, write_sectors};
+use vr_disk::{
+    DiskFailed, DiskFault, Sector, SectorDisk, header_place, prepare_place, write_sectors,
+};
 use vr_header::{Entry, Header};
 
 // Writes the four sectors of an entry, which are these bytes, and syncs them.
@@ -22,7 +24,7 @@ fn put_prepare<D: SectorDisk>(
     ensures runs { Runs (prepare_calls entry.now) (D.told disk.old) (D.told disk.new) (is_ok result) }
     ensures cause { HasCause (D.faults disk.old) (D.faults disk.new) result }
 {
-    let at = prepare_at(slot_of(&entry.header()));
+    let at = prepare_place(slot_of(&entry.header()));
     write_sectors(disk, at, 4, bytes)?;
     disk.sync()?;
     Ok(())
@@ -39,7 +41,7 @@ fn put_header<D: SectorDisk>(
     ensures runs { Runs (header_calls header.now) (D.told disk.old) (D.told disk.new) (is_ok result) }
     ensures cause { HasCause (D.faults disk.old) (D.faults disk.new) result }
 {
-    disk.write(header_at(slot_of(header)), sector)?;
+    disk.write(header_place(slot_of(header)), sector)?;
     disk.sync()?;
     Ok(())
 }

@@ -8,7 +8,7 @@ use Rattle.vr_header.specs.declared.part.Part.{Part}
 use Rattle.vr_header.specs.declared.part.Part.TheVariants.{Here, Lost, Wanted, Unknown, Nothing}
 use Rattle.vr_msg.specs.declared.event.Event.{Event}
 use Rattle.vr_msg.specs.declared.output.Output.{Output}
-use Rattle.vr_super.specs.Copies.{Saved}
+use Rattle.vr_super.specs.Copies.{SuperValue}
 use Rattle.vr_rules.specs.Replica.{Replica}
 use Rattle.vr_rules.specs.Steps.{Effect, Write, Rewrite, Save, Mend, Checkpoint, PutBlock, Say, Step, outputs}
 use Rattle.vr_rules.specs.Opening.{blank, first_value, fresh, opening}
@@ -36,7 +36,7 @@ use Rattle.vr_rules.proofs.FitFresh.{fresh_fits}
 
 record Values (c n i : ℕ) (m : Member) : Type 0 where
   last : IsFitValue c n i m.last
-  under : (v : Saved) → m.under ≡ Some v → IsFitValue c n i v
+  under : (v : SuperValue) → m.under ≡ Some v → IsFitValue c n i v
 
 -- what is known of an effect
 pub record Known (c n i : ℕ) (es : List Effect) : Type 0 where
@@ -123,7 +123,7 @@ module _ (c n i : ℕ) where
   stopped : (m : Member) → Values c n i m → IsFitMember c n i (record m { replica = None })
   stopped m v = record { running = λ q e. absurd cc; last = v.last; under = v.under }
 
-  pub good_value : (m : Member) (v : Saved) → IsFitMember c n i m → MayOpen m v → IsFitValue c n i v
+  pub good_value : (m : Member) (v : SuperValue) → IsFitMember c n i m → MayOpen m v → IsFitValue c n i v
   good_value m v h (inl e) = subst (IsFitValue c n i) e h.last
   good_value m v h (inr e) = h.under v e
 
@@ -186,14 +186,14 @@ step_is c n i r e d h at m k =
     let own : IsOwnStep c n i (stepped e r d) = rw (← at.cluster, ← at.n, ← at.index) (steps_are_own lying d r e) in
     record { fit = fit; known = record { fit = fit.each; saves = saves.each; own = own.each }; replica = record { sound = steps_stay_sound lying d r e disks_fit.names h.sound m; savable = saves.savable; missing = fit.missing }; at = own.replica }
 
-opening_is : (c n i : ℕ) (v : Saved) (d : Lying) → IsFitValue c n i v → ReadsWell lying d → Stepped c n i (opening v lying (blank v) d)
+opening_is : (c n i : ℕ) (v : SuperValue) (d : Lying) → IsFitValue c n i v → ReadsWell lying d → Stepped c n i (opening v lying (blank v) d)
 opening_is c n i v d g k =
     let fit = openings_fit lying d v disks_fit.lies disks_fit.roots k g.0 in
     let saves = openings_save_well lying d v (headers_of lying d k) disks_fit.roots g.0 in
     let own : IsOwnStep c n i (opening v lying (blank v) d) = rw (← g.1.cluster, ← g.1.n, ← g.1.index) (openings_are_own lying d v) in
     record { fit = fit; known = record { fit = fit.each; saves = saves.each; own = own.each }; replica = record { sound = openings_are_sound lying d v (headers_of lying d k) g.0; savable = saves.savable; missing = fit.missing }; at = own.replica }
 
-pub start_is : (c n i : ℕ) (v : Saved) (d : Lying) → IsFitValue c n i v → ReadsWell lying d → Stepped c n i (in_two v d)
+pub start_is : (c n i : ℕ) (v : SuperValue) (d : Lying) → IsFitValue c n i v → ReadsWell lying d → Stepped c n i (in_two v d)
 start_is c n i v d g k = subst (Stepped c n i) (opening_in_two v d) (opening_is c n i v d g k)
 
 finishes : (c : ℕ) (g : Group) (at : ℕ) (m : Member) (x : Step) → IsFitGroup c g → Values c g.n at m → Stepped c g.n at x → IsFitGroup c (finished g at m x).group
@@ -205,7 +205,7 @@ unfolding messages
 cuts_short c g at m x j h v s =
     one_moved c g at (record (cut_after j x.script m) { replica = None }) (take (j + 1) x.script) [] h (stopped c g.n at (cut_after j x.script m) (cut_values c g.n at j x.script m s.known v)) (All-take IsFit (j + 1) x.script s.fit.each) (All-nil MayCome)
 
-starts_fit : (c : ℕ) (g : Group) (at : ℕ) (m : Member) (v : Saved) (d : Lying) → IsFitGroup c g → Values c g.n at m → Stepped c g.n at (in_two v d) → IsFitGroup c (started g at m v d).group
+starts_fit : (c : ℕ) (g : Group) (at : ℕ) (m : Member) (v : SuperValue) (d : Lying) → IsFitGroup c g → Values c g.n at m → Stepped c g.n at (in_two v d) → IsFitGroup c (started g at m v d).group
 starts_fit c g at m v d h k s =
     let xs = (mended v d).script in
     let ys = (resumed v d).script in
@@ -214,7 +214,7 @@ starts_fit c g at m v d h k s =
     let after = carried_out ys (once_mended v d m) in
     one_moved c g at (record after { replica = Some (resumed v d).replica }) (opening_script v d) (outputs (opening_script v d)) h (runs_again c g.n at after (resumed v d).replica end s.replica s.at) s.fit.each s.fit.sent
 
-starts_cut_fit : (c : ℕ) (g : Group) (at : ℕ) (m : Member) (v : Saved) (d : Lying) (j : ℕ) → IsFitGroup c g → Values c g.n at m → Stepped c g.n at (in_two v d) → IsFitGroup c (start_cut g at m v d j).group
+starts_cut_fit : (c : ℕ) (g : Group) (at : ℕ) (m : Member) (v : SuperValue) (d : Lying) (j : ℕ) → IsFitGroup c g → Values c g.n at m → Stepped c g.n at (in_two v d) → IsFitGroup c (start_cut g at m v d j).group
 unfolding messages
 starts_cut_fit c g at m v d j h k s =
     let xs = (mended v d).script in
@@ -256,7 +256,7 @@ fresh_is c n i l a b m =
       under = λ v e. absurd cc;
     }
 
-fresh_at : (c n from count j : ℕ) (m : Member) → slice_get (map (fresh_member c n) (range_with_len from count)) j ≡ Some m → (fresh_member c n (from + j) ≡ m) × (j < count)
+pub fresh_at : (c n from count j : ℕ) (m : Member) → slice_get (map (fresh_member c n) (range_with_len from count)) j ≡ Some m → (fresh_member c n (from + j) ≡ m) × (j < count)
 fresh_at c n from zero j m e = absurd cc
 fresh_at c n from (suc count) zero m e = let at : from + 0 ≡ from = omega arith in (rw at cc, omega arith)
 fresh_at c n from (suc count) (suc j) m e =

@@ -4,7 +4,7 @@ use Rattle.std.specs.Option.{option_map_or}
 use Rattle.vr_header.specs.declared.header.Header.{Header}
 use Rattle.vr_header.specs.Made.{Whole}
 use Rattle.vr_header.specs.Names.{no_name}
-use Rattle.vr_super.specs.Copies.{Saved}
+use Rattle.vr_super.specs.Copies.{SuperValue}
 use Rattle.vr_sched.specs.Text.{letters_of}
 use Rattle.vr_rules.specs.Replica.{last_view, header_at}
 use Rattle.vr_rules.specs.Steps.{Step, outputs}
@@ -16,11 +16,11 @@ use Rattle.vr_rules.proofs.Plain.{Plain, after_fresh, formatted, lines, plain, r
 -- ---- disks of replica 1 of three
 
 -- the superblock's numbers, and the headers that it names
-abbrev value : (view log_view commit head : ℕ) → List Header → Saved
+abbrev value : (view log_view commit head : ℕ) → List Header → SuperValue
 value view log_view commit head headers = let first = (formatted 0 3 1).value in
     record { fields = record first.fields { view = view; log_view = log_view; commit = commit; head = head }; headers = headers }
 
-abbrev having : Saved → Plain
+abbrev having : SuperValue → Plain
 having v = record (formatted 0 3 1) { value = v }
 
 abbrev with_slot : ℕ → Option Header → Option Whole → Plain → Plain

@@ -17,7 +17,7 @@ use Rattle.vr_header.specs.Made.{Whole}
 use Rattle.vr_msg.specs.Logs.{has_header, header_of}
 use Rattle.vr_recover.specs.declared.readings.Verdict.{Verdict}
 use Rattle.vr_recover.specs.declared.readings.Verdict.TheVariants as verdict
-use Rattle.vr_super.specs.Copies.{Saved}
+use Rattle.vr_super.specs.Copies.{SuperValue}
 use Rattle.vr_rules.specs.Replica.{Replica, part_at, is_spent, is_started, leads, last_view, forgetting, with_part}
 use Rattle.vr_rules.specs.Steps.{Effect, Mend, Rewrite, Setting, Word, ◌⨾◌, quiet, change, does, says, by, reading, when, each, after_all}
 use Rattle.vr_rules.specs.Outputs.{send_to_all, start_view_change, start_line}
@@ -46,25 +46,25 @@ reads_slot s f k h = record { header = λ g e. h.header [] tt (k % 64) g (omega 
 
 -- ---- a replica whose Parts are found up to an op
 
-pub record Partly (v : Saved) (reached : ℕ) (r : Replica) : Type 0 where
+pub record Partly (v : SuperValue) (reached : ℕ) (r : Replica) : Type 0 where
   pub is : r ≡ record (blank v) { parts = r.parts }
   pub size : length r.parts ≡ v.fields.checkpoint + 65 - first_listed v
   pub entries : (k : ℕ) (h : Header) → header_of (part_at r k) ≡ Some h → IsOf v k h
   pub known : (k : ℕ) → v.fields.checkpoint < k → k ≤ reached → k ≤ v.fields.head → knows r k ≡ true
 
-pub first_is : (v : Saved) (n : ℕ) (r : Replica) → Partly v n r → r.first ≡ first_listed v
+pub first_is : (v : SuperValue) (n : ℕ) (r : Replica) → Partly v n r → r.first ≡ first_listed v
 unfolding blank
 first_is v n r h = ap (λ (x : Replica). x.first) h.is
 
-checkpoint_is : (v : Saved) (n : ℕ) (r : Replica) → Partly v n r → r.checkpoint ≡ v.fields.checkpoint
+checkpoint_is : (v : SuperValue) (n : ℕ) (r : Replica) → Partly v n r → r.checkpoint ≡ v.fields.checkpoint
 unfolding blank
 checkpoint_is v n r h = ap (λ (x : Replica). x.checkpoint) h.is
 
-applied_is : (v : Saved) (n : ℕ) (r : Replica) → Partly v n r → r.applied ≡ v.fields.checkpoint
+applied_is : (v : SuperValue) (n : ℕ) (r : Replica) → Partly v n r → r.applied ≡ v.fields.checkpoint
 unfolding blank
 applied_is v n r h = ap (λ (x : Replica). x.applied) h.is
 
-pub partly_spans : (v : Saved) (n : ℕ) (r : Replica) → Value v → Partly v n r → Spans r
+pub partly_spans : (v : SuperValue) (n : ℕ) (r : Replica) → Value v → Partly v n r → Spans r
 partly_spans v n r w h =
     let first = first_is v n r h in
     let checkpoint = checkpoint_is v n r h in
@@ -73,7 +73,7 @@ partly_spans v n r w h =
     record { reach = omega (arith, first, checkpoint); parts = omega (arith, first, checkpoint) }
 
 -- one more Part
-pub partly_part : (v : Saved) (n m k : ℕ) (p : Part) (r : Replica) → Value v → Partly v n r → Right v k p → first_listed v ≤ k → k ≤ v.fields.checkpoint + 64
+pub partly_part : (v : SuperValue) (n m k : ℕ) (p : Part) (r : Replica) → Value v → Partly v n r → Right v k p → first_listed v ≤ k → k ≤ v.fields.checkpoint + 64
     → (m ≤ n) ⊎ ((m ≡ k) × (k ≤ n + 1)) → Partly v m (with_part k p r)
 unfolding with_part
 partly_part v n m k p r w h right a b more =
@@ -108,7 +108,7 @@ partly_part v n m k p r w h right a b more =
 -- ---- the words of an opening
 
 -- what such a word leaves
-pub record Found {F : Type 0} (v : Saved) (n : ℕ) (w : Word F) (s : Setting F) (r : Replica) (f : F) : Type 0 where
+pub record Found {F : Type 0} (v : SuperValue) (n : ℕ) (w : Word F) (s : Setting F) (r : Replica) (f : F) : Type 0 where
   pub partly : Partly v n (w s r f).replica
   pub reads : ReadsHeaders s (after_all s f (w s r f).script)
 
@@ -117,7 +117,7 @@ unfolding after_all
 after_append s f [] b = refl
 after_append s f (e ∷ es) b = after_append s (s.after f e) es b
 
-found_then : {F : Type 0} (v : Saved) (n m : ℕ) (a b : Word F) (s : Setting F) (r : Replica) (f : F) → Found v n a s r f
+found_then : {F : Type 0} (v : SuperValue) (n m : ℕ) (a b : Word F) (s : Setting F) (r : Replica) (f : F) → Found v n a s r f
     → ((q : Replica) (g : F) → Partly v n q → ReadsHeaders s g → Found v m b s q g) → Found v m (a ⨾ b) s r f
 unfolding ◌⨾◌
 found_then v n m a b s r f h k =
@@ -128,15 +128,15 @@ found_then v n m a b s r f h k =
       reads = subst (ReadsHeaders s) (sym (after_append s f one.script (b s one.replica (after_all s f one.script)).script)) two.reads;
     }
 
-found_quiet : {F : Type 0} (v : Saved) (n : ℕ) (s : Setting F) (r : Replica) (f : F) → Partly v n r → ReadsHeaders s f → Found {F = F} v n quiet s r f
+found_quiet : {F : Type 0} (v : SuperValue) (n : ℕ) (s : Setting F) (r : Replica) (f : F) → Partly v n r → ReadsHeaders s f → Found {F = F} v n quiet s r f
 unfolding quiet after_all
 found_quiet v n s r f h k = record { partly = h; reads = k }
 
-found_change : {F : Type 0} (v : Saved) (n : ℕ) (g : Replica → Replica) (s : Setting F) (r : Replica) (f : F) → Partly v n (g r) → ReadsHeaders s f → Found {F = F} v n (change g) s r f
+found_change : {F : Type 0} (v : SuperValue) (n : ℕ) (g : Replica → Replica) (s : Setting F) (r : Replica) (f : F) → Partly v n (g r) → ReadsHeaders s f → Found {F = F} v n (change g) s r f
 unfolding change after_all
 found_change v n g s r f h k = record { partly = h; reads = k }
 
-found_rewrite : {F : Type 0} (v : Saved) (n : ℕ) (o : Option Header) (s : Setting F) (r : Replica) (f : F) → ((h : Header) → o ≡ Some h → IsMending (Rewrite h)) → Partly v n r → ReadsHeaders s f
+found_rewrite : {F : Type 0} (v : SuperValue) (n : ℕ) (o : Option Header) (s : Setting F) (r : Replica) (f : F) → ((h : Header) → o ≡ Some h → IsMending (Rewrite h)) → Partly v n r → ReadsHeaders s f
     → Found v n (rewrite o) s r f
 unfolding does after_all
 found_rewrite v n None s r f is h k = found_quiet v n s r f h k
@@ -146,7 +146,7 @@ entry_header_is : (x : Slot) (o : Option Whole) (h : Header) → x.entry ≡ o �
 entry_header_is x None h at reads e = absurd cc
 entry_header_is x (Some w) h at reads e = let same : w.header ≡ h = cc in subst (λ g. IsMending (Rewrite g)) same (reads.entry w at)
 
-found_mend : {F : Type 0} (v : Saved) (n : ℕ) (x : Slot) (t : Verdict) (s : Setting F) (r : Replica) (f : F) → Reads x → Partly v n r → ReadsHeaders s f → Found v n (mend_slot x t) s r f
+found_mend : {F : Type 0} (v : SuperValue) (n : ℕ) (x : Slot) (t : Verdict) (s : Setting F) (r : Replica) (f : F) → Reads x → Partly v n r → ReadsHeaders s f → Found v n (mend_slot x t) s r f
 found_mend v n x verdict.Rewrite s r f reads h k = found_rewrite v n (entry_header x) s r f (λ g e. entry_header_is x x.entry g refl reads e) h k
 found_mend v n x verdict.Here s r f reads h k = found_quiet v n s r f h k
 found_mend v n x verdict.Lost s r f reads h k = found_quiet v n s r f h k
@@ -155,7 +155,7 @@ found_mend v n x verdict.Nothing s r f reads h k = found_quiet v n s r f h k
 found_mend v n x verdict.Unknown s r f reads h k = found_quiet v n s r f h k
 
 -- an op of the window, above those that are found
-pub found_op : {F : Type 0} (v : Saved) (n : ℕ) (s : Setting F) (r : Replica) (f : F) → Value v → v.fields.checkpoint ≤ n → n < v.fields.checkpoint + 64 → Partly v n r → ReadsHeaders s f
+pub found_op : {F : Type 0} (v : SuperValue) (n : ℕ) (s : Setting F) (r : Replica) (f : F) → Value v → v.fields.checkpoint ≤ n → n < v.fields.checkpoint + 64 → Partly v n r → ReadsHeaders s f
     → Found v (n + 1) (recover_op v (n + 1)) s r f
 unfolding recover_op reading
 found_op v n s r f w a b h k =
@@ -167,7 +167,7 @@ found_op v n s r f w a b h k =
     (λ q g i j. found_change v (n + 1) _ s q g (partly_part v n (n + 1) (n + 1) (part_by v (n + 1) x t) q w i (slot_right v (n + 1) x w reads) (omega arith) (omega arith) (inr (refl, omega arith))) j) in
     record { partly = all.partly; reads = all.reads }
 
-pub found_ops : {F : Type 0} (v : Saved) (n count : ℕ) (s : Setting F) (r : Replica) (f : F) → Value v → v.fields.checkpoint ≤ n → n + count ≤ v.fields.checkpoint + 64 → Partly v n r → ReadsHeaders s f
+pub found_ops : {F : Type 0} (v : SuperValue) (n count : ℕ) (s : Setting F) (r : Replica) (f : F) → Value v → v.fields.checkpoint ≤ n → n + count ≤ v.fields.checkpoint + 64 → Partly v n r → ReadsHeaders s f
     → Found v (n + count) (each (recover_op v) (range_with_len (n + 1) count)) s r f
 unfolding each
 found_ops v n zero s r f w a b h k = let same : n ≡ n + 0 = omega arith in subst (λ m. Found v m quiet s r f) same (found_quiet v n s r f h k)
@@ -180,14 +180,14 @@ found_ops v n (suc count) s r f w a b h k =
 -- ---- ops of the checkpoint
 
 -- of a header of the value's list
-abbrev pub IsOld : Saved → Header → Type 0
+abbrev pub IsOld : SuperValue → Header → Type 0
 IsOld v h = IsOf v h.op h × (first_listed v ≤ h.op)
 
-pub old_right : (v : Saved) (h : Header) (o : Option Whole) → IsOld v h → Right v h.op (old_part h o)
+pub old_right : (v : SuperValue) (h : Header) (o : Option Whole) → IsOld v h → Right v h.op (old_part h o)
 old_right v h None is = right_header v h.op h (part.Lost h) is.0 refl
 old_right v h (Some e) is = right_header v h.op h (part.Here h) is.0 refl
 
-pub found_old : {F : Type 0} (v : Saved) (h : Header) (s : Setting F) (r : Replica) (f : F) → Value v → IsOld v h → h.op ≤ v.fields.checkpoint → Partly v v.fields.checkpoint r → ReadsHeaders s f
+pub found_old : {F : Type 0} (v : SuperValue) (h : Header) (s : Setting F) (r : Replica) (f : F) → Value v → IsOld v h → h.op ≤ v.fields.checkpoint → Partly v v.fields.checkpoint r → ReadsHeaders s f
     → Found v v.fields.checkpoint (recover_old h) s r f
 unfolding recover_old reading
 found_old v h s r f w is a p k =
@@ -196,7 +196,7 @@ found_old v h s r f w is a p k =
     (partly_part v v.fields.checkpoint v.fields.checkpoint h.op (old_part h o) r w p (old_right v h o is) is.1 (omega arith) (inl (omega arith))) k in
     record { partly = at.partly; reads = at.reads }
 
-pub found_olds : {F : Type 0} (v : Saved) (hs : List Header) (s : Setting F) (r : Replica) (f : F) → Value v → ((i : ℕ) (h : Header) → slice_get hs i ≡ Some h → IsOld v h)
+pub found_olds : {F : Type 0} (v : SuperValue) (hs : List Header) (s : Setting F) (r : Replica) (f : F) → Value v → ((i : ℕ) (h : Header) → slice_get hs i ≡ Some h → IsOld v h)
     → Partly v v.fields.checkpoint r → ReadsHeaders s f → Found v v.fields.checkpoint (each recover_old (filter (λ h. nat_le h.op v.fields.checkpoint) hs)) s r f
 unfolding each
 found_olds v [] s r f w are p k = found_quiet v v.fields.checkpoint s r f p k
@@ -209,7 +209,7 @@ found_olds {F} v (h ∷ hs) s r f w are p k =
       | false ↦ λ t. found_olds v hs s r f w later p k
     ] refl
 
-blank_nothing : (v : Saved) (k : ℕ) → part_at (blank v) k ≡ part.Nothing
+blank_nothing : (v : SuperValue) (k : ℕ) → part_at (blank v) k ≡ part.Nothing
 unfolding blank
 blank_nothing v k =
     let r : Replica = blank v in
@@ -223,11 +223,11 @@ blank_nothing v k =
           ]
     ]
 
-blank_size : (v : Saved) → length (blank v).parts ≡ v.fields.checkpoint + 65 - first_listed v
+blank_size : (v : SuperValue) → length (blank v).parts ≡ v.fields.checkpoint + 65 - first_listed v
 unfolding blank
 blank_size v = length-replicate (v.fields.checkpoint + 65 - first_listed v) (part.Nothing)
 
-pub partly_blank : (v : Saved) → Partly v v.fields.checkpoint (blank v)
+pub partly_blank : (v : SuperValue) → Partly v v.fields.checkpoint (blank v)
 partly_blank v = record {
   is = refl;
   size = blank_size v;
@@ -245,14 +245,14 @@ clouded_same b part.Unknown = refl
 clouded_same true part.Nothing = refl
 clouded_same false part.Nothing = refl
 
-pub clouded_header : (v : Saved) (r : Replica) (k : ℕ) → header_of (clouded_at v r k) ≡ header_of (part_at r k)
+pub clouded_header : (v : SuperValue) (r : Replica) (k : ℕ) → header_of (clouded_at v r k) ≡ header_of (part_at r k)
 clouded_header v r k =
     elim (is_listed v k) as (λ b. header_of (cond b (part_at r k) (clouded_part (stored_above r k) (part_at r k))) ≡ header_of (part_at r k)) [
       | true ↦ refl
       | false ↦ clouded_same (stored_above r k) (part_at r k)
     ]
 
-pub partly_clouded : (v : Saved) (n : ℕ) (r : Replica) → Value v → Partly v n r → Partly v n (clouded v r)
+pub partly_clouded : (v : SuperValue) (n : ℕ) (r : Replica) → Value v → Partly v n r → Partly v n (clouded v r)
 unfolding clouded
 partly_clouded v n r w h =
     let s = partly_spans v n r w h in
@@ -277,7 +277,7 @@ pub empty_numbers : HaveNumbers empty.sessions
 unfolding HaveNumbers
 empty_numbers = tt
 
-pub roomy_of : (v : Saved) (n : ℕ) (ps : List Part) → Value v → Partly v n (record (blank v) { parts = ps }) → v.fields.head ≤ n → Roomy (record (blank v) { parts = ps })
+pub roomy_of : (v : SuperValue) (n : ℕ) (ps : List Part) → Value v → Partly v n (record (blank v) { parts = ps }) → v.fields.head ≤ n → Roomy (record (blank v) { parts = ps })
 unfolding blank
 roomy_of v n ps w h l =
     let q : Replica = record (blank v) { parts = ps } in
@@ -311,7 +311,7 @@ forgetting_applied : (r : Replica) → (forgetting r).applied ≡ r.applied
 unfolding forgetting
 forgetting_applied r = refl
 
-pub opened_forgetting : (v : Saved) (n : ℕ) (r : Replica) → Value v → Partly v n r → v.fields.head ≤ n → Opened (forgetting r)
+pub opened_forgetting : (v : SuperValue) (n : ℕ) (r : Replica) → Value v → Partly v n r → v.fields.head ≤ n → Opened (forgetting r)
 opened_forgetting v n r w h l =
     let roomy = roomy_of v n r.parts w (subst (Partly v n) h.is h) l in
     record {
@@ -319,16 +319,16 @@ opened_forgetting v n r w h l =
       applied = forgetting_applied r ∙ applied_is v n r h ∙ sym (checkpoint_is v n r h) ∙ sym (forgetting_checkpoint r);
     }
 
-opened_then : {F : Type 0} (v : Saved) (n : ℕ) (a b : Word F) (s : Setting F) (r : Replica) (f : F) → Found v n a s r f
+opened_then : {F : Type 0} (v : SuperValue) (n : ℕ) (a b : Word F) (s : Setting F) (r : Replica) (f : F) → Found v n a s r f
     → ((q : Replica) (g : F) → Partly v n q → ReadsHeaders s g → Opened (b s q g).replica) → Opened ((a ⨾ b) s r f).replica
 unfolding ◌⨾◌
 opened_then v n a b s r f h k = k (a s r f).replica (after_all s f (a s r f).script) h.partly h.reads
 
-opened_clouded : {F : Type 0} (v : Saved) (n : ℕ) (s : Setting F) (r : Replica) (f : F) → Value v → Partly v n r → v.fields.head ≤ n → Opened ((change {F = F} (clouded v) ⨾ change forgetting) s r f).replica
+opened_clouded : {F : Type 0} (v : SuperValue) (n : ℕ) (s : Setting F) (r : Replica) (f : F) → Value v → Partly v n r → v.fields.head ≤ n → Opened ((change {F = F} (clouded v) ⨾ change forgetting) s r f).replica
 unfolding ◌⨾◌ change
 opened_clouded v n s r f w h l = opened_forgetting v n (clouded v r) w (partly_clouded v n r w h) l
 
-pub recovered : {F : Type 0} (v : Saved) (s : Setting F) (f : F) → Value v → ReadsHeaders s f → Opened (recover_parts v s (blank v) f).replica
+pub recovered : {F : Type 0} (v : SuperValue) (s : Setting F) (f : F) → Value v → ReadsHeaders s f → Opened (recover_parts v s (blank v) f).replica
 unfolding recover_parts
 recovered v s f w k =
     let c : ℕ = v.fields.checkpoint in

@@ -24,7 +24,7 @@ use Rattle.vr_sess.specs.Sessions as sess
 use Rattle.vr_sess.specs.Texts.{session_text, value_from, outcome_of, outcome_from, numbers_from, session_from}
 use Rattle.vr_kv.specs.Kv as kv
 use Rattle.vr_kv.specs.Pairs.{pair_text, pieces_from, pair_from}
-use Rattle.vr_super.specs.Copies.{Saved}
+use Rattle.vr_super.specs.Copies.{SuperValue}
 use Rattle.vr_lie.specs.declared.fault.Fault.{Fault}
 use Rattle.vr_lie.specs.declared.fault.Fault.TheVariants as fault
 use Rattle.vr_grid.specs.declared.name.Name.{Name}
@@ -56,7 +56,7 @@ pub record Kept : Type 0 where
 
 -- what the superblock opens as, and what reads at each of the 64 slots; a checkpoint, whose root may have gone bad
 pub record Plain : Type 0 where
-  pub value : Saved
+  pub value : SuperValue
   pub headers : List (Option Header)
   pub entries : List (Option Whole)
   pub kept : Option Kept
@@ -175,7 +175,7 @@ cut_prepare call code e f =
     else record f { entries = slice_set f.entries (e.header.op % 64) None })
 
 -- two copies are enough for the new value; twenty new sectors are the digits of this code
-abbrev pub cut_value : ℕ → ℕ → Saved → Plain → Plain
+abbrev pub cut_value : ℕ → ℕ → SuperValue → Plain → Plain
 cut_value call code new f =
     if nat_le 42 call || ((call == 41) && (code % 3 ^ 20 == 1743392200)) then record f { value = new } else f
 

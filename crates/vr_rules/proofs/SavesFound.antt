@@ -11,7 +11,7 @@ use Rattle.vr_msg.specs.Choice.{ops}
 use Rattle.vr_msg.specs.Logs.{has_header}
 use Rattle.vr_recover.specs.declared.readings.Verdict.{Verdict}
 use Rattle.vr_recover.specs.declared.readings.Verdict.TheVariants as verdict
-use Rattle.vr_super.specs.Copies.{Saved, IsGood, good_fields, good_member, good_window, good_root, good_count}
+use Rattle.vr_super.specs.Copies.{SuperValue, IsGood, good_fields, good_member, good_window, good_root, good_count}
 use Rattle.vr_rules.specs.Replica.{Replica, head, forgetting, with_part}
 use Rattle.vr_rules.specs.Steps.{Setting, ◌⨾◌, quiet, change, does, reading, each, after_all}
 use Rattle.vr_rules.specs.Words.{entry_of}
@@ -43,7 +43,7 @@ set_keeps c k p r a b is e =
 abbrev pub Lists : ℕ → List Header → Type 0
 Lists c hs = (i : ℕ) × (h : Header) × (slice_get hs i ≡ Some h) × (h.op ≡ c)
 
-old_known : {F : Type 0} (v : Saved) (h : Header) (s : Setting F) (r : Replica) (f : F) → Value v → IsOld v h → h.op ≤ v.fields.checkpoint → Partly v v.fields.checkpoint r
+old_known : {F : Type 0} (v : SuperValue) (h : Header) (s : Setting F) (r : Replica) (f : F) → Value v → IsOld v h → h.op ≤ v.fields.checkpoint → Partly v v.fields.checkpoint r
     → (knows r v.fields.checkpoint ≡ true) ⊎ (v.fields.checkpoint ≡ h.op) → knows (recover_old h s r f).replica v.fields.checkpoint ≡ true
 unfolding recover_old reading change
 old_known v h s r f w is a p e =
@@ -53,7 +53,7 @@ old_known v h s r f w is a p e =
     let low = is.1 in
     set_keeps v.fields.checkpoint h.op (old_part h (entry_of h s f)) r (omega (arith, first)) (omega (arith, first)) (λ _. known_old h (entry_of h s f)) e
 
-this_or_later : {F : Type 0} (v : Saved) (h : Header) (hs : List Header) (s : Setting F) (r : Replica) (f : F) → Value v → IsOld v h → h.op ≤ v.fields.checkpoint → Partly v v.fields.checkpoint r
+this_or_later : {F : Type 0} (v : SuperValue) (h : Header) (hs : List Header) (s : Setting F) (r : Replica) (f : F) → Value v → IsOld v h → h.op ≤ v.fields.checkpoint → Partly v v.fields.checkpoint r
     → (knows r v.fields.checkpoint ≡ true) ⊎ Lists v.fields.checkpoint (h ∷ hs) → (knows (recover_old h s r f).replica v.fields.checkpoint ≡ true) ⊎ Lists v.fields.checkpoint hs
 this_or_later v h hs s r f w is a p (inl e) = inl (old_known v h s r f w is a p (inl e))
 this_or_later v h hs s r f w is a p (inr (zero, g, at, op)) = let same : h ≡ g = cc in inl (old_known v h s r f w is a p (inr (sym op ∙ sym (ap (λ (x : Header). x.op) same))))
@@ -64,7 +64,7 @@ only_later c h hs r l (inl e) = inl e
 only_later c h hs r l (inr (zero, g, at, op)) = let same : h ≡ g = cc in let o : h.op ≡ g.op = ap (λ (x : Header). x.op) same in absurd (omega arith)
 only_later c h hs r l (inr (suc i, g, at, op)) = inr (i, g, at, op)
 
-olds_known : {F : Type 0} (v : Saved) (hs : List Header) (s : Setting F) (r : Replica) (f : F) → Value v → ((i : ℕ) (h : Header) → slice_get hs i ≡ Some h → IsOld v h)
+olds_known : {F : Type 0} (v : SuperValue) (hs : List Header) (s : Setting F) (r : Replica) (f : F) → Value v → ((i : ℕ) (h : Header) → slice_get hs i ≡ Some h → IsOld v h)
     → Partly v v.fields.checkpoint r → ReadsHeaders s f → (knows r v.fields.checkpoint ≡ true) ⊎ Lists v.fields.checkpoint hs
     → knows (each recover_old (filter (λ h. nat_le h.op v.fields.checkpoint) hs) s r f).replica v.fields.checkpoint ≡ true
 unfolding each quiet ◌⨾◌
@@ -96,7 +96,7 @@ unfolding quiet
 mend_same x verdict.Rewrite s r f = rewrite_same (entry_header x) s r f
 mend_same x _ s r f = refl
 
-op_known : {F : Type 0} (v : Saved) (n : ℕ) (s : Setting F) (r : Replica) (f : F) → Value v → v.fields.checkpoint ≤ n → n < v.fields.checkpoint + 64 → Partly v n r
+op_known : {F : Type 0} (v : SuperValue) (n : ℕ) (s : Setting F) (r : Replica) (f : F) → Value v → v.fields.checkpoint ≤ n → n < v.fields.checkpoint + 64 → Partly v n r
     → knows r v.fields.checkpoint ≡ true → knows (recover_op v (n + 1) s r f).replica v.fields.checkpoint ≡ true
 unfolding recover_op reading change ◌⨾◌
 op_known v n s r f w a b p e =
@@ -107,7 +107,7 @@ op_known v n s r f w a b p e =
     let size = p.size in
     rw (mend_same x t s r f) (set_keeps v.fields.checkpoint (n + 1) (part_by v (n + 1) x t) r (omega (arith, first)) (omega (arith, first)) (λ q. absurd (omega (arith, q))) (inl e))
 
-ops_known : {F : Type 0} (v : Saved) (n count : ℕ) (s : Setting F) (r : Replica) (f : F) → Value v → v.fields.checkpoint ≤ n → n + count ≤ v.fields.checkpoint + 64 → Partly v n r → ReadsHeaders s f
+ops_known : {F : Type 0} (v : SuperValue) (n count : ℕ) (s : Setting F) (r : Replica) (f : F) → Value v → v.fields.checkpoint ≤ n → n + count ≤ v.fields.checkpoint + 64 → Partly v n r → ReadsHeaders s f
     → knows r v.fields.checkpoint ≡ true → knows (each (recover_op v) (range_with_len (n + 1) count) s r f).replica v.fields.checkpoint ≡ true
 unfolding each quiet ◌⨾◌
 ops_known v n zero s r f w a b p k e = e
@@ -116,7 +116,7 @@ ops_known v n (suc count) s r f w a b p k e =
     let x = recover_op v (n + 1) s r f in
     ops_known v (n + 1) count s x.replica (after_all s f x.script) w (omega arith) (omega arith) found.partly found.reads (op_known v n s r f w a (omega arith) p e)
 
-pub clouded_known : (v : Saved) (n k : ℕ) (r : Replica) → Value v → Partly v n r → knows r k ≡ true → knows (clouded v r) k ≡ true
+pub clouded_known : (v : SuperValue) (n k : ℕ) (r : Replica) → Value v → Partly v n r → knows r k ≡ true → knows (clouded v r) k ≡ true
 unfolding clouded
 clouded_known v n k r w p e =
     let sp = partly_spans v n r w p in
@@ -127,18 +127,18 @@ clouded_known v n k r w p e =
 -- ---- at the head
 
 -- the list has the header of the value's head
-pub lists_head : (v : Saved) → Value v → 0 < length v.headers → Lists v.fields.head v.headers
+pub lists_head : (v : SuperValue) → Value v → 0 < length v.headers → Lists v.fields.head v.headers
 lists_head v w some =
     let there = log_reaches v.headers (length v.headers - 1) (omega arith) in
     let is = (w.each (length v.headers - 1) there.0 there.1).1 in
     let first = w.first in
     (length v.headers - 1, there.0, there.1, omega (arith, is.at_op))
 
-blank_checkpoint : (v : Saved) → (blank v).checkpoint ≡ v.fields.checkpoint
+blank_checkpoint : (v : SuperValue) → (blank v).checkpoint ≡ v.fields.checkpoint
 unfolding blank
 blank_checkpoint v = refl
 
-pub found_topped : (v : Saved) (n : ℕ) (r : Replica) → Value v → Partly v n r → v.fields.head ≤ n → (v.fields.head ≡ v.fields.checkpoint → 0 < v.fields.head → knows r v.fields.checkpoint ≡ true) → Topped r
+pub found_topped : (v : SuperValue) (n : ℕ) (r : Replica) → Value v → Partly v n r → v.fields.head ≤ n → (v.fields.head ≡ v.fields.checkpoint → 0 < v.fields.head → knows r v.fields.checkpoint ≡ true) → Topped r
 found_topped v n r w p l last some =
     let s = partly_spans v n r w p in
     let c : r.checkpoint ≡ v.fields.checkpoint = ap (λ (x : Replica). x.checkpoint) p.is ∙ blank_checkpoint v in
@@ -155,7 +155,7 @@ found_topped v n r w p l last some =
 
 -- ---- what is recovered
 
-pub savable_found : (v : Saved) (ps : List Part) → IsGood v → Topped (record (blank v) { parts = ps }) → IsSavable (record (blank v) { parts = ps })
+pub savable_found : (v : SuperValue) (ps : List Part) → IsGood v → Topped (record (blank v) { parts = ps }) → IsSavable (record (blank v) { parts = ps })
 unfolding blank good_fields
 savable_found v ps g top =
     let k = v.fields in
@@ -182,7 +182,7 @@ pub savable_forgetting : (r : Replica) → IsSavable r → Topped (forgetting r)
 unfolding forgetting
 savable_forgetting r v top = record { cluster = v.cluster; view = v.view; log_view = v.log_view; address = v.address; name = v.name; none = v.none; top = top }
 
-pub list_size : (v : Saved) → IsGood v → 0 < v.fields.head → 0 < length v.headers
+pub list_size : (v : SuperValue) → IsGood v → 0 < v.fields.head → 0 < length v.headers
 unfolding good_fields
 list_size v g some =
     let k = v.fields in
@@ -194,7 +194,7 @@ list_size v g some =
     let least = leb-true (min k.head 1) n (and_parts (nat_le (k.head - k.checkpoint) n) (nat_le (min k.head 1) n) d.0).1 in
     omega arith
 
-pub savable_recovered : {F : Type 0} (v : Saved) (s : Setting F) (f : F) → IsGood v → Value v → ReadsHeaders s f → IsSavable (recover_parts v s (blank v) f).replica
+pub savable_recovered : {F : Type 0} (v : SuperValue) (s : Setting F) (f : F) → IsGood v → Value v → ReadsHeaders s f → IsSavable (recover_parts v s (blank v) f).replica
 unfolding recover_parts ◌⨾◌ change
 savable_recovered v s f g w k =
     let c : ℕ = v.fields.checkpoint in

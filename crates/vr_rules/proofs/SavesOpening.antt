@@ -6,7 +6,7 @@ use Rattle.std.proofs.lemmas.List.Elements.{All-nil, All-cons, All-append, All-m
 use Rattle.vr_header.specs.declared.header.Header.{Header}
 use Rattle.vr_recover.specs.declared.readings.Verdict.{Verdict}
 use Rattle.vr_recover.specs.declared.readings.Verdict.TheVariants as verdict
-use Rattle.vr_super.specs.Copies.{Saved}
+use Rattle.vr_super.specs.Copies.{SuperValue}
 use Rattle.vr_rules.specs.Replica.{Replica, head, part_at, is_spent, is_started, is_primary, leads, last_view}
 use Rattle.vr_rules.specs.Steps.{Effect, Mend, Say, Setting, Word, ◌⨾◌, quiet, change, does, says, by, reading, each, after_all}
 use Rattle.vr_rules.specs.Outputs.{send_to_all, start_view_change, start_line}
@@ -63,7 +63,7 @@ module _ {F : Type 0} where
   unsaved_mend x verdict.Rewrite = unsaved_rewrite _
   unsaved_mend x _ = unsaved_quiet
 
-  unsaved_recover : (v : Saved) → Unsaved {F = F} (recover_parts v)
+  unsaved_recover : (v : SuperValue) → Unsaved {F = F} (recover_parts v)
   unfolding recover_parts recover_old recover_op
   unsaved_recover v =
       unsaved_then _ _ (unsaved_each _ _ (λ h. unsaved_reading _ _ (λ e. unsaved_change _)))
@@ -127,7 +127,7 @@ saves_then s r f a b h k =
     let x = a s r f in
     record { each = All-append IsGoodSave x.script (b s x.replica (after_all s f x.script)).script h k.each; savable = k.savable }
 
-recover_saves : {F : Type 0} (s : Setting F) (v : Saved) (f : F) (b : Word F) → SavesWell (b s (recover_parts v s (blank v) f).replica (after_all s f (recover_parts v s (blank v) f).script))
+recover_saves : {F : Type 0} (s : Setting F) (v : SuperValue) (f : F) (b : Word F) → SavesWell (b s (recover_parts v s (blank v) f).replica (after_all s f (recover_parts v s (blank v) f).script))
     → SavesWell ((recover_parts v ⨾ b) s (blank v) f)
 recover_saves s v f b k = saves_then s (blank v) f (recover_parts v) b ((unsaved_recover v).all s (blank v) f) k
 

@@ -2,7 +2,7 @@
 use Rattle.std.proofs.Common.{arith, ◌≡◌, ◌⊎◌, ◌≤◌, ◌<◌, ◌+◌, ◌-◌, ◌^◌, inl, inr, refl, sym, ap, ◌∙◌, subst, ℕ, true, List, Some, is_some}
 use Rattle.std.specs.Prelude.{nat_lt, nat_le, nat_eq, ◌&&◌, ◌||◌}
 use Rattle.std.proofs.lemmas.Bool.{and_parts, or_cases, cases_lt, ltb-true, eqb-true, le-leb}
-use Rattle.vr_ckpt.specs.declared.saving.Saved as checkpoint
+use Rattle.vr_ckpt.specs.declared.saving.SavedCheckpoint as checkpoint
 use Rattle.vr_header.specs.declared.header.Header.{Header}
 use Rattle.vr_header.specs.declared.part.Part.{Part}
 use Rattle.vr_header.specs.declared.part.Part.TheVariants.{Here, Lost}
@@ -81,7 +81,7 @@ savable_entered view r l v = record { cluster = v.cluster; view = l; log_view = 
 
 -- ---- a checkpoint is made
 
-pub topped_moved : (c : checkpoint.Saved) (e : Whole) (r : Replica) → IsSound r → r.applied < r.commit → Topped (moved c e r)
+pub topped_moved : (c : checkpoint.SavedCheckpoint) (e : Whole) (r : Replica) → IsSound r → r.applied < r.commit → Topped (moved c e r)
 topped_moved c e r h a some =
     let same = moved_head c e r h a in
     let known = h.order.known in
@@ -89,7 +89,7 @@ topped_moved c e r h a some =
     let at : knows (moved c e r) (head r) ≡ true = ap has_header (moved_at c e r (head r)) ∙ head_knows r (head r) (spans_of r h) (omega arith) (omega arith) in
     subst (λ k. knows (moved c e r) k ≡ true) (sym same) at
 
-pub savable_move : (c : checkpoint.Saved) (r : Replica) → c.root.address < 128 → IsNameBytes c.root.sum.0 → 0 < r.applied → IsSavable r → Topped (with_checkpoint c r) → IsSavable (with_checkpoint c r)
+pub savable_move : (c : checkpoint.SavedCheckpoint) (r : Replica) → c.root.address < 128 → IsNameBytes c.root.sum.0 → 0 < r.applied → IsSavable r → Topped (with_checkpoint c r) → IsSavable (with_checkpoint c r)
 unfolding with_checkpoint
 savable_move c r a b some v top =
     record { cluster = v.cluster; view = v.view; log_view = v.log_view; address = a; name = b; none = λ e. absurd (omega (arith, e, some)); top = top }

@@ -8,7 +8,7 @@ use Rattle.std.proofs.lemmas.List.FromFn.{length-range_with_len}
 use Rattle.std.proofs.lemmas.List.Sums.{prefix_len-le-length}
 use Rattle.vr_ckpt.specs.declared.found.Load.{Load}
 use Rattle.vr_ckpt.specs.declared.found.Load.TheVariants.{Loaded, Missing}
-use Rattle.vr_ckpt.specs.declared.table.Table.{Table}
+use Rattle.vr_ckpt.specs.declared.table.PayloadTable.{PayloadTable}
 use Rattle.vr_apply.specs.declared.state.State.{State}
 use Rattle.vr_apply.specs.Texts.{state_decoded}
 use Rattle.vr_table.specs.declared.fault.StateFault.{StateFault}
@@ -56,7 +56,7 @@ record Unloaded (r q : Replica) : Type 0 where
   body_same : body q ≡ body r
   saved_same : q.saved ≡ r.saved
 
-state_leaves : (root : Name) (table : Table) (o : Result State StateFault) (r : Replica) → Unloaded r (loaded_state root table o r)
+state_leaves : (root : Name) (table : PayloadTable) (o : Result State StateFault) (r : Replica) → Unloaded r (loaded_state root table o r)
 unfolding with_state
 state_leaves root table (Ok t) r = record { body_same = refl; saved_same = refl }
 state_leaves root table (Err fault) r = record { body_same = refl; saved_same = refl }

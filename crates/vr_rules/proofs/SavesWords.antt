@@ -5,7 +5,7 @@ use Rattle.std.proofs.lemmas.Bool.{and_parts, ltb-true, ltb-false, eqb-true, eqb
 use Rattle.std.proofs.lemmas.List.{nil_from_length}
 use Rattle.vr_rules.proofs.Wording.{entry_numbered, read_is}
 use Rattle.vr_msg.specs.Numbers.{IsNumber}
-use Rattle.vr_ckpt.specs.declared.saving.Saved as checkpoint
+use Rattle.vr_ckpt.specs.declared.saving.SavedCheckpoint as checkpoint
 use Rattle.vr_apply.specs.Texts.{texts_of}
 use Rattle.vr_grid.specs.declared.name.Name.{Name}
 use Rattle.vr_header.specs.declared.header.Header.{Header}
@@ -43,11 +43,11 @@ unfolding entered
 well_entered v n view r a b c h =
     record { sound = (kept_entered view r h.sound a).sound; savable = savable_entered view r (omega arith) h.savable; view = b; room = h.room }
 
-savable_moved : (c : checkpoint.Saved) (e : Whole) (r : Replica) → c.root.address < 128 → IsNameBytes c.root.sum.0 → IsSound r → r.applied < r.commit → IsSavable r
+savable_moved : (c : checkpoint.SavedCheckpoint) (e : Whole) (r : Replica) → c.root.address < 128 → IsNameBytes c.root.sum.0 → IsSound r → r.applied < r.commit → IsSavable r
     → IsSavable (with_checkpoint c (applied e r))
 savable_moved c e r a b h l w = savable_move c (applied e r) a b (omega arith) (savable_alike r (applied e r) refl w) (topped_moved c e r h l)
 
-well_moved : (v n : ℕ) (c : checkpoint.Saved) (e : Whole) (r : Replica) → c.root.address < 128 → IsNameBytes c.root.sum.0 → IsNumber e.header.op → r.applied < r.commit → r.missing ≡ [] → (r.applied + 1) % 32 ≡ 0
+well_moved : (v n : ℕ) (c : checkpoint.SavedCheckpoint) (e : Whole) (r : Replica) → c.root.address < 128 → IsNameBytes c.root.sum.0 → IsNumber e.header.op → r.applied < r.commit → r.missing ≡ [] → (r.applied + 1) % 32 ≡ 0
     → Well v n r → Well v n (with_checkpoint c (applied e r))
 unfolding with_checkpoint
 well_moved v n c e r a b k l m d h =
@@ -143,7 +143,7 @@ module _ {F : Type 0} (v : ℕ) (s : Setting F) (roots : SavesRoots s) where
   unfolding make_checkpoint
   good_checkpoint n e r f k a m d h =
       let q : Replica = applied e r in
-      let c : checkpoint.Saved = checkpoint_of q s f in
+      let c : checkpoint.SavedCheckpoint = checkpoint_of q s f in
       good_by v s n _ q f (good_reading v s n (checkpoint_of q) _ q f (good_does_then v s n checkpoints _ q f tt (λ x.
       good_change_then v s n (with_checkpoint c) save q x (λ y. (goods_save v s).every n (with_checkpoint c q) y
       (well_moved v (n + 1) c e r (roots.address q.cluster (texts_of q.state) q.applied q.table) (roots.name q.cluster (texts_of q.state) q.applied q.table) k a m d h)))))

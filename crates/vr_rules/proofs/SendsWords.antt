@@ -11,7 +11,7 @@ use Rattle.vr_header.specs.Made.{Whole}
 use Rattle.vr_grid.specs.declared.name.Name.{Name}
 use Rattle.vr_ckpt.specs.declared.found.Load.{Load}
 use Rattle.vr_ckpt.specs.declared.found.Load.TheVariants.{Loaded, Missing}
-use Rattle.vr_ckpt.specs.declared.table.Table.{Table}
+use Rattle.vr_ckpt.specs.declared.table.PayloadTable.{PayloadTable}
 use Rattle.vr_apply.specs.declared.state.State.{State}
 use Rattle.vr_apply.specs.Texts.{state_decoded}
 use Rattle.vr_table.specs.declared.fault.StateFault.{StateFault}
@@ -82,7 +82,7 @@ primary_is r h e =
     let below : r.view % r.n < r.n = mod_below r.view r.n (omega arith) in
     (below, λ (q : r.view % r.n ≡ r.index). eqb-false r.index (r.view % r.n) e (sym q))
 
-state_place : (root : Name) (table : Table) (x : Result State StateFault) (r : Replica) → place (words.loaded_state root table x r) ≡ place r
+state_place : (root : Name) (table : PayloadTable) (x : Result State StateFault) (r : Replica) → place (words.loaded_state root table x r) ≡ place r
 unfolding words.with_state
 state_place root table (Ok s) r = refl
 state_place root table (Err fault) r = refl

@@ -19,14 +19,14 @@ use Rattle.vr_recover.specs.declared.readings.HeaderReading.TheVariants as heade
 use Rattle.vr_recover.specs.declared.readings.PrepareReading.TheVariants as prepare
 use Rattle.vr_recover.specs.Verdict.{verdict_of}
 use Rattle.vr_super.specs.declared.fields.Fields.{Fields}
-use Rattle.vr_super.specs.Copies.{Saved, IsGood, are_listed, first_op, good_fields, good_member, good_window, good_root, good_count}
+use Rattle.vr_super.specs.Copies.{SuperValue, IsGood, are_listed, first_op, good_fields, good_member, good_window, good_root, good_count}
 use Rattle.vr_super.specs.Copies as copies
 use Rattle.vr_rules.specs.Opening.{first_listed, listed, is_listed, is_right, may_be, Slot, header_kind, entry_fits, slot_verdict, some_part, entry_header, part_by}
 use Rattle.vr_rules.proofs.Taking.{log_reaches}
 
 -- ---- a value that makes a good copy
 
-pub record Value (v : Saved) : Type 0 where
+pub record Value (v : SuperValue) : Type 0 where
   pub size : is_some (quorums_of v.fields.n) ≡ true
   pub member : v.fields.replica < v.fields.n
   pub views : v.fields.log_view ≤ v.fields.view
@@ -79,7 +79,7 @@ list_is f op (g ∷ hs) (suc i) h a b c all e at =
     let place : op + 1 + i ≡ op + suc i = omega arith in
     subst (λ k. IsHeader h × IsEntryAt f.cluster f.log_view k h) place (list_is f (op + 1) hs i h (omega arith) (omega arith) c all.1 t.1 at)
 
-pub value_is : (v : Saved) → IsGood v → Value v
+pub value_is : (v : SuperValue) → IsGood v → Value v
 unfolding good_fields
 value_is v g =
     let f = v.fields in
@@ -123,7 +123,7 @@ value_is v g =
 -- ---- a slot
 
 -- of an op's header: it is that of an entry for it, of the last log view at most
-abbrev pub IsOf : Saved → ℕ → Header → Type 0
+abbrev pub IsOf : SuperValue → ℕ → Header → Type 0
 IsOf v k h = IsHeader h × IsEntryAt v.fields.cluster v.fields.log_view k h
 
 -- what reads has the values that a header has
@@ -131,7 +131,7 @@ pub record Reads (x : Slot) : Type 0 where
   pub header : (h : Header) → x.header ≡ Some h → IsHeader h
   pub entry : (e : Whole) → x.entry ≡ Some e → IsHeader e.header
 
-listed_header : (v : Saved) (k : ℕ) (h : Header) → Value v → listed v k ≡ Some h → IsOf v k h
+listed_header : (v : SuperValue) (k : ℕ) (h : Header) → Value v → listed v k ≡ Some h → IsOf v k h
 listed_header v k h w e =
     elim (cases_lt k (first_listed v)) [
       | inl before ↦ let no_header : None ≡ Some h = rw (lt-ltb k (first_listed v) before) at e in absurd cc
@@ -141,21 +141,21 @@ listed_header v k h w e =
           subst (λ j. IsOf v j h) place (w.each (k - first_listed v) h there)
     ]
 
-listed_there : (v : Saved) (k : ℕ) → Value v → v.fields.checkpoint < k → k ≤ v.fields.head → (h : Header) × (listed v k ≡ Some h)
+listed_there : (v : SuperValue) (k : ℕ) → Value v → v.fields.checkpoint < k → k ≤ v.fields.head → (h : Header) × (listed v k ≡ Some h)
 listed_there v k w a b =
     let first = w.first in
     let reach = w.reach in
     let there = log_reaches v.headers (k - first_listed v) (omega arith) in
     (there.0, rw (le-ltb k (first_listed v) (omega arith)) (there.1))
 
-right_view : (v : Saved) (k : ℕ) (h : Header) (o : Option Header) → Value v → listed v k ≡ o → option_map_or (same_header h) o false ≡ true → h.view ≤ v.fields.log_view
+right_view : (v : SuperValue) (k : ℕ) (h : Header) (o : Option Header) → Value v → listed v k ≡ o → option_map_or (same_header h) o false ≡ true → h.view ≤ v.fields.log_view
 right_view v k h None w l e = absurd cc
 right_view v k h (Some d) w l e =
     let same = same_header_is h d e in
     let view = (listed_header v k d w l).1.made in
     omega (arith, view, ap (λ (x : Header). x.view) same)
 
-may_be_is : (v : Saved) (k : ℕ) (h : Header) → Value v → IsHeader h → may_be v k h ≡ true → IsOf v k h
+may_be_is : (v : SuperValue) (k : ℕ) (h : Header) → Value v → IsHeader h → may_be v k h ≡ true → IsOf v k h
 may_be_is v k h w is e =
     let a = and_parts (is_entry_header h) _ e in
     let b = and_parts (h.cluster == v.fields.cluster) _ a.1 in
@@ -168,18 +168,18 @@ may_be_is v k h w is e =
     (is, record { entry = entry_header_of h a.0; of_group = eqb-true h.cluster v.fields.cluster b.0; at_op = eqb-true h.op k c.0; made = view })
 
 -- what a Part may be that an opening finds
-pub record Right (v : Saved) (k : ℕ) (p : Part) : Type 0 where
+pub record Right (v : SuperValue) (k : ℕ) (p : Part) : Type 0 where
   pub header : (h : Header) → header_of p ≡ Some h → IsOf v k h
   pub known : v.fields.checkpoint < k → k ≤ v.fields.head → has_header p ≡ true
 
-pub right_header : (v : Saved) (k : ℕ) (h : Header) (p : Part) → IsOf v k h → header_of p ≡ Some h → Right v k p
+pub right_header : (v : SuperValue) (k : ℕ) (h : Header) (p : Part) → IsOf v k h → header_of p ≡ Some h → Right v k p
 right_header v k h p is e =
     record {
       header = λ g i. let same : h ≡ g = search (rules, e, i) in subst (IsOf v k) same is;
       known = λ a b. rw e refl;
     }
 
-right_none : (v : Saved) (k : ℕ) (p : Part) → is_listed v k ≡ false → header_of p ≡ None → Right v k p
+right_none : (v : SuperValue) (k : ℕ) (p : Part) → is_listed v k ≡ false → header_of p ≡ None → Right v k p
 right_none v k p n e =
     record {
       header = λ g i. let no_header : None ≡ Some g = sym e ∙ i in absurd cc;
@@ -187,7 +187,7 @@ right_none v k p n e =
     }
 
 -- a Part that is made of a header that may be missing
-right_some : (v : Saved) (k : ℕ) (make : Header → Part) (o : Option Header) → ((h : Header) → header_of (make h) ≡ Some h) → ((h : Header) → o ≡ Some h → IsOf v k h)
+right_some : (v : SuperValue) (k : ℕ) (make : Header → Part) (o : Option Header) → ((h : Header) → header_of (make h) ≡ Some h) → ((h : Header) → o ≡ Some h → IsOf v k h)
     → (v.fields.checkpoint < k → k ≤ v.fields.head → (h : Header) × (o ≡ Some h)) → Right v k (some_part make o)
 right_some v k make None m is there =
     record {
@@ -196,16 +196,16 @@ right_some v k make None m is there =
     }
 right_some v k make (Some h) m is there = right_header v k h (make h) (is h refl) (m h)
 
-right_named : (v : Saved) (k : ℕ) (make : Header → Part) → ((h : Header) → header_of (make h) ≡ Some h) → Value v → Right v k (some_part make (listed v k))
+right_named : (v : SuperValue) (k : ℕ) (make : Header → Part) → ((h : Header) → header_of (make h) ≡ Some h) → Value v → Right v k (some_part make (listed v k))
 right_named v k make m w = right_some v k make (listed v k) m (λ h e. listed_header v k h w e) (λ a b. listed_there v k w a b)
 
 -- where a prepare fits
-right_entry : (v : Saved) (k : ℕ) (x : Slot) (e : Whole) → Value v → Reads x → x.entry ≡ Some e → entry_fits v k x e ≡ true → Right v k (part.Here e.header)
+right_entry : (v : SuperValue) (k : ℕ) (x : Slot) (e : Whole) → Value v → Reads x → x.entry ≡ Some e → entry_fits v k x e ≡ true → Right v k (part.Here e.header)
 right_entry v k x e w reads at t =
     right_header v k e.header (part.Here e.header) (may_be_is v k e.header w (reads.entry e at) (and_parts (may_be v k e.header) _ t).0) refl
 
 -- where none does: by the header sector, and by whether the op is named
-right_unread : (v : Saved) (k : ℕ) (x : Slot) (o : Option Header) (named : Bool) → Value v → Reads x → x.header ≡ o → is_listed v k ≡ named
+right_unread : (v : SuperValue) (k : ℕ) (x : Slot) (o : Option Header) (named : Bool) → Value v → Reads x → x.header ≡ o → is_listed v k ≡ named
     → Right v k (part_by v k x (verdict_of (header_kind v k o) prepare.Not named))
 right_unread v k x None true w reads e n = rw n (right_named v k part.Lost (λ h. refl) w)
 right_unread v k x None false w reads e n = right_none v k part.Unknown n refl
@@ -223,12 +223,12 @@ right_unread v k x (Some h) named w reads e n =
           ] n
     ] refl
 
-fits_here : (v : Saved) (k : ℕ) (x : Slot) (kind : HeaderReading) (named : Bool) → part_by v k x (verdict_of kind prepare.Fits named) ≡ some_part part.Here (entry_header x)
+fits_here : (v : SuperValue) (k : ℕ) (x : Slot) (kind : HeaderReading) (named : Bool) → part_by v k x (verdict_of kind prepare.Fits named) ≡ some_part part.Here (entry_header x)
 fits_here v k x header.Fits named = refl
 fits_here v k x header.Other named = refl
 fits_here v k x header.Bad named = refl
 
-right_by : (v : Saved) (k : ℕ) (x : Slot) (o : Option Whole) → Value v → Reads x → x.entry ≡ o
+right_by : (v : SuperValue) (k : ℕ) (x : Slot) (o : Option Whole) → Value v → Reads x → x.entry ≡ o
     → Right v k (part_by v k x (verdict_of (header_kind v k x.header) (cond (option_map_or (entry_fits v k x) o false) prepare.Fits prepare.Not) (is_listed v k)))
 right_by v k x None w reads e = right_unread v k x x.header (is_listed v k) w reads refl refl
 right_by v k x (Some e) w reads at =
@@ -238,5 +238,5 @@ right_by v k x (Some e) w reads at =
     ] refl
 
 -- a slot's Part
-pub slot_right : (v : Saved) (k : ℕ) (x : Slot) → Value v → Reads x → Right v k (part_by v k x (slot_verdict v k x))
+pub slot_right : (v : SuperValue) (k : ℕ) (x : Slot) → Value v → Reads x → Right v k (part_by v k x (slot_verdict v k x))
 slot_right v k x w reads = right_by v k x x.entry w reads refl

@@ -7,7 +7,7 @@ use Rattle.vr_msg.specs.Numbers.{IsNumber}
 use Rattle.vr_apply.proofs.Numbers.{numbers_kept}
 use Rattle.vr_apply.specs.Folds as state
 use Rattle.vr_base.specs.Replicas.{no_replicas}
-use Rattle.vr_ckpt.specs.declared.saving.Saved as checkpoint
+use Rattle.vr_ckpt.specs.declared.saving.SavedCheckpoint as checkpoint
 use Rattle.vr_header.specs.declared.header.Header.{Header}
 use Rattle.vr_header.specs.declared.part.Part.{Part}
 use Rattle.vr_header.specs.declared.part.Part.TheVariants.{Here, Lost, Nothing}
@@ -158,14 +158,14 @@ more_nothing ps n i =
     ]
 
 -- a replica whose window has moved up
-abbrev pub moved : checkpoint.Saved → Whole → Replica → Replica
+abbrev pub moved : checkpoint.SavedCheckpoint → Whole → Replica → Replica
 moved c e r = with_checkpoint c (applied e r)
 
-pub moved_at : (c : checkpoint.Saved) (e : Whole) (r : Replica) (k : ℕ) → part_at (moved c e r) k ≡ part_at r k
+pub moved_at : (c : checkpoint.SavedCheckpoint) (e : Whole) (r : Replica) (k : ℕ) → part_at (moved c e r) k ≡ part_at r k
 unfolding with_checkpoint part_at
 moved_at c e r k = ap (λ p. cond (nat_lt k r.first) Nothing p) (more_nothing r.parts (r.applied + 1 - r.checkpoint) (k - r.first))
 
-moved_spans : (c : checkpoint.Saved) (e : Whole) (r : Replica) → IsSound r → Spans (moved c e r)
+moved_spans : (c : checkpoint.SavedCheckpoint) (e : Whole) (r : Replica) → IsSound r → Spans (moved c e r)
 unfolding with_checkpoint
 moved_spans c e r h =
     let reach = h.lists.reach in
@@ -176,7 +176,7 @@ moved_spans c e r h =
     let more = length-replicate n (Nothing) in
     record { reach = omega arith; parts = omega (arith, size, more) }
 
-pub moved_head : (c : checkpoint.Saved) (e : Whole) (r : Replica) → IsSound r → r.applied < r.commit → head (moved c e r) ≡ head r
+pub moved_head : (c : checkpoint.SavedCheckpoint) (e : Whole) (r : Replica) → IsSound r → r.applied < r.commit → head (moved c e r) ≡ head r
 unfolding with_checkpoint
 moved_head c e r h a =
     let n : ℕ = r.applied + 1 - r.checkpoint in
@@ -193,7 +193,7 @@ moved_head c e r h a =
     ]) in
     omega (arith, up, down)
 
-pub kept_moved : (c : checkpoint.Saved) (e : Whole) (r : Replica) → IsSound r → IsNumber e.header.op → r.applied < r.commit → r.missing ≡ [] → (r.applied + 1) % 32 ≡ 0 → Kept r (moved c e r)
+pub kept_moved : (c : checkpoint.SavedCheckpoint) (e : Whole) (r : Replica) → IsSound r → IsNumber e.header.op → r.applied < r.commit → r.missing ≡ [] → (r.applied + 1) % 32 ≡ 0 → Kept r (moved c e r)
 unfolding with_checkpoint
 kept_moved c e r h k a m d =
     let n : ℕ = r.applied + 1 - r.checkpoint in

@@ -14,7 +14,7 @@ use Rattle.vr_header.specs.Spelling.{IsHeader}
 use Rattle.vr_msg.specs.declared.choice.Choice.{Choice}
 use Rattle.vr_msg.specs.declared.choice.Choice.TheVariants.{Ends, WaitsAt, TooFew}
 use Rattle.vr_msg.specs.declared.statement.Statement.{Statement}
-use Rattle.vr_msg.specs.Choice.{IsChoice, choice, chosen_header, farthest, header_at, log_start, named, named_by, ops, start_of, top_commit, top_view}
+use Rattle.vr_msg.specs.Choice.{IsChoice, choice, chosen_header, farthest, stated_header, log_start, named, named_by, ops, start_of, top_commit, top_view}
 use Rattle.vr_msg.specs.Logs.{FromOp, IsEntryAt, IsStatement, header_of}
 use Rattle.vr_msg.specs.Spelling.{AreHeaders}
 use Rattle.vr_choose.proofs.Bounds.{bounded, some_statements}
@@ -83,8 +83,8 @@ top_view_low v (s ∷ ss) all =
     let rest = top_view_low v ss (All-tail (λ (s : Statement). s.log_view ≤ v) s ss all) in
     omega arith
 
-stated_header : (cluster last k : ℕ) (s : Statement) (h : Header) → IsStated cluster last s → header_at k s ≡ Some h → IsHeader h
-stated_header cluster last k s h is e =
+stated_is_header : (cluster last k : ℕ) (s : Statement) (h : Header) → IsStated cluster last s → stated_header k s ≡ Some h → IsHeader h
+stated_is_header cluster last k s h is e =
     elim (cases_lt k s.body.first) [
       | inl before ↦ let no_header : header_of Nothing ≡ Some h = rw (lt-ltb k s.body.first before) at e in absurd cc
       | inr from ↦
@@ -93,9 +93,9 @@ stated_header cluster last k s h is e =
     ]
 
 found_header : (cluster last k : ℕ) (p : Statement → Bool) (ss : List Statement) (h : Header) (o : Option Statement) → find p ss ≡ o → All (IsStated cluster last) ss
-    → option_and_then (header_at k) o ≡ Some h → IsHeader h
+    → option_and_then (stated_header k) o ≡ Some h → IsHeader h
 found_header cluster last k p ss h None i all e = absurd cc
-found_header cluster last k p ss h (Some s) i all e = stated_header cluster last k s h (found (IsStated cluster last) p ss s i all).1 e
+found_header cluster last k p ss h (Some s) i all e = stated_is_header cluster last k s h (found (IsStated cluster last) p ss s i all).1 e
 
 chosen_is : (cluster last k : ℕ) (ss : List Statement) (h : Header) → All (IsStated cluster last) ss → chosen_header ss k ≡ Some h → IsHeader h
 unfolding named_by
@@ -105,7 +105,7 @@ chosen_is cluster last k ss h all e =
           let there : named ss k ≡ Some h = rw (lt-leb k (top_commit ss) above) at e in
           found_header cluster last k _ ss h _ refl all there
       | inr below ↦
-          let there : option_and_then (header_at k) (farthest ss) ≡ Some h = rw (le-leb k (top_commit ss) below) at e in
+          let there : option_and_then (stated_header k) (farthest ss) ≡ Some h = rw (le-leb k (top_commit ss) below) at e in
           found_header cluster last k _ ss h _ refl all there
     ]
 

@@ -16,8 +16,8 @@ use Rattle.vr_apply.proofs.Numbers.{texts_have_numbers}
 use Rattle.vr_base.specs.Replicas.{no_replicas, with_replica}
 use Rattle.vr_ckpt.specs.declared.found.Load.{Load}
 use Rattle.vr_ckpt.specs.declared.found.Load.TheVariants.{Loaded, Missing}
-use Rattle.vr_ckpt.specs.declared.saving.Saved as checkpoint
-use Rattle.vr_ckpt.specs.declared.table.Table.{Table}
+use Rattle.vr_ckpt.specs.declared.saving.SavedCheckpoint as checkpoint
+use Rattle.vr_ckpt.specs.declared.table.PayloadTable.{PayloadTable}
 use Rattle.vr_grid.specs.declared.name.Name.{Name}
 use Rattle.vr_header.specs.declared.header.Header.{Header}
 use Rattle.vr_header.specs.declared.part.Part.{Part}
@@ -136,7 +136,7 @@ kept_make_checkpoint : {F : Type 0} (e : Whole) (s : Setting F) (r : Replica) (f
 unfolding make_checkpoint by reading ◌⨾◌ does change
 kept_make_checkpoint e s r f h k a m d =
     let q : Replica = applied e r in
-    let c : checkpoint.Saved = checkpoint_of q s f in
+    let c : checkpoint.SavedCheckpoint = checkpoint_of q s f in
     let moves : Kept r (with_checkpoint c q) = kept_moved c e r h k a m d in
     kept_more r (with_checkpoint c q) _ moves (keeps_save.every s (with_checkpoint c q) _ moves.sound).kept
 
@@ -212,7 +212,7 @@ keeps_ask = keeps_by _ (λ r. keeps_ask_for r.missing _)
 kept_missing : (names : List Name) (r : Replica) → IsSound r → (names ≢ [] → r.applied ≡ r.checkpoint) → Kept r (with_missing names r)
 kept_missing names r h w = record { sound = sound_missing r names w h; rises = record { view = omega arith; log_view = omega arith; commit = omega arith; applied = omega arith; checkpoint = omega arith } }
 
-kept_loaded : (root : Name) (table : Table) (o : Result State StateFault) (r : Replica) → IsSound r → r.applied ≡ r.checkpoint → ((t : State) → o ≡ Ok t → HaveNumbers t.sessions) → Kept r (loaded_state root table o r)
+kept_loaded : (root : Name) (table : PayloadTable) (o : Result State StateFault) (r : Replica) → IsSound r → r.applied ≡ r.checkpoint → ((t : State) → o ≡ Ok t → HaveNumbers t.sessions) → Kept r (loaded_state root table o r)
 unfolding with_state
 kept_loaded root table (Ok t) r h e n =
     let k = kept_missing [] r h (λ n. absurd (n refl)) in

@@ -3,7 +3,7 @@ use Rattle.std.specs.Prelude.{ℕ, ◌^◌, ◌<◌, ◌≤◌, ◌≡◌, ⊤, 
 use Rattle.vr_header.specs.declared.header.Header.{Header}
 use Rattle.vr_header.specs.Made.{IsEntryHeader}
 use Rattle.vr_header.specs.Spelling.{IsHeader}
-use Rattle.vr_super.specs.Copies.{Saved, IsGood}
+use Rattle.vr_super.specs.Copies.{SuperValue, IsGood}
 use Rattle.vr_rules.specs.Replica.{Replica}
 use Rattle.vr_rules.specs.Lying.{lying}
 use Rattle.vr_rules.specs.Sound.{IsSound, IsSavable}
@@ -18,14 +18,14 @@ pub record IsFitReplica (r : Replica) : Type 0 where
   pub missing : All IsBlockName r.missing
 
 -- a value of this replica that makes a good copy
-abbrev pub IsFitValue : ℕ → ℕ → ℕ → Saved → Type 0
+abbrev pub IsFitValue : ℕ → ℕ → ℕ → SuperValue → Type 0
 IsFitValue cluster n index v = IsGood v × IsOwnValue cluster n index v
 
 -- a member of this group of so many, by its place: both values are its own and make good copies, and it is fit where it runs
 pub record IsFitMember (cluster n index : ℕ) (m : Member) : Type 0 where
   pub running : (r : Replica) → m.replica ≡ Some r → IsFitReplica r × IsAt cluster n index r
   pub last : IsFitValue cluster n index m.last
-  pub under : (v : Saved) → m.under ≡ Some v → IsFitValue cluster n index v
+  pub under : (v : SuperValue) → m.under ≡ Some v → IsFitValue cluster n index v
 
 -- the header of an entry that a member began to write
 abbrev pub IsMade : Header → Type 0

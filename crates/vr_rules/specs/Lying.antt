@@ -6,7 +6,7 @@ use Rattle.std.specs.Cmp.Lexicographic.{pointwise}
 use Rattle.vr_base.specs.Bytes.{name_of}
 use Rattle.vr_disk.specs.DiskState as disk
 use Rattle.vr_disk.specs.DiskState.{Call, Write, Sync, Cell, Face}
-use Rattle.vr_disk.specs.Regions.{header_at}
+use Rattle.vr_disk.specs.Regions.{header_place}
 use Rattle.vr_header.specs.declared.command.Command.TheVariants as command
 use Rattle.vr_header.specs.declared.header.Header.{Header}
 use Rattle.vr_header.specs.Names.{no_name}
@@ -104,7 +104,7 @@ abbrev pub zero_prepares : List Call
 zero_prepares = map (λ i. Write i zero_sector) (range_with_len 144 256)
 
 abbrev pub reserved_headers : ℕ → List Call
-reserved_headers cluster = map (λ slot. Write (header_at slot) (sector_of (reserved_header cluster slot))) (range_with_len 0 64)
+reserved_headers cluster = map (λ slot. Write (header_place slot) (sector_of (reserved_header cluster slot))) (range_with_len 0 64)
 
 -- zeros to the prepares, reserved headers, one sync, and the four copies of the first value
 unfoldable pub format_calls : ℕ → ℕ → ℕ → List Call

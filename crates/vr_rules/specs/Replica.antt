@@ -13,9 +13,9 @@ use Rattle.vr_msg.specs.declared.statement.Statement.{Statement}
 use Rattle.vr_msg.specs.Logs.{header_of, has_header}
 use Rattle.vr_msg.specs.Normal.{primary}
 use Rattle.vr_apply.specs.declared.state.State.{State}
-use Rattle.vr_super.specs.Copies.{Saved}
+use Rattle.vr_super.specs.Copies.{SuperValue}
 use Rattle.vr_grid.specs.declared.name.Name.{Name}
-use Rattle.vr_ckpt.specs.declared.table.Table.{Table}
+use Rattle.vr_ckpt.specs.declared.table.PayloadTable.{PayloadTable}
 
 pub record Replica : Type 0 where
   -- the number of the group, of the replica in it, and how many replicas it has
@@ -28,7 +28,7 @@ pub record Replica : Type 0 where
   pub applied : ℕ  -- the last op that is applied
   pub checkpoint : ℕ  -- the op of the checkpoint, 0 for none
   pub root : Name  -- the block that the checkpoint begins with
-  pub table : Table  -- the payloads of the checkpoint's blocks
+  pub table : PayloadTable  -- the payloads of the checkpoint's blocks
   pub state : State
   pub missing : List Name  -- the checkpoint's blocks that couldn't be read; while there are some, there is no state
   -- what is known of the ops from `first` to the end of the window, and which replicas have acknowledged each in this view
@@ -39,7 +39,7 @@ pub record Replica : Type 0 where
   pub statements : List (Option Statement)  -- what each replica has stated of its log for this view
   pub idle : ℕ  -- ticks since the primary, or the last change of view, was heard of
   pub turn : ℕ  -- which peer is asked next
-  pub saved : Saved  -- the superblock's value as last saved or opened
+  pub saved : SuperValue  -- the superblock's value as last saved or opened
 
 -- ---- of its place in the group
 

@@ -28,7 +28,7 @@ use Rattle.vr_grid.specs.Blocks.{Content, block_header, block_of, named}
 use Rattle.vr_grid.specs.Grid.{named_at}
 use Rattle.vr_grid.specs.declared.name.Name.{Name}
 use Rattle.vr_ckpt.specs.Saves.{written}
-use Rattle.vr_ckpt.specs.declared.table.Table.{Table}
+use Rattle.vr_ckpt.specs.declared.table.PayloadTable.{PayloadTable}
 use Rattle.vr_rules.specs.Steps.{Effect, Write, Checkpoint, PutBlock}
 use Rattle.vr_rules.specs.Commitment.{Vouches, IsCommitted, AreCommitted, IsBackedMessage, IsLine, IsReplyOf, is_line_of, lines_by}
 use Rattle.vr_rules.specs.Replica.{Replica, statement_of}
@@ -167,9 +167,9 @@ pub data IsRead (f : Face) : List ℕ → Type 0 where
 pub data IsWritten : Effect → List ℕ → Type 0 where
   header : (again : Bool) (e : Whole) → IsWritten (Write again e) (named_bytes e.header)
   operation : (again : Bool) (e : Whole) → IsWritten (Write again e) (operation_bytes e.operation)
-  block : (cluster : ℕ) (texts : Texts) (op : ℕ) (old : Table) (c : Content) → Contains (written cluster texts op old) (block_of c)
+  block : (cluster : ℕ) (texts : Texts) (op : ℕ) (old : PayloadTable) (c : Content) → Contains (written cluster texts op old) (block_of c)
       → IsWritten (Checkpoint cluster texts op old) (named_bytes (block_header c))
-  payload : (cluster : ℕ) (texts : Texts) (op : ℕ) (old : Table) (c : Content) → Contains (written cluster texts op old) (block_of c)
+  payload : (cluster : ℕ) (texts : Texts) (op : ℕ) (old : PayloadTable) (c : Content) → Contains (written cluster texts op old) (block_of c)
       → IsWritten (Checkpoint cluster texts op old) c.payload
   put : (name : Name) (bytes : List ℕ) (c : Content) → named name bytes ≡ Some c → IsWritten (PutBlock name bytes) (named_bytes (block_header c))
   given : (name : Name) (bytes : List ℕ) (c : Content) → named name bytes ≡ Some c → IsWritten (PutBlock name bytes) c.payload

@@ -11,7 +11,7 @@ use Rattle.vr_grid.specs.Blocks.{named}
 use Rattle.vr_grid.specs.Grid.{block_reading, named_at, put_calls}
 use Rattle.vr_grid.specs.declared.name.Name.{Name}
 use Rattle.vr_ckpt.specs.Loads.{loaded}
-use Rattle.vr_ckpt.specs.Saves.{save_calls, saved}
+use Rattle.vr_ckpt.specs.Saves.{save_calls, saved_checkpoint}
 use Rattle.vr_rules.specs.Steps.{Effect, Write, Rewrite, Save, Mend, Checkpoint, PutBlock, Say, Setting}
 
 -- the calls of an effect; mending depends on what the copies read as
@@ -43,6 +43,6 @@ sectors = record {
   block = block_in;
   is_block = λ name bytes. is_some (named name bytes);
   loaded = loaded;
-  save_state = saved;
+  save_state = saved_checkpoint;
   after = λ f e. disk.after_all f (calls_of e f);
 }

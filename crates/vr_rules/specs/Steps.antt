@@ -5,11 +5,11 @@ use Rattle.vr_header.specs.declared.header.Header.{Header}
 use Rattle.vr_header.specs.Made.{Whole}
 use Rattle.vr_msg.specs.declared.output.Output.{Output}
 use Rattle.vr_apply.specs.declared.codec.Texts.{Texts}
-use Rattle.vr_super.specs.Copies.{Saved}
+use Rattle.vr_super.specs.Copies.{SuperValue}
 use Rattle.vr_grid.specs.declared.name.Name.{Name}
 use Rattle.vr_ckpt.specs.declared.found.Load.{Load}
-use Rattle.vr_ckpt.specs.declared.saving.Saved as checkpoint
-use Rattle.vr_ckpt.specs.declared.table.Table.{Table}
+use Rattle.vr_ckpt.specs.declared.saving.SavedCheckpoint as checkpoint
+use Rattle.vr_ckpt.specs.declared.table.PayloadTable.{PayloadTable}
 use Rattle.vr_rules.specs.Replica.{Replica}
 
 -- ---- effects
@@ -20,11 +20,11 @@ pub data Effect : Type 0 where
   -- the header sector of a slot is written
   Rewrite : (header : Header) → Effect
   -- the superblock's value is mended where it doesn't read as the old one, and the new one is written
-  Save : (old new : Saved) → Effect
+  Save : (old new : SuperValue) → Effect
   -- the superblock's value is mended
-  Mend : (value : Saved) → Effect
+  Mend : (value : SuperValue) → Effect
   -- what changed of the state since the checkpoint with the old table is written, as the checkpoint of this op
-  Checkpoint : (cluster : ℕ) (texts : Texts) (op : ℕ) (old : Table) → Effect
+  Checkpoint : (cluster : ℕ) (texts : Texts) (op : ℕ) (old : PayloadTable) → Effect
   -- a block is written under its name
   PutBlock : (name : Name) (block : List ℕ) → Effect
   -- something is put out
@@ -44,7 +44,7 @@ outputs (e ∷ es) = output_of e ++ outputs es
 pub record Setting (F : Type 0) : Type 0 where
   pub hash : List ℕ → List ℕ
   -- the value that the superblock opens as
-  pub opens : F → Option Saved
+  pub opens : F → Option SuperValue
   -- the valid header that a slot's header sector reads as
   pub header : F → ℕ → Option Header
   -- the whole entry that a slot's prepare reads as
@@ -56,7 +56,7 @@ pub record Setting (F : Type 0) : Type 0 where
   -- the checkpoint whose root has this name
   pub loaded : F → Name → Load
   -- the root and table of a checkpoint of these texts, by its op and the table before
-  pub save_state : ℕ → Texts → ℕ → Table → checkpoint.Saved
+  pub save_state : ℕ → Texts → ℕ → PayloadTable → checkpoint.SavedCheckpoint
   -- the disk after an effect
   pub after : F → Effect → F
 

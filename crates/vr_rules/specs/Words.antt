@@ -24,19 +24,19 @@ use Rattle.vr_apply.specs.Folds as state
 use Rattle.vr_apply.specs.Texts.{state_decoded, texts_of}
 use Rattle.vr_apply.specs.declared.state.State.{State}
 use Rattle.vr_table.specs.declared.fault.StateFault.{StateFault}
-use Rattle.vr_super.specs.Copies.{Saved}
+use Rattle.vr_super.specs.Copies.{SuperValue}
 use Rattle.vr_grid.specs.declared.name.Name.{Name}
 use Rattle.vr_ckpt.specs.declared.found.Load.{Load}
 use Rattle.vr_ckpt.specs.declared.found.Load.TheVariants.{Loaded, Missing}
-use Rattle.vr_ckpt.specs.declared.saving.Saved as checkpoint
-use Rattle.vr_ckpt.specs.declared.table.Table.{Table}
+use Rattle.vr_ckpt.specs.declared.saving.SavedCheckpoint as checkpoint
+use Rattle.vr_ckpt.specs.declared.table.PayloadTable.{PayloadTable}
 use Rattle.vr_rules.specs.Replica.{Replica, replication, view_change, is_started, is_primary, last_view, window_end, part_at, header_at, parts_from, head, run, is_here, is_absent, trimmed, ackers_at, statement_of, forgetting, with_part}
 use Rattle.vr_rules.specs.Steps.{Effect, Write, Save, Checkpoint, Setting, Word, ◌⨾◌, quiet, change, does, says, by, naming, reading, when, times, each}
 use Rattle.vr_rules.specs.Outputs.{applied_reply, commit_line, do_view_change, get_block, get_prepare, prepare, prepare_ok, send_to, send_to_all, start_view, start_view_change, to_primary, wait_line}
 
 -- ---- Save: the superblock takes the present values, and the known headers that reach the head
 
-unfoldable pub value_of : Replica → Saved
+unfoldable pub value_of : Replica → SuperValue
 value_of r = record {
   fields = record {
     sequence = r.saved.fields.sequence + 1;
@@ -140,7 +140,7 @@ abbrev pub checkpoints : Replica → Effect
 checkpoints r = Checkpoint r.cluster (texts_of r.state) r.applied r.table
 
 -- the window moves up with the checkpoint
-unfoldable pub with_checkpoint : checkpoint.Saved → Replica → Replica
+unfoldable pub with_checkpoint : checkpoint.SavedCheckpoint → Replica → Replica
 with_checkpoint c r = record r {
   checkpoint = r.applied;
   root = c.root;
@@ -149,7 +149,7 @@ with_checkpoint c r = record r {
   ackers = r.ackers ++ replicate (r.applied - r.checkpoint) no_replicas;
 }
 
-abbrev pub checkpoint_of : {F : Type 0} → Replica → Setting F → F → checkpoint.Saved
+abbrev pub checkpoint_of : {F : Type 0} → Replica → Setting F → F → checkpoint.SavedCheckpoint
 checkpoint_of r s f = s.save_state r.cluster (texts_of r.state) r.applied r.table
 
 unfoldable pub make_checkpoint : {F : Type 0} → Word F
@@ -347,14 +347,14 @@ ask = by (λ r. ask_for r.missing (least_absent r))
 
 -- ---- loading a checkpoint
 
-unfoldable pub with_state : Table → State → Replica → Replica
+unfoldable pub with_state : PayloadTable → State → Replica → Replica
 with_state table s r = record r { table = table; state = s; missing = [] }
 
 abbrev pub with_missing : List Name → Replica → Replica
 with_missing names r = record r { missing = names }
 
 -- a root whose state doesn't decode counts as missing
-abbrev pub loaded_state : Name → Table → Result State StateFault → Replica → Replica
+abbrev pub loaded_state : Name → PayloadTable → Result State StateFault → Replica → Replica
 loaded_state root table (Ok s) r = with_state table s r
 loaded_state root table (Err fault) r = with_missing (root ∷ []) r
 

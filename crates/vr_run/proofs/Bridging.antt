@@ -10,7 +10,7 @@ use Rattle.vr_header.specs.Made.{Whole}
 use Rattle.vr_msg.specs.declared.event.Event.{Event}
 use Rattle.vr_msg.specs.declared.output.Output.{Output}
 use Rattle.vr_msg.specs.declared.output.Output.TheVariants as output
-use Rattle.vr_super.specs.Copies.{Saved}
+use Rattle.vr_super.specs.Copies.{SuperValue}
 use Rattle.vr_rules.specs.Replica.{Replica}
 use Rattle.vr_rules.specs.Steps.{Effect, Write, outputs}
 use Rattle.vr_rules.specs.Lying.{Lying, lying}
@@ -303,11 +303,11 @@ module _ (u : Setup) (fits : Fits u) (hash : u.hash ≡ lying.hash) (g : group.G
 
   -- ---- openings
 
-  value_of : (at : ℕ) (m : group.Member) (v : Saved) → IsFitMember u.cluster g.n at m → MayOpen m v → IsFitValue u.cluster g.n at v
+  value_of : (at : ℕ) (m : group.Member) (v : SuperValue) → IsFitMember u.cluster g.n at m → MayOpen m v → IsFitValue u.cluster g.n at v
   value_of at m v h (inl e) = subst (IsFitValue u.cluster g.n at) e h.last
   value_of at m v h (inr e) = h.under v e
 
-  may_begin : (at : ℕ) (m : group.Member) (v : Saved) (d : Lying) → Opens g at m v d → ReadsWell lying d → MayBegin u s at (local m) g.made v lying d
+  may_begin : (at : ℕ) (m : group.Member) (v : SuperValue) (d : Lying) → Opens g at m v d → ReadsWell lying d → MayBegin u s at (local m) g.made v lying d
   may_begin at m v d o reads =
       let x = bridge.members at m o.member in
       let f = value_of at m v (fit.members at m o.member) o.value in
@@ -326,7 +326,7 @@ module _ (u : Setup) (fits : Fits u) (hash : u.hash ≡ lying.hash) (g : group.G
         silent = tt;
       }
 
-  starts_so : (at : ℕ) (m : group.Member) (v : Saved) (d : Lying) → Opens g at m v d → ReadsWell lying d → (z : Group Header) × Chained u s z (group.started g at m v d)
+  starts_so : (at : ℕ) (m : group.Member) (v : SuperValue) (d : Lying) → Opens g at m v d → ReadsWell lying d → (z : Group Header) × Chained u s z (group.started g at m v d)
   starts_so at m v d o reads =
       let c = opens u s at (local m) g.made v lying d (may_begin at m v d o reads) in
       let x = mended v d in
@@ -341,7 +341,7 @@ module _ (u : Setup) (fits : Fits u) (hash : u.hash ≡ lying.hash) (g : group.G
             (q.said ∙ (ap (λ (os : List Output). os ++ outputs y.script) p.said ∙ sym (outputs_append x.script y.script))) c.tables,
       )
 
-  starts_cut_so : (at : ℕ) (m : group.Member) (v : Saved) (d : Lying) (k : ℕ) → Opens g at m v d → ReadsWell lying d → (z : Group Header) × Chained u s z (group.start_cut g at m v d k)
+  starts_cut_so : (at : ℕ) (m : group.Member) (v : SuperValue) (d : Lying) (k : ℕ) → Opens g at m v d → ReadsWell lying d → (z : Group Header) × Chained u s z (group.start_cut g at m v d k)
   starts_cut_so at m v d k o reads =
       let c = opens u s at (local m) g.made v lying d (may_begin at m v d o reads) in
       let x = mended v d in

@@ -12,7 +12,7 @@ use Rattle.vr_rules.specs.Group as group
 use Rattle.vr_rules.specs.Group.{Played, Run, fresh_group, fresh_member}
 use Rattle.vr_rules.specs.GroupFit.{IsFitGroup, IsFitMove}
 use Rattle.vr_rules.proofs.FitFresh.{fresh_fits}
-use Rattle.vr_rules.proofs.FitGroups.{fresh_group_fits}
+use Rattle.vr_rules.proofs.FitGroups.{fresh_at, fresh_group_fits}
 use Rattle.vr_protocol.specs.Basics.{update}
 use Rattle.vr_protocol.proofs.Counting.{here, elsewhere}
 use Rattle.vr_protocol.specs.Group.{Group, Member, becomes}
@@ -97,14 +97,6 @@ module _ (u : Setup) where
       subst (λ (y : Member Header). IsReached u (becomes s1 k (record y { memory = Some loaded }))) (member_at s k (woken new)) loads
 
 -- ---- the group
-
-fresh_at : (c n from count j : ℕ) (m : group.Member) → slice_get (map (fresh_member c n) (range_with_len from count)) j ≡ Some m → (fresh_member c n (from + j) ≡ m) × (j < count)
-fresh_at c n from zero j m e = absurd cc
-fresh_at c n from (suc count) zero m e = let at : from + 0 ≡ from = omega arith in (rw at cc, omega arith)
-fresh_at c n from (suc count) (suc j) m e =
-    let rest = fresh_at c n (from + 1) count j m e in
-    let at : from + suc j ≡ from + 1 + j = omega arith in
-    (rw at rest.0, omega (arith, rest.1))
 
 sized : (c n i : ℕ) → c < 2 ^ 64 → 2 ≤ n → n ≤ 6 → i < n → is_some (quorums_of n) ≡ true
 unfolding blank

@@ -12,7 +12,7 @@ use Rattle.vr_msg.specs.Choice.{ops}
 use Rattle.vr_msg.specs.Logs.{header_of}
 use Rattle.vr_recover.specs.declared.readings.Verdict.{Verdict}
 use Rattle.vr_recover.specs.declared.readings.Verdict.TheVariants as verdict
-use Rattle.vr_super.specs.Copies.{Saved}
+use Rattle.vr_super.specs.Copies.{SuperValue}
 use Rattle.vr_rules.specs.Replica.{Replica, head, part_at, forgetting, with_part}
 use Rattle.vr_rules.specs.Words.{entry_of}
 use Rattle.vr_rules.specs.Steps.{Effect, Write, Rewrite, Save, Mend, Checkpoint, PutBlock, Say, Setting, ◌⨾◌, quiet, change, does, reading, each, after_all}
@@ -70,12 +70,12 @@ unfolding does quiet
 rewrite_writes None s r f q n k l is = tt
 rewrite_writes (Some h) s r f q n k l is = ((k, l, omega arith, is), tt)
 
-mend_writes : {F : Type 0} (v : Saved) (x : Slot) (t : Verdict) (s : Setting F) (r : Replica) (f : F) (q : Replica) (n k : ℕ) → n < k → part_at q k ≡ part_by v k x t → Every (IsRewriting q n k) (mend_slot x t s r f).script
+mend_writes : {F : Type 0} (v : SuperValue) (x : Slot) (t : Verdict) (s : Setting F) (r : Replica) (f : F) (q : Replica) (n k : ℕ) → n < k → part_at q k ≡ part_by v k x t → Every (IsRewriting q n k) (mend_slot x t s r f).script
 unfolding quiet
 mend_writes v x verdict.Rewrite s r f q n k l is = rewrite_writes (entry_header x) s r f q n k l is
 mend_writes v x _ s r f q n k l is = tt
 
-module _ {F : Type 0} (v : Saved) (w : Value v) (s : Setting F) where
+module _ {F : Type 0} (v : SuperValue) (w : Value v) (s : Setting F) where
   op_room : (n : ℕ) (r : Replica) → v.fields.checkpoint ≤ n → n < v.fields.checkpoint + 64 → Partly v n r → (r.first ≤ n + 1) × (n + 1 < r.first + length r.parts)
   op_room n r a b p =
       let first = first_is v n r p in
@@ -197,7 +197,7 @@ module _ {F : Type 0} (v : Saved) (w : Value v) (s : Setting F) where
       let from : first_listed v ≤ h.op = omega arith in
       ((subst (λ j. IsOf v j h) (sym op) is, from), rw (le-ltb h.op (first_listed v) from, place) e)
 
-blank_nothing : (v : Saved) (k : ℕ) → part_at (blank v) k ≡ part.Nothing
+blank_nothing : (v : SuperValue) (k : ℕ) → part_at (blank v) k ≡ part.Nothing
 unfolding blank
 blank_nothing v k =
     let r : Replica = blank v in
@@ -214,7 +214,7 @@ blank_nothing v k =
 -- ---- what is recovered
 
 -- the replica's values are those of the superblock's, and its Parts stand at their ops
-pub record Finds (v : Saved) (q : Replica) (es : List Effect) : Type 0 where
+pub record Finds (v : SuperValue) (q : Replica) (es : List Effect) : Type 0 where
   pub spans : Spans q
   pub one : 1 ≤ q.first
   pub up : v.fields.head ≤ head q
@@ -231,18 +231,18 @@ pub record Finds (v : Saved) (q : Replica) (es : List Effect) : Type 0 where
   pub n : q.n ≡ v.fields.n
   pub statements : q.statements ≡ replicate v.fields.n None
 
-clouded_here : (v : Saved) (r : Replica) (k : ℕ) (h : Header) → part_at r k ≡ part.Here h → clouded_at v r k ≡ part.Here h
+clouded_here : (v : SuperValue) (r : Replica) (k : ℕ) (h : Header) → part_at r k ≡ part.Here h → clouded_at v r k ≡ part.Here h
 clouded_here v r k h e =
     elim (is_listed v k) as (λ b. cond b (part_at r k) (clouded_part (stored_above r k) (part_at r k)) ≡ part.Here h) [
       | true ↦ e
       | false ↦ ap (clouded_part (stored_above r k)) e
     ]
 
-clouded_is : (v : Saved) (r : Replica) → clouded v r ≡ remade (clouded_at v r) r
+clouded_is : (v : SuperValue) (r : Replica) → clouded v r ≡ remade (clouded_at v r) r
 unfolding clouded
 clouded_is v r = refl
 
-module _ {F : Type 0} (v : Saved) (w : Value v) (s : Setting F) where
+module _ {F : Type 0} (v : SuperValue) (w : Value v) (s : Setting F) where
   clouded_part_is : (n k : ℕ) (r : Replica) (h : Header) → Partly v n r → part_at r k ≡ part.Here h → part_at (clouded v r) k ≡ part.Here h
   clouded_part_is n k r h p e =
       let sp = partly_spans v n r w p in
@@ -327,13 +327,13 @@ silent_all q a b (Checkpoint cluster texts op old ∷ es) l (is, rest) free = ab
 silent_all q a b (PutBlock name block ∷ es) l (is, rest) free = absurd is
 silent_all q a b (Say o ∷ es) l (is, rest) free = absurd is
 
-pub silent_still : (v : Saved) (q : Replica) (l : Local) (es : List Effect) → Every (IsRewriting q v.fields.checkpoint (v.fields.checkpoint + 64)) es → Every AsksNothing l.said → Every AsksNothing (carried (Mend v ∷ es) l).said
+pub silent_still : (v : SuperValue) (q : Replica) (l : Local) (es : List Effect) → Every (IsRewriting q v.fields.checkpoint (v.fields.checkpoint + 64)) es → Every AsksNothing l.said → Every AsksNothing (carried (Mend v ∷ es) l).said
 silent_still v q l es h free = silent_all q v.fields.checkpoint (v.fields.checkpoint + 64) es (through (Mend v) l) h (every_append AsksNothing l.said [] free tt)
 
 -- ---- the machine's moves
 
 -- what is written again of what was found stays sound
-sound_rewritten : (v : Saved) (q : Replica) (made : List Header) (m : group.Member) (h : Header) → length m.kept ≡ 64 → v.fields.checkpoint < h.op → h.op ≤ v.fields.checkpoint + 64 → part_at q h.op ≡ part.Here h
+sound_rewritten : (v : SuperValue) (q : Replica) (made : List Header) (m : group.Member) (h : Header) → length m.kept ≡ 64 → v.fields.checkpoint < h.op → h.op ≤ v.fields.checkpoint + 64 → part_at q h.op ≡ part.Here h
     → AreSound v (kept_at m) made q → AreSound v (kept_at (group.ends (Rewrite h) (group.begins (Rewrite h) m))) made q
 sound_rewritten v q made m h size above near is sound =
     let n : ℕ = h.op % 64 in
@@ -352,7 +352,7 @@ sound_rewritten v q made m h size above near is sound =
           ];
     }
 
-module _ (u : Setup) (start : Group Header) (i : ℕ) (v : Saved) (q : Replica) (made : List Header) where
+module _ (u : Setup) (start : Group Header) (i : ℕ) (v : SuperValue) (q : Replica) (made : List Header) where
   -- stopped, with this value, and Parts that are sound
   pub record Rests (l : Local) (s : Group Header) : Type 0 where
     pub under : Under u start i l s
@@ -497,7 +497,7 @@ module _ (u : Setup) (start : Group Header) (i : ℕ) (v : Saved) (q : Replica) 
       cuts = (mend_cut, tt);
     }
 
-    under_of : (o : Option Saved) (z : Option (Superblock Header)) → IsUnder o z → o ≡ Some v → (y : Superblock Header) × (z ≡ Some y) × IsValue v y
+    under_of : (o : Option SuperValue) (z : Option (Superblock Header)) → IsUnder o z → o ≡ Some v → (y : Superblock Header) × (z ≡ Some y) × IsValue v y
     under_of None z d e = absurd cc
     under_of (Some w) None d e = absurd d
     under_of (Some w) (Some y) d e = let same : w ≡ v = cc in (y, refl, subst (λ k. IsValue k y) same d)

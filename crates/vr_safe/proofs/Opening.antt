@@ -2,7 +2,7 @@
 use Rattle.std.proofs.Common.{ℕ, ◌+◌, ◌≤◌, ◌≡◌, ◌∙◌, arith, refl, sym, ap, subst, List, [], ◌∷◌, None}
 use Rattle.std.specs.Prelude.{Contains}
 use Rattle.vr_header.specs.declared.header.Header.{Header}
-use Rattle.vr_super.specs.Copies.{Saved}
+use Rattle.vr_super.specs.Copies.{SuperValue}
 use Rattle.vr_rules.specs.Replica.{Replica, head, part_at, parts_from}
 use Rattle.vr_rules.specs.Steps.{Effect, Mend, Setting, Step, ◌⨾◌, does, after_all}
 use Rattle.vr_rules.specs.Opening.{blank, mending, recover_parts, resuming}
@@ -38,7 +38,7 @@ stored_waiting q m k = k
 Ends : Setup → Group Header → ℕ → Local → Step → Type 0
 Ends u start i l y = (h : Finishes u start i l y) × HasTables u h.after i y.replica
 
-pub opens : {F : Type 0} (u : Setup) (start : Group Header) (i : ℕ) (l : Local) (made : List Header) (v : Saved) (t : Setting F) (f : F) → MayBegin u start i l made v t f
+pub opens : {F : Type 0} (u : Setup) (start : Group Header) (i : ℕ) (l : Local) (made : List Header) (v : SuperValue) (t : Setting F) (f : F) → MayBegin u start i l made v t f
     → Opens u start i v l (mending v t (blank v) f) (resumed t f (mending v t (blank v) f))
 unfolding does ◌⨾◌ after_all Ends
 opens u start i l made v t f b =

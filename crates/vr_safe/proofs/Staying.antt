@@ -7,7 +7,7 @@ use Rattle.vr_msg.specs.declared.frame.Frame.{Frame}
 use Rattle.vr_msg.specs.declared.output.Output.{Output}
 use Rattle.vr_apply.specs.declared.state.State.{State}
 use Rattle.vr_grid.specs.declared.name.Name.{Name}
-use Rattle.vr_ckpt.specs.declared.table.Table.{Table}
+use Rattle.vr_ckpt.specs.declared.table.PayloadTable.{PayloadTable}
 use Rattle.vr_rules.specs.Replica.{Replica, head, part_at}
 use Rattle.vr_rules.specs.Outputs.{send_to_all, prepare, get_block, get_prepare}
 use Rattle.vr_rules.specs.Steps.{PutBlock, Setting, Word, ◌⨾◌, quiet, change, does, says, by, naming, reading, when, each, after_all}
@@ -128,7 +128,7 @@ holds_idler r = record { view = refl; log_view = refl; index = refl; n = refl; c
 
 -- ---- blocks
 
-holds_with_other : (table : Table) (state : State) (names : List Name) (r : Replica) → Holds r (with_other table state names r)
+holds_with_other : (table : PayloadTable) (state : State) (names : List Name) (r : Replica) → Holds r (with_other table state names r)
 unfolding head part_at
 holds_with_other table state names r = record { view = refl; log_view = refl; index = refl; n = refl; commit = omega arith; top = omega arith; acks = λ k. refl; here = λ k h e. e; statements = refl }
 

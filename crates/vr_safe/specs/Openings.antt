@@ -1,7 +1,7 @@
 -- An opening as a chain of the machine's moves, in its two parts.
 use Rattle.std.specs.Prelude.{ℕ, ◌+◌, ◌≡◌, List, Contains, Some, None}
 use Rattle.vr_header.specs.declared.header.Header.{Header}
-use Rattle.vr_super.specs.Copies.{IsGood, Saved}
+use Rattle.vr_super.specs.Copies.{IsGood, SuperValue}
 use Rattle.vr_rules.specs.Replica.{parts_from}
 use Rattle.vr_rules.specs.Steps.{Setting, Step, after_all}
 use Rattle.vr_rules.specs.Opening.{blank, mending, resuming}
@@ -16,7 +16,7 @@ use Rattle.vr_safe.specs.Finished.{Finishes}
 
 -- Member i of the machine's group is stopped and stands for this member, whose superblock opens as a good value of its own; and on the
 -- disk sound Parts are found.
-pub record MayBegin {F : Type 0} (u : Setup) (start : Group Header) (i : ℕ) (l : Local) (made : List Header) (v : Saved) (t : Setting F) (f : F) : Type 0 where
+pub record MayBegin {F : Type 0} (u : Setup) (start : Group Header) (i : ℕ) (l : Local) (made : List Header) (v : SuperValue) (t : Setting F) (f : F) : Type 0 where
   pub reached : IsReached u start
   pub disk : IsDisk l.member (start.members i)
   pub still : (start.members i).memory ≡ None
@@ -31,11 +31,11 @@ pub record MayBegin {F : Type 0} (u : Setup) (start : Group Header) (i : ℕ) (l
   pub silent : Every AsksNothing l.said
 
 -- what is found stored is kept from then on
-abbrev pub keeping : Saved → Step → Local → Local
+abbrev pub keeping : SuperValue → Step → Local → Local
 keeping v x l = record { member = keeps_all (parts_from x.replica (v.fields.checkpoint + 1)) l.member; made = l.made; said = l.said }
 
 -- What is mended can be cut; then what comes of it can be carried out to its end, and cut.
-pub record Opens (u : Setup) (start : Group Header) (i : ℕ) (v : Saved) (l : Local) (x y : Step) : Type 0 where
+pub record Opens (u : Setup) (start : Group Header) (i : ℕ) (v : SuperValue) (l : Local) (x y : Step) : Type 0 where
   pub mends : WhereverCut (Stopped u start i) x.script l
   pub finishes : Finishes u start i (keeping v x (carried x.script l)) y
   pub tables : HasTables u finishes.after i y.replica

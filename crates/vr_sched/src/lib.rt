@@ -13,4 +13,7 @@ mod words;
 
 pub use line::{LONGEST, Line, LineFault, parse_line};
 pub use number::{read_below, read_number};
+pub use operation::{parse_operation, read_operation};
 pub use printing::{text, write_text};
+pub use texts::put_outcome;
+pub use words::{Words, is_word};

@@ -3,7 +3,7 @@ ghost use Rattle.std.specs.Prelude.{◌≡◌, IfOk, option_and_then};
 ghost use Rattle.std.specs.Option.{option_map};
 ghost use Rattle.vr_header.specs.declared.operation.Operation.TheVariants as Operation;
 ghost use Rattle.vr_sched.specs.Grammar.{key_word, operation_behind, operation_words, pair_of, put_words, register_words};
-ghost use Rattle.vr_sched.specs.Words.{words_left};
+ghost use Rattle.vr_sched.specs.Words.{words_left, words_of};
 
 use crate::words::{Words, is_word};
 use std::alloc::{AllocError, Global};
@@ -107,4 +107,11 @@ pub fn read_operation(alloc: Global, words: Words<'_>) -> Result<Option<Operatio
         Some((word, words)) => read_behind(alloc, word, words),
         None => Ok(None),
     }
+}
+
+/// The operation that these bytes spell, words with single spaces between them.
+pub fn parse_operation(alloc: Global, bytes: &[u8]) -> Result<Option<Operation>, AllocError>
+    ensures { IfOk result (λ operation. operation ≡ operation_words (words_of bytes.now)) }
+{
+    read_operation(alloc, Words::of(bytes))
 }

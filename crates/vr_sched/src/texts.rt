@@ -91,6 +91,7 @@ pub fn put_operation(to: &mut ByteList, operation: &Operation) -> Result<(), All
     }
 }
 
+/// The words of an outcome.
 #[tactic(auto, using(std::proofs::lemmas::Grind::common_steps, crate::proofs::Fronts::front_then))]
 pub fn put_outcome(to: &mut ByteList, outcome: &Outcome) -> Result<(), AllocError>
     ensures text { OnOk result (to.new ≡ to.old ++ outcome_text outcome.now) }

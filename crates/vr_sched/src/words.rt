@@ -58,6 +58,7 @@ impl<'a> Words<'a> {
     }
 }
 
+/// Whether a word is this one.
 pub fn is_word(word: &[u8], text: &str) -> bool
     ensures { result ≡ bytes_eq word.now text.now }
 {

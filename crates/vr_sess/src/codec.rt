@@ -5,7 +5,7 @@ ghost use Rattle.vr_table.specs.Finite.{IsMap};
 ghost use Rattle.vr_table.specs.Table.{read_on, IsOrNoMemory};
 ghost use Rattle.vr_sess.specs.Texts.{session_from, sessions_text, sessions_decoded};
 
-use crate::table::{Table, follows, push};
+use crate::table::{SessionTable, follows, push};
 use crate::text::{read_session, write_session};
 use std::alloc::Global;
 use vr_base::{ByteList, NoMemory};
@@ -16,7 +16,7 @@ const SESSION_BYTES: usize = 8 + 4 + 8 + 3 + 1024;
 
 /// The text of these sessions.
 #[tactic(auto, using(std::proofs::lemmas::Grind::common_steps), unfolding(vr_table::specs::Table::table_text, vr_base::specs::Bytes::bytes16))]
-pub fn encode_table(alloc: Global, table: &Table) -> Result<ByteList, NoMemory>
+pub fn encode_table(alloc: Global, table: &SessionTable) -> Result<ByteList, NoMemory>
     requires { length table.now.entries ≤ 32 }
     ensures { IfOk result (λ text. text ≡ sessions_text table.now.entries) }
 {
@@ -30,7 +30,7 @@ pub fn encode_table(alloc: Global, table: &Table) -> Result<ByteList, NoMemory>
 
 /// The sessions of a text, or the first fault.
 #[tactic(auto, unfolding(vr_table::specs::Table::decoded))]
-pub fn read_table(alloc: Global, bytes: &[u8]) -> Result<Table, StateFault>
+pub fn read_table(alloc: Global, bytes: &[u8]) -> Result<SessionTable, StateFault>
     ensures table { IfOk result (λ table. sessions_decoded bytes.now ≡ Ok table.entries) }
     ensures fault { IfErr result (IsOrNoMemory (sessions_decoded bytes.now)) }
 {
@@ -39,11 +39,11 @@ pub fn read_table(alloc: Global, bytes: &[u8]) -> Result<Table, StateFault>
 }
 
 /// So many sessions, and nothing behind them.
-fn read_all(alloc: Global, count: u16, bytes: &[u8]) -> Result<Table, StateFault>
+fn read_all(alloc: Global, count: u16, bytes: &[u8]) -> Result<SessionTable, StateFault>
     ensures table { IfOk result (λ table. read_on nat_cmp session_from count [] bytes.now ≡ Ok table.entries) }
     ensures fault { IfErr result (IsOrNoMemory (read_on nat_cmp session_from count [] bytes.now)) }
 {
-    let mut table = Table::with_capacity(alloc, count as usize)?;
+    let mut table = SessionTable::with_capacity(alloc, count as usize)?;
     let mut rest = bytes;
     for i in 0..count {
         rest = read_next(alloc, &mut table, rest)?;
@@ -56,7 +56,11 @@ fn read_all(alloc: Global, count: u16, bytes: &[u8]) -> Result<Table, StateFault
 
 /// Reads one session more, and gives the bytes behind it.
 #[tactic(auto, unfolding(vr_table::specs::Table::read_on))]
-fn read_next<'a>(alloc: Global, table: &mut Table, bytes: &'a [u8]) -> Result<&'a [u8], StateFault>
+fn read_next<'a>(
+    alloc: Global,
+    table: &mut SessionTable,
+    bytes: &'a [u8],
+) -> Result<&'a [u8], StateFault>
     requires { IsMap nat_cmp table.old.entries }
     ensures is_map { IfOk result (λ _. IsMap nat_cmp table.new.entries) }
     ensures rest { IfOk result (λ rest. (n : ℕ) → read_on nat_cmp session_from (suc n) table.old.entries bytes.now ≡ read_on nat_cmp session_from n table.new.entries rest.now) }

@@ -9,7 +9,7 @@ ghost use Rattle.vr_sess.specs.Texts.{session_text, sessions_text, sessions_deco
 
 use crate::codec::{encode_table, read_table};
 use crate::session::{SessionAnswer, judge, new_session};
-use crate::table::{Table, insert, oldest, remove};
+use crate::table::{SessionTable, insert, oldest, remove};
 use std::alloc::Global;
 use std::marker::Model;
 use vr_base::{ByteList, NoMemory};
@@ -23,7 +23,7 @@ pub const SESSIONS: usize = 32;
 #[derive(Drop)]
 pub struct Sessions {
     alloc: Global,
-    table: Table,
+    table: SessionTable,
 }
 
 impl Model for Sessions {
@@ -43,7 +43,7 @@ impl Sessions {
     {
         Sessions {
             alloc,
-            table: Table::new(alloc),
+            table: SessionTable::new(alloc),
         }
     }
 

@@ -10,10 +10,10 @@ use indexmap::IndexMap;
 use vr_base::NoMemory;
 
 /// The clients with their sessions.
-pub type Table = IndexMap<u64, Session>;
+pub type SessionTable = IndexMap<u64, Session>;
 
 /// Gives the client this session.
-pub fn insert(table: &mut Table, client: u64, session: Session) -> Result<(), NoMemory>
+pub fn insert(table: &mut SessionTable, client: u64, session: Session) -> Result<(), NoMemory>
     requires { IsMap nat_cmp table.old.entries }
     ensures ok { OnOk result (table.new.entries ≡ put nat_cmp client session table.old.entries) }
     ensures err { OnErr result (table.new.entries ≡ table.old.entries) }
@@ -23,7 +23,7 @@ pub fn insert(table: &mut Table, client: u64, session: Session) -> Result<(), No
 }
 
 /// Takes the client's session out.
-pub fn remove(table: &mut Table, client: u64)
+pub fn remove(table: &mut SessionTable, client: u64)
     requires { IsMap nat_cmp table.old.entries }
     ensures { table.new.entries ≡ without nat_cmp client table.old.entries }
 {
@@ -33,7 +33,7 @@ pub fn remove(table: &mut Table, client: u64)
 /// The client of the session whose last op is least, of several the least client, with that op; `None` where there is
 /// no session.
 #[tactic(auto, unfolding(crate::specs::Sessions::oldest))]
-pub fn oldest(table: &Table) -> Option<(u64, u64)>
+pub fn oldest(table: &SessionTable) -> Option<(u64, u64)>
     ensures { result ≡ oldest table.now.entries }
 {
     let mut found = None;
@@ -60,7 +60,7 @@ fn older(found: Option<(u64, u64)>, client: u64, op: u64) -> Option<(u64, u64)>
 }
 
 /// Whether the client stands above the last.
-pub fn follows(table: &Table, client: u64) -> bool
+pub fn follows(table: &SessionTable, client: u64) -> bool
     requires { IsMap nat_cmp table.now.entries }
     ensures { (session : Session) → result ≡ is_sorted nat_cmp (table.now.entries ++ (client, session) ∷ []) }
 {
@@ -71,7 +71,7 @@ pub fn follows(table: &Table, client: u64) -> bool
 }
 
 /// Puts a client that stands above the last at the end.
-pub fn push(table: &mut Table, client: u64, session: Session) -> Result<(), NoMemory>
+pub fn push(table: &mut SessionTable, client: u64, session: Session) -> Result<(), NoMemory>
     requires { IsMap nat_cmp (table.old.entries ++ (client, session) ∷ []) }
     ensures ok { OnOk result (table.new.entries ≡ table.old.entries ++ (client, session) ∷ []) }
 {

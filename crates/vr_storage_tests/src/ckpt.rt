@@ -6,7 +6,7 @@ use std::alloc::Global;
 use std::test::Fail;
 use vr_apply::Texts;
 use vr_base::Seq;
-use vr_ckpt::{Load, Name, Saved, Table, load, save};
+use vr_ckpt::{Load, Name, PayloadTable, SavedCheckpoint, load, save};
 use vr_disk::{Sector, SectorDisk};
 use vr_mem::MemDisk;
 
@@ -32,8 +32,8 @@ fn saved(
     disk: &mut MemDisk,
     second: bool,
     calls: u32,
-) -> Result<Option<Saved>, Fail> {
-    let none = Table::new(rt.alloc());
+) -> Result<Option<SavedCheckpoint>, Fail> {
+    let none = PayloadTable::new(rt.alloc());
     let one = texts(rt.alloc(), 21)?;
     if !second {
         disk.fuse(u64::from(calls) + 1, 0);
@@ -61,7 +61,7 @@ fn calls(rt: HostRuntime) -> Result<(), Fail> {
 }
 
 // The addresses of a checkpoint's blocks, the root first.
-fn addresses(rt: &HostRuntime, done: &Saved) -> Result<String, Fail> {
+fn addresses(rt: &HostRuntime, done: &SavedCheckpoint) -> Result<String, Fail> {
     let mut text = String::new(rt.alloc());
     let root = done.root.address;
     write!(text, "{root}")?;
@@ -123,7 +123,7 @@ fn damaged(rt: HostRuntime) -> Result<(), Fail> {
     Ok(())
 }
 
-fn has(found: &Load, texts: &Texts, table: &Table) -> bool {
+fn has(found: &Load, texts: &Texts, table: &PayloadTable) -> bool {
     match found {
         Load::Missing(_) => false,
         Load::Loaded(others, blocks) => *others == *texts && *blocks == *table,

@@ -13,7 +13,7 @@ use Rattle.vr_super.specs.declared.recovering.SuperFault.{SuperFault}
 use Rattle.vr_super.specs.declared.recovering.SuperFault.TheVariants as fault
 use Rattle.vr_super.specs.declared.recovering.CopyVerdict.TheVariants.{Bad}
 use Rattle.vr_super.specs.Calls.{mend_calls}
-use Rattle.vr_super.specs.Copies.{Saved, copy_bytes, value_of}
+use Rattle.vr_super.specs.Copies.{SuperValue, copy_bytes, value_of}
 use Rattle.vr_super.specs.Opens.{alike, best_of, copy_reading, found_of, four, good_copies, good_copy, if_alike, if_good, opened, opens, place_of}
 use Rattle.vr_super.specs.Recovers.{Chosen, Recovers, RecoversFrom}
 use Rattle.vr_super.proofs.Best.{opened_among, opened_some}
@@ -93,7 +93,7 @@ pub chosen_bad : (b : List ℕ) → is_some (value_of b) ≡ false → Chosen (f
 chosen_bad b e = rw (bad_is b e, opened_none) (refl, refl)
 
 -- what was read of the best
-pub chosen_read : (copies : List (Option (List ℕ))) (b : List ℕ) (r : Result Saved SuperFault) → opened copies ≡ Some b → is_some (value_of b) ≡ true → IfOk r (λ v. value_of b ≡ Some v) → IfErr r (λ e. e ≡ fault.NoMemory) → Chosen copies r
+pub chosen_read : (copies : List (Option (List ℕ))) (b : List ℕ) (r : Result SuperValue SuperFault) → opened copies ≡ Some b → is_some (value_of b) ≡ true → IfOk r (λ v. value_of b ≡ Some v) → IfErr r (λ e. e ≡ fault.NoMemory) → Chosen copies r
 chosen_read copies b (Ok v) o g h f = chosen_some copies b v o h
 chosen_read copies b (Err e) o g h f = subst (λ (x : SuperFault). Chosen copies (Err x)) (sym f) (chosen_there copies b o g)
 
@@ -101,7 +101,7 @@ same_some : (a b : List ℕ) → Some a ≡ Some b → a ≡ b
 same_some a b e = cc
 
 -- they have the bytes of the value that opens
-value_bytes : (f : Face) (b : List ℕ) (v : Saved) → IsFace f → Alike f b → opens f ≡ Some v → b ≡ copy_bytes v
+value_bytes : (f : Face) (b : List ℕ) (v : SuperValue) → IsFace f → Alike f b → opens f ≡ Some v → b ≡ copy_bytes v
 value_bytes f b v h a e =
     let o = opened_of f v h e in
     let at : (c : ℕ) → copy_reading f c ≡ Some b → good_copy f c ≡ Some (copy_bytes v) → b ≡ copy_bytes v = λ c r g. same_some b (copy_bytes v) (sym r ∙ good_read f c (copy_bytes v) g) in
@@ -118,16 +118,16 @@ each_reads f b a (suc (suc (suc zero))) l = a.fourth
 each_reads f b a (suc (suc (suc (suc c)))) l = absurd (omega arith)
 
 -- nothing is to be mended
-mends_nothing : (f : Face) (b : List ℕ) (v : Saved) → IsFace f → Alike f b → opens f ≡ Some v → mend_calls v f ≡ []
+mends_nothing : (f : Face) (b : List ℕ) (v : SuperValue) → IsFace f → Alike f b → opens f ≡ Some v → mend_calls v f ≡ []
 mends_nothing f b v h a e = mends_none 4 0 v f (omega arith) (λ c l. each_reads f b a c l ∙ ap Some (value_bytes f b v h a e))
 
-alike_on : (d : Disk) (new : Option Disk) (b : List ℕ) (r : Result Saved SuperFault) → IsFace d.face → Alike d.face b → good_copies d.face ≡ four (if_good (Some b)) → new ≡ Some d → Chosen (four (if_good (Some b))) r → Recovers d new r
+alike_on : (d : Disk) (new : Option Disk) (b : List ℕ) (r : Result SuperValue SuperFault) → IsFace d.face → Alike d.face b → good_copies d.face ≡ four (if_good (Some b)) → new ≡ Some d → Chosen (four (if_good (Some b))) r → Recovers d new r
 alike_on d new b (Ok v) h a g n c =
     let o : opens d.face ≡ Some v = opens_is d (four (if_good (Some b))) (sym g) ∙ c in
     (o, subst (λ (cs : List Call). Runs cs (Some d) new true) (sym (mends_nothing d.face b v h a o)) (n, refl))
 alike_on d new b (Err e) h a g n c = stops_on d new (four (if_good (Some b))) e (sym g) n c
 
-pub alike_from : (t new : Option Disk) (b : List ℕ) (r : Result Saved SuperFault) → IfSome t (λ d. IsFace d.face) → IfSome t (λ d. alike d.face ≡ Some b) → new ≡ t → Chosen (four (if_good (Some b))) r → RecoversFrom t new r
+pub alike_from : (t new : Option Disk) (b : List ℕ) (r : Result SuperValue SuperFault) → IfSome t (λ d. IsFace d.face) → IfSome t (λ d. alike d.face ≡ Some b) → new ≡ t → Chosen (four (if_good (Some b))) r → RecoversFrom t new r
 alike_from None new b r w a n c = n
 alike_from (Some d) new b r w a n c = alike_on d new b r w (alike_is d.face b a) (alike_copies d.face b a) n c
 

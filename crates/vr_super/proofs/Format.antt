@@ -17,7 +17,7 @@ use Rattle.vr_header.specs.declared.header.HeaderFault.{HeaderFault}
 use Rattle.vr_header.specs.Spelling.{IsHeader, Spells, decoded, header_bytes}
 use Rattle.vr_header.proofs.HeaderLaws.{decoded_again, decoded_found, length-header_bytes}
 use Rattle.vr_super.specs.declared.fields.Fields.{Fields}
-use Rattle.vr_super.specs.Copies.{IsFields, IsGood, Saved, are_listed, copy_bytes, count_at, field_bytes, fields_at, first_op, front_bytes, good_count, good_fields, good_member, good_root, good_window, is_closed, is_listed, is_named, is_sealed, list_at, list_bytes, named_bytes, value_of, with_listed, zeros}
+use Rattle.vr_super.specs.Copies.{IsFields, IsGood, SuperValue, are_listed, copy_bytes, count_at, field_bytes, fields_at, first_op, front_bytes, good_count, good_fields, good_member, good_root, good_window, is_closed, is_listed, is_named, is_sealed, list_at, list_bytes, named_bytes, value_of, with_listed, zeros}
 
 -- ---- what a good copy has
 
@@ -45,32 +45,32 @@ unfolding is_sealed is_closed is_named
 sealed_from b s =
     and_from _ _ (eq-eqb _ _ s.long) (and_from _ _ s.fields (and_from _ _ (eq-eqb _ _ s.version) (and_from _ _ s.blank (and_from _ _ s.rest ((bytes_eq-Decides (piece 0 16 b) (name_of (drop 16 b))).1 s.named)))))
 
-pub record Valued (b : List ℕ) (v : Saved) : Type 0 where
+pub record Valued (b : List ℕ) (v : SuperValue) : Type 0 where
   pub is_sealed : Sealed b
   pub fields : v.fields ≡ fields_at b
   pub headers : list_at (fields_at b) (first_op (fields_at b) (count_at b)) (count_at b) (drop 128 b) ≡ Some v.headers
 
-valued_by : (b : List ℕ) (v : Saved) (o : Option (List Header)) → option_map (λ (hs : List Header). let w : Saved = record { fields = fields_at b; headers = hs } in w) o ≡ Some v → (v.fields ≡ fields_at b) × (o ≡ Some v.headers)
+valued_by : (b : List ℕ) (v : SuperValue) (o : Option (List Header)) → option_map (λ (hs : List Header). let w : SuperValue = record { fields = fields_at b; headers = hs } in w) o ≡ Some v → (v.fields ≡ fields_at b) × (o ≡ Some v.headers)
 valued_by b v None e = absurd cc
 valued_by b v (Some hs) e =
-    let w : Saved = record { fields = fields_at b; headers = hs } in
+    let w : SuperValue = record { fields = fields_at b; headers = hs } in
     let same : w ≡ v = cc in
-    (ap (λ (x : Saved). x.fields) (sym same), ap (λ (x : Saved). Some x.headers) same)
+    (ap (λ (x : SuperValue). x.fields) (sym same), ap (λ (x : SuperValue). Some x.headers) same)
 
-pub valued : (b : List ℕ) (v : Saved) → value_of b ≡ Some v → Valued b v
+pub valued : (b : List ℕ) (v : SuperValue) → value_of b ≡ Some v → Valued b v
 unfolding value_of
 valued b v e =
     let list = list_at (fields_at b) (first_op (fields_at b) (count_at b)) (count_at b) (drop 128 b) in
-    let made = option_map (λ (hs : List Header). let w : Saved = record { fields = fields_at b; headers = hs } in w) list in
+    let made = option_map (λ (hs : List Header). let w : SuperValue = record { fields = fields_at b; headers = hs } in w) list in
     elim (is_sealed b) as (λ x. is_sealed b ≡ x → cond x made None ≡ Some v → Valued b v) [
       | true ↦ λ s e. let p = valued_by b v list e in record { is_sealed = sealed_parts b s; fields = p.0; headers = p.1 }
       | false ↦ λ s e. absurd cc
     ] refl e
 
-pub good_named : (b : List ℕ) (v : Saved) → value_of b ≡ Some v → piece 0 16 b ≡ name_of (drop 16 b)
+pub good_named : (b : List ℕ) (v : SuperValue) → value_of b ≡ Some v → piece 0 16 b ≡ name_of (drop 16 b)
 good_named b v e = (valued b v e).is_sealed.named
 
-pub good_version : (b : List ℕ) (v : Saved) → value_of b ≡ Some v → get_or b 92 0 ≡ 1
+pub good_version : (b : List ℕ) (v : SuperValue) → value_of b ≡ Some v → get_or b 92 0 ≡ 1
 good_version b v e = (valued b v e).is_sealed.version
 
 -- ---- zeros
@@ -92,10 +92,10 @@ length-zeros n = length-replicate n 0
 abbrev layout : List ℕ
 layout = 16 ∷ 8 ∷ 8 ∷ 4 ∷ 4 ∷ 8 ∷ 8 ∷ 16 ∷ 8 ∷ 8 ∷ 2 ∷ 1 ∷ 1 ∷ 1 ∷ 35 ∷ []
 
-pieces : Saved → List (List ℕ)
+pieces : SuperValue → List (List ℕ)
 pieces v = name_of (named_bytes v) ∷ field_bytes v.fields (length v.headers)
 
-widths-pieces : (v : Saved) → IsFields v.fields → widths (pieces v) ≡ layout
+widths-pieces : (v : SuperValue) → IsFields v.fields → widths (pieces v) ≡ layout
 unfolding pieces
 widths-pieces v f =
     rw (length-name_of, f.root_name, length-bytes64, length-bytes64, length-bytes32, length-bytes32, length-bytes64, length-bytes64, length-bytes64, length-bytes64, length-bytes16, length-zeros) refl
@@ -105,7 +105,7 @@ unfolding list_bytes
 length-list_bytes [] f = refl
 length-list_bytes (h ∷ hs) f = let a = length-append (header_bytes h) (list_bytes hs) in let b = length-header_bytes h f.0 in let c = length-list_bytes hs f.1 in omega arith
 
-length-front : (v : Saved) → IsFields v.fields → length (front_bytes v.fields (length v.headers)) ≡ 112
+length-front : (v : SuperValue) → IsFields v.fields → length (front_bytes v.fields (length v.headers)) ≡ 112
 unfolding front_bytes
 length-front v f =
     length-joined (field_bytes v.fields (length v.headers))
@@ -120,7 +120,7 @@ count_fits f count e =
     let s = and_parts (leb (f.head - f.checkpoint) count && leb (min f.head 1) count) (leb count f.head && leb count 64) r.1 in
     leb-true count 64 (and_parts (leb count f.head) (leb count 64) s.1).1
 
-length-named : (v : Saved) → IsGood v → length (named_bytes v) ≡ 10224
+length-named : (v : SuperValue) → IsGood v → length (named_bytes v) ≡ 10224
 unfolding named_bytes
 length-named v g =
     let n = length v.headers in
@@ -132,37 +132,37 @@ length-named v g =
     let k = count_fits v.fields n g.fields in
     omega arith
 
-pub length-copy_bytes : (v : Saved) → IsGood v → length (copy_bytes v) ≡ 10240
+pub length-copy_bytes : (v : SuperValue) → IsGood v → length (copy_bytes v) ≡ 10240
 unfolding copy_bytes
 length-copy_bytes v g = let a = length-append (name_of (named_bytes v)) (named_bytes v) in let b = length-name_of (named_bytes v) in let c = length-named v g in omega arith
 
-pub name-copy_bytes : (v : Saved) → piece 0 16 (copy_bytes v) ≡ name_of (named_bytes v)
+pub name-copy_bytes : (v : SuperValue) → piece 0 16 (copy_bytes v) ≡ name_of (named_bytes v)
 unfolding copy_bytes piece
 name-copy_bytes v = take_at (name_of (named_bytes v)) (named_bytes v) 16 (length-name_of (named_bytes v))
 
-pub rest-copy_bytes : (v : Saved) → drop 16 (copy_bytes v) ≡ named_bytes v
+pub rest-copy_bytes : (v : SuperValue) → drop 16 (copy_bytes v) ≡ named_bytes v
 unfolding copy_bytes
 rest-copy_bytes v = drop_at (name_of (named_bytes v)) (named_bytes v) 16 (length-name_of (named_bytes v))
 
 -- behind the first 128 bytes
-abbrev pub tail_bytes : Saved → List ℕ
+abbrev pub tail_bytes : SuperValue → List ℕ
 tail_bytes v = list_bytes v.headers ++ zeros (10112 - 128 * length v.headers)
 
-split_copy : (v : Saved) → copy_bytes v ≡ joined (pieces v) ++ tail_bytes v
+split_copy : (v : SuperValue) → copy_bytes v ≡ joined (pieces v) ++ tail_bytes v
 unfolding copy_bytes named_bytes front_bytes pieces
 split_copy v = sym (append_assoc (name_of (named_bytes v)) (front_bytes v.fields (length v.headers)) (tail_bytes v))
 
-length-pieces : (v : Saved) → IsFields v.fields → length (joined (pieces v)) ≡ 128
+length-pieces : (v : SuperValue) → IsFields v.fields → length (joined (pieces v)) ≡ 128
 length-pieces v f = length-joined (pieces v) ∙ ap total (widths-pieces v f)
 
-begins : (v : Saved) → IsFields v.fields → BeginsWith layout (pieces v) (copy_bytes v)
+begins : (v : SuperValue) → IsFields v.fields → BeginsWith layout (pieces v) (copy_bytes v)
 begins v f = record { widths = widths-pieces v f; front = ap (take 128) (split_copy v) ∙ take_at (joined (pieces v)) (tail_bytes v) 128 (length-pieces v f) }
 
-pub behind_copy : (v : Saved) → IsFields v.fields → drop 128 (copy_bytes v) ≡ tail_bytes v
+pub behind_copy : (v : SuperValue) → IsFields v.fields → drop 128 (copy_bytes v) ≡ tail_bytes v
 behind_copy v f = ap (drop 128) (split_copy v) ∙ drop_at (joined (pieces v)) (tail_bytes v) 128 (length-pieces v f)
 
 -- what stands at each place of a value's bytes
-record Standing (v : Saved) (b : List ℕ) : Type 0 where
+record Standing (v : SuperValue) (b : List ℕ) : Type 0 where
   sequence : number w64 16 b ≡ v.fields.sequence
   cluster : number w64 24 b ≡ v.fields.cluster
   view : number w32 32 b ≡ v.fields.view
@@ -178,7 +178,7 @@ record Standing (v : Saved) (b : List ℕ) : Type 0 where
   version : get_or b 92 0 ≡ 1
   blank : piece 93 35 b ≡ zeros 35
 
-standing : (v : Saved) → IsGood v → Standing v (copy_bytes v)
+standing : (v : SuperValue) → IsGood v → Standing v (copy_bytes v)
 unfolding pieces
 standing v g =
     let b = copy_bytes v in
@@ -202,13 +202,13 @@ standing v g =
       blank = at 14 (omega arith);
     }
 
-fields_again : (v : Saved) → IsGood v → fields_at (copy_bytes v) ≡ v.fields
+fields_again : (v : SuperValue) → IsGood v → fields_at (copy_bytes v) ≡ v.fields
 unfolding fields_at
 fields_again v g =
     let t = standing v g in
     rw (t.sequence, t.cluster, t.view, t.log_view, t.checkpoint, t.root_address, t.root_name, t.commit, t.head, t.replica, t.n) refl
 
-count_again : (v : Saved) → IsGood v → count_at (copy_bytes v) ≡ length v.headers
+count_again : (v : SuperValue) → IsGood v → count_at (copy_bytes v) ≡ length v.headers
 unfolding count_at
 count_again v g = (standing v g).count
 
@@ -223,7 +223,7 @@ list_again f op (x ∷ hs) z h l =
     let rest : drop 128 t ≡ list_bytes hs ++ z = ap (drop 128) (append_assoc (header_bytes x) (list_bytes hs) z) ∙ drop_at (header_bytes x) (list_bytes hs ++ z) 128 n in
     rw (decoded_again x t h.0 first, rest, p.0, list_again f (op + 1) hs z h.1 p.1) refl
 
-sealed_again : (v : Saved) → IsGood v → Sealed (copy_bytes v)
+sealed_again : (v : SuperValue) → IsGood v → Sealed (copy_bytes v)
 sealed_again v g =
     let t = standing v g in
     let b = copy_bytes v in
@@ -238,7 +238,7 @@ sealed_again v g =
       named = name-copy_bytes v ∙ ap name_of (sym (rest-copy_bytes v));
     }
 
-pub value_again : (v : Saved) → IsGood v → value_of (copy_bytes v) ≡ Some v
+pub value_again : (v : SuperValue) → IsGood v → value_of (copy_bytes v) ≡ Some v
 unfolding value_of
 value_again v g =
     rw (sealed_from (copy_bytes v) (sealed_again v g), fields_again v g, count_again v g, behind_copy v g.numbers, list_again v.fields (first_op v.fields (length v.headers)) v.headers (zeros (10112 - 128 * length v.headers)) g.each g.listed) refl
@@ -341,7 +341,7 @@ tail_found b n e l s =
     let zero : is_zeros (drop (128 + 128 * n) b) ≡ true = rw e s.rest in
     ap zeros (sym size) ∙ (sym (are_zeros (drop (128 + 128 * n) b) zero) ∙ sym (drop-drop (128 * n) 128 b))
 
-named_found : (b : List ℕ) (v : Saved) → IsBytes b → Valued b v → Found (fields_at b) (first_op (fields_at b) (count_at b)) (count_at b) (drop 128 b) v.headers → named_bytes v ≡ drop 16 b
+named_found : (b : List ℕ) (v : SuperValue) → IsBytes b → Valued b v → Found (fields_at b) (first_op (fields_at b) (count_at b)) (count_at b) (drop 128 b) v.headers → named_bytes v ≡ drop 16 b
 unfolding named_bytes
 named_found b v h x l =
     let n = length v.headers in
@@ -353,7 +353,7 @@ named_found b v h x l =
     let both : list_bytes v.headers ++ zeros (10112 - 128 * n) ≡ drop 128 b = ap (λ y. y ++ zeros (10112 - 128 * n)) list ∙ (ap (λ y. take (128 * n) (drop 128 b) ++ y) zero ∙ take-append-drop (128 * n) (drop 128 b)) in
     ap (λ y. y ++ (list_bytes v.headers ++ zeros (10112 - 128 * n))) fields ∙ (ap (λ y. take 112 (drop 16 b) ++ y) (both ∙ sym (drop-drop 112 16 b)) ∙ take-append-drop 112 (drop 16 b))
 
-pub value_found : (b : List ℕ) (v : Saved) → IsBytes b → value_of b ≡ Some v → (b ≡ copy_bytes v) × IsGood v
+pub value_found : (b : List ℕ) (v : SuperValue) → IsBytes b → value_of b ≡ Some v → (b ≡ copy_bytes v) × IsGood v
 unfolding copy_bytes piece
 value_found b v h e =
     let x = valued b v e in

@@ -6,10 +6,10 @@ use Rattle.std.specs.Result.{result_ok}
 use Rattle.std.proofs.lemmas.List.{append-nil, drop-drop}
 use Rattle.vr_header.specs.declared.header.Header.{Header}
 use Rattle.vr_header.specs.declared.header.HeaderFault.{HeaderFault}
-use Rattle.vr_header.specs.Spelling.{decoded, fault_of, header_at}
+use Rattle.vr_header.specs.Spelling.{decoded, fault_of, decoded_header}
 use Rattle.vr_super.specs.declared.fields.Fields.{Fields}
 use Rattle.vr_base.specs.Bytes.{IsBytes}
-use Rattle.vr_super.specs.Copies.{Saved, count_at, fields_at, first_op, list_at, value_of}
+use Rattle.vr_super.specs.Copies.{SuperValue, count_at, fields_at, first_op, list_at, value_of}
 use Rattle.vr_super.specs.Laws.{IsSpelled}
 use Rattle.vr_super.proofs.Format.{With, count_fits, value_found, valued, with_by}
 use Rattle.vr_super.proofs.Sealing.{list_past, list_start, list_step}
@@ -51,11 +51,11 @@ by_fault None x h e = refl
 by_fault (Some y) x h e = absurd cc
 
 fault_none : (t : List ℕ) (h : Header) (r : Result Header HeaderFault) → decoded t ≡ r → result_ok r ≡ Some h → fault_of t ≡ None
-fault_none t h (Ok x) d e = by_fault (fault_of t) (header_at t) x d
+fault_none t h (Ok x) d e = by_fault (fault_of t) (decoded_header t) x d
 fault_none t h (Err x) d e = absurd cc
 
-pub decoded_at : (t : List ℕ) → fault_of t ≡ None → decoded t ≡ Ok (header_at t)
-decoded_at t e = ap (λ (o : Option HeaderFault). option_map_or Err o (Ok (header_at t))) e
+pub decoded_at : (t : List ℕ) → fault_of t ≡ None → decoded t ≡ Ok (decoded_header t)
+decoded_at t e = ap (λ (o : Option HeaderFault). option_map_or Err o (Ok (decoded_header t))) e
 
 -- each header of a list
 all_read : (n i op : ℕ) (f : Fields) (t : List ℕ) (hs : List Header) → list_at f op n t ≡ Some hs → i < n → fault_of (drop (128 * i) t) ≡ None
@@ -76,7 +76,7 @@ some_of : {X : Type 0} → (o : Option X) → is_some o ≡ true → (x : X) × 
 some_of None e = absurd cc
 some_of (Some x) e = (x, refl)
 
-pub value_there : (b : List ℕ) → is_some (value_of b) ≡ true → (v : Saved) × (value_of b ≡ Some v)
+pub value_there : (b : List ℕ) → is_some (value_of b) ≡ true → (v : SuperValue) × (value_of b ≡ Some v)
 value_there b e = some_of (value_of b) e
 
 pub few : (b : List ℕ) → is_some (value_of b) ≡ true → count_at b ≤ 64
@@ -89,9 +89,9 @@ value_is b hs e h =
     let p = value_there b e in
     let x = valued b p.0 p.1 in
     let same = h (fields_at b) (first_op (fields_at b) (count_at b)) p.0.headers x.headers in
-    p.1 ∙ (ap (λ (f : Fields). let v : Saved = record { fields = f; headers = p.0.headers } in Some v) x.fields ∙ ap (λ (l : List Header). let v : Saved = record { fields = fields_at b; headers = l } in Some v) (sym same))
+    p.1 ∙ (ap (λ (f : Fields). let v : SuperValue = record { fields = f; headers = p.0.headers } in Some v) x.fields ∙ ap (λ (l : List Header). let v : SuperValue = record { fields = fields_at b; headers = l } in Some v) (sym same))
 
-pub read_is : (b : List ℕ) (v : Saved) → IsBytes b → length b ≡ 10240 → value_of b ≡ Some v → IsSpelled v b
+pub read_is : (b : List ℕ) (v : SuperValue) → IsBytes b → length b ≡ 10240 → value_of b ≡ Some v → IsSpelled v b
 read_is b v h l e = let p = value_found b v h e in record { good = p.1; spelled = p.0; size = l }
 
 pub spelled_at : (b : List ℕ) (i : ℕ) → is_some (value_of b) ≡ true → i < count_at b → fault_of (drop (128 * i) (drop 128 b)) ≡ None

@@ -15,7 +15,7 @@ use Rattle.vr_disk.proofs.Halting.{cut_is, front_is, halts_both, stop_is}
 use Rattle.vr_disk.proofs.Running.{after_is}
 use Rattle.vr_disk.proofs.Stopping.{stops_are}
 use Rattle.vr_disk.specs.Stops.{halted}
-use Rattle.vr_super.specs.Copies.{IsGood, Saved, copy_bytes, value_of}
+use Rattle.vr_super.specs.Copies.{IsGood, SuperValue, copy_bytes, value_of}
 use Rattle.vr_super.specs.Opens.{agreed, copy_reading, good_copies, good_copy, if_good, opened, opens}
 use Rattle.vr_super.specs.Calls.{copy_calls, mend_calls, mend_copy, mend_from, mend_unless, save_from, write_calls}
 use Rattle.vr_super.specs.Laws.{AllRead, CountLaw, MendLaw, Mended, OpensOn, TellsApart, WriteLaw, Written}
@@ -25,7 +25,7 @@ use Rattle.vr_super.proofs.Readings.{copy_is_bytes, copy_within, mend_within, ot
 use Rattle.vr_super.proofs.Torn.{Either, copy_torn, head_of, head_reads, mend_torn}
 
 -- a copy that reads as the value is good
-good_reads : (v : Saved) (f : Face) (c : ℕ) → IsGood v → copy_reading f c ≡ Some (copy_bytes v) → good_copy f c ≡ Some (copy_bytes v)
+good_reads : (v : SuperValue) (f : Face) (c : ℕ) → IsGood v → copy_reading f c ≡ Some (copy_bytes v) → good_copy f c ≡ Some (copy_bytes v)
 unfolding good_copy
 good_reads v f c g e = rw (e, value_again v g) refl
 
@@ -88,7 +88,7 @@ good_read f c b e = if_good_reads (copy_reading f c) b e
 -- ---- mending
 
 -- so many copies read as the value, the others as before
-record MendedTo (v : Saved) (f : Face) (k : ℕ) (g : Face) : Type 0 where
+record MendedTo (v : SuperValue) (f : Face) (k : ℕ) (g : Face) : Type 0 where
   waiting : g.waiting ≡ []
   count : length g.cells ≡ 1424
   done : (c : ℕ) → c < k → copy_reading g c ≡ Some (copy_bytes v)
@@ -96,11 +96,11 @@ record MendedTo (v : Saved) (f : Face) (k : ℕ) (g : Face) : Type 0 where
   heads : (c : ℕ) → c < k → reads g (20 * c) ≡ Some (head_of v)
   heads_left : (c : ℕ) → k ≤ c → c < 4 → reads g (20 * c) ≡ reads f (20 * c)
 
-unless_waits : (v : Saved) (f g : Face) (k : ℕ) → g.waiting ≡ [] → (after_all g (mend_unless k (copy_bytes v) f)).waiting ≡ []
+unless_waits : (v : SuperValue) (f g : Face) (k : ℕ) → g.waiting ≡ [] → (after_all g (mend_unless k (copy_bytes v) f)).waiting ≡ []
 unless_waits v f g k w =
     elim (has (copy_bytes v) (copy_reading f k)) as (λ b. (after_all g (cond b [] (mend_copy k (copy_bytes v)))).waiting ≡ []) [ true ↦ w | false ↦ mend_waits (copy_bytes v) g k ]
 
-mended_next : (v : Saved) (f g : Face) (k : ℕ) → IsGood v → IsFace f → k < 4 → MendedTo v f k g → MendedTo v f (k + 1) (after_all g (mend_unless k (copy_bytes v) f))
+mended_next : (v : SuperValue) (f g : Face) (k : ℕ) → IsGood v → IsFace f → k < 4 → MendedTo v f k g → MendedTo v f (k + 1) (after_all g (mend_unless k (copy_bytes v) f))
 mended_next v f g k gv h0 l m =
     elim (has (copy_bytes v) (copy_reading f k)) as (λ b. has (copy_bytes v) (copy_reading f k) ≡ b → MendedTo v f (k + 1) (after_all g (cond b [] (mend_copy k (copy_bytes v))))) [
       | true ↦ λ h. record {
@@ -133,7 +133,7 @@ mended_next v f g k gv h0 l m =
           }
     ] refl
 
-all_mended : (n k : ℕ) (v : Saved) (f g : Face) → IsGood v → IsFace f → k + n ≡ 4 → MendedTo v f k g → MendedTo v f 4 (after_all g (mend_from k n (copy_bytes v) f))
+all_mended : (n k : ℕ) (v : SuperValue) (f g : Face) → IsGood v → IsFace f → k + n ≡ 4 → MendedTo v f k g → MendedTo v f 4 (after_all g (mend_from k n (copy_bytes v) f))
 unfolding mend_from
 all_mended zero k v f g gv h0 s m = let e : k ≡ 4 = omega arith in subst (λ k. MendedTo v f k g) e m
 all_mended (suc n) k v f g gv h0 s m =
@@ -142,17 +142,17 @@ all_mended (suc n) k v f g gv h0 s m =
     rw (after_all_append calls (mend_from (k + 1) n (copy_bytes v) f) g) (all_mended n (k + 1) v f (after_all g calls) gv h0 (omega arith) next)
 
 -- the copies in the midst of it
-step_done : (v : Saved) (f g : Face) (c : ℕ) → IsGood v → copy_reading g c ≡ Some (copy_bytes v) → Step (copy_bytes v) (good_copy f c) (good_copy g c)
+step_done : (v : SuperValue) (f g : Face) (c : ℕ) → IsGood v → copy_reading g c ≡ Some (copy_bytes v) → Step (copy_bytes v) (good_copy f c) (good_copy g c)
 step_done v f g c gv e = inr (inl (good_reads v g c gv e))
 
-step_left : (v : Saved) (f g : Face) (c : ℕ) → copy_reading g c ≡ copy_reading f c → Step (copy_bytes v) (good_copy f c) (good_copy g c)
+step_left : (v : SuperValue) (f g : Face) (c : ℕ) → copy_reading g c ≡ copy_reading f c → Step (copy_bytes v) (good_copy f c) (good_copy g c)
 step_left v f g c e = inl (same_good f g c e)
 
-abbrev Steps : Saved → Face → Face → Type 0
+abbrev Steps : SuperValue → Face → Face → Type 0
 Steps v f g = (c : ℕ) → c < 4 → Step (copy_bytes v) (good_copy f c) (good_copy g c)
 
 -- each copy as before, or with the value, or bad without having had it
-torn_steps : (v : Saved) (f g : Face) (k : ℕ) (how : Option ℕ) (j : ℕ) → IsGood v → k < 4 → MendedTo v f k g → has (copy_bytes v) (copy_reading f k) ≡ false
+torn_steps : (v : SuperValue) (f g : Face) (k : ℕ) (how : Option ℕ) (j : ℕ) → IsGood v → k < 4 → MendedTo v f k g → has (copy_bytes v) (copy_reading f k) ≡ false
     → let h = halted how j g (mend_copy k (copy_bytes v)) in TellsApart h v → Steps v f h
 torn_steps v f g k how j gv l m n t c b =
     let calls = mend_copy k (copy_bytes v) in
@@ -172,10 +172,10 @@ torn_steps v f g k how j gv l m n t c b =
           ]
     ]
 
-mended_steps : (v : Saved) (f g : Face) → IsGood v → MendedTo v f 4 g → Steps v f g
+mended_steps : (v : SuperValue) (f g : Face) → IsGood v → MendedTo v f 4 g → Steps v f g
 mended_steps v f g gv m c l = step_done v f g c gv (m.done c l)
 
-unless_steps : (v : Saved) (f g : Face) (k : ℕ) (how : Option ℕ) (j : ℕ) → IsGood v → k < 4 → MendedTo v f k g → j < length (mend_unless k (copy_bytes v) f)
+unless_steps : (v : SuperValue) (f g : Face) (k : ℕ) (how : Option ℕ) (j : ℕ) → IsGood v → k < 4 → MendedTo v f k g → j < length (mend_unless k (copy_bytes v) f)
     → let h = halted how j g (mend_unless k (copy_bytes v) f) in TellsApart h v → Steps v f h
 unless_steps v f g k how j gv l m =
     elim (has (copy_bytes v) (copy_reading f k)) as (λ b. has (copy_bytes v) (copy_reading f k) ≡ b → j < length (cond b [] (mend_copy k (copy_bytes v))) → TellsApart (halted how j g (cond b [] (mend_copy k (copy_bytes v)))) v → Steps v f (halted how j g (cond b [] (mend_copy k (copy_bytes v))))) [
@@ -183,7 +183,7 @@ unless_steps v f g k how j gv l m =
       | false ↦ λ h x t. torn_steps v f g k how j gv l m h t
     ] refl
 
-steps_from : (n k : ℕ) (v : Saved) (f g : Face) (how : Option ℕ) (j : ℕ) → IsGood v → IsFace f → k + n ≡ 4 → MendedTo v f k g → let h = halted how j g (mend_from k n (copy_bytes v) f) in TellsApart h v → Steps v f h
+steps_from : (n k : ℕ) (v : SuperValue) (f g : Face) (how : Option ℕ) (j : ℕ) → IsGood v → IsFace f → k + n ≡ 4 → MendedTo v f k g → let h = halted how j g (mend_from k n (copy_bytes v) f) in TellsApart h v → Steps v f h
 unfolding mend_from halted
 steps_from zero k v f g how j gv h0 s m t = let e : k ≡ 4 = omega arith in mended_steps v f g gv (subst (λ k. MendedTo v f k g) e m)
 steps_from (suc n) k v f g how j gv h0 s m t =
@@ -197,15 +197,15 @@ steps_from (suc n) k v f g how j gv h0 s m t =
           rw same (steps_from n (k + 1) v f (after_all g calls) how (j - length calls) gv h0 (omega arith) (mended_next v f g k gv h0 (omega arith) m) (rw same at t))
     ]
 
-toward_of : (v : Saved) (f g : Face) → Steps v f g → Toward (copy_bytes v) (good_copies f) (good_copies g)
+toward_of : (v : SuperValue) (f g : Face) → Steps v f g → Toward (copy_bytes v) (good_copies f) (good_copies g)
 toward_of v f g s = (s 0 (omega arith), (s 1 (omega arith), (s 2 (omega arith), (s 3 (omega arith), tt))))
 
 -- the value that opens, by its bytes
-pub record Opened (f : Face) (v : Saved) : Type 0 where
+pub record Opened (f : Face) (v : SuperValue) : Type 0 where
   pub bytes : opened (good_copies f) ≡ Some (copy_bytes v)
   pub good : IsGood v
 
-opens_by : (f : Face) (v : Saved) → IsGood v → opened (good_copies f) ≡ Some (copy_bytes v) → opens f ≡ Some v
+opens_by : (f : Face) (v : SuperValue) → IsGood v → opened (good_copies f) ≡ Some (copy_bytes v) → opens f ≡ Some v
 unfolding opens
 opens_by f v g e = rw e (value_again v g)
 
@@ -231,23 +231,23 @@ among_good f b a n =
       | inr a ↦ elim a [ inl e ↦ good_value (copy_reading f 1) b e n | inr a ↦ elim a [ inl e ↦ good_value (copy_reading f 2) b e n | inr a ↦ elim a [ inl e ↦ good_value (copy_reading f 3) b e n | inr a ↦ elim a [ ] ] ] ]
     ]
 
-opened_by : (f : Face) (v : Saved) (o : Option (List ℕ)) → IsFace f → opened (good_copies f) ≡ o → option_and_then value_of o ≡ Some v → Opened f v
+opened_by : (f : Face) (v : SuperValue) (o : Option (List ℕ)) → IsFace f → opened (good_copies f) ≡ o → option_and_then value_of o ≡ Some v → Opened f v
 opened_by f v None h x e = absurd cc
 opened_by f v (Some b) h x e =
     let p = value_found b v (among_bytes f b h (opened_among b (good_copies f) x)) e in
     record { bytes = x ∙ ap Some p.0; good = p.1 }
 
-pub opened_of : (f : Face) (v : Saved) → IsFace f → opens f ≡ Some v → Opened f v
+pub opened_of : (f : Face) (v : SuperValue) → IsFace f → opens f ≡ Some v → Opened f v
 unfolding opens
 opened_of f v h e = opened_by f v (opened (good_copies f)) h refl e
 
-start : (v : Saved) (f : Face) → IsFace f → f.waiting ≡ [] → MendedTo v f 0 f
+start : (v : SuperValue) (f : Face) → IsFace f → f.waiting ≡ [] → MendedTo v f 0 f
 start v f h w = record { waiting = w; count = h.count; done = λ c l. absurd (omega arith); left = λ c a b. refl; heads = λ c l. absurd (omega arith); heads_left = λ c a b. refl }
 
-steps_keep : (v : Saved) (f g : Face) → Opened f v → Steps v f g → opens g ≡ Some v
+steps_keep : (v : SuperValue) (f g : Face) → Opened f v → Steps v f g → opens g ≡ Some v
 steps_keep v f g o s = opens_by g v o.good (opened_toward (copy_bytes v) (good_copies f) (good_copies g) o.bytes (toward_of v f g s))
 
-mend_halts : (v : Saved) (f : Face) (how : Option ℕ) (j : ℕ) → IsFace f → f.waiting ≡ [] → opens f ≡ Some v → let g = halted how j f (mend_calls v f) in TellsApart g v → opens g ≡ Some v
+mend_halts : (v : SuperValue) (f : Face) (how : Option ℕ) (j : ℕ) → IsFace f → f.waiting ≡ [] → opens f ≡ Some v → let g = halted how j f (mend_calls v f) in TellsApart g v → opens g ≡ Some v
 mend_halts v f how j h w e t =
     let o = opened_of f v h e in
     steps_keep v f (halted how j f (mend_calls v f)) o (steps_from 4 0 v f f how j o.good h refl (start v f h w) t)
@@ -264,14 +264,14 @@ mend_law v f h w e =
 -- ---- writing
 
 -- so many copies have the new value, the others the old one
-record WrittenTo (old new : Saved) (k : ℕ) (g : Face) : Type 0 where
+record WrittenTo (old new : SuperValue) (k : ℕ) (g : Face) : Type 0 where
   waiting : g.waiting ≡ []
   count : length g.cells ≡ 1424
   done : (c : ℕ) → c < k → copy_reading g c ≡ Some (copy_bytes new)
   left : (c : ℕ) → k ≤ c → c < 4 → copy_reading g c ≡ Some (copy_bytes old)
   heads : (c : ℕ) → k ≤ c → c < 4 → reads g (20 * c) ≡ Some (head_of old)
 
-written_next : (old new : Saved) (g : Face) (k : ℕ) → IsGood new → k < 4 → WrittenTo old new k g → WrittenTo old new (k + 1) (after_all g (copy_calls k (copy_bytes new)))
+written_next : (old new : SuperValue) (g : Face) (k : ℕ) → IsGood new → k < 4 → WrittenTo old new k g → WrittenTo old new (k + 1) (after_all g (copy_calls k (copy_bytes new)))
 written_next old new g k gn l m =
     let calls = copy_calls k (copy_bytes new) in
     let within = copy_within k (copy_bytes new) in
@@ -286,7 +286,7 @@ written_next old new g k gn l m =
       heads = λ c a b. other_head calls g k c within (λ s. absurd (omega arith)) ∙ m.heads c (omega arith) b;
     }
 
-all_written : (n k : ℕ) (old new : Saved) (g : Face) → IsGood new → k + n ≡ 4 → WrittenTo old new k g → WrittenTo old new 4 (after_all g (save_from k n (copy_bytes new)))
+all_written : (n k : ℕ) (old new : SuperValue) (g : Face) → IsGood new → k + n ≡ 4 → WrittenTo old new k g → WrittenTo old new 4 (after_all g (save_from k n (copy_bytes new)))
 unfolding save_from
 all_written zero k old new g gn s m = let e : k ≡ 4 = omega arith in subst (λ k. WrittenTo old new k g) e m
 all_written (suc n) k old new g gn s m =
@@ -294,11 +294,11 @@ all_written (suc n) k old new g gn s m =
     rw (after_all_append calls (save_from (k + 1) n (copy_bytes new)) g) (all_written n (k + 1) old new (after_all g calls) gn (omega arith) (written_next old new g k gn (omega arith) m))
 
 -- each copy is old, new or bad, and two neighbours agree
-record Ends (old new : Saved) (h : Face) : Type 0 where
+record Ends (old new : SuperValue) (h : Face) : Type 0 where
   each : (c : ℕ) → c < 4 → Either (copy_bytes old) (copy_bytes new) (good_copy h c)
   agree : (x : List ℕ) × (((good_copy h 0 ≡ Some x) × (good_copy h 1 ≡ Some x)) ⊎ ((good_copy h 2 ≡ Some x) × (good_copy h 3 ≡ Some x)))
 
-torn_ends : (old new : Saved) (g : Face) (k : ℕ) (how : Option ℕ) (j : ℕ) → IsGood old → IsGood new → k < 4 → WrittenTo old new k g
+torn_ends : (old new : SuperValue) (g : Face) (k : ℕ) (how : Option ℕ) (j : ℕ) → IsGood old → IsGood new → k < 4 → WrittenTo old new k g
     → let h = halted how j g (copy_calls k (copy_bytes new)) in TellsApart h old → TellsApart h new → Ends old new h
 torn_ends old new g k how j go gn l m to tn =
     let calls = copy_calls k (copy_bytes new) in
@@ -321,12 +321,12 @@ torn_ends old new g k how j go gn l m to tn =
       ];
     }
 
-written_ends : (old new : Saved) (g : Face) → IsGood new → WrittenTo old new 4 g → Ends old new g
+written_ends : (old new : SuperValue) (g : Face) → IsGood new → WrittenTo old new 4 g → Ends old new g
 written_ends old new g gn m =
     let at : (c : ℕ) → c < 4 → good_copy g c ≡ Some (copy_bytes new) = λ c b. good_reads new g c gn (m.done c b) in
     record { each = λ c b. inr (inl (at c b)); agree = (copy_bytes new, inl (at 0 (omega arith), at 1 (omega arith))) }
 
-ends_from : (n k : ℕ) (old new : Saved) (g : Face) (how : Option ℕ) (j : ℕ) → IsGood old → IsGood new → k + n ≡ 4 → WrittenTo old new k g
+ends_from : (n k : ℕ) (old new : SuperValue) (g : Face) (how : Option ℕ) (j : ℕ) → IsGood old → IsGood new → k + n ≡ 4 → WrittenTo old new k g
     → let h = halted how j g (save_from k n (copy_bytes new)) in TellsApart h old → TellsApart h new → Ends old new h
 unfolding save_from halted
 ends_from zero k old new g how j go gn s m to tn = let e : k ≡ 4 = omega arith in written_ends old new g gn (subst (λ k. WrittenTo old new k g) e m)
@@ -358,12 +358,12 @@ two_last x a b c d p q =
     let k = sum_by-cons (one x) d [] in
     le-leb 2 (count_by (has x) (a ∷ b ∷ c ∷ d ∷ [])) (omega arith)
 
-is_either : (old new : Saved) (h : Face) (v : List ℕ) (c : Option (List ℕ)) → IsGood old → IsGood new → opened (good_copies h) ≡ Some v → Either (copy_bytes old) (copy_bytes new) c → c ≡ Some v → (opens h ≡ Some old) ⊎ (opens h ≡ Some new)
+is_either : (old new : SuperValue) (h : Face) (v : List ℕ) (c : Option (List ℕ)) → IsGood old → IsGood new → opened (good_copies h) ≡ Some v → Either (copy_bytes old) (copy_bytes new) c → c ≡ Some v → (opens h ≡ Some old) ⊎ (opens h ≡ Some new)
 is_either old new h v c go gn o (inl x) e = inl (opens_by h old go (o ∙ sym e ∙ x))
 is_either old new h v c go gn o (inr (inl x)) e = inr (opens_by h new gn (o ∙ sym e ∙ x))
 is_either old new h v c go gn o (inr (inr x)) e = absurd cc
 
-ends_open : (old new : Saved) (h : Face) → IsGood old → IsGood new → Ends old new h → (opens h ≡ Some old) ⊎ (opens h ≡ Some new)
+ends_open : (old new : SuperValue) (h : Face) → IsGood old → IsGood new → Ends old new h → (opens h ≡ Some old) ⊎ (opens h ≡ Some new)
 ends_open old new h go gn s =
     let x = s.agree.0 in
     let pair : Among x (good_copies h) × (agreed (good_copies h) x ≡ true) = elim s.agree.1 [
@@ -377,18 +377,18 @@ ends_open old new h go gn s =
       | inr a ↦ elim a [ inl e ↦ is 1 (omega arith) e | inr a ↦ elim a [ inl e ↦ is 2 (omega arith) e | inr a ↦ elim a [ inl e ↦ is 3 (omega arith) e | inr a ↦ elim a [ ] ] ] ]
     ]
 
-begins : (old : Saved) (new : Saved) (f : Face) → IsFace f → f.waiting ≡ [] → Opened f old → WrittenTo old new 0 (after_all f (mend_calls old f))
+begins : (old : SuperValue) (new : SuperValue) (f : Face) → IsFace f → f.waiting ≡ [] → Opened f old → WrittenTo old new 0 (after_all f (mend_calls old f))
 begins old new f h w o =
     let all = all_mended 4 0 old f f o.good h refl (start old f h w) in
     record { waiting = all.waiting; count = all.count; done = λ c l. absurd (omega arith); left = λ c a b. all.done c b; heads = λ c a b. all.heads c b }
 
-write_done : (old new : Saved) (f : Face) → IsFace f → f.waiting ≡ [] → Opened f old → IsGood new → WrittenTo old new 4 (after_all f (write_calls old new f))
+write_done : (old new : SuperValue) (f : Face) → IsFace f → f.waiting ≡ [] → Opened f old → IsGood new → WrittenTo old new 4 (after_all f (write_calls old new f))
 write_done old new f h w o gn =
     let mends = mend_calls old f in
     let saves = save_from 0 4 (copy_bytes new) in
     rw (after_all_append mends saves f) (all_written 4 0 old new (after_all f mends) gn refl (begins old new f h w o))
 
-write_halts : (old new : Saved) (f : Face) (how : Option ℕ) (j : ℕ) → IsFace f → f.waiting ≡ [] → opens f ≡ Some old → IsGood new
+write_halts : (old new : SuperValue) (f : Face) (how : Option ℕ) (j : ℕ) → IsFace f → f.waiting ≡ [] → opens f ≡ Some old → IsGood new
     → let g = halted how j f (write_calls old new f) in TellsApart g old → TellsApart g new → (opens g ≡ Some old) ⊎ (opens g ≡ Some new)
 write_halts old new f how j h w e gn to tn =
     let o = opened_of f old h e in
@@ -413,7 +413,7 @@ write_law old new f h w e gn =
 -- ---- the disk as a call leaves it
 
 -- four copies that read as a value open as it
-pub reads_open : (v : Saved) (g : Face) → IsGood v → AllRead g v → opens g ≡ Some v
+pub reads_open : (v : SuperValue) (g : Face) → IsGood v → AllRead g v → opens g ≡ Some v
 reads_open v g gv a =
     let b = copy_bytes v in
     let at : (c : ℕ) → c < 4 → good_copy g c ≡ Some b = λ c l. good_reads v g c gv (a c l) in
@@ -424,7 +424,7 @@ reads_open v g gv a =
       | inr a ↦ elim a [ inl e ↦ is 1 (omega arith) e | inr a ↦ elim a [ inl e ↦ is 2 (omega arith) e | inr a ↦ elim a [ inl e ↦ is 3 (omega arith) e | inr a ↦ elim a [ ] ] ] ]
     ]
 
-pub mend_leaves : (v : Saved) (d : Disk) (ok : Bool) → IsFace d.face → d.face.waiting ≡ [] → opens d.face ≡ Some v → ok ≡ (runs (mend_calls v d.face) d).ok → Mended v ok (runs (mend_calls v d.face) d).disk.face
+pub mend_leaves : (v : SuperValue) (d : Disk) (ok : Bool) → IsFace d.face → d.face.waiting ≡ [] → opens d.face ≡ Some v → ok ≡ (runs (mend_calls v d.face) d).ok → Mended v ok (runs (mend_calls v d.face) d).disk.face
 mend_leaves v d true h w e k =
     let o = opened_of d.face v h e in
     let all = all_mended 4 0 v d.face d.face o.good h refl (start v d.face h w) in
@@ -435,7 +435,7 @@ mend_leaves v d false h w e k =
     let s = stop_is (mend_calls v d.face) d.face (runs (mend_calls v d.face) d).disk.face (stops_are (mend_calls v d.face) d (sym k)) in
     rw s.2 (record { done = λ x. absurd cc; kept = λ t. mend_halts v d.face s.0 s.1 h w e t })
 
-pub write_leaves : (old new : Saved) (d : Disk) (ok : Bool) → IsFace d.face → d.face.waiting ≡ [] → opens d.face ≡ Some old → IsGood new → ok ≡ (runs (write_calls old new d.face) d).ok
+pub write_leaves : (old new : SuperValue) (d : Disk) (ok : Bool) → IsFace d.face → d.face.waiting ≡ [] → opens d.face ≡ Some old → IsGood new → ok ≡ (runs (write_calls old new d.face) d).ok
     → Written old new ok (runs (write_calls old new d.face) d).disk.face
 write_leaves old new d true h w e gn k =
     let o = opened_of d.face old h e in
@@ -469,10 +469,10 @@ opens_on f h = record {
 
 -- ---- how many calls
 
-unless_none : (v : Saved) (f : Face) (k : ℕ) → copy_reading f k ≡ Some (copy_bytes v) → mend_unless k (copy_bytes v) f ≡ []
+unless_none : (v : SuperValue) (f : Face) (k : ℕ) → copy_reading f k ≡ Some (copy_bytes v) → mend_unless k (copy_bytes v) f ≡ []
 unless_none v f k e = ap (λ b. cond b [] (mend_copy k (copy_bytes v))) (is_has (copy_bytes v) (copy_reading f k) e)
 
-pub mends_none : (n k : ℕ) (v : Saved) (f : Face) → k + n ≤ 4 → AllRead f v → mend_from k n (copy_bytes v) f ≡ []
+pub mends_none : (n k : ℕ) (v : SuperValue) (f : Face) → k + n ≤ 4 → AllRead f v → mend_from k n (copy_bytes v) f ≡ []
 unfolding mend_from
 mends_none zero k v f l a = refl
 mends_none (suc n) k v f l a = rw (unless_none v f k (a k (omega arith))) (mends_none n (k + 1) v f (omega arith) a)

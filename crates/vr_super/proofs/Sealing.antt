@@ -9,7 +9,7 @@ use Rattle.std.proofs.lemmas.List.{drop-drop, take_all}
 use Rattle.vr_header.specs.declared.header.Header.{Header}
 use Rattle.vr_header.specs.Spelling.{decoded}
 use Rattle.vr_super.specs.declared.fields.Fields.{Fields}
-use Rattle.vr_super.specs.Copies.{Saved, count_at, fields_at, first_op, good_count, good_fields, good_member, good_root, good_window, is_closed, is_listed, is_sealed, list_at, value_of, with_listed}
+use Rattle.vr_super.specs.Copies.{SuperValue, count_at, fields_at, first_op, good_count, good_fields, good_member, good_root, good_window, is_closed, is_listed, is_sealed, list_at, value_of, with_listed}
 
 -- a value's fields and count that stand
 pub head_holds : (f : Fields) (count : ℕ) → good_fields f count ≡ true → count ≤ f.head
@@ -67,10 +67,10 @@ pub good_by : (b : List ℕ) → length b ≡ 10240 → good_fields (fields_at b
 unfolding value_of is_sealed
 good_by b l g =
     let list = list_at (fields_at b) (first_op (fields_at b) (count_at b)) (count_at b) (drop 128 b) in
-    let made = option_map (λ (hs : List Header). let w : Saved = record { fields = fields_at b; headers = hs } in w) list in
+    let made = option_map (λ (hs : List Header). let w : SuperValue = record { fields = fields_at b; headers = hs } in w) list in
     rw (eq-eqb (length b) 10240 l, g)
     (elim (is_closed b) as (λ x. is_some (cond x made None) ≡ (x && is_some list)) [
-      | true ↦ some_map (λ (hs : List Header). let w : Saved = record { fields = fields_at b; headers = hs } in w) list
+      | true ↦ some_map (λ (hs : List Header). let w : SuperValue = record { fields = fields_at b; headers = hs } in w) list
       | false ↦ refl
     ])
 

@@ -5,7 +5,7 @@ use Rattle.vr_header.specs.declared.header.Header.{Header}
 use Rattle.vr_header.specs.Spelling.{header_bytes}
 use Rattle.std.specs.Prelude.{replicate}
 use Rattle.vr_base.specs.Bytes.{name_of}
-use Rattle.vr_super.specs.Copies.{IsGood, Saved, copy_bytes, front_bytes, list_bytes, named_bytes, zeros}
+use Rattle.vr_super.specs.Copies.{IsGood, SuperValue, copy_bytes, front_bytes, list_bytes, named_bytes, zeros}
 use Rattle.vr_super.proofs.Format.{count_fits, length-copy_bytes, length-list_bytes}
 
 regrouped : (z a b c d e f g h i j k l : List ℕ)
@@ -24,7 +24,7 @@ unfolding list_bytes
 list_more hs i d l = rw (add-one, drop-cons hs i d) refl
 
 -- behind the first 16 bytes
-rest_is : (v : Saved) → IsGood v → (head pushed sized : List ℕ) (n : ℕ) → drop 16 head ≡ front_bytes v.fields (length v.headers) → length head ≡ 128 → pushed ≡ head ++ list_bytes v.headers → n ≡ length pushed
+rest_is : (v : SuperValue) → IsGood v → (head pushed sized : List ℕ) (n : ℕ) → drop 16 head ≡ front_bytes v.fields (length v.headers) → length head ≡ 128 → pushed ≡ head ++ list_bytes v.headers → n ≡ length pushed
     → sized ≡ take 10240 pushed ++ replicate (10240 - n) 0 → drop 16 sized ≡ named_bytes v
 unfolding named_bytes zeros
 rest_is v g head pushed sized n f l p m s =
@@ -36,11 +36,11 @@ rest_is v g head pushed sized n f l p m s =
     s ∙ (ap (λ x. x ++ replicate (10240 - n) 0) (take_all 10240 pushed (omega arith) ∙ p) ∙ (ap (λ m. (head ++ list_bytes v.headers) ++ replicate m 0) zero ∙ append_assoc head (list_bytes v.headers) (replicate (10112 - 128 * c) 0))) in
     ap (drop 16) whole ∙ (drop-append-le 16 head (list_bytes v.headers ++ replicate (10112 - 128 * c) 0) (omega arith) ∙ ap (λ x. x ++ (list_bytes v.headers ++ replicate (10112 - 128 * c) 0)) f)
 
-length-copy_bytes' : (v : Saved) → IsGood v → length (name_of (named_bytes v) ++ named_bytes v) ≡ 10240
+length-copy_bytes' : (v : SuperValue) → IsGood v → length (name_of (named_bytes v) ++ named_bytes v) ≡ 10240
 unfolding copy_bytes
 length-copy_bytes' v g = length-copy_bytes v g
 
-pub spelled_is : (v : Saved) → IsGood v → (head pushed sized sealed back : List ℕ) (n len : ℕ) → drop 16 head ≡ front_bytes v.fields (length v.headers) → length head ≡ 128 → pushed ≡ head ++ list_bytes v.headers → n ≡ length pushed
+pub spelled_is : (v : SuperValue) → IsGood v → (head pushed sized sealed back : List ℕ) (n len : ℕ) → drop 16 head ≡ front_bytes v.fields (length v.headers) → length head ≡ 128 → pushed ≡ head ++ list_bytes v.headers → n ≡ length pushed
     → sized ≡ take 10240 pushed ++ replicate (10240 - n) 0 → back ≡ sized → sealed ≡ name_of (drop 16 back) ++ drop 16 back → len ≡ 10240 → take len (sealed ++ drop (length sealed) sized) ≡ copy_bytes v
 unfolding copy_bytes
 spelled_is v g head pushed sized sealed back n len f l p m s b e d =

@@ -7,7 +7,7 @@ use Rattle.vr_disk.specs.Sectors.{has}
 use Rattle.vr_disk.proofs.Telling.{runs_const}
 use Rattle.vr_super.specs.Calls.{copy_calls, mend_copy, mend_from, mend_calls, mend_unless, save_from, write_calls}
 use Rattle.vr_super.specs.Opens.{copy_reading, opens}
-use Rattle.vr_super.specs.Copies.{IsGood, Saved, copy_bytes}
+use Rattle.vr_super.specs.Copies.{IsGood, SuperValue, copy_bytes}
 use Rattle.vr_super.specs.Laws.{WriteLeads, Written}
 use Rattle.vr_super.proofs.Keeping.{write_law, write_leaves}
 use Rattle.vr_super.proofs.Readings.{mend_within, other_after}
@@ -107,22 +107,22 @@ mending_ends bytes k first t l m = ends_of bytes k first t l m.is
 
 -- ---- mending and then writing
 
-pub write_then : (old new : Saved) (x y : List ℕ) (a b c : Option Disk) (ok : Bool) → x ≡ copy_bytes old → y ≡ copy_bytes new → RunsFrom (mend_from 0 4 x) a b true → Runs (save_from 0 4 y) b c ok → RunsFrom (write_calls old new) a c ok
+pub write_then : (old new : SuperValue) (x y : List ℕ) (a b c : Option Disk) (ok : Bool) → x ≡ copy_bytes old → y ≡ copy_bytes new → RunsFrom (mend_from 0 4 x) a b true → Runs (save_from 0 4 y) b c ok → RunsFrom (write_calls old new) a c ok
 write_then old new x y a b c ok p q h k =
     let h' : RunsFrom (mend_calls old) a b true = rw p at h in
     let k' : Runs (save_from 0 4 (copy_bytes new)) b c ok = rw q at k in
     RunsFrom_then (mend_calls old) (λ f. save_from 0 4 (copy_bytes new)) a b c ok h' (runs_const (save_from 0 4 (copy_bytes new)) b c ok k')
 
-pub write_stopped : (old new : Saved) (x : List ℕ) (a b : Option Disk) → x ≡ copy_bytes old → RunsFrom (mend_from 0 4 x) a b false → RunsFrom (write_calls old new) a b false
+pub write_stopped : (old new : SuperValue) (x : List ℕ) (a b : Option Disk) → x ≡ copy_bytes old → RunsFrom (mend_from 0 4 x) a b false → RunsFrom (write_calls old new) a b false
 write_stopped old new x a b p h =
     let h' : RunsFrom (mend_calls old) a b false = rw p at h in
     RunsFrom_stopped (mend_calls old) (λ f. save_from 0 4 (copy_bytes new)) a b h'
 
-pub leads : (old new : Saved) (t : Option Disk) → IfSome t (λ d. IsFace d.face) → IsGood new → IfSome t (λ d. d.face.waiting ≡ [] → opens d.face ≡ Some old → WriteLeads old new d.face)
+pub leads : (old new : SuperValue) (t : Option Disk) → IfSome t (λ d. IsFace d.face) → IsGood new → IfSome t (λ d. d.face.waiting ≡ [] → opens d.face ≡ Some old → WriteLeads old new d.face)
 leads old new None w g = tt
 leads old new (Some d) w g = λ r o. write_law old new d.face w r o g
 
-pub left_by : (old new : Saved) (t u : Option Disk) (ok : Bool) → IfSome t (λ d. IsFace d.face) → IsGood new → RunsFrom (write_calls old new) t u ok
+pub left_by : (old new : SuperValue) (t u : Option Disk) (ok : Bool) → IfSome t (λ d. IsFace d.face) → IsGood new → RunsFrom (write_calls old new) t u ok
     → IfSome t (λ d. d.face.waiting ≡ [] → opens d.face ≡ Some old → IfSome u (λ e. Written old new ok e.face))
 left_by old new None u ok w g r = tt
 left_by old new (Some d) u ok w g r = λ n o. rw r.0 (write_leaves old new d ok w n o g r.1)

@@ -12,22 +12,22 @@ use Rattle.vr_disk.proofs.Faces.{there}
 use Rattle.vr_disk.specs.Sectors.{together, writes}
 use Rattle.vr_disk.proofs.Together.{only_append, spares_append, together_first, together_same, writes_only, writes_spare}
 use Rattle.vr_disk.proofs.Halting.{frame_halted, halt_leaves, halts_both}
-use Rattle.vr_super.specs.Copies.{IsGood, Saved, copy_bytes, named_bytes, value_of}
+use Rattle.vr_super.specs.Copies.{IsGood, SuperValue, copy_bytes, named_bytes, value_of}
 use Rattle.vr_super.specs.Opens.{copy_reading, good_copy, if_good}
 use Rattle.vr_super.specs.Calls.{copy_calls, mend_copy}
 use Rattle.vr_super.specs.Laws.{TellsApart}
 use Rattle.vr_super.proofs.Format.{good_named, good_version, length-copy_bytes, name-copy_bytes, rest-copy_bytes, value_again}
 
 -- the value's first sector
-abbrev pub head_of : Saved → List ℕ
+abbrev pub head_of : SuperValue → List ℕ
 head_of v = piece 0 512 (copy_bytes v)
 
-head_length : (v : Saved) → IsGood v → length (head_of v) ≡ 512
+head_length : (v : SuperValue) → IsGood v → length (head_of v) ≡ 512
 unfolding piece
 head_length v g = let l = length-copy_bytes v g in let t = length-take 512 (copy_bytes v) in omega arith
 
 -- a good copy whose first sector is the value's has its bytes
-same_head : (v : Saved) (b : List ℕ) (u : Saved) (rest : List ℕ) → IsGood v → b ≡ head_of v ++ rest → value_of b ≡ Some u
+same_head : (v : SuperValue) (b : List ℕ) (u : SuperValue) (rest : List ℕ) → IsGood v → b ≡ head_of v ++ rest → value_of b ≡ Some u
     → (name_of (drop 16 b) ≡ name_of (named_bytes v) → drop 16 b ≡ named_bytes v) → b ≡ copy_bytes v
 unfolding piece
 same_head v b u rest g e h t =
@@ -39,7 +39,7 @@ same_head v b u rest g e h t =
 some_same : (a b : List ℕ) → Some a ≡ Some b → a ≡ b
 some_same a b e = cc
 
-version_damaged : (v : Saved) (b : List ℕ) (u : Saved) (rest : List ℕ) → IsGood v → b ≡ damaged (head_of v) ++ rest → value_of b ≡ Some u → ⊥
+version_damaged : (v : SuperValue) (b : List ℕ) (u : SuperValue) (rest : List ℕ) → IsGood v → b ≡ damaged (head_of v) ++ rest → value_of b ≡ Some u → ⊥
 unfolding piece
 version_damaged v b u rest g e h =
     let l = head_length v g in
@@ -51,7 +51,7 @@ version_damaged v b u rest g e h =
     let one = good_version b u h in
     omega arith
 
-bad_reading : (r : Option (List ℕ)) → ((b : List ℕ) (u : Saved) → r ≡ Some b → value_of b ≡ Some u → ⊥) → if_good r ≡ None
+bad_reading : (r : Option (List ℕ)) → ((b : List ℕ) (u : SuperValue) → r ≡ Some b → value_of b ≡ Some u → ⊥) → if_good r ≡ None
 bad_reading None h = refl
 bad_reading (Some b) h =
     elim (value_of b) as (λ o. value_of b ≡ o → cond (is_some o) (Some b) None ≡ None) [
@@ -63,7 +63,7 @@ bad_reading (Some b) h =
 abbrev pub OneOf : List ℕ → Option (List ℕ) → Type 0
 OneOf bytes c = (c ≡ Some bytes) ⊎ (c ≡ None)
 
-by_reading : (r : Option (List ℕ)) (bytes : List ℕ) → ((b : List ℕ) (u : Saved) → r ≡ Some b → value_of b ≡ Some u → b ≡ bytes) → OneOf bytes (if_good r)
+by_reading : (r : Option (List ℕ)) (bytes : List ℕ) → ((b : List ℕ) (u : SuperValue) → r ≡ Some b → value_of b ≡ Some u → b ≡ bytes) → OneOf bytes (if_good r)
 by_reading None bytes h = inr refl
 by_reading (Some b) bytes h =
     elim (value_of b) as (λ o. value_of b ≡ o → OneOf bytes (cond (is_some o) (Some b) None)) [
@@ -72,7 +72,7 @@ by_reading (Some b) bytes h =
     ] refl
 
 -- the first sector reads as the value's: the copy is the value's, or bad
-pub head_tells : (v : Saved) (f : Face) (c : ℕ) → IsGood v → c < 4 → reads f (20 * c) ≡ Some (head_of v) → TellsApart f v → OneOf (copy_bytes v) (good_copy f c)
+pub head_tells : (v : SuperValue) (f : Face) (c : ℕ) → IsGood v → c < 4 → reads f (20 * c) ≡ Some (head_of v) → TellsApart f v → OneOf (copy_bytes v) (good_copy f c)
 unfolding good_copy copy_reading
 head_tells v f c g l e t =
     by_reading (together (20 * c) 20 f) (copy_bytes v) (λ b u r h.
@@ -81,7 +81,7 @@ head_tells v f c g l e t =
     same_head v b u x.rest g (x.whole ∙ ap (λ y. y ++ x.rest) same) h (t c b l r))
 
 -- the first sector is damaged: the copy is bad
-pub damaged_bad : (v : Saved) (f : Face) (c : ℕ) → IsGood v → reads f (20 * c) ≡ Some (damaged (head_of v)) → good_copy f c ≡ None
+pub damaged_bad : (v : SuperValue) (f : Face) (c : ℕ) → IsGood v → reads f (20 * c) ≡ Some (damaged (head_of v)) → good_copy f c ≡ None
 unfolding good_copy copy_reading
 damaged_bad v f c g e =
     bad_reading (together (20 * c) 20 f) (λ b u r h.
@@ -96,7 +96,7 @@ unfolding copy_calls writes
 copy_only c bytes = ((λ e. refl), only_append (20 * c) (piece 0 512 bytes) (writes (20 * c + 1) 19 (drop 512 bytes)) (Sync ∷ []) (writes_only 19 (20 * c + 1) (20 * c) (piece 0 512 bytes) (drop 512 bytes) (omega arith)) (tt, tt))
 
 -- the first sector of a copy that reads as a value
-pub head_reads : (v : Saved) (f : Face) (c : ℕ) → IsGood v → IsFace f → c < 4 → copy_reading f c ≡ Some (copy_bytes v) → reads f (20 * c) ≡ Some (head_of v)
+pub head_reads : (v : SuperValue) (f : Face) (c : ℕ) → IsGood v → IsFace f → c < 4 → copy_reading f c ≡ Some (copy_bytes v) → reads f (20 * c) ≡ Some (head_of v)
 unfolding copy_reading piece
 head_reads v f c g h l e =
     let x = together_first 19 (20 * c) f (copy_bytes v) e in
@@ -107,7 +107,7 @@ head_reads v f c g h l e =
 abbrev pub Either : List ℕ → List ℕ → Option (List ℕ) → Type 0
 Either a b c = (c ≡ Some a) ⊎ ((c ≡ Some b) ⊎ (c ≡ None))
 
-pub copy_torn : (old new : Saved) (f : Face) (c : ℕ) (how : Option ℕ) (j : ℕ) → IsGood old → IsGood new → length f.cells ≡ 1424 → f.waiting ≡ [] → c < 4 → reads f (20 * c) ≡ Some (head_of old)
+pub copy_torn : (old new : SuperValue) (f : Face) (c : ℕ) (how : Option ℕ) (j : ℕ) → IsGood old → IsGood new → length f.cells ≡ 1424 → f.waiting ≡ [] → c < 4 → reads f (20 * c) ≡ Some (head_of old)
     → let g = halted how j f (copy_calls c (copy_bytes new)) in TellsApart g old → TellsApart g new → Either (copy_bytes old) (copy_bytes new) (good_copy g c)
 copy_torn old new f c how j go gn n w l before to tn =
     let calls = copy_calls c (copy_bytes new) in
@@ -127,7 +127,7 @@ first_calls c bytes = Write (20 * c) (piece 0 512 bytes) ∷ Sync ∷ []
 abbrev rest_calls : ℕ → List ℕ → List Call
 rest_calls c bytes = writes (20 * c + 1) 19 (drop 512 bytes) ++ Sync ∷ []
 
-mend_first : (v : Saved) (f : Face) (c : ℕ) (how : Option ℕ) (j : ℕ) → IsGood v → length f.cells ≡ 1424 → f.waiting ≡ [] → c < 4
+mend_first : (v : SuperValue) (f : Face) (c : ℕ) (how : Option ℕ) (j : ℕ) → IsGood v → length f.cells ≡ 1424 → f.waiting ≡ [] → c < 4
     → let g = halted how j f (first_calls c (copy_bytes v)) in TellsApart g v → (copy_reading g c ≡ copy_reading f c) ⊎ OneOf (copy_bytes v) (good_copy g c)
 unfolding copy_reading
 mend_first v f c how j gv n w l t =
@@ -142,7 +142,7 @@ mend_first v f c how j gv n w l t =
       ]
     ]
 
-mend_rest : (v : Saved) (f : Face) (c : ℕ) (how : Option ℕ) (j : ℕ) → IsGood v → f.waiting ≡ [] → c < 4 → reads f (20 * c) ≡ Some (head_of v)
+mend_rest : (v : SuperValue) (f : Face) (c : ℕ) (how : Option ℕ) (j : ℕ) → IsGood v → f.waiting ≡ [] → c < 4 → reads f (20 * c) ≡ Some (head_of v)
     → let g = halted how j f (rest_calls c (copy_bytes v)) in TellsApart g v → OneOf (copy_bytes v) (good_copy g c)
 mend_rest v f c how j gv w l e t =
     let calls = rest_calls c (copy_bytes v) in
@@ -150,7 +150,7 @@ mend_rest v f c how j gv w l e t =
     let spared = spares_append (20 * c) (writes (20 * c + 1) 19 (drop 512 (copy_bytes v))) (Sync ∷ []) (writes_spare 19 (20 * c + 1) (20 * c) (drop 512 (copy_bytes v)) (omega arith)) (tt, tt) in
     head_tells v g c gv l (ap (λ (c : Cell). c.reads) (frame_halted calls f (20 * c) how j spared (rw w refl)) ∙ e) t
 
-pub mend_torn : (v : Saved) (f : Face) (c : ℕ) (how : Option ℕ) (j : ℕ) → IsGood v → length f.cells ≡ 1424 → f.waiting ≡ [] → c < 4
+pub mend_torn : (v : SuperValue) (f : Face) (c : ℕ) (how : Option ℕ) (j : ℕ) → IsGood v → length f.cells ≡ 1424 → f.waiting ≡ [] → c < 4
     → let g = halted how j f (mend_copy c (copy_bytes v)) in TellsApart g v → (copy_reading g c ≡ copy_reading f c) ⊎ OneOf (copy_bytes v) (good_copy g c)
 unfolding mend_copy
 mend_torn v f c how j gv n w l t =

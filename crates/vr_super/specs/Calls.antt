@@ -3,7 +3,7 @@ use Rattle.std.specs.Prelude.{ℕ, zero, suc, ◌+◌, ◌*◌, if◌then◌else
 use Rattle.vr_base.specs.Bytes.{piece}
 use Rattle.vr_disk.specs.DiskState.{Call, Write, Sync, Face}
 use Rattle.vr_disk.specs.Sectors.{has, writes}
-use Rattle.vr_super.specs.Copies.{Saved, copy_bytes}
+use Rattle.vr_super.specs.Copies.{SuperValue, copy_bytes}
 use Rattle.vr_super.specs.Opens.{copy_reading}
 
 -- a copy written and synced
@@ -28,9 +28,9 @@ save_from copy zero bytes = []
 save_from copy (suc n) bytes = copy_calls copy bytes ++ save_from (copy + 1) n bytes
 
 -- each copy that doesn't read as the value
-abbrev pub mend_calls : Saved → Face → List Call
+abbrev pub mend_calls : SuperValue → Face → List Call
 mend_calls v f = mend_from 0 4 (copy_bytes v) f
 
 -- the old value is mended, then all four copies are written
-abbrev pub write_calls : Saved → Saved → Face → List Call
+abbrev pub write_calls : SuperValue → SuperValue → Face → List Call
 write_calls old new f = mend_calls old f ++ save_from 0 4 (copy_bytes new)

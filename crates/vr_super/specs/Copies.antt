@@ -12,7 +12,7 @@ use Rattle.vr_header.specs.Spelling.{IsHeader, decoded, header_bytes}
 use Rattle.vr_super.specs.declared.fields.Fields.{Fields}
 
 -- what the superblock holds: numbers, and the headers of the last ops up to the head
-pub record Saved : Type 0 where
+pub record SuperValue : Type 0 where
   pub fields : Fields
   pub headers : List Header
 
@@ -37,10 +37,10 @@ list_bytes [] = []
 list_bytes (h ∷ hs) = header_bytes h ++ list_bytes hs
 
 -- bytes 16 to 10,239
-unfoldable pub named_bytes : Saved → List ℕ
+unfoldable pub named_bytes : SuperValue → List ℕ
 named_bytes v = front_bytes v.fields (length v.headers) ++ (list_bytes v.headers ++ zeros (10112 - 128 * length v.headers))
 
-unfoldable pub copy_bytes : Saved → List ℕ
+unfoldable pub copy_bytes : SuperValue → List ℕ
 copy_bytes v = name_of (named_bytes v) ++ named_bytes v
 
 -- ---- which values make a good copy
@@ -94,7 +94,7 @@ pub record IsFields (f : Fields) : Type 0 where
   pub n : f.n < 256
 
 -- a value that makes a good copy
-pub record IsGood (v : Saved) : Type 0 where
+pub record IsGood (v : SuperValue) : Type 0 where
   pub numbers : IsFields v.fields
   pub fields : good_fields v.fields (length v.headers) ≡ true
   pub each : AllByRecursion IsHeader v.headers
@@ -143,7 +143,7 @@ list_at f op zero bytes = Some []
 list_at f op (suc n) bytes = with_listed f op (result_ok (decoded bytes)) (list_at f (op + 1) n (drop 128 bytes))
 
 -- the value of a good copy, None where the copy is bad
-unfoldable pub value_of : List ℕ → Option Saved
+unfoldable pub value_of : List ℕ → Option SuperValue
 value_of bytes =
     if is_sealed bytes
     then option_map (λ hs. record { fields = fields_at bytes; headers = hs }) (list_at (fields_at bytes) (first_op (fields_at bytes) (count_at bytes)) (count_at bytes) (drop 128 bytes))

@@ -6,7 +6,7 @@ use Rattle.vr_base.specs.Bytes.{number}
 use Rattle.vr_disk.specs.Sectors.{has, together}
 use Rattle.vr_super.specs.declared.opening.Found.{Found}
 use Rattle.vr_disk.specs.DiskState.{Face}
-use Rattle.vr_super.specs.Copies.{Saved, value_of}
+use Rattle.vr_super.specs.Copies.{SuperValue, value_of}
 
 unfoldable pub copy_reading : Face → ℕ → Option (List ℕ)
 copy_reading f copy = together (20 * copy) 20 f
@@ -58,7 +58,7 @@ unfoldable pub opened : List (Option (List ℕ)) → Option (List ℕ)
 opened copies = best_of (agreed copies) None copies
 
 -- the value that a disk opens as, None where no two good copies agree
-unfoldable pub opens : Face → Option Saved
+unfoldable pub opens : Face → Option SuperValue
 opens f = option_and_then value_of (opened (good_copies f))
 
 -- the first of the copies that has these bytes

@@ -2,7 +2,7 @@
 use Rattle.std.specs.Prelude.{◌≡◌, true, false, List, map, Option, None, Some, IsSome, is_some, Result, Ok, Err, if◌then◌else◌, ℕ}
 use Rattle.vr_disk.specs.DiskState.{Disk, Runs}
 use Rattle.std.specs.Option.{option_and_then}
-use Rattle.vr_super.specs.Copies.{Saved, value_of}
+use Rattle.vr_super.specs.Copies.{SuperValue, value_of}
 use Rattle.vr_super.specs.Calls.{mend_calls}
 use Rattle.vr_super.specs.Opens.{good_copies, opened, opens}
 use Rattle.vr_super.specs.declared.recovering.CopyVerdict.{CopyVerdict}
@@ -11,30 +11,30 @@ use Rattle.vr_super.specs.declared.recovering.SuperFault.{SuperFault}
 use Rattle.vr_super.specs.declared.recovering.SuperFault.TheVariants as fault
 
 -- of a copy's bytes, None where it is bad
-abbrev pub verdict_of : Option (List ℕ) → CopyVerdict
-verdict_of c = if is_some c then Good else Bad
+abbrev pub copy_verdict : Option (List ℕ) → CopyVerdict
+copy_verdict c = if is_some c then Good else Bad
 
 -- where the value that opens was being mended and a call failed
 pub record StoppedMending (d : Disk) (new : Option Disk) : Type 0 where
-  pub value : Saved
+  pub value : SuperValue
   pub opens : opens d.face ≡ Some value
   pub ran : Runs (mend_calls value d.face) (Some d) new false
 
 -- the value that opens, mended; or what stood in the way
-abbrev pub Recovers : Disk → Option Disk → Result Saved SuperFault → Type 0
+abbrev pub Recovers : Disk → Option Disk → Result SuperValue SuperFault → Type 0
 Recovers d new (Ok v) = (opens d.face ≡ Some v) × Runs (mend_calls v d.face) (Some d) new true
-Recovers d new (Err (fault.Lost verdicts)) = (opens d.face ≡ None) × (new ≡ Some d) × (verdicts ≡ map verdict_of (good_copies d.face))
+Recovers d new (Err (fault.Lost verdicts)) = (opens d.face ≡ None) × (new ≡ Some d) × (verdicts ≡ map copy_verdict (good_copies d.face))
 Recovers d new (Err fault.DiskFault) = StoppedMending d new
 Recovers d new (Err fault.NoMemory) = IsSome (opens d.face) × (new ≡ Some d)
 
 -- on a disk that may tell
-abbrev pub RecoversFrom : Option Disk → Option Disk → Result Saved SuperFault → Type 0
+abbrev pub RecoversFrom : Option Disk → Option Disk → Result SuperValue SuperFault → Type 0
 RecoversFrom None new result = new ≡ None
 RecoversFrom (Some d) new result = Recovers d new result
 
 -- the value that these copies open as; or what stood in the way
-abbrev pub Chosen : List (Option (List ℕ)) → Result Saved SuperFault → Type 0
+abbrev pub Chosen : List (Option (List ℕ)) → Result SuperValue SuperFault → Type 0
 Chosen copies (Ok v) = option_and_then value_of (opened copies) ≡ Some v
-Chosen copies (Err (fault.Lost verdicts)) = (option_and_then value_of (opened copies) ≡ None) × (verdicts ≡ map verdict_of copies)
+Chosen copies (Err (fault.Lost verdicts)) = (option_and_then value_of (opened copies) ≡ None) × (verdicts ≡ map copy_verdict copies)
 Chosen copies (Err fault.DiskFault) = ⊥
 Chosen copies (Err fault.NoMemory) = IsSome (option_and_then value_of (opened copies))

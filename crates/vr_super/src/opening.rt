@@ -127,6 +127,7 @@ fn look_up_alike(bytes: &[u8]) -> Option<Found>
 pub fn opens<D: SectorDisk>(disk: &mut D) -> Option<Found>
     ensures told { D.told disk.new ≡ D.told disk.old }
     ensures faults { D.faults disk.new ≡ D.faults disk.old }
+    ensures reads { D.read_faults disk.old ≤ D.read_faults disk.new }
     ensures value { IfSome (D.told disk.old) (λ d. result ≡ found_of (good_copies d.face)) }
 {
     let mut first = [0; 10240];

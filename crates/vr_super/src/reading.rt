@@ -1,5 +1,5 @@
 //! Copies as they are read, and the best of them.
-ghost use Rattle.std.specs.Prelude.{◌≡◌, ◌<◌, ◌*◌, if◌then◌else◌, length, map, take, IfSome, Some, None, is_some};
+ghost use Rattle.std.specs.Prelude.{◌≡◌, ◌≤◌, ◌<◌, ◌*◌, if◌then◌else◌, length, map, take, IfSome, Some, None, is_some};
 ghost use Rattle.std.specs.List.{AllByRecursion};
 ghost use Rattle.vr_super.specs.Opens.{alike, copy_reading, good_copies, good_copy};
 ghost use Rattle.vr_super.specs.Copies.{value_of};
@@ -26,6 +26,7 @@ fn fill<D: SectorDisk>(disk: &mut D, copy: u32, to: &mut [u8]) -> bool
     requires size { length to.old ≡ 10240 }
     ensures told { D.told disk.new ≡ D.told disk.old }
     ensures faults { D.faults disk.new ≡ D.faults disk.old }
+    ensures reads { D.read_faults disk.old ≤ D.read_faults disk.new }
     ensures value { IfSome (D.told disk.old) (λ d. copy_reading d.face copy ≡ (if result then Some to.new else None)) }
 {
     read_sectors(disk, 20 * copy, 20, to)
@@ -61,6 +62,7 @@ fn read_beside<D: SectorDisk>(disk: &mut D, copy: u32, earlier: &[Reading], to: 
     requires honest { AllByRecursion IsHonest earlier.now }
     ensures told { D.told disk.new ≡ D.told disk.old }
     ensures faults { D.faults disk.new ≡ D.faults disk.old }
+    ensures reads { D.read_faults disk.old ≤ D.read_faults disk.new }
     ensures honest { IsHonest to.new }
     ensures value { IfSome (D.told disk.old) (λ d. seen to.new ≡ good_copy d.face copy) }
 {
@@ -75,6 +77,7 @@ fn read_copy<D: SectorDisk>(disk: &mut D, copy: u32, readings: &mut [Reading])
     requires honest { AllByRecursion IsHonest (take copy readings.old) }
     ensures told { D.told disk.new ≡ D.told disk.old }
     ensures faults { D.faults disk.new ≡ D.faults disk.old }
+    ensures reads { D.read_faults disk.old ≤ D.read_faults disk.new }
     ensures read { IsRead copy (D.told disk.old) readings.old readings.new }
 {
     let (earlier, rest) = readings.split_at_mut(copy as usize);
@@ -85,6 +88,7 @@ fn read_copy<D: SectorDisk>(disk: &mut D, copy: u32, readings: &mut [Reading])
 pub fn read_all<D: SectorDisk>(disk: &mut D) -> [Reading; 4]
     ensures told { D.told disk.new ≡ D.told disk.old }
     ensures faults { D.faults disk.new ≡ D.faults disk.old }
+    ensures reads { D.read_faults disk.old ≤ D.read_faults disk.new }
     ensures honest { AllByRecursion IsHonest result }
     ensures value { IfSome (D.told disk.old) (λ d. map seen result ≡ good_copies d.face) }
 {
@@ -106,6 +110,7 @@ pub fn read_alike<D: SectorDisk>(disk: &mut D, to: &mut [u8]) -> bool
     requires { length to.old ≡ 10240 }
     ensures told { D.told disk.new ≡ D.told disk.old }
     ensures faults { D.faults disk.new ≡ D.faults disk.old }
+    ensures reads { D.read_faults disk.old ≤ D.read_faults disk.new }
     ensures value { IfSome (D.told disk.old) (λ d. alike d.face ≡ (if result then Some to.new else None)) }
 {
     fill(disk, 0, to) && reads_as(disk, 1, to) && reads_as(disk, 2, to) && reads_as(disk, 3, to)

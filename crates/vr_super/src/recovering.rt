@@ -1,13 +1,14 @@
 //! The value that opens, mended.
 ghost use Rattle.std.specs.Prelude.{◌≡◌, ◌≤◌, [], Some, is_some, length, map, is_ok, true, IfOk, IfErr, IfSome};
 ghost use Rattle.std.specs.List.{AllByRecursion};
-ghost use Rattle.vr_base.specs.Causes.{HasCause, Rose};
+ghost use Rattle.vr_base.specs.Causes.{HasCause};
+ghost use Rattle.vr_disk.specs.Counts.{CountsFault};
 ghost use Rattle.vr_disk.specs.DiskState.{RunsFrom};
 ghost use Rattle.vr_super.specs.Calls.{mend_calls};
-ghost use Rattle.vr_super.specs.Copies.{Saved, value_of};
+ghost use Rattle.vr_super.specs.Copies.{SuperValue, value_of};
 ghost use Rattle.vr_super.specs.Laws.{MendKeeps, Mended};
 ghost use Rattle.vr_super.specs.Opens.{four, if_good, opens};
-ghost use Rattle.vr_super.specs.Recovers.{Chosen, RecoversFrom, verdict_of};
+ghost use Rattle.vr_super.specs.Recovers.{Chosen, RecoversFrom, copy_verdict};
 ghost use Rattle.vr_super.specs.Seen.{IsHonest, seen};
 
 use crate::Super;
@@ -36,8 +37,8 @@ pub enum SuperFault {
     NoMemory,
 }
 
-fn verdict_of(r: &Reading) -> CopyVerdict
-    ensures { result ≡ verdict_of (seen r.now) }
+fn copy_verdict(r: &Reading) -> CopyVerdict
+    ensures { result ≡ copy_verdict (seen r.now) }
 {
     if r.good {
         CopyVerdict::Good
@@ -46,11 +47,16 @@ fn verdict_of(r: &Reading) -> CopyVerdict
     }
 }
 
-fn verdicts_of(readings: &[Reading; 4]) -> [CopyVerdict; 4]
-    ensures { result ≡ map verdict_of (map seen readings.now) }
+fn copy_verdicts(readings: &[Reading; 4]) -> [CopyVerdict; 4]
+    ensures { result ≡ map copy_verdict (map seen readings.now) }
 {
     let [a, b, c, d] = readings;
-    [verdict_of(a), verdict_of(b), verdict_of(c), verdict_of(d)]
+    [
+        copy_verdict(a),
+        copy_verdict(b),
+        copy_verdict(c),
+        copy_verdict(d),
+    ]
 }
 
 // The value of a good copy.
@@ -84,7 +90,7 @@ fn choose(alloc: Global, readings: &[Reading; 4]) -> Result<Super, SuperFault>
     ensures { Chosen (map seen readings.now) result }
 {
     match best_of(readings) {
-        None => Err(SuperFault::Lost(verdicts_of(readings))),
+        None => Err(SuperFault::Lost(copy_verdicts(readings))),
         Some(best) => read_value(alloc, &best.bytes),
     }
 }
@@ -94,6 +100,7 @@ fn mended<D: SectorDisk>(disk: &mut D, value: Super) -> Result<Super, SuperFault
     ensures kept { IfOk result (λ v. v ≡ value) }
     ensures fault { IfErr result (λ e. e ≡ SuperFault.DiskFault) }
     ensures cause { HasCause (D.faults disk.old) (D.faults disk.new) result }
+    ensures reads { D.read_faults disk.old ≤ D.read_faults disk.new }
 {
     match mend(disk, value.bytes()) {
         Ok(()) => Ok(value),
@@ -104,8 +111,8 @@ fn mended<D: SectorDisk>(disk: &mut D, value: Super) -> Result<Super, SuperFault
 // The value that the disk opens as, with its copies mended, where they may differ.
 fn recover_apart<D: SectorDisk>(alloc: Global, disk: &mut D) -> Result<Super, SuperFault>
     ensures value { RecoversFrom (D.told disk.old) (D.told disk.new) result }
-    ensures later { D.faults disk.old ≤ D.faults disk.new }
-    ensures fault { result ≡ Err SuperFault.DiskFault → Rose (D.faults disk.old) (D.faults disk.new) }
+    ensures cause { CountsFault SuperFault.DiskFault (D.faults disk.old) (D.faults disk.new) result }
+    ensures reads { D.read_faults disk.old ≤ D.read_faults disk.new }
 {
     match choose(alloc, &read_all(disk)) {
         Ok(value) => mended(disk, value),
@@ -116,14 +123,14 @@ fn recover_apart<D: SectorDisk>(alloc: Global, disk: &mut D) -> Result<Super, Su
 /// The value that the disk opens as, with its copies mended.
 pub fn recover<D: SectorDisk>(alloc: Global, disk: &mut D) -> Result<Super, SuperFault>
     ensures value { RecoversFrom (D.told disk.old) (D.told disk.new) result }
-    ensures later { D.faults disk.old ≤ D.faults disk.new }
-    ensures fault { result ≡ Err SuperFault.DiskFault → Rose (D.faults disk.old) (D.faults disk.new) }
+    ensures cause { CountsFault SuperFault.DiskFault (D.faults disk.old) (D.faults disk.new) result }
+    ensures reads { D.read_faults disk.old ≤ D.read_faults disk.new }
 
     // A stop at any of its calls leaves a disk that opens as the same value.
-    ensures stop { IfSome (D.told disk.old) (λ d. d.face.waiting ≡ [] → (v : Saved) → opens d.face ≡ Some v → MendKeeps v d.face) }
+    ensures stop { IfSome (D.told disk.old) (λ d. d.face.waiting ≡ [] → (v : SuperValue) → opens d.face ≡ Some v → MendKeeps v d.face) }
 
     // So does the disk as the call leaves it, whatever it answers; after an `Ok` all four copies have the value.
-    ensures left { IfSome (D.told disk.old) (λ d. d.face.waiting ≡ [] → (v : Saved) → opens d.face ≡ Some v → IfSome (D.told disk.new) (λ e. Mended v (is_ok result) e.face)) }
+    ensures left { IfSome (D.told disk.old) (λ d. d.face.waiting ≡ [] → (v : SuperValue) → opens d.face ≡ Some v → IfSome (D.told disk.new) (λ e. Mended v (is_ok result) e.face)) }
 {
     let mut first = [0; 10240];
     if read_alike(disk, &mut first) {

@@ -21,6 +21,7 @@ fn write_synced<D: SectorDisk>(
     requires size { length bytes.now ≡ 512 * count }
     ensures runs { Runs (writes at count bytes.now ++ Sync ∷ []) (D.told disk.old) (D.told disk.new) (is_ok result) }
     ensures cause { HasCause (D.faults disk.old) (D.faults disk.new) result }
+    ensures others { D.read_faults disk.new ≡ D.read_faults disk.old }
 {
     write_sectors(disk, at, count, bytes)?;
     disk.sync()?;
@@ -33,6 +34,7 @@ fn write_first<D: SectorDisk>(disk: &mut D, i: u32, bytes: &[u8]) -> Result<(), 
     requires size { 512 ≤ length bytes.now }
     ensures runs { Runs (Write i (piece 0 512 bytes.now) ∷ Sync ∷ []) (D.told disk.old) (D.told disk.new) (is_ok result) }
     ensures cause { HasCause (D.faults disk.old) (D.faults disk.new) result }
+    ensures others { D.read_faults disk.new ≡ D.read_faults disk.old }
 {
     disk.write(i, &sector_at(bytes, 0))?;
     disk.sync()?;
@@ -46,6 +48,7 @@ pub fn write_copy<D: SectorDisk>(disk: &mut D, copy: u32, bytes: &[u8]) -> Resul
     requires size { length bytes.now ≡ 10240 }
     ensures runs { Runs (copy_calls copy bytes.now) (D.told disk.old) (D.told disk.new) (is_ok result) }
     ensures cause { HasCause (D.faults disk.old) (D.faults disk.new) result }
+    ensures others { D.read_faults disk.new ≡ D.read_faults disk.old }
 {
     write_synced(disk, 20 * copy, 20, bytes)
 }
@@ -58,6 +61,7 @@ pub fn reads_as<D: SectorDisk>(disk: &mut D, copy: u32, bytes: &[u8]) -> bool
     ensures told { D.told disk.new ≡ D.told disk.old }
     ensures value { IfSome (D.told disk.old) (λ d. result ≡ has bytes.now (copy_reading d.face copy)) }
     ensures faults { D.faults disk.new ≡ D.faults disk.old }
+    ensures reads { D.read_faults disk.old ≤ D.read_faults disk.new }
 {
     sectors_read_as(disk, 20 * copy, 20, bytes)
 }
@@ -69,6 +73,7 @@ pub fn mend_copy<D: SectorDisk>(disk: &mut D, copy: u32, bytes: &[u8]) -> Result
     requires size { length bytes.now ≡ 10240 }
     ensures runs { Runs (mend_copy copy bytes.now) (D.told disk.old) (D.told disk.new) (is_ok result) }
     ensures cause { HasCause (D.faults disk.old) (D.faults disk.new) result }
+    ensures others { D.read_faults disk.new ≡ D.read_faults disk.old }
 {
     let (_, rest) = bytes.split_at(512);
     write_first(disk, 20 * copy, bytes)?;
@@ -82,6 +87,7 @@ pub fn mend_unless<D: SectorDisk>(disk: &mut D, copy: u32, bytes: &[u8]) -> Resu
     requires size { length bytes.now ≡ 10240 }
     ensures runs { RunsFrom (mend_unless copy bytes.now) (D.told disk.old) (D.told disk.new) (is_ok result) }
     ensures cause { HasCause (D.faults disk.old) (D.faults disk.new) result }
+    ensures reads { D.read_faults disk.old ≤ D.read_faults disk.new }
 {
     if !reads_as(disk, copy, bytes) {
         mend_copy(disk, copy, bytes)?;

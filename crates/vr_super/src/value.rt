@@ -2,7 +2,7 @@
 ghost use Rattle.std.specs.Prelude.{◌≡◌, ◌≤◌, ◌+◌, IfOk, Some, is_some, length, true};
 ghost use Rattle.vr_base.specs.Bytes.{piece};
 ghost use Rattle.vr_header.specs.Spelling.{header_bytes};
-ghost use Rattle.vr_super.specs.Copies.{IsGood, Saved, copy_bytes, count_at, value_of};
+ghost use Rattle.vr_super.specs.Copies.{IsGood, SuperValue, copy_bytes, count_at, value_of};
 
 use crate::Fields;
 use crate::bytes::spell;
@@ -22,10 +22,10 @@ pub struct Super {
 }
 
 impl Model for Super {
-    ghost use Rattle.vr_super.specs.Copies.{Saved};
+    ghost use Rattle.vr_super.specs.Copies.{SuperValue};
     ghost use Rattle.vr_super.specs.Laws.{IsSpelled};
 
-    ghost Value = { Saved };
+    ghost Value = { SuperValue };
 
     ghost view = { λ s. record { fields = s.fields; headers = s.headers } };
 

@@ -1,5 +1,5 @@
 //! Mending and writing a value.
-ghost use Rattle.std.specs.Prelude.{◌≡◌, ◌<◌, [], length, IfErr, IfSome, is_ok, Some};
+ghost use Rattle.std.specs.Prelude.{◌≡◌, ◌≤◌, ◌<◌, [], length, IfErr, IfSome, is_ok, Some};
 ghost use Rattle.vr_base.specs.Causes.{HasCause};
 ghost use Rattle.vr_disk.specs.DiskState.{Runs, RunsFrom};
 ghost use Rattle.vr_super.specs.Calls.{mend_from, save_from, write_calls};
@@ -16,6 +16,7 @@ pub fn mend<D: SectorDisk>(disk: &mut D, bytes: &[u8]) -> Result<(), DiskFailed>
     requires { length bytes.now ≡ 10240 }
     ensures runs { RunsFrom (mend_from 0 4 bytes.now) (D.told disk.old) (D.told disk.new) (is_ok result) }
     ensures cause { HasCause (D.faults disk.old) (D.faults disk.new) result }
+    ensures reads { D.read_faults disk.old ≤ D.read_faults disk.new }
 {
     for copy in 0..4 {
         mend_unless(disk, copy, bytes)?;
@@ -29,6 +30,7 @@ fn save<D: SectorDisk>(disk: &mut D, bytes: &[u8]) -> Result<(), DiskFailed>
     requires { length bytes.now ≡ 10240 }
     ensures runs { Runs (save_from 0 4 bytes.now) (D.told disk.old) (D.told disk.new) (is_ok result) }
     ensures cause { HasCause (D.faults disk.old) (D.faults disk.new) result }
+    ensures others { D.read_faults disk.new ≡ D.read_faults disk.old }
 {
     for copy in 0..4 {
         write_copy(disk, copy, bytes)?;
@@ -40,6 +42,7 @@ fn save<D: SectorDisk>(disk: &mut D, bytes: &[u8]) -> Result<(), DiskFailed>
 pub fn write_copies<D: SectorDisk>(disk: &mut D, value: &Super) -> Result<(), DiskFault>
     ensures runs { Runs (save_from 0 4 (copy_bytes value.now)) (D.told disk.old) (D.told disk.new) (is_ok result) }
     ensures cause { HasCause (D.faults disk.old) (D.faults disk.new) result }
+    ensures others { D.read_faults disk.new ≡ D.read_faults disk.old }
 {
     save(disk, value.bytes())?;
     Ok(())
@@ -50,6 +53,7 @@ pub fn write_copies<D: SectorDisk>(disk: &mut D, value: &Super) -> Result<(), Di
 fn write_value<D: SectorDisk>(disk: &mut D, old: &Super, new: &Super) -> Result<(), DiskFailed>
     ensures runs { RunsFrom (write_calls old.now new.now) (D.told disk.old) (D.told disk.new) (is_ok result) }
     ensures cause { HasCause (D.faults disk.old) (D.faults disk.new) result }
+    ensures reads { D.read_faults disk.old ≤ D.read_faults disk.new }
     ensures stop { IfSome (D.told disk.old) (λ d. d.face.waiting ≡ [] → opens d.face ≡ Some old.now → WriteLeads old.now new.now d.face) }
     ensures good { IsGood new.now }
 {
@@ -63,6 +67,7 @@ fn write_value<D: SectorDisk>(disk: &mut D, old: &Super, new: &Super) -> Result<
 pub fn write<D: SectorDisk>(disk: &mut D, old: &Super, new: &Super) -> Result<(), SuperFault>
     ensures runs { RunsFrom (write_calls old.now new.now) (D.told disk.old) (D.told disk.new) (is_ok result) }
     ensures cause { HasCause (D.faults disk.old) (D.faults disk.new) result }
+    ensures reads { D.read_faults disk.old ≤ D.read_faults disk.new }
     ensures fault { IfErr result (λ e. e ≡ SuperFault.DiskFault) }
 
     // A stop at any of these calls leaves a disk that opens as the old value or as the new one.

@@ -5,4 +5,3 @@ pub mod Changes
 pub mod States
 pub mod Starts
 pub mod Copies
-pub mod Prepared

@@ -3,9 +3,7 @@ use Rattle.std.specs.Prelude.{ℕ, List, Option, Ok, nat_lt}
 use Rattle.vr_disk.specs.DiskState.{Disk, Face}
 use Rattle.vr_msg.specs.declared.output.Output.{Output}
 use Rattle.vr_rules.specs.Replica.{Replica}
-use Rattle.vr_header.specs.Made.{Whole}
-use Rattle.vr_rules.specs.Outputs.{prepare, send_to_all}
-use Rattle.vr_rules.specs.Steps.{Word, by, each, says, when}
+use Rattle.vr_rules.specs.Steps.{Word, by, each, when}
 use Rattle.vr_rules.specs.Words.{enter}
 use Rattle.vr_msg.specs.Choice.{ops}
 use Rattle.vr_step.specs.Does.{Does}
@@ -13,10 +11,6 @@ use Rattle.vr_step.specs.Does.{Does}
 -- these outputs are the word's, on any disk
 pub record Tells (w : Word Face) (r : Replica) (o o' : List Output) : Type 0 where
   pub every : (d : Option Disk) → Does w r r d d o o' (Ok tt)
-
--- an entry is prepared to all others
-unfoldable pub again : {F : Type 0} → Whole → Word F
-again e = says (send_to_all (prepare e))
 
 -- a word for each op above the commit number, up to this one
 unfoldable pub each_to : {F : Type 0} → (ℕ → Word F) → ℕ → Word F

@@ -3,14 +3,12 @@
 //! Each word and each rule has one clause on replica, disk and outputs: that what it does is the word of the definitions.
 #![tactic(auto)]
 
-mod again;
 mod changing;
 mod starting;
 mod stating;
 mod taking;
 mod trying;
 
-pub use again::prepare_again;
 pub use changing::{ChangeRule, decide_start_view_change, handle_start_view_change};
 pub use starting::{
     StartRule, ViewRule, decide_get_view, decide_start_view, handle_get_view, handle_start_view,

@@ -8,7 +8,6 @@ ghost use Rattle.vr_step.specs.Does.{Caused, Does};
 ghost use Rattle.vr_view.specs.Logs.{IsTaught, MayTake};
 ghost use Rattle.vr_view.specs.Telling.{each_to};
 
-use crate::again::prepare_again;
 use crate::taking::{commit_of, head_of, take};
 use std::alloc::{AllocError, Global};
 use vr_base::{Seq, quorums};
@@ -17,6 +16,7 @@ use vr_disk::SectorDisk;
 use vr_header::HeaderList;
 use vr_journal::{Log, Replica};
 use vr_msg::{Choice, Outbox, Statement};
+use vr_repair::prepare_again;
 use vr_step::Halt;
 
 /// The op of the last header, or the commit number where there is none.

@@ -1,6 +1,6 @@
 use std::test::Fail;
 use vr_header::{
-    Command, Entry, Header, Key, Operation, Outcome, Value, decode, encode, header_at,
+    Command, Entry, Header, Key, Operation, Outcome, Value, decode, decoded_header, encode,
 };
 
 fn put(rt: &HostRuntime) -> Result<Operation, Fail> {
@@ -41,7 +41,7 @@ fn headers(rt: HostRuntime) {
         let bytes = encode(&header);
         assert_eq!(rt; bytes[108], number);
         assert_eq!(rt; decode(&bytes), Ok(header));
-        assert_eq!(rt; header_at(&bytes), header);
+        assert_eq!(rt; decoded_header(&bytes), header);
     }
 }
 

@@ -9,7 +9,7 @@ use Rattle.vr_base.proofs.FieldLaws.{IsBytes-piece, length-bytes16, length-bytes
 use Rattle.vr_base.proofs.Places.{length-joined, total, widths}
 use Rattle.vr_base.proofs.AreBytes.{AllBytes, IsBytes-append, IsBytes-bytes16, IsBytes-bytes32, IsBytes-bytes64, IsBytes-joined, IsBytes-name_of, IsBytes-none, IsBytes-one, IsBytes-zeros}
 use Rattle.vr_disk.specs.DiskState.{Call, Sync}
-use Rattle.vr_disk.specs.Regions.{block_at}
+use Rattle.vr_disk.specs.Regions.{block_place}
 use Rattle.vr_header.specs.Names.{header_name, no_name}
 use Rattle.vr_header.specs.declared.header.Header.{Header}
 use Rattle.vr_header.specs.Spelling.{field_bytes, header_bytes, named_bytes}
@@ -20,10 +20,10 @@ use Rattle.vr_grid.specs.declared.name.Name.{Name}
 use Rattle.vr_apply.specs.Texts.{payloads}
 use Rattle.vr_apply.specs.declared.codec.Texts.{Texts}
 use Rattle.vr_ckpt.specs.Places.{first_place, other_place, root_place}
-use Rattle.vr_ckpt.specs.Saves.{Part, blocks_calls, blocks_from, changed, data_content, goes_to, keys_run, names_bytes, part, part_at, payload_at, payloads_from, payloads_of, root_of, root_payload, save_calls, sessions_run, stays, table_of, written}
+use Rattle.vr_ckpt.specs.Saves.{PayloadBlocks, blocks_calls, blocks_from, changed, data_content, goes_to, keys_run, names_bytes, payload_blocks, payload_blocks_at, payload_at, payloads_from, payloads_of, root_of, root_payload, save_calls, sessions_run, stays, table_of, written}
 use Rattle.vr_ckpt.specs.declared.plan.Run.{Run}
 use Rattle.vr_ckpt.specs.declared.table.Payload.{Payload}
-use Rattle.vr_ckpt.specs.declared.table.Table.{Table}
+use Rattle.vr_ckpt.specs.declared.table.PayloadTable.{PayloadTable}
 use Rattle.vr_ckpt.proofs.Planning.{payload_short}
 use Rattle.vr_rules.specs.Sound.{IsNameBytes}
 use Rattle.vr_worlds.specs.Stocks.{IsNamed}
@@ -71,7 +71,7 @@ block_long c l =
 
 calls_of_block : (address : ℕ) (bytes : List ℕ) → address < 128 → IsBytes bytes → length bytes ≡ 4096 → AreCalls (block_calls address bytes)
 unfolding block_calls
-calls_of_block address bytes l are size = writes_are 8 (block_at address) bytes are (omega (arith, size)) (omega (arith, l))
+calls_of_block address bytes l are size = writes_are 8 (block_place address) bytes are (omega (arith, size)) (omega (arith, l))
 
 pub put_are : (address : ℕ) (bytes : List ℕ) → address < 128 → IsBytes bytes → length bytes ≡ 4096 → AreCalls (put_calls address bytes)
 unfolding put_calls
@@ -96,7 +96,7 @@ good_calls (b ∷ bs) x = calls_append (block_calls b.name.address b.bytes) (blo
 -- ---- payloads
 
 -- what is made of a payload
-record Made (p : Part) : Type 0 where
+record Made (p : PayloadBlocks) : Type 0 where
   blocks : AllByRecursion GoodBlock p.blocks
   payload : IsNamed p.payload
 
@@ -113,8 +113,8 @@ place_first op low l = elim ((op / 32) % 2 == 0) as (λ t. cond t low (low + 64)
 place_other : (low address : ℕ) → low < 64 → other_place low address < 128
 place_other low address l = elim (address == low) as (λ t. cond t (low + 64) low < 128) [ true ↦ omega (arith, l) | false ↦ omega (arith, l) ]
 
-part_made : (r : Run) (i : ℕ) (bytes : List ℕ) (o : Option Payload) → r.low + i < 64 → IsBytes bytes → length bytes ≤ 3968 → ((p : Payload) → o ≡ Some p → IsNamed p) → Made (part r i bytes o)
-unfolding part
+part_made : (r : Run) (i : ℕ) (bytes : List ℕ) (o : Option Payload) → r.low + i < 64 → IsBytes bytes → length bytes ≤ 3968 → ((p : Payload) → o ≡ Some p → IsNamed p) → Made (payload_blocks r i bytes o)
+unfolding payload_blocks
 part_made r i bytes None l are s old =
     goes_made r (first_place r.op (r.low + i)) bytes (place_first r.op (r.low + i) l) are s
 part_made r i bytes (Some p) l are s old =
@@ -132,14 +132,14 @@ piece_are : (text : List ℕ) (i : ℕ) → IsBytes text → IsBytes (payload_at
 unfolding payload_at
 piece_are text i are = IsBytes-piece (3968 * i) 3968 text are
 
-made_at : (r : Run) (text : List ℕ) (old : List Payload) (i : ℕ) → r.low + i < 64 → IsBytes text → AllByRecursion IsNamed old → Made (part_at r text old i)
+made_at : (r : Run) (text : List ℕ) (old : List Payload) (i : ℕ) → r.low + i < 64 → IsBytes text → AllByRecursion IsNamed old → Made (payload_blocks_at r text old i)
 made_at r text old i l are named = part_made r i (payload_at text i) (slice_get old i) l (piece_are text i are) (payload_short text i) (λ p e. old_named old i p named e)
 
 blocks_good : (n i : ℕ) (r : Run) (text : List ℕ) (old : List Payload) → r.low + (i + n) ≤ 64 → IsBytes text → AllByRecursion IsNamed old → AllByRecursion GoodBlock (blocks_from r text old i n)
 unfolding blocks_from
 blocks_good zero i r text old l are named = tt
 blocks_good (suc n) i r text old l are named =
-    goods_append (part_at r text old i).blocks (blocks_from r text old (i + 1) n) (made_at r text old i (omega (arith, l)) are named).blocks (blocks_good n (i + 1) r text old (omega (arith, l)) are named)
+    goods_append (payload_blocks_at r text old i).blocks (blocks_from r text old (i + 1) n) (made_at r text old i (omega (arith, l)) are named).blocks (blocks_good n (i + 1) r text old (omega (arith, l)) are named)
 
 names_good : (n i : ℕ) (r : Run) (text : List ℕ) (old : List Payload) → r.low + (i + n) ≤ 64 → IsBytes text → AllByRecursion IsNamed old → AllByRecursion IsNamed (payloads_from r text old i n)
 unfolding payloads_from
@@ -153,7 +153,7 @@ length_payloads (suc n) i r text old = ap suc (length_payloads n (i + 1) r text 
 
 -- ---- a checkpoint
 
-pub record Texted (texts : Texts) (old : Table) : Type 0 where
+pub record Texted (texts : Texts) (old : PayloadTable) : Type 0 where
   pub sessions : IsBytes texts.sessions
   pub keys : IsBytes texts.keys
   pub few_sessions : payloads (length texts.sessions) ≤ 9
@@ -161,11 +161,11 @@ pub record Texted (texts : Texts) (old : Table) : Type 0 where
   pub old_sessions : AllByRecursion IsNamed old.sessions
   pub old_keys : AllByRecursion IsNamed old.keys
 
-pub record TableNamed (t : Table) : Type 0 where
+pub record TableNamed (t : PayloadTable) : Type 0 where
   pub sessions : AllByRecursion IsNamed t.sessions
   pub keys : AllByRecursion IsNamed t.keys
 
-pub table_named : (cluster : ℕ) (texts : Texts) (op : ℕ) (old : Table) → Texted texts old → TableNamed (table_of cluster texts op old)
+pub table_named : (cluster : ℕ) (texts : Texts) (op : ℕ) (old : PayloadTable) → Texted texts old → TableNamed (table_of cluster texts op old)
 unfolding table_of
 table_named cluster texts op old t =
     let a = t.few_sessions in
@@ -191,7 +191,7 @@ names_long (p ∷ ps) a =
     let rest = names_long ps a.1 in
     omega (arith, x, y, z, w, rest)
 
-root_are : (op s k : ℕ) (t : Table) → TableNamed t → IsBytes (root_payload op s k t)
+root_are : (op s k : ℕ) (t : PayloadTable) → TableNamed t → IsBytes (root_payload op s k t)
 unfolding root_payload
 root_are op s k t n =
     let count = length t.sessions + length t.keys in
@@ -202,7 +202,7 @@ root_are op s k t n =
     let b = IsBytes-append (bytes32 s) (bytes32 k ++ (bytes16 count ++ names)) (IsBytes-bytes32 s) c in
     IsBytes-append (bytes64 op) (bytes32 s ++ (bytes32 k ++ (bytes16 count ++ names))) (IsBytes-bytes64 op) b
 
-root_long : (op s k : ℕ) (t : Table) → TableNamed t → length (root_payload op s k t) ≡ 18 + 24 * (length t.sessions + length t.keys)
+root_long : (op s k : ℕ) (t : PayloadTable) → TableNamed t → length (root_payload op s k t) ≡ 18 + 24 * (length t.sessions + length t.keys)
 unfolding root_payload
 root_long op s k t n =
     let count = length t.sessions + length t.keys in
@@ -223,20 +223,20 @@ root_long op s k t n =
 place_root : (op : ℕ) → root_place op < 128
 place_root op = omega arith
 
-root_good : (cluster : ℕ) (texts : Texts) (op : ℕ) (t : Table) → TableNamed t → length t.sessions ≤ 9 → length t.keys ≤ 36 → GoodBlock (block_of (root_of cluster texts op t))
+root_good : (cluster : ℕ) (texts : Texts) (op : ℕ) (t : PayloadTable) → TableNamed t → length t.sessions ≤ 9 → length t.keys ≤ 36 → GoodBlock (block_of (root_of cluster texts op t))
 unfolding root_of
 root_good cluster texts op t n a b =
     let size = root_long op (length texts.sessions) (length texts.keys) t n in
     content_good (root_of cluster texts op t) (place_root op) (omega arith) (root_are op (length texts.sessions) (length texts.keys) t n) (omega (arith, size, a, b))
 
-table_few : (cluster : ℕ) (texts : Texts) (op : ℕ) (old : Table) → Texted texts old → (length (table_of cluster texts op old).sessions ≤ 9) × (length (table_of cluster texts op old).keys ≤ 36)
+table_few : (cluster : ℕ) (texts : Texts) (op : ℕ) (old : PayloadTable) → Texted texts old → (length (table_of cluster texts op old).sessions ≤ 9) × (length (table_of cluster texts op old).keys ≤ 36)
 unfolding table_of
 table_few cluster texts op old t =
     let x = length_payloads (payloads (length texts.sessions)) 0 (sessions_run cluster op) texts.sessions old.sessions in
     let y = length_payloads (payloads (length texts.keys)) 0 (keys_run cluster op) texts.keys old.keys in
     (subst (λ (n : ℕ). n ≤ 9) (sym x) t.few_sessions, subst (λ (n : ℕ). n ≤ 36) (sym y) t.few_keys)
 
-pub save_state_are : (cluster : ℕ) (texts : Texts) (op : ℕ) (old : Table) → Texted texts old → AreCalls (save_calls cluster texts op old)
+pub save_state_are : (cluster : ℕ) (texts : Texts) (op : ℕ) (old : PayloadTable) → Texted texts old → AreCalls (save_calls cluster texts op old)
 unfolding save_calls written
 save_state_are cluster texts op old t =
     let table = table_of cluster texts op old in

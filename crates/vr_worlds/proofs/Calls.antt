@@ -9,13 +9,13 @@ use Rattle.vr_base.proofs.AreBytes.{AllBytes, IsBytes-append, IsBytes-bytes16, I
 use Rattle.vr_disk.specs.DiskState.{Call, Write, Sync, Face, IsContent}
 use Rattle.vr_disk.specs.Sectors.{has, writes}
 use Rattle.vr_disk.specs.Stops.{IsCall}
-use Rattle.vr_disk.specs.Regions.{header_at, prepare_at}
+use Rattle.vr_disk.specs.Regions.{header_place, prepare_place}
 use Rattle.vr_header.specs.declared.header.Header.{Header}
 use Rattle.vr_header.specs.Made.{Whole, entry_bytes}
 use Rattle.vr_header.specs.Spelling.{IsHeader, header_bytes}
 use Rattle.vr_header.proofs.AreBytes.{entry_bytes-are, header_bytes-are}
 use Rattle.vr_base.proofs.FieldLaws.{length-name_of}
-use Rattle.vr_super.specs.Copies.{IsFields, IsGood, Saved, copy_bytes, field_bytes, front_bytes, list_bytes, named_bytes, zeros}
+use Rattle.vr_super.specs.Copies.{IsFields, IsGood, SuperValue, copy_bytes, field_bytes, front_bytes, list_bytes, named_bytes, zeros}
 use Rattle.vr_super.specs.Opens.{copy_reading}
 use Rattle.vr_super.specs.Calls.{copy_calls, mend_calls, mend_copy, mend_from, mend_unless, save_from, write_calls}
 use Rattle.vr_super.proofs.Format.{length-copy_bytes}
@@ -60,7 +60,7 @@ header_are h is = ((omega arith, sector_content h is), (tt, tt))
 prepares_are : (e : Whole) → IsWhole e → AreCalls (prepare_calls e)
 unfolding prepare_calls
 prepares_are e w =
-    let at = prepare_at (slot_of e.header) in
+    let at = prepare_place (slot_of e.header) in
     let size = length-prepare e w in
     calls_append (writes at 4 (prepare_bytes e)) (Sync ∷ []) (writes_are 4 at (prepare_bytes e) (prepare_are e w) (omega (arith, size)) (omega arith)) (tt, tt)
 
@@ -84,7 +84,7 @@ zeros_are : (n : ℕ) → IsBytes (zeros n)
 unfolding zeros
 zeros_are n = IsBytes-zeros n
 
-front_are : (v : Saved) → IsFields v.fields → IsBytes (front_bytes v.fields (length v.headers))
+front_are : (v : SuperValue) → IsFields v.fields → IsBytes (front_bytes v.fields (length v.headers))
 unfolding front_bytes
 front_are v f =
     let x = v.fields in
@@ -94,7 +94,7 @@ front_are v f =
     ) in
     IsBytes-joined (field_bytes x (length v.headers)) all
 
-copy_are : (v : Saved) → IsGood v → IsBytes (copy_bytes v)
+copy_are : (v : SuperValue) → IsGood v → IsBytes (copy_bytes v)
 unfolding copy_bytes named_bytes
 copy_are v g =
     let front = front_bytes v.fields (length v.headers) in
@@ -126,10 +126,10 @@ unfolding save_from
 saves_are zero k b l are size = tt
 saves_are (suc n) k b l are size = calls_append (copy_calls k b) (save_from (k + 1) n b) (copy_call k b (omega (arith, l)) are size) (saves_are n (k + 1) b (omega (arith, l)) are size)
 
-pub mend_are : (v : Saved) (f : Face) → IsGood v → AreCalls (mend_calls v f)
+pub mend_are : (v : SuperValue) (f : Face) → IsGood v → AreCalls (mend_calls v f)
 mend_are v f g = mends_are 4 0 (copy_bytes v) f (omega arith) (copy_are v g) (length-copy_bytes v g)
 
-pub save_are : (old new : Saved) (f : Face) → IsGood old → IsGood new → AreCalls (write_calls old new f)
+pub save_are : (old new : SuperValue) (f : Face) → IsGood old → IsGood new → AreCalls (write_calls old new f)
 save_are old new f g h = calls_append (mend_calls old f) (save_from 0 4 (copy_bytes new)) (mend_are old f g) (saves_are 4 0 (copy_bytes new) (omega arith) (copy_are new h) (length-copy_bytes new h))
 
 -- ---- formatting
@@ -161,7 +161,7 @@ reserved_is slot l = record {
   aux = omega arith;
 }
 
-reserved_written : (n i : ℕ) → i + n ≤ 64 → AreCalls (map (λ slot. Write (header_at slot) (sector_of (reserved_header 0 slot))) (range_with_len i n))
+reserved_written : (n i : ℕ) → i + n ≤ 64 → AreCalls (map (λ slot. Write (header_place slot) (sector_of (reserved_header 0 slot))) (range_with_len i n))
 reserved_written zero i l = tt
 reserved_written (suc n) i l = ((omega (arith, l), sector_content (reserved_header 0 i) (reserved_is i (omega (arith, l)))), reserved_written n (i + 1) (omega (arith, l)))
 

@@ -21,12 +21,12 @@ use Rattle.vr_ckpt.specs.declared.root.Root.{Root}
 use Rattle.std.specs.List.{AllByRecursion}
 use Rattle.std.proofs.Common.{sym, ap, ◌∙◌}
 use Rattle.vr_base.proofs.AreBytes.{IsBytes-append, IsBytes-none}
-use Rattle.vr_disk.specs.Regions.{block_at}
+use Rattle.vr_disk.specs.Regions.{block_place}
 use Rattle.vr_disk.proofs.Together.{together_bytes}
 use Rattle.vr_apply.specs.declared.codec.Texts.{Texts}
 use Rattle.vr_grid.specs.Blocks.{content_at}
 use Rattle.vr_ckpt.specs.declared.table.Payload.{Payload}
-use Rattle.vr_ckpt.specs.declared.table.Table.{Table}
+use Rattle.vr_ckpt.specs.declared.table.PayloadTable.{PayloadTable}
 use Rattle.vr_rules.specs.Sectors.{block_in}
 use Rattle.vr_rules.specs.Sound.{IsNameBytes}
 use Rattle.vr_rules.proofs.FitLoads.{given}
@@ -118,7 +118,7 @@ root_names c r are e =
 
 reading_are : (f : Face) (address : ℕ) (b : List ℕ) → IsFace f → address < 128 → block_reading f address ≡ Some b → IsBytes b
 unfolding block_reading
-reading_are f address b face l e = together_bytes 8 (block_at address) f face (omega (arith, l)) b e
+reading_are f address b face l e = together_bytes 8 (block_place address) f face (omega (arith, l)) b e
 
 payload_are : (name : Name) (b : List ℕ) (c : Content) → IsBytes b → named name b ≡ Some c → IsBytes c.payload
 payload_are name b c are e =
@@ -173,16 +173,16 @@ gathers f size (name ∷ names) face h =
       | Some b ↦ λ e. record { named = (All-head IsGoodName name names h, rest.named); text = IsBytes-append b (text_of more.payloads) (data_are f name (min size 3968) b face e) rest.text }
     ] refl
 
-pub record LoadsWell (texts : Texts) (t : Table) : Type 0 where
+pub record LoadsWell (texts : Texts) (t : PayloadTable) : Type 0 where
   pub sessions : IsBytes texts.sessions
   pub keys : IsBytes texts.keys
   pub table : TableNamed t
 
-load_well : (s k : Gathered) (ns : List Name) (texts : Texts) (table : Table) → Gathers s → Gathers k → load_of s k ns ≡ Loaded texts table → LoadsWell texts table
+load_well : (s k : Gathered) (ns : List Name) (texts : Texts) (table : PayloadTable) → Gathers s → Gathers k → load_of s k ns ≡ Loaded texts table → LoadsWell texts table
 load_well s k (n ∷ ns) texts table a b e = absurd cc
 load_well s k [] texts table a b e =
     let x : Texts = record { sessions = text_of s.payloads; keys = text_of k.payloads } in
-    let y : Table = record { sessions = s.payloads; keys = k.payloads } in
+    let y : PayloadTable = record { sessions = s.payloads; keys = k.payloads } in
     let t : x ≡ texts = cc in
     let u : y ≡ table = cc in
     record {
@@ -191,7 +191,7 @@ load_well s k [] texts table a b e =
       table = subst TableNamed u (record { sessions = a.named; keys = b.named });
     }
 
-pub loads_well : (f : Face) (root : Name) (texts : Texts) (table : Table) → IsFace f → loaded f root ≡ Loaded texts table → LoadsWell texts table
+pub loads_well : (f : Face) (root : Name) (texts : Texts) (table : PayloadTable) → IsFace f → loaded f root ≡ Loaded texts table → LoadsWell texts table
 unfolding loaded root_at
 loads_well f root texts table face e =
     elim (root_at f root) as (λ o. root_at f root ≡ o → load_by f root o ≡ Loaded texts table → LoadsWell texts table) [

@@ -14,12 +14,12 @@ use Rattle.vr_header.specs.declared.part.Part.TheVariants.{Here}
 use Rattle.vr_header.specs.Made.{Whole}
 use Rattle.vr_header.specs.Same.{same_header}
 use Rattle.vr_rings.specs.Slots.{IsWhole, whole_in}
-use Rattle.vr_super.specs.Copies.{IsGood, Saved}
+use Rattle.vr_super.specs.Copies.{IsGood, SuperValue}
 use Rattle.vr_grid.specs.declared.name.Name.{Name}
 use Rattle.vr_ckpt.specs.declared.found.Load.{Load}
 use Rattle.vr_ckpt.specs.declared.found.Load.TheVariants.{Loaded, Missing}
 use Rattle.vr_ckpt.specs.Loads.{loaded}
-use Rattle.vr_ckpt.specs.declared.table.Table.{Table}
+use Rattle.vr_ckpt.specs.declared.table.PayloadTable.{PayloadTable}
 use Rattle.vr_apply.specs.declared.codec.Texts.{Texts}
 use Rattle.vr_apply.specs.declared.state.State.{State}
 use Rattle.vr_apply.specs.Folds as applying
@@ -69,8 +69,8 @@ pub moved : (q r : Replica) → Kept q r → IsStocked r → IsStocked q
 moved q r k s = record {
   sessions = subst (λ (x : State). IsSessions x.sessions) (sym k.state) s.sessions;
   machine = subst (λ (x : State). IsKv x.machine) (sym k.state) s.machine;
-  old_sessions = subst (λ (t : Table). AllByRecursion IsNamed t.sessions) (sym k.table) s.old_sessions;
-  old_keys = subst (λ (t : Table). AllByRecursion IsNamed t.keys) (sym k.table) s.old_keys;
+  old_sessions = subst (λ (t : PayloadTable). AllByRecursion IsNamed t.sessions) (sym k.table) s.old_sessions;
+  old_keys = subst (λ (t : PayloadTable). AllByRecursion IsNamed t.keys) (sym k.table) s.old_keys;
 }
 
 texted : (r : Replica) → IsStocked r → Texted (texts_of r.state) r.table
@@ -85,7 +85,7 @@ unfolding after_all
 goes_face [] d g f = f
 goes_face (e ∷ es) d g f = goes_face es (lying.after d e) g.2 (face_after_all _ d.face f g.1)
 
-chain_good : (n i : ℕ) (es : List Effect) (v u : Saved) → IsGood v → Chain v es u → Known 0 n i es → IsGood u
+chain_good : (n i : ℕ) (es : List Effect) (v u : SuperValue) → IsGood v → Chain v es u → Known 0 n i es → IsGood u
 chain_good n i [] v u g c k = subst IsGood c g
 chain_good n i (Write again e ∷ es) v u g c k = chain_good n i es v u g c (known_rest 0 n i (Write again e) es k)
 chain_good n i (Rewrite h ∷ es) v u g c k = absurd c
@@ -121,7 +121,7 @@ some_entry h (Some x) e q =
 entry_whole : (h : Header) (d : Lying) (e : Whole) → IsFace d.face → entry_of h lying d ≡ Some e → IsWhole e
 entry_whole h d e f q = (read_whole d.face (h.op % 64) e f (omega arith) (some_entry h (whole_in d.face (h.op % 64)) e q)).whole
 
-state_stocked : (root : Name) (table : Table) (texts : Texts) (o : Result State StateFault) (q : Replica) → LoadsWell texts table → state_decoded texts ≡ o → IsStocked q → IsStocked (loaded_state root table o q)
+state_stocked : (root : Name) (table : PayloadTable) (texts : Texts) (o : Result State StateFault) (q : Replica) → LoadsWell texts table → state_decoded texts ≡ o → IsStocked q → IsStocked (loaded_state root table o q)
 unfolding with_state
 state_stocked root table texts (Ok s) q w e k = let x = state_read texts s w.sessions w.keys e in record { sessions = x.sessions; machine = x.machine; old_sessions = w.table.sessions; old_keys = w.table.keys }
 state_stocked root table texts (Err fault) q w e k = record { sessions = k.sessions; machine = k.machine; old_sessions = k.old_sessions; old_keys = k.old_keys }

@@ -9,7 +9,7 @@ use Rattle.vr_header.specs.Made.{Whole}
 use Rattle.vr_grid.specs.declared.name.Name.{Name}
 use Rattle.vr_recover.specs.declared.readings.Verdict.{Verdict}
 use Rattle.vr_recover.specs.declared.readings.Verdict.TheVariants as verdict
-use Rattle.vr_super.specs.Copies.{Saved}
+use Rattle.vr_super.specs.Copies.{SuperValue}
 use Rattle.vr_msg.specs.declared.event.Event.{Event}
 use Rattle.vr_msg.specs.declared.event.Event.TheVariants as event
 use Rattle.vr_msg.specs.declared.frame.Commit.{Commit}

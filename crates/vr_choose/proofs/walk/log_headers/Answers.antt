@@ -3,7 +3,7 @@ use Rattle.std.specs.Option.{option_and_then, option_map_or, option_copied, opti
 use Rattle.std.specs.List.{find}
 use Rattle.vr_header.specs.declared.header.Header.{Header}
 use Rattle.vr_msg.specs.declared.statement.Statement.{Statement}
-use Rattle.vr_msg.specs.Choice.{header_at, named_by, top_view, top_commit, start_of, log_start, chosen_header}
+use Rattle.vr_msg.specs.Choice.{stated_header, named_by, top_view, top_commit, start_of, log_start, chosen_header}
 use Rattle.vr_choose.proofs.Rests.{headers_from, all_headers, one_header, no_header}
 use Rattle.vr_choose.proofs.walk.log_headers.Goals as goal
 
@@ -13,7 +13,7 @@ start_is : (ss : List Statement) (commit head start : ℕ) (far : Option Stateme
 start_is ss commit head start far e f s = s ∙ rw (f, e) refl
 
 header_is : (ss : List Statement) (view commit k : ℕ) (far : Option Statement) (h : Option Header) → view ≡ top_view ss → commit ≡ top_commit ss
-    → far ≡ find (λ s. s.commit == commit) ss → h ≡ cond (leb k commit) (option_and_then (header_at k) far) (named_by view k ss) → h ≡ chosen_header ss k
+    → far ≡ find (λ s. s.commit == commit) ss → h ≡ cond (leb k commit) (option_and_then (stated_header k) far) (named_by view k ss) → h ≡ chosen_header ss k
 header_is ss view commit k far h v e f s = s ∙ rw (f, e, v) refl
 
 pub loop-k-init : goal.loop-k-init

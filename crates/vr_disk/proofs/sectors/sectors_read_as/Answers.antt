@@ -7,7 +7,7 @@ use Rattle.vr_disk.proofs.Telling.{if_some, some_if}
 use Rattle.vr_disk.proofs.sectors.sectors_read_as.Goals as goal
 
 pub loop-k-init : goal.loop-k-init
-loop-k-init g c = record { told = refl; faults = refl; rest = λ d e. has_start c.args.at c.args.count c.args.bytes.now d.face }
+loop-k-init g c = record { told = refl; faults = refl; reads = omega arith; rest = λ d e. has_start c.args.at c.args.count c.args.bytes.now d.face }
 
 pub loop-k-preserved : goal.loop-k-preserved
 loop-k-preserved g c =
@@ -19,6 +19,7 @@ loop-k-preserved g c =
     record {
       told = c.sector_reads_as.ensures.told ∙ told;
       faults = c.sector_reads_as.ensures.faults ∙ c.loop-k.invariant.faults;
+      reads = omega (arith, c.sector_reads_as.ensures.reads, c.loop-k.invariant.reads);
       rest = λ d e.
           let whole : IsFace d.face = some_if (λ (d : Disk). IsFace d.face) (g.D.SectorDisk.told c.args.disk.now) d (g.met.D.SectorDisk.whole c.args.disk.now) e in
           let sector : has (piece (512 * k) 512 b) (reads d.face (i + k)) ≡ true =

@@ -14,4 +14,4 @@ returns c =
     let seen = c.unwrap-operation.result in
     let operation : operation_of (drop 128 c.args.bytes.now) ≡ Some (operation_seen seen) =
     sym (ap operation_of c.split_at.ensures.back) ∙ (sym c.read_operation.ensures ∙ ap (option_map operation_seen) c.unwrap-operation.ensures) in
-    entry_made c.args.bytes.now c.header_at-header.result (operation_seen seen) c.requires c.header_at-header.ensures.exact operation
+    entry_made c.args.bytes.now c.decoded_header-header.result (operation_seen seen) c.requires c.decoded_header-header.ensures.exact operation

@@ -4,7 +4,7 @@ use Rattle.vr_super.proofs.Steps.{mending_ends, mending_goes, mending_starts, me
 use Rattle.vr_super.proofs.writing.mend.Goals as goal
 
 pub loop-copy-init : goal.loop-copy-init
-loop-copy-init g c = record { mending = mending_starts c.args.bytes.now (g.D.SectorDisk.told c.args.disk.now); faults = refl }
+loop-copy-init g c = record { mending = mending_starts c.args.bytes.now (g.D.SectorDisk.told c.args.disk.now); faults = refl; reads = omega arith }
 
 pub loop-copy-preserved : goal.loop-copy-preserved
 loop-copy-preserved g c =
@@ -12,6 +12,7 @@ loop-copy-preserved g c =
     record {
       mending = mending_goes c.args.bytes.now c.loop-copy.copy _ _ _ l c.loop-copy.invariant.mending c.in_ok-mend_unless.ensures.runs;
       faults = c.in_ok-mend_unless.ensures.cause.kept ∙ c.loop-copy.invariant.faults;
+      reads = omega (arith, c.in_ok-mend_unless.ensures.reads, c.loop-copy.invariant.reads);
     }
 
 pub returns-in_err-mend_unless-clause-runs : goal.returns-in_err-mend_unless-clause-runs

@@ -1,4 +1,4 @@
-use Rattle.std.proofs.Common.{◌≡◌}
+use Rattle.std.proofs.Common.{◌≡◌, ◌≤◌}
 use Rattle.vr_super.proofs.Steps.{Mending}
 use Rattle.vr_super.proofs.writing.mend.Given as goal
 
@@ -6,4 +6,5 @@ abbrev pub invariant-loop-copy : goal.invariant-loop-copy
 invariant-loop-copy g l = record {
   mending : Mending l.bytes l.copy (g.D.SectorDisk.told l.fn.disk) (g.D.SectorDisk.told l.disk);
   faults : g.D.SectorDisk.faults l.disk ≡ g.D.SectorDisk.faults l.fn.disk;
+  reads : g.D.SectorDisk.read_faults l.fn.disk ≤ g.D.SectorDisk.read_faults l.disk;
 }

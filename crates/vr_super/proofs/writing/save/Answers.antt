@@ -13,6 +13,7 @@ loop-copy-preserved g c =
     record {
       runs = λ new ok h. c.loop-copy.invariant.runs new ok (rw (save_step k bytes l) (Runs_then (copy_calls k bytes) (save_from (k + 1) (4 - (k + 1)) bytes) _ _ _ _ c.in_ok-write_copy.ensures.runs h));
       faults = c.in_ok-write_copy.ensures.cause.kept ∙ c.loop-copy.invariant.faults;
+      others = c.in_ok-write_copy.ensures.others ∙ c.loop-copy.invariant.others;
     }
 
 pub returns-in_err-write_copy-clause-runs : goal.returns-in_err-write_copy-clause-runs

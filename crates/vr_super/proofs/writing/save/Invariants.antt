@@ -7,4 +7,5 @@ abbrev pub invariant-loop-copy : goal.invariant-loop-copy
 invariant-loop-copy g l = record {
   runs : (new : Option Disk) (ok : Bool) → Runs (save_from l.copy (4 - l.copy) l.bytes) (g.D.SectorDisk.told l.disk) new ok → Runs (save_from 0 4 l.bytes) (g.D.SectorDisk.told l.fn.disk) new ok;
   faults : g.D.SectorDisk.faults l.disk ≡ g.D.SectorDisk.faults l.fn.disk;
+  others : g.D.SectorDisk.read_faults l.disk ≡ g.D.SectorDisk.read_faults l.fn.disk;
 }
