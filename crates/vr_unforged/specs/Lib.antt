@@ -1,1 +1,1 @@
-pub mod Seals
+pub mod Bridged

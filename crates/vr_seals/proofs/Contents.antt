@@ -8,7 +8,7 @@ use Rattle.vr_mem.specs.Lies.{lied}
 use Rattle.vr_lie.specs.declared.fault.Fault.{Fault}
 use Rattle.vr_lie.specs.declared.fault.Fault.TheVariants.{Damage, Stale, Unread, Misdirect}
 use Rattle.vr_lie.specs.Faults.{IsFault, faulted}
-use Rattle.vr_unforged.specs.Seals.{HasCell, HasSectors, HasWaiting, Puts}
+use Rattle.vr_seals.specs.Seals.{HasCell, HasSectors, HasWaiting, Puts}
 
 module _ (P : List ℕ → Type 0) where
   some_has : (a b : List ℕ) → P a → Some a ≡ Some b → P b
