@@ -1,6 +1,6 @@
 -- The sectors of slots and of the superblock are sealed.
 use Rattle.std.proofs.Common.{ℕ, zero, suc, ◌+◌, ◌-◌, ◌*◌, ◌<◌, ◌≤◌, ◌≡◌, ◌≢◌, ◌⊎◌, ◌&&◌, inl, inr, arith, refl, sym, ap, ◌∙◌, subst, true, false, cond, List, [], ◌∷◌, ◌++◌, length, take, drop, get_or, append_assoc, length-append, length-take, length-drop}
-use Rattle.std.specs.Prelude.{IsTrue, nat_le, replicate, Some, None}
+use Rattle.std.specs.Prelude.{IsTrue, ◌==◌, nat_le, replicate, Some, None}
 use Rattle.std.specs.Option.{option_map}
 use Rattle.std.specs.List.{AllByRecursion, list_all}
 use Rattle.std.proofs.lemmas.Bool.{and_parts, cases_lt, leb-true}
@@ -22,7 +22,7 @@ use Rattle.vr_header.proofs.BodyLaws.{text_limit}
 use Rattle.vr_header.proofs.HeaderLaws.{length-header_bytes}
 use Rattle.vr_header.proofs.Truths.{both}
 use Rattle.vr_protocol.specs.Basics.{In}
-use Rattle.vr_super.specs.Copies.{IsGood, SuperValue, copy_bytes, count_at, fields_at, first_op, is_closed, is_sealed, list_at, list_bytes, value_of, zeros}
+use Rattle.vr_super.specs.Copies.{IsGood, SuperValue, copy_bytes, count_at, fields_at, first_op, good_fields, is_named, is_closed, is_sealed, list_at, list_bytes, value_of, zeros}
 use Rattle.vr_super.specs.Calls.{copy_calls, mend_calls, mend_copy, mend_from, mend_unless, save_from, write_calls}
 use Rattle.vr_super.specs.Opens.{copy_reading}
 use Rattle.vr_super.proofs.Format.{behind_copy, length-copy_bytes, length-list_bytes, tail_bytes, value_again}
@@ -80,7 +80,7 @@ unfolding prepare_bytes entry_bytes
 prepare_plain e w i l =
     let h = header_bytes e.header in
     let o = operation_bytes e.operation in
-    let z = replicate (2048 - length (h ++ o)) 0 in
+    let z : List ℕ = replicate (2048 - length (h ++ o)) 0 in
     let n = length-header_bytes e.header w.header in
     let all : (h ++ o) ++ z ≡ h ++ (o ++ z) = append_assoc h o z in
     let past : get_or (h ++ (o ++ z)) i 0 ≡ get_or (o ++ z) (i - length h) 0 = get_or-append_right h (o ++ z) (length h) i 0 refl (omega (arith, n, l)) in
@@ -190,14 +190,19 @@ closed_of b v e =
 
 blank_of : (b : List ℕ) → is_sealed b ≡ true → is_zeros (piece 93 35 b) ≡ true
 unfolding is_sealed is_closed
-blank_of b e = let p = and_parts _ _ e in let q = and_parts _ _ p.1 in let r = and_parts _ _ q.1 in (and_parts _ _ r.1).0
+blank_of b e =
+    let rest = is_zeros (drop (128 + 128 * count_at b) b) && is_named b in
+    let p = and_parts (length b == 10240) (good_fields (fields_at b) (count_at b) && ((get_or b 92 0 == 1) && (is_zeros (piece 93 35 b) && rest))) e in
+    let q = and_parts (good_fields (fields_at b) (count_at b)) ((get_or b 92 0 == 1) && (is_zeros (piece 93 35 b) && rest)) p.1 in
+    let r = and_parts (get_or b 92 0 == 1) (is_zeros (piece 93 35 b) && rest) q.1 in
+    (and_parts (is_zeros (piece 93 35 b)) rest r.1).0
 
 -- the bytes behind the fields, from a header of the list on, or behind them all
 module _ (made : List Header) (v : SuperValue) (g : IsGood v) (are : IsBytes (copy_bytes v)) (m : AllByRecursion (λ h. In h made) v.headers) where
-  hs : List Header
+  abbrev hs : List Header
   hs = v.headers
 
-  rest : List ℕ
+  abbrev rest : List ℕ
   rest = zeros (10112 - 128 * length v.headers)
 
   size : length (copy_bytes v) ≡ 10240

@@ -66,7 +66,7 @@ module _ (made : List Header) where
   plain_sealed b c one other = record { content = c; front = λ h f. absurd (one (front_version b h f)); turned = λ h f. absurd (other (turned_version b h c f)) }
 
   same_read : (a b : Header) (r : Result Header HeaderFault) → r ≡ Ok a → r ≡ Ok b → a ≡ b
-  same_read a b r e f = let both : Ok {E = HeaderFault} a ≡ Ok b = sym e ∙ f in cc
+  same_read a b r e f = cc
 
   -- one that was made stands there, if it is that of an entry
   pub headed_sealed : (b : List ℕ) (h : Header) → IsContent b → IsHeader h → Spells h b → (is_entry_header h ≡ true → h.cluster ≡ 0 → In h made) → IsSealed made b
