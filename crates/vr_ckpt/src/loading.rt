@@ -1,5 +1,5 @@
 //! A checkpoint loaded.
-ghost use Rattle.std.specs.Prelude.{◌≡◌, ◌∷◌, [], IfOk, IfSome, OnOk};
+ghost use Rattle.std.specs.Prelude.{◌≡◌, ◌≤◌, ◌∷◌, [], IfOk, IfSome, OnOk};
 ghost use Rattle.vr_grid.specs.Blocks.{Content};
 ghost use Rattle.vr_ckpt.specs.Loads.{HasSome, behind, data_at, data_of, gathered, gathered_both, loaded, root_at, text_of, with_data};
 ghost use Rattle.vr_ckpt.specs.declared.loading.Gathered.{Gathered};
@@ -23,6 +23,7 @@ fn load_root<D: SectorDisk>(
 ) -> Result<Option<Root>, NoMemory>
     ensures told { D.told disk.new ≡ D.told disk.old }
     ensures faults { D.faults disk.new ≡ D.faults disk.old }
+    ensures reads { D.read_faults disk.old ≤ D.read_faults disk.new }
     ensures value { IfSome (D.told disk.old) (λ d. IfOk result (λ root. root ≡ root_at d.face name.now)) }
 {
     match read_block(disk, name, buffer) {
@@ -42,6 +43,7 @@ fn load_payload<D: SectorDisk>(
 ) -> Result<Option<ByteList>, NoMemory>
     ensures told { D.told disk.new ≡ D.told disk.old }
     ensures faults { D.faults disk.new ≡ D.faults disk.old }
+    ensures reads { D.read_faults disk.old ≤ D.read_faults disk.new }
     ensures value { IfSome (D.told disk.old) (λ d. IfOk result (λ bytes. bytes ≡ data_at d.face name.now size)) }
 {
     match read_block(disk, name, buffer) {
@@ -94,6 +96,7 @@ fn gather<D: SectorDisk>(
 ) -> Result<Gathered, NoMemory>
     ensures told { D.told disk.new ≡ D.told disk.old }
     ensures faults { D.faults disk.new ≡ D.faults disk.old }
+    ensures reads { D.read_faults disk.old ≤ D.read_faults disk.new }
     ensures value { IfSome (D.told disk.old) (λ d. IfOk result (λ g. g ≡ gathered d.face size names.now)) }
 {
     let mut payloads = Seq::new(alloc);
@@ -151,6 +154,7 @@ fn load_named<D: SectorDisk>(
 ) -> Result<Load, NoMemory>
     ensures told { D.told disk.new ≡ D.told disk.old }
     ensures faults { D.faults disk.new ≡ D.faults disk.old }
+    ensures reads { D.read_faults disk.old ≤ D.read_faults disk.new }
     ensures value { IfSome (D.told disk.old) (λ d. IfOk result (λ load. load ≡ gathered_both (gathered d.face root.now.sessions_size root.now.sessions) (gathered d.face root.now.keys_size root.now.keys))) }
     ensures some { IfOk result HasSome }
 {
@@ -186,6 +190,7 @@ fn only(alloc: Global, name: &Name) -> Result<Load, NoMemory>
 pub fn load<D: SectorDisk>(alloc: Global, disk: &mut D, root: &Name) -> Result<Load, NoMemory>
     ensures told { D.told disk.new ≡ D.told disk.old }
     ensures faults { D.faults disk.new ≡ D.faults disk.old }
+    ensures reads { D.read_faults disk.old ≤ D.read_faults disk.new }
     ensures value { IfSome (D.told disk.old) (λ d. IfOk result (λ load. load ≡ loaded d.face root.now)) }
     ensures some { IfOk result HasSome }
 {

@@ -45,7 +45,7 @@ pub fn payloads_in(text: &[u8]) -> usize
 /// The i-th payload of a text.
 #[tactic(auto, unfolding(crate::specs::Saves::payload_at, vr_base::specs::Bytes::piece))]
 fn payload_at(text: &[u8], i: usize) -> &[u8]
-    requires begins { 3968 * i ≤ length text.now }
+    requires begins { PAYLOAD_SIZE * i ≤ length text.now }
     requires few { i < 36 }
     ensures { result.now ≡ payload_at text.now i }
 {
@@ -62,7 +62,7 @@ fn goes_to(
     bytes: &[u8],
     blocks: &mut Seq<Block>,
 ) -> Result<Payload, NoMemory>
-    requires size { length bytes.now ≤ 3968 }
+    requires size { length bytes.now ≤ PAYLOAD_SIZE }
     requires address { address < 128 }
     ensures payload { IfOk result (λ p. p ≡ (goes_to run address bytes.now).payload) }
     ensures blocks { OnOk result (blocks.new ≡ blocks.old ++ (goes_to run address bytes.now).blocks) }
@@ -87,7 +87,7 @@ fn goes_on(
     old: &Payload,
     blocks: &mut Seq<Block>,
 ) -> Result<Payload, NoMemory>
-    requires size { length bytes.now ≤ 3968 }
+    requires size { length bytes.now ≤ PAYLOAD_SIZE }
     requires low { run.low + i < 64 }
     ensures payload { IfOk result (λ p. p ≡ (payload_blocks run i bytes.now (Some old.now)).payload) }
     ensures blocks { OnOk result (blocks.new ≡ blocks.old ++ (payload_blocks run i bytes.now (Some old.now)).blocks) }
@@ -112,7 +112,7 @@ fn plan_payload(
     old: &[Payload],
     blocks: &mut Seq<Block>,
 ) -> Result<Payload, NoMemory>
-    requires begins { 3968 * i ≤ length text.now }
+    requires begins { PAYLOAD_SIZE * i ≤ length text.now }
     requires few { i < 36 }
     requires low { run.low + i < 64 }
     ensures payload { IfOk result (λ p. p ≡ (payload_blocks_at run text.now old.now i).payload) }

@@ -11,7 +11,7 @@ use crate::{Name, NameList, Payload, PayloadTable};
 use std::alloc::Global;
 use vr_apply::Texts;
 use vr_base::{NoMemory, Seq, put_u16, put_u32, put_u64, sum_at, u16_at, u32_at, u64_at};
-use vr_grid::{Block, BlockView, ROOT};
+use vr_grid::{Block, BlockView, PAYLOAD_SIZE, ROOT};
 
 /// What a root says: how many bytes the texts have, and the names of their payloads.
 #[derive(Drop)]
@@ -75,7 +75,7 @@ fn root_payload(
     requires sessions { length table.now.sessions ≡ payloads (length texts.now.sessions) }
     requires keys { length table.now.keys ≡ payloads (length texts.now.keys) }
     ensures bytes { IfOk result (λ bytes. bytes.items ≡ root_payload op (length texts.now.sessions) (length texts.now.keys) table.now) }
-    ensures size { IfOk result (λ bytes. length bytes.items ≤ 3968) }
+    ensures size { IfOk result (λ bytes. length bytes.items ≤ PAYLOAD_SIZE) }
 {
     let sessions = texts.sessions.len() as u32;
     let keys = texts.keys.len() as u32;
@@ -156,7 +156,7 @@ fn names_at(
 fn payloads(bytes: u32) -> usize
     ensures { result ≡ payloads bytes }
 {
-    bytes.div_ceil(3968) as usize
+    bytes.div_ceil(PAYLOAD_SIZE as u32) as usize
 }
 
 #[tactic(auto, unfolding(crate::specs::Loads::sessions_size))]

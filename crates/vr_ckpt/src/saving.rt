@@ -1,7 +1,8 @@
 //! A checkpoint saved.
-ghost use Rattle.std.specs.Prelude.{◌≡◌, ◌≤◌, ◌<◌, ◌++◌, OnOk, IfOk, IfSome, is_ok, [], ◌∷◌, Err};
+ghost use Rattle.std.specs.Prelude.{◌≡◌, ◌++◌, OnOk, IfOk, IfSome, is_ok, [], ◌∷◌};
 ghost use Rattle.std.specs.List.{All};
-ghost use Rattle.vr_base.specs.Causes.{HasCause, Rose};
+ghost use Rattle.vr_base.specs.Causes.{HasCause};
+ghost use Rattle.vr_disk.specs.Counts.{CountsFault};
 ghost use Rattle.vr_disk.specs.DiskState.{Runs, Sync};
 ghost use Rattle.vr_apply.specs.Texts.{FitsPayloads};
 ghost use Rattle.vr_grid.specs.Grid.{Leaves};
@@ -91,6 +92,7 @@ fn write_all<D: SectorDisk>(disk: &mut D, blocks: &[Block]) -> Result<(), DiskFa
     requires { All IsPlaced blocks.now }
     ensures runs { Runs (blocks_calls blocks.now) (D.told disk.old) (D.told disk.new) (is_ok result) }
     ensures cause { HasCause (D.faults disk.old) (D.faults disk.new) result }
+    ensures others { D.read_faults disk.new ≡ D.read_faults disk.old }
 {
     for block in blocks {
         write_at(disk, block.name.address, block.bytes.as_slice())?;
@@ -104,6 +106,7 @@ fn write_synced<D: SectorDisk>(disk: &mut D, blocks: &[Block]) -> Result<(), Dis
     requires { All IsPlaced blocks.now }
     ensures runs { Runs (blocks_calls blocks.now ++ Sync ∷ []) (D.told disk.old) (D.told disk.new) (is_ok result) }
     ensures cause { HasCause (D.faults disk.old) (D.faults disk.new) result }
+    ensures others { D.read_faults disk.new ≡ D.read_faults disk.old }
 {
     write_all(disk, blocks)?;
     disk.sync()?;
@@ -125,8 +128,8 @@ pub fn save<D: SectorDisk>(
     requires texts { FitsPayloads texts.now }
     ensures saved { IfOk result (λ s. s ≡ saved_checkpoint cluster texts.now op old.now) }
     ensures runs { Leaves (save_calls cluster texts.now op old.now) (D.told disk.old) (D.told disk.new) result }
-    ensures later { D.faults disk.old ≤ D.faults disk.new }
-    ensures fault { result ≡ Err CkptFault.DiskFault → Rose (D.faults disk.old) (D.faults disk.new) }
+    ensures cause { CountsFault CkptFault.DiskFault (D.faults disk.old) (D.faults disk.new) result }
+    ensures others { D.read_faults disk.new ≡ D.read_faults disk.old }
 
     // Over a table that the disk holds it loads at the end as it was saved.
     ensures done { IfSome (D.told disk.old) (λ d. Holds d.face old.now → SaveDone cluster texts.now op old.now d.face) }

@@ -1,6 +1,5 @@
 -- Calls that are made one after the other.
-use Rattle.std.proofs.Common.{arith, ℕ, zero, suc, ◌≡◌, ◌<◌, ◌≤◌, ◌+◌, ◌-◌, refl, sym, ap, subst, List, [], ◌∷◌, ◌++◌, map, Option, Bool, true, false}
-use Rattle.std.specs.List.{range_with_len}
+use Rattle.std.proofs.Common.{arith, ℕ, suc, ◌≡◌, ◌<◌, ◌≤◌, ◌+◌, ◌-◌, refl, List, [], ◌∷◌, Option, true, false}
 use Rattle.vr_disk.specs.DiskState.{Call, Write, Disk, Runs}
 use Rattle.vr_disk.proofs.Running.{Runs_then, Runs_stopped, runs_nothing}
 use Rattle.vr_rules.specs.Lying.{zero_prepares, zero_sector, reserved_headers}

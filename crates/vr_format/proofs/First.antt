@@ -1,10 +1,10 @@
 -- The first value makes a good copy.
-use Rattle.std.proofs.Common.{arith, ℕ, ◌≡◌, ◌<◌, ◌≤◌, ◌+◌, ◌^◌, ◌∙◌, inl, inr, refl, sym, true, true≢false}
+use Rattle.std.proofs.Common.{arith, ℕ, ◌≡◌, ◌<◌, ◌≤◌, ◌^◌, ◌∙◌, inl, inr, refl, sym, true, true≢false}
 use Rattle.std.specs.Prelude.{is_some}
 use Rattle.std.proofs.lemmas.Bool.{and_from, cases_eq, le-leb, lt-ltb, ne_eqb}
 use Rattle.vr_base.proofs.AreBytes.{IsBytes-zeros}
 use Rattle.vr_base.specs.Groups.{quorums_of}
-use Rattle.vr_super.specs.Copies.{IsGood, good_fields, good_member, are_listed}
+use Rattle.vr_super.specs.Copies.{IsGood, good_fields, are_listed}
 use Rattle.vr_rules.specs.Opening.{first_value}
 
 -- groups have from 2 to 6 replicas

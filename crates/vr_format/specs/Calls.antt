@@ -1,5 +1,5 @@
 -- Calls that are made one after the other.
-use Rattle.std.specs.Prelude.{ℕ, ◌-◌, List, map, Option, Bool, true}
+use Rattle.std.specs.Prelude.{ℕ, ◌-◌, List, map, Option, Bool}
 use Rattle.std.specs.List.{range_with_len}
 use Rattle.vr_disk.specs.DiskState.{Call, Write, Disk, Runs}
 use Rattle.vr_disk.specs.Regions.{header_place}

@@ -1,8 +1,7 @@
 -- What applying an entry does.
-use Rattle.std.proofs.Common.{◌≡◌, ◌∙◌, ◌+◌, refl, sym, subst, Bool, true, false, cond, List, [], ◌∷◌, ◌++◌, append_assoc, Option, Result, Ok}
+use Rattle.std.proofs.Common.{◌≡◌, ◌∙◌, ◌+◌, refl, sym, Bool, true, false, cond, List, [], ◌∷◌, ◌++◌, append_assoc, Option, Result, Ok}
 use Rattle.std.specs.Prelude.{◌&&◌, nat_lt}
 use Rattle.vr_apply.specs.declared.reply.ReplyBody.{ReplyBody}
-use Rattle.vr_apply.specs.declared.reply.ReplyBody.TheVariants as body
 use Rattle.vr_apply.specs.declared.state.State.{State}
 use Rattle.vr_apply.specs.Folds as state
 use Rattle.vr_disk.specs.DiskState.{Disk}

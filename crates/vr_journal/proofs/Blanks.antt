@@ -1,5 +1,5 @@
 -- How much a replica's lists begin with.
-use Rattle.std.proofs.Common.{arith, ◌≡◌, ◌≤◌, ◌<◌, ◌+◌, ◌-◌, ◌^◌, length}
+use Rattle.std.proofs.Common.{arith, ◌≤◌, ◌<◌, ◌+◌, ◌-◌, ◌^◌, length}
 use Rattle.vr_super.specs.Copies.{SuperValue, IsGood}
 use Rattle.vr_rules.specs.Opening.{first_listed}
 use Rattle.vr_rules.proofs.Slots.{value_is}

@@ -1,5 +1,5 @@
 -- What loading a checkpoint leaves.
-use Rattle.std.proofs.Common.{◌≡◌, ◌≤◌, refl, Bool, List, [], ◌∷◌, Option, Some, None, true, false, Result, Ok, Err}
+use Rattle.std.proofs.Common.{◌≡◌, ◌≤◌, refl, List, [], ◌∷◌, Option, Some, None, true, false, Result, Ok, Err}
 use Rattle.std.specs.Prelude.{IfSome, nat_lt}
 use Rattle.vr_apply.specs.declared.codec.Texts.{Texts}
 use Rattle.vr_apply.specs.declared.state.State.{State}

@@ -1,7 +1,7 @@
 -- What repair looks for and changes.
-use Rattle.std.proofs.Common.{arith, ℕ, zero, suc, ◌+◌, ◌-◌, ◌≤◌, ◌<◌, ◌≡◌, ◌≢◌, ◌^◌, refl, sym, ap, ◌∙◌, true, false, Bool, not, List, [], ◌∷◌, length, drop, get_or, filter, Option, Some, None, add-one}
-use Rattle.std.specs.Prelude.{find, is_some, ◌==◌}
-use Rattle.std.specs.List.{prefix_len, range_with_len}
+use Rattle.std.proofs.Common.{arith, ℕ, zero, suc, ◌+◌, ◌-◌, ◌≤◌, ◌<◌, ◌≡◌, ◌^◌, refl, sym, ap, ◌∙◌, true, false, Bool, List, [], ◌∷◌, length, drop, get_or, Option, Some, None, add-one}
+use Rattle.std.specs.Prelude.{find, is_some}
+use Rattle.std.specs.List.{prefix_len}
 use Rattle.std.specs.Option.{option_and_then}
 use Rattle.std.proofs.lemmas.Bool.{cond_both}
 use Rattle.std.proofs.lemmas.List.{drop_all, get_or-drop}

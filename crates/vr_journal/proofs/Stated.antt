@@ -1,11 +1,11 @@
 -- What a replica states of its log.
-use Rattle.std.proofs.Common.{arith, ℕ, zero, suc, ◌≡◌, ◌≤◌, ◌<◌, ◌+◌, ◌-◌, ◌∙◌, refl, sym, ap, subst, inl, inr, true, false, not, List, [], ◌∷◌, ◌++◌, length, take, drop, get_or, add-one, eqb, cond, Some, None, Option, append-nil}
-use Rattle.std.specs.Prelude.{reverse, ◌==◌}
+use Rattle.std.proofs.Common.{arith, ℕ, zero, suc, ◌≡◌, ◌≤◌, ◌<◌, ◌+◌, ◌-◌, ◌∙◌, refl, ap, inl, inr, true, false, not, List, [], ◌∷◌, ◌++◌, length, take, drop, get_or, add-one, Some, None, Option}
+use Rattle.std.specs.Prelude.{reverse}
 use Rattle.std.specs.List.{prefix_len, range_with_len, filter_map}
 use Rattle.std.specs.Option.{option_to_list}
-use Rattle.std.proofs.lemmas.Bool.{cases_lt, cases_eq, eq-eqb, ne_eqb}
+use Rattle.std.proofs.lemmas.Bool.{cases_eq, eq-eqb, ne_eqb}
 use Rattle.std.proofs.lemmas.Grind.{common_steps}
-use Rattle.std.proofs.lemmas.List.{drop_all, reverse-append, length-append, length-drop, length-reverse, length-take-le, take_all}
+use Rattle.std.proofs.lemmas.List.{reverse-append, length-append, length-drop, length-reverse, length-take-le, take_all}
 use Rattle.std.proofs.lemmas.List.Sums.{prefix_len-le-length}
 use Rattle.std.proofs.lemmas.List.Folds.{prefix_len-append}
 use Rattle.std.proofs.lemmas.List.Elements.{filter_map-append}

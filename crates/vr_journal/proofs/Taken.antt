@@ -1,5 +1,5 @@
 -- A log that is taken over, place by place.
-use Rattle.std.proofs.Common.{arith, ℕ, zero, suc, ◌≡◌, ◌≤◌, ◌<◌, ◌+◌, ◌-◌, ◌^◌, ◌∙◌, refl, sym, ap, subst, Bool, true, false, List, [], ◌∷◌, ◌++◌, length, drop, get_or, set, map, max, append_assoc, append-nil, slice_get, Some, None, add-one, drop-cons}
+use Rattle.std.proofs.Common.{arith, ℕ, zero, suc, ◌≡◌, ◌≤◌, ◌<◌, ◌+◌, ◌-◌, ◌^◌, ◌∙◌, refl, sym, ap, subst, true, List, [], ◌∷◌, ◌++◌, length, drop, get_or, set, map, max, append_assoc, append-nil, slice_get, Some, None, add-one, drop-cons}
 use Rattle.std.specs.Prelude.{◌&&◌}
 use Rattle.std.specs.List.{range_with_len}
 use Rattle.std.proofs.lemmas.Bool.{le-ltb}

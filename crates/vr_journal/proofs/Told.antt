@@ -1,9 +1,7 @@
 -- What a replica tells of its log may be sent.
-use Rattle.std.proofs.Common.{arith, ℕ, ◌≡◌, ◌≤◌, ◌<◌, ◌+◌, ◌-◌, ◌^◌, refl, sym, ap, List, [], ◌∷◌, length}
+use Rattle.std.proofs.Common.{arith, ℕ, ◌≡◌, ◌≤◌, ◌<◌, ◌+◌, ◌-◌, refl, List, [], ◌∷◌, length}
 use Rattle.vr_header.specs.declared.header.Header.{Header}
 use Rattle.vr_msg.specs.declared.frame.Frame.{Frame}
-use Rattle.vr_msg.specs.declared.frame.DoViewChange.{DoViewChange}
-use Rattle.vr_msg.specs.declared.frame.StartView.{StartView}
 use Rattle.vr_msg.specs.declared.statement.Statement.{Statement}
 use Rattle.vr_msg.specs.Forms.{IsDoViewChange, IsStartView}
 use Rattle.vr_msg.specs.Logs.{FromOp, IsEntryAt}

@@ -1,5 +1,5 @@
 -- A log that is taken over, place by place.
-use Rattle.std.specs.Prelude.{ℕ, ◌+◌, ◌-◌, Bool, true, false, ◌&&◌, List, map, drop, ◌++◌, length, slice_index_or, is_some, nat_le, nat_lt, if◌then◌else◌}
+use Rattle.std.specs.Prelude.{ℕ, ◌+◌, Bool, List, map, drop, ◌++◌, slice_index_or, is_some, nat_le, nat_lt, if◌then◌else◌}
 use Rattle.std.specs.List.{range_with_len}
 use Rattle.std.specs.Option.{option_map_or}
 use Rattle.vr_header.specs.declared.part.Part.{Part}

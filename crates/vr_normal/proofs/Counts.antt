@@ -1,5 +1,5 @@
 -- Prepare_oks: which rule applies, and what it is.
-use Rattle.std.proofs.Common.{arith, ℕ, ◌≡◌, ◌≤◌, ◌<◌, ◌+◌, ◌-◌, ◌∙◌, refl, sym, ap, subst, Bool, true, false, List, length, Option, Result, Ok, Err}
+use Rattle.std.proofs.Common.{arith, ◌≡◌, ◌≤◌, ◌<◌, ◌-◌, ◌∙◌, refl, sym, ap, subst, Bool, true, List, length, Option, Result, Ok}
 use Rattle.std.specs.Prelude.{◌&&◌, ◌==◌, nat_lt, nat_le}
 use Rattle.std.proofs.lemmas.Bool.{and_parts, ltb-true, leb-true}
 use Rattle.std.proofs.lemmas.List.{length-set}

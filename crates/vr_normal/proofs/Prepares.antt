@@ -1,5 +1,5 @@
 -- Prepares: which rule applies, and what it is.
-use Rattle.std.proofs.Common.{arith, ℕ, ◌≡◌, ◌≤◌, ◌<◌, ◌+◌, ◌-◌, ◌∙◌, ◌⊎◌, inl, inr, refl, sym, ap, subst, Bool, true, false, not, List, ◌++◌, Option, Result, Ok, Err}
+use Rattle.std.proofs.Common.{arith, ◌≡◌, ◌≤◌, ◌<◌, ◌+◌, ◌-◌, ◌∙◌, ◌⊎◌, inl, inr, refl, sym, ap, subst, false, not, List, ◌++◌, Option, Result, Ok}
 use Rattle.std.specs.Prelude.{nat_lt, nat_le}
 use Rattle.std.proofs.lemmas.Bool.{ltb-false, leb-false}
 use Rattle.vr_base.specs.Bytes.{name_of}
@@ -20,7 +20,7 @@ use Rattle.vr_rules.proofs.Ruling.{by_rows, group_of_primary}
 use Rattle.vr_step.specs.declared.halt.Halt.{Halt}
 use Rattle.vr_step.specs.Does.{Does}
 use Rattle.vr_step.proofs.Stepping.{does_by, does_naming, does_quiet, says_by, change_by}
-use Rattle.vr_journal.specs.Ready.{IsReady, MayStore}
+use Rattle.vr_journal.specs.Ready.{MayStore}
 use Rattle.vr_normal.specs.declared.storing.PrepareRule.{PrepareRule}
 use Rattle.vr_normal.specs.declared.storing.PrepareRule.TheVariants as rule
 use Rattle.vr_normal.specs.Messages.{IsPreparing}

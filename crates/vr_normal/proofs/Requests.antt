@@ -1,6 +1,6 @@
 -- Requests: which rule applies, and what it is.
-use Rattle.std.proofs.Common.{arith, ℕ, zero, suc, ◌≡◌, ◌≤◌, ◌<◌, ◌+◌, ◌-◌, ◌^◌, ◌∙◌, refl, sym, ap, subst, Bool, true, false, true≢false, not, List, [], ◌∷◌, ◌++◌, length, take, drop, get_or, add-one, append-nil, Option, Result, Ok, Err, inl, inr}
-use Rattle.std.specs.Prelude.{◌&&◌, ◌||◌, ◌==◌, nat_lt, nat_le}
+use Rattle.std.proofs.Common.{arith, ℕ, zero, suc, ◌≡◌, ◌≤◌, ◌<◌, ◌+◌, ◌-◌, ◌^◌, ◌∙◌, refl, sym, ap, subst, Bool, true, false, not, List, [], ◌∷◌, ◌++◌, take, drop, get_or, add-one, append-nil, Option, Result, Ok}
+use Rattle.std.specs.Prelude.{◌||◌, ◌==◌, nat_lt, nat_le}
 use Rattle.std.specs.List.{list_any}
 use Rattle.std.proofs.lemmas.Bool.{and_parts, or_parts, not-false, eqb-true, leb-false, ltb-false}
 use Rattle.vr_base.specs.Bytes.{name_of}
@@ -19,13 +19,11 @@ use Rattle.vr_rules.specs.declared.rule.Rule.{Rule}
 use Rattle.vr_rules.specs.declared.rule.Rule.TheVariants.{Ignored, Redirected, Behind, InFlight, Answered, Full, Made}
 use Rattle.vr_rules.specs.Outputs.{replies}
 use Rattle.vr_rules.specs.declared.asker.Asker.{Asker}
-use Rattle.vr_rules.specs.Replica.{Replica, head, is_primary, is_started, last_view, leads}
+use Rattle.vr_rules.specs.Replica.{Replica, head, is_primary, is_started, leads}
 use Rattle.vr_rules.specs.Rules.{asker_by, make, next_entry, obey_request, on_request, stored_reply}
 use Rattle.vr_rules.specs.Steps.{by}
 use Rattle.vr_rules.specs.Words.{is_loaded}
-use Rattle.vr_rules.proofs.Heads.{head_within}
 use Rattle.vr_rules.proofs.Ruling.{by_rows}
-use Rattle.vr_rules.proofs.Storing.{head_number}
 use Rattle.vr_sess.specs.declared.session.SessionAnswer.{SessionAnswer}
 use Rattle.vr_sess.specs.declared.session.SessionAnswer.TheVariants as answer
 use Rattle.vr_step.specs.declared.halt.Halt.{Halt}

@@ -1,40 +1,27 @@
 -- A replica as it begins, and what it does once its Parts are found.
-use Rattle.std.proofs.Common.{arith, ◌≡◌, ◌≤◌, ◌<◌, ◌+◌, ◌-◌, ◌^◌, ◌∙◌, inr, refl, subst, Bool, List, [], ◌∷◌, ◌++◌, length, Option, Some, None, true, false, Result, Ok, Err}
-use Rattle.std.specs.Prelude.{IfSome, nat_lt, nat_le, ◌&&◌}
-use Rattle.std.proofs.lemmas.Bool.{and_parts, eqb-true, leb-true, ltb-false}
-use Rattle.vr_apply.specs.declared.codec.Texts.{Texts}
-use Rattle.vr_apply.specs.declared.state.State.{State}
-use Rattle.vr_apply.specs.Texts.{state_decoded}
-use Rattle.vr_ckpt.specs.declared.found.Load.{Load}
-use Rattle.vr_ckpt.specs.declared.found.Load.TheVariants.{Loaded, Missing}
-use Rattle.vr_ckpt.specs.declared.table.PayloadTable.{PayloadTable}
-use Rattle.vr_ckpt.specs.Loads.{loaded}
-use Rattle.vr_disk.specs.DiskState.{Disk, Face}
-use Rattle.vr_grid.specs.declared.name.Name.{Name}
+use Rattle.std.proofs.Common.{arith, ◌≡◌, ◌<◌, ◌+◌, ◌-◌, ◌^◌, ◌∙◌, inr, refl, subst, Bool, List, [], ◌++◌, Option, true, false, Result, Ok}
+use Rattle.std.specs.Prelude.{nat_le}
+use Rattle.std.proofs.lemmas.Bool.{and_parts, eqb-true, ltb-false}
+use Rattle.vr_disk.specs.DiskState.{Disk}
 use Rattle.vr_msg.specs.declared.output.Output.{Output}
-use Rattle.vr_table.specs.declared.fault.StateFault.{StateFault}
-use Rattle.vr_table.specs.declared.fault.StateFault.TheVariants as fault
-use Rattle.vr_table.specs.Table.{IsOrNoMemory}
-use Rattle.vr_super.specs.Copies.{SuperValue, IsGood, good_fields, good_member, good_window, good_root, good_count}
+use Rattle.vr_super.specs.Copies.{SuperValue, IsGood}
 use Rattle.vr_rules.specs.Replica.{Replica, leads, is_started, is_primary, is_spent, last_view}
 use Rattle.vr_rules.specs.Outputs.{send_to_all, start_line, start_view_change}
 use Rattle.std.proofs.Common.{cond, append-nil}
-use Rattle.vr_rules.specs.Sound.{IsSavable}
-use Rattle.vr_rules.specs.Steps.{Word, when, says}
-use Rattle.vr_rules.specs.Words.{load, loads, loaded_state, with_state, with_missing, checkpoint_at, with_saved, save}
-use Rattle.vr_rules.specs.Opening.{blank, first_listed, in_next_view, leave_view, heard_itself, announce, going_on, resuming}
+use Rattle.vr_rules.specs.Steps.{when, says}
+use Rattle.vr_rules.specs.Words.{with_saved, save}
+use Rattle.vr_rules.specs.Opening.{blank, in_next_view, leave_view, heard_itself, announce, going_on, resuming}
 use Rattle.vr_rules.proofs.Slots.{value_is}
 use Rattle.vr_rules.proofs.Openings.{partly_blank, kept_next}
 use Rattle.vr_rules.proofs.SavesFound.{lists_head, list_size, Lists}
 use Rattle.vr_rules.proofs.SavesOpening.{savable_next}
 use Rattle.vr_rules.proofs.SavesWell.{savable_alike}
-use Rattle.vr_rules.proofs.Wording.{kept_loads}
 use Rattle.vr_rules.proofs.Keeping.{sound_alike}
 use Rattle.vr_step.specs.declared.halt.Halt.{Halt}
-use Rattle.vr_step.specs.Does.{Does, Finds}
+use Rattle.vr_step.specs.Does.{Does}
 use Rattle.vr_journal.specs.Ready.{IsReady, MayLoad}
 use Rattle.vr_opening.specs.Finding.{IsOpeningOld}
-use Rattle.vr_step.proofs.Stepping.{does_by, does_quiet, does_reading, change_by, change_by_then, says_by}
+use Rattle.vr_step.proofs.Stepping.{does_by, does_quiet, change_by_then, says_by}
 
 pub opening_blank : (v : SuperValue) (r : Replica) → r ≡ blank v → IsGood v → IsOpeningOld 0 r
 unfolding IsOpeningOld blank

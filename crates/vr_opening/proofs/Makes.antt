@@ -1,9 +1,9 @@
 -- A new member is made on its disk.
-use Rattle.std.proofs.Common.{arith, ℕ, ◌≡◌, ◌<◌, ◌≤◌, ◌∙◌, ◌^◌, refl, sym, ap, subst, Bool, true, false, List, Option, Some, None, Result, Ok, Err, []}
+use Rattle.std.proofs.Common.{arith, ℕ, ◌≡◌, ◌<◌, ◌≤◌, ◌^◌, refl, sym, ap, subst, Bool, true, false, List, Option, Some, None, Ok, Err}
 use Rattle.std.specs.Prelude.{IfSome, is_some}
 use Rattle.vr_base.specs.declared.table.Config.{Config}
 use Rattle.vr_base.specs.Groups.{quorums_of}
-use Rattle.vr_disk.specs.DiskState.{Disk, Runs}
+use Rattle.vr_disk.specs.DiskState.{Disk}
 use Rattle.vr_super.specs.declared.opening.Found.{Found}
 use Rattle.vr_super.specs.Copies.{SuperValue, IsGood}
 use Rattle.vr_super.specs.Opens.{good_copies, opened, found_of}
@@ -16,7 +16,6 @@ use Rattle.vr_rules.proofs.Openings.{partly_blank, opened_forgetting}
 use Rattle.vr_rules.proofs.SavesFound.{found_topped, savable_found}
 use Rattle.vr_format.proofs.First.{first_good}
 use Rattle.vr_journal.specs.Ready.{IsReady}
-use Rattle.vr_opening.specs.declared.new_member.FreshFault.{FreshFault}
 use Rattle.vr_opening.specs.declared.new_member.FreshFault.TheVariants.{Occupied, DiskFault, NoMemory}
 use Rattle.vr_opening.specs.Making.{Agrees, Formats, Made}
 

@@ -1,5 +1,5 @@
 -- What the slots say as a replica opens.
-use Rattle.std.proofs.Common.{arith, ℕ, ◌%◌, ◌≡◌, ◌≤◌, ◌<◌, ◌+◌, ◌-◌, ◌^◌, ◌∙◌, inl, inr, refl, sym, ap, subst, List, length, Option, Some, None, true, false, cond, Result, Ok, Err}
+use Rattle.std.proofs.Common.{arith, ℕ, ◌%◌, ◌≡◌, ◌≤◌, ◌<◌, ◌+◌, ◌-◌, ◌∙◌, inl, inr, refl, sym, ap, subst, List, length, Option, Some, None, true, false, cond, Result, Ok, Err}
 use Rattle.std.specs.Option.{option_map_or}
 use Rattle.vr_recover.specs.declared.readings.PrepareReading.TheVariants as prepare
 use Rattle.vr_recover.specs.declared.readings.Verdict.{Verdict}
@@ -13,7 +13,7 @@ use Rattle.vr_header.specs.Made.{Whole}
 use Rattle.vr_header.specs.Spelling.{IsHeader}
 use Rattle.vr_rings.specs.Readings.{BeginsWith}
 use Rattle.vr_rings.specs.Slots.{header_in, whole_in}
-use Rattle.vr_super.specs.Copies.{SuperValue, IsGood}
+use Rattle.vr_super.specs.Copies.{SuperValue}
 use Rattle.vr_rules.specs.Sectors.{sectors}
 use Rattle.vr_rules.specs.Replica.{Replica, with_part}
 use Rattle.vr_rules.specs.Steps.{Rewrite, change}

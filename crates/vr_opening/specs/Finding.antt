@@ -1,5 +1,5 @@
 -- What a replica is while it opens, and what it reads of a slot.
-use Rattle.std.specs.Prelude.{ℕ, ◌<◌, ◌+◌, ◌≡◌, ◌⊎◌, ◌&&◌, ◌||◌, not, Bool, true, false, List, drop, Option, Some, None, nat_le, if◌then◌else◌}
+use Rattle.std.specs.Prelude.{ℕ, ◌<◌, ◌+◌, ◌≡◌, ◌⊎◌, ◌&&◌, ◌||◌, not, Bool, true, false, List, drop, Option, Some, nat_le, if◌then◌else◌}
 use Rattle.std.specs.Option.{option_map_or}
 use Rattle.vr_disk.specs.DiskState.{Disk, Face}
 use Rattle.vr_header.specs.declared.header.Header.{Header}
@@ -12,8 +12,8 @@ use Rattle.vr_recover.specs.declared.readings.PrepareReading.TheVariants as prep
 use Rattle.vr_recover.specs.declared.readings.Verdict.{Verdict}
 use Rattle.vr_recover.specs.declared.readings.Verdict.TheVariants as verdict
 use Rattle.vr_recover.specs.Verdict.{verdict_of}
-use Rattle.vr_rules.specs.Replica.{Replica, is_spent}
-use Rattle.vr_rules.specs.Steps.{Word, quiet, when, by}
+use Rattle.vr_rules.specs.Replica.{Replica}
+use Rattle.vr_rules.specs.Steps.{Word, quiet, when}
 use Rattle.vr_rules.specs.Opening.{may_be, is_listed, listed, header_kind, some_part, Slot, slot_at, entry_header, rewrite, recover_old, clouded_part, was_stored}
 use Rattle.vr_rules.proofs.Heads.{knows}
 use Rattle.vr_rules.proofs.Slots.{Reads}
@@ -24,11 +24,6 @@ use Rattle.std.specs.List.{list_any, range_with_len}
 use Rattle.vr_msg.specs.declared.output.Output.{Output}
 use Rattle.vr_step.specs.declared.halt.Halt.{Halt}
 use Rattle.vr_step.specs.Does.{Finds, Does}
-use Rattle.std.specs.Prelude.{Ok, Err}
-use Rattle.vr_table.specs.declared.fault.StateFault.{StateFault}
-use Rattle.vr_apply.specs.declared.codec.Texts.{Texts}
-use Rattle.vr_apply.specs.declared.state.State.{State}
-use Rattle.vr_apply.specs.Texts.{state_decoded}
 
 -- the Parts of its ops are found up to n, which isn't below the checkpoint
 pub record Opening (n : ℕ) (r : Replica) : Type 0 where

@@ -1,5 +1,5 @@
 -- A new member is made on its disk.
-use Rattle.std.specs.Prelude.{◌≡◌, Bool, true, false, Option, Some, None, is_some, IfSome, Result, Ok, Err}
+use Rattle.std.specs.Prelude.{◌≡◌, Bool, true, false, Option, is_some, IfSome, Result, Ok, Err}
 use Rattle.vr_base.specs.declared.table.Config.{Config}
 use Rattle.vr_disk.specs.DiskState.{Disk, Runs}
 use Rattle.vr_super.specs.Opens.{good_copies, opened}

@@ -3,7 +3,7 @@ use Rattle.std.proofs.Common.{arith, ◌≡◌, ◌≤◌, ◌<◌, ◌+◌, ◌
 use Rattle.std.specs.Prelude.{find, ◌==◌}
 use Rattle.std.proofs.lemmas.Bool.{lt-ltb}
 use Rattle.vr_disk.specs.DiskState as disk
-use Rattle.vr_disk.specs.DiskState.{Disk, Face, Fate, IsFace, nothing_beside}
+use Rattle.vr_disk.specs.DiskState.{Face, Fate, IsFace, nothing_beside}
 use Rattle.vr_grid.specs.Blocks.{named}
 use Rattle.vr_grid.specs.Grid.{block_reading, named_at, put_calls}
 use Rattle.vr_grid.specs.declared.name.Name.{Name}

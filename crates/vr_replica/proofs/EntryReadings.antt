@@ -1,9 +1,8 @@
 -- What reading an entry gives.
-use Rattle.std.proofs.Common.{◌≡◌, refl, Option, Some, None}
+use Rattle.std.proofs.Common.{◌≡◌, Option}
 use Rattle.std.specs.Prelude.{IfSome}
 use Rattle.vr_disk.specs.DiskState.{Disk}
 use Rattle.vr_header.specs.declared.header.Header.{Header}
-use Rattle.vr_header.specs.declared.part.Part.{Part}
 use Rattle.vr_header.specs.declared.part.Part.TheVariants.{Here}
 use Rattle.vr_header.specs.Made.{Whole}
 use Rattle.vr_rules.specs.Words.{entry_of}

@@ -1,5 +1,5 @@
 -- What a message's form says of what it carries.
-use Rattle.std.proofs.Common.{arith, ◌≡◌, ◌≤◌, sym, subst}
+use Rattle.std.proofs.Common.{arith, ◌≡◌, ◌≤◌, subst}
 use Rattle.vr_msg.specs.declared.frame.Frame.{Frame}
 use Rattle.vr_msg.specs.declared.frame.Frame.TheVariants as frame
 use Rattle.vr_msg.specs.declared.frame.Commit.{Commit}

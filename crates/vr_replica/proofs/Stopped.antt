@@ -1,5 +1,5 @@
 -- What is left to say after a stop: of the disk alone.
-use Rattle.std.proofs.Common.{◌≡◌, List, Option, Result, Ok, Err}
+use Rattle.std.proofs.Common.{List, Option, Err}
 use Rattle.vr_base.specs.declared.table.Config.{Config}
 use Rattle.vr_disk.specs.DiskState.{Disk, Face}
 use Rattle.vr_msg.specs.declared.output.Output.{Output}

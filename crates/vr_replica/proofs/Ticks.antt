@@ -1,5 +1,5 @@
 -- What a tick does, by what the replica is.
-use Rattle.std.proofs.Common.{arith, ℕ, cond, ◌≡◌, ◌≤◌, ◌<◌, ◌+◌, ◌^◌, ◌∙◌, refl, sym, ap, subst, Bool, true, false, List, Option, Result, Ok, Err}
+use Rattle.std.proofs.Common.{arith, ℕ, cond, ◌≡◌, ◌≤◌, ◌<◌, ◌+◌, ◌^◌, refl, sym, subst, Bool, true, false, List, Option, Result, Ok}
 use Rattle.std.specs.Prelude.{nat_le, nat_lt, nat_eq, if◌then◌else◌}
 use Rattle.std.proofs.lemmas.Bool.{le-leb, lt-leb, leb-true, leb-false, eqb-false}
 use Rattle.vr_disk.specs.DiskState.{Disk, Face}
@@ -10,7 +10,7 @@ use Rattle.vr_rules.specs.declared.rule.Rule.TheVariants.{TickedPrimary, TickedB
 use Rattle.vr_rules.specs.Replica.{Replica, head, last_view}
 use Rattle.vr_rules.specs.Rules.{idler, next_view, backup_ticks, changing_ticks, primary_ticks, obey_tick, on_tick}
 use Rattle.vr_rules.specs.Sectors.{sectors}
-use Rattle.vr_rules.specs.Steps.{Setting, Step, Word, ◌⨾◌, by, change, says}
+use Rattle.vr_rules.specs.Steps.{Setting, Step, Word, ◌⨾◌, by, change}
 use Rattle.vr_rules.specs.Words.{enter, entered, rested, prepare_again, ask}
 use Rattle.vr_rules.proofs.Keeping.{sound_alike}
 use Rattle.vr_rules.proofs.SavesWell.{savable_alike}

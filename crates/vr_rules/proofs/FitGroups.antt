@@ -18,7 +18,7 @@ use Rattle.vr_rules.specs.Laws.{IsEvent, IsGoodSave}
 use Rattle.vr_rules.specs.Own.{IsOwn, IsOwnValue, IsAt, IsOwnStep}
 use Rattle.vr_rules.proofs.OwnSteps.{steps_are_own, openings_are_own}
 use Rattle.vr_rules.specs.Fit.{IsFit, IsFitStep, MayCome, ReadsWell}
-use Rattle.vr_rules.specs.Group.{Member, Group, Arrival, Asked, Message, Time, Move, Steps, Cuts, Crashes, Recovers, RecoversCut, Moved, Moves, Played, Run, begins, ends, begins_first, carried_out, cut_after, keeps_found, keeps_all, found, fresh_member, fresh_group, IsArrival, Opens, MayOpen, Runs, finished, cut_short, cut_in_two, stepped, mended, recovered, resumed, once_mended, opening_script, started, start_cut, made_in}
+use Rattle.vr_rules.specs.Group.{Member, Group, Arrival, Asked, Message, Time, Move, Moved, Moves, Played, Run, begins, ends, begins_first, carried_out, cut_after, keeps_found, keeps_all, found, fresh_member, fresh_group, IsArrival, MayOpen, finished, cut_short, cut_in_two, stepped, mended, resumed, once_mended, opening_script, started, start_cut, made_in}
 use Rattle.vr_rules.specs.Group as group
 use Rattle.vr_rules.specs.GroupFit.{IsFitReplica, IsFitValue, IsMade, IsFitMember, IsFitGroup, IsFitArrival, IsFitMove, IsFitPlayed, GroupsFit}
 use Rattle.vr_rules.proofs.Reacting.{steps_stay_sound}

@@ -7,6 +7,7 @@ ghost use Rattle.vr_super.specs.Copies.{IsGood, copy_bytes, front_bytes, list_by
 use crate::{Fields, Super};
 use std::alloc::Global;
 use vr_base::{NoMemory, checksum, put, put_sum, put_u16, put_u32, put_u64};
+use vr_disk::COPY_SIZE;
 use vr_header::{Header, encode};
 
 // The first 128 bytes, of which 16 are left for the checksum.
@@ -74,10 +75,10 @@ pub fn spell(
     requires { IsGood (record { fields = fields.now; headers = headers.now }) }
     ensures { IfOk result (λ bytes. bytes.items ≡ copy_bytes (record { fields = fields.now; headers = headers.now })) }
 {
-    let mut bytes = Vec::with_capacity(alloc, 10240)?;
+    let mut bytes = Vec::with_capacity(alloc, COPY_SIZE)?;
     bytes.extend_from_slice(&front(*fields, headers.len() as u16))?;
     push_headers(&mut bytes, headers, old)?;
-    bytes.resize(10240, 0)?;
+    bytes.resize(COPY_SIZE, 0)?;
     seal(&mut bytes);
     Ok(bytes)
 }

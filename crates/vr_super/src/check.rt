@@ -6,13 +6,17 @@ ghost use Rattle.vr_super.specs.Copies.{count_at, fields_at, good_count, good_fi
 
 use crate::Fields;
 use vr_base::{checksum, is_zeros, sum_at, u16_at, u32_at, u64_at};
+use vr_disk::COPY_SIZE;
 use vr_header::{Header, decode};
+
+// The last op of a log.
+const LAST_OP: u64 = 1 << 62;
 
 // A member of a group, and the views that it was in.
 fn is_member(f: &Fields) -> bool
     ensures { result ≡ good_member f.now }
 {
-    2 <= f.n && f.n <= 6 && f.replica < f.n && f.log_view <= f.view && f.log_view < 4_294_967_295
+    2 <= f.n && f.n <= 6 && f.replica < f.n && f.log_view <= f.view && f.log_view < u32::MAX
 }
 
 // Checkpoint, commit and head within one window.
@@ -23,7 +27,7 @@ fn is_window(f: &Fields) -> bool
         && f.checkpoint <= f.commit
         && f.commit <= f.head
         && f.head.saturating_sub(f.checkpoint) <= 64
-        && f.head <= 4_611_686_018_427_387_904
+        && f.head <= LAST_OP
 }
 
 fn is_root(f: &Fields) -> bool
@@ -111,7 +115,7 @@ fn is_named(bytes: &[u8]) -> bool
 // Checksum, zeros and version stand.
 #[tactic(auto, unfolding(crate::specs::Copies::is_closed, vr_base::specs::Bytes::piece))]
 fn is_closed(bytes: &[u8], count: usize) -> bool
-    requires size { length bytes.now ≡ 10240 }
+    requires size { length bytes.now ≡ COPY_SIZE }
     requires count { count ≡ count_at bytes.now }
     requires few { count ≤ 64 }
     ensures { result ≡ is_closed bytes.now }
@@ -149,7 +153,7 @@ fn are_listed(f: &Fields, op: u64, count: u64, bytes: &[u8]) -> bool
 
 // Whether a copy whose numbers stand is good.
 fn is_whole(bytes: &[u8], fields: &Fields, count: u64) -> bool
-    requires size { length bytes.now ≡ 10240 }
+    requires size { length bytes.now ≡ COPY_SIZE }
     requires fields { fields.now ≡ fields_at bytes.now }
     requires count { count ≡ count_at bytes.now }
     requires good { good_fields fields.now count ≡ true }
@@ -162,7 +166,7 @@ fn is_whole(bytes: &[u8], fields: &Fields, count: u64) -> bool
 
 /// Whether these are the bytes of a good copy.
 pub fn is_good(bytes: &[u8]) -> bool
-    requires { length bytes.now ≡ 10240 }
+    requires { length bytes.now ≡ COPY_SIZE }
     ensures { result ≡ is_some (value_of bytes.now) }
 {
     let fields = fields_at(bytes);

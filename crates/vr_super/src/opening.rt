@@ -8,7 +8,7 @@ ghost use Rattle.vr_super.specs.Seen.{seen};
 use crate::check::is_good;
 use crate::reading::{Reading, read_alike, read_all};
 use vr_base::{u32_at, u64_at};
-use vr_disk::SectorDisk;
+use vr_disk::{COPY_SIZE, SectorDisk};
 
 /// What a disk opens as: the least copy of the value, with its sequence and view.
 #[derive(Clone, Copy, Debug, PartialEq, Eq)]
@@ -19,14 +19,14 @@ pub struct Found {
     pub view: u32,
 }
 
-fn holds(r: &Reading, bytes: &[u8; 10240]) -> bool
+fn holds(r: &Reading, bytes: &[u8; COPY_SIZE]) -> bool
     ensures { result ≡ r.now.good && pointwise nat_eq r.now.bytes bytes.now }
 {
     r.good && r.bytes == *bytes
 }
 
 // How many of these are good and have the bytes.
-fn holders(readings: &[Reading], bytes: &[u8; 10240]) -> usize
+fn holders(readings: &[Reading], bytes: &[u8; COPY_SIZE]) -> usize
     ensures { result ≡ count_by (λ r. r.good && pointwise nat_eq r.bytes bytes.now) readings.now }
 {
     readings
@@ -35,13 +35,13 @@ fn holders(readings: &[Reading], bytes: &[u8; 10240]) -> usize
         .count()
 }
 
-fn is_agreed(readings: &[Reading], bytes: &[u8; 10240]) -> bool
+fn is_agreed(readings: &[Reading], bytes: &[u8; COPY_SIZE]) -> bool
     ensures { result ≡ agreed (map seen readings.now) bytes.now }
 {
     2 <= holders(readings, bytes)
 }
 
-fn is_later(bytes: &[u8; 10240], best: Option<&Reading>) -> bool
+fn is_later(bytes: &[u8; COPY_SIZE], best: Option<&Reading>) -> bool
     ensures { result ≡ is_later bytes.now (option_map (λ r. r.now.bytes) best.entry) }
 {
     match best {
@@ -77,7 +77,7 @@ pub fn best_of(readings: &[Reading]) -> Option<&Reading>
 }
 
 // The first of these that has the bytes.
-fn place_of(readings: &[Reading], bytes: &[u8; 10240]) -> usize
+fn place_of(readings: &[Reading], bytes: &[u8; COPY_SIZE]) -> usize
     ensures place { result ≡ place_of bytes.now (map seen readings.now) }
     ensures within { result ≤ length readings.now }
 {
@@ -109,7 +109,7 @@ fn look_up(readings: &[Reading]) -> Option<Found>
 // What four copies open as that read as these bytes.
 #[tactic(auto, unfolding(crate::specs::Opens::found_of))]
 fn look_up_alike(bytes: &[u8]) -> Option<Found>
-    requires { length bytes.now ≡ 10240 }
+    requires { length bytes.now ≡ COPY_SIZE }
     ensures { result ≡ found_of (four (if_good (Some bytes.now))) }
 {
     if is_good(bytes) {
@@ -130,7 +130,7 @@ pub fn opens<D: SectorDisk>(disk: &mut D) -> Option<Found>
     ensures reads { D.read_faults disk.old ≤ D.read_faults disk.new }
     ensures value { IfSome (D.told disk.old) (λ d. result ≡ found_of (good_copies d.face)) }
 {
-    let mut first = [0; 10240];
+    let mut first = [0; COPY_SIZE];
     if read_alike(disk, &mut first) {
         look_up_alike(&first)
     } else {

@@ -7,12 +7,12 @@ ghost use Rattle.vr_super.specs.Seen.{IsHonest, IsRead, seen};
 
 use crate::check::is_good;
 use crate::sectors::reads_as;
-use vr_disk::{SectorDisk, read_sectors};
+use vr_disk::{COPY_SIZE, SectorDisk, read_sectors};
 
 /// A copy that was read.
 #[derive(Clone, Copy)]
 pub struct Reading {
-    pub bytes: [u8; 10240],
+    pub bytes: [u8; COPY_SIZE],
     /// Every sector was read.
     pub whole: bool,
     /// Every sector was read, and the copy is good.
@@ -23,7 +23,7 @@ pub struct Reading {
 #[tactic(auto, unfolding(crate::specs::Opens::copy_reading))]
 fn fill<D: SectorDisk>(disk: &mut D, copy: u32, to: &mut [u8]) -> bool
     requires copy { copy < 4 }
-    requires size { length to.old ≡ 10240 }
+    requires size { length to.old ≡ COPY_SIZE }
     ensures told { D.told disk.new ≡ D.told disk.old }
     ensures faults { D.faults disk.new ≡ D.faults disk.old }
     ensures reads { D.read_faults disk.old ≤ D.read_faults disk.new }
@@ -33,7 +33,7 @@ fn fill<D: SectorDisk>(disk: &mut D, copy: u32, to: &mut [u8]) -> bool
 }
 
 // Whether these bytes are good, where one of these has them.
-fn known(earlier: &[Reading], bytes: &[u8; 10240]) -> Option<bool>
+fn known(earlier: &[Reading], bytes: &[u8; COPY_SIZE]) -> Option<bool>
     requires { AllByRecursion IsHonest earlier.now }
     ensures { IfSome result (λ good. good ≡ is_some (value_of bytes.now)) }
 {
@@ -46,7 +46,7 @@ fn known(earlier: &[Reading], bytes: &[u8; 10240]) -> Option<bool>
 }
 
 // Whether these are the bytes of a good copy, judged anew only where no earlier one has them.
-fn is_good_beside(bytes: &[u8; 10240], earlier: &[Reading]) -> bool
+fn is_good_beside(bytes: &[u8; COPY_SIZE], earlier: &[Reading]) -> bool
     requires { AllByRecursion IsHonest earlier.now }
     ensures { result ≡ is_some (value_of bytes.now) }
 {
@@ -93,7 +93,7 @@ pub fn read_all<D: SectorDisk>(disk: &mut D) -> [Reading; 4]
     ensures value { IfSome (D.told disk.old) (λ d. map seen result ≡ good_copies d.face) }
 {
     let mut readings = [Reading {
-        bytes: [0; 10240],
+        bytes: [0; COPY_SIZE],
         whole: false,
         good: false,
     }; 4];
@@ -107,7 +107,7 @@ pub fn read_all<D: SectorDisk>(disk: &mut D) -> [Reading; 4]
 /// Reads copy 0, and tells whether all four copies read as it.
 #[tactic(auto, unfolding(crate::specs::Opens::alike))]
 pub fn read_alike<D: SectorDisk>(disk: &mut D, to: &mut [u8]) -> bool
-    requires { length to.old ≡ 10240 }
+    requires { length to.old ≡ COPY_SIZE }
     ensures told { D.told disk.new ≡ D.told disk.old }
     ensures faults { D.faults disk.new ≡ D.faults disk.old }
     ensures reads { D.read_faults disk.old ≤ D.read_faults disk.new }

@@ -17,7 +17,7 @@ use crate::opening::best_of;
 use crate::reading::{Reading, read_alike, read_all};
 use crate::writing::mend;
 use std::alloc::Global;
-use vr_disk::SectorDisk;
+use vr_disk::{COPY_SIZE, SectorDisk};
 
 /// Whether a copy is good.
 #[derive(Clone, Copy, Debug, PartialEq, Eq)]
@@ -61,7 +61,7 @@ fn copy_verdicts(readings: &[Reading; 4]) -> [CopyVerdict; 4]
 
 // The value of a good copy.
 fn read_value(alloc: Global, bytes: &[u8]) -> Result<Super, SuperFault>
-    requires size { length bytes.now ≡ 10240 }
+    requires size { length bytes.now ≡ COPY_SIZE }
     requires good { is_some (value_of bytes.now) ≡ true }
     ensures value { IfOk result (λ v. value_of bytes.now ≡ Some v) }
     ensures fault { IfErr result (λ e. e ≡ SuperFault.NoMemory) }
@@ -74,7 +74,7 @@ fn read_value(alloc: Global, bytes: &[u8]) -> Result<Super, SuperFault>
 
 // The value that four copies open as that read as these bytes.
 fn choose_alike(alloc: Global, bytes: &[u8]) -> Result<Super, SuperFault>
-    requires { length bytes.now ≡ 10240 }
+    requires { length bytes.now ≡ COPY_SIZE }
     ensures { Chosen (four (if_good (Some bytes.now))) result }
 {
     if is_good(bytes) {
@@ -132,7 +132,7 @@ pub fn recover<D: SectorDisk>(alloc: Global, disk: &mut D) -> Result<Super, Supe
     // So does the disk as the call leaves it, whatever it answers; after an `Ok` all four copies have the value.
     ensures left { IfSome (D.told disk.old) (λ d. d.face.waiting ≡ [] → (v : SuperValue) → opens d.face ≡ Some v → IfSome (D.told disk.new) (λ e. Mended v (is_ok result) e.face)) }
 {
-    let mut first = [0; 10240];
+    let mut first = [0; COPY_SIZE];
     if read_alike(disk, &mut first) {
         choose_alike(alloc, &first)
     } else {

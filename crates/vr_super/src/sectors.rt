@@ -7,7 +7,9 @@ ghost use Rattle.vr_disk.specs.Sectors.{has, writes};
 ghost use Rattle.vr_super.specs.Opens.{copy_reading};
 ghost use Rattle.vr_super.specs.Calls.{copy_calls, mend_copy, mend_unless};
 
-use vr_disk::{DiskFailed, SectorDisk, sector_at, sectors_read_as, write_sectors};
+use vr_disk::{
+    COPY_SIZE, DiskFailed, SECTORS, SectorDisk, sector_at, sectors_read_as, write_sectors,
+};
 
 // Writes these bytes to so many sectors, and syncs them.
 #[tactic(auto, using(vr_disk::proofs::Running::Runs_then, vr_disk::proofs::Running::Runs_stopped))]
@@ -17,7 +19,7 @@ fn write_synced<D: SectorDisk>(
     count: u32,
     bytes: &[u8],
 ) -> Result<(), DiskFailed>
-    requires within { at + count ≤ 1424 }
+    requires within { at + count ≤ SECTORS }
     requires size { length bytes.now ≡ 512 * count }
     ensures runs { Runs (writes at count bytes.now ++ Sync ∷ []) (D.told disk.old) (D.told disk.new) (is_ok result) }
     ensures cause { HasCause (D.faults disk.old) (D.faults disk.new) result }
@@ -30,7 +32,7 @@ fn write_synced<D: SectorDisk>(
 
 // Writes the first 512 bytes to a sector, and syncs it.
 fn write_first<D: SectorDisk>(disk: &mut D, i: u32, bytes: &[u8]) -> Result<(), DiskFailed>
-    requires i { i < 1424 }
+    requires i { i < SECTORS }
     requires size { 512 ≤ length bytes.now }
     ensures runs { Runs (Write i (piece 0 512 bytes.now) ∷ Sync ∷ []) (D.told disk.old) (D.told disk.new) (is_ok result) }
     ensures cause { HasCause (D.faults disk.old) (D.faults disk.new) result }
@@ -45,7 +47,7 @@ fn write_first<D: SectorDisk>(disk: &mut D, i: u32, bytes: &[u8]) -> Result<(), 
 #[tactic(auto, unfolding(crate::specs::Calls::copy_calls))]
 pub fn write_copy<D: SectorDisk>(disk: &mut D, copy: u32, bytes: &[u8]) -> Result<(), DiskFailed>
     requires copy { copy < 4 }
-    requires size { length bytes.now ≡ 10240 }
+    requires size { length bytes.now ≡ COPY_SIZE }
     ensures runs { Runs (copy_calls copy bytes.now) (D.told disk.old) (D.told disk.new) (is_ok result) }
     ensures cause { HasCause (D.faults disk.old) (D.faults disk.new) result }
     ensures others { D.read_faults disk.new ≡ D.read_faults disk.old }
@@ -57,7 +59,7 @@ pub fn write_copy<D: SectorDisk>(disk: &mut D, copy: u32, bytes: &[u8]) -> Resul
 #[tactic(auto, unfolding(crate::specs::Opens::copy_reading))]
 pub fn reads_as<D: SectorDisk>(disk: &mut D, copy: u32, bytes: &[u8]) -> bool
     requires copy { copy < 4 }
-    requires size { length bytes.now ≡ 10240 }
+    requires size { length bytes.now ≡ COPY_SIZE }
     ensures told { D.told disk.new ≡ D.told disk.old }
     ensures value { IfSome (D.told disk.old) (λ d. result ≡ has bytes.now (copy_reading d.face copy)) }
     ensures faults { D.faults disk.new ≡ D.faults disk.old }
@@ -70,7 +72,7 @@ pub fn reads_as<D: SectorDisk>(disk: &mut D, copy: u32, bytes: &[u8]) -> bool
 #[tactic(auto, using(vr_disk::proofs::Running::Runs_then, vr_disk::proofs::Running::Runs_stopped), unfolding(crate::specs::Calls::mend_copy))]
 pub fn mend_copy<D: SectorDisk>(disk: &mut D, copy: u32, bytes: &[u8]) -> Result<(), DiskFailed>
     requires copy { copy < 4 }
-    requires size { length bytes.now ≡ 10240 }
+    requires size { length bytes.now ≡ COPY_SIZE }
     ensures runs { Runs (mend_copy copy bytes.now) (D.told disk.old) (D.told disk.new) (is_ok result) }
     ensures cause { HasCause (D.faults disk.old) (D.faults disk.new) result }
     ensures others { D.read_faults disk.new ≡ D.read_faults disk.old }
@@ -84,7 +86,7 @@ pub fn mend_copy<D: SectorDisk>(disk: &mut D, copy: u32, bytes: &[u8]) -> Result
 /// Mends a copy unless it reads as these bytes.
 pub fn mend_unless<D: SectorDisk>(disk: &mut D, copy: u32, bytes: &[u8]) -> Result<(), DiskFailed>
     requires copy { copy < 4 }
-    requires size { length bytes.now ≡ 10240 }
+    requires size { length bytes.now ≡ COPY_SIZE }
     ensures runs { RunsFrom (mend_unless copy bytes.now) (D.told disk.old) (D.told disk.new) (is_ok result) }
     ensures cause { HasCause (D.faults disk.old) (D.faults disk.new) result }
     ensures reads { D.read_faults disk.old ≤ D.read_faults disk.new }

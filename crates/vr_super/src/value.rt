@@ -11,6 +11,7 @@ use crate::listing::read_list;
 use std::alloc::Global;
 use std::marker::Model;
 use vr_base::NoMemory;
+use vr_disk::COPY_SIZE;
 use vr_header::{Header, HeaderList, encode};
 
 /// What a member keeps in its superblock: numbers, and the headers of the last ops up to the head. It makes a good copy.
@@ -34,7 +35,7 @@ impl Model for Super {
 
 // How many headers a good copy has.
 fn few_at(bytes: &[u8]) -> usize
-    requires size { length bytes.now ≡ 10240 }
+    requires size { length bytes.now ≡ COPY_SIZE }
     requires good { is_some (value_of bytes.now) ≡ true }
     ensures count { result ≡ count_at bytes.now }
     ensures few { result ≤ 64 }
@@ -95,7 +96,7 @@ impl Super {
 
     // The value of a good copy.
     pub(crate) fn read(alloc: Global, bytes: &[u8]) -> Result<Super, NoMemory>
-        requires size { length bytes.now ≡ 10240 }
+        requires size { length bytes.now ≡ COPY_SIZE }
         requires good { is_some (value_of bytes.now) ≡ true }
         ensures { IfOk result (λ s. value_of bytes.now ≡ Some s) }
     {
@@ -141,7 +142,7 @@ impl Super {
     // The 10,240 bytes of a copy.
     pub(crate) fn bytes(&self) -> &[u8]
         ensures bytes { result.now ≡ copy_bytes self.now }
-        ensures size { length result.now ≡ 10240 }
+        ensures size { length result.now ≡ COPY_SIZE }
         ensures good { IsGood self.now }
     {
         self.bytes.as_slice()

@@ -9,11 +9,11 @@ ghost use Rattle.vr_super.specs.Opens.{opens};
 
 use crate::sectors::{mend_unless, write_copy};
 use crate::{Super, SuperFault};
-use vr_disk::{DiskFailed, DiskFault, SectorDisk};
+use vr_disk::{COPY_SIZE, DiskFailed, DiskFault, SectorDisk};
 
 /// Mends each copy that doesn't read as these bytes.
 pub fn mend<D: SectorDisk>(disk: &mut D, bytes: &[u8]) -> Result<(), DiskFailed>
-    requires { length bytes.now ≡ 10240 }
+    requires { length bytes.now ≡ COPY_SIZE }
     ensures runs { RunsFrom (mend_from 0 4 bytes.now) (D.told disk.old) (D.told disk.new) (is_ok result) }
     ensures cause { HasCause (D.faults disk.old) (D.faults disk.new) result }
     ensures reads { D.read_faults disk.old ≤ D.read_faults disk.new }
@@ -27,7 +27,7 @@ pub fn mend<D: SectorDisk>(disk: &mut D, bytes: &[u8]) -> Result<(), DiskFailed>
 // Writes all four copies.
 #[tactic(auto, using(vr_disk::proofs::Running::Runs_then, vr_disk::proofs::Running::Runs_stopped))]
 fn save<D: SectorDisk>(disk: &mut D, bytes: &[u8]) -> Result<(), DiskFailed>
-    requires { length bytes.now ≡ 10240 }
+    requires { length bytes.now ≡ COPY_SIZE }
     ensures runs { Runs (save_from 0 4 bytes.now) (D.told disk.old) (D.told disk.new) (is_ok result) }
     ensures cause { HasCause (D.faults disk.old) (D.faults disk.new) result }
     ensures others { D.read_faults disk.new ≡ D.read_faults disk.old }

@@ -1,6 +1,5 @@
 -- Start_view_changes: which rule applies, and what it is.
-use Rattle.std.proofs.Common.{arith, ℕ, ◌≡◌, ◌≤◌, ◌<◌, ◌+◌, ◌-◌, ◌^◌, ◌∙◌, refl, sym, ap, subst, Bool, true, false, not, List, ◌++◌, Option, Result, Ok, Err}
-use Rattle.std.specs.Prelude.{◌&&◌, nat_lt}
+use Rattle.std.proofs.Common.{arith, ℕ, ◌≡◌, ◌≤◌, ◌<◌, ◌+◌, ◌-◌, ◌∙◌, refl, sym, ap, subst, Bool, true, false, not, List, ◌++◌, Option, Result, Ok}
 use Rattle.std.proofs.lemmas.Bool.{and_parts, ltb-true, eqb-false}
 use Rattle.vr_disk.specs.DiskState.{Disk}
 use Rattle.vr_msg.specs.declared.frame.StartViewChange.{StartViewChange}
@@ -9,7 +8,7 @@ use Rattle.vr_rules.specs.Deciding.{first_of, start_view_change_table}
 use Rattle.vr_rules.specs.declared.rule.Rule.{Rule}
 use Rattle.vr_rules.specs.declared.rule.Rule.TheVariants.{Ignored, ChangeBefore, ChangeLater, ChangeHeard, ChangeDone}
 use Rattle.vr_rules.specs.Outputs.{send_to, start_view}
-use Rattle.vr_rules.specs.Replica.{Replica, is_started, last_view}
+use Rattle.vr_rules.specs.Replica.{Replica, is_started}
 use Rattle.vr_rules.specs.Rules.{heard_of, obey_start_view_change, on_start_view_change}
 use Rattle.vr_rules.specs.Steps.{◌⨾◌, change}
 use Rattle.vr_rules.specs.Words.{enter, entered, speak, with_saved}

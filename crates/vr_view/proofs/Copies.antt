@@ -1,5 +1,5 @@
 -- A list of Parts is copied, one after the other.
-use Rattle.std.proofs.Common.{arith, ℕ, zero, suc, ◌≡◌, ◌≤◌, ◌<◌, ◌+◌, refl, ap, subst, List, [], ◌∷◌, ◌++◌, length, take, drop, get_or, slice_get, Some, add-one}
+use Rattle.std.proofs.Common.{arith, ℕ, zero, suc, ◌≡◌, ◌≤◌, ◌<◌, ◌+◌, refl, ap, subst, List, [], ◌∷◌, ◌++◌, length, take, drop, get_or, add-one}
 use Rattle.std.proofs.lemmas.List.{drop_all, take_all}
 use Rattle.vr_header.specs.declared.header.Header.{Header}
 use Rattle.vr_header.specs.declared.part.Part.{Part}

@@ -1,5 +1,5 @@
 -- Words for ops above the commit number, one after the other.
-use Rattle.std.proofs.Common.{arith, ℕ, ◌≡◌, ◌≤◌, ◌<◌, ◌+◌, ◌-◌, refl, sym, subst, List, length, get_or, Option, Ok, Err, Result}
+use Rattle.std.proofs.Common.{ℕ, ◌≡◌, ◌≤◌, ◌<◌, ◌+◌, ◌-◌, subst, List, length, get_or, Option, Ok, Err, Result}
 use Rattle.std.proofs.lemmas.List.FromFn.{get_or-range_with_len, length-range_with_len}
 use Rattle.vr_disk.specs.DiskState.{Disk, Face}
 use Rattle.vr_msg.specs.declared.output.Output.{Output}

@@ -1,6 +1,5 @@
 -- Start_views and get_views: which rule applies, and what it is.
-use Rattle.std.proofs.Common.{arith, ℕ, zero, suc, slice_get, ◌∷◌, ◌≡◌, ◌≤◌, ◌<◌, ◌+◌, ◌-◌, ◌^◌, ◌∙◌, refl, sym, ap, subst, true, false, not, List, [], ◌++◌, Option, Some, Result, Ok, Err, append-nil}
-use Rattle.std.specs.Prelude.{◌&&◌}
+use Rattle.std.proofs.Common.{arith, ℕ, zero, suc, slice_get, ◌∷◌, ◌≡◌, ◌≤◌, ◌<◌, ◌+◌, ◌-◌, ◌∙◌, refl, sym, ap, subst, List, [], ◌++◌, Option, Some, Result, Ok, append-nil}
 use Rattle.std.proofs.lemmas.Bool.{and_parts}
 use Rattle.vr_base.specs.Bytes.{name_of}
 use Rattle.vr_disk.specs.DiskState.{Disk, Face}
@@ -27,7 +26,7 @@ use Rattle.vr_rules.proofs.Taking.{IsLogFor}
 use Rattle.vr_rules.proofs.Trying.{from_at}
 use Rattle.vr_step.specs.declared.halt.Halt.{Halt}
 use Rattle.vr_step.specs.Does.{Does}
-use Rattle.vr_step.proofs.Stepping.{does_by, does_naming, does_quiet, does_then, says_by}
+use Rattle.vr_step.proofs.Stepping.{does_by, does_naming, does_quiet, says_by}
 use Rattle.vr_journal.specs.Ready.{IsReady}
 use Rattle.vr_view.specs.declared.starting.StartRule.{StartRule}
 use Rattle.vr_view.specs.declared.starting.StartRule.TheVariants as started

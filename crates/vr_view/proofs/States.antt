@@ -1,8 +1,8 @@
 -- Do_view_changes: which rule applies, and what it is.
-use Rattle.std.proofs.Common.{arith, ℕ, ◌≡◌, ◌≤◌, ◌<◌, ◌+◌, ◌-◌, ◌^◌, ◌∙◌, refl, sym, ap, subst, Bool, true, false, not, List, ◌++◌, Option, Result, Ok, Err, length}
+use Rattle.std.proofs.Common.{arith, ℕ, ◌≡◌, ◌≤◌, ◌<◌, ◌+◌, ◌-◌, ◌∙◌, refl, sym, ap, subst, Bool, true, false, not, List, ◌++◌, Option, Result, Ok, length}
 use Rattle.std.specs.Prelude.{◌&&◌, ◌||◌, nat_lt}
 use Rattle.std.proofs.lemmas.Bool.{and_parts, ltb-true, ltb-false, lt-ltb, le-ltb}
-use Rattle.vr_disk.specs.DiskState.{Disk, Face}
+use Rattle.vr_disk.specs.DiskState.{Disk}
 use Rattle.vr_msg.specs.declared.frame.DoViewChange.{DoViewChange}
 use Rattle.vr_msg.specs.declared.output.Output.{Output}
 use Rattle.vr_msg.specs.declared.statement.Statement.{Statement}
@@ -14,7 +14,7 @@ use Rattle.vr_rules.specs.Outputs.{send_to, start_view}
 use Rattle.vr_rules.specs.Replica.{Replica, last_view}
 use Rattle.vr_rules.specs.Rules.{obey_do_view_change, on_do_view_change, with_statement}
 use Rattle.vr_rules.specs.Sound.{IsStated}
-use Rattle.vr_rules.specs.Steps.{Word, ◌⨾◌, by, change, quiet, when}
+use Rattle.vr_rules.specs.Steps.{◌⨾◌, change}
 use Rattle.vr_rules.specs.Words.{enter, entered, try, with_saved}
 use Rattle.vr_rules.proofs.Ruling.{by_rows, group_of, kept_statement}
 use Rattle.vr_rules.proofs.SavesWell.{savable_alike}

@@ -1,4 +1,4 @@
-use Rattle.std.proofs.Common.{◌≡◌, ◌∙◌, ap, refl, get_or, []}
+use Rattle.std.proofs.Common.{◌≡◌, ◌∙◌, ap, arith, refl, get_or, []}
 use Rattle.vr_disk.specs.DiskState.{Disk}
 use Rattle.vr_disk.proofs.Telling.{if_some, some_if}
 use Rattle.vr_grid.specs.declared.name.Name.{Name}
@@ -12,7 +12,7 @@ abbrev none : Name
 none = record { address = 0; sum = record { 0 = [] } }
 
 pub loop-name-init : goal.loop-name-init
-loop-name-init g c = record { told = refl; faults = refl; rest = λ d e. rw (c.new-payloads.ensures, c.new-missing.ensures) (gathers_start (gathered d.face c.args.size c.args.names.now)) }
+loop-name-init g c = record { told = refl; faults = refl; reads = omega arith; rest = λ d e. rw (c.new-payloads.ensures, c.new-missing.ensures) (gathers_start (gathered d.face c.args.size c.args.names.now)) }
 
 pub loop-name-preserved : goal.loop-name-preserved
 loop-name-preserved g c =
@@ -21,6 +21,7 @@ loop-name-preserved g c =
     record {
       told = c.in_ok-found.ensures.told ∙ told;
       faults = c.in_ok-found.ensures.faults ∙ c.loop-name.invariant.faults;
+      reads = omega (arith, c.in_ok-found.ensures.reads, c.loop-name.invariant.reads);
       rest = λ d e.
           let found = some_if (λ (d : Disk). c.in_ok-found.found ≡ data_at d.face n c.min.result) (g.D.SectorDisk.told c.loop-name.disk) d c.in_ok-found.ensures.value (told ∙ e) in
           gathers_on d.face c.loop-name.left c.saturating_sub-left.result c.loop-name.name-index c.args.names.now n none c.in_ok-found.found c.loop-name.payloads c.add.new.payloads c.loop-name.missing c.add.new.missing

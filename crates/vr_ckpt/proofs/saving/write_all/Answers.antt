@@ -17,6 +17,7 @@ loop-block-preserved g c =
     record {
       runs = λ new ok h. c.loop-block.invariant.runs new ok (rw (calls_more bs i b c.loop-block-test.true c.block-item.is) (Runs_then call (blocks_calls (drop (i + 1) bs)) _ _ _ _ one h));
       faults = c.in_ok-write_at.ensures.cause.kept ∙ c.loop-block.invariant.faults;
+      others = c.in_ok-write_at.ensures.others ∙ c.loop-block.invariant.others;
     }
 
 pub returns-in_err-write_at-clause-runs : goal.returns-in_err-write_at-clause-runs
