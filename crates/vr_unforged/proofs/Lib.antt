@@ -1,2 +1,4 @@
 pub mod Logged
 pub mod Values
+pub mod Readings
+pub mod Scripts

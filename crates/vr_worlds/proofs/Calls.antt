@@ -49,7 +49,7 @@ pub sector_content : (h : Header) → IsHeader h → IsContent (sector_of h)
 unfolding sector_of
 sector_content h is = record { size = length-sector h is; each = IsBytes-append (header_bytes h) (replicate 384 0) (header_bytes-are h is) (IsBytes-zeros 384) }
 
-prepare_are : (e : Whole) → IsWhole e → IsBytes (prepare_bytes e)
+pub prepare_are : (e : Whole) → IsWhole e → IsBytes (prepare_bytes e)
 unfolding prepare_bytes
 prepare_are e w = IsBytes-append (entry_bytes e) (replicate (2048 - length (entry_bytes e)) 0) (entry_bytes-are e w.header w.operation) (IsBytes-zeros (2048 - length (entry_bytes e)))
 
@@ -94,7 +94,7 @@ front_are v f =
     ) in
     IsBytes-joined (field_bytes x (length v.headers)) all
 
-copy_are : (v : SuperValue) → IsGood v → IsBytes (copy_bytes v)
+pub copy_are : (v : SuperValue) → IsGood v → IsBytes (copy_bytes v)
 unfolding copy_bytes named_bytes
 copy_are v g =
     let front = front_bytes v.fields (length v.headers) in

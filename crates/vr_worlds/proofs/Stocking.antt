@@ -95,42 +95,45 @@ chain_good n i (Checkpoint t x o p ∷ es) v u g c k = chain_good n i es v u g c
 chain_good n i (PutBlock m x ∷ es) v u g c k = chain_good n i es v u g c (known_rest 0 n i (PutBlock m x) es k)
 chain_good n i (Say o ∷ es) v u g c k = chain_good n i es v u g c (known_rest 0 n i (Say o) es k)
 
+blocks_both : (P Q : List ℕ → Type 0) (xs ys : List Effect) → AllByRecursion (WritesBlocks P Q) xs → AllByRecursion (WritesBlocks P Q) ys → AllByRecursion (WritesBlocks P Q) (xs ++ ys)
+blocks_both P Q [] ys a b = b
+blocks_both P Q (x ∷ xs) ys a b = (a.0, blocks_both P Q xs ys a.1 b)
+
+said_blocks : (P Q : List ℕ → Type 0) (os : List Output) → AllByRecursion (IsGivenOutput P) os → AllByRecursion (WritesBlocks P Q) (map Say os)
+said_blocks P Q [] a = tt
+said_blocks P Q (o ∷ os) a = (a.0, said_blocks P Q os a.1)
+
+sends_given : (P : List ℕ → Type 0) (m : Frame) (r : Replica) (ns : List ℕ) → IsGiven P m → AllByRecursion (IsGivenOutput P) (map (λ to. send to m r) ns)
+sends_given P m r [] g = tt
+sends_given P m r (x ∷ xs) g = (g, sends_given P m r xs g)
+
+pub all_given : (P : List ℕ → Type 0) (m : Replica → Frame) (r : Replica) → IsGiven P (m r) → AllByRecursion (IsGivenOutput P) (send_to_all m r)
+unfolding send_to_all
+all_given P m r g = sends_given P (m r) r (others r.index r.n) g
+
+-- ---- readings
+
+some_entry : (h : Header) (o : Option Whole) (e : Whole) → option_and_then (λ e. cond (same_header e.header h) (Some e) None) o ≡ Some e → o ≡ Some e
+some_entry h None e q = absurd cc
+some_entry h (Some x) e q =
+    elim (same_header x.header h) as (λ t. cond t (Some x) None ≡ Some e → Some x ≡ Some e) [ true ↦ λ q. q | false ↦ λ q. absurd cc ] q
+
+entry_whole : (h : Header) (d : Lying) (e : Whole) → IsFace d.face → entry_of h lying d ≡ Some e → IsWhole e
+entry_whole h d e f q = (read_whole d.face (h.op % 64) e f (omega arith) (some_entry h (whole_in d.face (h.op % 64)) e q)).whole
+
+state_stocked : (root : Name) (table : PayloadTable) (texts : Texts) (o : Result State StateFault) (q : Replica) → LoadsWell texts table → state_decoded texts ≡ o → IsStocked q → IsStocked (loaded_state root table o q)
+unfolding with_state
+state_stocked root table texts (Ok s) q w e k = let x = state_read texts s w.sessions w.keys e in record { sessions = x.sessions; machine = x.machine; old_sessions = w.table.sessions; old_keys = w.table.keys }
+state_stocked root table texts (Err fault) q w e k = record { sessions = k.sessions; machine = k.machine; old_sessions = k.old_sessions; old_keys = k.old_keys }
+
+loads_stocked : (root : Name) (d : Lying) → IsFace d.face → (l : Load) → loaded d.face root ≡ l → (q : Replica) → IsStocked q → IsStocked (loads root l q)
+loads_stocked root d f (Loaded texts table) e q k = state_stocked root table texts (state_decoded texts) q (loads_well d.face root texts table f e) refl k
+loads_stocked root d f (Missing names) e q k = record { sessions = k.sessions; machine = k.machine; old_sessions = k.old_sessions; old_keys = k.old_keys }
+
+reply_given : (P : List ℕ → Type 0) (e : Whole) (r : Replica) → AllByRecursion (IsGivenOutput P) (applied_reply e r)
+reply_given P e r = elim (leads r) as (λ t. AllByRecursion (IsGivenOutput P) (cond t (replies (asker_of e) (kind_of (applying.applied r.state e).reply) r) [])) [ true ↦ (tt, tt) | false ↦ tt ]
+
 module _ {P Q : List ℕ → Type 0} where
-  blocks_both : (xs ys : List Effect) → AllByRecursion (WritesBlocks P Q) xs → AllByRecursion (WritesBlocks P Q) ys → AllByRecursion (WritesBlocks P Q) (xs ++ ys)
-  blocks_both [] ys a b = b
-  blocks_both (x ∷ xs) ys a b = (a.0, blocks_both xs ys a.1 b)
-
-  said_blocks : (os : List Output) → AllByRecursion (IsGivenOutput P) os → AllByRecursion (WritesBlocks P Q) (map Say os)
-  said_blocks [] a = tt
-  said_blocks (o ∷ os) a = (a.0, said_blocks os a.1)
-
-  sends_given : (m : Frame) (r : Replica) (ns : List ℕ) → IsGiven P m → AllByRecursion (IsGivenOutput P) (map (λ to. send to m r) ns)
-  sends_given m r [] g = tt
-  sends_given m r (x ∷ xs) g = (g, sends_given m r xs g)
-
-  pub all_given : (m : Replica → Frame) (r : Replica) → IsGiven P (m r) → AllByRecursion (IsGivenOutput P) (send_to_all m r)
-  unfolding send_to_all
-  all_given m r g = sends_given (m r) r (others r.index r.n) g
-
-  -- ---- readings
-
-  some_entry : (h : Header) (o : Option Whole) (e : Whole) → option_and_then (λ e. cond (same_header e.header h) (Some e) None) o ≡ Some e → o ≡ Some e
-  some_entry h None e q = absurd cc
-  some_entry h (Some x) e q =
-      elim (same_header x.header h) as (λ t. cond t (Some x) None ≡ Some e → Some x ≡ Some e) [ true ↦ λ q. q | false ↦ λ q. absurd cc ] q
-
-  entry_whole : (h : Header) (d : Lying) (e : Whole) → IsFace d.face → entry_of h lying d ≡ Some e → IsWhole e
-  entry_whole h d e f q = (read_whole d.face (h.op % 64) e f (omega arith) (some_entry h (whole_in d.face (h.op % 64)) e q)).whole
-
-  state_stocked : (root : Name) (table : PayloadTable) (texts : Texts) (o : Result State StateFault) (q : Replica) → LoadsWell texts table → state_decoded texts ≡ o → IsStocked q → IsStocked (loaded_state root table o q)
-  unfolding with_state
-  state_stocked root table texts (Ok s) q w e k = let x = state_read texts s w.sessions w.keys e in record { sessions = x.sessions; machine = x.machine; old_sessions = w.table.sessions; old_keys = w.table.keys }
-  state_stocked root table texts (Err fault) q w e k = record { sessions = k.sessions; machine = k.machine; old_sessions = k.old_sessions; old_keys = k.old_keys }
-
-  loads_stocked : (root : Name) (d : Lying) → IsFace d.face → (l : Load) → loaded d.face root ≡ l → (q : Replica) → IsStocked q → IsStocked (loads root l q)
-  loads_stocked root d f (Loaded texts table) e q k = state_stocked root table texts (state_decoded texts) q (loads_well d.face root texts table f e) refl k
-  loads_stocked root d f (Missing names) e q k = record { sessions = k.sessions; machine = k.machine; old_sessions = k.old_sessions; old_keys = k.old_keys }
-
   -- ---- combining
 
   pub b_then : (v w : Word Lying) → Stocking P Q v → Stocking P Q w → Stocking P Q (v ⨾ w)
@@ -144,10 +147,10 @@ module _ {P Q : List ℕ → Type 0} where
         let left = known_left 0 n i a.script b.script known in
         let one = h.each n i r d at left in
         let chain = h.chained.each lying r d in
-        let goes = known_goes n i a.script d r.saved a.replica.saved at.good chain left one.blocks in
+        let goes = known_goes P Q n i a.script d r.saved a.replica.saved at.good chain left one.blocks in
         let next : At a.replica mid = record { face = goes_face a.script d goes at.face; good = chain_good n i a.script r.saved a.replica.saved at.good chain left; stock = one.stock } in
         let two = k.each n i a.replica mid next (known_right 0 n i a.script b.script known) in
-        record { blocks = blocks_both a.script b.script one.blocks two.blocks; stock = two.stock };
+        record { blocks = blocks_both P Q a.script b.script one.blocks two.blocks; stock = two.stock };
   }
 
   pub b_quiet : Stocking P Q quiet
@@ -160,7 +163,7 @@ module _ {P Q : List ℕ → Type 0} where
 
   pub b_says : (os : Replica → List Output) → ((r : Replica) → AllByRecursion (IsGivenOutput P) (os r)) → Stocking P Q (says os)
   unfolding says
-  b_says os h = record { chained = c_says os; each = λ n i r d a k. record { blocks = said_blocks (os r) (h r); stock = a.stock } }
+  b_says os h = record { chained = c_says os; each = λ n i r d a k. record { blocks = said_blocks P Q (os r) (h r); stock = a.stock } }
 
   pub b_by : (w : Replica → Word Lying) → ((r : Replica) → Stocking P Q (w r)) → Stocking P Q (by w)
   unfolding by
@@ -251,13 +254,10 @@ module _ {P Q : List ℕ → Type 0} where
         record { blocks = tt; stock = record { sessions = s.sessions; machine = s.machine; old_sessions = a.stock.old_sessions; old_keys = a.stock.old_keys } };
   }
 
-  reply_given : (e : Whole) (r : Replica) → AllByRecursion (IsGivenOutput P) (applied_reply e r)
-  reply_given e r = elim (leads r) as (λ t. AllByRecursion (IsGivenOutput P) (cond t (replies (asker_of e) (kind_of (applying.applied r.state e).reply) r) [])) [ true ↦ (tt, tt) | false ↦ tt ]
-
   b_apply_entry : (e : Whole) → IsWhole e → Stocking P Q (apply_entry e)
   unfolding apply_entry
   b_apply_entry e w =
-      b_then _ _ (b_says _ (λ r. (tt, tt))) (b_then _ _ (b_says (applied_reply e) (reply_given e)) (b_then _ _ (b_applied e w) (b_by _ (λ r. b_when _ make_checkpoint b_checkpoint))))
+      b_then _ _ (b_says _ (λ r. (tt, tt))) (b_then _ _ (b_says (applied_reply e) (reply_given P e)) (b_then _ _ (b_applied e w) (b_by _ (λ r. b_when _ make_checkpoint b_checkpoint))))
 
   pub b_apply : Stocking P Q apply
   unfolding apply apply_next
@@ -265,7 +265,7 @@ module _ {P Q : List ℕ → Type 0} where
 
   pub b_enter : (v : ℕ) → Stocking P Q (enter v)
   unfolding enter entered
-  b_enter v = b_if _ _ _ (b_change _ (λ r. record { saved = refl; state = refl; table = refl })) (b_then _ _ (b_change (entered v) (λ r. record { saved = refl; state = refl; table = refl })) (b_then _ _ b_save (b_says _ (λ r. all_given start_view_change r tt))))
+  b_enter v = b_if _ _ _ (b_change _ (λ r. record { saved = refl; state = refl; table = refl })) (b_then _ _ (b_change (entered v) (λ r. record { saved = refl; state = refl; table = refl })) (b_then _ _ b_save (b_says _ (λ r. all_given P start_view_change r tt))))
 
   b_loads : (r : Replica) (d : Lying) → IsFace d.face → Stocking P Q (change (loads r.root (lying.loaded d r.root)))
   unfolding change
@@ -302,16 +302,16 @@ module _ {P Q : List ℕ → Type 0} where
 
   pub b_again : (op : ℕ) → Stocking P Q (prepare_again op)
   unfolding prepare_again
-  b_again op = b_entry op _ (λ e. c_says _) (λ e w. b_says _ (λ r. all_given (prepare e) r tt))
+  b_again op = b_entry op _ (λ e. c_says _) (λ e w. b_says _ (λ r. all_given P (prepare e) r tt))
 
   pub b_resend : (e : Whole) → Stocking P Q (resend e)
   unfolding resend
-  b_resend e = b_naming _ (λ hash. b_by _ (λ r. b_when _ _ (b_if _ _ _ (b_says _ (λ r. all_given (prepare e) r tt)) (b_says _ (λ r. (tt, tt))))))
+  b_resend e = b_naming _ (λ hash. b_by _ (λ r. b_when _ _ (b_if _ _ _ (b_says _ (λ r. all_given P (prepare e) r tt)) (b_says _ (λ r. (tt, tt))))))
 
   b_begin : (ss : List Statement) (l : Log) → Stocking P Q (begin_view ss l)
   unfolding begin_view
   b_begin ss l =
-      b_then _ _ (b_says _ (λ r. (tt, tt))) (b_then _ _ (b_take l) (b_then _ _ (b_says _ (λ r. all_given start_view r tt)) (b_then _ _ (b_by _ (λ r. b_each prepare_again _ b_again)) b_apply)))
+      b_then _ _ (b_says _ (λ r. (tt, tt))) (b_then _ _ (b_take l) (b_then _ _ (b_says _ (λ r. all_given P start_view r tt)) (b_then _ _ (b_by _ (λ r. b_each prepare_again _ b_again)) b_apply)))
 
   b_try_log : (ss : List Statement) (l : Log) → Stocking P Q (try_log ss l)
   unfolding try_log

@@ -30,7 +30,7 @@ use Rattle.vr_sess.specs.declared.session.SessionAnswer.{SessionAnswer}
 use Rattle.vr_sess.specs.declared.session.SessionAnswer.TheVariants as answer
 use Rattle.vr_rules.specs.Replica.{Replica, header_at, forgetting, with_part}
 use Rattle.vr_rules.specs.Steps.{PutBlock, Word, ◌⨾◌, by, quiet, change, does, reading, when}
-use Rattle.vr_rules.proofs.FitGroups.{Known}
+use Rattle.vr_rules.proofs.FitGroups.{Known as IsKnown}
 use Rattle.vr_rules.specs.Outputs.{commit_message, prepare, start_line, start_view_change}
 use Rattle.vr_rules.specs.declared.asker.Asker.{Asker}
 use Rattle.vr_rules.specs.Words.{load, rested, speak}
@@ -64,6 +64,27 @@ abbrev pub ReadsGivenIn : (List ℕ → Type 0) → Event → Type 0
 ReadsGivenIn P (event.Deliver m) = ReadsGiven P m
 ReadsGivenIn P _ = ⊤
 
+block_calls_are : (name : Name) (block : List ℕ) → IsBytes block → is_some (named name block) ≡ true → AreCalls (put_calls name.address block)
+block_calls_are name block are t =
+    elim (named name block) as (λ o. named name block ≡ o → is_some o ≡ true → AreCalls (put_calls name.address block)) [
+      | None ↦ λ e t. absurd cc
+      | Some c ↦ λ e t.
+          let found = named_found name block c e in
+          let l : name.address < 128 = subst (λ (a : ℕ). a < 128) (ap (λ (n : Name). n.address) found.1) (fits_address block c found.0) in
+          put_are name.address block l are (read_of block c found.0).size
+    ] refl t
+
+find_passes : {X : Type 0} (p : X → Bool) (xs : List X) (x : X) → find p xs ≡ Some x → p x ≡ true
+find_passes p [] x e = absurd cc
+find_passes p (y ∷ ys) x e =
+    elim (p y) as (λ t. p y ≡ t → cond t (Some y) (find p ys) ≡ Some x → p x ≡ true) [
+      | true ↦ λ t e. (let same : y ≡ x = cc in subst (λ x. p x ≡ true) same t)
+      | false ↦ λ t e. find_passes p ys x e
+    ] refl e
+
+wanted_are : (g : GiveBlock) (name : Name) → IsBytes g.block → is_wanted lying.is_block g name ≡ true → AreCalls (put_calls name.address g.block)
+wanted_are g name are t = block_calls_are name g.block are (and_parts (name.address == g.address) (is_some (named name g.block)) t).1
+
 module _ {P Q : List ℕ → Type 0} where
   b_rested : Stocking P Q (change rested)
   b_rested = b_change rested (λ r. record { saved = refl; state = refl; table = refl })
@@ -77,7 +98,7 @@ module _ {P Q : List ℕ → Type 0} where
 
   b_make : (e : Whole) → Stocking P Q (rules.make e)
   unfolding rules.make
-  b_make e = b_then _ _ (b_write e) (b_then _ _ (b_says _ (λ r. all_given (prepare e) r tt)) b_advance)
+  b_make e = b_then _ _ (b_write e) (b_then _ _ (b_says _ (λ r. all_given P (prepare e) r tt)) b_advance)
 
   r_request : (hash : Hash) (q : RequestFields) (rule : Rule) → Stocking P Q (rules.obey_request hash q rule)
   r_request hash q Redirected = b_says _ (λ r. (tt, tt))
@@ -152,16 +173,6 @@ module _ {P Q : List ℕ → Type 0} where
   r_get_block g o BlockGiven h = r_give_read g o h
   r_get_block g o _ h = b_quiet
 
-  block_calls_are : (name : Name) (block : List ℕ) → IsBytes block → is_some (named name block) ≡ true → AreCalls (put_calls name.address block)
-  block_calls_are name block are t =
-      elim (named name block) as (λ o. named name block ≡ o → is_some o ≡ true → AreCalls (put_calls name.address block)) [
-        | None ↦ λ e t. absurd cc
-        | Some c ↦ λ e t.
-            let found = named_found name block c e in
-            let l : name.address < 128 = subst (λ (a : ℕ). a < 128) (ap (λ (n : Name). n.address) found.1) (fits_address block c found.0) in
-            put_are name.address block l are (read_of block c found.0).size
-      ] refl t
-
   b_put : (name : Name) (block : List ℕ) → AreCalls (put_calls name.address block) → Q block → Stocking P Q (does (λ r. PutBlock name block))
   unfolding does
   b_put name block are q = record { chained = c_put name block; each = λ n i r d a k. record { blocks = ((are, q), tt); stock = a.stock } }
@@ -174,17 +185,6 @@ module _ {P Q : List ℕ → Type 0} where
   r_put_found block None q h = b_quiet
   r_put_found block (Some name) q h = b_then _ _ (r_put_block name block (h name refl) q) b_apply
 
-  find_passes : {X : Type 0} (p : X → Bool) (xs : List X) (x : X) → find p xs ≡ Some x → p x ≡ true
-  find_passes p [] x e = absurd cc
-  find_passes p (y ∷ ys) x e =
-      elim (p y) as (λ t. p y ≡ t → cond t (Some y) (find p ys) ≡ Some x → p x ≡ true) [
-        | true ↦ λ t e. (let same : y ≡ x = cc in subst (λ x. p x ≡ true) same t)
-        | false ↦ λ t e. find_passes p ys x e
-      ] refl e
-
-  wanted_are : (g : GiveBlock) (name : Name) → IsBytes g.block → is_wanted lying.is_block g name ≡ true → AreCalls (put_calls name.address g.block)
-  wanted_are g name are t = block_calls_are name g.block are (and_parts (name.address == g.address) (is_some (named name g.block)) t).1
-
   r_give_block : (g : GiveBlock) (rule : Rule) → IsBytes g.block → Q g.block → Stocking P Q (rules.obey_give_block lying.is_block g rule)
   r_give_block g BlockTaken are q = b_by _ (λ r. r_put_found g.block (find (is_wanted lying.is_block g) r.missing) q (λ name e. wanted_are g name are (find_passes (is_wanted lying.is_block g) r.missing name e)))
   r_give_block g _ are q = b_quiet
@@ -193,10 +193,10 @@ module _ {P Q : List ℕ → Type 0} where
   r_next_view = b_by _ (λ r. b_enter _)
 
   r_tick : (rule : Rule) → Stocking P Q (rules.obey_tick rule)
-  r_tick TickedPrimary = b_then _ _ (b_says _ (λ r. all_given commit_message r tt)) (b_then _ _ (b_by _ (λ r. b_when _ _ (b_again _))) b_ask)
+  r_tick TickedPrimary = b_then _ _ (b_says _ (λ r. all_given P commit_message r tt)) (b_then _ _ (b_by _ (λ r. b_when _ _ (b_again _))) b_ask)
   r_tick TickedBackup = b_then _ _ (b_change rules.idler (λ r. record { saved = refl; state = refl; table = refl })) (b_by _ (λ r. b_if _ _ _ r_next_view b_ask))
   r_tick TickedChanging =
-      b_then _ _ (b_change rules.idler (λ r. record { saved = refl; state = refl; table = refl })) (b_by _ (λ r. b_if _ _ _ r_next_view (b_then _ _ (b_says _ (λ r. all_given start_view_change r tt)) (b_then _ _ b_speak b_ask))))
+      b_then _ _ (b_change rules.idler (λ r. record { saved = refl; state = refl; table = refl })) (b_by _ (λ r. b_if _ _ _ r_next_view (b_then _ _ (b_says _ (λ r. all_given P start_view_change r tt)) (b_then _ _ b_speak b_ask))))
   r_tick _ = b_quiet
 
   r_on_request : (q : RequestFields) → Stocking P Q (rules.on_request q)
@@ -239,7 +239,7 @@ module _ {P Q : List ℕ → Type 0} where
   b_leave = b_by _ (λ r. b_when _ _ (b_then _ _ (b_change in_next_view (λ r. record { saved = refl; state = refl; table = refl })) b_save))
 
   b_announce : Stocking P Q announce
-  b_announce = b_by _ (λ r. b_when _ _ (b_then _ _ (b_change heard_itself (λ r. record { saved = refl; state = refl; table = refl })) (b_by _ (λ r. b_when _ _ (b_says _ (λ r. all_given start_view_change r tt))))))
+  b_announce = b_by _ (λ r. b_when _ _ (b_then _ _ (b_change heard_itself (λ r. record { saved = refl; state = refl; table = refl })) (b_by _ (λ r. b_when _ _ (b_says _ (λ r. all_given P start_view_change r tt))))))
 
   pub b_resuming : Stocking P Q resuming
   b_resuming = b_by _ (λ r. b_if _ _ _ (b_says start_line (λ r. (tt, tt))) (b_then _ _ b_leave (b_then _ _ (b_says start_line (λ r. (tt, tt))) (b_then _ _ b_load (b_then _ _ b_apply b_announce)))))
@@ -251,7 +251,7 @@ abbrev pub ReadsOn : Lying → List ℕ → Type 0
 ReadsOn d b = (name : Name) × (lying.block d name ≡ Some b)
 
 module _ {Q : List ℕ → Type 0} (n i : ℕ) (r : Replica) (d : Lying) (at : At r d) where
-  get_leaves : (g : GetBlock) → Known 0 n i (rules.on_message (frame.GetBlock g) lying r d).script → Leaves (ReadsOn d) Q (rules.on_message (frame.GetBlock g)) r d
+  get_leaves : (g : GetBlock) → IsKnown 0 n i (rules.on_message (frame.GetBlock g) lying r d).script → Leaves (ReadsOn d) Q (rules.on_message (frame.GetBlock g)) r d
   unfolding rules.on_get_block reading by
   get_leaves g known =
       let name = rules.asked_block g in
@@ -259,11 +259,11 @@ module _ {Q : List ℕ → Type 0} (n i : ℕ) (r : Replica) (d : Lying) (at : A
       let x = (r_get_block {P = ReadsOn d} {Q = Q} g o (first_of (get_block_table (is_some o) g r)) (λ b e. (name, e))).each n i r d at known in
       record { blocks = x.blocks; stock = x.stock }
 
-  when_leaves : (t : Bool) (w : Word Lying) → Known 0 n i (when t w lying r d).script → (Known 0 n i (w lying r d).script → Leaves (ReadsOn d) Q w r d) → Leaves (ReadsOn d) Q (when t w) r d
+  when_leaves : (t : Bool) (w : Word Lying) → IsKnown 0 n i (when t w lying r d).script → (IsKnown 0 n i (w lying r d).script → Leaves (ReadsOn d) Q w r d) → Leaves (ReadsOn d) Q (when t w) r d
   when_leaves true w known h = let x = h known in record { blocks = x.blocks; stock = x.stock }
   when_leaves false w known h = let x = (b_quiet {P = ReadsOn d} {Q = Q}).each n i r d at known in record { blocks = x.blocks; stock = x.stock }
 
-  pub gives_read : (e : Event) → IsGivenEvent IsBytes e → IsGivenEvent Q e → Known 0 n i (rules.react e lying r d).script → Leaves (ReadsOn d) Q (rules.react e) r d
+  pub gives_read : (e : Event) → IsGivenEvent IsBytes e → IsGivenEvent Q e → IsKnown 0 n i (rules.react e lying r d).script → Leaves (ReadsOn d) Q (rules.react e) r d
   unfolding rules.react by
   gives_read (event.Deliver (frame.GetBlock g)) are given known = let x = when_leaves _ (rules.on_message (frame.GetBlock g)) known (get_leaves g) in record { blocks = x.blocks; stock = x.stock }
   gives_read (event.Deliver (frame.Request q)) are given known = (b_react {P = ReadsOn d} {Q = Q} (event.Deliver (frame.Request q)) are given tt).each n i r d at known
