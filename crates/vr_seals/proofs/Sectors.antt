@@ -116,7 +116,7 @@ module _ (made : List Header) where
 
   -- ---- calls that write pieces
 
-  seals_append : (cs ds : List Call) → AllByRecursion (Puts (IsSealed made)) cs → AllByRecursion (Puts (IsSealed made)) ds → AllByRecursion (Puts (IsSealed made)) (cs ++ ds)
+  pub seals_append : (cs ds : List Call) → AllByRecursion (Puts (IsSealed made)) cs → AllByRecursion (Puts (IsSealed made)) ds → AllByRecursion (Puts (IsSealed made)) (cs ++ ds)
   seals_append [] ds a b = b
   seals_append (c ∷ cs) ds a b = (a.0, seals_append cs ds a.1 b)
 

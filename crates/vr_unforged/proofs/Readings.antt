@@ -16,7 +16,7 @@ use Rattle.vr_header.specs.Spelling.{IsHeader, Spells}
 use Rattle.vr_header.proofs.EntryLaws.{is_entry_header_of}
 use Rattle.vr_header.proofs.HeaderLaws.{decoded_again}
 use Rattle.vr_super.specs.Copies.{SuperValue}
-use Rattle.vr_rings.specs.Slots.{IsWhole, header_in, prepare_bytes, sector_of, slot_of, whole_in}
+use Rattle.vr_rings.specs.Slots.{header_in, prepare_bytes, sector_of, whole_in}
 use Rattle.vr_rings.proofs.Spelling.{prepare_spells, sector_spells}
 use Rattle.vr_grid.specs.Blocks.{named}
 use Rattle.vr_grid.specs.Grid.{block_reading, named_at}
@@ -91,7 +91,6 @@ module _ (made : List Header) (f : Face) (s : HasSectors (IsSealed made) f) wher
       spelled_made (sector_of h) h ((has_at (IsSealed made) f (header_place slot) s (omega (arith, l))).reads (sector_of h) r.reads) r.header (sector_spells h r.header) entry group
 
   pub entry_made : (slot : ℕ) (e : Whole) → IsFace f → slot < 64 → whole_in f slot ≡ Some e → e.header.cluster ≡ 0 → In e.header made
-  unfolding prepare_reading
   entry_made slot e face l w group =
       let r = read_whole f slot e face l w in
       let x = together_first 3 (prepare_place slot) f (prepare_bytes e) r.reads in

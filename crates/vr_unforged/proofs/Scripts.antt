@@ -83,7 +83,7 @@ module _ (made : List Header) where
   effect_sealed (Rewrite h) d v may x r f s =
       let fit = may.fit in
       let e = fit.0 in
-      let group : e.header.cluster ≡ 0 = ap (λ (h : Header). h.cluster) fit.2 ∙ fit.3 in
+      let group : e.header.cluster ≡ 0 = fit.3 in
       let m = entry_made made d.face s (slot_of h) e f (omega arith) fit.1 group in
       let is = (read_whole d.face (slot_of h) e f (omega arith) fit.1).whole.header in
       let same = fit.2 in

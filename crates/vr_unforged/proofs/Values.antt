@@ -98,7 +98,7 @@ module _ (g : group.Group) (b : IsBridged g) (i : ℕ) (m : group.Member) (at : 
       named_by g.made v u.0 u.2 (λ k h n. let w = named.under i k u.0 h u.1 n in b.made _ w.1)
 
   pub may_open_named : (v : SuperValue) → MayOpen m v → AreNamed g.made v
-  may_open_named v o = elim o [ inl same ↦ subst (AreNamed g.made) (sym same) last_named | inr u ↦ under_named v u ]
+  may_open_named v o = elim o [ inl same ↦ subst (AreNamed g.made) same last_named | inr u ↦ under_named v u ]
 
 -- ---- the values that a script saves
 
