@@ -87,3 +87,9 @@ module _ (P : List ℕ → Type 0) where
     has_fault f (Misdirect i k) l h =
         has_lied (lied f i (Some (cell f i).before)) k (Some (cell f i).truth) (has_lied f i (Some (cell f i).before) h l.0 (λ b e. some_has (cell f i).before b (has_at f i h l.0).before e)) l.1
         (λ b e. some_has (cell f i).truth b (has_at f i h l.0).truth e)
+
+-- what follows from it holds of each sector too
+pub has_weaker : (P Q : List ℕ → Type 0) (f : Face) → ((b : List ℕ) → P b → Q b) → HasSectors P f → HasSectors Q f
+has_weaker P Q f w h =
+    let cell : (c : Cell) → HasCell P c → HasCell Q c = λ c x. record { truth = w c.truth x.truth; reads = λ b e. w b (x.reads b e); before = w c.before x.before } in
+    record { count = h.count; cells = λ k d l. cell (get_or f.cells k d) (h.cells k d l); waiting = λ k d l. (let x = h.waiting k d l in record { index = x.index; was = cell (get_or f.waiting k d).was x.was }) }

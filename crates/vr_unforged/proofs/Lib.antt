@@ -2,3 +2,5 @@ pub mod Logged
 pub mod Values
 pub mod Readings
 pub mod Scripts
+pub mod Begun
+pub mod Lines

@@ -114,7 +114,7 @@ cut_under es n old new m e = let d = drop_at es n (Save old new) e in ap (λ (ys
 abbrev pub SavesNamed : List Header → List Effect → Type 0
 SavesNamed made es = (n : ℕ) (old new : SuperValue) → slice_get es n ≡ Some (Save old new) → AreNamed (made ++ made_in (take (n + 1) es)) new
 
-get_left : {X : Type 0} (xs ys : List X) (n : ℕ) → n < length xs → slice_get (xs ++ ys) n ≡ slice_get xs n
+pub get_left : {X : Type 0} (xs ys : List X) (n : ℕ) → n < length xs → slice_get (xs ++ ys) n ≡ slice_get xs n
 get_left [] ys n l = absurd (omega (arith, l))
 get_left (x ∷ xs) ys zero l = refl
 get_left (x ∷ xs) ys (suc n) l = get_left xs ys n (omega (arith, l))

@@ -1,1 +1,2 @@
 pub mod Bridged
+pub mod Schedules
