@@ -4,3 +4,5 @@ pub mod Readings
 pub mod Scripts
 pub mod Begun
 pub mod Lines
+pub mod Runs
+pub mod Fresh

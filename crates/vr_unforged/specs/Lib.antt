@@ -1,2 +1,3 @@
 pub mod Bridged
 pub mod Schedules
+pub mod Laws

@@ -134,14 +134,14 @@ save_are old new f g h = calls_append (mend_calls old f) (save_from 0 4 (copy_by
 
 -- ---- formatting
 
-zero_content : IsContent zero_sector
+pub zero_content : IsContent zero_sector
 zero_content = record { size = length-replicate {A = ℕ} 512 0; each = IsBytes-zeros 512 }
 
 zeros_written : (n i : ℕ) → i + n ≤ 1424 → AreCalls (map (λ k. Write k zero_sector) (range_with_len i n))
 zeros_written zero i l = tt
 zeros_written (suc n) i l = ((omega (arith, l), zero_content), zeros_written n (i + 1) (omega (arith, l)))
 
-reserved_is : (slot : ℕ) → slot < 64 → IsHeader (reserved_header 0 slot)
+pub reserved_is : (slot : ℕ) → slot < 64 → IsHeader (reserved_header 0 slot)
 reserved_is slot l = record {
   body = length-name_of [];
   body_bytes = IsBytes-name_of [];
