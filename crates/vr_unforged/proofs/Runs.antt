@@ -1,6 +1,7 @@
 -- Line after line.
 use Rattle.std.proofs.Common.{inl, inr, ◌≡◌, refl, sym, ap, ◌∙◌, subst, List, [], ◌∷◌, ◌++◌}
 use Rattle.std.specs.Prelude.{All}
+use Rattle.std.proofs.lemmas.List.{append_assoc}
 use Rattle.std.proofs.lemmas.List.Elements.{All-append, All-head, All-tail}
 use Rattle.vr_header.specs.declared.header.Header.{Header}
 use Rattle.vr_msg.specs.declared.output.Output.{Output}
@@ -10,15 +11,36 @@ use Rattle.vr_rules.specs.Lying.{Lying, hazards}
 use Rattle.vr_rules.specs.World.{Happening, World, happen, happens, nothing}
 use Rattle.vr_rules.specs.Group.{Group, Played, Run, made_in}
 use Rattle.vr_rules.specs.Safe.{run_outputs}
-use Rattle.vr_worlds.specs.Worlds.{AreBeside, IsMatchedBy, Said, begun_in, left, none}
+use Rattle.vr_worlds.specs.Worlds.{AreBeside, IsMatchedBy, Said, aside, begun_in, both, left, none}
 use Rattle.vr_worlds.proofs.Lines.{no_move}
 use Rattle.vr_worlds.proofs.Matched.{lines_are_moves}
-use Rattle.vr_worlds.proofs.Runs.{left_both, outputs_both, run_both, said_both}
 use Rattle.vr_unforged.specs.Bridged.{IsBridged}
 use Rattle.vr_unforged.specs.Schedules.{IsSealedWorld, MayAll, MayHappen}
 use Rattle.vr_unforged.specs.Laws.{HappeningsAreRuns, IsUnforgedBeside, LinesStayUnforged}
 use Rattle.vr_unforged.proofs.Lines.{line_leaves, line_unforged}
 use Rattle.vr_unforged.proofs.Values.{bridged_moved}
+
+-- ---- runs one after the other
+
+run_both : (g : Group) (ps qs : List Played) → Run g ps → Run (left g ps) qs → Run g (ps ++ qs)
+run_both g [] qs (Run.ended h) s = s
+run_both g (p ∷ ps) qs (Run.goes h x y more m r) s = Run.goes g x y (ps ++ qs) m (run_both y.group ps qs r s)
+
+left_both : (g : Group) (ps qs : List Played) → left g (ps ++ qs) ≡ left (left g ps) qs
+left_both g [] qs = refl
+left_both g (p ∷ ps) qs = left_both p.moved.group ps qs
+
+outputs_both : (ps qs : List Played) → run_outputs (ps ++ qs) ≡ run_outputs ps ++ run_outputs qs
+unfolding run_outputs
+outputs_both [] qs = refl
+outputs_both (p ∷ ps) qs = ap (λ (os : List Output). p.moved.outputs ++ os) (outputs_both ps qs) ∙ sym (append_assoc p.moved.outputs (run_outputs ps) (run_outputs qs))
+
+said_both : (a b c d : List Output) → Said a b → Said c d → Said (a ++ c) (b ++ d)
+said_both [] [] c d none t = t
+said_both _ _ c d (both os ws gs s) t = subst (λ (x : List Output). Said x ((os ++ gs) ++ d)) (sym (append_assoc os ws c)) (subst (λ (x : List Output). Said (os ++ (ws ++ c)) x) (sym (append_assoc os gs d)) (both os (ws ++ c) (gs ++ d) (said_both ws gs c d s t)))
+said_both _ b c d (aside o ws gs is s) t = aside o (ws ++ c) (b ++ d) is (said_both ws b c d s t)
+
+-- ---- and the machine's beside them
 
 bridged_run : (g : Group) (run : List Played) → IsBridged g → IsFitGroup 0 g → All (λ p. IsFitMove p.move) run → Run g run → IsBridged (left g run)
 bridged_run g [] b fit well (Run.ended h) = b

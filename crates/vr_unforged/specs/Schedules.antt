@@ -1,5 +1,5 @@
 -- What is asked of a schedule: its lines, and that names tell texts apart.
-use Rattle.std.specs.Prelude.{ℕ, ◌≡◌, ⊤, List, [], ◌∷◌, slice_get, Some}
+use Rattle.std.specs.Prelude.{ℕ, ◌≡◌, ◌⊎◌, ⊤, List, [], ◌∷◌, slice_get, Some}
 use Rattle.std.specs.List.{AllByRecursion}
 use Rattle.vr_disk.specs.DiskState.{Call, Write, Sync, damaged}
 use Rattle.vr_header.specs.declared.header.Header.{Header}
@@ -10,7 +10,7 @@ use Rattle.vr_rules.specs.Steps.{Effect, Checkpoint}
 use Rattle.vr_rules.specs.Lying.{Lying, hazards}
 use Rattle.vr_rules.specs.World.{World, Host, Happening, happens}
 use Rattle.vr_worlds.specs.Stocks.{IsGiven}
-use Rattle.vr_worlds.specs.Worlds.{IsHashed, IsHashedAt, IsLine, begun_in}
+use Rattle.vr_worlds.specs.Worlds.{IsHashedAt, IsLine, begun_in}
 use Rattle.vr_seals.specs.Seals.{Fronts, HasSectors, IsSealed}
 use Rattle.vr_unforged.specs.Bridged.{IsSealedBlock}
 
@@ -22,6 +22,11 @@ pub record IsSealedWorld (w : World Lying) (made : List Header) : Type 0 where
   pub sent : (number : ℕ) (s : Sent) → slice_get w.sent number ≡ Some s → IsGiven (IsSealedBlock made) s.message
 
 -- ---- what is asked of a schedule
+
+-- names don't collide, of what was read, held and written in any line
+abbrev pub IsHashed : World Lying → List Happening → List ℕ → Type 0
+IsHashed w [] bytes = ⊥
+IsHashed w (x ∷ xs) bytes = IsHashedAt w x bytes ⊎ IsHashed (happens hazards w x).world xs bytes
 
 -- no header of an entry begins these bytes, nor once each of their bits is turned
 pub record IsHeadless (bytes : List ℕ) : Type 0 where

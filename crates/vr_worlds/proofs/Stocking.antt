@@ -1,6 +1,6 @@
 -- What writes of blocks words make, and what a replica keeps of which its checkpoints are written.
-use Rattle.std.proofs.Common.{◌≡◌, refl, sym, ap, ◌∙◌, subst, ℕ, zero, suc, Bool, true, false, cond, List, [], ◌∷◌, ◌++◌, map, Option, Some, None, Result, Ok, Err}
-use Rattle.std.specs.Prelude.{◌%◌, not}
+use Rattle.std.proofs.Common.{◌≡◌, refl, sym, subst, ℕ, zero, suc, Bool, true, false, cond, List, [], ◌∷◌, ◌++◌, map, Option, Some, None, Result, Ok, Err}
+use Rattle.std.specs.Prelude.{◌%◌}
 use Rattle.std.specs.Option.{option_and_then}
 use Rattle.std.proofs.Common.{arith}
 use Rattle.vr_kv.specs.Kv.{IsKv}
@@ -33,7 +33,7 @@ use Rattle.vr_msg.specs.declared.statement.Statement.{Statement}
 use Rattle.vr_rules.specs.Replica.{Replica, leads, part_at, forgetting, with_part}
 use Rattle.vr_rules.specs.Outputs.{applied_reply, asker_of, kind_of, others, prepare, replies, send, send_to_all, start_view, start_view_change}
 use Rattle.vr_rules.specs.Steps.{Effect, Write, Rewrite, Save, Mend, Checkpoint, PutBlock, Say, Setting, Word, ◌⨾◌, quiet, change, does, says, by, naming, reading, when, times, each, after_all}
-use Rattle.vr_rules.specs.Words.{Log, save, value_of, enter, entered, write, stored, accept, entry_of, lost, or_lost, with_entry, with_entry_at, with_checkpoint, make_checkpoint, checkpoints, checkpoint_at, checkpoint_of, apply_entry, apply_next, apply, applied, advanced, advance, learn, taken, take, prepare_again, begin_view, try_log, stated, decided, obey_choice, try, speak, resend, ask_peer, ask_for, ask, with_state, loaded_state, loads, load}
+use Rattle.vr_rules.specs.Words.{Log, save, enter, entered, write, stored, accept, entry_of, lost, or_lost, with_entry, with_entry_at, with_checkpoint, make_checkpoint, checkpoints, checkpoint_at, checkpoint_of, apply_entry, apply_next, apply, applied, advanced, advance, learn, taken, take, prepare_again, begin_view, try_log, stated, decided, obey_choice, try, speak, resend, ask_peer, ask_for, ask, with_state, loaded_state, loads, load}
 use Rattle.vr_rules.specs.Lying.{Lying, lying}
 use Rattle.vr_rules.proofs.FitGroups.{Known, known_first, known_left, known_rest, known_right}
 use Rattle.vr_worlds.specs.Chains.{Chain, GoesWell}
@@ -42,7 +42,7 @@ use Rattle.vr_worlds.proofs.Blocks.{Texted, save_state_are, table_named}
 use Rattle.vr_worlds.proofs.States.{state_kept, state_read, text_of_state}
 use Rattle.vr_worlds.proofs.Loading.{LoadsWell, loads_well}
 use Rattle.vr_worlds.proofs.Found.{read_whole}
-use Rattle.vr_worlds.proofs.Chaining.{Chained, c_apply_entry, c_by, c_change, c_checkpoint, c_if, c_naming, c_or_lost, c_quiet, c_reading, c_save, c_says, c_then, c_write, loads_saved, with_checkpoint_saved}
+use Rattle.vr_worlds.proofs.Chaining.{Chained, c_apply_entry, c_by, c_change, c_checkpoint, c_naming, c_or_lost, c_quiet, c_reading, c_save, c_says, c_then, c_write, loads_saved, with_checkpoint_saved}
 use Rattle.vr_worlds.proofs.Going.{known_goes}
 
 -- a running replica on its disk

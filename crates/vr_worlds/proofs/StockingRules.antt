@@ -1,15 +1,11 @@
 -- What writes of blocks steps and openings make.
-use Rattle.std.proofs.Common.{◌≡◌, refl, ◌∙◌, ℕ, Bool, true, List, [], ◌∷◌, Option, Some, None}
+use Rattle.std.proofs.Common.{◌≡◌, refl, ℕ, Bool, true, List, [], ◌∷◌, Option, Some, None}
 use Rattle.std.specs.Prelude.{find, ◌==◌}
 use Rattle.std.specs.Option.{option_map_or}
-use Rattle.std.proofs.lemmas.Bool.{and_parts, eqb-true}
-use Rattle.std.proofs.lemmas.List.Elements.{All-cons}
+use Rattle.std.proofs.lemmas.Bool.{and_parts}
 use Rattle.vr_header.specs.declared.header.Header.{Header}
 use Rattle.vr_header.specs.Made.{Whole}
 use Rattle.vr_grid.specs.declared.name.Name.{Name}
-use Rattle.vr_recover.specs.declared.readings.Verdict.{Verdict}
-use Rattle.vr_recover.specs.declared.readings.Verdict.TheVariants as verdict
-use Rattle.vr_super.specs.Copies.{SuperValue}
 use Rattle.vr_msg.specs.declared.event.Event.{Event}
 use Rattle.vr_msg.specs.declared.event.Event.TheVariants as event
 use Rattle.vr_msg.specs.declared.frame.Commit.{Commit}
@@ -28,7 +24,7 @@ use Rattle.vr_msg.specs.declared.frame.StartViewChange.{StartViewChange}
 use Rattle.vr_msg.specs.declared.request.RequestFields.{RequestFields}
 use Rattle.vr_sess.specs.declared.session.SessionAnswer.{SessionAnswer}
 use Rattle.vr_sess.specs.declared.session.SessionAnswer.TheVariants as answer
-use Rattle.vr_rules.specs.Replica.{Replica, header_at, forgetting, with_part}
+use Rattle.vr_rules.specs.Replica.{Replica, header_at}
 use Rattle.vr_rules.specs.Steps.{PutBlock, Word, ◌⨾◌, by, quiet, change, does, reading, when}
 use Rattle.vr_rules.proofs.FitGroups.{Known as IsKnown}
 use Rattle.vr_rules.specs.Outputs.{commit_message, prepare, start_line, start_view_change}
@@ -50,7 +46,6 @@ use Rattle.vr_grid.proofs.Contents.{fits_address, named_found, read_of}
 use Rattle.vr_worlds.specs.Stocks.{IsGiven, IsGivenEvent}
 use Rattle.vr_worlds.proofs.Calls.{AreCalls}
 use Rattle.vr_worlds.proofs.Blocks.{put_are}
-use Rattle.vr_worlds.proofs.Loading.{block_are}
 use Rattle.vr_worlds.proofs.Chaining.{c_by, c_says}
 use Rattle.vr_worlds.proofs.ChainingRules.{c_obey_get_block, c_obey_give_block, c_put}
 use Rattle.vr_worlds.proofs.Stocking.{At, Leaves, Stocking, all_given, b_accept, b_advance, b_again, b_apply, b_ask, b_by, b_change, b_each, b_enter, b_entry, b_if, b_learn, b_load, b_naming, b_quiet, b_reading, b_resend, b_save, b_says, b_speak, b_take, b_then, b_try, b_when, b_write}
