@@ -6,3 +6,4 @@ pub mod Begun
 pub mod Lines
 pub mod Runs
 pub mod Fresh
+pub mod Witness
