@@ -1,7 +1,8 @@
 //! The replica of a member of a new group.
-ghost use Rattle.std.specs.Prelude.{◌≡◌, ◌<◌, ◌≤◌, IfErr, IfOk, IfSome, is_ok, is_some, true};
-ghost use Rattle.vr_base.specs.Causes.{HasCause, Rose};
+ghost use Rattle.std.specs.Prelude.{◌≡◌, ◌<◌, IfOk, IfSome, is_ok, is_some, true};
+ghost use Rattle.vr_base.specs.Causes.{HasCause};
 ghost use Rattle.vr_base.specs.Groups.{quorums_of};
+ghost use Rattle.vr_disk.specs.Counts.{CountsFault};
 ghost use Rattle.vr_disk.specs.DiskState.{Runs};
 ghost use Rattle.vr_journal.specs.Ready.{IsReady};
 ghost use Rattle.vr_rules.specs.Lying.{format_calls};
@@ -75,8 +76,7 @@ pub fn fresh<D: SectorDisk>(
     requires size { is_some (quorums_of config.now.n) ≡ true }
     requires member { config.now.replica < config.now.n }
     ensures ready { IfOk result IsReady }
-    ensures later { D.faults disk.old ≤ D.faults disk.new }
-    ensures fault { IfErr result (λ e. e ≡ FreshFault.DiskFault → Rose (D.faults disk.old) (D.faults disk.new)) }
+    ensures cause { CountsFault FreshFault.DiskFault (D.faults disk.old) (D.faults disk.new) result }
     ensures made { Made config.now (D.told disk.old) (D.told disk.new) result }
 {
     if is_occupied(disk) {

@@ -1,6 +1,6 @@
 //! A replica is recovered from its disk.
-ghost use Rattle.std.specs.Prelude.{◌≡◌, ◌≢◌, ◌≤◌, true, false, IfOk, IfErr, Ok};
-ghost use Rattle.vr_base.specs.Causes.{Rose};
+ghost use Rattle.std.specs.Prelude.{◌≡◌, ◌≢◌, true, false, IfOk, IfErr, Ok};
+ghost use Rattle.vr_disk.specs.Counts.{CountsFault};
 ghost use Rattle.vr_opening.specs.declared.reopen.Refusal.TheVariants as Refusal;
 ghost use Rattle.vr_step.specs.Does.{Caused};
 ghost use Rattle.vr_journal.specs.Ready.{IsReady};
@@ -77,8 +77,7 @@ fn config_of(value: &Super) -> Config
 // What stood in the way of the superblock's value.
 #[tactic(auto, using(crate::proofs::Recovers::found_value, crate::proofs::Recovers::lost, crate::proofs::Recovers::mend_faulted, crate::proofs::Recovers::mend_wanted))]
 fn find_value<D: SectorDisk>(alloc: Global, disk: &mut D) -> Result<Super, Refusal>
-    ensures later { D.faults disk.old ≤ D.faults disk.new }
-    ensures fault { IfErr result (λ e. e ≡ Refusal.Halted Halt.DiskFault → Rose (D.faults disk.old) (D.faults disk.new)) }
+    ensures cause { CountsFault (Refusal.Halted Halt.DiskFault) (D.faults disk.old) (D.faults disk.new) result }
     ensures value { FindsValue (D.told disk.old) (D.told disk.new) result }
 {
     match vr_super::recover(alloc, disk) {
@@ -105,8 +104,7 @@ pub fn recover<D: SectorDisk>(
     out: &mut Outbox,
 ) -> Result<Replica, Refusal>
     ensures ready { IfOk result IsReady }
-    ensures later { D.faults disk.old ≤ D.faults disk.new }
-    ensures fault { IfErr result (λ e. e ≡ Refusal.Halted Halt.DiskFault → Rose (D.faults disk.old) (D.faults disk.new)) }
+    ensures cause { CountsFault (Refusal.Halted Halt.DiskFault) (D.faults disk.old) (D.faults disk.new) result }
     ensures step { Recovered asked.now (D.told disk.old) (D.told disk.new) out.old out.new result }
 {
     match find_value(alloc, disk) {

@@ -1,7 +1,7 @@
 //! A replica as its member runs it.
-ghost use Rattle.std.specs.Prelude.{◌≡◌, ◌<◌, ◌≤◌, [], IfErr, IfOk, IfSome, OnErr, is_ok, is_some, true};
-ghost use Rattle.vr_base.specs.Causes.{Rose};
+ghost use Rattle.std.specs.Prelude.{◌≡◌, ◌<◌, [], IfOk, IfSome, OnErr, is_ok, is_some, true};
 ghost use Rattle.vr_base.specs.Groups.{quorums_of};
+ghost use Rattle.vr_disk.specs.Counts.{CountsFault};
 ghost use Rattle.vr_opening.specs.Making.{Made};
 ghost use Rattle.vr_opening.specs.Recovering.{Recovered};
 ghost use Rattle.vr_rules.specs.Replica.{header_at, part_at};
@@ -52,8 +52,7 @@ impl Replica {
         requires size { is_some (quorums_of config.now.n) ≡ true }
         requires member { config.now.replica < config.now.n }
         ensures running { IfOk result (λ r. r.running ≡ true) }
-        ensures later { D.faults disk.old ≤ D.faults disk.new }
-        ensures fault { IfErr result (λ e. e ≡ FreshFault.DiskFault → Rose (D.faults disk.old) (D.faults disk.new)) }
+        ensures cause { CountsFault FreshFault.DiskFault (D.faults disk.old) (D.faults disk.new) result }
         ensures made { Made config.now (D.told disk.old) (D.told disk.new) (memory_of result) }
     {
         match vr_opening::fresh(alloc, disk, config) {
@@ -75,8 +74,7 @@ impl Replica {
         out: &mut Outbox,
     ) -> Result<Replica, Refusal>
         ensures running { IfOk result (λ r. r.running ≡ true) }
-        ensures later { D.faults disk.old ≤ D.faults disk.new }
-        ensures fault { IfErr result (λ e. e ≡ Refusal.Halted Halt.DiskFault → Rose (D.faults disk.old) (D.faults disk.new)) }
+        ensures cause { CountsFault (Refusal.Halted Halt.DiskFault) (D.faults disk.old) (D.faults disk.new) result }
         ensures halt { OnErr result (out.new ≡ []) }
         ensures recovered { Recovered config.now (D.told disk.old) (D.told disk.new) [] out.new (memory_of result) }
     {

@@ -1,4 +1,4 @@
-use Rattle.std.proofs.Common.{◌≡◌, ◌≤◌}
+use Rattle.std.proofs.Common.{◌≡◌}
 use Rattle.vr_step.specs.Does.{Going}
 use Rattle.vr_opening.specs.Finding.{IsOpeningOld, recover_listed}
 use Rattle.vr_opening.proofs.opening.recover_olds.Given as goal
@@ -7,6 +7,6 @@ abbrev pub invariant-loop-i : goal.invariant-loop-i
 invariant-loop-i g l = record {
   opening : IsOpeningOld l.i l.replica;
   saved : l.replica.saved ≡ l.initial.replica.saved;
-  later : g.D.SectorDisk.faults l.initial.disk ≤ g.D.SectorDisk.faults l.disk;
+  faults : g.D.SectorDisk.faults l.disk ≡ g.D.SectorDisk.faults l.initial.disk;
   step : Going (recover_listed l.initial.replica.saved) l.initial.replica.saved.headers l.i l.initial.replica l.replica (g.D.SectorDisk.told l.initial.disk) (g.D.SectorDisk.told l.disk) l.initial.out l.out;
 }

@@ -1,4 +1,4 @@
-use Rattle.std.proofs.Common.{◌≡◌, ◌+◌, ◌≤◌}
+use Rattle.std.proofs.Common.{◌≡◌, ◌+◌}
 use Rattle.vr_msg.specs.Choice.{ops}
 use Rattle.vr_rules.specs.Opening.{recover_op}
 use Rattle.vr_step.specs.Does.{Going}
@@ -9,6 +9,6 @@ abbrev pub invariant-loop-i : goal.invariant-loop-i
 invariant-loop-i g l = record {
   opening : IsOpening (l.initial.replica.saved.fields.checkpoint + l.i) l.replica;
   saved : l.replica.saved ≡ l.initial.replica.saved;
-  later : g.D.SectorDisk.faults l.initial.disk ≤ g.D.SectorDisk.faults l.disk;
+  faults : g.D.SectorDisk.faults l.disk ≡ g.D.SectorDisk.faults l.initial.disk;
   step : Going (recover_op l.initial.replica.saved) (ops l.initial.replica.saved.fields.checkpoint (l.initial.replica.saved.fields.checkpoint + 64)) l.i l.initial.replica l.replica (g.D.SectorDisk.told l.initial.disk) (g.D.SectorDisk.told l.disk) l.initial.out l.out;
 }

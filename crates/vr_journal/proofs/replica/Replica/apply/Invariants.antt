@@ -9,6 +9,6 @@ invariant-loop-i g l = record {
   ready : IsReady l.self;
   view : l.self.view ≡ l.initial.self.view;
   spent : l.self.saved.fields.sequence ≤ l.initial.self.saved.fields.sequence + l.i;
-  later : g.D.SectorDisk.faults l.initial.disk ≤ g.D.SectorDisk.faults l.disk;
+  faults : g.D.SectorDisk.faults l.disk ≡ g.D.SectorDisk.faults l.initial.disk;
   step : Looping apply_next l.times l.i l.initial.self l.self (g.D.SectorDisk.told l.initial.disk) (g.D.SectorDisk.told l.disk) l.initial.out l.out;
 }
