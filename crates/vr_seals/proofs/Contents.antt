@@ -1,5 +1,5 @@
 -- What holds of the bytes of each sector stays so: after calls that write such bytes, in each cut of them, and by each fault.
-use Rattle.std.proofs.Common.{ℕ, zero, suc, ◌/◌, ◌%◌, ◌<◌, ◌≡◌, ◌≢◌, arith, refl, sym, ap, ◌∙◌, eqb, List, [], ◌∷◌, ◌++◌, length, get_or, set, length-set, Option, Some, None, subst}
+use Rattle.std.proofs.Common.{ℕ, zero, suc, ◌/◌, ◌%◌, ◌<◌, ◌≡◌, arith, ◌∙◌, eqb, List, [], ◌∷◌, ◌++◌, length, get_or, set, length-set, Option, Some, None, subst}
 use Rattle.std.specs.List.{All, AllByRecursion}
 use Rattle.std.proofs.lemmas.Bool.{cond_both}
 use Rattle.std.proofs.lemmas.List.Elements.{All-set, All-push, recursion_from_All}

@@ -1,15 +1,15 @@
 -- The sectors of slots and of the superblock are sealed.
-use Rattle.std.proofs.Common.{ℕ, zero, suc, ◌+◌, ◌-◌, ◌*◌, ◌<◌, ◌≤◌, ◌≡◌, ◌≢◌, ◌⊎◌, ◌&&◌, inl, inr, arith, refl, sym, ap, ◌∙◌, subst, true, false, cond, List, [], ◌∷◌, ◌++◌, length, take, drop, get_or, append_assoc, length-append, length-take, length-drop}
+use Rattle.std.proofs.Common.{ℕ, zero, suc, ◌+◌, ◌-◌, ◌*◌, ◌<◌, ◌≤◌, ◌≡◌, ◌⊎◌, ◌&&◌, inl, inr, arith, refl, sym, ap, ◌∙◌, subst, true, false, cond, List, [], ◌∷◌, ◌++◌, length, take, drop, get_or, append_assoc}
 use Rattle.std.specs.Prelude.{IsTrue, ◌==◌, nat_le, replicate, Some, None}
 use Rattle.std.specs.Option.{option_map}
 use Rattle.std.specs.List.{AllByRecursion, list_all}
 use Rattle.std.proofs.lemmas.Bool.{and_parts, cases_lt, leb-true}
-use Rattle.std.proofs.lemmas.List.{drop_at, get_or-append_right, get_or-drop, get_or_append_left, get_or_past, length-replicate, take_at, take_all}
+use Rattle.std.proofs.lemmas.List.{drop_at, get_or-append_right, get_or-drop, get_or_append_left, take_at}
 use Rattle.vr_base.specs.Bytes.{IsBytes, bytes16, is_zeros, piece}
-use Rattle.vr_base.proofs.FieldLaws.{IsBytes-piece, get_or-piece, length-bytes16, length-piece}
+use Rattle.vr_base.proofs.FieldLaws.{IsBytes-piece, get_or-piece, length-piece}
 use Rattle.vr_base.proofs.Places.{drop_both}
 use Rattle.vr_base.proofs.ZeroLaws.{are_zeros}
-use Rattle.vr_disk.specs.DiskState.{Call, Write, Sync, Face, IsContent}
+use Rattle.vr_disk.specs.DiskState.{Call, Sync, Face, IsContent}
 use Rattle.vr_disk.specs.Sectors.{has, writes}
 use Rattle.vr_header.specs.declared.header.Header.{Header}
 use Rattle.vr_header.specs.declared.operation.Operation.{Operation}
@@ -18,12 +18,11 @@ use Rattle.vr_header.specs.Bodies.{IsOperation, operation_bytes}
 use Rattle.vr_header.specs.Made.{Whole, entry_bytes, is_entry_header}
 use Rattle.vr_header.specs.Spelling.{IsHeader, Spells, header_bytes}
 use Rattle.vr_header.specs.Text.{is_printable, is_text}
-use Rattle.vr_header.proofs.BodyLaws.{text_limit}
 use Rattle.vr_header.proofs.HeaderLaws.{length-header_bytes}
 use Rattle.vr_header.proofs.Truths.{both}
 use Rattle.vr_protocol.specs.Basics.{In}
 use Rattle.vr_super.specs.Copies.{IsGood, SuperValue, copy_bytes, count_at, fields_at, first_op, good_fields, is_named, is_closed, is_sealed, list_at, list_bytes, value_of, zeros}
-use Rattle.vr_super.specs.Calls.{copy_calls, mend_calls, mend_copy, mend_from, mend_unless, save_from, write_calls}
+use Rattle.vr_super.specs.Calls.{copy_calls, mend_calls, mend_copy, mend_from, mend_unless, save_from}
 use Rattle.vr_super.specs.Opens.{copy_reading}
 use Rattle.vr_super.proofs.Format.{behind_copy, length-copy_bytes, length-list_bytes, tail_bytes, value_again}
 use Rattle.vr_rings.specs.Calls.{again_calls, header_calls, new_calls, prepare_calls}

@@ -1,5 +1,5 @@
 -- Bytes whose bits are turned, twice are what they were; and what stands in front of bytes.
-use Rattle.std.proofs.Common.{ℕ, zero, suc, ◌+◌, ◌-◌, ◌*◌, ◌^◌, ◌<◌, ◌≤◌, ◌≡◌, ◌≢◌, arith, refl, sym, ap, ◌∙◌, subst, true, List, [], ◌∷◌, length, get_or, Option, Some, None, Result, Ok, Err}
+use Rattle.std.proofs.Common.{ℕ, suc, ◌-◌, ◌<◌, ◌≡◌, ◌≢◌, arith, refl, sym, ap, ◌∙◌, subst, true, List, [], ◌∷◌, get_or, Some, None, Result, Ok, Err}
 use Rattle.std.specs.Prelude.{bit_xor, bit_and, ◌%◌}
 use Rattle.std.specs.Option.{option_map_or}
 use Rattle.std.specs.Int.Bits.{xor_add_and}
