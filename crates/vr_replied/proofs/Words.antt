@@ -87,9 +87,6 @@ module _ (H : List ℕ → Type 0) (never : NoCollision H) (log : List Whole) wh
   pub go_says : (os : Replica → List Output) → ((r : Replica) → Every IsOther (os r)) → Keeps (says os)
   go_says os h = walks_says H log steady os h
 
-  pub go_tells : (os : Replica → Output) → ((r : Replica) → IsOther (os r)) → Keeps (says (λ r. os r ∷ []))
-  go_tells os h = go_says (λ r. os r ∷ []) (λ r. (h r, tt))
-
   pub go_all : (message : Replica → Frame) → Keeps (says (send_to_all message))
   go_all message = go_says (send_to_all message) (all_others message)
 
