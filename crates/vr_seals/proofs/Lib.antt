@@ -1,0 +1,4 @@
+pub mod Contents
+pub mod Turning
+pub mod Sectors
+pub mod Laws
