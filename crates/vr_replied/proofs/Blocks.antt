@@ -19,21 +19,21 @@ use Rattle.vr_grid.specs.Blocks.{named}
 use Rattle.vr_grid.specs.declared.block.Block.{Block}
 use Rattle.vr_grid.specs.declared.name.Name.{Name}
 use Rattle.vr_grid.proofs.Contents.{named_found}
-use Rattle.vr_ckpt.specs.Laws.{Holds, HoldsFrom}
+use Rattle.vr_ckpt.specs.Laws.{HoldsFrom}
 use Rattle.vr_ckpt.specs.Loads.{both_named, data_at, data_of, gathered, gathered_both, is_root, keys_size, load_by, load_of, loaded, name_at, names_at, read_root, root_at, root_in, sessions_size, text_of, with_data, with_name}
 use Rattle.vr_ckpt.specs.Places.{is_place}
 use Rattle.vr_ckpt.specs.Saves.{PayloadBlocks, blocks_from, changed, data_content, goes_to, names_bytes, payload_blocks_at, payload_at, payloads_from, payloads_of, keys_run, root_of, root_payload, sessions_run, table_of, written}
-use Rattle.vr_ckpt.specs.declared.found.Load.{Load}
-use Rattle.vr_ckpt.specs.declared.found.Load.TheVariants.{Loaded, Missing}
+use Rattle.vr_ckpt.specs.declared.found.Load.TheVariants.{Loaded}
 use Rattle.vr_ckpt.specs.declared.loading.Gathered.{Gathered}
 use Rattle.vr_ckpt.specs.declared.plan.Run.{Run}
 use Rattle.vr_ckpt.specs.declared.root.Root.{Root}
 use Rattle.vr_ckpt.specs.declared.table.Payload.{Payload}
 use Rattle.vr_ckpt.specs.declared.table.PayloadTable.{PayloadTable}
 use Rattle.vr_ckpt.proofs.Apart.{AtPlace, part_cases}
-use Rattle.vr_ckpt.proofs.Done.{Fit, Fits, RootWords, after_name, goes_fit, length-names, name_there, text_again, words}
+use Rattle.vr_ckpt.proofs.Done.{Fit, Fits, after_name, length-names, name_there, text_again, words}
 use Rattle.vr_ckpt.proofs.Keeping.{each_held}
 use Rattle.vr_ckpt.proofs.Planning.{keys_count, sessions_count}
+use Rattle.vr_replied.specs.Hashed.{AllKept, IsHashedBlock, IsKept, IsTable, IsWrittenOut, ReadsHashed}
 
 -- ---- the names of a root
 
@@ -88,28 +88,12 @@ read_found c r e = elim (is_root c) as (λ b. cond b (root_in c.payload) None �
 
 -- ---- blocks that were hashed
 
-pub record IsHashedBlock (H : List ℕ → Type 0) (c : Content) : Type 0 where
-  pub payload : H c.payload
-  pub header : H (named_bytes (block_header c))
-
--- a payload with the name of a block that was hashed with it
-pub record IsKept (H : List ℕ → Type 0) (p : Payload) : Type 0 where
-  pub content : Content
-  pub hashed : IsHashedBlock H content
-  pub payload : content.payload ≡ p.bytes
-  pub name : block_name content ≡ p.name
-  pub fit : Fit p.name
-
-abbrev pub AllKept : (List ℕ → Type 0) → List Payload → Type 0
-AllKept H ps = AllByRecursion (λ (p : Payload). IsKept H p) ps
-
-pub record IsTable (H : List ℕ → Type 0) (t : PayloadTable) : Type 0 where
-  pub sessions : AllKept H t.sessions
-  pub keys : AllKept H t.keys
+kept_fit : (H : List ℕ → Type 0) (p : Payload) → IsKept H p → Fit p.name
+kept_fit H p h = record { sum = ap (λ (n : Name). length n.sum.0) (sym h.name) ∙ length-name_of _; address = let l = h.address in omega arith }
 
 all_fit : (H : List ℕ → Type 0) (ps : List Payload) → AllKept H ps → Fits ps
 all_fit H [] h = tt
-all_fit H (p ∷ ps) h = (h.0.fit, all_fit H ps h.1)
+all_fit H (p ∷ ps) h = (kept_fit H p h.0, all_fit H ps h.1)
 
 kept_at : (H : List ℕ → Type 0) (ps : List Payload) (j : ℕ) (p : Payload) → AllKept H ps → slice_get ps j ≡ Some p → IsKept H p
 kept_at H [] j p h e = absurd cc
@@ -123,7 +107,7 @@ in_grid low x l (inr e) = omega arith
 module _ (H : List ℕ → Type 0) where
   goes_kept : (r : Run) (x : ℕ) (bytes : List ℕ) → x < 128 → IsHashedBlock H (data_content r x bytes) → IsKept H (goes_to r x bytes).payload
   unfolding goes_to data_content
-  goes_kept r x bytes l h = record { content = data_content r x bytes; hashed = h; payload = refl; name = refl; fit = goes_fit r x bytes l }
+  goes_kept r x bytes l h = record { content = data_content r x bytes; hashed = h; payload = refl; name = refl; address = l }
 
   goes_there : (r : Run) (x : ℕ) (bytes : List ℕ) → Contains (goes_to r x bytes).blocks (block_of (data_content r x bytes))
   unfolding goes_to
@@ -145,12 +129,8 @@ module _ (H : List ℕ → Type 0) where
         kept_new r text old (i + 1) n (omega arith) h (λ c k. hashed c (Contains-append_right first later (block_of c) k)),
       )
 
-  -- what is written of a checkpoint was hashed
-  abbrev pub IsWrittenOut : ℕ → Texts → ℕ → PayloadTable → Type 0
-  IsWrittenOut cluster texts op old = (c : Content) → Contains (written cluster texts op old) (block_of c) → IsHashedBlock H c
-
   -- its table is one of blocks that were hashed, where the table before was
-  pub table_kept : (cluster : ℕ) (texts : Texts) (op : ℕ) (old : PayloadTable) → FitsPayloads texts → IsTable H old → IsWrittenOut cluster texts op old → IsTable H (table_of cluster texts op old)
+  pub table_kept : (cluster : ℕ) (texts : Texts) (op : ℕ) (old : PayloadTable) → FitsPayloads texts → IsTable H old → IsWrittenOut H cluster texts op old → IsTable H (table_of cluster texts op old)
   unfolding table_of written
   table_kept cluster texts op old fits h hashed =
       let few = fits.sessions in
@@ -164,7 +144,7 @@ module _ (H : List ℕ → Type 0) where
             (λ c i. hashed c (Contains-append_right sessions (keys ++ root) (block_of c) (Contains-append_left keys root (block_of c) i)));
       }
 
-  root_hashed : (cluster : ℕ) (texts : Texts) (op : ℕ) (old : PayloadTable) → IsWrittenOut cluster texts op old → IsHashedBlock H (root_of cluster texts op (table_of cluster texts op old))
+  root_hashed : (cluster : ℕ) (texts : Texts) (op : ℕ) (old : PayloadTable) → IsWrittenOut H cluster texts op old → IsHashedBlock H (root_of cluster texts op (table_of cluster texts op old))
   unfolding written
   root_hashed cluster texts op old hashed =
       let c = root_of cluster texts op (table_of cluster texts op old) in
@@ -173,10 +153,6 @@ module _ (H : List ℕ → Type 0) where
       hashed c (Contains-append_right sessions (keys ++ block_of c ∷ []) (block_of c) (Contains-append_right keys (block_of c ∷ []) (block_of c) (0, omega arith, refl)))
 
 -- ---- what reads under a name
-
--- every block that reads was hashed
-abbrev pub ReadsHashed : (List ℕ → Type 0) → Face → Type 0
-ReadsHashed H f = (name : Name) (c : Content) → named_at f name ≡ Some c → IsHashedBlock H c
 
 front_name : (c : Content) → take 16 (named_bytes (block_header c)) ≡ name_of c.payload
 unfolding named_bytes block_header
@@ -243,7 +219,7 @@ module _ (H : List ℕ → Type 0) (never : NoCollision H) where
           hashed = reads name d.0 d.1;
           payload = d.2;
           name = n.0;
-          fit = record { sum = ap (λ (n : Name). length n.sum.0) (sym n.0) ∙ length-name_of _; address = let l = n.1 in omega arith };
+          address = n.1;
         }
 
     held_kept : (low : ℕ) (ps : List Payload) → HoldsFrom f low ps → AllKept H ps

@@ -1,5 +1,5 @@
 -- What reads of blocks after an effect: a block that is put, or what read before.
-use Rattle.std.proofs.Common.{ℕ, zero, suc, ◌+◌, ◌*◌, ◌≤◌, ◌<◌, ◌≡◌, ◌≢◌, ◌∙◌, ◌⊎◌, inl, inr, arith, refl, sym, ap, subst, Bool, true, false, cond, ltb, List, [], ◌∷◌, ◌++◌, length, get_or, Option, Some, None}
+use Rattle.std.proofs.Common.{ℕ, ◌+◌, ◌≤◌, ◌<◌, ◌≡◌, ◌≢◌, ◌∙◌, ◌⊎◌, inl, inr, arith, refl, sym, ap, subst, Bool, true, false, cond, ltb, List, [], ◌∷◌, ◌++◌, length, Option, Some, None}
 use Rattle.std.specs.Prelude.{⊤, is_some}
 use Rattle.std.specs.List.{AllByRecursion}
 use Rattle.std.specs.Option.{option_and_then}
@@ -27,11 +27,10 @@ use Rattle.vr_grid.proofs.Puts.{block_within, name_fits}
 use Rattle.vr_rules.specs.Lying.{Lying, lying}
 use Rattle.vr_rules.specs.Safe as safe
 use Rattle.vr_rules.specs.Safe.{IsWritten}
-use Rattle.vr_rules.specs.Sectors.{calls_of}
 use Rattle.vr_rules.specs.Steps.{Effect, Write, Rewrite, Save, Mend, Checkpoint, PutBlock, Say}
 use Rattle.vr_rules.proofs.FitDisks.{header_spares, mend_spares, prepare_spares, save_spares}
 use Rattle.vr_agree.proofs.Slots.{together_past}
-use Rattle.vr_replied.proofs.Blocks.{IsHashedBlock, ReadsHashed}
+use Rattle.vr_replied.specs.Hashed.{IsHashedBlock, ReadsHashed}
 
 -- what it hashes was hashed
 abbrev pub Begun : (List ℕ → Type 0) → Effect → Type 0

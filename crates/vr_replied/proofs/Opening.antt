@@ -1,11 +1,10 @@
 -- An opening keeps a value's checkpoint the log's, and loads it.
-use Rattle.std.proofs.Common.{ℕ, ◌+◌, ◌<◌, ◌≡◌, ◌≢◌, ◌∙◌, arith, refl, sym, ap, subst, Bool, true, false, cond, List, [], ◌∷◌, ◌++◌, Option, Some, None}
+use Rattle.std.proofs.Common.{ℕ, ◌+◌, ◌≡◌, ◌≢◌, ◌∙◌, arith, refl, sym, ap, subst, Bool, true, false, cond, List, [], ◌∷◌, ◌++◌, Option, Some, None}
 use Rattle.std.specs.Prelude.{is_some, nat_lt}
 use Rattle.vr_header.specs.declared.header.Header.{Header}
 use Rattle.vr_header.specs.Made.{Whole}
 use Rattle.vr_header.specs.NoCollision.{NoCollision}
 use Rattle.vr_apply.specs.Folds.{empty}
-use Rattle.vr_apply.specs.declared.state.State.{State}
 use Rattle.vr_msg.specs.declared.output.Output.{Output}
 use Rattle.vr_msg.specs.declared.output.Output.TheVariants as output
 use Rattle.vr_super.specs.Copies.{SuperValue}
@@ -16,18 +15,18 @@ use Rattle.vr_recover.specs.declared.readings.Verdict.TheVariants as verdict
 use Rattle.vr_rules.specs.Group.{mended}
 use Rattle.vr_rules.specs.Lying.{Lying, lying}
 use Rattle.vr_rules.specs.Opening.{Slot, announce, blank, clouded, entry_header, going_on, heard_itself, in_next_view, leave_view, mend_slot, mending, old_headers, old_part, part_by, recover_old, recover_op, recover_parts, resuming, rewrite, slot_at, slot_verdict}
-use Rattle.vr_rules.specs.Outputs.{send_to_all, start_line, start_view_change}
-use Rattle.vr_rules.specs.Replica.{Replica, forgetting, is_spent, is_started, last_view, leads, with_part}
+use Rattle.vr_rules.specs.Outputs.{start_line, start_view_change}
+use Rattle.vr_rules.specs.Replica.{Replica, forgetting, is_spent, leads, with_part}
 use Rattle.vr_rules.specs.Steps.{Effect, Write, Rewrite, Save, Mend, Checkpoint, PutBlock, Say, Setting, Word, ◌⨾◌, quiet, change, does, says, by, reading, when, each, after_all, output_of}
 use Rattle.vr_rules.specs.Rules.{put_block, without}
 use Rattle.vr_rules.specs.Words.{apply, checkpoint_at, entry_of, is_loaded, load, loads, save}
 use Rattle.vr_safe.specs.Chains.{Every}
 use Rattle.vr_agree.specs.Answering.{lines}
-use Rattle.vr_replied.proofs.Blocks.{IsTable, ReadsHashed}
+use Rattle.vr_replied.specs.Hashed.{ReadsHashed}
 use Rattle.vr_replied.proofs.Disks.{Begun, IsBeside, beside_hashed}
 use Rattle.vr_replied.proofs.Values.{Core, IsRooted, Rests, Stands, core, state_at}
-use Rattle.vr_replied.proofs.Walk.{AllMay, IsCalm, IsOther, May, MaySay, Steady, Walks, Well, WellAt, then_at, walks_by, walks_change, walks_does, walks_each, walks_if, walks_quiet, walks_reading, walks_save, walks_says, walks_then, walks_when}
-use Rattle.vr_replied.proofs.Words.{Keeps, S, all_others, go_all, go_apply, go_by, go_change, go_then, go_when, load_at, put_at}
+use Rattle.vr_replied.proofs.Walk.{AllMay, IsCalm, IsOther, May, MaySay, Steady, Walks, WellAt, then_at, walks_by, walks_change, walks_does, walks_each, walks_quiet, walks_reading, walks_save, walks_says, walks_then, walks_when}
+use Rattle.vr_replied.proofs.Words.{Keeps, S, go_all, go_apply, go_by, go_change, go_then, go_when, load_at, put_at}
 
 -- before its checkpoint is loaded
 pub record Waits (H : List ℕ → Type 0) (log : List Whole) (k : Core) (d : Lying) : Type 0 where

@@ -1,5 +1,5 @@
 -- The rules keep a replica's checkpoint and state the log's.
-use Rattle.std.proofs.Common.{ℕ, ◌≡◌, ◌≢◌, ◌∙◌, refl, sym, subst, Bool, true, false, cond, List, [], ◌∷◌, Option, Some, None}
+use Rattle.std.proofs.Common.{ℕ, ◌≡◌, ◌≢◌, refl, sym, subst, Bool, true, false, cond, List, [], ◌∷◌, Option, Some, None}
 use Rattle.std.specs.Prelude.{find, is_some, not, ◌==◌, ◌||◌}
 use Rattle.std.specs.List.{list_any}
 use Rattle.std.specs.Option.{option_map_or}
@@ -37,7 +37,7 @@ use Rattle.vr_rules.specs.Replica.{Replica, header_at, is_frozen}
 use Rattle.vr_rules.specs.Rules as rules
 use Rattle.vr_rules.specs.Steps.{Effect, PutBlock, Word, ◌⨾◌, quiet, change, does, by, reading, when}
 use Rattle.vr_rules.specs.Words.{apply, rested, speak}
-use Rattle.vr_replied.proofs.Blocks.{ReadsHashed}
+use Rattle.vr_replied.specs.Hashed.{ReadsHashed}
 use Rattle.vr_replied.proofs.Values.{Stands, core}
 use Rattle.vr_replied.proofs.Walk.{WellAt, then_at}
 use Rattle.vr_replied.proofs.Words.{Keeps, S, go_accept, go_advance, go_again, go_all, go_apply, go_ask, go_by, go_change, go_each, go_enter, go_entry, go_if, go_learn, go_naming, go_quiet, go_reading, go_resend, go_says, go_speak, go_take, go_then, go_try, go_when, go_write, put_at}

@@ -1,5 +1,5 @@
 -- A followed run whose groups the machine's groups stand for gives what its replies ask for.
-use Rattle.std.proofs.Common.{ℕ, ◌≡◌, ◌∙◌, inl, arith, refl, sym, ap, subst, true, List, [], ◌∷◌, length, Option, Some, None}
+use Rattle.std.proofs.Common.{ℕ, ◌≡◌, ◌∙◌, inl, arith, refl, sym, ap, subst, true, List, ◌∷◌, length, Some}
 use Rattle.std.specs.Prelude.{Contains, is_some, slice_get, ◌==◌}
 use Rattle.std.proofs.lemmas.Bool.{and_parts}
 use Rattle.vr_header.specs.Made.{Whole}
@@ -16,13 +16,13 @@ use Rattle.vr_rules.specs.GroupFit.{IsFitMove}
 use Rattle.vr_rules.specs.Lying.{Lying, lying}
 use Rattle.vr_rules.specs.Replica.{Replica}
 use Rattle.vr_rules.specs.Safe.{IsHashed, faces_of}
-use Rattle.vr_rules.specs.Steps.{Effect, PutBlock}
+use Rattle.vr_rules.specs.Steps.{PutBlock}
 use Rattle.vr_protocol.specs.Basics.{In}
 use Rattle.vr_safe.specs.Chains.{Setup}
 use Rattle.vr_run.specs.Bridge.{Bridges}
 use Rattle.vr_agree.specs.Answering.{HasState, PutsWell}
 use Rattle.vr_agree.specs.Followed.{IsFollowed}
-use Rattle.vr_agree.specs.Replied.{IsLogOf, IsReplied, has_loaded}
+use Rattle.vr_agree.specs.Replied.{IsLogOf, has_loaded}
 use Rattle.vr_agree.proofs.Fitting.{fit_at, move_of}
 use Rattle.vr_agree.proofs.Resuming.{on_disk}
 use Rattle.vr_replied.specs.Laws.{RunsReply}

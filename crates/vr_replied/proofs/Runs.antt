@@ -1,12 +1,11 @@
 -- In a run of a group every member's checkpoints, and the states of those that run, are the log's.
-use Rattle.std.proofs.Common.{ℕ, zero, suc, ◌+◌, ◌-◌, ◌<◌, ◌≤◌, ◌≡◌, ◌≢◌, ◌∙◌, ◌⊎◌, inl, inr, arith, refl, sym, ap, subst, Bool, true, false, cond, ◌||◌, List, [], ◌∷◌, ◌++◌, length, take, drop, Option, Some, None}
+use Rattle.std.proofs.Common.{ℕ, zero, suc, ◌+◌, ◌-◌, ◌<◌, ◌≤◌, ◌≡◌, ◌∙◌, ◌⊎◌, inl, inr, arith, refl, sym, ap, subst, Bool, true, false, ◌||◌, List, [], ◌∷◌, ◌++◌, length, take, drop, Some, None}
 use Rattle.std.specs.Prelude.{All, Contains, nat_lt, slice_get, slice_set}
 use Rattle.std.proofs.lemmas.Bool.{cases_lt, le-ltb, lt-ltb, true≢false}
-use Rattle.std.proofs.lemmas.List.{append-nil, take-append-drop, take-append-le}
+use Rattle.std.proofs.lemmas.List.{append-nil, take-append-drop}
 use Rattle.std.proofs.Math.Seq.{take-append-add}
 use Rattle.std.proofs.lemmas.List.Elements.{All-nil, All-cons, All-head, All-tail}
 use Rattle.std.proofs.lemmas.Option.{slice_get_within}
-use Rattle.vr_header.specs.declared.header.Header.{Header}
 use Rattle.vr_header.specs.Bodies.{operation_bytes}
 use Rattle.vr_header.specs.Made.{Whole}
 use Rattle.vr_header.specs.Names.{root_header}
@@ -25,7 +24,6 @@ use Rattle.vr_rules.specs.Laws.{IsEvent}
 use Rattle.vr_rules.specs.Lying.{Lying, lying}
 use Rattle.vr_rules.specs.Opening.{blank, fresh, mending}
 use Rattle.vr_rules.specs.Own.{IsAt}
-use Rattle.vr_rules.specs.Outputs.{start_line}
 use Rattle.vr_rules.specs.Replica.{Replica, is_frozen, is_spent, last_view}
 use Rattle.vr_rules.specs.Rules.{react}
 use Rattle.vr_rules.specs.Safe as safe
@@ -48,15 +46,14 @@ use Rattle.vr_agree.specs.Answering.{one_if}
 use Rattle.vr_agree.specs.Followed.{IsFollowed}
 use Rattle.vr_agree.specs.Ordered.{AreInOrder}
 use Rattle.vr_agree.specs.Replied.{IsLogOf}
-use Rattle.vr_agree.specs.Written.{IsWellRead}
-use Rattle.vr_agree.proofs.Fitting.{arrives, fit_at, good_value, move_of, opening_fit}
+use Rattle.vr_agree.proofs.Fitting.{arrives, fit_at, good_value, opening_fit}
 use Rattle.vr_agree.proofs.Ordering.{come_in_order}
 use Rattle.vr_agree.proofs.Reading.{opening_reads, reads_good}
 use Rattle.vr_agree.proofs.Resuming.{on_disk, resumed_order, said_right}
 use Rattle.vr_agree.proofs.Sets.{get_in, in_contains, in_left, in_right}
 use Rattle.vr_agree.proofs.Slots.{read_or_written}
 use Rattle.vr_agree.proofs.Traces.{every_in}
-use Rattle.vr_replied.proofs.Blocks.{ReadsHashed}
+use Rattle.vr_replied.specs.Hashed.{ReadsHashed}
 use Rattle.vr_replied.proofs.Disks.{Begun}
 use Rattle.vr_replied.proofs.Lines.{lines_may}
 use Rattle.vr_replied.proofs.Members.{Values, bears_front, borne_all, carried_values, cut_values, every_front, kept_values}
@@ -183,7 +180,7 @@ module _ (cluster n : ℕ) (u : Setup) (run : List Played) (x : IsFollowed clust
           let order = (come_in_order lying r d e disks_fit.names own.0.sound event).ordered in
           lines_may cluster n u run x never log is_log t within r.index r.applied d xs (all_front IsFit xs ys (subst (All IsFit) (sym are) step_fits)) (ordered_front r.index r.applied (outputs xs) (outputs ys) (subst (AreInOrder r.index r.applied) said order))
           (λ c j. let i = subst (λ (os : List Output). In (output.Commit c) os) (sym said) (in_left (outputs xs) (outputs ys) (output.Commit c) j) in
-              (step_told c i, reads_good lying d r e disks_fit.lies disks_fit.roots fit.1 own.0.sound own.0.savable own.0.missing event c i))
+          (step_told c i, reads_good lying d r e disks_fit.lies disks_fit.roots fit.1 own.0.sound own.0.savable own.0.missing event c i))
           (λ z i. begun_in z (has z i)) (entries_in d face)
 
       step_well : is_frozen r ≡ false → Stands H log (core r) → WellAt H log (S H never log) (react e) r d
@@ -264,7 +261,7 @@ module _ (cluster n : ℕ) (u : Setup) (run : List Played) (x : IsFollowed clust
           let fits = all_back IsFit xs ys script_fits in
           lines_may cluster n u run x never log is_log t within q.index q.applied (on_disk v d) fs (all_front IsFit fs gs (subst (All IsFit) (sym are) fits)) (ordered_front q.index q.applied (outputs fs) (outputs gs) (subst (AreInOrder q.index q.applied) said order))
           (λ c j. let i = subst (λ (os : List Output). In (output.Commit c) os) (sym said) (in_left (outputs fs) (outputs gs) (output.Commit c) j) in
-              (told_rest c i, opening_reads cluster p.before.n at v d value fit c (said_right xs ys (output.Commit c) i)))
+          (told_rest c i, opening_reads cluster p.before.n at v d value fit c (said_right xs ys (output.Commit c) i)))
           (λ z i. begun_in z (has z i))
           (λ slot e l q. elim (read_or_written xs d (all_front IsFit xs ys script_fits) slot e l q) [
             | inl old ↦ entries_in d face slot e l old

@@ -1,11 +1,10 @@
 -- What a running member has applied is committed by what was sent, before a step and after it; and a reply names its replica and its view.
-use Rattle.std.proofs.Common.{ℕ, ◌≤◌, ◌≡◌, ◌∙◌, refl, sym, ap, subst, arith, List, Some}
+use Rattle.std.proofs.Common.{ℕ, ◌≡◌, ◌∙◌, sym, subst, arith, List, Some}
 use Rattle.std.specs.Prelude.{⊤, slice_get}
 use Rattle.std.proofs.lemmas.List.Elements.{All-contains}
 use Rattle.vr_header.specs.declared.header.Header.{Header}
 use Rattle.vr_msg.specs.declared.event.Event.{Event}
 use Rattle.vr_msg.specs.declared.output.Output.TheVariants as output
-use Rattle.vr_msg.specs.declared.reply.ReplyFields.{ReplyFields}
 use Rattle.vr_rules.specs.Replica.{Replica}
 use Rattle.vr_rules.specs.Lying.{Lying, lying}
 use Rattle.vr_rules.specs.Laws.{Answers, IsPlaced, IsPresentOutput}
@@ -13,7 +12,6 @@ use Rattle.vr_rules.specs.Steps.{outputs}
 use Rattle.vr_rules.specs.Group as group
 use Rattle.vr_rules.specs.Group.{Arrival, IsArrival, Member, Move, Moved, Moves, Played, Runs, Steps, fresh_group, stepped}
 use Rattle.vr_rules.specs.GroupFit.{IsFitArrival, IsFitGroup, IsFitMove}
-use Rattle.vr_protocol.specs.Basics.{In}
 use Rattle.vr_protocol.specs.Group.{Group}
 use Rattle.vr_protocol.specs.Laws.{Backed}
 use Rattle.vr_safe.specs.Chains.{Setup}
@@ -21,7 +19,7 @@ use Rattle.vr_safe.specs.Reflecting.{entries_by}
 use Rattle.vr_safe.specs.Tables.{Fits}
 use Rattle.vr_safe.proofs.Finishing.{counted}
 use Rattle.vr_run.specs.Bridge.{Bridges}
-use Rattle.vr_run.proofs.Bridging.{Begun, begun_of, chain_of, local, mid_of}
+use Rattle.vr_run.proofs.Bridging.{begun_of, chain_of, local, mid_of}
 use Rattle.vr_agree.specs.Followed.{IsFollowed}
 use Rattle.vr_agree.specs.Replied.{IsServed, IsStepped}
 use Rattle.vr_agree.proofs.Fitting.{fit_at, move_of}

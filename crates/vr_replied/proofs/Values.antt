@@ -1,5 +1,5 @@
 -- What a checkpoint's root stands for in a run, and what a replica has of it: the state of the log's first entries.
-use Rattle.std.proofs.Common.{ℕ, zero, suc, ◌+◌, ◌^◌, ◌<◌, ◌≡◌, ◌≢◌, ◌∙◌, arith, refl, sym, ap, subst, List, [], ◌∷◌, take, Option, Some, None}
+use Rattle.std.proofs.Common.{ℕ, zero, suc, ◌+◌, ◌^◌, ◌<◌, ◌≡◌, ◌≢◌, ◌∙◌, arith, refl, sym, ap, subst, List, [], take, Some}
 use Rattle.std.specs.Prelude.{slice_get, Result, Ok, Err}
 use Rattle.vr_header.specs.Made.{Whole}
 use Rattle.vr_header.specs.NoCollision.{NoCollision}
@@ -26,7 +26,8 @@ use Rattle.vr_rules.specs.Replica.{Replica}
 use Rattle.vr_rules.specs.Words.{loaded_state, loads, with_state}
 use Rattle.vr_rules.proofs.FitDisks.{disks_fit}
 use Rattle.vr_worlds.proofs.States.{IsState, state_empty, state_kept, text_of_state}
-use Rattle.vr_replied.proofs.Blocks.{IsTable, IsWrittenOut, ReadsHashed, loads_as}
+use Rattle.vr_replied.specs.Hashed.{IsTable, IsWrittenOut, ReadsHashed}
+use Rattle.vr_replied.proofs.Blocks.{loads_as}
 
 -- ---- the state of a log's first entries
 

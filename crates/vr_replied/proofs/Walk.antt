@@ -1,24 +1,19 @@
 -- Words, and what they leave of a replica whose checkpoint and state are the log's. Of a script each value that is saved has the root of
 -- such a checkpoint, where the effects up to it are so that they may be: what they hash was hashed, and their lines are the log's.
-use Rattle.std.proofs.Common.{ℕ, zero, suc, ◌+◌, ◌<◌, ◌≡◌, ◌≢◌, ◌∙◌, arith, refl, sym, ap, subst, Bool, true, false, cond, List, [], ◌∷◌, ◌++◌, map, Option, Some, None}
-use Rattle.std.specs.Prelude.{⊤, slice_get, nat_lt}
-use Rattle.std.proofs.lemmas.Bool.{ltb-true}
-use Rattle.vr_header.specs.declared.header.Header.{Header}
+use Rattle.std.proofs.Common.{ℕ, zero, suc, ◌+◌, ◌<◌, ◌≡◌, ◌∙◌, arith, refl, sym, ap, subst, Bool, true, false, cond, List, [], ◌∷◌, ◌++◌, map, Some}
+use Rattle.std.specs.Prelude.{⊤, slice_get}
 use Rattle.vr_header.specs.Made.{Whole}
-use Rattle.vr_header.specs.NoCollision.{NoCollision}
 use Rattle.vr_msg.specs.declared.output.Output.{Output}
 use Rattle.vr_msg.specs.declared.output.Output.TheVariants as output
 use Rattle.vr_rings.specs.Slots.{IsWhole}
-use Rattle.vr_ckpt.specs.declared.table.PayloadTable.{PayloadTable}
 use Rattle.vr_rules.specs.Replica.{Replica}
-use Rattle.vr_rules.specs.Commitment.{is_line_of}
 use Rattle.vr_rules.specs.Lying.{Lying, lying}
 use Rattle.vr_rules.specs.Steps.{Effect, Write, Rewrite, Save, Mend, Checkpoint, PutBlock, Say, Setting, Step, Word, ◌⨾◌, quiet, change, does, says, by, naming, reading, when, times, each, output_of, outputs, after_all}
 use Rattle.vr_rules.specs.Words.{save, saves, value_of, with_saved}
 use Rattle.vr_rules.proofs.Halves.{after_both}
 use Rattle.vr_rules.proofs.SendsScripts.{outputs_append}
 use Rattle.vr_safe.specs.Chains.{Every}
-use Rattle.vr_agree.specs.Answering.{one_if, lines}
+use Rattle.vr_agree.specs.Answering.{lines}
 use Rattle.vr_agree.proofs.Words.{lines_append}
 use Rattle.vr_replied.proofs.Disks.{Begun, IsBeside}
 use Rattle.vr_replied.proofs.Values.{Core, IsRooted, IsRootOf, core}

@@ -1,6 +1,6 @@
 -- The words of which rules are made keep a replica's checkpoint and state the log's.
-use Rattle.std.proofs.Common.{ℕ, zero, suc, ◌+◌, ◌<◌, ◌≡◌, ◌≢◌, ◌∙◌, inl, inr, arith, refl, sym, ap, subst, Bool, true, false, cond, eqb, ltb, ◌&&◌, List, [], ◌∷◌, ◌++◌, ◌%◌, ◌-◌, length, map, Option, Some, None}
-use Rattle.std.specs.Prelude.{⊤, is_some, nat_lt, not, slice_get}
+use Rattle.std.proofs.Common.{ℕ, suc, ◌+◌, ◌<◌, ◌≡◌, ◌≢◌, ◌∙◌, inl, inr, arith, refl, sym, ap, subst, Bool, true, false, cond, eqb, ◌&&◌, List, [], ◌∷◌, ◌++◌, ◌%◌, ◌-◌, length, map, Option, Some, None}
+use Rattle.std.specs.Prelude.{is_some, nat_lt, slice_get}
 use Rattle.std.specs.Option.{option_and_then}
 use Rattle.std.proofs.lemmas.Bool.{and_parts, cases_lt, eq-eqb, eqb-true, le-ltb, lt-ltb, true≢false}
 use Rattle.std.proofs.lemmas.List.{nil_from_length}
@@ -19,7 +19,6 @@ use Rattle.vr_msg.specs.declared.choice.Choice.{Choice}
 use Rattle.vr_msg.specs.declared.choice.Choice.TheVariants.{Ends, WaitsAt, TooFew}
 use Rattle.vr_msg.specs.declared.frame.Frame.{Frame}
 use Rattle.vr_msg.specs.declared.output.Output.{Output}
-use Rattle.vr_msg.specs.declared.output.Output.TheVariants as output
 use Rattle.vr_msg.specs.declared.statement.Statement.{Statement}
 use Rattle.vr_rings.specs.Slots.{IsWhole}
 use Rattle.vr_grid.specs.Blocks.{block_name, named}
@@ -31,16 +30,17 @@ use Rattle.vr_rules.specs.Outputs.{applied_reply, asker_of, commit_line, kind_of
 use Rattle.vr_rules.specs.Replica.{Replica, forgetting, leads, part_at, with_part}
 use Rattle.vr_rules.specs.Rules.{put_block, without}
 use Rattle.vr_rules.specs.Safe as safe
-use Rattle.vr_rules.specs.Steps.{Effect, Checkpoint, PutBlock, Say, Setting, Step, Word, ◌⨾◌, quiet, change, does, says, by, naming, reading, when, times, each, outputs, after_all}
-use Rattle.vr_rules.specs.Words.{Log, advance, advanced, accept, applied, apply, apply_entry, apply_next, ask, ask_for, ask_peer, begin_view, checkpoint_at, checkpoint_of, checkpoints, decided, enter, entered, entry_of, is_checkpoint, is_loaded, learn, load, loads, lost, make_checkpoint, obey_choice, or_lost, prepare_again, resend, save, speak, stated, stored, take, taken, try, try_log, with_checkpoint, with_entry, with_entry_at, write}
+use Rattle.vr_rules.specs.Steps.{Effect, PutBlock, Say, Setting, Word, ◌⨾◌, quiet, change, does, says, by, naming, reading, when, each, outputs, after_all}
+use Rattle.vr_rules.specs.Words.{Log, advance, advanced, accept, applied, apply, apply_entry, apply_next, ask, ask_for, ask_peer, begin_view, checkpoint_at, checkpoints, decided, enter, entered, entry_of, is_checkpoint, is_loaded, learn, load, loads, lost, make_checkpoint, obey_choice, or_lost, prepare_again, resend, save, speak, stated, stored, take, taken, try, try_log, with_checkpoint, with_entry, with_entry_at, write}
 use Rattle.vr_safe.specs.Chains.{Every}
 use Rattle.vr_safe.proofs.Repairs.{every_mapped}
-use Rattle.vr_agree.specs.Answering.{one_if, lines}
+use Rattle.vr_agree.specs.Answering.{lines}
 use Rattle.vr_agree.proofs.Answers.{loads_place}
-use Rattle.vr_replied.proofs.Blocks.{IsWrittenOut, ReadsHashed, table_kept}
+use Rattle.vr_replied.specs.Hashed.{IsWrittenOut, ReadsHashed}
+use Rattle.vr_replied.proofs.Blocks.{table_kept}
 use Rattle.vr_replied.proofs.Disks.{Begun, put_hashed}
-use Rattle.vr_replied.proofs.Values.{Core, IsRootOf, IsSettled, Rests, Stands, core, loads_stand, state_at, texts_fit}
-use Rattle.vr_replied.proofs.Walk.{AllMay, Bears, IsBorne, IsCalm, IsOther, Left, May, Steady, Walks, Well, WellAt, all_lines, calm_bears, calm_well, said_borne, said_calm, then_at, walks_by, walks_change, walks_does, walks_each, walks_if, walks_naming, walks_quiet, walks_reading, walks_save, walks_says, walks_then, walks_times, walks_when}
+use Rattle.vr_replied.proofs.Values.{Core, IsSettled, Rests, Stands, core, loads_stand, state_at, texts_fit}
+use Rattle.vr_replied.proofs.Walk.{AllMay, Bears, IsBorne, IsCalm, IsOther, May, Steady, Walks, Well, WellAt, all_lines, calm_bears, said_borne, said_calm, then_at, walks_by, walks_change, walks_does, walks_each, walks_if, walks_naming, walks_quiet, walks_reading, walks_save, walks_says, walks_then, walks_times, walks_when}
 
 pub all_others : (message : Replica → Frame) (r : Replica) → Every IsOther (send_to_all message r)
 unfolding send_to_all
