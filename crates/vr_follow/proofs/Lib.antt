@@ -1,4 +1,3 @@
 pub mod Silence
 pub mod Saying
 pub mod Following
-pub mod Serving

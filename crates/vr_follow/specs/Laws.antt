@@ -1,11 +1,9 @@
 -- Every run of a group that was just made is followed by the machine.
 use Rattle.std.specs.Prelude.{ℕ, ◌≡◌, List, slice_get, Some}
 use Rattle.vr_rules.specs.Group.{Played}
-use Rattle.vr_rules.specs.Safe.{Safe}
 use Rattle.vr_safe.specs.Chains.{Setup}
 use Rattle.vr_run.specs.Bridge.{Bridges}
 use Rattle.vr_agree.specs.Followed.{IsFitRun, IsFollowed}
-use Rattle.vr_agree.specs.Replied.{IsReplied}
 
 -- a run that is followed, with the machine's group standing for the group before each move
 pub record FollowsIt (cluster n : ℕ) (run : List Played) : Type 0 where
@@ -15,7 +13,3 @@ pub record FollowsIt (cluster n : ℕ) (run : List Played) : Type 0 where
 
 abbrev pub FreshRunsAreFollowed : Type 0
 FreshRunsAreFollowed = (cluster n : ℕ) (run : List Played) → IsFitRun cluster n run → FollowsIt cluster n run
-
--- what its replies rest on is asked for
-abbrev pub RepliedRunsAreSafe : Type 0
-RepliedRunsAreSafe = (cluster n : ℕ) (run : List Played) → IsFitRun cluster n run → ((x : FollowsIt cluster n run) → IsReplied cluster n x.setup run x.followed) → Safe cluster n run

@@ -2,14 +2,9 @@
 //! statement, and it does nothing.
 #![tactic(auto)]
 
-ghost use Rattle.vr_follow.specs.Laws.{FreshRunsAreFollowed, RepliedRunsAreSafe};
+ghost use Rattle.vr_follow.specs.Laws.{FreshRunsAreFollowed};
 
 /// Each run of a group that was just made is followed: move by move, what is put out is so in the machine.
 pub fn fresh_runs_are_followed()
     ensures { FreshRunsAreFollowed }
-{}
-
-/// So such a run is safe, where its replies rest on the log.
-pub fn replied_runs_are_safe()
-    ensures { RepliedRunsAreSafe }
 {}

@@ -52,7 +52,7 @@ front_sound b h f = sound b (no_fault b h f.reads)
 pub front_version : (b : List ℕ) (h : Header) → Fronts b h → get_or b 110 0 ≡ 1
 front_version b h f = (front_sound b h f).version
 
-turned_at : (b : List ℕ) (i : ℕ) → IsContent b → i < 512 → get_or (damaged b) i 0 ≡ 255 - get_or b i 0
+pub turned_at : (b : List ℕ) (i : ℕ) → IsContent b → i < 512 → get_or (damaged b) i 0 ≡ 255 - get_or b i 0
 turned_at b i c l = let n = c.size in let each = c.each i in get_or-map (λ b. bit_xor b 255) b i 0 0 (omega (arith, n, l)) ∙ byte_turned (get_or b i 0) each
 
 pub turned_version : (b : List ℕ) (h : Header) → IsContent b → Fronts (damaged b) h → get_or b 110 0 ≡ 254

@@ -41,3 +41,12 @@ pub record IsSealed (made : List Header) (bytes : List ℕ) : Type 0 where
   pub content : IsContent bytes
   pub front : (h : Header) → Fronts bytes h → In h made
   pub turned : (h : Header) → Fronts (damaged bytes) h → In h made
+
+-- no header of an entry begins these bytes, nor once each of their bits is turned
+pub record IsHeadless (bytes : List ℕ) : Type 0 where
+  pub front : (h : Header) → Fronts bytes h → ⊥
+  pub turned : (h : Header) → Fronts (damaged bytes) h → ⊥
+
+abbrev pub PutsHeadless : Call → Type 0
+PutsHeadless (Write i bytes) = IsHeadless bytes
+PutsHeadless Sync = ⊤

@@ -18,10 +18,10 @@ use Rattle.vr_protocol.specs.Basics.{In}
 use Rattle.vr_worlds.specs.Beside.{begun_before}
 use Rattle.vr_worlds.specs.Stocks.{WritesBlocks}
 use Rattle.vr_worlds.specs.Worlds.{begun_by}
-use Rattle.vr_seals.specs.Seals.{IsSealed}
+use Rattle.vr_seals.specs.Seals.{IsSealed, PutsHeadless}
 use Rattle.vr_seals.proofs.Turning.{sealed_more}
 use Rattle.vr_unforged.specs.Bridged.{AreNamed, IsSealedBlock}
-use Rattle.vr_unforged.specs.Schedules.{ChecksHeadless, IsHeadless, PutsHeadless}
+use Rattle.vr_unforged.specs.Schedules.{ChecksHeadless}
 use Rattle.vr_unforged.proofs.Scripts.{AreSealed, Seals}
 use Rattle.vr_unforged.proofs.Values.{SavesNamed, get_left, in_left, in_right}
 

@@ -128,7 +128,7 @@ unfolding blank first_of
 leads_first = refl
 
 tick_plain : (d : Lying) → AllByRecursion ChecksHeadless (rules.react event.Tick lying first d).script
-unfolding rules.react rules.on_tick by
+unfolding rules.react rules.on_tick by first_of blank
 tick_plain d = (n_when (not (is_frozen first)) (rules.obey_tick (first_of (tick_table first))) (subst (λ (x : Rule). Checkless (rules.obey_tick x)) (sym leads_first) n_primary)).each first d
 
 tick_begun : AllByRecursion ChecksHeadless (begun_in start (Ticks 0))

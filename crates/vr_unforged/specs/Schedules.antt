@@ -1,7 +1,6 @@
 -- What is asked of a schedule: its lines, and that names tell texts apart.
 use Rattle.std.specs.Prelude.{ℕ, ◌≡◌, ◌⊎◌, ⊤, List, [], ◌∷◌, slice_get, Some}
 use Rattle.std.specs.List.{AllByRecursion}
-use Rattle.vr_disk.specs.DiskState.{Call, Write, Sync, damaged}
 use Rattle.vr_header.specs.declared.header.Header.{Header}
 use Rattle.vr_header.specs.NoCollision.{NoCollision}
 use Rattle.vr_msg.specs.declared.output.Sent.{Sent}
@@ -11,7 +10,7 @@ use Rattle.vr_rules.specs.Lying.{Lying, hazards}
 use Rattle.vr_rules.specs.World.{World, Host, Happening, happens}
 use Rattle.vr_worlds.specs.Stocks.{IsGiven}
 use Rattle.vr_worlds.specs.Worlds.{IsHashedAt, IsLine, begun_in}
-use Rattle.vr_seals.specs.Seals.{Fronts, HasSectors, IsSealed}
+use Rattle.vr_seals.specs.Seals.{HasSectors, IsSealed, PutsHeadless}
 use Rattle.vr_unforged.specs.Bridged.{IsSealedBlock}
 
 -- ---- a world none of whose sectors is forged
@@ -27,15 +26,6 @@ pub record IsSealedWorld (w : World Lying) (made : List Header) : Type 0 where
 abbrev pub IsHashed : World Lying → List Happening → List ℕ → Type 0
 IsHashed w [] bytes = ⊥
 IsHashed w (x ∷ xs) bytes = IsHashedAt w x bytes ⊎ IsHashed (happens hazards w x).world xs bytes
-
--- no header of an entry begins these bytes, nor once each of their bits is turned
-pub record IsHeadless (bytes : List ℕ) : Type 0 where
-  pub front : (h : Header) → Fronts bytes h → ⊥
-  pub turned : (h : Header) → Fronts (damaged bytes) h → ⊥
-
-abbrev pub PutsHeadless : Call → Type 0
-PutsHeadless (Write i bytes) = IsHeadless bytes
-PutsHeadless Sync = ⊤
 
 -- the sectors of a checkpoint
 abbrev pub ChecksHeadless : Effect → Type 0

@@ -1,6 +1,0 @@
-use Rattle.vr_agree.proofs.Truth.{safe}
-use Rattle.vr_follow.proofs.Following.{follows_it}
-use Rattle.vr_follow.proofs.replied_runs_are_safe.Goals as goal
-
-pub returns : goal.returns
-returns _ = λ cluster n run fit replied. let x = follows_it cluster n run fit in safe cluster n x.setup run x.followed (replied x)
