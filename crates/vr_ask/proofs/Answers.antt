@@ -1,13 +1,11 @@
 -- One ask, and what becomes of its answer.
-use Rattle.std.proofs.Common.{◌≡◌, ◌≤◌, ◌⊎◌, ℕ, List, [], Option, Some, None, Result, Ok, Err, refl, inl, inr, arith, subst, sym}
+use Rattle.std.proofs.Common.{◌≡◌, ◌⊎◌, ℕ, List, [], Option, Result, Ok, Err, refl, inl, inr, subst, sym}
 use Rattle.std.specs.Io.KnownBytes.{Appends}
 use Rattle.std.proofs.KnownBytes.{Appends-nil}
-use Rattle.vr_ask.specs.Asking.{Answers, Client, EndsWith, Exchanges, Faults, HasNone, IsAnswered, IsCutOff, IsLost, IsUntried, KeepsSession, PutsAnswer, Stand, WritesAnswer, request_of, status_of}
+use Rattle.vr_ask.specs.Asking.{Answers, Client, EndsWith, Exchanges, Faults, KeepsSession, PutsAnswer, Stand, WritesAnswer, request_of, status_of}
 use Rattle.vr_ask.specs.Text.{answer_text}
-use Rattle.vr_base.specs.Causes.{Rose}
 use Rattle.vr_client.specs.Asking.{AskCause, IsAsked, IsUnasked, ask_of}
 use Rattle.vr_client.specs.declared.answer.Answer.{Answer}
-use Rattle.vr_client.specs.declared.answer.Answer.TheVariants as answer
 use Rattle.vr_client.specs.declared.answer.AskFault.{AskFault}
 use Rattle.vr_client.specs.declared.answer.AskFault.TheVariants as fault
 use Rattle.vr_edge.specs.Told.{AppendsFront}

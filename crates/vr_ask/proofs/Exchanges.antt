@@ -1,21 +1,18 @@
 -- The lines of a source, one exchange after the other.
-use Rattle.std.proofs.Common.{◌≡◌, ◌≤◌, ◌<◌, ◌⊎◌, ◌+◌, ◌∙◌, ℕ, List, [], ◌∷◌, ◌++◌, length, Option, Some, None, Result, Ok, Err, refl, ap, sym, subst, inl, inr, arith}
+use Rattle.std.proofs.Common.{◌≡◌, ◌≤◌, ◌<◌, ◌⊎◌, ◌+◌, ℕ, List, [], ◌∷◌, ◌++◌, length, Option, Some, None, Result, Ok, Err, refl, sym, subst, inl, inr, arith}
 use Rattle.std.specs.Prelude.{true, false, option_and_then}
 use Rattle.std.proofs.lemmas.Grind.{common_steps}
-use Rattle.vr_ask.specs.Asking.{Client, EndsWith, Exchanges, Faults, IsAnswered, Stand}
+use Rattle.vr_ask.specs.Asking.{Client, EndsWith, Exchanges, Faults, Stand}
 use Rattle.vr_ask.specs.Run.{AreExchanged, CountsLine, EndsAt, EndsLines, Exchange, Hears, IsExchanged, Judges, Reading, ReadsLine, StopsAt, Takes, count_after, limit}
 use Rattle.vr_ask.specs.Stops.{stop_status}
-use Rattle.vr_ask.specs.Text.{longest, operation_of, unless_register}
-use Rattle.vr_client.specs.declared.answer.Answer.TheVariants as answer
+use Rattle.vr_ask.specs.Text.{operation_of, unless_register}
 use Rattle.vr_header.specs.declared.operation.Operation.{Operation}
 use Rattle.vr_header.specs.declared.operation.Operation.TheVariants.{Register, Put, Get, Delete}
 use Rattle.vr_header.specs.Made.{is_register}
-use Rattle.vr_msg.specs.declared.reply.Answered.{Answered}
-use Rattle.vr_reader.specs.Finding.{Breaks, FindsLine, LineCause}
+use Rattle.vr_reader.specs.Finding.{Breaks, LineCause}
 use Rattle.vr_reader.specs.declared.fault.LineStop.{LineStop}
 use Rattle.vr_reader.specs.declared.fault.LineStop.TheVariants as stop
 use Rattle.vr_reader.specs.declared.next.Next.{Next}
-use Rattle.vr_reader.specs.declared.next.Next.TheVariants as next
 use Rattle.vr_sched.specs.Grammar.{operation_words}
 use Rattle.vr_sched.specs.Words.{words_of}
 use Rattle.vr_status.specs.declared.status.Status.{Status}

@@ -1,12 +1,10 @@
 -- The whole run of a client.
-use Rattle.std.proofs.Common.{◌≡◌, ◌≢◌, ◌≤◌, ◌⊎◌, ℕ, List, [], Option, Result, Ok, Err, refl, subst, inl, inr, arith}
-use Rattle.vr_ask.specs.Asking.{Client, EndsWith, Exchanges, Faults, IsAnswered, Stand}
-use Rattle.vr_ask.specs.Run.{ClientEnds, EndsAt, EndsLines, EndsRun, Outside, Ran, Reading, StopsAt, outside, reading_of, standing}
+use Rattle.std.proofs.Common.{◌≡◌, ◌≤◌, ◌⊎◌, ℕ, List, [], Option, Ok, Err, refl, subst, inl, inr}
+use Rattle.vr_ask.specs.Asking.{Client, Exchanges, Faults, Stand}
+use Rattle.vr_ask.specs.Run.{ClientEnds, EndsAt, EndsLines, EndsRun, Outside, Reading, StopsAt, outside, reading_of, standing}
 use Rattle.vr_base.specs.Causes.{Rose}
-use Rattle.vr_client.specs.declared.answer.Answer.TheVariants as answer
 use Rattle.vr_edge.specs.Datagrams.{Arrival}
 use Rattle.vr_edge.specs.declared.datagram.Datagram.{Datagram}
-use Rattle.vr_header.specs.declared.operation.Operation.{Operation}
 use Rattle.vr_header.specs.declared.operation.Operation.TheVariants.{Register}
 use Rattle.vr_status.specs.declared.status.Status.{Status}
 use Rattle.vr_status.specs.declared.status.Status.TheVariants as status

@@ -1,5 +1,5 @@
 -- What a client reads and writes.
-use Rattle.std.specs.Prelude.{ℕ, Bool, List, ◌++◌, length, nat_lt, if◌then◌else◌, Option, Some, None, option_and_then, codes}
+use Rattle.std.specs.Prelude.{ℕ, List, ◌++◌, if◌then◌else◌, Option, Some, None, option_and_then, codes}
 use Rattle.vr_client.specs.declared.answer.Answer.{Answer}
 use Rattle.vr_client.specs.declared.answer.Answer.TheVariants.{Outcome, Old, Gap, Evicted}
 use Rattle.vr_header.specs.declared.operation.Operation.{Operation}

@@ -1,8 +1,8 @@
-use Rattle.std.proofs.Common.{sym, subst}
+use Rattle.std.proofs.Common.{subst}
 use Rattle.vr_ask.specs.Run.{Judges, ReadsLine, reading}
 use Rattle.vr_ask.specs.Text.{longest}
 use Rattle.vr_ask.proofs.Exchanges.{heard}
-use Rattle.vr_reader.specs.Finding.{FindsLine, rest}
+use Rattle.vr_reader.specs.Finding.{FindsLine}
 use Rattle.vr_ask.proofs.lines.next_operation.Goals as goal
 
 pub returns-in-Ok-Line-clause-heard : goal.returns-in-Ok-Line-clause-heard
