@@ -1,13 +1,12 @@
-//! Replays a schedule from standard input.
+//! The program over the real outside: standard input and output, a file, UDP and the system's clock.
 #![tactic(auto)]
 
 use std::alloc::AllocError;
 use std::io::ErrorKind;
 use std::process::ExitCode;
-use vr_disk::NoDisk;
-use vr_edge::{LinkRoom, LinkScript, MemClock, MemLink};
-use vr_real::{StdSink, StdSource};
-use vr_top::{Status, code, run, status_line};
+use vr_program::run;
+use vr_real::{FileDisk, RealClock, StdSink, StdSource, UdpLink};
+use vr_status::{Status, code, status_line};
 
 /// The words after the program's name, `None` where one of them is no text.
 fn words(rt: &HostRuntime) -> Result<Option<Vec<String>>, AllocError> {
@@ -18,26 +17,49 @@ fn words(rt: &HostRuntime) -> Result<Option<Vec<String>>, AllocError> {
     }
 }
 
+/// The status of a replay.
+fn status_of(status: vr_top::Status) -> Status {
+    match status {
+        vr_top::Status::Done => Status::Done,
+        vr_top::Status::Usage => Status::Usage,
+        vr_top::Status::Refused(line) => Status::Refused(line),
+        vr_top::Status::ReadFault => Status::ReadFault,
+        vr_top::Status::WriteFault => Status::WriteFault,
+        vr_top::Status::NoMemory => Status::NoMemory,
+    }
+}
+
 /// Makes the objects of the outside, and runs over them.
 fn run_outside(rt: &HostRuntime) -> Result<Status, AllocError> {
     let Some(words) = words(rt)? else {
         return Ok(Status::Usage);
     };
     let alloc = rt.alloc();
-    let no_room = LinkRoom {
-        datagrams: 0,
-        bytes: 0,
-    };
-    let mut link = MemLink::new(alloc, LinkScript::quiet(alloc), no_room)?;
-    Ok(run(
+    let mut source = StdSource::new(rt.stdin());
+    let mut sink = StdSink::new(rt.stdout());
+    let mut disk = FileDisk::new(rt);
+    let mut link = UdpLink::new(alloc, rt)?;
+    let mut clock = RealClock::new(rt);
+    match run(
         alloc,
         &words,
-        &mut StdSource::new(rt.stdin()),
-        &mut StdSink::new(rt.stdout()),
-        &mut NoDisk::new(),
+        &mut source,
+        &mut sink,
+        &mut disk,
         &mut link,
-        &mut MemClock::new(Vec::new(alloc)),
-    ))
+        &mut clock,
+    ) {
+        Some(status) => Ok(status),
+        None => Ok(status_of(vr_top::run(
+            alloc,
+            &words,
+            &mut source,
+            &mut sink,
+            &mut disk,
+            &mut link,
+            &mut clock,
+        ))),
+    }
 }
 
 fn main(rt: HostRuntime) -> ExitCode {

@@ -1,0 +1,113 @@
+#!/usr/bin/env bash
+# Measures a group of three members of the built program (crates/vr_app/out/vr_app, or PROGRAM) on loopback, each with a file in FOLDER, beside
+# the floor of the rules on this machine in the same run: three members of a small C program that make the same calls with no protocol between
+# them (bench/node/floor.c). For 1, 2, 4 and 8 clients, each with one put of 100 bytes after the other: puts a second, and of one put the median,
+# the 99th of 100 and the mean. Then system calls a put, processor time a put, an idle group's, and the pause when the primary is killed.
+#   bench/node.sh [FOLDER [PUTS]]     FOLDER on the disk that is to be measured (a new one in /tmp without it), PUTS a client (2000)
+# It ends with status 1 where one client's mean is above twice the floor's. Needs bash, awk, a C compiler, and strace for the system calls.
+# Where other work goes on, run all of it at real-time priority (chrt -f 10 bench/node.sh): else a sync's end waits for time slices.
+set -u
+cd "$(dirname "$0")/.." || exit 2
+program=${PROGRAM:-$PWD/crates/vr_app/out/vr_app}
+[ -x "$program" ] || { echo "no program: (cd crates/vr_app && rt run -- replay < /dev/null) makes $program" >&2; exit 2; }
+folder=$(mktemp -d "${1:-/tmp}/node.XXXXXX") || exit 2
+puts=${2:-2000}
+port=$((21000 + ($$ * 7) % 8000))
+addresses="127.0.0.1:$port 127.0.0.1:$((port + 1)) 127.0.0.1:$((port + 2))"
+members=()
+stop() { [ ${#members[@]} -eq 0 ] || { kill "${members[@]}"; wait "${members[@]}"; } 2> /dev/null; members=(); }
+trap 'stop; rm -rf "$folder"' EXIT
+trap 'exit 130' INT TERM
+cc -O2 -o "$folder/floor" bench/node/floor.c && cc -O2 -o "$folder/stamp" bench/node/stamp.c || exit 2
+value=$(printf 'v%.0s' $(seq 100))
+
+echo "machine: $(nproc) processors, load $(cut -d ' ' -f 1-3 /proc/loadavg), $(df --output=fstype "$folder" | tail -n 1) on $(df --output=source "$folder" | tail -n 1), kernel $(uname -r)"
+
+# Median, 99th of 100 and mean of times, one a line.
+times() { sort -n "$@" | awk '{ t[NR] = $1; sum += $1 } END { if (NR) printf "%.0f %.0f %.0f\n", t[int((NR + 1) / 2)], t[int(NR * 0.99 + 0.5)], sum / NR }'; }
+
+# The floor's members end with their input, which is a pipe that is held open.
+floor_members() {
+    local r
+    for r in 0 1 2; do "$folder/floor" member $r "$folder/floor.$r" $port < <(exec sleep 1000) & members+=($!); done
+    sleep 0.5
+}
+
+node_members() {
+    local r
+    for r in 0 1 2; do rm -f "$folder/$r"; "$program" node 5 $r "$folder/$r" 1000000000 $addresses --fresh > /dev/null 2> "$folder/$r.err" & members+=($!); done
+    sleep 1
+}
+
+lines() { awk -v count="$1" -v value="$value" -v client="$2" 'BEGIN { for (i = 0; i < count; i++) print "put c" client "k" i % 10, value }'; }
+
+# Clients side by side, numbered from the first; each one's times go to a file. Prints puts a second, and the times.
+run_clients() {
+    local kind=$1 clients=$2 first=$3 c before after
+    local waits=()
+    rm -f "$folder"/times.*
+    for c in $(seq $clients); do lines $puts $c > "$folder/lines.$c"; done
+    before=${EPOCHREALTIME/./}
+    for c in $(seq $clients); do
+        if [ $kind = floor ]; then "$folder/floor" ask $port $puts > "$folder/times.$c" & waits+=($!)
+        else ("$program" client 5 $((first + c)) 1000000 $addresses < "$folder/lines.$c" | "$folder/stamp" > "$folder/times.$c") & waits+=($!); fi
+    done
+    wait "${waits[@]}"
+    after=${EPOCHREALTIME/./}
+    echo "$((clients * puts * 1000000 / (after - before))) $(times "$folder"/times.*)"
+}
+
+"$folder/floor" sync "$folder/sync" 2000 > "$folder/syncs"
+"$folder/floor" echo $((port + 9)) < <(exec sleep 1000) & members+=($!)
+sleep 0.2
+"$folder/floor" trip $((port + 9)) 5000 > "$folder/trips"
+stop
+echo "512 bytes written and synced: $(times "$folder/syncs" | awk '{ print "median " $1 " us, 99 of 100 " $2 " us" }')"
+echo "round trip of 256 bytes: $(times "$folder/trips" | awk '{ print "median " $1 " us, 99 of 100 " $2 " us" }')"
+
+floor_members
+declare -A floor
+for clients in 1 2 4 8; do floor[$clients]=$(run_clients floor $clients 0); done
+stop
+
+node_members
+worst=0
+printf '%8s | %8s %8s %8s %8s | %8s %8s %8s %8s | %s\n' clients floor/s median '99%' mean group/s median '99%' mean 'mean, and puts a second, to the floor'
+first=100
+for clients in 1 2 4 8; do
+    group=$(run_clients node $clients $first)
+    first=$((first + clients))
+    echo "$clients ${floor[$clients]} $group" | awk '{ printf "%8s | %8s %8s %8s %8s | %8s %8s %8s %8s | %.2f, %.2f\n", $1, $2, $3, $4, $5, $6, $7, $8, $9, $9 / $5, $6 / $2 }'
+    [ $clients != 1 ] || echo "${floor[1]} $group" | awk '{ exit !($8 > 2 * $4) }' && worst=1
+done
+cat "$folder"/[012].err
+
+# Processor time of each member, and system calls, for puts of one client.
+ticks() { local pid; for pid in "${members[@]}"; do awk '{ printf "%d %d ", $14, $15 }' /proc/$pid/stat; done; }
+before=$(ticks)
+run_clients node 1 200 > /dev/null
+after=$(ticks)
+echo "$before $after" | awk -v puts=$puts -v hz="$(getconf CLK_TCK)" '{ for (m = 0; m < 3; m++) printf "member %d: %.0f us of its own and %.0f us of the system a put\n", m, ($(7 + 2 * m) - $(1 + 2 * m)) * 1e6 / hz / puts, ($(8 + 2 * m) - $(2 + 2 * m)) * 1e6 / hz / puts }'
+if command -v strace > /dev/null; then
+    for m in 0 1; do
+        strace -c -f -o "$folder/calls.$m" -p "${members[$m]}" 2> /dev/null & tracer=$!
+        sleep 1
+        run_clients node 1 $((210 + m)) > /dev/null
+        kill -INT $tracer; wait $tracer 2> /dev/null
+        awk -v puts=$puts -v m=$m '/^ *[0-9]/ && $NF != "total" { printf "%s%s %.2f", (seen++ ? ", " : "member " m ", system calls a put: "), $NF, $4 / puts } END { print "" }' "$folder/calls.$m"
+    done
+else echo 'system calls: not measured (no strace)'; fi
+before=$(ticks)
+sleep 10
+after=$(ticks)
+echo "$before $after" | awk -v hz="$(getconf CLK_TCK)" '{ for (i = 1; i <= 6; i++) sum += $(i + 6) - $i; printf "idle: %.2f%% of a processor a member\n", sum / hz / 3 / 10 * 100 }'
+
+# The pause when the primary is killed: the longest time between two answers of a client that goes on asking.
+lines $((puts * 2)) 1 > "$folder/lines.1"
+("$program" client 5 300 1000000 $addresses < "$folder/lines.1" | "$folder/stamp" > "$folder/pause") & client=$!
+sleep 0.5
+kill -KILL "${members[0]}"
+wait $client
+echo "the primary is killed: $(sort -n "$folder/pause" | tail -n 1 | awk '{ printf "%.0f ms", $1 / 1000 }') between two answers"
+command -v etcd > /dev/null || echo 'etcd: not measured (it is not installed)'
+exit $worst

@@ -1,0 +1,84 @@
+-- What a run of the program comes to, by its words.
+use Rattle.std.specs.Prelude.{ℕ, ◌≡◌, ◌≢◌, ◌<◌, ◌⊎◌, ⊤, true, List, length, Option, Some, None}
+use Rattle.vr_ask.specs.Asking as ask
+use Rattle.vr_ask.specs.Run as run
+use Rattle.vr_base.specs.declared.table.Config.{Config}
+use Rattle.vr_disk.specs.DiskState.{Disk}
+use Rattle.vr_edge.specs.Datagrams.{Arrival}
+use Rattle.vr_edge.specs.declared.datagram.Datagram.{Datagram}
+use Rattle.vr_node.specs.Running as node
+use Rattle.vr_serve.specs.Causes as serve
+use Rattle.vr_status.specs.declared.status.Status.{Status}
+use Rattle.vr_status.specs.declared.status.Status.TheVariants.{Usage, NoMemory}
+use Rattle.vr_words.specs.Asked.{Asked, Client, ClientAsked, Node, NodeAsked, Replay, Soak, is_size}
+
+-- what the objects tell that are handed in
+pub record Outside : Type 0 where
+  pub source : Option (List ℕ)
+  pub sink : Option (List ℕ)
+  pub disk : Option Disk
+  pub got : Option (List Arrival)
+  pub sent : Option (List (Option Datagram))
+  pub clock : Option (List ℕ)
+
+abbrev pub outside : Option (List ℕ) → Option (List ℕ) → Option Disk → Option (List Arrival) → Option (List (Option Datagram)) → Option (List ℕ) → Outside
+outside source sink disk got sent clock = record { source = source; sink = sink; disk = disk; got = got; sent = sent; clock = clock }
+
+-- their counts of faults
+pub record Faults : Type 0 where
+  pub source : ℕ
+  pub sink : ℕ
+  pub disk : ℕ
+  pub link : ℕ
+
+abbrev pub faults : ℕ → ℕ → ℕ → ℕ → Faults
+faults source sink disk link = record { source = source; sink = sink; disk = disk; link = link }
+
+-- those that a member has, and those that a client has
+abbrev pub of_member : Outside → node.Outside
+of_member o = node.outside o.disk o.clock o.got o.sink o.sent
+
+abbrev pub of_client : Outside → run.Outside
+of_client o = run.outside o.sent o.got o.sink o.source
+
+abbrev pub counts_of : Faults → serve.Counts
+counts_of f = serve.counts f.disk f.sink f.link
+
+abbrev pub faults_of : Faults → ask.Faults
+faults_of f = ask.faults f.link f.sink
+
+abbrev pub config_of : NodeAsked → Config
+config_of a = record { cluster = a.cluster; replica = a.replica; n = length a.peers }
+
+abbrev pub client_of : ClientAsked → ask.Client
+client_of a = run.client_with a.cluster a.id (length a.peers) a.turns
+
+-- `node ..`: the run of a member, which reads nothing
+pub record Serves (a : NodeAsked) (o o' : Outside) (before now : Faults) (status : Status) : Type 0 where
+  pub ends : node.NodeEnds a.is_fresh (config_of a) a.turns (of_member o) (of_member o') (counts_of before) (counts_of now) status
+  pub unread : o'.source ≡ o.source
+
+-- `client ..`: the run of a client, which has no disk and looks at no clock
+pub record Asks (a : ClientAsked) (o o' : Outside) (before now : Faults) (status : Status) : Type 0 where
+  pub ends : run.ClientEnds (client_of a) (of_client o) (of_client o') (faults_of before) (faults_of now) status
+  pub disk : o'.disk ≡ o.disk
+  pub clock : o'.clock ≡ o.clock
+
+-- What a command line comes to: words that are none of the forms are `usage`, and call nothing; `replay` is left to the caller.
+abbrev pub Comes : Option Asked → Outside → Outside → Faults → Faults → Option Status → Type 0
+Comes None o o' before now result = (result ≡ Some Usage) × (o' ≡ o)
+Comes (Some Replay) o o' before now result = (result ≡ None) × (o' ≡ o)
+Comes (Some (Soak words)) o o' before now result = (result ≡ Some Usage) × (o' ≡ o)
+Comes (Some (Node a)) o o' before now result = (status : Status) × (result ≡ Some status) × Serves a o o' before now status
+Comes (Some (Client a)) o o' before now result = (status : Status) × (result ≡ Some status) × Asks a o o' before now status
+
+-- the same, where memory for the words sufficed
+abbrev pub RunEnds : Option Asked → Outside → Outside → Faults → Faults → Option Status → Type 0
+RunEnds asked o o' before now result = ((result ≡ Some NoMemory) × (o' ≡ o)) ⊎ Comes asked o o' before now result
+
+-- a member is one of its group, which has from 2 to 6; a client isn't 0
+abbrev pub IsGood : Asked → Type 0
+IsGood Replay = ⊤
+IsGood (Soak words) = ⊤
+IsGood (Node a) = (is_size (length a.peers) ≡ true) × (a.replica < length a.peers)
+IsGood (Client a) = (is_size (length a.peers) ≡ true) × (a.id ≢ 0)

@@ -1,0 +1,136 @@
+//! The commands.
+ghost use Rattle.std.specs.Prelude.{◌≡◌, Some, map, string_bytes};
+ghost use Rattle.vr_ask.specs.Asking.{faults as client_faults};
+ghost use Rattle.vr_ask.specs.Run.{ClientEnds, outside as client_outside};
+ghost use Rattle.vr_node.specs.Running.{NodeEnds, outside as member_outside};
+ghost use Rattle.vr_program.specs.Run.{Comes, IsGood, RunEnds, client_of, config_of, faults, outside};
+ghost use Rattle.vr_serve.specs.Causes.{counts};
+ghost use Rattle.vr_words.specs.Asked.{Client, Node, asked, client_says, node_says, says};
+
+use std::alloc::Global;
+use vr_ask::run_client;
+use vr_base::Config;
+use vr_disk::SectorDisk;
+use vr_edge::{Clock, Link, Sink, Source};
+use vr_node::{Role, run_node};
+use vr_status::Status;
+use vr_words::{ClientWords, Command, NodeWords, WordsFault, parse};
+
+/// The role of a member with these words.
+#[tactic(auto, using(crate::proofs::Coming::peers_count))]
+fn role_of(words: NodeWords) -> Role
+    requires { IsGood (Node (node_says words)) }
+    ensures config { result.config ≡ config_of (node_says words) }
+    ensures others { (result.is_fresh ≡ words.is_fresh) × (result.turns ≡ words.turns) }
+    ensures peers { result.peers ≡ words.peers }
+{
+    Role {
+        config: Config {
+            cluster: words.cluster,
+            replica: words.replica,
+            n: words.peers.len() as u8,
+        },
+        is_fresh: words.is_fresh,
+        file: words.file,
+        turns: words.turns,
+        peers: words.peers,
+    }
+}
+
+/// A member serves.
+#[tactic(auto, using(crate::proofs::Coming::size_quorums, crate::proofs::Coming::peers_count))]
+fn serve_role<K: Sink, D: SectorDisk, L: Link, C: Clock>(
+    alloc: Global,
+    words: NodeWords,
+    sink: &mut K,
+    disk: &mut D,
+    link: &mut L,
+    clock: &mut C,
+) -> Status
+    requires { IsGood (Node (node_says words)) }
+    ensures { NodeEnds words.is_fresh (config_of (node_says words)) words.turns
+        (member_outside (D.told disk.old) (C.left clock.old) (L.received link.old) (K.taken sink.old) (L.sent link.old))
+        (member_outside (D.told disk.new) (C.left clock.new) (L.received link.new) (K.taken sink.new) (L.sent link.new))
+        (counts (D.faults disk.old) (K.faults sink.old) (L.faults link.old)) (counts (D.faults disk.new) (K.faults sink.new) (L.faults link.new)) result }
+{
+    run_node(alloc, &role_of(words), disk, link, clock, sink)
+}
+
+/// A client asks.
+#[tactic(auto, using(crate::proofs::Coming::size_bounds, crate::proofs::Coming::peers_count))]
+fn ask_group<S: Source, K: Sink, L: Link>(
+    alloc: Global,
+    words: &ClientWords,
+    source: &mut S,
+    sink: &mut K,
+    link: &mut L,
+) -> Status
+    requires { IsGood (Client (client_says words.now)) }
+    ensures { ClientEnds (client_of (client_says words.now))
+        (client_outside (L.sent link.old) (L.received link.old) (K.taken sink.old) (S.left source.old))
+        (client_outside (L.sent link.new) (L.received link.new) (K.taken sink.new) (S.left source.new))
+        (client_faults (L.faults link.old) (K.faults sink.old)) (client_faults (L.faults link.new) (K.faults sink.new)) result }
+{
+    run_client(
+        alloc,
+        words.cluster,
+        words.id,
+        &words.peers,
+        words.turns,
+        source,
+        sink,
+        link,
+    )
+}
+
+/// Does what a command asks for; `None`: it is `replay`, which the caller does.
+#[tactic(auto, using(crate::proofs::Coming::serves, crate::proofs::Coming::asks))]
+fn obey<S: Source, K: Sink, D: SectorDisk, L: Link, C: Clock>(
+    alloc: Global,
+    command: Command,
+    source: &mut S,
+    sink: &mut K,
+    disk: &mut D,
+    link: &mut L,
+    clock: &mut C,
+) -> Option<Status>
+    requires { IsGood (says command) }
+    ensures { Comes (Some (says command))
+        (outside (S.left source.old) (K.taken sink.old) (D.told disk.old) (L.received link.old) (L.sent link.old) (C.left clock.old))
+        (outside (S.left source.new) (K.taken sink.new) (D.told disk.new) (L.received link.new) (L.sent link.new) (C.left clock.new))
+        (faults (S.faults source.old) (K.faults sink.old) (D.faults disk.old) (L.faults link.old))
+        (faults (S.faults source.new) (K.faults sink.new) (D.faults disk.new) (L.faults link.new)) result }
+{
+    match command {
+        Command::Replay => None,
+        Command::Soak(_) => Some(Status::Usage),
+        Command::Node(words) => Some(serve_role(alloc, words, sink, disk, link, clock)),
+        Command::Client(words) => Some(ask_group(alloc, &words, source, sink, link)),
+    }
+}
+
+/// Does what the words of the command line ask for: `node` serves as a member of a group, `client` asks one. `None`: the words are
+/// `replay`, which is left to the caller, and nothing was called.
+#[tactic(auto, using(crate::proofs::Good::asked_good, crate::proofs::Coming::comes_by, crate::proofs::Coming::comes_none, crate::proofs::Coming::comes_short))]
+pub fn run<S: Source, K: Sink, D: SectorDisk, L: Link, C: Clock>(
+    alloc: Global,
+    words: &Vec<String>,
+    source: &mut S,
+    sink: &mut K,
+    disk: &mut D,
+    link: &mut L,
+    clock: &mut C,
+) -> Option<Status>
+    // Words that are no command line are answered by `usage`, want of memory aside, and call nothing; the others do what they say.
+    ensures ends { RunEnds (asked (map string_bytes words.now.items))
+        (outside (S.left source.old) (K.taken sink.old) (D.told disk.old) (L.received link.old) (L.sent link.old) (C.left clock.old))
+        (outside (S.left source.new) (K.taken sink.new) (D.told disk.new) (L.received link.new) (L.sent link.new) (C.left clock.new))
+        (faults (S.faults source.old) (K.faults sink.old) (D.faults disk.old) (L.faults link.old))
+        (faults (S.faults source.new) (K.faults sink.new) (D.faults disk.new) (L.faults link.new)) result }
+{
+    match parse(alloc, words.as_slice()) {
+        Ok(command) => obey(alloc, command, source, sink, disk, link, clock),
+        Err(WordsFault::Usage) => Some(Status::Usage),
+        Err(WordsFault::NoMemory) => Some(Status::NoMemory),
+    }
+}
