@@ -18,7 +18,7 @@ use Rattle.vr_super.specs.Copies.{SuperValue}
 use Rattle.vr_rules.specs.Commitment.{is_line_of}
 use Rattle.vr_rules.specs.Fit.{IsFit, ReadsWell}
 use Rattle.vr_rules.specs.Group as group
-use Rattle.vr_rules.specs.Group.{Arrival, Group, IsArrival, Member, Move, Moved, Moves, Opens, Played, Run, Runs, carried_out, cut_after, cut_in_two, ended, found, fresh_group, fresh_member, goes, keeps_all, mended, once_mended, opening_script, recovered, resumed, stepped}
+use Rattle.vr_rules.specs.Group.{Arrival, Group, IsArrival, Member, Move, Moved, Moves, Opens, Played, Run, Runs, carried_out, cut_after, cut_in_two, ended, found, fresh_group, fresh_member, goes, keeps_all, mended, once_mended, recovered, resumed, stepped}
 use Rattle.vr_rules.specs.GroupFit.{IsFitArrival, IsFitGroup, IsFitReplica, IsFitValue}
 use Rattle.vr_rules.specs.Laws.{IsEvent}
 use Rattle.vr_rules.specs.Lying.{Lying, lying}

@@ -145,7 +145,7 @@ module _ (H : List ℕ → Type 0) (never : NoCollision H) (cluster : ℕ) (log 
             kept = subst (IsTable H) old h.rests.table;
             written = subst (λ c. IsWrittenOut H c texts op (table_before cluster log op)) own (subst (λ s. IsWrittenOut H r.cluster (texts_of s) op (table_before cluster log op)) same (subst (IsWrittenOut H r.cluster (texts_of r.state) op) old written));
             is = ap (λ t. block_name (root_of r.cluster (texts_of r.state) op t)) made
-            ∙ (ap (λ s. block_name (root_of r.cluster (texts_of s) op (table_made cluster log op))) same ∙ ap (λ c. block_name (root_of c texts op (table_made cluster log op))) own);
+                ∙ (ap (λ s. block_name (root_of r.cluster (texts_of s) op (table_made cluster log op))) same ∙ ap (λ c. block_name (root_of c texts op (table_made cluster log op))) own);
             table = made_table cluster log op h.some due;
           };
           table = table_kept H r.cluster (texts_of r.state) op r.table fits h.rests.table written;
