@@ -4,7 +4,7 @@ use Rattle.std.specs.List.{AllByRecursion}
 use Rattle.vr_header.specs.declared.header.Header.{Header}
 use Rattle.vr_header.specs.NoCollision.{NoCollision}
 use Rattle.vr_msg.specs.declared.output.Sent.{Sent}
-use Rattle.vr_ckpt.specs.Saves.{save_calls}
+use Rattle.vr_ckpt.specs.Saves.{blocks_calls, changed, sessions_run}
 use Rattle.vr_rules.specs.Steps.{Effect, Checkpoint}
 use Rattle.vr_rules.specs.Lying.{Lying, hazards}
 use Rattle.vr_rules.specs.World.{World, Host, Happening, happens}
@@ -27,9 +27,9 @@ abbrev pub IsHashed : World Lying → List Happening → List ℕ → Type 0
 IsHashed w [] bytes = ⊥
 IsHashed w (x ∷ xs) bytes = IsHashedAt w x bytes ⊎ IsHashed (happens hazards w x).world xs bytes
 
--- the sectors of a checkpoint
+-- where a checkpoint is written, no sector of the blocks of its sessions does
 abbrev pub ChecksHeadless : Effect → Type 0
-ChecksHeadless (Checkpoint cluster texts op old) = AllByRecursion PutsHeadless (save_calls cluster texts op old)
+ChecksHeadless (Checkpoint cluster texts op old) = AllByRecursion PutsHeadless (blocks_calls (changed (sessions_run cluster op) texts.sessions old.sessions))
 ChecksHeadless _ = ⊤
 
 abbrev pub AreHeadless : World Lying → List Happening → Type 0
