@@ -1,8 +1,15 @@
 -- What keeps sectors sealed.
-use Rattle.std.specs.Prelude.{ℕ, ◌≡◌, List, length}
+use Rattle.std.specs.Prelude.{ℕ, ◌<◌, ◌≤◌, ◌≡◌, List, ◌++◌, length}
 use Rattle.std.specs.List.{AllByRecursion}
 use Rattle.vr_base.specs.Bytes.{IsBytes}
 use Rattle.vr_disk.specs.DiskState.{Call, Face, IsContent, after_all, cut}
+use Rattle.vr_disk.specs.Stops.{IsCall}
+use Rattle.vr_apply.specs.declared.codec.Texts.{Texts}
+use Rattle.vr_ckpt.specs.Saves.{blocks_calls, changed, save_calls, sessions_run, table_of}
+use Rattle.vr_ckpt.specs.declared.table.Payload.{Payload}
+use Rattle.vr_ckpt.specs.declared.table.PayloadTable.{PayloadTable}
+use Rattle.vr_kv.specs.Kv as kv
+use Rattle.vr_kv.specs.Pairs.{Fits, kv_text}
 use Rattle.vr_header.specs.declared.header.Header.{Header}
 use Rattle.vr_header.specs.Made.{Whole}
 use Rattle.vr_lie.specs.declared.fault.Fault.{Fault}

@@ -53,7 +53,7 @@ lines_stay_unforged w g x u may =
     let by = lines_are_moves w g x u.beside u.fit u.stock (record { line = may.line; names = may.names; unforged = line_unforged w g u.beside u.fit u.stock u.bridged u.sealed x }) in
     let one = by.matched in
     let h = happens hazards w x in
-    let sealed = line_leaves w g u.beside u.fit u.stock u.bridged u.sealed x may.line may.blocks in
+    let sealed = line_leaves w g u.beside u.fit u.stock u.bridged u.sealed x may.line may.sessions in
     (
       by,
       record {
@@ -67,10 +67,10 @@ lines_stay_unforged w g x u may =
 
 -- of the first line, and of those after it
 first_may : (w : World Lying) (x : Happening) (xs : List Happening) → MayAll w (x ∷ xs) → MayHappen w x
-first_may w x xs may = record { line = may.lines.0; names = λ a b p q same. may.names a b (inl p) (inl q) same; blocks = may.blocks.0 }
+first_may w x xs may = record { line = may.lines.0; names = λ a b p q same. may.names a b (inl p) (inl q) same; sessions = may.sessions.0 }
 
 rest_may : (w : World Lying) (x : Happening) (xs : List Happening) → MayAll w (x ∷ xs) → MayAll (happens hazards w x).world xs
-rest_may w x xs may = record { lines = may.lines.1; names = λ a b p q same. may.names a b (inr p) (inr q) same; blocks = may.blocks.1 }
+rest_may w x xs may = record { lines = may.lines.1; names = λ a b p q same. may.names a b (inr p) (inr q) same; sessions = may.sessions.1 }
 
 pub happenings_are_runs : HappeningsAreRuns
 unfolding happen run_outputs
