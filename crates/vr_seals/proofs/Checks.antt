@@ -1,17 +1,14 @@
 -- The sectors of a checkpoint begin with no header of an entry, if those of its sessions don't.
-use Rattle.std.proofs.Common.{ℕ, ◌+◌, ◌*◌, ◌<◌, ◌≤◌, ◌≡◌, arith, refl, sym, ap, ◌∙◌, subst, List, [], ◌∷◌, ◌++◌, length, append_assoc}
+use Rattle.std.proofs.Common.{ℕ, ◌+◌, ◌≡◌, refl, sym, ap, ◌∙◌, subst, List, [], ◌∷◌, ◌++◌, length, append_assoc}
 use Rattle.std.specs.List.{AllByRecursion}
-use Rattle.vr_disk.specs.DiskState.{Call, Sync}
+use Rattle.vr_disk.specs.DiskState.{Sync}
 use Rattle.vr_disk.specs.Stops.{IsCall}
 use Rattle.vr_apply.specs.Texts.{payloads}
-use Rattle.vr_apply.specs.declared.codec.Texts.{Texts}
 use Rattle.vr_grid.specs.Blocks.{block_of}
 use Rattle.vr_grid.specs.Grid.{block_calls}
 use Rattle.vr_grid.specs.declared.block.Block.{Block}
-use Rattle.vr_ckpt.specs.Saves.{blocks_calls, changed, keys_run, root_of, root_payload, save_calls, sessions_run, table_of, written}
-use Rattle.vr_ckpt.specs.declared.table.PayloadTable.{PayloadTable}
-use Rattle.vr_kv.specs.Kv as kv
-use Rattle.vr_kv.specs.Pairs.{Fits, kv_text}
+use Rattle.vr_ckpt.specs.Saves.{blocks_calls, changed, keys_run, root_of, save_calls, sessions_run, table_of, written}
+use Rattle.vr_kv.specs.Pairs.{kv_text}
 use Rattle.vr_seals.specs.Seals.{PutsHeadless}
 use Rattle.vr_seals.proofs.Blocks.{IsLaterMarkless, blocks_headless, calls_left, calls_right, headless_both, keys_markless}
 use Rattle.vr_seals.specs.Laws.{CheckpointsAreHeadless}

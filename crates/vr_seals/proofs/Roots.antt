@@ -1,6 +1,5 @@
 -- No header of an entry begins behind the first sector of a root's block: at the places of the header's zeros, or of its command, there stand an address of the grid or zeros.
-use Rattle.std.proofs.Common.{ℕ, zero, suc, ◌+◌, ◌-◌, ◌*◌, ◌/◌, ◌<◌, ◌≤◌, ◌≡◌, inl, inr, arith, refl, sym, ap, ◌∙◌, subst, List, [], ◌∷◌, ◌++◌, length, drop, get_or, append_assoc}
-use Rattle.std.specs.Prelude.{◌%◌}
+use Rattle.std.proofs.Common.{ℕ, zero, suc, ◌+◌, ◌-◌, ◌*◌, ◌<◌, ◌≤◌, ◌≡◌, inl, inr, arith, refl, sym, ap, ◌∙◌, List, [], ◌∷◌, ◌++◌, length, drop, get_or, append_assoc}
 use Rattle.std.specs.List.{AllByRecursion}
 use Rattle.std.proofs.lemmas.Bool.{cases_lt}
 use Rattle.std.proofs.lemmas.List.{get_or-append_right, get_or-drop, get_or_append_left, get_or_past, length-append}
@@ -12,7 +11,6 @@ use Rattle.vr_ckpt.specs.declared.table.Payload.{Payload}
 use Rattle.vr_ckpt.specs.declared.table.PayloadTable.{PayloadTable}
 use Rattle.vr_seals.specs.Laws.{HasPlace}
 use Rattle.vr_seals.proofs.Blocks.{IsMarkless, later_at}
-use Rattle.vr_seals.proofs.Marks.{Marked}
 
 -- ---- a list of names, 24 bytes each
 

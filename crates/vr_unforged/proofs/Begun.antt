@@ -1,6 +1,6 @@
 -- The effects that are begun of a script are sealed, where each of its kind is.
-use Rattle.std.proofs.Common.{ℕ, zero, suc, ◌+◌, ◌-◌, ◌≤◌, ◌<◌, ◌≡◌, inl, inr, arith, refl, sym, ap, ◌∙◌, subst, Bool, true, false, cond, List, [], ◌∷◌, ◌++◌, length, take, Option, Some, None}
-use Rattle.std.specs.Prelude.{nat_lt, slice_get, ⊤}
+use Rattle.std.proofs.Common.{ℕ, zero, suc, ◌+◌, ◌-◌, ◌≡◌, inl, inr, arith, refl, sym, ap, ◌∙◌, subst, true, false, cond, List, [], ◌∷◌, ◌++◌, length, take, Option, Some, None}
+use Rattle.std.specs.Prelude.{nat_lt, slice_get}
 use Rattle.std.specs.List.{AllByRecursion}
 use Rattle.std.proofs.lemmas.List.{append-nil, length-append, take-append-le}
 use Rattle.std.proofs.lemmas.Option.{slice_get_within}
@@ -8,7 +8,6 @@ use Rattle.vr_disk.specs.DiskState as disk
 use Rattle.vr_disk.specs.DiskState.{Call, Write, Sync, Face, Fuse}
 use Rattle.vr_disk.specs.Stops.{IsCall}
 use Rattle.vr_header.specs.declared.header.Header.{Header}
-use Rattle.vr_header.specs.Made.{Whole}
 use Rattle.vr_super.specs.Copies.{SuperValue}
 use Rattle.vr_rules.specs.Steps.{Effect, Rewrite, Save, Mend, Checkpoint, PutBlock, Say}
 use Rattle.vr_rules.specs.Steps as effect
@@ -16,7 +15,6 @@ use Rattle.vr_rules.specs.Sectors.{calls_of}
 use Rattle.vr_rules.specs.Group.{made_in}
 use Rattle.vr_protocol.specs.Basics.{In}
 use Rattle.vr_worlds.specs.Beside.{begun_before}
-use Rattle.vr_apply.specs.Texts.{texts_of}
 use Rattle.vr_apply.specs.declared.codec.Texts.{Texts}
 use Rattle.vr_ckpt.specs.Saves.{save_calls, table_of}
 use Rattle.vr_ckpt.specs.declared.table.Payload.{Payload}
@@ -27,7 +25,7 @@ use Rattle.vr_worlds.proofs.States.{text_of_state}
 use Rattle.vr_seals.proofs.Checks.{checkpoints_are_headless}
 use Rattle.vr_seals.specs.Laws.{HasPlace}
 use Rattle.vr_worlds.specs.Worlds.{begun_by}
-use Rattle.vr_seals.specs.Seals.{IsSealed, PutsHeadless}
+use Rattle.vr_seals.specs.Seals.{PutsHeadless}
 use Rattle.vr_seals.proofs.Turning.{sealed_more}
 use Rattle.vr_unforged.specs.Bridged.{AreNamed, IsSealedBlock}
 use Rattle.vr_unforged.specs.Schedules.{ChecksHeadless}

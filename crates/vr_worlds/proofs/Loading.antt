@@ -25,7 +25,6 @@ use Rattle.vr_disk.proofs.Together.{together_bytes}
 use Rattle.vr_apply.specs.declared.codec.Texts.{Texts}
 use Rattle.vr_ckpt.specs.declared.table.PayloadTable.{PayloadTable}
 use Rattle.vr_rules.specs.Sectors.{block_in}
-use Rattle.vr_rules.specs.Sound.{IsNameBytes}
 use Rattle.vr_rules.proofs.FitLoads.{given}
 use Rattle.vr_worlds.specs.Stocks.{IsNamed, IsPlaced}
 use Rattle.vr_worlds.proofs.Blocks.{TableNamed}
