@@ -45,7 +45,7 @@ use Rattle.vr_rules.specs.Replica.{Replica, is_frozen, part_at, header_at, head,
 use Rattle.vr_rules.specs.Steps.{Step, Setting, Word, ◌⨾◌, quiet, change, does, says, by, naming, reading, when, each, outputs, after_all, PutBlock}
 use Rattle.vr_rules.specs.Words.{rested, write, accept, enter, apply, advance, learn, is_loaded, load, loads, loaded_state, checkpoint_at, try, speak, resend, ask, prepare_again, with_entry_at}
 use Rattle.vr_rules.specs.Words as word
-use Rattle.vr_rules.specs.Deciding.{Hash, session_answer, request_table, prepare_table, prepare_ok_table, commit_table, start_view_change_table, do_view_change_table, log_of, start_view_table, get_view_table, get_prepare_table, give_prepare_table, get_block_table, is_wanted, give_block_table, tick_table}
+use Rattle.vr_rules.specs.Deciding.{Hash, session_answer, request_table, prepare_table, prepare_ok_table, commit_table, start_view_change_table, do_view_change_table, log_of, start_view_table, get_view_table, get_prepare_table, give_prepare_table, get_block_table, is_from, is_wanted, give_block_table, tick_table}
 use Rattle.vr_rules.specs.Rules.{asker_by, next_entry, make, stored_reply, obey_request, on_request, acknowledge, ask_view, obey_prepare, on_prepare, acknowledged, obey_prepare_ok, on_prepare_ok, obey_commit, on_commit, heard_of, obey_start_view_change, on_start_view_change, with_statement, obey_do_view_change, on_do_view_change, acknowledge_stored, obey_start_view, on_start_view, obey_get_view, on_get_view, obey_get_prepare, on_get_prepare, obey_give_prepare, on_give_prepare, asked_block, block_at, give_read, obey_get_block, on_get_block, without, put_block, put_found, obey_give_block, on_give_block, idler, next_view, obey_tick, on_tick, on_message, on_event, react}
 use Rattle.vr_rules.proofs.Ruling.{by_rows}
 use Rattle.vr_rules.specs.Commitment.{IsReplyOf}
@@ -319,12 +319,17 @@ module _ {F : Type 0} (log : List Whole) (numbers : IsNumbered log) where
   fair_found block p None s r f puts = (fair_quiet log).each s r f
   fair_found block p (Some name) s r f puts = fair_at_then log (put_block name block) apply s r f (fair_put name block s r f (puts name refl)) ((fair_apply log numbers).each s _ _)
 
-  fair_give_block : (g : GiveBlock) (s : Setting F) (r : Replica) (f : F) → PutsWell log s r f (event.Deliver (frame.GiveBlock g)) → FairAt log s r f (on_give_block g)
+  -- what is left where a replica that isn't frozen puts a missing block in its place
+  abbrev PutsFree : Setting F → Replica → F → Event → Type 0
+  PutsFree s r f e =
+      (g : GiveBlock) (name : Name) → e ≡ event.Deliver (frame.GiveBlock g) → is_from g.cluster g.replica r ≡ true → find (is_wanted s.is_block g) r.missing ≡ Some name → HasState log (put_block name g.block s r f).replica
+
+  fair_give_block : (g : GiveBlock) (s : Setting F) (r : Replica) (f : F) → PutsFree s r f (event.Deliver (frame.GiveBlock g)) → FairAt log s r f (on_give_block g)
   unfolding on_give_block reading by
   fair_give_block g s r f puts =
       let idle = (fair_quiet log).each s r f in
       by_rows (λ z. FairAt log s r f (obey_give_block s.is_block g z)) (give_block_table s.is_block g r)
-      (λ e. idle, λ n0. (λ e. fair_found g.block (is_wanted s.is_block g) (find (is_wanted s.is_block g) r.missing) s r f (λ name there. puts g name refl there), λ n1. idle))
+      (λ e. idle, λ n0. (λ e. fair_found g.block (is_wanted s.is_block g) (find (is_wanted s.is_block g) r.missing) s r f (λ name there. puts g name refl (not-false _ n0) there), λ n1. idle))
 
   fair_tick : IsFair {F = F} log on_tick
   unfolding on_tick
@@ -349,7 +354,7 @@ module _ {F : Type 0} (log : List Whole) (numbers : IsNumbered log) where
     of_word : (w : Word F) → IsFair log w → RightAt s r f w
     of_word w h = right w s r f (h.each s r f)
 
-    right_message : (m : Frame) → PutsWell log s r f (event.Deliver m) → RightAt s r f (on_message m)
+    right_message : (m : Frame) → PutsFree s r f (event.Deliver m) → RightAt s r f (on_message m)
     right_message (frame.Request q) puts = right_request s r f within q
     right_message (frame.Reply a) puts = of_word quiet (fair_quiet log)
     right_message (frame.Prepare p) puts = of_word (on_prepare p) (fair_prepare p)
@@ -364,7 +369,7 @@ module _ {F : Type 0} (log : List Whole) (numbers : IsNumbered log) where
     right_message (frame.GetBlock g) puts = of_word (on_get_block g) (fair_get_block g)
     right_message (frame.GiveBlock g) puts = right (on_give_block g) s r f (fair_give_block g s r f puts)
 
-    right_event : (e : Event) → PutsWell log s r f e → RightAt s r f (on_event e)
+    right_event : (e : Event) → PutsFree s r f e → RightAt s r f (on_event e)
     right_event (event.Request q) puts = right_request s r f within q
     right_event (event.Deliver m) puts = right_message m puts
     right_event event.Tick puts = of_word on_tick fair_tick
@@ -373,5 +378,8 @@ module _ {F : Type 0} (log : List Whole) (numbers : IsNumbered log) where
     pub right_react : (e : Event) → PutsWell log s r f e → HasState log r → Lined log r.index r.applied (outputs (react e s r f).script) → Leaves log r false (react e s r f)
     unfolding react by
     right_react e puts =
-        let go : (b : Bool) → RightAt s r f (when b (on_event e)) = elim [ true ↦ right_event e puts | false ↦ of_word quiet (fair_quiet log) ] in
-        go (not (is_frozen r))
+        let go : (b : Bool) → is_frozen r ≡ b → RightAt s r f (when (not b) (on_event e)) = elim [
+          | false ↦ λ free. right_event e (λ g name is from there. puts g name is free from there)
+          | true ↦ λ frozen. of_word quiet (fair_quiet log)
+        ] in
+        go (is_frozen r) refl

@@ -44,7 +44,7 @@ use Rattle.vr_agree.proofs.Back.{back}
 use Rattle.vr_agree.proofs.Log.{in_log, the_log}
 
 -- entries of one header are one, where bodies of one name are
-one_whole : (IsBody : List ℕ → Type 0) → NoCollision IsBody → (d e : Whole) → d.header ≡ e.header → IsGoodEntry d → IsGoodEntry e → IsBody (operation_bytes d.operation) → IsBody (operation_bytes e.operation) → d ≡ e
+pub one_whole : (IsBody : List ℕ → Type 0) → NoCollision IsBody → (d e : Whole) → d.header ≡ e.header → IsGoodEntry d → IsGoodEntry e → IsBody (operation_bytes d.operation) → IsBody (operation_bytes e.operation) → d ≡ e
 one_whole IsBody never d e same gd ge hd he =
     let name = sym gd.body.name ∙ (ap (λ (h : Header). h.body.0) same ∙ ge.body.name) in
     let bytes = never (operation_bytes d.operation) (operation_bytes e.operation) hd he name in

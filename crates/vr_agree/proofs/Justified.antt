@@ -1,6 +1,6 @@
 -- A choose line is of a choice from what was heard, in which a nack quorum denies the next op; and none of those ever vouches for
 -- anything there.
-use Rattle.std.proofs.Common.{ℕ, suc, ◌+◌, ◌<◌, ◌≡◌, ◌∙◌, arith, refl, sym, ap, subst, Bool, true, false, cond, List, length, Option, Some, None, rules}
+use Rattle.std.proofs.Common.{ℕ, suc, ◌+◌, ◌<◌, ◌≡◌, ◌∙◌, arith, refl, sym, ap, subst, Bool, true, false, cond, List, length, Option, Some, None}
 use Rattle.std.specs.Prelude.{slice_get, ◌==◌, not}
 use Rattle.std.specs.Option.{option_map_or}
 use Rattle.std.proofs.lemmas.Bool.{ne_eqb, true≢false}
@@ -24,22 +24,18 @@ use Rattle.vr_rules.proofs.Trying.{log_end_is}
 use Rattle.vr_protocol.specs.Choosing.{Denies, plainly, other, silent}
 use Rattle.vr_protocol.specs.Group.{Group, Vouches}
 use Rattle.vr_protocol.specs.Laws.{CutByNacks}
-use Rattle.vr_protocol.specs.Members as machine
 use Rattle.vr_protocol.specs.Parts.{header, denied}
 use Rattle.vr_protocol.proofs.Laws.{cut_by_nacks}
 use Rattle.vr_safe.specs.Chains.{Setup, statement_told}
 use Rattle.vr_safe.specs.Reflecting.{entries_by, told_of}
 use Rattle.vr_rules.specs.Safe.{IsDenier, IsJustified, all_heard, heard_from, run_outputs}
-use Rattle.vr_agree.specs.Followed.{IsChoiceLine, IsFollowed, told_if}
+use Rattle.vr_safe.proofs.Choosing.{told_some}
+use Rattle.vr_agree.specs.Followed.{IsChoiceLine, IsFollowed}
 use Rattle.vr_agree.proofs.Sets.{set_of}
 use Rattle.vr_agree.proofs.Traces.{chosen_later, last}
 use Rattle.vr_agree.proofs.Forth.{good, vouch_told}
 
 -- ---- the machine's denials are the rules'
-
-told_some : (o : Option Statement) (z : machine.Statement Header) → told_if o ≡ Some z → (t : Statement) × (o ≡ Some t) × (statement_told t ≡ z)
-told_some None z e = absurd cc
-told_some (Some t) z e = (t, refl, search (rules, e))
 
 both_true : (b x y : Bool) → x ≡ true → y ≡ true → cond b x y ≡ true
 both_true true x y a c = a

@@ -45,7 +45,7 @@ fit_back [] ys h = h
 fit_back (x ∷ xs) ys h = fit_back xs ys (All-tail IsFit x (xs ++ ys) h)
 
 -- an opening mends without a line, and reads then what it applies
-opening_reads : (c n i : ℕ) (v : SuperValue) (d : Lying) → IsFitValue c n i v → ReadsWell lying d → (l : Committed) → In (output.Commit l) (outputs (opening_script v d)) → IsWellRead l.entry
+pub opening_reads : (c n i : ℕ) (v : SuperValue) (d : Lying) → IsFitValue c n i v → ReadsWell lying d → (l : Committed) → In (output.Commit l) (outputs (opening_script v d)) → IsWellRead l.entry
 opening_reads c n i v d g k l j =
     let xs = (mended v d).script in
     let ys = (resumed v d).script in

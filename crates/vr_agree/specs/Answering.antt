@@ -1,17 +1,17 @@
 -- What the outputs of a step say of a log: the entries that it applies are the log's, in order, and each reply is the plain sessions'
 -- and machine's over those applied by then.
-use Rattle.std.specs.Prelude.{ℕ, ◌+◌, ◌-◌, ◌≡◌, ⊤, Bool, List, [], ◌∷◌, take, slice_get, Some, if◌then◌else◌}
+use Rattle.std.specs.Prelude.{ℕ, ◌+◌, ◌-◌, ◌≡◌, ⊤, Bool, true, false, List, [], ◌∷◌, take, slice_get, Some, if◌then◌else◌}
 use Rattle.vr_header.specs.Made.{Whole}
 use Rattle.vr_apply.specs.Folds.{state_after}
 use Rattle.vr_msg.specs.declared.output.Output.{Output}
 use Rattle.vr_msg.specs.declared.output.Output.TheVariants as output
-use Rattle.vr_rules.specs.Replica.{Replica}
+use Rattle.vr_rules.specs.Replica.{Replica, is_frozen}
 use Rattle.vr_grid.specs.declared.name.Name.{Name}
 use Rattle.vr_msg.specs.declared.event.Event.{Event}
 use Rattle.vr_msg.specs.declared.event.Event.TheVariants as event
 use Rattle.vr_msg.specs.declared.frame.Frame.TheVariants as frame
 use Rattle.vr_msg.specs.declared.frame.GiveBlock.{GiveBlock}
-use Rattle.vr_rules.specs.Deciding.{is_wanted}
+use Rattle.vr_rules.specs.Deciding.{is_from, is_wanted}
 use Rattle.vr_rules.specs.Rules.{put_block}
 use Rattle.std.specs.List.{find}
 use Rattle.vr_rules.specs.Steps.{Step, Setting, outputs}
@@ -58,6 +58,9 @@ pub record Leaves (log : List Whole) (r : Replica) (b : Bool) (x : Step) : Type 
   pub applied : x.replica.applied ≡ r.applied + lines r.index (outputs x.script)
   pub state : HasState log x.replica
 
--- What is left where an event brings a missing block, and it is put in its place: its last one has the checkpoint loaded anew.
+-- What is left where an event brings a missing block of another replica of the group, and it is put in its place: its last one has the
+-- checkpoint loaded anew.
 abbrev pub PutsWell : {F : Type 0} → List Whole → Setting F → Replica → F → Event → Type 0
-PutsWell log s r f e = (g : GiveBlock) (name : Name) → e ≡ event.Deliver (frame.GiveBlock g) → find (is_wanted s.is_block g) r.missing ≡ Some name → HasState log (put_block name g.block s r f).replica
+PutsWell log s r f e =
+    (g : GiveBlock) (name : Name) → e ≡ event.Deliver (frame.GiveBlock g) → is_frozen r ≡ false → is_from g.cluster g.replica r ≡ true → find (is_wanted s.is_block g) r.missing ≡ Some name
+    → HasState log (put_block name g.block s r f).replica

@@ -1,6 +1,6 @@
 -- What the machine of small moves gives of a run of a group: for each move of the run a chain of the machine's, at whose end all that
 -- was put out is so, and nothing else was sent, made or chosen. It is what a run of the machine gives for what is said of its outputs.
-use Rattle.std.specs.Prelude.{ℕ, suc, ◌^◌, ◌<◌, ◌≤◌, ◌≡◌, ◌⊎◌, ⊤, List, [], length, All, slice_get, Option, Some, None}
+use Rattle.std.specs.Prelude.{ℕ, suc, ◌^◌, ◌<◌, ◌≤◌, ◌≡◌, ◌⊎◌, ⊤, List, [], length, All, slice_get, Some}
 use Rattle.vr_base.specs.Bytes.{name_of}
 use Rattle.vr_header.specs.declared.header.Header.{Header}
 use Rattle.vr_header.specs.Bodies.{IsOperation, operation_bytes}
@@ -15,7 +15,6 @@ use Rattle.vr_msg.specs.declared.output.Chosen.{Chosen}
 use Rattle.vr_msg.specs.declared.output.Output.{Output}
 use Rattle.vr_msg.specs.declared.output.Output.TheVariants as output
 use Rattle.vr_msg.specs.declared.output.Sent.{Sent}
-use Rattle.vr_msg.specs.declared.statement.Statement.{Statement}
 use Rattle.vr_msg.specs.Choice.{choice, named, top_commit, top_view}
 use Rattle.vr_msg.specs.Logs.{IsStatement}
 use Rattle.vr_base.specs.Groups.{quorums_of}
@@ -28,9 +27,9 @@ use Rattle.vr_protocol.specs.Basics.{In}
 use Rattle.vr_protocol.specs.Group.{Group, Made}
 use Rattle.vr_protocol.specs.Laws.{Committed}
 use Rattle.vr_protocol.specs.Members.{Choice, Message}
-use Rattle.vr_protocol.specs.Members as machine
 use Rattle.vr_safe.specs.Reflecting.{entries_by}
-use Rattle.vr_safe.specs.Chains.{Setup, IsReached, WasSent, Every, statement_told}
+use Rattle.vr_safe.specs.Chains.{Setup, IsReached, WasSent, Every}
+use Rattle.vr_safe.specs.Choices.{told_if}
 use Rattle.vr_safe.specs.Finished.{IsNumbered, IsSaid}
 use Rattle.vr_safe.specs.Tables.{Fits}
 use Rattle.vr_rules.specs.Safe.{IsHashed, actor, all_heard, event_of, heard_from}
@@ -61,11 +60,6 @@ pub record IsLineOf (cluster : ℕ) (u : Setup) (run : List Played) (before : Li
   pub view : ℕ
   pub committed : Committed u.quorums (entries_by u.hash u.cluster) before view e.header.op e.header
   pub hashed : IsHashed run (root_header cluster) (operation_bytes e.operation)
-
--- the machine's statement of one that was heard
-abbrev pub told_if : Option Statement → Option (machine.Statement Header)
-told_if None = None
-told_if (Some t) = Some (statement_told t)
 
 -- a choose line is of a choice of the rules from what was heard, and that is one of the machine
 pub record IsChoiceLine (u : Setup) (chosen : List (Choice Header)) (p : Played) (l : Chosen) : Type 0 where

@@ -1,7 +1,8 @@
 //! Acknowledgements are counted: prepare_oks.
-ghost use Rattle.std.specs.Prelude.{◌≡◌, ◌<◌, ◌≤◌, ◌+◌, ◌^◌, ◌&&◌, ◌==◌, nat_le, nat_lt, OnOk};
+ghost use Rattle.std.specs.Prelude.{◌≡◌, ◌<◌, ◌≤◌, ◌+◌, ◌^◌, ◌&&◌, ◌==◌, nat_le, nat_lt, OnOk, true};
 ghost use Rattle.vr_base.specs.Bytes.{name_of};
 ghost use Rattle.vr_journal.specs.Ready.{IsReady};
+ghost use Rattle.vr_repair.specs.Waits.{EndsAtOnce, Waits, passes};
 ghost use Rattle.vr_rules.specs.Deciding.{first_of, is_named, prepare_ok_table};
 ghost use Rattle.vr_rules.specs.declared.rule.Rule.TheVariants.{Counted};
 ghost use Rattle.vr_rules.specs.Replica.{head, leads};
@@ -70,6 +71,7 @@ fn count<D: SectorDisk>(
     requires room { replica.old.saved.fields.sequence + 64 < 2 ^ 64 }
     ensures ready { OnOk result (IsReady replica.new) }
     ensures cause { Caused (D.faults disk.old) (D.faults disk.new) result }
+    ensures at_once { Waits (acknowledged ack.now replica.old) → EndsAtOnce (D.told disk.old) (D.told disk.new) result }
     ensures step { Does (change (acknowledged ack.now) ⨾ advance) replica.old replica.new (D.told disk.old) (D.told disk.new) out.old out.new result }
 {
     replica.add_acker(ack);
@@ -77,7 +79,7 @@ fn count<D: SectorDisk>(
 }
 
 /// A backup has stored an entry. Where that is open in the view that this replica leads it is counted, and the commit number rises as
-/// far as a quorum has stored the entries.
+/// far as a quorum has stored the entries. Where it then waits it makes no call of the disk and takes no memory.
 #[tactic(auto, using(crate::proofs::Counts::rules))]
 pub fn handle_prepare_ok<D: SectorDisk>(
     replica: &mut Replica,
@@ -90,6 +92,8 @@ pub fn handle_prepare_ok<D: SectorDisk>(
     requires room { replica.old.saved.fields.sequence + 64 < 2 ^ 64 }
     ensures ready { OnOk result (IsReady replica.new) }
     ensures cause { Caused (D.faults disk.old) (D.faults disk.new) result }
+    ensures passed { passes (first_of (prepare_ok_table name_of ack.now replica.old)) ≡ true → EndsAtOnce (D.told disk.old) (D.told disk.new) result }
+    ensures at_once { Waits (acknowledged ack.now replica.old) → EndsAtOnce (D.told disk.old) (D.told disk.new) result }
     ensures step { Does (on_prepare_ok ack.now) replica.old replica.new (D.told disk.old) (D.told disk.new) out.old out.new result }
 {
     match decide_prepare_ok(replica, ack) {

@@ -1,9 +1,10 @@
 //! Entries of the primary are stored, and acknowledged: prepares.
-ghost use Rattle.std.specs.Prelude.{◌≡◌, ◌<◌, ◌≤◌, ◌+◌, ◌^◌, ◌&&◌, ◌==◌, nat_lt, OnOk};
+ghost use Rattle.std.specs.Prelude.{◌≡◌, ◌<◌, ◌≤◌, ◌+◌, ◌^◌, ◌&&◌, ◌==◌, nat_lt, OnOk, true};
 ghost use Rattle.vr_base.specs.Bytes.{name_of};
 ghost use Rattle.vr_header.specs.Names.{name_by};
 ghost use Rattle.vr_journal.specs.Ready.{IsReady, MayStore};
 ghost use Rattle.vr_msg.specs.Normal.{same_sum};
+ghost use Rattle.vr_repair.specs.Waits.{EndsAtOnce, passes};
 ghost use Rattle.vr_rules.specs.Deciding.{first_of, is_unknown, prepare_table};
 ghost use Rattle.vr_rules.specs.Replica.{head, head_header, last_view};
 ghost use Rattle.vr_rules.specs.Rules.{acknowledge, ask_view, on_prepare};
@@ -205,6 +206,7 @@ pub fn handle_prepare<D: SectorDisk>(
     requires room { replica.old.saved.fields.sequence + 64 < 2 ^ 64 }
     ensures ready { OnOk result (IsReady replica.new) }
     ensures cause { Caused (D.faults disk.old) (D.faults disk.new) result }
+    ensures passed { passes (first_of (prepare_table name_of prepare.now replica.old)) ≡ true → EndsAtOnce (D.told disk.old) (D.told disk.new) result }
     ensures step { Does (on_prepare prepare.now) replica.old replica.new (D.told disk.old) (D.told disk.new) out.old out.new result }
 {
     let _header = header_of(&prepare.entry);

@@ -1,3 +1,4 @@
 pub mod Laws
 pub mod Reads
 pub mod Repairs
+pub mod Waits

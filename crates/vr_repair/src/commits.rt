@@ -1,5 +1,6 @@
 //! Commit numbers rise.
 ghost use Rattle.std.specs.Prelude.{◌<◌, ◌+◌, ◌^◌, OnOk};
+ghost use Rattle.vr_repair.specs.Waits.{EndsAtOnce, Waits};
 ghost use Rattle.vr_journal.specs.Ready.{IsReady};
 ghost use Rattle.vr_rules.specs.Words.{advance};
 ghost use Rattle.vr_step.specs.Does.{Caused, Does};
@@ -11,8 +12,9 @@ use vr_msg::Outbox;
 use vr_step::Halt;
 
 /// The commit number rises, up to the head, over each op that a replication quorum has acknowledged, the replica itself counted where the
-/// entry is stored; then what is committed is applied.
-#[tactic(auto, using(vr_step::proofs::Stepping::steps, vr_journal::proofs::Memory::window_of, vr_journal::proofs::Repairs::ready_advanced), unfolding(vr_rules::specs::Words::advance))]
+/// entry is stored; then what is committed is applied. Where the next op hasn't its quorum and all that is committed is applied, it makes
+/// no call of the disk and takes no memory.
+#[tactic(auto, using(vr_step::proofs::Stepping::steps, vr_journal::proofs::Memory::window_of, vr_journal::proofs::Repairs::ready_advanced, crate::proofs::Advancing::all_applied, crate::proofs::Advancing::none_risen), unfolding(vr_rules::specs::Words::advance))]
 pub fn advance<D: SectorDisk>(
     replica: &mut Replica,
     alloc: Global,
@@ -23,8 +25,12 @@ pub fn advance<D: SectorDisk>(
     requires room { replica.old.saved.fields.sequence + 64 < 2 ^ 64 }
     ensures ready { OnOk result (IsReady replica.new) }
     ensures cause { Caused (D.faults disk.old) (D.faults disk.new) result }
+    ensures at_once { Waits replica.old → EndsAtOnce (D.told disk.old) (D.told disk.new) result }
     ensures step { Does advance replica.old replica.new (D.told disk.old) (D.told disk.new) out.old out.new result }
 {
     replica.advance_commit();
+    if replica.applied() == replica.commit() {
+        return Ok(());
+    }
     replica.apply(alloc, disk, out)
 }

@@ -1,3 +1,4 @@
+pub mod AtOnce
 pub mod Ticks
 pub mod Running
 pub mod Entries

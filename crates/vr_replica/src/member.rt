@@ -7,6 +7,8 @@ ghost use Rattle.vr_opening.specs.Recovering.{Recovered};
 ghost use Rattle.vr_rules.specs.Replica.{header_at, part_at};
 ghost use Rattle.vr_rules.specs.Rules.{react};
 ghost use Rattle.vr_step.specs.Does.{Caused, Does};
+ghost use Rattle.vr_repair.specs.Waits.{EndsAtOnce};
+ghost use Rattle.vr_replica.specs.AtOnce.{IsAtOnce};
 ghost use Rattle.vr_replica.specs.Entries.{after_reading, entry_by};
 ghost use Rattle.vr_replica.specs.Running.{memory_of};
 
@@ -92,7 +94,8 @@ impl Replica {
     }
 
     /// Handles an event in one step, which puts out what is to be sent, replied and told. After an `Err` the replica has stopped: it
-    /// puts out nothing, and takes no further step.
+    /// puts out nothing, and takes no further step. A prepare or a start_view_change that the rules leave be, and an acknowledgement that
+    /// is counted without a quorum, make no call of the disk and take no memory.
     #[tactic(auto, using(crate::proofs::Stopped::halted))]
     pub fn step<D: SectorDisk>(
         &mut self,
@@ -105,6 +108,7 @@ impl Replica {
         ensures running { self.new.running ≡ is_ok result }
         ensures halt { OnErr result (out.new ≡ []) }
         ensures cause { Caused (D.faults disk.old) (D.faults disk.new) result }
+        ensures at_once { IsAtOnce self.old.memory event.now → EndsAtOnce (D.told disk.old) (D.told disk.new) result }
         ensures step { Does (react event.now) self.old.memory self.new.memory (D.told disk.old) (D.told disk.new) [] out.new result }
     {
         out.clear();

@@ -1,6 +1,8 @@
 //! The step of a replica: the rule of each event.
 ghost use Rattle.std.specs.Prelude.{◌≡◌, ◌<◌, ◌≤◌, ◌+◌, ◌^◌, OnOk};
 ghost use Rattle.vr_journal.specs.Ready.{IsReady};
+ghost use Rattle.vr_repair.specs.Waits.{EndsAtOnce};
+ghost use Rattle.vr_replica.specs.AtOnce.{IsAtOnce, IsLeft};
 ghost use Rattle.vr_rules.specs.Replica.{is_frozen, last_view};
 ghost use Rattle.vr_rules.specs.Rules.{on_event, on_message, react};
 ghost use Rattle.vr_step.specs.Does.{Caused, Does};
@@ -31,6 +33,7 @@ fn handle_message<D: SectorDisk>(
     requires room { replica.old.saved.fields.sequence + 66 < 2 ^ 64 }
     ensures ready { OnOk result (IsReady replica.new) }
     ensures cause { Caused (D.faults disk.old) (D.faults disk.new) result }
+    ensures at_once { IsLeft replica.old message.now → EndsAtOnce (D.told disk.old) (D.told disk.new) result }
     ensures step { Does (on_message message.now) replica.old replica.new (D.told disk.old) (D.told disk.new) out.old out.new result }
 {
     match message.frame() {
@@ -65,6 +68,7 @@ fn handle<D: SectorDisk>(
     requires room { replica.old.saved.fields.sequence + 66 < 2 ^ 64 }
     ensures ready { OnOk result (IsReady replica.new) }
     ensures cause { Caused (D.faults disk.old) (D.faults disk.new) result }
+    ensures at_once { IsAtOnce replica.old event.now → EndsAtOnce (D.told disk.old) (D.told disk.new) result }
     ensures step { Does (on_event event.now) replica.old replica.new (D.told disk.old) (D.told disk.new) out.old out.new result }
 {
     match event {
@@ -93,6 +97,7 @@ pub fn react<D: SectorDisk>(
     requires ready { IsReady replica.old }
     ensures ready { OnOk result (IsReady replica.new) }
     ensures cause { Caused (D.faults disk.old) (D.faults disk.new) result }
+    ensures at_once { IsAtOnce replica.old event.now → EndsAtOnce (D.told disk.old) (D.told disk.new) result }
     ensures step { Does (react event.now) replica.old replica.new (D.told disk.old) (D.told disk.new) out.old out.new result }
 {
     if is_frozen(replica) {

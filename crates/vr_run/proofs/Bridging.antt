@@ -34,7 +34,8 @@ use Rattle.vr_safe.specs.Reflecting.{IsDisk, KeepsStored}
 use Rattle.vr_safe.specs.Chains.{Setup, IsReached, Every, Mid, Stopped, WasMade}
 use Rattle.vr_safe.specs.Finished.{Finished, IsSaid, IsTrue}
 use Rattle.vr_safe.specs.Tables.{Fits, HasTables, HasVouchedAt}
-use Rattle.vr_safe.specs.Begins.{Begins, IsChain, as_it_was, one_made, with_made}
+use Rattle.vr_safe.specs.Begins.{Begins, as_it_was, one_made, with_made}
+use Rattle.vr_safe.specs.Choices.{ChainChooses, IsMadeFrom}
 use Rattle.vr_safe.specs.Openings.{MayBegin, keeping}
 use Rattle.vr_safe.specs.Laws.{MayArrive}
 use Rattle.vr_safe.proofs.Finishing.{sent_more}
@@ -43,7 +44,7 @@ use Rattle.vr_safe.proofs.Moving.{stops}
 use Rattle.vr_safe.proofs.Playing.{leaves, cut_at}
 use Rattle.vr_safe.proofs.Reacting.{chain_react}
 use Rattle.vr_safe.proofs.Opening.{opens}
-use Rattle.vr_run.specs.Bridge.{Bridges, Chained, Follows, IsMember, IsRunning, IsSent}
+use Rattle.vr_run.specs.Bridge.{Bridges, Chained, ChoosesWell, Follows, IsMember, IsRunning, IsSent}
 
 -- ---- lists
 
@@ -85,12 +86,12 @@ sent_told u before a (output.KeptOut ∷ os) h = sent_told u before a os h.1
 
 -- the group in which it begins, beside the one before: at most one more entry was made, in a view of its primary's, and of the effects that
 -- are carried out the first begins to write it
-record Begun (u : Setup) (s : Group Header) (at : ℕ) (es : List Effect) (b : Group Header) : Type 0 where
-  sent : b.sent ≡ s.sent
-  chosen : b.chosen ≡ s.chosen
-  members : (j : ℕ) → b.members j ≡ s.members j
-  kept : (x : Made Header) → In x s.made → In x b.made
-  made : (x : Made Header) → In x b.made → In x s.made ⊎ ((at ≡ x.view % u.quorums.n) × In x.entry (made_in es))
+pub record Begun (u : Setup) (s : Group Header) (at : ℕ) (es : List Effect) (b : Group Header) : Type 0 where
+  pub sent : b.sent ≡ s.sent
+  pub chosen : b.chosen ≡ s.chosen
+  pub members : (j : ℕ) → b.members j ≡ s.members j
+  pub kept : (x : Made Header) → In x s.made → In x b.made
+  pub made : (x : Made Header) → In x b.made → In x s.made ⊎ ((at ≡ x.view % u.quorums.n) × In x.entry (made_in es))
 
 begun_same : (u : Setup) (s : Group Header) (at : ℕ) (es : List Effect) → Begun u s at es s
 begun_same u s at es = record { sent = refl; chosen = refl; members = λ j. refl; kept = λ x h. h; made = λ x h. inl h }
@@ -99,7 +100,7 @@ first_made : (again : Bool) (e : Whole) (later : List Effect) (x : Header) → x
 unfolding made_in
 first_made again e later x same = inl same
 
-begun_of : (u : Setup) (s : Group Header) (at : ℕ) (es : List Effect) (b : Group Header) → Begins u s at es b → Begun u s at es b
+pub begun_of : (u : Setup) (s : Group Header) (at : ℕ) (es : List Effect) (b : Group Header) → Begins u s at es b → Begun u s at es b
 begun_of u s at es _ as_it_was = begun_same u s at es
 begun_of u s at es _ (one_made again e later is first new) = record {
   sent = refl;
@@ -180,9 +181,9 @@ module _ (u : Setup) (g : group.Group) (s : Group Header) (bridge : Bridges u g 
 -- ---- to the end, and stopped
 
 module _ (u : Setup) (g : group.Group) (s : Group Header) (bridge : Bridges u g s) (fit : IsFitGroup u.cluster g) (at : ℕ) (es : List Effect) (b : Group Header) (begun : Begun u s at es b) where
-  ends_chained : (q : Replica) (m : group.Member) (l : Local) (a : Group Header) (x : Finished u b at q l a) → l.member ≡ m → l.made ≡ made_in es → l.said ≡ outputs es → HasTables u a at q
-      → Chained u s a (with_script g at (record m { replica = Some q }) es (outputs es))
-  ends_chained q m l a x member_is made_is said_is tables =
+  ends_chained : (move : Move) (q : Replica) (m : group.Member) (l : Local) (a : Group Header) (x : Finished u b at q l a) → l.member ≡ m → l.made ≡ made_in es → l.said ≡ outputs es → HasTables u a at q
+      → ChoosesWell g move a.chosen (outputs es) → Chained u s a (record { before = g; move = move; moved = with_script g at (record m { replica = Some q }) es (outputs es) })
+  ends_chained move q m l a x member_is made_is said_is tables well =
       let disk : IsDisk m (a.members at) = subst (λ y. IsDisk y (a.members at)) member_is x.disk in
       let stored : KeepsStored q m = subst (KeepsStored q) member_is x.stored in
       let told : Every (IsTrue u s.sent a.sent) (outputs es) = subst (λ y. Every (IsTrue u y a.sent) (outputs es)) begun.sent (subst (Every (IsTrue u b.sent a.sent)) said_is x.told) in
@@ -200,11 +201,13 @@ module _ (u : Setup) (g : group.Group) (s : Group Header) (bridge : Bridges u g 
         told = told;
         only = λ y h. elim (x.only y h) [ inl old ↦ inl (subst (In y) begun.sent old) | inr new ↦ inr (subst (λ os. IsSaid u os y) said_is new) ];
         made = λ y h. elim (begun.made y (subst (In y) x.none_made h)) [ inl old ↦ inl old | inr new ↦ inr new.1 ];
+        choices = well;
       }
 
-  stops_chained : (m : group.Member) (l : Local) (x : Stopped u b at l) → l.member ≡ m → l.made ≡ made_in es → Chained u s x.group (with_script g at (record m { replica = None }) es [])
+  stops_chained : (move : Move) (m : group.Member) (l : Local) (x : Stopped u b at l) → l.member ≡ m → l.made ≡ made_in es → ChoosesWell g move x.group.chosen []
+      → Chained u s x.group (record { before = g; move = move; moved = with_script g at (record m { replica = None }) es [] })
   unfolding messages
-  stops_chained m l x member_is made_is =
+  stops_chained move m l x member_is made_is well =
       let y = x.under in
       let a : Group Header = x.group in
       let disk : IsDisk m (a.members at) = subst (λ z. IsDisk z (a.members at)) member_is y.disk in
@@ -222,6 +225,7 @@ module _ (u : Setup) (g : group.Group) (s : Group Header) (bridge : Bridges u g 
         told = tt;
         only = λ z h. inl (subst (In z) (y.sent ∙ begun.sent) h);
         made = λ z h. elim (begun.made z (subst (In z) y.none_made h)) [ inl old ↦ inl old | inr new ↦ inr new.1 ];
+        choices = well;
       }
 
 -- ---- the moves
@@ -246,12 +250,13 @@ cut_so u b at k es l cuts end =
           record { left = carried es l; stopped = end; member = y.member ∙ sym n.0; made = y.made ∙ ap (λ (ys : List Effect). l.made ++ made_in ys) (sym n.1) }
     ]
 
-module _ (u : Setup) (fits : Fits u) (hash : u.hash ≡ lying.hash) (g : group.Group) (s : Group Header) (fit : IsFitGroup u.cluster g) (bridge : Bridges u g s) where
-  abbrev local : group.Member → Local
-  local m = record { member = m; made = []; said = [] }
+-- a member at the beginning of a step
+abbrev pub local : group.Member → Local
+local m = record { member = m; made = []; said = [] }
 
+module _ (u : Setup) (fits : Fits u) (hash : u.hash ≡ lying.hash) (g : group.Group) (s : Group Header) (fit : IsFitGroup u.cluster g) (bridge : Bridges u g s) where
   -- a running member in the machine
-  mid_of : (at : ℕ) (m : group.Member) (r : Replica) → slice_get g.members at ≡ Some m → m.replica ≡ Some r → Mid u s at r (local m) s
+  pub mid_of : (at : ℕ) (m : group.Member) (r : Replica) → slice_get g.members at ≡ Some m → m.replica ≡ Some r → Mid u s at r (local m) s
   mid_of at m r there runs =
       let x = bridge.members at m there in
       let y = x.running r runs in
@@ -273,33 +278,46 @@ module _ (u : Setup) (fits : Fits u) (hash : u.hash ≡ lying.hash) (g : group.G
   arrives at (Message number) e h i = rw i.3 (at_place MayCome g.sent number i.0 fit.sent i.1, at_place (IsSent u s) g.sent number i.0 bridge.sent i.1)
   arrives at Time e h i = rw i tt
 
-  chain_of : (at : ℕ) (a : Arrival) (e : Event) (d : Lying) (m : group.Member) (r : Replica) → slice_get g.members at ≡ Some m → m.replica ≡ Some r → IsFitArrival a → IsArrival g at a e → IsChain u s at (local m) (stepped e r d)
+  -- one replica runs at a place
+  same_runs : (at : ℕ) (m m2 : group.Member) (r r2 : Replica) → slice_get g.members at ≡ Some m → m.replica ≡ Some r → group.Runs g at m2 r2 → r ≡ r2
+  same_runs at m m2 r r2 there runs other =
+      let two : Some m ≡ Some m2 = sym there ∙ other.member in
+      let one : m ≡ m2 = cc in
+      let rs : Some r ≡ Some r2 = sym runs ∙ (ap (λ (z : group.Member). z.replica) one ∙ other.running) in
+      cc
+
+  pub chain_of : (at : ℕ) (a : Arrival) (e : Event) (d : Lying) (m : group.Member) (r : Replica) → slice_get g.members at ≡ Some m → m.replica ≡ Some r → IsFitArrival a → IsArrival g at a e → ChainChooses u s at (local m) e r (stepped e r d)
   chain_of at a e d m r there runs h i =
       let f = (fit.members at m there).running r runs in
       chain_react u fits s at lying r d (local m) (mid_of at m r there runs) ((bridge.members at m there).running r runs).tables (sym hash) f.1.cluster disks_fit.names f.0.savable.top tt e (arrives at a e h i)
 
   steps_so : (at : ℕ) (a : Arrival) (e : Event) (d : Lying) (m : group.Member) (r : Replica) → slice_get g.members at ≡ Some m → m.replica ≡ Some r → IsFitArrival a → IsArrival g at a e
-      → (z : Group Header) × Chained u s z (group.finished g at m (stepped e r d))
+      → (z : Group Header) × Chained u s z (record { before = g; move = group.Steps at a e d; moved = group.finished g at m (stepped e r d) })
   steps_so at a e d m r there runs h i =
-      let c = chain_of at a e d m r there runs h i in
+      let w = chain_of at a e d m r there runs h i in
+      let c = w.chain in
       let x = stepped e r d in
       let y = leaves x.script (local m) in
-      (c.finishes.after, ends_chained u g s bridge fit at x.script c.begun (begun_of u s at x.script c.begun c.begins) x.replica (carried_out x.script m) (carried x.script (local m)) c.finishes.after c.finishes.ends y.member y.made y.said c.tables)
+      let well : ChoosesWell g (group.Steps at a e d) c.finishes.after.chosen (outputs x.script) = λ m2 r2 other line j. subst (λ (q : Replica). IsMadeFrom c.finishes.after.chosen e q line) (same_runs at m m2 r r2 there runs other) (w.choices line j) in (
+        c.finishes.after,
+        ends_chained u g s bridge fit at x.script c.begun (begun_of u s at x.script c.begun c.begins) (group.Steps at a e d) x.replica (carried_out x.script m) (carried x.script (local m)) c.finishes.after c.finishes.ends y.member y.made y.said
+            c.tables well,
+      )
 
   cuts_so : (at : ℕ) (a : Arrival) (e : Event) (d : Lying) (k : ℕ) (m : group.Member) (r : Replica) → slice_get g.members at ≡ Some m → m.replica ≡ Some r → IsFitArrival a → IsArrival g at a e
-      → (z : Group Header) × Chained u s z (group.cut_short g at m (stepped e r d) k)
+      → (z : Group Header) × Chained u s z (record { before = g; move = group.Cuts at a e d k; moved = group.cut_short g at m (stepped e r d) k })
   cuts_so at a e d k m r there runs h i =
-      let c = chain_of at a e d m r there runs h i in
+      let c = (chain_of at a e d m r there runs h i).chain in
       let x = stepped e r d in
       let y = cut_so u c.begun at k x.script (local m) c.finishes.cuts c.finishes.stopped in
-      (y.stopped.group, stops_chained u g s bridge fit at (take (k + 1) x.script) c.begun (begun_cut u s at k x.script c.begun c.begins) (cut_after k x.script m) y.left y.stopped y.member y.made)
+      (y.stopped.group, stops_chained u g s bridge fit at (take (k + 1) x.script) c.begun (begun_cut u s at k x.script c.begun c.begins) (group.Cuts at a e d k) (cut_after k x.script m) y.left y.stopped y.member y.made tt)
 
-  crashes_so : (at : ℕ) (m : group.Member) → slice_get g.members at ≡ Some m → (z : Group Header) × Chained u s z (with_script g at (record m { replica = None }) [] [])
+  crashes_so : (at : ℕ) (m : group.Member) → slice_get g.members at ≡ Some m → (z : Group Header) × Chained u s z (record { before = g; move = group.Crashes at; moved = with_script g at (record m { replica = None }) [] [] })
   unfolding made_in
   crashes_so at m there =
       let x = bridge.members at m there in
       let y = stops u s at (local m) (local m) s (record { reached = bridge.reached; sent = refl; chosen = λ c h. h; others = λ j n. refl; disk = x.disk; made = tt; none_made = refl }) x.disk tt in
-      (y.group, stops_chained u g s bridge fit at [] s (begun_same u s at []) m (local m) y refl refl)
+      (y.group, stops_chained u g s bridge fit at [] s (begun_same u s at []) (group.Crashes at) m (local m) y refl refl tt)
 
   -- ---- openings
 
@@ -307,7 +325,7 @@ module _ (u : Setup) (fits : Fits u) (hash : u.hash ≡ lying.hash) (g : group.G
   value_of at m v h (inl e) = subst (IsFitValue u.cluster g.n at) e h.last
   value_of at m v h (inr e) = h.under v e
 
-  may_begin : (at : ℕ) (m : group.Member) (v : SuperValue) (d : Lying) → Opens g at m v d → ReadsWell lying d → MayBegin u s at (local m) g.made v lying d
+  pub may_begin : (at : ℕ) (m : group.Member) (v : SuperValue) (d : Lying) → Opens g at m v d → ReadsWell lying d → MayBegin u s at (local m) g.made v lying d
   may_begin at m v d o reads =
       let x = bridge.members at m o.member in
       let f = value_of at m v (fit.members at m o.member) o.value in
@@ -326,7 +344,7 @@ module _ (u : Setup) (fits : Fits u) (hash : u.hash ≡ lying.hash) (g : group.G
         silent = tt;
       }
 
-  starts_so : (at : ℕ) (m : group.Member) (v : SuperValue) (d : Lying) → Opens g at m v d → ReadsWell lying d → (z : Group Header) × Chained u s z (group.started g at m v d)
+  starts_so : (at : ℕ) (m : group.Member) (v : SuperValue) (d : Lying) → Opens g at m v d → ReadsWell lying d → (z : Group Header) × Chained u s z (record { before = g; move = group.Recovers at v d; moved = group.started g at m v d })
   starts_so at m v d o reads =
       let c = opens u s at (local m) g.made v lying d (may_begin at m v d o reads) in
       let x = mended v d in
@@ -336,12 +354,12 @@ module _ (u : Setup) (fits : Fits u) (hash : u.hash ≡ lying.hash) (g : group.G
       let q = leaves y.script k in
       let found : k.member ≡ once_mended v d m = ap (keeps_all (group.found v d)) p.member in (
         c.finishes.after,
-        ends_chained u g s bridge fit at (opening_script v d) s (begun_same u s at (opening_script v d)) y.replica (carried_out y.script (once_mended v d m)) (carried y.script k) c.finishes.after c.finishes.ends
+        ends_chained u g s bridge fit at (opening_script v d) s (begun_same u s at (opening_script v d)) (group.Recovers at v d) y.replica (carried_out y.script (once_mended v d m)) (carried y.script k) c.finishes.after c.finishes.ends
             (q.member ∙ ap (carried_out y.script) found) (q.made ∙ (ap (λ (hs : List Header). hs ++ made_in y.script) p.made ∙ sym (made_append x.script y.script)))
-            (q.said ∙ (ap (λ (os : List Output). os ++ outputs y.script) p.said ∙ sym (outputs_append x.script y.script))) c.tables,
+            (q.said ∙ (ap (λ (os : List Output). os ++ outputs y.script) p.said ∙ sym (outputs_append x.script y.script))) c.tables tt,
       )
 
-  starts_cut_so : (at : ℕ) (m : group.Member) (v : SuperValue) (d : Lying) (k : ℕ) → Opens g at m v d → ReadsWell lying d → (z : Group Header) × Chained u s z (group.start_cut g at m v d k)
+  starts_cut_so : (at : ℕ) (m : group.Member) (v : SuperValue) (d : Lying) (k : ℕ) → Opens g at m v d → ReadsWell lying d → (z : Group Header) × Chained u s z (record { before = g; move = group.RecoversCut at v d k; moved = group.start_cut g at m v d k })
   starts_cut_so at m v d k o reads =
       let c = opens u s at (local m) g.made v lying d (may_begin at m v d o reads) in
       let x = mended v d in
@@ -350,8 +368,8 @@ module _ (u : Setup) (fits : Fits u) (hash : u.hash ≡ lying.hash) (g : group.G
       let l : Local = keeping v x (carried x.script (local m)) in
       let found : l.member ≡ once_mended v d m = ap (keeps_all (group.found v d)) p.member in
       let es : List Effect = take (k + 1) (opening_script v d) in
-      let chained : (w : group.Member) (j : Local) (z : Stopped u s at j) → j.member ≡ w → j.made ≡ made_in es → w ≡ cut_in_two x.script y.script (keeps_all (group.found v d)) k m → (z : Group Header) × Chained u s z (group.start_cut g at m v d k) =
-      λ w j z member made is. (z.group, stops_chained u g s bridge fit at es s (begun_same u s at es) (cut_in_two x.script y.script (keeps_all (group.found v d)) k m) j z (member ∙ is) made) in
+      let chained : (w : group.Member) (j : Local) (z : Stopped u s at j) → j.member ≡ w → j.made ≡ made_in es → w ≡ cut_in_two x.script y.script (keeps_all (group.found v d)) k m → (z : Group Header) × Chained u s z (record { before = g; move = group.RecoversCut at v d k; moved = group.start_cut g at m v d k }) =
+      λ w j z member made is. (z.group, stops_chained u g s bridge fit at es s (begun_same u s at es) (group.RecoversCut at v d k) (cut_in_two x.script y.script (keeps_all (group.found v d)) k m) j z (member ∙ is) made tt) in
       elim (cases_lt k (length x.script)) [
         | inl first ↦
             let z = cut_at (Stopped u s at) x.script (local m) k first c.mends in
@@ -365,7 +383,7 @@ module _ (u : Setup) (fits : Fits u) (hash : u.hash ≡ lying.hash) (g : group.G
             (z.made ∙ (ap (λ (hs : List Header). hs ++ made_in (take (j + 1) y.script)) p.made ∙ (sym (made_append x.script (take (j + 1) y.script)) ∙ ap made_in (sym parts)))) (rw (le-ltb k (length x.script) past) refl)
       ]
 
-  pub moves_so : (move : Move) (moved : Moved) → IsFitMove move → Moves g move moved → (z : Group Header) × Chained u s z moved
+  pub moves_so : (move : Move) (moved : Moved) → IsFitMove move → Moves g move moved → (z : Group Header) × Chained u s z (record { before = g; move = move; moved = moved })
   moves_so _ _ h (group.steps at a e d m r runs i) = steps_so at a e d m r runs.member runs.running h.0 i
   moves_so _ _ h (group.cuts at a e d k m r runs i) = cuts_so at a e d k m r runs.member runs.running h.0 i
   moves_so _ _ h (group.crashes at m there) = crashes_so at m there

@@ -1,14 +1,12 @@
 -- A group that was just made: the machine's members are started one after the other.
-use Rattle.std.proofs.Common.{ℕ, zero, suc, ◌+◌, ◌≤◌, ◌<◌, ◌^◌, ◌≡◌, ◌∙◌, inl, inr, arith, refl, sym, ap, subst, true, List, [], map, Some, None, is_some}
-use Rattle.std.specs.Prelude.{All, slice_get}
-use Rattle.std.specs.List.{range_with_len}
+use Rattle.std.proofs.Common.{ℕ, zero, suc, ◌+◌, ◌≤◌, ◌<◌, ◌^◌, ◌≡◌, ◌∙◌, inl, inr, arith, refl, sym, ap, subst, true, List, [], Some, None, is_some}
+use Rattle.std.specs.Prelude.{All}
 use Rattle.std.proofs.lemmas.Bool.{cases_lt}
 use Rattle.std.proofs.lemmas.List.Elements.{All-nil}
 use Rattle.vr_base.specs.Groups.{quorums_of}
 use Rattle.vr_header.specs.declared.header.Header.{Header}
 use Rattle.vr_rules.specs.Lying.{lying}
 use Rattle.vr_rules.specs.Opening.{blank, fresh}
-use Rattle.vr_rules.specs.Group as group
 use Rattle.vr_rules.specs.Group.{Played, Run, fresh_group, fresh_member}
 use Rattle.vr_rules.specs.GroupFit.{IsFitGroup, IsFitMove}
 use Rattle.vr_rules.proofs.FitFresh.{fresh_fits}

@@ -1,16 +1,20 @@
 -- How the machine's group stands for a group of the rules, and what of it a move carries on.
-use Rattle.std.specs.Prelude.{ℕ, ◌≡◌, ◌⊎◌, ⊤, List, [], ◌∷◌, All, slice_get, Some, None}
+use Rattle.std.specs.Prelude.{ℕ, ◌≡◌, ◌⊎◌, ⊤, List, [], ◌∷◌, All, Contains, slice_get, Some, None}
 use Rattle.vr_header.specs.declared.header.Header.{Header}
+use Rattle.vr_msg.specs.declared.output.Chosen.{Chosen}
+use Rattle.vr_msg.specs.declared.output.Output.{Output}
+use Rattle.vr_msg.specs.declared.output.Output.TheVariants as output
 use Rattle.vr_msg.specs.declared.output.Sent.{Sent}
 use Rattle.vr_rules.specs.Replica.{Replica}
 use Rattle.vr_rules.specs.Lying.{lying}
 use Rattle.vr_rules.specs.Group as group
-use Rattle.vr_rules.specs.Group.{Moved, Played, made_in}
+use Rattle.vr_rules.specs.Group.{Move, Steps, Runs, Played, made_in}
 use Rattle.vr_protocol.specs.Basics.{In}
 use Rattle.vr_protocol.specs.Group.{Group, Made}
 use Rattle.vr_protocol.specs.Members.{Choice, Memory, Message}
 use Rattle.vr_safe.specs.Reflecting.{IsDisk, KeepsStored, Reflects}
 use Rattle.vr_safe.specs.Chains.{Setup, IsReached, Every, WasMade, WasSent}
+use Rattle.vr_safe.specs.Choices.{IsMadeFrom}
 use Rattle.vr_safe.specs.Finished.{IsSaid, IsTrue}
 use Rattle.vr_safe.specs.Tables.{Fits, HasTables}
 
@@ -38,19 +42,25 @@ pub record Bridges (u : Setup) (g : group.Group) (s : Group Header) : Type 0 whe
   pub sent : All (IsSent u s) g.sent
   pub made : All (WasMade s.made) g.made
 
+-- each choose line of a step is of one of these choices, from what its member had heard
+abbrev pub ChoosesWell : group.Group → Move → List (Choice Header) → List Output → Type 0
+ChoosesWell g (Steps at arrival e d) chosen os = (m : group.Member) (r : Replica) → Runs g at m r → (c : Chosen) → Contains os (output.Choose c) → IsMadeFrom chosen e r c
+ChoosesWell g _ chosen os = ⊤
+
 -- What a move leaves: nothing is taken back, what was put out is true, and nothing else was sent or made.
-pub record Chained (u : Setup) (s a : Group Header) (moved : Moved) : Type 0 where
-  pub bridges : Bridges u moved.group a
+pub record Chained (u : Setup) (s a : Group Header) (p : Played) : Type 0 where
+  pub bridges : Bridges u p.moved.group a
   pub sent : (m : Message Header) → In m s.sent → In m a.sent
   pub chosen : (c : Choice Header) → In c s.chosen → In c a.chosen
-  pub told : Every (IsTrue u s.sent a.sent) moved.outputs
-  pub only : (m : Message Header) → In m a.sent → In m s.sent ⊎ IsSaid u moved.outputs m
-  pub made : (x : Made Header) → In x a.made → In x s.made ⊎ In x.entry (made_in moved.script)
+  pub told : Every (IsTrue u s.sent a.sent) p.moved.outputs
+  pub only : (m : Message Header) → In m a.sent → In m s.sent ⊎ IsSaid u p.moved.outputs m
+  pub made : (x : Made Header) → In x a.made → In x s.made ⊎ In x.entry (made_in p.moved.script)
+  pub choices : ChoosesWell p.before p.move a.chosen p.moved.outputs
 
 -- a run, move by move
 abbrev pub Follows : Setup → Group Header → List Played → Type 0
 Follows u s [] = ⊤
-Follows u s (p ∷ ps) = (a : Group Header) × Chained u s a p.moved × Follows u a ps
+Follows u s (p ∷ ps) = (a : Group Header) × Chained u s a p × Follows u a ps
 
 -- A run of a group that was just made, from a group of the machine on in which nothing was sent or made; with the names of the program
 -- and the quorums of its size.

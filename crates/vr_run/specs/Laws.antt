@@ -14,7 +14,7 @@ use Rattle.vr_run.specs.Bridge.{Bridges, Chained, Follows, FollowsFresh}
 abbrev pub MovesAreChains : Type 0
 MovesAreChains =
     (u : Setup) (g : group.Group) (s : Group Header) (move : Move) (moved : Moved) → Fits u → u.hash ≡ lying.hash → IsFitGroup u.cluster g → IsFitMove move → Moves g move moved → Bridges u g s
-    → (a : Group Header) × Chained u s a moved
+    → (a : Group Header) × Chained u s a (record { before = g; move = move; moved = moved })
 
 abbrev pub RunsAreChains : Type 0
 RunsAreChains =

@@ -3,9 +3,8 @@ use Rattle.std.proofs.Common.{ℕ, zero, suc, ◌+◌, ◌-◌, ◌%◌, ◌≤�
 use Rattle.std.specs.Prelude.{Contains, nat_le, slice_get}
 use Rattle.std.specs.List.{range_with_len}
 use Rattle.std.proofs.lemmas.Bool.{cases_eq, cases_lt, leb-true, le-ltb}
-use Rattle.std.proofs.lemmas.List.{get_or-replicate, get_or_past, get_or-set_other, get_or-set_same, length-replicate, length-set}
+use Rattle.std.proofs.lemmas.List.{get_or-replicate, get_or_past, get_or-set_other, length-replicate, length-set}
 use Rattle.vr_header.specs.declared.header.Header.{Header}
-use Rattle.vr_header.specs.declared.part.Part.{Part}
 use Rattle.vr_header.specs.declared.part.Part.TheVariants as part
 use Rattle.vr_header.specs.Made.{Whole}
 use Rattle.vr_msg.specs.Choice.{ops}
@@ -28,7 +27,7 @@ use Rattle.vr_protocol.specs.Group.{Group, Member, becomes, made_at}
 use Rattle.vr_protocol.specs.Members.{Superblock}
 use Rattle.vr_protocol.specs.Machine as move
 use Rattle.vr_safe.specs.Local.{Local, begun, through, carried, WhereverCut}
-use Rattle.vr_safe.specs.Reflecting.{IsDisk, IsUnder, IsValue}
+use Rattle.vr_safe.specs.Reflecting.{IsUnder, IsValue}
 use Rattle.vr_safe.specs.Chains.{Setup, Every, AsksNothing, WasMade, Under, Stopped}
 use Rattle.vr_safe.proofs.Scripts.{every_append, every_map}
 use Rattle.vr_safe.proofs.Moving.{member_at, under_moves}

@@ -1,5 +1,5 @@
 -- Every opening is a chain of the machine's moves.
-use Rattle.std.proofs.Common.{ℕ, ◌+◌, ◌≤◌, ◌≡◌, ◌∙◌, arith, refl, sym, ap, subst, List, [], ◌∷◌, None}
+use Rattle.std.proofs.Common.{ℕ, ◌+◌, ◌≡◌, ◌∙◌, arith, refl, sym, subst, List, ◌∷◌, None}
 use Rattle.std.specs.Prelude.{Contains}
 use Rattle.vr_header.specs.declared.header.Header.{Header}
 use Rattle.vr_super.specs.Copies.{SuperValue}

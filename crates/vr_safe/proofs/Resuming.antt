@@ -1,21 +1,19 @@
 -- The second part of an opening: the replica runs with what was found. It leaves the view that it led, loads, applies and announces.
-use Rattle.std.proofs.Common.{ℕ, ◌+◌, ◌≤◌, ◌<◌, ◌≡◌, ◌≢◌, ◌∙◌, arith, refl, sym, ap, subst, Bool, true, false, not, cond, List, [], ◌∷◌, ◌++◌, get_or, map, replicate, Option, Some, None}
+use Rattle.std.proofs.Common.{ℕ, ◌+◌, ◌≤◌, ◌≡◌, ◌∙◌, arith, refl, sym, ap, subst, Bool, true, false, not, cond, List, [], ◌∷◌, ◌++◌, get_or, map, replicate, Option, None}
 use Rattle.std.specs.Prelude.{nat_le, nat_lt}
 use Rattle.std.proofs.lemmas.Bool.{or_parts, true≢false}
 use Rattle.vr_header.specs.declared.header.Header.{Header}
 use Rattle.vr_header.specs.Names.{no_name}
 use Rattle.vr_msg.specs.declared.statement.Statement.{Statement}
-use Rattle.vr_msg.specs.Logs.{header_of}
-use Rattle.vr_grid.specs.declared.name.Name.{Name}
 use Rattle.vr_rules.specs.Replica.{Replica, head, is_spent, is_started, last_view, leads, part_at, run}
 use Rattle.vr_rules.specs.Outputs.{send_to_all, start_line, start_view_change}
-use Rattle.vr_rules.specs.Steps.{Effect, Say, Setting, Step, Word, ◌⨾◌, quiet, change, does, says, by, when, after_all}
+use Rattle.vr_rules.specs.Steps.{Effect, Say, Setting, Word, ◌⨾◌, quiet, change, does, says, by, when, after_all}
 use Rattle.vr_rules.specs.Words.{apply, load, save, saves, value_of, with_missing, with_saved}
 use Rattle.vr_rules.specs.Opening.{announce, going_on, heard_itself, in_next_view, leave_view, resuming}
 use Rattle.vr_rules.specs.Sound.{IsSound}
-use Rattle.vr_rules.proofs.Keeping.{sound_alike, sound_missing}
+use Rattle.vr_rules.proofs.Keeping.{sound_alike}
 use Rattle.vr_rules.proofs.Openings.{kept_next}
-use Rattle.vr_rules.proofs.Wording.{keeps_apply, kept_load, none_stated}
+use Rattle.vr_rules.proofs.Wording.{kept_load, none_stated}
 use Rattle.vr_protocol.specs.Group.{Group}
 use Rattle.vr_protocol.specs.Members.{Memory}
 use Rattle.vr_protocol.specs.Parts.{header}
@@ -24,14 +22,14 @@ use Rattle.vr_safe.specs.Local.{Local, begun, through, carried}
 use Rattle.vr_safe.specs.Reflecting.{entries_by, Reflects, KeepsStored}
 use Rattle.vr_safe.specs.Chains.{Setup, Every, AsksNothing, Mid, Stopped, Goes}
 use Rattle.vr_safe.specs.Tables.{HasTables}
-use Rattle.vr_safe.proofs.Scripts.{carried_append, cut_append, every_append, goes_then, goes_by, goes_if, goes_when}
+use Rattle.vr_safe.proofs.Scripts.{carried_append, cut_append, goes_then, goes_by, goes_if, goes_when}
 use Rattle.vr_safe.proofs.Readying.{free_ready}
 use Rattle.vr_safe.proofs.Moving.{mid_stays, goes_says}
 use Rattle.vr_safe.proofs.Writing.{told_header}
 use Rattle.vr_safe.proofs.Saving.{Covers, forgotten, save_after, save_cut, save_ends}
 use Rattle.vr_safe.proofs.Applying.{goes_apply}
 use Rattle.vr_safe.proofs.Vouching.{goes_change_then}
-use Rattle.vr_safe.proofs.Blocks.{Other, other_mid, quietly_load, with_other}
+use Rattle.vr_safe.proofs.Blocks.{other_mid, quietly_load}
 use Rattle.vr_safe.proofs.Repairs.{leads_is}
 use Rattle.vr_safe.proofs.Beginning.{free_changes}
 use Rattle.vr_safe.proofs.Holding.{Holds, HoldsBy, holds_apply, holds_if, holds_more, holds_same}

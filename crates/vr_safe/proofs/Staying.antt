@@ -1,5 +1,5 @@
 -- Words that leave a replica's tables true, from every sound replica on.
-use Rattle.std.proofs.Common.{ℕ, ◌+◌, ◌≤◌, ◌≡◌, ◌≢◌, ◌∙◌, arith, refl, sym, ap, subst, Bool, true, false, cond, List, [], ◌∷◌, Option, Some, None}
+use Rattle.std.proofs.Common.{ℕ, arith, refl, sym, subst, Bool, true, false, cond, List, [], ◌∷◌, Option, Some, None}
 use Rattle.std.specs.Prelude.{nat_lt}
 use Rattle.vr_header.specs.declared.header.Header.{Header}
 use Rattle.vr_header.specs.Made.{Whole}
@@ -10,11 +10,11 @@ use Rattle.vr_grid.specs.declared.name.Name.{Name}
 use Rattle.vr_ckpt.specs.declared.table.PayloadTable.{PayloadTable}
 use Rattle.vr_rules.specs.Replica.{Replica, head, part_at}
 use Rattle.vr_rules.specs.Outputs.{send_to_all, prepare, get_block, get_prepare}
-use Rattle.vr_rules.specs.Steps.{PutBlock, Setting, Word, ◌⨾◌, quiet, change, does, says, by, naming, reading, when, each, after_all}
+use Rattle.vr_rules.specs.Steps.{Setting, Word, ◌⨾◌, quiet, change, does, says, by, naming, reading, when, each, after_all}
 use Rattle.vr_rules.specs.Words.{with_entry_at, apply, learn, advance, rested, prepare_again, resend, turned, ask_peer, ask_for, ask, least_absent, is_loaded, loads, checkpoint_at, load}
-use Rattle.vr_rules.specs.Rules.{heard_of, idler, without, put_block}
+use Rattle.vr_rules.specs.Rules.{idler, without, put_block}
 use Rattle.vr_rules.specs.Sound.{IsSound}
-use Rattle.vr_rules.proofs.Combining.{Keeps, keeps_quiet, keeps_says}
+use Rattle.vr_rules.proofs.Combining.{Keeps}
 use Rattle.vr_rules.proofs.Wording.{kept_rested, keeps_apply, keeps_learn, keeps_advance, keeps_prepare_again, keeps_ask}
 use Rattle.vr_safe.proofs.Blocks.{Other, other_loads, with_other}
 use Rattle.vr_safe.proofs.Holding.{Holds, HoldsBy, holds_same, holds_more, holds_rested, holds_part, holds_if, holds_apply, holds_learn, holds_advance}

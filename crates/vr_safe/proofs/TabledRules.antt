@@ -1,14 +1,10 @@
 -- At the end of each rule of a replica its tables are true.
-use Rattle.std.proofs.Common.{ℕ, zero, suc, ◌+◌, ◌%◌, ◌≤◌, ◌<◌, ◌≡◌, ◌≢◌, ◌∙◌, inl, arith, refl, sym, ap, subst, Bool, true, false, not, cond, List, [], ◌∷◌, get_or, Option, Some, None}
+use Rattle.std.proofs.Common.{ℕ, ◌+◌, ◌%◌, ◌≤◌, ◌<◌, ◌≡◌, ◌≢◌, ◌∙◌, inl, arith, refl, sym, ap, subst, Bool, true, false, not, List, [], get_or, Option, Some, None}
 use Rattle.std.specs.Prelude.{nat_lt, nat_le, find, ◌==◌, ◌&&◌, is_some}
 use Rattle.std.specs.Option.{option_map_or}
 use Rattle.std.proofs.lemmas.Bool.{and_parts, or_parts, not-false, not-true, ltb-true, ltb-false, le-ltb, leb-true, leb-false, eqb-true, eqb-false, eq-eqb, true≢false}
 use Rattle.vr_header.specs.declared.header.Header.{Header}
-use Rattle.vr_header.specs.declared.part.Part.TheVariants.{Here}
 use Rattle.vr_header.specs.Made.{Whole}
-use Rattle.vr_msg.specs.declared.event.Event.{Event}
-use Rattle.vr_msg.specs.declared.event.Event.TheVariants as event
-use Rattle.vr_msg.specs.declared.frame.Frame.{Frame}
 use Rattle.vr_msg.specs.declared.frame.Frame.TheVariants as frame
 use Rattle.vr_msg.specs.declared.frame.Commit.{Commit}
 use Rattle.vr_msg.specs.declared.frame.DoViewChange.{DoViewChange}
@@ -24,10 +20,10 @@ use Rattle.vr_msg.specs.declared.frame.StartViewChange.{StartViewChange}
 use Rattle.vr_msg.specs.declared.statement.Statement.{Statement}
 use Rattle.vr_msg.specs.Choice.{ops}
 use Rattle.vr_grid.specs.declared.name.Name.{Name}
-use Rattle.vr_rules.specs.Replica.{Replica, last_view, head, header_at, is_here, is_primary, is_started, leads, part_at, forgetting, with_part}
-use Rattle.vr_rules.specs.Outputs.{send_to, send_to_all, to_primary, prepare_ok, commit_message, start_view_change, give_prepare, give_block}
+use Rattle.vr_rules.specs.Replica.{Replica, last_view, head, header_at, is_here, is_started, leads, part_at, forgetting, with_part}
+use Rattle.vr_rules.specs.Outputs.{send_to, send_to_all, commit_message, start_view_change, give_prepare, give_block}
 use Rattle.vr_rules.specs.Steps.{Setting, Step, Word, ◌⨾◌, quiet, change, does, says, by, naming, reading, when, each, after_all}
-use Rattle.vr_rules.specs.Words.{with_saved, entered, enter, rested, stored, write, accept, with_entry_at, apply, learn, advance, taken, take, may_take, prepare_again, try, speak, resend, ask, is_loaded, load}
+use Rattle.vr_rules.specs.Words.{with_saved, entered, enter, rested, stored, write, accept, apply, learn, advance, taken, may_take, prepare_again, try, speak, resend, ask, is_loaded, load}
 use Rattle.vr_rules.specs.Deciding.{Hash, is_from, is_from_primary, is_known, prepare_table, prepare_ok_table, commit_table, start_view_change_table, do_view_change_table, log_of, start_view_table, get_view_table, get_prepare_table, give_prepare_table, get_block_table, is_wanted, give_block_table, tick_table}
 use Rattle.vr_rules.specs.Rules.{acknowledge, ask_view, obey_prepare, on_prepare, acknowledged, obey_prepare_ok, on_prepare_ok, obey_commit, on_commit, heard_of, tell_view, obey_start_view_change, on_start_view_change, with_statement, obey_do_view_change, on_do_view_change, acknowledge_stored, obey_start_view, on_start_view, obey_get_view, on_get_view, obey_get_prepare, on_get_prepare, obey_give_prepare, on_give_prepare, asked_block, block_at, give_read, obey_get_block, on_get_block, without, put_block, put_found, test_of, obey_give_block, on_give_block, idler, next_view, primary_ticks, obey_tick, on_tick}
 use Rattle.vr_rules.specs.Laws.{IsMessage}
@@ -47,7 +43,7 @@ use Rattle.vr_protocol.specs.Members.{Do_view_change}
 use Rattle.vr_safe.specs.Local.{Local}
 use Rattle.vr_safe.specs.Chains.{Setup, Mid, WasSent, statement_told}
 use Rattle.vr_safe.specs.Tables.{Fits, HasVouchedAt, Tables}
-use Rattle.vr_safe.proofs.Beginning.{AreStated, with_statement_told}
+use Rattle.vr_safe.proofs.Beginning.{with_statement_told}
 use Rattle.vr_safe.proofs.Counting.{tables_acknowledged}
 use Rattle.vr_safe.proofs.Repairs.{leads_is}
 use Rattle.vr_safe.proofs.Speaking.{mid_idler}
@@ -55,7 +51,7 @@ use Rattle.vr_safe.proofs.Takes.{taken_views}
 use Rattle.vr_safe.proofs.Holding.{Holds, holds_rested, tables_hold}
 use Rattle.vr_safe.proofs.Staying.{Stays, stays_quiet, stays_says, stays_then, stays_by, stays_when, stays_each, stays_apply, stays_learn, stays_advance, stays_rested, stays_again, stays_resend, stays_ask, holds_entry, holds_idler, holds_put}
 use Rattle.vr_safe.proofs.Tabling.{Tabled, tabled_after, tabled_change_then, tabled_says_then, tabled_quiet_then, tabled_if, tabled_held, tabled_stays, tabled_then_stays, tables_unled, tabled_unled}
-use Rattle.vr_safe.proofs.TabledWords.{Enters, several_by, enter_rests, entered_so, started_so, tables_entered, tabled_entered, tabled_enter_then, enter_is, tabled_take_then, taken_statements, tabled_try, tabled_speak, tabled_repaired}
+use Rattle.vr_safe.proofs.TabledWords.{Enters, several_by, enter_rests, entered_so, started_so, tabled_entered, tabled_enter_then, enter_is, tabled_take_then, taken_statements, tabled_try, tabled_speak, tabled_repaired}
 
 -- ---- the view and its primary stay
 

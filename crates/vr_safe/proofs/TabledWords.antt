@@ -1,9 +1,8 @@
 -- The words that change what a replica's tables say: an entry is stored, a view is entered or begun, a log is taken over.
-use Rattle.std.proofs.Common.{ℕ, zero, suc, ◌+◌, ◌-◌, ◌%◌, ◌≤◌, ◌<◌, ◌≡◌, ◌≢◌, ◌∙◌, inl, inr, arith, refl, sym, ap, subst, Bool, true, false, not, cond, List, [], ◌∷◌, ◌++◌, length, get_or, set, replicate, drop, map, Option, Some, None}
+use Rattle.std.proofs.Common.{ℕ, zero, suc, ◌+◌, ◌-◌, ◌%◌, ◌≤◌, ◌<◌, ◌≡◌, ◌∙◌, inl, inr, arith, refl, sym, ap, subst, true, false, not, cond, List, ◌++◌, length, get_or, replicate, map, Option, None}
 use Rattle.std.specs.Prelude.{nat_lt, nat_le, ◌&&◌}
-use Rattle.std.specs.Option.{option_map_or}
 use Rattle.std.specs.List.{range_with_len}
-use Rattle.std.proofs.lemmas.Bool.{and_parts, cases_eq, cases_lt, not-true, ltb-true, lt-ltb, le-ltb, eqb-true, eqb-false, eq-eqb, and_from}
+use Rattle.std.proofs.lemmas.Bool.{and_parts, cases_eq, cases_lt, lt-ltb, eqb-true}
 use Rattle.std.proofs.lemmas.List.{get_or-drop, get_or-replicate, get_or_past, length-replicate}
 use Rattle.vr_base.specs.Groups.{quorums_of}
 use Rattle.vr_base.specs.declared.replicas.Replicas.{Replicas}
@@ -17,18 +16,16 @@ use Rattle.vr_msg.specs.declared.choice.Choice.TheVariants.{Ends, WaitsAt, TooFe
 use Rattle.vr_msg.specs.declared.output.Output.{Output}
 use Rattle.vr_msg.specs.declared.statement.Statement.{Statement}
 use Rattle.vr_msg.specs.Choice.{choice, ops}
-use Rattle.vr_msg.specs.Logs.{header_of}
 use Rattle.vr_rules.specs.Replica.{Replica, ackers_at, view_change, head, is_primary, is_started, last_view, leads, part_at, replication, forgetting, with_part}
-use Rattle.vr_rules.specs.Outputs.{do_view_change, prepare, prepare_ok, send_to_all, start_view, start_view_change, to_primary, wait_line}
-use Rattle.vr_rules.specs.Steps.{Effect, Say, Setting, Step, Word, ◌⨾◌, quiet, change, does, says, by, naming, when, each, after_all, outputs}
-use Rattle.vr_rules.specs.Words.{Log, saves, save, with_saved, entered, enter, rested, stored, write, taken, taken_part, take, may_take, stated, chosen_log, choose_line, begin_view, try_log, obey_choice, decided, try, speak, resend, prepare_again, apply, advance, no_ackers, no_statements}
+use Rattle.vr_rules.specs.Outputs.{do_view_change, prepare, send_to_all, start_view, to_primary, wait_line}
+use Rattle.vr_rules.specs.Steps.{Effect, Say, Setting, Step, Word, ◌⨾◌, quiet, change, does, says, by, naming, each, after_all, outputs}
+use Rattle.vr_rules.specs.Words.{Log, save, with_saved, entered, enter, rested, stored, write, taken, take, may_take, stated, chosen_log, choose_line, begin_view, try_log, obey_choice, decided, try, speak, resend, prepare_again, apply, advance, no_ackers}
 use Rattle.vr_rules.specs.Rules.{make}
 use Rattle.vr_rules.specs.Sound.{IsSound}
-use Rattle.vr_rules.proofs.Heads.{forgetting_spans}
-use Rattle.vr_rules.proofs.Keeping.{sound_alike, spans_of}
+use Rattle.vr_rules.proofs.Keeping.{sound_alike}
 use Rattle.vr_rules.proofs.Storing.{MayStore, kept_stored}
-use Rattle.vr_rules.proofs.Taking.{IsLogFor, MayTake, may_take_is, over, over_spans, kept_taken}
-use Rattle.vr_rules.proofs.Trying.{all_stated, chosen_log_is, decided_ends, keeps_speak}
+use Rattle.vr_rules.proofs.Taking.{IsLogFor, MayTake, may_take_is, over, kept_taken}
+use Rattle.vr_rules.proofs.Trying.{all_stated, chosen_log_is, decided_ends}
 use Rattle.vr_rules.proofs.Wording.{none_stated, kept_entered}
 use Rattle.vr_protocol.specs.Basics.{In}
 use Rattle.vr_protocol.specs.Group.{Group, Made, made_at}
@@ -41,12 +38,11 @@ use Rattle.vr_safe.specs.Tables.{Fits, HasVouchedAt, Tables}
 use Rattle.vr_safe.specs.Begins.{with_made}
 use Rattle.vr_safe.proofs.Repairs.{leads_is}
 use Rattle.vr_safe.proofs.Writing.{stored_ackers, stored_fields, stored_next, stored_other, stored_up, stored_views}
-use Rattle.vr_safe.proofs.Beginning.{AreStated, entered_fields}
+use Rattle.vr_safe.proofs.Beginning.{AreStated}
 use Rattle.vr_safe.proofs.Takes.{above_later, taken_at, taken_views}
 use Rattle.vr_safe.proofs.Fresh.{no_flags}
-use Rattle.vr_safe.proofs.Holding.{Holds, holds_same, tables_hold}
-use Rattle.vr_safe.proofs.Staying.{Stays, stays_then, stays_each, stays_again, stays_apply, stays_advance, stays_resend}
-use Rattle.vr_safe.proofs.Tabling.{Since, Tabled, IsPrepared, tabled_after, tabled_says_then, tabled_if, tables_stay, tables_unled, tabled_unled, prepared_all, prepared_left, prepared_each, holds_each, vouched_by}
+use Rattle.vr_safe.proofs.Staying.{stays_then, stays_each, stays_again, stays_apply, stays_advance, stays_resend}
+use Rattle.vr_safe.proofs.Tabling.{Tabled, IsPrepared, tabled_after, tabled_says_then, tabled_if, tables_stay, tables_unled, prepared_all, prepared_left, prepared_each, holds_each, vouched_by}
 
 -- a group in which two make a quorum has two
 several_of : (n : ℕ) → 2 ≤ replication n → 2 ≤ n

@@ -1,20 +1,18 @@
 -- What a replica's tables rest on at the end of a step: what was sent before, and what the step said.
-use Rattle.std.proofs.Common.{ℕ, zero, suc, ◌+◌, ◌%◌, ◌≤◌, ◌<◌, ◌≡◌, ◌≢◌, ◌∙◌, ◌⊎◌, inl, inr, arith, refl, sym, ap, subst, Bool, true, false, not, cond, List, [], ◌∷◌, ◌++◌, length, get_or, map, filter, replicate, Option, Some, None}
-use Rattle.std.specs.Prelude.{nat_eq, nat_lt}
+use Rattle.std.proofs.Common.{ℕ, zero, suc, ◌+◌, ◌%◌, ◌≤◌, ◌≡◌, ◌∙◌, inl, inr, arith, refl, sym, ap, subst, Bool, true, false, not, cond, List, [], ◌∷◌, ◌++◌, map, filter, Option, Some, None}
+use Rattle.std.specs.Prelude.{nat_eq}
 use Rattle.std.specs.List.{range_with_len}
-use Rattle.std.proofs.lemmas.Bool.{cases_eq, cond_both, not-true, not-false, eqb-true}
+use Rattle.std.proofs.lemmas.Bool.{cond_both, not-false, eqb-true}
 use Rattle.vr_header.specs.declared.header.Header.{Header}
 use Rattle.vr_header.specs.declared.part.Part.{Part}
 use Rattle.vr_header.specs.declared.part.Part.TheVariants.{Here, Lost, Wanted, Unknown, Nothing}
 use Rattle.vr_header.specs.Made.{Whole}
-use Rattle.vr_msg.specs.declared.frame.Frame.{Frame}
 use Rattle.vr_msg.specs.declared.frame.Frame.TheVariants as frame
 use Rattle.vr_msg.specs.declared.frame.Prepare.{Prepare}
 use Rattle.vr_msg.specs.declared.output.Output.{Output}
 use Rattle.vr_msg.specs.declared.output.Output.TheVariants as output
 use Rattle.vr_msg.specs.declared.output.Sent.{Sent}
-use Rattle.vr_msg.specs.declared.statement.Statement.{Statement}
-use Rattle.vr_rules.specs.Replica.{Replica, head, leads, part_at, with_part, forgetting}
+use Rattle.vr_rules.specs.Replica.{Replica, leads, part_at, with_part}
 use Rattle.vr_rules.specs.Outputs.{others, send, send_to_all, prepare}
 use Rattle.vr_rules.specs.Steps.{Effect, Say, Setting, Step, Word, ◌⨾◌, quiet, change, says, by, reading, each, after_all, outputs}
 use Rattle.vr_rules.specs.Words.{entry_of, or_lost, lost, with_entry, with_entry_at, prepare_again}
@@ -22,19 +20,18 @@ use Rattle.vr_rules.specs.Sound.{IsSound}
 use Rattle.vr_rules.proofs.SendsScripts.{outputs_append, outputs_said}
 use Rattle.vr_rules.proofs.Wording.{read_is}
 use Rattle.vr_protocol.specs.Basics.{In}
-use Rattle.vr_protocol.specs.Group.{Group, made_at, Vouches}
+use Rattle.vr_protocol.specs.Group.{Group}
 use Rattle.vr_protocol.specs.Members as machine
 use Rattle.vr_protocol.specs.Members.{Message, Do_view_change}
 use Rattle.vr_safe.specs.Local.{Local, carried}
-use Rattle.vr_safe.specs.Chains.{Setup, Every, WasSent, statement_told}
+use Rattle.vr_safe.specs.Chains.{Setup, Every, WasSent}
 use Rattle.vr_safe.specs.Finished.{Finished, Finishes, IsTrue}
 use Rattle.vr_safe.specs.Begins.{IsChain, as_it_was}
 use Rattle.vr_safe.specs.Tables.{HasVouchedAt, Tables}
 use Rattle.vr_safe.proofs.Playing.{leaves}
-use Rattle.vr_safe.proofs.Repairs.{leads_is}
 use Rattle.vr_safe.proofs.Applying.{op_is, at_lost}
 use Rattle.vr_safe.proofs.Beginning.{AreStated}
-use Rattle.vr_safe.proofs.Holding.{Holds, HoldsBy, holds_same, tables_hold}
+use Rattle.vr_safe.proofs.Holding.{Holds, tables_hold}
 use Rattle.vr_safe.proofs.Staying.{Stays, stays_again, stays_each}
 
 -- what was sent before is sent, and what was said; and nothing was made
@@ -158,7 +155,7 @@ module _ (u : Setup) (start : Group Header) (i : ℕ) where
   tabled_unled x unled all s a = tables_unled s x.replica unled (λ j t e. a.kept _ (all j t e))
 
 -- a step in which nothing is made
-pub chain_of : (u : Setup) (start : Group Header) (i : ℕ) (l : Local) (x : Step) → Finishes u start i l x → Tabled u start i x → IsChain u start i l x
+unfoldable pub chain_of : (u : Setup) (start : Group Header) (i : ℕ) (l : Local) (x : Step) → Finishes u start i l x → Tabled u start i x → IsChain u start i l x
 chain_of u start i l x h g = record { begun = start; begins = as_it_was; finishes = h; tables = λ b. g h.after (since_finished u start i x.replica l x.script h.after h.ends) }
 
 -- ---- what is stored is prepared

@@ -4,6 +4,8 @@
 #[cfg(test)]
 mod ckpt;
 #[cfg(test)]
+mod disks;
+#[cfg(test)]
 mod grid;
 #[cfg(test)]
 mod lie;

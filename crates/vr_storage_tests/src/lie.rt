@@ -45,11 +45,11 @@ fn value(alloc: Global) -> Result<Super, NoMemory> {
 
 // A disk with a superblock of four good copies, and an entry in slot 1.
 fn written(rt: &HostRuntime) -> Result<LieDisk, Fail> {
-    let mut disk = LieDisk::new(rt.alloc()).map_err(|_| "no memory")?;
-    let value = value(rt.alloc()).map_err(|_| "no memory")?;
-    write(&mut disk, &value, &value).map_err(|_| "a write failed")?;
-    write_header(&mut disk, &reserved()).map_err(|_| "a write failed")?;
-    write_new(&mut disk, &entry()).map_err(|_| "a write failed")?;
+    let mut disk = LieDisk::new(rt.alloc())?;
+    let value = value(rt.alloc())?;
+    write(&mut disk, &value, &value)?;
+    write_header(&mut disk, &reserved())?;
+    write_new(&mut disk, &entry())?;
     Ok(disk)
 }
 
@@ -65,7 +65,7 @@ fn slots(rt: HostRuntime) -> Result<(), Fail> {
     ] {
         assert_eq!(rt; disk.fault(&fault), expected, "line {line}");
     }
-    write_header(&mut disk, &entry().header()).map_err(|_| "a write failed")?;
+    write_header(&mut disk, &entry().header())?;
     for (line, fault, expected) in [
         (5u32, Fault::Damage(148), Faulted::Done),
         (6, Fault::Stale(81), Faulted::Done),
@@ -97,7 +97,7 @@ fn superblock(rt: HostRuntime) -> Result<(), Fail> {
 
 #[test]
 fn readings(rt: HostRuntime) -> Result<(), Fail> {
-    let mut disk = LieDisk::new(rt.alloc()).map_err(|_| "no memory")?;
+    let mut disk = LieDisk::new(rt.alloc())?;
     for byte in [1u8, 2] {
         for i in [912u32, 913] {
             let sector = Sector { bytes: [byte; 512] };

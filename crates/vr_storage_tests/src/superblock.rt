@@ -1,10 +1,12 @@
 //! Stops in the midst of a write, and copies that are damaged.
+ghost use Rattle.std.specs.Prelude.{◌≤◌};
 ghost use Rattle.vr_super.specs.Copies.{IsGood};
 
+use crate::disks::{disk, spoil};
 use std::alloc::Global;
+use std::process::Abort;
 use std::test::Fail;
 use vr_base::{NoMemory, Seq, Sum};
-use vr_disk::{Sector, SectorDisk};
 use vr_header::{Command, Header, HeaderList, Size};
 use vr_mem::MemDisk;
 use vr_super::{CopyVerdict, Fields, Super, SuperFault, opens, recover, write};
@@ -67,16 +69,44 @@ fn sequence_of(alloc: Global, disk: &mut MemDisk) -> Option<u64> {
 }
 
 // A disk with four good copies of sequence 1.
-fn written(rt: &HostRuntime) -> Result<MemDisk, Fail> {
-    let mut disk = MemDisk::new(rt.alloc()).map_err(|_| "no memory")?;
-    let first = value(rt.alloc(), 1, None).map_err(|_| "no memory")?;
-    write(&mut disk, &first, &first).map_err(|_| "a write failed")?;
+fn written(alloc: Global) -> Result<MemDisk, Fail> {
+    let mut disk = disk(alloc)?;
+    let first = value(alloc, 1, None)?;
+    write(&mut disk, &first, &first)?;
     Ok(disk)
+}
+
+// Whether the second value's write fails.
+fn fails_again(alloc: Global, disk: &mut MemDisk) -> Result<bool, Fail> {
+    let first = value(alloc, 1, None)?;
+    let second = value(alloc, 2, Some(&first))?;
+    Ok(write(disk, &first, &second).is_err())
+}
+
+// The write of the second value is cut after so many calls.
+fn stop(
+    rt: &impl Abort,
+    alloc: Global,
+    calls: u32,
+    code: u64,
+    sequence: u64,
+    fired: bool,
+) -> Result<(), Fail> {
+    let mut disk = written(alloc)?;
+    disk.fuse(u64::from(calls) + 1, code);
+    let failed = fails_again(alloc, &mut disk)?;
+    assert_eq!(rt; (failed, disk.fired()), (fired, fired), "after {calls}");
+    disk.revive();
+    assert_eq!(rt;
+        sequence_of(alloc, &mut disk),
+        Some(sequence),
+        "after {calls}"
+    );
+    Ok(())
 }
 
 #[test]
 fn stops(rt: HostRuntime) -> Result<(), Fail> {
-    // So many calls go through before the one that is cut.
     for (calls, code, sequence, fired) in [
         (9u32, 0, 1, true),
         (21, 0, 1, true),
@@ -85,55 +115,61 @@ fn stops(rt: HostRuntime) -> Result<(), Fail> {
         (63, 0, 2, true),
         (84, 0, 2, false),
     ] {
-        let mut disk = written(&rt)?;
-        let first = value(rt.alloc(), 1, None).map_err(|_| "no memory")?;
-        let second = value(rt.alloc(), 2, Some(&first)).map_err(|_| "no memory")?;
-        disk.fuse(u64::from(calls) + 1, code);
-        let result = write(&mut disk, &first, &second);
-        assert_eq!(rt; result.is_err(), fired, "after {calls}");
-        assert_eq!(rt; disk.fired(), fired, "after {calls}");
-        disk.revive();
-        assert_eq!(rt;
-            sequence_of(rt.alloc(), &mut disk),
-            Some(sequence),
-            "after {calls}"
-        );
+        stop(&rt, rt.alloc(), calls, code, sequence, fired)?;
     }
     Ok(())
 }
 
+// What recover answers where it finds no value.
+fn fault(alloc: Global, disk: &mut MemDisk) -> Option<SuperFault> {
+    match recover(alloc, disk) {
+        Err(fault) => Some(fault),
+        Ok(_) => None,
+    }
+}
+
 #[test]
 fn lost(rt: HostRuntime) -> Result<(), Fail> {
-    let mut disk = MemDisk::new(rt.alloc()).map_err(|_| "no memory")?;
+    let mut disk = disk(rt.alloc())?;
     assert!(rt; opens(&mut disk).is_none());
-    match recover(rt.alloc(), &mut disk) {
-        Err(fault) => assert_eq!(rt; fault, SuperFault::Lost([CopyVerdict::Bad; 4])),
-        Ok(_) => assert!(rt; false, "a disk of zeros has a value"),
-    }
+    assert_eq!(rt;
+        fault(rt.alloc(), &mut disk),
+        Some(SuperFault::Lost([CopyVerdict::Bad; 4]))
+    );
+    Ok(())
+}
+
+// The next call on the disk fails.
+fn fail_next(alloc: Global, disk: &mut MemDisk) -> Result<(), Fail> {
+    let mut list = Vec::new(alloc);
+    list.push(1)?;
+    disk.fail(list);
+    Ok(())
+}
+
+// One copy is spoiled: the value opens from the least good copy, and is mended where no call fails.
+fn spoiled(rt: &impl Abort, alloc: Global, copy: u32, least: u8) -> Result<(), Fail>
+    requires { copy ≤ 3 }
+{
+    let mut disk = written(alloc)?;
+    spoil(&mut disk, 20 * copy + 16)?;
+    let found = opens(&mut disk).map(|found| (found.copy, found.sequence, found.view));
+    assert_eq!(rt; found, Some((least, 1, 0)), "copy {copy}");
+    fail_next(alloc, &mut disk)?;
+    assert_eq!(rt;
+        fault(alloc, &mut disk),
+        Some(SuperFault::DiskFault),
+        "copy {copy}"
+    );
+    assert_eq!(rt; sequence_of(alloc, &mut disk), Some(1));
+    assert_eq!(rt; opens(&mut disk).map(|found| found.copy), Some(0));
     Ok(())
 }
 
 #[test]
 fn damaged(rt: HostRuntime) -> Result<(), Fail> {
-    for (copy, least) in [(0, 1), (1, 0), (2, 0), (3, 0)] {
-        let mut disk = written(&rt)?;
-        let other = Sector { bytes: [7; 512] };
-        assert!(rt; disk.write(20 * copy + 16, &other).is_ok());
-        let found = opens(&mut disk).ok_or("nothing opens")?;
-        assert_eq!(rt;
-            (found.copy, found.sequence, found.view),
-            (least, 1, 0),
-            "copy {copy}"
-        );
-        let mut list = Vec::new(rt.alloc());
-        list.push(1)?;
-        disk.fail(list);
-        match recover(rt.alloc(), &mut disk) {
-            Err(fault) => assert_eq!(rt; fault, SuperFault::DiskFault),
-            Ok(_) => assert!(rt; false, "copy {copy} was mended by a call that failed"),
-        }
-        assert_eq!(rt; sequence_of(rt.alloc(), &mut disk), Some(1));
-        assert_eq!(rt; opens(&mut disk).map(|found| found.copy), Some(0));
-    }
-    Ok(())
+    spoiled(&rt, rt.alloc(), 0, 1)?;
+    spoiled(&rt, rt.alloc(), 1, 0)?;
+    spoiled(&rt, rt.alloc(), 2, 0)?;
+    spoiled(&rt, rt.alloc(), 3, 0)
 }

@@ -1,6 +1,7 @@
 //! A replica has entered a view: start_view_changes.
-ghost use Rattle.std.specs.Prelude.{◌≡◌, ◌<◌, ◌≤◌, ◌+◌, ◌^◌, OnOk};
+ghost use Rattle.std.specs.Prelude.{◌≡◌, ◌<◌, ◌≤◌, ◌+◌, ◌^◌, OnOk, true};
 ghost use Rattle.vr_journal.specs.Ready.{IsReady};
+ghost use Rattle.vr_repair.specs.Waits.{EndsAtOnce, passes};
 ghost use Rattle.vr_rules.specs.Deciding.{first_of, start_view_change_table};
 ghost use Rattle.vr_rules.specs.Replica.{last_view};
 ghost use Rattle.vr_rules.specs.Rules.{heard_of, on_start_view_change};
@@ -112,6 +113,7 @@ pub fn handle_start_view_change<D: SectorDisk>(
     requires room { replica.old.saved.fields.sequence + 66 < 2 ^ 64 }
     ensures ready { OnOk result (IsReady replica.new) }
     ensures cause { Caused (D.faults disk.old) (D.faults disk.new) result }
+    ensures passed { passes (first_of (start_view_change_table message.now replica.old)) ≡ true → EndsAtOnce (D.told disk.old) (D.told disk.new) result }
     ensures step { Does (on_start_view_change message.now) replica.old replica.new (D.told disk.old) (D.told disk.new) out.old out.new result }
 {
     match decide_start_view_change(replica, message) {

@@ -1,26 +1,23 @@
 -- The calls that write blocks.
-use Rattle.std.proofs.Common.{ℕ, zero, suc, ◌+◌, ◌*◌, ◌-◌, ◌/◌, ◌≤◌, ◌<◌, ◌≡◌, ◌∙◌, arith, refl, sym, ap, subst, true, false, cond, eqb, List, [], ◌∷◌, ◌++◌, length, map, Option, Some, None}
-use Rattle.std.specs.Prelude.{◌%◌, ◌==◌, replicate, slice_get, nat_eq, is_some}
+use Rattle.std.proofs.Common.{ℕ, zero, suc, ◌+◌, ◌*◌, ◌-◌, ◌/◌, ◌≤◌, ◌<◌, ◌≡◌, arith, refl, sym, ap, subst, true, false, cond, List, [], ◌∷◌, ◌++◌, length, Option, Some, None}
+use Rattle.std.specs.Prelude.{◌%◌, ◌==◌, replicate, slice_get, nat_eq}
 use Rattle.std.specs.Cmp.Lexicographic.{pointwise}
 use Rattle.std.specs.List.{AllByRecursion}
 use Rattle.std.proofs.lemmas.List.{length-append, length-replicate}
-use Rattle.vr_base.specs.Bytes.{IsBytes, bytes16, bytes32, bytes64, joined, name_of, piece}
+use Rattle.vr_base.specs.Bytes.{IsBytes, bytes16, bytes32, bytes64, joined, name_of}
 use Rattle.vr_base.proofs.FieldLaws.{IsBytes-piece, length-bytes16, length-bytes32, length-bytes64, length-name_of}
 use Rattle.vr_base.proofs.Places.{length-joined, total, widths}
 use Rattle.vr_base.proofs.AreBytes.{AllBytes, IsBytes-append, IsBytes-bytes16, IsBytes-bytes32, IsBytes-bytes64, IsBytes-joined, IsBytes-name_of, IsBytes-none, IsBytes-one, IsBytes-zeros}
-use Rattle.vr_disk.specs.DiskState.{Call, Sync}
+use Rattle.vr_disk.specs.DiskState.{Sync}
 use Rattle.vr_disk.specs.Regions.{block_place}
-use Rattle.vr_header.specs.Names.{header_name, no_name}
-use Rattle.vr_header.specs.declared.header.Header.{Header}
 use Rattle.vr_header.specs.Spelling.{field_bytes, header_bytes, named_bytes}
 use Rattle.vr_grid.specs.Blocks.{Content, block_bytes, block_header, block_name, block_of, named}
 use Rattle.vr_grid.specs.Grid.{block_calls, put_calls}
 use Rattle.vr_grid.specs.declared.block.Block.{Block}
-use Rattle.vr_grid.specs.declared.name.Name.{Name}
 use Rattle.vr_apply.specs.Texts.{payloads}
 use Rattle.vr_apply.specs.declared.codec.Texts.{Texts}
 use Rattle.vr_ckpt.specs.Places.{first_place, other_place, root_place}
-use Rattle.vr_ckpt.specs.Saves.{PayloadBlocks, blocks_calls, blocks_from, changed, data_content, goes_to, keys_run, names_bytes, payload_blocks, payload_blocks_at, payload_at, payloads_from, payloads_of, root_of, root_payload, save_calls, sessions_run, stays, table_of, written}
+use Rattle.vr_ckpt.specs.Saves.{PayloadBlocks, blocks_calls, blocks_from, changed, data_content, goes_to, keys_run, names_bytes, payload_blocks, payload_blocks_at, payload_at, payloads_from, root_of, root_payload, save_calls, sessions_run, stays, table_of, written}
 use Rattle.vr_ckpt.specs.declared.plan.Run.{Run}
 use Rattle.vr_ckpt.specs.declared.table.Payload.{Payload}
 use Rattle.vr_ckpt.specs.declared.table.PayloadTable.{PayloadTable}

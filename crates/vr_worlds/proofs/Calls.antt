@@ -49,7 +49,7 @@ pub sector_content : (h : Header) → IsHeader h → IsContent (sector_of h)
 unfolding sector_of
 sector_content h is = record { size = length-sector h is; each = IsBytes-append (header_bytes h) (replicate 384 0) (header_bytes-are h is) (IsBytes-zeros 384) }
 
-prepare_are : (e : Whole) → IsWhole e → IsBytes (prepare_bytes e)
+pub prepare_are : (e : Whole) → IsWhole e → IsBytes (prepare_bytes e)
 unfolding prepare_bytes
 prepare_are e w = IsBytes-append (entry_bytes e) (replicate (2048 - length (entry_bytes e)) 0) (entry_bytes-are e w.header w.operation) (IsBytes-zeros (2048 - length (entry_bytes e)))
 
@@ -94,7 +94,7 @@ front_are v f =
     ) in
     IsBytes-joined (field_bytes x (length v.headers)) all
 
-copy_are : (v : SuperValue) → IsGood v → IsBytes (copy_bytes v)
+pub copy_are : (v : SuperValue) → IsGood v → IsBytes (copy_bytes v)
 unfolding copy_bytes named_bytes
 copy_are v g =
     let front = front_bytes v.fields (length v.headers) in
@@ -134,14 +134,14 @@ save_are old new f g h = calls_append (mend_calls old f) (save_from 0 4 (copy_by
 
 -- ---- formatting
 
-zero_content : IsContent zero_sector
+pub zero_content : IsContent zero_sector
 zero_content = record { size = length-replicate {A = ℕ} 512 0; each = IsBytes-zeros 512 }
 
 zeros_written : (n i : ℕ) → i + n ≤ 1424 → AreCalls (map (λ k. Write k zero_sector) (range_with_len i n))
 zeros_written zero i l = tt
 zeros_written (suc n) i l = ((omega (arith, l), zero_content), zeros_written n (i + 1) (omega (arith, l)))
 
-reserved_is : (slot : ℕ) → slot < 64 → IsHeader (reserved_header 0 slot)
+pub reserved_is : (slot : ℕ) → slot < 64 → IsHeader (reserved_header 0 slot)
 reserved_is slot l = record {
   body = length-name_of [];
   body_bytes = IsBytes-name_of [];

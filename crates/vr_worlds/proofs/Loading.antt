@@ -1,10 +1,10 @@
 -- What a disk has of a checkpoint consists of bytes.
-use Rattle.std.proofs.Common.{arith, ◌≡◌, ◌≢◌, ◌≤◌, ◌<◌, ◌+◌, ◌-◌, ◌*◌, inl, inr, refl, subst, ℕ, zero, suc, true, false, cond, List, [], ◌∷◌, ◌++◌, length, Option, Some, None, is_some, min}
+use Rattle.std.proofs.Common.{arith, ◌≡◌, ◌≤◌, ◌<◌, ◌+◌, ◌-◌, ◌*◌, refl, subst, ℕ, zero, suc, true, false, cond, List, [], ◌∷◌, ◌++◌, length, Option, Some, None, is_some, min}
 use Rattle.std.specs.Prelude.{All, nat_le, nat_lt, nat_eq, ◌&&◌}
 use Rattle.std.specs.Option.{option_and_then, option_map}
 use Rattle.std.specs.Int.{w16, w64}
-use Rattle.std.proofs.lemmas.Bool.{ltb-true, and_parts, or_cases, eqb-true, leb-true}
-use Rattle.std.proofs.lemmas.List.Elements.{All-nil, All-cons, All-append, All-head, All-tail}
+use Rattle.std.proofs.lemmas.Bool.{ltb-true, and_parts, eqb-true, leb-true}
+use Rattle.std.proofs.lemmas.List.Elements.{All-nil, All-cons, All-head, All-tail}
 use Rattle.vr_base.specs.Bytes.{IsBytes, number}
 use Rattle.vr_base.proofs.FieldLaws.{IsBytes-piece, length-piece}
 use Rattle.vr_disk.specs.DiskState.{Face, IsFace}
@@ -13,19 +13,16 @@ use Rattle.vr_grid.specs.declared.name.Name.{Name}
 use Rattle.vr_grid.specs.Blocks.{Content, named}
 use Rattle.vr_grid.specs.Grid.{block_reading, named_at}
 use Rattle.vr_grid.proofs.Contents.{named_found, read_of}
-use Rattle.vr_ckpt.specs.Loads.{both_named, data_at, gathered, gathered_both, has_numbers, text_of, data_of, is_root, keys_size, load_by, load_of, loaded, name_at, names_at, read_root, root_at, root_in, sessions_size, with_data, with_name}
+use Rattle.vr_ckpt.specs.Loads.{both_named, data_at, gathered, has_numbers, text_of, data_of, is_root, keys_size, load_by, load_of, loaded, name_at, names_at, read_root, root_at, root_in, sessions_size, with_data, with_name}
 use Rattle.vr_ckpt.specs.Places.{is_place, root_place}
-use Rattle.vr_ckpt.specs.declared.found.Load.TheVariants.{Loaded, Missing}
+use Rattle.vr_ckpt.specs.declared.found.Load.TheVariants.{Loaded}
 use Rattle.vr_ckpt.specs.declared.loading.Gathered.{Gathered}
 use Rattle.vr_ckpt.specs.declared.root.Root.{Root}
 use Rattle.std.specs.List.{AllByRecursion}
-use Rattle.std.proofs.Common.{sym, ap, ◌∙◌}
 use Rattle.vr_base.proofs.AreBytes.{IsBytes-append, IsBytes-none}
 use Rattle.vr_disk.specs.Regions.{block_place}
 use Rattle.vr_disk.proofs.Together.{together_bytes}
 use Rattle.vr_apply.specs.declared.codec.Texts.{Texts}
-use Rattle.vr_grid.specs.Blocks.{content_at}
-use Rattle.vr_ckpt.specs.declared.table.Payload.{Payload}
 use Rattle.vr_ckpt.specs.declared.table.PayloadTable.{PayloadTable}
 use Rattle.vr_rules.specs.Sectors.{block_in}
 use Rattle.vr_rules.specs.Sound.{IsNameBytes}

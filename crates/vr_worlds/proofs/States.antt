@@ -1,5 +1,5 @@
 -- States of the program: what their texts are, and what applying keeps.
-use Rattle.std.proofs.Common.{ℕ, zero, suc, ◌+◌, ◌*◌, ◌≤◌, ◌<◌, ◌≡◌, ◌∙◌, arith, refl, sym, ap, subst, Bool, true, false, cond, leb, ltb, List, [], ◌∷◌, ◌++◌, length, Option, Some, None, Result, Ok, Err}
+use Rattle.std.proofs.Common.{ℕ, ◌≤◌, ◌≡◌, arith, refl, subst, Bool, true, false, cond, ltb, List, [], ◌∷◌, ◌++◌, length, Some, None, Ok, Err}
 use Rattle.std.specs.Prelude.{is_some}
 use Rattle.std.specs.List.{AllByRecursion, flat_map}
 use Rattle.std.specs.Option.{option_map_or}
@@ -18,7 +18,6 @@ use Rattle.vr_header.proofs.AreBytes.{text-are}
 use Rattle.vr_header.proofs.BodyLaws.{text_limit}
 use Rattle.vr_table.specs.Finite.{byte_order, find, put}
 use Rattle.vr_table.specs.Table.{table_text}
-use Rattle.vr_table.specs.declared.fault.StateFault.{StateFault}
 use Rattle.vr_kv.specs.Kv as kv
 use Rattle.vr_kv.specs.Kv.{IsKv}
 use Rattle.vr_kv.specs.Pairs as pairs
@@ -33,7 +32,7 @@ use Rattle.vr_sess.specs.declared.session.Session.{Session}
 use Rattle.vr_sess.specs.declared.session.SessionAnswer.TheVariants as answer
 use Rattle.vr_sess.proofs.Steps.{evicted_applied, evicted_held, full_has_oldest, room_applied, room_held, there_applied, there_held}
 use Rattle.vr_sess.proofs.Spelled.{length-sessions_text, sessions_found}
-use Rattle.vr_apply.specs.Folds.{applied, answered, empty, asked, check, executed, outcome_of}
+use Rattle.vr_apply.specs.Folds.{applied, answered, empty, asked, check, executed}
 use Rattle.vr_apply.specs.Texts.{both_read, payloads, state_decoded, texts_of}
 use Rattle.vr_apply.specs.declared.codec.Texts.{Texts}
 use Rattle.vr_apply.specs.declared.state.State.{State}

@@ -1,6 +1,6 @@
 -- What writes of blocks words make, and what a replica keeps of which its checkpoints are written.
-use Rattle.std.proofs.Common.{◌≡◌, refl, sym, ap, ◌∙◌, subst, ℕ, zero, suc, Bool, true, false, cond, List, [], ◌∷◌, ◌++◌, map, Option, Some, None, Result, Ok, Err}
-use Rattle.std.specs.Prelude.{◌%◌, not}
+use Rattle.std.proofs.Common.{◌≡◌, refl, sym, subst, ℕ, zero, suc, Bool, true, false, cond, List, [], ◌∷◌, ◌++◌, map, Option, Some, None, Result, Ok, Err}
+use Rattle.std.specs.Prelude.{◌%◌}
 use Rattle.std.specs.Option.{option_and_then}
 use Rattle.std.proofs.Common.{arith}
 use Rattle.vr_kv.specs.Kv.{IsKv}
@@ -33,7 +33,7 @@ use Rattle.vr_msg.specs.declared.statement.Statement.{Statement}
 use Rattle.vr_rules.specs.Replica.{Replica, leads, part_at, forgetting, with_part}
 use Rattle.vr_rules.specs.Outputs.{applied_reply, asker_of, kind_of, others, prepare, replies, send, send_to_all, start_view, start_view_change}
 use Rattle.vr_rules.specs.Steps.{Effect, Write, Rewrite, Save, Mend, Checkpoint, PutBlock, Say, Setting, Word, ◌⨾◌, quiet, change, does, says, by, naming, reading, when, times, each, after_all}
-use Rattle.vr_rules.specs.Words.{Log, save, value_of, enter, entered, write, stored, accept, entry_of, lost, or_lost, with_entry, with_entry_at, with_checkpoint, make_checkpoint, checkpoints, checkpoint_at, checkpoint_of, apply_entry, apply_next, apply, applied, advanced, advance, learn, taken, take, prepare_again, begin_view, try_log, stated, decided, obey_choice, try, speak, resend, ask_peer, ask_for, ask, with_state, loaded_state, loads, load}
+use Rattle.vr_rules.specs.Words.{Log, save, enter, entered, write, stored, accept, entry_of, lost, or_lost, with_entry, with_entry_at, with_checkpoint, make_checkpoint, checkpoints, checkpoint_at, checkpoint_of, apply_entry, apply_next, apply, applied, advanced, advance, learn, taken, take, prepare_again, begin_view, try_log, stated, decided, obey_choice, try, speak, resend, ask_peer, ask_for, ask, with_state, loaded_state, loads, load}
 use Rattle.vr_rules.specs.Lying.{Lying, lying}
 use Rattle.vr_rules.proofs.FitGroups.{Known, known_first, known_left, known_rest, known_right}
 use Rattle.vr_worlds.specs.Chains.{Chain, GoesWell}
@@ -42,7 +42,7 @@ use Rattle.vr_worlds.proofs.Blocks.{Texted, save_state_are, table_named}
 use Rattle.vr_worlds.proofs.States.{state_kept, state_read, text_of_state}
 use Rattle.vr_worlds.proofs.Loading.{LoadsWell, loads_well}
 use Rattle.vr_worlds.proofs.Found.{read_whole}
-use Rattle.vr_worlds.proofs.Chaining.{Chained, c_apply_entry, c_by, c_change, c_checkpoint, c_if, c_naming, c_or_lost, c_quiet, c_reading, c_save, c_says, c_then, c_write, loads_saved, with_checkpoint_saved}
+use Rattle.vr_worlds.proofs.Chaining.{Chained, c_apply_entry, c_by, c_change, c_checkpoint, c_naming, c_or_lost, c_quiet, c_reading, c_save, c_says, c_then, c_write, loads_saved, with_checkpoint_saved}
 use Rattle.vr_worlds.proofs.Going.{known_goes}
 
 -- a running replica on its disk
@@ -51,13 +51,13 @@ pub record At (r : Replica) (d : Lying) : Type 0 where
   pub good : IsGood r.saved
   pub stock : IsStocked r
 
-pub record Leaves (w : Word Lying) (r : Replica) (d : Lying) : Type 0 where
-  pub blocks : AllByRecursion WritesBlocks (w lying r d).script
+pub record Leaves (P Q : List ℕ → Type 0) (w : Word Lying) (r : Replica) (d : Lying) : Type 0 where
+  pub blocks : AllByRecursion (WritesBlocks P Q) (w lying r d).script
   pub stock : IsStocked (w lying r d).replica
 
-pub record Stocking (w : Word Lying) : Type 0 where
+pub record Stocking (P Q : List ℕ → Type 0) (w : Word Lying) : Type 0 where
   pub chained : Chained w
-  pub each : (n i : ℕ) (r : Replica) (d : Lying) → At r d → Known 0 n i (w lying r d).script → Leaves w r d
+  pub each : (n i : ℕ) (r : Replica) (d : Lying) → At r d → Known 0 n i (w lying r d).script → Leaves P Q w r d
 
 -- what a change leaves of it
 pub record Kept (q r : Replica) : Type 0 where
@@ -95,21 +95,21 @@ chain_good n i (Checkpoint t x o p ∷ es) v u g c k = chain_good n i es v u g c
 chain_good n i (PutBlock m x ∷ es) v u g c k = chain_good n i es v u g c (known_rest 0 n i (PutBlock m x) es k)
 chain_good n i (Say o ∷ es) v u g c k = chain_good n i es v u g c (known_rest 0 n i (Say o) es k)
 
-blocks_both : (xs ys : List Effect) → AllByRecursion WritesBlocks xs → AllByRecursion WritesBlocks ys → AllByRecursion WritesBlocks (xs ++ ys)
-blocks_both [] ys a b = b
-blocks_both (x ∷ xs) ys a b = (a.0, blocks_both xs ys a.1 b)
+blocks_both : (P Q : List ℕ → Type 0) (xs ys : List Effect) → AllByRecursion (WritesBlocks P Q) xs → AllByRecursion (WritesBlocks P Q) ys → AllByRecursion (WritesBlocks P Q) (xs ++ ys)
+blocks_both P Q [] ys a b = b
+blocks_both P Q (x ∷ xs) ys a b = (a.0, blocks_both P Q xs ys a.1 b)
 
-said_blocks : (os : List Output) → AllByRecursion IsGivenOutput os → AllByRecursion WritesBlocks (map Say os)
-said_blocks [] a = tt
-said_blocks (o ∷ os) a = (a.0, said_blocks os a.1)
+said_blocks : (P Q : List ℕ → Type 0) (os : List Output) → AllByRecursion (IsGivenOutput P) os → AllByRecursion (WritesBlocks P Q) (map Say os)
+said_blocks P Q [] a = tt
+said_blocks P Q (o ∷ os) a = (a.0, said_blocks P Q os a.1)
 
-sends_given : (m : Frame) (r : Replica) (ns : List ℕ) → IsGiven m → AllByRecursion IsGivenOutput (map (λ to. send to m r) ns)
-sends_given m r [] g = tt
-sends_given m r (x ∷ xs) g = (g, sends_given m r xs g)
+sends_given : (P : List ℕ → Type 0) (m : Frame) (r : Replica) (ns : List ℕ) → IsGiven P m → AllByRecursion (IsGivenOutput P) (map (λ to. send to m r) ns)
+sends_given P m r [] g = tt
+sends_given P m r (x ∷ xs) g = (g, sends_given P m r xs g)
 
-pub all_given : (m : Replica → Frame) (r : Replica) → IsGiven (m r) → AllByRecursion IsGivenOutput (send_to_all m r)
+pub all_given : (P : List ℕ → Type 0) (m : Replica → Frame) (r : Replica) → IsGiven P (m r) → AllByRecursion (IsGivenOutput P) (send_to_all m r)
 unfolding send_to_all
-all_given m r g = sends_given (m r) r (others r.index r.n) g
+all_given P m r g = sends_given P (m r) r (others r.index r.n) g
 
 -- ---- readings
 
@@ -130,201 +130,202 @@ loads_stocked : (root : Name) (d : Lying) → IsFace d.face → (l : Load) → l
 loads_stocked root d f (Loaded texts table) e q k = state_stocked root table texts (state_decoded texts) q (loads_well d.face root texts table f e) refl k
 loads_stocked root d f (Missing names) e q k = record { sessions = k.sessions; machine = k.machine; old_sessions = k.old_sessions; old_keys = k.old_keys }
 
--- ---- combining
+reply_given : (P : List ℕ → Type 0) (e : Whole) (r : Replica) → AllByRecursion (IsGivenOutput P) (applied_reply e r)
+reply_given P e r = elim (leads r) as (λ t. AllByRecursion (IsGivenOutput P) (cond t (replies (asker_of e) (kind_of (applying.applied r.state e).reply) r) [])) [ true ↦ (tt, tt) | false ↦ tt ]
 
-pub b_then : (v w : Word Lying) → Stocking v → Stocking w → Stocking (v ⨾ w)
-unfolding ◌⨾◌
-b_then v w h k = record {
-  chained = c_then v w h.chained k.chained;
-  each = λ n i r d at known.
-      let a = v lying r d in
-      let mid : Lying = after_all lying d a.script in
-      let b = w lying a.replica mid in
-      let left = known_left 0 n i a.script b.script known in
-      let one = h.each n i r d at left in
-      let chain = h.chained.each lying r d in
-      let goes = known_goes n i a.script d r.saved a.replica.saved at.good chain left one.blocks in
-      let next : At a.replica mid = record { face = goes_face a.script d goes at.face; good = chain_good n i a.script r.saved a.replica.saved at.good chain left; stock = one.stock } in
-      let two = k.each n i a.replica mid next (known_right 0 n i a.script b.script known) in
-      record { blocks = blocks_both a.script b.script one.blocks two.blocks; stock = two.stock };
-}
+module _ {P Q : List ℕ → Type 0} where
+  -- ---- combining
 
-pub b_quiet : Stocking quiet
-unfolding quiet
-b_quiet = record { chained = c_quiet; each = λ n i r d a k. record { blocks = tt; stock = a.stock } }
+  pub b_then : (v w : Word Lying) → Stocking P Q v → Stocking P Q w → Stocking P Q (v ⨾ w)
+  unfolding ◌⨾◌
+  b_then v w h k = record {
+    chained = c_then v w h.chained k.chained;
+    each = λ n i r d at known.
+        let a = v lying r d in
+        let mid : Lying = after_all lying d a.script in
+        let b = w lying a.replica mid in
+        let left = known_left 0 n i a.script b.script known in
+        let one = h.each n i r d at left in
+        let chain = h.chained.each lying r d in
+        let goes = known_goes P Q n i a.script d r.saved a.replica.saved at.good chain left one.blocks in
+        let next : At a.replica mid = record { face = goes_face a.script d goes at.face; good = chain_good n i a.script r.saved a.replica.saved at.good chain left; stock = one.stock } in
+        let two = k.each n i a.replica mid next (known_right 0 n i a.script b.script known) in
+        record { blocks = blocks_both P Q a.script b.script one.blocks two.blocks; stock = two.stock };
+  }
 
-pub b_change : (g : Replica → Replica) → ((r : Replica) → Kept (g r) r) → Stocking (change g)
-unfolding change
-b_change g h = record { chained = c_change g (λ r. (h r).saved); each = λ n i r d a k. record { blocks = tt; stock = moved (g r) r (h r) a.stock } }
+  pub b_quiet : Stocking P Q quiet
+  unfolding quiet
+  b_quiet = record { chained = c_quiet; each = λ n i r d a k. record { blocks = tt; stock = a.stock } }
 
-pub b_says : (os : Replica → List Output) → ((r : Replica) → AllByRecursion IsGivenOutput (os r)) → Stocking (says os)
-unfolding says
-b_says os h = record { chained = c_says os; each = λ n i r d a k. record { blocks = said_blocks (os r) (h r); stock = a.stock } }
+  pub b_change : (g : Replica → Replica) → ((r : Replica) → Kept (g r) r) → Stocking P Q (change g)
+  unfolding change
+  b_change g h = record { chained = c_change g (λ r. (h r).saved); each = λ n i r d a k. record { blocks = tt; stock = moved (g r) r (h r) a.stock } }
 
-pub b_by : (w : Replica → Word Lying) → ((r : Replica) → Stocking (w r)) → Stocking (by w)
-unfolding by
-b_by w h = record { chained = c_by w (λ r. (h r).chained); each = λ n i r d a k. let x = (h r).each n i r d a k in record { blocks = x.blocks; stock = x.stock } }
+  pub b_says : (os : Replica → List Output) → ((r : Replica) → AllByRecursion (IsGivenOutput P) (os r)) → Stocking P Q (says os)
+  unfolding says
+  b_says os h = record { chained = c_says os; each = λ n i r d a k. record { blocks = said_blocks P Q (os r) (h r); stock = a.stock } }
 
--- of a replica that is stocked
-pub b_at : (w : Replica → Word Lying) → ((r : Replica) → Chained (w r)) → ((r : Replica) → IsStocked r → Stocking (w r)) → Stocking (by w)
-unfolding by
-b_at w c h = record { chained = c_by w c; each = λ n i r d a k. let x = (h r a.stock).each n i r d a k in record { blocks = x.blocks; stock = x.stock } }
+  pub b_by : (w : Replica → Word Lying) → ((r : Replica) → Stocking P Q (w r)) → Stocking P Q (by w)
+  unfolding by
+  b_by w h = record { chained = c_by w (λ r. (h r).chained); each = λ n i r d a k. let x = (h r).each n i r d a k in record { blocks = x.blocks; stock = x.stock } }
 
-pub b_naming : (w : (List ℕ → List ℕ) → Word Lying) → ((hash : List ℕ → List ℕ) → Stocking (w hash)) → Stocking (naming w)
-unfolding naming
-b_naming w h = record { chained = c_naming w (λ x. (h x).chained); each = λ n i r d a k. let x = (h lying.hash).each n i r d a k in record { blocks = x.blocks; stock = x.stock } }
+  -- of a replica that is stocked
+  pub b_at : (w : Replica → Word Lying) → ((r : Replica) → Chained (w r)) → ((r : Replica) → IsStocked r → Stocking P Q (w r)) → Stocking P Q (by w)
+  unfolding by
+  b_at w c h = record { chained = c_by w c; each = λ n i r d a k. let x = (h r a.stock).each n i r d a k in record { blocks = x.blocks; stock = x.stock } }
 
-pub b_reading : {X : Type 0} (g : Setting Lying → Lying → X) (w : X → Word Lying) → ((x : X) → Chained (w x)) → ((d : Lying) → IsFace d.face → Stocking (w (g lying d))) → Stocking (reading g w)
-unfolding reading
-b_reading g w c h = record { chained = c_reading g w c; each = λ n i r d a k. let x = (h d a.face).each n i r d a k in record { blocks = x.blocks; stock = x.stock } }
+  pub b_naming : (w : (List ℕ → List ℕ) → Word Lying) → ((hash : List ℕ → List ℕ) → Stocking P Q (w hash)) → Stocking P Q (naming w)
+  unfolding naming
+  b_naming w h = record { chained = c_naming w (λ x. (h x).chained); each = λ n i r d a k. let x = (h lying.hash).each n i r d a k in record { blocks = x.blocks; stock = x.stock } }
 
-pub b_if : (b : Bool) (v w : Word Lying) → Stocking v → Stocking w → Stocking (cond b v w)
-b_if true v w h k = h
-b_if false v w h k = k
+  pub b_reading : {X : Type 0} (g : Setting Lying → Lying → X) (w : X → Word Lying) → ((x : X) → Chained (w x)) → ((d : Lying) → IsFace d.face → Stocking P Q (w (g lying d))) → Stocking P Q (reading g w)
+  unfolding reading
+  b_reading g w c h = record { chained = c_reading g w c; each = λ n i r d a k. let x = (h d a.face).each n i r d a k in record { blocks = x.blocks; stock = x.stock } }
 
-pub b_when : (b : Bool) (w : Word Lying) → Stocking w → Stocking (when b w)
-b_when true w h = h
-b_when false w h = b_quiet
+  pub b_if : (b : Bool) (v w : Word Lying) → Stocking P Q v → Stocking P Q w → Stocking P Q (cond b v w)
+  b_if true v w h k = h
+  b_if false v w h k = k
 
-b_times : (n : ℕ) (w : Word Lying) → Stocking w → Stocking (times n w)
-unfolding times
-b_times zero w h = b_quiet
-b_times (suc n) w h = b_then w (times n w) h (b_times n w h)
+  pub b_when : (b : Bool) (w : Word Lying) → Stocking P Q w → Stocking P Q (when b w)
+  b_when true w h = h
+  b_when false w h = b_quiet
 
-pub b_each : {X : Type 0} (w : X → Word Lying) (xs : List X) → ((x : X) → Stocking (w x)) → Stocking (each w xs)
-unfolding each
-b_each w [] h = b_quiet
-b_each w (x ∷ xs) h = b_then (w x) (each w xs) (h x) (b_each w xs h)
+  b_times : (n : ℕ) (w : Word Lying) → Stocking P Q w → Stocking P Q (times n w)
+  unfolding times
+  b_times zero w h = b_quiet
+  b_times (suc n) w h = b_then w (times n w) h (b_times n w h)
 
--- ---- the words
+  pub b_each : {X : Type 0} (w : X → Word Lying) (xs : List X) → ((x : X) → Stocking P Q (w x)) → Stocking P Q (each w xs)
+  unfolding each
+  b_each w [] h = b_quiet
+  b_each w (x ∷ xs) h = b_then (w x) (each w xs) (h x) (b_each w xs h)
 
-pub b_save : Stocking save
-unfolding save does change ◌⨾◌
-b_save = record { chained = c_save; each = λ n i r d a k. record { blocks = (tt, tt); stock = record { sessions = a.stock.sessions; machine = a.stock.machine; old_sessions = a.stock.old_sessions; old_keys = a.stock.old_keys } } }
+  -- ---- the words
 
-pub b_write : (e : Whole) → Stocking (write e)
-unfolding write does change ◌⨾◌ forgetting with_part
-b_write e = record { chained = c_write e; each = λ n i r d a k. record { blocks = (tt, tt); stock = moved (stored e r) r (record { saved = refl; state = refl; table = refl }) a.stock } }
+  pub b_save : Stocking P Q save
+  unfolding save does change ◌⨾◌
+  b_save = record { chained = c_save; each = λ n i r d a k. record { blocks = (tt, tt); stock = record { sessions = a.stock.sessions; machine = a.stock.machine; old_sessions = a.stock.old_sessions; old_keys = a.stock.old_keys } } }
 
-pub b_accept : (e : Whole) → Stocking (accept e)
-unfolding accept
-b_accept e = b_by _ (λ r. b_when _ (write e) (b_write e))
+  pub b_write : (e : Whole) → Stocking P Q (write e)
+  unfolding write does change ◌⨾◌ forgetting with_part
+  b_write e = record { chained = c_write e; each = λ n i r d a k. record { blocks = (tt, tt); stock = moved (stored e r) r (record { saved = refl; state = refl; table = refl }) a.stock } }
 
-b_lost : (h : Header) → Stocking (change (lost h))
-unfolding with_part
-b_lost h = b_change (lost h) (λ r. record { saved = refl; state = refl; table = refl })
+  pub b_accept : (e : Whole) → Stocking P Q (accept e)
+  unfolding accept
+  b_accept e = b_by _ (λ r. b_when _ (write e) (b_write e))
 
-b_or_lost : (h : Header) (w : Whole → Word Lying) (o : Option Whole) → ((e : Whole) → o ≡ Some e → Stocking (w e)) → Stocking (or_lost h w o)
-b_or_lost h w None all = b_lost h
-b_or_lost h w (Some e) all = all e refl
+  b_lost : (h : Header) → Stocking P Q (change (lost h))
+  unfolding with_part
+  b_lost h = b_change (lost h) (λ r. record { saved = refl; state = refl; table = refl })
 
-b_part : (w : Whole → Word Lying) (p : Part) → ((e : Whole) → Chained (w e)) → ((e : Whole) → IsWhole e → Stocking (w e)) → Stocking (with_entry w p)
-b_part w (Here h) c all = b_reading (entry_of h) (or_lost h w) (λ o. c_or_lost h w o c) (λ d f. b_or_lost h w (entry_of h lying d) (λ e q. all e (entry_whole h d e f q)))
-b_part w _ c all = b_quiet
+  b_or_lost : (h : Header) (w : Whole → Word Lying) (o : Option Whole) → ((e : Whole) → o ≡ Some e → Stocking P Q (w e)) → Stocking P Q (or_lost h w o)
+  b_or_lost h w None all = b_lost h
+  b_or_lost h w (Some e) all = all e refl
 
-pub b_entry : (k : ℕ) (w : Whole → Word Lying) → ((e : Whole) → Chained (w e)) → ((e : Whole) → IsWhole e → Stocking (w e)) → Stocking (with_entry_at k w)
-unfolding with_entry_at
-b_entry k w c all = b_by _ (λ r. b_part w (part_at r k) c all)
+  b_part : (w : Whole → Word Lying) (p : Part) → ((e : Whole) → Chained (w e)) → ((e : Whole) → IsWhole e → Stocking P Q (w e)) → Stocking P Q (with_entry w p)
+  b_part w (Here h) c all = b_reading (entry_of h) (or_lost h w) (λ o. c_or_lost h w o c) (λ d f. b_or_lost h w (entry_of h lying d) (λ e q. all e (entry_whole h d e f q)))
+  b_part w _ c all = b_quiet
 
-b_checkpoints : Stocking (does checkpoints)
-unfolding does
-b_checkpoints = record { chained = c_checkpoint; each = λ n i r d a k. record { blocks = (save_state_are r.cluster (texts_of r.state) r.applied r.table (texted r a.stock), tt); stock = a.stock } }
+  pub b_entry : (k : ℕ) (w : Whole → Word Lying) → ((e : Whole) → Chained (w e)) → ((e : Whole) → IsWhole e → Stocking P Q (w e)) → Stocking P Q (with_entry_at k w)
+  unfolding with_entry_at
+  b_entry k w c all = b_by _ (λ r. b_part w (part_at r k) c all)
 
-b_moved : (r : Replica) (d : Lying) → IsStocked r → Stocking (change (with_checkpoint (checkpoint_of r lying d)))
-unfolding change with_checkpoint
-b_moved r d s =
-    let t = table_named r.cluster (texts_of r.state) r.applied r.table (texted r s) in
-    record { chained = c_change _ (λ r. refl); each = λ n i q d a k. record { blocks = tt; stock = record { sessions = a.stock.sessions; machine = a.stock.machine; old_sessions = t.sessions; old_keys = t.keys } } }
+  b_checkpoints : Stocking P Q (does checkpoints)
+  unfolding does
+  b_checkpoints = record { chained = c_checkpoint; each = λ n i r d a k. record { blocks = ((save_state_are r.cluster (texts_of r.state) r.applied r.table (texted r a.stock), record { state = r.state; are = refl; sessions = a.stock.sessions; machine = a.stock.machine; old_sessions = a.stock.old_sessions; old_keys = a.stock.old_keys }), tt); stock = a.stock } }
 
-b_checkpoint : Stocking make_checkpoint
-unfolding make_checkpoint
-b_checkpoint = b_at _ (λ r. c_reading (checkpoint_of r) _ (λ c. c_then _ _ c_checkpoint (c_then _ _ (c_change (with_checkpoint c) (with_checkpoint_saved c)) c_save)))
-    (λ r s. b_reading (checkpoint_of r) _ (λ c. c_then _ _ c_checkpoint (c_then _ _ (c_change (with_checkpoint c) (with_checkpoint_saved c)) c_save)) (λ d f. b_then _ _ b_checkpoints (b_then _ _ (b_moved r d s) b_save)))
+  b_moved : (r : Replica) (d : Lying) → IsStocked r → Stocking P Q (change (with_checkpoint (checkpoint_of r lying d)))
+  unfolding change with_checkpoint
+  b_moved r d s =
+      let t = table_named r.cluster (texts_of r.state) r.applied r.table (texted r s) in
+      record { chained = c_change _ (λ r. refl); each = λ n i q d a k. record { blocks = tt; stock = record { sessions = a.stock.sessions; machine = a.stock.machine; old_sessions = t.sessions; old_keys = t.keys } } }
 
-b_applied : (e : Whole) → IsWhole e → Stocking (change (applied e))
-unfolding change
-b_applied e w = record {
-  chained = c_change _ (λ r. refl);
-  each = λ n i r d a k.
-      let s = state_kept r.state e (record { sessions = a.stock.sessions; machine = a.stock.machine }) w in
-      record { blocks = tt; stock = record { sessions = s.sessions; machine = s.machine; old_sessions = a.stock.old_sessions; old_keys = a.stock.old_keys } };
-}
+  b_checkpoint : Stocking P Q make_checkpoint
+  unfolding make_checkpoint
+  b_checkpoint = b_at _ (λ r. c_reading (checkpoint_of r) _ (λ c. c_then _ _ c_checkpoint (c_then _ _ (c_change (with_checkpoint c) (with_checkpoint_saved c)) c_save)))
+      (λ r s. b_reading (checkpoint_of r) _ (λ c. c_then _ _ c_checkpoint (c_then _ _ (c_change (with_checkpoint c) (with_checkpoint_saved c)) c_save)) (λ d f. b_then _ _ b_checkpoints (b_then _ _ (b_moved r d s) b_save)))
 
-reply_given : (e : Whole) (r : Replica) → AllByRecursion IsGivenOutput (applied_reply e r)
-reply_given e r = elim (leads r) as (λ t. AllByRecursion IsGivenOutput (cond t (replies (asker_of e) (kind_of (applying.applied r.state e).reply) r) [])) [ true ↦ (tt, tt) | false ↦ tt ]
+  b_applied : (e : Whole) → IsWhole e → Stocking P Q (change (applied e))
+  unfolding change
+  b_applied e w = record {
+    chained = c_change _ (λ r. refl);
+    each = λ n i r d a k.
+        let s = state_kept r.state e (record { sessions = a.stock.sessions; machine = a.stock.machine }) w in
+        record { blocks = tt; stock = record { sessions = s.sessions; machine = s.machine; old_sessions = a.stock.old_sessions; old_keys = a.stock.old_keys } };
+  }
 
-b_apply_entry : (e : Whole) → IsWhole e → Stocking (apply_entry e)
-unfolding apply_entry
-b_apply_entry e w =
-    b_then _ _ (b_says _ (λ r. (tt, tt))) (b_then _ _ (b_says (applied_reply e) (reply_given e)) (b_then _ _ (b_applied e w) (b_by _ (λ r. b_when _ make_checkpoint b_checkpoint))))
+  b_apply_entry : (e : Whole) → IsWhole e → Stocking P Q (apply_entry e)
+  unfolding apply_entry
+  b_apply_entry e w =
+      b_then _ _ (b_says _ (λ r. (tt, tt))) (b_then _ _ (b_says (applied_reply e) (reply_given P e)) (b_then _ _ (b_applied e w) (b_by _ (λ r. b_when _ make_checkpoint b_checkpoint))))
 
-pub b_apply : Stocking apply
-unfolding apply apply_next
-b_apply = b_by _ (λ r. b_times _ apply_next (b_by _ (λ r. b_when _ _ (b_entry _ apply_entry c_apply_entry b_apply_entry))))
+  pub b_apply : Stocking P Q apply
+  unfolding apply apply_next
+  b_apply = b_by _ (λ r. b_times _ apply_next (b_by _ (λ r. b_when _ _ (b_entry _ apply_entry c_apply_entry b_apply_entry))))
 
-pub b_enter : (v : ℕ) → Stocking (enter v)
-unfolding enter entered
-b_enter v = b_if _ _ _ (b_change _ (λ r. record { saved = refl; state = refl; table = refl })) (b_then _ _ (b_change (entered v) (λ r. record { saved = refl; state = refl; table = refl })) (b_then _ _ b_save (b_says _ (λ r. all_given start_view_change r tt))))
+  pub b_enter : (v : ℕ) → Stocking P Q (enter v)
+  unfolding enter entered
+  b_enter v = b_if _ _ _ (b_change _ (λ r. record { saved = refl; state = refl; table = refl })) (b_then _ _ (b_change (entered v) (λ r. record { saved = refl; state = refl; table = refl })) (b_then _ _ b_save (b_says _ (λ r. all_given P start_view_change r tt))))
 
-b_loads : (r : Replica) (d : Lying) → IsFace d.face → Stocking (change (loads r.root (lying.loaded d r.root)))
-unfolding change
-b_loads r d f = record { chained = c_change _ (loads_saved r.root (lying.loaded d r.root)); each = λ n i q x a k. record { blocks = tt; stock = loads_stocked r.root d f (lying.loaded d r.root) refl q a.stock } }
+  b_loads : (r : Replica) (d : Lying) → IsFace d.face → Stocking P Q (change (loads r.root (lying.loaded d r.root)))
+  unfolding change
+  b_loads r d f = record { chained = c_change _ (loads_saved r.root (lying.loaded d r.root)); each = λ n i q x a k. record { blocks = tt; stock = loads_stocked r.root d f (lying.loaded d r.root) refl q a.stock } }
 
-pub b_load : Stocking load
-unfolding load
-b_load = b_by _ (λ r. b_when _ _ (b_reading (checkpoint_at r.root) _ (λ l. c_change (loads r.root l) (loads_saved r.root l)) (λ d f. b_loads r d f)))
+  pub b_load : Stocking P Q load
+  unfolding load
+  b_load = b_by _ (λ r. b_when _ _ (b_reading (checkpoint_at r.root) _ (λ l. c_change (loads r.root l) (loads_saved r.root l)) (λ d f. b_loads r d f)))
 
-b_peer : (message : Replica → Frame) → ((r : Replica) → IsGiven (message r)) → Stocking (ask_peer message)
-unfolding ask_peer
-b_peer message g = b_then _ _ (b_says _ (λ r. (g r, tt))) (b_change _ (λ r. record { saved = refl; state = refl; table = refl }))
+  b_peer : (message : Replica → Frame) → ((r : Replica) → IsGiven P (message r)) → Stocking P Q (ask_peer message)
+  unfolding ask_peer
+  b_peer message g = b_then _ _ (b_says _ (λ r. (g r, tt))) (b_change _ (λ r. record { saved = refl; state = refl; table = refl }))
 
-b_asks : (names : List Name) (absent : Option Header) → Stocking (ask_for names absent)
-b_asks (name ∷ names) absent = b_peer _ (λ r. tt)
-b_asks [] (Some h) = b_naming _ (λ hash. b_peer _ (λ r. tt))
-b_asks [] None = b_quiet
+  b_asks : (names : List Name) (absent : Option Header) → Stocking P Q (ask_for names absent)
+  b_asks (name ∷ names) absent = b_peer _ (λ r. tt)
+  b_asks [] (Some h) = b_naming _ (λ hash. b_peer _ (λ r. tt))
+  b_asks [] None = b_quiet
 
-pub b_ask : Stocking ask
-unfolding ask
-b_ask = b_by _ (λ r. b_asks r.missing _)
+  pub b_ask : Stocking P Q ask
+  unfolding ask
+  b_ask = b_by _ (λ r. b_asks r.missing _)
 
-pub b_advance : Stocking advance
-unfolding advance advanced
-b_advance = b_then _ _ (b_change advanced (λ r. record { saved = refl; state = refl; table = refl })) b_apply
+  pub b_advance : Stocking P Q advance
+  unfolding advance advanced
+  b_advance = b_then _ _ (b_change advanced (λ r. record { saved = refl; state = refl; table = refl })) b_apply
 
-pub b_learn : (commit : ℕ) → Stocking (learn commit)
-unfolding learn
-b_learn commit = b_then _ _ (b_change _ (λ r. record { saved = refl; state = refl; table = refl })) b_apply
+  pub b_learn : (commit : ℕ) → Stocking P Q (learn commit)
+  unfolding learn
+  b_learn commit = b_then _ _ (b_change _ (λ r. record { saved = refl; state = refl; table = refl })) b_apply
 
-pub b_take : (l : Log) → Stocking (take l)
-unfolding take taken forgetting
-b_take l = b_then _ _ (b_change (taken l) (λ r. record { saved = refl; state = refl; table = refl })) b_save
+  pub b_take : (l : Log) → Stocking P Q (take l)
+  unfolding take taken forgetting
+  b_take l = b_then _ _ (b_change (taken l) (λ r. record { saved = refl; state = refl; table = refl })) b_save
 
-pub b_again : (op : ℕ) → Stocking (prepare_again op)
-unfolding prepare_again
-b_again op = b_entry op _ (λ e. c_says _) (λ e w. b_says _ (λ r. all_given (prepare e) r tt))
+  pub b_again : (op : ℕ) → Stocking P Q (prepare_again op)
+  unfolding prepare_again
+  b_again op = b_entry op _ (λ e. c_says _) (λ e w. b_says _ (λ r. all_given P (prepare e) r tt))
 
-pub b_resend : (e : Whole) → Stocking (resend e)
-unfolding resend
-b_resend e = b_naming _ (λ hash. b_by _ (λ r. b_when _ _ (b_if _ _ _ (b_says _ (λ r. all_given (prepare e) r tt)) (b_says _ (λ r. (tt, tt))))))
+  pub b_resend : (e : Whole) → Stocking P Q (resend e)
+  unfolding resend
+  b_resend e = b_naming _ (λ hash. b_by _ (λ r. b_when _ _ (b_if _ _ _ (b_says _ (λ r. all_given P (prepare e) r tt)) (b_says _ (λ r. (tt, tt))))))
 
-b_begin : (ss : List Statement) (l : Log) → Stocking (begin_view ss l)
-unfolding begin_view
-b_begin ss l =
-    b_then _ _ (b_says _ (λ r. (tt, tt))) (b_then _ _ (b_take l) (b_then _ _ (b_says _ (λ r. all_given start_view r tt)) (b_then _ _ (b_by _ (λ r. b_each prepare_again _ b_again)) b_apply)))
+  b_begin : (ss : List Statement) (l : Log) → Stocking P Q (begin_view ss l)
+  unfolding begin_view
+  b_begin ss l =
+      b_then _ _ (b_says _ (λ r. (tt, tt))) (b_then _ _ (b_take l) (b_then _ _ (b_says _ (λ r. all_given P start_view r tt)) (b_then _ _ (b_by _ (λ r. b_each prepare_again _ b_again)) b_apply)))
 
-b_try_log : (ss : List Statement) (l : Log) → Stocking (try_log ss l)
-unfolding try_log
-b_try_log ss l = b_naming _ (λ hash. b_by _ (λ r. b_if _ _ _ (b_begin ss l) (b_says _ (λ r. (tt, tt)))))
+  b_try_log : (ss : List Statement) (l : Log) → Stocking P Q (try_log ss l)
+  unfolding try_log
+  b_try_log ss l = b_naming _ (λ hash. b_by _ (λ r. b_if _ _ _ (b_begin ss l) (b_says _ (λ r. (tt, tt)))))
 
-b_choice : (ss : List Statement) (x : Choice) → Stocking (obey_choice ss x)
-b_choice ss TooFew = b_quiet
-b_choice ss (WaitsAt op) = b_says _ (λ r. (tt, tt))
-b_choice ss (Ends hs) = b_by _ (λ r. b_try_log ss _)
+  b_choice : (ss : List Statement) (x : Choice) → Stocking P Q (obey_choice ss x)
+  b_choice ss TooFew = b_quiet
+  b_choice ss (WaitsAt op) = b_says _ (λ r. (tt, tt))
+  b_choice ss (Ends hs) = b_by _ (λ r. b_try_log ss _)
 
-pub b_try : Stocking try
-unfolding try
-b_try = b_by _ (λ r. b_when _ _ (b_choice (stated r) (decided r)))
+  pub b_try : Stocking P Q try
+  unfolding try
+  b_try = b_by _ (λ r. b_when _ _ (b_choice (stated r) (decided r)))
 
-pub b_speak : Stocking speak
-unfolding speak
-b_speak = b_by _ (λ r. b_when _ _ (b_if _ _ _ b_try (b_says _ (λ r. (tt, tt)))))
+  pub b_speak : Stocking P Q speak
+  unfolding speak
+  b_speak = b_by _ (λ r. b_when _ _ (b_if _ _ _ b_try (b_says _ (λ r. (tt, tt)))))

@@ -1,15 +1,11 @@
 -- What writes of blocks steps and openings make.
-use Rattle.std.proofs.Common.{◌≡◌, refl, ◌∙◌, ℕ, Bool, true, List, [], ◌∷◌, Option, Some, None}
+use Rattle.std.proofs.Common.{◌≡◌, refl, ℕ, Bool, true, List, [], ◌∷◌, Option, Some, None}
 use Rattle.std.specs.Prelude.{find, ◌==◌}
 use Rattle.std.specs.Option.{option_map_or}
-use Rattle.std.proofs.lemmas.Bool.{and_parts, eqb-true}
-use Rattle.std.proofs.lemmas.List.Elements.{All-cons}
+use Rattle.std.proofs.lemmas.Bool.{and_parts}
 use Rattle.vr_header.specs.declared.header.Header.{Header}
 use Rattle.vr_header.specs.Made.{Whole}
 use Rattle.vr_grid.specs.declared.name.Name.{Name}
-use Rattle.vr_recover.specs.declared.readings.Verdict.{Verdict}
-use Rattle.vr_recover.specs.declared.readings.Verdict.TheVariants as verdict
-use Rattle.vr_super.specs.Copies.{SuperValue}
 use Rattle.vr_msg.specs.declared.event.Event.{Event}
 use Rattle.vr_msg.specs.declared.event.Event.TheVariants as event
 use Rattle.vr_msg.specs.declared.frame.Commit.{Commit}
@@ -28,8 +24,9 @@ use Rattle.vr_msg.specs.declared.frame.StartViewChange.{StartViewChange}
 use Rattle.vr_msg.specs.declared.request.RequestFields.{RequestFields}
 use Rattle.vr_sess.specs.declared.session.SessionAnswer.{SessionAnswer}
 use Rattle.vr_sess.specs.declared.session.SessionAnswer.TheVariants as answer
-use Rattle.vr_rules.specs.Replica.{Replica, header_at, forgetting, with_part}
-use Rattle.vr_rules.specs.Steps.{PutBlock, ◌⨾◌, by, quiet, change, does}
+use Rattle.vr_rules.specs.Replica.{Replica, header_at}
+use Rattle.vr_rules.specs.Steps.{PutBlock, Word, ◌⨾◌, by, quiet, change, does, reading, when}
+use Rattle.vr_rules.proofs.FitGroups.{Known as IsKnown}
 use Rattle.vr_rules.specs.Outputs.{commit_message, prepare, start_line, start_view_change}
 use Rattle.vr_rules.specs.declared.asker.Asker.{Asker}
 use Rattle.vr_rules.specs.Words.{load, rested, speak}
@@ -40,7 +37,8 @@ use Rattle.vr_rules.specs.declared.rule.Rule.TheVariants.{Redirected, Behind, An
 use Rattle.vr_rules.specs.Rules as rules
 use Rattle.vr_rules.specs.Opening.{announce, heard_itself, in_next_view, leave_view, resuming}
 use Rattle.std.proofs.Common.{ap, false, subst, cond, ◌<◌}
-use Rattle.std.specs.Prelude.{is_some}
+use Rattle.std.specs.Prelude.{is_some, ⊤}
+use Rattle.vr_disk.specs.DiskState.{IsFace}
 use Rattle.vr_base.specs.Bytes.{IsBytes}
 use Rattle.vr_grid.specs.Blocks.{named}
 use Rattle.vr_grid.specs.Grid.{put_calls}
@@ -48,97 +46,18 @@ use Rattle.vr_grid.proofs.Contents.{fits_address, named_found, read_of}
 use Rattle.vr_worlds.specs.Stocks.{IsGiven, IsGivenEvent}
 use Rattle.vr_worlds.proofs.Calls.{AreCalls}
 use Rattle.vr_worlds.proofs.Blocks.{put_are}
-use Rattle.vr_worlds.proofs.Loading.{block_are}
 use Rattle.vr_worlds.proofs.Chaining.{c_by, c_says}
 use Rattle.vr_worlds.proofs.ChainingRules.{c_obey_get_block, c_obey_give_block, c_put}
-use Rattle.vr_worlds.proofs.Stocking.{Stocking, all_given, b_accept, b_advance, b_again, b_apply, b_ask, b_by, b_change, b_each, b_enter, b_entry, b_if, b_learn, b_load, b_naming, b_quiet, b_reading, b_resend, b_save, b_says, b_speak, b_take, b_then, b_try, b_when, b_write}
+use Rattle.vr_worlds.proofs.Stocking.{At, Leaves, Stocking, all_given, b_accept, b_advance, b_again, b_apply, b_ask, b_by, b_change, b_each, b_enter, b_entry, b_if, b_learn, b_load, b_naming, b_quiet, b_reading, b_resend, b_save, b_says, b_speak, b_take, b_then, b_try, b_when, b_write}
 
-b_rested : Stocking (change rested)
-b_rested = b_change rested (λ r. record { saved = refl; state = refl; table = refl })
+-- this is so of each block that is read where one is asked for
+abbrev pub ReadsGiven : (List ℕ → Type 0) → Frame → Type 0
+ReadsGiven P (frame.GetBlock g) = (d : Lying) → IsFace d.face → (b : List ℕ) → lying.block d (rules.asked_block g) ≡ Some b → P b
+ReadsGiven P _ = ⊤
 
-b_stored_reply : (a : Asker) (x : SessionAnswer) → Stocking (rules.stored_reply a x)
-b_stored_reply a answer.Fresh = b_quiet
-b_stored_reply a (answer.Repeat outcome op) = b_says _ (λ r. (tt, tt))
-b_stored_reply a answer.Old = b_says _ (λ r. (tt, tt))
-b_stored_reply a answer.Gap = b_says _ (λ r. (tt, tt))
-b_stored_reply a answer.Evicted = b_says _ (λ r. (tt, tt))
-
-b_make : (e : Whole) → Stocking (rules.make e)
-unfolding rules.make
-b_make e = b_then _ _ (b_write e) (b_then _ _ (b_says _ (λ r. all_given (prepare e) r tt)) b_advance)
-
-r_request : (hash : Hash) (q : RequestFields) (rule : Rule) → Stocking (rules.obey_request hash q rule)
-r_request hash q Redirected = b_says _ (λ r. (tt, tt))
-r_request hash q Behind = b_says _ (λ r. (tt, tt))
-r_request hash q Answered = b_by _ (λ r. b_stored_reply (rules.asker_by hash q) (session_answer q r))
-r_request hash q Full = b_says _ (λ r. (tt, tt))
-r_request hash q Made = b_by _ (λ r. b_make (rules.next_entry hash q r))
-r_request hash q _ = b_quiet
-
-r_prepare : (hash : Hash) (p : Prepare) (rule : Rule) → Stocking (rules.obey_prepare hash p rule)
-r_prepare hash p PreparedLater = b_says _ (λ r. (tt, tt))
-r_prepare hash p Past = b_then _ _ b_rested (b_learn p.commit)
-r_prepare hash p Beyond = b_rested
-r_prepare hash p Known = b_then _ _ b_rested (b_then _ _ (b_accept p.entry) (b_then _ _ (b_says _ (λ r. (tt, tt))) (b_learn p.commit)))
-r_prepare hash p Next = b_then _ _ b_rested (b_then _ _ (b_write p.entry) (b_then _ _ (b_says _ (λ r. (tt, tt))) (b_learn p.commit)))
-r_prepare hash p Ahead = b_then _ _ b_rested (b_then _ _ (b_says _ (λ r. (tt, tt))) (b_learn p.commit))
-r_prepare hash p Other = b_rested
-r_prepare hash p _ = b_quiet
-
-r_prepare_ok : (a : PrepareOk) (rule : Rule) → Stocking (rules.obey_prepare_ok a rule)
-r_prepare_ok a Counted = b_then _ _ (b_change (rules.acknowledged a) (λ r. record { saved = refl; state = refl; table = refl })) b_advance
-r_prepare_ok a _ = b_quiet
-
-r_commit : (m : Commit) (rule : Rule) → Stocking (rules.obey_commit m rule)
-r_commit m CommitLater = b_says _ (λ r. (tt, tt))
-r_commit m CommitHeard = b_then _ _ b_rested (b_then _ _ (b_by _ (λ r. b_when _ _ (b_says _ (λ r. (tt, tt))))) (b_learn m.commit))
-r_commit m _ = b_quiet
-
-r_heard : (sender : ℕ) → Stocking (change (rules.heard_of sender) ⨾ speak)
-r_heard sender = b_then _ _ (b_change (rules.heard_of sender) (λ r. record { saved = refl; state = refl; table = refl })) b_speak
-
-r_change : (m : StartViewChange) (rule : Rule) → Stocking (rules.obey_start_view_change m rule)
-r_change m ChangeLater = b_then _ _ (b_enter m.view) (r_heard m.replica)
-r_change m ChangeHeard = r_heard m.replica
-r_change m ChangeDone = b_says _ (λ r. (tt, tt))
-r_change m _ = b_quiet
-
-r_statement : (d : DoViewChange) (rule : Rule) → Stocking (rules.obey_do_view_change d rule)
-r_statement d StatedLate = b_says _ (λ r. (tt, tt))
-r_statement d Stated = b_then _ _ (b_by _ (λ r. b_when _ _ (b_enter d.view))) (b_then _ _ (b_change (rules.with_statement d.replica d.statement) (λ r. record { saved = refl; state = refl; table = refl })) b_try)
-r_statement d _ = b_quiet
-
-r_stored_of : (hash : Hash) (o : Option Header) → Stocking (option_map_or (rules.acknowledge hash) o quiet)
-r_stored_of hash None = b_quiet
-r_stored_of hash (Some h) = b_says _ (λ r. (tt, tt))
-
-r_stored : (hash : Hash) (op : ℕ) → Stocking (rules.acknowledge_stored hash op)
-unfolding rules.acknowledge_stored
-r_stored hash op = b_by _ (λ r. b_when _ _ (r_stored_of hash (header_at r op)))
-
-r_view : (hash : Hash) (v : StartView) (rule : Rule) → Stocking (rules.obey_start_view hash v rule)
-r_view hash v Taken = b_then _ _ (b_take _) (b_then _ _ (b_by _ (λ r. b_each _ _ (r_stored hash))) b_apply)
-r_view hash v _ = b_quiet
-
-r_get_view : (g : GetView) (rule : Rule) → Stocking (rules.obey_get_view g rule)
-r_get_view g ViewGiven = b_says _ (λ r. (tt, tt))
-r_get_view g _ = b_quiet
-
-r_get_prepare : (g : GetPrepare) (rule : Rule) → Stocking (rules.obey_get_prepare g rule)
-r_get_prepare g EntryGiven = b_entry g.op _ (λ e. c_says _) (λ e w. b_says _ (λ r. (tt, tt)))
-r_get_prepare g _ = b_quiet
-
-r_give_prepare : (g : GivePrepare) (rule : Rule) → Stocking (rules.obey_give_prepare g rule)
-r_give_prepare g EntryTaken = b_then _ _ (b_write g.entry) (b_then _ _ (b_resend g.entry) b_apply)
-r_give_prepare g _ = b_quiet
-
-r_give_read : (g : GetBlock) (o : Option (List ℕ)) → ((b : List ℕ) → o ≡ Some b → IsBytes b) → Stocking (rules.give_read g o)
-r_give_read g None h = b_quiet
-r_give_read g (Some block) h = b_says _ (λ r. (h block refl, tt))
-
-r_get_block : (g : GetBlock) (o : Option (List ℕ)) (rule : Rule) → ((b : List ℕ) → o ≡ Some b → IsBytes b) → Stocking (rules.obey_get_block g o rule)
-r_get_block g o BlockGiven h = r_give_read g o h
-r_get_block g o _ h = b_quiet
+abbrev pub ReadsGivenIn : (List ℕ → Type 0) → Event → Type 0
+ReadsGivenIn P (event.Deliver m) = ReadsGiven P m
+ReadsGivenIn P _ = ⊤
 
 block_calls_are : (name : Name) (block : List ℕ) → IsBytes block → is_some (named name block) ≡ true → AreCalls (put_calls name.address block)
 block_calls_are name block are t =
@@ -149,18 +68,6 @@ block_calls_are name block are t =
           let l : name.address < 128 = subst (λ (a : ℕ). a < 128) (ap (λ (n : Name). n.address) found.1) (fits_address block c found.0) in
           put_are name.address block l are (read_of block c found.0).size
     ] refl t
-
-b_put : (name : Name) (block : List ℕ) → AreCalls (put_calls name.address block) → Stocking (does (λ r. PutBlock name block))
-unfolding does
-b_put name block are = record { chained = c_put name block; each = λ n i r d a k. record { blocks = (are, tt); stock = a.stock } }
-
-r_put_block : (name : Name) (block : List ℕ) → AreCalls (put_calls name.address block) → Stocking (rules.put_block name block)
-unfolding rules.put_block
-r_put_block name block are = b_then _ _ (b_put name block are) (b_then _ _ (b_change (rules.without name) (λ r. record { saved = refl; state = refl; table = refl })) (b_by _ (λ r. b_when _ load b_load)))
-
-r_put_found : (block : List ℕ) (o : Option Name) → ((name : Name) → o ≡ Some name → AreCalls (put_calls name.address block)) → Stocking (rules.put_found block o)
-r_put_found block None h = b_quiet
-r_put_found block (Some name) h = b_then _ _ (r_put_block name block (h name refl)) b_apply
 
 find_passes : {X : Type 0} (p : X → Bool) (xs : List X) (x : X) → find p xs ≡ Some x → p x ≡ true
 find_passes p [] x e = absurd cc
@@ -173,61 +80,198 @@ find_passes p (y ∷ ys) x e =
 wanted_are : (g : GiveBlock) (name : Name) → IsBytes g.block → is_wanted lying.is_block g name ≡ true → AreCalls (put_calls name.address g.block)
 wanted_are g name are t = block_calls_are name g.block are (and_parts (name.address == g.address) (is_some (named name g.block)) t).1
 
-r_give_block : (g : GiveBlock) (rule : Rule) → IsBytes g.block → Stocking (rules.obey_give_block lying.is_block g rule)
-r_give_block g BlockTaken are = b_by _ (λ r. r_put_found g.block (find (is_wanted lying.is_block g) r.missing) (λ name e. wanted_are g name are (find_passes (is_wanted lying.is_block g) r.missing name e)))
-r_give_block g _ are = b_quiet
+module _ {P Q : List ℕ → Type 0} where
+  b_rested : Stocking P Q (change rested)
+  b_rested = b_change rested (λ r. record { saved = refl; state = refl; table = refl })
 
-r_next_view : Stocking rules.next_view
-r_next_view = b_by _ (λ r. b_enter _)
+  b_stored_reply : (a : Asker) (x : SessionAnswer) → Stocking P Q (rules.stored_reply a x)
+  b_stored_reply a answer.Fresh = b_quiet
+  b_stored_reply a (answer.Repeat outcome op) = b_says _ (λ r. (tt, tt))
+  b_stored_reply a answer.Old = b_says _ (λ r. (tt, tt))
+  b_stored_reply a answer.Gap = b_says _ (λ r. (tt, tt))
+  b_stored_reply a answer.Evicted = b_says _ (λ r. (tt, tt))
 
-r_tick : (rule : Rule) → Stocking (rules.obey_tick rule)
-r_tick TickedPrimary = b_then _ _ (b_says _ (λ r. all_given commit_message r tt)) (b_then _ _ (b_by _ (λ r. b_when _ _ (b_again _))) b_ask)
-r_tick TickedBackup = b_then _ _ (b_change rules.idler (λ r. record { saved = refl; state = refl; table = refl })) (b_by _ (λ r. b_if _ _ _ r_next_view b_ask))
-r_tick TickedChanging =
-    b_then _ _ (b_change rules.idler (λ r. record { saved = refl; state = refl; table = refl })) (b_by _ (λ r. b_if _ _ _ r_next_view (b_then _ _ (b_says _ (λ r. all_given start_view_change r tt)) (b_then _ _ b_speak b_ask))))
-r_tick _ = b_quiet
+  b_make : (e : Whole) → Stocking P Q (rules.make e)
+  unfolding rules.make
+  b_make e = b_then _ _ (b_write e) (b_then _ _ (b_says _ (λ r. all_given P (prepare e) r tt)) b_advance)
 
-r_on_request : (q : RequestFields) → Stocking (rules.on_request q)
-unfolding rules.on_request
-r_on_request q = b_naming _ (λ hash. b_by _ (λ r. r_request hash q _))
+  r_request : (hash : Hash) (q : RequestFields) (rule : Rule) → Stocking P Q (rules.obey_request hash q rule)
+  r_request hash q Redirected = b_says _ (λ r. (tt, tt))
+  r_request hash q Behind = b_says _ (λ r. (tt, tt))
+  r_request hash q Answered = b_by _ (λ r. b_stored_reply (rules.asker_by hash q) (session_answer q r))
+  r_request hash q Full = b_says _ (λ r. (tt, tt))
+  r_request hash q Made = b_by _ (λ r. b_make (rules.next_entry hash q r))
+  r_request hash q _ = b_quiet
 
-r_message : (m : Frame) → IsGiven m → Stocking (rules.on_message m)
-unfolding rules.on_request rules.on_prepare rules.on_prepare_ok rules.on_commit rules.on_start_view_change rules.on_do_view_change rules.on_start_view rules.on_get_view rules.on_get_prepare rules.on_give_prepare rules.on_get_block rules.on_give_block
-r_message (frame.Request q) given = b_naming _ (λ hash. b_by _ (λ r. r_request hash q _))
-r_message (frame.Reply a) given = b_quiet
-r_message (frame.Prepare p) given = b_naming _ (λ hash. b_by _ (λ r. r_prepare hash p _))
-r_message (frame.PrepareOk a) given = b_naming _ (λ hash. b_by _ (λ r. r_prepare_ok a _))
-r_message (frame.Commit m) given = b_by _ (λ r. r_commit m _)
-r_message (frame.StartViewChange m) given = b_by _ (λ r. r_change m _)
-r_message (frame.DoViewChange d) given = b_by _ (λ r. r_statement d _)
-r_message (frame.StartView v) given = b_naming _ (λ hash. b_by _ (λ r. r_view hash v _))
-r_message (frame.GetView g) given = b_by _ (λ r. r_get_view g _)
-r_message (frame.GetPrepare g) given = b_naming _ (λ hash. b_by _ (λ r. r_get_prepare g _))
-r_message (frame.GivePrepare g) given = b_by _ (λ r. r_give_prepare g _)
-r_message (frame.GetBlock g) given =
-    b_reading (rules.block_at (rules.asked_block g)) (λ o. by (λ r. rules.obey_get_block g o (first_of (get_block_table (is_some o) g r)))) (λ o. c_by _ (λ r. c_obey_get_block g o (first_of (get_block_table (is_some o) g r))))
-    (λ d f. b_by _ (λ r. r_get_block g (lying.block d (rules.asked_block g)) (first_of (get_block_table (is_some (lying.block d (rules.asked_block g))) g r)) (λ b e. block_are d.face (rules.asked_block g) b f e)))
-r_message (frame.GiveBlock g) given =
-    b_reading rules.test_of (λ t. by (λ r. rules.obey_give_block t g (first_of (give_block_table t g r)))) (λ t. c_by _ (λ r. c_obey_give_block t g (first_of (give_block_table t g r))))
-    (λ d f. b_by _ (λ r. r_give_block g (first_of (give_block_table lying.is_block g r)) given))
+  r_prepare : (hash : Hash) (p : Prepare) (rule : Rule) → Stocking P Q (rules.obey_prepare hash p rule)
+  r_prepare hash p PreparedLater = b_says _ (λ r. (tt, tt))
+  r_prepare hash p Past = b_then _ _ b_rested (b_learn p.commit)
+  r_prepare hash p Beyond = b_rested
+  r_prepare hash p Known = b_then _ _ b_rested (b_then _ _ (b_accept p.entry) (b_then _ _ (b_says _ (λ r. (tt, tt))) (b_learn p.commit)))
+  r_prepare hash p Next = b_then _ _ b_rested (b_then _ _ (b_write p.entry) (b_then _ _ (b_says _ (λ r. (tt, tt))) (b_learn p.commit)))
+  r_prepare hash p Ahead = b_then _ _ b_rested (b_then _ _ (b_says _ (λ r. (tt, tt))) (b_learn p.commit))
+  r_prepare hash p Other = b_rested
+  r_prepare hash p _ = b_quiet
 
-r_event : (e : Event) → IsGivenEvent e → Stocking (rules.on_event e)
-unfolding rules.on_tick
-r_event (event.Request q) given = r_on_request q
-r_event (event.Deliver m) given = r_message m given
-r_event event.Tick given = b_by _ (λ r. r_tick _)
+  r_prepare_ok : (a : PrepareOk) (rule : Rule) → Stocking P Q (rules.obey_prepare_ok a rule)
+  r_prepare_ok a Counted = b_then _ _ (b_change (rules.acknowledged a) (λ r. record { saved = refl; state = refl; table = refl })) b_advance
+  r_prepare_ok a _ = b_quiet
 
-pub b_react : (e : Event) → IsGivenEvent e → Stocking (rules.react e)
-unfolding rules.react
-b_react e given = b_by _ (λ r. b_when _ _ (r_event e given))
+  r_commit : (m : Commit) (rule : Rule) → Stocking P Q (rules.obey_commit m rule)
+  r_commit m CommitLater = b_says _ (λ r. (tt, tt))
+  r_commit m CommitHeard = b_then _ _ b_rested (b_then _ _ (b_by _ (λ r. b_when _ _ (b_says _ (λ r. (tt, tt))))) (b_learn m.commit))
+  r_commit m _ = b_quiet
 
--- ---- an opening, after what it mends and finds
+  r_heard : (sender : ℕ) → Stocking P Q (change (rules.heard_of sender) ⨾ speak)
+  r_heard sender = b_then _ _ (b_change (rules.heard_of sender) (λ r. record { saved = refl; state = refl; table = refl })) b_speak
 
-b_leave : Stocking leave_view
-b_leave = b_by _ (λ r. b_when _ _ (b_then _ _ (b_change in_next_view (λ r. record { saved = refl; state = refl; table = refl })) b_save))
+  r_change : (m : StartViewChange) (rule : Rule) → Stocking P Q (rules.obey_start_view_change m rule)
+  r_change m ChangeLater = b_then _ _ (b_enter m.view) (r_heard m.replica)
+  r_change m ChangeHeard = r_heard m.replica
+  r_change m ChangeDone = b_says _ (λ r. (tt, tt))
+  r_change m _ = b_quiet
 
-b_announce : Stocking announce
-b_announce = b_by _ (λ r. b_when _ _ (b_then _ _ (b_change heard_itself (λ r. record { saved = refl; state = refl; table = refl })) (b_by _ (λ r. b_when _ _ (b_says _ (λ r. all_given start_view_change r tt))))))
+  r_statement : (d : DoViewChange) (rule : Rule) → Stocking P Q (rules.obey_do_view_change d rule)
+  r_statement d StatedLate = b_says _ (λ r. (tt, tt))
+  r_statement d Stated = b_then _ _ (b_by _ (λ r. b_when _ _ (b_enter d.view))) (b_then _ _ (b_change (rules.with_statement d.replica d.statement) (λ r. record { saved = refl; state = refl; table = refl })) b_try)
+  r_statement d _ = b_quiet
 
-pub b_resuming : Stocking resuming
-b_resuming = b_by _ (λ r. b_if _ _ _ (b_says start_line (λ r. (tt, tt))) (b_then _ _ b_leave (b_then _ _ (b_says start_line (λ r. (tt, tt))) (b_then _ _ b_load (b_then _ _ b_apply b_announce)))))
+  r_stored_of : (hash : Hash) (o : Option Header) → Stocking P Q (option_map_or (rules.acknowledge hash) o quiet)
+  r_stored_of hash None = b_quiet
+  r_stored_of hash (Some h) = b_says _ (λ r. (tt, tt))
+
+  r_stored : (hash : Hash) (op : ℕ) → Stocking P Q (rules.acknowledge_stored hash op)
+  unfolding rules.acknowledge_stored
+  r_stored hash op = b_by _ (λ r. b_when _ _ (r_stored_of hash (header_at r op)))
+
+  r_view : (hash : Hash) (v : StartView) (rule : Rule) → Stocking P Q (rules.obey_start_view hash v rule)
+  r_view hash v Taken = b_then _ _ (b_take _) (b_then _ _ (b_by _ (λ r. b_each _ _ (r_stored hash))) b_apply)
+  r_view hash v _ = b_quiet
+
+  r_get_view : (g : GetView) (rule : Rule) → Stocking P Q (rules.obey_get_view g rule)
+  r_get_view g ViewGiven = b_says _ (λ r. (tt, tt))
+  r_get_view g _ = b_quiet
+
+  r_get_prepare : (g : GetPrepare) (rule : Rule) → Stocking P Q (rules.obey_get_prepare g rule)
+  r_get_prepare g EntryGiven = b_entry g.op _ (λ e. c_says _) (λ e w. b_says _ (λ r. (tt, tt)))
+  r_get_prepare g _ = b_quiet
+
+  r_give_prepare : (g : GivePrepare) (rule : Rule) → Stocking P Q (rules.obey_give_prepare g rule)
+  r_give_prepare g EntryTaken = b_then _ _ (b_write g.entry) (b_then _ _ (b_resend g.entry) b_apply)
+  r_give_prepare g _ = b_quiet
+
+  r_give_read : (g : GetBlock) (o : Option (List ℕ)) → ((b : List ℕ) → o ≡ Some b → P b) → Stocking P Q (rules.give_read g o)
+  r_give_read g None h = b_quiet
+  r_give_read g (Some block) h = b_says _ (λ r. (h block refl, tt))
+
+  r_get_block : (g : GetBlock) (o : Option (List ℕ)) (rule : Rule) → ((b : List ℕ) → o ≡ Some b → P b) → Stocking P Q (rules.obey_get_block g o rule)
+  r_get_block g o BlockGiven h = r_give_read g o h
+  r_get_block g o _ h = b_quiet
+
+  b_put : (name : Name) (block : List ℕ) → AreCalls (put_calls name.address block) → Q block → Stocking P Q (does (λ r. PutBlock name block))
+  unfolding does
+  b_put name block are q = record { chained = c_put name block; each = λ n i r d a k. record { blocks = ((are, q), tt); stock = a.stock } }
+
+  r_put_block : (name : Name) (block : List ℕ) → AreCalls (put_calls name.address block) → Q block → Stocking P Q (rules.put_block name block)
+  unfolding rules.put_block
+  r_put_block name block are q = b_then _ _ (b_put name block are q) (b_then _ _ (b_change (rules.without name) (λ r. record { saved = refl; state = refl; table = refl })) (b_by _ (λ r. b_when _ load b_load)))
+
+  r_put_found : (block : List ℕ) (o : Option Name) → Q block → ((name : Name) → o ≡ Some name → AreCalls (put_calls name.address block)) → Stocking P Q (rules.put_found block o)
+  r_put_found block None q h = b_quiet
+  r_put_found block (Some name) q h = b_then _ _ (r_put_block name block (h name refl) q) b_apply
+
+  r_give_block : (g : GiveBlock) (rule : Rule) → IsBytes g.block → Q g.block → Stocking P Q (rules.obey_give_block lying.is_block g rule)
+  r_give_block g BlockTaken are q = b_by _ (λ r. r_put_found g.block (find (is_wanted lying.is_block g) r.missing) q (λ name e. wanted_are g name are (find_passes (is_wanted lying.is_block g) r.missing name e)))
+  r_give_block g _ are q = b_quiet
+
+  r_next_view : Stocking P Q rules.next_view
+  r_next_view = b_by _ (λ r. b_enter _)
+
+  r_tick : (rule : Rule) → Stocking P Q (rules.obey_tick rule)
+  r_tick TickedPrimary = b_then _ _ (b_says _ (λ r. all_given P commit_message r tt)) (b_then _ _ (b_by _ (λ r. b_when _ _ (b_again _))) b_ask)
+  r_tick TickedBackup = b_then _ _ (b_change rules.idler (λ r. record { saved = refl; state = refl; table = refl })) (b_by _ (λ r. b_if _ _ _ r_next_view b_ask))
+  r_tick TickedChanging =
+      b_then _ _ (b_change rules.idler (λ r. record { saved = refl; state = refl; table = refl })) (b_by _ (λ r. b_if _ _ _ r_next_view (b_then _ _ (b_says _ (λ r. all_given P start_view_change r tt)) (b_then _ _ b_speak b_ask))))
+  r_tick _ = b_quiet
+
+  r_on_request : (q : RequestFields) → Stocking P Q (rules.on_request q)
+  unfolding rules.on_request
+  r_on_request q = b_naming _ (λ hash. b_by _ (λ r. r_request hash q _))
+
+  r_message : (m : Frame) → IsGiven IsBytes m → IsGiven Q m → ReadsGiven P m → Stocking P Q (rules.on_message m)
+  unfolding rules.on_request rules.on_prepare rules.on_prepare_ok rules.on_commit rules.on_start_view_change rules.on_do_view_change rules.on_start_view rules.on_get_view rules.on_get_prepare rules.on_give_prepare rules.on_get_block rules.on_give_block
+  r_message (frame.Request q) are given reads = b_naming _ (λ hash. b_by _ (λ r. r_request hash q _))
+  r_message (frame.Reply a) are given reads = b_quiet
+  r_message (frame.Prepare p) are given reads = b_naming _ (λ hash. b_by _ (λ r. r_prepare hash p _))
+  r_message (frame.PrepareOk a) are given reads = b_naming _ (λ hash. b_by _ (λ r. r_prepare_ok a _))
+  r_message (frame.Commit m) are given reads = b_by _ (λ r. r_commit m _)
+  r_message (frame.StartViewChange m) are given reads = b_by _ (λ r. r_change m _)
+  r_message (frame.DoViewChange d) are given reads = b_by _ (λ r. r_statement d _)
+  r_message (frame.StartView v) are given reads = b_naming _ (λ hash. b_by _ (λ r. r_view hash v _))
+  r_message (frame.GetView g) are given reads = b_by _ (λ r. r_get_view g _)
+  r_message (frame.GetPrepare g) are given reads = b_naming _ (λ hash. b_by _ (λ r. r_get_prepare g _))
+  r_message (frame.GivePrepare g) are given reads = b_by _ (λ r. r_give_prepare g _)
+  r_message (frame.GetBlock g) are given reads =
+      b_reading (rules.block_at (rules.asked_block g)) (λ o. by (λ r. rules.obey_get_block g o (first_of (get_block_table (is_some o) g r)))) (λ o. c_by _ (λ r. c_obey_get_block g o (first_of (get_block_table (is_some o) g r))))
+      (λ d f. b_by _ (λ r. r_get_block g (lying.block d (rules.asked_block g)) (first_of (get_block_table (is_some (lying.block d (rules.asked_block g))) g r)) (λ b e. reads d f b e)))
+  r_message (frame.GiveBlock g) are given reads =
+      b_reading rules.test_of (λ t. by (λ r. rules.obey_give_block t g (first_of (give_block_table t g r)))) (λ t. c_by _ (λ r. c_obey_give_block t g (first_of (give_block_table t g r))))
+      (λ d f. b_by _ (λ r. r_give_block g (first_of (give_block_table lying.is_block g r)) are given))
+
+  r_event : (e : Event) → IsGivenEvent IsBytes e → IsGivenEvent Q e → ReadsGivenIn P e → Stocking P Q (rules.on_event e)
+  unfolding rules.on_tick
+  r_event (event.Request q) are given reads = r_on_request q
+  r_event (event.Deliver m) are given reads = r_message m are given reads
+  r_event event.Tick are given reads = b_by _ (λ r. r_tick _)
+
+  pub b_react : (e : Event) → IsGivenEvent IsBytes e → IsGivenEvent Q e → ReadsGivenIn P e → Stocking P Q (rules.react e)
+  unfolding rules.react
+  b_react e are given reads = b_by _ (λ r. b_when _ _ (r_event e are given reads))
+
+  -- ---- an opening, after what it mends and finds
+
+  b_leave : Stocking P Q leave_view
+  b_leave = b_by _ (λ r. b_when _ _ (b_then _ _ (b_change in_next_view (λ r. record { saved = refl; state = refl; table = refl })) b_save))
+
+  b_announce : Stocking P Q announce
+  b_announce = b_by _ (λ r. b_when _ _ (b_then _ _ (b_change heard_itself (λ r. record { saved = refl; state = refl; table = refl })) (b_by _ (λ r. b_when _ _ (b_says _ (λ r. all_given P start_view_change r tt))))))
+
+  pub b_resuming : Stocking P Q resuming
+  b_resuming = b_by _ (λ r. b_if _ _ _ (b_says start_line (λ r. (tt, tt))) (b_then _ _ b_leave (b_then _ _ (b_says start_line (λ r. (tt, tt))) (b_then _ _ b_load (b_then _ _ b_apply b_announce)))))
+
+-- ---- what is given is read on the disk at first
+
+-- of a block that reads on this disk
+abbrev pub ReadsOn : Lying → List ℕ → Type 0
+ReadsOn d b = (name : Name) × (lying.block d name ≡ Some b)
+
+module _ {Q : List ℕ → Type 0} (n i : ℕ) (r : Replica) (d : Lying) (at : At r d) where
+  get_leaves : (g : GetBlock) → IsKnown 0 n i (rules.on_message (frame.GetBlock g) lying r d).script → Leaves (ReadsOn d) Q (rules.on_message (frame.GetBlock g)) r d
+  unfolding rules.on_get_block reading by
+  get_leaves g known =
+      let name = rules.asked_block g in
+      let o = lying.block d name in
+      let x = (r_get_block {P = ReadsOn d} {Q = Q} g o (first_of (get_block_table (is_some o) g r)) (λ b e. (name, e))).each n i r d at known in
+      record { blocks = x.blocks; stock = x.stock }
+
+  when_leaves : (t : Bool) (w : Word Lying) → IsKnown 0 n i (when t w lying r d).script → (IsKnown 0 n i (w lying r d).script → Leaves (ReadsOn d) Q w r d) → Leaves (ReadsOn d) Q (when t w) r d
+  when_leaves true w known h = let x = h known in record { blocks = x.blocks; stock = x.stock }
+  when_leaves false w known h = let x = (b_quiet {P = ReadsOn d} {Q = Q}).each n i r d at known in record { blocks = x.blocks; stock = x.stock }
+
+  pub gives_read : (e : Event) → IsGivenEvent IsBytes e → IsGivenEvent Q e → IsKnown 0 n i (rules.react e lying r d).script → Leaves (ReadsOn d) Q (rules.react e) r d
+  unfolding rules.react by
+  gives_read (event.Deliver (frame.GetBlock g)) are given known = let x = when_leaves _ (rules.on_message (frame.GetBlock g)) known (get_leaves g) in record { blocks = x.blocks; stock = x.stock }
+  gives_read (event.Deliver (frame.Request q)) are given known = (b_react {P = ReadsOn d} {Q = Q} (event.Deliver (frame.Request q)) are given tt).each n i r d at known
+  gives_read (event.Deliver (frame.Reply a)) are given known = (b_react {P = ReadsOn d} {Q = Q} (event.Deliver (frame.Reply a)) are given tt).each n i r d at known
+  gives_read (event.Deliver (frame.Prepare p)) are given known = (b_react {P = ReadsOn d} {Q = Q} (event.Deliver (frame.Prepare p)) are given tt).each n i r d at known
+  gives_read (event.Deliver (frame.PrepareOk a)) are given known = (b_react {P = ReadsOn d} {Q = Q} (event.Deliver (frame.PrepareOk a)) are given tt).each n i r d at known
+  gives_read (event.Deliver (frame.Commit m)) are given known = (b_react {P = ReadsOn d} {Q = Q} (event.Deliver (frame.Commit m)) are given tt).each n i r d at known
+  gives_read (event.Deliver (frame.StartViewChange m)) are given known = (b_react {P = ReadsOn d} {Q = Q} (event.Deliver (frame.StartViewChange m)) are given tt).each n i r d at known
+  gives_read (event.Deliver (frame.DoViewChange m)) are given known = (b_react {P = ReadsOn d} {Q = Q} (event.Deliver (frame.DoViewChange m)) are given tt).each n i r d at known
+  gives_read (event.Deliver (frame.StartView v)) are given known = (b_react {P = ReadsOn d} {Q = Q} (event.Deliver (frame.StartView v)) are given tt).each n i r d at known
+  gives_read (event.Deliver (frame.GetView g)) are given known = (b_react {P = ReadsOn d} {Q = Q} (event.Deliver (frame.GetView g)) are given tt).each n i r d at known
+  gives_read (event.Deliver (frame.GetPrepare g)) are given known = (b_react {P = ReadsOn d} {Q = Q} (event.Deliver (frame.GetPrepare g)) are given tt).each n i r d at known
+  gives_read (event.Deliver (frame.GivePrepare g)) are given known = (b_react {P = ReadsOn d} {Q = Q} (event.Deliver (frame.GivePrepare g)) are given tt).each n i r d at known
+  gives_read (event.Deliver (frame.GiveBlock g)) are given known = (b_react {P = ReadsOn d} {Q = Q} (event.Deliver (frame.GiveBlock g)) are given tt).each n i r d at known
+  gives_read (event.Request q) are given known = (b_react {P = ReadsOn d} {Q = Q} (event.Request q) are given tt).each n i r d at known
+  gives_read event.Tick are given known = (b_react {P = ReadsOn d} {Q = Q} event.Tick are given tt).each n i r d at known

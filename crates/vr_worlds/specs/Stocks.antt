@@ -1,5 +1,5 @@
 -- What a replica has of which its checkpoints are written, and what is written of blocks.
-use Rattle.std.specs.Prelude.{ℕ, ◌≡◌, ⊤, slice_get, Some}
+use Rattle.std.specs.Prelude.{ℕ, ◌≡◌, ⊤, List, slice_get, Some}
 use Rattle.std.specs.List.{AllByRecursion}
 use Rattle.vr_base.specs.Bytes.{IsBytes}
 use Rattle.vr_disk.specs.Stops.{IsCall}
@@ -12,7 +12,11 @@ use Rattle.vr_msg.specs.declared.output.Output.TheVariants as output
 use Rattle.vr_msg.specs.declared.output.Sent.{Sent}
 use Rattle.vr_kv.specs.Kv.{IsKv}
 use Rattle.vr_sess.specs.Sessions.{IsSessions}
+use Rattle.vr_apply.specs.Texts.{texts_of}
+use Rattle.vr_apply.specs.declared.codec.Texts.{Texts}
+use Rattle.vr_apply.specs.declared.state.State.{State}
 use Rattle.vr_grid.specs.Grid.{put_calls}
+use Rattle.vr_ckpt.specs.declared.table.PayloadTable.{PayloadTable}
 use Rattle.vr_ckpt.specs.Saves.{save_calls}
 use Rattle.vr_ckpt.specs.declared.table.Payload.{Payload}
 use Rattle.vr_rules.specs.Replica.{Replica}
@@ -30,26 +34,35 @@ pub record IsStocked (r : Replica) : Type 0 where
   pub old_sessions : AllByRecursion IsNamed r.table.sessions
   pub old_keys : AllByRecursion IsNamed r.table.keys
 
--- a block that is given consists of bytes
-abbrev pub IsGiven : Frame → Type 0
-IsGiven (frame.GiveBlock g) = IsBytes g.block
-IsGiven _ = ⊤
+-- this is so of a block that is given
+abbrev pub IsGiven : (List ℕ → Type 0) → Frame → Type 0
+IsGiven P (frame.GiveBlock g) = P g.block
+IsGiven P _ = ⊤
 
-abbrev pub IsGivenOutput : Output → Type 0
-IsGivenOutput (output.Send s) = IsGiven s.message
-IsGivenOutput _ = ⊤
+abbrev pub IsGivenOutput : (List ℕ → Type 0) → Output → Type 0
+IsGivenOutput P (output.Send s) = IsGiven P s.message
+IsGivenOutput P _ = ⊤
 
-abbrev pub IsGivenEvent : Event → Type 0
-IsGivenEvent (event.Deliver m) = IsGiven m
-IsGivenEvent _ = ⊤
+abbrev pub IsGivenEvent : (List ℕ → Type 0) → Event → Type 0
+IsGivenEvent P (event.Deliver m) = IsGiven P m
+IsGivenEvent P _ = ⊤
 
--- blocks are written in sectors of their size, and given as bytes
-abbrev pub WritesBlocks : Effect → Type 0
-WritesBlocks (Checkpoint cluster texts op old) = AllByRecursion IsCall (save_calls cluster texts op old)
-WritesBlocks (PutBlock name block) = AllByRecursion IsCall (put_calls name.address block)
-WritesBlocks (Say o) = IsGivenOutput o
-WritesBlocks _ = ⊤
+-- the texts of a checkpoint are those of a state of the program, and the payloads of the one before have names
+pub record IsOfState (texts : Texts) (old : PayloadTable) : Type 0 where
+  pub state : State
+  pub are : texts ≡ texts_of state
+  pub sessions : IsSessions state.sessions
+  pub machine : IsKv state.machine
+  pub old_sessions : AllByRecursion IsNamed old.sessions
+  pub old_keys : AllByRecursion IsNamed old.keys
+
+-- Blocks are written in sectors of their size. Of those that are given P is so, and Q of those that are put in their places.
+abbrev pub WritesBlocks : (P Q : List ℕ → Type 0) → Effect → Type 0
+WritesBlocks P Q (Checkpoint cluster texts op old) = AllByRecursion IsCall (save_calls cluster texts op old) × IsOfState texts old
+WritesBlocks P Q (PutBlock name block) = AllByRecursion IsCall (put_calls name.address block) × Q block
+WritesBlocks P Q (Say o) = IsGivenOutput P o
+WritesBlocks P Q _ = ⊤
 
 pub record IsStockedGroup (g : Group) : Type 0 where
   pub running : (at : ℕ) (m : Member) (r : Replica) → slice_get g.members at ≡ Some m → m.replica ≡ Some r → IsStocked r
-  pub sent : (number : ℕ) (s : Sent) → slice_get g.sent number ≡ Some s → IsGiven s.message
+  pub sent : (number : ℕ) (s : Sent) → slice_get g.sent number ≡ Some s → IsGiven IsBytes s.message

@@ -1,0 +1,10 @@
+use Rattle.vr_rules.specs.Lying.{hazards}
+use Rattle.vr_rules.specs.World.{Begins, happen, no_world}
+use Rattle.std.specs.Prelude.{◌∷◌}
+use Rattle.vr_unforged.proofs.Fresh.{schedules_are_runs}
+use Rattle.vr_one_log.proofs.Closing.{runs_safe}
+use Rattle.vr_one_log.proofs.Traces.{keeps}
+use Rattle.vr_one_log.proofs.schedules_keep_one_log.Goals as goal
+
+pub returns : goal.returns
+returns _ = λ n xs few many may. keeps n few many (runs_safe 0 n) (happen hazards no_world (Begins n ∷ xs)) (schedules_are_runs n xs few many may)

@@ -1,0 +1,12 @@
+pub mod Blocks
+pub mod Disks
+pub mod Values
+pub mod Walk
+pub mod Words
+pub mod Reacting
+pub mod Opening
+pub mod Members
+pub mod Serving
+pub mod Lines
+pub mod Runs
+pub mod Replying

@@ -1,0 +1,368 @@
+-- In a run of a group every member's checkpoints, and the states of those that run, are the log's.
+use Rattle.std.proofs.Common.{ℕ, zero, suc, ◌+◌, ◌-◌, ◌<◌, ◌≤◌, ◌≡◌, ◌∙◌, ◌⊎◌, inl, inr, arith, refl, sym, ap, subst, Bool, true, false, ◌||◌, List, [], ◌∷◌, ◌++◌, length, take, drop, Some, None}
+use Rattle.std.specs.Prelude.{All, Contains, nat_lt, slice_get, slice_set}
+use Rattle.std.proofs.lemmas.Bool.{cases_lt, le-ltb, lt-ltb, true≢false}
+use Rattle.std.proofs.lemmas.List.{append-nil, take-append-drop}
+use Rattle.std.proofs.Math.Seq.{take-append-add}
+use Rattle.std.proofs.lemmas.List.Elements.{All-nil, All-cons, All-head, All-tail}
+use Rattle.std.proofs.lemmas.Option.{slice_get_within}
+use Rattle.vr_header.specs.Bodies.{operation_bytes}
+use Rattle.vr_header.specs.Made.{Whole}
+use Rattle.vr_header.specs.Names.{root_header}
+use Rattle.vr_header.specs.NoCollision.{NoCollision}
+use Rattle.vr_msg.specs.declared.event.Event.{Event}
+use Rattle.vr_msg.specs.declared.output.Committed.{Committed}
+use Rattle.vr_msg.specs.declared.output.Output.{Output}
+use Rattle.vr_msg.specs.declared.output.Output.TheVariants as output
+use Rattle.vr_super.specs.Copies.{SuperValue}
+use Rattle.vr_rules.specs.Commitment.{is_line_of}
+use Rattle.vr_rules.specs.Fit.{IsFit, ReadsWell}
+use Rattle.vr_rules.specs.Group as group
+use Rattle.vr_rules.specs.Group.{Arrival, Group, IsArrival, Member, Move, Moved, Moves, Opens, Played, Run, Runs, carried_out, cut_after, cut_in_two, ended, found, fresh_group, fresh_member, goes, keeps_all, mended, once_mended, opening_script, recovered, resumed, stepped}
+use Rattle.vr_rules.specs.GroupFit.{IsFitArrival, IsFitGroup, IsFitReplica, IsFitValue}
+use Rattle.vr_rules.specs.Laws.{IsEvent}
+use Rattle.vr_rules.specs.Lying.{Lying, lying}
+use Rattle.vr_rules.specs.Opening.{blank, fresh, mending}
+use Rattle.vr_rules.specs.Own.{IsAt}
+use Rattle.vr_rules.specs.Replica.{Replica, is_frozen, is_spent, last_view}
+use Rattle.vr_rules.specs.Rules.{react}
+use Rattle.vr_rules.specs.Safe as safe
+use Rattle.vr_rules.specs.Safe.{IsHashed, faces_of, read, wrote}
+use Rattle.vr_rules.specs.Steps.{Effect, Write, Step, by, outputs, quiet, says}
+use Rattle.vr_rules.proofs.FitDisks.{disks_fit}
+use Rattle.vr_rules.proofs.FitGroups.{fresh_at}
+use Rattle.vr_rules.proofs.FitSteps.{steps_fit}
+use Rattle.vr_rules.proofs.SendsScripts.{outputs_append}
+use Rattle.vr_protocol.specs.Basics.{In}
+use Rattle.vr_safe.specs.Chains.{Every, IsBackedLine, Setup}
+use Rattle.vr_safe.specs.Finished.{IsTrue}
+use Rattle.vr_safe.specs.Local.{Local, carried}
+use Rattle.vr_safe.specs.Openings.{keeping}
+use Rattle.vr_safe.proofs.Opening as opening
+use Rattle.vr_safe.proofs.Playing.{leaves}
+use Rattle.vr_run.specs.Bridge.{Bridges}
+use Rattle.vr_run.proofs.Bridging.{begun_of, chain_of, local, may_begin}
+use Rattle.vr_agree.specs.Answering.{one_if}
+use Rattle.vr_agree.specs.Followed.{IsFollowed}
+use Rattle.vr_agree.specs.Ordered.{AreInOrder}
+use Rattle.vr_agree.specs.Replied.{IsLogOf}
+use Rattle.vr_agree.proofs.Fitting.{arrives, fit_at, good_value, opening_fit}
+use Rattle.vr_agree.proofs.Ordering.{come_in_order}
+use Rattle.vr_agree.proofs.Reading.{opening_reads, reads_good}
+use Rattle.vr_agree.proofs.Resuming.{on_disk, resumed_order, said_right}
+use Rattle.vr_agree.proofs.Sets.{get_in, in_contains, in_left, in_right}
+use Rattle.vr_agree.proofs.Slots.{read_or_written}
+use Rattle.vr_agree.proofs.Traces.{every_in}
+use Rattle.vr_replied.specs.Hashed.{ReadsHashed}
+use Rattle.vr_replied.proofs.Disks.{Begun}
+use Rattle.vr_replied.proofs.Lines.{lines_may}
+use Rattle.vr_replied.proofs.Members.{Values, bears_front, borne_all, carried_values, cut_values, every_front, kept_values}
+use Rattle.vr_replied.proofs.Opening.{L, all_calm, live_at, mending_at, mending_calm, spent_at}
+use Rattle.vr_replied.proofs.Reacting.{react_at}
+use Rattle.vr_replied.proofs.Values.{IsRooted, Rests, Stands, core}
+use Rattle.vr_replied.proofs.Walk.{AllMay, Bears, IsBorne, WellAt}
+use Rattle.vr_replied.proofs.Words.{S}
+
+-- ---- lists
+
+ordered_front : (i m : ℕ) (a b : List Output) → AreInOrder i m (a ++ b) → AreInOrder i m a
+unfolding AreInOrder
+ordered_front i m [] b h = tt
+ordered_front i m (o ∷ a) b h = (h.0, ordered_front i (m + one_if (is_line_of i o)) a b h.1)
+
+all_front : {X : Type 0} (P : X → Type 0) (xs ys : List X) → All P (xs ++ ys) → All P xs
+all_front P [] ys h = All-nil P
+all_front P (x ∷ xs) ys h = All-cons P x xs (All-head P x (xs ++ ys) h) (all_front P xs ys (All-tail P x (xs ++ ys) h))
+
+all_back : {X : Type 0} (P : X → Type 0) (xs ys : List X) → All P (xs ++ ys) → All P ys
+all_back P [] ys h = h
+all_back P (x ∷ xs) ys h = all_back P xs ys (All-tail P x (xs ++ ys) h)
+
+set_got : {X : Type 0} (xs : List X) (i j : ℕ) (y z : X) → slice_get (slice_set xs i y) j ≡ Some z → (y ≡ z) ⊎ (slice_get xs j ≡ Some z)
+set_got [] i j y z e = absurd cc
+set_got (x ∷ xs) zero zero y z e = inl cc
+set_got (x ∷ xs) zero (suc j) y z e = inr e
+set_got (x ∷ xs) (suc i) zero y z e = inr e
+set_got (x ∷ xs) (suc i) (suc j) y z e = set_got xs i j y z e
+
+or_right : (a b : Bool) → b ≡ true → (a || b) ≡ true
+or_right true b e = refl
+or_right false b e = e
+
+frozen_is : (e : Event) (r : Replica) (d : Lying) → is_frozen r ≡ true → stepped e r d ≡ record { replica = r; script = [] }
+unfolding react by quiet
+frozen_is e r d z = rw z refl
+
+spent_is : (v : SuperValue) (d : Lying) → is_spent (recovered v d) ≡ true → (resumed v d).replica ≡ recovered v d
+unfolding by says
+spent_is v d z = rw z refl
+
+-- ---- a run
+
+module _ (cluster n : ℕ) (u : Setup) (run : List Played) (x : IsFollowed cluster n u run) (bridges : (t : ℕ) (p : Played) → slice_get run t ≡ Some p → Bridges u p.before (x.group t))
+    (never : NoCollision (IsHashed run (root_header cluster))) (log : List Whole) (is_log : IsLogOf cluster u run (x.group (length run)).sent log) where
+  abbrev pub H : List ℕ → Type 0
+  H bytes = IsHashed run (root_header cluster) bytes
+
+  -- the checkpoints of both its values, and where it runs its own, are the log's; and so is its state, where it isn't frozen
+  pub record MemberStands (m : Member) : Type 0 where
+    pub values : Values H log m
+    pub rests : (r : Replica) → m.replica ≡ Some r → Rests H log (core r)
+    pub stands : (r : Replica) → m.replica ≡ Some r → is_frozen r ≡ false → Stands H log (core r)
+
+  abbrev pub AllStand : Group → Type 0
+  AllStand g = (at : ℕ) (m : Member) → slice_get g.members at ≡ Some m → MemberStands m
+
+  stopped_stands : (m : Member) → Values H log m → MemberStands (record m { replica = None })
+  stopped_stands m h = record { values = record { last = h.last; under = h.under }; rests = λ r e. absurd cc; stands = λ r e f. absurd cc }
+
+  running_stands : (m : Member) (q : Replica) → Values H log m → Rests H log (core q) → (is_frozen q ≡ false → Stands H log (core q)) → MemberStands (record m { replica = Some q })
+  running_stands m q h rests stands = record {
+    values = record { last = h.last; under = h.under };
+    rests = λ r e. let same : q ≡ r = cc in subst (λ r. Rests H log (core r)) same rests;
+    stands = λ r e. let same : q ≡ r = cc in subst (λ r. is_frozen r ≡ false → Stands H log (core r)) same stands;
+  }
+
+  set_stands : (g : Group) (at : ℕ) (m : Member) (members : List Member) → members ≡ slice_set g.members at m → AllStand g → MemberStands m → (j : ℕ) (y : Member) → slice_get members j ≡ Some y → MemberStands y
+  set_stands g at m members is all h j y e =
+      elim (set_got g.members at j m y (subst (λ (ms : List Member). slice_get ms j ≡ Some y) is e)) [ inl same ↦ subst MemberStands same h | inr old ↦ all j y old ]
+
+  -- ---- what a move hashes
+
+  module _ (t : ℕ) (p : Played) (is : slice_get run t ≡ Some p) where
+    here : Contains run p
+    here = in_contains run p (get_in run t p is)
+
+    pub begun_in : (e : Effect) → In e p.moved.script → Begun H e
+    begun_in e i bytes w = wrote p e bytes here (in_contains p.moved.script e i) w
+
+    pub reads_in : (d : Lying) → Contains (faces_of p.move) d.face → ReadsHashed H d.face
+    reads_in d face name c e = record { payload = read p d.face c.payload here face (safe.IsRead.payload name c e); header = read p d.face _ here face (safe.IsRead.block name c e) }
+
+    entries_in : (d : Lying) → Contains (faces_of p.move) d.face → (slot : ℕ) (e : Whole) → slot < 64 → lying.entry d slot ≡ Some e → H (operation_bytes e.operation)
+    entries_in d face slot e l q = read p d.face _ here face (safe.IsRead.operation slot e q)
+
+    pub fit_group : IsFitGroup cluster p.before
+    fit_group = (fit_at cluster n run x.fit t p is).0.0
+
+    mine : IsFitGroup u.cluster p.before
+    mine = subst (λ c. IsFitGroup c p.before) (sym x.cluster_is) fit_group
+
+    within : t ≤ length run
+    within = let w = slice_get_within run t p is in omega arith
+
+    -- ---- a step
+
+    module _ (at : ℕ) (arrival : Arrival) (e : Event) (d : Lying) (m : Member) (r : Replica) (runs : Runs p.before at m r) (came : IsArrival p.before at arrival e) (face : Contains (faces_of p.move) d.face)
+        (fit : IsFitArrival arrival × ReadsWell lying d) where
+      abbrev es : List Effect
+      es = (stepped e r d).script
+
+      own : IsFitReplica r × IsAt cluster p.before.n at r
+      own = (fit_group.members at m runs.member).running r runs.running
+
+      event : IsEvent e
+      event = arrives cluster p.before at arrival e fit_group fit.0 came
+
+      step_fits : All IsFit es
+      step_fits = (steps_fit lying d r e disks_fit.lies disks_fit.roots fit.1 own.0.sound own.0.savable own.0.missing event).each
+
+      step_told : (c : Committed) → In (output.Commit c) (outputs es) → IsBackedLine u (x.group t).sent c.entry.header
+      step_told c j =
+          let y = (chain_of u x.fits x.hash_is p.before (x.group t) mine (bridges t p is) at arrival e d m r runs.member runs.running fit.0 came).chain in
+          let before = (begun_of u (x.group t) at es y.begun y.begins).sent in
+          let all : Every (IsTrue u y.begun.sent y.finishes.after.sent) (outputs es) = subst (Every (IsTrue u y.begun.sent y.finishes.after.sent)) (leaves es (local m)).said y.finishes.ends.told in
+          subst (λ s. IsBackedLine u s c.entry.header) before (every_in (IsTrue u y.begun.sent y.finishes.after.sent) (outputs es) (output.Commit c) j all)
+
+      step_may : (xs ys : List Effect) → xs ++ ys ≡ es → ((z : Effect) → In z xs → In z p.moved.script) → AllMay H log r.index r.applied d xs
+      step_may xs ys are has =
+          let said : outputs es ≡ outputs xs ++ outputs ys = ap outputs (sym are) ∙ outputs_append xs ys in
+          let order = (come_in_order lying r d e disks_fit.names own.0.sound event).ordered in
+          lines_may cluster n u run x never log is_log t within r.index r.applied d xs (all_front IsFit xs ys (subst (All IsFit) (sym are) step_fits)) (ordered_front r.index r.applied (outputs xs) (outputs ys) (subst (AreInOrder r.index r.applied) said order))
+          (λ c j. let i = subst (λ (os : List Output). In (output.Commit c) os) (sym said) (in_left (outputs xs) (outputs ys) (output.Commit c) j) in
+          (step_told c i, reads_good lying d r e disks_fit.lies disks_fit.roots fit.1 own.0.sound own.0.savable own.0.missing event c i))
+          (λ z i. begun_in z (has z i)) (entries_in d face)
+
+      step_well : is_frozen r ≡ false → Stands H log (core r) → WellAt H log (S H never log) (react e) r d
+      step_well free h = react_at H never log r d own.0.sound.waits (reads_in d face) h e free
+
+      pub step_stands : MemberStands m → ((z : Effect) → In z es → In z p.moved.script) → MemberStands (record (carried_out es m) { replica = Some (stepped e r d).replica })
+      unfolding carried_out
+      step_stands h has =
+          let go : (b : Bool) → is_frozen r ≡ b → MemberStands (record (carried_out es m) { replica = Some (stepped e r d).replica }) = elim [
+            | false ↦ λ z.
+                let w = step_well z (h.stands r runs.running z) in
+                let all = step_may es [] (append-nil es) has in
+                let l = w.left all in
+                running_stands (carried_out es m) (stepped e r d).replica (carried_values H log es m (borne_all H log r.index r.applied d es w.bears all) h.values) l.holds.rests (λ f. l.holds)
+            | true ↦ λ z.
+                let same = frozen_is e r d z in
+                subst (λ (s : Step). MemberStands (record (carried_out s.script m) { replica = Some s.replica })) (sym same)
+                (running_stands m r h.values (h.rests r runs.running) (λ f. h.stands r runs.running f))
+          ] in
+          go (is_frozen r) refl
+
+      pub step_cut : MemberStands m → (k : ℕ) → ((z : Effect) → In z (take (suc k) es) → In z p.moved.script) → Values H log (cut_after k es m)
+      step_cut h k has =
+          let go : (b : Bool) → is_frozen r ≡ b → Values H log (cut_after k es m) = elim [
+            | false ↦ λ z.
+                let xs : List Effect = take (suc k) es in
+                let ys : List Effect = drop (suc k) es in
+                let are : xs ++ ys ≡ es = take-append-drop (suc k) es in
+                let w = step_well z (h.stands r runs.running z) in
+                let bears = bears_front H log r.index r.applied d xs ys (subst (Bears H log r.index r.applied d) (sym are) w.bears) in
+                cut_values H log k es m (borne_all H log r.index r.applied d xs bears (step_may xs ys are has)) h.values
+            | true ↦ λ z. subst (λ (s : Step). Values H log (cut_after k s.script m)) (sym (frozen_is e r d z)) (cut_values H log k [] m tt h.values)
+          ] in
+          go (is_frozen r) refl
+
+    -- ---- an opening
+
+    module _ (at : ℕ) (m : Member) (v : SuperValue) (d : Lying) (wakes : Opens p.before at m v d) (face : Contains (faces_of p.move) d.face) (fit : ReadsWell lying d) (h : MemberStands m) where
+      abbrev xs : List Effect
+      xs = (mended v d).script
+
+      abbrev ys : List Effect
+      ys = (resumed v d).script
+
+      value : IsFitValue cluster p.before.n at v
+      value = good_value cluster p.before.n at m v (fit_group.members at m wakes.member) wakes.value
+
+      pub value_rooted : IsRooted H log v
+      value_rooted = elim wakes.value [ inl e ↦ subst (IsRooted H log) e h.values.last | inr e ↦ h.values.under v e ]
+
+      mends : WellAt H log (L H never log) (mending v) (blank v) d
+      mends = mending_at H never log v d value_rooted (reads_in d face)
+
+      mends_may : AllMay H log (blank v).index (blank v).applied d xs
+      mends_may = all_calm H never log (blank v).index (blank v).applied d xs (mending_calm v d)
+
+      pub found_waits : L H never log (core (recovered v d)) (on_disk v d)
+      found_waits = (mends.left mends_may).holds
+
+      mends_borne : Every (IsBorne H log) xs
+      mends_borne = borne_all H log (blank v).index (blank v).applied d xs mends.bears mends_may
+
+      script_fits : All IsFit (xs ++ ys)
+      script_fits = opening_fit cluster p.before.n at v d value fit
+
+      told_rest : (c : Committed) → In (output.Commit c) (outputs ys) → IsBackedLine u (x.group t).sent c.entry.header
+      told_rest c j =
+          let y = opening.opens u (x.group t) at (local m) p.before.made v lying d (may_begin u x.fits x.hash_is p.before (x.group t) mine (bridges t p is) at m v d wakes fit) in
+          let k : Local = keeping v (mended v d) (carried xs (local m)) in
+          let all : Every (IsTrue u (x.group t).sent y.finishes.after.sent) (k.said ++ outputs ys) = subst (Every (IsTrue u (x.group t).sent y.finishes.after.sent)) (leaves ys k).said y.finishes.ends.told in
+          every_in (IsTrue u (x.group t).sent y.finishes.after.sent) (k.said ++ outputs ys) (output.Commit c) (in_right k.said (outputs ys) (output.Commit c) j) all
+
+      rest_may : ((z : Effect) → In z xs → In z p.moved.script) → (fs gs : List Effect) → fs ++ gs ≡ ys → ((z : Effect) → In z fs → In z p.moved.script) → AllMay H log (recovered v d).index (recovered v d).applied (on_disk v d) fs
+      rest_may first fs gs are has =
+          let q : Replica = recovered v d in
+          let said : outputs ys ≡ outputs fs ++ outputs gs = ap outputs (sym are) ∙ outputs_append fs gs in
+          let order = (resumed_order v d value.0 fit).ordered in
+          let fits = all_back IsFit xs ys script_fits in
+          lines_may cluster n u run x never log is_log t within q.index q.applied (on_disk v d) fs (all_front IsFit fs gs (subst (All IsFit) (sym are) fits)) (ordered_front q.index q.applied (outputs fs) (outputs gs) (subst (AreInOrder q.index q.applied) said order))
+          (λ c j. let i = subst (λ (os : List Output). In (output.Commit c) os) (sym said) (in_left (outputs fs) (outputs gs) (output.Commit c) j) in
+          (told_rest c i, opening_reads cluster p.before.n at v d value fit c (said_right xs ys (output.Commit c) i)))
+          (λ z i. begun_in z (has z i))
+          (λ slot e l q. elim (read_or_written xs d (all_front IsFit xs ys script_fits) slot e l q) [
+            | inl old ↦ entries_in d face slot e l old
+            | inr w ↦ begun_in (Write w.0 e) (first (Write w.0 e) w.1) _ (safe.IsWritten.operation w.0 e)
+          ])
+
+      rest_bears : Bears H log (recovered v d).index (recovered v d).applied (on_disk v d) ys
+      rest_bears =
+          let q : Replica = recovered v d in
+          let go : (b : Bool) → is_spent q ≡ b → Bears H log q.index q.applied (on_disk v d) ys = elim [
+            | true ↦ λ z. (spent_at H never log q (on_disk v d) z found_waits).bears
+            | false ↦ λ z. (live_at H never log q (on_disk v d) z found_waits).bears
+          ] in
+          go (is_spent q) refl
+
+      pub opened_stands : ((z : Effect) → In z (xs ++ ys) → In z p.moved.script) → MemberStands (record (carried_out ys (once_mended v d m)) { replica = Some (resumed v d).replica })
+      opened_stands has =
+          let q : Replica = recovered v d in
+          let all = rest_may (λ z i. has z (in_left xs ys z i)) ys [] (append-nil ys) (λ z i. has z (in_right xs ys z i)) in
+          let borne = borne_all H log q.index q.applied (on_disk v d) ys rest_bears all in
+          let values = carried_values H log ys (once_mended v d m) borne (kept_values H log (found v d) (carried_out xs m) (carried_values H log xs m mends_borne h.values)) in
+          let go : (b : Bool) → is_spent q ≡ b → MemberStands (record (carried_out ys (once_mended v d m)) { replica = Some (resumed v d).replica }) = elim [
+            | true ↦ λ z.
+                let l = (spent_at H never log q (on_disk v d) z found_waits).left all in
+                let frozen : is_frozen (resumed v d).replica ≡ true = ap is_frozen (spent_is v d z) ∙ or_right (nat_lt last_view q.view) (is_spent q) z in
+                running_stands (carried_out ys (once_mended v d m)) (resumed v d).replica values l.holds.rests (λ f. absurd (true≢false (sym frozen ∙ f)))
+            | false ↦ λ z.
+                let l = (live_at H never log q (on_disk v d) z found_waits).left all in
+                running_stands (carried_out ys (once_mended v d m)) (resumed v d).replica values l.holds.rests (λ f. l.holds)
+          ] in
+          go (is_spent q) refl
+
+      pub opened_cut : (k : ℕ) → ((z : Effect) → In z (take (k + 1) (xs ++ ys)) → In z p.moved.script) → Values H log (cut_in_two xs ys (keeps_all (found v d)) k m)
+      opened_cut k has =
+          elim (cases_lt k (length xs)) [
+            | inl first ↦ rw (lt-ltb k (length xs) first) (cut_values H log k xs m (every_front (IsBorne H log) (suc k) xs mends_borne) h.values)
+            | inr past ↦
+                let q : Replica = recovered v d in
+                let j : ℕ = k - length xs in
+                let place : k + 1 ≡ length xs + suc j = omega arith in
+                let parts : take (k + 1) (xs ++ ys) ≡ xs ++ take (suc j) ys = ap (λ (n : ℕ). take n (xs ++ ys)) place ∙ take-append-add xs ys (suc j) in
+                let in_all : (z : Effect) → In z (xs ++ take (suc j) ys) → In z p.moved.script = λ z i. has z (subst (λ (zs : List Effect). In z zs) (sym parts) i) in
+                let fs : List Effect = take (suc j) ys in
+                let gs : List Effect = drop (suc j) ys in
+                let are : fs ++ gs ≡ ys = take-append-drop (suc j) ys in
+                let all = rest_may (λ z i. in_all z (in_left xs fs z i)) fs gs are (λ z i. in_all z (in_right xs fs z i)) in
+                let bears = bears_front H log q.index q.applied (on_disk v d) fs gs (subst (Bears H log q.index q.applied (on_disk v d)) (sym are) rest_bears) in
+                rw (le-ltb k (length xs) past)
+                (cut_values H log j ys (once_mended v d m) (borne_all H log q.index q.applied (on_disk v d) fs bears all) (kept_values H log (found v d) (carried_out xs m) (carried_values H log xs m mends_borne h.values)))
+          ]
+
+  -- ---- moves
+
+  moved_stand : (t : ℕ) (g : Group) (move : Move) (moved : Moved) → slice_get run t ≡ Some (record { before = g; move = move; moved = moved }) → Moves g move moved → AllStand g → AllStand moved.group
+  moved_stand t g _ _ is (group.steps at arrival e d m r runs came) all =
+      let p : Played = record { before = g; move = group.Steps at arrival e d; moved = group.finished g at m (stepped e r d) } in
+      let fit = (fit_at cluster n run x.fit t p is).1 in
+      set_stands g at (record (carried_out (stepped e r d).script m) { replica = Some (stepped e r d).replica }) _ refl all (step_stands t p is at arrival e d m r runs came (0, omega arith, refl) fit (all at m runs.member) (λ z i. i))
+  moved_stand t g _ _ is (group.cuts at arrival e d k m r runs came) all =
+      let p : Played = record { before = g; move = group.Cuts at arrival e d k; moved = group.cut_short g at m (stepped e r d) k } in
+      let fit = (fit_at cluster n run x.fit t p is).1 in
+      let same : suc k ≡ k + 1 = omega arith in
+      let has : (z : Effect) → In z (take (suc k) (stepped e r d).script) → In z p.moved.script = λ z i. subst (λ j. In z (take j (stepped e r d).script)) same i in
+      set_stands g at (record (cut_after k (stepped e r d).script m) { replica = None }) _ refl all (stopped_stands (cut_after k (stepped e r d).script m) (step_cut t p is at arrival e d m r runs came (0, omega arith, refl) fit (all at m runs.member) k has))
+  moved_stand t g _ _ is (group.crashes at m there) all = set_stands g at (record m { replica = None }) _ refl all (stopped_stands m (all at m there).values)
+  moved_stand t g _ _ is (group.recovers at v d m wakes) all =
+      let p : Played = record { before = g; move = group.Recovers at v d; moved = group.started g at m v d } in
+      let fit = (fit_at cluster n run x.fit t p is).1 in
+      set_stands g at (record (carried_out (resumed v d).script (once_mended v d m)) { replica = Some (resumed v d).replica }) _ refl all (opened_stands t p is at m v d wakes (0, omega arith, refl) fit (all at m wakes.member) (λ z i. i))
+  moved_stand t g _ _ is (group.recovers_cut at v d k m wakes) all =
+      let p : Played = record { before = g; move = group.RecoversCut at v d k; moved = group.start_cut g at m v d k } in
+      let fit = (fit_at cluster n run x.fit t p is).1 in
+      set_stands g at (record (cut_in_two (mended v d).script (resumed v d).script (keeps_all (found v d)) k m) { replica = None }) _ refl all
+      (stopped_stands (cut_in_two (mended v d).script (resumed v d).script (keeps_all (found v d)) k m) (opened_cut t p is at m v d wakes (0, omega arith, refl) fit (all at m wakes.member) k (λ z i. i)))
+
+  -- ---- the run
+
+  fresh_rests : (i : ℕ) → Rests H log (core (fresh cluster n i))
+  unfolding blank
+  fresh_rests i = record { settled = λ k l. absurd (omega (arith, l)); root = λ above. absurd (omega (arith, above)); table = record { sessions = tt; keys = tt }; waits = λ some. absurd (some refl) }
+
+  first_stands : (i : ℕ) → MemberStands (fresh_member cluster n i)
+  unfolding blank
+  first_stands i = record {
+    values = record { last = λ above. absurd (omega (arith, above)); under = λ v e. absurd cc };
+    rests = λ r e. let same : fresh cluster n i ≡ r = cc in subst (λ r. Rests H log (core r)) same (fresh_rests i);
+    stands = λ r e. let same : fresh cluster n i ≡ r = cc in subst (λ r. is_frozen r ≡ false → Stands H log (core r)) same (λ f. record { rests = fresh_rests i; state = λ none. refl });
+  }
+
+  fresh_stand : AllStand (fresh_group cluster n)
+  unfolding fresh_group
+  fresh_stand at m e = let k = fresh_at cluster n 0 n at m e in subst MemberStands k.0 (first_stands (0 + at))
+
+  all_stand : (d : ℕ) (g : Group) (ps : List Played) → Run g ps → ((k : ℕ) (p : Played) → slice_get ps k ≡ Some p → slice_get run (d + k) ≡ Some p) → AllStand g → (k : ℕ) (p : Played) → slice_get ps k ≡ Some p → AllStand p.before
+  all_stand d _ _ (ended g) sub all k p e = absurd cc
+  all_stand d _ _ (goes g move moved later moves rest) sub all zero p e =
+      let s : record { before = g; move = move; moved = moved } ≡ p = (let o : Some (record { before = g; move = move; moved = moved }) ≡ Some p = e in cc) in
+      subst (λ (p : Played). AllStand p.before) s all
+  all_stand d _ _ (goes g move moved later moves rest) sub all (suc k) p e =
+      all_stand (suc d) moved.group later rest (λ j q i. subst (λ z. slice_get run z ≡ Some q) (let z : d + suc j ≡ suc d + j = omega arith in z) (sub (suc j) q i)) (moved_stand (d + 0) g move moved (sub zero _ refl) moves all) k p e
+
+  -- before each move
+  pub stand_at : (t : ℕ) (p : Played) → slice_get run t ≡ Some p → AllStand p.before
+  stand_at t p e = all_stand 0 (fresh_group cluster n) run x.fit.of_run (λ k q i. subst (λ z. slice_get run z ≡ Some q) (let z : k ≡ 0 + k = omega arith in z) i) fresh_stand t p e

@@ -1,0 +1,142 @@
+-- What a checkpoint's root stands for in a run, and what a replica has of it: the state of the log's first entries.
+use Rattle.std.proofs.Common.{ℕ, zero, suc, ◌+◌, ◌^◌, ◌<◌, ◌≡◌, ◌≢◌, ◌∙◌, arith, refl, sym, ap, subst, List, [], take, Some}
+use Rattle.std.specs.Prelude.{slice_get, Result, Ok, Err}
+use Rattle.vr_header.specs.Made.{Whole}
+use Rattle.vr_header.specs.NoCollision.{NoCollision}
+use Rattle.vr_disk.specs.DiskState.{Face}
+use Rattle.vr_table.specs.declared.fault.StateFault.{StateFault}
+use Rattle.vr_sess.proofs.Spelled.{sessions_decoded-text}
+use Rattle.vr_kv.proofs.Texts.{kv_decoded-kv_text}
+use Rattle.vr_apply.specs.Folds.{state_after}
+use Rattle.vr_apply.specs.Texts.{FitsPayloads, state_decoded, texts_of}
+use Rattle.vr_apply.specs.declared.codec.Texts.{Texts}
+use Rattle.vr_apply.specs.declared.state.State.{State}
+use Rattle.vr_apply.proofs.Stored.{state_next}
+use Rattle.vr_rings.specs.Slots.{IsWhole}
+use Rattle.vr_super.specs.Copies.{SuperValue}
+use Rattle.vr_grid.specs.Blocks.{block_name}
+use Rattle.vr_grid.specs.declared.name.Name.{Name}
+use Rattle.vr_ckpt.specs.Loads.{loaded}
+use Rattle.vr_ckpt.specs.Saves.{root_of, table_of}
+use Rattle.vr_ckpt.specs.declared.found.Load.{Load}
+use Rattle.vr_ckpt.specs.declared.found.Load.TheVariants.{Loaded, Missing}
+use Rattle.vr_ckpt.specs.declared.table.PayloadTable.{PayloadTable}
+use Rattle.vr_rules.specs.Lying.{Lying, lying}
+use Rattle.vr_rules.specs.Replica.{Replica}
+use Rattle.vr_rules.specs.Words.{loaded_state, loads, with_state}
+use Rattle.vr_rules.proofs.FitDisks.{disks_fit}
+use Rattle.vr_worlds.proofs.States.{IsState, state_empty, state_kept, text_of_state}
+use Rattle.vr_replied.specs.Hashed.{IsTable, IsWrittenOut, ReadsHashed}
+use Rattle.vr_replied.proofs.Blocks.{loads_as}
+
+-- ---- the state of a log's first entries
+
+-- the log has an entry of the program at this place, of its number
+pub record IsSettled (log : List Whole) (k : ℕ) : Type 0 where
+  pub entry : Whole
+  pub at : slice_get log k ≡ Some entry
+  pub whole : IsWhole entry
+  pub number : entry.header.op ≡ k + 1
+
+abbrev pub AreSettled : List Whole → ℕ → Type 0
+AreSettled log m = (k : ℕ) → k < m → IsSettled log k
+
+abbrev pub state_at : List Whole → ℕ → State
+state_at log m = state_after (take m log)
+
+state_is : (log : List Whole) (m : ℕ) → AreSettled log m → IsState (state_at log m)
+state_is log zero h = state_empty
+state_is log (suc m) h =
+    let e = h m (omega arith) in
+    subst IsState (sym (state_next log m e.entry e.at)) (state_kept (state_at log m) e.entry (state_is log m (λ k l. h k (omega arith))) e.whole)
+
+pub texts_fit : (log : List Whole) (m : ℕ) → AreSettled log m → FitsPayloads (texts_of (state_at log m))
+texts_fit log m h = let t = text_of_state (state_at log m) (state_is log m h) in record { sessions = t.few_sessions; keys = t.few_keys }
+
+texts_read : (s : State) → IsState s → state_decoded (texts_of s) ≡ Ok s
+texts_read s h = rw (sessions_decoded-text s.sessions h.sessions, kv_decoded-kv_text s.machine h.machine) refl
+
+small : (log : List Whole) (m : ℕ) → AreSettled log m → m < 2 ^ 64
+small log zero h = omega arith
+small log (suc m) h =
+    let e = h m (omega arith) in
+    let o = e.whole.entry.header.op.1 in
+    let n = e.number in
+    omega arith
+
+-- ---- roots
+
+-- the root of a checkpoint of the log's first c entries, whose blocks were hashed
+pub record IsRootOf (H : List ℕ → Type 0) (log : List Whole) (c : ℕ) (root : Name) : Type 0 where
+  pub settled : AreSettled log c
+  pub cluster : ℕ
+  pub old : PayloadTable
+  pub kept : IsTable H old
+  pub written : IsWrittenOut H cluster (texts_of (state_at log c)) c old
+  pub is : root ≡ block_name (root_of cluster (texts_of (state_at log c)) c (table_of cluster (texts_of (state_at log c)) c old))
+
+abbrev pub root_in_value : SuperValue → Name
+root_in_value v = record { address = v.fields.root_address; sum = v.fields.root_name }
+
+-- where there is a checkpoint
+abbrev pub IsRooted : (List ℕ → Type 0) → List Whole → SuperValue → Type 0
+IsRooted H log v = 0 < v.fields.checkpoint → IsRootOf H log v.fields.checkpoint (root_in_value v)
+
+-- ---- what a replica has
+
+pub record Core : Type 0 where
+  pub index : ℕ
+  pub applied : ℕ
+  pub checkpoint : ℕ
+  pub root : Name
+  pub table : PayloadTable
+  pub state : State
+  pub missing : List Name
+
+abbrev pub core : Replica → Core
+core r = record { index = r.index; applied = r.applied; checkpoint = r.checkpoint; root = r.root; table = r.table; state = r.state; missing = r.missing }
+
+-- its checkpoint is one of the log, though its state may not be loaded yet
+pub record Rests (H : List ℕ → Type 0) (log : List Whole) (k : Core) : Type 0 where
+  pub settled : AreSettled log k.applied
+  pub root : 0 < k.checkpoint → IsRootOf H log k.checkpoint k.root
+  pub table : IsTable H k.table
+  pub waits : k.missing ≢ [] → 0 < k.checkpoint
+
+-- and where no block is missing it has the state of the entries that are applied
+pub record Stands (H : List ℕ → Type 0) (log : List Whole) (k : Core) : Type 0 where
+  pub rests : Rests H log k
+  pub state : k.missing ≡ [] → k.state ≡ state_at log k.applied
+
+-- ---- a load
+
+module _ (H : List ℕ → Type 0) (never : NoCollision H) (log : List Whole) where
+  right_texts : (f : Face) → ReadsHashed H f → (c : ℕ) (root : Name) → IsRootOf H log c root → (found : Texts) (table : PayloadTable) → loaded f root ≡ Loaded found table
+      → (state_decoded found ≡ Ok (state_at log c)) × IsTable H table
+  right_texts f reads c root r found table e =
+      let texts = texts_of (state_at log c) in
+      let x = loads_as H never f reads r.cluster c texts r.old (small log c r.settled) (texts_fit log c r.settled) r.kept r.written found table (subst (λ n. loaded f n ≡ Loaded found table) r.is e) in
+      (ap state_decoded x.0 ∙ texts_read (state_at log c) (state_is log c r.settled), x.1)
+
+  -- a checkpoint that is loaded, or whose blocks are missing
+  pub loads_stand : (r : Replica) (d : Lying) → 0 < r.checkpoint → r.applied ≡ r.checkpoint → Rests H log (core r) → ReadsHashed H d.face → Stands H log (core (loads r.root (lying.loaded d r.root) r))
+  unfolding with_state
+  loads_stand r d above same h reads = by_load (loaded d.face r.root) refl
+    where
+      by_state : (table : PayloadTable) → IsTable H table → (x : Result State StateFault) → x ≡ Ok (state_at log r.checkpoint) → Stands H log (core (loaded_state r.root table x r))
+      by_state table t (Err fault) e = absurd cc
+      by_state table t (Ok s) e =
+          let is : s ≡ state_at log r.checkpoint = cc in
+          record {
+            rests = record { settled = h.settled; root = h.root; table = t; waits = λ n. above };
+            state = λ none. is ∙ ap (state_at log) (sym same);
+          }
+
+      by_load : (l : Load) → loaded d.face r.root ≡ l → Stands H log (core (loads r.root l r))
+      by_load (Missing names) e = record {
+        rests = record { settled = h.settled; root = h.root; table = h.table; waits = λ n. above };
+        state = λ none. absurd (disks_fit.lies.some d r.root names e none);
+      }
+      by_load (Loaded texts table) e =
+          let x = right_texts d.face reads r.checkpoint r.root (h.root above) texts table e in
+          by_state table x.1 (state_decoded texts) x.0

@@ -1,0 +1,361 @@
+-- The words of which rules are made keep a replica's checkpoint and state the log's.
+use Rattle.std.proofs.Common.{ℕ, suc, ◌+◌, ◌<◌, ◌≡◌, ◌≢◌, ◌∙◌, inl, inr, arith, refl, sym, ap, subst, Bool, true, false, cond, eqb, ◌&&◌, List, [], ◌∷◌, ◌++◌, ◌%◌, ◌-◌, length, map, Option, Some, None}
+use Rattle.std.specs.Prelude.{is_some, nat_lt, slice_get}
+use Rattle.std.specs.Option.{option_and_then}
+use Rattle.std.proofs.lemmas.Bool.{and_parts, cases_lt, eq-eqb, eqb-true, le-ltb, lt-ltb, true≢false}
+use Rattle.std.proofs.lemmas.List.{nil_from_length}
+use Rattle.std.proofs.lemmas.Nat.{mod_below}
+use Rattle.vr_header.specs.declared.header.Header.{Header}
+use Rattle.vr_header.specs.declared.part.Part.{Part}
+use Rattle.vr_header.specs.declared.part.Part.TheVariants.{Here, Lost, Wanted, Unknown, Nothing}
+use Rattle.vr_header.specs.Made.{Whole}
+use Rattle.vr_header.specs.NoCollision.{NoCollision}
+use Rattle.vr_header.specs.Same.{same_header}
+use Rattle.vr_apply.specs.Folds as state
+use Rattle.vr_apply.specs.Texts.{FitsPayloads, texts_of}
+use Rattle.vr_apply.specs.declared.state.State.{State}
+use Rattle.vr_apply.proofs.Stored.{state_next}
+use Rattle.vr_msg.specs.declared.choice.Choice.{Choice}
+use Rattle.vr_msg.specs.declared.choice.Choice.TheVariants.{Ends, WaitsAt, TooFew}
+use Rattle.vr_msg.specs.declared.frame.Frame.{Frame}
+use Rattle.vr_msg.specs.declared.output.Output.{Output}
+use Rattle.vr_msg.specs.declared.statement.Statement.{Statement}
+use Rattle.vr_rings.specs.Slots.{IsWhole}
+use Rattle.vr_grid.specs.Blocks.{block_name, named}
+use Rattle.vr_grid.specs.declared.name.Name.{Name}
+use Rattle.vr_ckpt.specs.Saves.{root_of, table_of}
+use Rattle.vr_ckpt.specs.declared.saving.SavedCheckpoint as checkpoint
+use Rattle.vr_rules.specs.Lying.{Lying, lying}
+use Rattle.vr_rules.specs.Outputs.{applied_reply, asker_of, commit_line, kind_of, others, replies, send, send_to_all}
+use Rattle.vr_rules.specs.Replica.{Replica, forgetting, leads, part_at, with_part}
+use Rattle.vr_rules.specs.Rules.{put_block, without}
+use Rattle.vr_rules.specs.Safe as safe
+use Rattle.vr_rules.specs.Steps.{Effect, PutBlock, Say, Setting, Word, ◌⨾◌, quiet, change, does, says, by, naming, reading, when, each, outputs, after_all}
+use Rattle.vr_rules.specs.Words.{Log, advance, advanced, accept, applied, apply, apply_entry, apply_next, ask, ask_for, ask_peer, begin_view, checkpoint_at, checkpoints, decided, enter, entered, entry_of, is_checkpoint, is_loaded, learn, load, loads, lost, make_checkpoint, obey_choice, or_lost, prepare_again, resend, save, speak, stated, stored, take, taken, try, try_log, with_checkpoint, with_entry, with_entry_at, write}
+use Rattle.vr_safe.specs.Chains.{Every}
+use Rattle.vr_safe.proofs.Repairs.{every_mapped}
+use Rattle.vr_agree.specs.Answering.{lines}
+use Rattle.vr_agree.proofs.Answers.{loads_place}
+use Rattle.vr_replied.specs.Hashed.{IsWrittenOut, ReadsHashed}
+use Rattle.vr_replied.proofs.Blocks.{table_kept}
+use Rattle.vr_replied.proofs.Disks.{Begun, put_hashed}
+use Rattle.vr_replied.proofs.Values.{Core, IsSettled, Rests, Stands, core, loads_stand, state_at, texts_fit}
+use Rattle.vr_replied.proofs.Walk.{AllMay, Bears, IsBorne, IsCalm, IsOther, May, Steady, Walks, Well, WellAt, all_lines, calm_bears, said_borne, said_calm, then_at, walks_by, walks_change, walks_does, walks_each, walks_if, walks_naming, walks_quiet, walks_reading, walks_save, walks_says, walks_then, walks_times, walks_when}
+
+pub all_others : (message : Replica → Frame) (r : Replica) → Every IsOther (send_to_all message r)
+unfolding send_to_all
+all_others message r = every_mapped IsOther (λ to. send to (message r) r) (others r.index r.n) (λ to. tt)
+
+-- what reads as the entry of a header
+read_entry : (h : Header) (o : Option Whole) (e : Whole) → option_and_then (λ (x : Whole). cond (same_header x.header h) (Some x) None) o ≡ Some e → o ≡ Some e
+read_entry h None e q = absurd cc
+read_entry h (Some x) e q = elim (same_header x.header h) as (λ t. cond t (Some x) None ≡ Some e → Some x ≡ Some e) [ true ↦ λ q. q | false ↦ λ q. absurd cc ] q
+
+loaded_of : (r : Replica) → r.missing ≡ [] → is_loaded r ≡ true
+loaded_of r none = rw none refl
+
+-- an entry's line and reply, and the entry applied
+abbrev lined_entry : Whole → Word Lying
+lined_entry e s r f = record { replica = applied e r; script = map Say (commit_line e r ++ applied_reply e r) }
+
+replies_other : (e : Whole) (r : Replica) → Every IsOther (applied_reply e r)
+replies_other e r =
+    elim (leads r) as (λ b. Every IsOther (cond b (replies (asker_of e) (kind_of (state.applied r.state e).reply) r) [])) [ true ↦ (tt, tt) | false ↦ tt ]
+
+module _ (H : List ℕ → Type 0) (never : NoCollision H) (log : List Whole) where
+  abbrev pub S : Core → Lying → Type 0
+  S k d = Stands H log k
+
+  pub steady : Steady H log S
+  steady = record { rooted = λ k d p. p.rests.root; calm = λ k d e c p. p }
+
+  abbrev pub Keeps : Word Lying → Type 0
+  Keeps w = Walks H log S w
+
+  pub go_then : (v w : Word Lying) → Keeps v → Keeps w → Keeps (v ⨾ w)
+  go_then v w h k = walks_then H log v w h k
+
+  pub go_quiet : Keeps quiet
+  go_quiet = walks_quiet H log steady
+
+  pub go_change : (g : Replica → Replica) → ((r : Replica) → core (g r) ≡ core r) → Keeps (change g)
+  go_change g h = walks_change H log steady g h
+
+  pub go_does : (e : Replica → Effect) → ((r : Replica) → IsCalm (e r)) → ((r : Replica) → IsBorne H log (e r)) → Keeps (does e)
+  go_does e c b = walks_does H log steady e c (λ r d p. b r)
+
+  pub go_says : (os : Replica → List Output) → ((r : Replica) → Every IsOther (os r)) → Keeps (says os)
+  go_says os h = walks_says H log steady os h
+
+  pub go_all : (message : Replica → Frame) → Keeps (says (send_to_all message))
+  go_all message = go_says (send_to_all message) (all_others message)
+
+  pub go_by : (w : Replica → Word Lying) → ((r : Replica) → Keeps (w r)) → Keeps (by w)
+  go_by w h = walks_by H log w h
+
+  pub go_naming : (w : (List ℕ → List ℕ) → Word Lying) → ((hash : List ℕ → List ℕ) → Keeps (w hash)) → Keeps (naming w)
+  go_naming w h = walks_naming H log w h
+
+  pub go_reading : {X : Type 0} (g : Setting Lying → Lying → X) (w : X → Word Lying) → ((x : X) → Keeps (w x)) → Keeps (reading g w)
+  go_reading g w h = walks_reading H log g w h
+
+  pub go_if : (b : Bool) (v w : Word Lying) → Keeps v → Keeps w → Keeps (cond b v w)
+  go_if b v w h k = walks_if H log b v w h k
+
+  pub go_when : (b : Bool) (w : Word Lying) → Keeps w → Keeps (when b w)
+  go_when b w h = walks_when H log steady b w h
+
+  pub go_each : {X : Type 0} (w : X → Word Lying) (xs : List X) → ((x : X) → Keeps (w x)) → Keeps (each w xs)
+  go_each w xs h = walks_each H log steady w xs h
+
+  pub go_save : Keeps save
+  go_save = walks_save H log steady
+
+  -- ---- a checkpoint
+
+  checkpoint_stands : (r : Replica) → r.missing ≡ [] → Stands H log (core r) → Begun H (checkpoints r) → Stands H log (core (with_checkpoint (lying.save_state r.cluster (texts_of r.state) r.applied r.table) r))
+  unfolding with_checkpoint
+  checkpoint_stands r none h begun =
+      let same : r.state ≡ state_at log r.applied = h.state none in
+      let written : IsWrittenOut H r.cluster (texts_of r.state) r.applied r.table =
+      λ c i. record { payload = begun c.payload (safe.IsWritten.payload r.cluster (texts_of r.state) r.applied r.table c i); header = begun _ (safe.IsWritten.block r.cluster (texts_of r.state) r.applied r.table c i) } in
+      let fits : FitsPayloads (texts_of r.state) = subst (λ s. FitsPayloads (texts_of s)) (sym same) (texts_fit log r.applied h.rests.settled) in
+      record {
+        rests = record {
+          settled = h.rests.settled;
+          root = λ above. record {
+            settled = h.rests.settled;
+            cluster = r.cluster;
+            old = r.table;
+            kept = h.rests.table;
+            written = subst (λ s. IsWrittenOut H r.cluster (texts_of s) r.applied r.table) same written;
+            is = ap (λ s. block_name (root_of r.cluster (texts_of s) r.applied (table_of r.cluster (texts_of s) r.applied r.table))) same;
+          };
+          table = table_kept H r.cluster (texts_of r.state) r.applied r.table fits h.rests.table written;
+          waits = λ some. absurd (some none);
+        };
+        state = h.state;
+      }
+
+  -- nothing is said or done
+  still : (Q : Core → Lying → Type 0) (r q : Replica) (d : Lying) → q.index ≡ r.index → q.applied ≡ r.applied → Q (core q) d → Well H log Q r d (record { replica = q; script = [] })
+  unfolding Bears outputs lines after_all
+  still Q r q d i a h = record { bears = tt; left = λ all. record { index = i; applied = a ∙ (let z : r.applied ≡ r.applied + 0 = omega arith in z); holds = h } }
+
+  -- an effect that says nothing
+  effect_at : (Q : Core → Lying → Type 0) (e : Replica → Effect) (r : Replica) (d : Lying) → outputs (e r ∷ []) ≡ [] → IsBorne H log (e r) → (May H log r.applied d (e r) → Q (core r) (lying.after d (e r))) → WellAt H log Q (does e) r d
+  unfolding does Bears AllMay lines after_all
+  effect_at Q e r d none borne k = record {
+    bears = λ may. (borne, tt);
+    left = λ all. record { index = refl; applied = rw none (let z : r.applied ≡ r.applied + 0 = omega arith in z); holds = k all.0 };
+  }
+
+  changed_at : (Q : Core → Lying → Type 0) (g : Replica → Replica) (r : Replica) (d : Lying) → (g r).index ≡ r.index → (g r).applied ≡ r.applied → Q (core (g r)) d → WellAt H log Q (change g) r d
+  unfolding change
+  changed_at Q g r d i a p = still Q r (g r) d i a p
+
+  checkpoint_place : (c : checkpoint.SavedCheckpoint) (r : Replica) → ((with_checkpoint c r).index ≡ r.index) × ((with_checkpoint c r).applied ≡ r.applied)
+  unfolding with_checkpoint
+  checkpoint_place c r = (refl, refl)
+
+  checkpoint_at_well : (r : Replica) (d : Lying) → r.missing ≡ [] → Stands H log (core r) → WellAt H log S make_checkpoint r d
+  unfolding make_checkpoint by reading outputs with_checkpoint change does after_all
+  checkpoint_at_well r d none h =
+      let c : checkpoint.SavedCheckpoint = lying.save_state r.cluster (texts_of r.state) r.applied r.table in
+      let Q : Core → Lying → Type 0 = λ k e. Begun H (checkpoints r) in
+      then_at H log Q S (does checkpoints) (change (with_checkpoint c) ⨾ save) r d (effect_at Q checkpoints r d refl tt (λ may. may)) (λ begun.
+      then_at H log S S (change (with_checkpoint c)) save r (lying.after d (checkpoints r)) (changed_at S (with_checkpoint c) r (lying.after d (checkpoints r)) (checkpoint_place c r).0 (checkpoint_place c r).1 (checkpoint_stands r none h begun)) (λ p. go_save.every (with_checkpoint c r) _ p))
+
+  -- ---- an entry is applied
+
+  next_settled : (m : ℕ) (e : Whole) → ((k : ℕ) → k < m → IsSettled log k) → slice_get log m ≡ Some e → IsWhole e → e.header.op ≡ m + 1 → (k : ℕ) → k < m + 1 → IsSettled log k
+  next_settled m e h at whole number k l =
+      elim (cases_lt k m) [
+        | inl before ↦ h k before
+        | inr last ↦ let same : m ≡ k = omega arith in subst (IsSettled log) same (record { entry = e; at = at; whole = whole; number = number })
+      ]
+
+  line_well : (e : Whole) (r : Replica) (d : Lying) (slot : ℕ) → r.missing ≡ [] → slot < 64 → lying.entry d slot ≡ Some e → Stands H log (core r) → WellAt H log S (lined_entry e) r d
+  unfolding AllMay outputs lines
+  line_well e r d slot none l reads h =
+      let m = r.applied in
+      let own : eqb r.index r.index ≡ true = eq-eqb r.index r.index refl in
+      let rest : List Effect = map Say (applied_reply e r) in
+      let more = all_lines H log r.index (m + 1) rest (said_calm H log steady (applied_reply e r) (replies_other e r)) in
+      record {
+        bears = calm_bears H log r.index m d (map Say (commit_line e r ++ applied_reply e r)) (said_borne H log steady (commit_line e r ++ applied_reply e r));
+        left = λ all.
+            let x = all.0 slot l reads in
+            let next : suc m ≡ m + 1 = omega arith in
+            record {
+              index = refl;
+              applied = rw own (omega (arith, more));
+              holds = record {
+                rests = record { settled = next_settled m e h.rests.settled x.0 x.1 x.2; root = h.rests.root; table = h.rests.table; waits = h.rests.waits };
+                state = λ z. ap (λ (s : State). (state.applied s e).state) (h.state none) ∙ (sym (state_next log m e x.0) ∙ ap (state_at log) next);
+              };
+            };
+      }
+
+  entry_well : (e : Whole) (r : Replica) (d : Lying) (slot : ℕ) → r.missing ≡ [] → slot < 64 → lying.entry d slot ≡ Some e → Stands H log (core r) → WellAt H log S (apply_entry e) r d
+  unfolding apply_entry says change ◌⨾◌ after_all by
+  entry_well e r d slot none l reads h =
+      let w : Word Lying = by (λ r. when (is_checkpoint r.applied) make_checkpoint) in
+      then_at H log S S (lined_entry e) w r d (line_well e r d slot none l reads h) (λ p.
+      let go : (b : Bool) → WellAt H log S (cond b make_checkpoint quiet) (applied e r) (after_all lying d (map Say (commit_line e r ++ applied_reply e r))) = elim [
+        | true ↦ checkpoint_at_well (applied e r) (after_all lying d (map Say (commit_line e r ++ applied_reply e r))) none p
+        | false ↦ go_quiet.every (applied e r) (after_all lying d (map Say (commit_line e r ++ applied_reply e r))) p
+      ] in
+      go (is_checkpoint (r.applied + 1)))
+
+  -- ---- stored entries
+
+  go_lost : (h : Header) → Keeps (change (lost h))
+  unfolding with_part
+  go_lost h = go_change (lost h) (λ r. refl)
+
+  go_or_lost : (h : Header) (w : Whole → Word Lying) (o : Option Whole) → ((e : Whole) → Keeps (w e)) → Keeps (or_lost h w o)
+  go_or_lost h w None k = go_lost h
+  go_or_lost h w (Some e) k = k e
+
+  go_part : (w : Whole → Word Lying) (p : Part) → ((e : Whole) → Keeps (w e)) → Keeps (with_entry w p)
+  go_part w (Here h) k = go_reading (entry_of h) (or_lost h w) (λ o. go_or_lost h w o k)
+  go_part w (Lost h) k = go_quiet
+  go_part w (Wanted h) k = go_quiet
+  go_part w Unknown k = go_quiet
+  go_part w Nothing k = go_quiet
+
+  pub go_entry : (op : ℕ) (w : Whole → Word Lying) → ((e : Whole) → Keeps (w e)) → Keeps (with_entry_at op w)
+  unfolding with_entry_at
+  go_entry op w k = go_by _ (λ r. go_part w (part_at r op) k)
+
+  applies_read : (h : Header) (o : Option Whole) (r : Replica) (d : Lying) → r.missing ≡ [] → entry_of h lying d ≡ o → Stands H log (core r) → WellAt H log S (or_lost h apply_entry o) r d
+  applies_read h None r d none is p = (go_lost h).every r d p
+  applies_read h (Some e) r d none is p = entry_well e r d (h.op % 64) none (mod_below h.op 64 (omega arith)) (read_entry h (lying.entry d (h.op % 64)) e is) p
+
+  applies_part : (x : Part) (r : Replica) (d : Lying) → r.missing ≡ [] → Stands H log (core r) → WellAt H log S (with_entry apply_entry x) r d
+  unfolding reading
+  applies_part (Here h) r d none p = applies_read h (entry_of h lying d) r d none refl p
+  applies_part (Lost h) r d none p = go_quiet.every r d p
+  applies_part (Wanted h) r d none p = go_quiet.every r d p
+  applies_part Unknown r d none p = go_quiet.every r d p
+  applies_part Nothing r d none p = go_quiet.every r d p
+
+  go_next : Keeps apply_next
+  unfolding apply_next with_entry_at by
+  go_next = record {
+    every = λ r d p.
+        let go : (b : Bool) → (is_loaded r && nat_lt r.applied r.commit) ≡ b → WellAt H log S (cond b (with_entry_at (r.applied + 1) apply_entry) quiet) r d = elim [
+          | true ↦ λ t.
+              let loaded = eqb-true (length r.missing) 0 (and_parts (is_loaded r) (nat_lt r.applied r.commit) t).0 in
+              applies_part (part_at r (r.applied + 1)) r d (nil_from_length r.missing loaded) p
+          | false ↦ λ t. go_quiet.every r d p
+        ] in
+        go (is_loaded r && nat_lt r.applied r.commit) refl;
+  }
+
+  pub go_apply : Keeps apply
+  unfolding apply
+  go_apply = go_by _ (λ r. walks_times H log steady (r.commit - r.applied) apply_next go_next)
+
+  -- ---- the other words
+
+  pub go_write : (e : Whole) → Keeps (write e)
+  unfolding write forgetting with_part
+  go_write e = go_then _ _ (go_does _ (λ r. tt) (λ r. tt)) (go_change (stored e) (λ r. refl))
+
+  pub go_accept : (e : Whole) → Keeps (accept e)
+  unfolding accept
+  go_accept e = go_by _ (λ r. go_when _ (write e) (go_write e))
+
+  pub go_enter : (v : ℕ) → Keeps (enter v)
+  unfolding enter entered
+  go_enter v = go_if _ _ _ (go_change _ (λ r. refl)) (go_then _ _ (go_change (entered v) (λ r. refl)) (go_then _ _ go_save (go_all _)))
+
+  pub go_advance : Keeps advance
+  unfolding advance advanced
+  go_advance = go_then _ _ (go_change advanced (λ r. refl)) go_apply
+
+  pub go_learn : (commit : ℕ) → Keeps (learn commit)
+  unfolding learn
+  go_learn commit = go_then _ _ (go_change _ (λ r. refl)) go_apply
+
+  pub go_take : (l : Log) → Keeps (take l)
+  unfolding take taken forgetting
+  go_take l = go_then _ _ (go_change (taken l) (λ r. refl)) go_save
+
+  pub go_again : (op : ℕ) → Keeps (prepare_again op)
+  unfolding prepare_again
+  go_again op = go_entry op _ (λ e. go_all _)
+
+  pub go_resend : (e : Whole) → Keeps (resend e)
+  unfolding resend
+  go_resend e = go_naming _ (λ hash. go_by _ (λ r. go_when _ _ (go_if _ _ _ (go_all _) (go_says _ (λ r. (tt, tt))))))
+
+  go_begin : (ss : List Statement) (l : Log) → Keeps (begin_view ss l)
+  unfolding begin_view
+  go_begin ss l = go_then _ _ (go_says _ (λ r. (tt, tt))) (go_then _ _ (go_take l) (go_then _ _ (go_all _) (go_then _ _ (go_by _ (λ r. go_each prepare_again _ go_again)) go_apply)))
+
+  go_try_log : (ss : List Statement) (l : Log) → Keeps (try_log ss l)
+  unfolding try_log
+  go_try_log ss l = go_naming _ (λ hash. go_by _ (λ r. go_if _ _ _ (go_begin ss l) (go_says _ (λ r. (tt, tt)))))
+
+  go_choice : (ss : List Statement) (x : Choice) → Keeps (obey_choice ss x)
+  go_choice ss TooFew = go_quiet
+  go_choice ss (WaitsAt op) = go_says _ (λ r. (tt, tt))
+  go_choice ss (Ends hs) = go_by _ (λ r. go_try_log ss _)
+
+  pub go_try : Keeps try
+  unfolding try
+  go_try = go_by _ (λ r. go_when _ _ (go_choice (stated r) (decided r)))
+
+  pub go_speak : Keeps speak
+  unfolding speak
+  go_speak = go_by _ (λ r. go_when _ _ (go_if _ _ _ go_try (go_says _ (λ r. (tt, tt)))))
+
+  go_peer : (message : Replica → Frame) → Keeps (ask_peer message)
+  unfolding ask_peer
+  go_peer message = go_then _ _ (go_says _ (λ r. (tt, tt))) (go_change _ (λ r. refl))
+
+  go_asks : (names : List Name) (absent : Option Header) → Keeps (ask_for names absent)
+  go_asks (name ∷ names) absent = go_peer _
+  go_asks [] (Some h) = go_naming _ (λ hash. go_peer _)
+  go_asks [] None = go_quiet
+
+  pub go_ask : Keeps ask
+  unfolding ask
+  go_ask = go_by _ (λ r. go_asks r.missing _)
+
+  -- ---- a load
+
+  -- a checkpoint is loaded, where there is one
+  pub load_at : (r : Replica) (d : Lying) → r.applied ≡ r.checkpoint → (r.checkpoint ≡ 0 → Stands H log (core r)) → Rests H log (core r) → ReadsHashed H d.face → WellAt H log S load r d
+  unfolding load by reading change quiet
+  load_at r d same first h reads =
+      elim (cases_lt 0 r.checkpoint) [
+        | inl above ↦
+            let place = loads_place r.root (lying.loaded d r.root) r in
+            let w : Well H log S r d (record { replica = loads r.root (lying.loaded d r.root) r; script = [] }) = still S r (loads r.root (lying.loaded d r.root) r) d place.0 place.1 (loads_stand H never log r d above same h reads) in
+            subst (λ b. Well H log S r d ((when b (reading (checkpoint_at r.root) (λ l. change (loads r.root l)))) lying r d)) (sym (lt-ltb 0 r.checkpoint above)) w
+        | inr none ↦
+            let w : Well H log S r d (record { replica = r; script = [] }) = still S r r d refl refl (first (omega arith)) in
+            subst (λ b. Well H log S r d ((when b (reading (checkpoint_at r.root) (λ l. change (loads r.root l)))) lying r d)) (sym (le-ltb 0 r.checkpoint none)) w
+      ]
+
+  -- a missing block is put; where none is missing then, the checkpoint is loaded
+  loads_if : (b : Bool) (r : Replica) (d : Lying) → is_loaded r ≡ b → 0 < r.checkpoint → r.applied ≡ r.checkpoint → Rests H log (core r) → ReadsHashed H d.face → WellAt H log S (when b load) r d
+  unfolding quiet
+  loads_if true r d is above same h reads = load_at r d same (λ z. absurd (omega (arith, z, above))) h reads
+  loads_if false r d is above same h reads = still S r r d refl refl (record { rests = h; state = λ none. absurd (true≢false (sym (loaded_of r none) ∙ is)) })
+
+  pub put_at : (name : Name) (block : List ℕ) (r : Replica) (d : Lying) → is_some (named name block) ≡ true → r.missing ≢ [] → r.applied ≡ r.checkpoint → ReadsHashed H d.face → Stands H log (core r) → WellAt H log S (put_block name block) r d
+  unfolding put_block by outputs does change after_all
+  put_at name block r d whole some same reads h =
+      let above = h.rests.waits some in
+      let Q : Core → Lying → Type 0 = λ k e. ReadsHashed H e.face in
+      let q : Replica = without name r in
+      let rests : Rests H log (core q) = record { settled = h.rests.settled; root = h.rests.root; table = h.rests.table; waits = λ n. above } in
+      let d' : Lying = lying.after d (PutBlock name block) in
+      then_at H log Q S (does (λ r. PutBlock name block)) (change (without name) ⨾ by (λ r. when (is_loaded r) load)) r d (effect_at Q (λ r. PutBlock name block) r d refl tt (λ begun. put_hashed H d name block whole begun reads)) (λ later.
+      let R : Core → Lying → Type 0 = λ k e. ReadsHashed H e.face in
+      then_at H log R S (change (without name)) (by (λ r. when (is_loaded r) load)) r d' (changed_at R (without name) r d' refl refl later) (λ again. loads_if (is_loaded q) q d' refl above same rests again))

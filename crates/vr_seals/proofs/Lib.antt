@@ -1,0 +1,7 @@
+pub mod Contents
+pub mod Turning
+pub mod Sectors
+pub mod Laws
+pub mod Marks
+pub mod Keys
+pub mod Blocks

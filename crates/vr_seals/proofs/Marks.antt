@@ -1,0 +1,93 @@
+-- What stands at some places of a sector that begins with the header of an entry, and of one that does so with its bits turned.
+use Rattle.std.proofs.Common.{ℕ, zero, suc, ◌+◌, ◌-◌, ◌*◌, ◌^◌, ◌<◌, ◌≤◌, ◌≡◌, arith, refl, sym, ap, ◌∙◌, subst, true, List, [], ◌∷◌, ◌++◌, length, take, get_or, Ok}
+use Rattle.std.specs.Prelude.{IfOk, replicate}
+use Rattle.std.proofs.lemmas.List.{get_or-replicate}
+use Rattle.vr_base.specs.Bytes.{IsBytes, bytes64, joined, name_of, piece}
+use Rattle.vr_base.proofs.FieldLaws.{byte_of, get_or-piece, length-bytes32, length-bytes64, length-name_of}
+use Rattle.vr_base.proofs.Places.{BeginsWith, length-joined, piece_there, place, total, widths}
+use Rattle.vr_disk.specs.DiskState.{IsContent, damaged}
+use Rattle.vr_disk.proofs.Faces.{damaged_content}
+use Rattle.vr_header.specs.declared.command.Command.TheVariants.{Entry}
+use Rattle.vr_header.specs.declared.header.Header.{Header}
+use Rattle.vr_header.specs.Spelling.{Spells, code_of, decoded, field_bytes, header_bytes, named_bytes}
+use Rattle.vr_header.proofs.EntryLaws.{entry_header_of}
+use Rattle.vr_header.proofs.HeaderLaws.{decoded_found}
+use Rattle.vr_seals.specs.Seals.{Fronts}
+use Rattle.vr_seals.proofs.Turning.{turned_at}
+
+-- ---- the places of a header's fields
+
+abbrev layout : List ℕ
+layout = 16 ∷ 16 ∷ 16 ∷ 16 ∷ 8 ∷ 8 ∷ 4 ∷ 4 ∷ 8 ∷ 8 ∷ 4 ∷ 1 ∷ 1 ∷ 1 ∷ 1 ∷ 8 ∷ 8 ∷ []
+
+abbrev pieces : Header → List (List ℕ)
+pieces h = name_of (named_bytes h) ∷ field_bytes h
+
+pub record HasNames (h : Header) : Type 0 where
+  pub body : length h.body.0 ≡ 16
+  pub parent : length h.parent.0 ≡ 16
+  pub request_name : length h.request_name.0 ≡ 16
+
+widths-pieces : (h : Header) → HasNames h → widths (pieces h) ≡ layout
+widths-pieces h f =
+    rw (length-name_of, f.body, f.parent, f.request_name, length-bytes64, length-bytes64, length-bytes32, length-bytes32, length-bytes64, length-bytes64, length-bytes32, length-bytes64) refl
+
+header_bytes-joined : (h : Header) → header_bytes h ≡ joined (pieces h)
+unfolding header_bytes named_bytes
+header_bytes-joined h = refl
+
+pub header_long : (h : Header) → HasNames h → length (header_bytes h) ≡ 128
+header_long h f = ap length (header_bytes-joined h) ∙ (length-joined (pieces h) ∙ ap total (widths-pieces h f))
+
+begins : (h : Header) (b : List ℕ) → HasNames h → Spells h b → BeginsWith layout (pieces h) b
+begins h b f s = record { widths = widths-pieces h f; front = s ∙ header_bytes-joined h }
+
+zeros64 : (b : List ℕ) (k n : ℕ) → piece k 8 b ≡ bytes64 n → n ≡ 0 → (i : ℕ) → i < 8 → get_or b (k + i) 0 ≡ 0
+unfolding bytes64
+zeros64 b k n e z i l =
+    let all : piece k 8 b ≡ replicate 8 0 = e ∙ ap bytes64 z in
+    sym (get_or-piece k 8 i b l) ∙ (ap (λ x. get_or x i 0) all ∙ get_or-replicate {A = ℕ} 8 i 0 0 l)
+
+-- what stands where, each byte as f leaves it
+pub record Marked (f : ℕ → ℕ) (b : List ℕ) : Type 0 where
+  pub command : get_or b 108 0 ≡ f 3
+  pub version : get_or b 110 0 ≡ f 1
+  pub kind : get_or b 111 0 ≡ f 0
+  pub commit : (i : ℕ) → i < 8 → get_or b (96 + i) 0 ≡ f 0
+  pub aux : (i : ℕ) → i < 8 → get_or b (112 + i) 0 ≡ f 0
+
+-- the command of any header that is spelled there
+pub command_at : (h : Header) (b : List ℕ) → HasNames h → Spells h b → get_or b 108 0 ≡ code_of h.command
+command_at h b f s = byte_of 108 (code_of h.command) b (piece_there layout (pieces h) b (begins h b f s) 11 (omega arith))
+
+spelled_marks : (h : Header) (b : List ℕ) → HasNames h → Spells h b → h.command ≡ Entry → h.commit ≡ 0 → h.kind ≡ 0 → h.aux ≡ 0 → Marked (λ x. x) b
+spelled_marks h b f s entry commit kind aux =
+    let at : (i : ℕ) → i < 17 → piece (place layout i) (get_or layout i 0) b ≡ get_or (pieces h) i [] = λ i l. piece_there layout (pieces h) b (begins h b f s) i l in
+    record {
+      command = command_at h b f s ∙ ap code_of entry;
+      version = byte_of 110 1 b (at 13 (omega arith));
+      kind = byte_of 111 h.kind b (at 14 (omega arith)) ∙ kind;
+      commit = zeros64 b 96 h.commit (at 9 (omega arith)) commit;
+      aux = zeros64 b 112 h.aux (at 15 (omega arith)) aux;
+    }
+
+pub front_marks : (b : List ℕ) (h : Header) → IsBytes b → Fronts b h → Marked (λ x. x) b
+front_marks b h are f =
+    let all = decoded_found b are in
+    let s = rw f.reads at all in
+    let is = entry_header_of h f.entry in
+    spelled_marks h b (record { body = s.1.body; parent = s.1.parent; request_name = s.1.request_name }) s.0 is.command is.commit is.kind is.aux
+
+turned_mark : (b : List ℕ) (i x : ℕ) → IsContent b → i < 512 → get_or (damaged b) i 0 ≡ x → get_or b i 0 ≡ 255 - x
+turned_mark b i x c l e = let t = turned_at b i c l in let small = c.each i in omega (arith, t, e, small)
+
+pub turned_marks : (b : List ℕ) (h : Header) → IsContent b → Fronts (damaged b) h → Marked (λ x. 255 - x) b
+turned_marks b h c f =
+    let m = front_marks (damaged b) h (damaged_content b c).each f in
+    record {
+      command = turned_mark b 108 3 c (omega arith) m.command;
+      version = turned_mark b 110 1 c (omega arith) m.version;
+      kind = turned_mark b 111 0 c (omega arith) m.kind;
+      commit = λ i l. turned_mark b (96 + i) 0 c (omega (arith, l)) (m.commit i l);
+      aux = λ i l. turned_mark b (112 + i) 0 c (omega (arith, l)) (m.aux i l);
+    }

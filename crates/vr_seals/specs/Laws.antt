@@ -1,0 +1,41 @@
+-- What keeps sectors sealed.
+use Rattle.std.specs.Prelude.{ℕ, ◌≡◌, List, length}
+use Rattle.std.specs.List.{AllByRecursion}
+use Rattle.vr_base.specs.Bytes.{IsBytes}
+use Rattle.vr_disk.specs.DiskState.{Call, Face, IsContent, after_all, cut}
+use Rattle.vr_header.specs.declared.header.Header.{Header}
+use Rattle.vr_header.specs.Made.{Whole}
+use Rattle.vr_lie.specs.declared.fault.Fault.{Fault}
+use Rattle.vr_lie.specs.Faults.{IsFault, faulted}
+use Rattle.vr_protocol.specs.Basics.{In}
+use Rattle.vr_super.specs.Copies.{IsGood, SuperValue, copy_bytes}
+use Rattle.vr_super.specs.Calls.{write_calls}
+use Rattle.vr_rings.specs.Calls.{again_calls, header_calls, new_calls}
+use Rattle.vr_rings.specs.Slots.{IsWhole, prepare_bytes, sector_of}
+use Rattle.vr_seals.specs.Seals.{HasSectors, IsSealed, Puts}
+
+-- what holds of the bytes of each sector, and of such bytes with each bit turned, lasts: after calls that write such bytes, in each
+-- cut of them, and after a fault
+pub record Lasts (P : List ℕ → Type 0) (f : Face) : Type 0 where
+  pub done : (cs : List Call) → AllByRecursion (Puts P) cs → HasSectors P (after_all f cs)
+  pub stopped : (cs : List Call) (j code : ℕ) → AllByRecursion (Puts P) cs → HasSectors P (cut j code f cs)
+  pub lied : (x : Fault) → IsFault x → HasSectors P (faulted f x)
+
+-- what is sealed lasts
+abbrev pub SealsLast : Type 0
+SealsLast = (made : List Header) (f : Face) → HasSectors (IsSealed made) f → Lasts (IsSealed made) f
+
+-- an entry that was made is written in sealed sectors
+pub record IsSealedSlot (made : List Header) (e : Whole) : Type 0 where
+  pub new : AllByRecursion (Puts (IsSealed made)) (new_calls e)
+  pub again : AllByRecursion (Puts (IsSealed made)) (again_calls e)
+  pub header : AllByRecursion (Puts (IsSealed made)) (header_calls e.header)
+
+abbrev pub SlotsAreSealed : Type 0
+SlotsAreSealed = (made : List Header) (e : Whole) → IsWhole e → IsContent (sector_of e.header) → IsBytes (prepare_bytes e) → length (prepare_bytes e) ≡ 2048 → In e.header made → IsSealedSlot made e
+
+-- and a value that names what was made, over another one
+abbrev pub ValuesAreSealed : Type 0
+ValuesAreSealed =
+    (made : List Header) (old new : SuperValue) (f : Face) → IsGood old → IsGood new → IsBytes (copy_bytes old) → IsBytes (copy_bytes new) → AllByRecursion (λ h. In h made) old.headers
+    → AllByRecursion (λ h. In h made) new.headers → AllByRecursion (Puts (IsSealed made)) (write_calls old new f)

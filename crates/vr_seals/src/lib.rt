@@ -1,0 +1,20 @@
+//! Sectors that begin with the header of an entry only where that entry was made, and what keeps them so. Each function is a law: its
+//! contract is the statement, and it does nothing.
+#![tactic(auto)]
+
+ghost use Rattle.vr_seals.specs.Laws.{SealsLast, SlotsAreSealed, ValuesAreSealed};
+
+/// Where all sectors of a disk are sealed, they are so after calls that write sealed sectors, in each cut of them, and after a fault.
+pub fn seals_last()
+    ensures { SealsLast }
+{}
+
+/// An entry that was made is written in sealed sectors.
+pub fn slots_are_sealed()
+    ensures { SlotsAreSealed }
+{}
+
+/// So is a value of the superblock that names what was made.
+pub fn values_are_sealed()
+    ensures { ValuesAreSealed }
+{}

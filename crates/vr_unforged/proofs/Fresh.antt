@@ -1,0 +1,104 @@
+-- A group that begins: on its disks nothing reads as the header of an entry.
+use Rattle.std.proofs.Common.{ℕ, zero, suc, ◌+◌, ◌≤◌, ◌<◌, ◌≡◌, arith, refl, sym, ap, ◌∙◌, subst, true, false, List, [], ◌∷◌, ◌++◌, length, map, get_or, Option, Some, None}
+use Rattle.std.specs.Prelude.{All, replicate, slice_get}
+use Rattle.std.specs.List.{AllByRecursion, range_with_len}
+use Rattle.std.proofs.lemmas.List.{get_or-replicate, length-replicate}
+use Rattle.std.proofs.lemmas.List.FromFn.{get_or-map-range_with_len, length-map-range_with_len}
+use Rattle.std.proofs.lemmas.Option.{slice_get_within, slice_get-get_or}
+use Rattle.vr_disk.specs.DiskState.{Write, Sync, IsContent}
+use Rattle.vr_disk.specs.Regions.{header_place}
+use Rattle.vr_header.specs.declared.header.Header.{Header}
+use Rattle.vr_header.specs.Made.{is_entry_header}
+use Rattle.vr_super.specs.Copies.{copy_bytes}
+use Rattle.vr_super.specs.Calls.{save_from}
+use Rattle.vr_rings.specs.Slots.{sector_of}
+use Rattle.vr_rules.specs.Opening.{first_value}
+use Rattle.vr_rules.specs.Lying.{Lying, format_calls, hazards, reserved_header, reserved_headers, zero_cell, zero_face, zero_prepares, zero_sector}
+use Rattle.vr_rules.specs.World as world
+use Rattle.vr_rules.specs.World.{World, happen}
+use Rattle.vr_rules.specs.Group.{fresh_group}
+use Rattle.vr_rules.specs.GroupFit.{IsFitGroup}
+use Rattle.vr_rules.proofs.FitFresh.{fresh_fits}
+use Rattle.vr_rules.proofs.FitGroups.{fresh_group_fits}
+use Rattle.vr_protocol.specs.Basics.{In}
+use Rattle.vr_worlds.proofs.Calls.{copy_are, reserved_is, sector_content, zero_content}
+use Rattle.vr_worlds.proofs.Fresh.{fresh_beside, group_stocked, none_made, some_world}
+use Rattle.vr_seals.specs.Seals.{HasCell, HasSectors, IsSealed, Puts}
+use Rattle.vr_seals.proofs.Contents.{has_after_all}
+use Rattle.vr_seals.proofs.Sectors.{header_sealed, saves_sealed, seals_append}
+use Rattle.vr_seals.proofs.Turning.{plain_sealed}
+use Rattle.vr_unforged.specs.Schedules.{IsSealedWorld}
+use Rattle.vr_unforged.specs.Laws.{SchedulesAreRuns, WorldsBeginUnforged}
+use Rattle.vr_unforged.proofs.Runs.{happenings_are_runs}
+use Rattle.vr_unforged.proofs.Scripts.{AreSealed}
+use Rattle.vr_unforged.proofs.Values.{bridged_fresh}
+
+zero_there : get_or zero_sector 110 0 ≡ 0
+zero_there = refl
+
+zero_sealed : IsSealed [] zero_sector
+zero_sealed = plain_sealed [] zero_sector zero_content (λ e. (let bad : 0 ≡ 1 = sym zero_there ∙ e in cc)) (λ e. (let bad : 0 ≡ 254 = sym zero_there ∙ e in cc))
+
+zero_some : (b : List ℕ) → Some zero_sector ≡ Some b → IsSealed [] b
+zero_some b e = let same : zero_sector ≡ b = cc in subst (IsSealed []) same zero_sealed
+
+zero_cell_sealed : HasCell (IsSealed []) zero_cell
+zero_cell_sealed = record { truth = zero_sealed; reads = zero_some; before = zero_sealed }
+
+zero_face_sealed : HasSectors (IsSealed []) zero_face
+zero_face_sealed = record {
+  count = length-replicate 1424 zero_cell;
+  cells = λ k d l. let n = length-replicate 1424 zero_cell in subst (HasCell (IsSealed [])) (sym (get_or-replicate 1424 k zero_cell d (omega (arith, n, l)))) zero_cell_sealed;
+  waiting = λ k d l. absurd (omega arith);
+}
+
+-- ---- formatting
+
+zeros_sealed : (n i : ℕ) → i + n ≤ 1424 → AreSealed [] (map (λ k. Write k zero_sector) (range_with_len i n))
+zeros_sealed zero i l = tt
+zeros_sealed (suc n) i l = ((omega (arith, l), zero_sealed), zeros_sealed n (i + 1) (omega (arith, l)))
+
+reserved_none : (slot : ℕ) → is_entry_header (reserved_header 0 slot) ≡ true → In (reserved_header 0 slot) []
+reserved_none slot e = let bad : false ≡ true = e in absurd cc
+
+reserved_sealed : (n i : ℕ) → i + n ≤ 64 → AreSealed [] (map (λ slot. Write (header_place slot) (sector_of (reserved_header 0 slot))) (range_with_len i n))
+reserved_sealed zero i l = tt
+reserved_sealed (suc n) i l =
+    let is = reserved_is i (omega (arith, l)) in
+    ((omega (arith, l), header_sealed [] (reserved_header 0 i) is (sector_content (reserved_header 0 i) is) (λ e _. reserved_none i e)), reserved_sealed n (i + 1) (omega (arith, l)))
+
+format_sealed : (n i : ℕ) → 2 ≤ n → n ≤ 6 → i < n → AreSealed [] (format_calls 0 n i)
+unfolding format_calls
+format_sealed n i a b l =
+    let v = first_value 0 n i in
+    let good = (fresh_fits 0 n i (omega arith) a b l).value in
+    seals_append [] zero_prepares (reserved_headers 0 ++ Sync ∷ save_from 0 4 (copy_bytes v)) (zeros_sealed 256 144 (omega arith))
+    (seals_append [] (reserved_headers 0) (Sync ∷ save_from 0 4 (copy_bytes v)) (reserved_sealed 64 0 (omega arith)) (tt, saves_sealed [] v good (copy_are v good) tt 4 0 (omega arith)))
+
+-- ---- the world
+
+fresh_sealed : (n : ℕ) → 2 ≤ n → n ≤ 6 → IsSealedWorld (world.fresh_world hazards n) []
+unfolding world.fresh_world
+fresh_sealed n a b = record {
+  disks = λ i m e.
+      let f : ℕ → world.Host Lying = world.fresh_host hazards n in
+      let size = length-map-range_with_len f 0 n in
+      let within = slice_get_within (map f (range_with_len 0 n)) i m e in
+      let l : i < n = omega (arith, size, within) in
+      let is : m ≡ f i = some_world m (f i) (sym e ∙ (slice_get-get_or (map f (range_with_len 0 n)) i m within ∙ ap Some (get_or-map-range_with_len f 0 n i i m l (omega arith)))) in
+      subst (λ (m : world.Host Lying). HasSectors (IsSealed []) m.disk.face) (sym is) (has_after_all (IsSealed []) (format_calls 0 n i) zero_face zero_face_sealed (format_sealed n i a b l));
+  sent = λ number s e. absurd cc;
+}
+
+pub worlds_begin_unforged : WorldsBeginUnforged
+worlds_begin_unforged n a b = record {
+  beside = fresh_beside n a b;
+  fit = fresh_group_fits 0 n (omega arith) a b;
+  stock = group_stocked n;
+  bridged = bridged_fresh n a b;
+  sealed = subst (IsSealedWorld (world.fresh_world hazards n)) (sym (none_made n)) (fresh_sealed n a b);
+}
+
+pub schedules_are_runs : SchedulesAreRuns
+unfolding happen
+schedules_are_runs n xs a b may = happenings_are_runs xs (world.fresh_world hazards n) (fresh_group 0 n) (worlds_begin_unforged n a b) may

@@ -1,0 +1,33 @@
+-- What a run of the group has of the machine: each entry that was made there was begun to be written.
+use Rattle.std.specs.Prelude.{ℕ, ◌+◌, ◌*◌, ◌<◌, ◌≡◌, List}
+use Rattle.std.specs.List.{AllByRecursion}
+use Rattle.vr_header.specs.declared.header.Header.{Header}
+use Rattle.vr_base.specs.Bytes.{IsBytes, piece}
+use Rattle.vr_super.specs.Copies.{SuperValue}
+use Rattle.vr_seals.specs.Seals.{IsSealed}
+use Rattle.vr_rules.specs.Lying.{lying}
+use Rattle.vr_rules.specs.Group as group
+use Rattle.vr_protocol.specs.Basics.{In}
+use Rattle.vr_protocol.specs.Group.{Group, Made}
+use Rattle.vr_safe.specs.Chains.{Setup}
+use Rattle.vr_safe.specs.Tables.{Fits}
+use Rattle.vr_run.specs.Bridge.{Bridges}
+
+-- the machine's group stands for it, and made nothing else
+pub record IsBridged (g : group.Group) : Type 0 where
+  pub setup : Setup
+  pub fits : Fits setup
+  pub hash_is : setup.hash ≡ lying.hash
+  pub cluster_is : setup.cluster ≡ 0
+  pub machine : Group Header
+  pub bridges : Bridges setup g machine
+  pub made : (x : Made Header) → In x machine.made → In x.entry g.made
+
+-- each header that a value names is one of these
+abbrev pub AreNamed : List Header → SuperValue → Type 0
+AreNamed made v = AllByRecursion (λ h. In h made) v.headers
+
+-- the eight sectors of a block are sealed
+pub record IsSealedBlock (made : List Header) (block : List ℕ) : Type 0 where
+  pub bytes : IsBytes block
+  pub sectors : (j : ℕ) → j < 8 → IsSealed made (piece (0 + 512 * j) 512 block)

@@ -1,0 +1,3 @@
+pub mod Bridged
+pub mod Schedules
+pub mod Laws

@@ -1,0 +1,49 @@
+-- What is asked of a schedule: its lines, and that names tell texts apart.
+use Rattle.std.specs.Prelude.{ℕ, ◌≡◌, ◌⊎◌, ⊤, List, [], ◌∷◌, slice_get, Some}
+use Rattle.std.specs.List.{AllByRecursion}
+use Rattle.vr_header.specs.declared.header.Header.{Header}
+use Rattle.vr_header.specs.NoCollision.{NoCollision}
+use Rattle.vr_msg.specs.declared.output.Sent.{Sent}
+use Rattle.vr_ckpt.specs.Saves.{save_calls}
+use Rattle.vr_rules.specs.Steps.{Effect, Checkpoint}
+use Rattle.vr_rules.specs.Lying.{Lying, hazards}
+use Rattle.vr_rules.specs.World.{World, Host, Happening, happens}
+use Rattle.vr_worlds.specs.Stocks.{IsGiven}
+use Rattle.vr_worlds.specs.Worlds.{IsHashedAt, IsLine, begun_in}
+use Rattle.vr_seals.specs.Seals.{HasSectors, IsSealed, PutsHeadless}
+use Rattle.vr_unforged.specs.Bridged.{IsSealedBlock}
+
+-- ---- a world none of whose sectors is forged
+
+-- of the sectors of each disk, and of each block that was sent
+pub record IsSealedWorld (w : World Lying) (made : List Header) : Type 0 where
+  pub disks : (i : ℕ) (m : Host Lying) → slice_get w.members i ≡ Some m → HasSectors (IsSealed made) m.disk.face
+  pub sent : (number : ℕ) (s : Sent) → slice_get w.sent number ≡ Some s → IsGiven (IsSealedBlock made) s.message
+
+-- ---- what is asked of a schedule
+
+-- names don't collide, of what was read, held and written in any line
+abbrev pub IsHashed : World Lying → List Happening → List ℕ → Type 0
+IsHashed w [] bytes = ⊥
+IsHashed w (x ∷ xs) bytes = IsHashedAt w x bytes ⊎ IsHashed (happens hazards w x).world xs bytes
+
+-- the sectors of a checkpoint
+abbrev pub ChecksHeadless : Effect → Type 0
+ChecksHeadless (Checkpoint cluster texts op old) = AllByRecursion PutsHeadless (save_calls cluster texts op old)
+ChecksHeadless _ = ⊤
+
+abbrev pub AreHeadless : World Lying → List Happening → Type 0
+AreHeadless w [] = ⊤
+AreHeadless w (x ∷ xs) = AllByRecursion ChecksHeadless (begun_in w x) × AreHeadless (happens hazards w x).world xs
+
+-- of one line
+pub record MayHappen (w : World Lying) (x : Happening) : Type 0 where
+  pub line : IsLine x
+  pub names : NoCollision (IsHashedAt w x)
+  pub blocks : AllByRecursion ChecksHeadless (begun_in w x)
+
+-- and of a schedule
+pub record MayAll (w : World Lying) (xs : List Happening) : Type 0 where
+  pub lines : AllByRecursion IsLine xs
+  pub names : NoCollision (IsHashed w xs)
+  pub blocks : AreHeadless w xs
