@@ -1,0 +1,4 @@
+pub mod Asking
+pub mod Run
+pub mod Stops
+pub mod Text

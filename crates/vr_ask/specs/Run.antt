@@ -1,0 +1,149 @@
+-- The run of a client over the lines of a source.
+use Rattle.std.specs.Prelude.{ℕ, ◌≡◌, ◌≤◌, ◌<◌, ◌⊎◌, ◌+◌, ⊤, List, [], ◌∷◌, length, Option, Some, None, Result, Ok, Err}
+use Rattle.vr_ask.specs.Asking.{Client, EndsWith, Faults, IsAnswered, Stand}
+use Rattle.vr_ask.specs.Text.{longest, operation_of}
+use Rattle.vr_base.specs.Causes.{Rose, one_more}
+use Rattle.vr_client.specs.declared.answer.Answer.TheVariants as answer
+use Rattle.vr_edge.specs.Datagrams.{Arrival}
+use Rattle.vr_edge.specs.declared.datagram.Datagram.{Datagram}
+use Rattle.vr_header.specs.declared.operation.Operation.{Operation}
+use Rattle.vr_header.specs.declared.operation.Operation.TheVariants.{Register}
+use Rattle.vr_msg.specs.declared.reply.Answered.{Answered}
+use Rattle.vr_reader.specs.Finding.{Breaks, FindsLine, rest}
+use Rattle.vr_reader.specs.declared.room.Lines.{Lines}
+use Rattle.vr_reader.specs.declared.next.Next.TheVariants as next
+use Rattle.vr_status.specs.declared.status.Status.{Status}
+use Rattle.vr_status.specs.declared.status.Status.TheVariants.{Done, Refused, ReadFault, LinkFault, NoMemory}
+
+-- what a source has: bytes that were read and not handed out, and what is left behind them
+pub record Reading : Type 0 where
+  pub rest : List ℕ
+  pub left : Option (List ℕ)
+
+abbrev pub reading : Lines → Option (List ℕ) → Reading
+reading lines left = record { rest = rest lines; left = left }
+
+-- a line was read
+abbrev pub ReadsLine : Reading → Reading → List ℕ → Type 0
+ReadsLine r r' line = FindsLine longest r.rest r.left r'.rest r'.left line next.Line
+
+-- a line of the source, its operation, and its outcome
+pub record Exchange : Type 0 where
+  pub line : List ℕ
+  pub operation : Operation
+  pub answered : Answered
+
+-- it was read, asked with this number, answered, and the answer was written
+pub record IsExchanged (c : Client) (number : ℕ) (r : Reading) (s : Stand) (x : Exchange) (r' : Reading) (s' : Stand) : Type 0 where
+  pub read : ReadsLine r r' x.line
+  pub meant : operation_of x.line ≡ Some x.operation
+  pub answered : IsAnswered c number x.operation s s' (answer.Outcome x.answered)
+
+-- these one after the other, with numbers from this one on
+abbrev pub AreExchanged : Client → ℕ → Reading → Stand → List Exchange → Reading → Stand → Type 0
+AreExchanged c number r s [] r' s' = (r' ≡ r) × (s' ≡ s)
+AreExchanged c number r s (x ∷ xs) r' s' =
+    (r'' : Reading) × (s'' : Stand) × IsExchanged c number r s x r'' s'' × AreExchanged c (number + 1) r'' s'' xs r' s'
+
+-- the most lines of a source
+abbrev pub limit : ℕ
+limit = 1000000
+
+-- the line with this number is none of a client's, or one too many
+abbrev pub IsNone : ℕ → Reading → Reading → Type 0
+IsNone number r r' =
+    (line : List ℕ) × (FindsLine longest r.rest r.left r'.rest r'.left line next.TooLong
+    ⊎ (ReadsLine r r' line × ((operation_of line ≡ None) ⊎ (limit < number))))
+
+-- how it ends at the line with this number, which it doesn't ask; before and now count the failed reads
+abbrev pub StopsAt : ℕ → Reading → Reading → Status → Type 0
+StopsAt number r r' Done = FindsLine longest r.rest r.left r'.rest r'.left [] next.End
+StopsAt number r r' (Refused k) = (k ≡ number) × IsNone number r r'
+StopsAt number r r' ReadFault = Breaks r.rest r.left r'.rest r'.left
+StopsAt number r r' NoMemory = Breaks r.rest r.left r'.rest r'.left ⊎ ((line : List ℕ) × ReadsLine r r' line)
+StopsAt number r r' _ = ⊥
+
+-- how it ends while it asks the line with this number
+pub record EndsAt (c : Client) (number : ℕ) (r : Reading) (s : Stand) (r' : Reading) (s' : Stand) (before now : Faults) (status : Status) : Type 0 where
+  pub line : List ℕ
+  pub operation : Operation
+  pub read : ReadsLine r r' line
+  pub meant : operation_of line ≡ Some operation
+  pub ends : EndsWith c number operation s s' before now status
+
+-- the lines of a source, to an end
+pub record EndsLines (c : Client) (r : Reading) (s : Stand) (r' : Reading) (s' : Stand) (before now : Faults) (status : Status) : Type 0 where
+  pub exchanges : List Exchange
+  pub few : length exchanges ≤ limit
+  pub reads : Reading
+  pub stands : Stand
+  pub done : AreExchanged c 1 r s exchanges reads stands
+  pub ends : ((s' ≡ stands) × StopsAt (length exchanges + 1) reads r' status) ⊎ EndsAt c (length exchanges + 1) reads stands r' s' before now status
+
+-- it registers, and then asks the lines of its source
+abbrev pub EndsRun : Client → Reading → Stand → Reading → Stand → Faults → Faults → Status → Type 0
+EndsRun c r s r' s' before now status =
+    ((r' ≡ r) × EndsWith c 0 Register s s' before now status)
+    ⊎ ((a : Answered) × (s'' : Stand) × IsAnswered c 0 Register s s'' (answer.Outcome a) × EndsLines c r s'' r' s' before now status)
+
+-- what is outside of a client: what link, sink and source tell
+pub record Outside : Type 0 where
+  pub sent : Option (List (Option Datagram))
+  pub got : Option (List Arrival)
+  pub taken : Option (List ℕ)
+  pub left : Option (List ℕ)
+
+abbrev pub outside : Option (List (Option Datagram)) → Option (List Arrival) → Option (List ℕ) → Option (List ℕ) → Outside
+outside sent got taken left = record { sent = sent; got = got; taken = taken; left = left }
+
+abbrev pub standing : ℕ → Outside → Stand
+standing port o = record { port = port; sent = o.sent; got = o.got; taken = o.taken }
+
+abbrev pub reading_of : List ℕ → Outside → Reading
+reading_of rest o = record { rest = rest; left = o.left }
+
+-- Nothing was asked: the link couldn't be attached, or memory was short for the client itself.
+abbrev pub EndsUnasked : Outside → Outside → Faults → Faults → Status → Type 0
+EndsUnasked o o' before now LinkFault = (o' ≡ o) × Rose before.link now.link
+EndsUnasked o o' before now NoMemory = o' ≡ o
+EndsUnasked o o' before now _ = ⊥
+
+-- its run, from its first ask at port 0, with nothing read
+pub record Ran (c : Client) (o o' : Outside) (before now : Faults) (status : Status) : Type 0 where
+  pub rest : List ℕ
+  pub port : ℕ
+  pub ends : EndsRun c (reading_of [] o) (standing 0 o) (reading_of rest o') (standing port o') before now status
+
+-- how a client ends
+abbrev pub ClientEnds : Client → Outside → Outside → Faults → Faults → Status → Type 0
+ClientEnds c o o' before now status = EndsUnasked o o' before now status ⊎ Ran c o o' before now status
+
+abbrev pub client_with : ℕ → ℕ → ℕ → ℕ → Client
+client_with cluster id n turns = record { cluster = cluster; id = id; n = n; turns = turns }
+
+-- the count of the source's faults at the end: each read that failed is told, and no other answer leaves one
+abbrev pub count_after : Status → ℕ → ℕ
+count_after ReadFault count = one_more count
+count_after _ count = count
+
+-- what a read line that isn't asked makes of the run
+abbrev pub Judges : ℕ → List ℕ → Result Operation Status → Type 0
+Judges number line (Ok operation) = (operation_of line ≡ Some operation) × (number ≤ limit)
+Judges number line (Err (Refused k)) = (k ≡ number) × ((operation_of line ≡ None) ⊎ (limit < number))
+Judges number line (Err NoMemory) = ⊤
+Judges number line (Err _) = ⊥
+
+-- the line with this number was read, or the run ends there
+abbrev pub Hears : ℕ → Reading → Reading → Result Operation Status → Type 0
+Hears number r r' (Ok operation) = ((line : List ℕ) × ReadsLine r r' line × (operation_of line ≡ Some operation)) × (number ≤ limit)
+Hears number r r' (Err status) = StopsAt number r r' status
+
+-- the count of the source's faults after a line
+abbrev pub CountsLine : {T : Type 0} → ℕ → ℕ → Result T Status → Type 0
+CountsLine before now (Ok x) = now ≡ before
+CountsLine before now (Err status) = now ≡ count_after status before
+
+-- the line with this number was read, asked and answered, or the run ends there
+abbrev pub Takes : Client → ℕ → Reading → Stand → Reading → Stand → Faults → Faults → Result (Unit {0}) Status → Type 0
+Takes c number r s r' s' before now (Ok x) = ((x : Exchange) × IsExchanged c number r s x r' s') × (number ≤ limit)
+Takes c number r s r' s' before now (Err status) = ((s' ≡ s) × StopsAt number r r' status) ⊎ EndsAt c number r s r' s' before now status

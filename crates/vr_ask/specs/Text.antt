@@ -1,0 +1,32 @@
+-- What a client reads and writes.
+use Rattle.std.specs.Prelude.{ℕ, List, ◌++◌, if◌then◌else◌, Option, Some, None, option_and_then, codes}
+use Rattle.vr_client.specs.declared.answer.Answer.{Answer}
+use Rattle.vr_client.specs.declared.answer.Answer.TheVariants.{Outcome, Old, Gap, Evicted}
+use Rattle.vr_header.specs.declared.operation.Operation.{Operation}
+use Rattle.vr_header.specs.Made.{is_register}
+use Rattle.vr_sched.specs.Grammar.{operation_words}
+use Rattle.vr_sched.specs.Text.{outcome_text}
+use Rattle.vr_sched.specs.Words.{words_of}
+
+-- the most bytes of a line: `put KEY VALUE` with 64 and 1,024 bytes
+abbrev pub longest : ℕ
+longest = 1093
+
+-- a client registers by itself
+abbrev pub unless_register : Operation → Option Operation
+unless_register operation = if is_register operation then None else Some operation
+
+-- the operation of a line: `put KEY VALUE`, `get KEY` or `del KEY`
+unfoldable pub operation_of : List ℕ → Option Operation
+operation_of line = option_and_then unless_register (operation_words (words_of line))
+
+-- an answer, without the end of its line
+abbrev pub answer_words : Answer → List ℕ
+answer_words (Outcome a) = outcome_text a.outcome
+answer_words Old = codes "old"
+answer_words Gap = codes "gap"
+answer_words Evicted = codes "evicted"
+
+-- the line of an answer
+unfoldable pub answer_text : Answer → List ℕ
+answer_text answer = answer_words answer ++ codes "\n"

@@ -1,0 +1,86 @@
+//! One ask, whose answer is written.
+ghost use Rattle.std.specs.Prelude.{◌≡◌, ◌≤◌, ◌<◌, ◌+◌, ◌^◌, ◌↔◌};
+ghost use Rattle.vr_ask.specs.Asking.{Exchanges, KeepsSession, PutsAnswer, WritesAnswer, client_of, faults, stand, status_of};
+ghost use Rattle.vr_header.specs.declared.operation.Operation.TheVariants.{Register};
+
+use crate::text::answer_text;
+use std::alloc::Global;
+use vr_client::{Answer, AskFault, ClientCore};
+use vr_edge::{Link, Sink, write_whole};
+use vr_header::Operation;
+use vr_status::Status;
+
+/// The status of an ask without an answer.
+fn status_of(fault: AskFault) -> Status
+    ensures { result ≡ status_of fault }
+{
+    match fault {
+        AskFault::NoAnswer => Status::NoAnswer,
+        AskFault::Link => Status::LinkFault,
+        AskFault::NoMemory => Status::NoMemory,
+    }
+}
+
+/// Writes the line of an answer.
+#[tactic(auto, using(crate::proofs::Answers::front_none))]
+fn write_answer<K: Sink>(alloc: Global, sink: &mut K, answer: &Answer) -> Result<(), Status>
+    ensures written { WritesAnswer answer.now (K.taken sink.old) (K.taken sink.new) (K.faults sink.old) (K.faults sink.new) result }
+    ensures later { K.faults sink.old ≤ K.faults sink.new }
+{
+    let Ok(text) = answer_text(alloc, answer) else {
+        return Err(Status::NoMemory);
+    };
+    match write_whole(sink, text.as_slice()) {
+        Ok(()) => Ok(()),
+        Err(_) => Err(Status::WriteFault),
+    }
+}
+
+/// After these the group knows the session no more.
+fn keep_session(answer: &Answer) -> Result<(), Status>
+    ensures { KeepsSession answer.now result }
+{
+    match answer {
+        Answer::Outcome(_) => Ok(()),
+        _ => Err(Status::SessionLost),
+    }
+}
+
+/// Writes an answer; an `Err` is how the client ends.
+#[tactic(auto, using(crate::proofs::Answers::put_kept, crate::proofs::Answers::put_unwritten))]
+fn put_answer<K: Sink>(alloc: Global, sink: &mut K, answer: &Answer) -> Result<(), Status>
+    ensures put { PutsAnswer answer.now (K.taken sink.old) (K.taken sink.new) (K.faults sink.old) (K.faults sink.new) result }
+    ensures later { K.faults sink.old ≤ K.faults sink.new }
+{
+    match write_answer(alloc, sink, answer) {
+        Ok(()) => keep_session(answer),
+        Err(status) => Err(status),
+    }
+}
+
+/// Asks, and writes the answer; an `Err` is how the client ends.
+#[tactic(auto, using(crate::proofs::Answers::exchanged, crate::proofs::Answers::unanswered))]
+pub fn exchange<K: Sink, L: Link>(
+    alloc: Global,
+    core: &mut ClientCore,
+    link: &mut L,
+    sink: &mut K,
+    operation: &Operation,
+    turns: u64,
+) -> Result<(), Status>
+    requires number { core.old.number < 2 ^ 32 }
+    requires first { (operation.now ≡ Register) ↔ (core.old.number ≡ 0) }
+    ensures exchanged { Exchanges (client_of core.old turns) core.old.number operation.now
+        (stand core.old (L.sent link.old) (L.received link.old) (K.taken sink.old))
+        (stand core.new (L.sent link.new) (L.received link.new) (K.taken sink.new))
+        (faults (L.faults link.old) (K.faults sink.old)) (faults (L.faults link.new) (K.faults sink.new)) result }
+    ensures number { core.new.number ≡ core.old.number + 1 }
+    ensures client { client_of core.new turns ≡ client_of core.old turns }
+    ensures link { L.faults link.old ≤ L.faults link.new }
+    ensures sink { K.faults sink.old ≤ K.faults sink.new }
+{
+    match core.ask(link, operation, turns) {
+        Ok(answer) => put_answer(alloc, sink, &answer),
+        Err(fault) => Err(status_of(fault)),
+    }
+}

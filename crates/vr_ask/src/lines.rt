@@ -1,0 +1,123 @@
+//! The lines of a source, asked one after the other.
+ghost use Rattle.std.specs.Prelude.{◌≡◌, ◌≤◌, ◌<◌, ◌+◌, OnOk};
+ghost use Rattle.vr_ask.specs.Asking.{client_of, faults, stand};
+ghost use Rattle.vr_ask.specs.Run.{CountsLine, EndsLines, Hears, Judges, Takes, count_after, reading};
+ghost use Rattle.vr_ask.specs.Stops.{stop_status};
+
+use crate::asking::exchange;
+use crate::text::read_line;
+use std::alloc::Global;
+use vr_base::Seq;
+use vr_client::ClientCore;
+use vr_edge::{Link, Sink, Source};
+use vr_header::Operation;
+use vr_reader::{LineStop, Lines, Next};
+use vr_status::Status;
+
+/// The most lines of a source.
+const LIMIT: u32 = 1_000_000;
+
+/// The most bytes of a line.
+const LONGEST: usize = 1093;
+
+/// The status of a line that couldn't be read.
+fn status_of(stop: LineStop) -> Status
+    ensures { result ≡ stop_status stop }
+{
+    match stop {
+        LineStop::Read => Status::ReadFault,
+        LineStop::NoMemory => Status::NoMemory,
+    }
+}
+
+/// The operation of the line with this number.
+fn judge(alloc: Global, number: u32, line: &[u8]) -> Result<Operation, Status>
+    ensures { Judges number line.now result }
+{
+    match read_line(alloc, line) {
+        Ok(Some(operation)) if number <= LIMIT => Ok(operation),
+        Ok(_) => Err(Status::Refused(number)),
+        Err(_) => Err(Status::NoMemory),
+    }
+}
+
+/// Reads the line with this number: its operation, or how the client ends.
+#[tactic(auto, using(crate::proofs::Exchanges::heard, crate::proofs::Exchanges::judged_counts, crate::proofs::Exchanges::stopped, crate::proofs::Exchanges::stopped_counts))]
+fn next_operation<S: Source>(
+    alloc: Global,
+    lines: &mut Lines,
+    source: &mut S,
+    number: u32,
+) -> Result<Operation, Status>
+    ensures heard { Hears number (reading lines.old (S.left source.old)) (reading lines.new (S.left source.new)) result }
+    ensures counts { CountsLine (S.faults source.old) (S.faults source.new) result }
+{
+    let mut line = Seq::new(alloc);
+    match lines.next(source, LONGEST, &mut line) {
+        Ok(Next::Line) => judge(alloc, number, line.as_slice()),
+        Ok(Next::TooLong) => Err(Status::Refused(number)),
+        Ok(Next::End) => Err(Status::Done),
+        Err(stop) => Err(status_of(stop)),
+    }
+}
+
+/// Reads the line with this number, asks it and writes the answer; an `Err` is how the client ends.
+#[tactic(auto, using(crate::proofs::Exchanges::taken, crate::proofs::Exchanges::exchange_counts))]
+fn take_line<S: Source, K: Sink, L: Link>(
+    alloc: Global,
+    core: &mut ClientCore,
+    lines: &mut Lines,
+    source: &mut S,
+    link: &mut L,
+    sink: &mut K,
+    number: u32,
+    turns: u64,
+) -> Result<(), Status>
+    requires first { 0 < number }
+    requires number { core.old.number ≡ number }
+    ensures taken { Takes (client_of core.old turns) number
+        (reading lines.old (S.left source.old)) (stand core.old (L.sent link.old) (L.received link.old) (K.taken sink.old))
+        (reading lines.new (S.left source.new)) (stand core.new (L.sent link.new) (L.received link.new) (K.taken sink.new))
+        (faults (L.faults link.old) (K.faults sink.old)) (faults (L.faults link.new) (K.faults sink.new)) result }
+    ensures number { OnOk result (core.new.number ≡ number + 1) }
+    ensures client { OnOk result (client_of core.new turns ≡ client_of core.old turns) }
+    ensures counts { CountsLine (S.faults source.old) (S.faults source.new) result }
+    ensures link { L.faults link.old ≤ L.faults link.new }
+    ensures sink { K.faults sink.old ≤ K.faults sink.new }
+{
+    match next_operation(alloc, lines, source, number) {
+        Ok(operation) => exchange(alloc, core, link, sink, &operation, turns),
+        Err(status) => Err(status),
+    }
+}
+
+/// The lines of a source, to an end.
+#[tactic(auto, using(std::proofs::lemmas::Grind::common_steps, crate::proofs::Exchanges::midst_begins, crate::proofs::Exchanges::midst_more, crate::proofs::Exchanges::ends_at, crate::proofs::Exchanges::stops_later, crate::proofs::Exchanges::one_too_many))]
+pub fn ask_lines<S: Source, K: Sink, L: Link>(
+    alloc: Global,
+    core: &mut ClientCore,
+    lines: &mut Lines,
+    source: &mut S,
+    link: &mut L,
+    sink: &mut K,
+    turns: u64,
+) -> Status
+    requires { core.old.number ≡ 1 }
+    ensures ends { EndsLines (client_of core.old turns)
+        (reading lines.old (S.left source.old)) (stand core.old (L.sent link.old) (L.received link.old) (K.taken sink.old))
+        (reading lines.new (S.left source.new)) (stand core.new (L.sent link.new) (L.received link.new) (K.taken sink.new))
+        (faults (L.faults link.old) (K.faults sink.old)) (faults (L.faults link.new) (K.faults sink.new)) result }
+    ensures counts { S.faults source.new ≡ count_after result (S.faults source.old) }
+    ensures link { L.faults link.old ≤ L.faults link.new }
+    ensures sink { K.faults sink.old ≤ K.faults sink.new }
+{
+    for done in 0..LIMIT {
+        if let Err(status) = take_line(alloc, core, lines, source, link, sink, done + 1, turns) {
+            return status;
+        }
+    }
+    match next_operation(alloc, lines, source, LIMIT + 1) {
+        Ok(_) => Status::Refused(LIMIT + 1),
+        Err(status) => status,
+    }
+}

@@ -1,0 +1,105 @@
+//! The whole run of a client.
+ghost use Rattle.std.specs.Prelude.{◌≡◌, ◌≢◌, ◌≤◌, [], vec_len};
+ghost use Rattle.vr_ask.specs.Asking.{client_of, faults, stand};
+ghost use Rattle.vr_ask.specs.Run.{ClientEnds, EndsRun, client_with, count_after, outside, reading};
+ghost use Rattle.vr_base.specs.Causes.{Rose};
+ghost use Rattle.vr_reader.specs.Finding.{rest};
+
+use crate::asking::exchange;
+use crate::lines::ask_lines;
+use std::alloc::Global;
+use vr_client::ClientCore;
+use vr_edge::{Link, Sink, Source};
+use vr_header::Operation;
+use vr_reader::Lines;
+use vr_status::Status;
+
+/// Registers, and then asks the lines of the source.
+#[tactic(auto, using(crate::proofs::Runs::unregistered, crate::proofs::Runs::registered))]
+fn ask_all<S: Source, K: Sink, L: Link>(
+    alloc: Global,
+    core: &mut ClientCore,
+    lines: &mut Lines,
+    source: &mut S,
+    link: &mut L,
+    sink: &mut K,
+    turns: u64,
+) -> Status
+    requires { core.old.number ≡ 0 }
+    ensures ends { EndsRun (client_of core.old turns)
+        (reading lines.old (S.left source.old)) (stand core.old (L.sent link.old) (L.received link.old) (K.taken sink.old))
+        (reading lines.new (S.left source.new)) (stand core.new (L.sent link.new) (L.received link.new) (K.taken sink.new))
+        (faults (L.faults link.old) (K.faults sink.old)) (faults (L.faults link.new) (K.faults sink.new)) result }
+    ensures counts { S.faults source.new ≡ count_after result (S.faults source.old) }
+    ensures link { L.faults link.old ≤ L.faults link.new }
+    ensures sink { K.faults sink.old ≤ K.faults sink.new }
+{
+    match exchange(alloc, core, link, sink, &Operation::Register, turns) {
+        Ok(()) => ask_lines(alloc, core, lines, source, link, sink, turns),
+        Err(status) => status,
+    }
+}
+
+/// Makes the client, and asks all.
+#[tactic(auto, using(crate::proofs::Runs::ran))]
+fn ask_made<S: Source, K: Sink, L: Link>(
+    alloc: Global,
+    cluster: u64,
+    id: u64,
+    peers: &Vec<String>,
+    turns: u64,
+    source: &mut S,
+    sink: &mut K,
+    link: &mut L,
+) -> Status
+    requires id { id ≢ 0 }
+    requires least { 2 ≤ vec_len peers.now }
+    requires most { vec_len peers.now ≤ 6 }
+    ensures ends { ClientEnds (client_with cluster id (vec_len peers.now) turns)
+        (outside (L.sent link.old) (L.received link.old) (K.taken sink.old) (S.left source.old))
+        (outside (L.sent link.new) (L.received link.new) (K.taken sink.new) (S.left source.new))
+        (faults (L.faults link.old) (K.faults sink.old)) (faults (L.faults link.new) (K.faults sink.new)) result }
+    ensures counts { S.faults source.new ≡ count_after result (S.faults source.old) }
+    ensures link { L.faults link.old ≤ L.faults link.new }
+    ensures sink { K.faults sink.old ≤ K.faults sink.new }
+{
+    let size = peers.len() as u8;
+    let Ok(mut core) = ClientCore::new(alloc, cluster, id, size) else {
+        return Status::NoMemory;
+    };
+    let Ok(mut lines) = Lines::new(alloc) else {
+        return Status::NoMemory;
+    };
+    ask_all(alloc, &mut core, &mut lines, source, link, sink, turns)
+}
+
+/// The client `id` of a group whose members have these addresses: it registers, asks each line of its source, and writes each answer. Its end has its cause: a line that is
+/// none of a client's, no answer in its turns, a session that the group knows no more, or a fault that the count of its object tells.
+#[tactic(auto, using(crate::proofs::Runs::same_outside, crate::proofs::Runs::client_link, crate::proofs::Runs::client_write))]
+pub fn run_client<S: Source, K: Sink, L: Link>(
+    alloc: Global,
+    cluster: u64,
+    id: u64,
+    peers: &Vec<String>,
+    turns: u64,
+    source: &mut S,
+    sink: &mut K,
+    link: &mut L,
+) -> Status
+    requires id { id ≢ 0 }
+    requires least { 2 ≤ vec_len peers.now }
+    requires most { vec_len peers.now ≤ 6 }
+    ensures ends { ClientEnds (client_with cluster id (vec_len peers.now) turns)
+        (outside (L.sent link.old) (L.received link.old) (K.taken sink.old) (S.left source.old))
+        (outside (L.sent link.new) (L.received link.new) (K.taken sink.new) (S.left source.new))
+        (faults (L.faults link.old) (K.faults sink.old)) (faults (L.faults link.new) (K.faults sink.new)) result }
+    // A fault has its cause in the object that was handed in, and a read that failed is told: no other answer leaves one.
+    ensures read { S.faults source.new ≡ count_after result (S.faults source.old) }
+    ensures write { result ≡ Status.WriteFault → Rose (K.faults sink.old) (K.faults sink.new) }
+    ensures link { result ≡ Status.LinkFault → Rose (L.faults link.old) (L.faults link.new) }
+{
+    match link.attach("", peers) {
+        Ok(()) => ask_made(alloc, cluster, id, peers, turns, source, sink, link),
+        Err(_) => Status::LinkFault,
+    }
+}
