@@ -1,5 +1,5 @@
 -- A run that the machine follows is safe.
-use Rattle.std.proofs.Common.{ℕ, suc, List}
+use Rattle.std.proofs.Common.{◌≡◌, refl, ℕ, suc, List}
 use Rattle.vr_header.specs.Names.{root_header}
 use Rattle.vr_header.specs.NoCollision.{NoCollision}
 use Rattle.vr_msg.specs.declared.output.Output.{Output}
@@ -34,3 +34,8 @@ module _ (cluster n : ℕ) (u : Setup) (run : List Played) (x : IsFollowed clust
     backed = λ move number p o never i. backed_is move number p o never i (every_at (IsSo cluster u run (x.group move) (x.group (suc move)) p) p.moved.outputs number o i.is (x.carried move p i.at).said);
     kept = λ view c fits never above h. kept_is cluster n u run x view c fits never above h;
   }
+
+  -- its log is that of the greatest view that has begun
+  pub safe_of_log : (s : Safe cluster n run) × (s.log ≡ the_log cluster n u run x)
+  unfolding safe
+  safe_of_log = (safe, refl)

@@ -91,6 +91,9 @@ module _ (cluster n : ℕ) (run : List Played) (fit : IsFitRun cluster n run) (u
   bridged : (t : ℕ) (p : Played) → slice_get run t ≡ Some p → Bridges u p.before (at t)
   bridged t p is = bridges_at u (fresh_group cluster n) first t run fit.of_run follows bridges p is
 
+  bridged_after : (t : ℕ) (p : Played) → slice_get run t ≡ Some p → Bridges u p.moved.group (at (suc t))
+  bridged_after t p is = (chained_at u first t run follows p is).bridges
+
   carried : (t : ℕ) (p : Played) → slice_get run t ≡ Some p → IsCarried cluster u run (at t) (at (suc t)) p
   carried t p is =
       let x = chained_at u first t run follows p is in
@@ -132,4 +135,5 @@ follows_it cluster n run fit =
       setup = y.setup;
       followed = followed cluster n run fit y.setup y.cluster_is y.first y.bridges y.follows y.hash_is y.size_is y.fits y.none_sent y.none_made;
       bridges = bridged cluster n run fit y.setup y.cluster_is y.first y.bridges y.follows;
+      after = bridged_after cluster n run fit y.setup y.cluster_is y.first y.bridges y.follows;
     }

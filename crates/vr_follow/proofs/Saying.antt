@@ -23,7 +23,7 @@ use Rattle.vr_rules.specs.Laws.{Answers, IsPresent, IsPresentOutput}
 use Rattle.vr_rules.specs.Lying.{Lying, lying}
 use Rattle.vr_rules.specs.Opening.{blank}
 use Rattle.vr_rules.specs.Replica.{Replica}
-use Rattle.vr_rules.specs.Safe.{IsHashed, actor, event_of, faces_of}
+use Rattle.vr_rules.specs.Safe.{IsHashed, actor, faces_of}
 use Rattle.vr_rules.specs.Safe as safe
 use Rattle.vr_rules.specs.Steps.{Effect, Step, Write, after_all, outputs}
 use Rattle.vr_rules.proofs.FitDisks.{disks_fit}

@@ -1,15 +1,16 @@
 -- Every run of a group that was just made is followed by the machine.
-use Rattle.std.specs.Prelude.{ℕ, ◌≡◌, List, slice_get, Some}
+use Rattle.std.specs.Prelude.{ℕ, suc, ◌≡◌, List, slice_get, Some}
 use Rattle.vr_rules.specs.Group.{Played}
 use Rattle.vr_safe.specs.Chains.{Setup}
 use Rattle.vr_run.specs.Bridge.{Bridges}
 use Rattle.vr_agree.specs.Followed.{IsFitRun, IsFollowed}
 
--- a run that is followed, with the machine's group standing for the group before each move
+-- a run that is followed, with the machine's group standing for the group before and after each move
 pub record FollowsIt (cluster n : ℕ) (run : List Played) : Type 0 where
   pub setup : Setup
   pub followed : IsFollowed cluster n setup run
   pub bridges : (t : ℕ) (p : Played) → slice_get run t ≡ Some p → Bridges setup p.before (followed.group t)
+  pub after : (t : ℕ) (p : Played) → slice_get run t ≡ Some p → Bridges setup p.moved.group (followed.group (suc t))
 
 abbrev pub FreshRunsAreFollowed : Type 0
 FreshRunsAreFollowed = (cluster n : ℕ) (run : List Played) → IsFitRun cluster n run → FollowsIt cluster n run

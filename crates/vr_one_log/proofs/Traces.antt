@@ -1,5 +1,5 @@
 -- What a run that is safe says of outputs that are its own but for some lines aside.
-use Rattle.std.proofs.Common.{ℕ, ◌-◌, ◌<◌, ◌≤◌, ◌^◌, ◌≡◌, ◌∙◌, ◌⊎◌, inl, inr, arith, refl, sym, ap, subst, List, [], ◌∷◌, ◌++◌, Some}
+use Rattle.std.proofs.Common.{ℕ, ◌-◌, ◌<◌, ◌≤◌, ◌≡◌, ◌∙◌, inl, inr, arith, refl, sym, ap, subst, List, [], ◌∷◌, Some}
 use Rattle.std.specs.Prelude.{All, Contains, slice_get}
 use Rattle.std.proofs.lemmas.List.Elements.{All-nil, All-cons, All-contains, All-weaker}
 use Rattle.vr_header.specs.declared.header.Header.{Header}
@@ -12,7 +12,7 @@ use Rattle.vr_msg.specs.declared.output.Committed.{Committed}
 use Rattle.vr_msg.specs.declared.output.Output.{Output}
 use Rattle.vr_msg.specs.declared.output.Output.TheVariants as output
 use Rattle.vr_rules.specs.Commitment as said
-use Rattle.vr_rules.specs.Commitment.{HasQuorum, HasSent, IsCommitted, Vouches}
+use Rattle.vr_rules.specs.Commitment.{HasSent, IsCommitted, Vouches}
 use Rattle.vr_rules.specs.Group.{Played, fresh_group}
 use Rattle.vr_rules.specs.Lying.{Lying}
 use Rattle.vr_rules.specs.Safe.{IsHashed, Safe, run_outputs}

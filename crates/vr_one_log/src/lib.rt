@@ -2,11 +2,16 @@
 //! statement, and it does nothing.
 #![tactic(auto)]
 
-ghost use Rattle.vr_one_log.specs.Laws.{RunsAreSafe, SchedulesKeepOneLog};
+ghost use Rattle.vr_one_log.specs.Laws.{ReplicasHaveOneLog, RunsAreSafe, SchedulesKeepOneLog};
 
 /// Each run of a group that was just made is safe.
 pub fn runs_are_safe()
     ensures { RunsAreSafe }
+{}
+
+/// In it each running replica has the one log: the header that it knows of an op up to its commit number is the log's.
+pub fn replicas_have_one_log()
+    ensures { ReplicasHaveOneLog }
 {}
 
 /// So is what happens on a schedule: its commit lines are of one log, and what its messages commit is of one log.

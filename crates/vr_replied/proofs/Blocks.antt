@@ -18,7 +18,6 @@ use Rattle.vr_grid.specs.Blocks.{named}
 use Rattle.vr_grid.specs.declared.block.Block.{Block}
 use Rattle.vr_grid.specs.declared.name.Name.{Name}
 use Rattle.vr_grid.proofs.Contents.{named_found}
-use Rattle.vr_ckpt.specs.Laws.{HoldsFrom}
 use Rattle.vr_ckpt.specs.Loads.{both_named, data_at, data_of, gathered, gathered_both, is_root, keys_size, load_by, load_of, loaded, name_at, names_at, read_root, root_at, root_in, sessions_size, text_of, with_data, with_name}
 use Rattle.vr_ckpt.specs.Places.{is_place}
 use Rattle.vr_ckpt.specs.Saves.{PayloadBlocks, blocks_from, changed, data_content, goes_to, names_bytes, payload_blocks_at, payload_at, payloads_from, payloads_of, keys_run, root_of, root_payload, sessions_run, table_of, written}
@@ -30,7 +29,6 @@ use Rattle.vr_ckpt.specs.declared.table.Payload.{Payload}
 use Rattle.vr_ckpt.specs.declared.table.PayloadTable.{PayloadTable}
 use Rattle.vr_ckpt.proofs.Apart.{AtPlace, part_cases}
 use Rattle.vr_ckpt.proofs.Done.{Fit, Fits, after_name, length-names, name_there, text_again, words}
-use Rattle.vr_ckpt.proofs.Keeping.{each_held}
 use Rattle.vr_ckpt.proofs.Planning.{keys_count, sessions_count}
 use Rattle.vr_replied.specs.Hashed.{AllKept, IsHashedBlock, IsKept, IsTable, IsWrittenOut, ReadsHashed}
 
@@ -161,9 +159,12 @@ nothing_missing : (a b : List Name) → a ++ b ≡ [] → (a ≡ []) × (b ≡ [
 nothing_missing [] b e = (refl, e)
 nothing_missing (x ∷ a) b e = absurd cc
 
-load_found : (s k : Gathered) (ns : List Name) (found : Texts) (table : PayloadTable) → load_of s k ns ≡ Loaded found table → (ns ≡ []) × (found ≡ record { sessions = text_of s.payloads; keys = text_of k.payloads })
+load_found : (s k : Gathered) (ns : List Name) (found : Texts) (table : PayloadTable) → load_of s k ns ≡ Loaded found table
+    → (ns ≡ []) × (found ≡ record { sessions = text_of s.payloads; keys = text_of k.payloads }) × (table ≡ record { sessions = s.payloads; keys = k.payloads })
 load_found s k [] found table e =
-    let same : record { sessions = text_of s.payloads; keys = text_of k.payloads } ≡ found = cc in (refl, sym same)
+    let same : record { sessions = text_of s.payloads; keys = text_of k.payloads } ≡ found = cc in
+    let one : record { sessions = s.payloads; keys = k.payloads } ≡ table = cc in
+    (refl, sym same, sym one)
 load_found s k (n ∷ ns) found table e = absurd cc
 
 module _ (f : Face) where
@@ -190,7 +191,10 @@ module _ (f : Face) where
         ] e
       ] refl e
 
-same_texts : (cluster op : ℕ) (texts : Texts) (old : PayloadTable) → record { sessions = text_of (table_of cluster texts op old).sessions; keys = text_of (table_of cluster texts op old).keys } ≡ texts
+abbrev texts_in : PayloadTable → Texts
+texts_in t = record { sessions = text_of t.sessions; keys = text_of t.keys }
+
+same_texts : (cluster op : ℕ) (texts : Texts) (old : PayloadTable) → texts_in (table_of cluster texts op old) ≡ texts
 unfolding table_of
 same_texts cluster op texts old =
     ap (λ (x : List ℕ). let y : Texts = record { sessions = x; keys = text_of (payloads_of (keys_run cluster op) texts.keys old.keys) } in y) (text_again (sessions_run cluster op) texts.sessions old.sessions)
@@ -221,27 +225,26 @@ module _ (H : List ℕ → Type 0) (never : NoCollision H) where
           address = n.1;
         }
 
-    held_kept : (low : ℕ) (ps : List Payload) → HoldsFrom f low ps → AllKept H ps
-    held_kept low [] h = tt
-    held_kept low (p ∷ ps) h = (data_kept p.name (length p.bytes) p.bytes h.1, held_kept (low + 1) ps h.2)
-
     -- payloads that are all there read as they were kept
-    text_same : (size : ℕ) (ps : List Payload) → AllKept H ps → (gathered f size (names_of ps)).missing ≡ [] → text_of (gathered f size (names_of ps)).payloads ≡ text_of ps
-    unfolding gathered text_of
-    text_same size [] h e = refl
-    text_same size (p ∷ ps) h e =
+    payloads_same : (size : ℕ) (ps : List Payload) → AllKept H ps → (gathered f size (names_of ps)).missing ≡ [] → (gathered f size (names_of ps)).payloads ≡ ps
+    unfolding gathered
+    payloads_same size [] h e = refl
+    payloads_same size (p ∷ ps) h e =
         let g : Gathered = gathered f (size - 3968) (names_of ps) in
-        elim (data_at f p.name (min size 3968)) as (λ o. data_at f p.name (min size 3968) ≡ o → (with_data p.name o g).missing ≡ [] → text_of (with_data p.name o g).payloads ≡ p.bytes ++ text_of ps) [
+        elim (data_at f p.name (min size 3968)) as (λ o. data_at f p.name (min size 3968) ≡ o → (with_data p.name o g).missing ≡ [] → (with_data p.name o g).payloads ≡ p ∷ ps) [
           | None ↦ λ d e. absurd cc
           | Some bytes ↦ λ d e.
               let k = data_kept p.name (min size 3968) bytes d in
               let one : bytes ≡ p.bytes = sym k.payload ∙ (same_payload k.content h.0.content k.hashed h.0.hashed (k.name ∙ sym h.0.name) ∙ h.0.payload) in
-              ap (λ b. b ++ text_of g.payloads) one ∙ ap (λ t. p.bytes ++ t) (text_same (size - 3968) ps h.1 e)
+              ap (λ b. (let x : Payload = record { name = p.name; bytes = b } in x) ∷ g.payloads) one ∙ ap (λ (xs : List Payload). p ∷ xs) (payloads_same (size - 3968) ps h.1 e)
         ] refl e
 
     -- ---- a checkpoint
 
     module _ (cluster op : ℕ) (texts : Texts) (t : PayloadTable) (small : op < 2 ^ 64) (fits : FitsPayloads texts) (kept : IsTable H t) (few : length t.sessions ≡ payloads (length texts.sessions)) (many : length t.keys ≡ payloads (length texts.keys)) where
+      abbrev IsOf : Texts → PayloadTable → Type 0
+      IsOf found table = (found ≡ texts_in t) × (table ≡ t)
+
       named_right : (r : Root) → RootIn (root_payload op (length texts.sessions) (length texts.keys) t) r → (r.sessions ≡ names_of t.sessions) × (r.keys ≡ names_of t.keys)
       named_right r i =
           let ls = length texts.sessions in
@@ -262,39 +265,41 @@ module _ (H : List ℕ → Type 0) (never : NoCollision H) where
           (names_found 1 p (names_bytes t.keys) 0 t.sessions r.sessions fs w.names first, names_found 10 p [] (length t.sessions) t.keys r.keys fk at second)
 
       load_right : (r : Root) → RootIn (root_payload op (length texts.sessions) (length texts.keys) t) r → (found : Texts) (table : PayloadTable) → gathered_both (gathered f r.sessions_size r.sessions) (gathered f r.keys_size r.keys) ≡ Loaded found table
-          → found ≡ record { sessions = text_of t.sessions; keys = text_of t.keys }
+          → IsOf found table
       load_right r i found table e =
           let n = named_right r i in
           let s : Gathered = gathered f r.sessions_size r.sessions in
           let k : Gathered = gathered f r.keys_size r.keys in
           let l = load_found s k (s.missing ++ k.missing) found table e in
           let none = nothing_missing s.missing k.missing l.0 in
-          let one : text_of s.payloads ≡ text_of t.sessions =
-          ap (λ ns. text_of (gathered f r.sessions_size ns).payloads) n.0 ∙ text_same r.sessions_size t.sessions kept.sessions (ap (λ ns. (gathered f r.sessions_size ns).missing) (sym n.0) ∙ none.0) in
-          let two : text_of k.payloads ≡ text_of t.keys =
-          ap (λ ns. text_of (gathered f r.keys_size ns).payloads) n.1 ∙ text_same r.keys_size t.keys kept.keys (ap (λ ns. (gathered f r.keys_size ns).missing) (sym n.1) ∙ none.1) in
-          l.1 ∙ (ap (λ (x : List ℕ). let y : Texts = record { sessions = x; keys = text_of k.payloads } in y) one ∙ ap (λ (x : List ℕ). let y : Texts = record { sessions = text_of t.sessions; keys = x } in y) two)
+          let one : s.payloads ≡ t.sessions =
+          ap (λ ns. (gathered f r.sessions_size ns).payloads) n.0 ∙ payloads_same r.sessions_size t.sessions kept.sessions (ap (λ ns. (gathered f r.sessions_size ns).missing) (sym n.0) ∙ none.0) in
+          let two : k.payloads ≡ t.keys =
+          ap (λ ns. (gathered f r.keys_size ns).payloads) n.1 ∙ payloads_same r.keys_size t.keys kept.keys (ap (λ ns. (gathered f r.keys_size ns).missing) (sym n.1) ∙ none.1) in
+          let both : record { sessions = s.payloads; keys = k.payloads } ≡ t =
+          ap (λ (xs : List Payload). let y : PayloadTable = record { sessions = xs; keys = k.payloads } in y) one ∙ ap (λ (xs : List Payload). let y : PayloadTable = record { sessions = t.sessions; keys = xs } in y) two in
+          (l.1 ∙ ap texts_in both, l.2 ∙ both)
 
       module _ (root : Content) (is : root.payload ≡ root_payload op (length texts.sessions) (length texts.keys) t) (hashed : IsHashedBlock H root) (found : Texts) (table : PayloadTable) where
-        by_root : (c : Content) → named_at f (block_name root) ≡ Some c → (o : Option Root) → read_root c ≡ o → load_by f (block_name root) o ≡ Loaded found table → found ≡ record { sessions = text_of t.sessions; keys = text_of t.keys }
+        by_root : (c : Content) → named_at f (block_name root) ≡ Some c → (o : Option Root) → read_root c ≡ o → load_by f (block_name root) o ≡ Loaded found table → IsOf found table
         by_root c n None r e = absurd cc
         by_root c n (Some r) i e =
             let same : c.payload ≡ root_payload op (length texts.sessions) (length texts.keys) t = same_payload c root (reads (block_name root) c n) hashed (named_here f (block_name root) c n).0 ∙ is in
             load_right r (subst (λ b. RootIn b r) same (root_found c.payload r (read_found c r i))) found table e
 
-        by_content : (o : Option Content) → named_at f (block_name root) ≡ o → load_by f (block_name root) (option_and_then read_root o) ≡ Loaded found table → found ≡ record { sessions = text_of t.sessions; keys = text_of t.keys }
+        by_content : (o : Option Content) → named_at f (block_name root) ≡ o → load_by f (block_name root) (option_and_then read_root o) ≡ Loaded found table → IsOf found table
         by_content None n e = absurd cc
         by_content (Some c) n e = by_root c n (read_root c) refl e
 
-        loads_texts : loaded f (block_name root) ≡ Loaded found table → found ≡ record { sessions = text_of t.sessions; keys = text_of t.keys }
+        loads_texts : loaded f (block_name root) ≡ Loaded found table → IsOf found table
         unfolding loaded root_at
         loads_texts e = by_content (named_at f (block_name root)) refl e
 
-    -- a checkpoint that is loaded has the texts that it was made of, and its table is one of blocks that were hashed
+    -- a checkpoint that is loaded has the texts that it was made of, and the table that it left
     pub loads_as : (cluster op : ℕ) (texts : Texts) (old : PayloadTable) → op < 2 ^ 64 → FitsPayloads texts → IsTable H old → IsWrittenOut H cluster texts op old → (found : Texts) (table : PayloadTable)
-        → loaded f (block_name (root_of cluster texts op (table_of cluster texts op old))) ≡ Loaded found table → (found ≡ texts) × IsTable H table
+        → loaded f (block_name (root_of cluster texts op (table_of cluster texts op old))) ≡ Loaded found table → (found ≡ texts) × (table ≡ table_of cluster texts op old) × IsTable H table
     loads_as cluster op texts old small fits kept hashed found table e =
         let t = table_of cluster texts op old in
-        let held = each_held f (block_name (root_of cluster texts op t)) found table e in
-        let right = loads_texts cluster op texts t small fits (table_kept H cluster texts op old fits kept hashed) (sessions_count cluster texts op old t refl) (keys_count cluster texts op old t refl) (root_of cluster texts op t) (payload_of cluster op texts t) (root_hashed H cluster texts op old hashed) found table e in
-        (right ∙ same_texts cluster op texts old, record { sessions = held_kept 1 table.sessions held.sessions; keys = held_kept 10 table.keys held.keys })
+        let all = table_kept H cluster texts op old fits kept hashed in
+        let right = loads_texts cluster op texts t small fits all (sessions_count cluster texts op old t refl) (keys_count cluster texts op old t refl) (root_of cluster texts op t) (payload_of cluster op texts t) (root_hashed H cluster texts op old hashed) found table e in
+        (right.0 ∙ same_texts cluster op texts old, right.1, subst (IsTable H) (sym right.1) all)

@@ -97,15 +97,15 @@ module _ (cluster n : ℕ) (u : Setup) (run : List Played) (x : IsFollowed clust
     effect_may done rest (Save old new) are m order facts = tt
     effect_may done rest (Mend v) are m order facts = tt
 
-    all_may : (rest done : List Effect) → done ++ rest ≡ xs → (m : ℕ) → AreInOrder i m (outputs rest) → ((c : Committed) → In (output.Commit c) (outputs rest) → Facts c) → AllMay H log i m (after_all lying d done) rest
+    all_may : (rest done : List Effect) → done ++ rest ≡ xs → (m : ℕ) → AreInOrder i m (outputs rest) → ((c : Committed) → In (output.Commit c) (outputs rest) → Facts c) → AllMay H cluster log i m (after_all lying d done) rest
     unfolding AllMay outputs after_all
     all_may [] done are m order facts = tt
     all_may (e ∷ rest) done are m order facts =
         let later = all_may rest (done ++ e ∷ []) (append_assoc done (e ∷ []) rest ∙ are) (m + lines i (output_of e)) (ordered_back i m (output_of e) (outputs rest) order) (λ c j. facts c (in_right (output_of e) (outputs rest) (output.Commit c) j)) in
-        (effect_may done rest e are m order facts, subst (λ f. AllMay H log i (m + lines i (output_of e)) f rest) (after_both lying d done (e ∷ [])) later)
+        (effect_may done rest e are m order facts, subst (λ f. AllMay H cluster log i (m + lines i (output_of e)) f rest) (after_both lying d done (e ∷ [])) later)
 
   pub lines_may : (t : ℕ) → t ≤ length run → (i m : ℕ) (d : Lying) (xs : List Effect) → All IsFit xs → AreInOrder i m (outputs xs)
       → ((c : Committed) → In (output.Commit c) (outputs xs) → IsBackedLine u (x.group t).sent c.entry.header × IsWellRead c.entry)
-      → ((e : Effect) → In e xs → Begun H e) → ((slot : ℕ) (e : Whole) → slot < 64 → lying.entry d slot ≡ Some e → H (operation_bytes e.operation)) → AllMay H log i m d xs
+      → ((e : Effect) → In e xs → Begun H e) → ((slot : ℕ) (e : Whole) → slot < 64 → lying.entry d slot ≡ Some e → H (operation_bytes e.operation)) → AllMay H cluster log i m d xs
   unfolding after_all
   lines_may t l i m d xs fits order facts begun entries = all_may t l i d xs fits begun entries xs [] refl m order facts

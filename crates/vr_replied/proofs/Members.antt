@@ -12,22 +12,22 @@ use Rattle.vr_agree.specs.Answering.{lines}
 use Rattle.vr_replied.proofs.Values.{IsRooted}
 use Rattle.vr_replied.proofs.Walk.{AllMay, Bears, IsBorne}
 
-module _ (H : List ℕ → Type 0) (log : List Whole) where
+module _ (H : List ℕ → Type 0) (cluster : ℕ) (log : List Whole) where
   -- the roots of both are those of checkpoints of the log
   pub record Values (m : Member) : Type 0 where
-    pub last : IsRooted H log m.last
-    pub under : (v : SuperValue) → m.under ≡ Some v → IsRooted H log v
+    pub last : IsRooted H cluster log m.last
+    pub under : (v : SuperValue) → m.under ≡ Some v → IsRooted H cluster log v
 
-  begins_values : (e : Effect) (m : Member) → IsBorne H log e → Values m → Values (begins e m)
+  begins_values : (e : Effect) (m : Member) → IsBorne H cluster log e → Values m → Values (begins e m)
   begins_values (Write again e) m b h = record { last = h.last; under = h.under }
   begins_values (Rewrite x) m b h = record { last = h.last; under = h.under }
-  begins_values (Save old new) m b h = record { last = h.last; under = λ v e. let same : new ≡ v = cc in subst (IsRooted H log) same b }
+  begins_values (Save old new) m b h = record { last = h.last; under = λ v e. let same : new ≡ v = cc in subst (IsRooted H cluster log) same b }
   begins_values (Mend v) m b h = h
   begins_values (Checkpoint cluster texts op old) m b h = h
   begins_values (PutBlock name block) m b h = h
   begins_values (Say o) m b h = h
 
-  ends_values : (e : Effect) (m : Member) → IsBorne H log e → Values m → Values (ends e m)
+  ends_values : (e : Effect) (m : Member) → IsBorne H cluster log e → Values m → Values (ends e m)
   ends_values (Write again e) m b h = record { last = h.last; under = h.under }
   ends_values (Rewrite x) m b h = record { last = h.last; under = h.under }
   ends_values (Save old new) m b h = record { last = b; under = λ v e. absurd cc }
@@ -36,12 +36,12 @@ module _ (H : List ℕ → Type 0) (log : List Whole) where
   ends_values (PutBlock name block) m b h = h
   ends_values (Say o) m b h = h
 
-  pub carried_values : (es : List Effect) (m : Member) → Every (IsBorne H log) es → Values m → Values (carried_out es m)
+  pub carried_values : (es : List Effect) (m : Member) → Every (IsBorne H cluster log) es → Values m → Values (carried_out es m)
   unfolding carried_out
   carried_values [] m b h = h
   carried_values (e ∷ es) m b h = carried_values es (ends e (begins e m)) b.1 (ends_values e (begins e m) b.0 (begins_values e m b.0 h))
 
-  pub cut_values : (k : ℕ) (es : List Effect) (m : Member) → Every (IsBorne H log) (take (suc k) es) → Values m → Values (cut_after k es m)
+  pub cut_values : (k : ℕ) (es : List Effect) (m : Member) → Every (IsBorne H cluster log) (take (suc k) es) → Values m → Values (cut_after k es m)
   unfolding carried_out
   cut_values zero [] m b h = h
   cut_values (suc k) [] m b h = h
@@ -61,12 +61,12 @@ module _ (H : List ℕ → Type 0) (log : List Whole) where
   kept_values (p ∷ ps) m h = kept_values ps (keeps_found p m) (found_values p m h)
 
   -- where all effects may be, each is borne
-  pub borne_all : (i m : ℕ) (d : Lying) (es : List Effect) → Bears H log i m d es → AllMay H log i m d es → Every (IsBorne H log) es
+  pub borne_all : (i m : ℕ) (d : Lying) (es : List Effect) → Bears H cluster log i m d es → AllMay H cluster log i m d es → Every (IsBorne H cluster log) es
   unfolding Bears AllMay
   borne_all i m d [] b a = tt
   borne_all i m d (e ∷ es) b a = let x = b a.0 in (x.0, borne_all i (m + lines i (output_of e)) (lying.after d e) es x.1 a.1)
 
-  pub bears_front : (i m : ℕ) (d : Lying) (xs ys : List Effect) → Bears H log i m d (xs ++ ys) → Bears H log i m d xs
+  pub bears_front : (i m : ℕ) (d : Lying) (xs ys : List Effect) → Bears H cluster log i m d (xs ++ ys) → Bears H cluster log i m d xs
   unfolding Bears
   bears_front i m d [] ys b = tt
   bears_front i m d (e ∷ xs) ys b = λ may. let x = b may in (x.0, bears_front i (m + lines i (output_of e)) (lying.after d e) xs ys x.1)

@@ -64,182 +64,182 @@ puts_first g name r d free from found =
     let any : list_any (is_wanted lying.is_block g) r.missing ≡ true = found_any (is_wanted lying.is_block g) r.missing name found in
     rw (free, from, any, found) (_, refl)
 
-module _ (H : List ℕ → Type 0) (never : NoCollision H) (log : List Whole) where
-  keeps_rested : Keeps H never log (change rested)
-  keeps_rested = go_change H never log rested (λ r. refl)
+module _ (H : List ℕ → Type 0) (never : NoCollision H) (cluster : ℕ) (log : List Whole) where
+  keeps_rested : Keeps H never cluster log (change rested)
+  keeps_rested = go_change H never cluster log rested (λ r. refl)
 
-  keeps_stored_reply : (a : Asker) (x : SessionAnswer) → Keeps H never log (rules.stored_reply a x)
-  keeps_stored_reply a answer.Fresh = go_quiet H never log
-  keeps_stored_reply a (answer.Repeat outcome op) = go_says H never log _ (λ r. (tt, tt))
-  keeps_stored_reply a answer.Old = go_says H never log _ (λ r. (tt, tt))
-  keeps_stored_reply a answer.Gap = go_says H never log _ (λ r. (tt, tt))
-  keeps_stored_reply a answer.Evicted = go_says H never log _ (λ r. (tt, tt))
+  keeps_stored_reply : (a : Asker) (x : SessionAnswer) → Keeps H never cluster log (rules.stored_reply a x)
+  keeps_stored_reply a answer.Fresh = go_quiet H never cluster log
+  keeps_stored_reply a (answer.Repeat outcome op) = go_says H never cluster log _ (λ r. (tt, tt))
+  keeps_stored_reply a answer.Old = go_says H never cluster log _ (λ r. (tt, tt))
+  keeps_stored_reply a answer.Gap = go_says H never cluster log _ (λ r. (tt, tt))
+  keeps_stored_reply a answer.Evicted = go_says H never cluster log _ (λ r. (tt, tt))
 
-  keeps_make : (e : Whole) → Keeps H never log (rules.make e)
+  keeps_make : (e : Whole) → Keeps H never cluster log (rules.make e)
   unfolding rules.make
-  keeps_make e = go_then H never log _ _ (go_write H never log e) (go_then H never log _ _ (go_all H never log _) (go_advance H never log))
+  keeps_make e = go_then H never cluster log _ _ (go_write H never cluster log e) (go_then H never cluster log _ _ (go_all H never cluster log _) (go_advance H never cluster log))
 
-  keeps_request : (hash : Hash) (q : RequestFields) → (rule : Rule) → Keeps H never log (rules.obey_request hash q rule)
-  keeps_request hash q Redirected = go_says H never log _ (λ r. (tt, tt))
-  keeps_request hash q Behind = go_says H never log _ (λ r. (tt, tt))
-  keeps_request hash q Answered = go_by H never log _ (λ r. keeps_stored_reply (rules.asker_by hash q) (session_answer q r))
-  keeps_request hash q Full = go_says H never log _ (λ r. (tt, tt))
-  keeps_request hash q Made = go_by H never log _ (λ r. keeps_make (rules.next_entry hash q r))
-  keeps_request hash q _ = go_quiet H never log
+  keeps_request : (hash : Hash) (q : RequestFields) → (rule : Rule) → Keeps H never cluster log (rules.obey_request hash q rule)
+  keeps_request hash q Redirected = go_says H never cluster log _ (λ r. (tt, tt))
+  keeps_request hash q Behind = go_says H never cluster log _ (λ r. (tt, tt))
+  keeps_request hash q Answered = go_by H never cluster log _ (λ r. keeps_stored_reply (rules.asker_by hash q) (session_answer q r))
+  keeps_request hash q Full = go_says H never cluster log _ (λ r. (tt, tt))
+  keeps_request hash q Made = go_by H never cluster log _ (λ r. keeps_make (rules.next_entry hash q r))
+  keeps_request hash q _ = go_quiet H never cluster log
 
-  keeps_prepare : (hash : Hash) (p : Prepare) → (rule : Rule) → Keeps H never log (rules.obey_prepare hash p rule)
-  keeps_prepare hash p PreparedLater = go_says H never log _ (λ r. (tt, tt))
-  keeps_prepare hash p Past = go_then H never log _ _ keeps_rested (go_learn H never log p.commit)
+  keeps_prepare : (hash : Hash) (p : Prepare) → (rule : Rule) → Keeps H never cluster log (rules.obey_prepare hash p rule)
+  keeps_prepare hash p PreparedLater = go_says H never cluster log _ (λ r. (tt, tt))
+  keeps_prepare hash p Past = go_then H never cluster log _ _ keeps_rested (go_learn H never cluster log p.commit)
   keeps_prepare hash p Beyond = keeps_rested
-  keeps_prepare hash p Known = go_then H never log _ _ keeps_rested (go_then H never log _ _ (go_accept H never log p.entry) (go_then H never log _ _ (go_says H never log _ (λ r. (tt, tt))) (go_learn H never log p.commit)))
-  keeps_prepare hash p Next = go_then H never log _ _ keeps_rested (go_then H never log _ _ (go_write H never log p.entry) (go_then H never log _ _ (go_says H never log _ (λ r. (tt, tt))) (go_learn H never log p.commit)))
-  keeps_prepare hash p Ahead = go_then H never log _ _ keeps_rested (go_then H never log _ _ (go_says H never log _ (λ r. (tt, tt))) (go_learn H never log p.commit))
+  keeps_prepare hash p Known = go_then H never cluster log _ _ keeps_rested (go_then H never cluster log _ _ (go_accept H never cluster log p.entry) (go_then H never cluster log _ _ (go_says H never cluster log _ (λ r. (tt, tt))) (go_learn H never cluster log p.commit)))
+  keeps_prepare hash p Next = go_then H never cluster log _ _ keeps_rested (go_then H never cluster log _ _ (go_write H never cluster log p.entry) (go_then H never cluster log _ _ (go_says H never cluster log _ (λ r. (tt, tt))) (go_learn H never cluster log p.commit)))
+  keeps_prepare hash p Ahead = go_then H never cluster log _ _ keeps_rested (go_then H never cluster log _ _ (go_says H never cluster log _ (λ r. (tt, tt))) (go_learn H never cluster log p.commit))
   keeps_prepare hash p Other = keeps_rested
-  keeps_prepare hash p _ = go_quiet H never log
+  keeps_prepare hash p _ = go_quiet H never cluster log
 
-  keeps_prepare_ok : (a : PrepareOk) (rule : Rule) → Keeps H never log (rules.obey_prepare_ok a rule)
-  keeps_prepare_ok a Counted = go_then H never log _ _ (go_change H never log (rules.acknowledged a) (λ r. refl)) (go_advance H never log)
-  keeps_prepare_ok a _ = go_quiet H never log
+  keeps_prepare_ok : (a : PrepareOk) (rule : Rule) → Keeps H never cluster log (rules.obey_prepare_ok a rule)
+  keeps_prepare_ok a Counted = go_then H never cluster log _ _ (go_change H never cluster log (rules.acknowledged a) (λ r. refl)) (go_advance H never cluster log)
+  keeps_prepare_ok a _ = go_quiet H never cluster log
 
-  keeps_commit : (m : Commit) (rule : Rule) → Keeps H never log (rules.obey_commit m rule)
-  keeps_commit m CommitLater = go_says H never log _ (λ r. (tt, tt))
-  keeps_commit m CommitHeard = go_then H never log _ _ keeps_rested (go_then H never log _ _ (go_by H never log _ (λ r. go_when H never log _ _ (go_says H never log _ (λ r. (tt, tt))))) (go_learn H never log m.commit))
-  keeps_commit m _ = go_quiet H never log
+  keeps_commit : (m : Commit) (rule : Rule) → Keeps H never cluster log (rules.obey_commit m rule)
+  keeps_commit m CommitLater = go_says H never cluster log _ (λ r. (tt, tt))
+  keeps_commit m CommitHeard = go_then H never cluster log _ _ keeps_rested (go_then H never cluster log _ _ (go_by H never cluster log _ (λ r. go_when H never cluster log _ _ (go_says H never cluster log _ (λ r. (tt, tt))))) (go_learn H never cluster log m.commit))
+  keeps_commit m _ = go_quiet H never cluster log
 
-  keeps_heard : (sender : ℕ) → Keeps H never log (change (rules.heard_of sender) ⨾ speak)
-  keeps_heard sender = go_then H never log _ _ (go_change H never log (rules.heard_of sender) (λ r. refl)) (go_speak H never log)
+  keeps_heard : (sender : ℕ) → Keeps H never cluster log (change (rules.heard_of sender) ⨾ speak)
+  keeps_heard sender = go_then H never cluster log _ _ (go_change H never cluster log (rules.heard_of sender) (λ r. refl)) (go_speak H never cluster log)
 
-  keeps_change : (m : StartViewChange) (rule : Rule) → Keeps H never log (rules.obey_start_view_change m rule)
-  keeps_change m ChangeLater = go_then H never log _ _ (go_enter H never log m.view) (keeps_heard m.replica)
+  keeps_change : (m : StartViewChange) (rule : Rule) → Keeps H never cluster log (rules.obey_start_view_change m rule)
+  keeps_change m ChangeLater = go_then H never cluster log _ _ (go_enter H never cluster log m.view) (keeps_heard m.replica)
   keeps_change m ChangeHeard = keeps_heard m.replica
-  keeps_change m ChangeDone = go_says H never log _ (λ r. (tt, tt))
-  keeps_change m _ = go_quiet H never log
+  keeps_change m ChangeDone = go_says H never cluster log _ (λ r. (tt, tt))
+  keeps_change m _ = go_quiet H never cluster log
 
-  keeps_statement : (d : DoViewChange) (rule : Rule) → Keeps H never log (rules.obey_do_view_change d rule)
-  keeps_statement d StatedLate = go_says H never log _ (λ r. (tt, tt))
-  keeps_statement d Stated = go_then H never log _ _ (go_by H never log _ (λ r. go_when H never log _ _ (go_enter H never log d.view))) (go_then H never log _ _ (go_change H never log (rules.with_statement d.replica d.statement) (λ r. refl)) (go_try H never log))
-  keeps_statement d _ = go_quiet H never log
+  keeps_statement : (d : DoViewChange) (rule : Rule) → Keeps H never cluster log (rules.obey_do_view_change d rule)
+  keeps_statement d StatedLate = go_says H never cluster log _ (λ r. (tt, tt))
+  keeps_statement d Stated = go_then H never cluster log _ _ (go_by H never cluster log _ (λ r. go_when H never cluster log _ _ (go_enter H never cluster log d.view))) (go_then H never cluster log _ _ (go_change H never cluster log (rules.with_statement d.replica d.statement) (λ r. refl)) (go_try H never cluster log))
+  keeps_statement d _ = go_quiet H never cluster log
 
-  keeps_stored_of : (hash : Hash) (o : Option Header) → Keeps H never log (option_map_or (rules.acknowledge hash) o quiet)
-  keeps_stored_of hash None = go_quiet H never log
-  keeps_stored_of hash (Some h) = go_says H never log _ (λ r. (tt, tt))
+  keeps_stored_of : (hash : Hash) (o : Option Header) → Keeps H never cluster log (option_map_or (rules.acknowledge hash) o quiet)
+  keeps_stored_of hash None = go_quiet H never cluster log
+  keeps_stored_of hash (Some h) = go_says H never cluster log _ (λ r. (tt, tt))
 
-  keeps_stored : (hash : Hash) (op : ℕ) → Keeps H never log (rules.acknowledge_stored hash op)
+  keeps_stored : (hash : Hash) (op : ℕ) → Keeps H never cluster log (rules.acknowledge_stored hash op)
   unfolding rules.acknowledge_stored
-  keeps_stored hash op = go_by H never log _ (λ r. go_when H never log _ _ (keeps_stored_of hash (header_at r op)))
+  keeps_stored hash op = go_by H never cluster log _ (λ r. go_when H never cluster log _ _ (keeps_stored_of hash (header_at r op)))
 
-  keeps_view : (hash : Hash) (v : StartView) (rule : Rule) → Keeps H never log (rules.obey_start_view hash v rule)
-  keeps_view hash v Taken = go_then H never log _ _ (go_take H never log _) (go_then H never log _ _ (go_by H never log _ (λ r. go_each H never log _ _ (keeps_stored hash))) (go_apply H never log))
-  keeps_view hash v _ = go_quiet H never log
+  keeps_view : (hash : Hash) (v : StartView) (rule : Rule) → Keeps H never cluster log (rules.obey_start_view hash v rule)
+  keeps_view hash v Taken = go_then H never cluster log _ _ (go_take H never cluster log _) (go_then H never cluster log _ _ (go_by H never cluster log _ (λ r. go_each H never cluster log _ _ (keeps_stored hash))) (go_apply H never cluster log))
+  keeps_view hash v _ = go_quiet H never cluster log
 
-  keeps_get_view : (g : GetView) (rule : Rule) → Keeps H never log (rules.obey_get_view g rule)
-  keeps_get_view g ViewGiven = go_says H never log _ (λ r. (tt, tt))
-  keeps_get_view g _ = go_quiet H never log
+  keeps_get_view : (g : GetView) (rule : Rule) → Keeps H never cluster log (rules.obey_get_view g rule)
+  keeps_get_view g ViewGiven = go_says H never cluster log _ (λ r. (tt, tt))
+  keeps_get_view g _ = go_quiet H never cluster log
 
-  keeps_get_prepare : (g : GetPrepare) (rule : Rule) → Keeps H never log (rules.obey_get_prepare g rule)
-  keeps_get_prepare g EntryGiven = go_entry H never log g.op _ (λ e. go_says H never log _ (λ r. (tt, tt)))
-  keeps_get_prepare g _ = go_quiet H never log
+  keeps_get_prepare : (g : GetPrepare) (rule : Rule) → Keeps H never cluster log (rules.obey_get_prepare g rule)
+  keeps_get_prepare g EntryGiven = go_entry H never cluster log g.op _ (λ e. go_says H never cluster log _ (λ r. (tt, tt)))
+  keeps_get_prepare g _ = go_quiet H never cluster log
 
-  keeps_give_prepare : (g : GivePrepare) → (rule : Rule) → Keeps H never log (rules.obey_give_prepare g rule)
-  keeps_give_prepare g EntryTaken = go_then H never log _ _ (go_write H never log g.entry) (go_then H never log _ _ (go_resend H never log g.entry) (go_apply H never log))
-  keeps_give_prepare g _ = go_quiet H never log
+  keeps_give_prepare : (g : GivePrepare) → (rule : Rule) → Keeps H never cluster log (rules.obey_give_prepare g rule)
+  keeps_give_prepare g EntryTaken = go_then H never cluster log _ _ (go_write H never cluster log g.entry) (go_then H never cluster log _ _ (go_resend H never cluster log g.entry) (go_apply H never cluster log))
+  keeps_give_prepare g _ = go_quiet H never cluster log
 
-  keeps_give_read : (g : GetBlock) (o : Option (List ℕ)) → Keeps H never log (rules.give_read g o)
-  keeps_give_read g None = go_quiet H never log
-  keeps_give_read g (Some block) = go_says H never log _ (λ r. (tt, tt))
+  keeps_give_read : (g : GetBlock) (o : Option (List ℕ)) → Keeps H never cluster log (rules.give_read g o)
+  keeps_give_read g None = go_quiet H never cluster log
+  keeps_give_read g (Some block) = go_says H never cluster log _ (λ r. (tt, tt))
 
-  keeps_get_block : (g : GetBlock) (o : Option (List ℕ)) (rule : Rule) → Keeps H never log (rules.obey_get_block g o rule)
+  keeps_get_block : (g : GetBlock) (o : Option (List ℕ)) (rule : Rule) → Keeps H never cluster log (rules.obey_get_block g o rule)
   keeps_get_block g o BlockGiven = keeps_give_read g o
-  keeps_get_block g o _ = go_quiet H never log
+  keeps_get_block g o _ = go_quiet H never cluster log
 
-  keeps_next_view : Keeps H never log rules.next_view
-  keeps_next_view = go_by H never log _ (λ r. go_enter H never log _)
+  keeps_next_view : Keeps H never cluster log rules.next_view
+  keeps_next_view = go_by H never cluster log _ (λ r. go_enter H never cluster log _)
 
-  keeps_tick : (rule : Rule) → Keeps H never log (rules.obey_tick rule)
-  keeps_tick TickedPrimary = go_then H never log _ _ (go_all H never log _) (go_then H never log _ _ (go_by H never log _ (λ r. go_when H never log _ _ (go_again H never log _))) (go_ask H never log))
-  keeps_tick TickedBackup = go_then H never log _ _ (go_change H never log rules.idler (λ r. refl)) (go_by H never log _ (λ r. go_if H never log _ _ _ keeps_next_view (go_ask H never log)))
+  keeps_tick : (rule : Rule) → Keeps H never cluster log (rules.obey_tick rule)
+  keeps_tick TickedPrimary = go_then H never cluster log _ _ (go_all H never cluster log _) (go_then H never cluster log _ _ (go_by H never cluster log _ (λ r. go_when H never cluster log _ _ (go_again H never cluster log _))) (go_ask H never cluster log))
+  keeps_tick TickedBackup = go_then H never cluster log _ _ (go_change H never cluster log rules.idler (λ r. refl)) (go_by H never cluster log _ (λ r. go_if H never cluster log _ _ _ keeps_next_view (go_ask H never cluster log)))
   keeps_tick TickedChanging =
-      go_then H never log _ _ (go_change H never log rules.idler (λ r. refl)) (go_by H never log _ (λ r. go_if H never log _ _ _ keeps_next_view (go_then H never log _ _ (go_all H never log _) (go_then H never log _ _ (go_speak H never log) (go_ask H never log)))))
-  keeps_tick _ = go_quiet H never log
+      go_then H never cluster log _ _ (go_change H never cluster log rules.idler (λ r. refl)) (go_by H never cluster log _ (λ r. go_if H never cluster log _ _ _ keeps_next_view (go_then H never cluster log _ _ (go_all H never cluster log _) (go_then H never cluster log _ _ (go_speak H never cluster log) (go_ask H never cluster log)))))
+  keeps_tick _ = go_quiet H never cluster log
 
   -- ---- a missing block
 
-  put_found_at : (block : List ℕ) (o : Option Name) (r : Replica) (d : Lying) → ((name : Name) → o ≡ Some name → (is_some (named name block) ≡ true) × (r.missing ≢ [])) → (r.missing ≢ [] → r.applied ≡ r.checkpoint) → ReadsHashed H d.face → Stands H log (core r)
-      → WellAt H log (S H never log) (rules.put_found block o) r d
-  put_found_at block None r d found same reads h = (go_quiet H never log).every r d h
+  put_found_at : (block : List ℕ) (o : Option Name) (r : Replica) (d : Lying) → ((name : Name) → o ≡ Some name → (is_some (named name block) ≡ true) × (r.missing ≢ [])) → (r.missing ≢ [] → r.applied ≡ r.checkpoint) → ReadsHashed H d.face → Stands H cluster log (core r)
+      → WellAt H cluster log (S H never cluster log) (rules.put_found block o) r d
+  put_found_at block None r d found same reads h = (go_quiet H never cluster log).every r d h
   put_found_at block (Some name) r d found same reads h =
       let f = found name refl in
-      then_at H log (S H never log) (S H never log) (rules.put_block name block) apply r d (put_at H never log name block r d f.0 f.1 (same f.1) reads h) (λ p. (go_apply H never log).every _ _ p)
+      then_at H cluster log (S H never cluster log) (S H never cluster log) (rules.put_block name block) apply r d (put_at H never cluster log name block r d f.0 f.1 (same f.1) reads h) (λ p. (go_apply H never cluster log).every _ _ p)
 
-  give_block_at : (g : GiveBlock) (rule : Rule) (r : Replica) (d : Lying) → (r.missing ≢ [] → r.applied ≡ r.checkpoint) → ReadsHashed H d.face → Stands H log (core r) → WellAt H log (S H never log) (rules.obey_give_block lying.is_block g rule) r d
+  give_block_at : (g : GiveBlock) (rule : Rule) (r : Replica) (d : Lying) → (r.missing ≢ [] → r.applied ≡ r.checkpoint) → ReadsHashed H d.face → Stands H cluster log (core r) → WellAt H cluster log (S H never cluster log) (rules.obey_give_block lying.is_block g rule) r d
   unfolding by
   give_block_at g BlockTaken r d same reads h =
       put_found_at g.block (find (is_wanted lying.is_block g) r.missing) r d (λ name e.
       let f = found_wanted (is_wanted lying.is_block g) r.missing name e in
       ((and_parts (name.address == g.address) (lying.is_block name g.block) f.0).1, f.1)) same reads h
-  give_block_at g _ r d same reads h = (go_quiet H never log).every r d h
+  give_block_at g _ r d same reads h = (go_quiet H never cluster log).every r d h
 
   -- ---- all events
 
-  keeps_on_request : (q : RequestFields) → Keeps H never log (rules.on_request q)
+  keeps_on_request : (q : RequestFields) → Keeps H never cluster log (rules.on_request q)
   unfolding rules.on_request
-  keeps_on_request q = go_naming H never log _ (λ hash. go_by H never log _ (λ r. keeps_request hash q _))
+  keeps_on_request q = go_naming H never cluster log _ (λ hash. go_by H never cluster log _ (λ r. keeps_request hash q _))
 
-  keeps_on_prepare : (p : Prepare) → Keeps H never log (rules.on_prepare p)
+  keeps_on_prepare : (p : Prepare) → Keeps H never cluster log (rules.on_prepare p)
   unfolding rules.on_prepare
-  keeps_on_prepare p = go_naming H never log _ (λ hash. go_by H never log _ (λ r. keeps_prepare hash p _))
+  keeps_on_prepare p = go_naming H never cluster log _ (λ hash. go_by H never cluster log _ (λ r. keeps_prepare hash p _))
 
-  keeps_on_prepare_ok : (a : PrepareOk) → Keeps H never log (rules.on_prepare_ok a)
+  keeps_on_prepare_ok : (a : PrepareOk) → Keeps H never cluster log (rules.on_prepare_ok a)
   unfolding rules.on_prepare_ok
-  keeps_on_prepare_ok a = go_naming H never log _ (λ hash. go_by H never log _ (λ r. keeps_prepare_ok a _))
+  keeps_on_prepare_ok a = go_naming H never cluster log _ (λ hash. go_by H never cluster log _ (λ r. keeps_prepare_ok a _))
 
-  keeps_on_commit : (m : Commit) → Keeps H never log (rules.on_commit m)
+  keeps_on_commit : (m : Commit) → Keeps H never cluster log (rules.on_commit m)
   unfolding rules.on_commit
-  keeps_on_commit m = go_by H never log _ (λ r. keeps_commit m _)
+  keeps_on_commit m = go_by H never cluster log _ (λ r. keeps_commit m _)
 
-  keeps_on_start_view_change : (m : StartViewChange) → Keeps H never log (rules.on_start_view_change m)
+  keeps_on_start_view_change : (m : StartViewChange) → Keeps H never cluster log (rules.on_start_view_change m)
   unfolding rules.on_start_view_change
-  keeps_on_start_view_change m = go_by H never log _ (λ r. keeps_change m _)
+  keeps_on_start_view_change m = go_by H never cluster log _ (λ r. keeps_change m _)
 
-  keeps_on_do_view_change : (m : DoViewChange) → Keeps H never log (rules.on_do_view_change m)
+  keeps_on_do_view_change : (m : DoViewChange) → Keeps H never cluster log (rules.on_do_view_change m)
   unfolding rules.on_do_view_change
-  keeps_on_do_view_change m = go_by H never log _ (λ r. keeps_statement m _)
+  keeps_on_do_view_change m = go_by H never cluster log _ (λ r. keeps_statement m _)
 
-  keeps_on_start_view : (v : StartView) → Keeps H never log (rules.on_start_view v)
+  keeps_on_start_view : (v : StartView) → Keeps H never cluster log (rules.on_start_view v)
   unfolding rules.on_start_view
-  keeps_on_start_view v = go_naming H never log _ (λ hash. go_by H never log _ (λ r. keeps_view hash v _))
+  keeps_on_start_view v = go_naming H never cluster log _ (λ hash. go_by H never cluster log _ (λ r. keeps_view hash v _))
 
-  keeps_on_get_view : (g : GetView) → Keeps H never log (rules.on_get_view g)
+  keeps_on_get_view : (g : GetView) → Keeps H never cluster log (rules.on_get_view g)
   unfolding rules.on_get_view
-  keeps_on_get_view g = go_by H never log _ (λ r. keeps_get_view g _)
+  keeps_on_get_view g = go_by H never cluster log _ (λ r. keeps_get_view g _)
 
-  keeps_on_get_prepare : (g : GetPrepare) → Keeps H never log (rules.on_get_prepare g)
+  keeps_on_get_prepare : (g : GetPrepare) → Keeps H never cluster log (rules.on_get_prepare g)
   unfolding rules.on_get_prepare
-  keeps_on_get_prepare g = go_naming H never log _ (λ hash. go_by H never log _ (λ r. keeps_get_prepare g _))
+  keeps_on_get_prepare g = go_naming H never cluster log _ (λ hash. go_by H never cluster log _ (λ r. keeps_get_prepare g _))
 
-  keeps_on_give_prepare : (g : GivePrepare) → Keeps H never log (rules.on_give_prepare g)
+  keeps_on_give_prepare : (g : GivePrepare) → Keeps H never cluster log (rules.on_give_prepare g)
   unfolding rules.on_give_prepare
-  keeps_on_give_prepare g = go_by H never log _ (λ r. keeps_give_prepare g _)
+  keeps_on_give_prepare g = go_by H never cluster log _ (λ r. keeps_give_prepare g _)
 
-  keeps_on_get_block : (g : GetBlock) → Keeps H never log (rules.on_get_block g)
+  keeps_on_get_block : (g : GetBlock) → Keeps H never cluster log (rules.on_get_block g)
   unfolding rules.on_get_block
-  keeps_on_get_block g = go_reading H never log _ _ (λ o. go_by H never log _ (λ r. keeps_get_block g o _))
+  keeps_on_get_block g = go_reading H never cluster log _ _ (λ o. go_by H never cluster log _ (λ r. keeps_get_block g o _))
 
-  keeps_on_tick : Keeps H never log rules.on_tick
+  keeps_on_tick : Keeps H never cluster log rules.on_tick
   unfolding rules.on_tick
-  keeps_on_tick = go_by H never log _ (λ r. keeps_tick _)
+  keeps_on_tick = go_by H never cluster log _ (λ r. keeps_tick _)
 
-  module _ (r : Replica) (d : Lying) (same : r.missing ≢ [] → r.applied ≡ r.checkpoint) (reads : ReadsHashed H d.face) (h : Stands H log (core r)) where
-    of_word : (w : Word Lying) → Keeps H never log w → WellAt H log (S H never log) w r d
+  module _ (r : Replica) (d : Lying) (same : r.missing ≢ [] → r.applied ≡ r.checkpoint) (reads : ReadsHashed H d.face) (h : Stands H cluster log (core r)) where
+    of_word : (w : Word Lying) → Keeps H never cluster log w → WellAt H cluster log (S H never cluster log) w r d
     of_word w k = k.every r d h
 
-    on_give_block_at : (g : GiveBlock) → WellAt H log (S H never log) (rules.on_give_block g) r d
+    on_give_block_at : (g : GiveBlock) → WellAt H cluster log (S H never cluster log) (rules.on_give_block g) r d
     unfolding rules.on_give_block reading by
     on_give_block_at g = give_block_at g (first_of (give_block_table lying.is_block g r)) r d same reads h
 
-    message_at : (m : Frame) → WellAt H log (S H never log) (rules.on_message m) r d
+    message_at : (m : Frame) → WellAt H cluster log (S H never cluster log) (rules.on_message m) r d
     message_at (frame.Request q) = of_word (rules.on_request q) (keeps_on_request q)
-    message_at (frame.Reply a) = of_word quiet (go_quiet H never log)
+    message_at (frame.Reply a) = of_word quiet (go_quiet H never cluster log)
     message_at (frame.Prepare p) = of_word (rules.on_prepare p) (keeps_on_prepare p)
     message_at (frame.PrepareOk a) = of_word (rules.on_prepare_ok a) (keeps_on_prepare_ok a)
     message_at (frame.Commit m) = of_word (rules.on_commit m) (keeps_on_commit m)
@@ -252,12 +252,12 @@ module _ (H : List ℕ → Type 0) (never : NoCollision H) (log : List Whole) wh
     message_at (frame.GetBlock g) = of_word (rules.on_get_block g) (keeps_on_get_block g)
     message_at (frame.GiveBlock g) = on_give_block_at g
 
-    event_at : (e : Event) → WellAt H log (S H never log) (rules.on_event e) r d
+    event_at : (e : Event) → WellAt H cluster log (S H never cluster log) (rules.on_event e) r d
     event_at (event.Request q) = of_word (rules.on_request q) (keeps_on_request q)
     event_at (event.Deliver m) = message_at m
     event_at event.Tick = of_word rules.on_tick keeps_on_tick
 
     -- a step of a replica that isn't frozen
-    pub react_at : (e : Event) → is_frozen r ≡ false → WellAt H log (S H never log) (rules.react e) r d
+    pub react_at : (e : Event) → is_frozen r ≡ false → WellAt H cluster log (S H never cluster log) (rules.react e) r d
     unfolding rules.react by
-    react_at e free = subst (λ b. WellAt H log (S H never log) (when (not b) (rules.on_event e)) r d) (sym free) (event_at e)
+    react_at e free = subst (λ b. WellAt H cluster log (S H never cluster log) (when (not b) (rules.on_event e)) r d) (sym free) (event_at e)

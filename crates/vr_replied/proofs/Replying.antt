@@ -72,7 +72,7 @@ module _ (cluster n : ℕ) (u : Setup) (run : List Played) (x : IsFollowed clust
       let script : p.moved.script ≡ PutBlock name g.block ∷ first.0 = step_script p.before p.move p.moved moves at arrival e d m r step runs ∙ (ap (λ (z : Event). (stepped z r d).script) same ∙ first.1) in
       let begun = begun_in cluster n u run x bridges never log is_log t p is (PutBlock name g.block) (subst (In (PutBlock name g.block)) (sym script) (inl refl)) in
       let stands = (stand_at cluster n u run x bridges never log is_log t p is at m runs.member).stands r runs.running free in
-      (puts_state (λ bytes. IsHashed run (root_header cluster) bytes) never log name g.block r d whole w.1 (own.0.sound.waits w.1) (reads_in cluster n u run x bridges never log is_log t p is d face) stands begun).state
+      (puts_state (λ bytes. IsHashed run (root_header cluster) bytes) never cluster log name g.block r d whole w.1 (own.0.sound.waits w.1) (reads_in cluster n u run x bridges never log is_log t p is d face) stands begun).state
 
   run_loads : (t at : ℕ) (p : Played) (v : SuperValue) (d : Lying) → slice_get run t ≡ Some p → p.move ≡ Recovers at v d → HasState log (has_loaded v d).replica
   run_loads t at p v d is step =
@@ -81,7 +81,7 @@ module _ (cluster n : ℕ) (u : Setup) (run : List Played) (x : IsFollowed clust
       let fit : ReadsWell lying d = subst IsFitMove step (fit_at cluster n run x.fit t p is).1 in
       let o = recovers_so p.before p.move p.moved moves at v d step in
       let stands = stand_at cluster n u run x bridges never log is_log t p is at o.0 o.1.member in
-      (loads_value (λ bytes. IsHashed run (root_header cluster) bytes) never log (recovered v d) (on_disk v d) (found_waits cluster n u run x bridges never log is_log t p is at o.0 v d o.1 face fit stands)).state
+      (loads_value (λ bytes. IsHashed run (root_header cluster) bytes) never cluster log (recovered v d) (on_disk v d) (found_waits cluster n u run x bridges never log is_log t p is at o.0 v d o.1 face fit stands)).state
 
 pub runs_reply : RunsReply
 runs_reply cluster n u run x bridges = record {

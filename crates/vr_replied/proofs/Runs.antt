@@ -18,7 +18,7 @@ use Rattle.vr_super.specs.Copies.{SuperValue}
 use Rattle.vr_rules.specs.Commitment.{is_line_of}
 use Rattle.vr_rules.specs.Fit.{IsFit, ReadsWell}
 use Rattle.vr_rules.specs.Group as group
-use Rattle.vr_rules.specs.Group.{Arrival, Group, IsArrival, Member, Move, Moved, Moves, Opens, Played, Run, Runs, carried_out, cut_after, cut_in_two, ended, found, fresh_group, fresh_member, goes, keeps_all, mended, once_mended, opening_script, recovered, resumed, stepped}
+use Rattle.vr_rules.specs.Group.{Arrival, Group, IsArrival, Member, Move, Moved, Moves, Opens, Played, Run, Runs, carried_out, cut_after, cut_in_two, ended, found, fresh_group, fresh_member, goes, keeps_all, mended, once_mended, recovered, resumed, stepped}
 use Rattle.vr_rules.specs.GroupFit.{IsFitArrival, IsFitGroup, IsFitReplica, IsFitValue}
 use Rattle.vr_rules.specs.Laws.{IsEvent}
 use Rattle.vr_rules.specs.Lying.{Lying, lying}
@@ -46,7 +46,7 @@ use Rattle.vr_agree.specs.Answering.{one_if}
 use Rattle.vr_agree.specs.Followed.{IsFollowed}
 use Rattle.vr_agree.specs.Ordered.{AreInOrder}
 use Rattle.vr_agree.specs.Replied.{IsLogOf}
-use Rattle.vr_agree.proofs.Fitting.{arrives, fit_at, good_value, opening_fit}
+use Rattle.vr_agree.proofs.Fitting.{arrives, fit_at, good_value, move_of, opening_fit}
 use Rattle.vr_agree.proofs.Ordering.{come_in_order}
 use Rattle.vr_agree.proofs.Reading.{opening_reads, reads_good}
 use Rattle.vr_agree.proofs.Resuming.{on_disk, resumed_order, said_right}
@@ -59,7 +59,7 @@ use Rattle.vr_replied.proofs.Lines.{lines_may}
 use Rattle.vr_replied.proofs.Members.{Values, bears_front, borne_all, carried_values, cut_values, every_front, kept_values}
 use Rattle.vr_replied.proofs.Opening.{L, all_calm, live_at, mending_at, mending_calm, spent_at}
 use Rattle.vr_replied.proofs.Reacting.{react_at}
-use Rattle.vr_replied.proofs.Values.{IsRooted, Rests, Stands, core}
+use Rattle.vr_replied.proofs.Values.{IsRooted, Rests, Stands, core, first_table}
 use Rattle.vr_replied.proofs.Walk.{AllMay, Bears, IsBorne, WellAt}
 use Rattle.vr_replied.proofs.Words.{S}
 
@@ -97,6 +97,19 @@ spent_is : (v : SuperValue) (d : Lying) → is_spent (recovered v d) ≡ true �
 unfolding by says
 spent_is v d z = rw z refl
 
+every_none : {X : Type 0} (P : X → Type 0) (xs ys : List X) → xs ++ ys ≡ [] → Every P xs
+every_none P [] ys e = tt
+every_none P (x ∷ xs) ys e = absurd cc
+
+every_both : {X : Type 0} (P : X → Type 0) (xs ys : List X) → Every P xs → Every P ys → Every P (xs ++ ys)
+every_both P [] ys h k = k
+every_both P (x ∷ xs) ys h k = (h.0, every_both P xs ys h.1 k)
+
+every_first : {X : Type 0} (P : X → Type 0) (k : ℕ) (xs ys : List X) → k ≤ length xs → Every P xs → Every P (take k (xs ++ ys))
+every_first P zero xs ys l h = tt
+every_first P (suc k) [] ys l h = absurd (omega arith)
+every_first P (suc k) (x ∷ xs) ys l h = (h.0, every_first P k xs ys (omega arith) h.1)
+
 -- ---- a run
 
 module _ (cluster n : ℕ) (u : Setup) (run : List Played) (x : IsFollowed cluster n u run) (bridges : (t : ℕ) (p : Played) → slice_get run t ≡ Some p → Bridges u p.before (x.group t))
@@ -106,21 +119,21 @@ module _ (cluster n : ℕ) (u : Setup) (run : List Played) (x : IsFollowed clust
 
   -- the checkpoints of both its values, and where it runs its own, are the log's; and so is its state, where it isn't frozen
   pub record MemberStands (m : Member) : Type 0 where
-    pub values : Values H log m
-    pub rests : (r : Replica) → m.replica ≡ Some r → Rests H log (core r)
-    pub stands : (r : Replica) → m.replica ≡ Some r → is_frozen r ≡ false → Stands H log (core r)
+    pub values : Values H cluster log m
+    pub rests : (r : Replica) → m.replica ≡ Some r → Rests H cluster log (core r)
+    pub stands : (r : Replica) → m.replica ≡ Some r → is_frozen r ≡ false → Stands H cluster log (core r)
 
   abbrev pub AllStand : Group → Type 0
   AllStand g = (at : ℕ) (m : Member) → slice_get g.members at ≡ Some m → MemberStands m
 
-  stopped_stands : (m : Member) → Values H log m → MemberStands (record m { replica = None })
+  stopped_stands : (m : Member) → Values H cluster log m → MemberStands (record m { replica = None })
   stopped_stands m h = record { values = record { last = h.last; under = h.under }; rests = λ r e. absurd cc; stands = λ r e f. absurd cc }
 
-  running_stands : (m : Member) (q : Replica) → Values H log m → Rests H log (core q) → (is_frozen q ≡ false → Stands H log (core q)) → MemberStands (record m { replica = Some q })
+  running_stands : (m : Member) (q : Replica) → Values H cluster log m → Rests H cluster log (core q) → (is_frozen q ≡ false → Stands H cluster log (core q)) → MemberStands (record m { replica = Some q })
   running_stands m q h rests stands = record {
     values = record { last = h.last; under = h.under };
-    rests = λ r e. let same : q ≡ r = cc in subst (λ r. Rests H log (core r)) same rests;
-    stands = λ r e. let same : q ≡ r = cc in subst (λ r. is_frozen r ≡ false → Stands H log (core r)) same stands;
+    rests = λ r e. let same : q ≡ r = cc in subst (λ r. Rests H cluster log (core r)) same rests;
+    stands = λ r e. let same : q ≡ r = cc in subst (λ r. is_frozen r ≡ false → Stands H cluster log (core r)) same stands;
   }
 
   set_stands : (g : Group) (at : ℕ) (m : Member) (members : List Member) → members ≡ slice_set g.members at m → AllStand g → MemberStands m → (j : ℕ) (y : Member) → slice_get members j ≡ Some y → MemberStands y
@@ -174,7 +187,7 @@ module _ (cluster n : ℕ) (u : Setup) (run : List Played) (x : IsFollowed clust
           let all : Every (IsTrue u y.begun.sent y.finishes.after.sent) (outputs es) = subst (Every (IsTrue u y.begun.sent y.finishes.after.sent)) (leaves es (local m)).said y.finishes.ends.told in
           subst (λ s. IsBackedLine u s c.entry.header) before (every_in (IsTrue u y.begun.sent y.finishes.after.sent) (outputs es) (output.Commit c) j all)
 
-      step_may : (xs ys : List Effect) → xs ++ ys ≡ es → ((z : Effect) → In z xs → In z p.moved.script) → AllMay H log r.index r.applied d xs
+      step_may : (xs ys : List Effect) → xs ++ ys ≡ es → ((z : Effect) → In z xs → In z p.moved.script) → AllMay H cluster log r.index r.applied d xs
       step_may xs ys are has =
           let said : outputs es ≡ outputs xs ++ outputs ys = ap outputs (sym are) ∙ outputs_append xs ys in
           let order = (come_in_order lying r d e disks_fit.names own.0.sound event).ordered in
@@ -183,8 +196,26 @@ module _ (cluster n : ℕ) (u : Setup) (run : List Played) (x : IsFollowed clust
           (step_told c i, reads_good lying d r e disks_fit.lies disks_fit.roots fit.1 own.0.sound own.0.savable own.0.missing event c i))
           (λ z i. begun_in z (has z i)) (entries_in d face)
 
-      step_well : is_frozen r ≡ false → Stands H log (core r) → WellAt H log (S H never log) (react e) r d
-      step_well free h = react_at H never log r d own.0.sound.waits (reads_in d face) h e free
+      step_well : is_frozen r ≡ false → Stands H cluster log (core r) → WellAt H cluster log (S H never cluster log) (react e) r d
+      step_well free h = react_at H never cluster log r d own.0.sound.waits (reads_in d face) h e free
+
+      -- what it writes, or what a cut leaves of it
+      step_borne : MemberStands m → (xs ys : List Effect) → xs ++ ys ≡ es → ((z : Effect) → In z xs → In z p.moved.script) → Every (IsBorne H cluster log) xs
+      step_borne h xs ys are has =
+          let go : (b : Bool) → is_frozen r ≡ b → Every (IsBorne H cluster log) xs = elim [
+            | false ↦ λ z.
+                let w = step_well z (h.stands r runs.running z) in
+                let bears = bears_front H cluster log r.index r.applied d xs ys (subst (Bears H cluster log r.index r.applied d) (sym are) w.bears) in
+                borne_all H cluster log r.index r.applied d xs bears (step_may xs ys are has)
+            | true ↦ λ z. every_none (IsBorne H cluster log) xs ys (are ∙ ap (λ (s : Step). s.script) (frozen_is e r d z))
+          ] in
+          go (is_frozen r) refl
+
+      pub front_borne : MemberStands m → (k : ℕ) → ((z : Effect) → In z (take k es) → In z p.moved.script) → Every (IsBorne H cluster log) (take k es)
+      front_borne h k has = step_borne h (take k es) (drop k es) (take-append-drop k es) has
+
+      pub all_borne : MemberStands m → ((z : Effect) → In z es → In z p.moved.script) → Every (IsBorne H cluster log) es
+      all_borne h has = step_borne h es [] (append-nil es) has
 
       pub step_stands : MemberStands m → ((z : Effect) → In z es → In z p.moved.script) → MemberStands (record (carried_out es m) { replica = Some (stepped e r d).replica })
       unfolding carried_out
@@ -194,7 +225,7 @@ module _ (cluster n : ℕ) (u : Setup) (run : List Played) (x : IsFollowed clust
                 let w = step_well z (h.stands r runs.running z) in
                 let all = step_may es [] (append-nil es) has in
                 let l = w.left all in
-                running_stands (carried_out es m) (stepped e r d).replica (carried_values H log es m (borne_all H log r.index r.applied d es w.bears all) h.values) l.holds.rests (λ f. l.holds)
+                running_stands (carried_out es m) (stepped e r d).replica (carried_values H cluster log es m (all_borne h has) h.values) l.holds.rests (λ f. l.holds)
             | true ↦ λ z.
                 let same = frozen_is e r d z in
                 subst (λ (s : Step). MemberStands (record (carried_out s.script m) { replica = Some s.replica })) (sym same)
@@ -202,19 +233,8 @@ module _ (cluster n : ℕ) (u : Setup) (run : List Played) (x : IsFollowed clust
           ] in
           go (is_frozen r) refl
 
-      pub step_cut : MemberStands m → (k : ℕ) → ((z : Effect) → In z (take (suc k) es) → In z p.moved.script) → Values H log (cut_after k es m)
-      step_cut h k has =
-          let go : (b : Bool) → is_frozen r ≡ b → Values H log (cut_after k es m) = elim [
-            | false ↦ λ z.
-                let xs : List Effect = take (suc k) es in
-                let ys : List Effect = drop (suc k) es in
-                let are : xs ++ ys ≡ es = take-append-drop (suc k) es in
-                let w = step_well z (h.stands r runs.running z) in
-                let bears = bears_front H log r.index r.applied d xs ys (subst (Bears H log r.index r.applied d) (sym are) w.bears) in
-                cut_values H log k es m (borne_all H log r.index r.applied d xs bears (step_may xs ys are has)) h.values
-            | true ↦ λ z. subst (λ (s : Step). Values H log (cut_after k s.script m)) (sym (frozen_is e r d z)) (cut_values H log k [] m tt h.values)
-          ] in
-          go (is_frozen r) refl
+      pub step_cut : MemberStands m → (k : ℕ) → ((z : Effect) → In z (take (suc k) es) → In z p.moved.script) → Values H cluster log (cut_after k es m)
+      step_cut h k has = cut_values H cluster log k es m (front_borne h (suc k) has) h.values
 
     -- ---- an opening
 
@@ -228,20 +248,20 @@ module _ (cluster n : ℕ) (u : Setup) (run : List Played) (x : IsFollowed clust
       value : IsFitValue cluster p.before.n at v
       value = good_value cluster p.before.n at m v (fit_group.members at m wakes.member) wakes.value
 
-      pub value_rooted : IsRooted H log v
-      value_rooted = elim wakes.value [ inl e ↦ subst (IsRooted H log) e h.values.last | inr e ↦ h.values.under v e ]
+      pub value_rooted : IsRooted H cluster log v
+      value_rooted = elim wakes.value [ inl e ↦ subst (IsRooted H cluster log) e h.values.last | inr e ↦ h.values.under v e ]
 
-      mends : WellAt H log (L H never log) (mending v) (blank v) d
-      mends = mending_at H never log v d value_rooted (reads_in d face)
+      mends : WellAt H cluster log (L H never cluster log) (mending v) (blank v) d
+      mends = mending_at H never cluster log v d value.1.cluster value_rooted (reads_in d face)
 
-      mends_may : AllMay H log (blank v).index (blank v).applied d xs
-      mends_may = all_calm H never log (blank v).index (blank v).applied d xs (mending_calm v d)
+      mends_may : AllMay H cluster log (blank v).index (blank v).applied d xs
+      mends_may = all_calm H never cluster log (blank v).index (blank v).applied d xs (mending_calm v d)
 
-      pub found_waits : L H never log (core (recovered v d)) (on_disk v d)
+      pub found_waits : L H never cluster log (core (recovered v d)) (on_disk v d)
       found_waits = (mends.left mends_may).holds
 
-      mends_borne : Every (IsBorne H log) xs
-      mends_borne = borne_all H log (blank v).index (blank v).applied d xs mends.bears mends_may
+      mends_borne : Every (IsBorne H cluster log) xs
+      mends_borne = borne_all H cluster log (blank v).index (blank v).applied d xs mends.bears mends_may
 
       script_fits : All IsFit (xs ++ ys)
       script_fits = opening_fit cluster p.before.n at v d value fit
@@ -253,7 +273,7 @@ module _ (cluster n : ℕ) (u : Setup) (run : List Played) (x : IsFollowed clust
           let all : Every (IsTrue u (x.group t).sent y.finishes.after.sent) (k.said ++ outputs ys) = subst (Every (IsTrue u (x.group t).sent y.finishes.after.sent)) (leaves ys k).said y.finishes.ends.told in
           every_in (IsTrue u (x.group t).sent y.finishes.after.sent) (k.said ++ outputs ys) (output.Commit c) (in_right k.said (outputs ys) (output.Commit c) j) all
 
-      rest_may : ((z : Effect) → In z xs → In z p.moved.script) → (fs gs : List Effect) → fs ++ gs ≡ ys → ((z : Effect) → In z fs → In z p.moved.script) → AllMay H log (recovered v d).index (recovered v d).applied (on_disk v d) fs
+      rest_may : ((z : Effect) → In z xs → In z p.moved.script) → (fs gs : List Effect) → fs ++ gs ≡ ys → ((z : Effect) → In z fs → In z p.moved.script) → AllMay H cluster log (recovered v d).index (recovered v d).applied (on_disk v d) fs
       rest_may first fs gs are has =
           let q : Replica = recovered v d in
           let said : outputs ys ≡ outputs fs ++ outputs gs = ap outputs (sym are) ∙ outputs_append fs gs in
@@ -268,12 +288,12 @@ module _ (cluster n : ℕ) (u : Setup) (run : List Played) (x : IsFollowed clust
             | inr w ↦ begun_in (Write w.0 e) (first (Write w.0 e) w.1) _ (safe.IsWritten.operation w.0 e)
           ])
 
-      rest_bears : Bears H log (recovered v d).index (recovered v d).applied (on_disk v d) ys
+      rest_bears : Bears H cluster log (recovered v d).index (recovered v d).applied (on_disk v d) ys
       rest_bears =
           let q : Replica = recovered v d in
-          let go : (b : Bool) → is_spent q ≡ b → Bears H log q.index q.applied (on_disk v d) ys = elim [
-            | true ↦ λ z. (spent_at H never log q (on_disk v d) z found_waits).bears
-            | false ↦ λ z. (live_at H never log q (on_disk v d) z found_waits).bears
+          let go : (b : Bool) → is_spent q ≡ b → Bears H cluster log q.index q.applied (on_disk v d) ys = elim [
+            | true ↦ λ z. (spent_at H never cluster log q (on_disk v d) z found_waits).bears
+            | false ↦ λ z. (live_at H never cluster log q (on_disk v d) z found_waits).bears
           ] in
           go (is_spent q) refl
 
@@ -281,36 +301,53 @@ module _ (cluster n : ℕ) (u : Setup) (run : List Played) (x : IsFollowed clust
       opened_stands has =
           let q : Replica = recovered v d in
           let all = rest_may (λ z i. has z (in_left xs ys z i)) ys [] (append-nil ys) (λ z i. has z (in_right xs ys z i)) in
-          let borne = borne_all H log q.index q.applied (on_disk v d) ys rest_bears all in
-          let values = carried_values H log ys (once_mended v d m) borne (kept_values H log (found v d) (carried_out xs m) (carried_values H log xs m mends_borne h.values)) in
+          let borne = borne_all H cluster log q.index q.applied (on_disk v d) ys rest_bears all in
+          let values = carried_values H cluster log ys (once_mended v d m) borne (kept_values H cluster log (found v d) (carried_out xs m) (carried_values H cluster log xs m mends_borne h.values)) in
           let go : (b : Bool) → is_spent q ≡ b → MemberStands (record (carried_out ys (once_mended v d m)) { replica = Some (resumed v d).replica }) = elim [
             | true ↦ λ z.
-                let l = (spent_at H never log q (on_disk v d) z found_waits).left all in
+                let l = (spent_at H never cluster log q (on_disk v d) z found_waits).left all in
                 let frozen : is_frozen (resumed v d).replica ≡ true = ap is_frozen (spent_is v d z) ∙ or_right (nat_lt last_view q.view) (is_spent q) z in
                 running_stands (carried_out ys (once_mended v d m)) (resumed v d).replica values l.holds.rests (λ f. absurd (true≢false (sym frozen ∙ f)))
             | false ↦ λ z.
-                let l = (live_at H never log q (on_disk v d) z found_waits).left all in
+                let l = (live_at H never cluster log q (on_disk v d) z found_waits).left all in
                 running_stands (carried_out ys (once_mended v d m)) (resumed v d).replica values l.holds.rests (λ f. l.holds)
           ] in
           go (is_spent q) refl
 
-      pub opened_cut : (k : ℕ) → ((z : Effect) → In z (take (k + 1) (xs ++ ys)) → In z p.moved.script) → Values H log (cut_in_two xs ys (keeps_all (found v d)) k m)
+      rest_borne : (k : ℕ) → ((z : Effect) → In z (xs ++ take k ys) → In z p.moved.script) → Every (IsBorne H cluster log) (take k ys)
+      rest_borne k has =
+          let q : Replica = recovered v d in
+          let fs : List Effect = take k ys in
+          let gs : List Effect = drop k ys in
+          let are : fs ++ gs ≡ ys = take-append-drop k ys in
+          let all = rest_may (λ z i. has z (in_left xs fs z i)) fs gs are (λ z i. has z (in_right xs fs z i)) in
+          borne_all H cluster log q.index q.applied (on_disk v d) fs (bears_front H cluster log q.index q.applied (on_disk v d) fs gs (subst (Bears H cluster log q.index q.applied (on_disk v d)) (sym are) rest_bears)) all
+
+      parts : (k : ℕ) → length xs ≤ k → take (k + 1) (xs ++ ys) ≡ xs ++ take (suc (k - length xs)) ys
+      parts k past = let place : k + 1 ≡ length xs + suc (k - length xs) = omega arith in ap (λ (n : ℕ). take n (xs ++ ys)) place ∙ take-append-add xs ys (suc (k - length xs))
+
+      past_borne : (k : ℕ) → length xs ≤ k → ((z : Effect) → In z (take (k + 1) (xs ++ ys)) → In z p.moved.script) → Every (IsBorne H cluster log) (take (suc (k - length xs)) ys)
+      past_borne k past has = rest_borne (suc (k - length xs)) (λ z i. has z (subst (λ (zs : List Effect). In z zs) (sym (parts k past)) i))
+
+      pub opened_cut : (k : ℕ) → ((z : Effect) → In z (take (k + 1) (xs ++ ys)) → In z p.moved.script) → Values H cluster log (cut_in_two xs ys (keeps_all (found v d)) k m)
       opened_cut k has =
           elim (cases_lt k (length xs)) [
-            | inl first ↦ rw (lt-ltb k (length xs) first) (cut_values H log k xs m (every_front (IsBorne H log) (suc k) xs mends_borne) h.values)
-            | inr past ↦
-                let q : Replica = recovered v d in
-                let j : ℕ = k - length xs in
-                let place : k + 1 ≡ length xs + suc j = omega arith in
-                let parts : take (k + 1) (xs ++ ys) ≡ xs ++ take (suc j) ys = ap (λ (n : ℕ). take n (xs ++ ys)) place ∙ take-append-add xs ys (suc j) in
-                let in_all : (z : Effect) → In z (xs ++ take (suc j) ys) → In z p.moved.script = λ z i. has z (subst (λ (zs : List Effect). In z zs) (sym parts) i) in
-                let fs : List Effect = take (suc j) ys in
-                let gs : List Effect = drop (suc j) ys in
-                let are : fs ++ gs ≡ ys = take-append-drop (suc j) ys in
-                let all = rest_may (λ z i. in_all z (in_left xs fs z i)) fs gs are (λ z i. in_all z (in_right xs fs z i)) in
-                let bears = bears_front H log q.index q.applied (on_disk v d) fs gs (subst (Bears H log q.index q.applied (on_disk v d)) (sym are) rest_bears) in
-                rw (le-ltb k (length xs) past)
-                (cut_values H log j ys (once_mended v d m) (borne_all H log q.index q.applied (on_disk v d) fs bears all) (kept_values H log (found v d) (carried_out xs m) (carried_values H log xs m mends_borne h.values)))
+            | inl first ↦ rw (lt-ltb k (length xs) first) (cut_values H cluster log k xs m (every_front (IsBorne H cluster log) (suc k) xs mends_borne) h.values)
+            | inr past ↦ rw (le-ltb k (length xs) past)
+                (cut_values H cluster log (k - length xs) ys (once_mended v d m) (past_borne k past has) (kept_values H cluster log (found v d) (carried_out xs m) (carried_values H cluster log xs m mends_borne h.values)))
+          ]
+
+      pub opened_borne : ((z : Effect) → In z (xs ++ ys) → In z p.moved.script) → Every (IsBorne H cluster log) (xs ++ ys)
+      opened_borne has =
+          let q : Replica = recovered v d in
+          let all = rest_may (λ z i. has z (in_left xs ys z i)) ys [] (append-nil ys) (λ z i. has z (in_right xs ys z i)) in
+          every_both (IsBorne H cluster log) xs ys mends_borne (borne_all H cluster log q.index q.applied (on_disk v d) ys rest_bears all)
+
+      pub cut_borne : (k : ℕ) → ((z : Effect) → In z (take (k + 1) (xs ++ ys)) → In z p.moved.script) → Every (IsBorne H cluster log) (take (k + 1) (xs ++ ys))
+      cut_borne k has =
+          elim (cases_lt k (length xs)) [
+            | inl first ↦ every_first (IsBorne H cluster log) (k + 1) xs ys (omega arith) mends_borne
+            | inr past ↦ subst (Every (IsBorne H cluster log)) (sym (parts k past)) (every_both (IsBorne H cluster log) xs (take (suc (k - length xs)) ys) mends_borne (past_borne k past has))
           ]
 
   -- ---- moves
@@ -337,18 +374,34 @@ module _ (cluster n : ℕ) (u : Setup) (run : List Played) (x : IsFollowed clust
       set_stands g at (record (cut_in_two (mended v d).script (resumed v d).script (keeps_all (found v d)) k m) { replica = None }) _ refl all
       (stopped_stands (cut_in_two (mended v d).script (resumed v d).script (keeps_all (found v d)) k m) (opened_cut t p is at m v d wakes (0, omega arith, refl) fit (all at m wakes.member) k (λ z i. i)))
 
+  -- what a move writes, as far as it got
+  moved_borne : (t : ℕ) (g : Group) (move : Move) (moved : Moved) → slice_get run t ≡ Some (record { before = g; move = move; moved = moved }) → Moves g move moved → AllStand g → Every (IsBorne H cluster log) moved.script
+  moved_borne t g _ _ is (group.steps at arrival e d m r runs came) all =
+      let p : Played = record { before = g; move = group.Steps at arrival e d; moved = group.finished g at m (stepped e r d) } in
+      all_borne t p is at arrival e d m r runs came (0, omega arith, refl) (fit_at cluster n run x.fit t p is).1 (all at m runs.member) (λ z i. i)
+  moved_borne t g _ _ is (group.cuts at arrival e d k m r runs came) all =
+      let p : Played = record { before = g; move = group.Cuts at arrival e d k; moved = group.cut_short g at m (stepped e r d) k } in
+      front_borne t p is at arrival e d m r runs came (0, omega arith, refl) (fit_at cluster n run x.fit t p is).1 (all at m runs.member) (k + 1) (λ z i. i)
+  moved_borne t g _ _ is (group.crashes at m there) all = tt
+  moved_borne t g _ _ is (group.recovers at v d m wakes) all =
+      let p : Played = record { before = g; move = group.Recovers at v d; moved = group.started g at m v d } in
+      opened_borne t p is at m v d wakes (0, omega arith, refl) (fit_at cluster n run x.fit t p is).1 (all at m wakes.member) (λ z i. i)
+  moved_borne t g _ _ is (group.recovers_cut at v d k m wakes) all =
+      let p : Played = record { before = g; move = group.RecoversCut at v d k; moved = group.start_cut g at m v d k } in
+      cut_borne t p is at m v d wakes (0, omega arith, refl) (fit_at cluster n run x.fit t p is).1 (all at m wakes.member) k (λ z i. i)
+
   -- ---- the run
 
-  fresh_rests : (i : ℕ) → Rests H log (core (fresh cluster n i))
+  fresh_rests : (i : ℕ) → Rests H cluster log (core (fresh cluster n i))
   unfolding blank
-  fresh_rests i = record { settled = λ k l. absurd (omega (arith, l)); root = λ above. absurd (omega (arith, above)); table = record { sessions = tt; keys = tt }; waits = λ some. absurd (some refl) }
+  fresh_rests i = record { own = refl; settled = λ k l. absurd (omega (arith, l)); root = λ above. absurd (omega (arith, above)); table = record { sessions = tt; keys = tt }; waits = λ some. absurd (some refl) }
 
   first_stands : (i : ℕ) → MemberStands (fresh_member cluster n i)
   unfolding blank
   first_stands i = record {
     values = record { last = λ above. absurd (omega (arith, above)); under = λ v e. absurd cc };
-    rests = λ r e. let same : fresh cluster n i ≡ r = cc in subst (λ r. Rests H log (core r)) same (fresh_rests i);
-    stands = λ r e. let same : fresh cluster n i ≡ r = cc in subst (λ r. is_frozen r ≡ false → Stands H log (core r)) same (λ f. record { rests = fresh_rests i; state = λ none. refl });
+    rests = λ r e. let same : fresh cluster n i ≡ r = cc in subst (λ r. Rests H cluster log (core r)) same (fresh_rests i);
+    stands = λ r e. let same : fresh cluster n i ≡ r = cc in subst (λ r. is_frozen r ≡ false → Stands H cluster log (core r)) same (λ f. record { rests = fresh_rests i; state = λ none. refl; table = λ none. sym (first_table cluster log) });
   }
 
   fresh_stand : AllStand (fresh_group cluster n)
@@ -366,3 +419,6 @@ module _ (cluster n : ℕ) (u : Setup) (run : List Played) (x : IsFollowed clust
   -- before each move
   pub stand_at : (t : ℕ) (p : Played) → slice_get run t ≡ Some p → AllStand p.before
   stand_at t p e = all_stand 0 (fresh_group cluster n) run x.fit.of_run (λ k q i. subst (λ z. slice_get run z ≡ Some q) (let z : k ≡ 0 + k = omega arith in z) i) fresh_stand t p e
+
+  pub borne_at : (t : ℕ) (p : Played) → slice_get run t ≡ Some p → Every (IsBorne H cluster log) p.moved.script
+  borne_at t p e = moved_borne t p.before p.move p.moved e (move_of (fresh_group cluster n) run x.fit.of_run t p e) (stand_at t p e)

@@ -1,5 +1,5 @@
 -- What a checkpoint's root stands for in a run, and what a replica has of it: the state of the log's first entries.
-use Rattle.std.proofs.Common.{ℕ, zero, suc, ◌+◌, ◌^◌, ◌<◌, ◌≡◌, ◌≢◌, ◌∙◌, arith, refl, sym, ap, subst, List, [], take, Some}
+use Rattle.std.proofs.Common.{ℕ, zero, suc, ◌+◌, ◌^◌, ◌-◌, ◌<◌, ◌≡◌, ◌≢◌, ◌∙◌, arith, refl, sym, ap, subst, cond, true, false, List, [], take, Some}
 use Rattle.std.specs.Prelude.{slice_get, Result, Ok, Err}
 use Rattle.vr_header.specs.Made.{Whole}
 use Rattle.vr_header.specs.NoCollision.{NoCollision}
@@ -17,13 +17,14 @@ use Rattle.vr_super.specs.Copies.{SuperValue}
 use Rattle.vr_grid.specs.Blocks.{block_name}
 use Rattle.vr_grid.specs.declared.name.Name.{Name}
 use Rattle.vr_ckpt.specs.Loads.{loaded}
+use Rattle.vr_ckpt.specs.Places as places
 use Rattle.vr_ckpt.specs.Saves.{root_of, table_of}
 use Rattle.vr_ckpt.specs.declared.found.Load.{Load}
 use Rattle.vr_ckpt.specs.declared.found.Load.TheVariants.{Loaded, Missing}
 use Rattle.vr_ckpt.specs.declared.table.PayloadTable.{PayloadTable}
 use Rattle.vr_rules.specs.Lying.{Lying, lying}
 use Rattle.vr_rules.specs.Replica.{Replica}
-use Rattle.vr_rules.specs.Words.{loaded_state, loads, with_state}
+use Rattle.vr_rules.specs.Words.{is_checkpoint, loaded_state, loads, with_state}
 use Rattle.vr_rules.proofs.FitDisks.{disks_fit}
 use Rattle.vr_worlds.proofs.States.{IsState, state_empty, state_kept, text_of_state}
 use Rattle.vr_replied.specs.Hashed.{IsTable, IsWrittenOut, ReadsHashed}
@@ -64,27 +65,67 @@ small log (suc m) h =
     let n = e.number in
     omega arith
 
+-- ---- the tables of a log's checkpoints
+
+-- the table that the checkpoints of the log's first m entries leave
+unfoldable pub table_at : ℕ → List Whole → ℕ → PayloadTable
+table_at cluster log zero = places.empty
+table_at cluster log (suc m) = cond (is_checkpoint (suc m)) (table_of cluster (texts_of (state_at log (suc m))) (suc m) (table_at cluster log m)) (table_at cluster log m)
+
+-- before the last of them
+abbrev pub table_before : ℕ → List Whole → ℕ → PayloadTable
+table_before cluster log c = table_at cluster log (c - 1)
+
+abbrev pub table_made : ℕ → List Whole → ℕ → PayloadTable
+table_made cluster log c = table_of cluster (texts_of (state_at log c)) c (table_before cluster log c)
+
+pub made_table : (cluster : ℕ) (log : List Whole) (c : ℕ) → 0 < c → is_checkpoint c ≡ true → table_made cluster log c ≡ table_at cluster log c
+unfolding table_at
+made_table cluster log zero l t = absurd (omega arith)
+made_table cluster log (suc m) l t =
+    let place : suc m - 1 ≡ m = omega arith in
+    let T : ℕ → PayloadTable = λ j. table_of cluster (texts_of (state_at log (suc m))) (suc m) (table_at cluster log j) in
+    ap T place ∙ sym (ap (λ b. cond b (T m) (table_at cluster log m)) t)
+
+pub same_table : (cluster : ℕ) (log : List Whole) (c : ℕ) → 0 < c → is_checkpoint c ≡ false → table_before cluster log c ≡ table_at cluster log c
+unfolding table_at
+same_table cluster log zero l t = absurd (omega arith)
+same_table cluster log (suc m) l t =
+    let place : suc m - 1 ≡ m = omega arith in
+    let T : PayloadTable = table_of cluster (texts_of (state_at log (suc m))) (suc m) (table_at cluster log m) in
+    ap (table_at cluster log) place ∙ sym (ap (λ b. cond b T (table_at cluster log m)) t)
+
+pub first_table : (cluster : ℕ) (log : List Whole) → table_at cluster log 0 ≡ places.empty
+unfolding table_at
+first_table cluster log = refl
+
+-- what a checkpoint is made of is the log's
+pub record IsMade (cluster : ℕ) (log : List Whole) (by : ℕ) (texts : Texts) (op : ℕ) (old : PayloadTable) : Type 0 where
+  pub own : by ≡ cluster
+  pub state : texts ≡ texts_of (state_at log op)
+  pub before : old ≡ table_before cluster log op
+
 -- ---- roots
 
 -- the root of a checkpoint of the log's first c entries, whose blocks were hashed
-pub record IsRootOf (H : List ℕ → Type 0) (log : List Whole) (c : ℕ) (root : Name) : Type 0 where
+pub record IsRootOf (H : List ℕ → Type 0) (cluster : ℕ) (log : List Whole) (c : ℕ) (root : Name) : Type 0 where
   pub settled : AreSettled log c
-  pub cluster : ℕ
-  pub old : PayloadTable
-  pub kept : IsTable H old
-  pub written : IsWrittenOut H cluster (texts_of (state_at log c)) c old
-  pub is : root ≡ block_name (root_of cluster (texts_of (state_at log c)) c (table_of cluster (texts_of (state_at log c)) c old))
+  pub kept : IsTable H (table_before cluster log c)
+  pub written : IsWrittenOut H cluster (texts_of (state_at log c)) c (table_before cluster log c)
+  pub is : root ≡ block_name (root_of cluster (texts_of (state_at log c)) c (table_made cluster log c))
+  pub table : table_made cluster log c ≡ table_at cluster log c
 
 abbrev pub root_in_value : SuperValue → Name
 root_in_value v = record { address = v.fields.root_address; sum = v.fields.root_name }
 
 -- where there is a checkpoint
-abbrev pub IsRooted : (List ℕ → Type 0) → List Whole → SuperValue → Type 0
-IsRooted H log v = 0 < v.fields.checkpoint → IsRootOf H log v.fields.checkpoint (root_in_value v)
+abbrev pub IsRooted : (List ℕ → Type 0) → ℕ → List Whole → SuperValue → Type 0
+IsRooted H cluster log v = 0 < v.fields.checkpoint → IsRootOf H cluster log v.fields.checkpoint (root_in_value v)
 
 -- ---- what a replica has
 
 pub record Core : Type 0 where
+  pub cluster : ℕ
   pub index : ℕ
   pub applied : ℕ
   pub checkpoint : ℕ
@@ -94,49 +135,53 @@ pub record Core : Type 0 where
   pub missing : List Name
 
 abbrev pub core : Replica → Core
-core r = record { index = r.index; applied = r.applied; checkpoint = r.checkpoint; root = r.root; table = r.table; state = r.state; missing = r.missing }
+core r = record { cluster = r.cluster; index = r.index; applied = r.applied; checkpoint = r.checkpoint; root = r.root; table = r.table; state = r.state; missing = r.missing }
 
 -- its checkpoint is one of the log, though its state may not be loaded yet
-pub record Rests (H : List ℕ → Type 0) (log : List Whole) (k : Core) : Type 0 where
+pub record Rests (H : List ℕ → Type 0) (cluster : ℕ) (log : List Whole) (k : Core) : Type 0 where
+  pub own : k.cluster ≡ cluster
   pub settled : AreSettled log k.applied
-  pub root : 0 < k.checkpoint → IsRootOf H log k.checkpoint k.root
+  pub root : 0 < k.checkpoint → IsRootOf H cluster log k.checkpoint k.root
   pub table : IsTable H k.table
   pub waits : k.missing ≢ [] → 0 < k.checkpoint
 
--- and where no block is missing it has the state of the entries that are applied
-pub record Stands (H : List ℕ → Type 0) (log : List Whole) (k : Core) : Type 0 where
-  pub rests : Rests H log k
+-- and where no block is missing it has the state of the entries that are applied, and the table of their checkpoints
+pub record Stands (H : List ℕ → Type 0) (cluster : ℕ) (log : List Whole) (k : Core) : Type 0 where
+  pub rests : Rests H cluster log k
   pub state : k.missing ≡ [] → k.state ≡ state_at log k.applied
+  pub table : k.missing ≡ [] → k.table ≡ table_at cluster log k.applied
 
 -- ---- a load
 
-module _ (H : List ℕ → Type 0) (never : NoCollision H) (log : List Whole) where
-  right_texts : (f : Face) → ReadsHashed H f → (c : ℕ) (root : Name) → IsRootOf H log c root → (found : Texts) (table : PayloadTable) → loaded f root ≡ Loaded found table
-      → (state_decoded found ≡ Ok (state_at log c)) × IsTable H table
+module _ (H : List ℕ → Type 0) (never : NoCollision H) (cluster : ℕ) (log : List Whole) where
+  right_texts : (f : Face) → ReadsHashed H f → (c : ℕ) (root : Name) → IsRootOf H cluster log c root → (found : Texts) (table : PayloadTable) → loaded f root ≡ Loaded found table
+      → (state_decoded found ≡ Ok (state_at log c)) × (table ≡ table_at cluster log c) × IsTable H table
   right_texts f reads c root r found table e =
       let texts = texts_of (state_at log c) in
-      let x = loads_as H never f reads r.cluster c texts r.old (small log c r.settled) (texts_fit log c r.settled) r.kept r.written found table (subst (λ n. loaded f n ≡ Loaded found table) r.is e) in
-      (ap state_decoded x.0 ∙ texts_read (state_at log c) (state_is log c r.settled), x.1)
+      let x = loads_as H never f reads cluster c texts (table_before cluster log c) (small log c r.settled) (texts_fit log c r.settled) r.kept r.written found table (subst (λ n. loaded f n ≡ Loaded found table) r.is e) in
+      (ap state_decoded x.0 ∙ texts_read (state_at log c) (state_is log c r.settled), x.1 ∙ r.table, x.2)
 
   -- a checkpoint that is loaded, or whose blocks are missing
-  pub loads_stand : (r : Replica) (d : Lying) → 0 < r.checkpoint → r.applied ≡ r.checkpoint → Rests H log (core r) → ReadsHashed H d.face → Stands H log (core (loads r.root (lying.loaded d r.root) r))
+  pub loads_stand : (r : Replica) (d : Lying) → 0 < r.checkpoint → r.applied ≡ r.checkpoint → Rests H cluster log (core r) → ReadsHashed H d.face → Stands H cluster log (core (loads r.root (lying.loaded d r.root) r))
   unfolding with_state
   loads_stand r d above same h reads = by_load (loaded d.face r.root) refl
     where
-      by_state : (table : PayloadTable) → IsTable H table → (x : Result State StateFault) → x ≡ Ok (state_at log r.checkpoint) → Stands H log (core (loaded_state r.root table x r))
-      by_state table t (Err fault) e = absurd cc
-      by_state table t (Ok s) e =
+      by_state : (table : PayloadTable) → IsTable H table → table ≡ table_at cluster log r.checkpoint → (x : Result State StateFault) → x ≡ Ok (state_at log r.checkpoint) → Stands H cluster log (core (loaded_state r.root table x r))
+      by_state table t at (Err fault) e = absurd cc
+      by_state table t at (Ok s) e =
           let is : s ≡ state_at log r.checkpoint = cc in
           record {
-            rests = record { settled = h.settled; root = h.root; table = t; waits = λ n. above };
+            rests = record { own = h.own; settled = h.settled; root = h.root; table = t; waits = λ n. above };
             state = λ none. is ∙ ap (state_at log) (sym same);
+            table = λ none. at ∙ ap (table_at cluster log) (sym same);
           }
 
-      by_load : (l : Load) → loaded d.face r.root ≡ l → Stands H log (core (loads r.root l r))
+      by_load : (l : Load) → loaded d.face r.root ≡ l → Stands H cluster log (core (loads r.root l r))
       by_load (Missing names) e = record {
-        rests = record { settled = h.settled; root = h.root; table = h.table; waits = λ n. above };
+        rests = record { own = h.own; settled = h.settled; root = h.root; table = h.table; waits = λ n. above };
         state = λ none. absurd (disks_fit.lies.some d r.root names e none);
+        table = λ none. absurd (disks_fit.lies.some d r.root names e none);
       }
       by_load (Loaded texts table) e =
           let x = right_texts d.face reads r.checkpoint r.root (h.root above) texts table e in
-          by_state table x.1 (state_decoded texts) x.0
+          by_state table x.2 x.1 (state_decoded texts) x.0

@@ -16,7 +16,7 @@ use Rattle.vr_safe.specs.Chains.{Every}
 use Rattle.vr_agree.specs.Answering.{lines}
 use Rattle.vr_agree.proofs.Words.{lines_append}
 use Rattle.vr_replied.proofs.Disks.{Begun, IsBeside}
-use Rattle.vr_replied.proofs.Values.{Core, IsRooted, IsRootOf, core}
+use Rattle.vr_replied.proofs.Values.{Core, IsMade, IsRooted, IsRootOf, core}
 
 -- ---- what is said, and what is written
 
@@ -31,11 +31,12 @@ May H log m d (Checkpoint cluster texts op old) = Begun H (Checkpoint cluster te
 May H log m d (PutBlock name block) = Begun H (PutBlock name block)
 May H log m d e = ⊤
 
--- the root of what is saved is that of a checkpoint of the log
-abbrev pub IsBorne : (List ℕ → Type 0) → List Whole → Effect → Type 0
-IsBorne H log (Save old new) = IsRooted H log new
-IsBorne H log (Mend v) = IsRooted H log v
-IsBorne H log _ = ⊤
+-- the root of what is saved is that of a checkpoint of the log, and a checkpoint that is written is one
+abbrev pub IsBorne : (List ℕ → Type 0) → ℕ → List Whole → Effect → Type 0
+IsBorne H cluster log (Save old new) = IsRooted H cluster log new
+IsBorne H cluster log (Mend v) = IsRooted H cluster log v
+IsBorne H cluster log (Checkpoint by texts op old) = IsMade cluster log by texts op old
+IsBorne H cluster log _ = ⊤
 
 -- ---- effects that write no block and say no line
 
@@ -69,11 +70,11 @@ calm_lines i (Checkpoint cluster texts op old) h = refl
 calm_lines i (PutBlock name block) h = refl
 calm_lines i (Say o) h = other_lines i o h
 
-module _ (H : List ℕ → Type 0) (log : List Whole) where
+module _ (H : List ℕ → Type 0) (cluster : ℕ) (log : List Whole) where
   -- each is borne, where those up to it may be
   unfoldable pub Bears : ℕ → ℕ → Lying → List Effect → Type 0
   Bears i m d [] = ⊤
-  Bears i m d (e ∷ es) = May H log m d e → IsBorne H log e × Bears i (m + lines i (output_of e)) (lying.after d e) es
+  Bears i m d (e ∷ es) = May H log m d e → IsBorne H cluster log e × Bears i (m + lines i (output_of e)) (lying.after d e) es
 
   unfoldable pub AllMay : ℕ → ℕ → Lying → List Effect → Type 0
   AllMay i m d [] = ⊤
@@ -177,10 +178,10 @@ module _ (H : List ℕ → Type 0) (log : List Whole) where
 
   -- P is of what a replica has, its checkpoint is the log's, and calm effects keep it
   pub record Steady (P : Core → Lying → Type 0) : Type 0 where
-    pub rooted : (k : Core) (d : Lying) → P k d → 0 < k.checkpoint → IsRootOf H log k.checkpoint k.root
+    pub rooted : (k : Core) (d : Lying) → P k d → 0 < k.checkpoint → IsRootOf H cluster log k.checkpoint k.root
     pub calm : (k : Core) (d : Lying) (e : Effect) → IsCalm e → P k d → P k (lying.after d e)
 
-  pub calm_bears : (i m : ℕ) (d : Lying) (es : List Effect) → Every (IsBorne H log) es → Bears i m d es
+  pub calm_bears : (i m : ℕ) (d : Lying) (es : List Effect) → Every (IsBorne H cluster log) es → Bears i m d es
   unfolding Bears
   calm_bears i m d [] b = tt
   calm_bears i m d (e ∷ es) b = λ may. (b.0, calm_bears i (m + lines i (output_of e)) (lying.after d e) es b.1)
@@ -200,7 +201,7 @@ module _ (H : List ℕ → Type 0) (log : List Whole) where
     calm_after k d [] c p = p
     calm_after k d (e ∷ es) c p = calm_after k (lying.after d e) es c.1 (steady.calm k d e c.0 p)
 
-    pub calm_well : (r q : Replica) (d : Lying) (es : List Effect) → core q ≡ core r → Every IsCalm es → Every (IsBorne H log) es → P (core r) d → Well P r d (record { replica = q; script = es })
+    pub calm_well : (r q : Replica) (d : Lying) (es : List Effect) → core q ≡ core r → Every IsCalm es → Every (IsBorne H cluster log) es → P (core r) d → Well P r d (record { replica = q; script = es })
     calm_well r q d es same calm borne p = record {
       bears = calm_bears r.index r.applied d es borne;
       left = λ all. record {
@@ -218,7 +219,7 @@ module _ (H : List ℕ → Type 0) (log : List Whole) where
     unfolding change
     walks_change g same = record { every = λ r d p. calm_well r (g r) d [] (same r) tt tt p }
 
-    pub walks_does : (e : Replica → Effect) → ((r : Replica) → IsCalm (e r)) → ((r : Replica) (d : Lying) → P (core r) d → IsBorne H log (e r)) → Walks P (does e)
+    pub walks_does : (e : Replica → Effect) → ((r : Replica) → IsCalm (e r)) → ((r : Replica) (d : Lying) → P (core r) d → IsBorne H cluster log (e r)) → Walks P (does e)
     unfolding does
     walks_does e calm borne = record { every = λ r d p. calm_well r r d (e r ∷ []) refl (calm r, tt) (borne r d p, tt) p }
 
@@ -226,7 +227,7 @@ module _ (H : List ℕ → Type 0) (log : List Whole) where
     said_calm [] h = tt
     said_calm (o ∷ os) h = (h.0, said_calm os h.1)
 
-    pub said_borne : (os : List Output) → Every (IsBorne H log) (map Say os)
+    pub said_borne : (os : List Output) → Every (IsBorne H cluster log) (map Say os)
     said_borne [] = tt
     said_borne (o ∷ os) = (tt, said_borne os)
 

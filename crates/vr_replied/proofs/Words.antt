@@ -36,10 +36,10 @@ use Rattle.vr_safe.specs.Chains.{Every}
 use Rattle.vr_safe.proofs.Repairs.{every_mapped}
 use Rattle.vr_agree.specs.Answering.{lines}
 use Rattle.vr_agree.proofs.Answers.{loads_place}
-use Rattle.vr_replied.specs.Hashed.{IsWrittenOut, ReadsHashed}
+use Rattle.vr_replied.specs.Hashed.{IsTable, IsWrittenOut, ReadsHashed}
 use Rattle.vr_replied.proofs.Blocks.{table_kept}
 use Rattle.vr_replied.proofs.Disks.{Begun, put_hashed}
-use Rattle.vr_replied.proofs.Values.{Core, IsSettled, Rests, Stands, core, loads_stand, state_at, texts_fit}
+use Rattle.vr_replied.proofs.Values.{Core, IsSettled, Rests, Stands, core, loads_stand, made_table, same_table, state_at, table_at, table_before, table_made, texts_fit}
 use Rattle.vr_replied.proofs.Walk.{AllMay, Bears, IsBorne, IsCalm, IsOther, May, Steady, Walks, Well, WellAt, all_lines, calm_bears, said_borne, said_calm, then_at, walks_by, walks_change, walks_does, walks_each, walks_if, walks_naming, walks_quiet, walks_reading, walks_save, walks_says, walks_then, walks_times, walks_when}
 
 pub all_others : (message : Replica → Frame) (r : Replica) → Every IsOther (send_to_all message r)
@@ -62,95 +62,113 @@ replies_other : (e : Whole) (r : Replica) → Every IsOther (applied_reply e r)
 replies_other e r =
     elim (leads r) as (λ b. Every IsOther (cond b (replies (asker_of e) (kind_of (state.applied r.state e).reply) r) [])) [ true ↦ (tt, tt) | false ↦ tt ]
 
-module _ (H : List ℕ → Type 0) (never : NoCollision H) (log : List Whole) where
+module _ (H : List ℕ → Type 0) (never : NoCollision H) (cluster : ℕ) (log : List Whole) where
   abbrev pub S : Core → Lying → Type 0
-  S k d = Stands H log k
+  S k d = Stands H cluster log k
 
-  pub steady : Steady H log S
+  pub steady : Steady H cluster log S
   steady = record { rooted = λ k d p. p.rests.root; calm = λ k d e c p. p }
 
   abbrev pub Keeps : Word Lying → Type 0
-  Keeps w = Walks H log S w
+  Keeps w = Walks H cluster log S w
 
   pub go_then : (v w : Word Lying) → Keeps v → Keeps w → Keeps (v ⨾ w)
-  go_then v w h k = walks_then H log v w h k
+  go_then v w h k = walks_then H cluster log v w h k
 
   pub go_quiet : Keeps quiet
-  go_quiet = walks_quiet H log steady
+  go_quiet = walks_quiet H cluster log steady
 
   pub go_change : (g : Replica → Replica) → ((r : Replica) → core (g r) ≡ core r) → Keeps (change g)
-  go_change g h = walks_change H log steady g h
+  go_change g h = walks_change H cluster log steady g h
 
-  pub go_does : (e : Replica → Effect) → ((r : Replica) → IsCalm (e r)) → ((r : Replica) → IsBorne H log (e r)) → Keeps (does e)
-  go_does e c b = walks_does H log steady e c (λ r d p. b r)
+  pub go_does : (e : Replica → Effect) → ((r : Replica) → IsCalm (e r)) → ((r : Replica) → IsBorne H cluster log (e r)) → Keeps (does e)
+  go_does e c b = walks_does H cluster log steady e c (λ r d p. b r)
 
   pub go_says : (os : Replica → List Output) → ((r : Replica) → Every IsOther (os r)) → Keeps (says os)
-  go_says os h = walks_says H log steady os h
+  go_says os h = walks_says H cluster log steady os h
 
   pub go_all : (message : Replica → Frame) → Keeps (says (send_to_all message))
   go_all message = go_says (send_to_all message) (all_others message)
 
   pub go_by : (w : Replica → Word Lying) → ((r : Replica) → Keeps (w r)) → Keeps (by w)
-  go_by w h = walks_by H log w h
+  go_by w h = walks_by H cluster log w h
 
   pub go_naming : (w : (List ℕ → List ℕ) → Word Lying) → ((hash : List ℕ → List ℕ) → Keeps (w hash)) → Keeps (naming w)
-  go_naming w h = walks_naming H log w h
+  go_naming w h = walks_naming H cluster log w h
 
   pub go_reading : {X : Type 0} (g : Setting Lying → Lying → X) (w : X → Word Lying) → ((x : X) → Keeps (w x)) → Keeps (reading g w)
-  go_reading g w h = walks_reading H log g w h
+  go_reading g w h = walks_reading H cluster log g w h
 
   pub go_if : (b : Bool) (v w : Word Lying) → Keeps v → Keeps w → Keeps (cond b v w)
-  go_if b v w h k = walks_if H log b v w h k
+  go_if b v w h k = walks_if H cluster log b v w h k
 
   pub go_when : (b : Bool) (w : Word Lying) → Keeps w → Keeps (when b w)
-  go_when b w h = walks_when H log steady b w h
+  go_when b w h = walks_when H cluster log steady b w h
 
   pub go_each : {X : Type 0} (w : X → Word Lying) (xs : List X) → ((x : X) → Keeps (w x)) → Keeps (each w xs)
-  go_each w xs h = walks_each H log steady w xs h
+  go_each w xs h = walks_each H cluster log steady w xs h
 
   pub go_save : Keeps save
-  go_save = walks_save H log steady
+  go_save = walks_save H cluster log steady
 
   -- ---- a checkpoint
 
-  checkpoint_stands : (r : Replica) → r.missing ≡ [] → Stands H log (core r) → Begun H (checkpoints r) → Stands H log (core (with_checkpoint (lying.save_state r.cluster (texts_of r.state) r.applied r.table) r))
+  -- an entry was applied, and the checkpoint that may be due at it isn't made yet
+  record IsApplied (k : Core) : Type 0 where
+    rests : Rests H cluster log k
+    state : k.missing ≡ [] → k.state ≡ state_at log k.applied
+    table : k.missing ≡ [] → k.table ≡ table_before cluster log k.applied
+    some : 0 < k.applied
+
+  abbrev A : Core → Lying → Type 0
+  A k d = IsApplied k
+
+  checkpoint_stands : (r : Replica) → r.missing ≡ [] → is_checkpoint r.applied ≡ true → IsApplied (core r) → Begun H (checkpoints r) → Stands H cluster log (core (with_checkpoint (lying.save_state r.cluster (texts_of r.state) r.applied r.table) r))
   unfolding with_checkpoint
-  checkpoint_stands r none h begun =
-      let same : r.state ≡ state_at log r.applied = h.state none in
-      let written : IsWrittenOut H r.cluster (texts_of r.state) r.applied r.table =
-      λ c i. record { payload = begun c.payload (safe.IsWritten.payload r.cluster (texts_of r.state) r.applied r.table c i); header = begun _ (safe.IsWritten.block r.cluster (texts_of r.state) r.applied r.table c i) } in
-      let fits : FitsPayloads (texts_of r.state) = subst (λ s. FitsPayloads (texts_of s)) (sym same) (texts_fit log r.applied h.rests.settled) in
+  checkpoint_stands r none due h begun =
+      let op = r.applied in
+      let own : r.cluster ≡ cluster = h.rests.own in
+      let same : r.state ≡ state_at log op = h.state none in
+      let old : r.table ≡ table_before cluster log op = h.table none in
+      let texts = texts_of (state_at log op) in
+      let written : IsWrittenOut H r.cluster (texts_of r.state) op r.table =
+      λ c i. record { payload = begun c.payload (safe.IsWritten.payload r.cluster (texts_of r.state) op r.table c i); header = begun _ (safe.IsWritten.block r.cluster (texts_of r.state) op r.table c i) } in
+      let fits : FitsPayloads (texts_of r.state) = subst (λ s. FitsPayloads (texts_of s)) (sym same) (texts_fit log op h.rests.settled) in
+      let made : table_of r.cluster (texts_of r.state) op r.table ≡ table_made cluster log op =
+      ap (λ t. table_of r.cluster (texts_of r.state) op t) old ∙ (ap (λ s. table_of r.cluster (texts_of s) op (table_before cluster log op)) same ∙ ap (λ c. table_of c texts op (table_before cluster log op)) own) in
       record {
         rests = record {
+          own = own;
           settled = h.rests.settled;
           root = λ above. record {
             settled = h.rests.settled;
-            cluster = r.cluster;
-            old = r.table;
-            kept = h.rests.table;
-            written = subst (λ s. IsWrittenOut H r.cluster (texts_of s) r.applied r.table) same written;
-            is = ap (λ s. block_name (root_of r.cluster (texts_of s) r.applied (table_of r.cluster (texts_of s) r.applied r.table))) same;
+            kept = subst (IsTable H) old h.rests.table;
+            written = subst (λ c. IsWrittenOut H c texts op (table_before cluster log op)) own (subst (λ s. IsWrittenOut H r.cluster (texts_of s) op (table_before cluster log op)) same (subst (IsWrittenOut H r.cluster (texts_of r.state) op) old written));
+            is = ap (λ t. block_name (root_of r.cluster (texts_of r.state) op t)) made
+                ∙ (ap (λ s. block_name (root_of r.cluster (texts_of s) op (table_made cluster log op))) same ∙ ap (λ c. block_name (root_of c texts op (table_made cluster log op))) own);
+            table = made_table cluster log op h.some due;
           };
-          table = table_kept H r.cluster (texts_of r.state) r.applied r.table fits h.rests.table written;
+          table = table_kept H r.cluster (texts_of r.state) op r.table fits h.rests.table written;
           waits = λ some. absurd (some none);
         };
         state = h.state;
+        table = λ n. made ∙ made_table cluster log op h.some due;
       }
 
   -- nothing is said or done
-  still : (Q : Core → Lying → Type 0) (r q : Replica) (d : Lying) → q.index ≡ r.index → q.applied ≡ r.applied → Q (core q) d → Well H log Q r d (record { replica = q; script = [] })
+  still : (Q : Core → Lying → Type 0) (r q : Replica) (d : Lying) → q.index ≡ r.index → q.applied ≡ r.applied → Q (core q) d → Well H cluster log Q r d (record { replica = q; script = [] })
   unfolding Bears outputs lines after_all
   still Q r q d i a h = record { bears = tt; left = λ all. record { index = i; applied = a ∙ (let z : r.applied ≡ r.applied + 0 = omega arith in z); holds = h } }
 
   -- an effect that says nothing
-  effect_at : (Q : Core → Lying → Type 0) (e : Replica → Effect) (r : Replica) (d : Lying) → outputs (e r ∷ []) ≡ [] → IsBorne H log (e r) → (May H log r.applied d (e r) → Q (core r) (lying.after d (e r))) → WellAt H log Q (does e) r d
+  effect_at : (Q : Core → Lying → Type 0) (e : Replica → Effect) (r : Replica) (d : Lying) → outputs (e r ∷ []) ≡ [] → IsBorne H cluster log (e r) → (May H log r.applied d (e r) → Q (core r) (lying.after d (e r))) → WellAt H cluster log Q (does e) r d
   unfolding does Bears AllMay lines after_all
   effect_at Q e r d none borne k = record {
     bears = λ may. (borne, tt);
     left = λ all. record { index = refl; applied = rw none (let z : r.applied ≡ r.applied + 0 = omega arith in z); holds = k all.0 };
   }
 
-  changed_at : (Q : Core → Lying → Type 0) (g : Replica → Replica) (r : Replica) (d : Lying) → (g r).index ≡ r.index → (g r).applied ≡ r.applied → Q (core (g r)) d → WellAt H log Q (change g) r d
+  changed_at : (Q : Core → Lying → Type 0) (g : Replica → Replica) (r : Replica) (d : Lying) → (g r).index ≡ r.index → (g r).applied ≡ r.applied → Q (core (g r)) d → WellAt H cluster log Q (change g) r d
   unfolding change
   changed_at Q g r d i a p = still Q r (g r) d i a p
 
@@ -158,13 +176,13 @@ module _ (H : List ℕ → Type 0) (never : NoCollision H) (log : List Whole) wh
   unfolding with_checkpoint
   checkpoint_place c r = (refl, refl)
 
-  checkpoint_at_well : (r : Replica) (d : Lying) → r.missing ≡ [] → Stands H log (core r) → WellAt H log S make_checkpoint r d
+  checkpoint_at_well : (r : Replica) (d : Lying) → r.missing ≡ [] → is_checkpoint r.applied ≡ true → IsApplied (core r) → WellAt H cluster log S make_checkpoint r d
   unfolding make_checkpoint by reading outputs with_checkpoint change does after_all
-  checkpoint_at_well r d none h =
+  checkpoint_at_well r d none due h =
       let c : checkpoint.SavedCheckpoint = lying.save_state r.cluster (texts_of r.state) r.applied r.table in
       let Q : Core → Lying → Type 0 = λ k e. Begun H (checkpoints r) in
-      then_at H log Q S (does checkpoints) (change (with_checkpoint c) ⨾ save) r d (effect_at Q checkpoints r d refl tt (λ may. may)) (λ begun.
-      then_at H log S S (change (with_checkpoint c)) save r (lying.after d (checkpoints r)) (changed_at S (with_checkpoint c) r (lying.after d (checkpoints r)) (checkpoint_place c r).0 (checkpoint_place c r).1 (checkpoint_stands r none h begun)) (λ p. go_save.every (with_checkpoint c r) _ p))
+      then_at H cluster log Q S (does checkpoints) (change (with_checkpoint c) ⨾ save) r d (effect_at Q checkpoints r d refl (record { own = h.rests.own; state = ap texts_of (h.state none); before = h.table none }) (λ may. may)) (λ begun.
+      then_at H cluster log S S (change (with_checkpoint c)) save r (lying.after d (checkpoints r)) (changed_at S (with_checkpoint c) r (lying.after d (checkpoints r)) (checkpoint_place c r).0 (checkpoint_place c r).1 (checkpoint_stands r none due h begun)) (λ p. go_save.every (with_checkpoint c r) _ p))
 
   -- ---- an entry is applied
 
@@ -175,15 +193,15 @@ module _ (H : List ℕ → Type 0) (never : NoCollision H) (log : List Whole) wh
         | inr last ↦ let same : m ≡ k = omega arith in subst (IsSettled log) same (record { entry = e; at = at; whole = whole; number = number })
       ]
 
-  line_well : (e : Whole) (r : Replica) (d : Lying) (slot : ℕ) → r.missing ≡ [] → slot < 64 → lying.entry d slot ≡ Some e → Stands H log (core r) → WellAt H log S (lined_entry e) r d
+  line_well : (e : Whole) (r : Replica) (d : Lying) (slot : ℕ) → r.missing ≡ [] → slot < 64 → lying.entry d slot ≡ Some e → Stands H cluster log (core r) → WellAt H cluster log A (lined_entry e) r d
   unfolding AllMay outputs lines
   line_well e r d slot none l reads h =
       let m = r.applied in
       let own : eqb r.index r.index ≡ true = eq-eqb r.index r.index refl in
       let rest : List Effect = map Say (applied_reply e r) in
-      let more = all_lines H log r.index (m + 1) rest (said_calm H log steady (applied_reply e r) (replies_other e r)) in
+      let more = all_lines H cluster log r.index (m + 1) rest (said_calm H cluster log steady (applied_reply e r) (replies_other e r)) in
       record {
-        bears = calm_bears H log r.index m d (map Say (commit_line e r ++ applied_reply e r)) (said_borne H log steady (commit_line e r ++ applied_reply e r));
+        bears = calm_bears H cluster log r.index m d (map Say (commit_line e r ++ applied_reply e r)) (said_borne H cluster log steady (commit_line e r ++ applied_reply e r));
         left = λ all.
             let x = all.0 slot l reads in
             let next : suc m ≡ m + 1 = omega arith in
@@ -191,22 +209,29 @@ module _ (H : List ℕ → Type 0) (never : NoCollision H) (log : List Whole) wh
               index = refl;
               applied = rw own (omega (arith, more));
               holds = record {
-                rests = record { settled = next_settled m e h.rests.settled x.0 x.1 x.2; root = h.rests.root; table = h.rests.table; waits = h.rests.waits };
+                rests = record { own = h.rests.own; settled = next_settled m e h.rests.settled x.0 x.1 x.2; root = h.rests.root; table = h.rests.table; waits = h.rests.waits };
                 state = λ z. ap (λ (s : State). (state.applied s e).state) (h.state none) ∙ (sym (state_next log m e x.0) ∙ ap (state_at log) next);
+                table = λ z. h.table none ∙ ap (table_at cluster log) (let back : m ≡ m + 1 - 1 = omega arith in back);
+                some = omega arith;
               };
             };
       }
 
-  entry_well : (e : Whole) (r : Replica) (d : Lying) (slot : ℕ) → r.missing ≡ [] → slot < 64 → lying.entry d slot ≡ Some e → Stands H log (core r) → WellAt H log S (apply_entry e) r d
+  none_due : (r : Replica) (d : Lying) → is_checkpoint r.applied ≡ false → IsApplied (core r) → WellAt H cluster log S quiet r d
+  unfolding quiet
+  none_due r d t h = still S r r d refl refl (record { rests = h.rests; state = h.state; table = λ none. h.table none ∙ same_table cluster log r.applied h.some t })
+
+  entry_well : (e : Whole) (r : Replica) (d : Lying) (slot : ℕ) → r.missing ≡ [] → slot < 64 → lying.entry d slot ≡ Some e → Stands H cluster log (core r) → WellAt H cluster log S (apply_entry e) r d
   unfolding apply_entry says change ◌⨾◌ after_all by
   entry_well e r d slot none l reads h =
       let w : Word Lying = by (λ r. when (is_checkpoint r.applied) make_checkpoint) in
-      then_at H log S S (lined_entry e) w r d (line_well e r d slot none l reads h) (λ p.
-      let go : (b : Bool) → WellAt H log S (cond b make_checkpoint quiet) (applied e r) (after_all lying d (map Say (commit_line e r ++ applied_reply e r))) = elim [
-        | true ↦ checkpoint_at_well (applied e r) (after_all lying d (map Say (commit_line e r ++ applied_reply e r))) none p
-        | false ↦ go_quiet.every (applied e r) (after_all lying d (map Say (commit_line e r ++ applied_reply e r))) p
+      let d' : Lying = after_all lying d (map Say (commit_line e r ++ applied_reply e r)) in
+      then_at H cluster log A S (lined_entry e) w r d (line_well e r d slot none l reads h) (λ p.
+      let go : (b : Bool) → is_checkpoint (r.applied + 1) ≡ b → WellAt H cluster log S (cond b make_checkpoint quiet) (applied e r) d' = elim [
+        | true ↦ λ t. checkpoint_at_well (applied e r) d' none t p
+        | false ↦ λ t. none_due (applied e r) d' t p
       ] in
-      go (is_checkpoint (r.applied + 1)))
+      go (is_checkpoint (r.applied + 1)) refl)
 
   -- ---- stored entries
 
@@ -229,11 +254,11 @@ module _ (H : List ℕ → Type 0) (never : NoCollision H) (log : List Whole) wh
   unfolding with_entry_at
   go_entry op w k = go_by _ (λ r. go_part w (part_at r op) k)
 
-  applies_read : (h : Header) (o : Option Whole) (r : Replica) (d : Lying) → r.missing ≡ [] → entry_of h lying d ≡ o → Stands H log (core r) → WellAt H log S (or_lost h apply_entry o) r d
+  applies_read : (h : Header) (o : Option Whole) (r : Replica) (d : Lying) → r.missing ≡ [] → entry_of h lying d ≡ o → Stands H cluster log (core r) → WellAt H cluster log S (or_lost h apply_entry o) r d
   applies_read h None r d none is p = (go_lost h).every r d p
   applies_read h (Some e) r d none is p = entry_well e r d (h.op % 64) none (mod_below h.op 64 (omega arith)) (read_entry h (lying.entry d (h.op % 64)) e is) p
 
-  applies_part : (x : Part) (r : Replica) (d : Lying) → r.missing ≡ [] → Stands H log (core r) → WellAt H log S (with_entry apply_entry x) r d
+  applies_part : (x : Part) (r : Replica) (d : Lying) → r.missing ≡ [] → Stands H cluster log (core r) → WellAt H cluster log S (with_entry apply_entry x) r d
   unfolding reading
   applies_part (Here h) r d none p = applies_read h (entry_of h lying d) r d none refl p
   applies_part (Lost h) r d none p = go_quiet.every r d p
@@ -245,7 +270,7 @@ module _ (H : List ℕ → Type 0) (never : NoCollision H) (log : List Whole) wh
   unfolding apply_next with_entry_at by
   go_next = record {
     every = λ r d p.
-        let go : (b : Bool) → (is_loaded r && nat_lt r.applied r.commit) ≡ b → WellAt H log S (cond b (with_entry_at (r.applied + 1) apply_entry) quiet) r d = elim [
+        let go : (b : Bool) → (is_loaded r && nat_lt r.applied r.commit) ≡ b → WellAt H cluster log S (cond b (with_entry_at (r.applied + 1) apply_entry) quiet) r d = elim [
           | true ↦ λ t.
               let loaded = eqb-true (length r.missing) 0 (and_parts (is_loaded r) (nat_lt r.applied r.commit) t).0 in
               applies_part (part_at r (r.applied + 1)) r d (nil_from_length r.missing loaded) p
@@ -256,7 +281,7 @@ module _ (H : List ℕ → Type 0) (never : NoCollision H) (log : List Whole) wh
 
   pub go_apply : Keeps apply
   unfolding apply
-  go_apply = go_by _ (λ r. walks_times H log steady (r.commit - r.applied) apply_next go_next)
+  go_apply = go_by _ (λ r. walks_times H cluster log steady (r.commit - r.applied) apply_next go_next)
 
   -- ---- the other words
 
@@ -329,33 +354,33 @@ module _ (H : List ℕ → Type 0) (never : NoCollision H) (log : List Whole) wh
   -- ---- a load
 
   -- a checkpoint is loaded, where there is one
-  pub load_at : (r : Replica) (d : Lying) → r.applied ≡ r.checkpoint → (r.checkpoint ≡ 0 → Stands H log (core r)) → Rests H log (core r) → ReadsHashed H d.face → WellAt H log S load r d
+  pub load_at : (r : Replica) (d : Lying) → r.applied ≡ r.checkpoint → (r.checkpoint ≡ 0 → Stands H cluster log (core r)) → Rests H cluster log (core r) → ReadsHashed H d.face → WellAt H cluster log S load r d
   unfolding load by reading change quiet
   load_at r d same first h reads =
       elim (cases_lt 0 r.checkpoint) [
         | inl above ↦
             let place = loads_place r.root (lying.loaded d r.root) r in
-            let w : Well H log S r d (record { replica = loads r.root (lying.loaded d r.root) r; script = [] }) = still S r (loads r.root (lying.loaded d r.root) r) d place.0 place.1 (loads_stand H never log r d above same h reads) in
-            subst (λ b. Well H log S r d ((when b (reading (checkpoint_at r.root) (λ l. change (loads r.root l)))) lying r d)) (sym (lt-ltb 0 r.checkpoint above)) w
+            let w : Well H cluster log S r d (record { replica = loads r.root (lying.loaded d r.root) r; script = [] }) = still S r (loads r.root (lying.loaded d r.root) r) d place.0 place.1 (loads_stand H never cluster log r d above same h reads) in
+            subst (λ b. Well H cluster log S r d ((when b (reading (checkpoint_at r.root) (λ l. change (loads r.root l)))) lying r d)) (sym (lt-ltb 0 r.checkpoint above)) w
         | inr none ↦
-            let w : Well H log S r d (record { replica = r; script = [] }) = still S r r d refl refl (first (omega arith)) in
-            subst (λ b. Well H log S r d ((when b (reading (checkpoint_at r.root) (λ l. change (loads r.root l)))) lying r d)) (sym (le-ltb 0 r.checkpoint none)) w
+            let w : Well H cluster log S r d (record { replica = r; script = [] }) = still S r r d refl refl (first (omega arith)) in
+            subst (λ b. Well H cluster log S r d ((when b (reading (checkpoint_at r.root) (λ l. change (loads r.root l)))) lying r d)) (sym (le-ltb 0 r.checkpoint none)) w
       ]
 
   -- a missing block is put; where none is missing then, the checkpoint is loaded
-  loads_if : (b : Bool) (r : Replica) (d : Lying) → is_loaded r ≡ b → 0 < r.checkpoint → r.applied ≡ r.checkpoint → Rests H log (core r) → ReadsHashed H d.face → WellAt H log S (when b load) r d
+  loads_if : (b : Bool) (r : Replica) (d : Lying) → is_loaded r ≡ b → 0 < r.checkpoint → r.applied ≡ r.checkpoint → Rests H cluster log (core r) → ReadsHashed H d.face → WellAt H cluster log S (when b load) r d
   unfolding quiet
   loads_if true r d is above same h reads = load_at r d same (λ z. absurd (omega (arith, z, above))) h reads
-  loads_if false r d is above same h reads = still S r r d refl refl (record { rests = h; state = λ none. absurd (true≢false (sym (loaded_of r none) ∙ is)) })
+  loads_if false r d is above same h reads = still S r r d refl refl (record { rests = h; state = λ none. absurd (true≢false (sym (loaded_of r none) ∙ is)); table = λ none. absurd (true≢false (sym (loaded_of r none) ∙ is)) })
 
-  pub put_at : (name : Name) (block : List ℕ) (r : Replica) (d : Lying) → is_some (named name block) ≡ true → r.missing ≢ [] → r.applied ≡ r.checkpoint → ReadsHashed H d.face → Stands H log (core r) → WellAt H log S (put_block name block) r d
+  pub put_at : (name : Name) (block : List ℕ) (r : Replica) (d : Lying) → is_some (named name block) ≡ true → r.missing ≢ [] → r.applied ≡ r.checkpoint → ReadsHashed H d.face → Stands H cluster log (core r) → WellAt H cluster log S (put_block name block) r d
   unfolding put_block by outputs does change after_all
   put_at name block r d whole some same reads h =
       let above = h.rests.waits some in
       let Q : Core → Lying → Type 0 = λ k e. ReadsHashed H e.face in
       let q : Replica = without name r in
-      let rests : Rests H log (core q) = record { settled = h.rests.settled; root = h.rests.root; table = h.rests.table; waits = λ n. above } in
+      let rests : Rests H cluster log (core q) = record { own = h.rests.own; settled = h.rests.settled; root = h.rests.root; table = h.rests.table; waits = λ n. above } in
       let d' : Lying = lying.after d (PutBlock name block) in
-      then_at H log Q S (does (λ r. PutBlock name block)) (change (without name) ⨾ by (λ r. when (is_loaded r) load)) r d (effect_at Q (λ r. PutBlock name block) r d refl tt (λ begun. put_hashed H d name block whole begun reads)) (λ later.
+      then_at H cluster log Q S (does (λ r. PutBlock name block)) (change (without name) ⨾ by (λ r. when (is_loaded r) load)) r d (effect_at Q (λ r. PutBlock name block) r d refl tt (λ begun. put_hashed H d name block whole begun reads)) (λ later.
       let R : Core → Lying → Type 0 = λ k e. ReadsHashed H e.face in
-      then_at H log R S (change (without name)) (by (λ r. when (is_loaded r) load)) r d' (changed_at R (without name) r d' refl refl later) (λ again. loads_if (is_loaded q) q d' refl above same rests again))
+      then_at H cluster log R S (change (without name)) (by (λ r. when (is_loaded r) load)) r d' (changed_at R (without name) r d' refl refl later) (λ again. loads_if (is_loaded q) q d' refl above same rests again))

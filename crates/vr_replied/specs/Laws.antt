@@ -18,12 +18,13 @@ use Rattle.vr_agree.specs.Replied.{IsReplied}
 use Rattle.vr_replied.specs.Hashed.{IsTable, IsWrittenOut, ReadsHashed}
 
 -- Where names don't collide in a run: on any disk whose blocks were hashed in it, what loads under the root's name of a checkpoint that
--- was written in it are the texts that this was made of.
+-- was written in it are the texts that this was made of, and the table that it left.
 abbrev pub CheckpointsLoad : Type 0
 CheckpointsLoad =
     (run : List Played) (h : Header) → NoCollision (IsHashed run h) → (f : Face) → ReadsHashed (IsHashed run h) f
     → (cluster op : ℕ) (texts : Texts) (old : PayloadTable) → op < 2 ^ 64 → FitsPayloads texts → IsTable (IsHashed run h) old → IsWrittenOut (IsHashed run h) cluster texts op old
-    → (found : Texts) (table : PayloadTable) → loaded f (saved_checkpoint cluster texts op old).root ≡ Loaded found table → (found ≡ texts) × IsTable (IsHashed run h) table
+    → (found : Texts) (table : PayloadTable) → loaded f (saved_checkpoint cluster texts op old).root ≡ Loaded found table
+    → (found ≡ texts) × (table ≡ (saved_checkpoint cluster texts op old).table) × IsTable (IsHashed run h) table
 
 -- a followed run, whose groups the machine's groups stand for, gives what its replies ask for
 abbrev pub RunsReply : Type 0

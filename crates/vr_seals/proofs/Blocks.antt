@@ -1,18 +1,17 @@
 -- The sectors of a checkpoint's blocks: the first of each, and those of keys and of the root, begin with no header of an entry.
-use Rattle.std.proofs.Common.{ℕ, zero, suc, ◌+◌, ◌-◌, ◌*◌, ◌/◌, ◌<◌, ◌≤◌, ◌≡◌, inl, inr, arith, refl, sym, ap, ◌∙◌, subst, Bool, true, false, cond, List, [], ◌∷◌, ◌++◌, length, take, drop, get_or, Option, Some, None}
-use Rattle.std.specs.Prelude.{replicate, slice_get, nat_eq, ⊤}
+use Rattle.std.proofs.Common.{ℕ, zero, suc, ◌+◌, ◌-◌, ◌*◌, ◌<◌, ◌≤◌, ◌≡◌, inl, inr, arith, refl, sym, ap, ◌∙◌, subst, true, false, cond, List, [], ◌∷◌, ◌++◌, length, take, drop, get_or, Option, Some, None}
+use Rattle.std.specs.Prelude.{replicate, slice_get, nat_eq}
 use Rattle.std.specs.Cmp.Lexicographic.{pointwise}
 use Rattle.std.specs.List.{AllByRecursion, flat_map}
 use Rattle.std.proofs.lemmas.Bool.{cases_lt}
 use Rattle.std.proofs.lemmas.List.{get_or-append_right, get_or_append_left, get_or_past, get_or-replicate, length-replicate, take_at}
-use Rattle.vr_base.specs.Bytes.{bytes16, piece}
+use Rattle.vr_base.specs.Bytes.{piece}
 use Rattle.vr_base.proofs.FieldLaws.{get_or-piece, length-name_of}
 use Rattle.vr_base.proofs.Places.{drop_both}
-use Rattle.vr_disk.specs.DiskState.{Call, Write, Sync, IsContent}
+use Rattle.vr_disk.specs.DiskState.{Call, IsContent}
 use Rattle.vr_disk.specs.Regions.{block_place}
 use Rattle.vr_disk.specs.Sectors.{writes}
 use Rattle.vr_disk.specs.Stops.{IsCall}
-use Rattle.vr_header.specs.declared.header.Header.{Header}
 use Rattle.vr_header.specs.Spelling.{Spells, header_bytes}
 use Rattle.vr_grid.specs.Blocks.{Content, block_bytes, block_header, block_of}
 use Rattle.vr_grid.specs.Grid.{block_calls}
@@ -23,8 +22,8 @@ use Rattle.vr_ckpt.specs.declared.plan.Run.{Run}
 use Rattle.vr_ckpt.specs.declared.table.Payload.{Payload}
 use Rattle.vr_kv.specs.Kv as kv
 use Rattle.vr_kv.specs.Pairs.{Fits, kv_text, pair_text}
-use Rattle.vr_seals.specs.Seals.{Fronts, IsHeadless, PutsHeadless}
-use Rattle.vr_seals.proofs.Keys.{IsClear, keys_at, pairs_clear}
+use Rattle.vr_seals.specs.Seals.{IsHeadless, PutsHeadless}
+use Rattle.vr_seals.proofs.Keys.{keys_at, pairs_clear}
 use Rattle.vr_seals.proofs.Marks.{HasNames, Marked, command_at, front_marks, header_long, turned_marks}
 
 -- ---- a block's bytes
@@ -154,10 +153,9 @@ module _ (m : kv.Map) (fits : AllByRecursion Fits m) where
       λ k s. (let z : 3968 * i + (512 * j + 384 + (110 + k)) ≡ q + k = omega arith in later_at c j (110 + k) (omega (arith, s)) ∙ (ap (λ x. get_or x (512 * j + 384 + (110 + k)) 0) e ∙ (payload_byte (kv_text m) i (512 * j + 384 + (110 + k)) (omega (arith, l, s)) ∙ ap (λ n. get_or (kv_text m) n 0) z))) in
       let zero_place : q + 0 ≡ q = omega arith in
       let byte0 : get_or b 110 0 ≡ get_or (kv_text m) q 0 = byte 0 (omega arith) ∙ ap (λ n. get_or (kv_text m) n 0) zero_place in
-      let clear = clear_at q (omega arith) in
-      (
+      let clear = clear_at q (omega arith) in (
         λ t. clear.0 (sym byte0 ∙ t.version) (sym (byte 1 (omega arith)) ∙ t.kind) (sym (byte 2 (omega arith)) ∙ t.aux 0 (omega arith)),
-        λ t. clear.1 (sym byte0 ∙ t.version) (sym (byte 1 (omega arith)) ∙ t.kind)
+        λ t. clear.1 (sym byte0 ∙ t.version) (sym (byte 1 (omega arith)) ∙ t.kind),
       )
 
   blocks_append : (xs ys : List Block) → AllByRecursion IsLaterMarkless xs → AllByRecursion IsLaterMarkless ys → AllByRecursion IsLaterMarkless (xs ++ ys)

@@ -5,3 +5,5 @@ pub mod Laws
 pub mod Marks
 pub mod Keys
 pub mod Blocks
+pub mod Roots
+pub mod Checks

@@ -1,6 +1,6 @@
 -- What stands at some places of a sector that begins with the header of an entry, and of one that does so with its bits turned.
-use Rattle.std.proofs.Common.{ℕ, zero, suc, ◌+◌, ◌-◌, ◌*◌, ◌^◌, ◌<◌, ◌≤◌, ◌≡◌, arith, refl, sym, ap, ◌∙◌, subst, true, List, [], ◌∷◌, ◌++◌, length, take, get_or, Ok}
-use Rattle.std.specs.Prelude.{IfOk, replicate}
+use Rattle.std.proofs.Common.{ℕ, ◌+◌, ◌-◌, ◌<◌, ◌≡◌, arith, refl, sym, ap, ◌∙◌, List, [], ◌∷◌, length, get_or}
+use Rattle.std.specs.Prelude.{replicate}
 use Rattle.std.proofs.lemmas.List.{get_or-replicate}
 use Rattle.vr_base.specs.Bytes.{IsBytes, bytes64, joined, name_of, piece}
 use Rattle.vr_base.proofs.FieldLaws.{byte_of, get_or-piece, length-bytes32, length-bytes64, length-name_of}
@@ -9,7 +9,7 @@ use Rattle.vr_disk.specs.DiskState.{IsContent, damaged}
 use Rattle.vr_disk.proofs.Faces.{damaged_content}
 use Rattle.vr_header.specs.declared.command.Command.TheVariants.{Entry}
 use Rattle.vr_header.specs.declared.header.Header.{Header}
-use Rattle.vr_header.specs.Spelling.{Spells, code_of, decoded, field_bytes, header_bytes, named_bytes}
+use Rattle.vr_header.specs.Spelling.{Spells, code_of, field_bytes, header_bytes, named_bytes}
 use Rattle.vr_header.proofs.EntryLaws.{entry_header_of}
 use Rattle.vr_header.proofs.HeaderLaws.{decoded_found}
 use Rattle.vr_seals.specs.Seals.{Fronts}

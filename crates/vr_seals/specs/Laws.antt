@@ -1,8 +1,15 @@
 -- What keeps sectors sealed.
-use Rattle.std.specs.Prelude.{ℕ, ◌≡◌, List, length}
+use Rattle.std.specs.Prelude.{ℕ, ◌<◌, ◌≤◌, ◌≡◌, List, ◌++◌, length}
 use Rattle.std.specs.List.{AllByRecursion}
 use Rattle.vr_base.specs.Bytes.{IsBytes}
 use Rattle.vr_disk.specs.DiskState.{Call, Face, IsContent, after_all, cut}
+use Rattle.vr_disk.specs.Stops.{IsCall}
+use Rattle.vr_apply.specs.declared.codec.Texts.{Texts}
+use Rattle.vr_ckpt.specs.Saves.{blocks_calls, changed, save_calls, sessions_run, table_of}
+use Rattle.vr_ckpt.specs.declared.table.Payload.{Payload}
+use Rattle.vr_ckpt.specs.declared.table.PayloadTable.{PayloadTable}
+use Rattle.vr_kv.specs.Kv as kv
+use Rattle.vr_kv.specs.Pairs.{Fits, kv_text}
 use Rattle.vr_header.specs.declared.header.Header.{Header}
 use Rattle.vr_header.specs.Made.{Whole}
 use Rattle.vr_lie.specs.declared.fault.Fault.{Fault}
@@ -12,7 +19,7 @@ use Rattle.vr_super.specs.Copies.{IsGood, SuperValue, copy_bytes}
 use Rattle.vr_super.specs.Calls.{write_calls}
 use Rattle.vr_rings.specs.Calls.{again_calls, header_calls, new_calls}
 use Rattle.vr_rings.specs.Slots.{IsWhole, prepare_bytes, sector_of}
-use Rattle.vr_seals.specs.Seals.{HasSectors, IsSealed, Puts}
+use Rattle.vr_seals.specs.Seals.{HasSectors, IsSealed, Puts, PutsHeadless}
 
 -- what holds of the bytes of each sector, and of such bytes with each bit turned, lasts: after calls that write such bytes, in each
 -- cut of them, and after a fault
@@ -39,3 +46,23 @@ abbrev pub ValuesAreSealed : Type 0
 ValuesAreSealed =
     (made : List Header) (old new : SuperValue) (f : Face) → IsGood old → IsGood new → IsBytes (copy_bytes old) → IsBytes (copy_bytes new) → AllByRecursion (λ h. In h made) old.headers
     → AllByRecursion (λ h. In h made) new.headers → AllByRecursion (Puts (IsSealed made)) (write_calls old new f)
+
+-- the name of a payload's block
+pub record HasPlace (p : Payload) : Type 0 where
+  pub size : length p.name.sum.0 ≡ 16
+  pub some : 0 < p.name.address
+  pub few : p.name.address < 128
+
+-- The sectors of a checkpoint of a state's keys begin with no header of an entry, if those of its sessions don't.
+pub record IsChecked (cluster : ℕ) (texts : Texts) (op : ℕ) (old : PayloadTable) : Type 0 where
+  pub machine : kv.Map
+  pub keys : texts.keys ≡ kv_text machine
+  pub fits : AllByRecursion Fits machine
+  -- the names in its table
+  pub names : AllByRecursion HasPlace ((table_of cluster texts op old).sessions ++ (table_of cluster texts op old).keys)
+  pub few : length ((table_of cluster texts op old).sessions ++ (table_of cluster texts op old).keys) ≤ 45
+
+abbrev pub CheckpointsAreHeadless : Type 0
+CheckpointsAreHeadless =
+    (cluster : ℕ) (texts : Texts) (op : ℕ) (old : PayloadTable) → IsChecked cluster texts op old → AllByRecursion IsCall (save_calls cluster texts op old)
+    → AllByRecursion PutsHeadless (blocks_calls (changed (sessions_run cluster op) texts.sessions old.sessions)) → AllByRecursion PutsHeadless (save_calls cluster texts op old)

@@ -2,7 +2,7 @@
 //! contract is the statement, and it does nothing.
 #![tactic(auto)]
 
-ghost use Rattle.vr_seals.specs.Laws.{SealsLast, SlotsAreSealed, ValuesAreSealed};
+ghost use Rattle.vr_seals.specs.Laws.{CheckpointsAreHeadless, SealsLast, SlotsAreSealed, ValuesAreSealed};
 
 /// Where all sectors of a disk are sealed, they are so after calls that write sealed sectors, in each cut of them, and after a fault.
 pub fn seals_last()
@@ -17,4 +17,9 @@ pub fn slots_are_sealed()
 /// So is a value of the superblock that names what was made.
 pub fn values_are_sealed()
     ensures { ValuesAreSealed }
+{}
+
+/// No sector of a checkpoint begins with the header of an entry, as it is or with its bits turned, if those of its sessions don't.
+pub fn checkpoints_are_headless()
+    ensures { CheckpointsAreHeadless }
 {}

@@ -1,14 +1,13 @@
 -- The effects that are begun of a script are sealed, where each of its kind is.
-use Rattle.std.proofs.Common.{ℕ, zero, suc, ◌+◌, ◌-◌, ◌≤◌, ◌<◌, ◌≡◌, inl, inr, arith, refl, sym, ap, ◌∙◌, subst, Bool, true, false, cond, List, [], ◌∷◌, ◌++◌, length, take, Option, Some, None}
-use Rattle.std.specs.Prelude.{nat_lt, slice_get, ⊤}
+use Rattle.std.proofs.Common.{ℕ, zero, suc, ◌+◌, ◌-◌, ◌≡◌, inl, inr, arith, refl, sym, ap, ◌∙◌, subst, true, false, cond, List, [], ◌∷◌, ◌++◌, length, take, Option, Some, None}
+use Rattle.std.specs.Prelude.{nat_lt, slice_get}
 use Rattle.std.specs.List.{AllByRecursion}
-use Rattle.std.proofs.lemmas.List.{append-nil, take-append-le}
+use Rattle.std.proofs.lemmas.List.{append-nil, length-append, take-append-le}
 use Rattle.std.proofs.lemmas.Option.{slice_get_within}
 use Rattle.vr_disk.specs.DiskState as disk
 use Rattle.vr_disk.specs.DiskState.{Call, Write, Sync, Face, Fuse}
 use Rattle.vr_disk.specs.Stops.{IsCall}
 use Rattle.vr_header.specs.declared.header.Header.{Header}
-use Rattle.vr_header.specs.Made.{Whole}
 use Rattle.vr_super.specs.Copies.{SuperValue}
 use Rattle.vr_rules.specs.Steps.{Effect, Rewrite, Save, Mend, Checkpoint, PutBlock, Say}
 use Rattle.vr_rules.specs.Steps as effect
@@ -16,9 +15,17 @@ use Rattle.vr_rules.specs.Sectors.{calls_of}
 use Rattle.vr_rules.specs.Group.{made_in}
 use Rattle.vr_protocol.specs.Basics.{In}
 use Rattle.vr_worlds.specs.Beside.{begun_before}
-use Rattle.vr_worlds.specs.Stocks.{WritesBlocks}
+use Rattle.vr_apply.specs.declared.codec.Texts.{Texts}
+use Rattle.vr_ckpt.specs.Saves.{save_calls, table_of}
+use Rattle.vr_ckpt.specs.declared.table.Payload.{Payload}
+use Rattle.vr_ckpt.specs.declared.table.PayloadTable.{PayloadTable}
+use Rattle.vr_worlds.specs.Stocks.{IsNamed, IsOfState, WritesBlocks}
+use Rattle.vr_worlds.proofs.Blocks.{Texted, table_few, table_named}
+use Rattle.vr_worlds.proofs.States.{text_of_state}
+use Rattle.vr_seals.proofs.Checks.{checkpoints_are_headless}
+use Rattle.vr_seals.specs.Laws.{HasPlace}
 use Rattle.vr_worlds.specs.Worlds.{begun_by}
-use Rattle.vr_seals.specs.Seals.{IsSealed, PutsHeadless}
+use Rattle.vr_seals.specs.Seals.{PutsHeadless}
 use Rattle.vr_seals.proofs.Turning.{sealed_more}
 use Rattle.vr_unforged.specs.Bridged.{AreNamed, IsSealedBlock}
 use Rattle.vr_unforged.specs.Schedules.{ChecksHeadless}
@@ -81,6 +88,31 @@ headless_sealed made [] a b = tt
 headless_sealed made (Write i bytes ∷ cs) a b = ((a.0.0, record { content = a.0.1; front = λ h f. absurd (b.0.front h f); turned = λ h f. absurd (b.0.turned h f) }), headless_sealed made cs a.1 b.1)
 headless_sealed made (Sync ∷ cs) a b = (tt, headless_sealed made cs a.1 b.1)
 
+-- a checkpoint of a state of the program
+texted_of : (texts : Texts) (old : PayloadTable) → IsOfState texts old → Texted texts old
+texted_of texts old h =
+    let t = text_of_state h.state (record { sessions = h.sessions; machine = h.machine }) in
+    subst (λ (x : Texts). Texted x old) (sym h.are) (record { sessions = t.sessions; keys = t.keys; few_sessions = t.few_sessions; few_keys = t.few_keys; old_sessions = h.old_sessions; old_keys = h.old_keys })
+
+places : (ps : List Payload) → AllByRecursion IsNamed ps → AllByRecursion HasPlace ps
+places [] h = tt
+places (p ∷ ps) h = (record { size = h.0.sum.0; some = h.0.some; few = h.0.few }, places ps h.1)
+
+places_both : (xs ys : List Payload) → AllByRecursion HasPlace xs → AllByRecursion HasPlace ys → AllByRecursion HasPlace (xs ++ ys)
+places_both [] ys a b = b
+places_both (x ∷ xs) ys a b = (a.0, places_both xs ys a.1 b)
+
+check_headless : (cluster : ℕ) (texts : Texts) (op : ℕ) (old : PayloadTable) → IsOfState texts old → AllByRecursion IsCall (save_calls cluster texts op old) → ChecksHeadless (Checkpoint cluster texts op old)
+    → AllByRecursion PutsHeadless (save_calls cluster texts op old)
+check_headless cluster texts op old h a s =
+    let x = texted_of texts old h in
+    let t = table_of cluster texts op old in
+    let named = table_named cluster texts op old x in
+    let few = table_few cluster texts op old x in
+    let size = length-append t.sessions t.keys in
+    checkpoints_are_headless cluster texts op old
+    (record { machine = h.state.machine; keys = ap (λ (x : Texts). x.keys) h.are; fits = h.machine.fit; names = places_both t.sessions t.keys (places t.sessions named.sessions) (places t.keys named.keys); few = omega (arith, few, size) }) a s
+
 -- those from here on, which saw these before them
 module _ (made all : List Header) (P : List ℕ → Type 0) (m : (h : Header) → In h made → In h all) where
   seals_from : (es : List Effect) → ((h : Header) → In h (made_in es) → In h all) → ((n : ℕ) (old new : SuperValue) → slice_get es n ≡ Some (Save old new) → AreNamed all new)
@@ -91,7 +123,7 @@ module _ (made all : List Header) (P : List ℕ → Type 0) (m : (h : Header) �
   seals_from (Rewrite x ∷ es) w s b c = (tt, seals_from es w (λ n old new k. s (suc n) old new k) b.1 c.1)
   seals_from (Save old new ∷ es) w s b c = (s 0 old new refl, seals_from es w (λ n old new k. s (suc n) old new k) b.1 c.1)
   seals_from (Mend v ∷ es) w s b c = (tt, seals_from es w (λ n old new k. s (suc n) old new k) b.1 c.1)
-  seals_from (Checkpoint k t o p ∷ es) w s b c = (headless_sealed all _ b.0.0 c.0, seals_from es w (λ n old new k. s (suc n) old new k) b.1 c.1)
+  seals_from (Checkpoint k t o p ∷ es) w s b c = (headless_sealed all _ b.0.0 (check_headless k t o p b.0.1 b.0.0 c.0), seals_from es w (λ n old new k. s (suc n) old new k) b.1 c.1)
   seals_from (PutBlock n x ∷ es) w s b c = (block_more made all x m b.0.1, seals_from es w (λ n old new k. s (suc n) old new k) b.1 c.1)
   seals_from (Say o ∷ es) w s b c = (tt, seals_from es w (λ n old new k. s (suc n) old new k) b.1 c.1)
 

@@ -1,13 +1,11 @@
 -- A group that begins: on its disks nothing reads as the header of an entry.
-use Rattle.std.proofs.Common.{ℕ, zero, suc, ◌+◌, ◌≤◌, ◌<◌, ◌≡◌, arith, refl, sym, ap, ◌∙◌, subst, true, false, List, [], ◌∷◌, ◌++◌, length, map, get_or, Option, Some, None}
-use Rattle.std.specs.Prelude.{All, replicate, slice_get}
-use Rattle.std.specs.List.{AllByRecursion, range_with_len}
+use Rattle.std.proofs.Common.{ℕ, zero, suc, ◌+◌, ◌≤◌, ◌<◌, ◌≡◌, arith, refl, sym, ap, ◌∙◌, subst, true, false, List, [], ◌∷◌, ◌++◌, map, get_or, Some}
+use Rattle.std.specs.List.{range_with_len}
 use Rattle.std.proofs.lemmas.List.{get_or-replicate, length-replicate}
 use Rattle.std.proofs.lemmas.List.FromFn.{get_or-map-range_with_len, length-map-range_with_len}
 use Rattle.std.proofs.lemmas.Option.{slice_get_within, slice_get-get_or}
-use Rattle.vr_disk.specs.DiskState.{Write, Sync, IsContent}
+use Rattle.vr_disk.specs.DiskState.{Write, Sync}
 use Rattle.vr_disk.specs.Regions.{header_place}
-use Rattle.vr_header.specs.declared.header.Header.{Header}
 use Rattle.vr_header.specs.Made.{is_entry_header}
 use Rattle.vr_super.specs.Copies.{copy_bytes}
 use Rattle.vr_super.specs.Calls.{save_from}
@@ -15,15 +13,14 @@ use Rattle.vr_rings.specs.Slots.{sector_of}
 use Rattle.vr_rules.specs.Opening.{first_value}
 use Rattle.vr_rules.specs.Lying.{Lying, format_calls, hazards, reserved_header, reserved_headers, zero_cell, zero_face, zero_prepares, zero_sector}
 use Rattle.vr_rules.specs.World as world
-use Rattle.vr_rules.specs.World.{World, happen}
+use Rattle.vr_rules.specs.World.{happen}
 use Rattle.vr_rules.specs.Group.{fresh_group}
-use Rattle.vr_rules.specs.GroupFit.{IsFitGroup}
 use Rattle.vr_rules.proofs.FitFresh.{fresh_fits}
 use Rattle.vr_rules.proofs.FitGroups.{fresh_group_fits}
 use Rattle.vr_protocol.specs.Basics.{In}
 use Rattle.vr_worlds.proofs.Calls.{copy_are, reserved_is, sector_content, zero_content}
 use Rattle.vr_worlds.proofs.Fresh.{fresh_beside, group_stocked, none_made, some_world}
-use Rattle.vr_seals.specs.Seals.{HasCell, HasSectors, IsSealed, Puts}
+use Rattle.vr_seals.specs.Seals.{HasCell, HasSectors, IsSealed}
 use Rattle.vr_seals.proofs.Contents.{has_after_all}
 use Rattle.vr_seals.proofs.Sectors.{header_sealed, saves_sealed, seals_append}
 use Rattle.vr_seals.proofs.Turning.{plain_sealed}

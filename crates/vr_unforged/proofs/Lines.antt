@@ -1,9 +1,9 @@
 -- A line of a schedule leaves sealed what was sealed.
-use Rattle.std.proofs.Common.{ℕ, zero, suc, ◌+◌, ◌-◌, ◌≤◌, ◌<◌, ◌≡◌, ◌≢◌, inl, inr, arith, refl, sym, ap, ◌∙◌, subst, Bool, true, false, cond, List, [], ◌∷◌, ◌++◌, length, set, Option, Some, None}
-use Rattle.std.specs.Prelude.{◌%◌, nat_le, slice_get, ⊤}
+use Rattle.std.proofs.Common.{ℕ, ◌+◌, ◌-◌, ◌≡◌, inl, inr, refl, sym, ap, ◌∙◌, subst, true, false, cond, List, [], ◌++◌, length, set, Option, Some, None}
+use Rattle.std.specs.Prelude.{◌%◌, nat_le, slice_get}
 use Rattle.std.specs.List.{AllByRecursion}
 use Rattle.std.specs.Option.{option_and_then, option_map, option_map_or}
-use Rattle.std.proofs.lemmas.Bool.{cases_eq, leb-false, leb-true}
+use Rattle.std.proofs.lemmas.Bool.{cases_eq, leb-true}
 use Rattle.std.proofs.lemmas.List.{append-nil}
 use Rattle.vr_base.specs.Bytes.{IsBytes}
 use Rattle.vr_disk.specs.DiskState.{Face, Fuse, IsFace}
@@ -16,13 +16,12 @@ use Rattle.vr_msg.specs.declared.frame.Frame.TheVariants as frame
 use Rattle.vr_msg.specs.declared.output.Sent.{Sent}
 use Rattle.vr_super.specs.Copies.{SuperValue}
 use Rattle.vr_super.specs.Calls.{mend_calls}
-use Rattle.vr_super.specs.Opens.{opens}
 use Rattle.vr_lie.specs.declared.fault.Fault.{Fault}
 use Rattle.vr_lie.specs.Faults.{IsFault, faulted}
 use Rattle.vr_rules.specs.Replica.{Replica}
 use Rattle.vr_rules.specs.Rules.{react}
 use Rattle.vr_rules.specs.Opening.{opened}
-use Rattle.vr_rules.specs.Steps.{Effect, Mend, Step, after_all, outputs}
+use Rattle.vr_rules.specs.Steps.{Effect, Mend, Step, outputs}
 use Rattle.vr_rules.specs.Sectors.{calls}
 use Rattle.vr_rules.specs.Lying.{Lying, hazards, keeps_premise, lied_to, lying, unless_kept_out}
 use Rattle.vr_rules.specs.World as world
@@ -31,20 +30,20 @@ use Rattle.vr_rules.specs.Group as group
 use Rattle.vr_rules.specs.Group.{Arrival, Asked, Group, IsArrival, Message, Time, made_in, mended, opening_script, resumed}
 use Rattle.vr_rules.specs.GroupFit.{IsFitArrival, IsFitGroup}
 use Rattle.vr_rules.proofs.FitDisks.{disks_fit}
-use Rattle.vr_rules.proofs.FitGroups.{Known as IsKnown, good_value, known_right}
+use Rattle.vr_rules.proofs.FitGroups.{good_value, known_right}
 use Rattle.vr_protocol.specs.Basics.{In}
-use Rattle.vr_worlds.specs.Beside.{AreMade, IsOff, IsOn, MayGo}
+use Rattle.vr_worlds.specs.Beside.{AreMade, IsOff, MayGo}
 use Rattle.vr_worlds.specs.Stocks.{IsGiven, IsGivenEvent, IsStockedGroup, WritesBlocks}
-use Rattle.vr_worlds.specs.Worlds.{AreBeside, IsLine, IsUnforged, Stands, Work, begun_by, begun_in, begun_of, handling, opening_as, starting, starting_by, stepping, work_of}
+use Rattle.vr_worlds.specs.Worlds.{AreBeside, IsLine, IsUnforged, Stands, begun_by, begun_in, begun_of, handling, opening_as, starting, starting_by, stepping}
 use Rattle.vr_worlds.proofs.Calls.{mend_are}
-use Rattle.vr_worlds.proofs.Lines.{get_both, message_given, other_place, outputs_given, own_place, some_member, step_well}
+use Rattle.vr_worlds.proofs.Lines.{get_both, other_place, outputs_given, own_place, some_member, step_well}
 use Rattle.vr_worlds.proofs.Matched.{blocks_both, mending_blocks, opened_as, opens_group, start_well, whole}
 use Rattle.vr_worlds.proofs.Starts.{begun_all}
 use Rattle.vr_worlds.proofs.StockingRules.{ReadsOn, b_resuming, gives_read}
 use Rattle.vr_seals.specs.Seals.{HasSectors, IsSealed}
 use Rattle.vr_seals.proofs.Contents.{has_after_all, has_fault, has_weaker}
 use Rattle.vr_seals.proofs.Turning.{sealed_more, turned_sealed}
-use Rattle.vr_unforged.specs.Bridged.{AreNamed, IsBridged, IsSealedBlock}
+use Rattle.vr_unforged.specs.Bridged.{IsBridged, IsSealedBlock}
 use Rattle.vr_unforged.specs.Schedules.{ChecksHeadless, IsSealedWorld}
 use Rattle.vr_unforged.proofs.Begun.{begun_sealed, begun_some, block_more, named_more}
 use Rattle.vr_unforged.proofs.Readings.{block_sealed, found_made}
@@ -188,7 +187,7 @@ module _ (w : World Lying) (made : List Header) (s : IsSealedWorld w made) (i : 
         let bs = begun_by (Some u) x.script m.disk.face in
         elim (nat_le made_calls u.calls) as (λ t. nat_le made_calls u.calls ≡ t → IsSealedWorld (with_member w i (cond t (went hazards m x (Some rest)) (halted hazards i m x u))).world (now bs)) [
           | true ↦ λ t. (let all = begun_all x.script m.disk.face u.calls (leb-true made_calls u.calls t) in
-            subst (λ (es : List Effect). IsSealedWorld (with_member w i (went hazards m x (Some rest))).world (now es)) (sym all) (went_sealed (Some rest) (subst (λ (es : List Effect). AllByRecursion (Seals (now es)) es) all seals)))
+              subst (λ (es : List Effect). IsSealedWorld (with_member w i (went hazards m x (Some rest))).world (now es)) (sym all) (went_sealed (Some rest) (subst (λ (es : List Effect). AllByRecursion (Seals (now es)) es) all seals)))
           | false ↦ λ t. halted_sealed u bs refl seals
         ] refl
 
@@ -268,7 +267,7 @@ module _ (w : World Lying) (g : Group) (b : AreBeside w g) (fits : IsFitGroup 0 
       let v = y.0 in
       let opens_as = opened_as w g i m q b fits stock at there stands v y.1 in
       let all : (o : Option Step) → Some (whole v m.disk) ≡ o → AllByRecursion ChecksHeadless (begun_of (option_map (opening_as m) o))
-          → IsSealedWorld (with_member w i (option_map_or (acts hazards i m) o (stays m))).world (g.made ++ made_in (begun_of (option_map (opening_as m) o))) =
+      → IsSealedWorld (with_member w i (option_map_or (acts hazards i m) o (stays m))).world (g.made ++ made_in (begun_of (option_map (opening_as m) o))) =
       λ o e. subst (λ (o : Option Step). AllByRecursion ChecksHeadless (begun_of (option_map (opening_as m) o)) → IsSealedWorld (with_member w i (option_map_or (acts hazards i m) o (stays m))).world (g.made ++ made_in (begun_of (option_map (opening_as m) o)))) e (start_sealed v run y.1) in
       all (opened lying m.disk) (sym opens_as) plain
 

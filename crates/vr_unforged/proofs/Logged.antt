@@ -1,12 +1,12 @@
 -- In each state that a run of the machine reaches, each header that a value of a superblock names is of an entry that was made.
-use Rattle.std.proofs.Common.{ℕ, zero, suc, ◌≤◌, ◌<◌, ◌≡◌, ◌⊎◌, inl, inr, arith, refl, sym, ap, ◌∙◌, subst, Bool, true, false, cond, List, Option, Some, None}
+use Rattle.std.proofs.Common.{ℕ, zero, suc, ◌≤◌, ◌<◌, ◌≡◌, inl, inr, arith, refl, sym, ap, ◌∙◌, subst, Bool, true, cond, List, Option, Some, None}
 use Rattle.std.proofs.lemmas.Bool.{cases_lt, eq-eqb}
 use Rattle.vr_protocol.specs.Basics.{In, Each, update}
 use Rattle.vr_protocol.specs.Quorums.{Quorums}
 use Rattle.vr_protocol.specs.Headers.{Headers}
-use Rattle.vr_protocol.specs.History.{History, InLog, finish}
+use Rattle.vr_protocol.specs.History.{History, InLog}
 use Rattle.vr_protocol.specs.Members.{Choice, Superblock}
-use Rattle.vr_protocol.specs.Group.{Group, Member, made_at}
+use Rattle.vr_protocol.specs.Group.{Group, made_at}
 use Rattle.vr_protocol.specs.Claims.{SuperblockOk, UnderOk}
 use Rattle.vr_protocol.specs.Claims as claim
 use Rattle.vr_protocol.specs.Machine.{Reached}

@@ -1,5 +1,5 @@
 -- What reads on a sealed disk as a header, as an entry or as a block.
-use Rattle.std.proofs.Common.{ℕ, zero, suc, ◌+◌, ◌*◌, ◌-◌, ◌≤◌, ◌<◌, ◌≡◌, ◌⊎◌, ◌&&◌, inl, inr, arith, refl, sym, ap, ◌∙◌, subst, Bool, true, false, cond, List, [], ◌∷◌, ◌++◌, length, take, drop, Option, Some, None}
+use Rattle.std.proofs.Common.{ℕ, zero, suc, ◌+◌, ◌*◌, ◌-◌, ◌≤◌, ◌<◌, ◌≡◌, ◌&&◌, inl, inr, arith, refl, sym, ap, ◌∙◌, subst, true, false, cond, List, [], ◌∷◌, ◌++◌, take, drop, Option, Some, None}
 use Rattle.std.specs.Prelude.{Contains, is_some, nat_lt, ◌%◌, ◌==◌}
 use Rattle.std.specs.Option.{option_and_then}
 use Rattle.std.proofs.lemmas.Bool.{and_parts, eqb-true, ltb-true}
@@ -23,12 +23,11 @@ use Rattle.vr_grid.specs.Grid.{block_reading, named_at}
 use Rattle.vr_grid.specs.declared.name.Name.{Name}
 use Rattle.vr_rules.specs.Opening.{is_right, may_be}
 use Rattle.vr_rules.specs.Sectors.{block_in}
-use Rattle.vr_rules.specs.Lying.{Lying, lying}
 use Rattle.vr_protocol.specs.Basics.{In}
 use Rattle.vr_worlds.specs.Beside.{AreMade}
 use Rattle.vr_worlds.proofs.Found.{read_header, read_whole}
 use Rattle.vr_worlds.proofs.Loading.{block_are}
-use Rattle.vr_seals.specs.Seals.{Fronts, HasSectors, IsSealed}
+use Rattle.vr_seals.specs.Seals.{HasSectors, IsSealed}
 use Rattle.vr_seals.proofs.Contents.{has_at}
 use Rattle.vr_unforged.specs.Bridged.{IsSealedBlock}
 

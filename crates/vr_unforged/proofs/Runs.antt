@@ -3,20 +3,19 @@ use Rattle.std.proofs.Common.{inl, inr, ◌≡◌, refl, sym, ap, ◌∙◌, sub
 use Rattle.std.specs.Prelude.{All}
 use Rattle.std.proofs.lemmas.List.{append_assoc}
 use Rattle.std.proofs.lemmas.List.Elements.{All-append, All-head, All-tail}
-use Rattle.vr_header.specs.declared.header.Header.{Header}
 use Rattle.vr_msg.specs.declared.output.Output.{Output}
 use Rattle.vr_rules.specs.GroupFit.{IsFitGroup, IsFitMove}
 use Rattle.vr_rules.proofs.FitGroups.{groups_fit}
 use Rattle.vr_rules.specs.Lying.{Lying, hazards}
 use Rattle.vr_rules.specs.World.{Happening, World, happen, happens, nothing}
-use Rattle.vr_rules.specs.Group.{Group, Played, Run, made_in}
+use Rattle.vr_rules.specs.Group.{Group, Played, Run}
 use Rattle.vr_rules.specs.Safe.{run_outputs}
-use Rattle.vr_worlds.specs.Worlds.{AreBeside, IsMatchedBy, Said, aside, begun_in, both, left, none}
+use Rattle.vr_worlds.specs.Worlds.{AreBeside, Said, aside, both, left, none}
 use Rattle.vr_worlds.proofs.Lines.{no_move}
 use Rattle.vr_worlds.proofs.Matched.{lines_are_moves}
 use Rattle.vr_unforged.specs.Bridged.{IsBridged}
 use Rattle.vr_unforged.specs.Schedules.{IsSealedWorld, MayAll, MayHappen}
-use Rattle.vr_unforged.specs.Laws.{HappeningsAreRuns, IsUnforgedBeside, LinesStayUnforged}
+use Rattle.vr_unforged.specs.Laws.{HappeningsAreRuns, LinesStayUnforged}
 use Rattle.vr_unforged.proofs.Lines.{line_leaves, line_unforged}
 use Rattle.vr_unforged.proofs.Values.{bridged_moved}
 
@@ -53,8 +52,7 @@ lines_stay_unforged w g x u may =
     let by = lines_are_moves w g x u.beside u.fit u.stock (record { line = may.line; names = may.names; unforged = line_unforged w g u.beside u.fit u.stock u.bridged u.sealed x }) in
     let one = by.matched in
     let h = happens hazards w x in
-    let sealed = line_leaves w g u.beside u.fit u.stock u.bridged u.sealed x may.line may.blocks in
-    (
+    let sealed = line_leaves w g u.beside u.fit u.stock u.bridged u.sealed x may.line may.sessions in (
       by,
       record {
         beside = one.beside;
@@ -62,15 +60,15 @@ lines_stay_unforged w g x u may =
         stock = by.stock;
         bridged = bridged_run g one.run u.bridged u.fit one.reads one.is;
         sealed = subst (IsSealedWorld h.world) (sym by.made) sealed;
-      }
+      },
     )
 
 -- of the first line, and of those after it
 first_may : (w : World Lying) (x : Happening) (xs : List Happening) → MayAll w (x ∷ xs) → MayHappen w x
-first_may w x xs may = record { line = may.lines.0; names = λ a b p q same. may.names a b (inl p) (inl q) same; blocks = may.blocks.0 }
+first_may w x xs may = record { line = may.lines.0; names = λ a b p q same. may.names a b (inl p) (inl q) same; sessions = may.sessions.0 }
 
 rest_may : (w : World Lying) (x : Happening) (xs : List Happening) → MayAll w (x ∷ xs) → MayAll (happens hazards w x).world xs
-rest_may w x xs may = record { lines = may.lines.1; names = λ a b p q same. may.names a b (inr p) (inr q) same; blocks = may.blocks.1 }
+rest_may w x xs may = record { lines = may.lines.1; names = λ a b p q same. may.names a b (inr p) (inr q) same; sessions = may.sessions.1 }
 
 pub happenings_are_runs : HappeningsAreRuns
 unfolding happen run_outputs

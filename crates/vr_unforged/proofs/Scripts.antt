@@ -1,9 +1,8 @@
 -- What the effects of a script write is sealed, so the disk stays so: to its end, and wherever it is cut.
-use Rattle.std.proofs.Common.{ℕ, zero, suc, ◌+◌, ◌*◌, ◌-◌, ◌≤◌, ◌<◌, ◌≡◌, inl, inr, arith, refl, sym, ap, ◌∙◌, subst, true, false, cond, List, [], ◌∷◌, ◌++◌, length, drop, take, Some}
-use Rattle.std.specs.Prelude.{nat_lt, ⊤, ◌%◌}
+use Rattle.std.proofs.Common.{ℕ, zero, suc, ◌+◌, ◌*◌, ◌-◌, ◌<◌, ◌≡◌, inl, inr, arith, sym, subst, true, false, cond, List, [], ◌∷◌, ◌++◌, length, drop, take}
+use Rattle.std.specs.Prelude.{⊤}
 use Rattle.std.specs.List.{AllByRecursion}
-use Rattle.std.proofs.lemmas.Bool.{cases_lt, le-ltb, lt-ltb}
-use Rattle.std.proofs.lemmas.List.{length-append}
+use Rattle.std.proofs.lemmas.Bool.{cases_lt, le-ltb}
 use Rattle.vr_base.specs.Bytes.{piece}
 use Rattle.vr_base.proofs.Places.{drop_both}
 use Rattle.vr_disk.specs.DiskState as disk

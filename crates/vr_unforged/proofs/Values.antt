@@ -1,6 +1,6 @@
 -- The headers that values name are of entries that were begun to be written: of the values of each member, and of each that a script saves.
-use Rattle.std.proofs.Common.{ℕ, zero, suc, ◌+◌, ◌-◌, ◌≤◌, ◌<◌, ◌≡◌, ◌⊎◌, inl, inr, arith, refl, sym, ap, ◌∙◌, subst, Bool, true, cond, List, [], ◌∷◌, ◌++◌, length, take, drop, Option, Some, None}
-use Rattle.std.specs.Prelude.{All, slice_get, nat_lt}
+use Rattle.std.proofs.Common.{ℕ, zero, suc, ◌+◌, ◌-◌, ◌≤◌, ◌<◌, ◌≡◌, inl, inr, arith, refl, sym, ap, ◌∙◌, subst, Bool, cond, List, [], ◌∷◌, ◌++◌, length, take, drop, Option, Some, None}
+use Rattle.std.specs.Prelude.{All, slice_get}
 use Rattle.std.specs.List.{AllByRecursion}
 use Rattle.std.proofs.lemmas.Bool.{cases_lt, le-ltb, lt-ltb}
 use Rattle.std.proofs.lemmas.List.Elements.{All-cons, All-nil}
@@ -16,7 +16,6 @@ use Rattle.vr_rules.specs.Fit.{ReadsWell}
 use Rattle.vr_msg.specs.declared.event.Event.{Event}
 use Rattle.vr_rules.specs.GroupFit.{IsFitArrival, IsFitGroup, IsFitMove}
 use Rattle.vr_protocol.specs.Basics.{In}
-use Rattle.vr_protocol.specs.Group.{Made}
 use Rattle.vr_protocol.specs.Members.{Superblock}
 use Rattle.vr_safe.specs.Reflecting.{IsUnder, IsValue, entries_by}
 use Rattle.vr_run.proofs.Bridging.{runs_so}

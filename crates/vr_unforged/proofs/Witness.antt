@@ -138,5 +138,5 @@ pub some_schedule_may : SomeScheduleMay
 some_schedule_may = record {
   lines = (tt, (tt, (tt, tt)));
   names = λ a b p q same. absurd (none_hashed a p);
-  blocks = (tick_begun, (tt, (tt, tt)));
+  sessions = (tick_begun, (tt, (tt, tt)));
 }

@@ -1,10 +1,10 @@
--- What is asked of a schedule: its lines, and that names tell texts apart.
+-- What is asked of a schedule: its lines, that names don't collide, and that sessions spell no header.
 use Rattle.std.specs.Prelude.{ℕ, ◌≡◌, ◌⊎◌, ⊤, List, [], ◌∷◌, slice_get, Some}
 use Rattle.std.specs.List.{AllByRecursion}
 use Rattle.vr_header.specs.declared.header.Header.{Header}
 use Rattle.vr_header.specs.NoCollision.{NoCollision}
 use Rattle.vr_msg.specs.declared.output.Sent.{Sent}
-use Rattle.vr_ckpt.specs.Saves.{save_calls}
+use Rattle.vr_ckpt.specs.Saves.{blocks_calls, changed, sessions_run}
 use Rattle.vr_rules.specs.Steps.{Effect, Checkpoint}
 use Rattle.vr_rules.specs.Lying.{Lying, hazards}
 use Rattle.vr_rules.specs.World.{World, Host, Happening, happens}
@@ -27,9 +27,10 @@ abbrev pub IsHashed : World Lying → List Happening → List ℕ → Type 0
 IsHashed w [] bytes = ⊥
 IsHashed w (x ∷ xs) bytes = IsHashedAt w x bytes ⊎ IsHashed (happens hazards w x).world xs bytes
 
--- the sectors of a checkpoint
+-- Where a checkpoint is written, no sector of the blocks of its sessions does: no text of sessions spells the header of an entry there.
+-- A header spells its own name, so one would stand there by chance alone, or by the design of a client, which chooses numbers.
 abbrev pub ChecksHeadless : Effect → Type 0
-ChecksHeadless (Checkpoint cluster texts op old) = AllByRecursion PutsHeadless (save_calls cluster texts op old)
+ChecksHeadless (Checkpoint cluster texts op old) = AllByRecursion PutsHeadless (blocks_calls (changed (sessions_run cluster op) texts.sessions old.sessions))
 ChecksHeadless _ = ⊤
 
 abbrev pub AreHeadless : World Lying → List Happening → Type 0
@@ -40,10 +41,10 @@ AreHeadless w (x ∷ xs) = AllByRecursion ChecksHeadless (begun_in w x) × AreHe
 pub record MayHappen (w : World Lying) (x : Happening) : Type 0 where
   pub line : IsLine x
   pub names : NoCollision (IsHashedAt w x)
-  pub blocks : AllByRecursion ChecksHeadless (begun_in w x)
+  pub sessions : AllByRecursion ChecksHeadless (begun_in w x)
 
 -- and of a schedule
 pub record MayAll (w : World Lying) (xs : List Happening) : Type 0 where
   pub lines : AllByRecursion IsLine xs
   pub names : NoCollision (IsHashed w xs)
-  pub blocks : AreHeadless w xs
+  pub sessions : AreHeadless w xs

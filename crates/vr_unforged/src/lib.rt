@@ -3,7 +3,7 @@
 //! statement, and it does nothing.
 //!
 //! What is asked of a schedule (`MayAll`): its lines are those of a schedule; names don't collide, of what was read, held and written
-//! where a script was cut or a fault was done; no sector of a checkpoint begins with the header of an entry.
+//! where a script was cut or a fault was done; no text of sessions spells the header of an entry where a sector of a checkpoint begins.
 #![tactic(auto)]
 
 ghost use Rattle.vr_unforged.specs.Laws.{HappeningsAreRuns, LinesStayUnforged, SchedulesAreRuns, SomeScheduleMay, WorldsBeginUnforged};

@@ -100,24 +100,24 @@ record Made (p : PayloadBlocks) : Type 0 where
 name_made : (c : Content) → IsNameBytes (block_name c).sum.0
 name_made c = (length-name_of (named_bytes (block_header c)), IsBytes-name_of (named_bytes (block_header c)))
 
-goes_made : (r : Run) (address : ℕ) (bytes : List ℕ) → address < 128 → IsBytes bytes → length bytes ≤ 3968 → Made (goes_to r address bytes)
+goes_made : (r : Run) (address : ℕ) (bytes : List ℕ) → 0 < address → address < 128 → IsBytes bytes → length bytes ≤ 3968 → Made (goes_to r address bytes)
 unfolding goes_to data_content
-goes_made r address bytes l are s = record { blocks = (content_good (data_content r address bytes) l (omega arith) are s, tt); payload = name_made (data_content r address bytes) }
+goes_made r address bytes some l are s = record { blocks = (content_good (data_content r address bytes) l (omega arith) are s, tt); payload = record { sum = name_made (data_content r address bytes); some = some; few = l } }
 
-place_first : (op low : ℕ) → low < 64 → first_place op low < 128
-place_first op low l = elim ((op / 32) % 2 == 0) as (λ t. cond t low (low + 64) < 128) [ true ↦ omega (arith, l) | false ↦ omega (arith, l) ]
+place_first : (op low : ℕ) → 0 < low → low < 64 → (0 < first_place op low) × (first_place op low < 128)
+place_first op low a l = elim ((op / 32) % 2 == 0) as (λ t. (0 < cond t low (low + 64)) × (cond t low (low + 64) < 128)) [ true ↦ (a, omega (arith, l)) | false ↦ (omega arith, omega (arith, l)) ]
 
-place_other : (low address : ℕ) → low < 64 → other_place low address < 128
-place_other low address l = elim (address == low) as (λ t. cond t (low + 64) low < 128) [ true ↦ omega (arith, l) | false ↦ omega (arith, l) ]
+place_other : (low address : ℕ) → 0 < low → low < 64 → (0 < other_place low address) × (other_place low address < 128)
+place_other low address a l = elim (address == low) as (λ t. (0 < cond t (low + 64) low) × (cond t (low + 64) low < 128)) [ true ↦ (omega arith, omega (arith, l)) | false ↦ (a, omega (arith, l)) ]
 
-part_made : (r : Run) (i : ℕ) (bytes : List ℕ) (o : Option Payload) → r.low + i < 64 → IsBytes bytes → length bytes ≤ 3968 → ((p : Payload) → o ≡ Some p → IsNamed p) → Made (payload_blocks r i bytes o)
+part_made : (r : Run) (i : ℕ) (bytes : List ℕ) (o : Option Payload) → 0 < r.low → r.low + i < 64 → IsBytes bytes → length bytes ≤ 3968 → ((p : Payload) → o ≡ Some p → IsNamed p) → Made (payload_blocks r i bytes o)
 unfolding payload_blocks
-part_made r i bytes None l are s old =
-    goes_made r (first_place r.op (r.low + i)) bytes (place_first r.op (r.low + i) l) are s
-part_made r i bytes (Some p) l are s old =
+part_made r i bytes None a l are s old =
+    let w = place_first r.op (r.low + i) (omega (arith, a)) l in goes_made r (first_place r.op (r.low + i)) bytes w.0 w.1 are s
+part_made r i bytes (Some p) a l are s old =
     elim (pointwise nat_eq p.bytes bytes) as (λ t. Made (cond t (stays p) (goes_to r (other_place (r.low + i) p.name.address) bytes))) [
       | true ↦ record { blocks = tt; payload = old p refl }
-      | false ↦ goes_made r (other_place (r.low + i) p.name.address) bytes (place_other (r.low + i) p.name.address l) are s
+      | false ↦ (let w = place_other (r.low + i) p.name.address (omega (arith, a)) l in goes_made r (other_place (r.low + i) p.name.address) bytes w.0 w.1 are s)
     ]
 
 old_named : (ps : List Payload) (i : ℕ) (p : Payload) → AllByRecursion IsNamed ps → slice_get ps i ≡ Some p → IsNamed p
@@ -129,19 +129,19 @@ piece_are : (text : List ℕ) (i : ℕ) → IsBytes text → IsBytes (payload_at
 unfolding payload_at
 piece_are text i are = IsBytes-piece (3968 * i) 3968 text are
 
-made_at : (r : Run) (text : List ℕ) (old : List Payload) (i : ℕ) → r.low + i < 64 → IsBytes text → AllByRecursion IsNamed old → Made (payload_blocks_at r text old i)
-made_at r text old i l are named = part_made r i (payload_at text i) (slice_get old i) l (piece_are text i are) (payload_short text i) (λ p e. old_named old i p named e)
+made_at : (r : Run) (text : List ℕ) (old : List Payload) (i : ℕ) → 0 < r.low → r.low + i < 64 → IsBytes text → AllByRecursion IsNamed old → Made (payload_blocks_at r text old i)
+made_at r text old i a l are named = part_made r i (payload_at text i) (slice_get old i) a l (piece_are text i are) (payload_short text i) (λ p e. old_named old i p named e)
 
-blocks_good : (n i : ℕ) (r : Run) (text : List ℕ) (old : List Payload) → r.low + (i + n) ≤ 64 → IsBytes text → AllByRecursion IsNamed old → AllByRecursion GoodBlock (blocks_from r text old i n)
+blocks_good : (n i : ℕ) (r : Run) (text : List ℕ) (old : List Payload) → 0 < r.low → r.low + (i + n) ≤ 64 → IsBytes text → AllByRecursion IsNamed old → AllByRecursion GoodBlock (blocks_from r text old i n)
 unfolding blocks_from
-blocks_good zero i r text old l are named = tt
-blocks_good (suc n) i r text old l are named =
-    goods_append (payload_blocks_at r text old i).blocks (blocks_from r text old (i + 1) n) (made_at r text old i (omega (arith, l)) are named).blocks (blocks_good n (i + 1) r text old (omega (arith, l)) are named)
+blocks_good zero i r text old a l are named = tt
+blocks_good (suc n) i r text old a l are named =
+    goods_append (payload_blocks_at r text old i).blocks (blocks_from r text old (i + 1) n) (made_at r text old i a (omega (arith, l)) are named).blocks (blocks_good n (i + 1) r text old a (omega (arith, l)) are named)
 
-names_good : (n i : ℕ) (r : Run) (text : List ℕ) (old : List Payload) → r.low + (i + n) ≤ 64 → IsBytes text → AllByRecursion IsNamed old → AllByRecursion IsNamed (payloads_from r text old i n)
+names_good : (n i : ℕ) (r : Run) (text : List ℕ) (old : List Payload) → 0 < r.low → r.low + (i + n) ≤ 64 → IsBytes text → AllByRecursion IsNamed old → AllByRecursion IsNamed (payloads_from r text old i n)
 unfolding payloads_from
-names_good zero i r text old l are named = tt
-names_good (suc n) i r text old l are named = ((made_at r text old i (omega (arith, l)) are named).payload, names_good n (i + 1) r text old (omega (arith, l)) are named)
+names_good zero i r text old a l are named = tt
+names_good (suc n) i r text old a l are named = ((made_at r text old i a (omega (arith, l)) are named).payload, names_good n (i + 1) r text old a (omega (arith, l)) are named)
 
 length_payloads : (n i : ℕ) (r : Run) (text : List ℕ) (old : List Payload) → length (payloads_from r text old i n) ≡ n
 unfolding payloads_from
@@ -168,14 +168,14 @@ table_named cluster texts op old t =
     let a = t.few_sessions in
     let b = t.few_keys in
     record {
-      sessions = names_good (payloads (length texts.sessions)) 0 (sessions_run cluster op) texts.sessions old.sessions (omega (arith, a)) t.sessions t.old_sessions;
-      keys = names_good (payloads (length texts.keys)) 0 (keys_run cluster op) texts.keys old.keys (omega (arith, b)) t.keys t.old_keys;
+      sessions = names_good (payloads (length texts.sessions)) 0 (sessions_run cluster op) texts.sessions old.sessions (omega arith) (omega (arith, a)) t.sessions t.old_sessions;
+      keys = names_good (payloads (length texts.keys)) 0 (keys_run cluster op) texts.keys old.keys (omega arith) (omega (arith, b)) t.keys t.old_keys;
     }
 
 names_are : (ps : List Payload) → AllByRecursion IsNamed ps → IsBytes (names_bytes ps)
 unfolding names_bytes
 names_are [] a = IsBytes-none
-names_are (p ∷ ps) a = IsBytes-append (bytes64 p.name.address) (p.name.sum.0 ++ names_bytes ps) (IsBytes-bytes64 p.name.address) (IsBytes-append p.name.sum.0 (names_bytes ps) a.0.1 (names_are ps a.1))
+names_are (p ∷ ps) a = IsBytes-append (bytes64 p.name.address) (p.name.sum.0 ++ names_bytes ps) (IsBytes-bytes64 p.name.address) (IsBytes-append p.name.sum.0 (names_bytes ps) a.0.sum.1 (names_are ps a.1))
 
 names_long : (ps : List Payload) → AllByRecursion IsNamed ps → length (names_bytes ps) ≡ 24 * length ps
 unfolding names_bytes
@@ -184,7 +184,7 @@ names_long (p ∷ ps) a =
     let x = length-append (bytes64 p.name.address) (p.name.sum.0 ++ names_bytes ps) in
     let y = length-append p.name.sum.0 (names_bytes ps) in
     let z = length-bytes64 p.name.address in
-    let w = a.0.0 in
+    let w = a.0.sum.0 in
     let rest = names_long ps a.1 in
     omega (arith, x, y, z, w, rest)
 
@@ -226,7 +226,7 @@ root_good cluster texts op t n a b =
     let size = root_long op (length texts.sessions) (length texts.keys) t n in
     content_good (root_of cluster texts op t) (place_root op) (omega arith) (root_are op (length texts.sessions) (length texts.keys) t n) (omega (arith, size, a, b))
 
-table_few : (cluster : ℕ) (texts : Texts) (op : ℕ) (old : PayloadTable) → Texted texts old → (length (table_of cluster texts op old).sessions ≤ 9) × (length (table_of cluster texts op old).keys ≤ 36)
+pub table_few : (cluster : ℕ) (texts : Texts) (op : ℕ) (old : PayloadTable) → Texted texts old → (length (table_of cluster texts op old).sessions ≤ 9) × (length (table_of cluster texts op old).keys ≤ 36)
 unfolding table_of
 table_few cluster texts op old t =
     let x = length_payloads (payloads (length texts.sessions)) 0 (sessions_run cluster op) texts.sessions old.sessions in
@@ -244,6 +244,6 @@ save_state_are cluster texts op old t =
     let k = changed (keys_run cluster op) texts.keys old.keys in
     let root = block_of (root_of cluster texts op table) in
     let good : AllByRecursion GoodBlock (s ++ (k ++ root ∷ [])) =
-    goods_append s (k ++ root ∷ []) (blocks_good (payloads (length texts.sessions)) 0 (sessions_run cluster op) texts.sessions old.sessions (omega (arith, a)) t.sessions t.old_sessions)
-    (goods_append k (root ∷ []) (blocks_good (payloads (length texts.keys)) 0 (keys_run cluster op) texts.keys old.keys (omega (arith, b)) t.keys t.old_keys) (root_good cluster texts op table (table_named cluster texts op old t) few.0 few.1, tt)) in
+    goods_append s (k ++ root ∷ []) (blocks_good (payloads (length texts.sessions)) 0 (sessions_run cluster op) texts.sessions old.sessions (omega arith) (omega (arith, a)) t.sessions t.old_sessions)
+    (goods_append k (root ∷ []) (blocks_good (payloads (length texts.keys)) 0 (keys_run cluster op) texts.keys old.keys (omega arith) (omega (arith, b)) t.keys t.old_keys) (root_good cluster texts op table (table_named cluster texts op old t) few.0 few.1, tt)) in
     calls_append (blocks_calls (s ++ (k ++ root ∷ []))) (Sync ∷ []) (good_calls (s ++ (k ++ root ∷ [])) good) (tt, tt)

@@ -1,9 +1,9 @@
 -- What a disk has of a checkpoint consists of bytes.
-use Rattle.std.proofs.Common.{arith, ◌≡◌, ◌≤◌, ◌<◌, ◌+◌, ◌-◌, ◌*◌, refl, subst, ℕ, zero, suc, true, false, cond, List, [], ◌∷◌, ◌++◌, length, Option, Some, None, is_some, min}
-use Rattle.std.specs.Prelude.{All, nat_le, nat_lt, nat_eq, ◌&&◌}
+use Rattle.std.proofs.Common.{arith, ◌≡◌, ◌≤◌, ◌<◌, ◌+◌, ◌-◌, ◌*◌, inl, inr, refl, subst, ℕ, zero, suc, true, false, cond, List, [], ◌∷◌, ◌++◌, length, Option, Some, None, is_some, min}
+use Rattle.std.specs.Prelude.{All, nat_le, nat_lt, nat_eq, ◌==◌, ◌&&◌}
 use Rattle.std.specs.Option.{option_and_then, option_map}
 use Rattle.std.specs.Int.{w16, w64}
-use Rattle.std.proofs.lemmas.Bool.{ltb-true, and_parts, eqb-true, leb-true}
+use Rattle.std.proofs.lemmas.Bool.{ltb-true, and_parts, or_cases, eqb-true, leb-true}
 use Rattle.std.proofs.lemmas.List.Elements.{All-nil, All-cons, All-head, All-tail}
 use Rattle.vr_base.specs.Bytes.{IsBytes, number}
 use Rattle.vr_base.proofs.FieldLaws.{IsBytes-piece, length-piece}
@@ -25,13 +25,12 @@ use Rattle.vr_disk.proofs.Together.{together_bytes}
 use Rattle.vr_apply.specs.declared.codec.Texts.{Texts}
 use Rattle.vr_ckpt.specs.declared.table.PayloadTable.{PayloadTable}
 use Rattle.vr_rules.specs.Sectors.{block_in}
-use Rattle.vr_rules.specs.Sound.{IsNameBytes}
 use Rattle.vr_rules.proofs.FitLoads.{given}
-use Rattle.vr_worlds.specs.Stocks.{IsNamed}
+use Rattle.vr_worlds.specs.Stocks.{IsNamed, IsPlaced}
 use Rattle.vr_worlds.proofs.Blocks.{TableNamed}
 
 abbrev IsGoodName : Name → Type 0
-IsGoodName n = IsNameBytes n.sum.0
+IsGoodName n = IsPlaced n
 
 with_one : (low : ℕ) (name : Name) (rest : Option (List Name)) (names : List Name) → with_name low name rest ≡ Some names
     → (is_place low name.address ≡ true) × (more : List Name) × (rest ≡ Some more) × (name ∷ more ≡ names)
@@ -44,17 +43,26 @@ with_one low name rest names e =
       ] refl q
     ] refl e
 
-good_at : (bytes : List ℕ) (i : ℕ) → 18 + 24 * (i + 1) ≤ length bytes → IsBytes bytes → IsGoodName (name_at bytes i)
-unfolding name_at
-good_at bytes i l are = (length-piece (26 + 24 * i) 16 bytes (omega arith), IsBytes-piece (26 + 24 * i) 16 bytes are)
+place_within : (low address : ℕ) → 1 ≤ low → low < 64 → is_place low address ≡ true → (0 < address) × (address < 128)
+place_within low address a b t =
+    elim (or_cases (address == low) (address == low + 64) t) [
+      | inl e ↦ (let same = eqb-true address low e in (omega (arith, same, a), omega (arith, same, b)))
+      | inr e ↦ (let same = eqb-true address (low + 64) e in (omega (arith, same, a), omega (arith, same, b)))
+    ]
 
-names_are : (n low i : ℕ) (bytes : List ℕ) (names : List Name) → IsBytes bytes → 18 + 24 * (i + n) ≤ length bytes → names_at low bytes i n ≡ Some names → All IsGoodName names
+good_at : (bytes : List ℕ) (i low : ℕ) → 18 + 24 * (i + 1) ≤ length bytes → IsBytes bytes → 1 ≤ low → low < 64 → is_place low (name_at bytes i).address ≡ true → IsGoodName (name_at bytes i)
+unfolding name_at
+good_at bytes i low l are a b t =
+    let w = place_within low (name_at bytes i).address a b t in
+    record { sum = (length-piece (26 + 24 * i) 16 bytes (omega arith), IsBytes-piece (26 + 24 * i) 16 bytes are); some = w.0; few = w.1 }
+
+names_are : (n low i : ℕ) (bytes : List ℕ) (names : List Name) → 1 ≤ low → low + n ≤ 64 → IsBytes bytes → 18 + 24 * (i + n) ≤ length bytes → names_at low bytes i n ≡ Some names → All IsGoodName names
 unfolding names_at
-names_are zero low i bytes names are b e = let same : [] ≡ names = cc in subst (λ (ns : List Name). All IsGoodName ns) same (All-nil IsGoodName)
-names_are (suc n) low i bytes names are b e =
+names_are zero low i bytes names p q are b e = let same : [] ≡ names = cc in subst (λ (ns : List Name). All IsGoodName ns) same (All-nil IsGoodName)
+names_are (suc n) low i bytes names p q are b e =
     let w = with_one low (name_at bytes i) (names_at (low + 1) bytes (i + 1) n) names e in
-    let rest = names_are n (low + 1) (i + 1) bytes w.1 are (omega arith) w.2 in
-    let is : IsGoodName (name_at bytes i) = good_at bytes i (omega arith) are in
+    let rest = names_are n (low + 1) (i + 1) bytes w.1 (omega (arith, p)) (omega (arith, q)) are (omega arith) w.2 in
+    let is : IsGoodName (name_at bytes i) = good_at bytes i low (omega arith) are p (omega (arith, q)) w.0 in
     subst (λ (ns : List Name). All IsGoodName ns) w.3 (All-cons IsGoodName (name_at bytes i) w.1 is rest)
 
 -- the names of a root
@@ -107,8 +115,8 @@ root_names c r are e =
           let more = room.few_keys in
           let size = room.size in
           both_are bytes (names_at 1 bytes 0 s) (names_at 10 bytes s k) r
-          (λ ns i. names_are s 1 0 bytes ns are (omega arith) i)
-          (λ ns i. names_are k 10 s bytes ns are (omega arith) i) q
+          (λ ns i. names_are s 1 0 bytes ns (omega arith) (omega (arith, few)) are (omega arith) i)
+          (λ ns i. names_are k 10 s bytes ns (omega arith) (omega (arith, more)) are (omega arith) i) q
     ] refl e
 
 -- ---- what reads

@@ -25,7 +25,7 @@ use Rattle.vr_kv.specs.Pairs.{kv_decoded, kv_text, pair_text}
 use Rattle.vr_kv.proofs.Steps.{IsKv-deleting, IsKv-empty, IsKv-putting}
 use Rattle.vr_kv.proofs.Texts.{kv_found, length-kv_text}
 use Rattle.vr_sess.specs.Sessions as sess
-use Rattle.vr_sess.specs.Sessions.{IsSessions, OutcomeFits, last_op, oldest}
+use Rattle.vr_sess.specs.Sessions.{IsSessions, OutcomeFits, oldest}
 use Rattle.vr_sess.specs.Effects.{stored}
 use Rattle.vr_sess.specs.Texts.{session_text, sessions_decoded, sessions_text}
 use Rattle.vr_sess.specs.declared.session.Session.{Session}

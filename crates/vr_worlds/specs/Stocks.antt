@@ -1,5 +1,5 @@
 -- What a replica has of which its checkpoints are written, and what is written of blocks.
-use Rattle.std.specs.Prelude.{ℕ, ◌≡◌, ⊤, List, slice_get, Some}
+use Rattle.std.specs.Prelude.{ℕ, ◌<◌, ◌≡◌, ⊤, List, slice_get, Some}
 use Rattle.std.specs.List.{AllByRecursion}
 use Rattle.vr_base.specs.Bytes.{IsBytes}
 use Rattle.vr_disk.specs.Stops.{IsCall}
@@ -16,6 +16,7 @@ use Rattle.vr_apply.specs.Texts.{texts_of}
 use Rattle.vr_apply.specs.declared.codec.Texts.{Texts}
 use Rattle.vr_apply.specs.declared.state.State.{State}
 use Rattle.vr_grid.specs.Grid.{put_calls}
+use Rattle.vr_grid.specs.declared.name.Name.{Name}
 use Rattle.vr_ckpt.specs.declared.table.PayloadTable.{PayloadTable}
 use Rattle.vr_ckpt.specs.Saves.{save_calls}
 use Rattle.vr_ckpt.specs.declared.table.Payload.{Payload}
@@ -24,8 +25,14 @@ use Rattle.vr_rules.specs.Sound.{IsNameBytes}
 use Rattle.vr_rules.specs.Steps.{Effect, Checkpoint, PutBlock, Say}
 use Rattle.vr_rules.specs.Group.{Group, Member}
 
+-- the name of a payload's block
+pub record IsPlaced (name : Name) : Type 0 where
+  pub sum : IsNameBytes name.sum.0
+  pub some : 0 < name.address
+  pub few : name.address < 128
+
 abbrev pub IsNamed : Payload → Type 0
-IsNamed p = IsNameBytes p.name.sum.0
+IsNamed p = IsPlaced p.name
 
 -- its state is one of the program's, and the payloads of its last checkpoint have names
 pub record IsStocked (r : Replica) : Type 0 where

@@ -1,0 +1,5 @@
+pub mod Answers
+pub mod Fitting
+pub mod Cutting
+pub mod Holding
+mod Rows

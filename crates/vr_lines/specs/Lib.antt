@@ -1,0 +1,4 @@
+pub mod Grammar
+pub mod Fits
+pub mod Cuts
+pub mod Held

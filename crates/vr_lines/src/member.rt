@@ -1,0 +1,183 @@
+//! Lines that speak of one replica.
+ghost use Rattle.std.specs.Prelude.{◌≡◌};
+ghost use Rattle.vr_lines.specs.Grammar.{call_of, damage_line, fuse_line, fused, lost_words, member_behind, member_line, misdirect_line, misdirected, replica_word, sector_of, sector_words, stale_line, start_line, stop_line, tick_line, unread_line};
+ghost use Rattle.vr_sched.specs.Words.{words_left};
+
+use crate::Line;
+use vr_sched::{Words, is_word, read_below, read_number};
+
+/// A sector of a replica's disk.
+#[derive(Clone, Copy)]
+pub struct Place {
+    pub replica: u8,
+    pub sector: u32,
+}
+
+/// A replica of a group of `n`.
+fn read_replica(n: u8, words: Words<'_>) -> Option<u8>
+    ensures { result ≡ replica_word n (words_left words.entry) }
+{
+    Some(read_below(u64::from(n), words.only()?)? as u8)
+}
+
+/// `tick R` behind its first word.
+fn read_tick(n: u8, words: Words<'_>) -> Option<Line>
+    ensures { result ≡ tick_line n (words_left words.entry) }
+{
+    Some(Line::Tick(read_replica(n, words)?))
+}
+
+/// `stop R` behind its first word.
+fn read_stop(n: u8, words: Words<'_>) -> Option<Line>
+    ensures { result ≡ stop_line n (words_left words.entry) }
+{
+    Some(Line::Stop(read_replica(n, words)?))
+}
+
+/// `start R` behind its first word.
+fn read_start(n: u8, words: Words<'_>) -> Option<Line>
+    ensures { result ≡ start_line n (words_left words.entry) }
+{
+    Some(Line::Start(read_replica(n, words)?))
+}
+
+/// The number of a call, from 1 to 1,000,000.
+fn read_call(word: &[u8]) -> Option<u32>
+    ensures { result ≡ call_of word.now }
+{
+    let call = read_below(1_000_001, word)?;
+    if call == 0 { None } else { Some(call as u32) }
+}
+
+/// A fuse of these words.
+fn read_fused(n: u8, r: &[u8], j: &[u8], code: &[u8]) -> Option<Line>
+    ensures { result ≡ fused n r.now j.now code.now }
+{
+    let replica = read_below(u64::from(n), r)? as u8;
+    let call = read_call(j)?;
+    let code = read_number(code)?;
+    Some(Line::Fuse {
+        replica,
+        call,
+        code,
+    })
+}
+
+/// `fuse R J CODE` behind its first word.
+fn read_fuse(n: u8, words: Words<'_>) -> Option<Line>
+    ensures { result ≡ fuse_line n (words_left words.entry) }
+{
+    let (r, words) = words.first()?;
+    let (j, words) = words.first()?;
+    read_fused(n, r, j, words.only()?)
+}
+
+fn read_sector(word: &[u8]) -> Option<u32>
+    ensures { result ≡ sector_of word.now }
+{
+    Some(read_below(1424, word)? as u32)
+}
+
+/// R and S.
+fn read_place(n: u8, words: Words<'_>) -> Option<Place>
+    ensures { result ≡ sector_words n (words_left words.entry) }
+{
+    let (r, words) = words.first()?;
+    let s = words.only()?;
+    let replica = read_below(u64::from(n), r)? as u8;
+    let sector = read_sector(s)?;
+    Some(Place { replica, sector })
+}
+
+/// `damage R S` behind its first word.
+fn read_damage(n: u8, words: Words<'_>) -> Option<Line>
+    ensures { result ≡ damage_line n (words_left words.entry) }
+{
+    let Place { replica, sector } = read_place(n, words)?;
+    Some(Line::Damage { replica, sector })
+}
+
+/// `stale R S` behind its first word.
+fn read_stale(n: u8, words: Words<'_>) -> Option<Line>
+    ensures { result ≡ stale_line n (words_left words.entry) }
+{
+    let Place { replica, sector } = read_place(n, words)?;
+    Some(Line::Stale { replica, sector })
+}
+
+/// `unread R S` behind its first word.
+fn read_unread(n: u8, words: Words<'_>) -> Option<Line>
+    ensures { result ≡ unread_line n (words_left words.entry) }
+{
+    let Place { replica, sector } = read_place(n, words)?;
+    Some(Line::Unread { replica, sector })
+}
+
+/// A misdirected write of these words.
+fn read_misdirected(n: u8, r: &[u8], s: &[u8], t: &[u8]) -> Option<Line>
+    ensures { result ≡ misdirected n r.now s.now t.now }
+{
+    let replica = read_below(u64::from(n), r)? as u8;
+    let sector = read_sector(s)?;
+    let other = read_sector(t)?;
+    if sector == other {
+        None
+    } else {
+        Some(Line::Misdirect {
+            replica,
+            sector,
+            other,
+        })
+    }
+}
+
+/// `misdirect R S T` behind its first word.
+fn read_misdirect(n: u8, words: Words<'_>) -> Option<Line>
+    ensures { result ≡ misdirect_line n (words_left words.entry) }
+{
+    let (r, words) = words.first()?;
+    let (s, words) = words.first()?;
+    read_misdirected(n, r, s, words.only()?)
+}
+
+/// What becomes of a disk, by the first word and those behind it.
+fn read_lost(n: u8, word: &[u8], words: Words<'_>) -> Option<Line>
+    ensures { result ≡ lost_words n word.now (words_left words.entry) }
+{
+    if is_word(word, "fuse") {
+        read_fuse(n, words)
+    } else if is_word(word, "damage") {
+        read_damage(n, words)
+    } else if is_word(word, "stale") {
+        read_stale(n, words)
+    } else if is_word(word, "unread") {
+        read_unread(n, words)
+    } else if is_word(word, "misdirect") {
+        read_misdirect(n, words)
+    } else {
+        None
+    }
+}
+
+fn read_behind(n: u8, word: &[u8], words: Words<'_>) -> Option<Line>
+    ensures { result ≡ member_behind n word.now (words_left words.entry) }
+{
+    if is_word(word, "tick") {
+        read_tick(n, words)
+    } else if is_word(word, "stop") {
+        read_stop(n, words)
+    } else if is_word(word, "start") {
+        read_start(n, words)
+    } else {
+        read_lost(n, word, words)
+    }
+}
+
+/// A line that speaks of one replica of a group of `n`.
+#[tactic(auto, unfolding(crate::specs::Grammar::member_line))]
+pub fn read_member(n: u8, words: Words<'_>) -> Option<Line>
+    ensures { result ≡ member_line n (words_left words.entry) }
+{
+    let (word, words) = words.first()?;
+    read_behind(n, word, words)
+}

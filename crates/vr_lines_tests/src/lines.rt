@@ -1,0 +1,53 @@
+//! Lines out of pieces.
+
+use std::process::Abort;
+use vr_lines::{Lines, Next};
+
+/// So many bytes of a piece are taken.
+fn takes(rt: &impl Abort, lines: &mut Lines, piece: &[u8], count: usize) {
+    assert_eq!(rt; lines.push(piece), count);
+}
+
+/// A line comes next.
+fn gives(rt: &impl Abort, lines: &mut Lines, ended: bool, line: &[u8]) {
+    assert_eq!(rt; lines.next(ended), Next::Line);
+    assert_eq!(rt; lines.line(), line);
+}
+
+#[test]
+fn lines_end_where_they_end(rt: HostRuntime) {
+    let mut lines = Lines::new();
+    takes(&rt, &mut lines, b"tick 1\n\ntic", 11);
+    gives(&rt, &mut lines, false, b"tick 1");
+    gives(&rt, &mut lines, false, b"");
+    assert_eq!(rt; lines.next(false), Next::More);
+    takes(&rt, &mut lines, b"k 2", 3);
+    assert_eq!(rt; lines.next(false), Next::More);
+    gives(&rt, &mut lines, true, b"tick 2");
+    assert_eq!(rt; lines.next(true), Next::End);
+}
+
+#[test]
+fn a_line_may_come_byte_by_byte(rt: HostRuntime) {
+    let mut lines = Lines::new();
+    for byte in b"stop 0" {
+        takes(&rt, &mut lines, &[*byte], 1);
+        assert_eq!(rt; lines.next(false), Next::More);
+    }
+    takes(&rt, &mut lines, b"\n", 1);
+    gives(&rt, &mut lines, false, b"stop 0");
+    assert_eq!(rt; lines.next(true), Next::End);
+}
+
+#[test]
+fn the_longest_line_has_room_and_no_longer_one(rt: HostRuntime) {
+    let long = [b'a'; 1136];
+    let mut lines = Lines::new();
+    takes(&rt, &mut lines, &long[..1135], 1135);
+    takes(&rt, &mut lines, b"\nb", 1);
+    gives(&rt, &mut lines, false, &long[..1135]);
+    takes(&rt, &mut lines, &long, 1136);
+    assert_eq!(rt; lines.next(false), Next::TooLong);
+    assert_eq!(rt; lines.next(true), Next::TooLong);
+    takes(&rt, &mut lines, b"c", 0);
+}

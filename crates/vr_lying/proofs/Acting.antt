@@ -1,0 +1,83 @@
+-- A member acts on a disk that tells what its slots hold.
+use Rattle.std.proofs.Common.{ℕ, zero, suc, ◌-◌, ◌<◌, ◌≤◌, ◌≡◌, refl, sym, ap, ◌∙◌, arith, leb, true, false, cond, List, [], ◌∷◌, ◌++◌, length, Option, Some, None, subst}
+use Rattle.std.specs.Prelude.{IfSome}
+use Rattle.std.proofs.lemmas.Bool.{le-leb, lt-leb}
+use Rattle.vr_disk.specs.DiskState as disk
+use Rattle.vr_disk.specs.DiskState.{Call, Disk, Face, Fuse, Runs, runs}
+use Rattle.vr_disk.proofs.Together.{after_all_append}
+use Rattle.vr_lie.specs.Faults.{held_at}
+use Rattle.vr_msg.specs.declared.output.Output.{Output}
+use Rattle.vr_rings.specs.Held.{held_after_all}
+use Rattle.vr_rules.specs.Lying.{Lying, after_calls, cut_calls, each_slot, hazards, lying}
+use Rattle.vr_rules.specs.Replica.{Replica}
+use Rattle.vr_rules.specs.Sectors.{calls, calls_of}
+use Rattle.vr_rules.specs.Steps.{Effect, Step, after_all, outputs}
+use Rattle.vr_rules.specs.World.{Acted, Host, acts, halted, went, went_or_halted}
+use Rattle.vr_lying.specs.Told.{IsTold, burnt, host_on, lying_in}
+use Rattle.vr_lying.specs.Laws.{ActsGo, ActsHalt, HaltedAt, WasCut, WentOn, Went, revived}
+use Rattle.vr_lying.proofs.Runs.{at_slot, no_calls, runs_cut, runs_went, same_rows, slots_count, with_held}
+
+-- ---- the calls of effects
+
+held_both : (cs ds : List Call) (f : Face) (slot : ℕ) (h : Option (List ℕ)) → held_after_all f (cs ++ ds) slot h ≡ held_after_all (disk.after_all f cs) ds slot (held_after_all f cs slot h)
+unfolding held_after_all
+held_both [] ds f slot h = refl
+held_both (c ∷ cs) ds f slot h = held_both cs ds (disk.after f c) slot _
+
+calls_both : (d : Lying) (cs ds : List Call) → after_calls (after_calls d cs) ds ≡ after_calls d (cs ++ ds)
+calls_both d cs ds =
+    let f = disk.after_all d.face cs in
+    let rows = same_rows (λ slot. held_after_all f ds slot (held_at (after_calls d cs).held slot)) (λ slot. held_after_all d.face (cs ++ ds) slot (held_at d.held slot))
+    (λ slot l. ap (held_after_all f ds slot) (at_slot (λ slot. held_after_all d.face cs slot (held_at d.held slot)) slot l) ∙ sym (held_both cs ds d.face slot (held_at d.held slot))) in
+    ap (with_held (disk.after_all f ds)) rows ∙ ap (λ g. with_held g (after_calls d (cs ++ ds)).held) (sym (after_all_append cs ds d.face))
+
+-- effects one after the other leave what all their calls leave
+pub script_calls : (es : List Effect) (d : Lying) → length d.held ≡ 64 → after_all lying d es ≡ after_calls d (calls es d.face)
+unfolding after_all calls
+script_calls [] d n = no_calls d n
+script_calls (e ∷ es) d n =
+    let one = after_calls d (calls_of e d.face) in
+    script_calls es one (slots_count (λ slot. held_after_all d.face (calls_of e d.face) slot (held_at d.held slot))) ∙ calls_both d (calls_of e d.face) (calls es one.face)
+
+-- ---- a step
+
+-- whether the fuse lets so many calls through
+fits_burnt : (index : ℕ) (m : Host Lying) (s : Step) (o : Option Fuse) → IfSome o (λ u. length (calls s.script m.disk.face) ≤ u.calls)
+    → went_or_halted hazards index m s o ≡ went hazards m s (burnt (length (calls s.script m.disk.face)) o)
+fits_burnt index m s None l = refl
+fits_burnt index m s (Some u) l = rw (le-leb (length (calls s.script m.disk.face)) u.calls l) refl
+
+cut_halted : (index : ℕ) (m : Host Lying) (s : Step) (u : Fuse) → u.calls < length (calls s.script m.disk.face) → went_or_halted hazards index m s (Some u) ≡ halted hazards index m s u
+cut_halted index m s u l = rw (lt-leb (length (calls s.script m.disk.face)) u.calls l) refl
+
+abbrev pub member_left : Option Replica → Lying → Option Fuse → List Output → Acted Lying
+member_left r x fuse os = record { member = record { replica = r; disk = x; fuse = fuse }; outputs = os }
+
+pub acts_go : ActsGo
+acts_go index r d e s t h =
+    let cs = calls s.script d.face in
+    let same : e ≡ (runs cs d).disk = let x = h.0 in cc in
+    let w : Went cs d e = subst (λ (e : Disk). Went cs d e) (sym same) (runs_went cs d t (sym h.1)) in
+    let m = host_on r d in
+    let left : after_all lying m.disk s.script ≡ lying_in e = script_calls s.script m.disk t.count ∙ sym w.lying in
+    record {
+      acted = fits_burnt index m s d.fate.fuse w.reach
+          ∙ ap (λ fuse. member_left (Some s.replica) (after_all lying m.disk s.script) fuse (outputs s.script)) (sym w.fuse)
+          ∙ ap (λ x. member_left (Some s.replica) x e.fate.fuse (outputs s.script)) left;
+      told = w.told;
+    }
+
+pub acts_halt : ActsHalt
+acts_halt index r d e s t h =
+    let cs = calls s.script d.face in
+    let same : e ≡ (runs cs d).disk = let x = h.0 in cc in
+    let w : WasCut cs d e = subst (λ (e : Disk). WasCut cs d e) (sym same) (runs_cut cs d t (sym h.1)) in
+    let m = host_on r d in
+    let u = w.fuse in
+    let os = (halted hazards index m s u).outputs in
+    record {
+      acted = ap (λ o. went_or_halted hazards index m s o) w.armed ∙ cut_halted index m s u w.within
+          ∙ ap (λ x. member_left None x None os) (sym w.lying)
+          ∙ ap (λ fuse. member_left None (lying_in e) fuse os) (sym w.spent);
+      told = record { alive = refl; sure = w.sure; count = w.count; next = w.next };
+    }

@@ -1,0 +1,7 @@
+pub mod Words
+pub mod Rules
+pub mod Runs
+pub mod Faults
+pub mod Acting
+pub mod Telling
+pub mod Members

@@ -1,0 +1,204 @@
+-- What calls leave of a disk that tells what its slots hold.
+use Rattle.std.proofs.Common.{ℕ, zero, suc, ◌+◌, ◌-◌, ◌<◌, ◌≤◌, ◌≡◌, refl, sym, ap, ◌∙◌, arith, true, false, cond, List, [], ◌∷◌, length, get_or, map, Option, Some, None, subst}
+use Rattle.std.specs.Prelude.{IfSome}
+use Rattle.std.specs.List.{range_with_len}
+use Rattle.std.proofs.lemmas.List.{ext_get_or}
+use Rattle.std.proofs.lemmas.List.FromFn.{get_or-map-range_with_len, length-map-range_with_len}
+use Rattle.vr_disk.specs.DiskState.{Call, Disk, Face, Fuse, after, after_all, cut, cut_at, ran, runs}
+use Rattle.vr_lie.specs.Faults.{held_at}
+use Rattle.vr_rings.specs.Held.{held_after, held_after_all, held_cut, held_cut_at}
+use Rattle.vr_rules.specs.Lying.{Lying, after_calls, cut_calls, each_slot}
+use Rattle.vr_lying.specs.Told.{IsTold, burnt, lying_in, next_held}
+use Rattle.vr_lying.specs.Laws.{CutsTell, RunsTell, WasCut, Went}
+
+-- ---- lists of slots
+
+pub at_slot : (f : ℕ → Option (List ℕ)) (slot : ℕ) → slot < 64 → held_at (each_slot f) slot ≡ f slot
+at_slot f slot l = get_or-map-range_with_len f 0 64 slot slot None l (omega arith)
+
+pub slots_count : (f : ℕ → Option (List ℕ)) → length (each_slot f) ≡ 64
+slots_count f = length-map-range_with_len f 0 64
+
+pub rows_are : (rows : List (Option (List ℕ))) (f : ℕ → Option (List ℕ)) → length rows ≡ 64 → ((slot : ℕ) → slot < 64 → held_at rows slot ≡ f slot) → rows ≡ each_slot f
+rows_are rows f n h = ext_get_or None rows (each_slot f) (n ∙ sym (slots_count f)) (λ i l. let m : i < 64 = rw n at l in h i m ∙ sym (at_slot f i m))
+
+pub same_rows : (f g : ℕ → Option (List ℕ)) → ((slot : ℕ) → slot < 64 → f slot ≡ g slot) → each_slot f ≡ each_slot g
+same_rows f g h = rows_are (each_slot f) g (slots_count f) (λ slot l. at_slot f slot l ∙ h slot l)
+
+-- ---- calls after a call
+
+-- what a call leaves
+abbrev pub after_one : Lying → Call → Lying
+after_one d c = record { face = after d.face c; held = each_slot (λ slot. held_after d.face c slot (held_at d.held slot)) }
+
+abbrev pub with_held : Face → List (Option (List ℕ)) → Lying
+with_held f rows = record { face = f; held = rows }
+
+pub no_calls : (d : Lying) → length d.held ≡ 64 → d ≡ after_calls d []
+unfolding held_after_all
+no_calls d n = ap (with_held d.face) (rows_are d.held (held_at d.held) n (λ slot l. refl))
+
+pub calls_more : (d : Lying) (c : Call) (cs : List Call) → after_calls (after_one d c) cs ≡ after_calls d (c ∷ cs)
+unfolding held_after_all
+calls_more d c cs =
+    let f = after d.face c in
+    ap (with_held (after_all f cs)) (same_rows (λ slot. held_after_all f cs slot (held_at (after_one d c).held slot)) (λ slot. held_after_all f cs slot (held_after d.face c slot (held_at d.held slot)))
+    (λ slot l. ap (held_after_all f cs slot) (at_slot (λ slot. held_after d.face c slot (held_at d.held slot)) slot l)))
+
+pub cut_more : (d : Lying) (c : Call) (cs : List Call) (j code : ℕ) → cut_calls j code (after_one d c) cs ≡ cut_calls (suc j) code d (c ∷ cs)
+unfolding held_cut cut
+cut_more d c cs j code =
+    let f = after d.face c in
+    ap (with_held (cut j code f cs)) (same_rows (λ slot. held_cut j code f cs slot (held_at (after_one d c).held slot)) (λ slot. held_cut j code f cs slot (held_after d.face c slot (held_at d.held slot)))
+    (λ slot l. ap (held_cut j code f cs slot) (at_slot (λ slot. held_after d.face c slot (held_at d.held slot)) slot l)))
+
+-- ---- one call
+
+record Passed (d : Disk) (c : Call) : Type 0 where
+  ok : (ran d c).ok ≡ true
+  lying : lying_in (ran d c).disk ≡ after_one (lying_in d) c
+  told : IsTold (ran d c).disk
+  fuse : (ran d c).disk.fate.fuse ≡ burnt 1 d.fate.fuse
+  reach : IfSome d.fate.fuse (λ u. 1 ≤ u.calls)
+
+record Cut (d : Disk) (c : Call) : Type 0 where
+  ok : (ran d c).ok ≡ false
+  fuse : Fuse
+  armed : d.fate.fuse ≡ Some fuse
+  first : fuse.calls ≡ 0
+  lying : lying_in (ran d c).disk ≡ record { face = cut_at fuse.code d.face c; held = each_slot (λ slot. held_cut_at fuse.code d.face c slot (held_at d.beside.rows slot)) }
+  spent : (ran d c).disk.fate.fuse ≡ None
+  dead : (ran d c).disk.fate.dead ≡ true
+  sure : (ran d c).disk.fate.failing ≡ []
+  count : length (ran d c).disk.beside.rows ≡ 64
+  next : (ran d c).disk.beside.next ≡ next_held
+
+data One (d : Disk) (c : Call) : Type 0 where
+  passed : Passed d c → One d c
+  was_cut : Cut d c → One d c
+
+one_unarmed : (d : Disk) (c : Call) → IsTold d → d.fate.fuse ≡ None → Passed d c
+unfolding ran
+one_unarmed d c t n = rw (t.alive, t.sure, n, t.next) (record { ok = refl; lying = refl; told = record { alive = refl; sure = refl; count = slots_count (λ slot. held_after d.face c slot (held_at d.beside.rows slot)); next = refl }; fuse = refl; reach = tt })
+
+one_armed : (d : Disk) (c : Call) (u : Fuse) (k : ℕ) → IsTold d → d.fate.fuse ≡ Some u → u.calls ≡ suc k → Passed d c
+unfolding ran
+one_armed d c u k t e n =
+    let v : Fuse = record { calls = suc k; code = u.code } in
+    let same : u ≡ v = ap (λ (n : ℕ). let x : Fuse = record { calls = n; code = u.code } in x) n in
+    let armed : d.fate.fuse ≡ Some v = e ∙ ap Some same in
+    let less : k ≡ suc k - 1 = omega arith in
+    rw (t.alive, t.sure, armed, t.next) (record {
+      ok = refl;
+      lying = refl;
+      told = record { alive = refl; sure = refl; count = slots_count (λ slot. held_after d.face c slot (held_at d.beside.rows slot)); next = refl };
+      fuse = ap (λ (n : ℕ). let x : Fuse = record { calls = n; code = u.code } in Some x) less;
+      reach = omega arith;
+    })
+
+one_cut : (d : Disk) (c : Call) (u : Fuse) → IsTold d → d.fate.fuse ≡ Some u → u.calls ≡ 0 → Cut d c
+unfolding ran
+one_cut d c u t e n =
+    let v : Fuse = record { calls = 0; code = u.code } in
+    let same : u ≡ v = ap (λ (n : ℕ). let x : Fuse = record { calls = n; code = u.code } in x) n in
+    let armed : d.fate.fuse ≡ Some v = e ∙ ap Some same in
+    rw (t.alive, t.sure, armed, t.next) (record { ok = refl; fuse = v; armed = refl; first = refl; lying = refl; spent = refl; dead = refl; sure = refl; count = slots_count (λ slot. held_cut_at u.code d.face c slot (held_at d.beside.rows slot)); next = refl })
+
+one : (d : Disk) (c : Call) → IsTold d → One d c
+one d c t =
+    elim d.fate.fuse as (λ o. d.fate.fuse ≡ o → One d c) [
+      | None ↦ λ e. passed (one_unarmed d c t e)
+      | Some u ↦ λ e. elim u.calls as (λ n. u.calls ≡ n → One d c) [
+        | zero ↦ λ n. was_cut (one_cut d c u t e n)
+        | suc k ↦ λ n. passed (one_armed d c u k t e n)
+      ] refl
+    ] refl
+
+-- ---- fuses
+
+burnt_none : (o : Option Fuse) → o ≡ burnt 0 o
+burnt_none None = refl
+burnt_none (Some u) = let e : u.calls ≡ u.calls - 0 = omega arith in ap (λ (n : ℕ). let x : Fuse = record { calls = n; code = u.code } in Some x) e
+
+reach_none : (o : Option Fuse) → IfSome o (λ u. 0 ≤ u.calls)
+reach_none None = tt
+reach_none (Some u) = omega arith
+
+burnt_more : (n : ℕ) (o : Option Fuse) → burnt n (burnt 1 o) ≡ burnt (suc n) o
+burnt_more n None = refl
+burnt_more n (Some u) = let e : u.calls - 1 - n ≡ u.calls - suc n = omega arith in ap (λ (n : ℕ). let x : Fuse = record { calls = n; code = u.code } in Some x) e
+
+reach_more : (n : ℕ) (o p : Option Fuse) → p ≡ burnt 1 o → IfSome o (λ u. 1 ≤ u.calls) → IfSome p (λ u. n ≤ u.calls) → IfSome o (λ u. suc n ≤ u.calls)
+reach_more n None p e l m = tt
+reach_more n (Some u) p e l m = let k : n ≤ u.calls - 1 = rw e at m in omega arith
+
+-- the fuse before a call, by the one after it
+unburnt : (o : Option Fuse) (v : Fuse) → burnt 1 o ≡ Some v → IfSome o (λ u. 1 ≤ u.calls) → o ≡ Some (record { calls = suc v.calls; code = v.code })
+unburnt None v e l = cc
+unburnt (Some u) v e l =
+    let w : Fuse = record { calls = u.calls - 1; code = u.code } in
+    let p : w ≡ v = cc in
+    let n : u.calls ≡ suc (u.calls - 1) = omega arith in
+    ap (λ (n : ℕ). let x : Fuse = record { calls = n; code = u.code } in Some x) n ∙ ap (λ (x : Fuse). let y : Fuse = record { calls = suc x.calls; code = x.code } in Some y) p
+
+-- ---- all calls
+
+went_none : (d : Disk) → IsTold d → Went [] d d
+went_none d t = record { lying = no_calls (lying_in d) t.count; told = t; fuse = burnt_none d.fate.fuse; reach = reach_none d.fate.fuse }
+
+went_more : (c : Call) (cs : List Call) (d e : Disk) → Passed d c → Went cs (ran d c).disk e → Went (c ∷ cs) d e
+went_more c cs d e p w = record {
+  lying = w.lying ∙ ap (λ x. after_calls x cs) p.lying ∙ calls_more (lying_in d) c cs;
+  told = w.told;
+  fuse = w.fuse ∙ ap (burnt (length cs)) p.fuse ∙ burnt_more (length cs) d.fate.fuse;
+  reach = reach_more (length cs) d.fate.fuse (ran d c).disk.fate.fuse p.fuse p.reach w.reach;
+}
+
+cut_first : (c : Call) (cs : List Call) (d : Disk) → Cut d c → WasCut (c ∷ cs) d (ran d c).disk
+unfolding held_cut cut
+cut_first c cs d x = record {
+  fuse = record { calls = 0; code = x.fuse.code };
+  armed = x.armed ∙ ap (λ (n : ℕ). let u : Fuse = record { calls = n; code = x.fuse.code } in Some u) x.first;
+  within = omega arith;
+  lying = x.lying;
+  spent = x.spent;
+  dead = x.dead;
+  sure = x.sure;
+  count = x.count;
+  next = x.next;
+}
+
+cut_later : (c : Call) (cs : List Call) (d e : Disk) → Passed d c → WasCut cs (ran d c).disk e → WasCut (c ∷ cs) d e
+cut_later c cs d e p x =
+    let u = x.fuse in
+    let within = x.within in record {
+      fuse = record { calls = suc u.calls; code = u.code };
+      armed = unburnt d.fate.fuse u (sym p.fuse ∙ x.armed) p.reach;
+      within = omega arith;
+      lying = x.lying ∙ ap (λ y. cut_calls u.calls u.code y cs) p.lying ∙ cut_more (lying_in d) c cs u.calls u.code;
+      spent = x.spent;
+      dead = x.dead;
+      sure = x.sure;
+      count = x.count;
+      next = x.next;
+    }
+
+pub runs_went : RunsTell
+runs_went [] d t h = went_none d t
+runs_went (c ∷ cs) d t h =
+    elim (one d c t) [
+      | passed p ↦
+          let ok : (runs cs (ran d c).disk).ok ≡ true = rw p.ok at h in
+          rw p.ok (went_more c cs d (runs cs (ran d c).disk).disk p (runs_went cs (ran d c).disk p.told ok))
+      | was_cut x ↦ let no : false ≡ true = rw x.ok at h in absurd cc
+    ]
+
+pub runs_cut : CutsTell
+runs_cut [] d t h = cc
+runs_cut (c ∷ cs) d t h =
+    elim (one d c t) [
+      | passed p ↦
+          let ok : (runs cs (ran d c).disk).ok ≡ false = rw p.ok at h in
+          rw p.ok (cut_later c cs d (runs cs (ran d c).disk).disk p (runs_cut cs (ran d c).disk p.told ok))
+      | was_cut x ↦ rw x.ok (cut_first c cs d x)
+    ]

@@ -1,0 +1,6 @@
+use Rattle.vr_lie.specs.Told.{held_by, told_by}
+use Rattle.vr_lying.proofs.Telling.{told_attached}
+use Rattle.vr_lying.proofs.disk.HostDiskSectorDisk.attach.Goals as goal
+
+pub returns-clause-told : goal.returns-clause-told
+returns-clause-told c = let old = c.args.self.now.lie in let new = c.attach.new.self in told_attached (told_by old) (told_by new) _ (held_by old) (held_by new) c.attach.ensures.held c.attach.ensures.told

@@ -1,0 +1,4 @@
+pub mod Told
+pub mod Laws
+pub mod Disks
+pub mod Named

@@ -1,0 +1,10 @@
+//! A disk that lies and tells what its slots hold, and what replicas do on such disks.
+#![tactic(auto)]
+
+mod disk;
+mod laws;
+mod named;
+
+pub use disk::HostDisk;
+pub use laws::{members_act, runs_tell, steps_read_sectors};
+pub use named::member_of;

@@ -1,0 +1,68 @@
+-- What a running member knows up to its commit number is the one log's.
+use Rattle.std.proofs.Common.{ℕ, suc, ◌≤◌, ◌<◌, ◌≡◌, ◌∙◌, inl, inr, arith, refl, sym, ap, subst, List, length, Some}
+use Rattle.std.proofs.lemmas.Option.{slice_get_within}
+use Rattle.vr_header.specs.declared.header.Header.{Header}
+use Rattle.vr_header.specs.Bodies.{operation_bytes}
+use Rattle.vr_rules.specs.Group as group
+use Rattle.vr_rules.specs.Group.{Member, Played, Runs}
+use Rattle.vr_rules.specs.Replica.{Replica, header_at, part_at}
+use Rattle.vr_protocol.specs.Group.{Group}
+use Rattle.vr_protocol.specs.Laws.{Backed}
+use Rattle.vr_protocol.specs.Parts.{header}
+use Rattle.vr_protocol.proofs.Laws.{agreement}
+use Rattle.vr_protocol.proofs.Moves.{reached_good}
+use Rattle.vr_safe.specs.Chains.{Setup}
+use Rattle.vr_safe.specs.Reflecting.{entries_by}
+use Rattle.vr_safe.proofs.Writing.{told_header}
+use Rattle.vr_run.specs.Bridge.{Bridges}
+use Rattle.vr_agree.specs.Followed.{IsFitRun, IsFollowed}
+use Rattle.vr_agree.specs.Replied.{HasEntry}
+use Rattle.vr_agree.proofs.Backed.{at_end, one_whole}
+use Rattle.vr_agree.proofs.Fitting.{good_whole}
+use Rattle.vr_agree.proofs.Log.{is_log, the_log}
+use Rattle.vr_agree.proofs.Truth.{safe_of_log}
+use Rattle.vr_follow.proofs.Following.{follows_it}
+use Rattle.vr_replied.proofs.Replying.{runs_reply}
+use Rattle.vr_one_log.specs.Laws.{HasOneLog, IsHashedOr, IsOfLog}
+
+-- the machine has committed it
+known_backed : (u : Setup) (g : group.Group) (s : Group Header) → Bridges u g s → (at : ℕ) (m : Member) (r : Replica) → Runs g at m r → (k : ℕ) (h : Header) → k ≤ r.commit → header_at r k ≡ Some h
+    → (v : ℕ) × Backed u.quorums (entries_by u.hash u.cluster) s.sent v k h
+known_backed u g s bridge at m r runs k h within is =
+    let x = (bridge.members at m runs.member).running r runs.running in
+    let q = u.quorums in
+    let hs = entries_by u.hash u.cluster in
+    let good = reached_good q hs s bridge.reached in
+    let a = agreement q hs good.0 s good.1 in
+    let commit = x.reflects.commit in
+    (x.memory.log_view, a.known at x.memory k h x.running (omega arith) (ap header (x.reflects.parts k) ∙ (told_header (part_at r k) ∙ is)))
+
+module _ (cluster n : ℕ) (u : Setup) (run : List Played) (x : IsFollowed cluster n u run) (t : ℕ) (within : t ≤ length run) (g : group.Group) (bridge : Bridges u g (x.group t)) (at : ℕ) (m : Member) (r : Replica) (runs : Runs g at m r) where
+  entry_of : (k : ℕ) (h : Header) → 0 < k → k ≤ r.commit → header_at r k ≡ Some h → HasEntry cluster run (the_log cluster n u run x) k h
+  entry_of k h above low is =
+      let b = (known_backed u g (x.group t) bridge at m r runs k h low is).1 in
+      is_log cluster n u run x b.0 k h above (at_end cluster n u run x t within b.0 k h b.2)
+
+  of_log : IsOfLog cluster run (the_log cluster n u run x) r
+  of_log = record {
+    known = λ k h above low is. let e = entry_of k h above low is in (e.entry, e.at, e.is);
+    read = λ w whole above low is never.
+        let e = entry_of w.header.op w.header above low is in
+        let same : e.entry ≡ w = one_whole (IsHashedOr cluster run (operation_bytes w.operation)) never e.entry w e.is e.good (good_whole w whole) (inl e.hashed) (inr refl) in
+        e.at ∙ ap Some same;
+  }
+
+pub one_log : (cluster n : ℕ) (run : List Played) → IsFitRun cluster n run → HasOneLog cluster n run
+one_log cluster n run fit =
+    let x = follows_it cluster n run fit in
+    let y = x.followed in
+    let s = safe_of_log cluster n x.setup run y (runs_reply cluster n x.setup run y x.bridges) in
+    record {
+      safe = s.0;
+      before = λ t p is at m r runs.
+          let l = slice_get_within run t p is in
+          subst (λ log. IsOfLog cluster run log r) (sym s.1) (of_log cluster n x.setup run y t (omega arith) p.before (x.bridges t p is) at m r runs);
+      after = λ t p is at m r runs.
+          let l = slice_get_within run t p is in
+          subst (λ log. IsOfLog cluster run log r) (sym s.1) (of_log cluster n x.setup run y (suc t) (omega arith) p.moved.group (x.after t p is) at m r runs);
+    }
