@@ -1,20 +1,21 @@
 -- Commands, each against its run.
-use Rattle.std.proofs.Common.{◌≡◌, ◌≤◌, ◌<◌, ◌⊎◌, suc, ℕ, List, Bool, true, Option, Some, None, length, map, refl, subst, sym, inl, inr, arith}
-use Rattle.std.specs.Prelude.{is_some}
+use Rattle.std.proofs.Common.{◌≡◌, ◌≤◌, ◌<◌, ◌∙◌, suc, ℕ, List, [], ◌∷◌, Bool, true, Option, Some, None, length, map, refl, ap, subst, sym, inl, inr, arith}
+use Rattle.std.specs.Prelude.{◌≢◌, is_some, string_bytes, vec_len}
 use Rattle.std.proofs.lemmas.Bool.Decides.{nat_tests}
-use Rattle.std.proofs.lemmas.Grind.{common_steps}
+use Rattle.vr_ask.specs.Asking as ask
+use Rattle.vr_ask.specs.Run as run
 use Rattle.vr_base.specs.Groups.{quorums_of}
-use Rattle.vr_disk.specs.DiskState.{Disk}
-use Rattle.vr_edge.specs.Datagrams.{Arrival}
-use Rattle.vr_edge.specs.declared.datagram.Datagram.{Datagram}
-use Rattle.vr_program.specs.Run.{Asks, Comes, Faults, Outside, RunEnds, Serves, client_of, config_of, counts_of, faults_of, of_client, of_member}
-use Rattle.vr_ask.specs.Run as ask
+use Rattle.vr_base.specs.declared.table.Config.{Config}
 use Rattle.vr_node.specs.Running as node
+use Rattle.vr_program.specs.Run.{Comes, Faults, IsGood, Outside, RunEnds, client_of, config_of, counts_of, faults_of, of_client, of_member}
+use Rattle.vr_serve.specs.Causes as serve
 use Rattle.vr_status.specs.declared.status.Status.{Status}
 use Rattle.vr_status.specs.declared.status.Status.TheVariants.{NoMemory, Usage}
-use Rattle.vr_words.specs.Asked.{Asked, Client, ClientAsked, Node, NodeAsked, is_size}
+use Rattle.vr_words.specs.Asked.{Asked, Client, ClientAsked, Node, NodeAsked, client_says, is_size, node_says}
+use Rattle.vr_words.specs.declared.command.ClientWords.{ClientWords}
+use Rattle.vr_words.specs.declared.command.NodeWords.{NodeWords}
 
-pub size_bounds : (n : ℕ) → is_size n ≡ true → (2 ≤ n) × (n ≤ 6)
+size_bounds : (n : ℕ) → is_size n ≡ true → (2 ≤ n) × (n ≤ 6)
 size_bounds n e = (grind (arith, nat_tests), grind (arith, nat_tests))
 
 sized : (n : ℕ) → 2 ≤ n → n ≤ 6 → is_some (quorums_of n) ≡ true
@@ -27,18 +28,65 @@ sized 5 a b = refl
 sized 6 a b = refl
 sized (suc (suc (suc (suc (suc (suc (suc n))))))) a b = absurd (omega (arith, b))
 
-pub size_quorums : (n : ℕ) → is_size n ≡ true → is_some (quorums_of n) ≡ true
-size_quorums n e = sized n (size_bounds n e).0 (size_bounds n e).1
+map_length : {X Y : Type 0} (f : X → Y) (xs : List X) → length (map f xs) ≡ length xs
+map_length f [] = refl
+map_length f (x ∷ xs) = ap suc (map_length f xs)
 
-pub peers_count : {X Y : Type 0} (f : X → Y) (xs : List X) → length (map f xs) ≡ length xs
-peers_count f xs = grind (arith, common_steps)
+-- ---- a member's words
+
+node_peers : (w : NodeWords) → length (map string_bytes w.peers.items) ≡ vec_len w.peers
+node_peers w = map_length string_bytes w.peers.items ∙ sym w.peers.ok.0
+
+config_with : ℕ → ℕ → ℕ → Config
+config_with cluster replica n = record { cluster = cluster; replica = replica; n = n }
+
+pub node_config : (w : NodeWords) → config_of (node_says w) ≡ record { cluster = w.cluster; replica = w.replica; n = vec_len w.peers }
+node_config w = ap (config_with w.cluster w.replica) (node_peers w)
+
+pub node_most : (w : NodeWords) → IsGood (Node (node_says w)) → vec_len w.peers ≤ 6
+node_most w h = subst (λ n. n ≤ 6) (node_peers w) (size_bounds _ h.0).1
+
+pub node_size : (w : NodeWords) → IsGood (Node (node_says w)) → is_some (quorums_of (config_of (node_says w)).n) ≡ true
+node_size w h = sized _ (size_bounds _ h.0).0 (size_bounds _ h.0).1
+
+pub node_member : (w : NodeWords) → IsGood (Node (node_says w)) → (config_of (node_says w)).replica < (config_of (node_says w)).n
+node_member w h = h.1
+
+pub node_fits : (w : NodeWords) → (config_of (node_says w)).n ≤ vec_len w.peers
+node_fits w = let same : length (map string_bytes w.peers.items) ≡ vec_len w.peers = node_peers w in omega (arith, same)
+
+-- the run of a member in its role is that of its words
+pub by_role : (fresh fresh' : Bool) (c c' : Config) (turns turns' : ℕ) (o o' : node.Outside) (b n : serve.Counts) (s : Status)
+    → fresh ≡ fresh' → c ≡ c' → turns ≡ turns' → node.NodeEnds fresh c turns o o' b n s → node.NodeEnds fresh' c' turns' o o' b n s
+by_role fresh fresh' c c' turns turns' o o' b n s f k t e =
+    subst (λ x. node.NodeEnds x c' turns' o o' b n s) f (subst (λ x. node.NodeEnds fresh x turns' o o' b n s) k (subst (λ x. node.NodeEnds fresh c x o o' b n s) t e))
+
+-- ---- a client's words
+
+client_peers : (w : ClientWords) → length (map string_bytes w.peers.items) ≡ vec_len w.peers
+client_peers w = map_length string_bytes w.peers.items ∙ sym w.peers.ok.0
+
+pub client_least : (w : ClientWords) → IsGood (Client (client_says w)) → 2 ≤ vec_len w.peers
+client_least w h = subst (λ n. 2 ≤ n) (client_peers w) (size_bounds _ h.0).0
+
+pub client_most : (w : ClientWords) → IsGood (Client (client_says w)) → vec_len w.peers ≤ 6
+client_most w h = subst (λ n. n ≤ 6) (client_peers w) (size_bounds _ h.0).1
+
+pub client_named : (w : ClientWords) → IsGood (Client (client_says w)) → w.id ≢ 0
+client_named w h = h.1
+
+pub by_client : (w : ClientWords) (o o' : run.Outside) (b n : ask.Faults) (s : Status)
+    → run.ClientEnds (run.client_with w.cluster w.id (vec_len w.peers) w.turns) o o' b n s → run.ClientEnds (client_of (client_says w)) o o' b n s
+by_client w o o' b n s e = subst (λ k. run.ClientEnds (run.client_with w.cluster w.id k w.turns) o o' b n s) (sym (client_peers w)) e
+
+-- ---- what a command comes to
 
 pub serves : (a : NodeAsked) (o o' : Outside) (b n : Faults) (s : Status)
     → node.NodeEnds a.is_fresh (config_of a) a.turns (of_member o) (of_member o') (counts_of b) (counts_of n) s → o'.source ≡ o.source → Comes (Some (Node a)) o o' b n (Some s)
 serves a o o' b n s e u = (s, refl, record { ends = e; unread = u })
 
 pub asks : (a : ClientAsked) (o o' : Outside) (b n : Faults) (s : Status)
-    → ask.ClientEnds (client_of a) (of_client o) (of_client o') (faults_of b) (faults_of n) s → o'.disk ≡ o.disk → o'.clock ≡ o.clock → Comes (Some (Client a)) o o' b n (Some s)
+    → run.ClientEnds (client_of a) (of_client o) (of_client o') (faults_of b) (faults_of n) s → o'.disk ≡ o.disk → o'.clock ≡ o.clock → Comes (Some (Client a)) o o' b n (Some s)
 asks a o o' b n s e d c = (s, refl, record { ends = e; disk = d; clock = c })
 
 -- ---- the words

@@ -17,7 +17,7 @@ use vr_status::Status;
 use vr_words::{ClientWords, Command, NodeWords, WordsFault, parse};
 
 /// The role of a member with these words.
-#[tactic(auto, using(crate::proofs::Coming::peers_count))]
+#[tactic(auto, using(crate::proofs::Coming::node_most, crate::proofs::Coming::node_config))]
 fn role_of(words: NodeWords) -> Role
     requires { IsGood (Node (node_says words)) }
     ensures config { result.config ≡ config_of (node_says words) }
@@ -38,7 +38,7 @@ fn role_of(words: NodeWords) -> Role
 }
 
 /// A member serves.
-#[tactic(auto, using(crate::proofs::Coming::size_quorums, crate::proofs::Coming::peers_count))]
+#[tactic(auto, using(crate::proofs::Coming::node_size, crate::proofs::Coming::node_member, crate::proofs::Coming::node_fits, crate::proofs::Coming::by_role))]
 fn serve_role<K: Sink, D: SectorDisk, L: Link, C: Clock>(
     alloc: Global,
     words: NodeWords,
@@ -57,7 +57,7 @@ fn serve_role<K: Sink, D: SectorDisk, L: Link, C: Clock>(
 }
 
 /// A client asks.
-#[tactic(auto, using(crate::proofs::Coming::size_bounds, crate::proofs::Coming::peers_count))]
+#[tactic(auto, using(crate::proofs::Coming::client_least, crate::proofs::Coming::client_most, crate::proofs::Coming::client_named, crate::proofs::Coming::by_client))]
 fn ask_group<S: Source, K: Sink, L: Link>(
     alloc: Global,
     words: &ClientWords,
