@@ -7,7 +7,7 @@ use std::process::ExitCode;
 use vr_disk::NoDisk;
 use vr_edge::{LinkRoom, LinkScript, MemClock, MemLink};
 use vr_real::{StdSink, StdSource};
-use vr_top::{Status, code, run, status_line};
+use vr_replay::{Status, code, run, status_line};
 
 /// The words after the program's name, `None` where one of them is no text.
 fn words(rt: &HostRuntime) -> Result<Option<Vec<String>>, AllocError> {
