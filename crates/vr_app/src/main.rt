@@ -18,14 +18,14 @@ fn words(rt: &HostRuntime) -> Result<Option<Vec<String>>, AllocError> {
 }
 
 /// The status of a replay.
-fn status_of(status: vr_top::Status) -> Status {
+fn status_of(status: vr_replay::Status) -> Status {
     match status {
-        vr_top::Status::Done => Status::Done,
-        vr_top::Status::Usage => Status::Usage,
-        vr_top::Status::Refused(line) => Status::Refused(line),
-        vr_top::Status::ReadFault => Status::ReadFault,
-        vr_top::Status::WriteFault => Status::WriteFault,
-        vr_top::Status::NoMemory => Status::NoMemory,
+        vr_replay::Status::Done => Status::Done,
+        vr_replay::Status::Usage => Status::Usage,
+        vr_replay::Status::Refused(line) => Status::Refused(line),
+        vr_replay::Status::ReadFault => Status::ReadFault,
+        vr_replay::Status::WriteFault => Status::WriteFault,
+        vr_replay::Status::NoMemory => Status::NoMemory,
     }
 }
 
@@ -50,7 +50,7 @@ fn run_outside(rt: &HostRuntime) -> Result<Status, AllocError> {
         &mut clock,
     ) {
         Some(status) => Ok(status),
-        None => Ok(status_of(vr_top::run(
+        None => Ok(status_of(vr_replay::run(
             alloc,
             &words,
             &mut source,

@@ -1,13 +1,7 @@
-//! Tests of replicas and groups: the choice of a log, rules, worked schedules through a world and through the whole run.
+//! Tests of groups: the choice of a log, and worked schedules through the whole run.
 #![tactic(auto)]
 
 #[cfg(test)]
 mod choose;
 #[cfg(test)]
-mod normal;
-#[cfg(test)]
-mod replica;
-#[cfg(test)]
-mod top;
-#[cfg(test)]
-mod world;
+mod replay;

@@ -1,0 +1,9 @@
+pub mod Outputs
+pub mod Taken
+pub mod Counts
+pub mod Growing
+pub mod Heard
+pub mod Plays
+pub mod Streams
+pub mod Whole
+pub mod Headline

@@ -1,0 +1,189 @@
+-- Lines that are played one after another, and what the whole schedule says of them.
+use Rattle.std.proofs.Common.{◌≡◌, ◌<◌, ℕ, ◌+◌, List, [], ◌∷◌, ◌++◌, length, Bool, true, false, cond, ltb, refl, ap, sym, ◌∙◌, arith, append_assoc, Option, Some, None}
+use Rattle.std.specs.Option.{option_map_or}
+use Rattle.std.proofs.lemmas.List.{append-nil}
+use Rattle.vr_lines.specs.Fits.{IsLineOf}
+use Rattle.vr_lines.specs.Grammar.{longest, parse}
+use Rattle.vr_lines.specs.declared.line.Line.{Line}
+use Rattle.vr_lines.specs.declared.line.Line.TheVariants as line
+use Rattle.vr_lines.proofs.Fitting.{long_parse, parsed_fits}
+use Rattle.vr_rules.specs.Lying.{Lying, hazards}
+use Rattle.vr_rules.specs.World.{World, no_world, fresh_world, happen, happens}
+use Rattle.vr_group.specs.declared.outputs.Numbered.{Numbered}
+use Rattle.vr_group.specs.Lines.{happening, happenings}
+use Rattle.vr_group.specs.Outputs.{numbered}
+use Rattle.vr_replay.specs.Schedule.{Schedule, limit, line_at, accepted, begun, so_far, refuses, with_line, put_out}
+use Rattle.vr_replay.specs.Playing.{Played, comes, judged, taken, behind, and_then, plays}
+use Rattle.vr_replay.proofs.Growing.{line_grows, numbered_append, sent_after}
+
+pub behind_behind : (a b : List Numbered) (t : Played) → behind a (behind b t) ≡ behind (a ++ b) t
+behind_behind a b t = ap (λ (x : List Numbered). let y : Played = record { world = t.world; number = t.number; refused = t.refused; outputs = x } in y) (sym (append_assoc a b t.outputs))
+
+behind_and_then : (a : List Numbered) (t later : Played) (o : Option ℕ) → behind a (and_then o t later) ≡ and_then o (behind a t) later
+behind_and_then a t later (Some k) = refl
+behind_and_then a t later None = behind_behind a t.outputs later
+
+and_then_then : (t x : Played) (f : World Lying → ℕ → Played) (o : Option ℕ) → t.refused ≡ o → and_then o t (and_then x.refused x (f x.world x.number)) ≡ and_then (and_then o t x).refused (and_then o t x) (f (and_then o t x).world (and_then o t x).number)
+and_then_then t x f (Some k) e = rw e refl
+and_then_then t x f None e = behind_and_then t.outputs x (f x.world x.number) x.refused
+
+pub plays_append : (w : World Lying) (number : ℕ) (xs ys : List (List ℕ)) → plays w number (xs ++ ys) ≡ and_then (plays w number xs).refused (plays w number xs) (plays (plays w number xs).world (plays w number xs).number ys)
+unfolding plays
+plays_append w number [] ys = refl
+plays_append w number (x ∷ xs) ys =
+    let t = taken w number x in
+    ap (and_then t.refused t) (plays_append t.world t.number xs ys) ∙ and_then_then t (plays t.world t.number xs) (λ u k. plays u k ys) t.refused refl
+
+pub plays_line : (w : World Lying) (number : ℕ) (x : List ℕ) (xs : List (List ℕ)) → plays w number (x ∷ xs) ≡ and_then (taken w number x).refused (taken w number x) (plays (taken w number x).world (taken w number x).number xs)
+unfolding plays
+plays_line w number x xs = refl
+
+pub plays_none : (w : World Lying) (number : ℕ) → plays w number [] ≡ record { world = w; number = number; refused = None; outputs = [] }
+unfolding plays
+plays_none w number = refl
+
+-- a refusal ends it
+pub and_then_refused : (t later : Played) (k : ℕ) (o : Option ℕ) → o ≡ Some k → and_then o t later ≡ t
+and_then_refused t later k (Some j) e = refl
+and_then_refused t later k None e = absurd (cc)
+
+pub and_then_none : (t later : Played) (o : Option ℕ) → o ≡ None → and_then o t later ≡ behind t.outputs later
+and_then_none t later (Some j) e = absurd (cc)
+and_then_none t later None e = refl
+
+-- the text only grows
+pub record Extends (old new : List Numbered) : Type 0 where
+  pub more : List Numbered
+  pub is : new ≡ old ++ more
+
+pub extends_refl : (a : List Numbered) → Extends a a
+extends_refl a = record { more = []; is = sym (append-nil a) }
+
+pub and_then_extends : (t later : Played) (o : Option ℕ) → Extends t.outputs (and_then o t later).outputs
+and_then_extends t later (Some k) = extends_refl t.outputs
+and_then_extends t later None = record { more = later.outputs; is = refl }
+
+-- a line that is too long, whatever comes behind it
+none_by : (a : Bool) (o : Option Line) → o ≡ None → cond a o None ≡ None
+none_by true o e = e
+none_by false o e = refl
+
+pub too_long : (w : World Lying) (number : ℕ) (text : List ℕ) → longest < length text → taken w number text ≡ judged w number None
+unfolding taken
+too_long w number text h = ap (judged w number) (none_by (ltb number limit) (parse w.n text) (long_parse w.n text h))
+
+-- a line that is taken speaks of the group
+pub line_at_fits : (n number : ℕ) (text : List ℕ) (l : Line) → line_at n number text ≡ Some l → IsLineOf n l
+line_at_fits n number text l e =
+    let cases : (b : Bool) → cond b (parse n text) None ≡ Some l → parse n text ≡ Some l = elim [ true ↦ λ h. h | false ↦ λ h. absurd (cc) ] in
+    parsed_fits n text l (cases (ltb number limit) e)
+
+-- what a schedule says of lines behind its first
+record Follow (p : Played) (w : World Lying) (s : Schedule) : Type 0 where
+  refused : p.refused ≡ s.refused
+  outputs : p.outputs ≡ numbered (length w.sent) (happen hazards w (happenings s.lines)).outputs
+
+happenings_more : (w : World Lying) (l : Line) (ls : List Line) → (happen hazards w (happenings (l ∷ ls))).outputs ≡ (happens hazards w (happening l)).outputs ++ (happen hazards (happens hazards w (happening l)).world (happenings ls)).outputs
+unfolding happen happenings
+happenings_more w l ls = refl
+
+numbered_line : (w : World Lying) (l : Line) (ls : List Line) → 0 < w.n → IsLineOf w.n l → numbered (length w.sent) (happen hazards w (happenings (l ∷ ls))).outputs ≡ (comes w l).outputs ++ numbered (length (comes w l).world.sent) (happen hazards (comes w l).world (happenings ls)).outputs
+unfolding comes
+numbered_line w l ls some of =
+    let first = happens hazards w (happening l) in
+    let later = happen hazards first.world (happenings ls) in
+    ap (numbered (length w.sent)) (happenings_more w l ls)
+    ∙ numbered_append (length w.sent) first.outputs later.outputs
+    ∙ ap (λ m. numbered (length w.sent) first.outputs ++ numbered m later.outputs) (sym (sent_after w first (line_grows w l some of)))
+
+size_after : (w : World Lying) (l : Line) → 0 < w.n → IsLineOf w.n l → (comes w l).world.n ≡ w.n
+unfolding comes
+size_after w l some of = (line_grows w l some of).size
+
+follow_line : (w : World Lying) (number : ℕ) (l : Line) (texts : List (List ℕ)) → 0 < w.n → IsLineOf w.n l
+    → Follow (plays (comes w l).world (number + 1) texts) (comes w l).world (accepted (comes w l).world.n (number + 1) texts)
+    → Follow (behind (comes w l).outputs (plays (comes w l).world (number + 1) texts)) w (with_line l (accepted w.n (number + 1) texts))
+follow_line w number l texts some of f =
+    let size : (comes w l).world.n ≡ w.n = size_after w l some of in
+    let h = rw size at f in
+    record {
+      refused = h.refused;
+      outputs = ap (λ x. (comes w l).outputs ++ x) h.outputs ∙ sym (numbered_line w l (accepted w.n (number + 1) texts).lines some of);
+    }
+
+plays_follow : (w : World Lying) (number : ℕ) (texts : List (List ℕ)) → 0 < w.n → Follow (plays w number texts) w (accepted w.n number texts)
+unfolding plays taken accepted happen happenings numbered
+plays_follow w number [] some = record { refused = refl; outputs = refl }
+plays_follow w number (text ∷ texts) some =
+    let cases : (o : Option Line) → line_at w.n number text ≡ o → Follow (and_then (judged w number o).refused (judged w number o) (plays (judged w number o).world (judged w number o).number texts)) w (option_map_or (λ l. with_line l (accepted w.n (number + 1) texts)) o (refuses w.n (number + 1))) =
+    elim [
+      | None ↦ λ e. record { refused = refl; outputs = refl }
+      | Some l ↦ λ e.
+          let of = line_at_fits w.n number text l e in
+          let n : (comes w l).world.n ≡ w.n = size_after w l some of in
+          follow_line w number l texts some of (plays_follow (comes w l).world (number + 1) texts (rw n some))
+    ] in
+    cases (line_at w.n number text) refl
+
+pub size_kept : (n number : ℕ) (texts : List (List ℕ)) → (accepted n number texts).n ≡ n
+unfolding accepted
+size_kept n number [] = refl
+size_kept n number (text ∷ texts) =
+    let cases : (o : Option Line) → (option_map_or (λ l. with_line l (accepted n (number + 1) texts)) o (refuses n (number + 1))).n ≡ n = elim [ None ↦ refl | Some l ↦ size_kept n (number + 1) texts ] in
+    cases (line_at n number text)
+
+-- what a whole schedule says of its lines
+pub record Shows (p : Played) (s : Schedule) : Type 0 where
+  pub refused : p.refused ≡ s.refused
+  pub outputs : p.outputs ≡ put_out s
+
+fresh_size : (n : ℕ) → (fresh_world hazards n).n ≡ n
+unfolding fresh_world
+fresh_size n = refl
+
+positive : (n : ℕ) → 0 < n → 0 < (fresh_world hazards n).n
+unfolding fresh_world
+positive n h = h
+
+fresh_sent : (n : ℕ) → length (fresh_world hazards n).sent ≡ 0
+unfolding fresh_world
+fresh_sent n = refl
+
+-- the group of the first line, and of the schedule
+numbered_fresh : (n : ℕ) (texts : List (List ℕ)) → numbered (length (fresh_world hazards n).sent) (happen hazards (fresh_world hazards n) (happenings (accepted (fresh_world hazards n).n 1 texts).lines)).outputs ≡ put_out (accepted n 1 texts)
+numbered_fresh n texts =
+    ap (λ m. numbered m (happen hazards (fresh_world hazards n) (happenings (accepted (fresh_world hazards n).n 1 texts).lines)).outputs) (fresh_sent n)
+    ∙ ap (λ m. numbered 0 (happen hazards (fresh_world hazards n) (happenings (accepted m 1 texts).lines)).outputs) (fresh_size n)
+    ∙ ap (λ m. numbered 0 (happen hazards (fresh_world hazards m) (happenings (accepted n 1 texts).lines)).outputs) (sym (size_kept n 1 texts))
+
+show_first : (text : List ℕ) (texts : List (List ℕ)) (l : Line) → IsLineOf 0 l → Shows (behind (comes no_world l).outputs (plays (comes no_world l).world 1 texts)) (begun texts l)
+unfolding comes numbered
+show_first text texts (line.Cluster n) h =
+    let least = h.1 in
+    let f = plays_follow (fresh_world hazards n) 1 texts (positive n (omega (arith, least))) in
+    let s = accepted n 1 texts in
+    record {
+      refused = f.refused ∙ ap (λ m. (accepted m 1 texts).refused) (fresh_size n);
+      outputs = f.outputs ∙ numbered_fresh n texts;
+    }
+show_first text texts (line.Request replica request) h = absurd (omega (arith, h))
+show_first text texts (line.Deliver number) h = absurd (omega (arith, h))
+show_first text texts (line.Tick replica) h = absurd (omega (arith, h))
+show_first text texts (line.Stop replica) h = absurd (omega (arith, h))
+show_first text texts (line.Start replica) h = absurd (omega (arith, h))
+show_first text texts (line.Fuse replica call code) h = absurd (let z = h.0 in omega (arith, z))
+show_first text texts (line.Damage replica sector) h = absurd (let z = h.0 in omega (arith, z))
+show_first text texts (line.Stale replica sector) h = absurd (let z = h.0 in omega (arith, z))
+show_first text texts (line.Unread replica sector) h = absurd (let z = h.0 in omega (arith, z))
+show_first text texts (line.Misdirect replica sector other) h = absurd (let z = h.0 in omega (arith, z))
+
+pub plays_show : (texts : List (List ℕ)) → Shows (plays no_world 0 texts) (so_far texts)
+unfolding plays taken happen happenings numbered
+plays_show [] = record { refused = refl; outputs = refl }
+plays_show (text ∷ texts) =
+    let cases : (o : Option Line) → line_at 0 0 text ≡ o → Shows (and_then (judged no_world 0 o).refused (judged no_world 0 o) (plays (judged no_world 0 o).world (judged no_world 0 o).number texts)) (option_map_or (begun texts) o (refuses 0 1)) =
+    elim [
+      | None ↦ λ e. record { refused = refl; outputs = refl }
+      | Some l ↦ λ e. show_first text texts l (line_at_fits 0 0 text l e)
+    ] in
+    cases (line_at 0 0 text) refl

@@ -1,0 +1,315 @@
+-- What has come of the source, line by line.
+use Rattle.std.proofs.Common.{◌≡◌, ◌<◌, ◌≤◌, ℕ, ◌+◌, List, [], ◌∷◌, ◌++◌, length, take, drop, Bool, true, false, cond, eqb, ltb, inl, inr, refl, ap, sym, subst, ◌∙◌, arith, append_assoc, length-append, take-append-drop, Option, Some, None}
+use Rattle.std.specs.Io.KnownBytes.{Appends}
+use Rattle.std.proofs.lemmas.List.{append-nil}
+use Rattle.std.proofs.lemmas.Bool.{lt-ltb}
+use Rattle.std.proofs.lemmas.Bool.Decides.{nat_tests}
+use Rattle.vr_base.specs.Causes.{Rose}
+use Rattle.vr_edge.specs.Told.{AppendsFront}
+use Rattle.vr_edge.proofs.Told.{appends_nil, appends_trans}
+use Rattle.vr_lines.specs.Cuts.{Cut, cut, whole_lines}
+use Rattle.vr_lines.specs.Grammar.{longest}
+use Rattle.vr_lines.specs.Held.{Held, IsGiven}
+use Rattle.vr_lines.proofs.Cutting.{Begins, cut_line, cut_part, cut_prefixed, last_append, last_part, prefixed}
+use Rattle.vr_group.specs.declared.outputs.Numbered.{Numbered}
+use Rattle.vr_rules.specs.Lying.{Lying}
+use Rattle.vr_rules.specs.World.{World}
+use Rattle.vr_replay.specs.declared.playing.Replay.{Replay}
+use Rattle.vr_replay.specs.declared.stop.Stop.{Stop}
+use Rattle.vr_replay.specs.declared.stop.Stop.TheVariants as stop
+use Rattle.vr_replay.specs.Playing.{Played, judged, taken, behind, and_then, plays, heard, hears, hears_lines, if_too_long, ends, IsReplay, HearsAll, Hears}
+use Rattle.vr_replay.specs.Schedule.{limit}
+use Rattle.vr_replay.specs.Stops.{Stopped}
+use Rattle.vr_replay.specs.Text.{text_of}
+use Rattle.vr_replay.proofs.Heard.{heard_append, heard_line, heard_part}
+use Rattle.vr_replay.proofs.Outputs.{text_append, text_none}
+use Rattle.vr_replay.proofs.Plays.{behind_behind, plays_append, plays_line, plays_none, and_then_refused, and_then_none, Extends, extends_refl, and_then_extends, too_long}
+
+-- where nothing stands of the next line
+pub sound_at_first : (s : Replay) → s.group.live ≡ true → s.number ≡ 0 → s.lines.bytes ≡ [] → IsReplay s
+unfolding cut
+sound_at_first s live number bytes = record {
+  live = live;
+  part = rw bytes refl;
+  short = rw bytes (omega arith);
+  few = rw number (omega arith);
+}
+
+-- ---- what lines come to, and with more lines behind them: after a refusal nothing more
+
+pub record Follows (t u : Played) : Type 0 where
+  pub same : (k : ℕ) → t.refused ≡ Some k → u ≡ t
+  pub grows : Extends t.outputs u.outputs
+
+pub follows_refl : (t : Played) → Follows t t
+follows_refl t = record { same = λ k e. refl; grows = extends_refl t.outputs }
+
+follows_and_then : (t later : Played) → Follows t (and_then t.refused t later)
+follows_and_then t later = record { same = λ k e. and_then_refused t later k t.refused e; grows = and_then_extends t later t.refused }
+
+-- with more lines behind the same ones
+follows_behind : (a : List Numbered) (t u : Played) → Follows t u → Follows (behind a t) (behind a u)
+follows_behind a t u f = record {
+  same = λ k e. ap (behind a) (f.same k e);
+  grows = record { more = f.grows.more; is = ap (λ ys. a ++ ys) f.grows.is ∙ sym (append_assoc a t.outputs f.grows.more) };
+}
+
+follows_by : (p t u : Played) (o : Option ℕ) → Follows t u → Follows (and_then o p t) (and_then o p u)
+follows_by p t u (Some k) f = follows_refl p
+follows_by p t u None f = follows_behind p.outputs t u f
+
+pub follows_lines : (w : World Lying) (number : ℕ) (a b c : List (List ℕ)) → ((u : World Lying) (k : ℕ) → Follows (plays u k b) (plays u k c)) → Follows (plays w number (a ++ b)) (plays w number (a ++ c))
+follows_lines w number a b c f =
+    rw (plays_append w number a b, plays_append w number a c)
+    (follows_by (plays w number a) _ _ (plays w number a).refused (f (plays w number a).world (plays w number a).number))
+
+pub follows_none : (w : World Lying) (number : ℕ) (texts : List (List ℕ)) → Follows (plays w number []) (plays w number texts)
+unfolding plays
+follows_none w number texts = record { same = λ k e. absurd (cc); grows = record { more = (plays w number texts).outputs; is = refl } }
+
+-- what has not ended and is too long, and whatever comes behind it
+pub follows_long : (w : World Lying) (number : ℕ) (p : List ℕ) (texts : List (List ℕ)) → longest < length p → Begins p texts → Follows (plays w number (p ∷ [])) (plays w number texts)
+follows_long w number p texts long b =
+    let longer : longest < length (p ++ b.rest) = grind (arith, length-append p b.rest) in
+    let one = plays_line w number p [] ∙ ap (λ (t : Played). and_then t.refused t (plays t.world t.number [])) (too_long w number p long) in
+    let other = ap (plays w number) b.is ∙ plays_line w number (p ++ b.rest) b.later ∙ ap (λ (t : Played). and_then t.refused t (plays t.world t.number b.later)) (too_long w number (p ++ b.rest) longer) in
+    rw (one, other) (follows_refl (judged w number None))
+
+pub is_long : (bytes : List ℕ) → longest < length bytes → if_too_long bytes ≡ bytes ∷ []
+is_long bytes h = rw (lt-ltb longest (length bytes) h) refl
+
+pub not_long : (bytes : List ℕ) → length bytes ≤ longest → if_too_long bytes ≡ []
+not_long bytes h = grind (arith, nat_tests)
+
+begins_by : (p : List ℕ) (lines : List (List ℕ)) (last : List ℕ) → longest < length p → Begins p ((prefixed p lines last).lines ++ if_too_long (prefixed p lines last).last)
+unfolding prefixed
+begins_by p [] last long =
+    let longer : longest < length (p ++ last) = grind (arith, length-append p last) in
+    rw (is_long (p ++ last) longer) (record { rest = last; later = []; is = refl })
+begins_by p (line ∷ lines) last long = record { rest = line; later = lines ++ if_too_long last; is = refl }
+
+begins_heard : (p ys : List ℕ) → longest < length p → whole_lines p ≡ [] → Begins p (heard (p ++ ys))
+unfolding heard
+begins_heard p ys long h =
+    let P : Cut → Type 0 = λ c. Begins p (c.lines ++ if_too_long c.last) in
+    subst P (sym (cut_prefixed p ys h)) (begins_by p (cut ys).lines (cut ys).last long)
+
+follows_part : (w : World Lying) (number : ℕ) (p rest : List ℕ) → whole_lines p ≡ [] → Follows (plays w number (if_too_long p)) (plays w number (heard (p ++ rest)))
+follows_part w number p rest part =
+    let cases : (b : Bool) → ltb longest (length p) ≡ b → Follows (plays w number (cond b (p ∷ []) [])) (plays w number (heard (p ++ rest))) =
+    elim [
+      | true ↦ λ e. let long : longest < length p = grind (arith, nat_tests) in follows_long w number p (heard (p ++ rest)) long (begins_heard p rest long part)
+      | false ↦ λ e. follows_none w number (heard (p ++ rest))
+    ] in
+    cases (ltb longest (length p)) refl
+
+heard_both : (bytes : List ℕ) → heard bytes ≡ whole_lines bytes ++ if_too_long (cut bytes).last
+unfolding heard
+heard_both bytes = refl
+
+-- bytes, and more bytes behind them
+follows_more : (w : World Lying) (number : ℕ) (bytes rest : List ℕ) → Follows (plays w number (heard bytes)) (plays w number (heard (bytes ++ rest)))
+follows_more w number bytes rest =
+    rw (heard_both bytes, heard_append bytes rest)
+    (follows_lines w number (whole_lines bytes) (if_too_long (cut bytes).last) (heard ((cut bytes).last ++ rest)) (λ u k. follows_part u k (cut bytes).last rest (last_part bytes)))
+
+-- ---- a stop behind other lines, and before others
+
+pub rose_from : (first before now : ℕ) → first ≤ before → Rose before now → Rose first now
+rose_from first before now h k = omega arith
+
+pub front_then : (a b c : Option (List ℕ)) (xs ys all more : List ℕ) → Appends a b xs → AppendsFront b c ys → all ≡ (xs ++ ys) ++ more → AppendsFront a c all
+front_then a b c xs ys all more h k e = (
+  xs ++ k.0,
+  k.1 ++ more,
+  appends_trans a b c xs k.0 h k.2,
+  append_assoc xs k.0 (k.1 ++ more) ∙ ap (λ x. xs ++ x) (sym (append_assoc k.0 k.1 more) ∙ ap (λ x. x ++ more) k.3) ∙ sym (append_assoc xs ys more) ∙ sym e,
+)
+
+text_within : (outputs : List Numbered) (t u all : Played) → all ≡ behind outputs u → (e : Extends t.outputs u.outputs) → text_of all.outputs ≡ (text_of outputs ++ text_of t.outputs) ++ text_of e.more
+text_within outputs t u all is e =
+    ap (λ (p : Played). text_of p.outputs) is
+    ∙ ap (λ ys. text_of (outputs ++ ys)) e.is
+    ∙ text_append outputs (t.outputs ++ e.more)
+    ∙ ap (λ ys. text_of outputs ++ ys) (text_append t.outputs e.more)
+    ∙ sym (append_assoc (text_of outputs) (text_of t.outputs) (text_of e.more))
+
+front_within : (a b c : Option (List ℕ)) (outputs : List Numbered) (t u all : Played) → all ≡ behind outputs u → Extends t.outputs u.outputs → Appends a b (text_of outputs) → AppendsFront b c (text_of t.outputs) → AppendsFront a c (text_of all.outputs)
+front_within a b c outputs t u all is e h k =
+    front_then a b c (text_of outputs) (text_of t.outputs) _ (text_of e.more) h k (text_within outputs t u all is e)
+
+pub stopped_within : (first before now : ℕ) (a b c : Option (List ℕ)) (outputs : List Numbered) (t u all : Played) (why : Stop) → first ≤ before → all ≡ behind outputs u → Follows t u → Appends a b (text_of outputs) → Stopped before now b c t why → Stopped first now a c all why
+stopped_within first before now a b c outputs t u all (stop.Refused k) le is f h s =
+    let same = is ∙ ap (behind outputs) (f.same k s.0) in (
+      ap (λ (p : Played). p.refused) same ∙ s.0,
+      rw (same, text_append outputs t.outputs) (appends_trans a b c (text_of outputs) (text_of t.outputs) h s.1),
+    )
+stopped_within first before now a b c outputs t u all stop.WriteFault le is f h s =
+    (rose_from first before now le s.0, front_within a b c outputs t u all is f.grows h s.1)
+stopped_within first before now a b c outputs t u all stop.NoMemory le is f h s = front_within a b c outputs t u all is f.grows h s
+
+-- ---- the lines that have ended
+
+-- in the midst of them
+pub record Taking (first now : Replay) (taken_first taken_now : Option (List ℕ)) : Type 0 where
+  pub outputs : List Numbered
+  pub played : hears_lines first ≡ behind outputs (hears_lines now)
+  pub last : (cut first.lines.bytes).last ≡ (cut now.lines.bytes).last
+  pub text : Appends taken_first taken_now (text_of outputs)
+
+pub taking_start : (s : Replay) (t : Option (List ℕ)) → Taking s s t t
+taking_start s t = record { outputs = []; played = refl; last = refl; text = rw text_none (appends_nil t) }
+
+-- one line more
+hears_line : (w : World Lying) (number : ℕ) (bytes line rest : List ℕ) → whole_lines line ≡ [] → bytes ≡ line ++ 10 ∷ rest → plays w number (heard bytes) ≡ and_then (taken w number line).refused (taken w number line) (plays (taken w number line).world (taken w number line).number (heard rest))
+hears_line w number bytes line rest part whole =
+    ap (λ x. plays w number (heard x)) whole
+    ∙ ap (plays w number) (heard_line line rest part)
+    ∙ plays_line w number line (heard rest)
+
+pub taking_more : (first s s' : Replay) (line : List ℕ) (t0 t t' : Option (List ℕ)) → Taking first s t0 t → whole_lines line ≡ [] → s.lines.bytes ≡ line ++ 10 ∷ s'.lines.bytes → s'.group.world ≡ (taken s.group.world s.number line).world → s'.number ≡ (taken s.group.world s.number line).number → (taken s.group.world s.number line).refused ≡ None → Appends t t' (text_of (taken s.group.world s.number line).outputs) → Taking first s' t0 t'
+taking_more first s s' line t0 t t' m part whole world number accepted text =
+    let line_played = taken s.group.world s.number line in
+    let rest = s'.lines.bytes in
+    let next = hears_line s.group.world s.number s.lines.bytes line rest part whole ∙ and_then_none line_played _ line_played.refused accepted in
+    let same : plays line_played.world line_played.number (heard rest) ≡ hears_lines s' = rw (world, number) refl in
+    record {
+      outputs = m.outputs ++ line_played.outputs;
+      played = m.played ∙ ap (behind m.outputs) (next ∙ ap (behind line_played.outputs) same) ∙ behind_behind m.outputs line_played.outputs (hears_lines s');
+      last = m.last ∙ ap (λ x. (cut x).last) whole ∙ ap (λ (c : Cut). c.last) (cut_line line rest part);
+      text = rw (text_append m.outputs line_played.outputs) (appends_trans t0 t t' _ _ m.text text);
+    }
+
+pub taking_stopped : (before after now : ℕ) (a b c : Option (List ℕ)) (first s : Replay) (line rest : List ℕ) (why : Stop) → before ≤ after → Taking first s a b → whole_lines line ≡ [] → s.lines.bytes ≡ line ++ 10 ∷ rest → Stopped after now b c (taken s.group.world s.number line) why → Stopped before now a c (hears_lines first) why
+taking_stopped before after now a b c first s line rest why le m part whole h =
+    let t = taken s.group.world s.number line in
+    stopped_within before after now a b c m.outputs t _ (hears_lines first) why le
+    (m.played ∙ ap (behind m.outputs) (hears_line s.group.world s.number s.lines.bytes line rest part whole)) (follows_and_then t (plays t.world t.number (heard rest))) m.text h
+
+-- no line more has ended
+none_heard : (w : World Lying) (number : ℕ) (bytes : List ℕ) → whole_lines bytes ≡ [] → length bytes ≤ longest → plays w number (heard bytes) ≡ record { world = w; number = number; refused = None; outputs = [] }
+none_heard w number bytes part short =
+    ap (plays w number) (heard_part bytes part ∙ not_long bytes short) ∙ plays_none w number
+
+pub taking_done : (first s s' : Replay) (a b : Option (List ℕ)) → Taking first s a b → s.group.live ≡ true → s.number ≤ limit → whole_lines s.lines.bytes ≡ [] → length s.lines.bytes ≤ longest → s'.group ≡ s.group → s'.number ≡ s.number → s'.lines.bytes ≡ s.lines.bytes → HearsAll first s' first.lines.bytes a b
+taking_done first s s' a b m live few part short group number bytes =
+    let all = m.played ∙ ap (behind m.outputs) (none_heard s.group.world s.number s.lines.bytes part short) in
+    record {
+      world = ap (λ g. g.world) group ∙ sym (ap (λ (p : Played). p.world) all);
+      number = number ∙ sym (ap (λ (p : Played). p.number) all);
+      accepted = ap (λ (p : Played). p.refused) all;
+      partial = bytes ∙ sym (ap (λ (c : Cut). c.last) (cut_part s.lines.bytes part)) ∙ sym m.last;
+      sound = record {
+        live = rw group live;
+        part = rw bytes part;
+        short = rw bytes short;
+        few = rw number few;
+      };
+      text = rw (ap (λ (p : Played). text_of p.outputs) all, append-nil m.outputs) m.text;
+    }
+
+-- the next one is too long
+pub taking_refused : (before now : ℕ) (first s : Replay) (a b : Option (List ℕ)) → Taking first s a b → whole_lines s.lines.bytes ≡ [] → longest < length s.lines.bytes → Stopped before now a b (hears_lines first) (stop.Refused (s.number + 1))
+taking_refused before now first s a b m part long =
+    let bytes = s.lines.bytes in
+    let w = s.group.world in
+    let all = m.played ∙ ap (behind m.outputs) (ap (plays w s.number) (heard_part bytes part ∙ is_long bytes long) ∙ plays_line w s.number bytes [] ∙ ap (λ (p : Played). and_then p.refused p (plays p.world p.number [])) (too_long w s.number bytes long)) in (
+      ap (λ (p : Played). p.refused) all,
+      rw (ap (λ (p : Played). text_of p.outputs) all, append-nil m.outputs) m.text,
+    )
+
+-- ---- a piece of the source
+
+-- in the midst of it: the rest is still to be heard
+pub record InPiece (first now : Replay) (piece rest : List ℕ) (taken_first taken_now : Option (List ℕ)) : Type 0 where
+  pub outputs : List Numbered
+  pub played : hears first piece ≡ behind outputs (hears now rest)
+  pub last : (cut (first.lines.bytes ++ piece)).last ≡ (cut (now.lines.bytes ++ rest)).last
+  pub text : Appends taken_first taken_now (text_of outputs)
+
+pub piece_start : (s : Replay) (piece : List ℕ) (t : Option (List ℕ)) → InPiece s s piece piece t t
+piece_start s piece t = record { outputs = []; played = refl; last = refl; text = rw text_none (appends_nil t) }
+
+-- so many bytes of it stand behind what stood, in s'
+split_at : (bytes rest : List ℕ) (count : ℕ) → bytes ++ rest ≡ (bytes ++ take count rest) ++ drop count rest
+split_at bytes rest count = ap (λ x. bytes ++ x) (sym (take-append-drop count rest)) ∙ sym (append_assoc bytes (take count rest) (drop count rest))
+
+pub heard_short : (bytes : List ℕ) → length (cut bytes).last ≤ longest → whole_lines bytes ≡ heard bytes
+unfolding heard
+heard_short bytes h = sym (append-nil (whole_lines bytes)) ∙ ap (λ x. whole_lines bytes ++ x) (sym (not_long (cut bytes).last h))
+
+-- lines that were heard, and what stands behind them
+hears_behind : (s s' : Replay) (all rest : List ℕ) (a b : Option (List ℕ)) → HearsAll s s' all a b → plays s.group.world s.number (heard (all ++ rest)) ≡ behind (plays s.group.world s.number (heard all)).outputs (hears s' rest)
+hears_behind s s' all rest a b h =
+    let w = s.group.world in
+    let short : length (cut all).last ≤ longest = rw (← h.partial) h.sound.short in
+    let p = plays w s.number (heard all) in
+    let same = heard_short all short in
+    let lines : heard (all ++ rest) ≡ heard all ++ heard (s'.lines.bytes ++ rest) = heard_append all rest ∙ ap (λ x. x ++ heard ((cut all).last ++ rest)) same ∙ ap (λ l. heard all ++ heard (l ++ rest)) (sym h.partial) in
+    ap (plays w s.number) lines
+    ∙ plays_append w s.number (heard all) (heard (s'.lines.bytes ++ rest))
+    ∙ and_then_none p _ p.refused h.accepted
+    ∙ ap (λ u. behind p.outputs (plays u p.number (heard (s'.lines.bytes ++ rest)))) (sym h.world)
+    ∙ ap (λ k. behind p.outputs (plays s'.group.world k (heard (s'.lines.bytes ++ rest)))) (sym h.number)
+
+pub piece_more : (first s pushed s' : Replay) (piece rest : List ℕ) (count : ℕ) (t0 t t' : Option (List ℕ)) → InPiece first s piece rest t0 t → pushed.group ≡ s.group → pushed.number ≡ s.number → pushed.lines.bytes ≡ s.lines.bytes ++ take count rest → HearsAll pushed s' pushed.lines.bytes t t' → InPiece first s' piece (drop count rest) t0 t'
+piece_more first s pushed s' piece rest count t0 t t' m group number bytes h =
+    let later = drop count rest in
+    let here = pushed.lines.bytes in
+    let split : s.lines.bytes ++ rest ≡ here ++ later = split_at s.lines.bytes rest count ∙ ap (λ x. x ++ later) (sym bytes) in
+    let same : hears s rest ≡ plays pushed.group.world pushed.number (heard (here ++ later)) = ap (λ x. plays s.group.world s.number (heard x)) split ∙ ap (λ g. plays g.world s.number (heard (here ++ later))) (sym group) ∙ ap (λ k. plays pushed.group.world k (heard (here ++ later))) (sym number) in
+    let p = hears_lines pushed in
+    record {
+      outputs = m.outputs ++ p.outputs;
+      played = m.played ∙ ap (behind m.outputs) (same ∙ hears_behind pushed s' here later t t' h) ∙ behind_behind m.outputs p.outputs (hears s' later);
+      last = m.last ∙ ap (λ x. (cut x).last) split ∙ last_append here later ∙ ap (λ l. (cut (l ++ later)).last) (sym h.partial);
+      text = rw (text_append m.outputs p.outputs) (appends_trans t0 t t' _ _ m.text h.text);
+    }
+
+pub piece_stopped : (before after now : ℕ) (a b c : Option (List ℕ)) (first s pushed : Replay) (piece rest : List ℕ) (count : ℕ) (why : Stop) → before ≤ after → InPiece first s piece rest a b → pushed.group ≡ s.group → pushed.number ≡ s.number → pushed.lines.bytes ≡ s.lines.bytes ++ take count rest → Stopped after now b c (hears_lines pushed) why → Stopped before now a c (hears first piece) why
+piece_stopped before after now a b c first s pushed piece rest count why le m group number bytes h =
+    let later = drop count rest in
+    let here = pushed.lines.bytes in
+    let split : s.lines.bytes ++ rest ≡ here ++ later = split_at s.lines.bytes rest count ∙ ap (λ x. x ++ later) (sym bytes) in
+    let same : hears s rest ≡ plays pushed.group.world pushed.number (heard (here ++ later)) = ap (λ x. plays s.group.world s.number (heard x)) split ∙ ap (λ g. plays g.world s.number (heard (here ++ later))) (sym group) ∙ ap (λ k. plays pushed.group.world k (heard (here ++ later))) (sym number) in
+    stopped_within before after now a b c m.outputs (hears_lines pushed) _ (hears first piece) why le
+    (m.played ∙ ap (behind m.outputs) same) (follows_more pushed.group.world pushed.number here later) m.text h
+
+pub piece_done : (first s : Replay) (piece rest : List ℕ) (a b : Option (List ℕ)) → IsReplay s → InPiece first s piece rest a b → rest ≡ [] → Hears first s piece a b
+piece_done first s piece rest a b sound m none =
+    let bytes : s.lines.bytes ++ rest ≡ s.lines.bytes = ap (λ x. s.lines.bytes ++ x) none ∙ append-nil s.lines.bytes in
+    let all = m.played ∙ ap (behind m.outputs) (ap (λ x. plays s.group.world s.number (heard x)) bytes ∙ none_heard s.group.world s.number s.lines.bytes sound.part sound.short) in
+    record {
+      world = sym (ap (λ (p : Played). p.world) all);
+      number = sym (ap (λ (p : Played). p.number) all);
+      accepted = ap (λ (p : Played). p.refused) all;
+      partial = sym (m.last ∙ ap (λ x. (cut x).last) bytes ∙ ap (λ (c : Cut). c.last) (cut_part s.lines.bytes sound.part));
+      sound = sound;
+      text = rw (ap (λ (p : Played). text_of p.outputs) all, append-nil m.outputs) m.text;
+    }
+
+-- ---- the end of the source
+
+ends_taken : (s : Replay) → 0 < length s.lines.bytes → ends s ≡ taken s.group.world s.number s.lines.bytes
+unfolding ends
+ends_taken s some =
+    let e : eqb (length s.lines.bytes) 0 ≡ false = grind (arith, nat_tests, some) in
+    rw e refl
+
+-- what is given is all that stands
+pub last_taken : (s : Replay) (new : Held) → IsReplay s → IsGiven true s.lines.bytes new → ends s ≡ taken s.group.world s.number new.line
+last_taken s new sound (inl h) =
+    let e : new.line ∷ (cut new.bytes).lines ≡ [] = sym (ap (λ (c : Cut). c.lines) (cut_line new.line new.bytes h.0)) ∙ ap (λ x. whole_lines x) (sym h.1) ∙ sound.part in
+    absurd (cc)
+last_taken s new sound (inr h) = ends_taken s h.1 ∙ ap (taken s.group.world s.number) (sym h.3)
+
+-- ---- what is given
+
+-- a line that has ended, where the source isn't at its end
+pub given_line : (old : List ℕ) (new : Held) → IsGiven false old new → (whole_lines new.line ≡ []) × (old ≡ new.line ++ 10 ∷ new.bytes)
+given_line old new (inl h) = h
+given_line old new (inr h) = let z = h.0 in absurd (cc)
+
+pub no_bytes : (xs : List ℕ) → length xs ≡ 0 → xs ≡ []
+no_bytes [] h = refl
+no_bytes (x ∷ xs) h = absurd (omega (arith, h))

@@ -1,0 +1,7 @@
+pub mod Schedule
+pub mod Text
+pub mod Playing
+pub mod Stops
+pub mod Run
+pub mod Status
+pub mod Headline

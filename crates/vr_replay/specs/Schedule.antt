@@ -1,0 +1,64 @@
+-- A schedule: the group that its first line makes, the lines behind, the first line that is refused, and what the lines before
+-- it come to.
+use Rattle.std.specs.Prelude.{ℕ, ◌+◌, nat_lt, List, [], ◌∷◌, Option, Some, None, if◌then◌else◌}
+use Rattle.std.specs.Option.{option_map_or}
+use Rattle.vr_rules.specs.Lying.{Lying, hazards}
+use Rattle.vr_rules.specs.World.{Happened, fresh_world, happen}
+use Rattle.vr_lines.specs.Cuts.{lines_of}
+use Rattle.vr_lines.specs.Grammar.{parse}
+use Rattle.vr_lines.specs.declared.line.Line.{Line}
+use Rattle.vr_lines.specs.declared.line.Line.TheVariants.{Cluster}
+use Rattle.vr_group.specs.declared.outputs.Numbered.{Numbered}
+use Rattle.vr_group.specs.Lines.{happenings}
+use Rattle.vr_group.specs.Outputs.{numbered}
+
+pub record Schedule : Type 0 where
+  pub n : ℕ  -- the size of the group, 0 where none is made
+  pub lines : List Line  -- those behind the first and before the first that is refused
+  pub refused : Option ℕ  -- the number of the first line that is refused
+
+-- at most so many lines
+abbrev pub limit : ℕ
+limit = 1000000
+
+-- the line behind so many others, in a group of n replicas, which is 0 before the first line
+abbrev pub line_at : ℕ → ℕ → List ℕ → Option Line
+line_at n number text = if nat_lt number limit then parse n text else None
+
+abbrev pub refuses : ℕ → ℕ → Schedule
+refuses n number = record { n = n; lines = []; refused = Some number }
+
+abbrev pub with_line : Line → Schedule → Schedule
+with_line line s = record { n = s.n; lines = line ∷ s.lines; refused = s.refused }
+
+-- further lines of a group of n, behind so many others
+unfoldable pub accepted : ℕ → ℕ → List (List ℕ) → Schedule
+accepted n number [] = record { n = n; lines = []; refused = None }
+accepted n number (text ∷ texts) =
+    option_map_or (λ line. with_line line (accepted n (number + 1) texts)) (line_at n number text) (refuses n (number + 1))
+
+-- the first line makes the group
+abbrev pub begun : List (List ℕ) → Line → Schedule
+begun texts (Cluster n) = accepted n 1 texts
+begun texts _ = refuses 0 1
+
+-- lines to which others may come
+abbrev pub so_far : List (List ℕ) → Schedule
+so_far [] = record { n = 0; lines = []; refused = None }
+so_far (text ∷ texts) = option_map_or (begun texts) (line_at 0 0 text) (refuses 0 1)
+
+-- all lines; a schedule has at least one
+abbrev pub schedule : List (List ℕ) → Schedule
+schedule [] = refuses 0 1
+schedule (text ∷ texts) = so_far (text ∷ texts)
+
+abbrev pub schedule_of : List ℕ → Schedule
+schedule_of bytes = schedule (lines_of bytes)
+
+-- what a schedule comes to
+abbrev pub replayed : Schedule → Happened Lying
+replayed s = happen hazards (fresh_world hazards s.n) (happenings s.lines)
+
+-- its outputs, with the numbers of messages
+abbrev pub put_out : Schedule → List Numbered
+put_out s = numbered 0 (replayed s).outputs

@@ -1,0 +1,110 @@
+//! A replay over the outside that is handed in.
+ghost use Rattle.std.specs.Prelude.{◌≡◌, ◌↔◌, ◌⊎◌, ℕ, true, false, IfSome};
+ghost use Rattle.vr_base.specs.Causes.{Rose};
+ghost use Rattle.vr_replay.specs.Headline.{HasOneLog};
+ghost use Rattle.vr_replay.specs.Schedule.{schedule_of};
+ghost use Rattle.vr_replay.specs.Run.{IsDone, IsRefused, IsCutShort, IsPartial, Ends, count_after, is_replay_words, refused_in, status_for};
+
+use crate::{Replay, Status};
+use std::alloc::Global;
+use vr_disk::SectorDisk;
+use vr_edge::{Clock, Link, Sink, Source};
+
+/// Reads a schedule, and writes its outputs line by line.
+fn read_schedule<S: Source, K: Sink>(alloc: Global, source: &mut S, sink: &mut K) -> Status
+    ensures { Ends (S.faults source.old) (S.faults source.new) (K.faults sink.old) (K.faults sink.new) (S.left source.old) (S.left source.new) (K.taken sink.old) (K.taken sink.new) result }
+{
+    let mut replay = Replay::new(alloc);
+    let mut buffer = [0u8; 4096];
+    for _ in 0..u64::MAX {
+        let Ok(count) = source.read(&mut buffer) else {
+            return Status::ReadFault;
+        };
+        if count == 0 {
+            if let Err(stop) = replay.finish(alloc, sink) {
+                return stop.status();
+            }
+            return Status::Done;
+        }
+        if let Err(stop) = replay.take_piece(alloc, sink, &buffer[..count]) {
+            return stop.status();
+        }
+    }
+    Status::NoMemory
+}
+
+/// Replays the schedule of a source, and writes the lines of its outputs to the sink.
+#[tactic(auto, using(crate::proofs::Headline::headline))]
+pub fn replay<S: Source, K: Sink>(alloc: Global, source: &mut S, sink: &mut K) -> Status
+    // How it ends, and what was read and written; no other answer is given.
+    ensures ends { Ends (S.faults source.old) (S.faults source.new) (K.faults sink.old) (K.faults sink.new) (S.left source.old) (S.left source.new) (K.taken sink.old) (K.taken sink.new) result }
+
+    ensures done { result ≡ Status.Done → IsDone (S.left source.old) (S.left source.new) (K.taken sink.old) (K.taken sink.new) }
+    ensures refused { (line : ℕ) → result ≡ Status.Refused line → IsRefused line (S.left source.old) (S.left source.new) (K.taken sink.old) (K.taken sink.new) }
+    ensures read_text { result ≡ Status.ReadFault → IsCutShort (S.left source.old) (S.left source.new) (K.taken sink.old) (K.taken sink.new) }
+    ensures write_text { result ≡ Status.WriteFault → IsPartial (S.left source.old) (S.left source.new) (K.taken sink.old) (K.taken sink.new) }
+    ensures memory_text { result ≡ Status.NoMemory → IsPartial (S.left source.old) (S.left source.new) (K.taken sink.old) (K.taken sink.new) }
+
+    // A fault has its cause in the object that was handed in, and a read that failed is told: no other answer leaves one.
+    ensures read { S.faults source.new ≡ count_after result (S.faults source.old) }
+    ensures write { result ≡ Status.WriteFault → Rose (K.faults sink.old) (K.faults sink.new) }
+
+    // Where no fault comes, the answer is that of the source's bytes, or want of memory.
+    ensures complete { ¬ Rose (S.faults source.old) (S.faults source.new) → ¬ Rose (K.faults sink.old) (K.faults sink.new) → IfSome (S.left source.old) (λ bytes. (result ≡ status_for (refused_in bytes)) ⊎ (result ≡ Status.NoMemory)) }
+
+    // Whatever the schedule, its outputs have one log.
+    ensures headline { IfSome (S.left source.old) (λ bytes. HasOneLog (schedule_of bytes)) }
+{
+    read_schedule(alloc, source, sink)
+}
+
+/// Whether the words are those of the command `replay`.
+fn is_replay(words: &Vec<String>) -> bool
+    ensures { result ≡ is_replay_words words.now.items }
+{
+    words.len() == 1 && words[0].as_str() == "replay"
+}
+
+/// The command `replay`, by its one word: reads a schedule from the source and writes the lines of its outputs to the sink.
+#[tactic(auto, using(crate::proofs::Headline::headline))]
+pub fn run<S: Source, K: Sink, D: SectorDisk, L: Link, C: Clock>(
+    alloc: Global,
+    words: &Vec<String>,
+    source: &mut S,
+    sink: &mut K,
+    disk: &mut D,
+    link: &mut L,
+    clock: &mut C,
+) -> Status
+    // Exactly where the words are no command line; then nothing is called.
+    ensures usage { result ≡ Status.Usage ↔ (is_replay_words words.now.items ≡ false) }
+    ensures usage_source { result ≡ Status.Usage → source.new ≡ source.old }
+    ensures usage_sink { result ≡ Status.Usage → sink.new ≡ sink.old }
+
+    // What was read and written.
+    ensures done { result ≡ Status.Done → IsDone (S.left source.old) (S.left source.new) (K.taken sink.old) (K.taken sink.new) }
+    ensures refused { (line : ℕ) → result ≡ Status.Refused line → IsRefused line (S.left source.old) (S.left source.new) (K.taken sink.old) (K.taken sink.new) }
+    ensures read_text { result ≡ Status.ReadFault → IsCutShort (S.left source.old) (S.left source.new) (K.taken sink.old) (K.taken sink.new) }
+    ensures write_text { result ≡ Status.WriteFault → IsPartial (S.left source.old) (S.left source.new) (K.taken sink.old) (K.taken sink.new) }
+    ensures memory_text { result ≡ Status.NoMemory → IsPartial (S.left source.old) (S.left source.new) (K.taken sink.old) (K.taken sink.new) }
+
+    // A fault has its cause in the object that was handed in, and a read that failed is told: no other answer leaves one.
+    ensures read { S.faults source.new ≡ count_after result (S.faults source.old) }
+    ensures write { result ≡ Status.WriteFault → Rose (K.faults sink.old) (K.faults sink.new) }
+
+    // Where no fault comes, the answer is that of the source's bytes, or want of memory.
+    ensures complete { is_replay_words words.now.items ≡ true → ¬ Rose (S.faults source.old) (S.faults source.new) → ¬ Rose (K.faults sink.old) (K.faults sink.new) → IfSome (S.left source.old) (λ bytes. (result ≡ status_for (refused_in bytes)) ⊎ (result ≡ Status.NoMemory)) }
+
+    // No other object is called.
+    ensures disk { disk.new ≡ disk.old }
+    ensures link { link.new ≡ link.old }
+    ensures clock { clock.new ≡ clock.old }
+
+    // Whatever the schedule, its outputs have one log.
+    ensures headline { IfSome (S.left source.old) (λ bytes. HasOneLog (schedule_of bytes)) }
+{
+    if !is_replay(words) {
+        return Status::Usage;
+    }
+    read_schedule(alloc, source, sink)
+}

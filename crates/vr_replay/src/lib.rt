@@ -1,0 +1,13 @@
+//! Replay of a schedule over a group of replicas: its lines are read from a source, and the outputs of the replicas are
+//! written to a sink, line by line.
+#![tactic(auto)]
+
+mod command;
+mod playing;
+mod status;
+mod stop;
+
+pub use command::{replay, run};
+use playing::Replay;
+pub use status::{Status, code, status_line};
+use stop::Stop;

@@ -1,0 +1,212 @@
+//! A replay between two pieces of its source.
+ghost use Rattle.std.specs.Prelude.{◌≡◌, ◌≤◌, ◌<◌, ◌++◌, [], None, Some, true, IfOk, OnOk, IfErr, length, drop};
+ghost use Rattle.std.specs.Io.KnownBytes.{Appends};
+ghost use Rattle.vr_lines.specs.Fits.{IsLineOf};
+ghost use Rattle.vr_replay.specs.Playing.{comes};
+ghost use Rattle.vr_replay.specs.Schedule.{line_at};
+ghost use Rattle.vr_replay.specs.Stops.{JudgeCause};
+ghost use Rattle.vr_replay.specs.Text.{text_of};
+ghost use Rattle.vr_replay.specs.declared.stop.Stop.TheVariants as stop;
+
+use crate::Stop;
+use std::alloc::{AllocError, Global};
+use vr_base::{ByteList, NoMemory, Seq};
+use vr_edge::{Sink, write_whole};
+use vr_group::{Numbered, Outputs, World};
+use vr_lines::{Line, LineFault, Lines, Next, parse_line};
+use vr_sched::write_text;
+
+/// The most lines of a schedule.
+const LIMIT: u32 = 1_000_000;
+
+/// A replay between two pieces of its source.
+#[derive(Drop)]
+pub struct Replay {
+    pub group: World,
+    /// So many lines were taken.
+    pub number: u32,
+    /// What has come of the next line.
+    pub lines: Lines,
+}
+
+/// The text of outputs.
+#[tactic(auto, using(std::proofs::lemmas::Grind::common_steps, crate::proofs::Outputs::text_more, crate::proofs::Outputs::text_none))]
+fn outputs_text(alloc: Global, outputs: &[Numbered]) -> Result<ByteList, AllocError>
+    ensures { IfOk result (λ t. t ≡ text_of outputs.now) }
+{
+    let mut text = Seq::new(alloc);
+    for put in outputs {
+        write_text(put.number, &put.output, &mut text)?;
+    }
+    Ok(text)
+}
+
+/// What happens at a line: the first makes a group.
+#[tactic(auto, using(std::proofs::lemmas::Grind::common_steps, crate::proofs::Growing::numbered_none), unfolding(crate::specs::Playing::comes))]
+fn play(alloc: Global, group: &mut World, line: &Line) -> Result<Outputs, NoMemory>
+    requires live { group.old.live ≡ true }
+    requires fits { IsLineOf group.old.world.n line.now }
+    ensures world { OnOk result (group.new.world ≡ (comes group.old.world line.now).world) }
+    ensures outputs { IfOk result (λ o. o ≡ (comes group.old.world line.now).outputs) }
+    ensures live { OnOk result (group.new.live ≡ true) }
+{
+    if let Line::Cluster(n) = line {
+        *group = World::new(alloc, *n)?;
+        return Ok(Seq::new(alloc));
+    }
+    group.step(alloc, line)
+}
+
+/// The same, with the text of the outputs.
+fn play_text(alloc: Global, group: &mut World, line: &Line) -> Result<ByteList, Stop>
+    requires live { group.old.live ≡ true }
+    requires fits { IsLineOf group.old.world.n line.now }
+    ensures world { OnOk result (group.new.world ≡ (comes group.old.world line.now).world) }
+    ensures text { IfOk result (λ t. t ≡ text_of (comes group.old.world line.now).outputs) }
+    ensures live { OnOk result (group.new.live ≡ true) }
+    ensures want { IfErr result (λ why. why ≡ stop.NoMemory) }
+{
+    let outputs = play(alloc, group, line)?;
+    Ok(outputs_text(alloc, outputs.as_slice())?)
+}
+
+/// The line that these bytes spell, behind so many others.
+fn judge(alloc: Global, n: u8, number: u32, text: &[u8]) -> Result<Line, Stop>
+    requires { number ≤ 1000000 }
+    ensures ok { IfOk result (λ line. line_at n number text.now ≡ Some line) }
+    ensures fits { IfOk result (λ line. IsLineOf n line) }
+    ensures room { OnOk result (number < 1000000) }
+    ensures cause { IfErr result (JudgeCause (line_at n number text.now) number) }
+{
+    if number >= LIMIT {
+        return Err(Stop::Refused(number + 1));
+    }
+    match parse_line(alloc, n, text) {
+        Ok(line) => Ok(line),
+        Err(LineFault::NotALine) => Err(Stop::Refused(number + 1)),
+        Err(LineFault::NoMemory) => Err(Stop::NoMemory),
+    }
+}
+
+/// What stands behind so many bytes.
+fn behind(bytes: &[u8], count: usize) -> &[u8]
+    requires { count ≤ length bytes.now }
+    ensures { result.now ≡ drop count bytes.now }
+{
+    let (_, rest) = bytes.split_at(count);
+    rest
+}
+
+impl Replay {
+    ghost use Rattle.vr_replay.specs.Playing.{IsReplay, Hears, HearsAll, Hears, taken, hears, hears_lines, ends};
+    ghost use Rattle.vr_replay.specs.Stops.{Stopped};
+    ghost use Rattle.vr_rules.specs.World.{no_world};
+
+    /// Takes the line that was given, and writes its outputs.
+    #[tactic(auto, using(std::proofs::lemmas::Grind::common_steps, crate::proofs::Taken::taken_some, crate::proofs::Taken::taken_none, vr_edge::proofs::Told::appends_nil, crate::proofs::Outputs::text_none))]
+    fn take_line<K: Sink>(&mut self, alloc: Global, sink: &mut K) -> Result<(), Stop>
+        requires live { self.old.group.live ≡ true }
+        requires few { self.old.number ≤ 1000000 }
+
+        ensures world { OnOk result (self.new.group.world ≡ (taken self.old.group.world self.old.number self.old.lines.line).world) }
+        ensures number { OnOk result (self.new.number ≡ (taken self.old.group.world self.old.number self.old.lines.line).number) }
+        ensures accepted { OnOk result ((taken self.old.group.world self.old.number self.old.lines.line).refused ≡ None) }
+        ensures lines { self.new.lines ≡ self.old.lines }
+        ensures live { OnOk result (self.new.group.live ≡ true) }
+        ensures few { OnOk result (self.new.number ≤ 1000000) }
+
+        ensures text { OnOk result (Appends (K.taken sink.old) (K.taken sink.new) (text_of (taken self.old.group.world self.old.number self.old.lines.line).outputs)) }
+
+        ensures later { K.faults sink.old ≤ K.faults sink.new }
+        ensures stopped { IfErr result (Stopped (K.faults sink.old) (K.faults sink.new) (K.taken sink.old) (K.taken sink.new) (taken self.old.group.world self.old.number self.old.lines.line)) }
+    {
+        let line = judge(alloc, self.group.size(), self.number, self.lines.line())?;
+        let text = play_text(alloc, &mut self.group, &line)?;
+        write_whole(sink, text.as_slice())?;
+        self.number += 1;
+        Ok(())
+    }
+
+    /// Takes the lines that have ended, and writes their outputs.
+    fn take_lines<K: Sink>(&mut self, alloc: Global, sink: &mut K) -> Result<(), Stop>
+        requires live { self.old.group.live ≡ true }
+        requires few { self.old.number ≤ 1000000 }
+
+        ensures heard { OnOk result (HearsAll self.old self.new self.old.lines.bytes (K.taken sink.old) (K.taken sink.new)) }
+
+        ensures later { K.faults sink.old ≤ K.faults sink.new }
+        ensures stopped { IfErr result (Stopped (K.faults sink.old) (K.faults sink.new) (K.taken sink.old) (K.taken sink.new) (hears_lines self.old)) }
+    {
+        loop {
+            match self.lines.next(false) {
+                Next::Line => self.take_line(alloc, sink)?,
+                Next::TooLong => return Err(Stop::Refused(self.number + 1)),
+                Next::End => return Ok(()),
+                Next::More => return Ok(()),
+            }
+        }
+    }
+
+    /// Takes a piece of the source, and writes the outputs of the lines that end in it.
+    pub fn take_piece<K: Sink>(
+        &mut self,
+        alloc: Global,
+        sink: &mut K,
+        piece: &[u8],
+    ) -> Result<(), Stop>
+        requires { IsReplay self.old }
+
+        ensures heard { OnOk result (Hears self.old self.new piece.now (K.taken sink.old) (K.taken sink.new)) }
+
+        ensures later { K.faults sink.old ≤ K.faults sink.new }
+        ensures stopped { IfErr result (Stopped (K.faults sink.old) (K.faults sink.new) (K.taken sink.old) (K.taken sink.new) (hears self.old piece.now)) }
+    {
+        let mut rest = piece;
+        while !rest.is_empty() {
+            let count = self.lines.push(rest);
+            self.take_lines(alloc, sink)?;
+            rest = behind(rest, count);
+        }
+        Ok(())
+    }
+
+    /// A replay of which nothing has come.
+    pub fn new(alloc: Global) -> Replay
+        ensures world { result.group.world ≡ no_world }
+        ensures number { result.number ≡ 0 }
+        ensures lines { result.lines.bytes ≡ [] }
+        ensures sound { IsReplay result }
+    {
+        Replay {
+            group: World::empty(alloc),
+            number: 0,
+            lines: Lines::new(),
+        }
+    }
+
+    /// Nothing stands at the end of the source.
+    fn end(&self) -> Result<(), Stop>
+        ensures some { OnOk result (0 < self.now.number) }
+        ensures none { IfErr result (λ why. (why ≡ stop.Refused 1) × (self.now.number ≡ 0)) }
+    {
+        if self.number == 0 {
+            return Err(Stop::Refused(1));
+        }
+        Ok(())
+    }
+
+    /// The source is at its end: the line that stands is the last. A schedule has at least one line.
+    #[tactic(auto, using(std::proofs::lemmas::Grind::common_steps, vr_edge::proofs::Told::appends_nil, crate::proofs::Outputs::text_none), unfolding(crate::specs::Playing::ends))]
+    pub fn finish<K: Sink>(&mut self, alloc: Global, sink: &mut K) -> Result<(), Stop>
+        requires { IsReplay self.old }
+        ensures accepted { OnOk result ((ends self.old).refused ≡ None) }
+        ensures text { OnOk result (Appends (K.taken sink.old) (K.taken sink.new) (text_of (ends self.old).outputs)) }
+        ensures later { K.faults sink.old ≤ K.faults sink.new }
+        ensures stopped { IfErr result (Stopped (K.faults sink.old) (K.faults sink.new) (K.taken sink.old) (K.taken sink.new) (ends self.old)) }
+    {
+        match self.lines.next(true) {
+            Next::Line => self.take_line(alloc, sink),
+            Next::TooLong | Next::End | Next::More => self.end(),
+        }
+    }
+}

@@ -1,0 +1,37 @@
+//! Why a replay stops before its end.
+ghost use Rattle.vr_replay.specs.declared.stop.Stop.TheVariants.{NoMemory, WriteFault};
+ghost use Rattle.std.specs.Prelude.{◌≡◌};
+
+use std::alloc::AllocError;
+use vr_edge::WriteFailed;
+
+#[derive(Clone, Copy, Debug, PartialEq, Eq)]
+pub enum Stop {
+    Refused(u32),
+    WriteFault,
+    NoMemory,
+}
+
+impl From<AllocError> for Stop {
+    ghost from_gives = { λ _ e. e ≡ NoMemory };
+
+    fn from(_: AllocError) -> Self {
+        Stop::NoMemory
+    }
+}
+
+impl From<WriteFailed> for Stop {
+    ghost from_gives = { λ _ e. e ≡ WriteFault };
+
+    fn from(_: WriteFailed) -> Self {
+        Stop::WriteFault
+    }
+}
+
+impl From<vr_base::NoMemory> for Stop {
+    ghost from_gives = { λ _ e. e ≡ NoMemory };
+
+    fn from(_: vr_base::NoMemory) -> Self {
+        Stop::NoMemory
+    }
+}

@@ -1,7 +1,0 @@
-pub mod Lines
-pub mod Schedule
-pub mod Text
-pub mod Playing
-pub mod Stops
-pub mod Run
-pub mod Status

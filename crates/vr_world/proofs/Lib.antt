@@ -1,4 +1,0 @@
-pub mod Numbering
-pub mod Making
-pub mod Happenings
-pub mod Keeping

@@ -1,4 +1,0 @@
-pub mod Group
-pub mod Lines
-pub mod Outputs
-pub mod Kept
