@@ -1,5 +1,5 @@
 -- Commands, each against its run.
-use Rattle.std.proofs.Common.{◌≡◌, ◌≤◌, ◌<◌, ◌∙◌, suc, ℕ, List, [], ◌∷◌, Bool, true, Option, Some, None, length, map, refl, ap, subst, sym, inl, inr, arith}
+use Rattle.std.proofs.Common.{◌≡◌, ◌≤◌, ◌<◌, ◌∙◌, zero, suc, ℕ, List, [], ◌∷◌, Bool, true, Option, Some, None, length, map, refl, ap, subst, sym, inl, inr, arith}
 use Rattle.std.specs.Prelude.{◌≢◌, is_some, string_bytes, vec_len}
 use Rattle.std.proofs.lemmas.Bool.Decides.{nat_tests}
 use Rattle.vr_ask.specs.Asking as ask
@@ -19,13 +19,13 @@ size_bounds : (n : ℕ) → is_size n ≡ true → (2 ≤ n) × (n ≤ 6)
 size_bounds n e = (grind (arith, nat_tests), grind (arith, nat_tests))
 
 sized : (n : ℕ) → 2 ≤ n → n ≤ 6 → is_some (quorums_of n) ≡ true
-sized 0 a b = absurd (omega (arith, a))
-sized 1 a b = absurd (omega (arith, a))
-sized 2 a b = refl
-sized 3 a b = refl
-sized 4 a b = refl
-sized 5 a b = refl
-sized 6 a b = refl
+sized zero a b = absurd (omega (arith, a))
+sized (suc zero) a b = absurd (omega (arith, a))
+sized (suc (suc zero)) a b = refl
+sized (suc (suc (suc zero))) a b = refl
+sized (suc (suc (suc (suc zero)))) a b = refl
+sized (suc (suc (suc (suc (suc zero))))) a b = refl
+sized (suc (suc (suc (suc (suc (suc zero)))))) a b = refl
 sized (suc (suc (suc (suc (suc (suc (suc n))))))) a b = absurd (omega (arith, b))
 
 map_length : {X Y : Type 0} (f : X → Y) (xs : List X) → length (map f xs) ≡ length xs
@@ -37,17 +37,19 @@ map_length f (x ∷ xs) = ap suc (map_length f xs)
 node_peers : (w : NodeWords) → length (map string_bytes w.peers.items) ≡ vec_len w.peers
 node_peers w = map_length string_bytes w.peers.items ∙ sym w.peers.ok.0
 
-config_with : ℕ → ℕ → ℕ → Config
+abbrev config_with : ℕ → ℕ → ℕ → Config
 config_with cluster replica n = record { cluster = cluster; replica = replica; n = n }
 
 pub node_config : (w : NodeWords) → config_of (node_says w) ≡ record { cluster = w.cluster; replica = w.replica; n = vec_len w.peers }
 node_config w = ap (config_with w.cluster w.replica) (node_peers w)
 
 pub node_most : (w : NodeWords) → IsGood (Node (node_says w)) → vec_len w.peers ≤ 6
-node_most w h = subst (λ n. n ≤ 6) (node_peers w) (size_bounds _ h.0).1
+node_most w h = subst (λ n. n ≤ 6) (node_peers w) (size_bounds (length (map string_bytes w.peers.items)) h.0).1
 
 pub node_size : (w : NodeWords) → IsGood (Node (node_says w)) → is_some (quorums_of (config_of (node_says w)).n) ≡ true
-node_size w h = sized _ (size_bounds _ h.0).0 (size_bounds _ h.0).1
+node_size w h =
+    let n = length (map string_bytes w.peers.items) in
+    sized n (size_bounds n h.0).0 (size_bounds n h.0).1
 
 pub node_member : (w : NodeWords) → IsGood (Node (node_says w)) → (config_of (node_says w)).replica < (config_of (node_says w)).n
 node_member w h = h.1
@@ -67,10 +69,10 @@ client_peers : (w : ClientWords) → length (map string_bytes w.peers.items) ≡
 client_peers w = map_length string_bytes w.peers.items ∙ sym w.peers.ok.0
 
 pub client_least : (w : ClientWords) → IsGood (Client (client_says w)) → 2 ≤ vec_len w.peers
-client_least w h = subst (λ n. 2 ≤ n) (client_peers w) (size_bounds _ h.0).0
+client_least w h = subst (λ n. 2 ≤ n) (client_peers w) (size_bounds (length (map string_bytes w.peers.items)) h.0).0
 
 pub client_most : (w : ClientWords) → IsGood (Client (client_says w)) → vec_len w.peers ≤ 6
-client_most w h = subst (λ n. n ≤ 6) (client_peers w) (size_bounds _ h.0).1
+client_most w h = subst (λ n. n ≤ 6) (client_peers w) (size_bounds (length (map string_bytes w.peers.items)) h.0).1
 
 pub client_named : (w : ClientWords) → IsGood (Client (client_says w)) → w.id ≢ 0
 client_named w h = h.1

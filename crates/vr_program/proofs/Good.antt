@@ -11,15 +11,7 @@ use Rattle.vr_sched.specs.Numbers.{number_below, number_of}
 use Rattle.vr_words.specs.Asked.{Asked, Client, ClientAsked, Node, NodeAsked, Replay, Soak, asked, asked_at, asker_at, below_at, client_at, fresh_at, id_at, is_size, is_taken, member_at, node_at, number_at, peers_at, soak_at}
 use Rattle.vr_words.specs.Forms.{the_command}
 
--- ---- options
-
-and_then_some : {X Y : Type 0} (f : X → Option Y) (x : Option X) (y : Y) → option_and_then f x ≡ Some y → (a : X) × (x ≡ Some a) × (f a ≡ Some y)
-and_then_some f None y e = absurd (cc e)
-and_then_some f (Some a) y e = (a, refl, e)
-
-map_some : {X Y : Type 0} (f : X → Y) (x : Option X) (y : Y) → option_map f x ≡ Some y → (a : X) × (x ≡ Some a) × (f a ≡ y)
-map_some f None y e = absurd (cc e)
-map_some f (Some a) y e = (a, refl, cc e)
+-- ---- tests
 
 if_some : {Y : Type 0} (b : Bool) (x : Option Y) (y : Y) → (if b then x else None) ≡ Some y → (b ≡ true) × (x ≡ Some y)
 if_some true x y e = (refl, e)
@@ -29,78 +21,131 @@ if_none : {Y : Type 0} (b : Bool) (x : Option Y) (y : Y) → (if b then None els
 if_none false x y e = (refl, e)
 if_none true x y e = absurd (cc e)
 
-either_of : {Y : Type 0} (b : Bool) (x z : Option Y) (y : Y) → (if b then x else z) ≡ Some y → (x ≡ Some y) ⊎ (z ≡ Some y)
-either_of true x z y e = inl e
-either_of false x z y e = inr e
+map_some : {X Y : Type 0} (f : X → Y) (x : Option X) (y : Y) → option_map f x ≡ Some y → (a : X) × (x ≡ Some a) × (f a ≡ y)
+map_some f None y e = absurd (cc e)
+map_some f (Some a) y e = (a, refl, cc e)
 
 -- ---- values
 
-peers_size : (rows : List Row) (peers : List Text) → peers_at rows ≡ Some peers → is_size (length peers) ≡ true
-unfolding peers_at
-peers_size rows peers e =
-    let a = and_then_some _ _ peers e in
-    let b = if_some (is_size (length a.0)) (Some a.0) peers a.2 in
-    let same : a.0 ≡ peers = cc b.1 in
+sized_peers : (x : Option (List Text)) (peers : List Text)
+    → option_and_then (λ peers. if is_size (length peers) then Some peers else None) x ≡ Some peers → is_size (length peers) ≡ true
+sized_peers None peers e = absurd (cc e)
+sized_peers (Some a) peers e =
+    let b = if_some (is_size (length a)) (Some a) peers e in
+    let same : a ≡ peers = cc (b.1) in
     subst (λ x. is_size (length x) ≡ true) same b.0
 
-below_bound : (bound : ℕ) (id : Text) (rows : List Row) (n : ℕ) → below_at bound id rows ≡ Some n → n < bound
-below_bound bound id rows n e =
-    let a = and_then_some _ _ n e in
-    let b = and_then_some _ _ n a.2 in
-    let c = if_some (nat_lt b.0 bound) (Some b.0) n b.2 in
-    let same : b.0 ≡ n = cc c.1 in
-    let less : nat_lt n bound ≡ true = subst (λ x. nat_lt x bound ≡ true) same c.0 in
+peers_size : (rows : List Row) (peers : List Text) → peers_at rows ≡ Some peers → is_size (length peers) ≡ true
+unfolding peers_at
+peers_size rows peers e = sized_peers (all_of (codes "addr") rows) peers e
+
+below_some : (bound : ℕ) (x : Option ℕ) (n : ℕ) → option_and_then (λ n. if nat_lt n bound then Some n else None) x ≡ Some n → n < bound
+below_some bound None n e = absurd (cc e)
+below_some bound (Some a) n e =
+    let b = if_some (nat_lt a bound) (Some a) n e in
+    let same : a ≡ n = cc (b.1) in
+    let less : nat_lt n bound ≡ true = subst (λ x. nat_lt x bound ≡ true) same b.0 in
     grind (arith, nat_tests)
+
+below_text : (bound : ℕ) (x : Option Text) (n : ℕ) → option_and_then (number_below bound) x ≡ Some n → n < bound
+below_text bound None n e = absurd (cc e)
+below_text bound (Some text) n e = below_some bound (number_of text) n e
+
+member_by : (peers : List Text) (cluster replica : Option ℕ) (file : Option Text) (turns : Option ℕ) (fresh : Bool) (a : NodeAsked)
+    → option_and_then
+    (λ cluster. option_and_then
+    (λ replica. option_and_then
+    (λ file. option_map
+    (λ turns. record { cluster = cluster; replica = replica; file = file; turns = turns; peers = peers; is_fresh = fresh })
+    turns)
+    file)
+    replica)
+    cluster
+    ≡ Some a → (a.peers ≡ peers) × (replica ≡ Some a.replica)
+member_by peers None replica file turns fresh a e = absurd (cc e)
+member_by peers (Some c) None file turns fresh a e = absurd (cc e)
+member_by peers (Some c) (Some r) None turns fresh a e = absurd (cc e)
+member_by peers (Some c) (Some r) (Some f) None fresh a e = absurd (cc e)
+member_by peers (Some c) (Some r) (Some f) (Some t) fresh a e =
+    let same : record { cluster = c; replica = r; file = f; turns = t; peers = peers; is_fresh = fresh } ≡ a = cc e in
+    (sym (ap (λ (x : NodeAsked). x.peers) same), ap (λ (x : NodeAsked). Some x.replica) same)
 
 member_good : (peers : List Text) (rows : List Row) (a : NodeAsked) → member_at peers rows ≡ Some a → (a.peers ≡ peers) × (a.replica < length peers)
 unfolding member_at
 member_good peers rows a e =
-    let c = and_then_some _ _ a e in
-    let r = and_then_some _ _ a c.2 in
-    let f = and_then_some _ _ a r.2 in
-    let t = map_some _ _ a f.2 in
-    let less : r.0 < length peers = below_bound (length peers) (codes "replica") rows r.0 r.1 in
-    (sym (ap (λ (x : NodeAsked). x.peers) t.2), subst (λ (x : ℕ). x < length peers) (ap (λ (x : NodeAsked). x.replica) t.2) less)
+    let m = member_by peers (number_at (codes "cluster") rows) (below_at (length peers) (codes "replica") rows) (first_of (codes "file") rows) (number_at (codes "turns") rows) (fresh_at rows) a e in
+    (m.0, below_text (length peers) (first_of (codes "replica") rows) a.replica m.1)
+
+node_by : (rows : List Row) (p : Option (List Text)) → ((peers : List Text) → p ≡ Some peers → is_size (length peers) ≡ true) → (a : NodeAsked)
+    → option_and_then (λ peers. member_at peers rows) p ≡ Some a → IsGood (Node a)
+node_by rows None h a e = absurd (cc e)
+node_by rows (Some peers) h a e =
+    let m = member_good peers rows a e in
+    let size : is_size (length peers) ≡ true = h peers refl in
+    (subst (λ x. is_size (length x) ≡ true) (sym m.0) size, subst (λ x. a.replica < length x) (sym m.0) m.1)
 
 node_good : (rows : List Row) (a : NodeAsked) → node_at rows ≡ Some a → IsGood (Node a)
 unfolding node_at
-node_good rows a e =
-    let p = and_then_some _ _ a e in
-    let m = member_good p.0 rows a p.2 in
-    let size = peers_size rows p.0 p.1 in
-    (subst (λ x. is_size (length x) ≡ true) (sym m.0) size, subst (λ x. a.replica < length x) (sym m.0) m.1)
+node_good rows a e = node_by rows (peers_at rows) (peers_size rows) a e
+
+id_by : (x : Option ℕ) (id : ℕ) → option_and_then (λ id. if id == 0 then None else Some id) x ≡ Some id → id ≢ 0
+id_by None id e = absurd (cc e)
+id_by (Some a) id e =
+    let b = if_none (a == 0) (Some a) id e in
+    let same : a ≡ id = cc (b.1) in
+    let no : (id == 0) ≡ false = subst (λ x. (x == 0) ≡ false) same b.0 in
+    grind (arith, nat_tests)
 
 id_good : (rows : List Row) (id : ℕ) → id_at rows ≡ Some id → id ≢ 0
 unfolding id_at
-id_good rows id e =
-    let a = and_then_some _ _ id e in
-    let b = if_none (a.0 == 0) (Some a.0) id a.2 in
-    let same : a.0 ≡ id = cc b.1 in
-    let no : (id == 0) ≡ false = subst (λ x. (x == 0) ≡ false) same b.0 in
-    grind (arith, nat_tests)
+id_good rows id e = id_by (number_at (codes "id") rows) id e
+
+asker_by : (peers : List Text) (cluster id turns : Option ℕ) (a : ClientAsked)
+    → option_and_then
+    (λ cluster. option_and_then
+    (λ id. option_map (λ turns. record { cluster = cluster; id = id; turns = turns; peers = peers }) turns)
+    id)
+    cluster
+    ≡ Some a → (a.peers ≡ peers) × (id ≡ Some a.id)
+asker_by peers None id turns a e = absurd (cc e)
+asker_by peers (Some c) None turns a e = absurd (cc e)
+asker_by peers (Some c) (Some i) None a e = absurd (cc e)
+asker_by peers (Some c) (Some i) (Some t) a e =
+    let same : record { cluster = c; id = i; turns = t; peers = peers } ≡ a = cc e in
+    (sym (ap (λ (x : ClientAsked). x.peers) same), ap (λ (x : ClientAsked). Some x.id) same)
 
 asker_good : (peers : List Text) (rows : List Row) (a : ClientAsked) → asker_at peers rows ≡ Some a → (a.peers ≡ peers) × (a.id ≢ 0)
 unfolding asker_at
 asker_good peers rows a e =
-    let c = and_then_some _ _ a e in
-    let i = and_then_some _ _ a c.2 in
-    let t = map_some _ _ a i.2 in
-    let some : i.0 ≢ 0 = id_good rows i.0 i.1 in
-    (sym (ap (λ (x : ClientAsked). x.peers) t.2), subst (λ (x : ℕ). x ≢ 0) (ap (λ (x : ClientAsked). x.id) t.2) some)
+    let m = asker_by peers (number_at (codes "cluster") rows) (id_at rows) (number_at (codes "turns") rows) a e in
+    (m.0, id_good rows a.id m.1)
+
+client_by : (rows : List Row) (p : Option (List Text)) → ((peers : List Text) → p ≡ Some peers → is_size (length peers) ≡ true) → (a : ClientAsked)
+    → option_and_then (λ peers. asker_at peers rows) p ≡ Some a → IsGood (Client a)
+client_by rows None h a e = absurd (cc e)
+client_by rows (Some peers) h a e =
+    let m = asker_good peers rows a e in
+    let size : is_size (length peers) ≡ true = h peers refl in
+    (subst (λ x. is_size (length x) ≡ true) (sym m.0) size, m.1)
 
 client_good : (rows : List Row) (a : ClientAsked) → client_at rows ≡ Some a → IsGood (Client a)
 unfolding client_at
-client_good rows a e =
-    let p = and_then_some _ _ a e in
-    let m = asker_good p.0 rows a p.2 in
-    let size = peers_size rows p.0 p.1 in
-    (subst (λ x. is_size (length x) ≡ true) (sym m.0) size, m.1)
+client_good rows a e = client_by rows (peers_at rows) (peers_size rows) a e
 
 -- ---- commands
 
+abbrev at_client : Text → List Row → Option Asked
+at_client name rows = if bytes_eq name (codes "client") then option_map Client (client_at rows) else None
+
+abbrev at_node : Text → List Row → Option Asked
+at_node name rows = if bytes_eq name (codes "node") then option_map Node (node_at rows) else at_client name rows
+
+abbrev at_soak : Text → List Row → Option Asked
+at_soak name rows = if bytes_eq name (codes "soak") then option_map Soak (soak_at rows) else at_node name rows
+
 fourth : (b : Bool) (rows : List Row) (a : Asked) → (if b then option_map Client (client_at rows) else None) ≡ Some a → IsGood a
 fourth b rows a e =
-    let x = if_some b _ a e in
+    let x = if_some b (option_map Client (client_at rows)) a e in
     let y = map_some Client (client_at rows) a x.1 in
     subst IsGood y.2 (client_good rows y.0 y.1)
 
@@ -123,13 +168,16 @@ first false a z later e = later e
 command_good : (name : Text) (rows : List Row) (a : Asked) → asked_at name rows ≡ Some a → IsGood a
 unfolding asked_at
 command_good name rows a e =
-    first (bytes_eq name (codes "replay")) a _
-    (λ x. second (bytes_eq name (codes "soak")) rows a _
-    (λ y. third (bytes_eq name (codes "node")) rows a _ (λ z. fourth (bytes_eq name (codes "client")) rows a z) y) x) e
+    first (bytes_eq name (codes "replay")) a (at_soak name rows)
+    (λ x. second (bytes_eq name (codes "soak")) rows a (at_node name rows)
+    (λ y. third (bytes_eq name (codes "node")) rows a (at_client name rows) (λ z. fourth (bytes_eq name (codes "client")) rows a z) y) x) e
+
+taken_good : (x : Option (Text × List Row)) (a : Asked) → option_and_then (λ p. asked_at p.0 p.1) x ≡ Some a → IsGood a
+taken_good None a e = absurd (cc e)
+taken_good (Some p) a e = command_good p.0 p.1 a e
 
 pub asked_good : (words : List Text) (a : Asked) → asked words ≡ Some a → IsGood a
 unfolding asked
 asked_good words a e =
-    let x = if_some (is_taken words) _ a e in
-    let y = and_then_some _ _ a x.1 in
-    command_good y.0.0 y.0.1 a y.2
+    let x = if_some (is_taken words) (option_and_then (λ p. asked_at p.0 p.1) (subcommand_of the_command words)) a e in
+    taken_good (subcommand_of the_command words) a x.1
