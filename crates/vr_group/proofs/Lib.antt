@@ -1,0 +1,4 @@
+pub mod Numbering
+pub mod Acts
+pub mod Goings
+pub mod Steps

@@ -1,0 +1,30 @@
+-- A member and its disk, as the definitions have them.
+use Rattle.std.specs.Prelude.{ℕ, ◌≡◌, true, List, [], Option, IfSome}
+use Rattle.std.specs.Option.{option_map}
+use Rattle.vr_disk.specs.DiskState.{Disk}
+use Rattle.vr_msg.specs.declared.output.Output.{Output}
+use Rattle.vr_replica.specs.Running.{Running}
+use Rattle.vr_rules.specs.Lying.{Lying}
+use Rattle.vr_rules.specs.World.{Acted, Happened, Host, at_member}
+use Rattle.vr_lying.specs.Told.{IsTold, host_on}
+
+abbrev pub host_of : Option Running → Disk → Host Lying
+host_of r d = host_on (option_map (λ (q : Running). q.memory) r) d
+
+-- a replica that is there takes steps, and no call of the disk fails but by its fuse
+pub record IsHost (r : Option Running) (d : Disk) : Type 0 where
+  pub running : IfSome r (λ q. q.running ≡ true)
+  pub told : IsTold d
+
+-- what it left of a member, and put out
+pub record HasActed (a : Acted Lying) (host : Host Lying) (out : List Output) : Type 0 where
+  pub member : host ≡ a.member
+  pub outputs : out ≡ a.outputs
+
+-- one of some members acts
+abbrev pub acted_at : List (Host Lying) → ℕ → (ℕ → Host Lying → Acted Lying) → Happened Lying
+acted_at members index act = at_member (record { n = 0; members = members; sent = [] }) index act
+
+pub record HaveActed (act : ℕ → Host Lying → Acted Lying) (old new : List (Host Lying)) (index : ℕ) (out : List Output) : Type 0 where
+  pub members : new ≡ (acted_at old index act).world.members
+  pub outputs : out ≡ (acted_at old index act).outputs

@@ -1,0 +1,5 @@
+pub mod Letters
+pub mod Outputs
+pub mod Hosts
+pub mod Group
+pub mod Lines

@@ -1,0 +1,28 @@
+-- What lines say that happens to a group.
+use Rattle.std.specs.Prelude.{ℕ, ◌-◌, List, map}
+use Rattle.std.specs.List.{AllByRecursion}
+use Rattle.vr_lie.specs.declared.fault.Fault.TheVariants as fault
+use Rattle.vr_lines.specs.Fits.{IsLineOf}
+use Rattle.vr_lines.specs.declared.line.Line.{Line}
+use Rattle.vr_lines.specs.declared.line.Line.TheVariants.{Cluster, Request, Deliver, Tick, Stop, Start, Fuse, Damage, Stale, Unread, Misdirect}
+use Rattle.vr_rules.specs.World.{Happening, Begins, Asks, Arrives, Ticks, Stops, Starts, Fuses, Lies}
+
+abbrev pub happening : Line → Happening
+happening (Cluster n) = Begins n
+happening (Request replica request) = Asks replica request
+happening (Deliver number) = Arrives number
+happening (Tick replica) = Ticks replica
+happening (Stop replica) = Stops replica
+happening (Start replica) = Starts replica
+happening (Fuse replica call code) = Fuses replica (call - 1) code
+happening (Damage replica sector) = Lies replica (fault.Damage sector)
+happening (Stale replica sector) = Lies replica (fault.Stale sector)
+happening (Unread replica sector) = Lies replica (fault.Unread sector)
+happening (Misdirect replica sector other) = Lies replica (fault.Misdirect sector other)
+
+unfoldable pub happenings : List Line → List Happening
+happenings lines = map happening lines
+
+-- each is a line of a group of n members
+unfoldable pub AreLinesOf : ℕ → List Line → Type 0
+AreLinesOf n lines = AllByRecursion (IsLineOf n) lines

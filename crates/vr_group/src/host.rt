@@ -1,0 +1,216 @@
+//! What hosts a member of the group.
+ghost use Rattle.std.specs.Prelude.{◌≡◌, ◌-◌, ◌<◌, ◌≤◌, ◌∷◌, [], Some, None, IfOk, OnOk, is_some, true};
+ghost use Rattle.std.specs.Option.{option_map};
+ghost use Rattle.vr_base.specs.Groups.{quorums_of};
+ghost use Rattle.vr_lie.specs.Faults.{IsFault};
+ghost use Rattle.vr_rules.specs.Lying.{hazards};
+ghost use Rattle.vr_rules.specs.World.{fresh_host, handles, lies, starts};
+ghost use Rattle.vr_msg.specs.declared.output.Output.TheVariants as output;
+ghost use Rattle.vr_super.specs.Opens.{opens};
+ghost use Rattle.vr_lying.specs.Disks.{told_by};
+ghost use Rattle.vr_lying.specs.Laws.{revived};
+ghost use Rattle.vr_lying.specs.Named.{named_by};
+ghost use Rattle.vr_lying.specs.Told.{IsTold};
+ghost use Rattle.vr_group.specs.Hosts.{HasActed, IsHost, host_of};
+
+use std::alloc::Global;
+use std::marker::Model;
+use vr_base::{Config, NoMemory};
+use vr_lie::{Fault, Faulted};
+use vr_lying::{HostDisk, member_of};
+use vr_msg::{Event, Outbox, Output};
+use vr_replica::{Halt, Refusal, Replica};
+
+/// A member's replica, none while it is stopped, and its disk.
+#[derive(Drop)]
+pub struct Host {
+    replica: Option<Replica>,
+    disk: HostDisk,
+}
+
+impl Model for Host {
+    ghost use Rattle.vr_rules.specs.Lying.{Lying};
+    ghost use Rattle.vr_rules.specs.World as world;
+    ghost use Rattle.vr_lying.specs.Disks.{told_by};
+    ghost use Rattle.vr_group.specs.Hosts.{IsHost, host_of};
+
+    ghost Value = { world.Host Lying };
+
+    ghost view = { λ h. host_of h.replica (told_by h.disk) };
+
+    ghost invariant = { λ h. IsHost h.replica (told_by h.disk) };
+}
+
+// The disk of a member of a new group, with its replica.
+fn make_replica(alloc: Global, index: u8, n: u8) -> Result<Host, NoMemory>
+    requires size { is_some (quorums_of n) ≡ true }
+    requires member { index < n }
+    ensures { IfOk result (λ h. h ≡ fresh_host hazards n index) }
+{
+    let mut disk = HostDisk::new(alloc)?;
+    let config = Config {
+        cluster: 0,
+        replica: index,
+        n,
+    };
+    match Replica::fresh(alloc, &mut disk, &config) {
+        Ok(replica) => Ok(Host {
+            replica: Some(replica),
+            disk,
+        }),
+        Err(_) => Err(NoMemory),
+    }
+}
+
+// A fuse has cut a call: the replica is gone, and the next calls go through again.
+fn halt(
+    replica: &mut Option<Replica>,
+    disk: &mut HostDisk,
+    index: u8,
+    out: &mut Outbox,
+) -> Result<(), NoMemory>
+    requires { out.old ≡ [] }
+    ensures gone { replica.new ≡ None }
+    ensures told { told_by disk.new ≡ revived (told_by disk.old) }
+    ensures out { OnOk result (out.new ≡ output.Halted index ∷ []) }
+{
+    *replica = None;
+    disk.revive();
+    out.push(Output::Halted(index))?;
+    Ok(())
+}
+
+// A replica that runs handles an event.
+fn step_on(
+    replica: &mut Option<Replica>,
+    disk: &mut HostDisk,
+    alloc: Global,
+    index: u8,
+    event: &Event,
+    out: &mut Outbox,
+) -> Result<(), NoMemory>
+    requires { IsHost replica.old (told_by disk.old) }
+    ensures host { IsHost replica.new (told_by disk.new) }
+    ensures acted { OnOk result (HasActed (handles hazards event.now index (host_of replica.old (told_by disk.old))) (host_of replica.new (told_by disk.new)) out.new) }
+{
+    out.clear();
+    let Some(running) = replica else {
+        return Ok(());
+    };
+    match running.step(alloc, disk, event, out) {
+        Ok(()) => Ok(()),
+        Err(Halt::NoMemory) => {
+            *replica = None;
+            Err(NoMemory)
+        }
+        Err(Halt::DiskFault) => halt(replica, disk, index, out),
+    }
+}
+
+// The replica of the disk of this member, where a fuse lets it be.
+fn recover_on(
+    replica: &mut Option<Replica>,
+    disk: &mut HostDisk,
+    alloc: Global,
+    index: u8,
+    config: &Config,
+    out: &mut Outbox,
+) -> Result<(), NoMemory>
+    requires stopped { replica.old ≡ None }
+    requires told { IsTold (told_by disk.old) }
+    requires named { Some config.now ≡ option_map named_by (opens (told_by disk.old).face) }
+    ensures host { IsHost replica.new (told_by disk.new) }
+    ensures acted { OnOk result (HasActed (starts hazards index (host_of None (told_by disk.old))) (host_of replica.new (told_by disk.new)) out.new) }
+{
+    match Replica::recover(alloc, disk, config, out) {
+        Ok(recovered) => {
+            *replica = Some(recovered);
+            Ok(())
+        }
+        Err(Refusal::Halted(Halt::NoMemory)) => Err(NoMemory),
+        Err(Refusal::Halted(Halt::DiskFault)) => halt(replica, disk, index, out),
+        Err(Refusal::Lost(_)) => Ok(()),
+        Err(Refusal::OtherMember(_)) => Ok(()),
+    }
+}
+
+// A member is started.
+fn start_on(
+    replica: &mut Option<Replica>,
+    disk: &mut HostDisk,
+    alloc: Global,
+    index: u8,
+    out: &mut Outbox,
+) -> Result<(), NoMemory>
+    requires { IsHost replica.old (told_by disk.old) }
+    ensures host { IsHost replica.new (told_by disk.new) }
+    ensures acted { OnOk result (HasActed (starts hazards index (host_of replica.old (told_by disk.old))) (host_of replica.new (told_by disk.new)) out.new) }
+{
+    out.clear();
+    if replica.is_some() {
+        return Ok(());
+    }
+    match member_of(disk) {
+        Some(config) => recover_on(replica, disk, alloc, index, &config, out),
+        None => Ok(()),
+    }
+}
+
+impl Host {
+    /// The member of this index of a new group of `n`.
+    pub fn new(alloc: Global, index: u8, n: u8) -> Result<Host, NoMemory>
+        requires size { is_some (quorums_of n) ≡ true }
+        requires member { index < n }
+        ensures { IfOk result (λ h. h ≡ fresh_host hazards n index) }
+    {
+        make_replica(alloc, index, n)
+    }
+
+    /// An event reaches it. Where it is stopped, nothing happens.
+    pub fn handle(
+        &mut self,
+        alloc: Global,
+        index: u8,
+        event: &Event,
+        out: &mut Outbox,
+    ) -> Result<(), NoMemory>
+        ensures { OnOk result (HasActed (handles hazards event.now index self.old) self.new out.new) }
+    {
+        step_on(&mut self.replica, &mut self.disk, alloc, index, event, out)
+    }
+
+    /// It loses its memory.
+    pub fn stop(&mut self)
+        ensures { self.new ≡ record self.old { replica = None } }
+    {
+        self.replica = None;
+    }
+
+    /// It is recovered. Where it runs, or its superblock doesn't open, nothing happens.
+    pub fn start(&mut self, alloc: Global, index: u8, out: &mut Outbox) -> Result<(), NoMemory>
+        ensures { OnOk result (HasActed (starts hazards index self.old) self.new out.new) }
+    {
+        start_on(&mut self.replica, &mut self.disk, alloc, index, out)
+    }
+
+    /// The `j`-th call of its disk from now on is cut by this code.
+    pub fn fuse(&mut self, j: u64, code: u64)
+        requires { 1 ≤ j }
+        ensures { self.new ≡ record self.old { fuse = Some (record { calls = j - 1; code = code }) } }
+    {
+        self.disk.fuse(j, code);
+    }
+
+    /// Its disk begins to lie, unless the fault is kept out.
+    pub fn lie(&mut self, index: u8, fault: &Fault, out: &mut Outbox) -> Result<(), NoMemory>
+        requires { IsFault fault.now }
+        ensures { OnOk result (HasActed (lies hazards fault.now index self.old) self.new out.new) }
+    {
+        out.clear();
+        match self.disk.fault(fault) {
+            Faulted::Done => out.push(Output::Done)?,
+            Faulted::KeptOut => out.push(Output::KeptOut)?,
+        }
+        Ok(())
+    }
+}

@@ -1,0 +1,14 @@
+//! A group of replicas on disks that lie, in one process, and the messages between them, which a schedule's lines move on.
+#![tactic(auto)]
+
+mod host;
+mod hosts;
+mod letter;
+mod members;
+mod outputs;
+mod world;
+
+pub use host::Host;
+pub use letter::Letter;
+pub use outputs::{Numbered, Outputs};
+pub use world::World;

@@ -1,0 +1,125 @@
+//! A group of members, and every message that they have sent.
+ghost use Rattle.std.specs.Prelude.{◌≡◌, ◌≤◌, ◌<◌, ◌++◌, true, false, IfOk, OnOk, OnErr, length};
+ghost use Rattle.vr_lines.specs.Fits.{IsLineOf};
+ghost use Rattle.vr_rules.specs.Lying.{hazards};
+ghost use Rattle.vr_rules.specs.World.{fresh_world, happen, happens, no_world};
+ghost use Rattle.vr_group.specs.Group.{HasHappened, world_of};
+ghost use Rattle.vr_group.specs.Lines.{AreLinesOf, happening, happenings};
+ghost use Rattle.vr_group.specs.Outputs.{numbered};
+
+use crate::Outputs;
+use crate::members::Members;
+use std::alloc::Global;
+use std::marker::Model;
+use vr_base::{NoMemory, Seq};
+use vr_lines::Line;
+
+/// A group of members on disks that lie, and every message that they have sent. It stops where there is no memory for a line,
+/// since a replica may then be in the midst of a step.
+#[derive(Drop)]
+pub struct World {
+    members: Members,
+    live: bool,
+}
+
+impl Model for World {
+    ghost use Rattle.vr_group.specs.Group.{Group, world_of};
+
+    ghost Value = { Group };
+
+    ghost view = { λ w. record { world = world_of w.members; live = w.live } };
+}
+
+// What happens at lines, one after the other.
+#[tactic(auto, using(crate::proofs::Goings::goings))]
+fn happen_all(
+    members: &mut Members,
+    alloc: Global,
+    lines: &[Line],
+    to: &mut Outputs,
+) -> Result<(), NoMemory>
+    requires group { 0 < members.old.n }
+    requires of { AreLinesOf members.old.n lines.now }
+    ensures { OnOk result (HasHappened (happen hazards (world_of members.old) (happenings lines.now)) (world_of members.old) (world_of members.new) to.old to.new) }
+{
+    for line in lines {
+        members.happen(alloc, line, to)?;
+    }
+    Ok(())
+}
+
+impl World {
+    /// No group yet.
+    pub fn empty(alloc: Global) -> World
+        ensures world { result.world ≡ no_world }
+        ensures live { result.live ≡ true }
+    {
+        World {
+            members: Members {
+                n: 0,
+                hosts: Vec::new(alloc),
+                sent: Seq::new(alloc),
+            },
+            live: true,
+        }
+    }
+
+    /// A new group of `n` members, 2 to 6.
+    pub fn new(alloc: Global, n: u8) -> Result<World, NoMemory>
+        requires { (2 ≤ n) × (n ≤ 6) }
+        ensures world { IfOk result (λ w. w.world ≡ fresh_world hazards n) }
+        ensures live { IfOk result (λ w. w.live ≡ true) }
+    {
+        Ok(World {
+            members: Members::begin(alloc, n)?,
+            live: true,
+        })
+    }
+
+    /// Whether the group goes on.
+    pub fn live(&self) -> bool
+        ensures { result ≡ self.now.live }
+    {
+        self.live
+    }
+
+    /// How many members it has, 0 where there is no group yet.
+    pub fn size(&self) -> u8
+        ensures { result ≡ self.now.world.n }
+    {
+        self.members.n
+    }
+
+    /// What happens at one line. An `Err` stops the group.
+    pub fn step(&mut self, alloc: Global, line: &Line) -> Result<Outputs, NoMemory>
+        requires live { self.old.live ≡ true }
+        requires of { IsLineOf self.old.world.n line.now }
+        ensures world { OnOk result (self.new.world ≡ (happens hazards self.old.world (happening line.now)).world) }
+        ensures outputs { IfOk result (λ o. o ≡ numbered (length self.old.world.sent) (happens hazards self.old.world (happening line.now)).outputs) }
+        ensures live { OnOk result (self.new.live ≡ true) }
+        ensures stopped { OnErr result (self.new.live ≡ false) }
+    {
+        self.live = false;
+        let mut outputs = Seq::new(alloc);
+        self.members.happen(alloc, line, &mut outputs)?;
+        self.live = true;
+        Ok(outputs)
+    }
+
+    /// What happens at lines of a group, one after the other. An `Err` stops the group.
+    pub fn run(&mut self, alloc: Global, lines: &[Line]) -> Result<Outputs, NoMemory>
+        requires live { self.old.live ≡ true }
+        requires group { 0 < self.old.world.n }
+        requires of { AreLinesOf self.old.world.n lines.now }
+        ensures world { OnOk result (self.new.world ≡ (happen hazards self.old.world (happenings lines.now)).world) }
+        ensures outputs { IfOk result (λ o. o ≡ numbered (length self.old.world.sent) (happen hazards self.old.world (happenings lines.now)).outputs) }
+        ensures live { OnOk result (self.new.live ≡ true) }
+        ensures stopped { OnErr result (self.new.live ≡ false) }
+    {
+        self.live = false;
+        let mut outputs = Seq::new(alloc);
+        happen_all(&mut self.members, alloc, lines, &mut outputs)?;
+        self.live = true;
+        Ok(outputs)
+    }
+}

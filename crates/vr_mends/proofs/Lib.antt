@@ -1,0 +1,5 @@
+mod Disks
+mod Dry
+mod Applying
+mod Taking
+mod Completing

@@ -1,0 +1,3 @@
+pub mod Halts
+pub mod Opened
+pub mod Ends

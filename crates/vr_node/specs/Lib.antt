@@ -1,0 +1,4 @@
+pub mod Opening
+pub mod Running
+pub mod Steps
+pub mod Stops

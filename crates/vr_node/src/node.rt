@@ -1,0 +1,64 @@
+//! A replica as the loop of turns takes it.
+ghost use Rattle.std.specs.Prelude.{◌≡◌};
+ghost use Rattle.vr_serve.specs.declared.member.Halt.TheVariants as stop;
+ghost use Rattle.vr_step.specs.declared.halt.Halt.TheVariants as halt;
+
+use std::alloc::Global;
+use vr_disk::SectorDisk;
+use vr_msg::{Event, Outbox};
+use vr_replica::Replica;
+use vr_serve::{Halt, Member};
+
+/// A replica that runs.
+#[derive(Drop)]
+pub struct Node {
+    replica: Replica,
+}
+
+/// Why a step stopped, as the loop hears it.
+fn halt_of(why: vr_replica::Halt) -> Halt
+    ensures { result ≡ stop.Disk → why ≡ halt.DiskFault }
+{
+    match why {
+        vr_replica::Halt::DiskFault => Halt::Disk,
+        vr_replica::Halt::NoMemory => Halt::NoMemory,
+    }
+}
+
+impl Node {
+    /// The member of this replica.
+    pub fn new(replica: Replica) -> Node
+        ensures { result.replica ≡ replica }
+    {
+        Node { replica }
+    }
+
+    /// The number of its group.
+    pub fn cluster(&self) -> u64
+        ensures { result ≡ self.now.replica.memory.cluster }
+    {
+        self.replica.config().cluster
+    }
+}
+
+impl Member for Node {
+    ghost use Rattle.vr_node.specs.Steps.{steps};
+
+    ghost does = { steps };
+
+    ghost runs = { λ node. node.replica.running };
+
+    #[tactic(auto, using(crate::proofs::Halts::halts))]
+    fn step<D: SectorDisk>(
+        &mut self,
+        alloc: Global,
+        disk: &mut D,
+        event: &Event,
+        out: &mut Outbox,
+    ) -> Result<(), Halt> {
+        match self.replica.step(alloc, disk, event, out) {
+            Ok(()) => Ok(()),
+            Err(halt) => Err(halt_of(halt)),
+        }
+    }
+}

@@ -1,0 +1,76 @@
+//! A member is made, or found again, on its disk.
+ghost use Rattle.std.specs.Prelude.{◌≡◌, ◌<◌, [], IfOk, is_some, true, false};
+ghost use Rattle.vr_base.specs.Groups.{quorums_of};
+ghost use Rattle.vr_disk.specs.Counts.{CountsFault};
+ghost use Rattle.vr_node.specs.Opening.{Opening};
+
+use std::alloc::Global;
+use vr_base::Config;
+use vr_disk::SectorDisk;
+use vr_msg::Outbox;
+use vr_replica::{FreshFault, Halt, Refusal, Replica};
+use vr_status::Status;
+
+/// A member that is made anew.
+fn make_member<D: SectorDisk>(
+    alloc: Global,
+    disk: &mut D,
+    config: &Config,
+) -> Result<Replica, Status>
+    requires size { is_some (quorums_of config.now.n) ≡ true }
+    requires member { config.now.replica < config.now.n }
+    ensures running { IfOk result (λ r. r.running ≡ true) }
+    ensures cause { CountsFault Status.DiskFault (D.faults disk.old) (D.faults disk.new) result }
+    ensures opened { Opening true config.now (D.told disk.old) (D.told disk.new) [] result }
+{
+    match Replica::fresh(alloc, disk, config) {
+        Ok(replica) => Ok(replica),
+        Err(FreshFault::Occupied) => Err(Status::Occupied),
+        Err(FreshFault::DiskFault) => Err(Status::DiskFault),
+        Err(FreshFault::NoMemory) => Err(Status::NoMemory),
+    }
+}
+
+/// A member that is found again on its disk.
+#[tactic(auto, using(crate::proofs::Opened::found_lost, crate::proofs::Opened::found_other, crate::proofs::Opened::found_halted, crate::proofs::Opened::found_wanting))]
+fn find_member<D: SectorDisk>(
+    alloc: Global,
+    disk: &mut D,
+    config: &Config,
+    first: &mut Outbox,
+) -> Result<Replica, Status>
+    ensures running { IfOk result (λ r. r.running ≡ true) }
+    ensures cause { CountsFault Status.DiskFault (D.faults disk.old) (D.faults disk.new) result }
+    ensures opened { Opening false config.now (D.told disk.old) (D.told disk.new) first.new result }
+{
+    match Replica::recover(alloc, disk, config, first) {
+        Ok(replica) => Ok(replica),
+        Err(Refusal::Lost(_)) => Err(Status::SuperLost),
+        Err(Refusal::OtherMember(found)) => Err(Status::OtherMember(found, *config)),
+        Err(Refusal::Halted(Halt::DiskFault)) => Err(Status::DiskFault),
+        Err(Refusal::Halted(Halt::NoMemory)) => Err(Status::NoMemory),
+    }
+}
+
+/// The member of this disk, made anew or not, with what its opening puts out; an `Err` is how the run ends.
+#[tactic(auto, using(crate::proofs::Opened::made_out))]
+pub fn open_member<D: SectorDisk>(
+    alloc: Global,
+    disk: &mut D,
+    config: &Config,
+    is_fresh: bool,
+    first: &mut Outbox,
+) -> Result<Replica, Status>
+    requires size { is_some (quorums_of config.now.n) ≡ true }
+    requires member { config.now.replica < config.now.n }
+    requires empty { first.old ≡ [] }
+    ensures running { IfOk result (λ r. r.running ≡ true) }
+    ensures cause { CountsFault Status.DiskFault (D.faults disk.old) (D.faults disk.new) result }
+    ensures opened { Opening is_fresh config.now (D.told disk.old) (D.told disk.new) first.new result }
+{
+    if is_fresh {
+        make_member(alloc, disk, config)
+    } else {
+        find_member(alloc, disk, config, first)
+    }
+}
