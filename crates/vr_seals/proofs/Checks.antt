@@ -1,5 +1,5 @@
 -- The sectors of a checkpoint begin with no header of an entry, if those of its sessions don't.
-use Rattle.std.proofs.Common.{ℕ, ◌+◌, ◌≡◌, refl, sym, ap, ◌∙◌, subst, List, [], ◌∷◌, ◌++◌, length, append_assoc}
+use Rattle.std.proofs.Common.{ℕ, ◌≡◌, refl, sym, ap, ◌∙◌, subst, List, [], ◌∷◌, ◌++◌, length, append_assoc}
 use Rattle.std.specs.List.{AllByRecursion}
 use Rattle.vr_disk.specs.DiskState.{Sync}
 use Rattle.vr_disk.specs.Stops.{IsCall}
@@ -22,10 +22,10 @@ calls_both (x ∷ xs) ys = let cs = block_calls x.name.address x.bytes in ap (λ
 both_headless : (xs ys : List Block) → AllByRecursion PutsHeadless (blocks_calls xs) → AllByRecursion PutsHeadless (blocks_calls ys) → AllByRecursion PutsHeadless (blocks_calls (xs ++ ys))
 both_headless xs ys a b = subst (AllByRecursion PutsHeadless) (sym (calls_both xs ys)) (headless_both (blocks_calls xs) (blocks_calls ys) a b)
 
-both_calls : (xs ys : List Block) → AllByRecursion IsCall (blocks_calls (xs ++ ys)) → AllByRecursion IsCall (blocks_calls xs) × AllByRecursion IsCall (blocks_calls ys)
+pub both_calls : (xs ys : List Block) → AllByRecursion IsCall (blocks_calls (xs ++ ys)) → AllByRecursion IsCall (blocks_calls xs) × AllByRecursion IsCall (blocks_calls ys)
 both_calls xs ys a =
     let all = subst (AllByRecursion IsCall) (calls_both xs ys) a in
-    (calls_left (blocks_calls xs) (blocks_calls ys) all, calls_right (blocks_calls xs) (blocks_calls ys) all)
+    (calls_left IsCall (blocks_calls xs) (blocks_calls ys) all, calls_right IsCall (blocks_calls xs) (blocks_calls ys) all)
 
 pub checkpoints_are_headless : CheckpointsAreHeadless
 unfolding save_calls written root_of
@@ -35,7 +35,7 @@ checkpoints_are_headless cluster texts op old h a sessions =
     let k = changed (keys_run cluster op) texts.keys old.keys in
     let c = root_of cluster texts op t in
     let root = block_of c ∷ [] in
-    let calls = calls_left (blocks_calls (s ++ (k ++ root))) (Sync ∷ []) a in
+    let calls = calls_left IsCall (blocks_calls (s ++ (k ++ root))) (Sync ∷ []) a in
     let later = (both_calls s (k ++ root) calls).1 in
     let parts = both_calls k root later in
     let marks : AllByRecursion IsLaterMarkless k = subst (λ (text : List ℕ). AllByRecursion IsLaterMarkless (changed (keys_run cluster op) text old.keys)) (sym h.keys) (keys_markless h.machine h.fits (payloads (length (kv_text h.machine))) 0 (keys_run cluster op) old.keys) in

@@ -14,7 +14,7 @@ use Rattle.vr_kv.specs.Kv as kv
 
 -- ---- a text's bytes
 
-abbrev IsPrinted : ℕ → Type 0
+abbrev pub IsPrinted : ℕ → Type 0
 IsPrinted x = (33 ≤ x) × (x ≤ 126)
 
 printed : (text : List ℕ) → IsTrue (list_all is_printable text) → (i : ℕ) → i < length text → IsPrinted (get_or text i 0)
@@ -25,11 +25,11 @@ printed (x ∷ xs) t zero l =
     (leb-true 33 x r.0, leb-true x 126 r.1)
 printed (x ∷ xs) t (suc i) l = printed xs ((both (is_printable x) (list_all is_printable xs) t).1) i (omega (arith, l))
 
-text_printed : (limit : ℕ) (text : List ℕ) → IsTrue (is_text limit text) → (i : ℕ) → i < length text → IsPrinted (get_or text i 0)
+pub text_printed : (limit : ℕ) (text : List ℕ) → IsTrue (is_text limit text) → (i : ℕ) → i < length text → IsPrinted (get_or text i 0)
 unfolding is_text
 text_printed limit text t i l = printed text ((both (nat_le 1 (length text) && nat_le (length text) limit) (list_all is_printable text) t).1) i l
 
-text_some : (limit : ℕ) (text : List ℕ) → IsTrue (is_text limit text) → 1 ≤ length text
+pub text_some : (limit : ℕ) (text : List ℕ) → IsTrue (is_text limit text) → 1 ≤ length text
 unfolding is_text
 text_some limit text t = leb-true 1 (length text) (both (nat_le 1 (length text)) (nat_le (length text) limit) (both (nat_le 1 (length text) && nat_le (length text) limit) (list_all is_printable text) t).0).0
 

@@ -6,4 +6,8 @@ pub mod Marks
 pub mod Keys
 pub mod Blocks
 pub mod Roots
+pub mod Begins
+pub mod Fronts
+pub mod SessionTexts
+pub mod Spelling
 pub mod Checks

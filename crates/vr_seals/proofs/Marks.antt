@@ -1,6 +1,7 @@
 -- What stands at some places of a sector that begins with the header of an entry, and of one that does so with its bits turned.
-use Rattle.std.proofs.Common.{ℕ, ◌+◌, ◌-◌, ◌<◌, ◌≡◌, arith, refl, sym, ap, ◌∙◌, List, [], ◌∷◌, length, get_or}
+use Rattle.std.proofs.Common.{ℕ, ◌+◌, ◌-◌, ◌<◌, ◌≡◌, ◌^◌, inl, inr, arith, refl, sym, ap, ◌∙◌, List, [], ◌∷◌, length, get_or}
 use Rattle.std.specs.Prelude.{replicate}
+use Rattle.std.proofs.lemmas.Bool.{cases_lt}
 use Rattle.std.proofs.lemmas.List.{get_or-replicate}
 use Rattle.vr_base.specs.Bytes.{IsBytes, bytes64, joined, name_of, piece}
 use Rattle.vr_base.proofs.FieldLaws.{byte_of, get_or-piece, length-bytes32, length-bytes64, length-name_of}
@@ -91,3 +92,47 @@ turned_marks b h c f =
       commit = λ i l. turned_mark b (96 + i) 0 c (omega (arith, l)) (m.commit i l);
       aux = λ i l. turned_mark b (112 + i) 0 c (omega (arith, l)) (m.aux i l);
     }
+
+-- ---- more of them, for texts that aren't excluded by those alone
+
+pub record FrontMarks (b : List ℕ) (h : Header) : Type 0 where
+  pub marked : Marked (λ x. x) b
+  pub cluster : (i : ℕ) → i < 8 → get_or b (64 + i) 0 ≡ 0
+  pub op : h.op < 2 ^ 61 → get_or b 88 0 < 32
+  pub replica : get_or b 109 0 ≡ 0
+  pub zeros : (i : ℕ) → i < 17 → get_or b (111 + i) 0 ≡ 0
+
+first_byte : (n : ℕ) → n < 2 ^ 61 → get_or (bytes64 n) 0 0 < 32
+unfolding bytes64
+first_byte n l = omega (arith, l)
+
+high_at : (b : List ℕ) (n : ℕ) → piece 88 8 b ≡ bytes64 n → n < 2 ^ 61 → get_or b 88 0 < 32
+high_at b n e l = let at = get_or-piece 88 8 0 b (omega arith) in let same = ap (λ x. get_or x 0 0) e in let low = first_byte n l in omega (arith, at, same, low)
+
+last_zeros : (b : List ℕ) → piece 120 8 b ≡ replicate 8 0 → (i : ℕ) → i < 8 → get_or b (120 + i) 0 ≡ 0
+last_zeros b e i l = sym (get_or-piece 120 8 i b l) ∙ (ap (λ x. get_or x i 0) e ∙ get_or-replicate {A = ℕ} 8 i 0 0 l)
+
+pub long_marks : (b : List ℕ) (h : Header) → IsBytes b → Fronts b h → FrontMarks b h
+long_marks b h are f =
+    let all = decoded_found b are in
+    let s = rw f.reads at all in
+    let is = entry_header_of h f.entry in
+    let n : HasNames h = record { body = s.1.body; parent = s.1.parent; request_name = s.1.request_name } in
+    let at : (i : ℕ) → i < 17 → piece (place layout i) (get_or layout i 0) b ≡ get_or (pieces h) i [] = λ i l. piece_there layout (pieces h) b (begins h b n s.0) i l in
+    let m = front_marks b h are f in
+    record {
+      marked = m;
+      cluster = zeros64 b 64 h.cluster (at 4 (omega arith)) f.group;
+      op = high_at b h.op (at 8 (omega arith));
+      replica = byte_of 109 h.replica b (at 12 (omega arith)) ∙ is.replica;
+      zeros = λ i l. elim (cases_lt i 1) [
+        | inl none ↦ (let e : 111 + i ≡ 111 = omega (arith, none) in ap (λ k. get_or b k 0) e ∙ m.kind)
+        | inr some ↦ elim (cases_lt i 9) [
+          | inl aux ↦ (let e : 111 + i ≡ 112 + (i - 1) = omega (arith, some) in ap (λ k. get_or b k 0) e ∙ m.aux (i - 1) (omega (arith, some, aux)))
+          | inr last ↦ (let e : 111 + i ≡ 120 + (i - 9) = omega (arith, last) in ap (λ k. get_or b k 0) e ∙ last_zeros b (at 16 (omega arith)) (i - 9) (omega (arith, last, l)))
+        ]
+      ];
+    }
+
+pub turned_ones : (b : List ℕ) (h : Header) → IsContent b → Fronts (damaged b) h → (i : ℕ) → i < 17 → get_or b (111 + i) 0 ≡ 255
+turned_ones b h c f i l = let m = long_marks (damaged b) h (damaged_content b c).each f in turned_mark b (111 + i) 0 c (omega (arith, l)) (m.zeros i l)

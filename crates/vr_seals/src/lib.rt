@@ -2,7 +2,7 @@
 //! contract is the statement, and it does nothing.
 #![tactic(auto)]
 
-ghost use Rattle.vr_seals.specs.Laws.{CheckpointsAreHeadless, SealsLast, SlotsAreSealed, ValuesAreSealed};
+ghost use Rattle.vr_seals.specs.Laws.{CheckpointsAreHeadless, SealsLast, SessionsAreHeadless, SlotsAreSealed, ValuesAreSealed};
 
 /// Where all sectors of a disk are sealed, they are so after calls that write sealed sectors, in each cut of them, and after a fault.
 pub fn seals_last()
@@ -22,4 +22,10 @@ pub fn values_are_sealed()
 /// No sector of a checkpoint begins with the header of an entry, as it is or with its bits turned, if those of its sessions don't.
 pub fn checkpoints_are_headless()
     ensures { CheckpointsAreHeadless }
+{}
+
+/// Of sessions that come of entries no sector of a checkpoint begins with the header of an entry whose op is below 2^61, by their form,
+/// wherever in the sector one of them ends and another begins; and none does with its bits turned, whatever the sessions are.
+pub fn sessions_are_headless()
+    ensures { SessionsAreHeadless }
 {}

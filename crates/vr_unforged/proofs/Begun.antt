@@ -16,14 +16,19 @@ use Rattle.vr_rules.specs.Group.{made_in}
 use Rattle.vr_protocol.specs.Basics.{In}
 use Rattle.vr_worlds.specs.Beside.{begun_before}
 use Rattle.vr_apply.specs.declared.codec.Texts.{Texts}
-use Rattle.vr_ckpt.specs.Saves.{save_calls, table_of}
+use Rattle.vr_ckpt.specs.Saves.{blocks_calls, changed, keys_run, root_of, save_calls, sessions_run, table_of, written}
+use Rattle.vr_grid.specs.Blocks.{block_of}
+use Rattle.vr_grid.specs.declared.block.Block.{Block}
+use Rattle.vr_sess.specs.Texts.{sessions_text}
 use Rattle.vr_ckpt.specs.declared.table.Payload.{Payload}
 use Rattle.vr_ckpt.specs.declared.table.PayloadTable.{PayloadTable}
 use Rattle.vr_worlds.specs.Stocks.{IsNamed, IsOfState, WritesBlocks}
 use Rattle.vr_worlds.proofs.Blocks.{Texted, table_few, table_named}
 use Rattle.vr_worlds.proofs.States.{text_of_state}
-use Rattle.vr_seals.proofs.Checks.{checkpoints_are_headless}
-use Rattle.vr_seals.specs.Laws.{HasPlace}
+use Rattle.vr_seals.proofs.Blocks.{calls_left}
+use Rattle.vr_seals.proofs.Checks.{both_calls, checkpoints_are_headless}
+use Rattle.vr_seals.proofs.Spelling.{sessions_are_headless}
+use Rattle.vr_seals.specs.Laws.{HasPlace, PutsNoneLeft}
 use Rattle.vr_worlds.specs.Worlds.{begun_by}
 use Rattle.vr_seals.specs.Seals.{PutsHeadless}
 use Rattle.vr_seals.proofs.Turning.{sealed_more}
@@ -102,6 +107,23 @@ places_both : (xs ys : List Payload) → AllByRecursion HasPlace xs → AllByRec
 places_both [] ys a b = b
 places_both (x ∷ xs) ys a b = (a.0, places_both xs ys a.1 b)
 
+-- the blocks of its sessions come first
+sessions_called : (cluster : ℕ) (texts : Texts) (op : ℕ) (old : PayloadTable) → AllByRecursion IsCall (save_calls cluster texts op old) → AllByRecursion IsCall (blocks_calls (changed (sessions_run cluster op) texts.sessions old.sessions))
+unfolding save_calls written
+sessions_called cluster texts op old a =
+    let bs = changed (sessions_run cluster op) texts.sessions old.sessions in
+    let rest = changed (keys_run cluster op) texts.keys old.keys ++ block_of (root_of cluster texts op (table_of cluster texts op old)) ∷ [] in
+    (both_calls bs rest (calls_left IsCall (blocks_calls (bs ++ rest)) (Sync ∷ []) a)).0
+
+sessions_headless : (cluster : ℕ) (texts : Texts) (op : ℕ) (old : PayloadTable) → IsOfState texts old → AllByRecursion IsCall (save_calls cluster texts op old) → ChecksHeadless (Checkpoint cluster texts op old)
+    → AllByRecursion PutsHeadless (blocks_calls (changed (sessions_run cluster op) texts.sessions old.sessions))
+sessions_headless cluster texts op old h a s =
+    let m = h.state.sessions in
+    let same : texts.sessions ≡ sessions_text m = ap (λ (x : Texts). x.sessions) h.are in
+    let bs : List ℕ → List Block = λ t. changed (sessions_run cluster op) t old.sessions in
+    subst (λ (t : List ℕ). AllByRecursion PutsHeadless (blocks_calls (bs t))) (sym same)
+    (sessions_are_headless cluster op m old.sessions h.sessions.fit (subst (λ (t : List ℕ). AllByRecursion IsCall (blocks_calls (bs t))) same (sessions_called cluster texts op old a)) (subst (λ (t : List ℕ). AllByRecursion (PutsNoneLeft m) (blocks_calls (bs t))) same (s m same)))
+
 check_headless : (cluster : ℕ) (texts : Texts) (op : ℕ) (old : PayloadTable) → IsOfState texts old → AllByRecursion IsCall (save_calls cluster texts op old) → ChecksHeadless (Checkpoint cluster texts op old)
     → AllByRecursion PutsHeadless (save_calls cluster texts op old)
 check_headless cluster texts op old h a s =
@@ -111,7 +133,8 @@ check_headless cluster texts op old h a s =
     let few = table_few cluster texts op old x in
     let size = length-append t.sessions t.keys in
     checkpoints_are_headless cluster texts op old
-    (record { machine = h.state.machine; keys = ap (λ (x : Texts). x.keys) h.are; fits = h.machine.fit; names = places_both t.sessions t.keys (places t.sessions named.sessions) (places t.keys named.keys); few = omega (arith, few, size) }) a s
+    (record { machine = h.state.machine; keys = ap (λ (x : Texts). x.keys) h.are; fits = h.machine.fit; names = places_both t.sessions t.keys (places t.sessions named.sessions) (places t.keys named.keys); few = omega (arith, few, size) }) a
+    (sessions_headless cluster texts op old h a s)
 
 -- those from here on, which saw these before them
 module _ (made all : List Header) (P : List ℕ → Type 0) (m : (h : Header) → In h made → In h all) where

@@ -1,5 +1,5 @@
 -- A line of a schedule leaves sealed what was sealed.
-use Rattle.std.proofs.Common.{ℕ, ◌+◌, ◌-◌, ◌≡◌, inl, inr, refl, sym, ap, ◌∙◌, subst, true, false, cond, List, [], ◌++◌, length, set, Option, Some, None}
+use Rattle.std.proofs.Common.{ℕ, ◌-◌, ◌≡◌, inl, inr, refl, sym, ap, ◌∙◌, subst, true, false, cond, List, [], ◌++◌, length, set, Option, Some, None}
 use Rattle.std.specs.Prelude.{◌%◌, nat_le, slice_get}
 use Rattle.std.specs.List.{AllByRecursion}
 use Rattle.std.specs.Option.{option_and_then, option_map, option_map_or}

@@ -1,4 +1,4 @@
--- What is asked of a schedule: its lines, that names don't collide, and that sessions spell no header.
+-- What is asked of a schedule: its lines, that names don't collide, and that sessions spell none of the headers that their form leaves.
 use Rattle.std.specs.Prelude.{ℕ, ◌≡◌, ◌⊎◌, ⊤, List, [], ◌∷◌, slice_get, Some}
 use Rattle.std.specs.List.{AllByRecursion}
 use Rattle.vr_header.specs.declared.header.Header.{Header}
@@ -10,7 +10,10 @@ use Rattle.vr_rules.specs.Lying.{Lying, hazards}
 use Rattle.vr_rules.specs.World.{World, Host, Happening, happens}
 use Rattle.vr_worlds.specs.Stocks.{IsGiven}
 use Rattle.vr_worlds.specs.Worlds.{IsHashedAt, IsLine, begun_in}
-use Rattle.vr_seals.specs.Seals.{HasSectors, IsSealed, PutsHeadless}
+use Rattle.vr_sess.specs.Sessions.{Map}
+use Rattle.vr_sess.specs.Texts.{sessions_text}
+use Rattle.vr_seals.specs.Laws.{PutsNoneLeft}
+use Rattle.vr_seals.specs.Seals.{HasSectors, IsSealed}
 use Rattle.vr_unforged.specs.Bridged.{IsSealedBlock}
 
 -- ---- a world none of whose sectors is forged
@@ -27,10 +30,11 @@ abbrev pub IsHashed : World Lying → List Happening → List ℕ → Type 0
 IsHashed w [] bytes = ⊥
 IsHashed w (x ∷ xs) bytes = IsHashedAt w x bytes ⊎ IsHashed (happens hazards w x).world xs bytes
 
--- Where a checkpoint is written, no sector of the blocks of its sessions does: no text of sessions spells the header of an entry there.
--- A header spells its own name, so one would stand there by chance alone, or by the design of a client, which chooses numbers.
+-- Where a checkpoint is written, no sector of the blocks of its sessions begins with one of the headers that their form leaves: of an entry
+-- whose op is 2^61 or more, and any where a session doesn't come of an entry. A header spells its own name, so such a one would stand there
+-- by chance alone, or by the design of a client, which chooses numbers.
 abbrev pub ChecksHeadless : Effect → Type 0
-ChecksHeadless (Checkpoint cluster texts op old) = AllByRecursion PutsHeadless (blocks_calls (changed (sessions_run cluster op) texts.sessions old.sessions))
+ChecksHeadless (Checkpoint cluster texts op old) = (m : Map) → texts.sessions ≡ sessions_text m → AllByRecursion (PutsNoneLeft m) (blocks_calls (changed (sessions_run cluster op) texts.sessions old.sessions))
 ChecksHeadless _ = ⊤
 
 abbrev pub AreHeadless : World Lying → List Happening → Type 0

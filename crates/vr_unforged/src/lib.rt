@@ -3,7 +3,8 @@
 //! statement, and it does nothing.
 //!
 //! What is asked of a schedule (`MayAll`): its lines are those of a schedule; names don't collide, of what was read, held and written
-//! where a script was cut or a fault was done; no text of sessions spells the header of an entry where a sector of a checkpoint begins.
+//! where a script was cut or a fault was done; where a sector of a checkpoint begins, no text of sessions spells a header that its form
+//! leaves: of an entry whose op is 2^61 or more, or any where a session doesn't come of an entry.
 #![tactic(auto)]
 
 ghost use Rattle.vr_unforged.specs.Laws.{HappeningsAreRuns, LinesStayUnforged, SchedulesAreRuns, SomeScheduleMay, WorldsBeginUnforged};
