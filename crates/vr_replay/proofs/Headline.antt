@@ -7,13 +7,13 @@ use Rattle.vr_group.specs.Lines.{happenings}
 use Rattle.vr_unforged.proofs.Fresh.{schedules_are_runs}
 use Rattle.vr_one_log.proofs.Closing.{runs_safe}
 use Rattle.vr_one_log.proofs.Traces.{keeps}
-use Rattle.vr_replay.specs.Headline.{HasOneLog}
+use Rattle.vr_replay.specs.Headline.{ScheduleHasOneLog}
 use Rattle.vr_replay.specs.Schedule.{Schedule, replayed, schedule_of}
 
-has_one_log : (s : Schedule) → HasOneLog s
+schedule_has_one_log : (s : Schedule) → ScheduleHasOneLog s
 unfolding happen
-has_one_log s few many may = keeps s.n few many (runs_safe 0 s.n) (replayed s) (schedules_are_runs s.n (happenings s.lines) few many may)
+schedule_has_one_log s few many may = keeps s.n few many (runs_safe 0 s.n) (replayed s) (schedules_are_runs s.n (happenings s.lines) few many may)
 
-pub headline : (left : Option (List ℕ)) → IfSome left (λ bytes. HasOneLog (schedule_of bytes))
+pub headline : (left : Option (List ℕ)) → IfSome left (λ bytes. ScheduleHasOneLog (schedule_of bytes))
 headline None = tt
-headline (Some bytes) = has_one_log (schedule_of bytes)
+headline (Some bytes) = schedule_has_one_log (schedule_of bytes)

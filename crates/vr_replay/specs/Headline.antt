@@ -9,5 +9,5 @@ use Rattle.vr_replay.specs.Schedule.{Schedule, replayed}
 
 -- A group of 2 to 6 replicas keeps one log, on disks that lie within the premise, whatever the lines are: where names don't collide, and no
 -- text of sessions spells the header of an entry that no group makes.
-abbrev pub HasOneLog : Schedule → Type 0
-HasOneLog s = 2 ≤ s.n → s.n ≤ 6 → MayAll (fresh_world hazards s.n) (happenings s.lines) → KeepsOneLog s.n (replayed s)
+abbrev pub ScheduleHasOneLog : Schedule → Type 0
+ScheduleHasOneLog s = 2 ≤ s.n → s.n ≤ 6 → MayAll (fresh_world hazards s.n) (happenings s.lines) → KeepsOneLog s.n (replayed s)

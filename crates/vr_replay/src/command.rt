@@ -1,7 +1,7 @@
 //! A replay over the outside that is handed in.
 ghost use Rattle.std.specs.Prelude.{◌≡◌, ◌↔◌, ◌⊎◌, ℕ, true, false, IfSome};
 ghost use Rattle.vr_base.specs.Causes.{Rose};
-ghost use Rattle.vr_replay.specs.Headline.{HasOneLog};
+ghost use Rattle.vr_replay.specs.Headline.{ScheduleHasOneLog};
 ghost use Rattle.vr_replay.specs.Schedule.{schedule_of};
 ghost use Rattle.vr_replay.specs.Run.{IsDone, IsRefused, IsCutShort, IsPartial, Ends, count_after, is_replay_words, refused_in, status_for};
 
@@ -53,7 +53,7 @@ pub fn replay<S: Source, K: Sink>(alloc: Global, source: &mut S, sink: &mut K) -
     ensures complete { ¬ Rose (S.faults source.old) (S.faults source.new) → ¬ Rose (K.faults sink.old) (K.faults sink.new) → IfSome (S.left source.old) (λ bytes. (result ≡ status_for (refused_in bytes)) ⊎ (result ≡ Status.NoMemory)) }
 
     // Whatever the schedule, its outputs have one log.
-    ensures headline { IfSome (S.left source.old) (λ bytes. HasOneLog (schedule_of bytes)) }
+    ensures headline { IfSome (S.left source.old) (λ bytes. ScheduleHasOneLog (schedule_of bytes)) }
 {
     read_schedule(alloc, source, sink)
 }
@@ -101,7 +101,7 @@ pub fn run<S: Source, K: Sink, D: SectorDisk, L: Link, C: Clock>(
     ensures clock { clock.new ≡ clock.old }
 
     // Whatever the schedule, its outputs have one log.
-    ensures headline { IfSome (S.left source.old) (λ bytes. HasOneLog (schedule_of bytes)) }
+    ensures headline { IfSome (S.left source.old) (λ bytes. ScheduleHasOneLog (schedule_of bytes)) }
 {
     if !is_replay(words) {
         return Status::Usage;
