@@ -1,5 +1,5 @@
 -- One log: of every run of a group that was just made, and of every schedule of a group on disks that lie.
-use Rattle.std.specs.Prelude.{ℕ, ◌-◌, ◌<◌, ◌≤◌, ◌≡◌, ◌⊎◌, List, ◌∷◌, Contains, slice_get, Some}
+use Rattle.std.specs.Prelude.{ℕ, ◌-◌, ◌^◌, ◌<◌, ◌≤◌, ◌≡◌, ◌⊎◌, List, ◌∷◌, length, Contains, slice_get, Some}
 use Rattle.vr_header.specs.declared.header.Header.{Header}
 use Rattle.vr_header.specs.Bodies.{operation_bytes}
 use Rattle.vr_header.specs.Made.{Whole}
@@ -53,6 +53,6 @@ pub record KeepsOneLog (n : ℕ) (h : Happened Lying) : Type 0 where
   pub one : (v w : ℕ) (c d : Header) → IsHeader c → IsHeader d → NoCollision (IsHashed matched.run c) → NoCollision (IsHashed matched.run d) → 0 < c.op → c.op ≡ d.op
       → IsCommitted 0 n h.outputs v c → IsCommitted 0 n h.outputs w d → c ≡ d
 
--- of each list of lines that may happen to a group that was just made
+-- of each list of fewer than 2^60 lines that may happen to a group that was just made
 abbrev pub SchedulesKeepOneLog : Type 0
-SchedulesKeepOneLog = (n : ℕ) (xs : List Happening) → 2 ≤ n → n ≤ 6 → MayAll (fresh_world hazards n) xs → KeepsOneLog n (happen hazards no_world (Begins n ∷ xs))
+SchedulesKeepOneLog = (n : ℕ) (xs : List Happening) → 2 ≤ n → n ≤ 6 → length xs < 2 ^ 60 → MayAll (fresh_world hazards n) xs → KeepsOneLog n (happen hazards no_world (Begins n ∷ xs))

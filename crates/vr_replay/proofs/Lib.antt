@@ -6,4 +6,5 @@ pub mod Heard
 pub mod Plays
 pub mod Streams
 pub mod Whole
+pub mod Few
 pub mod Headline

@@ -7,7 +7,6 @@ use Rattle.vr_unforged.specs.Schedules.{MayAll}
 use Rattle.vr_one_log.specs.Laws.{KeepsOneLog}
 use Rattle.vr_replay.specs.Schedule.{Schedule, replayed}
 
--- A group of 2 to 6 replicas keeps one log, on disks that lie within the premise, whatever the lines are: where names don't collide, and no
--- text of sessions spells the header of an entry that no group makes.
+-- A group of 2 to 6 replicas keeps one log, on disks that lie within the premise, whatever the lines are: where names don't collide.
 abbrev pub ScheduleHasOneLog : Schedule → Type 0
 ScheduleHasOneLog s = 2 ≤ s.n → s.n ≤ 6 → MayAll (fresh_world hazards s.n) (happenings s.lines) → KeepsOneLog s.n (replayed s)
