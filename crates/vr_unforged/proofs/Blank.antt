@@ -1,5 +1,5 @@
 -- A disk that was just formatted reads as no entry and as no block: its prepares and its grid are zeros.
-use Rattle.std.proofs.Common.{ℕ, zero, suc, ◌+◌, ◌*◌, ◌≤◌, ◌<◌, ◌≡◌, ◌≢◌, arith, refl, sym, ap, ◌∙◌, subst, List, [], ◌∷◌, ◌++◌, length, map, take, get_or, Option, Some, None, Ok, inl, inr}
+use Rattle.std.proofs.Common.{ℕ, zero, suc, ◌+◌, ◌*◌, ◌≤◌, ◌<◌, ◌≡◌, arith, refl, sym, ap, ◌∙◌, subst, List, [], ◌∷◌, ◌++◌, length, map, take, get_or, Option, Some, None, Ok, inl, inr}
 use Rattle.std.specs.List.{AllByRecursion, range_with_len}
 use Rattle.std.specs.Option.{option_and_then}
 use Rattle.std.proofs.lemmas.Bool.{cases_lt}
@@ -17,7 +17,7 @@ use Rattle.vr_header.proofs.Faults.{sound}
 use Rattle.vr_header.proofs.HeaderLaws.{decoded_again}
 use Rattle.vr_super.specs.Copies.{copy_bytes}
 use Rattle.vr_super.specs.Calls.{save_from}
-use Rattle.vr_rings.specs.Slots.{prepare_bytes, prepare_reading, sector_of, whole_in, whole_of}
+use Rattle.vr_rings.specs.Slots.{prepare_reading, sector_of, whole_in, whole_of}
 use Rattle.vr_rings.proofs.Spelling.{one_spelling, prepare_spells}
 use Rattle.vr_grid.specs.Blocks.{Content}
 use Rattle.vr_grid.specs.Grid.{block_reading, named_at}

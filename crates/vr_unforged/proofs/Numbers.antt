@@ -1,12 +1,12 @@
 -- A log grows by one entry at a time: in each state that a run of the machine reaches, no number of an entry, and no head of a value, is
 -- greater than the count of entries that were made.
-use Rattle.std.proofs.Common.{ℕ, zero, suc, ◌+◌, ◌≤◌, ◌<◌, ◌≡◌, inl, inr, arith, ap, subst, true, List, length, Option, Some, None}
+use Rattle.std.proofs.Common.{ℕ, suc, ◌≤◌, ◌≡◌, inl, inr, arith, ap, subst, true, length, Option, Some, None}
 use Rattle.std.proofs.lemmas.Bool.{cases_lt}
-use Rattle.vr_protocol.specs.Basics.{In, Each, update}
+use Rattle.vr_protocol.specs.Basics.{In, Each}
 use Rattle.vr_protocol.specs.Quorums.{Quorums}
 use Rattle.vr_protocol.specs.Headers.{Headers}
 use Rattle.vr_protocol.specs.History.{History, HistoryOk, finish}
-use Rattle.vr_protocol.specs.Members.{Choice, Memory, Superblock}
+use Rattle.vr_protocol.specs.Members.{Superblock}
 use Rattle.vr_protocol.specs.Group.{Group, Made, made_at}
 use Rattle.vr_protocol.specs.Claims.{SuperblockOk, UnderOk}
 use Rattle.vr_protocol.specs.Claims as claim

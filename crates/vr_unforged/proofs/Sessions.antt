@@ -1,5 +1,5 @@
 -- The sessions of a log's state come of its entries; so each checkpoint that a run of a group writes is of sessions that come of entries.
-use Rattle.std.proofs.Common.{ℕ, zero, suc, ◌<◌, ◌≡◌, arith, refl, sym, ap, subst, Bool, List, [], ◌∷◌, length, Option, Some, None, ltb}
+use Rattle.std.proofs.Common.{ℕ, zero, suc, ◌≡◌, arith, sym, ap, subst, Bool, List, [], ◌∷◌, length, Option, Some, None, ltb}
 use Rattle.std.specs.Prelude.{⊤, is_some, slice_get}
 use Rattle.std.specs.List.{AllByRecursion}
 use Rattle.std.specs.Option.{option_map_or}
@@ -12,7 +12,6 @@ use Rattle.vr_header.specs.Names.{root_header}
 use Rattle.vr_header.specs.NoCollision.{NoCollision}
 use Rattle.vr_header.specs.declared.operation.Operation.{Operation}
 use Rattle.vr_header.specs.declared.operation.Operation.TheVariants.{Register}
-use Rattle.vr_header.specs.declared.outcome.Outcome.{Outcome}
 use Rattle.vr_header.specs.declared.outcome.Outcome.TheVariants as outcome
 use Rattle.vr_table.specs.Finite.{find, put, without}
 use Rattle.vr_kv.specs.Kv as kv
@@ -22,7 +21,7 @@ use Rattle.vr_sess.specs.Effects.{stored}
 use Rattle.vr_sess.specs.Texts.{sessions_text}
 use Rattle.vr_sess.specs.declared.session.Session.{Session}
 use Rattle.vr_sess.specs.declared.session.SessionAnswer.TheVariants as answer
-use Rattle.vr_apply.specs.Folds.{answered, applied, asked, check, executed, outcome_of}
+use Rattle.vr_apply.specs.Folds.{answered, applied, asked, check, executed}
 use Rattle.vr_apply.specs.declared.codec.Texts.{Texts}
 use Rattle.vr_apply.specs.declared.state.State.{State}
 use Rattle.vr_apply.proofs.Stored.{state_next}
