@@ -46,4 +46,4 @@ few_lines bytes = schedule_few (lines_of bytes)
 -- as many things happen
 pub length-happenings : (ls : List Line) → length (happenings ls) ≡ length ls
 unfolding happenings
-length-happenings ls = length-map happening ls
+length-happenings ls = length-map ls happening
