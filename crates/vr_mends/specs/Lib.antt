@@ -1,1 +1,2 @@
+pub mod CaughtUp
 pub mod Completing
