@@ -1,20 +1,18 @@
 -- A replica that has applied all that it can has done so after each step, and after an opening.
-use Rattle.std.proofs.Common.{arith, ◌≡◌, ◌≤◌, refl, sym, ap, cond, Bool, true, false, not, ◌∙◌}
+use Rattle.std.proofs.Common.{arith, ◌≡◌, ◌≤◌, refl, sym, cond, Bool, true, false, not, ◌∙◌}
 use Rattle.std.proofs.lemmas.Bool.{ltb-false, or_parts}
-use Rattle.std.specs.Prelude.{nat_lt, ◌||◌}
-use Rattle.vr_super.specs.Copies.{SuperValue}
+use Rattle.std.specs.Prelude.{nat_lt}
 use Rattle.vr_msg.specs.declared.event.Event.{Event}
 use Rattle.vr_msg.specs.declared.event.Event.TheVariants as event
 use Rattle.vr_msg.specs.declared.frame.Frame.{Frame}
 use Rattle.vr_msg.specs.declared.frame.Frame.TheVariants as frame
 use Rattle.vr_rules.specs.Laws.{HasNames, IsEvent, IsMessage}
-use Rattle.vr_rules.specs.Opening.{announce, blank, fresh, going_on, heard_itself, in_next_view, leave_view, opening, recover_parts, resuming}
+use Rattle.vr_rules.specs.Opening.{announce, blank, going_on, heard_itself, in_next_view, leave_view, opening, recover_parts}
 use Rattle.vr_rules.specs.Outputs.{start_line}
 use Rattle.vr_rules.specs.Replica.{Replica, is_frozen, is_spent, is_started, last_view, leads, part_at}
 use Rattle.vr_rules.specs.Rules.{on_event, on_message, react}
 use Rattle.vr_rules.specs.Sound.{IsSound}
-use Rattle.vr_rules.specs.Steps.{Mend, Setting, Word, ◌⨾◌, after_all, by, change, does, quiet, says, when}
-use Rattle.vr_rules.specs.Words.{apply, load}
+use Rattle.vr_rules.specs.Steps.{Mend, Setting, ◌⨾◌, after_all, by, does, quiet, says, when}
 use Rattle.vr_rules.proofs.Openings.{recovered, reads_after}
 use Rattle.vr_rules.proofs.Slots.{value_is}
 use Rattle.vr_mends.specs.CaughtUp.{FreshKeepUp, IsCaughtUp, KeepsUp, OpeningsKeepUp, StepsKeepUp}

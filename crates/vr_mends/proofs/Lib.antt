@@ -7,3 +7,4 @@ pub mod Settling
 pub mod Upkeep
 mod Rules
 pub mod KeepingUp
+mod GroupMoves

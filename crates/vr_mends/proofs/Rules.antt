@@ -1,6 +1,6 @@
 -- Each rule leaves a sound replica that is caught up so.
-use Rattle.std.proofs.Common.{ℕ, ◌+◌, ◌-◌, ◌≤◌, ◌<◌, ◌≡◌, ◌^◌, arith, refl, ap, Bool, true, false, not, List, [], ◌∷◌, Option, Some, None}
-use Rattle.std.specs.Prelude.{find, is_some, nat_le, nat_lt, ◌==◌, ◌&&◌}
+use Rattle.std.proofs.Common.{ℕ, ◌+◌, ◌-◌, ◌≤◌, ◌≡◌, ◌^◌, arith, refl, Bool, false, not, List, Option, Some, None}
+use Rattle.std.specs.Prelude.{find, is_some, nat_le, nat_lt, ◌&&◌}
 use Rattle.std.specs.Option.{option_map_or}
 use Rattle.std.proofs.lemmas.Bool.{and_parts, eqb-true, le-ltb, leb-false, ltb-false, ltb-true, not-false, or_parts}
 use Rattle.vr_base.specs.Groups.{quorums_of}
@@ -31,10 +31,10 @@ use Rattle.vr_rules.specs.Deciding.{Hash, commit_table, do_view_change_table, ge
 use Rattle.vr_rules.specs.Laws.{HasNames, IsMessage}
 use Rattle.vr_rules.specs.Outputs.{do_view_change, to_primary, wait_line}
 use Rattle.vr_rules.specs.Replica.{Replica, head, header_at, is_here, is_primary, is_started, last_view, part_at, view_change}
-use Rattle.vr_rules.specs.Rules.{acknowledge, acknowledge_stored, acknowledged, ask_view, asked_block, asker_by, block_at, give_read, heard_of, idler, make, next_entry, next_view, obey_commit, obey_do_view_change, obey_get_block, obey_get_prepare, obey_get_view, obey_give_block, obey_give_prepare, obey_prepare, obey_prepare_ok, obey_request, obey_start_view, obey_start_view_change, obey_tick, on_commit, on_do_view_change, on_get_block, on_get_prepare, on_get_view, on_give_block, on_give_prepare, on_prepare, on_prepare_ok, on_request, on_start_view, on_start_view_change, on_tick, put_block, put_found, stored_reply, test_of, with_statement, without}
+use Rattle.vr_rules.specs.Rules.{acknowledge, acknowledge_stored, acknowledged, asked_block, asker_by, block_at, give_read, heard_of, idler, make, next_entry, next_view, obey_commit, obey_do_view_change, obey_get_block, obey_get_prepare, obey_get_view, obey_give_block, obey_give_prepare, obey_prepare, obey_prepare_ok, obey_request, obey_start_view, obey_start_view_change, obey_tick, on_commit, on_do_view_change, on_get_block, on_get_prepare, on_get_view, on_give_block, on_give_prepare, on_prepare, on_prepare_ok, on_request, on_start_view, on_start_view_change, on_tick, put_block, put_found, stored_reply, test_of, with_statement, without}
 use Rattle.vr_rules.specs.Sound.{IsSound, IsStated}
 use Rattle.vr_rules.specs.Steps.{Setting, Word, ◌⨾◌, after_all, by, change, each, quiet, says, when}
-use Rattle.vr_rules.specs.Words.{Log, accept, advance, apply, ask, begin_view, chosen_log, choose_line, decided, enter, entered, is_loaded, learn, load, may_take, obey_choice, prepare_again, rested, resend, save, speak, stated, take, try, try_log, write}
+use Rattle.vr_rules.specs.Words.{Log, accept, apply, ask, begin_view, chosen_log, choose_line, decided, enter, is_loaded, learn, load, may_take, obey_choice, prepare_again, rested, speak, stated, take, try, try_log, write}
 use Rattle.vr_rules.specs.declared.asker.Asker.{Asker}
 use Rattle.vr_rules.proofs.Combining.{kept_change, kept_when}
 use Rattle.vr_rules.proofs.Keeping.{Kept}
@@ -45,7 +45,7 @@ use Rattle.vr_rules.proofs.Taking.{IsLogFor, MayTake, kept_take, may_take_is}
 use Rattle.vr_rules.proofs.Trying.{all_stated, chosen_log_is, decided_ends}
 use Rattle.vr_rules.proofs.Wording.{kept_accept, kept_enter, kept_rested, kept_write}
 use Rattle.vr_mends.specs.CaughtUp.{IsCaughtUp}
-use Rattle.vr_mends.proofs.Upkeep.{Alike, Calm, Settles, UpBy, calm_ask, calm_by, calm_change, calm_does, calm_enter, calm_if, calm_quiet, calm_resend, calm_rested, calm_says, calm_then, calm_when, settles_advance, settles_apply, settles_calm_then, settles_learn, settles_then, sorts_again, sorts_by, sorts_calm, sorts_change, sorts_each, sorts_load, sorts_then, sorts_when, up_by, up_calm, up_calm_then, up_change_then, up_entry, up_if, up_naming, up_reading, up_says_then, up_settles, up_then, up_then_calm, up_when}
+use Rattle.vr_mends.proofs.Upkeep.{Calm, Settles, UpBy, calm_ask, calm_by, calm_change, calm_does, calm_enter, calm_if, calm_quiet, calm_resend, calm_rested, calm_says, calm_then, calm_when, settles_advance, settles_apply, settles_calm_then, settles_learn, settles_then, sorts_again, sorts_by, sorts_calm, sorts_change, sorts_each, sorts_load, sorts_then, sorts_when, up_by, up_calm, up_calm_then, up_change_then, up_entry, up_if, up_naming, up_reading, up_says_then, up_settles, up_then, up_then_calm, up_when}
 
 module _ {F : Type 0} where
   calm_stored_reply : (a : Asker) (x : SessionAnswer) → Calm {F = F} (stored_reply a x)

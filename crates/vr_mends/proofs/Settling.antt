@@ -1,6 +1,6 @@
 -- What applying settles: it goes on until the next op isn't here, whatever reads.
-use Rattle.std.proofs.Common.{arith, ℕ, zero, suc, ◌+◌, ◌-◌, ◌≡◌, ◌≢◌, ◌≤◌, ◌<◌, ◌∙◌, inl, inr, refl, sym, ap, subst, Bool, true, false, cond, List, [], ◌∷◌, ◌++◌, length, get_or, set, Option, Some, None}
-use Rattle.std.specs.Prelude.{nat_lt, ◌&&◌, Result, Ok, Err}
+use Rattle.std.proofs.Common.{arith, ℕ, zero, suc, ◌+◌, ◌-◌, ◌≡◌, ◌<◌, ◌∙◌, refl, sym, ap, subst, Bool, true, false, cond, List, [], ◌∷◌, length, get_or, set, Option, Some, None}
+use Rattle.std.specs.Prelude.{nat_lt, ◌&&◌}
 use Rattle.std.proofs.lemmas.Bool.{and_parts, eq-eqb, eqb-true, lt-ltb, ltb-true}
 use Rattle.std.proofs.lemmas.List.{nil_from_length}
 use Rattle.std.specs.Cmp.Derive.{both_true}
@@ -13,9 +13,9 @@ use Rattle.vr_grid.specs.declared.name.Name.{Name}
 use Rattle.vr_rules.specs.Replica.{Replica, is_here, part_at, with_part}
 use Rattle.vr_rules.specs.Sound.{IsSound}
 use Rattle.vr_rules.specs.Steps.{Setting, Step, Word, ◌⨾◌, after_all, by, change, quiet, reading, times, when}
-use Rattle.vr_rules.specs.Words.{apply, apply_entry, apply_next, entry_of, is_loaded, lost, or_lost, with_entry, with_entry_at}
+use Rattle.vr_rules.specs.Words.{apply_entry, apply_next, entry_of, is_loaded, lost, or_lost, with_entry, with_entry_at}
 use Rattle.vr_mends.specs.CaughtUp.{IsCaughtUp}
-use Rattle.vr_mends.proofs.Applying.{Next, entry_next, entry_still, next_entry, when_still, when_true}
+use Rattle.vr_mends.proofs.Applying.{Next, entry_next, entry_still, next_entry, when_true}
 
 -- ---- entries that are here
 

@@ -1,5 +1,5 @@
 -- Words that leave a replica caught up, and what is made of them.
-use Rattle.std.proofs.Common.{ℕ, ◌+◌, ◌-◌, ◌≡◌, ◌<◌, ◌∙◌, arith, refl, sym, ap, subst, Bool, true, false, cond, List, [], ◌∷◌, map, Option, Some, None}
+use Rattle.std.proofs.Common.{ℕ, ◌+◌, ◌-◌, ◌≡◌, ◌∙◌, arith, refl, sym, ap, subst, Bool, true, false, cond, List, [], ◌∷◌, map, Option, Some, None}
 use Rattle.std.specs.Prelude.{Result, Ok, Err}
 use Rattle.vr_header.specs.declared.header.Header.{Header}
 use Rattle.vr_header.specs.declared.part.Part.{Part}
@@ -17,8 +17,8 @@ use Rattle.vr_msg.specs.declared.output.Output.{Output}
 use Rattle.vr_rules.specs.Replica.{Replica, is_here, part_at}
 use Rattle.vr_rules.specs.Sound.{IsSound}
 use Rattle.vr_rules.specs.Steps.{Effect, Say, Setting, Word, ◌⨾◌, after_all, by, change, does, each, naming, quiet, reading, says, when}
-use Rattle.vr_rules.specs.Words.{advance, advanced, apply, ask, ask_for, ask_peer, enter, entered, entry_of, learn, learned, load, loaded_state, loads, lost, or_lost, prepare_again, resend, rested, save, value_of, with_entry, with_entry_at, with_state}
-use Rattle.vr_rules.proofs.Combining.{KeptBy, Keeps}
+use Rattle.vr_rules.specs.Words.{advance, advanced, apply, ask, ask_for, ask_peer, enter, entered, entry_of, learn, learned, load, loaded_state, loads, or_lost, prepare_again, resend, rested, save, value_of, with_entry, with_entry_at, with_state}
+use Rattle.vr_rules.proofs.Combining.{KeptBy}
 use Rattle.vr_mends.specs.CaughtUp.{IsCaughtUp}
 use Rattle.vr_mends.proofs.Settling.{Placed, placed_lost, placed_of, times_settle, up_lost}
 

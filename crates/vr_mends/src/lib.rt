@@ -4,6 +4,7 @@
 
 ghost use Rattle.vr_mends.specs.CaughtUp.{FreshKeepUp, OpeningsKeepUp, StepsKeepUp};
 ghost use Rattle.vr_mends.specs.Completing.{CopiesComplete};
+ghost use Rattle.vr_mends.specs.Groups.{GroupsKeepUp};
 ghost use Rattle.vr_rules.specs.Sectors.{sectors};
 ghost use Rattle.vr_rules.specs.Lying.{lying};
 
@@ -20,6 +21,12 @@ pub fn openings_keep_up<F>()
 /// A replica of a new group has nothing to apply.
 pub fn fresh_replicas_keep_up()
     ensures { FreshKeepUp }
+{}
+
+/// So in every run of a group of 2 to 6 replicas that was just made each running replica has applied all that it can, before and after
+/// each move.
+pub fn groups_keep_up()
+    ensures { GroupsKeepUp }
 {}
 
 /// A sound replica that has its checkpoint, has applied all that it can, and whose stored entries up to its commit number all read: once
