@@ -2,13 +2,13 @@
 use Rattle.std.proofs.Common.{ℕ, ◌^◌, ◌<◌, ◌≤◌, ◌≡◌, refl, sym, ap, ◌∙◌, subst, false, List, [], ◌∷◌, ◌++◌, Option, Some, None}
 use Rattle.std.specs.Prelude.{slice_get, All, Ok}
 use Rattle.std.proofs.lemmas.List.Elements.{All-nil, All-cons}
-use Rattle.vr_disk.specs.DiskState.{Disk, IsFace}
+use Rattle.vr_disk.specs.DiskState.{Disk}
 use Rattle.vr_msg.specs.declared.event.Event.{Event}
 use Rattle.vr_msg.specs.declared.output.Output.{Output}
 use Rattle.vr_super.specs.Copies.{SuperValue}
 use Rattle.vr_super.specs.Opens.{opens}
 use Rattle.vr_rules.specs.Group as group
-use Rattle.vr_rules.specs.Group.{Arrival, Group, IsArrival, Member, Move, Moved, Moves, Played, Run, Runs, carried_out, cut_short, finished, fresh_group, once_mended, opening_script, resumed, start_cut, started, stepped, with_script}
+use Rattle.vr_rules.specs.Group.{Arrival, Group, Member, Move, Moved, Moves, Played, Run, carried_out, cut_short, finished, fresh_group, once_mended, opening_script, resumed, started, stepped, with_script}
 use Rattle.vr_rules.specs.GroupFit.{IsFitMove}
 use Rattle.vr_rules.specs.Lying.{Lying, lying}
 use Rattle.vr_rules.specs.Opening.{blank, opening}
@@ -29,7 +29,7 @@ use Rattle.vr_node.specs.declared.node.Node.{Node}
 use Rattle.vr_agree.specs.Followed.{IsFitRun}
 use Rattle.vr_one_log.proofs.Closing.{runs_safe}
 use Rattle.vr_nodes.specs.Deeds as deeds
-use Rattle.vr_nodes.specs.Deeds.{AtWork, By, Deed, Leads, MayBeFound, Reaches, all_put_out, after_event, after_opening, by, config_at, lying_on, puts_out}
+use Rattle.vr_nodes.specs.Deeds.{AtWork, By, Leads, MayBeFound, Reaches, all_put_out, after_event, after_opening, config_at, lying_on, puts_out}
 use Rattle.vr_nodes.specs.Laws.{IsOneRun}
 
 -- ---- one deed
