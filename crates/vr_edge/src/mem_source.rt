@@ -102,9 +102,7 @@ impl Source for MemSource {
             self.faults = self.faults.saturating_add(1);
             return Err(ReadFailed);
         }
-        let count = self
-            .most(call, to.len())
-            .min(self.bytes.len() - self.at);
+        let count = self.most(call, to.len()).min(self.bytes.len() - self.at);
         to[..count].copy_from_slice(&self.bytes[self.at..self.at + count]);
         self.at += count;
         Ok(count)

@@ -12,7 +12,9 @@ fn a_stop_at_each_call_of_a_prepare(rt: HostRuntime) -> Result<(), Fail> {
     let alloc = rt.alloc();
     for code in CODES {
         for call in 1..8u32 {
-            let row = format!(in alloc; "cluster 2\nrequest 0 7 0 register\nfuse 1 {call} {code}\ndeliver 0\nstart 1\ndeliver 0\n")?;
+            let row = format!(in alloc;
+                "cluster 2\nrequest 0 7 0 register\nfuse 1 {call} {code}\ndeliver 0\nstart 1\ndeliver 0\n"
+            )?;
             let outputs = "send 0 0 1 prepare view 0 op 1 made 0 commit 0\n\
                            halt 1\n\
                            start 1 view 0 log_view 0 commit 0\n\
@@ -43,7 +45,9 @@ fn a_stop_in_a_save_leaves_the_old_value_or_the_new(rt: HostRuntime) -> Result<(
         ("64 0", new),
     ];
     for (fuse, outputs) in fuses {
-        let row = format!(in alloc; "cluster 3\nfuse 1 {fuse}\ntick 1\ntick 1\ntick 1\ntick 1\ntick 1\nstart 1\n")?;
+        let row = format!(in alloc;
+            "cluster 3\nfuse 1 {fuse}\ntick 1\ntick 1\ntick 1\ntick 1\ntick 1\nstart 1\n"
+        )?;
         check_outputs(&rt, alloc, row.as_str(), outputs)?;
     }
     Ok(())
@@ -76,11 +80,19 @@ fn checkpoints_take_so_many_calls(rt: HostRuntime) -> Result<(), Fail> {
         (33, 74, "halt 1\nstart 1 view 0 log_view 0 commit 0\n"),
         (33, 75, "halt 1\nstart 1 view 0 log_view 0 commit 32\n"),
         (33, 116, "halt 1\nstart 1 view 0 log_view 0 commit 32\n"),
-        (33, 117, "send 65 1 0 prepare_ok view 0 op 33 made 0\ncommit 1 op 32 view 0 client 7 request 31 put a b\n"),
+        (
+            33,
+            117,
+            "send 65 1 0 prepare_ok view 0 op 33 made 0\ncommit 1 op 32 view 0 client 7 request 31 put a b\n",
+        ),
         (65, 66, "halt 1\nstart 1 view 0 log_view 0 commit 32\n"),
         (65, 67, "halt 1\nstart 1 view 0 log_view 0 commit 64\n"),
         (65, 108, "halt 1\nstart 1 view 0 log_view 0 commit 64\n"),
-        (65, 109, "send 129 1 0 prepare_ok view 0 op 65 made 0\ncommit 1 op 64 view 0 client 7 request 63 put a b\n"),
+        (
+            65,
+            109,
+            "send 129 1 0 prepare_ok view 0 op 65 made 0\ncommit 1 op 64 view 0 client 7 request 63 put a b\n",
+        ),
     ];
     for (op, call, end) in rows {
         let schedule = before(alloc, op, call)?;

@@ -16,7 +16,13 @@ fn tell(outputs: &[Numbered], text: &mut ByteList) -> Result<(), AllocError> {
 }
 
 /// What a group puts out at one line of text after the other, and whether it goes on.
-fn stepped(rt: &impl Abort, alloc: Global, n: u8, lines: &[&str], text: &mut ByteList) -> Result<(), Fail> {
+fn stepped(
+    rt: &impl Abort,
+    alloc: Global,
+    n: u8,
+    lines: &[&str],
+    text: &mut ByteList,
+) -> Result<(), Fail> {
     assert!(rt; 2 <= n && n <= 6);
     let mut world = World::new(alloc, n)?;
     for line in lines {
@@ -36,7 +42,13 @@ fn a_group_goes_on_line_by_line(rt: HostRuntime) -> Result<(), Fail> {
     let rows: [(u8, &[&str], &str); 2] = [
         (
             2,
-            &["request 0 7 0 register", "fuse 1 6 0", "deliver 0", "start 1", "deliver 0"],
+            &[
+                "request 0 7 0 register",
+                "fuse 1 6 0",
+                "deliver 0",
+                "start 1",
+                "deliver 0",
+            ],
             "send 0 0 1 prepare view 0 op 1 made 0 commit 0\n\
              halt 1\n\
              start 1 view 0 log_view 0 commit 0\n\
@@ -44,7 +56,12 @@ fn a_group_goes_on_line_by_line(rt: HostRuntime) -> Result<(), Fail> {
         ),
         (
             3,
-            &["damage 1 0", "damage 1 20", "damage 1 40", "request 1 7 0 register"],
+            &[
+                "damage 1 0",
+                "damage 1 20",
+                "damage 1 40",
+                "request 1 7 0 register",
+            ],
             "done\ndone\nkept out\nreply 1 client 7 request 0 redirect 0\n",
         ),
     ];
