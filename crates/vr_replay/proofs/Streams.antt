@@ -1,5 +1,5 @@
 -- What has come of the source, line by line.
-use Rattle.std.proofs.Common.{◌≡◌, ◌<◌, ◌≤◌, ℕ, ◌+◌, List, [], ◌∷◌, ◌++◌, length, take, drop, Bool, true, false, cond, eqb, ltb, inl, inr, refl, ap, sym, subst, ◌∙◌, arith, append_assoc, length-append, take-append-drop, Option, Some, None}
+use Rattle.std.proofs.Common.{◌≡◌, ◌<◌, ◌≤◌, ℕ, ◌+◌, List, [], ◌∷◌, ◌++◌, length, true, false, eqb, inl, inr, refl, ap, sym, ◌∙◌, arith, append_assoc, length-append, Option, Some, None}
 use Rattle.std.specs.Io.KnownBytes.{Appends}
 use Rattle.std.proofs.lemmas.List.{append-nil}
 use Rattle.std.proofs.lemmas.Bool.{lt-ltb}
@@ -10,7 +10,7 @@ use Rattle.vr_edge.proofs.Told.{appends_nil, appends_trans}
 use Rattle.vr_lines.specs.Cuts.{Cut, cut, whole_lines}
 use Rattle.vr_lines.specs.Grammar.{longest}
 use Rattle.vr_lines.specs.Held.{Held, IsGiven}
-use Rattle.vr_lines.proofs.Cutting.{Begins, cut_line, cut_part, cut_prefixed, last_append, last_part, prefixed}
+use Rattle.vr_lines.proofs.Cutting.{Begins, cut_line, cut_part}
 use Rattle.vr_group.specs.declared.outputs.Numbered.{Numbered}
 use Rattle.vr_rules.specs.Lying.{Lying}
 use Rattle.vr_rules.specs.World.{World}
@@ -21,7 +21,7 @@ use Rattle.vr_replay.specs.Playing.{Played, judged, taken, behind, and_then, pla
 use Rattle.vr_replay.specs.Schedule.{limit}
 use Rattle.vr_replay.specs.Stops.{Stopped}
 use Rattle.vr_replay.specs.Text.{text_of}
-use Rattle.vr_replay.proofs.Heard.{heard_append, heard_line, heard_part}
+use Rattle.vr_replay.proofs.Heard.{heard_line, heard_part}
 use Rattle.vr_replay.proofs.Outputs.{text_append, text_none}
 use Rattle.vr_replay.proofs.Plays.{behind_behind, plays_append, plays_line, plays_none, and_then_refused, and_then_none, Extends, extends_refl, and_then_extends, too_long}
 

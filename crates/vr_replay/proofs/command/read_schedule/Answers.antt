@@ -1,4 +1,4 @@
-use Rattle.std.proofs.Common.{◌≡◌, [], length, arith, refl, ap, sym, ◌∙◌}
+use Rattle.std.proofs.Common.{◌≡◌, [], arith, refl, ap, ◌∙◌}
 use Rattle.std.proofs.lemmas.List.{nil_from_length}
 use Rattle.vr_base.specs.Causes.{one_more}
 use Rattle.vr_replay.specs.declared.playing.Replay.{Replay}
@@ -15,6 +15,16 @@ loop-init g c =
       read_faults = refl;
       write_faults = omega arith;
     }
+
+pub fill-requires : goal.fill-requires
+fill-requires g c = let short = c.loop.invariant.sound.short in omega arith
+
+pub finish-requires : goal.finish-requires
+finish-requires g c =
+    let f = c.in-Ok.ensures.filled in
+    let nothing : f.piece ≡ [] = nil_from_length f.piece (f.size ∙ c.if-count-eq0.true) in
+    let joined : Replay = record { group = c.loop.replay.group; number = c.loop.replay.number; lines = c.fill.new.self } in
+    filled_none c.loop.replay joined c.loop.invariant.sound (record { group = refl; number = refl; behind = rw nothing at f.behind })
 
 pub returns-in_default : goal.returns-in_default
 returns-in_default g c =
