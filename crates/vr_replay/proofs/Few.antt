@@ -2,11 +2,9 @@
 use Rattle.std.proofs.Common.{ℕ, ◌+◌, ◌≤◌, ◌≡◌, inl, inr, arith, List, [], ◌∷◌, length, Option, Some, None}
 use Rattle.std.specs.Option.{option_map_or}
 use Rattle.std.proofs.lemmas.Bool.{cases_lt, le-ltb}
-use Rattle.std.proofs.lemmas.List.{length-map}
 use Rattle.vr_lines.specs.Cuts.{lines_of}
 use Rattle.vr_lines.specs.declared.line.Line.{Line}
 use Rattle.vr_lines.specs.declared.line.Line.TheVariants as line
-use Rattle.vr_group.specs.Lines.{happening, happenings}
 use Rattle.vr_replay.specs.Schedule.{accepted, begun, limit, line_at, refuses, schedule, schedule_of, with_line}
 
 accepted_few : (n number : ℕ) (texts : List (List ℕ)) → number ≤ limit → number + length (accepted n number texts).lines ≤ limit
@@ -42,8 +40,3 @@ schedule_few (text ∷ texts) =
 
 pub few_lines : (bytes : List ℕ) → length (schedule_of bytes).lines ≤ limit
 few_lines bytes = schedule_few (lines_of bytes)
-
--- as many things happen
-pub length-happenings : (ls : List Line) → length (happenings ls) ≡ length ls
-unfolding happenings
-length-happenings ls = length-map ls happening
