@@ -13,14 +13,14 @@ use vr_replica::Replica;
 // Hands the first message of the one to the other.
 fn pass(alloc: Global, from: &Member, to: &mut Member) -> Result<(), Fail> {
     let event = from.first(alloc)?;
-    Ok(to.step(alloc, &event).map_err(|_| "stopped")?)
+    Ok(to.step(alloc, &event).ok().ok_or("stopped")?)
 }
 
 // So many clients register, each after the other.
 fn fill(alloc: Global, primary: &mut Member, backup: &mut Member, count: u64) -> Result<(), Fail> {
     for client in 0..count {
         let event = register(client.saturating_add(1));
-        primary.step(alloc, &event).map_err(|_| "stopped")?;
+        primary.step(alloc, &event).ok().ok_or("stopped")?;
         pass(alloc, primary, backup)?;
         pass(alloc, backup, primary)?;
     }
@@ -32,7 +32,7 @@ fn reopen_damaged(alloc: Global, member: &mut Member, sector: u32) -> Result<(),
     let _ = member.disk.fault(&Fault::Damage(sector.min(1423)));
     let config = one_of_two(0, 1);
     let found = Replica::recover(alloc, &mut member.disk, &config, &mut member.out);
-    member.replica = found.map_err(|_| "not recovered")?;
+    member.replica = found.ok().ok_or("not recovered")?;
     Ok(())
 }
 
@@ -69,7 +69,7 @@ fn check(
     event: &Event,
     wanted: &str,
 ) -> Result<(), Fail> {
-    member.step(alloc, event).map_err(|_| "stopped")?;
+    member.step(alloc, event).ok().ok_or("stopped")?;
     let text = member.text(alloc)?;
     assert_eq!(rt; text.as_slice(), wanted.as_bytes());
     Ok(())

@@ -33,10 +33,10 @@ pub fn one_of_two(cluster: u64, index: u8) -> Config
 pub fn new_member(alloc: Global, index: u8) -> Result<Member, Fail>
     requires { index < 2 }
 {
-    let mut disk = LieDisk::new(alloc).map_err(|_| "no memory")?;
+    let mut disk = LieDisk::new(alloc).ok().ok_or("no memory")?;
     let made = Replica::fresh(alloc, &mut disk, &one_of_two(0, index));
     Ok(Member {
-        replica: made.map_err(|_| "not made")?,
+        replica: made.ok().ok_or("not made")?,
         disk,
         out: Seq::new(alloc),
     })

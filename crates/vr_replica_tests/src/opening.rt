@@ -12,7 +12,7 @@ use vr_replica::{FreshFault, Halt, Refusal, Replica};
 use vr_super::CopyVerdict;
 
 fn new_disk(alloc: Global) -> Result<LieDisk, Fail> {
-    Ok(LieDisk::new(alloc).map_err(|_| "no memory")?)
+    Ok(LieDisk::new(alloc).ok().ok_or("no memory")?)
 }
 
 // The commit number and the view of a member that is recovered, or why there is none.
@@ -90,7 +90,7 @@ fn reopened(alloc: Global, ticks: u32, sectors: &[u32]) -> Result<Member, Fail> 
     }
     let config = one_of_two(0, 1);
     let found = Replica::recover(alloc, &mut member.disk, &config, &mut member.out);
-    member.replica = found.map_err(|_| "not recovered")?;
+    member.replica = found.ok().ok_or("not recovered")?;
     Ok(member)
 }
 
@@ -100,7 +100,7 @@ fn known(alloc: Global, member: &mut Member) -> Result<(bool, bool), Fail> {
         return Ok((false, false));
     }
     let found = member.replica.read(alloc, &mut member.disk, 1);
-    Ok((true, found.map_err(|_| "no memory")?.is_some()))
+    Ok((true, found.ok().ok_or("no memory")?.is_some()))
 }
 
 // The header's sector is 81, and those of the prepare begin at 148; the superblock of a replica that entered a view names the header.
