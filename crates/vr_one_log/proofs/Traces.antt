@@ -19,7 +19,7 @@ use Rattle.vr_rules.specs.Commitment as said
 use Rattle.vr_rules.specs.Commitment.{AreCommitted, HasSent, IsBackedMessage, IsCommitted, IsLine, Vouches}
 use Rattle.vr_rules.specs.Group.{Played, fresh_group}
 use Rattle.vr_rules.specs.Lying.{Lying}
-use Rattle.vr_rules.specs.Safe.{IsHashed, IsOutput, KeepsEntry, Safe, before, run_outputs}
+use Rattle.vr_rules.specs.Safe.{IsHashed, IsJustified, IsOutput, KeepsEntry, Safe, before, run_outputs}
 use Rattle.vr_rules.specs.World.{Happened}
 use Rattle.vr_protocol.specs.Basics.{In}
 use Rattle.vr_worlds.specs.Worlds.{IsAside, IsMatched, Said}
@@ -96,6 +96,22 @@ module _ (xs ys : List Output) (all : SendNoMore xs ys) where
   message_said n log (frame.GetBlock g) h = tt
   message_said n log (frame.GiveBlock g) h = tt
 
+  justified_said : (n : ℕ) (p : Played) (l : Chosen) → IsJustified n ys p l → IsJustified n xs p l
+  justified_said n p l j =
+      record {
+        replica = j.replica;
+        is_of = j.is_of;
+        event = j.event;
+        by_event = j.by_event;
+        log_view = j.log_view;
+        commit = j.commit;
+        reach = j.reach;
+        intact = j.intact;
+        deniers = j.deniers;
+        enough = j.enough;
+        each = λ i h. let d = j.each i h in record { statement = d.statement; stated = d.stated; denies = d.denies; silent = λ c op v. d.silent c op (vouch_said n l.log_view i c v) };
+      }
+
   line_said : (n : ℕ) (log : List Whole) (c : Committed) → IsLine 0 n xs log c → IsLine 0 n ys log c
   line_said n log c h = record { at = h.at; number = h.number; view = h.view; committed = committed_said 0 n h.view c.entry.header h.committed }
 
@@ -124,13 +140,21 @@ module _ (cluster n : ℕ) (run : List Played) (safe : Safe cluster n run) where
 
 module _ (n : ℕ) (run : List Played) (safe : Safe 0 n run) where
   -- what an output of the run at a move rests on, where these were put out before it
-  rests : NoCollision (IsHashed run (root_header 0)) → (front : List Output) (move number : ℕ) (p : Played) (o : Output) → SendNoMore (before run move number p) front → IsOutput run move number p o
+  rests : NoCollision (IsHashed run (root_header 0)) → (front : List Output) (move number : ℕ) (p : Played) (o : Output) → Said front (before run move number p) → IsOutput run move number p o
       → RestsOn n safe.log run front o
-  rests never front move number p (output.Send s) all is = message_said (before run move number p) front all n safe.log s.message (safe.backed move number p (output.Send s) never is)
-  rests never front move number p (output.Commit c) all is = line_said (before run move number p) front all n safe.log c (safe.backed move number p (output.Commit c) never is)
+  rests never front move number p (output.Send s) all is = message_said (before run move number p) front (from_run front (before run move number p) all) n safe.log s.message (safe.backed move number p (output.Send s) never is)
+  rests never front move number p (output.Commit c) all is = line_said (before run move number p) front (from_run front (before run move number p) all) n safe.log c (safe.backed move number p (output.Commit c) never is)
   rests never front move number p (output.Reply a) all is =
       let so = safe.backed move number p (output.Reply a) never is in
-      record { move = move; number = number; moved = p; is = is; so = so; committed = numbers_said (before run move number p) front all n safe.log a.view _ so.applied }
+      record {
+        move = move;
+        number = number;
+        moved = p;
+        is = is;
+        place = all;
+        so = so;
+        committed = numbers_said (before run move number p) front (from_run front (before run move number p) all) n safe.log a.view _ so.applied;
+      }
   rests never front move number p (output.Choose l) all is = tt
   rests never front move number p (output.Wait w) all is = tt
   rests never front move number p (output.Start s) all is = tt
@@ -144,12 +168,12 @@ module _ (n : ℕ) (run : List Played) (safe : Safe 0 n run) where
       let k = in_get m.1.moved.outputs o m.3 in
       safe.kept view c form never above is m.0 k.0 m.1 o (record { at = m.2; is = k.1 })
 
-  cut_in : NoCollision (IsHashed run (root_header 0)) → (outputs : List Output) → SendNoMore outputs (run_outputs run) → (l : Chosen) → In (output.Choose l) (run_outputs run) → IsCutByNacks n outputs l
+  cut_in : NoCollision (IsHashed run (root_header 0)) → (outputs : List Output) → SendNoMore outputs (run_outputs run) → (l : Chosen) → In (output.Choose l) (run_outputs run) → IsCutByNacks n run outputs l
   cut_in never outputs all l i =
       let m = output_of_move run (output.Choose l) i in
       let k = in_get m.1.moved.outputs (output.Choose l) m.3 in
       let j = safe.backed m.0 k.0 m.1 (output.Choose l) never (record { at = m.2; is = k.1 }) in
-      record { deniers = j.deniers; enough = j.enough; silent = λ i c h op v. (j.each i h).silent c op (vouch_said outputs (run_outputs run) all n l.log_view i c v) }
+      record { move = m.0; number = k.0; moved = m.1; is = record { at = m.2; is = k.1 }; so = justified_said outputs (run_outputs run) all n m.1 l j }
 
 -- ---- what happened
 
@@ -181,7 +205,7 @@ rests_at : (n : ℕ) (run : List Played) (safe : Safe 0 n run) (ws : List Output
 rests_at n run safe ws all never number o e not =
     let m = matches ws (run_outputs run) all number o e not in
     let p = placed run m.at o m.is in
-    let front : SendNoMore (before run p.move p.number p.moved) (take number ws) = rw p.same (from_run (take number ws) (take m.at (run_outputs run)) m.said) in
+    let front : Said (take number ws) (before run p.move p.number p.moved) = rw p.same m.said in
     rests n run safe never (take number ws) p.move p.number p.moved o front p.is
 
 once : (log : List Whole) → IsOnceInSession log

@@ -1,35 +1,36 @@
 -- One log, said of what was put out, in order.
-use Rattle.std.specs.Prelude.{ℕ, ◌+◌, ◌≡◌, ◌≤◌, ⊤, true, IsTrue, List, [], ◌∷◌, ◌++◌, take}
-use Rattle.std.specs.Option.{option_map_or}
-use Rattle.vr_base.specs.declared.replicas.Replicas.{Replicas}
-use Rattle.vr_base.specs.Groups.{quorums_of}
-use Rattle.vr_base.specs.Replicas.{has_replica, size}
-use Rattle.vr_header.specs.declared.header.Header.{Header}
+use Rattle.std.specs.Prelude.{ℕ, ◌+◌, ◌≡◌, ⊤, IsTrue, List, [], ◌∷◌, ◌++◌, take}
 use Rattle.vr_header.specs.Made.{Whole}
 use Rattle.vr_msg.specs.declared.output.Chosen.{Chosen}
 use Rattle.vr_msg.specs.declared.output.Output.{Output}
 use Rattle.vr_msg.specs.declared.output.Output.TheVariants as output
 use Rattle.vr_msg.specs.declared.reply.ReplyFields.{ReplyFields}
 use Rattle.vr_apply.specs.Folds.{begins_session, fresh_at, state_after}
-use Rattle.vr_rules.specs.Commitment.{AreCommitted, IsBackedMessage, IsLine, Vouches, lines_by}
+use Rattle.vr_rules.specs.Commitment.{AreCommitted, IsBackedMessage, IsLine, lines_by}
 use Rattle.vr_rules.specs.Group.{Played}
-use Rattle.vr_rules.specs.Safe.{IsOutput, IsTrueReply}
+use Rattle.vr_rules.specs.Safe.{IsJustified, IsOutput, IsTrueReply}
+use Rattle.vr_rules.specs.Safe as safe
+use Rattle.vr_worlds.specs.Worlds.{Said}
 
 -- A reply: the entries that its replica had applied are committed by what was put out before it, and it is what the plain sessions and machine
--- say after them. The move of the run is that in which it was put out: its replica is as it was before that move.
+-- say after them. The move of the run is that in which it was put out, behind just these outputs: its replica is as it was before that move.
 pub record IsTrueAnswer (n : ℕ) (log : List Whole) (run : List Played) (before : List Output) (a : ReplyFields) : Type 0 where
   pub move : ℕ
   pub number : ℕ
   pub moved : Played
   pub is : IsOutput run move number moved (output.Reply a)
+  pub place : Said before (safe.before run move number moved)
   pub so : IsTrueReply 0 n log run move number moved a
   pub committed : AreCommitted 0 n before log a.view (so.replica.applied + lines_by a.replica (take number moved.moved.outputs))
 
--- A choice of a log: a nack quorum never vouches, in all that is put out, for an entry behind the log's last in the view that it is of.
-pub record IsCutByNacks (n : ℕ) (outputs : List Output) (l : Chosen) : Type 0 where
-  pub deniers : Replicas
-  pub enough : option_map_or (λ q. q.nack) (quorums_of n) 0 ≤ size deniers
-  pub silent : (i : ℕ) (c : Header) → has_replica deniers i ≡ true → c.op ≡ l.head + 1 → Vouches n outputs l.log_view i c → ⊥
+-- A choice of a log, in the move of the run in which it was put out, from what its replica had heard there: each op above the commit number up to
+-- the head is intact, and a nack quorum denies the next and never vouches, in all that is put out, for an entry there in the view that the log is of.
+pub record IsCutByNacks (n : ℕ) (run : List Played) (outputs : List Output) (l : Chosen) : Type 0 where
+  pub move : ℕ
+  pub number : ℕ
+  pub moved : Played
+  pub is : IsOutput run move number moved (output.Choose l)
+  pub so : IsJustified n outputs moved l
 
 -- what each output rests on, of what was put out before it and of the log
 abbrev pub RestsOn : ℕ → List Whole → List Played → List Output → Output → Type 0
