@@ -3,3 +3,4 @@ pub mod Acts
 pub mod Goings
 pub mod Steps
 pub mod Headline
+pub mod Tops

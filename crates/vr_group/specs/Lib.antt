@@ -4,3 +4,4 @@ pub mod Hosts
 pub mod Group
 pub mod Lines
 pub mod Headline
+pub mod Views
