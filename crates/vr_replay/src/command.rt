@@ -5,19 +5,19 @@ ghost use Rattle.vr_replay.specs.Headline.{ScheduleHasOneLog};
 ghost use Rattle.vr_replay.specs.Schedule.{schedule_of};
 ghost use Rattle.vr_replay.specs.Run.{IsDone, IsRefused, IsCutShort, IsPartial, Ends, count_after, is_replay_words, refused_in, status_for};
 
-use crate::{Replay, Status};
+use crate::Replay;
 use std::alloc::Global;
 use vr_disk::SectorDisk;
 use vr_edge::{Clock, Link, Sink, Source};
+use vr_status::Status;
 
 /// Reads a schedule, and writes its outputs line by line.
 fn read_schedule<S: Source, K: Sink>(alloc: Global, source: &mut S, sink: &mut K) -> Status
     ensures { Ends (S.faults source.old) (S.faults source.new) (K.faults sink.old) (K.faults sink.new) (S.left source.old) (S.left source.new) (K.taken sink.old) (K.taken sink.new) result }
 {
     let mut replay = Replay::new(alloc);
-    let mut buffer = [0u8; 4096];
     for _ in 0..u64::MAX {
-        let Ok(count) = source.read(&mut buffer) else {
+        let Ok(count) = replay.lines.fill(source) else {
             return Status::ReadFault;
         };
         if count == 0 {
@@ -26,7 +26,7 @@ fn read_schedule<S: Source, K: Sink>(alloc: Global, source: &mut S, sink: &mut K
             }
             return Status::Done;
         }
-        if let Err(stop) = replay.take_piece(alloc, sink, &buffer[..count]) {
+        if let Err(stop) = replay.take_lines(alloc, sink) {
             return stop.status();
         }
     }
