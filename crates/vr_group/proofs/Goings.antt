@@ -17,11 +17,11 @@ use Rattle.vr_group.specs.Outputs.{numbered, with_number}
 use Rattle.vr_group.specs.declared.outputs.Numbered.{Numbered}
 
 -- first these, then those
-record Follows (w : World Lying) (xs ys : List Happening) : Type 0 where
-  world : (happen hazards w (xs ++ ys)).world ≡ (happen hazards (happen hazards w xs).world ys).world
-  outputs : (happen hazards w (xs ++ ys)).outputs ≡ (happen hazards w xs).outputs ++ (happen hazards (happen hazards w xs).world ys).outputs
+pub record Follows (w : World Lying) (xs ys : List Happening) : Type 0 where
+  pub world : (happen hazards w (xs ++ ys)).world ≡ (happen hazards (happen hazards w xs).world ys).world
+  pub outputs : (happen hazards w (xs ++ ys)).outputs ≡ (happen hazards w xs).outputs ++ (happen hazards (happen hazards w xs).world ys).outputs
 
-happen_append : (w : World Lying) (xs ys : List Happening) → Follows w xs ys
+pub happen_append : (w : World Lying) (xs ys : List Happening) → Follows w xs ys
 unfolding happen
 happen_append w [] ys = record { world = refl; outputs = refl }
 happen_append w (x ∷ xs) ys =
@@ -32,12 +32,12 @@ happen_append w (x ∷ xs) ys =
       outputs = ap (λ os. h.outputs ++ os) later.outputs ∙ sym (append_assoc h.outputs (happen hazards h.world xs).outputs (happen hazards (happen hazards h.world xs).world ys).outputs);
     }
 
-messages_append : (a b : List Output) → messages (a ++ b) ≡ messages a ++ messages b
+pub messages_append : (a b : List Output) → messages (a ++ b) ≡ messages a ++ messages b
 unfolding messages
 messages_append [] b = refl
 messages_append (o ∷ a) b = ap (λ x. message_of o ++ x) (messages_append a b) ∙ sym (append_assoc (message_of o) (messages a) (messages b))
 
-numbered_append : (m : ℕ) (a b : List Output) → numbered m (a ++ b) ≡ numbered m a ++ numbered (m + length (messages a)) b
+pub numbered_append : (m : ℕ) (a b : List Output) → numbered m (a ++ b) ≡ numbered m a ++ numbered (m + length (messages a)) b
 unfolding numbered messages
 numbered_append m [] b = let e : m + 0 ≡ m = omega arith in rw e refl
 numbered_append m (o ∷ a) b =
@@ -47,9 +47,9 @@ numbered_append m (o ∷ a) b =
 -- ---- a line of a group
 
 -- what is sent is kept, and the group keeps its size
-record Grows (w : World Lying) (h : Happened Lying) : Type 0 where
-  size : h.world.n ≡ w.n
-  sent : h.world.sent ≡ w.sent ++ messages h.outputs
+pub record Grows (w : World Lying) (h : Happened Lying) : Type 0 where
+  pub size : h.world.n ≡ w.n
+  pub sent : h.world.sent ≡ w.sent ++ messages h.outputs
 
 grows_nothing : (w : World Lying) → Grows w (nothing w)
 unfolding messages
@@ -67,7 +67,7 @@ grows_delivered : (w : World Lying) (o : Option Sent) → Grows w (delivered haz
 grows_delivered w None = grows_nothing w
 grows_delivered w (Some s) = grows_at w s.to _
 
-grows_one : (w : World Lying) (l : Line) → 0 < w.n → IsLineOf w.n l → Grows w (happens hazards w (happening l))
+pub grows_one : (w : World Lying) (l : Line) → 0 < w.n → IsLineOf w.n l → Grows w (happens hazards w (happening l))
 grows_one w (line.Cluster n) g of = absurd (let z : w.n ≡ 0 = of.0 in omega arith)
 grows_one w (line.Request replica request) g of = grows_at w replica _
 grows_one w (line.Deliver number) g of = grows_delivered w _
@@ -80,7 +80,7 @@ grows_one w (line.Stale replica sector) g of = grows_at w replica _
 grows_one w (line.Unread replica sector) g of = grows_at w replica _
 grows_one w (line.Misdirect replica sector other) g of = grows_at w replica _
 
-happen_one : (w : World Lying) (x : Happening) → happen hazards w (x ∷ []) ≡ happens hazards w x
+pub happen_one : (w : World Lying) (x : Happening) → happen hazards w (x ∷ []) ≡ happens hazards w x
 unfolding happen
 happen_one w x = let h = happens hazards w x in ap (λ (os : List Output). let y : Happened Lying = record { world = h.world; outputs = os } in y) (append-nil h.outputs)
 

@@ -2,3 +2,4 @@ pub mod Numbering
 pub mod Acts
 pub mod Goings
 pub mod Steps
+pub mod Tops

@@ -3,3 +3,4 @@ pub mod Outputs
 pub mod Hosts
 pub mod Group
 pub mod Lines
+pub mod Views

@@ -12,6 +12,7 @@ ghost use Rattle.vr_lying.specs.Laws.{revived};
 ghost use Rattle.vr_lying.specs.Named.{named_by};
 ghost use Rattle.vr_lying.specs.Told.{IsTold};
 ghost use Rattle.vr_group.specs.Hosts.{HasActed, IsHost, host_of};
+ghost use Rattle.vr_group.specs.Views.{view_of};
 
 use std::alloc::Global;
 use std::marker::Model;
@@ -20,6 +21,7 @@ use vr_lie::{Fault, Faulted};
 use vr_lying::{HostDisk, member_of};
 use vr_msg::{Event, Outbox, Output};
 use vr_replica::{Halt, Refusal, Replica};
+use vr_super::opens;
 
 /// A member's replica, none while it is stopped, and its disk.
 #[derive(Drop)]
@@ -156,6 +158,20 @@ fn start_on(
     }
 }
 
+// The view of a replica, or of the value that its disk opens as.
+fn view_on(replica: &Option<Replica>, disk: &mut HostDisk) -> u32
+    ensures view { result ≡ view_of (host_of replica.now (told_by disk.old)) }
+    ensures told { told_by disk.new ≡ told_by disk.old }
+{
+    if let Some(running) = replica {
+        return running.view();
+    }
+    match opens(disk) {
+        Some(found) => found.view,
+        None => 0,
+    }
+}
+
 impl Host {
     /// The member of this index of a new group of `n`.
     pub fn new(alloc: Global, index: u8, n: u8) -> Result<Host, NoMemory>
@@ -199,6 +215,14 @@ impl Host {
         ensures { self.new ≡ record self.old { fuse = Some (record { calls = j - 1; code = code }) } }
     {
         self.disk.fuse(j, code);
+    }
+
+    /// The view of its replica; where it is stopped, that of the value that its disk opens as. It stays as it is.
+    pub fn view(&mut self) -> u32
+        ensures view { result ≡ view_of self.old }
+        ensures same { self.new ≡ self.old }
+    {
+        view_on(&self.replica, &mut self.disk)
     }
 
     /// Its disk begins to lie, unless the fault is kept out.

@@ -6,6 +6,7 @@ mod hosts;
 mod letter;
 mod members;
 mod outputs;
+mod views;
 mod world;
 
 pub use host::Host;

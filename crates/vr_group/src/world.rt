@@ -6,9 +6,11 @@ ghost use Rattle.vr_rules.specs.World.{fresh_world, happen, happens, no_world};
 ghost use Rattle.vr_group.specs.Group.{HasHappened, world_of};
 ghost use Rattle.vr_group.specs.Lines.{AreLinesOf, happening, happenings};
 ghost use Rattle.vr_group.specs.Outputs.{numbered};
+ghost use Rattle.vr_group.specs.Views.{top_view};
 
 use crate::Outputs;
 use crate::members::Members;
+use crate::views::top_view;
 use std::alloc::Global;
 use std::marker::Model;
 use vr_base::{NoMemory, Seq};
@@ -88,6 +90,22 @@ impl World {
         ensures { result ≡ self.now.world.n }
     {
         self.members.n
+    }
+
+    /// How many messages were sent.
+    pub fn messages(&self) -> usize
+        ensures { result ≡ length self.now.world.sent }
+    {
+        self.members.sent.len()
+    }
+
+    /// The greatest view of its members, which stay as they are; that of a stopped one is what its superblock says.
+    pub fn top_view(&mut self) -> u32
+        requires live { self.old.live ≡ true }
+        ensures view { result ≡ top_view self.old.world }
+        ensures same { self.new ≡ self.old }
+    {
+        top_view(&mut self.members.hosts)
     }
 
     /// What happens at one line. An `Err` stops the group.

@@ -1,0 +1,28 @@
+-- The numbers of the clients' next requests, one output later.
+use Rattle.std.proofs.Common.{◌≡◌, ◌+◌, ◌-◌, ◌^◌, ℕ, refl, ap, sym, ◌∙◌, arith, max, min, List, [], ◌∷◌, ◌++◌, Option, Some, None}
+use Rattle.std.specs.List.{filter_map}
+use Rattle.std.specs.Option.{option_map_or}
+use Rattle.std.proofs.lemmas.List.{append-nil}
+use Rattle.std.proofs.lemmas.List.Elements.{filter_map-append}
+use Rattle.vr_msg.specs.declared.output.Output.{Output}
+use Rattle.vr_draws.specs.Asking.{answers, greatest, next_behind, next_request, next_requests, next_after}
+
+greatest_more : (qs : List ℕ) (q : ℕ) → greatest (qs ++ q ∷ []) ≡ max (greatest qs) q
+unfolding greatest
+greatest_more [] q = omega arith
+greatest_more (p ∷ qs) q = let e = greatest_more qs q in rw e (omega arith)
+
+behind_more : (qs : List ℕ) (q : ℕ) → next_behind (qs ++ q ∷ []) ≡ max (next_behind qs) (min (2 ^ 32 - 1) (q + 1))
+unfolding greatest
+behind_more [] q = omega arith
+behind_more (p ∷ qs) q = let e = greatest_more (p ∷ qs) q in rw e (omega arith)
+
+-- by what the output answers
+behind_answer : (before : List Output) (client : ℕ) (o : Output) (a : Option ℕ) → answers client o ≡ a
+    → next_behind (filter_map (answers client) before ++ filter_map (answers client) (o ∷ [])) ≡ option_map_or (λ q. max (next_behind (filter_map (answers client) before)) (min (2 ^ 32 - 1) (q + 1))) a (next_behind (filter_map (answers client) before))
+behind_answer before client o None e = rw e (ap next_behind (append-nil (filter_map (answers client) before)))
+behind_answer before client o (Some q) e = rw e (behind_more (filter_map (answers client) before) q)
+
+pub request_more : (before : List Output) (client : ℕ) (o : Output) → next_request (before ++ o ∷ []) client ≡ next_after client o (next_request before client)
+unfolding next_request
+request_more before client o = ap next_behind (filter_map-append (answers client) before (o ∷ [])) ∙ behind_answer before client o (answers client o) refl

@@ -1,0 +1,3 @@
+pub mod Draws
+pub mod Asking
+pub mod Drawn

@@ -1,0 +1,31 @@
+//! The views of members.
+ghost use Rattle.std.specs.Prelude.{◌≡◌, ◌<◌, map, length, get_or};
+ghost use Rattle.vr_rules.specs.World.{Host as Member};
+ghost use Rattle.vr_rules.specs.Lying.{Lying};
+ghost use Rattle.vr_group.specs.Views.{greatest, view_of};
+
+use crate::Host;
+use std::cmp::max;
+
+/// The view of one of the members, who stays as it is.
+fn view_at(hosts: &mut Vec<Host>, at: usize) -> u32
+    requires { at < length hosts.old.items }
+    ensures view { (m : Member Lying) → m ≡ get_or hosts.old.items at m → result ≡ view_of m }
+    ensures same { hosts.new.items ≡ hosts.old.items }
+{
+    let host = &mut hosts[at];
+    host.view()
+}
+
+/// The greatest view of the members, who stay as they are.
+#[tactic(auto, using(std::proofs::lemmas::Grind::common_steps, crate::proofs::Tops::top_more, crate::proofs::Tops::top_none))]
+pub fn top_view(hosts: &mut Vec<Host>) -> u32
+    ensures view { result ≡ greatest (map view_of hosts.old.items) }
+    ensures same { hosts.new.items ≡ hosts.old.items }
+{
+    let mut top = 0;
+    for at in 0..hosts.len() {
+        top = max(top, view_at(hosts, at));
+    }
+    top
+}

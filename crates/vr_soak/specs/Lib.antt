@@ -1,0 +1,5 @@
+pub mod Made
+pub mod Summing
+pub mod Heard
+pub mod Soaking
+pub mod Ends
