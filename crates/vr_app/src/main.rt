@@ -17,18 +17,6 @@ fn words(rt: &HostRuntime) -> Result<Option<Vec<String>>, AllocError> {
     }
 }
 
-/// The status of a replay.
-fn status_of(status: vr_replay::Status) -> Status {
-    match status {
-        vr_replay::Status::Done => Status::Done,
-        vr_replay::Status::Usage => Status::Usage,
-        vr_replay::Status::Refused(line) => Status::Refused(line),
-        vr_replay::Status::ReadFault => Status::ReadFault,
-        vr_replay::Status::WriteFault => Status::WriteFault,
-        vr_replay::Status::NoMemory => Status::NoMemory,
-    }
-}
-
 /// Makes the objects of the outside, and runs over them.
 fn run_outside(rt: &HostRuntime) -> Result<Status, AllocError> {
     let Some(words) = words(rt)? else {

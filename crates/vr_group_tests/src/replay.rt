@@ -4,7 +4,8 @@ use std::process::Abort;
 use std::test::Fail;
 use vr_disk::NoDisk;
 use vr_edge::{LinkRoom, LinkScript, MemClock, MemLink, MemSink, MemSource};
-use vr_replay::{Status, code, run, status_line};
+use vr_replay::run;
+use vr_status::{Status, code, status_line};
 
 /// How a run ends, and what it wrote.
 #[derive(Drop)]

@@ -21,8 +21,7 @@ use Rattle.vr_replay.specs.declared.stop.Stop.TheVariants as stop
 use Rattle.vr_replay.specs.Playing.{Played, judged, taken, behind, and_then, plays, heard, hears, if_too_long, none_left, ends, Hears, IsReplay}
 use Rattle.vr_replay.specs.Run.{text_for, text_so_far, refused_in, IsDone, IsCutShort, IsPartial, Ends}
 use Rattle.vr_replay.specs.Schedule.{line_at, schedule, so_far, put_out}
-use Rattle.vr_replay.specs.Status.{status_of}
-use Rattle.vr_replay.specs.Stops.{Stopped}
+use Rattle.vr_replay.specs.Stops.{Stopped, status_of}
 use Rattle.vr_replay.specs.Text.{text_of}
 use Rattle.vr_replay.proofs.Heard.{heard_append}
 use Rattle.vr_replay.proofs.Outputs.{text_append, text_none}

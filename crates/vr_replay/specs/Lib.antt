@@ -3,5 +3,4 @@ pub mod Text
 pub mod Playing
 pub mod Stops
 pub mod Run
-pub mod Status
 pub mod Headline

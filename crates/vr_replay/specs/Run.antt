@@ -5,8 +5,8 @@ use Rattle.std.specs.Str.{bytes_eq}
 use Rattle.std.specs.Io.KnownBytes.{Appends, Consumes, IsAtEnd}
 use Rattle.vr_base.specs.Causes.{Rose, one_more}
 use Rattle.vr_edge.specs.Told.{AppendsFront}
-use Rattle.vr_replay.specs.declared.status.Status.{Status}
-use Rattle.vr_replay.specs.declared.status.Status.TheVariants as status
+use Rattle.vr_status.specs.declared.status.Status.{Status}
+use Rattle.vr_status.specs.declared.status.Status.TheVariants as status
 use Rattle.vr_lines.specs.Cuts.{whole_lines}
 use Rattle.vr_replay.specs.Playing.{heard}
 use Rattle.vr_replay.specs.Schedule.{schedule_of, so_far, put_out}
@@ -58,11 +58,11 @@ pub record IsPartial (left_old left_new taken_old taken_new : Option (List ℕ))
 -- how a replay ends; s and k count the faults of source and sink: a read that fails is told, and no other answer leaves one untold
 abbrev pub Ends : (s s' k k' : ℕ) (left_old left_new taken_old taken_new : Option (List ℕ)) → Status → Type 0
 Ends s s' k k' lo ln to tn status.Done = (s' ≡ s) × IsDone lo ln to tn
-Ends s s' k k' lo ln to tn status.Usage = ⊥
 Ends s s' k k' lo ln to tn (status.Refused line) = (s' ≡ s) × IsRefused line lo ln to tn
 Ends s s' k k' lo ln to tn status.ReadFault = (s' ≡ one_more s) × IsCutShort lo ln to tn
 Ends s s' k k' lo ln to tn status.WriteFault = (s' ≡ s) × Rose k k' × IsPartial lo ln to tn
 Ends s s' k k' lo ln to tn status.NoMemory = (s' ≡ s) × IsPartial lo ln to tn
+Ends s s' k k' lo ln to tn _ = ⊥
 
 -- a count of the source's faults at the end
 abbrev pub count_after : Status → ℕ → ℕ

@@ -8,6 +8,14 @@ use Rattle.vr_replay.specs.Playing.{Played}
 use Rattle.vr_replay.specs.Text.{text_of}
 use Rattle.vr_replay.specs.declared.stop.Stop.{Stop}
 use Rattle.vr_replay.specs.declared.stop.Stop.TheVariants as stop
+use Rattle.vr_status.specs.declared.status.Status.{Status}
+use Rattle.vr_status.specs.declared.status.Status.TheVariants.{Refused, WriteFault, NoMemory}
+
+-- the status for a stop
+abbrev pub status_of : Stop → Status
+status_of (stop.Refused k) = Refused k
+status_of stop.WriteFault = WriteFault
+status_of stop.NoMemory = NoMemory
 
 -- a line behind so many others is refused
 abbrev pub JudgeCause : Option Line → ℕ → Stop → Type 0

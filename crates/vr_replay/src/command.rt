@@ -5,10 +5,11 @@ ghost use Rattle.vr_replay.specs.Headline.{ScheduleHasOneLog};
 ghost use Rattle.vr_replay.specs.Schedule.{schedule_of};
 ghost use Rattle.vr_replay.specs.Run.{IsDone, IsRefused, IsCutShort, IsPartial, Ends, count_after, is_replay_words, refused_in, status_for};
 
-use crate::{Replay, Status};
+use crate::Replay;
 use std::alloc::Global;
 use vr_disk::SectorDisk;
 use vr_edge::{Clock, Link, Sink, Source};
+use vr_status::Status;
 
 /// Reads a schedule, and writes its outputs line by line.
 fn read_schedule<S: Source, K: Sink>(alloc: Global, source: &mut S, sink: &mut K) -> Status

@@ -4,10 +4,8 @@
 
 mod command;
 mod playing;
-mod status;
 mod stop;
 
 pub use command::{replay, run};
 use playing::Replay;
-pub use status::{Status, code, status_line};
 use stop::Stop;

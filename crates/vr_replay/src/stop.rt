@@ -4,6 +4,7 @@ ghost use Rattle.std.specs.Prelude.{◌≡◌};
 
 use std::alloc::AllocError;
 use vr_edge::WriteFailed;
+use vr_status::Status;
 
 #[derive(Clone, Copy, Debug, PartialEq, Eq)]
 pub enum Stop {
@@ -33,5 +34,20 @@ impl From<vr_base::NoMemory> for Stop {
 
     fn from(_: vr_base::NoMemory) -> Self {
         Stop::NoMemory
+    }
+}
+
+impl Stop {
+    ghost use Rattle.vr_replay.specs.Stops.{status_of};
+
+    /// How a run ends that stops so.
+    pub fn status(self) -> Status
+        ensures { result ≡ status_of self }
+    {
+        match self {
+            Stop::Refused(line) => Status::Refused(line),
+            Stop::WriteFault => Status::WriteFault,
+            Stop::NoMemory => Status::NoMemory,
+        }
     }
 }
