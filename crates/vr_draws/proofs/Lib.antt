@@ -1,3 +1,4 @@
 pub mod Answered
+pub mod Drawing
 pub mod Texts
 mod Rows

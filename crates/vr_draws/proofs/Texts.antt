@@ -1,5 +1,5 @@
 -- Keys and values that are drawn are texts.
-use Rattle.std.proofs.Common.{◌≡◌, ◌≤◌, ◌<◌, ◌+◌, ◌/◌, ◌%◌, ◌∙◌, ℕ, true, ◌&&◌, nat_le, List, [], ◌∷◌, ◌++◌, codes, refl, IsTrue, length, le-leb, arith}
+use Rattle.std.proofs.Common.{◌≡◌, ◌≤◌, ◌<◌, ◌+◌, ◌/◌, ◌%◌, ◌^◌, ◌∙◌, ℕ, true, ◌&&◌, nat_le, List, [], ◌∷◌, ◌++◌, codes, refl, IsTrue, length, le-leb, arith}
 use Rattle.std.specs.Fmt.{decimal}
 use Rattle.std.specs.List.{list_all}
 use Rattle.std.proofs.lemmas.List.Folds.{list_all-append}

@@ -31,16 +31,23 @@ impl Generator {
         Generator { number: seed }
     }
 
-    /// A number below 2^31.
-    #[tactic(auto, unfolding(crate::specs::Draws::next_number, crate::specs::Draws::draw, crate::specs::Draws::after_draws))]
-    pub fn draw(&mut self) -> u64
-        ensures drawn { result ≡ draw self.old.number 1 }
-        ensures number { self.new.number ≡ next_number self.old.number }
+    #[tactic(auto, unfolding(crate::specs::Draws::next_number))]
+    fn advance(&mut self)
+        ensures { self.new.number ≡ next_number self.old.number }
     {
         self.number = self
             .number
             .wrapping_mul(6_364_136_223_846_793_005)
             .wrapping_add(1_442_695_040_888_963_407);
+    }
+
+    /// A number below 2^31.
+    #[tactic(auto, using(std::proofs::lemmas::Grind::common_steps, crate::proofs::Drawing::first_draw))]
+    pub fn draw(&mut self) -> u64
+        ensures drawn { result ≡ draw self.old.number 1 }
+        ensures number { self.new.number ≡ next_number self.old.number }
+    {
+        self.advance();
         self.number / (1 << 33)
     }
 

@@ -47,6 +47,7 @@ fn next_after(client: u64, output: &Output, next: u32) -> u32
 
 impl Requests {
     /// No client has a session yet.
+    #[tactic(auto, unfolding(crate::specs::Asking::next_request))]
     pub fn new() -> Requests
         ensures { result ≡ next_requests [] }
     {

@@ -7,10 +7,9 @@ use Rattle.vr_disk.specs.DiskState.{Disk}
 use Rattle.vr_edge.specs.Datagrams.{Arrival}
 use Rattle.vr_edge.specs.declared.datagram.Datagram.{Datagram}
 use Rattle.vr_node.specs.Running as node
-use Rattle.vr_replay.specs.Headline.{ScheduleHasOneLog}
 use Rattle.vr_serve.specs.Causes as serve
 use Rattle.vr_soak.specs.Ends.{SoakEnds}
-use Rattle.vr_soak.specs.Made.{schedule_from}
+use Rattle.vr_soak.specs.Headline.{SoakHasOneLog}
 use Rattle.vr_soak.specs.Summing.{soak_text}
 use Rattle.vr_status.specs.declared.status.Status.{Status}
 use Rattle.vr_status.specs.declared.status.Status.TheVariants.{Usage, NoMemory}
@@ -88,7 +87,7 @@ RunEnds asked o o' before now result = ((result ≡ Some NoMemory) × (o' ≡ o)
 
 -- the outputs of the schedule of `soak` have one log
 abbrev pub HasOneLog : Option Asked → Type 0
-HasOneLog (Some (Soak words)) = ScheduleHasOneLog (schedule_from words.seed words.count)
+HasOneLog (Some (Soak words)) = SoakHasOneLog words.seed words.count
 HasOneLog _ = ⊤
 
 -- a member is one of its group, which has from 2 to 6; a client isn't 0

@@ -1,6 +1,9 @@
 -- One more line is drawn, and happens.
-use Rattle.std.proofs.Common.{◌≡◌, ◌+◌, ◌<◌, ℕ, refl, ap, sym, ◌∙◌, arith, List, [], ◌∷◌, ◌++◌, length, length-append, subst}
+use Rattle.std.proofs.Common.{◌≡◌, ◌+◌, ◌<◌, ℕ, Bool, refl, ap, sym, ◌∙◌, arith, List, [], ◌∷◌, ◌++◌, length, length-append, subst}
+use Rattle.std.specs.Prelude.{count_by}
 use Rattle.std.proofs.lemmas.List.{map-append}
+use Rattle.sha2.specs.Hashers.{Holds256}
+use Rattle.vr_base.specs.Bytes.{name_of}
 use Rattle.vr_draws.specs.Asking.{next_requests}
 use Rattle.vr_draws.specs.Draws.{Drawn}
 use Rattle.vr_draws.specs.Drawn.{drawn_line, drawn_size}
@@ -17,7 +20,11 @@ use Rattle.vr_soak.specs.declared.heard.Heard.{Heard}
 use Rattle.vr_soak.specs.declared.soaking.Soaking.{Soaking}
 use Rattle.vr_soak.specs.Heard.{HasHeard}
 use Rattle.vr_soak.specs.Made.{Made, come_to, line_after, made, size_of, with_line}
+use Rattle.vr_soak.specs.declared.summary.Summary.{Summary}
 use Rattle.vr_soak.specs.Soaking.{IsSoaking}
+use Rattle.vr_soak.specs.Summing.{is_commit, is_done, is_kept_out, summary_of}
+use Rattle.vr_msg.specs.declared.output.Output.{Output}
+use Rattle.vr_replay.specs.Text.{text_of}
 use Rattle.vr_soak.proofs.Hearing.{plain_numbered}
 
 happenings_more : (lines : List Line) (l : Line) → happenings (lines ++ l ∷ []) ≡ happenings lines ++ happening l ∷ []
@@ -143,3 +150,21 @@ soaking_more n number k s t l put some is next fits world outputs heard i =
 
 pub size_kept : (s t : World Lying) (l : Line) → 0 < s.n → IsLineOf s.n l → t ≡ (happens hazards s (happening l)).world → t.n ≡ s.n
 size_kept s t l some fits e = ap (λ (w : World Lying). w.n) e ∙ (grows_one s l some fits).size
+
+-- ---- what is summed up
+
+abbrev pub summary_with : (events messages commits view done kept_out : ℕ) (sum : List ℕ) → Summary
+summary_with events messages commits view done kept_out sum =
+    record { events = events; messages = messages; commits = commits; view = view; faults = record { done = done; kept_out = kept_out }; sum = record { 0 = sum } }
+
+pub summed : (n number k : ℕ) (s : Soaking) (sum : List ℕ) → IsSoaking n number k s → ((bytes : List ℕ) → Holds256 s.heard.hasher bytes → sum ≡ name_of bytes)
+    → summary_with k (length s.group.world.sent) s.heard.commits (top_view s.group.world) s.heard.faults.done s.heard.faults.kept_out sum ≡ summary_of k (come_to n (made n number k).lines)
+unfolding summary_of
+summed n number k s sum i name =
+    let h = come_to n (made n number k).lines in
+    let counts : (f : Output → Bool) → count_by f (plain (numbered 0 h.outputs)) ≡ count_by f h.outputs = (λ f. ap (count_by f) (plain_numbered 0 h.outputs)) in
+    ap (λ (w : World Lying). summary_with k (length w.sent) s.heard.commits (top_view w) s.heard.faults.done s.heard.faults.kept_out sum) i.world
+    ∙ ap (λ c. summary_with k (length h.world.sent) c (top_view h.world) s.heard.faults.done s.heard.faults.kept_out sum) (i.heard.commits ∙ counts is_commit)
+    ∙ ap (λ c. summary_with k (length h.world.sent) (count_by is_commit h.outputs) (top_view h.world) c s.heard.faults.kept_out sum) (i.heard.done ∙ counts is_done)
+    ∙ ap (λ c. summary_with k (length h.world.sent) (count_by is_commit h.outputs) (top_view h.world) (count_by is_done h.outputs) c sum) (i.heard.kept_out ∙ counts is_kept_out)
+    ∙ ap (summary_with k (length h.world.sent) (count_by is_commit h.outputs) (top_view h.world) (count_by is_done h.outputs) (count_by is_kept_out h.outputs)) (name (text_of (numbered 0 h.outputs)) i.heard.text)

@@ -1,3 +1,4 @@
-pub mod Headline
 pub mod Hearing
 pub mod Going
+pub mod Asked
+pub mod Headline

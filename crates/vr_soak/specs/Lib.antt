@@ -3,3 +3,4 @@ pub mod Summing
 pub mod Heard
 pub mod Soaking
 pub mod Ends
+pub mod Headline

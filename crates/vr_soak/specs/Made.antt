@@ -1,5 +1,5 @@
 -- The schedule that a number makes.
-use Rattle.std.specs.Prelude.{ℕ, suc, List, [], ◌∷◌, ◌++◌, length, None}
+use Rattle.std.specs.Prelude.{ℕ, zero, suc, List, [], ◌∷◌, ◌++◌, length, None}
 use Rattle.vr_draws.specs.Asking.{next_requests}
 use Rattle.vr_draws.specs.Draws.{Drawn}
 use Rattle.vr_draws.specs.Drawn.{drawn_line, drawn_size}
@@ -28,7 +28,7 @@ line_after n number h = drawn_line n (length h.world.sent) (next_requests h.outp
 
 -- so many lines for a group of n, drawn from a number, each by what those before it have come to
 unfoldable pub made : ℕ → ℕ → ℕ → Made
-made n number 0 = record { lines = []; number = number }
+made n number zero = record { lines = []; number = number }
 made n number (suc k) = let m = made n number k in with_line m (line_after n m.number (come_to n m.lines))
 
 -- the group and the lines of a seed

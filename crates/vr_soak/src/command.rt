@@ -1,8 +1,7 @@
 //! The command `soak`.
 ghost use Rattle.std.specs.Prelude.{◌≡◌, IfOk};
-ghost use Rattle.vr_replay.specs.Headline.{ScheduleHasOneLog};
+ghost use Rattle.vr_soak.specs.Headline.{SoakHasOneLog};
 ghost use Rattle.vr_soak.specs.Ends.{SoakEnds};
-ghost use Rattle.vr_soak.specs.Made.{schedule_from};
 ghost use Rattle.vr_soak.specs.Summing.{soak_text};
 
 use crate::Soaking;
@@ -27,7 +26,7 @@ pub fn soak<K: Sink>(alloc: Global, seed: u64, count: u32, sink: &mut K) -> Stat
     ensures ends { SoakEnds (K.faults sink.old) (K.faults sink.new) (K.taken sink.old) (K.taken sink.new) (soak_text seed count) result }
 
     // Whatever the number, its schedule's outputs have one log.
-    ensures headline { ScheduleHasOneLog (schedule_from seed count) }
+    ensures headline { SoakHasOneLog seed count }
 {
     let Ok(text) = text_for(alloc, seed, count) else {
         return Status::NoMemory;

@@ -3,7 +3,7 @@ ghost use Rattle.std.specs.Prelude.{◌≡◌, ◌+◌, ◌<◌, ℕ, true, IfOk
 ghost use Rattle.vr_draws.specs.Drawn.{drawn_size};
 ghost use Rattle.vr_soak.specs.Made.{come_to, made, size_of};
 ghost use Rattle.vr_soak.specs.Soaking.{IsSoaking};
-ghost use Rattle.vr_soak.specs.Summing.{soaked, summary_of};
+ghost use Rattle.vr_soak.specs.Summing.{summary_of};
 
 use crate::{Heard, Summary};
 use std::alloc::Global;
@@ -67,19 +67,22 @@ impl Soaking {
     }
 
     /// What its lines have come to.
-    pub fn summary(mut self, count: u32) -> Summary
+    pub fn summary(self, count: u32) -> Summary
         requires live { self.group.live ≡ true }
         ensures { (n number : ℕ) → IsSoaking n number count self → result ≡ summary_of count (come_to n (made n number count).lines) }
     {
-        let view = self.group.top_view();
-        let messages = self.group.messages() as u64;
+        let Soaking {
+            mut group, heard, ..
+        } = self;
+        let view = group.top_view();
+        let messages = group.messages() as u64;
         Summary {
             events: count,
             messages,
-            commits: self.heard.commits,
+            commits: heard.commits,
             view,
-            faults: self.heard.faults,
-            sum: self.heard.sum(),
+            faults: heard.faults,
+            sum: heard.sum(),
         }
     }
 }
