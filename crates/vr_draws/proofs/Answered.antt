@@ -1,11 +1,11 @@
 -- The numbers of the clients' next requests, one output later.
-use Rattle.std.proofs.Common.{◌≡◌, ◌+◌, ◌-◌, ◌^◌, ℕ, refl, ap, sym, ◌∙◌, arith, max, min, List, [], ◌∷◌, ◌++◌, Option, Some, None}
+use Rattle.std.proofs.Common.{◌≡◌, ◌+◌, ◌-◌, ◌^◌, ℕ, refl, ap, ◌∙◌, arith, max, min, List, [], ◌∷◌, ◌++◌, Option, Some, None}
 use Rattle.std.specs.List.{filter_map}
 use Rattle.std.specs.Option.{option_map_or}
 use Rattle.std.proofs.lemmas.List.{append-nil}
 use Rattle.std.proofs.lemmas.List.Elements.{filter_map-append}
 use Rattle.vr_msg.specs.declared.output.Output.{Output}
-use Rattle.vr_draws.specs.Asking.{answers, greatest, next_behind, next_request, next_requests, next_after}
+use Rattle.vr_draws.specs.Asking.{answers, greatest, next_behind, next_request, next_after}
 
 greatest_more : (qs : List ℕ) (q : ℕ) → greatest (qs ++ q ∷ []) ≡ max (greatest qs) q
 unfolding greatest

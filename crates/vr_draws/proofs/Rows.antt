@@ -1,5 +1,5 @@
 -- The first draws, and a line of each kind.
-use Rattle.std.proofs.Common.{◌≡◌, ℕ, refl, [], ◌∷◌}
+use Rattle.std.proofs.Common.{◌≡◌, refl}
 use Rattle.vr_draws.specs.Draws.{draw, after_draws, next_number}
 use Rattle.vr_draws.specs.Drawn.{drawn_size}
 

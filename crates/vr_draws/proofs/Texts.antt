@@ -1,5 +1,5 @@
 -- Keys and values that are drawn are texts.
-use Rattle.std.proofs.Common.{◌≡◌, ◌≤◌, ◌<◌, ◌+◌, ◌/◌, ◌%◌, ◌^◌, ◌∙◌, ℕ, true, ◌&&◌, nat_le, List, [], ◌∷◌, ◌++◌, codes, refl, IsTrue, length, le-leb, arith}
+use Rattle.std.proofs.Common.{◌≡◌, ◌≤◌, ◌<◌, ◌+◌, ◌%◌, ◌^◌, ◌∙◌, ℕ, true, List, [], ◌∷◌, refl, IsTrue, length, le-leb, arith}
 use Rattle.std.specs.Fmt.{decimal}
 use Rattle.std.specs.List.{list_all}
 use Rattle.std.proofs.lemmas.List.Folds.{list_all-append}
@@ -7,7 +7,7 @@ use Rattle.std.proofs.lemmas.Fmt.{decimal_by_steps, length-decimal-le}
 use Rattle.vr_header.specs.Text.{is_printable, is_text}
 use Rattle.vr_draws.specs.Drawn.{key, value}
 
-ArePrintable : ℕ → List ℕ → Type 0
+abbrev ArePrintable : ℕ → List ℕ → Type 0
 ArePrintable n bytes = list_all is_printable bytes ≡ true
 
 printable_byte : (b : ℕ) → 33 ≤ b → b ≤ 126 → list_all is_printable (b ∷ []) ≡ true
@@ -26,7 +26,8 @@ unfolding is_text
 lettered limit letter n room least most small =
     let short = length-decimal-le 3 n (omega arith) (omega arith) (omega arith) in
     let size : length (letter ∷ decimal n) ≤ limit = omega (arith, short, room) in
-    rw (le-leb 33 letter least, le-leb letter 126 most, decimal_printable n (omega arith), le-leb (length (letter ∷ decimal n)) limit size) refl
+    let some : 1 ≤ length (letter ∷ decimal n) = omega arith in
+    rw (le-leb 1 (length (letter ∷ decimal n)) some, le-leb 33 letter least, le-leb letter 126 most, decimal_printable n (omega arith), le-leb (length (letter ∷ decimal n)) limit size) refl
 
 pub key_text : (d : ℕ) → IsTrue (is_text 64 (key d))
 key_text d = lettered 64 107 (d % 8) (omega arith) (omega arith) (omega arith) (omega arith)

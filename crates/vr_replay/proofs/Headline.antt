@@ -10,7 +10,7 @@ use Rattle.vr_one_log.proofs.Traces.{keeps}
 use Rattle.vr_replay.specs.Headline.{ScheduleHasOneLog}
 use Rattle.vr_replay.specs.Schedule.{Schedule, replayed, schedule_of}
 
-pub schedule_has_one_log : (s : Schedule) → ScheduleHasOneLog s
+schedule_has_one_log : (s : Schedule) → ScheduleHasOneLog s
 unfolding happen
 schedule_has_one_log s few many may = keeps s.n few many (runs_safe 0 s.n) (replayed s) (schedules_are_runs s.n (happenings s.lines) few many may)
 

@@ -18,13 +18,12 @@ use Rattle.vr_group.proofs.Goings.{grows_one, happen_append, happen_one, message
 use Rattle.vr_group.specs.Views.{top_view}
 use Rattle.vr_soak.specs.declared.heard.Heard.{Heard}
 use Rattle.vr_soak.specs.declared.soaking.Soaking.{Soaking}
-use Rattle.vr_soak.specs.Heard.{HasHeard}
+use Rattle.vr_soak.specs.Heard.{HasHeard, Hears}
 use Rattle.vr_soak.specs.Made.{Made, come_to, line_after, made, size_of, with_line}
 use Rattle.vr_soak.specs.declared.summary.Summary.{Summary}
 use Rattle.vr_soak.specs.Soaking.{IsSoaking}
-use Rattle.vr_soak.specs.Summing.{is_commit, is_done, is_kept_out, summary_of}
+use Rattle.vr_soak.specs.Summing.{is_commit, is_done, is_kept_out, summary_of, text_of}
 use Rattle.vr_msg.specs.declared.output.Output.{Output}
-use Rattle.vr_replay.specs.Text.{text_of}
 use Rattle.vr_soak.proofs.Hearing.{plain_numbered}
 
 happenings_more : (lines : List Line) (l : Line) → happenings (lines ++ l ∷ []) ≡ happenings lines ++ happening l ∷ []
@@ -126,7 +125,7 @@ pub soaking_more : (n number k : ℕ) (s t : Soaking) (l : Line) (put : List Num
     → IsLineOf s.group.world.n l
     → t.group.world ≡ (happens hazards s.group.world (happening l)).world
     → put ≡ numbered (length s.group.world.sent) (happens hazards s.group.world (happening l)).outputs
-    → ((before : List Numbered) → HasHeard s.heard before → HasHeard t.heard (before ++ put))
+    → Hears s.heard t.heard put
     → IsSoaking n number k s → IsSoaking n number (k + 1) t
 soaking_more n number k s t l put some is next fits world outputs heard i =
     let m = made n number k in

@@ -1,13 +1,13 @@
 -- What was heard of outputs.
-use Rattle.std.specs.Prelude.{ℕ, ◌+◌, ◌≡◌, Bool, if◌then◌else◌, List, count_by}
+use Rattle.std.specs.Prelude.{ℕ, ◌+◌, ◌++◌, ◌≡◌, Bool, if◌then◌else◌, List, count_by}
 use Rattle.sha2.specs.Hashers.{Holds256}
 use Rattle.vr_draws.specs.Asking.{next_requests}
 use Rattle.vr_group.specs.declared.outputs.Numbered.{Numbered}
 use Rattle.vr_group.specs.Outputs.{plain}
 use Rattle.vr_msg.specs.declared.output.Output.{Output}
-use Rattle.vr_replay.specs.Text.{text_of}
+use Rattle.vr_sched.specs.Text.{line_text}
 use Rattle.vr_soak.specs.declared.heard.Heard.{Heard}
-use Rattle.vr_soak.specs.Summing.{is_commit, is_done, is_kept_out}
+use Rattle.vr_soak.specs.Summing.{is_commit, is_done, is_kept_out, text_of}
 
 pub record HasHeard (h : Heard) (outputs : List Numbered) : Type 0 where
   pub requests : h.requests ≡ next_requests (plain outputs)
@@ -24,3 +24,11 @@ pub record HasCounted (old new : Heard) (o : Output) : Type 0 where
   pub commits : new.commits ≡ old.commits + one_if (is_commit o)
   pub done : new.faults.done ≡ old.faults.done + one_if (is_done o)
   pub kept_out : new.faults.kept_out ≡ old.faults.kept_out + one_if (is_kept_out o)
+
+-- the text of one output was taken
+abbrev pub Takes : Heard → Heard → Numbered → Type 0
+Takes old new p = (bytes : List ℕ) → Holds256 old.hasher bytes → Holds256 new.hasher (bytes ++ line_text p.number p.output)
+
+-- these were heard, whatever was heard before
+abbrev pub Hears : Heard → Heard → List Numbered → Type 0
+Hears old new outputs = (before : List Numbered) → HasHeard old before → HasHeard new (before ++ outputs)

@@ -1,11 +1,10 @@
 -- The schedule that a number makes.
-use Rattle.std.specs.Prelude.{ℕ, zero, suc, List, [], ◌∷◌, ◌++◌, length, None}
+use Rattle.std.specs.Prelude.{ℕ, zero, suc, List, [], ◌∷◌, ◌++◌, length}
 use Rattle.vr_draws.specs.Asking.{next_requests}
 use Rattle.vr_draws.specs.Draws.{Drawn}
 use Rattle.vr_draws.specs.Drawn.{drawn_line, drawn_size}
 use Rattle.vr_group.specs.Lines.{happenings}
 use Rattle.vr_lines.specs.declared.line.Line.{Line}
-use Rattle.vr_replay.specs.Schedule.{Schedule}
 use Rattle.vr_rules.specs.Lying.{Lying, hazards}
 use Rattle.vr_rules.specs.World.{Happened, fresh_world, happen}
 
@@ -37,7 +36,3 @@ size_of seed = (drawn_size seed).value
 
 abbrev pub lines_from : ℕ → ℕ → List Line
 lines_from seed count = (made (size_of seed) (drawn_size seed).number count).lines
-
--- the schedule of a seed: behind the line that makes the group stand so many others
-abbrev pub schedule_from : ℕ → ℕ → Schedule
-schedule_from seed count = record { n = size_of seed; lines = lines_from seed count; refused = None }

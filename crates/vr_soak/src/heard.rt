@@ -1,10 +1,8 @@
 //! What was heard of the outputs so far.
 ghost use Rattle.sha2.specs.Hashers.{Holds256};
-ghost use Rattle.std.specs.Prelude.{◌≡◌, ◌+◌, ◌++◌, ◌∷◌, [], ℕ, List, IfOk, OnOk};
+ghost use Rattle.std.specs.Prelude.{◌≡◌, ◌+◌, ◌∷◌, [], ℕ, List, IfOk, OnOk};
 ghost use Rattle.vr_base.specs.Bytes.{name_of};
-ghost use Rattle.vr_group.specs.declared.outputs.Numbered as put;
-ghost use Rattle.vr_replay.specs.Text.{line_text, text_of};
-ghost use Rattle.vr_soak.specs.Heard.{HasCounted, HasHeard};
+ghost use Rattle.vr_soak.specs.Heard.{HasCounted, HasHeard, Hears, Takes};
 
 use crate::summary::Faults;
 use sha2::{Digest, Sha256};
@@ -41,7 +39,7 @@ fn one_more(count: u64) -> Result<u64, NoMemory>
 
 impl Heard {
     /// Nothing was heard yet.
-    #[tactic(auto, using(std::proofs::lemmas::Grind::common_steps, vr_replay::proofs::Outputs::text_none))]
+    #[tactic(auto, using(std::proofs::lemmas::Grind::common_steps, crate::proofs::Hearing::text_none))]
     pub fn new(alloc: Global) -> Heard
         ensures { HasHeard result [] }
     {
@@ -74,7 +72,7 @@ impl Heard {
 
     /// Takes the text of an output.
     fn sum_up(&mut self, put: &Numbered) -> Result<(), AllocError>
-        ensures text { (before : List ℕ) → Holds256 self.old.hasher before → OnOk result (Holds256 self.new.hasher (before ++ line_text put.now)) }
+        ensures text { OnOk result (Takes self.old self.new put.now) }
         ensures requests { self.new.requests ≡ self.old.requests }
         ensures commits { self.new.commits ≡ self.old.commits }
         ensures faults { self.new.faults ≡ self.old.faults }
@@ -87,7 +85,7 @@ impl Heard {
 
     /// One more output.
     fn hear(&mut self, put: &Numbered) -> Result<(), NoMemory>
-        ensures { (before : List put.Numbered) → HasHeard self.old before → OnOk result (HasHeard self.new (before ++ put.now ∷ [])) }
+        ensures { OnOk result (Hears self.old self.new (put.now ∷ [])) }
     {
         self.count(&put.output)?;
         self.sum_up(put)?;
@@ -97,7 +95,7 @@ impl Heard {
 
     /// More outputs.
     pub fn hear_all(&mut self, outputs: &[Numbered]) -> Result<(), NoMemory>
-        ensures { (before : List put.Numbered) → HasHeard self.old before → OnOk result (HasHeard self.new (before ++ outputs.now)) }
+        ensures { OnOk result (Hears self.old self.new outputs.now) }
     {
         for put in outputs {
             self.hear(put)?;

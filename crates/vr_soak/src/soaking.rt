@@ -1,8 +1,8 @@
 //! A group in the midst of the lines that are drawn.
-ghost use Rattle.std.specs.Prelude.{◌≡◌, ◌+◌, ◌<◌, ℕ, true, IfOk, OnOk};
+ghost use Rattle.std.specs.Prelude.{◌≡◌, ◌<◌, ℕ, true, IfOk, OnOk};
 ghost use Rattle.vr_draws.specs.Drawn.{drawn_size};
 ghost use Rattle.vr_soak.specs.Made.{come_to, made, size_of};
-ghost use Rattle.vr_soak.specs.Soaking.{IsSoaking};
+ghost use Rattle.vr_soak.specs.Soaking.{GoesOn, IsSoaking};
 ghost use Rattle.vr_soak.specs.Summing.{summary_of};
 
 use crate::{Heard, Summary};
@@ -41,7 +41,7 @@ impl Soaking {
     fn step(&mut self, alloc: Global) -> Result<(), NoMemory>
         requires live { self.old.group.live ≡ true }
         requires size { 0 < self.old.group.world.n }
-        ensures soaking { (n number count : ℕ) → IsSoaking n number count self.old → OnOk result (IsSoaking n number (count + 1) self.new) }
+        ensures soaking { OnOk result (GoesOn self.old self.new) }
         ensures live { OnOk result (self.new.group.live ≡ true) }
         ensures size { OnOk result (self.new.group.world.n ≡ self.old.group.world.n) }
     {
