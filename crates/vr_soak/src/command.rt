@@ -31,8 +31,8 @@ pub fn soak<K: Sink>(alloc: Global, seed: u64, count: u32, sink: &mut K) -> Stat
     let Ok(text) = text_for(alloc, seed, count) else {
         return Status::NoMemory;
     };
-    match write_whole(sink, text.as_slice()) {
-        Ok(()) => Status::Done,
-        Err(_) => Status::WriteFault,
+    if let Err(_) = write_whole(sink, text.as_slice()) {
+        return Status::WriteFault;
     }
+    Status::Done
 }

@@ -4,7 +4,7 @@ ghost use Rattle.std.specs.Prelude.{◌≡◌, ◌+◌, ◌∷◌, [], ℕ, List
 ghost use Rattle.vr_base.specs.Bytes.{name_of};
 ghost use Rattle.vr_soak.specs.Heard.{HasCounted, HasHeard, Hears, Takes};
 
-use crate::summary::Faults;
+use crate::Faults;
 use sha2::{Digest, Sha256};
 use std::alloc::{AllocError, Global};
 use vr_base::{ByteList, NoMemory, Sum};

@@ -9,4 +9,4 @@ mod summary;
 pub use command::soak;
 use heard::Heard;
 use soaking::Soaking;
-pub use summary::Summary;
+pub use summary::{Faults, Summary};
