@@ -2,7 +2,8 @@
 # Measures a group of three members of the built program (crates/vr_app/out/vr_app, or PROGRAM) on loopback, each with a file in FOLDER, beside
 # the floor of the rules on this machine in the same run: three members of a small C program that make the same calls with no protocol between
 # them (bench/node/floor.c). For 1, 2, 4 and 8 clients, each with one put of 100 bytes after the other: puts a second, and of one put the median,
-# the 99th of 100 and the mean. Then system calls a put, processor time a put, an idle group's, and the pause when the primary is killed.
+# the 99th of 100 and the mean. Then the same puts on a group of three of etcd, where it is installed, each at its leader over its own protocol;
+# system calls a put, processor time a put, an idle group's, and the pause when the primary is killed.
 #   bench/node.sh [FOLDER [PUTS]]     FOLDER on the disk that is to be measured (a new one in /tmp without it), PUTS a client (2000)
 # It ends with status 1 where one client's mean is above twice the floor's. Needs bash, awk, a C compiler, and strace for the system calls.
 # Where other work goes on, run all of it at real-time priority (chrt -f 10 bench/node.sh): else a sync's end waits for time slices.
@@ -15,10 +16,12 @@ puts=${2:-2000}
 port=$((21000 + ($$ * 7) % 8000))
 addresses="127.0.0.1:$port 127.0.0.1:$((port + 1)) 127.0.0.1:$((port + 2))"
 members=()
+etcds=()
 stop() { [ ${#members[@]} -eq 0 ] || { kill "${members[@]}"; wait "${members[@]}"; } 2> /dev/null; members=(); }
-trap 'stop; rm -rf "$folder"' EXIT
+stop_etcds() { [ ${#etcds[@]} -eq 0 ] || { kill "${etcds[@]}"; wait "${etcds[@]}"; } 2> /dev/null; etcds=(); }
+trap 'stop; stop_etcds; rm -rf "$folder"' EXIT
 trap 'exit 130' INT TERM
-cc -O2 -o "$folder/floor" bench/node/floor.c && cc -O2 -o "$folder/stamp" bench/node/stamp.c || exit 2
+for part in floor stamp etcd; do cc -O2 -o "$folder/$part" bench/node/$part.c || exit 2; done
 value=$(printf 'v%.0s' $(seq 100))
 
 echo "machine: $(nproc) processors, load $(cut -d ' ' -f 1-3 /proc/loadavg), $(df --output=fstype "$folder" | tail -n 1) on $(df --output=source "$folder" | tail -n 1), kernel $(uname -r)"
@@ -50,6 +53,7 @@ run_clients() {
     before=${EPOCHREALTIME/./}
     for c in $(seq $clients); do
         if [ $kind = floor ]; then "$folder/floor" ask $port $puts > "$folder/times.$c" & waits+=($!)
+        elif [ $kind = etcd ]; then "$folder/etcd" $leader $puts $c > "$folder/times.$c" & waits+=($!)
         else ("$program" client 5 $((first + c)) 1000000 $addresses < "$folder/lines.$c" | "$folder/stamp" > "$folder/times.$c") & waits+=($!); fi
     done
     wait "${waits[@]}"
@@ -65,9 +69,16 @@ stop
 echo "512 bytes written and synced: $(times "$folder/syncs" | awk '{ print "median " $1 " us, 99 of 100 " $2 " us" }')"
 echo "round trip of 256 bytes: $(times "$folder/trips" | awk '{ print "median " $1 " us, 99 of 100 " $2 " us" }')"
 
+# What each member took of a processor, in nanoseconds, as the scheduler counts it; and of that a put since then.
+busy() { local pid; for pid in "${members[@]}"; do awk '{ printf "%s ", $1 }' /proc/$pid/schedstat; done; }
+busy_puts() { echo "$2 $(busy)" | awk -v puts=$puts -v kind="$1" '{ for (m = 0; m < 3; m++) printf "%s %d: %.1f us of a processor a put, the system among them\n", kind, m, ($(4 + m) - $(1 + m)) / 1000 / puts }'; }
+
 floor_members
 declare -A floor
-for clients in 1 2 4 8; do floor[$clients]=$(run_clients floor $clients 0); done
+before=$(busy)
+floor[1]=$(run_clients floor 1 0)
+busy_puts 'member of the floor' "$before"
+for clients in 2 4 8; do floor[$clients]=$(run_clients floor $clients 0); done
 stop
 
 node_members
@@ -82,12 +93,35 @@ for clients in 1 2 4 8; do
 done
 cat "$folder"/[012].err
 
+# A group of three of etcd, with its data in the same folder. Its leader is the one that says so among its figures.
+etcd_members() {
+    local r group=
+    for r in 0 1 2; do group+="m$r=http://127.0.0.1:$((port + 20 + r)),"; done
+    for r in 0 1 2; do
+        etcd --name m$r --data-dir "$folder/etcd.$r" --listen-client-urls http://127.0.0.1:$((port + 10 + r)) --advertise-client-urls http://127.0.0.1:$((port + 10 + r)) \
+            --listen-peer-urls http://127.0.0.1:$((port + 20 + r)) --initial-advertise-peer-urls http://127.0.0.1:$((port + 20 + r)) --initial-cluster ${group%,} > /dev/null 2>&1 & etcds+=($!)
+    done
+}
+is_leader() { (exec 3<> /dev/tcp/127.0.0.1/$1 && printf 'GET /metrics HTTP/1.0\r\n\r\n' >&3 && grep -q '^etcd_server_is_leader 1' <&3) 2> /dev/null; }
+if command -v etcd > /dev/null; then
+    etcd_members
+    leader=
+    for _ in $(seq 40); do
+        for r in 0 1 2; do is_leader $((port + 10 + r)) && leader=$((port + 10 + r)); done
+        [ -n "$leader" ] && break
+        sleep 0.5
+    done
+    if [ -n "$leader" ]; then
+        sleep 1
+        for clients in 1 2 4 8; do run_clients etcd $clients 0 | awk -v clients=$clients '{ printf "etcd, %d clients: %s puts a second, median %s, 99 of 100 %s, mean %s\n", clients, $1, $2, $3, $4 }'; done
+    else echo 'etcd: not measured (no leader)'; fi
+    stop_etcds
+else echo 'etcd: not measured (it is not installed)'; fi
+
 # Processor time of each member, and system calls, for puts of one client.
-ticks() { local pid; for pid in "${members[@]}"; do awk '{ printf "%d %d ", $14, $15 }' /proc/$pid/stat; done; }
-before=$(ticks)
+before=$(busy)
 run_clients node 1 200 > /dev/null
-after=$(ticks)
-echo "$before $after" | awk -v puts=$puts -v hz="$(getconf CLK_TCK)" '{ for (m = 0; m < 3; m++) printf "member %d: %.0f us of its own and %.0f us of the system a put\n", m, ($(7 + 2 * m) - $(1 + 2 * m)) * 1e6 / hz / puts, ($(8 + 2 * m) - $(2 + 2 * m)) * 1e6 / hz / puts }'
+busy_puts "member" "$before"
 if command -v strace > /dev/null; then
     for m in 0 1; do
         strace -c -f -o "$folder/calls.$m" -p "${members[$m]}" 2> /dev/null & tracer=$!
@@ -97,17 +131,24 @@ if command -v strace > /dev/null; then
         awk -v puts=$puts -v m=$m '/^ *[0-9]/ && $NF != "total" { printf "%s%s %.2f", (seen++ ? ", " : "member " m ", system calls a put: "), $NF, $4 / puts } END { print "" }' "$folder/calls.$m"
     done
 else echo 'system calls: not measured (no strace)'; fi
-before=$(ticks)
+before=$(busy)
 sleep 10
-after=$(ticks)
-echo "$before $after" | awk -v hz="$(getconf CLK_TCK)" '{ for (i = 1; i <= 6; i++) sum += $(i + 6) - $i; printf "idle: %.2f%% of a processor a member\n", sum / hz / 3 / 10 * 100 }'
+after=$(busy)
+echo "$before $after" | awk '{ for (m = 1; m <= 3; m++) sum += $(m + 3) - $m; printf "idle: %.2f%% of a processor a member\n", sum / 3 / 1e10 * 100 }'
 
-# The pause when the primary is killed: the longest time between two answers of a client that goes on asking.
+# The pause when the primary is killed: the longest time between two answers of a client that goes on asking, half of whose lines were answered
+# by then. The members wait five ticks of 100 ms before they change the view.
 lines $((puts * 2)) 1 > "$folder/lines.1"
-("$program" client 5 300 1000000 $addresses < "$folder/lines.1" | "$folder/stamp" > "$folder/pause") & client=$!
-sleep 0.5
+("$program" client 5 300 1000000 $addresses < "$folder/lines.1" | "$folder/stamp" each > "$folder/pause") & client=$!
+for _ in $(seq 600); do
+    [ "$(wc -l < "$folder/pause" 2> /dev/null || echo 0)" -ge $puts ] && break
+    sleep 0.02
+done
+answered=$(wc -l < "$folder/pause")
 kill -KILL "${members[0]}"
 wait $client
-echo "the primary is killed: $(sort -n "$folder/pause" | tail -n 1 | awk '{ printf "%.0f ms", $1 / 1000 }') between two answers"
-command -v etcd > /dev/null || echo 'etcd: not measured (it is not installed)'
+all=$(wc -l < "$folder/pause")
+if [ "$all" -eq $((puts * 2)) ] && [ "$answered" -lt "$all" ]; then
+    echo "the primary is killed: $(sort -n "$folder/pause" | tail -n 1 | awk '{ printf "%.0f ms", $1 / 1000 }') between two answers, with $((all - answered)) puts answered after it"
+else echo "the primary is killed: not measured ($answered answers before it, $all in all, of $((puts * 2 + 1)))"; fi
 exit $worst

@@ -1,9 +1,12 @@
-// Prints the microseconds between the lines of its input: those that a client took from one answer to the next.
+// Prints the microseconds between the lines of its input: those that a client took from one answer to the next. With an argument each is printed
+// as soon as it is known, so that who watches sees how far the client is.
 #include <stdio.h>
 #include <time.h>
 #include <unistd.h>
 
-int main(void) {
+int main(int argc, char **argv) {
+    (void)argv;
+    if (argc > 1) setvbuf(stdout, NULL, _IOLBF, 0);
     char bytes[4096];
     double last = 0;
     ssize_t got;

@@ -43,7 +43,7 @@ use Rattle.vr_rules.specs.Outputs.{replies, send_to, send_to_all, prepare, commi
 use Rattle.vr_rules.specs.declared.asker.Asker.{Asker}
 use Rattle.vr_rules.specs.Replica.{Replica, is_frozen, part_at, header_at, head, is_here}
 use Rattle.vr_rules.specs.Steps.{Step, Setting, Word, ◌⨾◌, quiet, change, does, says, by, naming, reading, when, each, outputs, after_all, PutBlock}
-use Rattle.vr_rules.specs.Words.{rested, write, accept, enter, apply, advance, learn, is_loaded, load, loads, loaded_state, checkpoint_at, try, speak, resend, ask, prepare_again, with_entry_at}
+use Rattle.vr_rules.specs.Words.{rested, write, accept, enter, apply, advance, learn, is_loaded, load, loads, loaded_state, checkpoint_at, try, speak, resend, ask, prepare_again}
 use Rattle.vr_rules.specs.Words as word
 use Rattle.vr_rules.specs.Deciding.{Hash, session_answer, request_table, prepare_table, prepare_ok_table, commit_table, start_view_change_table, do_view_change_table, log_of, start_view_table, get_view_table, get_prepare_table, give_prepare_table, get_block_table, is_from, is_wanted, give_block_table, tick_table}
 use Rattle.vr_rules.specs.Rules.{asker_by, next_entry, make, stored_reply, obey_request, on_request, acknowledge, ask_view, obey_prepare, on_prepare, acknowledged, obey_prepare_ok, on_prepare_ok, obey_commit, on_commit, heard_of, obey_start_view_change, on_start_view_change, with_statement, obey_do_view_change, on_do_view_change, acknowledge_stored, obey_start_view, on_start_view, obey_get_view, on_get_view, obey_get_prepare, on_get_prepare, obey_give_prepare, on_give_prepare, asked_block, block_at, give_read, obey_get_block, on_get_block, without, put_block, put_found, obey_give_block, on_give_block, idler, next_view, obey_tick, on_tick, on_message, on_event, react}

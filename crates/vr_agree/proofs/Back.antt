@@ -20,7 +20,7 @@ use Rattle.vr_protocol.proofs.Moves.{reached_good}
 use Rattle.vr_safe.specs.Chains.{Setup}
 use Rattle.vr_safe.specs.Reflecting.{entries_by}
 use Rattle.vr_rules.specs.Commitment as said
-use Rattle.vr_rules.specs.Commitment.{HasSent, IsCommitted, HasQuorum}
+use Rattle.vr_rules.specs.Commitment.{HasSent, IsCommitted}
 use Rattle.vr_rules.specs.Safe.{run_outputs}
 use Rattle.vr_agree.specs.Followed.{IsFollowed, IsFrom}
 use Rattle.vr_agree.proofs.Sets.{in_get, set_of}

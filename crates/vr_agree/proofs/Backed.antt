@@ -25,7 +25,6 @@ use Rattle.vr_protocol.specs.Group.{Group}
 use Rattle.vr_protocol.specs.Laws.{Durability}
 use Rattle.vr_protocol.specs.Laws as law
 use Rattle.vr_protocol.specs.Members as machine
-use Rattle.vr_protocol.specs.Members.{Message}
 use Rattle.vr_protocol.proofs.Laws.{durability}
 use Rattle.vr_protocol.proofs.Moves.{reached_good}
 use Rattle.vr_safe.specs.Chains.{Setup, WasSent}

@@ -24,7 +24,7 @@ use Rattle.vr_safe.specs.Reflecting.{entries_by}
 use Rattle.vr_safe.proofs.Counting.{size_count}
 use Rattle.vr_safe.proofs.Making.{logged_made}
 use Rattle.vr_rules.specs.Commitment as said
-use Rattle.vr_rules.specs.Commitment.{IsCommitted, HasQuorum}
+use Rattle.vr_rules.specs.Commitment.{IsCommitted}
 use Rattle.vr_rules.specs.Safe.{IsHashed, wrote, IsWritten, run_outputs}
 use Rattle.vr_rules.specs.Safe as safe
 use Rattle.vr_agree.specs.Followed.{IsFollowed}

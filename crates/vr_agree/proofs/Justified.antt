@@ -15,7 +15,7 @@ use Rattle.vr_msg.specs.declared.choice.Choice.TheVariants.{Ends}
 use Rattle.vr_msg.specs.declared.output.Chosen.{Chosen}
 use Rattle.vr_msg.specs.declared.statement.Statement.{Statement}
 use Rattle.vr_msg.specs.Choice as stated
-use Rattle.vr_msg.specs.Choice.{IsChoice, IsIntact, denies, denies_as_newest, denies_as_older, denies_named, named, top_commit, top_view}
+use Rattle.vr_msg.specs.Choice.{IsChoice, denies, denies_as_newest, denies_as_older, denies_named, named, top_view}
 use Rattle.vr_choose.proofs.Bounds.{bounded, some_statements}
 use Rattle.vr_choose.proofs.Choices.{choice_meets}
 use Rattle.vr_choose.proofs.Standing.{headers_stand}

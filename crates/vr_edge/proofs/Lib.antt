@@ -1,4 +1,5 @@
 pub mod Numbers
+pub mod Pieces
 pub mod Receiving
 pub mod Sending
 pub mod Told

@@ -2,10 +2,10 @@
 use Rattle.std.specs.Prelude.{ℕ, List, Option, Some, None, Result, Ok, Err}
 use Rattle.vr_edge.specs.declared.datagram.Datagram.{Datagram}
 use Rattle.vr_edge.specs.declared.link.Received.{Received}
-use Rattle.vr_edge.specs.declared.link.Received.TheVariants.{Quiet}
+use Rattle.vr_edge.specs.declared.link.Received.TheVariants.{Quiet, Part}
 use Rattle.vr_edge.specs.declared.link.Received.TheVariants.{Datagram as From}
 
--- what one receive gave
+-- what one receive gave: a part of a datagram is as nothing
 pub data Arrival : Type 0 where
   Failed : Arrival
   Nothing : Arrival
@@ -20,4 +20,5 @@ sent_by to bytes (Err _) = None
 abbrev pub received_by : {E : Type 0} → Result Received E → List ℕ → Arrival
 received_by (Ok (From port)) bytes = Came (record { port = port; bytes = bytes })
 received_by (Ok Quiet) bytes = Nothing
+received_by (Ok Part) bytes = Nothing
 received_by (Err _) bytes = Failed

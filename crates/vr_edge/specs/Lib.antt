@@ -5,4 +5,6 @@ pub mod Links
 pub mod Marks
 pub mod Receiving
 pub mod Sending
+pub mod Streaming
+pub mod StreamScripts
 pub mod Told

@@ -1,4 +1,4 @@
-//! The outside as traits: a source, a sink, a link and a clock, each with a count of its faults and with its
+//! The outside as traits: a source, a sink, a link, streams and a clock, each with a count of its faults and with its
 //! content where it tells it; and objects in memory that stand for them.
 #![tactic(auto)]
 
@@ -10,10 +10,13 @@ mod mem_clock;
 mod mem_link;
 mod mem_sink;
 mod mem_source;
+mod mem_streams;
 mod outbox;
 mod script;
 mod sink;
 mod source;
+mod stream_script;
+mod streams;
 mod write_all;
 
 pub use clock::Clock;
@@ -23,8 +26,11 @@ pub use mem_clock::MemClock;
 pub use mem_link::MemLink;
 pub use mem_sink::MemSink;
 pub use mem_source::MemSource;
+pub use mem_streams::MemStreams;
 pub use outbox::LinkRoom;
 pub use script::LinkScript;
 pub use sink::{Sink, WriteFailed};
 pub use source::{ReadFailed, Source};
+pub use stream_script::{Coming, StreamScript};
+pub use streams::{Piece, Polled, STREAM_ROOM, StreamCall, StreamFailed, Streams, Write};
 pub use write_all::write_whole;

@@ -23,6 +23,8 @@ pub enum Received {
     Datagram(u32),
     /// Nothing was waiting.
     Quiet,
+    /// Something came that ends no datagram: bytes of a stream that are short of a message, or its end.
+    Part,
 }
 
 pub trait Link {

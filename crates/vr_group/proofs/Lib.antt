@@ -2,4 +2,5 @@ pub mod Numbering
 pub mod Acts
 pub mod Goings
 pub mod Steps
+pub mod Headline
 pub mod Tops

@@ -3,4 +3,5 @@ pub mod Outputs
 pub mod Hosts
 pub mod Group
 pub mod Lines
+pub mod Headline
 pub mod Views

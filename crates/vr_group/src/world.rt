@@ -1,9 +1,11 @@
 //! A group of members, and every message that they have sent.
-ghost use Rattle.std.specs.Prelude.{◌≡◌, ◌≤◌, ◌<◌, ◌++◌, true, false, IfOk, OnOk, OnErr, length};
+ghost use Rattle.std.specs.Prelude.{◌≡◌, ◌≤◌, ◌<◌, ◌^◌, ◌++◌, true, false, IfOk, OnOk, OnErr, length};
+ghost use Rattle.vr_header.specs.Bodies.{IsOperation};
 ghost use Rattle.vr_lines.specs.Fits.{IsLineOf};
 ghost use Rattle.vr_rules.specs.Lying.{hazards};
 ghost use Rattle.vr_rules.specs.World.{fresh_world, happen, happens, no_world};
 ghost use Rattle.vr_group.specs.Group.{HasHappened, world_of};
+ghost use Rattle.vr_group.specs.Headline.{HasAsked, HaveAsked, IsJustMade, LinesKeepOneLog};
 ghost use Rattle.vr_group.specs.Lines.{AreLinesOf, happening, happenings};
 ghost use Rattle.vr_group.specs.Outputs.{numbered};
 ghost use Rattle.vr_group.specs.Views.{top_view};
@@ -14,6 +16,7 @@ use crate::views::top_view;
 use std::alloc::Global;
 use std::marker::Model;
 use vr_base::{NoMemory, Seq};
+use vr_header::Operation;
 use vr_lines::Line;
 
 /// A group of members on disks that lie, and every message that they have sent. It stops where there is no memory for a line,
@@ -32,6 +35,33 @@ impl Model for World {
     ghost view = { λ w. record { world = world_of w.members; live = w.live } };
 }
 
+// The texts of an operation have the form that their types keep. Nothing is done.
+fn look_at_operation(operation: &Operation)
+    ensures { IsOperation operation.now }
+{
+    match operation {
+        Operation::Register => {}
+        Operation::Put(key, value) => {
+            key.as_slice();
+            value.as_slice();
+        }
+        Operation::Get(key) | Operation::Delete(key) => {
+            key.as_slice();
+        }
+    }
+}
+
+// A line's request can be asked, since its type keeps it so. Nothing is done.
+fn look_at(line: &Line)
+    ensures { HasAsked line.now }
+{
+    if let Line::Request { request, .. } = line {
+        let fields = request.fields();
+        let _numbers = (fields.cluster, fields.client, fields.request);
+        look_at_operation(&fields.operation);
+    }
+}
+
 // What happens at lines, one after the other.
 #[tactic(auto, using(crate::proofs::Goings::goings))]
 fn happen_all(
@@ -42,9 +72,11 @@ fn happen_all(
 ) -> Result<(), NoMemory>
     requires group { 0 < members.old.n }
     requires of { AreLinesOf members.old.n lines.now }
-    ensures { OnOk result (HasHappened (happen hazards (world_of members.old) (happenings lines.now)) (world_of members.old) (world_of members.new) to.old to.new) }
+    ensures happened { OnOk result (HasHappened (happen hazards (world_of members.old) (happenings lines.now)) (world_of members.old) (world_of members.new) to.old to.new) }
+    ensures asked { OnOk result (HaveAsked lines.now) }
 {
     for line in lines {
+        look_at(line);
         members.happen(alloc, line, to)?;
     }
     Ok(())
@@ -125,6 +157,7 @@ impl World {
     }
 
     /// What happens at lines of a group, one after the other. An `Err` stops the group.
+    #[tactic(auto, using(crate::proofs::Headline::just_made))]
     pub fn run(&mut self, alloc: Global, lines: &[Line]) -> Result<Outputs, NoMemory>
         requires live { self.old.live ≡ true }
         requires group { 0 < self.old.world.n }
@@ -133,6 +166,9 @@ impl World {
         ensures outputs { IfOk result (λ o. o ≡ numbered (length self.old.world.sent) (happen hazards self.old.world (happenings lines.now)).outputs) }
         ensures live { OnOk result (self.new.live ≡ true) }
         ensures stopped { OnErr result (self.new.live ≡ false) }
+
+        // Whatever happens to a group that was just made, there is one log.
+        ensures headline { OnOk result (IsJustMade self.old.world → length lines.now < 2 ^ 60 → LinesKeepOneLog self.old.world.n lines.now) }
     {
         self.live = false;
         let mut outputs = Seq::new(alloc);

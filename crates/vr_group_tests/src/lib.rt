@@ -1,7 +1,15 @@
-//! Tests of groups: the choice of a log, and worked schedules through the whole run.
+//! Tests of groups: the choice of a log, and worked schedules through the whole run and through a group alone.
 #![tactic(auto)]
 
 #[cfg(test)]
 mod choose;
 #[cfg(test)]
 mod replay;
+#[cfg(test)]
+mod running;
+#[cfg(test)]
+mod stops;
+#[cfg(test)]
+mod views;
+#[cfg(test)]
+mod world;

@@ -1,104 +1,9 @@
 //! Worked rows through the whole run, and what no clause says.
+use crate::running::{Ending, check, check_end, check_row, executed, ran, replayed, replayed_to};
 use std::alloc::{AllocError, Global};
 use std::process::Abort;
 use std::test::Fail;
-use vr_disk::NoDisk;
-use vr_edge::{LinkRoom, LinkScript, MemClock, MemLink, MemSink, MemSource};
-use vr_replay::run;
 use vr_status::{Status, code, status_line};
-
-/// How a run ends, and what it wrote.
-#[derive(Drop)]
-struct Ending {
-    end: Status,
-    text: Vec<u8>,
-}
-
-fn owned(alloc: Global, words: &[&str]) -> Result<Vec<String>, AllocError> {
-    let mut owned = Vec::new(alloc);
-    for word in words {
-        owned.push(String::from_str(alloc, word)?)?;
-    }
-    Ok(owned)
-}
-
-/// Runs over objects in memory.
-fn run_over(
-    alloc: Global,
-    words: &Vec<String>,
-    source: &mut MemSource,
-    sink: &mut MemSink,
-) -> Result<Status, AllocError> {
-    let no_room = LinkRoom {
-        datagrams: 0,
-        bytes: 0,
-    };
-    let mut link = MemLink::new(alloc, LinkScript::quiet(alloc), no_room)?;
-    let mut clock = MemClock::new(Vec::new(alloc));
-    let end = run(
-        alloc,
-        words,
-        source,
-        sink,
-        &mut NoDisk::new(),
-        &mut link,
-        &mut clock,
-    );
-    Ok(end)
-}
-
-/// Runs over a sink with so much room, whose writes of these numbers fail. Each function that drops objects is dear to
-/// prove, the more so the more often it can end early: so this one alone drops a sink, and `replayed` and `ran` a source.
-fn played(
-    alloc: Global,
-    words: &[&str],
-    source: &mut MemSource,
-    room: usize,
-    failing: &[u64],
-) -> Result<Ending, AllocError> {
-    let mut sink = MemSink::new(alloc, room, Vec::from_slice(alloc, failing)?)?;
-    written(alloc, words, source, &mut sink)
-}
-
-fn written(
-    alloc: Global,
-    words: &[&str],
-    source: &mut MemSource,
-    sink: &mut MemSink,
-) -> Result<Ending, AllocError> {
-    let words = owned(alloc, words)?;
-    let end = run_over(alloc, &words, source, sink)?;
-    let text = Vec::from_slice(alloc, sink.bytes())?;
-    Ok(Ending { end, text })
-}
-
-/// Runs on a schedule whose reads do not fail.
-fn ran(
-    alloc: Global,
-    words: &[&str],
-    schedule: &[u8],
-    room: usize,
-    failing: &[u64],
-) -> Result<Ending, AllocError> {
-    let mut source = MemSource::new(Vec::from_slice(alloc, schedule)?, Vec::new(alloc));
-    played(alloc, words, &mut source, room, failing)
-}
-
-/// Replays a schedule whose reads and writes do not fail.
-fn replayed(alloc: Global, schedule: &[u8]) -> Result<Ending, AllocError> {
-    ran(alloc, &["replay"], schedule, 65_536, &[])
-}
-
-/// Replays a schedule whose read of this number fails.
-fn replayed_to(alloc: Global, schedule: Vec<u8>, failing: u64) -> Result<Ending, AllocError> {
-    let mut source = MemSource::new(schedule, vec![in alloc; failing]?);
-    played(alloc, &["replay"], &mut source, 4096, &[])
-}
-
-fn check(rt: &impl Abort, played: Ending, end: Status, text: &str, row: &[u8]) {
-    assert_eq!(rt; played.end, end, "at {row:?}");
-    assert_eq!(rt; played.text.as_slice(), text.as_bytes(), "at {row:?}");
-}
 
 const REDIRECT: &str = "cluster 2\nrequest 1 7 0 register\n";
 
@@ -112,32 +17,6 @@ fn check_refused(rt: &impl Abort, alloc: Global, line: &[u8]) -> Result<(), Fail
     let played = replayed(alloc, &schedule)?;
     check(rt, played, Status::Refused(3), REDIRECTED, line);
     Ok(())
-}
-
-/// The lines that are two spaces in, without these, or else those that are not.
-fn lines_of(alloc: Global, row: &str, outputs: bool) -> Result<String, AllocError> {
-    let mut lines = String::new(alloc);
-    for line in row.lines() {
-        let output = line.strip_prefix("  ");
-        if output.is_some() == outputs {
-            lines.push_str(output.unwrap_or(line))?;
-            lines.push('\n')?;
-        }
-    }
-    Ok(lines)
-}
-
-fn check_outputs(rt: &impl Abort, alloc: Global, row: &str, outputs: &str) -> Result<(), Fail> {
-    let schedule = lines_of(alloc, row, false)?;
-    let played = replayed(alloc, schedule.as_bytes())?;
-    check(rt, played, Status::Done, outputs, row.as_bytes());
-    Ok(())
-}
-
-/// A replay, and the outputs of each line under it, two spaces in.
-fn check_row(rt: &impl Abort, alloc: Global, row: &str) -> Result<(), Fail> {
-    let outputs = lines_of(alloc, row, true)?;
-    check_outputs(rt, alloc, row, outputs.as_str())
 }
 
 #[test]
@@ -218,24 +97,6 @@ fn rows_put_out_what_is_stated(rt: HostRuntime) -> Result<(), Fail> {
     for row in rows {
         check_row(&rt, alloc, row)?;
     }
-    Ok(())
-}
-
-/// A request to replica 0 of a group of two, which makes entry `op`, and the two messages that commit it.
-fn executed(schedule: &mut String, op: u32, request: &str) -> Result<(), AllocError> {
-    let first = op.saturating_sub(1).saturating_mul(2);
-    let second = first.saturating_add(1);
-    write!(
-        schedule,
-        "request 0 {request}\ndeliver {first}\ndeliver {second}\n"
-    )
-}
-
-/// How the outputs of a schedule end.
-fn check_end(rt: &impl Abort, alloc: Global, schedule: &str, end: &str) -> Result<(), Fail> {
-    let played = replayed(alloc, schedule.as_bytes())?;
-    assert_eq!(rt; played.end, Status::Done);
-    assert!(rt; played.text.ends_with(end.as_bytes()));
     Ok(())
 }
 
@@ -365,7 +226,7 @@ fn faults_of_writes_are_told(rt: HostRuntime) -> Result<(), Fail> {
 #[test]
 fn faults_of_reads_are_told(rt: HostRuntime) -> Result<(), Fail> {
     let alloc = rt.alloc();
-    // A read gives 4096 bytes at most, so this schedule takes two.
+    // A read gives 1,136 bytes at most, so this schedule takes several.
     for (failing, text) in [(0, ""), (1, REDIRECTED)] {
         let played = replayed_to(alloc, long_schedule(alloc, 500)?, failing)?;
         check(&rt, played, Status::ReadFault, text, b"");

@@ -1,7 +1,8 @@
 -- What stands in the buffer of lines.
 use Rattle.std.proofs.Common.{◌≡◌, ◌<◌, ◌≤◌, ℕ, ◌+◌, ◌-◌, List, [], ◌∷◌, ◌++◌, length, take, drop, refl, ap, sym, ◌∙◌, arith, take-take}
 use Rattle.std.specs.List.{copy_within}
-use Rattle.std.proofs.lemmas.List.{drop-drop, drop-take, length-drop, length-take}
+use Rattle.std.proofs.Math.Seq.{take-append-add}
+use Rattle.std.proofs.lemmas.List.{drop-drop, drop-take, length-drop, length-take, length-take-le, take-append-le}
 use Rattle.std.proofs.lemmas.List.Edits.{take-paste}
 use Rattle.std.proofs.lemmas.Slice.{take-put_mid}
 use borrow.Rule.Slice.PartMut.{put_mid}
@@ -52,6 +53,24 @@ pushed buffer copied piece part start end count k h l same e p c =
     ∙ ap (λ xs. take held xs ++ part) e
     ∙ ap (λ xs. xs ++ part) (moved buffer start held (copy_within buffer start end 0) refl room)
     ∙ ap (λ xs. take held (drop start buffer) ++ xs) p
+
+-- how much stands
+pub length_held : (buffer : List ℕ) (start end : ℕ) → start ≤ end → end ≤ length buffer → length (between start end buffer) ≡ end - start
+length_held buffer start end h l = length-take-le (end - start) (drop start buffer) (omega (arith, length-drop start buffer))
+
+-- so many bytes of a piece behind what stands, which was moved to the front
+pub filled : (buffer copied piece : List ℕ) (start end count k : ℕ) → start ≤ end → end ≤ length buffer → length copied ≡ length buffer → copied ≡ copy_within buffer start end 0 → count ≤ length piece
+    → between 0 (end - start + count) (put_mid (end - start) k copied piece) ≡ between start end buffer ++ take count piece
+filled buffer copied piece start end count k h l same e few =
+    let held = end - start in
+    let room : held ≤ length (drop start buffer) = omega (arith, length-drop start buffer) in
+    let front : held ≡ length (take held copied) = sym (length-take-le held copied (omega (arith, same, h, l))) in
+    let whole : held + count - 0 ≡ length (take held copied) + count = omega (arith, front) in
+    ap (λ n. take n (put_mid held k copied piece)) whole
+    ∙ take-append-add (take held copied) _ count
+    ∙ ap (λ xs. take held copied ++ xs) (take-append-le count piece _ few)
+    ∙ ap (λ xs. take held xs ++ take count piece) e
+    ∙ ap (λ xs. xs ++ take count piece) (moved buffer start held (copy_within buffer start end 0) refl room)
 
 -- a place of what stands
 pub within : (buffer : List ℕ) (start end at : ℕ) → at < length (between start end buffer) → at < end - start

@@ -1,5 +1,6 @@
 -- What has come of a source, and the line that was given of it.
-use Rattle.std.specs.Prelude.{ℕ, ◌-◌, ◌≡◌, ◌<◌, ◌⊎◌, Bool, true, false, List, [], ◌∷◌, ◌++◌, length, take, drop}
+use Rattle.std.specs.Io.KnownBytes.{Consumes, IsAtEnd}
+use Rattle.std.specs.Prelude.{ℕ, ◌-◌, ◌≡◌, ◌≤◌, ◌<◌, ◌⊎◌, Bool, true, false, List, [], ◌∷◌, ◌++◌, Option, length, take, drop}
 use Rattle.vr_lines.specs.Cuts.{whole_lines}
 use Rattle.vr_lines.specs.declared.lines.Next.{Next}
 use Rattle.vr_lines.specs.declared.lines.Next.TheVariants as next
@@ -13,6 +14,15 @@ pub record Held : Type 0 where
 -- the bytes from one place on, up to another
 abbrev pub between : ℕ → ℕ → List ℕ → List ℕ
 between from to buffer = take (to - from) (drop from buffer)
+
+-- so many bytes of a source came behind what stood, none only at its end; with them there is no more than the longest line with its end
+pub record Fills (left left' : Option (List ℕ)) (old new : List ℕ) (count : ℕ) : Type 0 where
+  pub piece : List ℕ
+  pub size : length piece ≡ count
+  pub consumed : Consumes left left' piece
+  pub behind : new ≡ old ++ piece
+  pub fits : length new ≤ 1136
+  pub end : count ≡ 0 → IsAtEnd left'
 
 -- a line that has ended, or at the end of the source what has not
 abbrev pub IsGiven : Bool → List ℕ → Held → Type 0

@@ -1,10 +1,13 @@
 //! Where lines end in the pieces of a source.
-ghost use Rattle.std.specs.Prelude.{◌≡◌, ◌<◌, ◌-◌, ◌++◌, [], None, IfSome, length, min, take};
+ghost use Rattle.std.specs.Prelude.{◌≡◌, ◌<◌, ◌-◌, ◌++◌, [], None, IfOk, IfSome, OnErr, length, min, take};
+ghost use Rattle.std.specs.Io.KnownBytes.{Keeps};
+ghost use Rattle.vr_base.specs.Causes.{HasCause};
 ghost use Rattle.vr_lines.specs.Cuts.{whole_lines, IsEnd};
-ghost use Rattle.vr_lines.specs.Held.{Gives};
+ghost use Rattle.vr_lines.specs.Held.{Fills, Gives};
 
 use memchr::memchr;
 use std::marker::Model;
+use vr_edge::{ReadFailed, Source};
 
 /// The longest line, with its end.
 const ROOM: usize = 1136;
@@ -85,6 +88,23 @@ impl Lines {
         self.start = 0;
         self.end = held + count;
         count
+    }
+
+    /// Reads more of a source behind what wasn't given yet, as much as there is room for, and returns how many bytes. The line that was
+    /// given last is lent no more.
+    pub fn fill<S: Source>(&mut self, source: &mut S) -> Result<usize, ReadFailed>
+        requires { length self.old.bytes < 1136 }
+        ensures filled { IfOk result (λ count. Fills (S.left source.old) (S.left source.new) self.old.bytes self.new.bytes count) }
+        ensures kept { OnErr result ((self.new.bytes ≡ self.old.bytes) × Keeps (S.left source.old) (S.left source.new)) }
+        ensures cause { HasCause (S.faults source.old) (S.faults source.new) result }
+    {
+        let held = self.end - self.start;
+        self.buffer.copy_within(self.start..self.end, 0);
+        self.start = 0;
+        self.end = held;
+        let count = source.read(&mut self.buffer[held..])?;
+        self.end = held + count;
+        Ok(count)
     }
 
     /// What comes next; `ended` says that the source is at its end.

@@ -48,9 +48,9 @@ goes_more a b c h k =
     }
 
 -- one op more is applied
-record Next (r q : Replica) : Type 0 where
-  goes : Goes r q
-  up : q.applied ≡ r.applied + 1
+pub record Next (r q : Replica) : Type 0 where
+  pub goes : Goes r q
+  pub up : q.applied ≡ r.applied + 1
 
 -- all that may be is applied, and it stops only before an op that isn't here
 pub record Climbs (r q : Replica) : Type 0 where
@@ -100,7 +100,7 @@ module _ {F : Type 0} (s : Setting F) where
     up = refl;
   }
 
-  entry_next : (e : Whole) (r : Replica) (f : F) → r.applied < r.commit → Next r (apply_entry e s r f).replica
+  pub entry_next : (e : Whole) (r : Replica) (f : F) → r.applied < r.commit → Next r (apply_entry e s r f).replica
   unfolding apply_entry says change by ◌⨾◌
   entry_next e r f l = applied_next e r _ (is_checkpoint (r.applied + 1)) l
 
@@ -113,7 +113,7 @@ module _ {F : Type 0} (s : Setting F) where
   when_true true w r f e = refl
   when_true false w r f e = absurd cc
 
-  entry_still : (w : Whole → Word F) (p : Part) (r : Replica) (f : F) → is_here p ≡ false → (with_entry w p s r f).replica ≡ r
+  pub entry_still : (w : Whole → Word F) (p : Part) (r : Replica) (f : F) → is_here p ≡ false → (with_entry w p s r f).replica ≡ r
   unfolding quiet
   entry_still w (Here h) r f e = absurd cc
   entry_still w (Lost h) r f e = refl
@@ -135,7 +135,7 @@ module _ {F : Type 0} (s : Setting F) where
   entry_read w p h e r f is reads =
       ap (λ (x : Part). with_entry w x s r f) is ∙ ap (λ (o : Option Whole). or_lost h w o s r f) reads
 
-  next_entry : (r : Replica) (f : F) (h : Header) (e : Whole) → r.missing ≡ [] → r.applied < r.commit → part_at r (r.applied + 1) ≡ Here h → entry_of h s f ≡ Some e → apply_next s r f ≡ apply_entry e s r f
+  pub next_entry : (r : Replica) (f : F) (h : Header) (e : Whole) → r.missing ≡ [] → r.applied < r.commit → part_at r (r.applied + 1) ≡ Here h → entry_of h s f ≡ Some e → apply_next s r f ≡ apply_entry e s r f
   unfolding apply_next with_entry_at by
   next_entry r f h e none l is reads =
       when_true (is_loaded r && nat_lt r.applied r.commit) _ r f (both_true (eq-eqb (length r.missing) 0 (ap length none)) (lt-ltb r.applied r.commit l))

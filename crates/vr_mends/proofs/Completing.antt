@@ -1,5 +1,5 @@
 -- One copy after the other: what is committed gets here, up to the commit number, and is applied.
-use Rattle.std.proofs.Common.{arith, ℕ, zero, suc, ◌+◌, ◌-◌, ◌≡◌, ◌≢◌, ◌≤◌, ◌<◌, ◌⊎◌, ◌∙◌, inl, inr, refl, sym, ap, subst, Bool, true, false, cond, List, [], ◌∷◌, map}
+use Rattle.std.proofs.Common.{arith, ℕ, zero, suc, ◌+◌, ◌-◌, ◌≡◌, ◌≢◌, ◌≤◌, ◌<◌, ◌∙◌, inl, inr, refl, sym, ap, subst, Bool, true, false, cond, List, ◌∷◌, map}
 use Rattle.std.specs.List.{range_with_len}
 use Rattle.std.specs.Prelude.{filter}
 use Rattle.std.proofs.lemmas.Bool.{cases_eq, cases_lt, true≢false}
@@ -16,6 +16,7 @@ use Rattle.vr_rules.specs.Sectors.{sectors}
 use Rattle.vr_rules.specs.Steps.{Setting, Step, after_all}
 use Rattle.vr_rules.proofs.Heads.{head_knows}
 use Rattle.vr_rules.proofs.Keeping.{spans_of}
+use Rattle.vr_mends.specs.CaughtUp.{IsCaughtUp}
 use Rattle.vr_mends.specs.Completing.{CopiesComplete, IsCopy, LacksEntries, absent_ops, after_copies}
 use Rattle.vr_mends.proofs.Disks.{IsLong, Stores, lying_stores, sectors_store}
 use Rattle.vr_mends.proofs.Taking.{Taken, copy_comes}
@@ -141,23 +142,22 @@ module _ {F : Type 0} (s : Setting F) (Fine : F → Type 0) (store : Stores s Fi
   wanting k = is_absent (part_at old k)
 
   -- the copies of the next n ops
-  complete : (n lo : ℕ) (r : Replica) (f : F) → lo + n ≡ old.commit → Stands lo r f → Stops r ⊎ (filter wanting (range_with_len (lo + 1) n) ≢ [])
+  complete : (n lo : ℕ) (r : Replica) (f : F) → lo + n ≡ old.commit → Stands lo r f → Stops r
       → old.commit ≤ (after_copies s (map copy (filter wanting (range_with_len (lo + 1) n))) r f).applied
   unfolding after_copies
-  complete zero lo r f m h (inl stops) = let at : lo ≡ old.commit = omega (arith, m) in ends r f (subst (λ i. Stands i r f) at h) stops
-  complete zero lo r f m h (inr some) = absurd (some refl)
-  complete (suc n) lo r f m h either =
+  complete zero lo r f m h stops = let at : lo ≡ old.commit = omega (arith, m) in ends r f (subst (λ i. Stands i r f) at h) stops
+  complete (suc n) lo r f m h stops =
       let rest : List ℕ = filter wanting (range_with_len (lo + 1 + 1) n) in
       let within : lo + 1 ≤ old.commit = omega (arith, m) in
-      let go : (b : Bool) → wanting (lo + 1) ≡ b → Stops r ⊎ (cond b ((lo + 1) ∷ rest) rest ≢ []) → old.commit ≤ (after_copies s (map copy (cond b ((lo + 1) ∷ rest) rest)) r f).applied = elim [
-        | true ↦ λ absent e.
+      let go : (b : Bool) → wanting (lo + 1) ≡ b → old.commit ≤ (after_copies s (map copy (cond b ((lo + 1) ∷ rest) rest)) r f).applied = elim [
+        | true ↦ λ absent.
             let x = given (lo + 1) r f in
             let g = after_all s f x.script in
             let t = next_taken lo r f h within absent in
-            complete n (lo + 1) x.replica g (omega (arith, m)) (goes_on lo r x.replica f g h t) (inl (stops_there (lo + 1) r x.replica g h.commit t))
-        | false ↦ λ present e. complete n (lo + 1) r f (omega (arith, m)) (goes_by lo r f h present) e
+            complete n (lo + 1) x.replica g (omega (arith, m)) (goes_on lo r x.replica f g h t) (stops_there (lo + 1) r x.replica g h.commit t)
+        | false ↦ λ present. complete n (lo + 1) r f (omega (arith, m)) (goes_by lo r f h present) stops
       ] in
-      go (wanting (lo + 1)) refl either
+      go (wanting (lo + 1)) refl
 
   begins : (f : F) → LacksEntries s old f → Fine f → Stands old.applied old f
   begins f lacks fine = record {
@@ -173,14 +173,14 @@ module _ {F : Type 0} (s : Setting F) (Fine : F → Type 0) (store : Stores s Fi
     behind = λ k a b c. a;
   }
 
-  pub completed : (f : F) → LacksEntries s old f → Fine f → absent_ops old ≢ [] → old.commit ≤ (after_copies s (map copy (absent_ops old)) old f).applied
+  pub completed : (f : F) → LacksEntries s old f → Fine f → IsCaughtUp old → old.commit ≤ (after_copies s (map copy (absent_ops old)) old f).applied
   unfolding absent_ops
-  completed f lacks fine some =
+  completed f lacks fine up =
       let order = lacks.sound.order.commit in
-      complete (old.commit - old.applied) old.applied old f (omega (arith, order)) (begins f lacks fine) (inr some)
+      complete (old.commit - old.applied) old.applied old f (omega (arith, order)) (begins f lacks fine) (λ l. up.next lacks.loaded l)
 
 pub sectors_complete : CopiesComplete sectors (λ f. f)
-sectors_complete r f copy face lacks some copies = completed sectors IsLong sectors_store r copy copies f lacks face.count some
+sectors_complete r f copy face lacks up copies = completed sectors IsLong sectors_store r copy copies f lacks face.count up
 
 pub lying_complete : CopiesComplete lying (λ d. d.face)
-lying_complete r d copy face lacks some copies = completed lying (λ (x : Lying). IsLong x.face) lying_stores r copy copies d lacks face.count some
+lying_complete r d copy face lacks up copies = completed lying (λ (x : Lying). IsLong x.face) lying_stores r copy copies d lacks face.count up

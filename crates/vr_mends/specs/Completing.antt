@@ -14,6 +14,7 @@ use Rattle.vr_rules.specs.Rules.{react}
 use Rattle.vr_rules.specs.Sound.{IsSound}
 use Rattle.vr_rules.specs.Steps.{Setting, after_all}
 use Rattle.vr_rules.specs.Words.{entry_of}
+use Rattle.vr_mends.specs.CaughtUp.{IsCaughtUp}
 
 -- the ops that are committed and not applied, whose entry is known and not here, in order
 unfoldable pub absent_ops : Replica → List ℕ
@@ -45,10 +46,9 @@ pub record LacksEntries {F : Type 0} (s : Setting F) (r : Replica) (f : F) : Typ
   pub views : r.view ≤ last_view
   pub room : r.saved.fields.sequence + (r.commit - r.applied) ≤ 2 ^ 64 - 256
 
--- On sectors of the program: where a copy comes of each op that it lacks, and it lacks one at least, it has then applied all that
--- was committed.
+-- On sectors of the program: where a copy comes of each op that it lacks, it has then applied all that was committed.
 abbrev pub CopiesComplete : {F : Type 0} → Setting F → (F → Face) → Type 0
 CopiesComplete s face =
-    (r : Replica) (f : _) (copy : ℕ → GivePrepare) → IsFace (face f) → LacksEntries s r f → absent_ops r ≢ []
+    (r : Replica) (f : _) (copy : ℕ → GivePrepare) → IsFace (face f) → LacksEntries s r f → IsCaughtUp r
     → ((k : ℕ) → r.applied < k → k ≤ r.commit → is_absent (part_at r k) ≡ true → IsCopy r k (copy k))
     → r.commit ≤ (after_copies s (map copy (absent_ops r)) r f).applied

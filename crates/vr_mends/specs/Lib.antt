@@ -1,1 +1,3 @@
+pub mod CaughtUp
 pub mod Completing
+pub mod Groups

@@ -1,3 +1,4 @@
 pub mod Closing
 pub mod Known
+pub mod Places
 pub mod Traces

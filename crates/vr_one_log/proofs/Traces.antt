@@ -1,6 +1,6 @@
 -- What a run that is safe says of outputs that are its own but for some lines aside.
 use Rattle.std.proofs.Common.{ℕ, ◌-◌, ◌<◌, ◌≤◌, ◌≡◌, ◌∙◌, inl, inr, arith, refl, sym, ap, subst, List, [], ◌∷◌, Some}
-use Rattle.std.specs.Prelude.{All, Contains, slice_get}
+use Rattle.std.specs.Prelude.{All, Contains, slice_get, take}
 use Rattle.std.proofs.lemmas.List.Elements.{All-nil, All-cons, All-contains, All-weaker}
 use Rattle.vr_header.specs.declared.header.Header.{Header}
 use Rattle.vr_header.specs.Made.{Whole}
@@ -8,14 +8,18 @@ use Rattle.vr_header.specs.Names.{root_header}
 use Rattle.vr_header.specs.NoCollision.{NoCollision}
 use Rattle.vr_header.specs.Spelling.{IsHeader}
 use Rattle.vr_msg.specs.declared.frame.Frame.{Frame}
+use Rattle.vr_msg.specs.declared.frame.Frame.TheVariants as frame
+use Rattle.vr_msg.specs.declared.output.Chosen.{Chosen}
 use Rattle.vr_msg.specs.declared.output.Committed.{Committed}
 use Rattle.vr_msg.specs.declared.output.Output.{Output}
 use Rattle.vr_msg.specs.declared.output.Output.TheVariants as output
+use Rattle.vr_msg.specs.declared.output.Sent.{Sent}
+use Rattle.vr_apply.proofs.Once.{each_once}
 use Rattle.vr_rules.specs.Commitment as said
-use Rattle.vr_rules.specs.Commitment.{HasSent, IsCommitted, Vouches}
+use Rattle.vr_rules.specs.Commitment.{AreCommitted, HasSent, IsBackedMessage, IsCommitted, IsLine, Vouches}
 use Rattle.vr_rules.specs.Group.{Played, fresh_group}
 use Rattle.vr_rules.specs.Lying.{Lying}
-use Rattle.vr_rules.specs.Safe.{IsHashed, Safe, run_outputs}
+use Rattle.vr_rules.specs.Safe.{IsHashed, IsOutput, KeepsEntry, Safe, before, run_outputs}
 use Rattle.vr_rules.specs.World.{Happened}
 use Rattle.vr_protocol.specs.Basics.{In}
 use Rattle.vr_worlds.specs.Worlds.{IsAside, IsMatched, Said}
@@ -24,6 +28,8 @@ use Rattle.vr_agree.specs.Followed.{IsFitRun}
 use Rattle.vr_agree.proofs.Sets.{get_in, in_get, in_left, in_right}
 use Rattle.vr_agree.proofs.Traces.{in_either, output_of_move}
 use Rattle.vr_one_log.specs.Laws.{KeepsOneLog}
+use Rattle.vr_one_log.specs.Outputs.{IsCutByNacks, IsOnceInSession, RestsOn}
+use Rattle.vr_one_log.proofs.Places.{in_said, matches, placed}
 
 all_in : {X : Type 0} (xs : List X) → All (λ x. In x xs) xs
 all_in [] = All-nil (λ x. In x [])
@@ -44,22 +50,54 @@ said_in _ _ (worlds.both os ws gs rest) o not i =
 said_in _ _ (worlds.aside a ws gs is rest) o not (inl same) = absurd (not (subst IsAside (sym same) is))
 said_in _ _ (worlds.aside a ws gs is rest) o not (inr later) = said_in ws gs rest o not later
 
-module _ (ws gs : List Output) (all : Said ws gs) where
-  sent_said : (r : ℕ) (m : Frame) → HasSent ws r m → HasSent gs r m
+-- what these send, those send too
+abbrev SendNoMore : List Output → List Output → Type 0
+SendNoMore xs ys = (s : Sent) → In (output.Send s) xs → In (output.Send s) ys
+
+to_run : (ws gs : List Output) → Said ws gs → SendNoMore ws gs
+to_run ws gs all s i = said_in ws gs all (output.Send s) (λ a. a) i
+
+from_run : (ws gs : List Output) → Said ws gs → SendNoMore gs ws
+from_run ws gs all s i = in_said ws gs all (output.Send s) i
+
+module _ (xs ys : List Output) (all : SendNoMore xs ys) where
+  sent_said : (r : ℕ) (m : Frame) → HasSent xs r m → HasSent ys r m
   sent_said r m h =
-      let i = said_in ws gs all (output.Send (record { from = r; to = h.to; message = m })) (λ a. a) (get_in ws h.at _ h.is) in
-      let g = in_get gs (output.Send (record { from = r; to = h.to; message = m })) i in
+      let g = in_get ys (output.Send (record { from = r; to = h.to; message = m })) (all (record { from = r; to = h.to; message = m }) (get_in xs h.at _ h.is)) in
       record { at = g.0; to = h.to; is = g.1 }
 
-  vouch_said : (n view r : ℕ) (c : Header) → Vouches n ws view r c → Vouches n gs view r c
+  vouch_said : (n view r : ℕ) (c : Header) → Vouches n xs view r c → Vouches n ys view r c
   vouch_said n view r c (said.acknowledged a s v k e) = said.acknowledged a (sent_said r _ s) v k e
   vouch_said n view r c (said.prepared p s l v e) = said.prepared p (sent_said r _ s) l v e
 
-  committed_said : (cluster n view : ℕ) (c : Header) → IsCommitted cluster n ws view c → IsCommitted cluster n gs view c
+  committed_said : (cluster n view : ℕ) (c : Header) → IsCommitted cluster n xs view c → IsCommitted cluster n ys view c
   committed_said cluster n _ _ said.root = said.root
   committed_said cluster n _ _ (said.stands_on earlier view d c prior le stands quorum) =
       said.stands_on earlier view d c (committed_said cluster n earlier d prior) le stands
       (record { voters = quorum.voters; enough = quorum.enough; each = λ r h. let y = quorum.each r h in (y.0, vouch_said n view r c y.1) })
+
+  numbers_said : (n : ℕ) (log : List Whole) (last commit : ℕ) → AreCommitted 0 n xs log last commit → AreCommitted 0 n ys log last commit
+  numbers_said n log last commit h op above upto =
+      let e = h op above upto in
+      record { entry = e.entry; at = e.at; number = e.number; view = e.view; early = e.early; committed = committed_said 0 n e.view e.entry.header e.committed }
+
+  message_said : (n : ℕ) (log : List Whole) (m : Frame) → IsBackedMessage 0 n xs log m → IsBackedMessage 0 n ys log m
+  message_said n log (frame.Request q) h = tt
+  message_said n log (frame.Reply r) h = tt
+  message_said n log (frame.Prepare p) h = numbers_said n log p.view p.commit h
+  message_said n log (frame.PrepareOk p) h = tt
+  message_said n log (frame.Commit c) h = numbers_said n log c.view c.commit h
+  message_said n log (frame.StartViewChange s) h = tt
+  message_said n log (frame.DoViewChange d) h = tt
+  message_said n log (frame.StartView v) h = numbers_said n log v.view v.commit h
+  message_said n log (frame.GetView g) h = tt
+  message_said n log (frame.GetPrepare g) h = tt
+  message_said n log (frame.GivePrepare g) h = tt
+  message_said n log (frame.GetBlock g) h = tt
+  message_said n log (frame.GiveBlock g) h = tt
+
+  line_said : (n : ℕ) (log : List Whole) (c : Committed) → IsLine 0 n xs log c → IsLine 0 n ys log c
+  line_said n log c h = record { at = h.at; number = h.number; view = h.view; committed = committed_said 0 n h.view c.entry.header h.committed }
 
 -- ---- a safe run
 
@@ -84,17 +122,88 @@ module _ (cluster n : ℕ) (run : List Played) (safe : Safe cluster n run) where
       let one : a.0 ≡ b.0 = cc in
       sym a.2 ∙ (ap (λ (e : Whole). e.header) one ∙ b.2)
 
+module _ (n : ℕ) (run : List Played) (safe : Safe 0 n run) where
+  -- what an output of the run at a move rests on, where these were put out before it
+  rests : NoCollision (IsHashed run (root_header 0)) → (front : List Output) (move number : ℕ) (p : Played) (o : Output) → SendNoMore (before run move number p) front → IsOutput run move number p o
+      → RestsOn n safe.log run front o
+  rests never front move number p (output.Send s) all is = message_said (before run move number p) front all n safe.log s.message (safe.backed move number p (output.Send s) never is)
+  rests never front move number p (output.Commit c) all is = line_said (before run move number p) front all n safe.log c (safe.backed move number p (output.Commit c) never is)
+  rests never front move number p (output.Reply a) all is =
+      let so = safe.backed move number p (output.Reply a) never is in
+      record { move = move; number = number; moved = p; is = is; so = so; committed = numbers_said (before run move number p) front all n safe.log a.view _ so.applied }
+  rests never front move number p (output.Choose l) all is = tt
+  rests never front move number p (output.Wait w) all is = tt
+  rests never front move number p (output.Start s) all is = tt
+  rests never front move number p (output.Halted replica) all is = tt
+  rests never front move number p output.Done all is = tt
+  rests never front move number p output.KeptOut all is = tt
+
+  kept_in : (view : ℕ) (c : Header) → IsHeader c → NoCollision (IsHashed run c) → 0 < c.op → IsCommitted 0 n (run_outputs run) view c → (o : Output) → In o (run_outputs run) → KeepsEntry view c o
+  kept_in view c form never above is o i =
+      let m = output_of_move run o i in
+      let k = in_get m.1.moved.outputs o m.3 in
+      safe.kept view c form never above is m.0 k.0 m.1 o (record { at = m.2; is = k.1 })
+
+  cut_in : NoCollision (IsHashed run (root_header 0)) → (outputs : List Output) → SendNoMore outputs (run_outputs run) → (l : Chosen) → In (output.Choose l) (run_outputs run) → IsCutByNacks n outputs l
+  cut_in never outputs all l i =
+      let m = output_of_move run (output.Choose l) i in
+      let k = in_get m.1.moved.outputs (output.Choose l) m.3 in
+      let j = safe.backed m.0 k.0 m.1 (output.Choose l) never (record { at = m.2; is = k.1 }) in
+      record { deniers = j.deniers; enough = j.enough; silent = λ i c h op v. (j.each i h).silent c op (vouch_said outputs (run_outputs run) all n l.log_view i c v) }
+
 -- ---- what happened
 
-pub keeps : (n : ℕ) → 2 ≤ n → n ≤ 6 → ((run : List Played) → IsFitRun 0 n run → Safe 0 n run) → (h : Happened Lying) → IsMatched (fresh_group 0 n) h → KeepsOneLog n h
-keeps n few many safe h m =
+-- lines of stops and faults say nothing of an entry
+kept_aside : (view : ℕ) (c : Header) (o : Output) → ((IsAside o → ⊥) → KeepsEntry view c o) → KeepsEntry view c o
+kept_aside view c (output.Send s) h = h (λ a. a)
+kept_aside view c (output.Choose l) h = h (λ a. a)
+kept_aside view c (output.Commit l) h = tt
+kept_aside view c (output.Reply a) h = tt
+kept_aside view c (output.Wait w) h = tt
+kept_aside view c (output.Start s) h = tt
+kept_aside view c (output.Halted replica) h = tt
+kept_aside view c output.Done h = tt
+kept_aside view c output.KeptOut h = tt
+
+rests_aside : (n : ℕ) (log : List Whole) (run : List Played) (front : List Output) (o : Output) → ((IsAside o → ⊥) → RestsOn n log run front o) → RestsOn n log run front o
+rests_aside n log run front (output.Send s) h = h (λ a. a)
+rests_aside n log run front (output.Choose l) h = tt
+rests_aside n log run front (output.Commit l) h = h (λ a. a)
+rests_aside n log run front (output.Reply a) h = h (λ a. a)
+rests_aside n log run front (output.Wait w) h = tt
+rests_aside n log run front (output.Start s) h = tt
+rests_aside n log run front (output.Halted replica) h = tt
+rests_aside n log run front output.Done h = tt
+rests_aside n log run front output.KeptOut h = tt
+
+rests_at : (n : ℕ) (run : List Played) (safe : Safe 0 n run) (ws : List Output) → Said ws (run_outputs run) → NoCollision (IsHashed run (root_header 0)) → (number : ℕ) (o : Output) → slice_get ws number ≡ Some o
+    → (IsAside o → ⊥) → RestsOn n safe.log run (take number ws) o
+rests_at n run safe ws all never number o e not =
+    let m = matches ws (run_outputs run) all number o e not in
+    let p = placed run m.at o m.is in
+    let front : SendNoMore (before run p.move p.number p.moved) (take number ws) = rw p.same (from_run (take number ws) (take m.at (run_outputs run)) m.said) in
+    rests n run safe never (take number ws) p.move p.number p.moved o front p.is
+
+once : (log : List Whole) → IsOnceInSession log
+once log before between later d e is client request first second = each_once before between d e client request first second
+
+pub keeps : (n : ℕ) → 2 ≤ n → n ≤ 6 → ((run : List Played) → IsFitRun 0 n run → Safe 0 n run) → (h : Happened Lying) (m : IsMatched (fresh_group 0 n) h) → NoCollision (IsHashed m.run (root_header 0))
+    → KeepsOneLog n h
+keeps n few many safe h m never =
     let fit : IsFitRun 0 n m.run = record { number = omega arith; few = few; many = many; moves = m.reads; of_run = m.is } in
     let s = safe m.run fit in
     let gs = run_outputs m.run in
+    let all = to_run h.outputs gs m.said in
     record {
       matched = m;
       safe = s;
-      lines = λ never c d i j same. one_line 0 n m.run s never c d (said_in h.outputs gs m.said (output.Commit c) (λ a. a) (contains_in h.outputs (output.Commit c) i))
+      names = never;
+      rests = λ number o e. rests_aside n s.log m.run (take number h.outputs) o (rests_at n m.run s h.outputs m.said never number o e);
+      lines = λ c d i j same. one_line 0 n m.run s never c d (said_in h.outputs gs m.said (output.Commit c) (λ a. a) (contains_in h.outputs (output.Commit c) i))
           (said_in h.outputs gs m.said (output.Commit d) (λ a. a) (contains_in h.outputs (output.Commit d) j)) same;
-      one = λ v w c d fc fd nc nd above same kc kd. one_entry 0 n m.run s v w c d fc fd nc nd above same (committed_said h.outputs gs m.said 0 n v c kc) (committed_said h.outputs gs m.said 0 n w d kd);
+      logged = λ v c fc nc above kc. s.one v c fc nc above (committed_said h.outputs gs all 0 n v c kc);
+      one = λ v w c d fc fd nc nd above same kc kd. one_entry 0 n m.run s v w c d fc fd nc nd above same (committed_said h.outputs gs all 0 n v c kc) (committed_said h.outputs gs all 0 n w d kd);
+      kept = λ v c fc nc above kc o i. kept_aside v c o (λ not. kept_in n m.run s v c fc nc above (committed_said h.outputs gs all 0 n v c kc) o (said_in h.outputs gs m.said o not (contains_in h.outputs o i)));
+      cut = λ l i. cut_in n m.run s never h.outputs all l (said_in h.outputs gs m.said (output.Choose l) (λ a. a) (contains_in h.outputs (output.Choose l) i));
+      once = once s.log;
     }

@@ -1,23 +1,26 @@
 -- One log: of every run of a group that was just made, and of every schedule of a group on disks that lie.
-use Rattle.std.specs.Prelude.{ℕ, ◌-◌, ◌<◌, ◌≤◌, ◌≡◌, ◌⊎◌, List, ◌∷◌, Contains, slice_get, Some}
+use Rattle.std.specs.Prelude.{ℕ, ◌-◌, ◌^◌, ◌<◌, ◌≤◌, ◌≡◌, ◌⊎◌, List, ◌∷◌, length, Contains, slice_get, take, Some}
 use Rattle.vr_header.specs.declared.header.Header.{Header}
 use Rattle.vr_header.specs.Bodies.{operation_bytes}
 use Rattle.vr_header.specs.Made.{Whole}
 use Rattle.vr_header.specs.Names.{root_header}
 use Rattle.vr_header.specs.NoCollision.{NoCollision}
 use Rattle.vr_header.specs.Spelling.{IsHeader}
+use Rattle.vr_msg.specs.declared.output.Chosen.{Chosen}
 use Rattle.vr_msg.specs.declared.output.Committed.{Committed}
+use Rattle.vr_msg.specs.declared.output.Output.{Output}
 use Rattle.vr_msg.specs.declared.output.Output.TheVariants as output
 use Rattle.vr_rules.specs.Commitment.{IsCommitted}
 use Rattle.vr_rings.specs.Slots.{IsWhole}
 use Rattle.vr_rules.specs.Group.{Member, Played, Runs, fresh_group}
 use Rattle.vr_rules.specs.Lying.{Lying, hazards}
 use Rattle.vr_rules.specs.Replica.{Replica, header_at}
-use Rattle.vr_rules.specs.Safe.{IsHashed, Safe}
+use Rattle.vr_rules.specs.Safe.{IsHashed, KeepsEntry, Safe}
 use Rattle.vr_rules.specs.World.{Happened, Happening, Begins, fresh_world, happen, no_world}
 use Rattle.vr_worlds.specs.Worlds.{IsMatched}
 use Rattle.vr_unforged.specs.Schedules.{MayAll}
 use Rattle.vr_agree.specs.Followed.{IsFitRun}
+use Rattle.vr_one_log.specs.Outputs.{IsCutByNacks, IsOnceInSession, RestsOn}
 
 -- 2 to 6 replicas, whatever is delivered, stopped, cut, started and read, where what moves read has the forms of the program
 abbrev pub RunsAreSafe : Type 0
@@ -43,16 +46,29 @@ pub record HasOneLog (cluster n : ℕ) (run : List Played) : Type 0 where
 abbrev pub ReplicasHaveOneLog : Type 0
 ReplicasHaveOneLog = (cluster n : ℕ) (run : List Played) → IsFitRun cluster n run → HasOneLog cluster n run
 
--- What happened is a safe run of the group. So, where names of what was read and written don't collide, two commit lines of one number are of
--- one entry, and two entries that its messages commit at one number are one.
+-- What happened is a safe run of the group. So its outputs, in the order in which they were put out, are of that run's log. What is said
+-- of an entry of any header is so where that header's name isn't another text's.
 pub record KeepsOneLog (n : ℕ) (h : Happened Lying) : Type 0 where
   pub matched : IsMatched (fresh_group 0 n) h
   pub safe : Safe 0 n matched.run
-  pub lines : NoCollision (IsHashed matched.run (root_header 0)) → (c d : Committed) → Contains h.outputs (output.Commit c) → Contains h.outputs (output.Commit d)
+  -- names of what the run read and wrote don't collide
+  pub names : NoCollision (IsHashed matched.run (root_header 0))
+  -- commit lines, the commit numbers of messages, and replies rest on the log, and on what was put out before them
+  pub rests : (number : ℕ) (o : Output) → slice_get h.outputs number ≡ Some o → RestsOn n safe.log matched.run (take number h.outputs) o
+  -- two commit lines of one number are of one entry
+  pub lines : (c d : Committed) → Contains h.outputs (output.Commit c) → Contains h.outputs (output.Commit d)
       → c.entry.header.op ≡ d.entry.header.op → c.entry ≡ d.entry
+  -- an entry that is committed is the log's at its number; so two entries that are committed at one number are one
+  pub logged : (view : ℕ) (c : Header) → IsHeader c → NoCollision (IsHashed matched.run c) → 0 < c.op → IsCommitted 0 n h.outputs view c → (e : Whole) × (slice_get safe.log (c.op - 1) ≡ Some e) × (e.header ≡ c)
   pub one : (v w : ℕ) (c d : Header) → IsHeader c → IsHeader d → NoCollision (IsHashed matched.run c) → NoCollision (IsHashed matched.run d) → 0 < c.op → c.op ≡ d.op
       → IsCommitted 0 n h.outputs v c → IsCommitted 0 n h.outputs w d → c ≡ d
+  -- and keeps its number in every later view: what is prepared, chosen and taken over there has it
+  pub kept : (view : ℕ) (c : Header) → IsHeader c → NoCollision (IsHashed matched.run c) → 0 < c.op → IsCommitted 0 n h.outputs view c → (o : Output) → Contains h.outputs o → KeepsEntry view c o
+  -- only a nack quorum shortens a log
+  pub cut : (l : Chosen) → Contains h.outputs (output.Choose l) → IsCutByNacks n h.outputs l
+  -- in one session no number is executed twice over the log
+  pub once : IsOnceInSession safe.log
 
--- of each list of lines that may happen to a group that was just made
+-- of each list of fewer than 2^60 lines that may happen to a group that was just made
 abbrev pub SchedulesKeepOneLog : Type 0
-SchedulesKeepOneLog = (n : ℕ) (xs : List Happening) → 2 ≤ n → n ≤ 6 → MayAll (fresh_world hazards n) xs → KeepsOneLog n (happen hazards no_world (Begins n ∷ xs))
+SchedulesKeepOneLog = (n : ℕ) (xs : List Happening) → 2 ≤ n → n ≤ 6 → length xs < 2 ^ 60 → MayAll (fresh_world hazards n) xs → KeepsOneLog n (happen hazards no_world (Begins n ∷ xs))

@@ -99,12 +99,6 @@ pub soaks : (w : SoakWords) (o o' : Outside) (b n : Faults) (s : Status)
     → SoakEnds b.sink n.sink o.sink o'.sink (soak_text w.seed w.count) s → record o' { sink = o.sink } ≡ o → Comes (Some (Soak w)) o o' b n (Some s)
 soaks w o o' b n s e k = (s, refl, record { ends = e; others = k })
 
-pub soaks_one_log : (asked : Option Asked) → HasOneLog asked
-soaks_one_log None = tt
-soaks_one_log (Some Replay) = tt
-soaks_one_log (Some (Soak w)) = headline w.seed w.count
-soaks_one_log (Some (Node a)) = tt
-soaks_one_log (Some (Client a)) = tt
 
 -- ---- the words
 

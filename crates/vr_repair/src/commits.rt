@@ -1,20 +1,31 @@
 //! Commit numbers rise.
-ghost use Rattle.std.specs.Prelude.{◌<◌, ◌+◌, ◌^◌, OnOk};
-ghost use Rattle.vr_repair.specs.Waits.{EndsAtOnce, Waits};
+ghost use Rattle.std.specs.Prelude.{◌≡◌, ◌<◌, ◌+◌, ◌^◌, OnOk};
+ghost use Rattle.vr_repair.specs.Waits.{EndsAtOnce, Waits, applies_next};
 ghost use Rattle.vr_journal.specs.Ready.{IsReady};
 ghost use Rattle.vr_rules.specs.Words.{advance};
 ghost use Rattle.vr_step.specs.Does.{Caused, Does};
 
 use std::alloc::Global;
 use vr_disk::SectorDisk;
-use vr_journal::Replica;
+use vr_journal::{Replica, is_here};
 use vr_msg::Outbox;
 use vr_step::Halt;
 
+// Whether there is an op to apply, and its entry is here.
+#[tactic(auto, using(vr_journal::proofs::Memory::next_fits))]
+fn applies_next(replica: &Replica) -> bool
+    requires { IsReady replica.now }
+    ensures { result ≡ applies_next replica.now }
+{
+    replica.is_loaded()
+        && replica.applied() < replica.commit()
+        && is_here(&replica.part_at(replica.applied() + 1))
+}
+
 /// The commit number rises, up to the head, over each op that a replication quorum has acknowledged, the replica itself counted where the
-/// entry is stored; then what is committed is applied. Where the next op hasn't its quorum and all that is committed is applied, it makes
-/// no call of the disk and takes no memory.
-#[tactic(auto, using(vr_step::proofs::Stepping::steps, vr_journal::proofs::Memory::window_of, vr_journal::proofs::Repairs::ready_advanced, crate::proofs::Advancing::all_applied, crate::proofs::Advancing::none_risen), unfolding(vr_rules::specs::Words::advance))]
+/// entry is stored; then what is committed is applied. Where the next op hasn't its quorum, and all that can be is applied, it makes no
+/// call of the disk and takes no memory.
+#[tactic(auto, using(vr_step::proofs::Stepping::steps, vr_journal::proofs::Memory::window_of, vr_journal::proofs::Repairs::ready_advanced, crate::proofs::Advancing::none_applied, crate::proofs::Advancing::none_next), unfolding(vr_rules::specs::Words::advance))]
 pub fn advance<D: SectorDisk>(
     replica: &mut Replica,
     alloc: Global,
@@ -29,8 +40,9 @@ pub fn advance<D: SectorDisk>(
     ensures step { Does advance replica.old replica.new (D.told disk.old) (D.told disk.new) out.old out.new result }
 {
     replica.advance_commit();
-    if replica.applied() == replica.commit() {
-        return Ok(());
+    if applies_next(replica) {
+        replica.apply(alloc, disk, out)
+    } else {
+        Ok(())
     }
-    replica.apply(alloc, disk, out)
 }

@@ -6,4 +6,6 @@ pub mod Heard
 pub mod Plays
 pub mod Streams
 pub mod Whole
+pub mod Asked
+pub mod Few
 pub mod Headline

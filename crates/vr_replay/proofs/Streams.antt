@@ -1,5 +1,5 @@
 -- What has come of the source, line by line.
-use Rattle.std.proofs.Common.{◌≡◌, ◌<◌, ◌≤◌, ℕ, ◌+◌, List, [], ◌∷◌, ◌++◌, length, take, drop, Bool, true, false, cond, eqb, ltb, inl, inr, refl, ap, sym, subst, ◌∙◌, arith, append_assoc, length-append, take-append-drop, Option, Some, None}
+use Rattle.std.proofs.Common.{◌≡◌, ◌<◌, ◌≤◌, ℕ, ◌+◌, List, [], ◌∷◌, ◌++◌, length, true, false, eqb, inl, inr, refl, ap, sym, ◌∙◌, arith, append_assoc, length-append, Option, Some, None}
 use Rattle.std.specs.Io.KnownBytes.{Appends}
 use Rattle.std.proofs.lemmas.List.{append-nil}
 use Rattle.std.proofs.lemmas.Bool.{lt-ltb}
@@ -10,7 +10,7 @@ use Rattle.vr_edge.proofs.Told.{appends_nil, appends_trans}
 use Rattle.vr_lines.specs.Cuts.{Cut, cut, whole_lines}
 use Rattle.vr_lines.specs.Grammar.{longest}
 use Rattle.vr_lines.specs.Held.{Held, IsGiven}
-use Rattle.vr_lines.proofs.Cutting.{Begins, cut_line, cut_part, cut_prefixed, last_append, last_part, prefixed}
+use Rattle.vr_lines.proofs.Cutting.{Begins, cut_line, cut_part}
 use Rattle.vr_group.specs.declared.outputs.Numbered.{Numbered}
 use Rattle.vr_rules.specs.Lying.{Lying}
 use Rattle.vr_rules.specs.World.{World}
@@ -21,7 +21,7 @@ use Rattle.vr_replay.specs.Playing.{Played, judged, taken, behind, and_then, pla
 use Rattle.vr_replay.specs.Schedule.{limit}
 use Rattle.vr_replay.specs.Stops.{Stopped}
 use Rattle.vr_replay.specs.Text.{text_of}
-use Rattle.vr_replay.proofs.Heard.{heard_append, heard_line, heard_part}
+use Rattle.vr_replay.proofs.Heard.{heard_line, heard_part}
 use Rattle.vr_replay.proofs.Outputs.{text_append, text_none}
 use Rattle.vr_replay.proofs.Plays.{behind_behind, plays_append, plays_line, plays_none, and_then_refused, and_then_none, Extends, extends_refl, and_then_extends, too_long}
 
@@ -80,38 +80,6 @@ is_long bytes h = rw (lt-ltb longest (length bytes) h) refl
 
 pub not_long : (bytes : List ℕ) → length bytes ≤ longest → if_too_long bytes ≡ []
 not_long bytes h = grind (arith, nat_tests)
-
-begins_by : (p : List ℕ) (lines : List (List ℕ)) (last : List ℕ) → longest < length p → Begins p ((prefixed p lines last).lines ++ if_too_long (prefixed p lines last).last)
-unfolding prefixed
-begins_by p [] last long =
-    let longer : longest < length (p ++ last) = grind (arith, length-append p last) in
-    rw (is_long (p ++ last) longer) (record { rest = last; later = []; is = refl })
-begins_by p (line ∷ lines) last long = record { rest = line; later = lines ++ if_too_long last; is = refl }
-
-begins_heard : (p ys : List ℕ) → longest < length p → whole_lines p ≡ [] → Begins p (heard (p ++ ys))
-unfolding heard
-begins_heard p ys long h =
-    let P : Cut → Type 0 = λ c. Begins p (c.lines ++ if_too_long c.last) in
-    subst P (sym (cut_prefixed p ys h)) (begins_by p (cut ys).lines (cut ys).last long)
-
-follows_part : (w : World Lying) (number : ℕ) (p rest : List ℕ) → whole_lines p ≡ [] → Follows (plays w number (if_too_long p)) (plays w number (heard (p ++ rest)))
-follows_part w number p rest part =
-    let cases : (b : Bool) → ltb longest (length p) ≡ b → Follows (plays w number (cond b (p ∷ []) [])) (plays w number (heard (p ++ rest))) =
-    elim [
-      | true ↦ λ e. let long : longest < length p = grind (arith, nat_tests) in follows_long w number p (heard (p ++ rest)) long (begins_heard p rest long part)
-      | false ↦ λ e. follows_none w number (heard (p ++ rest))
-    ] in
-    cases (ltb longest (length p)) refl
-
-heard_both : (bytes : List ℕ) → heard bytes ≡ whole_lines bytes ++ if_too_long (cut bytes).last
-unfolding heard
-heard_both bytes = refl
-
--- bytes, and more bytes behind them
-follows_more : (w : World Lying) (number : ℕ) (bytes rest : List ℕ) → Follows (plays w number (heard bytes)) (plays w number (heard (bytes ++ rest)))
-follows_more w number bytes rest =
-    rw (heard_both bytes, heard_append bytes rest)
-    (follows_lines w number (whole_lines bytes) (if_too_long (cut bytes).last) (heard ((cut bytes).last ++ rest)) (λ u k. follows_part u k (cut bytes).last rest (last_part bytes)))
 
 -- ---- a stop behind other lines, and before others
 
@@ -220,73 +188,50 @@ taking_refused before now first s a b m part long =
 
 -- ---- a piece of the source
 
--- in the midst of it: the rest is still to be heard
-pub record InPiece (first now : Replay) (piece rest : List ℕ) (taken_first taken_now : Option (List ℕ)) : Type 0 where
-  pub outputs : List Numbered
-  pub played : hears first piece ≡ behind outputs (hears now rest)
-  pub last : (cut (first.lines.bytes ++ piece)).last ≡ (cut (now.lines.bytes ++ rest)).last
-  pub text : Appends taken_first taken_now (text_of outputs)
-
-pub piece_start : (s : Replay) (piece : List ℕ) (t : Option (List ℕ)) → InPiece s s piece piece t t
-piece_start s piece t = record { outputs = []; played = refl; last = refl; text = rw text_none (appends_nil t) }
-
--- so many bytes of it stand behind what stood, in s'
-split_at : (bytes rest : List ℕ) (count : ℕ) → bytes ++ rest ≡ (bytes ++ take count rest) ++ drop count rest
-split_at bytes rest count = ap (λ x. bytes ++ x) (sym (take-append-drop count rest)) ∙ sym (append_assoc bytes (take count rest) (drop count rest))
-
 pub heard_short : (bytes : List ℕ) → length (cut bytes).last ≤ longest → whole_lines bytes ≡ heard bytes
 unfolding heard
 heard_short bytes h = sym (append-nil (whole_lines bytes)) ∙ ap (λ x. whole_lines bytes ++ x) (sym (not_long (cut bytes).last h))
 
--- lines that were heard, and what stands behind them
-hears_behind : (s s' : Replay) (all rest : List ℕ) (a b : Option (List ℕ)) → HearsAll s s' all a b → plays s.group.world s.number (heard (all ++ rest)) ≡ behind (plays s.group.world s.number (heard all)).outputs (hears s' rest)
-hears_behind s s' all rest a b h =
-    let w = s.group.world in
-    let short : length (cut all).last ≤ longest = rw (← h.partial) h.sound.short in
-    let p = plays w s.number (heard all) in
-    let same = heard_short all short in
-    let lines : heard (all ++ rest) ≡ heard all ++ heard (s'.lines.bytes ++ rest) = heard_append all rest ∙ ap (λ x. x ++ heard ((cut all).last ++ rest)) same ∙ ap (λ l. heard all ++ heard (l ++ rest)) (sym h.partial) in
-    ap (plays w s.number) lines
-    ∙ plays_append w s.number (heard all) (heard (s'.lines.bytes ++ rest))
-    ∙ and_then_none p _ p.refused h.accepted
-    ∙ ap (λ u. behind p.outputs (plays u p.number (heard (s'.lines.bytes ++ rest)))) (sym h.world)
-    ∙ ap (λ k. behind p.outputs (plays s'.group.world k (heard (s'.lines.bytes ++ rest)))) (sym h.number)
+-- a piece of the source behind what stood
+pub record Filled (s joined : Replay) (piece : List ℕ) : Type 0 where
+  pub group : joined.group ≡ s.group
+  pub number : joined.number ≡ s.number
+  pub behind : joined.lines.bytes ≡ s.lines.bytes ++ piece
 
-pub piece_more : (first s pushed s' : Replay) (piece rest : List ℕ) (count : ℕ) (t0 t t' : Option (List ℕ)) → InPiece first s piece rest t0 t → pushed.group ≡ s.group → pushed.number ≡ s.number → pushed.lines.bytes ≡ s.lines.bytes ++ take count rest → HearsAll pushed s' pushed.lines.bytes t t' → InPiece first s' piece (drop count rest) t0 t'
-piece_more first s pushed s' piece rest count t0 t t' m group number bytes h =
-    let later = drop count rest in
-    let here = pushed.lines.bytes in
-    let split : s.lines.bytes ++ rest ≡ here ++ later = split_at s.lines.bytes rest count ∙ ap (λ x. x ++ later) (sym bytes) in
-    let same : hears s rest ≡ plays pushed.group.world pushed.number (heard (here ++ later)) = ap (λ x. plays s.group.world s.number (heard x)) split ∙ ap (λ g. plays g.world s.number (heard (here ++ later))) (sym group) ∙ ap (λ k. plays pushed.group.world k (heard (here ++ later))) (sym number) in
-    let p = hears_lines pushed in
+pub filled_lines : (s joined : Replay) (piece : List ℕ) → Filled s joined piece → hears_lines joined ≡ hears s piece
+filled_lines s joined piece f =
+    ap (λ g. plays g.world joined.number (heard joined.lines.bytes)) f.group
+    ∙ ap (λ k. plays s.group.world k (heard joined.lines.bytes)) f.number
+    ∙ ap (λ x. plays s.group.world s.number (heard x)) f.behind
+
+pub filled_heard : (s joined s' : Replay) (piece : List ℕ) (a b : Option (List ℕ)) → Filled s joined piece → HearsAll joined s' joined.lines.bytes a b → Hears s s' piece a b
+filled_heard s joined s' piece a b f h =
+    let same = filled_lines s joined piece f in
     record {
-      outputs = m.outputs ++ p.outputs;
-      played = m.played ∙ ap (behind m.outputs) (same ∙ hears_behind pushed s' here later t t' h) ∙ behind_behind m.outputs p.outputs (hears s' later);
-      last = m.last ∙ ap (λ x. (cut x).last) split ∙ last_append here later ∙ ap (λ l. (cut (l ++ later)).last) (sym h.partial);
-      text = rw (text_append m.outputs p.outputs) (appends_trans t0 t t' _ _ m.text h.text);
+      world = h.world ∙ ap (λ (p : Played). p.world) same;
+      number = h.number ∙ ap (λ (p : Played). p.number) same;
+      accepted = sym (ap (λ (p : Played). p.refused) same) ∙ h.accepted;
+      partial = h.partial ∙ ap (λ x. (cut x).last) f.behind;
+      sound = h.sound;
+      text = rw (← same) h.text;
     }
 
-pub piece_stopped : (before after now : ℕ) (a b c : Option (List ℕ)) (first s pushed : Replay) (piece rest : List ℕ) (count : ℕ) (why : Stop) → before ≤ after → InPiece first s piece rest a b → pushed.group ≡ s.group → pushed.number ≡ s.number → pushed.lines.bytes ≡ s.lines.bytes ++ take count rest → Stopped after now b c (hears_lines pushed) why → Stopped before now a c (hears first piece) why
-piece_stopped before after now a b c first s pushed piece rest count why le m group number bytes h =
-    let later = drop count rest in
-    let here = pushed.lines.bytes in
-    let split : s.lines.bytes ++ rest ≡ here ++ later = split_at s.lines.bytes rest count ∙ ap (λ x. x ++ later) (sym bytes) in
-    let same : hears s rest ≡ plays pushed.group.world pushed.number (heard (here ++ later)) = ap (λ x. plays s.group.world s.number (heard x)) split ∙ ap (λ g. plays g.world s.number (heard (here ++ later))) (sym group) ∙ ap (λ k. plays pushed.group.world k (heard (here ++ later))) (sym number) in
-    stopped_within before after now a b c m.outputs (hears_lines pushed) _ (hears first piece) why le
-    (m.played ∙ ap (behind m.outputs) same) (follows_more pushed.group.world pushed.number here later) m.text h
-
-pub piece_done : (first s : Replay) (piece rest : List ℕ) (a b : Option (List ℕ)) → IsReplay s → InPiece first s piece rest a b → rest ≡ [] → Hears first s piece a b
-piece_done first s piece rest a b sound m none =
-    let bytes : s.lines.bytes ++ rest ≡ s.lines.bytes = ap (λ x. s.lines.bytes ++ x) none ∙ append-nil s.lines.bytes in
-    let all = m.played ∙ ap (behind m.outputs) (ap (λ x. plays s.group.world s.number (heard x)) bytes ∙ none_heard s.group.world s.number s.lines.bytes sound.part sound.short) in
+-- nothing came behind what stood
+pub filled_none : (s joined : Replay) → IsReplay s → Filled s joined [] → IsReplay joined
+filled_none s joined sound f =
+    let bytes : joined.lines.bytes ≡ s.lines.bytes = f.behind ∙ append-nil s.lines.bytes in
     record {
-      world = sym (ap (λ (p : Played). p.world) all);
-      number = sym (ap (λ (p : Played). p.number) all);
-      accepted = ap (λ (p : Played). p.refused) all;
-      partial = sym (m.last ∙ ap (λ x. (cut x).last) bytes ∙ ap (λ (c : Cut). c.last) (cut_part s.lines.bytes sound.part));
-      sound = sound;
-      text = rw (ap (λ (p : Played). text_of p.outputs) all, append-nil m.outputs) m.text;
+      live = rw f.group sound.live;
+      part = rw bytes sound.part;
+      short = rw bytes sound.short;
+      few = rw f.number sound.few;
     }
+
+pub filled_ends : (s joined : Replay) → Filled s joined [] → ends joined ≡ ends s
+unfolding ends
+filled_ends s joined f =
+    let bytes : joined.lines.bytes ≡ s.lines.bytes = f.behind ∙ append-nil s.lines.bytes in
+    rw (f.group, f.number, bytes) refl
 
 -- ---- the end of the source
 
@@ -309,7 +254,3 @@ last_taken s new sound (inr h) = ends_taken s h.1 ∙ ap (taken s.group.world s.
 pub given_line : (old : List ℕ) (new : Held) → IsGiven false old new → (whole_lines new.line ≡ []) × (old ≡ new.line ++ 10 ∷ new.bytes)
 given_line old new (inl h) = h
 given_line old new (inr h) = let z = h.0 in absurd (cc)
-
-pub no_bytes : (xs : List ℕ) → length xs ≡ 0 → xs ≡ []
-no_bytes [] h = refl
-no_bytes (x ∷ xs) h = absurd (omega (arith, h))

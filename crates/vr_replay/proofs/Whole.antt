@@ -152,7 +152,7 @@ accepted_so_far lo l to t s m sound =
     ∙ ap (λ x. (plays no_world 0 x).refused) (sym (heard_short m.read short))
     ∙ ap (λ (p : Played). p.refused) m.played
 
-whole_stopped : (s0 s1 k0 k1 : ℕ) (lo ln to tn : Option (List ℕ)) (read piece : List ℕ) → s1 ≡ s0 → (so_far (heard read)).refused ≡ None → length piece ≤ 4096 → Consumes lo ln (read ++ piece) → (why : Stop) → Stopped k0 k1 to tn (plays no_world 0 (heard (read ++ piece))) why → Ends s0 s1 k0 k1 lo ln to tn (status_of why)
+whole_stopped : (s0 s1 k0 k1 : ℕ) (lo ln to tn : Option (List ℕ)) (read piece : List ℕ) → s1 ≡ s0 → (so_far (heard read)).refused ≡ None → length ((cut read).last ++ piece) ≤ 1136 → Consumes lo ln (read ++ piece) → (why : Stop) → Stopped k0 k1 to tn (plays no_world 0 (heard (read ++ piece))) why → Ends s0 s1 k0 k1 lo ln to tn (status_of why)
 whole_stopped s0 s1 k0 k1 lo ln to tn read piece counts accepted size all (stop.Refused line) h = (
   counts,
   record {
@@ -168,11 +168,12 @@ whole_stopped s0 s1 k0 k1 lo ln to tn read piece counts accepted size all (stop.
 whole_stopped s0 s1 k0 k1 lo ln to tn read piece counts accepted size all stop.WriteFault h = (counts, h.0, partial_front lo ln to tn (read ++ piece) all h.1)
 whole_stopped s0 s1 k0 k1 lo ln to tn read piece counts accepted size all stop.NoMemory h = (counts, partial_front lo ln to tn (read ++ piece) all h)
 
-pub stopped_in_piece : (s0 s1 k0 k k1 : ℕ) (lo l ln to t tn : Option (List ℕ)) (s : Replay) (piece : List ℕ) → Midst lo l to t s → IsReplay s → s1 ≡ s0 → Consumes l ln piece → length piece ≤ 4096 → k0 ≤ k → (why : Stop) → Stopped k k1 t tn (hears s piece) why → Ends s0 s1 k0 k1 lo ln to tn (status_of why)
+pub stopped_in_piece : (s0 s1 k0 k k1 : ℕ) (lo l ln to t tn : Option (List ℕ)) (s : Replay) (piece : List ℕ) → Midst lo l to t s → IsReplay s → s1 ≡ s0 → Consumes l ln piece → length (s.lines.bytes ++ piece) ≤ 1136 → k0 ≤ k → (why : Stop) → Stopped k k1 t tn (hears s piece) why → Ends s0 s1 k0 k1 lo ln to tn (status_of why)
 stopped_in_piece s0 s1 k0 k k1 lo l ln to t tn s piece m sound counts more size le why h =
     let texts = heard_append m.read piece ∙ ap (λ p. whole_lines m.read ++ heard (p ++ piece)) (sym m.partial) in
     let all = ap (plays no_world 0) texts ∙ plays_on lo l to t s m (heard (s.lines.bytes ++ piece)) in
-    whole_stopped s0 s1 k0 k1 lo ln to tn m.read piece counts (accepted_so_far lo l to t s m sound) size (consumes_trans lo l ln m.read piece m.consumed more) why
+    let fits = rw m.partial at size in
+    whole_stopped s0 s1 k0 k1 lo ln to tn m.read piece counts (accepted_so_far lo l to t s m sound) fits (consumes_trans lo l ln m.read piece m.consumed more) why
     (stopped_within k0 k k1 to t tn m.outputs (hears s piece) (hears s piece) _ why le all (follows_refl (hears s piece)) m.text h)
 
 -- a read that failed
@@ -290,7 +291,7 @@ stopped_at_end s0 s1 k0 k k1 lo l ln to t tn s m sound counts last e le (stop.Re
         read = m.read;
         piece = [];
         consumed = joined;
-        size = omega arith;
+        size = rw (append-nil (cut m.read).last, ← m.partial) (let short = sound.short in omega arith);
         accepted = accepted_so_far lo l to t s m sound;
         line = consumes_whole lo ln m.read (λ bytes. refused_in bytes ≡ Some line) all e (whole.refused ∙ h.0);
         text = consumes_whole lo ln m.read (λ bytes. Appends to tn (text_for bytes)) all e (rw whole.text (appends_trans to t tn _ _ m.text h.1));

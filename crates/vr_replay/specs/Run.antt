@@ -1,5 +1,5 @@
 -- What a run with the command `replay` comes to.
-use Rattle.std.specs.Prelude.{ℕ, ◌≡◌, ◌≤◌, ◌++◌, ◌⊎◌, length, List, [], ◌∷◌, Bool, false, codes, String, string_bytes, Option, Some, None, IfSome}
+use Rattle.std.specs.Prelude.{ℕ, ◌+◌, ◌≡◌, ◌≤◌, ◌++◌, ◌⊎◌, length, List, [], ◌∷◌, Bool, false, codes, String, string_bytes, Option, Some, None, IfSome}
 use Rattle.std.specs.Global.{Global}
 use Rattle.std.specs.Str.{bytes_eq}
 use Rattle.std.specs.Io.KnownBytes.{Appends, Consumes, IsAtEnd}
@@ -7,7 +7,8 @@ use Rattle.vr_base.specs.Causes.{Rose, one_more}
 use Rattle.vr_edge.specs.Told.{AppendsFront}
 use Rattle.vr_status.specs.declared.status.Status.{Status}
 use Rattle.vr_status.specs.declared.status.Status.TheVariants as status
-use Rattle.vr_lines.specs.Cuts.{whole_lines}
+use Rattle.vr_lines.specs.Cuts.{cut, whole_lines}
+use Rattle.vr_lines.specs.Grammar.{longest}
 use Rattle.vr_replay.specs.Playing.{heard}
 use Rattle.vr_replay.specs.Schedule.{schedule_of, so_far, put_out}
 use Rattle.vr_replay.specs.Text.{text_of}
@@ -31,12 +32,13 @@ pub record IsDone (left_old left_new taken_old taken_new : Option (List ℕ)) : 
   pub text : IfSome left_old (λ bytes. Appends taken_old taken_new (text_for bytes))
 
 -- Line k is the first that is refused, and the sink grew by the text of those before it. Nothing was read behind the piece in
--- which the line is refused: at its end, as soon as it is too long, or at the end of the source.
+-- which the line is refused: at its end, as soon as it is too long, or at the end of the source. With what stood of a line before
+-- it, that is no more than the longest line with its end.
 pub record IsRefused (k : ℕ) (left_old left_new taken_old taken_new : Option (List ℕ)) : Type 0 where
   pub read : List ℕ
   pub piece : List ℕ
   pub consumed : Consumes left_old left_new (read ++ piece)
-  pub size : length piece ≤ 4096
+  pub size : length ((cut read).last ++ piece) ≤ longest + 1
   pub accepted : (so_far (heard read)).refused ≡ None
   pub line : IfSome left_old (λ bytes. refused_in bytes ≡ Some k)
   pub text : IfSome left_old (λ bytes. Appends taken_old taken_new (text_for bytes))

@@ -16,9 +16,8 @@ fn read_schedule<S: Source, K: Sink>(alloc: Global, source: &mut S, sink: &mut K
     ensures { Ends (S.faults source.old) (S.faults source.new) (K.faults sink.old) (K.faults sink.new) (S.left source.old) (S.left source.new) (K.taken sink.old) (K.taken sink.new) result }
 {
     let mut replay = Replay::new(alloc);
-    let mut buffer = [0u8; 4096];
     for _ in 0..u64::MAX {
-        let Ok(count) = source.read(&mut buffer) else {
+        let Ok(count) = replay.lines.fill(source) else {
             return Status::ReadFault;
         };
         if count == 0 {
@@ -27,7 +26,7 @@ fn read_schedule<S: Source, K: Sink>(alloc: Global, source: &mut S, sink: &mut K
             }
             return Status::Done;
         }
-        if let Err(stop) = replay.take_piece(alloc, sink, &buffer[..count]) {
+        if let Err(stop) = replay.take_lines(alloc, sink) {
             return stop.status();
         }
     }

@@ -88,17 +88,8 @@ fn judge(alloc: Global, n: u8, number: u32, text: &[u8]) -> Result<Line, Stop>
     }
 }
 
-/// What stands behind so many bytes.
-fn behind(bytes: &[u8], count: usize) -> &[u8]
-    requires { count ≤ length bytes.now }
-    ensures { result.now ≡ drop count bytes.now }
-{
-    let (_, rest) = bytes.split_at(count);
-    rest
-}
-
 impl Replay {
-    ghost use Rattle.vr_replay.specs.Playing.{IsReplay, Hears, HearsAll, Hears, taken, hears, hears_lines, ends};
+    ghost use Rattle.vr_replay.specs.Playing.{IsReplay, HearsAll, taken, hears_lines, ends};
     ghost use Rattle.vr_replay.specs.Stops.{Stopped};
     ghost use Rattle.vr_rules.specs.World.{no_world};
 
@@ -128,7 +119,7 @@ impl Replay {
     }
 
     /// Takes the lines that have ended, and writes their outputs.
-    fn take_lines<K: Sink>(&mut self, alloc: Global, sink: &mut K) -> Result<(), Stop>
+    pub fn take_lines<K: Sink>(&mut self, alloc: Global, sink: &mut K) -> Result<(), Stop>
         requires live { self.old.group.live ≡ true }
         requires few { self.old.number ≤ 1000000 }
 
@@ -145,29 +136,6 @@ impl Replay {
                 Next::More => return Ok(()),
             }
         }
-    }
-
-    /// Takes a piece of the source, and writes the outputs of the lines that end in it.
-    pub fn take_piece<K: Sink>(
-        &mut self,
-        alloc: Global,
-        sink: &mut K,
-        piece: &[u8],
-    ) -> Result<(), Stop>
-        requires { IsReplay self.old }
-
-        ensures heard { OnOk result (Hears self.old self.new piece.now (K.taken sink.old) (K.taken sink.new)) }
-
-        ensures later { K.faults sink.old ≤ K.faults sink.new }
-        ensures stopped { IfErr result (Stopped (K.faults sink.old) (K.faults sink.new) (K.taken sink.old) (K.taken sink.new) (hears self.old piece.now)) }
-    {
-        let mut rest = piece;
-        while !rest.is_empty() {
-            let count = self.lines.push(rest);
-            self.take_lines(alloc, sink)?;
-            rest = behind(rest, count);
-        }
-        Ok(())
     }
 
     /// A replay of which nothing has come.

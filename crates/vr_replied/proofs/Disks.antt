@@ -111,7 +111,7 @@ put_other f a c block other =
     ∙ together_same 8 (block_place c) f g (λ k l m. ap (λ (x : Cell). x.reads) (frame_all (block_calls a block) f k (within_spares (block_place a) (block_place a + 8) (block_calls a block) k (block_within a block) (apart k l m)))))
 
 -- the bytes that read under a name
-named_bytes_at : (f : Face) (name : Name) (c : Content) → named_at f name ≡ Some c → (b : List ℕ) × (name.address < 128) × (block_reading f name.address ≡ Some b) × (named name b ≡ Some c)
+pub named_bytes_at : (f : Face) (name : Name) (c : Content) → named_at f name ≡ Some c → (b : List ℕ) × (name.address < 128) × (block_reading f name.address ≡ Some b) × (named name b ≡ Some c)
 unfolding named_at
 named_bytes_at f name c e = by_test (ltb name.address 128) refl e
   where

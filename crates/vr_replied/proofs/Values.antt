@@ -45,7 +45,7 @@ AreSettled log m = (k : ℕ) → k < m → IsSettled log k
 abbrev pub state_at : List Whole → ℕ → State
 state_at log m = state_after (take m log)
 
-state_is : (log : List Whole) (m : ℕ) → AreSettled log m → IsState (state_at log m)
+pub state_is : (log : List Whole) (m : ℕ) → AreSettled log m → IsState (state_at log m)
 state_is log zero h = state_empty
 state_is log (suc m) h =
     let e = h m (omega arith) in
@@ -102,6 +102,7 @@ first_table cluster log = refl
 -- what a checkpoint is made of is the log's
 pub record IsMade (cluster : ℕ) (log : List Whole) (by : ℕ) (texts : Texts) (op : ℕ) (old : PayloadTable) : Type 0 where
   pub own : by ≡ cluster
+  pub settled : AreSettled log op
   pub state : texts ≡ texts_of (state_at log op)
   pub before : old ≡ table_before cluster log op
 

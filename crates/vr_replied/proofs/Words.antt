@@ -181,7 +181,7 @@ module _ (H : List ℕ → Type 0) (never : NoCollision H) (cluster : ℕ) (log 
   checkpoint_at_well r d none due h =
       let c : checkpoint.SavedCheckpoint = lying.save_state r.cluster (texts_of r.state) r.applied r.table in
       let Q : Core → Lying → Type 0 = λ k e. Begun H (checkpoints r) in
-      then_at H cluster log Q S (does checkpoints) (change (with_checkpoint c) ⨾ save) r d (effect_at Q checkpoints r d refl (record { own = h.rests.own; state = ap texts_of (h.state none); before = h.table none }) (λ may. may)) (λ begun.
+      then_at H cluster log Q S (does checkpoints) (change (with_checkpoint c) ⨾ save) r d (effect_at Q checkpoints r d refl (record { own = h.rests.own; settled = h.rests.settled; state = ap texts_of (h.state none); before = h.table none }) (λ may. may)) (λ begun.
       then_at H cluster log S S (change (with_checkpoint c)) save r (lying.after d (checkpoints r)) (changed_at S (with_checkpoint c) r (lying.after d (checkpoints r)) (checkpoint_place c r).0 (checkpoint_place c r).1 (checkpoint_stands r none due h begun)) (λ p. go_save.every (with_checkpoint c r) _ p))
 
   -- ---- an entry is applied

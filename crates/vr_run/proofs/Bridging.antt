@@ -92,9 +92,10 @@ pub record Begun (u : Setup) (s : Group Header) (at : ℕ) (es : List Effect) (b
   pub members : (j : ℕ) → b.members j ≡ s.members j
   pub kept : (x : Made Header) → In x s.made → In x b.made
   pub made : (x : Made Header) → In x b.made → In x s.made ⊎ ((at ≡ x.view % u.quorums.n) × In x.entry (made_in es))
+  pub few : length b.made ≤ length s.made + 1
 
 begun_same : (u : Setup) (s : Group Header) (at : ℕ) (es : List Effect) → Begun u s at es s
-begun_same u s at es = record { sent = refl; chosen = refl; members = λ j. refl; kept = λ x h. h; made = λ x h. inl h }
+begun_same u s at es = record { sent = refl; chosen = refl; members = λ j. refl; kept = λ x h. h; made = λ x h. inl h; few = omega arith }
 
 first_made : (again : Bool) (e : Whole) (later : List Effect) (x : Header) → x ≡ e.header → In x (made_in (Write again e ∷ later))
 unfolding made_in
@@ -111,6 +112,7 @@ begun_of u s at es _ (one_made again e later is first new) = record {
     | inr old ↦ inl old
     | inl one ↦ inr (first ∙ ap (λ v. v % u.quorums.n) (sym (ap (λ (z : Made Header). z.view) one)), subst (λ ys. In x.entry (made_in ys)) (sym is) (first_made again e later x.entry (ap (λ (z : Made Header). z.entry) one)))
   ];
+  few = omega arith;
 }
 
 take_first : (k : ℕ) (again : Bool) (e : Whole) (later : List Effect) → take (k + 1) (Write again e ∷ later) ≡ Write again e ∷ take k later
@@ -180,6 +182,9 @@ module _ (u : Setup) (g : group.Group) (s : Group Header) (bridge : Bridges u g 
 
 -- ---- to the end, and stopped
 
+few_made : (s b a : Group Header) → length b.made ≤ length s.made + 1 → a.made ≡ b.made → length a.made ≤ length s.made + 1
+few_made s b a l same = subst (λ (xs : List (Made Header)). length xs ≤ length s.made + 1) (sym same) l
+
 module _ (u : Setup) (g : group.Group) (s : Group Header) (bridge : Bridges u g s) (fit : IsFitGroup u.cluster g) (at : ℕ) (es : List Effect) (b : Group Header) (begun : Begun u s at es b) where
   ends_chained : (move : Move) (q : Replica) (m : group.Member) (l : Local) (a : Group Header) (x : Finished u b at q l a) → l.member ≡ m → l.made ≡ made_in es → l.said ≡ outputs es → HasTables u a at q
       → ChoosesWell g move a.chosen (outputs es) → Chained u s a (record { before = g; move = move; moved = with_script g at (record m { replica = Some q }) es (outputs es) })
@@ -201,6 +206,7 @@ module _ (u : Setup) (g : group.Group) (s : Group Header) (bridge : Bridges u g 
         told = told;
         only = λ y h. elim (x.only y h) [ inl old ↦ inl (subst (In y) begun.sent old) | inr new ↦ inr (subst (λ os. IsSaid u os y) said_is new) ];
         made = λ y h. elim (begun.made y (subst (In y) x.none_made h)) [ inl old ↦ inl old | inr new ↦ inr new.1 ];
+        few = few_made s b a begun.few x.none_made;
         choices = well;
       }
 
@@ -225,6 +231,7 @@ module _ (u : Setup) (g : group.Group) (s : Group Header) (bridge : Bridges u g 
         told = tt;
         only = λ z h. inl (subst (In z) (y.sent ∙ begun.sent) h);
         made = λ z h. elim (begun.made z (subst (In z) y.none_made h)) [ inl old ↦ inl old | inr new ↦ inr new.1 ];
+        few = few_made s b a begun.few y.none_made;
         choices = well;
       }
 

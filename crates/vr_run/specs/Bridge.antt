@@ -1,5 +1,5 @@
 -- How the machine's group stands for a group of the rules, and what of it a move carries on.
-use Rattle.std.specs.Prelude.{ℕ, ◌≡◌, ◌⊎◌, ⊤, List, [], ◌∷◌, All, Contains, slice_get, Some, None}
+use Rattle.std.specs.Prelude.{ℕ, ◌+◌, ◌≤◌, ◌≡◌, ◌⊎◌, ⊤, List, [], ◌∷◌, length, All, Contains, slice_get, Some, None}
 use Rattle.vr_header.specs.declared.header.Header.{Header}
 use Rattle.vr_msg.specs.declared.output.Chosen.{Chosen}
 use Rattle.vr_msg.specs.declared.output.Output.{Output}
@@ -47,7 +47,7 @@ abbrev pub ChoosesWell : group.Group → Move → List (Choice Header) → List 
 ChoosesWell g (Steps at arrival e d) chosen os = (m : group.Member) (r : Replica) → Runs g at m r → (c : Chosen) → Contains os (output.Choose c) → IsMadeFrom chosen e r c
 ChoosesWell g _ chosen os = ⊤
 
--- What a move leaves: nothing is taken back, what was put out is true, and nothing else was sent or made.
+-- What a move leaves: nothing is taken back, what was put out is true, and nothing else was sent or made, at most one entry in all.
 pub record Chained (u : Setup) (s a : Group Header) (p : Played) : Type 0 where
   pub bridges : Bridges u p.moved.group a
   pub sent : (m : Message Header) → In m s.sent → In m a.sent
@@ -55,6 +55,7 @@ pub record Chained (u : Setup) (s a : Group Header) (p : Played) : Type 0 where
   pub told : Every (IsTrue u s.sent a.sent) p.moved.outputs
   pub only : (m : Message Header) → In m a.sent → In m s.sent ⊎ IsSaid u p.moved.outputs m
   pub made : (x : Made Header) → In x a.made → In x s.made ⊎ In x.entry (made_in p.moved.script)
+  pub few : length a.made ≤ length s.made + 1
   pub choices : ChoosesWell p.before p.move a.chosen p.moved.outputs
 
 -- a run, move by move

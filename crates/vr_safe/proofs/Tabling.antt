@@ -22,7 +22,7 @@ use Rattle.vr_rules.proofs.Wording.{read_is}
 use Rattle.vr_protocol.specs.Basics.{In}
 use Rattle.vr_protocol.specs.Group.{Group}
 use Rattle.vr_protocol.specs.Members as machine
-use Rattle.vr_protocol.specs.Members.{Message, Do_view_change}
+use Rattle.vr_protocol.specs.Members.{Message}
 use Rattle.vr_safe.specs.Local.{Local, carried}
 use Rattle.vr_safe.specs.Chains.{Setup, Every, WasSent}
 use Rattle.vr_safe.specs.Finished.{Finished, Finishes, IsTrue}

@@ -98,7 +98,7 @@ turned_marks b h c f =
 pub record FrontMarks (b : List ℕ) (h : Header) : Type 0 where
   pub marked : Marked (λ x. x) b
   pub cluster : (i : ℕ) → i < 8 → get_or b (64 + i) 0 ≡ 0
-  pub op : h.op < 2 ^ 61 → get_or b 88 0 < 32
+  pub op : get_or b 88 0 < 32
   pub replica : get_or b 109 0 ≡ 0
   pub zeros : (i : ℕ) → i < 17 → get_or b (111 + i) 0 ≡ 0
 
@@ -123,7 +123,7 @@ long_marks b h are f =
     record {
       marked = m;
       cluster = zeros64 b 64 h.cluster (at 4 (omega arith)) f.group;
-      op = high_at b h.op (at 8 (omega arith));
+      op = high_at b h.op (at 8 (omega arith)) f.low;
       replica = byte_of 109 h.replica b (at 12 (omega arith)) ∙ is.replica;
       zeros = λ i l. elim (cases_lt i 1) [
         | inl none ↦ (let e : 111 + i ≡ 111 = omega (arith, none) in ap (λ k. get_or b k 0) e ∙ m.kind)

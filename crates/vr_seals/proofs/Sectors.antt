@@ -1,5 +1,5 @@
 -- The sectors of slots and of the superblock are sealed.
-use Rattle.std.proofs.Common.{ℕ, zero, suc, ◌+◌, ◌-◌, ◌*◌, ◌<◌, ◌≤◌, ◌≡◌, ◌⊎◌, ◌&&◌, inl, inr, arith, refl, sym, ap, ◌∙◌, subst, true, false, cond, List, [], ◌∷◌, ◌++◌, length, take, drop, get_or, append_assoc}
+use Rattle.std.proofs.Common.{ℕ, zero, suc, ◌+◌, ◌-◌, ◌*◌, ◌^◌, ◌<◌, ◌≤◌, ◌≡◌, ◌⊎◌, ◌&&◌, inl, inr, arith, refl, sym, ap, ◌∙◌, subst, true, false, cond, List, [], ◌∷◌, ◌++◌, length, take, drop, get_or, append_assoc}
 use Rattle.std.specs.Prelude.{IsTrue, ◌==◌, nat_le, replicate, Some, None}
 use Rattle.std.specs.Option.{option_map}
 use Rattle.std.specs.List.{AllByRecursion, list_all}
@@ -131,29 +131,29 @@ module _ (made : List Header) where
 
   -- ---- slots
 
-  pub header_sealed : (h : Header) → IsHeader h → IsContent (sector_of h) → (is_entry_header h ≡ true → h.cluster ≡ 0 → In h made) → IsSealed made (sector_of h)
+  pub header_sealed : (h : Header) → IsHeader h → IsContent (sector_of h) → (is_entry_header h ≡ true → h.cluster ≡ 0 → h.op < 2 ^ 61 → In h made) → IsSealed made (sector_of h)
   header_sealed h i c m = headed_sealed made (sector_of h) h c i (sector_spells h i) m
 
   prepare_piece : (e : Whole) → IsWhole e → IsBytes (prepare_bytes e) → length (prepare_bytes e) ≡ 2048 → In e.header made → (j : ℕ) → j < 4 → IsSealed made (piece (0 + 512 * j) 512 (prepare_bytes e))
   unfolding piece
   prepare_piece e w are size m zero l =
       let c = piece_content 0 (prepare_bytes e) are (omega (arith, size)) in
-      headed_sealed made (piece 0 512 (prepare_bytes e)) e.header c w.header (take_less 128 512 (prepare_bytes e) (omega arith) ∙ prepare_spells e w.header) (λ _ _. m)
+      headed_sealed made (piece 0 512 (prepare_bytes e)) e.header c w.header (take_less 128 512 (prepare_bytes e) (omega arith) ∙ prepare_spells e w.header) (λ _ _ _. m)
   prepare_piece e w are size m (suc j) l = at_piece (0 + 512 * suc j) (prepare_bytes e) (piece_content (0 + 512 * suc j) (prepare_bytes e) are (omega (arith, size, l))) (prepare_plain e w (0 + 512 * suc j + 110) (omega arith))
 
   prepare_sealed : (e : Whole) → IsWhole e → IsBytes (prepare_bytes e) → length (prepare_bytes e) ≡ 2048 → In e.header made → AllByRecursion (Puts (IsSealed made)) (prepare_calls e)
   unfolding prepare_calls
   prepare_sealed e w are size m = seals_append (writes (prepare_place (slot_of e.header)) 4 (prepare_bytes e)) (Sync ∷ []) (seals_writes 4 (prepare_place (slot_of e.header)) 0 (prepare_bytes e) (omega arith) (prepare_piece e w are size m)) (tt, tt)
 
-  pub header_calls_sealed : (h : Header) → IsHeader h → IsContent (sector_of h) → In h made → AllByRecursion (Puts (IsSealed made)) (header_calls h)
+  pub header_calls_sealed : (h : Header) → IsHeader h → IsContent (sector_of h) → (h.op < 2 ^ 61 → In h made) → AllByRecursion (Puts (IsSealed made)) (header_calls h)
   unfolding header_calls
-  header_calls_sealed h i c m = ((omega arith, header_sealed h i c (λ _ _. m)), (tt, tt))
+  header_calls_sealed h i c m = ((omega arith, header_sealed h i c (λ _ _ low. m low)), (tt, tt))
 
   pub new_sealed : (e : Whole) → IsWhole e → IsContent (sector_of e.header) → IsBytes (prepare_bytes e) → length (prepare_bytes e) ≡ 2048 → In e.header made → AllByRecursion (Puts (IsSealed made)) (new_calls e)
-  new_sealed e w c are size m = seals_append (prepare_calls e) (header_calls e.header) (prepare_sealed e w are size m) (header_calls_sealed e.header w.header c m)
+  new_sealed e w c are size m = seals_append (prepare_calls e) (header_calls e.header) (prepare_sealed e w are size m) (header_calls_sealed e.header w.header c (λ _. m))
 
   pub again_sealed : (e : Whole) → IsWhole e → IsContent (sector_of e.header) → IsBytes (prepare_bytes e) → length (prepare_bytes e) ≡ 2048 → In e.header made → AllByRecursion (Puts (IsSealed made)) (again_calls e)
-  again_sealed e w c are size m = seals_append (header_calls e.header) (prepare_calls e) (header_calls_sealed e.header w.header c m) (prepare_sealed e w are size m)
+  again_sealed e w c are size m = seals_append (header_calls e.header) (prepare_calls e) (header_calls_sealed e.header w.header c (λ _. m)) (prepare_sealed e w are size m)
 
 -- ---- copies of the superblock
 
@@ -244,7 +244,7 @@ module _ (made : List Header) (v : SuperValue) (g : IsGood v) (are : IsBytes (co
             ∙ (ap (drop (128 * n)) (behind_copy v g.numbers)
             ∙ (list_from hs n rest g.each (omega (arith, there)) ∙ (ap (λ ys. list_bytes ys ++ rest) x.2 ∙ append_assoc (header_bytes h) (list_bytes x.1) rest)))) in
             let spells : Spells h (take 512 (drop k (copy_bytes v))) = take_less 128 512 (drop k (copy_bytes v)) (omega arith) ∙ (ap (take 128) whole ∙ take_at (header_bytes h) (list_bytes x.1 ++ rest) 128 (length-header_bytes h x.3.0)) in
-            headed_sealed made (piece k 512 (copy_bytes v)) h c x.3.0 spells (λ _ _. x.3.1)
+            headed_sealed made (piece k 512 (copy_bytes v)) h c x.3.0 spells (λ _ _ _. x.3.1)
         | inr none ↦ at_piece made k (copy_bytes v) c (subst IsPlain (sym (tail_at (k + 110) (omega arith))) (past_list (k + 110 - 128) (omega (arith, none))))
       ]
 

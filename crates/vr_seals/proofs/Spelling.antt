@@ -1,10 +1,9 @@
--- The blocks of a text of sessions begin no sector with the header of an entry, but with one that their form leaves.
-use Rattle.std.proofs.Common.{ℕ, suc, ◌+◌, ◌*◌, ◌<◌, ◌≡◌, ◌^◌, ◌⊎◌, inl, inr, arith, refl, sym, ap, ◌∙◌, List, [], ◌∷◌, length, drop, get_or}
+-- The blocks of a text of sessions that come of entries begin no sector with the header of an entry.
+use Rattle.std.proofs.Common.{ℕ, suc, ◌+◌, ◌*◌, ◌<◌, ◌≡◌, ◌⊎◌, inl, inr, arith, refl, sym, ap, ◌∙◌, List, length, drop, get_or}
 use Rattle.std.specs.List.{AllByRecursion, flat_map}
-use Rattle.std.proofs.lemmas.Bool.{cases_lt}
 use Rattle.std.proofs.lemmas.List.{get_or-drop}
 use Rattle.vr_base.specs.Bytes.{bytes16, piece}
-use Rattle.vr_disk.specs.DiskState.{Call, IsContent}
+use Rattle.vr_disk.specs.DiskState.{IsContent}
 use Rattle.vr_disk.specs.Stops.{IsCall}
 use Rattle.vr_header.specs.declared.header.Header.{Header}
 use Rattle.vr_grid.specs.Blocks.{Content, block_bytes}
@@ -15,8 +14,8 @@ use Rattle.vr_sess.specs.Sessions as sess
 use Rattle.vr_sess.specs.Sessions.{Map}
 use Rattle.vr_sess.specs.Texts.{session_text, sessions_text}
 use Rattle.vr_table.specs.Table.{table_text}
-use Rattle.vr_seals.specs.Seals.{Fronts, IsHeadless, PutsHeadless}
-use Rattle.vr_seals.specs.Laws.{IsLeft, PutsNoneLeft, SessionsAreHeadless}
+use Rattle.vr_seals.specs.Seals.{IsHeadless, PutsHeadless}
+use Rattle.vr_seals.specs.Laws.{IsOfEntry, SessionsAreHeadless}
 use Rattle.vr_seals.proofs.Blocks.{IsMarkless, all_headless, first_markless, later_at, markless, payload_byte, payloads_so}
 use Rattle.vr_seals.proofs.Fronts.{IsFront, no_front, no_turned}
 use Rattle.vr_seals.proofs.Marks.{FrontMarks, long_marks, turned_ones}
@@ -37,7 +36,7 @@ StandsIn m b = (p : ℕ) × ((k : ℕ) → k < 128 → get_or b k 0 ≡ get_or (
 abbrev IsSector : Map → List ℕ → Type 0
 IsSector m b = IsMarkless b ⊎ StandsIn m b
 
-module _ (m : Map) (fits : AllByRecursion sess.Fits m) where
+module _ (m : Map) (fits : AllByRecursion sess.Fits m) (come : AllByRecursion IsOfEntry m) where
   later_stands : (c : Content) (i : ℕ) → c.payload ≡ payload_at (sessions_text m) i → (j : ℕ) → j < 7 → IsSector m (piece (0 + 512 * suc j) 512 (block_bytes c))
   later_stands c i e j l =
       let p = 3968 * i + (512 * j + 382) in
@@ -53,9 +52,9 @@ module _ (m : Map) (fits : AllByRecursion sess.Fits m) where
     there : (k i : ℕ) → k + i < 128 → get_or (flat_map session_text m) (s.0 + (k + i)) 0 ≡ get_or b (k + i) 0
     there k i l = sym (s.1 (k + i) l)
 
-    front_there : (h : Header) → FrontMarks b h → h.op < 2 ^ 61 → IsFront (flat_map session_text m) s.0
-    front_there h f low =
-        let high = f.op low in
+    front_there : (h : Header) → FrontMarks b h → IsFront (flat_map session_text m) s.0
+    front_there h f =
+        let high = f.op in
         let same = s.1 88 (omega arith) in
         record {
           cluster = λ i l. there 64 i (omega (arith, l)) ∙ f.cluster i l;
@@ -71,26 +70,19 @@ module _ (m : Map) (fits : AllByRecursion sess.Fits m) where
     turned_there ones = no_turned m (forms m fits) s.0 (λ i l. there 111 i (omega (arith, l)) ∙ ones i l)
 
   -- a sector that is written
-  sector_headless : (b : List ℕ) → IsContent b → ((h : Header) → Fronts b h → IsLeft m h → ⊥) → IsSector m b → IsHeadless b
-  sector_headless b c none (inl without) = markless b c without
-  sector_headless b c none (inr s) = record {
-    front = λ h f. elim (cases_lt h.op (2 ^ 61)) [
-      | inl low ↦ none h f (inr (λ come. no_front m (come_forms m fits come) s.0 (front_there b s h (long_marks b h c.each f) low)))
-      | inr high ↦ none h f (inl high)
-    ];
+  sector_headless : (b : List ℕ) → IsContent b → IsSector m b → IsHeadless b
+  sector_headless b c (inl without) = markless b c without
+  sector_headless b c (inr s) = record {
+    front = λ h f. no_front m (come_forms m fits come) s.0 (front_there b s h (long_marks b h c.each f));
     turned = λ h f. turned_there b s (turned_ones b h c f);
   }
 
-  both_hold : (cs : List Call) → AllByRecursion IsCall cs → AllByRecursion (PutsNoneLeft m) cs → AllByRecursion (λ k. IsCall k × PutsNoneLeft m k) cs
-  both_hold [] a b = tt
-  both_hold (k ∷ cs) a b = ((a.0, b.0), both_hold cs a.1 b.1)
-
   pub texts_headless : (cluster op : ℕ) (old : List Payload) → AllByRecursion IsCall (blocks_calls (changed (sessions_run cluster op) (sessions_text m) old))
-      → AllByRecursion (PutsNoneLeft m) (blocks_calls (changed (sessions_run cluster op) (sessions_text m) old)) → AllByRecursion PutsHeadless (blocks_calls (changed (sessions_run cluster op) (sessions_text m) old))
-  texts_headless cluster op old calls none =
+      → AllByRecursion PutsHeadless (blocks_calls (changed (sessions_run cluster op) (sessions_text m) old))
+  texts_headless cluster op old calls =
       let bs = changed (sessions_run cluster op) (sessions_text m) old in
-      all_headless (λ k. IsCall k × PutsNoneLeft m k) (IsSector m) (λ i b g s. sector_headless b g.0.1 g.1 s) (λ c. inl (first_markless c)) bs
-      (payloads_so (IsSector m) (sessions_text m) later_stands (payloads (length (sessions_text m))) 0 (sessions_run cluster op) old) (both_hold (blocks_calls bs) calls none)
+      all_headless IsCall (IsSector m) (λ i b g s. sector_headless b g.1 s) (λ c. inl (first_markless c)) bs
+      (payloads_so (IsSector m) (sessions_text m) later_stands (payloads (length (sessions_text m))) 0 (sessions_run cluster op) old) calls
 
 pub sessions_are_headless : SessionsAreHeadless
-sessions_are_headless cluster op m old fits calls none = texts_headless m fits cluster op old calls none
+sessions_are_headless cluster op m old fits come calls = texts_headless m fits come cluster op old calls

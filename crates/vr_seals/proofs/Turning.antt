@@ -1,5 +1,5 @@
 -- Bytes whose bits are turned, twice are what they were; and what stands in front of bytes.
-use Rattle.std.proofs.Common.{ℕ, suc, ◌-◌, ◌<◌, ◌≡◌, ◌≢◌, arith, refl, sym, ap, ◌∙◌, subst, true, List, [], ◌∷◌, get_or, Some, None, Result, Ok, Err}
+use Rattle.std.proofs.Common.{ℕ, suc, ◌-◌, ◌^◌, ◌<◌, ◌≡◌, ◌≢◌, arith, refl, sym, ap, ◌∙◌, subst, true, List, [], ◌∷◌, get_or, Some, None, Result, Ok, Err}
 use Rattle.std.specs.Prelude.{bit_xor, bit_and, ◌%◌}
 use Rattle.std.specs.Option.{option_map_or}
 use Rattle.std.specs.Int.Bits.{xor_add_and}
@@ -39,7 +39,7 @@ twice (x ∷ b) h = let one = byte_twice x (h 0) in let rest = twice b (λ i. h 
 
 -- ---- a front
 
-no_fault : (b : List ℕ) (h : Header) → decoded b ≡ Ok h → fault_of b ≡ None
+pub no_fault : (b : List ℕ) (h : Header) → decoded b ≡ Ok h → fault_of b ≡ None
 no_fault b h e =
     elim (fault_of b) as (λ o. option_map_or Err o (Ok (decoded_header b)) ≡ Ok h → o ≡ None) [
       | None ↦ λ e. refl
@@ -69,13 +69,13 @@ module _ (made : List Header) where
   same_read a b r e f = cc
 
   -- one that was made stands there, if it is that of an entry
-  pub headed_sealed : (b : List ℕ) (h : Header) → IsContent b → IsHeader h → Spells h b → (is_entry_header h ≡ true → h.cluster ≡ 0 → In h made) → IsSealed made b
+  pub headed_sealed : (b : List ℕ) (h : Header) → IsContent b → IsHeader h → Spells h b → (is_entry_header h ≡ true → h.cluster ≡ 0 → h.op < 2 ^ 61 → In h made) → IsSealed made b
   headed_sealed b h c i s m =
       let read = decoded_again h b i s in
       let version = (sound b (no_fault b h read)).version in
       record {
         content = c;
-        front = λ x f. (let same = same_read h x (decoded b) read f.reads in subst (λ (x : Header). In x made) same (m (subst (λ (x : Header). is_entry_header x ≡ true) (sym same) f.entry) (subst (λ (x : Header). x.cluster ≡ 0) (sym same) f.group)));
+        front = λ x f. (let same = same_read h x (decoded b) read f.reads in subst (λ (x : Header). In x made) same (m (subst (λ (x : Header). is_entry_header x ≡ true) (sym same) f.entry) (subst (λ (x : Header). x.cluster ≡ 0) (sym same) f.group) (subst (λ (x : Header). x.op < 2 ^ 61) (sym same) f.low)));
         turned = λ x f. (let v = turned_version b x c f in absurd (omega (arith, v, version)));
       }
 

@@ -1,8 +1,8 @@
 -- What keeps sectors sealed.
-use Rattle.std.specs.Prelude.{ℕ, ◌^◌, ◌<◌, ◌≤◌, ◌≡◌, ◌⊎◌, ⊤, List, ◌++◌, length}
+use Rattle.std.specs.Prelude.{ℕ, ◌<◌, ◌≤◌, ◌≡◌, List, ◌++◌, length}
 use Rattle.std.specs.List.{AllByRecursion}
 use Rattle.vr_base.specs.Bytes.{IsBytes}
-use Rattle.vr_disk.specs.DiskState.{Call, Write, Sync, Face, IsContent, after_all, cut}
+use Rattle.vr_disk.specs.DiskState.{Call, Face, IsContent, after_all, cut}
 use Rattle.vr_disk.specs.Stops.{IsCall}
 use Rattle.vr_apply.specs.declared.codec.Texts.{Texts}
 use Rattle.vr_ckpt.specs.Saves.{blocks_calls, changed, save_calls, sessions_run, table_of}
@@ -24,7 +24,7 @@ use Rattle.vr_sess.specs.Sessions as sess
 use Rattle.vr_sess.specs.Sessions.{Map}
 use Rattle.vr_sess.specs.Texts.{sessions_text}
 use Rattle.vr_sess.specs.declared.session.Session.{Session}
-use Rattle.vr_seals.specs.Seals.{Fronts, HasSectors, IsSealed, Puts, PutsHeadless}
+use Rattle.vr_seals.specs.Seals.{HasSectors, IsSealed, Puts, PutsHeadless}
 
 -- what holds of the bytes of each sector, and of such bytes with each bit turned, lasts: after calls that write such bytes, in each
 -- cut of them, and after a fault
@@ -79,17 +79,9 @@ pub record IsOfEntry (s : ℕ × Session) : Type 0 where
   pub op : 1 ≤ s.1.op
   pub first : s.1.number ≡ 0 → s.1.outcome ≡ outcome.Session
 
--- the headers that the form of these sessions leaves: of an op of 2^61 or more, and any where not all of them come of entries
-abbrev pub IsLeft : Map → Header → Type 0
-IsLeft m h = (2 ^ 61 ≤ h.op) ⊎ (AllByRecursion IsOfEntry m → ⊥)
-
--- no such one, of an entry, begins what a call writes
-abbrev pub PutsNoneLeft : Map → Call → Type 0
-PutsNoneLeft m (Write i bytes) = (h : Header) → Fronts bytes h → IsLeft m h → ⊥
-PutsNoneLeft m Sync = ⊤
-
--- then none begins a sector of the blocks of their text, wherever one session ends and another begins
+-- Then no header of an entry with an op below 2^61 begins a sector of the blocks of their text, wherever one session ends and another
+-- begins. (One with a higher op could: the last session's client and op would spell its end, and a client chooses its number.)
 abbrev pub SessionsAreHeadless : Type 0
 SessionsAreHeadless =
-    (cluster op : ℕ) (m : Map) (old : List Payload) → AllByRecursion sess.Fits m → AllByRecursion IsCall (blocks_calls (changed (sessions_run cluster op) (sessions_text m) old))
-    → AllByRecursion (PutsNoneLeft m) (blocks_calls (changed (sessions_run cluster op) (sessions_text m) old)) → AllByRecursion PutsHeadless (blocks_calls (changed (sessions_run cluster op) (sessions_text m) old))
+    (cluster op : ℕ) (m : Map) (old : List Payload) → AllByRecursion sess.Fits m → AllByRecursion IsOfEntry m → AllByRecursion IsCall (blocks_calls (changed (sessions_run cluster op) (sessions_text m) old))
+    → AllByRecursion PutsHeadless (blocks_calls (changed (sessions_run cluster op) (sessions_text m) old))

@@ -1,5 +1,5 @@
-//! Sectors that begin with the header of an entry only where that entry was made, and what keeps them so. Each function is a law: its
-//! contract is the statement, and it does nothing.
+//! Sectors that begin with the header of an entry, of an op below 2^61, only where that entry was made, and what keeps them so. Each
+//! function is a law: its contract is the statement, and it does nothing.
 #![tactic(auto)]
 
 ghost use Rattle.vr_seals.specs.Laws.{CheckpointsAreHeadless, SealsLast, SessionsAreHeadless, SlotsAreSealed, ValuesAreSealed};
@@ -24,8 +24,8 @@ pub fn checkpoints_are_headless()
     ensures { CheckpointsAreHeadless }
 {}
 
-/// Of sessions that come of entries no sector of a checkpoint begins with the header of an entry whose op is below 2^61, by their form,
-/// wherever in the sector one of them ends and another begins; and none does with its bits turned, whatever the sessions are.
+/// Nor does a sector of the blocks of sessions that come of entries, by their form, wherever in the sector one of them ends and another
+/// begins.
 pub fn sessions_are_headless()
     ensures { SessionsAreHeadless }
 {}

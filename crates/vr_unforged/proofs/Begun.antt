@@ -19,7 +19,6 @@ use Rattle.vr_apply.specs.declared.codec.Texts.{Texts}
 use Rattle.vr_ckpt.specs.Saves.{blocks_calls, changed, keys_run, root_of, save_calls, sessions_run, table_of, written}
 use Rattle.vr_grid.specs.Blocks.{block_of}
 use Rattle.vr_grid.specs.declared.block.Block.{Block}
-use Rattle.vr_sess.specs.Texts.{sessions_text}
 use Rattle.vr_ckpt.specs.declared.table.Payload.{Payload}
 use Rattle.vr_ckpt.specs.declared.table.PayloadTable.{PayloadTable}
 use Rattle.vr_worlds.specs.Stocks.{IsNamed, IsOfState, WritesBlocks}
@@ -28,13 +27,13 @@ use Rattle.vr_worlds.proofs.States.{text_of_state}
 use Rattle.vr_seals.proofs.Blocks.{calls_left}
 use Rattle.vr_seals.proofs.Checks.{both_calls, checkpoints_are_headless}
 use Rattle.vr_seals.proofs.Spelling.{sessions_are_headless}
-use Rattle.vr_seals.specs.Laws.{HasPlace, PutsNoneLeft}
+use Rattle.vr_seals.specs.Laws.{HasPlace}
 use Rattle.vr_worlds.specs.Worlds.{begun_by}
 use Rattle.vr_seals.specs.Seals.{PutsHeadless}
 use Rattle.vr_seals.proofs.Turning.{sealed_more}
 use Rattle.vr_unforged.specs.Bridged.{AreNamed, IsSealedBlock}
-use Rattle.vr_unforged.specs.Schedules.{ChecksHeadless}
 use Rattle.vr_unforged.proofs.Scripts.{AreSealed, Seals}
+use Rattle.vr_unforged.proofs.Sessions.{AreOfEntries, ComesOfEntries}
 use Rattle.vr_unforged.proofs.Values.{SavesNamed, get_left, in_left, in_right}
 
 -- ---- what is begun comes first
@@ -115,17 +114,15 @@ sessions_called cluster texts op old a =
     let rest = changed (keys_run cluster op) texts.keys old.keys ++ block_of (root_of cluster texts op (table_of cluster texts op old)) ∷ [] in
     (both_calls bs rest (calls_left IsCall (blocks_calls (bs ++ rest)) (Sync ∷ []) a)).0
 
-sessions_headless : (cluster : ℕ) (texts : Texts) (op : ℕ) (old : PayloadTable) → IsOfState texts old → AllByRecursion IsCall (save_calls cluster texts op old) → ChecksHeadless (Checkpoint cluster texts op old)
+sessions_headless : (cluster : ℕ) (texts : Texts) (op : ℕ) (old : PayloadTable) → AllByRecursion IsCall (save_calls cluster texts op old) → AreOfEntries texts
     → AllByRecursion PutsHeadless (blocks_calls (changed (sessions_run cluster op) texts.sessions old.sessions))
-sessions_headless cluster texts op old h a s =
-    let m = h.state.sessions in
-    let same : texts.sessions ≡ sessions_text m = ap (λ (x : Texts). x.sessions) h.are in
+sessions_headless cluster texts op old a s =
+    let m = s.sessions in
     let bs : List ℕ → List Block = λ t. changed (sessions_run cluster op) t old.sessions in
-    subst (λ (t : List ℕ). AllByRecursion PutsHeadless (blocks_calls (bs t))) (sym same)
-    (sessions_are_headless cluster op m old.sessions h.sessions.fit (subst (λ (t : List ℕ). AllByRecursion IsCall (blocks_calls (bs t))) same (sessions_called cluster texts op old a)) (subst (λ (t : List ℕ). AllByRecursion (PutsNoneLeft m) (blocks_calls (bs t))) same (s m same)))
+    subst (λ (t : List ℕ). AllByRecursion PutsHeadless (blocks_calls (bs t))) (sym s.are)
+    (sessions_are_headless cluster op m old.sessions s.fit s.come (subst (λ (t : List ℕ). AllByRecursion IsCall (blocks_calls (bs t))) s.are (sessions_called cluster texts op old a)))
 
-check_headless : (cluster : ℕ) (texts : Texts) (op : ℕ) (old : PayloadTable) → IsOfState texts old → AllByRecursion IsCall (save_calls cluster texts op old) → ChecksHeadless (Checkpoint cluster texts op old)
-    → AllByRecursion PutsHeadless (save_calls cluster texts op old)
+check_headless : (cluster : ℕ) (texts : Texts) (op : ℕ) (old : PayloadTable) → IsOfState texts old → AllByRecursion IsCall (save_calls cluster texts op old) → AreOfEntries texts → AllByRecursion PutsHeadless (save_calls cluster texts op old)
 check_headless cluster texts op old h a s =
     let x = texted_of texts old h in
     let t = table_of cluster texts op old in
@@ -134,12 +131,12 @@ check_headless cluster texts op old h a s =
     let size = length-append t.sessions t.keys in
     checkpoints_are_headless cluster texts op old
     (record { machine = h.state.machine; keys = ap (λ (x : Texts). x.keys) h.are; fits = h.machine.fit; names = places_both t.sessions t.keys (places t.sessions named.sessions) (places t.keys named.keys); few = omega (arith, few, size) }) a
-    (sessions_headless cluster texts op old h a s)
+    (sessions_headless cluster texts op old a s)
 
 -- those from here on, which saw these before them
 module _ (made all : List Header) (P : List ℕ → Type 0) (m : (h : Header) → In h made → In h all) where
   seals_from : (es : List Effect) → ((h : Header) → In h (made_in es) → In h all) → ((n : ℕ) (old new : SuperValue) → slice_get es n ≡ Some (Save old new) → AreNamed all new)
-      → AllByRecursion (WritesBlocks P (IsSealedBlock made)) es → AllByRecursion ChecksHeadless es → AllByRecursion (Seals all) es
+      → AllByRecursion (WritesBlocks P (IsSealedBlock made)) es → AllByRecursion ComesOfEntries es → AllByRecursion (Seals all) es
   unfolding made_in
   seals_from [] w s b c = tt
   seals_from (effect.Write again e ∷ es) w s b c = (w e.header (inl refl), seals_from es (λ h i. w h (inr i)) (λ n old new k. s (suc n) old new k) b.1 c.1)
@@ -151,7 +148,7 @@ module _ (made all : List Header) (P : List ℕ → Type 0) (m : (h : Header) �
   seals_from (Say o ∷ es) w s b c = (tt, seals_from es w (λ n old new k. s (suc n) old new k) b.1 c.1)
 
 -- of a script, with those that are begun first
-pub begun_sealed : (made : List Header) (P : List ℕ → Type 0) (es bs rest : List Effect) → es ≡ bs ++ rest → SavesNamed made es → AllByRecursion (WritesBlocks P (IsSealedBlock made)) es → AllByRecursion ChecksHeadless bs
+pub begun_sealed : (made : List Header) (P : List ℕ → Type 0) (es bs rest : List Effect) → es ≡ bs ++ rest → SavesNamed made es → AllByRecursion (WritesBlocks P (IsSealedBlock made)) es → AllByRecursion ComesOfEntries bs
     → AllByRecursion (Seals (made ++ made_in bs)) bs
 begun_sealed made P es bs rest e s b c =
     let saves : SavesNamed made (bs ++ rest) = subst (SavesNamed made) e s in

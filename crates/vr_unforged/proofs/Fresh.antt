@@ -1,8 +1,9 @@
 -- A group that begins: on its disks nothing reads as the header of an entry.
-use Rattle.std.proofs.Common.{ℕ, zero, suc, ◌+◌, ◌≤◌, ◌<◌, ◌≡◌, arith, refl, sym, ap, ◌∙◌, subst, true, false, List, [], ◌∷◌, ◌++◌, map, get_or, Some}
+use Rattle.std.proofs.Common.{ℕ, zero, suc, ◌+◌, ◌≤◌, ◌<◌, ◌≡◌, ◌⊎◌, inl, inr, arith, refl, sym, ap, ◌∙◌, subst, true, false, List, [], ◌∷◌, ◌++◌, length, map, get_or, Some}
 use Rattle.std.specs.List.{range_with_len}
 use Rattle.std.proofs.lemmas.List.{get_or-replicate, length-replicate}
 use Rattle.std.proofs.lemmas.List.FromFn.{get_or-map-range_with_len, length-map-range_with_len}
+use Rattle.std.proofs.lemmas.List.Elements.{All-nil}
 use Rattle.std.proofs.lemmas.Option.{slice_get_within, slice_get-get_or}
 use Rattle.vr_disk.specs.DiskState.{Write, Sync}
 use Rattle.vr_disk.specs.Regions.{header_place}
@@ -14,7 +15,10 @@ use Rattle.vr_rules.specs.Opening.{first_value}
 use Rattle.vr_rules.specs.Lying.{Lying, format_calls, hazards, reserved_header, reserved_headers, zero_cell, zero_face, zero_prepares, zero_sector}
 use Rattle.vr_rules.specs.World as world
 use Rattle.vr_rules.specs.World.{happen}
-use Rattle.vr_rules.specs.Group.{fresh_group}
+use Rattle.vr_rules.specs.Group.{Played, Run, fresh_group}
+use Rattle.vr_rules.specs.GroupFit.{IsFitMove}
+use Rattle.vr_rules.specs.Safe as safe
+use Rattle.vr_header.specs.Names.{root_header}
 use Rattle.vr_rules.proofs.FitFresh.{fresh_fits}
 use Rattle.vr_rules.proofs.FitGroups.{fresh_group_fits}
 use Rattle.vr_protocol.specs.Basics.{In}
@@ -24,8 +28,10 @@ use Rattle.vr_seals.specs.Seals.{HasCell, HasSectors, IsSealed}
 use Rattle.vr_seals.proofs.Contents.{has_after_all}
 use Rattle.vr_seals.proofs.Sectors.{header_sealed, saves_sealed, seals_append}
 use Rattle.vr_seals.proofs.Turning.{plain_sealed}
-use Rattle.vr_unforged.specs.Schedules.{IsSealedWorld}
+use Rattle.vr_unforged.specs.Bridged.{IsLed}
+use Rattle.vr_unforged.specs.Schedules.{IsHashed, IsSealedWorld}
 use Rattle.vr_unforged.specs.Laws.{SchedulesAreRuns, WorldsBeginUnforged}
+use Rattle.vr_unforged.proofs.Names.{none_hashed}
 use Rattle.vr_unforged.proofs.Runs.{happenings_are_runs}
 use Rattle.vr_unforged.proofs.Scripts.{AreSealed}
 use Rattle.vr_unforged.proofs.Values.{bridged_fresh}
@@ -62,7 +68,7 @@ reserved_sealed : (n i : ℕ) → i + n ≤ 64 → AreSealed [] (map (λ slot. W
 reserved_sealed zero i l = tt
 reserved_sealed (suc n) i l =
     let is = reserved_is i (omega (arith, l)) in
-    ((omega (arith, l), header_sealed [] (reserved_header 0 i) is (sector_content (reserved_header 0 i) is) (λ e _. reserved_none i e)), reserved_sealed n (i + 1) (omega (arith, l)))
+    ((omega (arith, l), header_sealed [] (reserved_header 0 i) is (sector_content (reserved_header 0 i) is) (λ e _ _. reserved_none i e)), reserved_sealed n (i + 1) (omega (arith, l)))
 
 format_sealed : (n i : ℕ) → 2 ≤ n → n ≤ 6 → i < n → AreSealed [] (format_calls 0 n i)
 unfolding format_calls
@@ -87,15 +93,34 @@ fresh_sealed n a b = record {
   sent = λ number s e. absurd cc;
 }
 
+-- a group that was just made: no move led there, and nothing was made in the machine
+fresh_led : (n : ℕ) → 2 ≤ n → n ≤ 6 → IsLed (fresh_group 0 n)
+fresh_led n a b = record { n = n; run = []; fit = record { number = omega arith; few = a; many = b; moves = All-nil (λ (p : Played). IsFitMove p.move); of_run = Run.ended (fresh_group 0 n) }; is = refl }
+
 pub worlds_begin_unforged : WorldsBeginUnforged
-worlds_begin_unforged n a b = record {
-  beside = fresh_beside n a b;
-  fit = fresh_group_fits 0 n (omega arith) a b;
-  stock = group_stocked n;
-  bridged = bridged_fresh n a b;
-  sealed = subst (IsSealedWorld (world.fresh_world hazards n)) (sym (none_made n)) (fresh_sealed n a b);
-}
+unfolding fresh_led
+worlds_begin_unforged n a b =
+    let c = bridged_fresh n a b in
+    let none = c.1 in (
+      record {
+        beside = fresh_beside n a b;
+        fit = fresh_group_fits 0 n (omega arith) a b;
+        stock = group_stocked n;
+        bridged = c.0;
+        sealed = subst (IsSealedWorld (world.fresh_world hazards n)) (sym (none_made n)) (fresh_sealed n a b);
+        past = fresh_led n a b;
+        few = omega (arith, none);
+      },
+      refl,
+    )
 
 pub schedules_are_runs : SchedulesAreRuns
 unfolding happen
-schedules_are_runs n xs a b may = happenings_are_runs xs (world.fresh_world hazards n) (fresh_group 0 n) (worlds_begin_unforged n a b) may
+schedules_are_runs n xs a b few may =
+    let u = worlds_begin_unforged n a b in
+    let w = world.fresh_world hazards n in
+    let into : (bytes : List ℕ) → safe.IsHashed u.0.past.run (root_header 0) bytes ⊎ IsHashed w xs bytes → IsHashed w xs bytes =
+    λ bytes h. elim h [ inl old ↦ none_hashed xs w bytes (subst (λ (run : List Played). safe.IsHashed run (root_header 0) bytes) u.1 old) | inr new ↦ new ] in
+    let size : length u.0.past.run ≡ 0 = ap (λ (run : List Played). length run) u.1 in
+    let m = happenings_are_runs xs w (fresh_group 0 n) u.0 (record { lines = may.lines; names = λ p q x y same. may.names p q (into p x) (into q y) same; few = omega (arith, size, few) }) in
+    (m.0, λ p q x y same. may.names p q (m.1 p x) (m.1 q y) same)

@@ -1,4 +1,7 @@
 pub mod Logged
+pub mod Numbers
+pub mod Sessions
+pub mod Names
 pub mod Values
 pub mod Readings
 pub mod Scripts
@@ -6,4 +9,5 @@ pub mod Begun
 pub mod Lines
 pub mod Runs
 pub mod Fresh
+pub mod Blank
 pub mod Witness

@@ -1,5 +1,5 @@
 -- A line of a schedule leaves sealed what was sealed.
-use Rattle.std.proofs.Common.{ℕ, ◌-◌, ◌≡◌, inl, inr, refl, sym, ap, ◌∙◌, subst, true, false, cond, List, [], ◌++◌, length, set, Option, Some, None}
+use Rattle.std.proofs.Common.{ℕ, ◌-◌, ◌^◌, ◌<◌, ◌≤◌, ◌≡◌, inl, inr, arith, refl, sym, ap, ◌∙◌, subst, true, false, cond, List, [], ◌++◌, length, set, Option, Some, None}
 use Rattle.std.specs.Prelude.{◌%◌, nat_le, slice_get}
 use Rattle.std.specs.List.{AllByRecursion}
 use Rattle.std.specs.Option.{option_and_then, option_map, option_map_or}
@@ -14,7 +14,7 @@ use Rattle.vr_msg.specs.declared.event.Event.TheVariants as event
 use Rattle.vr_msg.specs.declared.frame.Frame.{Frame}
 use Rattle.vr_msg.specs.declared.frame.Frame.TheVariants as frame
 use Rattle.vr_msg.specs.declared.output.Sent.{Sent}
-use Rattle.vr_super.specs.Copies.{SuperValue}
+use Rattle.vr_super.specs.Copies.{IsGood, SuperValue}
 use Rattle.vr_super.specs.Calls.{mend_calls}
 use Rattle.vr_lie.specs.declared.fault.Fault.{Fault}
 use Rattle.vr_lie.specs.Faults.{IsFault, faulted}
@@ -31,6 +31,7 @@ use Rattle.vr_rules.specs.Group.{Arrival, Asked, Group, IsArrival, Message, Time
 use Rattle.vr_rules.specs.GroupFit.{IsFitArrival, IsFitGroup}
 use Rattle.vr_rules.proofs.FitDisks.{disks_fit}
 use Rattle.vr_rules.proofs.FitGroups.{good_value, known_right}
+use Rattle.vr_rules.proofs.Slots.{value_is}
 use Rattle.vr_protocol.specs.Basics.{In}
 use Rattle.vr_worlds.specs.Beside.{AreMade, IsOff, MayGo}
 use Rattle.vr_worlds.specs.Stocks.{IsGiven, IsGivenEvent, IsStockedGroup, WritesBlocks}
@@ -44,11 +45,12 @@ use Rattle.vr_seals.specs.Seals.{HasSectors, IsSealed}
 use Rattle.vr_seals.proofs.Contents.{has_after_all, has_fault, has_weaker}
 use Rattle.vr_seals.proofs.Turning.{sealed_more, turned_sealed}
 use Rattle.vr_unforged.specs.Bridged.{IsBridged, IsSealedBlock}
-use Rattle.vr_unforged.specs.Schedules.{ChecksHeadless, IsSealedWorld}
+use Rattle.vr_unforged.specs.Schedules.{IsSealedWorld}
 use Rattle.vr_unforged.proofs.Begun.{begun_sealed, begun_some, block_more, named_more}
 use Rattle.vr_unforged.proofs.Readings.{block_sealed, found_made}
 use Rattle.vr_unforged.proofs.Scripts.{IsRight, Seals, cut_sealed, effect_sealed, script_sealed}
-use Rattle.vr_unforged.proofs.Values.{in_left, last_named, may_open_named, start_saves, step_saves}
+use Rattle.vr_unforged.proofs.Sessions.{ComesOfEntries}
+use Rattle.vr_unforged.proofs.Values.{in_left, last_named, may_open_named, may_open_short, start_saves, step_saves}
 
 -- ---- more is made
 
@@ -191,9 +193,13 @@ module _ (w : World Lying) (made : List Header) (s : IsSealedWorld w made) (i : 
           | false ↦ λ t. halted_sealed u bs refl seals
         ] refl
 
+-- a good value's checkpoint is no greater than its head
+checkpoint_low : (v : SuperValue) → IsGood v → v.fields.checkpoint ≤ v.fields.head
+checkpoint_low v g = let x = value_is v g in let a = x.commit in let b = x.head in omega (arith, a, b)
+
 -- ---- a member of a world beside a group
 
-module _ (w : World Lying) (g : Group) (b : AreBeside w g) (fits : IsFitGroup 0 g) (stock : IsStockedGroup g) (bridged : IsBridged g) (s : IsSealedWorld w g.made) (i : ℕ) (m : world.Host Lying) (q : group.Member) (at : slice_get w.members i ≡ Some m)
+module _ (w : World Lying) (g : Group) (b : AreBeside w g) (fits : IsFitGroup 0 g) (stock : IsStockedGroup g) (bridged : IsBridged g) (low : length bridged.machine.made < 2 ^ 60) (s : IsSealedWorld w g.made) (i : ℕ) (m : world.Host Lying) (q : group.Member) (at : slice_get w.members i ≡ Some m)
     (there : slice_get g.members i ≡ Some q) (stands : Stands m q) where
   disk_sealed : HasSectors (IsSealed g.made) m.disk.face
   disk_sealed = s.disks i m at
@@ -201,7 +207,7 @@ module _ (w : World Lying) (g : Group) (b : AreBeside w g) (fits : IsFitGroup 0 
   -- ---- a step
 
   step_sealed : (arrival : Arrival) (e : Event) (r : Replica) → m.replica ≡ Some r → IsArrival g i arrival e → IsFitArrival arrival → IsGivenEvent (IsSealedBlock g.made) e
-      → (let es = (react e lying r m.disk).script in let bs = begun_by m.fuse es m.disk.face in AllByRecursion ChecksHeadless bs → IsSealedWorld (with_member w i (acts hazards i m (react e lying r m.disk))).world (g.made ++ made_in bs))
+      → (let es = (react e lying r m.disk).script in let bs = begun_by m.fuse es m.disk.face in AllByRecursion ComesOfEntries bs → IsSealedWorld (with_member w i (acts hazards i m (react e lying r m.disk))).world (g.made ++ made_in bs))
   step_sealed arrival e r run arrives fit given plain =
       let d = m.disk in
       let x = react e lying r d in
@@ -219,7 +225,7 @@ module _ (w : World Lying) (g : Group) (b : AreBeside w g) (fits : IsFitGroup 0 
       acts_by w g.made s i m at x q.last h.well.go right face said m.fuse seals
 
   handle_sealed : (arrival : Arrival) (e : Event) (o : Option Replica) → m.replica ≡ o → IsArrival g i arrival e → IsFitArrival arrival → IsGivenEvent (IsSealedBlock g.made) e
-      → (let bs = begun_of (option_map (stepping e m) o) in AllByRecursion ChecksHeadless bs → IsSealedWorld (with_member w i (world.handled_by hazards i e m o)).world (g.made ++ made_in bs))
+      → (let bs = begun_of (option_map (stepping e m) o) in AllByRecursion ComesOfEntries bs → IsSealedWorld (with_member w i (world.handled_by hazards i e m o)).world (g.made ++ made_in bs))
   unfolding messages
   handle_sealed arrival e None run arrives fit given plain = begun_none w g.made s i m at (with_member w i (stays m)).world (stay_sealed w g.made s i m at (stays m) refl refl)
   handle_sealed arrival e (Some r) run arrives fit given plain = step_sealed arrival e r run arrives fit given plain
@@ -239,10 +245,12 @@ module _ (w : World Lying) (g : Group) (b : AreBeside w g) (fits : IsFitGroup 0 
       let face = o.calm.face in
       let calls = mend_are v m.disk.face x.0.0 in
       let one = effect_sealed g.made (Mend v) m.disk v (record { fit = refl; calls = calls }) tt x.0 face disk_sealed in
-      found_made g.made _ (has_after_all (IsSealed g.made) cs m.disk.face disk_sealed one) v (lying.after m.disk (Mend v)).held (face_after_all cs m.disk.face face calls) x.1
+      let top = may_open_short g bridged i q there v o.may in
+      let window = checkpoint_low v x.0.0 in
+      found_made g.made _ (has_after_all (IsSealed g.made) cs m.disk.face disk_sealed one) v (lying.after m.disk (Mend v)).held (face_after_all cs m.disk.face face calls) x.1 (omega (arith, top, window, low))
 
   start_sealed : (v : SuperValue) → m.replica ≡ None → IsOff m.disk q v
-      → (let bs = begun_by m.fuse (opening_script v m.disk) m.disk.face in AllByRecursion ChecksHeadless bs → IsSealedWorld (with_member w i (acts hazards i m (whole v m.disk))).world (g.made ++ made_in bs))
+      → (let bs = begun_by m.fuse (opening_script v m.disk) m.disk.face in AllByRecursion ComesOfEntries bs → IsSealedWorld (with_member w i (acts hazards i m (whole v m.disk))).world (g.made ++ made_in bs))
   start_sealed v run o plain =
       let d = m.disk in
       let xs = (mended v d).script in
@@ -259,16 +267,16 @@ module _ (w : World Lying) (g : Group) (b : AreBeside w g) (fits : IsFitGroup 0 
       let said : AreGiven g.made (messages (outputs es)) = λ n y k. given_none g.made y.message (outputs_given none (IsSealedBlock g.made) es blocks n y k) in
       acts_by w g.made s i m at (whole v d) v h.go (off_right v o).0 face said m.fuse seals
 
-  begin_sealed : (o : Option Replica) → m.replica ≡ o → (let bs = begun_of (starting_by m o) in AllByRecursion ChecksHeadless bs → IsSealedWorld (with_member w i (world.started_by hazards i m o)).world (g.made ++ made_in bs))
+  begin_sealed : (o : Option Replica) → m.replica ≡ o → (let bs = begun_of (starting_by m o) in AllByRecursion ComesOfEntries bs → IsSealedWorld (with_member w i (world.started_by hazards i m o)).world (g.made ++ made_in bs))
   unfolding messages
   begin_sealed (Some r) run plain = begun_none w g.made s i m at (with_member w i (stays m)).world (stay_sealed w g.made s i m at (stays m) refl refl)
   begin_sealed None run plain =
       let y = stands.stopped run in
       let v = y.0 in
       let opens_as = opened_as w g i m q b fits stock at there stands v y.1 in
-      let all : (o : Option Step) → Some (whole v m.disk) ≡ o → AllByRecursion ChecksHeadless (begun_of (option_map (opening_as m) o))
+      let all : (o : Option Step) → Some (whole v m.disk) ≡ o → AllByRecursion ComesOfEntries (begun_of (option_map (opening_as m) o))
       → IsSealedWorld (with_member w i (option_map_or (acts hazards i m) o (stays m))).world (g.made ++ made_in (begun_of (option_map (opening_as m) o))) =
-      λ o e. subst (λ (o : Option Step). AllByRecursion ChecksHeadless (begun_of (option_map (opening_as m) o)) → IsSealedWorld (with_member w i (option_map_or (acts hazards i m) o (stays m))).world (g.made ++ made_in (begun_of (option_map (opening_as m) o)))) e (start_sealed v run y.1) in
+      λ o e. subst (λ (o : Option Step). AllByRecursion ComesOfEntries (begun_of (option_map (opening_as m) o)) → IsSealedWorld (with_member w i (option_map_or (acts hazards i m) o (stays m))).world (g.made ++ made_in (begun_of (option_map (opening_as m) o)))) e (start_sealed v run y.1) in
       all (opened lying m.disk) (sym opens_as) plain
 
   -- ---- a fault
@@ -283,9 +291,9 @@ module _ (w : World Lying) (g : Group) (b : AreBeside w g) (fits : IsFitGroup 0 
 
 -- ---- a line
 
-module _ (w : World Lying) (g : Group) (b : AreBeside w g) (fits : IsFitGroup 0 g) (stock : IsStockedGroup g) (bridged : IsBridged g) (s : IsSealedWorld w g.made) where
+module _ (w : World Lying) (g : Group) (b : AreBeside w g) (fits : IsFitGroup 0 g) (stock : IsStockedGroup g) (bridged : IsBridged g) (low : length bridged.machine.made < 2 ^ 60) (s : IsSealedWorld w g.made) where
   abbrev pub Leaves : List Effect → World Lying → Type 0
-  Leaves es v = AllByRecursion ChecksHeadless es → IsSealedWorld v (g.made ++ made_in es)
+  Leaves es v = AllByRecursion ComesOfEntries es → IsSealedWorld v (g.made ++ made_in es)
 
   nothing_leaves : Leaves [] w
   unfolding made_in
@@ -304,7 +312,7 @@ module _ (w : World Lying) (g : Group) (b : AreBeside w g) (fits : IsFitGroup 0 
   event_leaves : (i : ℕ) (arrival : Arrival) (e : Event) → IsArrival g i arrival e → IsFitArrival arrival → IsGivenEvent (IsSealedBlock g.made) e → Leaves (begun_of (option_and_then (handling e) (slice_get w.members i))) (at_member w i (handles hazards e)).world
   event_leaves i arrival e arrives fit given =
       at_line i (handles hazards e) (λ (o : Option (world.Host Lying)). begun_of (option_and_then (handling e) o)) refl
-      (λ m q at there y. handle_sealed w g b fits stock bridged s i m q at there y arrival e m.replica refl arrives fit given)
+      (λ m q at there y. handle_sealed w g b fits stock bridged low s i m q at there y arrival e m.replica refl arrives fit given)
 
   arrive_leaves : (number : ℕ) (o : Option Sent) → slice_get w.sent number ≡ o
       → Leaves (begun_of (option_and_then (λ (x : Sent). option_and_then (handling (event.Deliver x.message)) (slice_get w.members x.to)) o)) (delivered hazards w o).world
@@ -324,10 +332,10 @@ module _ (w : World Lying) (g : Group) (b : AreBeside w g) (fits : IsFitGroup 0 
   line_leaves (Arrives x) line = arrive_leaves (x % length w.sent) (slice_get w.sent (x % length w.sent)) refl
   line_leaves (Ticks i) line = event_leaves i Time event.Tick refl tt tt
   line_leaves (Stops i) line = same_leaves i world.stops (λ m. (refl, refl))
-  line_leaves (Starts i) line = at_line i (world.starts hazards) (λ (o : Option (world.Host Lying)). begun_of (option_and_then starting o)) refl (λ m q at there y. begin_sealed w g b fits stock bridged s i m q at there y m.replica refl)
+  line_leaves (Starts i) line = at_line i (world.starts hazards) (λ (o : Option (world.Host Lying)). begun_of (option_and_then starting o)) refl (λ m q at there y. begin_sealed w g b fits stock bridged low s i m q at there y m.replica refl)
   line_leaves (Fuses i c code) line = same_leaves i (world.fused c code) (λ m. (refl, refl))
   line_leaves (Lies i x) line =
-      at_line i (world.lies hazards x) (λ o. []) refl (λ m q at there y plain. begun_none w g.made s i m at (with_member w i (world.lies hazards x i m)).world (fault_sealed w g b fits stock bridged s i m q at there y x line))
+      at_line i (world.lies hazards x) (λ o. []) refl (λ m q at there y plain. begun_none w g.made s i m at (with_member w i (world.lies hazards x i m)).world (fault_sealed w g b fits stock bridged low s i m q at there y x line))
 
   -- ---- nothing is forged
 
@@ -339,7 +347,7 @@ module _ (w : World Lying) (g : Group) (b : AreBeside w g) (fits : IsFitGroup 0 
       let y = b.each i m at in
       let o = y.2.stopped stopped in
       let same = same_some o.0 v (sym o.1.value ∙ is) in
-      subst (λ (v : SuperValue). AreMade g.made v (lying.after m.disk (Mend v))) same (off_unforged w g b fits stock bridged s i m y.0 at y.1 y.2 o.0 o.1)
+      subst (λ (v : SuperValue). AreMade g.made v (lying.after m.disk (Mend v))) same (off_unforged w g b fits stock bridged low s i m y.0 at y.1 y.2 o.0 o.1)
   line_unforged (Begins n) = tt
   line_unforged (Asks i r) = tt
   line_unforged (Arrives x) = tt

@@ -13,7 +13,7 @@ use Rattle.vr_protocol.specs.Machine.{Reached}
 use Rattle.vr_protocol.specs.Invariant.{Ahead, Invariant}
 use Rattle.vr_protocol.proofs.Moves.{reached_good}
 
-updated : {X : Type 0} (f : ℕ → X) (r : ℕ) (x : X) → update f r x r ≡ x
+pub updated : {X : Type 0} (f : ℕ → X) (r : ℕ) (x : X) → update f r x r ≡ x
 unfolding update
 updated f r x = ap (λ (t : Bool). cond t x (f r)) (eq-eqb r r refl)
 
@@ -23,7 +23,7 @@ module _ {H : Type 0} (q : Quorums) (hs : Headers H) (g : History H) (s : Group 
   WasMadeAt k h = (v : ℕ) × In (made_at v k h) s.made
 
   -- above the base of a view it was made there, and below it the log is that of an earlier view
-  logged : (fuel w k : ℕ) → w ≤ fuel → g.finished w ≡ true → 0 < k → k ≤ g.length w → WasMadeAt k (g.log w k)
+  pub logged : (fuel w k : ℕ) → w ≤ fuel → g.finished w ≡ true → 0 < k → k ≤ g.length w → WasMadeAt k (g.log w k)
   logged zero w k l f p b =
       let z : w ≡ 0 = omega (arith, l) in
       let base = ap g.base z ∙ y.history.first.1 in

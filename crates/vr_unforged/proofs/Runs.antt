@@ -1,22 +1,29 @@
 -- Line after line.
-use Rattle.std.proofs.Common.{inl, inr, ◌≡◌, refl, sym, ap, ◌∙◌, subst, List, [], ◌∷◌, ◌++◌}
+use Rattle.std.proofs.Common.{ℕ, ◌+◌, ◌^◌, ◌<◌, ◌≤◌, ◌⊎◌, inl, inr, ◌≡◌, arith, refl, sym, ap, ◌∙◌, subst, List, [], ◌∷◌, ◌++◌, length}
 use Rattle.std.specs.Prelude.{All}
-use Rattle.std.proofs.lemmas.List.{append_assoc}
-use Rattle.std.proofs.lemmas.List.Elements.{All-append, All-head, All-tail}
+use Rattle.std.specs.List.{AllByRecursion}
+use Rattle.std.proofs.lemmas.List.{append_assoc, length-append}
+use Rattle.std.proofs.lemmas.List.Elements.{All-append, All-head, All-nil, All-tail}
+use Rattle.vr_disk.specs.DiskState.{Face}
+use Rattle.vr_header.specs.Names.{root_header}
+use Rattle.vr_header.specs.NoCollision.{NoCollision}
 use Rattle.vr_msg.specs.declared.output.Output.{Output}
 use Rattle.vr_rules.specs.GroupFit.{IsFitGroup, IsFitMove}
 use Rattle.vr_rules.proofs.FitGroups.{groups_fit}
 use Rattle.vr_rules.specs.Lying.{Lying, hazards}
-use Rattle.vr_rules.specs.World.{Happening, World, happen, happens, nothing}
-use Rattle.vr_rules.specs.Group.{Group, Played, Run}
+use Rattle.vr_rules.specs.Steps.{Effect}
+use Rattle.vr_rules.specs.World.{Happening, World, happen, happens}
+use Rattle.vr_rules.specs.Group.{Group, Played, Run, fresh_group}
+use Rattle.vr_rules.specs.Safe as safe
 use Rattle.vr_rules.specs.Safe.{run_outputs}
-use Rattle.vr_worlds.specs.Worlds.{AreBeside, Said, aside, both, left, none}
-use Rattle.vr_worlds.proofs.Lines.{no_move}
+use Rattle.vr_worlds.specs.Worlds.{AreBeside, IsHashedAt, IsMatchedBy, IsOneMove, Said, aside, begun_in, both, left, moved_once, none, read_in, unmoved}
 use Rattle.vr_worlds.proofs.Matched.{lines_are_moves}
-use Rattle.vr_unforged.specs.Bridged.{IsBridged}
-use Rattle.vr_unforged.specs.Schedules.{IsSealedWorld, MayAll, MayHappen}
-use Rattle.vr_unforged.specs.Laws.{HappeningsAreRuns, LinesStayUnforged}
+use Rattle.vr_unforged.specs.Bridged.{IsBridged, IsLed}
+use Rattle.vr_unforged.specs.Schedules.{IsHashed, IsSealedWorld, IsUsedAt, MayFollow, MayHappen}
+use Rattle.vr_unforged.specs.Laws.{HappeningsAreRuns, IsUnforgedBeside, LinesStayUnforged}
 use Rattle.vr_unforged.proofs.Lines.{line_leaves, line_unforged}
+use Rattle.vr_unforged.proofs.Names.{begun_so, hashed_both, none_hashed, used}
+use Rattle.vr_unforged.proofs.Sessions.{ComesOfEntries, run_comes}
 use Rattle.vr_unforged.proofs.Values.{bridged_moved}
 
 -- ---- runs one after the other
@@ -41,47 +48,128 @@ said_both _ b c d (aside o ws gs is s) t = aside o (ws ++ c) (b ++ d) is (said_b
 
 -- ---- and the machine's beside them
 
-bridged_run : (g : Group) (run : List Played) → IsBridged g → IsFitGroup 0 g → All (λ p. IsFitMove p.move) run → Run g run → IsBridged (left g run)
-bridged_run g [] b fit well (Run.ended h) = b
+bridged_run : (g : Group) (run : List Played) (b : IsBridged g) → IsFitGroup 0 g → All (λ p. IsFitMove p.move) run → Run g run → (c : IsBridged (left g run)) × (length c.machine.made ≤ length b.machine.made + length run)
+bridged_run g [] b fit well (Run.ended h) = (b, omega arith)
 bridged_run g (p ∷ ps) b fit well (Run.goes h x y more m r) =
     let one = All-head (λ (p : Played). IsFitMove p.move) p ps well in
-    bridged_run y.group ps (bridged_moved g x y b fit one m) (groups_fit.each 0 g x y fit one m) (All-tail (λ (p : Played). IsFitMove p.move) p ps well) r
+    let first = bridged_moved g x y b fit one m in
+    let rest = bridged_run y.group ps first.0 (groups_fit.each 0 g x y fit one m) (All-tail (λ (p : Played). IsFitMove p.move) p ps well) r in
+    let l = first.1 in
+    let k = rest.1 in
+    (rest.0, omega (arith, l, k))
+
+-- ---- the run that led there, and a line's
+
+one_at_most : (es : List Effect) (fs : List Face) (run : List Played) → IsOneMove es fs run → length run ≤ 1
+one_at_most es fs _ (unmoved still) = omega arith
+one_at_most es fs _ (moved_once p script faces) = omega arith
+
+led_on : (g : Group) (past : IsLed g) (run : List Played) → Run g run → All (λ (p : Played). IsFitMove p.move) run → IsLed (left g run)
+led_on g past run is well =
+    let first : Group = fresh_group 0 past.n in
+    let f = past.fit in
+    record {
+      n = past.n;
+      run = past.run ++ run;
+      fit = record {
+        number = f.number;
+        few = f.few;
+        many = f.many;
+        moves = All-append (λ (p : Played). IsFitMove p.move) past.run run f.moves well;
+        of_run = run_both first past.run run f.of_run (subst (λ (h : Group). Run h run) (sym past.is) is);
+      };
+      is = left_both first past.run run ∙ ap (λ (h : Group). left h run) past.is;
+    }
+
+module _ (w : World Lying) (g : Group) (x : Happening) (u : IsUnforgedBeside w g) where
+  -- what is hashed by the run with a line's move
+  hashed_on : (run : List Played) → IsOneMove (begun_in w x) (read_in w x) run → (P : List ℕ → Type 0) → ((bytes : List ℕ) → IsUsedAt w x bytes → P bytes) → (bytes : List ℕ) → safe.IsHashed (u.past.run ++ run) (root_header 0) bytes
+      → safe.IsHashed u.past.run (root_header 0) bytes ⊎ P bytes
+  hashed_on run one P into bytes h = elim (used w x u.past.run run one (root_header 0) bytes h) [ inl old ↦ inl old | inr new ↦ inr (into bytes new) ]
+
+  module _ (may : MayHappen u.past.run w x) where
+    -- no op is near those that sessions could spell
+    low : length u.bridged.machine.made < 2 ^ 60
+    low = let a = u.few in let b = may.few in omega (arith, a, b)
+
+    moves : IsMatchedBy (begun_in w x) (read_in w x) g (happens hazards w x)
+    moves = lines_are_moves w g x u.beside u.fit u.stock
+        (record { line = may.line; names = λ a b p q same. may.names a b (inr (inl p)) (inr (inl q)) same; unforged = line_unforged w g u.beside u.fit u.stock u.bridged low u.sealed x })
+
+    led : IsLed (left g moves.matched.run)
+    led = led_on g u.past moves.matched.run moves.matched.is moves.matched.reads
+
+    -- so a checkpoint that it writes is of sessions that come of entries
+    comes : AllByRecursion ComesOfEntries (begun_in w x)
+    unfolding led led_on
+    comes =
+        let run = moves.matched.run in
+        let into = hashed_on run moves.one (λ bytes. IsHashedAt w x bytes ⊎ IsUsedAt w x bytes) (λ bytes h. inr h) in
+        let never : NoCollision (λ bytes. safe.IsHashed (u.past.run ++ run) (root_header 0) bytes) = λ a b p q same. may.names a b (into a p) (into b q) same in
+        begun_so ComesOfEntries u.past.run run (begun_in w x) (read_in w x) moves.one (run_comes u.past.n (u.past.run ++ run) led.fit never)
+
+    leaves : IsUnforgedBeside (happens hazards w x).world (left g moves.matched.run)
+    unfolding led led_on
+    leaves =
+        let one = moves.matched in
+        let h = happens hazards w x in
+        let on = bridged_run g one.run u.bridged u.fit one.reads one.is in
+        let sealed = line_leaves w g u.beside u.fit u.stock u.bridged low u.sealed x may.line comes in
+        let size = length-append u.past.run one.run in
+        let made = on.1 in
+        let few = u.few in
+        record {
+          beside = one.beside;
+          fit = moves.fit;
+          stock = moves.stock;
+          bridged = on.0;
+          sealed = subst (IsSealedWorld h.world) (sym moves.made) sealed;
+          past = led;
+          few = omega (arith, size, made, few);
+        }
 
 pub lines_stay_unforged : LinesStayUnforged
-lines_stay_unforged w g x u may =
-    let by = lines_are_moves w g x u.beside u.fit u.stock (record { line = may.line; names = may.names; unforged = line_unforged w g u.beside u.fit u.stock u.bridged u.sealed x }) in
-    let one = by.matched in
-    let h = happens hazards w x in
-    let sealed = line_leaves w g u.beside u.fit u.stock u.bridged u.sealed x may.line may.sessions in (
-      by,
-      record {
-        beside = one.beside;
-        fit = by.fit;
-        stock = by.stock;
-        bridged = bridged_run g one.run u.bridged u.fit one.reads one.is;
-        sealed = subst (IsSealedWorld h.world) (sym by.made) sealed;
-      },
-    )
+unfolding leaves led led_on
+lines_stay_unforged w g x u may = (moves w g x u may, leaves w g x u may, refl)
 
 -- of the first line, and of those after it
-first_may : (w : World Lying) (x : Happening) (xs : List Happening) → MayAll w (x ∷ xs) → MayHappen w x
-first_may w x xs may = record { line = may.lines.0; names = λ a b p q same. may.names a b (inl p) (inl q) same; sessions = may.sessions.0 }
+first_may : (past : List Played) (w : World Lying) (x : Happening) (xs : List Happening) → MayFollow past w (x ∷ xs) → MayHappen past w x
+first_may past w x xs may =
+    let few = may.few in
+    let into : (bytes : List ℕ) → safe.IsHashed past (root_header 0) bytes ⊎ (IsHashedAt w x bytes ⊎ IsUsedAt w x bytes) → safe.IsHashed past (root_header 0) bytes ⊎ IsHashed w (x ∷ xs) bytes =
+    λ bytes h. elim h [ inl old ↦ inl old | inr new ↦ inr (inl new) ] in
+    record { line = may.lines.0; names = λ a b p q same. may.names a b (into a p) (into b q) same; few = omega (arith, few) }
 
-rest_may : (w : World Lying) (x : Happening) (xs : List Happening) → MayAll w (x ∷ xs) → MayAll (happens hazards w x).world xs
-rest_may w x xs may = record { lines = may.lines.1; names = λ a b p q same. may.names a b (inr p) (inr q) same; sessions = may.sessions.1 }
+rest_may : (w : World Lying) (g : Group) (x : Happening) (xs : List Happening) (u : IsUnforgedBeside w g) (run : List Played) → IsOneMove (begun_in w x) (read_in w x) run → MayFollow u.past.run w (x ∷ xs)
+    → MayFollow (u.past.run ++ run) (happens hazards w x).world xs
+rest_may w g x xs u run one may =
+    let v = (happens hazards w x).world in
+    let into : (bytes : List ℕ) → safe.IsHashed (u.past.run ++ run) (root_header 0) bytes ⊎ IsHashed v xs bytes → safe.IsHashed u.past.run (root_header 0) bytes ⊎ IsHashed w (x ∷ xs) bytes =
+    λ bytes h. elim h [ inl old ↦ hashed_on w g x u run one (IsHashed w (x ∷ xs)) (λ bytes h. inl (inr h)) bytes old | inr later ↦ inr (inr later) ] in
+    let size = length-append u.past.run run in
+    let most = one_at_most (begun_in w x) (read_in w x) run one in
+    let few = may.few in
+    record { lines = may.lines.1; names = λ a b p q same. may.names a b (into a p) (into b q) same; few = omega (arith, size, most, few) }
 
 pub happenings_are_runs : HappeningsAreRuns
 unfolding happen run_outputs
-happenings_are_runs [] w g u may = (no_move g (nothing w) u.fit u.stock u.beside none).matched
+happenings_are_runs [] w g u may = (record { run = []; is = Run.ended g; reads = All-nil (λ (p : Played). IsFitMove p.move); beside = u.beside; said = none }, none_hashed [] w)
 happenings_are_runs (x ∷ xs) w g u may =
-    let by = lines_stay_unforged w g x u (first_may w x xs may) in
+    let by = lines_stay_unforged w g x u (first_may u.past.run w x xs may) in
     let one = by.0.matched in
     let h = happens hazards w x in
-    let rest = happenings_are_runs xs h.world (left g one.run) by.1 (rest_may w x xs may) in
-    record {
-      run = one.run ++ rest.run;
-      is = run_both g one.run rest.run one.is rest.is;
-      reads = All-append (λ (p : Played). IsFitMove p.move) one.run rest.run one.reads rest.reads;
-      beside = subst (AreBeside (happen hazards h.world xs).world) (sym (left_both g one.run rest.run)) rest.beside;
-      said = subst (Said (h.outputs ++ (happen hazards h.world xs).outputs)) (sym (outputs_both one.run rest.run)) (said_both h.outputs (run_outputs one.run) (happen hazards h.world xs).outputs (run_outputs rest.run) one.said rest.said);
-    }
+    let next : MayFollow by.1.past.run h.world xs = subst (λ (past : List Played). MayFollow past h.world xs) (sym by.2) (rest_may w g x xs u one.run by.0.one may) in
+    let later = happenings_are_runs xs h.world (left g one.run) by.1 next in
+    let rest = later.0 in (
+      record {
+        run = one.run ++ rest.run;
+        is = run_both g one.run rest.run one.is rest.is;
+        reads = All-append (λ (p : Played). IsFitMove p.move) one.run rest.run one.reads rest.reads;
+        beside = subst (AreBeside (happen hazards h.world xs).world) (sym (left_both g one.run rest.run)) rest.beside;
+        said = subst (Said (h.outputs ++ (happen hazards h.world xs).outputs)) (sym (outputs_both one.run rest.run)) (said_both h.outputs (run_outputs one.run) (happen hazards h.world xs).outputs (run_outputs rest.run) one.said rest.said);
+      },
+      λ bytes all. elim (hashed_both one.run rest.run (root_header 0) bytes all) [
+        | inl first ↦ elim (used w x [] one.run by.0.one (root_header 0) bytes first) [ inl nothing ↦ none_hashed (x ∷ xs) w bytes nothing | inr new ↦ inl (inr new) ]
+        | inr more ↦ inr (later.1 bytes more)
+      ],
+    )

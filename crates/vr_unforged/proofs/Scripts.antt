@@ -1,5 +1,5 @@
 -- What the effects of a script write is sealed, so the disk stays so: to its end, and wherever it is cut.
-use Rattle.std.proofs.Common.{ℕ, zero, suc, ◌+◌, ◌*◌, ◌-◌, ◌<◌, ◌≡◌, inl, inr, arith, sym, subst, true, false, cond, List, [], ◌∷◌, ◌++◌, length, drop, take}
+use Rattle.std.proofs.Common.{ℕ, zero, suc, ◌+◌, ◌*◌, ◌-◌, ◌^◌, ◌<◌, ◌≡◌, inl, inr, arith, sym, subst, true, false, cond, List, [], ◌∷◌, ◌++◌, length, drop, take}
 use Rattle.std.specs.Prelude.{⊤}
 use Rattle.std.specs.List.{AllByRecursion}
 use Rattle.std.proofs.lemmas.Bool.{cases_lt, le-ltb}
@@ -83,7 +83,7 @@ module _ (made : List Header) where
       let fit = may.fit in
       let e = fit.0 in
       let group : e.header.cluster ≡ 0 = fit.3 in
-      let m = entry_made made d.face s (slot_of h) e f (omega arith) fit.1 group in
+      let m : e.header.op < 2 ^ 61 → In e.header made = λ low. entry_made made d.face s (slot_of h) e f (omega arith) fit.1 group low in
       let is = (read_whole d.face (slot_of h) e f (omega arith) fit.1).whole.header in
       let same = fit.2 in
       subst (λ (h : Header). AreSealed made (calls_of (Rewrite h) d.face)) same (header_calls_sealed made e.header is (sector_content e.header is) m)

@@ -1,4 +1,5 @@
 -- The headers that values name are of entries that were begun to be written: of the values of each member, and of each that a script saves.
+-- And no head is greater than the count of entries that were made, at most one by a move.
 use Rattle.std.proofs.Common.{ℕ, zero, suc, ◌+◌, ◌-◌, ◌≤◌, ◌<◌, ◌≡◌, inl, inr, arith, refl, sym, ap, ◌∙◌, subst, Bool, cond, List, [], ◌∷◌, ◌++◌, length, take, drop, Option, Some, None}
 use Rattle.std.specs.Prelude.{All, slice_get}
 use Rattle.std.specs.List.{AllByRecursion}
@@ -23,6 +24,7 @@ use Rattle.vr_run.proofs.Waking.{fresh_runs_so}
 use Rattle.vr_worlds.proofs.Lines.{own_place}
 use Rattle.vr_unforged.specs.Bridged.{AreNamed, IsBridged}
 use Rattle.vr_unforged.proofs.Logged.{NamedMade, named_made_reached}
+use Rattle.vr_unforged.proofs.Numbers.{AreShort, values_short}
 
 pub in_left : {X : Type 0} (xs ys : List X) (x : X) → In x xs → In x (xs ++ ys)
 in_left [] ys x h = absurd h
@@ -41,25 +43,30 @@ moved_made g x y (Moves.crashes i m at) = refl
 moved_made g x y (Moves.recovers i v d m opens) = refl
 moved_made g x y (Moves.recovers_cut i v d n m opens) = refl
 
-pub bridged_fresh : (n : ℕ) → 2 ≤ n → n ≤ 6 → IsBridged (fresh_group 0 n)
+pub bridged_fresh : (n : ℕ) → 2 ≤ n → n ≤ 6 → (b : IsBridged (fresh_group 0 n)) × (length b.machine.made ≡ 0)
 bridged_fresh n a b =
-    let f = fresh_runs_so 0 n [] (omega arith) a b (All-nil (λ (p : Played). IsFitMove p.move)) (Run.ended (fresh_group 0 n)) in
-    record { setup = f.setup; fits = f.fits; hash_is = f.hash_is; cluster_is = f.cluster_is; machine = f.first; bridges = f.bridges; made = λ x i. absurd (subst (In x) f.none_made i) }
+    let f = fresh_runs_so 0 n [] (omega arith) a b (All-nil (λ (p : Played). IsFitMove p.move)) (Run.ended (fresh_group 0 n)) in (
+      record { setup = f.setup; fits = f.fits; hash_is = f.hash_is; cluster_is = f.cluster_is; machine = f.first; bridges = f.bridges; made = λ x i. absurd (subst (In x) f.none_made i) },
+      ap length f.none_made,
+    )
 
-pub bridged_moved : (g : group.Group) (x : Move) (y : Moved) → IsBridged g → IsFitGroup 0 g → IsFitMove x → Moves g x y → IsBridged y.group
+-- a move makes at most one entry
+pub bridged_moved : (g : group.Group) (x : Move) (y : Moved) (b : IsBridged g) → IsFitGroup 0 g → IsFitMove x → Moves g x y → (c : IsBridged y.group) × (length c.machine.made ≤ length b.machine.made + 1)
 bridged_moved g x y b fit well move =
     let p : Played = record { before = g; move = x; moved = y } in
     let all : All (λ (p : Played). IsFitMove p.move) (p ∷ []) = All-cons (λ (p : Played). IsFitMove p.move) p [] well (All-nil (λ (p : Played). IsFitMove p.move)) in
-    let f = runs_so b.setup b.fits b.hash_is g b.machine (p ∷ []) (subst (λ (c : ℕ). IsFitGroup c g) (sym b.cluster_is) fit) all (Run.goes g x y [] move (Run.ended y.group)) b.bridges in
-    record {
-      setup = b.setup;
-      fits = b.fits;
-      hash_is = b.hash_is;
-      cluster_is = b.cluster_is;
-      machine = f.0;
-      bridges = f.1.bridges;
-      made = λ z i. subst (In z.entry) (sym (moved_made g x y move)) (elim (f.1.made z i) [ inl old ↦ in_left g.made (made_in y.script) z.entry (b.made z old) | inr new ↦ in_right g.made (made_in y.script) z.entry new ]);
-    }
+    let f = runs_so b.setup b.fits b.hash_is g b.machine (p ∷ []) (subst (λ (c : ℕ). IsFitGroup c g) (sym b.cluster_is) fit) all (Run.goes g x y [] move (Run.ended y.group)) b.bridges in (
+      record {
+        setup = b.setup;
+        fits = b.fits;
+        hash_is = b.hash_is;
+        cluster_is = b.cluster_is;
+        machine = f.0;
+        bridges = f.1.bridges;
+        made = λ z i. subst (In z.entry) (sym (moved_made g x y move)) (elim (f.1.made z i) [ inl old ↦ in_left g.made (made_in y.script) z.entry (b.made z old) | inr new ↦ in_right g.made (made_in y.script) z.entry new ]);
+      },
+      f.1.few,
+    )
 
 -- ---- the values of a member
 
@@ -99,6 +106,23 @@ module _ (g : group.Group) (b : IsBridged g) (i : ℕ) (m : group.Member) (at : 
   pub may_open_named : (v : SuperValue) → MayOpen m v → AreNamed g.made v
   may_open_named v o = elim o [ inl same ↦ subst (AreNamed g.made) same last_named | inr u ↦ under_named v u ]
 
+  -- its head is no greater than the count of entries that were made
+  short : AreShort b.machine
+  short = values_short b.setup.quorums (entries_by b.setup.hash b.setup.cluster) b.machine b.bridges.reached
+
+  pub may_open_short : (v : SuperValue) → MayOpen m v → v.fields.head ≤ length b.machine.made
+  may_open_short v (inl same) =
+      let o = b.bridges.members i m at in
+      let is = o.disk.last.reach in
+      let l = short.last i in
+      subst (λ (v : SuperValue). v.fields.head ≤ length b.machine.made) same (omega (arith, is, l))
+  may_open_short v (inr e) =
+      let o = b.bridges.members i m at in
+      let u = under_of v m.under (b.machine.members i).under o.disk.under e in
+      let is = u.2.reach in
+      let l = short.under i u.0 u.1 in
+      omega (arith, is, l)
+
 -- ---- the values that a script saves
 
 drop_at : {X : Type 0} (xs : List X) (n : ℕ) (x : X) → slice_get xs n ≡ Some x → (ys : List X) × (drop n xs ≡ x ∷ ys)
@@ -137,7 +161,7 @@ module _ (g : group.Group) (b : IsBridged g) (fit : IsFitGroup 0 g) (i : ℕ) (q
   cut_named x es p new well move under =
       let y = with_script g i p es [] in
       let c = bridged_moved g x y b fit well move in
-      under_named y.group c i p (own_place g.members i q p at) new under
+      under_named y.group c.0 i p (own_place g.members i q p at) new under
 
   pub step_saves : (arrival : Arrival) (e : Event) (r : Replica) → q.replica ≡ Some r → IsArrival g i arrival e → IsFitArrival arrival → SavesNamed g.made (stepped e r d).script
   step_saves arrival e r run arrives fits n old new there =

@@ -1,11 +1,14 @@
 -- A schedule of which all holds that is asked.
-use Rattle.std.proofs.Common.{ℕ, ◌≡◌, inl, inr, refl, sym, ◌∙◌, subst, Bool, true, false, List, [], ◌∷◌, ◌++◌, map, Option, Some, None}
-use Rattle.std.specs.Prelude.{not}
+use Rattle.std.proofs.Common.{ℕ, ◌≡◌, ◌⊎◌, arith, inl, inr, refl, sym, ◌∙◌, subst, Bool, true, false, List, [], ◌∷◌, ◌++◌, map, Option, Some, None}
+use Rattle.std.specs.Prelude.{Contains, not, slice_get, ⊤}
 use Rattle.std.specs.List.{AllByRecursion}
 use Rattle.vr_header.specs.declared.header.Header.{Header}
 use Rattle.vr_header.specs.declared.part.Part.{Part}
 use Rattle.vr_header.specs.declared.part.Part.TheVariants.{Here}
+use Rattle.vr_disk.specs.DiskState.{Face, IsFace}
 use Rattle.vr_header.specs.Made.{Whole}
+use Rattle.vr_header.specs.Names.{root_header}
+use Rattle.vr_header.specs.Spelling.{named_bytes}
 use Rattle.vr_grid.specs.declared.name.Name.{Name}
 use Rattle.vr_msg.specs.declared.event.Event.TheVariants as event
 use Rattle.vr_msg.specs.declared.frame.Frame.{Frame}
@@ -20,9 +23,15 @@ use Rattle.vr_rules.specs.Words.{ask, ask_for, ask_peer, entry_of, or_lost, prep
 use Rattle.vr_rules.specs.Opening.{blank, fresh}
 use Rattle.vr_rules.specs.Lying.{Lying, hazards, lying}
 use Rattle.vr_rules.specs.World.{Fuses, Stops, Ticks, World, fresh_host, fresh_world}
-use Rattle.vr_worlds.specs.Worlds.{IsHashedCut, Work, begun_in, begun_of, stepping, work_of}
+use Rattle.vr_rules.specs.Safe as safe
+use Rattle.vr_rules.specs.Safe.{IsRead, IsWritten}
+use Rattle.vr_protocol.specs.Basics.{In}
+use Rattle.vr_worlds.specs.Worlds.{IsHashedAt, IsHashedCut, Work, begun_in, begun_of, read_in, read_of, stepping, work_of}
+use Rattle.vr_worlds.proofs.Fresh.{fresh_beside}
 use Rattle.vr_unforged.specs.Laws.{SomeScheduleMay}
-use Rattle.vr_unforged.specs.Schedules.{ChecksHeadless, IsHashed}
+use Rattle.vr_unforged.specs.Schedules.{IsHashed, IsUsedAt}
+use Rattle.vr_unforged.proofs.Blank.{reads_nothing}
+use Rattle.vr_unforged.proofs.Names.{contains_in, contains_none}
 
 abbrev start : World Lying
 start = fresh_world hazards 2
@@ -44,99 +53,144 @@ work_same k e = same_work (stepping event.Tick (fresh_host hazards 2 0) first) k
 none_cut : (b : List ℕ) → IsHashedCut (stepping event.Tick (fresh_host hazards 2 0) first) b → ⊥
 none_cut b h = let bad : None ≡ Some h.0 = h.1 in absurd cc
 
-none_hashed : (b : List ℕ) → IsHashed start (Ticks 0 ∷ Stops 1 ∷ Fuses 0 5 7 ∷ []) b → ⊥
-none_hashed b (inl h) = none_cut b (subst (λ (k : Work). IsHashedCut k b) (sym (work_same h.0 h.1)) h.2)
-none_hashed b (inr (inl h)) = let bad : None ≡ Some h.0 = h.1 in absurd cc
-none_hashed b (inr (inr (inl h))) = let bad : None ≡ Some h.0 = h.1 in absurd cc
-none_hashed b (inr (inr (inr h))) = h
+-- ---- as time goes by a primary says something, and does nothing else
 
--- ---- as time goes by a primary writes no checkpoint
+abbrev IsSay : Effect → Type 0
+IsSay (Say o) = ⊤
+IsSay _ = ⊥
 
-record Checkless (w : Word Lying) : Type 0 where
-  each : (r : Replica) (d : Lying) → AllByRecursion ChecksHeadless (w lying r d).script
+record Says (w : Word Lying) : Type 0 where
+  each : (r : Replica) (d : Lying) → AllByRecursion IsSay (w lying r d).script
 
-both : (xs ys : List Effect) → AllByRecursion ChecksHeadless xs → AllByRecursion ChecksHeadless ys → AllByRecursion ChecksHeadless (xs ++ ys)
+both : (xs ys : List Effect) → AllByRecursion IsSay xs → AllByRecursion IsSay ys → AllByRecursion IsSay (xs ++ ys)
 both [] ys a b = b
 both (x ∷ xs) ys a b = (a.0, both xs ys a.1 b)
 
-said : (os : List Output) → AllByRecursion ChecksHeadless (map Say os)
+said : (os : List Output) → AllByRecursion IsSay (map Say os)
 said [] = tt
 said (o ∷ os) = (tt, said os)
 
-n_then : (v w : Word Lying) → Checkless v → Checkless w → Checkless (v ⨾ w)
+n_then : (v w : Word Lying) → Says v → Says w → Says (v ⨾ w)
 unfolding ◌⨾◌
 n_then v w x y = record { each = λ r d. let one = v lying r d in both one.script (w lying one.replica (after_all lying d one.script)).script (x.each r d) (y.each one.replica (after_all lying d one.script)) }
 
-n_quiet : Checkless quiet
+n_quiet : Says quiet
 unfolding quiet
 n_quiet = record { each = λ r d. tt }
 
-n_change : (g : Replica → Replica) → Checkless (change g)
+n_change : (g : Replica → Replica) → Says (change g)
 unfolding change
 n_change g = record { each = λ r d. tt }
 
-n_says : (os : Replica → List Output) → Checkless (says os)
+n_says : (os : Replica → List Output) → Says (says os)
 unfolding says
 n_says os = record { each = λ r d. said (os r) }
 
-n_by : (w : Replica → Word Lying) → ((r : Replica) → Checkless (w r)) → Checkless (by w)
+n_by : (w : Replica → Word Lying) → ((r : Replica) → Says (w r)) → Says (by w)
 unfolding by
 n_by w h = record { each = λ r d. (h r).each r d }
 
-n_when : (t : Bool) (w : Word Lying) → Checkless w → Checkless (when t w)
+n_when : (t : Bool) (w : Word Lying) → Says w → Says (when t w)
 n_when true w h = h
 n_when false w h = n_quiet
 
-n_naming : (w : (List ℕ → List ℕ) → Word Lying) → ((hash : List ℕ → List ℕ) → Checkless (w hash)) → Checkless (naming w)
+n_naming : (w : (List ℕ → List ℕ) → Word Lying) → ((hash : List ℕ → List ℕ) → Says (w hash)) → Says (naming w)
 unfolding naming
 n_naming w h = record { each = λ r d. (h lying.hash).each r d }
 
-n_reading : {X : Type 0} (g : Setting Lying → Lying → X) (w : X → Word Lying) → ((x : X) → Checkless (w x)) → Checkless (reading g w)
+n_reading : {X : Type 0} (g : Setting Lying → Lying → X) (w : X → Word Lying) → ((x : X) → Says (w x)) → Says (reading g w)
 unfolding reading
 n_reading g w h = record { each = λ r d. (h (g lying d)).each r d }
 
-n_lost : (h : Header) (w : Whole → Word Lying) (o : Option Whole) → ((e : Whole) → Checkless (w e)) → Checkless (or_lost h w o)
+n_lost : (h : Header) (w : Whole → Word Lying) (o : Option Whole) → ((e : Whole) → Says (w e)) → Says (or_lost h w o)
 n_lost h w None all = n_change _
 n_lost h w (Some e) all = all e
 
-n_entry : (w : Whole → Word Lying) (p : Part) → ((e : Whole) → Checkless (w e)) → Checkless (with_entry w p)
+n_entry : (w : Whole → Word Lying) (p : Part) → ((e : Whole) → Says (w e)) → Says (with_entry w p)
 n_entry w (Here h) all = n_reading (entry_of h) (or_lost h w) (λ o. n_lost h w o all)
 n_entry w _ all = n_quiet
 
-n_again : (op : ℕ) → Checkless (prepare_again op)
+n_again : (op : ℕ) → Says (prepare_again op)
 unfolding prepare_again with_entry_at
 n_again op = n_by _ (λ r. n_entry _ (part_at r op) (λ e. n_says _))
 
-n_peer : (message : Replica → Frame) → Checkless (ask_peer message)
+n_peer : (message : Replica → Frame) → Says (ask_peer message)
 unfolding ask_peer
 n_peer message = n_then _ _ (n_says _) (n_change _)
 
-n_ask_for : (names : List Name) (absent : Option Header) → Checkless (ask_for names absent)
+n_ask_for : (names : List Name) (absent : Option Header) → Says (ask_for names absent)
 n_ask_for (name ∷ names) absent = n_peer _
 n_ask_for [] (Some h) = n_naming _ (λ hash. n_peer _)
 n_ask_for [] None = n_quiet
 
-n_ask : Checkless ask
+n_ask : Says ask
 unfolding ask
 n_ask = n_by _ (λ r. n_ask_for r.missing _)
 
-n_primary : Checkless (rules.obey_tick TickedPrimary)
+n_primary : Says (rules.obey_tick TickedPrimary)
 n_primary = n_then _ _ (n_says _) (n_then _ _ (n_by _ (λ r. n_when _ _ (n_again _))) n_ask)
 
 leads_first : first_of (tick_table first) ≡ TickedPrimary
 unfolding blank first_of
 leads_first = refl
 
-tick_plain : (d : Lying) → AllByRecursion ChecksHeadless (rules.react event.Tick lying first d).script
+tick_says : (d : Lying) → AllByRecursion IsSay (rules.react event.Tick lying first d).script
 unfolding rules.react rules.on_tick by first_of blank
-tick_plain d = (n_when (not (is_frozen first)) (rules.obey_tick (first_of (tick_table first))) (subst (λ (x : Rule). Checkless (rules.obey_tick x)) (sym leads_first) n_primary)).each first d
+tick_says d = (n_when (not (is_frozen first)) (rules.obey_tick (first_of (tick_table first))) (subst (λ (x : Rule). Says (rules.obey_tick x)) (sym leads_first) n_primary)).each first d
 
-tick_begun : AllByRecursion ChecksHeadless (begun_in start (Ticks 0))
-tick_begun = subst (λ (o : Option Work). AllByRecursion ChecksHeadless (begun_of o)) (sym work_is) (tick_plain (fresh_host hazards 2 0).disk)
+tick_begun : AllByRecursion IsSay (begun_in start (Ticks 0))
+tick_begun = subst (λ (o : Option Work). AllByRecursion IsSay (begun_of o)) (sym work_is) (tick_says (fresh_host hazards 2 0).disk)
+
+-- what is said hashes nothing
+says_nothing : (e : Effect) (bytes : List ℕ) → IsSay e → IsWritten e bytes → ⊥
+says_nothing _ _ s (safe.IsWritten.header again e) = s
+says_nothing _ _ s (safe.IsWritten.operation again e) = s
+says_nothing _ _ s (safe.IsWritten.block cluster texts op old c i) = s
+says_nothing _ _ s (safe.IsWritten.payload cluster texts op old c i) = s
+says_nothing _ _ s (safe.IsWritten.put name block c n) = s
+says_nothing _ _ s (safe.IsWritten.given name block c n) = s
+
+all_of : (es : List Effect) (e : Effect) → AllByRecursion IsSay es → In e es → IsSay e
+all_of [] e a i = absurd i
+all_of (x ∷ es) e a (inl same) = subst IsSay (sym same) a.0
+all_of (x ∷ es) e a (inr i) = all_of es e a.1 i
+
+-- ---- so only the root is hashed: the disk that the step reads is blank
+
+abbrev face : Face
+face = (fresh_host hazards 2 0).disk.face
+
+first_there : slice_get start.members 0 ≡ Some (fresh_host hazards 2 0)
+unfolding fresh_world
+first_there = refl
+
+face_is : IsFace face
+face_is =
+    let at : slice_get start.members 0 ≡ Some (fresh_host hazards 2 0) = first_there in
+    ((((fresh_beside 2 (omega arith) (omega arith)).each 0 (fresh_host hazards 2 0) at).2).running first refl).0.calm.face
+
+read_is : (f : Face) → Contains (read_in start (Ticks 0)) f → f ≡ face
+read_is f c =
+    let i = contains_in (face ∷ []) f (subst (λ (o : Option Work). Contains (read_of o) f) work_is c) in
+    elim i [ inl same ↦ same | inr none ↦ absurd none ]
+
+tick_hashes : (b : List ℕ) → IsHashedAt start (Ticks 0) b ⊎ IsUsedAt start (Ticks 0) b → ⊥
+tick_hashes b (inl h) = none_cut b (subst (λ (k : Work). IsHashedCut k b) (sym (work_same h.0 h.1)) h.2)
+tick_hashes b (inr (inl u)) = reads_nothing 2 0 face_is b (subst (λ (f : Face). IsRead f b) (read_is u.0 u.1) u.2)
+tick_hashes b (inr (inr u)) = says_nothing u.0 b (all_of (begun_in start (Ticks 0)) u.0 tick_begun (contains_in (begun_in start (Ticks 0)) u.0 u.1)) u.2
+
+only_root : (b : List ℕ) → IsHashed start (Ticks 0 ∷ Stops 1 ∷ Fuses 0 5 7 ∷ []) b → b ≡ named_bytes (root_header 0)
+only_root b (inl h) = absurd (tick_hashes b h)
+only_root b (inr (inl (inl h))) = let bad : None ≡ Some h.0 = h.1 in absurd cc
+only_root b (inr (inl (inr (inl u)))) = absurd (contains_none u.0 u.1)
+only_root b (inr (inl (inr (inr u)))) = absurd (contains_none u.0 u.1)
+only_root b (inr (inr (inl (inl h)))) = let bad : None ≡ Some h.0 = h.1 in absurd cc
+only_root b (inr (inr (inl (inr (inl u))))) = absurd (contains_none u.0 u.1)
+only_root b (inr (inr (inl (inr (inr u))))) = absurd (contains_none u.0 u.1)
+only_root b (inr (inr (inr root))) = root
 
 pub some_schedule_may : SomeScheduleMay
 some_schedule_may = record {
   lines = (tt, (tt, (tt, tt)));
-  names = λ a b p q same. absurd (none_hashed a p);
-  sessions = (tick_begun, (tt, (tt, tt)));
+  names = λ a b p q same. only_root a p ∙ sym (only_root b q);
 }

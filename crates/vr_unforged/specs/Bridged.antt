@@ -1,4 +1,4 @@
--- What a run of the group has of the machine: each entry that was made there was begun to be written.
+-- What a run of the group has of the machine: each entry that was made there was begun to be written. And the run that led to a group.
 use Rattle.std.specs.Prelude.{ℕ, ◌+◌, ◌*◌, ◌<◌, ◌≡◌, List}
 use Rattle.std.specs.List.{AllByRecursion}
 use Rattle.vr_header.specs.declared.header.Header.{Header}
@@ -7,11 +7,14 @@ use Rattle.vr_super.specs.Copies.{SuperValue}
 use Rattle.vr_seals.specs.Seals.{IsSealed}
 use Rattle.vr_rules.specs.Lying.{lying}
 use Rattle.vr_rules.specs.Group as group
+use Rattle.vr_rules.specs.Group.{Played, fresh_group}
 use Rattle.vr_protocol.specs.Basics.{In}
 use Rattle.vr_protocol.specs.Group.{Group, Made}
 use Rattle.vr_safe.specs.Chains.{Setup}
 use Rattle.vr_safe.specs.Tables.{Fits}
 use Rattle.vr_run.specs.Bridge.{Bridges}
+use Rattle.vr_agree.specs.Followed.{IsFitRun}
+use Rattle.vr_worlds.specs.Worlds.{left}
 
 -- the machine's group stands for it, and made nothing else
 pub record IsBridged (g : group.Group) : Type 0 where
@@ -22,6 +25,13 @@ pub record IsBridged (g : group.Group) : Type 0 where
   pub machine : Group Header
   pub bridges : Bridges setup g machine
   pub made : (x : Made Header) → In x machine.made → In x.entry g.made
+
+-- a run of a group of n replicas that was just made led there
+pub record IsLed (g : group.Group) : Type 0 where
+  pub n : ℕ
+  pub run : List Played
+  pub fit : IsFitRun 0 n run
+  pub is : left (fresh_group 0 n) run ≡ g
 
 -- each header that a value names is one of these
 abbrev pub AreNamed : List Header → SuperValue → Type 0

@@ -3,8 +3,8 @@
 //! statement, and it does nothing.
 //!
 //! What is asked of a schedule (`MayAll`): its lines are those of a schedule; names don't collide, of what was read, held and written
-//! where a script was cut or a fault was done; where a sector of a checkpoint begins, no text of sessions spells a header that its form
-//! leaves: of an entry whose op is 2^61 or more, or any where a session doesn't come of an entry.
+//! in any of them. And it has fewer than 2^60 lines: so long the log doesn't come near the ops, of 2^61 and more, whose headers the
+//! sessions of a checkpoint could spell where a sector begins.
 #![tactic(auto)]
 
 ghost use Rattle.vr_unforged.specs.Laws.{HappeningsAreRuns, LinesStayUnforged, SchedulesAreRuns, SomeScheduleMay, WorldsBeginUnforged};

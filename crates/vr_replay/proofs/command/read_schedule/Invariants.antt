@@ -1,4 +1,4 @@
-use Rattle.std.proofs.Common.{◌≡◌, ◌≤◌, length}
+use Rattle.std.proofs.Common.{◌≡◌, ◌≤◌}
 use Rattle.vr_replay.specs.Playing.{IsReplay}
 use Rattle.vr_replay.proofs.Whole.{Midst}
 use Rattle.vr_replay.proofs.command.read_schedule.Given as goal
@@ -9,5 +9,4 @@ invariant-loop g l = record {
   sound : IsReplay l.replay;
   read_faults : g.S.Source.faults l.source ≡ g.S.Source.faults l.initial.source;
   write_faults : g.K.Sink.faults l.initial.sink ≤ g.K.Sink.faults l.sink;
-  room : length l.buffer ≡ 4096;
 }

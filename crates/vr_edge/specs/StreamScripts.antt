@@ -1,0 +1,58 @@
+-- What the calls of streams in memory do.
+use Rattle.std.specs.Prelude.{ℕ, ◌-◌, ◌≡◌, ◌==◌, ◌||◌, if◌then◌else◌, Bool, true, false, List, [], ◌∷◌, length, take, slice_get, slice_set, Option, Some, None, unwrap_or, Result, Ok, Err}
+use Rattle.vr_edge.specs.Counts.{is_listed}
+use Rattle.vr_edge.specs.Told.{Grows}
+use Rattle.vr_edge.specs.declared.stream_script.Coming.{Coming}
+use Rattle.vr_edge.specs.declared.stream_script.Coming.TheVariants as coming
+use Rattle.vr_edge.specs.declared.stream_script.StreamScript.{StreamScript}
+use Rattle.vr_edge.specs.declared.streams.StreamCall.{StreamCall}
+use Rattle.vr_edge.specs.declared.streams.StreamCall.TheVariants as call
+use Rattle.vr_edge.specs.declared.streams.StreamFailed.{StreamFailed}
+use Rattle.vr_edge.specs.declared.streams.TheConstants.{STREAM_ROOM}
+
+-- what comes at this port is left out: its connection was closed, or there is no such port
+abbrev pub is_left_out : List Bool → ℕ → Bool
+is_left_out left port = unwrap_or (slice_get left port) true
+
+-- what a poll gives of what it finds
+abbrev pub gives : List Bool → Coming → StreamCall
+gives left coming.Nothing = call.Quiet
+gives left coming.Fault = call.Failed
+gives left (coming.Piece p) =
+    if is_left_out left p.port || length p.bytes == 0 then call.Quiet
+    else call.Came (record { port = p.port; bytes = take STREAM_ROOM p.bytes })
+gives left (coming.End port) = if is_left_out left port then call.Quiet else call.Ended port
+
+-- what the poll with this number finds
+abbrev pub found_at : StreamScript → ℕ → Coming
+found_at script number = unwrap_or (slice_get script.comes.items number) coming.Nothing
+
+-- what it gives of it
+abbrev pub gives_at : List Bool → StreamScript → ℕ → StreamCall
+gives_at left script number = gives left (found_at script number)
+
+-- what waits for a poll that gives this
+abbrev pub waits : StreamCall → List StreamCall
+waits (call.Came p) = call.Came p ∷ []
+waits (call.Ended port) = call.Ended port ∷ []
+waits _ = []
+
+-- the ports that are left out once this was found: an end begins another connection
+abbrev pub left_behind : List Bool → Coming → List Bool
+left_behind left (coming.End port) = slice_set left port false
+left_behind left _ = left
+
+-- how much the write with this number takes of so many bytes
+abbrev pub write_takes : StreamScript → ℕ → ℕ → Result ℕ StreamFailed
+write_takes script number count =
+    if is_listed script.failing_writes.items number then Err (record {})
+    else (if is_listed script.short_writes.items number then Ok (count - 1) else Ok count)
+
+-- a log, where it has every entry
+abbrev pub told : {X : Type 0} → Bool → List X → Option (List X)
+told whole log = if whole then Some log else None
+
+-- an entry was added; for want of memory the log is told no more
+abbrev pub IsNoted : {X E : Type 0} → Option (List X) → Option (List X) → Result X E → Type 0
+IsNoted old new (Ok entry) = Grows old new (entry ∷ [])
+IsNoted old new (Err e) = new ≡ None

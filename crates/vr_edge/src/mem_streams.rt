@@ -1,0 +1,326 @@
+//! Streams in memory.
+ghost use Rattle.std.specs.Prelude.{◌≡◌, ◌≤◌, [], ◌∷◌, List, Option, Some, None, IfOk, if◌then◌else◌, length, replicate, false, true, slice_get, slice_set, unwrap_or};
+ghost use Rattle.vr_base.specs.Causes.{HasCause};
+ghost use Rattle.vr_edge.specs.Counts.{is_listed, one_more};
+ghost use Rattle.vr_edge.specs.Streaming.{IsPolled, polled_by, written_by};
+ghost use Rattle.vr_edge.specs.StreamScripts.{gives, is_left_out, left_behind};
+ghost use Rattle.vr_edge.specs.Told.{Grows, IsNothing};
+ghost use Rattle.vr_edge.specs.declared.streams.StreamCall.TheVariants as call;
+
+use crate::calls::is_listed;
+use crate::{
+    Coming, Piece, Polled, STREAM_ROOM, StreamCall, StreamFailed, StreamScript, Streams, Write,
+};
+use std::alloc::{AllocError, Global};
+use vr_base::ByteList;
+
+/// Entries, as long as there is memory for them.
+#[derive(Drop)]
+pub struct Log<T> {
+    entries: Vec<T>,
+    /// Whether every entry is there.
+    whole: bool,
+}
+
+/// Streams in memory, which tell each of their calls as long as there is memory for it.
+#[derive(Drop)]
+pub struct MemStreams {
+    alloc: Global,
+    script: StreamScript,
+    /// Whether what comes at a port is left out.
+    left_out: Vec<bool>,
+    calls: Log<StreamCall>,
+    written: Log<Write>,
+    attaches: u64,
+    polls: u64,
+    writes: u64,
+    closes: u64,
+    faults: u64,
+    call_faults: u64,
+}
+
+/// Whether what comes at this port is left out.
+fn is_left_out(left_out: &[bool], port: u32) -> bool
+    ensures { result ≡ is_left_out left_out.now port }
+{
+    left_out.get(port as usize).copied().unwrap_or(true)
+}
+
+/// What a poll gives of what it finds.
+#[tactic(auto, using(std::proofs::lemmas::Grind::common_steps, crate::proofs::Receiving::take_most))]
+fn give(left_out: &[bool], found: &Coming, to: &mut [u8]) -> Result<Polled, StreamFailed>
+    requires { length to.old ≡ STREAM_ROOM }
+    ensures gives { polled_by result to.new ≡ gives left_out.now found.now }
+    ensures bound { IfOk result IsPolled }
+{
+    match found {
+        Coming::Nothing => Ok(Polled::Quiet),
+        Coming::Fault => Err(StreamFailed),
+        Coming::End(port) => {
+            if is_left_out(left_out, *port) {
+                return Ok(Polled::Quiet);
+            }
+            Ok(Polled::Ended(*port))
+        }
+        Coming::Piece(piece) => {
+            if is_left_out(left_out, piece.port) || piece.bytes.len() == 0 {
+                return Ok(Polled::Quiet);
+            }
+            let count = piece.bytes.len().min(STREAM_ROOM);
+            to[..count].copy_from_slice(&piece.bytes.as_slice()[..count]);
+            Ok(Polled::Bytes(piece.port, count as u32))
+        }
+    }
+}
+
+/// From here on what comes at this port is left out, or is not.
+fn leave_out(left_out: &mut Vec<bool>, port: u32, whether: bool)
+    ensures { left_out.new.items ≡ slice_set left_out.old.items port whether }
+{
+    let at = port as usize;
+    if at < left_out.len() {
+        left_out[at] = whether;
+    }
+}
+
+/// An end that was found begins another connection at its port.
+fn begin_anew(left_out: &mut Vec<bool>, found: &Coming)
+    ensures { left_out.new.items ≡ left_behind left_out.old.items found.now }
+{
+    match found {
+        Coming::End(port) => leave_out(left_out, *port, false),
+        Coming::Nothing | Coming::Fault | Coming::Piece(_) => {}
+    }
+}
+
+/// The entry of one poll.
+fn poll_entry(
+    alloc: Global,
+    polled: &Result<Polled, StreamFailed>,
+    bytes: &[u8],
+) -> Result<StreamCall, AllocError>
+    requires { (length bytes.now ≡ STREAM_ROOM) × IfOk polled.now IsPolled }
+    ensures { IfOk result (λ c. c ≡ polled_by polled.now bytes.now) }
+{
+    match polled {
+        Ok(Polled::Bytes(port, count)) => Ok(StreamCall::Came(Piece {
+            port: *port,
+            bytes: ByteList::from_vec(Vec::from_slice(alloc, &bytes[..*count as usize])?),
+        })),
+        Ok(Polled::Ended(port)) => Ok(StreamCall::Ended(*port)),
+        Ok(Polled::Quiet) => Ok(StreamCall::Quiet),
+        Err(_) => Ok(StreamCall::Failed),
+    }
+}
+
+/// The entry of one write.
+fn write_entry(
+    alloc: Global,
+    port: u32,
+    bytes: &[u8],
+    written: &Result<usize, StreamFailed>,
+) -> Result<Write, AllocError>
+    ensures { IfOk result (λ w. w ≡ written_by port bytes.now written.now) }
+{
+    let bytes = ByteList::from_vec(Vec::from_slice(alloc, bytes)?);
+    let taken = match written {
+        Ok(count) => Some(*count),
+        Err(_) => None,
+    };
+    Ok(Write { port, bytes, taken })
+}
+
+impl<T: Drop> Log<T> {
+    ghost use Rattle.vr_edge.specs.StreamScripts.{told, IsNoted};
+
+    /// No entry.
+    fn new(alloc: Global) -> Log<T>
+        ensures { (result.whole ≡ true) × (result.entries.items ≡ []) }
+    {
+        Log {
+            entries: Vec::new(alloc),
+            whole: true,
+        }
+    }
+
+    /// Adds an entry; for want of memory the log has no longer every one.
+    fn note(&mut self, entry: Result<T, AllocError>)
+        ensures { IsNoted (told self.old.whole self.old.entries.items) (told self.new.whole self.new.entries.items) entry }
+    {
+        match entry {
+            Ok(entry) => {
+                if self.entries.push(entry).is_err() {
+                    self.whole = false;
+                }
+            }
+            Err(_) => self.whole = false,
+        }
+    }
+}
+
+impl MemStreams {
+    ghost use Rattle.std.specs.Option.{option_map};
+    ghost use Rattle.vr_edge.specs.StreamScripts.{found_at, gives_at};
+
+    /// Streams at so many ports, on which the script runs. What comes at other ports is left out.
+    pub fn new(alloc: Global, ports: usize, script: StreamScript) -> Result<MemStreams, AllocError>
+        ensures calls { IfOk result (λ s. ⟦<MemStreams as Streams>⟧.calls s ≡ Some []) }
+        ensures written { IfOk result (λ s. ⟦<MemStreams as Streams>⟧.written s ≡ Some []) }
+        ensures faults { IfOk result (λ s. s.faults ≡ 0) }
+        ensures call_faults { IfOk result (λ s. s.call_faults ≡ 0) }
+        ensures script { IfOk result (λ s. s.script ≡ script) }
+        ensures left_out { IfOk result (λ s. s.left_out.items ≡ replicate ports false) }
+        ensures attaches { IfOk result (λ s. s.attaches ≡ 0) }
+        ensures polls { IfOk result (λ s. s.polls ≡ 0) }
+        ensures writes { IfOk result (λ s. s.writes ≡ 0) }
+        ensures closes { IfOk result (λ s. s.closes ≡ 0) }
+    {
+        let mut left_out = Vec::new(alloc);
+        left_out.resize(ports, false)?;
+        Ok(MemStreams {
+            alloc,
+            script,
+            left_out,
+            calls: Log::new(alloc),
+            written: Log::new(alloc),
+            attaches: 0,
+            polls: 0,
+            writes: 0,
+            closes: 0,
+            faults: 0,
+            call_faults: 0,
+        })
+    }
+
+    /// What each poll and each close so far did; `None` where memory was wanting for it.
+    pub fn calls(&self) -> Option<&[StreamCall]>
+        ensures { option_map (λ calls. calls.now) result ≡ ⟦<MemStreams as Streams>⟧.calls self.now }
+    {
+        if self.calls.whole {
+            Some(self.calls.entries.as_slice())
+        } else {
+            None
+        }
+    }
+
+    /// Each write so far; `None` where memory was wanting for it.
+    pub fn written(&self) -> Option<&[Write]>
+        ensures { option_map (λ written. written.now) result ≡ ⟦<MemStreams as Streams>⟧.written self.now }
+    {
+        if self.written.whole {
+            Some(self.written.entries.as_slice())
+        } else {
+            None
+        }
+    }
+
+    /// What the next poll finds, of which it gives as much as it takes.
+    fn find(&mut self, to: &mut [u8]) -> Result<Polled, StreamFailed>
+        requires { length to.old ≡ STREAM_ROOM }
+        ensures gives { polled_by result to.new ≡ gives_at self.old.left_out.items self.old.script self.old.polls }
+        ensures bound { IfOk result IsPolled }
+        ensures left { self.new.left_out.items ≡ left_behind self.old.left_out.items (found_at self.old.script self.old.polls) }
+        ensures state { self.new ≡ record self.old { left_out = self.new.left_out; polls = one_more self.old.polls } }
+    {
+        let at = self.polls as usize;
+        self.polls = self.polls.saturating_add(1);
+        let Some(found) = self.script.comes.get(at) else {
+            return Ok(Polled::Quiet);
+        };
+        let given = give(&self.left_out, found, to);
+        begin_anew(&mut self.left_out, found);
+        given
+    }
+}
+
+impl Streams for MemStreams {
+    ghost use Rattle.vr_edge.specs.StreamScripts.{found_at, gives_at, told, waits, write_takes};
+
+    ghost calls = { λ s. told s.calls.whole s.calls.entries.items };
+
+    ghost written = { λ s. told s.written.whole s.written.entries.items };
+
+    ghost waiting = { λ s. Some (waits (gives_at s.left_out.items s.script s.polls)) };
+
+    ghost faults = { λ s. s.faults };
+
+    ghost call_faults = { λ s. s.call_faults };
+
+    fn attach(&mut self, _own: &str, _peers: &Vec<String>) -> Result<(), StreamFailed>
+        ensures cause { HasCause self.old.faults self.new.faults result }
+        ensures calls { ⟦<MemStreams as Streams>⟧.calls self.new ≡ ⟦<MemStreams as Streams>⟧.calls self.old }
+        ensures written { ⟦<MemStreams as Streams>⟧.written self.new ≡ ⟦<MemStreams as Streams>⟧.written self.old }
+        ensures others { self.new.call_faults ≡ self.old.call_faults }
+        ensures result { result ≡ (if is_listed self.old.script.failing_attaches.items self.old.attaches then Err (record {}) else Ok (record {})) }
+        ensures state { self.new ≡ record self.old { attaches = one_more self.old.attaches; faults = self.new.faults } }
+    {
+        let call = self.attaches;
+        self.attaches = call.saturating_add(1);
+        if is_listed(&self.script.failing_attaches, call) {
+            self.faults = self.faults.saturating_add(1);
+            return Err(StreamFailed);
+        }
+        Ok(())
+    }
+
+    fn poll(&mut self, to: &mut [u8]) -> Result<Polled, StreamFailed>
+        requires { length to.old ≡ STREAM_ROOM }
+        ensures bound { IfOk result IsPolled }
+        ensures cause { HasCause self.old.faults self.new.faults result }
+        ensures quiet { IfOk result (λ p. p ≡ Polled.Quiet → IsNothing (⟦<MemStreams as Streams>⟧.waiting self.old)) }
+        ensures calls { Grows (⟦<MemStreams as Streams>⟧.calls self.old) (⟦<MemStreams as Streams>⟧.calls self.new) (polled_by result to.new ∷ []) }
+        ensures written { ⟦<MemStreams as Streams>⟧.written self.new ≡ ⟦<MemStreams as Streams>⟧.written self.old }
+        ensures others { self.new.call_faults ≡ self.old.call_faults }
+        ensures gives { polled_by result to.new ≡ gives_at self.old.left_out.items self.old.script self.old.polls }
+        ensures left { self.new.left_out.items ≡ left_behind self.old.left_out.items (found_at self.old.script self.old.polls) }
+        ensures state { self.new ≡ record self.old { left_out = self.new.left_out; polls = one_more self.old.polls; calls = self.new.calls; faults = self.new.faults } }
+    {
+        let given = self.find(to);
+        let entry = poll_entry(self.alloc, &given, to);
+        self.calls.note(entry);
+        if given.is_err() {
+            self.faults = self.faults.saturating_add(1);
+        }
+        given
+    }
+
+    fn write(&mut self, port: u32, bytes: &[u8]) -> Result<usize, StreamFailed>
+        ensures bound { IfOk result (λ count. count ≤ length bytes.now) }
+        ensures cause { HasCause self.old.call_faults self.new.call_faults result }
+        ensures calls { ⟦<MemStreams as Streams>⟧.calls self.new ≡ ⟦<MemStreams as Streams>⟧.calls self.old }
+        ensures written { Grows (⟦<MemStreams as Streams>⟧.written self.old) (⟦<MemStreams as Streams>⟧.written self.new) (written_by port bytes.now result ∷ []) }
+        ensures others { self.new.faults ≡ self.old.faults }
+        ensures result { result ≡ write_takes self.old.script self.old.writes (length bytes.now) }
+        ensures state { self.new ≡ record self.old { writes = one_more self.old.writes; written = self.new.written; call_faults = self.new.call_faults } }
+    {
+        let call = self.writes;
+        self.writes = call.saturating_add(1);
+        let written = self.script.take(call, bytes.len());
+        let entry = write_entry(self.alloc, port, bytes, &written);
+        self.written.note(entry);
+        if written.is_err() {
+            self.call_faults = self.call_faults.saturating_add(1);
+        }
+        written
+    }
+
+    fn close(&mut self, port: u32) -> Result<(), StreamFailed>
+        ensures cause { HasCause self.old.call_faults self.new.call_faults result }
+        ensures calls { Grows (⟦<MemStreams as Streams>⟧.calls self.old) (⟦<MemStreams as Streams>⟧.calls self.new) (call.Closed port ∷ []) }
+        ensures written { ⟦<MemStreams as Streams>⟧.written self.new ≡ ⟦<MemStreams as Streams>⟧.written self.old }
+        ensures others { self.new.faults ≡ self.old.faults }
+        ensures left { self.new.left_out.items ≡ slice_set self.old.left_out.items port true }
+        ensures result { result ≡ (if is_listed self.old.script.failing_closes.items self.old.closes then Err (record {}) else Ok (record {})) }
+        ensures state { self.new ≡ record self.old { left_out = self.new.left_out; closes = one_more self.old.closes; calls = self.new.calls; call_faults = self.new.call_faults } }
+    {
+        let number = self.closes;
+        self.closes = number.saturating_add(1);
+        leave_out(&mut self.left_out, port, true);
+        self.calls.note(Ok(StreamCall::Closed(port)));
+        if is_listed(&self.script.failing_closes, number) {
+            self.call_faults = self.call_faults.saturating_add(1);
+            return Err(StreamFailed);
+        }
+        Ok(())
+    }
+}

@@ -1,0 +1,59 @@
+-- Whatever happens to a group that was just made, there is one log.
+use Rattle.std.proofs.Common.{ℕ, ◌+◌, ◌^◌, ◌<◌, ◌≤◌, ◌≡◌, arith, subst, List, [], ◌∷◌, ◌++◌, length, take, take_all, get_or}
+use Rattle.std.specs.List.{AllByRecursion}
+use Rattle.std.proofs.lemmas.List.{length-map, take_more}
+use Rattle.vr_lines.specs.Fits.{IsLineOf}
+use Rattle.vr_lines.specs.declared.line.Line.{Line}
+use Rattle.vr_lines.specs.declared.line.Line.TheVariants as line
+use Rattle.vr_rules.specs.Lying.{Lying, hazards}
+use Rattle.vr_rules.specs.World.{Begins, World, fresh_world, happen, happens, no_world}
+use Rattle.vr_worlds.specs.Worlds.{IsLine}
+use Rattle.vr_unforged.proofs.Fresh.{schedules_are_runs}
+use Rattle.vr_one_log.proofs.Closing.{runs_safe}
+use Rattle.vr_one_log.proofs.Traces.{keeps}
+use Rattle.vr_group.specs.Headline.{HasAsked, HaveAsked, IsJustMade, LinesKeepOneLog}
+use Rattle.vr_group.specs.Lines.{AreLinesOf, happening, happenings}
+
+line_of : (n : ℕ) (l : Line) → 0 < n → IsLineOf n l → HasAsked l → IsLine (happening l)
+line_of n (line.Cluster m) some of asked = absurd (let z : n ≡ 0 = of.0 in omega (arith, some))
+line_of n (line.Request replica request) some of asked = asked
+line_of n (line.Deliver number) some of asked = tt
+line_of n (line.Tick replica) some of asked = tt
+line_of n (line.Stop replica) some of asked = tt
+line_of n (line.Start replica) some of asked = tt
+line_of n (line.Fuse replica call code) some of asked = tt
+line_of n (line.Damage replica sector) some of asked = of.1
+line_of n (line.Stale replica sector) some of asked = of.1
+line_of n (line.Unread replica sector) some of asked = of.1
+line_of n (line.Misdirect replica sector other) some of asked = (of.1, of.2, of.3)
+
+lines_of : (n : ℕ) (ls : List Line) → 0 < n → AreLinesOf n ls → HaveAsked ls → AllByRecursion IsLine (happenings ls)
+unfolding AreLinesOf happenings
+lines_of n [] some of asked = tt
+lines_of n (l ∷ ls) some of asked = (line_of n l some of.0 asked.0, lines_of n ls some of.1 asked.1)
+
+pub lines_keep : (n : ℕ) (ls : List Line) → 2 ≤ n → n ≤ 6 → length ls < 2 ^ 60 → AreLinesOf n ls → HaveAsked ls → LinesKeepOneLog n ls
+unfolding happen happenings
+lines_keep n ls few many short of asked names =
+    let size : length (happenings ls) ≡ length ls = length-map ls happening in
+    let m = schedules_are_runs n (happenings ls) few many (rw size short) (record { lines = lines_of n ls (omega (arith, few)) of asked; names = names }) in
+    keeps n few many (runs_safe 0 n) (happen hazards (fresh_world hazards n) (happenings ls)) m.0 m.1
+
+-- ---- in the midst of lines, each of the first of which has asked
+
+pub asked_none : (ls : List Line) → HaveAsked (take 0 ls)
+asked_none ls = tt
+
+asked_append : (ls ms : List Line) → HaveAsked ls → HaveAsked ms → HaveAsked (ls ++ ms)
+asked_append [] ms h k = k
+asked_append (l ∷ ls) ms h k = (h.0, asked_append ls ms h.1 k)
+
+pub asked_more : (ls : List Line) (i : ℕ) (l : Line) → i < length ls → l ≡ get_or ls i l → HaveAsked (take i ls) → HasAsked l → HaveAsked (take (i + 1) ls)
+asked_more ls i l within is h k = rw (take_more ls i l within) (asked_append (take i ls) (get_or ls i l ∷ []) h (subst HasAsked is k, tt))
+
+pub asked_all : (ls : List Line) (i : ℕ) → length ls ≤ i → HaveAsked (take i ls) → HaveAsked ls
+asked_all ls i past h = rw (← take_all i ls past) h
+
+-- a group that was just made
+pub just_made : (w : World Lying) (ls : List Line) → AreLinesOf w.n ls → HaveAsked ls → IsJustMade w → length ls < 2 ^ 60 → LinesKeepOneLog w.n ls
+just_made w ls of asked made short = lines_keep w.n ls made.few made.many short of asked

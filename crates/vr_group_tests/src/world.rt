@@ -1,0 +1,96 @@
+//! A group alone, without a source and a sink.
+use std::alloc::{AllocError, Global};
+use std::process::Abort;
+use std::test::Fail;
+use vr_base::{ByteList, Seq};
+use vr_group::{Numbered, World};
+use vr_lines::{Line, parse_line};
+use vr_sched::write_text;
+
+/// The text of outputs, behind what stands.
+fn tell(outputs: &[Numbered], text: &mut ByteList) -> Result<(), AllocError> {
+    for put in outputs {
+        write_text(put.number, &put.output, text)?;
+    }
+    Ok(())
+}
+
+/// What a group puts out at one line of text after the other, and whether it goes on.
+fn stepped(
+    rt: &impl Abort,
+    alloc: Global,
+    n: u8,
+    lines: &[&str],
+    text: &mut ByteList,
+) -> Result<(), Fail> {
+    assert!(rt; 2 <= n && n <= 6);
+    let mut world = World::new(alloc, n)?;
+    for line in lines {
+        assert!(rt; world.live() && world.size() == n);
+        let line = parse_line(alloc, n, line.as_bytes())?;
+        let outputs = world.step(alloc, &line)?;
+        tell(outputs.as_slice(), text)?;
+    }
+    assert!(rt; world.live());
+    Ok(())
+}
+
+/// Row by row, as a replay of the same lines would put it out.
+#[test]
+fn a_group_goes_on_line_by_line(rt: HostRuntime) -> Result<(), Fail> {
+    let alloc = rt.alloc();
+    let rows: [(u8, &[&str], &str); 2] = [
+        (
+            2,
+            &[
+                "request 0 7 0 register",
+                "fuse 1 6 0",
+                "deliver 0",
+                "start 1",
+                "deliver 0",
+            ],
+            "send 0 0 1 prepare view 0 op 1 made 0 commit 0\n\
+             halt 1\n\
+             start 1 view 0 log_view 0 commit 0\n\
+             send 1 1 0 prepare_ok view 0 op 1 made 0\n",
+        ),
+        (
+            3,
+            &[
+                "damage 1 0",
+                "damage 1 20",
+                "damage 1 40",
+                "request 1 7 0 register",
+            ],
+            "done\ndone\nkept out\nreply 1 client 7 request 0 redirect 0\n",
+        ),
+    ];
+    for (n, lines, want) in rows {
+        let mut text = Seq::new(alloc);
+        stepped(&rt, alloc, n, lines, &mut text)?;
+        assert_eq!(rt; text.as_slice(), want.as_bytes());
+    }
+    Ok(())
+}
+
+/// Five ticks without a sign of the primary.
+#[tactic(auto, unfolding(vr_group::specs::Lines::AreLinesOf))]
+#[test]
+fn a_group_runs_lines(rt: HostRuntime) -> Result<(), Fail> {
+    let alloc = rt.alloc();
+    let mut world = World::new(alloc, 3)?;
+    let ticks = [
+        Line::Tick(1),
+        Line::Tick(1),
+        Line::Tick(1),
+        Line::Tick(1),
+        Line::Tick(1),
+    ];
+    let outputs = world.run(alloc, &ticks)?;
+    let mut text = Seq::new(alloc);
+    tell(outputs.as_slice(), &mut text)?;
+    let want = "send 0 1 0 start_view_change view 1\nsend 1 1 2 start_view_change view 1\n";
+    assert_eq!(rt; text.as_slice(), want.as_bytes());
+    assert!(rt; world.live());
+    Ok(())
+}

@@ -1,0 +1,17 @@
+-- Members that run at the same time are one group.
+use Rattle.std.specs.Prelude.{ℕ, ◌^◌, ◌<◌, ◌≤◌, ◌≡◌, List}
+use Rattle.vr_agree.specs.Followed.{IsFitRun}
+use Rattle.vr_rules.specs.Group.{Played, fresh_group}
+use Rattle.vr_rules.specs.Safe.{Safe, run_outputs}
+use Rattle.vr_nodes.specs.Deeds.{AtWork, By, all_put_out}
+
+-- a run of the group that puts out what the members put out, and is safe
+pub record IsOneRun (cluster n : ℕ) (xs : List By) : Type 0 where
+  pub run : List Played
+  pub fit : IsFitRun cluster n run
+  pub said : run_outputs run ≡ all_put_out xs
+  pub safe : Safe cluster n run
+
+-- from a group of 2 to 6 on whose members were just made
+abbrev pub NodesAreOneRun : Type 0
+NodesAreOneRun = (cluster n : ℕ) (xs : List By) → cluster < 2 ^ 64 → 2 ≤ n → n ≤ 6 → AtWork cluster (fresh_group cluster n) xs → IsOneRun cluster n xs

@@ -1,0 +1,5 @@
+use Rattle.vr_stream.proofs.Connected.{connections_are_cut}
+use Rattle.vr_stream.proofs.laws.stream_laws.Goals as goal
+
+pub returns : goal.returns
+returns c = connections_are_cut
