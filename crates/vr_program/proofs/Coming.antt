@@ -7,9 +7,8 @@ use Rattle.vr_ask.specs.Run as run
 use Rattle.vr_base.specs.Groups.{quorums_of}
 use Rattle.vr_base.specs.declared.table.Config.{Config}
 use Rattle.vr_node.specs.Running as node
-use Rattle.vr_program.specs.Run.{Comes, Faults, HasOneLog, IsGood, Outside, RunEnds, client_of, config_of, counts_of, faults_of, of_client, of_member}
+use Rattle.vr_program.specs.Run.{Comes, Faults, IsGood, Outside, RunEnds, client_of, config_of, counts_of, faults_of, of_client, of_member}
 use Rattle.vr_serve.specs.Causes as serve
-use Rattle.vr_soak.proofs.Headline.{headline}
 use Rattle.vr_soak.specs.Ends.{SoakEnds}
 use Rattle.vr_soak.specs.Summing.{soak_text}
 use Rattle.vr_status.specs.declared.status.Status.{Status}

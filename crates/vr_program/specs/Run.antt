@@ -90,9 +90,9 @@ abbrev pub HasOneLog : Option Asked → Type 0
 HasOneLog (Some (Soak words)) = SoakHasOneLog words.seed words.count
 HasOneLog _ = ⊤
 
--- a member is one of its group, which has from 2 to 6; a client isn't 0
+-- a number of lines is below a million; a member is one of its group, which has from 2 to 6; a client isn't 0
 abbrev pub IsGood : Asked → Type 0
 IsGood Replay = ⊤
-IsGood (Soak words) = ⊤
+IsGood (Soak words) = words.count < 1000000
 IsGood (Node a) = (is_size (length a.peers) ≡ true) × (a.replica < length a.peers)
 IsGood (Client a) = (is_size (length a.peers) ≡ true) × (a.id ≢ 0)

@@ -112,7 +112,7 @@ fn obey<S: Source, K: Sink, D: SectorDisk, L: Link, C: Clock>(
 
 /// Does what the words of the command line ask for: `node` serves as a member of a group, `client` asks one, `soak` runs a schedule that a
 /// number makes. `None`: the words are `replay`, which is left to the caller, and nothing was called.
-#[tactic(auto, using(crate::proofs::Good::asked_good, crate::proofs::Coming::comes_by, crate::proofs::Coming::comes_none, crate::proofs::Coming::comes_short, crate::proofs::Coming::soaks_one_log))]
+#[tactic(auto, using(crate::proofs::Good::asked_good, crate::proofs::Coming::comes_by, crate::proofs::Coming::comes_none, crate::proofs::Coming::comes_short, crate::proofs::OneLog::words_have_one_log))]
 pub fn run<S: Source, K: Sink, D: SectorDisk, L: Link, C: Clock>(
     alloc: Global,
     words: &Vec<String>,
