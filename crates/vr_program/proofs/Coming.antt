@@ -98,7 +98,6 @@ pub soaks : (w : SoakWords) (o o' : Outside) (b n : Faults) (s : Status)
     → SoakEnds b.sink n.sink o.sink o'.sink (soak_text w.seed w.count) s → record o' { sink = o.sink } ≡ o → Comes (Some (Soak w)) o o' b n (Some s)
 soaks w o o' b n s e k = (s, refl, record { ends = e; others = k })
 
-
 -- ---- the words
 
 pub comes_by : (a : Asked) (asked : Option Asked) (o o' : Outside) (b n : Faults) (s : Option Status) → asked ≡ Some a → Comes (Some a) o o' b n s → RunEnds asked o o' b n s

@@ -83,7 +83,7 @@ pub hearing_more : (old mid new : Heard) (i : ℕ) (ps : List Numbered) (p : Num
     → Hears mid new (p ∷ []) → Hearing old new (i + 1) ps
 hearing_more old mid new i ps p m is h one = record {
   all = λ before k.
-  subst (HasHeard new) (append_assoc before (take i ps) (p ∷ []) ∙ ap (λ x. before ++ x) (ap (λ x. take i ps ++ x ∷ []) is ∙ sym (take_more ps i p m)))
+      subst (HasHeard new) (append_assoc before (take i ps) (p ∷ []) ∙ ap (λ x. before ++ x) (ap (λ x. take i ps ++ x ∷ []) is ∙ sym (take_more ps i p m)))
       (one (before ++ take i ps) (h.all before k));
 }
 

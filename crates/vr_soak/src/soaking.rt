@@ -72,7 +72,9 @@ impl Soaking {
         ensures { (n number : ℕ) → IsSoaking n number count self → result ≡ summary_of count (come_to n (made n number count).lines) }
     {
         let Soaking {
-            mut group, heard, ..
+            mut group,
+            heard,
+            ..
         } = self;
         let view = group.top_view();
         let messages = group.messages() as u64;
