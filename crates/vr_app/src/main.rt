@@ -38,7 +38,7 @@ fn run_outside(rt: &HostRuntime) -> Result<Status, AllocError> {
         &mut clock,
     ) {
         Some(status) => Ok(status),
-        None => Ok(status_of(vr_replay::run(
+        None => Ok(vr_replay::run(
             alloc,
             &words,
             &mut source,
@@ -46,7 +46,7 @@ fn run_outside(rt: &HostRuntime) -> Result<Status, AllocError> {
             &mut disk,
             &mut link,
             &mut clock,
-        ))),
+        )),
     }
 }
 

@@ -19,7 +19,7 @@ use Rattle.vr_rules.specs.Commitment as said
 use Rattle.vr_rules.specs.Commitment.{AreCommitted, HasSent, IsBackedMessage, IsCommitted, IsLine, Vouches}
 use Rattle.vr_rules.specs.Group.{Played, fresh_group}
 use Rattle.vr_rules.specs.Lying.{Lying}
-use Rattle.vr_rules.specs.Safe.{IsHashed, IsOutput, KeepsEntry, Safe, before, run_outputs}
+use Rattle.vr_rules.specs.Safe.{IsHashed, IsJustified, KeepsEntry, Safe, before, run_outputs}
 use Rattle.vr_rules.specs.World.{Happened}
 use Rattle.vr_protocol.specs.Basics.{In}
 use Rattle.vr_worlds.specs.Worlds.{IsAside, IsMatched, Said}
@@ -28,7 +28,7 @@ use Rattle.vr_agree.specs.Followed.{IsFitRun}
 use Rattle.vr_agree.proofs.Sets.{get_in, in_get, in_left, in_right}
 use Rattle.vr_agree.proofs.Traces.{in_either, output_of_move}
 use Rattle.vr_one_log.specs.Laws.{KeepsOneLog}
-use Rattle.vr_one_log.specs.Outputs.{IsCutByNacks, IsOnceInSession, RestsOn}
+use Rattle.vr_one_log.specs.Outputs.{IsCutByNacks, IsOnceInSession, IsPlaced, RestsOn}
 use Rattle.vr_one_log.proofs.Places.{in_said, matches, placed}
 
 all_in : {X : Type 0} (xs : List X) → All (λ x. In x xs) xs
@@ -96,6 +96,22 @@ module _ (xs ys : List Output) (all : SendNoMore xs ys) where
   message_said n log (frame.GetBlock g) h = tt
   message_said n log (frame.GiveBlock g) h = tt
 
+  -- a choice of a log is justified in what says no more
+  justified_said : (n : ℕ) (p : Played) (l : Chosen) → IsJustified n ys p l → IsJustified n xs p l
+  justified_said n p l j = record {
+    replica = j.replica;
+    is_of = j.is_of;
+    event = j.event;
+    by_event = j.by_event;
+    log_view = j.log_view;
+    commit = j.commit;
+    reach = j.reach;
+    intact = j.intact;
+    deniers = j.deniers;
+    enough = j.enough;
+    each = λ i h. let d = j.each i h in record { statement = d.statement; stated = d.stated; denies = d.denies; silent = λ c op v. d.silent c op (vouch_said n l.log_view i c v) };
+  }
+
   line_said : (n : ℕ) (log : List Whole) (c : Committed) → IsLine 0 n xs log c → IsLine 0 n ys log c
   line_said n log c h = record { at = h.at; number = h.number; view = h.view; committed = committed_said 0 n h.view c.entry.header h.committed }
 
@@ -123,20 +139,24 @@ module _ (cluster n : ℕ) (run : List Played) (safe : Safe cluster n run) where
       sym a.2 ∙ (ap (λ (e : Whole). e.header) one ∙ b.2)
 
 module _ (n : ℕ) (run : List Played) (safe : Safe 0 n run) where
-  -- what an output of the run at a move rests on, where these were put out before it
-  rests : NoCollision (IsHashed run (root_header 0)) → (front : List Output) (move number : ℕ) (p : Played) (o : Output) → SendNoMore (before run move number p) front → IsOutput run move number p o
-      → RestsOn n safe.log run front o
-  rests never front move number p (output.Send s) all is = message_said (before run move number p) front all n safe.log s.message (safe.backed move number p (output.Send s) never is)
-  rests never front move number p (output.Commit c) all is = line_said (before run move number p) front all n safe.log c (safe.backed move number p (output.Commit c) never is)
-  rests never front move number p (output.Reply a) all is =
-      let so = safe.backed move number p (output.Reply a) never is in
-      record { move = move; number = number; moved = p; is = is; so = so; committed = numbers_said (before run move number p) front all n safe.log a.view _ so.applied }
-  rests never front move number p (output.Choose l) all is = tt
-  rests never front move number p (output.Wait w) all is = tt
-  rests never front move number p (output.Start s) all is = tt
-  rests never front move number p (output.Halted replica) all is = tt
-  rests never front move number p output.Done all is = tt
-  rests never front move number p output.KeptOut all is = tt
+  -- what an output that was put out there rests on
+  rests : NoCollision (IsHashed run (root_header 0)) → (front : List Output) (o : Output) → IsPlaced run front o → RestsOn n safe.log run front o
+  rests never front (output.Send s) x =
+      let gs = before run x.move x.number x.moved in
+      message_said gs front (from_run front gs x.place) n safe.log s.message (safe.backed x.move x.number x.moved (output.Send s) never x.is)
+  rests never front (output.Commit c) x =
+      let gs = before run x.move x.number x.moved in
+      line_said gs front (from_run front gs x.place) n safe.log c (safe.backed x.move x.number x.moved (output.Commit c) never x.is)
+  rests never front (output.Reply a) x =
+      let gs = before run x.move x.number x.moved in
+      let so = safe.backed x.move x.number x.moved (output.Reply a) never x.is in
+      record { at = x; so = so; committed = numbers_said gs front (from_run front gs x.place) n safe.log a.view _ so.applied }
+  rests never front (output.Choose l) x = tt
+  rests never front (output.Wait w) x = tt
+  rests never front (output.Start s) x = tt
+  rests never front (output.Halted replica) x = tt
+  rests never front output.Done x = tt
+  rests never front output.KeptOut x = tt
 
   kept_in : (view : ℕ) (c : Header) → IsHeader c → NoCollision (IsHashed run c) → 0 < c.op → IsCommitted 0 n (run_outputs run) view c → (o : Output) → In o (run_outputs run) → KeepsEntry view c o
   kept_in view c form never above is o i =
@@ -144,12 +164,8 @@ module _ (n : ℕ) (run : List Played) (safe : Safe 0 n run) where
       let k = in_get m.1.moved.outputs o m.3 in
       safe.kept view c form never above is m.0 k.0 m.1 o (record { at = m.2; is = k.1 })
 
-  cut_in : NoCollision (IsHashed run (root_header 0)) → (outputs : List Output) → SendNoMore outputs (run_outputs run) → (l : Chosen) → In (output.Choose l) (run_outputs run) → IsCutByNacks n outputs l
-  cut_in never outputs all l i =
-      let m = output_of_move run (output.Choose l) i in
-      let k = in_get m.1.moved.outputs (output.Choose l) m.3 in
-      let j = safe.backed m.0 k.0 m.1 (output.Choose l) never (record { at = m.2; is = k.1 }) in
-      record { deniers = j.deniers; enough = j.enough; silent = λ i c h op v. (j.each i h).silent c op (vouch_said outputs (run_outputs run) all n l.log_view i c v) }
+  cut_in : NoCollision (IsHashed run (root_header 0)) → (front outputs : List Output) → SendNoMore outputs (run_outputs run) → (l : Chosen) → IsPlaced run front (output.Choose l) → IsCutByNacks n run front outputs l
+  cut_in never front outputs all l x = record { at = x; so = justified_said outputs (run_outputs run) all n x.moved l (safe.backed x.move x.number x.moved (output.Choose l) never x.is) }
 
 -- ---- what happened
 
@@ -176,13 +192,11 @@ rests_aside n log run front (output.Halted replica) h = tt
 rests_aside n log run front output.Done h = tt
 rests_aside n log run front output.KeptOut h = tt
 
-rests_at : (n : ℕ) (run : List Played) (safe : Safe 0 n run) (ws : List Output) → Said ws (run_outputs run) → NoCollision (IsHashed run (root_header 0)) → (number : ℕ) (o : Output) → slice_get ws number ≡ Some o
-    → (IsAside o → ⊥) → RestsOn n safe.log run (take number ws) o
-rests_at n run safe ws all never number o e not =
+place_of : (run : List Played) (ws : List Output) → Said ws (run_outputs run) → (number : ℕ) (o : Output) → slice_get ws number ≡ Some o → (IsAside o → ⊥) → IsPlaced run (take number ws) o
+place_of run ws all number o e not =
     let m = matches ws (run_outputs run) all number o e not in
     let p = placed run m.at o m.is in
-    let front : SendNoMore (before run p.move p.number p.moved) (take number ws) = rw p.same (from_run (take number ws) (take m.at (run_outputs run)) m.said) in
-    rests n run safe never (take number ws) p.move p.number p.moved o front p.is
+    record { move = p.move; number = p.number; moved = p.moved; is = p.is; place = rw p.same m.said }
 
 once : (log : List Whole) → IsOnceInSession log
 once log before between later d e is client request first second = each_once before between d e client request first second
@@ -198,12 +212,12 @@ keeps n few many safe h m never =
       matched = m;
       safe = s;
       names = never;
-      rests = λ number o e. rests_aside n s.log m.run (take number h.outputs) o (rests_at n m.run s h.outputs m.said never number o e);
+      rests = λ number o e. rests_aside n s.log m.run (take number h.outputs) o (λ not. rests n m.run s never (take number h.outputs) o (place_of m.run h.outputs m.said number o e not));
       lines = λ c d i j same. one_line 0 n m.run s never c d (said_in h.outputs gs m.said (output.Commit c) (λ a. a) (contains_in h.outputs (output.Commit c) i))
           (said_in h.outputs gs m.said (output.Commit d) (λ a. a) (contains_in h.outputs (output.Commit d) j)) same;
       logged = λ v c fc nc above kc. s.one v c fc nc above (committed_said h.outputs gs all 0 n v c kc);
       one = λ v w c d fc fd nc nd above same kc kd. one_entry 0 n m.run s v w c d fc fd nc nd above same (committed_said h.outputs gs all 0 n v c kc) (committed_said h.outputs gs all 0 n w d kd);
       kept = λ v c fc nc above kc o i. kept_aside v c o (λ not. kept_in n m.run s v c fc nc above (committed_said h.outputs gs all 0 n v c kc) o (said_in h.outputs gs m.said o not (contains_in h.outputs o i)));
-      cut = λ l i. cut_in n m.run s never h.outputs all l (said_in h.outputs gs m.said (output.Choose l) (λ a. a) (contains_in h.outputs (output.Choose l) i));
+      cut = λ number l e. cut_in n m.run s never (take number h.outputs) h.outputs all l (place_of m.run h.outputs m.said number (output.Choose l) e (λ a. a));
       once = once s.log;
     }

@@ -65,7 +65,7 @@ pub record KeepsOneLog (n : ℕ) (h : Happened Lying) : Type 0 where
   -- and keeps its number in every later view: what is prepared, chosen and taken over there has it
   pub kept : (view : ℕ) (c : Header) → IsHeader c → NoCollision (IsHashed matched.run c) → 0 < c.op → IsCommitted 0 n h.outputs view c → (o : Output) → Contains h.outputs o → KeepsEntry view c o
   -- only a nack quorum shortens a log
-  pub cut : (l : Chosen) → Contains h.outputs (output.Choose l) → IsCutByNacks n h.outputs l
+  pub cut : (number : ℕ) (l : Chosen) → slice_get h.outputs number ≡ Some (output.Choose l) → IsCutByNacks n matched.run (take number h.outputs) h.outputs l
   -- in one session no number is executed twice over the log
   pub once : IsOnceInSession safe.log
 

@@ -1,35 +1,37 @@
 -- One log, said of what was put out, in order.
-use Rattle.std.specs.Prelude.{ℕ, ◌+◌, ◌≡◌, ◌≤◌, ⊤, true, IsTrue, List, [], ◌∷◌, ◌++◌, take}
-use Rattle.std.specs.Option.{option_map_or}
-use Rattle.vr_base.specs.declared.replicas.Replicas.{Replicas}
-use Rattle.vr_base.specs.Groups.{quorums_of}
-use Rattle.vr_base.specs.Replicas.{has_replica, size}
-use Rattle.vr_header.specs.declared.header.Header.{Header}
+use Rattle.std.specs.Prelude.{ℕ, ◌+◌, ◌≡◌, ⊤, IsTrue, List, [], ◌∷◌, ◌++◌, take}
 use Rattle.vr_header.specs.Made.{Whole}
 use Rattle.vr_msg.specs.declared.output.Chosen.{Chosen}
 use Rattle.vr_msg.specs.declared.output.Output.{Output}
 use Rattle.vr_msg.specs.declared.output.Output.TheVariants as output
 use Rattle.vr_msg.specs.declared.reply.ReplyFields.{ReplyFields}
 use Rattle.vr_apply.specs.Folds.{begins_session, fresh_at, state_after}
-use Rattle.vr_rules.specs.Commitment.{AreCommitted, IsBackedMessage, IsLine, Vouches, lines_by}
+use Rattle.vr_rules.specs.Commitment.{AreCommitted, IsBackedMessage, IsLine, lines_by}
 use Rattle.vr_rules.specs.Group.{Played}
-use Rattle.vr_rules.specs.Safe.{IsOutput, IsTrueReply}
+use Rattle.vr_rules.specs.Safe as safe
+use Rattle.vr_rules.specs.Safe.{IsJustified, IsOutput, IsTrueReply}
+use Rattle.vr_worlds.specs.Worlds.{Said}
 
--- A reply: the entries that its replica had applied are committed by what was put out before it, and it is what the plain sessions and machine
--- say after them. The move of the run is that in which it was put out: its replica is as it was before that move.
-pub record IsTrueAnswer (n : ℕ) (log : List Whole) (run : List Played) (before : List Output) (a : ReplyFields) : Type 0 where
+-- Where in the run an output was put out: what was put out before it is what stands before it here, but for lines of stops and faults.
+pub record IsPlaced (run : List Played) (before : List Output) (o : Output) : Type 0 where
   pub move : ℕ
   pub number : ℕ
   pub moved : Played
-  pub is : IsOutput run move number moved (output.Reply a)
-  pub so : IsTrueReply 0 n log run move number moved a
-  pub committed : AreCommitted 0 n before log a.view (so.replica.applied + lines_by a.replica (take number moved.moved.outputs))
+  pub is : IsOutput run move number moved o
+  pub place : Said before (safe.before run move number moved)
 
--- A choice of a log: a nack quorum never vouches, in all that is put out, for an entry behind the log's last in the view that it is of.
-pub record IsCutByNacks (n : ℕ) (outputs : List Output) (l : Chosen) : Type 0 where
-  pub deniers : Replicas
-  pub enough : option_map_or (λ q. q.nack) (quorums_of n) 0 ≤ size deniers
-  pub silent : (i : ℕ) (c : Header) → has_replica deniers i ≡ true → c.op ≡ l.head + 1 → Vouches n outputs l.log_view i c → ⊥
+-- A reply: the entries that its replica had applied are committed by what was put out before it, and it is what the plain sessions and machine
+-- say after them. The replica is as it was before the move of the run in which it answered.
+pub record IsTrueAnswer (n : ℕ) (log : List Whole) (run : List Played) (before : List Output) (a : ReplyFields) : Type 0 where
+  pub at : IsPlaced run before (output.Reply a)
+  pub so : IsTrueReply 0 n log run at.move at.number at.moved a
+  pub committed : AreCommitted 0 n before log a.view (so.replica.applied + lines_by a.replica (take at.number at.moved.moved.outputs))
+
+-- A choice of a log, from what its replica had heard in the move in which it chose: all above the commit number up to the log's head is intact
+-- there, and a nack quorum denies the next, none of which vouches for it, in the log's view, in all that is put out.
+pub record IsCutByNacks (n : ℕ) (run : List Played) (before outputs : List Output) (l : Chosen) : Type 0 where
+  pub at : IsPlaced run before (output.Choose l)
+  pub so : IsJustified n outputs at.moved l
 
 -- what each output rests on, of what was put out before it and of the log
 abbrev pub RestsOn : ℕ → List Whole → List Played → List Output → Output → Type 0

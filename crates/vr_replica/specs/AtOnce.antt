@@ -10,8 +10,8 @@ use Rattle.vr_rules.specs.Deciding.{first_of, prepare_ok_table, prepare_table, s
 use Rattle.vr_rules.specs.Replica.{Replica}
 use Rattle.vr_rules.specs.Rules.{acknowledged}
 
--- a prepare or a start_view_change that is left be, and an acknowledgement that is left be or counted without a quorum, where all that is
--- committed is applied
+-- a prepare or a start_view_change that is left be, and an acknowledgement that is left be or counted without a quorum, where all that can
+-- be is applied
 abbrev pub IsLeft : Replica → Frame → Type 0
 IsLeft r (frame.Prepare p) = passes (first_of (prepare_table name_of p r)) ≡ true
 IsLeft r (frame.PrepareOk a) = (passes (first_of (prepare_ok_table name_of a r)) ≡ true) ⊎ Waits (acknowledged a r)
