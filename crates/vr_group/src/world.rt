@@ -51,13 +51,20 @@ fn look_at_operation(operation: &Operation)
     }
 }
 
+// Numbers are within the ranges of their types. Nothing is done.
+fn look_at_numbers(cluster: u64, client: u64, request: u32)
+    ensures cluster { cluster < 2 ^ 64 }
+    ensures client { client < 2 ^ 64 }
+    ensures request { request < 2 ^ 32 }
+{}
+
 // A line's request can be asked, since its type keeps it so. Nothing is done.
 fn look_at(line: &Line)
     ensures { HasAsked line.now }
 {
     if let Line::Request { request, .. } = line {
         let fields = request.fields();
-        let _numbers = (fields.cluster, fields.client, fields.request);
+        look_at_numbers(fields.cluster, fields.client, fields.request);
         look_at_operation(&fields.operation);
     }
 }
