@@ -1,5 +1,5 @@
 -- The greatest view of so many members.
-use Rattle.std.proofs.Common.{ℕ, ◌+◌, ◌<◌, ◌≡◌, arith, refl, sym, map, max, ap, ◌∙◌, List, [], ◌∷◌, ◌++◌, length, take, get_or, take_all, ◌≤◌}
+use Rattle.std.proofs.Common.{ℕ, zero, suc, ◌+◌, ◌<◌, ◌≡◌, arith, refl, map, max, List, [], ◌∷◌, ◌++◌, length, take, get_or, take_all, ◌≤◌}
 use Rattle.std.proofs.lemmas.List.{map-append, take_more}
 use Rattle.vr_rules.specs.Lying.{Lying}
 use Rattle.vr_rules.specs.World.{Host}
@@ -17,6 +17,12 @@ top_of i ms = greatest (map view_of (take i ms))
 pub top_none : (ms : List (Host Lying)) → top_of 0 ms ≡ 0
 unfolding greatest
 top_none ms = refl
+
+-- a member at each place
+pub member_at : (ms : List (Host Lying)) (i : ℕ) → i < length ms → (m : Host Lying) × (m ≡ get_or ms i m)
+member_at [] i h = absurd (omega (arith, h))
+member_at (m ∷ ms) zero h = (m, refl)
+member_at (m ∷ ms) (suc i) h = member_at ms i (omega (arith, h))
 
 pub top_more : (ms : List (Host Lying)) (i : ℕ) (m : Host Lying) → i < length ms → m ≡ get_or ms i m → top_of (i + 1) ms ≡ max (top_of i ms) (view_of m)
 top_more ms i m h is =

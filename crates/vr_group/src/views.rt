@@ -5,7 +5,6 @@ ghost use Rattle.vr_rules.specs.Lying.{Lying};
 ghost use Rattle.vr_group.specs.Views.{greatest, view_of};
 
 use crate::Host;
-use std::cmp::max;
 
 /// The view of one of the members, who stays as it is.
 fn view_at(hosts: &mut Vec<Host>, at: usize) -> u32
@@ -18,14 +17,14 @@ fn view_at(hosts: &mut Vec<Host>, at: usize) -> u32
 }
 
 /// The greatest view of the members, who stay as they are.
-#[tactic(auto, using(std::proofs::lemmas::Grind::common_steps, crate::proofs::Tops::top_more, crate::proofs::Tops::top_none))]
+#[tactic(auto)]
 pub fn top_view(hosts: &mut Vec<Host>) -> u32
     ensures view { result ≡ greatest (map view_of hosts.old.items) }
     ensures same { hosts.new.items ≡ hosts.old.items }
 {
     let mut top = 0;
     for at in 0..hosts.len() {
-        top = max(top, view_at(hosts, at));
+        top = top.max(view_at(hosts, at));
     }
     top
 }
