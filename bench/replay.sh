@@ -75,7 +75,7 @@ hostile() {
             for (view = 0; ; view++) {
                 primary = view % 3; next_one = (view + 1) % 3; other = (view + 2) % 3
                 for (i = 0; i < 8; i++) { ask(); agree() }
-                if ((op + 1) % 32 == 0) { ask(); agree() } # so that the last one isn't in the checkpoint of the one that stops
+                if ((op + 1) % 32 == 0) { ask(); agree() } # so that the last one is not in the checkpoint of the one that stops
                 # a stop in the midst of a write
                 ask()
                 line("deliver " (next_one < other ? first : first + 1))

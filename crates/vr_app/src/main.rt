@@ -1,11 +1,11 @@
-//! The program over the real outside: standard input and output, a file, UDP and the system's clock.
+//! The program over the real outside: standard input and output, a file, UDP or TCP, and the system's clock.
 #![tactic(auto)]
 
 use std::alloc::AllocError;
 use std::io::ErrorKind;
 use std::process::ExitCode;
 use vr_program::run;
-use vr_real::{FileDisk, RealClock, StdSink, StdSource, UdpLink};
+use vr_real::{FileDisk, RealClock, RealLink, StdSink, StdSource};
 use vr_status::{Status, code, status_line};
 
 /// The words after the program's name, `None` where one of them is no text.
@@ -26,7 +26,7 @@ fn run_outside(rt: &HostRuntime) -> Result<Status, AllocError> {
     let mut source = StdSource::new(rt.stdin());
     let mut sink = StdSink::new(rt.stdout());
     let mut disk = FileDisk::new(rt);
-    let mut link = UdpLink::new(alloc, rt)?;
+    let mut link = RealLink::new(alloc, rt)?;
     let mut clock = RealClock::new(rt);
     match run(
         alloc,

@@ -6,7 +6,7 @@ use Rattle.vr_lines.specs.Fits.{IsLineOf}
 use Rattle.vr_lines.specs.declared.line.Line.{Line}
 use Rattle.vr_lines.specs.declared.line.Line.TheVariants as line
 use Rattle.vr_rules.specs.Lying.{Lying, hazards}
-use Rattle.vr_rules.specs.World.{Begins, World, fresh_world, happen, happens, no_world}
+use Rattle.vr_rules.specs.World.{World, fresh_world, happen}
 use Rattle.vr_worlds.specs.Worlds.{IsLine}
 use Rattle.vr_unforged.proofs.Fresh.{schedules_are_runs}
 use Rattle.vr_one_log.proofs.Closing.{runs_safe}

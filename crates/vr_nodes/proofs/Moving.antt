@@ -6,7 +6,6 @@ use Rattle.vr_disk.specs.DiskState.{Disk}
 use Rattle.vr_msg.specs.declared.event.Event.{Event}
 use Rattle.vr_msg.specs.declared.output.Output.{Output}
 use Rattle.vr_super.specs.Copies.{SuperValue}
-use Rattle.vr_super.specs.Opens.{opens}
 use Rattle.vr_rules.specs.Group as group
 use Rattle.vr_rules.specs.Group.{Arrival, Group, Member, Move, Moved, Moves, Played, Run, carried_out, cut_short, finished, fresh_group, once_mended, opening_script, resumed, started, stepped, with_script}
 use Rattle.vr_rules.specs.GroupFit.{IsFitMove}

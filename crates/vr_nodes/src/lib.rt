@@ -3,6 +3,13 @@
 #![tactic(auto)]
 
 ghost use Rattle.vr_nodes.specs.Laws.{NodesAreOneRun};
+ghost use Rattle.vr_nodes.specs.Runs.{RunsAreDeeds};
+
+/// What a run of a member's program comes to, however it ends: whole steps, each on the disk that the one before left, and a front of
+/// their text.
+pub fn runs_are_deeds()
+    ensures { RunsAreDeeds }
+{}
 
 /// Whatever members of a group do, in whatever order, is a run of the group; so it is safe.
 pub fn nodes_are_one_run()

@@ -21,7 +21,6 @@ use Rattle.vr_lines.specs.declared.line.Line.{Line}
 use Rattle.vr_lines.specs.declared.line.Line.TheVariants.{Tick, Stop, Start, Fuse, Misdirect}
 use Rattle.vr_lines.specs.declared.member.Place.{Place}
 use Rattle.vr_lines.proofs.Answers.{below, either, it_is, mapped, through}
-use Rattle.vr_rules.specs.World.{IsAsked}
 use Rattle.vr_group.specs.Headline.{HasAsked}
 
 -- ---- numbers

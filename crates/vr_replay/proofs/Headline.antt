@@ -11,7 +11,7 @@ use Rattle.vr_group.specs.Headline.{HasAsked, HaveAsked}
 use Rattle.vr_group.specs.Lines.{AreLinesOf}
 use Rattle.vr_group.proofs.Headline.{lines_keep}
 use Rattle.vr_replay.specs.Headline.{ScheduleHasOneLog}
-use Rattle.vr_replay.specs.Schedule.{Schedule, accepted, begun, limit, line_at, refuses, schedule, schedule_of, so_far, with_line}
+use Rattle.vr_replay.specs.Schedule.{Schedule, accepted, begun, limit, line_at, refuses, schedule, schedule_of, with_line}
 use Rattle.vr_replay.proofs.Asked.{parsed_asks}
 use Rattle.vr_replay.proofs.Few.{few_lines}
 use Rattle.vr_replay.proofs.Plays.{line_at_fits, size_kept}

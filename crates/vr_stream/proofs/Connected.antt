@@ -11,9 +11,9 @@ use Rattle.vr_stream.proofs.Fronts.{broken_none, short_none}
 use Rattle.vr_stream.proofs.Looked.{short_room}
 use Rattle.vr_stream.specs.Connections.{Connection, ConnectionsAreCut, IsCut, closed, connection, first_connection, first_framing, then_at, with_bytes, with_message}
 use Rattle.vr_stream.specs.Cutting.{BeginsNone, EachIsMessage}
-use Rattle.vr_stream.specs.Framing.{Call, Comes, Framing, Gave, Gives, Happen, Happening, Happens, IsSettled, Settled, Settles, ended, over_at}
+use Rattle.vr_stream.specs.Framing.{Call, Comes, Framing, Gave, Gives, Happen, Occurrence, Happens, IsSettled, Settled, Settles, ended, over_at}
 use Rattle.vr_stream.specs.Lines.{fresh_line, kept}
-use Rattle.vr_stream.specs.declared.line.Line.{Line}
+use Rattle.vr_stream.specs.declared.line.Incoming.{Incoming}
 
 append_nil : (xs : List ℕ) → xs ++ [] ≡ xs
 append_nil [] = refl
@@ -24,17 +24,17 @@ each_append [] ys a b = b
 each_append (x ∷ xs) ys a b = (a.0, each_append xs ys a.1 b)
 
 -- what is kept of a connection at a port
-record Holds (port : ℕ) (ready : Option ℕ) (line : Line) (c : Connection) : Type 0 where
+record Holds (port : ℕ) (ready : Option ℕ) (line : Incoming) (c : Connection) : Type 0 where
   over : line.over ≡ c.over
   bytes : flat_map (λ m. m) c.given ++ line.deframer ≡ c.bytes
   each : EachIsMessage c.given
   still : (ready ≡ Some port → ⊥) → IsSettled line
 
 abbrev AllHold : Framing → (ℕ → Connection) → Type 0
-AllHold f cs = (port : ℕ) (line : Line) → slice_get f.lines port ≡ Some line → Holds port f.ready line (cs port)
+AllHold f cs = (port : ℕ) (line : Incoming) → slice_get f.lines port ≡ Some line → Holds port f.ready line (cs port)
 
 -- a line is put at a port
-put : (f : Framing) (cs : ℕ → Connection) (at : ℕ) (x : Line) (ready : Option ℕ) (up : Connection → Connection)
+put : (f : Framing) (cs : ℕ → Connection) (at : ℕ) (x : Incoming) (ready : Option ℕ) (up : Connection → Connection)
     → AllHold f cs → Holds at ready x (up (cs at)) → ((port : ℕ) → (ready ≡ Some port → ⊥) → f.ready ≡ Some port → at ≡ port)
     → AllHold (record { lines = slice_set f.lines at x; ready = ready }) (λ port. if nat_eq at port then up (cs port) else cs port)
 put f cs at x ready up all here others = λ port line there.
@@ -72,13 +72,13 @@ put_nowhere f cs at up all none = λ port line there.
     ] in
     cases (nat_eq at port) refl
 
-settled_over : (line : Line) → IsSettled line → IsSettled (record line { over = true })
+settled_over : (line : Incoming) → IsSettled line → IsSettled (record line { over = true })
 settled_over line (inl s) = inl s
 settled_over line (inr (o, f, b)) = inr (refl, f, b)
 
 ended_holds : (f : Framing) (cs : ℕ → Connection) (at : ℕ) → AllHold f cs → AllHold (ended at f) (λ port. if nat_eq at port then closed (cs port) else cs port)
 ended_holds f cs at all =
-    let cases : (o : Option Line) → slice_get f.lines at ≡ o → AllHold (over_at at o f) (λ port. if nat_eq at port then closed (cs port) else cs port) =
+    let cases : (o : Option Incoming) → slice_get f.lines at ≡ o → AllHold (over_at at o f) (λ port. if nat_eq at port then closed (cs port) else cs port) =
     elim [
       | None ↦ λ e. put_nowhere f cs at closed all e
       | Some l ↦ λ e.
@@ -88,11 +88,11 @@ ended_holds f cs at all =
     ] in
     cases (slice_get f.lines at) refl
 
-open_room : (line : Line) → line.over ≡ false → IsSettled line → length line.deframer < 20480
+open_room : (line : Incoming) → line.over ≡ false → IsSettled line → length line.deframer < 20480
 open_room line e (inl s) = short_room line.deframer s
 open_room line e (inr (o, f, b)) = absurd (let clash : false ≡ true = sym e ∙ o in cc)
 
-settled_room : (line : Line) → IsSettled line → length (kept line) < 20480
+settled_room : (line : Incoming) → IsSettled line → length (kept line) < 20480
 settled_room line s =
     let cases : (b : Bool) → line.over ≡ b → length (if b then [] else line.deframer) < 20480 =
     elim [
@@ -102,7 +102,7 @@ settled_room line s =
     cases line.over refl
 
 -- a line with the bytes that came
-with_holds : (port : ℕ) (line : Line) (bytes : List ℕ) (c : Connection) (ready : Option ℕ) → Holds port ready line c
+with_holds : (port : ℕ) (line : Incoming) (bytes : List ℕ) (c : Connection) (ready : Option ℕ) → Holds port ready line c
     → Holds port (Some port) (record { deframer = kept line ++ bytes; over = false }) (with_bytes bytes c)
 with_holds port line bytes c ready h =
     let cases : (b : Bool) → line.over ≡ b → c.over ≡ b
@@ -123,7 +123,7 @@ with_holds port line bytes c ready h =
 came_holds : (f g : Framing) (cs : ℕ → Connection) (piece : Piece) → AllHold f cs → f.ready ≡ None → Comes piece f (slice_get f.lines piece.port) g
     → AllHold g (λ port. if nat_eq piece.port port then with_bytes piece.bytes (cs port) else cs port)
 came_holds f g cs piece all n comes =
-    let cases : (o : Option Line) → slice_get f.lines piece.port ≡ o → Comes piece f o g
+    let cases : (o : Option Incoming) → slice_get f.lines piece.port ≡ o → Comes piece f o g
     → AllHold g (λ port. if nat_eq piece.port port then with_bytes piece.bytes (cs port) else cs port) =
     elim [
       | None ↦ λ e c. subst (λ x. AllHold x (λ port. if nat_eq piece.port port then with_bytes piece.bytes (cs port) else cs port)) (sym c) (put_nowhere f cs piece.port (with_bytes piece.bytes) all e)
@@ -171,7 +171,7 @@ settled_holds f g cs all x =
     ] in
     record { over = h.over; bytes = h.bytes; each = h.each; still = λ n. cases f.ready refl })
 
-one_holds : (f g : Framing) (h : Happening) (cs : ℕ → Connection) → AllHold f cs → Happens f h g → AllHold g (λ port. then_at port (cs port) h)
+one_holds : (f g : Framing) (h : Occurrence) (cs : ℕ → Connection) → AllHold f cs → Happens f h g → AllHold g (λ port. then_at port (cs port) h)
 one_holds f g (Call (call.Came piece)) cs all x = came_holds f g cs piece all x.0 x.1
 one_holds f g (Call (call.Ended at)) cs all x = subst (λ y. AllHold y (λ port. if nat_eq at port then closed (cs port) else cs port)) (sym x.1) (ended_holds f cs at all)
 one_holds f g (Call (call.Closed at)) cs all x = subst (λ y. AllHold y (λ port. if nat_eq at port then closed (cs port) else cs port)) (sym x) (ended_holds f cs at all)
@@ -180,7 +180,7 @@ one_holds f g (Call call.Failed) cs all x = subst (λ y. AllHold y cs) (sym x.1)
 one_holds f g (Gave at message) cs all x = gave_holds f g cs at message all x
 one_holds f g Settled cs all x = settled_holds f g cs all x
 
-run_holds : (f g : Framing) (hs : List Happening) (cs : ℕ → Connection) → AllHold f cs → Happen f hs g → AllHold g (λ port. connection port (cs port) hs)
+run_holds : (f g : Framing) (hs : List Occurrence) (cs : ℕ → Connection) → AllHold f cs → Happen f hs g → AllHold g (λ port. connection port (cs port) hs)
 run_holds f g [] cs all x = subst (λ y. AllHold y cs) (sym x) all
 run_holds f g (h ∷ hs) cs all (mid, one, more) = run_holds mid g hs (λ port. then_at port (cs port) h) (one_holds f mid h cs all one) more
 
@@ -192,11 +192,11 @@ first_holds count = λ port line there.
     sym (get_or-replicate count port fresh_line fresh_line below) ∙ get_or_from_slice_get (replicate count fresh_line) port line fresh_line there in
     subst (λ l. Holds port None l first_connection) is (record { over = refl; bytes = refl; each = tt; still = λ n. inl (inl (omega arith)) })
 
-settled_none : (line : Line) → IsSettled line → BeginsNone line.deframer
+settled_none : (line : Incoming) → IsSettled line → BeginsNone line.deframer
 settled_none line (inl s) = short_none line.deframer s
 settled_none line (inr (o, f, b)) = broken_none line.deframer f b
 
-cut_of : (port : ℕ) (ready : Option ℕ) (line : Line) (c : Connection) → Holds port ready line c → IsCut port ready line c
+cut_of : (port : ℕ) (ready : Option ℕ) (line : Incoming) (c : Connection) → Holds port ready line c → IsCut port ready line c
 cut_of port ready line c h = record {
   all = λ messages rest x. record {
     each = each_append c.given messages h.each x.each;

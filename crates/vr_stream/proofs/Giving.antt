@@ -10,7 +10,7 @@ use Rattle.vr_edge.specs.declared.streams.StreamCall.TheVariants as call
 use Rattle.vr_stream.specs.Framers.{IsDamaged, TakesAt}
 use Rattle.vr_stream.specs.Framing.{Call, Framing, Gave, Gives, Settled, Settles, IsSettled, ended, over_at, with_line}
 use Rattle.vr_stream.specs.Receiving.{IsGiven, IsHeard, IsReceived}
-use Rattle.vr_stream.specs.declared.line.Line.{Line}
+use Rattle.vr_stream.specs.declared.line.Incoming.{Incoming}
 
 nil_behind : {X : Type 0} (xs : List X) → xs ++ [] ≡ xs
 nil_behind [] = refl
@@ -30,7 +30,7 @@ pub given_nothing : (f g : Framing) (old : Option (List StreamCall)) (to : List 
 given_nothing f g old to x = record { happened = Settled ∷ []; happen = (g, x, refl); told = told_none old; by = (settled_ready f g x, inl refl) }
 
 -- the item that was put at a place
-set_there : (xs : List Line) (port : ℕ) (x y : Line) → slice_get xs port ≡ Some y → slice_get (slice_set xs port x) port ≡ Some x
+set_there : (xs : List Incoming) (port : ℕ) (x y : Incoming) → slice_get xs port ≡ Some y → slice_get (slice_set xs port x) port ≡ Some x
 set_there xs port x y e =
     let within = slice_get_within xs port y e in
     slice_get-get_or (slice_set xs port x) port x (omega (arith, within, length-set xs port x)) ∙ ap Some (get_or-set_same xs port x x within)

@@ -6,18 +6,18 @@ use Rattle.vr_codec.specs.declared.fault.MsgFault.{MsgFault}
 use Rattle.vr_stream.specs.Cutting.{IsBroken}
 use Rattle.vr_stream.specs.Framers.{IsDamaged}
 use Rattle.vr_stream.specs.Framing.{Framing, IsSettled, Settles}
-use Rattle.vr_stream.specs.declared.line.Line.{Line}
+use Rattle.vr_stream.specs.declared.line.Incoming.{Incoming}
 
-stood : (xs : List Line) (port : ℕ) (x : Line) → port < length xs → x ≡ slice_index_or xs port x → slice_get xs port ≡ Some x
+stood : (xs : List Incoming) (port : ℕ) (x : Incoming) → port < length xs → x ≡ slice_index_or xs port x → slice_get xs port ≡ Some x
 stood xs port x below e = slice_get-get_or xs port x below ∙ ap Some (sym e)
 
 -- a line that is put back as it was
-put_back : (xs : List Line) (port : ℕ) (x : Line) (held : List ℕ) → x ≡ slice_index_or xs port x → held ≡ x.deframer
+put_back : (xs : List Incoming) (port : ℕ) (x : Incoming) (held : List ℕ) → x ≡ slice_index_or xs port x → held ≡ x.deframer
     → slice_set xs port (record { deframer = held; over = x.over }) ≡ xs
 put_back xs port x held e h =
     ap (λ (d : List ℕ). slice_set xs port (record { deframer = d; over = x.over })) h ∙ ap (slice_set xs port) e ∙ set-get_or xs port x
 
-pub settles_at : (f : Framing) (port : ℕ) (x : Line) (held : List ℕ) → f.ready ≡ Some port → port < length f.lines → x ≡ slice_index_or f.lines port x
+pub settles_at : (f : Framing) (port : ℕ) (x : Incoming) (held : List ℕ) → f.ready ≡ Some port → port < length f.lines → x ≡ slice_index_or f.lines port x
     → held ≡ x.deframer → IsSettled x → Settles f (record { lines = slice_set f.lines port (record { deframer = held; over = x.over }); ready = None })
 settles_at f port x held r below e h s = record {
   settled = λ p line ready there.
@@ -25,7 +25,7 @@ settles_at f port x held r below e h s = record {
       let found : slice_get f.lines port ≡ Some line = ap (slice_get f.lines) at ∙ there in
       let same : x ≡ line = (let o : Some x ≡ Some line = sym (stood f.lines port x below e) ∙ found in cc) in
       subst IsSettled same s;
-  gone = ap (λ (ls : List Line). record { lines = ls; ready = None }) (put_back f.lines port x held e h);
+  gone = ap (λ (ls : List Incoming). record { lines = ls; ready = None }) (put_back f.lines port x held e h);
 }
 
 -- nothing stands ready where there is no such port
@@ -37,10 +37,10 @@ settles_past f port r none = record {
   gone = refl;
 }
 
-pub damaged_at : (f : Framing) (port : ℕ) (x : Line) (held : List ℕ) (fault : MsgFault) → f.ready ≡ Some port → port < length f.lines → x ≡ slice_index_or f.lines port x
+pub damaged_at : (f : Framing) (port : ℕ) (x : Incoming) (held : List ℕ) (fault : MsgFault) → f.ready ≡ Some port → port < length f.lines → x ≡ slice_index_or f.lines port x
     → held ≡ x.deframer → x.over ≡ false → IsBroken x.deframer fault
     → IsDamaged port f × (record { lines = slice_set f.lines port (record { deframer = held; over = x.over }); ready = None } ≡ record f { ready = None })
 damaged_at f port x held fault r below e h o b = (
   record { ready = r; line = x; stands = stood f.lines port x below e; goes_on = o; fault = fault; broken = b },
-  ap (λ (ls : List Line). record { lines = ls; ready = None }) (put_back f.lines port x held e h),
+  ap (λ (ls : List Incoming). record { lines = ls; ready = None }) (put_back f.lines port x held e h),
 )

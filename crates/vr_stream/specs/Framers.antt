@@ -7,14 +7,14 @@ use Rattle.vr_stream.specs.Lines.{kept}
 use Rattle.vr_stream.specs.declared.framer.Framer.{Framer}
 use Rattle.vr_stream.specs.declared.framer.Given.{Given}
 use Rattle.vr_stream.specs.declared.framer.Given.TheVariants as given
-use Rattle.vr_stream.specs.declared.line.Line.{Line}
+use Rattle.vr_stream.specs.declared.line.Incoming.{Incoming}
 
 abbrev pub framing : Framer → Framing
 framing f = record { lines = f.lines.items; ready = f.ready }
 
 -- no stream takes bytes at this port: there is none, or it has no room
 abbrev pub HasNoPlace : ℕ → Framing → Type 0
-HasNoPlace port f = (slice_get f.lines port ≡ None) ⊎ ((line : Line) × (slice_get f.lines port ≡ Some line) × (20480 ≤ length (kept line)))
+HasNoPlace port f = (slice_get f.lines port ≡ None) ⊎ ((line : Incoming) × (slice_get f.lines port ≡ Some line) × (20480 ≤ length (kept line)))
 
 -- bytes that came are taken where there is a place for them
 pub record TakesAt (port : ℕ) (bytes : List ℕ) (f g : Framing) (taken : Bool) : Type 0 where
@@ -24,7 +24,7 @@ pub record TakesAt (port : ℕ) (bytes : List ℕ) (f g : Framing) (taken : Bool
 -- what stands at a port is no message, and its connection isn't over
 pub record IsDamaged (port : ℕ) (f : Framing) : Type 0 where
   pub ready : f.ready ≡ Some port
-  pub line : Line
+  pub line : Incoming
   pub stands : slice_get f.lines port ≡ Some line
   pub goes_on : line.over ≡ false
   pub fault : MsgFault

@@ -6,23 +6,23 @@ use Rattle.vr_edge.specs.declared.link.Received.TheVariants as received
 use Rattle.vr_edge.specs.declared.streams.StreamCall.{StreamCall}
 use Rattle.vr_edge.specs.declared.streams.StreamCall.TheVariants as call
 use Rattle.vr_stream.specs.Framers.{HasNoPlace, IsDamaged}
-use Rattle.vr_stream.specs.Framing.{Call, Framing, Gave, Happen, Happening, Happens, Settled, calls_in}
+use Rattle.vr_stream.specs.Framing.{Call, Framing, Gave, Happen, Occurrence, Happens, Settled, calls_in}
 
 -- a message that stands ready is given; else nothing stands ready then, and where damage stands its connection is closed
-abbrev pub GivesBy : Framing → List Happening → Framing → List ℕ → Option ℕ → Type 0
+abbrev pub GivesBy : Framing → List Occurrence → Framing → List ℕ → Option ℕ → Type 0
 GivesBy f hs g to (Some port) = hs ≡ Gave port to ∷ []
 GivesBy f hs g to None =
     (g.ready ≡ None) × ((hs ≡ Settled ∷ []) ⊎ ((port : ℕ) × IsDamaged port f × (hs ≡ Call (call.Closed port) ∷ Settled ∷ [])))
 
 -- what stands ready is given, if something does: from one framing and what the streams tell to another, the bytes that are given, and their port
 pub record IsGiven (f : Framing) (old : Option (List StreamCall)) (g : Framing) (new : Option (List StreamCall)) (to : List ℕ) (port : Option ℕ) : Type 0 where
-  pub happened : List Happening
+  pub happened : List Occurrence
   pub happen : Happen f happened g
   pub told : Grows old new (calls_in happened)
   pub by : GivesBy f happened g to port
 
 -- what a poll gave is taken: bytes that have no place close their port
-abbrev pub HearsBy : Framing → StreamCall → Framing → List Happening → Framing → List ℕ → Received → Type 0
+abbrev pub HearsBy : Framing → StreamCall → Framing → List Occurrence → Framing → List ℕ → Received → Type 0
 HearsBy f (call.Came piece) mid hs g to (received.Datagram port) = GivesBy mid hs g to (Some port)
 HearsBy f (call.Came piece) mid hs g to received.Part =
     GivesBy mid hs g to None ⊎ (HasNoPlace piece.port f × (hs ≡ Call (call.Closed piece.port) ∷ []))
@@ -34,7 +34,7 @@ pub record IsHeard (f : Framing) (c : StreamCall) (old : Option (List StreamCall
     : Type 0 where
   pub mid : Framing
   pub call : Happens f (Call c) mid
-  pub happened : List Happening
+  pub happened : List Occurrence
   pub happen : Happen mid happened g
   pub told : Grows old new (calls_in happened)
   pub by : HearsBy f c mid happened g to result

@@ -3,7 +3,7 @@ ghost use Rattle.std.specs.Prelude.{◌≡◌, ◌≤◌, IfOk, None, length, re
 ghost use Rattle.vr_stream.specs.Lines.{fresh_line};
 
 use crate::Next;
-use crate::line::Line;
+use crate::line::Incoming;
 use std::alloc::{AllocError, Global};
 use vr_edge::STREAM_ROOM;
 
@@ -21,18 +21,18 @@ pub enum Given {
 /// The streams by their ports, and the port at which messages may stand ready.
 #[derive(Drop)]
 pub struct Framer {
-    lines: Vec<Line>,
+    lines: Vec<Incoming>,
     ready: Option<u32>,
 }
 
 /// So many streams of which nothing has come.
 #[tactic(auto, using(std::proofs::lemmas::Grind::common_steps, crate::proofs::Held::one_more))]
-fn fresh_lines(alloc: Global, count: usize) -> Result<Vec<Line>, AllocError>
+fn fresh_lines(alloc: Global, count: usize) -> Result<Vec<Incoming>, AllocError>
     ensures { IfOk result (λ lines. lines.items ≡ replicate count fresh_line) }
 {
     let mut lines = Vec::new(alloc);
     for _ in 0..count {
-        lines.push(Line::new(alloc)?)?;
+        lines.push(Incoming::new(alloc)?)?;
     }
     Ok(lines)
 }

@@ -8,17 +8,17 @@ use vr_edge::STREAM_ROOM;
 
 /// The stream at a port. Once its connection is over its messages may still be given, and what comes then is another one's.
 #[derive(Drop)]
-pub struct Line {
+pub struct Incoming {
     pub deframer: Deframer,
     pub over: bool,
 }
 
-impl Line {
+impl Incoming {
     /// A stream of which nothing has come.
-    pub fn new(alloc: Global) -> Result<Line, AllocError>
+    pub fn new(alloc: Global) -> Result<Incoming, AllocError>
         ensures { IfOk result (λ l. l ≡ fresh_line) }
     {
-        Ok(Line {
+        Ok(Incoming {
             deframer: Deframer::new(alloc)?,
             over: false,
         })

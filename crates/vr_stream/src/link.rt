@@ -1,5 +1,5 @@
 //! A link over streams.
-ghost use Rattle.std.specs.Prelude.{◌≡◌, ◌≤◌, ◌+◌, [], ◌∷◌, Ok, None, IfOk, replicate, take, vec_capacity};
+ghost use Rattle.std.specs.Prelude.{◌≡◌, ◌≤◌, ◌+◌, [], ◌∷◌, Ok, None, IfOk, OnOk, replicate, take, vec_capacity, vec_len};
 
 use crate::framer::{Framer, Given};
 use std::alloc::{AllocError, Global};
@@ -129,7 +129,7 @@ impl<T: Streams> Link for StreamLink<T> {
     ghost use Rattle.vr_edge.specs.Told.{Grows, IsNothing};
     ghost use Rattle.vr_stream.specs.Framers.{framing};
     ghost use Rattle.vr_stream.specs.Receiving.{IsReceived};
-    ghost use Rattle.vr_stream.specs.Sending.{sent_told};
+    ghost use Rattle.vr_stream.specs.Sending.{Sends, sent_told};
 
     ghost sent = { λ l. sent_told (T.written l.streams) };
 
@@ -141,7 +141,15 @@ impl<T: Streams> Link for StreamLink<T> {
 
     ghost send_faults = { λ l. l.send_faults };
 
-    fn attach(&mut self, own: &str, peers: &Vec<String>) -> Result<(), LinkFailed> {
+    fn attach(&mut self, own: &str, peers: &Vec<String>) -> Result<(), LinkFailed>
+        ensures cause { HasCause self.old.faults self.new.faults result }
+        ensures sent { ⟦<StreamLink<T> as Link>⟧.sent self.new ≡ ⟦<StreamLink<T> as Link>⟧.sent self.old }
+        ensures received { ⟦<StreamLink<T> as Link>⟧.received self.new ≡ ⟦<StreamLink<T> as Link>⟧.received self.old }
+        ensures others { self.new.send_faults ≡ self.old.send_faults }
+        ensures few { OnOk result (vec_len peers.now ≤ self.old.peers) }
+        ensures framing { self.new.framer ≡ self.old.framer }
+        ensures calls { T.calls self.new.streams ≡ T.calls self.old.streams }
+    {
         if peers.len() > self.peers {
             self.faults = self.faults.saturating_add(1);
             return Err(LinkFailed);
@@ -155,8 +163,14 @@ impl<T: Streams> Link for StreamLink<T> {
         }
     }
 
-    #[tactic(auto, using(std::proofs::lemmas::Grind::common_steps, crate::proofs::Sent::sent_whole, crate::proofs::Sent::sent_cut, crate::proofs::Sent::sent_not))]
-    fn send(&mut self, to: u32, bytes: &[u8]) -> Result<(), LinkFailed> {
+    #[tactic(auto, using(std::proofs::lemmas::Grind::common_steps, crate::proofs::Sent::sent_whole, crate::proofs::Sent::sent_cut, crate::proofs::Sent::sent_not, crate::proofs::Sent::sends_whole, crate::proofs::Sent::sends_cut, crate::proofs::Sent::sends_not))]
+    fn send(&mut self, to: u32, bytes: &[u8]) -> Result<(), LinkFailed>
+        ensures cause { HasCause self.old.send_faults self.new.send_faults result }
+        ensures sent { Grows (⟦<StreamLink<T> as Link>⟧.sent self.old) (⟦<StreamLink<T> as Link>⟧.sent self.new) (sent_by to bytes.now result ∷ []) }
+        ensures received { ⟦<StreamLink<T> as Link>⟧.received self.new ≡ ⟦<StreamLink<T> as Link>⟧.received self.old }
+        ensures others { self.new.faults ≡ self.old.faults }
+        ensures sends { Sends to bytes.now (framing self.old.framer) (T.calls self.old.streams) (T.written self.old.streams) (framing self.new.framer) (T.calls self.new.streams) (T.written self.new.streams) }
+    {
         match self.streams.write(to, bytes) {
             Ok(count) if count == bytes.len() => return Ok(()),
             Ok(_) => self.shut(to),

@@ -1,0 +1,104 @@
+//! A link over UDP or over TCP, by its addresses.
+ghost use Rattle.std.specs.Prelude.{None};
+
+use crate::counting::counted;
+use crate::tcp_streams::{PREFIX, TcpStreams};
+use crate::udp_link::UdpLink;
+use std::alloc::{AllocError, Global};
+use std::net::Net;
+use vr_edge::{Link, LinkFailed, Received};
+use vr_stream::StreamLink;
+
+/// The most peers.
+const PEERS: u8 = 6;
+
+/// Which of the two a link is over.
+#[derive(Clone, Copy, Debug, PartialEq, Eq)]
+enum Over {
+    Datagrams,
+    Streams,
+}
+
+/// A link over streams where all addresses begin with `tcp:`, over datagrams where none does; otherwise it can't be attached.
+#[derive(Drop)]
+pub struct RealLink<R> {
+    datagrams: UdpLink<R>,
+    streams: StreamLink<TcpStreams<R>>,
+    over: Over,
+    faults: u64,
+    send_faults: u64,
+}
+
+/// What these addresses ask for, `None` where they differ in it.
+fn asked(own: &str, peers: &Vec<String>) -> Option<Over> {
+    let mut streams = 0usize;
+    for peer in peers.iter() {
+        if peer.as_str().starts_with(PREFIX) {
+            streams = streams.saturating_add(1);
+        }
+    }
+    let own_streams = own.starts_with(PREFIX);
+    if streams == peers.len() && streams > 0 && (own.is_empty() || own_streams) {
+        return Some(Over::Streams);
+    }
+    if streams == 0 && !own_streams {
+        return Some(Over::Datagrams);
+    }
+    None
+}
+
+impl<R: Net + Drop + Copy> RealLink<R> {
+    /// A link that isn't attached; `attach` opens it through `net`.
+    pub fn new(alloc: Global, net: R) -> Result<RealLink<R>, AllocError> {
+        Ok(RealLink {
+            datagrams: UdpLink::new(alloc, net)?,
+            streams: StreamLink::new(alloc, PEERS, TcpStreams::new(alloc, net)?)?,
+            over: Over::Datagrams,
+            faults: 0,
+            send_faults: 0,
+        })
+    }
+}
+
+impl<R: Net + Drop> Link for RealLink<R> {
+    ghost sent = { λ _. None };
+
+    ghost received = { λ _. None };
+
+    ghost waiting = { λ _. None };
+
+    ghost faults = { λ l. l.faults };
+
+    ghost send_faults = { λ l. l.send_faults };
+
+    fn attach(&mut self, own: &str, peers: &Vec<String>) -> Result<(), LinkFailed> {
+        let attached = match asked(own, peers) {
+            Some(Over::Datagrams) => {
+                self.over = Over::Datagrams;
+                self.datagrams.attach(own, peers)
+            }
+            Some(Over::Streams) => {
+                self.over = Over::Streams;
+                self.streams.attach(own, peers)
+            }
+            None => Err(LinkFailed),
+        };
+        counted(attached, &mut self.faults, LinkFailed)
+    }
+
+    fn send(&mut self, to: u32, bytes: &[u8]) -> Result<(), LinkFailed> {
+        let sent = match self.over {
+            Over::Datagrams => self.datagrams.send(to, bytes),
+            Over::Streams => self.streams.send(to, bytes),
+        };
+        counted(sent, &mut self.send_faults, LinkFailed)
+    }
+
+    fn receive(&mut self, to: &mut Vec<u8>) -> Result<Received, LinkFailed> {
+        let received = match self.over {
+            Over::Datagrams => self.datagrams.receive(to),
+            Over::Streams => self.streams.receive(to),
+        };
+        counted(received, &mut self.faults, LinkFailed)
+    }
+}
