@@ -22,7 +22,7 @@ use Rattle.vr_soak.specs.Made.{Made, come_to, line_after, made, with_line}
 
 -- ---- operations
 
-IsOther : Drawn Operation → Type 0
+abbrev IsOther : Drawn Operation → Type 0
 IsOther d = IsOperation d.value × (d.value ≡ operation.Register → ⊥)
 
 operation_fits : (x : ℕ) → IsOther (drawn_operation x)
@@ -32,7 +32,7 @@ operation_fits x =
     (λ e. cond_both (draw x 1 % 3 == 1) _ _ IsOther (λ e. (key_text (draw x 2), λ h. absurd (cc h))) (λ e. (key_text (draw x 2), λ h. absurd (cc h))))
 
 record IsAskable (number : ℕ) (d : Drawn Operation) : Type 0 where
-  operation : IsOperation d.value
+  valid : IsOperation d.value
   first : d.value ≡ operation.Register → number ≡ 0
   only : number ≡ 0 → d.value ≡ operation.Register
 
@@ -40,10 +40,10 @@ asking_fits : (number x : ℕ) → IsAskable number (drawn_asking number x)
 unfolding drawn_asking
 asking_fits number x =
     cond_both (number == 0) _ _ (IsAskable number)
-    (λ e. record { operation = tt; first = λ h. grind (arith, nat_tests); only = λ h. refl })
+    (λ e. record { valid = tt; first = λ h. grind (arith, nat_tests); only = λ h. refl })
     (λ e.
     let o = operation_fits x in
-    record { operation = o.0; first = λ h. absurd (o.1 h); only = λ h. absurd (let t : (number == 0) ≡ false = e in grind (arith, nat_tests)) })
+    record { valid = o.0; first = λ h. absurd (o.1 h); only = λ h. absurd (let t : (number == 0) ≡ false = e in grind (arith, nat_tests)) })
 
 -- ---- lines
 
@@ -58,7 +58,7 @@ request_fits n next x some small =
     let client = draw x 2 % 4 in
     let number = slice_index next client in
     let a = asking_fits number (after_draws x 2) in
-    record { of = omega (arith, some); asked = (record { form = (a.first, a.only); client = omega arith; request = small client; operation = a.operation }, omega arith) }
+    record { of = omega (arith, some); asked = (record { form = (a.first, a.only); client = omega arith; request = small client; operation = a.valid }, omega arith) }
 
 delivery_fits : (n count x : ℕ) → 0 < n → Fits n (drawn_delivery count x)
 unfolding drawn_delivery

@@ -1,5 +1,5 @@
 -- One more line is drawn, and happens.
-use Rattle.std.proofs.Common.{◌≡◌, ◌+◌, ◌<◌, ℕ, Bool, refl, ap, sym, ◌∙◌, arith, List, [], ◌∷◌, ◌++◌, length, length-append, subst}
+use Rattle.std.proofs.Common.{suc, ◌≡◌, ◌+◌, ◌<◌, ℕ, Bool, refl, ap, sym, ◌∙◌, arith, List, [], ◌∷◌, ◌++◌, length, length-append, subst}
 use Rattle.std.specs.Prelude.{count_by}
 use Rattle.std.proofs.lemmas.List.{map-append}
 use Rattle.sha2.specs.Hashers.{Holds256}
@@ -48,7 +48,7 @@ comes n lines l =
 
 made_more : (n number k : ℕ) → made n number (k + 1) ≡ with_line (made n number k) (line_after n (made n number k).number (come_to n (made n number k).lines))
 unfolding made
-made_more n number k = refl
+made_more n number k = let e : k + 1 ≡ suc k = omega arith in rw e refl
 
 none_made : (n number : ℕ) → (made n number 0).lines ≡ []
 unfolding made
@@ -62,7 +62,7 @@ none_happened : (n : ℕ) → come_to n [] ≡ record { world = fresh_world haza
 unfolding happen happenings
 none_happened n = refl
 
-fresh_size : (n : ℕ) → (fresh_world hazards n).n ≡ n
+pub fresh_size : (n : ℕ) → (fresh_world hazards n).n ≡ n
 unfolding fresh_world
 fresh_size n = refl
 

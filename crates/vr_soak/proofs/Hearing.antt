@@ -1,7 +1,7 @@
 -- One more output is heard, and more of them.
 use Rattle.std.proofs.Common.{◌≡◌, ◌+◌, ◌<◌, ◌≤◌, ℕ, Bool, refl, ap, sym, ◌∙◌, arith, List, [], ◌∷◌, ◌++◌, length, take, take_all, get_or, map, append_assoc, subst}
 use Rattle.std.specs.Prelude.{count_by}
-use Rattle.std.specs.List.{flat_map}
+use Rattle.std.specs.List.{flat_map, fold}
 use Rattle.std.proofs.lemmas.Grind.{flat_map-append}
 use Rattle.std.proofs.lemmas.List.{append-nil, map-append, take_more}
 use Rattle.sha2.specs.Hashers.{Holds256}
@@ -34,9 +34,12 @@ text_next ps p =
     flat_map-append (λ (o : Numbered). line_text o.number o.output) ps (p ∷ [])
     ∙ ap (λ x. flat_map (λ (o : Numbered). line_text o.number o.output) ps ++ x) (append-nil (line_text p.number p.output))
 
+fold_more : {A X : Type 0} (g : A → X → A) (a : A) (xs : List X) (y : X) → fold g a (xs ++ y ∷ []) ≡ g (fold g a xs) y
+fold_more g a [] y = refl
+fold_more g a (x ∷ xs) y = fold_more g (g a x) xs y
+
 count_more : (f : Output → Bool) (os : List Output) (o : Output) → count_by f (os ++ o ∷ []) ≡ count_by f os + one_if (f o)
-count_more f [] o = omega arith
-count_more f (x ∷ os) o = let e = count_more f os o in omega (arith, e)
+count_more f os o = fold_more (λ (k : ℕ) (x : Output). k + one_if (f x)) 0 os o
 
 pub heard_more : (old new : Heard) (p : Numbered) (before : List Numbered)
     → HasCounted old new p.output

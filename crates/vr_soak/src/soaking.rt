@@ -51,7 +51,8 @@ impl Soaking {
             .generator
             .line(alloc, n, messages, &self.heard.requests)?;
         let outputs = self.group.step(alloc, &line)?;
-        self.heard.hear_all(outputs.as_slice())
+        self.heard.hear_all(outputs.as_slice())?;
+        Ok(())
     }
 
     /// A new group after so many lines.
