@@ -29,10 +29,11 @@ echo "machine: $(nproc) processors, load $(cut -d ' ' -f 1-3 /proc/loadavg), $(d
 # Median, 99th of 100 and mean of times, one a line.
 times() { sort -n "$@" | awk '{ t[NR] = $1; sum += $1 } END { if (NR) printf "%.0f %.0f %.0f\n", t[int((NR + 1) / 2)], t[int(NR * 0.99 + 0.5)], sum / NR }'; }
 
-# The floor's members end with their input, which is a pipe that is held open.
+# The floor's members end with their input, which is a pipe that this script holds open.
+mkfifo "$folder/hold" && exec {hold}<> "$folder/hold" || exit 2
 floor_members() {
     local r
-    for r in 0 1 2; do "$folder/floor" member $r "$folder/floor.$r" $port < <(exec sleep 1000) & members+=($!); done
+    for r in 0 1 2; do "$folder/floor" member $r "$folder/floor.$r" $port <&$hold & members+=($!); done
     sleep 0.5
 }
 
@@ -62,7 +63,7 @@ run_clients() {
 }
 
 "$folder/floor" sync "$folder/sync" 2000 > "$folder/syncs"
-"$folder/floor" echo $((port + 9)) < <(exec sleep 1000) & members+=($!)
+"$folder/floor" echo $((port + 9)) <&$hold & members+=($!)
 sleep 0.2
 "$folder/floor" trip $((port + 9)) 5000 > "$folder/trips"
 stop
@@ -145,7 +146,7 @@ for _ in $(seq 600); do
     sleep 0.02
 done
 answered=$(wc -l < "$folder/pause")
-kill -KILL "${members[0]}"
+{ kill -KILL "${members[0]}"; wait "${members[0]}"; } 2> /dev/null
 wait $client
 all=$(wc -l < "$folder/pause")
 if [ "$all" -eq $((puts * 2)) ] && [ "$answered" -lt "$all" ]; then

@@ -110,9 +110,12 @@ fn noise(alloc: Global, length: usize) -> Result<Vec<u8>, AllocError> {
 }
 
 #[test]
-fn a_prepare_is_acknowledged(rt: HostRuntime) -> Result<(), Fail> {
-    let text = "send 0 1 0 prepare_ok view 0 op 1 made 0\n";
-    check_hears(&rt, rt.alloc(), prepare(rt.alloc(), 5, 0, 1)?, text, "0 ")
+fn messages_are_answered(rt: HostRuntime) -> Result<(), Fail> {
+    let alloc = rt.alloc();
+    let acknowledged = "send 0 1 0 prepare_ok view 0 op 1 made 0\n";
+    check_hears(&rt, alloc, prepare(alloc, 5, 0, 1)?, acknowledged, "0 ")?;
+    let asked = "send 0 1 0 get_view view 2\n";
+    check_hears(&rt, alloc, commit(alloc, 2)?, asked, "0 ")
 }
 
 #[test]
@@ -121,7 +124,7 @@ fn what_is_no_message_changes_nothing(rt: HostRuntime) -> Result<(), Fail> {
     for length in [0, 127, 20_481] {
         check_hears(&rt, alloc, noise(alloc, length)?, "", "")?;
     }
-    let mut changed = commit(alloc, 0)?;
+    let mut changed = commit(alloc, 2)?;
     changed.pop();
     changed.push(1)?;
     check_hears(&rt, alloc, changed, "", "")?;

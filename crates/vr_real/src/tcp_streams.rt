@@ -191,7 +191,7 @@ impl<R: Drop> TcpStreams<R> {
         })
     }
 
-    /// Waits a little until something is there.
+    /// Waits a little until something is there; a signal that comes ends the wait.
     fn wait(&mut self) -> io::Result<()>
         ensures faults { self.new.faults ≡ self.old.faults }
         ensures others { self.new.call_faults ≡ self.old.call_faults }
@@ -199,7 +199,11 @@ impl<R: Drop> TcpStreams<R> {
         let Some(poll) = &mut self.poll else {
             return Err(io::Error::from(ErrorKind::NotConnected));
         };
-        poll.poll(&mut self.events, Some(Duration::from_millis(WAIT_MILLIS)))?;
+        match poll.poll(&mut self.events, Some(Duration::from_millis(WAIT_MILLIS))) {
+            Ok(()) => {}
+            Err(error) if error.kind() == ErrorKind::Interrupted => return Ok(()),
+            Err(error) => return Err(error),
+        }
         let mut waiting = false;
         for event in self.events.iter() {
             let Token(at) = event.token();

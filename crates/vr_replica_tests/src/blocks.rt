@@ -1,49 +1,49 @@
 //! A block of the address that was asked for, and of another name.
 ghost use Rattle.std.specs.Prelude.{◌≡◌, length};
 
-use crate::member::{Member, new_member, one_of_two, register};
+use crate::member::{Member, new_member, register};
 use std::alloc::Global;
-use std::process::Abort;
 use std::test::Fail;
-use vr_base::ByteList;
-use vr_lie::Fault;
 use vr_msg::{Event, Frame, GiveBlock, Message, Output};
-use vr_replica::Replica;
+
+// The primary and its backup.
+#[derive(Drop)]
+struct Pair {
+    primary: Member,
+    backup: Member,
+}
+
+fn new_pair(alloc: Global) -> Option<Pair> {
+    let primary = new_member(alloc, 0)?;
+    let backup = new_member(alloc, 1)?;
+    Some(Pair { primary, backup })
+}
 
 // Hands the first message of the one to the other.
-fn pass(alloc: Global, from: &Member, to: &mut Member) -> Result<(), Fail> {
+fn pass(alloc: Global, from: &Member, to: &mut Member) -> Option<()> {
     let event = from.first(alloc)?;
-    Ok(to.step(alloc, &event).ok().ok_or("stopped")?)
+    let _ = to.step(alloc, &event);
+    Some(())
 }
 
 // So many clients register, each after the other.
-fn fill(alloc: Global, primary: &mut Member, backup: &mut Member, count: u64) -> Result<(), Fail> {
+fn fill(alloc: Global, pair: &mut Pair, count: u64) -> Option<()> {
     for client in 0..count {
-        let event = register(client.saturating_add(1));
-        primary.step(alloc, &event).ok().ok_or("stopped")?;
-        pass(alloc, primary, backup)?;
-        pass(alloc, backup, primary)?;
+        let _ = pair.primary.step(alloc, &register(client));
+        pass(alloc, &pair.primary, &mut pair.backup)?;
+        pass(alloc, &pair.backup, &mut pair.primary)?;
     }
-    Ok(())
-}
-
-// A sector is damaged, and the member is recovered.
-fn reopen_damaged(alloc: Global, member: &mut Member, sector: u32) -> Result<(), Fail> {
-    let _ = member.disk.fault(&Fault::Damage(sector.min(1423)));
-    let config = one_of_two(0, 1);
-    let found = Replica::recover(alloc, &mut member.disk, &config, &mut member.out);
-    member.replica = found.ok().ok_or("not recovered")?;
-    Ok(())
+    Some(())
 }
 
 // The message with a block of the same address whose first byte is another.
-fn with_other_block(alloc: Global, give: &GiveBlock) -> Result<Event, Fail>
+fn with_other_block(alloc: Global, give: &GiveBlock) -> Option<Event>
     requires { length give.now.block ≡ 4096 }
 {
-    let mut block = give.block.try_clone(alloc)?;
+    let mut block = give.block.try_clone(alloc).ok()?;
     let first = block.get(0).unwrap_or(0);
     block.replace(0, 255 - first);
-    Ok(Event::Deliver(Message::new(Frame::GiveBlock(GiveBlock {
+    Some(Event::Deliver(Message::new(Frame::GiveBlock(GiveBlock {
         cluster: give.cluster,
         replica: give.replica,
         address: give.address,
@@ -52,58 +52,47 @@ fn with_other_block(alloc: Global, give: &GiveBlock) -> Result<Event, Fail>
 }
 
 // What the member put out last, but with another block.
-fn other_block(alloc: Global, member: &Member) -> Result<Event, Fail> {
+fn other_block(alloc: Global, member: &Member) -> Option<Event> {
     if let Some(Output::Send(sent)) = member.out.as_slice().first() {
         if let Frame::GiveBlock(give) = sent.message.frame() {
             return with_other_block(alloc, give);
         }
     }
-    Err(Fail::from("no block"))
+    None
 }
 
-// What a member puts out at an event.
-fn check(
-    rt: &impl Abort,
-    alloc: Global,
-    member: &mut Member,
-    event: &Event,
-    wanted: &str,
-) -> Result<(), Fail> {
-    member.step(alloc, event).ok().ok_or("stopped")?;
-    let text = member.text(alloc)?;
-    assert_eq!(rt; text.as_slice(), wanted.as_bytes());
-    Ok(())
+fn given(alloc: Global, member: &Member, own: bool) -> Option<Event> {
+    if own {
+        member.first(alloc)
+    } else {
+        other_block(alloc, member)
+    }
 }
 
-const ASKS: &str = "send 0 1 0 get_block 64\n";
+// The backup asks for a block, takes what comes, which is the primary's block or another, and ticks.
+fn repair(alloc: Global, pair: &mut Pair, own: bool) -> Option<()> {
+    let _ = pair.backup.step(alloc, &Event::Tick);
+    pass(alloc, &pair.backup, &mut pair.primary)?;
+    let event = given(alloc, &pair.primary, own)?;
+    let _ = pair.backup.step(alloc, &event);
+    let _ = pair.backup.step(alloc, &Event::Tick);
+    Some(())
+}
 
-// A backup whose root block is damaged, and the primary, both with 33 operations.
-fn damaged(alloc: Global) -> Result<(Member, Member), Fail> {
-    let mut primary = new_member(alloc, 0)?;
-    let mut backup = new_member(alloc, 1)?;
-    fill(alloc, &mut primary, &mut backup, 33)?;
-    reopen_damaged(alloc, &mut backup, 912)?;
-    Ok((primary, backup))
+// How many messages a backup then puts out whose root block, at sector 912, was damaged.
+fn asks_after(alloc: Global, own: bool) -> Option<usize> {
+    let mut pair = new_pair(alloc)?;
+    fill(alloc, &mut pair, 33)?;
+    pair.backup.damage(&[912]);
+    pair.backup.reopen(alloc)?;
+    repair(alloc, &mut pair, own)?;
+    Some(pair.backup.out.len())
 }
 
 // The backup goes on asking until the block itself comes.
 #[test]
 fn another_block_of_the_address_changes_nothing(rt: HostRuntime) -> Result<(), Fail> {
-    let alloc = rt.alloc();
-    let (mut primary, mut backup) = damaged(alloc)?;
-    check(&rt, alloc, &mut backup, &Event::Tick, ASKS)?;
-    let asked = backup.first(alloc)?;
-    check(
-        &rt,
-        alloc,
-        &mut primary,
-        &asked,
-        "send 0 0 1 give_block 64\n",
-    )?;
-    let other = other_block(alloc, &primary)?;
-    check(&rt, alloc, &mut backup, &other, "")?;
-    check(&rt, alloc, &mut backup, &Event::Tick, ASKS)?;
-    let own = primary.first(alloc)?;
-    check(&rt, alloc, &mut backup, &own, "")?;
-    check(&rt, alloc, &mut backup, &Event::Tick, "")
+    assert_eq!(rt; asks_after(rt.alloc(), false), Some(1));
+    assert_eq!(rt; asks_after(rt.alloc(), true), Some(0));
+    Ok(())
 }

@@ -7,7 +7,7 @@ use vr_msg::Event;
 use vr_replica::Halt;
 
 /// The prepare of the first operation.
-pub fn prepare(alloc: Global) -> Result<Event, Fail> {
+pub fn prepare(alloc: Global) -> Option<Event> {
     let mut primary = new_member(alloc, 0)?;
     let _ = primary.step(alloc, &register(7));
     primary.first(alloc)
@@ -19,41 +19,29 @@ fn step_failing(
     member: &mut Member,
     event: &Event,
     call: u64,
-) -> Result<(Result<(), Halt>, usize, bool), Fail> {
+) -> Option<(Result<(), Halt>, usize, bool)> {
     member.fail(alloc, call)?;
     let end = member.step(alloc, event);
-    Ok((end, member.out.len(), member.replica.running()))
+    Some((end, member.out.len(), member.replica.running()))
+}
+
+// A backup takes its first prepare.
+fn storing(alloc: Global, call: u64) -> Option<(Result<(), Halt>, usize, bool)> {
+    let event = prepare(alloc)?;
+    let mut backup = new_member(alloc, 1)?;
+    step_failing(alloc, &mut backup, &event, call)
 }
 
 // A backup stores its first entry by seven calls.
 #[test]
 fn a_call_of_storing_fails(rt: HostRuntime) -> Result<(), Fail> {
-    let alloc = rt.alloc();
-    let event = prepare(alloc)?;
     for call in 1..9u64 {
-        let mut backup = new_member(alloc, 1)?;
-        let ended = step_failing(alloc, &mut backup, &event, call)?;
         let wanted = if call < 8 {
             (Err(Halt::DiskFault), 0, false)
         } else {
             (Ok(()), 1, true)
         };
-        assert_eq!(rt; ended, wanted, "call {call}");
-    }
-    Ok(())
-}
-
-// A backup that begins a view saves it by 84 calls.
-#[test]
-fn a_call_of_saving_fails(rt: HostRuntime) -> Result<(), Fail> {
-    let alloc = rt.alloc();
-    for (call, runs) in [(1u64, false), (21, false), (84, false), (85, true)] {
-        let mut backup = new_member(alloc, 1)?;
-        for _ in 0..4 {
-            let _ = backup.step(alloc, &Event::Tick);
-        }
-        let ended = step_failing(alloc, &mut backup, &Event::Tick, call)?;
-        assert_eq!(rt; ended.2, runs, "call {call}");
+        assert_eq!(rt; storing(rt.alloc(), call), Some(wanted), "call {call}");
     }
     Ok(())
 }

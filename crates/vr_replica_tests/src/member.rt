@@ -1,14 +1,12 @@
-//! A member of a group of two on a disk that lies.
+//! A member of a group of two on a disk that lies. What owns much ends early in few places: each costs a proof of what is dropped there.
 ghost use Rattle.std.specs.Prelude.{◌≡◌, ◌<◌};
 
-use std::alloc::{AllocError, Global};
-use std::test::Fail;
-use vr_base::{ByteList, Config, Seq};
+use std::alloc::Global;
+use vr_base::{Config, Seq};
 use vr_header::Operation;
-use vr_lie::LieDisk;
+use vr_lie::{Fault, LieDisk};
 use vr_msg::{Event, Outbox, Output, Request, RequestFields};
 use vr_replica::{Halt, Replica};
-use vr_sched::write_text;
 
 /// A member, and what it put out last.
 #[derive(Drop)]
@@ -30,13 +28,13 @@ pub fn one_of_two(cluster: u64, index: u8) -> Config
 }
 
 /// A member of a new group.
-pub fn new_member(alloc: Global, index: u8) -> Result<Member, Fail>
+pub fn new_member(alloc: Global, index: u8) -> Option<Member>
     requires { index < 2 }
 {
-    let mut disk = LieDisk::new(alloc).ok().ok_or("no memory")?;
-    let made = Replica::fresh(alloc, &mut disk, &one_of_two(0, index));
-    Ok(Member {
-        replica: made.ok().ok_or("not made")?,
+    let mut disk = LieDisk::new(alloc).ok()?;
+    let replica = Replica::fresh(alloc, &mut disk, &one_of_two(0, index)).ok()?;
+    Some(Member {
+        replica,
         disk,
         out: Seq::new(alloc),
     })
@@ -63,25 +61,30 @@ impl Member {
     }
 
     /// The first of what it put out last, a message, as it arrives.
-    pub fn first(&self, alloc: Global) -> Result<Event, Fail> {
+    pub fn first(&self, alloc: Global) -> Option<Event> {
         match self.out.as_slice().first() {
-            Some(Output::Send(sent)) => Ok(Event::Deliver(sent.message.try_clone(alloc)?)),
-            _ => Err(Fail::from("no message")),
+            Some(Output::Send(sent)) => Some(Event::Deliver(sent.message.try_clone(alloc).ok()?)),
+            _ => None,
         }
-    }
-
-    /// What it put out last, where each message has number 0.
-    pub fn text(&self, alloc: Global) -> Result<ByteList, AllocError> {
-        let mut text = Seq::new(alloc);
-        for output in self.out.as_slice() {
-            write_text(0, output, &mut text)?;
-        }
-        Ok(text)
     }
 
     /// The call of this number, and no other, is to fail from now on.
-    pub fn fail(&mut self, alloc: Global, call: u64) -> Result<(), AllocError> {
-        self.disk.fail(vec![in alloc; call]?);
-        Ok(())
+    pub fn fail(&mut self, alloc: Global, call: u64) -> Option<()> {
+        self.disk.fail(vec![in alloc; call].ok()?);
+        Some(())
+    }
+
+    /// These sectors are damaged.
+    pub fn damage(&mut self, sectors: &[u32]) {
+        for sector in sectors {
+            let _ = self.disk.fault(&Fault::Damage((*sector).min(1423)));
+        }
+    }
+
+    /// It is recovered from its disk, as member 1.
+    pub fn reopen(&mut self, alloc: Global) -> Option<()> {
+        let config = one_of_two(0, 1);
+        self.replica = Replica::recover(alloc, &mut self.disk, &config, &mut self.out).ok()?;
+        Some(())
     }
 }
