@@ -9,3 +9,4 @@ mod datagrams;
 mod member;
 #[cfg(test)]
 mod outside;
+mod soak;
