@@ -5,7 +5,9 @@ program=${PROGRAM:-$PWD/crates/vr_app/out/vr_app}
 [ -x "$program" ] || { echo "no program: (cd crates/vr_app && rt run -- replay < /dev/null) makes $program" >&2; exit 2; }
 folder=$(mktemp -d) || exit 2
 port=$((20000 + ($$ * 7) % 9000))
-addresses="127.0.0.1:$port 127.0.0.1:$((port + 1)) 127.0.0.1:$((port + 2))"
+# Over TCP where SCHEME is tcp: and over UDP without it.
+scheme=${SCHEME:-}
+addresses="${scheme}127.0.0.1:$port ${scheme}127.0.0.1:$((port + 1)) ${scheme}127.0.0.1:$((port + 2))"
 members=([0]= [1]= [2]=)
 
 # Ends what was started, and removes the files.

@@ -4,7 +4,7 @@ use std::process::Abort;
 use std::test::Fail;
 use vr_base::{ByteList, Seq};
 use vr_group::{Numbered, World};
-use vr_lines::{Line, parse_line};
+use vr_lines::parse_line;
 use vr_sched::write_text;
 
 /// The text of outputs, behind what stands.
@@ -70,27 +70,5 @@ fn a_group_goes_on_line_by_line(rt: HostRuntime) -> Result<(), Fail> {
         stepped(&rt, alloc, n, lines, &mut text)?;
         assert_eq!(rt; text.as_slice(), want.as_bytes());
     }
-    Ok(())
-}
-
-/// Five ticks without a sign of the primary.
-#[tactic(auto, unfolding(vr_group::specs::Lines::AreLinesOf))]
-#[test]
-fn a_group_runs_lines(rt: HostRuntime) -> Result<(), Fail> {
-    let alloc = rt.alloc();
-    let mut world = World::new(alloc, 3)?;
-    let ticks = [
-        Line::Tick(1),
-        Line::Tick(1),
-        Line::Tick(1),
-        Line::Tick(1),
-        Line::Tick(1),
-    ];
-    let outputs = world.run(alloc, &ticks)?;
-    let mut text = Seq::new(alloc);
-    tell(outputs.as_slice(), &mut text)?;
-    let want = "send 0 1 0 start_view_change view 1\nsend 1 1 2 start_view_change view 1\n";
-    assert_eq!(rt; text.as_slice(), want.as_bytes());
-    assert!(rt; world.live());
     Ok(())
 }

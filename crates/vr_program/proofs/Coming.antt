@@ -9,11 +9,14 @@ use Rattle.vr_base.specs.declared.table.Config.{Config}
 use Rattle.vr_node.specs.Running as node
 use Rattle.vr_program.specs.Run.{Comes, Faults, IsGood, Outside, RunEnds, client_of, config_of, counts_of, faults_of, of_client, of_member}
 use Rattle.vr_serve.specs.Causes as serve
+use Rattle.vr_soak.specs.Ends.{SoakEnds}
+use Rattle.vr_soak.specs.Summing.{soak_text}
 use Rattle.vr_status.specs.declared.status.Status.{Status}
 use Rattle.vr_status.specs.declared.status.Status.TheVariants.{NoMemory, Usage}
-use Rattle.vr_words.specs.Asked.{Asked, Client, ClientAsked, Node, NodeAsked, client_says, is_size, node_says}
+use Rattle.vr_words.specs.Asked.{Asked, Client, ClientAsked, Node, NodeAsked, Replay, Soak, client_says, is_size, node_says}
 use Rattle.vr_words.specs.declared.command.ClientWords.{ClientWords}
 use Rattle.vr_words.specs.declared.command.NodeWords.{NodeWords}
+use Rattle.vr_words.specs.declared.command.SoakWords.{SoakWords}
 
 size_bounds : (n : ℕ) → is_size n ≡ true → (2 ≤ n) × (n ≤ 6)
 size_bounds n e = (grind (arith, nat_tests), grind (arith, nat_tests))
@@ -90,6 +93,10 @@ serves a o o' b n s e u = (s, refl, record { ends = e; unread = u })
 pub asks : (a : ClientAsked) (o o' : Outside) (b n : Faults) (s : Status)
     → run.ClientEnds (client_of a) (of_client o) (of_client o') (faults_of b) (faults_of n) s → o'.disk ≡ o.disk → o'.clock ≡ o.clock → Comes (Some (Client a)) o o' b n (Some s)
 asks a o o' b n s e d c = (s, refl, record { ends = e; disk = d; clock = c })
+
+pub soaks : (w : SoakWords) (o o' : Outside) (b n : Faults) (s : Status)
+    → SoakEnds b.sink n.sink o.sink o'.sink (soak_text w.seed w.count) s → record o' { sink = o.sink } ≡ o → Comes (Some (Soak w)) o o' b n (Some s)
+soaks w o o' b n s e k = (s, refl, record { ends = e; others = k })
 
 -- ---- the words
 

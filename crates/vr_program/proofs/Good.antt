@@ -10,6 +10,7 @@ use Rattle.vr_program.specs.Run.{IsGood}
 use Rattle.vr_sched.specs.Numbers.{number_below, number_of}
 use Rattle.vr_words.specs.Asked.{Asked, Client, ClientAsked, Node, NodeAsked, Replay, Soak, asked, asked_at, asker_at, below_at, client_at, fresh_at, id_at, is_size, is_taken, member_at, node_at, number_at, peers_at, soak_at}
 use Rattle.vr_words.specs.Forms.{the_command}
+use Rattle.vr_words.specs.declared.command.SoakWords.{SoakWords}
 
 -- ---- tests
 
@@ -132,6 +133,17 @@ client_good : (rows : List Row) (a : ClientAsked) → client_at rows ≡ Some a 
 unfolding client_at
 client_good rows a e = client_by rows (peers_at rows) (peers_size rows) a e
 
+soak_by : (seed count : Option ℕ) (w : SoakWords) → option_and_then (λ seed. option_map (λ count. record { seed = seed; count = count }) count) seed ≡ Some w → count ≡ Some w.count
+soak_by None count w e = absurd (cc e)
+soak_by (Some s) None w e = absurd (cc e)
+soak_by (Some s) (Some c) w e =
+    let same : record { seed = s; count = c } ≡ w = cc e in
+    ap (λ (x : SoakWords). Some x.count) same
+
+soak_good : (rows : List Row) (w : SoakWords) → soak_at rows ≡ Some w → IsGood (Soak w)
+unfolding soak_at
+soak_good rows w e = below_text 1000000 (first_of (codes "count") rows) w.count (soak_by (number_at (codes "seed") rows) (below_at 1000000 (codes "count") rows) w e)
+
 -- ---- commands
 
 abbrev at_client : Text → List Row → Option Asked
@@ -158,7 +170,7 @@ third false rows a z later e = later e
 second : (b : Bool) (rows : List Row) (a : Asked) (z : Option Asked) → (z ≡ Some a → IsGood a) → (if b then option_map Soak (soak_at rows) else z) ≡ Some a → IsGood a
 second true rows a z later e =
     let y = map_some Soak (soak_at rows) a e in
-    subst IsGood y.2 tt
+    subst IsGood y.2 (soak_good rows y.0 y.1)
 second false rows a z later e = later e
 
 first : (b : Bool) (a : Asked) (z : Option Asked) → (z ≡ Some a → IsGood a) → (if b then Some Replay else z) ≡ Some a → IsGood a

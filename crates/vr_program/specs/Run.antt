@@ -8,9 +8,13 @@ use Rattle.vr_edge.specs.Datagrams.{Arrival}
 use Rattle.vr_edge.specs.declared.datagram.Datagram.{Datagram}
 use Rattle.vr_node.specs.Running as node
 use Rattle.vr_serve.specs.Causes as serve
+use Rattle.vr_soak.specs.Ends.{SoakEnds}
+use Rattle.vr_soak.specs.Headline.{SoakHasOneLog}
+use Rattle.vr_soak.specs.Summing.{soak_text}
 use Rattle.vr_status.specs.declared.status.Status.{Status}
 use Rattle.vr_status.specs.declared.status.Status.TheVariants.{Usage, NoMemory}
 use Rattle.vr_words.specs.Asked.{Asked, Client, ClientAsked, Node, NodeAsked, Replay, Soak, is_size}
+use Rattle.vr_words.specs.declared.command.SoakWords.{SoakWords}
 
 -- what the objects tell that are handed in
 pub record Outside : Type 0 where
@@ -64,11 +68,16 @@ pub record Asks (a : ClientAsked) (o o' : Outside) (before now : Faults) (status
   pub disk : o'.disk ≡ o.disk
   pub clock : o'.clock ≡ o.clock
 
+-- `soak ..`: the summary of the schedule that a number makes, of which no object hears but the sink
+pub record Soaks (words : SoakWords) (o o' : Outside) (before now : Faults) (status : Status) : Type 0 where
+  pub ends : SoakEnds before.sink now.sink o.sink o'.sink (soak_text words.seed words.count) status
+  pub others : record o' { sink = o.sink } ≡ o
+
 -- What a command line comes to: words that are none of the forms are `usage`, and call nothing; `replay` is left to the caller.
 abbrev pub Comes : Option Asked → Outside → Outside → Faults → Faults → Option Status → Type 0
 Comes None o o' before now result = (result ≡ Some Usage) × (o' ≡ o)
 Comes (Some Replay) o o' before now result = (result ≡ None) × (o' ≡ o)
-Comes (Some (Soak words)) o o' before now result = (result ≡ Some Usage) × (o' ≡ o)
+Comes (Some (Soak words)) o o' before now result = (status : Status) × (result ≡ Some status) × Soaks words o o' before now status
 Comes (Some (Node a)) o o' before now result = (status : Status) × (result ≡ Some status) × Serves a o o' before now status
 Comes (Some (Client a)) o o' before now result = (status : Status) × (result ≡ Some status) × Asks a o o' before now status
 
@@ -76,9 +85,14 @@ Comes (Some (Client a)) o o' before now result = (status : Status) × (result �
 abbrev pub RunEnds : Option Asked → Outside → Outside → Faults → Faults → Option Status → Type 0
 RunEnds asked o o' before now result = ((result ≡ Some NoMemory) × (o' ≡ o)) ⊎ Comes asked o o' before now result
 
--- a member is one of its group, which has from 2 to 6; a client isn't 0
+-- the outputs of the schedule of `soak` have one log
+abbrev pub HasOneLog : Option Asked → Type 0
+HasOneLog (Some (Soak words)) = SoakHasOneLog words.seed words.count
+HasOneLog _ = ⊤
+
+-- a number of lines is below a million; a member is one of its group, which has from 2 to 6; a client isn't 0
 abbrev pub IsGood : Asked → Type 0
 IsGood Replay = ⊤
-IsGood (Soak words) = ⊤
+IsGood (Soak words) = words.count < 1000000
 IsGood (Node a) = (is_size (length a.peers) ≡ true) × (a.replica < length a.peers)
 IsGood (Client a) = (is_size (length a.peers) ≡ true) × (a.id ≢ 0)

@@ -3,7 +3,7 @@ ghost use Rattle.std.specs.Prelude.{◌≡◌, Some, map, string_bytes};
 ghost use Rattle.vr_ask.specs.Asking.{faults as client_faults};
 ghost use Rattle.vr_ask.specs.Run.{ClientEnds, outside as client_outside};
 ghost use Rattle.vr_node.specs.Running.{NodeEnds, outside as member_outside};
-ghost use Rattle.vr_program.specs.Run.{Comes, IsGood, RunEnds, client_of, config_of, faults, outside};
+ghost use Rattle.vr_program.specs.Run.{Comes, HasOneLog, IsGood, RunEnds, client_of, config_of, faults, outside};
 ghost use Rattle.vr_serve.specs.Causes.{counts};
 ghost use Rattle.vr_words.specs.Asked.{Client, Node, asked, client_says, node_says, says};
 
@@ -13,6 +13,7 @@ use vr_base::Config;
 use vr_disk::SectorDisk;
 use vr_edge::{Clock, Link, Sink, Source};
 use vr_node::{Role, run_node};
+use vr_soak::soak;
 use vr_status::Status;
 use vr_words::{ClientWords, Command, NodeWords, WordsFault, parse};
 
@@ -84,7 +85,7 @@ fn ask_group<S: Source, K: Sink, L: Link>(
 }
 
 /// Does what a command asks for; `None`: it is `replay`, which the caller does.
-#[tactic(auto, using(crate::proofs::Coming::serves, crate::proofs::Coming::asks))]
+#[tactic(auto, using(crate::proofs::Coming::serves, crate::proofs::Coming::asks, crate::proofs::Coming::soaks))]
 fn obey<S: Source, K: Sink, D: SectorDisk, L: Link, C: Clock>(
     alloc: Global,
     command: Command,
@@ -103,15 +104,15 @@ fn obey<S: Source, K: Sink, D: SectorDisk, L: Link, C: Clock>(
 {
     match command {
         Command::Replay => None,
-        Command::Soak(_) => Some(Status::Usage),
+        Command::Soak(words) => Some(soak(alloc, words.seed, words.count, sink)),
         Command::Node(words) => Some(serve_role(alloc, words, sink, disk, link, clock)),
         Command::Client(words) => Some(ask_group(alloc, &words, source, sink, link)),
     }
 }
 
-/// Does what the words of the command line ask for: `node` serves as a member of a group, `client` asks one. `None`: the words are
-/// `replay`, which is left to the caller, and nothing was called.
-#[tactic(auto, using(crate::proofs::Good::asked_good, crate::proofs::Coming::comes_by, crate::proofs::Coming::comes_none, crate::proofs::Coming::comes_short))]
+/// Does what the words of the command line ask for: `node` serves as a member of a group, `client` asks one, `soak` runs a schedule that a
+/// number makes. `None`: the words are `replay`, which is left to the caller, and nothing was called.
+#[tactic(auto, using(crate::proofs::Good::asked_good, crate::proofs::Coming::comes_by, crate::proofs::Coming::comes_none, crate::proofs::Coming::comes_short, crate::proofs::OneLog::words_have_one_log))]
 pub fn run<S: Source, K: Sink, D: SectorDisk, L: Link, C: Clock>(
     alloc: Global,
     words: &Vec<String>,
@@ -127,6 +128,9 @@ pub fn run<S: Source, K: Sink, D: SectorDisk, L: Link, C: Clock>(
         (outside (S.left source.new) (K.taken sink.new) (D.told disk.new) (L.received link.new) (L.sent link.new) (C.left clock.new))
         (faults (S.faults source.old) (K.faults sink.old) (D.faults disk.old) (L.faults link.old))
         (faults (S.faults source.new) (K.faults sink.new) (D.faults disk.new) (L.faults link.new)) result }
+
+    // Whatever the number of `soak`, the outputs of its schedule have one log.
+    ensures headline { HasOneLog (asked (map string_bytes words.now.items)) }
 {
     match parse(alloc, words.as_slice()) {
         Ok(command) => obey(alloc, command, source, sink, disk, link, clock),

@@ -9,3 +9,5 @@ mod datagrams;
 mod member;
 #[cfg(test)]
 mod outside;
+#[cfg(test)]
+mod soak;

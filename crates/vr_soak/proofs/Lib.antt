@@ -1,0 +1,4 @@
+pub mod Hearing
+pub mod Going
+pub mod Asked
+pub mod Headline

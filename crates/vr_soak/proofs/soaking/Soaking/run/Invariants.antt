@@ -1,0 +1,12 @@
+use Rattle.std.proofs.Common.{◌≡◌, ◌<◌, true}
+use Rattle.vr_draws.specs.Drawn.{drawn_size}
+use Rattle.vr_soak.specs.Made.{size_of}
+use Rattle.vr_soak.specs.Soaking.{IsSoaking}
+use Rattle.vr_soak.proofs.soaking.Soaking.run.Given as goal
+
+abbrev pub invariant-loop-number : goal.invariant-loop-number
+invariant-loop-number l = record {
+  soaking : IsSoaking (size_of l.seed) (drawn_size l.seed).number l.number l.soaking;
+  live : l.soaking.group.live ≡ true;
+  size : 0 < l.soaking.group.world.n;
+}
