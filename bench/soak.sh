@@ -30,7 +30,7 @@ instructions() {
     callgrind_annotate --threshold=100 "$folder/profile" |
         awk '/PROGRAM TOTALS/ { gsub(",", "", $1); total = $1 }
              /sha2|sha256|compress/ { gsub(",", "", $1); digests += $1 }
-             END { print total, digests + 0 }'
+             END { printf "%.0f %.0f\n", total, digests }'
 }
 
 grows=0
