@@ -4,6 +4,7 @@
 # them (bench/node/floor.c). For 1, 2, 4 and 8 clients, each with one put of 100 bytes after the other: puts a second, and of one put the median,
 # the 99th of 100 and the mean. Then the same puts on a group of three of etcd, where it is installed, each at its leader over its own protocol;
 # system calls a put, processor time a put, an idle group's, and the pause when the primary is killed.
+#   SCHEME=tcp: bench/node.sh ..      the group over TCP; the floor's messages are datagrams all the same
 #   bench/node.sh [FOLDER [PUTS]]     FOLDER on the disk that is to be measured (a new one in /tmp without it), PUTS a client (2000)
 # It ends with status 1 where one client's mean is above twice the floor's. Needs bash, awk, a C compiler, and strace for the system calls.
 # Where other work goes on, run all of it at real-time priority (chrt -f 10 bench/node.sh): else a sync's end waits for time slices.
@@ -14,7 +15,8 @@ program=${PROGRAM:-$PWD/crates/vr_app/out/vr_app}
 folder=$(mktemp -d "${1:-/tmp}/node.XXXXXX") || exit 2
 puts=${2:-2000}
 port=$((21000 + ($$ * 7) % 8000))
-addresses="127.0.0.1:$port 127.0.0.1:$((port + 1)) 127.0.0.1:$((port + 2))"
+scheme=${SCHEME:-}
+addresses="${scheme}127.0.0.1:$port ${scheme}127.0.0.1:$((port + 1)) ${scheme}127.0.0.1:$((port + 2))"
 members=()
 etcds=()
 stop() { [ ${#members[@]} -eq 0 ] || { kill "${members[@]}"; wait "${members[@]}"; } 2> /dev/null; members=(); }
@@ -24,7 +26,7 @@ trap 'exit 130' INT TERM
 for part in floor stamp etcd; do cc -O2 -o "$folder/$part" bench/node/$part.c || exit 2; done
 value=$(printf 'v%.0s' $(seq 100))
 
-echo "machine: $(nproc) processors, load $(cut -d ' ' -f 1-3 /proc/loadavg), $(df --output=fstype "$folder" | tail -n 1) on $(df --output=source "$folder" | tail -n 1), kernel $(uname -r)"
+echo "group over $([ -z "$scheme" ] && echo UDP || echo TCP); machine: $(nproc) processors, load $(cut -d ' ' -f 1-3 /proc/loadavg), $(df --output=fstype "$folder" | tail -n 1) on $(df --output=source "$folder" | tail -n 1), kernel $(uname -r)"
 
 # Median, 99th of 100 and mean of times, one a line.
 times() { sort -n "$@" | awk '{ t[NR] = $1; sum += $1 } END { if (NR) printf "%.0f %.0f %.0f\n", t[int((NR + 1) / 2)], t[int(NR * 0.99 + 0.5)], sum / NR }'; }

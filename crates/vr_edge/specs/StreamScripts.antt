@@ -1,5 +1,5 @@
 -- What the calls of streams in memory do.
-use Rattle.std.specs.Prelude.{ℕ, ◌-◌, ◌≡◌, ◌==◌, ◌||◌, if◌then◌else◌, Bool, true, false, List, [], ◌∷◌, length, take, slice_get, slice_set, Option, Some, None, unwrap_or, Result, Ok, Err}
+use Rattle.std.specs.Prelude.{ℕ, ◌+◌, ◌-◌, nat_le, ◌≡◌, ◌==◌, ◌||◌, if◌then◌else◌, Bool, true, false, List, [], ◌∷◌, length, take, slice_get, slice_set, Option, Some, None, unwrap_or, Result, Ok, Err}
 use Rattle.vr_edge.specs.Counts.{is_listed}
 use Rattle.vr_edge.specs.Told.{Grows}
 use Rattle.vr_edge.specs.declared.stream_script.Coming.{Coming}
@@ -10,26 +10,26 @@ use Rattle.vr_edge.specs.declared.streams.StreamCall.TheVariants as call
 use Rattle.vr_edge.specs.declared.streams.StreamFailed.{StreamFailed}
 use Rattle.vr_edge.specs.declared.streams.TheConstants.{STREAM_ROOM}
 
--- what comes at this port is left out: its connection was closed, or there is no such port
-abbrev pub is_left_out : List Bool → ℕ → Bool
-is_left_out left port = unwrap_or (slice_get left port) true
+-- what comes at this port is left out: its connection was closed, or with so many peers there is no such port
+abbrev pub is_left_out : ℕ → List Bool → ℕ → Bool
+is_left_out peers left port = nat_le (peers + 64) port || unwrap_or (slice_get left port) true
 
 -- what a poll gives of what it finds
-abbrev pub gives : List Bool → Coming → StreamCall
-gives left coming.Nothing = call.Quiet
-gives left coming.Fault = call.Failed
-gives left (coming.Piece p) =
-    if is_left_out left p.port || length p.bytes == 0 then call.Quiet
+abbrev pub gives : ℕ → List Bool → Coming → StreamCall
+gives peers left coming.Nothing = call.Quiet
+gives peers left coming.Fault = call.Failed
+gives peers left (coming.Piece p) =
+    if is_left_out peers left p.port || length p.bytes == 0 then call.Quiet
     else call.Came (record { port = p.port; bytes = take STREAM_ROOM p.bytes })
-gives left (coming.End port) = if is_left_out left port then call.Quiet else call.Ended port
+gives peers left (coming.End port) = if is_left_out peers left port then call.Quiet else call.Ended port
 
 -- what the poll with this number finds
 abbrev pub found_at : StreamScript → ℕ → Coming
 found_at script number = unwrap_or (slice_get script.comes.items number) coming.Nothing
 
 -- what it gives of it
-abbrev pub gives_at : List Bool → StreamScript → ℕ → StreamCall
-gives_at left script number = gives left (found_at script number)
+abbrev pub gives_at : ℕ → List Bool → StreamScript → ℕ → StreamCall
+gives_at peers left script number = gives peers left (found_at script number)
 
 -- what waits for a poll that gives this
 abbrev pub waits : StreamCall → List StreamCall

@@ -1,5 +1,5 @@
 -- What streams tell of their calls.
-use Rattle.std.specs.Prelude.{ℕ, ◌≤◌, ⊤, List, Some, None, Result, Ok, Err, take}
+use Rattle.std.specs.Prelude.{ℕ, ◌+◌, ◌<◌, ◌≤◌, ⊤, List, Some, None, Result, Ok, Err, take}
 use Rattle.vr_edge.specs.declared.streams.Polled.{Polled}
 use Rattle.vr_edge.specs.declared.streams.Polled.TheVariants as polled
 use Rattle.vr_edge.specs.declared.streams.StreamCall.{StreamCall}
@@ -7,11 +7,15 @@ use Rattle.vr_edge.specs.declared.streams.StreamCall.TheVariants as call
 use Rattle.vr_edge.specs.declared.streams.TheConstants.{STREAM_ROOM}
 use Rattle.vr_edge.specs.declared.streams.Write.{Write}
 
--- some bytes came, and no more than there is room for
-abbrev pub IsPolled : Polled → Type 0
-IsPolled (polled.Bytes port count) = (1 ≤ count) × (count ≤ STREAM_ROOM)
-IsPolled (polled.Ended port) = ⊤
-IsPolled polled.Quiet = ⊤
+-- the port of one of so many peers, or of one of 64 others
+abbrev pub IsPort : ℕ → ℕ → Type 0
+IsPort peers port = port < peers + 64
+
+-- at a port some bytes came, and no more than there is room for; or its stream ended
+abbrev pub IsPolled : ℕ → Polled → Type 0
+IsPolled peers (polled.Bytes port count) = IsPort peers port × (1 ≤ count) × (count ≤ STREAM_ROOM)
+IsPolled peers (polled.Ended port) = IsPort peers port
+IsPolled peers polled.Quiet = ⊤
 
 -- the entry of one poll, whose buffer then held these bytes
 abbrev pub polled_by : {E : Type 0} → Result Polled E → List ℕ → StreamCall

@@ -1,5 +1,5 @@
 //! Streams in memory.
-ghost use Rattle.std.specs.Prelude.{◌≡◌, ◌≤◌, [], ◌∷◌, List, Option, Some, None, IfOk, if◌then◌else◌, length, replicate, false, true, slice_get, slice_set, unwrap_or};
+ghost use Rattle.std.specs.Prelude.{◌≡◌, ◌≤◌, [], ◌∷◌, List, Option, Some, None, IfOk, OnErr, OnOk, if◌then◌else◌, length, vec_len, replicate, false, true, slice_get, slice_set, unwrap_or};
 ghost use Rattle.vr_base.specs.Causes.{HasCause};
 ghost use Rattle.vr_edge.specs.Counts.{is_listed, one_more};
 ghost use Rattle.vr_edge.specs.Streaming.{IsPolled, polled_by, written_by};
@@ -14,6 +14,9 @@ use crate::{
 use std::alloc::{AllocError, Global};
 use vr_base::ByteList;
 
+/// The most streams at a time that others than the peers have made.
+const OTHERS: usize = 64;
+
 /// Entries, as long as there is memory for them.
 #[derive(Drop)]
 pub struct Log<T> {
@@ -27,6 +30,8 @@ pub struct Log<T> {
 pub struct MemStreams {
     alloc: Global,
     script: StreamScript,
+    /// How many peers are attached.
+    peers: usize,
     /// Whether what comes at a port is left out.
     left_out: Vec<bool>,
     calls: Log<StreamCall>,
@@ -40,30 +45,36 @@ pub struct MemStreams {
 }
 
 /// Whether what comes at this port is left out.
-fn is_left_out(left_out: &[bool], port: u32) -> bool
-    ensures { result ≡ is_left_out left_out.now port }
+fn is_left_out(peers: usize, left_out: &[bool], port: u32) -> bool
+    ensures { result ≡ is_left_out peers left_out.now port }
 {
-    left_out.get(port as usize).copied().unwrap_or(true)
+    let at = port as usize;
+    at.saturating_sub(peers) >= OTHERS || left_out.get(at).copied().unwrap_or(true)
 }
 
 /// What a poll gives of what it finds.
 #[tactic(auto, using(std::proofs::lemmas::Grind::common_steps, crate::proofs::Receiving::take_most))]
-fn give(left_out: &[bool], found: &Coming, to: &mut [u8]) -> Result<Polled, StreamFailed>
+fn give(
+    peers: usize,
+    left_out: &[bool],
+    found: &Coming,
+    to: &mut [u8],
+) -> Result<Polled, StreamFailed>
     requires { length to.old ≡ STREAM_ROOM }
-    ensures gives { polled_by result to.new ≡ gives left_out.now found.now }
-    ensures bound { IfOk result IsPolled }
+    ensures gives { polled_by result to.new ≡ gives peers left_out.now found.now }
+    ensures bound { IfOk result (IsPolled peers) }
 {
     match found {
         Coming::Nothing => Ok(Polled::Quiet),
         Coming::Fault => Err(StreamFailed),
         Coming::End(port) => {
-            if is_left_out(left_out, *port) {
+            if is_left_out(peers, left_out, *port) {
                 return Ok(Polled::Quiet);
             }
             Ok(Polled::Ended(*port))
         }
         Coming::Piece(piece) => {
-            if is_left_out(left_out, piece.port) || piece.bytes.len() == 0 {
+            if is_left_out(peers, left_out, piece.port) || piece.bytes.len() == 0 {
                 return Ok(Polled::Quiet);
             }
             let count = piece.bytes.len().min(STREAM_ROOM);
@@ -96,10 +107,11 @@ fn begin_anew(left_out: &mut Vec<bool>, found: &Coming)
 /// The entry of one poll.
 fn poll_entry(
     alloc: Global,
+    peers: usize,
     polled: &Result<Polled, StreamFailed>,
     bytes: &[u8],
 ) -> Result<StreamCall, AllocError>
-    requires { (length bytes.now ≡ STREAM_ROOM) × IfOk polled.now IsPolled }
+    requires { (length bytes.now ≡ STREAM_ROOM) × IfOk polled.now (IsPolled peers) }
     ensures { IfOk result (λ c. c ≡ polled_by polled.now bytes.now) }
 {
     match polled {
@@ -169,6 +181,7 @@ impl MemStreams {
         ensures faults { IfOk result (λ s. s.faults ≡ 0) }
         ensures call_faults { IfOk result (λ s. s.call_faults ≡ 0) }
         ensures script { IfOk result (λ s. s.script ≡ script) }
+        ensures peers { IfOk result (λ s. s.peers ≡ 0) }
         ensures left_out { IfOk result (λ s. s.left_out.items ≡ replicate ports false) }
         ensures attaches { IfOk result (λ s. s.attaches ≡ 0) }
         ensures polls { IfOk result (λ s. s.polls ≡ 0) }
@@ -180,6 +193,7 @@ impl MemStreams {
         Ok(MemStreams {
             alloc,
             script,
+            peers: 0,
             left_out,
             calls: Log::new(alloc),
             written: Log::new(alloc),
@@ -217,8 +231,8 @@ impl MemStreams {
     /// What the next poll finds, of which it gives as much as it takes.
     fn find(&mut self, to: &mut [u8]) -> Result<Polled, StreamFailed>
         requires { length to.old ≡ STREAM_ROOM }
-        ensures gives { polled_by result to.new ≡ gives_at self.old.left_out.items self.old.script self.old.polls }
-        ensures bound { IfOk result IsPolled }
+        ensures gives { polled_by result to.new ≡ gives_at self.old.peers self.old.left_out.items self.old.script self.old.polls }
+        ensures bound { IfOk result (IsPolled self.old.peers) }
         ensures left { self.new.left_out.items ≡ left_behind self.old.left_out.items (found_at self.old.script self.old.polls) }
         ensures state { self.new ≡ record self.old { left_out = self.new.left_out; polls = one_more self.old.polls } }
     {
@@ -227,7 +241,7 @@ impl MemStreams {
         let Some(found) = self.script.comes.get(at) else {
             return Ok(Polled::Quiet);
         };
-        let given = give(&self.left_out, found, to);
+        let given = give(self.peers, &self.left_out, found, to);
         begin_anew(&mut self.left_out, found);
         given
     }
@@ -240,19 +254,23 @@ impl Streams for MemStreams {
 
     ghost written = { λ s. told s.written.whole s.written.entries.items };
 
-    ghost waiting = { λ s. Some (waits (gives_at s.left_out.items s.script s.polls)) };
+    ghost waiting = { λ s. Some (waits (gives_at s.peers s.left_out.items s.script s.polls)) };
+
+    ghost attached = { λ s. s.peers };
 
     ghost faults = { λ s. s.faults };
 
     ghost call_faults = { λ s. s.call_faults };
 
-    fn attach(&mut self, _own: &str, _peers: &Vec<String>) -> Result<(), StreamFailed>
+    fn attach(&mut self, _own: &str, peers: &Vec<String>) -> Result<(), StreamFailed>
         ensures cause { HasCause self.old.faults self.new.faults result }
         ensures calls { ⟦<MemStreams as Streams>⟧.calls self.new ≡ ⟦<MemStreams as Streams>⟧.calls self.old }
         ensures written { ⟦<MemStreams as Streams>⟧.written self.new ≡ ⟦<MemStreams as Streams>⟧.written self.old }
+        ensures attached { OnOk result (self.new.peers ≡ vec_len peers.now) }
+        ensures kept { OnErr result (self.new.peers ≡ self.old.peers) }
         ensures others { self.new.call_faults ≡ self.old.call_faults }
         ensures result { result ≡ (if is_listed self.old.script.failing_attaches.items self.old.attaches then Err (record {}) else Ok (record {})) }
-        ensures state { self.new ≡ record self.old { attaches = one_more self.old.attaches; faults = self.new.faults } }
+        ensures state { self.new ≡ record self.old { peers = self.new.peers; attaches = one_more self.old.attaches; faults = self.new.faults } }
     {
         let call = self.attaches;
         self.attaches = call.saturating_add(1);
@@ -260,23 +278,25 @@ impl Streams for MemStreams {
             self.faults = self.faults.saturating_add(1);
             return Err(StreamFailed);
         }
+        self.peers = peers.len();
         Ok(())
     }
 
     fn poll(&mut self, to: &mut [u8]) -> Result<Polled, StreamFailed>
         requires { length to.old ≡ STREAM_ROOM }
-        ensures bound { IfOk result IsPolled }
+        ensures bound { IfOk result (IsPolled self.old.peers) }
         ensures cause { HasCause self.old.faults self.new.faults result }
         ensures quiet { IfOk result (λ p. p ≡ Polled.Quiet → IsNothing (⟦<MemStreams as Streams>⟧.waiting self.old)) }
         ensures calls { Grows (⟦<MemStreams as Streams>⟧.calls self.old) (⟦<MemStreams as Streams>⟧.calls self.new) (polled_by result to.new ∷ []) }
         ensures written { ⟦<MemStreams as Streams>⟧.written self.new ≡ ⟦<MemStreams as Streams>⟧.written self.old }
+        ensures attached { self.new.peers ≡ self.old.peers }
         ensures others { self.new.call_faults ≡ self.old.call_faults }
-        ensures gives { polled_by result to.new ≡ gives_at self.old.left_out.items self.old.script self.old.polls }
+        ensures gives { polled_by result to.new ≡ gives_at self.old.peers self.old.left_out.items self.old.script self.old.polls }
         ensures left { self.new.left_out.items ≡ left_behind self.old.left_out.items (found_at self.old.script self.old.polls) }
         ensures state { self.new ≡ record self.old { left_out = self.new.left_out; polls = one_more self.old.polls; calls = self.new.calls; faults = self.new.faults } }
     {
         let given = self.find(to);
-        let entry = poll_entry(self.alloc, &given, to);
+        let entry = poll_entry(self.alloc, self.peers, &given, to);
         self.calls.note(entry);
         if given.is_err() {
             self.faults = self.faults.saturating_add(1);
@@ -289,6 +309,7 @@ impl Streams for MemStreams {
         ensures cause { HasCause self.old.call_faults self.new.call_faults result }
         ensures calls { ⟦<MemStreams as Streams>⟧.calls self.new ≡ ⟦<MemStreams as Streams>⟧.calls self.old }
         ensures written { Grows (⟦<MemStreams as Streams>⟧.written self.old) (⟦<MemStreams as Streams>⟧.written self.new) (written_by port bytes.now result ∷ []) }
+        ensures attached { self.new.peers ≡ self.old.peers }
         ensures others { self.new.faults ≡ self.old.faults }
         ensures result { result ≡ write_takes self.old.script self.old.writes (length bytes.now) }
         ensures state { self.new ≡ record self.old { writes = one_more self.old.writes; written = self.new.written; call_faults = self.new.call_faults } }
@@ -308,6 +329,7 @@ impl Streams for MemStreams {
         ensures cause { HasCause self.old.call_faults self.new.call_faults result }
         ensures calls { Grows (⟦<MemStreams as Streams>⟧.calls self.old) (⟦<MemStreams as Streams>⟧.calls self.new) (call.Closed port ∷ []) }
         ensures written { ⟦<MemStreams as Streams>⟧.written self.new ≡ ⟦<MemStreams as Streams>⟧.written self.old }
+        ensures attached { self.new.peers ≡ self.old.peers }
         ensures others { self.new.faults ≡ self.old.faults }
         ensures left { self.new.left_out.items ≡ slice_set self.old.left_out.items port true }
         ensures result { result ≡ (if is_listed self.old.script.failing_closes.items self.old.closes then Err (record {}) else Ok (record {})) }

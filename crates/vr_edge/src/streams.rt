@@ -1,5 +1,5 @@
 //! Streams of bytes, one at each port.
-ghost use Rattle.std.specs.Prelude.{◌≡◌, ◌≤◌, List, [], ◌∷◌, ℕ, Option, IfOk, length};
+ghost use Rattle.std.specs.Prelude.{◌≡◌, ◌≤◌, List, [], ◌∷◌, ℕ, Option, IfOk, OnErr, OnOk, length, vec_len};
 ghost use Rattle.vr_base.specs.Causes.{HasCause};
 ghost use Rattle.vr_edge.specs.Told.{Grows, IsNothing};
 ghost use Rattle.vr_edge.specs.Streaming.{IsPolled, polled_by, written_by};
@@ -72,6 +72,9 @@ pub trait Streams {
     /// What waits for the next poll, where the streams tell it.
     ghost waiting: { Self → Option (List StreamCall) };
 
+    /// How many peers are attached.
+    ghost attached: { Self → ℕ };
+
     /// How often attach or poll has failed.
     ghost faults: { Self → ℕ };
 
@@ -83,16 +86,19 @@ pub trait Streams {
         ensures cause { HasCause (faults self.old) (faults self.new) result }
         ensures calls { calls self.new ≡ calls self.old }
         ensures written { written self.new ≡ written self.old }
+        ensures attached { OnOk result (attached self.new ≡ vec_len peers.now) }
+        ensures kept { OnErr result (attached self.new ≡ attached self.old) }
         ensures others { call_faults self.new ≡ call_faults self.old };
 
-    /// What comes next; bytes are put at the front of `to`.
+    /// What comes next, at the port of a peer that is attached or of one of 64 others; bytes are put at the front of `to`.
     fn poll(&mut self, to: &mut [u8]) -> Result<Polled, StreamFailed>
         requires { length to.old ≡ STREAM_ROOM }
-        ensures bound { IfOk result IsPolled }
+        ensures bound { IfOk result (IsPolled (attached self.old)) }
         ensures cause { HasCause (faults self.old) (faults self.new) result }
         ensures quiet { IfOk result (λ p. p ≡ Polled.Quiet → IsNothing (waiting self.old)) }
         ensures calls { Grows (calls self.old) (calls self.new) (polled_by result to.new ∷ []) }
         ensures written { written self.new ≡ written self.old }
+        ensures attached { attached self.new ≡ attached self.old }
         ensures others { call_faults self.new ≡ call_faults self.old };
 
     /// Gives the bytes to the stream at a port, which is made where there is none and the port is a peer's.
@@ -102,6 +108,7 @@ pub trait Streams {
         ensures cause { HasCause (call_faults self.old) (call_faults self.new) result }
         ensures calls { calls self.new ≡ calls self.old }
         ensures written { Grows (written self.old) (written self.new) (written_by port bytes.now result ∷ []) }
+        ensures attached { attached self.new ≡ attached self.old }
         ensures others { faults self.new ≡ faults self.old };
 
     /// Ends the stream at a port.
@@ -109,5 +116,6 @@ pub trait Streams {
         ensures cause { HasCause (call_faults self.old) (call_faults self.new) result }
         ensures calls { Grows (calls self.old) (calls self.new) (Closed port ∷ []) }
         ensures written { written self.new ≡ written self.old }
+        ensures attached { attached self.new ≡ attached self.old }
         ensures others { faults self.new ≡ faults self.old };
 }

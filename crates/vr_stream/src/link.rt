@@ -105,7 +105,7 @@ impl<T: Streams> StreamLink<T> {
     #[tactic(auto, using(crate::proofs::Giving::heard_end, crate::proofs::Giving::heard_quiet))]
     fn hear(&mut self, polled: Polled, to: &mut Vec<u8>) -> Received
         requires room { RECEIVE_ROOM ≤ vec_capacity to.old }
-        requires polled { IsPolled polled }
+        requires polled { IsPolled (T.attached self.old.streams) polled }
         requires ready { self.old.framer.ready ≡ None }
         ensures heard { IsHeard (framing self.old.framer) (polled_by {E = StreamFailed} (Ok polled) self.old.room) (T.calls self.old.streams) (framing self.new.framer) (T.calls self.new.streams) to.new.items result }
         ensures written { T.written self.new.streams ≡ T.written self.old.streams }
