@@ -2,6 +2,7 @@
 ghost use Rattle.std.specs.Prelude.{◌≡◌, ◌≤◌, ◌+◌, ◌-◌, IfOk};
 ghost use Rattle.vr_rules.specs.Opening.{blank, first_listed};
 
+use crate::names::Names;
 use crate::{Places, Replica, Window};
 use std::alloc::Global;
 use vr_apply::State;
@@ -43,6 +44,7 @@ impl Replica {
         let mut ackers = Window::new(alloc)?;
         ackers.extend(Replicas::none(), count);
         let statements = Places::new(alloc, f.n)?;
+        let names = Names::new(alloc)?;
         Ok(Replica {
             cluster: f.cluster,
             index: f.replica,
@@ -64,6 +66,7 @@ impl Replica {
             missing: Seq::new(alloc),
             first,
             parts,
+            names,
             ackers,
             heard: Replicas::none(),
             statements,

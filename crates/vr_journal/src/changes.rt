@@ -56,6 +56,7 @@ impl Replica {
         let op = header.op;
         self.put_part(op, Part::Here(header));
         self.forget();
+        self.names.keep(&entry.header());
     }
 
     /// The entry of this header, which is stored, can't be read.

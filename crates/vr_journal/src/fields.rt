@@ -1,6 +1,7 @@
 //! The values that a replica has.
 ghost use Rattle.std.specs.Prelude.{◌≡◌, ◌<◌, ◌≤◌};
 ghost use Rattle.vr_base.specs.Bytes.{name_of};
+ghost use Rattle.vr_header.specs.Names.{header_name};
 ghost use Rattle.vr_rules.specs.Deciding.{is_from, is_from_primary, is_known, is_named, is_unknown};
 ghost use Rattle.vr_rules.specs.Replica.{ackers_at, header_at, is_primary, is_spent, is_started, leads};
 ghost use Rattle.vr_rules.specs.Words.{is_loaded};
@@ -204,6 +205,13 @@ impl Replica {
         header_of(&self.part_at(op))
     }
 
+    /// The name of a header, which is made only where it isn't kept.
+    pub fn name_of(&self, header: &Header) -> Sum
+        ensures { result ≡ header_name header.now }
+    {
+        self.names.name_of(header)
+    }
+
     /// Whether the known header of an op is this one.
     pub fn is_known(&self, header: &Header, op: u64) -> bool
         ensures { result ≡ is_known header.now op self.now }
@@ -219,7 +227,7 @@ impl Replica {
         ensures { result ≡ is_named name_of name.now op self.now }
     {
         match self.header_at(op) {
-            Some(header) => header.name() == *name,
+            Some(header) => self.name_of(&header) == *name,
             None => false,
         }
     }

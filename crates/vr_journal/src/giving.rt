@@ -127,7 +127,7 @@ impl Replica {
             cluster: self.cluster,
             replica: self.index,
             op: header.op,
-            name: header.name(),
+            name: self.name_of(header),
             made: header.view,
         };
         out.push(Output::Send(Sent {

@@ -9,6 +9,7 @@ mod fields;
 mod giving;
 mod group;
 mod loading;
+mod names;
 mod outputs;
 mod parts;
 mod places;

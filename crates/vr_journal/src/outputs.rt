@@ -51,7 +51,7 @@ impl Replica {
             replica: self.index,
             view: self.view,
             op: header.op,
-            name: header.name(),
+            name: self.name_of(header),
             made: header.view,
         };
         out.push(Output::Send(Sent {

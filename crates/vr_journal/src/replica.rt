@@ -1,5 +1,6 @@
 //! What a replica has in memory.
 
+use crate::names::Names;
 use crate::parts::{known_from, run_of};
 use crate::{Places, Window};
 use std::alloc::{AllocError, Global};
@@ -29,6 +30,8 @@ pub struct Replica {
     pub(crate) missing: NameList,
     pub(crate) first: u64,
     pub(crate) parts: Window<Part>,
+    /// Of the headers of entries that it stored since it was opened.
+    pub(crate) names: Names,
     pub(crate) ackers: Window<Replicas>,
     pub(crate) heard: Replicas,
     pub(crate) statements: Places<Statement>,

@@ -11,6 +11,7 @@ ghost use Rattle.vr_msg.specs.Spelling.{AreHeaders};
 ghost use Rattle.vr_rules.specs.Words.{fits, is_chain, is_newer, log_header, may_take, no_ackers, no_statements, replaced_by, taken, taken_part};
 
 use crate::Replica;
+use crate::names::Names;
 use crate::parts::{has_header, same_header};
 use std::marker::Model;
 use vr_base::Replicas;
@@ -68,26 +69,26 @@ fn next_in(headers: &[Header], at: usize) -> Option<Header>
 
 // Whether the header behind this place, if any, has the name of the one there as its parent.
 #[tactic(auto, using(crate::proofs::Taken::links))]
-fn follows(headers: &[Header], at: usize) -> bool
+fn follows(names: &Names, headers: &[Header], at: usize) -> bool
     requires { at < length headers.now }
     ensures chain { is_chain name_of (drop at headers.now) ≡ (result && is_chain name_of (drop (at + 1) headers.now)) }
     ensures values { AreHeaders (drop (at + 1) headers.now) → AreHeaders (drop at headers.now) }
 {
     let header = header_in(headers, at);
     match next_in(headers, at) {
-        Some(next) => next.parent == header.name(),
+        Some(next) => next.parent == names.name_of(&header),
         None => true,
     }
 }
 
 /// Whether each header has the name of the one before it as its parent.
 #[tactic(auto, using(crate::proofs::Taken::chains))]
-fn is_chain(headers: &[Header]) -> bool
+fn is_chain(names: &Names, headers: &[Header]) -> bool
     ensures chain { result ≡ is_chain name_of headers.now }
     ensures values { result ≡ true → AreHeaders headers.now }
 {
     for i in 0..headers.len() {
-        if !follows(headers, i) {
+        if !follows(names, headers, i) {
             return false;
         }
     }
@@ -186,7 +187,7 @@ impl Replica {
         ensures may { result ≡ may_take name_of log.now self.now }
         ensures values { result ≡ true → AreHeaders log.now.headers }
     {
-        self.is_newer(log) && self.has_room(log) && is_chain(log.headers.as_slice())
+        self.is_newer(log) && self.has_room(log) && is_chain(&self.names, log.headers.as_slice())
     }
 
     /// Takes the log over at one place of the list.

@@ -28,7 +28,7 @@ pub fn head_name(replica: &Replica) -> Sum
     ensures { result ≡ name_by name_of (head_header name_of replica.now) }
 {
     match replica.header_at(replica.head()) {
-        Some(header) => header.name(),
+        Some(header) => replica.name_of(&header),
         None => Header::root(replica.cluster()).name(),
     }
 }
