@@ -4,4 +4,3 @@ pub mod Runs
 pub mod Faults
 pub mod Acting
 pub mod Telling
-pub mod Members

@@ -3,8 +3,6 @@
 
 mod disk;
 mod laws;
-mod named;
 
 pub use disk::HostDisk;
 pub use laws::{members_act, runs_tell, steps_read_sectors};
-pub use named::member_of;

@@ -18,7 +18,7 @@ use Rattle.vr_step.specs.declared.halt.Halt.TheVariants.{DiskFault, NoMemory}
 use Rattle.vr_opening.specs.declared.reopen.Refusal.{Refusal}
 use Rattle.vr_opening.specs.declared.reopen.Refusal.TheVariants.{Lost, OtherMember, Halted}
 use Rattle.vr_step.specs.Does.{Does, Performs}
-use Rattle.vr_opening.specs.Recovering.{after_mend, DoesTo, config_of, LosesValue, MendsValue, BeginsWith, FindsValue, IsOther, IsAsked, Recovered}
+use Rattle.vr_opening.specs.Recovering.{after_mend, DoesTo, config_of, LosesValue, MendsValue, BeginsWith, FindsValue, IsOther, IsAsked, Recovered, RecoveredAny}
 use Rattle.vr_step.proofs.Stepping.{does_no_memory, effect_then, effect_stopped}
 
 pub begun_wanted : (v : SuperValue) (d : Option Disk) (o : List Output) → DoesTo (after_mend v) (blank v) d d o o (Err NoMemory)
@@ -104,3 +104,11 @@ pub refused : (asked : Config) (d d' : Option Disk) (o : List Output) (x : Refus
 refused asked d d' o (Lost vs) h = h
 refused asked d d' o (OtherMember found) h = absurd h
 refused asked d d' o (Halted halt) h = h o
+
+pub recovered_any : (v : SuperValue) (q : Replica) (d d1 d2 : Option Disk) (o o' : List Output) → MendsValue v d d1 → DoesTo (after_mend v) (blank v) d1 d2 o o' (Ok q) → BeginsWith opening d d2 o o' (Ok q)
+recovered_any v q d d1 d2 o o' m h = record { value = v; opens = opens_of v d d1 m; step = mended_then v q d d1 d2 o o' (Ok tt) m h }
+
+pub refused_any : (d d' : Option Disk) (o : List Output) (x : Refusal) → FindsValue d d' (Err x) → RecoveredAny d d' o o (Err x)
+refused_any d d' o (Lost vs) h = h
+refused_any d d' o (OtherMember found) h = absurd h
+refused_any d d' o (Halted halt) h = h o

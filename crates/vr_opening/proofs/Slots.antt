@@ -1,18 +1,22 @@
 -- What the slots say as a replica opens.
+use Rattle.std.proofs.lemmas.Slice.Eq.{bytes_eq-Decides}
 use Rattle.std.proofs.Common.{arith, ℕ, ◌%◌, ◌≡◌, ◌≤◌, ◌<◌, ◌+◌, ◌-◌, ◌∙◌, inl, inr, refl, sym, ap, subst, List, length, Option, Some, None, true, false, cond, Result, Ok, Err}
 use Rattle.std.specs.Option.{option_map_or}
 use Rattle.vr_recover.specs.declared.readings.PrepareReading.TheVariants as prepare
 use Rattle.vr_recover.specs.declared.readings.Verdict.{Verdict}
 use Rattle.vr_recover.specs.declared.readings.Verdict.TheVariants as verdict
 use Rattle.vr_recover.specs.Verdict.{verdict_of}
-use Rattle.std.specs.Prelude.{IfSome}
-use Rattle.std.specs.Option.{option_map}
+use Rattle.std.specs.Prelude.{IfSome, take, nat_eq}
+use Rattle.std.specs.Cmp.Lexicographic.{pointwise}
+use Rattle.std.specs.Option.{option_and_then, option_map}
 use Rattle.vr_disk.specs.DiskState.{Disk}
 use Rattle.vr_header.specs.declared.header.Header.{Header}
 use Rattle.vr_header.specs.Made.{Whole}
 use Rattle.vr_header.specs.Spelling.{IsHeader}
+use Rattle.vr_rings.specs.Held.{header_sector}
 use Rattle.vr_rings.specs.Readings.{BeginsWith}
-use Rattle.vr_rings.specs.Slots.{header_in, whole_in}
+use Rattle.vr_rings.specs.Slots.{header_in, header_of, header_reading, whole_in}
+use Rattle.vr_rings.proofs.Spelling.{header_again, header_sector_is}
 use Rattle.vr_super.specs.Copies.{SuperValue}
 use Rattle.vr_rules.specs.Sectors.{sectors}
 use Rattle.vr_rules.specs.Replica.{Replica, with_part}
@@ -35,6 +39,18 @@ some_header (Some g) h i e = let same : g ≡ h = cc in subst IsHeader same i
 
 entry_headers : (o : Option Whole) (p : Option Header) → option_map (λ (e : Whole). e.header) o ≡ p → IfSome p IsHeader → (e : Whole) → o ≡ Some e → IsHeader e.header
 entry_headers o p i j e at = some_header p e.header j (sym i ∙ ap (λ (x : Option Whole). option_map (λ (y : Whole). y.header) x) at)
+
+-- a header sector that is a whole prepare's own has the header of its entry
+pub own_header : (h : Header) (sector buffer : List ℕ) → BeginsWith h buffer → pointwise nat_eq sector (header_sector (take 2048 buffer)) ≡ true → Some h ≡ header_of sector
+own_header h sector buffer b e =
+    let same : sector ≡ header_sector (take 2048 buffer) = (bytes_eq-Decides sector (header_sector (take 2048 buffer))).0 e in
+    sym (ap header_of (same ∙ ap header_sector b.bytes ∙ header_sector_is b.entry b.whole.header) ∙ header_again b.entry.header b.whole.header ∙ ap (λ (x : Header). Some x) b.header)
+
+-- the header of a header sector that was read
+pub header_read : (t : Option Disk) (slot : ℕ) (s : Option (List ℕ)) (a : Option Header) → IfSome t (λ x. s ≡ header_reading x.face slot) → a ≡ option_and_then header_of s → IfSome t (λ x. a ≡ header_in x.face slot)
+unfolding header_in
+header_read None slot s a h e = tt
+header_read (Some x) slot s a h e = e ∙ ap (option_and_then header_of) h
 
 pub looked : (k slot : ℕ) (a : Option Header) (p : Option Header) (b : Header) (buffer : List ℕ) (d d1 d2 : Option Disk) → slot ≡ k % 64 → d1 ≡ d → d2 ≡ d1
     → IfSome d (λ x. a ≡ header_in x.face slot) → IfSome d1 (λ x. Some b ≡ option_map (λ (e : Whole). e.header) (whole_in x.face slot)) → IfSome a IsHeader → p ≡ Some b → IfSome p IsHeader → BeginsWith b buffer

@@ -69,3 +69,10 @@ Recovered asked d d' o o' (Ok r) = IsAsked asked d d' o o' r
 Recovered asked d d' o o' (Err (Lost verdicts)) = LosesValue d d' verdicts
 Recovered asked d d' o o' (Err (OtherMember found)) = IsOther asked found d d'
 Recovered asked d d' o o' (Err (Halted halt)) = BeginsWith opening d d' o o' (Err halt)
+
+-- the same for any member: the replica is that of the value that opens
+abbrev pub RecoveredAny : Option Disk → Option Disk → List Output → List Output → Result Replica Refusal → Type 0
+RecoveredAny d d' o o' (Ok r) = BeginsWith opening d d' o o' (Ok r)
+RecoveredAny d d' o o' (Err (Lost verdicts)) = LosesValue d d' verdicts
+RecoveredAny d d' o o' (Err (OtherMember found)) = ⊥
+RecoveredAny d d' o o' (Err (Halted halt)) = BeginsWith opening d d' o o' (Err halt)

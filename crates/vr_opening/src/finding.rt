@@ -1,57 +1,18 @@
 //! What the slot of an op says of it, as a replica opens.
 ghost use Rattle.std.specs.Prelude.{◌≡◌, ◌<◌, ◌≤◌, ◌+◌, ◌-◌, ◌%◌, is_ok, IfSome, Option, None, Some, OnOk, slice_get};
 ghost use Rattle.vr_base.specs.Causes.{HasCause};
-ghost use Rattle.vr_header.specs.Spelling.{IsHeader};
 ghost use Rattle.vr_rules.specs.Opening.{may_be, listed, is_listed, is_right, header_kind, some_part, old_part, recover_old, recover_op, was_stored, clouded_part};
 ghost use Rattle.vr_rules.specs.Replica.{with_part};
 ghost use Rattle.vr_step.specs.Does.{Does, Finds, Caused};
-ghost use Rattle.vr_opening.specs.Finding.{IsOpening, IsOpeningOld, Looked, fits_by, entry_by, verdict_by, known_by, part_from, mend_by, recover_listed};
+ghost use Rattle.vr_opening.specs.Finding.{IsOpening, IsOpeningOld, fits_by, entry_by, verdict_by, known_by, part_from, mend_by, recover_listed};
 
+use crate::looking::{Seen, look};
 use vr_disk::{Buffer, SectorDisk};
 use vr_header::{Header, Part};
 use vr_journal::{Replica, same_header};
 use vr_msg::Outbox;
 use vr_recover::{HeaderReading, PrepareReading, Verdict, verdict};
-use vr_rings::{read_header, read_whole};
 use vr_step::Halt;
-
-/// The headers that the slot of an op has.
-#[derive(Clone, Copy)]
-pub struct Seen {
-    pub header: Option<Header>,
-    pub entry: Option<Header>,
-}
-
-// The header that is there has the values of a header.
-fn valued(header: Option<Header>) -> Option<Header>
-    ensures same { result ≡ header }
-    ensures values { IfSome result IsHeader }
-{
-    match header {
-        Some(h) => Some(h),
-        None => None,
-    }
-}
-
-/// Looks at the slot of an op.
-#[tactic(auto, using(crate::proofs::Slots::looked, crate::proofs::Slots::looked_none))]
-fn look<D: SectorDisk>(disk: &mut D, op: u64, buffer: &mut Buffer) -> Seen
-    ensures looked { Looked op (D.told disk.old) (D.told disk.new) result.header result.entry }
-    ensures faults { D.faults disk.new ≡ D.faults disk.old }
-{
-    let slot = (op % 64) as u32;
-    let header = valued(read_header(disk, slot));
-    match read_whole(disk, slot, buffer) {
-        Ok(entry) => Seen {
-            header,
-            entry: valued(Some(entry)),
-        },
-        Err(_) => Seen {
-            header,
-            entry: None,
-        },
-    }
-}
 
 /// The header of an op that the value names.
 #[tactic(auto, using(vr_journal::proofs::Blanks::value_bounds))]

@@ -3,9 +3,10 @@
 
 mod begin;
 mod finding;
+mod looking;
 mod new_member;
 mod opening;
 mod reopen;
 
 pub use new_member::{FreshFault, fresh};
-pub use reopen::{Refusal, recover};
+pub use reopen::{Refusal, recover, recover_any};

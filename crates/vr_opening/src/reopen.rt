@@ -6,7 +6,7 @@ ghost use Rattle.vr_step.specs.Does.{Caused};
 ghost use Rattle.vr_journal.specs.Ready.{IsReady};
 ghost use Rattle.vr_opening.specs.Finding.{IsOpeningOld};
 ghost use Rattle.vr_rules.specs.Opening.{blank};
-ghost use Rattle.vr_opening.specs.Recovering.{after_mend, DoesTo, config_of, FindsValue, Recovered};
+ghost use Rattle.vr_opening.specs.Recovering.{after_mend, DoesTo, config_of, FindsValue, Recovered, RecoveredAny};
 ghost use Rattle.vr_step.specs.declared.halt.Halt.TheVariants as Halt;
 
 use crate::begin::open_mended;
@@ -120,5 +120,25 @@ pub fn recover<D: SectorDisk>(
                 Err(Refusal::OtherMember(found))
             }
         }
+    }
+}
+
+/// The replica of a disk, whatever member's disk it is: `OtherMember` never comes.
+#[tactic(auto, using(crate::proofs::Recovers::recovered_any, crate::proofs::Recovers::halted, crate::proofs::Recovers::refused_any))]
+pub fn recover_any<D: SectorDisk>(
+    alloc: Global,
+    disk: &mut D,
+    out: &mut Outbox,
+) -> Result<Replica, Refusal>
+    ensures ready { IfOk result IsReady }
+    ensures cause { CountsFault (Refusal.Halted Halt.DiskFault) (D.faults disk.old) (D.faults disk.new) result }
+    ensures step { RecoveredAny (D.told disk.old) (D.told disk.new) out.old out.new result }
+{
+    match find_value(alloc, disk) {
+        Err(refusal) => Err(refusal),
+        Ok(value) => match open_value(alloc, disk, value, out) {
+            Ok(replica) => Ok(replica),
+            Err(halt) => Err(Refusal::Halted(halt)),
+        },
     }
 }

@@ -5,7 +5,7 @@ use Rattle.vr_disk.specs.DiskState.{Disk, Face}
 use Rattle.vr_msg.specs.declared.output.Output.{Output}
 use Rattle.vr_opening.specs.declared.reopen.Refusal.{Refusal}
 use Rattle.vr_opening.specs.declared.reopen.Refusal.TheVariants.{Lost, OtherMember, Halted}
-use Rattle.vr_opening.specs.Recovering.{Recovered}
+use Rattle.vr_opening.specs.Recovering.{Recovered, RecoveredAny}
 use Rattle.vr_rules.specs.Opening.{blank, opening}
 use Rattle.vr_rules.specs.Replica.{Replica}
 use Rattle.vr_rules.specs.Steps.{Word}
@@ -21,6 +21,15 @@ pub cleared : (asked : Config) (d d' : Option Disk) (o o' p : List Output) (x : 
 cleared asked d d' o o' p (Lost verdicts) h = h
 cleared asked d d' o o' p (OtherMember found) h = h
 cleared asked d d' o o' p (Halted halt) h = record {
+  value = h.value;
+  opens = h.opens;
+  step = halted (opening h.value) (blank h.value) (blank h.value) (blank h.value) d d' o o' p halt h.step;
+}
+
+pub cleared_any : (d d' : Option Disk) (o o' p : List Output) (x : Refusal) → RecoveredAny d d' o o' (Err x) → RecoveredAny d d' o p (Err x)
+cleared_any d d' o o' p (Lost verdicts) h = h
+cleared_any d d' o o' p (OtherMember found) h = absurd h
+cleared_any d d' o o' p (Halted halt) h = record {
   value = h.value;
   opens = h.opens;
   step = halted (opening h.value) (blank h.value) (blank h.value) (blank h.value) d d' o o' p halt h.step;

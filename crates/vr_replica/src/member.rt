@@ -3,7 +3,7 @@ ghost use Rattle.std.specs.Prelude.{◌≡◌, ◌<◌, [], IfOk, IfSome, OnErr,
 ghost use Rattle.vr_base.specs.Groups.{quorums_of};
 ghost use Rattle.vr_disk.specs.Counts.{CountsFault};
 ghost use Rattle.vr_opening.specs.Making.{Made};
-ghost use Rattle.vr_opening.specs.Recovering.{Recovered};
+ghost use Rattle.vr_opening.specs.Recovering.{Recovered, RecoveredAny};
 ghost use Rattle.vr_rules.specs.Replica.{header_at, part_at};
 ghost use Rattle.vr_rules.specs.Rules.{react};
 ghost use Rattle.vr_step.specs.Does.{Caused, Does};
@@ -82,6 +82,31 @@ impl Replica {
     {
         out.clear();
         match vr_opening::recover(alloc, disk, config, out) {
+            Ok(memory) => Ok(Replica {
+                memory,
+                running: true,
+            }),
+            Err(refusal) => {
+                out.clear();
+                Err(refusal)
+            }
+        }
+    }
+
+    /// The replica of a disk, whatever member's disk it is, recovered as `recover` does: `OtherMember` never comes.
+    #[tactic(auto, using(crate::proofs::Stopped::cleared_any))]
+    pub fn recover_any<D: SectorDisk>(
+        alloc: Global,
+        disk: &mut D,
+        out: &mut Outbox,
+    ) -> Result<Replica, Refusal>
+        ensures running { IfOk result (λ r. r.running ≡ true) }
+        ensures cause { CountsFault (Refusal.Halted Halt.DiskFault) (D.faults disk.old) (D.faults disk.new) result }
+        ensures halt { OnErr result (out.new ≡ []) }
+        ensures recovered { RecoveredAny (D.told disk.old) (D.told disk.new) [] out.new (memory_of result) }
+    {
+        out.clear();
+        match vr_opening::recover_any(alloc, disk, out) {
             Ok(memory) => Ok(Replica {
                 memory,
                 running: true,
