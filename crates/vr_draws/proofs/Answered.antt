@@ -4,18 +4,13 @@ use Rattle.std.specs.List.{filter_map}
 use Rattle.std.specs.Option.{option_map_or}
 use Rattle.std.proofs.lemmas.List.{append-nil}
 use Rattle.std.proofs.lemmas.List.Elements.{filter_map-append}
+use Rattle.std.proofs.lemmas.List.Sums.{fold-append}
 use Rattle.vr_msg.specs.declared.output.Output.{Output}
-use Rattle.vr_draws.specs.Asking.{answers, greatest, next_behind, next_request, next_after}
-
-greatest_more : (qs : List ℕ) (q : ℕ) → greatest (qs ++ q ∷ []) ≡ max (greatest qs) q
-unfolding greatest
-greatest_more [] q = omega arith
-greatest_more (p ∷ qs) q = let e = greatest_more qs q in rw e (omega arith)
+use Rattle.vr_draws.specs.Asking.{answers, next_behind, next_request, next_after}
 
 behind_more : (qs : List ℕ) (q : ℕ) → next_behind (qs ++ q ∷ []) ≡ max (next_behind qs) (min (2 ^ 32 - 1) (q + 1))
-unfolding greatest
 behind_more [] q = omega arith
-behind_more (p ∷ qs) q = let e = greatest_more (p ∷ qs) q in rw e (omega arith)
+behind_more (p ∷ qs) q = rw (fold-append max p qs (q ∷ [])) (omega arith)
 
 -- by what the output answers
 behind_answer : (before : List Output) (client : ℕ) (o : Output) (a : Option ℕ) → answers client o ≡ a

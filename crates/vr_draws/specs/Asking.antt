@@ -1,5 +1,6 @@
 -- Which number the next request of a client has.
 use Rattle.std.specs.Prelude.{ℕ, ◌+◌, ◌-◌, ◌^◌, ◌==◌, max, min, List, [], ◌∷◌, filter_map, Option, Some, None, if◌then◌else◌}
+use Rattle.std.specs.List.{fold}
 use Rattle.std.specs.Option.{option_map_or}
 use Rattle.vr_msg.specs.declared.output.Output.{Output}
 use Rattle.vr_msg.specs.declared.output.Output.TheVariants as output
@@ -16,14 +17,10 @@ abbrev pub answers : ℕ → Output → Option ℕ
 answers client (output.Reply r) = answers_as client r r.kind
 answers client _ = None
 
-unfoldable pub greatest : List ℕ → ℕ
-greatest [] = 0
-greatest (x ∷ xs) = max x (greatest xs)
-
 -- 0 where nothing was answered, else one more than the greatest number that was, and at most 2^32 - 1
 abbrev pub next_behind : List ℕ → ℕ
 next_behind [] = 0
-next_behind (q ∷ qs) = min (2 ^ 32 - 1) (greatest (q ∷ qs) + 1)
+next_behind (q ∷ qs) = min (2 ^ 32 - 1) (fold max q qs + 1)
 
 -- the number of a client's next request, by all that was put out
 unfoldable pub next_request : List Output → ℕ → ℕ

@@ -9,12 +9,10 @@ use crate::Requests;
 use crate::operation::{key_of, value_of};
 use std::alloc::{AllocError, Global};
 use std::cmp::min;
+use vr_disk::SECTORS;
 use vr_header::Operation;
 use vr_lines::Line;
 use vr_msg::{Request, RequestFields};
-
-/// How many sectors a disk has.
-const SECTORS: u64 = 1424;
 
 /// Draws numbers from a number, and makes the lines of a schedule of them.
 #[derive(Debug, Drop)]
@@ -154,7 +152,7 @@ impl Generator {
         ensures number { self.new.number ≡ next_number self.old.number }
         ensures least { result < 1424 }
     {
-        self.draw_below(SECTORS) as u32
+        self.draw_below(u64::from(SECTORS)) as u32
     }
 
     /// A line of a fault, by its kind.

@@ -15,8 +15,9 @@ use Rattle.vr_rules.specs.Lying.{Lying, hazards}
 use Rattle.vr_rules.specs.World.{Acted, Arrives, Begins, Happened, Host, World, at_member, delivered, fresh_host, fresh_world, handles, happens, messages, nothing, with_member}
 use Rattle.vr_group.specs.Group.{HasHappened}
 use Rattle.vr_group.specs.Hosts.{HasActed, HaveActed, acted_at}
-use Rattle.vr_group.specs.Outputs.{numbered}
-use Rattle.vr_group.specs.declared.outputs.Numbered.{Numbered}
+use Rattle.vr_group.specs.Outputs.{numbered, with_outputs}
+use Rattle.vr_group.specs.declared.outputs.Outputs.{Outputs}
+use Rattle.vr_group.proofs.Numbering.{outputs_none}
 
 abbrev pub Act : Type 0
 Act = ℕ → Host Lying → Acted Lying
@@ -67,41 +68,41 @@ unfolding at_member
 joined w index act ms out h = joined_as w index act ms out (slice_get w.members index) h.members h.outputs
 
 -- what was put out is kept and numbered
-pub happened : (w : World Lying) (index : ℕ) (act : Act) (ms : List (Host Lying)) (out : List Output) (before : List Numbered) → HaveActed act w.members ms index out
-    → HasHappened (at_member w index act) w (record { n = w.n; members = ms; sent = w.sent ++ messages out }) before (before ++ numbered (length w.sent) out)
+pub happened : (w : World Lying) (index : ℕ) (act : Act) (ms : List (Host Lying)) (out : List Output) (before : Outputs) → HaveActed act w.members ms index out
+    → HasHappened (at_member w index act) w (record { n = w.n; members = ms; sent = w.sent ++ messages out }) before (with_outputs before (numbered (length w.sent) out))
 happened w index act ms out before h =
     let e = sym (joined w index act ms out h) in
-    record { world = ap (λ (h : Happened Lying). h.world) e; outputs = ap (λ (h : Happened Lying). before ++ numbered (length w.sent) h.outputs) e }
+    record { world = ap (λ (h : Happened Lying). h.world) e; outputs = ap (λ (h : Happened Lying). with_outputs before (numbered (length w.sent) h.outputs)) e }
 
-pub happened_as : (w : World Lying) (index : ℕ) (act : Act) (ms : List (Host Lying)) (sent : List Sent) (out : List Output) (before now : List Numbered) → HaveActed act w.members ms index out
-    → sent ≡ w.sent ++ messages out → now ≡ before ++ numbered (length w.sent) out → HasHappened (at_member w index act) w (record { n = w.n; members = ms; sent = sent }) before now
+pub happened_as : (w : World Lying) (index : ℕ) (act : Act) (ms : List (Host Lying)) (sent : List Sent) (out : List Output) (before now : Outputs) → HaveActed act w.members ms index out
+    → sent ≡ w.sent ++ messages out → now ≡ with_outputs before (numbered (length w.sent) out) → HasHappened (at_member w index act) w (record { n = w.n; members = ms; sent = sent }) before now
 happened_as w index act ms sent out before now h e k = rw (e, k) (happened w index act ms out before h)
 
 -- nothing was put out
-pub happened_quietly : (w : World Lying) (index : ℕ) (act : Act) (ms : List (Host Lying)) (before : List Numbered) → HaveActed act w.members ms index []
+pub happened_quietly : (w : World Lying) (index : ℕ) (act : Act) (ms : List (Host Lying)) (before : Outputs) → HaveActed act w.members ms index []
     → HasHappened (at_member w index act) w (record { n = w.n; members = ms; sent = w.sent }) before before
 unfolding messages numbered
-happened_quietly w index act ms before h = happened_as w index act ms w.sent [] before before h (sym (append-nil w.sent)) (sym (append-nil before))
+happened_quietly w index act ms before h = happened_as w index act ms w.sent [] before before h (sym (append-nil w.sent)) (sym (outputs_none before))
 
-pub nothing_happened : (w : World Lying) (before : List Numbered) → HasHappened (nothing w) w w before before
+pub nothing_happened : (w : World Lying) (before : Outputs) → HasHappened (nothing w) w w before before
 unfolding numbered
-nothing_happened w before = record { world = refl; outputs = sym (append-nil before) }
+nothing_happened w before = record { world = refl; outputs = sym (outputs_none before) }
 
 -- ---- lines
 
-pub delivered_there : (w new : World Lying) (at : ℕ) (s : Sent) (before now : List Numbered) → slice_get w.sent at ≡ Some s → HasHappened (at_member w s.to (handles hazards (event.Deliver s.message))) w new before now
+pub delivered_there : (w new : World Lying) (at : ℕ) (s : Sent) (before now : Outputs) → slice_get w.sent at ≡ Some s → HasHappened (at_member w s.to (handles hazards (event.Deliver s.message))) w new before now
     → HasHappened (delivered hazards w (slice_get w.sent at)) w new before now
 delivered_there w new at s before now e h = subst (λ o. HasHappened (delivered hazards w o) w new before now) (sym e) h
 
-pub delivered_none : (w : World Lying) (at : ℕ) (before : List Numbered) → slice_get w.sent at ≡ None → HasHappened (delivered hazards w (slice_get w.sent at)) w w before before
+pub delivered_none : (w : World Lying) (at : ℕ) (before : Outputs) → slice_get w.sent at ≡ None → HasHappened (delivered hazards w (slice_get w.sent at)) w w before before
 delivered_none w at before e = subst (λ o. HasHappened (delivered hazards w o) w w before before) (sym e) (nothing_happened w before)
 
-pub deliver_nothing : (w : World Lying) (number : ℕ) (before : List Numbered) → length w.sent ≡ 0 → HasHappened (happens hazards w (Arrives number)) w w before before
+pub deliver_nothing : (w : World Lying) (number : ℕ) (before : Outputs) → length w.sent ≡ 0 → HasHappened (happens hazards w (Arrives number)) w w before before
 deliver_nothing w number before e = delivered_none w (number % length w.sent) before (slice_get_past w.sent (number % length w.sent) (omega (arith, e)))
 
-pub begun : (w new : World Lying) (n : ℕ) (before : List Numbered) → new ≡ fresh_world hazards n → HasHappened (happens hazards w (Begins n)) w new before before
+pub begun : (w new : World Lying) (n : ℕ) (before : Outputs) → new ≡ fresh_world hazards n → HasHappened (happens hazards w (Begins n)) w new before before
 unfolding numbered
-begun w new n before e = record { world = e; outputs = sym (append-nil before) }
+begun w new n before e = record { world = e; outputs = sym (outputs_none before) }
 
 -- ---- a new group
 
@@ -112,8 +113,8 @@ hosts_more n k hs h e f = rw (e, f) (sym (map-range_with_len_more (fresh_host ha
 pub letter_is : (w : World Lying) (at : ℕ) (s : Sent) (o : Option Sent) → o ≡ Some s → o ≡ slice_get w.sent at → slice_get w.sent at ≡ Some s
 letter_is w at s o e f = sym f ∙ e
 
-pub delivered_to : (w : World Lying) (at : ℕ) (s : Sent) (to : ℕ) (e : Event) (ms : List (Host Lying)) (sent : List Sent) (out : List Output) (before now : List Numbered) → slice_get w.sent at ≡ Some s → to ≡ s.to → e ≡ event.Deliver s.message
-    → HaveActed (handles hazards e) w.members ms to out → sent ≡ w.sent ++ messages out → now ≡ before ++ numbered (length w.sent) out
+pub delivered_to : (w : World Lying) (at : ℕ) (s : Sent) (to : ℕ) (e : Event) (ms : List (Host Lying)) (sent : List Sent) (out : List Output) (before now : Outputs) → slice_get w.sent at ≡ Some s → to ≡ s.to → e ≡ event.Deliver s.message
+    → HaveActed (handles hazards e) w.members ms to out → sent ≡ w.sent ++ messages out → now ≡ with_outputs before (numbered (length w.sent) out)
     → HasHappened (delivered hazards w (slice_get w.sent at)) w (record { n = w.n; members = ms; sent = sent }) before now
 delivered_to w at s to e ms sent out before now there k f h i j =
     let g : HaveActed (handles hazards (event.Deliver s.message)) w.members ms s.to out = subst (λ (to : ℕ). HaveActed (handles hazards (event.Deliver s.message)) w.members ms to out) k (subst (λ (e : Event). HaveActed (handles hazards e) w.members ms to out) f h) in

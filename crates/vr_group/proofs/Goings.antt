@@ -13,8 +13,9 @@ use Rattle.vr_rules.specs.Lying.{Lying, hazards}
 use Rattle.vr_rules.specs.World.{Acted, Happened, Happening, Host, World, at_member, delivered, happen, happens, message_of, messages, nothing, with_member}
 use Rattle.vr_group.specs.Group.{HasHappened}
 use Rattle.vr_group.specs.Lines.{AreLinesOf, happening, happenings}
-use Rattle.vr_group.specs.Outputs.{numbered, with_number}
-use Rattle.vr_group.specs.declared.outputs.Numbered.{Numbered}
+use Rattle.vr_group.specs.Outputs.{numbered, with_number, with_outputs}
+use Rattle.vr_group.specs.declared.outputs.Outputs.{Outputs}
+use Rattle.vr_group.proofs.Numbering.{outputs_append, outputs_none}
 
 -- first these, then those
 pub record Follows (w : World Lying) (xs ys : List Happening) : Type 0 where
@@ -86,15 +87,15 @@ happen_one w x = let h = happens hazards w x in ap (λ (os : List Output). let y
 
 -- ---- in the midst of lines, so many of which have happened
 
-pub record Going (i : ℕ) (lines : List Line) (first now : World Lying) (before to : List Numbered) : Type 0 where
+pub record Going (i : ℕ) (lines : List Line) (first now : World Lying) (before to : Outputs) : Type 0 where
   pub world : now ≡ (happen hazards first (happenings (take i lines))).world
-  pub outputs : to ≡ before ++ numbered (length first.sent) (happen hazards first (happenings (take i lines))).outputs
+  pub outputs : to ≡ with_outputs before (numbered (length first.sent) (happen hazards first (happenings (take i lines))).outputs)
   pub size : now.n ≡ first.n
   pub sent : length now.sent ≡ length first.sent + length (messages (happen hazards first (happenings (take i lines))).outputs)
 
-pub going_begins : (lines : List Line) (w : World Lying) (to : List Numbered) → Going 0 lines w w to to
+pub going_begins : (lines : List Line) (w : World Lying) (to : Outputs) → Going 0 lines w w to to
 unfolding happen happenings numbered messages
-going_begins lines w to = record { world = refl; outputs = sym (append-nil to); size = refl; sent = (let e : length w.sent ≡ length w.sent + 0 = omega arith in e) }
+going_begins lines w to = record { world = refl; outputs = sym (outputs_none to); size = refl; sent = (let e : length w.sent ≡ length w.sent + 0 = omega arith in e) }
 
 all_at : {X : Type 0} (P : X → Type 0) (xs : List X) (i : ℕ) (d : X) → AllByRecursion P xs → i < length xs → P (get_or xs i d)
 all_at P [] i d a l = absurd (omega arith)
@@ -102,7 +103,7 @@ all_at P (x ∷ xs) zero d a l = a.0
 all_at P (x ∷ xs) (suc i) d a l = all_at P xs i d a.1 (omega arith)
 
 -- the next is a line of the group
-pub going_fits : (lines : List Line) (i : ℕ) (l : Line) (first now : World Lying) (before to : List Numbered) → AreLinesOf first.n lines → Going i lines first now before to → i < length lines → l ≡ get_or lines i l → IsLineOf now.n l
+pub going_fits : (lines : List Line) (i : ℕ) (l : Line) (first now : World Lying) (before to : Outputs) → AreLinesOf first.n lines → Going i lines first now before to → i < length lines → l ≡ get_or lines i l → IsLineOf now.n l
 unfolding AreLinesOf
 going_fits lines i l first now before to a g m is = subst (λ (n : ℕ). IsLineOf n l) (sym g.size) (subst (IsLineOf first.n) (sym is) (all_at (IsLineOf first.n) lines i l a m))
 
@@ -110,7 +111,7 @@ happenings_next : (lines : List Line) (i : ℕ) (d : Line) → i < length lines 
 unfolding happenings
 happenings_next lines i d h = rw (take_more lines i d h) (map-append happening (take i lines) (get_or lines i d ∷ []))
 
-pub going_more : (lines : List Line) (i : ℕ) (l : Line) (first now next : World Lying) (before to to_next : List Numbered) → 0 < first.n → AreLinesOf first.n lines → i < length lines → l ≡ get_or lines i l
+pub going_more : (lines : List Line) (i : ℕ) (l : Line) (first now next : World Lying) (before to to_next : Outputs) → 0 < first.n → AreLinesOf first.n lines → i < length lines → l ≡ get_or lines i l
     → Going i lines first now before to → HasHappened (happens hazards now (happening l)) now next to to_next → Going (i + 1) lines first next before to_next
 going_more lines i l first now next before to to_next group a m is g h =
     let xs = happenings (take i lines) in
@@ -131,18 +132,18 @@ going_more lines i l first now next before to to_next group a m is g h =
     ∙ ap (λ ms. length first.sent + length ms) (sym (messages_append x.outputs y.outputs)) in
     record {
       world = h.world ∙ ap (λ (h : Happened Lying). h.world) (sym one) ∙ sym all.world ∙ ap (λ zs. (happen hazards first zs).world) next_is;
-      outputs = h.outputs ∙ ap (λ os. os ++ numbered (length now.sent) y.outputs) g.outputs ∙ append_assoc before (numbered (length first.sent) x.outputs) (numbered (length now.sent) y.outputs)
-          ∙ ap (λ os. before ++ os) (sym put) ∙ ap (λ os. before ++ numbered (length first.sent) os) (sym outs) ∙ ap (λ zs. before ++ numbered (length first.sent) (happen hazards first zs).outputs) next_is;
+      outputs = h.outputs ∙ ap (λ os. with_outputs os (numbered (length now.sent) y.outputs)) g.outputs ∙ outputs_append before (numbered (length first.sent) x.outputs) (numbered (length now.sent) y.outputs)
+          ∙ ap (λ os. with_outputs before os) (sym put) ∙ ap (λ os. with_outputs before (numbered (length first.sent) os)) (sym outs) ∙ ap (λ zs. with_outputs before (numbered (length first.sent) (happen hazards first zs).outputs)) next_is;
       size = ap (λ (w : World Lying). w.n) h.world ∙ grows.size ∙ g.size;
       sent = sent ∙ ap (λ os. length first.sent + length (messages os)) (sym outs) ∙ ap (λ zs. length first.sent + length (messages (happen hazards first zs).outputs)) next_is;
     }
 
-pub going_ends : (lines : List Line) (i : ℕ) (first now : World Lying) (before to : List Numbered) → length lines ≤ i → Going i lines first now before to → HasHappened (happen hazards first (happenings lines)) first now before to
+pub going_ends : (lines : List Line) (i : ℕ) (first now : World Lying) (before to : Outputs) → length lines ≤ i → Going i lines first now before to → HasHappened (happen hazards first (happenings lines)) first now before to
 going_ends lines i first now before to h g =
     let all : take i lines ≡ lines = take_all i lines h in
     record {
       world = g.world ∙ ap (λ ls. (happen hazards first (happenings ls)).world) all;
-      outputs = g.outputs ∙ ap (λ ls. before ++ numbered (length first.sent) (happen hazards first (happenings ls)).outputs) all;
+      outputs = g.outputs ∙ ap (λ ls. with_outputs before (numbered (length first.sent) (happen hazards first (happenings ls)).outputs)) all;
     }
 
 pub ruleset goings = (going_begins, going_fits, going_more, going_ends)

@@ -11,7 +11,7 @@ use Rattle.vr_msg.specs.declared.output.Output.{Output}
 use Rattle.vr_msg.specs.declared.output.Output.TheVariants as output
 use Rattle.vr_msg.specs.declared.output.Sent.{Sent}
 use Rattle.vr_opening.specs.Making.{Made}
-use Rattle.vr_opening.specs.Recovering.{Recovered}
+use Rattle.vr_opening.specs.Recovering.{RecoveredAny}
 use Rattle.vr_opening.specs.declared.reopen.Refusal.{Refusal}
 use Rattle.vr_opening.specs.declared.reopen.Refusal.TheVariants.{Halted, Lost, OtherMember}
 use Rattle.vr_step.specs.Does.{Does}
@@ -30,7 +30,6 @@ use Rattle.vr_rules.specs.World.{Acted, Host, acts, fresh_host, fresh_world, han
 use Rattle.vr_lying.specs.Told.{IsTold, burnt, host_on, lying_in}
 use Rattle.vr_lying.specs.Disks.{blank_lying, calm}
 use Rattle.vr_lying.specs.Laws.{Went, revived}
-use Rattle.vr_lying.specs.Named.{named_by}
 use Rattle.vr_lying.proofs.Acting.{acts_go, acts_halt}
 use Rattle.vr_lying.proofs.Rules.{a_react}
 use Rattle.vr_lying.proofs.Runs.{runs_went}
@@ -68,44 +67,35 @@ step_halts index event r q d e o t h = word_halts index (Some r) (react event) (
 
 -- ---- a start
 
-opens_named : (o : Option SuperValue) → None ≡ option_map named_by o → o ≡ None
-opens_named None e = refl
-opens_named (Some v) e = absurd cc
-
 starts_by : (index : ℕ) (d : Disk) (v : SuperValue) → opens d.face ≡ Some v → starts hazards index (host_on None d) ≡ acts hazards index (host_on None d) (opening v lying (blank v) (lying_in d))
 unfolding opened
 starts_by index d v e = ap (λ o. option_map_or (acts hazards index (host_on None d)) (option_map (λ (v : SuperValue). opening v lying (blank v) (lying_in d)) o) (stays (host_on None d))) e
 
-pub start_none : (index : ℕ) (d : Disk) → None ≡ option_map named_by (opens d.face) → HasActed (starts hazards index (host_on None d)) (host_on None d) []
+pub start_none : (index : ℕ) (d : Disk) → opens d.face ≡ None → HasActed (starts hazards index (host_on None d)) (host_on None d) []
 unfolding opened
-start_none index d e = rw (opens_named (opens d.face) e) (record { member = refl; outputs = refl })
+start_none index d e = rw e (record { member = refl; outputs = refl })
 
-pub start_goes : (index : ℕ) (config : Config) (q : Replica) (d e : Disk) (o : List Output) → IsTold d → Recovered config (Some d) (Some e) [] o (Ok q)
+pub start_goes : (index : ℕ) (q : Replica) (d e : Disk) (o : List Output) → IsTold d → RecoveredAny (Some d) (Some e) [] o (Ok q)
     → HasActed (starts hazards index (host_on None d)) (host_on (Some q) e) o × IsTold e
-start_goes index config q d e o t h =
+start_goes index q d e o t h =
     let v = h.value in
     let x = word_goes index None (opening v) (opening v lying (blank v) (lying_in d)) (blank v) q d e o t ((a_opening v).each (blank v) (lying_in d)) h.step in
     (subst (λ (a : Acted Lying). HasActed a (host_on (Some q) e) o) (sym (starts_by index d v h.opens)) x.0, x.1)
 
-pub start_halts : (index : ℕ) (config : Config) (d e : Disk) (o : List Output) → IsTold d → Recovered config (Some d) (Some e) [] o (Err (Halted DiskFault))
+pub start_halts : (index : ℕ) (d e : Disk) (o : List Output) → IsTold d → RecoveredAny (Some d) (Some e) [] o (Err (Halted DiskFault))
     → HasActed (starts hazards index (host_on None d)) (host_on None (revived e)) (output.Halted index ∷ []) × IsTold (revived e)
-start_halts index config d e o t h =
+start_halts index d e o t h =
     let v = h.value in
     let x = word_halts index None (opening v) (opening v lying (blank v) (lying_in d)) (blank v) (blank v) d e o t ((a_opening v).each (blank v) (lying_in d)) h.step in
     (subst (λ (a : Acted Lying). HasActed a (host_on None (revived e)) (output.Halted index ∷ [])) (sym (starts_by index d v h.opens)) x.0, x.1)
 
--- the disk opens, as the value of the member asked for
-pub never_lost : (config : Config) (d : Disk) (e : Option Disk) (o o' : List Output) (verdicts : List CopyVerdict) → Some config ≡ option_map named_by (opens d.face) → Recovered config (Some d) e o o' (Err (Lost verdicts)) → ⊥
-never_lost config d e o o' verdicts k h =
-    let none = (h.told d refl).0 in
-    let x : Some config ≡ None = k ∙ ap (option_map named_by) none in
-    absurd cc
-
-pub never_other : (config found : Config) (d : Disk) (e : Option Disk) (o o' : List Output) → Some config ≡ option_map named_by (opens d.face) → Recovered config (Some d) e o o' (Err (OtherMember found)) → ⊥
-never_other config found d e o o' k h =
-    let x : Some config ≡ Some (named_by h.value) = k ∙ ap (option_map named_by) ((h.mended.told d refl).0) in
-    let same : config ≡ named_by h.value = cc in
-    h.other (h.named ∙ sym same)
+-- the disk doesn't open
+pub start_lost : (index : ℕ) (d e : Disk) (o o' : List Output) (verdicts : List CopyVerdict) → RecoveredAny (Some d) (Some e) o o' (Err (Lost verdicts))
+    → (HasActed (starts hazards index (host_on None d)) (host_on None e) []) × (e ≡ d)
+start_lost index d e o o' verdicts h =
+    let x = h.told d refl in
+    let same : e ≡ d = let y = x.1 in cc in
+    (subst (λ (e : Disk). HasActed (starts hazards index (host_on None d)) (host_on None e) []) (sym same) (start_none index d x.0), same)
 
 -- ---- a new member
 
@@ -151,19 +141,19 @@ host_wanting event r q d e o x k t h =
     let w : Does (react event) r.memory q.memory (Some d) (Some e) [] o (Err NoMemory) = subst (λ x. Does (react event) r.memory q.memory (Some d) (Some e) [] o (Err x)) k h in
     record { running = tt; told = front_told _ d e t.told (w.told d refl) }
 
-pub host_recovered : (index : ℕ) (config : Config) (q : Running) (d e : Disk) (o : List Output) → IsTold d → Recovered config (Some d) (Some e) [] o (Ok q.memory) → q.running ≡ true
+pub host_recovered : (index : ℕ) (q : Running) (d e : Disk) (o : List Output) → IsTold d → RecoveredAny (Some d) (Some e) [] o (Ok q.memory) → q.running ≡ true
     → HasActed (starts hazards index (host_of None d)) (host_of (Some q) e) o × IsHost (Some q) e
-host_recovered index config q d e o t h k = let p = start_goes index config q.memory d e o t h in (p.0, record { running = k; told = p.1 })
+host_recovered index q d e o t h k = let p = start_goes index q.memory d e o t h in (p.0, record { running = k; told = p.1 })
 
-pub recovery_halted : (index : ℕ) (config : Config) (d e : Disk) (o : List Output) (y : Refusal) (x : Halt) → y ≡ Halted x → x ≡ DiskFault → IsTold d → Recovered config (Some d) (Some e) [] o (Err y)
+pub recovery_halted : (index : ℕ) (d e : Disk) (o : List Output) (y : Refusal) (x : Halt) → y ≡ Halted x → x ≡ DiskFault → IsTold d → RecoveredAny (Some d) (Some e) [] o (Err y)
     → HasActed (starts hazards index (host_of None d)) (host_of None (revived e)) (output.Halted index ∷ []) × IsHost None (revived e)
-recovery_halted index config d e o y x j k t h =
-    let g : Recovered config (Some d) (Some e) [] o (Err (Halted DiskFault)) = subst (λ y. Recovered config (Some d) (Some e) [] o (Err y)) (j ∙ ap Halted k) h in
-    let p = start_halts index config d e o t g in (p.0, record { running = tt; told = p.1 })
+recovery_halted index d e o y x j k t h =
+    let g : RecoveredAny (Some d) (Some e) [] o (Err (Halted DiskFault)) = subst (λ y. RecoveredAny (Some d) (Some e) [] o (Err y)) (j ∙ ap Halted k) h in
+    let p = start_halts index d e o t g in (p.0, record { running = tt; told = p.1 })
 
-pub recovery_wanting : (config : Config) (d e : Disk) (o : List Output) (y : Refusal) (x : Halt) → y ≡ Halted x → x ≡ NoMemory → IsTold d → Recovered config (Some d) (Some e) [] o (Err y) → IsHost None e
-recovery_wanting config d e o y x j k t h =
-    let g : Recovered config (Some d) (Some e) [] o (Err (Halted NoMemory)) = subst (λ y. Recovered config (Some d) (Some e) [] o (Err y)) (j ∙ ap Halted k) h in
+pub recovery_wanting : (d e : Disk) (o : List Output) (y : Refusal) (x : Halt) → y ≡ Halted x → x ≡ NoMemory → IsTold d → RecoveredAny (Some d) (Some e) [] o (Err y) → IsHost None e
+recovery_wanting d e o y x j k t h =
+    let g : RecoveredAny (Some d) (Some e) [] o (Err (Halted NoMemory)) = subst (λ y. RecoveredAny (Some d) (Some e) [] o (Err y)) (j ∙ ap Halted k) h in
     record { running = tt; told = front_told _ d e t (g.step.told d refl) }
 
 pub start_running : (index : ℕ) (r : Option Running) (d : Disk) → is_some r ≡ true → HasActed (starts hazards index (host_of r d)) (host_of r d) []
@@ -182,12 +172,20 @@ begins n hs sent e f = rw (e, f) refl
 
 -- ---- the goals of the code
 
-pub start_nothing : (index : ℕ) (r : Option Running) (d e : Disk) (o : List Output) → is_some r ≡ false → e ≡ d → None ≡ option_map named_by (opens d.face) → o ≡ [] → HasActed (starts hazards index (host_of r d)) (host_of r e) o
-start_nothing index r d e o n same k z =
-    let none = none_of r n in
-    subst (λ (o : List Output). HasActed (starts hazards index (host_of r d)) (host_of r e) o) (sym z)
-    (subst (λ (e : Disk). HasActed (starts hazards index (host_of r d)) (host_of r e) []) (sym same)
-    (subst (λ (r : Option Running). HasActed (starts hazards index (host_of r d)) (host_of r d) []) (sym none) (start_none index d k)))
+pub lost_acted : (index : ℕ) (r : Option Running) (d e : Disk) (o o' : List Output) (y : Refusal) (verdicts : List CopyVerdict) → y ≡ Lost verdicts → r ≡ None → o' ≡ [] → RecoveredAny (Some d) (Some e) o o' (Err y)
+    → HasActed (starts hazards index (host_of None d)) (host_of r e) o'
+lost_acted index r d e o o' y verdicts k none z h =
+    let g : RecoveredAny (Some d) (Some e) o o' (Err (Lost verdicts)) = subst (λ y. RecoveredAny (Some d) (Some e) o o' (Err y)) k h in
+    subst (λ (o : List Output). HasActed (starts hazards index (host_of None d)) (host_of r e) o) (sym z)
+    (subst (λ (r : Option Running). HasActed (starts hazards index (host_of None d)) (host_of r e) []) (sym none) (start_lost index d e o o' verdicts g).0)
+
+pub lost_told : (r : Option Running) (d e : Disk) (o o' : List Output) (y : Refusal) (verdicts : List CopyVerdict) → y ≡ Lost verdicts → r ≡ None → IsTold d → RecoveredAny (Some d) (Some e) o o' (Err y) → IsHost r e
+lost_told r d e o o' y verdicts k none t h =
+    let g : RecoveredAny (Some d) (Some e) o o' (Err (Lost verdicts)) = subst (λ y. RecoveredAny (Some d) (Some e) o o' (Err y)) k h in
+    subst (λ (r : Option Running). IsHost r e) (sym none) (record { running = tt; told = subst IsTold (sym (start_lost 0 d e o o' verdicts g).1) t })
+
+pub never_other : (found : Config) (d e : Disk) (o o' : List Output) (y : Refusal) → y ≡ OtherMember found → RecoveredAny (Some d) (Some e) o o' (Err y) → ⊥
+never_other found d e o o' y k h = subst (λ y. RecoveredAny (Some d) (Some e) o o' (Err y)) k h
 
 pub gone_told : (r : Option Running) (d e : Disk) → r ≡ None → d ≡ revived e → IsHost None (revived e) → IsHost r d
 gone_told r d e k f h = subst (λ (r : Option Running). IsHost r d) (sym k) (subst (λ (d : Disk). IsHost None d) (sym f) h)

@@ -1,10 +1,10 @@
 -- A group that goes on or has stopped.
-use Rattle.std.specs.Prelude.{◌≡◌, ◌++◌, Bool, List, length}
+use Rattle.std.specs.Prelude.{◌≡◌, Bool, length}
 use Rattle.vr_rules.specs.Lying.{Lying}
 use Rattle.vr_rules.specs.World.{Happened, World}
 use Rattle.vr_group.specs.declared.members.Members.{Members}
-use Rattle.vr_group.specs.declared.outputs.Numbered.{Numbered}
-use Rattle.vr_group.specs.Outputs.{numbered}
+use Rattle.vr_group.specs.declared.outputs.Outputs.{Outputs}
+use Rattle.vr_group.specs.Outputs.{numbered, with_outputs}
 
 -- its members and messages, and whether it goes on
 pub record Group : Type 0 where
@@ -15,6 +15,6 @@ abbrev pub world_of : Members → World Lying
 world_of m = record { n = m.n; members = m.hosts.items; sent = m.sent }
 
 -- the world after it, with its outputs behind the others
-pub record HasHappened (h : Happened Lying) (old new : World Lying) (before now : List Numbered) : Type 0 where
+pub record HasHappened (h : Happened Lying) (old new : World Lying) (before now : Outputs) : Type 0 where
   pub world : new ≡ h.world
-  pub outputs : now ≡ before ++ numbered (length old.sent) h.outputs
+  pub outputs : now ≡ with_outputs before (numbered (length old.sent) h.outputs)

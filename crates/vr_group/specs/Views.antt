@@ -1,5 +1,6 @@
 -- The views of a world's members.
-use Rattle.std.specs.Prelude.{ℕ, max, map, List, [], ◌∷◌}
+use Rattle.std.specs.Prelude.{ℕ, max, map}
+use Rattle.std.specs.List.{fold}
 use Rattle.std.specs.Option.{option_map_or}
 use Rattle.vr_super.specs.Opens.{found_of, good_copies}
 use Rattle.vr_rules.specs.Lying.{Lying}
@@ -9,10 +10,6 @@ use Rattle.vr_rules.specs.World.{Host, World}
 abbrev pub view_of : Host Lying → ℕ
 view_of m = option_map_or (λ r. r.view) m.replica (option_map_or (λ f. f.view) (found_of (good_copies m.disk.face)) 0)
 
-unfoldable pub greatest : List ℕ → ℕ
-greatest [] = 0
-greatest (x ∷ xs) = max x (greatest xs)
-
 -- the greatest of all
 abbrev pub top_view : World Lying → ℕ
-top_view w = greatest (map view_of w.members)
+top_view w = fold max 0 (map view_of w.members)

@@ -1,15 +1,12 @@
 //! What hosts a member of the group.
 ghost use Rattle.std.specs.Prelude.{◌≡◌, ◌-◌, ◌<◌, ◌≤◌, ◌∷◌, [], Some, None, IfOk, OnOk, is_some, true};
-ghost use Rattle.std.specs.Option.{option_map};
 ghost use Rattle.vr_base.specs.Groups.{quorums_of};
 ghost use Rattle.vr_lie.specs.Faults.{IsFault};
 ghost use Rattle.vr_rules.specs.Lying.{hazards};
 ghost use Rattle.vr_rules.specs.World.{fresh_host, handles, lies, starts};
 ghost use Rattle.vr_msg.specs.declared.output.Output.TheVariants as output;
-ghost use Rattle.vr_super.specs.Opens.{opens};
 ghost use Rattle.vr_lying.specs.Disks.{told_by};
 ghost use Rattle.vr_lying.specs.Laws.{revived};
-ghost use Rattle.vr_lying.specs.Named.{named_by};
 ghost use Rattle.vr_lying.specs.Told.{IsTold};
 ghost use Rattle.vr_group.specs.Hosts.{HasActed, IsHost, host_of};
 ghost use Rattle.vr_group.specs.Views.{view_of};
@@ -18,7 +15,7 @@ use std::alloc::Global;
 use std::marker::Model;
 use vr_base::{Config, NoMemory};
 use vr_lie::{Fault, Faulted};
-use vr_lying::{HostDisk, member_of};
+use vr_lying::HostDisk;
 use vr_msg::{Event, Outbox, Output};
 use vr_replica::{Halt, Refusal, Replica};
 use vr_super::opens;
@@ -109,22 +106,20 @@ fn step_on(
     }
 }
 
-// The replica of the disk of this member, where a fuse lets it be.
+// The replica of the disk, where a fuse lets it be.
 fn recover_on(
     replica: &mut Option<Replica>,
     disk: &mut HostDisk,
     alloc: Global,
     index: u8,
-    config: &Config,
     out: &mut Outbox,
 ) -> Result<(), NoMemory>
     requires stopped { replica.old ≡ None }
     requires told { IsTold (told_by disk.old) }
-    requires named { Some config.now ≡ option_map named_by (opens (told_by disk.old).face) }
     ensures host { IsHost replica.new (told_by disk.new) }
     ensures acted { OnOk result (HasActed (starts hazards index (host_of None (told_by disk.old))) (host_of replica.new (told_by disk.new)) out.new) }
 {
-    match Replica::recover(alloc, disk, config, out) {
+    match Replica::recover_any(alloc, disk, out) {
         Ok(recovered) => {
             *replica = Some(recovered);
             Ok(())
@@ -152,10 +147,7 @@ fn start_on(
     if replica.is_some() {
         return Ok(());
     }
-    match member_of(disk) {
-        Some(config) => recover_on(replica, disk, alloc, index, &config, out),
-        None => Ok(()),
-    }
+    recover_on(replica, disk, alloc, index, out)
 }
 
 // The view of a replica, or of the value that its disk opens as.

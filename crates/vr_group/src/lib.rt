@@ -1,6 +1,7 @@
 //! A group of replicas on disks that lie, in one process, and the messages between them, which a schedule's lines move on.
 #![tactic(auto)]
 
+mod asked;
 mod host;
 mod hosts;
 mod letter;
@@ -11,5 +12,5 @@ mod world;
 
 pub use host::Host;
 pub use letter::Letter;
-pub use outputs::{Numbered, Outputs};
+pub use outputs::{Outputs, Put};
 pub use world::World;

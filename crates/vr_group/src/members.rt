@@ -5,8 +5,10 @@ ghost use Rattle.vr_lie.specs.Faults.{IsFault};
 ghost use Rattle.vr_lines.specs.Fits.{IsLineOf};
 ghost use Rattle.vr_rules.specs.Lying.{hazards};
 ghost use Rattle.vr_rules.specs.World.{Arrives, Lies, Starts, at_member, delivered, fresh_world, handles, happens};
+ghost use Rattle.vr_group.specs.Headline.{HasAsked};
 ghost use Rattle.vr_group.specs.Lines.{happening};
 
+use crate::asked::asked;
 use crate::hosts::{fuse_at, handle_at, lie_at, make_hosts, start_at, stop_at};
 use crate::outputs::record_outputs;
 use crate::{Host, Letter, Outputs};
@@ -59,7 +61,7 @@ impl Members {
     {
         let mut out = Seq::new(alloc);
         handle_at(&mut self.hosts, alloc, replica, event, &mut out)?;
-        record_outputs(alloc, &mut self.sent, out, to)?;
+        record_outputs(&mut self.sent, out, to)?;
         Ok(())
     }
 
@@ -79,7 +81,7 @@ impl Members {
                     letter.delivery(),
                     &mut out,
                 )?;
-                record_outputs(alloc, &mut self.sent, out, to)?;
+                record_outputs(&mut self.sent, out, to)?;
                 Ok(())
             }
         }
@@ -104,7 +106,7 @@ impl Members {
     {
         let mut out = Seq::new(alloc);
         start_at(&mut self.hosts, alloc, replica, &mut out)?;
-        record_outputs(alloc, &mut self.sent, out, to)?;
+        record_outputs(&mut self.sent, out, to)?;
         Ok(())
     }
 
@@ -122,7 +124,7 @@ impl Members {
     {
         let mut out = Seq::new(alloc);
         lie_at(&mut self.hosts, replica, fault, &mut out)?;
-        record_outputs(alloc, &mut self.sent, out, to)?;
+        record_outputs(&mut self.sent, out, to)?;
         Ok(())
     }
 
@@ -130,7 +132,8 @@ impl Members {
     #[tactic(auto, using(crate::proofs::Acts::happened_quietly, crate::proofs::Acts::begun))]
     pub fn happen(&mut self, alloc: Global, line: &Line, to: &mut Outputs) -> Result<(), NoMemory>
         requires { IsLineOf self.old.n line.now }
-        ensures { OnOk result (HasHappened (happens hazards (world_of self.old) (happening line.now)) (world_of self.old) (world_of self.new) to.old to.new) }
+        ensures happened { OnOk result (HasHappened (happens hazards (world_of self.old) (happening line.now)) (world_of self.old) (world_of self.new) to.old to.new) }
+        ensures asked { OnOk result (HasAsked line.now) }
     {
         match line {
             Line::Cluster(n) => {
@@ -138,7 +141,7 @@ impl Members {
                 Ok(())
             }
             Line::Request { replica, request } => {
-                let event = Event::Request(request.try_clone(alloc)?);
+                let event = asked(alloc, request)?;
                 self.reach(alloc, *replica, &event, to)
             }
             Line::Deliver(number) => self.deliver(alloc, *number, to),

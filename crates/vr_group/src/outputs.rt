@@ -1,62 +1,86 @@
-//! Outputs, and the messages among them.
-ghost use Rattle.std.specs.Prelude.{◌≡◌, ◌++◌, ◌∷◌, [], length, OnOk};
+//! What is put out, and the messages among it.
+ghost use Rattle.std.specs.Prelude.{◌≡◌, ◌++◌, ◌∷◌, [], length, IfOk, OnOk};
 ghost use Rattle.vr_rules.specs.World.{message_of, messages};
-ghost use Rattle.vr_group.specs.Outputs.{with_number, numbered};
+ghost use Rattle.vr_group.specs.Outputs.{numbered, outputs_of, put_as, with_number, with_outputs};
+ghost use Rattle.vr_group.specs.declared.outputs.Put.TheVariants.{Message};
 
 use crate::Letter;
 use std::alloc::{AllocError, Global};
-use vr_base::Seq;
-use vr_msg::{Outbox, Output};
+use vr_base::{ByteList, Seq};
+use vr_msg::{Outbox, Output, Sent};
+use vr_sched::write_text;
 
-/// An output of a replica, or what became of a fault.
+/// What is put out: a message, which stays with those that were sent, by its number, or any other output.
 #[derive(Debug, Drop, PartialEq, Eq)]
-pub struct Numbered {
-    /// The number of the message that it is; of any other output, that of the next message.
-    pub number: u64,
-    pub output: Output,
+pub enum Put {
+    Message(u64),
+    Other(Output),
 }
 
-/// Outputs in order.
-pub type Outputs = Seq<Numbered>;
+/// What is put out, in order, and its text.
+#[derive(Drop)]
+pub struct Outputs {
+    pub puts: Seq<Put>,
+    /// A line for each.
+    pub text: ByteList,
+}
 
-// Keeps a copy of the message that is put out.
-fn keep_message(alloc: Global, sent: &mut Seq<Letter>, output: &Output) -> Result<(), AllocError>
-    ensures { OnOk result (sent.new ≡ sent.old ++ message_of output.now) }
-{
-    if let Output::Send(s) = output {
-        sent.push(Letter::new(s.from, s.to, s.message.try_clone(alloc)?))?;
+impl Outputs {
+    /// Nothing.
+    #[tactic(auto, using(std::proofs::lemmas::Grind::common_steps, crate::proofs::Numbering::text_none))]
+    pub fn new(alloc: Global) -> Outputs
+        ensures { result ≡ outputs_of [] }
+    {
+        Outputs {
+            puts: Seq::new(alloc),
+            text: ByteList::new(alloc),
+        }
     }
-    Ok(())
 }
 
-// Keeps the message that is put out, and numbers it.
-fn record_output(
-    alloc: Global,
-    sent: &mut Seq<Letter>,
-    output: Output,
-    to: &mut Outputs,
-) -> Result<(), AllocError>
+// Keeps a message, which is put out by its number.
+fn keep_message(number: u64, sent: &mut Seq<Letter>, message: Sent) -> Result<Put, AllocError>
+    ensures sent { OnOk result (sent.new ≡ sent.old ++ message ∷ []) }
+    ensures put { IfOk result (λ p. p ≡ Message number) }
+{
+    sent.push(Letter::new(message.from, message.to, message.message))?;
+    Ok(Put::Message(number))
+}
+
+// Keeps the output if it is a message.
+fn put_of(number: u64, sent: &mut Seq<Letter>, output: Output) -> Result<Put, AllocError>
     ensures sent { OnOk result (sent.new ≡ sent.old ++ message_of output) }
-    ensures numbered { OnOk result (to.new ≡ to.old ++ with_number (length sent.old) output ∷ []) }
+    ensures put { IfOk result (λ p. p ≡ put_as number output) }
+{
+    match output {
+        Output::Send(message) => keep_message(number, sent, message),
+        other => Ok(Put::Other(other)),
+    }
+}
+
+// One output more: its text, and then itself, since a message is kept.
+#[tactic(auto, using(std::proofs::lemmas::Grind::common_steps, crate::proofs::Numbering::outputs_one))]
+fn record_output(sent: &mut Seq<Letter>, output: Output, to: &mut Outputs) -> Result<(), AllocError>
+    ensures sent { OnOk result (sent.new ≡ sent.old ++ message_of output) }
+    ensures numbered { OnOk result (to.new ≡ with_outputs to.old (with_number (length sent.old) output ∷ [])) }
 {
     let number = sent.len() as u64;
-    keep_message(alloc, sent, &output)?;
-    to.push(Numbered { number, output })
+    write_text(number, &output, &mut to.text)?;
+    to.puts.push(put_of(number, sent, output)?)
 }
 
 /// The same for each output.
-#[tactic(auto, using(std::proofs::lemmas::Grind::common_steps, crate::proofs::Numbering::messages_more, crate::proofs::Numbering::messages_none, crate::proofs::Numbering::numbered_more, crate::proofs::Numbering::numbered_none))]
+#[tactic(auto, using(std::proofs::lemmas::Grind::common_steps, crate::proofs::Numbering::messages_more, crate::proofs::Numbering::messages_none, crate::proofs::Numbering::outputs_more, crate::proofs::Numbering::outputs_end))]
 pub fn record_outputs(
-    alloc: Global,
     sent: &mut Seq<Letter>,
     outputs: Outbox,
     to: &mut Outputs,
 ) -> Result<(), AllocError>
     ensures sent { OnOk result (sent.new ≡ sent.old ++ messages outputs) }
-    ensures numbered { OnOk result (to.new ≡ to.old ++ numbered (length sent.old) outputs) }
+    ensures numbered { OnOk result (to.new ≡ with_outputs to.old (numbered (length sent.old) outputs)) }
 {
     for output in outputs.into_vec() {
-        record_output(alloc, sent, output, to)?;
+        record_output(sent, output, to)?;
     }
     Ok(())
 }

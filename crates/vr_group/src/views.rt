@@ -1,8 +1,9 @@
 //! The views of members.
-ghost use Rattle.std.specs.Prelude.{◌≡◌, ◌<◌, map, length, get_or};
+ghost use Rattle.std.specs.Prelude.{◌≡◌, ◌<◌, map, max, length, get_or};
+ghost use Rattle.std.specs.List.{fold};
 ghost use Rattle.vr_rules.specs.World.{Host as Member};
 ghost use Rattle.vr_rules.specs.Lying.{Lying};
-ghost use Rattle.vr_group.specs.Views.{greatest, view_of};
+ghost use Rattle.vr_group.specs.Views.{view_of};
 
 use crate::Host;
 
@@ -19,7 +20,7 @@ fn view_at(hosts: &mut Vec<Host>, at: usize) -> u32
 /// The greatest view of the members, who stay as they are.
 #[tactic(auto)]
 pub fn top_view(hosts: &mut Vec<Host>) -> u32
-    ensures view { result ≡ greatest (map view_of hosts.old.items) }
+    ensures view { result ≡ fold max 0 (map view_of hosts.old.items) }
     ensures same { hosts.new.items ≡ hosts.old.items }
 {
     let mut top = 0;

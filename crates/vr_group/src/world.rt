@@ -1,13 +1,12 @@
 //! A group of members, and every message that they have sent.
 ghost use Rattle.std.specs.Prelude.{◌≡◌, ◌≤◌, ◌<◌, ◌^◌, ◌++◌, true, false, IfOk, OnOk, OnErr, length};
-ghost use Rattle.vr_header.specs.Bodies.{IsOperation};
 ghost use Rattle.vr_lines.specs.Fits.{IsLineOf};
 ghost use Rattle.vr_rules.specs.Lying.{hazards};
 ghost use Rattle.vr_rules.specs.World.{fresh_world, happen, happens, no_world};
 ghost use Rattle.vr_group.specs.Group.{HasHappened, world_of};
-ghost use Rattle.vr_group.specs.Headline.{HasAsked, HaveAsked, IsJustMade, LinesKeepOneLog};
+ghost use Rattle.vr_group.specs.Headline.{HaveAsked, IsJustMade, LinesKeepOneLog};
 ghost use Rattle.vr_group.specs.Lines.{AreLinesOf, happening, happenings};
-ghost use Rattle.vr_group.specs.Outputs.{numbered};
+ghost use Rattle.vr_group.specs.Outputs.{numbered, outputs_of};
 ghost use Rattle.vr_group.specs.Views.{top_view};
 
 use crate::Outputs;
@@ -16,7 +15,6 @@ use crate::views::top_view;
 use std::alloc::Global;
 use std::marker::Model;
 use vr_base::{NoMemory, Seq};
-use vr_header::Operation;
 use vr_lines::Line;
 
 /// A group of members on disks that lie, and every message that they have sent. It stops where there is no memory for a line,
@@ -35,40 +33,6 @@ impl Model for World {
     ghost view = { λ w. record { world = world_of w.members; live = w.live } };
 }
 
-// The texts of an operation have the form that their types keep. Nothing is done.
-fn look_at_operation(operation: &Operation)
-    ensures { IsOperation operation.now }
-{
-    match operation {
-        Operation::Register => {}
-        Operation::Put(key, value) => {
-            key.as_slice();
-            value.as_slice();
-        }
-        Operation::Get(key) | Operation::Delete(key) => {
-            key.as_slice();
-        }
-    }
-}
-
-// Numbers are within the ranges of their types. Nothing is done.
-fn look_at_numbers(cluster: u64, client: u64, request: u32)
-    ensures cluster { cluster < 2 ^ 64 }
-    ensures client { client < 2 ^ 64 }
-    ensures request { request < 2 ^ 32 }
-{}
-
-// A line's request can be asked, since its type keeps it so. Nothing is done.
-fn look_at(line: &Line)
-    ensures { HasAsked line.now }
-{
-    if let Line::Request { request, .. } = line {
-        let fields = request.fields();
-        look_at_numbers(fields.cluster, fields.client, fields.request);
-        look_at_operation(&fields.operation);
-    }
-}
-
 // What happens at lines, one after the other.
 #[tactic(auto, using(crate::proofs::Goings::goings))]
 fn happen_all(
@@ -83,7 +47,6 @@ fn happen_all(
     ensures asked { OnOk result (HaveAsked lines.now) }
 {
     for line in lines {
-        look_at(line);
         members.happen(alloc, line, to)?;
     }
     Ok(())
@@ -148,29 +111,30 @@ impl World {
     }
 
     /// What happens at one line. An `Err` stops the group.
+    #[tactic(auto, using(crate::proofs::Numbering::outputs_alone))]
     pub fn step(&mut self, alloc: Global, line: &Line) -> Result<Outputs, NoMemory>
         requires live { self.old.live ≡ true }
         requires of { IsLineOf self.old.world.n line.now }
         ensures world { OnOk result (self.new.world ≡ (happens hazards self.old.world (happening line.now)).world) }
-        ensures outputs { IfOk result (λ o. o ≡ numbered (length self.old.world.sent) (happens hazards self.old.world (happening line.now)).outputs) }
+        ensures outputs { IfOk result (λ o. o ≡ outputs_of (numbered (length self.old.world.sent) (happens hazards self.old.world (happening line.now)).outputs)) }
         ensures live { OnOk result (self.new.live ≡ true) }
         ensures stopped { OnErr result (self.new.live ≡ false) }
     {
         self.live = false;
-        let mut outputs = Seq::new(alloc);
+        let mut outputs = Outputs::new(alloc);
         self.members.happen(alloc, line, &mut outputs)?;
         self.live = true;
         Ok(outputs)
     }
 
     /// What happens at lines of a group, one after the other. An `Err` stops the group.
-    #[tactic(auto, using(crate::proofs::Headline::just_made))]
+    #[tactic(auto, using(crate::proofs::Headline::just_made, crate::proofs::Numbering::outputs_alone))]
     pub fn run(&mut self, alloc: Global, lines: &[Line]) -> Result<Outputs, NoMemory>
         requires live { self.old.live ≡ true }
         requires group { 0 < self.old.world.n }
         requires of { AreLinesOf self.old.world.n lines.now }
         ensures world { OnOk result (self.new.world ≡ (happen hazards self.old.world (happenings lines.now)).world) }
-        ensures outputs { IfOk result (λ o. o ≡ numbered (length self.old.world.sent) (happen hazards self.old.world (happenings lines.now)).outputs) }
+        ensures outputs { IfOk result (λ o. o ≡ outputs_of (numbered (length self.old.world.sent) (happen hazards self.old.world (happenings lines.now)).outputs)) }
         ensures live { OnOk result (self.new.live ≡ true) }
         ensures stopped { OnErr result (self.new.live ≡ false) }
 
@@ -178,7 +142,7 @@ impl World {
         ensures headline { OnOk result (IsJustMade self.old.world → length lines.now < 2 ^ 60 → LinesKeepOneLog self.old.world.n lines.now) }
     {
         self.live = false;
-        let mut outputs = Seq::new(alloc);
+        let mut outputs = Outputs::new(alloc);
         happen_all(&mut self.members, alloc, lines, &mut outputs)?;
         self.live = true;
         Ok(outputs)

@@ -1,5 +1,5 @@
 //! Worked rows through the whole run, and what no clause says.
-use crate::running::{Ending, check, check_end, check_row, executed, ran, replayed, replayed_to};
+use crate::running::{check, check_end, check_row, executed, ran, replayed, replayed_to};
 use std::alloc::{AllocError, Global};
 use std::process::Abort;
 use std::test::Fail;
@@ -196,19 +196,6 @@ fn long_schedule(alloc: Global, deliveries: u32) -> Result<Vec<u8>, AllocError> 
 fn an_empty_schedule_is_refused(rt: HostRuntime) -> Result<(), Fail> {
     let played = replayed(rt.alloc(), b"")?;
     check(&rt, played, Status::Refused(1), "", b"");
-    Ok(())
-}
-
-/// A schedule of one redirect and so many deliveries.
-fn replayed_long(alloc: Global, deliveries: u32) -> Result<Ending, AllocError> {
-    let schedule = long_schedule(alloc, deliveries)?;
-    replayed(alloc, &schedule)
-}
-
-#[test]
-fn a_schedule_has_a_million_lines_at_most(rt: HostRuntime) -> Result<(), Fail> {
-    let played = replayed_long(rt.alloc(), 999_999)?;
-    check(&rt, played, Status::Refused(1_000_001), REDIRECTED, b"");
     Ok(())
 }
 

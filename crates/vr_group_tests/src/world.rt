@@ -1,38 +1,24 @@
 //! A group alone, without a source and a sink.
-use std::alloc::{AllocError, Global};
+use std::alloc::Global;
 use std::process::Abort;
 use std::test::Fail;
-use vr_base::{ByteList, Seq};
-use vr_group::{Numbered, World};
+use vr_base::ByteList;
+use vr_group::World;
 use vr_lines::parse_line;
-use vr_sched::write_text;
 
-/// The text of outputs, behind what stands.
-fn tell(outputs: &[Numbered], text: &mut ByteList) -> Result<(), AllocError> {
-    for put in outputs {
-        write_text(put.number, &put.output, text)?;
-    }
-    Ok(())
-}
-
-/// What a group puts out at one line of text after the other, and whether it goes on.
-fn stepped(
-    rt: &impl Abort,
-    alloc: Global,
-    n: u8,
-    lines: &[&str],
-    text: &mut ByteList,
-) -> Result<(), Fail> {
+/// The text of what a group puts out at one line after the other. It goes on.
+fn stepped(rt: &impl Abort, alloc: Global, n: u8, lines: &[&str]) -> Result<ByteList, Fail> {
     assert!(rt; 2 <= n && n <= 6);
     let mut world = World::new(alloc, n)?;
+    let mut text = ByteList::new(alloc);
     for line in lines {
         assert!(rt; world.live() && world.size() == n);
         let line = parse_line(alloc, n, line.as_bytes())?;
         let outputs = world.step(alloc, &line)?;
-        tell(outputs.as_slice(), text)?;
+        text.extend(outputs.text.as_slice())?;
     }
     assert!(rt; world.live());
-    Ok(())
+    Ok(text)
 }
 
 /// Row by row, as a replay of the same lines would put it out.
@@ -66,8 +52,7 @@ fn a_group_goes_on_line_by_line(rt: HostRuntime) -> Result<(), Fail> {
         ),
     ];
     for (n, lines, want) in rows {
-        let mut text = Seq::new(alloc);
-        stepped(&rt, alloc, n, lines, &mut text)?;
+        let text = stepped(&rt, alloc, n, lines)?;
         assert_eq!(rt; text.as_slice(), want.as_bytes());
     }
     Ok(())

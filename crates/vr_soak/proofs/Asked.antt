@@ -15,7 +15,7 @@ use Rattle.vr_group.specs.Headline.{HasAsked, HaveAsked}
 use Rattle.vr_group.specs.Lines.{AreLinesOf}
 use Rattle.vr_msg.specs.declared.output.Output.{Output}
 use Rattle.vr_draws.proofs.Texts.{key_text, value_text}
-use Rattle.vr_draws.specs.Asking.{answers, greatest, next_behind, next_request, next_requests}
+use Rattle.vr_draws.specs.Asking.{answers, next_behind, next_request, next_requests}
 use Rattle.vr_draws.specs.Draws.{Drawn, after_draws, draw}
 use Rattle.vr_draws.specs.Drawn.{at_replica, at_sector, drawn_asking, drawn_delivery, drawn_kind, drawn_line, drawn_operation, drawn_request, key, value}
 use Rattle.vr_soak.specs.Made.{Made, come_to, line_after, made, with_line}

@@ -12,8 +12,8 @@ use Rattle.vr_lines.specs.declared.line.Line.{Line}
 use Rattle.vr_rules.specs.Lying.{Lying, hazards}
 use Rattle.vr_rules.specs.World.{Happened, World, fresh_world, happen, happens, messages}
 use Rattle.vr_group.specs.Lines.{happening, happenings}
-use Rattle.vr_group.specs.Outputs.{numbered, plain}
-use Rattle.vr_group.specs.declared.outputs.Numbered.{Numbered}
+use Rattle.vr_group.specs.Outputs.{numbered, outputs_of, plain, text_of}
+use Rattle.vr_group.specs.declared.outputs.Outputs.{Outputs}
 use Rattle.vr_group.proofs.Goings.{grows_one, happen_append, happen_one, messages_append, numbered_append}
 use Rattle.vr_group.specs.Views.{top_view}
 use Rattle.vr_soak.specs.declared.heard.Heard.{Heard}
@@ -22,7 +22,7 @@ use Rattle.vr_soak.specs.Heard.{HasHeard, Hears}
 use Rattle.vr_soak.specs.Made.{Made, come_to, line_after, made, size_of, with_line}
 use Rattle.vr_soak.specs.declared.summary.Summary.{Summary}
 use Rattle.vr_soak.specs.Soaking.{IsSoaking}
-use Rattle.vr_soak.specs.Summing.{is_commit, is_done, is_kept_out, summary_of, text_of}
+use Rattle.vr_soak.specs.Summing.{is_commit, is_done, is_kept_out, summary_of}
 use Rattle.vr_msg.specs.declared.output.Output.{Output}
 use Rattle.vr_soak.proofs.Hearing.{plain_numbered}
 
@@ -97,7 +97,7 @@ drawn_same n number k s i =
     let h = come_to n (made n number k).lines in
     ap (λ a. drawn_line a (length s.group.world.sent) s.heard.requests s.generator.number) i.size
     ∙ ap (λ (a : World Lying). drawn_line n (length a.sent) s.heard.requests s.generator.number) i.world
-    ∙ ap (λ a. drawn_line n (length h.world.sent) a s.generator.number) (i.heard.requests ∙ ap next_requests (plain_numbered 0 h.outputs))
+    ∙ ap (λ a. drawn_line n (length h.world.sent) a s.generator.number) (i.heard.counts.requests ∙ ap next_requests (plain_numbered 0 h.outputs))
     ∙ ap (λ a. drawn_line n (length h.world.sent) (next_requests h.outputs) a) i.drawn
 
 -- a line more, by what it comes to
@@ -119,12 +119,12 @@ steps n number k s l i is =
       outputs = ap (λ x. (come_to n x).outputs) e ∙ c.outputs ∙ ap (λ (w : World Lying). h.outputs ++ (happens hazards w (happening l)).outputs) (sym i.world);
     }
 
-pub soaking_more : (n number k : ℕ) (s t : Soaking) (l : Line) (put : List Numbered) → 0 < s.group.world.n
+pub soaking_more : (n number k : ℕ) (s t : Soaking) (l : Line) (put : Outputs) → 0 < s.group.world.n
     → l ≡ (drawn_line s.group.world.n (length s.group.world.sent) s.heard.requests s.generator.number).value
     → t.generator.number ≡ (drawn_line s.group.world.n (length s.group.world.sent) s.heard.requests s.generator.number).number
     → IsLineOf s.group.world.n l
     → t.group.world ≡ (happens hazards s.group.world (happening l)).world
-    → put ≡ numbered (length s.group.world.sent) (happens hazards s.group.world (happening l)).outputs
+    → put ≡ outputs_of (numbered (length s.group.world.sent) (happens hazards s.group.world (happening l)).outputs)
     → Hears s.heard t.heard put
     → IsSoaking n number k s → IsSoaking n number (k + 1) t
 soaking_more n number k s t l put some is next fits world outputs heard i =
@@ -138,13 +138,14 @@ soaking_more n number k s t l put some is next fits world outputs heard i =
     let before = i.sent in
     let count : length t.group.world.sent ≡ length (messages (h.outputs ++ y.outputs)) = omega (arith, sent, all, before) in
     let place : 0 + length (messages h.outputs) ≡ length s.group.world.sent = omega (arith, before) in
-    let text : numbered 0 (h.outputs ++ y.outputs) ≡ numbered 0 h.outputs ++ put = numbered_append 0 h.outputs y.outputs ∙ ap (λ p. numbered 0 h.outputs ++ numbered p y.outputs) place ∙ ap (λ p. numbered 0 h.outputs ++ p) (sym outputs) in
+    let now = numbered (length s.group.world.sent) y.outputs in
+    let all_put : numbered 0 (h.outputs ++ y.outputs) ≡ numbered 0 h.outputs ++ now = numbered_append 0 h.outputs y.outputs ∙ ap (λ p. numbered 0 h.outputs ++ numbered p y.outputs) place in
     record {
       size = ap (λ (w : World Lying). w.n) world ∙ g.size ∙ i.size;
       drawn = next ∙ ap (λ (d : Drawn Line). d.number) (drawn_same n number k s i) ∙ sym (ap (λ (a : Made). a.number) (made_more n number k));
       world = world ∙ sym x.world;
       sent = count ∙ ap (λ os. length (messages os)) (sym x.outputs);
-      heard = subst (HasHeard t.heard) (sym (ap (numbered 0) x.outputs ∙ text)) (heard (numbered 0 h.outputs) i.heard);
+      heard = subst (HasHeard t.heard) (sym (ap (numbered 0) x.outputs ∙ all_put)) (heard now outputs (numbered 0 h.outputs) i.heard);
     }
 
 pub size_kept : (s t : World Lying) (l : Line) → 0 < s.n → IsLineOf s.n l → t ≡ (happens hazards s (happening l)).world → t.n ≡ s.n
@@ -163,7 +164,7 @@ summed n number k s sum i name =
     let h = come_to n (made n number k).lines in
     let counts : (f : Output → Bool) → count_by f (plain (numbered 0 h.outputs)) ≡ count_by f h.outputs = (λ f. ap (count_by f) (plain_numbered 0 h.outputs)) in
     ap (λ (w : World Lying). summary_with k (length w.sent) s.heard.commits (top_view w) s.heard.faults.done s.heard.faults.kept_out sum) i.world
-    ∙ ap (λ c. summary_with k (length h.world.sent) c (top_view h.world) s.heard.faults.done s.heard.faults.kept_out sum) (i.heard.commits ∙ counts is_commit)
-    ∙ ap (λ c. summary_with k (length h.world.sent) (count_by is_commit h.outputs) (top_view h.world) c s.heard.faults.kept_out sum) (i.heard.done ∙ counts is_done)
-    ∙ ap (λ c. summary_with k (length h.world.sent) (count_by is_commit h.outputs) (top_view h.world) (count_by is_done h.outputs) c sum) (i.heard.kept_out ∙ counts is_kept_out)
+    ∙ ap (λ c. summary_with k (length h.world.sent) c (top_view h.world) s.heard.faults.done s.heard.faults.kept_out sum) (i.heard.counts.commits ∙ counts is_commit)
+    ∙ ap (λ c. summary_with k (length h.world.sent) (count_by is_commit h.outputs) (top_view h.world) c s.heard.faults.kept_out sum) (i.heard.counts.done ∙ counts is_done)
+    ∙ ap (λ c. summary_with k (length h.world.sent) (count_by is_commit h.outputs) (top_view h.world) (count_by is_done h.outputs) c sum) (i.heard.counts.kept_out ∙ counts is_kept_out)
     ∙ ap (summary_with k (length h.world.sent) (count_by is_commit h.outputs) (top_view h.world) (count_by is_done h.outputs) (count_by is_kept_out h.outputs)) (name (text_of (numbered 0 h.outputs)) i.heard.text)

@@ -1,17 +1,14 @@
 -- What a schedule comes to, in few numbers.
 use Rattle.std.specs.Prelude.{ℕ, Bool, true, false, List, ◌++◌, codes, count_by, length}
 use Rattle.std.specs.Fmt.{decimal}
-use Rattle.std.specs.List.{flat_map}
 use Rattle.hex.specs.Hex.{encode_lower}
 use Rattle.vr_base.specs.Bytes.{name_of}
-use Rattle.vr_group.specs.declared.outputs.Numbered.{Numbered}
-use Rattle.vr_group.specs.Outputs.{numbered}
+use Rattle.vr_group.specs.Outputs.{numbered, text_of}
 use Rattle.vr_group.specs.Views.{top_view}
 use Rattle.vr_msg.specs.declared.output.Output.{Output}
 use Rattle.vr_msg.specs.declared.output.Output.TheVariants as output
 use Rattle.vr_rules.specs.Lying.{Lying}
 use Rattle.vr_rules.specs.World.{Happened}
-use Rattle.vr_sched.specs.Text.{line_text}
 use Rattle.vr_soak.specs.declared.summary.Faults.{Faults}
 use Rattle.vr_soak.specs.declared.summary.Summary.{Summary}
 use Rattle.vr_soak.specs.Made.{come_to, lines_from, size_of}
@@ -27,10 +24,6 @@ is_done _ = false
 abbrev pub is_kept_out : Output → Bool
 is_kept_out output.KeptOut = true
 is_kept_out _ = false
-
--- the text of outputs, a line each
-unfoldable pub text_of : List Numbered → List ℕ
-text_of outputs = flat_map (λ o. line_text o.number o.output) outputs
 
 -- of so many lines: its messages, its lines of operations that are applied, the greatest view of its replicas, its faults, and the name of
 -- the whole text of its outputs

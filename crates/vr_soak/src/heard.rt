@@ -1,17 +1,15 @@
 //! What was heard of the outputs so far.
 ghost use Rattle.sha2.specs.Hashers.{Holds256};
-ghost use Rattle.std.specs.Prelude.{◌≡◌, ◌+◌, ◌∷◌, [], ℕ, List, IfOk, OnOk};
+ghost use Rattle.std.specs.Prelude.{◌≡◌, ◌+◌, ◌++◌, ◌∷◌, [], ℕ, List, IfOk, OnOk};
 ghost use Rattle.vr_base.specs.Bytes.{name_of};
-ghost use Rattle.vr_soak.specs.Heard.{HasCounted, HasHeard, Hears, Takes};
+ghost use Rattle.vr_soak.specs.Heard.{Counts, HasCounted, HasHeard, Hears, HearsPuts};
 
 use crate::Faults;
 use sha2::{Digest, Sha256};
-use std::alloc::{AllocError, Global};
-use vr_base::{ByteList, NoMemory, Sum};
+use vr_base::{NoMemory, Sum};
 use vr_draws::Requests;
-use vr_group::Numbered;
+use vr_group::{Outputs, Put};
 use vr_msg::Output;
-use vr_sched::write_text;
 
 /// What was heard of the outputs so far; none of them is kept.
 #[derive(Drop)]
@@ -23,8 +21,6 @@ pub struct Heard {
     pub faults: Faults,
     /// It has taken the text of all outputs.
     pub hasher: Sha256,
-    /// Room for the text of one output.
-    pub line: ByteList,
 }
 
 /// One more; a count at its end has no room.
@@ -39,8 +35,8 @@ fn one_more(count: u64) -> Result<u64, NoMemory>
 
 impl Heard {
     /// Nothing was heard yet.
-    #[tactic(auto, using(std::proofs::lemmas::Grind::common_steps, crate::proofs::Hearing::text_none))]
-    pub fn new(alloc: Global) -> Heard
+    #[tactic(auto, using(std::proofs::lemmas::Grind::common_steps, vr_group::proofs::Numbering::text_none))]
+    pub fn new() -> Heard
         ensures { HasHeard result [] }
     {
         Heard {
@@ -51,7 +47,6 @@ impl Heard {
                 kept_out: 0,
             },
             hasher: Sha256::new(),
-            line: ByteList::new(alloc),
         }
     }
 
@@ -70,36 +65,38 @@ impl Heard {
         Ok(())
     }
 
-    /// Takes the text of an output.
-    fn sum_up(&mut self, put: &Numbered) -> Result<(), AllocError>
-        ensures text { OnOk result (Takes self.old self.new put.now) }
-        ensures requests { self.new.requests ≡ self.old.requests }
-        ensures commits { self.new.commits ≡ self.old.commits }
-        ensures faults { self.new.faults ≡ self.old.faults }
+    /// One more is put out.
+    fn hear_put(&mut self, put: &Put) -> Result<(), NoMemory>
+        ensures counts { OnOk result (HearsPuts self.old self.new (put.now ∷ [])) }
+        ensures hasher { self.new.hasher ≡ self.old.hasher }
     {
-        self.line.clear();
-        write_text(put.number, &put.output, &mut self.line)?;
-        self.hasher.update(self.line.as_slice());
+        match put {
+            Put::Message(_) => {}
+            Put::Other(output) => {
+                self.count(output)?;
+                self.requests.hear(output);
+            }
+        }
         Ok(())
     }
 
-    /// One more output.
-    fn hear(&mut self, put: &Numbered) -> Result<(), NoMemory>
-        ensures { OnOk result (Hears self.old self.new (put.now ∷ [])) }
+    /// More are put out.
+    fn hear_puts(&mut self, puts: &[Put]) -> Result<(), NoMemory>
+        ensures counts { OnOk result (HearsPuts self.old self.new puts.now) }
+        ensures hasher { self.new.hasher ≡ self.old.hasher }
     {
-        self.count(&put.output)?;
-        self.sum_up(put)?;
-        self.requests.hear(&put.output);
+        for put in puts {
+            self.hear_put(put)?;
+        }
         Ok(())
     }
 
     /// More outputs.
-    pub fn hear_all(&mut self, outputs: &[Numbered]) -> Result<(), NoMemory>
+    pub fn hear(&mut self, outputs: &Outputs) -> Result<(), NoMemory>
         ensures { OnOk result (Hears self.old self.new outputs.now) }
     {
-        for put in outputs {
-            self.hear(put)?;
-        }
+        self.hear_puts(outputs.puts.as_slice())?;
+        self.hasher.update(outputs.text.as_slice());
         Ok(())
     }
 

@@ -29,7 +29,7 @@ impl Soaking {
         let mut generator = Generator::new(seed);
         let n = generator.size();
         let group = World::new(alloc, n)?;
-        let heard = Heard::new(alloc);
+        let heard = Heard::new();
         Ok(Soaking {
             group,
             generator,
@@ -51,7 +51,7 @@ impl Soaking {
             .generator
             .line(alloc, n, messages, &self.heard.requests)?;
         let outputs = self.group.step(alloc, &line)?;
-        self.heard.hear_all(outputs.as_slice())?;
+        self.heard.hear(&outputs)?;
         Ok(())
     }
 
@@ -61,7 +61,7 @@ impl Soaking {
         ensures live { IfOk result (λ s. s.group.live ≡ true) }
     {
         let mut soaking = Soaking::new(alloc, seed)?;
-        for number in 0..count {
+        for _ in 0..count {
             soaking.step(alloc)?;
         }
         Ok(soaking)

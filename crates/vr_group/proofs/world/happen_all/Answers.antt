@@ -12,6 +12,6 @@ happen-requires c = going_fits c.args.lines.now c.loop-line.line-index c.line-it
 pub loop-line-preserved : goal.loop-line-preserved
 loop-line-preserved c =
     record {
-      going = going_more c.args.lines.now c.loop-line.line-index c.line-item.result _ _ _ _ _ _ c.requires.group c.requires.of c.loop-line-test.true c.line-item.is c.loop-line.invariant.going c.in_ok-happen.ensures;
-      asked = asked_more c.args.lines.now c.loop-line.line-index c.line-item.result c.loop-line-test.true c.line-item.is c.loop-line.invariant.asked c.look_at.ensures;
+      going = going_more c.args.lines.now c.loop-line.line-index c.line-item.result _ _ _ _ _ _ c.requires.group c.requires.of c.loop-line-test.true c.line-item.is c.loop-line.invariant.going c.in_ok-happen.ensures.happened;
+      asked = asked_more c.args.lines.now c.loop-line.line-index c.line-item.result c.loop-line-test.true c.line-item.is c.loop-line.invariant.asked c.in_ok-happen.ensures.asked;
     }

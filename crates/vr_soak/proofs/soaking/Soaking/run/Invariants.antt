@@ -4,9 +4,9 @@ use Rattle.vr_soak.specs.Made.{size_of}
 use Rattle.vr_soak.specs.Soaking.{IsSoaking}
 use Rattle.vr_soak.proofs.soaking.Soaking.run.Given as goal
 
-abbrev pub invariant-loop-number : goal.invariant-loop-number
-invariant-loop-number l = record {
-  soaking : IsSoaking (size_of l.seed) (drawn_size l.seed).number l.number l.soaking;
+abbrev pub invariant-loop : goal.invariant-loop
+invariant-loop l = record {
+  soaking : IsSoaking (size_of l.seed) (drawn_size l.seed).number l.counter l.soaking;
   live : l.soaking.group.live ≡ true;
   size : 0 < l.soaking.group.world.n;
 }

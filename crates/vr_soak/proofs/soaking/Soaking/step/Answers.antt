@@ -8,8 +8,7 @@ returns-clause-soaking c = λ n number count i.
     let line = rw (size, messages) at c.in_ok-line.ensures.line in
     let next = rw (size, messages) at c.in_ok-line.ensures.number in
     let fits = rw size at c.in_ok-line.ensures.fits in
-    let heard = rw c.as_slice.ensures at c.in_ok-hear_all.ensures in
-    soaking_more n number count c.args.self.now _ c.in_ok-line.line c.in_ok-outputs.outputs c.requires.size line next fits c.in_ok-outputs.ensures.world c.in_ok-outputs.ensures.outputs heard i
+    soaking_more n number count c.args.self.now _ c.in_ok-line.line c.in_ok-outputs.outputs c.requires.size line next fits c.in_ok-outputs.ensures.world c.in_ok-outputs.ensures.outputs c.in_ok-hear.ensures i
 
 pub returns-clause-size : goal.returns-clause-size
 returns-clause-size c =
