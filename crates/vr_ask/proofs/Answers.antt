@@ -37,6 +37,7 @@ put_unwritten a t t' before now status.SuperLost w = absurd w
 put_unwritten a t t' before now (status.OtherMember x y) w = absurd w
 put_unwritten a t t' before now status.Occupied w = absurd w
 put_unwritten a t t' before now status.NoAnswer w = absurd w
+put_unwritten a t t' before now status.SpawnFault w = absurd w
 
 -- an answer that came
 abbrev pub Came : Client → ℕ → Operation → Stand → Stand → Result Answer AskFault → Type 0
@@ -65,6 +66,7 @@ exchanged c number operation s s' b n a (Err status.SuperLost) came put = absurd
 exchanged c number operation s s' b n a (Err (status.OtherMember x y)) came put = absurd put
 exchanged c number operation s s' b n a (Err status.Occupied) came put = absurd put
 exchanged c number operation s s' b n a (Err status.NoAnswer) came put = absurd put
+exchanged c number operation s s' b n a (Err status.SpawnFault) came put = absurd put
 
 -- an ask without an answer
 pub unanswered : (c : Client) (number : ℕ) (operation : Operation) (s s' : Stand) (b n : Faults) (f : AskFault)

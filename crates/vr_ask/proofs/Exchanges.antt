@@ -36,6 +36,7 @@ heard number r r' line (Err status.SuperLost) read j = absurd j
 heard number r r' line (Err (status.OtherMember x y)) read j = absurd j
 heard number r r' line (Err status.Occupied) read j = absurd j
 heard number r r' line (Err status.NoAnswer) read j = absurd j
+heard number r r' line (Err status.SpawnFault) read j = absurd j
 
 -- a judgement is no failed read
 pub judged_counts : (number : ℕ) (line : List ℕ) (before now : ℕ) (result : Result Operation Status) → now ≡ before → Judges number line result → CountsLine before now result
@@ -53,6 +54,7 @@ judged_counts number line before now (Err status.SuperLost) e j = e
 judged_counts number line before now (Err (status.OtherMember x y)) e j = e
 judged_counts number line before now (Err status.Occupied) e j = e
 judged_counts number line before now (Err status.NoAnswer) e j = e
+judged_counts number line before now (Err status.SpawnFault) e j = e
 
 -- a read that failed, or want of memory
 pub stopped : (number : ℕ) (r r' : Reading) (s : LineStop) → Breaks r.rest r.left r'.rest r'.left → StopsAt number r r' (stop_status s)
@@ -87,6 +89,7 @@ exchange_counts c number s s' b n operation before now (Err status.SuperLost) e 
 exchange_counts c number s s' b n operation before now (Err (status.OtherMember x y)) e w = e
 exchange_counts c number s s' b n operation before now (Err status.Occupied) e x = e
 exchange_counts c number s s' b n operation before now (Err status.NoAnswer) e x = e
+exchange_counts c number s s' b n operation before now (Err status.SpawnFault) e x = e
 
 -- ---- lines one after the other
 
@@ -150,6 +153,7 @@ ends_later c number operation s s' b m n status.DiskFault l w e = absurd e
 ends_later c number operation s s' b m n status.SuperLost l w e = absurd e
 ends_later c number operation s s' b m n (status.OtherMember x y) l w e = absurd e
 ends_later c number operation s s' b m n status.Occupied l w e = absurd e
+ends_later c number operation s s' b m n status.SpawnFault l w e = absurd e
 
 pub stops_later : (c : Client) (number : ℕ) (r : Reading) (s : Stand) (r' : Reading) (s' : Stand) (b m n : Faults) (status : Status)
     → b.link ≤ m.link → b.write ≤ m.write → ((s' ≡ s) × StopsAt number r r' status) ⊎ EndsAt c number r s r' s' m n status

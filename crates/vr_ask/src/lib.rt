@@ -6,4 +6,5 @@ mod lines;
 mod running;
 mod text;
 
+pub use asking::exchange;
 pub use running::run_client;

@@ -25,6 +25,8 @@ fn forms_are_commands(rt: HostRuntime) -> Result<(), Fail> {
         "node 5 0 f 2 a --fresh b",
         "node 18446744073709551615 5 f 0 a b c d e f",
         "client 5 7 3 a b",
+        "trial 5 20 f a b c",
+        "trial 0 18446744073709551615 f a b c d e f",
     ] {
         assert!(rt; parse(alloc, words(alloc, line)?.as_slice()).is_ok());
     }
@@ -54,6 +56,12 @@ fn other_words_are_none(rt: HostRuntime) -> Result<(), Fail> {
         "client 5 0 3 a b",
         "client 5 7 3 a b --fresh",
         "client 5 7 3 a b -h",
+        "trial 5 20 f a",
+        "trial 5 20 f a b c d e f g",
+        "trial 5 020 f a b",
+        "trial 18446744073709551616 20 f a b",
+        "trial 5 20 f a b --fresh",
+        "trial 5 20",
     ] {
         assert!(rt; parse(alloc, words(alloc, line)?.as_slice()) == Err(WordsFault::Usage));
     }
@@ -69,5 +77,11 @@ fn values_are_read(rt: HostRuntime) -> Result<(), Fail> {
     };
     assert!(rt; node.cluster == 5 && node.replica == 1 && node.turns == 2 && node.is_fresh);
     assert!(rt; node.file.as_str() == "f" && node.peers.len() == 2);
+    let Ok(Command::Trial(trial)) = parse(alloc, words(alloc, "trial 5 20 f a b c")?.as_slice())
+    else {
+        return Err(Fail::from("no trial"));
+    };
+    assert!(rt; trial.cluster == 5 && trial.turns == 20);
+    assert!(rt; trial.files.as_str() == "f" && trial.peers.len() == 3);
     Ok(())
 }

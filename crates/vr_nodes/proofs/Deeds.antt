@@ -105,6 +105,7 @@ has_served turns first node o o' b n status.SuperLost e = absurd e
 has_served turns first node o o' b n (status.OtherMember found asked) e = absurd e
 has_served turns first node o o' b n status.Occupied e = absurd e
 has_served turns first node o o' b n status.NoAnswer e = absurd e
+has_served turns first node o o' b n status.SpawnFault e = absurd e
 
 pub runs_deeds : (fresh : Bool) (c : Config) (turns : ℕ) (o o' : Outside) (before now : Counts) (s : Status) → Ran fresh c turns o o' before now s → HasDeeds fresh c o o'
 runs_deeds fresh c turns o o' before now s r =

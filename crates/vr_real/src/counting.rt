@@ -1,5 +1,5 @@
 //! Counts of faults.
-ghost use Rattle.std.specs.Prelude.{◌≡◌, ◌+◌, ◌-◌, ◌^◌, OnOk, OnErr, is_ok, min};
+ghost use Rattle.std.specs.Prelude.{◌≡◌, ◌+◌, ◌-◌, ◌^◌, IfOk, Ok, OnOk, OnErr, is_ok, min};
 ghost use Rattle.vr_base.specs.Causes.{HasCause};
 
 /// The outcome with an error of ours in the place of the system's. An error adds one to the count, which stays at its
@@ -9,6 +9,7 @@ where
     F: Drop,
     ensures cause { HasCause faults.old faults.new result }
     ensures same { is_ok result ≡ is_ok outcome }
+    ensures value { IfOk result (λ value. outcome ≡ Ok value) }
     ensures stays { OnOk result (faults.new ≡ faults.old) }
     ensures one { OnErr result (faults.new ≡ min (faults.old + 1) (2 ^ 64 - 1)) }
 {

@@ -1,5 +1,5 @@
 //! Which port stands for which address.
-ghost use Rattle.std.specs.Prelude.{◌≡◌};
+ghost use Rattle.std.specs.Prelude.{◌≡◌, ◌≤◌};
 
 use std::alloc::{AllocError, Global};
 use std::net::SocketAddr;
@@ -17,7 +17,9 @@ pub struct Ports {
 }
 
 /// The number of a port.
-fn number(place: usize) -> u32 {
+pub fn number(place: usize) -> u32
+    ensures { result ≤ place }
+{
     u32::try_from(place).unwrap_or(u32::MAX)
 }
 

@@ -1,8 +1,9 @@
 //! Streams over TCP.
-ghost use Rattle.std.specs.Prelude.{◌≡◌, ◌≤◌, IfOk, IfSome, None, length};
-ghost use Rattle.vr_edge.specs.Streaming.{IsPolled};
+ghost use Rattle.std.specs.Prelude.{◌≡◌, ◌≤◌, ◌+◌, ℕ, IfOk, IfSome, OnOk, OnErr, None, length, vec_len};
+ghost use Rattle.vr_edge.specs.Streaming.{IsPolled, IsPort};
 
 use crate::counting::counted;
+use crate::ports::number;
 use mio::net::{TcpListener, TcpStream};
 use mio::{Events, Interest, Poll, Token};
 use std::alloc::{AllocError, Global};
@@ -47,6 +48,7 @@ pub struct TcpStreams<R> {
     next: usize,
     faults: u64,
     call_faults: u64,
+    ghost few: { vec_len slots ≤ vec_len peers + 64 },
 }
 
 /// The first address that a text names behind its prefix.
@@ -61,11 +63,9 @@ fn address_of<R: Net>(net: &R, text: &str) -> io::Result<SocketAddr> {
 }
 
 /// The addresses of all texts.
-fn addresses_of<R: Net>(
-    alloc: Global,
-    net: &R,
-    texts: &Vec<String>,
-) -> io::Result<Vec<SocketAddr>> {
+fn addresses_of<R: Net>(alloc: Global, net: &R, texts: &Vec<String>) -> io::Result<Vec<SocketAddr>>
+    ensures { IfOk result (λ addresses. vec_len addresses ≡ vec_len texts.now) }
+{
     let mut addresses = Vec::new(alloc);
     for text in texts.iter() {
         addresses.push(address_of(net, text.as_str())?)?;
@@ -74,7 +74,9 @@ fn addresses_of<R: Net>(
 }
 
 /// So many ports without a stream.
-fn empty_slots(alloc: Global, count: usize) -> Result<Vec<Slot>, AllocError> {
+fn empty_slots(alloc: Global, count: usize) -> Result<Vec<Slot>, AllocError>
+    ensures { IfOk result (λ slots. vec_len slots ≡ count) }
+{
     let mut slots = Vec::new(alloc);
     for _ in 0..count {
         slots.push(Slot {
@@ -95,7 +97,7 @@ impl Slot {
     /// What its stream has; `None` where nothing is there.
     fn read(&mut self, port: u32, to: &mut [u8]) -> Option<Polled>
         requires { length to.old ≡ STREAM_ROOM }
-        ensures { IfSome result IsPolled }
+        ensures { (peers : ℕ) → IsPort peers port → IfSome result (IsPolled peers) }
     {
         if !self.ready {
             return None;
@@ -126,15 +128,15 @@ impl Slot {
 /// What one of the streams has, the first one from a place on.
 fn read_ready(slots: &mut Vec<Slot>, next: &mut usize, to: &mut [u8]) -> Option<Polled>
     requires { length to.old ≡ STREAM_ROOM }
-    ensures { IfSome result IsPolled }
+    ensures bound { (peers : ℕ) → vec_len slots.old ≤ peers + 64 → IfSome result (IsPolled peers) }
+    ensures same { vec_len slots.new ≡ vec_len slots.old }
 {
     let count = slots.len();
     for _ in 0..count {
         let at = if *next < count { *next } else { 0 };
         *next = at.saturating_add(1);
         if let Some(slot) = slots.get_mut(at) {
-            let port = u32::try_from(at).unwrap_or(u32::MAX);
-            if let Some(polled) = slot.read(port, to) {
+            if let Some(polled) = slot.read(number(at), to) {
                 return Some(polled);
             }
         }
@@ -142,8 +144,34 @@ fn read_ready(slots: &mut Vec<Slot>, next: &mut usize, to: &mut [u8]) -> Option<
     None
 }
 
+/// Notes at which ports something may be there, and says whether streams wait to be taken in.
+fn note(events: &Events, slots: &mut Vec<Slot>) -> bool
+    ensures { vec_len slots.new ≡ vec_len slots.old }
+{
+    let mut waiting = false;
+    for event in events.iter() {
+        let Token(at) = event.token();
+        waiting = waiting || at == ENTRANCE;
+        if let Some(slot) = slots.get_mut(at) {
+            slot.ready = true;
+        }
+    }
+    waiting
+}
+
+/// Puts a stream at a port.
+fn put_stream(slots: &mut Vec<Slot>, at: usize, stream: TcpStream)
+    ensures { vec_len slots.new ≡ vec_len slots.old }
+{
+    if let Some(slot) = slots.get_mut(at) {
+        slot.stream = Some(stream);
+    }
+}
+
 /// Takes in the streams that wait, as long as there is a port for them.
-fn take_in(poll: &Poll, listener: &TcpListener, slots: &mut Vec<Slot>, peers: usize) {
+fn take_in(poll: &Poll, listener: &TcpListener, slots: &mut Vec<Slot>, peers: usize)
+    ensures { vec_len slots.new ≡ vec_len slots.old }
+{
     for at in peers..slots.len() {
         if let Some(slot) = slots.get_mut(at) {
             if slot.stream.is_none() {
@@ -193,6 +221,7 @@ impl<R: Drop> TcpStreams<R> {
 
     /// Waits a little until something is there; a signal that comes ends the wait.
     fn wait(&mut self) -> io::Result<()>
+        ensures attached { vec_len self.new.peers ≡ vec_len self.old.peers }
         ensures faults { self.new.faults ≡ self.old.faults }
         ensures others { self.new.call_faults ≡ self.old.call_faults }
     {
@@ -204,14 +233,7 @@ impl<R: Drop> TcpStreams<R> {
             Err(error) if error.kind() == ErrorKind::Interrupted => return Ok(()),
             Err(error) => return Err(error),
         }
-        let mut waiting = false;
-        for event in self.events.iter() {
-            let Token(at) = event.token();
-            waiting = waiting || at == ENTRANCE;
-            if let Some(slot) = self.slots.get_mut(at) {
-                slot.ready = true;
-            }
-        }
+        let waiting = note(&self.events, &mut self.slots);
         if let (true, Some(listener)) = (waiting, &self.listener) {
             take_in(poll, listener, &mut self.slots, self.peers.len());
         }
@@ -221,7 +243,8 @@ impl<R: Drop> TcpStreams<R> {
     /// What comes next.
     fn find(&mut self, to: &mut [u8]) -> io::Result<Polled>
         requires { length to.old ≡ STREAM_ROOM }
-        ensures bound { IfOk result IsPolled }
+        ensures bound { IfOk result (IsPolled (vec_len self.old.peers)) }
+        ensures attached { vec_len self.new.peers ≡ vec_len self.old.peers }
         ensures faults { self.new.faults ≡ self.old.faults }
         ensures others { self.new.call_faults ≡ self.old.call_faults }
     {
@@ -239,6 +262,8 @@ impl<R: Drop> TcpStreams<R> {
 impl<R: Net + Drop> TcpStreams<R> {
     /// Takes the peers, and opens the own address to others.
     fn open(&mut self, own: &str, peers: &Vec<String>) -> io::Result<()>
+        ensures attached { OnOk result (vec_len self.new.peers ≡ vec_len peers.now) }
+        ensures kept { OnErr result (vec_len self.new.peers ≡ vec_len self.old.peers) }
         ensures faults { self.new.faults ≡ self.old.faults }
         ensures others { self.new.call_faults ≡ self.old.call_faults }
     {
@@ -258,12 +283,13 @@ impl<R: Net + Drop> TcpStreams<R> {
 
     /// Makes the stream to a peer, where there is none.
     fn connect(&mut self, at: usize) -> io::Result<()>
+        ensures attached { vec_len self.new.peers ≡ vec_len self.old.peers }
         ensures faults { self.new.faults ≡ self.old.faults }
         ensures others { self.new.call_faults ≡ self.old.call_faults }
     {
         let (Some(address), Some(slot), Some(poll)) = (
             self.peers.get(at),
-            self.slots.get_mut(at),
+            self.slots.get(at),
             &self.poll,
         ) else {
             return Ok(());
@@ -275,13 +301,14 @@ impl<R: Net + Drop> TcpStreams<R> {
         stream.set_nodelay(true)?;
         poll.registry()
             .register(&mut stream, Token(at), Interest::READABLE)?;
-        slot.stream = Some(stream);
+        put_stream(&mut self.slots, at, stream);
         Ok(())
     }
 
     /// Writes to the stream at a port. Where it fails for good the next poll finds its end.
     fn put(&mut self, port: u32, bytes: &[u8]) -> io::Result<usize>
         ensures bound { IfOk result (λ count. count ≤ length bytes.now) }
+        ensures attached { vec_len self.new.peers ≡ vec_len self.old.peers }
         ensures faults { self.new.faults ≡ self.old.faults }
         ensures others { self.new.call_faults ≡ self.old.call_faults }
     {
@@ -307,6 +334,8 @@ impl<R: Net + Drop> Streams for TcpStreams<R> {
     ghost written = { λ _. None };
 
     ghost waiting = { λ _. None };
+
+    ghost attached = { λ s. vec_len s.peers };
 
     ghost faults = { λ s. s.faults };
 

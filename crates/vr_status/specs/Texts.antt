@@ -3,7 +3,7 @@ use Rattle.std.specs.Prelude.{ℕ, List, [], ◌++◌, codes}
 use Rattle.std.specs.Fmt.{decimal}
 use Rattle.vr_base.specs.declared.table.Config.{Config}
 use Rattle.vr_status.specs.declared.status.Status.{Status}
-use Rattle.vr_status.specs.declared.status.Status.TheVariants.{Done, Usage, Refused, SessionLost, ReadFault, WriteFault, DiskFault, LinkFault, SuperLost, OtherMember, NoMemory, Occupied, NoAnswer}
+use Rattle.vr_status.specs.declared.status.Status.TheVariants.{Done, Usage, Refused, SessionLost, ReadFault, WriteFault, DiskFault, LinkFault, SuperLost, OtherMember, NoMemory, Occupied, NoAnswer, SpawnFault}
 
 abbrev pub code_of : Status → ℕ
 code_of Done = 0
@@ -19,6 +19,7 @@ code_of (OtherMember found asked) = 10
 code_of NoMemory = 11
 code_of Occupied = 12
 code_of NoAnswer = 13
+code_of SpawnFault = 14
 
 -- the group, the number in it, and its size
 abbrev pub config_text : Config → List ℕ
@@ -38,3 +39,4 @@ status_text (OtherMember found asked) = codes "other member: found " ++ config_t
 status_text NoMemory = codes "no memory"
 status_text Occupied = codes "occupied"
 status_text NoAnswer = codes "no answer"
+status_text SpawnFault = codes "spawn fault"

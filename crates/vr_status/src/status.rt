@@ -34,6 +34,8 @@ pub enum Status {
     Occupied,
     /// No answer came in the turns of an ask.
     NoAnswer,
+    /// A program couldn't be started or ended.
+    SpawnFault,
 }
 
 /// The exit status of the program.
@@ -54,6 +56,7 @@ pub fn code(status: &Status) -> u8
         Status::NoMemory => 11,
         Status::Occupied => 12,
         Status::NoAnswer => 13,
+        Status::SpawnFault => 14,
     }
 }
 
@@ -82,6 +85,7 @@ impl fmt::Display for Status {
             Status::NoMemory => write!(f, "no memory"),
             Status::Occupied => write!(f, "occupied"),
             Status::NoAnswer => write!(f, "no answer"),
+            Status::SpawnFault => write!(f, "spawn fault"),
         }
     }
 }
