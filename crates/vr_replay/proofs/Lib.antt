@@ -1,7 +1,5 @@
-pub mod Outputs
 pub mod Taken
 pub mod Counts
-pub mod Growing
 pub mod Heard
 pub mod Plays
 pub mod Streams

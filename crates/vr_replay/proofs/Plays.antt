@@ -1,5 +1,5 @@
 -- Lines that are played one after another, and what the whole schedule says of them.
-use Rattle.std.proofs.Common.{◌≡◌, ◌<◌, ℕ, ◌+◌, List, [], ◌∷◌, ◌++◌, length, Bool, true, false, cond, ltb, refl, ap, sym, ◌∙◌, arith, append_assoc, Option, Some, None}
+use Rattle.std.proofs.Common.{◌≡◌, ◌<◌, ℕ, ◌+◌, List, [], ◌∷◌, ◌++◌, length, Bool, true, false, cond, ltb, refl, ap, sym, ◌∙◌, arith, append_assoc, length-append, Option, Some, None}
 use Rattle.std.specs.Option.{option_map_or}
 use Rattle.std.proofs.lemmas.List.{append-nil}
 use Rattle.vr_lines.specs.Fits.{IsLineOf}
@@ -8,13 +8,12 @@ use Rattle.vr_lines.specs.declared.line.Line.{Line}
 use Rattle.vr_lines.specs.declared.line.Line.TheVariants as line
 use Rattle.vr_lines.proofs.Fitting.{long_parse, parsed_fits}
 use Rattle.vr_rules.specs.Lying.{Lying, hazards}
-use Rattle.vr_rules.specs.World.{World, no_world, fresh_world, happen, happens}
-use Rattle.vr_group.specs.declared.outputs.Numbered.{Numbered}
+use Rattle.vr_rules.specs.World.{Happened, World, no_world, fresh_world, happen, happens, messages}
+use Rattle.vr_group.specs.Outputs.{Numbered, numbered}
 use Rattle.vr_group.specs.Lines.{happening, happenings}
-use Rattle.vr_group.specs.Outputs.{numbered}
+use Rattle.vr_group.proofs.Goings.{Grows, grows_one, numbered_append}
 use Rattle.vr_replay.specs.Schedule.{Schedule, limit, line_at, accepted, begun, so_far, refuses, with_line, put_out}
 use Rattle.vr_replay.specs.Playing.{Played, comes, judged, taken, behind, and_then, plays}
-use Rattle.vr_replay.proofs.Growing.{line_grows, numbered_append, sent_after}
 
 pub behind_behind : (a b : List Numbered) (t : Played) → behind a (behind b t) ≡ behind (a ++ b) t
 behind_behind a b t = ap (λ (x : List Numbered). let y : Played = record { world = t.world; number = t.number; refused = t.refused; outputs = x } in y) (sym (append_assoc a b t.outputs))
@@ -87,6 +86,9 @@ happenings_more : (w : World Lying) (l : Line) (ls : List Line) → (happen haza
 unfolding happen happenings
 happenings_more w l ls = refl
 
+sent_after : (w : World Lying) (h : Happened Lying) → Grows w h → length h.world.sent ≡ length w.sent + length (messages h.outputs)
+sent_after w h g = ap length g.sent ∙ length-append w.sent (messages h.outputs)
+
 numbered_line : (w : World Lying) (l : Line) (ls : List Line) → 0 < w.n → IsLineOf w.n l → numbered (length w.sent) (happen hazards w (happenings (l ∷ ls))).outputs ≡ (comes w l).outputs ++ numbered (length (comes w l).world.sent) (happen hazards (comes w l).world (happenings ls)).outputs
 unfolding comes
 numbered_line w l ls some of =
@@ -94,11 +96,11 @@ numbered_line w l ls some of =
     let later = happen hazards first.world (happenings ls) in
     ap (numbered (length w.sent)) (happenings_more w l ls)
     ∙ numbered_append (length w.sent) first.outputs later.outputs
-    ∙ ap (λ m. numbered (length w.sent) first.outputs ++ numbered m later.outputs) (sym (sent_after w first (line_grows w l some of)))
+    ∙ ap (λ m. numbered (length w.sent) first.outputs ++ numbered m later.outputs) (sym (sent_after w first (grows_one w l some of)))
 
 size_after : (w : World Lying) (l : Line) → 0 < w.n → IsLineOf w.n l → (comes w l).world.n ≡ w.n
 unfolding comes
-size_after w l some of = (line_grows w l some of).size
+size_after w l some of = (grows_one w l some of).size
 
 follow_line : (w : World Lying) (number : ℕ) (l : Line) (texts : List (List ℕ)) → 0 < w.n → IsLineOf w.n l
     → Follow (plays (comes w l).world (number + 1) texts) (comes w l).world (accepted (comes w l).world.n (number + 1) texts)

@@ -4,14 +4,14 @@ use Rattle.std.specs.Io.KnownBytes.{Appends}
 use Rattle.std.proofs.lemmas.List.{append-nil}
 use Rattle.std.proofs.lemmas.Bool.{lt-ltb}
 use Rattle.std.proofs.lemmas.Bool.Decides.{nat_tests}
-use Rattle.vr_base.specs.Causes.{Rose}
+use Rattle.vr_base.specs.Causes.{one_more}
 use Rattle.vr_edge.specs.Told.{AppendsFront}
 use Rattle.vr_edge.proofs.Told.{appends_nil, appends_trans}
 use Rattle.vr_lines.specs.Cuts.{Cut, cut, whole_lines}
 use Rattle.vr_lines.specs.Grammar.{longest}
 use Rattle.vr_lines.specs.Held.{Held, IsGiven}
 use Rattle.vr_lines.proofs.Cutting.{Begins, cut_line, cut_part}
-use Rattle.vr_group.specs.declared.outputs.Numbered.{Numbered}
+use Rattle.vr_group.specs.Outputs.{Numbered, text_of}
 use Rattle.vr_rules.specs.Lying.{Lying}
 use Rattle.vr_rules.specs.World.{World}
 use Rattle.vr_replay.specs.declared.playing.Replay.{Replay}
@@ -20,9 +20,8 @@ use Rattle.vr_replay.specs.declared.stop.Stop.TheVariants as stop
 use Rattle.vr_replay.specs.Playing.{Played, judged, taken, behind, and_then, plays, heard, hears, hears_lines, if_too_long, ends, IsReplay, HearsAll, Hears}
 use Rattle.vr_replay.specs.Schedule.{limit}
 use Rattle.vr_replay.specs.Stops.{Stopped}
-use Rattle.vr_replay.specs.Text.{text_of}
 use Rattle.vr_replay.proofs.Heard.{heard_line, heard_part}
-use Rattle.vr_replay.proofs.Outputs.{text_append, text_none}
+use Rattle.vr_group.proofs.Numbering.{text_append, text_none}
 use Rattle.vr_replay.proofs.Plays.{behind_behind, plays_append, plays_line, plays_none, and_then_refused, and_then_none, Extends, extends_refl, and_then_extends, too_long}
 
 -- where nothing stands of the next line
@@ -83,9 +82,6 @@ not_long bytes h = grind (arith, nat_tests)
 
 -- ---- a stop behind other lines, and before others
 
-pub rose_from : (first before now : ℕ) → first ≤ before → Rose before now → Rose first now
-rose_from first before now h k = omega arith
-
 pub front_then : (a b c : Option (List ℕ)) (xs ys all more : List ℕ) → Appends a b xs → AppendsFront b c ys → all ≡ (xs ++ ys) ++ more → AppendsFront a c all
 front_then a b c xs ys all more h k e = (
   xs ++ k.0,
@@ -106,15 +102,17 @@ front_within : (a b c : Option (List ℕ)) (outputs : List Numbered) (t u all : 
 front_within a b c outputs t u all is e h k =
     front_then a b c (text_of outputs) (text_of t.outputs) _ (text_of e.more) h k (text_within outputs t u all is e)
 
-pub stopped_within : (first before now : ℕ) (a b c : Option (List ℕ)) (outputs : List Numbered) (t u all : Played) (why : Stop) → first ≤ before → all ≡ behind outputs u → Follows t u → Appends a b (text_of outputs) → Stopped before now b c t why → Stopped first now a c all why
-stopped_within first before now a b c outputs t u all (stop.Refused k) le is f h s =
-    let same = is ∙ ap (behind outputs) (f.same k s.0) in (
-      ap (λ (p : Played). p.refused) same ∙ s.0,
-      rw (same, text_append outputs t.outputs) (appends_trans a b c (text_of outputs) (text_of t.outputs) h s.1),
+pub stopped_within : (first before now : ℕ) (a b c : Option (List ℕ)) (outputs : List Numbered) (t u all : Played) (why : Stop) → before ≡ first → all ≡ behind outputs u → Follows t u → Appends a b (text_of outputs) → Stopped before now b c t why → Stopped first now a c all why
+stopped_within first before now a b c outputs t u all (stop.Refused k) kept is f h s =
+    let same = is ∙ ap (behind outputs) (f.same k s.1) in (
+      s.0 ∙ kept,
+      ap (λ (p : Played). p.refused) same ∙ s.1,
+      rw (same, text_append outputs t.outputs) (appends_trans a b c (text_of outputs) (text_of t.outputs) h s.2),
     )
-stopped_within first before now a b c outputs t u all stop.WriteFault le is f h s =
-    (rose_from first before now le s.0, front_within a b c outputs t u all is f.grows h s.1)
-stopped_within first before now a b c outputs t u all stop.NoMemory le is f h s = front_within a b c outputs t u all is f.grows h s
+stopped_within first before now a b c outputs t u all stop.WriteFault kept is f h s =
+    (s.0 ∙ ap one_more kept, front_within a b c outputs t u all is f.grows h s.1)
+stopped_within first before now a b c outputs t u all stop.NoMemory kept is f h s =
+    (s.0 ∙ kept, front_within a b c outputs t u all is f.grows h s.1)
 
 -- ---- the lines that have ended
 
@@ -148,10 +146,10 @@ taking_more first s s' line t0 t t' m part whole world number accepted text =
       text = rw (text_append m.outputs line_played.outputs) (appends_trans t0 t t' _ _ m.text text);
     }
 
-pub taking_stopped : (before after now : ℕ) (a b c : Option (List ℕ)) (first s : Replay) (line rest : List ℕ) (why : Stop) → before ≤ after → Taking first s a b → whole_lines line ≡ [] → s.lines.bytes ≡ line ++ 10 ∷ rest → Stopped after now b c (taken s.group.world s.number line) why → Stopped before now a c (hears_lines first) why
-taking_stopped before after now a b c first s line rest why le m part whole h =
+pub taking_stopped : (before after now : ℕ) (a b c : Option (List ℕ)) (first s : Replay) (line rest : List ℕ) (why : Stop) → after ≡ before → Taking first s a b → whole_lines line ≡ [] → s.lines.bytes ≡ line ++ 10 ∷ rest → Stopped after now b c (taken s.group.world s.number line) why → Stopped before now a c (hears_lines first) why
+taking_stopped before after now a b c first s line rest why kept m part whole h =
     let t = taken s.group.world s.number line in
-    stopped_within before after now a b c m.outputs t _ (hears_lines first) why le
+    stopped_within before after now a b c m.outputs t _ (hears_lines first) why kept
     (m.played ∙ ap (behind m.outputs) (hears_line s.group.world s.number s.lines.bytes line rest part whole)) (follows_and_then t (plays t.world t.number (heard rest))) m.text h
 
 -- no line more has ended
@@ -177,11 +175,12 @@ taking_done first s s' a b m live few part short group number bytes =
     }
 
 -- the next one is too long
-pub taking_refused : (before now : ℕ) (first s : Replay) (a b : Option (List ℕ)) → Taking first s a b → whole_lines s.lines.bytes ≡ [] → longest < length s.lines.bytes → Stopped before now a b (hears_lines first) (stop.Refused (s.number + 1))
-taking_refused before now first s a b m part long =
+pub taking_refused : (before now : ℕ) (first s : Replay) (a b : Option (List ℕ)) → now ≡ before → Taking first s a b → whole_lines s.lines.bytes ≡ [] → longest < length s.lines.bytes → Stopped before now a b (hears_lines first) (stop.Refused (s.number + 1))
+taking_refused before now first s a b kept m part long =
     let bytes = s.lines.bytes in
     let w = s.group.world in
     let all = m.played ∙ ap (behind m.outputs) (ap (plays w s.number) (heard_part bytes part ∙ is_long bytes long) ∙ plays_line w s.number bytes [] ∙ ap (λ (p : Played). and_then p.refused p (plays p.world p.number [])) (too_long w s.number bytes long)) in (
+      kept,
       ap (λ (p : Played). p.refused) all,
       rw (ap (λ (p : Played). text_of p.outputs) all, append-nil m.outputs) m.text,
     )

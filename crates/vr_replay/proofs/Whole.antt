@@ -4,6 +4,7 @@ use Rattle.std.specs.Option.{IfSome}
 use Rattle.std.specs.Io.KnownBytes.{Appends, Consumes, Keeps, IsAtEnd}
 use Rattle.std.proofs.lemmas.List.{append-nil}
 use Rattle.std.proofs.lemmas.Bool.Decides.{nat_tests}
+use Rattle.vr_base.specs.Causes.{one_more}
 use Rattle.vr_edge.specs.Told.{AppendsFront}
 use Rattle.vr_edge.proofs.Told.{appends_nil, appends_trans, consumes_nil, consumes_trans, consumes_kept, consumes_whole}
 use Rattle.vr_lines.specs.Cuts.{Cut, cut, whole_lines, if_any, lines_of}
@@ -12,9 +13,8 @@ use Rattle.vr_lines.specs.declared.line.Line.{Line}
 use Rattle.vr_lines.proofs.Cutting.{begins, cut_append, extended, last_append, last_part, lines_append}
 use Rattle.vr_rules.specs.Lying.{Lying}
 use Rattle.vr_rules.specs.World.{World, no_world, fresh_world, happen}
-use Rattle.vr_group.specs.declared.outputs.Numbered.{Numbered}
+use Rattle.vr_group.specs.Outputs.{Numbered, numbered, text_of}
 use Rattle.vr_group.specs.Lines.{happenings}
-use Rattle.vr_group.specs.Outputs.{numbered}
 use Rattle.vr_replay.specs.declared.playing.Replay.{Replay}
 use Rattle.vr_replay.specs.declared.stop.Stop.{Stop}
 use Rattle.vr_replay.specs.declared.stop.Stop.TheVariants as stop
@@ -22,11 +22,10 @@ use Rattle.vr_replay.specs.Playing.{Played, judged, taken, behind, and_then, pla
 use Rattle.vr_replay.specs.Run.{text_for, text_so_far, refused_in, IsDone, IsCutShort, IsPartial, Ends}
 use Rattle.vr_replay.specs.Schedule.{line_at, schedule, so_far, put_out}
 use Rattle.vr_replay.specs.Stops.{Stopped, status_of}
-use Rattle.vr_replay.specs.Text.{text_of}
 use Rattle.vr_replay.proofs.Heard.{heard_append}
-use Rattle.vr_replay.proofs.Outputs.{text_append, text_none}
+use Rattle.vr_group.proofs.Numbering.{text_append, text_none}
 use Rattle.vr_replay.proofs.Plays.{plays_append, plays_line, plays_none, too_long, plays_show}
-use Rattle.vr_replay.proofs.Streams.{Follows, follows_refl, follows_lines, follows_long, follows_none, front_then, heard_short, rose_from, stopped_within}
+use Rattle.vr_replay.proofs.Streams.{Follows, follows_refl, follows_lines, follows_long, follows_none, front_then, heard_short, stopped_within}
 
 -- the whole schedule, by its lines played one after another
 text_by_lines : (texts : List (List ℕ)) → text_of (put_out (schedule texts)) ≡ text_of (plays no_world 0 texts).outputs
@@ -155,26 +154,27 @@ accepted_so_far lo l to t s m sound =
 whole_stopped : (s0 s1 k0 k1 : ℕ) (lo ln to tn : Option (List ℕ)) (read piece : List ℕ) → s1 ≡ s0 → (so_far (heard read)).refused ≡ None → length ((cut read).last ++ piece) ≤ 1136 → Consumes lo ln (read ++ piece) → (why : Stop) → Stopped k0 k1 to tn (plays no_world 0 (heard (read ++ piece))) why → Ends s0 s1 k0 k1 lo ln to tn (status_of why)
 whole_stopped s0 s1 k0 k1 lo ln to tn read piece counts accepted size all (stop.Refused line) h = (
   counts,
+  h.0,
   record {
     read = read;
     piece = piece;
     consumed = all;
     size = size;
     accepted = accepted;
-    line = some_read lo ln (read ++ piece) (λ bytes. refused_in bytes ≡ Some line) all (λ rest. refused_by_lines (lines_of ((read ++ piece) ++ rest)) line (ap (λ (p : Played). p.refused) ((follows_heard (read ++ piece) rest).same line h.0) ∙ h.0));
-    text = some_read lo ln (read ++ piece) (λ bytes. Appends to tn (text_for bytes)) all (λ rest. rw (text_whole ((read ++ piece) ++ rest), (follows_heard (read ++ piece) rest).same line h.0) h.1);
+    line = some_read lo ln (read ++ piece) (λ bytes. refused_in bytes ≡ Some line) all (λ rest. refused_by_lines (lines_of ((read ++ piece) ++ rest)) line (ap (λ (p : Played). p.refused) ((follows_heard (read ++ piece) rest).same line h.1) ∙ h.1));
+    text = some_read lo ln (read ++ piece) (λ bytes. Appends to tn (text_for bytes)) all (λ rest. rw (text_whole ((read ++ piece) ++ rest), (follows_heard (read ++ piece) rest).same line h.1) h.2);
   },
 )
 whole_stopped s0 s1 k0 k1 lo ln to tn read piece counts accepted size all stop.WriteFault h = (counts, h.0, partial_front lo ln to tn (read ++ piece) all h.1)
-whole_stopped s0 s1 k0 k1 lo ln to tn read piece counts accepted size all stop.NoMemory h = (counts, partial_front lo ln to tn (read ++ piece) all h)
+whole_stopped s0 s1 k0 k1 lo ln to tn read piece counts accepted size all stop.NoMemory h = (counts, h.0, partial_front lo ln to tn (read ++ piece) all h.1)
 
-pub stopped_in_piece : (s0 s1 k0 k k1 : ℕ) (lo l ln to t tn : Option (List ℕ)) (s : Replay) (piece : List ℕ) → Midst lo l to t s → IsReplay s → s1 ≡ s0 → Consumes l ln piece → length (s.lines.bytes ++ piece) ≤ 1136 → k0 ≤ k → (why : Stop) → Stopped k k1 t tn (hears s piece) why → Ends s0 s1 k0 k1 lo ln to tn (status_of why)
-stopped_in_piece s0 s1 k0 k k1 lo l ln to t tn s piece m sound counts more size le why h =
+pub stopped_in_piece : (s0 s1 k0 k k1 : ℕ) (lo l ln to t tn : Option (List ℕ)) (s : Replay) (piece : List ℕ) → Midst lo l to t s → IsReplay s → s1 ≡ s0 → Consumes l ln piece → length (s.lines.bytes ++ piece) ≤ 1136 → k ≡ k0 → (why : Stop) → Stopped k k1 t tn (hears s piece) why → Ends s0 s1 k0 k1 lo ln to tn (status_of why)
+stopped_in_piece s0 s1 k0 k k1 lo l ln to t tn s piece m sound counts more size kept why h =
     let texts = heard_append m.read piece ∙ ap (λ p. whole_lines m.read ++ heard (p ++ piece)) (sym m.partial) in
     let all = ap (plays no_world 0) texts ∙ plays_on lo l to t s m (heard (s.lines.bytes ++ piece)) in
     let fits = rw m.partial at size in
     whole_stopped s0 s1 k0 k1 lo ln to tn m.read piece counts (accepted_so_far lo l to t s m sound) fits (consumes_trans lo l ln m.read piece m.consumed more) why
-    (stopped_within k0 k k1 to t tn m.outputs (hears s piece) (hears s piece) _ why le all (follows_refl (hears s piece)) m.text h)
+    (stopped_within k0 k k1 to t tn m.outputs (hears s piece) (hears s piece) _ why kept all (follows_refl (hears s piece)) m.text h)
 
 -- a read that failed
 pub cut_short : (lo l ln to t : Option (List ℕ)) (s : Replay) → Midst lo l to t s → IsReplay s → Keeps l ln → IsCutShort lo ln to t
@@ -281,24 +281,25 @@ front_at_end lo l ln to t tn s m last e h =
     }
 
 -- a stop at the end of the source
-pub stopped_at_end : (s0 s1 k0 k k1 : ℕ) (lo l ln to t tn : Option (List ℕ)) (s : Replay) → Midst lo l to t s → IsReplay s → s1 ≡ s0 → Consumes l ln [] → IsAtEnd ln → k0 ≤ k → (why : Stop) → Stopped k k1 t tn (ends s) why → Ends s0 s1 k0 k1 lo ln to tn (status_of why)
-stopped_at_end s0 s1 k0 k k1 lo l ln to t tn s m sound counts last e le (stop.Refused line) h =
+pub stopped_at_end : (s0 s1 k0 k k1 : ℕ) (lo l ln to t tn : Option (List ℕ)) (s : Replay) → Midst lo l to t s → IsReplay s → s1 ≡ s0 → Consumes l ln [] → IsAtEnd ln → k ≡ k0 → (why : Stop) → Stopped k k1 t tn (ends s) why → Ends s0 s1 k0 k1 lo ln to tn (status_of why)
+stopped_at_end s0 s1 k0 k k1 lo l ln to t tn s m sound counts last e kept (stop.Refused line) h =
     let joined = consumes_trans lo l ln m.read [] m.consumed last in
     let all = rw append-nil at joined in
     let whole = ended lo l to t s m in (
       counts,
+      h.0 ∙ kept,
       record {
         read = m.read;
         piece = [];
         consumed = joined;
         size = rw (append-nil (cut m.read).last, ← m.partial) (let short = sound.short in omega arith);
         accepted = accepted_so_far lo l to t s m sound;
-        line = consumes_whole lo ln m.read (λ bytes. refused_in bytes ≡ Some line) all e (whole.refused ∙ h.0);
-        text = consumes_whole lo ln m.read (λ bytes. Appends to tn (text_for bytes)) all e (rw whole.text (appends_trans to t tn _ _ m.text h.1));
+        line = consumes_whole lo ln m.read (λ bytes. refused_in bytes ≡ Some line) all e (whole.refused ∙ h.1);
+        text = consumes_whole lo ln m.read (λ bytes. Appends to tn (text_for bytes)) all e (rw whole.text (appends_trans to t tn _ _ m.text h.2));
       },
     )
-stopped_at_end s0 s1 k0 k k1 lo l ln to t tn s m sound counts last e le stop.WriteFault h = (counts, rose_from k0 k k1 le h.0, front_at_end lo l ln to t tn s m last e h.1)
-stopped_at_end s0 s1 k0 k k1 lo l ln to t tn s m sound counts last e le stop.NoMemory h = (counts, front_at_end lo l ln to t tn s m last e h)
+stopped_at_end s0 s1 k0 k k1 lo l ln to t tn s m sound counts last e kept stop.WriteFault h = (counts, h.0 ∙ ap one_more kept, front_at_end lo l ln to t tn s m last e h.1)
+stopped_at_end s0 s1 k0 k k1 lo l ln to t tn s m sound counts last e kept stop.NoMemory h = (counts, h.0 ∙ kept, front_at_end lo l ln to t tn s m last e h.1)
 
 -- a stop between two reads
 pub midst_partial : (lo l to t : Option (List ℕ)) (s : Replay) → Midst lo l to t s → IsPartial lo l to t

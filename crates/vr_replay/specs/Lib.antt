@@ -1,5 +1,4 @@
 pub mod Schedule
-pub mod Text
 pub mod Playing
 pub mod Stops
 pub mod Run

@@ -6,12 +6,10 @@ use Rattle.vr_lines.specs.Grammar.{longest}
 use Rattle.vr_lines.specs.declared.line.Line.{Line}
 use Rattle.vr_rules.specs.Lying.{Lying, hazards}
 use Rattle.vr_rules.specs.World.{World, happens}
-use Rattle.vr_group.specs.declared.outputs.Numbered.{Numbered}
+use Rattle.vr_group.specs.Outputs.{Numbered, numbered, text_of}
 use Rattle.vr_group.specs.Lines.{happening}
-use Rattle.vr_group.specs.Outputs.{numbered}
 use Rattle.vr_replay.specs.declared.playing.Replay.{Replay}
 use Rattle.vr_replay.specs.Schedule.{line_at, limit}
-use Rattle.vr_replay.specs.Text.{text_of}
 
 -- a world after a line, and the line's outputs
 pub record Come : Type 0 where

@@ -3,7 +3,7 @@ use Rattle.std.specs.Prelude.{ℕ, ◌+◌, ◌≡◌, ◌≤◌, ◌++◌, ◌�
 use Rattle.std.specs.Global.{Global}
 use Rattle.std.specs.Str.{bytes_eq}
 use Rattle.std.specs.Io.KnownBytes.{Appends, Consumes, IsAtEnd}
-use Rattle.vr_base.specs.Causes.{Rose, one_more}
+use Rattle.vr_base.specs.Causes.{one_more}
 use Rattle.vr_edge.specs.Told.{AppendsFront}
 use Rattle.vr_status.specs.declared.status.Status.{Status}
 use Rattle.vr_status.specs.declared.status.Status.TheVariants as status
@@ -11,7 +11,7 @@ use Rattle.vr_lines.specs.Cuts.{cut, whole_lines}
 use Rattle.vr_lines.specs.Grammar.{longest}
 use Rattle.vr_replay.specs.Playing.{heard}
 use Rattle.vr_replay.specs.Schedule.{schedule_of, so_far, put_out}
-use Rattle.vr_replay.specs.Text.{text_of}
+use Rattle.vr_group.specs.Outputs.{text_of}
 
 -- the number of the first line of a source that is refused
 abbrev pub refused_in : List ℕ → Option ℕ
@@ -57,19 +57,25 @@ pub record IsPartial (left_old left_new taken_old taken_new : Option (List ℕ))
   pub consumed : Consumes left_old left_new read
   pub text : AppendsFront taken_old taken_new (text_so_far read) ⊎ (IsAtEnd left_new × AppendsFront taken_old taken_new (text_for read))
 
--- how a replay ends; s and k count the faults of source and sink: a read that fails is told, and no other answer leaves one untold
+-- how a replay ends; s and k count the faults of source and sink: a read or a write that fails is told, and no other answer leaves one
+-- untold
 abbrev pub Ends : (s s' k k' : ℕ) (left_old left_new taken_old taken_new : Option (List ℕ)) → Status → Type 0
-Ends s s' k k' lo ln to tn status.Done = (s' ≡ s) × IsDone lo ln to tn
-Ends s s' k k' lo ln to tn (status.Refused line) = (s' ≡ s) × IsRefused line lo ln to tn
-Ends s s' k k' lo ln to tn status.ReadFault = (s' ≡ one_more s) × IsCutShort lo ln to tn
-Ends s s' k k' lo ln to tn status.WriteFault = (s' ≡ s) × Rose k k' × IsPartial lo ln to tn
-Ends s s' k k' lo ln to tn status.NoMemory = (s' ≡ s) × IsPartial lo ln to tn
+Ends s s' k k' lo ln to tn status.Done = (s' ≡ s) × (k' ≡ k) × IsDone lo ln to tn
+Ends s s' k k' lo ln to tn (status.Refused line) = (s' ≡ s) × (k' ≡ k) × IsRefused line lo ln to tn
+Ends s s' k k' lo ln to tn status.ReadFault = (s' ≡ one_more s) × (k' ≡ k) × IsCutShort lo ln to tn
+Ends s s' k k' lo ln to tn status.WriteFault = (s' ≡ s) × (k' ≡ one_more k) × IsPartial lo ln to tn
+Ends s s' k k' lo ln to tn status.NoMemory = (s' ≡ s) × (k' ≡ k) × IsPartial lo ln to tn
 Ends s s' k k' lo ln to tn _ = ⊥
 
 -- a count of the source's faults at the end
 abbrev pub count_after : Status → ℕ → ℕ
 count_after status.ReadFault count = one_more count
 count_after _ count = count
+
+-- a count of the sink's faults at the end
+abbrev pub writes_after : Status → ℕ → ℕ
+writes_after status.WriteFault count = one_more count
+writes_after _ count = count
 
 -- the status that a source's bytes have where no fault comes
 abbrev pub status_for : Option ℕ → Status

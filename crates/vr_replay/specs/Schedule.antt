@@ -8,9 +8,8 @@ use Rattle.vr_lines.specs.Cuts.{lines_of}
 use Rattle.vr_lines.specs.Grammar.{parse}
 use Rattle.vr_lines.specs.declared.line.Line.{Line}
 use Rattle.vr_lines.specs.declared.line.Line.TheVariants.{Cluster}
-use Rattle.vr_group.specs.declared.outputs.Numbered.{Numbered}
+use Rattle.vr_group.specs.Outputs.{Numbered, numbered}
 use Rattle.vr_group.specs.Lines.{happenings}
-use Rattle.vr_group.specs.Outputs.{numbered}
 
 pub record Schedule : Type 0 where
   pub n : ℕ  -- the size of the group, 0 where none is made

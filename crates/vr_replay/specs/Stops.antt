@@ -1,11 +1,11 @@
 -- Why a replay stops.
 use Rattle.std.specs.Prelude.{ℕ, ◌+◌, ◌≡◌, ⊤, List, Option, Some, None}
 use Rattle.std.specs.Io.KnownBytes.{Appends}
-use Rattle.vr_base.specs.Causes.{Rose}
+use Rattle.vr_base.specs.Causes.{one_more}
 use Rattle.vr_edge.specs.Told.{AppendsFront}
 use Rattle.vr_lines.specs.declared.line.Line.{Line}
 use Rattle.vr_replay.specs.Playing.{Played}
-use Rattle.vr_replay.specs.Text.{text_of}
+use Rattle.vr_group.specs.Outputs.{text_of}
 use Rattle.vr_replay.specs.declared.stop.Stop.{Stop}
 use Rattle.vr_replay.specs.declared.stop.Stop.TheVariants as stop
 use Rattle.vr_status.specs.declared.status.Status.{Status}
@@ -23,9 +23,9 @@ JudgeCause line number (stop.Refused k) = (line ≡ None) × (k ≡ number + 1)
 JudgeCause line number stop.WriteFault = ⊥
 JudgeCause line number stop.NoMemory = ⊤
 
--- Why a replay stopped, and what it had written of what the lines come to. before and now count the sink's faults,
--- old and new are what the sink took.
+-- Why a replay stopped, and what it had written of what the lines come to. before and now count the sink's faults: a write that
+-- fails is told, and no other stop leaves one untold. old and new are what the sink took.
 abbrev pub Stopped : ℕ → ℕ → Option (List ℕ) → Option (List ℕ) → Played → Stop → Type 0
-Stopped before now old new t (stop.Refused k) = (t.refused ≡ Some k) × Appends old new (text_of t.outputs)
-Stopped before now old new t stop.WriteFault = Rose before now × AppendsFront old new (text_of t.outputs)
-Stopped before now old new t stop.NoMemory = AppendsFront old new (text_of t.outputs)
+Stopped before now old new t (stop.Refused k) = (now ≡ before) × (t.refused ≡ Some k) × Appends old new (text_of t.outputs)
+Stopped before now old new t stop.WriteFault = (now ≡ one_more before) × AppendsFront old new (text_of t.outputs)
+Stopped before now old new t stop.NoMemory = (now ≡ before) × AppendsFront old new (text_of t.outputs)

@@ -3,7 +3,7 @@ ghost use Rattle.std.specs.Prelude.{◌≡◌, ◌↔◌, ◌⊎◌, ℕ, true, 
 ghost use Rattle.vr_base.specs.Causes.{Rose};
 ghost use Rattle.vr_replay.specs.Headline.{ScheduleHasOneLog};
 ghost use Rattle.vr_replay.specs.Schedule.{schedule_of};
-ghost use Rattle.vr_replay.specs.Run.{IsDone, IsRefused, IsCutShort, IsPartial, Ends, count_after, is_replay_words, refused_in, status_for};
+ghost use Rattle.vr_replay.specs.Run.{IsDone, IsRefused, IsCutShort, IsPartial, Ends, count_after, writes_after, is_replay_words, refused_in, status_for};
 
 use crate::Replay;
 use std::alloc::Global;
@@ -45,9 +45,9 @@ pub fn replay<S: Source, K: Sink>(alloc: Global, source: &mut S, sink: &mut K) -
     ensures write_text { result ≡ Status.WriteFault → IsPartial (S.left source.old) (S.left source.new) (K.taken sink.old) (K.taken sink.new) }
     ensures memory_text { result ≡ Status.NoMemory → IsPartial (S.left source.old) (S.left source.new) (K.taken sink.old) (K.taken sink.new) }
 
-    // A fault has its cause in the object that was handed in, and a read that failed is told: no other answer leaves one.
+    // A fault has its cause in the object that was handed in, and a read or a write that failed is told: no other answer leaves one.
     ensures read { S.faults source.new ≡ count_after result (S.faults source.old) }
-    ensures write { result ≡ Status.WriteFault → Rose (K.faults sink.old) (K.faults sink.new) }
+    ensures write { K.faults sink.new ≡ writes_after result (K.faults sink.old) }
 
     // Where no fault comes, the answer is that of the source's bytes, or want of memory.
     ensures complete { ¬ Rose (S.faults source.old) (S.faults source.new) → ¬ Rose (K.faults sink.old) (K.faults sink.new) → IfSome (S.left source.old) (λ bytes. (result ≡ status_for (refused_in bytes)) ⊎ (result ≡ Status.NoMemory)) }
@@ -88,9 +88,9 @@ pub fn run<S: Source, K: Sink, D: SectorDisk, L: Link, C: Clock>(
     ensures write_text { result ≡ Status.WriteFault → IsPartial (S.left source.old) (S.left source.new) (K.taken sink.old) (K.taken sink.new) }
     ensures memory_text { result ≡ Status.NoMemory → IsPartial (S.left source.old) (S.left source.new) (K.taken sink.old) (K.taken sink.new) }
 
-    // A fault has its cause in the object that was handed in, and a read that failed is told: no other answer leaves one.
+    // A fault has its cause in the object that was handed in, and a read or a write that failed is told: no other answer leaves one.
     ensures read { S.faults source.new ≡ count_after result (S.faults source.old) }
-    ensures write { result ≡ Status.WriteFault → Rose (K.faults sink.old) (K.faults sink.new) }
+    ensures write { K.faults sink.new ≡ writes_after result (K.faults sink.old) }
 
     // Where no fault comes, the answer is that of the source's bytes, or want of memory.
     ensures complete { is_replay_words words.now.items ≡ true → ¬ Rose (S.faults source.old) (S.faults source.new) → ¬ Rose (K.faults sink.old) (K.faults sink.new) → IfSome (S.left source.old) (λ bytes. (result ≡ status_for (refused_in bytes)) ⊎ (result ≡ Status.NoMemory)) }

@@ -5,16 +5,15 @@ ghost use Rattle.vr_lines.specs.Fits.{IsLineOf};
 ghost use Rattle.vr_replay.specs.Playing.{comes};
 ghost use Rattle.vr_replay.specs.Schedule.{line_at};
 ghost use Rattle.vr_replay.specs.Stops.{JudgeCause};
-ghost use Rattle.vr_replay.specs.Text.{text_of};
+ghost use Rattle.vr_group.specs.Outputs.{text_of};
 ghost use Rattle.vr_replay.specs.declared.stop.Stop.TheVariants as stop;
 
 use crate::Stop;
-use std::alloc::{AllocError, Global};
-use vr_base::{ByteList, NoMemory, Seq};
+use std::alloc::Global;
+use vr_base::{ByteList, NoMemory};
 use vr_edge::{Sink, write_whole};
-use vr_group::{Numbered, Outputs, World};
+use vr_group::{Outputs, World};
 use vr_lines::{Line, LineFault, Lines, Next, parse_line};
-use vr_sched::write_text;
 
 /// The most lines of a schedule.
 const LIMIT: u32 = 1_000_000;
@@ -29,45 +28,21 @@ pub struct Replay {
     pub lines: Lines,
 }
 
-/// The text of outputs.
-#[tactic(auto, using(std::proofs::lemmas::Grind::common_steps, crate::proofs::Outputs::text_more, crate::proofs::Outputs::text_none))]
-fn outputs_text(alloc: Global, outputs: &[Numbered]) -> Result<ByteList, AllocError>
-    ensures { IfOk result (λ t. t ≡ text_of outputs.now) }
-{
-    let mut text = Seq::new(alloc);
-    for put in outputs {
-        write_text(put.number, &put.output, &mut text)?;
-    }
-    Ok(text)
-}
-
-/// What happens at a line: the first makes a group.
-#[tactic(auto, using(std::proofs::lemmas::Grind::common_steps, crate::proofs::Growing::numbered_none), unfolding(crate::specs::Playing::comes))]
-fn play(alloc: Global, group: &mut World, line: &Line) -> Result<Outputs, NoMemory>
-    requires live { group.old.live ≡ true }
-    requires fits { IsLineOf group.old.world.n line.now }
-    ensures world { OnOk result (group.new.world ≡ (comes group.old.world line.now).world) }
-    ensures outputs { IfOk result (λ o. o ≡ (comes group.old.world line.now).outputs) }
-    ensures live { OnOk result (group.new.live ≡ true) }
-{
-    if let Line::Cluster(n) = line {
-        *group = World::new(alloc, *n)?;
-        return Ok(Seq::new(alloc));
-    }
-    group.step(alloc, line)
-}
-
-/// The same, with the text of the outputs.
-fn play_text(alloc: Global, group: &mut World, line: &Line) -> Result<ByteList, Stop>
+/// The text of what happens at a line: the first makes a group.
+#[tactic(auto, using(std::proofs::lemmas::Grind::common_steps, vr_group::proofs::Numbering::numbered_none, vr_group::proofs::Numbering::text_none), unfolding(crate::specs::Playing::comes))]
+fn play(alloc: Global, group: &mut World, line: &Line) -> Result<ByteList, NoMemory>
     requires live { group.old.live ≡ true }
     requires fits { IsLineOf group.old.world.n line.now }
     ensures world { OnOk result (group.new.world ≡ (comes group.old.world line.now).world) }
     ensures text { IfOk result (λ t. t ≡ text_of (comes group.old.world line.now).outputs) }
     ensures live { OnOk result (group.new.live ≡ true) }
-    ensures want { IfErr result (λ why. why ≡ stop.NoMemory) }
 {
-    let outputs = play(alloc, group, line)?;
-    Ok(outputs_text(alloc, outputs.as_slice())?)
+    if let Line::Cluster(n) = line {
+        *group = World::new(alloc, *n)?;
+        return Ok(ByteList::new(alloc));
+    }
+    let Outputs { text, .. } = group.step(alloc, line)?;
+    Ok(text)
 }
 
 /// The line that these bytes spell, behind so many others.
@@ -94,7 +69,7 @@ impl Replay {
     ghost use Rattle.vr_rules.specs.World.{no_world};
 
     /// Takes the line that was given, and writes its outputs.
-    #[tactic(auto, using(std::proofs::lemmas::Grind::common_steps, crate::proofs::Taken::taken_some, crate::proofs::Taken::taken_none, vr_edge::proofs::Told::appends_nil, crate::proofs::Outputs::text_none))]
+    #[tactic(auto, using(std::proofs::lemmas::Grind::common_steps, crate::proofs::Taken::taken_some, crate::proofs::Taken::taken_none, vr_edge::proofs::Told::appends_nil, vr_group::proofs::Numbering::text_none))]
     fn take_line<K: Sink>(&mut self, alloc: Global, sink: &mut K) -> Result<(), Stop>
         requires live { self.old.group.live ≡ true }
         requires few { self.old.number ≤ 1000000 }
@@ -108,11 +83,11 @@ impl Replay {
 
         ensures text { OnOk result (Appends (K.taken sink.old) (K.taken sink.new) (text_of (taken self.old.group.world self.old.number self.old.lines.line).outputs)) }
 
-        ensures later { K.faults sink.old ≤ K.faults sink.new }
+        ensures kept { OnOk result (K.faults sink.new ≡ K.faults sink.old) }
         ensures stopped { IfErr result (Stopped (K.faults sink.old) (K.faults sink.new) (K.taken sink.old) (K.taken sink.new) (taken self.old.group.world self.old.number self.old.lines.line)) }
     {
         let line = judge(alloc, self.group.size(), self.number, self.lines.line())?;
-        let text = play_text(alloc, &mut self.group, &line)?;
+        let text = play(alloc, &mut self.group, &line)?;
         write_whole(sink, text.as_slice())?;
         self.number += 1;
         Ok(())
@@ -125,7 +100,7 @@ impl Replay {
 
         ensures heard { OnOk result (HearsAll self.old self.new self.old.lines.bytes (K.taken sink.old) (K.taken sink.new)) }
 
-        ensures later { K.faults sink.old ≤ K.faults sink.new }
+        ensures kept { OnOk result (K.faults sink.new ≡ K.faults sink.old) }
         ensures stopped { IfErr result (Stopped (K.faults sink.old) (K.faults sink.new) (K.taken sink.old) (K.taken sink.new) (hears_lines self.old)) }
     {
         loop {
@@ -164,12 +139,12 @@ impl Replay {
     }
 
     /// The source is at its end: the line that stands is the last. A schedule has at least one line.
-    #[tactic(auto, using(std::proofs::lemmas::Grind::common_steps, vr_edge::proofs::Told::appends_nil, crate::proofs::Outputs::text_none), unfolding(crate::specs::Playing::ends))]
+    #[tactic(auto, using(std::proofs::lemmas::Grind::common_steps, vr_edge::proofs::Told::appends_nil, vr_group::proofs::Numbering::text_none), unfolding(crate::specs::Playing::ends))]
     pub fn finish<K: Sink>(&mut self, alloc: Global, sink: &mut K) -> Result<(), Stop>
         requires { IsReplay self.old }
         ensures accepted { OnOk result ((ends self.old).refused ≡ None) }
         ensures text { OnOk result (Appends (K.taken sink.old) (K.taken sink.new) (text_of (ends self.old).outputs)) }
-        ensures later { K.faults sink.old ≤ K.faults sink.new }
+        ensures kept { OnOk result (K.faults sink.new ≡ K.faults sink.old) }
         ensures stopped { IfErr result (Stopped (K.faults sink.old) (K.faults sink.new) (K.taken sink.old) (K.taken sink.new) (ends self.old)) }
     {
         match self.lines.next(true) {

@@ -2,7 +2,6 @@
 ghost use Rattle.vr_replay.specs.declared.stop.Stop.TheVariants.{NoMemory, WriteFault};
 ghost use Rattle.std.specs.Prelude.{◌≡◌};
 
-use std::alloc::AllocError;
 use vr_edge::WriteFailed;
 use vr_status::Status;
 
@@ -11,14 +10,6 @@ pub enum Stop {
     Refused(u32),
     WriteFault,
     NoMemory,
-}
-
-impl From<AllocError> for Stop {
-    ghost from_gives = { λ _ e. e ≡ NoMemory };
-
-    fn from(_: AllocError) -> Self {
-        Stop::NoMemory
-    }
 }
 
 impl From<WriteFailed> for Stop {

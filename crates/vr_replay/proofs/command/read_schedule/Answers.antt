@@ -13,7 +13,7 @@ loop-init g c =
       midst = midst_start _ _ c.new-replay.result made.world made.number made.lines;
       sound = made.sound;
       read_faults = refl;
-      write_faults = omega arith;
+      write_faults = refl;
     }
 
 pub fill-requires : goal.fill-requires
@@ -29,7 +29,7 @@ finish-requires g c =
 pub returns-in_default : goal.returns-in_default
 returns-in_default g c =
     let i = c.loop.invariant in
-    (c.in_default.ensures.cause.failed ∙ ap one_more i.read_faults, cut_short _ _ _ _ _ c.loop.replay i.midst i.sound c.in_default.ensures.kept.1)
+    (c.in_default.ensures.cause.failed ∙ ap one_more i.read_faults, i.write_faults, cut_short _ _ _ _ _ c.loop.replay i.midst i.sound c.in_default.ensures.kept.1)
 
 pub returns-in-Err : goal.returns-in-Err
 returns-in-Err g c =
@@ -52,7 +52,7 @@ returns-then-count-eq0 g c =
     let same = filled_ends c.loop.replay joined (record { group = refl; number = refl; behind = rw nothing at f.behind }) in
     let last = rw nothing at f.consumed in
     let e = c.in_default-finish.ensures in
-    (c.in-Ok.ensures.cause.kept ∙ i.read_faults, done_at_end _ _ _ _ _ _ c.loop.replay i.midst last (f.end none) (rw same at e.accepted) (rw same at e.text))
+    (c.in-Ok.ensures.cause.kept ∙ i.read_faults, e.kept ∙ i.write_faults, done_at_end _ _ _ _ _ _ c.loop.replay i.midst last (f.end none) (rw same at e.accepted) (rw same at e.text))
 
 pub returns-in-Err-take_lines : goal.returns-in-Err-take_lines
 returns-in-Err-take_lines g c =
@@ -73,8 +73,8 @@ loop-preserved g c =
       midst = midst_more _ _ _ _ _ _ c.loop.replay c.take_lines.new.self f.piece i.midst f.consumed heard;
       sound = heard.sound;
       read_faults = c.in-Ok.ensures.cause.kept ∙ i.read_faults;
-      write_faults = omega (arith, i.write_faults, e.later);
+      write_faults = e.kept ∙ i.write_faults;
     }
 
 pub returns : goal.returns
-returns g c = (c.loop.invariant.read_faults, midst_partial _ _ _ _ c.loop.replay c.loop.invariant.midst)
+returns g c = (c.loop.invariant.read_faults, c.loop.invariant.write_faults, midst_partial _ _ _ _ c.loop.replay c.loop.invariant.midst)

@@ -5,7 +5,7 @@ use Rattle.vr_replay.proofs.Streams.{given_line, taking_start, taking_more, taki
 use Rattle.vr_replay.proofs.playing.Replay.take_lines.Goals as goal
 
 pub loop-self-init : goal.loop-self-init
-loop-self-init g c = record { midst = taking_start _ _; live = c.requires.live; few = c.requires.few; later = omega arith }
+loop-self-init g c = record { midst = taking_start _ _; live = c.requires.live; few = c.requires.few; kept = refl }
 
 pub loop-self-preserved : goal.loop-self-preserved
 loop-self-preserved g c =
@@ -16,7 +16,7 @@ loop-self-preserved g c =
       midst = taking_more _ c.loop-self.self c.take_line.new.self c.next.new.self.line _ _ _ i.midst h.0 (h.1 ∙ ap (λ (l : Held). c.next.new.self.line ++ 10 ∷ l.bytes) (sym e.lines)) e.world e.number e.accepted e.text;
       live = e.live;
       few = e.few;
-      later = omega (arith, i.later, e.later);
+      kept = e.kept ∙ i.kept;
     }
 
 pub returns-in_err-take_line-in-Line-clause-stopped : goal.returns-in_err-take_line-in-Line-clause-stopped
@@ -24,12 +24,12 @@ returns-in_err-take_line-in-Line-clause-stopped g c =
     let p = err_from_is_err_and c.from_residual.result c.from_residual.ensures.1 in
     let i = c.loop-self.invariant in
     let h = given_line c.loop-self.self.lines.bytes c.next.new.self c.in-Line.ensures in
-    rw (p.1, p.2) (taking_stopped _ _ _ _ _ _ _ c.loop-self.self c.next.new.self.line c.next.new.self.bytes _ i.later i.midst h.0 h.1 c.in_err-take_line-in-Line.ensures.stopped)
+    rw (p.1, p.2) (taking_stopped _ _ _ _ _ _ _ c.loop-self.self c.next.new.self.line c.next.new.self.bytes _ i.kept i.midst h.0 h.1 c.in_err-take_line-in-Line.ensures.stopped)
 
 pub returns-in-TooLong-clause-stopped : goal.returns-in-TooLong-clause-stopped
 returns-in-TooLong-clause-stopped g c =
     let t = c.in-TooLong.ensures in
-    taking_refused 0 0 _ c.loop-self.self _ _ c.loop-self.invariant.midst t.0 (omega (arith, t.1))
+    taking_refused _ _ _ c.loop-self.self _ _ c.loop-self.invariant.kept c.loop-self.invariant.midst t.0 (omega (arith, t.1))
 
 pub returns-in-More-clause-heard : goal.returns-in-More-clause-heard
 returns-in-More-clause-heard g c =

@@ -8,7 +8,7 @@ invariant-loop-self g l = record {
   midst : Taking l.initial.self l.self (g.K.Sink.taken l.initial.sink) (g.K.Sink.taken l.sink);
   live : l.self.group.live ≡ true;
   few : l.self.number ≤ limit;
-  later : g.K.Sink.faults l.initial.sink ≤ g.K.Sink.faults l.sink;
+  kept : g.K.Sink.faults l.sink ≡ g.K.Sink.faults l.initial.sink;
 }
 
 abbrev pub decreases-loop-self : goal.decreases-loop-self
