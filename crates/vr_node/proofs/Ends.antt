@@ -1,5 +1,5 @@
 -- How a member ends.
-use Rattle.std.proofs.Common.{◌≡◌, ◌≤◌, ◌⊎◌, ◌∙◌, ℕ, Bool, true, false, List, Option, Result, Ok, Err, refl, sym, subst, inl, inr, arith}
+use Rattle.std.proofs.Common.{◌≡◌, ◌≢◌, ◌≤◌, ◌⊎◌, ◌∙◌, ℕ, Bool, true, false, List, Option, Result, Ok, Err, refl, sym, subst, inl, inr, arith}
 use Rattle.vr_base.specs.Causes.{HasCause, Rose, one_more}
 use Rattle.vr_base.specs.declared.table.Config.{Config}
 use Rattle.vr_disk.specs.DiskState.{Attaches, Disk}
@@ -9,9 +9,10 @@ use Rattle.vr_msg.specs.declared.output.Output.{Output}
 use Rattle.vr_node.specs.Opening.{Opens, OpensNone}
 use Rattle.vr_node.specs.Running.{EndsAttached, IsCut, NodeEnds, Outside, Ran, ServeEnds, Unattached, Unlinked, Unopened, on_disk, outside}
 use Rattle.vr_node.specs.Steps.{steps}
-use Rattle.vr_node.specs.Stops.{status_of}
+use Rattle.vr_node.specs.Stops.{disk_after, status_of, writes_after}
 use Rattle.vr_node.specs.declared.node.Node.{Node}
 use Rattle.vr_serve.specs.Causes.{Counts, HasCauses, counts}
+use Rattle.vr_serve.specs.Causes as serve
 use Rattle.vr_serve.specs.Runs.{EndsFailed, IsServed}
 use Rattle.vr_serve.specs.declared.stop.Stop.{Stop}
 use Rattle.vr_serve.specs.declared.stop.Stop.TheVariants as stop
@@ -28,9 +29,9 @@ served turns first node node' o o' b n s = (node', s)
 pub cut_off : (turns : ℕ) (first : List Output) (node : Node) (o o' : Outside) (b n : Counts) (s : Stop)
     → HasCauses {T = Unit {0}} b n (Err s) → (◌≡◌ {A = Result (Unit {0}) Stop} (Err s) (Err stop.Link) → EndsFailed o.got o'.got) → IsCut turns first node o o'
     → ServeEnds turns first node o o' b n (status_of s)
-cut_off turns first node o o' b n stop.Disk h l c = (h.stop, c)
+cut_off turns first node o o' b n stop.Disk h l c = (let d = h.disk in omega (arith, d), c)
 cut_off turns first node o o' b n stop.Link h l c = (h.stop, l refl, c)
-cut_off turns first node o o' b n stop.Write h l c = (h.stop, c)
+cut_off turns first node o o' b n stop.Write h l c = (let w = h.write in omega (arith, w), c)
 cut_off turns first node o o' b n stop.NoMemory h l c = c
 
 -- ---- the link
@@ -70,6 +71,7 @@ serve_later turns first node o o' d d' w l n status.SuperLost h e = absurd e
 serve_later turns first node o o' d d' w l n (status.OtherMember x y) h e = absurd e
 serve_later turns first node o o' d d' w l n status.Occupied h e = absurd e
 serve_later turns first node o o' d d' w l n status.NoAnswer h e = absurd e
+serve_later turns first node o o' d d' w l n status.SpawnFault h e = absurd e
 
 linked_later : (turns : ℕ) (first : List Output) (node : Node) (o o' : Outside) (d d' w l : ℕ) (n : Counts) (s : Status) → d ≤ d'
     → Unlinked o o' (counts d' w l) n s ⊎ ServeEnds turns first node o o' (counts d' w l) n s
@@ -115,22 +117,6 @@ unattached fresh c turns disk disk' left got taken sent d d' k l a rose = inl (r
 
 -- ---- no fault without its count
 
-linked_disk : (turns : ℕ) (first : List Output) (node : Node) (o o' : Outside) (b n : Counts)
-    → Unlinked o o' b n status.DiskFault ⊎ ServeEnds turns first node o o' b n status.DiskFault → Rose b.disk n.disk
-linked_disk turns first node o o' b n (inl x) = absurd (cc x.is)
-linked_disk turns first node o o' b n (inr x) = x.0
-
-attached_disk : (fresh : Bool) (c : Config) (turns : ℕ) (o o' : Outside) (b n : Counts) → EndsAttached fresh c turns o o' b n status.DiskFault → Rose b.disk n.disk
-attached_disk fresh c turns o o' b n (inl x) = x.rose refl
-attached_disk fresh c turns o o' b n (inr x) = linked_disk turns x.first x.node (on_disk x.disk o) o' b n x.ends
-
-node_disk_at : (fresh : Bool) (c : Config) (turns : ℕ) (o o' : Outside) (b n : Counts) → NodeEnds fresh c turns o o' b n status.DiskFault → Rose b.disk n.disk
-node_disk_at fresh c turns o o' b n (inl x) = x.rose
-node_disk_at fresh c turns o o' b n (inr x) = attached_disk fresh c turns (on_disk x.0 o) o' b n x.2
-
-pub node_disk : (fresh : Bool) (c : Config) (turns : ℕ) (o o' : Outside) (b n : Counts) (s : Status) → NodeEnds fresh c turns o o' b n s → s ≡ status.DiskFault → Rose b.disk n.disk
-node_disk fresh c turns o o' b n s e is = node_disk_at fresh c turns o o' b n (subst (λ x. NodeEnds fresh c turns o o' b n x) is e)
-
 linked_link : (turns : ℕ) (first : List Output) (node : Node) (o o' : Outside) (b n : Counts)
     → Unlinked o o' b n status.LinkFault ⊎ ServeEnds turns first node o o' b n status.LinkFault → Rose b.link n.link
 linked_link turns first node o o' b n (inl x) = x.rose
@@ -148,19 +134,63 @@ node_link_at fresh c turns o o' b n (inr x) = attached_link fresh c turns (on_di
 pub node_link : (fresh : Bool) (c : Config) (turns : ℕ) (o o' : Outside) (b n : Counts) (s : Status) → NodeEnds fresh c turns o o' b n s → s ≡ status.LinkFault → Rose b.link n.link
 node_link fresh c turns o o' b n s e is = node_link_at fresh c turns o o' b n (subst (λ x. NodeEnds fresh c turns o o' b n x) is e)
 
-linked_write : (turns : ℕ) (first : List Output) (node : Node) (o o' : Outside) (b n : Counts)
-    → Unlinked o o' b n status.WriteFault ⊎ ServeEnds turns first node o o' b n status.WriteFault → Rose b.write n.write
-linked_write turns first node o o' b n (inl x) = absurd (cc x.is)
-linked_write turns first node o o' b n (inr x) = x.0
+-- ---- counts
 
-attached_write : (fresh : Bool) (c : Config) (turns : ℕ) (o o' : Outside) (b n : Counts) → EndsAttached fresh c turns o o' b n status.WriteFault → Rose b.write n.write
-attached_write true c turns o o' b n (inl x) = absurd x.why
-attached_write false c turns o o' b n (inl x) = absurd x.why
-attached_write fresh c turns o o' b n (inr x) = linked_write turns x.first x.node (on_disk x.disk o) o' b n x.ends
+pub stop_disk : (s : Stop) (b n : ℕ) → n ≡ serve.disk_after {T = Unit {0}} (Err s) b → n ≡ disk_after (status_of s) b
+stop_disk stop.Disk b n e = e
+stop_disk stop.Link b n e = e
+stop_disk stop.Write b n e = e
+stop_disk stop.NoMemory b n e = e
 
-node_write_at : (fresh : Bool) (c : Config) (turns : ℕ) (o o' : Outside) (b n : Counts) → NodeEnds fresh c turns o o' b n status.WriteFault → Rose b.write n.write
-node_write_at fresh c turns o o' b n (inl x) = absurd (cc x.is)
-node_write_at fresh c turns o o' b n (inr x) = attached_write fresh c turns (on_disk x.0 o) o' b n x.2
+pub stop_writes : (s : Stop) (b n : ℕ) → n ≡ serve.writes_after {T = Unit {0}} (Err s) b → n ≡ writes_after (status_of s) b
+stop_writes stop.Disk b n e = e
+stop_writes stop.Link b n e = e
+stop_writes stop.Write b n e = e
+stop_writes stop.NoMemory b n e = e
 
-pub node_write : (fresh : Bool) (c : Config) (turns : ℕ) (o o' : Outside) (b n : Counts) (s : Status) → NodeEnds fresh c turns o o' b n s → s ≡ status.WriteFault → Rose b.write n.write
-node_write fresh c turns o o' b n s e is = node_write_at fresh c turns o o' b n (subst (λ x. NodeEnds fresh c turns o o' b n x) is e)
+-- an opening that fails counts no fault but the disk's
+pub unopened_disk : (s : Status) (b n : ℕ) → (s ≡ status.DiskFault → n ≡ one_more b) → (s ≢ status.DiskFault → n ≡ b) → n ≡ disk_after s b
+unopened_disk status.Done b n f g = g (λ e. let no : status.Done ≡ status.DiskFault = e in cc)
+unopened_disk status.Usage b n f g = g (λ e. let no : status.Usage ≡ status.DiskFault = e in cc)
+unopened_disk (status.Refused k) b n f g = g (λ e. let no : status.Refused k ≡ status.DiskFault = e in cc)
+unopened_disk status.SessionLost b n f g = g (λ e. let no : status.SessionLost ≡ status.DiskFault = e in cc)
+unopened_disk status.ReadFault b n f g = g (λ e. let no : status.ReadFault ≡ status.DiskFault = e in cc)
+unopened_disk status.WriteFault b n f g = g (λ e. let no : status.WriteFault ≡ status.DiskFault = e in cc)
+unopened_disk status.DiskFault b n f g = f refl
+unopened_disk status.LinkFault b n f g = g (λ e. let no : status.LinkFault ≡ status.DiskFault = e in cc)
+unopened_disk status.SuperLost b n f g = g (λ e. let no : status.SuperLost ≡ status.DiskFault = e in cc)
+unopened_disk (status.OtherMember x y) b n f g = g (λ e. let no : status.OtherMember x y ≡ status.DiskFault = e in cc)
+unopened_disk status.NoMemory b n f g = g (λ e. let no : status.NoMemory ≡ status.DiskFault = e in cc)
+unopened_disk status.Occupied b n f g = g (λ e. let no : status.Occupied ≡ status.DiskFault = e in cc)
+unopened_disk status.NoAnswer b n f g = g (λ e. let no : status.NoAnswer ≡ status.DiskFault = e in cc)
+unopened_disk status.SpawnFault b n f g = g (λ e. let no : status.SpawnFault ≡ status.DiskFault = e in cc)
+
+pub unopened_writes : (fresh : Bool) (c : Config) (d d' : Option Disk) (s : Status) (n : ℕ) → OpensNone fresh c d d' s → n ≡ writes_after s n
+unopened_writes true c d d' status.Done n h = refl
+unopened_writes true c d d' status.Usage n h = refl
+unopened_writes true c d d' (status.Refused k) n h = refl
+unopened_writes true c d d' status.SessionLost n h = refl
+unopened_writes true c d d' status.ReadFault n h = refl
+unopened_writes true c d d' status.WriteFault n h = absurd h
+unopened_writes true c d d' status.DiskFault n h = refl
+unopened_writes true c d d' status.LinkFault n h = refl
+unopened_writes true c d d' status.SuperLost n h = refl
+unopened_writes true c d d' (status.OtherMember x y) n h = refl
+unopened_writes true c d d' status.NoMemory n h = refl
+unopened_writes true c d d' status.Occupied n h = refl
+unopened_writes true c d d' status.NoAnswer n h = refl
+unopened_writes true c d d' status.SpawnFault n h = refl
+unopened_writes false c d d' status.Done n h = refl
+unopened_writes false c d d' status.Usage n h = refl
+unopened_writes false c d d' (status.Refused k) n h = refl
+unopened_writes false c d d' status.SessionLost n h = refl
+unopened_writes false c d d' status.ReadFault n h = refl
+unopened_writes false c d d' status.WriteFault n h = absurd h
+unopened_writes false c d d' status.DiskFault n h = refl
+unopened_writes false c d d' status.LinkFault n h = refl
+unopened_writes false c d d' status.SuperLost n h = refl
+unopened_writes false c d d' (status.OtherMember x y) n h = refl
+unopened_writes false c d d' status.NoMemory n h = refl
+unopened_writes false c d d' status.Occupied n h = refl
+unopened_writes false c d d' status.NoAnswer n h = refl
+unopened_writes false c d d' status.SpawnFault n h = refl

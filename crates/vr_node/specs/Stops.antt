@@ -1,4 +1,6 @@
--- The status of a loop that ended early.
+-- The status of a loop that ended early, and the counts of faults at an end.
+use Rattle.std.specs.Prelude.{ℕ}
+use Rattle.vr_base.specs.Causes.{one_more}
 use Rattle.vr_serve.specs.declared.stop.Stop.{Stop}
 use Rattle.vr_serve.specs.declared.stop.Stop.TheVariants as stop
 use Rattle.vr_status.specs.declared.status.Status.{Status}
@@ -9,3 +11,13 @@ status_of stop.Disk = DiskFault
 status_of stop.Link = LinkFault
 status_of stop.Write = WriteFault
 status_of stop.NoMemory = NoMemory
+
+-- the count of the disk's faults at the end: one more where it ended with a fault of the disk
+abbrev pub disk_after : Status → ℕ → ℕ
+disk_after DiskFault count = one_more count
+disk_after _ count = count
+
+-- that of the sink's
+abbrev pub writes_after : Status → ℕ → ℕ
+writes_after WriteFault count = one_more count
+writes_after _ count = count

@@ -17,7 +17,8 @@ pub struct Node {
 
 /// Why a step stopped, as the loop hears it.
 fn halt_of(why: vr_replica::Halt) -> Halt
-    ensures { result ≡ stop.Disk → why ≡ halt.DiskFault }
+    ensures disk { result ≡ stop.Disk → why ≡ halt.DiskFault }
+    ensures memory { result ≡ stop.NoMemory → why ≡ halt.NoMemory }
 {
     match why {
         vr_replica::Halt::DiskFault => Halt::Disk,

@@ -3,7 +3,7 @@ ghost use Rattle.std.specs.Prelude.{◌≡◌, ◌⊎◌, ◌<◌, ◌≤◌, is
 ghost use Rattle.vr_base.specs.Causes.{Rose};
 ghost use Rattle.vr_base.specs.Groups.{quorums_of};
 ghost use Rattle.vr_node.specs.Running.{EndsAttached, NodeEnds, ServeEnds, Unlinked, outside};
-ghost use Rattle.vr_node.specs.Stops.{status_of};
+ghost use Rattle.vr_node.specs.Stops.{disk_after, status_of, writes_after};
 ghost use Rattle.vr_serve.specs.Causes.{counts};
 
 use crate::opening::open_member;
@@ -41,9 +41,12 @@ fn serve_turns<D: SectorDisk, L: Link, C: Clock, K: Sink>(
     turns: u64,
 ) -> Status
     requires { node.old.replica.running ≡ true }
-    ensures { ServeEnds turns first node.old (outside (D.told disk.old) (C.left clock.old) (L.received link.old) (K.taken sink.old) (L.sent link.old))
+    ensures ends { ServeEnds turns first node.old (outside (D.told disk.old) (C.left clock.old) (L.received link.old) (K.taken sink.old) (L.sent link.old))
         (outside (D.told disk.new) (C.left clock.new) (L.received link.new) (K.taken sink.new) (L.sent link.new))
         (counts (D.faults disk.old) (K.faults sink.old) (L.faults link.old)) (counts (D.faults disk.new) (K.faults sink.new) (L.faults link.new)) result }
+    // A fault of the disk or of the sink is told: no other end leaves one.
+    ensures disk { D.faults disk.new ≡ disk_after result (D.faults disk.old) }
+    ensures write { K.faults sink.new ≡ writes_after result (K.faults sink.old) }
 {
     match serve(alloc, node, first, disk, link, clock, sink, turns) {
         Ok(()) => Status::Done,
@@ -65,12 +68,15 @@ fn serve_group<D: SectorDisk, L: Link, C: Clock, K: Sink>(
 ) -> Status
     requires running { node.old.replica.running ≡ true }
     requires member { role.now.config.replica < vec_len role.now.peers }
-    ensures { Unlinked (outside (D.told disk.old) (C.left clock.old) (L.received link.old) (K.taken sink.old) (L.sent link.old))
+    ensures ends { Unlinked (outside (D.told disk.old) (C.left clock.old) (L.received link.old) (K.taken sink.old) (L.sent link.old))
         (outside (D.told disk.new) (C.left clock.new) (L.received link.new) (K.taken sink.new) (L.sent link.new))
         (counts (D.faults disk.old) (K.faults sink.old) (L.faults link.old)) (counts (D.faults disk.new) (K.faults sink.new) (L.faults link.new)) result
         ⊎ ServeEnds role.now.turns first node.old (outside (D.told disk.old) (C.left clock.old) (L.received link.old) (K.taken sink.old) (L.sent link.old))
         (outside (D.told disk.new) (C.left clock.new) (L.received link.new) (K.taken sink.new) (L.sent link.new))
         (counts (D.faults disk.old) (K.faults sink.old) (L.faults link.old)) (counts (D.faults disk.new) (K.faults sink.new) (L.faults link.new)) result }
+    // A fault of the disk or of the sink is told: no other end leaves one.
+    ensures disk { D.faults disk.new ≡ disk_after result (D.faults disk.old) }
+    ensures write { K.faults sink.new ≡ writes_after result (K.faults sink.old) }
 {
     let own = role.peers[usize::from(role.config.replica)].as_str();
     match link.attach(own, &role.peers) {
@@ -92,9 +98,12 @@ fn open_and_serve<D: SectorDisk, L: Link, C: Clock, K: Sink>(
     requires size { is_some (quorums_of role.now.config.n) ≡ true }
     requires member { role.now.config.replica < role.now.config.n }
     requires peers { role.now.config.n ≤ vec_len role.now.peers }
-    ensures { EndsAttached role.now.is_fresh role.now.config role.now.turns (outside (D.told disk.old) (C.left clock.old) (L.received link.old) (K.taken sink.old) (L.sent link.old))
+    ensures ends { EndsAttached role.now.is_fresh role.now.config role.now.turns (outside (D.told disk.old) (C.left clock.old) (L.received link.old) (K.taken sink.old) (L.sent link.old))
         (outside (D.told disk.new) (C.left clock.new) (L.received link.new) (K.taken sink.new) (L.sent link.new))
         (counts (D.faults disk.old) (K.faults sink.old) (L.faults link.old)) (counts (D.faults disk.new) (K.faults sink.new) (L.faults link.new)) result }
+    // A fault of the disk or of the sink is told: no other end leaves one.
+    ensures disk { D.faults disk.new ≡ disk_after result (D.faults disk.old) }
+    ensures write { K.faults sink.new ≡ writes_after result (K.faults sink.old) }
 {
     let mut first = Seq::new(alloc);
     match open_member(alloc, disk, &role.config, role.is_fresh, &mut first) {
@@ -114,7 +123,7 @@ fn open_and_serve<D: SectorDisk, L: Link, C: Clock, K: Sink>(
 
 /// A member in its role: its disk is attached, the member is made or found again, its link is attached, and it serves its turns, each
 /// event one step of the rules. Its end has its cause: what stands on the disk, or a fault that the count of its object tells.
-#[tactic(auto, using(crate::proofs::Ends::attached, crate::proofs::Ends::unattached, crate::proofs::Ends::node_disk, crate::proofs::Ends::node_link, crate::proofs::Ends::node_write))]
+#[tactic(auto, using(crate::proofs::Ends::attached, crate::proofs::Ends::unattached, crate::proofs::Ends::node_link))]
 pub fn run_node<D: SectorDisk, L: Link, C: Clock, K: Sink>(
     alloc: Global,
     role: &Role,
@@ -129,10 +138,10 @@ pub fn run_node<D: SectorDisk, L: Link, C: Clock, K: Sink>(
     ensures ends { NodeEnds role.now.is_fresh role.now.config role.now.turns (outside (D.told disk.old) (C.left clock.old) (L.received link.old) (K.taken sink.old) (L.sent link.old))
         (outside (D.told disk.new) (C.left clock.new) (L.received link.new) (K.taken sink.new) (L.sent link.new))
         (counts (D.faults disk.old) (K.faults sink.old) (L.faults link.old)) (counts (D.faults disk.new) (K.faults sink.new) (L.faults link.new)) result }
-    // A fault has its cause in the object that was handed in.
-    ensures disk { result ≡ Status.DiskFault → Rose (D.faults disk.old) (D.faults disk.new) }
+    // A fault of the disk or of the sink is told, and no other answer leaves one. One of the link has its cause there.
+    ensures disk { D.faults disk.new ≡ disk_after result (D.faults disk.old) }
+    ensures write { K.faults sink.new ≡ writes_after result (K.faults sink.old) }
     ensures link { result ≡ Status.LinkFault → Rose (L.faults link.old) (L.faults link.new) }
-    ensures write { result ≡ Status.WriteFault → Rose (K.faults sink.old) (K.faults sink.new) }
 {
     match disk.attach(role.file.as_str()) {
         Ok(()) => open_and_serve(alloc, role, disk, link, clock, sink),

@@ -1,6 +1,6 @@
 -- Why a loop of turns ended before they were done.
-use Rattle.std.specs.Prelude.{ℕ, ◌≤◌, ◌≡◌, ⊤, Result, Err, IfErr}
-use Rattle.vr_base.specs.Causes.{Rose}
+use Rattle.std.specs.Prelude.{ℕ, ◌≤◌, ◌≡◌, ⊤, Result, Err, IfErr, OnOk}
+use Rattle.vr_base.specs.Causes.{Rose, one_more}
 use Rattle.vr_mail.specs.declared.receiving.ReceiveFault.{ReceiveFault}
 use Rattle.vr_mail.specs.declared.receiving.ReceiveFault.TheVariants as received
 use Rattle.vr_serve.specs.declared.member.Halt.{Halt}
@@ -8,10 +8,11 @@ use Rattle.vr_serve.specs.declared.member.Halt.TheVariants as halt
 use Rattle.vr_serve.specs.declared.stop.Stop.{Stop}
 use Rattle.vr_serve.specs.declared.stop.Stop.TheVariants as stop
 
--- the disk's faults don't fall, and a step stopped for its disk only where they rose
+-- a step that stopped for its disk adds one to the disk's faults, and any other end leaves them
 pub record HaltCause {T : Type 0} (before now : ℕ) (result : Result T Halt) : Type 0 where
-  pub later : before ≤ now
-  pub failed : result ≡ Err halt.Disk → Rose before now
+  pub kept : OnOk result (now ≡ before)
+  pub failed : result ≡ Err halt.Disk → now ≡ one_more before
+  pub wanted : result ≡ Err halt.NoMemory → now ≡ before
 
 abbrev pub stop_of : Halt → Stop
 stop_of halt.Disk = stop.Disk
@@ -30,15 +31,23 @@ pub record Counts : Type 0 where
 abbrev pub counts : ℕ → ℕ → ℕ → Counts
 counts disk write link = record { disk = disk; write = write; link = link }
 
-abbrev pub StopCause : Counts → Counts → Stop → Type 0
-StopCause before now stop.Disk = Rose before.disk now.disk
-StopCause before now stop.Link = Rose before.link now.link
-StopCause before now stop.Write = Rose before.write now.write
-StopCause before now stop.NoMemory = ⊤
+-- the count of the disk's faults at the end of a loop: one more where it ended for its disk
+abbrev pub disk_after : {T : Type 0} → Result T Stop → ℕ → ℕ
+disk_after (Err stop.Disk) count = one_more count
+disk_after _ count = count
 
--- no count falls, and where it ended early the count of what failed rose, or memory was short
+-- that of the sink's
+abbrev pub writes_after : {T : Type 0} → Result T Stop → ℕ → ℕ
+writes_after (Err stop.Write) count = one_more count
+writes_after _ count = count
+
+abbrev pub LinkCause : ℕ → ℕ → Stop → Type 0
+LinkCause before now stop.Link = Rose before now
+LinkCause before now _ = ⊤
+
+-- A fault of the disk or of the sink is told: no other end leaves one. The link's count doesn't fall, and where it ended for the link that rose.
 pub record HasCauses {T : Type 0} (before now : Counts) (result : Result T Stop) : Type 0 where
-  pub disk : before.disk ≤ now.disk
-  pub write : before.write ≤ now.write
+  pub disk : now.disk ≡ disk_after result before.disk
+  pub write : now.write ≡ writes_after result before.write
   pub link : before.link ≤ now.link
-  pub stop : IfErr result (StopCause before now)
+  pub stop : IfErr result (LinkCause before.link now.link)

@@ -24,7 +24,7 @@ pub fn event_of(message: Message) -> Event
 }
 
 /// An event that came from a port: one step, its text, and then its datagrams.
-#[tactic(auto, using(std::proofs::lemmas::Grind::common_steps, crate::proofs::Cutting::cut_none, crate::proofs::Cutting::cut_event, crate::proofs::Running::passed_one, crate::proofs::Ending::causes_put))]
+#[tactic(auto, using(std::proofs::lemmas::Grind::common_steps, crate::proofs::Cutting::cut_none, crate::proofs::Cutting::cut_event, crate::proofs::Running::passed_one, crate::proofs::Ending::causes_put, crate::proofs::Ending::causes_halted))]
 pub fn handle<M: Member, D: SectorDisk, K: Sink, L: Link>(
     alloc: Global,
     member: &mut M,

@@ -18,7 +18,7 @@ use vr_mail::receive_letter;
 use vr_msg::{Event, Outbox};
 
 /// One receive, and what comes of it.
-#[tactic(auto, using(crate::proofs::Ending::rose_later, crate::proofs::Ending::causes_none))]
+#[tactic(auto, using(crate::proofs::Ending::causes_none, crate::proofs::Ending::causes_later, crate::proofs::Ending::causes_received))]
 fn arrive<M: Member, D: SectorDisk, K: Sink, L: Link>(
     alloc: Global,
     cluster: u64,
@@ -52,7 +52,7 @@ fn arrive<M: Member, D: SectorDisk, K: Sink, L: Link>(
 }
 
 /// What comes of a look at the clock. It returns the last tick after it.
-#[tactic(auto, using(crate::proofs::Ending::rose_later, crate::proofs::Ending::causes_none))]
+#[tactic(auto, using(crate::proofs::Ending::causes_none, crate::proofs::Ending::causes_later, crate::proofs::Ending::causes_received))]
 fn beat<M: Member, D: SectorDisk, K: Sink, L: Link>(
     alloc: Global,
     member: &mut M,
@@ -88,7 +88,7 @@ fn beat<M: Member, D: SectorDisk, K: Sink, L: Link>(
 }
 
 /// One turn. It returns the last tick after it.
-#[tactic(auto, using(crate::proofs::Ending::rose_later, crate::proofs::Ending::causes_none))]
+#[tactic(auto, using(crate::proofs::Ending::causes_none, crate::proofs::Ending::causes_later, crate::proofs::Ending::causes_received))]
 fn turn<M: Member, D: SectorDisk, K: Sink, L: Link, C: Clock>(
     alloc: Global,
     cluster: u64,
@@ -122,7 +122,7 @@ fn turn<M: Member, D: SectorDisk, K: Sink, L: Link, C: Clock>(
 }
 
 /// Puts out what came first, and then does so many turns.
-#[tactic(auto, using(crate::proofs::Ending::rose_later, crate::proofs::Ending::causes_none))]
+#[tactic(auto, using(crate::proofs::Ending::causes_none, crate::proofs::Ending::causes_later, crate::proofs::Ending::causes_received))]
 pub fn serve<M: Member, D: SectorDisk, K: Sink, L: Link, C: Clock>(
     alloc: Global,
     cluster: u64,

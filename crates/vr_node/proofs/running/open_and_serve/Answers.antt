@@ -1,13 +1,14 @@
-use Rattle.std.proofs.Common.{◌≡◌, true, subst, sym}
+use Rattle.std.proofs.Common.{◌≡◌, ◌∙◌, ap, true, subst, sym}
 use Rattle.vr_node.specs.Opening.{Opens}
 use Rattle.vr_node.specs.Running.{outside}
-use Rattle.vr_node.proofs.Ends.{opened}
+use Rattle.vr_node.specs.Stops.{disk_after}
+use Rattle.vr_node.proofs.Ends.{opened, unopened_disk, unopened_writes}
 use Rattle.vr_replica.specs.Running.{Running}
 use Rattle.vr_serve.specs.Causes.{counts}
 use Rattle.vr_node.proofs.running.open_and_serve.Goals as goal
 
-pub returns-in-Ok : goal.returns-in-Ok
-returns-in-Ok g c =
+pub returns-in-Ok-clause-ends : goal.returns-in-Ok-clause-ends
+returns-in-Ok-clause-ends g c =
     let role = c.args.role.now in
     let disk = g.D.SectorDisk.told c.args.disk.now in
     let disk' = g.D.SectorDisk.told c.open_member.new.disk in
@@ -23,4 +24,13 @@ returns-in-Ok g c =
     let runs : c.new.result.replica.running ≡ true = subst (λ (r : Running). r.running ≡ true) (sym c.new.ensures) c.in-Ok.ensures.running in
     opened role.is_fresh role.config role.turns first c.new.result disk disk' left got taken sent
     (g.D.SectorDisk.faults c.args.disk.now) (g.D.SectorDisk.faults c.open_member.new.disk) (g.K.Sink.faults c.args.sink.now) (g.L.Link.faults c.args.link.now)
-    o' n c.serve_group.result opens runs c.open_member.ensures.cause.later c.serve_group.ensures
+    o' n c.serve_group.result opens runs c.open_member.ensures.cause.later c.serve_group.ensures.ends
+
+pub returns-in-Ok-clause-disk : goal.returns-in-Ok-clause-disk
+returns-in-Ok-clause-disk g c = c.serve_group.ensures.disk ∙ ap (disk_after c.serve_group.result) c.in-Ok.ensures.cause.kept
+
+pub returns-in-Err-clause-disk : goal.returns-in-Err-clause-disk
+returns-in-Err-clause-disk g c = unopened_disk c.in-Err.status _ _ c.in-Err.ensures.cause.failed c.in-Err.ensures.cause.spared
+
+pub returns-in-Err-clause-write : goal.returns-in-Err-clause-write
+returns-in-Err-clause-write g c = unopened_writes c.args.role.now.is_fresh _ _ _ c.in-Err.status _ c.in-Err.ensures.opened

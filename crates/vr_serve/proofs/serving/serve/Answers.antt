@@ -1,4 +1,4 @@
-use Rattle.std.proofs.Common.{Err, ◌∷◌, rules, sym, ◌≡◌, ◌∙◌, ◌⊎◌, [], ap, arith, inr, subst}
+use Rattle.std.proofs.Common.{Err, ◌∷◌, refl, rules, sym, ◌≡◌, ◌∙◌, ◌⊎◌, [], ap, arith, inr, subst}
 use Rattle.std.specs.Io.KnownBytes.{Appends}
 use Rattle.vr_edge.specs.Datagrams.{Failed}
 use Rattle.vr_mail.proofs.Growing.{grows_trans}
@@ -18,9 +18,9 @@ loop-init g c =
     let none : c.in_ok-post.post.clients.items ≡ [] = c.in_ok-post.ensures.clients in
     record {
       running = c.requires;
-      disk = omega arith;
-      write = c.put_out.ensures.causes.write;
-      link = c.put_out.ensures.causes.link;
+      disk = refl;
+      write = c.in_ok-put_out.ensures.causes.write;
+      link = c.in_ok-put_out.ensures.causes.link;
       serving = serving_begins g.M.Member.does c.args.cluster c.now-last.result c.args.first c.args.member.now (g.D.SectorDisk.told c.args.disk.now)
           (g.C.Clock.left c.args.clock.now) (g.C.Clock.left c.now-last.new.self) (g.L.Link.received c.args.link.now) (g.L.Link.received c.put_out.new.link)
           (g.K.Sink.taken c.args.sink.now) (g.K.Sink.taken c.put_out.new.sink) (g.L.Link.sent c.args.link.now) (g.L.Link.sent c.put_out.new.link)
@@ -40,9 +40,9 @@ loop-preserved g c =
     let t = c.in_ok-last.ensures.turned in
     record {
       running = c.in_ok-last.ensures.running;
-      disk = omega (arith, c.loop.invariant.disk, c.turn.ensures.causes.disk);
-      write = omega (arith, c.loop.invariant.write, c.turn.ensures.causes.write);
-      link = omega (arith, c.loop.invariant.link, c.turn.ensures.causes.link);
+      disk = c.in_ok-last.ensures.causes.disk ∙ c.loop.invariant.disk;
+      write = c.in_ok-last.ensures.causes.write ∙ c.loop.invariant.write;
+      link = omega (arith, c.loop.invariant.link, c.in_ok-last.ensures.causes.link);
       serving = serving_more g.M.Member.does c.args.cluster c.loop.counter c.loop.last c.in_ok-last.last c.args.first c.args.member.now (g.D.SectorDisk.told c.args.disk.now)
           (g.C.Clock.left c.args.clock.now) (g.C.Clock.left c.loop.clock) (g.C.Clock.left c.turn.new.clock)
           (g.L.Link.received c.args.link.now) (g.L.Link.received c.loop.link) (g.L.Link.received c.turn.new.link)

@@ -6,8 +6,8 @@ use Rattle.vr_serve.proofs.serving.serve.Given as goal
 abbrev pub invariant-loop : goal.invariant-loop
 invariant-loop g l = record {
   running : g.M.Member.runs l.member ≡ true;
-  disk : g.D.SectorDisk.faults l.fn.disk ≤ g.D.SectorDisk.faults l.disk;
-  write : g.K.Sink.faults l.fn.sink ≤ g.K.Sink.faults l.sink;
+  disk : g.D.SectorDisk.faults l.disk ≡ g.D.SectorDisk.faults l.fn.disk;
+  write : g.K.Sink.faults l.sink ≡ g.K.Sink.faults l.fn.sink;
   link : g.L.Link.faults l.fn.link ≤ g.L.Link.faults l.link;
   serving : Serving g.M.Member.does l.cluster l.counter l.last l.fn.first l.fn.member (g.D.SectorDisk.told l.fn.disk)
       (g.C.Clock.left l.fn.clock) (g.C.Clock.left l.clock) (g.L.Link.received l.fn.link) (g.L.Link.received l.link)
