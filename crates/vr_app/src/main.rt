@@ -1,17 +1,27 @@
-//! The program over the real outside: standard input and output, a file, UDP or TCP, and the system's clock.
+//! The program over the real outside: standard input and output, a file, UDP or TCP, the system's clock, and runs of itself.
 #![tactic(auto)]
 
 use std::alloc::AllocError;
 use std::io::ErrorKind;
+use std::path::PathBuf;
 use std::process::ExitCode;
 use vr_program::run;
-use vr_real::{FileDisk, RealClock, RealLink, StdSink, StdSource};
+use vr_real::{FileDisk, RealClock, RealLink, RealSpawner, StdSink, StdSource};
 use vr_status::{Status, code, status_line};
 
 /// The words after the program's name, `None` where one of them is no text.
 fn words(rt: &HostRuntime) -> Result<Option<Vec<String>>, AllocError> {
     match std::env::args(rt) {
         Ok(args) => Ok(Some(args.skip(1).collect(rt.alloc())?)),
+        Err(error) if error.kind() == ErrorKind::OutOfMemory => Err(AllocError),
+        Err(_) => Ok(None),
+    }
+}
+
+/// Where this program stands, `None` where the system doesn't tell it.
+fn own_path(rt: &HostRuntime) -> Result<Option<PathBuf>, AllocError> {
+    match std::env::current_exe(rt) {
+        Ok(path) => Ok(Some(path)),
         Err(error) if error.kind() == ErrorKind::OutOfMemory => Err(AllocError),
         Err(_) => Ok(None),
     }
@@ -28,6 +38,7 @@ fn run_outside(rt: &HostRuntime) -> Result<Status, AllocError> {
     let mut disk = FileDisk::new(rt);
     let mut link = RealLink::new(alloc, rt)?;
     let mut clock = RealClock::new(rt);
+    let mut spawner = RealSpawner::new(alloc, rt, own_path(rt)?);
     match run(
         alloc,
         &words,
@@ -36,6 +47,7 @@ fn run_outside(rt: &HostRuntime) -> Result<Status, AllocError> {
         &mut disk,
         &mut link,
         &mut clock,
+        &mut spawner,
     ) {
         Some(status) => Ok(status),
         None => Ok(vr_replay::run(

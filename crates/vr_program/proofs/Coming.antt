@@ -7,16 +7,20 @@ use Rattle.vr_ask.specs.Run as run
 use Rattle.vr_base.specs.Groups.{quorums_of}
 use Rattle.vr_base.specs.declared.table.Config.{Config}
 use Rattle.vr_node.specs.Running as node
-use Rattle.vr_program.specs.Run.{Comes, Faults, IsGood, Outside, RunEnds, client_of, config_of, counts_of, faults_of, of_client, of_member}
+use Rattle.vr_program.specs.Run.{Comes, Faults, IsGood, Outside, RunEnds, client_of, config_of, counts_of, faults_of, of_client, of_member, of_trial, trial_faults, trial_of}
 use Rattle.vr_serve.specs.Causes as serve
 use Rattle.vr_soak.specs.Ends.{SoakEnds}
 use Rattle.vr_soak.specs.Summing.{soak_text}
 use Rattle.vr_status.specs.declared.status.Status.{Status}
 use Rattle.vr_status.specs.declared.status.Status.TheVariants.{NoMemory, Usage}
-use Rattle.vr_words.specs.Asked.{Asked, Client, ClientAsked, Node, NodeAsked, Replay, Soak, client_says, is_size, node_says}
+use Rattle.vr_trial.specs.Run as trial
+use Rattle.vr_trial.specs.Told as told
+use Rattle.vr_trial.specs.declared.plan.Plan.{Plan}
+use Rattle.vr_words.specs.Asked.{Asked, Client, ClientAsked, Node, NodeAsked, Replay, Soak, Trial, TrialAsked, client_says, is_size, node_says, trial_says}
 use Rattle.vr_words.specs.declared.command.ClientWords.{ClientWords}
 use Rattle.vr_words.specs.declared.command.NodeWords.{NodeWords}
 use Rattle.vr_words.specs.declared.command.SoakWords.{SoakWords}
+use Rattle.vr_words.specs.declared.command.TrialWords.{TrialWords}
 
 size_bounds : (n : ℕ) → is_size n ≡ true → (2 ≤ n) × (n ≤ 6)
 size_bounds n e = (grind (arith, nat_tests), grind (arith, nat_tests))
@@ -84,15 +88,41 @@ pub by_client : (w : ClientWords) (o o' : run.Outside) (b n : ask.Faults) (s : S
     → run.ClientEnds (run.client_with w.cluster w.id (vec_len w.peers) w.turns) o o' b n s → run.ClientEnds (client_of (client_says w)) o o' b n s
 by_client w o o' b n s e = subst (λ k. run.ClientEnds (run.client_with w.cluster w.id k w.turns) o o' b n s) (sym (client_peers w)) e
 
+-- ---- a trial's words
+
+trial_peers : (w : TrialWords) → length (map string_bytes w.peers.items) ≡ vec_len w.peers
+trial_peers w = map_length string_bytes w.peers.items ∙ sym w.peers.ok.0
+
+pub trial_least : (w : TrialWords) → IsGood (Trial (trial_says w)) → 2 ≤ vec_len w.peers
+trial_least w h = subst (λ n. 2 ≤ n) (trial_peers w) (size_bounds (length (map string_bytes w.peers.items)) h).0
+
+pub trial_most : (w : TrialWords) → IsGood (Trial (trial_says w)) → vec_len w.peers ≤ 6
+trial_most w h = subst (λ n. n ≤ 6) (trial_peers w) (size_bounds (length (map string_bytes w.peers.items)) h).1
+
+abbrev trial_with : ℕ → ℕ → List ℕ → List (List ℕ) → ℕ → told.Trial
+trial_with cluster turns files peers n = record { client = run.client_with cluster 1 n turns; files = files; peers = peers }
+
+-- the plan with a trial's words is what they say
+pub planned : (w : TrialWords) → trial_with w.cluster w.turns (string_bytes w.files) (map string_bytes w.peers.items) (vec_len w.peers) ≡ trial_of (trial_says w)
+planned w = ap (trial_with w.cluster w.turns (string_bytes w.files) (map string_bytes w.peers.items)) (sym (trial_peers w))
+
+pub by_plan : (p : told.Trial) (q : told.Trial) (o o' : trial.Outside) (b n : trial.Faults) (s : Status)
+    → p ≡ q → trial.TrialEnds p o o' b n s → trial.TrialEnds q o o' b n s
+by_plan p q o o' b n s same e = subst (λ t. trial.TrialEnds t o o' b n s) same e
+
 -- ---- what a command comes to
 
 pub serves : (a : NodeAsked) (o o' : Outside) (b n : Faults) (s : Status)
-    → node.NodeEnds a.is_fresh (config_of a) a.turns (of_member o) (of_member o') (counts_of b) (counts_of n) s → o'.source ≡ o.source → Comes (Some (Node a)) o o' b n (Some s)
-serves a o o' b n s e u = (s, refl, record { ends = e; unread = u })
+    → node.NodeEnds a.is_fresh (config_of a) a.turns (of_member o) (of_member o') (counts_of b) (counts_of n) s → o'.source ≡ o.source → o'.calls ≡ o.calls → Comes (Some (Node a)) o o' b n (Some s)
+serves a o o' b n s e u k = (s, refl, record { ends = e; unread = u; calls = k })
 
 pub asks : (a : ClientAsked) (o o' : Outside) (b n : Faults) (s : Status)
-    → run.ClientEnds (client_of a) (of_client o) (of_client o') (faults_of b) (faults_of n) s → o'.disk ≡ o.disk → o'.clock ≡ o.clock → Comes (Some (Client a)) o o' b n (Some s)
-asks a o o' b n s e d c = (s, refl, record { ends = e; disk = d; clock = c })
+    → run.ClientEnds (client_of a) (of_client o) (of_client o') (faults_of b) (faults_of n) s → o'.disk ≡ o.disk → o'.clock ≡ o.clock → o'.calls ≡ o.calls → Comes (Some (Client a)) o o' b n (Some s)
+asks a o o' b n s e d c k = (s, refl, record { ends = e; disk = d; clock = c; calls = k })
+
+pub tries : (a : TrialAsked) (o o' : Outside) (b n : Faults) (s : Status)
+    → trial.TrialEnds (trial_of a) (of_trial o) (of_trial o') (trial_faults b) (trial_faults n) s → o'.source ≡ o.source → o'.disk ≡ o.disk → o'.clock ≡ o.clock → Comes (Some (Trial a)) o o' b n (Some s)
+tries a o o' b n s e u d c = (s, refl, record { ends = e; unread = u; disk = d; clock = c })
 
 pub soaks : (w : SoakWords) (o o' : Outside) (b n : Faults) (s : Status)
     → SoakEnds b.sink n.sink o.sink o'.sink (soak_text w.seed w.count) s → record o' { sink = o.sink } ≡ o → Comes (Some (Soak w)) o o' b n (Some s)

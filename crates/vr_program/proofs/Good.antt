@@ -8,7 +8,7 @@ use Rattle.std.proofs.lemmas.Grind.{common_steps}
 use Rattle.clap.specs.Words.{Row, Text, all_of, fault_of, first_of, subcommand_of}
 use Rattle.vr_program.specs.Run.{IsGood}
 use Rattle.vr_sched.specs.Numbers.{number_below, number_of}
-use Rattle.vr_words.specs.Asked.{Asked, Client, ClientAsked, Node, NodeAsked, Replay, Soak, asked, asked_at, asker_at, below_at, client_at, fresh_at, id_at, is_size, is_taken, member_at, node_at, number_at, peers_at, soak_at}
+use Rattle.vr_words.specs.Asked.{Asked, Client, ClientAsked, Node, NodeAsked, Replay, Soak, asked, asked_at, asker_at, below_at, client_at, fresh_at, id_at, is_size, is_taken, member_at, node_at, number_at, peers_at, soak_at, Trial, TrialAsked, trial_at, trier_at}
 use Rattle.vr_words.specs.Forms.{the_command}
 use Rattle.vr_words.specs.declared.command.SoakWords.{SoakWords}
 
@@ -133,6 +133,35 @@ client_good : (rows : List Row) (a : ClientAsked) → client_at rows ≡ Some a 
 unfolding client_at
 client_good rows a e = client_by rows (peers_at rows) (peers_size rows) a e
 
+trier_by : (peers : List Text) (cluster turns : Option ℕ) (files : Option Text) (a : TrialAsked)
+    → option_and_then
+    (λ cluster. option_and_then
+    (λ turns. option_map (λ files. record { cluster = cluster; turns = turns; files = files; peers = peers }) files)
+    turns)
+    cluster
+    ≡ Some a → a.peers ≡ peers
+trier_by peers None turns files a e = absurd (cc e)
+trier_by peers (Some c) None files a e = absurd (cc e)
+trier_by peers (Some c) (Some t) None a e = absurd (cc e)
+trier_by peers (Some c) (Some t) (Some f) a e =
+    let same : record { cluster = c; turns = t; files = f; peers = peers } ≡ a = cc e in
+    sym (ap (λ (x : TrialAsked). x.peers) same)
+
+trier_good : (peers : List Text) (rows : List Row) (a : TrialAsked) → trier_at peers rows ≡ Some a → a.peers ≡ peers
+unfolding trier_at
+trier_good peers rows a e = trier_by peers (number_at (codes "cluster") rows) (number_at (codes "turns") rows) (first_of (codes "files") rows) a e
+
+trial_by : (rows : List Row) (p : Option (List Text)) → ((peers : List Text) → p ≡ Some peers → is_size (length peers) ≡ true) → (a : TrialAsked)
+    → option_and_then (λ peers. trier_at peers rows) p ≡ Some a → IsGood (Trial a)
+trial_by rows None h a e = absurd (cc e)
+trial_by rows (Some peers) h a e =
+    let size : is_size (length peers) ≡ true = h peers refl in
+    subst (λ x. is_size (length x) ≡ true) (sym (trier_good peers rows a e)) size
+
+trial_good : (rows : List Row) (a : TrialAsked) → trial_at rows ≡ Some a → IsGood (Trial a)
+unfolding trial_at
+trial_good rows a e = trial_by rows (peers_at rows) (peers_size rows) a e
+
 soak_by : (seed count : Option ℕ) (w : SoakWords) → option_and_then (λ seed. option_map (λ count. record { seed = seed; count = count }) count) seed ≡ Some w → count ≡ Some w.count
 soak_by None count w e = absurd (cc e)
 soak_by (Some s) None w e = absurd (cc e)
@@ -146,8 +175,11 @@ soak_good rows w e = below_text 1000000 (first_of (codes "count") rows) w.count 
 
 -- ---- commands
 
+abbrev at_trial : Text → List Row → Option Asked
+at_trial name rows = if bytes_eq name (codes "trial") then option_map Trial (trial_at rows) else None
+
 abbrev at_client : Text → List Row → Option Asked
-at_client name rows = if bytes_eq name (codes "client") then option_map Client (client_at rows) else None
+at_client name rows = if bytes_eq name (codes "client") then option_map Client (client_at rows) else at_trial name rows
 
 abbrev at_node : Text → List Row → Option Asked
 at_node name rows = if bytes_eq name (codes "node") then option_map Node (node_at rows) else at_client name rows
@@ -155,11 +187,17 @@ at_node name rows = if bytes_eq name (codes "node") then option_map Node (node_a
 abbrev at_soak : Text → List Row → Option Asked
 at_soak name rows = if bytes_eq name (codes "soak") then option_map Soak (soak_at rows) else at_node name rows
 
-fourth : (b : Bool) (rows : List Row) (a : Asked) → (if b then option_map Client (client_at rows) else None) ≡ Some a → IsGood a
-fourth b rows a e =
-    let x = if_some b (option_map Client (client_at rows)) a e in
-    let y = map_some Client (client_at rows) a x.1 in
+fifth : (b : Bool) (rows : List Row) (a : Asked) → (if b then option_map Trial (trial_at rows) else None) ≡ Some a → IsGood a
+fifth b rows a e =
+    let x = if_some b (option_map Trial (trial_at rows)) a e in
+    let y = map_some Trial (trial_at rows) a x.1 in
+    subst IsGood y.2 (trial_good rows y.0 y.1)
+
+fourth : (b : Bool) (rows : List Row) (a : Asked) (z : Option Asked) → (z ≡ Some a → IsGood a) → (if b then option_map Client (client_at rows) else z) ≡ Some a → IsGood a
+fourth true rows a z later e =
+    let y = map_some Client (client_at rows) a e in
     subst IsGood y.2 (client_good rows y.0 y.1)
+fourth false rows a z later e = later e
 
 third : (b : Bool) (rows : List Row) (a : Asked) (z : Option Asked) → (z ≡ Some a → IsGood a) → (if b then option_map Node (node_at rows) else z) ≡ Some a → IsGood a
 third true rows a z later e =
@@ -182,7 +220,8 @@ unfolding asked_at
 command_good name rows a e =
     first (bytes_eq name (codes "replay")) a (at_soak name rows)
     (λ x. second (bytes_eq name (codes "soak")) rows a (at_node name rows)
-    (λ y. third (bytes_eq name (codes "node")) rows a (at_client name rows) (λ z. fourth (bytes_eq name (codes "client")) rows a z) y) x) e
+    (λ y. third (bytes_eq name (codes "node")) rows a (at_client name rows)
+    (λ z. fourth (bytes_eq name (codes "client")) rows a (at_trial name rows) (λ w. fifth (bytes_eq name (codes "trial")) rows a w) z) y) x) e
 
 taken_good : (x : Option (Text × List Row)) (a : Asked) → option_and_then (λ p. asked_at p.0 p.1) x ≡ Some a → IsGood a
 taken_good None a e = absurd (cc e)

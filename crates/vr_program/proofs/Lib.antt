@@ -1,3 +1,4 @@
 pub mod Good
 pub mod Coming
 pub mod OneLog
+pub mod Spawning

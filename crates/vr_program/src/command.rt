@@ -2,10 +2,13 @@
 ghost use Rattle.std.specs.Prelude.{◌≡◌, Some, map, string_bytes};
 ghost use Rattle.vr_ask.specs.Asking.{faults as client_faults};
 ghost use Rattle.vr_ask.specs.Run.{ClientEnds, outside as client_outside};
+ghost use Rattle.vr_base.specs.Causes.{Rose};
 ghost use Rattle.vr_node.specs.Running.{NodeEnds, outside as member_outside};
-ghost use Rattle.vr_program.specs.Run.{Comes, HasOneLog, IsGood, RunEnds, client_of, config_of, faults, outside};
+ghost use Rattle.vr_program.specs.Run.{Comes, HasOneLog, IsGood, RunEnds, client_of, config_of, faults, outside, trial_of};
 ghost use Rattle.vr_serve.specs.Causes.{counts};
-ghost use Rattle.vr_words.specs.Asked.{Client, Node, asked, client_says, node_says, says};
+ghost use Rattle.vr_trial.specs.Run.{TrialEnds, outside as trial_outside, faults as trial_faults};
+ghost use Rattle.vr_trial.specs.Told.{trial_of as plan_says};
+ghost use Rattle.vr_words.specs.Asked.{Client, Node, Trial, asked, client_says, node_says, says, trial_says};
 
 use std::alloc::Global;
 use vr_ask::run_client;
@@ -14,8 +17,10 @@ use vr_disk::SectorDisk;
 use vr_edge::{Clock, Link, Sink, Source};
 use vr_node::{Role, run_node};
 use vr_soak::soak;
+use vr_spawn::Spawner;
 use vr_status::Status;
-use vr_words::{ClientWords, Command, NodeWords, WordsFault, parse};
+use vr_trial::{Plan, run_trial};
+use vr_words::{ClientWords, Command, NodeWords, TrialWords, WordsFault, parse};
 
 /// The role of a member with these words.
 #[tactic(auto, using(crate::proofs::Coming::node_most, crate::proofs::Coming::node_config))]
@@ -84,9 +89,41 @@ fn ask_group<S: Source, K: Sink, L: Link>(
     )
 }
 
+/// What a trial with these words is of.
+#[tactic(auto, using(crate::proofs::Coming::planned))]
+fn plan_of(words: TrialWords) -> Plan
+    ensures said { plan_says result ≡ trial_of (trial_says words) }
+    ensures peers { result.peers ≡ words.peers }
+{
+    Plan {
+        cluster: words.cluster,
+        turns: words.turns,
+        files: words.files,
+        peers: words.peers,
+    }
+}
+
+/// A group is tried.
+#[tactic(auto, using(crate::proofs::Coming::trial_least, crate::proofs::Coming::trial_most, crate::proofs::Coming::by_plan))]
+fn try_group<K: Sink, L: Link, P: Spawner>(
+    alloc: Global,
+    words: TrialWords,
+    sink: &mut K,
+    link: &mut L,
+    spawner: &mut P,
+) -> Status
+    requires { IsGood (Trial (trial_says words)) }
+    ensures { TrialEnds (trial_of (trial_says words))
+        (trial_outside (L.sent link.old) (L.received link.old) (K.taken sink.old) (P.calls spawner.old))
+        (trial_outside (L.sent link.new) (L.received link.new) (K.taken sink.new) (P.calls spawner.new))
+        (trial_faults (L.faults link.old) (K.faults sink.old) (P.faults spawner.old)) (trial_faults (L.faults link.new) (K.faults sink.new) (P.faults spawner.new)) result }
+{
+    run_trial(alloc, &plan_of(words), sink, link, spawner)
+}
+
 /// Does what a command asks for; `None`: it is `replay`, which the caller does.
-#[tactic(auto, using(crate::proofs::Coming::serves, crate::proofs::Coming::asks, crate::proofs::Coming::soaks))]
-fn obey<S: Source, K: Sink, D: SectorDisk, L: Link, C: Clock>(
+#[tactic(auto, using(crate::proofs::Coming::serves, crate::proofs::Coming::asks, crate::proofs::Coming::tries, crate::proofs::Coming::soaks))]
+fn obey<S: Source, K: Sink, D: SectorDisk, L: Link, C: Clock, P: Spawner>(
     alloc: Global,
     command: Command,
     source: &mut S,
@@ -94,26 +131,28 @@ fn obey<S: Source, K: Sink, D: SectorDisk, L: Link, C: Clock>(
     disk: &mut D,
     link: &mut L,
     clock: &mut C,
+    spawner: &mut P,
 ) -> Option<Status>
     requires { IsGood (says command) }
     ensures { Comes (Some (says command))
-        (outside (S.left source.old) (K.taken sink.old) (D.told disk.old) (L.received link.old) (L.sent link.old) (C.left clock.old))
-        (outside (S.left source.new) (K.taken sink.new) (D.told disk.new) (L.received link.new) (L.sent link.new) (C.left clock.new))
-        (faults (S.faults source.old) (K.faults sink.old) (D.faults disk.old) (L.faults link.old))
-        (faults (S.faults source.new) (K.faults sink.new) (D.faults disk.new) (L.faults link.new)) result }
+        (outside (S.left source.old) (K.taken sink.old) (D.told disk.old) (L.received link.old) (L.sent link.old) (C.left clock.old) (P.calls spawner.old))
+        (outside (S.left source.new) (K.taken sink.new) (D.told disk.new) (L.received link.new) (L.sent link.new) (C.left clock.new) (P.calls spawner.new))
+        (faults (S.faults source.old) (K.faults sink.old) (D.faults disk.old) (L.faults link.old) (P.faults spawner.old))
+        (faults (S.faults source.new) (K.faults sink.new) (D.faults disk.new) (L.faults link.new) (P.faults spawner.new)) result }
 {
     match command {
         Command::Replay => None,
         Command::Soak(words) => Some(soak(alloc, words.seed, words.count, sink)),
         Command::Node(words) => Some(serve_role(alloc, words, sink, disk, link, clock)),
         Command::Client(words) => Some(ask_group(alloc, &words, source, sink, link)),
+        Command::Trial(words) => Some(try_group(alloc, words, sink, link, spawner)),
     }
 }
 
-/// Does what the words of the command line ask for: `node` serves as a member of a group, `client` asks one, `soak` runs a schedule that a
-/// number makes. `None`: the words are `replay`, which is left to the caller, and nothing was called.
-#[tactic(auto, using(crate::proofs::Good::asked_good, crate::proofs::Coming::comes_by, crate::proofs::Coming::comes_none, crate::proofs::Coming::comes_short, crate::proofs::OneLog::words_have_one_log))]
-pub fn run<S: Source, K: Sink, D: SectorDisk, L: Link, C: Clock>(
+/// Does what the words of the command line ask for: `node` serves as a member of a group, `client` asks one, `trial` starts one
+/// and tries it, `soak` runs a schedule that a number makes. `None`: the words are `replay`, which is left to the caller, and nothing was called.
+#[tactic(auto, using(crate::proofs::Good::asked_good, crate::proofs::Coming::comes_by, crate::proofs::Coming::comes_none, crate::proofs::Coming::comes_short, crate::proofs::OneLog::words_have_one_log, crate::proofs::Spawning::spawn_cause))]
+pub fn run<S: Source, K: Sink, D: SectorDisk, L: Link, C: Clock, P: Spawner>(
     alloc: Global,
     words: &Vec<String>,
     source: &mut S,
@@ -121,19 +160,23 @@ pub fn run<S: Source, K: Sink, D: SectorDisk, L: Link, C: Clock>(
     disk: &mut D,
     link: &mut L,
     clock: &mut C,
+    spawner: &mut P,
 ) -> Option<Status>
     // Words that are no command line are answered by `usage`, want of memory aside, and call nothing; the others do what they say.
     ensures ends { RunEnds (asked (map string_bytes words.now.items))
-        (outside (S.left source.old) (K.taken sink.old) (D.told disk.old) (L.received link.old) (L.sent link.old) (C.left clock.old))
-        (outside (S.left source.new) (K.taken sink.new) (D.told disk.new) (L.received link.new) (L.sent link.new) (C.left clock.new))
-        (faults (S.faults source.old) (K.faults sink.old) (D.faults disk.old) (L.faults link.old))
-        (faults (S.faults source.new) (K.faults sink.new) (D.faults disk.new) (L.faults link.new)) result }
+        (outside (S.left source.old) (K.taken sink.old) (D.told disk.old) (L.received link.old) (L.sent link.old) (C.left clock.old) (P.calls spawner.old))
+        (outside (S.left source.new) (K.taken sink.new) (D.told disk.new) (L.received link.new) (L.sent link.new) (C.left clock.new) (P.calls spawner.new))
+        (faults (S.faults source.old) (K.faults sink.old) (D.faults disk.old) (L.faults link.old) (P.faults spawner.old))
+        (faults (S.faults source.new) (K.faults sink.new) (D.faults disk.new) (L.faults link.new) (P.faults spawner.new)) result }
 
     // Whatever the number of `soak`, the outputs of its schedule have one log.
     ensures headline { HasOneLog (asked (map string_bytes words.now.items)) }
+
+    // A fault of the spawner has its cause in the object that was handed in.
+    ensures spawn { result ≡ Some Status.SpawnFault → Rose (P.faults spawner.old) (P.faults spawner.new) }
 {
     match parse(alloc, words.as_slice()) {
-        Ok(command) => obey(alloc, command, source, sink, disk, link, clock),
+        Ok(command) => obey(alloc, command, source, sink, disk, link, clock, spawner),
         Err(WordsFault::Usage) => Some(Status::Usage),
         Err(WordsFault::NoMemory) => Some(Status::NoMemory),
     }

@@ -1,4 +1,4 @@
-//! The commands of a running group over the outside that is handed in: a member, and a client, each by its words.
+//! The commands of a running group over the outside that is handed in: a member, a client, and a trial, each by its words.
 #![tactic(auto)]
 
 mod command;

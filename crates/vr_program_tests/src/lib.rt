@@ -1,4 +1,4 @@
-//! Tests of the commands of a member and of a client, over objects in memory.
+//! Tests of the commands of a member, of a client and of a trial, over objects in memory.
 #![tactic(auto)]
 
 #[cfg(test)]
@@ -11,3 +11,5 @@ mod member;
 mod outside;
 #[cfg(test)]
 mod soak;
+#[cfg(test)]
+mod trial;

@@ -5,6 +5,7 @@ use vr_base::ByteList;
 use vr_edge::{Datagram, LinkRoom, LinkScript, MemClock, MemLink, MemSink, MemSource};
 use vr_mem::MemDisk;
 use vr_program::run;
+use vr_spawn::MemSpawner;
 use vr_status::Status;
 
 /// How a run ends, what it wrote, and the port of each datagram that it sent, of the first four.
@@ -31,11 +32,21 @@ fn run_over(
     sink: &mut MemSink,
     disk: &mut MemDisk,
     link: &mut MemLink,
+    spawner: &mut MemSpawner,
 ) -> Result<Option<Status>, AllocError> {
     let words = words_of(alloc, line)?;
     let mut source = MemSource::new(Vec::new(alloc), Vec::new(alloc));
     let mut clock = MemClock::new(Vec::new(alloc));
-    let end = run(alloc, &words, &mut source, sink, disk, link, &mut clock);
+    let end = run(
+        alloc,
+        &words,
+        &mut source,
+        sink,
+        disk,
+        link,
+        &mut clock,
+        spawner,
+    );
     Ok(end)
 }
 
@@ -55,8 +66,9 @@ fn ended(
     sink: &mut MemSink,
     disk: &mut MemDisk,
     link: &mut MemLink,
+    spawner: &mut MemSpawner,
 ) -> Result<Ending, AllocError> {
-    let end = run_over(alloc, line, sink, disk, link)?;
+    let end = run_over(alloc, line, sink, disk, link, spawner)?;
     let text = Vec::from_slice(alloc, sink.bytes())?;
     let ports = ports_of(alloc, link)?;
     Ok(Ending { end, text, ports })
@@ -69,13 +81,25 @@ pub fn ran(
     disk: &mut MemDisk,
     script: LinkScript,
 ) -> Result<Ending, AllocError> {
+    let mut spawner = MemSpawner::new(alloc, Vec::new(alloc), Vec::new(alloc));
+    ran_with(alloc, line, disk, script, &mut spawner)
+}
+
+/// The same with this spawner.
+pub fn ran_with(
+    alloc: Global,
+    line: &str,
+    disk: &mut MemDisk,
+    script: LinkScript,
+    spawner: &mut MemSpawner,
+) -> Result<Ending, AllocError> {
     let room = LinkRoom {
         datagrams: 4,
         bytes: 4096,
     };
     let mut link = MemLink::new(alloc, script, room)?;
     let mut sink = MemSink::new(alloc, 256, Vec::new(alloc))?;
-    ended(alloc, line, &mut sink, disk, &mut link)
+    ended(alloc, line, &mut sink, disk, &mut link, spawner)
 }
 
 /// One datagram comes, from port 0.

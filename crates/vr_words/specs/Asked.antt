@@ -9,11 +9,13 @@ use Rattle.vr_sched.specs.Numbers.{number_below, number_of}
 use Rattle.vr_words.specs.Forms.{the_command}
 use Rattle.vr_words.specs.declared.asked.ClientTexts.{ClientTexts}
 use Rattle.vr_words.specs.declared.asked.NodeTexts.{NodeTexts}
+use Rattle.vr_words.specs.declared.asked.TrialTexts.{TrialTexts}
 use Rattle.vr_words.specs.declared.command.ClientWords.{ClientWords}
 use Rattle.vr_words.specs.declared.command.Command.{Command}
 use Rattle.vr_words.specs.declared.command.Command.TheVariants as command
 use Rattle.vr_words.specs.declared.command.NodeWords.{NodeWords}
 use Rattle.vr_words.specs.declared.command.SoakWords.{SoakWords}
+use Rattle.vr_words.specs.declared.command.TrialWords.{TrialWords}
 
 pub record NodeAsked : Type 0 where
   pub cluster : ℕ
@@ -29,11 +31,18 @@ pub record ClientAsked : Type 0 where
   pub turns : ℕ
   pub peers : List Text
 
+pub record TrialAsked : Type 0 where
+  pub cluster : ℕ
+  pub turns : ℕ
+  pub files : Text
+  pub peers : List Text
+
 pub data Asked : Type 0 where
   Replay : Asked
   Soak : SoakWords → Asked
   Node : NodeAsked → Asked
   Client : ClientAsked → Asked
+  Trial : TrialAsked → Asked
 
 -- what a command of the program asks for
 abbrev pub node_says : NodeWords → NodeAsked
@@ -49,11 +58,15 @@ node_says w = record {
 abbrev pub client_says : ClientWords → ClientAsked
 client_says w = record { cluster = w.cluster; id = w.id; turns = w.turns; peers = map string_bytes w.peers.items }
 
+abbrev pub trial_says : TrialWords → TrialAsked
+trial_says w = record { cluster = w.cluster; turns = w.turns; files = string_bytes w.files; peers = map string_bytes w.peers.items }
+
 abbrev pub says : Command → Asked
 says command.Replay = Replay
 says (command.Soak w) = Soak w
 says (command.Node w) = Node (node_says w)
 says (command.Client w) = Client (client_says w)
+says (command.Trial w) = Trial (trial_says w)
 
 -- the texts behind references
 abbrev pub texts_now : List (Bor Text) → List Text
@@ -72,6 +85,9 @@ node_texts_say t = record {
 
 abbrev pub client_texts_say : ClientTexts → ClientAsked
 client_texts_say t = record { cluster = t.cluster; id = t.id; turns = t.turns; peers = texts_now t.peers.now }
+
+abbrev pub trial_texts_say : TrialTexts → TrialAsked
+trial_texts_say t = record { cluster = t.cluster; turns = t.turns; files = t.files.now; peers = texts_now t.peers.now }
 
 -- the number of an argument: decimal digits without sign or leading zeros, below 2 ^ 64
 abbrev pub number_at : Text → List Row → Option ℕ
@@ -130,6 +146,17 @@ asker_at peers rows =
 unfoldable pub client_at : List Row → Option ClientAsked
 client_at rows = option_and_then (λ peers. asker_at peers rows) (peers_at rows)
 
+unfoldable pub trier_at : List Text → List Row → Option TrialAsked
+trier_at peers rows =
+    option_and_then
+    (λ cluster. option_and_then
+    (λ turns. option_map (λ files. record { cluster = cluster; turns = turns; files = files; peers = peers }) (first_of (codes "files") rows))
+    (number_at (codes "turns") rows))
+    (number_at (codes "cluster") rows)
+
+unfoldable pub trial_at : List Row → Option TrialAsked
+trial_at rows = option_and_then (λ peers. trier_at peers rows) (peers_at rows)
+
 -- what a command with these values asks for
 unfoldable pub asked_at : Text → List Row → Option Asked
 asked_at name rows =
@@ -137,7 +164,8 @@ asked_at name rows =
     else (if bytes_eq name (codes "soak") then option_map Soak (soak_at rows)
     else (if bytes_eq name (codes "node") then option_map Node (node_at rows)
     else (if bytes_eq name (codes "client") then option_map Client (client_at rows)
-    else None)))
+    else (if bytes_eq name (codes "trial") then option_map Trial (trial_at rows)
+    else None))))
 
 -- clap finds no fault in the words
 abbrev pub is_taken : List Text → Bool

@@ -48,6 +48,13 @@ asker = with_rule (with_rule (plain (codes "client")) (wanted (codes "cluster"))
 abbrev pub client : App
 client = with_rule (with_rule asker (wanted (codes "turns"))) addresses
 
+abbrev pub trier : App
+trier = with_rule (with_rule (plain (codes "trial")) (wanted (codes "cluster"))) (wanted (codes "turns"))
+
+-- `trial CLUSTER TURNS FILES ADDR..`
+abbrev pub trial : App
+trial = with_rule (with_rule trier (wanted (codes "files"))) addresses
+
 -- the command line without its commands
 abbrev pub top : App
 top = on_top (λ s. record s { no_binary_name = true; disable_help_subcommand = true; subcommand_required = true }) (plain (codes "nozhgiva"))
@@ -55,5 +62,8 @@ top = on_top (λ s. record s { no_binary_name = true; disable_help_subcommand = 
 abbrev pub running : App
 running = with_subcommand (with_subcommand top replay.top) soak.top
 
+abbrev pub asking : App
+asking = with_subcommand (with_subcommand running node.top) client.top
+
 abbrev pub the_command : App
-the_command = with_subcommand (with_subcommand running node.top) client.top
+the_command = with_subcommand asking trial.top

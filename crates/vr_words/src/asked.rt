@@ -2,9 +2,9 @@
 ghost use Rattle.std.specs.Prelude.{◌≡◌, ◌≤◌, IfOk, IfSome, codes, length, map, string_bytes, true};
 ghost use Rattle.std.specs.Option.{option_map};
 ghost use Rattle.clap.specs.Words.{all_of, first_of, found_of, rows_of};
-ghost use Rattle.vr_words.specs.Asked.{asker_at, below_at, client_at, client_says, client_texts_say, fresh_at, id_at, is_size, member_at, node_at, node_says, node_texts_say, number_at, peers_at, soak_at, texts_now};
+ghost use Rattle.vr_words.specs.Asked.{asker_at, below_at, client_at, client_says, client_texts_say, fresh_at, id_at, is_size, member_at, node_at, node_says, node_texts_say, number_at, peers_at, soak_at, texts_now, trial_at, trial_says, trial_texts_say, trier_at};
 
-use crate::command::{ClientWords, NodeWords, SoakWords};
+use crate::command::{ClientWords, NodeWords, SoakWords, TrialWords};
 use clap::ArgMatches;
 use std::alloc::{AllocError, Global};
 use vr_sched::{read_below, read_number};
@@ -111,6 +111,15 @@ struct ClientTexts<'m, 'a> {
     peers: &'m [&'a str],
 }
 
+/// The values of `trial`, as they stand on the command line.
+#[derive(Clone, Copy)]
+struct TrialTexts<'m, 'a> {
+    cluster: u64,
+    turns: u64,
+    files: &'a str,
+    peers: &'m [&'a str],
+}
+
 /// The values of `node` beside the addresses.
 #[tactic(auto, using(std::proofs::lemmas::Grind::common_steps, crate::proofs::Rows::texts_length), unfolding(crate::specs::Asked::member_at))]
 fn member_at<'m, 'a>(matches: &ArgMatches<'a>, peers: &'m [&'a str]) -> Option<NodeTexts<'m, 'a>>
@@ -147,6 +156,22 @@ fn asker_at<'m, 'a>(matches: &ArgMatches<'a>, peers: &'m [&'a str]) -> Option<Cl
     })
 }
 
+/// The values of `trial` beside the addresses.
+#[tactic(auto, unfolding(crate::specs::Asked::trier_at))]
+fn trier_at<'m, 'a>(matches: &ArgMatches<'a>, peers: &'m [&'a str]) -> Option<TrialTexts<'m, 'a>>
+    ensures { option_map trial_texts_say result ≡ trier_at (texts_now peers.now) (rows_of (found_of matches.now)) }
+{
+    let cluster = number_at(matches, "cluster")?;
+    let turns = number_at(matches, "turns")?;
+    let files = text_at(matches, "files")?;
+    Some(TrialTexts {
+        cluster,
+        turns,
+        files,
+        peers,
+    })
+}
+
 /// Texts of one's own.
 #[tactic(auto, using(std::proofs::lemmas::Grind::common_steps, crate::proofs::Rows::copied_more))]
 fn copied(alloc: Global, texts: &[&str]) -> Result<Vec<String>, AllocError>
@@ -177,6 +202,15 @@ fn client_texts<'m, 'a>(matches: &'m ArgMatches<'a>) -> Option<ClientTexts<'m, '
     asker_at(matches, peers)
 }
 
+/// The values of `trial`, where they are in range.
+#[tactic(auto, unfolding(crate::specs::Asked::trial_at))]
+fn trial_texts<'m, 'a>(matches: &'m ArgMatches<'a>) -> Option<TrialTexts<'m, 'a>>
+    ensures { option_map trial_texts_say result ≡ trial_at (rows_of (found_of matches.now)) }
+{
+    let peers = peers_at(matches)?;
+    trier_at(matches, peers)
+}
+
 /// The same with texts of one's own.
 pub fn node_at(alloc: Global, matches: &ArgMatches<'_>) -> Result<Option<NodeWords>, AllocError>
     ensures { IfOk result (λ words. option_map node_says words ≡ node_at (rows_of (found_of matches.now))) }
@@ -205,6 +239,21 @@ pub fn client_at(alloc: Global, matches: &ArgMatches<'_>) -> Result<Option<Clien
         cluster: texts.cluster,
         id: texts.id,
         turns: texts.turns,
+        peers: copied(alloc, texts.peers)?,
+    }))
+}
+
+/// The same with texts of one's own.
+pub fn trial_at(alloc: Global, matches: &ArgMatches<'_>) -> Result<Option<TrialWords>, AllocError>
+    ensures { IfOk result (λ words. option_map trial_says words ≡ trial_at (rows_of (found_of matches.now))) }
+{
+    let Some(texts) = trial_texts(matches) else {
+        return Ok(None);
+    };
+    Ok(Some(TrialWords {
+        cluster: texts.cluster,
+        turns: texts.turns,
+        files: String::from_str(alloc, texts.files)?,
         peers: copied(alloc, texts.peers)?,
     }))
 }

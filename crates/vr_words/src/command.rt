@@ -40,6 +40,17 @@ pub struct ClientWords {
     pub peers: Vec<String>,
 }
 
+/// `trial CLUSTER TURNS FILES ADDR..`.
+#[derive(Debug, Drop, PartialEq, Eq)]
+pub struct TrialWords {
+    pub cluster: u64,
+    pub turns: u64,
+    /// What the names of the members' files begin with.
+    pub files: String,
+    /// From 2 to 6 addresses.
+    pub peers: Vec<String>,
+}
+
 /// A command.
 #[derive(Debug, Drop, PartialEq, Eq)]
 pub enum Command {
@@ -47,4 +58,5 @@ pub enum Command {
     Soak(SoakWords),
     Node(NodeWords),
     Client(ClientWords),
+    Trial(TrialWords),
 }

@@ -2,7 +2,7 @@
 ghost use Rattle.std.specs.Prelude.{◌≡◌, IfOk, false};
 ghost use Rattle.clap.specs.Words.{app_of, rule_of, with_rule, with_subcommand};
 ghost use Rattle.clap.specs.declared.builder.command.Command.TheViews.{out-Command as fields_of};
-ghost use Rattle.vr_words.specs.Forms.{addresses, asker, client, fresh, member, node, plain, running, soak, the_command, top, turning, wanted};
+ghost use Rattle.vr_words.specs.Forms.{addresses, asker, asking, client, fresh, member, node, plain, running, soak, the_command, top, trial, trier, turning, wanted};
 
 use clap::{Arg, ArgAction, Command};
 use std::alloc::{AllocError, Global};
@@ -119,6 +119,24 @@ fn client<'a>(alloc: Global) -> Result<Command<'a>, AllocError>
     with_arg(command, addresses(alloc))
 }
 
+/// Which group is tried, and for how long.
+fn trier<'a>(alloc: Global) -> Result<Command<'a>, AllocError>
+    ensures app { IfOk result (λ c. app_of c ≡ trier) }
+    ensures local { IfOk result (λ c. (fields_of c).has_globals ≡ false) }
+{
+    let command = with_arg(plain(alloc, "trial"), wanted(alloc, "cluster"))?;
+    with_arg(command, wanted(alloc, "turns"))
+}
+
+/// `trial CLUSTER TURNS FILES ADDR..`.
+fn trial<'a>(alloc: Global) -> Result<Command<'a>, AllocError>
+    ensures app { IfOk result (λ c. app_of c ≡ trial) }
+    ensures local { IfOk result (λ c. (fields_of c).has_globals ≡ false) }
+{
+    let command = with_arg(trier(alloc)?, wanted(alloc, "files"))?;
+    with_arg(command, addresses(alloc))
+}
+
 /// The command line without its commands.
 fn top<'a>(alloc: Global) -> Command<'a>
     ensures app { app_of result ≡ top }
@@ -139,10 +157,18 @@ fn running<'a>(alloc: Global) -> Result<Command<'a>, AllocError>
     with_command(command, soak(alloc)?)
 }
 
+/// The command line with the commands of a member and a client besides.
+fn asking<'a>(alloc: Global) -> Result<Command<'a>, AllocError>
+    ensures app { IfOk result (λ c. app_of c ≡ asking) }
+    ensures local { IfOk result (λ c. (fields_of c).has_globals ≡ false) }
+{
+    let command = with_command(running(alloc)?, node(alloc)?)?;
+    with_command(command, client(alloc)?)
+}
+
 /// The command line with all of its commands.
 pub fn command<'a>(alloc: Global) -> Result<Command<'a>, AllocError>
     ensures { IfOk result (λ c. app_of c ≡ the_command) }
 {
-    let command = with_command(running(alloc)?, node(alloc)?)?;
-    with_command(command, client(alloc)?)
+    with_command(asking(alloc)?, trial(alloc)?)
 }

@@ -5,7 +5,7 @@ ghost use Rattle.clap.specs.Words.{FailsBy, HasMatchesOf, fault_of, found_of, ki
 ghost use Rattle.vr_words.specs.Asked.{asked, asked_at, says};
 ghost use Rattle.vr_words.specs.Forms.{the_command};
 
-use crate::asked::{client_at, node_at, soak_at};
+use crate::asked::{client_at, node_at, soak_at, trial_at};
 use crate::forms::command;
 use crate::{Command, WordsFault};
 use clap::error::ErrorKind;
@@ -40,6 +40,9 @@ fn command_at(
     }
     if name == "client" {
         return Ok(client_at(alloc, matches)?.map(Command::Client));
+    }
+    if name == "trial" {
+        return Ok(trial_at(alloc, matches)?.map(Command::Trial));
     }
     Ok(None)
 }

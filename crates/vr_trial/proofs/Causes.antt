@@ -1,0 +1,177 @@
+-- A fault has its cause in the object that was handed in.
+use Rattle.std.proofs.Common.{◌≡◌, ◌≤◌, ◌⊎◌, ℕ, List, [], ◌∷◌, true, false, Option, refl, inl, inr, subst, arith}
+use Rattle.vr_ask.proofs.Exchanges.{ends_later}
+use Rattle.vr_base.specs.Causes.{Rose}
+use Rattle.vr_spawn.specs.declared.spawner.SpawnCall.{SpawnCall}
+use Rattle.vr_status.specs.declared.status.Status.{Status}
+use Rattle.vr_status.specs.declared.status.Status.TheVariants as status
+use Rattle.vr_trial.specs.Run.{BreaksOff, CantCall, Counts, Ends, Fails, FailsIn, Faults, IsCut, Members, Outside, Place, Starts, Stops, TrialEnds, faults, of_client}
+use Rattle.vr_trial.specs.Script.{number_of}
+use Rattle.vr_trial.specs.Told.{Trial, operation_of, start_words}
+use Rattle.vr_trial.specs.declared.step.Step.{Step}
+use Rattle.vr_trial.specs.declared.step.Step.TheVariants.{Start, Restart, Attach, Ask, Stop}
+
+-- ---- counts from the beginning on
+
+cant_earlier : (calls : List SpawnCall) (m m' : Members) (b mid n : ℕ) (s : Status) → b ≤ mid → CantCall calls m m' mid n s → CantCall calls m m' b n s
+cant_earlier calls m m' b mid n s h (inl x) = inl x
+cant_earlier calls m m' b mid n s h (inr x) =
+    inr (record { fault = x.fault; cause = omega (arith, h, x.cause); called = x.called; running = x.running })
+
+cut_cause : (b mid n : ℕ) (s : Status) → b ≤ mid → (s ≡ status.NoMemory) ⊎ ((s ≡ status.WriteFault) × Rose mid n)
+    → (s ≡ status.NoMemory) ⊎ ((s ≡ status.WriteFault) × Rose b n)
+cut_cause b mid n s h (inl x) = inl x
+cut_cause b mid n s h (inr x) = inr (x.0, omega (arith, h, x.1))
+
+cut_earlier : (line : List ℕ) (t t' : Option (List ℕ)) (b mid n : ℕ) (s : Status) → b ≤ mid → IsCut line t t' mid n s → IsCut line t t' b n s
+cut_earlier line t t' b mid n s h x = record { front = x.front; cause = cut_cause b mid n s h x.cause }
+
+breaks_earlier : (Changes : Members → Members → Type 0) (calls : List SpawnCall) (line : List ℕ) (m m' : Members) (t t' : Option (List ℕ)) (b mid n : Counts) (s : Status)
+    → b.write ≤ mid.write → b.spawn ≤ mid.spawn → BreaksOff Changes calls line m m' t t' mid n s → BreaksOff Changes calls line m m' t t' b n s
+breaks_earlier Changes calls line m m' t t' b mid n s w p (inl x) = inl (cant_earlier calls m m' b.spawn mid.spawn n.spawn s p x.0, x.1)
+breaks_earlier Changes calls line m m' t t' b mid n s w p (inr x) = inr (x.0, cut_earlier line t t' b.write mid.write n.write s w x.1)
+
+pub fails_earlier : (t : Trial) (step : Step) (p p' : Place) (b mid n : Faults) (s : Status)
+    → b.link ≤ mid.link → b.counts.write ≤ mid.counts.write → b.counts.spawn ≤ mid.counts.spawn → Fails t step p p' mid n s → Fails t step p p' b n s
+fails_earlier t (Start r) p p' b mid n s l w c x = (breaks_earlier (Starts (start_words t r true) r) _ _ p.members p'.members p.client.taken p'.client.taken b.counts mid.counts n.counts s w c x.0, x.1)
+fails_earlier t (Restart r) p p' b mid n s l w c x = (breaks_earlier (Starts (start_words t r false) r) _ _ p.members p'.members p.client.taken p'.client.taken b.counts mid.counts n.counts s w c x.0, x.1)
+fails_earlier t Attach p p' b mid n s l w c x = (x.0, omega (arith, l, x.1), x.2)
+fails_earlier t (Ask q) p p' b mid n s l w c x =
+    (ends_later t.client (number_of q) (operation_of q) p.client p'.client (of_client b) (of_client mid) (of_client n) s l w x.0, x.1)
+fails_earlier t (Stop r) p p' b mid n s l w c x = (breaks_earlier (Stops r) _ _ p.members p'.members p.client.taken p'.client.taken b.counts mid.counts n.counts s w c x.0, x.1)
+
+-- ---- and to the end: behind a step that failed the spawner may fail again
+
+cant_later : (calls : List SpawnCall) (m m' : Members) (b n k : ℕ) (s : Status) → n ≤ k → CantCall calls m m' b n s → CantCall calls m m' b k s
+cant_later calls m m' b n k s h (inl x) = inl x
+cant_later calls m m' b n k s h (inr x) =
+    inr (record { fault = x.fault; cause = omega (arith, h, x.cause); called = x.called; running = x.running })
+
+breaks_later : (Changes : Members → Members → Type 0) (calls : List SpawnCall) (line : List ℕ) (m m' : Members) (t t' : Option (List ℕ)) (b n k : Counts) (s : Status)
+    → k.write ≡ n.write → n.spawn ≤ k.spawn → BreaksOff Changes calls line m m' t t' b n s → BreaksOff Changes calls line m m' t t' b k s
+breaks_later Changes calls line m m' t t' b n k s w p (inl x) = inl (cant_later calls m m' b.spawn n.spawn k.spawn s p x.0, x.1)
+breaks_later Changes calls line m m' t t' b n k s w p (inr x) = inr (x.0, rw w x.1)
+
+fails_later : (t : Trial) (step : Step) (p p' : Place) (b : Faults) (l w n k : ℕ) (s : Status)
+    → n ≤ k → Fails t step p p' b (faults l w n) s → Fails t step p p' b (faults l w k) s
+fails_later t (Start r) p p' b l w n k s h x = (breaks_later (Starts (start_words t r true) r) _ _ p.members p'.members p.client.taken p'.client.taken b.counts (faults l w n).counts (faults l w k).counts s refl h x.0, x.1)
+fails_later t (Restart r) p p' b l w n k s h x = (breaks_later (Starts (start_words t r false) r) _ _ p.members p'.members p.client.taken p'.client.taken b.counts (faults l w n).counts (faults l w k).counts s refl h x.0, x.1)
+fails_later t Attach p p' b l w n k s h x = x
+fails_later t (Ask q) p p' b l w n k s h x = x
+fails_later t (Stop r) p p' b l w n k s h x = (breaks_later (Stops r) _ _ p.members p'.members p.client.taken p'.client.taken b.counts (faults l w n).counts (faults l w k).counts s refl h x.0, x.1)
+
+pub fails_in_later : (t : Trial) (steps : List Step) (p p' : Place) (b : Faults) (l w n k : ℕ) (s : Status)
+    → n ≤ k → FailsIn t steps p p' b (faults l w n) s → FailsIn t steps p p' b (faults l w k) s
+fails_in_later t [] p p' b l w n k s h x = x
+fails_in_later t (step ∷ steps) p p' b l w n k s h (inl x) = inl (fails_later t step p p' b l w n k s h x)
+fails_in_later t (step ∷ steps) p p' b l w n k s h (inr x) = inr (x.0, x.1, fails_in_later t steps x.0 p' b l w n k s h x.2)
+
+-- ---- the cause of each fault
+
+cut_write : (line : List ℕ) (t t' : Option (List ℕ)) (b n : ℕ) → (status.WriteFault ≡ status.NoMemory) ⊎ ((status.WriteFault ≡ status.WriteFault) × Rose b n) → Rose b n
+cut_write line t t' b n (inl x) = absurd (cc x)
+cut_write line t t' b n (inr x) = x.1
+
+cant_write : (calls : List SpawnCall) (m m' : Members) (b n : ℕ) → CantCall calls m m' b n status.WriteFault → ⊥
+cant_write calls m m' b n (inl x) = absurd (cc x.0)
+cant_write calls m m' b n (inr x) = absurd (cc x.fault)
+
+breaks_write : (Changes : Members → Members → Type 0) (calls : List SpawnCall) (line : List ℕ) (m m' : Members) (t t' : Option (List ℕ)) (b n : Counts)
+    → BreaksOff Changes calls line m m' t t' b n status.WriteFault → Rose b.write n.write
+breaks_write Changes calls line m m' t t' b n (inl x) = absurd (cant_write calls m m' b.spawn n.spawn x.0)
+breaks_write Changes calls line m m' t t' b n (inr x) = cut_write line t t' b.write n.write x.1.cause
+
+step_write : (t : Trial) (step : Step) (p p' : Place) (b n : Faults) → Fails t step p p' b n status.WriteFault → Rose b.counts.write n.counts.write
+step_write t (Start r) p p' b n x = breaks_write (Starts (start_words t r true) r) _ _ p.members p'.members p.client.taken p'.client.taken b.counts n.counts x.0
+step_write t (Restart r) p p' b n x = breaks_write (Starts (start_words t r false) r) _ _ p.members p'.members p.client.taken p'.client.taken b.counts n.counts x.0
+step_write t Attach p p' b n x = absurd (cc x.0)
+step_write t (Ask q) p p' b n x = x.0.0
+step_write t (Stop r) p p' b n x = breaks_write (Stops r) _ _ p.members p'.members p.client.taken p'.client.taken b.counts n.counts x.0
+
+in_write : (t : Trial) (steps : List Step) (p p' : Place) (b n : Faults) → FailsIn t steps p p' b n status.WriteFault → Rose b.counts.write n.counts.write
+in_write t [] p p' b n x = absurd x
+in_write t (step ∷ steps) p p' b n (inl x) = step_write t step p p' b n x
+in_write t (step ∷ steps) p p' b n (inr x) = in_write t steps x.0 p' b n x.2
+
+cut_link : (b n : ℕ) → (status.LinkFault ≡ status.NoMemory) ⊎ ((status.LinkFault ≡ status.WriteFault) × Rose b n) → ⊥
+cut_link b n (inl x) = absurd (cc x)
+cut_link b n (inr x) = absurd (cc x.0)
+
+cant_link : (calls : List SpawnCall) (m m' : Members) (b n : ℕ) → CantCall calls m m' b n status.LinkFault → ⊥
+cant_link calls m m' b n (inl x) = absurd (cc x.0)
+cant_link calls m m' b n (inr x) = absurd (cc x.fault)
+
+breaks_link : (Changes : Members → Members → Type 0) (calls : List SpawnCall) (line : List ℕ) (m m' : Members) (t t' : Option (List ℕ)) (b n : Counts)
+    → BreaksOff Changes calls line m m' t t' b n status.LinkFault → ⊥
+breaks_link Changes calls line m m' t t' b n (inl x) = cant_link calls m m' b.spawn n.spawn x.0
+breaks_link Changes calls line m m' t t' b n (inr x) = cut_link b.write n.write x.1.cause
+
+step_link : (t : Trial) (step : Step) (p p' : Place) (b n : Faults) → Fails t step p p' b n status.LinkFault → Rose b.link n.link
+step_link t (Start r) p p' b n x = absurd (breaks_link (Starts (start_words t r true) r) _ _ p.members p'.members p.client.taken p'.client.taken b.counts n.counts x.0)
+step_link t (Restart r) p p' b n x = absurd (breaks_link (Starts (start_words t r false) r) _ _ p.members p'.members p.client.taken p'.client.taken b.counts n.counts x.0)
+step_link t Attach p p' b n x = x.1
+step_link t (Ask q) p p' b n x = x.0.0
+step_link t (Stop r) p p' b n x = absurd (breaks_link (Stops r) _ _ p.members p'.members p.client.taken p'.client.taken b.counts n.counts x.0)
+
+in_link : (t : Trial) (steps : List Step) (p p' : Place) (b n : Faults) → FailsIn t steps p p' b n status.LinkFault → Rose b.link n.link
+in_link t [] p p' b n x = absurd x
+in_link t (step ∷ steps) p p' b n (inl x) = step_link t step p p' b n x
+in_link t (step ∷ steps) p p' b n (inr x) = in_link t steps x.0 p' b n x.2
+
+cut_spawn : (b n : ℕ) → (status.SpawnFault ≡ status.NoMemory) ⊎ ((status.SpawnFault ≡ status.WriteFault) × Rose b n) → ⊥
+cut_spawn b n (inl x) = absurd (cc x)
+cut_spawn b n (inr x) = absurd (cc x.0)
+
+cant_spawn : (calls : List SpawnCall) (m m' : Members) (b n : ℕ) → CantCall calls m m' b n status.SpawnFault → Rose b n
+cant_spawn calls m m' b n (inl x) = absurd (cc x.0)
+cant_spawn calls m m' b n (inr x) = x.cause
+
+breaks_spawn : (Changes : Members → Members → Type 0) (calls : List SpawnCall) (line : List ℕ) (m m' : Members) (t t' : Option (List ℕ)) (b n : Counts)
+    → BreaksOff Changes calls line m m' t t' b n status.SpawnFault → Rose b.spawn n.spawn
+breaks_spawn Changes calls line m m' t t' b n (inl x) = cant_spawn calls m m' b.spawn n.spawn x.0
+breaks_spawn Changes calls line m m' t t' b n (inr x) = absurd (cut_spawn b.write n.write x.1.cause)
+
+step_spawn : (t : Trial) (step : Step) (p p' : Place) (b n : Faults) → Fails t step p p' b n status.SpawnFault → Rose b.counts.spawn n.counts.spawn
+step_spawn t (Start r) p p' b n x = breaks_spawn (Starts (start_words t r true) r) _ _ p.members p'.members p.client.taken p'.client.taken b.counts n.counts x.0
+step_spawn t (Restart r) p p' b n x = breaks_spawn (Starts (start_words t r false) r) _ _ p.members p'.members p.client.taken p'.client.taken b.counts n.counts x.0
+step_spawn t Attach p p' b n x = absurd (cc x.0)
+step_spawn t (Ask q) p p' b n x = absurd x.0
+step_spawn t (Stop r) p p' b n x = breaks_spawn (Stops r) _ _ p.members p'.members p.client.taken p'.client.taken b.counts n.counts x.0
+
+in_spawn : (t : Trial) (steps : List Step) (p p' : Place) (b n : Faults) → FailsIn t steps p p' b n status.SpawnFault → Rose b.counts.spawn n.counts.spawn
+in_spawn t [] p p' b n x = absurd x
+in_spawn t (step ∷ steps) p p' b n (inl x) = step_spawn t step p p' b n x
+in_spawn t (step ∷ steps) p p' b n (inr x) = in_spawn t steps x.0 p' b n x.2
+
+-- ---- of the whole trial
+
+ends_write : (t : Trial) (steps : List Step) (p : Place) (o : Outside) (b n : Faults) → Ends t steps p o b n status.WriteFault → Rose b.counts.write n.counts.write
+ends_write t steps p o b n (inl x) = absurd (cc x.done)
+ends_write t steps p o b n (inr x) = in_write t steps p x.last b n x.fails
+
+ends_link : (t : Trial) (steps : List Step) (p : Place) (o : Outside) (b n : Faults) → Ends t steps p o b n status.LinkFault → Rose b.link n.link
+ends_link t steps p o b n (inl x) = absurd (cc x.done)
+ends_link t steps p o b n (inr x) = in_link t steps p x.last b n x.fails
+
+ends_spawn : (t : Trial) (steps : List Step) (p : Place) (o : Outside) (b n : Faults) → Ends t steps p o b n status.SpawnFault → Rose b.counts.spawn n.counts.spawn
+ends_spawn t steps p o b n (inl x) = absurd (cc x.done)
+ends_spawn t steps p o b n (inr x) = in_spawn t steps p x.last b n x.fails
+
+pub ended_write : (t : Trial) (steps : List Step) (p : Place) (o : Outside) (b n : Faults) (s : Status)
+    → Ends t steps p o b n s → s ≡ status.WriteFault → Rose b.counts.write n.counts.write
+ended_write t steps p o b n s e is = ends_write t steps p o b n (subst (λ x. Ends t steps p o b n x) is e)
+
+pub ended_link : (t : Trial) (steps : List Step) (p : Place) (o : Outside) (b n : Faults) (s : Status)
+    → Ends t steps p o b n s → s ≡ status.LinkFault → Rose b.link n.link
+ended_link t steps p o b n s e is = ends_link t steps p o b n (subst (λ x. Ends t steps p o b n x) is e)
+
+pub ended_spawn : (t : Trial) (steps : List Step) (p : Place) (o : Outside) (b n : Faults) (s : Status)
+    → Ends t steps p o b n s → s ≡ status.SpawnFault → Rose b.counts.spawn n.counts.spawn
+ended_spawn t steps p o b n s e is = ends_spawn t steps p o b n (subst (λ x. Ends t steps p o b n x) is e)
+
+spawn_at : (t : Trial) (o o' : Outside) (b n : Faults) → TrialEnds t o o' b n status.SpawnFault → Rose b.counts.spawn n.counts.spawn
+spawn_at t o o' b n (inl x) = absurd (cc x.0)
+spawn_at t o o' b n (inr x) = ends_spawn t _ _ o' b n x
+
+pub trial_spawn : (t : Trial) (o o' : Outside) (b n : Faults) (s : Status) → TrialEnds t o o' b n s → s ≡ status.SpawnFault → Rose b.counts.spawn n.counts.spawn
+trial_spawn t o o' b n s e is = spawn_at t o o' b n (subst (λ x. TrialEnds t o o' b n x) is e)

@@ -1,0 +1,10 @@
+pub mod Causes
+pub mod Courses
+pub mod Numbering
+pub mod Runs
+pub mod Stepping
+pub mod Stopping
+pub mod Taking
+pub mod Texts
+pub mod Wording
+pub mod Writing

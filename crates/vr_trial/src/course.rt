@@ -1,0 +1,61 @@
+//! A trial on its way.
+ghost use Rattle.std.specs.Prelude.{◌≡◌, ◌≤◌, IfOk, None, replicate, slice_set, vec_len};
+ghost use Rattle.vr_ask.specs.Asking.{client_of};
+ghost use Rattle.vr_trial.specs.Run.{running_at};
+ghost use Rattle.vr_trial.specs.Told.{trial_of};
+
+use crate::plan::Plan;
+use std::alloc::Global;
+use vr_base::{NoMemory, Seq};
+use vr_client::ClientCore;
+
+/// The client that asks.
+const CLIENT: u64 = 1;
+
+/// A trial on its way.
+#[derive(Debug, Drop)]
+pub struct Course {
+    pub(crate) alloc: Global,
+    pub(crate) core: ClientCore,
+    /// The numbers that the spawner gave to the members that run, by the members' own.
+    pub(crate) running: Seq<Option<u32>>,
+}
+
+impl Course {
+    /// Nothing was asked, and no member runs.
+    pub fn new(alloc: Global, plan: &Plan) -> Result<Course, NoMemory>
+        requires least { 2 ≤ vec_len plan.now.peers }
+        requires most { vec_len plan.now.peers ≤ 6 }
+        ensures client { IfOk result (λ c. client_of c.core plan.now.turns ≡ (trial_of plan.now).client) }
+        ensures port { IfOk result (λ c. c.core.port ≡ 0) }
+        ensures number { IfOk result (λ c. c.core.number ≡ 0) }
+        ensures running { IfOk result (λ c. c.running ≡ replicate (vec_len plan.now.peers) None) }
+    {
+        let n = plan.peers.len();
+        let mut running = Vec::new(alloc);
+        running.resize(n, None)?;
+        Ok(Course {
+            alloc,
+            core: ClientCore::new(alloc, plan.cluster, CLIENT, n as u8)?,
+            running: Seq::from_vec(running),
+        })
+    }
+
+    /// The number of a member that runs.
+    pub fn running_at(&self, member: u8) -> Option<u32>
+        ensures { result ≡ running_at self.now.running member }
+    {
+        self.running.get(usize::from(member))?
+    }
+
+    /// From now on a member runs, or not.
+    #[tactic(auto, using(std::proofs::lemmas::Grind::common_steps, crate::proofs::Courses::set_past))]
+    pub fn set_running(&mut self, member: u8, id: Option<u32>)
+        ensures { self.new ≡ record self.old { running = slice_set self.old.running member id } }
+    {
+        let at = usize::from(member);
+        if at < self.running.len() {
+            self.running.replace(at, id);
+        }
+    }
+}

@@ -1,0 +1,69 @@
+//! The lines that say what became of a member, and what the client asks.
+ghost use Rattle.std.specs.Prelude.{◌≡◌, ◌≤◌, IfErr, IfOk, OnOk, string_bytes};
+ghost use Rattle.std.specs.Io.KnownBytes.{Appends};
+ghost use Rattle.vr_trial.specs.Run.{IsCut};
+ghost use Rattle.vr_trial.specs.Told.{key, member_line, operation_of, value};
+
+use crate::step::Question;
+use std::alloc::{AllocError, Global};
+use vr_edge::{Sink, write_whole};
+use vr_header::{Key, Operation, Value};
+use vr_status::Status;
+
+/// The line that says what became of a member.
+#[tactic(auto, using(std::proofs::lemmas::Grind::common_steps), unfolding(crate::specs::Told::member_line))]
+fn member_line(alloc: Global, what: &str, member: u8) -> Result<String, AllocError>
+    ensures { IfOk result (λ line. string_bytes line ≡ member_line what.now member) }
+{
+    Ok(format!(in alloc; "{what} {member}\n")?)
+}
+
+/// Writes what became of a member.
+#[tactic(auto, using(std::proofs::lemmas::Grind::common_steps, crate::proofs::Writing::cut_none, crate::proofs::Writing::cut_write))]
+pub fn write_line<K: Sink>(
+    alloc: Global,
+    sink: &mut K,
+    what: &str,
+    member: u8,
+) -> Result<(), Status>
+    ensures written { OnOk result (Appends (K.taken sink.old) (K.taken sink.new) (member_line what.now member)) }
+    ensures cut { IfErr result (IsCut (member_line what.now member) (K.taken sink.old) (K.taken sink.new) (K.faults sink.old) (K.faults sink.new)) }
+    ensures later { K.faults sink.old ≤ K.faults sink.new }
+{
+    let Ok(line) = member_line(alloc, what, member) else {
+        return Err(Status::NoMemory);
+    };
+    match write_whole(sink, line.as_bytes()) {
+        Ok(()) => Ok(()),
+        Err(_) => Err(Status::WriteFault),
+    }
+}
+
+/// The key with a number.
+#[tactic(auto, using(std::proofs::lemmas::Grind::common_steps, crate::proofs::Texts::key_text))]
+fn key(alloc: Global, number: u8) -> Result<Key, AllocError>
+    ensures { IfOk result (λ k. k ≡ key number) }
+{
+    let text = format!(in alloc; "k{number}")?;
+    Key::from_bytes(alloc, text.as_bytes())
+}
+
+/// The value with a number.
+#[tactic(auto, using(std::proofs::lemmas::Grind::common_steps, crate::proofs::Texts::value_text))]
+fn value(alloc: Global, number: u8) -> Result<Value, AllocError>
+    ensures { IfOk result (λ v. v ≡ value number) }
+{
+    let text = format!(in alloc; "v{number}")?;
+    Value::from_bytes(alloc, text.as_bytes())
+}
+
+/// The operation of a question.
+pub fn operation_of(alloc: Global, question: Question) -> Result<Operation, AllocError>
+    ensures { IfOk result (λ operation. operation ≡ operation_of question) }
+{
+    match question {
+        Question::Register => Ok(Operation::Register),
+        Question::Put(number) => Ok(Operation::Put(key(alloc, number)?, value(alloc, number)?)),
+        Question::Get(number) => Ok(Operation::Get(key(alloc, number)?)),
+    }
+}

@@ -1,0 +1,57 @@
+//! The words with which a member is started.
+ghost use Rattle.std.specs.Prelude.{◌≡◌, [], ◌∷◌, ◌++◌, IfOk, OnOk};
+ghost use Rattle.vr_spawn.specs.Spawning.{texts_of};
+ghost use Rattle.vr_trial.specs.Told.{fresh_words, member_words, start_words, trial_of};
+
+use crate::plan::Plan;
+use std::alloc::{AllocError, Global};
+
+/// A word at the end.
+fn put_word(alloc: Global, words: &mut Vec<String>, word: &str) -> Result<(), AllocError>
+    ensures { OnOk result (texts_of words.new.items ≡ texts_of words.old.items ++ word.now ∷ []) }
+{
+    words.push(String::from_str(alloc, word)?)?;
+    Ok(())
+}
+
+/// Words at the end.
+#[tactic(auto, using(std::proofs::lemmas::Grind::common_steps, crate::proofs::Wording::put_more))]
+fn put_words(alloc: Global, words: &mut Vec<String>, more: &Vec<String>) -> Result<(), AllocError>
+    ensures { OnOk result (texts_of words.new.items ≡ texts_of words.old.items ++ texts_of more.now.items) }
+{
+    for word in more.iter() {
+        put_word(alloc, words, word.as_str())?;
+    }
+    Ok(())
+}
+
+/// The words up to the addresses.
+#[tactic(auto, unfolding(crate::specs::Told::member_words))]
+fn member_words(alloc: Global, plan: &Plan, member: u8) -> Result<Vec<String>, AllocError>
+    ensures { IfOk result (λ words. texts_of words.items ≡ member_words (trial_of plan.now) member) }
+{
+    let files = &plan.files;
+    let node = String::from_str(alloc, "node")?;
+    let cluster = plan.cluster.to_string(alloc)?;
+    let replica = member.to_string(alloc)?;
+    let file = format!(in alloc; "{files}{member}")?;
+    let turns = String::from_str(alloc, "1000000")?;
+    Ok(vec![in alloc; node, cluster, replica, file, turns]?)
+}
+
+/// The words with which a member is started.
+pub fn start_words(
+    alloc: Global,
+    plan: &Plan,
+    member: u8,
+    is_fresh: bool,
+) -> Result<Vec<String>, AllocError>
+    ensures { IfOk result (λ words. texts_of words.items ≡ start_words (trial_of plan.now) member is_fresh) }
+{
+    let mut words = member_words(alloc, plan, member)?;
+    put_words(alloc, &mut words, &plan.peers)?;
+    if is_fresh {
+        put_word(alloc, &mut words, "--fresh")?;
+    }
+    Ok(words)
+}
