@@ -21,7 +21,7 @@ enum Over {
 
 /// A link over streams where all addresses begin with `tcp:`, over datagrams where none does; otherwise it can't be attached.
 #[derive(Drop)]
-pub struct RealLink<R> {
+pub struct RealLink<R: Net + Drop> {
     datagrams: UdpLink<R>,
     streams: StreamLink<TcpStreams<R>>,
     over: Over,

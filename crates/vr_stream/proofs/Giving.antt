@@ -1,5 +1,5 @@
 -- What is given of streams, and what is taken of a poll.
-use Rattle.std.proofs.Common.{subst, ◌≡◌, ◌∙◌, ℕ, List, [], ◌∷◌, ◌++◌, Bool, true, false, slice_get, slice_set, Option, Some, None, Ok, Err, refl, ap, sym, inl, inr, arith}
+use Rattle.std.proofs.Common.{subst, ◌≡◌, ◌∙◌, ℕ, List, [], ◌∷◌, ◌++◌, Bool, true, false, slice_get, slice_set, Option, Some, None, Result, Ok, Err, refl, ap, sym, inl, inr, arith}
 use Rattle.std.proofs.lemmas.List.{get_or-set_same, length-set}
 use Rattle.std.proofs.lemmas.Option.{slice_get-get_or, slice_get_within}
 use Rattle.vr_edge.specs.Told.{Grows}
@@ -9,14 +9,14 @@ use Rattle.vr_edge.specs.declared.streams.StreamCall.{StreamCall}
 use Rattle.vr_edge.specs.declared.streams.StreamCall.TheVariants as call
 use Rattle.vr_stream.specs.Framers.{IsDamaged, TakesAt}
 use Rattle.vr_stream.specs.Framing.{Call, Framing, Gave, Gives, Settled, Settles, IsSettled, ended, over_at, with_line}
-use Rattle.vr_stream.specs.Receiving.{IsGiven, IsHeard, IsReceived}
+use Rattle.vr_stream.specs.Receiving.{IsGiven, IsHeard, IsReceived, Receives, Shuts}
 use Rattle.vr_stream.specs.declared.line.Incoming.{Incoming}
 
 nil_behind : {X : Type 0} (xs : List X) → xs ++ [] ≡ xs
 nil_behind [] = refl
 nil_behind (x ∷ xs) = ap (λ ys. x ∷ ys) (nil_behind xs)
 
-told_none : {X : Type 0} (a : Option (List X)) → Grows a a []
+pub told_none : {X : Type 0} (a : Option (List X)) → Grows a a []
 told_none None = refl
 told_none (Some xs) = sym (nil_behind xs)
 
@@ -30,7 +30,7 @@ pub given_nothing : (f g : Framing) (old : Option (List StreamCall)) (to : List 
 given_nothing f g old to x = record { happened = Settled ∷ []; happen = (g, x, refl); told = told_none old; by = (settled_ready f g x, inl refl) }
 
 -- the item that was put at a place
-set_there : (xs : List Incoming) (port : ℕ) (x y : Incoming) → slice_get xs port ≡ Some y → slice_get (slice_set xs port x) port ≡ Some x
+pub set_there : (xs : List Incoming) (port : ℕ) (x y : Incoming) → slice_get xs port ≡ Some y → slice_get (slice_set xs port x) port ≡ Some x
 set_there xs port x y e =
     let within = slice_get_within xs port y e in
     slice_get-get_or (slice_set xs port x) port x (omega (arith, within, length-set xs port x)) ∙ ap Some (get_or-set_same xs port x x within)
@@ -107,3 +107,14 @@ pub received_heard : {E : Type 0} (f mid g : Framing) (old settled polled new : 
     → IsGiven f old mid settled held None → Grows settled polled (c ∷ []) → IsHeard mid c polled g new to r → IsReceived {E = E} f old g new to (Ok r)
 received_heard f mid g old settled polled new held to c r x told h =
     inr (record { mid = mid; settled = settled; held = held; nothing = x; call = c; polled = polled; told = told; by = h })
+
+pub shuts_none : (cut : Option ℕ) (f : Framing) (old : Option (List StreamCall)) → cut ≡ None → Shuts cut f old f old
+shuts_none cut f old e = subst (λ o. Shuts o f old f old) (sym e) (refl, refl)
+
+pub shuts_some : (cut : Option ℕ) (f g : Framing) (old new : Option (List StreamCall)) (port : ℕ) → cut ≡ Some port → g ≡ ended port f
+    → Grows old new (call.Closed port ∷ []) → Shuts cut f old g new
+shuts_some cut f g old new port e over told = subst (λ o. Shuts o f old g new) (sym e) (over, told)
+
+pub receives : {E : Type 0} (cut : Option ℕ) (f mid g : Framing) (old shut new : Option (List StreamCall)) (to : List ℕ) (result : Result Received E)
+    → Shuts cut f old mid shut → IsReceived mid shut g new to result → Receives cut f old g new to result
+receives cut f mid g old shut new to result s r = record { mid = mid; shut = shut; shuts = s; received = r }

@@ -6,7 +6,7 @@ use Rattle.vr_edge.specs.declared.link.Received.TheVariants as received
 use Rattle.vr_edge.specs.declared.streams.StreamCall.{StreamCall}
 use Rattle.vr_edge.specs.declared.streams.StreamCall.TheVariants as call
 use Rattle.vr_stream.specs.Framers.{HasNoPlace, IsDamaged}
-use Rattle.vr_stream.specs.Framing.{Call, Framing, Gave, Happen, Occurrence, Happens, Settled, calls_in}
+use Rattle.vr_stream.specs.Framing.{Call, Framing, Gave, Happen, Occurrence, Happens, Settled, calls_in, ended}
 
 -- a message that stands ready is given; else nothing stands ready then, and where damage stands its connection is closed
 abbrev pub GivesBy : Framing → List Occurrence → Framing → List ℕ → Option ℕ → Type 0
@@ -59,3 +59,16 @@ pub record Polls {E : Type 0} (f : Framing) (old : Option (List StreamCall)) (g 
 abbrev pub IsReceived : {E : Type 0} → Framing → Option (List StreamCall) → Framing → Option (List StreamCall) → List ℕ → Result Received E → Type 0
 IsReceived f old g new to result =
     ((port : ℕ) × (result ≡ Ok (received.Datagram port)) × IsGiven f old g new to (Some port)) ⊎ Polls f old g new to result
+
+-- a stream that is cut is closed, and nothing else is touched
+abbrev pub Shuts : Option ℕ → Framing → Option (List StreamCall) → Framing → Option (List StreamCall) → Type 0
+Shuts None f old g new = (g ≡ f) × (new ≡ old)
+Shuts (Some port) f old g new = (g ≡ ended port f) × Grows old new (call.Closed port ∷ [])
+
+-- the stream that is cut is closed first
+pub record Receives {E : Type 0} (cut : Option ℕ) (f : Framing) (old : Option (List StreamCall)) (g : Framing) (new : Option (List StreamCall)) (to : List ℕ)
+    (result : Result Received E) : Type 0 where
+  pub mid : Framing
+  pub shut : Option (List StreamCall)
+  pub shuts : Shuts cut f old mid shut
+  pub received : IsReceived mid shut g new to result

@@ -116,6 +116,9 @@ fn a_write_that_takes_less_is_a_loss(rt: HostRuntime) -> Result<(), Fail> {
     script.short_writes.push(0)?;
     let mut link = StreamLink::new(alloc, 2, MemStreams::new(alloc, 66, script)?)?;
     assert_eq!(rt; link.send(0, b"prepare"), Err(LinkFailed));
+    assert_eq!(rt; link.send(0, b"prepare"), Err(LinkFailed));
+    let mut to = room(alloc)?;
+    assert_eq!(rt; link.receive(&mut to), Ok(Received::Quiet));
     assert_eq!(rt; link.send(0, b"prepare"), Ok(()));
     Ok(())
 }
