@@ -16,7 +16,7 @@ pub unregistered : (c : Client) (r : Reading) (s : Stand) (s' : Stand) (b n : Fa
 unregistered c r s s' b n status e = inl (refl, e)
 
 pub lines_later : (c : Client) (r : Reading) (s : Stand) (r' : Reading) (s' : Stand) (b m n : Faults) (status : Status)
-    → b.link ≤ m.link → b.write ≤ m.write → EndsLines c r s r' s' m n status → EndsLines c r s r' s' b n status
+    → b.link ≤ m.link → m.write ≡ b.write → EndsLines c r s r' s' m n status → EndsLines c r s r' s' b n status
 lines_later c r s r' s' b m n status l w e = record {
   exchanges = e.exchanges;
   few = e.few;
@@ -28,46 +28,30 @@ lines_later c r s r' s' b m n status l w e = record {
 
 -- it registered, and asked its lines
 pub registered : (c : Client) (r : Reading) (s s'' : Stand) (r' : Reading) (s' : Stand) (b m n : Faults) (status : Status)
-    → Exchanges c 0 Register s s'' b m (Ok tt) → b.link ≤ m.link → b.write ≤ m.write → EndsLines c r s'' r' s' m n status → EndsRun c r s r' s' b n status
+    → Exchanges c 0 Register s s'' b m (Ok tt) → b.link ≤ m.link → m.write ≡ b.write → EndsLines c r s'' r' s' m n status → EndsRun c r s r' s' b n status
 registered c r s s'' r' s' b m n status e l w lines = inr (e.0, s'', e.1, lines_later c r s'' r' s' b m n status l w lines)
 
 pub same_outside : (sent sent' : Option (List (Option Datagram))) (got got' : Option (List Arrival)) (taken left : Option (List ℕ))
     → sent' ≡ sent → got' ≡ got → outside sent' got' taken left ≡ outside sent got taken left
 same_outside sent sent' got got' taken left a b = rw (a, b) refl
 
--- ---- no fault of the link or the sink without its count
+-- ---- no fault of the link without its count
 
 stops_link : (c : Client) (k : ℕ) (r : Reading) (s : Stand) (r' : Reading) (s' : Stand) (b n : Faults)
     → ((s' ≡ s) × StopsAt k r r' status.LinkFault) ⊎ EndsAt c k r s r' s' b n status.LinkFault → Rose b.link n.link
 stops_link c k r s r' s' b n (inl x) = absurd x.1
 stops_link c k r s r' s' b n (inr x) = x.ends.0
 
-stops_write : (c : Client) (k : ℕ) (r : Reading) (s : Stand) (r' : Reading) (s' : Stand) (b n : Faults)
-    → ((s' ≡ s) × StopsAt k r r' status.WriteFault) ⊎ EndsAt c k r s r' s' b n status.WriteFault → Rose b.write n.write
-stops_write c k r s r' s' b n (inl x) = absurd x.1
-stops_write c k r s r' s' b n (inr x) = x.ends.0
-
 run_link : (c : Client) (r : Reading) (s : Stand) (r' : Reading) (s' : Stand) (b n : Faults) → EndsRun c r s r' s' b n status.LinkFault → Rose b.link n.link
 run_link c r s r' s' b n (inl x) = x.1.0
 run_link c r s r' s' b n (inr x) = stops_link c _ x.3.reads x.3.stands r' s' b n x.3.ends
-
-run_write : (c : Client) (r : Reading) (s : Stand) (r' : Reading) (s' : Stand) (b n : Faults) → EndsRun c r s r' s' b n status.WriteFault → Rose b.write n.write
-run_write c r s r' s' b n (inl x) = x.1.0
-run_write c r s r' s' b n (inr x) = stops_write c _ x.3.reads x.3.stands r' s' b n x.3.ends
 
 link_at : (c : Client) (o o' : Outside) (b n : Faults) → ClientEnds c o o' b n status.LinkFault → Rose b.link n.link
 link_at c o o' b n (inl x) = x.1
 link_at c o o' b n (inr x) = run_link c _ _ _ _ b n x.ends
 
-write_at : (c : Client) (o o' : Outside) (b n : Faults) → ClientEnds c o o' b n status.WriteFault → Rose b.write n.write
-write_at c o o' b n (inl x) = absurd x
-write_at c o o' b n (inr x) = run_write c _ _ _ _ b n x.ends
-
 pub client_link : (c : Client) (o o' : Outside) (b n : Faults) (s : Status) → ClientEnds c o o' b n s → s ≡ status.LinkFault → Rose b.link n.link
 client_link c o o' b n s e is = link_at c o o' b n (subst (λ x. ClientEnds c o o' b n x) is e)
-
-pub client_write : (c : Client) (o o' : Outside) (b n : Faults) (s : Status) → ClientEnds c o o' b n s → s ≡ status.WriteFault → Rose b.write n.write
-client_write c o o' b n s e is = write_at c o o' b n (subst (λ x. ClientEnds c o o' b n x) is e)
 
 -- the client was made, and ran
 pub ran : (c : Client) (o o' : Outside) (rest : List ℕ) (port : ℕ) (b n : Faults) (s : Status)

@@ -2,7 +2,7 @@
 use Rattle.std.specs.Prelude.{ℕ, ◌≡◌, ◌⊎◌, ⊤, List, Option, Result, Ok, Err}
 use Rattle.std.specs.Io.KnownBytes.{Appends}
 use Rattle.vr_ask.specs.Text.{answer_text}
-use Rattle.vr_base.specs.Causes.{Rose}
+use Rattle.vr_base.specs.Causes.{Rose, one_more}
 use Rattle.vr_client.specs.Asking.{IsAsked, ask_of}
 use Rattle.vr_client.specs.declared.answer.Answer.{Answer}
 use Rattle.vr_client.specs.declared.answer.Answer.TheVariants as answer
@@ -83,6 +83,16 @@ pub record Faults : Type 0 where
 
 abbrev pub faults : ℕ → ℕ → Faults
 faults link write = record { link = link; write = write }
+
+-- the count of the sink's faults at the end: each write that failed is told, and no other answer leaves one
+abbrev pub writes_after : Status → ℕ → ℕ
+writes_after WriteFault count = one_more count
+writes_after _ count = count
+
+-- the same after a part of it, which goes on or ends there
+abbrev pub CountsWrites : {T : Type 0} → ℕ → ℕ → Result T Status → Type 0
+CountsWrites before now (Ok x) = now ≡ before
+CountsWrites before now (Err status) = now ≡ writes_after status before
 
 -- how a client ends with an ask
 abbrev pub EndsWith : Client → ℕ → Operation → Stand → Stand → Faults → Faults → Status → Type 0

@@ -102,10 +102,10 @@ standing port o = record { port = port; sent = o.sent; got = o.got; taken = o.ta
 abbrev pub reading_of : List ℕ → Outside → Reading
 reading_of rest o = record { rest = rest; left = o.left }
 
--- Nothing was asked: the link couldn't be attached, or memory was short for the client itself.
+-- Nothing was asked: the link couldn't be attached, or it was and memory was short for the client itself.
 abbrev pub EndsUnasked : Outside → Outside → Faults → Faults → Status → Type 0
 EndsUnasked o o' before now LinkFault = (o' ≡ o) × Rose before.link now.link
-EndsUnasked o o' before now NoMemory = o' ≡ o
+EndsUnasked o o' before now NoMemory = (o' ≡ o) × (now.link ≡ before.link)
 EndsUnasked o o' before now _ = ⊥
 
 -- its run, from its first ask at port 0, with nothing read

@@ -1,6 +1,6 @@
 //! The whole run of a client.
 ghost use Rattle.std.specs.Prelude.{◌≡◌, ◌≢◌, ◌≤◌, [], vec_len};
-ghost use Rattle.vr_ask.specs.Asking.{client_of, faults, stand};
+ghost use Rattle.vr_ask.specs.Asking.{client_of, faults, stand, writes_after};
 ghost use Rattle.vr_ask.specs.Run.{ClientEnds, EndsRun, client_with, count_after, outside, reading};
 ghost use Rattle.vr_base.specs.Causes.{Rose};
 ghost use Rattle.vr_reader.specs.Finding.{rest};
@@ -32,7 +32,7 @@ fn ask_all<S: Source, K: Sink, L: Link>(
         (faults (L.faults link.old) (K.faults sink.old)) (faults (L.faults link.new) (K.faults sink.new)) result }
     ensures counts { S.faults source.new ≡ count_after result (S.faults source.old) }
     ensures link { L.faults link.old ≤ L.faults link.new }
-    ensures sink { K.faults sink.old ≤ K.faults sink.new }
+    ensures sink { K.faults sink.new ≡ writes_after result (K.faults sink.old) }
 {
     match exchange(alloc, core, link, sink, &Operation::Register, turns) {
         Ok(()) => ask_lines(alloc, core, lines, source, link, sink, turns),
@@ -61,7 +61,7 @@ fn ask_made<S: Source, K: Sink, L: Link>(
         (faults (L.faults link.old) (K.faults sink.old)) (faults (L.faults link.new) (K.faults sink.new)) result }
     ensures counts { S.faults source.new ≡ count_after result (S.faults source.old) }
     ensures link { L.faults link.old ≤ L.faults link.new }
-    ensures sink { K.faults sink.old ≤ K.faults sink.new }
+    ensures sink { K.faults sink.new ≡ writes_after result (K.faults sink.old) }
 {
     let size = peers.len() as u8;
     let Ok(mut core) = ClientCore::new(alloc, cluster, id, size) else {
@@ -75,7 +75,7 @@ fn ask_made<S: Source, K: Sink, L: Link>(
 
 /// The client `id` of a group whose members have these addresses: it registers, asks each line of its source, and writes each answer. Its end has its cause: a line that is
 /// none of a client's, no answer in its turns, a session that the group knows no more, or a fault that the count of its object tells.
-#[tactic(auto, using(crate::proofs::Runs::same_outside, crate::proofs::Runs::client_link, crate::proofs::Runs::client_write))]
+#[tactic(auto, using(crate::proofs::Runs::same_outside, crate::proofs::Runs::client_link))]
 pub fn run_client<S: Source, K: Sink, L: Link>(
     alloc: Global,
     cluster: u64,
@@ -93,9 +93,9 @@ pub fn run_client<S: Source, K: Sink, L: Link>(
         (outside (L.sent link.old) (L.received link.old) (K.taken sink.old) (S.left source.old))
         (outside (L.sent link.new) (L.received link.new) (K.taken sink.new) (S.left source.new))
         (faults (L.faults link.old) (K.faults sink.old)) (faults (L.faults link.new) (K.faults sink.new)) result }
-    // A fault has its cause in the object that was handed in, and a read that failed is told: no other answer leaves one.
+    // A fault has its cause in the object that was handed in, and a read or a write that failed is told: no other answer leaves one.
     ensures read { S.faults source.new ≡ count_after result (S.faults source.old) }
-    ensures write { result ≡ Status.WriteFault → Rose (K.faults sink.old) (K.faults sink.new) }
+    ensures write { K.faults sink.new ≡ writes_after result (K.faults sink.old) }
     ensures link { result ≡ Status.LinkFault → Rose (L.faults link.old) (L.faults link.new) }
 {
     match link.attach("", peers) {

@@ -68,31 +68,6 @@ fails_in_later t (step ∷ steps) p p' b l w n k s h (inr x) = inr (x.0, x.1, fa
 
 -- ---- the cause of each fault
 
-cut_write : (line : List ℕ) (t t' : Option (List ℕ)) (b n : ℕ) → (status.WriteFault ≡ status.NoMemory) ⊎ ((status.WriteFault ≡ status.WriteFault) × Rose b n) → Rose b n
-cut_write line t t' b n (inl x) = absurd (cc x)
-cut_write line t t' b n (inr x) = x.1
-
-cant_write : (calls : List SpawnCall) (m m' : Members) (b n : ℕ) → CantCall calls m m' b n status.WriteFault → ⊥
-cant_write calls m m' b n (inl x) = absurd (cc x.0)
-cant_write calls m m' b n (inr x) = absurd (cc x.fault)
-
-breaks_write : (Changes : Members → Members → Type 0) (calls : List SpawnCall) (line : List ℕ) (m m' : Members) (t t' : Option (List ℕ)) (b n : Counts)
-    → BreaksOff Changes calls line m m' t t' b n status.WriteFault → Rose b.write n.write
-breaks_write Changes calls line m m' t t' b n (inl x) = absurd (cant_write calls m m' b.spawn n.spawn x.0)
-breaks_write Changes calls line m m' t t' b n (inr x) = cut_write line t t' b.write n.write x.1.cause
-
-step_write : (t : Trial) (step : Step) (p p' : Place) (b n : Faults) → Fails t step p p' b n status.WriteFault → Rose b.counts.write n.counts.write
-step_write t (Start r) p p' b n x = breaks_write (Starts (start_words t r true) r) _ _ p.members p'.members p.client.taken p'.client.taken b.counts n.counts x.0
-step_write t (Restart r) p p' b n x = breaks_write (Starts (start_words t r false) r) _ _ p.members p'.members p.client.taken p'.client.taken b.counts n.counts x.0
-step_write t Attach p p' b n x = absurd (cc x.0)
-step_write t (Ask q) p p' b n x = x.0.0
-step_write t (Stop r) p p' b n x = breaks_write (Stops r) _ _ p.members p'.members p.client.taken p'.client.taken b.counts n.counts x.0
-
-in_write : (t : Trial) (steps : List Step) (p p' : Place) (b n : Faults) → FailsIn t steps p p' b n status.WriteFault → Rose b.counts.write n.counts.write
-in_write t [] p p' b n x = absurd x
-in_write t (step ∷ steps) p p' b n (inl x) = step_write t step p p' b n x
-in_write t (step ∷ steps) p p' b n (inr x) = in_write t steps x.0 p' b n x.2
-
 cut_link : (b n : ℕ) → (status.LinkFault ≡ status.NoMemory) ⊎ ((status.LinkFault ≡ status.WriteFault) × Rose b n) → ⊥
 cut_link b n (inl x) = absurd (cc x)
 cut_link b n (inr x) = absurd (cc x.0)
@@ -145,10 +120,6 @@ in_spawn t (step ∷ steps) p p' b n (inr x) = in_spawn t steps x.0 p' b n x.2
 
 -- ---- of the whole trial
 
-ends_write : (t : Trial) (steps : List Step) (p : Place) (o : Outside) (b n : Faults) → Ends t steps p o b n status.WriteFault → Rose b.counts.write n.counts.write
-ends_write t steps p o b n (inl x) = absurd (cc x.done)
-ends_write t steps p o b n (inr x) = in_write t steps p x.last b n x.fails
-
 ends_link : (t : Trial) (steps : List Step) (p : Place) (o : Outside) (b n : Faults) → Ends t steps p o b n status.LinkFault → Rose b.link n.link
 ends_link t steps p o b n (inl x) = absurd (cc x.done)
 ends_link t steps p o b n (inr x) = in_link t steps p x.last b n x.fails
@@ -156,10 +127,6 @@ ends_link t steps p o b n (inr x) = in_link t steps p x.last b n x.fails
 ends_spawn : (t : Trial) (steps : List Step) (p : Place) (o : Outside) (b n : Faults) → Ends t steps p o b n status.SpawnFault → Rose b.counts.spawn n.counts.spawn
 ends_spawn t steps p o b n (inl x) = absurd (cc x.done)
 ends_spawn t steps p o b n (inr x) = in_spawn t steps p x.last b n x.fails
-
-pub ended_write : (t : Trial) (steps : List Step) (p : Place) (o : Outside) (b n : Faults) (s : Status)
-    → Ends t steps p o b n s → s ≡ status.WriteFault → Rose b.counts.write n.counts.write
-ended_write t steps p o b n s e is = ends_write t steps p o b n (subst (λ x. Ends t steps p o b n x) is e)
 
 pub ended_link : (t : Trial) (steps : List Step) (p : Place) (o : Outside) (b n : Faults) (s : Status)
     → Ends t steps p o b n s → s ≡ status.LinkFault → Rose b.link n.link

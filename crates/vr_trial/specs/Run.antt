@@ -1,9 +1,9 @@
 -- The run of a trial.
-use Rattle.std.specs.Prelude.{ℕ, ◌≡◌, ◌⊎◌, Bool, true, false, List, [], ◌∷◌, replicate, slice_get, slice_set, Option, Some, None, option_and_then, codes}
+use Rattle.std.specs.Prelude.{ℕ, ◌≡◌, ◌⊎◌, Bool, true, false, if◌then◌else◌, List, [], ◌∷◌, replicate, slice_get, slice_set, Option, Some, None, option_and_then, Result, Ok, Err, codes}
 use Rattle.std.specs.Io.KnownBytes.{Appends}
 use Rattle.vr_ask.specs.Asking as ask
 use Rattle.vr_ask.specs.Asking.{EndsWith, IsAnswered, Stand}
-use Rattle.vr_base.specs.Causes.{Rose}
+use Rattle.vr_base.specs.Causes.{Rose, one_more}
 use Rattle.vr_client.specs.declared.answer.Answer.TheVariants as answer
 use Rattle.vr_edge.specs.Datagrams.{Arrival}
 use Rattle.vr_edge.specs.Told.{AppendsFront, Grows}
@@ -53,6 +53,16 @@ faults link write spawn = record { link = link; counts = counts write spawn }
 abbrev pub of_client : Faults → ask.Faults
 of_client f = ask.faults f.link f.counts.write
 
+-- the count of the spawner's faults where a step ends a trial: each call that failed is told, and no other answer leaves one
+abbrev pub spawns_after : Status → ℕ → ℕ
+spawns_after SpawnFault count = one_more count
+spawns_after _ count = count
+
+-- the same after a step, which goes on or ends there
+abbrev pub CountsSpawns : {T : Type 0} → ℕ → ℕ → Result T Status → Type 0
+CountsSpawns before now (Ok x) = now ≡ before
+CountsSpawns before now (Err status) = now ≡ spawns_after status before
+
 -- ---- members
 
 abbrev pub start_call : List (List ℕ) → Option ℕ → SpawnCall
@@ -93,12 +103,25 @@ abbrev pub CantCall : List SpawnCall → Members → Members → ℕ → ℕ →
 CantCall calls m m' before now status =
     ((status ≡ NoMemory) × (m' ≡ m)) ⊎ IsRefused calls m m' before now status
 
--- All members that run are stopped, the least number first; what the spawner answers changes nothing.
-abbrev pub StopsAll : List (Option ℕ) → Option (List SpawnCall) → Option (List SpawnCall) → Type 0
+-- what the spawner tells, and the count of its faults
+pub record Spawns : Type 0 where
+  pub calls : Option (List SpawnCall)
+  pub faults : ℕ
+
+abbrev pub spawns : Option (List SpawnCall) → ℕ → Spawns
+spawns calls faults = record { calls = calls; faults = faults }
+
+-- a stop, which adds one to the count exactly where it failed
+pub record HasStop (id : ℕ) (old new : Spawns) : Type 0 where
+  pub is_done : Bool
+  pub called : Grows old.calls new.calls (stop_call id is_done ∷ [])
+  pub counted : new.faults ≡ (if is_done then old.faults else one_more old.faults)
+
+-- All members that run are stopped, the least number first; a stop that fails changes nothing but the count.
+abbrev pub StopsAll : List (Option ℕ) → Spawns → Spawns → Type 0
 StopsAll [] old new = new ≡ old
 StopsAll (None ∷ running) old new = StopsAll running old new
-StopsAll (Some id ∷ running) old new =
-    (is_done : Bool) × (mid : Option (List SpawnCall)) × Grows old mid (stop_call id is_done ∷ []) × StopsAll running mid new
+StopsAll (Some id ∷ running) old new = (mid : Spawns) × HasStop id old mid × StopsAll running mid new
 
 -- ---- lines
 
@@ -201,26 +224,27 @@ begins t o = record {
 abbrev pub tells : Place → Option (List SpawnCall) → Outside
 tells p calls = outside p.client.sent p.client.got p.client.taken calls
 
--- all steps went well
-pub record IsThrough (t : Trial) (steps : List Step) (p : Place) (o : Outside) (status : Status) : Type 0 where
+-- all steps went well; before and now count the spawner's faults
+pub record IsThrough (t : Trial) (steps : List Step) (p : Place) (o : Outside) (before now : ℕ) (status : Status) : Type 0 where
   pub done : status ≡ Done
+  pub spared : now ≡ before
   pub last : Place
   pub does : DoesAll t steps p last
   pub ends : o ≡ tells last last.members.calls
 
--- a step ended it, and then the members that ran were stopped
+-- a step ended it, and then the members that ran were stopped; the count rose by that step, where the spawner failed in it, and by the stops that failed
 pub record IsBroken (t : Trial) (steps : List Step) (p : Place) (o : Outside) (before now : Faults) (status : Status) : Type 0 where
   pub last : Place
   pub fails : FailsIn t steps p last before now status
   pub calls : Option (List SpawnCall)
-  pub stops : StopsAll last.members.running last.members.calls calls
+  pub stops : StopsAll last.members.running (spawns last.members.calls (spawns_after status before.counts.spawn)) (spawns calls now.counts.spawn)
   pub ends : o ≡ tells last calls
 
 -- how a trial of these steps ends
 abbrev pub Ends : Trial → List Step → Place → Outside → Faults → Faults → Status → Type 0
-Ends t steps p o before now status = IsThrough t steps p o status ⊎ IsBroken t steps p o before now status
+Ends t steps p o before now status = IsThrough t steps p o before.counts.spawn now.counts.spawn status ⊎ IsBroken t steps p o before now status
 
 -- how a trial ends; memory may be short before its first step
 abbrev pub TrialEnds : Trial → Outside → Outside → Faults → Faults → Status → Type 0
 TrialEnds t o o' before now status =
-    ((status ≡ NoMemory) × (o' ≡ o)) ⊎ Ends t (script t.client.n) (begins t o) o' before now status
+    ((status ≡ NoMemory) × (o' ≡ o) × (now ≡ before)) ⊎ Ends t (script t.client.n) (begins t o) o' before now status

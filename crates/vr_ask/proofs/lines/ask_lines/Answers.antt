@@ -20,5 +20,5 @@ loop-done-preserved g c =
       number = e.number;
       counts = e.counts ∙ i.counts;
       link = omega (arith, i.link, e.link);
-      sink = omega (arith, i.sink, e.sink);
+      sink = e.sink ∙ i.sink;
     }

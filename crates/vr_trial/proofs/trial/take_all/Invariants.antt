@@ -19,6 +19,6 @@ invariant-loop-step g l = record {
   client : client_of l.course.core l.plan.turns ≡ (trial_of l.plan).client;
   next : AreNext l.course.core.number (drop l.step-index l.steps);
   link : g.L.Link.faults l.fn.link ≤ g.L.Link.faults l.link;
-  sink : g.K.Sink.faults l.fn.sink ≤ g.K.Sink.faults l.sink;
-  spawner : g.P.Spawner.faults l.fn.spawner ≤ g.P.Spawner.faults l.spawner;
+  sink : g.K.Sink.faults l.sink ≡ g.K.Sink.faults l.fn.sink;
+  spawner : g.P.Spawner.faults l.spawner ≡ g.P.Spawner.faults l.fn.spawner;
 }
