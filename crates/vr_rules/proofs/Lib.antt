@@ -57,3 +57,5 @@ pub mod OwnWords
 pub mod OwnSteps
 pub mod Halves
 pub mod Replying
+pub mod Jumping
+pub mod Visiting
