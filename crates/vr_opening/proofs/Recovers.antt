@@ -18,7 +18,7 @@ use Rattle.vr_step.specs.declared.halt.Halt.TheVariants.{DiskFault, NoMemory}
 use Rattle.vr_opening.specs.declared.reopen.Refusal.{Refusal}
 use Rattle.vr_opening.specs.declared.reopen.Refusal.TheVariants.{Lost, OtherMember, Halted}
 use Rattle.vr_step.specs.Does.{Does, Performs}
-use Rattle.vr_opening.specs.Recovering.{after_mend, DoesTo, config_of, LosesValue, MendsValue, BeginsWith, FindsValue, IsOther, IsAsked, Recovered, RecoveredAny}
+use Rattle.vr_opening.specs.Recovering.{after_mend, DoesTo, config_of, LosesValue, MendsValue, BeginsWith, StopsMending, LeavesUnmended, FindsValue, IsOther, IsAsked, StopsAsked, Recovered, RecoveredAny}
 use Rattle.vr_step.proofs.Stepping.{does_no_memory, effect_then, effect_stopped}
 
 pub begun_wanted : (v : SuperValue) (d : Option Disk) (o : List Output) → DoesTo (after_mend v) (blank v) d d o o (Err NoMemory)
@@ -72,30 +72,39 @@ lost vs (Some y) d' h =
 any_value : SuperValue
 any_value = first_value 0 0 0
 
-pub mend_faulted : (d d' : Option Disk) → RecoversFrom d d' (Err fault.DiskFault) → (o : List Output) → BeginsWith opening d d' o o (Err DiskFault)
-unfolding opening
-mend_faulted None d' h o = record { value = any_value; opens = tt; step = record { untold = λ e. h; told = λ x e. cc } }
-mend_faulted (Some y) d' h o =
-    let v : SuperValue = h.value in
-    record { value = v; opens = h.opens; step = effect_stopped (λ r. Mend v) (after_mend v) (blank v) (blank v) (Some y) d' o o (mends v (blank v) (Some y) d' false h.ran) }
+pub mend_faulted : (d d' : Option Disk) → RecoversFrom d d' (Err fault.DiskFault) → LeavesUnmended d d' DiskFault
+mend_faulted None d' h = record { value = any_value; opens = tt; stops = h }
+mend_faulted (Some y) d' h = record { value = h.value; opens = h.opens; stops = h.ran }
 
 some_value : (o : Option SuperValue) → IsSome o → (v : SuperValue) × (o ≡ Some v)
 some_value None h = absurd cc
 some_value (Some v) h = (v, refl)
 
-pub mend_wanted : (d d' : Option Disk) → RecoversFrom d d' (Err fault.NoMemory) → (o : List Output) → BeginsWith opening d d' o o (Err NoMemory)
+pub mend_wanted : (d d' : Option Disk) → RecoversFrom d d' (Err fault.NoMemory) → LeavesUnmended d d' NoMemory
+mend_wanted None d' h = record { value = any_value; opens = tt; stops = h }
+mend_wanted (Some y) d' h = let t = some_value (opens y.face) h.0 in record { value = t.0; opens = t.1; stops = h.1 }
+
+-- a stop in the mending is one of the whole opening
+stopped_mending : (v : SuperValue) (d d' : Option Disk) (o : List Output) (halt : Halt) → StopsMending v d d' halt → DoesTo (opening v) (blank v) d d' o o (Err halt)
 unfolding opening
-mend_wanted None d' h o = record { value = any_value; opens = tt; step = record { untold = λ e. h; told = λ x e. cc } }
-mend_wanted (Some y) d' h o =
-    let t = some_value (opens y.face) h.0 in
-    record { value = t.0; opens = t.1; step = rw h.1 (does_no_memory (opening t.0) (blank t.0) (blank t.0) (Some y) o o) }
+stopped_mending v d d' o DiskFault h = effect_stopped (λ r. Mend v) (after_mend v) (blank v) (blank v) d d' o o (mends v (blank v) d d' false h)
+stopped_mending v d d' o NoMemory h = rw h (does_no_memory (opening v) (blank v) (blank v) d o o)
 
 pub recovered : (asked found : Config) (v : SuperValue) (q : Replica) (d d1 d2 : Option Disk) (o o' : List Output) → found ≡ config_of v → found ≡ asked → MendsValue v d d1 → DoesTo (after_mend v) (blank v) d1 d2 o o' (Ok q)
     → IsAsked asked d d2 o o' q
 recovered asked found v q d d1 d2 o o' e i m h = record { value = v; named = sym e ∙ i; opens = opens_of v d d1 m; step = mended_then v q d d1 d2 o o' (Ok tt) m h }
 
-pub halted : (v : SuperValue) (d d1 d2 : Option Disk) (o o' : List Output) (halt : Halt) → MendsValue v d d1 → DoesTo (after_mend v) (blank v) d1 d2 o o' (Err halt) → BeginsWith opening d d2 o o' (Err halt)
-halted v d d1 d2 o o' halt m h = record { value = v; opens = opens_of v d d1 m; step = mended_then v (blank v) d d1 d2 o o' (Err halt) m h }
+pub halted : (asked found : Config) (v : SuperValue) (d d1 d2 : Option Disk) (o o' : List Output) (halt : Halt) → found ≡ config_of v → found ≡ asked → MendsValue v d d1 → DoesTo (after_mend v) (blank v) d1 d2 o o' (Err halt)
+    → StopsAsked asked d d2 o o' halt
+halted asked found v d d1 d2 o o' halt e i m h = record {
+  value = v;
+  opens = opens_of v d d1 m;
+  step = λ x. mended_then v (blank v) d d1 d2 o o' (Err halt) m h;
+  other = λ not. absurd (not (sym e ∙ i));
+}
+
+pub halted_any : (v : SuperValue) (d d1 d2 : Option Disk) (o o' : List Output) (halt : Halt) → MendsValue v d d1 → DoesTo (after_mend v) (blank v) d1 d2 o o' (Err halt) → BeginsWith opening d d2 o o' (Err halt)
+halted_any v d d1 d2 o o' halt m h = record { value = v; opens = opens_of v d d1 m; step = mended_then v (blank v) d d1 d2 o o' (Err halt) m h }
 
 pub other_member : (asked found : Config) (v : SuperValue) (d d' : Option Disk) → found ≡ config_of v → (found ≡ asked → ⊥) → MendsValue v d d' → IsOther asked found d d'
 other_member asked found v d d' e n m = record { value = v; mended = m; named = e; other = n }
@@ -103,7 +112,7 @@ other_member asked found v d d' e n m = record { value = v; mended = m; named = 
 pub refused : (asked : Config) (d d' : Option Disk) (o : List Output) (x : Refusal) → FindsValue d d' (Err x) → Recovered asked d d' o o (Err x)
 refused asked d d' o (Lost vs) h = h
 refused asked d d' o (OtherMember found) h = absurd h
-refused asked d d' o (Halted halt) h = h o
+refused asked d d' o (Halted halt) h = record { value = h.value; opens = h.opens; step = λ e. stopped_mending h.value d d' o halt h.stops; other = λ not. h.stops }
 
 pub recovered_any : (v : SuperValue) (q : Replica) (d d1 d2 : Option Disk) (o o' : List Output) → MendsValue v d d1 → DoesTo (after_mend v) (blank v) d1 d2 o o' (Ok q) → BeginsWith opening d d2 o o' (Ok q)
 recovered_any v q d d1 d2 o o' m h = record { value = v; opens = opens_of v d d1 m; step = mended_then v q d d1 d2 o o' (Ok tt) m h }
@@ -111,4 +120,4 @@ recovered_any v q d d1 d2 o o' m h = record { value = v; opens = opens_of v d d1
 pub refused_any : (d d' : Option Disk) (o : List Output) (x : Refusal) → FindsValue d d' (Err x) → RecoveredAny d d' o o (Err x)
 refused_any d d' o (Lost vs) h = h
 refused_any d d' o (OtherMember found) h = absurd h
-refused_any d d' o (Halted halt) h = h o
+refused_any d d' o (Halted halt) h = record { value = h.value; opens = h.opens; step = stopped_mending h.value d d' o halt h.stops }

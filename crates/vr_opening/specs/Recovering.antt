@@ -1,7 +1,7 @@
 -- A replica is recovered from its disk.
-use Rattle.std.specs.Prelude.{◌≡◌, ◌≢◌, List, map, Option, Some, None, IfSome, true, Result, Ok, Err}
+use Rattle.std.specs.Prelude.{◌≡◌, ◌≢◌, List, map, Option, Some, None, IfSome, true, false, Result, Ok, Err}
 use Rattle.vr_base.specs.declared.table.Config.{Config}
-use Rattle.vr_disk.specs.DiskState.{Disk, Face, Runs}
+use Rattle.vr_disk.specs.DiskState.{Disk, Face, Runs, RunsFrom}
 use Rattle.vr_msg.specs.declared.output.Output.{Output}
 use Rattle.vr_super.specs.Calls.{mend_calls}
 use Rattle.vr_super.specs.Copies.{SuperValue}
@@ -12,6 +12,7 @@ use Rattle.vr_rules.specs.Replica.{Replica}
 use Rattle.vr_rules.specs.Steps.{Word, ◌⨾◌}
 use Rattle.vr_rules.specs.Opening.{recover_parts, resuming, opening, blank}
 use Rattle.vr_step.specs.declared.halt.Halt.{Halt}
+use Rattle.vr_step.specs.declared.halt.Halt.TheVariants.{DiskFault, NoMemory}
 use Rattle.vr_opening.specs.declared.reopen.Refusal.{Refusal}
 use Rattle.vr_opening.specs.declared.reopen.Refusal.TheVariants.{Lost, OtherMember, Halted}
 use Rattle.vr_step.specs.Does.{Does}
@@ -44,11 +45,22 @@ pub record BeginsWith (w : SuperValue → Word Face) (d d' : Option Disk) (o o' 
   pub opens : IfSome d (λ x. opens x.face ≡ Some value)
   pub step : DoesTo (w value) (blank value) d d' o o' result
 
+-- a stop before a value is mended: a call of the mending failed; or memory was wanted, before the first of them
+abbrev pub StopsMending : SuperValue → Option Disk → Option Disk → Halt → Type 0
+StopsMending v d d' DiskFault = RunsFrom (mend_calls v) d d' false
+StopsMending v d d' NoMemory = d' ≡ d
+
+-- the value that opens isn't mended, or not wholly; where the disk tells nothing, any value
+pub record LeavesUnmended (d d' : Option Disk) (halt : Halt) : Type 0 where
+  pub value : SuperValue
+  pub opens : IfSome d (λ x. opens x.face ≡ Some value)
+  pub stops : StopsMending value d d' halt
+
 abbrev pub FindsValue : Option Disk → Option Disk → Result SuperValue Refusal → Type 0
 FindsValue d d' (Ok v) = MendsValue v d d'
 FindsValue d d' (Err (Lost verdicts)) = LosesValue d d' verdicts
 FindsValue d d' (Err (OtherMember found)) = ⊥
-FindsValue d d' (Err (Halted halt)) = (o : List Output) → BeginsWith opening d d' o o (Err halt)
+FindsValue d d' (Err (Halted halt)) = LeavesUnmended d d' halt
 
 -- the value is that of another member
 pub record IsOther (asked found : Config) (d d' : Option Disk) : Type 0 where
@@ -64,11 +76,18 @@ pub record IsAsked (asked : Config) (d d' : Option Disk) (o o' : List Output) (r
   pub opens : IfSome d (λ x. opens x.face ≡ Some value)
   pub step : Does (opening value) (blank value) r d d' o o' (Ok tt)
 
+-- a stop in the opening of the value, where it is that of the member asked for; where it is that of another, in its mending
+pub record StopsAsked (asked : Config) (d d' : Option Disk) (o o' : List Output) (halt : Halt) : Type 0 where
+  pub value : SuperValue
+  pub opens : IfSome d (λ x. opens x.face ≡ Some value)
+  pub step : config_of value ≡ asked → DoesTo (opening value) (blank value) d d' o o' (Err halt)
+  pub other : config_of value ≢ asked → StopsMending value d d' halt
+
 abbrev pub Recovered : Config → Option Disk → Option Disk → List Output → List Output → Result Replica Refusal → Type 0
 Recovered asked d d' o o' (Ok r) = IsAsked asked d d' o o' r
 Recovered asked d d' o o' (Err (Lost verdicts)) = LosesValue d d' verdicts
 Recovered asked d d' o o' (Err (OtherMember found)) = IsOther asked found d d'
-Recovered asked d d' o o' (Err (Halted halt)) = BeginsWith opening d d' o o' (Err halt)
+Recovered asked d d' o o' (Err (Halted halt)) = StopsAsked asked d d' o o' halt
 
 -- the same for any member: the replica is that of the value that opens
 abbrev pub RecoveredAny : Option Disk → Option Disk → List Output → List Output → Result Replica Refusal → Type 0

@@ -95,7 +95,8 @@ fn is_same(found: &Config, asked: &Config) -> bool
     *found == *asked
 }
 
-/// The replica of a disk, if the disk is that of the member that is asked for.
+/// The replica of a disk, if the disk is that of the member that is asked for. Of another member's disk the superblock is mended, and no
+/// other call is made, whatever the answer.
 #[tactic(auto, using(crate::proofs::Recovers::recovered, crate::proofs::Recovers::halted, crate::proofs::Recovers::other_member, crate::proofs::Recovers::refused))]
 pub fn recover<D: SectorDisk>(
     alloc: Global,
@@ -124,7 +125,7 @@ pub fn recover<D: SectorDisk>(
 }
 
 /// The replica of a disk, whatever member's disk it is: `OtherMember` never comes.
-#[tactic(auto, using(crate::proofs::Recovers::recovered_any, crate::proofs::Recovers::halted, crate::proofs::Recovers::refused_any))]
+#[tactic(auto, using(crate::proofs::Recovers::recovered_any, crate::proofs::Recovers::halted_any, crate::proofs::Recovers::refused_any))]
 pub fn recover_any<D: SectorDisk>(
     alloc: Global,
     disk: &mut D,

@@ -23,7 +23,8 @@ cleared asked d d' o o' p (OtherMember found) h = h
 cleared asked d d' o o' p (Halted halt) h = record {
   value = h.value;
   opens = h.opens;
-  step = halted (opening h.value) (blank h.value) (blank h.value) (blank h.value) d d' o o' p halt h.step;
+  step = λ e. halted (opening h.value) (blank h.value) (blank h.value) (blank h.value) d d' o o' p halt (h.step e);
+  other = h.other;
 }
 
 pub cleared_any : (d d' : Option Disk) (o o' p : List Output) (x : Refusal) → RecoveredAny d d' o o' (Err x) → RecoveredAny d d' o p (Err x)

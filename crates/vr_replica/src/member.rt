@@ -67,7 +67,8 @@ impl Replica {
     }
 
     /// The replica of a disk, if the disk is that of the member that is asked for: the superblock's value that opens is mended, the log is
-    /// found again, a primary's view is left, the checkpoint is loaded, what is committed is applied, and the others are told.
+    /// found again, a primary's view is left, the checkpoint is loaded, what is committed is applied, and the others are told. Of another
+    /// member's disk that value is mended, and no other call is made, whatever the answer.
     #[tactic(auto, using(crate::proofs::Stopped::cleared))]
     pub fn recover<D: SectorDisk>(
         alloc: Global,

@@ -1,6 +1,9 @@
 use Rattle.std.proofs.Common.{refl}
-use Rattle.vr_opening.proofs.Recovers.{recovered}
+use Rattle.vr_opening.proofs.Recovers.{halted, recovered}
 use Rattle.vr_opening.proofs.reopen.recover.Goals as goal
 
 pub returns-in-Ok-open_value-clause-step : goal.returns-in-Ok-open_value-clause-step
 returns-in-Ok-open_value-clause-step g c = recovered _ _ _ _ _ _ _ _ _ c.config_of-found.ensures (c.if-is_same.ensures.same refl) c.in-Ok.ensures.value c.in-Ok-open_value.ensures.step
+
+pub returns-in-Err-open_value-clause-step : goal.returns-in-Err-open_value-clause-step
+returns-in-Err-open_value-clause-step g c = halted _ _ _ _ _ _ _ _ _ c.config_of-found.ensures (c.if-is_same.ensures.same refl) c.in-Ok.ensures.value c.in-Err-open_value.ensures.step
