@@ -71,7 +71,7 @@ fn count<D: SectorDisk>(
     requires room { replica.old.saved.fields.sequence + 64 < 2 ^ 64 }
     ensures ready { OnOk result (IsReady replica.new) }
     ensures cause { Caused (D.faults disk.old) (D.faults disk.new) result }
-    ensures at_once { Waits (acknowledged ack.now replica.old) → EndsAtOnce (D.told disk.old) (D.told disk.new) result }
+    ensures at_once { Waits (acknowledged ack.now replica.old) → EndsAtOnce disk.old disk.new result }
     ensures step { Does (change (acknowledged ack.now) ⨾ advance) replica.old replica.new (D.told disk.old) (D.told disk.new) out.old out.new result }
 {
     replica.add_acker(ack);
@@ -92,8 +92,8 @@ pub fn handle_prepare_ok<D: SectorDisk>(
     requires room { replica.old.saved.fields.sequence + 64 < 2 ^ 64 }
     ensures ready { OnOk result (IsReady replica.new) }
     ensures cause { Caused (D.faults disk.old) (D.faults disk.new) result }
-    ensures passed { passes (first_of (prepare_ok_table name_of ack.now replica.old)) ≡ true → EndsAtOnce (D.told disk.old) (D.told disk.new) result }
-    ensures at_once { Waits (acknowledged ack.now replica.old) → EndsAtOnce (D.told disk.old) (D.told disk.new) result }
+    ensures passed { passes (first_of (prepare_ok_table name_of ack.now replica.old)) ≡ true → EndsAtOnce disk.old disk.new result }
+    ensures at_once { Waits (acknowledged ack.now replica.old) → EndsAtOnce disk.old disk.new result }
     ensures step { Does (on_prepare_ok ack.now) replica.old replica.new (D.told disk.old) (D.told disk.new) out.old out.new result }
 {
     match decide_prepare_ok(replica, ack) {

@@ -206,7 +206,7 @@ pub fn handle_prepare<D: SectorDisk>(
     requires room { replica.old.saved.fields.sequence + 64 < 2 ^ 64 }
     ensures ready { OnOk result (IsReady replica.new) }
     ensures cause { Caused (D.faults disk.old) (D.faults disk.new) result }
-    ensures passed { passes (first_of (prepare_table name_of prepare.now replica.old)) ≡ true → EndsAtOnce (D.told disk.old) (D.told disk.new) result }
+    ensures passed { passes (first_of (prepare_table name_of prepare.now replica.old)) ≡ true → EndsAtOnce disk.old disk.new result }
     ensures step { Does (on_prepare prepare.now) replica.old replica.new (D.told disk.old) (D.told disk.new) out.old out.new result }
 {
     let _header = header_of(&prepare.entry);

@@ -1,6 +1,5 @@
 -- Steps that end at once: of what was before, or known, or counts without a quorum.
-use Rattle.std.specs.Prelude.{◌+◌, ◌≡◌, ◌&&◌, nat_lt, Bool, true, false, Option, Result, is_ok}
-use Rattle.vr_disk.specs.DiskState.{Disk}
+use Rattle.std.specs.Prelude.{◌+◌, ◌≡◌, ◌&&◌, nat_lt, Bool, true, false, Result, is_ok}
 use Rattle.vr_mends.specs.CaughtUp.{IsCaughtUp}
 use Rattle.vr_rules.specs.Replica.{Replica, is_here, part_at}
 use Rattle.vr_rules.specs.Words.{has_quorum, is_loaded}
@@ -25,6 +24,6 @@ passes Other = true
 passes ChangeBefore = true
 passes _ = false
 
--- it ends well, with no call of the disk
-abbrev pub EndsAtOnce : Option Disk → Option Disk → Result (Unit {0}) Halt → Type 0
-EndsAtOnce d d' result = (is_ok result ≡ true) × (d' ≡ d)
+-- it ends well, with no call of the disk, which is what it was, its counts included
+abbrev pub EndsAtOnce : {D : Type 0} → D → D → Result (Unit {0}) Halt → Type 0
+EndsAtOnce disk disk' result = (is_ok result ≡ true) × (disk' ≡ disk)

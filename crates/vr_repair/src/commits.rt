@@ -36,7 +36,7 @@ pub fn advance<D: SectorDisk>(
     requires room { replica.old.saved.fields.sequence + 64 < 2 ^ 64 }
     ensures ready { OnOk result (IsReady replica.new) }
     ensures cause { Caused (D.faults disk.old) (D.faults disk.new) result }
-    ensures at_once { Waits replica.old → EndsAtOnce (D.told disk.old) (D.told disk.new) result }
+    ensures at_once { Waits replica.old → EndsAtOnce disk.old disk.new result }
     ensures step { Does advance replica.old replica.new (D.told disk.old) (D.told disk.new) out.old out.new result }
 {
     replica.advance_commit();

@@ -134,7 +134,7 @@ impl Replica {
         ensures running { self.new.running ≡ is_ok result }
         ensures halt { OnErr result (out.new ≡ []) }
         ensures cause { Caused (D.faults disk.old) (D.faults disk.new) result }
-        ensures at_once { IsAtOnce self.old.memory event.now → EndsAtOnce (D.told disk.old) (D.told disk.new) result }
+        ensures at_once { IsAtOnce self.old.memory event.now → EndsAtOnce disk.old disk.new result }
         ensures step { Does (react event.now) self.old.memory self.new.memory (D.told disk.old) (D.told disk.new) [] out.new result }
     {
         out.clear();

@@ -33,7 +33,7 @@ fn handle_message<D: SectorDisk>(
     requires room { replica.old.saved.fields.sequence + 66 < 2 ^ 64 }
     ensures ready { OnOk result (IsReady replica.new) }
     ensures cause { Caused (D.faults disk.old) (D.faults disk.new) result }
-    ensures at_once { IsLeft replica.old message.now → EndsAtOnce (D.told disk.old) (D.told disk.new) result }
+    ensures at_once { IsLeft replica.old message.now → EndsAtOnce disk.old disk.new result }
     ensures step { Does (on_message message.now) replica.old replica.new (D.told disk.old) (D.told disk.new) out.old out.new result }
 {
     match message.frame() {
@@ -68,7 +68,7 @@ fn handle<D: SectorDisk>(
     requires room { replica.old.saved.fields.sequence + 66 < 2 ^ 64 }
     ensures ready { OnOk result (IsReady replica.new) }
     ensures cause { Caused (D.faults disk.old) (D.faults disk.new) result }
-    ensures at_once { IsAtOnce replica.old event.now → EndsAtOnce (D.told disk.old) (D.told disk.new) result }
+    ensures at_once { IsAtOnce replica.old event.now → EndsAtOnce disk.old disk.new result }
     ensures step { Does (on_event event.now) replica.old replica.new (D.told disk.old) (D.told disk.new) out.old out.new result }
 {
     match event {
@@ -97,7 +97,7 @@ pub fn react<D: SectorDisk>(
     requires ready { IsReady replica.old }
     ensures ready { OnOk result (IsReady replica.new) }
     ensures cause { Caused (D.faults disk.old) (D.faults disk.new) result }
-    ensures at_once { IsAtOnce replica.old event.now → EndsAtOnce (D.told disk.old) (D.told disk.new) result }
+    ensures at_once { IsAtOnce replica.old event.now → EndsAtOnce disk.old disk.new result }
     ensures step { Does (react event.now) replica.old replica.new (D.told disk.old) (D.told disk.new) out.old out.new result }
 {
     if is_frozen(replica) {

@@ -113,7 +113,7 @@ pub fn handle_start_view_change<D: SectorDisk>(
     requires room { replica.old.saved.fields.sequence + 66 < 2 ^ 64 }
     ensures ready { OnOk result (IsReady replica.new) }
     ensures cause { Caused (D.faults disk.old) (D.faults disk.new) result }
-    ensures passed { passes (first_of (start_view_change_table message.now replica.old)) ≡ true → EndsAtOnce (D.told disk.old) (D.told disk.new) result }
+    ensures passed { passes (first_of (start_view_change_table message.now replica.old)) ≡ true → EndsAtOnce disk.old disk.new result }
     ensures step { Does (on_start_view_change message.now) replica.old replica.new (D.told disk.old) (D.told disk.new) out.old out.new result }
 {
     match decide_start_view_change(replica, message) {
