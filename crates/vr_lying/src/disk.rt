@@ -25,6 +25,8 @@ impl HostDisk {
         ensures lying { IfOk result (λ m. lying_of m ≡ blank_lying) }
         ensures fate { IfOk result (λ m. (told_by m).fate ≡ calm) }
         ensures told { IfOk result (λ m. IsTold (told_by m)) }
+        ensures faults { IfOk result (λ m. m.lie.disk.faults ≡ 0) }
+        ensures read_faults { IfOk result (λ m. m.lie.read_faults ≡ 0) }
     {
         Ok(HostDisk {
             lie: LieDisk::new(alloc)?,
@@ -35,6 +37,8 @@ impl HostDisk {
     pub fn fuse(&mut self, j: u64, code: u64)
         requires { 1 ≤ j }
         ensures told { told_by self.new ≡ record (told_by self.old) { fate = record (told_by self.old).fate { fuse = Some (record { calls = j - 1; code = code }) } } }
+        ensures faults { self.new.lie.disk.faults ≡ self.old.lie.disk.faults }
+        ensures read_faults { self.new.lie.read_faults ≡ self.old.lie.read_faults }
     {
         self.lie.fuse(j, code);
     }
@@ -42,6 +46,8 @@ impl HostDisk {
     /// After a fuse has cut a call the next calls go through again.
     pub fn revive(&mut self)
         ensures told { told_by self.new ≡ record (told_by self.old) { fate = record (told_by self.old).fate { dead = false } } }
+        ensures faults { self.new.lie.disk.faults ≡ self.old.lie.disk.faults }
+        ensures read_faults { self.new.lie.read_faults ≡ self.old.lie.read_faults }
     {
         self.lie.revive();
     }
@@ -54,6 +60,8 @@ impl HostDisk {
         ensures kept { result ≡ Faulted.KeptOut → lying_of self.new ≡ lying_of self.old }
         ensures fate { (told_by self.new).fate ≡ (told_by self.old).fate }
         ensures told { IsTold (told_by self.old) → IsTold (told_by self.new) }
+        ensures faults { self.new.lie.disk.faults ≡ self.old.lie.disk.faults }
+        ensures read_faults { self.new.lie.read_faults ≡ self.old.lie.read_faults }
     {
         self.lie.fault(fault)
     }
