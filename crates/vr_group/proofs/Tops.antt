@@ -1,5 +1,5 @@
 -- The greatest view of so many members.
-use Rattle.std.proofs.Common.{ℕ, zero, suc, ◌+◌, ◌<◌, ◌≡◌, arith, refl, map, max, List, [], ◌∷◌, ◌++◌, length, take, get_or, take_all, ◌≤◌}
+use Rattle.std.proofs.Common.{ℕ, zero, suc, ◌+◌, ◌<◌, ◌≡◌, arith, refl, map, max, List, [], ◌∷◌, length, take, get_or, take_all, ◌≤◌}
 use Rattle.std.specs.List.{fold}
 use Rattle.std.proofs.lemmas.List.{map-append, take_more}
 use Rattle.std.proofs.lemmas.List.Sums.{fold-append}

@@ -1,10 +1,13 @@
 //! A group alone, without a source and a sink.
+ghost use Rattle.std.specs.Prelude.{IfOk};
+ghost use Rattle.vr_group.specs.Lines.{AreLinesOf};
+
 use std::alloc::Global;
 use std::process::Abort;
 use std::test::Fail;
 use vr_base::ByteList;
 use vr_group::World;
-use vr_lines::parse_line;
+use vr_lines::{Line, parse_line};
 
 /// The text of what a group puts out at one line after the other. It goes on.
 fn stepped(rt: &impl Abort, alloc: Global, n: u8, lines: &[&str]) -> Result<ByteList, Fail> {
@@ -21,7 +24,30 @@ fn stepped(rt: &impl Abort, alloc: Global, n: u8, lines: &[&str]) -> Result<Byte
     Ok(text)
 }
 
-/// Row by row, as a replay of the same lines would put it out.
+/// The lines that these texts spell, of a group of `n` replicas.
+#[tactic(auto, using(vr_ckpt::proofs::Done::all_append), unfolding(vr_group::specs::Lines::AreLinesOf))]
+fn spelled(alloc: Global, n: u8, texts: &[&str]) -> Result<Vec<Line>, Fail>
+    ensures { IfOk result (λ lines. AreLinesOf n lines.items) }
+{
+    let mut lines = Vec::new(alloc);
+    for text in texts {
+        lines.push(parse_line(alloc, n, text.as_bytes())?)?;
+    }
+    Ok(lines)
+}
+
+/// The text of what a group puts out at all lines at once.
+fn run(rt: &impl Abort, alloc: Global, n: u8, texts: &[&str]) -> Result<ByteList, Fail> {
+    assert!(rt; 2 <= n && n <= 6);
+    let mut world = World::new(alloc, n)?;
+    let lines = spelled(alloc, n, texts)?;
+    assert!(rt; world.live() && world.size() == n);
+    let outputs = world.run(alloc, &lines)?;
+    assert!(rt; world.live());
+    Ok(outputs.text)
+}
+
+/// Row by row, as a replay of the same lines would put it out; all lines at once put out the same.
 #[test]
 fn a_group_goes_on_line_by_line(rt: HostRuntime) -> Result<(), Fail> {
     let alloc = rt.alloc();
@@ -53,6 +79,8 @@ fn a_group_goes_on_line_by_line(rt: HostRuntime) -> Result<(), Fail> {
     ];
     for (n, lines, want) in rows {
         let text = stepped(&rt, alloc, n, lines)?;
+        assert_eq!(rt; text.as_slice(), want.as_bytes());
+        let text = run(&rt, alloc, n, lines)?;
         assert_eq!(rt; text.as_slice(), want.as_bytes());
     }
     Ok(())

@@ -1,7 +1,6 @@
 -- What a run that is safe says of outputs that are its own but for some lines aside.
-use Rattle.std.proofs.Common.{ℕ, ◌-◌, ◌<◌, ◌≤◌, ◌≡◌, ◌∙◌, inl, inr, arith, refl, sym, ap, subst, List, [], ◌∷◌, Some}
-use Rattle.std.specs.Prelude.{All, Contains, slice_get, take}
-use Rattle.std.proofs.lemmas.List.Elements.{All-nil, All-cons, All-contains, All-weaker}
+use Rattle.std.proofs.Common.{ℕ, ◌-◌, ◌<◌, ◌≤◌, ◌≡◌, ◌∙◌, inl, inr, arith, sym, ap, subst, List, Some}
+use Rattle.std.specs.Prelude.{slice_get, take}
 use Rattle.vr_header.specs.declared.header.Header.{Header}
 use Rattle.vr_header.specs.Made.{Whole}
 use Rattle.vr_header.specs.Names.{root_header}
@@ -27,16 +26,10 @@ use Rattle.vr_worlds.specs.Worlds as worlds
 use Rattle.vr_agree.specs.Followed.{IsFitRun}
 use Rattle.vr_agree.proofs.Sets.{get_in, in_get, in_left, in_right}
 use Rattle.vr_agree.proofs.Traces.{in_either, output_of_move}
+use Rattle.vr_unforged.proofs.Names.{contains_in}
 use Rattle.vr_one_log.specs.Laws.{KeepsOneLog}
 use Rattle.vr_one_log.specs.Outputs.{IsCutByNacks, IsOnceInSession, IsPlaced, RestsOn}
 use Rattle.vr_one_log.proofs.Places.{in_said, matches, placed}
-
-all_in : {X : Type 0} (xs : List X) → All (λ x. In x xs) xs
-all_in [] = All-nil (λ x. In x [])
-all_in {X} (y ∷ ys) = All-cons (λ x. In x (y ∷ ys)) y ys (inl refl) (All-weaker (λ (x : X). In x ys) (λ x. In x (y ∷ ys)) (λ x i. inr i) ys (all_in ys))
-
-contains_in : {X : Type 0} (xs : List X) (x : X) → Contains xs x → In x xs
-contains_in xs x h = All-contains (λ y. In y xs) xs x (all_in xs) h
 
 -- ---- outputs
 

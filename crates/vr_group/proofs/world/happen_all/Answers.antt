@@ -1,6 +1,6 @@
 use Rattle.vr_group.specs.Group.{world_of}
 use Rattle.vr_group.proofs.Goings.{going_begins, going_fits, going_more}
-use Rattle.vr_group.proofs.Headline.{asked_all, asked_more, asked_none}
+use Rattle.vr_group.proofs.Headline.{asked_more, asked_none}
 use Rattle.vr_group.proofs.world.happen_all.Goals as goal
 
 pub loop-line-init : goal.loop-line-init
