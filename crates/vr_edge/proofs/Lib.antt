@@ -1,3 +1,4 @@
+pub mod Copying
 pub mod Numbers
 pub mod Pieces
 pub mod Receiving

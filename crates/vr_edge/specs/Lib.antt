@@ -1,6 +1,8 @@
+pub mod Attaching
 pub mod Calls
 pub mod Counts
 pub mod Datagrams
+pub mod Failing
 pub mod Links
 pub mod Marks
 pub mod Receiving

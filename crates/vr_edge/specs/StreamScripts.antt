@@ -52,6 +52,10 @@ write_takes script number count =
 abbrev pub told : {X : Type 0} → Bool → List X → Option (List X)
 told whole log = if whole then Some log else None
 
+-- so many entries at its front, where it had every one when there were as many
+abbrev pub told_to : {X : Type 0} → Bool → ℕ → List X → Option (List X)
+told_to whole count log = told whole (take count log)
+
 -- an entry was added; for want of memory the log is told no more
 abbrev pub IsNoted : {X E : Type 0} → Option (List X) → Option (List X) → Result X E → Type 0
 IsNoted old new (Ok entry) = Grows old new (entry ∷ [])

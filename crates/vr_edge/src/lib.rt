@@ -2,6 +2,7 @@
 //! content where it tells it; and objects in memory that stand for them.
 #![tactic(auto)]
 
+mod attach;
 mod calls;
 mod clock;
 mod datagram;
@@ -11,14 +12,17 @@ mod mem_link;
 mod mem_sink;
 mod mem_source;
 mod mem_streams;
+mod noting;
 mod outbox;
 mod script;
 mod sink;
 mod source;
 mod stream_script;
 mod streams;
+mod texts;
 mod write_all;
 
+pub use attach::Attach;
 pub use clock::Clock;
 pub use datagram::Datagram;
 pub use link::{Link, LinkFailed, RECEIVE_ROOM, Received};
@@ -27,10 +31,12 @@ pub use mem_link::MemLink;
 pub use mem_sink::MemSink;
 pub use mem_source::MemSource;
 pub use mem_streams::MemStreams;
+pub use noting::noted;
 pub use outbox::LinkRoom;
 pub use script::LinkScript;
 pub use sink::{Sink, WriteFailed};
 pub use source::{ReadFailed, Source};
 pub use stream_script::{Coming, StreamScript};
 pub use streams::{Piece, Polled, STREAM_ROOM, StreamCall, StreamFailed, Streams, Write};
+pub use texts::texts_of;
 pub use write_all::write_whole;

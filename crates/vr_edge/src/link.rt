@@ -1,8 +1,10 @@
 //! A link over which datagrams go.
 ghost use Rattle.std.specs.Prelude.{◌≡◌, List, [], ◌∷◌, ℕ, Option, ◌≤◌, IfOk, vec_capacity};
 ghost use Rattle.vr_base.specs.Causes.{HasCause};
+ghost use Rattle.vr_edge.specs.Attaching.{attached_by, texts_of};
 ghost use Rattle.vr_edge.specs.Told.{Grows, IsNothing};
 ghost use Rattle.vr_edge.specs.Datagrams.{Arrival, sent_by, received_by};
+ghost use Rattle.vr_edge.specs.declared.attach.Attach.{Attach};
 ghost use Rattle.vr_edge.specs.declared.datagram.Datagram.{Datagram};
 
 use thiserror::Error;
@@ -28,6 +30,9 @@ pub enum Received {
 }
 
 pub trait Link {
+    /// What each attach so far was given, and whether it went well, where the link tells it.
+    ghost attached: { Self → Option (List Attach) };
+
     /// What each send so far did, where the link tells it: what it sent, `None` where it failed.
     ghost sent: { Self → Option (List (Option Datagram)) };
 
@@ -46,6 +51,7 @@ pub trait Link {
     /// Takes the own address, empty for an object that only asks, and those of the peers, whose ports are 0, 1, ..
     fn attach(&mut self, own: &str, peers: &Vec<String>) -> Result<(), LinkFailed>
         ensures cause { HasCause (faults self.old) (faults self.new) result }
+        ensures attached { Grows (attached self.old) (attached self.new) (attached_by own.now (texts_of peers.now.items) result ∷ []) }
         ensures sent { sent self.new ≡ sent self.old }
         ensures received { received self.new ≡ received self.old }
         ensures others { send_faults self.new ≡ send_faults self.old };
@@ -53,6 +59,7 @@ pub trait Link {
     /// Sends the bytes to a port as one datagram. A failed send is a loss of that datagram and nothing else.
     fn send(&mut self, to: u32, bytes: &[u8]) -> Result<(), LinkFailed>
         ensures cause { HasCause (send_faults self.old) (send_faults self.new) result }
+        ensures attached { attached self.new ≡ attached self.old }
         ensures sent { Grows (sent self.old) (sent self.new) (sent_by to bytes.now result ∷ []) }
         ensures received { received self.new ≡ received self.old }
         ensures others { faults self.new ≡ faults self.old };
@@ -61,6 +68,7 @@ pub trait Link {
     fn receive(&mut self, to: &mut Vec<u8>) -> Result<Received, LinkFailed>
         requires { RECEIVE_ROOM ≤ vec_capacity to.old }
         ensures cause { HasCause (faults self.old) (faults self.new) result }
+        ensures attached { attached self.new ≡ attached self.old }
         ensures quiet { IfOk result (λ r. r ≡ Received.Quiet → IsNothing (waiting self.old)) }
         ensures sent { sent self.new ≡ sent self.old }
         ensures received { Grows (received self.old) (received self.new) (received_by result to.new.items ∷ []) }

@@ -1,5 +1,5 @@
 //! Streams in memory.
-ghost use Rattle.std.specs.Prelude.{◌≡◌, ◌≤◌, [], ◌∷◌, List, Option, Some, None, IfOk, OnErr, OnOk, if◌then◌else◌, length, vec_len, replicate, false, true, slice_get, slice_set, unwrap_or};
+ghost use Rattle.std.specs.Prelude.{◌≡◌, ◌≤◌, [], ◌∷◌, List, take, Option, Some, None, IfOk, OnErr, OnOk, if◌then◌else◌, length, vec_len, replicate, false, true, slice_get, slice_set, unwrap_or};
 ghost use Rattle.vr_base.specs.Causes.{HasCause};
 ghost use Rattle.vr_edge.specs.Counts.{is_listed, one_more};
 ghost use Rattle.vr_edge.specs.Streaming.{IsPolled, polled_by, written_by};
@@ -25,6 +25,17 @@ pub struct Log<T> {
     whole: bool,
 }
 
+/// What each poll and each close did, as long as there is memory for it.
+#[derive(Drop)]
+pub struct CallLog {
+    log: Log<StreamCall>,
+    /// How many entries there were at the last poll.
+    polled: usize,
+    /// Whether every entry was there then.
+    was_whole: bool,
+    ghost within: { polled ≤ vec_len log.entries },
+}
+
 /// Streams in memory, which tell each of their calls as long as there is memory for it.
 #[derive(Drop)]
 pub struct MemStreams {
@@ -34,7 +45,7 @@ pub struct MemStreams {
     peers: usize,
     /// Whether what comes at a port is left out.
     left_out: Vec<bool>,
-    calls: Log<StreamCall>,
+    calls: CallLog,
     written: Log<Write>,
     attaches: u64,
     polls: u64,
@@ -170,6 +181,42 @@ impl<T: Drop> Log<T> {
     }
 }
 
+impl CallLog {
+    ghost use Rattle.vr_edge.specs.StreamScripts.{told, told_to, IsNoted};
+
+    /// No entry.
+    fn new(alloc: Global) -> CallLog
+        ensures calls { told result.log.whole result.log.entries.items ≡ Some [] }
+        ensures polled { told_to result.was_whole result.polled result.log.entries.items ≡ Some [] }
+    {
+        CallLog {
+            log: Log::new(alloc),
+            polled: 0,
+            was_whole: true,
+        }
+    }
+
+    /// Adds a poll.
+    fn note_poll(&mut self, entry: Result<StreamCall, AllocError>)
+        ensures calls { IsNoted (told self.old.log.whole self.old.log.entries.items) (told self.new.log.whole self.new.log.entries.items) entry }
+        ensures polled { told_to self.new.was_whole self.new.polled self.new.log.entries.items ≡ told self.new.log.whole self.new.log.entries.items }
+    {
+        self.log.note(entry);
+        self.polled = self.log.entries.len();
+        self.was_whole = self.log.whole;
+    }
+
+    /// Adds a close; it stands behind the last poll.
+    fn note_close(&mut self, port: u32)
+        ensures calls { Grows (told self.old.log.whole self.old.log.entries.items) (told self.new.log.whole self.new.log.entries.items) (call.Closed port ∷ []) }
+        ensures polled { told_to self.new.was_whole self.new.polled self.new.log.entries.items ≡ told_to self.old.was_whole self.old.polled self.old.log.entries.items }
+    {
+        if self.log.entries.push(StreamCall::Closed(port)).is_err() {
+            self.log.whole = false;
+        }
+    }
+}
+
 impl MemStreams {
     ghost use Rattle.std.specs.Option.{option_map};
     ghost use Rattle.vr_edge.specs.StreamScripts.{found_at, gives_at};
@@ -177,6 +224,7 @@ impl MemStreams {
     /// Streams at so many ports, on which the script runs. What comes at other ports is left out.
     pub fn new(alloc: Global, ports: usize, script: StreamScript) -> Result<MemStreams, AllocError>
         ensures calls { IfOk result (λ s. ⟦<MemStreams as Streams>⟧.calls s ≡ Some []) }
+        ensures polled { IfOk result (λ s. ⟦<MemStreams as Streams>⟧.polled s ≡ Some []) }
         ensures written { IfOk result (λ s. ⟦<MemStreams as Streams>⟧.written s ≡ Some []) }
         ensures faults { IfOk result (λ s. s.faults ≡ 0) }
         ensures call_faults { IfOk result (λ s. s.call_faults ≡ 0) }
@@ -195,7 +243,7 @@ impl MemStreams {
             script,
             peers: 0,
             left_out,
-            calls: Log::new(alloc),
+            calls: CallLog::new(alloc),
             written: Log::new(alloc),
             attaches: 0,
             polls: 0,
@@ -210,8 +258,8 @@ impl MemStreams {
     pub fn calls(&self) -> Option<&[StreamCall]>
         ensures { option_map (λ calls. calls.now) result ≡ ⟦<MemStreams as Streams>⟧.calls self.now }
     {
-        if self.calls.whole {
-            Some(self.calls.entries.as_slice())
+        if self.calls.log.whole {
+            Some(self.calls.log.entries.as_slice())
         } else {
             None
         }
@@ -248,9 +296,11 @@ impl MemStreams {
 }
 
 impl Streams for MemStreams {
-    ghost use Rattle.vr_edge.specs.StreamScripts.{found_at, gives_at, told, waits, write_takes};
+    ghost use Rattle.vr_edge.specs.StreamScripts.{found_at, gives_at, told, told_to, waits, write_takes};
 
-    ghost calls = { λ s. told s.calls.whole s.calls.entries.items };
+    ghost calls = { λ s. told s.calls.log.whole s.calls.log.entries.items };
+
+    ghost polled = { λ s. told_to s.calls.was_whole s.calls.polled s.calls.log.entries.items };
 
     ghost written = { λ s. told s.written.whole s.written.entries.items };
 
@@ -265,6 +315,7 @@ impl Streams for MemStreams {
     fn attach(&mut self, _own: &str, peers: &Vec<String>) -> Result<(), StreamFailed>
         ensures cause { HasCause self.old.faults self.new.faults result }
         ensures calls { ⟦<MemStreams as Streams>⟧.calls self.new ≡ ⟦<MemStreams as Streams>⟧.calls self.old }
+        ensures polled { ⟦<MemStreams as Streams>⟧.polled self.new ≡ ⟦<MemStreams as Streams>⟧.polled self.old }
         ensures written { ⟦<MemStreams as Streams>⟧.written self.new ≡ ⟦<MemStreams as Streams>⟧.written self.old }
         ensures attached { OnOk result (self.new.peers ≡ vec_len peers.now) }
         ensures kept { OnErr result (self.new.peers ≡ self.old.peers) }
@@ -288,6 +339,7 @@ impl Streams for MemStreams {
         ensures cause { HasCause self.old.faults self.new.faults result }
         ensures quiet { IfOk result (λ p. p ≡ Polled.Quiet → IsNothing (⟦<MemStreams as Streams>⟧.waiting self.old)) }
         ensures calls { Grows (⟦<MemStreams as Streams>⟧.calls self.old) (⟦<MemStreams as Streams>⟧.calls self.new) (polled_by result to.new ∷ []) }
+        ensures polled { ⟦<MemStreams as Streams>⟧.polled self.new ≡ ⟦<MemStreams as Streams>⟧.calls self.new }
         ensures written { ⟦<MemStreams as Streams>⟧.written self.new ≡ ⟦<MemStreams as Streams>⟧.written self.old }
         ensures attached { self.new.peers ≡ self.old.peers }
         ensures others { self.new.call_faults ≡ self.old.call_faults }
@@ -297,7 +349,7 @@ impl Streams for MemStreams {
     {
         let given = self.find(to);
         let entry = poll_entry(self.alloc, self.peers, &given, to);
-        self.calls.note(entry);
+        self.calls.note_poll(entry);
         if given.is_err() {
             self.faults = self.faults.saturating_add(1);
         }
@@ -308,6 +360,7 @@ impl Streams for MemStreams {
         ensures bound { IfOk result (λ count. count ≤ length bytes.now) }
         ensures cause { HasCause self.old.call_faults self.new.call_faults result }
         ensures calls { ⟦<MemStreams as Streams>⟧.calls self.new ≡ ⟦<MemStreams as Streams>⟧.calls self.old }
+        ensures polled { ⟦<MemStreams as Streams>⟧.polled self.new ≡ ⟦<MemStreams as Streams>⟧.polled self.old }
         ensures written { Grows (⟦<MemStreams as Streams>⟧.written self.old) (⟦<MemStreams as Streams>⟧.written self.new) (written_by port bytes.now result ∷ []) }
         ensures attached { self.new.peers ≡ self.old.peers }
         ensures others { self.new.faults ≡ self.old.faults }
@@ -328,6 +381,7 @@ impl Streams for MemStreams {
     fn close(&mut self, port: u32) -> Result<(), StreamFailed>
         ensures cause { HasCause self.old.call_faults self.new.call_faults result }
         ensures calls { Grows (⟦<MemStreams as Streams>⟧.calls self.old) (⟦<MemStreams as Streams>⟧.calls self.new) (call.Closed port ∷ []) }
+        ensures polled { ⟦<MemStreams as Streams>⟧.polled self.new ≡ ⟦<MemStreams as Streams>⟧.polled self.old }
         ensures written { ⟦<MemStreams as Streams>⟧.written self.new ≡ ⟦<MemStreams as Streams>⟧.written self.old }
         ensures attached { self.new.peers ≡ self.old.peers }
         ensures others { self.new.faults ≡ self.old.faults }
@@ -338,7 +392,7 @@ impl Streams for MemStreams {
         let number = self.closes;
         self.closes = number.saturating_add(1);
         leave_out(&mut self.left_out, port, true);
-        self.calls.note(Ok(StreamCall::Closed(port)));
+        self.calls.note_close(port);
         if is_listed(&self.script.failing_closes, number) {
             self.call_faults = self.call_faults.saturating_add(1);
             return Err(StreamFailed);

@@ -66,6 +66,9 @@ pub trait Streams {
     /// What each poll and each close so far did, where the streams tell it.
     ghost calls: { Self → Option (List StreamCall) };
 
+    /// These calls up to the last poll, where the streams told them then: a close may take memory to be told, and leaves this.
+    ghost polled: { Self → Option (List StreamCall) };
+
     /// Each write so far, where the streams tell it.
     ghost written: { Self → Option (List Write) };
 
@@ -85,6 +88,7 @@ pub trait Streams {
     fn attach(&mut self, own: &str, peers: &Vec<String>) -> Result<(), StreamFailed>
         ensures cause { HasCause (faults self.old) (faults self.new) result }
         ensures calls { calls self.new ≡ calls self.old }
+        ensures polled { polled self.new ≡ polled self.old }
         ensures written { written self.new ≡ written self.old }
         ensures attached { OnOk result (attached self.new ≡ vec_len peers.now) }
         ensures kept { OnErr result (attached self.new ≡ attached self.old) }
@@ -97,6 +101,7 @@ pub trait Streams {
         ensures cause { HasCause (faults self.old) (faults self.new) result }
         ensures quiet { IfOk result (λ p. p ≡ Polled.Quiet → IsNothing (waiting self.old)) }
         ensures calls { Grows (calls self.old) (calls self.new) (polled_by result to.new ∷ []) }
+        ensures polled { polled self.new ≡ calls self.new }
         ensures written { written self.new ≡ written self.old }
         ensures attached { attached self.new ≡ attached self.old }
         ensures others { call_faults self.new ≡ call_faults self.old };
@@ -107,6 +112,7 @@ pub trait Streams {
         ensures bound { IfOk result (λ count. count ≤ length bytes.now) }
         ensures cause { HasCause (call_faults self.old) (call_faults self.new) result }
         ensures calls { calls self.new ≡ calls self.old }
+        ensures polled { polled self.new ≡ polled self.old }
         ensures written { Grows (written self.old) (written self.new) (written_by port bytes.now result ∷ []) }
         ensures attached { attached self.new ≡ attached self.old }
         ensures others { faults self.new ≡ faults self.old };
@@ -115,6 +121,7 @@ pub trait Streams {
     fn close(&mut self, port: u32) -> Result<(), StreamFailed>
         ensures cause { HasCause (call_faults self.old) (call_faults self.new) result }
         ensures calls { Grows (calls self.old) (calls self.new) (Closed port ∷ []) }
+        ensures polled { polled self.new ≡ polled self.old }
         ensures written { written self.new ≡ written self.old }
         ensures attached { attached self.new ≡ attached self.old }
         ensures others { faults self.new ≡ faults self.old };

@@ -6,7 +6,7 @@ use crate::tcp_streams::{PREFIX, TcpStreams};
 use crate::udp_link::UdpLink;
 use std::alloc::{AllocError, Global};
 use std::net::Net;
-use vr_edge::{Link, LinkFailed, Received};
+use vr_edge::{Link, LinkFailed, Received, Streams};
 use vr_stream::StreamLink;
 
 /// The most peers.
@@ -21,7 +21,10 @@ enum Over {
 
 /// A link over streams where all addresses begin with `tcp:`, over datagrams where none does; otherwise it can't be attached.
 #[derive(Drop)]
-pub struct RealLink<R> {
+pub struct RealLink<R: Net + Drop>
+where
+    TcpStreams<R>: Streams,
+{
     datagrams: UdpLink<R>,
     streams: StreamLink<TcpStreams<R>>,
     over: Over,
@@ -47,7 +50,10 @@ fn asked(own: &str, peers: &Vec<String>) -> Option<Over> {
     None
 }
 
-impl<R: Net + Drop + Copy> RealLink<R> {
+impl<R: Net + Drop + Copy> RealLink<R>
+where
+    TcpStreams<R>: Streams,
+{
     /// A link that isn't attached; `attach` opens it through `net`.
     pub fn new(alloc: Global, net: R) -> Result<RealLink<R>, AllocError> {
         Ok(RealLink {
@@ -60,7 +66,12 @@ impl<R: Net + Drop + Copy> RealLink<R> {
     }
 }
 
-impl<R: Net + Drop> Link for RealLink<R> {
+impl<R: Net + Drop> Link for RealLink<R>
+where
+    TcpStreams<R>: Streams,
+{
+    ghost attached = { λ _. None };
+
     ghost sent = { λ _. None };
 
     ghost received = { λ _. None };

@@ -331,6 +331,8 @@ impl<R: Net + Drop> TcpStreams<R> {
 impl<R: Net + Drop> Streams for TcpStreams<R> {
     ghost calls = { λ _. None };
 
+    ghost polled = { λ _. None };
+
     ghost written = { λ _. None };
 
     ghost waiting = { λ _. None };

@@ -133,6 +133,8 @@ impl<R: Net + Drop> UdpLink<R> {
 }
 
 impl<R: Net + Drop> Link for UdpLink<R> {
+    ghost attached = { λ _. None };
+
     ghost sent = { λ _. None };
 
     ghost received = { λ _. None };

@@ -1,11 +1,8 @@
 -- What a spawner tells of its calls.
-use Rattle.std.specs.Global.{Global}
-use Rattle.std.specs.Prelude.{ℕ, ◌+◌, ◌≡◌, List, map, String, string_bytes, Some, None, true, false, Result, Ok, Err, IfOk, OnOk, OnErr}
+use Rattle.std.specs.Prelude.{ℕ, ◌+◌, ◌≡◌, List, Some, None, true, false, Result, Ok, Err, IfOk, OnOk, OnErr}
+pub use Rattle.vr_edge.specs.Attaching.{texts_of}
 use Rattle.vr_spawn.specs.declared.spawner.SpawnCall.{SpawnCall}
 use Rattle.vr_spawn.specs.declared.spawner.SpawnCall.TheVariants.{Start, Stop}
-
-abbrev pub texts_of : List (String Global) → List (List ℕ)
-texts_of words = map string_bytes words
 
 -- the entry of one start
 abbrev pub started_by : {E : Type 0} → List (List ℕ) → Result ℕ E → SpawnCall

@@ -2,13 +2,13 @@
 ghost use Rattle.std.specs.Prelude.{◌≡◌, [], ◌∷◌, IfOk, Some, if◌then◌else◌};
 ghost use Rattle.vr_base.specs.Causes.{HasCause};
 ghost use Rattle.vr_edge.specs.Counts.{is_listed, one_more};
-ghost use Rattle.vr_edge.specs.StreamScripts.{IsNoted};
 ghost use Rattle.vr_edge.specs.Told.{Grows};
 ghost use Rattle.vr_spawn.specs.Spawning.{IsNumbered, started_by, stopped_by, texts_of};
 
 use crate::{SpawnCall, SpawnFailed, Spawner, Start, Stop};
 use std::alloc::{AllocError, Global};
-use vr_base::{ByteList, Seq};
+use vr_base::Seq;
+use vr_edge::{noted, texts_of};
 
 /// A spawner in memory, which starts nothing: a call goes well unless it is one of those that fail. It tells its calls as
 /// long as there is memory for them.
@@ -25,18 +25,6 @@ pub struct MemSpawner {
     faults: u64,
 }
 
-/// The words as bytes.
-#[tactic(auto, using(std::proofs::lemmas::Grind::common_steps, crate::proofs::Texts::copied_more))]
-fn texts_of(alloc: Global, words: &Vec<String>) -> Result<Seq<ByteList>, AllocError>
-    ensures { IfOk result (λ texts. texts ≡ texts_of words.now.items) }
-{
-    let mut texts = Seq::new(alloc);
-    for word in words.iter() {
-        texts.push(ByteList::from_vec(Vec::from_slice(alloc, word.as_bytes())?))?;
-    }
-    Ok(texts)
-}
-
 /// The entry of one start.
 fn start_entry(
     alloc: Global,
@@ -51,18 +39,6 @@ fn start_entry(
         Err(_) => None,
     };
     Ok(SpawnCall::Start(Start { words, id }))
-}
-
-/// The calls with one more; `None` where memory is wanting for it, or was for one before.
-fn noted(
-    calls: Option<Seq<SpawnCall>>,
-    entry: Result<SpawnCall, AllocError>,
-) -> Option<Seq<SpawnCall>>
-    ensures { IsNoted calls result entry }
-{
-    let mut calls = calls?;
-    calls.push(entry.ok()?).ok()?;
-    Some(calls)
 }
 
 impl MemSpawner {

@@ -15,13 +15,13 @@ use Rattle.vr_msg.specs.declared.frame.Frame.{Frame}
 use Rattle.vr_stream.specs.Cutting.{BeginsNone, IsBroken, IsShort}
 
 -- what a message at the front says of the bytes
-record Fronted (m : Frame) (front bytes : List ℕ) : Type 0 where
-  decodes : decoded bytes ≡ Ok (frame_header m)
-  size : (frame_header m).size ≡ length front
-  long : 128 ≤ length front
-  there : length front ≤ length bytes
+pub record Fronted (m : Frame) (front bytes : List ℕ) : Type 0 where
+  pub decodes : decoded bytes ≡ Ok (frame_header m)
+  pub size : (frame_header m).size ≡ length front
+  pub long : 128 ≤ length front
+  pub there : length front ≤ length bytes
 
-fronted : (m : Frame) (front rest bytes : List ℕ) → Spells m front → front ++ rest ≡ bytes → Fronted m front bytes
+pub fronted : (m : Frame) (front rest bytes : List ℕ) → Spells m front → front ++ rest ≡ bytes → Fronted m front bytes
 fronted m front rest bytes s j =
     let w = whole_of m front s in
     let long : 128 ≤ length front = long_of front (frame_header m) w.0 in
@@ -50,7 +50,7 @@ short_none bytes (inr (h, d, less)) = λ front rest j x.
     let size : h.size ≡ length front = ap (λ (y : Header). y.size) (same_header bytes h (frame_header x.0) d f.decodes) ∙ f.size in
     absurd (let clash : 1 ≤ 0 = omega (arith, less, size, f.there) in omega (arith, clash))
 
-no_fault_of : (m : Frame) (b : List ℕ) (f : MsgFault) → Spells m b → IsFault b f → ⊥
+pub no_fault_of : (m : Frame) (b : List ℕ) (f : MsgFault) → Spells m b → IsFault b f → ⊥
 no_fault_of m b (fault.Header g) s x = let clash : Ok (frame_header m) ≡ Err g = sym (whole_of m b s).0 ∙ x in absurd cc
 no_fault_of m b fault.BodySum s (h, d, n) =
     let w = whole_of m b s in

@@ -16,7 +16,7 @@ nil_behind : {X : Type 0} (xs : List X) → xs ++ [] ≡ xs
 nil_behind [] = refl
 nil_behind (x ∷ xs) = ap (λ ys. x ∷ ys) (nil_behind xs)
 
-told_none : {X : Type 0} (a : Option (List X)) → Grows a a []
+pub told_none : {X : Type 0} (a : Option (List X)) → Grows a a []
 told_none None = refl
 told_none (Some xs) = sym (nil_behind xs)
 
@@ -30,7 +30,7 @@ pub given_nothing : (f g : Framing) (old : Option (List StreamCall)) (to : List 
 given_nothing f g old to x = record { happened = Settled ∷ []; happen = (g, x, refl); told = told_none old; by = (settled_ready f g x, inl refl) }
 
 -- the item that was put at a place
-set_there : (xs : List Incoming) (port : ℕ) (x y : Incoming) → slice_get xs port ≡ Some y → slice_get (slice_set xs port x) port ≡ Some x
+pub set_there : (xs : List Incoming) (port : ℕ) (x y : Incoming) → slice_get xs port ≡ Some y → slice_get (slice_set xs port x) port ≡ Some x
 set_there xs port x y e =
     let within = slice_get_within xs port y e in
     slice_get-get_or (slice_set xs port x) port x (omega (arith, within, length-set xs port x)) ∙ ap Some (get_or-set_same xs port x x within)
@@ -94,16 +94,33 @@ heard_end f g old to port n e = record { mid = g; call = (n, e); happened = []; 
 pub heard_quiet : (f : Framing) (old : Option (List StreamCall)) (to : List ℕ) → f.ready ≡ None → IsHeard f call.Quiet old f old to received.Quiet
 heard_quiet f old to n = record { mid = f; call = (n, refl); happened = []; happen = refl; told = told_none old; by = refl }
 
-pub received_ready : {E : Type 0} (f g : Framing) (old new : Option (List StreamCall)) (to : List ℕ) (port : ℕ) → IsGiven f old g new to (Some port)
-    → IsReceived {E = E} f old g new to (Ok (received.Datagram port))
-received_ready f g old new to port x = inl (port, refl, x)
+pub received_ready : {E : Type 0} (f g : Framing) (old new last last' : Option (List StreamCall)) (to : List ℕ) (port : ℕ) → IsGiven f old g new to (Some port)
+    → last' ≡ last → IsReceived {E = E} f old last g new last' to (Ok (received.Datagram port))
+received_ready f g old new last last' to port x e = inl (port, refl, x, e)
 
-pub received_failed : {E : Type 0} (f g : Framing) (old settled new : Option (List StreamCall)) (held to : List ℕ) (e : E) → IsGiven f old g settled held None
-    → Grows settled new (call.Failed ∷ []) → IsReceived f old g new to (Err e)
-received_failed f g old settled new held to e x told =
-    inr (record { mid = g; settled = settled; held = held; nothing = x; call = call.Failed; polled = new; told = told; by = (refl, refl, refl) })
+pub received_failed : {E : Type 0} (f g : Framing) (old settled last last' new : Option (List StreamCall)) (held to : List ℕ) (e : E) → IsGiven f old g settled held None
+    → Grows settled new (call.Failed ∷ []) → last' ≡ new → IsReceived f old last g new last' to (Err e)
+received_failed f g old settled last last' new held to e x told same =
+    inr (record {
+      mid = g;
+      settled = settled;
+      held = held;
+      nothing = x;
+      call = call.Failed;
+      told = subst (λ n. Grows settled n (call.Failed ∷ [])) (sym same) told;
+      by = (refl, refl, sym same);
+    })
 
-pub received_heard : {E : Type 0} (f mid g : Framing) (old settled polled new : Option (List StreamCall)) (held to : List ℕ) (c : StreamCall) (r : Received)
-    → IsGiven f old mid settled held None → Grows settled polled (c ∷ []) → IsHeard mid c polled g new to r → IsReceived {E = E} f old g new to (Ok r)
-received_heard f mid g old settled polled new held to c r x told h =
-    inr (record { mid = mid; settled = settled; held = held; nothing = x; call = c; polled = polled; told = told; by = h })
+pub received_heard : {E : Type 0} (f mid g : Framing) (old last last' settled polled new : Option (List StreamCall)) (held to : List ℕ) (c : StreamCall) (r : Received)
+    → IsGiven f old mid settled held None → Grows settled polled (c ∷ []) → IsHeard mid c polled g new to r → last' ≡ polled
+    → IsReceived {E = E} f old last g new last' to (Ok r)
+received_heard f mid g old last last' settled polled new held to c r x told h same =
+    inr (record {
+      mid = mid;
+      settled = settled;
+      held = held;
+      nothing = x;
+      call = c;
+      told = subst (λ n. Grows settled n (c ∷ [])) (sym same) told;
+      by = subst (λ n. IsHeard mid c n g new to r) (sym same) h;
+    })

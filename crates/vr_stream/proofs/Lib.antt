@@ -1,7 +1,12 @@
 pub mod Connected
+pub mod Found
 pub mod Fronts
 pub mod Giving
 pub mod Held
 pub mod Looked
+pub mod Messages
+pub mod Received
 pub mod Sent
 pub mod Standing
+pub mod Tells
+pub mod Told

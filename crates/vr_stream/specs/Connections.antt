@@ -1,7 +1,8 @@
 -- The connections at a port, and the messages that are given of each.
 use Rattle.std.specs.Prelude.{ℕ, ◌≡◌, ◌==◌, if◌then◌else◌, Bool, true, false, List, [], ◌∷◌, ◌++◌, slice_get, replicate, Option, Some, None}
 use Rattle.vr_edge.specs.declared.streams.StreamCall.TheVariants as call
-use Rattle.vr_stream.specs.Cutting.{AreMessages}
+use Rattle.vr_base.specs.Bytes.{IsBytes}
+use Rattle.vr_stream.specs.Cutting.{AreMessages, messages, rest_of}
 use Rattle.vr_stream.specs.Framing.{Call, Framing, Gave, Happen, Occurrence, Settled}
 use Rattle.vr_stream.specs.Lines.{fresh_line}
 use Rattle.vr_stream.specs.declared.line.Incoming.{Incoming}
@@ -52,3 +53,7 @@ abbrev pub ConnectionsAreCut : Type 0
 ConnectionsAreCut =
     (count : ℕ) (hs : List Occurrence) (f : Framing) → Happen (first_framing count) hs f
     → (port : ℕ) (line : Incoming) → slice_get f.lines port ≡ Some line → IsCut port f.ready line (connection port first_connection hs)
+
+-- the messages that are found in bytes, and what is left of them, are theirs
+abbrev pub MessagesAreCut : Type 0
+MessagesAreCut = (bytes : List ℕ) → IsBytes bytes → AreMessages (messages bytes) (rest_of bytes) bytes

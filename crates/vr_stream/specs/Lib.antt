@@ -2,6 +2,7 @@ pub mod Connections
 pub mod Cutting
 pub mod Framers
 pub mod Framing
+pub mod Heard
 pub mod Lines
 pub mod Looking
 pub mod Receiving

@@ -44,18 +44,19 @@ abbrev pub PollsBy : {E : Type 0} → Framing → StreamCall → Option (List St
 PollsBy f c polled g new to (Ok result) = IsHeard f c polled g new to result
 PollsBy f c polled g new to (Err e) = (c ≡ call.Failed) × (g ≡ f) × (new ≡ polled)
 
-pub record Polls {E : Type 0} (f : Framing) (old : Option (List StreamCall)) (g : Framing) (new : Option (List StreamCall)) (to : List ℕ) (result : Result Received E)
+-- one poll, behind what stood ready; `last` is what the streams tell right after it
+pub record Polls {E : Type 0} (f : Framing) (old : Option (List StreamCall)) (g : Framing) (new last : Option (List StreamCall)) (to : List ℕ) (result : Result Received E)
     : Type 0 where
   pub mid : Framing
   pub settled : Option (List StreamCall)
   pub held : List ℕ
   pub nothing : IsGiven f old mid settled held None
   pub call : StreamCall
-  pub polled : Option (List StreamCall)
-  pub told : Grows settled polled (call ∷ [])
-  pub by : PollsBy mid call polled g new to result
+  pub told : Grows settled last (call ∷ [])
+  pub by : PollsBy mid call last g new to result
 
--- a message that stands ready is given, and the streams are left alone; else there is one poll
-abbrev pub IsReceived : {E : Type 0} → Framing → Option (List StreamCall) → Framing → Option (List StreamCall) → List ℕ → Result Received E → Type 0
-IsReceived f old g new to result =
-    ((port : ℕ) × (result ≡ Ok (received.Datagram port)) × IsGiven f old g new to (Some port)) ⊎ Polls f old g new to result
+-- a message that stands ready is given, and the streams are left alone; else there is one poll. `last` is what the streams tell up to their last poll
+abbrev pub IsReceived : {E : Type 0} → Framing → Option (List StreamCall) → Option (List StreamCall) → Framing → Option (List StreamCall) → Option (List StreamCall)
+    → List ℕ → Result Received E → Type 0
+IsReceived f old last g new last' to result =
+    ((port : ℕ) × (result ≡ Ok (received.Datagram port)) × IsGiven f old g new to (Some port) × (last' ≡ last)) ⊎ Polls f old g new last' to result

@@ -2,6 +2,7 @@
 #![tactic(auto)]
 
 mod deframer;
+mod framed;
 mod framer;
 mod laws;
 mod line;

@@ -1,203 +1,121 @@
 //! A link over streams.
-ghost use Rattle.std.specs.Prelude.{◌≡◌, ◌≤◌, ◌+◌, [], ◌∷◌, Ok, None, IfOk, OnOk, replicate, take, vec_capacity, vec_len};
+ghost use Rattle.std.specs.Prelude.{◌≡◌, ◌≤◌, ◌+◌, [], ◌∷◌, true, None, IfOk, OnOk, replicate, vec_capacity, vec_len};
+ghost use Rattle.vr_stream.specs.Framers.{framing};
+ghost use Rattle.vr_stream.specs.Heard.{IsTold};
 
-use crate::framer::{Framer, Given};
+use crate::framed::Framed;
 use std::alloc::{AllocError, Global};
-use vr_edge::{Link, LinkFailed, Polled, RECEIVE_ROOM, Received, STREAM_ROOM, Streams};
+use vr_edge::{Link, LinkFailed, RECEIVE_ROOM, Received, Streams};
 
 /// A link over streams: each datagram is a message of the stream at its port.
 #[derive(Drop)]
-pub struct StreamLink<T> {
-    streams: T,
-    framer: Framer,
-    /// How many peers there may be.
-    peers: usize,
-    /// What a poll gives.
-    room: [u8; STREAM_ROOM],
-    faults: u64,
-    send_faults: u64,
+pub struct StreamLink<T: Streams> {
+    framed: Framed<T>,
+    /// Whether nothing was asked of the streams before; only then is what it has received told, by the calls of its streams, where these tell them.
+    is_told: bool,
+    ghost told: { is_told ≡ true → IsTold (framing framed.framer) (T.calls framed.streams) (T.polled framed.streams) },
 }
 
 impl<T: Streams> StreamLink<T> {
-    ghost use Rattle.vr_edge.specs.Told.{Grows};
-    ghost use Rattle.vr_edge.specs.Streaming.{IsPolled, polled_by};
-    ghost use Rattle.vr_edge.specs.declared.streams.StreamFailed.{StreamFailed};
-    ghost use Rattle.vr_edge.specs.declared.streams.StreamCall.TheVariants.{Came, Closed};
-    ghost use Rattle.vr_stream.specs.Framers.{framing};
-    ghost use Rattle.vr_stream.specs.Framing.{ended};
+    ghost use Rattle.vr_stream.specs.Heard.{IsUnasked};
     ghost use Rattle.vr_stream.specs.Lines.{fresh_line};
-    ghost use Rattle.vr_stream.specs.Receiving.{IsGiven, IsHeard};
 
     /// A link to so many peers at most, over streams that aren't attached. It is attached as a link is.
+    #[tactic(auto, using(crate::proofs::Told::not_told))]
     pub fn new(alloc: Global, peers: u8, streams: T) -> Result<StreamLink<T>, AllocError>
     where
         T: Drop,
-        ensures streams { IfOk result (λ l. l.streams ≡ streams) }
-        ensures peers { IfOk result (λ l. l.peers ≡ peers) }
-        ensures lines { IfOk result (λ l. l.framer.lines.items ≡ replicate (peers + 64) fresh_line) }
-        ensures ready { IfOk result (λ l. l.framer.ready ≡ None) }
-        ensures faults { IfOk result (λ l. (l.faults ≡ 0) × (l.send_faults ≡ 0)) }
+        ensures streams { IfOk result (λ l. l.framed.streams ≡ streams) }
+        ensures peers { IfOk result (λ l. l.framed.peers ≡ peers) }
+        ensures lines { IfOk result (λ l. l.framed.framer.lines.items ≡ replicate (peers + 64) fresh_line) }
+        ensures ready { IfOk result (λ l. l.framed.framer.ready ≡ None) }
+        ensures faults { IfOk result (λ l. (l.framed.faults ≡ 0) × (l.framed.send_faults ≡ 0)) }
     {
-        let peers = peers as usize;
         Ok(StreamLink {
-            streams,
-            framer: Framer::new(alloc, peers + 64)?,
-            peers,
-            room: [0; STREAM_ROOM],
-            faults: 0,
-            send_faults: 0,
+            framed: Framed::new(alloc, peers, streams)?,
+            is_told: false,
         })
     }
 
-    /// Closes the stream at a port.
-    fn shut(&mut self, port: u32)
-        ensures framing { framing self.new.framer ≡ ended port (framing self.old.framer) }
-        ensures calls { Grows (T.calls self.old.streams) (T.calls self.new.streams) (Closed port ∷ []) }
-        ensures written { T.written self.new.streams ≡ T.written self.old.streams }
-        ensures faults { (self.new.faults ≡ self.old.faults) × (self.new.send_faults ≡ self.old.send_faults) }
+    /// The same over streams of which nothing was asked: it tells its receives.
+    #[tactic(auto, using(crate::proofs::Told::made_told))]
+    pub fn over_new(alloc: Global, peers: u8, streams: T) -> Result<StreamLink<T>, AllocError>
+    where
+        T: Drop,
+        requires unasked { IsUnasked (T.calls streams) (T.polled streams) }
+        ensures streams { IfOk result (λ l. l.framed.streams ≡ streams) }
+        ensures peers { IfOk result (λ l. l.framed.peers ≡ peers) }
+        ensures lines { IfOk result (λ l. l.framed.framer.lines.items ≡ replicate (peers + 64) fresh_line) }
+        ensures ready { IfOk result (λ l. l.framed.framer.ready ≡ None) }
+        ensures faults { IfOk result (λ l. (l.framed.faults ≡ 0) × (l.framed.send_faults ≡ 0)) }
+        ensures told { IfOk result (λ l. l.is_told ≡ true) }
     {
-        let _ = self.streams.close(port);
-        self.framer.end(port);
-    }
-
-    /// Gives a message that stands ready, and returns its port; where damage stands, its connection is closed.
-    #[tactic(auto, using(crate::proofs::Giving::given_message, crate::proofs::Giving::given_nothing, crate::proofs::Giving::settled_ready, crate::proofs::Giving::given_damage))]
-    fn give(&mut self, to: &mut Vec<u8>) -> Option<u32>
-        requires { RECEIVE_ROOM ≤ vec_capacity to.old }
-        ensures given { IsGiven (framing self.old.framer) (T.calls self.old.streams) (framing self.new.framer) (T.calls self.new.streams) to.new.items result }
-        ensures ready { result ≡ None → self.new.framer.ready ≡ None }
-        ensures written { T.written self.new.streams ≡ T.written self.old.streams }
-        ensures faults { (self.new.faults ≡ self.old.faults) × (self.new.send_faults ≡ self.old.send_faults) }
-        ensures room { vec_capacity to.old ≤ vec_capacity to.new }
-    {
-        match self.framer.give(to) {
-            Given::Message(port) => Some(port),
-            Given::Nothing => None,
-            Given::Damage(port) => {
-                self.shut(port);
-                None
-            }
-        }
-    }
-
-    /// Takes the bytes that a poll gave.
-    #[tactic(auto, using(crate::proofs::Giving::heard_nowhere, crate::proofs::Giving::heard_message, crate::proofs::Giving::heard_part))]
-    fn take(&mut self, port: u32, count: u32, to: &mut Vec<u8>) -> Received
-        requires room { RECEIVE_ROOM ≤ vec_capacity to.old }
-        requires count { count ≤ STREAM_ROOM }
-        requires ready { self.old.framer.ready ≡ None }
-        ensures heard { IsHeard (framing self.old.framer) (Came (record { port = port; bytes = take count self.old.room })) (T.calls self.old.streams) (framing self.new.framer) (T.calls self.new.streams) to.new.items result }
-        ensures written { T.written self.new.streams ≡ T.written self.old.streams }
-        ensures faults { (self.new.faults ≡ self.old.faults) × (self.new.send_faults ≡ self.old.send_faults) }
-        ensures room { vec_capacity to.old ≤ vec_capacity to.new }
-    {
-        if !self.framer.take(port, &self.room[..count as usize]) {
-            self.shut(port);
-            return Received::Part;
-        }
-        match self.give(to) {
-            Some(port) => Received::Datagram(port),
-            None => Received::Part,
-        }
-    }
-
-    /// Takes what a poll gave.
-    #[tactic(auto, using(crate::proofs::Giving::heard_end, crate::proofs::Giving::heard_quiet))]
-    fn hear(&mut self, polled: Polled, to: &mut Vec<u8>) -> Received
-        requires room { RECEIVE_ROOM ≤ vec_capacity to.old }
-        requires polled { IsPolled (T.attached self.old.streams) polled }
-        requires ready { self.old.framer.ready ≡ None }
-        ensures heard { IsHeard (framing self.old.framer) (polled_by {E = StreamFailed} (Ok polled) self.old.room) (T.calls self.old.streams) (framing self.new.framer) (T.calls self.new.streams) to.new.items result }
-        ensures written { T.written self.new.streams ≡ T.written self.old.streams }
-        ensures faults { (self.new.faults ≡ self.old.faults) × (self.new.send_faults ≡ self.old.send_faults) }
-        ensures room { vec_capacity to.old ≤ vec_capacity to.new }
-    {
-        match polled {
-            Polled::Bytes(port, count) => self.take(port, count, to),
-            Polled::Ended(port) => {
-                self.framer.end(port);
-                Received::Part
-            }
-            Polled::Quiet => Received::Quiet,
-        }
+        Ok(StreamLink {
+            framed: Framed::new(alloc, peers, streams)?,
+            is_told: true,
+        })
     }
 }
 
 impl<T: Streams> Link for StreamLink<T> {
     ghost use Rattle.vr_base.specs.Causes.{HasCause};
+    ghost use Rattle.vr_edge.specs.Attaching.{attached_by, texts_of};
     ghost use Rattle.vr_edge.specs.Datagrams.{sent_by, received_by};
     ghost use Rattle.vr_edge.specs.Told.{Grows, IsNothing};
-    ghost use Rattle.vr_stream.specs.Framers.{framing};
+    ghost use Rattle.vr_stream.specs.Heard.{told_if};
     ghost use Rattle.vr_stream.specs.Receiving.{IsReceived};
     ghost use Rattle.vr_stream.specs.Sending.{Sends, sent_told};
 
-    ghost sent = { λ l. sent_told (T.written l.streams) };
+    ghost attached = { λ l. None };
 
-    ghost received = { λ l. None };
+    ghost sent = { λ l. sent_told (T.written l.framed.streams) };
+
+    ghost received = { λ l. told_if l.is_told (framing l.framed.framer) (T.polled l.framed.streams) };
 
     ghost waiting = { λ l. None };
 
-    ghost faults = { λ l. l.faults };
+    ghost faults = { λ l. l.framed.faults };
 
-    ghost send_faults = { λ l. l.send_faults };
+    ghost send_faults = { λ l. l.framed.send_faults };
 
+    #[tactic(auto, using(crate::proofs::Told::told_still, crate::proofs::Told::received_still))]
     fn attach(&mut self, own: &str, peers: &Vec<String>) -> Result<(), LinkFailed>
-        ensures cause { HasCause self.old.faults self.new.faults result }
+        ensures cause { HasCause self.old.framed.faults self.new.framed.faults result }
+        ensures attached { Grows (⟦<StreamLink<T> as Link>⟧.attached self.old) (⟦<StreamLink<T> as Link>⟧.attached self.new) (attached_by own.now (texts_of peers.now.items) result ∷ []) }
         ensures sent { ⟦<StreamLink<T> as Link>⟧.sent self.new ≡ ⟦<StreamLink<T> as Link>⟧.sent self.old }
         ensures received { ⟦<StreamLink<T> as Link>⟧.received self.new ≡ ⟦<StreamLink<T> as Link>⟧.received self.old }
-        ensures others { self.new.send_faults ≡ self.old.send_faults }
-        ensures few { OnOk result (vec_len peers.now ≤ self.old.peers) }
-        ensures framing { self.new.framer ≡ self.old.framer }
-        ensures calls { T.calls self.new.streams ≡ T.calls self.old.streams }
+        ensures others { self.new.framed.send_faults ≡ self.old.framed.send_faults }
+        ensures few { OnOk result (vec_len peers.now ≤ self.old.framed.peers) }
+        ensures framing { self.new.framed.framer ≡ self.old.framed.framer }
+        ensures calls { T.calls self.new.framed.streams ≡ T.calls self.old.framed.streams }
+        ensures polled { T.polled self.new.framed.streams ≡ T.polled self.old.framed.streams }
     {
-        if peers.len() > self.peers {
-            self.faults = self.faults.saturating_add(1);
-            return Err(LinkFailed);
-        }
-        match self.streams.attach(own, peers) {
-            Ok(()) => Ok(()),
-            Err(_) => {
-                self.faults = self.faults.saturating_add(1);
-                Err(LinkFailed)
-            }
-        }
+        self.framed.attach(own, peers)
     }
 
-    #[tactic(auto, using(std::proofs::lemmas::Grind::common_steps, crate::proofs::Sent::sent_whole, crate::proofs::Sent::sent_cut, crate::proofs::Sent::sent_not, crate::proofs::Sent::sends_whole, crate::proofs::Sent::sends_cut, crate::proofs::Sent::sends_not))]
     fn send(&mut self, to: u32, bytes: &[u8]) -> Result<(), LinkFailed>
-        ensures cause { HasCause self.old.send_faults self.new.send_faults result }
+        ensures cause { HasCause self.old.framed.send_faults self.new.framed.send_faults result }
+        ensures attached { ⟦<StreamLink<T> as Link>⟧.attached self.new ≡ ⟦<StreamLink<T> as Link>⟧.attached self.old }
         ensures sent { Grows (⟦<StreamLink<T> as Link>⟧.sent self.old) (⟦<StreamLink<T> as Link>⟧.sent self.new) (sent_by to bytes.now result ∷ []) }
         ensures received { ⟦<StreamLink<T> as Link>⟧.received self.new ≡ ⟦<StreamLink<T> as Link>⟧.received self.old }
-        ensures others { self.new.faults ≡ self.old.faults }
-        ensures sends { Sends to bytes.now (framing self.old.framer) (T.calls self.old.streams) (T.written self.old.streams) (framing self.new.framer) (T.calls self.new.streams) (T.written self.new.streams) }
+        ensures others { self.new.framed.faults ≡ self.old.framed.faults }
+        ensures sends { Sends to bytes.now (framing self.old.framed.framer) (T.calls self.old.framed.streams) (T.written self.old.framed.streams) (framing self.new.framed.framer) (T.calls self.new.framed.streams) (T.written self.new.framed.streams) }
+        ensures polled { T.polled self.new.framed.streams ≡ T.polled self.old.framed.streams }
     {
-        match self.streams.write(to, bytes) {
-            Ok(count) if count == bytes.len() => return Ok(()),
-            Ok(_) => self.shut(to),
-            Err(_) => {}
-        }
-        self.send_faults = self.send_faults.saturating_add(1);
-        Err(LinkFailed)
+        self.framed.send(to, bytes)
     }
 
-    #[tactic(auto, using(crate::proofs::Giving::received_ready, crate::proofs::Giving::received_failed, crate::proofs::Giving::received_heard))]
     fn receive(&mut self, to: &mut Vec<u8>) -> Result<Received, LinkFailed>
         requires { RECEIVE_ROOM ≤ vec_capacity to.old }
-        ensures cause { HasCause self.old.faults self.new.faults result }
+        ensures cause { HasCause self.old.framed.faults self.new.framed.faults result }
+        ensures attached { ⟦<StreamLink<T> as Link>⟧.attached self.new ≡ ⟦<StreamLink<T> as Link>⟧.attached self.old }
         ensures quiet { IfOk result (λ r. r ≡ Received.Quiet → IsNothing (⟦<StreamLink<T> as Link>⟧.waiting self.old)) }
         ensures sent { ⟦<StreamLink<T> as Link>⟧.sent self.new ≡ ⟦<StreamLink<T> as Link>⟧.sent self.old }
         ensures received { Grows (⟦<StreamLink<T> as Link>⟧.received self.old) (⟦<StreamLink<T> as Link>⟧.received self.new) (received_by result to.new.items ∷ []) }
         ensures room { RECEIVE_ROOM ≤ vec_capacity to.new }
-        ensures others { self.new.send_faults ≡ self.old.send_faults }
-        ensures heard { IsReceived (framing self.old.framer) (T.calls self.old.streams) (framing self.new.framer) (T.calls self.new.streams) to.new.items result }
+        ensures others { self.new.framed.send_faults ≡ self.old.framed.send_faults }
+        ensures heard { IsReceived (framing self.old.framed.framer) (T.calls self.old.framed.streams) (T.polled self.old.framed.streams) (framing self.new.framed.framer) (T.calls self.new.framed.streams) (T.polled self.new.framed.streams) to.new.items result }
     {
-        if let Some(port) = self.give(to) {
-            return Ok(Received::Datagram(port));
-        }
-        let Ok(polled) = self.streams.poll(&mut self.room) else {
-            self.faults = self.faults.saturating_add(1);
-            return Err(LinkFailed);
-        };
-        Ok(self.hear(polled, to))
+        self.framed.receive(to)
     }
 }

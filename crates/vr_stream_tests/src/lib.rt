@@ -2,4 +2,6 @@
 #![tactic(auto)]
 
 #[cfg(test)]
+mod deframer;
+#[cfg(test)]
 mod link;

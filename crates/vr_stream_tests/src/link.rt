@@ -37,7 +37,7 @@ fn piece(alloc: Global, port: u32, bytes: &[u8]) -> Result<Coming, AllocError> {
 fn link(alloc: Global, comes: Vec<Coming>) -> Result<StreamLink<MemStreams>, AllocError> {
     let mut script = StreamScript::quiet(alloc);
     script.comes = comes;
-    StreamLink::new(alloc, 2, MemStreams::new(alloc, 66, script)?)
+    StreamLink::over_new(alloc, 2, MemStreams::new(alloc, 66, script)?)
 }
 
 /// Room for a receive.

@@ -64,6 +64,7 @@ fn receives_by_its_script(rt: HostRuntime) -> Result<(), Fail> {
     let peers = Vec::new(alloc);
     assert_eq!(rt; link.attach("", &peers), Err(LinkFailed));
     assert_eq!(rt; link.attach("", &peers), Ok(()));
+    assert_eq!(rt; link.attached().map(|told| told.len()), Some(2));
     for (given, bytes) in [
         (Ok(Received::Quiet), ""),
         (Ok(Received::Datagram(3)), "hello"),

@@ -1,6 +1,6 @@
 use Rattle.std.proofs.Common.{refl}
 use Rattle.vr_stream.proofs.Giving.{heard_nowhere}
-use Rattle.vr_stream.proofs.link.StreamLink.take.Goals as goal
+use Rattle.vr_stream.proofs.framed.Framed.take.Goals as goal
 
 pub returns-then-not-take-clause-heard : goal.returns-then-not-take-clause-heard
 returns-then-not-take-clause-heard g c =
