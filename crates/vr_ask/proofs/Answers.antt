@@ -2,7 +2,7 @@
 use Rattle.std.proofs.Common.{◌≡◌, ◌⊎◌, ℕ, List, [], Option, Result, Ok, Err, refl, inl, inr, subst, sym}
 use Rattle.std.specs.Io.KnownBytes.{Appends}
 use Rattle.std.proofs.KnownBytes.{Appends-nil}
-use Rattle.vr_ask.specs.Asking.{Answers, Client, EndsWith, Exchanges, Faults, KeepsSession, PutsAnswer, Stand, WritesAnswer, request_of, status_of}
+use Rattle.vr_ask.specs.Asking.{Answers, Client, CountsWrites, EndsWith, Exchanges, Faults, KeepsSession, PutsAnswer, Stand, WritesAnswer, request_of, status_of}
 use Rattle.vr_ask.specs.Text.{answer_text}
 use Rattle.vr_client.specs.Asking.{AskCause, IsAsked, IsUnasked, ask_of}
 use Rattle.vr_client.specs.declared.answer.Answer.{Answer}
@@ -10,6 +10,7 @@ use Rattle.vr_client.specs.declared.answer.AskFault.{AskFault}
 use Rattle.vr_client.specs.declared.answer.AskFault.TheVariants as fault
 use Rattle.vr_edge.specs.Told.{AppendsFront}
 use Rattle.vr_header.specs.declared.operation.Operation.{Operation}
+use Rattle.vr_status.specs.Counts.{writes_after}
 use Rattle.vr_status.specs.declared.status.Status.{Status}
 use Rattle.vr_status.specs.declared.status.Status.TheVariants as status
 
@@ -38,6 +39,17 @@ put_unwritten a t t' before now (status.OtherMember x y) w = absurd w
 put_unwritten a t t' before now status.Occupied w = absurd w
 put_unwritten a t t' before now status.NoAnswer w = absurd w
 put_unwritten a t t' before now status.SpawnFault w = absurd w
+
+-- whether the session is kept is no matter of the sink
+pub kept_counts : (a : Answer) (before now : ℕ) (r : Result (Unit {0}) Status) → now ≡ before → KeepsSession a r → CountsWrites before now r
+kept_counts a before now (Ok x) e k = e
+kept_counts a before now (Err s) e k = subst (λ x. CountsWrites {T = Unit {0}} before now (Err x)) (sym k.0) e
+
+-- nor is an ask without an answer
+pub unanswered_counts : (f : AskFault) (before now : ℕ) → now ≡ before → now ≡ writes_after (status_of f) before
+unanswered_counts fault.NoAnswer before now e = e
+unanswered_counts fault.Link before now e = e
+unanswered_counts fault.NoMemory before now e = e
 
 -- an answer that came
 abbrev pub Came : Client → ℕ → Operation → Stand → Stand → Result Answer AskFault → Type 0

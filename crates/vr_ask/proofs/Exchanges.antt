@@ -15,6 +15,7 @@ use Rattle.vr_reader.specs.declared.fault.LineStop.TheVariants as stop
 use Rattle.vr_reader.specs.declared.next.Next.{Next}
 use Rattle.vr_sched.specs.Grammar.{operation_words}
 use Rattle.vr_sched.specs.Words.{words_of}
+use Rattle.vr_status.specs.Counts.{writes_after}
 use Rattle.vr_status.specs.declared.status.Status.{Status}
 use Rattle.vr_status.specs.declared.status.Status.TheVariants as status
 
@@ -91,6 +92,23 @@ exchange_counts c number s s' b n operation before now (Err status.Occupied) e x
 exchange_counts c number s s' b n operation before now (Err status.NoAnswer) e x = e
 exchange_counts c number s s' b n operation before now (Err status.SpawnFault) e x = e
 
+-- nor is a line that isn't asked a failed write
+pub heard_writes : (number : ℕ) (r r' : Reading) (s : Status) (before now : ℕ) → now ≡ before → Hears number r r' (Err s) → now ≡ writes_after s before
+heard_writes number r r' status.Done before now e h = e
+heard_writes number r r' status.Usage before now e h = e
+heard_writes number r r' (status.Refused k) before now e h = e
+heard_writes number r r' status.SessionLost before now e h = e
+heard_writes number r r' status.ReadFault before now e h = e
+heard_writes number r r' status.WriteFault before now e h = absurd h
+heard_writes number r r' status.DiskFault before now e h = e
+heard_writes number r r' status.LinkFault before now e h = e
+heard_writes number r r' status.SuperLost before now e h = e
+heard_writes number r r' (status.OtherMember x y) before now e h = e
+heard_writes number r r' status.NoMemory before now e h = e
+heard_writes number r r' status.Occupied before now e h = e
+heard_writes number r r' status.NoAnswer before now e h = e
+heard_writes number r r' status.SpawnFault before now e h = e
+
 -- ---- lines one after the other
 
 -- so many lines were read, asked and answered
@@ -156,11 +174,11 @@ ends_later c number operation s s' b m n status.Occupied l w e = absurd e
 ends_later c number operation s s' b m n status.SpawnFault l w e = absurd e
 
 pub stops_later : (c : Client) (number : ℕ) (r : Reading) (s : Stand) (r' : Reading) (s' : Stand) (b m n : Faults) (status : Status)
-    → b.link ≤ m.link → b.write ≤ m.write → ((s' ≡ s) × StopsAt number r r' status) ⊎ EndsAt c number r s r' s' m n status
+    → b.link ≤ m.link → m.write ≡ b.write → ((s' ≡ s) × StopsAt number r r' status) ⊎ EndsAt c number r s r' s' m n status
     → ((s' ≡ s) × StopsAt number r r' status) ⊎ EndsAt c number r s r' s' b n status
 stops_later c number r s r' s' b m n status l w (inl x) = inl x
 stops_later c number r s r' s' b m n status l w (inr e) =
-    inr (record { line = e.line; operation = e.operation; read = e.read; meant = e.meant; ends = ends_later c number e.operation s s' b m n status l w e.ends })
+    inr (record { line = e.line; operation = e.operation; read = e.read; meant = e.meant; ends = ends_later c number e.operation s s' b m n status l (omega (arith, w)) e.ends })
 
 -- a line behind the last one that may be is refused
 pub one_too_many : (r r' : Reading) (operation : Operation) → Hears (limit + 1) r r' (Ok operation) → ⊥

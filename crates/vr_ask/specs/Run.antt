@@ -1,10 +1,13 @@
 -- The run of a client over the lines of a source.
-use Rattle.std.specs.Prelude.{ℕ, ◌≡◌, ◌≤◌, ◌<◌, ◌⊎◌, ◌+◌, ⊤, List, [], ◌∷◌, length, Option, Some, None, Result, Ok, Err}
+use Rattle.std.specs.Prelude.{ℕ, ◌≡◌, ◌≤◌, ◌<◌, ◌⊎◌, ◌+◌, ⊤, Bool, true, false, List, [], ◌∷◌, length, Option, Some, None, Result, Ok, Err}
 use Rattle.vr_ask.specs.Asking.{Client, EndsWith, Faults, IsAnswered, Stand}
 use Rattle.vr_ask.specs.Text.{longest, operation_of}
 use Rattle.vr_base.specs.Causes.{Rose, one_more}
 use Rattle.vr_client.specs.declared.answer.Answer.TheVariants as answer
+use Rattle.vr_edge.specs.Attaching.{attach_of}
 use Rattle.vr_edge.specs.Datagrams.{Arrival}
+use Rattle.vr_edge.specs.Told.{Grows}
+use Rattle.vr_edge.specs.declared.attach.Attach.{Attach}
 use Rattle.vr_edge.specs.declared.datagram.Datagram.{Datagram}
 use Rattle.vr_header.specs.declared.operation.Operation.{Operation}
 use Rattle.vr_header.specs.declared.operation.Operation.TheVariants.{Register}
@@ -92,9 +95,10 @@ pub record Outside : Type 0 where
   pub got : Option (List Arrival)
   pub taken : Option (List ℕ)
   pub left : Option (List ℕ)
+  pub attached : Option (List Attach)
 
-abbrev pub outside : Option (List (Option Datagram)) → Option (List Arrival) → Option (List ℕ) → Option (List ℕ) → Outside
-outside sent got taken left = record { sent = sent; got = got; taken = taken; left = left }
+abbrev pub outside : Option (List (Option Datagram)) → Option (List Arrival) → Option (List ℕ) → Option (List ℕ) → Option (List Attach) → Outside
+outside sent got taken left attached = record { sent = sent; got = got; taken = taken; left = left; attached = attached }
 
 abbrev pub standing : ℕ → Outside → Stand
 standing port o = record { port = port; sent = o.sent; got = o.got; taken = o.taken }
@@ -102,11 +106,22 @@ standing port o = record { port = port; sent = o.sent; got = o.got; taken = o.ta
 abbrev pub reading_of : List ℕ → Outside → Reading
 reading_of rest o = record { rest = rest; left = o.left }
 
--- Nothing was asked: the link couldn't be attached, or memory was short for the client itself.
-abbrev pub EndsUnasked : Outside → Outside → Faults → Faults → Status → Type 0
-EndsUnasked o o' before now LinkFault = (o' ≡ o) × Rose before.link now.link
-EndsUnasked o o' before now NoMemory = o' ≡ o
-EndsUnasked o o' before now _ = ⊥
+-- the link was attached, once: without an own address, and with those of all members as its peers
+abbrev pub TakesLink : List (List ℕ) → Bool → Outside → Outside → Type 0
+TakesLink peers is_done o o' = Grows o.attached o'.attached (attach_of [] peers is_done ∷ [])
+
+-- it couldn't be attached
+pub record Unlinked (peers : List (List ℕ)) (o o' : Outside) (before now : Faults) (status : Status) : Type 0 where
+  pub is : status ≡ LinkFault
+  pub rose : Rose before.link now.link
+  pub attached : TakesLink peers false o o'
+  pub same : o' ≡ record o { attached = o'.attached }
+
+-- memory was short for the client itself: nothing was asked
+pub record Unmade (o o' : Outside) (before now : Faults) (status : Status) : Type 0 where
+  pub is : status ≡ NoMemory
+  pub spared : now.link ≡ before.link
+  pub same : o' ≡ record o { attached = o'.attached }
 
 -- its run, from its first ask at port 0, with nothing read
 pub record Ran (c : Client) (o o' : Outside) (before now : Faults) (status : Status) : Type 0 where
@@ -114,9 +129,14 @@ pub record Ran (c : Client) (o o' : Outside) (before now : Faults) (status : Sta
   pub port : ℕ
   pub ends : EndsRun c (reading_of [] o) (standing 0 o) (reading_of rest o') (standing port o') before now status
 
--- how a client ends
-abbrev pub ClientEnds : Client → Outside → Outside → Faults → Faults → Status → Type 0
-ClientEnds c o o' before now status = EndsUnasked o o' before now status ⊎ Ran c o o' before now status
+-- how a client ends whose link is attached
+abbrev pub EndsAttached : Client → Outside → Outside → Faults → Faults → Status → Type 0
+EndsAttached c o o' before now status = Unmade o o' before now status ⊎ Ran c o o' before now status
+
+-- how a client ends of a group with these addresses: first its link, then its asks
+abbrev pub ClientEnds : Client → List (List ℕ) → Outside → Outside → Faults → Faults → Status → Type 0
+ClientEnds c peers o o' before now status =
+    Unlinked peers o o' before now status ⊎ (TakesLink peers true o o' × EndsAttached c o o' before now status)
 
 abbrev pub client_with : ℕ → ℕ → ℕ → ℕ → Client
 client_with cluster id n turns = record { cluster = cluster; id = id; n = n; turns = turns }

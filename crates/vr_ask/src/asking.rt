@@ -1,6 +1,6 @@
 //! One ask, whose answer is written.
 ghost use Rattle.std.specs.Prelude.{◌≡◌, ◌≤◌, ◌<◌, ◌+◌, ◌^◌, ◌↔◌};
-ghost use Rattle.vr_ask.specs.Asking.{Exchanges, KeepsSession, PutsAnswer, WritesAnswer, client_of, faults, stand, status_of};
+ghost use Rattle.vr_ask.specs.Asking.{CountsWrites, Exchanges, KeepsSession, PutsAnswer, WritesAnswer, client_of, faults, stand, status_of};
 ghost use Rattle.vr_header.specs.declared.operation.Operation.TheVariants.{Register};
 
 use crate::text::answer_text;
@@ -25,7 +25,7 @@ fn status_of(fault: AskFault) -> Status
 #[tactic(auto, using(crate::proofs::Answers::front_none))]
 fn write_answer<K: Sink>(alloc: Global, sink: &mut K, answer: &Answer) -> Result<(), Status>
     ensures written { WritesAnswer answer.now (K.taken sink.old) (K.taken sink.new) (K.faults sink.old) (K.faults sink.new) result }
-    ensures later { K.faults sink.old ≤ K.faults sink.new }
+    ensures counts { CountsWrites (K.faults sink.old) (K.faults sink.new) result }
 {
     let Ok(text) = answer_text(alloc, answer) else {
         return Err(Status::NoMemory);
@@ -47,10 +47,10 @@ fn keep_session(answer: &Answer) -> Result<(), Status>
 }
 
 /// Writes an answer; an `Err` is how the client ends.
-#[tactic(auto, using(crate::proofs::Answers::put_kept, crate::proofs::Answers::put_unwritten))]
+#[tactic(auto, using(crate::proofs::Answers::put_kept, crate::proofs::Answers::put_unwritten, crate::proofs::Answers::kept_counts))]
 fn put_answer<K: Sink>(alloc: Global, sink: &mut K, answer: &Answer) -> Result<(), Status>
     ensures put { PutsAnswer answer.now (K.taken sink.old) (K.taken sink.new) (K.faults sink.old) (K.faults sink.new) result }
-    ensures later { K.faults sink.old ≤ K.faults sink.new }
+    ensures counts { CountsWrites (K.faults sink.old) (K.faults sink.new) result }
 {
     match write_answer(alloc, sink, answer) {
         Ok(()) => keep_session(answer),
@@ -59,7 +59,7 @@ fn put_answer<K: Sink>(alloc: Global, sink: &mut K, answer: &Answer) -> Result<(
 }
 
 /// Asks, and writes the answer; an `Err` is how the client ends.
-#[tactic(auto, using(crate::proofs::Answers::exchanged, crate::proofs::Answers::unanswered))]
+#[tactic(auto, using(crate::proofs::Answers::exchanged, crate::proofs::Answers::unanswered, crate::proofs::Answers::unanswered_counts))]
 pub fn exchange<K: Sink, L: Link>(
     alloc: Global,
     core: &mut ClientCore,
@@ -77,7 +77,8 @@ pub fn exchange<K: Sink, L: Link>(
     ensures number { core.new.number ≡ core.old.number + 1 }
     ensures client { client_of core.new turns ≡ client_of core.old turns }
     ensures link { L.faults link.old ≤ L.faults link.new }
-    ensures sink { K.faults sink.old ≤ K.faults sink.new }
+    ensures sink { CountsWrites (K.faults sink.old) (K.faults sink.new) result }
+    ensures attached { L.attached link.new ≡ L.attached link.old }
 {
     match core.ask(link, operation, turns) {
         Ok(answer) => put_answer(alloc, sink, &answer),

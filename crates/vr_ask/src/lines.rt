@@ -1,8 +1,9 @@
 //! The lines of a source, asked one after the other.
 ghost use Rattle.std.specs.Prelude.{◌≡◌, ◌≤◌, ◌<◌, ◌+◌, OnOk};
-ghost use Rattle.vr_ask.specs.Asking.{client_of, faults, stand};
+ghost use Rattle.vr_ask.specs.Asking.{CountsWrites, client_of, faults, stand};
 ghost use Rattle.vr_ask.specs.Run.{CountsLine, EndsLines, Hears, Judges, Takes, count_after, reading};
 ghost use Rattle.vr_ask.specs.Stops.{stop_status};
+ghost use Rattle.vr_status.specs.Counts.{writes_after};
 
 use crate::asking::exchange;
 use crate::text::read_line;
@@ -62,7 +63,7 @@ fn next_operation<S: Source>(
 }
 
 /// Reads the line with this number, asks it and writes the answer; an `Err` is how the client ends.
-#[tactic(auto, using(crate::proofs::Exchanges::taken, crate::proofs::Exchanges::exchange_counts))]
+#[tactic(auto, using(crate::proofs::Exchanges::taken, crate::proofs::Exchanges::exchange_counts, crate::proofs::Exchanges::heard_writes))]
 fn take_line<S: Source, K: Sink, L: Link>(
     alloc: Global,
     core: &mut ClientCore,
@@ -83,7 +84,8 @@ fn take_line<S: Source, K: Sink, L: Link>(
     ensures client { OnOk result (client_of core.new turns ≡ client_of core.old turns) }
     ensures counts { CountsLine (S.faults source.old) (S.faults source.new) result }
     ensures link { L.faults link.old ≤ L.faults link.new }
-    ensures sink { K.faults sink.old ≤ K.faults sink.new }
+    ensures sink { CountsWrites (K.faults sink.old) (K.faults sink.new) result }
+    ensures attached { L.attached link.new ≡ L.attached link.old }
 {
     match next_operation(alloc, lines, source, number) {
         Ok(operation) => exchange(alloc, core, link, sink, &operation, turns),
@@ -92,7 +94,7 @@ fn take_line<S: Source, K: Sink, L: Link>(
 }
 
 /// The lines of a source, to an end.
-#[tactic(auto, using(std::proofs::lemmas::Grind::common_steps, crate::proofs::Exchanges::midst_begins, crate::proofs::Exchanges::midst_more, crate::proofs::Exchanges::ends_at, crate::proofs::Exchanges::stops_later, crate::proofs::Exchanges::one_too_many))]
+#[tactic(auto, using(std::proofs::lemmas::Grind::common_steps, crate::proofs::Exchanges::midst_begins, crate::proofs::Exchanges::midst_more, crate::proofs::Exchanges::ends_at, crate::proofs::Exchanges::stops_later, crate::proofs::Exchanges::one_too_many, crate::proofs::Exchanges::heard_writes))]
 pub fn ask_lines<S: Source, K: Sink, L: Link>(
     alloc: Global,
     core: &mut ClientCore,
@@ -109,7 +111,8 @@ pub fn ask_lines<S: Source, K: Sink, L: Link>(
         (faults (L.faults link.old) (K.faults sink.old)) (faults (L.faults link.new) (K.faults sink.new)) result }
     ensures counts { S.faults source.new ≡ count_after result (S.faults source.old) }
     ensures link { L.faults link.old ≤ L.faults link.new }
-    ensures sink { K.faults sink.old ≤ K.faults sink.new }
+    ensures sink { K.faults sink.new ≡ writes_after result (K.faults sink.old) }
+    ensures attached { L.attached link.new ≡ L.attached link.old }
 {
     for done in 0..LIMIT {
         if let Err(status) = take_line(alloc, core, lines, source, link, sink, done + 1, turns) {

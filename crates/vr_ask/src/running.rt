@@ -1,9 +1,11 @@
 //! The whole run of a client.
 ghost use Rattle.std.specs.Prelude.{◌≡◌, ◌≢◌, ◌≤◌, [], vec_len};
 ghost use Rattle.vr_ask.specs.Asking.{client_of, faults, stand};
-ghost use Rattle.vr_ask.specs.Run.{ClientEnds, EndsRun, client_with, count_after, outside, reading};
-ghost use Rattle.vr_base.specs.Causes.{Rose};
+ghost use Rattle.vr_ask.specs.Run.{ClientEnds, EndsAttached, EndsRun, client_with, count_after, outside, reading};
+ghost use Rattle.vr_edge.specs.Attaching.{texts_of};
+ghost use Rattle.vr_edge.specs.Failing.{LinkFailure};
 ghost use Rattle.vr_reader.specs.Finding.{rest};
+ghost use Rattle.vr_status.specs.Counts.{writes_after};
 
 use crate::asking::exchange;
 use crate::lines::ask_lines;
@@ -32,7 +34,8 @@ fn ask_all<S: Source, K: Sink, L: Link>(
         (faults (L.faults link.old) (K.faults sink.old)) (faults (L.faults link.new) (K.faults sink.new)) result }
     ensures counts { S.faults source.new ≡ count_after result (S.faults source.old) }
     ensures link { L.faults link.old ≤ L.faults link.new }
-    ensures sink { K.faults sink.old ≤ K.faults sink.new }
+    ensures sink { K.faults sink.new ≡ writes_after result (K.faults sink.old) }
+    ensures attached { L.attached link.new ≡ L.attached link.old }
 {
     match exchange(alloc, core, link, sink, &Operation::Register, turns) {
         Ok(()) => ask_lines(alloc, core, lines, source, link, sink, turns),
@@ -41,7 +44,7 @@ fn ask_all<S: Source, K: Sink, L: Link>(
 }
 
 /// Makes the client, and asks all.
-#[tactic(auto, using(crate::proofs::Runs::ran))]
+#[tactic(auto, using(crate::proofs::Runs::ran, crate::proofs::Runs::unmade))]
 fn ask_made<S: Source, K: Sink, L: Link>(
     alloc: Global,
     cluster: u64,
@@ -55,13 +58,14 @@ fn ask_made<S: Source, K: Sink, L: Link>(
     requires id { id ≢ 0 }
     requires least { 2 ≤ vec_len peers.now }
     requires most { vec_len peers.now ≤ 6 }
-    ensures ends { ClientEnds (client_with cluster id (vec_len peers.now) turns)
-        (outside (L.sent link.old) (L.received link.old) (K.taken sink.old) (S.left source.old))
-        (outside (L.sent link.new) (L.received link.new) (K.taken sink.new) (S.left source.new))
+    ensures ends { EndsAttached (client_with cluster id (vec_len peers.now) turns)
+        (outside (L.sent link.old) (L.received link.old) (K.taken sink.old) (S.left source.old) (L.attached link.old))
+        (outside (L.sent link.new) (L.received link.new) (K.taken sink.new) (S.left source.new) (L.attached link.new))
         (faults (L.faults link.old) (K.faults sink.old)) (faults (L.faults link.new) (K.faults sink.new)) result }
     ensures counts { S.faults source.new ≡ count_after result (S.faults source.old) }
     ensures link { L.faults link.old ≤ L.faults link.new }
-    ensures sink { K.faults sink.old ≤ K.faults sink.new }
+    ensures sink { K.faults sink.new ≡ writes_after result (K.faults sink.old) }
+    ensures attached { L.attached link.new ≡ L.attached link.old }
 {
     let size = peers.len() as u8;
     let Ok(mut core) = ClientCore::new(alloc, cluster, id, size) else {
@@ -75,7 +79,7 @@ fn ask_made<S: Source, K: Sink, L: Link>(
 
 /// The client `id` of a group whose members have these addresses: it registers, asks each line of its source, and writes each answer. Its end has its cause: a line that is
 /// none of a client's, no answer in its turns, a session that the group knows no more, or a fault that the count of its object tells.
-#[tactic(auto, using(crate::proofs::Runs::same_outside, crate::proofs::Runs::client_link, crate::proofs::Runs::client_write))]
+#[tactic(auto, using(crate::proofs::Runs::linked, crate::proofs::Runs::unlinked))]
 pub fn run_client<S: Source, K: Sink, L: Link>(
     alloc: Global,
     cluster: u64,
@@ -89,14 +93,14 @@ pub fn run_client<S: Source, K: Sink, L: Link>(
     requires id { id ≢ 0 }
     requires least { 2 ≤ vec_len peers.now }
     requires most { vec_len peers.now ≤ 6 }
-    ensures ends { ClientEnds (client_with cluster id (vec_len peers.now) turns)
-        (outside (L.sent link.old) (L.received link.old) (K.taken sink.old) (S.left source.old))
-        (outside (L.sent link.new) (L.received link.new) (K.taken sink.new) (S.left source.new))
+    ensures ends { ClientEnds (client_with cluster id (vec_len peers.now) turns) (texts_of peers.now.items)
+        (outside (L.sent link.old) (L.received link.old) (K.taken sink.old) (S.left source.old) (L.attached link.old))
+        (outside (L.sent link.new) (L.received link.new) (K.taken sink.new) (S.left source.new) (L.attached link.new))
         (faults (L.faults link.old) (K.faults sink.old)) (faults (L.faults link.new) (K.faults sink.new)) result }
-    // A fault has its cause in the object that was handed in, and a read that failed is told: no other answer leaves one.
+    // A fault has its cause in the object that was handed in, and a read or a write that failed is told: no other answer leaves one.
     ensures read { S.faults source.new ≡ count_after result (S.faults source.old) }
-    ensures write { result ≡ Status.WriteFault → Rose (K.faults sink.old) (K.faults sink.new) }
-    ensures link { result ≡ Status.LinkFault → Rose (L.faults link.old) (L.faults link.new) }
+    ensures write { K.faults sink.new ≡ writes_after result (K.faults sink.old) }
+    ensures link { result ≡ Status.LinkFault → LinkFailure (L.faults link.old) (L.faults link.new) (L.attached link.old) (L.attached link.new) (L.received link.old) (L.received link.new) }
 {
     match link.attach("", peers) {
         Ok(()) => ask_made(alloc, cluster, id, peers, turns, source, sink, link),

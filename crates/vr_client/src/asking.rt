@@ -64,6 +64,7 @@ impl ClientCore {
         ensures sent { Sends (datagram_at port self.old.bytes.items ∷ []) (L.sent link.old) (L.sent link.new) }
         ensures received { L.received link.new ≡ L.received link.old }
         ensures faults { L.faults link.new ≡ L.faults link.old }
+        ensures attached { L.attached link.new ≡ L.attached link.old }
     {
         self.port = port;
         send_bytes(link, port, self.bytes.as_slice());
@@ -79,6 +80,7 @@ impl ClientCore {
         ensures failed { IfErr result (Fails (L.received link.old) (L.received link.new)) }
         ensures cause { AskCause (L.faults link.old) (L.faults link.new) result }
         ensures sent { L.sent link.new ≡ L.sent link.old }
+        ensures attached { L.attached link.new ≡ L.attached link.old }
     {
         let letter = receive_letter(self.alloc, link, self.cluster, &mut self.to)?;
         Ok(heed_letter(self.n, name, letter))
@@ -94,6 +96,7 @@ impl ClientCore {
         ensures answer { MatchOption result (IsSilent heard) (λ answer. heard ≡ did.Answered answer) }
         ensures received { L.received link.new ≡ L.received link.old }
         ensures faults { L.faults link.new ≡ L.faults link.old }
+        ensures attached { L.attached link.new ≡ L.attached link.old }
     {
         match heard {
             Heed::Ignored => None,
@@ -114,6 +117,7 @@ impl ClientCore {
         ensures sent { Sends (requests self.old.bytes.items (go_on_to self.old.n turns done self.old.port)) (L.sent link.old) (L.sent link.new) }
         ensures received { L.received link.new ≡ L.received link.old }
         ensures faults { L.faults link.new ≡ L.faults link.old }
+        ensures attached { L.attached link.new ≡ L.attached link.old }
     {
         if (done + 1) % 50 == 0 && done + 1 < turns {
             self.ask_at(link, (self.port + 1) % u32::from(self.n));
@@ -135,6 +139,7 @@ impl ClientCore {
         ensures failed { IfErr result (Fails (L.received link.old) (L.received link.new)) }
         ensures stays { IfErr result (λ _. (self.new.port ≡ self.old.port) × (L.sent link.new ≡ L.sent link.old)) }
         ensures cause { AskCause (L.faults link.old) (L.faults link.new) result }
+        ensures attached { L.attached link.new ≡ L.attached link.old }
     {
         let heard = self.hear(link, name)?;
         if let Some(answer) = self.follow(link, heard) {
@@ -150,6 +155,7 @@ impl ClientCore {
         ensures core { Keeps self.old self.new }
         ensures run { IsAsked (ask_in self.old name.now turns) self.old.port self.new.port (L.sent link.old) (L.sent link.new) (L.received link.old) (L.received link.new) result }
         ensures cause { AskCause (L.faults link.old) (L.faults link.new) result }
+        ensures attached { L.attached link.new ≡ L.attached link.old }
     {
         self.ask_at(link, self.port);
         for done in 0..turns {
@@ -175,6 +181,7 @@ impl ClientCore {
         ensures group { (self.new.cluster ≡ self.old.cluster) × (self.new.n ≡ self.old.n) }
         ensures id { self.new.id ≡ self.old.id }
         ensures cause { AskCause (L.faults link.old) (L.faults link.new) result }
+        ensures attached { L.attached link.new ≡ L.attached link.old }
     {
         let name = self.write_request(operation)?;
         self.wait(link, &name, turns)

@@ -1,5 +1,5 @@
 -- Messages of one group among all that comes over a link.
-use Rattle.std.specs.Prelude.{ℕ, ◌≡◌, ◌≤◌, ⊤, List, [], ◌∷◌, Option, Some, None, Result, Ok, Err}
+use Rattle.std.specs.Prelude.{ℕ, ◌≡◌, ◌≤◌, ⊤, List, [], ◌∷◌, Option, Some, None, Result, Ok, Err, OnOk}
 use Rattle.vr_base.specs.Causes.{Rose}
 use Rattle.vr_edge.specs.Datagrams.{Arrival, Failed, Nothing, Came}
 use Rattle.vr_msg.specs.Spelling.{Spells}
@@ -58,10 +58,12 @@ Gives cluster arrival (Ok letter) = Brings cluster arrival letter
 Gives cluster arrival (Err fault.Link) = arrival ≡ Failed
 Gives cluster arrival (Err fault.NoMemory) = IsMessage arrival
 
--- the link's faults don't fall, and where it failed they rose
+-- the link's faults don't fall; where it failed they rose, and no other answer adds to them
 pub record ReceiveCause {T : Type 0} (before now : ℕ) (result : Result T ReceiveFault) : Type 0 where
   pub later : before ≤ now
+  pub kept : OnOk result (now ≡ before)
   pub failed : result ≡ Err fault.Link → Rose before now
+  pub wanted : result ≡ Err fault.NoMemory → now ≡ before
 
 -- the same receive; or nothing, in place of a datagram that is refused
 abbrev pub Stills : ℕ → Arrival → Arrival → Type 0

@@ -71,6 +71,7 @@ pub fn receive_letter<L: Link>(
     ensures sent { L.sent link.new ≡ L.sent link.old }
     ensures others { L.send_faults link.new ≡ L.send_faults link.old }
     ensures room { RECEIVE_ROOM ≤ vec_capacity to.new }
+    ensures attached { L.attached link.new ≡ L.attached link.old }
 {
     let Received::Datagram(port) = link.receive(to)? else {
         return Ok(None);

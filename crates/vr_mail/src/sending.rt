@@ -14,6 +14,7 @@ pub fn send_bytes<L: Link>(link: &mut L, port: u32, bytes: &[u8])
     ensures sent { Sends (datagram_at port bytes.now ∷ []) (L.sent link.old) (L.sent link.new) }
     ensures received { L.received link.new ≡ L.received link.old }
     ensures faults { L.faults link.new ≡ L.faults link.old }
+    ensures attached { L.attached link.new ≡ L.attached link.old }
 {
     let _ = link.send(port, bytes);
 }
@@ -29,6 +30,7 @@ pub fn send_message<L: Link>(
     ensures unsent { OnErr result (L.sent link.new ≡ L.sent link.old) }
     ensures received { L.received link.new ≡ L.received link.old }
     ensures faults { L.faults link.new ≡ L.faults link.old }
+    ensures attached { L.attached link.new ≡ L.attached link.old }
 {
     bytes.clear();
     encode(message, bytes)?;

@@ -1,18 +1,14 @@
 -- A member is made, or found again.
-use Rattle.std.proofs.Common.{◌≡◌, true, false, List, [], Option, Result, Ok, Err, refl, subst, sym}
+use Rattle.std.proofs.Common.{◌≡◌, true, false, List, [], Option, Result, Err, refl, subst, sym}
 use Rattle.vr_base.specs.declared.table.Config.{Config}
 use Rattle.vr_disk.specs.DiskState.{Disk}
 use Rattle.vr_msg.specs.declared.output.Output.{Output}
 use Rattle.vr_node.specs.Opening.{Opening}
-use Rattle.vr_opening.specs.Making.{Made}
 use Rattle.vr_opening.specs.Recovering.{Recovered}
-use Rattle.vr_opening.specs.declared.new_member.FreshFault.{FreshFault}
-use Rattle.vr_opening.specs.declared.reopen.Refusal.{Refusal}
 use Rattle.vr_opening.specs.declared.reopen.Refusal.TheVariants as found
 use Rattle.vr_replica.specs.Running.{Running}
 use Rattle.vr_status.specs.declared.status.Status.{Status}
 use Rattle.vr_status.specs.declared.status.Status.TheVariants as status
-use Rattle.vr_step.specs.declared.halt.Halt.{Halt}
 use Rattle.vr_step.specs.declared.halt.Halt.TheVariants as halt
 use Rattle.vr_super.specs.declared.recovering.CopyVerdict.{CopyVerdict}
 

@@ -1,16 +1,20 @@
 -- The whole run of a member.
-use Rattle.std.specs.Prelude.{ℕ, ◌≡◌, ◌⊎◌, true, false, Bool, List, Option}
+use Rattle.std.specs.Prelude.{ℕ, ◌≡◌, ◌⊎◌, true, false, Bool, List, [], ◌∷◌, Option, get_or}
 use Rattle.vr_base.specs.Causes.{Rose}
 use Rattle.vr_base.specs.declared.table.Config.{Config}
 use Rattle.vr_disk.specs.DiskState.{Attaches, Disk}
+use Rattle.vr_edge.specs.Attaching.{attach_of}
 use Rattle.vr_edge.specs.Datagrams.{Arrival}
+use Rattle.vr_edge.specs.Failing.{EndsFailed}
+use Rattle.vr_edge.specs.Told.{Grows}
+use Rattle.vr_edge.specs.declared.attach.Attach.{Attach}
 use Rattle.vr_edge.specs.declared.datagram.Datagram.{Datagram}
 use Rattle.vr_msg.specs.declared.output.Output.{Output}
 use Rattle.vr_node.specs.Opening.{Opens, OpensNone}
 use Rattle.vr_node.specs.Steps.{steps}
 use Rattle.vr_node.specs.declared.node.Node.{Node}
 use Rattle.vr_serve.specs.Causes.{Counts}
-use Rattle.vr_serve.specs.Runs.{EndsFailed, IsCutBefore, IsCutInTurn, IsServed}
+use Rattle.vr_serve.specs.Runs.{IsCutBefore, IsCutInTurn, IsServed}
 use Rattle.vr_status.specs.declared.status.Status.{Status}
 use Rattle.vr_status.specs.declared.status.Status.TheVariants.{Done, WriteFault, DiskFault, LinkFault, NoMemory}
 
@@ -21,9 +25,10 @@ pub record Outside : Type 0 where
   pub got : Option (List Arrival)
   pub taken : Option (List ℕ)
   pub sent : Option (List (Option Datagram))
+  pub attached : Option (List Attach)
 
-abbrev pub outside : Option Disk → Option (List ℕ) → Option (List Arrival) → Option (List ℕ) → Option (List (Option Datagram)) → Outside
-outside disk left got taken sent = record { disk = disk; left = left; got = got; taken = taken; sent = sent }
+abbrev pub outside : Option Disk → Option (List ℕ) → Option (List Arrival) → Option (List ℕ) → Option (List (Option Datagram)) → Option (List Attach) → Outside
+outside disk left got taken sent attached = record { disk = disk; left = left; got = got; taken = taken; sent = sent; attached = attached }
 
 -- with this told by the disk
 abbrev pub on_disk : Option Disk → Outside → Outside
@@ -45,22 +50,32 @@ ServeEnds turns first node o o' before now WriteFault = Rose before.write now.wr
 ServeEnds turns first node o o' before now NoMemory = IsCut turns first node o o'
 ServeEnds turns first node o o' before now _ = ⊥
 
+-- the link was attached, once: the member's own address is that with its number among those of all
+abbrev pub TakesLink : List (List ℕ) → ℕ → Bool → Outside → Outside → Type 0
+TakesLink peers member is_done o o' = Grows o.attached o'.attached (attach_of (get_or peers member []) peers is_done ∷ [])
+
 -- the link couldn't be attached
-pub record Unlinked (o o' : Outside) (before now : Counts) (status : Status) : Type 0 where
+pub record Unlinked (peers : List (List ℕ)) (member : ℕ) (o o' : Outside) (before now : Counts) (status : Status) : Type 0 where
   pub is : status ≡ LinkFault
   pub rose : Rose before.link now.link
-  pub same : o' ≡ o
+  pub attached : TakesLink peers member false o o'
+  pub same : o' ≡ record o { attached = o'.attached }
+
+-- how a member ends that was opened: first its link, then its turns
+abbrev pub GroupEnds : List (List ℕ) → ℕ → ℕ → List Output → Node → Outside → Outside → Counts → Counts → Status → Type 0
+GroupEnds peers member turns first node o o' before now status =
+    Unlinked peers member o o' before now status ⊎ (TakesLink peers member true o o' × ServeEnds turns first node o o' before now status)
 
 -- a member that was opened
-pub record Ran (fresh : Bool) (c : Config) (turns : ℕ) (o o' : Outside) (before now : Counts) (status : Status) : Type 0 where
+pub record Ran (fresh : Bool) (c : Config) (peers : List (List ℕ)) (turns : ℕ) (o o' : Outside) (before now : Counts) (status : Status) : Type 0 where
   pub disk : Option Disk
   pub first : List Output
   pub node : Node
   pub opens : Opens fresh c o.disk disk first node.replica.memory
   pub runs : node.replica.running ≡ true
-  pub ends : Unlinked (on_disk disk o) o' before now status ⊎ ServeEnds turns first node (on_disk disk o) o' before now status
+  pub ends : GroupEnds peers c.replica turns first node (on_disk disk o) o' before now status
 
--- there is no member to be run
+-- there is no member to be run: the link isn't attached
 pub record Unopened (fresh : Bool) (c : Config) (o o' : Outside) (before now : Counts) (status : Status) : Type 0 where
   pub why : OpensNone fresh c o.disk o'.disk status
   pub rose : status ≡ DiskFault → Rose before.disk now.disk
@@ -74,12 +89,12 @@ pub record Unattached (o o' : Outside) (before now : Counts) (status : Status) :
   pub same : o' ≡ on_disk o'.disk o
 
 -- how a member ends whose disk is attached
-abbrev pub EndsAttached : Bool → Config → ℕ → Outside → Outside → Counts → Counts → Status → Type 0
-EndsAttached fresh c turns o o' before now status =
-    Unopened fresh c o o' before now status ⊎ Ran fresh c turns o o' before now status
+abbrev pub EndsAttached : Bool → Config → List (List ℕ) → ℕ → Outside → Outside → Counts → Counts → Status → Type 0
+EndsAttached fresh c peers turns o o' before now status =
+    Unopened fresh c o o' before now status ⊎ Ran fresh c peers turns o o' before now status
 
--- How a member of this number ends, made anew or not, that is to serve so many turns: first its disk, then its superblock, then its link, then its events in turn
-abbrev pub NodeEnds : Bool → Config → ℕ → Outside → Outside → Counts → Counts → Status → Type 0
-NodeEnds fresh c turns o o' before now status =
+-- How a member of this number ends, made anew or not, whose group has these addresses and that is to serve so many turns: first its disk, then its superblock, then its link, then its events in turn
+abbrev pub NodeEnds : Bool → Config → List (List ℕ) → ℕ → Outside → Outside → Counts → Counts → Status → Type 0
+NodeEnds fresh c peers turns o o' before now status =
     Unattached o o' before now status
-    ⊎ ((disk : Option Disk) × Attaches o.disk disk true × EndsAttached fresh c turns (on_disk disk o) o' before now status)
+    ⊎ ((disk : Option Disk) × Attaches o.disk disk true × EndsAttached fresh c peers turns (on_disk disk o) o' before now status)

@@ -1,8 +1,5 @@
 -- What a member of a group does at an event.
-use Rattle.std.specs.Prelude.{[], List, Option, Ok}
-use Rattle.vr_disk.specs.DiskState.{Disk}
-use Rattle.vr_msg.specs.declared.event.Event.{Event}
-use Rattle.vr_msg.specs.declared.output.Output.{Output}
+use Rattle.std.specs.Prelude.{[], Ok}
 use Rattle.vr_node.specs.declared.node.Node.{Node}
 use Rattle.vr_rules.specs.Rules.{react}
 use Rattle.vr_serve.specs.Runs.{Doing}

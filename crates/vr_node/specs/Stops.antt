@@ -1,4 +1,4 @@
--- The status of a loop that ended early, and the counts of faults at an end.
+-- The status of a loop that ended early, and the count of the disk's faults at an end.
 use Rattle.std.specs.Prelude.{ℕ}
 use Rattle.vr_base.specs.Causes.{one_more}
 use Rattle.vr_serve.specs.declared.stop.Stop.{Stop}
@@ -16,8 +16,3 @@ status_of stop.NoMemory = NoMemory
 abbrev pub disk_after : Status → ℕ → ℕ
 disk_after DiskFault count = one_more count
 disk_after _ count = count
-
--- that of the sink's
-abbrev pub writes_after : Status → ℕ → ℕ
-writes_after WriteFault count = one_more count
-writes_after _ count = count

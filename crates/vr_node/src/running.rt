@@ -1,10 +1,12 @@
 //! The whole run of a member.
-ghost use Rattle.std.specs.Prelude.{◌≡◌, ◌⊎◌, ◌<◌, ◌≤◌, is_some, true, vec_len};
-ghost use Rattle.vr_base.specs.Causes.{Rose};
+ghost use Rattle.std.specs.Prelude.{◌≡◌, ◌<◌, ◌≤◌, is_some, true, vec_len};
 ghost use Rattle.vr_base.specs.Groups.{quorums_of};
-ghost use Rattle.vr_node.specs.Running.{EndsAttached, NodeEnds, ServeEnds, Unlinked, outside};
-ghost use Rattle.vr_node.specs.Stops.{disk_after, status_of, writes_after};
+ghost use Rattle.vr_edge.specs.Attaching.{texts_of};
+ghost use Rattle.vr_edge.specs.Failing.{LinkFailure};
+ghost use Rattle.vr_node.specs.Running.{EndsAttached, GroupEnds, NodeEnds, ServeEnds, outside};
+ghost use Rattle.vr_node.specs.Stops.{disk_after, status_of};
 ghost use Rattle.vr_serve.specs.Causes.{counts};
+ghost use Rattle.vr_status.specs.Counts.{writes_after};
 
 use crate::opening::open_member;
 use crate::{Node, Role, serve};
@@ -41,9 +43,10 @@ fn serve_turns<D: SectorDisk, L: Link, C: Clock, K: Sink>(
     turns: u64,
 ) -> Status
     requires { node.old.replica.running ≡ true }
-    ensures ends { ServeEnds turns first node.old (outside (D.told disk.old) (C.left clock.old) (L.received link.old) (K.taken sink.old) (L.sent link.old))
-        (outside (D.told disk.new) (C.left clock.new) (L.received link.new) (K.taken sink.new) (L.sent link.new))
+    ensures ends { ServeEnds turns first node.old (outside (D.told disk.old) (C.left clock.old) (L.received link.old) (K.taken sink.old) (L.sent link.old) (L.attached link.old))
+        (outside (D.told disk.new) (C.left clock.new) (L.received link.new) (K.taken sink.new) (L.sent link.new) (L.attached link.new))
         (counts (D.faults disk.old) (K.faults sink.old) (L.faults link.old)) (counts (D.faults disk.new) (K.faults sink.new) (L.faults link.new)) result }
+    ensures attached { L.attached link.new ≡ L.attached link.old }
     // A fault of the disk or of the sink is told: no other end leaves one.
     ensures disk { D.faults disk.new ≡ disk_after result (D.faults disk.old) }
     ensures write { K.faults sink.new ≡ writes_after result (K.faults sink.old) }
@@ -55,7 +58,7 @@ fn serve_turns<D: SectorDisk, L: Link, C: Clock, K: Sink>(
 }
 
 /// Attaches the link, and serves.
-#[tactic(auto, using(crate::proofs::Ends::linked, crate::proofs::Ends::unlinked))]
+#[tactic(auto, using(crate::proofs::Ends::linked, crate::proofs::Ends::own_address, crate::proofs::Ends::unlinked))]
 fn serve_group<D: SectorDisk, L: Link, C: Clock, K: Sink>(
     alloc: Global,
     role: &Role,
@@ -68,11 +71,9 @@ fn serve_group<D: SectorDisk, L: Link, C: Clock, K: Sink>(
 ) -> Status
     requires running { node.old.replica.running ≡ true }
     requires member { role.now.config.replica < vec_len role.now.peers }
-    ensures ends { Unlinked (outside (D.told disk.old) (C.left clock.old) (L.received link.old) (K.taken sink.old) (L.sent link.old))
-        (outside (D.told disk.new) (C.left clock.new) (L.received link.new) (K.taken sink.new) (L.sent link.new))
-        (counts (D.faults disk.old) (K.faults sink.old) (L.faults link.old)) (counts (D.faults disk.new) (K.faults sink.new) (L.faults link.new)) result
-        ⊎ ServeEnds role.now.turns first node.old (outside (D.told disk.old) (C.left clock.old) (L.received link.old) (K.taken sink.old) (L.sent link.old))
-        (outside (D.told disk.new) (C.left clock.new) (L.received link.new) (K.taken sink.new) (L.sent link.new))
+    ensures ends { GroupEnds (texts_of role.now.peers.items) role.now.config.replica role.now.turns first node.old
+        (outside (D.told disk.old) (C.left clock.old) (L.received link.old) (K.taken sink.old) (L.sent link.old) (L.attached link.old))
+        (outside (D.told disk.new) (C.left clock.new) (L.received link.new) (K.taken sink.new) (L.sent link.new) (L.attached link.new))
         (counts (D.faults disk.old) (K.faults sink.old) (L.faults link.old)) (counts (D.faults disk.new) (K.faults sink.new) (L.faults link.new)) result }
     // A fault of the disk or of the sink is told: no other end leaves one.
     ensures disk { D.faults disk.new ≡ disk_after result (D.faults disk.old) }
@@ -98,8 +99,9 @@ fn open_and_serve<D: SectorDisk, L: Link, C: Clock, K: Sink>(
     requires size { is_some (quorums_of role.now.config.n) ≡ true }
     requires member { role.now.config.replica < role.now.config.n }
     requires peers { role.now.config.n ≤ vec_len role.now.peers }
-    ensures ends { EndsAttached role.now.is_fresh role.now.config role.now.turns (outside (D.told disk.old) (C.left clock.old) (L.received link.old) (K.taken sink.old) (L.sent link.old))
-        (outside (D.told disk.new) (C.left clock.new) (L.received link.new) (K.taken sink.new) (L.sent link.new))
+    ensures ends { EndsAttached role.now.is_fresh role.now.config (texts_of role.now.peers.items) role.now.turns
+        (outside (D.told disk.old) (C.left clock.old) (L.received link.old) (K.taken sink.old) (L.sent link.old) (L.attached link.old))
+        (outside (D.told disk.new) (C.left clock.new) (L.received link.new) (K.taken sink.new) (L.sent link.new) (L.attached link.new))
         (counts (D.faults disk.old) (K.faults sink.old) (L.faults link.old)) (counts (D.faults disk.new) (K.faults sink.new) (L.faults link.new)) result }
     // A fault of the disk or of the sink is told: no other end leaves one.
     ensures disk { D.faults disk.new ≡ disk_after result (D.faults disk.old) }
@@ -123,7 +125,7 @@ fn open_and_serve<D: SectorDisk, L: Link, C: Clock, K: Sink>(
 
 /// A member in its role: its disk is attached, the member is made or found again, its link is attached, and it serves its turns, each
 /// event one step of the rules. Its end has its cause: what stands on the disk, or a fault that the count of its object tells.
-#[tactic(auto, using(crate::proofs::Ends::attached, crate::proofs::Ends::unattached, crate::proofs::Ends::node_link))]
+#[tactic(auto, using(crate::proofs::Ends::attached, crate::proofs::Ends::unattached))]
 pub fn run_node<D: SectorDisk, L: Link, C: Clock, K: Sink>(
     alloc: Global,
     role: &Role,
@@ -135,13 +137,15 @@ pub fn run_node<D: SectorDisk, L: Link, C: Clock, K: Sink>(
     requires size { is_some (quorums_of role.now.config.n) ≡ true }
     requires member { role.now.config.replica < role.now.config.n }
     requires peers { role.now.config.n ≤ vec_len role.now.peers }
-    ensures ends { NodeEnds role.now.is_fresh role.now.config role.now.turns (outside (D.told disk.old) (C.left clock.old) (L.received link.old) (K.taken sink.old) (L.sent link.old))
-        (outside (D.told disk.new) (C.left clock.new) (L.received link.new) (K.taken sink.new) (L.sent link.new))
+    ensures ends { NodeEnds role.now.is_fresh role.now.config (texts_of role.now.peers.items) role.now.turns
+        (outside (D.told disk.old) (C.left clock.old) (L.received link.old) (K.taken sink.old) (L.sent link.old) (L.attached link.old))
+        (outside (D.told disk.new) (C.left clock.new) (L.received link.new) (K.taken sink.new) (L.sent link.new) (L.attached link.new))
         (counts (D.faults disk.old) (K.faults sink.old) (L.faults link.old)) (counts (D.faults disk.new) (K.faults sink.new) (L.faults link.new)) result }
-    // A fault of the disk or of the sink is told, and no other answer leaves one. One of the link has its cause there.
+    // A fault of the disk or of the sink is told, and no other answer leaves one. One of the link has its cause there: where it
+    // tells, the attach failed or the last receive.
     ensures disk { D.faults disk.new ≡ disk_after result (D.faults disk.old) }
     ensures write { K.faults sink.new ≡ writes_after result (K.faults sink.old) }
-    ensures link { result ≡ Status.LinkFault → Rose (L.faults link.old) (L.faults link.new) }
+    ensures link { result ≡ Status.LinkFault → LinkFailure (L.faults link.old) (L.faults link.new) (L.attached link.old) (L.attached link.new) (L.received link.old) (L.received link.new) }
 {
     match disk.attach(role.file.as_str()) {
         Ok(()) => open_and_serve(alloc, role, disk, link, clock, sink),

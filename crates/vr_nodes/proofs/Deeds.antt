@@ -107,11 +107,11 @@ has_served turns first node o o' b n status.Occupied e = absurd e
 has_served turns first node o o' b n status.NoAnswer e = absurd e
 has_served turns first node o o' b n status.SpawnFault e = absurd e
 
-pub runs_deeds : (fresh : Bool) (c : Config) (turns : ℕ) (o o' : Outside) (before now : Counts) (s : Status) → Ran fresh c turns o o' before now s → HasDeeds fresh c o o'
-runs_deeds fresh c turns o o' before now s r =
+pub runs_deeds : (fresh : Bool) (c : Config) (peers : List (List ℕ)) (turns : ℕ) (o o' : Outside) (before now : Counts) (s : Status) → Ran fresh c peers turns o o' before now s → HasDeeds fresh c o o'
+runs_deeds fresh c peers turns o o' before now s r =
     let has : Has r.first r.node r.disk o.taken o'.taken =
     elim r.ends [
       | inl h ↦ has_none r.first r.node r.disk o.taken o'.taken (subst (λ (z : Outside). AppendsFront o.taken z.taken (text_from 0 r.first)) (sym h.same) (front_none o.taken (text_from 0 r.first)))
-      | inr h ↦ has_served turns r.first r.node (on_disk r.disk o) o' before now s h
+      | inr h ↦ has_served turns r.first r.node (on_disk r.disk o) o' before now s h.1
     ] in
     record { disk = r.disk; first = r.first; node = r.node; opens = r.opens; dids = has.dids; last = has.last; left = has.left; run = has.run; taken = has.taken }

@@ -27,4 +27,4 @@ pub record HasDeeds (fresh : Bool) (c : Config) (o o' : Outside) : Type 0 where
 
 -- so does each run of a member whose disk was attached and that was opened, however it ends
 abbrev pub RunsAreDeeds : Type 0
-RunsAreDeeds = (fresh : Bool) (c : Config) (turns : ℕ) (o o' : Outside) (before now : Counts) (status : Status) → Ran fresh c turns o o' before now status → HasDeeds fresh c o o'
+RunsAreDeeds = (fresh : Bool) (c : Config) (peers : List (List ℕ)) (turns : ℕ) (o o' : Outside) (before now : Counts) (status : Status) → Ran fresh c peers turns o o' before now status → HasDeeds fresh c o o'

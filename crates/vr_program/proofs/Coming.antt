@@ -65,10 +65,12 @@ pub node_fits : (w : NodeWords) → (config_of (node_says w)).n ≤ vec_len w.pe
 node_fits w = let same : length (map string_bytes w.peers.items) ≡ vec_len w.peers = node_peers w in omega (arith, same)
 
 -- the run of a member in its role is that of its words
-pub by_role : (fresh fresh' : Bool) (c c' : Config) (turns turns' : ℕ) (o o' : node.Outside) (b n : serve.Counts) (s : Status)
-    → fresh ≡ fresh' → c ≡ c' → turns ≡ turns' → node.NodeEnds fresh c turns o o' b n s → node.NodeEnds fresh' c' turns' o o' b n s
-by_role fresh fresh' c c' turns turns' o o' b n s f k t e =
-    subst (λ x. node.NodeEnds x c' turns' o o' b n s) f (subst (λ x. node.NodeEnds fresh x turns' o o' b n s) k (subst (λ x. node.NodeEnds fresh c x o o' b n s) t e))
+pub by_role : (fresh fresh' : Bool) (c c' : Config) (peers peers' : List (List ℕ)) (turns turns' : ℕ) (o o' : node.Outside) (b n : serve.Counts) (s : Status)
+    → fresh ≡ fresh' → c ≡ c' → peers ≡ peers' → turns ≡ turns' → node.NodeEnds fresh c peers turns o o' b n s → node.NodeEnds fresh' c' peers' turns' o o' b n s
+by_role fresh fresh' c c' peers peers' turns turns' o o' b n s f k p t e =
+    subst (λ x. node.NodeEnds x c' peers' turns' o o' b n s) f
+    (subst (λ x. node.NodeEnds fresh x peers' turns' o o' b n s) k
+    (subst (λ x. node.NodeEnds fresh c x turns' o o' b n s) p (subst (λ x. node.NodeEnds fresh c peers x o o' b n s) t e)))
 
 -- ---- a client's words
 
@@ -85,8 +87,8 @@ pub client_named : (w : ClientWords) → IsGood (Client (client_says w)) → w.i
 client_named w h = h.1
 
 pub by_client : (w : ClientWords) (o o' : run.Outside) (b n : ask.Faults) (s : Status)
-    → run.ClientEnds (run.client_with w.cluster w.id (vec_len w.peers) w.turns) o o' b n s → run.ClientEnds (client_of (client_says w)) o o' b n s
-by_client w o o' b n s e = subst (λ k. run.ClientEnds (run.client_with w.cluster w.id k w.turns) o o' b n s) (sym (client_peers w)) e
+    → run.ClientEnds (run.client_with w.cluster w.id (vec_len w.peers) w.turns) (map string_bytes w.peers.items) o o' b n s → run.ClientEnds (client_of (client_says w)) (client_says w).peers o o' b n s
+by_client w o o' b n s e = subst (λ k. run.ClientEnds (run.client_with w.cluster w.id k w.turns) (map string_bytes w.peers.items) o o' b n s) (sym (client_peers w)) e
 
 -- ---- a trial's words
 
@@ -113,11 +115,11 @@ by_plan p q o o' b n s same e = subst (λ t. trial.TrialEnds t o o' b n s) same 
 -- ---- what a command comes to
 
 pub serves : (a : NodeAsked) (o o' : Outside) (b n : Faults) (s : Status)
-    → node.NodeEnds a.is_fresh (config_of a) a.turns (of_member o) (of_member o') (counts_of b) (counts_of n) s → o'.source ≡ o.source → o'.calls ≡ o.calls → Comes (Some (Node a)) o o' b n (Some s)
+    → node.NodeEnds a.is_fresh (config_of a) a.peers a.turns (of_member o) (of_member o') (counts_of b) (counts_of n) s → o'.source ≡ o.source → o'.calls ≡ o.calls → Comes (Some (Node a)) o o' b n (Some s)
 serves a o o' b n s e u k = (s, refl, record { ends = e; unread = u; calls = k })
 
 pub asks : (a : ClientAsked) (o o' : Outside) (b n : Faults) (s : Status)
-    → run.ClientEnds (client_of a) (of_client o) (of_client o') (faults_of b) (faults_of n) s → o'.disk ≡ o.disk → o'.clock ≡ o.clock → o'.calls ≡ o.calls → Comes (Some (Client a)) o o' b n (Some s)
+    → run.ClientEnds (client_of a) a.peers (of_client o) (of_client o') (faults_of b) (faults_of n) s → o'.disk ≡ o.disk → o'.clock ≡ o.clock → o'.calls ≡ o.calls → Comes (Some (Client a)) o o' b n (Some s)
 asks a o o' b n s e d c k = (s, refl, record { ends = e; disk = d; clock = c; calls = k })
 
 pub tries : (a : TrialAsked) (o o' : Outside) (b n : Faults) (s : Status)

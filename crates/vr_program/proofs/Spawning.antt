@@ -18,19 +18,19 @@ use Rattle.vr_words.specs.Asked.{Asked, Client, Node, Replay, Soak, Trial}
 
 -- ---- a member never ends so
 
-linked : (turns : ℕ) (first : List Output) (m : Member) (o o' : node.Outside) (b n : serve.Counts)
-    → node.Unlinked o o' b n status.SpawnFault ⊎ node.ServeEnds turns first m o o' b n status.SpawnFault → ⊥
-linked turns first m o o' b n (inl x) = cc x.is
-linked turns first m o o' b n (inr x) = x
+group : (peers : List (List ℕ)) (member turns : ℕ) (first : List Output) (m : Member) (o o' : node.Outside) (b n : serve.Counts)
+    → node.GroupEnds peers member turns first m o o' b n status.SpawnFault → ⊥
+group peers member turns first m o o' b n (inl x) = cc x.is
+group peers member turns first m o o' b n (inr x) = x.1
 
-attached : (fresh : Bool) (c : Config) (turns : ℕ) (o o' : node.Outside) (b n : serve.Counts) → node.EndsAttached fresh c turns o o' b n status.SpawnFault → ⊥
-attached true c turns o o' b n (inl x) = x.why
-attached false c turns o o' b n (inl x) = x.why
-attached fresh c turns o o' b n (inr x) = linked turns x.first x.node (node.on_disk x.disk o) o' b n x.ends
+attached : (fresh : Bool) (c : Config) (peers : List (List ℕ)) (turns : ℕ) (o o' : node.Outside) (b n : serve.Counts) → node.EndsAttached fresh c peers turns o o' b n status.SpawnFault → ⊥
+attached true c peers turns o o' b n (inl x) = x.why
+attached false c peers turns o o' b n (inl x) = x.why
+attached fresh c peers turns o o' b n (inr x) = group peers c.replica turns x.first x.node (node.on_disk x.disk o) o' b n x.ends
 
-serves : (fresh : Bool) (c : Config) (turns : ℕ) (o o' : node.Outside) (b n : serve.Counts) → node.NodeEnds fresh c turns o o' b n status.SpawnFault → ⊥
-serves fresh c turns o o' b n (inl x) = cc x.is
-serves fresh c turns o o' b n (inr x) = attached fresh c turns (node.on_disk x.0 o) o' b n x.2
+serves : (fresh : Bool) (c : Config) (peers : List (List ℕ)) (turns : ℕ) (o o' : node.Outside) (b n : serve.Counts) → node.NodeEnds fresh c peers turns o o' b n status.SpawnFault → ⊥
+serves fresh c peers turns o o' b n (inl x) = cc x.is
+serves fresh c peers turns o o' b n (inr x) = attached fresh c peers turns (node.on_disk x.0 o) o' b n x.2
 
 -- ---- nor does a client
 
@@ -43,9 +43,10 @@ runs : (c : ask.Client) (r : run.Reading) (s : ask.Stand) (r' : run.Reading) (s'
 runs c r s r' s' b n (inl x) = x.1
 runs c r s r' s' b n (inr x) = stops c _ x.3.reads x.3.stands r' s' b n x.3.ends
 
-asks : (c : ask.Client) (o o' : run.Outside) (b n : ask.Faults) → run.ClientEnds c o o' b n status.SpawnFault → ⊥
-asks c o o' b n (inl x) = x
-asks c o o' b n (inr x) = runs c _ _ _ _ b n x.ends
+asks : (c : ask.Client) (peers : List (List ℕ)) (o o' : run.Outside) (b n : ask.Faults) → run.ClientEnds c peers o o' b n status.SpawnFault → ⊥
+asks c peers o o' b n (inl x) = cc x.is
+asks c peers o o' b n (inr (_, inl x)) = cc x.is
+asks c peers o o' b n (inr (_, inr x)) = runs c _ _ _ _ b n x.ends
 
 -- ---- nor a summary
 
@@ -61,10 +62,10 @@ comes (Soak w) o o' b n x =
     absurd (soaks b.sink n.sink o.sink o'.sink (soak_text w.seed w.count) (subst (λ s. SoakEnds b.sink n.sink o.sink o'.sink (soak_text w.seed w.count) s) same x.2.ends))
 comes (Node a) o o' b n x =
     let same : x.0 ≡ status.SpawnFault = cc x.1 in
-    absurd (serves a.is_fresh (config_of a) a.turns (of_member o) (of_member o') (counts_of b) (counts_of n) (subst (λ s. node.NodeEnds a.is_fresh (config_of a) a.turns (of_member o) (of_member o') (counts_of b) (counts_of n) s) same x.2.ends))
+    absurd (serves a.is_fresh (config_of a) a.peers a.turns (of_member o) (of_member o') (counts_of b) (counts_of n) (subst (λ s. node.NodeEnds a.is_fresh (config_of a) a.peers a.turns (of_member o) (of_member o') (counts_of b) (counts_of n) s) same x.2.ends))
 comes (Client a) o o' b n x =
     let same : x.0 ≡ status.SpawnFault = cc x.1 in
-    absurd (asks (client_of a) (of_client o) (of_client o') (faults_of b) (faults_of n) (subst (λ s. run.ClientEnds (client_of a) (of_client o) (of_client o') (faults_of b) (faults_of n) s) same x.2.ends))
+    absurd (asks (client_of a) a.peers (of_client o) (of_client o') (faults_of b) (faults_of n) (subst (λ s. run.ClientEnds (client_of a) a.peers (of_client o) (of_client o') (faults_of b) (faults_of n) s) same x.2.ends))
 comes (Trial a) o o' b n x =
     let same : x.0 ≡ status.SpawnFault = cc x.1 in
     trial_spawn (trial_of a) (of_trial o) (of_trial o') (trial_faults b) (trial_faults n) x.0 x.2.ends same

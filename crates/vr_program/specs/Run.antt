@@ -5,6 +5,7 @@ use Rattle.vr_ask.specs.Run as run
 use Rattle.vr_base.specs.declared.table.Config.{Config}
 use Rattle.vr_disk.specs.DiskState.{Disk}
 use Rattle.vr_edge.specs.Datagrams.{Arrival}
+use Rattle.vr_edge.specs.declared.attach.Attach.{Attach}
 use Rattle.vr_edge.specs.declared.datagram.Datagram.{Datagram}
 use Rattle.vr_node.specs.Running as node
 use Rattle.vr_serve.specs.Causes as serve
@@ -12,6 +13,7 @@ use Rattle.vr_soak.specs.Ends.{SoakEnds}
 use Rattle.vr_soak.specs.Headline.{SoakHasOneLog}
 use Rattle.vr_soak.specs.Summing.{soak_text}
 use Rattle.vr_spawn.specs.declared.spawner.SpawnCall.{SpawnCall}
+use Rattle.vr_status.specs.Counts as counts
 use Rattle.vr_status.specs.declared.status.Status.{Status}
 use Rattle.vr_status.specs.declared.status.Status.TheVariants.{Usage, NoMemory}
 use Rattle.vr_trial.specs.Run as trial
@@ -28,10 +30,11 @@ pub record Outside : Type 0 where
   pub sent : Option (List (Option Datagram))
   pub clock : Option (List ℕ)
   pub calls : Option (List SpawnCall)
+  pub attached : Option (List Attach)
 
-abbrev pub outside : Option (List ℕ) → Option (List ℕ) → Option Disk → Option (List Arrival) → Option (List (Option Datagram)) → Option (List ℕ) → Option (List SpawnCall) → Outside
-outside source sink disk got sent clock calls =
-    record { source = source; sink = sink; disk = disk; got = got; sent = sent; clock = clock; calls = calls }
+abbrev pub outside : Option (List ℕ) → Option (List ℕ) → Option Disk → Option (List Arrival) → Option (List (Option Datagram)) → Option (List ℕ) → Option (List SpawnCall) → Option (List Attach) → Outside
+outside source sink disk got sent clock calls attached =
+    record { source = source; sink = sink; disk = disk; got = got; sent = sent; clock = clock; calls = calls; attached = attached }
 
 -- their counts of faults
 pub record Faults : Type 0 where
@@ -46,13 +49,13 @@ faults source sink disk link spawner = record { source = source; sink = sink; di
 
 -- those that a member has, that a client has, and that a trial has
 abbrev pub of_member : Outside → node.Outside
-of_member o = node.outside o.disk o.clock o.got o.sink o.sent
+of_member o = node.outside o.disk o.clock o.got o.sink o.sent o.attached
 
 abbrev pub of_client : Outside → run.Outside
-of_client o = run.outside o.sent o.got o.sink o.source
+of_client o = run.outside o.sent o.got o.sink o.source o.attached
 
 abbrev pub of_trial : Outside → trial.Outside
-of_trial o = trial.outside o.sent o.got o.sink o.calls
+of_trial o = trial.outside o.sent o.got o.sink o.calls o.attached
 
 abbrev pub counts_of : Faults → serve.Counts
 counts_of f = serve.counts f.disk f.sink f.link
@@ -75,13 +78,13 @@ trial_of a = record { client = run.client_with a.cluster 1 (length a.peers) a.tu
 
 -- `node ..`: the run of a member, which reads nothing and starts no program
 pub record Serves (a : NodeAsked) (o o' : Outside) (before now : Faults) (status : Status) : Type 0 where
-  pub ends : node.NodeEnds a.is_fresh (config_of a) a.turns (of_member o) (of_member o') (counts_of before) (counts_of now) status
+  pub ends : node.NodeEnds a.is_fresh (config_of a) a.peers a.turns (of_member o) (of_member o') (counts_of before) (counts_of now) status
   pub unread : o'.source ≡ o.source
   pub calls : o'.calls ≡ o.calls
 
 -- `client ..`: the run of a client, which has no disk, looks at no clock and starts no program
 pub record Asks (a : ClientAsked) (o o' : Outside) (before now : Faults) (status : Status) : Type 0 where
-  pub ends : run.ClientEnds (client_of a) (of_client o) (of_client o') (faults_of before) (faults_of now) status
+  pub ends : run.ClientEnds (client_of a) a.peers (of_client o) (of_client o') (faults_of before) (faults_of now) status
   pub disk : o'.disk ≡ o.disk
   pub clock : o'.clock ≡ o.clock
   pub calls : o'.calls ≡ o.calls
@@ -110,6 +113,11 @@ Comes (Some (Trial a)) o o' before now result = (status : Status) × (result ≡
 -- the same, where memory for the words sufficed
 abbrev pub RunEnds : Option Asked → Outside → Outside → Faults → Faults → Option Status → Type 0
 RunEnds asked o o' before now result = ((result ≡ Some NoMemory) × (o' ≡ o)) ⊎ Comes asked o o' before now result
+
+-- the count of the sink's faults after an answer: each write that failed is told, and no other answer leaves one
+abbrev pub writes_after : Option Status → ℕ → ℕ
+writes_after None count = count
+writes_after (Some status) count = counts.writes_after status count
 
 -- the outputs of the schedule of `soak` have one log
 abbrev pub HasOneLog : Option Asked → Type 0

@@ -4,7 +4,7 @@ ghost use Rattle.vr_ask.specs.Asking.{faults as client_faults};
 ghost use Rattle.vr_ask.specs.Run.{ClientEnds, outside as client_outside};
 ghost use Rattle.vr_base.specs.Causes.{Rose};
 ghost use Rattle.vr_node.specs.Running.{NodeEnds, outside as member_outside};
-ghost use Rattle.vr_program.specs.Run.{Comes, HasOneLog, IsGood, RunEnds, client_of, config_of, faults, outside, trial_of};
+ghost use Rattle.vr_program.specs.Run.{Comes, HasOneLog, IsGood, RunEnds, client_of, config_of, faults, outside, trial_of, writes_after};
 ghost use Rattle.vr_serve.specs.Causes.{counts};
 ghost use Rattle.vr_trial.specs.Run.{TrialEnds, outside as trial_outside, faults as trial_faults};
 ghost use Rattle.vr_trial.specs.Told.{trial_of as plan_says};
@@ -54,10 +54,11 @@ fn serve_role<K: Sink, D: SectorDisk, L: Link, C: Clock>(
     clock: &mut C,
 ) -> Status
     requires { IsGood (Node (node_says words)) }
-    ensures { NodeEnds words.is_fresh (config_of (node_says words)) words.turns
-        (member_outside (D.told disk.old) (C.left clock.old) (L.received link.old) (K.taken sink.old) (L.sent link.old))
-        (member_outside (D.told disk.new) (C.left clock.new) (L.received link.new) (K.taken sink.new) (L.sent link.new))
+    ensures ends { NodeEnds words.is_fresh (config_of (node_says words)) (node_says words).peers words.turns
+        (member_outside (D.told disk.old) (C.left clock.old) (L.received link.old) (K.taken sink.old) (L.sent link.old) (L.attached link.old))
+        (member_outside (D.told disk.new) (C.left clock.new) (L.received link.new) (K.taken sink.new) (L.sent link.new) (L.attached link.new))
         (counts (D.faults disk.old) (K.faults sink.old) (L.faults link.old)) (counts (D.faults disk.new) (K.faults sink.new) (L.faults link.new)) result }
+    ensures write { K.faults sink.new ≡ writes_after (Some result) (K.faults sink.old) }
 {
     run_node(alloc, &role_of(words), disk, link, clock, sink)
 }
@@ -72,10 +73,11 @@ fn ask_group<S: Source, K: Sink, L: Link>(
     link: &mut L,
 ) -> Status
     requires { IsGood (Client (client_says words.now)) }
-    ensures { ClientEnds (client_of (client_says words.now))
-        (client_outside (L.sent link.old) (L.received link.old) (K.taken sink.old) (S.left source.old))
-        (client_outside (L.sent link.new) (L.received link.new) (K.taken sink.new) (S.left source.new))
+    ensures ends { ClientEnds (client_of (client_says words.now)) (client_says words.now).peers
+        (client_outside (L.sent link.old) (L.received link.old) (K.taken sink.old) (S.left source.old) (L.attached link.old))
+        (client_outside (L.sent link.new) (L.received link.new) (K.taken sink.new) (S.left source.new) (L.attached link.new))
         (client_faults (L.faults link.old) (K.faults sink.old)) (client_faults (L.faults link.new) (K.faults sink.new)) result }
+    ensures write { K.faults sink.new ≡ writes_after (Some result) (K.faults sink.old) }
 {
     run_client(
         alloc,
@@ -113,16 +115,17 @@ fn try_group<K: Sink, L: Link, P: Spawner>(
     spawner: &mut P,
 ) -> Status
     requires { IsGood (Trial (trial_says words)) }
-    ensures { TrialEnds (trial_of (trial_says words))
-        (trial_outside (L.sent link.old) (L.received link.old) (K.taken sink.old) (P.calls spawner.old))
-        (trial_outside (L.sent link.new) (L.received link.new) (K.taken sink.new) (P.calls spawner.new))
+    ensures ends { TrialEnds (trial_of (trial_says words))
+        (trial_outside (L.sent link.old) (L.received link.old) (K.taken sink.old) (P.calls spawner.old) (L.attached link.old))
+        (trial_outside (L.sent link.new) (L.received link.new) (K.taken sink.new) (P.calls spawner.new) (L.attached link.new))
         (trial_faults (L.faults link.old) (K.faults sink.old) (P.faults spawner.old)) (trial_faults (L.faults link.new) (K.faults sink.new) (P.faults spawner.new)) result }
+    ensures write { K.faults sink.new ≡ writes_after (Some result) (K.faults sink.old) }
 {
     run_trial(alloc, &plan_of(words), sink, link, spawner)
 }
 
 /// Does what a command asks for; `None`: it is `replay`, which the caller does.
-#[tactic(auto, using(crate::proofs::Coming::serves, crate::proofs::Coming::asks, crate::proofs::Coming::tries, crate::proofs::Coming::soaks))]
+#[tactic(auto, using(crate::proofs::Coming::serves, crate::proofs::Coming::asks, crate::proofs::Coming::tries, crate::proofs::Coming::soaks, crate::proofs::Writes::of_soak))]
 fn obey<S: Source, K: Sink, D: SectorDisk, L: Link, C: Clock, P: Spawner>(
     alloc: Global,
     command: Command,
@@ -134,11 +137,12 @@ fn obey<S: Source, K: Sink, D: SectorDisk, L: Link, C: Clock, P: Spawner>(
     spawner: &mut P,
 ) -> Option<Status>
     requires { IsGood (says command) }
-    ensures { Comes (Some (says command))
-        (outside (S.left source.old) (K.taken sink.old) (D.told disk.old) (L.received link.old) (L.sent link.old) (C.left clock.old) (P.calls spawner.old))
-        (outside (S.left source.new) (K.taken sink.new) (D.told disk.new) (L.received link.new) (L.sent link.new) (C.left clock.new) (P.calls spawner.new))
+    ensures comes { Comes (Some (says command))
+        (outside (S.left source.old) (K.taken sink.old) (D.told disk.old) (L.received link.old) (L.sent link.old) (C.left clock.old) (P.calls spawner.old) (L.attached link.old))
+        (outside (S.left source.new) (K.taken sink.new) (D.told disk.new) (L.received link.new) (L.sent link.new) (C.left clock.new) (P.calls spawner.new) (L.attached link.new))
         (faults (S.faults source.old) (K.faults sink.old) (D.faults disk.old) (L.faults link.old) (P.faults spawner.old))
         (faults (S.faults source.new) (K.faults sink.new) (D.faults disk.new) (L.faults link.new) (P.faults spawner.new)) result }
+    ensures write { K.faults sink.new ≡ writes_after result (K.faults sink.old) }
 {
     match command {
         Command::Replay => None,
@@ -164,13 +168,16 @@ pub fn run<S: Source, K: Sink, D: SectorDisk, L: Link, C: Clock, P: Spawner>(
 ) -> Option<Status>
     // Words that are no command line are answered by `usage`, want of memory aside, and call nothing; the others do what they say.
     ensures ends { RunEnds (asked (map string_bytes words.now.items))
-        (outside (S.left source.old) (K.taken sink.old) (D.told disk.old) (L.received link.old) (L.sent link.old) (C.left clock.old) (P.calls spawner.old))
-        (outside (S.left source.new) (K.taken sink.new) (D.told disk.new) (L.received link.new) (L.sent link.new) (C.left clock.new) (P.calls spawner.new))
+        (outside (S.left source.old) (K.taken sink.old) (D.told disk.old) (L.received link.old) (L.sent link.old) (C.left clock.old) (P.calls spawner.old) (L.attached link.old))
+        (outside (S.left source.new) (K.taken sink.new) (D.told disk.new) (L.received link.new) (L.sent link.new) (C.left clock.new) (P.calls spawner.new) (L.attached link.new))
         (faults (S.faults source.old) (K.faults sink.old) (D.faults disk.old) (L.faults link.old) (P.faults spawner.old))
         (faults (S.faults source.new) (K.faults sink.new) (D.faults disk.new) (L.faults link.new) (P.faults spawner.new)) result }
 
     // Whatever the number of `soak`, the outputs of its schedule have one log.
     ensures headline { HasOneLog (asked (map string_bytes words.now.items)) }
+
+    // A write that failed is told, whatever the words: no other answer leaves one.
+    ensures write { K.faults sink.new ≡ writes_after result (K.faults sink.old) }
 
     // A fault of the spawner has its cause in the object that was handed in.
     ensures spawn { result ≡ Some Status.SpawnFault → Rose (P.faults spawner.old) (P.faults spawner.new) }

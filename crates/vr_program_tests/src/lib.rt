@@ -12,4 +12,6 @@ mod outside;
 #[cfg(test)]
 mod soak;
 #[cfg(test)]
+mod streams;
+#[cfg(test)]
 mod trial;

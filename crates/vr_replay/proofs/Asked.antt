@@ -16,7 +16,7 @@ use Rattle.vr_sched.specs.declared.line.Line.TheVariants as line
 use Rattle.vr_sched.specs.declared.request.Asked.{Asked}
 use Rattle.vr_sched.specs.Numbers.{digits_on, number_below, number_of, with_digit}
 use Rattle.vr_sched.specs.Words.{only_word, words_of}
-use Rattle.vr_lines.specs.Grammar.{damage_line, fuse_line, lost_words, longest, member_behind, member_line, misdirect_line, or_member, parse, replica_word, sector_of, sector_words, stale_line, start_line, stop_line, tick_line, unread_line, widened}
+use Rattle.vr_lines.specs.Grammar.{damage_line, fuse_line, lost_words, longest, member_line, misdirect_line, or_member, parse, replica_word, sector_of, sector_words, stale_line, start_line, stop_line, tick_line, unread_line, widened}
 use Rattle.vr_lines.specs.declared.line.Line.{Line}
 use Rattle.vr_lines.specs.declared.line.Line.TheVariants.{Tick, Stop, Start, Fuse, Misdirect}
 use Rattle.vr_lines.specs.declared.member.Place.{Place}

@@ -67,16 +67,6 @@ Ends s s' k k' lo ln to tn status.WriteFault = (s' ≡ s) × (k' ≡ one_more k)
 Ends s s' k k' lo ln to tn status.NoMemory = (s' ≡ s) × (k' ≡ k) × IsPartial lo ln to tn
 Ends s s' k k' lo ln to tn _ = ⊥
 
--- a count of the source's faults at the end
-abbrev pub count_after : Status → ℕ → ℕ
-count_after status.ReadFault count = one_more count
-count_after _ count = count
-
--- a count of the sink's faults at the end
-abbrev pub writes_after : Status → ℕ → ℕ
-writes_after status.WriteFault count = one_more count
-writes_after _ count = count
-
 -- the status that a source's bytes have where no fault comes
 abbrev pub status_for : Option ℕ → Status
 status_for None = status.Done

@@ -3,7 +3,8 @@ ghost use Rattle.std.specs.Prelude.{◌≡◌, ◌↔◌, ◌⊎◌, ℕ, true, 
 ghost use Rattle.vr_base.specs.Causes.{Rose};
 ghost use Rattle.vr_replay.specs.Headline.{ScheduleHasOneLog};
 ghost use Rattle.vr_replay.specs.Schedule.{schedule_of};
-ghost use Rattle.vr_replay.specs.Run.{IsDone, IsRefused, IsCutShort, IsPartial, Ends, count_after, writes_after, is_replay_words, refused_in, status_for};
+ghost use Rattle.vr_replay.specs.Run.{IsDone, IsRefused, IsCutShort, IsPartial, Ends, is_replay_words, refused_in, status_for};
+ghost use Rattle.vr_status.specs.Counts.{reads_after, writes_after};
 
 use crate::Replay;
 use std::alloc::Global;
@@ -46,7 +47,7 @@ pub fn replay<S: Source, K: Sink>(alloc: Global, source: &mut S, sink: &mut K) -
     ensures memory_text { result ≡ Status.NoMemory → IsPartial (S.left source.old) (S.left source.new) (K.taken sink.old) (K.taken sink.new) }
 
     // A fault has its cause in the object that was handed in, and a read or a write that failed is told: no other answer leaves one.
-    ensures read { S.faults source.new ≡ count_after result (S.faults source.old) }
+    ensures read { S.faults source.new ≡ reads_after result (S.faults source.old) }
     ensures write { K.faults sink.new ≡ writes_after result (K.faults sink.old) }
 
     // Where no fault comes, the answer is that of the source's bytes, or want of memory.
@@ -89,7 +90,7 @@ pub fn run<S: Source, K: Sink, D: SectorDisk, L: Link, C: Clock>(
     ensures memory_text { result ≡ Status.NoMemory → IsPartial (S.left source.old) (S.left source.new) (K.taken sink.old) (K.taken sink.new) }
 
     // A fault has its cause in the object that was handed in, and a read or a write that failed is told: no other answer leaves one.
-    ensures read { S.faults source.new ≡ count_after result (S.faults source.old) }
+    ensures read { S.faults source.new ≡ reads_after result (S.faults source.old) }
     ensures write { K.faults sink.new ≡ writes_after result (K.faults sink.old) }
 
     // Where no fault comes, the answer is that of the source's bytes, or want of memory.

@@ -4,7 +4,7 @@ use Rattle.vr_edge.specs.Datagrams.{Arrival}
 use Rattle.vr_mail.proofs.Brought.{stilled_one}
 use Rattle.vr_mail.specs.Letters.{AreStilled}
 use Rattle.vr_serve.specs.Events.{AreTurns, Turn, arrivals, events_of, happened, last_after}
-use Rattle.vr_serve.specs.Laws.{HaveSame, RefusedChangeNothing, with_arrivals}
+use Rattle.vr_serve.specs.Laws.{RefusedChangeNothing, with_arrivals}
 
 still_turns : (cluster : ℕ) (turns : List Turn) (others : List Arrival) → AreTurns cluster turns → AreStilled cluster (arrivals turns) others
     → AreTurns cluster (with_arrivals turns others)

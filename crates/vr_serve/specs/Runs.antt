@@ -2,7 +2,7 @@
 use Rattle.std.specs.Prelude.{ℕ, ◌<◌, List, [], ◌∷◌, ◌++◌, length, Option, map, ◌≡◌, ◌⊎◌}
 use Rattle.std.specs.Io.KnownBytes.{Appends}
 use Rattle.vr_disk.specs.DiskState.{Disk}
-use Rattle.vr_edge.specs.Datagrams.{Arrival, Failed}
+use Rattle.vr_edge.specs.Datagrams.{Arrival}
 use Rattle.vr_edge.specs.Told.{AppendsFront, Grows}
 use Rattle.vr_edge.specs.declared.datagram.Datagram.{Datagram}
 use Rattle.vr_mail.specs.Sends.{Sends}
@@ -136,7 +136,3 @@ pub record IsCutInTurn {S : Type 0} (does : Doing S) (cluster count : ℕ) (firs
 pub record IsCutBefore (first : List Output) (got got' : Option (List Arrival)) (t t' : Option (List ℕ)) (u u' : Option (List (Option Datagram))) : Type 0 where
   pub received : got' ≡ got
   pub front : PutsFront (text_from 0 first) (datagrams_for [] first) t t' u u'
-
--- the last receive failed
-abbrev pub EndsFailed : Option (List Arrival) → Option (List Arrival) → Type 0
-EndsFailed got got' = (before : List Arrival) × Grows got got' (before ++ Failed ∷ [])

@@ -47,6 +47,7 @@ pub fn handle<M: Member, D: SectorDisk, K: Sink, L: Link>(
     ensures cut { OnErr result (Cut M.does
         (at member.old (D.told disk.old) post.old.number post.old.clients.items (K.taken sink.old) (L.sent link.old))
         (record { port = port; event = event.now } ∷ []) (K.taken sink.new) (L.sent link.new)) }
+    ensures attached { L.attached link.new ≡ L.attached link.old }
 {
     hear(&mut post.clients, port, event)?;
     let mut outputs = Seq::new(alloc);

@@ -46,6 +46,7 @@ fn send_reply<L: Link>(
     ensures unsent { OnErr result (L.sent link.new ≡ L.sent link.old) }
     ensures received { L.received link.new ≡ L.received link.old }
     ensures faults { L.faults link.new ≡ L.faults link.old }
+    ensures attached { L.attached link.new ≡ L.attached link.old }
 {
     match port_of(clients, reply.fields().client) {
         Some(port) => send_message(link, port, &Message::reply(reply), bytes),
@@ -64,6 +65,7 @@ fn send_output<L: Link>(
     ensures unsent { OnErr result (L.sent link.new ≡ L.sent link.old) }
     ensures received { L.received link.new ≡ L.received link.old }
     ensures faults { L.faults link.new ≡ L.faults link.old }
+    ensures attached { L.attached link.new ≡ L.attached link.old }
 {
     match output {
         Output::Send(sent) => send_message(link, u32::from(sent.to), &sent.message, bytes),
@@ -83,6 +85,7 @@ pub fn send_outputs<L: Link>(
     ensures front { OnErr result (SendsFront (datagrams_for clients.now outputs) (L.sent link.old) (L.sent link.new)) }
     ensures received { L.received link.new ≡ L.received link.old }
     ensures faults { L.faults link.new ≡ L.faults link.old }
+    ensures attached { L.attached link.new ≡ L.attached link.old }
 {
     for output in outputs.into_vec() {
         send_output(link, clients, output, bytes)?;

@@ -61,6 +61,7 @@ impl Post {
         ensures causes { HasCauses (counts 0 (K.faults sink.old) (L.faults link.old)) (counts 0 (K.faults sink.new) (L.faults link.new)) result }
         ensures received { L.received link.new ≡ L.received link.old }
         ensures faults { L.faults link.new ≡ L.faults link.old }
+        ensures attached { L.attached link.new ≡ L.attached link.old }
     {
         self.text.clear();
         put_text(&mut self.number, outputs.as_slice(), &mut self.text)?;

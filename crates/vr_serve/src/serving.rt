@@ -1,12 +1,13 @@
 //! The loop.
 ghost use Rattle.std.specs.Prelude.{◌≡◌, ◌≢◌, ◌≤◌, ◌⊎◌, [], ◌∷◌, Option, OnOk, OnErr, IfOk, true};
 ghost use Rattle.vr_edge.specs.Datagrams.{Arrival, Failed};
+ghost use Rattle.vr_edge.specs.Failing.{EndsFailed};
 ghost use Rattle.vr_edge.specs.Told.{GivesNext, Grows};
 ghost use Rattle.vr_mail.specs.Letters.{Brings};
 ghost use Rattle.vr_mail.specs.declared.receiving.Letter.{Letter};
 ghost use Rattle.vr_serve.specs.Causes.{HasCauses, counts};
 ghost use Rattle.vr_serve.specs.Events.{Begins, Turn, comes_of, due, events_of, last_after};
-ghost use Rattle.vr_serve.specs.Runs.{Cut, EndsFailed, IsCutBefore, IsCutInTurn, IsServed, Passed, at};
+ghost use Rattle.vr_serve.specs.Runs.{Cut, IsCutBefore, IsCutInTurn, IsServed, Passed, at};
 
 use crate::handling::{event_of, handle};
 use crate::post::Post;
@@ -41,6 +42,7 @@ fn arrive<M: Member, D: SectorDisk, K: Sink, L: Link>(
         × Begins cluster arrival letter × Cut M.does
         (at member.old (D.told disk.old) post.old.number post.old.clients.items (K.taken sink.old) (L.sent link.old))
         (comes_of letter) (K.taken sink.new) (L.sent link.new)) }
+    ensures attached { L.attached link.new ≡ L.attached link.old }
 {
     match receive_letter(alloc, link, cluster, &mut post.to)? {
         Some(letter) => {
@@ -76,6 +78,7 @@ fn beat<M: Member, D: SectorDisk, K: Sink, L: Link>(
     ensures cut { OnErr result (Cut M.does
         (at member.old (D.told disk.old) post.old.number post.old.clients.items (K.taken sink.old) (L.sent link.old))
         (due last now) (K.taken sink.new) (L.sent link.new)) }
+    ensures attached { L.attached link.new ≡ L.attached link.old }
 {
     if now < last {
         return Ok(now);
@@ -115,6 +118,7 @@ fn turn<M: Member, D: SectorDisk, K: Sink, L: Link, C: Clock>(
         × Begins cluster turn.arrival turn.letter × Cut M.does
         (at member.old (D.told disk.old) post.old.number post.old.clients.items (K.taken sink.old) (L.sent link.old))
         (events_of last turn) (K.taken sink.new) (L.sent link.new)) }
+    ensures attached { L.attached link.new ≡ L.attached link.old }
 {
     arrive(alloc, cluster, member, disk, sink, link, post)?;
     let now = clock.now();
@@ -141,6 +145,7 @@ pub fn serve<M: Member, D: SectorDisk, K: Sink, L: Link, C: Clock>(
     ensures done { OnOk result (IsServed M.does cluster turns first member.old member.new (D.told disk.old) (D.told disk.new) (C.left clock.old) (C.left clock.new) (L.received link.old) (L.received link.new) (K.taken sink.old) (K.taken sink.new) (L.sent link.old) (L.sent link.new)) }
     ensures cut { OnErr result (IsCutBefore first (L.received link.old) (L.received link.new) (K.taken sink.old) (K.taken sink.new) (L.sent link.old) (L.sent link.new)
         ⊎ IsCutInTurn M.does cluster turns first member.old (D.told disk.old) (L.received link.old) (L.received link.new) (K.taken sink.old) (K.taken sink.new) (L.sent link.old) (L.sent link.new)) }
+    ensures attached { L.attached link.new ≡ L.attached link.old }
 {
     let mut post = Post::new(alloc)?;
     post.put_out(sink, link, first)?;

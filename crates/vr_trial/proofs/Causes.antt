@@ -1,11 +1,19 @@
 -- A fault has its cause in the object that was handed in.
-use Rattle.std.proofs.Common.{◌≡◌, ◌≤◌, ◌⊎◌, ℕ, List, [], ◌∷◌, true, false, Option, refl, inl, inr, subst, arith}
+use Rattle.std.proofs.Common.{◌≡◌, ◌≤◌, ◌⊎◌, ℕ, List, [], ◌∷◌, ◌++◌, true, false, Option, refl, sym, ap, inl, inr, subst, arith}
 use Rattle.vr_ask.proofs.Exchanges.{ends_later}
+use Rattle.vr_ask.proofs.Runs.{asked_last}
+use Rattle.vr_ask.specs.Asking as ask
 use Rattle.vr_base.specs.Causes.{Rose}
+use Rattle.vr_edge.specs.Attaching.{attach_of}
+use Rattle.vr_edge.specs.Datagrams.{Arrival}
+use Rattle.vr_edge.specs.Failing.{LinkFailure}
+use Rattle.vr_edge.specs.Told.{Grows}
+use Rattle.vr_edge.specs.declared.attach.Attach.{Attach as Attached}
+use Rattle.vr_mail.proofs.Growing.{failure_after, grows_nil}
 use Rattle.vr_spawn.specs.declared.spawner.SpawnCall.{SpawnCall}
 use Rattle.vr_status.specs.declared.status.Status.{Status}
 use Rattle.vr_status.specs.declared.status.Status.TheVariants as status
-use Rattle.vr_trial.specs.Run.{BreaksOff, CantCall, Counts, Ends, Fails, FailsIn, Faults, IsCut, Members, Outside, Place, Starts, Stops, TrialEnds, faults, of_client}
+use Rattle.vr_trial.specs.Run.{AsksNothing, BreaksOff, CantCall, Counts, Does, Ends, Fails, FailsIn, Faults, IsCut, Members, Outside, Place, Starts, Stops, TrialEnds, faults, of_client}
 use Rattle.vr_trial.specs.Script.{number_of}
 use Rattle.vr_trial.specs.Told.{Trial, operation_of, start_words}
 use Rattle.vr_trial.specs.declared.step.Step.{Step}
@@ -66,32 +74,50 @@ fails_in_later t [] p p' b l w n k s h x = x
 fails_in_later t (step ∷ steps) p p' b l w n k s h (inl x) = inl (fails_later t step p p' b l w n k s h x)
 fails_in_later t (step ∷ steps) p p' b l w n k s h (inr x) = inr (x.0, x.1, fails_in_later t steps x.0 p' b l w n k s h x.2)
 
+-- ---- what link tells
+
+-- the link failed between these
+abbrev PlaceFailure : Place → Place → Faults → Faults → Type 0
+PlaceFailure p p' b n = LinkFailure b.link n.link p.attached p'.attached p.client.got p'.client.got
+
+-- what a step adds to the lists of a link
+record Grown (p q : Place) : Type 0 where
+  attaches : List Attached
+  arrivals : List Arrival
+  attached : Grows p.attached q.attached attaches
+  received : Grows p.client.got q.client.got arrivals
+
+kept : (p q : Place) → q.attached ≡ p.attached → q.client.got ≡ p.client.got → Grown p q
+kept p q a g = record {
+  attaches = [];
+  arrivals = [];
+  attached = subst (λ x. Grows p.attached x []) (sym a) (grows_nil p.attached);
+  received = subst (λ x. Grows p.client.got x []) (sym g) (grows_nil p.client.got);
+}
+
+still : (p q : Place) → AsksNothing p q → Grown p q
+still p q s = kept p q s.attached (ap (λ (x : ask.Stand). x.got) s.client)
+
+grown_by : (t : Trial) (step : Step) (p q : Place) → Does t step p q → Grown p q
+grown_by t (Start r) p q d = still p q d.1
+grown_by t (Restart r) p q d = still p q d.1
+grown_by t Attach p q d = record {
+  attaches = attach_of [] t.peers true ∷ [];
+  arrivals = [];
+  attached = d.attached;
+  received = subst (λ (x : Place). Grows p.client.got x.client.got []) (sym d.same) (grows_nil p.client.got);
+}
+grown_by t (Ask question) p q d =
+    let asked = d.0.1.asked in
+    record {
+      attaches = [];
+      arrivals = asked.arrivals ++ asked.last;
+      attached = subst (λ x. Grows p.attached x []) (sym d.1.attached) (grows_nil p.attached);
+      received = asked.received;
+    }
+grown_by t (Stop r) p q d = still p q d.1
+
 -- ---- the cause of each fault
-
-cut_write : (line : List ℕ) (t t' : Option (List ℕ)) (b n : ℕ) → (status.WriteFault ≡ status.NoMemory) ⊎ ((status.WriteFault ≡ status.WriteFault) × Rose b n) → Rose b n
-cut_write line t t' b n (inl x) = absurd (cc x)
-cut_write line t t' b n (inr x) = x.1
-
-cant_write : (calls : List SpawnCall) (m m' : Members) (b n : ℕ) → CantCall calls m m' b n status.WriteFault → ⊥
-cant_write calls m m' b n (inl x) = absurd (cc x.0)
-cant_write calls m m' b n (inr x) = absurd (cc x.fault)
-
-breaks_write : (Changes : Members → Members → Type 0) (calls : List SpawnCall) (line : List ℕ) (m m' : Members) (t t' : Option (List ℕ)) (b n : Counts)
-    → BreaksOff Changes calls line m m' t t' b n status.WriteFault → Rose b.write n.write
-breaks_write Changes calls line m m' t t' b n (inl x) = absurd (cant_write calls m m' b.spawn n.spawn x.0)
-breaks_write Changes calls line m m' t t' b n (inr x) = cut_write line t t' b.write n.write x.1.cause
-
-step_write : (t : Trial) (step : Step) (p p' : Place) (b n : Faults) → Fails t step p p' b n status.WriteFault → Rose b.counts.write n.counts.write
-step_write t (Start r) p p' b n x = breaks_write (Starts (start_words t r true) r) _ _ p.members p'.members p.client.taken p'.client.taken b.counts n.counts x.0
-step_write t (Restart r) p p' b n x = breaks_write (Starts (start_words t r false) r) _ _ p.members p'.members p.client.taken p'.client.taken b.counts n.counts x.0
-step_write t Attach p p' b n x = absurd (cc x.0)
-step_write t (Ask q) p p' b n x = x.0.0
-step_write t (Stop r) p p' b n x = breaks_write (Stops r) _ _ p.members p'.members p.client.taken p'.client.taken b.counts n.counts x.0
-
-in_write : (t : Trial) (steps : List Step) (p p' : Place) (b n : Faults) → FailsIn t steps p p' b n status.WriteFault → Rose b.counts.write n.counts.write
-in_write t [] p p' b n x = absurd x
-in_write t (step ∷ steps) p p' b n (inl x) = step_write t step p p' b n x
-in_write t (step ∷ steps) p p' b n (inr x) = in_write t steps x.0 p' b n x.2
 
 cut_link : (b n : ℕ) → (status.LinkFault ≡ status.NoMemory) ⊎ ((status.LinkFault ≡ status.WriteFault) × Rose b n) → ⊥
 cut_link b n (inl x) = absurd (cc x)
@@ -106,17 +132,21 @@ breaks_link : (Changes : Members → Members → Type 0) (calls : List SpawnCall
 breaks_link Changes calls line m m' t t' b n (inl x) = cant_link calls m m' b.spawn n.spawn x.0
 breaks_link Changes calls line m m' t t' b n (inr x) = cut_link b.write n.write x.1.cause
 
-step_link : (t : Trial) (step : Step) (p p' : Place) (b n : Faults) → Fails t step p p' b n status.LinkFault → Rose b.link n.link
+step_link : (t : Trial) (step : Step) (p p' : Place) (b n : Faults) → Fails t step p p' b n status.LinkFault → PlaceFailure p p' b n
 step_link t (Start r) p p' b n x = absurd (breaks_link (Starts (start_words t r true) r) _ _ p.members p'.members p.client.taken p'.client.taken b.counts n.counts x.0)
 step_link t (Restart r) p p' b n x = absurd (breaks_link (Starts (start_words t r false) r) _ _ p.members p'.members p.client.taken p'.client.taken b.counts n.counts x.0)
-step_link t Attach p p' b n x = x.1
-step_link t (Ask q) p p' b n x = x.0.0
+step_link t Attach p p' b n x = record { rose = x.1; last = inl ([], [], t.peers, x.2.attached) }
+step_link t (Ask q) p p' b n x = record { rose = x.0.0; last = inr (asked_last t.client (number_of q) (operation_of q) p.client p'.client x.0.1) }
 step_link t (Stop r) p p' b n x = absurd (breaks_link (Stops r) _ _ p.members p'.members p.client.taken p'.client.taken b.counts n.counts x.0)
 
-in_link : (t : Trial) (steps : List Step) (p p' : Place) (b n : Faults) → FailsIn t steps p p' b n status.LinkFault → Rose b.link n.link
+in_link : (t : Trial) (steps : List Step) (p p' : Place) (b n : Faults) → FailsIn t steps p p' b n status.LinkFault → PlaceFailure p p' b n
 in_link t [] p p' b n x = absurd x
 in_link t (step ∷ steps) p p' b n (inl x) = step_link t step p p' b n x
-in_link t (step ∷ steps) p p' b n (inr x) = in_link t steps x.0 p' b n x.2
+in_link t (step ∷ steps) p p' b n (inr x) =
+    let q = x.0 in
+    let grown = grown_by t step p q x.1 in
+    failure_after b.link n.link p.attached q.attached p'.attached grown.attaches p.client.got q.client.got p'.client.got grown.arrivals grown.attached grown.received
+    (in_link t steps q p' b n x.2)
 
 cut_spawn : (b n : ℕ) → (status.SpawnFault ≡ status.NoMemory) ⊎ ((status.SpawnFault ≡ status.WriteFault) × Rose b n) → ⊥
 cut_spawn b n (inl x) = absurd (cc x)
@@ -145,24 +175,18 @@ in_spawn t (step ∷ steps) p p' b n (inr x) = in_spawn t steps x.0 p' b n x.2
 
 -- ---- of the whole trial
 
-ends_write : (t : Trial) (steps : List Step) (p : Place) (o : Outside) (b n : Faults) → Ends t steps p o b n status.WriteFault → Rose b.counts.write n.counts.write
-ends_write t steps p o b n (inl x) = absurd (cc x.done)
-ends_write t steps p o b n (inr x) = in_write t steps p x.last b n x.fails
-
-ends_link : (t : Trial) (steps : List Step) (p : Place) (o : Outside) (b n : Faults) → Ends t steps p o b n status.LinkFault → Rose b.link n.link
+ends_link : (t : Trial) (steps : List Step) (p : Place) (o : Outside) (b n : Faults) → Ends t steps p o b n status.LinkFault
+    → LinkFailure b.link n.link p.attached o.attached p.client.got o.got
 ends_link t steps p o b n (inl x) = absurd (cc x.done)
-ends_link t steps p o b n (inr x) = in_link t steps p x.last b n x.fails
+ends_link t steps p o b n (inr x) =
+    subst (λ (z : Outside). LinkFailure b.link n.link p.attached z.attached p.client.got z.got) (sym x.ends) (in_link t steps p x.last b n x.fails)
 
 ends_spawn : (t : Trial) (steps : List Step) (p : Place) (o : Outside) (b n : Faults) → Ends t steps p o b n status.SpawnFault → Rose b.counts.spawn n.counts.spawn
 ends_spawn t steps p o b n (inl x) = absurd (cc x.done)
 ends_spawn t steps p o b n (inr x) = in_spawn t steps p x.last b n x.fails
 
-pub ended_write : (t : Trial) (steps : List Step) (p : Place) (o : Outside) (b n : Faults) (s : Status)
-    → Ends t steps p o b n s → s ≡ status.WriteFault → Rose b.counts.write n.counts.write
-ended_write t steps p o b n s e is = ends_write t steps p o b n (subst (λ x. Ends t steps p o b n x) is e)
-
 pub ended_link : (t : Trial) (steps : List Step) (p : Place) (o : Outside) (b n : Faults) (s : Status)
-    → Ends t steps p o b n s → s ≡ status.LinkFault → Rose b.link n.link
+    → Ends t steps p o b n s → s ≡ status.LinkFault → LinkFailure b.link n.link p.attached o.attached p.client.got o.got
 ended_link t steps p o b n s e is = ends_link t steps p o b n (subst (λ x. Ends t steps p o b n x) is e)
 
 pub ended_spawn : (t : Trial) (steps : List Step) (p : Place) (o : Outside) (b n : Faults) (s : Status)

@@ -5,6 +5,7 @@ pub mod Runs
 pub mod Stepping
 pub mod Stopping
 pub mod Taking
+pub mod Telling
 pub mod Texts
 pub mod Wording
 pub mod Writing

@@ -1,10 +1,10 @@
 -- Steps one after another, and the end of a trial.
-use Rattle.std.proofs.Common.{◌≡◌, ◌≤◌, ◌<◌, ◌+◌, ℕ, List, ◌∷◌, get_or, drop, length, Option, refl, sym, inl, inr, subst}
+use Rattle.std.proofs.Common.{◌≡◌, ◌≤◌, ◌<◌, ◌+◌, ℕ, List, ◌∷◌, get_or, drop, length, Option, refl, sym, inl, inr, subst, arith}
 use Rattle.std.proofs.lemmas.List.{drop_more}
 use Rattle.vr_spawn.specs.declared.spawner.SpawnCall.{SpawnCall}
 use Rattle.vr_status.specs.declared.status.Status.{Status}
 use Rattle.vr_status.specs.declared.status.Status.TheVariants.{Done, NoMemory}
-use Rattle.vr_trial.specs.Run.{Does, DoesAll, Ends, Fails, FailsIn, Faults, Outside, Place, StopsAll, TrialEnds, faults, tells}
+use Rattle.vr_trial.specs.Run.{Does, DoesAll, Ends, Fails, FailsIn, Faults, Outside, Place, StopsAll, TrialEnds, faults, spawns, spawns_after, tells}
 use Rattle.vr_trial.specs.Script.{AreNext, IsNext, number_after}
 use Rattle.vr_trial.specs.Told.{Trial}
 use Rattle.vr_trial.specs.declared.step.Step.{Step}
@@ -23,11 +23,11 @@ fails_then t steps i d step p q p' b n s h is does rest =
     subst (λ l. FailsIn t l p p' b n s) (sym (drop_more steps i d h)) (inr (q, subst (λ x. Does t x p q) is does, rest))
 
 pub fails_here : (t : Trial) (steps : List Step) (i : ℕ) (d step : Step) (p p' : Place) (b mid n : Faults) (s : Status) → i < length steps → step ≡ get_or steps i d
-    → b.link ≤ mid.link → b.counts.write ≤ mid.counts.write → b.counts.spawn ≤ mid.counts.spawn
+    → b.link ≤ mid.link → mid.counts.write ≡ b.counts.write → mid.counts.spawn ≡ b.counts.spawn
     → Fails t step p p' mid n s → FailsIn t (drop i steps) p p' b n s
 fails_here t steps i d step p p' b mid n s h is l w c fails =
     subst (λ x. FailsIn t x p p' b n s) (sym (drop_more steps i d h))
-    (inl (fails_earlier t (get_or steps i d) p p' b mid n s l w c (subst (λ x. Fails t x p p' mid n s) is fails)))
+    (inl (fails_earlier t (get_or steps i d) p p' b mid n s l (omega (arith, w)) (omega (arith, c)) (subst (λ x. Fails t x p p' mid n s) is fails)))
 
 pub next_here : (steps : List Step) (i number : ℕ) (d step : Step) → i < length steps → step ≡ get_or steps i d → AreNext number (drop i steps) → IsNext number step
 next_here steps i number d step h is next =
@@ -42,14 +42,16 @@ next_then steps i number after d step h is at next =
 
 -- ---- the end
 
-pub went_through : (t : Trial) (steps : List Step) (p last : Place) (b n : Faults) → DoesAll t steps p last → Ends t steps p (tells last last.members.calls) b n Done
-went_through t steps p last b n does = inl (record { done = refl; last = last; does = does; ends = refl })
+pub went_through : (t : Trial) (steps : List Step) (p last : Place) (b n : Faults) → n.counts.spawn ≡ b.counts.spawn → DoesAll t steps p last
+    → Ends t steps p (tells last last.members.calls) b n Done
+went_through t steps p last b n spared does = inl (record { done = refl; spared = spared; last = last; does = does; ends = refl })
 
 pub broke_off : (t : Trial) (steps : List Step) (p last : Place) (calls : Option (List SpawnCall)) (b : Faults) (link write mid spawn : ℕ) (s : Status)
-    → mid ≤ spawn → FailsIn t steps p last b (faults link write mid) s → StopsAll last.members.running last.members.calls calls
+    → mid ≤ spawn → FailsIn t steps p last b (faults link write mid) s
+    → StopsAll last.members.running (spawns last.members.calls (spawns_after s b.counts.spawn)) (spawns calls spawn)
     → Ends t steps p (tells last calls) b (faults link write spawn) s
 broke_off t steps p last calls b link write mid spawn s h fails stops =
     inr (record { last = last; fails = fails_in_later t steps p last b link write mid spawn s h fails; calls = calls; stops = stops; ends = refl })
 
-pub ends_short : (t : Trial) (o o' : Outside) (b n : Faults) → o' ≡ o → TrialEnds t o o' b n NoMemory
-ends_short t o o' b n same = inl (refl, same)
+pub ends_short : (t : Trial) (o o' : Outside) (b n : Faults) → o' ≡ o → n ≡ b → TrialEnds t o o' b n NoMemory
+ends_short t o o' b n same spared = inl (refl, same, spared)

@@ -2,7 +2,7 @@
 use Rattle.std.proofs.Common.{◌≡◌, ◌∙◌, ℕ, ◌+◌, ◌<◌, List, [], ◌∷◌, ◌++◌, map, length, take, get_or, append_assoc, refl, ap}
 use Rattle.std.specs.Global.{Global}
 use Rattle.std.specs.Prelude.{String, string_bytes}
-use Rattle.vr_spawn.proofs.Texts.{copied_more}
+use Rattle.vr_edge.proofs.Copying.{copied_more}
 
 -- a word more is put behind these
 pub put_more : (before old new : List (List ℕ)) (text : List ℕ) (words : List (String Global)) (i : ℕ) (d : String Global) → i < length words

@@ -13,5 +13,4 @@ mod trial;
 mod words;
 
 pub use plan::Plan;
-pub use step::{Question, Step};
 pub use trial::run_trial;

@@ -1,6 +1,7 @@
 //! The lines that say what became of a member, and what the client asks.
-ghost use Rattle.std.specs.Prelude.{◌≡◌, ◌≤◌, IfErr, IfOk, OnOk, string_bytes};
+ghost use Rattle.std.specs.Prelude.{◌≡◌, IfErr, IfOk, OnOk, string_bytes};
 ghost use Rattle.std.specs.Io.KnownBytes.{Appends};
+ghost use Rattle.vr_ask.specs.Asking.{CountsWrites};
 ghost use Rattle.vr_trial.specs.Run.{IsCut};
 ghost use Rattle.vr_trial.specs.Told.{key, member_line, operation_of, value};
 
@@ -28,7 +29,7 @@ pub fn write_line<K: Sink>(
 ) -> Result<(), Status>
     ensures written { OnOk result (Appends (K.taken sink.old) (K.taken sink.new) (member_line what.now member)) }
     ensures cut { IfErr result (IsCut (member_line what.now member) (K.taken sink.old) (K.taken sink.new) (K.faults sink.old) (K.faults sink.new)) }
-    ensures later { K.faults sink.old ≤ K.faults sink.new }
+    ensures counts { CountsWrites (K.faults sink.old) (K.faults sink.new) result }
 {
     let Ok(line) = member_line(alloc, what, member) else {
         return Err(Status::NoMemory);

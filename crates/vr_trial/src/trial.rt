@@ -1,8 +1,10 @@
 //! The whole trial.
 ghost use Rattle.std.specs.Prelude.{◌≡◌, ◌≤◌, IfErr, OnOk, vec_len};
-ghost use Rattle.vr_ask.specs.Asking.{client_of};
+ghost use Rattle.vr_ask.specs.Asking.{CountsWrites, client_of};
 ghost use Rattle.vr_base.specs.Causes.{Rose};
-ghost use Rattle.vr_trial.specs.Run.{DoesAll, Ends, FailsIn, TrialEnds, faults, outside, place};
+ghost use Rattle.vr_edge.specs.Failing.{LinkFailure};
+ghost use Rattle.vr_status.specs.Counts.{writes_after};
+ghost use Rattle.vr_trial.specs.Run.{CountsSpawns, DoesAll, Ends, FailsIn, TrialEnds, faults, outside, place};
 ghost use Rattle.vr_trial.specs.Script.{AreNext};
 ghost use Rattle.vr_trial.specs.Told.{trial_of};
 
@@ -29,17 +31,17 @@ fn take_all<K: Sink, L: Link, P: Spawner>(
     requires client { client_of course.old.core plan.now.turns ≡ (trial_of plan.now).client }
     requires next { AreNext course.old.core.number steps.now }
     ensures does { OnOk result (DoesAll (trial_of plan.now) steps.now
-        (place course.old (L.sent link.old) (L.received link.old) (K.taken sink.old) (P.calls spawner.old))
-        (place course.new (L.sent link.new) (L.received link.new) (K.taken sink.new) (P.calls spawner.new))) }
+        (place course.old (L.sent link.old) (L.received link.old) (K.taken sink.old) (P.calls spawner.old) (L.attached link.old))
+        (place course.new (L.sent link.new) (L.received link.new) (K.taken sink.new) (P.calls spawner.new) (L.attached link.new))) }
     ensures fails { IfErr result (FailsIn (trial_of plan.now) steps.now
-        (place course.old (L.sent link.old) (L.received link.old) (K.taken sink.old) (P.calls spawner.old))
-        (place course.new (L.sent link.new) (L.received link.new) (K.taken sink.new) (P.calls spawner.new))
+        (place course.old (L.sent link.old) (L.received link.old) (K.taken sink.old) (P.calls spawner.old) (L.attached link.old))
+        (place course.new (L.sent link.new) (L.received link.new) (K.taken sink.new) (P.calls spawner.new) (L.attached link.new))
         (faults (L.faults link.old) (K.faults sink.old) (P.faults spawner.old)) (faults (L.faults link.new) (K.faults sink.new) (P.faults spawner.new))) }
+    ensures sink { CountsWrites (K.faults sink.old) (K.faults sink.new) result }
+    ensures spawner { CountsSpawns (P.faults spawner.old) (P.faults spawner.new) result }
 {
     for step in steps {
-        if let Err(status) = course.take(plan, *step, sink, link, spawner) {
-            return Err(status);
-        }
+        course.take(plan, *step, sink, link, spawner)?;
     }
     Ok(())
 }
@@ -57,9 +59,10 @@ fn take_or_end<K: Sink, L: Link, P: Spawner>(
     requires client { client_of course.old.core plan.now.turns ≡ (trial_of plan.now).client }
     requires next { AreNext course.old.core.number steps.now }
     ensures ends { Ends (trial_of plan.now) steps.now
-        (place course.old (L.sent link.old) (L.received link.old) (K.taken sink.old) (P.calls spawner.old))
-        (outside (L.sent link.new) (L.received link.new) (K.taken sink.new) (P.calls spawner.new))
+        (place course.old (L.sent link.old) (L.received link.old) (K.taken sink.old) (P.calls spawner.old) (L.attached link.old))
+        (outside (L.sent link.new) (L.received link.new) (K.taken sink.new) (P.calls spawner.new) (L.attached link.new))
         (faults (L.faults link.old) (K.faults sink.old) (P.faults spawner.old)) (faults (L.faults link.new) (K.faults sink.new) (P.faults spawner.new)) result }
+    ensures sink { K.faults sink.new ≡ writes_after result (K.faults sink.old) }
 {
     match take_all(course, plan, steps, sink, link, spawner) {
         Ok(()) => Status::Done,
@@ -83,12 +86,13 @@ pub fn run_trial<K: Sink, L: Link, P: Spawner>(
     requires least { 2 ≤ vec_len plan.now.peers }
     requires most { vec_len plan.now.peers ≤ 6 }
     ensures ends { TrialEnds (trial_of plan.now)
-        (outside (L.sent link.old) (L.received link.old) (K.taken sink.old) (P.calls spawner.old))
-        (outside (L.sent link.new) (L.received link.new) (K.taken sink.new) (P.calls spawner.new))
+        (outside (L.sent link.old) (L.received link.old) (K.taken sink.old) (P.calls spawner.old) (L.attached link.old))
+        (outside (L.sent link.new) (L.received link.new) (K.taken sink.new) (P.calls spawner.new) (L.attached link.new))
         (faults (L.faults link.old) (K.faults sink.old) (P.faults spawner.old)) (faults (L.faults link.new) (K.faults sink.new) (P.faults spawner.new)) result }
-    // A fault has its cause in the object that was handed in.
-    ensures write { result ≡ Status.WriteFault → Rose (K.faults sink.old) (K.faults sink.new) }
-    ensures link { result ≡ Status.LinkFault → Rose (L.faults link.old) (L.faults link.new) }
+    // A fault has its cause in the object that was handed in, and a write that failed is told: no other answer leaves one. The spawner's count at each end stands in
+    // `ends`, since behind a step that ended the trial stops may fail.
+    ensures write { K.faults sink.new ≡ writes_after result (K.faults sink.old) }
+    ensures link { result ≡ Status.LinkFault → LinkFailure (L.faults link.old) (L.faults link.new) (L.attached link.old) (L.attached link.new) (L.received link.old) (L.received link.new) }
     ensures spawn { result ≡ Status.SpawnFault → Rose (P.faults spawner.old) (P.faults spawner.new) }
 {
     let Ok(mut course) = Course::new(alloc, plan) else {

@@ -20,5 +20,6 @@ loop-done-preserved g c =
       number = e.number;
       counts = e.counts ∙ i.counts;
       link = omega (arith, i.link, e.link);
-      sink = omega (arith, i.sink, e.sink);
+      attached = c.take_line.ensures.attached ∙ i.attached;
+      sink = e.sink ∙ i.sink;
     }

@@ -13,5 +13,6 @@ invariant-loop-done g l = record {
   number : l.core.number ≡ l.done + 1;
   counts : g.S.Source.faults l.source ≡ g.S.Source.faults l.fn.source;
   link : g.L.Link.faults l.fn.link ≤ g.L.Link.faults l.link;
-  sink : g.K.Sink.faults l.fn.sink ≤ g.K.Sink.faults l.sink;
+  attached : g.L.Link.attached l.link ≡ g.L.Link.attached l.fn.link;
+  sink : g.K.Sink.faults l.sink ≡ g.K.Sink.faults l.fn.sink;
 }

@@ -1,4 +1,5 @@
 use Rattle.std.proofs.Common.{◌≡◌, ◌∙◌, ap, true, subst, sym}
+use Rattle.vr_edge.specs.Attaching.{texts_of}
 use Rattle.vr_node.specs.Opening.{Opens}
 use Rattle.vr_node.specs.Running.{outside}
 use Rattle.vr_node.specs.Stops.{disk_after}
@@ -17,12 +18,12 @@ returns-in-Ok-clause-ends g c =
     let got = g.L.Link.received c.args.link.now in
     let taken = g.K.Sink.taken c.args.sink.now in
     let sent = g.L.Link.sent c.args.link.now in
-    let o' = outside (g.D.SectorDisk.told c.serve_group.new.disk) (g.C.Clock.left c.serve_group.new.clock) (g.L.Link.received c.serve_group.new.link) (g.K.Sink.taken c.serve_group.new.sink) (g.L.Link.sent c.serve_group.new.link) in
+    let o' = outside (g.D.SectorDisk.told c.serve_group.new.disk) (g.C.Clock.left c.serve_group.new.clock) (g.L.Link.received c.serve_group.new.link) (g.K.Sink.taken c.serve_group.new.sink) (g.L.Link.sent c.serve_group.new.link) (g.L.Link.attached c.serve_group.new.link) in
     let n = counts (g.D.SectorDisk.faults c.serve_group.new.disk) (g.K.Sink.faults c.serve_group.new.sink) (g.L.Link.faults c.serve_group.new.link) in
     let opens : Opens role.is_fresh role.config disk disk' first c.new.result.replica.memory =
     subst (λ (r : Running). Opens role.is_fresh role.config disk disk' first r.memory) (sym c.new.ensures) c.in-Ok.ensures.opened in
     let runs : c.new.result.replica.running ≡ true = subst (λ (r : Running). r.running ≡ true) (sym c.new.ensures) c.in-Ok.ensures.running in
-    opened role.is_fresh role.config role.turns first c.new.result disk disk' left got taken sent
+    opened role.is_fresh role.config (texts_of role.peers.items) role.turns first c.new.result disk disk' left got taken sent (g.L.Link.attached c.args.link.now)
     (g.D.SectorDisk.faults c.args.disk.now) (g.D.SectorDisk.faults c.open_member.new.disk) (g.K.Sink.faults c.args.sink.now) (g.L.Link.faults c.args.link.now)
     o' n c.serve_group.result opens runs c.open_member.ensures.cause.later c.serve_group.ensures.ends
 

@@ -6,8 +6,8 @@ use Rattle.vr_node.proofs.running.serve_turns.Goals as goal
 
 pub returns-in-Err-clause-ends : goal.returns-in-Err-clause-ends
 returns-in-Err-clause-ends g c =
-    let o = outside (g.D.SectorDisk.told c.args.disk.now) (g.C.Clock.left c.args.clock.now) (g.L.Link.received c.args.link.now) (g.K.Sink.taken c.args.sink.now) (g.L.Link.sent c.args.link.now) in
-    let o' = outside (g.D.SectorDisk.told c.serve.new.disk) (g.C.Clock.left c.serve.new.clock) (g.L.Link.received c.serve.new.link) (g.K.Sink.taken c.serve.new.sink) (g.L.Link.sent c.serve.new.link) in
+    let o = outside (g.D.SectorDisk.told c.args.disk.now) (g.C.Clock.left c.args.clock.now) (g.L.Link.received c.args.link.now) (g.K.Sink.taken c.args.sink.now) (g.L.Link.sent c.args.link.now) (g.L.Link.attached c.args.link.now) in
+    let o' = outside (g.D.SectorDisk.told c.serve.new.disk) (g.C.Clock.left c.serve.new.clock) (g.L.Link.received c.serve.new.link) (g.K.Sink.taken c.serve.new.sink) (g.L.Link.sent c.serve.new.link) (g.L.Link.attached c.serve.new.link) in
     let b = counts (g.D.SectorDisk.faults c.args.disk.now) (g.K.Sink.faults c.args.sink.now) (g.L.Link.faults c.args.link.now) in
     let n = counts (g.D.SectorDisk.faults c.serve.new.disk) (g.K.Sink.faults c.serve.new.sink) (g.L.Link.faults c.serve.new.link) in
     subst (λ s. ServeEnds c.args.turns c.args.first c.args.node.now o o' b n s) (sym c.status_of.ensures)

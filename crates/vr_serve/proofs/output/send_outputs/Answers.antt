@@ -11,5 +11,6 @@ loop-output-preserved g c =
           c.next.new.self.rest.items (g.L.Link.sent c.args.link.now) (g.L.Link.sent c.loop-output.link) (g.L.Link.sent c.send_output.new.link)
           is c.loop-output.invariant.sending c.in_ok-send_output.ensures.sent;
       received = c.send_output.ensures.received ∙ c.loop-output.invariant.received;
+      attached = c.send_output.ensures.attached ∙ c.loop-output.invariant.attached;
       faults = c.send_output.ensures.faults ∙ c.loop-output.invariant.faults;
     }

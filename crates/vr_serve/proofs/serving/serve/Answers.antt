@@ -21,6 +21,7 @@ loop-init g c =
       disk = refl;
       write = c.in_ok-put_out.ensures.causes.write;
       link = c.in_ok-put_out.ensures.causes.link;
+      attached = c.put_out.ensures.attached;
       serving = serving_begins g.M.Member.does c.args.cluster c.now-last.result c.args.first c.args.member.now (g.D.SectorDisk.told c.args.disk.now)
           (g.C.Clock.left c.args.clock.now) (g.C.Clock.left c.now-last.new.self) (g.L.Link.received c.args.link.now) (g.L.Link.received c.put_out.new.link)
           (g.K.Sink.taken c.args.sink.now) (g.K.Sink.taken c.put_out.new.sink) (g.L.Link.sent c.args.link.now) (g.L.Link.sent c.put_out.new.link)
@@ -43,6 +44,7 @@ loop-preserved g c =
       disk = c.in_ok-last.ensures.causes.disk ∙ c.loop.invariant.disk;
       write = c.in_ok-last.ensures.causes.write ∙ c.loop.invariant.write;
       link = omega (arith, c.loop.invariant.link, c.in_ok-last.ensures.causes.link);
+      attached = c.turn.ensures.attached ∙ c.loop.invariant.attached;
       serving = serving_more g.M.Member.does c.args.cluster c.loop.counter c.loop.last c.in_ok-last.last c.args.first c.args.member.now (g.D.SectorDisk.told c.args.disk.now)
           (g.C.Clock.left c.args.clock.now) (g.C.Clock.left c.loop.clock) (g.C.Clock.left c.turn.new.clock)
           (g.L.Link.received c.args.link.now) (g.L.Link.received c.loop.link) (g.L.Link.received c.turn.new.link)

@@ -9,6 +9,7 @@ invariant-loop g l = record {
   disk : g.D.SectorDisk.faults l.disk ≡ g.D.SectorDisk.faults l.fn.disk;
   write : g.K.Sink.faults l.sink ≡ g.K.Sink.faults l.fn.sink;
   link : g.L.Link.faults l.fn.link ≤ g.L.Link.faults l.link;
+  attached : g.L.Link.attached l.link ≡ g.L.Link.attached l.fn.link;
   serving : Serving g.M.Member.does l.cluster l.counter l.last l.fn.first l.fn.member (g.D.SectorDisk.told l.fn.disk)
       (g.C.Clock.left l.fn.clock) (g.C.Clock.left l.clock) (g.L.Link.received l.fn.link) (g.L.Link.received l.link)
       (g.K.Sink.taken l.fn.sink) (g.L.Link.sent l.fn.link)

@@ -1,9 +1,6 @@
 use Rattle.vr_trial.specs.Told.{trial_of}
-use Rattle.vr_trial.proofs.Causes.{ended_link, ended_spawn, ended_write}
+use Rattle.vr_trial.proofs.Causes.{ended_link, ended_spawn}
 use Rattle.vr_trial.proofs.trial.run_trial.Goals as goal
-
-pub returns-clause-write : goal.returns-clause-write
-returns-clause-write g c = ended_write (trial_of c.args.plan.now) _ _ _ _ _ c.take_or_end.result c.take_or_end.ensures.ends
 
 pub returns-clause-link : goal.returns-clause-link
 returns-clause-link g c = ended_link (trial_of c.args.plan.now) _ _ _ _ _ c.take_or_end.result c.take_or_end.ensures.ends
