@@ -26,6 +26,7 @@ impl Replica {
         _out: &mut Outbox,
     ) -> Result<(), Halt>
         requires ready { IsReady self.old }
+        requires room { self.old.saved.fields.sequence + 1 < 2 ^ 64 }
         requires value { value ≡ value_of self.old }
         ensures ready { OnOk result (IsReady self.new) }
         ensures view { OnOk result (self.new.view ≡ self.old.view) }

@@ -8,3 +8,11 @@ pub mod Upkeep
 mod Rules
 pub mod KeepingUp
 mod GroupMoves
+mod Mending
+mod Shedding
+mod Looking
+mod Seeing
+mod LookingRules
+mod Finding
+mod Asking
+mod Turning

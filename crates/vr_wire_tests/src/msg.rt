@@ -5,7 +5,8 @@ use std::test::Fail;
 use vr_base::{Sum, checksum};
 use vr_codec::{MsgFault, decode, encode, judge};
 use vr_header::{Command, Header, HeaderFault, Size};
-use vr_msg::{Commit, Message};
+use vr_msg::{Commit, Message, Output, Sent};
+use vr_sched::text;
 
 const NAME: Sum = Sum([7; 16]);
 
@@ -285,6 +286,68 @@ fn a_log_has_at_most_64_headers(rt: HostRuntime) -> Result<(), Fail> {
         ..start_view(74, 10)
     };
     log_has_bad_shape(&rt, alloc, before, 64)
+}
+
+// The header of a sync_view up to op 65, whose headers begin after `lo`.
+fn sync_view(lo: u64, commit: u64) -> Header {
+    Header {
+        op: 65,
+        commit,
+        aux: lo,
+        ..in_view(Command::SyncView)
+    }
+}
+
+// A sync_view's body: the checkpoint's op, the address and the name of its root, and so many headers from op 11 on.
+fn checkpoint(alloc: Global, op: u64, address: u64, count: u64) -> Result<Vec<u8>, AllocError> {
+    let mut bytes = Vec::new(alloc);
+    bytes.extend_from_slice(&op.to_be_bytes())?;
+    bytes.extend_from_slice(&address.to_be_bytes())?;
+    bytes.extend_from_slice(&NAME.0)?;
+    bytes.extend_from_slice(headers(alloc, 11, count)?.as_slice())?;
+    Ok(bytes)
+}
+
+#[test]
+fn a_checkpoint_is_read_again(rt: HostRuntime) -> Result<(), Fail> {
+    let alloc = rt.alloc();
+    reads_again(&rt, alloc, in_view(Command::GetSync), &[])?;
+    has_bad_shape(&rt, alloc, at_op(Command::GetSync), &[])?;
+    for (op, commit) in [(32, 32), (32, 65), (64, 64)] {
+        let body = checkpoint(alloc, op, 127, 55)?;
+        reads_again(&rt, alloc, sync_view(10, commit), body.as_slice())?;
+    }
+    let bytes = spelled(alloc, sync_view(10, 65), checkpoint(alloc, 64, 1, 55)?.as_slice())?;
+    let output = Output::Send(Sent {
+        from: 2,
+        to: 1,
+        message: decode(alloc, bytes.as_slice())?,
+    });
+    let line = text(alloc, 6, &output)?;
+    let want = b"send 6 2 1 sync_view view 3 op 65 commit 65 checkpoint 64\n";
+    assert_eq!(rt; line.as_slice(), want.as_slice());
+    Ok(())
+}
+
+#[test]
+fn a_checkpoint_is_committed_and_within_its_log(rt: HostRuntime) -> Result<(), Fail> {
+    let alloc = rt.alloc();
+    for (op, address, lo, commit) in [
+        (33, 0, 10, 64),
+        (0, 0, 10, 64),
+        (64, 0, 10, 63),
+        (96, 0, 10, 65),
+        (32, 128, 10, 64),
+        (32, 0, 10, 66),
+        (32, 0, 9, 64),
+    ] {
+        let body = checkpoint(alloc, op, address, 55)?;
+        has_bad_shape(&rt, alloc, sync_view(lo, commit), body.as_slice())?;
+    }
+    let after = checkpoint(alloc, 32, 0, 0)?;
+    has_bad_shape(&rt, alloc, sync_view(65, 65), after.as_slice())?;
+    let (short, _) = after.as_slice().split_at(31);
+    has_bad_shape(&rt, alloc, sync_view(10, 64), short)
 }
 
 // What a statement's body has: the first op, a tag for each, and so many headers.

@@ -9,7 +9,7 @@ use vr_base::{ByteList, Seq, Sum};
 use vr_header::{Entry, Header, HeaderList, Key, Operation, Outcome, Part, Value};
 use vr_msg::{
     Answered, Chosen, Commit, Committed, DoViewChange, DvcBody, Frame, GetBlock, GetPrepare,
-    GetView, GiveBlock, GivePrepare, Message, Output, Prepare, PrepareOk, Reply, ReplyFields,
+    GetSync, GetView, GiveBlock, GivePrepare, Message, Output, Prepare, PrepareOk, Reply, ReplyFields,
     ReplyKind, Request, RequestFields, Sent, StartView, StartViewChange, Started, Statement,
     SvBody, Waiting,
 };
@@ -149,6 +149,22 @@ fn messages_of_a_view_change(rt: HostRuntime) -> Result<(), Fail> {
         alloc,
         Frame::GetView(asks),
         b"send 6 1 0 get_view view 0\n",
+    )
+}
+
+#[test]
+fn a_checkpoint_is_asked_for(rt: HostRuntime) -> Result<(), Fail> {
+    let alloc = rt.alloc();
+    let asks = GetSync {
+        cluster: 0,
+        replica: 1,
+        view: 0,
+    };
+    sends(
+        &rt,
+        alloc,
+        Frame::GetSync(asks),
+        b"send 6 1 0 get_sync view 0\n",
     )
 }
 
