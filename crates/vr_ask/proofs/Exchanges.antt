@@ -3,7 +3,7 @@ use Rattle.std.proofs.Common.{◌≡◌, ◌≤◌, ◌<◌, ◌⊎◌, ◌+◌,
 use Rattle.std.specs.Prelude.{true, false, option_and_then}
 use Rattle.std.proofs.lemmas.Grind.{common_steps}
 use Rattle.vr_ask.specs.Asking.{Client, EndsWith, Exchanges, Faults, Stand}
-use Rattle.vr_ask.specs.Run.{AreExchanged, CountsLine, EndsAt, EndsLines, Exchange, Hears, IsExchanged, Judges, Reading, ReadsLine, StopsAt, Takes, count_after, limit}
+use Rattle.vr_ask.specs.Run.{AreExchanged, CountsLine, EndsAt, EndsLines, Exchange, Hears, IsExchanged, Judges, Reading, ReadsLine, StopsAt, Takes, limit}
 use Rattle.vr_ask.specs.Stops.{stop_status}
 use Rattle.vr_ask.specs.Text.{operation_of, unless_register}
 use Rattle.vr_header.specs.declared.operation.Operation.{Operation}
@@ -15,7 +15,7 @@ use Rattle.vr_reader.specs.declared.fault.LineStop.TheVariants as stop
 use Rattle.vr_reader.specs.declared.next.Next.{Next}
 use Rattle.vr_sched.specs.Grammar.{operation_words}
 use Rattle.vr_sched.specs.Words.{words_of}
-use Rattle.vr_status.specs.Counts.{writes_after}
+use Rattle.vr_status.specs.Counts.{reads_after, writes_after}
 use Rattle.vr_status.specs.declared.status.Status.{Status}
 use Rattle.vr_status.specs.declared.status.Status.TheVariants as status
 
@@ -62,7 +62,7 @@ pub stopped : (number : ℕ) (r r' : Reading) (s : LineStop) → Breaks r.rest r
 stopped number r r' stop.Read b = b
 stopped number r r' stop.NoMemory b = inl b
 
-pub stopped_counts : (before now : ℕ) (s : LineStop) → LineCause {T = Next} before now (Err s) → now ≡ count_after (stop_status s) before
+pub stopped_counts : (before now : ℕ) (s : LineStop) → LineCause {T = Next} before now (Err s) → now ≡ reads_after (stop_status s) before
 stopped_counts before now stop.Read e = e
 stopped_counts before now stop.NoMemory e = e
 

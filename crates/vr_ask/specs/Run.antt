@@ -2,7 +2,7 @@
 use Rattle.std.specs.Prelude.{ℕ, ◌≡◌, ◌≤◌, ◌<◌, ◌⊎◌, ◌+◌, ⊤, Bool, true, false, List, [], ◌∷◌, length, Option, Some, None, Result, Ok, Err}
 use Rattle.vr_ask.specs.Asking.{Client, EndsWith, Faults, IsAnswered, Stand}
 use Rattle.vr_ask.specs.Text.{longest, operation_of}
-use Rattle.vr_base.specs.Causes.{Rose, one_more}
+use Rattle.vr_base.specs.Causes.{Rose}
 use Rattle.vr_client.specs.declared.answer.Answer.TheVariants as answer
 use Rattle.vr_edge.specs.Attaching.{attach_of}
 use Rattle.vr_edge.specs.Datagrams.{Arrival}
@@ -15,6 +15,7 @@ use Rattle.vr_msg.specs.declared.reply.Answered.{Answered}
 use Rattle.vr_reader.specs.Finding.{Breaks, FindsLine, rest}
 use Rattle.vr_reader.specs.declared.room.Lines.{Lines}
 use Rattle.vr_reader.specs.declared.next.Next.TheVariants as next
+use Rattle.vr_status.specs.Counts.{reads_after}
 use Rattle.vr_status.specs.declared.status.Status.{Status}
 use Rattle.vr_status.specs.declared.status.Status.TheVariants.{Done, Refused, ReadFault, LinkFault, NoMemory}
 
@@ -141,11 +142,6 @@ ClientEnds c peers o o' before now status =
 abbrev pub client_with : ℕ → ℕ → ℕ → ℕ → Client
 client_with cluster id n turns = record { cluster = cluster; id = id; n = n; turns = turns }
 
--- the count of the source's faults at the end: each read that failed is told, and no other answer leaves one
-abbrev pub count_after : Status → ℕ → ℕ
-count_after ReadFault count = one_more count
-count_after _ count = count
-
 -- what a read line that isn't asked makes of the run
 abbrev pub Judges : ℕ → List ℕ → Result Operation Status → Type 0
 Judges number line (Ok operation) = (operation_of line ≡ Some operation) × (number ≤ limit)
@@ -161,7 +157,7 @@ Hears number r r' (Err status) = StopsAt number r r' status
 -- the count of the source's faults after a line
 abbrev pub CountsLine : {T : Type 0} → ℕ → ℕ → Result T Status → Type 0
 CountsLine before now (Ok x) = now ≡ before
-CountsLine before now (Err status) = now ≡ count_after status before
+CountsLine before now (Err status) = now ≡ reads_after status before
 
 -- the line with this number was read, asked and answered, or the run ends there
 abbrev pub Takes : Client → ℕ → Reading → Stand → Reading → Stand → Faults → Faults → Result (Unit {0}) Status → Type 0

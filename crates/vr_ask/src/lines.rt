@@ -1,9 +1,9 @@
 //! The lines of a source, asked one after the other.
 ghost use Rattle.std.specs.Prelude.{◌≡◌, ◌≤◌, ◌<◌, ◌+◌, OnOk};
 ghost use Rattle.vr_ask.specs.Asking.{CountsWrites, client_of, faults, stand};
-ghost use Rattle.vr_ask.specs.Run.{CountsLine, EndsLines, Hears, Judges, Takes, count_after, reading};
+ghost use Rattle.vr_ask.specs.Run.{CountsLine, EndsLines, Hears, Judges, Takes, reading};
 ghost use Rattle.vr_ask.specs.Stops.{stop_status};
-ghost use Rattle.vr_status.specs.Counts.{writes_after};
+ghost use Rattle.vr_status.specs.Counts.{reads_after, writes_after};
 
 use crate::asking::exchange;
 use crate::text::read_line;
@@ -109,7 +109,7 @@ pub fn ask_lines<S: Source, K: Sink, L: Link>(
         (reading lines.old (S.left source.old)) (stand core.old (L.sent link.old) (L.received link.old) (K.taken sink.old))
         (reading lines.new (S.left source.new)) (stand core.new (L.sent link.new) (L.received link.new) (K.taken sink.new))
         (faults (L.faults link.old) (K.faults sink.old)) (faults (L.faults link.new) (K.faults sink.new)) result }
-    ensures counts { S.faults source.new ≡ count_after result (S.faults source.old) }
+    ensures counts { S.faults source.new ≡ reads_after result (S.faults source.old) }
     ensures link { L.faults link.old ≤ L.faults link.new }
     ensures sink { K.faults sink.new ≡ writes_after result (K.faults sink.old) }
     ensures attached { L.attached link.new ≡ L.attached link.old }

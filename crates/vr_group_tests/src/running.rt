@@ -49,7 +49,7 @@ fn run_over(
 
 /// Runs over a sink with so much room, whose writes of these numbers fail. Each function that drops objects is dear to
 /// prove, the more so the more often it can end early: so this one alone drops a sink, and `replayed` and `ran` a source.
-pub fn played(
+pub(crate) fn played(
     alloc: Global,
     words: &[&str],
     source: &mut MemSource,
@@ -73,7 +73,7 @@ fn written(
 }
 
 /// Runs on a schedule whose reads do not fail.
-pub fn ran(
+pub(crate) fn ran(
     alloc: Global,
     words: &[&str],
     schedule: &[u8],
@@ -85,23 +85,23 @@ pub fn ran(
 }
 
 /// Replays a schedule whose reads and writes do not fail.
-pub fn replayed(alloc: Global, schedule: &[u8]) -> Result<Ending, AllocError> {
+pub(crate) fn replayed(alloc: Global, schedule: &[u8]) -> Result<Ending, AllocError> {
     ran(alloc, &["replay"], schedule, 65_536, &[])
 }
 
 /// Replays a schedule whose read of this number fails.
-pub fn replayed_to(alloc: Global, schedule: Vec<u8>, failing: u64) -> Result<Ending, AllocError> {
+pub(crate) fn replayed_to(alloc: Global, schedule: Vec<u8>, failing: u64) -> Result<Ending, AllocError> {
     let mut source = MemSource::new(schedule, vec![in alloc; failing]?);
     played(alloc, &["replay"], &mut source, 4096, &[])
 }
 
-pub fn check(rt: &impl Abort, played: Ending, end: Status, text: &str, row: &[u8]) {
+pub(crate) fn check(rt: &impl Abort, played: Ending, end: Status, text: &str, row: &[u8]) {
     assert_eq!(rt; played.end, end, "at {row:?}");
     assert_eq!(rt; played.text.as_slice(), text.as_bytes(), "at {row:?}");
 }
 
 /// The lines that are two spaces in, without these, or else those that are not.
-pub fn lines_of(alloc: Global, row: &str, outputs: bool) -> Result<String, AllocError> {
+pub(crate) fn lines_of(alloc: Global, row: &str, outputs: bool) -> Result<String, AllocError> {
     let mut lines = String::new(alloc);
     for line in row.lines() {
         let output = line.strip_prefix("  ");
@@ -113,7 +113,7 @@ pub fn lines_of(alloc: Global, row: &str, outputs: bool) -> Result<String, Alloc
     Ok(lines)
 }
 
-pub fn check_outputs(rt: &impl Abort, alloc: Global, row: &str, outputs: &str) -> Result<(), Fail> {
+pub(crate) fn check_outputs(rt: &impl Abort, alloc: Global, row: &str, outputs: &str) -> Result<(), Fail> {
     let schedule = lines_of(alloc, row, false)?;
     let played = replayed(alloc, schedule.as_bytes())?;
     check(rt, played, Status::Done, outputs, row.as_bytes());
@@ -121,13 +121,13 @@ pub fn check_outputs(rt: &impl Abort, alloc: Global, row: &str, outputs: &str) -
 }
 
 /// A replay, and the outputs of each line under it, two spaces in.
-pub fn check_row(rt: &impl Abort, alloc: Global, row: &str) -> Result<(), Fail> {
+pub(crate) fn check_row(rt: &impl Abort, alloc: Global, row: &str) -> Result<(), Fail> {
     let outputs = lines_of(alloc, row, true)?;
     check_outputs(rt, alloc, row, outputs.as_str())
 }
 
 /// A request to replica 0 of a group of two, which makes entry `op`, and the two messages that commit it.
-pub fn executed(schedule: &mut String, op: u32, request: &str) -> Result<(), AllocError> {
+pub(crate) fn executed(schedule: &mut String, op: u32, request: &str) -> Result<(), AllocError> {
     let first = op.saturating_sub(1).saturating_mul(2);
     let second = first.saturating_add(1);
     write!(
@@ -137,7 +137,7 @@ pub fn executed(schedule: &mut String, op: u32, request: &str) -> Result<(), All
 }
 
 /// How the outputs of a schedule end.
-pub fn check_end(rt: &impl Abort, alloc: Global, schedule: &str, end: &str) -> Result<(), Fail> {
+pub(crate) fn check_end(rt: &impl Abort, alloc: Global, schedule: &str, end: &str) -> Result<(), Fail> {
     let played = replayed(alloc, schedule.as_bytes())?;
     assert_eq!(rt; played.end, Status::Done);
     assert!(rt; played.text.ends_with(end.as_bytes()));

@@ -41,12 +41,12 @@ fn asked() -> Header {
     }
 }
 
-pub fn register(alloc: Global) -> Result<Vec<u8>, AllocError> {
+pub(crate) fn register(alloc: Global) -> Result<Vec<u8>, AllocError> {
     spelled(alloc, asked(), &[1])
 }
 
 /// The reply of member 0 to it: of kind 1 at an op, with this outcome, or of another kind.
-pub fn reply(alloc: Global, kind: u8, op: u64, outcome: &[u8]) -> Result<Vec<u8>, AllocError> {
+pub(crate) fn reply(alloc: Global, kind: u8, op: u64, outcome: &[u8]) -> Result<Vec<u8>, AllocError> {
     let header = Header {
         client: 7,
         request_name: over(asked(), &[1]).name(),
@@ -58,7 +58,7 @@ pub fn reply(alloc: Global, kind: u8, op: u64, outcome: &[u8]) -> Result<Vec<u8>
 }
 
 /// A commit of member 0 in this view.
-pub fn commit(alloc: Global, view: u32) -> Result<Vec<u8>, AllocError> {
+pub(crate) fn commit(alloc: Global, view: u32) -> Result<Vec<u8>, AllocError> {
     let header = Header {
         view,
         ..plain(Command::Commit)
@@ -67,12 +67,12 @@ pub fn commit(alloc: Global, view: u32) -> Result<Vec<u8>, AllocError> {
 }
 
 /// A start_view of view 0 that has no entry.
-pub fn start_view(alloc: Global) -> Result<Vec<u8>, AllocError> {
+pub(crate) fn start_view(alloc: Global) -> Result<Vec<u8>, AllocError> {
     spelled(alloc, plain(Command::StartView), &[])
 }
 
 /// A prepare from this member in view 0, of client 7's register as op `op` of a group.
-pub fn prepare(alloc: Global, cluster: u64, replica: u8, op: u64) -> Result<Vec<u8>, AllocError> {
+pub(crate) fn prepare(alloc: Global, cluster: u64, replica: u8, op: u64) -> Result<Vec<u8>, AllocError> {
     let entry = Header {
         cluster,
         client: 7,

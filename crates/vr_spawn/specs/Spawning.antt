@@ -1,6 +1,5 @@
 -- What a spawner tells of its calls.
 use Rattle.std.specs.Prelude.{ℕ, ◌+◌, ◌≡◌, List, Some, None, true, false, Result, Ok, Err, IfOk, OnOk, OnErr}
-pub use Rattle.vr_edge.specs.Attaching.{texts_of}
 use Rattle.vr_spawn.specs.declared.spawner.SpawnCall.{SpawnCall}
 use Rattle.vr_spawn.specs.declared.spawner.SpawnCall.TheVariants.{Start, Stop}
 

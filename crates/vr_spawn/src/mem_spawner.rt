@@ -1,9 +1,10 @@
 //! A spawner in memory.
 ghost use Rattle.std.specs.Prelude.{◌≡◌, [], ◌∷◌, IfOk, Some, if◌then◌else◌};
 ghost use Rattle.vr_base.specs.Causes.{HasCause};
+ghost use Rattle.vr_edge.specs.Attaching.{texts_of};
 ghost use Rattle.vr_edge.specs.Counts.{is_listed, one_more};
 ghost use Rattle.vr_edge.specs.Told.{Grows};
-ghost use Rattle.vr_spawn.specs.Spawning.{IsNumbered, started_by, stopped_by, texts_of};
+ghost use Rattle.vr_spawn.specs.Spawning.{IsNumbered, started_by, stopped_by};
 
 use crate::{SpawnCall, SpawnFailed, Spawner, Start, Stop};
 use std::alloc::{AllocError, Global};

@@ -1,8 +1,9 @@
 //! A spawner of programs.
 ghost use Rattle.std.specs.Prelude.{◌≡◌, List, [], ◌∷◌, ℕ, Option};
 ghost use Rattle.vr_base.specs.Causes.{HasCause};
+ghost use Rattle.vr_edge.specs.Attaching.{texts_of};
 ghost use Rattle.vr_edge.specs.Told.{Grows};
-ghost use Rattle.vr_spawn.specs.Spawning.{IsNumbered, started_by, stopped_by, texts_of};
+ghost use Rattle.vr_spawn.specs.Spawning.{IsNumbered, started_by, stopped_by};
 ghost use Rattle.vr_spawn.specs.declared.spawner.SpawnCall.{SpawnCall};
 
 use thiserror::Error;

@@ -36,6 +36,9 @@ fn let_go(bytes: &mut Vec<u8>, count: usize)
     ensures bytes { bytes.new.items ≡ drop count bytes.old.items }
     ensures capacity { vec_capacity bytes.new ≡ vec_capacity bytes.old }
 {
+    if count == 0 {
+        return;
+    }
     let len = bytes.len();
     bytes.as_mut_slice().copy_within(count..len, 0);
     bytes.truncate(len - count);

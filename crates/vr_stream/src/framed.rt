@@ -1,5 +1,5 @@
 //! Streams, and the messages of each.
-ghost use Rattle.std.specs.Prelude.{◌≡◌, ◌≤◌, ◌+◌, [], ◌∷◌, Ok, None, IfOk, OnOk, replicate, take, vec_capacity, vec_len};
+ghost use Rattle.std.specs.Prelude.{◌≡◌, ◌≤◌, ◌<◌, ◌+◌, ◌⊎◌, [], ◌∷◌, Ok, None, IfOk, OnErr, OnOk, replicate, take, vec_capacity, vec_len};
 
 use crate::framer::{Framer, Given};
 use std::alloc::{AllocError, Global};
@@ -19,7 +19,7 @@ pub struct Framed<T> {
 }
 
 impl<T: Streams> Framed<T> {
-    ghost use Rattle.vr_base.specs.Causes.{HasCause};
+    ghost use Rattle.vr_base.specs.Causes.{HasCause, Rose};
     ghost use Rattle.vr_edge.specs.Datagrams.{sent_by};
     ghost use Rattle.vr_edge.specs.Told.{Grows};
     ghost use Rattle.vr_edge.specs.Streaming.{IsPolled, polled_by};
@@ -135,6 +135,8 @@ impl<T: Streams> Framed<T> {
         ensures written { T.written self.new.streams ≡ T.written self.old.streams }
         ensures others { self.new.send_faults ≡ self.old.send_faults }
         ensures few { OnOk result (vec_len peers.now ≤ self.old.peers) }
+        ensures reached { OnOk result (T.attached self.new.streams ≡ vec_len peers.now) }
+        ensures failed { OnErr result ((self.old.peers < vec_len peers.now) ⊎ Rose (T.faults self.old.streams) (T.faults self.new.streams)) }
         ensures framing { self.new.framer ≡ self.old.framer }
         ensures calls { T.calls self.new.streams ≡ T.calls self.old.streams }
         ensures polled { T.polled self.new.streams ≡ T.polled self.old.streams }

@@ -1,5 +1,5 @@
 //! A link over streams.
-ghost use Rattle.std.specs.Prelude.{◌≡◌, ◌≤◌, ◌+◌, [], ◌∷◌, true, None, IfOk, OnOk, replicate, vec_capacity, vec_len};
+ghost use Rattle.std.specs.Prelude.{◌≡◌, ◌≤◌, ◌<◌, ◌+◌, ◌⊎◌, [], ◌∷◌, true, None, IfOk, OnErr, OnOk, replicate, vec_capacity, vec_len};
 ghost use Rattle.vr_stream.specs.Framers.{framing};
 ghost use Rattle.vr_stream.specs.Heard.{IsTold};
 
@@ -58,7 +58,7 @@ impl<T: Streams> StreamLink<T> {
 }
 
 impl<T: Streams> Link for StreamLink<T> {
-    ghost use Rattle.vr_base.specs.Causes.{HasCause};
+    ghost use Rattle.vr_base.specs.Causes.{HasCause, Rose};
     ghost use Rattle.vr_edge.specs.Attaching.{attached_by, texts_of};
     ghost use Rattle.vr_edge.specs.Datagrams.{sent_by, received_by};
     ghost use Rattle.vr_edge.specs.Told.{Grows, IsNothing};
@@ -86,6 +86,8 @@ impl<T: Streams> Link for StreamLink<T> {
         ensures received { ⟦<StreamLink<T> as Link>⟧.received self.new ≡ ⟦<StreamLink<T> as Link>⟧.received self.old }
         ensures others { self.new.framed.send_faults ≡ self.old.framed.send_faults }
         ensures few { OnOk result (vec_len peers.now ≤ self.old.framed.peers) }
+        ensures reached { OnOk result (T.attached self.new.framed.streams ≡ vec_len peers.now) }
+        ensures failed { OnErr result ((self.old.framed.peers < vec_len peers.now) ⊎ Rose (T.faults self.old.framed.streams) (T.faults self.new.framed.streams)) }
         ensures framing { self.new.framed.framer ≡ self.old.framed.framer }
         ensures calls { T.calls self.new.framed.streams ≡ T.calls self.old.framed.streams }
         ensures polled { T.polled self.new.framed.streams ≡ T.polled self.old.framed.streams }

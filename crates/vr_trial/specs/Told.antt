@@ -5,7 +5,7 @@ use Rattle.vr_ask.specs.Asking.{Client}
 use Rattle.vr_ask.specs.Run.{client_with}
 use Rattle.vr_header.specs.declared.operation.Operation.{Operation}
 use Rattle.vr_header.specs.declared.operation.Operation.TheVariants as operation
-use Rattle.vr_spawn.specs.Spawning.{texts_of}
+use Rattle.vr_edge.specs.Attaching.{texts_of}
 use Rattle.vr_trial.specs.declared.plan.Plan.{Plan}
 use Rattle.vr_trial.specs.declared.step.Question.{Question}
 use Rattle.vr_trial.specs.declared.step.Question.TheVariants.{Register, Put, Get}

@@ -1,6 +1,6 @@
 //! The words with which a member is started.
 ghost use Rattle.std.specs.Prelude.{◌≡◌, [], ◌∷◌, ◌++◌, IfOk, OnOk};
-ghost use Rattle.vr_spawn.specs.Spawning.{texts_of};
+ghost use Rattle.vr_edge.specs.Attaching.{texts_of};
 ghost use Rattle.vr_trial.specs.Told.{fresh_words, member_words, start_words, trial_of};
 
 use crate::plan::Plan;

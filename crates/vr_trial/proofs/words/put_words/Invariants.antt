@@ -1,6 +1,6 @@
 use Rattle.std.proofs.Common.{◌≡◌, ◌++◌, map, take}
 use Rattle.std.specs.Prelude.{string_bytes}
-use Rattle.vr_spawn.specs.Spawning.{texts_of}
+use Rattle.vr_edge.specs.Attaching.{texts_of}
 use Rattle.vr_trial.proofs.words.put_words.Given as goal
 
 abbrev pub invariant-loop-word : goal.invariant-loop-word
