@@ -51,6 +51,8 @@ heed_message n name (frame.GetPrepare g) = Ignored
 heed_message n name (frame.GivePrepare g) = Ignored
 heed_message n name (frame.GetBlock g) = Ignored
 heed_message n name (frame.GiveBlock g) = Ignored
+heed_message n name (frame.GetSync g) = Ignored
+heed_message n name (frame.SyncView v) = Ignored
 
 abbrev pub heed : ℕ → Sum → Option Letter → Heed
 heed n name None = Ignored

@@ -21,13 +21,15 @@ use Rattle.vr_msg.specs.declared.reply.ReplyKind.{ReplyKind}
 use Rattle.vr_msg.specs.declared.reply.ReplyKind.TheVariants as reply
 use Rattle.vr_msg.specs.declared.statement.Statement.{Statement}
 use Rattle.vr_msg.specs.Asking.{IsReplyKind}
-use Rattle.vr_msg.specs.Forms.{IsFrame}
+use Rattle.vr_msg.specs.declared.frame.SyncView.{SyncView}
+use Rattle.vr_msg.specs.Forms.{IsFrame, IsSyncView}
 use Rattle.vr_msg.specs.Logs.{FromOp, IsEntryAt, IsPartAt, IsStatement, has_header}
 use Rattle.vr_codec.specs.Reading.{frame_for, kind_at}
-use Rattle.vr_codec.specs.Shapes.{body_fits, entry_fits, has_shape, is_asked, is_body, is_view, kind_fits, log_fits, numbers_fit, parts_fit, statement_fits, tags_run, unused_names_are_zero, unused_numbers_are_zero}
-use Rattle.vr_msg.specs.Spelling.{AreHeaders, IsBodyValue, IsKindValue, body_bytes, command_for, frame_header, headers_bytes, kind_bytes, kind_number, kind_op, known, parts_bytes, tag}
+use Rattle.vr_codec.specs.Shapes.{body_fits, entry_fits, has_shape, is_asked, is_body, is_view, kind_fits, log_fits, numbers_fit, parts_fit, statement_fits, sync_fits, tags_run, unused_names_are_zero, unused_numbers_are_zero}
+use Rattle.vr_msg.specs.Spelling.{AreHeaders, IsBodyValue, IsKindValue, IsName, body_bytes, command_for, frame_header, headers_bytes, kind_bytes, kind_number, kind_op, known, parts_bytes, sync_bytes, tag}
 use Rattle.vr_codec.proofs.Fitting.{one_byte}
 use Rattle.vr_codec.proofs.Lists.{at_true, headers_again, headers_true}
+use Rattle.vr_codec.proofs.Syncs.{checkpoint_true, sync_parts}
 use Rattle.vr_codec.proofs.Parts.{body_again, body_parts, last_true, run_tags, tags_true}
 
 pub command_of_frame : (m : Frame) → (frame_header m).command ≡ command_for m
@@ -44,6 +46,8 @@ command_of_frame (frame.GetPrepare g) = refl
 command_of_frame (frame.GivePrepare g) = refl
 command_of_frame (frame.GetBlock g) = refl
 command_of_frame (frame.GiveBlock g) = refl
+command_of_frame (frame.GetSync g) = refl
+command_of_frame (frame.SyncView v) = refl
 
 pub size_of_frame : (m : Frame) → (frame_header m).size ≡ 128 + length (body_bytes m)
 size_of_frame (frame.Request q) = refl
@@ -59,6 +63,8 @@ size_of_frame (frame.GetPrepare g) = refl
 size_of_frame (frame.GivePrepare g) = refl
 size_of_frame (frame.GetBlock g) = refl
 size_of_frame (frame.GiveBlock g) = refl
+size_of_frame (frame.GetSync g) = refl
+size_of_frame (frame.SyncView v) = refl
 
 pub name_of_frame : (m : Frame) → (frame_header m).body.0 ≡ name_of (body_bytes m)
 name_of_frame (frame.Request q) = refl
@@ -74,6 +80,8 @@ name_of_frame (frame.GetPrepare g) = refl
 name_of_frame (frame.GivePrepare g) = refl
 name_of_frame (frame.GetBlock g) = refl
 name_of_frame (frame.GiveBlock g) = refl
+name_of_frame (frame.GetSync g) = refl
+name_of_frame (frame.SyncView v) = refl
 
 pub is_body_true : (h : Header) (body : List ℕ) → h.size ≡ 128 + length body → h.body.0 ≡ name_of body → is_body h body ≡ true
 unfolding is_body
@@ -96,6 +104,8 @@ names_true (frame.GetPrepare g) = refl
 names_true (frame.GivePrepare g) = refl
 names_true (frame.GetBlock g) = refl
 names_true (frame.GiveBlock g) = refl
+names_true (frame.GetSync g) = refl
+names_true (frame.SyncView v) = refl
 
 unused_true : (m : Frame) → unused_numbers_are_zero (frame_header m) ≡ true
 unfolding unused_numbers_are_zero
@@ -112,6 +122,8 @@ unused_true (frame.GetPrepare g) = refl
 unused_true (frame.GivePrepare g) = refl
 unused_true (frame.GetBlock g) = refl
 unused_true (frame.GiveBlock g) = refl
+unused_true (frame.GetSync g) = refl
+unused_true (frame.SyncView v) = refl
 
 positive : (n : ℕ) → 1 ≤ n → eqb n 0 ≡ false
 positive n l =
@@ -160,6 +172,8 @@ numbers_true (frame.GetPrepare g) i = three (frame_header (frame.GetPrepare g)) 
 numbers_true (frame.GivePrepare g) i = three (frame_header (frame.GivePrepare g)) (omega arith) i.header.op.1 (omega arith)
 numbers_true (frame.GetBlock g) i = three (frame_header (frame.GetBlock g)) (omega arith) (omega arith) (omega arith)
 numbers_true (frame.GiveBlock g) i = three (frame_header (frame.GiveBlock g)) (omega arith) (omega arith) (omega arith)
+numbers_true (frame.GetSync g) i = three (frame_header (frame.GetSync g)) i (omega arith) (omega arith)
+numbers_true (frame.SyncView v) i = three (frame_header (frame.SyncView v)) i.view i.head (let a = i.order.2 in let b = i.head in omega arith)
 
 -- ---- the bodies
 
@@ -232,6 +246,17 @@ parts_true h s head commit log_view view i a =
     rw (le-ltb (length (parts_bytes s.body)) 10 long, p.tags, p.rest, p.count, le-ltb 128 (length s.body.parts) i.count, le-ltb (length (parts_bytes s.body)) (10 + length s.body.parts) whole, p.first_there)
     (statement_true h s.body.first s.body.parts i.first.0 reach order later run a parts)
 
+checkpoint_small : (w : SyncView) → IsSyncView w → w.checkpoint < 2 ^ 64
+checkpoint_small w i = let a = i.order.1 in let b = i.order.2 in let c = i.head in omega arith
+
+sync_true : (w : SyncView) → IsSyncView w → IsName w.root_name → AreHeaders w.body.headers → sync_fits (frame_header (frame.SyncView w)) (sync_bytes w) ≡ true
+unfolding sync_fits
+sync_true w i n a =
+    let h = frame_header (frame.SyncView w) in
+    let p = sync_parts w (checkpoint_small w i) (let a = i.address in omega arith) n.0 in
+    rw (le-ltb (length (sync_bytes w)) 32 p.long, p.checkpoint, p.address, checkpoint_true h w.checkpoint w.root_address i.every i.order.0 i.order.1 i.address, p.rest)
+    (log_true h w.body.headers i.order.2 i.count i.short a i.headers)
+
 body_true : (m : Frame) → IsFrame m → IsBodyValue m → body_fits (command_for m) (frame_header m) (body_bytes m) ≡ true
 body_true (frame.Request q) i v = asked_true q.request q.operation v i
 body_true (frame.Reply r) i v = reply_true r.kind v
@@ -247,6 +272,8 @@ body_true (frame.GivePrepare g) i v =
     entry_true g.entry.header.cluster (2 ^ 32 - 2) g.entry.header.op g.entry i v.0 v.1 refl refl (let w = i.header.view in omega arith)
 body_true (frame.GetBlock g) i v = refl
 body_true (frame.GiveBlock g) i v = eq-eqb (length g.block) 4096 i
+body_true (frame.GetSync g) i v = refl
+body_true (frame.SyncView w) i v = sync_true w i v.0 v.1
 
 pub shape_true : (m : Frame) → IsFrame m → IsBodyValue m → has_shape (frame_header m) (body_bytes m) ≡ true
 unfolding has_shape
@@ -282,3 +309,8 @@ frame_again (frame.GetPrepare g) i v = refl
 frame_again (frame.GivePrepare g) i v = rw (entry_again g.entry i v.0 v.1) refl
 frame_again (frame.GetBlock g) i v = refl
 frame_again (frame.GiveBlock g) i v = refl
+frame_again (frame.GetSync g) i v = refl
+frame_again (frame.SyncView w) i v =
+    let count : w.head - w.body.lo ≡ length w.body.headers = (let c = i.count in omega arith) in
+    let p = sync_parts w (checkpoint_small w i) (let a = i.address in omega arith) v.0.0 in
+    rw (p.checkpoint, p.address, p.name, p.rest, count, headers_again w.body.headers v.1) refl

@@ -20,7 +20,7 @@ use Rattle.vr_msg.specs.declared.reply.ReplyKind.TheVariants as reply
 use Rattle.vr_msg.specs.Asking.{IsReplyKind}
 use Rattle.vr_codec.specs.Reading.{are_headers, kind_at, are_parts, headers_at, part_of_tag, parts_at, rest_at}
 use Rattle.vr_header.specs.Made.{Whole, entry_of}
-use Rattle.vr_codec.specs.Shapes.{after_tag, begins_entry, entry_fits, is_at, headers_fit, is_asked, is_ok_entry_at, is_view, knows, log_fits, numbers_fit, parts_fit, statement_fits, tags_fit, tags_run}
+use Rattle.vr_codec.specs.Shapes.{after_tag, begins_entry, entry_fits, is_at, headers_fit, is_asked, is_ok_entry_at, is_view, knows, log_fits, numbers_fit, parts_fit, statement_fits, sync_fits, tags_fit, tags_run}
 
 pub both : (a b : Bool) → (a && b) ≡ true → (a ≡ true) × (b ≡ true)
 both true b e = (refl, e)
@@ -298,4 +298,20 @@ entry_there cluster last op body e =
     ] in
     cases (entry_of body) e
 
-pub ruleset readable = (parts_readable, log_found, numbers, views, view_of, entry_there)
+sync_log : (n : ℕ) (x y : Bool) → cond (ltb n 32) false (cond (not x) false y) ≡ true → (32 ≤ n) × (y ≡ true)
+sync_log n x y e =
+    let long = passed (ltb n 32) _ e in
+    (ltb-false n 32 long.0, second x y long.1)
+  where
+    second : (x y : Bool) → cond (not x) false y ≡ true → y ≡ true
+    second true y e = e
+    second false y e = absurd cc
+
+pub sync_readable : (h : Header) (body : List ℕ) → sync_fits h body ≡ true → (32 ≤ length body) × (h.aux ≤ h.op) × (are_headers (h.op - h.aux) (drop 32 body) ≡ true)
+unfolding sync_fits
+sync_readable h body e =
+    let s = sync_log (length body) _ _ e in
+    let l = log_found h (drop 32 body) s.1 in
+    (s.0, l.0, l.1)
+
+pub ruleset readable = (parts_readable, log_found, sync_readable, numbers, views, view_of, entry_there)

@@ -1,5 +1,5 @@
 -- Bytes that pass the tests are a message's.
-use Rattle.std.proofs.Common.{◌≡◌, ℕ, zero, suc, ◌+◌, ◌-◌, ◌^◌, ◌≤◌, ◌<◌, Bool, true, false, cond, eqb, ltb, List, [], length, take, drop, refl, sym, ap, ◌∙◌, arith, subst, length-take, Option, Some, None}
+use Rattle.std.proofs.Common.{◌≡◌, ℕ, zero, suc, ◌+◌, ◌-◌, ◌^◌, ◌≤◌, ◌<◌, Bool, true, false, cond, eqb, ltb, List, [], ◌++◌, length, take, drop, refl, sym, ap, ◌∙◌, arith, subst, length-take, Option, Some, None}
 use Rattle.std.specs.Prelude.{◌&&◌, ◌||◌, IfSome, is_some, nat_eq, not, replicate}
 use Rattle.std.specs.Int.{w16, w64}
 use Rattle.std.specs.List.{prefix_len}
@@ -8,7 +8,8 @@ use Rattle.std.specs.Cmp.Lexicographic.{pointwise}
 use Rattle.std.proofs.lemmas.Bool.{eqb-true, ltb-false, ltb-true}
 use Rattle.std.proofs.lemmas.Slice.Eq.{bytes_eq-Decides}
 use Rattle.vr_base.specs.declared.sum.Sum.{Sum}
-use Rattle.vr_base.specs.Bytes.{IsBytes, name_of, number}
+use Rattle.vr_base.specs.Bytes.{IsBytes, bytes64, name_of, number, piece}
+use Rattle.vr_base.proofs.FieldLaws.{IsBytes-piece, length-piece}
 use Rattle.vr_header.specs.declared.command.Command.{Command}
 use Rattle.vr_header.specs.declared.command.Command.TheVariants as command
 use Rattle.vr_header.specs.declared.header.Header.{Header}
@@ -22,6 +23,7 @@ use Rattle.vr_header.proofs.BodyLaws.{operation_found, outcome_found}
 use Rattle.vr_header.proofs.EntryLaws.{IsSpelled, entry_found}
 use Rattle.vr_msg.specs.declared.frame.Frame.{Frame}
 use Rattle.vr_msg.specs.declared.frame.Frame.TheVariants as frame
+use Rattle.vr_msg.specs.declared.frame.SyncView.{SyncView}
 use Rattle.vr_msg.specs.declared.reply.ReplyKind.{ReplyKind}
 use Rattle.vr_msg.specs.declared.reply.ReplyKind.TheVariants as reply
 use Rattle.vr_msg.specs.declared.statement.DvcBody.{DvcBody}
@@ -30,10 +32,11 @@ use Rattle.vr_msg.specs.Asking.{IsReplyKind}
 use Rattle.vr_msg.specs.Forms.{IsFrame}
 use Rattle.vr_msg.specs.Logs.{IsStatement, has_header}
 use Rattle.vr_codec.specs.Reading.{body_at, frame_for, headers_at, kind_at, parts_at}
-use Rattle.vr_codec.specs.Shapes.{body_fits, entry_fits, has_shape, is_asked, is_at, is_body, is_no_name, is_view, kind_fits, knows, log_fits, numbers_fit, parts_fit, tags_run, unused_names_are_zero, unused_numbers_are_zero, uses_aux, uses_client, uses_commit, uses_op, uses_parent, uses_replica, uses_request_name, uses_view}
-use Rattle.vr_msg.specs.Spelling.{AreHeaders, IsBodyValue, IsKindValue, body_bytes, frame_header, headers_bytes, kind_bytes, kind_number, kind_op, known, parts_bytes}
+use Rattle.vr_codec.specs.Shapes.{body_fits, entry_fits, has_shape, is_asked, is_at, is_body, is_no_name, is_view, kind_fits, knows, log_fits, numbers_fit, parts_fit, sync_fits, tags_run, unused_names_are_zero, unused_numbers_are_zero, uses_aux, uses_client, uses_commit, uses_op, uses_parent, uses_replica, uses_request_name, uses_view}
+use Rattle.vr_msg.specs.Spelling.{AreHeaders, IsBodyValue, IsKindValue, body_bytes, frame_header, headers_bytes, kind_bytes, kind_number, kind_op, known, parts_bytes, sync_bytes}
 use Rattle.vr_codec.proofs.Fitting.{PartsFound, asked_form, both, numbers, parts_found, views}
 use Rattle.vr_codec.proofs.Lists.{HeadersFound, IsBytes-drop, at_found, headers_found, nothing}
+use Rattle.vr_codec.proofs.Syncs.{sync_found, sync_spelled}
 use Rattle.vr_codec.proofs.Parts.{PartsRead, body_spelled, last_found, last_says, length-tags, parts_read, run_tags}
 
 -- ---- the fields that the command has no use for
@@ -487,6 +490,62 @@ start_view_found h body b e =
       spelled = l.headers.spelled;
     }
 
+get_sync_found : (h : Header) (body : List ℕ) → Base command.GetSync h body → eqb (length body) 0 ≡ true → Found command.GetSync h body
+get_sync_found h body b e =
+    let z = b.zero in
+    record {
+      message = frame.GetSync (record { cluster = h.cluster; replica = h.replica; view = h.view });
+      read = refl;
+      header = header_is command.GetSync h body [] no_name no_name h.cluster 0 0 h.view 0 0 h.replica 0 0 b (nothing body e)
+          (z.parent refl) (z.request_name refl) refl (z.client refl) (z.request refl) refl (z.op refl) (z.commit refl) refl (z.kind refl) (z.aux refl);
+      form = b.view;
+      values = tt;
+      spelled = nothing body e;
+    }
+
+-- a log behind a checkpoint
+sync_view_found : (h : Header) (body : List ℕ) → Base command.SyncView h body → sync_fits h body ≡ true → Found command.SyncView h body
+sync_view_found h body b e =
+    let s = sync_found h body e in
+    let rest = drop 32 body in
+    let l = log_there h rest (IsBytes-drop 32 body b.bytes) s.log in
+    let hs = headers_at (h.op - h.aux) rest in
+    let n : length hs ≡ h.op - h.aux = l.headers.count in
+    let lo = l.lo in
+    let short = l.short in
+    let z = b.zero in
+    let v : SyncView = record {
+      cluster = h.cluster;
+      replica = h.replica;
+      view = h.view;
+      head = h.op;
+      commit = h.commit;
+      checkpoint = number w64 0 body;
+      root_address = number w64 8 body;
+      root_name = record { 0 = piece 16 16 body };
+      body = record { lo = h.aux; headers = hs };
+    } in
+    let spelled : sync_bytes v ≡ body =
+    ap (λ x. bytes64 (number w64 0 body) ++ (bytes64 (number w64 8 body) ++ (piece 16 16 body ++ x))) l.headers.spelled ∙ sync_spelled body b.bytes s.long in
+    record {
+      message = frame.SyncView v;
+      read = refl;
+      header = header_is command.SyncView h body (sync_bytes v) no_name no_name h.cluster 0 0 h.view h.op h.commit h.replica 0 h.aux b spelled
+          (z.parent refl) (z.request_name refl) refl (z.client refl) (z.request refl) refl refl refl refl (z.kind refl) refl;
+      form = record {
+        view = b.view;
+        head = b.op;
+        order = (s.above, s.committed, l.commit);
+        every = s.every;
+        address = s.address;
+        count = omega arith;
+        short = omega arith;
+        headers = l.headers.entries;
+      };
+      values = ((length-piece 16 16 body s.long, IsBytes-piece 16 16 body b.bytes), l.headers.values);
+      spelled = spelled;
+    }
+
 -- the tests of a statement
 record RunFound (head first : ℕ) (ts : List ℕ) : Type 0 where
   run : first + prefix_len knows ts ≡ head + 1
@@ -574,6 +633,8 @@ kind_by_kind command.GivePrepare h body b e = give_prepare_found h body b e
 kind_by_kind command.GetBlock h body b e = get_block_found h body b e
 kind_by_kind command.GiveBlock h body b e = give_block_found h body b e
 kind_by_kind command.Block h body b e = absurd cc
+kind_by_kind command.GetSync h body b e = get_sync_found h body b e
+kind_by_kind command.SyncView h body b e = sync_view_found h body b e
 
 pub record ShapeFound (h : Header) (body : List ℕ) : Type 0 where
   pub numbers : numbers_fit h ≡ true

@@ -4,4 +4,5 @@ pub mod Fitting
 pub mod Found
 pub mod Lists
 pub mod Parts
+pub mod Syncs
 pub mod Written

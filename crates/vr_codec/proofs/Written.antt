@@ -22,8 +22,9 @@ use Rattle.vr_msg.specs.declared.frame.Frame.TheVariants as frame
 use Rattle.vr_msg.specs.declared.reply.ReplyKind.{ReplyKind}
 use Rattle.vr_msg.specs.declared.reply.ReplyKind.TheVariants as reply
 use Rattle.vr_msg.specs.declared.statement.DvcBody.{DvcBody}
+use Rattle.vr_msg.specs.declared.frame.SyncView.{SyncView}
 use Rattle.vr_msg.specs.Forms.{IsFrame}
-use Rattle.vr_msg.specs.Spelling.{AreHeaders, IsBodyValue, IsKindValue, body_bytes, frame_header, headers_bytes, kind_bytes, known, parts_bytes, spelling, tag}
+use Rattle.vr_msg.specs.Spelling.{AreHeaders, IsBodyValue, IsKindValue, body_bytes, frame_header, headers_bytes, kind_bytes, known, parts_bytes, spelling, sync_bytes, tag}
 use Rattle.vr_codec.proofs.Parts.{length-tags}
 
 pub headers_next : (hs : List Header) (i : ℕ) (d : Header) → i < length hs → headers_bytes (drop i hs) ≡ header_bytes (get_or hs i d) ++ headers_bytes (drop (i + 1) hs)
@@ -150,6 +151,19 @@ parts_short d l a =
       length-tags d.parts,
     )
 
+sync_short : (v : SyncView) → length v.root_name.0 ≡ 16 → length v.body.headers ≤ 64 → AreHeaders v.body.headers → length (sync_bytes v) ≤ 8224
+sync_short v n l a =
+    let hs = headers_bytes v.body.headers in
+    let h = headers_long v.body.headers a in
+    omega (
+      arith,
+      length-append (bytes64 v.checkpoint) (bytes64 v.root_address ++ (v.root_name.0 ++ hs)),
+      length-append (bytes64 v.root_address) (v.root_name.0 ++ hs),
+      length-append v.root_name.0 hs,
+      length-bytes64 v.checkpoint,
+      length-bytes64 v.root_address,
+    )
+
 -- a message has at most 20,480 bytes
 pub body_short : (m : Frame) → IsFrame m → IsBodyValue m → length (body_bytes m) ≤ 20352
 body_short (frame.Request q) i v = let l = operation_short q.operation v in omega arith
@@ -165,6 +179,8 @@ body_short (frame.GetPrepare g) i v = omega arith
 body_short (frame.GivePrepare g) i v = let l = entry_short g.entry v.0 v.1 in omega arith
 body_short (frame.GetBlock g) i v = omega arith
 body_short (frame.GiveBlock g) i v = omega arith
+body_short (frame.GetSync g) i v = omega arith
+body_short (frame.SyncView w) i v = let l = sync_short w v.0.0 i.short v.1 in omega arith
 
 -- a header that is put before a body
 pub put_front : (start : ℕ) (m : Frame) (h : Header) (head old new : List ℕ) → h ≡ frame_header m → head ≡ header_bytes h → IsHeader h

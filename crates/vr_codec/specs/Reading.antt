@@ -2,7 +2,7 @@
 use Rattle.std.specs.Prelude.{ℕ, zero, suc, ◌+◌, ◌-◌, ◌==◌, Bool, true, false, not, ◌&&◌, ◌||◌, if◌then◌else◌, List, [], ◌∷◌, take, drop, Option, Some, None, is_ok}
 use Rattle.std.specs.Int.{w16, w64}
 use Rattle.std.specs.Option.{option_map}
-use Rattle.vr_base.specs.Bytes.{number}
+use Rattle.vr_base.specs.Bytes.{number, piece}
 use Rattle.vr_header.specs.declared.command.Command.{Command}
 use Rattle.vr_header.specs.declared.command.Command.TheVariants as command
 use Rattle.vr_header.specs.declared.header.Header.{Header}
@@ -81,6 +81,7 @@ bare_for command.GetView h = Some (frame.GetView (record { cluster = h.cluster; 
 bare_for command.GetPrepare h =
     Some (frame.GetPrepare (record { cluster = h.cluster; replica = h.replica; op = h.op; name = h.parent; made = h.aux }))
 bare_for command.GetBlock h = Some (frame.GetBlock (record { cluster = h.cluster; replica = h.replica; address = h.aux; name = h.parent }))
+bare_for command.GetSync h = Some (frame.GetSync (record { cluster = h.cluster; replica = h.replica; view = h.view }))
 bare_for _ h = None
 
 abbrev pub frame_for : Command → Header → List ℕ → Option Frame
@@ -119,6 +120,18 @@ frame_for command.StartView h body =
 frame_for command.GivePrepare h body = option_map (λ e. frame.GivePrepare (record { replica = h.replica; entry = e })) (entry_of body)
 frame_for command.GiveBlock h body =
     Some (frame.GiveBlock (record { cluster = h.cluster; replica = h.replica; address = h.aux; block = body }))
+frame_for command.SyncView h body =
+    Some (frame.SyncView (record {
+      cluster = h.cluster;
+      replica = h.replica;
+      view = h.view;
+      head = h.op;
+      commit = h.commit;
+      checkpoint = number w64 0 body;
+      root_address = number w64 8 body;
+      root_name = record { 0 = piece 16 16 body };
+      body = record { lo = h.aux; headers = headers_at (h.op - h.aux) (drop 32 body) };
+    }))
 frame_for c h body = bare_for c h
 
 -- what a header with this body says, if its command is a message's

@@ -1,5 +1,5 @@
 -- Tests that find whether a header and the bytes after it are of a message's form.
-use Rattle.std.specs.Prelude.{ℕ, zero, suc, ◌+◌, ◌-◌, ◌^◌, ◌==◌, Bool, true, false, not, ◌&&◌, ◌||◌, nat_lt, nat_le, nat_eq, if◌then◌else◌, List, [], ◌∷◌, length, take, drop, replicate, slice_index, Option, Some, None, is_some, Result, Ok, Err}
+use Rattle.std.specs.Prelude.{ℕ, zero, suc, ◌+◌, ◌-◌, ◌^◌, ◌%◌, ◌==◌, Bool, true, false, not, ◌&&◌, ◌||◌, nat_lt, nat_le, nat_eq, if◌then◌else◌, List, [], ◌∷◌, length, take, drop, replicate, slice_index, Option, Some, None, is_some, Result, Ok, Err}
 use Rattle.std.specs.Cmp.Lexicographic.{pointwise}
 use Rattle.std.specs.Int.{w16, w64}
 use Rattle.std.specs.List.{prefix_len}
@@ -46,6 +46,7 @@ uses_op command.StartViewChange = false
 uses_op command.GetView = false
 uses_op command.GetBlock = false
 uses_op command.GiveBlock = false
+uses_op command.GetSync = false
 uses_op _ = true
 
 abbrev pub uses_commit : Command → Bool
@@ -53,6 +54,7 @@ uses_commit command.Prepare = true
 uses_commit command.Commit = true
 uses_commit command.DoViewChange = true
 uses_commit command.StartView = true
+uses_commit command.SyncView = true
 uses_commit _ = false
 
 abbrev pub uses_replica : Command → Bool
@@ -66,6 +68,7 @@ uses_aux command.StartView = true
 uses_aux command.GetPrepare = true
 uses_aux command.GetBlock = true
 uses_aux command.GiveBlock = true
+uses_aux command.SyncView = true
 uses_aux _ = false
 
 abbrev pub is_no_name : Sum → Bool
@@ -147,6 +150,21 @@ log_fits h body =
     else (if nat_lt 64 (h.op - h.aux) then false
     else headers_fit h.cluster h.view (h.op - h.aux) (h.aux + 1) body))
 
+-- a checkpoint is of a committed op whose header is among those of the log, and its root stands in the grid
+unfoldable pub checkpoint_fits : Header → ℕ → ℕ → Bool
+checkpoint_fits h checkpoint address =
+    if not (checkpoint % 32 == 0) then false
+    else (if nat_le checkpoint h.aux then false
+    else (if nat_lt h.commit checkpoint then false
+    else nat_lt address 128))
+
+-- the checkpoint's op, its root's address and name, and a log
+unfoldable pub sync_fits : Header → List ℕ → Bool
+sync_fits h body =
+    if nat_lt (length body) 32 then false
+    else (if not (checkpoint_fits h (number w64 0 body) (number w64 8 body)) then false
+    else log_fits h (drop 32 body))
+
 -- the tag of a Part that knows its header
 abbrev pub knows : ℕ → Bool
 knows tag = nat_le 1 tag && nat_le tag 3
@@ -200,6 +218,8 @@ body_fits command.GetPrepare h body = is_view h.aux && (length body == 0)
 body_fits command.GivePrepare h body = entry_fits h.cluster (2 ^ 32 - 2) h.op body
 body_fits command.GetBlock h body = length body == 0
 body_fits command.GiveBlock h body = length body == 4096
+body_fits command.GetSync h body = length body == 0
+body_fits command.SyncView h body = sync_fits h body
 body_fits _ h body = false
 
 unfoldable pub has_shape : Header → List ℕ → Bool

@@ -6,8 +6,8 @@ ghost use Rattle.vr_msg.specs.Spelling.{command_for, header_before, kind_number,
 use vr_base::{Sum, checksum};
 use vr_header::{Command, Header, Size};
 use vr_msg::{
-    Commit, DoViewChange, Frame, GetBlock, GetPrepare, GetView, GiveBlock, GivePrepare, Prepare,
-    PrepareOk, Reply, ReplyKind, Request, StartView, StartViewChange,
+    Commit, DoViewChange, Frame, GetBlock, GetPrepare, GetSync, GetView, GiveBlock, GivePrepare,
+    Prepare, PrepareOk, Reply, ReplyKind, Request, StartView, StartViewChange, SyncView,
 };
 
 /// The command of a message.
@@ -28,6 +28,8 @@ pub(crate) fn command_for(frame: &Frame) -> Command
         Frame::GivePrepare(_) => Command::GivePrepare,
         Frame::GetBlock(_) => Command::GetBlock,
         Frame::GiveBlock(_) => Command::GiveBlock,
+        Frame::GetSync(_) => Command::GetSync,
+        Frame::SyncView(_) => Command::SyncView,
     }
 }
 
@@ -99,6 +101,8 @@ pub(crate) fn with_fields(frame: &Frame, h: Header) -> Header
         Frame::GivePrepare(g) => give_prepare_fields(g, h),
         Frame::GetBlock(g) => get_block_fields(g, h),
         Frame::GiveBlock(g) => give_block_fields(g, h),
+        Frame::GetSync(g) => get_sync_fields(g, h),
+        Frame::SyncView(v) => sync_view_fields(v, h),
     }
 }
 
@@ -266,6 +270,31 @@ fn give_block_fields(g: &GiveBlock, h: Header) -> Header
         cluster: g.cluster,
         replica: g.replica,
         aux: g.address,
+        ..h
+    }
+}
+
+fn get_sync_fields(g: &GetSync, h: Header) -> Header
+    ensures { result ≡ with_fields (Frame.GetSync g.now) h }
+{
+    Header {
+        cluster: g.cluster,
+        replica: g.replica,
+        view: g.view,
+        ..h
+    }
+}
+
+fn sync_view_fields(v: &SyncView, h: Header) -> Header
+    ensures { result ≡ with_fields (Frame.SyncView v.now) h }
+{
+    Header {
+        cluster: v.cluster,
+        replica: v.replica,
+        view: v.view,
+        op: v.head,
+        commit: v.commit,
+        aux: v.body.lo,
         ..h
     }
 }

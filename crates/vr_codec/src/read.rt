@@ -11,12 +11,12 @@ ghost use Rattle.vr_codec.specs.Reading.{kind_at, headers_at, are_headers, are_p
 
 use crate::shape::knows;
 use std::alloc::{AllocError, Global};
-use vr_base::{ByteList, Seq, u16_at, u64_at};
+use vr_base::{ByteList, Seq, sum_at, u16_at, u64_at};
 use vr_header::{Command, Entry, Header, HeaderList, Operation, Outcome, Part, decoded_header};
 use vr_msg::{
-    Answered, Commit, DoViewChange, DvcBody, Frame, GetBlock, GetPrepare, GetView, GiveBlock,
-    GivePrepare, Prepare, PrepareOk, Reply, ReplyFields, ReplyKind, Request, RequestFields,
-    StartView, StartViewChange, Statement, SvBody,
+    Answered, Commit, DoViewChange, DvcBody, Frame, GetBlock, GetPrepare, GetSync, GetView,
+    GiveBlock, GivePrepare, Prepare, PrepareOk, Reply, ReplyFields, ReplyKind, Request,
+    RequestFields, StartView, StartViewChange, Statement, SvBody, SyncView,
 };
 
 #[tactic(auto, unfolding(crate::specs::Reading::kind_at))]
@@ -214,6 +214,29 @@ fn read_give_block(alloc: Global, h: &Header, body: &[u8]) -> Result<Option<Fram
     })))
 }
 
+fn read_sync_view(alloc: Global, h: &Header, body: &[u8]) -> Result<Option<Frame>, AllocError>
+    requires long { 32 ≤ length body.now }
+    requires lo { h.now.aux ≤ h.now.op }
+    requires headers { are_headers (h.now.op - h.now.aux) (drop 32 body.now) ≡ true }
+    ensures { IfOk result (λ read. read ≡ frame_for Command.SyncView h.now body.now) }
+{
+    let (_, headers) = body.split_at(32);
+    Ok(Some(Frame::SyncView(SyncView {
+        cluster: h.cluster,
+        replica: h.replica,
+        view: h.view,
+        head: h.op,
+        commit: h.commit,
+        checkpoint: u64_at(body, 0),
+        root_address: u64_at(body, 8),
+        root_name: sum_at(body, 16),
+        body: SvBody {
+            lo: h.aux,
+            headers: read_headers(alloc, h.op - h.aux, headers)?,
+        },
+    })))
+}
+
 fn read_prepare_ok(h: &Header) -> PrepareOk
     requires { h.now.aux < 2 ^ 32 }
     ensures { bare_for Command.PrepareOk h.now ≡ Some (Frame.PrepareOk result) }
@@ -272,6 +295,11 @@ fn read_bare(h: &Header) -> Option<Frame>
             address: h.aux,
             name: h.parent,
         })),
+        Command::GetSync => Some(Frame::GetSync(GetSync {
+            cluster: h.cluster,
+            replica: h.replica,
+            view: h.view,
+        })),
         _ => None,
     }
 }
@@ -295,6 +323,7 @@ pub(crate) fn read_frame(
         Command::DoViewChange => read_do_view_change(alloc, h, body),
         Command::StartView => read_start_view(alloc, h, body),
         Command::GiveBlock => read_give_block(alloc, h, body),
+        Command::SyncView => read_sync_view(alloc, h, body),
         _ => Ok(read_bare(h)),
     }
 }

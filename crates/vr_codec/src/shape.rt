@@ -3,7 +3,7 @@ ghost use Rattle.std.specs.Prelude.{◌≡◌, ◌||◌, ◌+◌, ◌≤◌, ◌
 ghost use Rattle.std.specs.List.{prefix_len};
 ghost use Rattle.std.specs.Option.{option_map};
 ghost use Rattle.vr_header.specs.declared.command.Command.{Command};
-ghost use Rattle.vr_codec.specs.Shapes.{uses_parent, uses_request_name, uses_client, uses_view, uses_op, uses_commit, uses_replica, uses_aux, is_no_name, unused_names_are_zero, unused_numbers_are_zero, is_view, is_number, numbers_fit, is_asked, kind_fits, is_at, is_ok_entry_at, begins_entry, is_body, entry_fits, headers_fit, log_fits, knows, after_tag, tags_fit, tags_run, statement_fits, parts_fit, body_fits, has_shape, inspected, inspected_with};
+ghost use Rattle.vr_codec.specs.Shapes.{uses_parent, uses_request_name, uses_client, uses_view, uses_op, uses_commit, uses_replica, uses_aux, is_no_name, unused_names_are_zero, unused_numbers_are_zero, is_view, is_number, numbers_fit, is_asked, kind_fits, is_at, is_ok_entry_at, begins_entry, is_body, entry_fits, headers_fit, checkpoint_fits, log_fits, sync_fits, knows, after_tag, tags_fit, tags_run, statement_fits, parts_fit, body_fits, has_shape, inspected, inspected_with};
 
 use crate::MsgFault;
 use vr_base::{Sum, checksum, u16_at, u64_at};
@@ -53,6 +53,7 @@ fn uses_op(command: Command) -> bool
             | Command::GetView
             | Command::GetBlock
             | Command::GiveBlock
+            | Command::GetSync
     )
 }
 
@@ -61,7 +62,11 @@ fn uses_commit(command: Command) -> bool
 {
     matches!(
         command,
-        Command::Prepare | Command::Commit | Command::DoViewChange | Command::StartView
+        Command::Prepare
+            | Command::Commit
+            | Command::DoViewChange
+            | Command::StartView
+            | Command::SyncView
     )
 }
 
@@ -82,6 +87,7 @@ fn uses_aux(command: Command) -> bool
             | Command::GetPrepare
             | Command::GetBlock
             | Command::GiveBlock
+            | Command::SyncView
     )
 }
 
@@ -273,6 +279,38 @@ fn log_fits(h: &Header, body: &[u8]) -> bool
     headers_fit(h.cluster, h.view, h.op - h.aux, h.aux + 1, body)
 }
 
+// Whether a checkpoint of this op, whose root has this address, may stand before the log of the header.
+#[tactic(auto, unfolding(crate::specs::Shapes::checkpoint_fits))]
+fn checkpoint_fits(h: &Header, checkpoint: u64, address: u64) -> bool
+    ensures { result ≡ checkpoint_fits h.now checkpoint address }
+{
+    if checkpoint % 32 != 0 {
+        return false;
+    }
+    if checkpoint <= h.aux {
+        return false;
+    }
+    if h.commit < checkpoint {
+        return false;
+    }
+    address < 128
+}
+
+#[tactic(auto, unfolding(crate::specs::Shapes::sync_fits))]
+fn sync_fits(h: &Header, body: &[u8]) -> bool
+    requires { h.now.op ≤ 2 ^ 62 }
+    ensures { result ≡ sync_fits h.now body.now }
+{
+    if body.len() < 32 {
+        return false;
+    }
+    if !checkpoint_fits(h, u64_at(body, 0), u64_at(body, 8)) {
+        return false;
+    }
+    let (_, headers) = body.split_at(32);
+    log_fits(h, headers)
+}
+
 // Whether a tag is of a Part that knows its header.
 pub(crate) fn knows(tag: u8) -> bool
     ensures { result ≡ knows tag }
@@ -411,6 +449,8 @@ fn body_fits(h: &Header, body: &[u8]) -> bool
         Command::GivePrepare => entry_fits(h.cluster, u32::MAX - 1, h.op, body),
         Command::GetBlock => body.is_empty(),
         Command::GiveBlock => body.len() == 4096,
+        Command::GetSync => body.is_empty(),
+        Command::SyncView => sync_fits(h, body),
         Command::Reserved | Command::Root | Command::Entry | Command::Block => false,
     }
 }

@@ -2,11 +2,12 @@
 ghost use Rattle.std.specs.Prelude.{◌≡◌, ◌≤◌, ◌++◌, ◌∷◌, [], OnOk, OnErr, length, map};
 ghost use Rattle.vr_base.specs.Bytes.{KeepsFront, bytes16, bytes64};
 ghost use Rattle.vr_msg.specs.Forms.{IsFrame};
-ghost use Rattle.vr_msg.specs.Spelling.{AreHeaders, IsBodyValue, IsKindValue, body_bytes, headers_bytes, kind_bytes, known, parts_bytes, tag};
+ghost use Rattle.vr_msg.specs.Spelling.{AreHeaders, IsBodyValue, IsKindValue, body_bytes, headers_bytes, kind_bytes, known, parts_bytes, sync_bytes, tag, IsName};
 
 use std::alloc::AllocError;
+use vr_base::Sum;
 use vr_header::{Header, Part, encode};
-use vr_msg::{DvcBody, Frame, ReplyKind};
+use vr_msg::{DvcBody, Frame, ReplyKind, SyncView};
 
 fn write_kind(kind: &ReplyKind, to: &mut Vec<u8>) -> Result<(), AllocError>
     ensures bytes { OnOk result (to.new.items ≡ to.old.items ++ kind_bytes kind.now) }
@@ -109,6 +110,49 @@ fn write_parts(body: &DvcBody, to: &mut Vec<u8>) -> Result<(), AllocError>
     Ok(())
 }
 
+// A checkpoint's number, and the address of its root.
+#[tactic(auto, using(std::proofs::lemmas::Grind::common_steps, vr_base::proofs::Writing::kept_before), unfolding(vr_base::specs::Bytes::bytes64))]
+fn write_place(checkpoint: u64, address: u64, to: &mut Vec<u8>) -> Result<(), AllocError>
+    ensures bytes { OnOk result (to.new.items ≡ to.old.items ++ (bytes64 checkpoint ++ bytes64 address)) }
+    ensures front { OnErr result (KeepsFront to.old.items to.new.items) }
+{
+    to.extend_from_slice(&checkpoint.to_be_bytes())?;
+    to.extend_from_slice(&address.to_be_bytes())?;
+    Ok(())
+}
+
+#[tactic(auto, using(std::proofs::lemmas::Grind::common_steps, vr_base::proofs::Writing::kept_before))]
+fn write_name(name: Sum, to: &mut Vec<u8>) -> Result<(), AllocError>
+    ensures bytes { OnOk result (to.new.items ≡ to.old.items ++ name.0) }
+    ensures front { OnErr result (KeepsFront to.old.items to.new.items) }
+    ensures values { IsName name }
+{
+    to.extend_from_slice(&name.0)?;
+    Ok(())
+}
+
+#[tactic(auto, using(std::proofs::lemmas::Grind::common_steps, vr_base::proofs::Writing::kept_before))]
+fn write_checkpoint(v: &SyncView, to: &mut Vec<u8>) -> Result<(), AllocError>
+    ensures bytes { OnOk result (to.new.items ≡ to.old.items ++ (bytes64 v.now.checkpoint ++ (bytes64 v.now.root_address ++ v.now.root_name.0))) }
+    ensures front { OnErr result (KeepsFront to.old.items to.new.items) }
+    ensures values { OnOk result (IsName v.now.root_name) }
+{
+    write_place(v.checkpoint, v.root_address, to)?;
+    write_name(v.root_name, to)?;
+    Ok(())
+}
+
+#[tactic(auto, using(std::proofs::lemmas::Grind::common_steps, vr_base::proofs::Writing::kept_before))]
+fn write_sync(v: &SyncView, to: &mut Vec<u8>) -> Result<(), AllocError>
+    ensures bytes { OnOk result (to.new.items ≡ to.old.items ++ sync_bytes v.now) }
+    ensures front { OnErr result (KeepsFront to.old.items to.new.items) }
+    ensures values { OnOk result (IsName v.now.root_name × AreHeaders v.now.body.headers) }
+{
+    write_checkpoint(v, to)?;
+    write_headers(v.body.headers.as_slice(), to)?;
+    Ok(())
+}
+
 /// Adds the bytes after the header of a message at the end.
 pub(crate) fn write_body(frame: &Frame, to: &mut Vec<u8>) -> Result<(), AllocError>
     requires { IsFrame frame.now }
@@ -133,5 +177,7 @@ pub(crate) fn write_body(frame: &Frame, to: &mut Vec<u8>) -> Result<(), AllocErr
             to.extend_from_slice(give.block.as_slice())?;
             Ok(())
         }
+        Frame::GetSync(_) => Ok(()),
+        Frame::SyncView(sync) => write_sync(sync, to),
     }
 }

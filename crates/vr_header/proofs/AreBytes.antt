@@ -6,7 +6,7 @@ use Rattle.std.proofs.lemmas.Bool.{leb-true}
 use Rattle.vr_base.specs.Bytes.{IsBytes, bytes16, name_of}
 use Rattle.vr_base.proofs.AreBytes.{AllBytes, IsBytes-append, IsBytes-bytes16, IsBytes-bytes32, IsBytes-bytes64, IsBytes-joined, IsBytes-name_of, IsBytes-none, IsBytes-one, IsBytes-zeros}
 use Rattle.vr_header.specs.declared.command.Command.{Command}
-use Rattle.vr_header.specs.declared.command.Command.TheVariants.{Reserved, Root, Entry, Request, Reply, Prepare, PrepareOk, Commit, StartViewChange, DoViewChange, StartView, GetView, GetPrepare, GivePrepare, GetBlock, GiveBlock, Block}
+use Rattle.vr_header.specs.declared.command.Command.TheVariants.{Reserved, Root, Entry, Request, Reply, Prepare, PrepareOk, Commit, StartViewChange, DoViewChange, StartView, GetView, GetPrepare, GivePrepare, GetBlock, GiveBlock, Block, GetSync, SyncView}
 use Rattle.vr_header.specs.declared.header.Header.{Header}
 use Rattle.vr_header.specs.declared.operation.Operation.{Operation}
 use Rattle.vr_header.specs.declared.operation.Operation.TheVariants.{Register, Put, Get, Delete}
@@ -36,6 +36,8 @@ code_small GivePrepare = omega arith
 code_small GetBlock = omega arith
 code_small GiveBlock = omega arith
 code_small Block = omega arith
+code_small GetSync = omega arith
+code_small SyncView = omega arith
 
 one : (x : ℕ) → x < 256 → IsBytes (x ∷ [])
 one x small = IsBytes-one x [] small IsBytes-none

@@ -10,7 +10,7 @@ use Rattle.vr_base.specs.Bytes.{IsBytes, bytes32, bytes64, joined, name_of, numb
 use Rattle.vr_base.proofs.FieldLaws.{IsBytes-piece, length-name_of, length-bytes32, length-bytes64, number32_of, number64_of, number32_back, number64_back, length-piece, byte_of, byte_back}
 use Rattle.vr_base.proofs.Places.{BeginsWith, cut, joined-cut, length-joined, piece_there, place, take_both, total, widths}
 use Rattle.vr_header.specs.declared.command.Command.{Command}
-use Rattle.vr_header.specs.declared.command.Command.TheVariants.{Reserved, Root, Entry, Request, Reply, Prepare, PrepareOk, Commit, StartViewChange, DoViewChange, StartView, GetView, GetPrepare, GivePrepare, GetBlock, GiveBlock, Block}
+use Rattle.vr_header.specs.declared.command.Command.TheVariants.{Reserved, Root, Entry, Request, Reply, Prepare, PrepareOk, Commit, StartViewChange, DoViewChange, StartView, GetView, GetPrepare, GivePrepare, GetBlock, GiveBlock, Block, GetSync, SyncView}
 use Rattle.vr_header.specs.declared.header.Header.{Header}
 use Rattle.vr_header.specs.Spelling.{IsHeader, Spells, code_of, command_of, decoded, fault_of, field_bytes, decoded_header, header_bytes, is_named, named_bytes}
 use Rattle.vr_header.proofs.Faults.{IsSound, sound}
@@ -55,6 +55,8 @@ command_again GivePrepare = refl
 command_again GetBlock = refl
 command_again GiveBlock = refl
 command_again Block = refl
+command_again GetSync = refl
+command_again SyncView = refl
 
 -- what stands at each place of a spelled header
 record Standing (h : Header) (b : List ℕ) : Type 0 where
@@ -154,7 +156,9 @@ code_back (suc (suc (suc (suc (suc (suc (suc (suc (suc (suc (suc (suc (suc (suc 
 code_back (suc (suc (suc (suc (suc (suc (suc (suc (suc (suc (suc (suc (suc (suc (suc zero))))))))))))))) c n e = ap code_of e
 code_back (suc (suc (suc (suc (suc (suc (suc (suc (suc (suc (suc (suc (suc (suc (suc (suc zero)))))))))))))))) c n e = ap code_of e
 code_back (suc (suc (suc (suc (suc (suc (suc (suc (suc (suc (suc (suc (suc (suc (suc (suc (suc zero))))))))))))))))) c n e = ap code_of e
-code_back (suc (suc (suc (suc (suc (suc (suc (suc (suc (suc (suc (suc (suc (suc (suc (suc (suc (suc k)))))))))))))))))) c n e = absurd cc
+code_back (suc (suc (suc (suc (suc (suc (suc (suc (suc (suc (suc (suc (suc (suc (suc (suc (suc (suc zero)))))))))))))))))) c n e = ap code_of e
+code_back (suc (suc (suc (suc (suc (suc (suc (suc (suc (suc (suc (suc (suc (suc (suc (suc (suc (suc (suc zero))))))))))))))))))) c n e = ap code_of e
+code_back (suc (suc (suc (suc (suc (suc (suc (suc (suc (suc (suc (suc (suc (suc (suc (suc (suc (suc (suc (suc k)))))))))))))))))))) c n e = absurd cc
 
 -- the fields at their places, written again, are the bytes
 field_bytes-decoded_header : (b : List ℕ) → IsBytes b → IsSound b → field_bytes (decoded_header b) ≡ cut 16 (16 ∷ 16 ∷ 16 ∷ 8 ∷ 8 ∷ 4 ∷ 4 ∷ 8 ∷ 8 ∷ 4 ∷ 1 ∷ 1 ∷ 1 ∷ 1 ∷ 8 ∷ 8 ∷ []) b

@@ -12,11 +12,11 @@ use Rattle.vr_header.specs.Names.{no_name, root_header}
 use Rattle.vr_header.specs.Spelling.{code_of, command_of, commands, decoded, fault_of, decoded_header, header_bytes, is_named, named_bytes}
 use Rattle.vr_header.specs.Text.{is_text}
 
--- 17 commands, numbered from 1
-codes_of_commands : map code_of commands ≡ 1 ∷ 2 ∷ 3 ∷ 4 ∷ 5 ∷ 6 ∷ 7 ∷ 8 ∷ 9 ∷ 10 ∷ 11 ∷ 12 ∷ 13 ∷ 14 ∷ 15 ∷ 16 ∷ 17 ∷ []
+-- 19 commands, numbered from 1
+codes_of_commands : map code_of commands ≡ 1 ∷ 2 ∷ 3 ∷ 4 ∷ 5 ∷ 6 ∷ 7 ∷ 8 ∷ 9 ∷ 10 ∷ 11 ∷ 12 ∷ 13 ∷ 14 ∷ 15 ∷ 16 ∷ 17 ∷ 18 ∷ 19 ∷ []
 codes_of_commands = refl
 
-no_other_command : map command_of (0 ∷ 18 ∷ 255 ∷ []) ≡ None ∷ None ∷ None ∷ []
+no_other_command : map command_of (0 ∷ 20 ∷ 255 ∷ []) ≡ None ∷ None ∷ None ∷ []
 unfolding command_of
 no_other_command = refl
 
@@ -72,7 +72,7 @@ faults : map fault_of
     (take 127 commit_bytes
     ∷ slice_set commit_bytes 127 1
     ∷ with_right_name 108 (0 ∷ 3 ∷ 0 ∷ []) commit_bytes
-    ∷ with_right_name 108 (18 ∷ []) commit_bytes
+    ∷ with_right_name 108 (20 ∷ []) commit_bytes
     ∷ with_right_name 110 (2 ∷ []) commit_bytes
     ∷ with_right_name 104 (0 ∷ 0 ∷ 0 ∷ 127 ∷ []) commit_bytes
     ∷ with_right_name 104 (0 ∷ 0 ∷ 80 ∷ 1 ∷ []) commit_bytes

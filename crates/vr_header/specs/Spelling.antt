@@ -5,7 +5,7 @@ use Rattle.std.specs.Int.{w32, w64}
 use Rattle.std.specs.Cmp.Lexicographic.{pointwise}
 use Rattle.vr_base.specs.Bytes.{IsBytes, bytes32, bytes64, joined, name_of, number, piece}
 use Rattle.vr_header.specs.declared.command.Command.{Command}
-use Rattle.vr_header.specs.declared.command.Command.TheVariants.{Reserved, Root, Entry, Request, Reply, Prepare, PrepareOk, Commit, StartViewChange, DoViewChange, StartView, GetView, GetPrepare, GivePrepare, GetBlock, GiveBlock, Block}
+use Rattle.vr_header.specs.declared.command.Command.TheVariants.{Reserved, Root, Entry, Request, Reply, Prepare, PrepareOk, Commit, StartViewChange, DoViewChange, StartView, GetView, GetPrepare, GivePrepare, GetBlock, GiveBlock, Block, GetSync, SyncView}
 use Rattle.vr_header.specs.declared.header.Header.{Header}
 use Rattle.vr_header.specs.declared.header.HeaderFault.{HeaderFault}
 use Rattle.vr_header.specs.declared.header.HeaderFault.TheVariants.{Short, BadSum, BadCommand, BadVersion, BadSize, NotZero}
@@ -28,13 +28,15 @@ code_of GivePrepare = 14
 code_of GetBlock = 15
 code_of GiveBlock = 16
 code_of Block = 17
+code_of GetSync = 18
+code_of SyncView = 19
 
 abbrev pub commands : List Command
 commands =
     Reserved ∷ Root ∷ Entry ∷ Request ∷ Reply ∷ Prepare ∷ PrepareOk ∷ Commit ∷ StartViewChange ∷ DoViewChange ∷ StartView ∷ GetView
-    ∷ GetPrepare ∷ GivePrepare ∷ GetBlock ∷ GiveBlock ∷ Block ∷ []
+    ∷ GetPrepare ∷ GivePrepare ∷ GetBlock ∷ GiveBlock ∷ Block ∷ GetSync ∷ SyncView ∷ []
 
--- the command of a number, None outside 1 to 17
+-- the command of a number, None outside 1 to 19
 unfoldable pub command_of : ℕ → Option Command
 command_of zero = None
 command_of (suc code) = slice_get commands code

@@ -89,6 +89,8 @@ fn command_of(code: u8) -> Option<Command>
         15 => Some(Command::GetBlock),
         16 => Some(Command::GiveBlock),
         17 => Some(Command::Block),
+        18 => Some(Command::GetSync),
+        19 => Some(Command::SyncView),
         _ => None,
     }
 }
@@ -114,6 +116,8 @@ fn code_of(command: Command) -> u8
         Command::GetBlock => 15,
         Command::GiveBlock => 16,
         Command::Block => 17,
+        Command::GetSync => 18,
+        Command::SyncView => 19,
     }
 }
 

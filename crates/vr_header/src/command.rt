@@ -24,4 +24,6 @@ pub enum Command {
     GiveBlock,
     /// Of the disk: a block of a checkpoint.
     Block,
+    GetSync,
+    SyncView,
 }

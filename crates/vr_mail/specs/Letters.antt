@@ -24,6 +24,8 @@ cluster_of (frame.GetPrepare g) = g.cluster
 cluster_of (frame.GivePrepare g) = g.entry.header.cluster
 cluster_of (frame.GetBlock g) = g.cluster
 cluster_of (frame.GiveBlock g) = g.cluster
+cluster_of (frame.GetSync g) = g.cluster
+cluster_of (frame.SyncView v) = v.cluster
 
 -- the bytes are this message, and it is of this group
 pub record IsOfGroup (cluster : ℕ) (bytes : List ℕ) (m : Frame) : Type 0 where

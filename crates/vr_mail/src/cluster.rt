@@ -22,5 +22,7 @@ pub fn cluster_of(frame: &Frame) -> u64
         Frame::GivePrepare(give) => give.entry.header().cluster,
         Frame::GetBlock(get) => get.cluster,
         Frame::GiveBlock(give) => give.cluster,
+        Frame::GetSync(get) => get.cluster,
+        Frame::SyncView(sync) => sync.cluster,
     }
 }

@@ -1,5 +1,5 @@
 -- What a message may carry, by its kind.
-use Rattle.std.specs.Prelude.{◌≡◌, ◌+◌, ◌<◌, ◌≤◌, ⊤, length}
+use Rattle.std.specs.Prelude.{◌≡◌, ◌+◌, ◌%◌, ◌<◌, ◌≤◌, ⊤, length}
 use Rattle.vr_header.specs.Made.{IsEntry}
 use Rattle.vr_msg.specs.declared.frame.Prepare.{Prepare}
 use Rattle.vr_msg.specs.declared.frame.PrepareOk.{PrepareOk}
@@ -7,6 +7,7 @@ use Rattle.vr_msg.specs.declared.frame.Commit.{Commit}
 use Rattle.vr_msg.specs.declared.frame.DoViewChange.{DoViewChange}
 use Rattle.vr_msg.specs.declared.frame.StartView.{StartView}
 use Rattle.vr_msg.specs.declared.frame.GetPrepare.{GetPrepare}
+use Rattle.vr_msg.specs.declared.frame.SyncView.{SyncView}
 use Rattle.vr_msg.specs.declared.frame.Frame.{Frame}
 use Rattle.vr_msg.specs.declared.frame.Frame.TheVariants as frame
 use Rattle.vr_msg.specs.Asking.{IsRequest, IsReply}
@@ -47,6 +48,18 @@ pub record IsGetPrepare (g : GetPrepare) : Type 0 where
   pub op : IsNumber g.op
   pub made : IsView g.made
 
+pub record IsSyncView (v : SyncView) : Type 0 where
+  pub view : IsView v.view
+  pub head : IsNumber v.head
+  -- the checkpoint's own header is among those that stand here, and it is committed
+  pub order : (v.body.lo < v.checkpoint) × (v.checkpoint ≤ v.commit) × (v.commit ≤ v.head)
+  pub every : v.checkpoint % 32 ≡ 0
+  pub address : v.root_address < 128
+  -- the headers of all ops after lo, up to the head
+  pub count : v.body.lo + length v.body.headers ≡ v.head
+  pub short : length v.body.headers ≤ 64
+  pub headers : FromOp (IsEntryAt v.cluster v.view) (v.body.lo + 1) v.body.headers
+
 -- what a frame of each kind may carry
 abbrev pub IsFrame : Frame → Type 0
 IsFrame (frame.Request q) = IsRequest q
@@ -62,3 +75,5 @@ IsFrame (frame.GetPrepare g) = IsGetPrepare g
 IsFrame (frame.GivePrepare g) = IsEntry g.entry
 IsFrame (frame.GetBlock g) = ⊤
 IsFrame (frame.GiveBlock g) = length g.block ≡ 4096
+IsFrame (frame.GetSync g) = IsView g.view
+IsFrame (frame.SyncView v) = IsSyncView v

@@ -1,7 +1,8 @@
 -- One message, one spelling.
 use Rattle.std.specs.Prelude.{ℕ, ◌≡◌, ◌+◌, ⊤, List, [], ◌∷◌, ◌++◌, length, map}
 use Rattle.std.specs.List.{filter_map, flat_map}
-use Rattle.vr_base.specs.Bytes.{bytes16, bytes64, name_of}
+use Rattle.vr_base.specs.declared.sum.Sum.{Sum}
+use Rattle.vr_base.specs.Bytes.{IsBytes, bytes16, bytes64, name_of}
 use Rattle.vr_header.specs.declared.command.Command.{Command}
 use Rattle.vr_header.specs.declared.command.Command.TheVariants as command
 use Rattle.vr_header.specs.declared.header.Header.{Header}
@@ -13,6 +14,7 @@ use Rattle.vr_header.specs.Names.{no_name}
 use Rattle.vr_header.specs.Spelling.{header_bytes, IsHeader}
 use Rattle.vr_msg.specs.declared.frame.Frame.{Frame}
 use Rattle.vr_msg.specs.declared.frame.Frame.TheVariants as frame
+use Rattle.vr_msg.specs.declared.frame.SyncView.{SyncView}
 use Rattle.vr_msg.specs.declared.reply.ReplyKind.{ReplyKind}
 use Rattle.vr_msg.specs.declared.reply.ReplyKind.TheVariants as reply
 use Rattle.vr_msg.specs.declared.statement.DvcBody.{DvcBody}
@@ -34,6 +36,8 @@ command_for (frame.GetPrepare g) = command.GetPrepare
 command_for (frame.GivePrepare g) = command.GivePrepare
 command_for (frame.GetBlock g) = command.GetBlock
 command_for (frame.GiveBlock g) = command.GiveBlock
+command_for (frame.GetSync g) = command.GetSync
+command_for (frame.SyncView v) = command.SyncView
 
 -- the number of a kind of reply
 abbrev pub kind_number : ReplyKind → ℕ
@@ -89,6 +93,9 @@ with_fields (frame.GetPrepare g) h = record h { cluster = g.cluster; replica = g
 with_fields (frame.GivePrepare g) h = record h { cluster = g.entry.header.cluster; replica = g.replica; op = g.entry.header.op }
 with_fields (frame.GetBlock g) h = record h { cluster = g.cluster; replica = g.replica; parent = g.name; aux = g.address }
 with_fields (frame.GiveBlock g) h = record h { cluster = g.cluster; replica = g.replica; aux = g.address }
+with_fields (frame.GetSync g) h = record h { cluster = g.cluster; replica = g.replica; view = g.view }
+with_fields (frame.SyncView v) h =
+    record h { cluster = v.cluster; replica = v.replica; view = v.view; op = v.head; commit = v.commit; aux = v.body.lo }
 
 abbrev pub kind_bytes : ReplyKind → List ℕ
 kind_bytes (reply.Outcome a) = outcome_bytes a.outcome
@@ -117,6 +124,10 @@ known ps = filter_map header_of ps
 abbrev pub parts_bytes : DvcBody → List ℕ
 parts_bytes b = bytes64 b.first ++ (bytes16 (length b.parts) ++ (map tag b.parts ++ headers_bytes (known b.parts)))
 
+-- the checkpoint's op, its root's address and name, and the headers
+abbrev pub sync_bytes : SyncView → List ℕ
+sync_bytes v = bytes64 v.checkpoint ++ (bytes64 v.root_address ++ (v.root_name.0 ++ headers_bytes v.body.headers))
+
 -- the bytes after the header
 abbrev pub body_bytes : Frame → List ℕ
 body_bytes (frame.Request q) = operation_bytes q.operation
@@ -132,6 +143,8 @@ body_bytes (frame.GetPrepare g) = []
 body_bytes (frame.GivePrepare g) = entry_bytes g.entry
 body_bytes (frame.GetBlock g) = []
 body_bytes (frame.GiveBlock g) = g.block
+body_bytes (frame.GetSync g) = []
+body_bytes (frame.SyncView v) = sync_bytes v
 
 -- a header of this command before a body, with no other field set
 abbrev pub header_before : List ℕ → Command → Header
@@ -172,6 +185,10 @@ IsKindValue reply.Evicted = ⊤
 IsKindValue reply.Busy = ⊤
 IsKindValue reply.Redirect = ⊤
 
+-- 16 bytes
+abbrev pub IsName : Sum → Type 0
+IsName s = (length s.0 ≡ 16) × IsBytes s.0
+
 -- the values that the body of a message of the program has
 abbrev pub IsBodyValue : Frame → Type 0
 IsBodyValue (frame.Request q) = IsOperation q.operation
@@ -187,6 +204,8 @@ IsBodyValue (frame.GetPrepare g) = ⊤
 IsBodyValue (frame.GivePrepare g) = IsHeader g.entry.header × IsOperation g.entry.operation
 IsBodyValue (frame.GetBlock g) = ⊤
 IsBodyValue (frame.GiveBlock g) = ⊤
+IsBodyValue (frame.GetSync g) = ⊤
+IsBodyValue (frame.SyncView v) = IsName v.root_name × AreHeaders v.body.headers
 
 -- the bytes are this message: what it carries is of its kind's form, numbers and texts are those that the program has, and its
 -- header and its body stand one after the other

@@ -3,7 +3,7 @@ ghost use Rattle.std.specs.Prelude.{◌≡◌, IfOk};
 
 use crate::{
     Answered, DoViewChange, DvcBody, Frame, GiveBlock, GivePrepare, Message, Prepare, Reply,
-    ReplyFields, ReplyKind, Request, RequestFields, StartView, Statement, SvBody,
+    ReplyFields, ReplyKind, Request, RequestFields, StartView, Statement, SvBody, SyncView,
 };
 use std::alloc::{AllocError, Global};
 
@@ -152,6 +152,22 @@ fn copy_give_block(alloc: Global, g: &GiveBlock) -> Result<GiveBlock, AllocError
     })
 }
 
+fn copy_sync(alloc: Global, v: &SyncView) -> Result<SyncView, AllocError>
+    ensures { IfOk result (λ copy. copy ≡ v.now) }
+{
+    Ok(SyncView {
+        cluster: v.cluster,
+        replica: v.replica,
+        view: v.view,
+        head: v.head,
+        commit: v.commit,
+        checkpoint: v.checkpoint,
+        root_address: v.root_address,
+        root_name: v.root_name,
+        body: v.body.try_clone(alloc)?,
+    })
+}
+
 fn copy_frame(alloc: Global, frame: &Frame) -> Result<Frame, AllocError>
     ensures { IfOk result (λ copy. copy ≡ frame.now) }
 {
@@ -169,6 +185,8 @@ fn copy_frame(alloc: Global, frame: &Frame) -> Result<Frame, AllocError>
         Frame::GivePrepare(g) => Ok(Frame::GivePrepare(copy_give_prepare(alloc, g)?)),
         Frame::GetBlock(g) => Ok(Frame::GetBlock(*g)),
         Frame::GiveBlock(g) => Ok(Frame::GiveBlock(copy_give_block(alloc, g)?)),
+        Frame::GetSync(g) => Ok(Frame::GetSync(*g)),
+        Frame::SyncView(v) => Ok(Frame::SyncView(copy_sync(alloc, v)?)),
     }
 }
 

@@ -113,6 +113,31 @@ pub struct GiveBlock {
     pub block: ByteList,
 }
 
+/// Asks for the checkpoint and the log of `view`.
+#[derive(Clone, Copy, Debug, PartialEq, Eq)]
+pub struct GetSync {
+    pub cluster: u64,
+    pub replica: u8,
+    pub view: u32,
+}
+
+/// The checkpoint of the primary of `view`, and its log from below the checkpoint up to `head`.
+#[derive(Debug, Drop, PartialEq, Eq)]
+pub struct SyncView {
+    pub cluster: u64,
+    pub replica: u8,
+    pub view: u32,
+    pub head: u64,
+    pub commit: u64,
+    /// The checkpoint's op, above the op below the first header.
+    pub checkpoint: u64,
+    /// Where the checkpoint's root stands in the grid, below 128.
+    pub root_address: u64,
+    /// The root's name.
+    pub root_name: Sum,
+    pub body: SvBody,
+}
+
 /// What a message says, by its kind.
 #[derive(Debug, Drop, PartialEq, Eq)]
 pub enum Frame {
@@ -129,4 +154,6 @@ pub enum Frame {
     GivePrepare(GivePrepare),
     GetBlock(GetBlock),
     GiveBlock(GiveBlock),
+    GetSync(GetSync),
+    SyncView(SyncView),
 }

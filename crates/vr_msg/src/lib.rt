@@ -17,8 +17,8 @@ mod summary;
 pub use choice::Choice;
 pub use event::Event;
 pub use frame::{
-    Commit, DoViewChange, Frame, GetBlock, GetPrepare, GetView, GiveBlock, GivePrepare, Prepare,
-    PrepareOk, StartView, StartViewChange,
+    Commit, DoViewChange, Frame, GetBlock, GetPrepare, GetSync, GetView, GiveBlock, GivePrepare,
+    Prepare, PrepareOk, StartView, StartViewChange, SyncView,
 };
 pub use message::Message;
 pub use output::{Chosen, Committed, Outbox, Output, Sent, Started, Waiting};

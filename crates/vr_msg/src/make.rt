@@ -4,13 +4,13 @@ ghost use Rattle.vr_header.specs.Names.{header_name, request_header};
 ghost use Rattle.vr_msg.specs.declared.frame.Frame.{Frame};
 ghost use Rattle.vr_msg.specs.declared.reply.ReplyKind.{ReplyKind};
 ghost use Rattle.vr_msg.specs.Asking.{IsReplyKind};
-ghost use Rattle.vr_msg.specs.Forms.{IsDoViewChange, IsStartView};
+ghost use Rattle.vr_msg.specs.Forms.{IsDoViewChange, IsStartView, IsSyncView};
 ghost use Rattle.vr_msg.specs.Numbers.{IsNumber, IsView};
 
 use crate::{
-    Answered, Commit, DoViewChange, Frame, GetBlock, GetPrepare, GetView, GiveBlock, GivePrepare,
-    Message, Prepare, PrepareOk, Reply, ReplyFields, ReplyKind, Request, StartView,
-    StartViewChange,
+    Answered, Commit, DoViewChange, Frame, GetBlock, GetPrepare, GetSync, GetView, GiveBlock,
+    GivePrepare, Message, Prepare, PrepareOk, Reply, ReplyFields, ReplyKind, Request, StartView,
+    StartViewChange, SyncView,
 };
 use vr_header::{Header, Outcome};
 
@@ -196,5 +196,21 @@ impl Message {
         ensures { result ≡ Frame.GiveBlock give }
     {
         Message::new(Frame::GiveBlock(give))
+    }
+
+    /// A get_sync.
+    pub fn get_sync(get: GetSync) -> Message
+        requires { IsView get.view }
+        ensures { result ≡ Frame.GetSync get }
+    {
+        Message::new(Frame::GetSync(get))
+    }
+
+    /// A sync_view.
+    pub fn sync_view(sync: SyncView) -> Message
+        requires { IsSyncView sync }
+        ensures { result ≡ Frame.SyncView sync }
+    {
+        Message::new(Frame::SyncView(sync))
     }
 }

@@ -19,7 +19,7 @@ use Rattle.vr_msg.specs.declared.output.Output.TheVariants as output
 use Rattle.vr_msg.specs.declared.reply.ReplyKind.{ReplyKind}
 use Rattle.vr_msg.specs.declared.reply.ReplyKind.TheVariants as reply
 use Rattle.vr_sched.specs.Plain.{is_plain, IsPlain, HasText, HasTexts}
-use Rattle.vr_sched.specs.Text.{before_letters, chosen_text, client_text, commit_text, committed_text, do_view_change_text, entry_text, frame_text, get_prepare_text, give_prepare_text, kind_text, letters_of, numbered, operation_text, or_dash, outcome_text, output_text, parts_text, prepare_ok_text, prepare_text, reply_text, sent_text, start_view_text, started_text, statement_text, viewed, waiting_text}
+use Rattle.vr_sched.specs.Text.{before_letters, chosen_text, client_text, commit_text, committed_text, do_view_change_text, entry_text, frame_text, get_prepare_text, give_prepare_text, kind_text, letters_of, numbered, operation_text, or_dash, outcome_text, output_text, parts_text, prepare_ok_text, prepare_text, reply_text, sent_text, start_view_text, started_text, statement_text, sync_view_text, viewed, waiting_text}
 
 pub both : (xs ys : List ℕ) → IsPlain xs → IsPlain ys → IsPlain (xs ++ ys)
 both xs ys a b = list_all-append is_plain xs ys ∙ rw (a, b) refl
@@ -99,7 +99,7 @@ outcome_plain outcome.Absent h = refl
 outcome_plain (outcome.Value value) h = both (codes "value ") value refl (texts 1024 value h)
 
 pub frame_plain : (f : Frame) → IsPlain (frame_text f)
-unfolding prepare_text prepare_ok_text commit_text do_view_change_text statement_text start_view_text get_prepare_text give_prepare_text
+unfolding prepare_text prepare_ok_text commit_text do_view_change_text statement_text start_view_text sync_view_text get_prepare_text give_prepare_text
 frame_plain (frame.Request q) = refl
 frame_plain (frame.Reply r) = refl
 frame_plain (frame.Prepare p) = search (rules, both, number, view, entry_plain) depth 12
@@ -113,6 +113,8 @@ frame_plain (frame.GetPrepare g) = search (rules, entry_plain) depth 12
 frame_plain (frame.GivePrepare g) = search (rules, entry_plain) depth 12
 frame_plain (frame.GetBlock g) = number (codes "get_block ") g.address refl
 frame_plain (frame.GiveBlock g) = number (codes "give_block ") g.address refl
+frame_plain (frame.GetSync g) = view (codes "get_sync") g.view refl
+frame_plain (frame.SyncView v) = search (rules, both, number, view) depth 14
 
 kind_plain : (view : ℕ) (k : ReplyKind) → HasText k → IsPlain (kind_text view k)
 kind_plain v (reply.Outcome a) h = search (rules, both, number, outcome_plain) depth 12

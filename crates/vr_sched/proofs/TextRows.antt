@@ -12,11 +12,11 @@ use Rattle.vr_header.specs.Bodies.{operation_bytes}
 use Rattle.vr_header.specs.Made.{Whole, made_by}
 use Rattle.vr_header.specs.Names.{no_name, request_by, root_by}
 use Rattle.vr_msg.specs.declared.frame.Frame.{Frame}
-use Rattle.vr_msg.specs.declared.frame.Frame.TheVariants.{Prepare, PrepareOk, Commit, StartViewChange, DoViewChange, StartView, GetView, GetPrepare, GivePrepare, GetBlock, GiveBlock}
+use Rattle.vr_msg.specs.declared.frame.Frame.TheVariants.{Prepare, PrepareOk, Commit, StartViewChange, DoViewChange, StartView, GetView, GetPrepare, GivePrepare, GetBlock, GiveBlock, GetSync, SyncView}
 use Rattle.vr_msg.specs.declared.output.Output.TheVariants as output
 use Rattle.vr_msg.specs.declared.reply.ReplyKind.{ReplyKind}
 use Rattle.vr_msg.specs.declared.reply.ReplyKind.TheVariants as reply
-use Rattle.vr_sched.specs.Text.{chosen_text, commit_text, committed_text, do_view_change_text, get_prepare_text, give_prepare_text, letters_of, line_text, numbered, prepare_ok_text, prepare_text, reply_text, sent_text, start_view_text, started_text, statement_text, viewed, waiting_text}
+use Rattle.vr_sched.specs.Text.{chosen_text, commit_text, committed_text, do_view_change_text, get_prepare_text, give_prepare_text, letters_of, line_text, numbered, prepare_ok_text, prepare_text, reply_text, sent_text, start_view_text, started_text, statement_text, sync_view_text, viewed, waiting_text}
 
 -- an entry of client 7; no text has a name, so that any will do
 abbrev entry : ℕ → ℕ → ℕ → Operation → Whole
@@ -55,6 +55,21 @@ view_messages : (sends 6 1 0 (StartViewChange (record { cluster = 0; replica = 1
     × (sends 6 2 0 (GetView (record { cluster = 0; replica = 2; view = 0 })) ≡ codes "send 6 2 0 get_view view 0\n")
 unfolding sent_text start_view_text numbered viewed digits
 view_messages = (refl, refl, refl)
+
+sync_messages : (sends 197 2 0 (GetSync (record { cluster = 0; replica = 2; view = 0 })) ≡ codes "send 197 2 0 get_sync view 0\n")
+    × (sends 198 0 2 (SyncView (record {
+      cluster = 0;
+      replica = 0;
+      view = 0;
+      head = 65;
+      commit = 65;
+      checkpoint = 64;
+      root_address = 0;
+      root_name = no_name;
+      body = record { lo = 1; headers = [] };
+    })) ≡ codes "send 198 0 2 sync_view view 0 op 65 commit 65 checkpoint 64\n")
+unfolding sent_text sync_view_text numbered viewed digits
+sync_messages = (refl, refl)
 
 repair_messages : (sends 8 2 0 (GetPrepare (record { cluster = 0; replica = 2; op = 1; name = no_name; made = 0 })) ≡ codes "send 8 2 0 get_prepare op 1 made 0\n")
     × (sends 9 0 2 (GivePrepare (record { replica = 0; entry = entry 1 0 0 Register })) ≡ codes "send 9 0 2 give_prepare op 1 made 0\n")

@@ -14,6 +14,7 @@ use Rattle.vr_msg.specs.declared.frame.GivePrepare.{GivePrepare}
 use Rattle.vr_msg.specs.declared.frame.Prepare.{Prepare}
 use Rattle.vr_msg.specs.declared.frame.PrepareOk.{PrepareOk}
 use Rattle.vr_msg.specs.declared.frame.StartView.{StartView}
+use Rattle.vr_msg.specs.declared.frame.SyncView.{SyncView}
 use Rattle.vr_msg.specs.declared.frame.Frame.{Frame}
 use Rattle.vr_msg.specs.declared.frame.Frame.TheVariants as frame
 use Rattle.vr_msg.specs.declared.output.Chosen.{Chosen}
@@ -106,6 +107,11 @@ unfoldable pub start_view_text : StartView → List ℕ
 start_view_text v =
     viewed (codes "start_view") v.view ++ numbered (codes " op ") v.head ++ numbered (codes " commit ") v.commit
 
+unfoldable pub sync_view_text : SyncView → List ℕ
+sync_view_text v =
+    viewed (codes "sync_view") v.view ++ numbered (codes " op ") v.head ++ numbered (codes " commit ") v.commit
+    ++ numbered (codes " checkpoint ") v.checkpoint
+
 unfoldable pub get_prepare_text : GetPrepare → List ℕ
 get_prepare_text g = codes "get_prepare " ++ entry_text g.op g.made
 
@@ -127,6 +133,8 @@ frame_text (frame.GetPrepare g) = get_prepare_text g
 frame_text (frame.GivePrepare g) = give_prepare_text g
 frame_text (frame.GetBlock g) = numbered (codes "get_block ") g.address
 frame_text (frame.GiveBlock g) = numbered (codes "give_block ") g.address
+frame_text (frame.GetSync g) = viewed (codes "get_sync") g.view
+frame_text (frame.SyncView v) = sync_view_text v
 
 -- the last words of a reply of a replica in this view
 abbrev pub kind_text : ℕ → ReplyKind → List ℕ

@@ -2,7 +2,7 @@
 ghost use Rattle.std.specs.Prelude.{◌≡◌, ◌++◌, ◌≤◌, ◌+◌, ◌^◌, OnOk};
 ghost use Rattle.vr_msg.specs.Forms.{IsFrame};
 ghost use Rattle.vr_sched.specs.Fronts.{IsFront};
-ghost use Rattle.vr_sched.specs.Text.{commit_text, do_view_change_text, frame_text, get_prepare_text, give_prepare_text, prepare_ok_text, prepare_text, start_view_text, stated, statement_text};
+ghost use Rattle.vr_sched.specs.Text.{commit_text, do_view_change_text, frame_text, get_prepare_text, give_prepare_text, prepare_ok_text, prepare_text, start_view_text, stated, statement_text, sync_view_text};
 
 use crate::parts::put_parts;
 use crate::texts::{put, put_entry, put_number, put_view};
@@ -11,6 +11,7 @@ use vr_base::ByteList;
 use vr_header::Part;
 use vr_msg::{
     Commit, DoViewChange, Frame, GetPrepare, GivePrepare, Prepare, PrepareOk, StartView, Statement,
+    SyncView,
 };
 
 #[tactic(auto, using(std::proofs::lemmas::Grind::common_steps, crate::proofs::Fronts::front_then), unfolding(crate::specs::Text::prepare_text))]
@@ -53,6 +54,17 @@ fn put_start_view(to: &mut ByteList, v: &StartView) -> Result<(), AllocError>
     put_view(to, "start_view", v.view)?;
     put_number(to, " op ", v.head)?;
     put_number(to, " commit ", v.commit)
+}
+
+#[tactic(auto, using(std::proofs::lemmas::Grind::common_steps, crate::proofs::Fronts::front_then), unfolding(crate::specs::Text::sync_view_text))]
+fn put_sync_view(to: &mut ByteList, v: &SyncView) -> Result<(), AllocError>
+    ensures text { OnOk result (to.new ≡ to.old ++ sync_view_text v.now) }
+    ensures front { IsFront to.old to.new }
+{
+    put_view(to, "sync_view", v.view)?;
+    put_number(to, " op ", v.head)?;
+    put_number(to, " commit ", v.commit)?;
+    put_number(to, " checkpoint ", v.checkpoint)
 }
 
 /// What a replica states of its log; its Parts are told from the op after its commit number on.
@@ -117,6 +129,8 @@ pub fn put_frame(to: &mut ByteList, frame: &Frame) -> Result<(), AllocError>
         Frame::GivePrepare(g) => put_give_prepare(to, g),
         Frame::GetBlock(g) => put_number(to, "get_block ", g.address),
         Frame::GiveBlock(g) => put_number(to, "give_block ", g.address),
+        Frame::GetSync(g) => put_view(to, "get_sync", g.view),
+        Frame::SyncView(v) => put_sync_view(to, v),
     }
 }
 

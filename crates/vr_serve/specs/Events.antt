@@ -29,6 +29,8 @@ event_of (frame.GetPrepare g) = Deliver (frame.GetPrepare g)
 event_of (frame.GivePrepare g) = Deliver (frame.GivePrepare g)
 event_of (frame.GetBlock g) = Deliver (frame.GetBlock g)
 event_of (frame.GiveBlock g) = Deliver (frame.GiveBlock g)
+event_of (frame.GetSync g) = Deliver (frame.GetSync g)
+event_of (frame.SyncView v) = Deliver (frame.SyncView v)
 
 abbrev pub come_of : Letter → Come
 come_of letter = record { port = letter.port; event = event_of letter.message }

@@ -9,7 +9,7 @@ fn put(rt: &HostRuntime) -> Result<Operation, Fail> {
     Ok(Operation::Put(key, value))
 }
 
-const COMMANDS: [Command; 17] = [
+const COMMANDS: [Command; 19] = [
     Command::Reserved,
     Command::Root,
     Command::Entry,
@@ -27,6 +27,8 @@ const COMMANDS: [Command; 17] = [
     Command::GetBlock,
     Command::GiveBlock,
     Command::Block,
+    Command::GetSync,
+    Command::SyncView,
 ];
 
 #[test]

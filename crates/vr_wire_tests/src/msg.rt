@@ -1,4 +1,5 @@
 //! Bytes of messages, row by row.
+use crate::sched::sends_message;
 use std::alloc::{AllocError, Global};
 use std::process::Abort;
 use std::test::Fail;
@@ -285,6 +286,83 @@ fn a_log_has_at_most_64_headers(rt: HostRuntime) -> Result<(), Fail> {
         ..start_view(74, 10)
     };
     log_has_bad_shape(&rt, alloc, before, 64)
+}
+
+// The header of a sync_view up to op 65, whose headers begin after `lo`.
+fn sync_view(lo: u64, commit: u64) -> Header {
+    Header {
+        op: 65,
+        commit,
+        aux: lo,
+        ..in_view(Command::SyncView)
+    }
+}
+
+// A sync_view's body: the checkpoint's op, the address and the name of its root, and so many headers from op 11 on.
+fn checkpoint(alloc: Global, op: u64, address: u64, count: u64) -> Result<Vec<u8>, AllocError> {
+    let mut bytes = Vec::new(alloc);
+    bytes.extend_from_slice(&op.to_be_bytes())?;
+    bytes.extend_from_slice(&address.to_be_bytes())?;
+    bytes.extend_from_slice(&NAME.0)?;
+    bytes.extend_from_slice(headers(alloc, 11, count)?.as_slice())?;
+    Ok(bytes)
+}
+
+fn checkpoint_reads_again(
+    rt: &impl Abort,
+    alloc: Global,
+    header: Header,
+    op: u64,
+) -> Result<(), Fail> {
+    let body = checkpoint(alloc, op, 127, 55)?;
+    reads_again(rt, alloc, header, body.as_slice())
+}
+
+fn checkpoint_has_bad_shape(
+    rt: &impl Abort,
+    alloc: Global,
+    header: Header,
+    op: u64,
+    address: u64,
+) -> Result<(), Fail> {
+    let body = checkpoint(alloc, op, address, 55)?;
+    has_bad_shape(rt, alloc, header, body.as_slice())
+}
+
+#[test]
+fn a_checkpoint_is_read_again(rt: HostRuntime) -> Result<(), Fail> {
+    let alloc = rt.alloc();
+    reads_again(&rt, alloc, in_view(Command::GetSync), &[])?;
+    has_bad_shape(&rt, alloc, at_op(Command::GetSync), &[])?;
+    checkpoint_reads_again(&rt, alloc, sync_view(10, 32), 32)?;
+    checkpoint_reads_again(&rt, alloc, sync_view(10, 65), 32)?;
+    checkpoint_reads_again(&rt, alloc, sync_view(10, 64), 64)
+}
+
+#[test]
+fn a_checkpoint_is_told(rt: HostRuntime) -> Result<(), Fail> {
+    let alloc = rt.alloc();
+    let body = checkpoint(alloc, 64, 1, 55)?;
+    let bytes = spelled(alloc, sync_view(10, 65), body.as_slice())?;
+    let message = decode(alloc, bytes.as_slice())?;
+    let line = b"send 6 1 0 sync_view view 3 op 65 commit 65 checkpoint 64\n";
+    sends_message(&rt, alloc, message, line)
+}
+
+#[test]
+fn a_checkpoint_is_committed_and_within_its_log(rt: HostRuntime) -> Result<(), Fail> {
+    let alloc = rt.alloc();
+    checkpoint_has_bad_shape(&rt, alloc, sync_view(10, 64), 33, 0)?;
+    checkpoint_has_bad_shape(&rt, alloc, sync_view(10, 64), 0, 0)?;
+    checkpoint_has_bad_shape(&rt, alloc, sync_view(10, 63), 64, 0)?;
+    checkpoint_has_bad_shape(&rt, alloc, sync_view(10, 65), 96, 0)?;
+    checkpoint_has_bad_shape(&rt, alloc, sync_view(10, 64), 32, 128)?;
+    checkpoint_has_bad_shape(&rt, alloc, sync_view(10, 66), 32, 0)?;
+    checkpoint_has_bad_shape(&rt, alloc, sync_view(9, 64), 32, 0)?;
+    let mut after = checkpoint(alloc, 32, 0, 0)?;
+    has_bad_shape(&rt, alloc, sync_view(65, 65), after.as_slice())?;
+    after.truncate(31);
+    has_bad_shape(&rt, alloc, sync_view(10, 64), after.as_slice())
 }
 
 // What a statement's body has: the first op, a tag for each, and so many headers.

@@ -9,9 +9,9 @@ use vr_base::{ByteList, Seq, Sum};
 use vr_header::{Entry, Header, HeaderList, Key, Operation, Outcome, Part, Value};
 use vr_msg::{
     Answered, Chosen, Commit, Committed, DoViewChange, DvcBody, Frame, GetBlock, GetPrepare,
-    GetView, GiveBlock, GivePrepare, Message, Output, Prepare, PrepareOk, Reply, ReplyFields,
-    ReplyKind, Request, RequestFields, Sent, StartView, StartViewChange, Started, Statement,
-    SvBody, Waiting,
+    GetSync, GetView, GiveBlock, GivePrepare, Message, Output, Prepare, PrepareOk, Reply,
+    ReplyFields, ReplyKind, Request, RequestFields, Sent, StartView, StartViewChange, Started,
+    Statement, SvBody, Waiting,
 };
 use vr_sched::{Line, LineFault, parse_line, text, write_text};
 
@@ -51,16 +51,24 @@ fn writes(rt: &impl Abort, alloc: Global, output: Output, line: &[u8]) -> Result
 }
 
 /// Message 6, from replica 1 to replica 0.
-fn sends(rt: &impl Abort, alloc: Global, frame: Frame, line: &[u8]) -> Result<(), Fail>
-    requires { IsFrame frame }
-{
-    let message = Message::new(frame);
+pub(crate) fn sends_message(
+    rt: &impl Abort,
+    alloc: Global,
+    message: Message,
+    line: &[u8],
+) -> Result<(), Fail> {
     let output = Output::Send(Sent {
         from: 1,
         to: 0,
         message,
     });
     writes(rt, alloc, output, line)
+}
+
+fn sends(rt: &impl Abort, alloc: Global, frame: Frame, line: &[u8]) -> Result<(), Fail>
+    requires { IsFrame frame }
+{
+    sends_message(rt, alloc, Message::new(frame), line)
 }
 
 #[test]
@@ -149,6 +157,22 @@ fn messages_of_a_view_change(rt: HostRuntime) -> Result<(), Fail> {
         alloc,
         Frame::GetView(asks),
         b"send 6 1 0 get_view view 0\n",
+    )
+}
+
+#[test]
+fn a_checkpoint_is_asked_for(rt: HostRuntime) -> Result<(), Fail> {
+    let alloc = rt.alloc();
+    let asks = GetSync {
+        cluster: 0,
+        replica: 1,
+        view: 0,
+    };
+    sends(
+        &rt,
+        alloc,
+        Frame::GetSync(asks),
+        b"send 6 1 0 get_sync view 0\n",
     )
 }
 
