@@ -17,7 +17,7 @@ use Rattle.vr_rules.specs.Replica.{Replica, last_view}
 use Rattle.vr_rules.specs.Deciding.{number_of}
 use Rattle.vr_rules.specs.Rules.{rule_for}
 use Rattle.vr_rules.specs.Opening.{fresh}
-use Rattle.vr_rules.proofs.Plain.{Plain, after_fresh, cheap, formatted, plain, root_name}
+use Rattle.vr_rules.proofs.Plain.{Plain, after_fresh, cheap, formatted, plain, bare_at, root_name}
 
 -- ---- entries of client 7: op 1 is a register, and each stands on the one before it
 
@@ -138,7 +138,7 @@ not_leading : map (λ r. rules r (ask 8 0 Register ∷ [])) (backup ∷ changing
 unfolding after_fresh
 not_leading = refl
 
-behind : map (λ r. rules r (ask 8 0 Register ∷ [])) (record primary { missing = root_name 32 ∷ [] } ∷ record primary { applied = 0 } ∷ []) ≡ replicate 2 (2 ∷ [])
+behind : map (λ r. rules r (ask 8 0 Register ∷ [])) (record primary { missing = root_name (bare_at 32) ∷ [] } ∷ record primary { applied = 0 } ∷ []) ≡ replicate 2 (2 ∷ [])
 unfolding after_fresh
 behind = refl
 

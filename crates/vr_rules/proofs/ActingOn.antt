@@ -10,10 +10,11 @@ use Rattle.vr_msg.specs.declared.frame.Frame.TheVariants as frame
 use Rattle.vr_msg.specs.declared.reply.ReplyKind.TheVariants as reply
 use Rattle.vr_grid.specs.declared.name.Name.{Name}
 use Rattle.vr_rules.specs.Deciding.{number_of}
+use Rattle.vr_rules.specs.Replica.{Replica}
 use Rattle.vr_rules.specs.Rules.{rule_for}
 use Rattle.vr_rules.specs.Opening.{fresh}
 use Rattle.vr_rules.proofs.Acting.{header, name, h1, h2, h3, g2, with_parts, in_view, two, primary, backup, changing, candidate, at_checkpoint, frozen, spent, disk, rules, ask, get, prepare, commit}
-use Rattle.vr_rules.proofs.Plain.{Plain, after_fresh, plain, root_block, root_name}
+use Rattle.vr_rules.proofs.Plain.{Plain, after_fresh, plain, bare_at, root_block, root_name}
 
 -- ---- start_view_changes
 
@@ -69,24 +70,30 @@ logs_ignored : rules backup (start_view 0 2 2 0 (h1 ∷ h2 ∷ []) ∷ start_vie
 unfolding after_fresh
 logs_ignored = refl
 
--- It has to reach down to the commit number, which is 1, and up to it; a header that doesn't stand on the one before it; the first
--- one may stand on any.
+-- It has to reach down to the commit number, which is 1, and up to it: where it begins above it, the view's checkpoint is asked for; a
+-- header that doesn't stand on the one before it; the first one may stand on any.
 logs_fit : rules backup (
     start_view 2 2 2 1 (h2 ∷ [])
     ∷ start_view 2 2 2 2 []
     ∷ start_view 2 2 0 0 []
     ∷ start_view 2 2 2 0 (h1 ∷ header 0 0 2 no_name ∷ [])
     ∷ start_view 2 2 2 1 (header 0 0 2 no_name ∷ [])
-    ∷ []) ≡ 26 ∷ 0 ∷ 0 ∷ 0 ∷ 26 ∷ []
+    ∷ []) ≡ 26 ∷ 35 ∷ 0 ∷ 0 ∷ 26 ∷ []
 unfolding after_fresh
 logs_fit = refl
 
 -- up to the end of the window and past it; with checkpoint 32 and its header known or not, a log up to it
 logs_of_window : rules (at_checkpoint 32 [] 1) (start_view 2 2 96 32 [] ∷ start_view 2 2 97 32 [] ∷ start_view 2 2 32 32 [] ∷ [])
     ++ rules (at_checkpoint 32 (Here (header 0 0 32 no_name) ∷ []) 1) (start_view 2 2 32 32 [] ∷ []) ++ rules (fresh 0 3 1) (start_view 2 2 0 0 [] ∷ [])
-    ≡ 26 ∷ 0 ∷ 0 ∷ 26 ∷ 26 ∷ []
+    ≡ 26 ∷ 35 ∷ 0 ∷ 26 ∷ 26 ∷ []
 unfolding after_fresh
 logs_of_window = refl
+
+-- past the window and above what is committed, by views: of a started one only a longer log counts
+logs_out_of_reach : map (λ r. rules r (start_view 2 2 65 1 [] ∷ start_view 2 2 2 2 [] ∷ [])) (backup ∷ changing ∷ in_view 2 2 backup ∷ in_view 3 2 backup ∷ [])
+    ≡ (35 ∷ 35 ∷ []) ∷ (35 ∷ 35 ∷ []) ∷ (35 ∷ 0 ∷ []) ∷ (0 ∷ 0 ∷ []) ∷ []
+unfolding after_fresh
+logs_out_of_reach = refl
 
 -- ---- get_views
 
@@ -101,6 +108,64 @@ views = refl
 views_ignored : rules primary (get_view 5 1 0 ∷ get_view 0 0 0 ∷ get_view 0 3 0 ∷ []) ≡ 0 ∷ 0 ∷ 0 ∷ []
 unfolding after_fresh
 views_ignored = refl
+
+-- ---- checkpoints of others
+
+abbrev pub get_sync : ℕ → ℕ → ℕ → Event
+get_sync cluster sender view = Deliver (frame.GetSync (record { cluster = cluster; replica = sender; view = view }))
+
+-- op 32 is in the checkpoint, and its header is known
+abbrev pub holder : ℕ → Replica
+holder index = at_checkpoint 32 (Here (header 0 0 32 no_name) ∷ []) index
+
+-- of this view or an earlier one; of a later one; of another group, from itself, from no member
+syncs_asked : rules (in_view 3 3 (holder 0)) (get_sync 0 1 3 ∷ get_sync 0 1 2 ∷ get_sync 0 1 4 ∷ get_sync 5 1 3 ∷ get_sync 0 0 3 ∷ get_sync 0 3 3 ∷ []) ≡ 36 ∷ 36 ∷ replicate 4 0
+unfolding after_fresh
+syncs_asked = refl
+
+-- without a checkpoint; where the known headers don't reach down to it; at a replica that doesn't lead, or whose view isn't started
+syncs_not_given : map (λ r. rules r (get_sync 0 2 0 ∷ [])) (primary ∷ at_checkpoint 32 [] 0 ∷ holder 1 ∷ in_view 3 2 (holder 0) ∷ []) ≡ replicate 4 (0 ∷ [])
+unfolding after_fresh
+syncs_not_given = refl
+
+-- op 32 is committed and in the checkpoint, op 33 stands on it
+abbrev pub sync_view : ℕ → ℕ → List Header → Event
+sync_view sender view headers =
+    Deliver (frame.SyncView (record {
+      cluster = 0;
+      replica = sender;
+      view = view;
+      head = 33;
+      commit = 32;
+      checkpoint = 32;
+      root_address = 64;
+      root_name = (root_name (bare_at 32)).sum;
+      body = record { lo = 31; headers = headers };
+    }))
+
+abbrev h32 : Header
+h32 = header 0 0 32 no_name
+
+abbrev pub h33 : Header
+h33 = header 0 0 33 (name h32)
+
+abbrev pub logs_end : List Header
+logs_end = h32 ∷ h33 ∷ []
+
+-- of a later view; of the view that isn't started; of the view that is, since it is longer; of an earlier view
+syncs_of_views : map (λ r. rules r (sync_view 2 2 logs_end ∷ [])) (backup ∷ changing ∷ in_view 2 2 backup ∷ in_view 3 2 backup ∷ []) ≡ replicate 3 (37 ∷ []) ++ (0 ∷ []) ∷ []
+unfolding after_fresh
+syncs_of_views = refl
+
+-- from one that isn't the primary of the view, from itself; a header that doesn't stand on the one before it
+syncs_ignored : rules backup (sync_view 0 2 logs_end ∷ sync_view 1 1 logs_end ∷ sync_view 2 2 (h32 ∷ header 0 0 33 no_name ∷ []) ∷ []) ≡ 0 ∷ 0 ∷ 0 ∷ []
+unfolding after_fresh
+syncs_ignored = refl
+
+-- where more is committed than the log has; where the checkpoint isn't a later one
+syncs_behind : map (λ r. rules r (sync_view 2 2 logs_end ∷ [])) (record backup { commit = 33 } ∷ record backup { commit = 34 } ∷ holder 1 ∷ []) ≡ (37 ∷ []) ∷ (0 ∷ []) ∷ (0 ∷ []) ∷ []
+unfolding after_fresh
+syncs_behind = refl
 
 -- ---- repair of entries
 
@@ -133,16 +198,16 @@ entries_ignored = refl
 
 -- ---- repair of blocks: the disk has the checkpoint of op 32
 
-abbrev root : Name
-root = root_name 32
+abbrev pub root : Name
+root = root_name (bare_at 32)
 
-abbrev keeping : Plain
-keeping = record disk { kept = Some (record { op = 32; texts = record { sessions = []; keys = [] } }) }
+abbrev pub keeping : Plain
+keeping = record disk { kept = Some (bare_at 32) }
 
 abbrev get_block : ℕ → ℕ → ℕ → Sum → Event
 get_block cluster sender address name = Deliver (frame.GetBlock (record { cluster = cluster; replica = sender; address = address; name = name }))
 
-abbrev give_block : ℕ → ℕ → ℕ → List ℕ → Event
+abbrev pub give_block : ℕ → ℕ → ℕ → List ℕ → Event
 give_block cluster sender address block = Deliver (frame.GiveBlock (record { cluster = cluster; replica = sender; address = address; block = block }))
 
 -- of its name; of another address or name; of another group, from itself; where the block doesn't read
@@ -155,11 +220,18 @@ blocks_asked = refl
 
 -- of its name; at another address; another block; of another group, from itself; where it isn't missing
 blocks_given : rules (record changing { missing = root ∷ [] }) (
-    give_block 0 2 64 (root_block 32) ∷ give_block 0 2 65 (root_block 32) ∷ give_block 0 2 64 (root_block 64) ∷ give_block 5 2 64 (root_block 32) ∷ give_block 0 1 64 (root_block 32) ∷ [])
-    ++ rules changing (give_block 0 2 64 (root_block 32) ∷ [])
+    give_block 0 2 64 (root_block (bare_at 32)) ∷ give_block 0 2 65 (root_block (bare_at 32)) ∷ give_block 0 2 64 (root_block (bare_at 64)) ∷ give_block 5 2 64 (root_block (bare_at 32)) ∷ give_block 0 1 64 (root_block (bare_at 32)) ∷ [])
+    ++ rules changing (give_block 0 2 64 (root_block (bare_at 32)) ∷ [])
     ≡ 31 ∷ replicate 5 0
 unfolding after_fresh
 blocks_given = refl
+
+-- the same for one that has gone bad
+bad_blocks_given : rules (record changing { worn = root ∷ [] }) (
+    give_block 0 2 64 (root_block (bare_at 32)) ∷ give_block 0 2 65 (root_block (bare_at 32)) ∷ give_block 0 2 64 (root_block (bare_at 64)) ∷ give_block 5 2 64 (root_block (bare_at 32)) ∷ give_block 0 1 64 (root_block (bare_at 32)) ∷ [])
+    ≡ 31 ∷ replicate 4 0
+unfolding after_fresh
+bad_blocks_given = refl
 
 -- ---- ticks
 

@@ -18,7 +18,7 @@ use Rattle.vr_rules.specs.Steps.{Effect, Write, Rewrite, Save, Mend, Checkpoint,
 use Rattle.vr_rules.specs.Rules.{react}
 use Rattle.vr_rules.proofs.Acting.{header, name, h1, h2, h3, g2, with_parts, in_view, two, primary, backup, changing, settled, at_checkpoint, disk, ask, get, prepare, commit}
 use Rattle.vr_rules.proofs.ActingOn.{start_view_change, start_view, get_prepare, give_prepare}
-use Rattle.vr_rules.proofs.Plain.{Plain, after_fresh, lines, plain, root_name}
+use Rattle.vr_rules.proofs.Plain.{Plain, after_fresh, lines, plain, bare_at, root_name}
 
 -- ---- what is looked at
 
@@ -29,13 +29,13 @@ entry h = record { header = h; operation = if h.op == 1 then Register else get }
 abbrev pub storing : List Header → Plain
 storing hs = after_all plain disk (map (λ h. Write false (entry h)) hs)
 
-abbrev both : Plain
+abbrev pub both : Plain
 both = storing (h1 ∷ h2 ∷ [])
 
-abbrev step : Plain → Replica → Event → Step
+abbrev pub step : Plain → Replica → Event → Step
 step f r e = react e plain r f
 
-abbrev said : Plain → Replica → Event → List (List ℕ)
+abbrev pub said : Plain → Replica → Event → List (List ℕ)
 said f r e = lines 0 (outputs (step f r e).script)
 
 -- a letter for each effect: an entry is stored or stored again, a header is rewritten, a value is saved or mended, a checkpoint, a
@@ -50,17 +50,17 @@ effect_letter (Checkpoint cluster texts op old) = codes "C"
 effect_letter (PutBlock name block) = codes "B"
 effect_letter (Say output) = codes "s"
 
-abbrev script : Plain → Replica → Event → List ℕ
+abbrev pub script : Plain → Replica → Event → List ℕ
 script f r e = flat_map effect_letter (step f r e).script
 
-abbrev letters : Plain → Replica → Event → List ℕ
+abbrev pub letters : Plain → Replica → Event → List ℕ
 letters f r e = letters_of (step f r e).replica.parts
 
 -- the lines with the script, or with the letters of the Parts
-abbrev both_of : Plain → Replica → Event → List (List ℕ) × List ℕ
+abbrev pub both_of : Plain → Replica → Event → List (List ℕ) × List ℕ
 both_of f r e = (said f r e, script f r e)
 
-abbrev parts_of : Plain → Replica → Event → List (List ℕ) × List ℕ
+abbrev pub parts_of : Plain → Replica → Event → List (List ℕ) × List ℕ
 parts_of f r e = (said f r e, letters f r e)
 
 -- ---- idle: what comes from the primary of the view sets it to 0, also where nothing else is done
@@ -116,7 +116,7 @@ unfolding after_fresh
 past_tells = refl
 
 -- nothing is applied while a block is missing, though the commit number rises
-waits_for_blocks : (λ (s : Step). s.replica.commit ∷ s.replica.applied ∷ length s.script ∷ []) (step (storing (header 0 0 33 no_name ∷ [])) (record (with_parts (Here (header 0 0 33 no_name) ∷ []) (at_checkpoint 32 [] 1)) { missing = root_name 32 ∷ [] }) (committing 33 (header 0 0 5 no_name)))
+waits_for_blocks : (λ (s : Step). s.replica.commit ∷ s.replica.applied ∷ length s.script ∷ []) (step (storing (header 0 0 33 no_name ∷ [])) (record (with_parts (Here (header 0 0 33 no_name) ∷ []) (at_checkpoint 32 [] 1)) { missing = root_name (bare_at 32) ∷ [] }) (committing 33 (header 0 0 5 no_name)))
     ≡ 33 ∷ 32 ∷ 0 ∷ []
 unfolding after_fresh
 waits_for_blocks = refl

@@ -181,17 +181,18 @@ pub record Stepped (c n i : ℕ) (x : Step) : Type 0 where
 
 pub step_is : (c n i : ℕ) (r : Replica) (e : Event) (d : Lying) → IsFitReplica r → IsAt c n i r → IsEvent e → ReadsWell lying d → Stepped c n i (stepped e r d)
 step_is c n i r e d h at m k =
-    let fit = steps_fit lying d r e disks_fit.lies disks_fit.roots k h.sound h.savable h.missing m in
+    let fit = steps_fit lying d r e disks_fit.lies disks_fit.roots k h.sound h.savable h.blocks m in
     let saves = steps_save_well lying d r e disks_fit.names disks_fit.roots h.sound h.savable m in
-    let own : IsOwnStep c n i (stepped e r d) = rw (← at.cluster, ← at.n, ← at.index) (steps_are_own lying d r e) in
-    record { fit = fit; known = record { fit = fit.each; saves = saves.each; own = own.each }; replica = record { sound = steps_stay_sound lying d r e disks_fit.names h.sound m; savable = saves.savable; missing = fit.missing }; at = own.replica }
+    let saved : IsOwnValue r.cluster r.n r.index r.saved = rw (at.cluster, at.n, at.index) at.saved in
+    let own : IsOwnStep c n i (stepped e r d) = rw (← at.cluster, ← at.n, ← at.index) (steps_are_own lying d r e saved) in
+    record { fit = fit; known = record { fit = fit.each; saves = saves.each; own = own.each }; replica = record { sound = steps_stay_sound lying d r e disks_fit.names h.sound m; savable = saves.savable; blocks = fit.blocks }; at = own.replica }
 
 opening_is : (c n i : ℕ) (v : SuperValue) (d : Lying) → IsFitValue c n i v → ReadsWell lying d → Stepped c n i (opening v lying (blank v) d)
 opening_is c n i v d g k =
     let fit = openings_fit lying d v disks_fit.lies disks_fit.roots k g.0 in
     let saves = openings_save_well lying d v (headers_of lying d k) disks_fit.roots g.0 in
     let own : IsOwnStep c n i (opening v lying (blank v) d) = rw (← g.1.cluster, ← g.1.n, ← g.1.index) (openings_are_own lying d v) in
-    record { fit = fit; known = record { fit = fit.each; saves = saves.each; own = own.each }; replica = record { sound = openings_are_sound lying d v (headers_of lying d k) g.0; savable = saves.savable; missing = fit.missing }; at = own.replica }
+    record { fit = fit; known = record { fit = fit.each; saves = saves.each; own = own.each }; replica = record { sound = openings_are_sound lying d v (headers_of lying d k) g.0; savable = saves.savable; blocks = fit.blocks }; at = own.replica }
 
 pub start_is : (c n i : ℕ) (v : SuperValue) (d : Lying) → IsFitValue c n i v → ReadsWell lying d → Stepped c n i (in_two v d)
 start_is c n i v d g k = subst (Stepped c n i) (opening_in_two v d) (opening_is c n i v d g k)
@@ -248,8 +249,8 @@ unfolding blank
 fresh_is c n i l a b m =
     let k = fresh_fits c n i l a b m in
     let own : IsOwnValue c n i (first_value c n i) = record { cluster = refl; n = refl; index = refl } in
-    let at : IsAt c n i (fresh c n i) = record { cluster = refl; n = refl; index = refl } in
-    let whole : IsFitReplica (fresh c n i) = record { sound = k.sound; savable = k.savable; missing = k.missing } in
+    let at : IsAt c n i (fresh c n i) = record { cluster = refl; n = refl; index = refl; saved = own } in
+    let whole : IsFitReplica (fresh c n i) = record { sound = k.sound; savable = k.savable; blocks = k.blocks } in
     record {
       running = λ r e. (let same : fresh c n i ≡ r = cc in subst (λ (x : Replica). IsFitReplica x × IsAt c n i x) same (whole, at));
       last = (k.value, own);

@@ -54,6 +54,8 @@ abbrev pub core : Replica → Replica
 core r = record r {
   idle = 0;
   turn = 0;
+  cursor = 0;
+  worn = [];
   heard = no_replicas;
   saved = first_value 0 0 0;
   root = record { address = 0; sum = no_name };

@@ -29,10 +29,12 @@ pub mod Long
 pub mod Acting
 pub mod ActingOn
 pub mod Doing
+pub mod DoingMore
 pub mod Opened
 pub mod Cuts
 pub mod SavesWell
 pub mod SavesParts
+pub mod SavesJump
 pub mod SavesWords
 pub mod SavesTrying
 pub mod SavesRules
@@ -44,10 +46,12 @@ pub mod SavesOpening
 pub mod FitMessages
 pub mod FitWords
 pub mod FitTrying
+pub mod FitVisits
 pub mod FitRules
 pub mod FitSteps
 pub mod FitOpening
 pub mod FitLoads
+pub mod FitTables
 pub mod FitDisks
 pub mod FitFresh
 pub mod PinnedWords
@@ -57,3 +61,7 @@ pub mod OwnWords
 pub mod OwnSteps
 pub mod Halves
 pub mod Replying
+pub mod Jumping
+pub mod Syncs
+pub mod Visiting
+pub mod SilentVisits

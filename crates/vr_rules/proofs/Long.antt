@@ -19,7 +19,7 @@ arrive xs = map Arrives xs
 -- ---- A log is taken over only where it reaches down to the replica's own commit number. Replica 2 leads view 2 alone and makes op
 -- 1; replica 0 leads view 3 with replica 1, commits 63 other ops and makes two more that it has alone; view 4 ends the log at 64.
 -- Replica 0 leads view 6, and its start_view has the headers of ops 2 to 64: replica 2, whose commit number is 0, must not take it,
--- since its own op 1 is another one. The last arrival puts out nothing.
+-- since its own op 1 is another one. It asks for the checkpoint of that view.
 
 abbrev put_of_view_3 : ℕ → List Happening
 put_of_view_3 k = asks 0 7 k put ∷ Arrives (63 + 3 * k) ∷ Arrives (65 + 3 * k) ∷ []
@@ -35,13 +35,14 @@ reaches_commit : drop 484 (replayed 3 loose)
     ∷ codes "choose 0 view 6 log 4 commit 64 head 64 own -"
     ∷ codes "send 291 0 1 start_view view 6 op 64 commit 64"
     ∷ codes "send 292 0 2 start_view view 6 op 64 commit 64"
+    ∷ codes "send 293 2 0 get_sync view 6"
     ∷ []
 unfolding replayed
 reaches_commit = refl
 
 -- ---- A header that was forgotten stays forgotten where the log is cut. Replica 2 leads view 2, commits 63 ops and makes two more,
 -- of which replica 3 has no entry and replica 4 has the first. Replica 3, which knew 65 headers, leads view 3, whose log ends at 64:
--- its start_view has the headers of ops 2 to 64, so replica 1, whose log is empty, doesn't take it.
+-- its start_view has the headers of ops 2 to 64, so replica 1, whose log is empty, doesn't take it, and asks for the checkpoint.
 
 abbrev op_of_view_2 : ℕ → Operation → List Happening
 op_of_view_2 k o = asks 2 7 k o ∷ arrive (map (λ i. 60 + 6 * k + i) (range_with_len 0 4))
@@ -65,11 +66,12 @@ forgotten_for_good : drop 828 (replayed 5 cut)
     ∷ codes "send 546 3 1 start_view view 3 op 64 commit 63"
     ∷ codes "send 547 3 2 start_view view 3 op 64 commit 63"
     ∷ codes "send 548 3 4 start_view view 3 op 64 commit 63"
-    ∷ codes "send 549 1 0 start_view_change view 3"
-    ∷ codes "send 550 1 2 start_view_change view 3"
-    ∷ codes "send 551 1 3 start_view_change view 3"
-    ∷ codes "send 552 1 4 start_view_change view 3"
-    ∷ codes "send 553 1 3 do_view_change view 3 log 0 commit 0 head 0 parts -"
+    ∷ codes "send 549 1 3 get_sync view 3"
+    ∷ codes "send 550 1 0 start_view_change view 3"
+    ∷ codes "send 551 1 2 start_view_change view 3"
+    ∷ codes "send 552 1 3 start_view_change view 3"
+    ∷ codes "send 553 1 4 start_view_change view 3"
+    ∷ codes "send 554 1 3 do_view_change view 3 log 0 commit 0 head 0 parts -"
     ∷ []
 unfolding replayed
 forgotten_for_good = refl

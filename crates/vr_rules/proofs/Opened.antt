@@ -11,7 +11,7 @@ use Rattle.vr_rules.specs.Steps.{Step, outputs}
 use Rattle.vr_rules.specs.Opening.{opened}
 use Rattle.vr_rules.proofs.Acting.{header, name, h1}
 use Rattle.vr_rules.proofs.Doing.{entry, effect_letter}
-use Rattle.vr_rules.proofs.Plain.{Plain, after_fresh, formatted, lines, plain, reserved, root_name}
+use Rattle.vr_rules.proofs.Plain.{Kept, Plain, after_fresh, formatted, lines, plain, reserved, root_name}
 
 -- ---- disks of replica 1 of three
 
@@ -113,16 +113,20 @@ h31 = header 0 0 31 no_name
 abbrev h32 : Header
 h32 = header 0 0 32 (name h31)
 
-abbrev at_32 : Plain
-at_32 = let v = value 0 0 32 32 (h31 ∷ h32 ∷ []) in
-    having (record v { fields = record v.fields { checkpoint = 32; root_address = 64; root_name = (root_name 32).sum } })
+abbrev kept_of : List ℕ → Kept
+kept_of sessions = record { op = 32; texts = record { sessions = sessions; keys = 0 ∷ 0 ∷ [] } }
 
-abbrev with_texts : List ℕ → Plain → Plain
-with_texts sessions f = record f { kept = Some (record { op = 32; texts = record { sessions = sessions; keys = 0 ∷ 0 ∷ [] } }) }
+-- the superblock names it; the disk may not have it
+abbrev at_32 : List ℕ → Plain
+at_32 sessions = let v = value 0 0 32 32 (h31 ∷ h32 ∷ []) in
+    having (record v { fields = record v.fields { checkpoint = 32; root_address = 64; root_name = (root_name (kept_of sessions)).sum } })
+
+abbrev with_texts : List ℕ → Plain
+with_texts sessions = record (at_32 sessions) { kept = Some (kept_of sessions) }
 
 old_ops : map found (
-    with_texts (0 ∷ 0 ∷ []) at_32
-    ∷ with_slot 31 (Some (reserved 31)) (Some (entry h31)) (with_slot 32 (Some h32) (Some (entry h31)) (with_texts (0 ∷ 0 ∷ []) at_32))
+    with_texts (0 ∷ 0 ∷ [])
+    ∷ with_slot 31 (Some (reserved 31)) (Some (entry h31)) (with_slot 32 (Some h32) (Some (entry h31)) (with_texts (0 ∷ 0 ∷ [])))
     ∷ [])
     ≡ (codes "ll", codes "Ms") ∷ (codes "hl", codes "Ms") ∷ []
 unfolding after_fresh
@@ -132,7 +136,7 @@ old_ops = refl
 abbrev missing : Plain → Option (List ℕ)
 missing f = option_map_or (λ (s : Step). Some (map (λ m. m.address) s.replica.missing)) (opened plain f) None
 
-loads : map missing (at_32 ∷ with_texts (0 ∷ 0 ∷ []) at_32 ∷ with_texts (0 ∷ []) at_32 ∷ having (value 0 0 0 0 []) ∷ []) ≡ Some (64 ∷ []) ∷ Some [] ∷ Some (64 ∷ []) ∷ Some [] ∷ []
+loads : map missing (at_32 (0 ∷ 0 ∷ []) ∷ with_texts (0 ∷ 0 ∷ []) ∷ with_texts (0 ∷ []) ∷ having (value 0 0 0 0 []) ∷ []) ≡ Some (64 ∷ []) ∷ Some [] ∷ Some (64 ∷ []) ∷ Some [] ∷ []
 unfolding after_fresh
 loads = refl
 

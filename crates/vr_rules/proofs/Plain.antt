@@ -1,5 +1,5 @@
 -- A plain disk, on which worked rows are computed: it has values and no bytes. Names are made by a cheap checksum.
-use Rattle.std.proofs.Common.{ℕ, ◌+◌, ◌-◌, ◌*◌, ◌/◌, ◌%◌, ◌^◌, ◌==◌, ◌&&◌, ◌||◌, nat_lt, nat_le, Bool, true, false, not, List, [], ◌∷◌, length, map, replicate, slice_get, slice_set, slice_index_or, Option, Some, None, fold, if◌then◌else◌}
+use Rattle.std.proofs.Common.{ℕ, ◌+◌, ◌-◌, ◌*◌, ◌/◌, ◌%◌, ◌^◌, ◌==◌, ◌&&◌, ◌||◌, nat_lt, nat_le, Bool, true, false, not, List, [], ◌∷◌, ◌++◌, length, map, replicate, take, drop, slice_get, slice_set, slice_index_or, Option, Some, None, fold, if◌then◌else◌}
 use Rattle.std.specs.List.{range_with_len}
 use Rattle.std.specs.Option.{option_and_then, option_map, option_map_or}
 use Rattle.std.specs.Fmt.{digits}
@@ -31,13 +31,13 @@ use Rattle.vr_grid.specs.declared.name.Name.{Name}
 use Rattle.vr_ckpt.specs.Places as places
 use Rattle.vr_ckpt.specs.declared.found.Load.{Load}
 use Rattle.vr_ckpt.specs.declared.found.Load.TheVariants.{Loaded, Missing}
-use Rattle.vr_sched.specs.Text.{numbered, viewed, letters_of, statement_text, prepare_text, prepare_ok_text, commit_text, do_view_change_text, start_view_text, get_prepare_text, give_prepare_text, sent_text, committed_text, reply_text, chosen_text, waiting_text, started_text, output_text}
+use Rattle.vr_sched.specs.Text.{numbered, viewed, letters_of, statement_text, prepare_text, prepare_ok_text, commit_text, do_view_change_text, start_view_text, sync_view_text, get_prepare_text, give_prepare_text, sent_text, committed_text, reply_text, chosen_text, waiting_text, started_text, output_text}
 use Rattle.vr_rules.specs.Replica.{Replica, part_at, head, run, statement_of, forgetting, with_part}
 use Rattle.vr_rules.specs.Steps.{Effect, Write, Rewrite, Save, Mend, Checkpoint, PutBlock, Say, Setting, outputs, after_all, ◌⨾◌, quiet, change, does, says, by, naming, reading, times, each}
 use Rattle.vr_rules.specs.Outputs.{send_to_all}
-use Rattle.vr_rules.specs.Words.{value_of, save, entered, enter, write, accept, with_entry_at, with_checkpoint, make_checkpoint, apply_entry, apply_next, apply, advanced, advance, learn, is_chain_from, may_take, taken_part, taken, take, prepare_again, stated, begin_view, try_log, try, speak, resend, ask_peer, ask, with_state, load}
+use Rattle.vr_rules.specs.Words.{value_of, save, entered, enter, write, accept, with_entry_at, with_checkpoint, make_checkpoint, apply_entry, apply_next, apply, advanced, advance, learn, is_chain_from, may_take, taken_part, taken, take as take_over, prepare_again, stated, begin_view, try_log, try, speak, resend, ask_peer, ask, with_state, load, jump, jumped, jumped_part, visit, visit_block, visit_place, visit_slot}
 use Rattle.vr_rules.specs.Deciding.{first_of, is_in_flight}
-use Rattle.vr_rules.specs.Rules.{next_entry, make, on_request, on_prepare, on_prepare_ok, on_commit, on_start_view_change, on_do_view_change, acknowledge_stored, on_start_view, on_get_view, on_get_prepare, on_give_prepare, on_get_block, put_block, on_give_block, on_tick, react, rule_for}
+use Rattle.vr_rules.specs.Rules.{next_entry, make, on_request, on_prepare, on_prepare_ok, on_commit, on_start_view_change, on_do_view_change, acknowledge_stored, on_start_view, on_get_view, on_get_prepare, on_give_prepare, on_get_block, put_block, on_give_block, on_get_sync, on_sync_view, on_tick, react, rule_for}
 use Rattle.vr_rules.specs.Opening.{blank, first_value, recover_op, recover_old, clouded, recover_parts, opening, opened}
 use Rattle.vr_rules.specs.World.{Hazards, Happened, Happening, Asks, message_of, messages, at_member, fresh_world, happen}
 
@@ -90,19 +90,27 @@ formatted cluster n index = record {
   is_bad = false;
 }
 
--- ---- a checkpoint is one block, which has its op
+-- ---- a checkpoint is one block, which has its op and its texts
 
-abbrev pub root_block : ℕ → List ℕ
-root_block op = op ∷ []
+abbrev pub root_block : Kept → List ℕ
+root_block k = k.op ∷ length k.texts.sessions ∷ (k.texts.sessions ++ k.texts.keys)
 
-abbrev pub root_name : ℕ → Name
-root_name op = record { address = places.root_place op; sum = record { 0 = cheap (root_block op) } }
+-- a checkpoint without texts
+abbrev pub bare_at : ℕ → Kept
+bare_at op = record { op = op; texts = record { sessions = []; keys = [] } }
+
+abbrev pub kept_in : List ℕ → Option Kept
+kept_in (op ∷ n ∷ bytes) = Some (record { op = op; texts = record { sessions = take n bytes; keys = drop n bytes } })
+kept_in _ = None
+
+abbrev pub root_name : Kept → Name
+root_name k = record { address = places.root_place k.op; sum = record { 0 = cheap (root_block k) } }
 
 abbrev pub is_block : Name → List ℕ → Bool
 is_block name block = same_sum (record { 0 = cheap block }) name.sum
 
 abbrev pub is_root : Plain → Name → Kept → Bool
-is_root f name k = not f.is_bad && ((name.address == places.root_place k.op) && is_block name (root_block k.op))
+is_root f name k = not f.is_bad && ((name.address == places.root_place k.op) && is_block name (root_block k))
 
 abbrev pub kept_under : Plain → Name → Option Kept
 kept_under f name = option_map_or (λ k. if is_root f name k then Some k else None) f.kept None
@@ -124,7 +132,7 @@ after f (Rewrite h) = with_header h f
 after f (Save old new) = record f { value = new }
 after f (Mend v) = record f { value = v }
 after f (Checkpoint cluster texts op old) = record f { kept = Some (record { op = op; texts = texts }); is_bad = false }
-after f (PutBlock name block) = record f { is_bad = false }
+after f (PutBlock name block) = record f { kept = kept_in block; is_bad = false }
 after f (Say output) = f
 
 abbrev pub plain : Setting Plain
@@ -133,10 +141,10 @@ plain = record {
   opens = λ f. Some f.value;
   header = λ f slot. slice_index_or f.headers slot None;
   entry = λ f slot. slice_index_or f.entries slot None;
-  block = λ f name. option_map_or (λ k. Some (root_block k.op)) (kept_under f name) None;
+  block = λ f name. option_map_or (λ k. Some (root_block k)) (kept_under f name) None;
   is_block = is_block;
   loaded = loaded;
-  save_state = λ cluster texts op old. record { root = root_name op; table = places.empty };
+  save_state = λ cluster texts op old. record { root = root_name (record { op = op; texts = texts }); table = places.empty };
   after = after;
 }
 
@@ -217,13 +225,18 @@ lines m (o ∷ os) = output_text m o ∷ lines (m + length (message_of o)) os
 
 -- What happens to a fresh group of n. Whoever computes something of it names this definition, which lists all that is computed with.
 unfoldable pub after_fresh : ℕ → List Happening → Happened Plain
-unfolding cheap formatted count cut lines digits bytes16 bytes32 bytes64 operation_bytes outcome_bytes is_text byte_from number_from piece_from table_text count_from read_on decoded session_text value_from outcome_of outcome_from numbers_from session_from pair_text pieces_from pair_from same_header named_bytes choice named_by row_end log_headers state.applied state.answered state.executed sess.checked sess.applied sess.oldest sess.without_oldest kv.applied kv.putting kv.getting kv.deleting numbered viewed letters_of statement_text prepare_text prepare_ok_text commit_text do_view_change_text start_view_text get_prepare_text give_prepare_text sent_text committed_text reply_text chosen_text waiting_text started_text part_at head run statement_of forgetting with_part outputs after_all ◌⨾◌ quiet change does says by naming reading times each send_to_all value_of save entered enter write accept with_entry_at with_checkpoint make_checkpoint apply_entry apply_next apply advanced advance learn is_chain_from may_take taken_part taken take prepare_again stated begin_view try_log try speak resend ask_peer ask with_state load first_of is_in_flight next_entry make on_request on_prepare on_prepare_ok on_commit on_start_view_change on_do_view_change acknowledge_stored on_start_view on_get_view on_get_prepare on_give_prepare on_get_block put_block on_give_block on_tick react rule_for blank recover_op recover_old clouded recover_parts opening opened messages at_member fresh_world happen
+unfolding cheap formatted count cut lines digits bytes16 bytes32 bytes64 operation_bytes outcome_bytes is_text byte_from number_from piece_from table_text count_from read_on decoded session_text value_from outcome_of outcome_from numbers_from session_from pair_text pieces_from pair_from same_header named_bytes choice named_by row_end log_headers state.applied state.answered state.executed sess.checked sess.applied sess.oldest sess.without_oldest kv.applied kv.putting kv.getting kv.deleting numbered viewed letters_of statement_text prepare_text prepare_ok_text commit_text do_view_change_text start_view_text sync_view_text get_prepare_text give_prepare_text sent_text committed_text reply_text chosen_text waiting_text started_text part_at head run statement_of forgetting with_part outputs after_all ◌⨾◌ quiet change does says by naming reading times each send_to_all value_of save entered enter write accept with_entry_at with_checkpoint make_checkpoint apply_entry apply_next apply advanced advance learn is_chain_from may_take taken_part taken take_over prepare_again stated begin_view try_log try speak resend ask_peer ask with_state load jump jumped jumped_part visit visit_block visit_place visit_slot first_of is_in_flight next_entry make on_request on_prepare on_prepare_ok on_commit on_start_view_change on_do_view_change acknowledge_stored on_start_view on_get_view on_get_prepare on_give_prepare on_get_block put_block on_give_block on_get_sync on_sync_view on_tick react rule_for blank recover_op recover_old clouded recover_parts opening opened messages at_member fresh_world happen
 after_fresh n xs = happen hazards (fresh_world hazards n) xs
 
 -- its lines
 unfoldable pub replayed : ℕ → List Happening → List (List ℕ)
 unfolding after_fresh
 replayed n xs = lines 0 (after_fresh n xs).outputs
+
+-- something of a replica's disk after it
+unfoldable pub stored_there : {X : Type 0} → (Plain → X) → ℕ → ℕ → List Happening → Option X
+unfolding after_fresh
+stored_there look r n xs = option_map (λ m. look m.disk) (slice_get (after_fresh n xs).world.members r)
 
 -- something of a replica after it; None where that one is stopped
 unfoldable pub seen : {X : Type 0} → (Replica → X) → ℕ → ℕ → List Happening → Option X

@@ -23,7 +23,7 @@ use Rattle.vr_sess.specs.declared.session.SessionAnswer.TheVariants as answer
 use Rattle.vr_rules.specs.Replica.{Replica, last_view, is_started, is_primary, is_spent, is_frozen, head}
 use Rattle.vr_rules.specs.Steps.{Setting, change}
 use Rattle.vr_rules.specs.declared.asker.Asker.{Asker}
-use Rattle.vr_rules.specs.Words.{write, apply, is_loaded, ask, load}
+use Rattle.vr_rules.specs.Words.{write, apply, is_loaded, load}
 use Rattle.vr_rules.specs.Deciding.{Hash, session_answer, request_table, get_block_table, is_wanted, give_block_table, tick_table}
 use Rattle.vr_rules.specs.Rules.{asker_by, next_entry, make, stored_reply, obey_request, on_request, asked_block, block_at, give_read, obey_get_block, on_get_block, without, put_block, put_found, test_of, obey_give_block, on_give_block, idler, next_view, obey_tick, on_tick, on_message, on_event, react}
 use Rattle.vr_rules.specs.Sound.{IsNameBytes, IsSound}
@@ -33,7 +33,8 @@ use Rattle.vr_rules.proofs.Combining.{KeptBy, Keeps, kept_then, kept_change_then
 use Rattle.vr_rules.proofs.Storing.{MayStore}
 use Rattle.vr_rules.proofs.Trying.{keeps_speak}
 use Rattle.vr_rules.proofs.Wording.{kept_alike, kept_enter, kept_write, keeps_advance, keeps_apply, keeps_prepare_again, keeps_ask, kept_load}
-use Rattle.vr_rules.proofs.Ruling.{by_rows, keeps_prepare, keeps_prepare_ok, keeps_commit, keeps_start_view_change, keeps_do_view_change, keeps_start_view, keeps_get_view, keeps_get_prepare, keeps_give_prepare}
+use Rattle.vr_rules.proofs.Ruling.{by_rows, keeps_prepare, keeps_prepare_ok, keeps_commit, keeps_start_view_change, keeps_do_view_change, keeps_start_view, keeps_get_view, keeps_get_prepare, keeps_give_prepare, keeps_get_sync, keeps_sync_view}
+use Rattle.vr_rules.proofs.Visiting.{keeps_visit, keeps_mend_found}
 
 -- ---- requests
 
@@ -189,7 +190,10 @@ keeps_give_block g = record {
       let is_block = test_of s f in
       kept_reading _ _ s r f (kept_by _ s r f (by_rows (λ x. KeptBy (obey_give_block is_block g x) s r f) (give_block_table is_block g r) (
         λ t. idle,
-        λ n0. (λ t. kept_by _ s r f (kept_put_found g.block (is_wanted is_block g) (find (is_wanted is_block g) r.missing) s r f h refl), λ n1. idle),
+        λ n0. (
+          λ t. kept_by _ s r f (kept_put_found g.block (is_wanted is_block g) (find (is_wanted is_block g) r.missing) s r f h refl),
+          λ n1. (λ t. kept_by _ s r f ((keeps_mend_found g.block (find (is_wanted is_block g) r.worn)).every s r f h), λ n2. idle),
+        ),
       )));
 }
 
@@ -206,11 +210,11 @@ unfolding on_tick
 keeps_tick = record {
   every = λ s r f h.
       kept_by _ s r f (by_rows (λ x. KeptBy (obey_tick x) s r f) (tick_table r) (
-        λ t. (keeps_then _ _ (keeps_says _) (keeps_then _ _ (keeps_by _ (λ r. keeps_when (nat_lt r.commit (head r)) _ (keeps_prepare_again (r.commit + 1)))) keeps_ask)).every s r f h,
+        λ t. (keeps_then _ _ (keeps_says _) (keeps_then _ _ (keeps_by _ (λ r. keeps_when (nat_lt r.commit (head r)) _ (keeps_prepare_again (r.commit + 1)))) (keeps_then _ _ keeps_visit keeps_ask))).every s r f h,
         λ n0. (
-          λ t. (keeps_then _ _ keeps_idler (keeps_by _ (λ r. keeps_if (nat_le 5 r.idle) next_view ask keeps_next_view keeps_ask))).every s r f h,
+          λ t. (keeps_then _ _ keeps_idler (keeps_by _ (λ r. keeps_if (nat_le 5 r.idle) next_view _ keeps_next_view (keeps_then _ _ keeps_visit keeps_ask)))).every s r f h,
           λ n1. (
-            λ t. (keeps_then _ _ keeps_idler (keeps_by _ (λ r. keeps_if (nat_le 10 r.idle) next_view _ keeps_next_view (keeps_then _ _ (keeps_says _) (keeps_then _ _ keeps_speak keeps_ask))))).every s r f h,
+            λ t. (keeps_then _ _ keeps_idler (keeps_by _ (λ r. keeps_if (nat_le 10 r.idle) next_view _ keeps_next_view (keeps_then _ _ (keeps_says _) (keeps_then _ _ keeps_speak (keeps_then _ _ keeps_visit keeps_ask)))))).every s r f h,
             λ n2. (keeps_quiet).every s r f h,
           ),
         ),
@@ -233,6 +237,8 @@ kept_message (frame.GetPrepare g) s r f names h m last = (keeps_get_prepare g).e
 kept_message (frame.GivePrepare g) s r f names h m last = (keeps_give_prepare g).every s r f h
 kept_message (frame.GetBlock g) s r f names h m last = (keeps_get_block g).every s r f h
 kept_message (frame.GiveBlock g) s r f names h m last = (keeps_give_block g).every s r f h
+kept_message (frame.GetSync g) s r f names h m last = (keeps_get_sync g).every s r f h
+kept_message (frame.SyncView v) s r f names h m last = (keeps_sync_view v m).every s r f h
 
 kept_event : {F : Type 0} (e : Event) (s : Setting F) (r : Replica) (f : F) → HasNames s → IsSound r → IsEvent e → r.view ≤ last_view → KeptBy (on_event e) s r f
 kept_event (event.Request q) s r f names h m last = kept_request q s r f names h m last

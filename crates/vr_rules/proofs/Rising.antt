@@ -18,7 +18,7 @@ use Rattle.vr_rules.specs.Sound.{IsSound}
 use Rattle.vr_rules.specs.Laws.{IsMessage, IsEvent, Rises, StepsRise}
 use Rattle.vr_rules.proofs.Keeping.{rises_same, rises_then}
 use Rattle.vr_rules.proofs.Combining.{keeps_quiet, keeps_says}
-use Rattle.vr_rules.proofs.Ruling.{by_rows, keeps_prepare, keeps_prepare_ok, keeps_commit, keeps_start_view_change, keeps_do_view_change, keeps_start_view, keeps_get_view, keeps_get_prepare, keeps_give_prepare}
+use Rattle.vr_rules.proofs.Ruling.{by_rows, keeps_prepare, keeps_prepare_ok, keeps_commit, keeps_start_view_change, keeps_do_view_change, keeps_start_view, keeps_get_view, keeps_get_prepare, keeps_give_prepare, keeps_get_sync, keeps_sync_view}
 use Rattle.vr_rules.proofs.Reacting.{keeps_stored_reply, keeps_get_block, keeps_give_block, keeps_tick}
 
 -- ---- applying, where the checkpoint isn't above what is applied
@@ -129,6 +129,8 @@ rises_message (frame.GetPrepare g) s r f h m = ((keeps_get_prepare g).every s r 
 rises_message (frame.GivePrepare g) s r f h m = ((keeps_give_prepare g).every s r f h).kept.rises
 rises_message (frame.GetBlock g) s r f h m = ((keeps_get_block g).every s r f h).kept.rises
 rises_message (frame.GiveBlock g) s r f h m = ((keeps_give_block g).every s r f h).kept.rises
+rises_message (frame.GetSync g) s r f h m = ((keeps_get_sync g).every s r f h).kept.rises
+rises_message (frame.SyncView v) s r f h m = ((keeps_sync_view v m).every s r f h).kept.rises
 
 rises_event : {F : Type 0} (e : Event) (s : Setting F) (r : Replica) (f : F) → IsSound r → IsEvent e → Rises r (on_event e s r f).replica
 rises_event (event.Request q) s r f h m = rises_request q s r f h

@@ -19,17 +19,19 @@ use Rattle.vr_msg.specs.declared.frame.Prepare.{Prepare}
 use Rattle.vr_msg.specs.declared.frame.PrepareOk.{PrepareOk}
 use Rattle.vr_msg.specs.declared.frame.StartView.{StartView}
 use Rattle.vr_msg.specs.declared.frame.StartViewChange.{StartViewChange}
+use Rattle.vr_msg.specs.declared.frame.GetSync.{GetSync}
+use Rattle.vr_msg.specs.declared.frame.SyncView.{SyncView}
 use Rattle.vr_msg.specs.declared.statement.Statement.{Statement}
 use Rattle.vr_msg.specs.Choice.{ops}
 use Rattle.vr_msg.specs.Logs.{IsEntryAt}
 use Rattle.vr_msg.specs.Spelling.{AreHeaders}
 use Rattle.vr_rules.specs.Replica.{Replica, last_view, header_at, head, is_here, part_at}
 use Rattle.vr_rules.specs.Steps.{Setting, ◌⨾◌, quiet, change, does, says, by, when, after_all}
-use Rattle.vr_rules.specs.Words.{entered, enter, rested, save, write, accept, learn, may_take, take, try}
-use Rattle.vr_rules.specs.Deciding.{Table, first_of, Hash, prepare_table, prepare_ok_table, commit_table, start_view_change_table, do_view_change_table, log_of, start_view_table, get_view_table, get_prepare_table, give_prepare_table, is_from, is_from_primary, is_known}
+use Rattle.vr_rules.specs.Words.{entered, enter, rested, save, write, accept, learn, may_take, take, try, jump}
+use Rattle.vr_rules.specs.Deciding.{Table, first_of, Hash, prepare_table, prepare_ok_table, commit_table, start_view_change_table, do_view_change_table, log_of, start_view_table, get_view_table, get_prepare_table, give_prepare_table, get_sync_table, sync_view_table, may_jump, is_from, is_from_primary, is_known}
 use Rattle.vr_rules.specs.declared.rule.Rule.{Rule}
 use Rattle.vr_rules.specs.declared.rule.Rule.TheVariants.{Ignored}
-use Rattle.vr_rules.specs.Rules.{acknowledge, ask_view, obey_prepare, on_prepare, acknowledged, obey_prepare_ok, on_prepare_ok, obey_commit, on_commit, heard_of, obey_start_view_change, on_start_view_change, with_statement, obey_do_view_change, on_do_view_change, acknowledge_stored, obey_start_view, on_start_view, obey_get_view, on_get_view, obey_get_prepare, on_get_prepare, obey_give_prepare, on_give_prepare}
+use Rattle.vr_rules.specs.Rules.{acknowledge, ask_view, obey_prepare, on_prepare, acknowledged, obey_prepare_ok, on_prepare_ok, obey_commit, on_commit, heard_of, obey_start_view_change, on_start_view_change, with_statement, obey_do_view_change, on_do_view_change, acknowledge_stored, obey_start_view, on_start_view, obey_get_view, on_get_view, obey_get_prepare, on_get_prepare, obey_give_prepare, on_give_prepare, obey_get_sync, on_get_sync, obey_sync_view, on_sync_view}
 use Rattle.vr_rules.specs.Sound.{IsStated, IsSound}
 use Rattle.vr_rules.specs.Laws.{IsMessage}
 use Rattle.vr_rules.proofs.Heads.{known_within, knows_some}
@@ -37,6 +39,7 @@ use Rattle.vr_rules.proofs.Keeping.{Kept, kept_more, spans_of, sound_ackers, sou
 use Rattle.vr_rules.proofs.Combining.{KeptBy, Keeps, kept_then, kept_change_then, kept_by, kept_naming, kept_when, keeps_then, keeps_quiet, keeps_says, keeps_change, keeps_by, keeps_when, keeps_each}
 use Rattle.vr_rules.proofs.Storing.{MayStore}
 use Rattle.vr_rules.proofs.Taking.{IsLogFor, may_take_is, kept_take}
+use Rattle.vr_rules.proofs.Jumping.{IsSyncFor, may_jump_is, kept_jump}
 use Rattle.vr_rules.proofs.Trying.{from_at, keeps_try, keeps_speak}
 use Rattle.vr_rules.proofs.Wording.{kept_alike, keeps_rested, kept_rested, kept_enter, kept_write, kept_accept, keeps_with_entry_at, keeps_apply, keeps_advance, keeps_learn, keeps_resend}
 
@@ -292,6 +295,52 @@ keeps_start_view v m = record {
               let log = told_log v r m (group_of_primary v.cluster v.replica v.view r n0) in
               let may = may_take_is s.hash (log_of v) r (and_parts (may_take s.hash (log_of v) r) _ t).0 in
               kept_then (take (log_of v)) _ s r f (kept_take (log_of v) s r f h log may)
+              (keeps_then _ _ (keeps_by _ (λ r. keeps_each (acknowledge_stored s.hash) (ops r.commit v.head) (keeps_acknowledge_stored s.hash))) keeps_apply),
+          λ n1. (λ t. (keeps_says _).every s r f h, λ n2. idle),
+        ),
+      )));
+}
+
+-- ---- checkpoints of others
+
+pub told_sync : (v : SyncView) (r : Replica) → IsMessage (frame.SyncView v) → v.cluster ≡ r.cluster → IsSyncFor r v
+told_sync v r m g =
+    let form = m.form in
+    record {
+      log = record {
+        commit = form.order.2;
+        count = form.count;
+        each = λ i h e. (
+          header_in v.body.headers i h m.body.1 e,
+          subst (λ c. IsEntryAt c v.view (v.body.lo + 1 + i) h) g (from_at (IsEntryAt v.cluster v.view) (v.body.lo + 1) v.body.headers i h form.headers e),
+        );
+      };
+      within = (form.order.0, form.order.1);
+      every = form.every;
+      short = form.short;
+      head = form.head;
+    }
+
+pub keeps_get_sync : {F : Type 0} (g : GetSync) → Keeps {F = F} (on_get_sync g)
+unfolding on_get_sync
+keeps_get_sync g = record {
+  every = λ s r f h.
+      let idle = (keeps_quiet).every s r f h in
+      kept_by _ s r f (by_rows (λ x. KeptBy (obey_get_sync g x) s r f) (get_sync_table g r) (λ t. idle, λ n0. (λ t. (keeps_says _).every s r f h, λ n1. idle)));
+}
+
+pub keeps_sync_view : {F : Type 0} (v : SyncView) → IsMessage (frame.SyncView v) → Keeps {F = F} (on_sync_view v)
+unfolding on_sync_view
+keeps_sync_view v m = record {
+  every = λ s r f h.
+      let idle = (keeps_quiet).every s r f h in
+      kept_naming _ s r f (kept_by _ s r f (by_rows (λ x. KeptBy (obey_sync_view s.hash v x) s r f) (sync_view_table s.hash v r) (
+        λ t. idle,
+        λ n0. (
+          λ t.
+              let is = told_sync v r m (group_of_primary v.cluster v.replica v.view r n0) in
+              let may = may_jump_is s.hash v r (and_parts (may_jump s.hash v r) _ t).0 in
+              kept_then (jump v) _ s r f (kept_jump v s r f h is may)
               (keeps_then _ _ (keeps_by _ (λ r. keeps_each (acknowledge_stored s.hash) (ops r.commit v.head) (keeps_acknowledge_stored s.hash))) keeps_apply),
           λ n1. idle,
         ),

@@ -175,12 +175,13 @@ savable_found v ps g top =
         | inl some ↦ let l : 0 < v.fields.checkpoint = ltb-true 0 v.fields.checkpoint some in let none : v.fields.checkpoint ≡ 0 = e in absurd (omega (arith, l, none))
         | inr rest ↦ let z = and_parts (nat_eq v.fields.root_address 0) (is_zeros v.fields.root_name.0) rest in (eqb-true v.fields.root_address 0 z.0, z.1)
       ];
+      saved = g;
       top = top;
     }
 
 pub savable_forgetting : (r : Replica) → IsSavable r → Topped (forgetting r) → IsSavable (forgetting r)
 unfolding forgetting
-savable_forgetting r v top = record { cluster = v.cluster; view = v.view; log_view = v.log_view; address = v.address; name = v.name; none = v.none; top = top }
+savable_forgetting r v top = record { cluster = v.cluster; view = v.view; log_view = v.log_view; address = v.address; name = v.name; none = v.none; saved = v.saved; top = top }
 
 pub list_size : (v : SuperValue) → IsGood v → 0 < v.fields.head → 0 < length v.headers
 unfolding good_fields

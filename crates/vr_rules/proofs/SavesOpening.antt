@@ -77,7 +77,7 @@ every = 2 ^ 32
 
 pub savable_next : (r : Replica) → r.view + 1 < 2 ^ 32 → IsSavable r → IsSavable (in_next_view r)
 unfolding head part_at
-savable_next r l v = record { cluster = v.cluster; view = l; log_view = v.log_view; address = v.address; name = v.name; none = v.none; top = v.top }
+savable_next r l v = record { cluster = v.cluster; view = l; log_view = v.log_view; address = v.address; name = v.name; none = v.none; saved = v.saved; top = v.top }
 
 well_next : (n : ℕ) (r : Replica) → leads r ≡ true → Well every n r → Well every n (in_next_view r)
 well_next n r e h =

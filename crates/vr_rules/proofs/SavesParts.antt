@@ -59,11 +59,11 @@ savable_stored e r h m v =
     let above = m.above in
     let top : Topped (stored e r) =
     topped_forgetting (with_part k (Here e.header) r) (with_part_spans k (Here e.header) r s) (topped_part k (Here e.header) r s (omega arith) m.window refl v.top) in
-    record { cluster = v.cluster; view = v.view; log_view = v.log_view; address = v.address; name = v.name; none = v.none; top = top }
+    record { cluster = v.cluster; view = v.view; log_view = v.log_view; address = v.address; name = v.name; none = v.none; saved = v.saved; top = top }
 
 pub savable_part : (k : ℕ) (p : Part) (r : Replica) → IsSavable r → Topped (with_part k p r) → IsSavable (with_part k p r)
 unfolding with_part
-savable_part k p r v top = record { cluster = v.cluster; view = v.view; log_view = v.log_view; address = v.address; name = v.name; none = v.none; top = top }
+savable_part k p r v top = record { cluster = v.cluster; view = v.view; log_view = v.log_view; address = v.address; name = v.name; none = v.none; saved = v.saved; top = top }
 
 pub savable_lost : (k : ℕ) (h : Header) (r : Replica) → IsSound r → part_at r k ≡ Here h → IsSavable r → IsSavable (lost h r)
 savable_lost k h r sound e v =
@@ -77,7 +77,7 @@ savable_lost k h r sound e v =
 
 pub savable_entered : (view : ℕ) (r : Replica) → view < 2 ^ 32 → IsSavable r → IsSavable (entered view r)
 unfolding entered head part_at
-savable_entered view r l v = record { cluster = v.cluster; view = l; log_view = v.log_view; address = v.address; name = v.name; none = v.none; top = v.top }
+savable_entered view r l v = record { cluster = v.cluster; view = l; log_view = v.log_view; address = v.address; name = v.name; none = v.none; saved = v.saved; top = v.top }
 
 -- ---- a checkpoint is made
 
@@ -92,7 +92,7 @@ topped_moved c e r h a some =
 pub savable_move : (c : checkpoint.SavedCheckpoint) (r : Replica) → c.root.address < 128 → IsNameBytes c.root.sum.0 → 0 < r.applied → IsSavable r → Topped (with_checkpoint c r) → IsSavable (with_checkpoint c r)
 unfolding with_checkpoint
 savable_move c r a b some v top =
-    record { cluster = v.cluster; view = v.view; log_view = v.log_view; address = a; name = b; none = λ e. absurd (omega (arith, e, some)); top = top }
+    record { cluster = v.cluster; view = v.view; log_view = v.log_view; address = a; name = b; none = λ e. absurd (omega (arith, e, some)); saved = v.saved; top = top }
 
 -- ---- a log is taken over
 
@@ -153,7 +153,7 @@ taken_top l r h log m ends some =
 
 savable_over : (l : Log) (r : Replica) → l.view < 2 ^ 32 - 1 → IsSavable r → Topped (forgetting (over l r)) → IsSavable (forgetting (over l r))
 unfolding forgetting
-savable_over l r b v top = record { cluster = v.cluster; view = omega arith; log_view = b; address = v.address; name = v.name; none = v.none; top = top }
+savable_over l r b v top = record { cluster = v.cluster; view = omega arith; log_view = b; address = v.address; name = v.name; none = v.none; saved = v.saved; top = top }
 
 pub savable_taken : (hash : List ℕ → List ℕ) (l : Log) (r : Replica) → IsSound r → IsLogFor r l → MayTake l r → may_take hash l r ≡ true → l.view < 2 ^ 32 - 1 → IsSavable r → IsSavable (taken l r)
 unfolding taken

@@ -16,21 +16,23 @@ use Rattle.vr_grid.specs.declared.name.Name.{Name}
 use Rattle.vr_base.specs.Groups.{quorums_of}
 use Rattle.vr_msg.specs.declared.choice.Choice.{Choice}
 use Rattle.vr_msg.specs.declared.choice.Choice.TheVariants.{Ends, WaitsAt, TooFew}
+use Rattle.vr_msg.specs.declared.frame.SyncView.{SyncView}
 use Rattle.vr_msg.specs.declared.statement.Statement.{Statement}
 use Rattle.vr_msg.specs.Choice.{ops}
 use Rattle.vr_rules.specs.Replica.{Replica, head, is_primary, is_started, view_change}
 use Rattle.vr_rules.specs.Steps.{Setting, Word, quiet, change, says, by, reading}
 use Rattle.vr_rules.specs.Outputs.{wait_line, to_primary, do_view_change}
-use Rattle.vr_rules.specs.Words.{Log, save, has_quorum, advanced, advance, learned, learn, taken, take, prepare_again, may_take, chosen_log, choose_line, begin_view, try_log, stated, decided, obey_choice, try, speak, with_state, loaded_state, loads, checkpoint_at, load, apply}
-use Rattle.vr_rules.specs.Sound.{IsSound}
+use Rattle.vr_rules.specs.Words.{Log, save, has_quorum, advanced, advance, learned, learn, taken, take, prepare_again, may_take, chosen_log, choose_line, begin_view, try_log, stated, decided, obey_choice, try, speak, with_state, loaded_state, loads, checkpoint_at, load, apply, jump, jumped}
+use Rattle.vr_rules.specs.Sound.{IsNameBytes, IsSound}
 use Rattle.vr_rules.specs.Laws.{IsGoodSave, SavesRoots}
 use Rattle.vr_rules.proofs.Keeping.{Kept, sound_commit}
 use Rattle.vr_rules.proofs.Combining.{Keeps, keeps_change}
 use Rattle.vr_rules.proofs.Wording.{kept_load}
 use Rattle.vr_rules.proofs.Taking.{IsLogFor}
+use Rattle.vr_rules.proofs.Jumping.{IsSyncFor, MayJump}
 use Rattle.vr_rules.proofs.Trying.{chosen_log_is, all_stated, decided_ends}
 use Rattle.vr_rules.proofs.SavesWell.{Well, GoodBy, Good, well_less, well_alike, body, good_then, good_change_then, good_says_then, good_by, good_naming, good_if, good_when, goods_then, goods_says, goods_change, goods_by, goods_if, goods_when, goods_each, goods_save}
-use Rattle.vr_rules.proofs.SavesWords.{well_taken, goods_tell, goods_rest, goods_prepare_again, goods_apply}
+use Rattle.vr_rules.proofs.SavesWords.{well_taken, well_jumped, goods_tell, goods_rest, goods_prepare_again, goods_apply}
 
 -- ---- commit numbers
 
@@ -80,6 +82,11 @@ module _ {F : Type 0} (v : ℕ) (s : Setting F) where
   pub good_take : (n : ℕ) (l : Log) (r : Replica) (f : F) → IsLogFor r l → may_take s.hash l r ≡ true → l.view < v → v ≤ 2 ^ 32 - 1 → Well v (n + 1) r → GoodBy {F = F} v n (take l) s r f
   unfolding take
   good_take n l r f log may a b h = good_change_then v s n (taken l) save r f (λ d. (goods_save v s).every n (taken l r) d (well_taken v (n + 1) s.hash l r log may a b h))
+
+  pub good_jump : (n : ℕ) (x : SyncView) (r : Replica) (f : F) → IsSyncFor r x → MayJump x r → x.root_address < 128 → IsNameBytes x.root_name.0 → x.view < v → v ≤ 2 ^ 32 - 1 → Well v (n + 1) r
+      → GoodBy {F = F} v n (jump x) s r f
+  unfolding jump
+  good_jump n x r f is m a name b c h = good_change_then v s n (jumped x) save r f (λ d. (goods_save v s).every n (jumped x r) d (well_jumped v (n + 1) x r is m a name b c h))
 
 module _ {F : Type 0} (v : ℕ) (s : Setting F) (roots : SavesRoots s) where
   pub goods_advance : Good {F = F} v 64 advance s

@@ -6,10 +6,10 @@ use Rattle.vr_base.specs.Replicas.{no_replicas}
 use Rattle.vr_apply.specs.Folds.{empty}
 use Rattle.vr_ckpt.specs.Places as places
 use Rattle.vr_msg.specs.declared.output.Output.{Output}
+use Rattle.vr_super.specs.Copies.{IsGood}
 use Rattle.vr_rules.specs.Replica.{Replica, head, part_at}
 use Rattle.vr_rules.specs.Steps.{Effect, Say, Setting, Word, ◌⨾◌, quiet, change, does, says, by, naming, reading, when, times, each, after_all}
 use Rattle.vr_rules.specs.Words.{save, saves, with_saved, value_of}
-use Rattle.vr_rules.specs.Opening.{first_value}
 use Rattle.vr_rules.specs.Sound.{IsSound, IsSavable}
 use Rattle.vr_rules.specs.Laws.{IsGoodSave}
 use Rattle.vr_rules.proofs.Combining.{Keeps}
@@ -48,16 +48,17 @@ body r = record r {
   statements = [];
   idle = 0;
   turn = 0;
-  saved = first_value 0 0 0;
+  cursor = 0;
+  worn = [];
 }
 
 into_body : (r : Replica) → IsSavable r → IsSavable (body r)
 unfolding head part_at
-into_body r h = record { cluster = h.cluster; view = h.view; log_view = h.log_view; address = h.address; name = h.name; none = h.none; top = h.top }
+into_body r h = record { cluster = h.cluster; view = h.view; log_view = h.log_view; address = h.address; name = h.name; none = h.none; saved = h.saved; top = h.top }
 
 from_body : (r : Replica) → IsSavable (body r) → IsSavable r
 unfolding head part_at
-from_body r h = record { cluster = h.cluster; view = h.view; log_view = h.log_view; address = h.address; name = h.name; none = h.none; top = h.top }
+from_body r h = record { cluster = h.cluster; view = h.view; log_view = h.log_view; address = h.address; name = h.name; none = h.none; saved = h.saved; top = h.top }
 
 pub savable_alike : (r q : Replica) → body q ≡ body r → IsSavable r → IsSavable q
 savable_alike r q e h = from_body q (rw e (into_body r h))
@@ -69,6 +70,10 @@ well_alike v n r q e same sound h =
     let number : q.saved.fields.sequence ≡ r.saved.fields.sequence = ap (λ x. x.fields.sequence) same in
     let room : r.saved.fields.sequence + n < 2 ^ 64 = h.room in
     record { sound = sound; savable = savable_alike r q e h.savable; view = omega arith; room = omega arith }
+
+pub savable_saved : (r : Replica) → IsSavable r → IsGood (value_of r) → IsSavable (with_saved r)
+unfolding head part_at
+savable_saved r h g = record { cluster = h.cluster; view = h.view; log_view = h.log_view; address = h.address; name = h.name; none = h.none; saved = g; top = h.top }
 
 module _ {F : Type 0} (v : ℕ) (s : Setting F) where
   -- ---- at one replica
@@ -149,6 +154,13 @@ module _ {F : Type 0} (v : ℕ) (s : Setting F) where
   unfolding says
   goods_says os = record { every = λ n r f h. record { saves = All-map IsGoodSave Say (os r) (λ k d l. tt); well = at_none n r h } }
 
+  pub goods_does : (e : Replica → Effect) → ((r : Replica) → IsGoodSave (e r)) → Good {F = F} v 0 (does e) s
+  unfolding does
+  goods_does e g = record { every = λ n r f h. record { saves = All-cons IsGoodSave (e r) [] (g r) (All-nil IsGoodSave); well = at_none n r h } }
+
+  pub goods_reading : {X : Type 0} (c : ℕ) (g : Setting F → F → X) (w : X → Word F) → ((x : X) → Good v c (w x) s) → Good v c (reading g w) s
+  goods_reading c g w h = record { every = λ n r f k. good_reading n g w r f ((h (g s f)).every n r f k) }
+
   -- a change of other fields, by a word that keeps a replica sound
   pub goods_change : (g : Replica → Replica) → Keeps {F = F} (change g) → ((r : Replica) → body (g r) ≡ body r) → ((r : Replica) → (g r).saved ≡ r.saved) → Good {F = F} v 0 (change g) s
   unfolding change
@@ -185,7 +197,7 @@ module _ {F : Type 0} (v : ℕ) (s : Setting F) where
   unfolding save does change ◌⨾◌ value_of
   saved_well n r f h =
       let room : r.saved.fields.sequence + (n + 1) < 2 ^ 64 = h.room in
-      record { sound = (keeps_save.every s r f h.sound).kept.sound; savable = savable_alike r (with_saved r) refl h.savable; view = h.view; room = omega arith }
+      record { sound = (keeps_save.every s r f h.sound).kept.sound; savable = savable_saved r h.savable (value_is_good r h.sound h.savable (omega arith)); view = h.view; room = omega arith }
 
   pub goods_save : Good {F = F} v 1 save s
   unfolding save does change ◌⨾◌

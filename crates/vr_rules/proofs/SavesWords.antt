@@ -1,6 +1,6 @@
 -- The words save values that make good copies.
 use Rattle.std.proofs.Common.{arith, ◌≡◌, ◌≤◌, ◌<◌, ◌+◌, ◌-◌, ◌%◌, ◌^◌, refl, sym, ℕ, Bool, true, false, List, [], ◌∷◌, length, Option, Some, None}
-use Rattle.std.specs.Prelude.{nat_lt}
+use Rattle.std.specs.Prelude.{nat_lt, ◌==◌}
 use Rattle.std.proofs.lemmas.Bool.{and_parts, ltb-true, ltb-false, eqb-true, eqb-false}
 use Rattle.std.proofs.lemmas.List.{nil_from_length}
 use Rattle.vr_rules.proofs.Wording.{entry_numbered, read_is}
@@ -13,18 +13,23 @@ use Rattle.vr_header.specs.declared.part.Part.{Part}
 use Rattle.vr_header.specs.declared.part.Part.TheVariants.{Here, Lost, Wanted, Unknown, Nothing}
 use Rattle.vr_header.specs.Made.{Whole}
 use Rattle.vr_msg.specs.declared.frame.Frame.{Frame}
+use Rattle.vr_msg.specs.declared.frame.SyncView.{SyncView}
 use Rattle.vr_msg.specs.declared.output.Output.{Output}
 use Rattle.vr_rules.specs.Replica.{Replica, last_view, part_at, forgetting, with_part}
 use Rattle.vr_rules.specs.Steps.{Setting, Word, quiet, change, says, when}
 use Rattle.vr_rules.specs.Outputs.{commit_line, applied_reply}
-use Rattle.vr_rules.specs.Words.{Log, save, entered, rested, enter, writes, stored, write, accept, entry_of, or_lost, lost, with_entry, with_entry_at, applied, checkpoints, with_checkpoint, checkpoint_of, make_checkpoint, is_checkpoint, apply_entry, is_loaded, apply_next, apply, taken, prepare_again, may_take, resend, turned, ask_peer, ask_for, ask}
+use Rattle.vr_rules.specs.Words.{Log, save, entered, rested, enter, writes, stored, write, accept, entry_of, or_lost, lost, with_entry, with_entry_at, applied, checkpoints, with_checkpoint, checkpoint_of, make_checkpoint, is_checkpoint, apply_entry, is_loaded, apply_next, apply, taken, prepare_again, may_take, resend, turned, ask_peer, ask_for, ask, jumped, mend_header, op_of_slot, place_now, visit, visit_block, visit_place, visit_read, visit_slot, with_cursor, with_worn}
+use Rattle.vr_rules.specs.Rules.{mend_found, not_worn}
 use Rattle.vr_rules.specs.Sound.{IsNameBytes, IsSound, IsSavable}
 use Rattle.vr_rules.specs.Laws.{SavesRoots}
 use Rattle.vr_rules.proofs.Combining.{Keeps, keeps_change}
 use Rattle.vr_rules.proofs.Storing.{MayStore, kept_stored, kept_lost, kept_moved, kept_applied}
 use Rattle.vr_rules.proofs.Wording.{kept_alike, keeps_rested, kept_entered}
 use Rattle.vr_rules.proofs.Taking.{IsLogFor, may_take_is, kept_taken}
-use Rattle.vr_rules.proofs.SavesWell.{Well, GoodBy, Good, well_less, well_alike, savable_alike, body, good_change_then, good_says_then, good_does_then, good_change, good_quiet, good_by, good_reading, good_if, good_when, goods_more, goods_then, goods_quiet, goods_says, goods_change, goods_by, goods_naming, goods_if, goods_when, goods_times, goods_save}
+use Rattle.vr_rules.proofs.SavesWell.{Well, GoodBy, Good, well_less, well_alike, savable_alike, body, good_change_then, good_says_then, good_does_then, good_change, good_quiet, good_by, good_reading, good_if, good_when, goods_more, goods_then, goods_quiet, goods_says, goods_change, goods_by, goods_naming, goods_if, goods_when, goods_times, goods_save, goods_does, goods_reading}
+use Rattle.vr_rules.proofs.Visiting.{keeps_with_worn, keeps_with_cursor, keeps_not_worn}
+use Rattle.vr_rules.proofs.Jumping.{IsSyncFor, MayJump, kept_jumped}
+use Rattle.vr_rules.proofs.SavesJump.{savable_jumped}
 use Rattle.vr_rules.proofs.SavesParts.{savable_stored, savable_lost, savable_entered, savable_move, topped_moved, savable_taken}
 
 keeps_turned : {F : Type 0} → Keeps {F = F} (change turned)
@@ -62,6 +67,11 @@ well_taken v n hash l r log may b c h =
       view = b;
       room = h.room;
     }
+
+pub well_jumped : (v n : ℕ) (x : SyncView) (r : Replica) → IsSyncFor r x → MayJump x r → x.root_address < 128 → IsNameBytes x.root_name.0 → x.view < v → v ≤ 2 ^ 32 - 1 → Well v n r → Well v n (jumped x r)
+unfolding jumped forgetting
+well_jumped v n x r is m a name b c h =
+    record { sound = (kept_jumped x r h.sound is m).sound; savable = savable_jumped x r h.sound is m a name (omega arith) h.savable; view = b; room = h.room }
 
 module _ {F : Type 0} (v : ℕ) (s : Setting F) where
   pub goods_alike : (c : ℕ) (g : Replica → Replica) → Keeps {F = F} (change g) → ((r : Replica) → body (g r) ≡ body r) → ((r : Replica) → (g r).saved ≡ r.saved) → Good {F = F} v c (change g) s
@@ -127,14 +137,49 @@ module _ {F : Type 0} (v : ℕ) (s : Setting F) where
   unfolding ask_peer
   goods_ask_peer message = goods_more v s (0 + 0) 0 _ (omega arith) (goods_then v s 0 0 _ _ (goods_says v s _) (goods_change v s turned keeps_turned (λ r. refl) (λ r. refl)))
 
-  goods_ask_for : (names : List Name) (absent : Option Header) → Good {F = F} v 0 (ask_for names absent) s
-  goods_ask_for (name ∷ names) absent = goods_ask_peer _
-  goods_ask_for [] (Some h) = goods_naming v s 0 _ (λ hash. goods_ask_peer _)
-  goods_ask_for [] None = goods_quiet v s
+  goods_ask_for : (names : List Name) (absent : Option Header) (worn : List Name) → Good {F = F} v 0 (ask_for names absent worn) s
+  goods_ask_for (name ∷ names) absent worn = goods_ask_peer _
+  goods_ask_for [] (Some h) worn = goods_naming v s 0 _ (λ hash. goods_ask_peer _)
+  goods_ask_for [] None (name ∷ names) = goods_ask_peer _
+  goods_ask_for [] None [] = goods_quiet v s
 
   pub goods_ask : Good {F = F} v 0 ask s
   unfolding ask
-  goods_ask = goods_by v s 0 _ (λ r. goods_ask_for r.missing _)
+  goods_ask = goods_by v s 0 _ (λ r. goods_ask_for r.missing _ r.worn)
+
+  -- ---- a visit
+
+  goods_mend_header : (h : Header) (o : Option Header) → Good {F = F} v 0 (mend_header h o) s
+  goods_mend_header h None = goods_does v s _ (λ r. tt)
+  goods_mend_header h (Some d) = goods_when v s 0 _ _ (goods_does v s _ (λ r. tt))
+
+  goods_visit_slot : (op : ℕ) → Good {F = F} v 0 (visit_slot op) s
+  unfolding visit_slot
+  goods_visit_slot op = goods_entry op _ (λ e. goods_reading v s 0 _ _ (goods_mend_header e.header))
+
+  goods_visit_read : (name : Name) (o : Option (List ℕ)) → Good {F = F} v 0 (visit_read name o) s
+  goods_visit_read name None = goods_change v s (with_worn name) (keeps_with_worn name) (λ r. refl) (λ r. refl)
+  goods_visit_read name (Some block) = goods_quiet v s
+
+  goods_visit_block : (o : Option Name) → Good {F = F} v 0 (visit_block o) s
+  unfolding visit_block
+  goods_visit_block None = goods_quiet v s
+  goods_visit_block (Some name) = goods_reading v s 0 _ _ (goods_visit_read name)
+
+  goods_visit_place : (at : ℕ) → Good {F = F} v 0 (visit_place at) s
+  unfolding visit_place
+  goods_visit_place at =
+      goods_by v s 0 _ (λ r. goods_if v s 0 (nat_lt at 64) _ _ (goods_visit_slot (op_of_slot r at)) (goods_if v s 0 (at == 64) _ _ (goods_does v s _ (λ r. tt)) (goods_visit_block _)))
+
+  pub goods_visit : Good {F = F} v 0 visit s
+  unfolding visit
+  goods_visit =
+      goods_by v s 0 _ (λ r. goods_when v s 0 (is_loaded r) _ (goods_then v s 0 0 _ _ (goods_visit_place (place_now r))
+      (goods_change v s (with_cursor (place_now r)) (keeps_with_cursor (place_now r)) (λ r. refl) (λ r. refl))))
+
+  pub goods_mend_found : (block : List ℕ) (o : Option Name) → Good {F = F} v 0 (mend_found block o) s
+  goods_mend_found block None = goods_quiet v s
+  goods_mend_found block (Some name) = goods_then v s 0 0 _ _ (goods_does v s _ (λ r. tt)) (goods_change v s (not_worn name) (keeps_not_worn name) (λ r. refl) (λ r. refl))
 
 module _ {F : Type 0} (v : ℕ) (s : Setting F) (roots : SavesRoots s) where
   -- ---- applying

@@ -57,6 +57,8 @@ frame_later old' old a b MayAsk (frame.GetPrepare g) l s h = by_later a b _ _ s 
 frame_later old' old a b MayAsk (frame.GivePrepare g) l s h = h ∙ sym s.index
 frame_later old' old a b MayAsk (frame.GetBlock g) l s h = by_later a b _ _ s h
 frame_later old' old a b MayAsk (frame.GiveBlock g) l s h = by_later a b _ _ s h
+frame_later old' old a b MayAsk (frame.GetSync g) l s h = (by_later a b _ _ s h.0, h.1)
+frame_later old' old a b MayAsk (frame.SyncView v) l s h = (by_later a b _ _ s h.0, h.1 ∙ sym s.view, commit_later old' old a b _ l s h.2)
 
 send_later : (old' old a b : Replica) (MayAsk : ℕ → ℕ → Type 0) (x : Sent) → old'.commit ≤ old.commit → Same a b → IsPresentSend MayAsk old a x → IsPresentSend MayAsk old' b x
 send_later old' old a b MayAsk x l s h =

@@ -8,6 +8,7 @@ use Rattle.vr_grid.specs.declared.name.Name.{Name}
 use Rattle.vr_msg.specs.declared.frame.Commit.{Commit}
 use Rattle.vr_msg.specs.declared.frame.GetBlock.{GetBlock}
 use Rattle.vr_msg.specs.declared.frame.GetPrepare.{GetPrepare}
+use Rattle.vr_msg.specs.declared.frame.GetSync.{GetSync}
 use Rattle.vr_msg.specs.declared.frame.GetView.{GetView}
 use Rattle.vr_msg.specs.declared.frame.GiveBlock.{GiveBlock}
 use Rattle.vr_msg.specs.declared.frame.GivePrepare.{GivePrepare}
@@ -18,17 +19,17 @@ use Rattle.vr_msg.specs.Normal.{primary}
 use Rattle.vr_sess.specs.declared.session.SessionAnswer.{SessionAnswer}
 use Rattle.vr_sess.specs.declared.session.SessionAnswer.TheVariants as answer
 use Rattle.vr_rules.specs.Replica.{Replica, is_primary}
-use Rattle.vr_rules.specs.Steps.{quiet, outputs}
+use Rattle.vr_rules.specs.Steps.{quiet, says, outputs}
 use Rattle.vr_rules.specs.declared.asker.Asker.{Asker}
 use Rattle.vr_rules.specs.Outputs as told
 use Rattle.vr_rules.specs.Deciding.{Table, Hash, is_from, is_from_primary}
 use Rattle.vr_rules.specs.declared.rule.Rule.{Rule}
-use Rattle.vr_rules.specs.declared.rule.Rule.TheVariants.{Redirected, Behind, Answered, Full, Made, PreparedLater, Past, Beyond, Known, Next, Ahead, Other, Counted, CommitLater, CommitHeard, ViewGiven, EntryGiven, EntryTaken, BlockGiven, BlockTaken}
+use Rattle.vr_rules.specs.declared.rule.Rule.TheVariants.{Redirected, Behind, Answered, Full, Made, PreparedLater, Past, Beyond, Known, Next, Ahead, Other, Counted, CommitLater, CommitHeard, ViewGiven, EntryGiven, EntryTaken, BlockGiven, BlockTaken, BlockMended, SyncGiven}
 use Rattle.vr_rules.specs.Deciding.{first_of as first_row}
 use Rattle.vr_rules.specs.Rules as rules
 use Rattle.vr_rules.proofs.SendsPlaces.{IsOther}
 use Rattle.vr_rules.proofs.SendsCalm.{Near, Calm, calm_then, calm_quiet, calm_does, calm_by, calm_when, calm_send, calm_all}
-use Rattle.vr_rules.proofs.SendsWords.{own, own_commit, calm_keeps, calm_primary, calm_write, calm_accept, calm_entry, calm_replies, calm_apply, calm_advance, calm_learn, calm_prepare_again, calm_resend, calm_ask, calm_load}
+use Rattle.vr_rules.proofs.SendsWords.{own, own_commit, calm_keeps, calm_primary, calm_write, calm_accept, calm_entry, calm_replies, calm_apply, calm_advance, calm_learn, calm_prepare_again, calm_resend, calm_visit, calm_ask, calm_load}
 
 -- ---- senders
 
@@ -63,6 +64,9 @@ row b rule rows P h k = cond_both b rule (first_row rows) P h k
 module _ {F : Type 0} {MayAsk : ℕ → ℕ → Type 0} {o : Replica} where
   pub calm_ask_view : (view sender : ℕ) → IsOther o.index o.n sender → MayAsk sender view → Calm {F = F} MayAsk o (rules.ask_view view sender)
   calm_ask_view view sender h may = calm_send (λ r. sender) (told.get_view view) (λ r near. other_stays o r sender near h) (λ r near. (own r, may))
+
+  pub calm_ask_sync : (view sender : ℕ) → IsOther o.index o.n sender → MayAsk sender view → Calm {F = F} MayAsk o (says (λ r. told.send_to sender (told.get_sync view r) r))
+  calm_ask_sync view sender h may = calm_send (λ r. sender) (told.get_sync view) (λ r near. other_stays o r sender near h) (λ r near. (own r, may))
 
   pub calm_tell : (to : ℕ) → IsOther o.index o.n to → Calm {F = F} MayAsk o (rules.tell_view to)
   calm_tell to h = calm_send (λ r. to) told.start_view (λ r near. other_stays o r to near h) (λ r near. (own r, refl, own_commit r))
@@ -118,6 +122,10 @@ module _ {F : Type 0} {MayAsk : ℕ → ℕ → Type 0} {o : Replica} where
   calm_get_view g ViewGiven h = calm_tell _ h
   calm_get_view g _ h = calm_quiet
 
+  pub calm_get_sync : (g : GetSync) (rule : Rule) → IsOther o.index o.n g.replica → Calm {F = F} MayAsk o (rules.obey_get_sync g rule)
+  calm_get_sync g SyncGiven h = calm_send (λ r. g.replica) told.sync_view (λ r near. other_stays o r _ near h) (λ r near. (own r, refl, own_commit r))
+  calm_get_sync g _ h = calm_quiet
+
   pub calm_get_prepare : (g : GetPrepare) (rule : Rule) → IsOther o.index o.n g.replica → Calm {F = F} MayAsk o (rules.obey_get_prepare g rule)
   calm_get_prepare g EntryGiven h = calm_entry _ _ (λ e. calm_send (λ r. g.replica) (told.give_prepare e) (λ r near. other_stays o r _ near h) (λ r near. refl))
   calm_get_prepare g _ h = calm_quiet
@@ -140,9 +148,15 @@ module _ {F : Type 0} {MayAsk : ℕ → ℕ → Type 0} {o : Replica} where
   calm_put block (Some name) =
       calm_then _ _ (calm_then _ _ (calm_does _ (λ r. refl)) (calm_then _ _ (calm_keeps _ (λ r. refl)) (calm_by _ (λ r near. calm_when _ _ calm_load)))) calm_apply
 
+  pub calm_mend : (block : List ℕ) (name : Option Name) → Calm {F = F} MayAsk o (rules.mend_found block name)
+  unfolding outputs
+  calm_mend block None = calm_quiet
+  calm_mend block (Some name) = calm_then _ _ (calm_does _ (λ r. refl)) (calm_keeps _ (λ r. refl))
+
   pub calm_give_block : (is_block : Name → List ℕ → Bool) (g : GiveBlock) (rule : Rule) → Calm {F = F} MayAsk o (rules.obey_give_block is_block g rule)
   calm_give_block is_block g BlockTaken = calm_by _ (λ r near. calm_put _ _)
+  calm_give_block is_block g BlockMended = calm_by _ (λ r near. calm_mend _ _)
   calm_give_block is_block g _ = calm_quiet
 
   pub calm_primary_ticks : Calm {F = F} MayAsk o rules.primary_ticks
-  calm_primary_ticks = calm_then _ _ (calm_all _ (λ r near to. (own r, refl, own_commit r))) (calm_then _ _ (calm_by _ (λ r near. calm_when _ _ (calm_prepare_again _))) calm_ask)
+  calm_primary_ticks = calm_then _ _ (calm_all _ (λ r near to. (own r, refl, own_commit r))) (calm_then _ _ (calm_by _ (λ r near. calm_when _ _ (calm_prepare_again _))) (calm_then _ _ calm_visit calm_ask))

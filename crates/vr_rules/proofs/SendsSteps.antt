@@ -12,6 +12,7 @@ use Rattle.vr_msg.specs.declared.frame.Frame.TheVariants as frame
 use Rattle.vr_msg.specs.declared.frame.Prepare.{Prepare}
 use Rattle.vr_msg.specs.declared.frame.StartView.{StartView}
 use Rattle.vr_msg.specs.declared.frame.StartViewChange.{StartViewChange}
+use Rattle.vr_msg.specs.declared.frame.SyncView.{SyncView}
 use Rattle.vr_msg.specs.Normal.{primary}
 use Rattle.vr_rules.specs.Replica.{Replica, last_view, is_frozen, forgetting}
 use Rattle.vr_rules.specs.Steps.{Setting, Word, ◌⨾◌, quiet, change, does, says, by, naming, reading, outputs, after_all}
@@ -19,14 +20,14 @@ use Rattle.vr_rules.specs.Outputs as told
 use Rattle.vr_rules.specs.Words as words
 use Rattle.vr_rules.specs.Deciding.{Hash, is_from, is_from_primary, log_of}
 use Rattle.vr_rules.specs.declared.rule.Rule.{Rule}
-use Rattle.vr_rules.specs.declared.rule.Rule.TheVariants.{Ignored, PreparedBefore, PreparedLater, ChangeBefore, ChangeLater, ChangeHeard, ChangeDone, StatedLate, Stated, Taken, TickedPrimary, TickedBackup, TickedChanging}
+use Rattle.vr_rules.specs.declared.rule.Rule.TheVariants.{Ignored, PreparedBefore, PreparedLater, ChangeBefore, ChangeLater, ChangeHeard, ChangeDone, StatedLate, Stated, Taken, TickedPrimary, TickedBackup, TickedChanging, SyncAsked, Jumped}
 use Rattle.vr_rules.specs.Deciding.{first_of as first_row}
 use Rattle.vr_rules.specs.Rules as rules
 use Rattle.vr_rules.specs.Laws.{IsPlaced, IsPresent, Answers, StepsArePresent}
 use Rattle.vr_rules.proofs.SendsPlaces.{IsOther}
 use Rattle.vr_rules.proofs.SendsCalm.{Near, Calm, calm_then, calm_quiet, calm_by, calm_all, calm_each, present_then, present_after, present_calm}
-use Rattle.vr_rules.proofs.SendsWords.{near_place, own, calm_keeps, calm_save, calm_apply, calm_try, calm_speak, calm_ask}
-use Rattle.vr_rules.proofs.SendsRules.{from_is, not_primary, row, calm_ask_view, calm_tell, calm_request, calm_prepare, calm_prepare_ok, calm_commit, calm_acknowledge_stored, calm_get_view, calm_get_prepare, calm_give_prepare, calm_get_block, calm_give_block, calm_primary_ticks}
+use Rattle.vr_rules.proofs.SendsWords.{near_place, own, calm_keeps, calm_save, calm_apply, calm_try, calm_speak, calm_visit, calm_ask}
+use Rattle.vr_rules.proofs.SendsRules.{from_is, not_primary, row, calm_ask_view, calm_ask_sync, calm_tell, calm_request, calm_prepare, calm_prepare_ok, calm_commit, calm_acknowledge_stored, calm_get_view, calm_get_sync, calm_get_prepare, calm_give_prepare, calm_get_block, calm_give_block, calm_primary_ticks}
 
 module _ {F : Type 0} (MayAsk : ℕ → ℕ → Type 0) (s : Setting F) (r : Replica) (f : F) (p : IsPlaced r) where
   calmly : (w : Word F) → Calm MayAsk r w → IsPresent MayAsk r (w s r f)
@@ -54,6 +55,16 @@ module _ {F : Type 0} (MayAsk : ℕ → ℕ → Type 0) (s : Setting F) (r : Rep
   unfolding words.take
   takes l = present_then MayAsk s r f _ _ (taking l) calm_save
 
+  -- and with it a later checkpoint
+  jumping : (v : SyncView) → IsPresent MayAsk r (change (words.jumped v) s r f)
+  unfolding change words.jumped forgetting outputs
+  jumping v =
+      record { cluster = refl; index = refl; n = refl; commit = omega arith; placed = record { member = p.member; views = omega arith; peer = p.peer }; each = All-nil _ }
+
+  jumps : (v : SyncView) → IsPresent MayAsk r (words.jump v s r f)
+  unfolding words.jump
+  jumps v = present_then MayAsk s r f _ _ (jumping v) calm_save
+
   -- ---- the rules that may enter or begin a view
 
   hears_change : (c : StartViewChange) (rule : Rule) → IsOther r.index r.n c.replica → r.log_view ≤ c.view → IsPresent MayAsk r (rules.obey_start_view_change c rule s r f)
@@ -75,11 +86,19 @@ module _ {F : Type 0} (MayAsk : ℕ → ℕ → Type 0) (s : Setting F) (r : Rep
   hears_statement d _ h = calmly _ calm_quiet
 
   -- at another one than the view's primary
-  takes_view : (hash : Hash) (v : StartView) (rule : Rule) → nat_eq r.index (primary r.n v.view) ≡ false → IsPresent MayAsk r (rules.obey_start_view hash v rule s r f)
+  takes_view : (hash : Hash) (v : StartView) (rule : Rule) → IsOther r.index r.n v.replica → MayAsk v.replica v.view → nat_eq r.index (primary r.n v.view) ≡ false
+      → IsPresent MayAsk r (rules.obey_start_view hash v rule s r f)
   unfolding words.take words.taken words.save forgetting ◌⨾◌ change does
-  takes_view hash v Taken e =
+  takes_view hash v Taken h may e =
       present_then MayAsk s r f (words.take (log_of v)) _ (takes (log_of v)) (calm_then _ _ (calm_by _ (λ r near. calm_each _ _ (λ op. calm_acknowledge_stored hash op e))) calm_apply)
-  takes_view hash v _ e = calmly _ calm_quiet
+  takes_view hash v SyncAsked h may e = calmly _ (calm_ask_sync v.view v.replica h may)
+  takes_view hash v _ h may e = calmly _ calm_quiet
+
+  takes_sync : (hash : Hash) (v : SyncView) (rule : Rule) → nat_eq r.index (primary r.n v.view) ≡ false → IsPresent MayAsk r (rules.obey_sync_view hash v rule s r f)
+  unfolding words.jump words.jumped words.save forgetting ◌⨾◌ change does
+  takes_sync hash v Jumped e =
+      present_then MayAsk s r f (words.jump v) _ (jumps v) (calm_then _ _ (calm_by _ (λ r near. calm_each _ _ (λ op. calm_acknowledge_stored hash op e))) calm_apply)
+  takes_sync hash v _ e = calmly _ calm_quiet
 
   -- ---- ticks
 
@@ -91,16 +110,19 @@ module _ {F : Type 0} (MayAsk : ℕ → ℕ → Type 0) (s : Setting F) (r : Rep
   unfolding by
   next_view = let views : r.log_view ≤ r.view = p.views in enters (r.view + 1) (omega (arith, views))
 
-  backup_goes_on : IsPresent MayAsk r (by (λ r. cond (nat_le 5 r.idle) rules.next_view words.ask) s r f)
+  backup_goes_on : IsPresent MayAsk r (by (λ r. cond (nat_le 5 r.idle) rules.next_view (words.visit ⨾ words.ask)) s r f)
   unfolding by
-  backup_goes_on = cond_both (nat_le 5 r.idle) rules.next_view words.ask (λ (w : Word F). IsPresent MayAsk r (w s r f)) (λ _. next_view) (λ _. calmly _ calm_ask)
+  backup_goes_on =
+      cond_both (nat_le 5 r.idle) rules.next_view (words.visit ⨾ words.ask) (λ (w : Word F). IsPresent MayAsk r (w s r f))
+      (λ _. next_view)
+      (λ _. calmly _ (calm_then _ _ calm_visit calm_ask))
 
-  changing_goes_on : IsPresent MayAsk r (by (λ r. cond (nat_le 10 r.idle) rules.next_view (says (told.send_to_all told.start_view_change) ⨾ words.speak ⨾ words.ask)) s r f)
+  changing_goes_on : IsPresent MayAsk r (by (λ r. cond (nat_le 10 r.idle) rules.next_view (says (told.send_to_all told.start_view_change) ⨾ words.speak ⨾ words.visit ⨾ words.ask)) s r f)
   unfolding by
   changing_goes_on =
-      cond_both (nat_le 10 r.idle) rules.next_view (says (told.send_to_all told.start_view_change) ⨾ words.speak ⨾ words.ask) (λ (w : Word F). IsPresent MayAsk r (w s r f))
+      cond_both (nat_le 10 r.idle) rules.next_view (says (told.send_to_all told.start_view_change) ⨾ words.speak ⨾ words.visit ⨾ words.ask) (λ (w : Word F). IsPresent MayAsk r (w s r f))
       (λ _. next_view)
-      (λ _. calmly _ (calm_then _ _ (calm_all _ (λ r near to. (own r, refl))) (calm_then _ _ calm_speak calm_ask)))
+      (λ _. calmly _ (calm_then _ _ (calm_all _ (λ r near to. (own r, refl))) (calm_then _ _ calm_speak (calm_then _ _ calm_visit calm_ask))))
 
 module _ {F : Type 0} (MayAsk : ℕ → ℕ → Type 0) (s : Setting F) (r : Replica) (f : F) (p : IsPlaced r) where
   idler_near : Near r (rules.idler r)
@@ -162,14 +184,22 @@ module _ {F : Type 0} (s : Setting F) (r : Replica) (f : F) (h : IsPlaced r) whe
   unfolding rules.on_do_view_change by
   present_statement a d = from_other a d.cluster d.replica (rules.obey_do_view_change d) _ refl (λ other. hears_statement a s r f h d _ other)
 
-  present_view : (MayAsk : ℕ → ℕ → Type 0) (v : StartView) → IsPresent MayAsk r (rules.on_start_view v s r f)
+  present_view : (v : StartView) → IsPresent (Answers (event.Deliver (frame.StartView v))) r (rules.on_start_view v s r f)
   unfolding rules.on_start_view naming by
-  present_view a v =
+  present_view v =
+      let a = Answers (event.Deliver (frame.StartView v)) in
       row _ Ignored _ (λ rule. IsPresent a r (rules.obey_start_view {F = F} s.hash v rule s r f)) (λ _. calmly a s r f h _ calm_quiet) (λ b.
-      takes_view a s r f h s.hash v _ (not_primary v.cluster v.replica v.view r (not-false _ b)))
+      let from : is_from_primary v.cluster v.replica v.view r ≡ true = not-false _ b in
+      takes_view a s r f h s.hash v _ (from_is v.cluster v.replica r (and_parts _ _ from).0) (refl, refl) (not_primary v.cluster v.replica v.view r from))
+
+  present_sync : (MayAsk : ℕ → ℕ → Type 0) (v : SyncView) → IsPresent MayAsk r (rules.on_sync_view v s r f)
+  unfolding rules.on_sync_view naming by
+  present_sync a v =
+      row _ Ignored _ (λ rule. IsPresent a r (rules.obey_sync_view {F = F} s.hash v rule s r f)) (λ _. calmly a s r f h _ calm_quiet) (λ b.
+      takes_sync a s r f h s.hash v _ (not_primary v.cluster v.replica v.view r (not-false _ b)))
 
   present_message : (m : Frame) → IsPresent (Answers (event.Deliver m)) r (rules.on_message m s r f)
-  unfolding rules.on_request rules.on_prepare_ok rules.on_get_view rules.on_get_prepare rules.on_give_prepare rules.on_get_block rules.on_give_block naming by reading
+  unfolding rules.on_request rules.on_prepare_ok rules.on_get_view rules.on_get_sync rules.on_get_prepare rules.on_give_prepare rules.on_get_block rules.on_give_block naming by reading
   present_message (frame.Request q) = calmly _ s r f h _ (calm_request s.hash q _)
   present_message (frame.Reply a) = calmly _ s r f h _ calm_quiet
   present_message (frame.Prepare p) = present_prepare p
@@ -177,13 +207,15 @@ module _ {F : Type 0} (s : Setting F) (r : Replica) (f : F) (h : IsPlaced r) whe
   present_message (frame.Commit c) = present_commit c
   present_message (frame.StartViewChange c) = present_change _ c
   present_message (frame.DoViewChange d) = present_statement _ d
-  present_message (frame.StartView v) = present_view _ v
+  present_message (frame.StartView v) = present_view v
   present_message (frame.GetView g) = from_other _ g.cluster g.replica (rules.obey_get_view g) _ refl (λ other. calmly _ s r f h _ (calm_get_view g _ other))
   present_message (frame.GetPrepare g) = from_other _ g.cluster g.replica (rules.obey_get_prepare g) _ refl (λ other. calmly _ s r f h _ (calm_get_prepare g _ other))
   present_message (frame.GivePrepare g) = calmly _ s r f h _ (calm_give_prepare g _)
   present_message (frame.GetBlock g) =
       from_other _ g.cluster g.replica (rules.obey_get_block g (s.block f (rules.asked_block g))) _ refl (λ other. calmly _ s r f h _ (calm_get_block g (s.block f (rules.asked_block g)) _ other))
   present_message (frame.GiveBlock g) = calmly _ s r f h _ (calm_give_block s.is_block g _)
+  present_message (frame.GetSync g) = from_other _ g.cluster g.replica (rules.obey_get_sync g) _ refl (λ other. calmly _ s r f h _ (calm_get_sync g _ other))
+  present_message (frame.SyncView v) = present_sync _ v
 
   present_event : (e : Event) → IsPresent (Answers e) r (rules.on_event e s r f)
   unfolding rules.on_request rules.on_tick naming by

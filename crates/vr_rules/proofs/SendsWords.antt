@@ -1,6 +1,6 @@
 -- The words that are calm: all but those that enter a view.
-use Rattle.std.proofs.Common.{arith, ◌≡◌, ◌≤◌, ◌<◌, ◌+◌, ◌%◌, refl, sym, ap, ◌∙◌, ℕ, false, List, [], ◌∷◌, Option, Some, None}
-use Rattle.std.specs.Prelude.{All}
+use Rattle.std.proofs.Common.{arith, ◌≡◌, ◌≤◌, ◌<◌, ◌+◌, ◌-◌, ◌%◌, refl, sym, ap, ◌∙◌, ℕ, false, cond, List, [], ◌∷◌, Option, Some, None}
+use Rattle.std.specs.Prelude.{All, nat_lt, slice_get, ◌==◌}
 use Rattle.std.proofs.lemmas.Bool.{cond_both, eqb-false}
 use Rattle.std.proofs.lemmas.Nat.{mod_below}
 use Rattle.std.proofs.lemmas.List.Elements.{All-nil, All-cons}
@@ -23,7 +23,7 @@ use Rattle.vr_msg.specs.declared.choice.Choice.{Choice}
 use Rattle.vr_msg.specs.declared.choice.Choice.TheVariants.{Ends, WaitsAt, TooFew}
 use Rattle.vr_msg.specs.Normal.{primary}
 use Rattle.vr_rules.specs.Replica.{Replica, leads, is_primary, statement_of, forgetting, with_part}
-use Rattle.vr_rules.specs.Steps.{Word, change, says, outputs}
+use Rattle.vr_rules.specs.Steps.{Mend, Word, change, does, says, outputs}
 use Rattle.vr_rules.specs.declared.asker.Asker.{Asker}
 use Rattle.vr_rules.specs.Outputs as told
 use Rattle.vr_rules.specs.Words as words
@@ -221,14 +221,47 @@ module _ {F : Type 0} {MayAsk : ℕ → ℕ → Type 0} {o : Replica} where
         placed = record { member = near.placed.member; views = near.placed.views; peer = turn_is r.n r.turn near.placed.peer };
       }))
 
-  calm_ask_for : (names : List Name) (absent : Option Header) → Calm {F = F} MayAsk o (words.ask_for names absent)
-  calm_ask_for (name ∷ names) absent = calm_ask_peer _ (λ r to. own r)
-  calm_ask_for [] (Some h) = calm_naming _ (λ hash. calm_ask_peer _ (λ r to. own r))
-  calm_ask_for [] None = calm_quiet
+  calm_ask_for : (names : List Name) (absent : Option Header) (worn : List Name) → Calm {F = F} MayAsk o (words.ask_for names absent worn)
+  calm_ask_for (name ∷ names) absent worn = calm_ask_peer _ (λ r to. own r)
+  calm_ask_for [] (Some h) worn = calm_naming _ (λ hash. calm_ask_peer _ (λ r to. own r))
+  calm_ask_for [] None (name ∷ names) = calm_ask_peer _ (λ r to. own r)
+  calm_ask_for [] None [] = calm_quiet
 
   pub calm_ask : Calm {F = F} MayAsk o words.ask
   unfolding words.ask
-  calm_ask = calm_by _ (λ r near. calm_ask_for _ _)
+  calm_ask = calm_by _ (λ r near. calm_ask_for _ _ _)
+
+  -- ---- a visit of the disk
+
+  calm_mend_header : (h : Header) (d : Option Header) → Calm {F = F} MayAsk o (words.mend_header h d)
+  unfolding outputs
+  calm_mend_header h None = calm_does _ (λ r. refl)
+  calm_mend_header h (Some d) = calm_when _ _ (calm_does _ (λ r. refl))
+
+  calm_visit_slot : (op : ℕ) → Calm {F = F} MayAsk o (words.visit_slot op)
+  unfolding words.visit_slot
+  calm_visit_slot op = calm_entry op _ (λ e. calm_reading _ _ (calm_mend_header e.header))
+
+  calm_visit_read : (name : Name) (block : Option (List ℕ)) → Calm {F = F} MayAsk o (words.visit_read name block)
+  calm_visit_read name None = calm_keeps _ (λ r. refl)
+  calm_visit_read name (Some block) = calm_quiet
+
+  calm_visit_block : (name : Option Name) → Calm {F = F} MayAsk o (words.visit_block name)
+  unfolding words.visit_block
+  calm_visit_block None = calm_quiet
+  calm_visit_block (Some name) = calm_reading _ _ (calm_visit_read name)
+
+  calm_visit_place : (at : ℕ) → Calm {F = F} MayAsk o (words.visit_place at)
+  unfolding words.visit_place outputs
+  calm_visit_place at =
+      calm_by _ (λ r near.
+      let name : Option Name = slice_get (words.blocks_of r) (at - 65) in
+      calm_if (nat_lt at 64) (words.visit_slot (words.op_of_slot r at)) (cond (at == 64) (does (λ r. Mend r.saved)) (words.visit_block name)) (λ _. calm_visit_slot _)
+      (λ _. calm_if (at == 64) (does (λ r. Mend r.saved)) (words.visit_block name) (λ _. calm_does (λ r. Mend r.saved) (λ r. refl)) (λ _. calm_visit_block name)))
+
+  pub calm_visit : Calm {F = F} MayAsk o words.visit
+  unfolding words.visit
+  calm_visit = calm_by _ (λ r near. calm_when _ _ (calm_then _ _ (calm_visit_place _) (calm_keeps _ (λ r. refl))))
 
   -- ---- loading a checkpoint
 

@@ -8,11 +8,11 @@ use Rattle.vr_msg.specs.declared.frame.Prepare.{Prepare}
 use Rattle.vr_rules.specs.Replica.{Replica, is_frozen}
 use Rattle.vr_rules.specs.Steps.{Setting, Word, quiet, change, by, naming, reading}
 use Rattle.vr_rules.specs.Words.{rested}
-use Rattle.vr_rules.specs.Deciding.{Table, Hash, request_table, prepare_table, prepare_ok_table, commit_table, start_view_change_table, do_view_change_table, start_view_table, get_view_table, get_prepare_table, give_prepare_table, get_block_table, give_block_table, tick_table}
+use Rattle.vr_rules.specs.Deciding.{Table, Hash, request_table, prepare_table, prepare_ok_table, commit_table, start_view_change_table, do_view_change_table, start_view_table, get_view_table, get_prepare_table, give_prepare_table, get_block_table, give_block_table, get_sync_table, sync_view_table, tick_table}
 use Rattle.vr_rules.specs.declared.rule.Rule.{Rule}
 use Rattle.vr_rules.specs.declared.rule.Rule.TheVariants.{Ignored, InFlight, PreparedBefore, Beyond, Other, CommitBefore, ChangeBefore, StatedBefore}
 use Rattle.vr_rules.specs.Deciding.{first_of as first_row}
-use Rattle.vr_rules.specs.Rules.{asked_block, obey_request, obey_prepare, obey_prepare_ok, obey_commit, obey_start_view_change, obey_do_view_change, obey_start_view, obey_get_view, obey_get_prepare, obey_give_prepare, obey_get_block, obey_give_block, obey_tick, on_request, on_prepare, on_prepare_ok, on_commit, on_start_view_change, on_do_view_change, on_start_view, on_get_view, on_get_prepare, on_give_prepare, on_get_block, on_give_block, on_tick, on_message, on_event, react, message_rule, event_rule, rule_for}
+use Rattle.vr_rules.specs.Rules.{asked_block, obey_request, obey_prepare, obey_prepare_ok, obey_commit, obey_start_view_change, obey_do_view_change, obey_start_view, obey_get_view, obey_get_prepare, obey_give_prepare, obey_get_block, obey_give_block, obey_get_sync, obey_sync_view, obey_tick, on_request, on_prepare, on_prepare_ok, on_commit, on_start_view_change, on_do_view_change, on_start_view, on_get_view, on_get_prepare, on_give_prepare, on_get_block, on_give_block, on_get_sync, on_sync_view, on_tick, on_message, on_event, react, message_rule, event_rule, rule_for}
 use Rattle.vr_rules.specs.Laws.{SaysNothing, NothingIsDone, OnlyHears, OnlyHearingIsDone}
 
 module _ {F : Type 0} where
@@ -33,7 +33,7 @@ module _ {F : Type 0} where
   silent_here obey rule s r f a b c d e g h = ap (λ (w : Word F). w s r f) (silent obey a b c d e g rule h)
 
   silent_message : (m : Frame) (s : Setting F) (r : Replica) (f : F) → SaysNothing (message_rule s f r m) → on_message m s r f ≡ record { replica = r; script = [] }
-  unfolding on_request on_prepare on_prepare_ok on_commit on_start_view_change on_do_view_change on_start_view on_get_view on_get_prepare on_give_prepare on_get_block on_give_block by naming reading quiet
+  unfolding on_request on_prepare on_prepare_ok on_commit on_start_view_change on_do_view_change on_start_view on_get_view on_get_prepare on_give_prepare on_get_block on_give_block on_get_sync on_sync_view by naming reading quiet
   silent_message (frame.Request q) s r f h = silent_here (obey_request s.hash q) (first_row (request_table q r)) s r f refl refl refl refl refl refl h
   silent_message (frame.Reply a) s r f h = refl
   silent_message (frame.Prepare p) s r f h = silent_here (obey_prepare s.hash p) (first_row (prepare_table s.hash p r)) s r f refl refl refl refl refl refl h
@@ -49,6 +49,8 @@ module _ {F : Type 0} where
       silent_here (obey_get_block g (s.block f (asked_block g))) (first_row (get_block_table (is_some (s.block f (asked_block g))) g r)) s r f refl refl refl refl refl refl h
   silent_message (frame.GiveBlock g) s r f h =
       silent_here (obey_give_block s.is_block g) (first_row (give_block_table s.is_block g r)) s r f refl refl refl refl refl refl h
+  silent_message (frame.GetSync g) s r f h = silent_here (obey_get_sync g) (first_row (get_sync_table g r)) s r f refl refl refl refl refl refl h
+  silent_message (frame.SyncView v) s r f h = silent_here (obey_sync_view s.hash v) (first_row (sync_view_table s.hash v r)) s r f refl refl refl refl refl refl h
 
   silent_event : (e : Event) (s : Setting F) (r : Replica) (f : F) → SaysNothing (event_rule s f r e) → on_event e s r f ≡ record { replica = r; script = [] }
   unfolding on_request on_tick by naming quiet
@@ -111,6 +113,8 @@ module _ {F : Type 0} where
   hears_message (frame.GivePrepare g) s r f h = absurd (none_hears (give_prepare_table g r) refl h)
   hears_message (frame.GetBlock g) s r f h = absurd (none_hears (get_block_table (is_some (s.block f (asked_block g))) g r) refl h)
   hears_message (frame.GiveBlock g) s r f h = absurd (none_hears (give_block_table s.is_block g r) refl h)
+  hears_message (frame.GetSync g) s r f h = absurd (none_hears (get_sync_table g r) refl h)
+  hears_message (frame.SyncView v) s r f h = absurd (none_hears (sync_view_table s.hash v r) refl h)
 
   hears_event : (e : Event) (s : Setting F) (r : Replica) (f : F) → OnlyHears (event_rule s f r e) → on_event e s r f ≡ record { replica = rested r; script = [] }
   unfolding one_hears only_hears

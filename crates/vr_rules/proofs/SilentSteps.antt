@@ -1,18 +1,17 @@
--- Each rule says no wait, or it changes no Part.
-use Rattle.std.proofs.Common.{◌≡◌, ◌⊎◌, inl, inr, refl, ◌∙◌, ℕ, Bool, true, false, cond, List, [], ◌∷◌, Option, Some, None}
+-- Each rule says no wait, or it changes no Part; what a tick of a replica whose view hasn't begun may change is said apart.
+use Rattle.std.proofs.Common.{◌≡◌, ◌⊎◌, inl, inr, refl, ap, ◌∙◌, ℕ, Bool, true, false, cond, List, [], ◌∷◌, map, Option, Some, None, is_some}
 use Rattle.std.specs.Prelude.{All}
 use Rattle.std.specs.Option.{option_map_or}
-use Rattle.std.proofs.lemmas.List.Elements.{All-append, All-contains}
+use Rattle.std.proofs.lemmas.List.Elements.{All-append}
 use Rattle.vr_header.specs.declared.header.Header.{Header}
 use Rattle.vr_grid.specs.declared.name.Name.{Name}
-use Rattle.vr_msg.specs.declared.event.Event.{Event}
-use Rattle.vr_msg.specs.declared.event.Event.TheVariants as event
 use Rattle.vr_msg.specs.declared.frame.Commit.{Commit}
 use Rattle.vr_msg.specs.declared.frame.DoViewChange.{DoViewChange}
 use Rattle.vr_msg.specs.declared.frame.Frame.{Frame}
 use Rattle.vr_msg.specs.declared.frame.Frame.TheVariants as frame
 use Rattle.vr_msg.specs.declared.frame.GetBlock.{GetBlock}
 use Rattle.vr_msg.specs.declared.frame.GetPrepare.{GetPrepare}
+use Rattle.vr_msg.specs.declared.frame.GetSync.{GetSync}
 use Rattle.vr_msg.specs.declared.frame.GetView.{GetView}
 use Rattle.vr_msg.specs.declared.frame.GiveBlock.{GiveBlock}
 use Rattle.vr_msg.specs.declared.frame.GivePrepare.{GivePrepare}
@@ -20,30 +19,34 @@ use Rattle.vr_msg.specs.declared.frame.Prepare.{Prepare}
 use Rattle.vr_msg.specs.declared.frame.PrepareOk.{PrepareOk}
 use Rattle.vr_msg.specs.declared.frame.StartView.{StartView}
 use Rattle.vr_msg.specs.declared.frame.StartViewChange.{StartViewChange}
+use Rattle.vr_msg.specs.declared.frame.SyncView.{SyncView}
 use Rattle.vr_msg.specs.declared.request.RequestFields.{RequestFields}
 use Rattle.vr_msg.specs.declared.output.Output.{Output}
-use Rattle.vr_msg.specs.declared.output.Output.TheVariants as output
 use Rattle.vr_msg.specs.declared.statement.Statement.{Statement}
 use Rattle.vr_msg.specs.declared.choice.Choice.{Choice}
 use Rattle.vr_msg.specs.declared.choice.Choice.TheVariants.{Ends, WaitsAt, TooFew}
 use Rattle.vr_sess.specs.declared.session.SessionAnswer.{SessionAnswer}
 use Rattle.vr_sess.specs.declared.session.SessionAnswer.TheVariants as answer
 use Rattle.vr_rules.specs.Replica.{Replica}
-use Rattle.vr_rules.specs.Steps.{Effect, Setting, Step, Word, ◌⨾◌, quiet, change, does, says, by, naming, outputs, after_all}
+use Rattle.vr_rules.specs.Steps.{Effect, Say, Setting, Step, Word, ◌⨾◌, quiet, change, does, says, by, naming, outputs, after_all}
 use Rattle.vr_rules.specs.declared.asker.Asker.{Asker}
-use Rattle.vr_rules.specs.Outputs as told
 use Rattle.vr_rules.specs.Words as words
-use Rattle.vr_rules.specs.Deciding.{Hash}
+use Rattle.vr_rules.specs.Deciding.{Hash, commit_table, do_view_change_table, first_of, get_block_table, get_prepare_table, get_sync_table, get_view_table, give_block_table, give_prepare_table, prepare_ok_table, prepare_table, request_table, start_view_change_table, start_view_table, sync_view_table}
 use Rattle.vr_rules.specs.declared.rule.Rule.{Rule}
-use Rattle.vr_rules.specs.declared.rule.Rule.TheVariants.{Redirected, Behind, Answered, Full, Made, PreparedLater, Past, Beyond, Known, Next, Ahead, Other, Counted, CommitLater, CommitHeard, ChangeLater, ChangeHeard, ChangeDone, StatedLate, Stated, Taken, ViewGiven, EntryGiven, EntryTaken, BlockGiven, BlockTaken, TickedPrimary, TickedBackup, TickedChanging}
+use Rattle.vr_rules.specs.declared.rule.Rule.TheVariants.{Redirected, Behind, Answered, Full, Made, PreparedLater, Past, Beyond, Known, Next, Ahead, Other, Counted, CommitLater, CommitHeard, ChangeLater, ChangeHeard, ChangeDone, StatedLate, Stated, Taken, ViewGiven, EntryGiven, EntryTaken, BlockGiven, BlockTaken, BlockMended, SyncAsked, SyncGiven, Jumped}
 use Rattle.vr_rules.specs.Rules as rules
-use Rattle.vr_rules.specs.Laws.{WaitsChangeNoPart}
 use Rattle.vr_rules.proofs.SendsScripts.{outputs_append}
-use Rattle.vr_rules.proofs.SilentWaits.{IsNoWait, Mute, Unwaiting, unwaiting_mute, mute_then, mute_quiet, mute_change, mute_does, mute_by, mute_naming, mute_reading, mute_if, mute_each, mute_one, mute_all, mute_write, mute_entry, mute_apply, mute_take, mute_prepare_again, unwaiting_begin, mute_advance, mute_learn, mute_accept, mute_resend, mute_load}
+use Rattle.vr_rules.proofs.SilentWaits.{IsNoWait, Mute, Unwaiting, unwaiting_mute, mute_then, mute_quiet, mute_change, mute_does, mute_by, mute_naming, mute_reading, mute_if, mute_each, mute_one, mute_all, mute_write, mute_entry, mute_apply, mute_take, mute_jump, mute_prepare_again, unwaiting_begin, mute_advance, mute_learn, mute_accept, mute_resend, mute_load, mute_visit}
 
 pub record IsStill (r : Replica) (x : Step) : Type 0 where
   pub first : x.replica.first ≡ r.first
   pub parts : x.replica.parts ≡ r.parts
+
+-- only outputs
+pub record OnlySays (r : Replica) (x : Step) : Type 0 where
+  pub said : List Output
+  pub replica : x.replica ≡ r
+  pub script : x.script ≡ map Say said
 
 module _ {F : Type 0} where
   -- no wait is said, and no Part changes
@@ -52,8 +55,8 @@ module _ {F : Type 0} where
     pub still : (s : Setting F) (r : Replica) (f : F) → IsStill r (w s r f)
 
   -- no wait is said, or no Part changes
-  record Steady (w : Word F) : Type 0 where
-    each : (s : Setting F) (r : Replica) (f : F) → All IsNoWait (outputs (w s r f).script) ⊎ IsStill r (w s r f)
+  pub record Steady (w : Word F) : Type 0 where
+    pub each : (s : Setting F) (r : Replica) (f : F) → All IsNoWait (outputs (w s r f).script) ⊎ IsStill r (w s r f)
 
   still_then : (v w : Word F) → Still v → Still w → Still (v ⨾ w)
   unfolding ◌⨾◌
@@ -66,7 +69,7 @@ module _ {F : Type 0} where
         record { first = q.first ∙ p.first; parts = q.parts ∙ p.parts };
   }
 
-  still_quiet : Still quiet
+  pub still_quiet : Still quiet
   unfolding quiet
   still_quiet = record { mute = mute_quiet; still = λ s r f. record { first = refl; parts = refl } }
 
@@ -107,29 +110,23 @@ module _ {F : Type 0} where
   unfolding words.ask_peer
   still_ask_peer message = still_then _ _ (still_says _ (mute_one _ (λ r. tt))) (still_change _ (λ r. refl) (λ r. refl))
 
-  still_ask_for : (names : List Name) (absent : Option Header) → Still (words.ask_for names absent)
-  still_ask_for (name ∷ names) absent = still_ask_peer _
-  still_ask_for [] (Some h) = still_naming _ (λ hash. still_ask_peer _)
-  still_ask_for [] None = still_quiet
+  still_ask_for : (names : List Name) (absent : Option Header) (worn : List Name) → Still (words.ask_for names absent worn)
+  still_ask_for (name ∷ names) absent worn = still_ask_peer _
+  still_ask_for [] (Some h) worn = still_naming _ (λ hash. still_ask_peer _)
+  still_ask_for [] None (name ∷ names) = still_ask_peer _
+  still_ask_for [] None [] = still_quiet
 
   pub still_ask : Still words.ask
   unfolding words.ask
-  still_ask = still_by _ (λ r. still_ask_for _ _)
+  still_ask = still_by _ (λ r. still_ask_for _ _ _)
 
   -- ---- what may wait
 
-  steady_mute : (w : Word F) → Mute w → Steady w
+  pub steady_mute : (w : Word F) → Mute w → Steady w
   steady_mute w h = record { each = λ s r f. inl ((unwaiting_mute w h).said s r f) }
 
-  steady_unwaiting : (w : Word F) → Unwaiting w → Steady w
-  steady_unwaiting w h = record { each = λ s r f. inl (h.said s r f) }
-
-  steady_still : (w : Word F) → Still w → Steady w
+  pub steady_still : (w : Word F) → Still w → Steady w
   steady_still w h = record { each = λ s r f. inr (h.still s r f) }
-
-  steady_waits : (op : ℕ) → Steady (says (told.wait_line op))
-  unfolding says
-  steady_waits op = record { each = λ s r f. inr (record { first = refl; parts = refl }) }
 
   steady_after : (v w : Word F) → Still v → Steady w → Steady (v ⨾ w)
   unfolding ◌⨾◌
@@ -145,46 +142,70 @@ module _ {F : Type 0} where
         ];
   }
 
-  steady_before : (v w : Word F) → Steady v → Still w → Steady (v ⨾ w)
-  unfolding ◌⨾◌
-  steady_before v w h k = record {
-    each = λ s r f.
-        let a = v s r f in
-        let g = after_all s f a.script in
-        let b = w s a.replica g in
-        let q = k.still s a.replica g in
-        elim (h.each s r f) [
-          | inl m ↦ inl (rw (outputs_append a.script b.script) (All-append IsNoWait (outputs a.script) (outputs b.script) m ((unwaiting_mute w k.mute).said s a.replica g)))
-          | inr p ↦ inr (record { first = q.first ∙ p.first; parts = q.parts ∙ p.parts })
-        ];
-  }
-
-  steady_by : (w : Replica → Word F) → ((r : Replica) → Steady (w r)) → Steady (by w)
+  pub steady_by : (w : Replica → Word F) → ((r : Replica) → Steady (w r)) → Steady (by w)
   unfolding by
   steady_by w h = record { each = λ s r f. (h r).each s r f }
 
-  steady_naming : (w : Hash → Word F) → ((hash : Hash) → Steady (w hash)) → Steady (naming w)
-  unfolding naming
-  steady_naming w h = record { each = λ s r f. (h s.hash).each s r f }
-
-  steady_if : (b : Bool) (v w : Word F) → Steady v → Steady w → Steady (cond b v w)
+  pub steady_if : (b : Bool) (v w : Word F) → Steady v → Steady w → Steady (cond b v w)
   steady_if true v w h k = h
   steady_if false v w h k = k
 
-  steady_choice : (ss : List Statement) (c : Choice) → Steady (words.obey_choice ss c)
+  -- no wait is said, or there are only outputs
+  pub record Pausing (w : Word F) : Type 0 where
+    pub each : (s : Setting F) (r : Replica) (f : F) → All IsNoWait (outputs (w s r f).script) ⊎ OnlySays r (w s r f)
+
+  pausing_unwaiting : (w : Word F) → Unwaiting w → Pausing w
+  pausing_unwaiting w h = record { each = λ s r f. inl (h.said s r f) }
+
+  pausing_says : (os : Replica → List Output) → Pausing (says os)
+  unfolding says
+  pausing_says os = record { each = λ s r f. inr (record { said = os r; replica = refl; script = refl }) }
+
+  pausing_quiet : Pausing quiet
+  unfolding quiet
+  pausing_quiet = record { each = λ s r f. inr (record { said = []; replica = refl; script = refl }) }
+
+  pausing_by : (w : Replica → Word F) → ((r : Replica) → Pausing (w r)) → Pausing (by w)
+  unfolding by
+  pausing_by w h = record { each = λ s r f. (h r).each s r f }
+
+  pausing_naming : (w : Hash → Word F) → ((hash : Hash) → Pausing (w hash)) → Pausing (naming w)
+  unfolding naming
+  pausing_naming w h = record { each = λ s r f. (h s.hash).each s r f }
+
+  pausing_if : (b : Bool) (v w : Word F) → Pausing v → Pausing w → Pausing (cond b v w)
+  pausing_if true v w h k = h
+  pausing_if false v w h k = k
+
+  pausing_choice : (ss : List Statement) (c : Choice) → Pausing (words.obey_choice ss c)
   unfolding words.try_log
-  steady_choice ss TooFew = steady_still _ still_quiet
-  steady_choice ss (WaitsAt op) = steady_waits op
-  steady_choice ss (Ends headers) =
-      steady_by _ (λ r. steady_naming _ (λ hash. steady_by _ (λ r'. steady_if _ _ _ (steady_unwaiting _ (unwaiting_begin ss (words.chosen_log r ss headers))) (steady_waits _))))
+  pausing_choice ss TooFew = pausing_quiet
+  pausing_choice ss (WaitsAt op) = pausing_says _
+  pausing_choice ss (Ends headers) =
+      pausing_by _ (λ r. pausing_naming _ (λ hash. pausing_by _ (λ r'. pausing_if _ _ _ (pausing_unwaiting _ (unwaiting_begin ss (words.chosen_log r ss headers))) (pausing_says _))))
+
+  pausing_try : Pausing words.try
+  unfolding words.try
+  pausing_try = pausing_by _ (λ r. pausing_if _ _ _ (pausing_choice _ _) pausing_quiet)
+
+  pub pausing_speak : Pausing words.speak
+  unfolding words.speak
+  pausing_speak = pausing_by _ (λ r. pausing_if _ _ _ (pausing_if _ _ _ pausing_try (pausing_says _)) pausing_quiet)
+
+  steady_pausing : (w : Word F) → Pausing w → Steady w
+  steady_pausing w h = record {
+    each = λ s r f.
+        elim (h.each s r f) [
+          | inl m ↦ inl m
+          | inr only ↦ inr (record { first = ap (λ (x : Replica). x.first) only.replica; parts = ap (λ (x : Replica). x.parts) only.replica })
+        ];
+  }
 
   steady_try : Steady words.try
-  unfolding words.try
-  steady_try = steady_by _ (λ r. steady_if _ _ _ (steady_choice _ _) (steady_still _ still_quiet))
+  steady_try = steady_pausing _ pausing_try
 
   steady_speak : Steady words.speak
-  unfolding words.speak
-  steady_speak = steady_by _ (λ r. steady_if _ _ _ (steady_if _ _ _ steady_try (steady_mute _ (mute_one _ (λ r. tt)))) (steady_still _ still_quiet))
+  steady_speak = steady_pausing _ pausing_speak
 
   -- ---- the rules
 
@@ -245,7 +266,16 @@ module _ {F : Type 0} where
 
   pub mute_start_view : (hash : Hash) (v : StartView) (rule : Rule) → Mute {F = F} (rules.obey_start_view hash v rule)
   mute_start_view hash v Taken = mute_then _ _ (mute_take _) (mute_then _ _ (mute_by _ (λ r. mute_each _ _ (mute_stored hash))) mute_apply)
+  mute_start_view hash v SyncAsked = mute_one _ (λ r. tt)
   mute_start_view hash v _ = mute_quiet
+
+  pub mute_get_sync : (g : GetSync) (rule : Rule) → Mute {F = F} (rules.obey_get_sync g rule)
+  mute_get_sync g SyncGiven = mute_one _ (λ r. tt)
+  mute_get_sync g _ = mute_quiet
+
+  pub mute_sync_view : (hash : Hash) (v : SyncView) (rule : Rule) → Mute {F = F} (rules.obey_sync_view hash v rule)
+  mute_sync_view hash v Jumped = mute_then _ _ (mute_jump _) (mute_then _ _ (mute_by _ (λ r. mute_each _ _ (mute_stored hash))) mute_apply)
+  mute_sync_view hash v _ = mute_quiet
 
   pub mute_get_view : (g : GetView) (rule : Rule) → Mute {F = F} (rules.obey_get_view g rule)
   mute_get_view g ViewGiven = mute_one _ (λ r. tt)
@@ -273,50 +303,41 @@ module _ {F : Type 0} where
   mute_put block (Some name) =
       mute_then _ _ (mute_then _ _ (mute_does _ (λ r. refl)) (mute_then _ _ (mute_change _) (mute_by _ (λ r. mute_if _ _ _ mute_load mute_quiet)))) mute_apply
 
+  mute_mend : (block : List ℕ) (name : Option Name) → Mute {F = F} (rules.mend_found block name)
+  unfolding outputs
+  mute_mend block None = mute_quiet
+  mute_mend block (Some name) = mute_then _ _ (mute_does _ (λ r. refl)) (mute_change _)
+
   pub mute_give_block : (is_block : Name → List ℕ → Bool) (g : GiveBlock) (rule : Rule) → Mute {F = F} (rules.obey_give_block is_block g rule)
   mute_give_block is_block g BlockTaken = mute_by _ (λ r. mute_put _ _)
+  mute_give_block is_block g BlockMended = mute_by _ (λ r. mute_mend _ _)
   mute_give_block is_block g _ = mute_quiet
 
-  steady_tick : (rule : Rule) → Steady (rules.obey_tick rule)
-  steady_tick TickedPrimary =
-      steady_mute _ (mute_then _ _ (mute_all _) (mute_then _ _ (mute_by _ (λ r. mute_if _ _ _ (mute_prepare_again _) mute_quiet)) still_ask.mute))
-  steady_tick TickedBackup = steady_still _ (still_then _ _ (still_change _ (λ r. refl) (λ r. refl)) (still_by _ (λ r. still_if _ _ _ (still_by _ (λ r. still_enter _)) still_ask)))
-  steady_tick TickedChanging =
-      steady_after _ _ (still_change _ (λ r. refl) (λ r. refl)) (steady_by _ (λ r. steady_if _ _ _ (steady_still _ (still_by _ (λ r. still_enter _)))
-      (steady_after _ _ (still_says _ (mute_all _)) (steady_before _ _ steady_speak still_ask))))
-  steady_tick _ = steady_still _ still_quiet
+  -- at the primary and at another replica of a view that has begun; a wait isn't said there
+  pub mute_primary_ticks : Mute {F = F} rules.primary_ticks
+  mute_primary_ticks =
+      mute_then _ _ (mute_all _) (mute_then _ _ (mute_by _ (λ r. mute_if _ _ _ (mute_prepare_again _) mute_quiet)) (mute_then _ _ mute_visit still_ask.mute))
 
-  -- ---- all events
+  pub mute_backup_ticks : Mute {F = F} rules.backup_ticks
+  mute_backup_ticks =
+      mute_then _ _ (mute_change _) (mute_by _ (λ r. mute_if _ _ _ (mute_by _ (λ r. (still_enter _).mute)) (mute_then _ _ mute_visit still_ask.mute)))
 
-  steady_message : (m : Frame) → Steady (rules.on_message m)
-  unfolding rules.on_request rules.on_prepare rules.on_prepare_ok rules.on_commit rules.on_start_view_change rules.on_do_view_change rules.on_start_view rules.on_get_view rules.on_get_prepare rules.on_give_prepare rules.on_get_block rules.on_give_block
-  steady_message (frame.Request q) = steady_mute _ (mute_naming _ (λ hash. mute_by _ (λ r. mute_request hash q _)))
+  -- ---- messages
+
+  pub steady_message : (m : Frame) → Steady (rules.on_message m)
+  unfolding rules.on_request rules.on_prepare rules.on_prepare_ok rules.on_commit rules.on_start_view_change rules.on_do_view_change rules.on_start_view rules.on_get_view rules.on_get_prepare rules.on_give_prepare rules.on_get_block rules.on_give_block rules.on_get_sync rules.on_sync_view
+  steady_message (frame.Request q) = steady_mute _ (mute_naming _ (λ hash. mute_by _ (λ r. mute_request hash q (first_of (request_table q r)))))
   steady_message (frame.Reply a) = steady_still _ still_quiet
-  steady_message (frame.Prepare p) = steady_mute _ (mute_naming _ (λ hash. mute_by _ (λ r. mute_prepare hash p _)))
-  steady_message (frame.PrepareOk a) = steady_mute _ (mute_naming _ (λ hash. mute_by _ (λ r. mute_prepare_ok a _)))
-  steady_message (frame.Commit c) = steady_mute _ (mute_by _ (λ r. mute_commit c _))
-  steady_message (frame.StartViewChange c) = steady_by _ (λ r. steady_change c _)
-  steady_message (frame.DoViewChange d) = steady_by _ (λ r. steady_statement d _)
-  steady_message (frame.StartView v) = steady_mute _ (mute_naming _ (λ hash. mute_by _ (λ r. mute_start_view hash v _)))
-  steady_message (frame.GetView g) = steady_mute _ (mute_by _ (λ r. mute_get_view g _))
-  steady_message (frame.GetPrepare g) = steady_mute _ (mute_naming _ (λ hash. mute_by _ (λ r. mute_get_prepare g _)))
-  steady_message (frame.GivePrepare g) = steady_mute _ (mute_by _ (λ r. mute_give_prepare g _))
-  steady_message (frame.GetBlock g) = steady_mute _ (mute_reading _ _ (λ block. mute_by _ (λ r. mute_get_block g block _)))
-  steady_message (frame.GiveBlock g) = steady_mute _ (mute_reading _ _ (λ is_block. mute_by _ (λ r. mute_give_block is_block g _)))
-
-  steady_event : (e : Event) → Steady (rules.on_event e)
-  unfolding rules.on_request rules.on_tick
-  steady_event (event.Request q) = steady_mute _ (mute_naming _ (λ hash. mute_by _ (λ r. mute_request hash q _)))
-  steady_event (event.Deliver m) = steady_message m
-  steady_event event.Tick = steady_by _ (λ r. steady_tick _)
-
-  steady_react : (e : Event) → Steady (rules.react e)
-  unfolding rules.react
-  steady_react e = steady_by _ (λ r. steady_if _ _ _ (steady_event e) (steady_still _ still_quiet))
-
-  pub waits_change_no_part : WaitsChangeNoPart F
-  waits_change_no_part s f r e w =
-      elim ((steady_react e).each s r f) [
-        | inl m ↦ absurd (All-contains IsNoWait (outputs (rules.react e s r f).script) (output.Wait w.line) m w.is)
-        | inr q ↦ (q.first, q.parts)
-      ]
+  steady_message (frame.Prepare p) = steady_mute _ (mute_naming _ (λ hash. mute_by _ (λ r. mute_prepare hash p (first_of (prepare_table hash p r)))))
+  steady_message (frame.PrepareOk a) = steady_mute _ (mute_naming _ (λ hash. mute_by _ (λ r. mute_prepare_ok a (first_of (prepare_ok_table hash a r)))))
+  steady_message (frame.Commit c) = steady_mute _ (mute_by _ (λ r. mute_commit c (first_of (commit_table c r))))
+  steady_message (frame.StartViewChange c) = steady_by _ (λ r. steady_change c (first_of (start_view_change_table c r)))
+  steady_message (frame.DoViewChange d) = steady_by _ (λ r. steady_statement d (first_of (do_view_change_table d r)))
+  steady_message (frame.StartView v) = steady_mute _ (mute_naming _ (λ hash. mute_by _ (λ r. mute_start_view hash v (first_of (start_view_table hash v r)))))
+  steady_message (frame.GetView g) = steady_mute _ (mute_by _ (λ r. mute_get_view g (first_of (get_view_table g r))))
+  steady_message (frame.GetPrepare g) = steady_mute _ (mute_naming _ (λ hash. mute_by _ (λ r. mute_get_prepare g (first_of (get_prepare_table hash g r)))))
+  steady_message (frame.GivePrepare g) = steady_mute _ (mute_by _ (λ r. mute_give_prepare g (first_of (give_prepare_table g r))))
+  steady_message (frame.GetBlock g) = steady_mute _ (mute_reading _ _ (λ block. mute_by _ (λ r. mute_get_block g block (first_of (get_block_table (is_some block) g r)))))
+  steady_message (frame.GiveBlock g) = steady_mute _ (mute_reading _ _ (λ is_block. mute_by _ (λ r. mute_give_block is_block g (first_of (give_block_table is_block g r)))))
+  steady_message (frame.GetSync g) = steady_mute _ (mute_by _ (λ r. mute_get_sync g (first_of (get_sync_table g r))))
+  steady_message (frame.SyncView v) = steady_mute _ (mute_naming _ (λ hash. mute_by _ (λ r. mute_sync_view hash v (first_of (sync_view_table hash v r)))))

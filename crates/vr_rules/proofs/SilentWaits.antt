@@ -1,18 +1,20 @@
 -- Most words say neither that a choice waits nor that a log is chosen.
-use Rattle.std.proofs.Common.{◌≡◌, refl, ℕ, zero, suc, Bool, true, false, cond, List, [], ◌∷◌, Option, Some, None, map}
-use Rattle.std.specs.Prelude.{All, ⊤}
+use Rattle.std.proofs.Common.{◌≡◌, ◌-◌, refl, ℕ, zero, suc, Bool, true, false, cond, List, [], ◌∷◌, Option, Some, None, map}
+use Rattle.std.specs.Prelude.{All, ⊤, nat_lt, slice_get, ◌==◌}
 use Rattle.std.proofs.lemmas.Bool.{cond_both}
 use Rattle.std.proofs.lemmas.List.Elements.{All-nil, All-cons, All-append, All-map, All-head, All-tail}
 use Rattle.vr_header.specs.declared.header.Header.{Header}
 use Rattle.vr_header.specs.declared.part.Part.{Part}
 use Rattle.vr_header.specs.declared.part.Part.TheVariants.{Here, Lost, Wanted, Unknown, Nothing}
 use Rattle.vr_header.specs.Made.{Whole}
+use Rattle.vr_grid.specs.declared.name.Name.{Name}
 use Rattle.vr_msg.specs.declared.frame.Frame.{Frame}
+use Rattle.vr_msg.specs.declared.frame.SyncView.{SyncView}
 use Rattle.vr_msg.specs.declared.output.Output.{Output}
 use Rattle.vr_msg.specs.declared.output.Output.TheVariants as output
 use Rattle.vr_msg.specs.declared.statement.Statement.{Statement}
 use Rattle.vr_rules.specs.Replica.{Replica, leads}
-use Rattle.vr_rules.specs.Steps.{Effect, Setting, Word, ◌⨾◌, quiet, change, does, says, by, naming, reading, times, each, outputs, after_all, Say}
+use Rattle.vr_rules.specs.Steps.{Effect, Mend, Setting, Word, ◌⨾◌, quiet, change, does, says, by, naming, reading, times, each, outputs, after_all, Say}
 use Rattle.vr_rules.specs.Outputs as told
 use Rattle.vr_rules.specs.Words as words
 use Rattle.vr_rules.proofs.SendsScripts.{outputs_append, outputs_said}
@@ -151,6 +153,10 @@ module _ {F : Type 0} where
   unfolding words.take
   mute_take l = mute_then _ _ (mute_change _) mute_save
 
+  pub mute_jump : (v : SyncView) → Mute (words.jump v)
+  unfolding words.jump
+  mute_jump v = mute_then _ _ (mute_change _) mute_save
+
   pub mute_prepare_again : (op : ℕ) → Mute (words.prepare_again op)
   unfolding words.prepare_again
   mute_prepare_again op = mute_entry op _ (λ e. mute_all _)
@@ -196,3 +202,35 @@ module _ {F : Type 0} where
   pub mute_load : Mute words.load
   unfolding words.load
   mute_load = mute_by _ (λ r. mute_if _ _ _ (mute_reading _ _ (λ l. mute_change _)) mute_quiet)
+
+  -- ---- a visit of the disk
+
+  mute_mend_header : (h : Header) (d : Option Header) → Mute (words.mend_header h d)
+  unfolding outputs
+  mute_mend_header h None = mute_does _ (λ r. refl)
+  mute_mend_header h (Some d) = mute_if _ _ _ (mute_does _ (λ r. refl)) mute_quiet
+
+  mute_visit_slot : (op : ℕ) → Mute (words.visit_slot op)
+  unfolding words.visit_slot
+  mute_visit_slot op = mute_entry op _ (λ e. mute_reading _ _ (mute_mend_header e.header))
+
+  mute_visit_read : (name : Name) (block : Option (List ℕ)) → Mute (words.visit_read name block)
+  mute_visit_read name None = mute_change _
+  mute_visit_read name (Some block) = mute_quiet
+
+  mute_visit_block : (name : Option Name) → Mute (words.visit_block name)
+  unfolding words.visit_block
+  mute_visit_block None = mute_quiet
+  mute_visit_block (Some name) = mute_reading _ _ (mute_visit_read name)
+
+  mute_visit_place : (at : ℕ) → Mute (words.visit_place at)
+  unfolding words.visit_place outputs
+  mute_visit_place at =
+      mute_by _ (λ r.
+      let name : Option Name = slice_get (words.blocks_of r) (at - 65) in
+      mute_if (nat_lt at 64) (words.visit_slot (words.op_of_slot r at)) (cond (at == 64) (does (λ r. Mend r.saved)) (words.visit_block name)) (mute_visit_slot _)
+      (mute_if (at == 64) (does (λ r. Mend r.saved)) (words.visit_block name) (mute_does (λ r. Mend r.saved) (λ r. refl)) (mute_visit_block name)))
+
+  pub mute_visit : Mute words.visit
+  unfolding words.visit
+  mute_visit = mute_by _ (λ r. mute_if _ _ _ (mute_then _ _ (mute_visit_place _) (mute_change _)) mute_quiet)

@@ -36,7 +36,7 @@ pub record MayTake (l : Log) (r : Replica) : Type 0 where
   pub lo : l.lo ≤ r.commit
   pub reaches : r.commit ≤ l.head
 
-newer_view : (l : Log) (r : Replica) → is_newer l r ≡ true → r.view ≤ l.view
+pub newer_view : (l : Log) (r : Replica) → is_newer l r ≡ true → r.view ≤ l.view
 newer_view l r e =
     elim (or_cases (nat_lt r.view l.view) ((l.view == r.view) && (nat_lt r.log_view l.view || ((l.view == r.log_view) && nat_lt (head r) l.head))) e) [
       | inl t ↦ let l = ltb-true r.view l.view t in omega arith
@@ -68,7 +68,7 @@ replaced_lost : (e h : Header) (b : Bool) → same_header h e ≡ b → header_o
 replaced_lost e h true t = ap Some (same_header_is h e t)
 replaced_lost e h false t = refl
 
-replaced_header : (e : Header) (p : Part) → header_of (replaced_by e p) ≡ Some e
+pub replaced_header : (e : Header) (p : Part) → header_of (replaced_by e p) ≡ Some e
 replaced_header e (Here h) = replaced_here e h (same_header h e) refl
 replaced_header e (Lost h) = replaced_lost e h (same_header h e) refl
 replaced_header e (Wanted h) = refl
@@ -101,10 +101,10 @@ taken_from l r k =
           ])
     ]
 
-log_header_at : (l : Log) (k : ℕ) → l.lo < k → log_header l k ≡ slice_get l.headers (k - (l.lo + 1))
+pub log_header_at : (l : Log) (k : ℕ) → l.lo < k → log_header l k ≡ slice_get l.headers (k - (l.lo + 1))
 log_header_at l k a = rw (lt-leb k l.lo a) refl
 
-log_header_is : (l : Log) (r : Replica) (k : ℕ) (e : Header) → IsLogFor r l → log_header l k ≡ Some e → IsHeader e × IsEntryAt r.cluster l.view k e
+pub log_header_is : (l : Log) (r : Replica) (k : ℕ) (e : Header) → IsLogFor r l → log_header l k ≡ Some e → IsHeader e × IsEntryAt r.cluster l.view k e
 log_header_is l r k e log i =
     elim (cases_lt l.lo k) [
       | inl above ↦
@@ -113,7 +113,7 @@ log_header_is l r k e log i =
       | inr low ↦ let no_header : None ≡ Some e = rw (le-leb k l.lo low) at i in cc
     ]
 
-later : (cluster last most op : ℕ) (h : Header) → last ≤ most → IsEntryAt cluster last op h → IsEntryAt cluster most op h
+pub later : (cluster last most op : ℕ) (h : Header) → last ≤ most → IsEntryAt cluster last op h → IsEntryAt cluster most op h
 later cluster last most op h l is = let made = is.made in record { entry = is.entry; of_group = is.of_group; at_op = is.at_op; made = omega arith }
 
 taken_entry : (l : Log) (r : Replica) (k : ℕ) (h : Header) → IsSound r → IsLogFor r l → r.log_view ≤ l.view → header_of (taken_part l r k) ≡ Some h

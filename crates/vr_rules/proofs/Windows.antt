@@ -11,21 +11,26 @@ use Rattle.vr_rules.specs.Replica.{Replica, part_at, head}
 use Rattle.vr_rules.specs.World.{Happening, Arrives, Ticks, Stops, Starts, Lies}
 use Rattle.vr_rules.proofs.Plain.{asks, replayed, seen}
 
-abbrev put : Operation
+abbrev pub put : Operation
 put = Put (codes "a") (codes "b")
 
 -- Client 7 registers and puts; each op's prepare reaches replica 1 alone, and its prepare_ok the primary. Op k has the messages
 -- from 3 (k - 1) on.
-abbrev put_of_three : ℕ → List Happening
+abbrev pub put_of_three : ℕ → List Happening
 put_of_three k = asks 0 7 k put ∷ Arrives (3 * k) ∷ Arrives (3 * k + 2) ∷ []
 
-abbrev puts_of_three : ℕ → List Happening
+abbrev pub puts_of_three : ℕ → List Happening
 puts_of_three n = asks 0 7 0 Register ∷ Arrives 0 ∷ Arrives 2 ∷ flat_map put_of_three (range_with_len 1 n)
 
--- A replica at checkpoint 0 that knows nothing is told of op 65, which is beyond its window, of op 64, and of the log up to 65.
-window : drop 389 (replayed 3 (puts_of_three 64 ++ Arrives 193 ∷ Arrives 190 ∷ Arrives 195 ∷ Arrives 196 ∷ []))
+-- A replica at checkpoint 0 that knows nothing is told of op 65, which is beyond its window, of op 64, and of the log up to 65: it asks
+-- for the checkpoint.
+abbrev pub past_window : List Happening
+past_window = puts_of_three 64 ++ Arrives 193 ∷ Arrives 190 ∷ Arrives 195 ∷ Arrives 196 ∷ []
+
+window : drop 389 (replayed 3 past_window)
     ≡ codes "send 195 2 0 get_view view 0"
     ∷ codes "send 196 0 2 start_view view 0 op 65 commit 65"
+    ∷ codes "send 197 2 0 get_sync view 0"
     ∷ []
 unfolding replayed
 window = refl
@@ -47,15 +52,15 @@ first_forgotten = refl
 -- ---- checkpoints
 
 -- Client 7 registers and puts, and both messages of each op arrive.
-abbrev put_of_two : ℕ → List Happening
+abbrev pub put_of_two : ℕ → List Happening
 put_of_two k = asks 0 7 k put ∷ Arrives (2 * k) ∷ Arrives (2 * k + 1) ∷ []
 
-abbrev puts_of_two : ℕ → List Happening
+abbrev pub puts_of_two : ℕ → List Happening
 puts_of_two n = asks 0 7 0 Register ∷ Arrives 0 ∷ Arrives 1 ∷ flat_map put_of_two (range_with_len 1 n)
 
 -- commit number, applied op, checkpoint, the address of its root, the ends of the lists of Parts and ackers, and what the superblock says of
 -- commit number, checkpoint and head
-abbrev numbers : Replica → List ℕ
+abbrev pub numbers : Replica → List ℕ
 numbers r =
     r.commit ∷ r.applied ∷ r.checkpoint ∷ r.root.address ∷ (r.first + length r.parts) ∷ (r.first + length r.ackers) ∷ r.saved.fields.commit ∷ r.saved.fields.checkpoint ∷ r.saved.fields.head ∷ []
 

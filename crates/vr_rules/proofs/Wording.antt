@@ -198,14 +198,15 @@ keeps_ask_peer : {F : Type 0} (message : Replica → Frame) → Keeps {F = F} (a
 unfolding ask_peer
 keeps_ask_peer message = keeps_then _ _ (keeps_says _) (keeps_change turned (λ r h. kept_alike r (turned r) refl (record { view = omega arith; log_view = omega arith; commit = omega arith; applied = omega arith; checkpoint = omega arith }) h))
 
-keeps_ask_for : {F : Type 0} (names : List Name) (absent : Option Header) → Keeps {F = F} (ask_for names absent)
-keeps_ask_for (name ∷ names) absent = keeps_ask_peer _
-keeps_ask_for [] (Some h) = keeps_naming _ (λ hash. keeps_ask_peer _)
-keeps_ask_for [] None = keeps_quiet
+keeps_ask_for : {F : Type 0} (names : List Name) (absent : Option Header) (worn : List Name) → Keeps {F = F} (ask_for names absent worn)
+keeps_ask_for (name ∷ names) absent worn = keeps_ask_peer _
+keeps_ask_for [] (Some h) worn = keeps_naming _ (λ hash. keeps_ask_peer _)
+keeps_ask_for [] None (name ∷ names) = keeps_ask_peer _
+keeps_ask_for [] None [] = keeps_quiet
 
 pub keeps_ask : {F : Type 0} → Keeps {F = F} ask
 unfolding ask
-keeps_ask = keeps_by _ (λ r. keeps_ask_for r.missing _)
+keeps_ask = keeps_by _ (λ r. keeps_ask_for r.missing _ r.worn)
 
 -- ---- loading
 

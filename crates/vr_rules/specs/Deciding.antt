@@ -12,6 +12,7 @@ use Rattle.vr_msg.specs.declared.frame.Commit.{Commit}
 use Rattle.vr_msg.specs.declared.frame.DoViewChange.{DoViewChange}
 use Rattle.vr_msg.specs.declared.frame.GetBlock.{GetBlock}
 use Rattle.vr_msg.specs.declared.frame.GetPrepare.{GetPrepare}
+use Rattle.vr_msg.specs.declared.frame.GetSync.{GetSync}
 use Rattle.vr_msg.specs.declared.frame.GetView.{GetView}
 use Rattle.vr_msg.specs.declared.frame.GiveBlock.{GiveBlock}
 use Rattle.vr_msg.specs.declared.frame.GivePrepare.{GivePrepare}
@@ -19,17 +20,18 @@ use Rattle.vr_msg.specs.declared.frame.Prepare.{Prepare}
 use Rattle.vr_msg.specs.declared.frame.PrepareOk.{PrepareOk}
 use Rattle.vr_msg.specs.declared.frame.StartView.{StartView}
 use Rattle.vr_msg.specs.declared.frame.StartViewChange.{StartViewChange}
+use Rattle.vr_msg.specs.declared.frame.SyncView.{SyncView}
 use Rattle.vr_msg.specs.declared.request.RequestFields.{RequestFields}
 use Rattle.vr_rules.specs.declared.rule.Rule.{Rule}
-use Rattle.vr_rules.specs.declared.rule.Rule.TheVariants.{Ignored, Redirected, Behind, InFlight, Answered, Full, Made, PreparedBefore, PreparedLater, Past, Beyond, Known, Next, Ahead, Other, Counted, CommitBefore, CommitLater, CommitHeard, ChangeBefore, ChangeLater, ChangeHeard, ChangeDone, StatedBefore, StatedLate, Stated, Taken, ViewGiven, EntryGiven, EntryTaken, BlockGiven, BlockTaken, TickedPrimary, TickedBackup, TickedChanging}
+use Rattle.vr_rules.specs.declared.rule.Rule.TheVariants.{Ignored, Redirected, Behind, InFlight, Answered, Full, Made, PreparedBefore, PreparedLater, Past, Beyond, Known, Next, Ahead, Other, Counted, CommitBefore, CommitLater, CommitHeard, ChangeBefore, ChangeLater, ChangeHeard, ChangeDone, StatedBefore, StatedLate, Stated, Taken, ViewGiven, EntryGiven, EntryTaken, BlockGiven, BlockTaken, BlockMended, TickedPrimary, TickedBackup, TickedChanging, SyncAsked, SyncGiven, Jumped}
 use Rattle.vr_msg.specs.Logs.{header_of}
 use Rattle.vr_msg.specs.Normal.{primary, same_sum, pipeline, last_op}
 use Rattle.vr_sess.specs.Asks.{is_fresh}
 use Rattle.vr_sess.specs.Sessions.{checked}
 use Rattle.vr_sess.specs.declared.session.SessionAnswer.{SessionAnswer}
 use Rattle.vr_grid.specs.declared.name.Name.{Name}
-use Rattle.vr_rules.specs.Replica.{Replica, is_started, is_primary, leads, window_end, part_at, header_at, parts_from, head, head_header, is_here, is_absent}
-use Rattle.vr_rules.specs.Words.{Log, may_take, is_loaded}
+use Rattle.vr_rules.specs.Replica.{Replica, is_started, is_primary, leads, window_end, part_at, header_at, parts_from, head, head_header, is_here, is_absent, run_start}
+use Rattle.vr_rules.specs.Words.{Log, is_chain, is_loaded, is_newer, may_take, sync_log}
 
 -- the number of a rule, 0 for none
 abbrev pub number_of : Rule → ℕ
@@ -65,9 +67,13 @@ number_of EntryGiven = 28
 number_of EntryTaken = 29
 number_of BlockGiven = 30
 number_of BlockTaken = 31
+number_of BlockMended = 31
 number_of TickedPrimary = 32
 number_of TickedBackup = 33
 number_of TickedChanging = 34
+number_of SyncAsked = 35
+number_of SyncGiven = 36
+number_of Jumped = 37
 
 -- conditions with what they decide, in order; where none holds the event is ignored
 abbrev pub Table : Type 0
@@ -178,14 +184,40 @@ do_view_change_table d r =
 abbrev pub log_of : StartView → Log
 log_of v = record { view = v.view; lo = v.body.lo; headers = v.body.headers; head = v.head; commit = v.commit }
 
+-- its log ends past the window, or begins above what is committed here
+abbrev pub is_out_of_reach : StartView → Replica → Bool
+is_out_of_reach v r = nat_lt (window_end r) v.head || nat_lt r.commit v.body.lo
+
 abbrev pub start_view_table : Hash → StartView → Replica → Table
 start_view_table hash v r =
     (not (is_from_primary v.cluster v.replica v.view r), Ignored)
     ∷ (may_take hash (log_of v) r && not (r.index == primary r.n v.view), Taken)
+    ∷ (is_newer (log_of v) r && (is_out_of_reach v r && not (r.index == primary r.n v.view)), SyncAsked)
     ∷ []
 
 abbrev pub get_view_table : GetView → Replica → Table
 get_view_table g r = (not (is_from g.cluster g.replica r), Ignored) ∷ (leads r && nat_le g.view r.view, ViewGiven) ∷ []
+
+-- ---- checkpoints of others
+
+-- the known headers that reach the head without a hole reach down to the checkpoint's
+abbrev pub reaches_down : Replica → Bool
+reaches_down r = nat_lt 0 r.checkpoint && nat_lt (run_start r) r.checkpoint
+
+abbrev pub get_sync_table : GetSync → Replica → Table
+get_sync_table g r =
+    (not (is_from g.cluster g.replica r), Ignored) ∷ (leads r && (nat_le g.view r.view && reaches_down r), SyncGiven) ∷ []
+
+-- as for a log that is taken over; that it begins no later than what is committed here isn't asked, and the checkpoint is a later one
+abbrev pub may_jump : Hash → SyncView → Replica → Bool
+may_jump hash v r =
+    is_newer (sync_log v) r && (is_chain hash v.body.headers && (nat_le r.commit v.head && nat_lt r.checkpoint v.checkpoint))
+
+abbrev pub sync_view_table : Hash → SyncView → Replica → Table
+sync_view_table hash v r =
+    (not (is_from_primary v.cluster v.replica v.view r), Ignored)
+    ∷ (may_jump hash v r && not (r.index == primary r.n v.view), Jumped)
+    ∷ []
 
 -- ---- repair
 
@@ -218,6 +250,7 @@ abbrev pub give_block_table : (Name → List ℕ → Bool) → GiveBlock → Rep
 give_block_table is_block g r =
     (not (is_from g.cluster g.replica r), Ignored)
     ∷ (has_missing (is_wanted is_block g) r, BlockTaken)
+    ∷ (list_any (is_wanted is_block g) r.worn, BlockMended)
     ∷ []
 
 -- ---- a tick

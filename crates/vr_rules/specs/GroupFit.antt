@@ -9,13 +9,13 @@ use Rattle.vr_rules.specs.Lying.{lying}
 use Rattle.vr_rules.specs.Sound.{IsSound, IsSavable}
 use Rattle.vr_rules.specs.Group.{Member, Group, Arrival, Asked, Message, Time, Move, Steps, Cuts, Crashes, Recovers, RecoversCut, Moved, Moves, Played, Run, fresh_group}
 use Rattle.vr_rules.specs.Own.{IsOwnValue, IsAt}
-use Rattle.vr_rules.specs.Fit.{IsBlockName, MayCome, ReadsWell}
+use Rattle.vr_rules.specs.Fit.{KnowsBlocks, MayCome, ReadsWell}
 
 -- a running replica
 pub record IsFitReplica (r : Replica) : Type 0 where
   pub sound : IsSound r
   pub savable : IsSavable r
-  pub missing : All IsBlockName r.missing
+  pub blocks : KnowsBlocks r
 
 -- a value of this replica that makes a good copy
 abbrev pub IsFitValue : ℕ → ℕ → ℕ → SuperValue → Type 0

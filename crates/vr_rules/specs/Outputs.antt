@@ -60,6 +60,24 @@ abbrev pub start_view : Replica → Frame
 start_view r =
     frame.StartView (record { cluster = r.cluster; replica = r.index; view = r.view; head = head r; commit = r.commit; body = record { lo = run_start r; headers = run r } })
 
+-- the checkpoint, and the log from below it
+abbrev pub sync_view : Replica → Frame
+sync_view r =
+    frame.SyncView (record {
+      cluster = r.cluster;
+      replica = r.index;
+      view = r.view;
+      head = head r;
+      commit = r.commit;
+      checkpoint = r.checkpoint;
+      root_address = r.root.address;
+      root_name = r.root.sum;
+      body = record { lo = run_start r; headers = run r };
+    })
+
+abbrev pub get_sync : ℕ → Replica → Frame
+get_sync view r = frame.GetSync (record { cluster = r.cluster; replica = r.index; view = view })
+
 abbrev pub get_view : ℕ → Replica → Frame
 get_view view r = frame.GetView (record { cluster = r.cluster; replica = r.index; view = view })
 

@@ -39,6 +39,8 @@ pub record Replica : Type 0 where
   pub statements : List (Option Statement)  -- what each replica has stated of its log for this view
   pub idle : ℕ  -- ticks since the primary, or the last change of view, was heard of
   pub turn : ℕ  -- which peer is asked next
+  pub cursor : ℕ  -- which place of the disk is visited next
+  pub worn : List Name  -- the checkpoint's blocks that were found bad when they were visited; the state has what was in them
   pub saved : SuperValue  -- the superblock's value as last saved or opened
 
 -- ---- of its place in the group

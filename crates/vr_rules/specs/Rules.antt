@@ -15,6 +15,7 @@ use Rattle.vr_msg.specs.declared.frame.Commit.{Commit}
 use Rattle.vr_msg.specs.declared.frame.DoViewChange.{DoViewChange}
 use Rattle.vr_msg.specs.declared.frame.GetBlock.{GetBlock}
 use Rattle.vr_msg.specs.declared.frame.GetPrepare.{GetPrepare}
+use Rattle.vr_msg.specs.declared.frame.GetSync.{GetSync}
 use Rattle.vr_msg.specs.declared.frame.GetView.{GetView}
 use Rattle.vr_msg.specs.declared.frame.GiveBlock.{GiveBlock}
 use Rattle.vr_msg.specs.declared.frame.GivePrepare.{GivePrepare}
@@ -22,6 +23,7 @@ use Rattle.vr_msg.specs.declared.frame.Prepare.{Prepare}
 use Rattle.vr_msg.specs.declared.frame.PrepareOk.{PrepareOk}
 use Rattle.vr_msg.specs.declared.frame.StartView.{StartView}
 use Rattle.vr_msg.specs.declared.frame.StartViewChange.{StartViewChange}
+use Rattle.vr_msg.specs.declared.frame.SyncView.{SyncView}
 use Rattle.vr_msg.specs.declared.reply.ReplyKind.TheVariants as reply
 use Rattle.vr_msg.specs.declared.request.RequestFields.{RequestFields}
 use Rattle.vr_msg.specs.declared.statement.Statement.{Statement}
@@ -29,12 +31,12 @@ use Rattle.vr_msg.specs.Choice.{ops}
 use Rattle.vr_grid.specs.declared.name.Name.{Name}
 use Rattle.vr_rules.specs.Replica.{Replica, is_frozen, part_at, header_at, ackers_at, head, head_header, is_here}
 use Rattle.vr_rules.specs.Steps.{PutBlock, Setting, Word, ◌⨾◌, quiet, change, does, says, by, naming, reading, when, each}
-use Rattle.vr_rules.specs.Outputs.{send_to, send_to_all, to_primary, prepare, prepare_ok, commit_message, start_view_change, start_view, get_view, give_prepare, give_block, replies}
+use Rattle.vr_rules.specs.Outputs.{send_to, send_to_all, to_primary, prepare, prepare_ok, commit_message, start_view_change, start_view, sync_view, get_sync, get_view, give_prepare, give_block, replies}
 use Rattle.vr_rules.specs.declared.asker.Asker.{Asker}
-use Rattle.vr_rules.specs.Words.{enter, rested, write, accept, with_entry_at, apply, is_loaded, advance, learn, take, prepare_again, try, speak, resend, ask, load}
-use Rattle.vr_rules.specs.Deciding.{Hash, first_of, session_answer, request_table, prepare_table, prepare_ok_table, commit_table, start_view_change_table, do_view_change_table, log_of, start_view_table, get_view_table, get_prepare_table, give_prepare_table, get_block_table, is_wanted, give_block_table, tick_table}
+use Rattle.vr_rules.specs.Words.{enter, rested, write, accept, with_entry_at, apply, is_loaded, advance, learn, take, prepare_again, try, speak, resend, ask, load, jump, visit}
+use Rattle.vr_rules.specs.Deciding.{Hash, first_of, session_answer, request_table, prepare_table, prepare_ok_table, commit_table, start_view_change_table, do_view_change_table, log_of, start_view_table, get_view_table, get_prepare_table, give_prepare_table, get_block_table, is_wanted, give_block_table, tick_table, get_sync_table, sync_view_table}
 use Rattle.vr_rules.specs.declared.rule.Rule.{Rule}
-use Rattle.vr_rules.specs.declared.rule.Rule.TheVariants.{Ignored, Redirected, Behind, Answered, Full, Made, PreparedLater, Past, Beyond, Known, Next, Ahead, Other, Counted, CommitLater, CommitHeard, ChangeLater, ChangeHeard, ChangeDone, StatedLate, Stated, Taken, ViewGiven, EntryGiven, EntryTaken, BlockGiven, BlockTaken, TickedPrimary, TickedBackup, TickedChanging}
+use Rattle.vr_rules.specs.declared.rule.Rule.TheVariants.{Ignored, Redirected, Behind, Answered, Full, Made, PreparedLater, Past, Beyond, Known, Next, Ahead, Other, Counted, CommitLater, CommitHeard, ChangeLater, ChangeHeard, ChangeDone, StatedLate, Stated, Taken, ViewGiven, EntryGiven, EntryTaken, BlockGiven, BlockTaken, BlockMended, TickedPrimary, TickedBackup, TickedChanging, SyncAsked, SyncGiven, Jumped}
 
 -- ---- requests (rules 1 to 6)
 
@@ -149,6 +151,7 @@ acknowledge_stored hash op = by (λ r. when (is_here (part_at r op)) (option_map
 
 abbrev pub obey_start_view : {F : Type 0} → Hash → StartView → Rule → Word F
 obey_start_view hash v Taken = take (log_of v) ⨾ by (λ r. each (acknowledge_stored hash) (ops r.commit v.head)) ⨾ apply
+obey_start_view hash v SyncAsked = says (λ r. send_to v.replica (get_sync v.view r) r)
 obey_start_view hash v _ = quiet
 
 unfoldable pub on_start_view : {F : Type 0} → StartView → Word F
@@ -162,6 +165,22 @@ obey_get_view g _ = quiet
 
 unfoldable pub on_get_view : {F : Type 0} → GetView → Word F
 on_get_view g = by (λ r. obey_get_view g (first_of (get_view_table g r)))
+
+-- ---- checkpoints of others (rules 35 to 37; rule 35 stands with the start_views)
+
+abbrev pub obey_get_sync : {F : Type 0} → GetSync → Rule → Word F
+obey_get_sync g SyncGiven = says (λ r. send_to g.replica (sync_view r) r)
+obey_get_sync g _ = quiet
+
+unfoldable pub on_get_sync : {F : Type 0} → GetSync → Word F
+on_get_sync g = by (λ r. obey_get_sync g (first_of (get_sync_table g r)))
+
+abbrev pub obey_sync_view : {F : Type 0} → Hash → SyncView → Rule → Word F
+obey_sync_view hash v Jumped = jump v ⨾ by (λ r. each (acknowledge_stored hash) (ops r.commit v.head)) ⨾ apply
+obey_sync_view hash v _ = quiet
+
+unfoldable pub on_sync_view : {F : Type 0} → SyncView → Word F
+on_sync_view v = naming (λ hash. by (λ r. obey_sync_view hash v (first_of (sync_view_table hash v r))))
 
 -- ---- repair of entries (rules 28, 29)
 
@@ -210,11 +229,20 @@ abbrev pub put_found : {F : Type 0} → List ℕ → Option Name → Word F
 put_found block None = quiet
 put_found block (Some name) = put_block name block ⨾ apply
 
+-- a block that has gone bad is written anew; the state has what was in it
+abbrev pub not_worn : Name → Replica → Replica
+not_worn name r = record r { worn = filter (λ m. not (m.address == name.address)) r.worn }
+
+abbrev pub mend_found : {F : Type 0} → List ℕ → Option Name → Word F
+mend_found block None = quiet
+mend_found block (Some name) = does (λ r. PutBlock name block) ⨾ change (not_worn name)
+
 abbrev pub test_of : {F : Type 0} → Setting F → F → (Name → List ℕ → Bool)
 test_of s f = s.is_block
 
 abbrev pub obey_give_block : {F : Type 0} → (Name → List ℕ → Bool) → GiveBlock → Rule → Word F
 obey_give_block is_block g BlockTaken = by (λ r. put_found g.block (find (is_wanted is_block g) r.missing))
+obey_give_block is_block g BlockMended = by (λ r. mend_found g.block (find (is_wanted is_block g) r.worn))
 obey_give_block is_block g _ = quiet
 
 unfoldable pub on_give_block : {F : Type 0} → GiveBlock → Word F
@@ -230,14 +258,14 @@ next_view = by (λ r. enter (r.view + 1))
 
 abbrev pub primary_ticks : {F : Type 0} → Word F
 primary_ticks =
-    says (send_to_all commit_message) ⨾ by (λ r. when (nat_lt r.commit (head r)) (prepare_again (r.commit + 1))) ⨾ ask
+    says (send_to_all commit_message) ⨾ by (λ r. when (nat_lt r.commit (head r)) (prepare_again (r.commit + 1))) ⨾ visit ⨾ ask
 
 abbrev pub backup_ticks : {F : Type 0} → Word F
-backup_ticks = change idler ⨾ by (λ r. if nat_le 5 r.idle then next_view else ask)
+backup_ticks = change idler ⨾ by (λ r. if nat_le 5 r.idle then next_view else visit ⨾ ask)
 
 abbrev pub changing_ticks : {F : Type 0} → Word F
 changing_ticks =
-    change idler ⨾ by (λ r. if nat_le 10 r.idle then next_view else says (send_to_all start_view_change) ⨾ speak ⨾ ask)
+    change idler ⨾ by (λ r. if nat_le 10 r.idle then next_view else says (send_to_all start_view_change) ⨾ speak ⨾ visit ⨾ ask)
 
 abbrev pub obey_tick : {F : Type 0} → Rule → Word F
 obey_tick TickedPrimary = primary_ticks
@@ -265,6 +293,8 @@ on_message (frame.GetPrepare g) = on_get_prepare g
 on_message (frame.GivePrepare g) = on_give_prepare g
 on_message (frame.GetBlock g) = on_get_block g
 on_message (frame.GiveBlock g) = on_give_block g
+on_message (frame.GetSync g) = on_get_sync g
+on_message (frame.SyncView v) = on_sync_view v
 
 abbrev pub on_event : {F : Type 0} → Event → Word F
 on_event (event.Request q) = on_request q
@@ -291,6 +321,8 @@ message_rule s f r (frame.GetPrepare g) = first_of (get_prepare_table s.hash g r
 message_rule s f r (frame.GivePrepare g) = first_of (give_prepare_table g r)
 message_rule s f r (frame.GetBlock g) = first_of (get_block_table (is_some (s.block f (asked_block g))) g r)
 message_rule s f r (frame.GiveBlock g) = first_of (give_block_table s.is_block g r)
+message_rule s f r (frame.GetSync g) = first_of (get_sync_table g r)
+message_rule s f r (frame.SyncView v) = first_of (sync_view_table s.hash v r)
 
 abbrev pub event_rule : {F : Type 0} → Setting F → F → Replica → Event → Rule
 event_rule s f r (event.Request q) = first_of (request_table q r)

@@ -55,6 +55,7 @@ before run move number p = run_outputs (take move run) ++ take number p.moved.ou
 abbrev pub CarriesEntry : ℕ → Header → Frame → Type 0
 CarriesEntry view c (frame.Prepare p) = view < p.view → p.entry.header.op ≡ c.op → p.entry.header ≡ c
 CarriesEntry view c (frame.StartView v) = view < v.view → v.body.lo < c.op → c.op ≤ v.head → slice_get v.body.headers (c.op - (v.body.lo + 1)) ≡ Some c
+CarriesEntry view c (frame.SyncView v) = view < v.view → v.body.lo < c.op → c.op ≤ v.head → slice_get v.body.headers (c.op - (v.body.lo + 1)) ≡ Some c
 CarriesEntry view c _ = ⊤
 
 -- of an entry that is committed in a view: what is said in a later one

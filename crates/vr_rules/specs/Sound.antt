@@ -9,6 +9,7 @@ use Rattle.vr_msg.specs.Logs.{IsEntryAt, IsStatement}
 use Rattle.vr_msg.specs.Numbers.{IsNumber}
 use Rattle.vr_msg.specs.Spelling.{AreHeaders, known}
 use Rattle.vr_sess.specs.Sessions.{HaveNumbers}
+use Rattle.vr_super.specs.Copies.{IsGood}
 use Rattle.vr_rules.specs.Replica.{Replica, head, header_at, window_end}
 
 -- checkpoint, applied, commit number, head and window stand in this order
@@ -62,8 +63,8 @@ pub record IsSound (r : Replica) : Type 0 where
 abbrev pub IsNameBytes : List ℕ → Type 0
 IsNameBytes bytes = (length bytes ≡ 16) × IsBytes bytes
 
--- What it can save of itself beside: its numbers have their types, its root is that of a checkpoint, and the header at its head is
--- known, where that isn't 0.
+-- What it can save of itself beside: its numbers have their types, its root is that of a checkpoint, its last saved value makes a good copy,
+-- and the header at its head is known, where that isn't 0.
 pub record IsSavable (r : Replica) : Type 0 where
   pub cluster : r.cluster < 2 ^ 64
   pub view : r.view < 2 ^ 32
@@ -72,4 +73,6 @@ pub record IsSavable (r : Replica) : Type 0 where
   pub name : IsNameBytes r.root.sum.0
   -- without a checkpoint there is no root
   pub none : r.checkpoint ≡ 0 → (r.root.address ≡ 0) × (is_zeros r.root.sum.0 ≡ true)
+  -- what the superblock is mended from makes a good copy
+  pub saved : IsGood r.saved
   pub top : 0 < head r → is_some (header_at r (head r)) ≡ true

@@ -1,6 +1,6 @@
 -- The words of which rules are made.
 use Rattle.std.specs.Prelude.{ℕ, ◌+◌, ◌-◌, ◌%◌, ◌==◌, ◌&&◌, ◌||◌, not, min, max, Bool, true, false, nat_lt, nat_le, List, [], ◌∷◌, ◌++◌, length, map, replicate, filter_map, find, slice_get, slice_index_or, Option, Some, None, is_some, Result, Ok, Err, if◌then◌else◌}
-use Rattle.std.specs.List.{range_with_len, prefix_len}
+use Rattle.std.specs.List.{list_any, range_with_len, prefix_len}
 use Rattle.std.specs.Option.{option_and_then, option_map_or}
 use Rattle.vr_base.specs.Groups.{quorums_of}
 use Rattle.vr_base.specs.declared.replicas.Replicas.{Replicas}
@@ -12,6 +12,7 @@ use Rattle.vr_header.specs.Made.{Whole}
 use Rattle.vr_header.specs.Names.{name_by}
 use Rattle.vr_header.specs.Same.{same_header}
 use Rattle.vr_msg.specs.declared.frame.Frame.{Frame}
+use Rattle.vr_msg.specs.declared.frame.SyncView.{SyncView}
 use Rattle.vr_msg.specs.declared.output.Output.{Output}
 use Rattle.vr_msg.specs.declared.output.Output.TheVariants as output
 use Rattle.vr_msg.specs.declared.statement.Statement.{Statement}
@@ -29,9 +30,10 @@ use Rattle.vr_grid.specs.declared.name.Name.{Name}
 use Rattle.vr_ckpt.specs.declared.found.Load.{Load}
 use Rattle.vr_ckpt.specs.declared.found.Load.TheVariants.{Loaded, Missing}
 use Rattle.vr_ckpt.specs.declared.saving.SavedCheckpoint as checkpoint
+use Rattle.vr_ckpt.specs.declared.table.Payload.{Payload}
 use Rattle.vr_ckpt.specs.declared.table.PayloadTable.{PayloadTable}
 use Rattle.vr_rules.specs.Replica.{Replica, replication, view_change, is_started, is_primary, last_view, window_end, part_at, header_at, parts_from, head, run, is_here, is_absent, trimmed, ackers_at, statement_of, forgetting, with_part}
-use Rattle.vr_rules.specs.Steps.{Effect, Write, Save, Checkpoint, Setting, Word, ◌⨾◌, quiet, change, does, says, by, naming, reading, when, times, each}
+use Rattle.vr_rules.specs.Steps.{Effect, Write, Rewrite, Save, Mend, Checkpoint, Setting, Word, ◌⨾◌, quiet, change, does, says, by, naming, reading, when, times, each}
 use Rattle.vr_rules.specs.Outputs.{applied_reply, commit_line, do_view_change, get_block, get_prepare, prepare, prepare_ok, send_to, send_to_all, start_view, start_view_change, to_primary, wait_line}
 
 -- ---- Save: the superblock takes the present values, and the known headers that reach the head
@@ -145,6 +147,7 @@ with_checkpoint c r = record r {
   checkpoint = r.applied;
   root = c.root;
   table = c.table;
+  worn = [];
   parts = r.parts ++ replicate (r.applied - r.checkpoint) Nothing;
   ackers = r.ackers ++ replicate (r.applied - r.checkpoint) no_replicas;
 }
@@ -264,6 +267,47 @@ taken l r = forgetting (record r {
 unfoldable pub take : {F : Type 0} → Log → Word F
 take l = change (taken l) ⨾ save
 
+-- ---- Jump: the log of a view is taken over with a later checkpoint
+
+abbrev pub sync_log : SyncView → Log
+sync_log v = record { view = v.view; lo = v.body.lo; headers = v.body.headers; head = v.head; commit = v.commit }
+
+-- Above the own commit number nothing confirms what is known up to where the log begins. The ops from there up to the checkpoint are
+-- known, and not stored. Those above it are as in a log that is taken over.
+unfoldable pub jumped_part : SyncView → Replica → ℕ → Part
+jumped_part v r k =
+    if nat_le k v.body.lo then (if nat_le k r.commit then part_at r k else Nothing)
+    else (if nat_le k v.checkpoint then option_map_or Lost (log_header (sync_log v) k) Nothing
+    else (if nat_le k v.head then option_map_or (λ e. replaced_by e (part_at r k)) (log_header (sync_log v) k) (part_at r k)
+    else above_end (sync_log v) r (part_at r k)))
+
+-- the ops from the first one to the end of the later window
+abbrev pub jumped_ops : SyncView → Replica → List ℕ
+jumped_ops v r = range_with_len r.first (v.checkpoint + 65 - r.first)
+
+-- all that is up to the checkpoint counts as applied, and its state is still to be had: the root is missing
+unfoldable pub jumped : SyncView → Replica → Replica
+jumped v r =
+    let root : Name = record { address = v.root_address; sum = v.root_name } in
+    forgetting (record r {
+      view = v.view;
+      log_view = v.view;
+      commit = max r.commit v.commit;
+      applied = v.checkpoint;
+      checkpoint = v.checkpoint;
+      root = root;
+      missing = root ∷ [];
+      worn = [];
+      parts = map (jumped_part v r) (jumped_ops v r);
+      ackers = map (λ k. no_replicas) (jumped_ops v r);
+      heard = no_replicas;
+      statements = no_statements r;
+      idle = 0;
+    })
+
+unfoldable pub jump : {F : Type 0} → SyncView → Word F
+jump v = change (jumped v) ⨾ save
+
 -- ---- Try: the primary of a view that isn't started chooses its log
 
 -- an entry that can be read, to all others
@@ -333,17 +377,73 @@ turned r = record r { turn = (r.turn + 1) % (r.n - 1) }
 unfoldable pub ask_peer : {F : Type 0} → (Replica → Frame) → Word F
 ask_peer message = says (λ r. send_to (peer r) (message r) r) ⨾ change turned
 
--- the header of the least op above the applied ones whose entry is absent
+-- the header of the least op above the applied ones whose entry is absent, or else of the least above the checkpoint
 abbrev pub least_absent : Replica → Option Header
-least_absent r = option_and_then header_of (find is_absent (parts_from r (r.applied + 1)))
+least_absent r =
+    option_and_then header_of (option_map_or Some (find is_absent (parts_from r (r.applied + 1))) (find is_absent (parts_from r (r.checkpoint + 1))))
 
-abbrev pub ask_for : {F : Type 0} → List Name → Option Header → Word F
-ask_for (name ∷ names) absent = ask_peer (get_block name)
-ask_for [] (Some h) = naming (λ hash. ask_peer (get_prepare hash h))
-ask_for [] None = quiet
+abbrev pub ask_for : {F : Type 0} → List Name → Option Header → List Name → Word F
+ask_for (name ∷ names) absent worn = ask_peer (get_block name)
+ask_for [] (Some h) worn = naming (λ hash. ask_peer (get_prepare hash h))
+ask_for [] None (name ∷ names) = ask_peer (get_block name)
+ask_for [] None [] = quiet
 
 unfoldable pub ask : {F : Type 0} → Word F
-ask = by (λ r. ask_for r.missing (least_absent r))
+ask = by (λ r. ask_for r.missing (least_absent r) r.worn)
+
+-- ---- Visit: one place of the disk after the other is looked at, and mended where the replica can
+
+-- the blocks of the checkpoint: its root, and those of its table in order
+abbrev pub blocks_of : Replica → List Name
+blocks_of r =
+    if r.checkpoint == 0 then [] else r.root ∷ (map (λ (p : Payload). p.name) r.table.sessions ++ map (λ (p : Payload). p.name) r.table.keys)
+
+-- the slots, the superblock, the checkpoint's blocks
+abbrev pub places : Replica → ℕ
+places r = 65 + length (blocks_of r)
+
+-- the op of the window that has this slot
+abbrev pub op_of_slot : Replica → ℕ → ℕ
+op_of_slot r slot = r.checkpoint + 1 + (slot + 63 - r.checkpoint % 64) % 64
+
+-- the header sector of a slot is written again where it doesn't read as that of the entry
+abbrev pub mend_header : {F : Type 0} → Header → Option Header → Word F
+mend_header h None = does (λ r. Rewrite h)
+mend_header h (Some d) = when (not (same_header d h)) (does (λ r. Rewrite h))
+
+abbrev pub header_read : {F : Type 0} → ℕ → Setting F → F → Option Header
+header_read op s f = s.header f (op % 64)
+
+unfoldable pub visit_slot : {F : Type 0} → ℕ → Word F
+visit_slot op = with_entry_at op (λ e. reading (header_read op) (mend_header e.header))
+
+-- a block of the grid that has gone bad, once
+abbrev pub with_worn : Name → Replica → Replica
+with_worn name r =
+    record r { worn = if nat_lt name.address 128 && not (list_any (λ m. m.address == name.address) r.worn) then r.worn ++ name ∷ [] else r.worn }
+
+abbrev pub visit_read : {F : Type 0} → Name → Option (List ℕ) → Word F
+visit_read name None = change (with_worn name)
+visit_read name (Some block) = quiet
+
+unfoldable pub visit_block : {F : Type 0} → Option Name → Word F
+visit_block None = quiet
+visit_block (Some name) = reading (λ s f. s.block f name) (visit_read name)
+
+unfoldable pub visit_place : {F : Type 0} → ℕ → Word F
+visit_place at =
+    by (λ r. if nat_lt at 64 then visit_slot (op_of_slot r at)
+    else (if at == 64 then does (λ r. Mend r.saved) else visit_block (slice_get (blocks_of r) (at - 65))))
+
+-- the cursor is in its range, whatever the checkpoint before had
+abbrev pub place_now : Replica → ℕ
+place_now r = if nat_lt r.cursor (places r) then r.cursor else 0
+
+abbrev pub with_cursor : ℕ → Replica → Replica
+with_cursor at r = record r { cursor = (at + 1) % places r }
+
+unfoldable pub visit : {F : Type 0} → Word F
+visit = by (λ r. when (is_loaded r) (visit_place (place_now r) ⨾ change (with_cursor (place_now r))))
 
 -- ---- loading a checkpoint
 

@@ -67,14 +67,22 @@ pub enum Rule {
     EntryTaken,
     /// 30, a get_block: the block is given.
     BlockGiven,
-    /// 31, a give_block: the block is stored.
+    /// 31, a give_block: the block, which was missing, is stored.
     BlockTaken,
+    /// 31 too: it is stored in place of one that has gone bad.
+    BlockMended,
     /// 32, a tick: at the primary.
     TickedPrimary,
     /// 33: at another replica of a view that has begun.
     TickedBackup,
     /// 34: at a replica whose view hasn't begun.
     TickedChanging,
+    /// 35, a start_view: its log is out of reach, and the view's checkpoint is asked for.
+    SyncAsked,
+    /// 36, a get_sync: the checkpoint and the log of the view are given.
+    SyncGiven,
+    /// 37, a sync_view: the checkpoint and the log are taken over.
+    Jumped,
 }
 
 impl Rule {
@@ -114,10 +122,13 @@ impl Rule {
             Rule::EntryGiven => 28,
             Rule::EntryTaken => 29,
             Rule::BlockGiven => 30,
-            Rule::BlockTaken => 31,
+            Rule::BlockTaken | Rule::BlockMended => 31,
             Rule::TickedPrimary => 32,
             Rule::TickedBackup => 33,
             Rule::TickedChanging => 34,
+            Rule::SyncAsked => 35,
+            Rule::SyncGiven => 36,
+            Rule::Jumped => 37,
         }
     }
 }

@@ -8,7 +8,7 @@ ghost use Rattle.vr_rules.specs.Laws.{
   SectorsFit,
   StepsArePresent,
   StepsSaveWell,
-  WaitsChangeNoPart,
+  WaitsOnlyLose,
 };
 
 /// A rule that says nothing leaves the replica as it is, and its step has no effects.
@@ -21,9 +21,10 @@ pub fn only_hearing_is_done<F>()
     ensures { OnlyHearingIsDone F }
 {}
 
-/// A step that puts out that the choice waits changes nothing of what is known of the ops.
-pub fn waits_change_no_part<F>()
-    ensures { WaitsChangeNoPart F }
+/// A step that puts out that the choice waits changes nothing of what is known of the ops, but that a tick finds the entry of the slot
+/// that it visits lost, where it doesn't read.
+pub fn waits_only_lose<F>()
+    ensures { WaitsOnlyLose F }
 {}
 
 /// Messages, replies and lines of a step name its replica and are of the replica's view at the end, go to another replica of its
