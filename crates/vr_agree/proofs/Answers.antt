@@ -1,5 +1,5 @@
 -- Every step of every replica: its replies are true of the log, and it keeps the state.
-use Rattle.std.proofs.Common.{ℕ, ◌+◌, ◌-◌, ◌≤◌, ◌≡◌, ◌∙◌, arith, refl, subst, Bool, true, false, List, [], ◌∷◌, length, take, Option, Some, None}
+use Rattle.std.proofs.Common.{ℕ, ◌+◌, ◌-◌, ◌≤◌, ◌≡◌, ◌∙◌, ◌⊎◌, inl, inr, arith, refl, subst, Bool, true, false, List, [], ◌∷◌, length, take, Option, Some, None}
 use Rattle.std.specs.Prelude.{nat_lt, nat_le, not, is_some, Result, Ok, Err}
 use Rattle.std.specs.List.{find}
 use Rattle.std.specs.Option.{option_map_or}
@@ -25,6 +25,7 @@ use Rattle.vr_msg.specs.declared.frame.Commit.{Commit}
 use Rattle.vr_msg.specs.declared.frame.DoViewChange.{DoViewChange}
 use Rattle.vr_msg.specs.declared.frame.GetBlock.{GetBlock}
 use Rattle.vr_msg.specs.declared.frame.GetPrepare.{GetPrepare}
+use Rattle.vr_msg.specs.declared.frame.GetSync.{GetSync}
 use Rattle.vr_msg.specs.declared.frame.GetView.{GetView}
 use Rattle.vr_msg.specs.declared.frame.GiveBlock.{GiveBlock}
 use Rattle.vr_msg.specs.declared.frame.GivePrepare.{GivePrepare}
@@ -32,6 +33,7 @@ use Rattle.vr_msg.specs.declared.frame.Prepare.{Prepare}
 use Rattle.vr_msg.specs.declared.frame.PrepareOk.{PrepareOk}
 use Rattle.vr_msg.specs.declared.frame.StartView.{StartView}
 use Rattle.vr_msg.specs.declared.frame.StartViewChange.{StartViewChange}
+use Rattle.vr_msg.specs.declared.frame.SyncView.{SyncView}
 use Rattle.vr_msg.specs.declared.reply.ReplyFields.{ReplyFields}
 use Rattle.vr_msg.specs.declared.reply.ReplyKind.{ReplyKind}
 use Rattle.vr_msg.specs.declared.reply.ReplyKind.TheVariants as reply
@@ -39,19 +41,20 @@ use Rattle.vr_msg.specs.declared.request.RequestFields.{RequestFields}
 use Rattle.vr_msg.specs.declared.statement.Statement.{Statement}
 use Rattle.vr_msg.specs.Choice.{ops}
 use Rattle.vr_apply.proofs.Stored.{repeat_stored}
-use Rattle.vr_rules.specs.Outputs.{replies, send_to, send_to_all, prepare, commit_message, start_view, start_view_change, get_view, give_prepare, give_block}
+use Rattle.vr_rules.specs.Outputs.{replies, send_to, send_to_all, prepare, commit_message, start_view, start_view_change, get_view, get_sync, sync_view, give_prepare, give_block}
 use Rattle.vr_rules.specs.declared.asker.Asker.{Asker}
 use Rattle.vr_rules.specs.Replica.{Replica, is_frozen, part_at, header_at, head, is_here}
 use Rattle.vr_rules.specs.Steps.{Step, Setting, Word, ◌⨾◌, quiet, change, does, says, by, naming, reading, when, each, outputs, after_all, PutBlock}
-use Rattle.vr_rules.specs.Words.{rested, write, accept, enter, apply, advance, learn, is_loaded, load, loads, loaded_state, checkpoint_at, try, speak, resend, ask, prepare_again}
+use Rattle.vr_rules.specs.Words.{rested, write, accept, enter, apply, advance, learn, is_loaded, load, loads, loaded_state, checkpoint_at, try, speak, resend, ask, prepare_again, visit}
 use Rattle.vr_rules.specs.Words as word
-use Rattle.vr_rules.specs.Deciding.{Hash, session_answer, request_table, prepare_table, prepare_ok_table, commit_table, start_view_change_table, do_view_change_table, log_of, start_view_table, get_view_table, get_prepare_table, give_prepare_table, get_block_table, is_from, is_wanted, give_block_table, tick_table}
-use Rattle.vr_rules.specs.Rules.{asker_by, next_entry, make, stored_reply, obey_request, on_request, acknowledge, ask_view, obey_prepare, on_prepare, acknowledged, obey_prepare_ok, on_prepare_ok, obey_commit, on_commit, heard_of, obey_start_view_change, on_start_view_change, with_statement, obey_do_view_change, on_do_view_change, acknowledge_stored, obey_start_view, on_start_view, obey_get_view, on_get_view, obey_get_prepare, on_get_prepare, obey_give_prepare, on_give_prepare, asked_block, block_at, give_read, obey_get_block, on_get_block, without, put_block, put_found, obey_give_block, on_give_block, idler, next_view, obey_tick, on_tick, on_message, on_event, react}
+use Rattle.vr_rules.specs.Deciding.{Hash, session_answer, request_table, prepare_table, prepare_ok_table, commit_table, start_view_change_table, do_view_change_table, log_of, start_view_table, get_view_table, get_prepare_table, give_prepare_table, get_block_table, is_from, is_wanted, give_block_table, tick_table, get_sync_table, sync_view_table}
+use Rattle.vr_rules.specs.Rules.{asker_by, next_entry, make, stored_reply, obey_request, on_request, acknowledge, ask_view, obey_prepare, on_prepare, acknowledged, obey_prepare_ok, on_prepare_ok, obey_commit, on_commit, heard_of, obey_start_view_change, on_start_view_change, with_statement, obey_do_view_change, on_do_view_change, acknowledge_stored, obey_start_view, on_start_view, obey_get_view, on_get_view, obey_get_prepare, on_get_prepare, obey_give_prepare, on_give_prepare, asked_block, block_at, give_read, obey_get_block, on_get_block, without, put_block, put_found, mend_found, not_worn, obey_give_block, on_give_block, obey_get_sync, on_get_sync, obey_sync_view, on_sync_view, idler, next_view, obey_tick, on_tick, on_message, on_event, react}
 use Rattle.vr_rules.proofs.Ruling.{by_rows}
 use Rattle.vr_rules.specs.Commitment.{IsReplyOf}
-use Rattle.vr_agree.specs.Answering.{IsNumbered, HasState, PutsWell, lines, Lined, Told, Leaves}
-use Rattle.vr_agree.proofs.Words.{Keeps, FairAt, IsFair, fair_at_then, fair_then, fair_quiet, fair_change, fair_says, fair_by, fair_naming, fair_reading, fair_if, fair_when, fair_each}
-use Rattle.vr_agree.proofs.Applies.{fair_with_entry, fair_apply, fair_advance, fair_learn, fair_rested, fair_sends, fair_enter, fair_write, fair_accept, fair_take, fair_again, fair_try, fair_speak, fair_resend, fair_ask}
+use Rattle.vr_agree.specs.Answering.{IsNumbered, HasState, Jumps, PutsWell, lines, Lined, Told, Leaves}
+use Rattle.vr_agree.proofs.Words.{Keeps, FairAt, IsFair, fair_at_then, fair_then, fair_quiet, fair_change, fair_does, fair_says, fair_by, fair_naming, fair_reading, fair_if, fair_when, fair_each}
+use Rattle.vr_agree.proofs.Applies.{fair_with_entry, fair_apply, fair_advance, fair_learn, fair_rested, fair_sends, fair_enter, fair_write, fair_accept, fair_take, fair_again, fair_try, fair_speak, fair_resend, fair_looks}
+use Rattle.vr_agree.proofs.Jumps.{sync_jumps}
 
 keeps_acknowledged : (a : PrepareOk) (r : Replica) → Keeps r (acknowledged a r)
 keeps_acknowledged a r = record { index = refl; applied = refl; state = refl; missing = refl }
@@ -276,9 +279,13 @@ module _ {F : Type 0} (log : List Whole) (numbers : IsNumbered log) where
         λ n0. (
           λ e. fair_then log (word.take (log_of v)) _ (fair_take log numbers (log_of v))
               (fair_then log (by (λ r. each (acknowledge_stored hash) (ops r.commit v.head))) apply (fair_by log _ (λ r. fair_each log (acknowledge_stored hash) (ops r.commit v.head) (fair_acknowledge_stored hash))) (fair_apply log numbers)),
-          λ n1. idle,
+          λ n1. (λ e. fair_tell v.replica (get_sync v.view), λ n2. idle),
         ),
       )))
+
+  fair_get_sync : (g : GetSync) → IsFair {F = F} log (on_get_sync g)
+  unfolding on_get_sync
+  fair_get_sync g = fair_by log _ (λ r. by_rows (λ z. IsFair {F = F} log (obey_get_sync g z)) (get_sync_table g r) (λ e. fair_quiet log, λ n0. (λ e. fair_tell g.replica sync_view, λ n1. fair_quiet log)))
 
   fair_get_view : (g : GetView) → IsFair {F = F} log (on_get_view g)
   unfolding on_get_view
@@ -319,6 +326,11 @@ module _ {F : Type 0} (log : List Whole) (numbers : IsNumbered log) where
   fair_found block p None s r f puts = (fair_quiet log).each s r f
   fair_found block p (Some name) s r f puts = fair_at_then log (put_block name block) apply s r f (fair_put name block s r f (puts name refl)) ((fair_apply log numbers).each s _ _)
 
+  fair_mend_found : (block : List ℕ) (o : Option Name) → IsFair {F = F} log (mend_found block o)
+  unfolding outputs
+  fair_mend_found block None = fair_quiet log
+  fair_mend_found block (Some name) = fair_then log (does (λ r. PutBlock name block)) (change (not_worn name)) (fair_does log (λ r. PutBlock name block) (λ r. tt)) (fair_change log (not_worn name) (λ r. record { index = refl; applied = refl; state = refl; missing = refl }))
+
   -- what is left where a replica that isn't frozen puts a missing block in its place
   abbrev PutsFree : Setting F → Replica → F → Event → Type 0
   PutsFree s r f e =
@@ -328,34 +340,54 @@ module _ {F : Type 0} (log : List Whole) (numbers : IsNumbered log) where
   unfolding on_give_block reading by
   fair_give_block g s r f puts =
       let idle = (fair_quiet log).each s r f in
-      by_rows (λ z. FairAt log s r f (obey_give_block s.is_block g z)) (give_block_table s.is_block g r)
-      (λ e. idle, λ n0. (λ e. fair_found g.block (is_wanted s.is_block g) (find (is_wanted s.is_block g) r.missing) s r f (λ name there. puts g name refl (not-false _ n0) there), λ n1. idle))
+      by_rows (λ z. FairAt log s r f (obey_give_block s.is_block g z)) (give_block_table s.is_block g r) (
+        λ e. idle,
+        λ n0. (
+          λ e. fair_found g.block (is_wanted s.is_block g) (find (is_wanted s.is_block g) r.missing) s r f (λ name there. puts g name refl (not-false _ n0) there),
+          λ n1. (λ e. (fair_mend_found g.block (find (is_wanted s.is_block g) r.worn)).each s r f, λ n2. idle),
+        ),
+      )
 
   fair_tick : IsFair {F = F} log on_tick
   unfolding on_tick
   fair_tick = fair_by log _ (λ r.
       let next : IsFair {F = F} log next_view = fair_by log _ (λ r. fair_enter log numbers (r.view + 1)) in
-      let asks = fair_ask log numbers in
+      let asks = fair_looks log numbers in
       let idles : IsFair {F = F} log (change idler) = fair_change log idler keeps_idler in
       by_rows (λ z. IsFair {F = F} log (obey_tick z)) (tick_table r) (
         λ e. fair_then log (says (send_to_all commit_message)) _ (fair_sends log numbers commit_message)
-            (fair_then log (by (λ r. when (nat_lt r.commit (head r)) (prepare_again (r.commit + 1)))) ask (fair_by log _ (λ r. fair_when log (nat_lt r.commit (head r)) (prepare_again (r.commit + 1)) (fair_again log numbers (r.commit + 1)))) asks),
+            (fair_then log (by (λ r. when (nat_lt r.commit (head r)) (prepare_again (r.commit + 1)))) (visit ⨾ ask) (fair_by log _ (λ r. fair_when log (nat_lt r.commit (head r)) (prepare_again (r.commit + 1)) (fair_again log numbers (r.commit + 1)))) asks),
         λ n0. (
-          λ e. fair_then log (change idler) _ idles (fair_by log _ (λ r. fair_if log (nat_le 5 r.idle) next_view ask next asks)),
+          λ e. fair_then log (change idler) _ idles (fair_by log _ (λ r. fair_if log (nat_le 5 r.idle) next_view (visit ⨾ ask) next asks)),
           λ n1. (
             λ e. fair_then log (change idler) _ idles (fair_by log _ (λ r. fair_if log (nat_le 10 r.idle) next_view _ next
-                (fair_then log (says (send_to_all start_view_change)) _ (fair_sends log numbers start_view_change) (fair_then log speak ask (fair_speak log numbers) asks)))),
+                (fair_then log (says (send_to_all start_view_change)) _ (fair_sends log numbers start_view_change) (fair_then log speak (visit ⨾ ask) (fair_speak log numbers) asks)))),
             λ n2. fair_quiet log,
           ),
         ),
       ))
 
   module _ (s : Setting F) (r : Replica) (f : F) (within : r.applied ≤ length log) where
-    of_word : (w : Word F) → IsFair log w → RightAt s r f w
-    of_word w h = right w s r f (h.each s r f)
+    -- or a checkpoint of another replica is taken over
+    abbrev AnswersAt : Word F → Type 0
+    AnswersAt w = HasState log r → Lined log r.index r.applied (outputs (w s r f).script) → Leaves log r false (w s r f) ⊎ Jumps r (w s r f)
 
-    right_message : (m : Frame) → PutsFree s r f (event.Deliver m) → RightAt s r f (on_message m)
-    right_message (frame.Request q) puts = right_request s r f within q
+    of_right : (w : Word F) → RightAt s r f w → AnswersAt w
+    of_right w h had lined = inl (h had lined)
+
+    of_word : (w : Word F) → IsFair log w → AnswersAt w
+    of_word w h = of_right w (right w s r f (h.each s r f))
+
+    right_sync : (v : SyncView) → AnswersAt (on_sync_view v)
+    unfolding on_sync_view naming by
+    right_sync v =
+        let idle = of_word quiet (fair_quiet log) in
+        by_rows (λ z. AnswersAt (obey_sync_view s.hash v z)) (sync_view_table s.hash v r) (λ c. idle, λ n0. (λ c. λ had lined. inr (sync_jumps s.hash v s r f), λ n1. idle))
+
+    right_message : (m : Frame) → PutsFree s r f (event.Deliver m) → AnswersAt (on_message m)
+    right_message (frame.Request q) puts = of_right (on_request q) (right_request s r f within q)
+    right_message (frame.GetSync g) puts = of_word (on_get_sync g) (fair_get_sync g)
+    right_message (frame.SyncView v) puts = right_sync v
     right_message (frame.Reply a) puts = of_word quiet (fair_quiet log)
     right_message (frame.Prepare p) puts = of_word (on_prepare p) (fair_prepare p)
     right_message (frame.PrepareOk a) puts = of_word (on_prepare_ok a) (fair_prepare_ok a)
@@ -367,18 +399,18 @@ module _ {F : Type 0} (log : List Whole) (numbers : IsNumbered log) where
     right_message (frame.GetPrepare g) puts = of_word (on_get_prepare g) (fair_get_prepare g)
     right_message (frame.GivePrepare g) puts = of_word (on_give_prepare g) (fair_give_prepare g)
     right_message (frame.GetBlock g) puts = of_word (on_get_block g) (fair_get_block g)
-    right_message (frame.GiveBlock g) puts = right (on_give_block g) s r f (fair_give_block g s r f puts)
+    right_message (frame.GiveBlock g) puts = of_right (on_give_block g) (right (on_give_block g) s r f (fair_give_block g s r f puts))
 
-    right_event : (e : Event) → PutsFree s r f e → RightAt s r f (on_event e)
-    right_event (event.Request q) puts = right_request s r f within q
+    right_event : (e : Event) → PutsFree s r f e → AnswersAt (on_event e)
+    right_event (event.Request q) puts = of_right (on_request q) (right_request s r f within q)
     right_event (event.Deliver m) puts = right_message m puts
     right_event event.Tick puts = of_word on_tick fair_tick
 
     -- every step
-    pub right_react : (e : Event) → PutsWell log s r f e → HasState log r → Lined log r.index r.applied (outputs (react e s r f).script) → Leaves log r false (react e s r f)
+    pub right_react : (e : Event) → PutsWell log s r f e → HasState log r → Lined log r.index r.applied (outputs (react e s r f).script) → Leaves log r false (react e s r f) ⊎ Jumps r (react e s r f)
     unfolding react by
     right_react e puts =
-        let go : (b : Bool) → is_frozen r ≡ b → RightAt s r f (when (not b) (on_event e)) = elim [
+        let go : (b : Bool) → is_frozen r ≡ b → AnswersAt (when (not b) (on_event e)) = elim [
           | false ↦ λ free. right_event e (λ g name is from there. puts g name is free from there)
           | true ↦ λ frozen. of_word quiet (fair_quiet log)
         ] in

@@ -1,6 +1,7 @@
 -- Apply: each commit line, with the reply after it; and the other words, which reply nothing.
 use Rattle.std.proofs.Common.{ℕ, suc, ◌+◌, ◌-◌, ◌≡◌, ◌∙◌, arith, refl, sym, ap, subst, Bool, true, false, cond, eqb, List, [], ◌∷◌, ◌++◌, map, length, take, Option, Some, None}
-use Rattle.std.specs.Prelude.{slice_get, nat_lt, not, ◌&&◌}
+use Rattle.std.specs.Prelude.{slice_get, nat_lt, not, ◌&&◌, ◌==◌}
+use Rattle.vr_header.specs.Same.{same_header}
 use Rattle.std.proofs.lemmas.Bool.{and_parts, eq-eqb, eqb-true}
 use Rattle.std.proofs.lemmas.List.{nil_from_length}
 use Rattle.std.proofs.lemmas.Option.{slice_get_within}
@@ -24,13 +25,13 @@ use Rattle.vr_grid.specs.declared.name.Name.{Name}
 use Rattle.vr_apply.proofs.Stored.{answer_next, repeat_stored, state_next}
 use Rattle.vr_rules.specs.Outputs.{kind_of, replies, asker_of, commit_line, applied_reply, send, send_to, send_to_all, others, to_primary, prepare, prepare_ok, start_view, start_view_change, do_view_change, get_block, get_prepare, wait_line}
 use Rattle.vr_rules.specs.Replica.{Replica, leads, part_at, with_part, forgetting, last_view, is_primary, is_started, is_here}
-use Rattle.vr_rules.specs.Steps.{Say, Setting, Word, ◌⨾◌, quiet, change, does, says, by, reading, when, times, each, outputs, after_all}
-use Rattle.vr_rules.specs.Words.{Log, rested, entered, enter, saves, with_saved, save, writes, stored, write, accept, entry_of, lost, or_lost, with_entry, with_entry_at, applied, checkpoints, with_checkpoint, checkpoint_of, make_checkpoint, is_checkpoint, apply_entry, is_loaded, apply_next, apply, advanced, advance, learned, learn, taken, take as take_over, prepare_again, choose_line, begin_view, try_log, may_take, obey_choice, chosen_log, decided, stated, try, speak, resend, turned, ask_peer, ask_for, ask, least_absent, peer}
+use Rattle.vr_rules.specs.Steps.{Mend, Rewrite, Say, Setting, Word, ◌⨾◌, quiet, change, does, says, by, reading, when, times, each, outputs, after_all}
+use Rattle.vr_rules.specs.Words.{Log, rested, entered, enter, saves, with_saved, save, writes, stored, write, accept, entry_of, lost, or_lost, with_entry, with_entry_at, applied, checkpoints, with_checkpoint, checkpoint_of, make_checkpoint, is_checkpoint, apply_entry, is_loaded, apply_next, apply, advanced, advance, learned, learn, taken, take as take_over, prepare_again, choose_line, begin_view, try_log, may_take, obey_choice, chosen_log, decided, stated, try, speak, resend, turned, ask_peer, ask_for, ask, least_absent, peer, blocks_of, header_read, mend_header, op_of_slot, place_now, visit, visit_block, visit_place, visit_read, visit_slot, with_cursor, with_worn}
 use Rattle.vr_safe.specs.Chains.{Every}
 use Rattle.vr_safe.proofs.Repairs.{every_mapped}
 use Rattle.vr_rules.specs.Commitment.{IsReplyOf}
-use Rattle.vr_agree.specs.Answering.{IsNumbered, HasState, lines, Lined, Told, Leaves}
-use Rattle.vr_agree.proofs.Words.{IsMute, Keeps, FairAt, IsFair, fair_at_then, fair_then, fair_quiet, fair_change, fair_does, fair_says, fair_by, fair_naming, fair_reading, fair_if, fair_when, fair_times, fair_each}
+use Rattle.vr_agree.specs.Answering.{IsMute, IsNumbered, HasState, lines, Lined, Told, Leaves}
+use Rattle.vr_agree.proofs.Words.{Keeps, FairAt, IsFair, fair_at_then, fair_then, fair_quiet, fair_change, fair_does, fair_says, fair_by, fair_naming, fair_reading, fair_if, fair_when, fair_times, fair_each}
 
 -- ---- changes that leave the state
 
@@ -255,11 +256,47 @@ module _ {F : Type 0} (log : List Whole) (numbers : IsNumbered log) where
   unfolding ask_peer
   fair_ask_peer message = fair_then log (says (λ r. send_to (peer r) (message r) r)) (change turned) (fair_says log _ (λ r. (tt, tt))) (fair_change log turned keeps_turned)
 
-  fair_ask_for : (names : List Name) (absent : Option Header) → IsFair {F = F} log (ask_for names absent)
-  fair_ask_for (name ∷ names) absent = fair_ask_peer (get_block name)
-  fair_ask_for [] (Some h) = fair_naming log _ (λ hash. fair_ask_peer (get_prepare hash h))
-  fair_ask_for [] None = fair_quiet log
+  fair_ask_for : (names : List Name) (absent : Option Header) (worn : List Name) → IsFair {F = F} log (ask_for names absent worn)
+  fair_ask_for (name ∷ names) absent worn = fair_ask_peer (get_block name)
+  fair_ask_for [] (Some h) worn = fair_naming log _ (λ hash. fair_ask_peer (get_prepare hash h))
+  fair_ask_for [] None (name ∷ names) = fair_ask_peer (get_block name)
+  fair_ask_for [] None [] = fair_quiet log
 
   pub fair_ask : IsFair {F = F} log ask
   unfolding ask
-  fair_ask = fair_by log _ (λ r. fair_ask_for r.missing (least_absent r))
+  fair_ask = fair_by log _ (λ r. fair_ask_for r.missing (least_absent r) r.worn)
+
+  -- ---- a visit
+
+  fair_mend_header : (h : Header) (o : Option Header) → IsFair {F = F} log (mend_header h o)
+  unfolding outputs
+  fair_mend_header h None = fair_does log (λ r. Rewrite h) (λ r. tt)
+  fair_mend_header h (Some d) = fair_when log (not (same_header d h)) _ (fair_does log (λ r. Rewrite h) (λ r. tt))
+
+  fair_visit_slot : (op : ℕ) → IsFair {F = F} log (visit_slot op)
+  unfolding visit_slot
+  fair_visit_slot op = fair_with_entry op _ (λ e. fair_reading log (header_read op) _ (fair_mend_header e.header))
+
+  fair_visit_read : (name : Name) (o : Option (List ℕ)) → IsFair {F = F} log (visit_read name o)
+  fair_visit_read name None = fair_change log (with_worn name) (λ r. record { index = refl; applied = refl; state = refl; missing = refl })
+  fair_visit_read name (Some block) = fair_quiet log
+
+  fair_visit_block : (o : Option Name) → IsFair {F = F} log (visit_block o)
+  unfolding visit_block
+  fair_visit_block None = fair_quiet log
+  fair_visit_block (Some name) = fair_reading log _ _ (fair_visit_read name)
+
+  fair_visit_place : (at : ℕ) → IsFair {F = F} log (visit_place at)
+  unfolding visit_place outputs
+  fair_visit_place at =
+      fair_by log _ (λ r. fair_if log (nat_lt at 64) _ _ (fair_visit_slot (op_of_slot r at)) (fair_if log (at == 64) _ _ (fair_does log (λ r. Mend r.saved) (λ r. tt)) (fair_visit_block (slice_get (blocks_of r) (at - 65)))))
+
+  fair_visit : IsFair {F = F} log visit
+  unfolding visit
+  fair_visit =
+      fair_by log _ (λ r. fair_when log (is_loaded r) _ (fair_then log (visit_place (place_now r)) (change (with_cursor (place_now r))) (fair_visit_place (place_now r))
+      (fair_change log (with_cursor (place_now r)) (λ q. record { index = refl; applied = refl; state = refl; missing = refl }))))
+
+  -- and then a peer is asked
+  pub fair_looks : IsFair {F = F} log (visit ⨾ ask)
+  fair_looks = fair_then log visit ask fair_visit fair_ask

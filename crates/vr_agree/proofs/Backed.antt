@@ -19,7 +19,10 @@ use Rattle.vr_msg.specs.declared.output.Sent.{Sent}
 use Rattle.vr_rules.specs.Deciding.{log_of}
 use Rattle.vr_rules.specs.Group.{Played}
 use Rattle.vr_rules.specs.Steps.{Write}
-use Rattle.vr_rules.specs.Words.{log_header}
+use Rattle.vr_rules.specs.Words.{log_header, sync_log}
+use Rattle.vr_rules.specs.Checkpoints.{IsCheckpointOf}
+use Rattle.vr_msg.specs.declared.frame.SyncView.{SyncView}
+use Rattle.vr_agree.specs.Replied.{root_told}
 use Rattle.vr_protocol.specs.Basics.{In}
 use Rattle.vr_protocol.specs.Group.{Group}
 use Rattle.vr_protocol.specs.Laws.{Durability}
@@ -84,20 +87,22 @@ module _ (cluster n : ℕ) (u : Setup) (run : List Played) (x : IsFollowed clust
           committed = subst (IsCommitted cluster n earlier b.1.0) (sym w.0.is) (back_then b.1.0 op h c);
         }
 
-    pub backed_frame : (m : Frame) → IsNumbered u (x.group move).sent m → IsBackedMessage cluster n earlier (the_log cluster n u run x) m
-    backed_frame (frame.Prepare m) f = backed_numbers m.view m.commit f
-    backed_frame (frame.Commit m) f = backed_numbers m.view m.commit f
-    backed_frame (frame.StartView m) f = backed_numbers m.view m.commit f
-    backed_frame (frame.Request m) f = tt
-    backed_frame (frame.Reply m) f = tt
-    backed_frame (frame.PrepareOk m) f = tt
-    backed_frame (frame.StartViewChange m) f = tt
-    backed_frame (frame.DoViewChange m) f = tt
-    backed_frame (frame.GetView m) f = tt
-    backed_frame (frame.GetPrepare m) f = tt
-    backed_frame (frame.GivePrepare m) f = tt
-    backed_frame (frame.GetBlock m) f = tt
-    backed_frame (frame.GiveBlock m) f = tt
+    pub backed_frame : (m : Frame) → IsNumbered u (x.group move).sent m → ((v : SyncView) → m ≡ frame.SyncView v → IsCheckpointOf cluster (the_log cluster n u run x) v.checkpoint (root_told v)) → IsBackedMessage cluster n earlier (the_log cluster n u run x) m
+    backed_frame (frame.Prepare m) f of = backed_numbers m.view m.commit f
+    backed_frame (frame.Commit m) f of = backed_numbers m.view m.commit f
+    backed_frame (frame.StartView m) f of = backed_numbers m.view m.commit f
+    backed_frame (frame.Request m) f of = tt
+    backed_frame (frame.Reply m) f of = tt
+    backed_frame (frame.PrepareOk m) f of = tt
+    backed_frame (frame.StartViewChange m) f of = tt
+    backed_frame (frame.DoViewChange m) f of = tt
+    backed_frame (frame.GetView m) f of = tt
+    backed_frame (frame.GetPrepare m) f of = tt
+    backed_frame (frame.GivePrepare m) f of = tt
+    backed_frame (frame.GetBlock m) f of = tt
+    backed_frame (frame.GiveBlock m) f of = tt
+    backed_frame (frame.GetSync m) f of = tt
+    backed_frame (frame.SyncView m) f of = (backed_numbers m.view m.commit f, of m refl)
 
     -- a commit line
     pub backed_line : NoCollision (IsHashed run (root_header cluster)) → (c : Committed) → In (output.Commit c) p.moved.outputs → IsLineOf cluster u run (x.group move).sent c.entry → IsLine cluster n earlier (the_log cluster n u run x) c
@@ -140,6 +145,12 @@ module _ (cluster n : ℕ) (u : Setup) (run : List Played) (x : IsFollowed clust
         let y = lasts.started m.replica m.view m.body.lo m.head m.commit (log_header (log_of m)) told less in
         let is : log_header (log_of m) c.op ≡ Some c = y.1 low in
         rw (lt-leb c.op m.body.lo low) at is
+    carries s (frame.SyncView m) e i = λ less low top.
+        let told = subst (λ (f : Frame). Was f) e (sent_of cluster n u run x s i) in
+        let y = lasts.started m.replica m.view m.body.lo m.head m.commit (log_header (sync_log m)) told.0 less in
+        let is : log_header (sync_log m) c.op ≡ Some c = y.1 low in
+        rw (lt-leb c.op m.body.lo low) at is
+    carries s (frame.GetSync m) e i = tt
     carries s (frame.Commit m) e i = tt
     carries s (frame.Request m) e i = tt
     carries s (frame.Reply m) e i = tt

@@ -37,6 +37,8 @@ from_is MayAsk old new from (frame.GetPrepare g) e h = tt
 from_is MayAsk old new from (frame.GivePrepare g) e h = tt
 from_is MayAsk old new from (frame.GetBlock g) e h = tt
 from_is MayAsk old new from (frame.GiveBlock g) e h = tt
+from_is MayAsk old new from (frame.GetSync g) e h = tt
+from_is MayAsk old new from (frame.SyncView v) e h = tt
 
 -- ---- choose lines: the rules' half is a law of every step (steps_choose); the machine's half is asked for
 

@@ -52,7 +52,7 @@ arrives c g at Time e h l i = rw i tt
 -- ---- the scripts of moves
 
 step_fit : (r : Replica) (e : Event) (d : Lying) → IsFitReplica r → IsEvent e → ReadsWell lying d → All IsFit (stepped e r d).script
-step_fit r e d h m k = (steps_fit lying d r e disks_fit.lies disks_fit.roots k h.sound h.savable h.missing m).each
+step_fit r e d h m k = (steps_fit lying d r e disks_fit.lies disks_fit.roots k h.sound h.savable h.blocks m).each
 
 pub opening_fit : (c n i : ℕ) (v : SuperValue) (d : Lying) → IsFitValue c n i v → ReadsWell lying d → All IsFit (opening_script v d)
 opening_fit c n i v d g k = subst (λ (x : Step). All IsFit x.script) (opening_in_two v d) (openings_fit lying d v disks_fit.lies disks_fit.roots k g.0).each

@@ -1,5 +1,5 @@
 -- The commit lines of each rule come in order.
-use Rattle.std.proofs.Common.{ℕ, ◌+◌, ◌-◌, ◌^◌, ◌≤◌, ◌≡◌, ◌≢◌, arith, refl, Bool, true, false, cond, List, [], map, min, max, Option, Some, None}
+use Rattle.std.proofs.Common.{ℕ, ◌+◌, ◌-◌, ◌^◌, ◌≤◌, ◌≡◌, ◌≢◌, inl, inr, arith, refl, Bool, true, false, cond, List, [], map, min, max, Option, Some, None}
 use Rattle.std.specs.Prelude.{nat_lt, nat_le, not, is_some, ◌&&◌}
 use Rattle.std.specs.List.{find, prefix_len}
 use Rattle.std.proofs.lemmas.List.FromFn.{length-range_with_len}
@@ -24,6 +24,7 @@ use Rattle.vr_msg.specs.declared.frame.Commit.{Commit}
 use Rattle.vr_msg.specs.declared.frame.DoViewChange.{DoViewChange}
 use Rattle.vr_msg.specs.declared.frame.GetBlock.{GetBlock}
 use Rattle.vr_msg.specs.declared.frame.GetPrepare.{GetPrepare}
+use Rattle.vr_msg.specs.declared.frame.GetSync.{GetSync}
 use Rattle.vr_msg.specs.declared.frame.GetView.{GetView}
 use Rattle.vr_msg.specs.declared.frame.GiveBlock.{GiveBlock}
 use Rattle.vr_msg.specs.declared.frame.GivePrepare.{GivePrepare}
@@ -31,17 +32,19 @@ use Rattle.vr_msg.specs.declared.frame.Prepare.{Prepare}
 use Rattle.vr_msg.specs.declared.frame.PrepareOk.{PrepareOk}
 use Rattle.vr_msg.specs.declared.frame.StartView.{StartView}
 use Rattle.vr_msg.specs.declared.frame.StartViewChange.{StartViewChange}
+use Rattle.vr_msg.specs.declared.frame.SyncView.{SyncView}
+use Rattle.vr_msg.specs.declared.output.Output.TheVariants as output
 use Rattle.vr_msg.specs.declared.request.RequestFields.{RequestFields}
 use Rattle.vr_msg.specs.declared.statement.Statement.{Statement}
-use Rattle.vr_rules.specs.Deciding.{Hash, session_answer, request_table, prepare_table, prepare_ok_table, commit_table, start_view_change_table, do_view_change_table, log_of, start_view_table, get_view_table, get_prepare_table, give_prepare_table, get_block_table, is_wanted, give_block_table, tick_table, is_from_primary, is_known}
+use Rattle.vr_rules.specs.Deciding.{Hash, session_answer, request_table, prepare_table, prepare_ok_table, commit_table, start_view_change_table, do_view_change_table, log_of, start_view_table, get_view_table, get_prepare_table, give_prepare_table, get_block_table, is_wanted, give_block_table, tick_table, is_from_primary, is_known, get_sync_table, sync_view_table}
 use Rattle.vr_rules.specs.declared.asker.Asker.{Asker}
 use Rattle.vr_rules.specs.Laws.{HasNames, IsEvent, IsMessage}
-use Rattle.vr_rules.specs.Outputs.{send_to, send_to_all, to_primary, prepare, commit_message, do_view_change, start_view, start_view_change, get_view, give_prepare, give_block, wait_line}
+use Rattle.vr_rules.specs.Outputs.{send_to, send_to_all, to_primary, prepare, commit_message, do_view_change, start_view, start_view_change, get_view, get_sync, sync_view, give_prepare, give_block, wait_line}
 use Rattle.vr_rules.specs.Replica.{Replica, head, header_at, is_here, is_frozen, is_spent, is_primary, is_started, last_view, part_at, view_change}
-use Rattle.vr_rules.specs.Rules.{asker_by, next_entry, make, stored_reply, obey_request, on_request, acknowledge, ask_view, obey_prepare, on_prepare, acknowledged, obey_prepare_ok, on_prepare_ok, obey_commit, on_commit, heard_of, obey_start_view_change, on_start_view_change, with_statement, obey_do_view_change, on_do_view_change, acknowledge_stored, obey_start_view, on_start_view, obey_get_view, on_get_view, obey_get_prepare, on_get_prepare, obey_give_prepare, on_give_prepare, asked_block, block_at, give_read, obey_get_block, on_get_block, without, put_block, put_found, obey_give_block, on_give_block, test_of, idler, next_view, obey_tick, on_tick, on_message, on_event, react}
+use Rattle.vr_rules.specs.Rules.{asker_by, next_entry, make, stored_reply, obey_request, on_request, acknowledge, ask_view, obey_prepare, on_prepare, acknowledged, obey_prepare_ok, on_prepare_ok, obey_commit, on_commit, heard_of, obey_start_view_change, on_start_view_change, with_statement, obey_do_view_change, on_do_view_change, acknowledge_stored, obey_start_view, on_start_view, obey_get_view, on_get_view, obey_get_prepare, on_get_prepare, obey_give_prepare, on_give_prepare, asked_block, block_at, give_read, obey_get_block, on_get_block, without, put_block, put_found, mend_found, not_worn, obey_give_block, on_give_block, obey_get_sync, on_get_sync, obey_sync_view, on_sync_view, test_of, idler, next_view, obey_tick, on_tick, on_message, on_event, react}
 use Rattle.vr_rules.specs.Sound.{IsSound, IsStated}
-use Rattle.vr_rules.specs.Steps.{PutBlock, Say, Setting, Word, ◌⨾◌, quiet, change, does, says, by, naming, reading, when, each, outputs, after_all}
-use Rattle.vr_rules.specs.Words.{Log, rested, enter, write, accept, may_take, take, apply, advance, advanced, has_quorum, learn, learned, is_loaded, load, prepare_again, stated, chosen_log, choose_line, begin_view, try_log, obey_choice, decided, try, speak, resend, ask}
+use Rattle.vr_rules.specs.Steps.{PutBlock, Say, Setting, Step, Word, ◌⨾◌, quiet, change, does, says, by, naming, reading, when, each, outputs, after_all}
+use Rattle.vr_rules.specs.Words.{Log, rested, enter, write, accept, may_take, take, apply, advance, advanced, has_quorum, learn, learned, is_loaded, load, prepare_again, stated, chosen_log, choose_line, begin_view, try_log, obey_choice, decided, try, speak, resend, ask, visit}
 use Rattle.vr_rules.proofs.Combining.{KeptBy, Keeps, kept_change_then, kept_does_then, kept_by, kept_when, keeps_says, keeps_quiet, keeps_by, keeps_change, keeps_each, keeps_when}
 use Rattle.vr_rules.proofs.Keeping.{Kept, sound_commit}
 use Rattle.vr_rules.proofs.Reacting.{may_store_next, kept_without, keeps_idler}
@@ -50,8 +53,11 @@ use Rattle.vr_rules.proofs.Storing.{MayStore}
 use Rattle.vr_rules.proofs.Taking.{IsLogFor, MayTake, may_take_is, kept_take}
 use Rattle.vr_rules.proofs.Trying.{all_stated, chosen_log_is, decided_ends, keeps_speak}
 use Rattle.vr_rules.proofs.Wording.{keeps_rested, kept_rested, kept_enter, kept_write, kept_accept, keeps_prepare_again, keeps_resend, kept_load}
-use Rattle.vr_agree.specs.Ordered.{ComesInOrder}
-use Rattle.vr_agree.proofs.Orders.{OrderlyAt, Orderly, Quiet, at_then, at_quiet, at_kept, orderly_then, orderly_quiet, orderly_by, orderly_if, quiet_quiet, quiet_change, quiet_does, quiet_says, quiet_then, quiet_by, quiet_naming, quiet_reading, quiet_if, quiet_when, quiet_each, quiet_sends, quiet_rested, quiet_enter, quiet_write, quiet_accept, quiet_take, quiet_entry, quiet_again, quiet_resend, quiet_ask, quiet_load, orderly_apply}
+use Rattle.vr_agree.specs.Answering.{Jumps}
+use Rattle.vr_agree.specs.Ordered.{ComesInOrder, IsOrderly}
+use Rattle.vr_agree.proofs.Jumps.{sync_jumps}
+use Rattle.vr_agree.proofs.Traces.{every_in}
+use Rattle.vr_agree.proofs.Orders.{IsOther, OrderlyAt, Orderly, Quiet, at_then, at_quiet, at_kept, orderly_then, orderly_quiet, orderly_by, orderly_if, quiet_quiet, quiet_change, quiet_does, quiet_says, quiet_then, quiet_by, quiet_naming, quiet_reading, quiet_if, quiet_when, quiet_each, quiet_sends, quiet_rested, quiet_enter, quiet_write, quiet_accept, quiet_take, quiet_entry, quiet_again, quiet_resend, quiet_looks, quiet_load, mute_others, others_ordered, orderly_apply}
 
 -- ---- commit numbers
 
@@ -333,9 +339,31 @@ module _ {F : Type 0} where
               let may = may_take_is s.hash (log_of v) r (and_parts (may_take s.hash (log_of v) r) _ t).0 in
               at_and (take (log_of v)) (told ⨾ apply) s r f (quiet_take (log_of v)) (kept_take (log_of v) s r f h log may)
               (quiet_and told apply (quiet_by _ (λ r. quiet_each (acknowledge_stored s.hash) (ops r.commit v.head) (quiet_acknowledges s.hash))) (keeps_by _ (λ r. keeps_each (acknowledge_stored s.hash) (ops r.commit v.head) (keeps_acknowledges s.hash))) orderly_apply),
-          λ n1. idle,
+          λ n1. (λ t. at_quiet _ s r f (quiet_tell v.replica (get_sync v.view)), λ n2. idle),
         ),
       )
+
+  -- ---- checkpoints of others
+
+  quiet_get_sync : (g : GetSync) → Quiet {F = F} (on_get_sync g)
+  unfolding on_get_sync
+  quiet_get_sync g = quiet_by _ (λ r. by_rows (λ z. Quiet {F = F} (obey_get_sync g z)) (get_sync_table g r) (λ e. quiet_quiet, λ n0. (λ e. quiet_tell g.replica sync_view, λ n1. quiet_quiet)))
+
+  -- a step that isn't a jump
+  of : (s : Setting F) (r : Replica) (f : F) (x : Step) → ComesInOrder s r f x → IsOrderly s r f x
+  of s r f x h = record { index = h.index; applied = inl h.applied; ordered = h.ordered; read = h.read }
+
+  -- and one that is
+  of_jump : (s : Setting F) (r : Replica) (f : F) (x : Step) → Jumps r x → IsOrderly s r f x
+  of_jump s r f x j =
+      let mute = mute_others (outputs x.script) j.mute in
+      record { index = j.index; applied = inr j; ordered = others_ordered r.index r.applied (outputs x.script) mute; read = λ c i. absurd (every_in IsOther (outputs x.script) (output.Commit c) i mute) }
+
+  sync_in : (v : SyncView) (s : Setting F) (r : Replica) (f : F) → IsOrderly s r f (on_sync_view v s r f)
+  unfolding on_sync_view naming by
+  sync_in v s r f =
+      let idle = of s r f (quiet s r f) (at_quiet quiet s r f quiet_quiet) in
+      by_rows (λ x. IsOrderly s r f (obey_sync_view s.hash v x s r f)) (sync_view_table s.hash v r) (λ t. idle, λ n0. (λ t. of_jump s r f _ (sync_jumps s.hash v s r f), λ n1. idle))
 
   -- ---- what is asked for
 
@@ -390,6 +418,11 @@ module _ {F : Type 0} where
       kept_change_then (without name) _ s r d k (λ e.
       kept_by _ s (without name r) e (kept_when (is_loaded (without name r)) load s (without name r) e k.sound (λ t. kept_load s (without name r) e k.sound (h.waits n)))))
 
+  quiet_mended : (block : List ℕ) (o : Option Name) → Quiet {F = F} (mend_found block o)
+  unfolding outputs
+  quiet_mended block None = quiet_quiet
+  quiet_mended block (Some name) = quiet_then (does (λ r. PutBlock name block)) (change (not_worn name)) (quiet_does (λ r. PutBlock name block) (λ r. tt)) (quiet_change (not_worn name) (λ r. refl) (λ r. refl))
+
   at_found : (block : List ℕ) (p : Name → Bool) (o : Option Name) (s : Setting F) (r : Replica) (f : F) → IsSound r → find p r.missing ≡ o → OrderlyAt s r f (put_found block o)
   at_found block p None s r f h e = at_quiet quiet s r f quiet_quiet
   at_found block p (Some name) s r f h e =
@@ -400,7 +433,13 @@ module _ {F : Type 0} where
   at_give_block g s r f h =
       let is_block = test_of s f in
       let idle = at_quiet quiet s r f quiet_quiet in
-      by_rows (λ x. OrderlyAt s r f (obey_give_block is_block g x)) (give_block_table is_block g r) (λ t. idle, λ n0. (λ t. at_found g.block (is_wanted is_block g) (find (is_wanted is_block g) r.missing) s r f h refl, λ n1. idle))
+      by_rows (λ x. OrderlyAt s r f (obey_give_block is_block g x)) (give_block_table is_block g r) (
+        λ t. idle,
+        λ n0. (
+          λ t. at_found g.block (is_wanted is_block g) (find (is_wanted is_block g) r.missing) s r f h refl,
+          λ n1. (λ t. at_quiet (mend_found g.block (find (is_wanted is_block g) r.worn)) s r f (quiet_mended g.block (find (is_wanted is_block g) r.worn)), λ n2. idle),
+        ),
+      )
 
   -- ---- ticks
 
@@ -410,16 +449,16 @@ module _ {F : Type 0} where
   quiet_next : Quiet {F = F} next_view
   quiet_next = quiet_by _ (λ r. quiet_enter (r.view + 1))
 
-  orderly_waits : Orderly {F = F} (says (send_to_all start_view_change) ⨾ speak ⨾ ask)
-  orderly_waits = quiet_and (says (send_to_all start_view_change)) (speak ⨾ ask) (quiet_sends start_view_change) (keeps_says _) (orderly_then speak ask orderly_speak keeps_speak (orderly_quiet ask quiet_ask))
+  orderly_waits : Orderly {F = F} (says (send_to_all start_view_change) ⨾ speak ⨾ visit ⨾ ask)
+  orderly_waits = quiet_and (says (send_to_all start_view_change)) (speak ⨾ visit ⨾ ask) (quiet_sends start_view_change) (keeps_says _) (orderly_then speak (visit ⨾ ask) orderly_speak keeps_speak (orderly_quiet (visit ⨾ ask) quiet_looks))
 
   at_tick : (s : Setting F) (r : Replica) (f : F) → IsSound r → OrderlyAt s r f on_tick
   unfolding on_tick by
   at_tick s r f h =
       by_rows (λ x. OrderlyAt s r f (obey_tick x)) (tick_table r) (
-        λ t. at_quiet _ s r f (quiet_then _ _ (quiet_sends commit_message) (quiet_then _ _ (quiet_by _ (λ r. quiet_when (nat_lt r.commit (head r)) _ (quiet_again (r.commit + 1)))) quiet_ask)),
+        λ t. at_quiet _ s r f (quiet_then _ _ (quiet_sends commit_message) (quiet_then _ _ (quiet_by _ (λ r. quiet_when (nat_lt r.commit (head r)) _ (quiet_again (r.commit + 1)))) quiet_looks)),
         λ n0. (
-          λ t. at_quiet _ s r f (quiet_then _ _ quiet_idler (quiet_by _ (λ r. quiet_if (nat_le 5 r.idle) next_view ask quiet_next quiet_ask))),
+          λ t. at_quiet _ s r f (quiet_then _ _ quiet_idler (quiet_by _ (λ r. quiet_if (nat_le 5 r.idle) next_view (visit ⨾ ask) quiet_next quiet_looks))),
           λ n1. (
             λ t. (quiet_and (change idler) _ quiet_idler keeps_idler (orderly_by _ (λ r. orderly_if (nat_le 10 r.idle) next_view _ (orderly_quiet next_view quiet_next) orderly_waits))).every s r f h,
             λ n2. at_quiet quiet s r f quiet_quiet,
@@ -429,32 +468,34 @@ module _ {F : Type 0} where
 
   -- ---- each event
 
-  at_message : (m : Frame) (s : Setting F) (r : Replica) (f : F) → HasNames s → IsSound r → IsMessage m → r.view ≤ last_view → OrderlyAt s r f (on_message m)
-  at_message (frame.Request q) s r f names h m last = at_request q s r f names h m last
-  at_message (frame.Reply a) s r f names h m last = at_quiet quiet s r f quiet_quiet
-  at_message (frame.Prepare p) s r f names h m last = at_prepare p s r f h m
-  at_message (frame.PrepareOk a) s r f names h m last = at_prepare_ok a s r f h
-  at_message (frame.Commit c) s r f names h m last = at_commit c s r f h
-  at_message (frame.StartViewChange c) s r f names h m last = at_change c s r f h
-  at_message (frame.DoViewChange d) s r f names h m last = at_statement d s r f h m
-  at_message (frame.StartView v) s r f names h m last = at_start_view v s r f h m
-  at_message (frame.GetView g) s r f names h m last = at_quiet (on_get_view g) s r f (quiet_get_view g)
-  at_message (frame.GetPrepare g) s r f names h m last = at_quiet (on_get_prepare g) s r f (quiet_get_prepare g)
-  at_message (frame.GivePrepare g) s r f names h m last = at_give_prepare g s r f h m
-  at_message (frame.GetBlock g) s r f names h m last = at_quiet (on_get_block g) s r f (quiet_get_block g)
-  at_message (frame.GiveBlock g) s r f names h m last = at_give_block g s r f h
+  at_message : (m : Frame) (s : Setting F) (r : Replica) (f : F) → HasNames s → IsSound r → IsMessage m → r.view ≤ last_view → IsOrderly s r f (on_message m s r f)
+  at_message (frame.Request q) s r f names h m last = of s r f _ (at_request q s r f names h m last)
+  at_message (frame.Reply a) s r f names h m last = of s r f _ (at_quiet quiet s r f quiet_quiet)
+  at_message (frame.Prepare p) s r f names h m last = of s r f _ (at_prepare p s r f h m)
+  at_message (frame.PrepareOk a) s r f names h m last = of s r f _ (at_prepare_ok a s r f h)
+  at_message (frame.Commit c) s r f names h m last = of s r f _ (at_commit c s r f h)
+  at_message (frame.StartViewChange c) s r f names h m last = of s r f _ (at_change c s r f h)
+  at_message (frame.DoViewChange d) s r f names h m last = of s r f _ (at_statement d s r f h m)
+  at_message (frame.StartView v) s r f names h m last = of s r f _ (at_start_view v s r f h m)
+  at_message (frame.GetView g) s r f names h m last = of s r f _ (at_quiet (on_get_view g) s r f (quiet_get_view g))
+  at_message (frame.GetPrepare g) s r f names h m last = of s r f _ (at_quiet (on_get_prepare g) s r f (quiet_get_prepare g))
+  at_message (frame.GivePrepare g) s r f names h m last = of s r f _ (at_give_prepare g s r f h m)
+  at_message (frame.GetBlock g) s r f names h m last = of s r f _ (at_quiet (on_get_block g) s r f (quiet_get_block g))
+  at_message (frame.GiveBlock g) s r f names h m last = of s r f _ (at_give_block g s r f h)
+  at_message (frame.GetSync g) s r f names h m last = of s r f _ (at_quiet (on_get_sync g) s r f (quiet_get_sync g))
+  at_message (frame.SyncView v) s r f names h m last = sync_in v s r f
 
-  at_event : (e : Event) (s : Setting F) (r : Replica) (f : F) → HasNames s → IsSound r → IsEvent e → r.view ≤ last_view → OrderlyAt s r f (on_event e)
-  at_event (event.Request q) s r f names h m last = at_request q s r f names h m last
+  at_event : (e : Event) (s : Setting F) (r : Replica) (f : F) → HasNames s → IsSound r → IsEvent e → r.view ≤ last_view → IsOrderly s r f (on_event e s r f)
+  at_event (event.Request q) s r f names h m last = of s r f _ (at_request q s r f names h m last)
   at_event (event.Deliver message) s r f names h m last = at_message message s r f names h m last
-  at_event event.Tick s r f names h m last = at_tick s r f h
+  at_event event.Tick s r f names h m last = of s r f _ (at_tick s r f h)
 
   -- every step
-  pub come_in_order : (s : Setting F) (r : Replica) (f : F) (e : Event) → HasNames s → IsSound r → IsEvent e → ComesInOrder s r f (react e s r f)
+  pub come_in_order : (s : Setting F) (r : Replica) (f : F) (e : Event) → HasNames s → IsSound r → IsEvent e → IsOrderly s r f (react e s r f)
   unfolding react by
   come_in_order s r f e names h m =
-      let go : (b : Bool) → is_frozen r ≡ b → OrderlyAt s r f (when (not b) (on_event e)) = elim [
-        | true ↦ λ t. at_quiet quiet s r f quiet_quiet
+      let go : (b : Bool) → is_frozen r ≡ b → IsOrderly s r f (when (not b) (on_event e) s r f) = elim [
+        | true ↦ λ t. of s r f _ (at_quiet quiet s r f quiet_quiet)
         | false ↦ λ t. at_event e s r f names h m (ltb-false last_view r.view (or_parts (nat_lt last_view r.view) (is_spent r) t).0)
       ] in
       go (is_frozen r) refl

@@ -1,6 +1,6 @@
 -- Words and the order of their commit lines.
 use Rattle.std.proofs.Common.{ℕ, zero, suc, ◌+◌, ◌-◌, ◌<◌, ◌≡◌, ◌∙◌, inl, inr, arith, refl, sym, ap, subst, Bool, true, false, cond, eqb, List, [], ◌∷◌, ◌++◌, map, Option, Some, None}
-use Rattle.std.specs.Prelude.{⊤, nat_lt, not, slice_get, ◌&&◌, ◌%◌}
+use Rattle.std.specs.Prelude.{⊤, nat_lt, not, slice_get, ◌&&◌, ◌%◌, ◌==◌}
 use Rattle.std.specs.Option.{option_and_then}
 use Rattle.std.proofs.lemmas.Bool.{eq-eqb}
 use Rattle.std.proofs.lemmas.Nat.{mod_below}
@@ -20,8 +20,8 @@ use Rattle.vr_grid.specs.declared.name.Name.{Name}
 use Rattle.vr_rules.specs.Outputs.{kind_of, replies, asker_of, commit_line, applied_reply, send, send_to_all, others, to_primary, prepare, prepare_ok, start_view_change, get_block, get_prepare}
 use Rattle.vr_rules.specs.Replica.{Replica, leads, part_at, with_part, forgetting, last_view, is_primary, is_started, is_here}
 use Rattle.vr_rules.specs.Sound.{IsSound}
-use Rattle.vr_rules.specs.Steps.{Effect, Say, Setting, Step, Word, ◌⨾◌, quiet, change, does, says, by, naming, reading, when, times, each, outputs, after_all}
-use Rattle.vr_rules.specs.Words.{Log, rested, entered, enter, saves, with_saved, save, writes, stored, write, accept, entry_of, lost, or_lost, with_entry, with_entry_at, applied, checkpoints, with_checkpoint, checkpoint_of, make_checkpoint, is_checkpoint, apply_entry, is_loaded, apply_next, apply, taken, take as take_over, prepare_again, resend, turned, ask_peer, ask_for, ask, least_absent, load, loads, checkpoint_at}
+use Rattle.vr_rules.specs.Steps.{Effect, Mend, Rewrite, Say, Setting, Step, Word, ◌⨾◌, quiet, change, does, says, by, naming, reading, when, times, each, outputs, after_all}
+use Rattle.vr_rules.specs.Words.{Log, rested, entered, enter, saves, with_saved, save, writes, stored, write, accept, entry_of, lost, or_lost, with_entry, with_entry_at, applied, checkpoints, with_checkpoint, checkpoint_of, make_checkpoint, is_checkpoint, apply_entry, is_loaded, apply_next, apply, taken, take as take_over, prepare_again, resend, turned, ask_peer, ask_for, ask, least_absent, load, loads, checkpoint_at, blocks_of, header_read, mend_header, op_of_slot, place_now, visit, visit_block, visit_place, visit_read, visit_slot, with_cursor, with_worn}
 use Rattle.vr_rules.specs.Commitment.{is_line_of}
 use Rattle.vr_rules.proofs.SendsScripts.{outputs_append, outputs_said}
 use Rattle.vr_rules.proofs.Combining.{KeptBy, Keeps}
@@ -30,7 +30,7 @@ use Rattle.vr_safe.specs.Chains.{Every}
 use Rattle.vr_safe.proofs.Scripts.{every_append}
 use Rattle.vr_safe.proofs.Repairs.{every_mapped}
 use Rattle.vr_protocol.specs.Basics.{In}
-use Rattle.vr_agree.specs.Answering.{IsLined, Lined, one_if, lines}
+use Rattle.vr_agree.specs.Answering.{IsLined, IsMute, Lined, one_if, lines}
 use Rattle.vr_agree.specs.Ordered.{IsInOrder, AreInOrder, IsReadAmong, ComesInOrder}
 use Rattle.vr_agree.proofs.Answers.{loads_place}
 use Rattle.vr_agree.proofs.Traces.{every_in, in_either}
@@ -64,15 +64,30 @@ other_ordered i m (output.Halted r) h = tt
 other_ordered i m output.Done h = tt
 other_ordered i m output.KeptOut h = tt
 
-others_lines : (i : ℕ) (os : List Output) → Every IsOther os → lines i os ≡ 0
+pub others_lines : (i : ℕ) (os : List Output) → Every IsOther os → lines i os ≡ 0
 unfolding lines
 others_lines i [] h = refl
 others_lines i (o ∷ os) h = rw (other_line i o h.0, others_lines i os h.1) refl
 
-others_ordered : (i m : ℕ) (os : List Output) → Every IsOther os → AreInOrder i m os
+pub others_ordered : (i m : ℕ) (os : List Output) → Every IsOther os → AreInOrder i m os
 unfolding AreInOrder
 others_ordered i m [] h = tt
 others_ordered i m (o ∷ os) h = (other_ordered i m o h.0, others_ordered i (m + one_if (is_line_of i o)) os h.1)
+
+mute_other : (o : Output) → IsMute o → IsOther o
+mute_other (output.Commit c) h = h
+mute_other (output.Send s) h = tt
+mute_other (output.Reply a) h = tt
+mute_other (output.Choose c) h = tt
+mute_other (output.Wait w) h = tt
+mute_other (output.Start s) h = tt
+mute_other (output.Halted r) h = tt
+mute_other output.Done h = tt
+mute_other output.KeptOut h = tt
+
+pub mute_others : (os : List Output) → Every IsMute os → Every IsOther os
+mute_others [] h = tt
+mute_others (o ∷ os) h = (mute_other o h.0, mute_others os h.1)
 
 ordered_append : (i m : ℕ) (a b : List Output) → AreInOrder i m a → AreInOrder i (m + lines i a) b → AreInOrder i m (a ++ b)
 unfolding AreInOrder lines
@@ -328,14 +343,49 @@ module _ {F : Type 0} where
   unfolding ask_peer
   quiet_peer message = quiet_then _ (change turned) (quiet_says _ (λ r. (tt, tt))) (quiet_change turned (λ r. refl) (λ r. refl))
 
-  quiet_ask_for : (names : List Name) (absent : Option Header) → Quiet {F = F} (ask_for names absent)
-  quiet_ask_for (name ∷ names) absent = quiet_peer (get_block name)
-  quiet_ask_for [] (Some h) = quiet_naming _ (λ hash. quiet_peer (get_prepare hash h))
-  quiet_ask_for [] None = quiet_quiet
+  quiet_ask_for : (names : List Name) (absent : Option Header) (worn : List Name) → Quiet {F = F} (ask_for names absent worn)
+  quiet_ask_for (name ∷ names) absent worn = quiet_peer (get_block name)
+  quiet_ask_for [] (Some h) worn = quiet_naming _ (λ hash. quiet_peer (get_prepare hash h))
+  quiet_ask_for [] None (name ∷ names) = quiet_peer (get_block name)
+  quiet_ask_for [] None [] = quiet_quiet
 
   pub quiet_ask : Quiet {F = F} ask
   unfolding ask
-  quiet_ask = quiet_by (λ r. ask_for r.missing (least_absent r)) (λ r. quiet_ask_for r.missing (least_absent r))
+  quiet_ask = quiet_by (λ r. ask_for r.missing (least_absent r) r.worn) (λ r. quiet_ask_for r.missing (least_absent r) r.worn)
+
+  -- ---- a visit
+
+  quiet_mend_header : (h : Header) (o : Option Header) → Quiet {F = F} (mend_header h o)
+  unfolding outputs
+  quiet_mend_header h None = quiet_does (λ r. Rewrite h) (λ r. tt)
+  quiet_mend_header h (Some d) = quiet_when (not (same_header d h)) _ (quiet_does (λ r. Rewrite h) (λ r. tt))
+
+  quiet_visit_slot : (op : ℕ) → Quiet {F = F} (visit_slot op)
+  unfolding visit_slot
+  quiet_visit_slot op = quiet_entry op _ (λ e. quiet_reading (header_read op) _ (quiet_mend_header e.header))
+
+  quiet_visit_read : (name : Name) (o : Option (List ℕ)) → Quiet {F = F} (visit_read name o)
+  quiet_visit_read name None = quiet_change (with_worn name) (λ r. refl) (λ r. refl)
+  quiet_visit_read name (Some block) = quiet_quiet
+
+  quiet_visit_block : (o : Option Name) → Quiet {F = F} (visit_block o)
+  unfolding visit_block
+  quiet_visit_block None = quiet_quiet
+  quiet_visit_block (Some name) = quiet_reading _ _ (quiet_visit_read name)
+
+  quiet_visit_place : (at : ℕ) → Quiet {F = F} (visit_place at)
+  unfolding visit_place outputs
+  quiet_visit_place at =
+      quiet_by _ (λ r. quiet_if (nat_lt at 64) _ _ (quiet_visit_slot (op_of_slot r at)) (quiet_if (at == 64) _ _ (quiet_does (λ r. Mend r.saved) (λ r. tt)) (quiet_visit_block (slice_get (blocks_of r) (at - 65)))))
+
+  pub quiet_visit : Quiet {F = F} visit
+  unfolding visit
+  quiet_visit =
+      quiet_by _ (λ r. quiet_when (is_loaded r) _ (quiet_then (visit_place (place_now r)) (change (with_cursor (place_now r))) (quiet_visit_place (place_now r)) (quiet_change (with_cursor (place_now r)) (λ q. refl) (λ q. refl))))
+
+  -- and then a peer is asked
+  pub quiet_looks : Quiet {F = F} (visit ⨾ ask)
+  quiet_looks = quiet_then visit ask quiet_visit quiet_ask
 
   pub quiet_load : Quiet {F = F} load
   unfolding load

@@ -1,5 +1,5 @@
 -- A choose line of a step is of the choice of the rules from what its replica has heard.
-use Rattle.std.proofs.Common.{ℕ, ◌+◌, ◌<◌, ◌≡◌, ◌∙◌, refl, sym, ap, subst, arith, Bool, true, false, cond, eqb, get_or, List, [], ◌∷◌, Option, Some, None}
+use Rattle.std.proofs.Common.{ℕ, ◌+◌, ◌<◌, ◌≡◌, ◌∙◌, refl, sym, ap, subst, arith, Bool, true, false, cond, eqb, get_or, List, [], ◌∷◌, Option, Some, None, is_some}
 use Rattle.std.specs.Prelude.{All, nat_lt, nat_le, not, ◌&&◌, ◌==◌, Contains}
 use Rattle.std.specs.List.{cons_option, filter_map, range_with_len}
 use Rattle.std.specs.Option.{option_map_or}
@@ -30,9 +30,9 @@ use Rattle.vr_msg.specs.declared.frame.Frame.{Frame}
 use Rattle.vr_msg.specs.declared.frame.StartViewChange.{StartViewChange}
 use Rattle.vr_msg.specs.declared.output.Output.TheVariants as output
 use Rattle.vr_msg.specs.declared.statement.Statement.{Statement}
-use Rattle.vr_rules.proofs.SilentWaits.{Mute, mute_all, mute_by, mute_change, mute_if, mute_naming, mute_one, mute_prepare_again, mute_quiet, mute_reading, mute_then}
-use Rattle.vr_rules.proofs.SilentSteps.{still_enter, still_ask, mute_commit, mute_get_block, mute_get_prepare, mute_get_view, mute_give_block, mute_give_prepare, mute_prepare, mute_prepare_ok, mute_request, mute_start_view}
-use Rattle.vr_rules.specs.Deciding.{is_from, start_view_change_table, do_view_change_table, tick_table}
+use Rattle.vr_rules.proofs.SilentWaits.{Mute, mute_all, mute_by, mute_change, mute_if, mute_naming, mute_one, mute_prepare_again, mute_quiet, mute_reading, mute_then, mute_visit}
+use Rattle.vr_rules.proofs.SilentSteps.{still_enter, still_ask, mute_commit, mute_get_block, mute_get_prepare, mute_get_view, mute_give_block, mute_give_prepare, mute_prepare, mute_prepare_ok, mute_request, mute_start_view, mute_get_sync, mute_sync_view}
+use Rattle.vr_rules.specs.Deciding.{commit_table, do_view_change_table, first_of, get_block_table, get_prepare_table, get_sync_table, get_view_table, give_block_table, give_prepare_table, is_from, prepare_ok_table, prepare_table, request_table, start_view_change_table, start_view_table, sync_view_table, tick_table}
 use Rattle.vr_rules.specs.Outputs as told
 use Rattle.vr_rules.specs.Rules as rules
 use Rattle.vr_safe.proofs.Picking.{GoesOn, Hears, IsPicked, MayPick, PicksAt, at_if, at_then, goes_entered, goes_heard, goes_idler, goes_itself, goes_rested, hears_none, hears_statement, no_brought, plain, speak_at, stated_is, try_at}
@@ -178,41 +178,44 @@ module _ {F : Type 0} (s : Setting F) (o : Replica) (f : F) (sound : IsSound o) 
       let e = event.Tick in
       let Q = IsChosenBy e o in
       let next : Mute rules.next_view = mute_by _ (λ r. (still_enter (r.view + 1)).mute) in
-      let asks = still_ask.mute in
+      let looks : Word F = words.visit ⨾ words.ask in
+      let asks : Mute looks = mute_then words.visit words.ask mute_visit still_ask.mute in
       let idles : Mute (change rules.idler) = mute_change rules.idler in
       let x = rules.idler o in
       let on = hears_none e o x (λ i. refl) (goes_idler o sound) in
-      let speaks : (d : F) → PicksAt Q s x d (says (told.send_to_all told.start_view_change) ⨾ (words.speak ⨾ words.ask)) =
-      λ d. at_then Q (says (told.send_to_all told.start_view_change)) (words.speak ⨾ words.ask) s x d (plain Q (mute_all told.start_view_change) s x d)
-      (λ g. at_then Q words.speak words.ask s x g (speak_at Q s x g (may_pick e o x sound on)) (λ h. plain Q asks s (words.speak s x g).replica h)) in
+      let speaks : (d : F) → PicksAt Q s x d (says (told.send_to_all told.start_view_change) ⨾ (words.speak ⨾ looks)) =
+      λ d. at_then Q (says (told.send_to_all told.start_view_change)) (words.speak ⨾ looks) s x d (plain Q (mute_all told.start_view_change) s x d)
+      (λ g. at_then Q words.speak looks s x g (speak_at Q s x g (may_pick e o x sound on)) (λ h. plain Q asks s (words.speak s x g).replica h)) in
       by_rows (λ z. Right e (rules.obey_tick z)) (tick_table o) (
         λ t. plain Q (mute_then (says (told.send_to_all told.commit_message)) _ (mute_all told.commit_message)
-            (mute_then (by (λ r. cond (nat_lt r.commit (head r)) (words.prepare_again (r.commit + 1)) quiet)) words.ask (mute_by _ (λ r. mute_if (nat_lt r.commit (head r)) (words.prepare_again (r.commit + 1)) quiet (mute_prepare_again (r.commit + 1)) mute_quiet)) asks)) s o f,
+            (mute_then (by (λ r. cond (nat_lt r.commit (head r)) (words.prepare_again (r.commit + 1)) quiet)) looks (mute_by _ (λ r. mute_if (nat_lt r.commit (head r)) (words.prepare_again (r.commit + 1)) quiet (mute_prepare_again (r.commit + 1)) mute_quiet)) asks)) s o f,
         λ n0. (
-          λ t. plain Q (mute_then (change rules.idler) (by (λ r. cond (nat_le 5 r.idle) rules.next_view words.ask)) idles (mute_by _ (λ r. mute_if (nat_le 5 r.idle) rules.next_view words.ask next asks))) s o f,
+          λ t. plain Q (mute_then (change rules.idler) (by (λ r. cond (nat_le 5 r.idle) rules.next_view looks)) idles (mute_by _ (λ r. mute_if (nat_le 5 r.idle) rules.next_view looks next asks))) s o f,
           λ n1. (
-            λ t. at_then Q (change rules.idler) (by (λ r. cond (nat_le 10 r.idle) rules.next_view (says (told.send_to_all told.start_view_change) ⨾ (words.speak ⨾ words.ask)))) s o f (plain Q idles s o f)
-                (λ d. at_if Q (nat_le 10 x.idle) rules.next_view (says (told.send_to_all told.start_view_change) ⨾ (words.speak ⨾ words.ask)) s x d (λ t. plain Q next s x d) (λ t. speaks d)),
+            λ t. at_then Q (change rules.idler) (by (λ r. cond (nat_le 10 r.idle) rules.next_view (says (told.send_to_all told.start_view_change) ⨾ (words.speak ⨾ looks)))) s o f (plain Q idles s o f)
+                (λ d. at_if Q (nat_le 10 x.idle) rules.next_view (says (told.send_to_all told.start_view_change) ⨾ (words.speak ⨾ looks)) s x d (λ t. plain Q next s x d) (λ t. speaks d)),
             λ n2. plain Q mute_quiet s o f,
           ),
         ),
       )
 
   message_at : (m : Frame) → Right (event.Deliver m) (rules.on_message m)
-  unfolding rules.on_request rules.on_prepare rules.on_prepare_ok rules.on_commit rules.on_start_view rules.on_get_view rules.on_get_prepare rules.on_give_prepare rules.on_get_block rules.on_give_block
-  message_at (frame.Request q) = let Q = IsChosenBy (event.Deliver (frame.Request q)) o in plain Q (mute_naming _ (λ hash. mute_by _ (λ r. mute_request hash q _))) s o f
+  unfolding rules.on_request rules.on_prepare rules.on_prepare_ok rules.on_commit rules.on_start_view rules.on_get_view rules.on_get_prepare rules.on_give_prepare rules.on_get_block rules.on_give_block rules.on_get_sync rules.on_sync_view
+  message_at (frame.Request q) = let Q = IsChosenBy (event.Deliver (frame.Request q)) o in plain Q (mute_naming _ (λ hash. mute_by _ (λ r. mute_request hash q (first_of (request_table q r))))) s o f
   message_at (frame.Reply a) = plain (IsChosenBy (event.Deliver (frame.Reply a)) o) mute_quiet s o f
-  message_at (frame.Prepare p) = let Q = IsChosenBy (event.Deliver (frame.Prepare p)) o in plain Q (mute_naming _ (λ hash. mute_by _ (λ r. mute_prepare hash p _))) s o f
-  message_at (frame.PrepareOk a) = let Q = IsChosenBy (event.Deliver (frame.PrepareOk a)) o in plain Q (mute_naming _ (λ hash. mute_by _ (λ r. mute_prepare_ok a _))) s o f
-  message_at (frame.Commit c) = let Q = IsChosenBy (event.Deliver (frame.Commit c)) o in plain Q (mute_by _ (λ r. mute_commit c _)) s o f
+  message_at (frame.Prepare p) = let Q = IsChosenBy (event.Deliver (frame.Prepare p)) o in plain Q (mute_naming _ (λ hash. mute_by _ (λ r. mute_prepare hash p (first_of (prepare_table hash p r))))) s o f
+  message_at (frame.PrepareOk a) = let Q = IsChosenBy (event.Deliver (frame.PrepareOk a)) o in plain Q (mute_naming _ (λ hash. mute_by _ (λ r. mute_prepare_ok a (first_of (prepare_ok_table hash a r))))) s o f
+  message_at (frame.Commit c) = let Q = IsChosenBy (event.Deliver (frame.Commit c)) o in plain Q (mute_by _ (λ r. mute_commit c (first_of (commit_table c r)))) s o f
   message_at (frame.StartViewChange c) = change_at c
   message_at (frame.DoViewChange d) = statement_at d
-  message_at (frame.StartView v) = let Q = IsChosenBy (event.Deliver (frame.StartView v)) o in plain Q (mute_naming _ (λ hash. mute_by _ (λ r. mute_start_view hash v _))) s o f
-  message_at (frame.GetView g) = let Q = IsChosenBy (event.Deliver (frame.GetView g)) o in plain Q (mute_by _ (λ r. mute_get_view g _)) s o f
-  message_at (frame.GetPrepare g) = let Q = IsChosenBy (event.Deliver (frame.GetPrepare g)) o in plain Q (mute_naming _ (λ hash. mute_by _ (λ r. mute_get_prepare g _))) s o f
-  message_at (frame.GivePrepare g) = let Q = IsChosenBy (event.Deliver (frame.GivePrepare g)) o in plain Q (mute_by _ (λ r. mute_give_prepare g _)) s o f
-  message_at (frame.GetBlock g) = let Q = IsChosenBy (event.Deliver (frame.GetBlock g)) o in plain Q (mute_reading _ _ (λ block. mute_by _ (λ r. mute_get_block g block _))) s o f
-  message_at (frame.GiveBlock g) = let Q = IsChosenBy (event.Deliver (frame.GiveBlock g)) o in plain Q (mute_reading _ _ (λ is_block. mute_by _ (λ r. mute_give_block is_block g _))) s o f
+  message_at (frame.StartView v) = let Q = IsChosenBy (event.Deliver (frame.StartView v)) o in plain Q (mute_naming _ (λ hash. mute_by _ (λ r. mute_start_view hash v (first_of (start_view_table hash v r))))) s o f
+  message_at (frame.GetView g) = let Q = IsChosenBy (event.Deliver (frame.GetView g)) o in plain Q (mute_by _ (λ r. mute_get_view g (first_of (get_view_table g r)))) s o f
+  message_at (frame.GetPrepare g) = let Q = IsChosenBy (event.Deliver (frame.GetPrepare g)) o in plain Q (mute_naming _ (λ hash. mute_by _ (λ r. mute_get_prepare g (first_of (get_prepare_table hash g r))))) s o f
+  message_at (frame.GivePrepare g) = let Q = IsChosenBy (event.Deliver (frame.GivePrepare g)) o in plain Q (mute_by _ (λ r. mute_give_prepare g (first_of (give_prepare_table g r)))) s o f
+  message_at (frame.GetBlock g) = let Q = IsChosenBy (event.Deliver (frame.GetBlock g)) o in plain Q (mute_reading _ _ (λ block. mute_by _ (λ r. mute_get_block g block (first_of (get_block_table (is_some block) g r))))) s o f
+  message_at (frame.GiveBlock g) = let Q = IsChosenBy (event.Deliver (frame.GiveBlock g)) o in plain Q (mute_reading _ _ (λ is_block. mute_by _ (λ r. mute_give_block is_block g (first_of (give_block_table is_block g r))))) s o f
+  message_at (frame.GetSync g) = let Q = IsChosenBy (event.Deliver (frame.GetSync g)) o in plain Q (mute_by _ (λ r. mute_get_sync g (first_of (get_sync_table g r)))) s o f
+  message_at (frame.SyncView v) = let Q = IsChosenBy (event.Deliver (frame.SyncView v)) o in plain Q (mute_naming _ (λ hash. mute_by _ (λ r. mute_sync_view hash v (first_of (sync_view_table hash v r))))) s o f
 
   event_at : (e : Event) → Right e (rules.on_event e)
   unfolding rules.on_request

@@ -32,8 +32,8 @@ fit_front [] ys h = All-nil IsFit
 fit_front (x ∷ xs) ys h = All-cons IsFit x xs (All-head IsFit x (xs ++ ys) h) (fit_front xs ys (All-tail IsFit x (xs ++ ys) h))
 
 pub reads_good : {F : Type 0} → StepsReadGood F
-reads_good s f r e program roots reads sound savable named came c j =
-    let fit = (steps_fit s f r e program roots reads sound savable named came).each in
+reads_good s f r e program roots reads sound savable knows came c j =
+    let fit = (steps_fit s f r e program roots reads sound savable knows came).each in
     let h = (come_in_order s r f e (names_of s program) sound came).read c j in
     let whole = reads.entry h.first (fit_front h.first h.rest (subst (All IsFit) (sym h.are) fit)) h.slot c.entry h.within h.reads in
     record { form = whole.entry.header; good = good_whole c.entry whole }
@@ -62,7 +62,7 @@ opening_reads c n i v d g k l j =
 move_reads : (c : ℕ) (g : Group) (move : Move) (moved : Moved) → IsFitGroup c g → IsFitMove move → Moves g move moved → (l : Committed) → In (output.Commit l) moved.outputs → IsWellRead l.entry
 move_reads c g _ _ h k (group.steps at arrival e d m r runs i) l j =
     let run = (h.members at m runs.member).running r runs.running in
-    reads_good lying d r e disks_fit.lies disks_fit.roots k.1 run.0.sound run.0.savable run.0.missing (arrives c g at arrival e h k.0 i) l j
+    reads_good lying d r e disks_fit.lies disks_fit.roots k.1 run.0.sound run.0.savable run.0.blocks (arrives c g at arrival e h k.0 i) l j
 move_reads c g _ _ h k (group.cuts at arrival e d n m r runs i) l j = absurd j
 move_reads c g _ _ h k (group.crashes at m there) l j = absurd j
 move_reads c g _ _ h k (group.recovers at v d m o) l j = opening_reads c g.n at v d (good_value c g.n at m v (h.members at m o.member) o.value) k l j

@@ -26,7 +26,7 @@ use Rattle.vr_safe.specs.Chains.{Setup}
 use Rattle.vr_rules.specs.Commitment.{IsReplyOf, is_line_of, lines_by}
 use Rattle.vr_rules.specs.Safe.{IsHashed, IsTrueReply}
 use Rattle.vr_agree.specs.Followed.{IsFollowed, IsSo}
-use Rattle.vr_agree.specs.Answering.{one_if, HasState, lines, IsTold, Told, Leaves}
+use Rattle.vr_agree.specs.Answering.{one_if, HasState, IsMute, Jumps, lines, IsTold, Told, Leaves}
 use Rattle.vr_agree.specs.Replied.{IsReplied, IsServed}
 use Rattle.vr_agree.proofs.Fitting.{arrives, fit_at, good_value, move_of}
 use Rattle.vr_agree.proofs.Orders.{in_order_lined}
@@ -147,7 +147,7 @@ module _ (cluster n : ℕ) (u : Setup) (run : List Played) (x : IsFollowed clust
 
     -- a step
     step_leaves : (at : ℕ) (arrival : Arrival) (e : Event) (f : Lying) (m : Member) (r : Replica) → p.move ≡ Steps at arrival e f → IsArrival p.before at arrival e → Runs p.before at m r → p.moved.outputs ≡ outputs (stepped e r f).script → HasState log r
-        → Leaves log r false (stepped e r f)
+        → Leaves log r false (stepped e r f) ⊎ Jumps r (stepped e r f)
     step_leaves at arrival e f m r move came runs said had =
         let served = y.served t at p m r is runs in
         let fit = fit_at cluster n run x.fit t p is in
@@ -164,7 +164,7 @@ module _ (cluster n : ℕ) (u : Setup) (run : List Played) (x : IsFollowed clust
   unfolding react by
   had_after t p is at arrival e f m r move came said runs had free =
       let go : (b : Bool) → is_frozen r ≡ b → HasState log (stepped e r f).replica = elim [
-        | false ↦ λ z. (step_leaves t p is at arrival e f m r move came runs said (had z)).state
+        | false ↦ λ z. elim (step_leaves t p is at arrival e f m r move came runs said (had z)) [ inl left ↦ left.state | inr jump ↦ λ none. absurd (jump.missing none) ]
         | true ↦ λ z. absurd (frozen_stays e r f z free)
       ] in
       go (is_frozen r) refl
@@ -214,12 +214,17 @@ module _ (cluster n : ℕ) (u : Setup) (run : List Played) (x : IsFollowed clust
   -- ---- a reply
 
   module _ (t number : ℕ) (a : ReplyFields) where
+    -- a step that replies takes over no checkpoint
+    no_jump : (z : Step) (r : Replica) (os : List Output) → os ≡ outputs z.script → slice_get os number ≡ Some (output.Reply a) → Leaves log r false z ⊎ Jumps r z → Leaves log r false z
+    no_jump z r os said there (inl left) = left
+    no_jump z r os said there (inr jump) = absurd (every_in IsMute (outputs z.script) (output.Reply a) (subst (λ (x : List Output). In (output.Reply a) x) said (get_in os number (output.Reply a) there)) jump.mute)
+
     reply_of_step : (p : Played) (is : slice_get run t ≡ Some p) (at : ℕ) (arrival : Arrival) (e : Event) (f : Lying) (m : Member) (r : Replica) → p.move ≡ Steps at arrival e f → IsArrival p.before at arrival e → p.moved.outputs ≡ outputs (stepped e r f).script → Runs p.before at m r
         → slice_get p.moved.outputs number ≡ Some (output.Reply a) → HasState log r → IsTrueReply cluster n log run t number p a
     reply_of_step p is at arrival e f m r move came said runs there had =
         let os = p.moved.outputs in
         let front = take number os in
-        let left = step_leaves t p is at arrival e f m r move came runs said had in
+        let left = no_jump (stepped e r f) r os said there (step_leaves t p is at arrival e f m r move came runs said had) in
         let step = y.steps t at arrival p e f m r is move runs in
         let own = step.present a (subst (λ (z : List Output). In (output.Reply a) z) said (get_in os number (output.Reply a) there)) in
         let place : a.replica ≡ at = own.0 ∙ (((fit_at cluster n run x.fit t p is).0.0.members at m runs.member).running r runs.running).1.index in

@@ -21,7 +21,7 @@ use Rattle.vr_protocol.specs.Group.{Group, Made}
 use Rattle.vr_protocol.specs.Members.{Choice, Message}
 use Rattle.vr_protocol.specs.Members as machine
 use Rattle.vr_safe.specs.Chains.{Setup, Every, WasSent}
-use Rattle.vr_safe.specs.Finished.{IsSaid, acknowledged, prepared, a_commit, a_start, a_statement}
+use Rattle.vr_safe.specs.Finished.{IsSaid, acknowledged, prepared, a_commit, a_start, a_checkpoint, a_statement}
 use Rattle.vr_safe.proofs.Finishing.{said_more, true_more}
 use Rattle.vr_rules.specs.Safe.{run_outputs}
 use Rattle.vr_agree.specs.Followed.{IsFrom, IsGoodEntry, IsSo, IsFollowed}
@@ -80,6 +80,7 @@ vouch_said u os _ (acknowledged s a h i e n) = (s, a, i, e, n, refl, refl, refl)
 vouch_said u os _ (prepared s p i e) = (s, p, i, e, refl, refl, refl)
 vouch_said u os _ (a_commit from v c) = tt
 vouch_said u os _ (a_start from v lo top c hs) = tt
+vouch_said u os _ (a_checkpoint from v c root) = tt
 vouch_said u os _ (a_statement from v t) = tt
 
 -- ---- what was made was written

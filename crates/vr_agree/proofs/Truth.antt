@@ -10,14 +10,14 @@ use Rattle.vr_rules.specs.Safe.{IsBacked, IsHashed, IsOutput, Safe}
 use Rattle.vr_agree.specs.Followed.{IsFollowed, IsSo}
 use Rattle.vr_agree.specs.Replied.{IsReplied}
 use Rattle.vr_agree.proofs.Sets.{every_at, get_in}
-use Rattle.vr_agree.proofs.Log.{the_log}
+use Rattle.vr_agree.proofs.Log.{is_log, the_log}
 use Rattle.vr_agree.proofs.Backed.{backed_frame, backed_line, kept_is, one_is}
 use Rattle.vr_agree.proofs.Justified.{justified}
 use Rattle.vr_agree.proofs.Replies.{true_reply}
 
 module _ (cluster n : ℕ) (u : Setup) (run : List Played) (x : IsFollowed cluster n u run) (y : IsReplied cluster n u run x) where
   backed_is : (move number : ℕ) (p : Played) (o : Output) → NoCollision (IsHashed run (root_header cluster)) → IsOutput run move number p o → IsSo cluster u run (x.group move) (x.group (suc move)) p o → IsBacked cluster n (the_log cluster n u run x) run move number p o
-  backed_is move number p (output.Send s) never i so = backed_frame cluster n u run x move number p i.at s.message so.numbered
+  backed_is move number p (output.Send s) never i so = backed_frame cluster n u run x move number p i.at s.message so.numbered (λ v e. y.offers never (the_log cluster n u run x) (is_log cluster n u run x) move number p s v i.at i.is e)
   backed_is move number p (output.Commit c) never i so = backed_line cluster n u run x move number p i.at never c (get_in p.moved.outputs number (output.Commit c) i.is) so
   backed_is move number p (output.Reply a) never i so = true_reply cluster n u run x y never move number a p i.at i.is
   backed_is move number p (output.Choose l) never i so = justified cluster n u run x move p i.at l so

@@ -1,6 +1,5 @@
 -- Words and what they leave of the state, and what they reply.
 use Rattle.std.proofs.Common.{ℕ, zero, suc, ◌+◌, ◌≡◌, ◌∙◌, arith, refl, sym, ap, subst, Bool, true, false, cond, List, [], ◌∷◌, ◌++◌, map, take}
-use Rattle.std.specs.Prelude.{⊤}
 use Rattle.vr_header.specs.Made.{Whole}
 use Rattle.vr_apply.specs.Folds.{state_after}
 use Rattle.vr_msg.specs.declared.output.Output.{Output}
@@ -10,7 +9,7 @@ use Rattle.vr_rules.specs.Steps.{Effect, Say, Step, Setting, Word, ◌⨾◌, qu
 use Rattle.vr_rules.proofs.SendsScripts.{outputs_append, outputs_said}
 use Rattle.vr_safe.specs.Chains.{Every}
 use Rattle.vr_rules.specs.Commitment.{is_line_of}
-use Rattle.vr_agree.specs.Answering.{one_if, HasState, lines, Lined, IsTold, Told, Leaves}
+use Rattle.vr_agree.specs.Answering.{one_if, HasState, IsMute, lines, Lined, IsTold, Told, Leaves}
 
 -- ---- lists of outputs
 
@@ -38,12 +37,6 @@ told_append log i m b (o ∷ x) y h k = (
   told_append log i (m + one_if (is_line_of i o)) (is_line_of i o) x y h.1
       (λ c. subst (λ z. Told log i z c y) (let e : m + (one_if (is_line_of i o) + lines i x) ≡ m + one_if (is_line_of i o) + lines i x = omega arith in e) (k c)),
 )
-
--- outputs that aren't lines or replies
-abbrev pub IsMute : Output → Type 0
-IsMute (output.Commit c) = ⊥
-IsMute (output.Reply a) = ⊥
-IsMute _ = ⊤
 
 mute_line : (i : ℕ) (o : Output) → IsMute o → is_line_of i o ≡ false
 mute_line i (output.Send s) h = refl

@@ -1,6 +1,6 @@
 -- What the outputs of a step say of a log: the entries that it applies are the log's, in order, and each reply is the plain sessions'
 -- and machine's over those applied by then.
-use Rattle.std.specs.Prelude.{ℕ, ◌+◌, ◌-◌, ◌≡◌, ⊤, Bool, true, false, List, [], ◌∷◌, take, slice_get, Some, if◌then◌else◌}
+use Rattle.std.specs.Prelude.{ℕ, ◌+◌, ◌-◌, ◌≡◌, ◌≢◌, ⊤, Bool, true, false, List, [], ◌∷◌, take, slice_get, Some, if◌then◌else◌}
 use Rattle.vr_header.specs.Made.{Whole}
 use Rattle.vr_apply.specs.Folds.{state_after}
 use Rattle.vr_msg.specs.declared.output.Output.{Output}
@@ -16,6 +16,7 @@ use Rattle.vr_rules.specs.Rules.{put_block}
 use Rattle.std.specs.List.{find}
 use Rattle.vr_rules.specs.Steps.{Step, Setting, outputs}
 use Rattle.vr_rules.specs.Commitment.{IsReplyOf, is_line_of}
+use Rattle.vr_safe.specs.Chains.{Every}
 
 abbrev pub one_if : Bool → ℕ
 one_if b = if b then 1 else 0
@@ -57,6 +58,18 @@ pub record Leaves (log : List Whole) (r : Replica) (b : Bool) (x : Step) : Type 
   pub index : x.replica.index ≡ r.index
   pub applied : x.replica.applied ≡ r.applied + lines r.index (outputs x.script)
   pub state : HasState log x.replica
+
+-- outputs that aren't commit lines or replies
+abbrev pub IsMute : Output → Type 0
+IsMute (output.Commit c) = ⊥
+IsMute (output.Reply a) = ⊥
+IsMute _ = ⊤
+
+-- a step that takes over a checkpoint of another replica: it says no commit line and no reply, and has no state yet
+pub record Jumps (r : Replica) (x : Step) : Type 0 where
+  pub index : x.replica.index ≡ r.index
+  pub mute : Every IsMute (outputs x.script)
+  pub missing : x.replica.missing ≢ []
 
 -- What is left where an event brings a missing block of another replica of the group, and it is put in its place: its last one has the
 -- checkpoint loaded anew.

@@ -1,5 +1,5 @@
 -- What is proved of runs that the machine follows, and of every step.
-use Rattle.std.specs.Prelude.{ℕ, ◌≤◌, false, List, length, Contains}
+use Rattle.std.specs.Prelude.{ℕ, ◌≤◌, ◌⊎◌, false, List, length, Contains}
 use Rattle.vr_header.specs.Made.{Whole}
 use Rattle.vr_msg.specs.declared.event.Event.{Event}
 use Rattle.vr_msg.specs.declared.output.Chosen.{Chosen}
@@ -14,7 +14,7 @@ use Rattle.vr_rules.specs.Steps.{Setting, outputs}
 use Rattle.vr_safe.specs.Chains.{Setup}
 use Rattle.vr_rules.specs.Safe.{Safe}
 use Rattle.vr_agree.specs.Followed.{IsFollowed}
-use Rattle.vr_agree.specs.Answering.{HasState, IsNumbered, Leaves, Lined, PutsWell}
+use Rattle.vr_agree.specs.Answering.{HasState, IsNumbered, Jumps, Leaves, Lined, PutsWell}
 use Rattle.vr_rules.specs.Sound.{IsSound}
 use Rattle.vr_agree.specs.Picked.{IsChosenBy}
 use Rattle.vr_agree.specs.Replied.{IsReplied}
@@ -24,11 +24,11 @@ abbrev pub FollowedRunsAreSafe : Type 0
 FollowedRunsAreSafe = (cluster n : ℕ) (u : Setup) (run : List Played) (x : IsFollowed cluster n u run) → IsReplied cluster n u run x → Safe cluster n run
 
 -- A replica has the state of a log's first entries, and in a step applies the log's next ones. Then each of its replies is true of that
--- log, and it has the state of as many as it has applied at the end.
+-- log, and it has the state of as many as it has applied at the end; or it takes over a checkpoint of another replica.
 abbrev pub StepsAnswer : Type 0 → Type 0
 StepsAnswer F =
     (log : List Whole) → IsNumbered log → (s : Setting F) (r : Replica) (f : F) (e : Event) → r.applied ≤ length log → PutsWell log s r f e → HasState log r
-    → Lined log r.index r.applied (outputs (react e s r f).script) → Leaves log r false (react e s r f)
+    → Lined log r.index r.applied (outputs (react e s r f).script) → Leaves log r false (react e s r f) ⊎ Jumps r (react e s r f)
 
 -- each choose line of a step is of the rules' choice from what the replica had heard, with what the event brought
 abbrev pub StepsChoose : Type 0 → Type 0

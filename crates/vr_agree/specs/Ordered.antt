@@ -1,5 +1,5 @@
 -- The commit lines of a step come in the order of the ops that it applies, and each is of an entry that reads at a slot.
-use Rattle.std.specs.Prelude.{ℕ, ◌+◌, ◌<◌, ◌≡◌, ⊤, List, [], ◌∷◌, ◌++◌, Some}
+use Rattle.std.specs.Prelude.{ℕ, ◌+◌, ◌<◌, ◌≡◌, ◌⊎◌, ⊤, List, [], ◌∷◌, ◌++◌, Some}
 use Rattle.vr_header.specs.Made.{Whole}
 use Rattle.vr_msg.specs.declared.event.Event.{Event}
 use Rattle.vr_msg.specs.declared.output.Committed.{Committed}
@@ -11,7 +11,7 @@ use Rattle.vr_rules.specs.Rules.{react}
 use Rattle.vr_rules.specs.Sound.{IsSound}
 use Rattle.vr_rules.specs.Steps.{Effect, Setting, Step, after_all, outputs}
 use Rattle.vr_protocol.specs.Basics.{In}
-use Rattle.vr_agree.specs.Answering.{one_if, lines}
+use Rattle.vr_agree.specs.Answering.{Jumps, one_if, lines}
 use Rattle.vr_rules.specs.Commitment.{is_line_of}
 
 -- after m applied entries a commit line of replica i is of the next op
@@ -39,5 +39,12 @@ pub record ComesInOrder {F : Type 0} (s : Setting F) (r : Replica) (f : F) (x : 
   pub ordered : AreInOrder r.index r.applied (outputs x.script)
   pub read : (c : Committed) → In (output.Commit c) (outputs x.script) → IsReadAmong s f x.script c.entry
 
+-- a step: so it is, or it takes over a checkpoint of another replica
+pub record IsOrderly {F : Type 0} (s : Setting F) (r : Replica) (f : F) (x : Step) : Type 0 where
+  pub index : x.replica.index ≡ r.index
+  pub applied : (x.replica.applied ≡ r.applied + lines r.index (outputs x.script)) ⊎ Jumps r x
+  pub ordered : AreInOrder r.index r.applied (outputs x.script)
+  pub read : (c : Committed) → In (output.Commit c) (outputs x.script) → IsReadAmong s f x.script c.entry
+
 abbrev pub StepsComeInOrder : Type 0 → Type 0
-StepsComeInOrder F = (s : Setting F) (r : Replica) (f : F) (e : Event) → HasNames s → IsSound r → IsEvent e → ComesInOrder s r f (react e s r f)
+StepsComeInOrder F = (s : Setting F) (r : Replica) (f : F) (e : Event) → HasNames s → IsSound r → IsEvent e → IsOrderly s r f (react e s r f)

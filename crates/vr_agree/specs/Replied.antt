@@ -6,7 +6,12 @@ use Rattle.vr_header.specs.Made.{Whole}
 use Rattle.vr_msg.specs.declared.event.Event.{Event}
 use Rattle.vr_msg.specs.declared.output.Output.{Output}
 use Rattle.vr_msg.specs.declared.output.Output.TheVariants as output
+use Rattle.vr_msg.specs.declared.frame.Frame.TheVariants as frame
+use Rattle.vr_msg.specs.declared.frame.SyncView.{SyncView}
+use Rattle.vr_msg.specs.declared.output.Sent.{Sent}
 use Rattle.vr_msg.specs.declared.reply.ReplyFields.{ReplyFields}
+use Rattle.vr_grid.specs.declared.name.Name.{Name}
+use Rattle.vr_rules.specs.Checkpoints.{IsCheckpointOf}
 use Rattle.vr_super.specs.Copies.{SuperValue}
 use Rattle.vr_rules.specs.Group.{Arrival, Member, Played, Runs, Recovers, Steps, mended, recovered, resumed, stepped}
 use Rattle.vr_header.specs.Bodies.{operation_bytes}
@@ -54,6 +59,10 @@ IsLogOf cluster u run sent log = (v k : ℕ) (c : Header) → 0 < k → Committe
 abbrev pub has_loaded : SuperValue → Lying → Step
 has_loaded v d = (leave_view ⨾ says start_line ⨾ load) lying (recovered v d) (after_all lying d (mended v d).script)
 
+-- the root that comes with the log of a view
+abbrev pub root_told : SyncView → Name
+root_told v = record { address = v.root_address; sum = v.root_name }
+
 pub record IsReplied (cluster n : ℕ) (u : Setup) (run : List Played) (x : IsFollowed cluster n u run) : Type 0 where
   -- of each member that runs before a move
   pub served : (t at : ℕ) (p : Played) (m : Member) (r : Replica) → slice_get run t ≡ Some p → Runs p.before at m r → IsServed u (x.group t).sent r
@@ -64,3 +73,6 @@ pub record IsReplied (cluster n : ℕ) (u : Setup) (run : List Played) (x : IsFo
       → (t at : ℕ) (arrival : Arrival) (p : Played) (e : Event) (d : Lying) (m : Member) (r : Replica) → slice_get run t ≡ Some p → p.move ≡ Steps at arrival e d → Runs p.before at m r → PutsWell log lying r d e
   pub loads : NoCollision (IsHashed run (root_header cluster)) → (log : List Whole) → IsLogOf cluster u run (x.group (length run)).sent log
       → (t at : ℕ) (p : Played) (v : SuperValue) (d : Lying) → slice_get run t ≡ Some p → p.move ≡ Recovers at v d → is_frozen (resumed v d).replica ≡ false → HasState log (has_loaded v d).replica
+  -- the checkpoint that is given with the log of a view is one of the log, where names don't collide
+  pub offers : NoCollision (IsHashed run (root_header cluster)) → (log : List Whole) → IsLogOf cluster u run (x.group (length run)).sent log
+      → (t number : ℕ) (p : Played) (s : Sent) (v : SyncView) → slice_get run t ≡ Some p → slice_get p.moved.outputs number ≡ Some (output.Send s) → s.message ≡ frame.SyncView v → IsCheckpointOf cluster log v.checkpoint (root_told v)

@@ -1,10 +1,10 @@
 -- What is written and read in a run of a group has the values of the program.
-use Rattle.std.specs.Prelude.{ℕ, ◌≡◌, Bool, List, All, slice_get, Some}
+use Rattle.std.specs.Prelude.{ℕ, ◌≡◌, Bool, List, slice_get, Some}
 use Rattle.vr_header.specs.Made.{IsEntryHeader, Whole}
 use Rattle.vr_msg.specs.declared.event.Event.{Event}
 use Rattle.vr_msg.specs.declared.output.Committed.{Committed}
 use Rattle.vr_msg.specs.declared.output.Output.TheVariants as output
-use Rattle.vr_rules.specs.Fit.{IsBlockName, IsProgram, ReadsWell}
+use Rattle.vr_rules.specs.Fit.{IsProgram, KnowsBlocks, ReadsWell}
 use Rattle.vr_rules.specs.Group.{Played}
 use Rattle.vr_rules.specs.Laws.{IsEvent, SavesRoots}
 use Rattle.vr_rules.specs.Replica.{Replica}
@@ -30,7 +30,7 @@ pub record IsWellRead (e : Whole) : Type 0 where
 -- on a disk that reads well, each commit line of a step is of a good entry
 abbrev pub StepsReadGood : Type 0 → Type 0
 StepsReadGood F =
-    (s : Setting F) (f : F) (r : Replica) (e : Event) → IsProgram s → SavesRoots s → ReadsWell s f → IsSound r → IsSavable r → All IsBlockName r.missing → IsEvent e
+    (s : Setting F) (f : F) (r : Replica) (e : Event) → IsProgram s → SavesRoots s → ReadsWell s f → IsSound r → IsSavable r → KnowsBlocks r → IsEvent e
     → (c : Committed) → In (output.Commit c) (outputs (react e s r f).script) → IsWellRead c.entry
 
 -- so is each in a run, those of openings too

@@ -10,7 +10,7 @@ pub fn followed_runs_are_safe()
     ensures { FollowedRunsAreSafe }
 {}
 
-/// The replies of each step are true of the log that its replica applies.
+/// The replies of each step are true of the log that its replica applies; a step that takes over a checkpoint has none.
 pub fn steps_answer<F>()
     ensures { StepsAnswer F }
 {}

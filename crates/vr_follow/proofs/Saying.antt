@@ -89,7 +89,7 @@ line_hashed run c g _ _ there fit h (group.steps at a e d m r runs i) l j =
     let f = (fit.members at m runs.member).running r runs.running in
     let x = stepped e r d in
     let came = arrives c g at a e fit h.0 i in
-    let whole = (steps_fit lying d r e disks_fit.lies disks_fit.roots h.1 f.0.sound f.0.savable f.0.missing came).each in
+    let whole = (steps_fit lying d r e disks_fit.lies disks_fit.roots h.1 f.0.sound f.0.savable f.0.blocks came).each in
     let o = (come_in_order lying r d e disks_fit.names f.0.sound came).read l j in
     read_hashed run c (record { before = g; move = group.Steps at a e d; moved = group.finished g at m x }) there d o.first o.rest o.slot l.entry (one_face d.face) o.are (fit_front o.first o.rest (subst (All IsFit) (sym o.are) whole)) o.within o.reads
 line_hashed run c g _ _ there fit h (group.cuts at a e d k m r runs i) l j = absurd j

@@ -14,6 +14,7 @@ use Rattle.vr_msg.specs.declared.frame.Commit.{Commit}
 use Rattle.vr_msg.specs.declared.frame.DoViewChange.{DoViewChange}
 use Rattle.vr_msg.specs.declared.frame.GetBlock.{GetBlock}
 use Rattle.vr_msg.specs.declared.frame.GetPrepare.{GetPrepare}
+use Rattle.vr_msg.specs.declared.frame.GetSync.{GetSync}
 use Rattle.vr_msg.specs.declared.frame.GetView.{GetView}
 use Rattle.vr_msg.specs.declared.frame.GiveBlock.{GiveBlock}
 use Rattle.vr_msg.specs.declared.frame.GivePrepare.{GivePrepare}
@@ -21,17 +22,18 @@ use Rattle.vr_msg.specs.declared.frame.Prepare.{Prepare}
 use Rattle.vr_msg.specs.declared.frame.PrepareOk.{PrepareOk}
 use Rattle.vr_msg.specs.declared.frame.StartView.{StartView}
 use Rattle.vr_msg.specs.declared.frame.StartViewChange.{StartViewChange}
+use Rattle.vr_msg.specs.declared.frame.SyncView.{SyncView}
 use Rattle.vr_msg.specs.declared.request.RequestFields.{RequestFields}
 use Rattle.vr_grid.specs.declared.name.Name.{Name}
 use Rattle.vr_rules.specs.Replica.{header_at}
-use Rattle.vr_rules.specs.Steps.{PutBlock, quiet, change, does}
+use Rattle.vr_rules.specs.Steps.{PutBlock, ◌⨾◌, quiet, change, does}
 use Rattle.vr_rules.specs.declared.asker.Asker.{Asker}
-use Rattle.vr_rules.specs.Words.{rested}
-use Rattle.vr_rules.specs.Deciding.{Hash, first_of, session_answer, request_table, prepare_table, prepare_ok_table, commit_table, start_view_change_table, do_view_change_table, log_of, start_view_table, get_view_table, get_prepare_table, give_prepare_table, get_block_table, is_wanted, give_block_table, tick_table}
+use Rattle.vr_rules.specs.Words.{ask, rested, visit}
+use Rattle.vr_rules.specs.Deciding.{Hash, first_of, session_answer, request_table, prepare_table, prepare_ok_table, commit_table, start_view_change_table, do_view_change_table, log_of, start_view_table, get_view_table, get_prepare_table, give_prepare_table, get_block_table, is_wanted, get_sync_table, give_block_table, sync_view_table, tick_table}
 use Rattle.vr_rules.specs.declared.rule.Rule.{Rule}
-use Rattle.vr_rules.specs.declared.rule.Rule.TheVariants.{Redirected, Behind, Answered, Full, Made, PreparedLater, Past, Beyond, Known, Next, Ahead, Other, Counted, CommitLater, CommitHeard, ChangeLater, ChangeHeard, ChangeDone, StatedLate, Stated, Taken, ViewGiven, EntryGiven, EntryTaken, BlockGiven, BlockTaken, TickedPrimary, TickedBackup, TickedChanging}
-use Rattle.vr_rules.specs.Rules.{acknowledge, acknowledge_stored, acknowledged, asker_by, give_read, heard_of, idler, make, next_entry, next_view, obey_commit, obey_do_view_change, obey_get_block, obey_get_prepare, obey_get_view, obey_give_block, obey_give_prepare, obey_prepare, obey_prepare_ok, obey_request, obey_start_view, obey_start_view_change, obey_tick, on_commit, on_do_view_change, on_event, on_get_block, on_get_prepare, on_get_view, on_give_block, on_give_prepare, on_message, on_prepare, on_prepare_ok, on_request, on_start_view, on_start_view_change, on_tick, put_block, put_found, react, stored_reply, with_statement, without}
-use Rattle.vr_lying.proofs.Words.{Alike, a_accept, a_advance, a_apply, a_ask, a_by, a_change, a_does, a_each, a_enter, a_if, a_learn, a_load, a_naming, a_prepare_again, a_quiet, a_reading, a_resend, a_says, a_speak, a_take, a_then, a_times, a_try, a_when, a_with_at, a_write}
+use Rattle.vr_rules.specs.declared.rule.Rule.TheVariants.{Redirected, Behind, Answered, Full, Made, PreparedLater, Past, Beyond, Known, Next, Ahead, Other, Counted, CommitLater, CommitHeard, ChangeLater, ChangeHeard, ChangeDone, StatedLate, Stated, Taken, ViewGiven, EntryGiven, EntryTaken, BlockGiven, BlockTaken, BlockMended, TickedPrimary, TickedBackup, TickedChanging, SyncAsked, SyncGiven, Jumped}
+use Rattle.vr_rules.specs.Rules.{acknowledge, acknowledge_stored, acknowledged, asker_by, give_read, heard_of, idler, make, mend_found, next_entry, next_view, not_worn, obey_commit, obey_do_view_change, obey_get_block, obey_get_prepare, obey_get_sync, obey_get_view, obey_give_block, obey_give_prepare, obey_prepare, obey_prepare_ok, obey_request, obey_start_view, obey_start_view_change, obey_sync_view, obey_tick, on_commit, on_do_view_change, on_event, on_get_block, on_get_prepare, on_get_sync, on_get_view, on_give_block, on_give_prepare, on_message, on_prepare, on_prepare_ok, on_request, on_start_view, on_start_view_change, on_sync_view, on_tick, put_block, put_found, react, stored_reply, with_statement, without}
+use Rattle.vr_lying.proofs.Words.{Alike, a_accept, a_advance, a_apply, a_ask, a_by, a_change, a_does, a_each, a_enter, a_if, a_jump, a_learn, a_load, a_naming, a_prepare_again, a_quiet, a_reading, a_resend, a_says, a_speak, a_take, a_then, a_times, a_try, a_visit, a_when, a_with_at, a_write}
 
 a_make : (e : Whole) → Alike (make e) (make e)
 unfolding make
@@ -122,11 +124,28 @@ a_stored hash op = a_by (λ r. a_when _ (a_option hash (header_at r op)))
 
 a_obey_view : (hash : Hash) (v : StartView) (x : Rule) → Alike (obey_start_view hash v x) (obey_start_view hash v x)
 a_obey_view hash v Taken = a_then (a_take (log_of v)) (a_then (a_by (λ r. a_each _ (a_stored hash))) a_apply)
+a_obey_view hash v SyncAsked = a_says _
 a_obey_view hash v _ = a_quiet
 
 a_view : (v : StartView) → Alike (on_start_view v) (on_start_view v)
 unfolding on_start_view
 a_view v = a_naming (λ hash. a_by (λ r. a_obey_view hash v (first_of (start_view_table hash v r))))
+
+a_obey_get_sync : (g : GetSync) (x : Rule) → Alike (obey_get_sync g x) (obey_get_sync g x)
+a_obey_get_sync g SyncGiven = a_says _
+a_obey_get_sync g _ = a_quiet
+
+a_get_sync : (g : GetSync) → Alike (on_get_sync g) (on_get_sync g)
+unfolding on_get_sync
+a_get_sync g = a_by (λ r. a_obey_get_sync g (first_of (get_sync_table g r)))
+
+a_obey_sync : (hash : Hash) (v : SyncView) (x : Rule) → Alike (obey_sync_view hash v x) (obey_sync_view hash v x)
+a_obey_sync hash v Jumped = a_then (a_jump v) (a_then (a_by (λ r. a_each _ (a_stored hash))) a_apply)
+a_obey_sync hash v _ = a_quiet
+
+a_sync : (v : SyncView) → Alike (on_sync_view v) (on_sync_view v)
+unfolding on_sync_view
+a_sync v = a_naming (λ hash. a_by (λ r. a_obey_sync hash v (first_of (sync_view_table hash v r))))
 
 a_obey_get_view : (g : GetView) (x : Rule) → Alike (obey_get_view g x) (obey_get_view g x)
 a_obey_get_view g ViewGiven = a_says _
@@ -175,8 +194,13 @@ a_put_found : (block : List ℕ) (o : Option Name) → Alike (put_found block o)
 a_put_found block None = a_quiet
 a_put_found block (Some name) = a_then (a_put_block name block) a_apply
 
+a_mend_found : (block : List ℕ) (o : Option Name) → Alike (mend_found block o) (mend_found block o)
+a_mend_found block None = a_quiet
+a_mend_found block (Some name) = a_then (a_put name block) (a_change (not_worn name))
+
 pub a_obey_give_block : (t : Name → List ℕ → Bool) (g : GiveBlock) (x : Rule) → Alike (obey_give_block t g x) (obey_give_block t g x)
 a_obey_give_block t g BlockTaken = a_by (λ r. a_put_found g.block (find (is_wanted t g) r.missing))
+a_obey_give_block t g BlockMended = a_by (λ r. a_mend_found g.block (find (is_wanted t g) r.worn))
 a_obey_give_block t g _ = a_quiet
 
 a_give_block : (g : GiveBlock) → Alike (on_give_block g) (on_give_block g)
@@ -189,10 +213,13 @@ a_next_view = a_by (λ r. a_enter (r.view + 1))
 a_idler : Alike (change idler) (change idler)
 a_idler = a_change idler
 
+a_looks : Alike (visit ⨾ ask) (visit ⨾ ask)
+a_looks = a_then a_visit a_ask
+
 a_obey_tick : (x : Rule) → Alike (obey_tick x) (obey_tick x)
-a_obey_tick TickedPrimary = a_then (a_says _) (a_then (a_by (λ r. a_when _ (a_prepare_again (r.commit + 1)))) a_ask)
-a_obey_tick TickedBackup = a_then a_idler (a_by (λ r. a_if _ a_next_view a_ask))
-a_obey_tick TickedChanging = a_then a_idler (a_by (λ r. a_if _ a_next_view (a_then (a_says _) (a_then a_speak a_ask))))
+a_obey_tick TickedPrimary = a_then (a_says _) (a_then (a_by (λ r. a_when _ (a_prepare_again (r.commit + 1)))) a_looks)
+a_obey_tick TickedBackup = a_then a_idler (a_by (λ r. a_if _ a_next_view a_looks))
+a_obey_tick TickedChanging = a_then a_idler (a_by (λ r. a_if _ a_next_view (a_then (a_says _) (a_then a_speak a_looks))))
 a_obey_tick _ = a_quiet
 
 a_tick : Alike on_tick on_tick
@@ -213,6 +240,8 @@ a_message (frame.GetPrepare g) = a_get_prepare g
 a_message (frame.GivePrepare g) = a_give_prepare g
 a_message (frame.GetBlock g) = a_get_block g
 a_message (frame.GiveBlock g) = a_give_block g
+a_message (frame.GetSync g) = a_get_sync g
+a_message (frame.SyncView v) = a_sync v
 
 a_event : (e : Event) → Alike (on_event e) (on_event e)
 a_event (event.Request q) = a_request q

@@ -1,15 +1,17 @@
 -- A step over a disk that lies is that of its sectors: the words.
 use Rattle.std.proofs.Common.{ℕ, zero, suc, ◌≡◌, ◌∙◌, refl, sym, ap, Bool, true, false, cond, List, [], ◌∷◌, ◌++◌, map, Option, Some, None}
-use Rattle.std.specs.Prelude.{nat_lt, not, ◌+◌}
+use Rattle.std.specs.Prelude.{nat_lt, not, slice_get, ◌+◌, ◌-◌, ◌==◌}
 use Rattle.vr_base.specs.Bytes.{name_of}
 use Rattle.vr_disk.specs.DiskState.{Face}
 use Rattle.vr_header.specs.declared.header.Header.{Header}
 use Rattle.vr_header.specs.declared.part.Part.{Part}
 use Rattle.vr_header.specs.declared.part.Part.TheVariants.{Here, Lost, Wanted, Unknown, Nothing}
 use Rattle.vr_header.specs.Made.{Whole}
+use Rattle.vr_header.specs.Same.{same_header}
 use Rattle.vr_msg.specs.declared.choice.Choice.{Choice}
 use Rattle.vr_msg.specs.declared.choice.Choice.TheVariants.{Ends, WaitsAt, TooFew}
 use Rattle.vr_msg.specs.declared.frame.Frame.{Frame}
+use Rattle.vr_msg.specs.declared.frame.SyncView.{SyncView}
 use Rattle.vr_msg.specs.declared.output.Output.{Output}
 use Rattle.vr_msg.specs.declared.statement.Statement.{Statement}
 use Rattle.vr_apply.specs.Texts.{state_decoded}
@@ -24,7 +26,7 @@ use Rattle.vr_ckpt.specs.declared.table.PayloadTable.{PayloadTable}
 use Rattle.vr_rules.specs.Replica.{Replica, forgetting, is_here, leads, part_at, with_part, is_primary, last_view}
 use Rattle.vr_rules.specs.Steps.{Effect, Write, Rewrite, Save, Mend, Checkpoint, PutBlock, Say, Setting, Step, Word, ◌⨾◌, quiet, change, does, says, by, naming, reading, when, times, each, after_all}
 use Rattle.vr_rules.specs.Outputs.{applied_reply, commit_line, send_to_all, start_line, start_view_change, wait_line, to_primary, do_view_change}
-use Rattle.vr_rules.specs.Words.{Log, accept, advance, advanced, apply, apply_entry, apply_next, applied, ask, ask_for, ask_peer, begin_view, checkpoint_of, checkpoints, chosen_log, choose_line, decided, enter, entered, entry_of, is_checkpoint, learn, learned, load, loaded_state, loads, lost, make_checkpoint, obey_choice, or_lost, prepare_again, resend, rested, save, saves, speak, stated, stored, take, taken, try, try_log, turned, with_checkpoint, with_entry, with_entry_at, with_saved, write, writes}
+use Rattle.vr_rules.specs.Words.{Log, accept, advance, advanced, apply, apply_entry, apply_next, applied, ask, ask_for, ask_peer, begin_view, checkpoint_of, checkpoints, chosen_log, choose_line, decided, enter, entered, entry_of, is_checkpoint, learn, learned, load, loaded_state, loads, lost, make_checkpoint, obey_choice, or_lost, prepare_again, resend, rested, save, saves, speak, stated, stored, take, taken, try, try_log, turned, with_checkpoint, with_entry, with_entry_at, with_saved, write, writes, blocks_of, is_loaded, jump, jumped, least_absent, mend_header, op_of_slot, place_now, visit, visit_block, visit_place, visit_read, visit_slot, with_cursor, with_worn}
 use Rattle.vr_rules.specs.Opening.{Slot, announce, clouded, entry_header, heard_itself, in_next_view, leave_view, mend_slot, old_headers, old_part, opening, part_by, recover_old, recover_op, recover_parts, resuming, rewrite, slot_verdict}
 use Rattle.vr_rules.specs.Lying.{Lying, lying}
 use Rattle.vr_rules.specs.Sectors.{sectors}
@@ -186,14 +188,47 @@ pub a_ask_peer : (m : Replica → Frame) → Alike (ask_peer m) (ask_peer m)
 unfolding ask_peer
 a_ask_peer m = a_then (a_says _) (a_change turned)
 
-pub a_ask_for : (ns : List Name) (o : Option Header) → Alike (ask_for ns o) (ask_for ns o)
-a_ask_for (n ∷ ns) o = a_ask_peer _
-a_ask_for [] (Some h) = a_naming (λ hash. a_ask_peer _)
-a_ask_for [] None = a_quiet
+pub a_ask_for : (ns : List Name) (o : Option Header) (ws : List Name) → Alike (ask_for ns o ws) (ask_for ns o ws)
+a_ask_for (n ∷ ns) o ws = a_ask_peer _
+a_ask_for [] (Some h) ws = a_naming (λ hash. a_ask_peer _)
+a_ask_for [] None (n ∷ ns) = a_ask_peer _
+a_ask_for [] None [] = a_quiet
 
 pub a_ask : Alike ask ask
 unfolding ask
-a_ask = a_by (λ r. a_ask_for _ _)
+a_ask = a_by (λ r. a_ask_for r.missing (least_absent r) r.worn)
+
+pub a_jump : (v : SyncView) → Alike (jump v) (jump v)
+unfolding jump
+a_jump v = a_then (a_change (jumped v)) a_save
+
+-- ---- a visit
+
+a_mend_header : (h : Header) (o : Option Header) → Alike (mend_header h o) (mend_header h o)
+a_mend_header h None = a_does (λ r. Rewrite h)
+a_mend_header h (Some d) = a_when (not (same_header d h)) (a_does (λ r. Rewrite h))
+
+a_visit_slot : (op : ℕ) → Alike (visit_slot op) (visit_slot op)
+unfolding visit_slot
+a_visit_slot op = a_with_at op (λ e. a_reading _ _ (λ d. refl) (a_mend_header e.header))
+
+a_visit_read : (name : Name) (o : Option (List ℕ)) → Alike (visit_read name o) (visit_read name o)
+a_visit_read name None = a_change (with_worn name)
+a_visit_read name (Some block) = a_quiet
+
+a_visit_block : (o : Option Name) → Alike (visit_block o) (visit_block o)
+unfolding visit_block
+a_visit_block None = a_quiet
+a_visit_block (Some name) = a_reading _ _ (λ d. refl) (a_visit_read name)
+
+a_visit_place : (at : ℕ) → Alike (visit_place at) (visit_place at)
+unfolding visit_place
+a_visit_place at =
+    a_by (λ r. a_if (nat_lt at 64) (a_visit_slot (op_of_slot r at)) (a_if (at == 64) (a_does (λ r. Mend r.saved)) (a_visit_block (slice_get (blocks_of r) (at - 65)))))
+
+pub a_visit : Alike visit visit
+unfolding visit
+a_visit = a_by (λ r. a_when (is_loaded r) (a_then (a_visit_place (place_now r)) (a_change (with_cursor (place_now r)))))
 
 pub a_load : Alike load load
 unfolding load

@@ -11,6 +11,7 @@ use Rattle.vr_grid.specs.declared.block.Block.{Block}
 use Rattle.vr_ckpt.specs.Saves.{saved_checkpoint, written}
 use Rattle.vr_ckpt.specs.declared.saving.SavedCheckpoint.{SavedCheckpoint}
 use Rattle.vr_ckpt.specs.declared.table.PayloadTable.{PayloadTable}
+use Rattle.vr_rules.specs.Checkpoints.{state_at, table_before}
 use Rattle.vr_rules.specs.Group.{Played}
 use Rattle.vr_rules.specs.Safe.{IsHashed}
 use Rattle.vr_rules.specs.Steps.{Effect}
@@ -21,7 +22,7 @@ use Rattle.vr_agree.proofs.Log.{is_log, the_log}
 use Rattle.vr_agree.proofs.Sets.{every_at}
 use Rattle.vr_follow.proofs.Following.{follows_it}
 use Rattle.vr_replied.proofs.Runs.{borne_at}
-use Rattle.vr_replied.proofs.Values.{IsMade, IsRooted, IsRootOf, state_at, table_before}
+use Rattle.vr_replied.proofs.Values.{IsMade, IsRooted, IsRootOf}
 use Rattle.vr_replied.proofs.Walk.{IsBorne}
 use Rattle.vr_one_checkpoint.specs.Laws.{AreOne, HasOneCheckpoint, IsWrittenIn, root_of_value}
 

@@ -88,6 +88,8 @@ module _ (xs ys : List Output) (all : SendNoMore xs ys) where
   message_said n log (frame.GivePrepare g) h = tt
   message_said n log (frame.GetBlock g) h = tt
   message_said n log (frame.GiveBlock g) h = tt
+  message_said n log (frame.GetSync g) h = tt
+  message_said n log (frame.SyncView v) h = (numbers_said n log v.view v.commit h.0, h.1)
 
   -- a choice of a log is justified in what says no more
   justified_said : (n : ℕ) (p : Played) (l : Chosen) → IsJustified n ys p l → IsJustified n xs p l

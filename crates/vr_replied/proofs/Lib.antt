@@ -3,6 +3,7 @@ pub mod Disks
 pub mod Values
 pub mod Walk
 pub mod Words
+pub mod Jumping
 pub mod Reacting
 pub mod Opening
 pub mod Members

@@ -14,6 +14,7 @@ use Rattle.vr_grid.specs.declared.name.Name.{Name}
 use Rattle.vr_recover.specs.declared.readings.Verdict.{Verdict}
 use Rattle.vr_recover.specs.declared.readings.Verdict.TheVariants as verdict
 use Rattle.vr_rules.specs.Group.{mended}
+use Rattle.vr_rules.specs.Checkpoints.{state_at, table_at}
 use Rattle.vr_rules.specs.Lying.{Lying, lying}
 use Rattle.vr_rules.specs.Opening.{Slot, announce, blank, clouded, entry_header, going_on, heard_itself, in_next_view, leave_view, mend_slot, mending, old_headers, old_part, part_by, recover_old, recover_op, recover_parts, resuming, rewrite, slot_at, slot_verdict}
 use Rattle.vr_rules.specs.Outputs.{start_line, start_view_change}
@@ -25,9 +26,9 @@ use Rattle.vr_safe.specs.Chains.{Every}
 use Rattle.vr_agree.specs.Answering.{lines}
 use Rattle.vr_replied.specs.Hashed.{ReadsHashed}
 use Rattle.vr_replied.proofs.Disks.{Begun, IsBeside, beside_hashed}
-use Rattle.vr_replied.proofs.Values.{Core, IsRooted, Rests, Stands, core, first_table, state_at, table_at}
+use Rattle.vr_replied.proofs.Values.{Core, IsRooted, Rests, Stands, core, first_table}
 use Rattle.vr_replied.proofs.Walk.{AllMay, IsCalm, IsOther, May, MaySay, Steady, Walks, WellAt, then_at, walks_by, walks_change, walks_does, walks_each, walks_quiet, walks_reading, walks_save, walks_says, walks_then, walks_when}
-use Rattle.vr_replied.proofs.Words.{Keeps, S, go_all, go_apply, go_by, go_change, go_then, go_when, load_at, put_at}
+use Rattle.vr_replied.proofs.Words.{Keeps, S, go_all, go_apply, go_by, go_change, go_then, go_when, load_at, put_at, resting_saved}
 
 -- before its checkpoint is loaded
 pub record Waits (H : List ℕ → Type 0) (cluster : ℕ) (log : List Whole) (k : Core) (d : Lying) : Type 0 where
@@ -56,6 +57,7 @@ blank_waits H cluster log v d own rooted reads = record {
     root = rooted;
     table = record { sessions = tt; keys = tt };
     waits = λ some. absurd (some refl);
+    saved = rooted;
   };
   same = refl;
   blank = refl;
@@ -131,6 +133,7 @@ module _ (H : List ℕ → Type 0) (never : NoCollision H) (cluster : ℕ) (log 
   waiting = record {
     rooted = λ k d p. p.rests.root;
     calm = λ k d e c p. record { rests = p.rests; same = p.same; blank = p.blank; none = p.none; reads = beside_hashed H d e (calm_beside e c) p.reads };
+    saved = λ k d v rooted p. record { rests = resting_saved H cluster log k v rooted p.rests; same = p.same; blank = p.blank; none = p.none; reads = p.reads };
   }
 
   -- ---- what is found
@@ -184,7 +187,7 @@ module _ (H : List ℕ → Type 0) (never : NoCollision H) (cluster : ℕ) (log 
       then_at H cluster log L (S H never cluster log) (says start_line) load _ _ (start_walks.every _ _ q) (λ q. waits_load _ _ q))
 
   announce_walks : Keeps H never cluster log announce
-  announce_walks = go_by H never cluster log _ (λ r. go_when H never cluster log _ _ (go_then H never cluster log (change heard_itself) _ (go_change H never cluster log heard_itself (λ r. refl)) (go_by H never cluster log _ (λ r. go_when H never cluster log _ _ (go_all H never cluster log start_view_change)))))
+  announce_walks = go_by H never cluster log _ (λ r. go_when H never cluster log _ _ (go_then H never cluster log (change heard_itself) _ (go_change H never cluster log heard_itself (λ r. refl)) (go_by H never cluster log _ (λ r. go_when H never cluster log _ _ (go_all H never cluster log start_view_change (λ r. tt))))))
 
   going_at : (r : Replica) (d : Lying) → L (core r) d → WellAt H cluster log (S H never cluster log) going_on r d
   going_at r d p =

@@ -1,9 +1,9 @@
 -- The rules keep a replica's checkpoint and state the log's.
 use Rattle.std.proofs.Common.{ℕ, ◌≡◌, ◌≢◌, refl, sym, subst, Bool, true, false, cond, List, [], ◌∷◌, Option, Some, None}
-use Rattle.std.specs.Prelude.{find, is_some, not, ◌==◌, ◌||◌}
+use Rattle.std.specs.Prelude.{⊤, find, is_some, nat_le, nat_lt, not, ◌==◌, ◌||◌}
 use Rattle.std.specs.List.{list_any}
 use Rattle.std.specs.Option.{option_map_or}
-use Rattle.std.proofs.lemmas.Bool.{and_parts}
+use Rattle.std.proofs.lemmas.Bool.{and_parts, ltb-true}
 use Rattle.vr_header.specs.declared.header.Header.{Header}
 use Rattle.vr_header.specs.Made.{Whole}
 use Rattle.vr_header.specs.NoCollision.{NoCollision}
@@ -17,6 +17,7 @@ use Rattle.vr_msg.specs.declared.frame.Frame.{Frame}
 use Rattle.vr_msg.specs.declared.frame.Frame.TheVariants as frame
 use Rattle.vr_msg.specs.declared.frame.GetBlock.{GetBlock}
 use Rattle.vr_msg.specs.declared.frame.GetPrepare.{GetPrepare}
+use Rattle.vr_msg.specs.declared.frame.GetSync.{GetSync}
 use Rattle.vr_msg.specs.declared.frame.GetView.{GetView}
 use Rattle.vr_msg.specs.declared.frame.GiveBlock.{GiveBlock}
 use Rattle.vr_msg.specs.declared.frame.GivePrepare.{GivePrepare}
@@ -24,23 +25,31 @@ use Rattle.vr_msg.specs.declared.frame.Prepare.{Prepare}
 use Rattle.vr_msg.specs.declared.frame.PrepareOk.{PrepareOk}
 use Rattle.vr_msg.specs.declared.frame.StartView.{StartView}
 use Rattle.vr_msg.specs.declared.frame.StartViewChange.{StartViewChange}
+use Rattle.vr_msg.specs.declared.frame.SyncView.{SyncView}
 use Rattle.vr_msg.specs.declared.request.RequestFields.{RequestFields}
 use Rattle.vr_sess.specs.declared.session.SessionAnswer.{SessionAnswer}
 use Rattle.vr_sess.specs.declared.session.SessionAnswer.TheVariants as answer
 use Rattle.vr_rules.specs.declared.asker.Asker.{Asker}
 use Rattle.vr_rules.specs.declared.rule.Rule.{Rule}
-use Rattle.vr_rules.specs.declared.rule.Rule.TheVariants.{Redirected, Behind, Answered, Full, Made, PreparedLater, Past, Beyond, Known, Next, Ahead, Other, Counted, CommitLater, CommitHeard, ChangeLater, ChangeHeard, ChangeDone, StatedLate, Stated, Taken, ViewGiven, EntryGiven, EntryTaken, BlockGiven, BlockTaken, TickedPrimary, TickedBackup, TickedChanging}
-use Rattle.vr_rules.specs.Deciding.{Hash, first_of, give_block_table, is_from, is_wanted, session_answer}
+use Rattle.vr_rules.specs.declared.rule.Rule.TheVariants.{Redirected, Behind, Answered, Full, Made, PreparedLater, Past, Beyond, Known, Next, Ahead, Other, Counted, CommitLater, CommitHeard, ChangeLater, ChangeHeard, ChangeDone, StatedLate, Stated, Taken, ViewGiven, EntryGiven, EntryTaken, BlockGiven, BlockTaken, BlockMended, TickedPrimary, TickedBackup, TickedChanging, SyncAsked}
+use Rattle.vr_rules.specs.Deciding.{Hash, first_of, get_sync_table, give_block_table, is_from, is_wanted, reaches_down, session_answer, sync_view_table}
 use Rattle.vr_rules.specs.Group.{stepped}
 use Rattle.vr_rules.specs.Lying.{Lying, lying}
-use Rattle.vr_rules.specs.Replica.{Replica, header_at, is_frozen}
+use Rattle.vr_rules.specs.Replica.{Replica, header_at, is_frozen, leads, run_start}
 use Rattle.vr_rules.specs.Rules as rules
-use Rattle.vr_rules.specs.Steps.{Effect, PutBlock, Word, ◌⨾◌, quiet, change, does, by, reading, when}
+use Rattle.vr_rules.proofs.Ruling.{by_rows}
+use Rattle.vr_rules.specs.Steps.{Effect, PutBlock, Word, ◌⨾◌, quiet, change, does, by, naming, reading, when}
 use Rattle.vr_rules.specs.Words.{apply, rested, speak}
 use Rattle.vr_replied.specs.Hashed.{ReadsHashed}
-use Rattle.vr_replied.proofs.Values.{Stands, core}
-use Rattle.vr_replied.proofs.Walk.{WellAt, then_at}
-use Rattle.vr_replied.proofs.Words.{Keeps, S, go_accept, go_advance, go_again, go_all, go_apply, go_ask, go_by, go_change, go_each, go_enter, go_entry, go_if, go_learn, go_naming, go_quiet, go_reading, go_resend, go_says, go_speak, go_take, go_then, go_try, go_when, go_write, put_at}
+use Rattle.vr_replied.proofs.Jumping.{jump_at}
+use Rattle.vr_replied.proofs.Values.{IsOffered, Stands, core}
+use Rattle.vr_replied.proofs.Walk.{IsTrueFrame, Settles, WellAt, settles, then_at}
+use Rattle.vr_replied.proofs.Words.{Keeps, S, go_accept, go_advance, go_again, go_all, go_apply, go_by, go_change, go_each, go_enter, go_entry, go_if, go_learn, go_looks, go_naming, go_quiet, go_reading, go_resend, go_says, go_speak, go_take, go_then, go_try, go_when, go_write, mends_at, offers_at, put_at}
+
+-- a checkpoint that is delivered with the log of a view is one of the log
+abbrev pub IsTrueEvent : (List ℕ → Type 0) → ℕ → List Whole → Event → Type 0
+IsTrueEvent H cluster log (event.Deliver m) = IsTrueFrame H cluster log m
+IsTrueEvent H cluster log _ = ⊤
 
 -- a block that is found wanted is one of those that are missing
 pub found_wanted : (p : Name → Bool) (names : List Name) (name : Name) → find p names ≡ Some name → (p name ≡ true) × (names ≢ [])
@@ -77,7 +86,7 @@ module _ (H : List ℕ → Type 0) (never : NoCollision H) (cluster : ℕ) (log 
 
   keeps_make : (e : Whole) → Keeps H never cluster log (rules.make e)
   unfolding rules.make
-  keeps_make e = go_then H never cluster log _ _ (go_write H never cluster log e) (go_then H never cluster log _ _ (go_all H never cluster log _) (go_advance H never cluster log))
+  keeps_make e = go_then H never cluster log _ _ (go_write H never cluster log e) (go_then H never cluster log _ _ (go_all H never cluster log _ (λ r. tt)) (go_advance H never cluster log))
 
   keeps_request : (hash : Hash) (q : RequestFields) → (rule : Rule) → Keeps H never cluster log (rules.obey_request hash q rule)
   keeps_request hash q Redirected = go_says H never cluster log _ (λ r. (tt, tt))
@@ -130,6 +139,7 @@ module _ (H : List ℕ → Type 0) (never : NoCollision H) (cluster : ℕ) (log 
 
   keeps_view : (hash : Hash) (v : StartView) (rule : Rule) → Keeps H never cluster log (rules.obey_start_view hash v rule)
   keeps_view hash v Taken = go_then H never cluster log _ _ (go_take H never cluster log _) (go_then H never cluster log _ _ (go_by H never cluster log _ (λ r. go_each H never cluster log _ _ (keeps_stored hash))) (go_apply H never cluster log))
+  keeps_view hash v SyncAsked = go_says H never cluster log _ (λ r. (tt, tt))
   keeps_view hash v _ = go_quiet H never cluster log
 
   keeps_get_view : (g : GetView) (rule : Rule) → Keeps H never cluster log (rules.obey_get_view g rule)
@@ -156,10 +166,10 @@ module _ (H : List ℕ → Type 0) (never : NoCollision H) (cluster : ℕ) (log 
   keeps_next_view = go_by H never cluster log _ (λ r. go_enter H never cluster log _)
 
   keeps_tick : (rule : Rule) → Keeps H never cluster log (rules.obey_tick rule)
-  keeps_tick TickedPrimary = go_then H never cluster log _ _ (go_all H never cluster log _) (go_then H never cluster log _ _ (go_by H never cluster log _ (λ r. go_when H never cluster log _ _ (go_again H never cluster log _))) (go_ask H never cluster log))
-  keeps_tick TickedBackup = go_then H never cluster log _ _ (go_change H never cluster log rules.idler (λ r. refl)) (go_by H never cluster log _ (λ r. go_if H never cluster log _ _ _ keeps_next_view (go_ask H never cluster log)))
+  keeps_tick TickedPrimary = go_then H never cluster log _ _ (go_all H never cluster log _ (λ r. tt)) (go_then H never cluster log _ _ (go_by H never cluster log _ (λ r. go_when H never cluster log _ _ (go_again H never cluster log _))) (go_looks H never cluster log))
+  keeps_tick TickedBackup = go_then H never cluster log _ _ (go_change H never cluster log rules.idler (λ r. refl)) (go_by H never cluster log _ (λ r. go_if H never cluster log _ _ _ keeps_next_view (go_looks H never cluster log)))
   keeps_tick TickedChanging =
-      go_then H never cluster log _ _ (go_change H never cluster log rules.idler (λ r. refl)) (go_by H never cluster log _ (λ r. go_if H never cluster log _ _ _ keeps_next_view (go_then H never cluster log _ _ (go_all H never cluster log _) (go_then H never cluster log _ _ (go_speak H never cluster log) (go_ask H never cluster log)))))
+      go_then H never cluster log _ _ (go_change H never cluster log rules.idler (λ r. refl)) (go_by H never cluster log _ (λ r. go_if H never cluster log _ _ _ keeps_next_view (go_then H never cluster log _ _ (go_all H never cluster log _ (λ r. tt)) (go_then H never cluster log _ _ (go_speak H never cluster log) (go_looks H never cluster log)))))
   keeps_tick _ = go_quiet H never cluster log
 
   -- ---- a missing block
@@ -177,6 +187,7 @@ module _ (H : List ℕ → Type 0) (never : NoCollision H) (cluster : ℕ) (log 
       put_found_at g.block (find (is_wanted lying.is_block g) r.missing) r d (λ name e.
       let f = found_wanted (is_wanted lying.is_block g) r.missing name e in
       ((and_parts (name.address == g.address) (lying.is_block name g.block) f.0).1, f.1)) same reads h
+  give_block_at g BlockMended r d same reads h = mends_at H never cluster log g.block (find (is_wanted lying.is_block g) r.worn) r d h
   give_block_at g _ r d same reads h = (go_quiet H never cluster log).every r d h
 
   -- ---- all events
@@ -237,27 +248,60 @@ module _ (H : List ℕ → Type 0) (never : NoCollision H) (cluster : ℕ) (log 
     unfolding rules.on_give_block reading by
     on_give_block_at g = give_block_at g (first_of (give_block_table lying.is_block g r)) r d same reads h
 
-    message_at : (m : Frame) → WellAt H cluster log (S H never cluster log) (rules.on_message m) r d
-    message_at (frame.Request q) = of_word (rules.on_request q) (keeps_on_request q)
-    message_at (frame.Reply a) = of_word quiet (go_quiet H never cluster log)
-    message_at (frame.Prepare p) = of_word (rules.on_prepare p) (keeps_on_prepare p)
-    message_at (frame.PrepareOk a) = of_word (rules.on_prepare_ok a) (keeps_on_prepare_ok a)
-    message_at (frame.Commit m) = of_word (rules.on_commit m) (keeps_on_commit m)
-    message_at (frame.StartViewChange m) = of_word (rules.on_start_view_change m) (keeps_on_start_view_change m)
-    message_at (frame.DoViewChange m) = of_word (rules.on_do_view_change m) (keeps_on_do_view_change m)
-    message_at (frame.StartView v) = of_word (rules.on_start_view v) (keeps_on_start_view v)
-    message_at (frame.GetView g) = of_word (rules.on_get_view g) (keeps_on_get_view g)
-    message_at (frame.GetPrepare g) = of_word (rules.on_get_prepare g) (keeps_on_get_prepare g)
-    message_at (frame.GivePrepare g) = of_word (rules.on_give_prepare g) (keeps_on_give_prepare g)
-    message_at (frame.GetBlock g) = of_word (rules.on_get_block g) (keeps_on_get_block g)
-    message_at (frame.GiveBlock g) = on_give_block_at g
+    on_get_sync_at : (g : GetSync) → WellAt H cluster log (S H never cluster log) (rules.on_get_sync g) r d
+    unfolding rules.on_get_sync by
+    on_get_sync_at g =
+        let idle = of_word quiet (go_quiet H never cluster log) in
+        by_rows (λ x. WellAt H cluster log (S H never cluster log) (rules.obey_get_sync g x) r d) (get_sync_table g r) (
+          λ t. idle,
+          λ n0. (
+            λ t.
+                let a = and_parts (leads r) _ t in
+                let b = and_parts (nat_le g.view r.view) (reaches_down r) a.1 in
+                let c = and_parts (nat_lt 0 r.checkpoint) (nat_lt (run_start r) r.checkpoint) b.1 in
+                offers_at H never cluster log g.replica r d (ltb-true 0 r.checkpoint c.0) h,
+            λ n1. idle,
+          ),
+        )
 
-    event_at : (e : Event) → WellAt H cluster log (S H never cluster log) (rules.on_event e) r d
-    event_at (event.Request q) = of_word (rules.on_request q) (keeps_on_request q)
-    event_at (event.Deliver m) = message_at m
-    event_at event.Tick = of_word rules.on_tick keeps_on_tick
+    well : (w : Word Lying) → WellAt H cluster log (S H never cluster log) w r d → Settles H cluster log (S H never cluster log) r d (w lying r d)
+    well w k = settles H cluster log (S H never cluster log) r d (w lying r d) k
+
+    settled : (w : Word Lying) → Keeps H never cluster log w → Settles H cluster log (S H never cluster log) r d (w lying r d)
+    settled w k = well w (of_word w k)
+
+    on_sync_view_at : (v : SyncView) → IsOffered H cluster log v → Settles H cluster log (S H never cluster log) r d (rules.on_sync_view v lying r d)
+    unfolding rules.on_sync_view naming by
+    on_sync_view_at v offered =
+        let idle = settled quiet (go_quiet H never cluster log) in
+        by_rows (λ x. Settles H cluster log (S H never cluster log) r d (rules.obey_sync_view lying.hash v x lying r d)) (sync_view_table lying.hash v r) (
+          λ t. idle,
+          λ n0. (λ t. jump_at H never cluster log lying.hash v r d offered h, λ n1. idle),
+        )
+
+    message_at : (m : Frame) → IsTrueFrame H cluster log m → Settles H cluster log (S H never cluster log) r d (rules.on_message m lying r d)
+    message_at (frame.Request q) told = settled (rules.on_request q) (keeps_on_request q)
+    message_at (frame.Reply a) told = settled quiet (go_quiet H never cluster log)
+    message_at (frame.Prepare p) told = settled (rules.on_prepare p) (keeps_on_prepare p)
+    message_at (frame.PrepareOk a) told = settled (rules.on_prepare_ok a) (keeps_on_prepare_ok a)
+    message_at (frame.Commit m) told = settled (rules.on_commit m) (keeps_on_commit m)
+    message_at (frame.StartViewChange m) told = settled (rules.on_start_view_change m) (keeps_on_start_view_change m)
+    message_at (frame.DoViewChange m) told = settled (rules.on_do_view_change m) (keeps_on_do_view_change m)
+    message_at (frame.StartView v) told = settled (rules.on_start_view v) (keeps_on_start_view v)
+    message_at (frame.GetView g) told = settled (rules.on_get_view g) (keeps_on_get_view g)
+    message_at (frame.GetPrepare g) told = settled (rules.on_get_prepare g) (keeps_on_get_prepare g)
+    message_at (frame.GivePrepare g) told = settled (rules.on_give_prepare g) (keeps_on_give_prepare g)
+    message_at (frame.GetBlock g) told = settled (rules.on_get_block g) (keeps_on_get_block g)
+    message_at (frame.GiveBlock g) told = well (rules.on_give_block g) (on_give_block_at g)
+    message_at (frame.GetSync g) told = well (rules.on_get_sync g) (on_get_sync_at g)
+    message_at (frame.SyncView v) told = on_sync_view_at v told
+
+    event_at : (e : Event) → IsTrueEvent H cluster log e → Settles H cluster log (S H never cluster log) r d (rules.on_event e lying r d)
+    event_at (event.Request q) told = settled (rules.on_request q) (keeps_on_request q)
+    event_at (event.Deliver m) told = message_at m told
+    event_at event.Tick told = settled rules.on_tick keeps_on_tick
 
     -- a step of a replica that isn't frozen
-    pub react_at : (e : Event) → is_frozen r ≡ false → WellAt H cluster log (S H never cluster log) (rules.react e) r d
+    pub react_at : (e : Event) → IsTrueEvent H cluster log e → is_frozen r ≡ false → Settles H cluster log (S H never cluster log) r d (rules.react e lying r d)
     unfolding rules.react by
-    react_at e free = subst (λ b. WellAt H cluster log (S H never cluster log) (when (not b) (rules.on_event e)) r d) (sym free) (event_at e)
+    react_at e told free = subst (λ b. Settles H cluster log (S H never cluster log) r d (when (not b) (rules.on_event e) lying r d)) (sym free) (event_at e told)

@@ -28,7 +28,7 @@ use Rattle.vr_agree.proofs.Resuming.{on_disk}
 use Rattle.vr_replied.specs.Laws.{RunsReply}
 use Rattle.vr_replied.proofs.Opening.{loads_value, puts_state}
 use Rattle.vr_replied.proofs.Reacting.{found_wanted, puts_first}
-use Rattle.vr_replied.proofs.Runs.{begun_in, found_waits, reads_in, stand_at}
+use Rattle.vr_replied.proofs.Runs.{begun_in, found_waits, offers_at, reads_in, stand_at}
 use Rattle.vr_replied.proofs.Serving.{run_serves, run_steps}
 
 -- what a step of a member writes
@@ -89,4 +89,5 @@ runs_reply cluster n u run x bridges = record {
   steps = λ t at arrival p e d m r is step runs. run_steps cluster n u run x bridges t at arrival p e d m r is step runs;
   puts = λ never log is_log t at arrival p e d m r is step runs. run_puts cluster n u run x bridges never log is_log t at arrival p e d m r is step runs;
   loads = λ never log is_log t at p v d is step free. run_loads cluster n u run x bridges never log is_log t at p v d is step;
+  offers = λ never log is_log t number p s v is said message. offers_at cluster n u run x bridges never log is_log t number p s v is said message;
 }

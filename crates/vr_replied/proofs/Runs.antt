@@ -14,11 +14,12 @@ use Rattle.vr_msg.specs.declared.event.Event.{Event}
 use Rattle.vr_msg.specs.declared.output.Committed.{Committed}
 use Rattle.vr_msg.specs.declared.output.Output.{Output}
 use Rattle.vr_msg.specs.declared.output.Output.TheVariants as output
+use Rattle.vr_msg.specs.declared.output.Sent.{Sent}
 use Rattle.vr_super.specs.Copies.{SuperValue}
 use Rattle.vr_rules.specs.Commitment.{is_line_of}
 use Rattle.vr_rules.specs.Fit.{IsFit, ReadsWell}
 use Rattle.vr_rules.specs.Group as group
-use Rattle.vr_rules.specs.Group.{Arrival, Group, IsArrival, Member, Move, Moved, Moves, Opens, Played, Run, Runs, carried_out, cut_after, cut_in_two, ended, found, fresh_group, fresh_member, goes, keeps_all, mended, once_mended, recovered, resumed, stepped}
+use Rattle.vr_rules.specs.Group.{Arrival, Group, IsArrival, Member, Move, Moved, Moves, Opens, Played, Run, Runs, carried_out, cut_after, cut_in_two, ended, found, fresh_group, fresh_member, goes, keeps_all, mended, once_mended, opening_script, recovered, resumed, stepped}
 use Rattle.vr_rules.specs.GroupFit.{IsFitArrival, IsFitGroup, IsFitReplica, IsFitValue}
 use Rattle.vr_rules.specs.Laws.{IsEvent}
 use Rattle.vr_rules.specs.Lying.{Lying, lying}
@@ -28,7 +29,8 @@ use Rattle.vr_rules.specs.Replica.{Replica, is_frozen, is_spent, last_view}
 use Rattle.vr_rules.specs.Rules.{react}
 use Rattle.vr_rules.specs.Safe as safe
 use Rattle.vr_rules.specs.Safe.{IsHashed, faces_of, read, wrote}
-use Rattle.vr_rules.specs.Steps.{Effect, Write, Step, by, outputs, quiet, says}
+use Rattle.vr_rules.specs.Steps.{Effect, Write, Rewrite, Save, Mend, Checkpoint, PutBlock, Say, Step, by, outputs, quiet, says}
+use Rattle.vr_rules.specs.World.{messages}
 use Rattle.vr_rules.proofs.FitDisks.{disks_fit}
 use Rattle.vr_rules.proofs.FitGroups.{fresh_at}
 use Rattle.vr_rules.proofs.FitSteps.{steps_fit}
@@ -50,7 +52,7 @@ use Rattle.vr_agree.proofs.Fitting.{arrives, fit_at, good_value, move_of, openin
 use Rattle.vr_agree.proofs.Ordering.{come_in_order}
 use Rattle.vr_agree.proofs.Reading.{opening_reads, reads_good}
 use Rattle.vr_agree.proofs.Resuming.{on_disk, resumed_order, said_right}
-use Rattle.vr_agree.proofs.Sets.{get_in, in_contains, in_left, in_right}
+use Rattle.vr_agree.proofs.Sets.{every_at, get_in, in_contains, in_left, in_right}
 use Rattle.vr_agree.proofs.Slots.{read_or_written}
 use Rattle.vr_agree.proofs.Traces.{every_in}
 use Rattle.vr_replied.specs.Hashed.{ReadsHashed}
@@ -58,9 +60,13 @@ use Rattle.vr_replied.proofs.Disks.{Begun}
 use Rattle.vr_replied.proofs.Lines.{lines_may}
 use Rattle.vr_replied.proofs.Members.{Values, bears_front, borne_all, carried_values, cut_values, every_front, kept_values}
 use Rattle.vr_replied.proofs.Opening.{L, all_calm, live_at, mending_at, mending_calm, spent_at}
-use Rattle.vr_replied.proofs.Reacting.{react_at}
-use Rattle.vr_replied.proofs.Values.{IsRooted, Rests, Stands, core, first_table}
-use Rattle.vr_replied.proofs.Walk.{AllMay, Bears, IsBorne, WellAt}
+use Rattle.vr_replied.proofs.Reacting.{IsTrueEvent, react_at}
+use Rattle.vr_rules.specs.Checkpoints.{IsCheckpointOf}
+use Rattle.vr_msg.specs.declared.frame.Frame.TheVariants as frame
+use Rattle.vr_msg.specs.declared.frame.SyncView.{SyncView}
+use Rattle.vr_agree.specs.Replied.{root_told}
+use Rattle.vr_replied.proofs.Values.{IsRooted, Rests, Stands, core, first_table, offered_is}
+use Rattle.vr_replied.proofs.Walk.{AllMay, Bears, IsBorne, IsTrueFrame, IsTrueOutput, Settles, WellAt}
 use Rattle.vr_replied.proofs.Words.{S}
 
 -- ---- lists
@@ -110,6 +116,41 @@ every_first P zero xs ys l h = tt
 every_first P (suc k) [] ys l h = absurd (omega arith)
 every_first P (suc k) (x ∷ xs) ys l h = (h.0, every_first P k xs ys (omega arith) h.1)
 
+-- ---- messages
+
+module _ (H : List ℕ → Type 0) (cluster : ℕ) (log : List Whole) where
+  abbrev IsTold : Sent → Type 0
+  IsTold s = IsTrueFrame H cluster log s.message
+
+  output_told : (o : Output) → IsTrueOutput H cluster log o → Every IsTold (messages (o ∷ []))
+  unfolding messages
+  output_told (output.Send s) h = (h, tt)
+  output_told (output.Commit c) h = tt
+  output_told (output.Reply a) h = tt
+  output_told (output.Choose c) h = tt
+  output_told (output.Wait w) h = tt
+  output_told (output.Start s) h = tt
+  output_told (output.Halted r) h = tt
+  output_told output.Done h = tt
+  output_told output.KeptOut h = tt
+
+  messages_told : (os : List Output) → Every (IsTrueOutput H cluster log) os → Every IsTold (messages os)
+  unfolding messages
+  messages_told [] h = tt
+  messages_told (o ∷ os) h = every_both IsTold _ (messages os) (subst (Every IsTold) (append-nil _) (output_told o h.0)) (messages_told os h.1)
+
+  -- of what is borne
+  outputs_told : (es : List Effect) → Every (IsBorne H cluster log) es → Every (IsTrueOutput H cluster log) (outputs es)
+  unfolding outputs
+  outputs_told [] h = tt
+  outputs_told (Write again e ∷ es) h = outputs_told es h.1
+  outputs_told (Rewrite x ∷ es) h = outputs_told es h.1
+  outputs_told (Save old new ∷ es) h = outputs_told es h.1
+  outputs_told (Mend v ∷ es) h = outputs_told es h.1
+  outputs_told (Checkpoint by texts op old ∷ es) h = outputs_told es h.1
+  outputs_told (PutBlock name block ∷ es) h = outputs_told es h.1
+  outputs_told (Say o ∷ es) h = (h.0, outputs_told es h.1)
+
 -- ---- a run
 
 module _ (cluster n : ℕ) (u : Setup) (run : List Played) (x : IsFollowed cluster n u run) (bridges : (t : ℕ) (p : Played) → slice_get run t ≡ Some p → Bridges u p.before (x.group t))
@@ -122,6 +163,10 @@ module _ (cluster n : ℕ) (u : Setup) (run : List Played) (x : IsFollowed clust
     pub values : Values H cluster log m
     pub rests : (r : Replica) → m.replica ≡ Some r → Rests H cluster log (core r)
     pub stands : (r : Replica) → m.replica ≡ Some r → is_frozen r ≡ false → Stands H cluster log (core r)
+
+  -- and so are the checkpoints that were given with the logs of views
+  abbrev pub AllTold : Group → Type 0
+  AllTold g = Every (IsTold H cluster log) g.sent
 
   abbrev pub AllStand : Group → Type 0
   AllStand g = (at : ℕ) (m : Member) → slice_get g.members at ≡ Some m → MemberStands m
@@ -139,6 +184,12 @@ module _ (cluster n : ℕ) (u : Setup) (run : List Played) (x : IsFollowed clust
   set_stands : (g : Group) (at : ℕ) (m : Member) (members : List Member) → members ≡ slice_set g.members at m → AllStand g → MemberStands m → (j : ℕ) (y : Member) → slice_get members j ≡ Some y → MemberStands y
   set_stands g at m members is all h j y e =
       elim (set_got g.members at j m y (subst (λ (ms : List Member). slice_get ms j ≡ Some y) is e)) [ inl same ↦ subst MemberStands same h | inr old ↦ all j y old ]
+
+  -- a message that was sent
+  arrives_told : (g : Group) (at : ℕ) (arrival : Arrival) (e : Event) → AllTold g → IsArrival g at arrival e → IsTrueEvent H cluster log e
+  arrives_told g at (group.Asked q) e told i = subst (IsTrueEvent H cluster log) (sym i.1) tt
+  arrives_told g at (group.Message number) e told i = subst (IsTrueEvent H cluster log) (sym i.3) (every_at (IsTold H cluster log) g.sent number i.0 i.1 told)
+  arrives_told g at group.Time e told i = subst (IsTrueEvent H cluster log) (sym i) tt
 
   -- ---- what a move hashes
 
@@ -167,7 +218,7 @@ module _ (cluster n : ℕ) (u : Setup) (run : List Played) (x : IsFollowed clust
     -- ---- a step
 
     module _ (at : ℕ) (arrival : Arrival) (e : Event) (d : Lying) (m : Member) (r : Replica) (runs : Runs p.before at m r) (came : IsArrival p.before at arrival e) (face : Contains (faces_of p.move) d.face)
-        (fit : IsFitArrival arrival × ReadsWell lying d) where
+        (fit : IsFitArrival arrival × ReadsWell lying d) (told : AllTold p.before) where
       abbrev es : List Effect
       es = (stepped e r d).script
 
@@ -178,7 +229,7 @@ module _ (cluster n : ℕ) (u : Setup) (run : List Played) (x : IsFollowed clust
       event = arrives cluster p.before at arrival e fit_group fit.0 came
 
       step_fits : All IsFit es
-      step_fits = (steps_fit lying d r e disks_fit.lies disks_fit.roots fit.1 own.0.sound own.0.savable own.0.missing event).each
+      step_fits = (steps_fit lying d r e disks_fit.lies disks_fit.roots fit.1 own.0.sound own.0.savable own.0.blocks event).each
 
       step_told : (c : Committed) → In (output.Commit c) (outputs es) → IsBackedLine u (x.group t).sent c.entry.header
       step_told c j =
@@ -193,11 +244,14 @@ module _ (cluster n : ℕ) (u : Setup) (run : List Played) (x : IsFollowed clust
           let order = (come_in_order lying r d e disks_fit.names own.0.sound event).ordered in
           lines_may cluster n u run x never log is_log t within r.index r.applied d xs (all_front IsFit xs ys (subst (All IsFit) (sym are) step_fits)) (ordered_front r.index r.applied (outputs xs) (outputs ys) (subst (AreInOrder r.index r.applied) said order))
           (λ c j. let i = subst (λ (os : List Output). In (output.Commit c) os) (sym said) (in_left (outputs xs) (outputs ys) (output.Commit c) j) in
-          (step_told c i, reads_good lying d r e disks_fit.lies disks_fit.roots fit.1 own.0.sound own.0.savable own.0.missing event c i))
+          (step_told c i, reads_good lying d r e disks_fit.lies disks_fit.roots fit.1 own.0.sound own.0.savable own.0.blocks event c i))
           (λ z i. begun_in z (has z i)) (entries_in d face)
 
-      step_well : is_frozen r ≡ false → Stands H cluster log (core r) → WellAt H cluster log (S H never cluster log) (react e) r d
-      step_well free h = react_at H never cluster log r d own.0.sound.waits (reads_in d face) h e free
+      event_told : IsTrueEvent H cluster log e
+      event_told = arrives_told p.before at arrival e told came
+
+      step_well : is_frozen r ≡ false → Stands H cluster log (core r) → Settles H cluster log (S H never cluster log) r d (stepped e r d)
+      step_well free h = react_at H never cluster log r d own.0.sound.waits (reads_in d face) h e event_told free
 
       -- what it writes, or what a cut leaves of it
       step_borne : MemberStands m → (xs ys : List Effect) → xs ++ ys ≡ es → ((z : Effect) → In z xs → In z p.moved.script) → Every (IsBorne H cluster log) xs
@@ -224,8 +278,8 @@ module _ (cluster n : ℕ) (u : Setup) (run : List Played) (x : IsFollowed clust
             | false ↦ λ z.
                 let w = step_well z (h.stands r runs.running z) in
                 let all = step_may es [] (append-nil es) has in
-                let l = w.left all in
-                running_stands (carried_out es m) (stepped e r d).replica (carried_values H cluster log es m (all_borne h has) h.values) l.holds.rests (λ f. l.holds)
+                let l = w.holds all in
+                running_stands (carried_out es m) (stepped e r d).replica (carried_values H cluster log es m (all_borne h has) h.values) l.rests (λ f. l)
             | true ↦ λ z.
                 let same = frozen_is e r d z in
                 subst (λ (s : Step). MemberStands (record (carried_out s.script m) { replica = Some s.replica })) (sym same)
@@ -352,49 +406,69 @@ module _ (cluster n : ℕ) (u : Setup) (run : List Played) (x : IsFollowed clust
 
   -- ---- moves
 
-  moved_stand : (t : ℕ) (g : Group) (move : Move) (moved : Moved) → slice_get run t ≡ Some (record { before = g; move = move; moved = moved }) → Moves g move moved → AllStand g → AllStand moved.group
-  moved_stand t g _ _ is (group.steps at arrival e d m r runs came) all =
+  moved_stand : (t : ℕ) (g : Group) (move : Move) (moved : Moved) → slice_get run t ≡ Some (record { before = g; move = move; moved = moved }) → Moves g move moved → AllTold g → AllStand g → AllStand moved.group
+  moved_stand t g _ _ is (group.steps at arrival e d m r runs came) told all =
       let p : Played = record { before = g; move = group.Steps at arrival e d; moved = group.finished g at m (stepped e r d) } in
       let fit = (fit_at cluster n run x.fit t p is).1 in
-      set_stands g at (record (carried_out (stepped e r d).script m) { replica = Some (stepped e r d).replica }) _ refl all (step_stands t p is at arrival e d m r runs came (0, omega arith, refl) fit (all at m runs.member) (λ z i. i))
-  moved_stand t g _ _ is (group.cuts at arrival e d k m r runs came) all =
+      set_stands g at (record (carried_out (stepped e r d).script m) { replica = Some (stepped e r d).replica }) _ refl all (step_stands t p is at arrival e d m r runs came (0, omega arith, refl) fit told (all at m runs.member) (λ z i. i))
+  moved_stand t g _ _ is (group.cuts at arrival e d k m r runs came) told all =
       let p : Played = record { before = g; move = group.Cuts at arrival e d k; moved = group.cut_short g at m (stepped e r d) k } in
       let fit = (fit_at cluster n run x.fit t p is).1 in
       let same : suc k ≡ k + 1 = omega arith in
       let has : (z : Effect) → In z (take (suc k) (stepped e r d).script) → In z p.moved.script = λ z i. subst (λ j. In z (take j (stepped e r d).script)) same i in
-      set_stands g at (record (cut_after k (stepped e r d).script m) { replica = None }) _ refl all (stopped_stands (cut_after k (stepped e r d).script m) (step_cut t p is at arrival e d m r runs came (0, omega arith, refl) fit (all at m runs.member) k has))
-  moved_stand t g _ _ is (group.crashes at m there) all = set_stands g at (record m { replica = None }) _ refl all (stopped_stands m (all at m there).values)
-  moved_stand t g _ _ is (group.recovers at v d m wakes) all =
+      set_stands g at (record (cut_after k (stepped e r d).script m) { replica = None }) _ refl all (stopped_stands (cut_after k (stepped e r d).script m) (step_cut t p is at arrival e d m r runs came (0, omega arith, refl) fit told (all at m runs.member) k has))
+  moved_stand t g _ _ is (group.crashes at m there) told all = set_stands g at (record m { replica = None }) _ refl all (stopped_stands m (all at m there).values)
+  moved_stand t g _ _ is (group.recovers at v d m wakes) told all =
       let p : Played = record { before = g; move = group.Recovers at v d; moved = group.started g at m v d } in
       let fit = (fit_at cluster n run x.fit t p is).1 in
       set_stands g at (record (carried_out (resumed v d).script (once_mended v d m)) { replica = Some (resumed v d).replica }) _ refl all (opened_stands t p is at m v d wakes (0, omega arith, refl) fit (all at m wakes.member) (λ z i. i))
-  moved_stand t g _ _ is (group.recovers_cut at v d k m wakes) all =
+  moved_stand t g _ _ is (group.recovers_cut at v d k m wakes) told all =
       let p : Played = record { before = g; move = group.RecoversCut at v d k; moved = group.start_cut g at m v d k } in
       let fit = (fit_at cluster n run x.fit t p is).1 in
       set_stands g at (record (cut_in_two (mended v d).script (resumed v d).script (keeps_all (found v d)) k m) { replica = None }) _ refl all
       (stopped_stands (cut_in_two (mended v d).script (resumed v d).script (keeps_all (found v d)) k m) (opened_cut t p is at m v d wakes (0, omega arith, refl) fit (all at m wakes.member) k (λ z i. i)))
 
   -- what a move writes, as far as it got
-  moved_borne : (t : ℕ) (g : Group) (move : Move) (moved : Moved) → slice_get run t ≡ Some (record { before = g; move = move; moved = moved }) → Moves g move moved → AllStand g → Every (IsBorne H cluster log) moved.script
-  moved_borne t g _ _ is (group.steps at arrival e d m r runs came) all =
+  moved_borne : (t : ℕ) (g : Group) (move : Move) (moved : Moved) → slice_get run t ≡ Some (record { before = g; move = move; moved = moved }) → Moves g move moved → AllTold g → AllStand g → Every (IsBorne H cluster log) moved.script
+  moved_borne t g _ _ is (group.steps at arrival e d m r runs came) told all =
       let p : Played = record { before = g; move = group.Steps at arrival e d; moved = group.finished g at m (stepped e r d) } in
-      all_borne t p is at arrival e d m r runs came (0, omega arith, refl) (fit_at cluster n run x.fit t p is).1 (all at m runs.member) (λ z i. i)
-  moved_borne t g _ _ is (group.cuts at arrival e d k m r runs came) all =
+      all_borne t p is at arrival e d m r runs came (0, omega arith, refl) (fit_at cluster n run x.fit t p is).1 told (all at m runs.member) (λ z i. i)
+  moved_borne t g _ _ is (group.cuts at arrival e d k m r runs came) told all =
       let p : Played = record { before = g; move = group.Cuts at arrival e d k; moved = group.cut_short g at m (stepped e r d) k } in
-      front_borne t p is at arrival e d m r runs came (0, omega arith, refl) (fit_at cluster n run x.fit t p is).1 (all at m runs.member) (k + 1) (λ z i. i)
-  moved_borne t g _ _ is (group.crashes at m there) all = tt
-  moved_borne t g _ _ is (group.recovers at v d m wakes) all =
+      front_borne t p is at arrival e d m r runs came (0, omega arith, refl) (fit_at cluster n run x.fit t p is).1 told (all at m runs.member) (k + 1) (λ z i. i)
+  moved_borne t g _ _ is (group.crashes at m there) told all = tt
+  moved_borne t g _ _ is (group.recovers at v d m wakes) told all =
       let p : Played = record { before = g; move = group.Recovers at v d; moved = group.started g at m v d } in
       opened_borne t p is at m v d wakes (0, omega arith, refl) (fit_at cluster n run x.fit t p is).1 (all at m wakes.member) (λ z i. i)
-  moved_borne t g _ _ is (group.recovers_cut at v d k m wakes) all =
+  moved_borne t g _ _ is (group.recovers_cut at v d k m wakes) told all =
       let p : Played = record { before = g; move = group.RecoversCut at v d k; moved = group.start_cut g at m v d k } in
       cut_borne t p is at m v d wakes (0, omega arith, refl) (fit_at cluster n run x.fit t p is).1 (all at m wakes.member) k (λ z i. i)
+
+  -- what it puts out is of what it writes
+  moved_outputs : (g : Group) (move : Move) (moved : Moved) → Moves g move moved → Every (IsBorne H cluster log) moved.script → Every (IsTrueOutput H cluster log) moved.outputs
+  moved_outputs g _ _ (group.steps at arrival e d m r runs came) h = outputs_told H cluster log (stepped e r d).script h
+  moved_outputs g _ _ (group.cuts at arrival e d k m r runs came) h = tt
+  moved_outputs g _ _ (group.crashes at m there) h = tt
+  moved_outputs g _ _ (group.recovers at v d m wakes) h = outputs_told H cluster log (opening_script v d) h
+  moved_outputs g _ _ (group.recovers_cut at v d k m wakes) h = tt
+
+  sent_by : (g : Group) (move : Move) (moved : Moved) → Moves g move moved → moved.group.sent ≡ g.sent ++ messages moved.outputs
+  sent_by g _ _ (group.steps at arrival e d m r runs came) = refl
+  sent_by g _ _ (group.cuts at arrival e d k m r runs came) = refl
+  sent_by g _ _ (group.crashes at m there) = refl
+  sent_by g _ _ (group.recovers at v d m wakes) = refl
+  sent_by g _ _ (group.recovers_cut at v d k m wakes) = refl
+
+  moved_told : (t : ℕ) (g : Group) (move : Move) (moved : Moved) → slice_get run t ≡ Some (record { before = g; move = move; moved = moved }) → Moves g move moved → AllTold g → AllStand g → AllTold moved.group
+  moved_told t g move moved is moves told all =
+      let said = moved_outputs g move moved moves (moved_borne t g move moved is moves told all) in
+      subst (Every (IsTold H cluster log)) (sym (sent_by g move moved moves)) (every_both (IsTold H cluster log) g.sent (messages moved.outputs) told (messages_told H cluster log moved.outputs said))
 
   -- ---- the run
 
   fresh_rests : (i : ℕ) → Rests H cluster log (core (fresh cluster n i))
   unfolding blank
-  fresh_rests i = record { own = refl; settled = λ k l. absurd (omega (arith, l)); root = λ above. absurd (omega (arith, above)); table = record { sessions = tt; keys = tt }; waits = λ some. absurd (some refl) }
+  fresh_rests i = record { own = refl; settled = λ k l. absurd (omega (arith, l)); root = λ above. absurd (omega (arith, above)); table = record { sessions = tt; keys = tt }; waits = λ some. absurd (some refl); saved = λ above. absurd (omega (arith, above)) }
 
   first_stands : (i : ℕ) → MemberStands (fresh_member cluster n i)
   unfolding blank
@@ -408,17 +482,33 @@ module _ (cluster n : ℕ) (u : Setup) (run : List Played) (x : IsFollowed clust
   unfolding fresh_group
   fresh_stand at m e = let k = fresh_at cluster n 0 n at m e in subst MemberStands k.0 (first_stands (0 + at))
 
-  all_stand : (d : ℕ) (g : Group) (ps : List Played) → Run g ps → ((k : ℕ) (p : Played) → slice_get ps k ≡ Some p → slice_get run (d + k) ≡ Some p) → AllStand g → (k : ℕ) (p : Played) → slice_get ps k ≡ Some p → AllStand p.before
-  all_stand d _ _ (ended g) sub all k p e = absurd cc
-  all_stand d _ _ (goes g move moved later moves rest) sub all zero p e =
+  fresh_told : AllTold (fresh_group cluster n)
+  unfolding fresh_group
+  fresh_told = tt
+
+  all_stand : (d : ℕ) (g : Group) (ps : List Played) → Run g ps → ((k : ℕ) (p : Played) → slice_get ps k ≡ Some p → slice_get run (d + k) ≡ Some p) → AllTold g → AllStand g → (k : ℕ) (p : Played) → slice_get ps k ≡ Some p
+      → AllTold p.before × AllStand p.before
+  all_stand d _ _ (ended g) sub told all k p e = absurd cc
+  all_stand d _ _ (goes g move moved later moves rest) sub told all zero p e =
       let s : record { before = g; move = move; moved = moved } ≡ p = (let o : Some (record { before = g; move = move; moved = moved }) ≡ Some p = e in cc) in
-      subst (λ (p : Played). AllStand p.before) s all
-  all_stand d _ _ (goes g move moved later moves rest) sub all (suc k) p e =
-      all_stand (suc d) moved.group later rest (λ j q i. subst (λ z. slice_get run z ≡ Some q) (let z : d + suc j ≡ suc d + j = omega arith in z) (sub (suc j) q i)) (moved_stand (d + 0) g move moved (sub zero _ refl) moves all) k p e
+      subst (λ (p : Played). AllTold p.before × AllStand p.before) s (told, all)
+  all_stand d _ _ (goes g move moved later moves rest) sub told all (suc k) p e =
+      let first : slice_get run (d + 0) ≡ Some (record { before = g; move = move; moved = moved }) = sub zero _ refl in
+      all_stand (suc d) moved.group later rest (λ j q i. subst (λ z. slice_get run z ≡ Some q) (let z : d + suc j ≡ suc d + j = omega arith in z) (sub (suc j) q i))
+      (moved_told (d + 0) g move moved first moves told all) (moved_stand (d + 0) g move moved first moves told all) k p e
 
   -- before each move
+  both_at : (t : ℕ) (p : Played) → slice_get run t ≡ Some p → AllTold p.before × AllStand p.before
+  both_at t p e = all_stand 0 (fresh_group cluster n) run x.fit.of_run (λ k q i. subst (λ z. slice_get run z ≡ Some q) (let z : k ≡ 0 + k = omega arith in z) i) fresh_told fresh_stand t p e
+
   pub stand_at : (t : ℕ) (p : Played) → slice_get run t ≡ Some p → AllStand p.before
-  stand_at t p e = all_stand 0 (fresh_group cluster n) run x.fit.of_run (λ k q i. subst (λ z. slice_get run z ≡ Some q) (let z : k ≡ 0 + k = omega arith in z) i) fresh_stand t p e
+  stand_at t p e = (both_at t p e).1
 
   pub borne_at : (t : ℕ) (p : Played) → slice_get run t ≡ Some p → Every (IsBorne H cluster log) p.moved.script
-  borne_at t p e = moved_borne t p.before p.move p.moved e (move_of (fresh_group cluster n) run x.fit.of_run t p e) (stand_at t p e)
+  borne_at t p e = let b = both_at t p e in moved_borne t p.before p.move p.moved e (move_of (fresh_group cluster n) run x.fit.of_run t p e) b.0 b.1
+
+  -- the checkpoint that is given with the log of a view
+  pub offers_at : (t number : ℕ) (p : Played) (s : Sent) (v : SyncView) → slice_get run t ≡ Some p → slice_get p.moved.outputs number ≡ Some (output.Send s) → s.message ≡ frame.SyncView v → IsCheckpointOf cluster log v.checkpoint (root_told v)
+  offers_at t number p s v e i is =
+      let said = moved_outputs p.before p.move p.moved (move_of (fresh_group cluster n) run x.fit.of_run t p e) (borne_at t p e) in
+      offered_is H cluster log v (subst (IsTrueFrame H cluster log) is (every_at (IsTrueOutput H cluster log) p.moved.outputs number (output.Send s) i said))

@@ -1,13 +1,13 @@
 -- What a checkpoint's root stands for in a run, and what a replica has of it: the state of the log's first entries.
-use Rattle.std.proofs.Common.{ℕ, zero, suc, ◌+◌, ◌^◌, ◌-◌, ◌<◌, ◌≡◌, ◌≢◌, ◌∙◌, arith, refl, sym, ap, subst, cond, true, false, List, [], take, Some}
+use Rattle.std.proofs.Common.{ℕ, zero, suc, ◌+◌, ◌^◌, ◌-◌, ◌<◌, ◌≤◌, ◌≡◌, ◌≢◌, ◌∙◌, arith, refl, sym, ap, subst, cond, true, false, List, [], length, Some}
 use Rattle.std.specs.Prelude.{slice_get, Result, Ok, Err}
+use Rattle.std.proofs.lemmas.Option.{slice_get_within}
 use Rattle.vr_header.specs.Made.{Whole}
 use Rattle.vr_header.specs.NoCollision.{NoCollision}
 use Rattle.vr_disk.specs.DiskState.{Face}
 use Rattle.vr_table.specs.declared.fault.StateFault.{StateFault}
 use Rattle.vr_sess.proofs.Spelled.{sessions_decoded-text}
 use Rattle.vr_kv.proofs.Texts.{kv_decoded-kv_text}
-use Rattle.vr_apply.specs.Folds.{state_after}
 use Rattle.vr_apply.specs.Texts.{FitsPayloads, state_decoded, texts_of}
 use Rattle.vr_apply.specs.declared.codec.Texts.{Texts}
 use Rattle.vr_apply.specs.declared.state.State.{State}
@@ -22,10 +22,13 @@ use Rattle.vr_ckpt.specs.Saves.{root_of, table_of}
 use Rattle.vr_ckpt.specs.declared.found.Load.{Load}
 use Rattle.vr_ckpt.specs.declared.found.Load.TheVariants.{Loaded, Missing}
 use Rattle.vr_ckpt.specs.declared.table.PayloadTable.{PayloadTable}
+use Rattle.vr_msg.specs.declared.frame.SyncView.{SyncView}
+use Rattle.vr_rules.specs.Checkpoints.{IsCheckpointOf, state_at, table_at, table_before}
 use Rattle.vr_rules.specs.Lying.{Lying, lying}
 use Rattle.vr_rules.specs.Replica.{Replica}
 use Rattle.vr_rules.specs.Words.{is_checkpoint, loaded_state, loads, with_state}
 use Rattle.vr_rules.proofs.FitDisks.{disks_fit}
+use Rattle.vr_agree.specs.Replied.{root_told}
 use Rattle.vr_worlds.proofs.States.{IsState, state_empty, state_kept, text_of_state}
 use Rattle.vr_replied.specs.Hashed.{IsTable, IsWrittenOut, ReadsHashed}
 use Rattle.vr_replied.proofs.Blocks.{loads_as}
@@ -41,9 +44,6 @@ pub record IsSettled (log : List Whole) (k : ℕ) : Type 0 where
 
 abbrev pub AreSettled : List Whole → ℕ → Type 0
 AreSettled log m = (k : ℕ) → k < m → IsSettled log k
-
-abbrev pub state_at : List Whole → ℕ → State
-state_at log m = state_after (take m log)
 
 pub state_is : (log : List Whole) (m : ℕ) → AreSettled log m → IsState (state_at log m)
 state_is log zero h = state_empty
@@ -66,15 +66,6 @@ small log (suc m) h =
     omega arith
 
 -- ---- the tables of a log's checkpoints
-
--- the table that the checkpoints of the log's first m entries leave
-unfoldable pub table_at : ℕ → List Whole → ℕ → PayloadTable
-table_at cluster log zero = places.empty
-table_at cluster log (suc m) = cond (is_checkpoint (suc m)) (table_of cluster (texts_of (state_at log (suc m))) (suc m) (table_at cluster log m)) (table_at cluster log m)
-
--- before the last of them
-abbrev pub table_before : ℕ → List Whole → ℕ → PayloadTable
-table_before cluster log c = table_at cluster log (c - 1)
 
 abbrev pub table_made : ℕ → List Whole → ℕ → PayloadTable
 table_made cluster log c = table_of cluster (texts_of (state_at log c)) c (table_before cluster log c)
@@ -115,6 +106,23 @@ pub record IsRootOf (H : List ℕ → Type 0) (cluster : ℕ) (log : List Whole)
   pub written : IsWrittenOut H cluster (texts_of (state_at log c)) c (table_before cluster log c)
   pub is : root ≡ block_name (root_of cluster (texts_of (state_at log c)) c (table_made cluster log c))
   pub table : table_made cluster log c ≡ table_at cluster log c
+  pub every : is_checkpoint c ≡ true
+
+-- the log is as long
+reached : (log : List Whole) (c : ℕ) → AreSettled log c → c ≤ length log
+reached log zero h = omega arith
+reached log (suc m) h =
+    let e = h m (omega arith) in
+    let w = slice_get_within log m e.entry e.at in
+    omega arith
+
+-- the checkpoint that is given with the log of a view is one of the log
+pub record IsOffered (H : List ℕ → Type 0) (cluster : ℕ) (log : List Whole) (v : SyncView) : Type 0 where
+  pub some : 0 < v.checkpoint
+  pub root : IsRootOf H cluster log v.checkpoint (root_told v)
+
+pub offered_is : (H : List ℕ → Type 0) (cluster : ℕ) (log : List Whole) (v : SyncView) → IsOffered H cluster log v → IsCheckpointOf cluster log v.checkpoint (root_told v)
+offered_is H cluster log v h = record { some = h.some; every = h.root.every; reached = reached log v.checkpoint h.root.settled; is = h.root.is }
 
 abbrev pub root_in_value : SuperValue → Name
 root_in_value v = record { address = v.fields.root_address; sum = v.fields.root_name }
@@ -134,9 +142,10 @@ pub record Core : Type 0 where
   pub table : PayloadTable
   pub state : State
   pub missing : List Name
+  pub saved : SuperValue
 
 abbrev pub core : Replica → Core
-core r = record { cluster = r.cluster; index = r.index; applied = r.applied; checkpoint = r.checkpoint; root = r.root; table = r.table; state = r.state; missing = r.missing }
+core r = record { cluster = r.cluster; index = r.index; applied = r.applied; checkpoint = r.checkpoint; root = r.root; table = r.table; state = r.state; missing = r.missing; saved = r.saved }
 
 -- its checkpoint is one of the log, though its state may not be loaded yet
 pub record Rests (H : List ℕ → Type 0) (cluster : ℕ) (log : List Whole) (k : Core) : Type 0 where
@@ -145,6 +154,7 @@ pub record Rests (H : List ℕ → Type 0) (cluster : ℕ) (log : List Whole) (k
   pub root : 0 < k.checkpoint → IsRootOf H cluster log k.checkpoint k.root
   pub table : IsTable H k.table
   pub waits : k.missing ≢ [] → 0 < k.checkpoint
+  pub saved : IsRooted H cluster log k.saved
 
 -- and where no block is missing it has the state of the entries that are applied, and the table of their checkpoints
 pub record Stands (H : List ℕ → Type 0) (cluster : ℕ) (log : List Whole) (k : Core) : Type 0 where
@@ -172,14 +182,14 @@ module _ (H : List ℕ → Type 0) (never : NoCollision H) (cluster : ℕ) (log 
       by_state table t at (Ok s) e =
           let is : s ≡ state_at log r.checkpoint = cc in
           record {
-            rests = record { own = h.own; settled = h.settled; root = h.root; table = t; waits = λ n. above };
+            rests = record { own = h.own; settled = h.settled; root = h.root; table = t; waits = λ n. above; saved = h.saved };
             state = λ none. is ∙ ap (state_at log) (sym same);
             table = λ none. at ∙ ap (table_at cluster log) (sym same);
           }
 
       by_load : (l : Load) → loaded d.face r.root ≡ l → Stands H cluster log (core (loads r.root l r))
       by_load (Missing names) e = record {
-        rests = record { own = h.own; settled = h.settled; root = h.root; table = h.table; waits = λ n. above };
+        rests = record { own = h.own; settled = h.settled; root = h.root; table = h.table; waits = λ n. above; saved = h.saved };
         state = λ none. absurd (disks_fit.lies.some d r.root names e none);
         table = λ none. absurd (disks_fit.lies.some d r.root names e none);
       }

@@ -3,6 +3,8 @@
 use Rattle.std.proofs.Common.{ℕ, zero, suc, ◌+◌, ◌<◌, ◌≡◌, ◌∙◌, arith, refl, sym, ap, subst, Bool, true, false, cond, List, [], ◌∷◌, ◌++◌, map, Some}
 use Rattle.std.specs.Prelude.{⊤, slice_get}
 use Rattle.vr_header.specs.Made.{Whole}
+use Rattle.vr_msg.specs.declared.frame.Frame.{Frame}
+use Rattle.vr_msg.specs.declared.frame.Frame.TheVariants as frame
 use Rattle.vr_msg.specs.declared.output.Output.{Output}
 use Rattle.vr_msg.specs.declared.output.Output.TheVariants as output
 use Rattle.vr_rings.specs.Slots.{IsWhole}
@@ -16,7 +18,8 @@ use Rattle.vr_safe.specs.Chains.{Every}
 use Rattle.vr_agree.specs.Answering.{lines}
 use Rattle.vr_agree.proofs.Words.{lines_append}
 use Rattle.vr_replied.proofs.Disks.{Begun, IsBeside}
-use Rattle.vr_replied.proofs.Values.{Core, IsMade, IsRooted, IsRootOf, core}
+use Rattle.vr_super.specs.Copies.{SuperValue}
+use Rattle.vr_replied.proofs.Values.{Core, IsMade, IsOffered, IsRooted, IsRootOf, core}
 
 -- ---- what is said, and what is written
 
@@ -31,17 +34,32 @@ May H log m d (Checkpoint cluster texts op old) = Begun H (Checkpoint cluster te
 May H log m d (PutBlock name block) = Begun H (PutBlock name block)
 May H log m d e = ⊤
 
--- the root of what is saved is that of a checkpoint of the log, and a checkpoint that is written is one
+-- a checkpoint that is given with the log of a view is one of the log
+abbrev pub IsTrueFrame : (List ℕ → Type 0) → ℕ → List Whole → Frame → Type 0
+IsTrueFrame H cluster log (frame.SyncView v) = IsOffered H cluster log v
+IsTrueFrame H cluster log _ = ⊤
+
+abbrev pub IsTrueOutput : (List ℕ → Type 0) → ℕ → List Whole → Output → Type 0
+IsTrueOutput H cluster log (output.Send s) = IsTrueFrame H cluster log s.message
+IsTrueOutput H cluster log _ = ⊤
+
+-- so is that of the root of what is saved, and one that is written
 abbrev pub IsBorne : (List ℕ → Type 0) → ℕ → List Whole → Effect → Type 0
 IsBorne H cluster log (Save old new) = IsRooted H cluster log new
 IsBorne H cluster log (Mend v) = IsRooted H cluster log v
 IsBorne H cluster log (Checkpoint by texts op old) = IsMade cluster log by texts op old
+IsBorne H cluster log (Say o) = IsTrueOutput H cluster log o
 IsBorne H cluster log _ = ⊤
 
--- ---- effects that write no block and say no line
+-- ---- effects that write no block, say no line, and give no checkpoint
+
+abbrev pub IsPlain : Frame → Type 0
+IsPlain (frame.SyncView v) = ⊥
+IsPlain _ = ⊤
 
 abbrev pub IsOther : Output → Type 0
 IsOther (output.Commit c) = ⊥
+IsOther (output.Send s) = IsPlain s.message
 IsOther _ = ⊤
 
 abbrev pub IsCalm : Effect → Type 0
@@ -70,7 +88,43 @@ calm_lines i (Checkpoint cluster texts op old) h = refl
 calm_lines i (PutBlock name block) h = refl
 calm_lines i (Say o) h = other_lines i o h
 
+pub said_calm : (os : List Output) → Every IsOther os → Every IsCalm (map Say os)
+said_calm [] h = tt
+said_calm (o ∷ os) h = (h.0, said_calm os h.1)
+
 module _ (H : List ℕ → Type 0) (cluster : ℕ) (log : List Whole) where
+  plain_true : (m : Frame) → IsPlain m → IsTrueFrame H cluster log m
+  plain_true (frame.Request q) h = tt
+  plain_true (frame.Reply a) h = tt
+  plain_true (frame.Prepare p) h = tt
+  plain_true (frame.PrepareOk a) h = tt
+  plain_true (frame.Commit c) h = tt
+  plain_true (frame.StartViewChange c) h = tt
+  plain_true (frame.DoViewChange d) h = tt
+  plain_true (frame.StartView v) h = tt
+  plain_true (frame.GetView g) h = tt
+  plain_true (frame.GetPrepare g) h = tt
+  plain_true (frame.GivePrepare g) h = tt
+  plain_true (frame.GetBlock g) h = tt
+  plain_true (frame.GiveBlock g) h = tt
+  plain_true (frame.GetSync g) h = tt
+  plain_true (frame.SyncView v) h = absurd h
+
+  other_true : (o : Output) → IsOther o → IsTrueOutput H cluster log o
+  other_true (output.Send s) h = plain_true s.message h
+  other_true (output.Commit c) h = tt
+  other_true (output.Reply a) h = tt
+  other_true (output.Choose c) h = tt
+  other_true (output.Wait w) h = tt
+  other_true (output.Start s) h = tt
+  other_true (output.Halted r) h = tt
+  other_true output.Done h = tt
+  other_true output.KeptOut h = tt
+
+  pub said_borne : (os : List Output) → Every IsOther os → Every (IsBorne H cluster log) (map Say os)
+  said_borne [] h = tt
+  said_borne (o ∷ os) h = (other_true o h.0, said_borne os h.1)
+
   -- each is borne, where those up to it may be
   unfoldable pub Bears : ℕ → ℕ → Lying → List Effect → Type 0
   Bears i m d [] = ⊤
@@ -140,6 +194,14 @@ module _ (H : List ℕ → Type 0) (cluster : ℕ) (log : List Whole) where
             };
       }
 
+  -- the same of a step that may go on from another state
+  pub record Settles (Q : Core → Lying → Type 0) (r : Replica) (d : Lying) (x : Step) : Type 0 where
+    pub bears : Bears r.index r.applied d x.script
+    pub holds : AllMay r.index r.applied d x.script → Q (core x.replica) (after_all lying d x.script)
+
+  pub settles : (Q : Core → Lying → Type 0) (r : Replica) (d : Lying) (x : Step) → Well Q r d x → Settles Q r d x
+  settles Q r d x w = record { bears = w.bears; holds = λ all. (w.left all).holds }
+
   -- ---- words
 
   abbrev pub WellAt : (Core → Lying → Type 0) → Word Lying → Replica → Lying → Type 0
@@ -180,6 +242,7 @@ module _ (H : List ℕ → Type 0) (cluster : ℕ) (log : List Whole) where
   pub record Steady (P : Core → Lying → Type 0) : Type 0 where
     pub rooted : (k : Core) (d : Lying) → P k d → 0 < k.checkpoint → IsRootOf H cluster log k.checkpoint k.root
     pub calm : (k : Core) (d : Lying) (e : Effect) → IsCalm e → P k d → P k (lying.after d e)
+    pub saved : (k : Core) (d : Lying) (v : SuperValue) → IsRooted H cluster log v → P k d → P (record k { saved = v }) d
 
   pub calm_bears : (i m : ℕ) (d : Lying) (es : List Effect) → Every (IsBorne H cluster log) es → Bears i m d es
   unfolding Bears
@@ -223,17 +286,9 @@ module _ (H : List ℕ → Type 0) (cluster : ℕ) (log : List Whole) where
     unfolding does
     walks_does e calm borne = record { every = λ r d p. calm_well r r d (e r ∷ []) refl (calm r, tt) (borne r d p, tt) p }
 
-    pub said_calm : (os : List Output) → Every IsOther os → Every IsCalm (map Say os)
-    said_calm [] h = tt
-    said_calm (o ∷ os) h = (h.0, said_calm os h.1)
-
-    pub said_borne : (os : List Output) → Every (IsBorne H cluster log) (map Say os)
-    said_borne [] = tt
-    said_borne (o ∷ os) = (tt, said_borne os)
-
     pub walks_says : (os : Replica → List Output) → ((r : Replica) → Every IsOther (os r)) → Walks P (says os)
     unfolding says
-    walks_says os h = record { every = λ r d p. calm_well r r d (map Say (os r)) refl (said_calm (os r) (h r)) (said_borne (os r)) p }
+    walks_says os h = record { every = λ r d p. calm_well r r d (map Say (os r)) refl (said_calm (os r) (h r)) (said_borne (os r) (h r)) p }
 
     pub walks_when : (b : Bool) (w : Word Lying) → Walks P w → Walks P (when b w)
     walks_when b w h = walks_if b w quiet h walks_quiet
@@ -249,5 +304,8 @@ module _ (H : List ℕ → Type 0) (cluster : ℕ) (log : List Whole) where
     walks_each w (x ∷ xs) h = walks_then (w x) (each w xs) (h x) (walks_each w xs h)
 
     pub walks_save : Walks P save
-    unfolding save value_of
-    walks_save = walks_then (does saves) (change with_saved) (walks_does saves (λ r. tt) (λ r d p. steady.rooted (core r) d p)) (walks_change with_saved (λ r. refl))
+    unfolding save value_of does change outputs lines Bears after_all
+    walks_save = record {
+      every = λ r d p. then_at P P (does saves) (change with_saved) r d ((walks_does saves (λ r. tt) (λ r d p. steady.rooted (core r) d p)).every r d p) (λ q.
+          record { bears = tt; left = λ all. record { index = refl; applied = (let z : r.applied ≡ r.applied + 0 = omega arith in z); holds = steady.saved (core r) _ (value_of r) (steady.rooted (core r) d p) q } });
+    }

@@ -21,17 +21,19 @@ use Rattle.vr_msg.specs.declared.frame.Frame.{Frame}
 use Rattle.vr_msg.specs.declared.output.Output.{Output}
 use Rattle.vr_msg.specs.declared.statement.Statement.{Statement}
 use Rattle.vr_rings.specs.Slots.{IsWhole}
+use Rattle.vr_super.specs.Copies.{SuperValue}
 use Rattle.vr_grid.specs.Blocks.{block_name, named}
 use Rattle.vr_grid.specs.declared.name.Name.{Name}
 use Rattle.vr_ckpt.specs.Saves.{root_of, table_of}
 use Rattle.vr_ckpt.specs.declared.saving.SavedCheckpoint as checkpoint
+use Rattle.vr_rules.specs.Checkpoints.{state_at, table_at, table_before}
 use Rattle.vr_rules.specs.Lying.{Lying, lying}
-use Rattle.vr_rules.specs.Outputs.{applied_reply, asker_of, commit_line, kind_of, others, replies, send, send_to_all}
+use Rattle.vr_rules.specs.Outputs.{applied_reply, asker_of, commit_line, kind_of, others, replies, send, send_to, send_to_all, sync_view}
 use Rattle.vr_rules.specs.Replica.{Replica, forgetting, leads, part_at, with_part}
-use Rattle.vr_rules.specs.Rules.{put_block, without}
+use Rattle.vr_rules.specs.Rules.{mend_found, not_worn, put_block, without}
 use Rattle.vr_rules.specs.Safe as safe
-use Rattle.vr_rules.specs.Steps.{Effect, PutBlock, Say, Setting, Word, ◌⨾◌, quiet, change, does, says, by, naming, reading, when, each, outputs, after_all}
-use Rattle.vr_rules.specs.Words.{Log, advance, advanced, accept, applied, apply, apply_entry, apply_next, ask, ask_for, ask_peer, begin_view, checkpoint_at, checkpoints, decided, enter, entered, entry_of, is_checkpoint, is_loaded, learn, load, loads, lost, make_checkpoint, obey_choice, or_lost, prepare_again, resend, save, speak, stated, stored, take, taken, try, try_log, with_checkpoint, with_entry, with_entry_at, write}
+use Rattle.vr_rules.specs.Steps.{Effect, Mend, PutBlock, Rewrite, Say, Setting, Word, ◌⨾◌, quiet, change, does, says, by, naming, reading, when, each, outputs, after_all}
+use Rattle.vr_rules.specs.Words.{Log, advance, advanced, accept, applied, apply, apply_entry, apply_next, ask, ask_for, ask_peer, begin_view, checkpoint_at, checkpoints, decided, enter, entered, entry_of, is_checkpoint, is_loaded, learn, load, loads, lost, make_checkpoint, mend_header, obey_choice, or_lost, prepare_again, resend, save, speak, stated, stored, take, taken, try, try_log, visit, visit_block, visit_place, visit_read, visit_slot, with_checkpoint, with_entry, with_entry_at, with_worn, write}
 use Rattle.vr_safe.specs.Chains.{Every}
 use Rattle.vr_safe.proofs.Repairs.{every_mapped}
 use Rattle.vr_agree.specs.Answering.{lines}
@@ -39,12 +41,12 @@ use Rattle.vr_agree.proofs.Answers.{loads_place}
 use Rattle.vr_replied.specs.Hashed.{IsTable, IsWrittenOut, ReadsHashed}
 use Rattle.vr_replied.proofs.Blocks.{table_kept}
 use Rattle.vr_replied.proofs.Disks.{Begun, put_hashed}
-use Rattle.vr_replied.proofs.Values.{Core, IsSettled, Rests, Stands, core, loads_stand, made_table, same_table, state_at, table_at, table_before, table_made, texts_fit}
-use Rattle.vr_replied.proofs.Walk.{AllMay, Bears, IsBorne, IsCalm, IsOther, May, Steady, Walks, Well, WellAt, all_lines, calm_bears, said_borne, said_calm, then_at, walks_by, walks_change, walks_does, walks_each, walks_if, walks_naming, walks_quiet, walks_reading, walks_save, walks_says, walks_then, walks_times, walks_when}
+use Rattle.vr_replied.proofs.Values.{Core, IsRooted, IsSettled, Rests, Stands, core, loads_stand, made_table, same_table, table_made, texts_fit}
+use Rattle.vr_replied.proofs.Walk.{AllMay, Bears, IsBorne, IsCalm, IsOther, IsPlain, May, Steady, Walks, Well, WellAt, all_lines, calm_bears, said_borne, said_calm, then_at, walks_by, walks_change, walks_does, walks_each, walks_if, walks_naming, walks_quiet, walks_reading, walks_save, walks_says, walks_then, walks_times, walks_when}
 
-pub all_others : (message : Replica → Frame) (r : Replica) → Every IsOther (send_to_all message r)
+pub all_others : (message : Replica → Frame) → ((r : Replica) → IsPlain (message r)) → (r : Replica) → Every IsOther (send_to_all message r)
 unfolding send_to_all
-all_others message r = every_mapped IsOther (λ to. send to (message r) r) (others r.index r.n) (λ to. tt)
+all_others message plain r = every_mapped IsOther (λ to. send to (message r) r) (others r.index r.n) (λ to. plain r)
 
 -- what reads as the entry of a header
 read_entry : (h : Header) (o : Option Whole) (e : Whole) → option_and_then (λ (x : Whole). cond (same_header x.header h) (Some x) None) o ≡ Some e → o ≡ Some e
@@ -62,12 +64,19 @@ replies_other : (e : Whole) (r : Replica) → Every IsOther (applied_reply e r)
 replies_other e r =
     elim (leads r) as (λ b. Every IsOther (cond b (replies (asker_of e) (kind_of (state.applied r.state e).reply) r) [])) [ true ↦ (tt, tt) | false ↦ tt ]
 
+-- a value of the log's is saved
+pub resting_saved : (H : List ℕ → Type 0) (cluster : ℕ) (log : List Whole) (k : Core) (v : SuperValue) → IsRooted H cluster log v → Rests H cluster log k → Rests H cluster log (record k { saved = v })
+resting_saved H cluster log k v rooted h = record { own = h.own; settled = h.settled; root = h.root; table = h.table; waits = h.waits; saved = rooted }
+
 module _ (H : List ℕ → Type 0) (never : NoCollision H) (cluster : ℕ) (log : List Whole) where
   abbrev pub S : Core → Lying → Type 0
   S k d = Stands H cluster log k
 
+  keeps_saved : (k : Core) (v : SuperValue) → IsRooted H cluster log v → Stands H cluster log k → Stands H cluster log (record k { saved = v })
+  keeps_saved k v rooted h = record { rests = resting_saved H cluster log k v rooted h.rests; state = h.state; table = h.table }
+
   pub steady : Steady H cluster log S
-  steady = record { rooted = λ k d p. p.rests.root; calm = λ k d e c p. p }
+  steady = record { rooted = λ k d p. p.rests.root; calm = λ k d e c p. p; saved = λ k d v rooted p. keeps_saved k v rooted p }
 
   abbrev pub Keeps : Word Lying → Type 0
   Keeps w = Walks H cluster log S w
@@ -87,8 +96,8 @@ module _ (H : List ℕ → Type 0) (never : NoCollision H) (cluster : ℕ) (log 
   pub go_says : (os : Replica → List Output) → ((r : Replica) → Every IsOther (os r)) → Keeps (says os)
   go_says os h = walks_says H cluster log steady os h
 
-  pub go_all : (message : Replica → Frame) → Keeps (says (send_to_all message))
-  go_all message = go_says (send_to_all message) (all_others message)
+  pub go_all : (message : Replica → Frame) → ((r : Replica) → IsPlain (message r)) → Keeps (says (send_to_all message))
+  go_all message plain = go_says (send_to_all message) (all_others message plain)
 
   pub go_by : (w : Replica → Word Lying) → ((r : Replica) → Keeps (w r)) → Keeps (by w)
   go_by w h = walks_by H cluster log w h
@@ -147,9 +156,11 @@ module _ (H : List ℕ → Type 0) (never : NoCollision H) (cluster : ℕ) (log 
             is = ap (λ t. block_name (root_of r.cluster (texts_of r.state) op t)) made
                 ∙ (ap (λ s. block_name (root_of r.cluster (texts_of s) op (table_made cluster log op))) same ∙ ap (λ c. block_name (root_of c texts op (table_made cluster log op))) own);
             table = made_table cluster log op h.some due;
+            every = due;
           };
           table = table_kept H r.cluster (texts_of r.state) op r.table fits h.rests.table written;
           waits = λ some. absurd (some none);
+          saved = h.rests.saved;
         };
         state = h.state;
         table = λ n. made ∙ made_table cluster log op h.some due;
@@ -199,9 +210,9 @@ module _ (H : List ℕ → Type 0) (never : NoCollision H) (cluster : ℕ) (log 
       let m = r.applied in
       let own : eqb r.index r.index ≡ true = eq-eqb r.index r.index refl in
       let rest : List Effect = map Say (applied_reply e r) in
-      let more = all_lines H cluster log r.index (m + 1) rest (said_calm H cluster log steady (applied_reply e r) (replies_other e r)) in
+      let more = all_lines H cluster log r.index (m + 1) rest (said_calm (applied_reply e r) (replies_other e r)) in
       record {
-        bears = calm_bears H cluster log r.index m d (map Say (commit_line e r ++ applied_reply e r)) (said_borne H cluster log steady (commit_line e r ++ applied_reply e r));
+        bears = calm_bears H cluster log r.index m d (map Say (commit_line e r ++ applied_reply e r)) (tt, said_borne H cluster log (applied_reply e r) (replies_other e r));
         left = λ all.
             let x = all.0 slot l reads in
             let next : suc m ≡ m + 1 = omega arith in
@@ -209,7 +220,7 @@ module _ (H : List ℕ → Type 0) (never : NoCollision H) (cluster : ℕ) (log 
               index = refl;
               applied = rw own (omega (arith, more));
               holds = record {
-                rests = record { own = h.rests.own; settled = next_settled m e h.rests.settled x.0 x.1 x.2; root = h.rests.root; table = h.rests.table; waits = h.rests.waits };
+                rests = record { own = h.rests.own; settled = next_settled m e h.rests.settled x.0 x.1 x.2; root = h.rests.root; table = h.rests.table; waits = h.rests.waits; saved = h.rests.saved };
                 state = λ z. ap (λ (s : State). (state.applied s e).state) (h.state none) ∙ (sym (state_next log m e x.0) ∙ ap (state_at log) next);
                 table = λ z. h.table none ∙ ap (table_at cluster log) (let back : m ≡ m + 1 - 1 = omega arith in back);
                 some = omega arith;
@@ -295,7 +306,7 @@ module _ (H : List ℕ → Type 0) (never : NoCollision H) (cluster : ℕ) (log 
 
   pub go_enter : (v : ℕ) → Keeps (enter v)
   unfolding enter entered
-  go_enter v = go_if _ _ _ (go_change _ (λ r. refl)) (go_then _ _ (go_change (entered v) (λ r. refl)) (go_then _ _ go_save (go_all _)))
+  go_enter v = go_if _ _ _ (go_change _ (λ r. refl)) (go_then _ _ (go_change (entered v) (λ r. refl)) (go_then _ _ go_save (go_all _ (λ r. tt))))
 
   pub go_advance : Keeps advance
   unfolding advance advanced
@@ -311,15 +322,15 @@ module _ (H : List ℕ → Type 0) (never : NoCollision H) (cluster : ℕ) (log 
 
   pub go_again : (op : ℕ) → Keeps (prepare_again op)
   unfolding prepare_again
-  go_again op = go_entry op _ (λ e. go_all _)
+  go_again op = go_entry op _ (λ e. go_all _ (λ r. tt))
 
   pub go_resend : (e : Whole) → Keeps (resend e)
   unfolding resend
-  go_resend e = go_naming _ (λ hash. go_by _ (λ r. go_when _ _ (go_if _ _ _ (go_all _) (go_says _ (λ r. (tt, tt))))))
+  go_resend e = go_naming _ (λ hash. go_by _ (λ r. go_when _ _ (go_if _ _ _ (go_all _ (λ r. tt)) (go_says _ (λ r. (tt, tt))))))
 
   go_begin : (ss : List Statement) (l : Log) → Keeps (begin_view ss l)
   unfolding begin_view
-  go_begin ss l = go_then _ _ (go_says _ (λ r. (tt, tt))) (go_then _ _ (go_take l) (go_then _ _ (go_all _) (go_then _ _ (go_by _ (λ r. go_each prepare_again _ go_again)) go_apply)))
+  go_begin ss l = go_then _ _ (go_says _ (λ r. (tt, tt))) (go_then _ _ (go_take l) (go_then _ _ (go_all _ (λ r. tt)) (go_then _ _ (go_by _ (λ r. go_each prepare_again _ go_again)) go_apply)))
 
   go_try_log : (ss : List Statement) (l : Log) → Keeps (try_log ss l)
   unfolding try_log
@@ -338,18 +349,69 @@ module _ (H : List ℕ → Type 0) (never : NoCollision H) (cluster : ℕ) (log 
   unfolding speak
   go_speak = go_by _ (λ r. go_when _ _ (go_if _ _ _ go_try (go_says _ (λ r. (tt, tt)))))
 
-  go_peer : (message : Replica → Frame) → Keeps (ask_peer message)
+  go_peer : (message : Replica → Frame) → ((r : Replica) → IsPlain (message r)) → Keeps (ask_peer message)
   unfolding ask_peer
-  go_peer message = go_then _ _ (go_says _ (λ r. (tt, tt))) (go_change _ (λ r. refl))
+  go_peer message plain = go_then _ _ (go_says _ (λ r. (plain r, tt))) (go_change _ (λ r. refl))
 
-  go_asks : (names : List Name) (absent : Option Header) → Keeps (ask_for names absent)
-  go_asks (name ∷ names) absent = go_peer _
-  go_asks [] (Some h) = go_naming _ (λ hash. go_peer _)
-  go_asks [] None = go_quiet
+  go_asks : (names : List Name) (absent : Option Header) (worn : List Name) → Keeps (ask_for names absent worn)
+  go_asks (name ∷ names) absent worn = go_peer _ (λ r. tt)
+  go_asks [] (Some h) worn = go_naming _ (λ hash. go_peer _ (λ r. tt))
+  go_asks [] None (name ∷ names) = go_peer _ (λ r. tt)
+  go_asks [] None [] = go_quiet
 
-  pub go_ask : Keeps ask
+  go_ask : Keeps ask
   unfolding ask
-  go_ask = go_by _ (λ r. go_asks r.missing _)
+  go_ask = go_by _ (λ r. go_asks r.missing _ r.worn)
+
+  -- ---- a visit
+
+  go_mend_header : (h : Header) (o : Option Header) → Keeps (mend_header h o)
+  go_mend_header h None = go_does (λ r. Rewrite h) (λ r. tt) (λ r. tt)
+  go_mend_header h (Some d) = go_when _ _ (go_does (λ r. Rewrite h) (λ r. tt) (λ r. tt))
+
+  go_visit_slot : (op : ℕ) → Keeps (visit_slot op)
+  unfolding visit_slot
+  go_visit_slot op = go_entry op _ (λ e. go_reading _ (mend_header e.header) (λ o. go_mend_header e.header o))
+
+  go_mend_saved : Keeps (does (λ r. Mend r.saved))
+  go_mend_saved = walks_does H cluster log steady (λ r. Mend r.saved) (λ r. tt) (λ r d p. p.rests.saved)
+
+  go_visit_read : (name : Name) (o : Option (List ℕ)) → Keeps (visit_read name o)
+  go_visit_read name None = go_change (with_worn name) (λ r. refl)
+  go_visit_read name (Some block) = go_quiet
+
+  go_visit_block : (o : Option Name) → Keeps (visit_block o)
+  unfolding visit_block
+  go_visit_block None = go_quiet
+  go_visit_block (Some name) = go_reading _ (visit_read name) (go_visit_read name)
+
+  go_visit_place : (at : ℕ) → Keeps (visit_place at)
+  unfolding visit_place
+  go_visit_place at = go_by _ (λ r. go_if _ _ _ (go_visit_slot _) (go_if _ _ _ go_mend_saved (go_visit_block _)))
+
+  go_visit : Keeps visit
+  unfolding visit
+  go_visit = go_by _ (λ r. go_when _ _ (go_then _ _ (go_visit_place _) (go_change _ (λ r. refl))))
+
+  pub go_looks : Keeps (visit ⨾ ask)
+  go_looks = go_then visit ask go_visit go_ask
+
+  -- ---- the log is given with the checkpoint
+
+  pub offers_at : (to : ℕ) (r : Replica) (d : Lying) → 0 < r.checkpoint → Stands H cluster log (core r) → WellAt H cluster log S (says (λ r. send_to to (sync_view r) r)) r d
+  unfolding says outputs lines after_all
+  offers_at to r d some h = record {
+    bears = calm_bears H cluster log r.index r.applied d (map Say (send_to to (sync_view r) r)) (record { some = some; root = h.rests.root some }, tt);
+    left = λ all. record { index = refl; applied = (let z : r.applied ≡ r.applied + 0 = omega arith in z); holds = h };
+  }
+
+  -- ---- a block that went bad is put
+
+  pub mends_at : (block : List ℕ) (o : Option Name) (r : Replica) (d : Lying) → Stands H cluster log (core r) → WellAt H cluster log S (mend_found block o) r d
+  unfolding outputs
+  mends_at block None r d h = go_quiet.every r d h
+  mends_at block (Some name) r d h =
+      then_at H cluster log S S (does (λ r. PutBlock name block)) (change (not_worn name)) r d (effect_at S (λ r. PutBlock name block) r d refl tt (λ may. h)) (λ p. (go_change (not_worn name) (λ r. refl)).every _ _ p)
 
   -- ---- a load
 
@@ -379,7 +441,7 @@ module _ (H : List ℕ → Type 0) (never : NoCollision H) (cluster : ℕ) (log 
       let above = h.rests.waits some in
       let Q : Core → Lying → Type 0 = λ k e. ReadsHashed H e.face in
       let q : Replica = without name r in
-      let rests : Rests H cluster log (core q) = record { own = h.rests.own; settled = h.rests.settled; root = h.rests.root; table = h.rests.table; waits = λ n. above } in
+      let rests : Rests H cluster log (core q) = record { own = h.rests.own; settled = h.rests.settled; root = h.rests.root; table = h.rests.table; waits = λ n. above; saved = h.rests.saved } in
       let d' : Lying = lying.after d (PutBlock name block) in
       then_at H cluster log Q S (does (λ r. PutBlock name block)) (change (without name) ⨾ by (λ r. when (is_loaded r) load)) r d (effect_at Q (λ r. PutBlock name block) r d refl tt (λ begun. put_hashed H d name block whole begun reads)) (λ later.
       let R : Core → Lying → Type 0 = λ k e. ReadsHashed H e.face in

@@ -229,6 +229,7 @@ pub record Finds (v : SuperValue) (q : Replica) (es : List Effect) : Type 0 wher
   pub index : q.index ≡ v.fields.replica
   pub n : q.n ≡ v.fields.n
   pub statements : q.statements ≡ replicate v.fields.n None
+  pub saved : q.saved ≡ v
 
 clouded_here : (v : SuperValue) (r : Replica) (k : ℕ) (h : Header) → part_at r k ≡ part.Here h → clouded_at v r k ≡ part.Here h
 clouded_here v r k h e =
@@ -289,6 +290,7 @@ module _ {F : Type 0} (v : SuperValue) (w : Value v) (s : Setting F) where
         index = ap (λ (x : Replica). x.index) h.is;
         n = ap (λ (x : Replica). x.n) h.is;
         statements = ap (λ (x : Replica). x.statements) h.is;
+        saved = ap (λ (x : Replica). x.saved) h.is;
       }
 
   blank_low : (k : ℕ) (h : Header) → k ≤ v.fields.checkpoint → header_of (part_at (blank v) k) ≡ Some h → listed v k ≡ Some h

@@ -59,7 +59,7 @@ opens u start i l made v t f b =
     let top = w.head in
     let were : (h : Header) → Contains made h → WasMade s.made h = λ h c. subst (λ z. WasMade z h) (sym rests.under.none_made) (b.were_made h c) in
     let got = recovered u start i v q l1 s rests.under made rests.still rests.last rests.cleared found.spans found.one found.checkpoint found.up (omega arith) found.in_place rests.sound found.low were in
-    let kept = keeps_all_found u start i v q l1 s rests.under made rests.still rests.last rests.cleared found.spans found.one found.checkpoint found.up (omega arith) found.in_place rests.sound found.low were in
+    let kept = keeps_all_found u start i v q l1 s rests.under made rests.still rests.last rests.cleared found.spans found.one found.checkpoint found.up (omega arith) found.in_place rests.sound found.low were found.saved in
     let y : IsValue v (s.members i).last = subst (λ z. IsValue z (s.members i).last) rests.last rests.under.disk.last in
     let l2 : Local = record { member = keeps_all (parts_from q (q.checkpoint + 1)) l1.member; made = l1.made; said = l1.said } in
     let silent : Every AsksNothing l2.said = silent_still v q l x.script found.writes b.silent in

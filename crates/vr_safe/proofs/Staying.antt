@@ -1,8 +1,9 @@
 -- Words that leave a replica's tables true, from every sound replica on.
-use Rattle.std.proofs.Common.{ℕ, arith, refl, sym, subst, Bool, true, false, cond, List, [], ◌∷◌, Option, Some, None}
-use Rattle.std.specs.Prelude.{nat_lt}
+use Rattle.std.proofs.Common.{ℕ, ◌-◌, arith, refl, sym, subst, Bool, true, false, cond, List, [], ◌∷◌, Option, Some, None}
+use Rattle.std.specs.Prelude.{nat_lt, ◌==◌, not, slice_get}
 use Rattle.vr_header.specs.declared.header.Header.{Header}
 use Rattle.vr_header.specs.Made.{Whole}
+use Rattle.vr_header.specs.Same.{same_header}
 use Rattle.vr_msg.specs.declared.frame.Frame.{Frame}
 use Rattle.vr_msg.specs.declared.output.Output.{Output}
 use Rattle.vr_apply.specs.declared.state.State.{State}
@@ -10,11 +11,12 @@ use Rattle.vr_grid.specs.declared.name.Name.{Name}
 use Rattle.vr_ckpt.specs.declared.table.PayloadTable.{PayloadTable}
 use Rattle.vr_rules.specs.Replica.{Replica, head, part_at}
 use Rattle.vr_rules.specs.Outputs.{send_to_all, prepare, get_block, get_prepare}
-use Rattle.vr_rules.specs.Steps.{Setting, Word, ◌⨾◌, quiet, change, does, says, by, naming, reading, when, each, after_all}
-use Rattle.vr_rules.specs.Words.{with_entry_at, apply, learn, advance, rested, prepare_again, resend, turned, ask_peer, ask_for, ask, least_absent, is_loaded, loads, checkpoint_at, load}
-use Rattle.vr_rules.specs.Rules.{idler, without, put_block}
+use Rattle.vr_rules.specs.Steps.{Effect, Rewrite, Mend, PutBlock, Setting, Word, ◌⨾◌, quiet, change, does, says, by, naming, reading, when, each, after_all}
+use Rattle.vr_rules.specs.Words.{with_entry_at, apply, learn, advance, rested, prepare_again, resend, turned, ask_peer, ask_for, ask, least_absent, is_loaded, loads, checkpoint_at, load, blocks_of, op_of_slot, mend_header, header_read, visit_slot, with_worn, visit_read, visit_block, visit_place, place_now, with_cursor, visit}
+use Rattle.vr_rules.specs.Rules.{idler, without, put_block, mend_found, not_worn}
 use Rattle.vr_rules.specs.Sound.{IsSound}
-use Rattle.vr_rules.proofs.Combining.{Keeps}
+use Rattle.vr_rules.proofs.Combining.{Keeps, keeps_does}
+use Rattle.vr_rules.proofs.Visiting.{keeps_visit, keeps_not_worn}
 use Rattle.vr_rules.proofs.Wording.{kept_rested, keeps_apply, keeps_learn, keeps_advance, keeps_prepare_again, keeps_ask}
 use Rattle.vr_safe.proofs.Blocks.{Other, other_loads, with_other}
 use Rattle.vr_safe.proofs.Holding.{Holds, HoldsBy, holds_same, holds_more, holds_rested, holds_part, holds_if, holds_apply, holds_learn, holds_advance}
@@ -109,18 +111,87 @@ holds_ask_peer : {F : Type 0} (message : Replica → Frame) (t : Setting F) (r :
 unfolding ask_peer says change ◌⨾◌
 holds_ask_peer message t r f = holds_turned r
 
-holds_ask_for : {F : Type 0} (names : List Name) (absent : Option Header) (t : Setting F) (r : Replica) (f : F) → HoldsBy (ask_for names absent) t r f
+holds_ask_for : {F : Type 0} (names : List Name) (absent : Option Header) (worn : List Name) (t : Setting F) (r : Replica) (f : F) → HoldsBy (ask_for names absent worn) t r f
 unfolding naming quiet
-holds_ask_for (name ∷ names) absent t r f = holds_ask_peer (get_block name) t r f
-holds_ask_for [] (Some h) t r f = holds_ask_peer (get_prepare t.hash h) t r f
-holds_ask_for [] None t r f = holds_same r
+holds_ask_for (name ∷ names) absent worn t r f = holds_ask_peer (get_block name) t r f
+holds_ask_for [] (Some h) worn t r f = holds_ask_peer (get_prepare t.hash h) t r f
+holds_ask_for [] None (name ∷ names) t r f = holds_ask_peer (get_block name) t r f
+holds_ask_for [] None [] t r f = holds_same r
 
 holds_ask : {F : Type 0} (t : Setting F) (r : Replica) (f : F) → HoldsBy ask t r f
 unfolding ask by
-holds_ask t r f = holds_ask_for r.missing (least_absent r) t r f
+holds_ask t r f = holds_ask_for r.missing (least_absent r) r.worn t r f
 
 pub stays_ask : {F : Type 0} → Stays {F = F} ask
 stays_ask = stays_of ask keeps_ask (λ t r f sound. holds_ask t r f)
+
+-- ---- visits
+
+holds_with_cursor : (at : ℕ) (r : Replica) → Holds r (with_cursor at r)
+unfolding head part_at
+holds_with_cursor at r = record { view = refl; log_view = refl; index = refl; n = refl; commit = omega arith; top = omega arith; acks = λ k. refl; here = λ k h e. e; statements = refl }
+
+holds_with_worn : (name : Name) (r : Replica) → Holds r (with_worn name r)
+unfolding head part_at
+holds_with_worn name r = record { view = refl; log_view = refl; index = refl; n = refl; commit = omega arith; top = omega arith; acks = λ k. refl; here = λ k h e. e; statements = refl }
+
+holds_not_worn : (name : Name) (r : Replica) → Holds r (not_worn name r)
+unfolding head part_at
+holds_not_worn name r = record { view = refl; log_view = refl; index = refl; n = refl; commit = omega arith; top = omega arith; acks = λ k. refl; here = λ k h e. e; statements = refl }
+
+holds_does : {F : Type 0} (e : Replica → Effect) (t : Setting F) (r : Replica) (f : F) → HoldsBy (does e) t r f
+unfolding does
+holds_does e t r f = holds_same r
+
+holds_header : {F : Type 0} (h : Header) (o : Option Header) (t : Setting F) (r : Replica) (f : F) → HoldsBy (mend_header h o) t r f
+holds_header h None t r f = holds_does _ t r f
+holds_header h (Some d) t r f = holds_if (not (same_header d h)) (does (λ r. Rewrite h)) t r f (λ b. holds_does _ t r f)
+
+holds_slot : {F : Type 0} (k : ℕ) (t : Setting F) (r : Replica) (f : F) → IsSound r → HoldsBy (visit_slot k) t r f
+unfolding visit_slot with_entry_at by reading
+holds_slot k t r f sound = holds_part (λ e. reading (header_read k) (mend_header e.header)) k (part_at r k) t r f sound refl (λ e. holds_header e.header (header_read k t f) t r f)
+
+holds_visit_read : {F : Type 0} (name : Name) (o : Option (List ℕ)) (t : Setting F) (r : Replica) (f : F) → HoldsBy (visit_read name o) t r f
+unfolding change quiet
+holds_visit_read name None t r f = holds_with_worn name r
+holds_visit_read name (Some block) t r f = holds_same r
+
+holds_block : {F : Type 0} (o : Option Name) (t : Setting F) (r : Replica) (f : F) → HoldsBy (visit_block o) t r f
+unfolding visit_block reading quiet
+holds_block None t r f = holds_same r
+holds_block (Some name) t r f = holds_visit_read name (t.block f name) t r f
+
+holds_cond : {F : Type 0} (b : Bool) (v w : Word F) (t : Setting F) (r : Replica) (f : F) → HoldsBy v t r f → HoldsBy w t r f → HoldsBy (cond b v w) t r f
+holds_cond true v w t r f h k = h
+holds_cond false v w t r f h k = k
+
+holds_place : {F : Type 0} (at : ℕ) (t : Setting F) (r : Replica) (f : F) → IsSound r → HoldsBy (visit_place at) t r f
+unfolding visit_place by
+holds_place at t r f sound =
+    holds_cond (nat_lt at 64) (visit_slot (op_of_slot r at)) _ t r f (holds_slot (op_of_slot r at) t r f sound)
+    (holds_cond (at == 64) (does (λ r. Mend r.saved)) (visit_block (slice_get (blocks_of r) (at - 65))) t r f (holds_does _ t r f) (holds_block (slice_get (blocks_of r) (at - 65)) t r f))
+
+holds_visit : {F : Type 0} (t : Setting F) (r : Replica) (f : F) → IsSound r → HoldsBy visit t r f
+unfolding visit by change ◌⨾◌
+holds_visit t r f sound =
+    holds_if (is_loaded r) (visit_place (place_now r) ⨾ change (with_cursor (place_now r))) t r f
+    (λ b. holds_more r (visit_place (place_now r) t r f).replica _ (holds_place (place_now r) t r f sound) (holds_with_cursor (place_now r) (visit_place (place_now r) t r f).replica))
+
+pub stays_visit : {F : Type 0} → Stays {F = F} visit
+stays_visit = stays_of visit keeps_visit holds_visit
+
+-- a place of the disk is visited, and then something is asked for
+pub stays_looks : {F : Type 0} → Stays {F = F} (visit ⨾ ask)
+stays_looks = stays_then visit ask stays_visit stays_ask
+
+holds_change_worn : {F : Type 0} (name : Name) (t : Setting F) (r : Replica) (f : F) → HoldsBy (change (not_worn name)) t r f
+unfolding change
+holds_change_worn name t r f = holds_not_worn name r
+
+pub stays_mend_found : {F : Type 0} (block : List ℕ) (o : Option Name) → Stays {F = F} (mend_found block o)
+stays_mend_found block None = stays_quiet
+stays_mend_found block (Some name) =
+    stays_then (does (λ r. PutBlock name block)) (change (not_worn name)) (stays_of _ (keeps_does _) (λ t r f sound. holds_does _ t r f)) (stays_of _ (keeps_not_worn name) (λ t r f sound. holds_change_worn name t r f))
 
 pub holds_idler : (r : Replica) → Holds r (idler r)
 unfolding head part_at

@@ -15,23 +15,26 @@ use Rattle.vr_msg.specs.declared.frame.GiveBlock.{GiveBlock}
 use Rattle.vr_msg.specs.declared.frame.GivePrepare.{GivePrepare}
 use Rattle.vr_msg.specs.declared.frame.Prepare.{Prepare}
 use Rattle.vr_msg.specs.declared.frame.PrepareOk.{PrepareOk}
+use Rattle.vr_msg.specs.declared.frame.GetSync.{GetSync}
 use Rattle.vr_msg.specs.declared.frame.StartView.{StartView}
+use Rattle.vr_msg.specs.declared.frame.SyncView.{SyncView}
 use Rattle.vr_msg.specs.declared.frame.StartViewChange.{StartViewChange}
 use Rattle.vr_msg.specs.declared.statement.Statement.{Statement}
 use Rattle.vr_msg.specs.Choice.{ops}
 use Rattle.vr_grid.specs.declared.name.Name.{Name}
 use Rattle.vr_rules.specs.Replica.{Replica, last_view, head, header_at, is_here, is_started, leads, part_at, forgetting, with_part}
-use Rattle.vr_rules.specs.Outputs.{send_to, send_to_all, commit_message, start_view_change, give_prepare, give_block}
+use Rattle.vr_rules.specs.Outputs.{send_to, send_to_all, commit_message, start_view_change, give_prepare, give_block, get_sync, sync_view}
 use Rattle.vr_rules.specs.Steps.{Setting, Step, Word, ◌⨾◌, quiet, change, does, says, by, naming, reading, when, each, after_all}
-use Rattle.vr_rules.specs.Words.{with_saved, entered, enter, rested, stored, write, accept, apply, learn, advance, taken, may_take, prepare_again, try, speak, resend, ask, is_loaded, load}
-use Rattle.vr_rules.specs.Deciding.{Hash, is_from, is_from_primary, is_known, prepare_table, prepare_ok_table, commit_table, start_view_change_table, do_view_change_table, log_of, start_view_table, get_view_table, get_prepare_table, give_prepare_table, get_block_table, is_wanted, give_block_table, tick_table}
-use Rattle.vr_rules.specs.Rules.{acknowledge, ask_view, obey_prepare, on_prepare, acknowledged, obey_prepare_ok, on_prepare_ok, obey_commit, on_commit, heard_of, tell_view, obey_start_view_change, on_start_view_change, with_statement, obey_do_view_change, on_do_view_change, acknowledge_stored, obey_start_view, on_start_view, obey_get_view, on_get_view, obey_get_prepare, on_get_prepare, obey_give_prepare, on_give_prepare, asked_block, block_at, give_read, obey_get_block, on_get_block, without, put_block, put_found, test_of, obey_give_block, on_give_block, idler, next_view, primary_ticks, obey_tick, on_tick}
+use Rattle.vr_rules.specs.Words.{with_saved, entered, enter, rested, stored, write, accept, apply, learn, advance, taken, may_take, prepare_again, try, speak, resend, ask, visit, jumped, is_loaded, load}
+use Rattle.vr_rules.specs.Deciding.{Hash, is_from, is_from_primary, is_known, prepare_table, prepare_ok_table, commit_table, start_view_change_table, do_view_change_table, log_of, start_view_table, get_view_table, get_prepare_table, give_prepare_table, get_block_table, is_wanted, give_block_table, tick_table, get_sync_table, sync_view_table, may_jump}
+use Rattle.vr_rules.specs.Rules.{acknowledge, ask_view, obey_prepare, on_prepare, acknowledged, obey_prepare_ok, on_prepare_ok, obey_commit, on_commit, heard_of, tell_view, obey_start_view_change, on_start_view_change, with_statement, obey_do_view_change, on_do_view_change, acknowledge_stored, obey_start_view, on_start_view, obey_get_view, on_get_view, obey_get_prepare, on_get_prepare, obey_give_prepare, on_give_prepare, asked_block, block_at, give_read, obey_get_block, on_get_block, without, put_block, put_found, test_of, obey_give_block, on_give_block, mend_found, obey_get_sync, on_get_sync, obey_sync_view, on_sync_view, idler, next_view, primary_ticks, obey_tick, on_tick}
 use Rattle.vr_rules.specs.Laws.{IsMessage}
 use Rattle.vr_rules.specs.Sound.{IsSound, IsStated}
 use Rattle.vr_rules.proofs.Keeping.{sound_alike}
 use Rattle.vr_rules.proofs.Reacting.{kept_without}
 use Rattle.vr_rules.proofs.Combining.{kept_by, kept_change_then, kept_does_then, kept_when}
-use Rattle.vr_rules.proofs.Ruling.{by_rows, group_of, group_of_primary, kept_statement, keeps_acknowledged, may_store_given, may_store_prepare, told_log}
+use Rattle.vr_rules.proofs.Ruling.{by_rows, group_of, group_of_primary, kept_statement, keeps_acknowledged, may_store_given, may_store_prepare, told_log, told_sync}
+use Rattle.vr_rules.proofs.Jumping.{may_jump_is, kept_jumped}
 use Rattle.vr_rules.proofs.Storing.{MayStore, kept_stored}
 use Rattle.vr_rules.proofs.Taking.{may_take_is, kept_taken}
 use Rattle.vr_rules.proofs.Trying.{keeps_speak}
@@ -48,10 +51,11 @@ use Rattle.vr_safe.proofs.Counting.{tables_acknowledged}
 use Rattle.vr_safe.proofs.Repairs.{leads_is}
 use Rattle.vr_safe.proofs.Speaking.{mid_idler}
 use Rattle.vr_safe.proofs.Takes.{taken_views}
+use Rattle.vr_safe.proofs.Jumps.{jumped_views}
 use Rattle.vr_safe.proofs.Holding.{Holds, holds_rested, tables_hold}
-use Rattle.vr_safe.proofs.Staying.{Stays, stays_quiet, stays_says, stays_then, stays_by, stays_when, stays_each, stays_apply, stays_learn, stays_advance, stays_rested, stays_again, stays_resend, stays_ask, holds_entry, holds_idler, holds_put}
+use Rattle.vr_safe.proofs.Staying.{Stays, stays_quiet, stays_says, stays_then, stays_by, stays_when, stays_each, stays_apply, stays_learn, stays_advance, stays_rested, stays_again, stays_resend, stays_looks, stays_mend_found, holds_entry, holds_idler, holds_put}
 use Rattle.vr_safe.proofs.Tabling.{Tabled, tabled_after, tabled_change_then, tabled_says_then, tabled_quiet_then, tabled_if, tabled_held, tabled_stays, tabled_then_stays, tables_unled, tabled_unled}
-use Rattle.vr_safe.proofs.TabledWords.{Enters, several_by, enter_rests, entered_so, started_so, tabled_entered, tabled_enter_then, enter_is, tabled_take_then, taken_statements, tabled_try, tabled_speak, tabled_repaired}
+use Rattle.vr_safe.proofs.TabledWords.{Enters, several_by, enter_rests, entered_so, started_so, tabled_entered, tabled_enter_then, enter_is, tabled_take_then, taken_statements, tabled_jump_then, jumped_statements, tabled_try, tabled_speak, tabled_repaired}
 
 -- ---- the view and its primary stay
 
@@ -345,6 +349,35 @@ module _ (u : Setup) (fits : Fits u) (start : Group Header) (i : ℕ) where
                 let none = tables_unled u start i start q unled (λ j z e. absurd (none_stated r.n j z (sym (ap (λ (ys : List (Option Statement)). get_or ys j None) (taken_statements (log_of v) r)) ∙ e))) in
                 tabled_take_then u start i (log_of v) _ t r f (λ d. tabled_stays u start i _ t q d
                 (stays_then (by (λ r. each (acknowledge_stored t.hash) (ops r.commit v.head))) apply (stays_by _ (λ r. stays_each (acknowledge_stored t.hash) (ops r.commit v.head) (stays_acknowledge t.hash))) stays_apply) sound none),
+            λ n1. (λ a. held (says (λ r. send_to v.replica (get_sync v.view r) r)) (stays_says _), λ n2. idle),
+          ),
+        )
+
+    -- ---- checkpoints of others (rules 36 and 37)
+
+    pub tabled_get_sync : (g : GetSync) → Tabled u start i (on_get_sync g t r f)
+    unfolding on_get_sync by
+    tabled_get_sync g =
+        by_rows (λ z. Tabled u start i (obey_get_sync g z t r f)) (get_sync_table g r) (λ a. idle, λ n0. (λ a. held (says (λ r. send_to g.replica (sync_view r) r)) (stays_says _), λ n1. idle))
+
+    pub tabled_sync_view : (v : SyncView) → IsMessage (frame.SyncView v) → Tabled u start i (on_sync_view v t r f)
+    unfolding on_sync_view naming by
+    tabled_sync_view v m =
+        by_rows (λ z. Tabled u start i (obey_sync_view t.hash v z t r f)) (sync_view_table t.hash v r) (
+          λ a. idle,
+          λ n0. (
+            λ a.
+                let told = told_sync v r m (group_of_primary v.cluster v.replica v.view r n0) in
+                let p = and_parts (may_jump t.hash v r) (not (r.index == v.view % r.n)) a in
+                let may = may_jump_is t.hash v r p.0 in
+                let apart = eqb-false r.index (v.view % r.n) (not-true _ p.1) in
+                let q : Replica = with_saved (jumped v r) in
+                let w = jumped_views v r x.sound told may in
+                let sound = sound_alike (jumped v r) q refl (kept_jumped v r x.sound told may).sound in
+                let unled : leads q ≡ true → ⊥ = λ l. let own = (leads_is q l).1 in apart (sym w.2 ∙ (own ∙ (ap (λ k. k % q.n) w.0 ∙ ap (λ k. v.view % k) w.3))) in
+                let none = tables_unled u start i start q unled (λ j z e. absurd (none_stated r.n j z (sym (ap (λ (ys : List (Option Statement)). get_or ys j None) (jumped_statements v r)) ∙ e))) in
+                tabled_jump_then u start i v _ t r f (λ d. tabled_stays u start i _ t q d
+                (stays_then (by (λ r. each (acknowledge_stored t.hash) (ops r.commit v.head))) apply (stays_by _ (λ r. stays_each (acknowledge_stored t.hash) (ops r.commit v.head) (stays_acknowledge t.hash))) stays_apply) sound none),
             λ n1. idle,
           ),
         )
@@ -413,7 +446,7 @@ module _ (u : Setup) (fits : Fits u) (start : Group Header) (i : ℕ) where
         let is_block = test_of t f in
         by_rows (λ z. Tabled u start i (obey_give_block is_block g z t r f)) (give_block_table is_block g r) (
           λ a. idle,
-          λ n0. (λ a. put_tabled g.block (is_wanted is_block g) (find (is_wanted is_block g) r.missing) refl, λ n1. idle),
+          λ n0. (λ a. put_tabled g.block (is_wanted is_block g) (find (is_wanted is_block g) r.missing) refl, λ n1. (λ a. held (mend_found g.block (find (is_wanted is_block g) r.worn)) (stays_mend_found g.block _), λ n2. idle)),
         )
 
     give_tabled : (g : GetBlock) (o : Option (List ℕ)) → Tabled u start i (give_read g o t r f)
@@ -442,8 +475,8 @@ module _ (u : Setup) (fits : Fits u) (start : Group Header) (i : ℕ) where
     idle_tables : Tables u start i (idler r)
     idle_tables = tables_hold u start start i r (idler r) (holds_idler r) refl (λ m j. j) tables
 
-    speaks_ask : (q : Replica) (d : F) → Enters u start i q → Tabled u start i ((speak ⨾ ask) t q d)
-    speaks_ask q d y = tabled_then_stays u start i speak ask t q d (tabled_speak u start i t q d y) (keeps_speak.every t q d y.sound).kept.sound stays_ask
+    speaks_looks : (q : Replica) (d : F) → Enters u start i q → Tabled u start i ((speak ⨾ visit ⨾ ask) t q d)
+    speaks_looks q d y = tabled_then_stays u start i speak (visit ⨾ ask) t q d (tabled_speak u start i t q d y) (keeps_speak.every t q d y.sound).kept.sound stays_looks
 
     pub tabled_tick : Tabled u start i (on_tick t r f)
     unfolding on_tick by
@@ -452,15 +485,15 @@ module _ (u : Setup) (fits : Fits u) (start : Group Header) (i : ℕ) where
         let views = x.sound.order.views in
         by_rows (λ z. Tabled u start i (obey_tick z t r f)) (tick_table r) (
           λ a. held primary_ticks
-              (stays_then (says (send_to_all commit_message)) _ (stays_says _) (stays_then (by (λ r. when (nat_lt r.commit (head r)) (prepare_again (r.commit + 1)))) ask (stays_by _ (λ r. stays_when (nat_lt r.commit (head r)) _ (stays_again (r.commit + 1)))) stays_ask)),
+              (stays_then (says (send_to_all commit_message)) _ (stays_says _) (stays_then (by (λ r. when (nat_lt r.commit (head r)) (prepare_again (r.commit + 1)))) (visit ⨾ ask) (stays_by _ (λ r. stays_when (nat_lt r.commit (head r)) _ (stays_again (r.commit + 1)))) stays_looks)),
           λ n0. (
-            λ a. tabled_change_then u start i idler _ t r f (λ d. tabled_if u start i (nat_le 5 (idler r).idle) next_view ask t (idler r) d (λ b. next (idler r) d y idle_tables) (λ b. tabled_stays u start i ask t (idler r) d stays_ask y.sound idle_tables)),
+            λ a. tabled_change_then u start i idler _ t r f (λ d. tabled_if u start i (nat_le 5 (idler r).idle) next_view (visit ⨾ ask) t (idler r) d (λ b. next (idler r) d y idle_tables) (λ b. tabled_stays u start i (visit ⨾ ask) t (idler r) d stays_looks y.sound idle_tables)),
             λ n1. (
               λ a.
                   let apart = eqb-false r.view r.log_view n1 in
                   let begun = started_so u start i (idler r) l y tables.stated several (omega arith) in
-                  tabled_change_then u start i idler _ t r f (λ d. tabled_if u start i (nat_le 10 (idler r).idle) next_view (says (send_to_all start_view_change) ⨾ speak ⨾ ask) t (idler r) d (λ b. next (idler r) d y idle_tables)
-                  (λ b. tabled_says_then u start i (send_to_all start_view_change) (speak ⨾ ask) t (idler r) d (λ e. speaks_ask (idler r) e begun))),
+                  tabled_change_then u start i idler _ t r f (λ d. tabled_if u start i (nat_le 10 (idler r).idle) next_view (says (send_to_all start_view_change) ⨾ speak ⨾ visit ⨾ ask) t (idler r) d (λ b. next (idler r) d y idle_tables)
+                  (λ b. tabled_says_then u start i (send_to_all start_view_change) (speak ⨾ visit ⨾ ask) t (idler r) d (λ e. speaks_looks (idler r) e begun))),
               λ n2. idle,
             ),
           ),

@@ -13,13 +13,14 @@ use Rattle.vr_header.specs.declared.part.Part.TheVariants.{Here, Nothing}
 use Rattle.vr_header.specs.Made.{Whole}
 use Rattle.vr_msg.specs.declared.choice.Choice.{Choice}
 use Rattle.vr_msg.specs.declared.choice.Choice.TheVariants.{Ends, WaitsAt, TooFew}
+use Rattle.vr_msg.specs.declared.frame.SyncView.{SyncView}
 use Rattle.vr_msg.specs.declared.output.Output.{Output}
 use Rattle.vr_msg.specs.declared.statement.Statement.{Statement}
 use Rattle.vr_msg.specs.Choice.{choice, ops}
 use Rattle.vr_rules.specs.Replica.{Replica, ackers_at, view_change, head, is_primary, is_started, last_view, leads, part_at, replication, forgetting, with_part}
 use Rattle.vr_rules.specs.Outputs.{do_view_change, prepare, send_to_all, start_view, to_primary, wait_line}
 use Rattle.vr_rules.specs.Steps.{Effect, Say, Setting, Step, Word, ◌⨾◌, quiet, change, does, says, by, naming, each, after_all, outputs}
-use Rattle.vr_rules.specs.Words.{Log, save, with_saved, entered, enter, rested, stored, write, taken, take, may_take, stated, chosen_log, choose_line, begin_view, try_log, obey_choice, decided, try, speak, resend, prepare_again, apply, advance, no_ackers}
+use Rattle.vr_rules.specs.Words.{Log, save, with_saved, entered, enter, rested, stored, write, taken, take, may_take, stated, chosen_log, choose_line, begin_view, try_log, obey_choice, decided, try, speak, resend, prepare_again, apply, advance, no_ackers, jump, jumped}
 use Rattle.vr_rules.specs.Rules.{make}
 use Rattle.vr_rules.specs.Sound.{IsSound}
 use Rattle.vr_rules.proofs.Keeping.{sound_alike}
@@ -244,8 +245,19 @@ module _ (u : Setup) (start : Group Header) (i : ℕ) where
   unfolding take save does change ◌⨾◌
   take_is l t r f = refl
 
+  jump_is : {F : Type 0} (v : SyncView) (t : Setting F) (r : Replica) (f : F) → (jump v t r f).replica ≡ with_saved (jumped v r)
+  unfolding jump save does change ◌⨾◌
+  jump_is v t r f = refl
+
+  pub tabled_jump_then : {F : Type 0} (v : SyncView) (w : Word F) (t : Setting F) (r : Replica) (f : F) → ((d : F) → Tabled u start i (w t (with_saved (jumped v r)) d)) → Tabled u start i ((jump v ⨾ w) t r f)
+  tabled_jump_then v w t r f go = tabled_after u start i (jump v) w t r f (λ d. subst (λ q. Tabled u start i (w t q d)) (sym (jump_is v t r f)) (go d))
+
   pub tabled_take_then : {F : Type 0} (l : Log) (w : Word F) (t : Setting F) (r : Replica) (f : F) → ((d : F) → Tabled u start i (w t (with_saved (taken l r)) d)) → Tabled u start i ((take l ⨾ w) t r f)
   tabled_take_then l w t r f go = tabled_after u start i (take l) w t r f (λ d. subst (λ q. Tabled u start i (w t q d)) (sym (take_is l t r f)) (go d))
+
+pub jumped_statements : (v : SyncView) (r : Replica) → (jumped v r).statements ≡ replicate r.n None
+unfolding jumped forgetting
+jumped_statements v r = refl
 
 pub taken_statements : (l : Log) (r : Replica) → (taken l r).statements ≡ replicate r.n None
 unfolding taken forgetting

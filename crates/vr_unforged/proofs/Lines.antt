@@ -68,6 +68,8 @@ given_more some more (frame.GetView g) m s = tt
 given_more some more (frame.GetPrepare g) m s = tt
 given_more some more (frame.GivePrepare g) m s = tt
 given_more some more (frame.GetBlock g) m s = tt
+given_more some more (frame.GetSync g) m s = tt
+given_more some more (frame.SyncView v) m s = tt
 
 given_read : (made : List Header) (d : Lying) (f : Frame) → IsFace d.face → HasSectors (IsSealed made) d.face → IsGiven (ReadsOn d) f → IsGiven (IsSealedBlock made) f
 given_read made d (frame.GiveBlock g) face s r = block_sealed made d.face s r.0 g.block face r.1
@@ -83,6 +85,8 @@ given_read made d (frame.GetView g) face s r = tt
 given_read made d (frame.GetPrepare g) face s r = tt
 given_read made d (frame.GivePrepare g) face s r = tt
 given_read made d (frame.GetBlock g) face s r = tt
+given_read made d (frame.GetSync g) face s r = tt
+given_read made d (frame.SyncView v) face s r = tt
 
 given_none : (made : List Header) (f : Frame) → IsGiven (λ b. ⊥) f → IsGiven (IsSealedBlock made) f
 given_none made (frame.GiveBlock g) n = absurd n
@@ -98,6 +102,8 @@ given_none made (frame.GetView g) n = tt
 given_none made (frame.GetPrepare g) n = tt
 given_none made (frame.GivePrepare g) n = tt
 given_none made (frame.GetBlock g) n = tt
+given_none made (frame.GetSync g) n = tt
+given_none made (frame.SyncView v) n = tt
 
 given_bytes : (made : List Header) (f : Frame) → IsGiven (IsSealedBlock made) f → IsGiven IsBytes f
 given_bytes made (frame.GiveBlock g) s = s.bytes
@@ -113,6 +119,8 @@ given_bytes made (frame.GetView g) s = tt
 given_bytes made (frame.GetPrepare g) s = tt
 given_bytes made (frame.GivePrepare g) s = tt
 given_bytes made (frame.GetBlock g) s = tt
+given_bytes made (frame.GetSync g) s = tt
+given_bytes made (frame.SyncView v) s = tt
 
 event_bytes : (made : List Header) (e : Event) → IsGivenEvent (IsSealedBlock made) e → IsGivenEvent IsBytes e
 event_bytes made (event.Deliver m) s = given_bytes made m s
@@ -215,7 +223,8 @@ module _ (w : World Lying) (g : Group) (b : AreBeside w g) (fits : IsFitGroup 0 
       let h = step_well w g i m q b fits stock at there stands arrival e r run arrives fit are in
       let on = (stands.running r run).0 in
       let face = on.calm.face in
-      let gives = gives_read {Q = IsSealedBlock g.made} g.n i r d h.at e are given h.known in
+      let running = (fits.members i q there).running r (stands.replica ∙ run) in
+      let gives = gives_read {Q = IsSealedBlock g.made} g.n i r d h.at running.0.sound running.1 e are given h.known in
       let saves = step_saves g bridged fits i q there d (disks_fit.lying_reads d face) arrival e r (stands.replica ∙ run) arrives fit in
       let split = begun_some m.fuse x.script d.face in
       let seals = begun_sealed g.made (ReadsOn d) x.script (begun_by m.fuse x.script d.face) split.0 split.1 saves gives.blocks plain in

@@ -26,6 +26,7 @@ use Rattle.vr_apply.specs.declared.codec.Texts.{Texts}
 use Rattle.vr_apply.specs.declared.state.State.{State}
 use Rattle.vr_apply.proofs.Stored.{state_next}
 use Rattle.vr_rings.specs.Slots.{IsWhole}
+use Rattle.vr_rules.specs.Checkpoints.{state_at}
 use Rattle.vr_rules.specs.Group.{Played}
 use Rattle.vr_rules.specs.Safe.{IsHashed}
 use Rattle.vr_rules.specs.Steps.{Effect, Rewrite, Save, Mend, Checkpoint, PutBlock, Say}
@@ -35,7 +36,7 @@ use Rattle.vr_agree.specs.Followed.{IsFitRun}
 use Rattle.vr_agree.proofs.Log.{is_log, the_log}
 use Rattle.vr_follow.proofs.Following.{follows_it}
 use Rattle.vr_replied.proofs.Runs.{borne_at}
-use Rattle.vr_replied.proofs.Values.{AreSettled, state_at, state_is}
+use Rattle.vr_replied.proofs.Values.{AreSettled, state_is}
 use Rattle.vr_replied.proofs.Walk.{IsBorne}
 use Rattle.vr_seals.specs.Laws.{IsOfEntry}
 

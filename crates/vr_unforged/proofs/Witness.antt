@@ -1,25 +1,17 @@
 -- A schedule of which all holds that is asked.
-use Rattle.std.proofs.Common.{ℕ, ◌≡◌, ◌⊎◌, arith, inl, inr, refl, sym, ◌∙◌, subst, Bool, true, false, List, [], ◌∷◌, ◌++◌, map, Option, Some, None}
-use Rattle.std.specs.Prelude.{Contains, not, slice_get, ⊤}
+use Rattle.std.proofs.Common.{ℕ, ◌≡◌, ◌⊎◌, arith, inl, inr, refl, sym, ◌∙◌, subst, List, [], ◌∷◌, Option, Some, None}
+use Rattle.std.specs.Prelude.{Contains, slice_get, ⊤}
 use Rattle.std.specs.List.{AllByRecursion}
-use Rattle.vr_header.specs.declared.header.Header.{Header}
-use Rattle.vr_header.specs.declared.part.Part.{Part}
-use Rattle.vr_header.specs.declared.part.Part.TheVariants.{Here}
 use Rattle.vr_disk.specs.DiskState.{Face, IsFace}
-use Rattle.vr_header.specs.Made.{Whole}
 use Rattle.vr_header.specs.Names.{root_header}
 use Rattle.vr_header.specs.Spelling.{named_bytes}
-use Rattle.vr_grid.specs.declared.name.Name.{Name}
 use Rattle.vr_msg.specs.declared.event.Event.TheVariants as event
-use Rattle.vr_msg.specs.declared.frame.Frame.{Frame}
-use Rattle.vr_msg.specs.declared.output.Output.{Output}
-use Rattle.vr_rules.specs.Replica.{Replica, is_frozen, part_at}
-use Rattle.vr_rules.specs.Deciding.{first_of, tick_table}
-use Rattle.vr_rules.specs.Steps.{Effect, Say, Setting, Word, ◌⨾◌, after_all, by, change, naming, quiet, reading, says, when}
+use Rattle.vr_rules.specs.Outputs.{send_to_all}
+use Rattle.vr_rules.specs.Replica.{Replica, head, part_at}
+use Rattle.vr_rules.specs.Deciding.{first_of}
+use Rattle.vr_rules.specs.Steps.{Effect, Say, ◌⨾◌, after_all, by, change, quiet, says}
 use Rattle.vr_rules.specs.Rules as rules
-use Rattle.vr_rules.specs.declared.rule.Rule.{Rule}
-use Rattle.vr_rules.specs.declared.rule.Rule.TheVariants.{TickedPrimary}
-use Rattle.vr_rules.specs.Words.{ask, ask_for, ask_peer, entry_of, or_lost, prepare_again, with_entry, with_entry_at}
+use Rattle.vr_rules.specs.Words.{ask, prepare_again, visit, visit_place, visit_slot, with_entry_at}
 use Rattle.vr_rules.specs.Opening.{blank, fresh}
 use Rattle.vr_rules.specs.Lying.{Lying, hazards, lying}
 use Rattle.vr_rules.specs.World.{Fuses, Stops, Ticks, World, fresh_host, fresh_world}
@@ -59,84 +51,10 @@ abbrev IsSay : Effect → Type 0
 IsSay (Say o) = ⊤
 IsSay _ = ⊥
 
-record Says (w : Word Lying) : Type 0 where
-  each : (r : Replica) (d : Lying) → AllByRecursion IsSay (w lying r d).script
-
-both : (xs ys : List Effect) → AllByRecursion IsSay xs → AllByRecursion IsSay ys → AllByRecursion IsSay (xs ++ ys)
-both [] ys a b = b
-both (x ∷ xs) ys a b = (a.0, both xs ys a.1 b)
-
-said : (os : List Output) → AllByRecursion IsSay (map Say os)
-said [] = tt
-said (o ∷ os) = (tt, said os)
-
-n_then : (v w : Word Lying) → Says v → Says w → Says (v ⨾ w)
-unfolding ◌⨾◌
-n_then v w x y = record { each = λ r d. let one = v lying r d in both one.script (w lying one.replica (after_all lying d one.script)).script (x.each r d) (y.each one.replica (after_all lying d one.script)) }
-
-n_quiet : Says quiet
-unfolding quiet
-n_quiet = record { each = λ r d. tt }
-
-n_change : (g : Replica → Replica) → Says (change g)
-unfolding change
-n_change g = record { each = λ r d. tt }
-
-n_says : (os : Replica → List Output) → Says (says os)
-unfolding says
-n_says os = record { each = λ r d. said (os r) }
-
-n_by : (w : Replica → Word Lying) → ((r : Replica) → Says (w r)) → Says (by w)
-unfolding by
-n_by w h = record { each = λ r d. (h r).each r d }
-
-n_when : (t : Bool) (w : Word Lying) → Says w → Says (when t w)
-n_when true w h = h
-n_when false w h = n_quiet
-
-n_naming : (w : (List ℕ → List ℕ) → Word Lying) → ((hash : List ℕ → List ℕ) → Says (w hash)) → Says (naming w)
-unfolding naming
-n_naming w h = record { each = λ r d. (h lying.hash).each r d }
-
-n_reading : {X : Type 0} (g : Setting Lying → Lying → X) (w : X → Word Lying) → ((x : X) → Says (w x)) → Says (reading g w)
-unfolding reading
-n_reading g w h = record { each = λ r d. (h (g lying d)).each r d }
-
-n_lost : (h : Header) (w : Whole → Word Lying) (o : Option Whole) → ((e : Whole) → Says (w e)) → Says (or_lost h w o)
-n_lost h w None all = n_change _
-n_lost h w (Some e) all = all e
-
-n_entry : (w : Whole → Word Lying) (p : Part) → ((e : Whole) → Says (w e)) → Says (with_entry w p)
-n_entry w (Here h) all = n_reading (entry_of h) (or_lost h w) (λ o. n_lost h w o all)
-n_entry w _ all = n_quiet
-
-n_again : (op : ℕ) → Says (prepare_again op)
-unfolding prepare_again with_entry_at
-n_again op = n_by _ (λ r. n_entry _ (part_at r op) (λ e. n_says _))
-
-n_peer : (message : Replica → Frame) → Says (ask_peer message)
-unfolding ask_peer
-n_peer message = n_then _ _ (n_says _) (n_change _)
-
-n_ask_for : (names : List Name) (absent : Option Header) → Says (ask_for names absent)
-n_ask_for (name ∷ names) absent = n_peer _
-n_ask_for [] (Some h) = n_naming _ (λ hash. n_peer _)
-n_ask_for [] None = n_quiet
-
-n_ask : Says ask
-unfolding ask
-n_ask = n_by _ (λ r. n_ask_for r.missing _)
-
-n_primary : Says (rules.obey_tick TickedPrimary)
-n_primary = n_then _ _ (n_says _) (n_then _ _ (n_by _ (λ r. n_when _ _ (n_again _))) n_ask)
-
-leads_first : first_of (tick_table first) ≡ TickedPrimary
-unfolding blank first_of
-leads_first = refl
-
+-- the place that it visits has no entry
 tick_says : (d : Lying) → AllByRecursion IsSay (rules.react event.Tick lying first d).script
-unfolding rules.react rules.on_tick by first_of blank
-tick_says d = (n_when (not (is_frozen first)) (rules.obey_tick (first_of (tick_table first))) (subst (λ (x : Rule). Says (rules.obey_tick x)) (sym leads_first) n_primary)).each first d
+unfolding rules.react rules.on_tick by first_of blank says send_to_all ◌⨾◌ change quiet prepare_again visit visit_place visit_slot with_entry_at part_at head ask after_all
+tick_says d = (tt, tt)
 
 tick_begun : AllByRecursion IsSay (begun_in start (Ticks 0))
 tick_begun = subst (λ (o : Option Work). AllByRecursion IsSay (begun_of o)) (sym work_is) (tick_says (fresh_host hazards 2 0).disk)

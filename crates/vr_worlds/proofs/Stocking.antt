@@ -28,15 +28,16 @@ use Rattle.vr_table.specs.declared.fault.StateFault.{StateFault}
 use Rattle.vr_msg.specs.declared.choice.Choice.{Choice}
 use Rattle.vr_msg.specs.declared.choice.Choice.TheVariants.{Ends, WaitsAt, TooFew}
 use Rattle.vr_msg.specs.declared.frame.Frame.{Frame}
+use Rattle.vr_msg.specs.declared.frame.SyncView.{SyncView}
 use Rattle.vr_msg.specs.declared.output.Output.{Output}
 use Rattle.vr_msg.specs.declared.statement.Statement.{Statement}
 use Rattle.vr_rules.specs.Replica.{Replica, leads, part_at, forgetting, with_part}
 use Rattle.vr_rules.specs.Outputs.{applied_reply, asker_of, kind_of, others, prepare, replies, send, send_to_all, start_view, start_view_change}
 use Rattle.vr_rules.specs.Steps.{Effect, Write, Rewrite, Save, Mend, Checkpoint, PutBlock, Say, Setting, Word, ◌⨾◌, quiet, change, does, says, by, naming, reading, when, times, each, after_all}
-use Rattle.vr_rules.specs.Words.{Log, save, enter, entered, write, stored, accept, entry_of, lost, or_lost, with_entry, with_entry_at, with_checkpoint, make_checkpoint, checkpoints, checkpoint_at, checkpoint_of, apply_entry, apply_next, apply, applied, advanced, advance, learn, taken, take, prepare_again, begin_view, try_log, stated, decided, obey_choice, try, speak, resend, ask_peer, ask_for, ask, with_state, loaded_state, loads, load}
+use Rattle.vr_rules.specs.Words.{Log, save, enter, entered, write, stored, accept, entry_of, lost, or_lost, with_entry, with_entry_at, with_checkpoint, make_checkpoint, checkpoints, checkpoint_at, checkpoint_of, apply_entry, apply_next, apply, applied, advanced, advance, learn, taken, take, prepare_again, begin_view, try_log, stated, decided, obey_choice, try, speak, resend, ask_peer, ask_for, ask, with_state, loaded_state, loads, load, jump, jumped}
 use Rattle.vr_rules.specs.Lying.{Lying, lying}
 use Rattle.vr_rules.proofs.FitGroups.{Known, known_first, known_left, known_rest, known_right}
-use Rattle.vr_worlds.specs.Chains.{Chain, GoesWell}
+use Rattle.vr_worlds.specs.Chains.{Chain, GoesWell, Rewrites}
 use Rattle.vr_worlds.specs.Stocks.{IsGiven, IsGivenOutput, IsNamed, IsStocked, WritesBlocks}
 use Rattle.vr_worlds.proofs.Blocks.{Texted, save_state_are, table_named}
 use Rattle.vr_worlds.proofs.States.{state_kept, state_read, text_of_state}
@@ -53,6 +54,7 @@ pub record At (r : Replica) (d : Lying) : Type 0 where
 
 pub record Leaves (P Q : List ℕ → Type 0) (w : Word Lying) (r : Replica) (d : Lying) : Type 0 where
   pub blocks : AllByRecursion (WritesBlocks P Q) (w lying r d).script
+  pub rewrites : Rewrites (w lying r d).script d
   pub stock : IsStocked (w lying r d).replica
 
 pub record Stocking (P Q : List ℕ → Type 0) (w : Word Lying) : Type 0 where
@@ -88,9 +90,9 @@ goes_face (e ∷ es) d g f = goes_face es (lying.after d e) g.2 (face_after_all 
 chain_good : (n i : ℕ) (es : List Effect) (v u : SuperValue) → IsGood v → Chain v es u → Known 0 n i es → IsGood u
 chain_good n i [] v u g c k = subst IsGood c g
 chain_good n i (Write again e ∷ es) v u g c k = chain_good n i es v u g c (known_rest 0 n i (Write again e) es k)
-chain_good n i (Rewrite h ∷ es) v u g c k = absurd c
+chain_good n i (Rewrite h ∷ es) v u g c k = chain_good n i es v u g c (known_rest 0 n i (Rewrite h) es k)
 chain_good n i (Save old new ∷ es) v u g c k = chain_good n i es new u (known_first 0 n i (Save old new) es k).1 c.1 (known_rest 0 n i (Save old new) es k)
-chain_good n i (Mend x ∷ es) v u g c k = absurd c
+chain_good n i (Mend x ∷ es) v u g c k = chain_good n i es v u g c.1 (known_rest 0 n i (Mend x) es k)
 chain_good n i (Checkpoint t x o p ∷ es) v u g c k = chain_good n i es v u g c (known_rest 0 n i (Checkpoint t x o p) es k)
 chain_good n i (PutBlock m x ∷ es) v u g c k = chain_good n i es v u g c (known_rest 0 n i (PutBlock m x) es k)
 chain_good n i (Say o ∷ es) v u g c k = chain_good n i es v u g c (known_rest 0 n i (Say o) es k)
@@ -98,6 +100,15 @@ chain_good n i (Say o ∷ es) v u g c k = chain_good n i es v u g c (known_rest 
 blocks_both : (P Q : List ℕ → Type 0) (xs ys : List Effect) → AllByRecursion (WritesBlocks P Q) xs → AllByRecursion (WritesBlocks P Q) ys → AllByRecursion (WritesBlocks P Q) (xs ++ ys)
 blocks_both P Q [] ys a b = b
 blocks_both P Q (x ∷ xs) ys a b = (a.0, blocks_both P Q xs ys a.1 b)
+
+rewrites_both : (xs ys : List Effect) (d : Lying) → Rewrites xs d → Rewrites ys (after_all lying d xs) → Rewrites (xs ++ ys) d
+unfolding after_all
+rewrites_both [] ys d a b = b
+rewrites_both (x ∷ xs) ys d a b = (a.0, rewrites_both xs ys (lying.after d x) a.1 b)
+
+said_rewrites : (os : List Output) (d : Lying) → Rewrites (map Say os) d
+said_rewrites [] d = tt
+said_rewrites (o ∷ os) d = (tt, said_rewrites os (lying.after d (Say o)))
 
 said_blocks : (P Q : List ℕ → Type 0) (os : List Output) → AllByRecursion (IsGivenOutput P) os → AllByRecursion (WritesBlocks P Q) (map Say os)
 said_blocks P Q [] a = tt
@@ -133,6 +144,22 @@ loads_stocked root d f (Missing names) e q k = record { sessions = k.sessions; m
 reply_given : (P : List ℕ → Type 0) (e : Whole) (r : Replica) → AllByRecursion (IsGivenOutput P) (applied_reply e r)
 reply_given P e r = elim (leads r) as (λ t. AllByRecursion (IsGivenOutput P) (cond t (replies (asker_of e) (kind_of (applying.applied r.state e).reply) r) [])) [ true ↦ (tt, tt) | false ↦ tt ]
 
+-- what a word leaves is a running replica on its disk
+pub at_next : (P Q : List ℕ → Type 0) (v : Word Lying) (n i : ℕ) (r : Replica) (d : Lying) → Chained v → At r d → Known 0 n i (v lying r d).script → Leaves P Q v r d → At (v lying r d).replica (after_all lying d (v lying r d).script)
+at_next P Q v n i r d chained at known one =
+    let a = v lying r d in
+    let chain = chained.each lying r d in
+    let goes = known_goes P Q n i a.script d r.saved a.replica.saved at.good chain known one.blocks one.rewrites in
+    record { face = goes_face a.script d goes at.face; good = chain_good n i a.script r.saved a.replica.saved at.good chain known; stock = one.stock }
+
+-- and what two leave
+pub leaves_both : (P Q : List ℕ → Type 0) (v w : Word Lying) (r : Replica) (d : Lying) → Leaves P Q v r d → Leaves P Q w (v lying r d).replica (after_all lying d (v lying r d).script) → Leaves P Q (v ⨾ w) r d
+unfolding ◌⨾◌
+leaves_both P Q v w r d one two =
+    let a = v lying r d in
+    let b = w lying a.replica (after_all lying d a.script) in
+    record { blocks = blocks_both P Q a.script b.script one.blocks two.blocks; rewrites = rewrites_both a.script b.script d one.rewrites two.rewrites; stock = two.stock }
+
 module _ {P Q : List ℕ → Type 0} where
   -- ---- combining
 
@@ -146,41 +173,37 @@ module _ {P Q : List ℕ → Type 0} where
         let b = w lying a.replica mid in
         let left = known_left 0 n i a.script b.script known in
         let one = h.each n i r d at left in
-        let chain = h.chained.each lying r d in
-        let goes = known_goes P Q n i a.script d r.saved a.replica.saved at.good chain left one.blocks in
-        let next : At a.replica mid = record { face = goes_face a.script d goes at.face; good = chain_good n i a.script r.saved a.replica.saved at.good chain left; stock = one.stock } in
-        let two = k.each n i a.replica mid next (known_right 0 n i a.script b.script known) in
-        record { blocks = blocks_both P Q a.script b.script one.blocks two.blocks; stock = two.stock };
+        leaves_both P Q v w r d one (k.each n i a.replica mid (at_next P Q v n i r d h.chained at left one) (known_right 0 n i a.script b.script known));
   }
 
   pub b_quiet : Stocking P Q quiet
   unfolding quiet
-  b_quiet = record { chained = c_quiet; each = λ n i r d a k. record { blocks = tt; stock = a.stock } }
+  b_quiet = record { chained = c_quiet; each = λ n i r d a k. record { blocks = tt; rewrites = tt; stock = a.stock } }
 
   pub b_change : (g : Replica → Replica) → ((r : Replica) → Kept (g r) r) → Stocking P Q (change g)
   unfolding change
-  b_change g h = record { chained = c_change g (λ r. (h r).saved); each = λ n i r d a k. record { blocks = tt; stock = moved (g r) r (h r) a.stock } }
+  b_change g h = record { chained = c_change g (λ r. (h r).saved); each = λ n i r d a k. record { blocks = tt; rewrites = tt; stock = moved (g r) r (h r) a.stock } }
 
   pub b_says : (os : Replica → List Output) → ((r : Replica) → AllByRecursion (IsGivenOutput P) (os r)) → Stocking P Q (says os)
   unfolding says
-  b_says os h = record { chained = c_says os; each = λ n i r d a k. record { blocks = said_blocks P Q (os r) (h r); stock = a.stock } }
+  b_says os h = record { chained = c_says os; each = λ n i r d a k. record { blocks = said_blocks P Q (os r) (h r); rewrites = said_rewrites (os r) d; stock = a.stock } }
 
   pub b_by : (w : Replica → Word Lying) → ((r : Replica) → Stocking P Q (w r)) → Stocking P Q (by w)
   unfolding by
-  b_by w h = record { chained = c_by w (λ r. (h r).chained); each = λ n i r d a k. let x = (h r).each n i r d a k in record { blocks = x.blocks; stock = x.stock } }
+  b_by w h = record { chained = c_by w (λ r. (h r).chained); each = λ n i r d a k. let x = (h r).each n i r d a k in record { blocks = x.blocks; rewrites = x.rewrites; stock = x.stock } }
 
   -- of a replica that is stocked
   pub b_at : (w : Replica → Word Lying) → ((r : Replica) → Chained (w r)) → ((r : Replica) → IsStocked r → Stocking P Q (w r)) → Stocking P Q (by w)
   unfolding by
-  b_at w c h = record { chained = c_by w c; each = λ n i r d a k. let x = (h r a.stock).each n i r d a k in record { blocks = x.blocks; stock = x.stock } }
+  b_at w c h = record { chained = c_by w c; each = λ n i r d a k. let x = (h r a.stock).each n i r d a k in record { blocks = x.blocks; rewrites = x.rewrites; stock = x.stock } }
 
   pub b_naming : (w : (List ℕ → List ℕ) → Word Lying) → ((hash : List ℕ → List ℕ) → Stocking P Q (w hash)) → Stocking P Q (naming w)
   unfolding naming
-  b_naming w h = record { chained = c_naming w (λ x. (h x).chained); each = λ n i r d a k. let x = (h lying.hash).each n i r d a k in record { blocks = x.blocks; stock = x.stock } }
+  b_naming w h = record { chained = c_naming w (λ x. (h x).chained); each = λ n i r d a k. let x = (h lying.hash).each n i r d a k in record { blocks = x.blocks; rewrites = x.rewrites; stock = x.stock } }
 
   pub b_reading : {X : Type 0} (g : Setting Lying → Lying → X) (w : X → Word Lying) → ((x : X) → Chained (w x)) → ((d : Lying) → IsFace d.face → Stocking P Q (w (g lying d))) → Stocking P Q (reading g w)
   unfolding reading
-  b_reading g w c h = record { chained = c_reading g w c; each = λ n i r d a k. let x = (h d a.face).each n i r d a k in record { blocks = x.blocks; stock = x.stock } }
+  b_reading g w c h = record { chained = c_reading g w c; each = λ n i r d a k. let x = (h d a.face).each n i r d a k in record { blocks = x.blocks; rewrites = x.rewrites; stock = x.stock } }
 
   pub b_if : (b : Bool) (v w : Word Lying) → Stocking P Q v → Stocking P Q w → Stocking P Q (cond b v w)
   b_if true v w h k = h
@@ -204,11 +227,11 @@ module _ {P Q : List ℕ → Type 0} where
 
   pub b_save : Stocking P Q save
   unfolding save does change ◌⨾◌
-  b_save = record { chained = c_save; each = λ n i r d a k. record { blocks = (tt, tt); stock = record { sessions = a.stock.sessions; machine = a.stock.machine; old_sessions = a.stock.old_sessions; old_keys = a.stock.old_keys } } }
+  b_save = record { chained = c_save; each = λ n i r d a k. record { blocks = (tt, tt); rewrites = (tt, tt); stock = record { sessions = a.stock.sessions; machine = a.stock.machine; old_sessions = a.stock.old_sessions; old_keys = a.stock.old_keys } } }
 
   pub b_write : (e : Whole) → Stocking P Q (write e)
   unfolding write does change ◌⨾◌ forgetting with_part
-  b_write e = record { chained = c_write e; each = λ n i r d a k. record { blocks = (tt, tt); stock = moved (stored e r) r (record { saved = refl; state = refl; table = refl }) a.stock } }
+  b_write e = record { chained = c_write e; each = λ n i r d a k. record { blocks = (tt, tt); rewrites = (tt, tt); stock = moved (stored e r) r (record { saved = refl; state = refl; table = refl }) a.stock } }
 
   pub b_accept : (e : Whole) → Stocking P Q (accept e)
   unfolding accept
@@ -232,13 +255,13 @@ module _ {P Q : List ℕ → Type 0} where
 
   b_checkpoints : Stocking P Q (does checkpoints)
   unfolding does
-  b_checkpoints = record { chained = c_checkpoint; each = λ n i r d a k. record { blocks = ((save_state_are r.cluster (texts_of r.state) r.applied r.table (texted r a.stock), record { state = r.state; are = refl; sessions = a.stock.sessions; machine = a.stock.machine; old_sessions = a.stock.old_sessions; old_keys = a.stock.old_keys }), tt); stock = a.stock } }
+  b_checkpoints = record { chained = c_checkpoint; each = λ n i r d a k. record { blocks = ((save_state_are r.cluster (texts_of r.state) r.applied r.table (texted r a.stock), record { state = r.state; are = refl; sessions = a.stock.sessions; machine = a.stock.machine; old_sessions = a.stock.old_sessions; old_keys = a.stock.old_keys }), tt); rewrites = (tt, tt); stock = a.stock } }
 
   b_moved : (r : Replica) (d : Lying) → IsStocked r → Stocking P Q (change (with_checkpoint (checkpoint_of r lying d)))
   unfolding change with_checkpoint
   b_moved r d s =
       let t = table_named r.cluster (texts_of r.state) r.applied r.table (texted r s) in
-      record { chained = c_change _ (λ r. refl); each = λ n i q d a k. record { blocks = tt; stock = record { sessions = a.stock.sessions; machine = a.stock.machine; old_sessions = t.sessions; old_keys = t.keys } } }
+      record { chained = c_change _ (λ r. refl); each = λ n i q d a k. record { blocks = tt; rewrites = tt; stock = record { sessions = a.stock.sessions; machine = a.stock.machine; old_sessions = t.sessions; old_keys = t.keys } } }
 
   b_checkpoint : Stocking P Q make_checkpoint
   unfolding make_checkpoint
@@ -251,7 +274,7 @@ module _ {P Q : List ℕ → Type 0} where
     chained = c_change _ (λ r. refl);
     each = λ n i r d a k.
         let s = state_kept r.state e (record { sessions = a.stock.sessions; machine = a.stock.machine }) w in
-        record { blocks = tt; stock = record { sessions = s.sessions; machine = s.machine; old_sessions = a.stock.old_sessions; old_keys = a.stock.old_keys } };
+        record { blocks = tt; rewrites = tt; stock = record { sessions = s.sessions; machine = s.machine; old_sessions = a.stock.old_sessions; old_keys = a.stock.old_keys } };
   }
 
   b_apply_entry : (e : Whole) → IsWhole e → Stocking P Q (apply_entry e)
@@ -269,7 +292,7 @@ module _ {P Q : List ℕ → Type 0} where
 
   b_loads : (r : Replica) (d : Lying) → IsFace d.face → Stocking P Q (change (loads r.root (lying.loaded d r.root)))
   unfolding change
-  b_loads r d f = record { chained = c_change _ (loads_saved r.root (lying.loaded d r.root)); each = λ n i q x a k. record { blocks = tt; stock = loads_stocked r.root d f (lying.loaded d r.root) refl q a.stock } }
+  b_loads r d f = record { chained = c_change _ (loads_saved r.root (lying.loaded d r.root)); each = λ n i q x a k. record { blocks = tt; rewrites = tt; stock = loads_stocked r.root d f (lying.loaded d r.root) refl q a.stock } }
 
   pub b_load : Stocking P Q load
   unfolding load
@@ -279,14 +302,15 @@ module _ {P Q : List ℕ → Type 0} where
   unfolding ask_peer
   b_peer message g = b_then _ _ (b_says _ (λ r. (g r, tt))) (b_change _ (λ r. record { saved = refl; state = refl; table = refl }))
 
-  b_asks : (names : List Name) (absent : Option Header) → Stocking P Q (ask_for names absent)
-  b_asks (name ∷ names) absent = b_peer _ (λ r. tt)
-  b_asks [] (Some h) = b_naming _ (λ hash. b_peer _ (λ r. tt))
-  b_asks [] None = b_quiet
+  b_asks : (names : List Name) (absent : Option Header) (worn : List Name) → Stocking P Q (ask_for names absent worn)
+  b_asks (name ∷ names) absent worn = b_peer _ (λ r. tt)
+  b_asks [] (Some h) worn = b_naming _ (λ hash. b_peer _ (λ r. tt))
+  b_asks [] None (name ∷ names) = b_peer _ (λ r. tt)
+  b_asks [] None [] = b_quiet
 
   pub b_ask : Stocking P Q ask
   unfolding ask
-  b_ask = b_by _ (λ r. b_asks r.missing _)
+  b_ask = b_by _ (λ r. b_asks r.missing _ r.worn)
 
   pub b_advance : Stocking P Q advance
   unfolding advance advanced
@@ -299,6 +323,10 @@ module _ {P Q : List ℕ → Type 0} where
   pub b_take : (l : Log) → Stocking P Q (take l)
   unfolding take taken forgetting
   b_take l = b_then _ _ (b_change (taken l) (λ r. record { saved = refl; state = refl; table = refl })) b_save
+
+  pub b_jump : (v : SyncView) → Stocking P Q (jump v)
+  unfolding jump jumped forgetting
+  b_jump v = b_then _ _ (b_change (jumped v) (λ r. record { saved = refl; state = refl; table = refl })) b_save
 
   pub b_again : (op : ℕ) → Stocking P Q (prepare_again op)
   unfolding prepare_again

@@ -1,5 +1,5 @@
 -- What writes of blocks steps and openings make.
-use Rattle.std.proofs.Common.{◌≡◌, refl, ℕ, Bool, true, List, [], ◌∷◌, Option, Some, None}
+use Rattle.std.proofs.Common.{◌+◌, ◌≡◌, refl, ℕ, Bool, true, List, [], ◌∷◌, Option, Some, None}
 use Rattle.std.specs.Prelude.{find, ◌==◌}
 use Rattle.std.specs.Option.{option_map_or}
 use Rattle.std.proofs.lemmas.Bool.{and_parts}
@@ -14,6 +14,7 @@ use Rattle.vr_msg.specs.declared.frame.Frame.{Frame}
 use Rattle.vr_msg.specs.declared.frame.Frame.TheVariants as frame
 use Rattle.vr_msg.specs.declared.frame.GetBlock.{GetBlock}
 use Rattle.vr_msg.specs.declared.frame.GetPrepare.{GetPrepare}
+use Rattle.vr_msg.specs.declared.frame.GetSync.{GetSync}
 use Rattle.vr_msg.specs.declared.frame.GetView.{GetView}
 use Rattle.vr_msg.specs.declared.frame.GiveBlock.{GiveBlock}
 use Rattle.vr_msg.specs.declared.frame.GivePrepare.{GivePrepare}
@@ -21,19 +22,27 @@ use Rattle.vr_msg.specs.declared.frame.Prepare.{Prepare}
 use Rattle.vr_msg.specs.declared.frame.PrepareOk.{PrepareOk}
 use Rattle.vr_msg.specs.declared.frame.StartView.{StartView}
 use Rattle.vr_msg.specs.declared.frame.StartViewChange.{StartViewChange}
+use Rattle.vr_msg.specs.declared.frame.SyncView.{SyncView}
 use Rattle.vr_msg.specs.declared.request.RequestFields.{RequestFields}
 use Rattle.vr_sess.specs.declared.session.SessionAnswer.{SessionAnswer}
 use Rattle.vr_sess.specs.declared.session.SessionAnswer.TheVariants as answer
 use Rattle.vr_rules.specs.Replica.{Replica, header_at}
-use Rattle.vr_rules.specs.Steps.{PutBlock, Word, ◌⨾◌, by, quiet, change, does, reading, when}
+use Rattle.vr_rules.specs.Steps.{PutBlock, Word, ◌⨾◌, by, quiet, change, does, reading, says, when}
 use Rattle.vr_rules.proofs.FitGroups.{Known as IsKnown}
-use Rattle.vr_rules.specs.Outputs.{commit_message, prepare, start_line, start_view_change}
+use Rattle.vr_rules.specs.Outputs.{commit_message, prepare, send_to_all, start_line, start_view_change}
+use Rattle.vr_rules.specs.Own.{IsAt}
+use Rattle.vr_rules.specs.Sound.{IsSound}
+use Rattle.vr_rules.proofs.Combining.{keeps_by, keeps_says, keeps_when}
+use Rattle.vr_rules.proofs.Wording.{keeps_prepare_again}
+use Rattle.vr_rules.proofs.Trying.{keeps_speak}
+use Rattle.vr_rules.proofs.Reacting.{keeps_idler}
+use Rattle.vr_rules.proofs.OwnWords.{owned_again, owned_by, owned_change, owned_says, owned_speak, owned_when}
 use Rattle.vr_rules.specs.declared.asker.Asker.{Asker}
 use Rattle.vr_rules.specs.Words.{load, rested, speak}
 use Rattle.vr_rules.specs.Lying.{Lying, lying}
-use Rattle.vr_rules.specs.Deciding.{Hash, first_of, get_block_table, give_block_table, is_wanted, session_answer}
+use Rattle.vr_rules.specs.Deciding.{Hash, first_of, commit_table, do_view_change_table, get_block_table, get_prepare_table, get_sync_table, get_view_table, give_block_table, give_prepare_table, is_wanted, prepare_ok_table, prepare_table, session_answer, start_view_change_table, start_view_table, sync_view_table}
 use Rattle.vr_rules.specs.declared.rule.Rule.{Rule}
-use Rattle.vr_rules.specs.declared.rule.Rule.TheVariants.{Redirected, Behind, Answered, Full, Made, PreparedLater, Past, Beyond, Known, Next, Ahead, Other, Counted, CommitLater, CommitHeard, ChangeLater, ChangeHeard, ChangeDone, StatedLate, Stated, Taken, ViewGiven, EntryGiven, EntryTaken, BlockGiven, BlockTaken, TickedPrimary, TickedBackup, TickedChanging}
+use Rattle.vr_rules.specs.declared.rule.Rule.TheVariants.{Redirected, Behind, Answered, Full, Made, PreparedLater, Past, Beyond, Known, Next, Ahead, Other, Counted, CommitLater, CommitHeard, ChangeLater, ChangeHeard, ChangeDone, StatedLate, Stated, Taken, ViewGiven, EntryGiven, EntryTaken, BlockGiven, BlockTaken, BlockMended, TickedPrimary, TickedBackup, TickedChanging, SyncAsked, SyncGiven, Jumped}
 use Rattle.vr_rules.specs.Rules as rules
 use Rattle.vr_rules.specs.Opening.{announce, heard_itself, in_next_view, leave_view, resuming}
 use Rattle.std.proofs.Common.{ap, false, subst, cond, ◌<◌}
@@ -48,7 +57,8 @@ use Rattle.vr_worlds.proofs.Calls.{AreCalls}
 use Rattle.vr_worlds.proofs.Blocks.{put_are}
 use Rattle.vr_worlds.proofs.Chaining.{c_by, c_says}
 use Rattle.vr_worlds.proofs.ChainingRules.{c_obey_get_block, c_obey_give_block, c_put}
-use Rattle.vr_worlds.proofs.Stocking.{At, Leaves, Stocking, all_given, b_accept, b_advance, b_again, b_apply, b_ask, b_by, b_change, b_each, b_enter, b_entry, b_if, b_learn, b_load, b_naming, b_quiet, b_reading, b_resend, b_save, b_says, b_speak, b_take, b_then, b_try, b_when, b_write}
+use Rattle.vr_worlds.proofs.Stocking.{At, Leaves, Stocking, all_given, b_accept, b_advance, b_again, b_apply, b_by, b_change, b_each, b_enter, b_entry, b_if, b_jump, b_learn, b_load, b_naming, b_quiet, b_reading, b_resend, b_save, b_says, b_speak, b_take, b_then, b_try, b_when, b_write}
+use Rattle.vr_worlds.proofs.StockingVisits.{Sounded, v_by, v_if, v_looks, v_of, v_then, v_when}
 
 -- this is so of each block that is read where one is asked for
 abbrev pub ReadsGiven : (List ℕ → Type 0) → Frame → Type 0
@@ -146,7 +156,16 @@ module _ {P Q : List ℕ → Type 0} where
 
   r_view : (hash : Hash) (v : StartView) (rule : Rule) → Stocking P Q (rules.obey_start_view hash v rule)
   r_view hash v Taken = b_then _ _ (b_take _) (b_then _ _ (b_by _ (λ r. b_each _ _ (r_stored hash))) b_apply)
+  r_view hash v SyncAsked = b_says _ (λ r. (tt, tt))
   r_view hash v _ = b_quiet
+
+  r_get_sync : (g : GetSync) (rule : Rule) → Stocking P Q (rules.obey_get_sync g rule)
+  r_get_sync g SyncGiven = b_says _ (λ r. (tt, tt))
+  r_get_sync g _ = b_quiet
+
+  r_sync : (hash : Hash) (v : SyncView) (rule : Rule) → Stocking P Q (rules.obey_sync_view hash v rule)
+  r_sync hash v Jumped = b_then _ _ (b_jump v) (b_then _ _ (b_by _ (λ r. b_each _ _ (r_stored hash))) b_apply)
+  r_sync hash v _ = b_quiet
 
   r_get_view : (g : GetView) (rule : Rule) → Stocking P Q (rules.obey_get_view g rule)
   r_get_view g ViewGiven = b_says _ (λ r. (tt, tt))
@@ -170,7 +189,7 @@ module _ {P Q : List ℕ → Type 0} where
 
   b_put : (name : Name) (block : List ℕ) → AreCalls (put_calls name.address block) → Q block → Stocking P Q (does (λ r. PutBlock name block))
   unfolding does
-  b_put name block are q = record { chained = c_put name block; each = λ n i r d a k. record { blocks = ((are, q), tt); stock = a.stock } }
+  b_put name block are q = record { chained = c_put name block; each = λ n i r d a k. record { blocks = ((are, q), tt); rewrites = (tt, tt); stock = a.stock } }
 
   r_put_block : (name : Name) (block : List ℕ) → AreCalls (put_calls name.address block) → Q block → Stocking P Q (rules.put_block name block)
   unfolding rules.put_block
@@ -180,37 +199,51 @@ module _ {P Q : List ℕ → Type 0} where
   r_put_found block None q h = b_quiet
   r_put_found block (Some name) q h = b_then _ _ (r_put_block name block (h name refl) q) b_apply
 
+  r_mend_found : (block : List ℕ) (o : Option Name) → Q block → ((name : Name) → o ≡ Some name → AreCalls (put_calls name.address block)) → Stocking P Q (rules.mend_found block o)
+  r_mend_found block None q h = b_quiet
+  r_mend_found block (Some name) q h = b_then _ _ (b_put name block (h name refl) q) (b_change (rules.not_worn name) (λ r. record { saved = refl; state = refl; table = refl }))
+
   r_give_block : (g : GiveBlock) (rule : Rule) → IsBytes g.block → Q g.block → Stocking P Q (rules.obey_give_block lying.is_block g rule)
   r_give_block g BlockTaken are q = b_by _ (λ r. r_put_found g.block (find (is_wanted lying.is_block g) r.missing) q (λ name e. wanted_are g name are (find_passes (is_wanted lying.is_block g) r.missing name e)))
+  r_give_block g BlockMended are q = b_by _ (λ r. r_mend_found g.block (find (is_wanted lying.is_block g) r.worn) q (λ name e. wanted_are g name are (find_passes (is_wanted lying.is_block g) r.worn name e)))
   r_give_block g _ are q = b_quiet
 
   r_next_view : Stocking P Q rules.next_view
   r_next_view = b_by _ (λ r. b_enter _)
 
-  r_tick : (rule : Rule) → Stocking P Q (rules.obey_tick rule)
-  r_tick TickedPrimary = b_then _ _ (b_says _ (λ r. all_given P commit_message r tt)) (b_then _ _ (b_by _ (λ r. b_when _ _ (b_again _))) b_ask)
-  r_tick TickedBackup = b_then _ _ (b_change rules.idler (λ r. record { saved = refl; state = refl; table = refl })) (b_by _ (λ r. b_if _ _ _ r_next_view b_ask))
-  r_tick TickedChanging =
-      b_then _ _ (b_change rules.idler (λ r. record { saved = refl; state = refl; table = refl })) (b_by _ (λ r. b_if _ _ _ r_next_view (b_then _ _ (b_says _ (λ r. all_given P start_view_change r tt)) (b_then _ _ b_speak b_ask))))
-  r_tick _ = b_quiet
+  -- a tick comes to a sound replica of the group
+  r_idles : (w : Word Lying) → Sounded P Q w → Sounded P Q (change rules.idler ⨾ w)
+  r_idles w h = v_then (change rules.idler) w (b_change rules.idler (λ r. record { saved = refl; state = refl; table = refl })) keeps_idler (owned_change rules.idler (λ r. record { cluster = refl; n = refl; index = refl; saved = refl })) h
+
+  r_tells : (message : Replica → Frame) (w : Word Lying) → ((r : Replica) → IsGiven P (message r)) → Sounded P Q w → Sounded P Q (says (send_to_all message) ⨾ w)
+  r_tells message w g h = v_then (says (send_to_all message)) w (b_says _ (λ r. all_given P message r (g r))) (keeps_says _) (owned_says _) h
+
+  r_tick : (rule : Rule) → Sounded P Q (rules.obey_tick rule)
+  r_tick TickedPrimary =
+      r_tells commit_message _ (λ r. tt) (v_then _ _ (b_by _ (λ r. b_when _ _ (b_again (r.commit + 1)))) (keeps_by _ (λ r. keeps_when _ _ (keeps_prepare_again (r.commit + 1)))) (owned_by _ (λ r. owned_when _ _ (owned_again (r.commit + 1)))) v_looks)
+  r_tick TickedBackup = r_idles _ (v_by _ (λ r. v_if _ _ _ (v_of _ r_next_view) v_looks))
+  r_tick TickedChanging = r_idles _ (v_by _ (λ r. v_if _ _ _ (v_of _ r_next_view) (r_tells start_view_change _ (λ r. tt) (v_then _ _ b_speak keeps_speak owned_speak v_looks))))
+  r_tick _ = v_of quiet b_quiet
 
   r_on_request : (q : RequestFields) → Stocking P Q (rules.on_request q)
   unfolding rules.on_request
   r_on_request q = b_naming _ (λ hash. b_by _ (λ r. r_request hash q _))
 
   r_message : (m : Frame) → IsGiven IsBytes m → IsGiven Q m → ReadsGiven P m → Stocking P Q (rules.on_message m)
-  unfolding rules.on_request rules.on_prepare rules.on_prepare_ok rules.on_commit rules.on_start_view_change rules.on_do_view_change rules.on_start_view rules.on_get_view rules.on_get_prepare rules.on_give_prepare rules.on_get_block rules.on_give_block
-  r_message (frame.Request q) are given reads = b_naming _ (λ hash. b_by _ (λ r. r_request hash q _))
+  unfolding rules.on_request rules.on_prepare rules.on_prepare_ok rules.on_commit rules.on_start_view_change rules.on_do_view_change rules.on_start_view rules.on_get_view rules.on_get_prepare rules.on_give_prepare rules.on_get_block rules.on_give_block rules.on_get_sync rules.on_sync_view
+  r_message (frame.Request q) are given reads = r_on_request q
   r_message (frame.Reply a) are given reads = b_quiet
-  r_message (frame.Prepare p) are given reads = b_naming _ (λ hash. b_by _ (λ r. r_prepare hash p _))
-  r_message (frame.PrepareOk a) are given reads = b_naming _ (λ hash. b_by _ (λ r. r_prepare_ok a _))
-  r_message (frame.Commit m) are given reads = b_by _ (λ r. r_commit m _)
-  r_message (frame.StartViewChange m) are given reads = b_by _ (λ r. r_change m _)
-  r_message (frame.DoViewChange d) are given reads = b_by _ (λ r. r_statement d _)
-  r_message (frame.StartView v) are given reads = b_naming _ (λ hash. b_by _ (λ r. r_view hash v _))
-  r_message (frame.GetView g) are given reads = b_by _ (λ r. r_get_view g _)
-  r_message (frame.GetPrepare g) are given reads = b_naming _ (λ hash. b_by _ (λ r. r_get_prepare g _))
-  r_message (frame.GivePrepare g) are given reads = b_by _ (λ r. r_give_prepare g _)
+  r_message (frame.Prepare p) are given reads = b_naming _ (λ hash. b_by _ (λ r. r_prepare hash p (first_of (prepare_table hash p r))))
+  r_message (frame.PrepareOk a) are given reads = b_naming _ (λ hash. b_by _ (λ r. r_prepare_ok a (first_of (prepare_ok_table hash a r))))
+  r_message (frame.Commit m) are given reads = b_by _ (λ r. r_commit m (first_of (commit_table m r)))
+  r_message (frame.StartViewChange m) are given reads = b_by _ (λ r. r_change m (first_of (start_view_change_table m r)))
+  r_message (frame.DoViewChange d) are given reads = b_by _ (λ r. r_statement d (first_of (do_view_change_table d r)))
+  r_message (frame.StartView v) are given reads = b_naming _ (λ hash. b_by _ (λ r. r_view hash v (first_of (start_view_table hash v r))))
+  r_message (frame.GetSync g) are given reads = b_by _ (λ r. r_get_sync g (first_of (get_sync_table g r)))
+  r_message (frame.SyncView v) are given reads = b_naming _ (λ hash. b_by _ (λ r. r_sync hash v (first_of (sync_view_table hash v r))))
+  r_message (frame.GetView g) are given reads = b_by _ (λ r. r_get_view g (first_of (get_view_table g r)))
+  r_message (frame.GetPrepare g) are given reads = b_naming _ (λ hash. b_by _ (λ r. r_get_prepare g (first_of (get_prepare_table hash g r))))
+  r_message (frame.GivePrepare g) are given reads = b_by _ (λ r. r_give_prepare g (first_of (give_prepare_table g r)))
   r_message (frame.GetBlock g) are given reads =
       b_reading (rules.block_at (rules.asked_block g)) (λ o. by (λ r. rules.obey_get_block g o (first_of (get_block_table (is_some o) g r)))) (λ o. c_by _ (λ r. c_obey_get_block g o (first_of (get_block_table (is_some o) g r))))
       (λ d f. b_by _ (λ r. r_get_block g (lying.block d (rules.asked_block g)) (first_of (get_block_table (is_some (lying.block d (rules.asked_block g))) g r)) (λ b e. reads d f b e)))
@@ -218,15 +251,15 @@ module _ {P Q : List ℕ → Type 0} where
       b_reading rules.test_of (λ t. by (λ r. rules.obey_give_block t g (first_of (give_block_table t g r)))) (λ t. c_by _ (λ r. c_obey_give_block t g (first_of (give_block_table t g r))))
       (λ d f. b_by _ (λ r. r_give_block g (first_of (give_block_table lying.is_block g r)) are given))
 
-  r_event : (e : Event) → IsGivenEvent IsBytes e → IsGivenEvent Q e → ReadsGivenIn P e → Stocking P Q (rules.on_event e)
+  r_event : (e : Event) → IsGivenEvent IsBytes e → IsGivenEvent Q e → ReadsGivenIn P e → Sounded P Q (rules.on_event e)
   unfolding rules.on_tick
-  r_event (event.Request q) are given reads = r_on_request q
-  r_event (event.Deliver m) are given reads = r_message m are given reads
-  r_event event.Tick are given reads = b_by _ (λ r. r_tick _)
+  r_event (event.Request q) are given reads = v_of _ (r_on_request q)
+  r_event (event.Deliver m) are given reads = v_of _ (r_message m are given reads)
+  r_event event.Tick are given reads = v_by _ (λ r. r_tick _)
 
-  pub b_react : (e : Event) → IsGivenEvent IsBytes e → IsGivenEvent Q e → ReadsGivenIn P e → Stocking P Q (rules.react e)
+  pub v_react : (e : Event) → IsGivenEvent IsBytes e → IsGivenEvent Q e → ReadsGivenIn P e → Sounded P Q (rules.react e)
   unfolding rules.react
-  b_react e are given reads = b_by _ (λ r. b_when _ _ (r_event e are given reads))
+  v_react e are given reads = v_by _ (λ r. v_when _ _ (r_event e are given reads))
 
   -- ---- an opening, after what it mends and finds
 
@@ -245,33 +278,35 @@ module _ {P Q : List ℕ → Type 0} where
 abbrev pub ReadsOn : Lying → List ℕ → Type 0
 ReadsOn d b = (name : Name) × (lying.block d name ≡ Some b)
 
-module _ {Q : List ℕ → Type 0} (n i : ℕ) (r : Replica) (d : Lying) (at : At r d) where
+module _ {Q : List ℕ → Type 0} (n i : ℕ) (r : Replica) (d : Lying) (at : At r d) (sound : IsSound r) (is : IsAt 0 n i r) where
   get_leaves : (g : GetBlock) → IsKnown 0 n i (rules.on_message (frame.GetBlock g) lying r d).script → Leaves (ReadsOn d) Q (rules.on_message (frame.GetBlock g)) r d
   unfolding rules.on_get_block reading by
   get_leaves g known =
       let name = rules.asked_block g in
       let o = lying.block d name in
       let x = (r_get_block {P = ReadsOn d} {Q = Q} g o (first_of (get_block_table (is_some o) g r)) (λ b e. (name, e))).each n i r d at known in
-      record { blocks = x.blocks; stock = x.stock }
+      record { blocks = x.blocks; rewrites = x.rewrites; stock = x.stock }
 
   when_leaves : (t : Bool) (w : Word Lying) → IsKnown 0 n i (when t w lying r d).script → (IsKnown 0 n i (w lying r d).script → Leaves (ReadsOn d) Q w r d) → Leaves (ReadsOn d) Q (when t w) r d
-  when_leaves true w known h = let x = h known in record { blocks = x.blocks; stock = x.stock }
-  when_leaves false w known h = let x = (b_quiet {P = ReadsOn d} {Q = Q}).each n i r d at known in record { blocks = x.blocks; stock = x.stock }
+  when_leaves true w known h = let x = h known in record { blocks = x.blocks; rewrites = x.rewrites; stock = x.stock }
+  when_leaves false w known h = let x = (b_quiet {P = ReadsOn d} {Q = Q}).each n i r d at known in record { blocks = x.blocks; rewrites = x.rewrites; stock = x.stock }
 
   pub gives_read : (e : Event) → IsGivenEvent IsBytes e → IsGivenEvent Q e → IsKnown 0 n i (rules.react e lying r d).script → Leaves (ReadsOn d) Q (rules.react e) r d
   unfolding rules.react by
-  gives_read (event.Deliver (frame.GetBlock g)) are given known = let x = when_leaves _ (rules.on_message (frame.GetBlock g)) known (get_leaves g) in record { blocks = x.blocks; stock = x.stock }
-  gives_read (event.Deliver (frame.Request q)) are given known = (b_react {P = ReadsOn d} {Q = Q} (event.Deliver (frame.Request q)) are given tt).each n i r d at known
-  gives_read (event.Deliver (frame.Reply a)) are given known = (b_react {P = ReadsOn d} {Q = Q} (event.Deliver (frame.Reply a)) are given tt).each n i r d at known
-  gives_read (event.Deliver (frame.Prepare p)) are given known = (b_react {P = ReadsOn d} {Q = Q} (event.Deliver (frame.Prepare p)) are given tt).each n i r d at known
-  gives_read (event.Deliver (frame.PrepareOk a)) are given known = (b_react {P = ReadsOn d} {Q = Q} (event.Deliver (frame.PrepareOk a)) are given tt).each n i r d at known
-  gives_read (event.Deliver (frame.Commit m)) are given known = (b_react {P = ReadsOn d} {Q = Q} (event.Deliver (frame.Commit m)) are given tt).each n i r d at known
-  gives_read (event.Deliver (frame.StartViewChange m)) are given known = (b_react {P = ReadsOn d} {Q = Q} (event.Deliver (frame.StartViewChange m)) are given tt).each n i r d at known
-  gives_read (event.Deliver (frame.DoViewChange m)) are given known = (b_react {P = ReadsOn d} {Q = Q} (event.Deliver (frame.DoViewChange m)) are given tt).each n i r d at known
-  gives_read (event.Deliver (frame.StartView v)) are given known = (b_react {P = ReadsOn d} {Q = Q} (event.Deliver (frame.StartView v)) are given tt).each n i r d at known
-  gives_read (event.Deliver (frame.GetView g)) are given known = (b_react {P = ReadsOn d} {Q = Q} (event.Deliver (frame.GetView g)) are given tt).each n i r d at known
-  gives_read (event.Deliver (frame.GetPrepare g)) are given known = (b_react {P = ReadsOn d} {Q = Q} (event.Deliver (frame.GetPrepare g)) are given tt).each n i r d at known
-  gives_read (event.Deliver (frame.GivePrepare g)) are given known = (b_react {P = ReadsOn d} {Q = Q} (event.Deliver (frame.GivePrepare g)) are given tt).each n i r d at known
-  gives_read (event.Deliver (frame.GiveBlock g)) are given known = (b_react {P = ReadsOn d} {Q = Q} (event.Deliver (frame.GiveBlock g)) are given tt).each n i r d at known
-  gives_read (event.Request q) are given known = (b_react {P = ReadsOn d} {Q = Q} (event.Request q) are given tt).each n i r d at known
-  gives_read event.Tick are given known = (b_react {P = ReadsOn d} {Q = Q} event.Tick are given tt).each n i r d at known
+  gives_read (event.Deliver (frame.GetBlock g)) are given known = let x = when_leaves _ (rules.on_message (frame.GetBlock g)) known (get_leaves g) in record { blocks = x.blocks; rewrites = x.rewrites; stock = x.stock }
+  gives_read (event.Deliver (frame.Request q)) are given known = (v_react {P = ReadsOn d} {Q = Q} (event.Deliver (frame.Request q)) are given tt).each n i r d at sound is known
+  gives_read (event.Deliver (frame.Reply a)) are given known = (v_react {P = ReadsOn d} {Q = Q} (event.Deliver (frame.Reply a)) are given tt).each n i r d at sound is known
+  gives_read (event.Deliver (frame.Prepare p)) are given known = (v_react {P = ReadsOn d} {Q = Q} (event.Deliver (frame.Prepare p)) are given tt).each n i r d at sound is known
+  gives_read (event.Deliver (frame.PrepareOk a)) are given known = (v_react {P = ReadsOn d} {Q = Q} (event.Deliver (frame.PrepareOk a)) are given tt).each n i r d at sound is known
+  gives_read (event.Deliver (frame.Commit m)) are given known = (v_react {P = ReadsOn d} {Q = Q} (event.Deliver (frame.Commit m)) are given tt).each n i r d at sound is known
+  gives_read (event.Deliver (frame.StartViewChange m)) are given known = (v_react {P = ReadsOn d} {Q = Q} (event.Deliver (frame.StartViewChange m)) are given tt).each n i r d at sound is known
+  gives_read (event.Deliver (frame.DoViewChange m)) are given known = (v_react {P = ReadsOn d} {Q = Q} (event.Deliver (frame.DoViewChange m)) are given tt).each n i r d at sound is known
+  gives_read (event.Deliver (frame.StartView v)) are given known = (v_react {P = ReadsOn d} {Q = Q} (event.Deliver (frame.StartView v)) are given tt).each n i r d at sound is known
+  gives_read (event.Deliver (frame.GetSync g)) are given known = (v_react {P = ReadsOn d} {Q = Q} (event.Deliver (frame.GetSync g)) are given tt).each n i r d at sound is known
+  gives_read (event.Deliver (frame.SyncView v)) are given known = (v_react {P = ReadsOn d} {Q = Q} (event.Deliver (frame.SyncView v)) are given tt).each n i r d at sound is known
+  gives_read (event.Deliver (frame.GetView g)) are given known = (v_react {P = ReadsOn d} {Q = Q} (event.Deliver (frame.GetView g)) are given tt).each n i r d at sound is known
+  gives_read (event.Deliver (frame.GetPrepare g)) are given known = (v_react {P = ReadsOn d} {Q = Q} (event.Deliver (frame.GetPrepare g)) are given tt).each n i r d at sound is known
+  gives_read (event.Deliver (frame.GivePrepare g)) are given known = (v_react {P = ReadsOn d} {Q = Q} (event.Deliver (frame.GivePrepare g)) are given tt).each n i r d at sound is known
+  gives_read (event.Deliver (frame.GiveBlock g)) are given known = (v_react {P = ReadsOn d} {Q = Q} (event.Deliver (frame.GiveBlock g)) are given tt).each n i r d at sound is known
+  gives_read (event.Request q) are given known = (v_react {P = ReadsOn d} {Q = Q} (event.Request q) are given tt).each n i r d at sound is known
+  gives_read event.Tick are given known = (v_react {P = ReadsOn d} {Q = Q} event.Tick are given tt).each n i r d at sound is known
