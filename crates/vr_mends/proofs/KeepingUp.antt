@@ -16,7 +16,7 @@ use Rattle.vr_rules.specs.Steps.{Mend, Setting, ◌⨾◌, after_all, by, does, 
 use Rattle.vr_rules.proofs.Openings.{recovered, reads_after}
 use Rattle.vr_rules.proofs.Slots.{value_is}
 use Rattle.vr_mends.specs.CaughtUp.{FreshKeepUp, IsCaughtUp, KeepsUp, OpeningsKeepUp, StepsKeepUp}
-use Rattle.vr_mends.proofs.Rules.{up_commit, up_do_view_change, up_get_block, up_get_prepare, up_get_view, up_give_block, up_give_prepare, up_prepare, up_prepare_ok, up_request, up_start_view, up_start_view_change, up_tick}
+use Rattle.vr_mends.proofs.Rules.{up_commit, up_do_view_change, up_get_block, up_get_prepare, up_get_sync, up_get_view, up_give_block, up_give_prepare, up_prepare, up_prepare_ok, up_request, up_start_view, up_start_view_change, up_sync_view, up_tick}
 use Rattle.vr_mends.proofs.Settling.{Placed, placed_of}
 use Rattle.vr_mends.proofs.Upkeep.{Calm, Settles, UpBy, calm_by, calm_change, calm_quiet, calm_says, calm_save, calm_then, calm_when, settles_apply, settles_calm_then, settles_then, settles_then_calm, sorts_load, up_calm}
 
@@ -37,6 +37,8 @@ module _ {F : Type 0} (s : Setting F) where
   up_message (frame.GivePrepare g) r f names h u m last = up_give_prepare s g r f h u
   up_message (frame.GetBlock g) r f names h u m last = up_get_block s g r f u
   up_message (frame.GiveBlock g) r f names h u m last = up_give_block s g r f h u
+  up_message (frame.GetSync g) r f names h u m last = up_get_sync s g r f u
+  up_message (frame.SyncView v) r f names h u m last = up_sync_view s v r f h u m
 
   up_event : (e : Event) (r : Replica) (f : F) → HasNames s → IsSound r → IsCaughtUp r → IsEvent e → r.view ≤ last_view → UpBy (on_event e) s r f
   up_event (event.Request q) r f names h u m last = up_request s q r f names h u m last

@@ -8,3 +8,19 @@ pub mod Upkeep
 mod Rules
 pub mod KeepingUp
 mod GroupMoves
+mod Mending
+mod Shedding
+mod Looking
+mod Seeing
+mod LookingRules
+mod Finding
+mod Asking
+mod Turning
+mod Standing
+mod StandingRules
+mod Counting
+mod Covering
+mod Holding
+mod Laying
+mod Lasting
+mod Wearing

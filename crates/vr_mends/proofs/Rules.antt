@@ -17,6 +17,7 @@ use Rattle.vr_msg.specs.declared.frame.DoViewChange.{DoViewChange}
 use Rattle.vr_msg.specs.declared.frame.Frame.TheVariants as frame
 use Rattle.vr_msg.specs.declared.frame.GetBlock.{GetBlock}
 use Rattle.vr_msg.specs.declared.frame.GetPrepare.{GetPrepare}
+use Rattle.vr_msg.specs.declared.frame.GetSync.{GetSync}
 use Rattle.vr_msg.specs.declared.frame.GetView.{GetView}
 use Rattle.vr_msg.specs.declared.frame.GiveBlock.{GiveBlock}
 use Rattle.vr_msg.specs.declared.frame.GivePrepare.{GivePrepare}
@@ -24,28 +25,30 @@ use Rattle.vr_msg.specs.declared.frame.Prepare.{Prepare}
 use Rattle.vr_msg.specs.declared.frame.PrepareOk.{PrepareOk}
 use Rattle.vr_msg.specs.declared.frame.StartView.{StartView}
 use Rattle.vr_msg.specs.declared.frame.StartViewChange.{StartViewChange}
+use Rattle.vr_msg.specs.declared.frame.SyncView.{SyncView}
 use Rattle.vr_msg.specs.declared.request.RequestFields.{RequestFields}
 use Rattle.vr_msg.specs.declared.output.Output.{Output}
 use Rattle.vr_msg.specs.declared.statement.Statement.{Statement}
-use Rattle.vr_rules.specs.Deciding.{Hash, commit_table, do_view_change_table, get_block_table, get_prepare_table, get_view_table, give_block_table, give_prepare_table, is_from_primary, is_known, is_wanted, log_of, prepare_ok_table, prepare_table, request_table, session_answer, start_view_change_table, start_view_table, tick_table}
+use Rattle.vr_rules.specs.Deciding.{Hash, commit_table, do_view_change_table, get_block_table, get_prepare_table, get_sync_table, get_view_table, give_block_table, give_prepare_table, is_from_primary, is_known, is_wanted, log_of, may_jump, prepare_ok_table, prepare_table, request_table, session_answer, start_view_change_table, start_view_table, sync_view_table, tick_table}
 use Rattle.vr_rules.specs.Laws.{HasNames, IsMessage}
 use Rattle.vr_rules.specs.Outputs.{do_view_change, to_primary, wait_line}
 use Rattle.vr_rules.specs.Replica.{Replica, head, header_at, is_here, is_primary, is_started, last_view, part_at, view_change}
-use Rattle.vr_rules.specs.Rules.{acknowledge, acknowledge_stored, acknowledged, asked_block, asker_by, block_at, give_read, heard_of, idler, make, next_entry, next_view, obey_commit, obey_do_view_change, obey_get_block, obey_get_prepare, obey_get_view, obey_give_block, obey_give_prepare, obey_prepare, obey_prepare_ok, obey_request, obey_start_view, obey_start_view_change, obey_tick, on_commit, on_do_view_change, on_get_block, on_get_prepare, on_get_view, on_give_block, on_give_prepare, on_prepare, on_prepare_ok, on_request, on_start_view, on_start_view_change, on_tick, put_block, put_found, stored_reply, test_of, with_statement, without}
+use Rattle.vr_rules.specs.Rules.{acknowledge, acknowledge_stored, acknowledged, asked_block, asker_by, block_at, give_read, heard_of, idler, make, mend_found, next_entry, next_view, not_worn, obey_commit, obey_do_view_change, obey_get_block, obey_get_prepare, obey_get_sync, obey_get_view, obey_give_block, obey_give_prepare, obey_prepare, obey_prepare_ok, obey_request, obey_start_view, obey_start_view_change, obey_sync_view, obey_tick, on_commit, on_do_view_change, on_get_block, on_get_prepare, on_get_sync, on_get_view, on_give_block, on_give_prepare, on_prepare, on_prepare_ok, on_request, on_start_view, on_start_view_change, on_sync_view, on_tick, put_block, put_found, stored_reply, test_of, with_statement, without}
 use Rattle.vr_rules.specs.Sound.{IsSound, IsStated}
 use Rattle.vr_rules.specs.Steps.{Setting, Word, ◌⨾◌, after_all, by, change, each, quiet, says, when}
-use Rattle.vr_rules.specs.Words.{Log, accept, apply, ask, begin_view, chosen_log, choose_line, decided, enter, is_loaded, learn, load, may_take, obey_choice, prepare_again, rested, speak, stated, take, try, try_log, write}
+use Rattle.vr_rules.specs.Words.{Log, accept, apply, ask, begin_view, chosen_log, choose_line, decided, enter, is_loaded, jump, learn, load, may_take, obey_choice, prepare_again, rested, speak, stated, take, try, try_log, visit, write}
 use Rattle.vr_rules.specs.declared.asker.Asker.{Asker}
 use Rattle.vr_rules.proofs.Combining.{kept_change, kept_when}
+use Rattle.vr_rules.proofs.Jumping.{kept_jump, may_jump_is}
 use Rattle.vr_rules.proofs.Keeping.{Kept}
 use Rattle.vr_rules.proofs.Reacting.{keeps_idler, may_store_next}
-use Rattle.vr_rules.proofs.Ruling.{by_rows, group_of, group_of_primary, in_view, keeps_heard, kept_statement, may_store_given, may_store_prepare, told_log}
+use Rattle.vr_rules.proofs.Ruling.{by_rows, group_of, group_of_primary, in_view, keeps_heard, kept_statement, may_store_given, may_store_prepare, told_log, told_sync}
 use Rattle.vr_rules.proofs.Storing.{MayStore}
 use Rattle.vr_rules.proofs.Taking.{IsLogFor, MayTake, kept_take, may_take_is}
 use Rattle.vr_rules.proofs.Trying.{all_stated, chosen_log_is, decided_ends}
 use Rattle.vr_rules.proofs.Wording.{kept_accept, kept_enter, kept_rested, kept_write}
 use Rattle.vr_mends.specs.CaughtUp.{IsCaughtUp}
-use Rattle.vr_mends.proofs.Upkeep.{Calm, Settles, UpBy, calm_ask, calm_by, calm_change, calm_does, calm_enter, calm_if, calm_quiet, calm_resend, calm_rested, calm_says, calm_then, calm_when, settles_advance, settles_apply, settles_calm_then, settles_learn, settles_then, sorts_again, sorts_by, sorts_calm, sorts_change, sorts_each, sorts_load, sorts_then, sorts_when, up_by, up_calm, up_calm_then, up_change_then, up_entry, up_if, up_naming, up_reading, up_says_then, up_settles, up_then, up_then_calm, up_when}
+use Rattle.vr_mends.proofs.Upkeep.{Calm, Settles, UpBy, calm_by, calm_change, calm_does, calm_enter, calm_quiet, calm_resend, calm_rested, calm_says, calm_then, calm_when, settles_advance, settles_apply, settles_calm_then, settles_learn, settles_then, sorts_again, sorts_by, sorts_calm, sorts_change, sorts_each, sorts_load, sorts_then, sorts_when, up_by, up_calm, up_calm_then, up_change_then, up_entry, up_if, up_naming, up_reading, up_says_then, up_settles, up_then, up_then_up, up_visit_ask, up_when}
 
 module _ {F : Type 0} where
   calm_stored_reply : (a : Asker) (x : SessionAnswer) → Calm {F = F} (stored_reply a x)
@@ -317,6 +320,29 @@ module _ {F : Type 0} (s : Setting F) where
               let log = told_log v r m (group_of_primary v.cluster v.replica v.view r n0) in
               let may = may_take_is s.hash (log_of v) r (and_parts (may_take s.hash (log_of v) r) _ t).0 in
               up_then s (take (log_of v)) _ r f (kept_take (log_of v) s r f h log may) (settles_told s.hash v.head),
+          λ n1. (λ t. up_calm s _ r f u (calm_says _), λ n2. idle),
+        ),
+      )))
+
+  -- ---- checkpoints of others
+
+  pub up_get_sync : (g : GetSync) (r : Replica) (f : F) → IsCaughtUp r → UpBy (on_get_sync g) s r f
+  unfolding on_get_sync
+  up_get_sync g r f u =
+      let idle = up_calm s quiet r f u calm_quiet in
+      up_by s _ r f (by_rows (λ x. UpBy (obey_get_sync g x) s r f) (get_sync_table g r) (λ t. idle, λ n0. (λ t. up_calm s _ r f u (calm_says _), λ n1. idle)))
+
+  pub up_sync_view : (v : SyncView) (r : Replica) (f : F) → IsSound r → IsCaughtUp r → IsMessage (frame.SyncView v) → UpBy (on_sync_view v) s r f
+  unfolding on_sync_view
+  up_sync_view v r f h u m =
+      let idle = up_calm s quiet r f u calm_quiet in
+      up_naming s _ r f (up_by s _ r f (by_rows (λ x. UpBy (obey_sync_view s.hash v x) s r f) (sync_view_table s.hash v r) (
+        λ t. idle,
+        λ n0. (
+          λ t.
+              let is = told_sync v r m (group_of_primary v.cluster v.replica v.view r n0) in
+              let may = may_jump_is s.hash v r (and_parts (may_jump s.hash v r) _ t).0 in
+              up_then s (jump v) _ r f (kept_jump v s r f h is may) (settles_told s.hash v.head),
           λ n1. idle,
         ),
       )))
@@ -369,6 +395,12 @@ module _ {F : Type 0} (s : Setting F) where
   up_put block None r f h u = up_calm s quiet r f u calm_quiet
   up_put block (Some name) r f h u = up_settles s _ r f h (settles_put name block)
 
+  up_mend : (block : List ℕ) (o : Option Name) (r : Replica) (f : F) → IsCaughtUp r → UpBy (mend_found block o) s r f
+  unfolding part_at
+  up_mend block None r f u = up_calm s quiet r f u calm_quiet
+  up_mend block (Some name) r f u =
+      up_calm s _ r f u (calm_then _ _ (calm_does _) (calm_change (not_worn name) (λ q. record { parts = λ k. refl; commit = refl; applied = refl; missing = refl })))
+
   pub up_give_block : (g : GiveBlock) (r : Replica) (f : F) → IsSound r → IsCaughtUp r → UpBy (on_give_block g) s r f
   unfolding on_give_block
   up_give_block g r f h u =
@@ -376,7 +408,10 @@ module _ {F : Type 0} (s : Setting F) where
       let is_block = test_of s f in
       up_reading s _ _ r f (up_by s _ r f (by_rows (λ x. UpBy (obey_give_block is_block g x) s r f) (give_block_table is_block g r) (
         λ t. idle,
-        λ n0. (λ t. up_by s _ r f (up_put g.block (find (is_wanted is_block g) r.missing) r f h u), λ n1. idle),
+        λ n0. (
+          λ t. up_by s _ r f (up_put g.block (find (is_wanted is_block g) r.missing) r f h u),
+          λ n1. (λ t. up_by s _ r f (up_mend g.block (find (is_wanted is_block g) r.worn) r f u), λ n2. idle),
+        ),
       )))
 
   -- ---- ticks
@@ -389,14 +424,16 @@ module _ {F : Type 0} (s : Setting F) where
   unfolding on_tick
   up_tick r f h u =
       up_by s _ r f (by_rows (λ x. UpBy (obey_tick x) s r f) (tick_table r) (
-        λ t. up_says_then s _ _ r f (λ d. up_then_calm s _ ask r d (up_by s _ r d (up_when s (nat_lt r.commit (head r)) _ r d u (λ a. up_again (r.commit + 1) r d u))) calm_ask),
+        λ t. up_says_then s _ _ r f (λ d.
+            up_then_up s _ (visit ⨾ ask) r d (up_by s _ r d (up_when s (nat_lt r.commit (head r)) _ r d u (λ a. up_again (r.commit + 1) r d u))) (λ q e v. up_visit_ask s q e v)),
         λ n0. (
-          λ t. up_calm s _ r f u (calm_then _ _ calm_idler (calm_by _ (λ q. calm_if (nat_le 5 q.idle) next_view ask calm_next_view calm_ask))),
+          λ t. up_then_up s (change idler) _ r f (up_calm s _ r f u calm_idler) (λ q d v.
+              up_by s _ q d (up_if s (nat_le 5 q.idle) next_view (visit ⨾ ask) q d (λ a. up_calm s next_view q d v calm_next_view) (λ a. up_visit_ask s q d v))),
           λ n1. (
             λ t.
                 up_calm_then s (change idler) _ r f u calm_idler (keeps_idler.every s r f h) (λ q d i v.
                 up_by s _ q d (up_if s (nat_le 10 q.idle) next_view _ q d (λ a. up_calm s next_view q d v calm_next_view) (λ a.
-                up_says_then s _ _ q d (λ e. up_then_calm s speak ask q e (up_speak q e i v) calm_ask)))),
+                up_says_then s _ _ q d (λ e. up_then_up s speak (visit ⨾ ask) q e (up_speak q e i v) (λ p g y. up_visit_ask s p g y))))),
             λ n2. up_calm s quiet r f u calm_quiet,
           ),
         ),

@@ -1,10 +1,11 @@
 -- Words that leave a replica caught up, and what is made of them.
 use Rattle.std.proofs.Common.{ℕ, ◌+◌, ◌-◌, ◌≡◌, ◌∙◌, arith, refl, sym, ap, subst, Bool, true, false, cond, List, [], ◌∷◌, map, Option, Some, None}
-use Rattle.std.specs.Prelude.{Result, Ok, Err}
+use Rattle.std.specs.Prelude.{Result, Ok, Err, nat_lt, not, slice_get, ◌==◌}
 use Rattle.vr_header.specs.declared.header.Header.{Header}
 use Rattle.vr_header.specs.declared.part.Part.{Part}
 use Rattle.vr_header.specs.declared.part.Part.TheVariants.{Here, Lost, Wanted, Unknown, Nothing}
 use Rattle.vr_header.specs.Made.{Whole}
+use Rattle.vr_header.specs.Same.{same_header}
 use Rattle.vr_grid.specs.declared.name.Name.{Name}
 use Rattle.vr_ckpt.specs.declared.found.Load.{Load}
 use Rattle.vr_ckpt.specs.declared.found.Load.TheVariants.{Loaded, Missing}
@@ -16,8 +17,8 @@ use Rattle.vr_msg.specs.declared.frame.Frame.{Frame}
 use Rattle.vr_msg.specs.declared.output.Output.{Output}
 use Rattle.vr_rules.specs.Replica.{Replica, is_here, part_at}
 use Rattle.vr_rules.specs.Sound.{IsSound}
-use Rattle.vr_rules.specs.Steps.{Effect, Say, Setting, Word, ◌⨾◌, after_all, by, change, does, each, naming, quiet, reading, says, when}
-use Rattle.vr_rules.specs.Words.{advance, advanced, apply, ask, ask_for, ask_peer, enter, entered, entry_of, learn, learned, load, loaded_state, loads, or_lost, prepare_again, resend, rested, save, value_of, with_entry, with_entry_at, with_state}
+use Rattle.vr_rules.specs.Steps.{Effect, Mend, Say, Setting, Word, ◌⨾◌, after_all, by, change, does, each, naming, quiet, reading, says, when}
+use Rattle.vr_rules.specs.Words.{advance, advanced, apply, ask, ask_for, ask_peer, enter, entered, entry_of, learn, learned, load, loaded_state, loads, or_lost, prepare_again, resend, rested, save, value_of, with_entry, with_entry_at, with_state, blocks_of, is_loaded, mend_header, op_of_slot, place_now, visit, visit_block, visit_place, visit_read, visit_slot, with_cursor, with_worn}
 use Rattle.vr_rules.proofs.Combining.{KeptBy}
 use Rattle.vr_mends.specs.CaughtUp.{IsCaughtUp}
 use Rattle.vr_mends.proofs.Settling.{Placed, placed_lost, placed_of, times_settle, up_lost}
@@ -56,7 +57,7 @@ unfolding with_state part_at
 loaded_parts root table (Ok t) r k = refl
 loaded_parts root table (Err fault) r k = refl
 
-loads_parts : (root : Name) (l : Load) (r : Replica) (k : ℕ) → part_at (loads root l r) k ≡ part_at r k
+pub loads_parts : (root : Name) (l : Load) (r : Replica) (k : ℕ) → part_at (loads root l r) k ≡ part_at r k
 unfolding part_at
 loads_parts root (Loaded texts table) r k = loaded_parts root table (state_decoded texts) r k
 loads_parts root (Missing names) r k = refl
@@ -120,14 +121,34 @@ module _ {F : Type 0} where
   unfolding ask_peer part_at
   calm_peer message = calm_then _ _ (calm_says _) (calm_change _ (λ r. record { parts = λ k. refl; commit = refl; applied = refl; missing = refl }))
 
-  calm_asks : (names : List Name) (absent : Option Header) → Calm {F = F} (ask_for names absent)
-  calm_asks (name ∷ names) absent = calm_peer _
-  calm_asks [] (Some h) = calm_naming _ (λ hash. calm_peer _)
-  calm_asks [] None = calm_quiet
+  calm_asks : (names : List Name) (absent : Option Header) (worn : List Name) → Calm {F = F} (ask_for names absent worn)
+  calm_asks (name ∷ names) absent worn = calm_peer _
+  calm_asks [] (Some h) worn = calm_naming _ (λ hash. calm_peer _)
+  calm_asks [] None (name ∷ names) = calm_peer _
+  calm_asks [] None [] = calm_quiet
 
   pub calm_ask : Calm {F = F} ask
   unfolding ask
-  calm_ask = calm_by _ (λ r. calm_asks r.missing _)
+  calm_ask = calm_by _ (λ r. calm_asks r.missing _ r.worn)
+
+  -- of a visit all but a slot whose entry doesn't read
+  calm_mend_header : (h : Header) (o : Option Header) → Calm {F = F} (mend_header h o)
+  calm_mend_header h None = calm_does _
+  calm_mend_header h (Some d) = calm_when (not (same_header d h)) _ (calm_does _)
+
+  calm_visit_read : (name : Name) (o : Option (List ℕ)) → Calm {F = F} (visit_read name o)
+  unfolding part_at
+  calm_visit_read name None = calm_change (with_worn name) (λ r. record { parts = λ k. refl; commit = refl; applied = refl; missing = refl })
+  calm_visit_read name (Some block) = calm_quiet
+
+  calm_visit_block : (o : Option Name) → Calm {F = F} (visit_block o)
+  unfolding visit_block
+  calm_visit_block None = calm_quiet
+  calm_visit_block (Some name) = calm_reading _ _ (calm_visit_read name)
+
+  calm_cursor : (at : ℕ) → Calm {F = F} (change (with_cursor at))
+  unfolding part_at
+  calm_cursor at = calm_change (with_cursor at) (λ r. record { parts = λ k. refl; commit = refl; applied = refl; missing = refl })
 
   pub calm_resend : (e : Whole) → Calm {F = F} (resend e)
   unfolding resend
@@ -241,6 +262,10 @@ module _ {F : Type 0} (s : Setting F) where
   unfolding ◌⨾◌
   up_then_calm v w r f h k = let a = v s r f in record { up = up_alike a.replica _ (k.every s a.replica (after_all s f a.script)) h.up }
 
+  pub up_then_up : (v w : Word F) (r : Replica) (f : F) → UpBy v s r f → ((q : Replica) (d : F) → IsCaughtUp q → UpBy w s q d) → UpBy (v ⨾ w) s r f
+  unfolding ◌⨾◌
+  up_then_up v w r f h rest = let a = v s r f in record { up = (rest a.replica (after_all s f a.script) h.up).up }
+
   pub up_by : (w : Replica → Word F) (r : Replica) (f : F) → UpBy (w r) s r f → UpBy (by w) s r f
   unfolding by
   up_by w r f h = record { up = h.up }
@@ -276,3 +301,21 @@ module _ {F : Type 0} (s : Setting F) where
   pub up_entry : (op : ℕ) (w : Whole → Word F) (r : Replica) (f : F) → IsCaughtUp r → ((e : Whole) → Calm (w e)) → UpBy (with_entry_at op w) s r f
   unfolding with_entry_at
   up_entry op w r f u all = up_by _ r f (up_part w (part_at r op) r f u all)
+
+  -- a visit
+
+  up_place : (at : ℕ) (r : Replica) (f : F) → IsCaughtUp r → UpBy (visit_place at) s r f
+  unfolding visit_place visit_slot
+  up_place at r f u =
+      let op : ℕ = op_of_slot r at in
+      let name : Option Name = slice_get (blocks_of r) (at - 65) in
+      up_by _ r f (up_if (nat_lt at 64) (visit_slot op) (cond (at == 64) (does (λ r. Mend r.saved)) (visit_block name)) r f
+      (λ e. up_entry op _ r f u (λ e. calm_reading _ _ (calm_mend_header e.header)))
+      (λ e. up_calm (cond (at == 64) (does (λ r. Mend r.saved)) (visit_block name)) r f u (calm_if (at == 64) (does (λ r. Mend r.saved)) (visit_block name) (calm_does _) (calm_visit_block name))))
+
+  pub up_visit_ask : (r : Replica) (f : F) → IsCaughtUp r → UpBy (visit ⨾ ask) s r f
+  unfolding visit
+  up_visit_ask r f u =
+      let at : ℕ = place_now r in
+      up_then_calm visit ask r f (up_by _ r f (up_when (is_loaded r) (visit_place at ⨾ change (with_cursor at)) r f u
+      (λ t. up_then_calm (visit_place at) (change (with_cursor at)) r f (up_place at r f u) (calm_cursor at)))) calm_ask

@@ -2,9 +2,14 @@
 //! the statement, and it does nothing.
 #![tactic(auto)]
 
+ghost use Rattle.vr_mends.specs.Asks.{ShortReplicasAsk};
+ghost use Rattle.vr_mends.specs.Blocks.{BlocksMend};
 ghost use Rattle.vr_mends.specs.CaughtUp.{FreshKeepUp, OpeningsKeepUp, StepsKeepUp};
 ghost use Rattle.vr_mends.specs.Completing.{CopiesComplete};
+ghost use Rattle.vr_mends.specs.Cover.{LaysOut, VisitsCover};
 ghost use Rattle.vr_mends.specs.Groups.{GroupsKeepUp};
+ghost use Rattle.vr_mends.specs.Turns.{VisitsTurn};
+ghost use Rattle.vr_mends.specs.Visits.{VisitsFind};
 ghost use Rattle.vr_rules.specs.Sectors.{sectors};
 ghost use Rattle.vr_rules.specs.Lying.{lying};
 
@@ -34,4 +39,47 @@ pub fn groups_keep_up()
 pub fn copies_complete()
     ensures sectors { CopiesComplete sectors (λ f. f) }
     ensures lying { CopiesComplete lying (λ d. d.face) }
+{}
+
+/// A block of the checkpoint that has gone bad: where another member gives the bytes of that block, it reads as they are, and no block of its
+/// address is bad any more. Nothing else of the replica changes.
+pub fn blocks_mend()
+    ensures sectors { BlocksMend sectors (λ f. f) }
+    ensures lying { BlocksMend lying (λ d. d.face) }
+{}
+
+/// Of the ops above the checkpoint whose slots were visited, each entry that is here reads: one that doesn't was found lost. So it is after
+/// every list of events of a sound replica, with no fault of its disk between them.
+pub fn visits_find()
+    ensures sectors { VisitsFind sectors (λ f. f) }
+    ensures lying { VisitsFind lying (λ d. d.face) }
+{}
+
+/// While a sound replica misses a block, lacks an entry above its checkpoint whose header it knows, or knows a block that has gone bad, each
+/// ask sends for one of these, and for nothing else.
+pub fn short_replicas_ask<F>()
+    ensures { ShortReplicasAsk F }
+{}
+
+/// Each visit takes the place after that of the one before, around, whatever the disk reads as: as many visits as there are places come to
+/// every slot, the superblock, and every block of the checkpoint.
+pub fn visits_turn<F>()
+    ensures { VisitsTurn F }
+{}
+
+/// After every list of events of a sound replica, with no fault of its disk between them, in which its checkpoint stayed and at least as many
+/// visits were made as there are places, each place reads or is known not to: of each op above the checkpoint whose header is known the entry
+/// reads, or it is lost or wanted; each copy of the superblock reads as the value that was saved last; each block of the checkpoint reads, or has
+/// gone bad. And while there is such an entry or block each later ask sends for one, as `short_replicas_ask` says.
+pub fn visits_cover()
+    ensures sectors { VisitsCover sectors (λ f. f) }
+    ensures lying { VisitsCover lying (λ d. d.face) }
+{}
+
+/// What `visits_cover` asks of a replica beside: while its checkpoint stays each step of a sound replica keeps the blocks that have gone bad
+/// among the checkpoint's, and none is known as bad while one is missing; the blocks of each checkpoint that loads stand in the grid, no two
+/// at one address.
+pub fn layouts_stay()
+    ensures sectors { LaysOut sectors }
+    ensures lying { LaysOut lying }
 {}
