@@ -4,6 +4,7 @@
 mod found;
 mod laws;
 mod loading;
+mod looking;
 mod plan;
 mod root;
 mod saving;
@@ -12,6 +13,7 @@ mod table;
 pub use found::Load;
 pub use laws::checkpoint_laws;
 pub use loading::load;
+pub use looking::worn;
 pub use saving::{SavedCheckpoint, save};
 pub use table::{Payload, PayloadTable};
 pub use vr_grid::{CkptFault, Name, NameList};

@@ -1,7 +1,7 @@
 -- Bounds that sound replicas have, and changes of ready ones.
-use Rattle.std.proofs.Common.{arith, ◌≡◌, ◌≤◌, ◌<◌, ◌+◌, ◌-◌, ◌^◌, ◌%◌, refl, sym, ℕ, length, List}
+use Rattle.std.proofs.Common.{arith, ◌≡◌, ◌≤◌, ◌<◌, ◌+◌, ◌-◌, ◌^◌, ◌%◌, refl, sym, subst, ℕ, length, List}
 use Rattle.std.proofs.lemmas.List.{length-set}
-use Rattle.vr_super.specs.Copies.{IsGood}
+use Rattle.vr_super.specs.Copies.{IsGood, SuperValue}
 use Rattle.vr_super.specs.declared.fields.Fields.{Fields}
 use Rattle.vr_header.specs.declared.header.Header.{Header}
 use Rattle.vr_header.specs.declared.part.Part.{Part}
@@ -10,7 +10,7 @@ use Rattle.vr_header.specs.Made.{Whole, IsEntry}
 use Rattle.vr_rules.specs.Replica.{Replica, head, run, forgetting, with_part, part_at, last_view}
 use Rattle.vr_rules.specs.Words.{value_of, with_saved, rested, stored, lost, entered, learned, applied}
 use Rattle.vr_rules.proofs.SavesCore.{value_is_good}
-use Rattle.vr_rules.proofs.SavesWell.{savable_alike}
+use Rattle.vr_rules.proofs.SavesWell.{savable_alike, savable_saved}
 use Rattle.vr_rules.proofs.SavesParts.{savable_stored, savable_lost, savable_entered}
 use Rattle.vr_rules.proofs.Storing.{MayStore as May, kept_stored, kept_lost}
 use Rattle.vr_rules.proofs.Wording.{kept_entered}
@@ -60,9 +60,9 @@ value_is r f hs h l e i = rw (e, i) (value_is_good r h.sound h.savable l)
 
 -- ---- changes
 
-pub ready_saved : (r q : Replica) → q ≡ with_saved r → IsReady r → IsReady q
+pub ready_saved : (r q : Replica) (v : SuperValue) → q ≡ with_saved r → v ≡ value_of r → IsGood v → IsReady r → IsReady q
 unfolding IsReady
-ready_saved r q e h = rw e (record { sound = sound_alike r (with_saved r) refl h.sound; savable = savable_alike r (with_saved r) refl h.savable; idle = h.idle })
+ready_saved r q v e i g h = rw e (record { sound = sound_alike r (with_saved r) refl h.sound; savable = savable_saved r h.savable (subst IsGood i g); idle = h.idle })
 
 pub ready_rested : (r q : Replica) → q ≡ rested r → IsReady r → IsReady q
 unfolding IsReady

@@ -1,14 +1,14 @@
 -- What the calls of the storage crates are as effects.
-use Rattle.std.proofs.Common.{arith, ℕ, ◌≤◌, ◌+◌, ◌≡◌, refl, List, Bool, true, false, Option, Some, None, Result, Ok, Err}
+use Rattle.std.proofs.Common.{arith, ℕ, ◌≤◌, ◌+◌, ◌≡◌, refl, subst, List, Bool, true, false, Option, Some, None, Result, Ok, Err}
 use Rattle.vr_disk.specs.DiskState.{Call, Disk, Runs, RunsFrom}
 use Rattle.vr_header.specs.Made.{Whole}
 use Rattle.vr_rings.specs.Calls.{again_calls, new_calls, header_calls}
 use Rattle.vr_grid.specs.Grid.{put_calls}
 use Rattle.vr_grid.specs.declared.name.Name.{Name}
 use Rattle.vr_header.specs.declared.header.Header.{Header}
-use Rattle.vr_journal.specs.Effects.{rewrites, puts}
+use Rattle.vr_journal.specs.Effects.{mends, rewrites, puts}
 use Rattle.vr_rules.specs.Replica.{Replica, part_at}
-use Rattle.vr_super.specs.Calls.{write_calls}
+use Rattle.vr_super.specs.Calls.{mend_calls, write_calls}
 use Rattle.vr_super.specs.Copies.{SuperValue}
 use Rattle.vr_rules.specs.Words.{writes, saves, value_of, may_be_stored}
 use Rattle.vr_apply.specs.declared.codec.Texts.{Texts}
@@ -47,6 +47,10 @@ one_spent r v e = rw e (omega arith)
 pub rewrite_is : (h : Header) (r : Replica) (d d' : Option Disk) (ok : Bool) → Runs (header_calls h) d d' ok → Performs (rewrites h) r d d' ok
 unfolding rewrites
 rewrite_is h r d d' ok k = record { silent = refl; ran = runs_from (header_calls h) d d' ok k }
+
+pub mend_is : (r : Replica) (v : SuperValue) (d d' : Option Disk) (ok : Bool) → v ≡ r.saved → RunsFrom (mend_calls v) d d' ok → Performs mends r d d' ok
+unfolding mends
+mend_is r v d d' ok e k = record { silent = refl; ran = subst (λ (x : SuperValue). RunsFrom (mend_calls x) d d' ok) e k }
 
 pub put_is : (name : Name) (block : List ℕ) (r : Replica) (d d' : Option Disk) (ok : Bool) → Runs (put_calls name.address block) d d' ok → Performs (puts name block) r d d' ok
 unfolding puts

@@ -2,7 +2,7 @@
 use Rattle.std.proofs.Common.{arith, ℕ, zero, suc, ◌+◌, ◌-◌, ◌≤◌, ◌<◌, ◌≡◌, ◌^◌, refl, sym, ap, ◌∙◌, true, false, Bool, List, [], ◌∷◌, length, drop, get_or, Option, Some, None, add-one}
 use Rattle.std.specs.Prelude.{find, is_some}
 use Rattle.std.specs.List.{prefix_len}
-use Rattle.std.specs.Option.{option_and_then}
+use Rattle.std.specs.Option.{option_and_then, option_map_or}
 use Rattle.std.proofs.lemmas.Bool.{cond_both}
 use Rattle.std.proofs.lemmas.List.{drop_all, get_or-drop}
 use Rattle.std.proofs.lemmas.List.FromFn.{length-range_with_len}
@@ -15,8 +15,8 @@ use Rattle.vr_header.specs.declared.part.Part.TheVariants.{Here, Lost, Wanted, U
 use Rattle.vr_header.specs.Made.{IsEntryHeader}
 use Rattle.vr_msg.specs.Choice.{ops}
 use Rattle.vr_msg.specs.Logs.{header_of}
-use Rattle.vr_rules.specs.Replica.{Replica, head, is_absent, part_at}
-use Rattle.vr_rules.specs.Rules.{without}
+use Rattle.vr_rules.specs.Replica.{Replica, head, is_absent, part_at, parts_from}
+use Rattle.vr_rules.specs.Rules.{not_worn, without}
 use Rattle.vr_rules.specs.Words.{advanced, has_quorum, least_absent, turned}
 use Rattle.vr_rules.proofs.Heads.{part_within}
 use Rattle.vr_rules.proofs.Keeping.{sound_alike, sound_commit}
@@ -88,6 +88,10 @@ pub ready_dropped : (name : Name) (r q : Replica) → q ≡ without name r → I
 unfolding IsReady
 ready_dropped name r q e h = rw e (record { sound = (kept_without name r h.sound).sound; savable = savable_alike r (without name r) refl h.savable; idle = h.idle })
 
+pub ready_unworn : (name : Name) (r q : Replica) → q ≡ not_worn name r → IsReady r → IsReady q
+unfolding IsReady
+ready_unworn name r q e h = rw e (record { sound = sound_alike r (not_worn name r) refl h.sound; savable = savable_alike r (not_worn name r) refl h.savable; idle = h.idle })
+
 -- the numbers of a ready replica fit into messages
 pub ready_commit : (r : Replica) → IsReady r → r.commit ≤ 2 ^ 62
 unfolding IsReady
@@ -114,13 +118,39 @@ absent_part : (o : Option Part) (h : Header) → option_and_then header_of o ≡
 absent_part None h e = absurd cc
 absent_part (Some p) h e = (p, refl, e)
 
-pub ready_absent : (r : Replica) (h : Header) → IsReady r → least_absent r ≡ Some h → IsEntryHeader h
+-- from a place on
+absent_in : (r : Replica) (h : Header) (n : ℕ) → IsReady r → option_and_then header_of (find is_absent (drop n r.parts)) ≡ Some h → IsEntryHeader h
 unfolding IsReady
-ready_absent r h ready e =
-    let n : ℕ = r.applied + 1 - r.first in
+absent_in r h n ready e =
     let p = absent_part (find is_absent (drop n r.parts)) h e in
     let i = found_place is_absent (drop n r.parts) p.0 p.1 in
     let k : ℕ = r.first + (n + i.0) in
     let place : k - r.first ≡ n + i.0 = omega arith in
     let there : part_at r k ≡ p.0 = part_within r k (omega arith) ∙ ap (λ j. get_or r.parts j Nothing) place ∙ sym (get_or-drop n r.parts i.0 Nothing) ∙ i.1 in
     (ready.sound.entries.each k h (ap header_of there ∙ p.2)).1.entry
+
+absent_either : (r : Replica) (h : Header) (a b : ℕ) (o : Option Part) → find is_absent (drop a r.parts) ≡ o → IsReady r → option_and_then header_of (option_map_or Some o (find is_absent (drop b r.parts))) ≡ Some h → IsEntryHeader h
+absent_either r h a b (Some p) i ready e = absent_in r h a ready (ap (option_and_then header_of) i ∙ e)
+absent_either r h a b None i ready e = absent_in r h b ready e
+
+pub ready_absent : (r : Replica) (h : Header) → IsReady r → least_absent r ≡ Some h → IsEntryHeader h
+ready_absent r h ready e = absent_either r h (r.applied + 1 - r.first) (r.checkpoint + 1 - r.first) (find is_absent (drop (r.applied + 1 - r.first) r.parts)) refl ready e
+
+-- the first of these, or else of those
+none_absent : (ps : List Part) → option_and_then header_of (find is_absent ps) ≡ None → find is_absent ps ≡ None
+none_absent [] e = refl
+none_absent (Here h ∷ ps) e = none_absent ps e
+none_absent (Lost h ∷ ps) e = absurd cc
+none_absent (Wanted h ∷ ps) e = absurd cc
+none_absent (Unknown ∷ ps) e = none_absent ps e
+none_absent (Nothing ∷ ps) e = none_absent ps e
+
+first_least : (a b : Option Part) (h : Header) → option_and_then header_of a ≡ Some h → Some h ≡ option_and_then header_of (option_map_or Some a b)
+first_least None b h e = absurd cc
+first_least (Some p) b h e = sym e
+
+pub least_first : (r : Replica) (h : Header) → first_absent (parts_from r (r.applied + 1)) ≡ Some h → Some h ≡ least_absent r
+least_first r h e = first_least (find is_absent (parts_from r (r.applied + 1))) (find is_absent (parts_from r (r.checkpoint + 1))) h e
+
+pub least_second : (r : Replica) (o : Option Header) → first_absent (parts_from r (r.applied + 1)) ≡ None → o ≡ first_absent (parts_from r (r.checkpoint + 1)) → o ≡ least_absent r
+least_second r o none e = rw (none_absent (parts_from r (r.applied + 1)) none) e

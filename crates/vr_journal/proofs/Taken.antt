@@ -59,15 +59,15 @@ pub ruleset chains = (chain_all, values_all)
 
 -- ---- the list is gone over
 
-row_get : {X : Type 0} (xs ys : List X) (d : X) → get_or (xs ++ ys) (length xs) d ≡ get_or ys 0 d
+pub row_get : {X : Type 0} (xs ys : List X) (d : X) → get_or (xs ++ ys) (length xs) d ≡ get_or ys 0 d
 row_get [] ys d = refl
 row_get (x ∷ xs) ys d = row_get xs ys d
 
-row_set : {X : Type 0} (xs ys : List X) (y : X) → set (xs ++ ys) (length xs) y ≡ xs ++ set ys 0 y
+pub row_set : {X : Type 0} (xs ys : List X) (y : X) → set (xs ++ ys) (length xs) y ≡ xs ++ set ys 0 y
 row_set [] ys y = refl
 row_set (x ∷ xs) ys y = ap (λ zs. x ∷ zs) (row_set xs ys y)
 
-map_shift : {X : Type 0} (f g : ℕ → X) (a b n : ℕ) → ((j : ℕ) → f (a + j) ≡ g (b + j)) → map f (range_with_len a n) ≡ map g (range_with_len b n)
+pub map_shift : {X : Type 0} (f g : ℕ → X) (a b n : ℕ) → ((j : ℕ) → f (a + j) ≡ g (b + j)) → map f (range_with_len a n) ≡ map g (range_with_len b n)
 map_shift f g a b zero h = refl
 map_shift f g a b (suc n) h =
     let one : f a ≡ g b = subst (λ k. f k ≡ g b) (omega arith) (subst (λ k. f (a + 0) ≡ g k) (omega arith) (h 0)) in

@@ -61,6 +61,7 @@ impl Replica {
         self.checkpoint = self.applied;
         self.root = saved.root;
         self.table = saved.table;
+        self.worn.clear();
     }
 
     /// Makes the checkpoint that is due.

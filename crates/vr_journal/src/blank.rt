@@ -72,6 +72,8 @@ impl Replica {
             statements,
             idle: 0,
             turn: 0,
+            cursor: 0,
+            worn: Seq::new(alloc),
             saved: value,
         })
     }

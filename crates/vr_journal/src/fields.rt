@@ -84,6 +84,13 @@ impl Replica {
         self.root
     }
 
+    /// The blocks of the checkpoint that were found bad.
+    pub fn worn(&self) -> &NameList
+        ensures { result.now ≡ self.now.worn }
+    {
+        &self.worn
+    }
+
     pub fn state(&self) -> &State
         ensures { result.now ≡ self.now.state }
     {

@@ -28,7 +28,7 @@ fn decode(alloc: Global, texts: &Texts) -> Result<Option<State>, NoMemory>
     }
 }
 
-fn only(alloc: Global, name: Name) -> Result<NameList, AllocError>
+pub(crate) fn only(alloc: Global, name: Name) -> Result<NameList, AllocError>
     ensures { IfOk result (λ names. names ≡ name ∷ []) }
 {
     let mut names = Seq::new(alloc);

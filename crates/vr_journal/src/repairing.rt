@@ -3,9 +3,9 @@ ghost use Rattle.std.specs.Prelude.{◌≡◌, ◌<◌, ◌≤◌, ◌+◌, ◌%
 ghost use Rattle.std.specs.List.{prefix_len};
 ghost use Rattle.vr_header.specs.declared.part.Part.TheVariants.{Nothing};
 ghost use Rattle.vr_msg.specs.Choice.{ops};
-ghost use Rattle.vr_rules.specs.Replica.{head, replication};
+ghost use Rattle.vr_rules.specs.Replica.{head, parts_from, replication};
 ghost use Rattle.vr_rules.specs.Words.{advanced, has_quorum, least_absent, peer, turned, votes};
-ghost use Rattle.vr_rules.specs.Rules.{without};
+ghost use Rattle.vr_rules.specs.Rules.{not_worn, without};
 ghost use Rattle.vr_journal.specs.Absent.{absent_header, first_absent};
 ghost use Rattle.vr_journal.specs.Ready.{HasWindow};
 
@@ -121,13 +121,25 @@ impl Replica {
         self.commit = self.agreed();
     }
 
-    /// The header of the least op above the applied ones whose entry isn't stored, or can't be read.
+    // The header of the least op from one on whose entry isn't stored, or can't be read.
+    fn absent_from(&self, op: u64) -> Option<Header>
+        ensures { result ≡ first_absent (parts_from self.now op) }
+    {
+        first_absent(&self.parts, op.saturating_sub(self.first) as usize)
+    }
+
+    /// The header of the least op above the applied ones whose entry isn't stored, or can't be read; else of the least such op above the
+    /// checkpoint.
+    #[tactic(auto, using(crate::proofs::Repairs::least_first, crate::proofs::Repairs::least_second))]
     pub fn least_absent(&self) -> Option<Header>
-        requires { self.now.applied + 1 < 2 ^ 64 }
+        requires applied { self.now.applied + 1 < 2 ^ 64 }
+        requires checkpoint { self.now.checkpoint + 1 < 2 ^ 64 }
         ensures { result ≡ least_absent self.now }
     {
-        let from = (self.applied + 1).saturating_sub(self.first) as usize;
-        first_absent(&self.parts, from)
+        match self.absent_from(self.applied + 1) {
+            Some(header) => Some(header),
+            None => self.absent_from(self.checkpoint + 1),
+        }
     }
 
     /// The peer whose turn it is to be asked.
@@ -146,6 +158,15 @@ impl Replica {
         ensures saved { self.new.saved ≡ self.old.saved }
     {
         self.turn = ((u32::from(self.turn) + 1) % (u32::from(self.n) - 1)) as u8;
+    }
+
+    /// The block of this address isn't bad any more.
+    pub fn drop_worn(&mut self, name: &Name)
+        ensures dropped { self.new ≡ not_worn name.now self.old }
+        ensures view { self.new.view ≡ self.old.view }
+        ensures saved { self.new.saved ≡ self.old.saved }
+    {
+        drop_address(&mut self.worn, name.address);
     }
 
     /// The block of this address isn't missing any more.

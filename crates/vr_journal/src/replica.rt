@@ -37,6 +37,8 @@ pub struct Replica {
     pub(crate) statements: Places<Statement>,
     pub(crate) idle: u64,
     pub(crate) turn: u8,
+    pub(crate) cursor: u64,
+    pub(crate) worn: NameList,
     pub(crate) saved: Super,
 }
 
@@ -65,6 +67,8 @@ impl Model for Replica {
       statements = r.statements;
       idle = r.idle;
       turn = r.turn;
+      cursor = r.cursor;
+      worn = r.worn;
       saved = r.saved;
     } };
 }

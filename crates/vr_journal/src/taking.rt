@@ -83,7 +83,7 @@ fn follows(names: &Names, headers: &[Header], at: usize) -> bool
 
 /// Whether each header has the name of the one before it as its parent.
 #[tactic(auto, using(crate::proofs::Taken::chains))]
-fn is_chain(names: &Names, headers: &[Header]) -> bool
+pub(crate) fn is_chain(names: &Names, headers: &[Header]) -> bool
     ensures chain { result ≡ is_chain name_of headers.now }
     ensures values { result ≡ true → AreHeaders headers.now }
 {
@@ -121,7 +121,7 @@ fn replaced_by(header: Header, part: Part) -> Part
 
 impl Log<'_> {
     /// The header that it has at an op.
-    fn header(&self, op: u64) -> Option<Header>
+    pub(crate) fn header(&self, op: u64) -> Option<Header>
         ensures { result ≡ log_header self.now op }
     {
         if op <= self.lo {
@@ -133,7 +133,7 @@ impl Log<'_> {
 
     /// What is known of an op once the log is taken over, where this was known of it: by a replica of
     /// this checkpoint, whose log is of this view.
-    fn part(&self, checkpoint: u64, log_view: u32, op: u64, part: Part) -> Part
+    pub(crate) fn part(&self, checkpoint: u64, log_view: u32, op: u64, part: Part) -> Part
         ensures { result ≡ taken_by self.now checkpoint log_view op part }
     {
         if op <= checkpoint {
@@ -159,7 +159,8 @@ impl Replica {
         has_header(&self.part_at(op))
     }
 
-    fn is_newer(&self, log: &Log) -> bool
+    /// Whether it is of a later view, or of this one, where it isn't started or the log is longer.
+    pub fn is_newer(&self, log: &Log) -> bool
         requires { HasWindow self.now }
         ensures { result ≡ is_newer log.now self.now }
     {
@@ -207,7 +208,7 @@ impl Replica {
     }
 
     /// How many ops it has Parts of.
-    fn part_count(&self) -> usize
+    pub(crate) fn part_count(&self) -> usize
         ensures { result ≡ length self.now.parts }
     {
         self.parts.len()
@@ -225,7 +226,7 @@ impl Replica {
     }
 
     /// Is of the log's view from now on, in which nothing is acknowledged yet.
-    fn begin_log(&mut self, view: u32, commit: u64)
+    pub(crate) fn begin_log(&mut self, view: u32, commit: u64)
         requires { HasWindow self.old }
         ensures { self.new ≡ record self.old { view = view; log_view = view; idle = 0; ackers = no_ackers self.old; heard = no_replicas; statements = no_statements self.old; commit = max self.old.commit commit } }
     {

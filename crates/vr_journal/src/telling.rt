@@ -1,15 +1,21 @@
 //! What a replica tells the others of its log and its choice.
-ghost use Rattle.std.specs.Prelude.{◌≡◌, ◌≤◌, ◌<◌, ◌^◌, ◌++◌, IfOk, OnOk};
+ghost use Rattle.std.specs.Prelude.{◌≡◌, ◌≤◌, ◌<◌, ◌^◌, ◌++◌, ◌&&◌, IfOk, OnOk, nat_lt, true};
+ghost use Rattle.vr_msg.specs.Logs.{has_header};
 ghost use Rattle.vr_journal.specs.Ready.{IsReady};
 ghost use Rattle.vr_journal.specs.Sends.{sends};
 ghost use Rattle.vr_journal.specs.Choosing.{chosen_line};
-ghost use Rattle.vr_rules.specs.Outputs.{do_view_change, send_to, send_to_all, start_view, to_primary, wait_line};
-ghost use Rattle.vr_rules.specs.Replica.{last_view};
+ghost use Rattle.vr_rules.specs.Outputs.{do_view_change, get_sync, send_to, send_to_all, start_view, sync_view, to_primary, wait_line};
+ghost use Rattle.vr_rules.specs.Deciding.{reaches_down};
+ghost use Rattle.vr_rules.specs.Replica.{last_view, part_at};
 
 use crate::Replica;
 use crate::group::primary;
+use crate::parts::has_header;
 use std::alloc::{AllocError, Global};
-use vr_msg::{Chosen, DoViewChange, Message, Outbox, Output, Sent, StartView, SvBody, Waiting};
+use vr_msg::{
+    Chosen, DoViewChange, GetSync, Message, Outbox, Output, Sent, StartView, SvBody, SyncView,
+    Waiting,
+};
 
 impl Replica {
     /// Sends a message to one replica.
@@ -86,6 +92,73 @@ impl Replica {
     {
         let message = self.start_view(alloc)?;
         self.tell_others(alloc, &message, out)
+    }
+
+    /// Asks the primary of a view for the view's checkpoint.
+    pub fn ask_sync(&self, to: u8, view: u32, out: &mut Outbox) -> Result<(), AllocError>
+        requires { view ≤ last_view }
+        ensures { OnOk result (out.new ≡ out.old ++ send_to to (get_sync view self.now) self.now) }
+    {
+        let get = GetSync {
+            cluster: self.cluster,
+            replica: self.index,
+            view,
+        };
+        self.tell(to, Message::get_sync(get), out)
+    }
+
+    /// Its checkpoint with the log of its view, as a message.
+    #[tactic(auto, using(crate::proofs::Memory::window_of, crate::proofs::Told::may_sync))]
+    fn sync_view(&self, alloc: Global) -> Result<Message, AllocError>
+        requires ready { IsReady self.now }
+        requires view { self.now.view ≤ last_view }
+        requires down { reaches_down self.now ≡ true }
+        ensures { IfOk result (λ m. m ≡ sync_view self.now) }
+    {
+        let headers = self.run(alloc)?;
+        let head = self.head();
+        Ok(Message::sync_view(SyncView {
+            cluster: self.cluster,
+            replica: self.index,
+            view: self.view,
+            head,
+            commit: self.commit,
+            checkpoint: self.checkpoint,
+            root_address: self.root.address,
+            root_name: self.root.sum,
+            body: SvBody {
+                lo: head.saturating_sub(headers.len() as u64),
+                headers,
+            },
+        }))
+    }
+
+    // Whether it has a checkpoint whose own header is known.
+    fn knows_checkpoint(&self) -> bool
+        ensures { result ≡ (nat_lt 0 self.now.checkpoint && has_header (part_at self.now self.now.checkpoint)) }
+    {
+        0 < self.checkpoint && has_header(&self.part_at(self.checkpoint))
+    }
+
+    /// Whether the known headers that reach the head without a hole reach down to the checkpoint's. Above the checkpoint they all do, up to the
+    /// head, so that the checkpoint's own header decides.
+    #[tactic(auto, using(crate::proofs::Told::reaches_is))]
+    pub fn reaches_down(&self) -> bool
+        requires { IsReady self.now }
+        ensures { result ≡ reaches_down self.now }
+    {
+        self.knows_checkpoint()
+    }
+
+    /// One replica hears of its checkpoint, and of the log of its view.
+    pub fn tell_sync(&self, alloc: Global, to: u8, out: &mut Outbox) -> Result<(), AllocError>
+        requires ready { IsReady self.now }
+        requires view { self.now.view ≤ last_view }
+        requires down { reaches_down self.now ≡ true }
+        ensures { OnOk result (out.new ≡ out.old ++ send_to to (sync_view self.now) self.now) }
+    {
+        let message = self.sync_view(alloc)?;
+        self.tell(to, message, out)
     }
 
     /// The primary of its view, which isn't started, hears what it states of its log.

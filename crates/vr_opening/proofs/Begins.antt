@@ -15,7 +15,8 @@ use Rattle.vr_rules.proofs.Slots.{value_is}
 use Rattle.vr_rules.proofs.Openings.{partly_blank, kept_next}
 use Rattle.vr_rules.proofs.SavesFound.{lists_head, list_size, Lists}
 use Rattle.vr_rules.proofs.SavesOpening.{savable_next}
-use Rattle.vr_rules.proofs.SavesWell.{savable_alike}
+use Rattle.vr_rules.proofs.SavesCore.{value_is_good}
+use Rattle.vr_rules.proofs.SavesWell.{savable_alike, savable_saved}
 use Rattle.vr_rules.proofs.Keeping.{sound_alike}
 use Rattle.vr_step.specs.declared.halt.Halt.{Halt}
 use Rattle.vr_step.specs.Does.{Does}
@@ -56,11 +57,15 @@ opened_next r q h l e =
       applied = h.applied;
     })
 
-pub opened_saved : (r q : Replica) → MayLoad r → q ≡ with_saved r → MayLoad q
+pub opened_saved : (r q : Replica) → MayLoad r → r.saved.fields.sequence + 1 < 2 ^ 64 → q ≡ with_saved r → MayLoad q
 unfolding MayLoad IsReady
-opened_saved r q h e =
+opened_saved r q h l e =
     rw e (record {
-      ready = record { sound = sound_alike r (with_saved r) refl h.ready.sound; savable = savable_alike r (with_saved r) refl h.ready.savable; idle = h.ready.idle };
+      ready = record {
+        sound = sound_alike r (with_saved r) refl h.ready.sound;
+        savable = savable_saved r h.ready.savable (value_is_good r h.ready.sound h.ready.savable l);
+        idle = h.ready.idle;
+      };
       applied = h.applied;
     })
 

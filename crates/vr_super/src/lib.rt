@@ -18,4 +18,4 @@ pub use laws::superblock_laws;
 pub use opening::{Found, opens};
 pub use recovering::{CopyVerdict, SuperFault, recover};
 pub use value::Super;
-pub use writing::{write, write_copies};
+pub use writing::{mend_value, write, write_copies};

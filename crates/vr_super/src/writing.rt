@@ -2,7 +2,7 @@
 ghost use Rattle.std.specs.Prelude.{◌≡◌, ◌≤◌, ◌<◌, [], length, IfErr, IfSome, is_ok, Some};
 ghost use Rattle.vr_base.specs.Causes.{HasCause};
 ghost use Rattle.vr_disk.specs.DiskState.{Runs, RunsFrom};
-ghost use Rattle.vr_super.specs.Calls.{mend_from, save_from, write_calls};
+ghost use Rattle.vr_super.specs.Calls.{mend_calls, mend_from, save_from, write_calls};
 ghost use Rattle.vr_super.specs.Copies.{IsGood, copy_bytes};
 ghost use Rattle.vr_super.specs.Laws.{WriteLeads, Written};
 ghost use Rattle.vr_super.specs.Opens.{opens};
@@ -35,6 +35,16 @@ fn save<D: SectorDisk>(disk: &mut D, bytes: &[u8]) -> Result<(), DiskFailed>
     for copy in 0..4 {
         write_copy(disk, copy, bytes)?;
     }
+    Ok(())
+}
+
+/// Mends each copy that doesn't read as this value.
+pub fn mend_value<D: SectorDisk>(disk: &mut D, value: &Super) -> Result<(), DiskFault>
+    ensures runs { RunsFrom (mend_calls value.now) (D.told disk.old) (D.told disk.new) (is_ok result) }
+    ensures cause { HasCause (D.faults disk.old) (D.faults disk.new) result }
+    ensures reads { D.read_faults disk.old ≤ D.read_faults disk.new }
+{
+    mend(disk, value.bytes())?;
     Ok(())
 }
 

@@ -1,0 +1,17 @@
+//! A block of a checkpoint looked at.
+ghost use Rattle.std.specs.Prelude.{◌≡◌, ◌≤◌, IfSome, is_some, not};
+ghost use Rattle.vr_grid.specs.Grid.{named_at};
+
+use crate::Name;
+use vr_disk::{Buffer, SectorDisk};
+use vr_grid::read_block;
+
+/// Whether the block of this name can't be read whole. It takes no memory; where it can be read the buffer holds it then.
+pub fn worn<D: SectorDisk>(disk: &mut D, name: &Name, to: &mut Buffer) -> bool
+    ensures told { D.told disk.new ≡ D.told disk.old }
+    ensures faults { D.faults disk.new ≡ D.faults disk.old }
+    ensures reads { D.read_faults disk.old ≤ D.read_faults disk.new }
+    ensures value { IfSome (D.told disk.old) (λ d. is_some (named_at d.face name.now) ≡ not result) }
+{
+    read_block(disk, name, to).is_err()
+}
