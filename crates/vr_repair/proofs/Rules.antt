@@ -20,10 +20,10 @@ use Rattle.vr_repair.specs.declared.deciding.Repair.TheVariants as repair
 use Rattle.vr_repair.specs.Reads.{Reads}
 use Rattle.vr_repair.specs.Repairs.{found_at, gives, is_block, rule_of}
 use Rattle.vr_rules.specs.Deciding.{first_of, get_block_table, get_prepare_table, give_block_table, give_prepare_table, is_known, is_wanted}
-use Rattle.vr_rules.specs.declared.rule.Rule.TheVariants.{Ignored, BlockTaken}
+use Rattle.vr_rules.specs.declared.rule.Rule.TheVariants.{Ignored, BlockMended, BlockTaken}
 use Rattle.vr_rules.specs.Outputs.{give_block, give_prepare, send_to}
 use Rattle.vr_rules.specs.Replica.{Replica}
-use Rattle.vr_rules.specs.Rules.{asked_block, block_at, give_read, obey_get_block, obey_get_prepare, obey_give_block, obey_give_prepare, on_get_block, on_get_prepare, on_give_block, on_give_prepare, put_found, test_of}
+use Rattle.vr_rules.specs.Rules.{asked_block, block_at, give_read, obey_get_block, obey_get_prepare, obey_give_block, obey_give_prepare, on_get_block, on_get_prepare, mend_found, on_give_block, on_give_prepare, put_found, test_of}
 use Rattle.vr_rules.specs.Sectors.{sectors}
 use Rattle.vr_rules.specs.Steps.{◌⨾◌, by, quiet, reading}
 use Rattle.vr_rules.specs.Words.{apply, resend, with_entry_at, write}
@@ -49,6 +49,7 @@ get_prepare_quiet g repair.EntryGiven r d o n = absurd (n refl)
 get_prepare_quiet g repair.EntryTaken r d o n = does_quiet r d o
 get_prepare_quiet g repair.BlockGiven r d o n = does_quiet r d o
 get_prepare_quiet g (repair.BlockTaken name) r d o n = does_quiet r d o
+get_prepare_quiet g (repair.BlockMended name) r d o n = does_quiet r d o
 
 pub get_prepare_ignored : (g : GetPrepare) (x : Repair) (r : Replica) (d : Option Disk) (o : List Output) → first_of (get_prepare_table name_of g r) ≡ rule_of x → (x ≡ repair.EntryGiven → ⊥) → Does (on_get_prepare g) r r d d o o (Ok tt)
 get_prepare_ignored g x r d o e n = get_prepare_obeyed g x r r d d o o (Ok tt) e (get_prepare_quiet g x r d o n)
@@ -88,6 +89,7 @@ give_prepare_quiet g repair.EntryGiven r d o n = does_quiet r d o
 give_prepare_quiet g repair.EntryTaken r d o n = absurd (n refl)
 give_prepare_quiet g repair.BlockGiven r d o n = does_quiet r d o
 give_prepare_quiet g (repair.BlockTaken name) r d o n = does_quiet r d o
+give_prepare_quiet g (repair.BlockMended name) r d o n = does_quiet r d o
 
 pub give_prepare_ignored : (g : GivePrepare) (x : Repair) (r : Replica) (d : Option Disk) (o : List Output) → first_of (give_prepare_table g r) ≡ rule_of x → (x ≡ repair.EntryTaken → ⊥) → Does (on_give_prepare g) r r d d o o (Ok tt)
 give_prepare_ignored g x r d o e n = give_prepare_obeyed g x r r d d o o (Ok tt) e (give_prepare_quiet g x r d o n)
@@ -120,6 +122,7 @@ ignores_as g repair.EntryGiven r (Some b) e n = rw (e true) refl
 ignores_as g repair.EntryTaken r (Some b) e n = rw (e true) refl
 ignores_as g repair.BlockGiven r (Some b) e n = absurd (n refl)
 ignores_as g (repair.BlockTaken name) r (Some b) e n = rw (e true) refl
+ignores_as g (repair.BlockMended name) r (Some b) e n = rw (e true) refl
 
 pub block_given : (g : GetBlock) (x : Repair) (r r' : Replica) (d d' : Option Disk) (o o' : List Output) (result : Result (Unit {0}) Halt) → DecidesBlock g x r → x ≡ repair.BlockGiven
     → Does (reading (block_at (asked_block g)) (give_read g)) r r' d d' o o' result → Does (on_get_block g) r r' d d' o o' result
@@ -193,12 +196,28 @@ block_taken g x name r r' d d' o o' result e is found h =
     let t : first_of (give_block_table is_block g r) ≡ BlockTaken = rw is at e in
     tests g r r' d d' o o' result (rw t (does_by _ r r' d d' o o' result (rw found h)))
 
-give_block_quiet : (g : GiveBlock) (x : Repair) (r : Replica) (d : Option Disk) (o : List Output) → ((name : Name) → x ≡ repair.BlockTaken name → ⊥) → Does (obey_give_block is_block g (rule_of x)) r r d d o o (Ok tt)
-give_block_quiet g repair.Ignored r d o n = does_quiet r d o
-give_block_quiet g repair.EntryGiven r d o n = does_quiet r d o
-give_block_quiet g repair.EntryTaken r d o n = does_quiet r d o
-give_block_quiet g repair.BlockGiven r d o n = does_quiet r d o
-give_block_quiet g (repair.BlockTaken name) r d o n = absurd (n name refl)
+pub block_mended : (g : GiveBlock) (x : Repair) (name : Name) (r r' : Replica) (d d' : Option Disk) (o o' : List Output) (result : Result (Unit {0}) Halt) → first_of (give_block_table is_block g r) ≡ rule_of x
+    → x ≡ repair.BlockMended name → find (is_wanted is_block g) r.worn ≡ Some name → Does (mend_found g.block (Some name)) r r' d d' o o' result → Does (on_give_block g) r r' d d' o o' result
+block_mended g x name r r' d d' o o' result e is found h =
+    let t : first_of (give_block_table is_block g r) ≡ BlockMended = rw is at e in
+    tests g r r' d d' o o' result (rw t (does_by _ r r' d d' o o' result (rw found h)))
 
-pub give_block_ignored : (g : GiveBlock) (x : Repair) (r : Replica) (d : Option Disk) (o : List Output) → first_of (give_block_table is_block g r) ≡ rule_of x → ((name : Name) → x ≡ repair.BlockTaken name → ⊥) → Does (on_give_block g) r r d d o o (Ok tt)
-give_block_ignored g x r d o e n = tests g r r d d o o (Ok tt) (rw e (give_block_quiet g x r d o n))
+give_block_quiet : (g : GiveBlock) (x : Repair) (r : Replica) (d : Option Disk) (o : List Output) → ((name : Name) → x ≡ repair.BlockTaken name → ⊥) → ((name : Name) → x ≡ repair.BlockMended name → ⊥)
+    → Does (obey_give_block is_block g (rule_of x)) r r d d o o (Ok tt)
+give_block_quiet g repair.Ignored r d o n m = does_quiet r d o
+give_block_quiet g repair.EntryGiven r d o n m = does_quiet r d o
+give_block_quiet g repair.EntryTaken r d o n m = does_quiet r d o
+give_block_quiet g repair.BlockGiven r d o n m = does_quiet r d o
+give_block_quiet g (repair.BlockTaken name) r d o n m = absurd (n name refl)
+give_block_quiet g (repair.BlockMended name) r d o n m = absurd (m name refl)
+
+pub give_block_ignored : (g : GiveBlock) (x : Repair) (r : Replica) (d : Option Disk) (o : List Output) → first_of (give_block_table is_block g r) ≡ rule_of x → ((name : Name) → x ≡ repair.BlockTaken name → ⊥)
+    → ((name : Name) → x ≡ repair.BlockMended name → ⊥) → Does (on_give_block g) r r d d o o (Ok tt)
+give_block_ignored g x r d o e n m = tests g r r d d o o (Ok tt) (rw e (give_block_quiet g x r d o n m))
+
+-- no missing block is wanted: the rule is that of the blocks that have gone bad
+pub mended_some : (g : GiveBlock) (r : Replica) (y : Name) → find (is_wanted is_block g) r.worn ≡ Some y → (if list_any (is_wanted is_block g) r.worn then BlockMended else Ignored) ≡ BlockMended
+mended_some g r y e = rw (wanted_some (is_wanted is_block g) r.worn y e) refl
+
+pub mended_none : (g : GiveBlock) (r : Replica) → find (is_wanted is_block g) r.worn ≡ None → (if list_any (is_wanted is_block g) r.worn then BlockMended else Ignored) ≡ Ignored
+mended_none g r e = rw (wanted_none (is_wanted is_block g) r.worn e) refl

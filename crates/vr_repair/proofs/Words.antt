@@ -1,5 +1,5 @@
 -- Words of repair by what their code does.
-use Rattle.std.proofs.Common.{◌≡◌, ◌++◌, cond, Bool, true, false, ℕ, List, [], ◌∷◌, Option, Some, None, Result, Ok, Err, slice_get}
+use Rattle.std.proofs.Common.{arith, ◌≡◌, ◌<◌, ◌+◌, ◌^◌, ◌++◌, cond, Bool, true, false, ℕ, List, [], ◌∷◌, Option, Some, None, Result, Ok, Err, slice_get}
 use Rattle.std.specs.Prelude.{nat_lt, ◌&&◌, if◌then◌else◌}
 use Rattle.vr_base.specs.Bytes.{name_of}
 use Rattle.vr_disk.specs.DiskState.{Disk, Face}
@@ -8,18 +8,19 @@ use Rattle.vr_header.specs.declared.header.Header.{Header}
 use Rattle.vr_header.specs.Made.{Whole}
 use Rattle.vr_journal.specs.Effects.{puts}
 use Rattle.vr_journal.specs.Ready.{IsReady, MayLoad}
+use Rattle.vr_journal.proofs.Memory.{window_of}
 use Rattle.vr_journal.proofs.Repairs.{ready_dropped}
 use Rattle.vr_msg.specs.declared.output.Output.{Output}
 use Rattle.vr_repair.specs.Reads.{Reads, loads_whole}
 use Rattle.vr_rules.specs.Outputs.{get_block, get_prepare, prepare, prepare_ok, send_to_all, to_primary}
 use Rattle.vr_rules.specs.Replica.{Replica, is_primary, is_started}
-use Rattle.vr_rules.specs.Rules.{put_block, without}
-use Rattle.vr_rules.specs.Steps.{PutBlock, Word, says}
+use Rattle.vr_rules.specs.Rules.{mend_found, not_worn, put_block, without}
+use Rattle.vr_rules.specs.Steps.{PutBlock, Word, change, says}
 use Rattle.vr_rules.specs.Words.{ask, ask_for, ask_peer, is_loaded, least_absent, load, prepare_again, resend}
 use Rattle.vr_step.specs.declared.halt.Halt.{Halt}
 use Rattle.vr_step.specs.declared.halt.Halt.TheVariants.{DiskFault, NoMemory}
 use Rattle.vr_step.specs.Does.{Does, Performs}
-use Rattle.vr_step.proofs.Stepping.{change_by_then, does_by, does_naming, does_no_memory, does_quiet, effect_stopped, effect_then, says_by}
+use Rattle.vr_step.proofs.Stepping.{change_by_then, does_by, does_change, does_naming, does_no_memory, does_quiet, effect_stopped, effect_then, says_by}
 
 -- want of memory, where the disk is as it was
 pub wanted : (w : Word Face) (r q : Replica) (d d' : Option Disk) (o o' : List Output) → d' ≡ d → Does w r q d d' o o' (Err NoMemory)
@@ -53,28 +54,41 @@ module _ (op : ℕ) (r q : Replica) (d d' : Option Disk) (found : Option Whole) 
 
 -- ---- what is asked for
 
-module _ (r q : Replica) (d d' : Option Disk) (o o' : List Output) (result : Result (Unit {0}) Halt) where
-  first_asked : (names : List Name) (name : Name) (absent : Option Header) → slice_get names 0 ≡ Some name → Does (ask_peer (get_block name)) r q d d' o o' result → Does (ask_for names absent) r q d d' o o' result
-  first_asked [] name absent e h = absurd cc
-  first_asked (n ∷ names) name absent e h = let same : n ≡ name = cc in rw same h
+-- the op above the checkpoint is a number
+pub checkpoint_fits : (r : Replica) → IsReady r → r.checkpoint + 1 < 2 ^ 64
+checkpoint_fits r h = let w = window_of r h in let n = w.number in omega arith
 
-  none_asked : (names : List Name) (absent : Option Header) → slice_get names 0 ≡ None → Does (ask_for [] absent) r q d d' o o' result → Does (ask_for names absent) r q d d' o o' result
-  none_asked [] absent e h = h
-  none_asked (n ∷ names) absent e h = absurd cc
+module _ (r q : Replica) (d d' : Option Disk) (o o' : List Output) (result : Result (Unit {0}) Halt) where
+  first_asked : (names : List Name) (name : Name) (absent : Option Header) (worn : List Name) → slice_get names 0 ≡ Some name → Does (ask_peer (get_block name)) r q d d' o o' result
+      → Does (ask_for names absent worn) r q d d' o o' result
+  first_asked [] name absent worn e h = absurd cc
+  first_asked (n ∷ names) name absent worn e h = let same : n ≡ name = cc in rw same h
+
+  none_asked : (names : List Name) (absent : Option Header) (worn : List Name) → slice_get names 0 ≡ None → Does (ask_for [] absent worn) r q d d' o o' result → Does (ask_for names absent worn) r q d d' o o' result
+  none_asked [] absent worn e h = h
+  none_asked (n ∷ names) absent worn e h = absurd cc
+
+  pub asked_worn : (worn : List Name) (name : Name) → slice_get worn 0 ≡ Some name → Does (ask_peer (get_block name)) r q d d' o o' result → Does (ask_for [] None worn) r q d d' o o' result
+  asked_worn [] name e h = absurd cc
+  asked_worn (n ∷ names) name e h = let same : n ≡ name = cc in rw same h
 
   pub asked_block : (name : Name) → slice_get r.missing 0 ≡ Some name → Does (ask_peer (get_block name)) r q d d' o o' result → Does ask r q d d' o o' result
   unfolding ask
-  asked_block name e h = does_by _ r q d d' o o' result (first_asked r.missing name (least_absent r) e h)
+  asked_block name e h = does_by _ r q d d' o o' result (first_asked r.missing name (least_absent r) r.worn e h)
 
-  pub asked_absent : slice_get r.missing 0 ≡ None → Does (ask_for [] (least_absent r)) r q d d' o o' result → Does ask r q d d' o o' result
+  pub asked_absent : slice_get r.missing 0 ≡ None → Does (ask_for [] (least_absent r) r.worn) r q d d' o o' result → Does ask r q d d' o o' result
   unfolding ask
-  asked_absent e h = does_by _ r q d d' o o' result (none_asked r.missing (least_absent r) e h)
+  asked_absent e h = does_by _ r q d d' o o' result (none_asked r.missing (least_absent r) r.worn e h)
 
-  pub asked_entry : (absent : Option Header) (h : Header) → absent ≡ Some h → Does (ask_peer (get_prepare name_of h)) r q d d' o o' result → Does (ask_for [] absent) r q d d' o o' result
-  asked_entry absent h e k = rw e (does_naming _ r q d d' o o' result k)
+  pub asked_entry : (absent : Option Header) (worn : List Name) (h : Header) → absent ≡ Some h → Does (ask_peer (get_prepare name_of h)) r q d d' o o' result → Does (ask_for [] absent worn) r q d d' o o' result
+  asked_entry absent worn h e k = rw e (does_naming _ r q d d' o o' result k)
 
-pub asked_none : (absent : Option Header) (r : Replica) (d : Option Disk) (o : List Output) → absent ≡ None → Does (ask_for [] absent) r r d d o o (Ok tt)
-asked_none absent r d o e = rw e (does_quiet r d o)
+  pub asked_none : (absent : Option Header) (worn : List Name) → absent ≡ None → Does (ask_for [] None worn) r q d d' o o' result → Does (ask_for [] absent worn) r q d d' o o' result
+  asked_none absent worn e h = rw e h
+
+pub none_worn : (worn : List Name) (r : Replica) (d : Option Disk) (o : List Output) → slice_get worn 0 ≡ None → Does (ask_for [] None worn) r r d d o o (Ok tt)
+none_worn [] r d o e = does_quiet r d o
+none_worn (n ∷ names) r d o e = absurd cc
 
 -- ---- a block is put
 
@@ -103,3 +117,14 @@ module _ (name : Name) (block : List ℕ) (r q : Replica) (d d' : Option Disk) w
   pub put_stopped : (o o2 : List Output) → Performs (puts name block) r d d' false → Does (put_block name block) r q d d' o o2 (Err DiskFault)
   unfolding put_block puts
   put_stopped o o2 p = effect_stopped (λ x. PutBlock name block) _ r q d d' o o2 p
+
+-- ---- a block that has gone bad is put
+
+module _ (name : Name) (block : List ℕ) (r q : Replica) (d d' : Option Disk) where
+  pub mended_then : (o : List Output) → Performs (puts name block) r d d' true → q ≡ not_worn name r → Does (mend_found block (Some name)) r q d d' o o (Ok tt)
+  unfolding puts
+  mended_then o p e = effect_then (λ x. PutBlock name block) (change (not_worn name)) r q d d' d' o o (Ok tt) p (rw e (does_change (not_worn name) r d' o))
+
+  pub mended_stopped : (o o2 : List Output) → Performs (puts name block) r d d' false → Does (mend_found block (Some name)) r q d d' o o2 (Err DiskFault)
+  unfolding puts
+  mended_stopped o o2 p = effect_stopped (λ x. PutBlock name block) (change (not_worn name)) r q d d' o o2 p

@@ -5,7 +5,7 @@ use Rattle.vr_grid.specs.Blocks.{named}
 use Rattle.vr_grid.specs.declared.name.Name.{Name}
 use Rattle.vr_header.specs.Made.{Whole}
 use Rattle.vr_rules.specs.declared.rule.Rule.{Rule}
-use Rattle.vr_rules.specs.declared.rule.Rule.TheVariants.{Ignored, EntryGiven, EntryTaken, BlockGiven, BlockTaken}
+use Rattle.vr_rules.specs.declared.rule.Rule.TheVariants.{Ignored, EntryGiven, EntryTaken, BlockGiven, BlockTaken, BlockMended}
 use Rattle.vr_rules.specs.Outputs.{give_prepare, send_to}
 use Rattle.vr_rules.specs.Steps.{Word, says}
 use Rattle.vr_repair.specs.declared.deciding.Repair.{Repair}
@@ -17,6 +17,7 @@ rule_of repair.EntryGiven = EntryGiven
 rule_of repair.EntryTaken = EntryTaken
 rule_of repair.BlockGiven = BlockGiven
 rule_of (repair.BlockTaken name) = BlockTaken
+rule_of (repair.BlockMended name) = BlockMended
 
 -- these bytes are the whole block of this name
 abbrev pub is_block : Name → List ℕ → Bool

@@ -3,7 +3,7 @@ ghost use Rattle.std.specs.Prelude.{◌≡◌, ◌<◌, ◌+◌, ◌^◌, OnOk, 
 ghost use Rattle.vr_journal.specs.Ready.{IsReady};
 ghost use Rattle.vr_repair.specs.Repairs.{is_block};
 ghost use Rattle.vr_rules.specs.Deciding.{is_wanted};
-ghost use Rattle.vr_rules.specs.Rules.{asked_block, block_at, give_read, on_get_block, on_give_block, put_found};
+ghost use Rattle.vr_rules.specs.Rules.{asked_block, block_at, give_read, mend_found, on_get_block, on_give_block, put_found};
 ghost use Rattle.vr_rules.specs.Steps.{reading};
 ghost use Rattle.vr_step.specs.Does.{Caused, Does};
 
@@ -85,9 +85,30 @@ fn take_block<D: SectorDisk>(
     replica.apply(alloc, disk, out)
 }
 
+// Puts a block that had gone bad; the state has what was in it.
+#[tactic(auto, using(crate::proofs::Words::mended_then, crate::proofs::Words::mended_stopped, crate::proofs::Rules::is_put, vr_journal::proofs::Repairs::ready_unworn))]
+fn mend_block<D: SectorDisk>(
+    replica: &mut Replica,
+    disk: &mut D,
+    give: &GiveBlock,
+    name: Name,
+    _out: &mut Outbox,
+) -> Result<(), Halt>
+    requires ready { IsReady replica.old }
+    requires found { find (is_wanted is_block give.now) replica.old.worn ≡ Some name }
+    ensures ready { OnOk result (IsReady replica.new) }
+    ensures cause { Caused (D.faults disk.old) (D.faults disk.new) result }
+    ensures step { Does (mend_found give.now.block (Some name)) replica.old replica.new (D.told disk.old) (D.told disk.new) _out.old _out.new result }
+{
+    replica.put_block(disk, &name, give.block.as_slice())?;
+    replica.drop_worn(&name);
+    Ok(())
+}
+
 /// A block comes that was asked for: where a block of this address is missing, and the bytes are that block, whole and of its name, it is put.
-/// After the last one, and after the root, the checkpoint is loaded anew; then what can be is applied.
-#[tactic(auto, using(crate::proofs::Rules::block_taken, crate::proofs::Rules::give_block_ignored))]
+/// After the last one, and after the root, the checkpoint is loaded anew; then what can be is applied. Where a block of this address has gone
+/// bad, and none is missing, it is put in its place.
+#[tactic(auto, using(crate::proofs::Rules::block_taken, crate::proofs::Rules::block_mended, crate::proofs::Rules::give_block_ignored))]
 pub fn handle_give_block<D: SectorDisk>(
     replica: &mut Replica,
     alloc: Global,
@@ -103,6 +124,7 @@ pub fn handle_give_block<D: SectorDisk>(
 {
     match decide_give_block(replica, give) {
         Repair::BlockTaken(name) => take_block(replica, alloc, disk, give, name, out),
+        Repair::BlockMended(name) => mend_block(replica, disk, give, name, out),
         _ => Ok(()),
     }
 }

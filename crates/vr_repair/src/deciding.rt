@@ -25,6 +25,8 @@ pub enum Repair {
     BlockGiven,
     /// The block of this name was missing, and is put.
     BlockTaken(Name),
+    /// The block of this name had gone bad, and is put.
+    BlockMended(Name),
 }
 
 /// Which rule a get_prepare leads to.

@@ -1,5 +1,5 @@
 //! What is missing is asked for, and put.
-ghost use Rattle.std.specs.Prelude.{◌≡◌, OnOk, [], is_some, true};
+ghost use Rattle.std.specs.Prelude.{◌≡◌, None, OnOk, [], is_some, true};
 ghost use Rattle.vr_base.specs.Bytes.{name_of};
 ghost use Rattle.vr_grid.specs.Blocks.{named};
 ghost use Rattle.vr_header.specs.Made.{IsEntryHeader};
@@ -55,8 +55,26 @@ fn ask_entry<D: SectorDisk>(
     Ok(())
 }
 
-// Asks a peer for the least entry that is absent.
-#[tactic(auto, using(crate::proofs::Words::asked_entry, crate::proofs::Words::asked_none, vr_journal::proofs::Memory::next_fits, vr_journal::proofs::Repairs::ready_absent))]
+// Asks a peer for the first block that has gone bad.
+#[tactic(auto, using(crate::proofs::Words::asked_worn, crate::proofs::Words::none_worn))]
+fn ask_worn<D: SectorDisk>(
+    replica: &mut Replica,
+    disk: &mut D,
+    out: &mut Outbox,
+) -> Result<(), Halt>
+    requires ready { IsReady replica.old }
+    ensures ready { OnOk result (IsReady replica.new) }
+    ensures cause { Caused (D.faults disk.old) (D.faults disk.new) result }
+    ensures step { Does (ask_for [] None replica.old.worn) replica.old replica.new (D.told disk.old) (D.told disk.new) out.old out.new result }
+{
+    match replica.worn().get(0) {
+        Some(name) => ask_block(replica, disk, &name, out),
+        None => Ok(()),
+    }
+}
+
+// Asks a peer for the least entry that is absent, or else for a block that has gone bad.
+#[tactic(auto, using(crate::proofs::Words::asked_entry, crate::proofs::Words::asked_none, crate::proofs::Words::checkpoint_fits, vr_journal::proofs::Memory::next_fits, vr_journal::proofs::Repairs::ready_absent))]
 fn ask_absent<D: SectorDisk>(
     replica: &mut Replica,
     disk: &mut D,
@@ -65,16 +83,16 @@ fn ask_absent<D: SectorDisk>(
     requires ready { IsReady replica.old }
     ensures ready { OnOk result (IsReady replica.new) }
     ensures cause { Caused (D.faults disk.old) (D.faults disk.new) result }
-    ensures step { Does (ask_for [] (least_absent replica.old)) replica.old replica.new (D.told disk.old) (D.told disk.new) out.old out.new result }
+    ensures step { Does (ask_for [] (least_absent replica.old) replica.old.worn) replica.old replica.new (D.told disk.old) (D.told disk.new) out.old out.new result }
 {
     match replica.least_absent() {
         Some(header) => ask_entry(replica, disk, &header, out),
-        None => Ok(()),
+        None => ask_worn(replica, disk, out),
     }
 }
 
 /// Asks the peer whose turn it is for what is missing: the first of the blocks that are, else the least entry that isn't stored or can't be
-/// read. Where nothing is missing nothing is asked.
+/// read, else the first block that has gone bad. Where there is none of these nothing is asked.
 #[tactic(auto, using(crate::proofs::Words::asked_block, crate::proofs::Words::asked_absent))]
 pub fn ask<D: SectorDisk>(replica: &mut Replica, disk: &mut D, out: &mut Outbox) -> Result<(), Halt>
     requires ready { IsReady replica.old }

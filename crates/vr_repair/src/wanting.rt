@@ -1,10 +1,12 @@
-//! Which missing block the bytes of a message are.
-ghost use Rattle.std.specs.Prelude.{◌≡◌, Some, find};
+//! Which missing block, or block that has gone bad, the bytes of a message are.
+ghost use Rattle.std.specs.Prelude.{◌≡◌, Some, find, if◌then◌else◌};
+ghost use Rattle.std.specs.List.{list_any};
+ghost use Rattle.vr_rules.specs.declared.rule.Rule.TheVariants.{BlockMended, Ignored};
 ghost use Rattle.vr_repair.specs.Repairs.{found_at, is_block, rule_of};
 ghost use Rattle.vr_rules.specs.Deciding.{first_of, give_block_table, is_wanted};
 
 use crate::deciding::Repair;
-use vr_grid::{Name, is_block_of};
+use vr_grid::{Name, NameList, is_block_of};
 use vr_journal::Replica;
 use vr_msg::GiveBlock;
 
@@ -15,22 +17,22 @@ fn is_wanted(name: &Name, give: &GiveBlock) -> bool
     name.address == give.address && is_block_of(give.block.as_slice(), name)
 }
 
-fn wanted_at(replica: &Replica, give: &GiveBlock, at: usize) -> Option<Name>
-    ensures { result ≡ found_at (is_wanted is_block give.now) replica.now.missing at }
+fn wanted_at(names: &NameList, give: &GiveBlock, at: usize) -> Option<Name>
+    ensures { result ≡ found_at (is_wanted is_block give.now) names.now at }
 {
-    match replica.missing().get(at) {
+    match names.get(at) {
         Some(name) if is_wanted(&name, give) => Some(name),
         _ => None,
     }
 }
 
-// The name of the missing block that the bytes are.
+// The name of the block of these that the bytes are.
 #[tactic(auto, using(crate::proofs::Rules::found_more, crate::proofs::Rules::found_here, crate::proofs::Rules::found_past))]
-fn find_missing(replica: &Replica, give: &GiveBlock) -> Option<Name>
-    ensures { result ≡ find (is_wanted is_block give.now) replica.now.missing }
+fn find_wanted(names: &NameList, give: &GiveBlock) -> Option<Name>
+    ensures { result ≡ find (is_wanted is_block give.now) names.now }
 {
-    for i in 0..replica.missing().len() {
-        match wanted_at(replica, give, i) {
+    for i in 0..names.len() {
+        match wanted_at(names, give, i) {
             Some(name) => return Some(name),
             None => {}
         }
@@ -38,17 +40,30 @@ fn find_missing(replica: &Replica, give: &GiveBlock) -> Option<Name>
     None
 }
 
-/// Which rule a give_block leads to. The block that is taken is the whole one of a name that is missing.
+// One that has gone bad, if none that is missing.
+#[tactic(auto, using(crate::proofs::Rules::mended_some, crate::proofs::Rules::mended_none))]
+fn decide_mended(replica: &Replica, give: &GiveBlock) -> Repair
+    ensures name { (name : Name) → result ≡ Repair.BlockMended name → find (is_wanted is_block give.now) replica.now.worn ≡ Some name }
+    ensures rule { rule_of result ≡ (if list_any (is_wanted is_block give.now) replica.now.worn then BlockMended else Ignored) }
+{
+    match find_wanted(replica.worn(), give) {
+        Some(name) => Repair::BlockMended(name),
+        None => Repair::Ignored,
+    }
+}
+
+/// Which rule a give_block leads to. The block that is taken is the whole one of a name that is missing, or that has gone bad.
 #[tactic(auto, using(crate::proofs::Rules::wanted_some, crate::proofs::Rules::wanted_none), unfolding(vr_rules::specs::Deciding::first_of))]
 pub fn decide_give_block(replica: &Replica, give: &GiveBlock) -> Repair
     ensures rule { first_of (give_block_table is_block give.now replica.now) ≡ rule_of result }
     ensures name { (name : Name) → result ≡ Repair.BlockTaken name → find (is_wanted is_block give.now) replica.now.missing ≡ Some name }
+    ensures mended { (name : Name) → result ≡ Repair.BlockMended name → find (is_wanted is_block give.now) replica.now.worn ≡ Some name }
 {
     if !replica.is_from(give.cluster, give.replica) {
         return Repair::Ignored;
     }
-    match find_missing(replica, give) {
+    match find_wanted(replica.missing(), give) {
         Some(name) => Repair::BlockTaken(name),
-        None => Repair::Ignored,
+        None => decide_mended(replica, give),
     }
 }

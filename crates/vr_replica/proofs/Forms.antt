@@ -7,9 +7,11 @@ use Rattle.vr_msg.specs.declared.frame.DoViewChange.{DoViewChange}
 use Rattle.vr_msg.specs.declared.frame.Prepare.{Prepare}
 use Rattle.vr_msg.specs.declared.frame.StartView.{StartView}
 use Rattle.vr_msg.specs.declared.frame.StartViewChange.{StartViewChange}
+use Rattle.vr_msg.specs.declared.frame.SyncView.{SyncView}
 use Rattle.vr_msg.specs.Forms.{IsFrame}
 use Rattle.vr_rules.specs.Replica.{last_view}
 use Rattle.vr_normal.specs.Messages.{IsPreparing, IsCommitting}
+use Rattle.vr_sync.specs.Jumps.{IsSyncing}
 use Rattle.vr_view.specs.Messages.{IsStating, IsStarting}
 
 pub preparing : (m : Frame) (p : Prepare) → m ≡ frame.Prepare p → IsFrame m → IsPreparing p
@@ -31,4 +33,8 @@ pub starting : (m : Frame) (v : StartView) → m ≡ frame.StartView v → IsFra
 unfolding IsStarting
 starting m v e h = subst IsFrame e h
 
-pub ruleset forms = (preparing, committing, changing, stating, starting)
+pub syncing : (m : Frame) (v : SyncView) → m ≡ frame.SyncView v → IsFrame m → IsSyncing v
+unfolding IsSyncing
+syncing m v e h = subst IsFrame e h
+
+pub ruleset forms = (preparing, committing, changing, stating, starting, syncing)

@@ -11,7 +11,7 @@ use Rattle.vr_rules.specs.Replica.{Replica, head, last_view}
 use Rattle.vr_rules.specs.Rules.{idler, next_view, backup_ticks, changing_ticks, primary_ticks, obey_tick, on_tick}
 use Rattle.vr_rules.specs.Sectors.{sectors}
 use Rattle.vr_rules.specs.Steps.{Setting, Step, Word, ◌⨾◌, by, change}
-use Rattle.vr_rules.specs.Words.{enter, entered, rested, prepare_again, ask}
+use Rattle.vr_rules.specs.Words.{enter, entered, rested, prepare_again, ask, visit}
 use Rattle.vr_rules.proofs.Keeping.{sound_alike}
 use Rattle.vr_rules.proofs.SavesWell.{savable_alike}
 use Rattle.vr_rules.proofs.Storing.{head_number}
@@ -87,10 +87,10 @@ module _ (r r' : Replica) (d d' : Option Disk) (o o' : List Output) (result : Re
   more_false n k e = let l = leb-false n k e in lt-leb (n + 1) (k + 1) (omega arith)
 
   pub backup_due : nat_le 4 r.idle ≡ true → Does (enter (r.view + 1)) r r' d d' o o' result → Does backup_ticks r r' d d' o o' result
-  backup_due e h = ticks_due 5 ask (more_true 4 r.idle e) h
+  backup_due e h = ticks_due 5 (visit ⨾ ask) (more_true 4 r.idle e) h
 
-  pub backup_waits : (q : Replica) → nat_le 4 r.idle ≡ false → q ≡ idler r → Does ask q r' d d' o o' result → Does backup_ticks r r' d d' o o' result
-  backup_waits q e i h = ticks_wait 5 ask q (more_false 4 r.idle e) i h
+  pub backup_waits : (q : Replica) → nat_le 4 r.idle ≡ false → q ≡ idler r → Does (visit ⨾ ask) q r' d d' o o' result → Does backup_ticks r r' d d' o o' result
+  backup_waits q e i h = ticks_wait 5 (visit ⨾ ask) q (more_false 4 r.idle e) i h
 
   pub changing_due : nat_le 9 r.idle ≡ true → Does (enter (r.view + 1)) r r' d d' o o' result → Does changing_ticks r r' d d' o o' result
   changing_due e h = ticks_due 10 tells_all (more_true 9 r.idle e) h

@@ -5,7 +5,7 @@ use Rattle.vr_rules.specs.declared.rule.Rule.TheVariants.{TickedPrimary, TickedB
 use Rattle.vr_rules.specs.Outputs.{send_to_all, start_view_change}
 use Rattle.vr_rules.specs.Replica.{head}
 use Rattle.vr_rules.specs.Steps.{Word, ◌⨾◌, by, says, when}
-use Rattle.vr_rules.specs.Words.{ask, prepare_again, speak}
+use Rattle.vr_rules.specs.Words.{ask, prepare_again, speak, visit}
 use Rattle.vr_replica.specs.declared.ticking.Tick.{Tick}
 use Rattle.vr_replica.specs.declared.ticking.Tick.TheVariants.{Primary, Backup, Changing}
 
@@ -20,4 +20,4 @@ tells_first = by (λ r. when (nat_lt r.commit (head r)) (prepare_again (r.commit
 
 -- what is told while a view isn't started
 abbrev pub tells_all : {F : Type 0} → Word F
-tells_all = says (send_to_all start_view_change) ⨾ speak ⨾ ask
+tells_all = says (send_to_all start_view_change) ⨾ speak ⨾ visit ⨾ ask

@@ -15,6 +15,7 @@ use vr_msg::{Event, Frame, Message, Outbox};
 use vr_normal::{handle_commit, handle_prepare, handle_prepare_ok, handle_request};
 use vr_repair::{handle_get_block, handle_get_prepare, handle_give_block, handle_give_prepare};
 use vr_step::Halt;
+use vr_sync::{handle_get_sync, handle_sync_view};
 use vr_view::{
     handle_do_view_change, handle_get_view, handle_start_view, handle_start_view_change,
 };
@@ -52,6 +53,8 @@ fn handle_message<D: SectorDisk>(
         Frame::GivePrepare(give) => handle_give_prepare(replica, alloc, disk, give, out),
         Frame::GetBlock(get) => handle_get_block(replica, alloc, disk, get, out),
         Frame::GiveBlock(give) => handle_give_block(replica, alloc, disk, give, out),
+        Frame::GetSync(get) => handle_get_sync(replica, alloc, disk, get, out),
+        Frame::SyncView(sync) => handle_sync_view(replica, alloc, disk, sync, out),
     }
 }
 

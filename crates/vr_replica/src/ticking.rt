@@ -4,7 +4,8 @@ ghost use Rattle.vr_journal.specs.Ready.{IsReady};
 ghost use Rattle.vr_rules.specs.Deciding.{first_of, tick_table};
 ghost use Rattle.vr_rules.specs.Replica.{head, last_view};
 ghost use Rattle.vr_rules.specs.Rules.{backup_ticks, changing_ticks, on_tick, primary_ticks};
-ghost use Rattle.vr_rules.specs.Words.{enter};
+ghost use Rattle.vr_rules.specs.Steps.{◌⨾◌};
+ghost use Rattle.vr_rules.specs.Words.{ask, enter, visit};
 ghost use Rattle.vr_step.specs.Does.{Caused, Does};
 ghost use Rattle.vr_replica.specs.Ticks.{tells_all, tells_first, rule_of};
 ghost use Rattle.vr_replica.specs.declared.ticking.Tick.TheVariants as Tick;
@@ -44,6 +45,23 @@ pub fn decide_tick(replica: &Replica) -> Tick
     }
 }
 
+// One place of the disk is looked at, and then what is missing is asked for.
+#[tactic(auto, using(vr_step::proofs::Stepping::steps))]
+fn look_and_ask<D: SectorDisk>(
+    replica: &mut Replica,
+    alloc: Global,
+    disk: &mut D,
+    out: &mut Outbox,
+) -> Result<(), Halt>
+    requires ready { IsReady replica.old }
+    ensures ready { OnOk result (IsReady replica.new) }
+    ensures cause { Caused (D.faults disk.old) (D.faults disk.new) result }
+    ensures step { Does (visit ⨾ ask) replica.old replica.new (D.told disk.old) (D.told disk.new) out.old out.new result }
+{
+    replica.visit(alloc, disk, out)?;
+    ask(replica, disk, out)
+}
+
 // ---- at the primary
 
 // Whether an op above the commit number is known.
@@ -77,7 +95,7 @@ fn tell_first<D: SectorDisk>(
     }
 }
 
-// The primary tells how far its log goes, sends the first open entry again, and asks for what is missing.
+// The primary tells how far its log goes, sends the first open entry again, looks at a place of its disk, and asks for what is missing.
 #[tactic(auto, using(vr_step::proofs::Stepping::steps), unfolding(crate::specs::Ticks::tells_first))]
 fn tick_primary<D: SectorDisk>(
     replica: &mut Replica,
@@ -93,7 +111,7 @@ fn tick_primary<D: SectorDisk>(
 {
     replica.tell_commit(out)?;
     tell_first(replica, alloc, disk, out)?;
-    ask(replica, disk, out)
+    look_and_ask(replica, alloc, disk, out)
 }
 
 // ---- at a backup, and where the view isn't started
@@ -124,7 +142,8 @@ fn enter_next<D: SectorDisk>(
     replica.enter(alloc, disk, view, out)
 }
 
-// A backup that has heard nothing for five ticks enters the next view; before, it asks for what is missing.
+// A backup that has heard nothing for five ticks enters the next view; before, it looks at a place of its disk, and asks
+// for what is missing.
 #[tactic(auto, using(crate::proofs::Ticks::backup_due, crate::proofs::Ticks::backup_waits, crate::proofs::Ticks::ready_waits, crate::proofs::Ticks::idle_fits))]
 fn tick_backup<D: SectorDisk>(
     replica: &mut Replica,
@@ -143,11 +162,11 @@ fn tick_backup<D: SectorDisk>(
         enter_next(replica, alloc, disk, out)
     } else {
         replica.idle_on();
-        ask(replica, disk, out)
+        look_and_ask(replica, alloc, disk, out)
     }
 }
 
-// It tells the view that it has entered, states its log, and asks for what is missing.
+// It tells the view that it has entered, states its log, looks at a place of its disk, and asks for what is missing.
 #[tactic(auto, using(vr_step::proofs::Stepping::steps))]
 fn tell_all<D: SectorDisk>(
     replica: &mut Replica,
@@ -165,7 +184,7 @@ fn tell_all<D: SectorDisk>(
 {
     replica.tell_change(out)?;
     speak(replica, alloc, disk, out)?;
-    ask(replica, disk, out)
+    look_and_ask(replica, alloc, disk, out)
 }
 
 // A replica whose view isn't started enters the next one after ten ticks; before, it tells of this one.

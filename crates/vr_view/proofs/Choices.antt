@@ -1,5 +1,5 @@
 -- What the statements of a group decide, and the log that its primary chooses.
-use Rattle.std.proofs.Common.{arith, ℕ, ◌≡◌, ◌≤◌, ◌<◌, ◌+◌, ◌-◌, ◌^◌, ◌∙◌, refl, sym, subst, List, ◌++◌, Option, Result, Ok}
+use Rattle.std.proofs.Common.{arith, ℕ, ◌≡◌, ◌≤◌, ◌<◌, ◌^◌, ◌∙◌, refl, sym, subst, List, ◌++◌, Option, Result, Ok}
 use Rattle.std.specs.Prelude.{All, Bool, true, false, ◌&&◌, not}
 use Rattle.std.proofs.lemmas.List.Elements.{All-weaker}
 use Rattle.vr_base.specs.Groups.{quorums_of}

@@ -15,8 +15,8 @@ use Rattle.vr_msg.specs.Logs.{IsEntryAt, header_of}
 use Rattle.vr_msg.specs.Spelling.{AreHeaders}
 use Rattle.vr_rules.specs.Deciding.{first_of, get_view_table, log_of, start_view_table}
 use Rattle.vr_rules.specs.declared.rule.Rule.{Rule}
-use Rattle.vr_rules.specs.declared.rule.Rule.TheVariants.{Ignored, Taken, ViewGiven}
-use Rattle.vr_rules.specs.Outputs.{send_to, start_view}
+use Rattle.vr_rules.specs.declared.rule.Rule.TheVariants.{Ignored, SyncAsked, Taken, ViewGiven}
+use Rattle.vr_rules.specs.Outputs.{get_sync, send_to, start_view}
 use Rattle.vr_rules.specs.Replica.{Replica, last_view, part_at}
 use Rattle.vr_rules.specs.Rules.{acknowledge_stored, obey_get_view, obey_start_view, on_get_view, on_start_view}
 use Rattle.vr_rules.specs.Steps.{Word, ◌⨾◌}
@@ -92,7 +92,7 @@ told_log v r m g w = record {
     header_in (g ∷ hs) zero h all e = let same : g ≡ h = cc in subst IsHeader same all.0
     header_in (g ∷ hs) (suc i) h all e = header_in hs i h all.1 e
 
-view_started : (v : StartView) → IsStarting v → v.view ≤ last_view
+pub view_started : (v : StartView) → IsStarting v → v.view ≤ last_view
 unfolding IsStarting
 view_started v m = let view = m.view in omega arith
 
@@ -107,7 +107,7 @@ taken_by v r k m w =
           view = view_started v m;
           may = (and_parts (may_take name_of (log_of v) r) _ t).0;
         },
-        λ n1 e. absurd cc,
+        λ n1. (λ t e. absurd cc, λ n2 e. absurd cc),
       ),
     ) k
 
@@ -130,7 +130,11 @@ module _ (v : StartView) (r r' : Replica) (d d' : Option Disk) (o o' : List Outp
 pub start_ignored : (v : StartView) (r : Replica) (d : Option Disk) (o : List Output) (x : StartRule) → first_of (start_view_table name_of v r) ≡ start_rule x → x ≡ started.Ignored → Does (on_start_view v) r r d d o o (Ok tt)
 start_ignored v r d o x e k = obeyed v r r d d o o Ignored (Ok tt) (e ∙ ap start_rule k) (does_quiet r d o)
 
-pub ruleset starts = (start_taken, start_ignored)
+pub start_asked : (v : StartView) (r : Replica) (d : Option Disk) (o o' : List Output) (x : StartRule) → first_of (start_view_table name_of v r) ≡ start_rule x → x ≡ started.SyncAsked
+    → o' ≡ o ++ send_to v.replica (get_sync v.view r) r → Does (on_start_view v) r r d d o o' (Ok tt)
+start_asked v r d o o' x e k i = obeyed v r r d d o o' SyncAsked (Ok tt) (e ∙ ap start_rule k) (says_by (λ q. send_to v.replica (get_sync v.view q) q) r d o o' i)
+
+pub ruleset starts = (start_taken, start_ignored, start_asked)
 
 asked_by : (g : GetView) (r : Replica) (d : Option Disk) (o o' : List Output) (x : Rule) → first_of (get_view_table g r) ≡ x → Does (obey_get_view g x) r r d d o o' (Ok tt) → Does (on_get_view g) r r d d o o' (Ok tt)
 unfolding on_get_view

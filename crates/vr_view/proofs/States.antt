@@ -1,5 +1,5 @@
 -- Do_view_changes: which rule applies, and what it is.
-use Rattle.std.proofs.Common.{arith, ℕ, ◌≡◌, ◌≤◌, ◌<◌, ◌+◌, ◌-◌, ◌∙◌, refl, sym, ap, subst, Bool, true, false, not, List, ◌++◌, Option, Result, Ok, length}
+use Rattle.std.proofs.Common.{arith, ℕ, ◌≡◌, ◌≤◌, ◌<◌, ◌∙◌, refl, sym, ap, subst, Bool, true, false, not, List, ◌++◌, Option, Result, Ok, length}
 use Rattle.std.specs.Prelude.{◌&&◌, ◌||◌, nat_lt}
 use Rattle.std.proofs.lemmas.Bool.{and_parts, ltb-true, ltb-false, lt-ltb, le-ltb}
 use Rattle.vr_disk.specs.DiskState.{Disk}

@@ -26,6 +26,7 @@ state_rule state.Stated = rules.Stated
 abbrev pub start_rule : StartRule → Rule
 start_rule start.Ignored = rules.Ignored
 start_rule start.Taken = rules.Taken
+start_rule start.SyncAsked = rules.SyncAsked
 
 abbrev pub view_rule : ViewRule → Rule
 view_rule view.Ignored = rules.Ignored

@@ -1,10 +1,10 @@
 //! The log of a view that is started: start_views, and get_views that ask for one.
-ghost use Rattle.std.specs.Prelude.{◌≡◌, ◌<◌, ◌≤◌, ◌+◌, ◌^◌, ◌++◌, OnOk};
+ghost use Rattle.std.specs.Prelude.{◌≡◌, ◌<◌, ◌≤◌, ◌+◌, ◌^◌, ◌++◌, ◌||◌, OnOk, nat_lt};
 ghost use Rattle.vr_base.specs.Bytes.{name_of};
-ghost use Rattle.vr_journal.specs.Ready.{IsReady};
+ghost use Rattle.vr_journal.specs.Ready.{HasWindow, IsReady};
 ghost use Rattle.vr_msg.specs.Spelling.{AreHeaders};
 ghost use Rattle.vr_rules.specs.Deciding.{first_of, get_view_table, log_of, start_view_table};
-ghost use Rattle.vr_rules.specs.Replica.{last_view};
+ghost use Rattle.vr_rules.specs.Replica.{last_view, window_end};
 ghost use Rattle.vr_rules.specs.Rules.{acknowledge_stored, on_get_view, on_start_view};
 ghost use Rattle.vr_rules.specs.Steps.{◌⨾◌};
 ghost use Rattle.vr_rules.specs.Words.{apply, take};
@@ -31,6 +31,8 @@ pub enum StartRule {
     Ignored,
     /// Its log is taken over.
     Taken,
+    /// Its log is out of reach: it ends past the window, or begins above what is committed here. The view's checkpoint is asked for.
+    SyncAsked,
 }
 
 /// What a get_view leads to.
@@ -55,6 +57,14 @@ fn log_of(start: &StartView) -> Log<'_>
     }
 }
 
+/// Whether a log ends past the window, or begins above what is committed here.
+fn is_out_of_reach(replica: &Replica, log: &Log) -> bool
+    requires { HasWindow replica.now }
+    ensures { result ≡ (nat_lt (window_end replica.now) log.now.head || nat_lt replica.now.commit log.now.lo) }
+{
+    replica.checkpoint() + 64 < log.head || replica.commit() < log.lo
+}
+
 /// Which rule applies to a start_view; one that is taken has headers with the values of the program.
 #[tactic(auto, using(vr_journal::proofs::Memory::window_of, vr_journal::proofs::Memory::some_member), unfolding(vr_rules::specs::Deciding::first_of))]
 pub fn decide_start_view(replica: &Replica, start: &StartView) -> StartRule
@@ -67,6 +77,11 @@ pub fn decide_start_view(replica: &Replica, start: &StartView) -> StartRule
         StartRule::Ignored
     } else if replica.may_take(&log) && replica.index() != primary(replica.n(), start.view) {
         StartRule::Taken
+    } else if replica.is_newer(&log)
+        && is_out_of_reach(replica, &log)
+        && replica.index() != primary(replica.n(), start.view)
+    {
+        StartRule::SyncAsked
     } else {
         StartRule::Ignored
     }
@@ -102,7 +117,7 @@ fn acknowledge_stored(replica: &Replica, op: u64, out: &mut Outbox) -> Result<()
 
 /// Acknowledges each entry that is stored, from the op above its commit number on to the log's head.
 #[tactic(auto, using(crate::proofs::Starts::acks))]
-fn acknowledge_all(replica: &Replica, log: &Log, out: &mut Outbox) -> Result<(), AllocError>
+pub fn acknowledge_all(replica: &Replica, log: &Log, out: &mut Outbox) -> Result<(), AllocError>
     requires ready { IsReady replica.now }
     requires view { replica.now.view ≤ last_view }
     requires number { log.now.head < 2 ^ 63 }
@@ -139,7 +154,8 @@ fn follow<D: SectorDisk>(
 
 /// The primary of a view tells of its log. Where it is newer than the replica's, fits and is a chain, it
 /// is taken over, the entries of it that are stored are acknowledged, and what is committed is applied.
-#[tactic(auto, using(crate::proofs::Starts::starts, crate::proofs::Starts::may_follow))]
+/// Where it is newer and out of reach, the view's checkpoint is asked for.
+#[tactic(auto, using(crate::proofs::Starts::starts, crate::proofs::Starts::may_follow, crate::proofs::Starts::view_started, vr_step::proofs::Stepping::wants))]
 pub fn handle_start_view<D: SectorDisk>(
     replica: &mut Replica,
     alloc: Global,
@@ -157,6 +173,10 @@ pub fn handle_start_view<D: SectorDisk>(
     match decide_start_view(replica, start) {
         StartRule::Ignored => Ok(()),
         StartRule::Taken => follow(replica, alloc, disk, &log_of(start), out),
+        StartRule::SyncAsked => {
+            replica.ask_sync(start.replica, start.view, out)?;
+            Ok(())
+        }
     }
 }
 

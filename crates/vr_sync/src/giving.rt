@@ -1,0 +1,63 @@
+//! Checkpoints given: get_syncs.
+ghost use Rattle.std.specs.Prelude.{◌≡◌, ◌≤◌, true};
+ghost use Rattle.vr_journal.specs.Ready.{IsReady};
+ghost use Rattle.vr_rules.specs.Deciding.{first_of, get_sync_table, reaches_down};
+ghost use Rattle.vr_rules.specs.Replica.{last_view};
+ghost use Rattle.vr_rules.specs.Rules.{on_get_sync};
+ghost use Rattle.vr_step.specs.Does.{Caused, Does};
+ghost use Rattle.vr_sync.specs.Named.{sync_rule};
+ghost use Rattle.vr_sync.specs.declared.giving.SyncRule.{SyncRule};
+
+use std::alloc::Global;
+use vr_disk::SectorDisk;
+use vr_journal::Replica;
+use vr_msg::{GetSync, Outbox};
+use vr_step::Halt;
+
+/// What a get_sync leads to.
+#[derive(Clone, Copy, Debug, PartialEq, Eq)]
+pub enum SyncRule {
+    /// It isn't from another replica of the group, or the replica doesn't lead a view that is late enough, or has no checkpoint that its log
+    /// reaches down to.
+    Ignored,
+    /// The sender is given the checkpoint and the log.
+    Given,
+}
+
+/// Which rule applies to a get_sync.
+#[tactic(auto, using(vr_journal::proofs::Memory::some_member), unfolding(vr_rules::specs::Deciding::first_of))]
+pub fn decide_get_sync(replica: &Replica, get: &GetSync) -> SyncRule
+    requires { IsReady replica.now }
+    ensures rule { first_of (get_sync_table get.now replica.now) ≡ sync_rule result }
+    ensures down { result ≡ SyncRule.Given → reaches_down replica.now ≡ true }
+{
+    if !replica.is_from(get.cluster, get.replica) {
+        SyncRule::Ignored
+    } else if replica.leads() && get.view <= replica.view() && replica.reaches_down() {
+        SyncRule::Given
+    } else {
+        SyncRule::Ignored
+    }
+}
+
+/// A replica that is out of reach of a view's log asks for its checkpoint: where this one leads that view or a later one, and its log reaches
+/// down to its checkpoint, it is given both.
+#[tactic(auto, using(crate::proofs::Syncs::gives, vr_step::proofs::Stepping::wants))]
+pub fn handle_get_sync<D: SectorDisk>(
+    replica: &Replica,
+    alloc: Global,
+    _disk: &mut D,
+    get: &GetSync,
+    out: &mut Outbox,
+) -> Result<(), Halt>
+    requires ready { IsReady replica.now }
+    requires view { replica.now.view ≤ last_view }
+    ensures cause { Caused (D.faults _disk.old) (D.faults _disk.new) result }
+    ensures step { Does (on_get_sync get.now) replica.now replica.now (D.told _disk.old) (D.told _disk.new) out.old out.new result }
+{
+    match decide_get_sync(replica, get) {
+        SyncRule::Ignored => {}
+        SyncRule::Given => replica.tell_sync(alloc, get.replica, out)?,
+    }
+    Ok(())
+}

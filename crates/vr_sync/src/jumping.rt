@@ -1,0 +1,112 @@
+//! Checkpoints taken over: sync_views.
+ghost use Rattle.std.specs.Prelude.{◌≡◌, ◌<◌, ◌≤◌, ◌+◌, ◌^◌, OnOk};
+ghost use Rattle.vr_base.specs.Bytes.{name_of};
+ghost use Rattle.vr_journal.specs.Ready.{IsReady};
+ghost use Rattle.vr_msg.specs.Spelling.{AreHeaders};
+ghost use Rattle.vr_rules.specs.Deciding.{first_of, sync_view_table};
+ghost use Rattle.vr_rules.specs.Rules.{acknowledge_stored, on_sync_view};
+ghost use Rattle.vr_rules.specs.Steps.{◌⨾◌};
+ghost use Rattle.vr_rules.specs.Words.{apply, jump};
+ghost use Rattle.vr_step.specs.Does.{Caused, Does};
+ghost use Rattle.vr_sync.specs.Jumps.{IsSyncing, MayJump};
+ghost use Rattle.vr_sync.specs.Named.{jump_rule};
+ghost use Rattle.vr_sync.specs.declared.jumping.JumpRule.{JumpRule};
+ghost use Rattle.vr_view.specs.Telling.{each_to};
+
+use std::alloc::Global;
+use vr_disk::SectorDisk;
+use vr_journal::{Replica, primary, sync_log};
+use vr_msg::{Outbox, SyncView};
+use vr_step::Halt;
+use vr_view::acknowledge_all;
+
+/// What a sync_view leads to.
+#[derive(Clone, Copy, Debug, PartialEq, Eq)]
+pub enum JumpRule {
+    /// It isn't from the primary of its view, or its log and checkpoint may not be taken over.
+    Ignored,
+    /// They are taken over.
+    Jumped,
+}
+
+/// Which rule applies to a sync_view; one that is taken over has headers with the values of the program.
+#[tactic(auto, using(vr_journal::proofs::Memory::window_of, vr_journal::proofs::Memory::some_member), unfolding(vr_rules::specs::Deciding::first_of))]
+pub fn decide_sync_view(replica: &Replica, sync: &SyncView) -> JumpRule
+    requires { IsReady replica.now }
+    ensures rule { first_of (sync_view_table name_of sync.now replica.now) ≡ jump_rule result }
+    ensures values { result ≡ JumpRule.Jumped → AreHeaders sync.now.body.headers }
+{
+    if !replica.is_from_primary(sync.cluster, sync.replica, sync.view) {
+        JumpRule::Ignored
+    } else if replica.may_jump(sync) && replica.index() != primary(replica.n(), sync.view) {
+        JumpRule::Jumped
+    } else {
+        JumpRule::Ignored
+    }
+}
+
+// Takes over a log with its checkpoint, and saves that it has them.
+#[tactic(auto, using(vr_step::proofs::Stepping::steps, crate::proofs::Jumps::ready_jumped, crate::proofs::Jumps::view_jumped, crate::proofs::Jumps::may_move, vr_journal::proofs::Memory::window_of), unfolding(vr_rules::specs::Words::jump))]
+fn jump<D: SectorDisk>(
+    replica: &mut Replica,
+    alloc: Global,
+    disk: &mut D,
+    sync: &SyncView,
+    out: &mut Outbox,
+) -> Result<(), Halt>
+    requires ready { IsReady replica.old }
+    requires may { MayJump sync.now replica.old }
+    requires room { replica.old.saved.fields.sequence + 1 < 2 ^ 64 }
+    ensures ready { OnOk result (IsReady replica.new) }
+    ensures view { OnOk result (replica.new.view ≡ sync.now.view) }
+    ensures spent { OnOk result (replica.new.saved.fields.sequence ≤ replica.old.saved.fields.sequence + 1) }
+    ensures cause { Caused (D.faults disk.old) (D.faults disk.new) result }
+    ensures step { Does (jump sync.now) replica.old replica.new (D.told disk.old) (D.told disk.new) out.old out.new result }
+{
+    replica.jump(alloc, sync)?;
+    replica.save(alloc, disk, out)
+}
+
+// And then acknowledges what is stored of the log, and applies.
+#[tactic(auto, using(vr_step::proofs::Stepping::steps, crate::proofs::Jumps::view_low, crate::proofs::Jumps::head_small))]
+fn follow<D: SectorDisk>(
+    replica: &mut Replica,
+    alloc: Global,
+    disk: &mut D,
+    sync: &SyncView,
+    out: &mut Outbox,
+) -> Result<(), Halt>
+    requires ready { IsReady replica.old }
+    requires may { MayJump sync.now replica.old }
+    requires room { replica.old.saved.fields.sequence + 65 < 2 ^ 64 }
+    ensures ready { OnOk result (IsReady replica.new) }
+    ensures cause { Caused (D.faults disk.old) (D.faults disk.new) result }
+    ensures step { Does (jump sync.now ⨾ each_to (acknowledge_stored name_of) sync.now.head ⨾ apply) replica.old replica.new (D.told disk.old) (D.told disk.new) out.old out.new result }
+{
+    jump(replica, alloc, disk, sync, out)?;
+    acknowledge_all(replica, &sync_log(sync), out)?;
+    replica.apply(alloc, disk, out)
+}
+
+/// The primary of a view gives its checkpoint and its log. Where the log is newer than the replica's and a chain, reaches up to what is
+/// committed here, and the checkpoint is a later one, both are taken over; its state is still to be had, block by block.
+#[tactic(auto, using(crate::proofs::Jumps::syncs, crate::proofs::Jumps::may_follow))]
+pub fn handle_sync_view<D: SectorDisk>(
+    replica: &mut Replica,
+    alloc: Global,
+    disk: &mut D,
+    sync: &SyncView,
+    out: &mut Outbox,
+) -> Result<(), Halt>
+    requires ready { IsReady replica.old }
+    requires message { IsSyncing sync.now }
+    requires room { replica.old.saved.fields.sequence + 65 < 2 ^ 64 }
+    ensures ready { OnOk result (IsReady replica.new) }
+    ensures cause { Caused (D.faults disk.old) (D.faults disk.new) result }
+    ensures step { Does (on_sync_view sync.now) replica.old replica.new (D.told disk.old) (D.told disk.new) out.old out.new result }
+{
+    match decide_sync_view(replica, sync) {
+        JumpRule::Ignored => Ok(()),
+        JumpRule::Jumped => follow(replica, alloc, disk, sync, out),
+    }
+}
