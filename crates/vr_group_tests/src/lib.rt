@@ -10,6 +10,10 @@ mod running;
 #[cfg(test)]
 mod stops;
 #[cfg(test)]
+mod syncs;
+#[cfg(test)]
 mod views;
+#[cfg(test)]
+mod visits;
 #[cfg(test)]
 mod world;

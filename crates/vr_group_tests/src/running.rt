@@ -90,7 +90,11 @@ pub(crate) fn replayed(alloc: Global, schedule: &[u8]) -> Result<Ending, AllocEr
 }
 
 /// Replays a schedule whose read of this number fails.
-pub(crate) fn replayed_to(alloc: Global, schedule: Vec<u8>, failing: u64) -> Result<Ending, AllocError> {
+pub(crate) fn replayed_to(
+    alloc: Global,
+    schedule: Vec<u8>,
+    failing: u64,
+) -> Result<Ending, AllocError> {
     let mut source = MemSource::new(schedule, vec![in alloc; failing]?);
     played(alloc, &["replay"], &mut source, 4096, &[])
 }
@@ -113,7 +117,12 @@ pub(crate) fn lines_of(alloc: Global, row: &str, outputs: bool) -> Result<String
     Ok(lines)
 }
 
-pub(crate) fn check_outputs(rt: &impl Abort, alloc: Global, row: &str, outputs: &str) -> Result<(), Fail> {
+pub(crate) fn check_outputs(
+    rt: &impl Abort,
+    alloc: Global,
+    row: &str,
+    outputs: &str,
+) -> Result<(), Fail> {
     let schedule = lines_of(alloc, row, false)?;
     let played = replayed(alloc, schedule.as_bytes())?;
     check(rt, played, Status::Done, outputs, row.as_bytes());
@@ -137,9 +146,31 @@ pub(crate) fn executed(schedule: &mut String, op: u32, request: &str) -> Result<
 }
 
 /// How the outputs of a schedule end.
-pub(crate) fn check_end(rt: &impl Abort, alloc: Global, schedule: &str, end: &str) -> Result<(), Fail> {
+pub(crate) fn check_end(
+    rt: &impl Abort,
+    alloc: Global,
+    schedule: &str,
+    end: &str,
+) -> Result<(), Fail> {
     let played = replayed(alloc, schedule.as_bytes())?;
     assert_eq!(rt; played.end, Status::Done);
     assert!(rt; played.text.ends_with(end.as_bytes()));
+    Ok(())
+}
+
+/// A replay of these lines and then of a row, whose outputs end all that is put out.
+pub fn check_after(rt: &impl Abort, alloc: Global, schedule: &str, row: &str) -> Result<(), Fail> {
+    let mut whole = String::from_str(alloc, schedule)?;
+    let lines = lines_of(alloc, row, false)?;
+    whole.push_str(lines.as_str())?;
+    let outputs = lines_of(alloc, row, true)?;
+    check_end(rt, alloc, whole.as_str(), outputs.as_str())
+}
+
+/// So many ticks of a replica.
+pub fn ticked(schedule: &mut String, replica: u32, count: u32) -> Result<(), AllocError> {
+    for _ in 0..count {
+        write!(schedule, "tick {replica}\n")?;
+    }
     Ok(())
 }

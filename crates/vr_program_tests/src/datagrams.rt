@@ -46,7 +46,12 @@ pub(crate) fn register(alloc: Global) -> Result<Vec<u8>, AllocError> {
 }
 
 /// The reply of member 0 to it: of kind 1 at an op, with this outcome, or of another kind.
-pub(crate) fn reply(alloc: Global, kind: u8, op: u64, outcome: &[u8]) -> Result<Vec<u8>, AllocError> {
+pub(crate) fn reply(
+    alloc: Global,
+    kind: u8,
+    op: u64,
+    outcome: &[u8],
+) -> Result<Vec<u8>, AllocError> {
     let header = Header {
         client: 7,
         request_name: over(asked(), &[1]).name(),
@@ -72,7 +77,12 @@ pub(crate) fn start_view(alloc: Global) -> Result<Vec<u8>, AllocError> {
 }
 
 /// A prepare from this member in view 0, of client 7's register as op `op` of a group.
-pub(crate) fn prepare(alloc: Global, cluster: u64, replica: u8, op: u64) -> Result<Vec<u8>, AllocError> {
+pub(crate) fn prepare(
+    alloc: Global,
+    cluster: u64,
+    replica: u8,
+    op: u64,
+) -> Result<Vec<u8>, AllocError> {
     let entry = Header {
         cluster,
         client: 7,

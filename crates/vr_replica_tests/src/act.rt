@@ -19,9 +19,13 @@ pub enum Act {
     State(u8),
     /// The start_view of this view with this op, the last of its log, and this commit number.
     StartView(u8, u32, u32),
+    /// The sync_view of view 0 with checkpoint 32, whose root is `OtherBlock`, and the log up to its op.
+    SyncView,
     Tick,
     /// Five ticks.
     Ticks,
+    /// So many ticks, before each of which the primary of view 0 is heard; what it puts out is left.
+    Rounds(u32),
     /// The block of address 64, which its disk holds, but that its first sector was damaged.
     OwnBlock,
     /// A whole block of address 64, of another name.

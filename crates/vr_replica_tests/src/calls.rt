@@ -1,6 +1,9 @@
 //! Each call of a step fails in turn. By the clauses `step` and `halt` of `Replica::step` a front of the step's calls was made then, the next
 //! one failed, and nothing is put out; which calls there are docs/FORMATS.md says.
-use crate::act::Act::{Change, Damage, Fail as FailCall, Format, Prepare, Prepares, Start, Ticks};
+use crate::act::Act::{
+    Change, Damage, Fail as FailCall, Format, Prepare, Prepares, Rounds, Stale, Start, SyncView,
+    Tick, Ticks,
+};
 use crate::member::check;
 use std::test::Fail;
 
@@ -29,6 +32,18 @@ const NO_CHECKPOINT: &str = "halt\n\
 
 const CHECKPOINT: &str = "halt\n\
     start 1 view 0 log_view 0 commit 32\n";
+
+const HEADER: &str = "send 0 1 0 prepare_ok view 0 op 1 made 0\n\
+    done\n\
+    halt\n\
+    start 1 view 0 log_view 0 commit 0\n";
+
+const COPY: &str = "done\n\
+    halt\n\
+    start 1 view 0 log_view 0 commit 0\n";
+
+const COPY_MENDED: &str = "done\n\
+    start 1 view 0 log_view 0 commit 0\n";
 
 #[test]
 fn a_call_fails(rt: HostRuntime) -> Result<(), Fail> {
@@ -71,6 +86,54 @@ fn a_call_fails(rt: HostRuntime) -> Result<(), Fail> {
             1,
             &acts,
             if is_new { CHECKPOINT } else { NO_CHECKPOINT },
+        )?;
+    }
+    Ok(())
+}
+
+#[test]
+fn a_call_of_a_jump_or_a_visit_fails(rt: HostRuntime) -> Result<(), Fail> {
+    let alloc = rt.alloc();
+    // A jump is one save, with one header more in the first sector of each copy.
+    for call in 1..85u64 {
+        let acts = [Format, FailCall(call), SyncView, Start(1)];
+        check(
+            &rt,
+            alloc,
+            1,
+            &acts,
+            if call < 23 { NO_CHECKPOINT } else { CHECKPOINT },
+        )?;
+    }
+    // A header sector is written and synced.
+    for call in 1..3u64 {
+        let acts = [
+            Format,
+            Prepare(1),
+            Stale(81),
+            FailCall(call),
+            Tick,
+            Tick,
+            Start(1),
+        ];
+        check(&rt, alloc, 1, &acts, HEADER)?;
+    }
+    // A copy of the superblock is mended by its first sector, a sync, 19 others, a sync.
+    for call in 1..24u64 {
+        let acts = [
+            Format,
+            Damage(0),
+            Rounds(64),
+            FailCall(call),
+            Tick,
+            Start(1),
+        ];
+        check(
+            &rt,
+            alloc,
+            1,
+            &acts,
+            if call < 23 { COPY } else { COPY_MENDED },
         )?;
     }
     Ok(())

@@ -8,8 +8,8 @@ use vr_base::{ByteList, NoMemory, Seq, Sum};
 use vr_grid::{Block, ROOT};
 use vr_header::{Entry, Header, Operation};
 use vr_msg::{
-    DoViewChange, DvcBody, Event, GiveBlock, Message, Prepare, Request, RequestFields, StartView,
-    StartViewChange, Statement, SvBody,
+    Commit, DoViewChange, DvcBody, Event, GiveBlock, Message, Prepare, Request, RequestFields,
+    StartView, StartViewChange, Statement, SvBody, SyncView,
 };
 
 // The entry of an op, made in view 0: client `op + 6` registers.
@@ -83,6 +83,17 @@ pub fn start_view(alloc: Global, view: u8, count: u32, commit: u32) -> Result<Ev
     })))
 }
 
+/// A commit of view 0, which tells nothing but that its primary is there.
+pub fn heard() -> Event {
+    Event::Deliver(Message::commit(Commit {
+        cluster: 0,
+        replica: 0,
+        view: 0,
+        head: 0,
+        commit: 0,
+    }))
+}
+
 // A statement of view 0 that knows of nothing.
 fn knows_nothing(alloc: Global) -> Statement
     ensures statement { IsStatement 0 result }
@@ -125,4 +136,28 @@ pub fn give_block(block: ByteList) -> Event
 pub fn other_block(alloc: Global) -> Result<Event, NoMemory> {
     let block = Block::new(alloc, 0, 64, 32, ROOT, b"another root")?;
     Ok(give_block(block.bytes))
+}
+
+// The name of the root that `other_block` is.
+fn other_root(alloc: Global) -> Result<Sum, NoMemory> {
+    let root = Block::new(alloc, 0, 64, 32, ROOT, b"another root")?;
+    Ok(root.name.sum)
+}
+
+/// The sync_view of view 0 with checkpoint 32, whose root is `other_block`, and the log up to its op, which is committed.
+pub fn sync_view(alloc: Global) -> Result<Event, NoMemory> {
+    let root_name = other_root(alloc)?;
+    let mut headers = Seq::new(alloc);
+    headers.push(entry_after(31).header())?;
+    Ok(Event::Deliver(Message::sync_view(SyncView {
+        cluster: 0,
+        replica: 0,
+        view: 0,
+        head: 32,
+        commit: 32,
+        checkpoint: 32,
+        root_address: 64,
+        root_name,
+        body: SvBody { lo: 31, headers },
+    })))
 }

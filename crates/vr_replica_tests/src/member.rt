@@ -1,7 +1,7 @@
 //! A member of a group of three on a disk that lies, and what it answers to one act after the other.
 use crate::act::Act;
 use crate::events::{
-    change, give_block, other_block, prepare, register, start_view, state_nothing,
+    change, give_block, heard, other_block, prepare, register, start_view, state_nothing, sync_view,
 };
 use crate::hosting::{fault, format, own_block, start, step};
 use std::alloc::Global;
@@ -79,6 +79,17 @@ impl Member {
         Ok(())
     }
 
+    // Ticks, before each of which the primary of view 0 is heard; what they put out is left.
+    fn rounds(&mut self, alloc: Global, count: u32) -> Result<(), NoMemory> {
+        let mut left = Seq::new(alloc);
+        for _ in 0..count {
+            self.step(alloc, &heard(), &mut left)?;
+            self.step(alloc, &Event::Tick, &mut left)?;
+        }
+        self.sent = 0;
+        Ok(())
+    }
+
     // What others send it, and what a client asks.
     fn hear(&mut self, alloc: Global, act: Act, text: &mut ByteList) -> Result<(), NoMemory> {
         let event = match act {
@@ -89,6 +100,7 @@ impl Member {
             Act::StartView(view, op, commit) => {
                 start_view(alloc, view, op.saturating_sub(1), commit)?
             }
+            Act::SyncView => sync_view(alloc)?,
             Act::OwnBlock => give_block(own_block(&mut self.disk, alloc)?),
             Act::OtherBlock => other_block(alloc)?,
             _ => Event::Tick,
@@ -102,6 +114,7 @@ impl Member {
             Act::Start(index) => return self.start(alloc, index, text),
             Act::Prepares(count) => return self.prepares(alloc, count),
             Act::Ticks => return self.ticks(alloc, text),
+            Act::Rounds(count) => return self.rounds(alloc, count),
             Act::Fail(call) => {
                 self.disk.fail(vec![in alloc; call]?);
                 ""

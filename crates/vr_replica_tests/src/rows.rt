@@ -2,7 +2,7 @@
 use crate::act::Act;
 use crate::act::Act::{
     Change, Damage, Fail as FailCall, Format, Fuse, OtherBlock, OwnBlock, Prepare, Prepares,
-    Register, Stale, Start, StartView, State, Tick, Ticks, Unread,
+    Register, Rounds, Stale, Start, StartView, State, SyncView, Tick, Ticks, Unread,
 };
 use crate::member::check;
 use std::test::Fail;
@@ -104,11 +104,31 @@ fn rows(rt: HostRuntime) -> Result<(), Fail> {
              send 0 1 0 start_view_change view 1\n\
              send 1 1 2 start_view_change view 1\n",
         ),
-        // window: op 65 is past the room of a log without a checkpoint, and so is a log that ends there.
+        // window: op 65 is past the room of a log without a checkpoint, and so is a log that ends there: the checkpoint is asked for, and jumped
+        // to once, and then its root is asked for. A root that has no state is missing still. The member comes back with the checkpoint.
         (
             2,
-            &[Format, Prepare(65), Prepare(64), StartView(0, 65, 65)],
-            "send 0 2 0 get_view view 0\n",
+            &[
+                Format,
+                Prepare(65),
+                Prepare(64),
+                StartView(0, 65, 65),
+                SyncView,
+                Tick,
+                Prepare(33),
+                SyncView,
+                OtherBlock,
+                Tick,
+                Start(2),
+                Tick,
+            ],
+            "send 0 2 0 get_view view 0\n\
+             send 1 2 0 get_sync view 0\n\
+             send 2 2 0 get_block 64\n\
+             send 3 2 0 prepare_ok view 0 op 33 made 0\n\
+             send 4 2 1 get_block 64\n\
+             start 2 view 0 log_view 0 commit 32\n\
+             send 5 2 0 get_block 64\n",
         ),
         // block-repair: a block of the address and of another name changes nothing. The block itself ends the asking, and the state is
         // loaded: the op behind the checkpoint can be applied.
@@ -132,6 +152,88 @@ fn rows(rt: HostRuntime) -> Result<(), Fail> {
              send 1 1 0 get_block 64\n\
              send 2 1 0 prepare_ok view 0 op 34 made 0\n\
              commit 1 op 33 view 0 client 39 request 0 register\n",
+        ),
+    ];
+    for (index, acts, want) in rows {
+        check(&rt, rt.alloc(), index, acts, want)?;
+    }
+    Ok(())
+}
+
+// Op k has the slot k modulo 64, looked at by tick k + 1. After the slots comes the superblock, then the root of a checkpoint.
+#[test]
+fn visits(rt: HostRuntime) -> Result<(), Fail> {
+    let rows: [(u8, &[Act], &str); 5] = [
+        // bad-slot: an entry that can't be read is lost, and asked for.
+        (
+            1,
+            &[Format, Prepare(1), Damage(148), Tick, Tick],
+            "send 0 1 0 prepare_ok view 0 op 1 made 0\n\
+             done\n\
+             send 1 1 2 get_prepare op 1 made 0\n",
+        ),
+        // A header sector that reads as another one's is written again.
+        (
+            1,
+            &[
+                Format,
+                Prepare(1),
+                Stale(81),
+                Damage(148),
+                Tick,
+                Tick,
+                Damage(148),
+            ],
+            "send 0 1 0 prepare_ok view 0 op 1 made 0\n\
+             done\n\
+             kept out\n\
+             done\n",
+        ),
+        // The tick that enters a view looks at nothing, so slot 4 is looked at by the next one. Its op is applied, and is asked for all the same.
+        (
+            1,
+            &[Format, Prepares(5), Damage(160), Ticks, Tick],
+            "done\n\
+             send 0 1 0 start_view_change view 1\n\
+             send 1 1 2 start_view_change view 1\n\
+             send 2 1 0 start_view_change view 1\n\
+             send 3 1 2 start_view_change view 1\n\
+             send 4 1 2 get_prepare op 4 made 0\n",
+        ),
+        // Copies of the superblock are mended.
+        (
+            1,
+            &[
+                Format,
+                Damage(0),
+                Damage(20),
+                Rounds(64),
+                Damage(40),
+                Rounds(1),
+                Damage(40),
+            ],
+            "done\ndone\nkept out\ndone\n",
+        ),
+        // bad-block: a block of the address and of another name changes nothing. The block itself ends the asking, and is there at a start.
+        (
+            1,
+            &[
+                Format,
+                Prepares(33),
+                Damage(912),
+                Rounds(65),
+                Tick,
+                OtherBlock,
+                Tick,
+                OwnBlock,
+                Tick,
+                Start(1),
+                Tick,
+            ],
+            "done\n\
+             send 0 1 2 get_block 64\n\
+             send 1 1 0 get_block 64\n\
+             start 1 view 0 log_view 0 commit 32\n",
         ),
     ];
     for (index, acts, want) in rows {
