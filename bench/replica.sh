@@ -62,8 +62,18 @@ steps 'a request at the primary' $handle "$folder/four" 'request 0 7 4 put key4 
 steps 'its prepare at a backup, which applies the one before too' $handle "$folder/five" 'deliver 16'
 echo 'deliver 16' >> "$folder/five"
 steps 'the acknowledgement that commits it' $handle "$folder/five" 'deliver 18'
-steps 'a tick at the primary' $handle "$folder/four" 'tick 0'
-steps 'a tick at a backup' $handle "$folder/four" 'tick 1'
+steps 'a tick at the primary, where the slot that it looks at is empty' $handle "$folder/four" 'tick 0'
+steps 'a tick at a backup, where the slot is empty' $handle "$folder/four" 'tick 1'
+{ cat "$folder/four"; echo 'tick 1'; } > "$folder/one"
+steps 'a tick at a backup that looks at an entry' $handle "$folder/one" 'tick 1'
+ticks() { awk -v count="$1" 'BEGIN { for (i = 0; i < count; i++) print "tick 0" }'; }
+{ cat "$folder/four"; ticks 64; } > "$folder/superblock"
+steps 'a tick at the primary that looks at the superblock' $handle "$folder/superblock" 'tick 0'
+rounds 33 2 > "$folder/checkpoint"
+{ cat "$folder/checkpoint"; ticks 65; } > "$folder/root"
+steps 'a tick at the primary that looks at the root of its checkpoint' $handle "$folder/root" 'tick 0'
+{ cat "$folder/checkpoint"; ticks 67; } > "$folder/keys"
+steps 'a tick at the primary that looks at a block of ten keys' $handle "$folder/keys" 'tick 0'
 rounds 63 2 > "$folder/many"
 echo 'stop 0' >> "$folder/many"
 steps 'a view change of two, each with 63 entries in its window' $handle "$folder/many" \
