@@ -8,9 +8,9 @@ const COMMITTED: &str =
     "cluster 2\nrequest 0 7 0 register\ndeliver 0\ndeliver 6\ndeliver 2\ndeliver 1\n";
 
 #[test]
-fn a_slot_is_looked_at(rt: HostRuntime) -> Result<(), Fail> {
+fn an_entry_that_does_not_read_is_asked_for(rt: HostRuntime) -> Result<(), Fail> {
     let rows = [
-        // An entry that can't be read is asked for and written anew.
+        // It is written anew.
         "damage 1 148\n  \
            done\n\
          tick 1\n\
@@ -33,7 +33,17 @@ fn a_slot_is_looked_at(rt: HostRuntime) -> Result<(), Fail> {
          deliver 6\n\
          tick 0\n  \
            send 7 0 1 commit view 0 op 1 commit 1\n",
-        // A header sector that reads as another header is written again, and then the prepare may be damaged.
+    ];
+    for row in rows {
+        check_after(&rt, rt.alloc(), COMMITTED, row)?;
+    }
+    Ok(())
+}
+
+#[test]
+fn a_header_sector_is_written_again(rt: HostRuntime) -> Result<(), Fail> {
+    let rows = [
+        // One that reads as another header: then the prepare may be damaged.
         "stale 1 81\n  \
            done\n\
          tick 1\n\

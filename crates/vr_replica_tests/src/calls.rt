@@ -92,7 +92,7 @@ fn a_call_fails(rt: HostRuntime) -> Result<(), Fail> {
 }
 
 #[test]
-fn a_call_of_a_jump_or_a_visit_fails(rt: HostRuntime) -> Result<(), Fail> {
+fn a_call_of_a_jump_fails(rt: HostRuntime) -> Result<(), Fail> {
     let alloc = rt.alloc();
     // A jump is one save, with one header more in the first sector of each copy.
     for call in 1..85u64 {
@@ -105,6 +105,12 @@ fn a_call_of_a_jump_or_a_visit_fails(rt: HostRuntime) -> Result<(), Fail> {
             if call < 23 { NO_CHECKPOINT } else { CHECKPOINT },
         )?;
     }
+    Ok(())
+}
+
+#[test]
+fn a_call_of_a_visit_fails(rt: HostRuntime) -> Result<(), Fail> {
+    let alloc = rt.alloc();
     // A header sector is written and synced.
     for call in 1..3u64 {
         let acts = [
