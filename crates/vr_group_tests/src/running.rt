@@ -159,7 +159,12 @@ pub(crate) fn check_end(
 }
 
 /// A replay of these lines and then of a row, whose outputs end all that is put out.
-pub fn check_after(rt: &impl Abort, alloc: Global, schedule: &str, row: &str) -> Result<(), Fail> {
+pub(crate) fn check_after(
+    rt: &impl Abort,
+    alloc: Global,
+    schedule: &str,
+    row: &str,
+) -> Result<(), Fail> {
     let mut whole = String::from_str(alloc, schedule)?;
     let lines = lines_of(alloc, row, false)?;
     whole.push_str(lines.as_str())?;
@@ -168,7 +173,7 @@ pub fn check_after(rt: &impl Abort, alloc: Global, schedule: &str, row: &str) ->
 }
 
 /// So many ticks of a replica.
-pub fn ticked(schedule: &mut String, replica: u32, count: u32) -> Result<(), AllocError> {
+pub(crate) fn ticked(schedule: &mut String, replica: u32, count: u32) -> Result<(), AllocError> {
     for _ in 0..count {
         write!(schedule, "tick {replica}\n")?;
     }

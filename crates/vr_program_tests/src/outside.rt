@@ -75,7 +75,7 @@ fn ended(
 }
 
 /// Runs on this disk over a link with this script.
-pub fn ran(
+pub(crate) fn ran(
     alloc: Global,
     line: &str,
     disk: &mut MemDisk,
@@ -86,7 +86,7 @@ pub fn ran(
 }
 
 /// The same with this spawner.
-pub fn ran_with(
+pub(crate) fn ran_with(
     alloc: Global,
     line: &str,
     disk: &mut MemDisk,
@@ -103,7 +103,7 @@ pub fn ran_with(
 }
 
 /// One datagram comes, from port 0.
-pub fn one(alloc: Global, bytes: Vec<u8>) -> Result<LinkScript, AllocError> {
+pub(crate) fn one(alloc: Global, bytes: Vec<u8>) -> Result<LinkScript, AllocError> {
     let mut script = LinkScript::quiet(alloc);
     script.arrivals.push(Some(Datagram {
         port: 0,
@@ -112,7 +112,7 @@ pub fn one(alloc: Global, bytes: Vec<u8>) -> Result<LinkScript, AllocError> {
     Ok(script)
 }
 
-pub fn check(rt: &impl Abort, ran: Ending, end: Status, text: &str, ports: &str) {
+pub(crate) fn check(rt: &impl Abort, ran: Ending, end: Status, text: &str, ports: &str) {
     assert_eq!(rt; ran.end, Some(end));
     assert_eq!(rt; ran.text.as_slice(), text.as_bytes());
     assert_eq!(rt; ran.ports.as_str(), ports);
