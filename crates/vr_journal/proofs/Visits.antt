@@ -1,6 +1,6 @@
 -- A place of the disk that is looked at.
 use Rattle.std.proofs.Common.{arith, ℕ, ◌-◌, ◌%◌, ◌^◌, ◌≡◌, ◌≤◌, ◌<◌, ◌∙◌, refl, sym, ap, subst, cond, not, Bool, true, false, List, [], ◌∷◌, ◌++◌, Option, Some, None, is_some, Result, Ok, Err}
-use Rattle.std.specs.Prelude.{IfSome, IsTrue, ◌↔◌, nat_lt, slice_get}
+use Rattle.std.specs.Prelude.{IfOk, IfSome, IsTrue, ◌↔◌, if◌then◌else◌, nat_lt, slice_get}
 use Rattle.std.specs.Option.{option_and_then, option_map}
 use Rattle.std.proofs.lemmas.Bool.{le-ltb, lt-ltb, ne_eqb, true≢false}
 use Rattle.vr_disk.specs.DiskState.{Disk, Face}
@@ -27,7 +27,9 @@ use Rattle.vr_rules.proofs.Keeping.{sound_alike}
 use Rattle.vr_rules.proofs.SavesWell.{savable_alike}
 use Rattle.vr_journal.specs.Effects.{mends, rewrites}
 use Rattle.vr_journal.specs.Ready.{IsReady}
-use Rattle.vr_journal.specs.Visits.{is_new, reads_as}
+use Rattle.vr_journal.specs.Visits.{found_at, is_new, read_as, reads_as, stored_as}
+use Rattle.vr_journal.specs.declared.visiting.Visit.{Visit}
+use Rattle.vr_journal.specs.declared.visiting.Visit.TheVariants as seen
 
 -- ---- the header sector
 
@@ -127,6 +129,51 @@ part_nothing Nothing op r d o e n = let k = does_quiet r d o in record { untold 
 
 pub slot_nothing : (p : Part) (op : ℕ) (r : Replica) (d : Option Disk) (o : List Output) → p ≡ part_at r op → ((h : Header) → p ≡ Here h → ⊥) → Does (visit_slot op) r r d d o o (Ok tt)
 slot_nothing p op r d o e n = part_nothing p op r d o (sym e) n
+
+-- ---- what is answered
+
+pub found_good : (h : Header) (b : Bool) (d : Option Disk) → IfSome d (λ (y : Disk). b ≡ reads_as h (header_in y.face (h.op % 64))) → b ≡ true → IfSome d (λ (y : Disk). seen.Good ≡ read_as h (header_in y.face (h.op % 64)))
+found_good h b None v t = tt
+found_good h b (Some y) v t = ap (λ (x : Bool). if x then seen.Good else seen.Mended) (sym t ∙ v)
+
+pub found_mended : (h : Header) (b : Bool) (d : Option Disk) → IfSome d (λ (y : Disk). b ≡ reads_as h (header_in y.face (h.op % 64))) → b ≡ false → IfSome d (λ (y : Disk). seen.Mended ≡ read_as h (header_in y.face (h.op % 64)))
+found_mended h b None v t = tt
+found_mended h b (Some y) v t = ap (λ (x : Bool). if x then seen.Good else seen.Mended) (sym t ∙ v)
+
+module _ (h : Header) (ok : Bool) (d : Option Disk) (v : Tells h ok d) where
+  pub found_stored : (d' : Option Disk) (result : Result Visit Halt) → d' ≡ d → ok ≡ true → IfSome d' (λ (y : Disk). IfOk result (λ x. x ≡ read_as h (header_in y.face (h.op % 64))))
+      → IfSome d (λ (y : Disk). IfOk result (λ x. x ≡ stored_as h (entry_of h sectors y.face) (header_in y.face (h.op % 64))))
+  found_stored d' result same t k = at d v (subst (λ (z : Option Disk). IfSome z (λ (y : Disk). IfOk result (λ x. x ≡ read_as h (header_in y.face (h.op % 64))))) same k)
+    where
+      each : (y : Disk) (r : Result Visit Halt) → (e : Whole) × (entry_of h sectors y.face ≡ Some e) → IfOk r (λ x. x ≡ read_as h (header_in y.face (h.op % 64)))
+          → IfOk r (λ x. x ≡ stored_as h (entry_of h sectors y.face) (header_in y.face (h.op % 64)))
+      each y (Ok x) there k = k ∙ ap (λ (o : Option Whole). stored_as h o (header_in y.face (h.op % 64))) (sym there.1)
+      each y (Err halt) there k = k
+
+      at : (z : Option Disk) → Tells h ok z → IfSome z (λ (y : Disk). IfOk result (λ x. x ≡ read_as h (header_in y.face (h.op % 64))))
+          → IfSome z (λ (y : Disk). IfOk result (λ x. x ≡ stored_as h (entry_of h sectors y.face) (header_in y.face (h.op % 64))))
+      at None v k = k
+      at (Some y) v k =
+          let there = found_entry h (whole_in y.face (h.op % 64)) (v.0 t) in
+          each y result (there.0, is_found h y.face there.0 there.1 there.2) k
+
+pub found_lost : (h : Header) (ok : Bool) (d : Option Disk) → Tells h ok d → ok ≡ false → IfSome d (λ (y : Disk). seen.Lost ≡ stored_as h (entry_of h sectors y.face) (header_in y.face (h.op % 64)))
+found_lost h ok None v t = tt
+found_lost h ok (Some y) v t =
+    let none : entry_of h sectors y.face ≡ None = not_found h (whole_in y.face (h.op % 64)) (λ m. let yes : ok ≡ true = v.1 m in true≢false (sym yes ∙ t)) in
+    sym (ap (λ (o : Option Whole). stored_as h o (header_in y.face (h.op % 64))) none)
+
+pub found_here : (p : Part) (h : Header) (d : Option Disk) (result : Result Visit Halt) → p ≡ Here h → IfSome d (λ (y : Disk). IfOk result (λ x. x ≡ stored_as h (entry_of h sectors y.face) (header_in y.face (h.op % 64))))
+    → IfSome d (λ (y : Disk). IfOk result (λ x. x ≡ found_at p y.face))
+found_here p h d result e k = subst (λ (q : Part). IfSome d (λ (y : Disk). IfOk result (λ x. x ≡ found_at q y.face))) (sym e) k
+
+pub found_nothing : (p : Part) (d : Option Disk) → ((h : Header) → p ≡ Here h → ⊥) → IfSome d (λ (y : Disk). seen.Nothing ≡ found_at p y.face)
+found_nothing p None n = tt
+found_nothing (Here h) (Some y) n = absurd (n h refl)
+found_nothing (Lost h) (Some y) n = refl
+found_nothing (Wanted h) (Some y) n = refl
+found_nothing Unknown (Some y) n = refl
+found_nothing Nothing (Some y) n = refl
 
 -- ---- blocks
 

@@ -1,16 +1,17 @@
 //! A visit of the disk: one place is looked at, and mended where the replica can.
-ghost use Rattle.std.specs.Prelude.{◌≡◌, ◌<◌, ◌%◌, ◌^◌, ◌==◌, IfSome, OnOk, Some, is_ok, length, map, slice_get};
+ghost use Rattle.std.specs.Prelude.{◌≡◌, ◌<◌, ◌%◌, ◌^◌, ◌==◌, IfOk, IfSome, OnOk, Some, is_ok, length, map, slice_get};
 ghost use Rattle.std.specs.List.{list_any};
 ghost use Rattle.vr_base.specs.Causes.{HasCause};
 ghost use Rattle.vr_header.specs.declared.part.Part.TheVariants.{Here};
 ghost use Rattle.vr_ckpt.specs.declared.table.Payload.{Payload};
 ghost use Rattle.vr_journal.specs.Effects.{mends};
 ghost use Rattle.vr_journal.specs.Ready.{IsReady};
-ghost use Rattle.vr_journal.specs.Visits.{is_new, reads_as};
+ghost use Rattle.vr_journal.specs.Visits.{found_at, is_new, read_as, reads_as, stored_as};
 ghost use Rattle.vr_rings.specs.Slots.{header_in};
 ghost use Rattle.vr_rules.specs.Replica.{part_at};
+ghost use Rattle.vr_rules.specs.Sectors.{sectors};
 ghost use Rattle.vr_rules.specs.Steps.{reading};
-ghost use Rattle.vr_rules.specs.Words.{blocks_of, header_read, mend_header, op_of_slot, place_now, places, visit, visit_block, visit_place, visit_slot, with_cursor, with_worn};
+ghost use Rattle.vr_rules.specs.Words.{blocks_of, entry_of, header_read, mend_header, op_of_slot, place_now, places, visit, visit_block, visit_place, visit_slot, with_cursor, with_worn};
 ghost use Rattle.vr_step.specs.Does.{Caused, Does, Performs, done};
 
 use crate::Replica;
@@ -139,7 +140,7 @@ fn reads_as<D: SectorDisk>(disk: &mut D, header: &Header) -> bool
 
 impl Replica {
     // The header sector of a slot is written anew where it doesn't read as this header.
-    #[tactic(auto, using(crate::proofs::Visits::header_good, crate::proofs::Visits::header_mended, crate::proofs::Visits::header_stopped))]
+    #[tactic(auto, using(crate::proofs::Visits::header_good, crate::proofs::Visits::header_mended, crate::proofs::Visits::header_stopped, crate::proofs::Visits::found_good, crate::proofs::Visits::found_mended))]
     fn mend_header<D: SectorDisk>(
         &self,
         disk: &mut D,
@@ -148,6 +149,7 @@ impl Replica {
     ) -> Result<Visit, Halt>
         ensures cause { Caused (D.faults disk.old) (D.faults disk.new) result }
         ensures step { Does (reading (header_read header.now.op) (mend_header header.now)) self.now self.now (D.told disk.old) (D.told disk.new) _out.old _out.new (done result) }
+        ensures found { IfSome (D.told disk.old) (λ d. IfOk result (λ v. v ≡ read_as header.now (header_in d.face (header.now.op % 64)))) }
     {
         if reads_as(disk, header) {
             return Ok(Visit::Good);
@@ -157,7 +159,7 @@ impl Replica {
     }
 
     // The slot of an entry that is stored is looked at.
-    #[tactic(auto, using(crate::proofs::Visits::slot_read, crate::proofs::Visits::slot_lost, crate::proofs::Memory::readies, vr_step::proofs::Stepping::does_no_memory))]
+    #[tactic(auto, using(crate::proofs::Visits::slot_read, crate::proofs::Visits::slot_lost, crate::proofs::Visits::found_stored, crate::proofs::Visits::found_lost, crate::proofs::Memory::readies, vr_step::proofs::Stepping::does_no_memory))]
     fn visit_stored<D: SectorDisk>(
         &mut self,
         alloc: Global,
@@ -170,6 +172,7 @@ impl Replica {
         ensures ready { OnOk result (IsReady self.new) }
         ensures cause { Caused (D.faults disk.old) (D.faults disk.new) result }
         ensures step { Does (visit_slot header.now.op) self.old self.new (D.told disk.old) (D.told disk.new) out.old out.new (done result) }
+        ensures found { IfSome (D.told disk.old) (λ d. IfOk result (λ v. v ≡ stored_as header.now (entry_of header.now sectors d.face) (header_in d.face (header.now.op % 64)))) }
     {
         let mut buffer = Buffer::new(alloc)?;
         match read_prepare(disk, (header.op % 64) as u32, header, &mut buffer) {
@@ -183,7 +186,7 @@ impl Replica {
 
     /// Looks at the slot of an op: an entry that was stored and can't be read is lost; the header sector of one that reads is written anew
     /// where it reads as something else. Nothing is looked at where no entry of the window is stored.
-    #[tactic(auto, using(crate::proofs::Visits::slot_nothing, crate::proofs::Memory::here_op))]
+    #[tactic(auto, using(crate::proofs::Visits::slot_nothing, crate::proofs::Visits::found_here, crate::proofs::Visits::found_nothing, crate::proofs::Memory::here_op))]
     pub fn visit_slot<D: SectorDisk>(
         &mut self,
         alloc: Global,
@@ -195,6 +198,7 @@ impl Replica {
         ensures ready { OnOk result (IsReady self.new) }
         ensures cause { Caused (D.faults disk.old) (D.faults disk.new) result }
         ensures step { Does (visit_slot op) self.old self.new (D.told disk.old) (D.told disk.new) out.old out.new (done result) }
+        ensures found { IfSome (D.told disk.old) (λ d. IfOk result (λ v. v ≡ found_at (part_at self.old op) d.face)) }
     {
         match self.part_at(op) {
             Part::Here(header) => self.visit_stored(alloc, disk, &header, out),

@@ -1,20 +1,16 @@
 -- What effects leave of the blocks of the grid, and of the copies of the superblock.
-use Rattle.std.proofs.Common.{arith, ℕ, zero, suc, ◌+◌, ◌*◌, ◌≡◌, ◌≢◌, ◌<◌, ◌≤◌, ◌∙◌, ◌⊎◌, inl, inr, refl, sym, ap, subst, Bool, true, false, cond, List, [], ◌∷◌, ◌++◌, length, take, drop, Option, Some, None, is_some}
+use Rattle.std.proofs.Common.{arith, ℕ, zero, suc, ◌+◌, ◌*◌, ◌≡◌, ◌≢◌, ◌<◌, ◌≤◌, ◌∙◌, ◌⊎◌, inl, inr, refl, sym, ap, subst, Bool, true, false, cond, List, [], ◌∷◌, ◌++◌, length, Option, Some, None, is_some}
 use Rattle.std.specs.Prelude.{nat_lt}
 use Rattle.std.specs.List.{AllByRecursion}
 use Rattle.std.specs.Option.{option_and_then}
 use Rattle.std.proofs.lemmas.Bool.{cases_eq, cases_lt, lt-ltb}
 use Rattle.std.proofs.lemmas.Nat.{mod_below}
-use Rattle.std.proofs.lemmas.List.{length-set, take_all}
-use Rattle.vr_base.specs.Bytes.{piece}
-use Rattle.vr_base.proofs.Places.{take_both}
 use Rattle.vr_disk.specs.DiskState as disk
-use Rattle.vr_disk.specs.DiskState.{Call, Cell, Face, Sync, reads}
+use Rattle.vr_disk.specs.DiskState.{Call, Face, Sync}
 use Rattle.vr_disk.specs.Regions.{block_place}
-use Rattle.vr_disk.specs.Sectors.{behind, has, together, writes}
+use Rattle.vr_disk.specs.Sectors.{behind, has, together}
 use Rattle.vr_disk.specs.Stops.{Spares}
-use Rattle.vr_disk.proofs.Frames.{frame_all, reads_back}
-use Rattle.vr_disk.proofs.Together.{after_all_append, has_is, length_after_all, spares_append, together_cons, together_same, together_synced, together_written, within_spares, writes_spare}
+use Rattle.vr_disk.proofs.Together.{after_all_append, has_is, length_after_all, spares_append, together_same, together_synced, within_spares}
 use Rattle.vr_grid.specs.Blocks.{named}
 use Rattle.vr_grid.specs.Grid.{block_calls, block_reading, named_at, put_calls}
 use Rattle.vr_grid.specs.declared.name.Name.{Name}
@@ -28,7 +24,7 @@ use Rattle.vr_super.specs.Copies.{IsGood, SuperValue, copy_bytes}
 use Rattle.vr_super.specs.Laws.{AllRead}
 use Rattle.vr_super.specs.Opens.{copy_reading}
 use Rattle.vr_super.proofs.Format.{length-copy_bytes}
-use Rattle.vr_super.proofs.Keeping.{copy_done}
+use Rattle.vr_super.proofs.Keeping.{copy_done, mend_done}
 use Rattle.vr_super.proofs.Readings.{copy_within, mend_within, other_after}
 use Rattle.vr_rules.specs.Lying.{lying}
 use Rattle.vr_rules.specs.Sectors.{block_in, calls_of, sectors}
@@ -170,21 +166,6 @@ saved_reads f old new long good =
     let start : ReadTo bytes 0 g = record { count = length_after_all (mend_calls old f) f ∙ long; done = λ c l. absurd (omega (arith, l)) } in
     let all = saves_read 4 0 bytes g (length-copy_bytes new good) (omega arith) start in
     λ c l. ap (λ (x : Face). copy_reading x c) (after_all_append (mend_calls old f) (save_from 0 4 bytes) f) ∙ all.done c l
-
--- the first sector of a copy, and then the others
-mend_done : (bytes : List ℕ) (f : Face) (c : ℕ) → length bytes ≡ 10240 → IsLong f → c < 4 → copy_reading (disk.after_all f (mend_copy c bytes)) c ≡ Some bytes
-unfolding copy_reading mend_copy piece
-mend_done bytes f c n l k =
-    let p = take 512 bytes in
-    let more = drop 512 bytes in
-    let g : Face = disk.after (disk.after f (disk.Write (20 * c) p)) Sync in
-    let h : Face = disk.after_all g (writes (20 * c + 1) 19 more) in
-    let joined : disk.after_all g (writes (20 * c + 1) 19 more ++ Sync ∷ []) ≡ disk.after h Sync = after_all_append (writes (20 * c + 1) 19 more) (Sync ∷ []) g in
-    let now : reads h (20 * c) ≡ Some p = ap (λ (x : Cell). x.reads) (frame_all (writes (20 * c + 1) 19 more) g (20 * c) (writes_spare 19 (20 * c + 1) (20 * c) more (omega arith))) ∙ reads_back f (20 * c) p (omega (arith, l, k)) in
-    let rest : together (20 * c + 1) 19 h ≡ Some (take (512 * 19) more) = together_written 19 (20 * c + 1) more g (rw length-set (omega (arith, l, k))) in
-    let whole : Some (p ++ take (512 * 19) more) ≡ Some bytes = ap Some (take_both 512 (512 * 19) bytes ∙ take_all (512 + 512 * 19) bytes (omega (arith, n))) in
-    ap (λ (x : Face). together (20 * c) 20 x) joined
-    ∙ (together_synced 20 (20 * c) h ∙ (together_cons 19 (20 * c) h ∙ (ap (λ o. behind o (together (20 * c + 1) 19 h)) now ∙ (ap (behind (Some p)) rest ∙ whole))))
 
 -- the copies after those read as they did
 record MendedTo (bytes : List ℕ) (f : Face) (k : ℕ) (g : Face) : Type 0 where

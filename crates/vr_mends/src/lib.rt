@@ -1,5 +1,5 @@
-//! A running replica never waits at an op whose entry is here, and copies that come complete it. Each function is a law: its contract is
-//! the statement, and it does nothing.
+//! A running replica never waits at an op whose entry is here, copies that come complete it, and visits of its disk find what doesn't read,
+//! which it then asks for. Each function is a law: its contract is the statement, and it does nothing.
 #![tactic(auto)]
 
 ghost use Rattle.vr_mends.specs.Asks.{ShortReplicasAsk};

@@ -1,5 +1,5 @@
 -- A visit of the disk, and a jump, have effects as the program has them.
-use Rattle.std.proofs.Common.{◌≡◌, refl, subst, ℕ, zero, suc, true, not, List, [], ◌∷◌, ◌++◌, length, map, Option, Some, None}
+use Rattle.std.proofs.Common.{◌≡◌, refl, subst, ℕ, zero, suc, not, List, [], ◌∷◌, ◌++◌, length, map, Option, Some, None}
 use Rattle.std.specs.Prelude.{All, nat_eq, nat_lt, slice_get, ◌-◌, ◌==◌, ◌&&◌}
 use Rattle.std.specs.List.{list_any}
 use Rattle.std.proofs.lemmas.Bool.{and_parts, cond_both, ltb-true}

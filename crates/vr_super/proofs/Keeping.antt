@@ -56,7 +56,7 @@ copy_done bytes f c n l k =
     let joined : after_all f (writes (20 * c) 20 bytes ++ Sync ∷ []) ≡ after g Sync = after_all_append (writes (20 * c) 20 bytes) (Sync ∷ []) f in
     ap (λ h. together (20 * c) 20 h) joined ∙ (together_synced 20 (20 * c) g ∙ (together_written 20 (20 * c) bytes f (omega arith) ∙ ap Some (take_all (512 * 20) bytes (omega arith))))
 
-mend_done : (bytes : List ℕ) (f : Face) (c : ℕ) → length bytes ≡ 10240 → length f.cells ≡ 1424 → c < 4 → copy_reading (after_all f (mend_copy c bytes)) c ≡ Some bytes
+pub mend_done : (bytes : List ℕ) (f : Face) (c : ℕ) → length bytes ≡ 10240 → length f.cells ≡ 1424 → c < 4 → copy_reading (after_all f (mend_copy c bytes)) c ≡ Some bytes
 unfolding copy_reading mend_copy
 mend_done bytes f c n l k =
     let p = piece 0 512 bytes in

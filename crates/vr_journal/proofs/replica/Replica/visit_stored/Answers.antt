@@ -1,0 +1,7 @@
+use Rattle.std.proofs.Common.{ap}
+use Rattle.std.specs.Prelude.{is_ok}
+use Rattle.vr_journal.proofs.Visits.{found_stored}
+use Rattle.vr_journal.proofs.replica.Replica.visit_stored.Goals as goal
+
+pub returns-in-Ok-clause-found : goal.returns-in-Ok-clause-found
+returns-in-Ok-clause-found g c = found_stored _ _ _ c.read_prepare.ensures.value _ _ c.read_prepare.ensures.told (ap is_ok c.in-Ok.is) c.mend_header.ensures.found
