@@ -14,7 +14,6 @@ ghost use Rattle.vr_header.specs.declared.part.Part.TheVariants.{Here};
 ghost use Rattle.vr_journal.specs.Ready.{IsReady, MayApply, HasApplied, due};
 
 use crate::Replica;
-use crate::reading::find_entry;
 use std::alloc::{AllocError, Global};
 use vr_apply::ReplyBody;
 use vr_base::{NoMemory, Replicas, Sum};
@@ -234,7 +233,7 @@ impl Replica {
         ensures cause { Caused (D.faults disk.old) (D.faults disk.new) result }
         ensures step { Does (with_entry apply_entry (Here header.now)) self.old self.new (D.told disk.old) (D.told disk.new) out.old out.new result }
     {
-        match find_entry(alloc, disk, header)? {
+        match self.find_entry(alloc, disk, header)? {
             Some(entry) => self.apply_entry(alloc, disk, entry, out),
             None => {
                 self.lose(header);

@@ -8,6 +8,7 @@ use std::alloc::Global;
 use vr_apply::State;
 use vr_base::{NoMemory, Replicas, Seq};
 use vr_ckpt::PayloadTable;
+use vr_disk::Buffer;
 use vr_grid::Name;
 use vr_header::Part;
 use vr_super::Super;
@@ -39,12 +40,6 @@ impl Replica {
         let f = value.fields();
         let first = first_of(&value);
         let count = count_of(&value);
-        let mut parts = Window::new(alloc)?;
-        parts.extend(Part::Nothing, count);
-        let mut ackers = Window::new(alloc)?;
-        ackers.extend(Replicas::none(), count);
-        let statements = Places::new(alloc, f.n)?;
-        let names = Names::new(alloc)?;
         Ok(Replica {
             cluster: f.cluster,
             index: f.replica,
@@ -58,23 +53,21 @@ impl Replica {
                 address: f.root_address,
                 sum: f.root_name,
             },
-            table: PayloadTable {
-                sessions: Seq::new(alloc),
-                keys: Seq::new(alloc),
-            },
+            table: PayloadTable::new(alloc),
             state: State::new(alloc),
             missing: Seq::new(alloc),
             first,
-            parts,
-            names,
-            ackers,
+            parts: Window::full(alloc, Part::Nothing, count)?,
+            names: Names::new(alloc)?,
+            ackers: Window::full(alloc, Replicas::none(), count)?,
             heard: Replicas::none(),
-            statements,
+            statements: Places::new(alloc, f.n)?,
             idle: 0,
             turn: 0,
             cursor: 0,
             worn: Seq::new(alloc),
             saved: value,
+            buffer: Buffer::new(alloc)?,
         })
     }
 }

@@ -28,7 +28,6 @@ pub use group::primary;
 pub use jumping::sync_log;
 pub use parts::{has_header, header_of, is_here, same_header};
 pub use places::Places;
-pub use reading::find_entry;
 pub use replica::Replica;
 pub use taking::Log;
 pub use visiting::Visit;

@@ -8,6 +8,7 @@ use std::marker::Model;
 use vr_apply::State;
 use vr_base::{NoMemory, Replicas};
 use vr_ckpt::PayloadTable;
+use vr_disk::Buffer;
 use vr_grid::{Name, NameList};
 use vr_header::{HeaderList, Part};
 use vr_msg::Statement;
@@ -40,6 +41,8 @@ pub struct Replica {
     pub(crate) cursor: u64,
     pub(crate) worn: NameList,
     pub(crate) saved: Super,
+    /// Room to read a slot or block into; what it holds between two reads is unspecified.
+    pub(crate) buffer: Buffer,
 }
 
 impl Model for Replica {

@@ -15,9 +15,9 @@ ghost use Rattle.vr_rules.specs.Words.{blocks_of, entry_of, header_read, mend_he
 ghost use Rattle.vr_step.specs.Does.{Caused, Does, Performs, done};
 
 use crate::Replica;
-use std::alloc::{AllocError, Global};
+use std::alloc::AllocError;
 use vr_ckpt::{Payload, worn};
-use vr_disk::{Buffer, DiskFault, SectorDisk};
+use vr_disk::{DiskFault, SectorDisk};
 use vr_grid::Name;
 use vr_header::{Header, Part};
 use vr_msg::Outbox;
@@ -159,10 +159,9 @@ impl Replica {
     }
 
     // The slot of an entry that is stored is looked at.
-    #[tactic(auto, using(crate::proofs::Visits::slot_read, crate::proofs::Visits::slot_lost, crate::proofs::Visits::found_stored, crate::proofs::Visits::found_lost, crate::proofs::Memory::readies, vr_step::proofs::Stepping::does_no_memory))]
+    #[tactic(auto, using(crate::proofs::Visits::slot_read, crate::proofs::Visits::slot_lost, crate::proofs::Visits::found_stored, crate::proofs::Visits::found_lost, crate::proofs::Memory::readies))]
     fn visit_stored<D: SectorDisk>(
         &mut self,
-        alloc: Global,
         disk: &mut D,
         header: &Header,
         out: &mut Outbox,
@@ -174,8 +173,7 @@ impl Replica {
         ensures step { Does (visit_slot header.now.op) self.old self.new (D.told disk.old) (D.told disk.new) out.old out.new (done result) }
         ensures found { IfSome (D.told disk.old) (λ d. IfOk result (λ v. v ≡ stored_as header.now (entry_of header.now sectors d.face) (header_in d.face (header.now.op % 64)))) }
     {
-        let mut buffer = Buffer::new(alloc)?;
-        match read_prepare(disk, (header.op % 64) as u32, header, &mut buffer) {
+        match read_prepare(disk, (header.op % 64) as u32, header, &mut self.buffer) {
             Ok(()) => self.mend_header(disk, header, out),
             Err(_) => {
                 self.lose(header);
@@ -189,7 +187,6 @@ impl Replica {
     #[tactic(auto, using(crate::proofs::Visits::slot_nothing, crate::proofs::Visits::found_here, crate::proofs::Visits::found_nothing, crate::proofs::Memory::here_op))]
     pub fn visit_slot<D: SectorDisk>(
         &mut self,
-        alloc: Global,
         disk: &mut D,
         op: u64,
         out: &mut Outbox,
@@ -201,7 +198,7 @@ impl Replica {
         ensures found { IfSome (D.told disk.old) (λ d. IfOk result (λ v. v ≡ found_at (part_at self.old op) d.face)) }
     {
         match self.part_at(op) {
-            Part::Here(header) => self.visit_stored(alloc, disk, &header, out),
+            Part::Here(header) => self.visit_stored(disk, &header, out),
             _ => Ok(Visit::Nothing),
         }
     }
@@ -249,7 +246,6 @@ impl Replica {
     #[tactic(auto, using(crate::proofs::Visits::block_bad, crate::proofs::Visits::block_good, crate::proofs::Visits::ready_worn, vr_step::proofs::Stepping::does_no_memory))]
     fn visit_block<D: SectorDisk>(
         &mut self,
-        alloc: Global,
         disk: &mut D,
         name: &Name,
         _out: &mut Outbox,
@@ -259,8 +255,7 @@ impl Replica {
         ensures cause { Caused (D.faults disk.old) (D.faults disk.new) result }
         ensures step { Does (visit_block (Some name.now)) self.old self.new (D.told disk.old) (D.told disk.new) _out.old _out.new result }
     {
-        let mut buffer = Buffer::new(alloc)?;
-        if worn(disk, name, &mut buffer) {
+        if worn(disk, name, &mut self.buffer) {
             self.add_worn(*name)?;
         }
         Ok(())
@@ -270,7 +265,6 @@ impl Replica {
     #[tactic(auto, using(crate::proofs::Visits::place_slot, crate::proofs::Visits::place_value, crate::proofs::Visits::place_block, crate::proofs::Visits::block_none, vr_step::proofs::Stepping::does_effect, vr_step::proofs::Stepping::does_effect_stopped))]
     fn visit_place<D: SectorDisk>(
         &mut self,
-        alloc: Global,
         disk: &mut D,
         at: u64,
         out: &mut Outbox,
@@ -282,7 +276,7 @@ impl Replica {
     {
         if at < 64 {
             let op = self.op_of_slot(at);
-            self.visit_slot(alloc, disk, op, out)?;
+            self.visit_slot(disk, op, out)?;
             return Ok(());
         }
         if at == 64 {
@@ -290,7 +284,7 @@ impl Replica {
             return Ok(());
         }
         match self.block_name((at - 65) as usize) {
-            Some(name) => self.visit_block(alloc, disk, &name, out),
+            Some(name) => self.visit_block(disk, &name, out),
             None => Ok(()),
         }
     }
@@ -298,12 +292,7 @@ impl Replica {
     /// Looks at the next place of the disk, one after the other and then from the front. While a block of the checkpoint is missing nothing
     /// is looked at.
     #[tactic(auto, using(crate::proofs::Visits::visit_then, crate::proofs::Visits::visit_stopped, crate::proofs::Visits::visit_none, crate::proofs::Visits::ready_moved))]
-    pub fn visit<D: SectorDisk>(
-        &mut self,
-        alloc: Global,
-        disk: &mut D,
-        out: &mut Outbox,
-    ) -> Result<(), Halt>
+    pub fn visit<D: SectorDisk>(&mut self, disk: &mut D, out: &mut Outbox) -> Result<(), Halt>
         requires ready { IsReady self.old }
         ensures ready { OnOk result (IsReady self.new) }
         ensures cause { Caused (D.faults disk.old) (D.faults disk.new) result }
@@ -311,7 +300,7 @@ impl Replica {
     {
         if self.is_loaded() {
             let at = self.place_now();
-            self.visit_place(alloc, disk, at, out)?;
+            self.visit_place(disk, at, out)?;
             self.go_on(at);
         }
         Ok(())

@@ -13,7 +13,7 @@ use crate::finding::{is_listed, recover_op};
 use std::alloc::Global;
 use vr_disk::{Buffer, SectorDisk};
 use vr_header::{Entry, Header, Part};
-use vr_journal::{Replica, find_entry};
+use vr_journal::Replica;
 use vr_msg::Outbox;
 use vr_step::Halt;
 
@@ -53,7 +53,7 @@ fn recover_old<D: SectorDisk>(
     ensures cause { Caused (D.faults disk.old) (D.faults disk.new) result }
     ensures step { Does (recover_old header.now) replica.old replica.new (D.told disk.old) (D.told disk.new) _out.old _out.new result }
 {
-    let found = find_entry(alloc, disk, header)?;
+    let found = replica.find_entry(alloc, disk, header)?;
     let part = old_part(header, &found);
     replica.put_part(header.op, part);
     Ok(())

@@ -12,7 +12,7 @@ use vr_base::{ByteList, NoMemory, Seq};
 use vr_disk::{BLOCK_SECTORS, SectorDisk, block_place, read_sectors};
 use vr_grid::{Name, is_block_of};
 use vr_header::{Entry, Header, Part};
-use vr_journal::{Replica, find_entry};
+use vr_journal::Replica;
 
 // Reads the entry of this header, which is stored; one that can't be read is lost.
 #[tactic(auto, using(crate::proofs::Reading::here_read, crate::proofs::Reading::here_lost, crate::proofs::Reading::here_made, vr_journal::proofs::Memory::readies))]
@@ -32,7 +32,7 @@ fn read_stored<D: SectorDisk>(
     ensures made { IfOk result (λ found. IfSome found (λ e. e.header.view ≤ replica.new.view)) }
     ensures reads { IfOk result (λ found. Reads header.now.op replica.old replica.new (D.told disk.old) (D.told disk.new) found) }
 {
-    match find_entry(alloc, disk, header)? {
+    match replica.find_entry(alloc, disk, header)? {
         Some(entry) => Ok(Some(entry)),
         None => {
             replica.lose(header);

@@ -9,7 +9,7 @@ use std::alloc::Global;
 use vr_base::NoMemory;
 use vr_disk::SectorDisk;
 use vr_header::{Entry, Header, Part};
-use vr_journal::{Replica, find_entry};
+use vr_journal::Replica;
 
 // Reads the entry of this header, which is stored; one that can't be read is lost.
 #[tactic(auto, using(crate::proofs::EntryReadings::found, vr_journal::proofs::Memory::readies))]
@@ -28,7 +28,7 @@ fn read_stored<D: SectorDisk>(
     ensures left { IfOk result (λ found. replica.new ≡ after_reading (Here header.now) found replica.old) }
     ensures kept { OnErr result (replica.new ≡ replica.old) }
 {
-    match find_entry(alloc, disk, header) {
+    match replica.find_entry(alloc, disk, header) {
         Ok(Some(entry)) => Ok(Some(entry)),
         Ok(None) => {
             replica.lose(header);

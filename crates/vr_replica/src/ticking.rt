@@ -49,7 +49,6 @@ pub fn decide_tick(replica: &Replica) -> Tick
 #[tactic(auto, using(vr_step::proofs::Stepping::steps))]
 fn look_and_ask<D: SectorDisk>(
     replica: &mut Replica,
-    alloc: Global,
     disk: &mut D,
     out: &mut Outbox,
 ) -> Result<(), Halt>
@@ -58,7 +57,7 @@ fn look_and_ask<D: SectorDisk>(
     ensures cause { Caused (D.faults disk.old) (D.faults disk.new) result }
     ensures step { Does (visit ⨾ ask) replica.old replica.new (D.told disk.old) (D.told disk.new) out.old out.new result }
 {
-    replica.visit(alloc, disk, out)?;
+    replica.visit(disk, out)?;
     ask(replica, disk, out)
 }
 
@@ -111,7 +110,7 @@ fn tick_primary<D: SectorDisk>(
 {
     replica.tell_commit(out)?;
     tell_first(replica, alloc, disk, out)?;
-    look_and_ask(replica, alloc, disk, out)
+    look_and_ask(replica, disk, out)
 }
 
 // ---- at a backup, and where the view isn't started
@@ -162,7 +161,7 @@ fn tick_backup<D: SectorDisk>(
         enter_next(replica, alloc, disk, out)
     } else {
         replica.idle_on();
-        look_and_ask(replica, alloc, disk, out)
+        look_and_ask(replica, disk, out)
     }
 }
 
@@ -184,7 +183,7 @@ fn tell_all<D: SectorDisk>(
 {
     replica.tell_change(out)?;
     speak(replica, alloc, disk, out)?;
-    look_and_ask(replica, alloc, disk, out)
+    look_and_ask(replica, disk, out)
 }
 
 // A replica whose view isn't started enters the next one after ten ticks; before, it tells of this one.
