@@ -208,8 +208,11 @@ module _ (cluster n : ℕ) (u : Setup) (run : List Played) (x : IsFollowed clust
   all_have d _ _ (goes g move moved later moves rest) sub have (suc k) p e =
       all_have (suc d) moved.group later rest (λ j q i. subst (λ z. slice_get run z ≡ Some q) (let z : d + suc j ≡ suc d + j = omega arith in z) (sub (suc j) q i)) (moved_have (d + 0) g move moved (sub zero _ refl) moves have) k p e
 
-  have_at : (t : ℕ) (p : Played) → slice_get run t ≡ Some p → AllHave log p.before
+  pub have_at : (t : ℕ) (p : Played) → slice_get run t ≡ Some p → AllHave log p.before
   have_at t p e = all_have 0 (fresh_group cluster n) run x.fit.of_run (λ k q i. subst (λ z. slice_get run z ≡ Some q) (let z : k ≡ 0 + k = omega arith in z) i) fresh_have t p e
+
+  pub have_after : (t : ℕ) (p : Played) → slice_get run t ≡ Some p → AllHave log p.moved.group
+  have_after t p e = moved_have t p.before p.move p.moved e (move_of (fresh_group cluster n) run x.fit.of_run t p e) (have_at t p e)
 
   -- ---- a reply
 

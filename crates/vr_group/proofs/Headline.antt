@@ -9,7 +9,7 @@ use Rattle.vr_rules.specs.Lying.{Lying, hazards}
 use Rattle.vr_rules.specs.World.{World, fresh_world, happen}
 use Rattle.vr_worlds.specs.Worlds.{IsLine}
 use Rattle.vr_unforged.proofs.Fresh.{schedules_are_runs}
-use Rattle.vr_one_log.proofs.Closing.{runs_safe}
+use Rattle.vr_one_log.proofs.Known.{one_log}
 use Rattle.vr_one_log.proofs.Traces.{keeps}
 use Rattle.vr_group.specs.Headline.{HasAsked, HaveAsked, IsJustMade, LinesKeepOneLog}
 use Rattle.vr_group.specs.Lines.{AreLinesOf, happening, happenings}
@@ -37,7 +37,7 @@ unfolding happen happenings
 lines_keep n ls few many short of asked names =
     let size : length (happenings ls) ≡ length ls = length-map ls happening in
     let m = schedules_are_runs n (happenings ls) few many (rw size short) (record { lines = lines_of n ls (omega (arith, few)) of asked; names = names }) in
-    keeps n few many (runs_safe 0 n) (happen hazards (fresh_world hazards n) (happenings ls)) m.0 m.1
+    keeps n few many (one_log 0 n) (happen hazards (fresh_world hazards n) (happenings ls)) m.0 m.1
 
 -- ---- in the midst of lines, each of the first of which has asked
 

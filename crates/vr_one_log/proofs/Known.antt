@@ -20,10 +20,11 @@ use Rattle.vr_agree.specs.Replied.{HasEntry}
 use Rattle.vr_agree.proofs.Backed.{at_end, one_whole}
 use Rattle.vr_agree.proofs.Fitting.{good_whole}
 use Rattle.vr_agree.proofs.Log.{is_log, the_log}
+use Rattle.vr_agree.proofs.Replies.{have_after, have_at}
 use Rattle.vr_agree.proofs.Truth.{safe_of_log}
 use Rattle.vr_follow.proofs.Following.{follows_it}
 use Rattle.vr_replied.proofs.Replying.{runs_reply}
-use Rattle.vr_one_log.specs.Laws.{HasOneLog, IsHashedOr, IsOfLog}
+use Rattle.vr_one_log.specs.Laws.{HasOneLog, HaveFolds, IsHashedOr, IsOfLog}
 
 -- the machine has committed it
 known_backed : (u : Setup) (g : group.Group) (s : Group Header) → Bridges u g s → (at : ℕ) (m : Member) (r : Replica) → Runs g at m r → (k : ℕ) (h : Header) → k ≤ r.commit → header_at r k ≡ Some h
@@ -56,7 +57,8 @@ pub one_log : (cluster n : ℕ) (run : List Played) → IsFitRun cluster n run �
 one_log cluster n run fit =
     let x = follows_it cluster n run fit in
     let y = x.followed in
-    let s = safe_of_log cluster n x.setup run y (runs_reply cluster n x.setup run y x.bridges) in
+    let z = runs_reply cluster n x.setup run y x.bridges in
+    let s = safe_of_log cluster n x.setup run y z in
     record {
       safe = s.0;
       before = λ t p is at m r runs.
@@ -65,4 +67,6 @@ one_log cluster n run fit =
       after = λ t p is at m r runs.
           let l = slice_get_within run t p is in
           subst (λ log. IsOfLog cluster run log r) (sym s.1) (of_log cluster n x.setup run y (suc t) (omega arith) p.moved.group (x.after t p is) at m r runs);
+      folds = λ never t p is.
+          (subst (λ log. HaveFolds log p.before) (sym s.1) (have_at cluster n x.setup run y z never t p is), subst (λ log. HaveFolds log p.moved.group) (sym s.1) (have_after cluster n x.setup run y z never t p is));
     }

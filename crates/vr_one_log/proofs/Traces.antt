@@ -27,7 +27,7 @@ use Rattle.vr_agree.specs.Followed.{IsFitRun}
 use Rattle.vr_agree.proofs.Sets.{get_in, in_get, in_left, in_right}
 use Rattle.vr_agree.proofs.Traces.{in_either, output_of_move}
 use Rattle.vr_unforged.proofs.Names.{contains_in}
-use Rattle.vr_one_log.specs.Laws.{KeepsOneLog}
+use Rattle.vr_one_log.specs.Laws.{HasOneLog, KeepsOneLog}
 use Rattle.vr_one_log.specs.Outputs.{IsCutByNacks, IsOnceInSession, IsPlaced, RestsOn}
 use Rattle.vr_one_log.proofs.Places.{in_said, matches, placed}
 
@@ -196,17 +196,19 @@ place_of run ws all number o e not =
 once : (log : List Whole) → IsOnceInSession log
 once log before between later d e is client request first second = each_once before between d e client request first second
 
-pub keeps : (n : ℕ) → 2 ≤ n → n ≤ 6 → ((run : List Played) → IsFitRun 0 n run → Safe 0 n run) → (h : Happened Lying) (m : IsMatched (fresh_group 0 n) h) → NoCollision (IsHashed m.run (root_header 0))
+pub keeps : (n : ℕ) → 2 ≤ n → n ≤ 6 → ((run : List Played) → IsFitRun 0 n run → HasOneLog 0 n run) → (h : Happened Lying) (m : IsMatched (fresh_group 0 n) h) → NoCollision (IsHashed m.run (root_header 0))
     → KeepsOneLog n h
-keeps n few many safe h m never =
+keeps n few many one h m never =
     let fit : IsFitRun 0 n m.run = record { number = omega arith; few = few; many = many; moves = m.reads; of_run = m.is } in
-    let s = safe m.run fit in
+    let o = one m.run fit in
+    let s = o.safe in
     let gs = run_outputs m.run in
     let all = to_run h.outputs gs m.said in
     record {
       matched = m;
       safe = s;
       names = never;
+      folds = λ t p is. (o.folds never t p is).1;
       rests = λ number o e. rests_aside n s.log m.run (take number h.outputs) o (λ not. rests n m.run s never (take number h.outputs) o (place_of m.run h.outputs m.said number o e not));
       lines = λ c d i j same. one_line 0 n m.run s never c d (said_in h.outputs gs m.said (output.Commit c) (λ a. a) (contains_in h.outputs (output.Commit c) i))
           (said_in h.outputs gs m.said (output.Commit d) (λ a. a) (contains_in h.outputs (output.Commit d) j)) same;

@@ -1,5 +1,5 @@
 -- One log: of every run of a group that was just made, and of every schedule of a group on disks that lie.
-use Rattle.std.specs.Prelude.{ℕ, ◌-◌, ◌^◌, ◌<◌, ◌≤◌, ◌≡◌, ◌⊎◌, List, ◌∷◌, length, Contains, slice_get, take, Some}
+use Rattle.std.specs.Prelude.{ℕ, ◌-◌, ◌^◌, ◌<◌, ◌≤◌, ◌≡◌, ◌⊎◌, false, List, ◌∷◌, length, Contains, slice_get, take, Some}
 use Rattle.vr_header.specs.declared.header.Header.{Header}
 use Rattle.vr_header.specs.Bodies.{operation_bytes}
 use Rattle.vr_header.specs.Made.{Whole}
@@ -12,13 +12,14 @@ use Rattle.vr_msg.specs.declared.output.Output.{Output}
 use Rattle.vr_msg.specs.declared.output.Output.TheVariants as output
 use Rattle.vr_rules.specs.Commitment.{IsCommitted}
 use Rattle.vr_rings.specs.Slots.{IsWhole}
-use Rattle.vr_rules.specs.Group.{Member, Played, Runs, fresh_group}
+use Rattle.vr_rules.specs.Group.{Group, Member, Played, Runs, fresh_group}
 use Rattle.vr_rules.specs.Lying.{Lying, hazards}
-use Rattle.vr_rules.specs.Replica.{Replica, header_at}
+use Rattle.vr_rules.specs.Replica.{Replica, header_at, is_frozen}
 use Rattle.vr_rules.specs.Safe.{IsHashed, KeepsEntry, Safe}
 use Rattle.vr_rules.specs.World.{Happened, Happening, Begins, fresh_world, happen, no_world}
 use Rattle.vr_worlds.specs.Worlds.{IsMatched}
 use Rattle.vr_unforged.specs.Schedules.{MayAll}
+use Rattle.vr_agree.specs.Answering.{HasState}
 use Rattle.vr_agree.specs.Followed.{IsFitRun}
 use Rattle.vr_one_log.specs.Outputs.{IsCutByNacks, IsOnceInSession, RestsOn}
 
@@ -37,11 +38,18 @@ pub record IsOfLog (cluster : ℕ) (run : List Played) (log : List Whole) (r : R
   pub read : (w : Whole) → IsWhole w → 0 < w.header.op → w.header.op ≤ r.commit → header_at r w.header.op ≡ Some w.header → NoCollision (IsHashedOr cluster run (operation_bytes w.operation))
       → slice_get log (w.header.op - 1) ≡ Some w
 
--- the log of a safe run is what each running member has before and after each move
+-- The state of each running member that misses no block is the plain fold of the log's first entries, as many as it has applied: whether it
+-- applied them itself or loaded a checkpoint, one that it made, or took over from another. Nothing is said of one whose sequence numbers are
+-- at their end, which ignores every event.
+abbrev pub HaveFolds : List Whole → Group → Type 0
+HaveFolds log g = (at : ℕ) (m : Member) (r : Replica) → Runs g at m r → is_frozen r ≡ false → HasState log r
+
+-- the log of a safe run is what each running member has before and after each move, and its state is made of it, where names don't collide
 pub record HasOneLog (cluster n : ℕ) (run : List Played) : Type 0 where
   pub safe : Safe cluster n run
   pub before : (t : ℕ) (p : Played) → slice_get run t ≡ Some p → (at : ℕ) (m : Member) (r : Replica) → Runs p.before at m r → IsOfLog cluster run safe.log r
   pub after : (t : ℕ) (p : Played) → slice_get run t ≡ Some p → (at : ℕ) (m : Member) (r : Replica) → Runs p.moved.group at m r → IsOfLog cluster run safe.log r
+  pub folds : NoCollision (IsHashed run (root_header cluster)) → (t : ℕ) (p : Played) → slice_get run t ≡ Some p → HaveFolds safe.log p.before × HaveFolds safe.log p.moved.group
 
 abbrev pub ReplicasHaveOneLog : Type 0
 ReplicasHaveOneLog = (cluster n : ℕ) (run : List Played) → IsFitRun cluster n run → HasOneLog cluster n run
@@ -53,6 +61,8 @@ pub record KeepsOneLog (n : ℕ) (h : Happened Lying) : Type 0 where
   pub safe : Safe 0 n matched.run
   -- names of what the run read and wrote don't collide
   pub names : NoCollision (IsHashed matched.run (root_header 0))
+  -- the state of each running replica is the plain fold of the log, also after it has taken over another's checkpoint
+  pub folds : (t : ℕ) (p : Played) → slice_get matched.run t ≡ Some p → HaveFolds safe.log p.moved.group
   -- commit lines, the commit numbers of messages, and replies rest on the log, and on what was put out before them
   pub rests : (number : ℕ) (o : Output) → slice_get h.outputs number ≡ Some o → RestsOn n safe.log matched.run (take number h.outputs) o
   -- two commit lines of one number are of one entry

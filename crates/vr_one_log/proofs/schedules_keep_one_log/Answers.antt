@@ -2,9 +2,9 @@ use Rattle.vr_rules.specs.Lying.{hazards}
 use Rattle.vr_rules.specs.World.{Begins, happen, no_world}
 use Rattle.std.specs.Prelude.{◌∷◌}
 use Rattle.vr_unforged.proofs.Fresh.{schedules_are_runs}
-use Rattle.vr_one_log.proofs.Closing.{runs_safe}
+use Rattle.vr_one_log.proofs.Known.{one_log}
 use Rattle.vr_one_log.proofs.Traces.{keeps}
 use Rattle.vr_one_log.proofs.schedules_keep_one_log.Goals as goal
 
 pub returns : goal.returns
-returns _ = λ n xs few many short may. let m = schedules_are_runs n xs few many short may in keeps n few many (runs_safe 0 n) (happen hazards no_world (Begins n ∷ xs)) m.0 m.1
+returns _ = λ n xs few many short may. let m = schedules_are_runs n xs few many short may in keeps n few many (one_log 0 n) (happen hazards no_world (Begins n ∷ xs)) m.0 m.1
