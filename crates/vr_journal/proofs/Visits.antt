@@ -27,7 +27,7 @@ use Rattle.vr_rules.proofs.Keeping.{sound_alike}
 use Rattle.vr_rules.proofs.SavesWell.{savable_alike}
 use Rattle.vr_journal.specs.Effects.{mends, rewrites}
 use Rattle.vr_journal.specs.Ready.{IsReady}
-use Rattle.vr_journal.specs.Visits.{found_at, is_new, read_as, reads_as, stored_as}
+use Rattle.vr_journal.specs.Visits.{found_at, is_new, good_or_mended, reads_as, stored_as}
 use Rattle.vr_journal.specs.declared.visiting.Visit.{Visit}
 use Rattle.vr_journal.specs.declared.visiting.Visit.TheVariants as seen
 
@@ -132,25 +132,25 @@ slot_nothing p op r d o e n = part_nothing p op r d o (sym e) n
 
 -- ---- what is answered
 
-pub found_good : (h : Header) (b : Bool) (d : Option Disk) → IfSome d (λ (y : Disk). b ≡ reads_as h (header_in y.face (h.op % 64))) → b ≡ true → IfSome d (λ (y : Disk). seen.Good ≡ read_as h (header_in y.face (h.op % 64)))
+pub found_good : (h : Header) (b : Bool) (d : Option Disk) → IfSome d (λ (y : Disk). b ≡ reads_as h (header_in y.face (h.op % 64))) → b ≡ true → IfSome d (λ (y : Disk). seen.Good ≡ good_or_mended h (header_in y.face (h.op % 64)))
 found_good h b None v t = tt
 found_good h b (Some y) v t = ap (λ (x : Bool). if x then seen.Good else seen.Mended) (sym t ∙ v)
 
-pub found_mended : (h : Header) (b : Bool) (d : Option Disk) → IfSome d (λ (y : Disk). b ≡ reads_as h (header_in y.face (h.op % 64))) → b ≡ false → IfSome d (λ (y : Disk). seen.Mended ≡ read_as h (header_in y.face (h.op % 64)))
+pub found_mended : (h : Header) (b : Bool) (d : Option Disk) → IfSome d (λ (y : Disk). b ≡ reads_as h (header_in y.face (h.op % 64))) → b ≡ false → IfSome d (λ (y : Disk). seen.Mended ≡ good_or_mended h (header_in y.face (h.op % 64)))
 found_mended h b None v t = tt
 found_mended h b (Some y) v t = ap (λ (x : Bool). if x then seen.Good else seen.Mended) (sym t ∙ v)
 
 module _ (h : Header) (ok : Bool) (d : Option Disk) (v : Tells h ok d) where
-  pub found_stored : (d' : Option Disk) (result : Result Visit Halt) → d' ≡ d → ok ≡ true → IfSome d' (λ (y : Disk). IfOk result (λ x. x ≡ read_as h (header_in y.face (h.op % 64))))
+  pub found_stored : (d' : Option Disk) (result : Result Visit Halt) → d' ≡ d → ok ≡ true → IfSome d' (λ (y : Disk). IfOk result (λ x. x ≡ good_or_mended h (header_in y.face (h.op % 64))))
       → IfSome d (λ (y : Disk). IfOk result (λ x. x ≡ stored_as h (entry_of h sectors y.face) (header_in y.face (h.op % 64))))
-  found_stored d' result same t k = at d v (subst (λ (z : Option Disk). IfSome z (λ (y : Disk). IfOk result (λ x. x ≡ read_as h (header_in y.face (h.op % 64))))) same k)
+  found_stored d' result same t k = at d v (subst (λ (z : Option Disk). IfSome z (λ (y : Disk). IfOk result (λ x. x ≡ good_or_mended h (header_in y.face (h.op % 64))))) same k)
     where
-      each : (y : Disk) (r : Result Visit Halt) → (e : Whole) × (entry_of h sectors y.face ≡ Some e) → IfOk r (λ x. x ≡ read_as h (header_in y.face (h.op % 64)))
+      each : (y : Disk) (r : Result Visit Halt) → (e : Whole) × (entry_of h sectors y.face ≡ Some e) → IfOk r (λ x. x ≡ good_or_mended h (header_in y.face (h.op % 64)))
           → IfOk r (λ x. x ≡ stored_as h (entry_of h sectors y.face) (header_in y.face (h.op % 64)))
       each y (Ok x) there k = k ∙ ap (λ (o : Option Whole). stored_as h o (header_in y.face (h.op % 64))) (sym there.1)
       each y (Err halt) there k = k
 
-      at : (z : Option Disk) → Tells h ok z → IfSome z (λ (y : Disk). IfOk result (λ x. x ≡ read_as h (header_in y.face (h.op % 64))))
+      at : (z : Option Disk) → Tells h ok z → IfSome z (λ (y : Disk). IfOk result (λ x. x ≡ good_or_mended h (header_in y.face (h.op % 64))))
           → IfSome z (λ (y : Disk). IfOk result (λ x. x ≡ stored_as h (entry_of h sectors y.face) (header_in y.face (h.op % 64))))
       at None v k = k
       at (Some y) v k =

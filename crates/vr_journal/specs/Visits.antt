@@ -21,13 +21,13 @@ reads_as h None = false
 reads_as h (Some f) = same_header f h
 
 -- of an entry that reads
-abbrev pub read_as : Header → Option Header → Visit
-read_as h f = if reads_as h f then visit.Good else visit.Mended
+abbrev pub good_or_mended : Header → Option Header → Visit
+good_or_mended h f = if reads_as h f then visit.Good else visit.Mended
 
 -- of an entry that was stored, which reads or doesn't
 abbrev pub stored_as : Header → Option Whole → Option Header → Visit
 stored_as h None f = visit.Lost
-stored_as h (Some e) f = read_as h f
+stored_as h (Some e) f = good_or_mended h f
 
 -- at the slot of an op of which this is known, on what the disk reads as
 abbrev pub found_at : Part → Face → Visit

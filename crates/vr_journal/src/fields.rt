@@ -3,17 +3,16 @@ ghost use Rattle.std.specs.Prelude.{◌≡◌, ◌<◌, ◌≤◌};
 ghost use Rattle.vr_base.specs.Bytes.{name_of};
 ghost use Rattle.vr_header.specs.Names.{header_name};
 ghost use Rattle.vr_rules.specs.Deciding.{is_from, is_from_primary, is_known, is_named, is_unknown};
-ghost use Rattle.vr_rules.specs.Replica.{ackers_at, header_at, is_primary, is_spent, is_started, leads};
+ghost use Rattle.vr_rules.specs.Replica.{header_at, is_primary, is_spent, is_started, leads};
 ghost use Rattle.vr_rules.specs.Words.{is_loaded};
 
 use crate::group::primary;
 use crate::parts::{header_of, same_header};
-use crate::{Places, Replica, Window};
+use crate::{Replica, Window};
 use vr_apply::State;
 use vr_base::{Config, Replicas, Sum};
-use vr_grid::{Name, NameList};
+use vr_grid::NameList;
 use vr_header::{Header, Part};
-use vr_msg::Statement;
 use vr_super::Super;
 
 // ---- as they stand
@@ -30,58 +29,60 @@ impl Replica {
         }
     }
 
+    /// The number of its group.
     pub fn cluster(&self) -> u64
         ensures { result ≡ self.now.cluster }
     {
         self.cluster
     }
 
+    /// Which of the group it is, from 0.
     pub fn index(&self) -> u8
         ensures { result ≡ self.now.index }
     {
         self.index
     }
 
+    /// How many replicas the group has, 2 to 6.
     pub fn n(&self) -> u8
         ensures { result ≡ self.now.n }
     {
         self.n
     }
 
+    /// The view that it is in.
     pub fn view(&self) -> u32
         ensures { result ≡ self.now.view }
     {
         self.view
     }
 
+    /// The view whose log it has.
     pub fn log_view(&self) -> u32
         ensures { result ≡ self.now.log_view }
     {
         self.log_view
     }
 
+    /// Its commit number: each op up to it is committed.
     pub fn commit(&self) -> u64
         ensures { result ≡ self.now.commit }
     {
         self.commit
     }
 
+    /// The greatest op that it has applied.
     pub fn applied(&self) -> u64
         ensures { result ≡ self.now.applied }
     {
         self.applied
     }
 
+    /// The op of its checkpoint, 0 where it has none.
     pub fn checkpoint(&self) -> u64
         ensures { result ≡ self.now.checkpoint }
     {
         self.checkpoint
-    }
-
-    pub fn root(&self) -> Name
-        ensures { result ≡ self.now.root }
-    {
-        self.root
     }
 
     /// The blocks of the checkpoint that were found bad.
@@ -91,12 +92,14 @@ impl Replica {
         &self.worn
     }
 
+    /// What the operations that it applied have come to.
     pub fn state(&self) -> &State
         ensures { result.now ≡ self.now.state }
     {
         &self.state
     }
 
+    /// The blocks of its checkpoint that it waits for, before it applies anything.
     pub fn missing(&self) -> &NameList
         ensures { result.now ≡ self.now.missing }
     {
@@ -110,34 +113,25 @@ impl Replica {
         self.first
     }
 
+    /// What is known of each op from `first` on, to the end of the window.
     pub fn parts(&self) -> &Window<Part>
         ensures { result.now ≡ self.now.parts }
     {
         &self.parts
     }
 
+    /// Which replicas have told that they entered its view.
     pub fn heard(&self) -> Replicas
         ensures { result ≡ self.now.heard }
     {
         self.heard
     }
 
-    pub fn statements(&self) -> &Places<Statement>
-        ensures { result.now ≡ self.now.statements }
-    {
-        &self.statements
-    }
-
+    /// How many ticks have gone by since it heard of its view's primary, or entered a view that isn't started.
     pub fn idle(&self) -> u64
         ensures { result ≡ self.now.idle }
     {
         self.idle
-    }
-
-    pub fn turn(&self) -> u8
-        ensures { result ≡ self.now.turn }
-    {
-        self.turn
     }
 
     /// The superblock's value as last saved or opened.
@@ -158,6 +152,7 @@ impl Replica {
         self.view == self.log_view
     }
 
+    /// Whether it is the primary of its view.
     pub fn is_primary(&self) -> bool
         requires { 0 < self.now.n }
         ensures { result ≡ is_primary self.now }
@@ -165,6 +160,7 @@ impl Replica {
         self.index == primary(self.n, self.view)
     }
 
+    /// Whether it is the primary of a view whose log it has.
     pub fn leads(&self) -> bool
         requires { 0 < self.now.n }
         ensures { result ≡ leads self.now }
@@ -247,14 +243,5 @@ impl Replica {
             Some(_) => false,
             None => true,
         }
-    }
-
-    /// Which replicas have acknowledged an op, in this view.
-    pub fn ackers_at(&self, op: u64) -> Replicas
-        requires { self.now.first ≤ op }
-        ensures { result ≡ ackers_at self.now op }
-    {
-        self.ackers
-            .get_or((op - self.first) as usize, Replicas::none())
     }
 }

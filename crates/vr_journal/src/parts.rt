@@ -13,6 +13,7 @@ use std::alloc::{AllocError, Global};
 use vr_base::Seq;
 use vr_header::{Header, HeaderList, Part};
 
+/// Whether the entry of the op is stored.
 pub fn is_here(part: &Part) -> bool
     ensures { result ≡ is_here part.now }
 {
@@ -22,6 +23,7 @@ pub fn is_here(part: &Part) -> bool
     }
 }
 
+/// Whether two headers are one, field by field.
 #[tactic(auto, unfolding(vr_header::specs::Same::same_header))]
 pub fn same_header(a: &Header, b: &Header) -> bool
     ensures { result ≡ same_header a.now b.now }
@@ -29,6 +31,7 @@ pub fn same_header(a: &Header, b: &Header) -> bool
     *a == *b
 }
 
+/// Whether the entry of the op may be on the disk.
 pub fn may_be_stored(part: &Part) -> bool
     ensures { result ≡ may_be_stored part.now }
 {
@@ -38,6 +41,7 @@ pub fn may_be_stored(part: &Part) -> bool
     }
 }
 
+/// The header of the op, where it is known.
 pub fn header_of(part: &Part) -> Option<Header>
     ensures { result ≡ header_of part.now }
 {
@@ -47,6 +51,7 @@ pub fn header_of(part: &Part) -> Option<Header>
     }
 }
 
+/// Whether the header of the op is known.
 pub fn has_header(part: &Part) -> bool
     ensures { result ≡ has_header part.now }
 {

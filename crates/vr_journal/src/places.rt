@@ -19,6 +19,7 @@ impl<T> Model for Places<T> {
 }
 
 impl<T> Places<T> {
+    /// How many places there are.
     pub fn len(&self) -> usize
         ensures { result ≡ length self.now }
     {

@@ -1,18 +1,19 @@
 //! A visit of the disk: one place is looked at, and mended where the replica can.
-ghost use Rattle.std.specs.Prelude.{◌≡◌, ◌<◌, ◌%◌, ◌^◌, ◌==◌, IfOk, IfSome, OnOk, Some, is_ok, length, map, slice_get};
+ghost use Rattle.std.specs.Prelude.{◌≡◌, ◌<◌, ◌%◌, ◌^◌, ◌==◌, IfErr, IfOk, IfSome, OnOk, Some, is_ok, length, map, slice_get};
 ghost use Rattle.std.specs.List.{list_any};
 ghost use Rattle.vr_base.specs.Causes.{HasCause};
 ghost use Rattle.vr_header.specs.declared.part.Part.TheVariants.{Here};
 ghost use Rattle.vr_ckpt.specs.declared.table.Payload.{Payload};
 ghost use Rattle.vr_journal.specs.Effects.{mends};
 ghost use Rattle.vr_journal.specs.Ready.{IsReady};
-ghost use Rattle.vr_journal.specs.Visits.{found_at, is_new, read_as, reads_as, stored_as};
+ghost use Rattle.vr_journal.specs.Visits.{found_at, is_new, good_or_mended, reads_as, stored_as};
 ghost use Rattle.vr_rings.specs.Slots.{header_in};
 ghost use Rattle.vr_rules.specs.Replica.{part_at};
 ghost use Rattle.vr_rules.specs.Sectors.{sectors};
 ghost use Rattle.vr_rules.specs.Steps.{reading};
 ghost use Rattle.vr_rules.specs.Words.{blocks_of, entry_of, header_read, mend_header, op_of_slot, place_now, places, visit, visit_block, visit_place, visit_slot, with_cursor, with_worn};
 ghost use Rattle.vr_step.specs.Does.{Caused, Does, Performs, done};
+ghost use Rattle.vr_step.specs.declared.halt.Halt.TheVariants as halt;
 
 use crate::Replica;
 use std::alloc::AllocError;
@@ -27,7 +28,7 @@ use vr_step::Halt;
 /// What a visit of a slot finds, and does.
 #[derive(Clone, Copy, Debug, PartialEq, Eq)]
 pub enum Visit {
-    /// No entry of the window is stored there.
+    /// No entry of the op is known to be stored.
     Nothing,
     /// Its entry can't be read, and is lost.
     Lost,
@@ -149,7 +150,8 @@ impl Replica {
     ) -> Result<Visit, Halt>
         ensures cause { Caused (D.faults disk.old) (D.faults disk.new) result }
         ensures step { Does (reading (header_read header.now.op) (mend_header header.now)) self.now self.now (D.told disk.old) (D.told disk.new) _out.old _out.new (done result) }
-        ensures found { IfSome (D.told disk.old) (λ d. IfOk result (λ v. v ≡ read_as header.now (header_in d.face (header.now.op % 64)))) }
+        ensures fault { IfErr result (λ why. why ≡ halt.DiskFault) }
+        ensures found { IfSome (D.told disk.old) (λ d. IfOk result (λ v. v ≡ good_or_mended header.now (header_in d.face (header.now.op % 64)))) }
     {
         if reads_as(disk, header) {
             return Ok(Visit::Good);
@@ -171,6 +173,7 @@ impl Replica {
         ensures ready { OnOk result (IsReady self.new) }
         ensures cause { Caused (D.faults disk.old) (D.faults disk.new) result }
         ensures step { Does (visit_slot header.now.op) self.old self.new (D.told disk.old) (D.told disk.new) out.old out.new (done result) }
+        ensures fault { IfErr result (λ why. why ≡ halt.DiskFault) }
         ensures found { IfSome (D.told disk.old) (λ d. IfOk result (λ v. v ≡ stored_as header.now (entry_of header.now sectors d.face) (header_in d.face (header.now.op % 64)))) }
     {
         match read_prepare(disk, (header.op % 64) as u32, header, &mut self.buffer) {
@@ -183,7 +186,8 @@ impl Replica {
     }
 
     /// Looks at the slot of an op: an entry that was stored and can't be read is lost; the header sector of one that reads is written anew
-    /// where it reads as something else. Nothing is looked at where no entry of the window is stored.
+    /// where it reads as something else. Nothing is looked at where no entry of the op is known to be stored. It takes no memory: an `Err` is a
+    /// write that failed.
     #[tactic(auto, using(crate::proofs::Visits::slot_nothing, crate::proofs::Visits::found_here, crate::proofs::Visits::found_nothing, crate::proofs::Memory::here_op))]
     pub fn visit_slot<D: SectorDisk>(
         &mut self,
@@ -195,6 +199,7 @@ impl Replica {
         ensures ready { OnOk result (IsReady self.new) }
         ensures cause { Caused (D.faults disk.old) (D.faults disk.new) result }
         ensures step { Does (visit_slot op) self.old self.new (D.told disk.old) (D.told disk.new) out.old out.new (done result) }
+        ensures fault { IfErr result (λ why. why ≡ halt.DiskFault) }
         ensures found { IfSome (D.told disk.old) (λ d. IfOk result (λ v. v ≡ found_at (part_at self.old op) d.face)) }
     {
         match self.part_at(op) {

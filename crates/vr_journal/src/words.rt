@@ -34,7 +34,7 @@ impl Replica {
         ensures cause { Caused (D.faults disk.old) (D.faults disk.new) result }
         ensures step { Does save self.old self.new (D.told disk.old) (D.told disk.new) _out.old _out.new result }
     {
-        // Each value makes a good copy.
+        // Asked for what its type keeps: a value makes a good copy.
         let _fields = value.fields();
         match self.save_value(disk, value) {
             Ok(()) => Ok(()),

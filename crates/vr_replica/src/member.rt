@@ -164,12 +164,14 @@ impl Replica {
         self.memory.config()
     }
 
+    /// The view that it is in.
     pub fn view(&self) -> u32
         ensures { result ≡ self.now.memory.view }
     {
         self.memory.view()
     }
 
+    /// Its commit number: each op up to it is committed.
     pub fn commit(&self) -> u64
         ensures { result ≡ self.now.memory.commit }
     {
