@@ -3,7 +3,7 @@
 # 999,999 events, the best of three, and instructions an event under valgrind --tool=callgrind at 10,000 and 100,000, beside those
 # that the functions of SHA-256 take. It ends with status 1 where the work an event grows: more than 1.2 times the instructions an
 # event at 100,000 as at 10,000.
-#   bench/soak.sh [SEED..]     the seeds 0, 3 and 7 where none is given (groups of 4, 2 and 6)
+#   bench/soak.sh [SEED..]     the seeds 0, 3 and 7 where none is given (groups of 4, 6 and 5)
 # Needs bash, awk, GNU time (/usr/bin/time) and valgrind.
 set -eu
 cd "$(dirname "$0")/.."
