@@ -10,7 +10,8 @@ use Rattle.vr_msg.specs.declared.frame.Frame.TheVariants as frame
 use Rattle.vr_msg.specs.declared.output.Output.{Output}
 use Rattle.vr_msg.specs.declared.output.Output.TheVariants as output
 use Rattle.vr_msg.specs.declared.output.Sent.{Sent}
-use Rattle.vr_msg.specs.Normal.{replication, same_sum}
+use Rattle.vr_msg.specs.Normal.{same_sum}
+use Rattle.vr_rules.specs.Replica.{replication}
 use Rattle.vr_rules.specs.Group.{Played}
 use Rattle.vr_protocol.specs.Basics.{In}
 use Rattle.vr_protocol.specs.Group.{Vouches}

@@ -6,7 +6,7 @@ use Rattle.vr_header.specs.Names.{header_name, name_by, root_by}
 use Rattle.vr_header.specs.NoCollision.{NoCollision}
 use Rattle.vr_header.specs.Spelling.{IsHeader, named_bytes}
 use Rattle.vr_header.proofs.NameLaws.{one_header}
-use Rattle.vr_msg.specs.Normal.{replication}
+use Rattle.vr_rules.specs.Replica.{replication}
 use Rattle.vr_rules.specs.Group.{Played}
 use Rattle.vr_rules.specs.Steps.{Write}
 use Rattle.vr_protocol.specs.Basics.{In}

@@ -50,7 +50,8 @@ use Rattle.vr_rules.proofs.Keeping.{Kept, sound_commit}
 use Rattle.vr_rules.proofs.Reacting.{may_store_next, kept_without, keeps_idler}
 use Rattle.vr_rules.proofs.Ruling.{by_rows, group_of, group_of_primary, may_store_prepare, may_store_given, keeps_acknowledged, keeps_heard, kept_statement, in_view, told_log}
 use Rattle.vr_rules.proofs.Storing.{MayStore}
-use Rattle.vr_rules.proofs.Taking.{IsLogFor, MayTake, may_take_is, kept_take}
+use Rattle.vr_rules.specs.Given.{IsLogFor}
+use Rattle.vr_rules.proofs.Taking.{MayTake, may_take_is, kept_take}
 use Rattle.vr_rules.proofs.Trying.{all_stated, chosen_log_is, decided_ends, keeps_speak}
 use Rattle.vr_rules.proofs.Wording.{keeps_rested, kept_rested, kept_enter, kept_write, kept_accept, keeps_prepare_again, keeps_resend, kept_load}
 use Rattle.vr_agree.specs.Answering.{Jumps}

@@ -6,7 +6,7 @@ use crate::Name;
 use vr_disk::{Buffer, SectorDisk};
 use vr_grid::read_block;
 
-/// Whether the block of this name can't be read whole. It takes no memory; where it can be read the buffer holds it then.
+/// Whether the block of this name can't be read whole. It takes no memory, and reads into the buffer.
 pub fn worn<D: SectorDisk>(disk: &mut D, name: &Name, to: &mut Buffer) -> bool
     ensures told { D.told disk.new ≡ D.told disk.old }
     ensures faults { D.faults disk.new ≡ D.faults disk.old }

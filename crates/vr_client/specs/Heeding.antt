@@ -1,12 +1,12 @@
 -- What a client makes of what comes.
-use Rattle.std.specs.Prelude.{ℕ, ◌%◌, ◌<◌, ⊤, Bool, if◌then◌else◌, nat_eq, Option, Some, None}
-use Rattle.std.specs.Cmp.Lexicographic.{pointwise}
+use Rattle.std.specs.Prelude.{ℕ, ◌%◌, ◌<◌, ⊤, if◌then◌else◌, Option, Some, None}
 use Rattle.vr_base.specs.declared.sum.Sum.{Sum}
 use Rattle.vr_mail.specs.declared.receiving.Letter.{Letter}
 use Rattle.vr_mail.specs.declared.receiving.ReceiveFault.{ReceiveFault}
 use Rattle.vr_mail.specs.declared.receiving.ReceiveFault.TheVariants as received
 use Rattle.vr_msg.specs.declared.frame.Frame.{Frame}
 use Rattle.vr_msg.specs.declared.frame.Frame.TheVariants as frame
+use Rattle.vr_msg.specs.Normal.{same_sum}
 use Rattle.vr_msg.specs.declared.reply.ReplyFields.{ReplyFields}
 use Rattle.vr_msg.specs.declared.reply.ReplyKind.{ReplyKind}
 use Rattle.vr_msg.specs.declared.reply.ReplyKind.TheVariants as reply
@@ -29,12 +29,9 @@ heed_kind n view reply.Evicted = Answered answer.Evicted
 heed_kind n view reply.Busy = Ignored
 heed_kind n view reply.Redirect = Moved (view % n)
 
-abbrev pub is_name : Sum → Sum → Bool
-is_name a b = pointwise nat_eq a.0 b.0
-
 -- a reply to a request of another name is ignored
 abbrev pub heed_reply : ℕ → Sum → ReplyFields → Heed
-heed_reply n name r = if is_name r.request_name name then heed_kind n r.view r.kind else Ignored
+heed_reply n name r = if same_sum r.request_name name then heed_kind n r.view r.kind else Ignored
 
 -- whatever isn't a reply is ignored
 abbrev pub heed_message : ℕ → Sum → Frame → Heed

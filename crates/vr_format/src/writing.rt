@@ -3,15 +3,15 @@ ghost use Rattle.std.specs.Prelude.{◌≡◌, ◌<◌, ◌∷◌, [], is_ok};
 ghost use Rattle.vr_base.specs.Causes.{HasCause};
 ghost use Rattle.vr_disk.specs.DiskState.{Runs, Write};
 ghost use Rattle.vr_disk.specs.Regions.{header_place};
-ghost use Rattle.vr_header.specs.Spelling.{IsHeader};
 ghost use Rattle.vr_rings.specs.Slots.{sector_of};
 ghost use Rattle.vr_rules.specs.Lying.{format_calls, reserved_header, reserved_headers, zero_prepares};
 ghost use Rattle.vr_rules.specs.Opening.{first_value};
 ghost use Rattle.vr_format.specs.Calls.{reserved_call};
 
-use vr_base::{Config, Sum, checksum, put};
+use vr_base::{Config, Sum, checksum};
 use vr_disk::{DiskFailed, DiskFault, Sector, SectorDisk, header_place};
-use vr_header::{Command, Header, Size, encode};
+use vr_header::{Command, Header, Size};
+use vr_rings::sector_of;
 use vr_super::Super;
 
 /// Writes zeros to all prepares.
@@ -48,16 +48,6 @@ fn reserved_header(cluster: u64, slot: u32) -> Header
         kind: 0,
         aux: 0,
     }
-}
-
-// The sector of a header.
-#[tactic(auto, using(vr_rings::proofs::Spelling::spelled_sector))]
-fn sector_of(header: &Header) -> Sector
-    ensures bytes { result.bytes ≡ sector_of header.now }
-{
-    let mut sector = Sector { bytes: [0; 512] };
-    put(&mut sector.bytes, 0, &encode(header));
-    sector
 }
 
 // Writes the header of a slot that has no entry yet.

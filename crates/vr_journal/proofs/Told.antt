@@ -9,10 +9,10 @@ use Rattle.vr_header.specs.declared.part.Part.TheVariants.{Nothing}
 use Rattle.vr_msg.specs.Forms.{IsDoViewChange, IsStartView, IsSyncView}
 use Rattle.vr_msg.specs.Logs.{FromOp, IsEntryAt, has_header}
 use Rattle.vr_rules.specs.Deciding.{reaches_down}
-use Rattle.vr_rules.specs.Replica.{Replica, head, last_view, part_at, run, run_start, statement_of}
+use Rattle.vr_rules.specs.Replica.{Replica, head, last_view, part_at, run, run_start, statement_of, knows}
 use Rattle.vr_rules.specs.Outputs.{send_to_all}
 use Rattle.vr_rules.specs.Sound.{IsSound}
-use Rattle.vr_rules.proofs.Heads.{Spans, head_from, head_knows, knows, known_within, prefix_reaches}
+use Rattle.vr_rules.proofs.Heads.{Spans, head_from, head_knows, known_within, prefix_reaches}
 use Rattle.vr_rules.proofs.Keeping.{spans_of}
 use Rattle.vr_rules.proofs.Storing.{head_number}
 use Rattle.vr_rules.proofs.Stating.{back, back_at, run_of, run_size, own_statement}

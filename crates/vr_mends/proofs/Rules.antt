@@ -44,7 +44,8 @@ use Rattle.vr_rules.proofs.Keeping.{Kept}
 use Rattle.vr_rules.proofs.Reacting.{keeps_idler, may_store_next}
 use Rattle.vr_rules.proofs.Ruling.{by_rows, group_of, group_of_primary, in_view, keeps_heard, kept_statement, may_store_given, may_store_prepare, told_log, told_sync}
 use Rattle.vr_rules.proofs.Storing.{MayStore}
-use Rattle.vr_rules.proofs.Taking.{IsLogFor, MayTake, kept_take, may_take_is}
+use Rattle.vr_rules.specs.Given.{IsLogFor}
+use Rattle.vr_rules.proofs.Taking.{MayTake, kept_take, may_take_is}
 use Rattle.vr_rules.proofs.Trying.{all_stated, chosen_log_is, decided_ends}
 use Rattle.vr_rules.proofs.Wording.{kept_accept, kept_enter, kept_rested, kept_write}
 use Rattle.vr_mends.specs.CaughtUp.{IsCaughtUp}

@@ -1,5 +1,5 @@
-//! The messages of the protocol, the events and outputs of a replica, what a replica's decisions read and give (`summary`, `choice`),
-//! and the definitions of each: forms, spelling, tables. The bytes of a message are read and written in `vr_codec`.
+//! The messages of the protocol, the events and outputs of a replica, the choice of a new view's log (`choice`), and the definitions of
+//! each: forms, spelling, numbers. The bytes of a message are read and written in `vr_codec`.
 #![tactic(auto)]
 
 mod choice;
@@ -12,7 +12,6 @@ mod output;
 mod reply;
 mod request;
 mod statement;
-mod summary;
 
 pub use choice::Choice;
 pub use event::Event;
@@ -25,4 +24,3 @@ pub use output::{Chosen, Committed, Outbox, Output, Sent, Started, Waiting};
 pub use reply::{Answered, Reply, ReplyFields, ReplyKind};
 pub use request::{Request, RequestFields};
 pub use statement::{DvcBody, Statement, SvBody};
-pub use summary::{Decision, Named, Summary};

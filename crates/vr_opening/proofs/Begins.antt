@@ -13,7 +13,8 @@ use Rattle.vr_rules.specs.Words.{with_saved, save}
 use Rattle.vr_rules.specs.Opening.{blank, in_next_view, leave_view, heard_itself, announce, going_on, resuming}
 use Rattle.vr_rules.proofs.Slots.{value_is}
 use Rattle.vr_rules.proofs.Openings.{partly_blank, kept_next}
-use Rattle.vr_rules.proofs.SavesFound.{lists_head, list_size, Lists}
+use Rattle.vr_rules.specs.Found.{Lists}
+use Rattle.vr_rules.proofs.SavesFound.{lists_head, list_size}
 use Rattle.vr_rules.proofs.SavesOpening.{savable_next}
 use Rattle.vr_rules.proofs.SavesCore.{value_is_good}
 use Rattle.vr_rules.proofs.SavesWell.{savable_alike, savable_saved}

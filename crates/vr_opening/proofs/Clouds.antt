@@ -16,7 +16,8 @@ use Rattle.vr_rules.specs.Steps.{change, each}
 use Rattle.vr_rules.specs.Sound.{IsSavable}
 use Rattle.vr_rules.specs.Opening.{recover_old, recover_op, recover_parts, old_headers, blank, first_listed, clouded, clouded_at, was_stored}
 use Rattle.vr_rules.proofs.Slots.{Value, value_is}
-use Rattle.vr_rules.proofs.Openings.{Partly, partly_spans, partly_clouded, opened_forgetting}
+use Rattle.vr_rules.specs.Found.{Partly}
+use Rattle.vr_rules.proofs.Openings.{partly_spans, partly_clouded, opened_forgetting}
 use Rattle.vr_rules.proofs.SavesFound.{clouded_known, found_topped, savable_found, savable_forgetting}
 use Rattle.vr_rules.proofs.SavesParts.{Topped, topped_forgetting}
 use Rattle.vr_step.specs.declared.halt.Halt.{Halt}

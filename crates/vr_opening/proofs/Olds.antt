@@ -13,15 +13,15 @@ use Rattle.vr_msg.specs.declared.output.Output.{Output}
 use Rattle.vr_msg.specs.Choice.{ops}
 use Rattle.vr_msg.specs.Logs.{has_header}
 use Rattle.vr_super.specs.Copies.{SuperValue, IsGood}
-use Rattle.vr_rules.specs.Replica.{Replica, with_part}
+use Rattle.vr_rules.specs.Replica.{Replica, with_part, knows}
 use Rattle.vr_rules.specs.Steps.{Setting, Step, Word, ◌⨾◌, each, when, quiet, after_all}
 use Rattle.vr_rules.specs.Sectors.{sectors}
 use Rattle.vr_rules.specs.Words.{entry_of}
 use Rattle.vr_rules.specs.Opening.{recover_old, recover_op, old_part, old_headers}
-use Rattle.vr_rules.proofs.Slots.{Right, value_is, IsOf}
+use Rattle.vr_rules.specs.Found.{IsOf, Lists}
+use Rattle.vr_rules.proofs.Slots.{Right, value_is}
 use Rattle.vr_rules.proofs.Openings.{first_is, partly_part, IsOld, old_right}
-use Rattle.vr_rules.proofs.SavesFound.{set_keeps, known_old, only_later, Lists}
-use Rattle.vr_rules.proofs.Heads.{knows}
+use Rattle.vr_rules.proofs.SavesFound.{set_keeps, known_old, only_later}
 use Rattle.vr_step.specs.declared.halt.Halt.{Halt}
 use Rattle.vr_step.specs.Does.{Finds, Does, LeftBy, Going}
 use Rattle.vr_opening.specs.Finding.{IsOpening, IsOpeningOld, DoesAt, recover_listed}

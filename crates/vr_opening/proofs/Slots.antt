@@ -23,7 +23,8 @@ use Rattle.vr_rules.specs.Replica.{Replica, with_part}
 use Rattle.vr_rules.specs.Steps.{Rewrite, change}
 use Rattle.vr_rules.specs.Opening.{Slot, slot_at, slot_verdict, entry_header, header_kind, entry_fits, is_listed, part_by, mend_slot, rewrite, recover_op, blank}
 use Rattle.vr_rules.proofs.Slots.{Right, value_is, slot_right}
-use Rattle.vr_rules.proofs.Openings.{Partly, first_is, partly_part}
+use Rattle.vr_rules.specs.Found.{Partly}
+use Rattle.vr_rules.proofs.Openings.{first_is, partly_part}
 use Rattle.vr_rules.proofs.SavesFound.{set_keeps}
 use Rattle.vr_msg.specs.declared.output.Output.{Output}
 use Rattle.vr_step.specs.declared.halt.Halt.{Halt}

@@ -12,13 +12,10 @@ use Rattle.vr_recover.specs.declared.readings.PrepareReading.TheVariants as prep
 use Rattle.vr_recover.specs.declared.readings.Verdict.{Verdict}
 use Rattle.vr_recover.specs.declared.readings.Verdict.TheVariants as verdict
 use Rattle.vr_recover.specs.Verdict.{verdict_of}
-use Rattle.vr_rules.specs.Replica.{Replica}
+use Rattle.vr_rules.specs.Replica.{Replica, knows}
 use Rattle.vr_rules.specs.Steps.{Word, quiet, when}
 use Rattle.vr_rules.specs.Opening.{may_be, is_listed, listed, header_kind, some_part, Slot, slot_at, entry_header, rewrite, recover_old, clouded_part, was_stored}
-use Rattle.vr_rules.proofs.Heads.{knows}
-use Rattle.vr_rules.proofs.Slots.{Reads}
-use Rattle.vr_rules.proofs.Openings.{Partly}
-use Rattle.vr_rules.proofs.SavesFound.{Lists}
+use Rattle.vr_rules.specs.Found.{Reads, Partly, Lists}
 use Rattle.std.specs.Prelude.{slice_get, slice_index_or, map, ◌++◌, Result}
 use Rattle.std.specs.List.{list_any, range_with_len}
 use Rattle.vr_msg.specs.declared.output.Output.{Output}

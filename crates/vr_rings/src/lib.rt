@@ -9,7 +9,7 @@ mod reading;
 mod slot;
 mod writing;
 
-pub use bytes::{header_of, header_sector, whole_of};
+pub use bytes::{header_of, header_sector, sector_of, whole_of};
 pub use fault::Bad;
 pub use finding::find_entry;
 pub use laws::slot_laws;

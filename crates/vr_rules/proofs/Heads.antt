@@ -9,7 +9,7 @@ use Rattle.vr_header.specs.declared.header.Header.{Header}
 use Rattle.vr_header.specs.declared.part.Part.{Part}
 use Rattle.vr_header.specs.declared.part.Part.TheVariants.{Nothing}
 use Rattle.vr_msg.specs.Logs.{header_of, has_header}
-use Rattle.vr_rules.specs.Replica.{Replica, part_at, head, forgetting, with_part}
+use Rattle.vr_rules.specs.Replica.{Replica, part_at, head, forgetting, with_part, knows}
 
 -- ---- lists
 
@@ -38,9 +38,6 @@ part_before r k l = rw (lt-ltb k r.first l) refl
 
 pub part_past : (r : Replica) (k : ℕ) → r.first + length r.parts ≤ k → part_at r k ≡ Nothing
 part_past r k l = part_within r k (omega arith) ∙ get_or_past r.parts (k - r.first) Nothing (omega arith)
-
-abbrev pub knows : Replica → ℕ → Bool
-knows r k = has_header (part_at r k)
 
 -- what is known lies within the lists
 pub known_within : (r : Replica) (k : ℕ) → Spans r → knows r k ≡ true → (r.first ≤ k) × (k ≤ r.checkpoint + 64)

@@ -22,16 +22,9 @@ use Rattle.vr_rules.specs.Sound.{IsSound}
 use Rattle.vr_rules.proofs.Heads.{Spans, knows_some, known_within, head_within, head_reaches, part_within}
 use Rattle.vr_rules.proofs.Keeping.{Kept, Roomy, sound_forgetting, rises_forgetting}
 use Rattle.vr_rules.proofs.Combining.{KeptBy, kept_change_then}
-use Rattle.vr_rules.proofs.Taking.{IsLogFor, log_header_is, log_reaches, newer_view, replaced_header, later}
+use Rattle.vr_rules.specs.Given.{IsSyncFor}
+use Rattle.vr_rules.proofs.Taking.{log_header_is, log_reaches, newer_view, replaced_header, later}
 use Rattle.vr_rules.proofs.Wording.{none_stated, keeps_save}
-
--- the log of a view of this replica's group, with a checkpoint within it
-pub record IsSyncFor (r : Replica) (v : SyncView) : Type 0 where
-  pub log : IsLogFor r (sync_log v)
-  pub within : (v.body.lo < v.checkpoint) × (v.checkpoint ≤ v.commit)
-  pub every : v.checkpoint % 32 ≡ 0
-  pub short : length v.body.headers ≤ 64
-  pub head : IsNumber v.head
 
 -- what the test says
 pub record MayJump (v : SyncView) (r : Replica) : Type 0 where

@@ -25,10 +25,11 @@ use Rattle.vr_rules.specs.Words.{entry_of, save, load, apply}
 use Rattle.vr_rules.specs.Opening.{first_listed, blank, Slot, slot_at, slot_verdict, entry_header, part_by, rewrite, mend_slot, recover_op, old_part, recover_old, clouded_part, clouded_at, clouded, stored_above, is_listed, recover_parts, in_next_view, leave_view, heard_itself, announce, opening, going_on, resuming}
 use Rattle.vr_rules.specs.Sound.{IsSound}
 use Rattle.vr_rules.specs.Laws.{IsMending, ReadsHeaders, OpeningsAreSound}
-use Rattle.vr_rules.proofs.Heads.{Spans, knows, part_within, part_before, known_within, knows_some, head_within, head_reaches, with_part_at, with_part_other, remade, remade_at, remade_known, forgetting_checkpoint}
+use Rattle.vr_rules.proofs.Heads.{Spans, part_within, part_before, known_within, knows_some, head_within, head_reaches, with_part_at, with_part_other, remade, remade_at, remade_known, forgetting_checkpoint}
 use Rattle.vr_rules.proofs.Keeping.{Kept, Roomy, sound_view, sound_forgetting}
 use Rattle.vr_rules.proofs.Combining.{Keeps, kept_then, keeps_then, keeps_says, keeps_change, keeps_by, keeps_when}
-use Rattle.vr_rules.proofs.Slots.{Value, value_is, IsOf, Reads, Right, right_header, slot_right}
+use Rattle.vr_rules.specs.Found.{IsOf, Reads, Partly}
+use Rattle.vr_rules.proofs.Slots.{Value, value_is, Right, right_header, slot_right}
 use Rattle.vr_rules.proofs.Wording.{kept_alike, keeps_save, keeps_apply, kept_load, none_stated}
 
 -- ---- disks that are mended
@@ -45,12 +46,6 @@ unfolding after_all
 reads_slot s f k h = record { header = λ g e. h.header [] tt (k % 64) g (omega arith) e; entry = λ e i. h.entry [] tt (k % 64) e (omega arith) i }
 
 -- ---- a replica whose Parts are found up to an op
-
-pub record Partly (v : SuperValue) (reached : ℕ) (r : Replica) : Type 0 where
-  pub is : r ≡ record (blank v) { parts = r.parts }
-  pub size : length r.parts ≡ v.fields.checkpoint + 65 - first_listed v
-  pub entries : (k : ℕ) (h : Header) → header_of (part_at r k) ≡ Some h → IsOf v k h
-  pub known : (k : ℕ) → v.fields.checkpoint < k → k ≤ reached → k ≤ v.fields.head → knows r k ≡ true
 
 pub first_is : (v : SuperValue) (n : ℕ) (r : Replica) → Partly v n r → r.first ≡ first_listed v
 unfolding blank

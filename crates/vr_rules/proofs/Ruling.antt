@@ -38,8 +38,9 @@ use Rattle.vr_rules.proofs.Heads.{known_within, knows_some}
 use Rattle.vr_rules.proofs.Keeping.{Kept, kept_more, spans_of, sound_ackers, sound_view}
 use Rattle.vr_rules.proofs.Combining.{KeptBy, Keeps, kept_then, kept_change_then, kept_by, kept_naming, kept_when, keeps_then, keeps_quiet, keeps_says, keeps_change, keeps_by, keeps_when, keeps_each}
 use Rattle.vr_rules.proofs.Storing.{MayStore}
-use Rattle.vr_rules.proofs.Taking.{IsLogFor, may_take_is, kept_take}
-use Rattle.vr_rules.proofs.Jumping.{IsSyncFor, may_jump_is, kept_jump}
+use Rattle.vr_rules.specs.Given.{IsLogFor, IsSyncFor}
+use Rattle.vr_rules.proofs.Taking.{may_take_is, kept_take}
+use Rattle.vr_rules.proofs.Jumping.{may_jump_is, kept_jump}
 use Rattle.vr_rules.proofs.Trying.{from_at, keeps_try, keeps_speak}
 use Rattle.vr_rules.proofs.Wording.{kept_alike, keeps_rested, kept_rested, kept_enter, kept_write, kept_accept, keeps_with_entry_at, keeps_apply, keeps_advance, keeps_learn, keeps_resend}
 

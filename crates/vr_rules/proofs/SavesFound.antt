@@ -12,16 +12,17 @@ use Rattle.vr_msg.specs.Logs.{has_header}
 use Rattle.vr_recover.specs.declared.readings.Verdict.{Verdict}
 use Rattle.vr_recover.specs.declared.readings.Verdict.TheVariants as verdict
 use Rattle.vr_super.specs.Copies.{SuperValue, IsGood, good_fields, good_member, good_window, good_root, good_count}
-use Rattle.vr_rules.specs.Replica.{Replica, head, forgetting, with_part}
+use Rattle.vr_rules.specs.Replica.{Replica, head, forgetting, with_part, knows}
 use Rattle.vr_rules.specs.Steps.{Setting, ◌⨾◌, quiet, change, does, reading, each, after_all}
 use Rattle.vr_rules.specs.Words.{entry_of}
 use Rattle.vr_rules.specs.Opening.{Slot, blank, old_part, recover_old, recover_op, old_headers, slot_at, slot_verdict, part_by, mend_slot, rewrite, entry_header, clouded, clouded_at, recover_parts}
 use Rattle.vr_rules.specs.Sound.{IsSavable}
 use Rattle.vr_rules.specs.Laws.{ReadsHeaders}
-use Rattle.vr_rules.proofs.Heads.{knows, known_within, head_from, head_knows, head_reaches, with_part_at, with_part_other, remade_at}
+use Rattle.vr_rules.proofs.Heads.{known_within, head_from, head_knows, head_reaches, with_part_at, with_part_other, remade_at}
 use Rattle.vr_rules.proofs.Taking.{log_reaches}
-use Rattle.vr_rules.proofs.Slots.{Value, IsOf}
-use Rattle.vr_rules.proofs.Openings.{Partly, partly_spans, first_is, found_op, found_old, found_olds, found_ops, partly_blank, partly_clouded, clouded_header, IsOld}
+use Rattle.vr_rules.specs.Found.{IsOf, Partly, Lists}
+use Rattle.vr_rules.proofs.Slots.{Value}
+use Rattle.vr_rules.proofs.Openings.{partly_spans, first_is, found_op, found_old, found_olds, found_ops, partly_blank, partly_clouded, clouded_header, IsOld}
 use Rattle.vr_rules.proofs.SavesParts.{Topped, topped_forgetting}
 
 pub known_old : (h : Header) (o : Option Whole) → has_header (old_part h o) ≡ true
@@ -38,10 +39,6 @@ set_keeps c k p r a b is e =
         | inr same ↦ absurd (other same)
       ]
     ]
-
--- a header of the list has this op
-abbrev pub Lists : ℕ → List Header → Type 0
-Lists c hs = (i : ℕ) × (h : Header) × (slice_get hs i ≡ Some h) × (h.op ≡ c)
 
 old_known : {F : Type 0} (v : SuperValue) (h : Header) (s : Setting F) (r : Replica) (f : F) → Value v → IsOld v h → h.op ≤ v.fields.checkpoint → Partly v v.fields.checkpoint r
     → (knows r v.fields.checkpoint ≡ true) ⊎ (v.fields.checkpoint ≡ h.op) → knows (recover_old h s r f).replica v.fields.checkpoint ≡ true

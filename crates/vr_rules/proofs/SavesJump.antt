@@ -3,12 +3,13 @@ use Rattle.std.proofs.Common.{arith, ◌≡◌, ◌<◌, ◌+◌, ◌-◌, ◌^�
 use Rattle.std.proofs.lemmas.Bool.{cases_lt, le-leb, lt-leb}
 use Rattle.vr_msg.specs.declared.frame.SyncView.{SyncView}
 use Rattle.vr_msg.specs.Logs.{has_header}
-use Rattle.vr_rules.specs.Replica.{Replica, head, forgetting}
+use Rattle.vr_rules.specs.Replica.{Replica, head, forgetting, knows}
 use Rattle.vr_rules.specs.Words.{jumped, jumped_part}
 use Rattle.vr_rules.specs.Sound.{IsNameBytes, IsSound, IsSavable}
-use Rattle.vr_rules.proofs.Heads.{Spans, knows, head_from, head_knows}
+use Rattle.vr_rules.proofs.Heads.{Spans, head_from, head_knows}
 use Rattle.vr_rules.proofs.Taking.{log_reaches}
-use Rattle.vr_rules.proofs.Jumping.{IsSyncFor, MayJump, landed, landed_at, landed_spans}
+use Rattle.vr_rules.specs.Given.{IsSyncFor}
+use Rattle.vr_rules.proofs.Jumping.{MayJump, landed, landed_at, landed_spans}
 use Rattle.vr_rules.proofs.SavesParts.{Topped, topped_forgetting}
 
 -- the checkpoint's own header is among those of the log

@@ -8,13 +8,14 @@ use Rattle.vr_header.specs.declared.part.Part.{Part}
 use Rattle.vr_header.specs.declared.part.Part.TheVariants.{Here, Lost}
 use Rattle.vr_header.specs.Made.{Whole}
 use Rattle.vr_msg.specs.Logs.{header_of, has_header}
-use Rattle.vr_rules.specs.Replica.{Replica, part_at, head, header_at, forgetting, with_part}
+use Rattle.vr_rules.specs.Replica.{Replica, part_at, head, header_at, forgetting, with_part, knows}
 use Rattle.vr_rules.specs.Words.{Log, stored, lost, entered, with_checkpoint, taken, taken_part, fits, is_newer, is_chain, may_take}
 use Rattle.vr_rules.specs.Sound.{IsNameBytes, IsSound, IsSavable}
-use Rattle.vr_rules.proofs.Heads.{Spans, knows, known_within, head_from, head_knows, head_least, head_reaches, with_part_spans, forgetting_at, forgetting_head, remade_at}
+use Rattle.vr_rules.proofs.Heads.{Spans, known_within, head_from, head_knows, head_least, head_reaches, with_part_spans, forgetting_at, forgetting_head, remade_at}
 use Rattle.vr_rules.proofs.Keeping.{spans_of}
 use Rattle.vr_rules.proofs.Storing.{MayStore, with_part_known, moved, moved_at, moved_head}
-use Rattle.vr_rules.proofs.Taking.{IsLogFor, MayTake, over, over_at, over_spans, taken_known}
+use Rattle.vr_rules.specs.Given.{IsLogFor}
+use Rattle.vr_rules.proofs.Taking.{MayTake, over, over_at, over_spans, taken_known}
 
 abbrev pub Topped : Replica → Type 0
 Topped r = 0 < head r → knows r (head r) ≡ true

@@ -28,8 +28,8 @@ use Rattle.vr_rules.specs.Laws.{IsGoodSave, SavesRoots}
 use Rattle.vr_rules.proofs.Keeping.{Kept, sound_commit}
 use Rattle.vr_rules.proofs.Combining.{Keeps, keeps_change}
 use Rattle.vr_rules.proofs.Wording.{kept_load}
-use Rattle.vr_rules.proofs.Taking.{IsLogFor}
-use Rattle.vr_rules.proofs.Jumping.{IsSyncFor, MayJump}
+use Rattle.vr_rules.specs.Given.{IsLogFor, IsSyncFor}
+use Rattle.vr_rules.proofs.Jumping.{MayJump}
 use Rattle.vr_rules.proofs.Trying.{chosen_log_is, all_stated, decided_ends}
 use Rattle.vr_rules.proofs.SavesWell.{Well, GoodBy, Good, well_less, well_alike, body, good_then, good_change_then, good_says_then, good_by, good_naming, good_if, good_when, goods_then, goods_says, goods_change, goods_by, goods_if, goods_when, goods_each, goods_save}
 use Rattle.vr_rules.proofs.SavesWords.{well_taken, well_jumped, goods_tell, goods_rest, goods_prepare_again, goods_apply}

@@ -25,10 +25,11 @@ use Rattle.vr_rules.specs.Laws.{SavesRoots}
 use Rattle.vr_rules.proofs.Combining.{Keeps, keeps_change}
 use Rattle.vr_rules.proofs.Storing.{MayStore, kept_stored, kept_lost, kept_moved, kept_applied}
 use Rattle.vr_rules.proofs.Wording.{kept_alike, keeps_rested, kept_entered}
-use Rattle.vr_rules.proofs.Taking.{IsLogFor, may_take_is, kept_taken}
+use Rattle.vr_rules.specs.Given.{IsLogFor, IsSyncFor}
+use Rattle.vr_rules.proofs.Taking.{may_take_is, kept_taken}
 use Rattle.vr_rules.proofs.SavesWell.{Well, GoodBy, Good, well_less, well_alike, savable_alike, body, good_change_then, good_says_then, good_does_then, good_change, good_quiet, good_by, good_reading, good_if, good_when, goods_more, goods_then, goods_quiet, goods_says, goods_change, goods_by, goods_naming, goods_if, goods_when, goods_times, goods_save, goods_does, goods_reading}
 use Rattle.vr_rules.proofs.Visiting.{keeps_with_worn, keeps_with_cursor, keeps_not_worn}
-use Rattle.vr_rules.proofs.Jumping.{IsSyncFor, MayJump, kept_jumped}
+use Rattle.vr_rules.proofs.Jumping.{MayJump, kept_jumped}
 use Rattle.vr_rules.proofs.SavesJump.{savable_jumped}
 use Rattle.vr_rules.proofs.SavesParts.{savable_stored, savable_lost, savable_entered, savable_move, topped_moved, savable_taken}
 

@@ -23,6 +23,7 @@ use Rattle.vr_super.specs.Copies.{SuperValue, IsGood, are_listed, first_op, good
 use Rattle.vr_super.specs.Copies as copies
 use Rattle.vr_rules.specs.Opening.{first_listed, listed, is_listed, is_right, may_be, Slot, header_kind, entry_fits, slot_verdict, some_part, entry_header, part_by}
 use Rattle.vr_rules.proofs.Taking.{log_reaches}
+use Rattle.vr_rules.specs.Found.{IsOf, Reads}
 
 -- ---- a value that makes a good copy
 
@@ -121,15 +122,6 @@ value_is v g =
     }
 
 -- ---- a slot
-
--- of an op's header: it is that of an entry for it, of the last log view at most
-abbrev pub IsOf : SuperValue → ℕ → Header → Type 0
-IsOf v k h = IsHeader h × IsEntryAt v.fields.cluster v.fields.log_view k h
-
--- what reads has the values that a header has
-pub record Reads (x : Slot) : Type 0 where
-  pub header : (h : Header) → x.header ≡ Some h → IsHeader h
-  pub entry : (e : Whole) → x.entry ≡ Some e → IsHeader e.header
 
 listed_header : (v : SuperValue) (k : ℕ) (h : Header) → Value v → listed v k ≡ Some h → IsOf v k h
 listed_header v k h w e =

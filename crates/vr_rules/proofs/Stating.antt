@@ -11,9 +11,9 @@ use Rattle.vr_header.specs.declared.part.Part.TheVariants.{Here, Lost, Wanted, U
 use Rattle.vr_header.specs.Spelling.{IsHeader}
 use Rattle.vr_msg.specs.Logs.{FromOp, IsEntryAt, IsPartAt, has_header, header_of}
 use Rattle.vr_msg.specs.Spelling.{AreHeaders}
-use Rattle.vr_rules.specs.Replica.{Replica, part_at, parts_from, head, run, run_start, is_nothing, trimmed, statement_of}
+use Rattle.vr_rules.specs.Replica.{Replica, part_at, parts_from, head, run, run_start, is_nothing, trimmed, statement_of, knows}
 use Rattle.vr_rules.specs.Sound.{IsStated, IsSound}
-use Rattle.vr_rules.proofs.Heads.{prefix_reaches, knows, part_within, head_from, head_within, head_knows, head_stops}
+use Rattle.vr_rules.proofs.Heads.{prefix_reaches, part_within, head_from, head_within, head_knows, head_stops}
 use Rattle.vr_rules.proofs.Keeping.{spans_of}
 use Rattle.vr_rules.proofs.Storing.{head_number}
 

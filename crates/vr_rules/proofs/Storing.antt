@@ -14,11 +14,11 @@ use Rattle.vr_header.specs.declared.part.Part.TheVariants.{Here, Lost, Nothing}
 use Rattle.vr_header.specs.Made.{Whole}
 use Rattle.vr_header.specs.Spelling.{IsHeader}
 use Rattle.vr_msg.specs.Logs.{IsEntryAt, has_header, header_of}
-use Rattle.vr_rules.specs.Replica.{Replica, part_at, head, with_part}
+use Rattle.vr_rules.specs.Replica.{Replica, part_at, head, with_part, knows}
 use Rattle.vr_rules.specs.Words.{applied, lost, stored, with_checkpoint}
 use Rattle.vr_rules.specs.Sound.{IsSound}
 use Rattle.vr_rules.specs.Laws.{Rises}
-use Rattle.vr_rules.proofs.Heads.{Spans, knows, known_within, knows_some, some_known, head_from, head_within, head_knows, head_reaches, head_least, with_part_spans, with_part_at, with_part_other}
+use Rattle.vr_rules.proofs.Heads.{Spans, known_within, knows_some, some_known, head_from, head_within, head_knows, head_reaches, head_least, with_part_spans, with_part_at, with_part_other}
 use Rattle.vr_rules.proofs.Keeping.{Kept, Roomy, spans_of, sound_few, sound_forgetting, rises_forgetting, sound_applied, sound_state}
 
 -- what a Part may be set to: it knows an entry's header

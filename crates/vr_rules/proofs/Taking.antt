@@ -22,12 +22,7 @@ use Rattle.vr_rules.proofs.Heads.{Spans, knows_some, head_within, head_knows, he
 use Rattle.vr_rules.proofs.Keeping.{Kept, Roomy, spans_of, sound_forgetting, rises_forgetting}
 use Rattle.vr_rules.proofs.Combining.{KeptBy, kept_change_then}
 use Rattle.vr_rules.proofs.Wording.{none_stated, keeps_save}
-
--- the log of a view of this replica's group: its headers are those of entries of the ops above lo
-pub record IsLogFor (r : Replica) (l : Log) : Type 0 where
-  pub commit : l.commit ≤ l.head
-  pub count : l.lo + length l.headers ≡ l.head
-  pub each : (i : ℕ) (h : Header) → slice_get l.headers i ≡ Some h → IsHeader h × IsEntryAt r.cluster l.view (l.lo + 1 + i) h
+use Rattle.vr_rules.specs.Given.{IsLogFor}
 
 -- what the test says
 pub record MayTake (l : Log) (r : Replica) : Type 0 where

@@ -28,7 +28,8 @@ use Rattle.vr_rules.specs.Words.{Log, may_take, take, prepare_again, stated, log
 use Rattle.vr_rules.specs.Sound.{IsStated, IsSound}
 use Rattle.vr_rules.proofs.Combining.{KeptBy, Keeps, kept_then, kept_says_then, kept_by, kept_naming, kept_if, kept_when, keeps_then, keeps_quiet, keeps_says, keeps_by, keeps_when, keeps_if, keeps_each}
 use Rattle.vr_rules.proofs.Stating.{own_statement}
-use Rattle.vr_rules.proofs.Taking.{IsLogFor, MayTake, may_take_is, kept_take, log_reaches}
+use Rattle.vr_rules.specs.Given.{IsLogFor}
+use Rattle.vr_rules.proofs.Taking.{MayTake, may_take_is, kept_take, log_reaches}
 use Rattle.vr_rules.proofs.Wording.{keeps_prepare_again, keeps_apply}
 
 -- ---- lists

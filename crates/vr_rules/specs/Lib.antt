@@ -3,8 +3,10 @@ pub mod Steps
 pub mod Outputs
 pub mod Words
 pub mod Deciding
+pub mod Given
 pub mod Rules
 pub mod Opening
+pub mod Found
 pub mod Sectors
 pub mod World
 pub mod Lying
@@ -18,4 +20,3 @@ pub mod Fit
 pub mod Pinned
 pub mod Own
 pub mod GroupFit
-pub mod Trace

@@ -86,6 +86,9 @@ part_at r k = if nat_lt k r.first then Nothing else slice_index_or r.parts (k - 
 abbrev pub header_at : Replica → ℕ → Option Header
 header_at r k = header_of (part_at r k)
 
+abbrev pub knows : Replica → ℕ → Bool
+knows r k = has_header (part_at r k)
+
 -- the Parts from op k on
 abbrev pub parts_from : Replica → ℕ → List Part
 parts_from r k = drop (k - r.first) r.parts

@@ -14,7 +14,8 @@ use Rattle.vr_rules.specs.Words.{jumped, jumped_part, log_header, replaced_by, s
 use Rattle.vr_rules.specs.Group as group
 use Rattle.vr_rules.specs.Sound.{IsSound}
 use Rattle.vr_rules.proofs.Heads.{Spans, some_known, part_past, head_from, head_within, head_knows, head_reaches, head_stops, known_within, knows_some, forgetting_spans, forgetting_at, forgetting_known, forgetting_head}
-use Rattle.vr_rules.proofs.Jumping.{IsSyncFor, MayJump, landed, landed_at, landed_spans, jumped_known}
+use Rattle.vr_rules.specs.Given.{IsSyncFor}
+use Rattle.vr_rules.proofs.Jumping.{MayJump, landed, landed_at, landed_spans, jumped_known}
 use Rattle.vr_protocol.specs.Members.{Memory}
 use Rattle.vr_protocol.specs.Parts as part
 use Rattle.vr_protocol.specs.Taking.{Jumps}

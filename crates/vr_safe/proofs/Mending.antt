@@ -20,8 +20,9 @@ use Rattle.vr_rules.specs.Group as group
 use Rattle.vr_rules.specs.Group.{AreSound, IsFoundAbove, IsUndenied, MayOpen, kept_at, kept_under}
 use Rattle.vr_rules.specs.Laws.{ReadsHeaders}
 use Rattle.vr_rules.proofs.Heads.{Spans, forgetting_at, forgetting_head, forgetting_known, forgetting_spans, head_reaches, known_within, knows_some, part_before, part_within, remade, remade_at, remade_known, with_part_at, with_part_other}
-use Rattle.vr_rules.proofs.Openings.{Partly, clouded_header, first_is, found_op, found_ops, found_old, found_olds, partly_blank, partly_clouded, partly_spans, IsOld}
-use Rattle.vr_rules.proofs.Slots.{Value, IsOf}
+use Rattle.vr_rules.proofs.Openings.{clouded_header, first_is, found_op, found_ops, found_old, found_olds, partly_blank, partly_clouded, partly_spans, IsOld}
+use Rattle.vr_rules.specs.Found.{IsOf, Partly}
+use Rattle.vr_rules.proofs.Slots.{Value}
 use Rattle.vr_protocol.specs.Basics.{In, update}
 use Rattle.vr_protocol.specs.Group.{Group, Member, becomes, made_at}
 use Rattle.vr_protocol.specs.Members.{Superblock}

@@ -15,7 +15,8 @@ use Rattle.vr_rules.specs.Deciding.{get_sync_table, may_jump, sync_view_table}
 use Rattle.vr_rules.specs.Rules.{obey_get_sync, on_get_sync, obey_sync_view, on_sync_view}
 use Rattle.vr_rules.specs.Laws.{IsMessage}
 use Rattle.vr_rules.proofs.Ruling.{by_rows, group_of_primary, told_sync}
-use Rattle.vr_rules.proofs.Jumping.{IsSyncFor, MayJump, may_jump_is, landed, kept_jumped}
+use Rattle.vr_rules.specs.Given.{IsSyncFor}
+use Rattle.vr_rules.proofs.Jumping.{MayJump, may_jump_is, landed, kept_jumped}
 use Rattle.vr_protocol.specs.Basics.{In}
 use Rattle.vr_protocol.specs.Group.{Group, sends}
 use Rattle.vr_protocol.specs.Members.{Memory, Message, Start_view, Checkpoint}

@@ -25,7 +25,8 @@ use Rattle.vr_rules.specs.Rules.{make}
 use Rattle.vr_rules.specs.Sound.{IsSound}
 use Rattle.vr_rules.proofs.Keeping.{sound_alike}
 use Rattle.vr_rules.proofs.Storing.{MayStore, kept_stored}
-use Rattle.vr_rules.proofs.Taking.{IsLogFor, MayTake, may_take_is, over, kept_taken}
+use Rattle.vr_rules.specs.Given.{IsLogFor}
+use Rattle.vr_rules.proofs.Taking.{MayTake, may_take_is, over, kept_taken}
 use Rattle.vr_rules.proofs.Trying.{all_stated, chosen_log_is, decided_ends}
 use Rattle.vr_rules.proofs.Wording.{none_stated, kept_entered}
 use Rattle.vr_protocol.specs.Basics.{In}

@@ -17,7 +17,8 @@ use Rattle.vr_rules.specs.Rules.{acknowledge_stored, obey_sync_view, on_sync_vie
 use Rattle.vr_rules.specs.Sound.{IsNameBytes}
 use Rattle.vr_rules.specs.Steps.{◌⨾◌}
 use Rattle.vr_rules.specs.Words.{Log, apply, jump, jumped, sync_log}
-use Rattle.vr_rules.proofs.Jumping.{IsSyncFor, kept_jumped, may_jump_is}
+use Rattle.vr_rules.specs.Given.{IsSyncFor}
+use Rattle.vr_rules.proofs.Jumping.{kept_jumped, may_jump_is}
 use Rattle.vr_rules.proofs.Ruling.{by_rows, group_of_primary}
 use Rattle.vr_rules.proofs.SavesJump.{savable_jumped}
 use Rattle.vr_rules.proofs.Trying.{from_at}

@@ -5,7 +5,7 @@ use Rattle.vr_msg.specs.declared.frame.SyncView.{SyncView}
 use Rattle.vr_msg.specs.Forms.{IsSyncView}
 use Rattle.vr_rules.specs.Deciding.{may_jump}
 use Rattle.vr_rules.specs.Replica.{Replica, last_view}
-use Rattle.vr_rules.proofs.Jumping.{IsSyncFor}
+use Rattle.vr_rules.specs.Given.{IsSyncFor}
 
 -- the form of the message, as one fact
 unfoldable pub IsSyncing : SyncView → Type 0

@@ -22,7 +22,7 @@ use Rattle.vr_rules.specs.Rules.{acknowledge_stored, obey_get_view, obey_start_v
 use Rattle.vr_rules.specs.Steps.{Word, ◌⨾◌}
 use Rattle.vr_rules.specs.Words.{Log, apply, may_take, take}
 use Rattle.vr_rules.proofs.Ruling.{by_rows, group_of_primary}
-use Rattle.vr_rules.proofs.Taking.{IsLogFor}
+use Rattle.vr_rules.specs.Given.{IsLogFor}
 use Rattle.vr_rules.proofs.Trying.{from_at}
 use Rattle.vr_step.specs.declared.halt.Halt.{Halt}
 use Rattle.vr_step.specs.Does.{Does}

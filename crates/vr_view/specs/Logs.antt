@@ -4,7 +4,7 @@ use Rattle.vr_base.specs.Bytes.{name_of}
 use Rattle.vr_msg.specs.Spelling.{AreHeaders}
 use Rattle.vr_rules.specs.Replica.{Replica, last_view}
 use Rattle.vr_rules.specs.Words.{Log, may_take}
-use Rattle.vr_rules.proofs.Taking.{IsLogFor}
+use Rattle.vr_rules.specs.Given.{IsLogFor}
 
 -- a log of the replica's group, of a view that may be entered: where its headers have the values of the program
 pub record Taught (l : Log) (r : Replica) : Type 0 where
