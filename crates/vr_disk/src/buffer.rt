@@ -21,6 +21,7 @@ impl Model for Buffer {
 }
 
 impl Buffer {
+    /// 4,096 zeros, or want of memory.
     pub fn new(alloc: Global) -> Result<Buffer, NoMemory>
         ensures { IfOk result (λ b. length b ≡ 4096) }
     {
@@ -29,6 +30,7 @@ impl Buffer {
         Ok(Buffer { bytes })
     }
 
+    /// Its 4,096 bytes.
     pub fn as_slice(&self) -> &[u8]
         ensures bytes { result.now ≡ self.now }
         ensures size { length result.now ≡ 4096 }

@@ -18,6 +18,7 @@ pub fn put_bytes(to: &mut ByteList, bytes: &[u8]) -> Result<(), AllocError>
     to.extend(bytes)
 }
 
+/// Words at the end.
 pub fn put(to: &mut ByteList, words: &str) -> Result<(), AllocError>
     ensures text { OnOk result (to.new ≡ to.old ++ words.now) }
     ensures front { IsFront to.old to.new }
@@ -66,6 +67,7 @@ pub fn put_client(to: &mut ByteList, client: u64, request: u32) -> Result<(), Al
     put(to, " ")
 }
 
+/// The word and the key of an operation, and what it puts.
 #[tactic(auto, using(std::proofs::lemmas::Grind::common_steps, crate::proofs::Fronts::front_then))]
 pub fn put_operation(to: &mut ByteList, operation: &Operation) -> Result<(), AllocError>
     ensures text { OnOk result (to.new ≡ to.old ++ operation_text operation.now) }

@@ -111,6 +111,7 @@ impl Super {
         })
     }
 
+    /// All of it but the headers.
     pub fn fields(&self) -> Fields
         ensures value { result ≡ self.now.fields }
         ensures good { IsGood self.now }
