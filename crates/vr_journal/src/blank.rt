@@ -3,7 +3,8 @@ ghost use Rattle.std.specs.Prelude.{◌≡◌, ◌≤◌, ◌+◌, ◌-◌, IfOk
 ghost use Rattle.vr_rules.specs.Opening.{blank, first_listed};
 
 use crate::names::Names;
-use crate::{Places, Replica, Window};
+use crate::places::Places;
+use crate::{Replica, Window};
 use std::alloc::Global;
 use vr_apply::State;
 use vr_base::{NoMemory, Replicas, Seq};

@@ -45,7 +45,7 @@ impl Replica {
 
     /// An entry is stored.
     #[tactic(auto, using(crate::proofs::Memory::window_part))]
-    pub fn store(&mut self, entry: &Entry)
+    pub(crate) fn store(&mut self, entry: &Entry)
         requires window { HasWindow self.old }
         requires may { MayStore entry.now self.old }
         ensures stored { self.new ≡ stored entry.now self.old }
@@ -95,7 +95,7 @@ impl Replica {
 
     /// A commit number is heard of, and holds as far as the log goes.
     #[tactic(auto, unfolding(vr_rules::specs::Words::learned))]
-    pub fn learn_commit(&mut self, commit: u64)
+    pub(crate) fn learn_commit(&mut self, commit: u64)
         requires { HasWindow self.old }
         ensures learned { self.new ≡ learned commit self.old }
         ensures view { self.new.view ≡ self.old.view }
@@ -110,7 +110,7 @@ impl Replica {
 impl Replica {
     /// Is of this view from now on, of which it knows nothing.
     #[tactic(auto, unfolding(vr_rules::specs::Words::entered))]
-    pub fn turn_to(&mut self, view: u32)
+    pub(crate) fn turn_to(&mut self, view: u32)
         requires { HasWindow self.old }
         ensures entered { self.new ≡ entered view self.old }
         ensures view { self.new.view ≡ view }
@@ -184,7 +184,7 @@ impl Replica {
     }
 
     /// These blocks of the checkpoint are missing.
-    pub fn take_missing(&mut self, names: NameList)
+    pub(crate) fn take_missing(&mut self, names: NameList)
         ensures taken { self.new ≡ with_missing names self.old }
         ensures view { self.new.view ≡ self.old.view }
         ensures saved { self.new.saved ≡ self.old.saved }

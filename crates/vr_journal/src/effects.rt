@@ -17,7 +17,11 @@ use vr_super::Super;
 impl Replica {
     /// Writes an entry into its slot.
     #[tactic(auto, using(crate::proofs::Performing::write_is_again, crate::proofs::Performing::write_is_new))]
-    pub fn write_entry<D: SectorDisk>(&self, disk: &mut D, entry: &Entry) -> Result<(), DiskFault>
+    pub(crate) fn write_entry<D: SectorDisk>(
+        &self,
+        disk: &mut D,
+        entry: &Entry,
+    ) -> Result<(), DiskFault>
         ensures runs { Performs (writes entry.now) self.now (D.told disk.old) (D.told disk.new) (is_ok result) }
         ensures cause { HasCause (D.faults disk.old) (D.faults disk.new) result }
     {
@@ -30,7 +34,11 @@ impl Replica {
 
     /// Writes this value over the one last saved, and keeps it.
     #[tactic(auto, using(crate::proofs::Performing::save_is, crate::proofs::Performing::one_spent))]
-    pub fn save_value<D: SectorDisk>(&mut self, disk: &mut D, value: Super) -> Result<(), DiskFault>
+    pub(crate) fn save_value<D: SectorDisk>(
+        &mut self,
+        disk: &mut D,
+        value: Super,
+    ) -> Result<(), DiskFault>
         requires { value ≡ value_of self.old }
         ensures runs { Performs saves self.old (D.told disk.old) (D.told disk.new) (is_ok result) }
         ensures cause { HasCause (D.faults disk.old) (D.faults disk.new) result }

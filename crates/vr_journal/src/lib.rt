@@ -26,8 +26,7 @@ mod words;
 
 pub use group::primary;
 pub use jumping::sync_log;
-pub use parts::{has_header, header_of, is_here, same_header};
-pub use places::Places;
+pub use parts::{header_of, is_here, same_header};
 pub use replica::Replica;
 pub use taking::Log;
 pub use visiting::Visit;

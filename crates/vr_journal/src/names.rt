@@ -2,7 +2,7 @@
 ghost use Rattle.std.specs.Prelude.{◌≡◌, ◌<◌, ◌%◌, IfOk, IfSome, None, Some, replicate, slice_set};
 ghost use Rattle.vr_header.specs.Names.{header_name};
 
-use crate::Places;
+use crate::places::Places;
 use std::alloc::{AllocError, Global};
 use std::marker::Model;
 use vr_base::Sum;

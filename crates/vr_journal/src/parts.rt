@@ -52,7 +52,7 @@ pub fn header_of(part: &Part) -> Option<Header>
 }
 
 /// Whether the header of the op is known.
-pub fn has_header(part: &Part) -> bool
+pub(crate) fn has_header(part: &Part) -> bool
     ensures { result ≡ has_header part.now }
 {
     match part {

@@ -143,7 +143,7 @@ impl Replica {
     }
 
     /// The peer whose turn it is to be asked.
-    pub fn peer(&self) -> u8
+    pub(crate) fn peer(&self) -> u8
         requires { 0 < self.now.n }
         ensures { result ≡ peer self.now }
     {

@@ -1,8 +1,9 @@
 //! What a replica has in memory.
 
+use crate::Window;
 use crate::names::Names;
 use crate::parts::{known_from, run_of};
-use crate::{Places, Window};
+use crate::places::Places;
 use std::alloc::{AllocError, Global};
 use std::marker::Model;
 use vr_apply::State;
@@ -107,7 +108,7 @@ impl Replica {
 
     /// The known headers that reach the head without a hole.
     #[tactic(auto, using(crate::proofs::Memory::bounds), unfolding(vr_rules::specs::Replica::run, crate::specs::Runs::run_of))]
-    pub fn run(&self, alloc: Global) -> Result<HeaderList, AllocError>
+    pub(crate) fn run(&self, alloc: Global) -> Result<HeaderList, AllocError>
         requires { HasWindow self.now }
         ensures { IfOk result (λ hs. hs ≡ run self.now) }
     {
@@ -139,7 +140,7 @@ impl Replica {
 
     /// What is saved of it.
     #[tactic(auto, using(crate::proofs::Memory::value_is, crate::proofs::Memory::window_of), unfolding(vr_rules::specs::Words::value_of))]
-    pub fn value(&self, alloc: Global) -> Result<Super, NoMemory>
+    pub(crate) fn value(&self, alloc: Global) -> Result<Super, NoMemory>
         requires ready { IsReady self.now }
         requires room { self.now.saved.fields.sequence + 1 < 2 ^ 64 }
         ensures { IfOk result (λ v. v ≡ value_of self.now) }

@@ -82,7 +82,7 @@ fn push_some(all: &mut Seq<Statement>, one: Option<Statement>) -> Result<(), All
 impl Replica {
     /// The op below the first of the known headers that reach the head without a hole.
     #[tactic(auto, using(crate::proofs::Memory::bounds), unfolding(vr_rules::specs::Replica::run, crate::specs::Runs::run_of))]
-    pub fn run_start(&self) -> u64
+    pub(crate) fn run_start(&self) -> u64
         requires { HasWindow self.now }
         ensures value { result ≡ run_start self.now }
         ensures within { result ≤ self.now.checkpoint + 64 }
@@ -93,7 +93,7 @@ impl Replica {
     }
 
     /// What is known of the ops from this one on, up to the last of which something is.
-    pub fn told_from(&self, alloc: Global, op: u64) -> Result<Seq<Part>, AllocError>
+    pub(crate) fn told_from(&self, alloc: Global, op: u64) -> Result<Seq<Part>, AllocError>
         ensures { IfOk result (λ ps. ps ≡ trimmed (parts_from self.now op)) }
     {
         told_from(alloc, &self.parts, op.saturating_sub(self.first) as usize)
@@ -101,7 +101,7 @@ impl Replica {
 
     /// What it states of its log.
     #[tactic(auto, using(crate::proofs::Memory::bounds), unfolding(vr_rules::specs::Replica::statement_of))]
-    pub fn statement(&self, alloc: Global) -> Result<Statement, AllocError>
+    pub(crate) fn statement(&self, alloc: Global) -> Result<Statement, AllocError>
         requires { HasWindow self.now }
         ensures { IfOk result (λ s. s ≡ statement_of self.now) }
     {

@@ -31,7 +31,7 @@ impl Replica {
 
     /// Sends a message to each of the others.
     #[tactic(auto, using(std::proofs::lemmas::Grind::common_steps, crate::proofs::Sending::sends_more, crate::proofs::Sending::sends_none))]
-    pub fn tell_others(
+    pub(crate) fn tell_others(
         &self,
         alloc: Global,
         message: &Message,
