@@ -16,7 +16,7 @@ use Rattle.vr_rules.specs.Sectors.{sectors}
 use Rattle.vr_rules.specs.Steps.{Setting, Step, after_all}
 use Rattle.vr_rules.proofs.Heads.{head_knows}
 use Rattle.vr_rules.proofs.Keeping.{spans_of}
-use Rattle.vr_mends.specs.CaughtUp.{IsCaughtUp}
+use Rattle.vr_rules.specs.Sound.{IsCaughtUp}
 use Rattle.vr_mends.specs.Completing.{CopiesComplete, IsCopy, LacksEntries, absent_ops, after_copies}
 use Rattle.vr_mends.proofs.Disks.{IsLong, Stores, lying_stores, sectors_store}
 use Rattle.vr_mends.proofs.Taking.{Taken, copy_comes}

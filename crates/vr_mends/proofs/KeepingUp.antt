@@ -11,11 +11,11 @@ use Rattle.vr_rules.specs.Opening.{announce, blank, going_on, heard_itself, in_n
 use Rattle.vr_rules.specs.Outputs.{start_line}
 use Rattle.vr_rules.specs.Replica.{Replica, is_frozen, is_spent, is_started, last_view, leads, part_at}
 use Rattle.vr_rules.specs.Rules.{on_event, on_message, react}
-use Rattle.vr_rules.specs.Sound.{IsSound}
+use Rattle.vr_rules.specs.Sound.{IsCaughtUp, IsSound}
 use Rattle.vr_rules.specs.Steps.{Mend, Setting, ◌⨾◌, after_all, by, does, quiet, says, when}
 use Rattle.vr_rules.proofs.Openings.{recovered, reads_after}
 use Rattle.vr_rules.proofs.Slots.{value_is}
-use Rattle.vr_mends.specs.CaughtUp.{FreshKeepUp, IsCaughtUp, KeepsUp, OpeningsKeepUp, StepsKeepUp}
+use Rattle.vr_mends.specs.CaughtUp.{FreshKeepUp, KeepsUp, OpeningsKeepUp, StepsKeepUp}
 use Rattle.vr_mends.proofs.Rules.{up_commit, up_do_view_change, up_get_block, up_get_prepare, up_get_sync, up_get_view, up_give_block, up_give_prepare, up_prepare, up_prepare_ok, up_request, up_start_view, up_start_view_change, up_sync_view, up_tick}
 use Rattle.vr_mends.proofs.Settling.{Placed, placed_of}
 use Rattle.vr_mends.proofs.Upkeep.{Calm, Settles, UpBy, calm_by, calm_change, calm_quiet, calm_says, calm_save, calm_then, calm_when, settles_apply, settles_calm_then, settles_then, settles_then_calm, sorts_load, up_calm}

@@ -34,7 +34,7 @@ use Rattle.vr_rules.specs.Laws.{HasNames, IsMessage}
 use Rattle.vr_rules.specs.Outputs.{do_view_change, to_primary, wait_line}
 use Rattle.vr_rules.specs.Replica.{Replica, head, header_at, is_here, is_primary, is_started, last_view, part_at, view_change}
 use Rattle.vr_rules.specs.Rules.{acknowledge, acknowledge_stored, acknowledged, asked_block, asker_by, block_at, give_read, heard_of, idler, make, mend_found, next_entry, next_view, not_worn, obey_commit, obey_do_view_change, obey_get_block, obey_get_prepare, obey_get_sync, obey_get_view, obey_give_block, obey_give_prepare, obey_prepare, obey_prepare_ok, obey_request, obey_start_view, obey_start_view_change, obey_sync_view, obey_tick, on_commit, on_do_view_change, on_get_block, on_get_prepare, on_get_sync, on_get_view, on_give_block, on_give_prepare, on_prepare, on_prepare_ok, on_request, on_start_view, on_start_view_change, on_sync_view, on_tick, put_block, put_found, stored_reply, test_of, with_statement, without}
-use Rattle.vr_rules.specs.Sound.{IsSound, IsStated}
+use Rattle.vr_rules.specs.Sound.{IsCaughtUp, IsSound, IsStated}
 use Rattle.vr_rules.specs.Steps.{Setting, Word, ◌⨾◌, after_all, by, change, each, quiet, says, when}
 use Rattle.vr_rules.specs.Words.{Log, accept, apply, ask, begin_view, chosen_log, choose_line, decided, enter, is_loaded, jump, learn, load, may_take, obey_choice, prepare_again, rested, speak, stated, take, try, try_log, visit, write}
 use Rattle.vr_rules.specs.declared.asker.Asker.{Asker}
@@ -48,7 +48,6 @@ use Rattle.vr_rules.specs.Given.{IsLogFor}
 use Rattle.vr_rules.proofs.Taking.{MayTake, kept_take, may_take_is}
 use Rattle.vr_rules.proofs.Trying.{all_stated, chosen_log_is, decided_ends}
 use Rattle.vr_rules.proofs.Wording.{kept_accept, kept_enter, kept_rested, kept_write}
-use Rattle.vr_mends.specs.CaughtUp.{IsCaughtUp}
 use Rattle.vr_mends.proofs.Upkeep.{Calm, Settles, UpBy, calm_by, calm_change, calm_does, calm_enter, calm_quiet, calm_resend, calm_rested, calm_says, calm_then, calm_when, settles_advance, settles_apply, settles_calm_then, settles_learn, settles_then, sorts_again, sorts_by, sorts_calm, sorts_change, sorts_each, sorts_load, sorts_then, sorts_when, up_by, up_calm, up_calm_then, up_change_then, up_entry, up_if, up_naming, up_reading, up_says_then, up_settles, up_then, up_then_up, up_visit_ask, up_when}
 
 module _ {F : Type 0} where

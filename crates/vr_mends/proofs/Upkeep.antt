@@ -16,11 +16,10 @@ use Rattle.vr_table.specs.declared.fault.StateFault.{StateFault}
 use Rattle.vr_msg.specs.declared.frame.Frame.{Frame}
 use Rattle.vr_msg.specs.declared.output.Output.{Output}
 use Rattle.vr_rules.specs.Replica.{Replica, is_here, part_at}
-use Rattle.vr_rules.specs.Sound.{IsSound}
+use Rattle.vr_rules.specs.Sound.{IsCaughtUp, IsSound}
 use Rattle.vr_rules.specs.Steps.{Effect, Mend, Say, Setting, Word, ◌⨾◌, after_all, by, change, does, each, naming, quiet, reading, says, when}
 use Rattle.vr_rules.specs.Words.{advance, advanced, apply, ask, ask_for, ask_peer, enter, entered, entry_of, learn, learned, load, loaded_state, loads, or_lost, prepare_again, resend, rested, save, value_of, with_entry, with_entry_at, with_state, blocks_of, is_loaded, mend_header, op_of_slot, place_now, visit, visit_block, visit_place, visit_read, visit_slot, with_cursor, with_worn}
 use Rattle.vr_rules.proofs.Combining.{KeptBy}
-use Rattle.vr_mends.specs.CaughtUp.{IsCaughtUp}
 use Rattle.vr_mends.proofs.Settling.{Placed, placed_lost, placed_of, times_settle, up_lost}
 
 -- what is known of each op, and which ops are committed and applied, stay, and no block is found missing or put

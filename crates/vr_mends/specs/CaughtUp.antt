@@ -1,17 +1,13 @@
 -- A running replica never waits at an op whose entry is here.
-use Rattle.std.specs.Prelude.{ℕ, ◌+◌, ◌<◌, ◌≡◌, [], false}
+use Rattle.std.specs.Prelude.{ℕ, ◌≡◌, false}
 use Rattle.vr_msg.specs.declared.event.Event.{Event}
 use Rattle.vr_super.specs.Copies.{IsGood, SuperValue}
 use Rattle.vr_rules.specs.Laws.{HasNames, IsEvent, ReadsHeaders}
 use Rattle.vr_rules.specs.Opening.{blank, fresh, opening}
-use Rattle.vr_rules.specs.Replica.{Replica, is_here, is_spent, part_at}
+use Rattle.vr_rules.specs.Replica.{Replica, is_spent}
 use Rattle.vr_rules.specs.Rules.{react}
-use Rattle.vr_rules.specs.Sound.{IsSound}
+use Rattle.vr_rules.specs.Sound.{IsCaughtUp, IsSound}
 use Rattle.vr_rules.specs.Steps.{Setting}
-
--- It has applied all that it can: where no block is missing, and more is committed, the entry of the next op isn't here.
-pub record IsCaughtUp (r : Replica) : Type 0 where
-  pub next : r.missing ≡ [] → r.applied < r.commit → is_here (part_at r (r.applied + 1)) ≡ false
 
 -- Where sequence numbers are at their end nothing is said: there it ignores every event.
 abbrev pub KeepsUp : Replica → Type 0

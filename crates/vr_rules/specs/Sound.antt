@@ -1,5 +1,5 @@
 -- What a replica keeps of itself between steps.
-use Rattle.std.specs.Prelude.{ℕ, ◌+◌, ◌-◌, ◌%◌, ◌^◌, ◌<◌, ◌≤◌, ◌≡◌, ◌≢◌, true, is_some, List, [], length, slice_index_or, Some, None}
+use Rattle.std.specs.Prelude.{ℕ, ◌+◌, ◌-◌, ◌%◌, ◌^◌, ◌<◌, ◌≤◌, ◌≡◌, ◌≢◌, true, false, is_some, List, [], length, slice_index_or, Some, None}
 use Rattle.vr_base.specs.Bytes.{IsBytes, is_zeros}
 use Rattle.vr_base.specs.Groups.{quorums_of}
 use Rattle.vr_header.specs.declared.header.Header.{Header}
@@ -10,7 +10,7 @@ use Rattle.vr_msg.specs.Numbers.{IsNumber}
 use Rattle.vr_msg.specs.Spelling.{AreHeaders, known}
 use Rattle.vr_sess.specs.Sessions.{HaveNumbers}
 use Rattle.vr_super.specs.Copies.{IsGood}
-use Rattle.vr_rules.specs.Replica.{Replica, head, header_at, window_end}
+use Rattle.vr_rules.specs.Replica.{Replica, head, header_at, is_here, part_at, window_end}
 
 -- checkpoint, applied, commit number, head and window stand in this order
 pub record IsOrdered (r : Replica) : Type 0 where
@@ -76,3 +76,7 @@ pub record IsSavable (r : Replica) : Type 0 where
   -- what the superblock is mended from makes a good copy
   pub saved : IsGood r.saved
   pub top : 0 < head r → is_some (header_at r (head r)) ≡ true
+
+-- It has applied all that it can: where no block is missing, and more is committed, the entry of the next op isn't here.
+pub record IsCaughtUp (r : Replica) : Type 0 where
+  pub next : r.missing ≡ [] → r.applied < r.commit → is_here (part_at r (r.applied + 1)) ≡ false
