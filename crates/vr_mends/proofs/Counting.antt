@@ -1,12 +1,10 @@
 -- As many visits as there are places come to each of them, whatever stands between them.
-use Rattle.std.proofs.Common.{arith, ℕ, zero, suc, ◌+◌, ◌-◌, ◌*◌, ◌%◌, ◌≡◌, ◌<◌, ◌≤◌, ◌∙◌, ◌⊎◌, inl, inr, refl, sym, ap, subst, true, false, cond, List, [], ◌∷◌, ◌++◌, length, map}
+use Rattle.std.proofs.Common.{arith, ℕ, zero, suc, ◌+◌, ◌-◌, ◌*◌, ◌%◌, ◌≡◌, ◌<◌, ◌≤◌, ◌∙◌, ◌⊎◌, inl, inr, refl, sym, ap, subst, true, false, cond, List, [], ◌∷◌, length}
 use Rattle.std.specs.Prelude.{All, nat_lt, ◌==◌}
 use Rattle.std.proofs.lemmas.Bool.{cases_lt, eq-eqb, true≢false}
 use Rattle.std.proofs.lemmas.Nat.{mod-mul-add, mod_below}
 use Rattle.std.proofs.Math.Nat.{mod-add-mod, mod-eq_of_lt}
 use Rattle.std.proofs.lemmas.List.Elements.{All-head, All-tail}
-use Rattle.vr_ckpt.specs.declared.table.Payload.{Payload}
-use Rattle.vr_ckpt.specs.declared.table.PayloadTable.{PayloadTable}
 use Rattle.vr_grid.specs.declared.name.Name.{Name}
 use Rattle.vr_msg.specs.declared.event.Event.{Event}
 use Rattle.vr_rules.specs.Laws.{HasNames, IsEvent}
@@ -19,8 +17,8 @@ use Rattle.vr_rules.proofs.Reacting.{steps_stay_sound}
 use Rattle.vr_rules.proofs.Rising.{steps_rise}
 use Rattle.vr_mends.specs.Cover.{visits_made}
 use Rattle.vr_mends.specs.Visits.{after_events}
-use Rattle.vr_mends.proofs.Standing.{Alike, Standing, Stands}
-use Rattle.vr_mends.proofs.StandingRules.{Goes, fills, mends, moves, rests, step_goes, visits}
+use Rattle.vr_mends.proofs.Standing.{Standing, Stands, alike_blocks, same_blocks}
+use Rattle.vr_mends.proofs.StandingRules.{Goes, fills, mends, moves, rests, step_goes_any, visits}
 use Rattle.vr_mends.proofs.Turning as turning
 
 -- ---- around
@@ -78,15 +76,6 @@ pub record Idle (r q : Replica) : Type 0 where
   pub cursor : q.cursor ≡ r.cursor
   pub blocks : q.checkpoint ≡ r.checkpoint → words.blocks_of q ≡ words.blocks_of r
   pub worn : q.checkpoint ≡ r.checkpoint → q.worn ≡ r.worn
-
-abbrev blocks : ℕ → Name → PayloadTable → List Name
-blocks checkpoint root table = cond (checkpoint == 0) [] (root ∷ (map (λ (p : Payload). p.name) table.sessions ++ map (λ (p : Payload). p.name) table.keys))
-
-pub same_blocks : (r q : Replica) → q.checkpoint ≡ r.checkpoint → q.root ≡ r.root → q.table ≡ r.table → words.blocks_of q ≡ words.blocks_of r
-same_blocks r q c n t = ap (λ k. blocks k q.root q.table) c ∙ (ap (λ m. blocks r.checkpoint m q.table) n ∙ ap (blocks r.checkpoint r.root) t)
-
-pub alike_blocks : (r q : Replica) → q.checkpoint ≡ r.checkpoint → Alike r q → words.blocks_of q ≡ words.blocks_of r
-alike_blocks r q c a = same_blocks r q c a.root a.table
 
 pub loaded_on : (r q : Replica) → q.missing ≡ r.missing → words.is_loaded q ≡ words.is_loaded r
 loaded_on r q e = ap (λ (ms : List Name). length ms == 0) e
@@ -172,21 +161,21 @@ module _ {F : Type 0} (s : Setting F) where
             (all.behind.alike last).worn ∙ (ap (λ (q : Replica). q.worn) same ∙ (all.before.alike first).worn);
       }
 
-  pub goes_walks : (r : Replica) (f : F) (x : Step) → Goes s r f x → r.checkpoint ≤ r.applied → words.is_loaded r ≡ true → x.replica.checkpoint ≡ r.checkpoint → Walks r x.replica
+  pub goes_walks : {G : List ℕ → Type 0} (r : Replica) (f : F) (x : Step) → Goes G s r f x → r.checkpoint ≤ r.applied → words.is_loaded r ≡ true → x.replica.checkpoint ≡ r.checkpoint → Walks r x.replica
   goes_walks r f x goes o loaded same = elim goes [
-    | rests h ↦ record { blocks = alike_blocks r x.replica same (h.alike same); missing = h.missing; cursor = inl h.cursor }
-    | moves p up ↦ absurd (omega (arith, up, same))
-    | fills p lacking worn from ↦ absurd (true≢false (sym loaded ∙ lacking))
+    | rests h keeps ↦ record { blocks = alike_blocks r x.replica same (h.alike same); missing = h.missing; cursor = inl h.cursor }
+    | moves p up keeps ↦ absurd (omega (arith, up, same))
+    | fills p lacking worn from keeps ↦ absurd (true≢false (sym loaded ∙ lacking))
     | mends name block bad is e ↦ subst (λ (y : Step). Walks r y.replica) (sym e) (record { blocks = refl; missing = refl; cursor = inl refl })
     | visits v w hv hw e ↦
         subst (λ (y : Step). y.replica.checkpoint ≡ r.checkpoint → Walks r y.replica) (sym e) (walks_visit v w r f hv hw o loaded) same
   ]
 
-  goes_still : (r : Replica) (f : F) (x : Step) → Goes s r f x → r.checkpoint ≤ r.applied → words.is_loaded r ≡ false → x.replica.cursor ≡ r.cursor
+  goes_still : {G : List ℕ → Type 0} (r : Replica) (f : F) (x : Step) → Goes G s r f x → r.checkpoint ≤ r.applied → words.is_loaded r ≡ false → x.replica.cursor ≡ r.cursor
   goes_still r f x goes o lacking = elim goes [
-    | rests h ↦ h.cursor
-    | moves p up ↦ p.cursor
-    | fills p unloaded worn from ↦ p.cursor
+    | rests h keeps ↦ h.cursor
+    | moves p up keeps ↦ p.cursor
+    | fills p unloaded worn from keeps ↦ p.cursor
     | mends name block bad is e ↦ ap (λ (y : Step). y.replica.cursor) e
     | visits v w hv hw e ↦ ap (λ (y : Step). y.replica.cursor) e ∙ (idle_visit v w r f hv hw o lacking).cursor
   ]
@@ -226,7 +215,7 @@ module _ {F : Type 0} (s : Setting F) (Ok : Replica → F → Type 0) (K : ℕ �
       let x = rules.react e s r f in
       let q : Replica = x.replica in
       let g = after_all s f x.script in
-      let walk : Walks r q = goes_walks s r f x (step_goes s e r f (sees.sound r f known.ok).order.applied) (sees.sound r f known.ok).order.applied loaded same in
+      let walk : Walks r q = goes_walks s r f x (step_goes_any s e r f (sees.sound r f known.ok).order.applied) (sees.sound r f known.ok).order.applied loaded same in
       let places : words.places q ≡ words.places r = ap (λ (xs : List Name). 65 + length xs) walk.blocks in
       let has : words.is_loaded q ≡ true = loaded_on r q walk.missing ∙ loaded in
       let ok = sees.stays e r f m known.ok same in
@@ -272,7 +261,7 @@ module _ {F : Type 0} (s : Setting F) (Ok : Replica → F → Type 0) (K : ℕ �
       elim (words.is_loaded r) as (λ b. words.is_loaded r ≡ b → Known (n + counted r q) q g) [
         | true ↦ λ t. walked n e r f m t same known
         | false ↦ λ t.
-            let still = goes_still s r f x (step_goes s e r f low) low t in
+            let still = goes_still s r f x (step_goes_any s e r f low) low t in
             let none : counted r q ≡ 0 = ap (λ b. cond b 0 1) (eq-eqb q.cursor r.cursor still) in
             let zeros = known.none t in
             let whole : 0 ≡ n + counted r q = omega (arith, none, zeros) in

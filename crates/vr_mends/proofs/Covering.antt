@@ -37,7 +37,7 @@ use Rattle.vr_mends.proofs.Holding.{Holds, lying_holds, sectors_hold}
 use Rattle.vr_mends.proofs.Lasting.{All-one, goes_copies, goes_found, goes_known, goes_laid, goes_mended, got_is, has_moved, is_got, laid_loaded, missing_none}
 use Rattle.vr_mends.proofs.Laying.{LoadsApart, lying_apart, sectors_apart}
 use Rattle.vr_mends.proofs.Looking.{Sturdy}
-use Rattle.vr_mends.proofs.StandingRules.{Goes, some, step_goes}
+use Rattle.vr_mends.proofs.StandingRules.{Any, Goes, some, step_goes_any}
 use Rattle.vr_mends.proofs.Wearing.{Known, reads, worn}
 
 slot_visited : (r q : Replica) → words.place_now r < 64 → q.cursor ≡ (words.place_now r + 1) % words.places r → visited r q (words.place_now r) ≡ true
@@ -89,8 +89,8 @@ module _ {F : Type 0} (s : Setting F) (Fine : F → Type 0) (sturdy : Sturdy s F
 -- ---- the superblock, and blocks
 
 module _ {F : Type 0} (s : Setting F) (Fine : F → Type 0) (face : F → Face) (sturdy : Sturdy s Fine) (holds : Holds s Fine (λ f v. AllRead (face f) v)) (names : HasNames s) where
-  goes_by : (e : Event) (r : Replica) (f : F) → IsSound r → Goes s r f (rules.react e s r f)
-  goes_by e r f sound = step_goes s e r f sound.order.applied
+  goes_by : (e : Event) (r : Replica) (f : F) → IsSound r → Goes Any s r f (rules.react e s r f)
+  goes_by e r f sound = step_goes_any s e r f sound.order.applied
 
   module _ (roots : SavesRoots s) where
     record Saves (r : Replica) (f : F) : Type 0 where
@@ -136,7 +136,7 @@ module _ {F : Type 0} (s : Setting F) (Fine : F → Type 0) (face : F → Face) 
           record {
             sound = steps_stay_sound s f r e names ok.sound m;
             fine = fine_after s Fine sturdy.stores x.script f ok.fine;
-            laid = goes_laid s Fine (λ f v. AllRead (face f) v) sturdy.stores holds apart r f x (goes_by e r f ok.sound) ok.sound.order.applied same ok.laid;
+            laid = goes_laid s apart r f x (goes_by e r f ok.sound) ok.sound.order.applied same ok.laid;
           };
       keeps = λ p e r f m ok loaded same within known.
           let x = rules.react e s r f in
@@ -192,8 +192,8 @@ module _ {F : Type 0} (s : Setting F) (Fine : F → Type 0) (face : F → Face) 
   lays_out : LaysOut s
   lays_out = record {
     steps = λ e r f sound m laid same.
-        goes_laid s Fine (λ f v. AllRead (face f) v) sturdy.stores holds apart r f (rules.react e s r f) (step_goes s e r f sound.order.applied) sound.order.applied same laid;
-    loads = λ r f texts e. laid_loaded s Fine (λ f v. AllRead (face f) v) sturdy.stores holds apart r (some f texts e);
+        goes_laid s apart r f (rules.react e s r f) (step_goes_any s e r f sound.order.applied) sound.order.applied same laid;
+    loads = λ r f texts e. laid_loaded s apart r (some f texts e);
   }
 
 -- ---- the disks of the program
@@ -202,7 +202,7 @@ pub sectors_cover : VisitsCover sectors (λ f. f)
 sectors_cover es r f face sound savable laid m same enough =
     covered sectors IsLong (λ f. f) sectors_sturdy sectors_hold disks_fit.program sectors_fit.0 sectors_fit.1 sectors_apart es r f sound savable laid face.count m same enough
 
-lying_roots : SavesRoots lying
+pub lying_roots : SavesRoots lying
 lying_roots = record { address = sectors_fit.1.address; name = sectors_fit.1.name }
 
 pub sectors_lay_out : LaysOut sectors

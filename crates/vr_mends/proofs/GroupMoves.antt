@@ -2,7 +2,7 @@
 use Rattle.std.proofs.Common.{◌≡◌, ◌+◌, ◌⊎◌, ◌∙◌, inl, inr, ap, subst, ℕ, zero, suc, List, [], ◌∷◌, Some, None}
 use Rattle.std.specs.Prelude.{All, slice_get, slice_set}
 use Rattle.std.proofs.lemmas.List.Elements.{All-nil, All-cons, All-head, All-tail}
-use Rattle.vr_rules.specs.Group.{Member, Group, Move, Moved, Moves, Played, Run, fresh_member, fresh_group, resumed}
+use Rattle.vr_rules.specs.Group.{Member, Group, Move, Moved, Moves, Played, Run, fresh_group, resumed}
 use Rattle.vr_rules.specs.Group as group
 use Rattle.vr_rules.specs.GroupFit.{IsFitGroup, IsFitMove}
 use Rattle.vr_rules.specs.Lying.{lying}
@@ -18,7 +18,7 @@ use Rattle.vr_mends.specs.Groups.{AllKeepUp, GroupsKeepUp}
 use Rattle.vr_mends.proofs.KeepingUp.{fresh_keep_up, openings_keep_up, steps_keep_up}
 
 -- what stands at a place of a list in which one was set
-set_at : {X : Type 0} (xs : List X) (at j : ℕ) (x y : X) → slice_get (slice_set xs at x) j ≡ Some y → (x ≡ y) ⊎ (slice_get xs j ≡ Some y)
+pub set_at : {X : Type 0} (xs : List X) (at j : ℕ) (x y : X) → slice_get (slice_set xs at x) j ≡ Some y → (x ≡ y) ⊎ (slice_get xs j ≡ Some y)
 set_at [] at j x y e = inr e
 set_at (z ∷ zs) zero zero x y e = inl cc
 set_at (z ∷ zs) zero (suc j) x y e = inr e

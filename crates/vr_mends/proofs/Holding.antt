@@ -86,6 +86,10 @@ grid_spared (Say o) f i h l = tt
 block_kept : (f : Face) (e : Effect) (name : Name) → SparesGrid e → block_in (disk.after_all f (calls_of e f)) name ≡ block_in f name
 block_kept f e name h = block_spared (calls_of e f) f name (λ i a b. grid_spared e f i h (omega (arith, a)))
 
+pub grid_reads : (f : Face) (e : Effect) (address : ℕ) → SparesGrid e → block_reading (disk.after_all f (calls_of e f)) address ≡ block_reading f address
+unfolding block_reading
+grid_reads f e address h = together_same 8 (block_place address) f (disk.after_all f (calls_of e f)) (λ k a b. same_reads (calls_of e f) f k (grid_spared e f k h (omega (arith, a))))
+
 put_reads : (f : Face) (name : Name) (b : List ℕ) → IsLong f → is_some (named name b) ≡ true → block_in (disk.after_all f (put_calls name.address b)) name ≡ Some b
 unfolding put_calls block_reading
 put_reads f name b long whole =

@@ -1,11 +1,11 @@
 -- The copies of the superblock, and the blocks of a checkpoint, along a step.
-use Rattle.std.proofs.Common.{arith, ℕ, zero, suc, ◌+◌, ◌-◌, ◌*◌, ◌%◌, ◌≡◌, ◌≢◌, ◌<◌, ◌≤◌, ◌∙◌, ◌⊎◌, inl, inr, refl, sym, ap, subst, Bool, true, false, cond, not, List, [], ◌∷◌, ◌++◌, length, Some}
+use Rattle.std.proofs.Common.{arith, ℕ, zero, suc, ◌+◌, ◌-◌, ◌*◌, ◌%◌, ◌≡◌, ◌≢◌, ◌<◌, ◌≤◌, ◌∙◌, inl, inr, refl, sym, ap, subst, Bool, true, false, cond, not, List, [], ◌∷◌, ◌++◌, length, Some}
 use Rattle.std.specs.Prelude.{All, Contains, filter, nat_lt, slice_get, slice_index_or, ◌==◌}
 use Rattle.std.proofs.lemmas.Bool.{cases_eq, cases_lt, eq-eqb, eqb-true, ltb-false, ltb-true, ne_eqb, true≢false}
 use Rattle.std.proofs.lemmas.Nat.{mod-mul-add}
 use Rattle.std.proofs.Math.Nat.{mod-eq_of_lt}
 use Rattle.std.proofs.lemmas.List.{nil_from_length}
-use Rattle.std.proofs.lemmas.List.Elements.{All-cons, All-filter, All-head, All-nil, All-tail, Contains-get_or}
+use Rattle.std.proofs.lemmas.List.Elements.{All-filter, All-head, All-tail, Contains-get_or}
 use Rattle.vr_grid.specs.declared.name.Name.{Name}
 use Rattle.vr_super.specs.Copies.{IsGood, SuperValue}
 use Rattle.vr_rules.specs.Laws.{IsGoodSave}
@@ -15,30 +15,22 @@ use Rattle.vr_rules.specs.Steps.{Effect, Write, Rewrite, Save, Mend, Checkpoint,
 use Rattle.vr_rules.specs.Words as words
 use Rattle.vr_rules.proofs.Halves.{after_both}
 use Rattle.vr_mends.specs.Cover.{IsLaidOut, StandApart}
-use Rattle.vr_mends.proofs.Counting.{Around, alike_blocks, around, idle_visit, loaded_on, now_same, visit_stays, walks_visit}
+use Rattle.vr_mends.proofs.Counting.{Around, around, idle_visit, loaded_on, now_same, visit_stays, walks_visit}
 use Rattle.vr_mends.proofs.Disks.{Stores}
 use Rattle.vr_mends.proofs.Dry.{fine_after}
 use Rattle.vr_mends.proofs.Holding.{Holds}
-use Rattle.vr_mends.proofs.Laying.{LoadsApart, all_names, nothing_apart}
-use Rattle.vr_mends.proofs.Standing.{Chain, SparesGrid, Standing, chain_both}
+use Rattle.vr_mends.proofs.Laying.{LoadsApart, all_names, nothing_apart, places_stand}
+use Rattle.vr_mends.proofs.Standing.{All-left, All-right, Chain, IsWornWell, SparesGrid, Standing, alike_blocks, chain_both, same_blocks, worn_stands}
 use Rattle.vr_mends.proofs.StandingRules.{FromLoad, Goes, fills, mends, moves, none, rests, some, unnamed, visits}
 use Rattle.vr_mends.proofs.Turning as turning
 use Rattle.vr_mends.proofs.Wearing.{Known, reads, visit_looked, worn}
 
 -- ---- lists
 
-All-left : {X : Type 0} (P : X → Type 0) (xs ys : List X) → All P (xs ++ ys) → All P xs
-All-left P [] ys h = All-nil P
-All-left P (x ∷ xs) ys h = All-cons P x xs (All-head P x (xs ++ ys) h) (All-left P xs ys (All-tail P x (xs ++ ys) h))
-
-All-right : {X : Type 0} (P : X → Type 0) (xs ys : List X) → All P (xs ++ ys) → All P ys
-All-right P [] ys h = h
-All-right P (x ∷ xs) ys h = All-right P xs ys (All-tail P x (xs ++ ys) h)
-
 pub All-one : {X : Type 0} (P : X → Type 0) (xs : List X) (x : X) → All P xs → Contains xs x → P x
 All-one P xs x h c = subst P c.2 (h c.0 x c.1)
 
-All-each : {X : Type 0} (P : X → Type 0) (xs : List X) → ((x : X) → Contains xs x → P x) → All P xs
+pub All-each : {X : Type 0} (P : X → Type 0) (xs : List X) → ((x : X) → Contains xs x → P x) → All P xs
 All-each P xs h = λ k d l. h (slice_index_or xs k d) (Contains-get_or xs k d l)
 
 pub got_is : {X : Type 0} (xs : List X) (k : ℕ) (x : X) → slice_get xs k ≡ Some x → Contains xs x
@@ -143,16 +135,16 @@ module _ {F : Type 0} (s : Setting F) (Fine : F → Type 0) (Copies : F → Supe
       chain_both r.saved a.replica.saved b.replica.saved a.script (c.script ++ b.script) all.before.chain
       (chain_both a.replica.saved c.replica.saved b.replica.saved c.script b.script (visit_chain a.replica d) all.behind.chain)
 
-  goes_chain : (r : Replica) (f : F) (x : Step) → Goes s r f x → r.checkpoint ≤ r.applied → Chain r.saved x.script x.replica.saved
+  goes_chain : {G : List ℕ → Type 0} (r : Replica) (f : F) (x : Step) → Goes G s r f x → r.checkpoint ≤ r.applied → Chain r.saved x.script x.replica.saved
   goes_chain r f x goes o = elim goes [
-    | rests h ↦ h.chain
-    | moves p up ↦ p.chain
-    | fills p lacking same from ↦ p.chain
+    | rests h keeps ↦ h.chain
+    | moves p up keeps ↦ p.chain
+    | fills p lacking same from keeps ↦ p.chain
     | mends name block bad is e ↦ subst (λ (y : Step). Chain r.saved y.script y.replica.saved) (sym e) refl
     | visits v w hv hw e ↦ subst (λ (y : Step). Chain r.saved y.script y.replica.saved) (sym e) (chain_visits v w r f hv hw o)
   ]
 
-  pub goes_copies : (r : Replica) (f : F) (x : Step) → Goes s r f x → r.checkpoint ≤ r.applied → All IsGoodSave x.script → IsGood r.saved → Fine f → Copies f r.saved → Copies (after_all s f x.script) x.replica.saved
+  pub goes_copies : {G : List ℕ → Type 0} (r : Replica) (f : F) (x : Step) → Goes G s r f x → r.checkpoint ≤ r.applied → All IsGoodSave x.script → IsGood r.saved → Fine f → Copies f r.saved → Copies (after_all s f x.script) x.replica.saved
   goes_copies r f x goes o good g fine h = copies_along x.script r.saved x.replica.saved f (goes_chain r f x goes o) good g fine h
 
   -- a visit of the superblock
@@ -183,12 +175,12 @@ module _ {F : Type 0} (s : Setting F) (Fine : F → Type 0) (Copies : F → Supe
       let disk : after_all s f (a.script ++ (c.script ++ b.script)) ≡ after_all s e b.script = after_both s f a.script (c.script ++ b.script) ∙ after_both s d c.script b.script in
       subst (λ (k : F). Copies k b.replica.saved) (sym disk) there
 
-  pub goes_mended : (r : Replica) (f : F) (x : Step) → Goes s r f x → r.checkpoint ≤ r.applied → words.is_loaded r ≡ true → words.place_now r ≡ 64 → x.replica.checkpoint ≡ r.checkpoint
+  pub goes_mended : {G : List ℕ → Type 0} (r : Replica) (f : F) (x : Step) → Goes G s r f x → r.checkpoint ≤ r.applied → words.is_loaded r ≡ true → words.place_now r ≡ 64 → x.replica.checkpoint ≡ r.checkpoint
       → x.replica.cursor ≢ r.cursor → All IsGoodSave x.script → IsGood r.saved → Fine f → Copies (after_all s f x.script) x.replica.saved
   goes_mended r f x goes o loaded at same moved good g fine = elim goes [
-    | rests h ↦ absurd (moved h.cursor)
-    | moves p up ↦ absurd (moved p.cursor)
-    | fills p lacking still from ↦ absurd (moved p.cursor)
+    | rests h keeps ↦ absurd (moved h.cursor)
+    | moves p up keeps ↦ absurd (moved p.cursor)
+    | fills p lacking still from keeps ↦ absurd (moved p.cursor)
     | mends name block bad is e ↦ absurd (moved (ap (λ (y : Step). y.replica.cursor) e))
     | visits v w hv hw e ↦
         subst (λ (y : Step). y.replica.checkpoint ≡ r.checkpoint → All IsGoodSave y.script → Copies (after_all s f y.script) y.replica.saved) (sym e)
@@ -232,7 +224,6 @@ module _ {F : Type 0} (s : Setting F) (Fine : F → Type 0) (Copies : F → Supe
   record VisitLeaves (r : Replica) (f : F) (x : Step) : Type 0 where
     kept : (name : Name) → Known s f r name → Known s (after_all s f x.script) x.replica name
     found : (name : Name) → 65 ≤ words.place_now r → slice_get (words.blocks_of r) (words.place_now r - 65) ≡ Some name → name.address < 128 → Known s (after_all s f x.script) x.replica name
-    among : (name : Name) → Contains x.replica.worn name → Contains r.worn name ⊎ Contains (words.blocks_of r) name
 
   visit_leaves : (v w : Word F) (r : Replica) (f : F) → Standing v → Standing w → r.checkpoint ≤ r.applied → words.is_loaded r ≡ true
       → let x = (v ⨾ words.visit ⨾ w) s r f in x.replica.checkpoint ≡ r.checkpoint → VisitLeaves r f x
@@ -258,8 +249,6 @@ module _ {F : Type 0} (s : Setting F) (Fine : F → Type 0) (Copies : F → Supe
       let disk : after_all s f (a.script ++ (c.script ++ b.script)) ≡ after_all s e b.script = after_both s f a.script (c.script ++ b.script) ∙ after_both s d c.script b.script in
       let whole : (name : Name) → Known s (after_all s e b.script) b.replica name → Known s (after_all s f (a.script ++ (c.script ++ b.script))) b.replica name =
       λ name known. subst (λ (k : F). Known s k b.replica name) (sym disk) known in
-      let got : (name : Name) → slice_get (words.blocks_of a.replica) (words.place_now a.replica - 65) ≡ Some name → slice_get (words.blocks_of r) (words.place_now r - 65) ≡ Some name =
-      λ name i. ap (λ xs. slice_get xs (words.place_now r - 65)) (sym blocks) ∙ (ap (λ k. slice_get (words.blocks_of a.replica) (k - 65)) (sym now) ∙ i) in
       record {
         kept = λ name known.
             let one = known_along a.script f r a.replica name (all.before.spares first) (worn_same r a.replica before.worn) known in
@@ -270,90 +259,116 @@ module _ {F : Type 0} (s : Setting F) (Fine : F → Type 0) (Copies : F → Supe
             let at_visit : Known s d c.replica name = looked.found name (subst (λ k. 65 ≤ k) (sym now) high) there low in
             let two = known_along c.script d c.replica c.replica name looked.spares (λ bad k. k) at_visit in
             whole name (known_along b.script e c.replica b.replica name (all.behind.spares last) (worn_same c.replica b.replica behind.worn) two);
-        among = λ name k. elim (looked.among name (subst (λ ws. Contains ws name) behind.worn k)) [
-          | inl old ↦ inl (subst (λ ws. Contains ws name) before.worn old)
-          | inr new ↦ inr (got_is (words.blocks_of r) (words.place_now r - 65) name (got name new))
-        ];
       }
 
-  pub goes_known : (r : Replica) (f : F) (x : Step) (name : Name) → Goes s r f x → r.checkpoint ≤ r.applied → words.is_loaded r ≡ true → x.replica.checkpoint ≡ r.checkpoint → Fine f
+  pub goes_known : {G : List ℕ → Type 0} (r : Replica) (f : F) (x : Step) (name : Name) → Goes G s r f x → r.checkpoint ≤ r.applied → words.is_loaded r ≡ true → x.replica.checkpoint ≡ r.checkpoint → Fine f
       → StandApart (words.blocks_of r) → IsLaidOut r → Contains (words.blocks_of r) name → Known s f r name → Known s (after_all s f x.script) x.replica name
   unfolding after_all
   goes_known r f x name goes o loaded same fine apart laid among known = elim goes [
-    | rests h ↦ known_along x.script f r x.replica name (h.spares same) (worn_same r x.replica (h.alike same).worn) known
-    | moves p up ↦ absurd (omega (arith, up, same))
-    | fills p lacking still from ↦ absurd (true≢false (sym loaded ∙ lacking))
+    | rests h keeps ↦ known_along x.script f r x.replica name (h.spares same) (worn_same r x.replica (h.alike same).worn) known
+    | moves p up keeps ↦ absurd (omega (arith, up, same))
+    | fills p lacking still from keeps ↦ absurd (true≢false (sym loaded ∙ lacking))
     | mends m block bad is e ↦ subst (λ (y : Step). Known s (after_all s f y.script) y.replica name) (sym e) (known_put r f m name block fine bad is apart laid among known)
     | visits v w hv hw e ↦
         subst (λ (y : Step). y.replica.checkpoint ≡ r.checkpoint → Known s (after_all s f y.script) y.replica name) (sym e)
         (λ i. (visit_leaves v w r f hv hw o loaded i).kept name known) same
   ]
 
-  pub goes_found : (r : Replica) (f : F) (x : Step) (name : Name) → Goes s r f x → r.checkpoint ≤ r.applied → words.is_loaded r ≡ true → x.replica.checkpoint ≡ r.checkpoint → x.replica.cursor ≢ r.cursor
+  pub goes_found : {G : List ℕ → Type 0} (r : Replica) (f : F) (x : Step) (name : Name) → Goes G s r f x → r.checkpoint ≤ r.applied → words.is_loaded r ≡ true → x.replica.checkpoint ≡ r.checkpoint → x.replica.cursor ≢ r.cursor
       → 65 ≤ words.place_now r → slice_get (words.blocks_of r) (words.place_now r - 65) ≡ Some name → name.address < 128 → Known s (after_all s f x.script) x.replica name
   goes_found r f x name goes o loaded same moved high at low = elim goes [
-    | rests h ↦ absurd (moved h.cursor)
-    | moves p up ↦ absurd (moved p.cursor)
-    | fills p lacking still from ↦ absurd (moved p.cursor)
+    | rests h keeps ↦ absurd (moved h.cursor)
+    | moves p up keeps ↦ absurd (moved p.cursor)
+    | fills p lacking still from keeps ↦ absurd (moved p.cursor)
     | mends m block bad is e ↦ absurd (moved (ap (λ (y : Step). y.replica.cursor) e))
     | visits v w hv hw e ↦
         subst (λ (y : Step). y.replica.checkpoint ≡ r.checkpoint → Known s (after_all s f y.script) y.replica name) (sym e)
         (λ i. (visit_leaves v w r f hv hw o loaded i).found name high at low) same
   ]
 
-  -- ---- the blocks that have gone bad are the checkpoint's
+-- ---- the blocks that have gone bad are the checkpoint's
 
-  laid_same : (r q : Replica) → q.missing ≡ r.missing → words.blocks_of q ≡ words.blocks_of r → q.worn ≡ r.worn → IsLaidOut r → IsLaidOut q
-  laid_same r q m b w h = record {
-    apart = λ e. subst StandApart (sym b) (h.apart (sym m ∙ e));
-    worn = subst (λ ws. All (Contains (words.blocks_of q)) ws) (sym w) (subst (λ bs. All (Contains bs) r.worn) (sym b) h.worn);
-    none = λ lacks. w ∙ h.none (λ e. lacks (m ∙ e));
+module _ {F : Type 0} (s : Setting F) where
+  visit_worn : (r : Replica) (f : F) → IsWornWell r → IsWornWell (words.visit s r f).replica
+  visit_worn r f k =
+      let q : Replica = (words.visit s r f).replica in
+      let st = visit_stays s r f in
+      elim (words.is_loaded r) as (λ b. words.is_loaded r ≡ b → IsWornWell q) [
+        | true ↦ λ t.
+            let looked = visit_looked s r f t in
+            record {
+              worn = subst (λ bs. All (Contains bs) q.worn) (sym (same_blocks r q st.checkpoint st.root st.table)) (All-each (Contains (words.blocks_of r)) q.worn (λ name c. elim (looked.among name c) [
+                | inl old ↦ All-one (Contains (words.blocks_of r)) r.worn name k.worn old
+                | inr new ↦ got_is (words.blocks_of r) (words.place_now r - 65) name new
+              ]));
+              none = λ lacks. absurd (lacks (st.missing ∙ missing_none r t));
+            }
+        | false ↦ λ t. subst (λ (x : Step). IsWornWell x.replica) (sym (turning.unvisited s r f t)) k
+      ] refl
+
+  visits_worn : (v w : Word F) (r : Replica) (f : F) → Standing v → Standing w → r.checkpoint ≤ r.applied → IsWornWell r → IsWornWell ((v ⨾ words.visit ⨾ w) s r f).replica
+  unfolding ◌⨾◌
+  visits_worn v w r f hv hw o k =
+      let a = v s r f in
+      let d : F = after_all s f a.script in
+      let c = words.visit s a.replica d in
+      let e : F = after_all s d c.script in
+      let b = w s c.replica e in
+      let one = hv.every s r f o in
+      let st = visit_stays s a.replica d in
+      let low = one.order in
+      let at = st.checkpoint in
+      let done = st.applied in
+      let two = hw.every s c.replica e (omega (arith, low, at, done)) in
+      worn_stands c.replica b two (visit_worn a.replica d (worn_stands r a one k))
+
+  worn_mended : (name : Name) (r : Replica) → IsWornWell r → IsWornWell (rules.not_worn name r)
+  worn_mended name r h = record {
+    worn = All-filter (λ (m : Name). not (m.address == name.address)) (Contains (words.blocks_of r)) r.worn h.worn;
+    none = λ lacks. ap (filter (λ (m : Name). not (m.address == name.address))) (h.none lacks);
   }
+
+  pub goes_worn : {G : List ℕ → Type 0} (r : Replica) (f : F) (x : Step) → Goes G s r f x → r.checkpoint ≤ r.applied → IsWornWell r → IsWornWell x.replica
+  goes_worn r f x goes o k = elim goes [
+    | rests h keeps ↦ keeps.worn k
+    | moves q up keeps ↦ keeps.worn k
+    | fills q lacking still from filled ↦ filled.worn k
+    | mends name block bad is e ↦ subst (λ (y : Step). IsWornWell y.replica) (sym e) (worn_mended name r k)
+    | visits v w hv hw e ↦ subst (λ (y : Step). IsWornWell y.replica) (sym e) (visits_worn v w r f hv hw o k)
+  ]
+
+  -- ---- while its checkpoint stays its blocks stand apart
 
   pub laid_loaded : (apart : LoadsApart s) (q : Replica) → FromLoad s q → StandApart (words.blocks_of q)
   laid_loaded apart q from = elim from [
     | none e ↦ subst StandApart (sym (ap (λ b. cond b [] (all_names q.root q.table)) (eq-eqb q.checkpoint 0 e))) nothing_apart
     | some f texts e ↦
-        elim (q.checkpoint == 0) as (λ b. StandApart (cond b [] (all_names q.root q.table))) [ true ↦ nothing_apart | false ↦ apart.apart f q.root texts q.table e ]
+        let at = apart.places f q.root texts q.table e in
+        elim (q.checkpoint == 0) as (λ b. StandApart (cond b [] (all_names q.root q.table))) [ true ↦ nothing_apart | false ↦ places_stand q.root q.table at.0 at.1 ]
     | unnamed f e ↦ absurd (apart.some f q.root e)
   ]
 
-  laid_mended : (name : Name) (r : Replica) → IsLaidOut r → IsLaidOut (rules.not_worn name r)
-  laid_mended name r h = record {
-    apart = h.apart;
-    worn = All-filter (λ (m : Name). not (m.address == name.address)) (Contains (words.blocks_of r)) r.worn h.worn;
-    none = λ lacks. ap (filter (λ (m : Name). not (m.address == name.address))) (h.none lacks);
-  }
-
-  laid_visited : (v w : Word F) (r : Replica) (f : F) → Standing v → Standing w → r.checkpoint ≤ r.applied → IsLaidOut r
-      → let x = (v ⨾ words.visit ⨾ w) s r f in x.replica.checkpoint ≡ r.checkpoint → IsLaidOut x.replica
-  laid_visited v w r f hv hw o h same =
+  visits_apart : (v w : Word F) (r : Replica) (f : F) → Standing v → Standing w → r.checkpoint ≤ r.applied → let x = (v ⨾ words.visit ⨾ w) s r f in x.replica.checkpoint ≡ r.checkpoint
+      → (r.missing ≡ [] → StandApart (words.blocks_of r)) → x.replica.missing ≡ [] → StandApart (words.blocks_of x.replica)
+  visits_apart v w r f hv hw o same h e =
       let x = (v ⨾ words.visit ⨾ w) s r f in
-      elim (words.is_loaded r) as (λ b. words.is_loaded r ≡ b → IsLaidOut x.replica) [
-        | true ↦ λ t.
-            let walk = walks_visit s v w r f hv hw o t same in
-            let leaves = visit_leaves v w r f hv hw o t same in
-            record {
-              apart = λ e. subst StandApart (sym walk.blocks) (h.apart (sym walk.missing ∙ e));
-              worn = subst (λ bs. All (Contains bs) x.replica.worn) (sym walk.blocks)
-                  (All-each (Contains (words.blocks_of r)) x.replica.worn (λ name c. elim (leaves.among name c) [ inl old ↦ All-one (Contains (words.blocks_of r)) r.worn name h.worn old | inr new ↦ new ]));
-              none = λ lacks. absurd (lacks (walk.missing ∙ missing_none r t));
-            }
-        | false ↦ λ t. let idle = idle_visit s v w r f hv hw o t in laid_same r x.replica idle.missing (idle.blocks same) (idle.worn same) h
+      elim (words.is_loaded r) as (λ b. words.is_loaded r ≡ b → StandApart (words.blocks_of x.replica)) [
+        | true ↦ λ t. let walk = walks_visit s v w r f hv hw o t same in subst StandApart (sym walk.blocks) (h (sym walk.missing ∙ e))
+        | false ↦ λ t. let idle = idle_visit s v w r f hv hw o t in subst StandApart (sym (idle.blocks same)) (h (sym idle.missing ∙ e))
       ] refl
 
-  pub goes_laid : (apart : LoadsApart s) (r : Replica) (f : F) (x : Step) → Goes s r f x → r.checkpoint ≤ r.applied → x.replica.checkpoint ≡ r.checkpoint → IsLaidOut r → IsLaidOut x.replica
-  goes_laid apart r f x goes o same h = elim goes [
-    | rests k ↦ laid_same r x.replica k.missing (alike_blocks r x.replica same (k.alike same)) (k.alike same).worn h
-    | moves p up ↦ absurd (omega (arith, up, same))
-    | fills p lacking still from ↦
-        let gone : x.replica.worn ≡ [] = still same ∙ h.none (missing_some r lacking) in
-        record {
-          apart = λ e. laid_loaded apart x.replica (from same (ap (λ (ms : List Name). length ms == 0) e));
-          worn = subst (All (Contains (words.blocks_of x.replica))) (sym gone) (All-nil (Contains (words.blocks_of x.replica)));
-          none = λ e. gone;
-        }
-    | mends name block bad is e ↦ subst (λ (y : Step). IsLaidOut y.replica) (sym e) (laid_mended name r h)
+  goes_apart : {G : List ℕ → Type 0} (apart : LoadsApart s) (r : Replica) (f : F) (x : Step) → Goes G s r f x → r.checkpoint ≤ r.applied → x.replica.checkpoint ≡ r.checkpoint
+      → (r.missing ≡ [] → StandApart (words.blocks_of r)) → x.replica.missing ≡ [] → StandApart (words.blocks_of x.replica)
+  goes_apart apart r f x goes o same h lacks = elim goes [
+    | rests k keeps ↦ subst StandApart (sym (alike_blocks r x.replica same (k.alike same))) (h (sym k.missing ∙ lacks))
+    | moves p up keeps ↦ absurd (omega (arith, up, same))
+    | fills p lacking still from filled ↦ laid_loaded apart x.replica (from same (ap (λ (ms : List Name). length ms == 0) lacks))
+    | mends name block bad is e ↦ subst (λ (y : Step). y.replica.missing ≡ [] → StandApart (words.blocks_of y.replica)) (sym e) h lacks
     | visits v w hv hw e ↦
-        subst (λ (y : Step). y.replica.checkpoint ≡ r.checkpoint → IsLaidOut y.replica) (sym e) (λ i. laid_visited v w r f hv hw o h i) same
+        subst (λ (y : Step). y.replica.checkpoint ≡ r.checkpoint → y.replica.missing ≡ [] → StandApart (words.blocks_of y.replica)) (sym e) (λ i. visits_apart v w r f hv hw o i h) same lacks
   ]
+
+  pub goes_laid : {G : List ℕ → Type 0} (apart : LoadsApart s) (r : Replica) (f : F) (x : Step) → Goes G s r f x → r.checkpoint ≤ r.applied → x.replica.checkpoint ≡ r.checkpoint → IsLaidOut r → IsLaidOut x.replica
+  goes_laid apart r f x goes o same h =
+      let w = goes_worn r f x goes o (record { worn = h.worn; none = h.none }) in
+      record { apart = goes_apart apart r f x goes o same h.apart; worn = w.worn; none = w.none }

@@ -24,3 +24,6 @@ mod Holding
 mod Laying
 mod Lasting
 mod Wearing
+mod Placing
+mod PlacingOpening
+mod GroupPlaces

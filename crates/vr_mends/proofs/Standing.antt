@@ -1,12 +1,22 @@
 -- Words that visit nothing: what tells the places of a disk stays, unless the checkpoint rises.
-use Rattle.std.proofs.Common.{arith, ℕ, zero, suc, ◌+◌, ◌≡◌, ◌≤◌, ◌∙◌, refl, sym, ap, subst, Bool, true, false, cond, List, [], ◌∷◌, ◌++◌, map, Option, Some, None}
-use Rattle.std.specs.Prelude.{All, not}
-use Rattle.std.proofs.lemmas.List.Elements.{All-nil, All-cons, All-append, All-map}
+use Rattle.std.proofs.Common.{arith, ℕ, zero, suc, ◌+◌, ◌%◌, ◌≡◌, ◌≢◌, ◌<◌, ◌≤◌, ◌∙◌, inl, inr, refl, sym, ap, subst, Bool, true, false, cond, List, [], ◌∷◌, ◌++◌, map, Option, Some, None}
+use Rattle.std.specs.Prelude.{All, Contains, not, ◌==◌}
+use Rattle.std.specs.Option.{option_and_then}
+use Rattle.std.proofs.lemmas.Bool.{cases_lt}
+use Rattle.std.proofs.lemmas.Nat.{mod_below}
+use Rattle.std.proofs.lemmas.List.Elements.{All-nil, All-cons, All-append, All-head, All-map, All-tail}
+use Rattle.vr_apply.specs.Texts.{texts_of}
+use Rattle.vr_apply.specs.declared.state.State.{State}
 use Rattle.vr_header.specs.declared.header.Header.{Header}
 use Rattle.vr_header.specs.declared.part.Part.{Part}
 use Rattle.vr_header.specs.declared.part.Part.TheVariants.{Here, Lost, Wanted, Unknown, Nothing}
 use Rattle.vr_header.specs.Made.{Whole}
+use Rattle.vr_header.specs.Same.{same_header}
+use Rattle.vr_kv.specs.Kv.{IsKv}
+use Rattle.vr_sess.specs.Sessions.{IsSessions}
+use Rattle.vr_rings.specs.Slots.{IsWhole}
 use Rattle.vr_grid.specs.declared.name.Name.{Name}
+use Rattle.vr_ckpt.specs.declared.table.Payload.{Payload}
 use Rattle.vr_ckpt.specs.declared.table.PayloadTable.{PayloadTable}
 use Rattle.vr_ckpt.specs.declared.saving.SavedCheckpoint as checkpoint
 use Rattle.vr_msg.specs.declared.choice.Choice.{Choice}
@@ -18,6 +28,11 @@ use Rattle.vr_super.specs.Copies.{SuperValue}
 use Rattle.vr_rules.specs.Replica.{Replica, forgetting, is_here, part_at, with_part}
 use Rattle.vr_rules.specs.Steps.{Effect, Write, Rewrite, Save, Mend, Checkpoint, PutBlock, Say, Setting, Step, Word, ◌⨾◌, after_all, by, change, does, each, naming, quiet, reading, says, times, when}
 use Rattle.vr_rules.specs.Words as words
+use Rattle.vr_rules.specs.Fit.{IsFit, ReadsWell}
+use Rattle.vr_rules.proofs.FitWords.{reads_entry, reads_later}
+use Rattle.vr_worlds.proofs.States.{IsState, state_kept, text_of_state}
+use Rattle.vr_mends.specs.Places.{IsAt, IsInPlaces}
+use Rattle.vr_mends.proofs.Laying.{SavesInPlace}
 
 -- ---- scripts
 
@@ -52,7 +67,21 @@ pub chain_said : (v : SuperValue) (os : List Output) → Chain v (map Say os) v
 chain_said v [] = refl
 chain_said v (o ∷ os) = chain_said v os
 
+pub All-left : {X : Type 0} (P : X → Type 0) (xs ys : List X) → All P (xs ++ ys) → All P xs
+All-left P [] ys h = All-nil P
+All-left P (x ∷ xs) ys h = All-cons P x xs (All-head P x (xs ++ ys) h) (All-left P xs ys (All-tail P x (xs ++ ys) h))
+
+pub All-right : {X : Type 0} (P : X → Type 0) (xs ys : List X) → All P (xs ++ ys) → All P ys
+All-right P [] ys h = h
+All-right P (x ∷ xs) ys h = All-right P xs ys (All-tail P x (xs ++ ys) h)
+
 -- ---- replicas
+
+abbrev blocks : ℕ → Name → PayloadTable → List Name
+blocks checkpoint root table = cond (checkpoint == 0) [] (root ∷ (map (λ (p : Payload). p.name) table.sessions ++ map (λ (p : Payload). p.name) table.keys))
+
+pub same_blocks : (r q : Replica) → q.checkpoint ≡ r.checkpoint → q.root ≡ r.root → q.table ≡ r.table → words.blocks_of q ≡ words.blocks_of r
+same_blocks r q c n t = ap (λ k. blocks k q.root q.table) c ∙ (ap (λ m. blocks r.checkpoint m q.table) n ∙ ap (blocks r.checkpoint r.root) t)
 
 -- the blocks of the checkpoint are the same, and those of them that have gone bad
 pub record Alike (r q : Replica) : Type 0 where
@@ -66,6 +95,9 @@ alike_same r = record { root = refl; table = refl; worn = refl }
 pub alike_more : (a b c : Replica) → Alike a b → Alike b c → Alike a c
 alike_more a b c x y = record { root = y.root ∙ x.root; table = y.table ∙ x.table; worn = y.worn ∙ x.worn }
 
+pub alike_blocks : (r q : Replica) → q.checkpoint ≡ r.checkpoint → Alike r q → words.blocks_of q ≡ words.blocks_of r
+alike_blocks r q c a = same_blocks r q c a.root a.table
+
 -- what a step leaves of this
 pub record Stands (r : Replica) (x : Step) : Type 0 where
   pub order : x.replica.checkpoint ≤ x.replica.applied
@@ -74,6 +106,7 @@ pub record Stands (r : Replica) (x : Step) : Type 0 where
   pub cursor : x.replica.cursor ≡ r.cursor
   pub chain : Chain r.saved x.script x.replica.saved
   pub alike : x.replica.checkpoint ≡ r.checkpoint → Alike r x.replica
+  pub fresh : r.checkpoint < x.replica.checkpoint → x.replica.worn ≡ []
   pub spares : x.replica.checkpoint ≡ r.checkpoint → All SparesGrid x.script
 
 abbrev pub step_of : Replica → List Effect → Step
@@ -93,6 +126,10 @@ both_stand r x y a b =
       cursor = b.cursor ∙ a.cursor;
       chain = chain_both r.saved x.replica.saved y.replica.saved x.script y.script a.chain b.chain;
       alike = λ e. alike_more r x.replica y.replica (a.alike (first e)) (b.alike (last e));
+      fresh = λ more. elim (cases_lt x.replica.checkpoint y.replica.checkpoint) [
+        | inl later ↦ b.fresh later
+        | inr same ↦ (b.alike (omega (arith, on, same))).worn ∙ a.fresh (omega (arith, on, same, more))
+      ];
       spares = λ e. All-append SparesGrid x.script y.script (a.spares (first e)) (b.spares (last e));
     }
 
@@ -106,6 +143,7 @@ pub record Aspect : Type 0 where
   pub root : Name
   pub table : PayloadTable
   pub worn : List Name
+  pub state : State
 
 abbrev pub aspect : Replica → Aspect
 aspect r = record {
@@ -117,6 +155,7 @@ aspect r = record {
   root = r.root;
   table = r.table;
   worn = r.worn;
+  state = r.state;
 }
 
 pub aspect_stands : (r q : Replica) (es : List Effect) → aspect q ≡ aspect r → r.checkpoint ≤ r.applied → Chain r.saved es r.saved → All SparesGrid es → Stands r (step_of q es)
@@ -130,6 +169,7 @@ aspect_stands r q es e order chain spares =
       cursor = ap (λ (a : Aspect). a.cursor) e;
       chain = subst (Chain r.saved es) (sym (ap (λ (a : Aspect). a.saved) e)) chain;
       alike = λ i. record { root = ap (λ (a : Aspect). a.root) e; table = ap (λ (a : Aspect). a.table) e; worn = ap (λ (a : Aspect). a.worn) e };
+      fresh = λ more. absurd (omega (arith, at, more));
       spares = λ i. spares;
     }
 
@@ -142,52 +182,138 @@ applied_stands e r o = record {
   cursor = refl;
   chain = refl;
   alike = λ i. record { root = refl; table = refl; worn = refl };
+  fresh = λ more. absurd (omega (arith, more));
   spares = λ i. All-nil SparesGrid;
 }
 
+-- ---- what a checkpoint is made of: the state, and the table before
+
+pub record Stock (state : State) (old : PayloadTable) : Type 0 where
+  pub sessions : IsSessions state.sessions
+  pub machine : IsKv state.machine
+  pub table : IsInPlaces old
+
+abbrev pub IsStocked : Replica → Type 0
+IsStocked r = Stock r.state r.table
+
+-- and where its root stands, once no block is missing
+abbrev pub Rooted : List Name → ℕ → Name → Type 0
+Rooted missing checkpoint root = missing ≡ [] → 0 < checkpoint → IsAt 0 root
+
+abbrev pub IsRooted : Replica → Type 0
+IsRooted r = Rooted r.missing r.checkpoint r.root
+
+stock_alike : (r q : Replica) → aspect q ≡ aspect r → IsStocked r → IsStocked q
+stock_alike r q e k = subst (λ (a : Aspect). Stock a.state a.table) (sym e) k
+
+root_alike : (r q : Replica) → aspect q ≡ aspect r → IsRooted r → IsRooted q
+root_alike r q e k = subst (λ (a : Aspect). Rooted a.missing a.checkpoint a.root) (sym e) k
+
+-- what is known of a disk, and of what a step writes to it
+pub record Fitting {F : Type 0} (s : Setting F) (f : F) (x : Step) : Type 0 where
+  pub saves : SavesInPlace s
+  pub reads : ReadsWell s f
+  pub fits : All IsFit x.script
+
+some_entry : (h : Header) (o : Option Whole) (e : Whole) → option_and_then (λ (e : Whole). cond (same_header e.header h) (Some e) None) o ≡ Some e → o ≡ Some e
+some_entry h None e q = absurd cc
+some_entry h (Some x) e q =
+    elim (same_header x.header h) as (λ t. cond t (Some x) None ≡ Some e → Some x ≡ Some e) [ true ↦ λ q. q | false ↦ λ q. absurd cc ] q
+
+whole_entry : {F : Type 0} (s : Setting F) (f : F) (h : Header) (e : Whole) → ReadsWell s f → words.entry_of h s f ≡ Some e → IsWhole e
+whole_entry s f h e reads q =
+    let low = mod_below h.op 64 (omega arith) in
+    reads_entry s f (h.op % 64) e reads low (some_entry h (s.entry f (h.op % 64)) e q)
+
 -- ---- words
 
-pub record Standing {F : Type 0} (w : Word F) : Type 0 where
+-- with what is known of an entry that it is of
+pub record StandingIf {F : Type 0} (known : Type 0) (w : Word F) : Type 0 where
   pub every : (s : Setting F) (r : Replica) (f : F) → r.checkpoint ≤ r.applied → Stands r (w s r f)
+  pub stocks : known → (s : Setting F) (r : Replica) (f : F) → Fitting s f (w s r f) → IsStocked r → IsStocked (w s r f).replica
+  pub roots : (s : Setting F) (r : Replica) (f : F) → SavesInPlace s → IsRooted r → IsRooted (w s r f).replica
+
+abbrev pub Standing : {F : Type 0} → Word F → Type 0
+Standing w = StandingIf (Unit {0}) w
 
 module _ {F : Type 0} where
-  pub standing_then : (v w : Word F) → Standing v → Standing w → Standing (v ⨾ w)
+  pub standing_then : {known : Type 0} (v w : Word F) → StandingIf known v → StandingIf known w → StandingIf known (v ⨾ w)
   unfolding ◌⨾◌
   standing_then v w x y = record {
     every = λ s r f o.
         let a = v s r f in
         let one = x.every s r f o in
         both_stand r a (w s a.replica (after_all s f a.script)) one (y.every s a.replica (after_all s f a.script) one.order);
+    stocks = λ known s r f fit k.
+        let a = v s r f in
+        let d : F = after_all s f a.script in
+        let b = w s a.replica d in
+        let left = All-left IsFit a.script b.script fit.fits in
+        let first : Fitting s f a = record { saves = fit.saves; reads = fit.reads; fits = left } in
+        let last : Fitting s d b = record { saves = fit.saves; reads = reads_later s f a.script fit.reads left; fits = All-right IsFit a.script b.script fit.fits } in
+        y.stocks known s a.replica d last (x.stocks known s r f first k);
+    roots = λ s r f p k. let a = v s r f in y.roots s a.replica (after_all s f a.script) p (x.roots s r f p k);
   }
 
   pub standing_quiet : Standing {F = F} quiet
   unfolding quiet
-  standing_quiet = record { every = λ s r f o. aspect_stands r r [] refl o refl (All-nil SparesGrid) }
+  standing_quiet = record {
+    every = λ s r f o. aspect_stands r r [] refl o refl (All-nil SparesGrid);
+    stocks = λ known s r f fit k. k;
+    roots = λ s r f p k. k;
+  }
 
   -- a change of other fields
   pub standing_change : (g : Replica → Replica) → ((r : Replica) → aspect (g r) ≡ aspect r) → Standing {F = F} (change g)
   unfolding change
-  standing_change g h = record { every = λ s r f o. aspect_stands r (g r) [] (h r) o refl (All-nil SparesGrid) }
+  standing_change g h = record {
+    every = λ s r f o. aspect_stands r (g r) [] (h r) o refl (All-nil SparesGrid);
+    stocks = λ known s r f fit k. stock_alike r (g r) (h r) k;
+    roots = λ s r f p k. root_alike r (g r) (h r) k;
+  }
 
   pub standing_does : (e : Replica → Effect) → ((r : Replica) → SparesGrid (e r) × Chain r.saved (e r ∷ []) r.saved) → Standing {F = F} (does e)
   unfolding does
-  standing_does e h = record { every = λ s r f o. aspect_stands r r (e r ∷ []) refl o (h r).1 (All-cons SparesGrid (e r) [] (h r).0 (All-nil SparesGrid)) }
+  standing_does e h = record {
+    every = λ s r f o. aspect_stands r r (e r ∷ []) refl o (h r).1 (All-cons SparesGrid (e r) [] (h r).0 (All-nil SparesGrid));
+    stocks = λ known s r f fit k. k;
+    roots = λ s r f p k. k;
+  }
 
   pub standing_says : (os : Replica → List Output) → Standing {F = F} (says os)
   unfolding says
-  standing_says os = record { every = λ s r f o. aspect_stands r r (map Say (os r)) refl o (chain_said r.saved (os r)) (All-map SparesGrid Say (os r) (λ k d l. tt)) }
+  standing_says os = record {
+    every = λ s r f o. aspect_stands r r (map Say (os r)) refl o (chain_said r.saved (os r)) (All-map SparesGrid Say (os r) (λ k d l. tt));
+    stocks = λ known s r f fit k. k;
+    roots = λ s r f p k. k;
+  }
 
   pub standing_by : (w : Replica → Word F) → ((r : Replica) → Standing (w r)) → Standing (by w)
   unfolding by
-  standing_by w h = record { every = λ s r f o. (h r).every s r f o }
+  standing_by w h = record {
+    every = λ s r f o. (h r).every s r f o;
+    stocks = λ known s r f fit k. (h r).stocks known s r f (record { saves = fit.saves; reads = fit.reads; fits = fit.fits }) k;
+    roots = λ s r f p k. (h r).roots s r f p k;
+  }
 
   pub standing_naming : (w : (List ℕ → List ℕ) → Word F) → ((hash : List ℕ → List ℕ) → Standing (w hash)) → Standing (naming w)
   unfolding naming
-  standing_naming w h = record { every = λ s r f o. (h s.hash).every s r f o }
+  standing_naming w h = record {
+    every = λ s r f o. (h s.hash).every s r f o;
+    stocks = λ known s r f fit k. (h s.hash).stocks known s r f (record { saves = fit.saves; reads = fit.reads; fits = fit.fits }) k;
+    roots = λ s r f p k. (h s.hash).roots s r f p k;
+  }
 
   pub standing_reading : {X : Type 0} (g : Setting F → F → X) (w : X → Word F) → ((x : X) → Standing (w x)) → Standing (reading g w)
   unfolding reading
-  standing_reading g w h = record { every = λ s r f o. (h (g s f)).every s r f o }
+  standing_reading g w h = record {
+    every = λ s r f o. (h (g s f)).every s r f o;
+    stocks = λ known s r f fit k. (h (g s f)).stocks known s r f (record { saves = fit.saves; reads = fit.reads; fits = fit.fits }) k;
+    roots = λ s r f p k. (h (g s f)).roots s r f p k;
+  }
+
+  pub standing_of : {known : Type 0} (w : Word F) → Standing w → StandingIf known w
+  standing_of w h = record { every = h.every; stocks = λ known. h.stocks tt; roots = h.roots }
 
   pub standing_if : (b : Bool) (v w : Word F) → Standing v → Standing w → Standing (cond b v w)
   standing_if true v w h k = h
@@ -212,18 +338,35 @@ module _ {F : Type 0} where
   unfolding with_part
   standing_lost h = standing_change (words.lost h) (λ r. refl)
 
-  standing_or_lost : (h : Header) (w : Whole → Word F) (o : Option Whole) → ((e : Whole) → Standing (w e)) → Standing (words.or_lost h w o)
-  standing_or_lost h w None all = standing_lost h
-  standing_or_lost h w (Some e) all = all e
+  module _ (h : Header) (w : Whole → Word F) (all : (e : Whole) → StandingIf (IsWhole e) (w e)) where
+    or_every : (o : Option Whole) (s : Setting F) (r : Replica) (f : F) → r.checkpoint ≤ r.applied → Stands r (words.or_lost h w o s r f)
+    or_every None s r f o = (standing_lost h).every s r f o
+    or_every (Some e) s r f o = (all e).every s r f o
 
-  standing_part : (w : Whole → Word F) (p : Part) → ((e : Whole) → Standing (w e)) → Standing (words.with_entry w p)
-  standing_part w (Here h) all = standing_reading (words.entry_of h) (words.or_lost h w) (λ o. standing_or_lost h w o all)
+    or_stocks : (o : Option Whole) (s : Setting F) (r : Replica) (f : F) → words.entry_of h s f ≡ o → Fitting s f (words.or_lost h w o s r f) → IsStocked r → IsStocked (words.or_lost h w o s r f).replica
+    or_stocks None s r f e fit k = (standing_lost h).stocks tt s r f fit k
+    or_stocks (Some x) s r f e fit k = (all x).stocks (whole_entry s f h x fit.reads e) s r f fit k
+
+    or_roots : (o : Option Whole) (s : Setting F) (r : Replica) (f : F) → SavesInPlace s → IsRooted r → IsRooted (words.or_lost h w o s r f).replica
+    or_roots None s r f p k = (standing_lost h).roots s r f p k
+    or_roots (Some x) s r f p k = (all x).roots s r f p k
+
+    standing_here : Standing (reading (words.entry_of h) (words.or_lost h w))
+    unfolding reading
+    standing_here = record {
+      every = λ s r f o. or_every (words.entry_of h s f) s r f o;
+      stocks = λ known s r f fit k. or_stocks (words.entry_of h s f) s r f refl (record { saves = fit.saves; reads = fit.reads; fits = fit.fits }) k;
+      roots = λ s r f p k. or_roots (words.entry_of h s f) s r f p k;
+    }
+
+  standing_part : (w : Whole → Word F) (p : Part) → ((e : Whole) → StandingIf (IsWhole e) (w e)) → Standing (words.with_entry w p)
+  standing_part w (Here h) all = standing_here h w all
   standing_part w (Lost h) all = standing_quiet
   standing_part w (Wanted h) all = standing_quiet
   standing_part w Unknown all = standing_quiet
   standing_part w Nothing all = standing_quiet
 
-  pub standing_entry : (op : ℕ) (w : Whole → Word F) → ((e : Whole) → Standing (w e)) → Standing (words.with_entry_at op w)
+  pub standing_entry : (op : ℕ) (w : Whole → Word F) → ((e : Whole) → StandingIf (IsWhole e) (w e)) → Standing (words.with_entry_at op w)
   unfolding words.with_entry_at
   standing_entry op w all = standing_by _ (λ r. standing_part w (part_at r op) all)
 
@@ -242,8 +385,11 @@ module _ {F : Type 0} where
       cursor = refl;
       chain = refl;
       alike = λ i. record { root = refl; table = refl; worn = refl };
+      fresh = λ more. absurd (omega (arith, more));
       spares = λ i. All-cons SparesGrid (Save r.saved (words.value_of r)) [] tt (All-nil SparesGrid);
     };
+    stocks = λ known s r f fit k. k;
+    roots = λ s r f p k. k;
   }
 
   pub standing_enter : (view : ℕ) → Standing {F = F} (words.enter view)
@@ -273,24 +419,51 @@ module _ {F : Type 0} where
         cursor = refl;
         chain = refl;
         alike = λ i. absurd (let same : r.applied + 1 ≡ r.checkpoint = i in omega (arith, o, same));
+        fresh = λ more. refl;
         spares = λ i. absurd (let same : r.applied + 1 ≡ r.checkpoint = i in omega (arith, o, same));
       }
 
-  standing_applied : (e : Whole) → Standing {F = F} (change (words.applied e) ⨾ by (λ r. when (words.is_checkpoint r.applied) words.make_checkpoint))
+  -- what a checkpoint leaves
+  abbrev making : Word F
+  making = by (λ r. reading (words.checkpoint_of r) (λ c. does words.checkpoints ⨾ change (words.with_checkpoint c) ⨾ words.save))
+
+  made_stocks : (s : Setting F) (r : Replica) (f : F) → SavesInPlace s → IsStocked r → IsStocked (making s r f).replica
+  unfolding ◌⨾◌ does change by reading words.save words.with_checkpoint
+  made_stocks s r f p k =
+      let is : IsState r.state = record { sessions = k.sessions; machine = k.machine } in
+      let t = text_of_state r.state is in
+      record {
+        sessions = k.sessions;
+        machine = k.machine;
+        table = p.table r.cluster (texts_of r.state) r.applied r.table (record { sessions = t.few_sessions; keys = t.few_keys }) k.table;
+      }
+
+  made_roots : (s : Setting F) (r : Replica) (f : F) → SavesInPlace s → IsRooted (making s r f).replica
+  unfolding ◌⨾◌ does change by reading words.save words.with_checkpoint
+  made_roots s r f p = λ none some. p.root r.cluster (texts_of r.state) r.applied r.table
+
+  standing_applied : (e : Whole) → StandingIf {F = F} (IsWhole e) (change (words.applied e) ⨾ by (λ r. when (words.is_checkpoint r.applied) words.make_checkpoint))
   unfolding ◌⨾◌ change by after_all words.make_checkpoint reading quiet
   standing_applied e = record {
     every = λ s r f o.
         let q : Replica = words.applied e r in
-        let w : Word F = by (λ r. reading (words.checkpoint_of r) (λ c. does words.checkpoints ⨾ change (words.with_checkpoint c) ⨾ words.save)) in
-        elim (words.is_checkpoint q.applied) as (λ b. Stands r (cond b w quiet s q f)) [
+        elim (words.is_checkpoint q.applied) as (λ b. Stands r (cond b making quiet s q f)) [
           | true ↦ raised (words.checkpoint_of q s f) e s r f o
           | false ↦ applied_stands e r o
         ];
+    stocks = λ whole s r f fit k.
+        let q : Replica = words.applied e r in
+        let new = state_kept r.state e (record { sessions = k.sessions; machine = k.machine }) whole in
+        let stock : IsStocked q = record { sessions = new.sessions; machine = new.machine; table = k.table } in
+        elim (words.is_checkpoint q.applied) as (λ b. IsStocked (cond b making quiet s q f).replica) [ true ↦ made_stocks s q f fit.saves stock | false ↦ stock ];
+    roots = λ s r f p k.
+        let q : Replica = words.applied e r in
+        elim (words.is_checkpoint q.applied) as (λ b. IsRooted (cond b making quiet s q f).replica) [ true ↦ made_roots s q f p | false ↦ k ];
   }
 
-  standing_apply_entry : (e : Whole) → Standing {F = F} (words.apply_entry e)
+  standing_apply_entry : (e : Whole) → StandingIf {F = F} (IsWhole e) (words.apply_entry e)
   unfolding words.apply_entry
-  standing_apply_entry e = standing_then _ _ (standing_says _) (standing_then _ _ (standing_says _) (standing_applied e))
+  standing_apply_entry e = standing_then _ _ (standing_of _ (standing_says _)) (standing_then _ _ (standing_of _ (standing_says _)) (standing_applied e))
 
   pub standing_apply : Standing {F = F} words.apply
   unfolding words.apply words.apply_next
@@ -310,7 +483,7 @@ module _ {F : Type 0} where
 
   pub standing_again : (op : ℕ) → Standing {F = F} (words.prepare_again op)
   unfolding words.prepare_again
-  standing_again op = standing_entry op _ (λ e. standing_says _)
+  standing_again op = standing_entry op _ (λ e. standing_of _ (standing_says _))
 
   standing_begin : (ss : List Statement) (l : words.Log) → Standing {F = F} (words.begin_view ss l)
   unfolding words.begin_view
@@ -350,3 +523,28 @@ module _ {F : Type 0} where
   pub standing_ask : Standing {F = F} words.ask
   unfolding words.ask
   standing_ask = standing_by _ (λ r. standing_ask_for r.missing (words.least_absent r) r.worn)
+
+-- ---- the blocks that have gone bad are the checkpoint's, and while one is missing none is known as bad
+
+pub record IsWornWell (r : Replica) : Type 0 where
+  pub worn : All (Contains (words.blocks_of r)) r.worn
+  pub none : r.missing ≢ [] → r.worn ≡ []
+
+pub worn_none : (r : Replica) → r.worn ≡ [] → IsWornWell r
+worn_none r e = record { worn = subst (All (Contains (words.blocks_of r))) (sym e) (All-nil (Contains (words.blocks_of r))); none = λ lacks. e }
+
+pub worn_same : (r q : Replica) → q.missing ≡ r.missing → words.blocks_of q ≡ words.blocks_of r → q.worn ≡ r.worn → IsWornWell r → IsWornWell q
+worn_same r q m b w h = record {
+  worn = subst (λ ws. All (Contains (words.blocks_of q)) ws) (sym w) (subst (λ bs. All (Contains bs) r.worn) (sym b) h.worn);
+  none = λ lacks. w ∙ h.none (λ e. lacks (m ∙ e));
+}
+
+pub worn_stands : (r : Replica) (x : Step) → Stands r x → IsWornWell r → IsWornWell x.replica
+worn_stands r x h k =
+    let up = h.rises in
+    elim (cases_lt r.checkpoint x.replica.checkpoint) [
+      | inl more ↦ worn_none x.replica (h.fresh more)
+      | inr on ↦
+          let same : x.replica.checkpoint ≡ r.checkpoint = omega (arith, up, on) in
+          worn_same r x.replica h.missing (alike_blocks r x.replica same (h.alike same)) (h.alike same).worn k
+    ]

@@ -25,9 +25,10 @@ pub record Stays (r q : Replica) : Type 0 where
   pub table : q.table ≡ r.table
   pub missing : q.missing ≡ r.missing
   pub applied : q.applied ≡ r.applied
+  pub state : q.state ≡ r.state
 
 pub stays_same : (r : Replica) → Stays r r
-stays_same r = record { checkpoint = refl; root = refl; table = refl; missing = refl; applied = refl }
+stays_same r = record { checkpoint = refl; root = refl; table = refl; missing = refl; applied = refl; state = refl }
 
 abbrev count : ℕ → Name → PayloadTable → ℕ
 count checkpoint root table = 65 + length (cond (checkpoint == 0) [] (root ∷ (map (λ (p : Payload). p.name) table.sessions ++ map (λ (p : Payload). p.name) table.keys)))
@@ -53,7 +54,7 @@ module _ {F : Type 0} (s : Setting F) where
 
   slot_read : (op : ℕ) (h : Header) (o : Option Whole) (r : Replica) (f : F) → Stays r (words.or_lost h (slot_word op) o s r f).replica
   unfolding change reading with_part
-  slot_read op h None r f = record { checkpoint = refl; root = refl; table = refl; missing = refl; applied = refl }
+  slot_read op h None r f = record { checkpoint = refl; root = refl; table = refl; missing = refl; applied = refl; state = refl }
   slot_read op h (Some e) r f = mended e.header (words.header_read op s f) r f
 
   slot_stays : (op : ℕ) (p : Part) (r : Replica) (f : F) → Stays r (words.with_entry (slot_word op) p s r f).replica
@@ -66,7 +67,7 @@ module _ {F : Type 0} (s : Setting F) where
 
   block_read : (name : Name) (o : Option (List ℕ)) (r : Replica) (f : F) → Stays r (words.visit_read name o s r f).replica
   unfolding change quiet
-  block_read name None r f = record { checkpoint = refl; root = refl; table = refl; missing = refl; applied = refl }
+  block_read name None r f = record { checkpoint = refl; root = refl; table = refl; missing = refl; applied = refl; state = refl }
   block_read name (Some block) r f = stays_same r
 
   block_stays : (name : Option Name) (r : Replica) (f : F) → Stays r (words.visit_block name s r f).replica
@@ -90,7 +91,7 @@ module _ {F : Type 0} (s : Setting F) where
 
   moved_on : (r q : Replica) → Stays r q → Turned r (words.with_cursor (place_now r) q)
   moved_on r q st = record {
-    stays = record { checkpoint = st.checkpoint; root = st.root; table = st.table; missing = st.missing; applied = st.applied };
+    stays = record { checkpoint = st.checkpoint; root = st.root; table = st.table; missing = st.missing; applied = st.applied; state = st.state };
     cursor = ap (λ n. (place_now r + 1) % n) (same_places r q st);
   }
 

@@ -6,3 +6,5 @@ pub mod Visits
 pub mod Asks
 pub mod Turns
 pub mod Cover
+pub mod Places
+pub mod GroupCover

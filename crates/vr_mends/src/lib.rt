@@ -7,7 +7,9 @@ ghost use Rattle.vr_mends.specs.Blocks.{BlocksMend};
 ghost use Rattle.vr_mends.specs.CaughtUp.{FreshKeepUp, OpeningsKeepUp, StepsKeepUp};
 ghost use Rattle.vr_mends.specs.Completing.{CopiesComplete};
 ghost use Rattle.vr_mends.specs.Cover.{LaysOut, VisitsCover};
+ghost use Rattle.vr_mends.specs.GroupCover.{GroupsCover};
 ghost use Rattle.vr_mends.specs.Groups.{GroupsKeepUp};
+ghost use Rattle.vr_mends.specs.Places.{PlacesStay};
 ghost use Rattle.vr_mends.specs.Turns.{VisitsTurn};
 ghost use Rattle.vr_mends.specs.Visits.{VisitsFind};
 ghost use Rattle.vr_rules.specs.Sectors.{sectors};
@@ -82,4 +84,18 @@ pub fn visits_cover()
 pub fn layouts_stay()
     ensures sectors { LaysOut sectors }
     ensures lying { LaysOut lying }
+{}
+
+/// The blocks of a replica's checkpoint stand at their places, so that no two stand at one address, and those that have gone bad are among
+/// them: in a new group, after each opening, and after each step, whatever comes, where disks and blocks consist of bytes. Nothing is said of a
+/// replica whose sequence numbers are at their end.
+pub fn places_stay()
+    ensures sectors { PlacesStay sectors (λ f. f) }
+    ensures lying { PlacesStay lying (λ d. d.face) }
+{}
+
+/// So what `visits_cover` says holds of each running replica, before and after each move of every run of a group of 2 to 6 replicas that was
+/// just made, and nothing is asked of it beside.
+pub fn groups_cover()
+    ensures { GroupsCover }
 {}

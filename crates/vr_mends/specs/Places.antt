@@ -1,0 +1,61 @@
+-- Where the blocks of a replica's checkpoint stand, whatever comes.
+use Rattle.std.specs.Prelude.{ℕ, ◌+◌, ◌<◌, ◌≤◌, ◌≡◌, ◌≢◌, ◌⊎◌, false, List, [], ◌∷◌, All, Contains, length}
+use Rattle.vr_base.specs.Bytes.{IsBytes}
+use Rattle.vr_disk.specs.DiskState.{Face, IsFace}
+use Rattle.vr_grid.specs.declared.name.Name.{Name}
+use Rattle.vr_kv.specs.Kv.{IsKv}
+use Rattle.vr_sess.specs.Sessions.{IsSessions}
+use Rattle.vr_ckpt.specs.Places.{keys_place, sessions_place}
+use Rattle.vr_ckpt.specs.declared.table.Payload.{Payload}
+use Rattle.vr_ckpt.specs.declared.table.PayloadTable.{PayloadTable}
+use Rattle.vr_msg.specs.declared.event.Event.{Event}
+use Rattle.vr_super.specs.Copies.{IsGood, SuperValue}
+use Rattle.vr_rules.specs.GroupFit.{IsFitReplica}
+use Rattle.vr_rules.specs.Laws.{IsEvent}
+use Rattle.vr_rules.specs.Opening.{blank, fresh, opening}
+use Rattle.vr_rules.specs.Replica.{Replica, is_spent}
+use Rattle.vr_rules.specs.Rules.{react}
+use Rattle.vr_rules.specs.Steps.{Setting}
+use Rattle.vr_rules.specs.Words.{blocks_of}
+use Rattle.vr_worlds.specs.Stocks.{IsGivenEvent}
+use Rattle.vr_mends.specs.Cover.{IsLaidOut}
+
+-- at one of the two places of a block, by the lower one
+abbrev pub IsAt : ℕ → Name → Type 0
+IsAt low name = (name.address ≡ low) ⊎ (name.address ≡ low + 64)
+
+-- payloads at the places of a text, one after the other
+abbrev pub AreAt : ℕ → List Payload → Type 0
+AreAt low [] = Unit {0}
+AreAt low (p ∷ ps) = IsAt low p.name × AreAt (low + 1) ps
+
+-- no more of them than there are places
+pub record IsInPlaces (t : PayloadTable) : Type 0 where
+  pub sessions : AreAt sessions_place t.sessions
+  pub few_sessions : length t.sessions ≤ 9
+  pub keys : AreAt keys_place t.keys
+  pub few_keys : length t.keys ≤ 36
+
+-- Its state is one of the program's, so that its texts never fill more blocks than there are places for. The payloads of its checkpoint
+-- stand at theirs, and so does the root, once no block is missing. What has gone bad is among the checkpoint's blocks; while one is missing
+-- none is known as bad.
+pub record IsInPlace (r : Replica) : Type 0 where
+  pub sessions : IsSessions r.state.sessions
+  pub machine : IsKv r.state.machine
+  pub table : IsInPlaces r.table
+  pub root : r.missing ≡ [] → 0 < r.checkpoint → IsAt 0 r.root
+  pub worn : All (Contains (blocks_of r)) r.worn
+  pub none : r.missing ≢ [] → r.worn ≡ []
+
+-- Where sequence numbers are at their end nothing is said: there it ignores every event, and visits nothing.
+abbrev pub StaysInPlace : Replica → Type 0
+StaysInPlace r = is_spent r ≡ false → IsInPlace r
+
+-- So a replica begins, and so it goes on, whatever comes: where its disk, and a block that comes, consist of bytes. And then its blocks are laid
+-- out.
+pub record PlacesStay {F : Type 0} (s : Setting F) (face : F → Face) : Type 0 where
+  pub fresh : (cluster n index : ℕ) → IsInPlace (fresh cluster n index)
+  pub openings : (f : F) (v : SuperValue) → IsFace (face f) → IsGood v → StaysInPlace (opening v s (blank v) f).replica
+  pub steps : (e : Event) (r : Replica) (f : F) → IsFace (face f) → IsFitReplica r → IsEvent e → IsGivenEvent IsBytes e → StaysInPlace r
+      → StaysInPlace (react e s r f).replica
+  pub laid : (r : Replica) → IsInPlace r → IsLaidOut r
