@@ -17,6 +17,7 @@ use Rattle.vr_rules.specs.Safe.{run_outputs}
 use Rattle.vr_rules.specs.Sectors.{sectors}
 use Rattle.vr_rules.specs.Steps.{Step, outputs}
 use Rattle.vr_rules.proofs.FitDisks.{disks_fit}
+use Rattle.vr_worlds.specs.Worlds.{IsOfBytes}
 use Rattle.vr_worlds.proofs.Starts.{opening_is}
 use Rattle.vr_lying.proofs.Rules.{a_react}
 use Rattle.vr_lying.proofs.Words.{a_opening}
@@ -37,6 +38,7 @@ record IsMove (g : Group) (x : By) (moved : Moved) : Type 0 where
   move : Move
   moves : Moves g move moved
   fits : IsFitMove move
+  bytes : IsOfBytes move
   said : moved.outputs ≡ puts_out x.deed
 
 -- a step on the sectors of a disk, with what is known of replica and outputs
@@ -79,25 +81,29 @@ one_move cluster g _ _ (deeds.handled at arrival d did m node there runs reaches
   move = group.Steps at arrival did.come.event (lying_on d);
   moves = one_step g at arrival d did m node there runs reaches does;
   fits = (reaches.fits, disks_fit.lying_reads (lying_on d) face);
+  bytes = face;
   said = refl;
 }
 one_move cluster g _ _ (deeds.broke at arrival event d effects m r there runs reaches face) = record {
   move = group.Cuts at arrival event (lying_on d) effects;
   moves = subst (λ (z : Step). Moves g (group.Cuts at arrival event (lying_on d) effects) (cut_short g at m z effects)) ((a_react event).each r (lying_on d)) (group.cuts at arrival event (lying_on d) effects m r (record { member = there; running = runs }) reaches.comes);
   fits = (reaches.fits, disks_fit.lying_reads (lying_on d) face);
+  bytes = face;
   said = refl;
 }
-one_move cluster g _ _ (deeds.ended at m there) = record { move = group.Crashes at; moves = group.crashes at m there; fits = tt; said = refl }
+one_move cluster g _ _ (deeds.ended at m there) = record { move = group.Crashes at; moves = group.crashes at m there; fits = tt; bytes = tt; said = refl }
 one_move cluster g _ _ (deeds.found at v d after first r m there stopped may opened) = record {
   move = group.Recovers at v (lying_on d);
   moves = one_opening cluster g at v d after first r m there stopped may opened;
   fits = disks_fit.lying_reads (lying_on d) may.face;
+  bytes = may.face;
   said = refl;
 }
 one_move cluster g _ _ (deeds.half_found at v d effects m there stopped may) = record {
   move = group.RecoversCut at v (lying_on d) effects;
   moves = group.recovers_cut at v (lying_on d) effects m (record { member = there; stopped = stopped; value = may.may; sound = may.sound });
   fits = disks_fit.lying_reads (lying_on d) may.face;
+  bytes = may.face;
   said = refl;
 }
 
@@ -107,11 +113,12 @@ record IsRun (g : Group) (xs : List By) : Type 0 where
   run : List Played
   is : Run g run
   fits : All (λ (p : Played). IsFitMove p.move) run
+  bytes : All (λ (p : Played). IsOfBytes p.move) run
   said : run_outputs run ≡ all_put_out xs
 
 runs : (cluster : ℕ) (g : Group) (xs : List By) → AtWork cluster g xs → IsRun g xs
 unfolding run_outputs all_put_out
-runs cluster g [] w = record { run = []; is = group.ended g; fits = All-nil (λ (p : Played). IsFitMove p.move); said = refl }
+runs cluster g [] w = record { run = []; is = group.ended g; fits = All-nil (λ (p : Played). IsFitMove p.move); bytes = All-nil (λ (p : Played). IsOfBytes p.move); said = refl }
 runs cluster g (x ∷ xs) w =
     let moved : Moved = w.0 in
     let one = one_move cluster g x moved w.1 in
@@ -121,6 +128,7 @@ runs cluster g (x ∷ xs) w =
       run = p ∷ rest.run;
       is = group.goes g one.move moved rest.run one.moves rest.is;
       fits = All-cons (λ (p : Played). IsFitMove p.move) p rest.run one.fits rest.fits;
+      bytes = All-cons (λ (p : Played). IsOfBytes p.move) p rest.run one.bytes rest.bytes;
       said = ap (λ (os : List Output). os ++ run_outputs rest.run) one.said ∙ ap (λ (os : List Output). puts_out x.deed ++ os) rest.said;
     }
 
@@ -128,4 +136,4 @@ pub one_run : (cluster n : ℕ) (xs : List By) → cluster < 2 ^ 64 → 2 ≤ n 
 one_run cluster n xs number few many w =
     let r = runs cluster (fresh_group cluster n) xs w in
     let fit : IsFitRun cluster n r.run = record { number = number; few = few; many = many; moves = r.fits; of_run = r.is } in
-    record { run = r.run; fit = fit; said = r.said; safe = runs_safe cluster n r.run fit }
+    record { run = r.run; fit = fit; bytes = r.bytes; said = r.said; safe = runs_safe cluster n r.run fit }

@@ -16,7 +16,7 @@ use Rattle.vr_rules.specs.World.{Happening, World, happen, happens}
 use Rattle.vr_rules.specs.Group.{Group, Played, Run, fresh_group}
 use Rattle.vr_rules.specs.Safe as safe
 use Rattle.vr_rules.specs.Safe.{run_outputs}
-use Rattle.vr_worlds.specs.Worlds.{AreBeside, IsHashedAt, IsMatchedBy, IsOneMove, Said, aside, begun_in, both, left, moved_once, none, read_in, unmoved}
+use Rattle.vr_worlds.specs.Worlds.{IsOfBytes, AreBeside, IsHashedAt, IsMatchedBy, IsOneMove, Said, aside, begun_in, both, left, moved_once, none, read_in, unmoved}
 use Rattle.vr_worlds.proofs.Matched.{lines_are_moves}
 use Rattle.vr_unforged.specs.Bridged.{IsBridged, IsLed}
 use Rattle.vr_unforged.specs.Schedules.{IsHashed, IsSealedWorld, IsUsedAt, MayFollow, MayHappen}
@@ -153,7 +153,7 @@ rest_may w g x xs u run one may =
 
 pub happenings_are_runs : HappeningsAreRuns
 unfolding happen run_outputs
-happenings_are_runs [] w g u may = (record { run = []; is = Run.ended g; reads = All-nil (λ (p : Played). IsFitMove p.move); beside = u.beside; said = none }, none_hashed [] w)
+happenings_are_runs [] w g u may = (record { run = []; is = Run.ended g; reads = All-nil (λ (p : Played). IsFitMove p.move); bytes = All-nil (λ (p : Played). IsOfBytes p.move); beside = u.beside; said = none }, none_hashed [] w)
 happenings_are_runs (x ∷ xs) w g u may =
     let by = lines_stay_unforged w g x u (first_may u.past.run w x xs may) in
     let one = by.0.matched in
@@ -165,6 +165,7 @@ happenings_are_runs (x ∷ xs) w g u may =
         run = one.run ++ rest.run;
         is = run_both g one.run rest.run one.is rest.is;
         reads = All-append (λ (p : Played). IsFitMove p.move) one.run rest.run one.reads rest.reads;
+        bytes = All-append (λ (p : Played). IsOfBytes p.move) one.run rest.run one.bytes rest.bytes;
         beside = subst (AreBeside (happen hazards h.world xs).world) (sym (left_both g one.run rest.run)) rest.beside;
         said = subst (Said (h.outputs ++ (happen hazards h.world xs).outputs)) (sym (outputs_both one.run rest.run)) (said_both h.outputs (run_outputs one.run) (happen hazards h.world xs).outputs (run_outputs rest.run) one.said rest.said);
       },
