@@ -29,6 +29,7 @@ pub enum Received {
     Part,
 }
 
+/// Datagrams to peers, and from whoever sends some. One that is sent may be lost, come late, or come twice.
 pub trait Link {
     /// What each attach so far was given, and whether it went well, where the link tells it.
     ghost attached: { Self → Option (List Attach) };

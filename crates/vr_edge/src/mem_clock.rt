@@ -12,6 +12,7 @@ pub struct MemClock {
 }
 
 impl MemClock {
+    /// A clock that gives these numbers, one a call.
     pub fn new(numbers: Vec<u64>) -> MemClock
         ensures { ⟦<MemClock as Clock>⟧.left result ≡ Some numbers.items }
     {

@@ -11,6 +11,7 @@ use thiserror::Error;
 #[error("write failed")]
 pub struct WriteFailed;
 
+/// What bytes are written to.
 pub trait Sink {
     /// The bytes that were taken, where the sink tells them.
     ghost taken: { Self → Option (List ℕ) };

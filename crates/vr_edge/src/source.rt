@@ -12,6 +12,7 @@ use thiserror::Error;
 #[error("read failed")]
 pub struct ReadFailed;
 
+/// What bytes are read from.
 pub trait Source {
     /// The bytes that are left, where the source tells them.
     ghost left: { Self → Option (List ℕ) };

@@ -25,6 +25,7 @@ impl Model for Letter {
 }
 
 impl Letter {
+    /// A message on its way from one member to another.
     pub fn new(from: u8, to: u8, message: Message) -> Letter
         ensures { result ≡ record { from = from; to = to; message = message } }
     {

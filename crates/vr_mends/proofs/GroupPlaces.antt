@@ -1,11 +1,19 @@
 -- In every run of a group the blocks of each running replica's checkpoint stand at their places, and so visits find what doesn't read.
+use Rattle.std.specs.List.{AllByRecursion}
+use Rattle.std.proofs.Common.{◌++◌}
+use Rattle.vr_base.specs.Bytes.{IsBytes}
+use Rattle.vr_msg.specs.declared.output.Output.{Output}
+use Rattle.vr_msg.specs.declared.output.Sent.{Sent}
+use Rattle.vr_rules.specs.Rules as rules
+use Rattle.vr_rules.specs.Steps.{Effect, Write, Rewrite, Save, Mend, Checkpoint, PutBlock, Say, outputs}
+use Rattle.vr_rules.specs.World.{message_of, messages}
 use Rattle.std.proofs.Common.{arith, ℕ, ◌+◌, ◌≡◌, ◌≤◌, ◌∙◌, inl, inr, refl, sym, ap, subst, cond, true, false, List, [], ◌∷◌, Some, None}
 use Rattle.std.specs.Prelude.{All, slice_get, slice_set, ◌==◌}
 use Rattle.std.proofs.lemmas.Bool.{eq-eqb}
 use Rattle.std.proofs.lemmas.List.Elements.{All-cons, All-head, All-nil, All-tail}
 use Rattle.vr_disk.specs.DiskState.{IsFace}
 use Rattle.vr_msg.specs.declared.event.Event.{Event}
-use Rattle.vr_rules.specs.Group.{Group, Member, Move, Moved, Moves, Played, Run, fresh_group, resumed}
+use Rattle.vr_rules.specs.Group.{Arrival, Asked, Group, IsArrival, Member, Message, Move, Moved, Moves, Played, Run, Time, fresh_group, opening_script, resumed, with_script}
 use Rattle.vr_rules.specs.Group as group
 use Rattle.vr_rules.specs.GroupFit.{IsFitGroup, IsFitMove, IsFitReplica}
 use Rattle.vr_rules.specs.Laws.{IsEvent}
@@ -19,11 +27,16 @@ use Rattle.vr_rules.proofs.FitDisks.{disks_fit}
 use Rattle.vr_rules.proofs.FitGroups.{arrives, fresh_at, fresh_group_fits, good_value, groups_fit}
 use Rattle.vr_rules.proofs.Halves.{opening_in_two}
 use Rattle.vr_rules.proofs.SavesSectors.{sectors_fit}
+use Rattle.vr_worlds.specs.Stocks.{IsGiven, IsGivenEvent}
+use Rattle.vr_worlds.specs.Worlds.{IsOfBytes}
+use Rattle.vr_worlds.proofs.Lines.{get_both, message_given, none_sent}
+use Rattle.vr_worlds.proofs.Loading.{block_are}
 use Rattle.vr_mends.specs.Cover.{KnowsFaults, visits_made}
-use Rattle.vr_mends.specs.GroupCover.{AllCover, GroupsCover, IsOfBytes}
+use Rattle.vr_mends.specs.GroupCover.{AllCover, GroupsCover}
 use Rattle.vr_mends.specs.Places.{PlacesStay, StaysInPlace}
 use Rattle.vr_mends.specs.Visits.{after_events}
 use Rattle.vr_mends.proofs.Covering.{lying_covers, lying_roots}
+use Rattle.vr_mends.proofs.Giving.{Gives, Mute, mute_opening, step_gives}
 use Rattle.vr_mends.proofs.GroupMoves.{set_at}
 use Rattle.vr_mends.proofs.Laying.{lying_apart, lying_in_place, sectors_apart, sectors_in_place}
 use Rattle.vr_mends.proofs.Placing.{Loads, frozen_still, laid_out, loaded_bytes, loaded_still, put_face, step_in_place}
@@ -60,6 +73,43 @@ lying_places = record {
   laid = laid_out;
 }
 
+-- ---- messages: the blocks that are given consist of bytes
+
+abbrev AllGiven : Group → Type 0
+AllGiven g = (number : ℕ) (s : Sent) → slice_get g.sent number ≡ Some s → IsGiven IsBytes s.message
+
+arrives_given : (g : Group) (at : ℕ) (a : Arrival) (e : Event) → AllGiven g → IsArrival g at a e → IsGivenEvent IsBytes e
+arrives_given g at (Asked q) e h i = rw i.1 tt
+arrives_given g at (Message number) e h i = rw i.3 (h number i.0 i.1)
+arrives_given g at Time e h i = rw i tt
+
+script_given : (es : List Effect) → AllByRecursion (Gives IsBytes) es → (number : ℕ) (s : Sent) → slice_get (messages (outputs es)) number ≡ Some s → IsGiven IsBytes s.message
+unfolding messages outputs
+script_given [] a number s e = absurd cc
+script_given (Say o ∷ es) a number s e = get_both (λ (x : Sent). IsGiven IsBytes x.message) (message_of o) (messages (outputs es)) (message_given IsBytes o a.0) (script_given es a.1) number s e
+script_given (Write again x ∷ es) a number s e = script_given es a.1 number s e
+script_given (Rewrite h ∷ es) a number s e = script_given es a.1 number s e
+script_given (Save old new ∷ es) a number s e = script_given es a.1 number s e
+script_given (Mend v ∷ es) a number s e = script_given es a.1 number s e
+script_given (Checkpoint c t o b ∷ es) a number s e = script_given es a.1 number s e
+script_given (PutBlock n b ∷ es) a number s e = script_given es a.1 number s e
+
+more_given : (g : Group) (os : List Output) → AllGiven g → ((number : ℕ) (s : Sent) → slice_get (messages os) number ≡ Some s → IsGiven IsBytes s.message) → (number : ℕ) (s : Sent)
+    → slice_get (g.sent ++ messages os) number ≡ Some s → IsGiven IsBytes s.message
+more_given g os h sent = get_both (λ (x : Sent). IsGiven IsBytes x.message) g.sent (messages os) h sent
+
+moves_given : (g : Group) (move : Move) (moved : Moved) → AllGiven g → IsOfBytes move → Moves g move moved → AllGiven moved.group
+moves_given g _ _ h b (group.steps at arrival e d m r runs i) =
+    let x = rules.react e lying r d in
+    more_given g (outputs x.script) h (script_given x.script (step_gives IsBytes lying d (λ name block q. block_are d.face name block b q) e r))
+moves_given g _ _ h b (group.cuts at arrival e d j m r runs i) = more_given g [] h (none_sent IsBytes)
+moves_given g _ _ h b (group.crashes at m there) = more_given g [] h (none_sent IsBytes)
+moves_given g _ _ h b (group.recovers at v d m o) =
+    let word : Mute {F = Lying} IsBytes (opening v) = mute_opening v in
+    let mute : AllByRecursion (Gives IsBytes) (opening_script v d) = subst (λ (x : Step). AllByRecursion (Gives IsBytes) x.script) (opening_in_two v d) (word.every lying (blank v) d) in
+    more_given g (outputs (opening_script v d)) h (script_given (opening_script v d) mute)
+moves_given g _ _ h b (group.recovers_cut at v d j m o) = more_given g [] h (none_sent IsBytes)
+
 -- ---- moves
 
 abbrev AllInPlace : Group → Type 0
@@ -78,17 +128,17 @@ runs_placed q r u e = let same : q ≡ r = cc in subst StaysInPlace same u
 stopped_placed : (r : Replica) → None ≡ Some r → StaysInPlace r
 stopped_placed r e = absurd cc
 
-moves_placed : (c : ℕ) (g : Group) (move : Move) (moved : Moved) → IsFitGroup c g → AllInPlace g → IsFitMove move → IsOfBytes move → Moves g move moved → AllInPlace moved.group
-moves_placed c g _ _ h u k b (group.steps at arrival e d m r runs i) =
+moves_placed : (c : ℕ) (g : Group) (move : Move) (moved : Moved) → IsFitGroup c g → AllInPlace g → AllGiven g → IsFitMove move → IsOfBytes move → Moves g move moved → AllInPlace moved.group
+moves_placed c g _ _ h u w k b (group.steps at arrival e d m r runs i) =
     let fit = ((h.members at m runs.member).running r runs.running).0 in
-    one_placed g at _ u (λ q same. runs_placed _ q (lying_places.steps e r d b.0 fit (arrives c g at arrival e h k.0 i) b.1 (u at m r runs.member runs.running)) same)
-moves_placed c g _ _ h u k b (group.cuts at arrival e d j m r runs i) = one_placed g at _ u (λ q same. stopped_placed q same)
-moves_placed c g _ _ h u k b (group.crashes at m there) = one_placed g at _ u (λ q same. stopped_placed q same)
-moves_placed c g _ _ h u k b (group.recovers at v d m o) =
+    one_placed g at _ u (λ q same. runs_placed _ q (lying_places.steps e r d b fit (arrives c g at arrival e h k.0 i) (arrives_given g at arrival e w i) (u at m r runs.member runs.running)) same)
+moves_placed c g _ _ h u w k b (group.cuts at arrival e d j m r runs i) = one_placed g at _ u (λ q same. stopped_placed q same)
+moves_placed c g _ _ h u w k b (group.crashes at m there) = one_placed g at _ u (λ q same. stopped_placed q same)
+moves_placed c g _ _ h u w k b (group.recovers at v d m o) =
     let good = good_value c g.n at m v (h.members at m o.member) o.value in
     let placed : StaysInPlace (opening v lying (blank v) d).replica = lying_places.openings d v b good.0 in
     one_placed g at _ u (λ q same. runs_placed (resumed v d).replica q (subst (λ (x : Step). StaysInPlace x.replica) (opening_in_two v d) placed) same)
-moves_placed c g _ _ h u k b (group.recovers_cut at v d j m o) = one_placed g at _ u (λ q same. stopped_placed q same)
+moves_placed c g _ _ h u w k b (group.recovers_cut at v d j m o) = one_placed g at _ u (λ q same. stopped_placed q same)
 
 -- ---- what visits find
 
@@ -126,17 +176,21 @@ fresh_placed c n at m r e i =
     let same : Some (fresh c n (0 + at)) ≡ Some r = ap (λ (y : Member). y.replica) k.0 ∙ i in
     runs_placed (fresh c n (0 + at)) r (λ live. fresh_in_place c n (0 + at)) same
 
-run_covers : (c : ℕ) (g : Group) (run : List Played) → IsFitGroup c g → AllInPlace g → All (λ p. IsFitMove p.move) run → All (λ p. IsOfBytes p.move) run → Run g run
+fresh_given : (c n : ℕ) → AllGiven (fresh_group c n)
+unfolding fresh_group
+fresh_given c n number s e = absurd cc
+
+run_covers : (c : ℕ) (g : Group) (run : List Played) → IsFitGroup c g → AllInPlace g → AllGiven g → All (λ p. IsFitMove p.move) run → All (λ p. IsOfBytes p.move) run → Run g run
     → All (λ (p : Played). AllCover p.before × AllCover p.moved.group) run
-run_covers c g _ h u k b (group.ended _) = All-nil _
-run_covers c g _ h u k b (group.goes _ move moved later m rest) =
+run_covers c g _ h u w k b (group.ended _) = All-nil _
+run_covers c g _ h u w k b (group.goes _ move moved later m rest) =
     let p : Played = record { before = g; move = move; moved = moved } in
     let fit = All-head (λ (p : Played). IsFitMove p.move) p later k in
     let bytes = All-head (λ (p : Played). IsOfBytes p.move) p later b in
-    let after = moves_placed c g move moved h u fit bytes m in
+    let after = moves_placed c g move moved h u w fit bytes m in
     let fits = groups_fit.each c g move moved h fit m in
     All-cons (λ (p : Played). AllCover p.before × AllCover p.moved.group) p later (all_cover c g h u, all_cover c moved.group fits after)
-    (run_covers c moved.group later fits after (All-tail (λ (p : Played). IsFitMove p.move) p later k) (All-tail (λ (p : Played). IsOfBytes p.move) p later b) rest)
+    (run_covers c moved.group later fits after (moves_given g move moved w bytes m) (All-tail (λ (p : Played). IsFitMove p.move) p later k) (All-tail (λ (p : Played). IsOfBytes p.move) p later b) rest)
 
 pub groups_cover : GroupsCover
-groups_cover c n run l a z k b r = run_covers c (fresh_group c n) run (fresh_group_fits c n l a z) (fresh_placed c n) k b r
+groups_cover c n run l a z k b r = run_covers c (fresh_group c n) run (fresh_group_fits c n l a z) (fresh_placed c n) (fresh_given c n) k b r

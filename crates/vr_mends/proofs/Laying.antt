@@ -28,7 +28,7 @@ use Rattle.vr_rules.specs.Sectors.{sectors}
 use Rattle.vr_rules.specs.Steps.{Setting}
 use Rattle.vr_rules.proofs.FitLoads.{given, some_missing}
 use Rattle.vr_mends.specs.Cover.{StandApart}
-use Rattle.vr_mends.specs.Places.{AreAt, IsAt, IsInPlaces}
+use Rattle.vr_mends.specs.Places.{AreAt, StandsAt, IsInPlaces}
 
 -- ---- the places of a list of names
 
@@ -136,7 +136,7 @@ laid_apart root t laid =
     }
 
 -- blocks at their places stand apart
-pub places_stand : (root : Name) (t : PayloadTable) → IsAt 0 root → IsInPlaces t → StandApart (all_names root t)
+pub places_stand : (root : Name) (t : PayloadTable) → StandsAt 0 root → IsInPlaces t → StandApart (all_names root t)
 places_stand root t at h = laid_apart root t (laid_by root t at h)
 
 pub nothing_apart : StandApart []
@@ -179,23 +179,23 @@ loaded_root f root texts t e =
 -- ---- a checkpoint that is written
 
 -- the payloads of the table before
-old_at : (low : ℕ) (ps : List Payload) (k : ℕ) (p : Payload) → AreAt low ps → slice_get ps k ≡ Some p → IsAt (low + k) p.name
+old_at : (low : ℕ) (ps : List Payload) (k : ℕ) (p : Payload) → AreAt low ps → slice_get ps k ≡ Some p → StandsAt (low + k) p.name
 old_at low [] k p h e = absurd cc
 old_at low (q ∷ qs) zero p h e =
     let one : q ≡ p = cc in
     let same : low ≡ low + zero = omega arith in
-    subst (λ n. IsAt n p.name) same (subst (λ (x : Payload). IsAt low x.name) one h.0)
-old_at low (q ∷ qs) (suc k) p h e = let same : low + 1 + k ≡ low + suc k = omega arith in subst (λ n. IsAt n p.name) same (old_at (low + 1) qs k p h.1 e)
+    subst (λ n. StandsAt n p.name) same (subst (λ (x : Payload). StandsAt low x.name) one h.0)
+old_at low (q ∷ qs) (suc k) p h e = let same : low + 1 + k ≡ low + suc k = omega arith in subst (λ n. StandsAt n p.name) same (old_at (low + 1) qs k p h.1 e)
 
 went_to : (r : Run) (a : ℕ) (bytes : List ℕ) → (goes_to r a bytes).payload.name.address ≡ a
 unfolding goes_to data_content
 went_to r a bytes = refl
 
-part_at_place : (r : Run) (text : List ℕ) (old : List Payload) (i : ℕ) → AreAt r.low old → IsAt (r.low + i) (payload_blocks_at r text old i).payload.name
+part_at_place : (r : Run) (text : List ℕ) (old : List Payload) (i : ℕ) → AreAt r.low old → StandsAt (r.low + i) (payload_blocks_at r text old i).payload.name
 part_at_place r text old i h =
     elim (part_cases r i (saves.payload_at text i) (slice_get old i)) [
-      | inl s ↦ subst (λ (x : PayloadBlocks). IsAt (r.low + i) x.payload.name) (sym s.is) (old_at r.low old i s.payload h s.there)
-      | inr g ↦ subst (λ (x : PayloadBlocks). IsAt (r.low + i) x.payload.name) (sym g.is) (subst (AtPlace (r.low + i)) (sym (went_to r g.address (saves.payload_at text i))) g.at)
+      | inl s ↦ subst (λ (x : PayloadBlocks). StandsAt (r.low + i) x.payload.name) (sym s.is) (old_at r.low old i s.payload h s.there)
+      | inr g ↦ subst (λ (x : PayloadBlocks). StandsAt (r.low + i) x.payload.name) (sym g.is) (subst (AtPlace (r.low + i)) (sym (went_to r g.address (saves.payload_at text i))) g.at)
     ]
 
 parts_at : (r : Run) (text : List ℕ) (old : List Payload) (i n : ℕ) → AreAt r.low old → AreAt (r.low + i) (payloads_from r text old i n)
@@ -224,19 +224,19 @@ saved_places cluster texts op old fits h =
       few_keys = omega (arith, b, few_keys);
     }
 
-root_saved : (cluster : ℕ) (texts : Texts) (op : ℕ) (old : PayloadTable) → IsAt 0 (saved_checkpoint cluster texts op old).root
+root_saved : (cluster : ℕ) (texts : Texts) (op : ℕ) (old : PayloadTable) → StandsAt 0 (saved_checkpoint cluster texts op old).root
 unfolding root_of
 root_saved cluster texts op old = root_at_place op
 
 -- ---- the disks of the program
 
 pub record LoadsApart {F : Type 0} (s : Setting F) : Type 0 where
-  pub places : (f : F) (root : Name) (texts : Texts) (t : PayloadTable) → s.loaded f root ≡ Loaded texts t → IsAt 0 root × IsInPlaces t
+  pub places : (f : F) (root : Name) (texts : Texts) (t : PayloadTable) → s.loaded f root ≡ Loaded texts t → StandsAt 0 root × IsInPlaces t
   pub some : (f : F) (root : Name) → s.loaded f root ≡ Missing [] → ⊥
 
 pub record SavesInPlace {F : Type 0} (s : Setting F) : Type 0 where
   pub table : (cluster : ℕ) (texts : Texts) (op : ℕ) (old : PayloadTable) → FitsPayloads texts → IsInPlaces old → IsInPlaces (s.save_state cluster texts op old).table
-  pub root : (cluster : ℕ) (texts : Texts) (op : ℕ) (old : PayloadTable) → IsAt 0 (s.save_state cluster texts op old).root
+  pub root : (cluster : ℕ) (texts : Texts) (op : ℕ) (old : PayloadTable) → StandsAt 0 (s.save_state cluster texts op old).root
 
 held_places : (f : Face) (t : PayloadTable) → Holds f t → IsInPlaces t
 held_places f t h = record {

@@ -26,4 +26,5 @@ mod Lasting
 mod Wearing
 mod Placing
 mod PlacingOpening
+mod Giving
 mod GroupPlaces

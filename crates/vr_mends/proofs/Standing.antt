@@ -31,7 +31,7 @@ use Rattle.vr_rules.specs.Words as words
 use Rattle.vr_rules.specs.Fit.{IsFit, ReadsWell}
 use Rattle.vr_rules.proofs.FitWords.{reads_entry, reads_later}
 use Rattle.vr_worlds.proofs.States.{IsState, state_kept, text_of_state}
-use Rattle.vr_mends.specs.Places.{IsAt, IsInPlaces}
+use Rattle.vr_mends.specs.Places.{StandsAt, IsInPlaces}
 use Rattle.vr_mends.proofs.Laying.{SavesInPlace}
 
 -- ---- scripts
@@ -198,7 +198,7 @@ IsStocked r = Stock r.state r.table
 
 -- and where its root stands, once no block is missing
 abbrev pub Rooted : List Name → ℕ → Name → Type 0
-Rooted missing checkpoint root = missing ≡ [] → 0 < checkpoint → IsAt 0 root
+Rooted missing checkpoint root = missing ≡ [] → 0 < checkpoint → StandsAt 0 root
 
 abbrev pub IsRooted : Replica → Type 0
 IsRooted r = Rooted r.missing r.checkpoint r.root

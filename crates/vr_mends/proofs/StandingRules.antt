@@ -52,7 +52,7 @@ use Rattle.vr_rules.proofs.FitWords.{reads_later}
 use Rattle.vr_base.specs.Bytes.{IsBytes}
 use Rattle.vr_worlds.specs.Stocks.{IsGiven, IsGivenEvent}
 use Rattle.vr_worlds.proofs.States.{state_read}
-use Rattle.vr_mends.specs.Places.{IsAt, IsInPlaces}
+use Rattle.vr_mends.specs.Places.{StandsAt, IsInPlaces}
 use Rattle.vr_mends.proofs.Laying.{LoadsApart, SavesInPlace}
 use Rattle.vr_mends.proofs.Standing.{All-left, All-right, Aspect, Chain, Fitting, IsRooted, IsStocked, IsWornWell, Standing, Stands, aspect, chain_both, standing_accept, standing_advance, standing_again, standing_apply, standing_ask, standing_by, standing_change, standing_each, standing_enter, standing_entry, standing_learn, standing_naming, standing_of, standing_quiet, standing_reading, standing_resend, standing_rested, standing_says, standing_speak, standing_take, standing_then, standing_try, standing_when, standing_write, step_of, worn_none, worn_stands}
 
@@ -174,7 +174,7 @@ read_stocks root table texts (Ok st) q are places e k = let x = state_read texts
 read_stocks root table texts (Err fault) q are places e k = k
 
 -- and where the root stands
-read_roots : (root : Name) (table : PayloadTable) (o : Result State StateFault) (q : Replica) → IsAt 0 q.root → IsRooted (words.loaded_state root table o q)
+read_roots : (root : Name) (table : PayloadTable) (o : Result State StateFault) (q : Replica) → StandsAt 0 q.root → IsRooted (words.loaded_state root table o q)
 unfolding words.with_state
 read_roots root table (Ok st) q at = λ none some. at
 read_roots root table (Err fault) q at = λ none some. absurd cc

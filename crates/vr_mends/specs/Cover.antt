@@ -40,7 +40,7 @@ visits_made s (e ∷ es) r f =
     let x = react e s r f in
     (if x.replica.cursor == r.cursor then 0 else 1) + visits_made s es x.replica (after_all s f x.script)
 
--- Each place of its disk reads, or the replica knows that it doesn't.
+-- It knows what doesn't read. Of the header sectors of slots nothing is said.
 pub record KnowsFaults {F : Type 0} (s : Setting F) (face : F → Face) (r : Replica) (f : F) : Type 0 where
   -- of each op above the checkpoint whose header is known the entry reads, or it is lost or wanted
   pub entries : (k : ℕ) (h : Header) → r.checkpoint < k → header_at r k ≡ Some h → ((e : Whole) × (entry_of h s f ≡ Some e)) ⊎ (is_absent (part_at r k) ≡ true)

@@ -21,13 +21,13 @@ use Rattle.vr_worlds.specs.Stocks.{IsGivenEvent}
 use Rattle.vr_mends.specs.Cover.{IsLaidOut}
 
 -- at one of the two places of a block, by the lower one
-abbrev pub IsAt : ℕ → Name → Type 0
-IsAt low name = (name.address ≡ low) ⊎ (name.address ≡ low + 64)
+abbrev pub StandsAt : ℕ → Name → Type 0
+StandsAt low name = (name.address ≡ low) ⊎ (name.address ≡ low + 64)
 
 -- payloads at the places of a text, one after the other
 abbrev pub AreAt : ℕ → List Payload → Type 0
 AreAt low [] = Unit {0}
-AreAt low (p ∷ ps) = IsAt low p.name × AreAt (low + 1) ps
+AreAt low (p ∷ ps) = StandsAt low p.name × AreAt (low + 1) ps
 
 -- no more of them than there are places
 pub record IsInPlaces (t : PayloadTable) : Type 0 where
@@ -36,14 +36,14 @@ pub record IsInPlaces (t : PayloadTable) : Type 0 where
   pub keys : AreAt keys_place t.keys
   pub few_keys : length t.keys ≤ 36
 
--- Its state is one of the program's, so that its texts never fill more blocks than there are places for. The payloads of its checkpoint
--- stand at theirs, and so does the root, once no block is missing. What has gone bad is among the checkpoint's blocks; while one is missing
--- none is known as bad.
+-- Its state is one of the program's, so that its texts never fill more blocks than there are places for. The payloads of its last table stand
+-- at theirs, and so does the root, where there is a checkpoint and no block is missing. What has gone bad is among the checkpoint's blocks;
+-- while one is missing none is known as bad.
 pub record IsInPlace (r : Replica) : Type 0 where
   pub sessions : IsSessions r.state.sessions
   pub machine : IsKv r.state.machine
   pub table : IsInPlaces r.table
-  pub root : r.missing ≡ [] → 0 < r.checkpoint → IsAt 0 r.root
+  pub root : r.missing ≡ [] → 0 < r.checkpoint → StandsAt 0 r.root
   pub worn : All (Contains (blocks_of r)) r.worn
   pub none : r.missing ≢ [] → r.worn ≡ []
 

@@ -1,5 +1,5 @@
 //! A running replica never waits at an op whose entry is here, copies that come complete it, and visits of its disk find what doesn't read,
-//! which it then asks for. Each function is a law: its contract is the statement, and it does nothing.
+//! of which each ask sends for one while there is some. Each function is a law: its contract is the statement, and it does nothing.
 #![tactic(auto)]
 
 ghost use Rattle.vr_mends.specs.Asks.{ShortReplicasAsk};
@@ -43,8 +43,8 @@ pub fn copies_complete()
     ensures lying { CopiesComplete lying (λ d. d.face) }
 {}
 
-/// A block of the checkpoint that has gone bad: where another member gives the bytes of that block, it reads as they are, and no block of its
-/// address is bad any more. Nothing else of the replica changes.
+/// A block of the checkpoint that has gone bad, where no block is missing and the replica isn't frozen: where another member gives the bytes of
+/// that block, it reads as they are, and no block of its address is bad any more. Nothing else of the replica changes.
 pub fn blocks_mend()
     ensures sectors { BlocksMend sectors (λ f. f) }
     ensures lying { BlocksMend lying (λ d. d.face) }
@@ -63,39 +63,40 @@ pub fn short_replicas_ask<F>()
     ensures { ShortReplicasAsk F }
 {}
 
-/// Each visit takes the place after that of the one before, around, whatever the disk reads as: as many visits as there are places come to
+/// Of a replica that misses no block each visit takes the place after that of the one before, around, whatever the disk reads as: as many visits as there are places come to
 /// every slot, the superblock, and every block of the checkpoint.
 pub fn visits_turn<F>()
     ensures { VisitsTurn F }
 {}
 
 /// After every list of events of a sound replica, with no fault of its disk between them, in which its checkpoint stayed and at least as many
-/// visits were made as there are places, each place reads or is known not to: of each op above the checkpoint whose header is known the entry
-/// reads, or it is lost or wanted; each copy of the superblock reads as the value that was saved last; each block of the checkpoint reads, or has
-/// gone bad. And while there is such an entry or block each later ask sends for one, as `short_replicas_ask` says.
+/// visits were made as there are places: of each op above the checkpoint whose header is known the entry reads, or it is lost or wanted; each copy
+/// of the superblock reads as the value that was saved last; each block of the checkpoint reads, or has gone bad. And while there is such an entry
+/// or block each later ask sends for one, as `short_replicas_ask` says.
 pub fn visits_cover()
     ensures sectors { VisitsCover sectors (λ f. f) }
     ensures lying { VisitsCover lying (λ d. d.face) }
 {}
 
-/// What `visits_cover` asks of a replica beside: while its checkpoint stays each step of a sound replica keeps the blocks that have gone bad
-/// among the checkpoint's, and none is known as bad while one is missing; the blocks of each checkpoint that loads stand in the grid, no two
-/// at one address.
+/// What `visits_cover` asks of a replica beside. While its checkpoint stays each step of a sound replica keeps this: its blocks stand apart, those
+/// that have gone bad are among them, and none is known as bad while one is missing. The blocks of each checkpoint that loads stand in the
+/// grid, no two at one address.
 pub fn layouts_stay()
     ensures sectors { LaysOut sectors }
     ensures lying { LaysOut lying }
 {}
 
 /// The blocks of a replica's checkpoint stand at their places, so that no two stand at one address, and those that have gone bad are among
-/// them: in a new group, after each opening, and after each step, whatever comes, where disks and blocks consist of bytes. Nothing is said of a
-/// replica whose sequence numbers are at their end.
+/// them: in a new group, after each opening from a value that makes a good copy, and after each step of a fit replica of which it was so,
+/// whatever comes, where disks and blocks consist of bytes. Nothing is said of a replica whose sequence numbers are at their end.
 pub fn places_stay()
     ensures sectors { PlacesStay sectors (λ f. f) }
     ensures lying { PlacesStay lying (λ d. d.face) }
 {}
 
-/// So what `visits_cover` says holds of each running replica, before and after each move of every run of a group of 2 to 6 replicas that was
-/// just made, and nothing is asked of it beside.
+/// So what `visits_cover` says holds of each running replica, from any sectors of bytes that may lie, before and after each move of every run
+/// of a group of 2 to 6 replicas that was just made. Nothing is asked of the replica; of the run, that its moves read what the program has,
+/// from disks of bytes.
 pub fn groups_cover()
     ensures { GroupsCover }
 {}

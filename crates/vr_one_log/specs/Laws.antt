@@ -39,8 +39,8 @@ pub record IsOfLog (cluster : ℕ) (run : List Played) (log : List Whole) (r : R
       → slice_get log (w.header.op - 1) ≡ Some w
 
 -- The state of each running member that misses no block is the plain fold of the log's first entries, as many as it has applied: whether it
--- applied them itself or loaded a checkpoint, one that it made, or took over from another. Nothing is said of one whose sequence numbers are
--- at their end, which ignores every event.
+-- applied them itself or loaded a checkpoint, one that it made, or took over from another. Nothing is said of one that is frozen: its view or
+-- its sequence numbers are at their end, and it ignores every event.
 abbrev pub HaveFolds : List Whole → Group → Type 0
 HaveFolds log g = (at : ℕ) (m : Member) (r : Replica) → Runs g at m r → is_frozen r ≡ false → HasState log r
 

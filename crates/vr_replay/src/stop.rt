@@ -5,9 +5,12 @@ ghost use Rattle.std.specs.Prelude.{◌≡◌};
 use vr_edge::WriteFailed;
 use vr_status::Status;
 
+/// Why a replay stops.
 #[derive(Clone, Copy, Debug, PartialEq, Eq)]
 pub enum Stop {
+    /// The line with this number is none.
     Refused(u32),
+    /// A write of the outputs failed.
     WriteFault,
     NoMemory,
 }

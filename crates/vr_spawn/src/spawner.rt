@@ -38,6 +38,7 @@ pub enum SpawnCall {
     Stop(Stop),
 }
 
+/// What starts programs and ends them.
 pub trait Spawner {
     /// What each start and each stop so far did, where the spawner tells it.
     ghost calls: { Self → Option (List SpawnCall) };

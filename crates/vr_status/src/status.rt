@@ -7,6 +7,7 @@ use std::alloc::{AllocError, Global};
 use std::fmt;
 use vr_base::Config;
 
+/// How a run of a command ends. Each has a code and a text.
 #[derive(Clone, Copy, Debug, PartialEq, Eq)]
 pub enum Status {
     /// The defined end.
