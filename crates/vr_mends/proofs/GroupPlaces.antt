@@ -13,7 +13,7 @@ use Rattle.std.proofs.lemmas.Bool.{eq-eqb}
 use Rattle.std.proofs.lemmas.List.Elements.{All-cons, All-head, All-nil, All-tail}
 use Rattle.vr_disk.specs.DiskState.{IsFace}
 use Rattle.vr_msg.specs.declared.event.Event.{Event}
-use Rattle.vr_rules.specs.Group.{Arrival, Asked, Group, IsArrival, Member, Message, Move, Moved, Moves, Played, Run, Time, fresh_group, opening_script, resumed, with_script}
+use Rattle.vr_rules.specs.Group.{Arrival, Asked, Group, IsArrival, Member, Message, Move, Moved, Moves, Played, Run, Time, fresh_group, opening_script, resumed}
 use Rattle.vr_rules.specs.Group as group
 use Rattle.vr_rules.specs.GroupFit.{IsFitGroup, IsFitMove, IsFitReplica}
 use Rattle.vr_rules.specs.Laws.{IsEvent}

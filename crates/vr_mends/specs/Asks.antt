@@ -1,12 +1,15 @@
 -- While something is known to be missing, each ask sends for it.
-use Rattle.std.specs.Prelude.{ℕ, ◌<◌, ◌≡◌, ◌≢◌, ◌⊎◌, Contains, true, List, [], Some}
+use Rattle.std.specs.Prelude.{ℕ, ◌<◌, ◌≡◌, ◌≢◌, ◌⊎◌, ◌||◌, Bool, Contains, true, false, List, [], ◌++◌, Some, nat_lt, if◌then◌else◌}
 use Rattle.vr_grid.specs.declared.name.Name.{Name}
 use Rattle.vr_header.specs.declared.header.Header.{Header}
+use Rattle.vr_msg.specs.declared.event.Event.TheVariants.{Tick}
 use Rattle.vr_msg.specs.declared.frame.Frame.{Frame}
+use Rattle.vr_msg.specs.declared.output.Output.{Output}
 use Rattle.vr_rules.specs.Outputs.{get_block, get_prepare, send_to}
-use Rattle.vr_rules.specs.Replica.{Replica, is_absent, part_at}
+use Rattle.vr_rules.specs.Replica.{Replica, is_absent, is_frozen, is_started, leads, part_at}
+use Rattle.vr_rules.specs.Rules.{react}
 use Rattle.vr_rules.specs.Sound.{IsSound}
-use Rattle.vr_rules.specs.Steps.{Setting, outputs}
+use Rattle.vr_rules.specs.Steps.{Setting, Step, outputs}
 use Rattle.vr_rules.specs.Words.{ask, least_absent, peer}
 
 -- an entry above the checkpoint is known, and lost or wanted
@@ -39,3 +42,24 @@ pub record Asks {F : Type 0} (s : Setting F) (r : Replica) (f : F) : Type 0 wher
 
 abbrev pub ShortReplicasAsk : Type 0 → Type 0
 ShortReplicasAsk F = (s : Setting F) (r : Replica) (f : F) → IsSound r → IsShort r → Asks s r f
+
+-- ---- ticks
+
+-- its next tick gives up no view: it leads, or the primary, or a change of view, was heard of not long ago
+abbrev pub stays_on : Replica → Bool
+stays_on r = leads r || nat_lt r.idle (if is_started r then 4 else 9)
+
+-- a message that asks for one of these is the last that a step puts out
+pub record AsksLast {F : Type 0} (s : Setting F) (x : Step) : Type 0 where
+  pub before : List Output
+  pub message : Frame
+  pub to : ℕ
+  pub sent : outputs x.script ≡ before ++ send_to to message x.replica
+  pub what : AsksBlock x.replica x.replica.missing message ⊎ (AsksEntry s x.replica message ⊎ AsksBlock x.replica x.replica.worn message)
+
+-- such a tick, after which something is known to be missing, has asked for it
+abbrev pub TicksAsk : Type 0 → Type 0
+TicksAsk F =
+    (s : Setting F) (r : Replica) (f : F) → IsSound r → is_frozen r ≡ false → stays_on r ≡ true
+    → let x = react Tick s r f in
+    IsShort x.replica → AsksLast s x

@@ -2,7 +2,7 @@
 //! of which each ask sends for one while there is some. Each function is a law: its contract is the statement, and it does nothing.
 #![tactic(auto)]
 
-ghost use Rattle.vr_mends.specs.Asks.{ShortReplicasAsk};
+ghost use Rattle.vr_mends.specs.Asks.{ShortReplicasAsk, TicksAsk};
 ghost use Rattle.vr_mends.specs.Blocks.{BlocksMend};
 ghost use Rattle.vr_mends.specs.CaughtUp.{FreshKeepUp, OpeningsKeepUp, StepsKeepUp};
 ghost use Rattle.vr_mends.specs.Completing.{CopiesComplete};
@@ -61,6 +61,12 @@ pub fn visits_find()
 /// ask sends for one of these, and for nothing else.
 pub fn short_replicas_ask<F>()
     ensures { ShortReplicasAsk F }
+{}
+
+/// A tick that gives up no view asks last of all: where after it a block is missing, an entry above the checkpoint whose header is known is lost or
+/// wanted, or a block is known as bad, the last message that it sends asks for one of these.
+pub fn ticks_ask<F>()
+    ensures { TicksAsk F }
 {}
 
 /// Of a replica that misses no block each visit takes the place after that of the one before, around, whatever the disk reads as: as many visits as there are places come to
