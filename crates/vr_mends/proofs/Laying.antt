@@ -68,6 +68,7 @@ laid_by root t at h =
     let ns : length ss ≡ length t.sessions = length-map t.sessions (λ (p : Payload). p.name) in
     let nk : length ks ≡ length t.keys = length-map t.keys (λ (p : Payload). p.name) in
     let both : length (ss ++ ks) ≡ length ss + length ks = length-append ss ks in
+    let few_sessions = h.few_sessions in
     let few_keys = h.few_keys in
     let each : (i : ℕ) (d : Name) → i < length (all_names root t) → AtPlace (low_of (length t.sessions) i) (get_or (all_names root t) i d).address = elim [
       | zero ↦ λ d l. at
@@ -86,7 +87,7 @@ laid_by root t at h =
             subst (λ n. AtPlace n (get_or (ss ++ ks) k d).address) low (subst (λ (m : Name). AtPlace (10 + j) m.address) (sym spot) there)
       ]
     ] in
-    record { each = each; few_sessions = h.few_sessions; few = omega (arith, both, ns, nk, few_keys) }
+    record { each = each; few_sessions = omega (arith, few_sessions); few = omega (arith, both, ns, nk, few_keys) }
 
 -- the lower places are below 46, and no two are one
 low_below : (n i : ℕ) → n ≤ 9 → i < 1 + n + 36 → low_of n i < 46
