@@ -1,8 +1,8 @@
 -- The blocks of a checkpoint stand apart, each at one of its two places.
 use Rattle.std.proofs.Common.{arith, ℕ, zero, suc, ◌+◌, ◌-◌, ◌≡◌, ◌≢◌, ◌<◌, ◌≤◌, ◌∙◌, inl, inr, refl, sym, ap, subst, true, false, cond, List, [], ◌∷◌, ◌++◌, map, length, get_or, Some, None}
-use Rattle.std.specs.Prelude.{nat_lt, slice_get, ◌==◌}
+use Rattle.std.specs.Prelude.{nat_lt, slice_get, ◌==◌, ◌||◌}
 use Rattle.std.specs.Option.{option_and_then}
-use Rattle.std.proofs.lemmas.Bool.{and_parts, cases_eq, cases_lt, eqb-true, le-ltb, lt-ltb}
+use Rattle.std.proofs.lemmas.Bool.{and_parts, cases_eq, cases_lt, eq-eqb, eqb-true, le-ltb, lt-ltb}
 use Rattle.std.proofs.lemmas.List.{get_or-append-add, get_or_append_left, get_or_default, length-append, length-map}
 use Rattle.vr_apply.specs.Texts.{FitsPayloads, payloads}
 use Rattle.vr_apply.specs.declared.codec.Texts.{Texts}
@@ -13,7 +13,7 @@ use Rattle.vr_grid.specs.declared.name.Name.{Name}
 use Rattle.vr_grid.proofs.Contents.{named_found}
 use Rattle.vr_ckpt.specs.Laws.{Holds, HoldsFrom}
 use Rattle.vr_ckpt.specs.Loads.{has_numbers, is_root, load_by, loaded, read_root, root_at, root_in}
-use Rattle.vr_ckpt.specs.Places.{root_place}
+use Rattle.vr_ckpt.specs.Places.{is_place, root_place}
 use Rattle.vr_ckpt.specs.Saves.{PayloadBlocks, data_content, goes_to, keys_run, payload_blocks_at, payloads_from, root_of, saved_checkpoint, sessions_run, table_of}
 use Rattle.vr_ckpt.specs.Saves as saves
 use Rattle.vr_ckpt.specs.declared.plan.Run.{Run}
@@ -39,14 +39,18 @@ names_of ps = map (λ (p : Payload). p.name) ps
 abbrev pub all_names : Name → PayloadTable → List Name
 all_names root t = root ∷ (names_of t.sessions ++ names_of t.keys)
 
+is_at : (low a : ℕ) → AtPlace low a → is_place low a ≡ true
+is_at low a (inl e) = ap (λ b. b || (a == low + 64)) (eq-eqb a low e)
+is_at low a (inr e) = elim (a == low) as (λ b. (b || (a == low + 64)) ≡ true) [ true ↦ refl | false ↦ eq-eqb a (low + 64) e ]
+
 -- what a disk holds stands at its places
 held_at : (f : Face) (low : ℕ) (ps : List Payload) → HoldsFrom f low ps → AreAt low ps
 held_at f low [] h = tt
-held_at f low (p ∷ ps) h = (place_of low p.name.address h.0, held_at f (low + 1) ps h.2)
+held_at f low (p ∷ ps) h = (h.0, held_at f (low + 1) ps h.2)
 
 payload_at : (low : ℕ) (ps : List Payload) (k : ℕ) (d : Name) → AreAt low ps → k < length ps → AtPlace (low + k) (get_or (names_of ps) k d).address
 payload_at low [] k d h l = absurd (omega (arith, l))
-payload_at low (p ∷ ps) zero d h l = let same : low ≡ low + zero = omega arith in subst (λ n. AtPlace n p.name.address) same h.0
+payload_at low (p ∷ ps) zero d h l = let same : low ≡ low + zero = omega arith in subst (λ n. AtPlace n p.name.address) same (place_of low p.name.address h.0)
 payload_at low (p ∷ ps) (suc k) d h l =
     let same : low + 1 + k ≡ low + suc k = omega arith in
     subst (λ n. AtPlace n (get_or (names_of ps) k d).address) same (payload_at (low + 1) ps k d h.1 (omega (arith, l)))
@@ -138,7 +142,7 @@ laid_apart root t laid =
 
 -- blocks at their places stand apart
 pub places_stand : (root : Name) (t : PayloadTable) → StandsAt 0 root → IsInPlaces t → StandApart (all_names root t)
-places_stand root t at h = laid_apart root t (laid_by root t at h)
+places_stand root t at h = laid_apart root t (laid_by root t (place_of 0 root.address at) h)
 
 pub nothing_apart : StandApart []
 nothing_apart = record { grid = λ i d l. absurd (omega (arith, l)); own = λ a b x y same. absurd (let l = x.1 in omega (arith, l)) }
@@ -196,7 +200,7 @@ part_at_place : (r : Run) (text : List ℕ) (old : List Payload) (i : ℕ) → A
 part_at_place r text old i h =
     elim (part_cases r i (saves.payload_at text i) (slice_get old i)) [
       | inl s ↦ subst (λ (x : PayloadBlocks). StandsAt (r.low + i) x.payload.name) (sym s.is) (old_at r.low old i s.payload h s.there)
-      | inr g ↦ subst (λ (x : PayloadBlocks). StandsAt (r.low + i) x.payload.name) (sym g.is) (subst (AtPlace (r.low + i)) (sym (went_to r g.address (saves.payload_at text i))) g.at)
+      | inr g ↦ subst (λ (x : PayloadBlocks). StandsAt (r.low + i) x.payload.name) (sym g.is) (subst (λ a. is_place (r.low + i) a ≡ true) (sym (went_to r g.address (saves.payload_at text i))) (is_at (r.low + i) g.address g.at))
     ]
 
 parts_at : (r : Run) (text : List ℕ) (old : List Payload) (i n : ℕ) → AreAt r.low old → AreAt (r.low + i) (payloads_from r text old i n)
@@ -227,7 +231,7 @@ saved_places cluster texts op old fits h =
 
 root_saved : (cluster : ℕ) (texts : Texts) (op : ℕ) (old : PayloadTable) → StandsAt 0 (saved_checkpoint cluster texts op old).root
 unfolding root_of
-root_saved cluster texts op old = root_at_place op
+root_saved cluster texts op old = is_at 0 (root_place op) (root_at_place op)
 
 -- ---- the disks of the program
 
@@ -249,7 +253,7 @@ held_places f t h = record {
 
 pub sectors_apart : LoadsApart sectors
 sectors_apart = record {
-  places = λ f root texts t e. (loaded_root f root texts t e, held_places f t (each_held f root texts t e));
+  places = λ f root texts t e. (is_at 0 root.address (loaded_root f root texts t e), held_places f t (each_held f root texts t e));
   some = λ f root e. some_missing f root [] e refl;
 }
 

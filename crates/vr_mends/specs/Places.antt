@@ -1,11 +1,11 @@
 -- Where the blocks of a replica's checkpoint stand, whatever comes.
-use Rattle.std.specs.Prelude.{ℕ, ◌+◌, ◌<◌, ◌≤◌, ◌≡◌, ◌≢◌, ◌⊎◌, false, List, [], ◌∷◌, All, Contains, length}
+use Rattle.std.specs.Prelude.{ℕ, ◌+◌, ◌<◌, ◌≤◌, ◌≡◌, ◌≢◌, true, false, List, [], ◌∷◌, All, Contains, length}
 use Rattle.vr_base.specs.Bytes.{IsBytes}
 use Rattle.vr_disk.specs.DiskState.{Face, IsFace}
 use Rattle.vr_grid.specs.declared.name.Name.{Name}
 use Rattle.vr_kv.specs.Kv.{IsKv}
 use Rattle.vr_sess.specs.Sessions.{IsSessions}
-use Rattle.vr_ckpt.specs.Places.{keys_place, sessions_place}
+use Rattle.vr_ckpt.specs.Places.{is_place, keys_place, sessions_place}
 use Rattle.vr_ckpt.specs.declared.table.Payload.{Payload}
 use Rattle.vr_ckpt.specs.declared.table.PayloadTable.{PayloadTable}
 use Rattle.vr_msg.specs.declared.event.Event.{Event}
@@ -22,7 +22,7 @@ use Rattle.vr_mends.specs.Cover.{IsLaidOut}
 
 -- at one of the two places of a block, by the lower one
 abbrev pub StandsAt : ℕ → Name → Type 0
-StandsAt low name = (name.address ≡ low) ⊎ (name.address ≡ low + 64)
+StandsAt low name = is_place low name.address ≡ true
 
 -- payloads at the places of a text, one after the other
 abbrev pub AreAt : ℕ → List Payload → Type 0

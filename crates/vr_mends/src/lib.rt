@@ -69,8 +69,8 @@ pub fn ticks_ask<F>()
     ensures { TicksAsk F }
 {}
 
-/// Of a replica that misses no block each visit takes the place after that of the one before, around, whatever the disk reads as: as many visits as there are places come to
-/// every slot, the superblock, and every block of the checkpoint.
+/// Of a replica that misses no block each visit takes the place after that of the one before, around, whatever the disk reads as: as many visits
+/// as there are places come to every slot, the superblock, and every block of the checkpoint.
 pub fn visits_turn<F>()
     ensures { VisitsTurn F }
 {}
