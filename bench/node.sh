@@ -11,7 +11,7 @@
 set -u
 cd "$(dirname "$0")/.." || exit 2
 program=${PROGRAM:-$PWD/crates/vr_app/out/vr_app}
-[ -x "$program" ] || { echo "no program: (cd crates/vr_app && rt run -- replay < /dev/null) makes $program" >&2; exit 2; }
+[ -x "$program" ] || { echo "no program: rt ci makes $program" >&2; exit 2; }
 folder=$(mktemp -d "${1:-/tmp}/node.XXXXXX") || exit 2
 puts=${2:-2000}
 port=$((21000 + ($$ * 7) % 8000))

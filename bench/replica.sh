@@ -6,7 +6,7 @@
 set -eu
 cd "$(dirname "$0")/.."
 program=${PROGRAM:-$PWD/crates/vr_app/out/vr_app}
-[ -x "$program" ] || { echo "no program: (cd crates/vr_app && rt run -- replay < /dev/null) makes $program" >&2; exit 2; }
+[ -x "$program" ] || { echo "no program: rt ci makes $program" >&2; exit 2; }
 folder=$(mktemp -d)
 trap 'rm -rf "$folder"' EXIT
 
