@@ -74,9 +74,9 @@ script_fit c g _ _ h k (group.recovers_cut at v d j m o) = All-take IsFit (j + 1
 -- each group of a run is fit
 pub fit_at : (cluster n : ℕ) (run : List Played) → IsFitRun cluster n run → (t : ℕ) (p : Played) → slice_get run t ≡ Some p → IsFitPlayed cluster p × IsFitMove p.move
 fit_at cluster n run x t p is =
-    (at_place (IsFitPlayed cluster) run t p (groups_fit.runs cluster n run x.number x.few x.many x.moves x.of_run) is, at_place (λ (p : Played). IsFitMove p.move) run t p x.moves is)
+    (at_place (IsFitPlayed cluster) run t p (groups_fit.runs x.kinds cluster n run x.number x.few x.many x.moves x.of_run) is, at_place (λ (p : Played). IsFitMove p.move) run t p x.moves is)
 
 pub writes_good : (cluster n : ℕ) (run : List Played) → IsFitRun cluster n run → (t : ℕ) (p : Played) → slice_get run t ≡ Some p → WritesGood p.moved.script
 writes_good cluster n run x t p is =
     let f = fit_at cluster n run x t p is in
-    fit_good p.moved.script (script_fit cluster p.before p.move p.moved f.0.0 f.1 (move_of (fresh_group cluster n) run x.of_run t p is))
+    fit_good p.moved.script (script_fit cluster p.before p.move p.moved f.0.0 f.1 (move_of (fresh_group x.kinds cluster n) run x.of_run t p is))

@@ -1,4 +1,5 @@
 -- Each running member of a run has its place among the others, and what a move puts out carries its values.
+use Rattle.vr_base.specs.declared.kind.Kind.{Kind}
 use Rattle.std.proofs.Common.{ℕ, zero, suc, ◌+◌, ◌<◌, ◌≤◌, ◌^◌, ◌≡◌, ◌∙◌, ◌⊎◌, inl, inr, arith, ap, subst, List, [], ◌∷◌, Some}
 use Rattle.std.specs.Prelude.{All, slice_get, slice_set}
 use Rattle.std.proofs.lemmas.List.Elements.{All-head, All-tail}
@@ -67,17 +68,17 @@ runs_placed c g _ (goes _ move moved later moves rest) fit h placed (suc t) p e 
     let one = All-head (λ (p : Played). IsFitMove p.move) q later h in
     runs_placed c moved.group later rest (groups_fit.each c g move moved fit one moves) (All-tail (λ (p : Played). IsFitMove p.move) q later h) (move_placed c g move moved fit one moves placed) t p e
 
-fresh_placed : (c n : ℕ) → c < 2 ^ 64 → 2 ≤ n → n ≤ 6 → ArePlaced (fresh_group c n)
+fresh_placed : (kinds : ℕ → Kind) (c n : ℕ) → c < 2 ^ 64 → 2 ≤ n → n ≤ 6 → ArePlaced (fresh_group kinds c n)
 unfolding fresh_group
-fresh_placed c n l a b at m r x =
-    let k = fresh_at c n 0 n at m x.member in
+fresh_placed kinds c n l a b at m r x =
+    let k = fresh_at kinds c n 0 n at m x.member in
     let j : 0 + at ≡ at = omega arith in
-    let is : group.fresh_member c n at ≡ m = subst (λ i. group.fresh_member c n i ≡ m) j k.0 in
-    let same : Some (fresh c n at) ≡ Some r = ap (λ (z : Member). z.replica) is ∙ x.running in
-    let one : fresh c n at ≡ r = cc in
-    subst IsPlaced one (fresh_fits c n at l a b k.1).placed
+    let is : group.fresh_member (kinds at) c n at ≡ m = subst (λ i. group.fresh_member (kinds i) c n i ≡ m) j k.0 in
+    let same : Some (fresh (kinds at) c n at) ≡ Some r = ap (λ (z : Member). z.replica) is ∙ x.running in
+    let one : fresh (kinds at) c n at ≡ r = cc in
+    subst IsPlaced one (fresh_fits (kinds at) c n at l a b k.1).placed
 
 -- in each group of a run
 pub placed_at : (cluster n : ℕ) (run : List Played) → IsFitRun cluster n run → (t : ℕ) (p : Played) → slice_get run t ≡ Some p → ArePlaced p.before
 placed_at cluster n run x t p is =
-    runs_placed cluster (fresh_group cluster n) run x.of_run (fresh_group_fits cluster n x.number x.few x.many) x.moves (fresh_placed cluster n x.number x.few x.many) t p is
+    runs_placed cluster (fresh_group x.kinds cluster n) run x.of_run (fresh_group_fits x.kinds cluster n x.number x.few x.many) x.moves (fresh_placed x.kinds cluster n x.number x.few x.many) t p is

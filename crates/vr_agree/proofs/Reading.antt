@@ -71,4 +71,4 @@ move_reads c g _ _ h k (group.recovers_cut at v d n m o) l j = absurd j
 pub runs_read : (cluster n : ℕ) (run : List Played) → IsFitRun cluster n run → (t : ℕ) (p : Played) → slice_get run t ≡ Some p → (l : Committed) → In (output.Commit l) p.moved.outputs → IsWellRead l.entry
 runs_read cluster n run x t p is l j =
     let f = fit_at cluster n run x t p is in
-    move_reads cluster p.before p.move p.moved f.0.0 f.1 (move_of (fresh_group cluster n) run x.of_run t p is) l j
+    move_reads cluster p.before p.move p.moved f.0.0 f.1 (move_of (fresh_group x.kinds cluster n) run x.of_run t p is) l j

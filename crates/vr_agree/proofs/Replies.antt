@@ -193,11 +193,11 @@ module _ (cluster n : ℕ) (u : Setup) (run : List Played) (x : IsFollowed clust
   moved_have t g _ _ is (recovers_cut at v f k m opens) have = changed_have log g _ at (record (cut_in_two (mended v f).script (resumed v f).script (keeps_all (found v f)) k m) { replica = None }) refl have (λ q e' free. absurd cc)
 
   -- a group that was just made
-  fresh_have : AllHave log (fresh_group cluster n)
+  fresh_have : AllHave log (fresh_group x.fit.kinds cluster n)
   unfolding fresh_group blank
   fresh_have at m r runs free =
-      let y = got_map (fresh_member cluster n) (range_with_len 0 n) at m runs.member in
-      let same : fresh cluster n y.0 ≡ r = (let o : Some (fresh cluster n y.0) ≡ Some r = ap (λ (z : Member). z.replica) y.1 ∙ runs.running in cc) in
+      let y = got_map (λ i. fresh_member (x.fit.kinds i) cluster n i) (range_with_len 0 n) at m runs.member in
+      let same : fresh (x.fit.kinds y.0) cluster n y.0 ≡ r = (let o : Some (fresh (x.fit.kinds y.0) cluster n y.0) ≡ Some r = ap (λ (z : Member). z.replica) y.1 ∙ runs.running in cc) in
       subst (HasState log) same (λ none. refl)
 
   all_have : (d : ℕ) (g : Group) (ps : List Played) → Run g ps → ((k : ℕ) (p : Played) → slice_get ps k ≡ Some p → slice_get run (d + k) ≡ Some p) → AllHave log g → (k : ℕ) (p : Played) → slice_get ps k ≡ Some p → AllHave log p.before
@@ -209,10 +209,10 @@ module _ (cluster n : ℕ) (u : Setup) (run : List Played) (x : IsFollowed clust
       all_have (suc d) moved.group later rest (λ j q i. subst (λ z. slice_get run z ≡ Some q) (let z : d + suc j ≡ suc d + j = omega arith in z) (sub (suc j) q i)) (moved_have (d + 0) g move moved (sub zero _ refl) moves have) k p e
 
   pub have_at : (t : ℕ) (p : Played) → slice_get run t ≡ Some p → AllHave log p.before
-  have_at t p e = all_have 0 (fresh_group cluster n) run x.fit.of_run (λ k q i. subst (λ z. slice_get run z ≡ Some q) (let z : k ≡ 0 + k = omega arith in z) i) fresh_have t p e
+  have_at t p e = all_have 0 (fresh_group x.fit.kinds cluster n) run x.fit.of_run (λ k q i. subst (λ z. slice_get run z ≡ Some q) (let z : k ≡ 0 + k = omega arith in z) i) fresh_have t p e
 
   pub have_after : (t : ℕ) (p : Played) → slice_get run t ≡ Some p → AllHave log p.moved.group
-  have_after t p e = moved_have t p.before p.move p.moved e (move_of (fresh_group cluster n) run x.fit.of_run t p e) (have_at t p e)
+  have_after t p e = moved_have t p.before p.move p.moved e (move_of (fresh_group x.fit.kinds cluster n) run x.fit.of_run t p e) (have_at t p e)
 
   -- ---- a reply
 
@@ -266,4 +266,4 @@ module _ (cluster n : ℕ) (u : Setup) (run : List Played) (x : IsFollowed clust
     reply_of_move g _ _ is (recovers_cut at v f k m opens) there = absurd cc
 
     pub true_reply : (p : Played) → slice_get run t ≡ Some p → slice_get p.moved.outputs number ≡ Some (output.Reply a) → IsTrueReply cluster n log run t number p a
-    true_reply p is there = reply_of_move p.before p.move p.moved is (move_of (fresh_group cluster n) run x.fit.of_run t p is) there
+    true_reply p is there = reply_of_move p.before p.move p.moved is (move_of (fresh_group x.fit.kinds cluster n) run x.fit.of_run t p is) there

@@ -1,5 +1,6 @@
 -- What the machine of small moves gives of a run of a group: for each move of the run a chain of the machine's, at whose end all that
 -- was put out is so, and nothing else was sent, made or chosen. It is what a run of the machine gives for what is said of its outputs.
+use Rattle.vr_base.specs.declared.kind.Kind.{Kind}
 use Rattle.std.specs.Prelude.{ℕ, suc, ◌^◌, ◌<◌, ◌≤◌, ◌≡◌, ◌⊎◌, ⊤, List, [], length, All, slice_get, Some}
 use Rattle.vr_base.specs.Bytes.{name_of}
 use Rattle.vr_header.specs.declared.header.Header.{Header}
@@ -99,7 +100,8 @@ pub record IsFitRun (cluster n : ℕ) (run : List Played) : Type 0 where
   pub few : 2 ≤ n
   pub many : n ≤ 6
   pub moves : All (λ p. IsFitMove p.move) run
-  pub of_run : Run (fresh_group cluster n) run
+  pub kinds : ℕ → Kind  -- of the files of its members
+  pub of_run : Run (fresh_group kinds cluster n) run
 
 pub record IsCarried (cluster : ℕ) (u : Setup) (run : List Played) (before after : Group Header) (p : Played) : Type 0 where
   -- nothing is taken back

@@ -4,7 +4,9 @@
 
 mod fields;
 mod groups;
+mod kind;
 mod memory;
+mod mode;
 mod replicas;
 mod seq;
 mod sum;
@@ -13,7 +15,9 @@ mod zeros;
 
 pub use fields::{put, put_sum, put_u16, put_u32, put_u64, sum_at, u16_at, u32_at, u64_at};
 pub use groups::quorums;
+pub use kind::Kind;
 pub use memory::NoMemory;
+pub use mode::Mode;
 pub use replicas::Replicas;
 pub use seq::{ByteList, Seq};
 pub use sum::{Sum, checksum, checksum_of_parts};

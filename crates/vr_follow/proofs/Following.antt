@@ -84,12 +84,12 @@ so cluster u run before after p reached from lines choices (output.Halted n) j t
 so cluster u run before after p reached from lines choices output.Done j t = tt
 so cluster u run before after p reached from lines choices output.KeptOut j t = tt
 
-module _ (cluster n : ℕ) (run : List Played) (fit : IsFitRun cluster n run) (u : Setup) (of_group : u.cluster ≡ cluster) (first : Group Header) (bridges : Bridges u (fresh_group cluster n) first) (follows : Follows u first run) where
+module _ (cluster n : ℕ) (run : List Played) (fit : IsFitRun cluster n run) (u : Setup) (of_group : u.cluster ≡ cluster) (first : Group Header) (bridges : Bridges u (fresh_group fit.kinds cluster n) first) (follows : Follows u first run) where
   abbrev at : ℕ → Group Header
   at t = group_at u first t run follows
 
   bridged : (t : ℕ) (p : Played) → slice_get run t ≡ Some p → Bridges u p.before (at t)
-  bridged t p is = bridges_at u (fresh_group cluster n) first t run fit.of_run follows bridges p is
+  bridged t p is = bridges_at u (fresh_group fit.kinds cluster n) first t run fit.of_run follows bridges p is
 
   bridged_after : (t : ℕ) (p : Played) → slice_get run t ≡ Some p → Bridges u p.moved.group (at (suc t))
   bridged_after t p is = (chained_at u first t run follows p is).bridges
@@ -99,7 +99,7 @@ module _ (cluster n : ℕ) (run : List Played) (fit : IsFitRun cluster n run) (u
       let x = chained_at u first t run follows p is in
       let f = fit_at cluster n run fit t p is in
       let placed = placed_at cluster n run fit t p is in
-      let moves = move_of (fresh_group cluster n) run fit.of_run t p is in
+      let moves = move_of (fresh_group fit.kinds cluster n) run fit.of_run t p is in
       let there : Contains run p = in_contains run p (get_in run t p is) in
       let size : u.quorums.n ≡ p.before.n = sym (bridged t p is).size in
       let mine : IsFitGroup u.cluster p.before = subst (λ c. IsFitGroup c p.before) (sym of_group) f.0.0 in
@@ -130,7 +130,7 @@ module _ (cluster n : ℕ) (run : List Played) (fit : IsFitRun cluster n run) (u
 pub follows_it : (cluster n : ℕ) (run : List Played) → IsFitRun cluster n run → FollowsIt cluster n run
 unfolding followed
 follows_it cluster n run fit =
-    let y : FollowsFresh cluster n run = fresh_runs_so cluster n run fit.number fit.few fit.many fit.moves fit.of_run in
+    let y : FollowsFresh fit.kinds cluster n run = fresh_runs_so fit.kinds cluster n run fit.number fit.few fit.many fit.moves fit.of_run in
     record {
       setup = y.setup;
       followed = followed cluster n run fit y.setup y.cluster_is y.first y.bridges y.follows y.hash_is y.size_is y.fits y.none_sent y.none_made;

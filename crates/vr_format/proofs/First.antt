@@ -1,4 +1,5 @@
 -- The first value makes a good copy.
+use Rattle.vr_base.specs.declared.kind.Kind.{Kind}
 use Rattle.std.proofs.Common.{arith, ℕ, ◌≡◌, ◌<◌, ◌≤◌, ◌^◌, ◌∙◌, inl, inr, refl, sym, true, true≢false}
 use Rattle.std.specs.Prelude.{is_some}
 use Rattle.std.proofs.lemmas.Bool.{and_from, cases_eq, le-leb, lt-ltb, ne_eqb}
@@ -30,9 +31,9 @@ size_of n e =
       ]
     ]
 
-pub first_good : (cluster n index : ℕ) → cluster < 2 ^ 64 → index < 256 → n < 256 → is_some (quorums_of n) ≡ true → index < n → IsGood (first_value cluster n index)
+pub first_good : (kind : Kind) (cluster n index : ℕ) → cluster < 2 ^ 64 → index < 256 → n < 256 → is_some (quorums_of n) ≡ true → index < n → IsGood (first_value kind cluster n index)
 unfolding good_fields are_listed
-first_good cluster n index c i k s m =
+first_good kind cluster n index c i k s m =
     let size = size_of n s in
     record {
       numbers = record {

@@ -4,12 +4,12 @@ ghost use Rattle.vr_base.specs.Groups.{quorums_of};
 ghost use Rattle.vr_rules.specs.Opening.{first_value};
 
 use std::alloc::Global;
-use vr_base::{Config, NoMemory, Seq, Sum};
+use vr_base::{Config, Kind, NoMemory, Seq, Sum};
 use vr_super::{Fields, Super};
 
 // Its numbers.
-fn first_fields(config: Config) -> Fields
-    ensures value { result ≡ (first_value config.cluster config.n config.replica).fields }
+fn first_fields(config: Config, kind: Kind) -> Fields
+    ensures value { result ≡ (first_value kind config.cluster config.n config.replica).fields }
     ensures cluster { config.cluster < 2 ^ 64 }
     ensures replica { config.replica < 256 }
     ensures n { config.n < 256 }
@@ -26,15 +26,16 @@ fn first_fields(config: Config) -> Fields
         head: 0,
         replica: config.replica,
         n: config.n,
+        mode: kind.mode,
     }
 }
 
-/// The superblock's value of a member of a new group.
+/// The superblock's value of a member of a new group, on a file of this kind.
 #[tactic(auto, using(crate::proofs::First::first_good))]
-pub fn first_value(alloc: Global, config: &Config) -> Result<Super, NoMemory>
+pub fn first_value(alloc: Global, config: &Config, kind: Kind) -> Result<Super, NoMemory>
     requires size { is_some (quorums_of config.now.n) ≡ true }
     requires member { config.now.replica < config.now.n }
-    ensures { IfOk result (λ v. v ≡ first_value config.now.cluster config.now.n config.now.replica) }
+    ensures { IfOk result (λ v. v ≡ first_value kind config.now.cluster config.now.n config.now.replica) }
 {
-    Super::new(alloc, first_fields(*config), Seq::new(alloc))
+    Super::new(alloc, first_fields(*config, kind), Seq::new(alloc))
 }

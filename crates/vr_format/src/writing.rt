@@ -6,6 +6,7 @@ ghost use Rattle.vr_disk.specs.Regions.{header_place};
 ghost use Rattle.vr_rings.specs.Slots.{sector_of};
 ghost use Rattle.vr_rules.specs.Lying.{format_calls, reserved_header, reserved_headers, zero_prepares};
 ghost use Rattle.vr_rules.specs.Opening.{first_value};
+ghost use Rattle.vr_super.specs.Opens.{file_kind};
 ghost use Rattle.vr_format.specs.Calls.{reserved_call};
 
 use vr_base::{Config, Sum, checksum};
@@ -76,8 +77,8 @@ fn reserve_all<D: SectorDisk>(disk: &mut D, cluster: u64) -> Result<(), DiskFail
 /// and the four copies of the value.
 #[tactic(auto, using(vr_disk::proofs::Running::Runs_then, vr_disk::proofs::Running::Runs_stopped))]
 pub fn format<D: SectorDisk>(disk: &mut D, config: &Config, value: &Super) -> Result<(), DiskFault>
-    requires { value.now ≡ first_value config.now.cluster config.now.n config.now.replica }
-    ensures runs { Runs (format_calls config.now.cluster config.now.n config.now.replica) (D.told disk.old) (D.told disk.new) (is_ok result) }
+    requires { value.now ≡ first_value (file_kind value.now.fields) config.now.cluster config.now.n config.now.replica }
+    ensures runs { Runs (format_calls (file_kind value.now.fields) config.now.cluster config.now.n config.now.replica) (D.told disk.old) (D.told disk.new) (is_ok result) }
     ensures cause { HasCause (D.faults disk.old) (D.faults disk.new) result }
 {
     write_zeros(disk)?;

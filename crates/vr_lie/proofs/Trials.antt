@@ -2,15 +2,19 @@
 use Rattle.std.proofs.Common.{ℕ, ◌-◌, ◌/◌, ◌<◌, ◌≤◌, ◌≡◌, ◌≢◌, refl, sym, ap, ◌∙◌, arith, Bool, true, false, not, ◌||◌, List, length, set, length-set, Option, Some, None, get_or-set_other, get_or-set_same, inl, inr, ◌⊎◌, subst}
 use Rattle.std.specs.Prelude.{IsTrue}
 use Rattle.std.proofs.lemmas.Bool.{cases_eq, cases_lt, lt-ltb, le-ltb}
+use Rattle.vr_base.specs.declared.mode.Mode.{Mode}
+use Rattle.vr_base.specs.declared.mode.Mode.TheVariants.{Strict}
+use Rattle.std.specs.Option.{option_map_or}
+use Rattle.vr_super.specs.Copies.{SuperValue}
 use Rattle.vr_disk.specs.DiskState.{Disk, Face, IsFace}
-use Rattle.vr_super.specs.Opens.{good_copies, opened, opens}
+use Rattle.vr_super.specs.Opens.{good_copies, mode_in, opened, opens}
 use Rattle.vr_mem.specs.Lies.{lied}
 use Rattle.vr_mem.specs.Seen.{reads_of}
 use Rattle.vr_lie.specs.declared.fault.Fault.{Fault}
 use Rattle.vr_lie.specs.declared.fault.Fault.TheVariants.{Damage, Stale, Unread}
 use Rattle.vr_lie.specs.declared.trial.Lie.{Lie}
-use Rattle.vr_lie.specs.Faults.{HeldLooked, Holds, IsFault, KeepsPremise, held_at}
-use Rattle.vr_rings.specs.Held.{entry_read, found, looked}
+use Rattle.vr_lie.specs.Faults.{HeldLooked, IsFault, KeepsPremise, held_at}
+use Rattle.vr_rings.specs.Held.{Holds, entry_read, found, looked}
 use Rattle.vr_lie.specs.Table.{IsTable, KeepsSlot, LookedAt, both, holds, shown, slot_at}
 use Rattle.vr_lie.proofs.Lies.{lied_again, reads_both, undone}
 use Rattle.vr_lie.proofs.Opening.{opened_same, same_opened, same_opens}
@@ -42,21 +46,21 @@ far f a b l m = same_opens f (both f a b) (opened_same f (both f a b) (λ k n. r
 
 -- ---- the slots
 
-pub still_is : (f g : Face) (slot : ℕ) (p : List ℕ) (h s r : Bool) → h ≡ holds f slot p → s ≡ holds g slot p → r ≡ (not h || s)
-    → (IsTrue r → Holds f slot (Some p) → Holds g slot (Some p)) × ((Holds f slot (Some p) → Holds g slot (Some p)) → IsTrue r)
-still_is f g s p true k r x y e = (λ t h. holds_is g s p (sym y ∙ (sym e ∙ t)), λ h. e ∙ (y ∙ is_holds g s p (h (holds_is f s p (sym x)))))
-still_is f g s p false k r x y e = (λ t h. absurd (let z : false ≡ true = x ∙ is_holds f s p h in cc), λ h. e)
+pub still_is : (m n : Mode) (f g : Face) (slot : ℕ) (p : List ℕ) (h s r : Bool) → h ≡ holds m f slot p → s ≡ holds n g slot p → r ≡ (not h || s)
+    → (IsTrue r → Holds m f slot (Some p) → Holds n g slot (Some p)) × ((Holds m f slot (Some p) → Holds n g slot (Some p)) → IsTrue r)
+still_is m n f g s p true k r x y e = (λ t h. holds_is n g s p (sym y ∙ (sym e ∙ t)), λ h. e ∙ (y ∙ is_holds n g s p (h (holds_is m f s p (sym x)))))
+still_is m n f g s p false k r x y e = (λ t h. absurd (let z : false ≡ true = x ∙ is_holds m f s p h in cc), λ h. e)
 
 pub slot_keeps : (f g : Face) (at slot : ℕ) (held : List (Option (List ℕ))) (h : Option (List ℕ)) (r : Bool) → slot_at at ≡ Some slot → held_at held slot ≡ h
-    → (IsTrue r → Holds f slot h → Holds g slot h) × ((Holds f slot h → Holds g slot h) → IsTrue r) → (IsTrue r → KeepsSlot f g at held) × (KeepsSlot f g at held → IsTrue r)
+    → (IsTrue r → Holds (mode_in f) f slot h → Holds (mode_in g) g slot h) × ((Holds (mode_in f) f slot h → Holds (mode_in g) g slot h) → IsTrue r) → (IsTrue r → KeepsSlot f g at held) × (KeepsSlot f g at held → IsTrue r)
 slot_keeps f g at slot held h r e i k = (
   λ t. record {
     each = λ s z x.
         let same : slot ≡ s = (let y : Some slot ≡ Some s = sym e ∙ z in cc) in
         let own : held_at held s ≡ h = ap (held_at held) (sym same) ∙ i in
-        subst (Holds g s) (sym own) (subst (λ s. Holds g s h) same (k.0 t (subst (λ s. Holds f s h) (sym same) (subst (Holds f s) own x))));
+        subst (Holds (mode_in g) g s) (sym own) (subst (λ s. Holds (mode_in g) g s h) same (k.0 t (subst (λ s. Holds (mode_in f) f s h) (sym same) (subst (Holds (mode_in f) f s) own x))));
   },
-  λ z. k.1 (λ x. subst (Holds g slot) i (z.each slot e (subst (Holds f slot) (sym i) x))),
+  λ z. k.1 (λ x. subst (Holds (mode_in g) g slot) i (z.each slot e (subst (Holds (mode_in f) f slot) (sym i) x))),
 )
 
 pub slot_empty : (f g : Face) (at : ℕ) (held : List (Option (List ℕ))) → slot_at at ≡ None → KeepsSlot f g at held
@@ -84,20 +88,26 @@ cases_slot (Some k) s = elim (cases_eq k s) [ inl e ↦ inl (ap Some e) | inr d 
 both_same : (f : Face) (a b : Lie) (slot : ℕ) → slot < 64 → slot_at a.at ≢ Some slot → slot_at b.at ≢ Some slot → SameSlot f (both f a b) slot
 both_same f a b s l d e = same_slot f (both f a b) s l (λ k z. reads_both f a b k (λ x. d (sym (ap slot_at x) ∙ z)) (λ x. e (sym (ap slot_at x) ∙ z)))
 
-pub premise_is : (f : Face) (a b : Lie) (held : List (Option (List ℕ))) → opens (both f a b) ≡ opens f → KeepsSlot f (both f a b) a.at held → KeepsSlot f (both f a b) b.at held → KeepsPremise f (both f a b) held
-premise_is f a b held o h k = record {
-  opens = o;
-  slots = λ s l x. elim (cases_slot (slot_at a.at) s) [
-    | inl e ↦ h.each s e x
-    | inr d ↦ elim (cases_slot (slot_at b.at) s) [
-      | inl e ↦ k.each s e x
-      | inr e ↦ same_holds f (both f a b) s (held_at held s) (both_same f a b s l d e) x
-    ]
-  ];
-}
+-- a file that opens as before is judged as before
+same_mode : (f g : Face) → opens g ≡ opens f → mode_in g ≡ mode_in f
+same_mode f g e = ap (λ o. option_map_or (λ (v : SuperValue). v.fields.mode) o Strict) e
 
-pub premise_slot : (f g : Face) (at : ℕ) (held : List (Option (List ℕ))) → KeepsPremise f g held → KeepsSlot f g at held
-premise_slot f g at held h = record { each = λ s e x. h.slots s (slot_within at s e) x }
+pub premise_is : (f : Face) (a b : Lie) (held : List (Option (List ℕ))) → opens (both f a b) ≡ opens f → KeepsSlot f (both f a b) a.at held → KeepsSlot f (both f a b) b.at held → KeepsPremise (mode_in f) f (both f a b) held
+premise_is f a b held o h k =
+    let same = same_mode f (both f a b) o in
+    record {
+      opens = o;
+      slots = λ s l x. elim (cases_slot (slot_at a.at) s) [
+        | inl e ↦ subst (λ m. Holds m (both f a b) s (held_at held s)) same (h.each s e x)
+        | inr d ↦ elim (cases_slot (slot_at b.at) s) [
+          | inl e ↦ subst (λ m. Holds m (both f a b) s (held_at held s)) same (k.each s e x)
+          | inr e ↦ same_holds f (both f a b) s (held_at held s) (both_same f a b s l d e) x
+        ]
+      ];
+    }
+
+pub premise_slot : (f g : Face) (at : ℕ) (held : List (Option (List ℕ))) → KeepsPremise (mode_in f) f g held → KeepsSlot f g at held
+premise_slot f g at held h = record { each = λ s e x. subst (λ m. Holds m g s (held_at held s)) (sym (same_mode f g h.opens)) (h.slots s (slot_within at s e) x) }
 
 -- ---- the table after a fault
 

@@ -1,4 +1,5 @@
 -- What a run that is safe says of outputs that are its own but for some lines aside.
+use Rattle.vr_base.specs.declared.kind.Kind.{Kind}
 use Rattle.std.proofs.Common.{ℕ, ◌-◌, ◌<◌, ◌≤◌, ◌≡◌, ◌∙◌, inl, inr, arith, sym, ap, subst, List, Some}
 use Rattle.std.specs.Prelude.{slice_get, take}
 use Rattle.vr_header.specs.declared.header.Header.{Header}
@@ -196,10 +197,10 @@ place_of run ws all number o e not =
 once : (log : List Whole) → IsOnceInSession log
 once log before between later d e is client request first second = each_once before between d e client request first second
 
-pub keeps : (n : ℕ) → 2 ≤ n → n ≤ 6 → ((run : List Played) → IsFitRun 0 n run → HasOneLog 0 n run) → (h : Happened Lying) (m : IsMatched (fresh_group 0 n) h) → NoCollision (IsHashed m.run (root_header 0))
-    → KeepsOneLog n h
-keeps n few many one h m never =
-    let fit : IsFitRun 0 n m.run = record { number = omega arith; few = few; many = many; moves = m.reads; of_run = m.is } in
+pub keeps : (kind : Kind) (n : ℕ) → 2 ≤ n → n ≤ 6 → ((run : List Played) → IsFitRun 0 n run → HasOneLog 0 n run) → (h : Happened Lying) (m : IsMatched (fresh_group (λ i. kind) 0 n) h) → NoCollision (IsHashed m.run (root_header 0))
+    → KeepsOneLog kind n h
+keeps kind n few many one h m never =
+    let fit : IsFitRun 0 n m.run = record { number = omega arith; few = few; many = many; moves = m.reads; kinds = λ i. kind; of_run = m.is } in
     let o = one m.run fit in
     let s = o.safe in
     let gs = run_outputs m.run in

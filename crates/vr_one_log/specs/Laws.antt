@@ -1,4 +1,5 @@
 -- One log: of every run of a group that was just made, and of every schedule of a group on disks that lie.
+use Rattle.vr_base.specs.declared.kind.Kind.{Kind}
 use Rattle.std.specs.Prelude.{ℕ, ◌-◌, ◌^◌, ◌<◌, ◌≤◌, ◌≡◌, ◌⊎◌, false, List, ◌∷◌, length, Contains, slice_get, take, Some}
 use Rattle.vr_header.specs.declared.header.Header.{Header}
 use Rattle.vr_header.specs.Bodies.{operation_bytes}
@@ -56,8 +57,8 @@ ReplicasHaveOneLog = (cluster n : ℕ) (run : List Played) → IsFitRun cluster 
 
 -- What happened is a safe run of the group. So its outputs, in the order in which they were put out, are of that run's log. What is said
 -- of an entry of any header is so where that header's name isn't another text's.
-pub record KeepsOneLog (n : ℕ) (h : Happened Lying) : Type 0 where
-  pub matched : IsMatched (fresh_group 0 n) h
+pub record KeepsOneLog (kind : Kind) (n : ℕ) (h : Happened Lying) : Type 0 where
+  pub matched : IsMatched (fresh_group (λ i. kind) 0 n) h
   pub safe : Safe 0 n matched.run
   -- names of what the run read and wrote don't collide
   pub names : NoCollision (IsHashed matched.run (root_header 0))
@@ -81,4 +82,4 @@ pub record KeepsOneLog (n : ℕ) (h : Happened Lying) : Type 0 where
 
 -- of each list of fewer than 2^60 lines that may happen to a group that was just made
 abbrev pub SchedulesKeepOneLog : Type 0
-SchedulesKeepOneLog = (n : ℕ) (xs : List Happening) → 2 ≤ n → n ≤ 6 → length xs < 2 ^ 60 → MayAll (fresh_world hazards n) xs → KeepsOneLog n (happen hazards no_world (Begins n ∷ xs))
+SchedulesKeepOneLog = (kind : Kind) (n : ℕ) (xs : List Happening) → 2 ≤ n → n ≤ 6 → length xs < 2 ^ 60 → MayAll (fresh_world hazards kind n) xs → KeepsOneLog kind n (happen hazards no_world (Begins kind n ∷ xs))

@@ -1,12 +1,13 @@
 -- A new member is made on its disk.
-use Rattle.std.proofs.Common.{arith, ℕ, ◌≡◌, ◌<◌, ◌≤◌, ◌^◌, refl, sym, ap, subst, Bool, true, false, List, Option, Some, None, Ok, Err}
+use Rattle.vr_base.specs.declared.kind.Kind.{Kind}
+use Rattle.std.proofs.Common.{arith, ℕ, ◌≡◌, ◌<◌, ◌≤◌, ◌^◌, ◌∙◌, refl, sym, ap, subst, Bool, true, false, List, Option, Some, None, Ok, Err}
 use Rattle.std.specs.Prelude.{IfSome, is_some}
 use Rattle.vr_base.specs.declared.table.Config.{Config}
 use Rattle.vr_base.specs.Groups.{quorums_of}
 use Rattle.vr_disk.specs.DiskState.{Disk}
 use Rattle.vr_super.specs.declared.opening.Found.{Found}
 use Rattle.vr_super.specs.Copies.{SuperValue, IsGood}
-use Rattle.vr_super.specs.Opens.{good_copies, opened, found_of}
+use Rattle.vr_super.specs.Opens.{file_kind, good_copies, opened, found_of}
 use Rattle.vr_rules.specs.Opening.{fresh, blank, first_value}
 use Rattle.vr_rules.specs.Replica.{Replica, forgetting}
 use Rattle.vr_rules.specs.Replica.{head}
@@ -28,40 +29,53 @@ unfolding found_of
 found_opened None o h = tt
 found_opened (Some x) o h = rw h (sym (found_some (opened (good_copies x.face)) _))
 
-pub fresh_saved : (cluster n index : ℕ) (r : Replica) → r ≡ fresh cluster n index → r.saved ≡ first_value cluster n index
+pub fresh_saved : (kind : Kind) (cluster n index : ℕ) (r : Replica) → r ≡ fresh kind cluster n index → r.saved ≡ first_value kind cluster n index
 unfolding blank
-fresh_saved cluster n index r e = ap (λ (x : Replica). x.saved) e
+fresh_saved kind cluster n index r e = ap (λ (x : Replica). x.saved) e
 
-pub occupied : (c : Config) (d d' : Option Disk) (b : Bool) → Agrees d b → b ≡ true → d' ≡ d → Made c d d' (Err Occupied)
-occupied c d d' b a e s = record { is = (rw e at a, s) }
+pub occupied : (kind : Kind) (c : Config) (d d' : Option Disk) (b : Bool) → Agrees d b → b ≡ true → d' ≡ d → Made kind c d d' (Err Occupied)
+occupied kind c d d' b a e s = record { is = (rw e at a, s) }
 
-pub wanted : (c : Config) (d d' : Option Disk) (b : Bool) → Agrees d b → b ≡ false → d' ≡ d → Made c d d' (Err NoMemory)
-wanted c d d' b a e s = record { is = (rw e at a, s) }
+pub wanted : (kind : Kind) (c : Config) (d d' : Option Disk) (b : Bool) → Agrees d b → b ≡ false → d' ≡ d → Made kind c d d' (Err NoMemory)
+wanted kind c d d' b a e s = record { is = (rw e at a, s) }
 
-pub made : (c : Config) (d d1 d' : Option Disk) (b : Bool) (r : Replica) → Agrees d b → b ≡ false → d1 ≡ d → r ≡ fresh c.cluster c.n c.replica → Formats c d1 d' true → Made c d d' (Ok r)
-made c d d1 d' b r a e s i h = record { is = (rw e at a, i, rw s at h) }
+-- the kind of the file that it formats is the one that it was asked for
+pub fresh_so : (kind : Kind) (cluster n index : ℕ) (r : Replica) → r ≡ fresh kind cluster n index → r ≡ fresh (file_kind r.saved.fields) cluster n index
+unfolding blank
+fresh_so kind cluster n index r e = e ∙ ap (λ (k : Kind). fresh k cluster n index) (sym (ap (λ (x : Replica). file_kind x.saved.fields) e))
 
-pub stopped : (c : Config) (d d1 d' : Option Disk) (b : Bool) → Agrees d b → b ≡ false → d1 ≡ d → Formats c d1 d' false → Made c d d' (Err DiskFault)
-stopped c d d1 d' b a e s h = record { is = (rw e at a, rw s at h) }
+formats_so : (kind : Kind) (c : Config) (r : Replica) (d d' : Option Disk) (ok : Bool) → r ≡ fresh kind c.cluster c.n c.replica → Formats (file_kind r.saved.fields) c d d' ok → Formats kind c d d' ok
+unfolding blank
+formats_so kind c r d d' ok e = subst (λ (k : Kind). Formats k c d d' ok) (ap (λ (x : Replica). file_kind x.saved.fields) e)
+
+pub made : (kind : Kind) (c : Config) (d d1 d' : Option Disk) (b : Bool) (r : Replica) → Agrees d b → b ≡ false → d1 ≡ d → r ≡ fresh kind c.cluster c.n c.replica → Formats (file_kind r.saved.fields) c d1 d' true → Made kind c d d' (Ok r)
+made kind c d d1 d' b r a e s i h =
+    let f : Formats kind c d1 d' true = formats_so kind c r d1 d' true i h in
+    record { is = (rw e at a, i, rw s at f) }
+
+pub stopped : (kind : Kind) (c : Config) (d d1 d' : Option Disk) (b : Bool) (r : Replica) → Agrees d b → b ≡ false → d1 ≡ d → r ≡ fresh kind c.cluster c.n c.replica → Formats (file_kind r.saved.fields) c d1 d' false → Made kind c d d' (Err DiskFault)
+stopped kind c d d1 d' b r a e s i h =
+    let f : Formats kind c d1 d' false = formats_so kind c r d1 d' false i h in
+    record { is = (rw e at a, rw s at f) }
 
 -- nothing is forgotten of a replica that knows nothing
-fresh_forgets : (cluster n index : ℕ) → forgetting (fresh cluster n index) ≡ fresh cluster n index
+fresh_forgets : (kind : Kind) (cluster n index : ℕ) → forgetting (fresh kind cluster n index) ≡ fresh kind cluster n index
 unfolding forgetting head blank
-fresh_forgets cluster n index = refl
+fresh_forgets kind cluster n index = refl
 
-fresh_idle : (cluster n index : ℕ) → (fresh cluster n index).idle ≤ 9
+fresh_idle : (kind : Kind) (cluster n index : ℕ) → (fresh kind cluster n index).idle ≤ 9
 unfolding blank
-fresh_idle cluster n index = omega arith
+fresh_idle kind cluster n index = omega arith
 
-pub fresh_ready : (cluster n index : ℕ) (r : Replica) → cluster < 2 ^ 64 → index < 256 → n < 256 → is_some (quorums_of n) ≡ true → index < n → r ≡ fresh cluster n index → IsReady r
+pub fresh_ready : (kind : Kind) (cluster n index : ℕ) (r : Replica) → cluster < 2 ^ 64 → index < 256 → n < 256 → is_some (quorums_of n) ≡ true → index < n → r ≡ fresh kind cluster n index → IsReady r
 unfolding IsReady
-fresh_ready cluster n index r a b c s m e =
-    let v : SuperValue = first_value cluster n index in
-    let g : IsGood v = first_good cluster n index a b c s m in
+fresh_ready kind cluster n index r a b c s m e =
+    let v : SuperValue = first_value kind cluster n index in
+    let g : IsGood v = first_good kind cluster n index a b c s m in
     let w = value_is v g in
     let x : Replica = blank v in
     let part = partly_blank v in
     let top = found_topped v 0 x w part (omega arith) (λ i j. absurd (omega (arith, j))) in
-    let sound : IsSound x = subst IsSound (fresh_forgets cluster n index) (opened_forgetting v 0 x w part (omega arith)).sound in
+    let sound : IsSound x = subst IsSound (fresh_forgets kind cluster n index) (opened_forgetting v 0 x w part (omega arith)).sound in
     let savable : IsSavable x = savable_found v x.parts g top in
-    rw e (record { sound = sound; savable = savable; idle = fresh_idle cluster n index })
+    rw e (record { sound = sound; savable = savable; idle = fresh_idle kind cluster n index })

@@ -1,4 +1,5 @@
 -- A replica is recovered from its disk.
+use Rattle.vr_base.specs.Kinds.{strict}
 use Rattle.std.proofs.Common.{◌≡◌, ◌∙◌, refl, sym, subst, List, Bool, true, false, Option, Some, None, Result, Ok, Err, rules, map}
 use Rattle.std.specs.Prelude.{IfSome, IsSome}
 use Rattle.vr_base.specs.declared.table.Config.{Config}
@@ -70,7 +71,7 @@ lost vs (Some y) d' h =
     record { untold = λ e. cc; told = λ x e. let same : y ≡ x = search rules in subst (λ (z : Disk). (opens z.face ≡ None) × (d' ≡ Some z) × (vs ≡ map copy_verdict (good_copies z.face))) same h }
 
 any_value : SuperValue
-any_value = first_value 0 0 0
+any_value = first_value strict 0 0 0
 
 pub mend_faulted : (d d' : Option Disk) → RecoversFrom d d' (Err fault.DiskFault) → LeavesUnmended d d' DiskFault
 mend_faulted None d' h = record { value = any_value; opens = tt; stops = h }

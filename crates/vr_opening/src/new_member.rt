@@ -7,12 +7,13 @@ ghost use Rattle.vr_disk.specs.DiskState.{Runs};
 ghost use Rattle.vr_journal.specs.Ready.{IsReady};
 ghost use Rattle.vr_rules.specs.Lying.{format_calls};
 ghost use Rattle.vr_rules.specs.Opening.{fresh};
-ghost use Rattle.vr_super.specs.Opens.{good_copies, opened};
+ghost use Rattle.vr_base.specs.Kinds.{of_mode};
+ghost use Rattle.vr_super.specs.Opens.{file_kind, good_copies, opened};
 ghost use Rattle.vr_opening.specs.Making.{Made};
 ghost use Rattle.vr_opening.specs.declared.new_member.FreshFault.TheVariants as FreshFault;
 
 use std::alloc::Global;
-use vr_base::{Config, NoMemory};
+use vr_base::{Config, Kind, Mode, NoMemory};
 use vr_disk::{DiskFault, SectorDisk};
 use vr_format::{first_value, format};
 use vr_journal::Replica;
@@ -41,13 +42,13 @@ fn is_occupied<D: SectorDisk>(disk: &mut D) -> bool
 
 // The replica, before its disk is formatted.
 #[tactic(auto, using(crate::proofs::Makes::fresh_ready))]
-fn make_member(alloc: Global, config: Config) -> Result<Replica, NoMemory>
+fn make_member(alloc: Global, config: Config, kind: Kind) -> Result<Replica, NoMemory>
     requires size { is_some (quorums_of config.n) ≡ true }
     requires member { config.replica < config.n }
-    ensures made { IfOk result (λ r. r ≡ fresh config.cluster config.n config.replica) }
+    ensures made { IfOk result (λ r. r ≡ fresh kind config.cluster config.n config.replica) }
     ensures ready { IfOk result IsReady }
 {
-    let value = first_value(alloc, &config)?;
+    let value = first_value(alloc, &config, kind)?;
     Replica::blank(alloc, value)
 }
 
@@ -58,31 +59,32 @@ fn write_format<D: SectorDisk>(
     config: &Config,
     replica: &Replica,
 ) -> Result<(), DiskFault>
-    requires { replica.now ≡ fresh config.now.cluster config.now.n config.now.replica }
-    ensures runs { Runs (format_calls config.now.cluster config.now.n config.now.replica) (D.told disk.old) (D.told disk.new) (is_ok result) }
+    requires { replica.now ≡ fresh (file_kind replica.now.saved.fields) config.now.cluster config.now.n config.now.replica }
+    ensures runs { Runs (format_calls (file_kind replica.now.saved.fields) config.now.cluster config.now.n config.now.replica) (D.told disk.old) (D.told disk.new) (is_ok result) }
     ensures cause { HasCause (D.faults disk.old) (D.faults disk.new) result }
 {
     format(disk, config, replica.saved())
 }
 
-/// The replica of a member of a new group, whose disk is formatted: `Occupied` exactly where two good copies of a superblock
-/// agree, and then nothing is written.
-#[tactic(auto, using(crate::proofs::Makes::occupied, crate::proofs::Makes::wanted, crate::proofs::Makes::made, crate::proofs::Makes::stopped))]
+/// The replica of a member of a new group, whose disk is formatted for a file of this mode: `Occupied` exactly where two good copies
+/// of a superblock agree, and then nothing is written.
+#[tactic(auto, using(crate::proofs::Makes::occupied, crate::proofs::Makes::wanted, crate::proofs::Makes::fresh_so, crate::proofs::Makes::made, crate::proofs::Makes::stopped))]
 pub fn fresh<D: SectorDisk>(
     alloc: Global,
     disk: &mut D,
     config: &Config,
+    mode: Mode,
 ) -> Result<Replica, FreshFault>
     requires size { is_some (quorums_of config.now.n) ≡ true }
     requires member { config.now.replica < config.now.n }
     ensures ready { IfOk result IsReady }
     ensures cause { CountsFault FreshFault.DiskFault (D.faults disk.old) (D.faults disk.new) result }
-    ensures made { Made config.now (D.told disk.old) (D.told disk.new) result }
+    ensures made { Made (of_mode mode) config.now (D.told disk.old) (D.told disk.new) result }
 {
     if is_occupied(disk) {
         return Err(FreshFault::Occupied);
     }
-    match make_member(alloc, *config) {
+    match make_member(alloc, *config, Kind::of_mode(mode)) {
         Err(_) => Err(FreshFault::NoMemory),
         Ok(replica) => match write_format(disk, config, &replica) {
             Ok(()) => Ok(replica),

@@ -466,23 +466,23 @@ module _ (cluster n : ℕ) (u : Setup) (run : List Played) (x : IsFollowed clust
 
   -- ---- the run
 
-  fresh_rests : (i : ℕ) → Rests H cluster log (core (fresh cluster n i))
+  fresh_rests : (i : ℕ) → Rests H cluster log (core (fresh (x.fit.kinds i) cluster n i))
   unfolding blank
   fresh_rests i = record { own = refl; settled = λ k l. absurd (omega (arith, l)); root = λ above. absurd (omega (arith, above)); table = record { sessions = tt; keys = tt }; waits = λ some. absurd (some refl); saved = λ above. absurd (omega (arith, above)) }
 
-  first_stands : (i : ℕ) → MemberStands (fresh_member cluster n i)
+  first_stands : (i : ℕ) → MemberStands (fresh_member (x.fit.kinds i) cluster n i)
   unfolding blank
   first_stands i = record {
     values = record { last = λ above. absurd (omega (arith, above)); under = λ v e. absurd cc };
-    rests = λ r e. let same : fresh cluster n i ≡ r = cc in subst (λ r. Rests H cluster log (core r)) same (fresh_rests i);
-    stands = λ r e. let same : fresh cluster n i ≡ r = cc in subst (λ r. is_frozen r ≡ false → Stands H cluster log (core r)) same (λ f. record { rests = fresh_rests i; state = λ none. refl; table = λ none. sym (first_table cluster log) });
+    rests = λ r e. let same : fresh (x.fit.kinds i) cluster n i ≡ r = cc in subst (λ r. Rests H cluster log (core r)) same (fresh_rests i);
+    stands = λ r e. let same : fresh (x.fit.kinds i) cluster n i ≡ r = cc in subst (λ r. is_frozen r ≡ false → Stands H cluster log (core r)) same (λ f. record { rests = fresh_rests i; state = λ none. refl; table = λ none. sym (first_table cluster log) });
   }
 
-  fresh_stand : AllStand (fresh_group cluster n)
+  fresh_stand : AllStand (fresh_group x.fit.kinds cluster n)
   unfolding fresh_group
-  fresh_stand at m e = let k = fresh_at cluster n 0 n at m e in subst MemberStands k.0 (first_stands (0 + at))
+  fresh_stand at m e = let k = fresh_at x.fit.kinds cluster n 0 n at m e in subst MemberStands k.0 (first_stands (0 + at))
 
-  fresh_told : AllTold (fresh_group cluster n)
+  fresh_told : AllTold (fresh_group x.fit.kinds cluster n)
   unfolding fresh_group
   fresh_told = tt
 
@@ -499,16 +499,16 @@ module _ (cluster n : ℕ) (u : Setup) (run : List Played) (x : IsFollowed clust
 
   -- before each move
   both_at : (t : ℕ) (p : Played) → slice_get run t ≡ Some p → AllTold p.before × AllStand p.before
-  both_at t p e = all_stand 0 (fresh_group cluster n) run x.fit.of_run (λ k q i. subst (λ z. slice_get run z ≡ Some q) (let z : k ≡ 0 + k = omega arith in z) i) fresh_told fresh_stand t p e
+  both_at t p e = all_stand 0 (fresh_group x.fit.kinds cluster n) run x.fit.of_run (λ k q i. subst (λ z. slice_get run z ≡ Some q) (let z : k ≡ 0 + k = omega arith in z) i) fresh_told fresh_stand t p e
 
   pub stand_at : (t : ℕ) (p : Played) → slice_get run t ≡ Some p → AllStand p.before
   stand_at t p e = (both_at t p e).1
 
   pub borne_at : (t : ℕ) (p : Played) → slice_get run t ≡ Some p → Every (IsBorne H cluster log) p.moved.script
-  borne_at t p e = let b = both_at t p e in moved_borne t p.before p.move p.moved e (move_of (fresh_group cluster n) run x.fit.of_run t p e) b.0 b.1
+  borne_at t p e = let b = both_at t p e in moved_borne t p.before p.move p.moved e (move_of (fresh_group x.fit.kinds cluster n) run x.fit.of_run t p e) b.0 b.1
 
   -- the checkpoint that is given with the log of a view
   pub offers_at : (t number : ℕ) (p : Played) (s : Sent) (v : SyncView) → slice_get run t ≡ Some p → slice_get p.moved.outputs number ≡ Some (output.Send s) → s.message ≡ frame.SyncView v → IsCheckpointOf cluster log v.checkpoint (root_told v)
   offers_at t number p s v e i is =
-      let said = moved_outputs p.before p.move p.moved (move_of (fresh_group cluster n) run x.fit.of_run t p e) (borne_at t p e) in
+      let said = moved_outputs p.before p.move p.moved (move_of (fresh_group x.fit.kinds cluster n) run x.fit.of_run t p e) (borne_at t p e) in
       offered_is H cluster log v (subst (IsTrueFrame H cluster log) is (every_at (IsTrueOutput H cluster log) p.moved.outputs number (output.Send s) i said))

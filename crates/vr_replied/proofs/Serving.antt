@@ -83,7 +83,7 @@ module _ (cluster n : ℕ) (u : Setup) (run : List Played) (x : IsFollowed clust
   pub run_steps : (t at : ℕ) (arrival : Arrival) (p : Played) (e : Event) (d : Lying) (m : Member) (r : Replica) → slice_get run t ≡ Some p → p.move ≡ Steps at arrival e d → Runs p.before at m r
       → IsStepped u (x.group t).sent r (stepped e r d).replica (outputs (stepped e r d).script)
   run_steps t at arrival p e d m r is step runs =
-      let moves = move_of (fresh_group cluster n) run x.fit.of_run t p is in
+      let moves = move_of (fresh_group x.fit.kinds cluster n) run x.fit.of_run t p is in
       let i : IsArrival p.before at arrival e = subst (Arrives p.before) step (moves_arrive p.before p.move p.moved moves) in
       let h = subst IsFitMove step (fit_at cluster n run x.fit t p is).1 in
       stepped_now u x.fits x.hash_is p.before (x.group t) (mine t p is) (bridges t p is) at arrival e d m r runs h.0 i (placed_at cluster n run x.fit t p is at m r runs)

@@ -1,7 +1,8 @@
 -- A stop in the midst of the calls on one slot.
-use Rattle.std.proofs.Common.{ℕ, zero, suc, ◌+◌, ◌-◌, ◌%◌, ◌≤◌, ◌<◌, ◌≡◌, ◌≢◌, ◌⊎◌, inl, inr, arith, refl, sym, ap, ◌∙◌, true, false, cond, eqb, List, [], ◌∷◌, ◌++◌, length, get_or, set, Option, Some, length-set, get_or-set_other, get_or-set_same}
+use Rattle.std.proofs.Common.{ℕ, zero, suc, subst, ◌+◌, ◌-◌, ◌%◌, ◌≤◌, ◌<◌, ◌≡◌, ◌≢◌, ◌⊎◌, inl, inr, arith, refl, sym, ap, ◌∙◌, true, false, cond, eqb, List, [], ◌∷◌, ◌++◌, length, get_or, set, Option, Some, length-set, get_or-set_other, get_or-set_same}
 use Rattle.std.specs.List.{AllByRecursion}
 use Rattle.std.proofs.lemmas.Bool.{cases_eq, cases_lt, eq-eqb, eqb-true}
+use Rattle.vr_base.specs.declared.mode.Mode.{Mode}
 use Rattle.vr_disk.specs.DiskState.{Call, Write, Sync, Cell, Face, after, after_all, blank, cell, cut, cut_at, damaged, digit_at, noted, settled, settled_cell, waits, written}
 use Rattle.vr_disk.specs.Regions.{header_place, prepare_place}
 use Rattle.vr_disk.specs.Stops.{IsLeft, Spares}
@@ -9,9 +10,9 @@ use Rattle.vr_disk.proofs.Frames.{frame_cut, reads_back, waits_after}
 use Rattle.vr_disk.proofs.Outcomes.{cut_leaves}
 use Rattle.vr_disk.proofs.Stopping.{cuts_both}
 use Rattle.vr_disk.proofs.Together.{Within, length_after_all, together_same}
-use Rattle.vr_rings.specs.Held.{Stands, header_sector, held_after, held_after_all, held_begun, held_cut, held_cut_at, is_header_sector, kept, looked}
+use Rattle.vr_rings.specs.Held.{MayRead, Stands, header_sector, held_after, held_after_all, held_begun, held_cut, held_cut_at, is_header_sector, kept, looked}
 use Rattle.vr_rings.specs.Slots.{header_reading, prepare_reading}
-use Rattle.vr_rings.proofs.Standing.{Apart, Heads, Mid, apart_held, both_is, call_stands, calls_stand, header_other, kept_is, keeps_header, look_cases, look_mid, look_seen, look_stands, mid_stands, part_mid, prepare_other, same_stands}
+use Rattle.vr_rings.proofs.Standing.{Apart, Heads, Mid, apart_held, both_is, call_stands, calls_stand, header_other, kept_is, keeps_header, look_cases, look_mid, look_seen, look_stands, may_read, mid_stands, part_mid, prepare_other, same_stands}
 
 -- ---- sectors that stay
 
@@ -22,7 +23,7 @@ InSlot slot k = (k ≡ header_place slot) ⊎ ((prepare_place slot ≤ k) × (k 
 abbrev Still : Face → Face → ℕ → Type 0
 Still f g slot = (k : ℕ) → InSlot slot k → cell g k ≡ cell f k
 
-pub still_stands : (f g : Face) (slot : ℕ) (held : Option (List ℕ)) → Still f g slot → Stands f slot held → Stands g slot held
+pub still_stands : {mode : Mode} (f g : Face) (slot : ℕ) (held : Option (List ℕ)) → Still f g slot → Stands mode f slot held → Stands mode g slot held
 still_stands f g slot held h s =
     same_stands f g slot held (ap (λ (c : Cell). c.reads) (h (header_place slot) (inl refl))) (together_same 4 (prepare_place slot) f g (λ k a b. ap (λ (c : Cell). c.reads) (h k (inr (a, b))))) s
 
@@ -57,40 +58,40 @@ cut_spares f c code k s w = frame_cut (c ∷ []) f k 0 code (s, tt) w
 
 -- ---- the prepare's sectors are written
 
-pub data Ready (f : Face) (slot : ℕ) (held : Option (List ℕ)) : Type 0 where
-  rest : f.waiting ≡ [] → Stands f slot held → Ready f slot held
-  mid : Mid f slot held → waits (header_place slot) f.waiting ≡ false → Ready f slot held
+pub data Ready (mode : Mode) (f : Face) (slot : ℕ) (held : Option (List ℕ)) : Type 0 where
+  rest : f.waiting ≡ [] → Stands mode f slot held → Ready mode f slot held
+  mid : Mid f slot held → waits (header_place slot) f.waiting ≡ false → Ready mode f slot held
 
-header_rests : (f : Face) (slot : ℕ) (held : Option (List ℕ)) → Ready f slot held → waits (header_place slot) f.waiting ≡ false
+header_rests : {mode : Mode} (f : Face) (slot : ℕ) (held : Option (List ℕ)) → Ready mode f slot held → waits (header_place slot) f.waiting ≡ false
 header_rests f slot held (rest e s) = rw e refl
 header_rests f slot held (mid m w) = w
 
-ready_stands : (f : Face) (slot : ℕ) (held : Option (List ℕ)) → Ready f slot held → Stands f slot held
+ready_stands : {mode : Mode} (f : Face) (slot : ℕ) (held : Option (List ℕ)) → Ready mode f slot held → Stands mode f slot held
 ready_stands f slot held (rest e s) = s
 ready_stands f slot held (mid m w) = mid_stands f slot held m
 
 -- the header sector stays as it is, and is that of what the slot holds
-heads_stay : (f g : Face) (slot : ℕ) (held : Option (List ℕ)) → header_reading g slot ≡ header_reading f slot → Heads f slot held → Stands g slot (looked g slot held)
+heads_stay : {mode : Mode} (f g : Face) (slot : ℕ) (held : Option (List ℕ)) → header_reading g slot ≡ header_reading f slot → Heads f slot held → Stands mode g slot (looked g slot held)
 heads_stay f g slot held e h = mid_stands g slot (looked g slot held) (look_mid g slot held (λ p x. e ∙ h p x))
 
-part_cut_now : (f : Face) (slot i code : ℕ) (b : List ℕ) (held : Option (List ℕ)) → length f.cells ≡ 1424 → slot < 64 → prepare_place slot ≤ i → i < prepare_place slot + 4 → Ready f slot held
-    → Stands (cut_at code f (Write i b)) slot (held_cut_at code f (Write i b) slot held)
+part_cut_now : {mode : Mode} (f : Face) (slot i code : ℕ) (b : List ℕ) (held : Option (List ℕ)) → length f.cells ≡ 1424 → slot < 64 → prepare_place slot ≤ i → i < prepare_place slot + 4 → Ready mode f slot held
+    → Stands mode (cut_at code f (Write i b)) slot (held_cut_at code f (Write i b) slot held)
 unfolding held_cut_at
-part_cut_now f slot i code b held n l low high r =
+part_cut_now {mode} f slot i code b held n l low high r =
     let g = cut_at code f (Write i b) in
     let waiting = (after f (Write i b)).waiting in
     let d : i ≢ header_place slot = λ e. omega arith in
     let same : header_reading g slot ≡ header_reading f slot = ap (λ (c : Cell). c.reads) (cut_spares f (Write i b) code (header_place slot) d (header_rests f slot held r)) in
-    let by_ready : Ready f slot held → digit_at code i waiting ≡ 0 → Stands g slot (looked g slot held) = elim [
+    let by_ready : Ready mode f slot held → digit_at code i waiting ≡ 0 → Stands mode g slot (looked g slot held) = elim [
       | rest e s ↦ λ z. look_stands g slot held (still_stands f g slot held (λ k x. undone f i code b k e (omega arith) (sym (first_digit f i code b e) ∙ z)) s)
       | mid m w ↦ λ z. heads_stay f g slot held same m.heads
     ] in
-    elim (eqb (digit_at code i waiting) 0) as (λ t. eqb (digit_at code i waiting) 0 ≡ t → Stands g slot (looked g slot (cond t held (held_after f (Write i b) slot held)))) [
+    elim (eqb (digit_at code i waiting) 0) as (λ t. eqb (digit_at code i waiting) 0 ≡ t → Stands mode g slot (looked g slot (cond t held (held_after f (Write i b) slot held)))) [
       | true ↦ λ t. by_ready r (eqb-true (digit_at code i waiting) 0 t)
       | false ↦ λ t. heads_stay f g slot (held_after f (Write i b) slot held) same (λ p x. sym (header_other f slot i b d) ∙ (part_mid f slot i b held low high).heads p x)
     ] refl
 
-sync_cut_now : (f : Face) (slot code : ℕ) (held : Option (List ℕ)) → Ready f slot held → Stands (cut_at code f Sync) slot (held_cut_at code f Sync slot held)
+sync_cut_now : {mode : Mode} (f : Face) (slot code : ℕ) (held : Option (List ℕ)) → Ready mode f slot held → Stands mode (cut_at code f Sync) slot (held_cut_at code f Sync slot held)
 unfolding held_cut_at
 sync_cut_now f slot code held (rest e s) = look_stands (cut_at code f Sync) slot held (still_stands f (cut_at code f Sync) slot held (λ k x. settled_still f code k e) s)
 sync_cut_now f slot code held (mid m w) = heads_stay f (cut_at code f Sync) slot held (ap (λ (c : Cell). c.reads) (cut_spares f Sync code (header_place slot) tt w)) m.heads
@@ -98,7 +99,7 @@ sync_cut_now f slot code held (mid m w) = heads_stay f (cut_at code f Sync) slot
 abbrev pub Parts : ℕ → List Call → Type 0
 Parts slot cs = AllByRecursion (Within (prepare_place slot) (prepare_place slot + 4)) cs
 
-pub part_cut : (cs : List Call) (f : Face) (slot : ℕ) (held : Option (List ℕ)) (j code : ℕ) → slot < 64 → length f.cells ≡ 1424 → Parts slot cs → Ready f slot held → Stands (cut j code f cs) slot (held_cut j code f cs slot held)
+pub part_cut : {mode : Mode} (cs : List Call) (f : Face) (slot : ℕ) (held : Option (List ℕ)) (j code : ℕ) → slot < 64 → length f.cells ≡ 1424 → Parts slot cs → Ready mode f slot held → Stands mode (cut j code f cs) slot (held_cut j code f cs slot held)
 unfolding cut held_cut Within
 part_cut [] f slot held j code l n a r = ready_stands f slot held r
 part_cut (Write i b ∷ cs) f slot held zero code l n a r = part_cut_now f slot i code b held n l a.0.0 a.0.1 r
@@ -128,31 +129,33 @@ header_held f slot b held p l e =
       | inr x ↦ let y = kept_is f slot i b held p x in (keeps_header f slot b p y.1, inl y.0)
     ]
 
-header_left : (f g : Face) (slot : ℕ) (b : List ℕ) (held : Option (List ℕ)) → header_place slot < length f.cells → is_header_sector (damaged b) ≡ false
-    → prepare_reading g slot ≡ prepare_reading f slot → IsLeft (header_reading f slot) b (header_reading g slot) → Stands f slot held
-    → Stands g slot (looked g slot (held_after f (Write (header_place slot) b) slot held))
-header_left f g slot b held l bad pr left s =
+header_left : {mode : Mode} (f g : Face) (slot : ℕ) (b : List ℕ) (held : Option (List ℕ)) → header_place slot < length f.cells → is_header_sector (damaged b) ≡ false
+    → prepare_reading g slot ≡ prepare_reading f slot → IsLeft (header_reading f slot) b (header_reading g slot) → Stands mode f slot held
+    → Stands mode g slot (looked g slot (held_after f (Write (header_place slot) b) slot held))
+header_left {mode} f g slot b held l bad pr left s =
     let now = held_after f (Write (header_place slot) b) slot held in
     record {
       seen = λ p e. look_seen g slot now p e;
-      prepare = λ p header e r v d. elim (look_cases g slot now p e) [
-        | inl x ↦
-            let same : Some header ≡ Some (header_sector p) = sym r ∙ (both_is (header_reading g slot) (prepare_reading g slot) p x).0 in
-            absurd (d cc)
-        | inr x ↦
-            let y = header_held f slot b held p l x in
-            elim left [
-              | inl old ↦ pr ∙ elim y.1 [ inl h ↦ s.prepare p header h (sym old ∙ r) v d | inr h ↦ h ]
-              | inr (inl new) ↦ let same : Some header ≡ Some b = sym r ∙ new in let is : header ≡ b = cc in absurd (d (is ∙ y.0))
-              | inr (inr turned) ↦ let same : Some header ≡ Some (damaged b) = sym r ∙ turned in let is : header ≡ damaged b = cc in let no : true ≡ false = sym v ∙ (ap is_header_sector is ∙ bad) in cc
-            ]
-      ];
+      holds = record {
+        prepare = λ p header e r v d. elim (look_cases g slot now p e) [
+          | inl x ↦
+              let same : Some header ≡ Some (header_sector p) = sym r ∙ (both_is (header_reading g slot) (prepare_reading g slot) p x).0 in
+              absurd (d cc)
+          | inr x ↦
+              let y = header_held f slot b held p l x in
+              elim left [
+                | inl old ↦ subst (MayRead mode p) (sym pr) (elim y.1 [ inl h ↦ s.holds.prepare p header h (sym old ∙ r) v d | inr h ↦ may_read mode p (prepare_reading f slot) h ])
+                | inr (inl new) ↦ let same : Some header ≡ Some b = sym r ∙ new in let is : header ≡ b = cc in absurd (d (is ∙ y.0))
+                | inr (inr turned) ↦ let same : Some header ≡ Some (damaged b) = sym r ∙ turned in let is : header ≡ damaged b = cc in let no : true ≡ false = sym v ∙ (ap is_header_sector is ∙ bad) in cc
+              ]
+        ];
+      };
     }
 
-pub header_cut : (f : Face) (slot : ℕ) (b : List ℕ) (held : Option (List ℕ)) (j code : ℕ) → slot < 64 → length f.cells ≡ 1424 → f.waiting ≡ [] → is_header_sector (damaged b) ≡ false → Stands f slot held
-    → Stands (cut j code f (Write (header_place slot) b ∷ Sync ∷ [])) slot (held_cut j code f (Write (header_place slot) b ∷ Sync ∷ []) slot held)
+pub header_cut : {mode : Mode} (f : Face) (slot : ℕ) (b : List ℕ) (held : Option (List ℕ)) (j code : ℕ) → slot < 64 → length f.cells ≡ 1424 → f.waiting ≡ [] → is_header_sector (damaged b) ≡ false → Stands mode f slot held
+    → Stands mode (cut j code f (Write (header_place slot) b ∷ Sync ∷ [])) slot (held_cut j code f (Write (header_place slot) b ∷ Sync ∷ []) slot held)
 unfolding cut held_cut held_cut_at held_after held_after_all
-header_cut f slot b held j code l n e bad s =
+header_cut {mode} f slot b held j code l n e bad s =
     let i = header_place slot in
     let cs : List Call = Write i b ∷ Sync ∷ [] in
     let there : header_place slot < length f.cells = omega arith in
@@ -161,12 +164,12 @@ header_cut f slot b held j code l n e bad s =
     λ j. together_same 4 (prepare_place slot) f (cut j code f cs) (λ k a c. ap (λ (c : Cell). c.reads) (frame_cut cs f k j code ((λ x. omega arith), (tt, tt)) (rw e refl))) in
     let g = cut_at code f (Write i b) in
     let waiting = (after f (Write i b)).waiting in
-    let first : Stands g slot (looked g slot (held_begun code f (Write i b) slot held)) =
-    elim (eqb (digit_at code i waiting) 0) as (λ t. eqb (digit_at code i waiting) 0 ≡ t → Stands g slot (looked g slot (cond t held (held_after f (Write i b) slot held)))) [
+    let first : Stands mode g slot (looked g slot (held_begun code f (Write i b) slot held)) =
+    elim (eqb (digit_at code i waiting) 0) as (λ t. eqb (digit_at code i waiting) 0 ≡ t → Stands mode g slot (looked g slot (cond t held (held_after f (Write i b) slot held)))) [
       | true ↦ λ t. look_stands g slot held (still_stands f g slot held (λ k x. undone f i code b k e there (sym (first_digit f i code b e) ∙ eqb-true (digit_at code i waiting) 0 t)) s)
       | false ↦ λ t. header_left f g slot b held there bad (pr 0) (left 0) s
     ] refl in
-    elim j as (λ j. Stands (cut j code f cs) slot (held_cut j code f cs slot held)) [
+    elim j as (λ j. Stands mode (cut j code f cs) slot (held_cut j code f cs slot held)) [
       | zero ↦ first
       | suc zero ↦ header_left f (cut 1 code f cs) slot b held there bad (pr 1) (left 1) s
       | suc (suc k) ↦ calls_stand cs f slot held l n s
@@ -186,16 +189,16 @@ apart_spares slot k Sync a x = tt
 apart_spares slot k (Write i b) a (inl e) = λ s. a.0 (s ∙ e)
 apart_spares slot k (Write i b) a (inr m) = λ s. elim a.1 [ inl l ↦ omega arith | inr l ↦ omega arith ]
 
-apart_cut_now : (f : Face) (c : Call) (slot code : ℕ) (held : Option (List ℕ)) → AllApart slot c → Rests slot f → Stands f slot held → Stands (cut_at code f c) slot (held_cut_at code f c slot held)
+apart_cut_now : {mode : Mode} (f : Face) (c : Call) (slot code : ℕ) (held : Option (List ℕ)) → AllApart slot c → Rests slot f → Stands mode f slot held → Stands mode (cut_at code f c) slot (held_cut_at code f c slot held)
 unfolding held_cut_at
-apart_cut_now f Sync slot code held a w s = look_stands (cut_at code f Sync) slot held (still_stands f (cut_at code f Sync) slot held (λ k x. cut_spares f Sync code k tt (w k x)) s)
-apart_cut_now f (Write i b) slot code held a w s =
+apart_cut_now {mode} f Sync slot code held a w s = look_stands (cut_at code f Sync) slot held (still_stands f (cut_at code f Sync) slot held (λ k x. cut_spares f Sync code k tt (w k x)) s)
+apart_cut_now {mode} f (Write i b) slot code held a w s =
     let g = cut_at code f (Write i b) in
     let waiting = (after f (Write i b)).waiting in
-    let same : Stands g slot (looked g slot held) = look_stands g slot held (still_stands f g slot held (λ k x. cut_spares f (Write i b) code k (apart_spares slot k (Write i b) a x) (w k x)) s) in
-    elim (eqb (digit_at code i waiting) 0) as (λ t. Stands g slot (looked g slot (cond t held (held_after f (Write i b) slot held)))) [ true ↦ same | false ↦ rw (apart_held f slot i b held a s) same ]
+    let same : Stands mode g slot (looked g slot held) = look_stands g slot held (still_stands f g slot held (λ k x. cut_spares f (Write i b) code k (apart_spares slot k (Write i b) a x) (w k x)) s) in
+    elim (eqb (digit_at code i waiting) 0) as (λ t. Stands mode g slot (looked g slot (cond t held (held_after f (Write i b) slot held)))) [ true ↦ same | false ↦ rw (apart_held f slot i b held a s) same ]
 
-pub apart_cut : (cs : List Call) (f : Face) (slot : ℕ) (held : Option (List ℕ)) (j code : ℕ) → slot < 64 → length f.cells ≡ 1424 → AllByRecursion (AllApart slot) cs → Rests slot f → Stands f slot held → Stands (cut j code f cs) slot (held_cut j code f cs slot held)
+pub apart_cut : {mode : Mode} (cs : List Call) (f : Face) (slot : ℕ) (held : Option (List ℕ)) (j code : ℕ) → slot < 64 → length f.cells ≡ 1424 → AllByRecursion (AllApart slot) cs → Rests slot f → Stands mode f slot held → Stands mode (cut j code f cs) slot (held_cut j code f cs slot held)
 unfolding cut held_cut
 apart_cut [] f slot held j code l n a w s = s
 apart_cut (c ∷ cs) f slot held zero code l n a w s = apart_cut_now f c slot code held a.0 w s
@@ -206,7 +209,7 @@ apart_cut (c ∷ cs) f slot held (suc j) code l n a w s =
 
 abbrev pub CutKeeps : ℕ → List Call → Type 0
 CutKeeps slot cs =
-    (f : Face) (held : Option (List ℕ)) (j code : ℕ) → length f.cells ≡ 1424 → f.waiting ≡ [] → Stands f slot held → Stands (cut j code f cs) slot (held_cut j code f cs slot held)
+    (mode : Mode) (f : Face) (held : Option (List ℕ)) (j code : ℕ) → length f.cells ≡ 1424 → f.waiting ≡ [] → Stands mode f slot held → Stands mode (cut j code f cs) slot (held_cut j code f cs slot held)
 
 pub held_both : (cs ds : List Call) (f : Face) (slot : ℕ) (held : Option (List ℕ)) (j code : ℕ)
     → (j < length cs → held_cut j code f (cs ++ ds) slot held ≡ held_cut j code f cs slot held) × (length cs ≤ j → held_cut j code f (cs ++ ds) slot held ≡ held_cut (j - length cs) code (after_all f cs) ds slot (held_after_all f cs slot held))
@@ -219,10 +222,10 @@ held_both (c ∷ cs) ds f slot held (suc j) code =
     (λ l. rest.0 (omega arith), λ l. rw e (rest.1 (omega arith)))
 
 pub keeps_both : (slot : ℕ) (cs ds : List Call) → slot < 64 → ((f : Face) → (after_all f cs).waiting ≡ []) → CutKeeps slot cs → CutKeeps slot ds → CutKeeps slot (cs ++ ds)
-keeps_both slot cs ds b rests x y f held j code n e s =
+keeps_both slot cs ds b rests x y mode f held j code n e s =
     let faces = cuts_both cs ds f j code in
     let helds = held_both cs ds f slot held j code in
     elim (cases_lt j (length cs)) [
-      | inl l ↦ rw (faces.first l, helds.0 l) (x f held j code n e s)
-      | inr l ↦ rw (faces.later l, helds.1 l) (y (after_all f cs) (held_after_all f cs slot held) (j - length cs) code (length_after_all cs f ∙ n) (rests f) (calls_stand cs f slot held b n s))
+      | inl l ↦ rw (faces.first l, helds.0 l) (x mode f held j code n e s)
+      | inr l ↦ rw (faces.later l, helds.1 l) (y mode (after_all f cs) (held_after_all f cs slot held) (j - length cs) code (length_after_all cs f ∙ n) (rests f) (calls_stand cs f slot held b n s))
     ]

@@ -1,7 +1,9 @@
 -- What a slot holds, and the premise on its readings. An entry is given by its prepare's bytes.
-use Rattle.std.specs.Prelude.{ℕ, zero, suc, ◌+◌, ◌-◌, ◌*◌, ◌≡◌, ◌≢◌, Bool, true, ◌&&◌, ◌==◌, nat_eq, nat_le, nat_lt, if◌then◌else◌, List, [], ◌∷◌, ◌++◌, take, replicate, Option, None, Some, is_some}
+use Rattle.std.specs.Prelude.{ℕ, zero, suc, ◌+◌, ◌-◌, ◌*◌, ◌≡◌, ◌≢◌, Bool, true, ◌&&◌, ◌||◌, ◌==◌, nat_eq, nat_le, nat_lt, if◌then◌else◌, List, [], ◌∷◌, ◌++◌, take, replicate, Option, None, Some, is_some}
 use Rattle.std.specs.Cmp.Lexicographic.{pointwise}
-use Rattle.vr_base.specs.Bytes.{piece}
+use Rattle.vr_base.specs.Bytes.{is_zeros, piece}
+use Rattle.vr_base.specs.declared.mode.Mode.{Mode}
+use Rattle.vr_base.specs.declared.mode.Mode.TheVariants.{Strict, Careful}
 use Rattle.vr_disk.specs.DiskState.{Call, Write, Sync, Face, after, cut_at, digit_at}
 use Rattle.vr_disk.specs.Regions.{header_place, prepare_place}
 use Rattle.vr_disk.specs.Sectors.{has}
@@ -79,8 +81,19 @@ held_cut (suc j) code f (c ∷ cs) slot held = held_cut j code (after f c) cs sl
 
 -- ---- the premise
 
--- what a slot reads as it holds; and where it holds an entry, and its header sector reads as a valid header of something
--- else, its prepare reads as the entry
-pub record Stands (f : Face) (slot : ℕ) (held : Option (List ℕ)) : Type 0 where
+-- What the prepare of a slot that holds an entry may read as, while its header sector reads as a valid header of something else: in a strict file as
+-- the entry alone; in a careful one as no other entry, and not as zeros.
+abbrev pub MayRead : Mode → List ℕ → Option (List ℕ) → Type 0
+MayRead Strict prepare read = read ≡ Some prepare
+MayRead Careful prepare read = (other : List ℕ) → read ≡ Some other → (is_prepare other || is_zeros other) ≡ true → other ≡ prepare
+
+-- The premise of a slot, of which all laws of storage speak: where a slot holds an entry, and its header sector reads as a valid header of
+-- something else, its prepare reads as it may. In an operator's words: once an entry was stored, its header sector may come back as an older one
+-- only while its prepare is unharmed (strict), or only if its prepare doesn't come back as an older entry or as zeros at the same time (careful).
+pub record Holds (mode : Mode) (f : Face) (slot : ℕ) (held : Option (List ℕ)) : Type 0 where
+  pub prepare : (prepare header : List ℕ) → held ≡ Some prepare → header_reading f slot ≡ Some header → is_header_sector header ≡ true → header ≢ header_sector prepare → MayRead mode prepare (prepare_reading f slot)
+
+-- and what a slot reads as it holds
+pub record Stands (mode : Mode) (f : Face) (slot : ℕ) (held : Option (List ℕ)) : Type 0 where
   pub seen : (prepare : List ℕ) → entry_read f slot ≡ Some prepare → held ≡ Some prepare
-  pub prepare : (prepare header : List ℕ) → held ≡ Some prepare → header_reading f slot ≡ Some header → is_header_sector header ≡ true → header ≢ header_sector prepare → prepare_reading f slot ≡ Some prepare
+  pub holds : Holds mode f slot held

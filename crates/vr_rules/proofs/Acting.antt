@@ -1,4 +1,5 @@
 -- For each rule an event at which exactly that rule applies, by the rules' numbers; 0 where none does.
+use Rattle.vr_base.specs.Kinds.{strict}
 use Rattle.std.proofs.Common.{ℕ, ◌+◌, ◌-◌, ◌^◌, ◌≡◌, List, [], ◌∷◌, ◌++◌, length, map, drop, replicate, codes, refl}
 use Rattle.vr_base.specs.Replicas.{no_replicas, with_replica}
 use Rattle.vr_base.specs.declared.sum.Sum.{Sum}
@@ -67,7 +68,7 @@ in_view view log_view r = record r { view = view; log_view = log_view }
 -- ops 1 and 2 are stored, and op 1 is applied
 abbrev pub two : ℕ → Replica
 two index =
-    record (with_parts (Here h1 ∷ Here h2 ∷ []) (fresh 0 3 index)) {
+    record (with_parts (Here h1 ∷ Here h2 ∷ []) (fresh strict 0 3 index)) {
       commit = 1;
       applied = 1;
       state = record { sessions = (7, record { number = 0; op = 1; outcome = outcome.Session }) ∷ []; machine = [] };
@@ -99,7 +100,7 @@ settled =
 -- the ops of a checkpoint are applied, and known up to it or not
 abbrev pub at_checkpoint : ℕ → List Part → ℕ → Replica
 at_checkpoint op known index =
-    record (fresh 0 3 index) {
+    record (fresh strict 0 3 index) {
       commit = op;
       applied = op;
       checkpoint = op;
@@ -117,7 +118,7 @@ spent sequence r = record r { saved = record r.saved { fields = record r.saved.f
 -- ---- which rules apply
 
 abbrev pub disk : Plain
-disk = formatted 0 3 0
+disk = formatted strict 0 3 0
 
 abbrev pub rules : Replica → List Event → List ℕ
 rules r es = map (λ e. number_of (rule_for plain disk r e)) es
@@ -194,7 +195,7 @@ unfolding after_fresh
 prepares_known = refl
 
 -- the next one, also where it stands on op 1's root; on another parent; ahead
-prepares_new : rules backup (prepare 0 0 h3 ∷ prepare 0 0 (header 0 0 3 (name g2)) ∷ prepare 0 0 (header 0 0 4 (name h3)) ∷ []) ++ rules (fresh 0 3 1) (prepare 0 0 h1 ∷ prepare 0 0 (header 0 0 1 no_name) ∷ prepare 0 0 h2 ∷ [])
+prepares_new : rules backup (prepare 0 0 h3 ∷ prepare 0 0 (header 0 0 3 (name g2)) ∷ prepare 0 0 (header 0 0 4 (name h3)) ∷ []) ++ rules (fresh strict 0 3 1) (prepare 0 0 h1 ∷ prepare 0 0 (header 0 0 1 no_name) ∷ prepare 0 0 h2 ∷ [])
     ≡ 12 ∷ 14 ∷ 13 ∷ 12 ∷ 14 ∷ 13 ∷ []
 unfolding after_fresh
 prepares_new = refl

@@ -1,4 +1,5 @@
 -- The same for the messages of view changes and repair, and for ticks.
+use Rattle.vr_base.specs.Kinds.{strict}
 use Rattle.std.proofs.Common.{ℕ, ◌-◌, ◌^◌, ◌≡◌, List, [], ◌∷◌, ◌++◌, map, replicate, refl, true, Some}
 use Rattle.vr_base.specs.declared.sum.Sum.{Sum}
 use Rattle.vr_header.specs.declared.header.Header.{Header}
@@ -84,7 +85,7 @@ logs_fit = refl
 
 -- up to the end of the window and past it; with checkpoint 32 and its header known or not, a log up to it
 logs_of_window : rules (at_checkpoint 32 [] 1) (start_view 2 2 96 32 [] ∷ start_view 2 2 97 32 [] ∷ start_view 2 2 32 32 [] ∷ [])
-    ++ rules (at_checkpoint 32 (Here (header 0 0 32 no_name) ∷ []) 1) (start_view 2 2 32 32 [] ∷ []) ++ rules (fresh 0 3 1) (start_view 2 2 0 0 [] ∷ [])
+    ++ rules (at_checkpoint 32 (Here (header 0 0 32 no_name) ∷ []) 1) (start_view 2 2 32 32 [] ∷ []) ++ rules (fresh strict 0 3 1) (start_view 2 2 0 0 [] ∷ [])
     ≡ 26 ∷ 35 ∷ 0 ∷ 26 ∷ 26 ∷ []
 unfolding after_fresh
 logs_of_window = refl

@@ -1,4 +1,5 @@
 -- Every group in a run of one is fit.
+use Rattle.vr_base.specs.declared.kind.Kind.{Kind}
 use Rattle.std.proofs.Common.{arith, ◌≡◌, ◌≤◌, ◌<◌, ◌+◌, ◌^◌, ◌⊎◌, inl, inr, refl, ap, subst, ℕ, zero, suc, List, [], ◌∷◌, ◌-◌, ◌++◌, length, map, take, drop, Some, None}
 use Rattle.std.specs.Prelude.{All, nat_lt, slice_get, slice_set}
 use Rattle.std.specs.List.{range_with_len}
@@ -244,31 +245,31 @@ moves_fit c g _ _ h k (group.recovers_cut at v d j m o) =
 
 -- ---- runs
 
-fresh_is : (c n i : ℕ) → c < 2 ^ 64 → 2 ≤ n → n ≤ 6 → i < n → IsFitMember c n i (fresh_member c n i)
+fresh_is : (kind : Kind) (c n i : ℕ) → c < 2 ^ 64 → 2 ≤ n → n ≤ 6 → i < n → IsFitMember c n i (fresh_member kind c n i)
 unfolding blank
-fresh_is c n i l a b m =
-    let k = fresh_fits c n i l a b m in
-    let own : IsOwnValue c n i (first_value c n i) = record { cluster = refl; n = refl; index = refl } in
-    let at : IsAt c n i (fresh c n i) = record { cluster = refl; n = refl; index = refl; saved = own } in
-    let whole : IsFitReplica (fresh c n i) = record { sound = k.sound; savable = k.savable; blocks = k.blocks } in
+fresh_is kind c n i l a b m =
+    let k = fresh_fits kind c n i l a b m in
+    let own : IsOwnValue c n i (first_value kind c n i) = record { cluster = refl; n = refl; index = refl } in
+    let at : IsAt c n i (fresh kind c n i) = record { cluster = refl; n = refl; index = refl; saved = own } in
+    let whole : IsFitReplica (fresh kind c n i) = record { sound = k.sound; savable = k.savable; blocks = k.blocks } in
     record {
-      running = λ r e. (let same : fresh c n i ≡ r = cc in subst (λ (x : Replica). IsFitReplica x × IsAt c n i x) same (whole, at));
+      running = λ r e. (let same : fresh kind c n i ≡ r = cc in subst (λ (x : Replica). IsFitReplica x × IsAt c n i x) same (whole, at));
       last = (k.value, own);
       under = λ v e. absurd cc;
     }
 
-pub fresh_at : (c n from count j : ℕ) (m : Member) → slice_get (map (fresh_member c n) (range_with_len from count)) j ≡ Some m → (fresh_member c n (from + j) ≡ m) × (j < count)
-fresh_at c n from zero j m e = absurd cc
-fresh_at c n from (suc count) zero m e = let at : from + 0 ≡ from = omega arith in (rw at cc, omega arith)
-fresh_at c n from (suc count) (suc j) m e =
-    let rest = fresh_at c n (from + 1) count j m e in
+pub fresh_at : (kinds : ℕ → Kind) (c n from count j : ℕ) (m : Member) → slice_get (map (λ i. fresh_member (kinds i) c n i) (range_with_len from count)) j ≡ Some m → (fresh_member (kinds (from + j)) c n (from + j) ≡ m) × (j < count)
+fresh_at kinds c n from zero j m e = absurd cc
+fresh_at kinds c n from (suc count) zero m e = let at : from + 0 ≡ from = omega arith in (rw at cc, omega arith)
+fresh_at kinds c n from (suc count) (suc j) m e =
+    let rest = fresh_at kinds c n (from + 1) count j m e in
     let at : from + suc j ≡ from + 1 + j = omega arith in
     (rw at rest.0, omega (arith, rest.1))
 
-pub fresh_group_fits : (c n : ℕ) → c < 2 ^ 64 → 2 ≤ n → n ≤ 6 → IsFitGroup c (fresh_group c n)
+pub fresh_group_fits : (kinds : ℕ → Kind) (c n : ℕ) → c < 2 ^ 64 → 2 ≤ n → n ≤ 6 → IsFitGroup c (fresh_group kinds c n)
 unfolding fresh_group
-fresh_group_fits c n l a b = record {
-  members = λ at m e. let k = fresh_at c n 0 n at m e in let same : at ≡ 0 + at = omega arith in subst (IsFitMember c n at) k.0 (subst (λ j. IsFitMember c n at (fresh_member c n j)) same (fresh_is c n at l a b k.1));
+fresh_group_fits kinds c n l a b = record {
+  members = λ at m e. let k = fresh_at kinds c n 0 n at m e in let same : at ≡ 0 + at = omega arith in subst (IsFitMember c n at) k.0 (subst (λ j. IsFitMember c n at (fresh_member (kinds j) c n j)) same (fresh_is (kinds at) c n at l a b k.1));
   sent = All-nil MayCome;
   made = All-nil IsMade;
 }
@@ -281,4 +282,4 @@ run_fits c g _ h k (group.goes _ move moved later m rest) =
     All-cons (IsFitPlayed c) p later (h, after) (run_fits c moved.group later after (All-tail (λ (p : Played). IsFitMove p.move) p later k) rest)
 
 pub groups_fit : GroupsFit
-groups_fit = record { each = moves_fit; runs = λ c n run l a b k r. run_fits c (fresh_group c n) run (fresh_group_fits c n l a b) k r }
+groups_fit = record { each = moves_fit; runs = λ kinds c n run l a b k r. run_fits c (fresh_group kinds c n) run (fresh_group_fits kinds c n l a b) k r }

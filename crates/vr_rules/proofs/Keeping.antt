@@ -1,4 +1,5 @@
 -- Changes of single fields keep a replica sound.
+use Rattle.vr_base.specs.Kinds.{strict}
 use Rattle.std.proofs.Common.{ℕ, ◌+◌, ◌-◌, ◌%◌, ◌≤◌, ◌<◌, ◌≡◌, ◌≢◌, ◌∙◌, arith, sym, ap, true, List, [], length, get_or, drop, Option, Some, None, is_some}
 use Rattle.std.proofs.lemmas.List.{length-drop}
 use Rattle.vr_base.specs.declared.replicas.Replicas.{Replicas}
@@ -57,7 +58,7 @@ core r = record r {
   cursor = 0;
   worn = [];
   heard = no_replicas;
-  saved = first_value 0 0 0;
+  saved = first_value strict 0 0 0;
   root = record { address = 0; sum = no_name };
   table = places.empty;
 }

@@ -1,4 +1,5 @@
 -- What a replica finds when it is opened, and what it does then.
+use Rattle.vr_base.specs.Kinds.{strict}
 use Rattle.std.proofs.Common.{ℕ, ◌+◌, ◌-◌, ◌^◌, ◌%◌, ◌≡◌, List, [], ◌∷◌, ◌++◌, map, flat_map, slice_set, Option, Some, None, codes, refl}
 use Rattle.std.specs.Option.{option_map_or}
 use Rattle.vr_header.specs.declared.header.Header.{Header}
@@ -17,11 +18,11 @@ use Rattle.vr_rules.proofs.Plain.{Kept, Plain, after_fresh, formatted, lines, pl
 
 -- the superblock's numbers, and the headers that it names
 abbrev value : (view log_view commit head : ℕ) → List Header → SuperValue
-value view log_view commit head headers = let first = (formatted 0 3 1).value in
+value view log_view commit head headers = let first = (formatted strict 0 3 1).value in
     record { fields = record first.fields { view = view; log_view = log_view; commit = commit; head = head }; headers = headers }
 
 abbrev having : SuperValue → Plain
-having v = record (formatted 0 3 1) { value = v }
+having v = record (formatted strict 0 3 1) { value = v }
 
 abbrev with_slot : ℕ → Option Header → Option Whole → Plain → Plain
 with_slot op h e f = record f { headers = slice_set f.headers (op % 64) h; entries = slice_set f.entries (op % 64) e }

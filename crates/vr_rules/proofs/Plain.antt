@@ -1,4 +1,6 @@
 -- A plain disk, on which worked rows are computed: it has values and no bytes. Names are made by a cheap checksum.
+use Rattle.vr_base.specs.Kinds.{strict}
+use Rattle.vr_base.specs.declared.kind.Kind.{Kind}
 use Rattle.std.proofs.Common.{ℕ, ◌+◌, ◌-◌, ◌*◌, ◌/◌, ◌%◌, ◌^◌, ◌==◌, ◌&&◌, ◌||◌, nat_lt, nat_le, Bool, true, false, not, List, [], ◌∷◌, ◌++◌, length, map, replicate, take, drop, slice_get, slice_set, slice_index_or, Option, Some, None, fold, if◌then◌else◌}
 use Rattle.std.specs.List.{range_with_len}
 use Rattle.std.specs.Option.{option_and_then, option_map, option_map_or}
@@ -81,9 +83,9 @@ reserved slot = record {
   aux = 0;
 }
 
-unfoldable pub formatted : ℕ → ℕ → ℕ → Plain
-formatted cluster n index = record {
-  value = first_value cluster n index;
+unfoldable pub formatted : Kind → ℕ → ℕ → ℕ → Plain
+formatted kind cluster n index = record {
+  value = first_value kind cluster n index;
   headers = map (λ slot. Some (reserved slot)) (range_with_len 0 64);
   entries = replicate 64 None;
   kept = None;
@@ -141,6 +143,7 @@ plain = record {
   opens = λ f. Some f.value;
   header = λ f slot. slice_index_or f.headers slot None;
   entry = λ f slot. slice_index_or f.entries slot None;
+  is_blank = λ f slot. false;
   block = λ f name. option_map_or (λ k. Some (root_block k)) (kept_under f name) None;
   is_block = is_block;
   loaded = loaded;
@@ -226,7 +229,7 @@ lines m (o ∷ os) = output_text m o ∷ lines (m + length (message_of o)) os
 -- What happens to a fresh group of n. Whoever computes something of it names this definition, which lists all that is computed with.
 unfoldable pub after_fresh : ℕ → List Happening → Happened Plain
 unfolding cheap formatted count cut lines digits bytes16 bytes32 bytes64 operation_bytes outcome_bytes is_text byte_from number_from piece_from table_text count_from read_on decoded session_text value_from outcome_of outcome_from numbers_from session_from pair_text pieces_from pair_from same_header named_bytes choice named_by row_end log_headers state.applied state.answered state.executed sess.checked sess.applied sess.oldest sess.without_oldest kv.applied kv.putting kv.getting kv.deleting numbered viewed letters_of statement_text prepare_text prepare_ok_text commit_text do_view_change_text start_view_text sync_view_text get_prepare_text give_prepare_text sent_text committed_text reply_text chosen_text waiting_text started_text part_at head run statement_of forgetting with_part outputs after_all ◌⨾◌ quiet change does says by naming reading times each send_to_all value_of save entered enter write accept with_entry_at with_checkpoint make_checkpoint apply_entry apply_next apply advanced advance learn is_chain_from may_take taken_part taken take_over prepare_again stated begin_view try_log try speak resend ask_peer ask with_state load jump jumped jumped_part visit visit_block visit_place visit_slot first_of is_in_flight next_entry make on_request on_prepare on_prepare_ok on_commit on_start_view_change on_do_view_change acknowledge_stored on_start_view on_get_view on_get_prepare on_give_prepare on_get_block put_block on_give_block on_get_sync on_sync_view on_tick react rule_for blank recover_op recover_old clouded recover_parts opening opened messages at_member fresh_world happen
-after_fresh n xs = happen hazards (fresh_world hazards n) xs
+after_fresh n xs = happen hazards (fresh_world hazards strict n) xs
 
 -- its lines
 unfoldable pub replayed : ℕ → List Happening → List (List ℕ)

@@ -1,4 +1,5 @@
 -- What every group in a run of one is, as far as each member and each message goes.
+use Rattle.vr_base.specs.declared.kind.Kind.{Kind}
 use Rattle.std.specs.Prelude.{ℕ, ◌^◌, ◌<◌, ◌≤◌, ◌≡◌, ⊤, List, All, slice_get, Some}
 use Rattle.vr_header.specs.declared.header.Header.{Header}
 use Rattle.vr_header.specs.Made.{IsEntryHeader}
@@ -56,4 +57,4 @@ IsFitPlayed cluster p = IsFitGroup cluster p.before × IsFitGroup cluster p.move
 -- each move of a fit group leaves a fit one, and so does each run of a fresh group
 pub record GroupsFit : Type 0 where
   pub each : (cluster : ℕ) (g : Group) (move : Move) (moved : Moved) → IsFitGroup cluster g → IsFitMove move → Moves g move moved → IsFitGroup cluster moved.group
-  pub runs : (cluster n : ℕ) (run : List Played) → cluster < 2 ^ 64 → 2 ≤ n → n ≤ 6 → All (λ p. IsFitMove p.move) run → Run (fresh_group cluster n) run → All (IsFitPlayed cluster) run
+  pub runs : (kinds : ℕ → Kind) (cluster n : ℕ) (run : List Played) → cluster < 2 ^ 64 → 2 ≤ n → n ≤ 6 → All (λ p. IsFitMove p.move) run → Run (fresh_group kinds cluster n) run → All (IsFitPlayed cluster) run

@@ -4,6 +4,8 @@ use Rattle.std.specs.List.{list_all, range_with_len}
 use Rattle.std.specs.Option.{option_map_or}
 use Rattle.std.specs.Cmp.Lexicographic.{pointwise}
 use Rattle.vr_base.specs.Bytes.{name_of}
+use Rattle.vr_base.specs.declared.kind.Kind.{Kind}
+use Rattle.vr_base.specs.declared.mode.Mode.{Mode}
 use Rattle.vr_disk.specs.DiskState as disk
 use Rattle.vr_disk.specs.DiskState.{Call, Write, Sync, Cell, Face}
 use Rattle.vr_disk.specs.Regions.{header_place}
@@ -12,7 +14,7 @@ use Rattle.vr_header.specs.declared.header.Header.{Header}
 use Rattle.vr_header.specs.Names.{no_name}
 use Rattle.vr_super.specs.Calls.{save_from}
 use Rattle.vr_super.specs.Copies.{copy_bytes}
-use Rattle.vr_super.specs.Opens.{good_copies, opened}
+use Rattle.vr_super.specs.Opens.{good_copies, mode_in, opened}
 use Rattle.vr_rings.specs.Held.{held_after_all, held_cut, looked}
 use Rattle.vr_rings.specs.Slots.{sector_of}
 use Rattle.vr_lie.specs.declared.fault.Fault.{Fault}
@@ -54,14 +56,14 @@ same_value (Some a) None = false
 same_value (Some a) (Some b) = pointwise nat_eq a b
 
 -- where the premise held of a slot's entry, it still holds
-abbrev pub still_holds : Face → Face → ℕ → Option (List ℕ) → Bool
-still_holds f g slot held = option_map_or (λ prepare. not (holds f slot prepare) || holds g slot prepare) held true
+abbrev pub still_holds : Mode → Face → Face → ℕ → Option (List ℕ) → Bool
+still_holds mode f g slot held = option_map_or (λ prepare. not (holds mode f slot prepare) || holds mode g slot prepare) held true
 
 -- the superblock opens as before, and the premise of each slot stands for what it held
 unfoldable pub keeps_premise : Lying → Face → Bool
 keeps_premise d g =
     same_value (opened (good_copies d.face)) (opened (good_copies g))
-    && list_all (λ slot. still_holds d.face g slot (held_at d.held slot)) (range_with_len 0 64)
+    && list_all (λ slot. still_holds (mode_in d.face) d.face g slot (held_at d.held slot)) (range_with_len 0 64)
 
 abbrev pub lied_to : Lying → Face → Lying
 lied_to d g = record { face = g; held = each_slot (λ slot. looked g slot (held_at d.held slot)) }
@@ -107,9 +109,9 @@ abbrev pub reserved_headers : ℕ → List Call
 reserved_headers cluster = map (λ slot. Write (header_place slot) (sector_of (reserved_header cluster slot))) (range_with_len 0 64)
 
 -- zeros to the prepares, reserved headers, one sync, and the four copies of the first value
-unfoldable pub format_calls : ℕ → ℕ → ℕ → List Call
-format_calls cluster n index =
-    zero_prepares ++ reserved_headers cluster ++ Sync ∷ save_from 0 4 (copy_bytes (first_value cluster n index))
+unfoldable pub format_calls : Kind → ℕ → ℕ → ℕ → List Call
+format_calls kind cluster n index =
+    zero_prepares ++ reserved_headers cluster ++ Sync ∷ save_from 0 4 (copy_bytes (first_value kind cluster n index))
 
 -- ---- the disk of a world
 
@@ -119,6 +121,7 @@ lying = record {
   opens = λ d. sectors.opens d.face;
   header = λ d. sectors.header d.face;
   entry = λ d. sectors.entry d.face;
+  is_blank = λ d. sectors.is_blank d.face;
   block = λ d. sectors.block d.face;
   is_block = sectors.is_block;
   loaded = λ d. sectors.loaded d.face;
@@ -129,7 +132,7 @@ lying = record {
 abbrev pub hazards : Hazards Lying
 hazards = record {
   setting = lying;
-  formatted = λ cluster n index. after_calls (record { face = zero_face; held = each_slot (λ slot. None) }) (format_calls cluster n index);
+  formatted = λ kind cluster n index. after_calls (record { face = zero_face; held = each_slot (λ slot. None) }) (format_calls kind cluster n index);
   count = λ d script. length (calls script d.face);
   cut = λ j code d script. cut_calls j code d (calls script d.face);
   faulted = unless_kept_out;

@@ -1,4 +1,5 @@
 -- A group of replicas with their disks, and what the lines of a schedule do to it.
+use Rattle.vr_base.specs.declared.kind.Kind.{Kind}
 use Rattle.std.specs.Prelude.{ℕ, ◌-◌, ◌%◌, ◌^◌, ◌<◌, nat_le, List, [], ◌∷◌, ◌++◌, length, map, slice_get, slice_set, Option, Some, None, if◌then◌else◌}
 use Rattle.std.specs.List.{range_with_len}
 use Rattle.std.specs.Option.{option_map_or}
@@ -20,8 +21,8 @@ use Rattle.vr_rules.specs.Opening.{fresh, opened}
 -- What a disk of the type F is to a world: beside what it is to a replica, how it begins, how it stops and how it lies.
 pub record Hazards (F : Type 0) : Type 0 where
   pub setting : Setting F
-  -- of a member of a group: its cluster, how many replicas it has, and its index
-  pub formatted : ℕ → ℕ → ℕ → F
+  -- of a member of a group: the kind of its file, its cluster, how many replicas it has, and its index
+  pub formatted : Kind → ℕ → ℕ → ℕ → F
   -- how many writes and syncs a script makes
   pub count : F → List Effect → ℕ
   -- a stop at the call of a script that comes after so many others, by a code
@@ -51,8 +52,8 @@ pub record IsAsked (q : RequestFields) : Type 0 where
   pub operation : IsOperation q.operation
 
 pub data Happening : Type 0 where
-  -- a group of so many replicas begins
-  Begins : (n : ℕ) → Happening
+  -- a group of so many replicas begins, on files of this kind
+  Begins : (kind : Kind) (n : ℕ) → Happening
   -- a client asks a replica
   Asks : (replica : ℕ) (request : RequestFields) → Happening
   -- the message of this number, counted from 0 and from the front again past the last, reaches its destination
@@ -162,17 +163,17 @@ delivered hz w None = nothing w
 delivered hz w (Some s) = at_member w s.to (handles hz (event.Deliver s.message))
 
 -- a group that is made has number 0, and its disks are formatted
-abbrev pub fresh_host : {F : Type 0} → Hazards F → ℕ → ℕ → Host F
-fresh_host hz n index = record { replica = Some (fresh 0 n index); disk = hz.formatted 0 n index; fuse = None }
+abbrev pub fresh_host : {F : Type 0} → Hazards F → Kind → ℕ → ℕ → Host F
+fresh_host hz kind n index = record { replica = Some (fresh kind 0 n index); disk = hz.formatted kind 0 n index; fuse = None }
 
-unfoldable pub fresh_world : {F : Type 0} → Hazards F → ℕ → World F
-fresh_world hz n = record { n = n; members = map (fresh_host hz n) (range_with_len 0 n); sent = [] }
+unfoldable pub fresh_world : {F : Type 0} → Hazards F → Kind → ℕ → World F
+fresh_world hz kind n = record { n = n; members = map (fresh_host hz kind n) (range_with_len 0 n); sent = [] }
 
 abbrev pub no_world : {F : Type 0} → World F
 no_world = record { n = 0; members = []; sent = [] }
 
 abbrev pub happens : {F : Type 0} → Hazards F → World F → Happening → Happened F
-happens hz w (Begins n) = nothing (fresh_world hz n)
+happens hz w (Begins kind n) = nothing (fresh_world hz kind n)
 happens hz w (Asks r q) = at_member w r (handles hz (event.Request q))
 happens hz w (Arrives x) = delivered hz w (slice_get w.sent (x % length w.sent))
 happens hz w (Ticks r) = at_member w r (handles hz event.Tick)

@@ -1,4 +1,5 @@
 -- A group that was just made: the machine's members are started one after the other.
+use Rattle.vr_base.specs.declared.kind.Kind.{Kind}
 use Rattle.std.proofs.Common.{ℕ, zero, suc, ◌+◌, ◌≤◌, ◌<◌, ◌^◌, ◌≡◌, ◌∙◌, inl, inr, arith, refl, sym, ap, subst, true, List, [], Some, None, is_some}
 use Rattle.std.specs.Prelude.{All}
 use Rattle.std.proofs.lemmas.Bool.{cases_lt}
@@ -96,45 +97,45 @@ module _ (u : Setup) where
 
 -- ---- the group
 
-sized : (c n i : ℕ) → c < 2 ^ 64 → 2 ≤ n → n ≤ 6 → i < n → is_some (quorums_of n) ≡ true
+sized : (kind : Kind) (c n i : ℕ) → c < 2 ^ 64 → 2 ≤ n → n ≤ 6 → i < n → is_some (quorums_of n) ≡ true
 unfolding blank
-sized c n i l a b m = (fresh_fits c n i l a b m).sound.size
+sized kind c n i l a b m = (fresh_fits kind c n i l a b m).sound.size
 
-module _ (u : Setup) (c n : ℕ) (l : c < 2 ^ 64) (a : 2 ≤ n) (b : n ≤ 6) (n_is : u.quorums.n ≡ n) where
-  member_is : (i : ℕ) → i < n → IsMember u (begun u n) i (fresh_member c n i)
+module _ (u : Setup) (kinds : ℕ → Kind) (c n : ℕ) (l : c < 2 ^ 64) (a : 2 ≤ n) (b : n ≤ 6) (n_is : u.quorums.n ≡ n) where
+  member_is : (i : ℕ) → i < n → IsMember u (begun u n) i (fresh_member (kinds i) c n i)
   member_is i m =
       let s : Group Header = begun u n in
       let same : s.members i ≡ awake u = (members_at u n i).0 m in
-      let size = sized c n i l a b m in
-      let d = disk_is u c n i size m n_is in
-      let run : IsRunning u s i (fresh_member c n i) (fresh c n i) = record {
+      let size = sized (kinds i) c n i l a b m in
+      let d = disk_is u (kinds i) c n i size m n_is in
+      let run : IsRunning u s i (fresh_member (kinds i) c n i) (fresh (kinds i) c n i) = record {
         memory = loaded u;
         running = ap (λ (y : Member Header). y.memory) same;
-        reflects = reflects_fresh u c n i size m n_is;
-        stored = keeps_fresh u c n i size m n_is;
-        tables = λ free. tables_fresh u c n i size m n_is s refl;
+        reflects = reflects_fresh u (kinds i) c n i size m n_is;
+        stored = keeps_fresh u (kinds i) c n i size m n_is;
+        tables = λ free. tables_fresh u (kinds i) c n i size m n_is s refl;
       } in
       record {
-        disk = subst (IsDisk (fresh_member c n i)) (sym same) (record { last = d.last; under = d.under; slots = d.slots; size = d.size });
-        running = λ r e. (let is : fresh c n i ≡ r = cc in subst (IsRunning u s i (fresh_member c n i)) is run);
+        disk = subst (IsDisk (fresh_member (kinds i) c n i)) (sym same) (record { last = d.last; under = d.under; slots = d.slots; size = d.size });
+        running = λ r e. (let is : fresh (kinds i) c n i ≡ r = cc in subst (IsRunning u s i (fresh_member (kinds i) c n i)) is run);
         stopped = λ e. absurd cc;
       }
 
-  fresh_bridges : Bridges u (fresh_group c n) (begun u n)
+  fresh_bridges : Bridges u (fresh_group kinds c n) (begun u n)
   unfolding fresh_group
   fresh_bridges = record {
     reached = reached u n;
     size = sym n_is;
-    members = λ i m e. let k = fresh_at c n 0 n i m e in let at : 0 + i ≡ i = omega arith in subst (IsMember u (begun u n) i) (subst (λ j. fresh_member c n j ≡ m) at k.0) (member_is i k.1);
+    members = λ i m e. let k = fresh_at kinds c n 0 n i m e in let at : 0 + i ≡ i = omega arith in subst (IsMember u (begun u n) i) (subst (λ j. fresh_member (kinds j) c n j ≡ m) at k.0) (member_is i k.1);
     sent = All-nil (IsSent u (begun u n));
     made = All-nil (WasMade []);
   }
 
-pub fresh_runs_so : (c n : ℕ) (run : List Played) → c < 2 ^ 64 → 2 ≤ n → n ≤ 6 → All (λ p. IsFitMove p.move) run → Run (fresh_group c n) run → FollowsFresh c n run
-fresh_runs_so c n run l a b h r =
+pub fresh_runs_so : (kinds : ℕ → Kind) (c n : ℕ) (run : List Played) → c < 2 ^ 64 → 2 ≤ n → n ≤ 6 → All (λ p. IsFitMove p.move) run → Run (fresh_group kinds c n) run → FollowsFresh kinds c n run
+fresh_runs_so kinds c n run l a b h r =
     let z = sizes_fit lying.hash c n a b in
     let u : Setup = z.0 in
-    let bridge : Bridges u (fresh_group c n) (begun u n) = fresh_bridges u c n l a b z.2 in
+    let bridge : Bridges u (fresh_group kinds c n) (begun u n) = fresh_bridges u kinds c n l a b z.2 in
     record {
       setup = u;
       fits = z.1;
@@ -145,5 +146,5 @@ fresh_runs_so c n run l a b h r =
       bridges = bridge;
       none_sent = refl;
       none_made = refl;
-      follows = runs_so u z.1 z.3 (fresh_group c n) (begun u n) run (subst (λ k. IsFitGroup k (fresh_group c n)) (sym z.4) (fresh_group_fits c n l a b)) h r bridge;
+      follows = runs_so u z.1 z.3 (fresh_group kinds c n) (begun u n) run (subst (λ k. IsFitGroup k (fresh_group kinds c n)) (sym z.4) (fresh_group_fits kinds c n l a b)) h r bridge;
     }

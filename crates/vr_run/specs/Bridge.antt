@@ -1,4 +1,5 @@
 -- How the machine's group stands for a group of the rules, and what of it a move carries on.
+use Rattle.vr_base.specs.declared.kind.Kind.{Kind}
 use Rattle.std.specs.Prelude.{ℕ, ◌+◌, ◌≤◌, ◌≡◌, ◌⊎◌, ⊤, List, [], ◌∷◌, length, All, Contains, slice_get, Some, None}
 use Rattle.vr_header.specs.declared.header.Header.{Header}
 use Rattle.vr_msg.specs.declared.output.Chosen.{Chosen}
@@ -65,14 +66,14 @@ Follows u s (p ∷ ps) = (a : Group Header) × Chained u s a p × Follows u a ps
 
 -- A run of a group that was just made, from a group of the machine on in which nothing was sent or made; with the names of the program
 -- and the quorums of its size.
-pub record FollowsFresh (cluster n : ℕ) (run : List Played) : Type 0 where
+pub record FollowsFresh (kinds : ℕ → Kind) (cluster n : ℕ) (run : List Played) : Type 0 where
   pub setup : Setup
   pub fits : Fits setup
   pub hash_is : setup.hash ≡ lying.hash
   pub cluster_is : setup.cluster ≡ cluster
   pub size_is : setup.quorums.n ≡ n
   pub first : Group Header
-  pub bridges : Bridges setup (group.fresh_group cluster n) first
+  pub bridges : Bridges setup (group.fresh_group kinds cluster n) first
   pub none_sent : first.sent ≡ []
   pub none_made : first.made ≡ []
   pub follows : Follows setup first run

@@ -1,4 +1,5 @@
 -- A disk that was just formatted reads as no entry and as no block: its prepares and its grid are zeros.
+use Rattle.vr_base.specs.declared.kind.Kind.{Kind}
 use Rattle.std.proofs.Common.{ℕ, zero, suc, ◌+◌, ◌*◌, ◌≤◌, ◌<◌, ◌≡◌, arith, refl, sym, ap, ◌∙◌, subst, List, [], ◌∷◌, ◌++◌, length, map, take, get_or, Option, Some, None, Ok, inl, inr}
 use Rattle.std.specs.List.{AllByRecursion, range_with_len}
 use Rattle.std.specs.Option.{option_and_then}
@@ -77,15 +78,15 @@ no_header b rest h is read =
 
 -- ---- the disk of a member
 
-module _ (n i : ℕ) where
+module _ (kind : Kind) (n i : ℕ) where
   abbrev pub fresh_face : Face
-  fresh_face = after_all zero_face (format_calls 0 n i)
+  fresh_face = after_all zero_face (format_calls kind 0 n i)
 
   abbrev later : List Call
-  later = reserved_headers 0 ++ Sync ∷ save_from 0 4 (copy_bytes (first_value 0 n i))
+  later = reserved_headers 0 ++ Sync ∷ save_from 0 4 (copy_bytes (first_value kind 0 n i))
 
   later_spares : (k : ℕ) → 144 ≤ k → AllByRecursion (Spares k) later
-  later_spares k l = spares_append k (reserved_headers 0) (Sync ∷ save_from 0 4 (copy_bytes (first_value 0 n i))) (heads_spare 64 0 k (omega arith) l) (tt, save_spares 4 0 k (copy_bytes (first_value 0 n i)) (omega arith) (omega (arith, l)))
+  later_spares k l = spares_append k (reserved_headers 0) (Sync ∷ save_from 0 4 (copy_bytes (first_value kind 0 n i))) (heads_spare 64 0 k (omega arith) l) (tt, save_spares 4 0 k (copy_bytes (first_value kind 0 n i)) (omega arith) (omega (arith, l)))
 
   zero_at : (k : ℕ) (b : List ℕ) → 144 ≤ k → k < 1424 → reads fresh_face k ≡ Some b → IsZero b
   unfolding format_calls
@@ -95,7 +96,7 @@ module _ (n i : ℕ) where
       (has_at IsZero g k (has_after_all IsZero zero_prepares zero_face zero_has (zeros_put 256 144 (omega arith))) m).reads b (ap (λ (c : Cell). c.reads) (sym same) ∙ e)
 
   count : length fresh_face.cells ≡ 1424
-  count = length_after_all (format_calls 0 n i) zero_face ∙ length-replicate 1424 zero_cell
+  count = length_after_all (format_calls kind 0 n i) zero_face ∙ length-replicate 1424 zero_cell
 
   -- what reads behind the header sectors is zeros
   all_zero : (k s : ℕ) (b : List ℕ) → 144 ≤ s → s + k ≤ 1424 → together s k fresh_face ≡ Some b → b ≡ zeros k

@@ -1,4 +1,5 @@
 -- A group that begins: on its disks nothing reads as the header of an entry.
+use Rattle.vr_base.specs.declared.kind.Kind.{Kind}
 use Rattle.std.proofs.Common.{ℕ, zero, suc, ◌+◌, ◌≤◌, ◌<◌, ◌≡◌, ◌⊎◌, inl, inr, arith, refl, sym, ap, ◌∙◌, subst, true, false, List, [], ◌∷◌, ◌++◌, length, map, get_or, Some}
 use Rattle.std.specs.List.{range_with_len}
 use Rattle.std.proofs.lemmas.List.{get_or-replicate, length-replicate}
@@ -70,45 +71,45 @@ reserved_sealed (suc n) i l =
     let is = reserved_is i (omega (arith, l)) in
     ((omega (arith, l), header_sealed [] (reserved_header 0 i) is (sector_content (reserved_header 0 i) is) (λ e _ _. reserved_none i e)), reserved_sealed n (i + 1) (omega (arith, l)))
 
-format_sealed : (n i : ℕ) → 2 ≤ n → n ≤ 6 → i < n → AreSealed [] (format_calls 0 n i)
+format_sealed : (kind : Kind) (n i : ℕ) → 2 ≤ n → n ≤ 6 → i < n → AreSealed [] (format_calls kind 0 n i)
 unfolding format_calls
-format_sealed n i a b l =
-    let v = first_value 0 n i in
-    let good = (fresh_fits 0 n i (omega arith) a b l).value in
+format_sealed kind n i a b l =
+    let v = first_value kind 0 n i in
+    let good = (fresh_fits kind 0 n i (omega arith) a b l).value in
     seals_append [] zero_prepares (reserved_headers 0 ++ Sync ∷ save_from 0 4 (copy_bytes v)) (zeros_sealed 256 144 (omega arith))
     (seals_append [] (reserved_headers 0) (Sync ∷ save_from 0 4 (copy_bytes v)) (reserved_sealed 64 0 (omega arith)) (tt, saves_sealed [] v good (copy_are v good) tt 4 0 (omega arith)))
 
 -- ---- the world
 
-fresh_sealed : (n : ℕ) → 2 ≤ n → n ≤ 6 → IsSealedWorld (world.fresh_world hazards n) []
+fresh_sealed : (kind : Kind) (n : ℕ) → 2 ≤ n → n ≤ 6 → IsSealedWorld (world.fresh_world hazards kind n) []
 unfolding world.fresh_world
-fresh_sealed n a b = record {
+fresh_sealed kind n a b = record {
   disks = λ i m e.
-      let f : ℕ → world.Host Lying = world.fresh_host hazards n in
+      let f : ℕ → world.Host Lying = world.fresh_host hazards kind n in
       let size = length-map-range_with_len f 0 n in
       let within = slice_get_within (map f (range_with_len 0 n)) i m e in
       let l : i < n = omega (arith, size, within) in
       let is : m ≡ f i = some_world m (f i) (sym e ∙ (slice_get-get_or (map f (range_with_len 0 n)) i m within ∙ ap Some (get_or-map-range_with_len f 0 n i i m l (omega arith)))) in
-      subst (λ (m : world.Host Lying). HasSectors (IsSealed []) m.disk.face) (sym is) (has_after_all (IsSealed []) (format_calls 0 n i) zero_face zero_face_sealed (format_sealed n i a b l));
+      subst (λ (m : world.Host Lying). HasSectors (IsSealed []) m.disk.face) (sym is) (has_after_all (IsSealed []) (format_calls kind 0 n i) zero_face zero_face_sealed (format_sealed kind n i a b l));
   sent = λ number s e. absurd cc;
 }
 
 -- a group that was just made: no move led there, and nothing was made in the machine
-fresh_led : (n : ℕ) → 2 ≤ n → n ≤ 6 → IsLed (fresh_group 0 n)
-fresh_led n a b = record { n = n; run = []; fit = record { number = omega arith; few = a; many = b; moves = All-nil (λ (p : Played). IsFitMove p.move); of_run = Run.ended (fresh_group 0 n) }; is = refl }
+fresh_led : (kind : Kind) (n : ℕ) → 2 ≤ n → n ≤ 6 → IsLed (fresh_group (λ i. kind) 0 n)
+fresh_led kind n a b = record { n = n; run = []; fit = record { number = omega arith; few = a; many = b; moves = All-nil (λ (p : Played). IsFitMove p.move); kinds = λ i. kind; of_run = Run.ended (fresh_group (λ i. kind) 0 n) }; is = refl }
 
 pub worlds_begin_unforged : WorldsBeginUnforged
 unfolding fresh_led
-worlds_begin_unforged n a b =
-    let c = bridged_fresh n a b in
+worlds_begin_unforged kind n a b =
+    let c = bridged_fresh kind n a b in
     let none = c.1 in (
       record {
-        beside = fresh_beside n a b;
-        fit = fresh_group_fits 0 n (omega arith) a b;
-        stock = group_stocked n;
+        beside = fresh_beside kind n a b;
+        fit = fresh_group_fits (λ i. kind) 0 n (omega arith) a b;
+        stock = group_stocked kind n;
         bridged = c.0;
-        sealed = subst (IsSealedWorld (world.fresh_world hazards n)) (sym (none_made n)) (fresh_sealed n a b);
-        past = fresh_led n a b;
+        sealed = subst (IsSealedWorld (world.fresh_world hazards kind n)) (sym (none_made kind n)) (fresh_sealed kind n a b);
+        past = fresh_led kind n a b;
         few = omega (arith, none);
       },
       refl,
@@ -116,11 +117,11 @@ worlds_begin_unforged n a b =
 
 pub schedules_are_runs : SchedulesAreRuns
 unfolding happen
-schedules_are_runs n xs a b few may =
-    let u = worlds_begin_unforged n a b in
-    let w = world.fresh_world hazards n in
+schedules_are_runs kind n xs a b few may =
+    let u = worlds_begin_unforged kind n a b in
+    let w = world.fresh_world hazards kind n in
     let into : (bytes : List ℕ) → safe.IsHashed u.0.past.run (root_header 0) bytes ⊎ IsHashed w xs bytes → IsHashed w xs bytes =
     λ bytes h. elim h [ inl old ↦ none_hashed xs w bytes (subst (λ (run : List Played). safe.IsHashed run (root_header 0) bytes) u.1 old) | inr new ↦ new ] in
     let size : length u.0.past.run ≡ 0 = ap (λ (run : List Played). length run) u.1 in
-    let m = happenings_are_runs xs w (fresh_group 0 n) u.0 (record { lines = may.lines; names = λ p q x y same. may.names p q (into p x) (into q y) same; few = omega (arith, size, few) }) in
+    let m = happenings_are_runs xs w (fresh_group (λ i. kind) 0 n) u.0 (record { lines = may.lines; names = λ p q x y same. may.names p q (into p x) (into q y) same; few = omega (arith, size, few) }) in
     (m.0, λ p q x y same. may.names p q (m.1 p x) (m.1 q y) same)

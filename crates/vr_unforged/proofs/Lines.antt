@@ -336,7 +336,7 @@ module _ (w : World Lying) (g : Group) (b : AreBeside w g) (fits : IsFitGroup 0 
 
   pub line_leaves : (x : Happening) → IsLine x → Leaves (begun_in w x) (happens hazards w x).world
   unfolding messages
-  line_leaves (Begins n) line = absurd line
+  line_leaves (Begins kind n) line = absurd line
   line_leaves (Asks i r) line = event_leaves i (Asked r) (event.Request r) (line.0, refl) line.1 tt
   line_leaves (Arrives x) line = arrive_leaves (x % length w.sent) (slice_get w.sent (x % length w.sent)) refl
   line_leaves (Ticks i) line = event_leaves i Time event.Tick refl tt tt
@@ -357,7 +357,7 @@ module _ (w : World Lying) (g : Group) (b : AreBeside w g) (fits : IsFitGroup 0 
       let o = y.2.stopped stopped in
       let same = same_some o.0 v (sym o.1.value ∙ is) in
       subst (λ (v : SuperValue). AreMade g.made v (lying.after m.disk (Mend v))) same (off_unforged w g b fits stock bridged low s i m y.0 at y.1 y.2 o.0 o.1)
-  line_unforged (Begins n) = tt
+  line_unforged (Begins kind n) = tt
   line_unforged (Asks i r) = tt
   line_unforged (Arrives x) = tt
   line_unforged (Ticks i) = tt

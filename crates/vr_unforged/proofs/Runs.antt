@@ -66,7 +66,7 @@ one_at_most es fs _ (moved_once p script faces) = omega arith
 
 led_on : (g : Group) (past : IsLed g) (run : List Played) → Run g run → All (λ (p : Played). IsFitMove p.move) run → IsLed (left g run)
 led_on g past run is well =
-    let first : Group = fresh_group 0 past.n in
+    let first : Group = fresh_group past.fit.kinds 0 past.n in
     let f = past.fit in
     record {
       n = past.n;
@@ -76,6 +76,7 @@ led_on g past run is well =
         few = f.few;
         many = f.many;
         moves = All-append (λ (p : Played). IsFitMove p.move) past.run run f.moves well;
+        kinds = f.kinds;
         of_run = run_both first past.run run f.of_run (subst (λ (h : Group). Run h run) (sym past.is) is);
       };
       is = left_both first past.run run ∙ ap (λ (h : Group). left h run) past.is;

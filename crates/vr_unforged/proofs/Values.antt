@@ -1,5 +1,6 @@
 -- The headers that values name are of entries that were begun to be written: of the values of each member, and of each that a script saves.
 -- And no head is greater than the count of entries that were made, at most one by a move.
+use Rattle.vr_base.specs.declared.kind.Kind.{Kind}
 use Rattle.std.proofs.Common.{ℕ, zero, suc, ◌+◌, ◌-◌, ◌≤◌, ◌<◌, ◌≡◌, inl, inr, arith, refl, sym, ap, ◌∙◌, subst, Bool, cond, List, [], ◌∷◌, ◌++◌, length, take, drop, Option, Some, None}
 use Rattle.std.specs.Prelude.{All, slice_get}
 use Rattle.std.specs.List.{AllByRecursion}
@@ -43,9 +44,9 @@ moved_made g x y (Moves.crashes i m at) = refl
 moved_made g x y (Moves.recovers i v d m opens) = refl
 moved_made g x y (Moves.recovers_cut i v d n m opens) = refl
 
-pub bridged_fresh : (n : ℕ) → 2 ≤ n → n ≤ 6 → (b : IsBridged (fresh_group 0 n)) × (length b.machine.made ≡ 0)
-bridged_fresh n a b =
-    let f = fresh_runs_so 0 n [] (omega arith) a b (All-nil (λ (p : Played). IsFitMove p.move)) (Run.ended (fresh_group 0 n)) in (
+pub bridged_fresh : (kind : Kind) (n : ℕ) → 2 ≤ n → n ≤ 6 → (b : IsBridged (fresh_group (λ i. kind) 0 n)) × (length b.machine.made ≡ 0)
+bridged_fresh kind n a b =
+    let f = fresh_runs_so (λ i. kind) 0 n [] (omega arith) a b (All-nil (λ (p : Played). IsFitMove p.move)) (Run.ended (fresh_group (λ i. kind) 0 n)) in (
       record { setup = f.setup; fits = f.fits; hash_is = f.hash_is; cluster_is = f.cluster_is; machine = f.first; bridges = f.bridges; made = λ x i. absurd (subst (In x) f.none_made i) },
       ap length f.none_made,
     )

@@ -1,4 +1,5 @@
 -- A schedule of which all holds that is asked.
+use Rattle.vr_base.specs.Kinds.{strict}
 use Rattle.std.proofs.Common.{ℕ, ◌≡◌, ◌⊎◌, arith, inl, inr, refl, sym, ◌∙◌, subst, List, [], ◌∷◌, Option, Some, None}
 use Rattle.std.specs.Prelude.{Contains, slice_get, ⊤}
 use Rattle.std.specs.List.{AllByRecursion}
@@ -26,23 +27,23 @@ use Rattle.vr_unforged.proofs.Blank.{reads_nothing}
 use Rattle.vr_unforged.proofs.Names.{contains_in, contains_none}
 
 abbrev start : World Lying
-start = fresh_world hazards 2
+start = fresh_world hazards strict 2
 
 abbrev first : Replica
-first = fresh 0 2 0
+first = fresh strict 0 2 0
 
-work_is : work_of start (Ticks 0) ≡ Some (stepping event.Tick (fresh_host hazards 2 0) first)
+work_is : work_of start (Ticks 0) ≡ Some (stepping event.Tick (fresh_host hazards strict 2 0) first)
 unfolding fresh_world
 work_is = refl
 
 same_work : (a b : Work) → Some a ≡ Some b → a ≡ b
 same_work a b e = cc
 
-work_same : (k : Work) → work_of start (Ticks 0) ≡ Some k → stepping event.Tick (fresh_host hazards 2 0) first ≡ k
-work_same k e = same_work (stepping event.Tick (fresh_host hazards 2 0) first) k (sym work_is ∙ e)
+work_same : (k : Work) → work_of start (Ticks 0) ≡ Some k → stepping event.Tick (fresh_host hazards strict 2 0) first ≡ k
+work_same k e = same_work (stepping event.Tick (fresh_host hazards strict 2 0) first) k (sym work_is ∙ e)
 
 -- no fuse is laid yet
-none_cut : (b : List ℕ) → IsHashedCut (stepping event.Tick (fresh_host hazards 2 0) first) b → ⊥
+none_cut : (b : List ℕ) → IsHashedCut (stepping event.Tick (fresh_host hazards strict 2 0) first) b → ⊥
 none_cut b h = let bad : None ≡ Some h.0 = h.1 in absurd cc
 
 -- ---- as time goes by a primary says something, and does nothing else
@@ -57,7 +58,7 @@ unfolding rules.react rules.on_tick by first_of blank says send_to_all ◌⨾◌
 tick_says d = (tt, tt)
 
 tick_begun : AllByRecursion IsSay (begun_in start (Ticks 0))
-tick_begun = subst (λ (o : Option Work). AllByRecursion IsSay (begun_of o)) (sym work_is) (tick_says (fresh_host hazards 2 0).disk)
+tick_begun = subst (λ (o : Option Work). AllByRecursion IsSay (begun_of o)) (sym work_is) (tick_says (fresh_host hazards strict 2 0).disk)
 
 -- what is said hashes nothing
 says_nothing : (e : Effect) (bytes : List ℕ) → IsSay e → IsWritten e bytes → ⊥
@@ -76,16 +77,16 @@ all_of (x ∷ es) e a (inr i) = all_of es e a.1 i
 -- ---- so only the root is hashed: the disk that the step reads is blank
 
 abbrev face : Face
-face = (fresh_host hazards 2 0).disk.face
+face = (fresh_host hazards strict 2 0).disk.face
 
-first_there : slice_get start.members 0 ≡ Some (fresh_host hazards 2 0)
+first_there : slice_get start.members 0 ≡ Some (fresh_host hazards strict 2 0)
 unfolding fresh_world
 first_there = refl
 
 face_is : IsFace face
 face_is =
-    let at : slice_get start.members 0 ≡ Some (fresh_host hazards 2 0) = first_there in
-    ((((fresh_beside 2 (omega arith) (omega arith)).each 0 (fresh_host hazards 2 0) at).2).running first refl).0.calm.face
+    let at : slice_get start.members 0 ≡ Some (fresh_host hazards strict 2 0) = first_there in
+    ((((fresh_beside strict 2 (omega arith) (omega arith)).each 0 (fresh_host hazards strict 2 0) at).2).running first refl).0.calm.face
 
 read_is : (f : Face) → Contains (read_in start (Ticks 0)) f → f ≡ face
 read_is f c =
@@ -94,7 +95,7 @@ read_is f c =
 
 tick_hashes : (b : List ℕ) → IsHashedAt start (Ticks 0) b ⊎ IsUsedAt start (Ticks 0) b → ⊥
 tick_hashes b (inl h) = none_cut b (subst (λ (k : Work). IsHashedCut k b) (sym (work_same h.0 h.1)) h.2)
-tick_hashes b (inr (inl u)) = reads_nothing 2 0 face_is b (subst (λ (f : Face). IsRead f b) (read_is u.0 u.1) u.2)
+tick_hashes b (inr (inl u)) = reads_nothing strict 2 0 face_is b (subst (λ (f : Face). IsRead f b) (read_is u.0 u.1) u.2)
 tick_hashes b (inr (inr u)) = says_nothing u.0 b (all_of (begun_in start (Ticks 0)) u.0 tick_begun (contains_in (begun_in start (Ticks 0)) u.0 u.1)) u.2
 
 only_root : (b : List ℕ) → IsHashed start (Ticks 0 ∷ Stops 1 ∷ Fuses 0 5 7 ∷ []) b → b ≡ named_bytes (root_header 0)

@@ -31,7 +31,7 @@ pub record IsLed (g : group.Group) : Type 0 where
   pub n : ℕ
   pub run : List Played
   pub fit : IsFitRun 0 n run
-  pub is : left (fresh_group 0 n) run ≡ g
+  pub is : left (fresh_group fit.kinds 0 n) run ≡ g
 
 -- each header that a value names is one of these
 abbrev pub AreNamed : List Header → SuperValue → Type 0

@@ -1,4 +1,6 @@
 -- Every schedule is a run of the group.
+use Rattle.vr_base.specs.Kinds.{strict}
+use Rattle.vr_base.specs.declared.kind.Kind.{Kind}
 use Rattle.std.specs.Prelude.{ℕ, ◌^◌, ◌<◌, ◌≤◌, ◌≡◌, List, [], ◌∷◌, ◌++◌, length}
 use Rattle.vr_header.specs.Names.{root_header}
 use Rattle.vr_header.specs.NoCollision.{NoCollision}
@@ -37,15 +39,15 @@ HappeningsAreRuns = (xs : List Happening) (w : World Lying) (g : Group) (u : IsU
 
 -- so is a world that begins, of 2 to 6 replicas, to which no move led
 abbrev pub WorldsBeginUnforged : Type 0
-WorldsBeginUnforged = (n : ℕ) → 2 ≤ n → n ≤ 6 → (u : IsUnforgedBeside (fresh_world hazards n) (fresh_group 0 n)) × (u.past.run ≡ [])
+WorldsBeginUnforged = (kind : Kind) (n : ℕ) → 2 ≤ n → n ≤ 6 → (u : IsUnforgedBeside (fresh_world hazards kind n) (fresh_group (λ i. kind) 0 n)) × (u.past.run ≡ [])
 
 -- and each schedule from there is a run of the group, in which names don't collide either; but for one of 2^60 lines or more: so long no op
 -- comes near those that sessions could spell
 abbrev pub SchedulesAreRuns : Type 0
 SchedulesAreRuns =
-    (n : ℕ) (xs : List Happening) → 2 ≤ n → n ≤ 6 → length xs < 2 ^ 60 → MayAll (fresh_world hazards n) xs
-    → (m : IsMatched (fresh_group 0 n) (happen hazards no_world (Begins n ∷ xs))) × NoCollision (λ bytes. safe.IsHashed m.run (root_header 0) bytes)
+    (kind : Kind) (n : ℕ) (xs : List Happening) → 2 ≤ n → n ≤ 6 → length xs < 2 ^ 60 → MayAll (fresh_world hazards kind n) xs
+    → (m : IsMatched (fresh_group (λ i. kind) 0 n) (happen hazards no_world (Begins kind n ∷ xs))) × NoCollision (λ bytes. safe.IsHashed m.run (root_header 0) bytes)
 
 -- of some schedule all holds that is asked: time goes by at a replica, another one loses its memory, a fuse is laid
 abbrev pub SomeScheduleMay : Type 0
-SomeScheduleMay = MayAll (fresh_world hazards 2) (Ticks 0 ∷ Stops 1 ∷ Fuses 0 5 7 ∷ [])
+SomeScheduleMay = MayAll (fresh_world hazards strict 2) (Ticks 0 ∷ Stops 1 ∷ Fuses 0 5 7 ∷ [])

@@ -15,7 +15,10 @@ use Rattle.vr_header.specs.Made.{Whole, entry_bytes}
 use Rattle.vr_header.specs.Spelling.{IsHeader, header_bytes}
 use Rattle.vr_header.proofs.AreBytes.{entry_bytes-are, header_bytes-are}
 use Rattle.vr_base.proofs.FieldLaws.{length-name_of}
-use Rattle.vr_super.specs.Copies.{IsFields, IsGood, SuperValue, copy_bytes, field_bytes, front_bytes, list_bytes, named_bytes, zeros}
+use Rattle.vr_base.specs.declared.kind.Kind.{Kind}
+use Rattle.vr_base.specs.declared.mode.Mode.{Mode}
+use Rattle.vr_base.specs.declared.mode.Mode.TheVariants.{Strict, Careful}
+use Rattle.vr_super.specs.Copies.{IsFields, IsGood, SuperValue, copy_bytes, field_bytes, front_bytes, list_bytes, named_bytes, zeros, mode_byte}
 use Rattle.vr_super.specs.Opens.{copy_reading}
 use Rattle.vr_super.specs.Calls.{copy_calls, mend_calls, mend_copy, mend_from, mend_unless, save_from, write_calls}
 use Rattle.vr_super.proofs.Format.{length-copy_bytes}
@@ -84,13 +87,17 @@ zeros_are : (n : ℕ) → IsBytes (zeros n)
 unfolding zeros
 zeros_are n = IsBytes-zeros n
 
+mode_is : (m : Mode) → IsBytes (mode_byte m ∷ [])
+mode_is Strict = one 0 (omega arith)
+mode_is Careful = one 1 (omega arith)
+
 front_are : (v : SuperValue) → IsFields v.fields → IsBytes (front_bytes v.fields (length v.headers))
 unfolding front_bytes
 front_are v f =
     let x = v.fields in
     let all : AllBytes (field_bytes x (length v.headers)) = (
       IsBytes-bytes64 x.sequence,
-      (IsBytes-bytes64 x.cluster, (IsBytes-bytes32 x.view, (IsBytes-bytes32 x.log_view, (IsBytes-bytes64 x.checkpoint, (IsBytes-bytes64 x.root_address, (f.root_name_bytes, (IsBytes-bytes64 x.commit, (IsBytes-bytes64 x.head, (IsBytes-bytes16 (length v.headers), (one x.replica f.replica, (one x.n f.n, (one 1 (omega arith), (zeros_are 35, tt))))))))))))),
+      (IsBytes-bytes64 x.cluster, (IsBytes-bytes32 x.view, (IsBytes-bytes32 x.log_view, (IsBytes-bytes64 x.checkpoint, (IsBytes-bytes64 x.root_address, (f.root_name_bytes, (IsBytes-bytes64 x.commit, (IsBytes-bytes64 x.head, (IsBytes-bytes16 (length v.headers), (one x.replica f.replica, (one x.n f.n, (one 1 (omega arith), (mode_is x.mode, (zeros_are 34, tt)))))))))))))),
     ) in
     IsBytes-joined (field_bytes x (length v.headers)) all
 
@@ -165,9 +172,9 @@ reserved_written : (n i : ℕ) → i + n ≤ 64 → AreCalls (map (λ slot. Writ
 reserved_written zero i l = tt
 reserved_written (suc n) i l = ((omega (arith, l), sector_content (reserved_header 0 i) (reserved_is i (omega (arith, l)))), reserved_written n (i + 1) (omega (arith, l)))
 
-pub format_are : (n i : ℕ) → IsGood (first_value 0 n i) → AreCalls (format_calls 0 n i)
+pub format_are : (kind : Kind) (n i : ℕ) → IsGood (first_value kind 0 n i) → AreCalls (format_calls kind 0 n i)
 unfolding format_calls
-format_are n i g =
-    let v = first_value 0 n i in
+format_are kind n i g =
+    let v = first_value kind 0 n i in
     calls_append zero_prepares (reserved_headers 0 ++ Sync ∷ save_from 0 4 (copy_bytes v)) (zeros_written 256 144 (omega arith))
     (calls_append (reserved_headers 0) (Sync ∷ save_from 0 4 (copy_bytes v)) (reserved_written 64 0 (omega arith)) (tt, saves_are 4 0 (copy_bytes v) (omega arith) (copy_are v g) (length-copy_bytes v g)))

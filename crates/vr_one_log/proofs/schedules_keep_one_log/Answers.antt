@@ -7,4 +7,4 @@ use Rattle.vr_one_log.proofs.Traces.{keeps}
 use Rattle.vr_one_log.proofs.schedules_keep_one_log.Goals as goal
 
 pub returns : goal.returns
-returns _ = λ n xs few many short may. let m = schedules_are_runs n xs few many short may in keeps n few many (one_log 0 n) (happen hazards no_world (Begins n ∷ xs)) m.0 m.1
+returns _ = λ kind n xs few many short may. let m = schedules_are_runs kind n xs few many short may in keeps kind n few many (one_log 0 n) (happen hazards no_world (Begins kind n ∷ xs)) m.0 m.1
