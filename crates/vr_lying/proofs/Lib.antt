@@ -1,6 +1,5 @@
 pub mod Words
 pub mod Rules
 pub mod Runs
-pub mod Faults
 pub mod Acting
 pub mod Telling

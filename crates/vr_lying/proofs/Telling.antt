@@ -5,12 +5,14 @@ use Rattle.std.proofs.lemmas.List.{get_or-replicate, length-replicate}
 use Rattle.vr_disk.specs.DiskState.{Beside, Call, CallVerdict, Goes, Fails, Cuts, Disk, Face, Fate, IsFace, Attaches, Runs, attached, attached_as, is_to_fail, judged, ran, ran_as, runs}
 use Rattle.vr_lie.specs.Faults.{HeldLooked, HeldRan, KeepsPremise, faulted, held_as, held_at}
 use Rattle.vr_lie.specs.declared.fault.Fault.{Fault}
+use Rattle.vr_rings.specs.Held.{looked}
+use Rattle.vr_super.specs.Opens.{mode_in}
 use Rattle.vr_mem.specs.Seen as mem
 use Rattle.vr_mem.specs.Seen.{copies}
 use Rattle.vr_rules.specs.Lying.{Lying, each_slot, keeps_premise, lied_to, unless_kept_out, zero_face}
+use Rattle.vr_rules.proofs.Premises.{premise, premise_so}
 use Rattle.vr_lying.specs.Told.{lying_in, slots}
 use Rattle.vr_lying.specs.Disks.{blank_lying}
-use Rattle.vr_lying.proofs.Faults.{lied_is, premise, premise_so}
 use Rattle.vr_lying.proofs.Runs.{rows_are, with_held}
 
 -- a disk with this beside its sectors
@@ -67,7 +69,10 @@ told_attached d e ok old new k r =
 
 -- ---- faults
 
-pub fault_done : (d e : Disk) (old new : List (Option (List ℕ))) (x : Fault) → IsFace d.face → IsFace e.face → length new ≡ 64 → KeepsPremise d.face (faulted d.face x) old → e ≡ record d { face = faulted d.face x } → HeldLooked (faulted d.face x) old new
+lied_is : (d : Lying) (g : Face) (new : List (Option (List ℕ))) → length new ≡ 64 → HeldLooked g d.held new → lied_to d g ≡ with_held g new
+lied_is d g new n h = ap (with_held g) (sym (rows_are new (λ slot. looked g slot (held_at d.held slot)) n h.each))
+
+pub fault_done : (d e : Disk) (old new : List (Option (List ℕ))) (x : Fault) → IsFace d.face → IsFace e.face → length new ≡ 64 → KeepsPremise (mode_in d.face) d.face (faulted d.face x) old → e ≡ record d { face = faulted d.face x } → HeldLooked (faulted d.face x) old new
     → unless_kept_out (lying_in (with_table d old)) x ≡ Some (lying_in (with_table e new))
 unfolding unless_kept_out
 fault_done d e old new x w z n k is h =
@@ -77,7 +82,7 @@ fault_done d e old new x w z n k is h =
     let face_is : IsFace g = subst IsFace face z in
     ap (λ b. cond b (Some (lied_to l g)) None) (premise_so l g w face_is k) ∙ ap Some (lied_is l g new n h ∙ ap (λ f. with_held f new) (sym face))
 
-pub fault_kept_out : (d : Disk) (old : List (Option (List ℕ))) (x : Fault) → (KeepsPremise d.face (faulted d.face x) old → ⊥) → unless_kept_out (lying_in (with_table d old)) x ≡ None
+pub fault_kept_out : (d : Disk) (old : List (Option (List ℕ))) (x : Fault) → (KeepsPremise (mode_in d.face) d.face (faulted d.face x) old → ⊥) → unless_kept_out (lying_in (with_table d old)) x ≡ None
 unfolding unless_kept_out
 fault_kept_out d old x never =
     let l = lying_in (with_table d old) in

@@ -65,3 +65,4 @@ pub mod Jumping
 pub mod Syncs
 pub mod Visiting
 pub mod SilentVisits
+pub mod Premises

@@ -1,8 +1,8 @@
 -- A group of replicas with their disks, and what the lines of a schedule do to it.
-use Rattle.vr_base.specs.declared.kind.Kind.{Kind}
 use Rattle.std.specs.Prelude.{ℕ, ◌-◌, ◌%◌, ◌^◌, ◌<◌, nat_le, List, [], ◌∷◌, ◌++◌, length, map, slice_get, slice_set, Option, Some, None, if◌then◌else◌}
 use Rattle.std.specs.List.{range_with_len}
 use Rattle.std.specs.Option.{option_map_or}
+use Rattle.vr_base.specs.declared.kind.Kind.{Kind}
 use Rattle.vr_disk.specs.DiskState.{Fuse}
 use Rattle.vr_header.specs.Bodies.{IsOperation}
 use Rattle.vr_msg.specs.Asking.{IsRequest}
