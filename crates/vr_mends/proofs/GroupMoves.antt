@@ -2,6 +2,7 @@
 use Rattle.std.proofs.Common.{◌≡◌, ◌+◌, ◌⊎◌, ◌∙◌, inl, inr, ap, subst, ℕ, zero, suc, List, [], ◌∷◌, Some, None}
 use Rattle.std.specs.Prelude.{All, slice_get, slice_set}
 use Rattle.std.proofs.lemmas.List.Elements.{All-nil, All-cons, All-head, All-tail}
+use Rattle.vr_base.specs.declared.kind.Kind.{Kind}
 use Rattle.vr_rules.specs.Group.{Member, Group, Move, Moved, Moves, Played, Run, fresh_group, resumed}
 use Rattle.vr_rules.specs.Group as group
 use Rattle.vr_rules.specs.GroupFit.{IsFitGroup, IsFitMove}
@@ -54,12 +55,12 @@ moves_up c g _ _ h u k (group.recovers_cut at v d j m o) = one_up g at _ u (λ q
 
 -- ---- runs
 
-fresh_up : (c n : ℕ) → AllKeepUp (fresh_group c n)
+fresh_up : (kinds : ℕ → Kind) (c n : ℕ) → AllKeepUp (fresh_group kinds c n)
 unfolding fresh_group
-fresh_up c n at m r e i =
-    let k = fresh_at c n 0 n at m e in
-    let same : Some (fresh c n (0 + at)) ≡ Some r = ap (λ (y : Member). y.replica) k.0 ∙ i in
-    runs_up (fresh c n (0 + at)) r (fresh_keep_up c n (0 + at)) same
+fresh_up kinds c n at m r e i =
+    let k = fresh_at kinds c n 0 n at m e in
+    let same : Some (fresh (kinds (0 + at)) c n (0 + at)) ≡ Some r = ap (λ (y : Member). y.replica) k.0 ∙ i in
+    runs_up (fresh (kinds (0 + at)) c n (0 + at)) r (fresh_keep_up (kinds (0 + at)) c n (0 + at)) same
 
 run_up : (c : ℕ) (g : Group) (run : List Played) → IsFitGroup c g → AllKeepUp g → All (λ p. IsFitMove p.move) run → Run g run → All (λ (p : Played). AllKeepUp p.before × AllKeepUp p.moved.group) run
 run_up c g _ h u k (group.ended _) = All-nil _
@@ -71,4 +72,4 @@ run_up c g _ h u k (group.goes _ move moved later m rest) =
     (run_up c moved.group later (groups_fit.each c g move moved h fit m) after (All-tail (λ (p : Played). IsFitMove p.move) p later k) rest)
 
 pub groups_keep_up : GroupsKeepUp
-groups_keep_up c n run l a b k r = run_up c (fresh_group c n) run (fresh_group_fits c n l a b) (fresh_up c n) k r
+groups_keep_up kinds c n run l a b k r = run_up c (fresh_group kinds c n) run (fresh_group_fits kinds c n l a b) (fresh_up kinds c n) k r

@@ -2,6 +2,7 @@
 use Rattle.std.specs.List.{AllByRecursion}
 use Rattle.std.proofs.Common.{◌++◌}
 use Rattle.vr_base.specs.Bytes.{IsBytes}
+use Rattle.vr_base.specs.declared.kind.Kind.{Kind}
 use Rattle.vr_msg.specs.declared.output.Output.{Output}
 use Rattle.vr_msg.specs.declared.output.Sent.{Sent}
 use Rattle.vr_rules.specs.Rules as rules
@@ -169,16 +170,16 @@ all_cover c g h u = λ at m r es d there runs whole events same enough. covers r
 
 -- ---- runs
 
-fresh_placed : (c n : ℕ) → AllInPlace (fresh_group c n)
+fresh_placed : (kinds : ℕ → Kind) (c n : ℕ) → AllInPlace (fresh_group kinds c n)
 unfolding fresh_group
-fresh_placed c n at m r e i =
-    let k = fresh_at c n 0 n at m e in
-    let same : Some (fresh c n (0 + at)) ≡ Some r = ap (λ (y : Member). y.replica) k.0 ∙ i in
-    runs_placed (fresh c n (0 + at)) r (λ live. fresh_in_place c n (0 + at)) same
+fresh_placed kinds c n at m r e i =
+    let k = fresh_at kinds c n 0 n at m e in
+    let same : Some (fresh (kinds (0 + at)) c n (0 + at)) ≡ Some r = ap (λ (y : Member). y.replica) k.0 ∙ i in
+    runs_placed (fresh (kinds (0 + at)) c n (0 + at)) r (λ live. fresh_in_place (kinds (0 + at)) c n (0 + at)) same
 
-fresh_given : (c n : ℕ) → AllGiven (fresh_group c n)
+fresh_given : (kinds : ℕ → Kind) (c n : ℕ) → AllGiven (fresh_group kinds c n)
 unfolding fresh_group
-fresh_given c n number s e = absurd cc
+fresh_given kinds c n number s e = absurd cc
 
 run_covers : (c : ℕ) (g : Group) (run : List Played) → IsFitGroup c g → AllInPlace g → AllGiven g → All (λ p. IsFitMove p.move) run → All (λ p. IsOfBytes p.move) run → Run g run
     → All (λ (p : Played). AllCover p.before × AllCover p.moved.group) run
@@ -193,4 +194,4 @@ run_covers c g _ h u w k b (group.goes _ move moved later m rest) =
     (run_covers c moved.group later fits after (moves_given g move moved w bytes m) (All-tail (λ (p : Played). IsFitMove p.move) p later k) (All-tail (λ (p : Played). IsOfBytes p.move) p later b) rest)
 
 pub groups_cover : GroupsCover
-groups_cover c n run l a z k b r = run_covers c (fresh_group c n) run (fresh_group_fits c n l a z) (fresh_placed c n) (fresh_given c n) k b r
+groups_cover kinds c n run l a z k b r = run_covers c (fresh_group kinds c n) run (fresh_group_fits kinds c n l a z) (fresh_placed kinds c n) (fresh_given kinds c n) k b r

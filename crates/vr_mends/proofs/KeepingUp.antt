@@ -87,4 +87,4 @@ openings_keep_up = λ s f v k g.
 -- nothing is committed yet
 pub fresh_keep_up : FreshKeepUp
 unfolding blank
-fresh_keep_up cluster n index = λ i. record { next = λ none more. absurd (omega (arith, more)) }
+fresh_keep_up kind cluster n index = λ i. record { next = λ none more. absurd (omega (arith, more)) }

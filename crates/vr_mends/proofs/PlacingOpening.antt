@@ -4,6 +4,7 @@ use Rattle.std.specs.Prelude.{All}
 use Rattle.std.proofs.lemmas.Bool.{true≢false}
 use Rattle.std.proofs.lemmas.List.Elements.{All-append, All-cons, All-head, All-map, All-nil, All-tail}
 use Rattle.vr_apply.specs.declared.state.State.{State}
+use Rattle.vr_base.specs.declared.kind.Kind.{Kind}
 use Rattle.vr_ckpt.specs.declared.table.PayloadTable.{PayloadTable}
 use Rattle.vr_disk.specs.DiskState.{Face, IsFace}
 use Rattle.vr_grid.specs.declared.name.Name.{Name}
@@ -240,9 +241,9 @@ module _ {F : Type 0} (s : Setting F) (face : F → Face) (loads : Loads s face)
 
 -- ---- a new group
 
-pub fresh_in_place : (cluster n index : ℕ) → IsInPlace (fresh cluster n index)
+pub fresh_in_place : (kind : Kind) (cluster n index : ℕ) → IsInPlace (fresh kind cluster n index)
 unfolding blank
-fresh_in_place cluster n index = record {
+fresh_in_place kind cluster n index = record {
   sessions = state_empty.sessions;
   machine = state_empty.machine;
   table = record { sessions = tt; few_sessions = omega arith; keys = tt; few_keys = omega arith };

@@ -1,5 +1,6 @@
 -- A running replica never waits at an op whose entry is here.
 use Rattle.std.specs.Prelude.{ℕ, ◌≡◌, false}
+use Rattle.vr_base.specs.declared.kind.Kind.{Kind}
 use Rattle.vr_msg.specs.declared.event.Event.{Event}
 use Rattle.vr_super.specs.Copies.{IsGood, SuperValue}
 use Rattle.vr_rules.specs.Laws.{HasNames, IsEvent, ReadsHeaders}
@@ -16,7 +17,7 @@ KeepsUp r = is_spent r ≡ false → IsCaughtUp r
 -- ---- so it begins, and so it goes on
 
 abbrev pub FreshKeepUp : Type 0
-FreshKeepUp = (cluster n index : ℕ) → KeepsUp (fresh cluster n index)
+FreshKeepUp = (kind : Kind) (cluster n index : ℕ) → KeepsUp (fresh kind cluster n index)
 
 -- from every value that makes a good copy, whatever headers read
 abbrev pub OpeningsKeepUp : Type 0 → Type 0

@@ -1,5 +1,6 @@
 -- Visits of running replicas find what doesn't read, in every run of a group.
 use Rattle.std.specs.Prelude.{ℕ, ◌^◌, ◌<◌, ◌≤◌, ◌≡◌, List, All, slice_get, Some}
+use Rattle.vr_base.specs.declared.kind.Kind.{Kind}
 use Rattle.vr_disk.specs.DiskState.{IsFace}
 use Rattle.vr_msg.specs.declared.event.Event.{Event}
 use Rattle.vr_rules.specs.Group.{Group, Member, Played, Run, fresh_group}
@@ -23,5 +24,5 @@ AllCover g =
 -- before and after each move of a run of a fresh group, on disks of bytes
 abbrev pub GroupsCover : Type 0
 GroupsCover =
-    (cluster n : ℕ) (run : List Played) → cluster < 2 ^ 64 → 2 ≤ n → n ≤ 6 → All (λ p. IsFitMove p.move) run → All (λ p. IsOfBytes p.move) run
-    → Run (fresh_group cluster n) run → All (λ p. AllCover p.before × AllCover p.moved.group) run
+    (kinds : ℕ → Kind) (cluster n : ℕ) (run : List Played) → cluster < 2 ^ 64 → 2 ≤ n → n ≤ 6 → All (λ p. IsFitMove p.move) run → All (λ p. IsOfBytes p.move) run
+    → Run (fresh_group kinds cluster n) run → All (λ p. AllCover p.before × AllCover p.moved.group) run

@@ -1,6 +1,7 @@
 -- Where the blocks of a replica's checkpoint stand, whatever comes.
 use Rattle.std.specs.Prelude.{ℕ, ◌+◌, ◌<◌, ◌≤◌, ◌≡◌, ◌≢◌, true, false, List, [], ◌∷◌, All, Contains, length}
 use Rattle.vr_base.specs.Bytes.{IsBytes}
+use Rattle.vr_base.specs.declared.kind.Kind.{Kind}
 use Rattle.vr_disk.specs.DiskState.{Face, IsFace}
 use Rattle.vr_grid.specs.declared.name.Name.{Name}
 use Rattle.vr_kv.specs.Kv.{IsKv}
@@ -54,7 +55,7 @@ StaysInPlace r = is_spent r ≡ false → IsInPlace r
 -- So a replica begins, and so it goes on, whatever comes: where its disk, and a block that comes, consist of bytes. And then its blocks are laid
 -- out.
 pub record PlacesStay {F : Type 0} (s : Setting F) (face : F → Face) : Type 0 where
-  pub fresh : (cluster n index : ℕ) → IsInPlace (fresh cluster n index)
+  pub fresh : (kind : Kind) (cluster n index : ℕ) → IsInPlace (fresh kind cluster n index)
   pub openings : (f : F) (v : SuperValue) → IsFace (face f) → IsGood v → StaysInPlace (opening v s (blank v) f).replica
   pub steps : (e : Event) (r : Replica) (f : F) → IsFace (face f) → IsFitReplica r → IsEvent e → IsGivenEvent IsBytes e → StaysInPlace r
       → StaysInPlace (react e s r f).replica
