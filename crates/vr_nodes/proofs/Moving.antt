@@ -2,6 +2,7 @@
 use Rattle.std.proofs.Common.{ℕ, ◌^◌, ◌<◌, ◌≤◌, ◌≡◌, refl, sym, ap, ◌∙◌, subst, false, List, [], ◌∷◌, ◌++◌, Option, Some, None}
 use Rattle.std.specs.Prelude.{slice_get, All, Ok}
 use Rattle.std.proofs.lemmas.List.Elements.{All-nil, All-cons}
+use Rattle.vr_base.specs.declared.kind.Kind.{Kind}
 use Rattle.vr_disk.specs.DiskState.{Disk}
 use Rattle.vr_msg.specs.declared.event.Event.{Event}
 use Rattle.vr_msg.specs.declared.output.Output.{Output}
@@ -132,8 +133,8 @@ runs cluster g (x ∷ xs) w =
       said = ap (λ (os : List Output). os ++ run_outputs rest.run) one.said ∙ ap (λ (os : List Output). puts_out x.deed ++ os) rest.said;
     }
 
-pub one_run : (cluster n : ℕ) (xs : List By) → cluster < 2 ^ 64 → 2 ≤ n → n ≤ 6 → AtWork cluster (fresh_group cluster n) xs → IsOneRun cluster n xs
-one_run cluster n xs number few many w =
-    let r = runs cluster (fresh_group cluster n) xs w in
-    let fit : IsFitRun cluster n r.run = record { number = number; few = few; many = many; moves = r.fits; of_run = r.is } in
+pub one_run : (kinds : ℕ → Kind) (cluster n : ℕ) (xs : List By) → cluster < 2 ^ 64 → 2 ≤ n → n ≤ 6 → AtWork cluster (fresh_group kinds cluster n) xs → IsOneRun cluster n xs
+one_run kinds cluster n xs number few many w =
+    let r = runs cluster (fresh_group kinds cluster n) xs w in
+    let fit : IsFitRun cluster n r.run = record { number = number; few = few; many = many; moves = r.fits; kinds = kinds; of_run = r.is } in
     record { run = r.run; fit = fit; bytes = r.bytes; said = r.said; safe = runs_safe cluster n r.run fit }

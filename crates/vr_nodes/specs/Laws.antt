@@ -1,6 +1,7 @@
 -- Members that run at the same time are one group.
 use Rattle.std.specs.Prelude.{ℕ, ◌^◌, ◌<◌, ◌≤◌, ◌≡◌, List, All}
 use Rattle.vr_agree.specs.Followed.{IsFitRun}
+use Rattle.vr_base.specs.declared.kind.Kind.{Kind}
 use Rattle.vr_rules.specs.Group.{Played, fresh_group}
 use Rattle.vr_rules.specs.Safe.{Safe, run_outputs}
 use Rattle.vr_worlds.specs.Worlds.{IsOfBytes}
@@ -14,6 +15,6 @@ pub record IsOneRun (cluster n : ℕ) (xs : List By) : Type 0 where
   pub said : run_outputs run ≡ all_put_out xs
   pub safe : Safe cluster n run
 
--- from a group of 2 to 6 on whose members were just made
+-- from a group of 2 to 6 on whose members were just made, each on a file of a kind of its own
 abbrev pub NodesAreOneRun : Type 0
-NodesAreOneRun = (cluster n : ℕ) (xs : List By) → cluster < 2 ^ 64 → 2 ≤ n → n ≤ 6 → AtWork cluster (fresh_group cluster n) xs → IsOneRun cluster n xs
+NodesAreOneRun = (kinds : ℕ → Kind) (cluster n : ℕ) (xs : List By) → cluster < 2 ^ 64 → 2 ≤ n → n ≤ 6 → AtWork cluster (fresh_group kinds cluster n) xs → IsOneRun cluster n xs
