@@ -1,6 +1,7 @@
 //! Command lines.
 use std::alloc::{AllocError, Global};
 use std::test::Fail;
+use vr_base::{Kind, Mode};
 use vr_words::{Command, WordsFault, parse};
 
 /// The words between single spaces.
@@ -23,6 +24,8 @@ fn forms_are_commands(rt: HostRuntime) -> Result<(), Fail> {
         "node 5 1 f 2 a b --fresh",
         "node --fresh 5 0 f 2 a b",
         "node 5 0 f 2 a --fresh b",
+        "node 5 1 f 2 a b --fresh --careful",
+        "node --careful 5 1 f 2 a --fresh b",
         "node 18446744073709551615 5 f 0 a b c d e f",
         "client 5 7 3 a b",
         "trial 5 20 f a b c",
@@ -53,6 +56,8 @@ fn other_words_are_none(rt: HostRuntime) -> Result<(), Fail> {
         "node 5 0 f 2 a b c d e f g",
         "node 5 0 f 2 a b --fresh --fresh",
         "node 5 0 f 2 a b --fres",
+        "node 5 0 f 2 a b --careful",
+        "node 5 0 f 2 a b --fresh --careful --careful",
         "client 5 0 3 a b",
         "client 5 7 3 a b --fresh",
         "client 5 7 3 a b -h",
@@ -61,9 +66,38 @@ fn other_words_are_none(rt: HostRuntime) -> Result<(), Fail> {
         "trial 5 020 f a b",
         "trial 18446744073709551616 20 f a b",
         "trial 5 20 f a b --fresh",
+        "trial 5 20 f a b --careful",
         "trial 5 20",
     ] {
         assert!(rt; parse(alloc, words(alloc, line)?.as_slice()) == Err(WordsFault::Usage));
+    }
+    Ok(())
+}
+
+#[test]
+fn a_files_kind_is_read(rt: HostRuntime) -> Result<(), Fail> {
+    let alloc = rt.alloc();
+    for (line, fresh) in [
+        ("node 5 1 f 2 a b", None),
+        (
+            "node 5 1 f 2 a b --fresh",
+            Some(Kind {
+                mode: Mode::Strict,
+                version: 1,
+            }),
+        ),
+        (
+            "node 5 1 f 2 --careful a b --fresh",
+            Some(Kind {
+                mode: Mode::Careful,
+                version: 1,
+            }),
+        ),
+    ] {
+        let Ok(Command::Node(node)) = parse(alloc, words(alloc, line)?.as_slice()) else {
+            return Err(Fail::from("no node"));
+        };
+        assert!(rt; node.fresh == fresh);
     }
     Ok(())
 }
@@ -75,7 +109,7 @@ fn values_are_read(rt: HostRuntime) -> Result<(), Fail> {
     else {
         return Err(Fail::from("no node"));
     };
-    assert!(rt; node.cluster == 5 && node.replica == 1 && node.turns == 2 && node.is_fresh);
+    assert!(rt; node.cluster == 5 && node.replica == 1 && node.turns == 2);
     assert!(rt; node.file.as_str() == "f" && node.peers.len() == 2);
     let Ok(Command::Trial(trial)) = parse(alloc, words(alloc, "trial 5 20 f a b c")?.as_slice())
     else {

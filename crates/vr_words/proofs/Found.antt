@@ -1,10 +1,11 @@
 -- What the words ask for, by what clap finds.
-use Rattle.std.proofs.Common.{◌≡◌, ◌≢◌, ◌∙◌, ◌⊎◌, ℕ, List, [], ◌∷◌, Option, Some, None, length, true, refl, ap, ap₂, sym, inl, inr, if◌then◌else◌, ◌==◌, arith, false, Result, Ok, Err}
+use Rattle.std.proofs.Common.{◌≡◌, ◌≢◌, ◌∙◌, ◌⊎◌, ℕ, List, [], ◌∷◌, Option, Some, None, length, true, refl, ap, ap₂, subst, sym, inl, inr, if◌then◌else◌, ◌==◌, arith, false, Result, Ok, Err}
 use Rattle.std.proofs.lemmas.Grind.{common_steps}
 use Rattle.std.specs.Prelude.{Box, option_and_then, option_map, unwrap_or}
 use Rattle.std.specs.Box.{box_value}
-use Rattle.clap.specs.Simple.{subcommand_rows}
-use Rattle.clap.specs.Words.{HasKind, HasMatchesOf, IsAmong, Kinds, Row, Text, fault_of, is_simple, kind_of, subcommand_of, subcommand_rows_of}
+use Rattle.clap.specs.Faults.{is_simple_and_free}
+use Rattle.clap.specs.Simple.{App, subcommand_rows}
+use Rattle.clap.specs.Words.{FailsBy, HasKind, HasMatchesOf, IsAmong, Kinds, Row, Text, fault_of, is_simple, kind_of, subcommand_of, subcommand_rows_of}
 use Rattle.clap.specs.declared.error.Error.{Error}
 use Rattle.clap.specs.declared.error.kind.ErrorKind.{ErrorKind}
 use Rattle.clap.specs.declared.error.kind.ErrorKind.TheVariants as kind
@@ -19,6 +20,11 @@ use Rattle.vr_words.specs.Forms.{the_command}
 
 simple : is_simple the_command ≡ true
 simple = refl
+
+-- an error of a parse by the command has one of the kinds of its fault
+pub fails_by : (a : App) (words : List Text) (r : Result ArgMatches Error) → a ≡ the_command
+    → (is_simple_and_free a ≡ true → FailsBy (fault_of a words) r) → FailsBy (fault_of the_command words) r
+fails_by a words r is fails = subst (λ (x : App). is_simple_and_free x ≡ true → FailsBy (fault_of x words) r) is fails refl
 
 -- a choice by whether there is a kind of fault
 chosen : {X : Type 0} (kinds : Kinds) (x : Option X) → kinds ≡ [] → (if length kinds == 0 then x else None) ≡ x

@@ -1,10 +1,13 @@
 -- What the words of a command line ask for.
-use Rattle.std.specs.Prelude.{ℕ, List, length, map, Bool, false, ◌&&◌, ◌==◌, nat_le, if◌then◌else◌, Option, Some, None, option_and_then, codes, String, string_bytes}
+use Rattle.std.specs.Prelude.{ℕ, List, length, map, Bool, true, false, ◌&&◌, ◌==◌, nat_le, if◌then◌else◌, Option, Some, None, option_and_then, codes, String, string_bytes}
 use Rattle.std.specs.Borrow.{Bor}
 use Rattle.std.specs.Global.{Global}
 use Rattle.std.specs.Option.{option_map, option_map_or}
 use Rattle.std.specs.Str.{bytes_eq}
 use Rattle.clap.specs.Words.{Row, Text, all_of, fault_of, first_of, subcommand_of}
+use Rattle.vr_base.specs.Kinds.{of_mode}
+use Rattle.vr_base.specs.declared.kind.Kind.{Kind}
+use Rattle.vr_base.specs.declared.mode.Mode.TheVariants.{Careful, Strict}
 use Rattle.vr_sched.specs.Numbers.{number_below, number_of}
 use Rattle.vr_words.specs.Forms.{the_command}
 use Rattle.vr_words.specs.declared.asked.ClientTexts.{ClientTexts}
@@ -23,7 +26,7 @@ pub record NodeAsked : Type 0 where
   pub file : Text
   pub turns : ℕ
   pub peers : List Text
-  pub is_fresh : Bool
+  pub fresh : Option Kind
 
 pub record ClientAsked : Type 0 where
   pub cluster : ℕ
@@ -52,7 +55,7 @@ node_says w = record {
   file = string_bytes w.file;
   turns = w.turns;
   peers = map string_bytes w.peers.items;
-  is_fresh = w.is_fresh;
+  fresh = w.fresh;
 }
 
 abbrev pub client_says : ClientWords → ClientAsked
@@ -80,7 +83,7 @@ node_texts_say t = record {
   file = t.file.now;
   turns = t.turns;
   peers = texts_now t.peers.now;
-  is_fresh = t.is_fresh;
+  fresh = t.fresh;
 }
 
 abbrev pub client_texts_say : ClientTexts → ClientAsked
@@ -105,9 +108,20 @@ is_size n = nat_le 2 n && nat_le n 6
 unfoldable pub peers_at : List Row → Option (List Text)
 peers_at rows = option_and_then (λ peers. if is_size (length peers) then Some peers else None) (all_of (codes "addr") rows)
 
--- whether the flag stands there
-unfoldable pub fresh_at : List Row → Bool
-fresh_at rows = option_map_or (λ text. bytes_eq text (codes "true")) (first_of (codes "fresh") rows) false
+-- whether a flag stands there
+unfoldable pub flag_at : Text → List Row → Bool
+flag_at id rows = option_map_or (λ text. bytes_eq text (codes "true")) (first_of id rows) false
+
+-- what the file is made as, none where it is found again, by whether `--fresh` and `--careful` stand there. The mode of a file is chosen
+-- where it is made: `--careful` alone is no form
+abbrev pub fresh_of : Bool → Bool → Option (Option Kind)
+fresh_of true true = Some (Some (of_mode Careful))
+fresh_of true false = Some (Some (of_mode Strict))
+fresh_of false true = None
+fresh_of false false = Some None
+
+unfoldable pub fresh_at : List Row → Option (Option Kind)
+fresh_at rows = fresh_of (flag_at (codes "fresh") rows) (flag_at (codes "careful") rows)
 
 unfoldable pub soak_at : List Row → Option SoakWords
 soak_at rows =
@@ -121,8 +135,10 @@ member_at peers rows =
     option_and_then
     (λ cluster. option_and_then
     (λ replica. option_and_then
-    (λ file. option_map
-    (λ turns. record { cluster = cluster; replica = replica; file = file; turns = turns; peers = peers; is_fresh = fresh_at rows })
+    (λ file. option_and_then
+    (λ turns. option_map
+    (λ fresh. record { cluster = cluster; replica = replica; file = file; turns = turns; peers = peers; fresh = fresh })
+    (fresh_at rows))
     (number_at (codes "turns") rows))
     (first_of (codes "file") rows))
     (below_at (length peers) (codes "replica") rows))

@@ -16,8 +16,9 @@ addresses = record (wanted (codes "addr")) {
   action = Some Append;
 }
 
-abbrev pub fresh : Rule
-fresh = record (new_rule (codes "fresh")) { long = Some (codes "fresh"); action = Some SetTrue }
+-- a flag
+abbrev pub flag : List ℕ → Rule
+flag id = record (new_rule id) { long = Some id; action = Some SetTrue }
 
 -- a command without help and version
 abbrev pub plain : List ℕ → App
@@ -37,9 +38,12 @@ member = with_rule (with_rule (plain (codes "node")) (wanted (codes "cluster")))
 abbrev pub turning : App
 turning = with_rule (with_rule member (wanted (codes "file"))) (wanted (codes "turns"))
 
--- `node CLUSTER REPLICA FILE TURNS ADDR..` with `--fresh` or not
+abbrev pub placed : App
+placed = with_rule turning addresses
+
+-- `node CLUSTER REPLICA FILE TURNS ADDR..` with `--fresh` or not, with `--careful` or not
 abbrev pub node : App
-node = with_rule (with_rule turning addresses) fresh
+node = with_rule (with_rule placed (flag (codes "fresh"))) (flag (codes "careful"))
 
 abbrev pub asker : App
 asker = with_rule (with_rule (plain (codes "client")) (wanted (codes "cluster"))) (wanted (codes "id"))

@@ -2,11 +2,12 @@
 ghost use Rattle.std.specs.Prelude.{◌≡◌, ◌≤◌, IfOk, IfSome, codes, length, map, string_bytes, true};
 ghost use Rattle.std.specs.Option.{option_map};
 ghost use Rattle.clap.specs.Words.{all_of, first_of, found_of, rows_of};
-ghost use Rattle.vr_words.specs.Asked.{asker_at, below_at, client_at, client_says, client_texts_say, fresh_at, id_at, is_size, member_at, node_at, node_says, node_texts_say, number_at, peers_at, soak_at, texts_now, trial_at, trial_says, trial_texts_say, trier_at};
+ghost use Rattle.vr_words.specs.Asked.{asker_at, below_at, client_at, client_says, client_texts_say, flag_at, fresh_at, id_at, is_size, member_at, node_at, node_says, node_texts_say, number_at, peers_at, soak_at, texts_now, trial_at, trial_says, trial_texts_say, trier_at};
 
 use crate::command::{ClientWords, NodeWords, SoakWords, TrialWords};
 use clap::ArgMatches;
 use std::alloc::{AllocError, Global};
+use vr_base::{Kind, Mode};
 use vr_sched::{read_below, read_number};
 
 /// The text of an argument.
@@ -61,14 +62,28 @@ fn peers_at<'m, 'a>(matches: &'m ArgMatches<'a>) -> Option<&'m [&'a str]>
     }
 }
 
-/// Whether the member is made anew.
-#[tactic(auto, unfolding(crate::specs::Asked::fresh_at))]
-fn fresh_at(matches: &ArgMatches<'_>) -> bool
-    ensures { result ≡ fresh_at (rows_of (found_of matches.now)) }
+/// Whether a flag stands there.
+#[tactic(auto, unfolding(crate::specs::Asked::flag_at))]
+fn flag_at(matches: &ArgMatches<'_>, id: &str) -> bool
+    ensures { result ≡ flag_at id.now (rows_of (found_of matches.now)) }
 {
-    match text_at(matches, "fresh") {
+    match text_at(matches, id) {
         Some(text) => text == "true",
         None => false,
+    }
+}
+
+/// What the file is made as, none where it is found again. The mode of a file is chosen where it is made: `--careful` alone is no
+/// form.
+#[tactic(auto, unfolding(crate::specs::Asked::fresh_at))]
+fn fresh_at(matches: &ArgMatches<'_>) -> Option<Option<Kind>>
+    ensures { result ≡ fresh_at (rows_of (found_of matches.now)) }
+{
+    match (flag_at(matches, "fresh"), flag_at(matches, "careful")) {
+        (true, true) => Some(Some(Kind::of_mode(Mode::Careful))),
+        (true, false) => Some(Some(Kind::of_mode(Mode::Strict))),
+        (false, true) => None,
+        (false, false) => Some(None),
     }
 }
 
@@ -99,7 +114,7 @@ struct NodeTexts<'m, 'a> {
     file: &'a str,
     turns: u64,
     peers: &'m [&'a str],
-    is_fresh: bool,
+    fresh: Option<Kind>,
 }
 
 /// The values of `client`, as they stand on the command line.
@@ -130,13 +145,14 @@ fn member_at<'m, 'a>(matches: &ArgMatches<'a>, peers: &'m [&'a str]) -> Option<N
     let replica = below_at(matches, peers.len() as u64, "replica")? as u8;
     let file = text_at(matches, "file")?;
     let turns = number_at(matches, "turns")?;
+    let fresh = fresh_at(matches)?;
     Some(NodeTexts {
         cluster,
         replica,
         file,
         turns,
         peers,
-        is_fresh: fresh_at(matches),
+        fresh,
     })
 }
 
@@ -224,7 +240,7 @@ pub fn node_at(alloc: Global, matches: &ArgMatches<'_>) -> Result<Option<NodeWor
         file: String::from_str(alloc, texts.file)?,
         turns: texts.turns,
         peers: copied(alloc, texts.peers)?,
-        is_fresh: texts.is_fresh,
+        fresh: texts.fresh,
     }))
 }
 

@@ -1,4 +1,5 @@
 //! What a command line asks for.
+use vr_base::Kind;
 
 /// Why words are no command.
 #[derive(Clone, Copy, Debug, PartialEq, Eq)]
@@ -16,7 +17,7 @@ pub struct SoakWords {
     pub count: u32,
 }
 
-/// `node CLUSTER REPLICA FILE TURNS ADDR..`, with `--fresh` or not.
+/// `node CLUSTER REPLICA FILE TURNS ADDR..`, with `--fresh` and `--careful`, with `--fresh` alone, or with neither.
 #[derive(Debug, Drop, PartialEq, Eq)]
 pub struct NodeWords {
     pub cluster: u64,
@@ -26,7 +27,8 @@ pub struct NodeWords {
     pub turns: u64,
     /// From 2 to 6 addresses.
     pub peers: Vec<String>,
-    pub is_fresh: bool,
+    /// What its file is made as; none where it is found again.
+    pub fresh: Option<Kind>,
 }
 
 /// `client CLUSTER ID TURNS ADDR..`.

@@ -2,7 +2,7 @@
 ghost use Rattle.std.specs.Prelude.{◌≡◌, IfOk, false};
 ghost use Rattle.clap.specs.Words.{app_of, rule_of, with_rule, with_subcommand};
 ghost use Rattle.clap.specs.declared.builder.command.Command.TheViews.{out-Command as fields_of};
-ghost use Rattle.vr_words.specs.Forms.{addresses, asker, asking, client, fresh, member, node, plain, running, soak, the_command, top, trial, trier, turning, wanted};
+ghost use Rattle.vr_words.specs.Forms.{addresses, asker, asking, client, flag, member, node, placed, plain, running, soak, the_command, top, trial, trier, turning, wanted};
 
 use clap::{Arg, ArgAction, Command};
 use std::alloc::{AllocError, Global};
@@ -25,14 +25,12 @@ fn addresses<'a>(alloc: Global) -> Arg<'a>
         .action(ArgAction::Append)
 }
 
-/// The flag of a member that is made anew.
-fn fresh<'a>(alloc: Global) -> Arg<'a>
-    ensures rule { rule_of result ≡ fresh }
+/// A flag.
+fn flag<'a>(alloc: Global, id: &'a str) -> Arg<'a>
+    ensures rule { rule_of result ≡ flag id.entry.now }
     ensures local { result.global ≡ false }
 {
-    Arg::new(alloc, "fresh")
-        .long("fresh")
-        .action(ArgAction::SetTrue)
+    Arg::new(alloc, id).long(id).action(ArgAction::SetTrue)
 }
 
 /// A command without help and version.
@@ -92,13 +90,21 @@ fn turning<'a>(alloc: Global) -> Result<Command<'a>, AllocError>
     with_arg(command, wanted(alloc, "turns"))
 }
 
-/// `node CLUSTER REPLICA FILE TURNS ADDR..` with `--fresh` or not.
+/// Which member it is, with its file, for how long, and among whom.
+fn placed<'a>(alloc: Global) -> Result<Command<'a>, AllocError>
+    ensures app { IfOk result (λ c. app_of c ≡ placed) }
+    ensures local { IfOk result (λ c. (fields_of c).has_globals ≡ false) }
+{
+    with_arg(turning(alloc)?, addresses(alloc))
+}
+
+/// `node CLUSTER REPLICA FILE TURNS ADDR..` with `--fresh` or not, with `--careful` or not.
 fn node<'a>(alloc: Global) -> Result<Command<'a>, AllocError>
     ensures app { IfOk result (λ c. app_of c ≡ node) }
     ensures local { IfOk result (λ c. (fields_of c).has_globals ≡ false) }
 {
-    let command = with_arg(turning(alloc)?, addresses(alloc))?;
-    with_arg(command, fresh(alloc))
+    let command = with_arg(placed(alloc)?, flag(alloc, "fresh"))?;
+    with_arg(command, flag(alloc, "careful"))
 }
 
 /// Which client it is.

@@ -13,6 +13,7 @@ use clap::{ArgMatches, Error};
 use std::alloc::{AllocError, Global};
 
 /// What the words say to `clap`.
+#[tactic(auto, using(crate::proofs::Found::fails_by))]
 fn matches_of<'a>(alloc: Global, words: &'a [String]) -> Result<ArgMatches<'a>, Error>
     ensures fails { FailsBy (fault_of the_command (map string_bytes words.now)) result }
     ensures matches { IfOk result (λ m. HasMatchesOf the_command (map string_bytes words.now) m) }
