@@ -109,6 +109,12 @@ module _ (h : Header) (ok : Bool) (r q : Replica) (d d' : Option Disk) (is : par
         subst (λ (s : Step). LeftBy s q y d'' o o' result) (sym (read_is h there.0 y.face r is (is_found h y.face there.0 there.1 there.2) there.2)) (k.told y (same ∙ e));
   }
 
+  -- the same, where the rest is done from what is the replica by another name
+  pub slot_read_from : (s : Replica) (d'' : Option Disk) (o o' : List Output) (result : Result (Unit {0}) Halt) → s ≡ r → ok ≡ true
+      → Does (reading (header_read h.op) (mend_header h)) s q d' d'' o o' result → Does (visit_slot h.op) r q d d'' o o' result
+  slot_read_from s d'' o o' result e t k =
+      slot_read d'' o o' result t (subst (λ (x : Replica). Does (reading (header_read h.op) (mend_header h)) x q d' d'' o o' result) e k)
+
   pub slot_lost : (o : List Output) → ok ≡ false → q ≡ lost h r → Does (visit_slot h.op) r q d d' o o (Ok tt)
   slot_lost o t e =
       let k : Does (change (lost h)) r q d d' o o (Ok tt) = rw (e, same) (does_change (lost h) r d o) in

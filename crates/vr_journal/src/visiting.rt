@@ -161,7 +161,7 @@ impl Replica {
     }
 
     // The slot of an entry that is stored is looked at.
-    #[tactic(auto, using(crate::proofs::Visits::slot_read, crate::proofs::Visits::slot_lost, crate::proofs::Visits::found_stored, crate::proofs::Visits::found_lost, crate::proofs::Memory::readies))]
+    #[tactic(auto, using(crate::proofs::Visits::slot_lost, crate::proofs::Visits::found_stored, crate::proofs::Visits::found_lost, crate::proofs::Memory::readies))]
     fn visit_stored<D: SectorDisk>(
         &mut self,
         disk: &mut D,

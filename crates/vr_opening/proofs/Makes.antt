@@ -1,5 +1,7 @@
 -- A new member is made on its disk.
+use Rattle.vr_base.specs.Kinds.{of_mode}
 use Rattle.vr_base.specs.declared.kind.Kind.{Kind}
+use Rattle.vr_base.specs.declared.mode.Mode.{Mode}
 use Rattle.std.proofs.Common.{arith, ℕ, ◌≡◌, ◌<◌, ◌≤◌, ◌^◌, ◌∙◌, refl, sym, ap, subst, Bool, true, false, List, Option, Some, None, Ok, Err}
 use Rattle.std.specs.Prelude.{IfSome, is_some}
 use Rattle.vr_base.specs.declared.table.Config.{Config}
@@ -44,19 +46,33 @@ pub fresh_so : (kind : Kind) (cluster n index : ℕ) (r : Replica) → r ≡ fre
 unfolding blank
 fresh_so kind cluster n index r e = e ∙ ap (λ (k : Kind). fresh k cluster n index) (sym (ap (λ (x : Replica). file_kind x.saved.fields) e))
 
-formats_so : (kind : Kind) (c : Config) (r : Replica) (d d' : Option Disk) (ok : Bool) → r ≡ fresh kind c.cluster c.n c.replica → Formats (file_kind r.saved.fields) c d d' ok → Formats kind c d d' ok
+formats_so : (mode : Mode) (c : Config) (r : Replica) (d d' : Option Disk) (ok : Bool) → r ≡ fresh (of_mode mode) c.cluster c.n c.replica → Formats (file_kind r.saved.fields) c d d' ok → Formats (of_mode mode) c d d' ok
 unfolding blank
-formats_so kind c r d d' ok e = subst (λ (k : Kind). Formats k c d d' ok) (ap (λ (x : Replica). file_kind x.saved.fields) e)
+formats_so mode c r d d' ok e = subst (λ (k : Kind). Formats k c d d' ok) (ap (λ (x : Replica). file_kind x.saved.fields) e)
 
-pub made : (kind : Kind) (c : Config) (d d1 d' : Option Disk) (b : Bool) (r : Replica) → Agrees d b → b ≡ false → d1 ≡ d → r ≡ fresh kind c.cluster c.n c.replica → Formats (file_kind r.saved.fields) c d1 d' true → Made kind c d d' (Ok r)
-made kind c d d1 d' b r a e s i h =
-    let f : Formats kind c d1 d' true = formats_so kind c r d1 d' true i h in
+made : (mode : Mode) (c : Config) (d d1 d' : Option Disk) (b : Bool) (r : Replica) → Agrees d b → b ≡ false → d1 ≡ d → r ≡ fresh (of_mode mode) c.cluster c.n c.replica → Formats (file_kind r.saved.fields) c d1 d' true → Made (of_mode mode) c d d' (Ok r)
+made mode c d d1 d' b r a e s i h =
+    let f : Formats (of_mode mode) c d1 d' true = formats_so mode c r d1 d' true i h in
     record { is = (rw e at a, i, rw s at f) }
 
-pub stopped : (kind : Kind) (c : Config) (d d1 d' : Option Disk) (b : Bool) (r : Replica) → Agrees d b → b ≡ false → d1 ≡ d → r ≡ fresh kind c.cluster c.n c.replica → Formats (file_kind r.saved.fields) c d1 d' false → Made kind c d d' (Err DiskFault)
-stopped kind c d d1 d' b r a e s i h =
-    let f : Formats kind c d1 d' false = formats_so kind c r d1 d' false i h in
+stopped : (mode : Mode) (c : Config) (d d1 d' : Option Disk) (b : Bool) (r : Replica) → Agrees d b → b ≡ false → d1 ≡ d → r ≡ fresh (of_mode mode) c.cluster c.n c.replica → Formats (file_kind r.saved.fields) c d1 d' false → Made (of_mode mode) c d d' (Err DiskFault)
+stopped mode c d d1 d' b r a e s i h =
+    let f : Formats (of_mode mode) c d1 d' false = formats_so mode c r d1 d' false i h in
     record { is = (rw e at a, rw s at f) }
+
+-- the value that it formats its disk with
+pub fresh_value : (c : Config) (r : Replica) (v : SuperValue) → v ≡ r.saved → r ≡ fresh (file_kind r.saved.fields) c.cluster c.n c.replica → v ≡ first_value (file_kind v.fields) c.cluster c.n c.replica
+fresh_value c r v s e =
+    s ∙ (fresh_saved (file_kind r.saved.fields) c.cluster c.n c.replica r e ∙ ap (λ (w : SuperValue). first_value (file_kind w.fields) c.cluster c.n c.replica) (sym s))
+
+-- the same two, of a kind by another name
+pub made_of : (kind : Kind) (mode : Mode) (c : Config) (d d1 d' : Option Disk) (b : Bool) (r : Replica) → kind ≡ of_mode mode → Agrees d b → b ≡ false → d1 ≡ d → r ≡ fresh kind c.cluster c.n c.replica
+    → Formats (file_kind r.saved.fields) c d1 d' true → Made (of_mode mode) c d d' (Ok r)
+made_of kind mode c d d1 d' b r k a e s i h = made mode c d d1 d' b r a e s (subst (λ (x : Kind). r ≡ fresh x c.cluster c.n c.replica) k i) h
+
+pub stopped_of : (kind : Kind) (mode : Mode) (c : Config) (d d1 d' : Option Disk) (b : Bool) (r : Replica) → kind ≡ of_mode mode → Agrees d b → b ≡ false → d1 ≡ d → r ≡ fresh kind c.cluster c.n c.replica
+    → Formats (file_kind r.saved.fields) c d1 d' false → Made (of_mode mode) c d d' (Err DiskFault)
+stopped_of kind mode c d d1 d' b r k a e s i h = stopped mode c d d1 d' b r a e s (subst (λ (x : Kind). r ≡ fresh x c.cluster c.n c.replica) k i) h
 
 -- nothing is forgotten of a replica that knows nothing
 fresh_forgets : (kind : Kind) (cluster n index : ℕ) → forgetting (fresh kind cluster n index) ≡ fresh kind cluster n index

@@ -53,7 +53,7 @@ fn make_member(alloc: Global, config: Config, kind: Kind) -> Result<Replica, NoM
 }
 
 // Formats its disk.
-#[tactic(auto, using(crate::proofs::Makes::fresh_saved))]
+#[tactic(auto, using(crate::proofs::Makes::fresh_value))]
 fn write_format<D: SectorDisk>(
     disk: &mut D,
     config: &Config,
@@ -68,7 +68,7 @@ fn write_format<D: SectorDisk>(
 
 /// The replica of a member of a new group, whose disk is formatted for a file of this mode: `Occupied` exactly where two good copies
 /// of a superblock agree, and then nothing is written.
-#[tactic(auto, using(crate::proofs::Makes::occupied, crate::proofs::Makes::wanted, crate::proofs::Makes::fresh_so, crate::proofs::Makes::made, crate::proofs::Makes::stopped))]
+#[tactic(auto, using(crate::proofs::Makes::occupied, crate::proofs::Makes::wanted, crate::proofs::Makes::fresh_so))]
 pub fn fresh<D: SectorDisk>(
     alloc: Global,
     disk: &mut D,

@@ -1,6 +1,7 @@
 //! A replica as its member runs it.
 ghost use Rattle.std.specs.Prelude.{◌≡◌, ◌<◌, [], IfOk, IfSome, OnErr, is_ok, is_some, true};
 ghost use Rattle.vr_base.specs.Groups.{quorums_of};
+ghost use Rattle.vr_base.specs.Kinds.{of_mode};
 ghost use Rattle.vr_disk.specs.Counts.{CountsFault};
 ghost use Rattle.vr_opening.specs.Making.{Made};
 ghost use Rattle.vr_opening.specs.Recovering.{Recovered, RecoveredAny};
@@ -16,7 +17,7 @@ use crate::entries::read_entry;
 use crate::reacting::react;
 use std::alloc::Global;
 use std::marker::Model;
-use vr_base::{Config, NoMemory};
+use vr_base::{Config, Mode, NoMemory};
 use vr_disk::SectorDisk;
 use vr_header::Entry;
 use vr_journal::Replica as Memory;
@@ -44,20 +45,21 @@ impl Model for Replica {
 }
 
 impl Replica {
-    /// The replica of a member of a new group, whose disk is formatted. `Occupied` exactly where two good copies of a superblock agree,
+    /// The replica of a member of a new group, whose disk is formatted for a file of this mode. `Occupied` exactly where two good copies of a superblock agree,
     /// and then nothing is written; `DiskFault` where a call failed; after `NoMemory` nothing was written.
     pub fn fresh<D: SectorDisk>(
         alloc: Global,
         disk: &mut D,
         config: &Config,
+        mode: Mode,
     ) -> Result<Replica, FreshFault>
         requires size { is_some (quorums_of config.now.n) ≡ true }
         requires member { config.now.replica < config.now.n }
         ensures running { IfOk result (λ r. r.running ≡ true) }
         ensures cause { CountsFault FreshFault.DiskFault (D.faults disk.old) (D.faults disk.new) result }
-        ensures made { Made config.now (D.told disk.old) (D.told disk.new) (memory_of result) }
+        ensures made { Made (of_mode mode) config.now (D.told disk.old) (D.told disk.new) (memory_of result) }
     {
-        match vr_opening::fresh(alloc, disk, config) {
+        match vr_opening::fresh(alloc, disk, config, mode) {
             Ok(memory) => Ok(Replica {
                 memory,
                 running: true,
