@@ -1,9 +1,10 @@
 -- How a member ends.
-use Rattle.std.proofs.Common.{◌≡◌, ◌≢◌, ◌≤◌, ◌<◌, ℕ, Bool, true, false, List, [], ◌∷◌, length, get_or, Option, Result, Err, refl, sym, subst, inl, inr, arith}
+use Rattle.std.proofs.Common.{◌≡◌, ◌≢◌, ◌≤◌, ◌<◌, ℕ, true, false, List, [], ◌∷◌, length, get_or, Option, Some, None, Result, Err, refl, sym, subst, inl, inr, arith}
 use Rattle.std.proofs.lemmas.List.{get_or-map}
 use Rattle.std.specs.Global.{Global}
 use Rattle.std.specs.Prelude.{String, string_bytes}
 use Rattle.vr_base.specs.Causes.{one_more}
+use Rattle.vr_base.specs.declared.kind.Kind.{Kind}
 use Rattle.vr_base.specs.declared.table.Config.{Config}
 use Rattle.vr_disk.specs.DiskState.{Attaches, Disk}
 use Rattle.vr_edge.specs.Attaching.{attach_of, texts_of}
@@ -99,7 +100,7 @@ group_later peers member turns first node disk left got taken sent a o' d d' w l
 group_later peers member turns first node disk left got taken sent a o' d d' w l n s h (inr x) =
     inr (x.0, serve_later turns first node disk left got taken sent a a o' d d' w l n s h x.1)
 
-pub opened : (fresh : Bool) (c : Config) (peers : List (List ℕ)) (turns : ℕ) (first : List Output) (node : Node) (disk disk' : Option Disk) (left : Option (List ℕ))
+pub opened : (fresh : Option Kind) (c : Config) (peers : List (List ℕ)) (turns : ℕ) (first : List Output) (node : Node) (disk disk' : Option Disk) (left : Option (List ℕ))
     (got : Option (List Arrival)) (taken : Option (List ℕ)) (sent : Option (List (Option Datagram))) (a : Option (List Attach)) (d d' w l : ℕ) (o' : Outside) (n : Counts) (s : Status)
     → Opens fresh c disk disk' first node.replica.memory → node.replica.running ≡ true → d ≤ d'
     → GroupEnds peers c.replica turns first node (outside disk' left got taken sent a) o' (counts d' w l) n s
@@ -114,7 +115,7 @@ opened fresh c peers turns first node disk disk' left got taken sent a d d' w l 
       ends = group_later peers c.replica turns first node disk' left got taken sent a o' d d' w l n s h e;
     })
 
-pub unopened : (fresh : Bool) (c : Config) (peers : List (List ℕ)) (turns : ℕ) (disk disk' : Option Disk) (left : Option (List ℕ)) (got : Option (List Arrival))
+pub unopened : (fresh : Option Kind) (c : Config) (peers : List (List ℕ)) (turns : ℕ) (disk disk' : Option Disk) (left : Option (List ℕ)) (got : Option (List Arrival))
     (taken : Option (List ℕ)) (sent : Option (List (Option Datagram))) (a : Option (List Attach)) (d d' w l : ℕ) (s : Status)
     → OpensNone fresh c disk disk' s → (s ≡ status.DiskFault → d' ≡ one_more d)
     → EndsAttached fresh c peers turns (outside disk left got taken sent a) (outside disk' left got taken sent a) (counts d w l) (counts d' w l) s
@@ -122,14 +123,14 @@ unopened fresh c peers turns disk disk' left got taken sent a d d' w l s none ro
 
 -- ---- the disk
 
-pub attached : (fresh : Bool) (c : Config) (peers : List (List ℕ)) (turns : ℕ) (disk disk' : Option Disk) (left : Option (List ℕ)) (got : Option (List Arrival))
+pub attached : (fresh : Option Kind) (c : Config) (peers : List (List ℕ)) (turns : ℕ) (disk disk' : Option Disk) (left : Option (List ℕ)) (got : Option (List Arrival))
     (taken : Option (List ℕ)) (sent : Option (List (Option Datagram))) (a : Option (List Attach)) (d d' k l : ℕ) (o' : Outside) (n : Counts) (s : Status)
     → Attaches disk disk' true → d' ≡ d → EndsAttached fresh c peers turns (outside disk' left got taken sent a) o' (counts d' k l) n s
     → NodeEnds fresh c peers turns (outside disk left got taken sent a) o' (counts d k l) n s
 attached fresh c peers turns disk disk' left got taken sent a d d' k l o' n s went same e =
     inr (disk', went, subst (λ x. EndsAttached fresh c peers turns (outside disk' left got taken sent a) o' (counts x k l) n s) same e)
 
-pub unattached : (fresh : Bool) (c : Config) (peers : List (List ℕ)) (turns : ℕ) (disk disk' : Option Disk) (left : Option (List ℕ)) (got : Option (List Arrival))
+pub unattached : (fresh : Option Kind) (c : Config) (peers : List (List ℕ)) (turns : ℕ) (disk disk' : Option Disk) (left : Option (List ℕ)) (got : Option (List Arrival))
     (taken : Option (List ℕ)) (sent : Option (List (Option Datagram))) (a : Option (List Attach)) (d d' k l : ℕ)
     → Attaches disk disk' false → d' ≡ one_more d
     → NodeEnds fresh c peers turns (outside disk left got taken sent a) (outside disk' left got taken sent a) (counts d k l) (counts d' k l) status.DiskFault
@@ -142,13 +143,13 @@ group_link : (peers : List (List ℕ)) (member turns : ℕ) (first : List Output
 group_link peers member turns first node o o' b n (inl x) = record { rose = x.rose; last = inl ([], get_or peers member [], peers, x.attached) }
 group_link peers member turns first node o o' b n (inr x) = record { rose = x.1.0; last = inr x.1.1 }
 
-attached_link : (fresh : Bool) (c : Config) (peers : List (List ℕ)) (turns : ℕ) (o o' : Outside) (b n : Counts)
+attached_link : (fresh : Option Kind) (c : Config) (peers : List (List ℕ)) (turns : ℕ) (o o' : Outside) (b n : Counts)
     → EndsAttached fresh c peers turns o o' b n status.LinkFault → LinkFailure b.link n.link o.attached o'.attached o.got o'.got
-attached_link true c peers turns o o' b n (inl x) = absurd x.why
-attached_link false c peers turns o o' b n (inl x) = absurd x.why
+attached_link (Some kind) c peers turns o o' b n (inl x) = absurd x.why
+attached_link None c peers turns o o' b n (inl x) = absurd x.why
 attached_link fresh c peers turns o o' b n (inr x) = group_link peers c.replica turns x.first x.node (on_disk x.disk o) o' b n x.ends
 
-pub ends_at_link : (fresh : Bool) (c : Config) (peers : List (List ℕ)) (turns : ℕ) (o o' : Outside) (b n : Counts) (s : Status)
+pub ends_at_link : (fresh : Option Kind) (c : Config) (peers : List (List ℕ)) (turns : ℕ) (o o' : Outside) (b n : Counts) (s : Status)
     → EndsAttached fresh c peers turns o o' b n s → s ≡ status.LinkFault → LinkFailure b.link n.link o.attached o'.attached o.got o'.got
 ends_at_link fresh c peers turns o o' b n s e is = attached_link fresh c peers turns o o' b n (subst (λ x. EndsAttached fresh c peers turns o o' b n x) is e)
 
@@ -183,32 +184,32 @@ unopened_disk status.Occupied b n f g = g (λ e. let no : status.Occupied ≡ st
 unopened_disk status.NoAnswer b n f g = g (λ e. let no : status.NoAnswer ≡ status.DiskFault = e in cc)
 unopened_disk status.SpawnFault b n f g = g (λ e. let no : status.SpawnFault ≡ status.DiskFault = e in cc)
 
-pub unopened_writes : (fresh : Bool) (c : Config) (d d' : Option Disk) (s : Status) (n : ℕ) → OpensNone fresh c d d' s → n ≡ writes_after s n
-unopened_writes true c d d' status.Done n h = refl
-unopened_writes true c d d' status.Usage n h = refl
-unopened_writes true c d d' (status.Refused k) n h = refl
-unopened_writes true c d d' status.SessionLost n h = refl
-unopened_writes true c d d' status.ReadFault n h = refl
-unopened_writes true c d d' status.WriteFault n h = absurd h
-unopened_writes true c d d' status.DiskFault n h = refl
-unopened_writes true c d d' status.LinkFault n h = refl
-unopened_writes true c d d' status.SuperLost n h = refl
-unopened_writes true c d d' (status.OtherMember x y) n h = refl
-unopened_writes true c d d' status.NoMemory n h = refl
-unopened_writes true c d d' status.Occupied n h = refl
-unopened_writes true c d d' status.NoAnswer n h = refl
-unopened_writes true c d d' status.SpawnFault n h = refl
-unopened_writes false c d d' status.Done n h = refl
-unopened_writes false c d d' status.Usage n h = refl
-unopened_writes false c d d' (status.Refused k) n h = refl
-unopened_writes false c d d' status.SessionLost n h = refl
-unopened_writes false c d d' status.ReadFault n h = refl
-unopened_writes false c d d' status.WriteFault n h = absurd h
-unopened_writes false c d d' status.DiskFault n h = refl
-unopened_writes false c d d' status.LinkFault n h = refl
-unopened_writes false c d d' status.SuperLost n h = refl
-unopened_writes false c d d' (status.OtherMember x y) n h = refl
-unopened_writes false c d d' status.NoMemory n h = refl
-unopened_writes false c d d' status.Occupied n h = refl
-unopened_writes false c d d' status.NoAnswer n h = refl
-unopened_writes false c d d' status.SpawnFault n h = refl
+pub unopened_writes : (fresh : Option Kind) (c : Config) (d d' : Option Disk) (s : Status) (n : ℕ) → OpensNone fresh c d d' s → n ≡ writes_after s n
+unopened_writes (Some kind) c d d' status.Done n h = refl
+unopened_writes (Some kind) c d d' status.Usage n h = refl
+unopened_writes (Some kind) c d d' (status.Refused k) n h = refl
+unopened_writes (Some kind) c d d' status.SessionLost n h = refl
+unopened_writes (Some kind) c d d' status.ReadFault n h = refl
+unopened_writes (Some kind) c d d' status.WriteFault n h = absurd h
+unopened_writes (Some kind) c d d' status.DiskFault n h = refl
+unopened_writes (Some kind) c d d' status.LinkFault n h = refl
+unopened_writes (Some kind) c d d' status.SuperLost n h = refl
+unopened_writes (Some kind) c d d' (status.OtherMember x y) n h = refl
+unopened_writes (Some kind) c d d' status.NoMemory n h = refl
+unopened_writes (Some kind) c d d' status.Occupied n h = refl
+unopened_writes (Some kind) c d d' status.NoAnswer n h = refl
+unopened_writes (Some kind) c d d' status.SpawnFault n h = refl
+unopened_writes None c d d' status.Done n h = refl
+unopened_writes None c d d' status.Usage n h = refl
+unopened_writes None c d d' (status.Refused k) n h = refl
+unopened_writes None c d d' status.SessionLost n h = refl
+unopened_writes None c d d' status.ReadFault n h = refl
+unopened_writes None c d d' status.WriteFault n h = absurd h
+unopened_writes None c d d' status.DiskFault n h = refl
+unopened_writes None c d d' status.LinkFault n h = refl
+unopened_writes None c d d' status.SuperLost n h = refl
+unopened_writes None c d d' (status.OtherMember x y) n h = refl
+unopened_writes None c d d' status.NoMemory n h = refl
+unopened_writes None c d d' status.Occupied n h = refl
+unopened_writes None c d d' status.NoAnswer n h = refl
+unopened_writes None c d d' status.SpawnFault n h = refl

@@ -1,5 +1,6 @@
 -- A member is made, or found again, on its disk.
-use Rattle.std.specs.Prelude.{◌≡◌, Bool, true, false, List, [], Option, Result, Ok, Err}
+use Rattle.std.specs.Prelude.{◌≡◌, List, [], Option, Some, None, Result, Ok, Err}
+use Rattle.vr_base.specs.declared.kind.Kind.{Kind}
 use Rattle.vr_base.specs.declared.table.Config.{Config}
 use Rattle.vr_disk.specs.DiskState.{Disk}
 use Rattle.vr_msg.specs.declared.output.Output.{Output}
@@ -14,17 +15,17 @@ use Rattle.vr_status.specs.declared.status.Status.TheVariants.{SuperLost, OtherM
 use Rattle.vr_step.specs.declared.halt.Halt.TheVariants as halt
 use Rattle.vr_super.specs.declared.recovering.CopyVerdict.{CopyVerdict}
 
--- the member of a disk, and what its opening puts out: one that is made anew puts out nothing
-abbrev pub Opens : Bool → Config → Option Disk → Option Disk → List Output → Replica → Type 0
-Opens true c d d' first r = Made c d d' (Ok r) × (first ≡ [])
-Opens false c d d' first r = Recovered c d d' [] first (Ok r)
+-- the member of a disk, made anew as a file of this kind, or found again, and what its opening puts out: one that is made puts out nothing
+abbrev pub Opens : Option Kind → Config → Option Disk → Option Disk → List Output → Replica → Type 0
+Opens (Some kind) c d d' first r = Made kind c d d' (Ok r) × (first ≡ [])
+Opens None c d d' first r = Recovered c d d' [] first (Ok r)
 
 -- why there is none: anew, or not
-abbrev pub MakesNone : Config → Option Disk → Option Disk → Status → Type 0
-MakesNone c d d' Occupied = Made c d d' (Err made.Occupied)
-MakesNone c d d' DiskFault = Made c d d' (Err made.DiskFault)
-MakesNone c d d' NoMemory = Made c d d' (Err made.NoMemory)
-MakesNone c d d' _ = ⊥
+abbrev pub MakesNone : Kind → Config → Option Disk → Option Disk → Status → Type 0
+MakesNone kind c d d' Occupied = Made kind c d d' (Err made.Occupied)
+MakesNone kind c d d' DiskFault = Made kind c d d' (Err made.DiskFault)
+MakesNone kind c d d' NoMemory = Made kind c d d' (Err made.NoMemory)
+MakesNone kind c d d' _ = ⊥
 
 abbrev pub FindsNone : Config → Option Disk → Option Disk → Status → Type 0
 FindsNone c d d' SuperLost = (verdicts : List CopyVerdict) × Recovered c d d' [] [] (Err (found.Lost verdicts))
@@ -33,10 +34,10 @@ FindsNone c d d' DiskFault = Recovered c d d' [] [] (Err (found.Halted halt.Disk
 FindsNone c d d' NoMemory = Recovered c d d' [] [] (Err (found.Halted halt.NoMemory))
 FindsNone c d d' _ = ⊥
 
-abbrev pub OpensNone : Bool → Config → Option Disk → Option Disk → Status → Type 0
-OpensNone true c d d' status = MakesNone c d d' status
-OpensNone false c d d' status = FindsNone c d d' status
+abbrev pub OpensNone : Option Kind → Config → Option Disk → Option Disk → Status → Type 0
+OpensNone (Some kind) c d d' status = MakesNone kind c d d' status
+OpensNone None c d d' status = FindsNone c d d' status
 
-abbrev pub Opening : Bool → Config → Option Disk → Option Disk → List Output → Result Running Status → Type 0
+abbrev pub Opening : Option Kind → Config → Option Disk → Option Disk → List Output → Result Running Status → Type 0
 Opening fresh c d d' first (Ok r) = Opens fresh c d d' first r.memory
 Opening fresh c d d' first (Err status) = OpensNone fresh c d d' status

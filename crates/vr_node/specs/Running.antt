@@ -1,6 +1,7 @@
 -- The whole run of a member.
 use Rattle.std.specs.Prelude.{ℕ, ◌≡◌, ◌⊎◌, true, false, Bool, List, [], ◌∷◌, Option, get_or}
 use Rattle.vr_base.specs.Causes.{Rose}
+use Rattle.vr_base.specs.declared.kind.Kind.{Kind}
 use Rattle.vr_base.specs.declared.table.Config.{Config}
 use Rattle.vr_disk.specs.DiskState.{Attaches, Disk}
 use Rattle.vr_edge.specs.Attaching.{attach_of}
@@ -67,7 +68,7 @@ GroupEnds peers member turns first node o o' before now status =
     Unlinked peers member o o' before now status ⊎ (TakesLink peers member true o o' × ServeEnds turns first node o o' before now status)
 
 -- a member that was opened
-pub record Ran (fresh : Bool) (c : Config) (peers : List (List ℕ)) (turns : ℕ) (o o' : Outside) (before now : Counts) (status : Status) : Type 0 where
+pub record Ran (fresh : Option Kind) (c : Config) (peers : List (List ℕ)) (turns : ℕ) (o o' : Outside) (before now : Counts) (status : Status) : Type 0 where
   pub disk : Option Disk
   pub first : List Output
   pub node : Node
@@ -76,7 +77,7 @@ pub record Ran (fresh : Bool) (c : Config) (peers : List (List ℕ)) (turns : �
   pub ends : GroupEnds peers c.replica turns first node (on_disk disk o) o' before now status
 
 -- there is no member to be run: the link isn't attached
-pub record Unopened (fresh : Bool) (c : Config) (o o' : Outside) (before now : Counts) (status : Status) : Type 0 where
+pub record Unopened (fresh : Option Kind) (c : Config) (o o' : Outside) (before now : Counts) (status : Status) : Type 0 where
   pub why : OpensNone fresh c o.disk o'.disk status
   pub rose : status ≡ DiskFault → Rose before.disk now.disk
   pub same : o' ≡ on_disk o'.disk o
@@ -89,12 +90,12 @@ pub record Unattached (o o' : Outside) (before now : Counts) (status : Status) :
   pub same : o' ≡ on_disk o'.disk o
 
 -- how a member ends whose disk is attached
-abbrev pub EndsAttached : Bool → Config → List (List ℕ) → ℕ → Outside → Outside → Counts → Counts → Status → Type 0
+abbrev pub EndsAttached : Option Kind → Config → List (List ℕ) → ℕ → Outside → Outside → Counts → Counts → Status → Type 0
 EndsAttached fresh c peers turns o o' before now status =
     Unopened fresh c o o' before now status ⊎ Ran fresh c peers turns o o' before now status
 
--- How a member of this number ends, made anew or not, whose group has these addresses and that is to serve so many turns: first its disk, then its superblock, then its link, then its events in turn
-abbrev pub NodeEnds : Bool → Config → List (List ℕ) → ℕ → Outside → Outside → Counts → Counts → Status → Type 0
+-- How a member of this number ends, made anew as a file of this kind or found again, whose group has these addresses and that is to serve so many turns: first its disk, then its superblock, then its link, then its events in turn
+abbrev pub NodeEnds : Option Kind → Config → List (List ℕ) → ℕ → Outside → Outside → Counts → Counts → Status → Type 0
 NodeEnds fresh c peers turns o o' before now status =
     Unattached o o' before now status
     ⊎ ((disk : Option Disk) × Attaches o.disk disk true × EndsAttached fresh c peers turns (on_disk disk o) o' before now status)

@@ -1,29 +1,31 @@
 //! A member is made, or found again, on its disk.
-ghost use Rattle.std.specs.Prelude.{◌≡◌, ◌<◌, [], IfOk, is_some, true, false};
+ghost use Rattle.std.specs.Prelude.{◌≡◌, ◌<◌, [], IfOk, None, Some, is_some, true};
 ghost use Rattle.vr_base.specs.Groups.{quorums_of};
 ghost use Rattle.vr_disk.specs.Counts.{CountsFault};
 ghost use Rattle.vr_node.specs.Opening.{Opening};
 
 use std::alloc::Global;
-use vr_base::Config;
+use vr_base::{Config, Kind};
 use vr_disk::SectorDisk;
 use vr_msg::Outbox;
 use vr_replica::{FreshFault, Halt, Refusal, Replica};
 use vr_status::Status;
 
-/// A member that is made anew.
+/// A member that is made anew, on a file of this kind.
+#[tactic(auto, using(crate::proofs::Opened::made_as))]
 fn make_member<D: SectorDisk>(
     alloc: Global,
     disk: &mut D,
     config: &Config,
+    kind: Kind,
 ) -> Result<Replica, Status>
     requires size { is_some (quorums_of config.now.n) ≡ true }
     requires member { config.now.replica < config.now.n }
     ensures running { IfOk result (λ r. r.running ≡ true) }
     ensures cause { CountsFault Status.DiskFault (D.faults disk.old) (D.faults disk.new) result }
-    ensures opened { Opening true config.now (D.told disk.old) (D.told disk.new) [] result }
+    ensures opened { Opening (Some kind) config.now (D.told disk.old) (D.told disk.new) [] result }
 {
-    match Replica::fresh(alloc, disk, config) {
+    match Replica::fresh(alloc, disk, config, kind.mode) {
         Ok(replica) => Ok(replica),
         Err(FreshFault::Occupied) => Err(Status::Occupied),
         Err(FreshFault::DiskFault) => Err(Status::DiskFault),
@@ -41,7 +43,7 @@ fn find_member<D: SectorDisk>(
 ) -> Result<Replica, Status>
     ensures running { IfOk result (λ r. r.running ≡ true) }
     ensures cause { CountsFault Status.DiskFault (D.faults disk.old) (D.faults disk.new) result }
-    ensures opened { Opening false config.now (D.told disk.old) (D.told disk.new) first.new result }
+    ensures opened { Opening None config.now (D.told disk.old) (D.told disk.new) first.new result }
 {
     match Replica::recover(alloc, disk, config, first) {
         Ok(replica) => Ok(replica),
@@ -52,13 +54,13 @@ fn find_member<D: SectorDisk>(
     }
 }
 
-/// The member of this disk, made anew or not, with what its opening puts out; an `Err` is how the run ends.
+/// The member of this disk, made anew as a file of this kind or found again, with what its opening puts out; an `Err` is how the run ends.
 #[tactic(auto, using(crate::proofs::Opened::made_out))]
 pub fn open_member<D: SectorDisk>(
     alloc: Global,
     disk: &mut D,
     config: &Config,
-    is_fresh: bool,
+    fresh: Option<Kind>,
     first: &mut Outbox,
 ) -> Result<Replica, Status>
     requires size { is_some (quorums_of config.now.n) ≡ true }
@@ -66,11 +68,10 @@ pub fn open_member<D: SectorDisk>(
     requires empty { first.old ≡ [] }
     ensures running { IfOk result (λ r. r.running ≡ true) }
     ensures cause { CountsFault Status.DiskFault (D.faults disk.old) (D.faults disk.new) result }
-    ensures opened { Opening is_fresh config.now (D.told disk.old) (D.told disk.new) first.new result }
+    ensures opened { Opening fresh config.now (D.told disk.old) (D.told disk.new) first.new result }
 {
-    if is_fresh {
-        make_member(alloc, disk, config)
-    } else {
-        find_member(alloc, disk, config, first)
+    match fresh {
+        Some(kind) => make_member(alloc, disk, config, kind),
+        None => find_member(alloc, disk, config, first),
     }
 }

@@ -99,7 +99,7 @@ fn open_and_serve<D: SectorDisk, L: Link, C: Clock, K: Sink>(
     requires size { is_some (quorums_of role.now.config.n) ≡ true }
     requires member { role.now.config.replica < role.now.config.n }
     requires peers { role.now.config.n ≤ vec_len role.now.peers }
-    ensures ends { EndsAttached role.now.is_fresh role.now.config (texts_of role.now.peers.items) role.now.turns
+    ensures ends { EndsAttached role.now.fresh role.now.config (texts_of role.now.peers.items) role.now.turns
         (outside (D.told disk.old) (C.left clock.old) (L.received link.old) (K.taken sink.old) (L.sent link.old) (L.attached link.old))
         (outside (D.told disk.new) (C.left clock.new) (L.received link.new) (K.taken sink.new) (L.sent link.new) (L.attached link.new))
         (counts (D.faults disk.old) (K.faults sink.old) (L.faults link.old)) (counts (D.faults disk.new) (K.faults sink.new) (L.faults link.new)) result }
@@ -108,7 +108,7 @@ fn open_and_serve<D: SectorDisk, L: Link, C: Clock, K: Sink>(
     ensures write { K.faults sink.new ≡ writes_after result (K.faults sink.old) }
 {
     let mut first = Seq::new(alloc);
-    match open_member(alloc, disk, &role.config, role.is_fresh, &mut first) {
+    match open_member(alloc, disk, &role.config, role.fresh, &mut first) {
         Ok(replica) => serve_group(
             alloc,
             role,
@@ -137,7 +137,7 @@ pub fn run_node<D: SectorDisk, L: Link, C: Clock, K: Sink>(
     requires size { is_some (quorums_of role.now.config.n) ≡ true }
     requires member { role.now.config.replica < role.now.config.n }
     requires peers { role.now.config.n ≤ vec_len role.now.peers }
-    ensures ends { NodeEnds role.now.is_fresh role.now.config (texts_of role.now.peers.items) role.now.turns
+    ensures ends { NodeEnds role.now.fresh role.now.config (texts_of role.now.peers.items) role.now.turns
         (outside (D.told disk.old) (C.left clock.old) (L.received link.old) (K.taken sink.old) (L.sent link.old) (L.attached link.old))
         (outside (D.told disk.new) (C.left clock.new) (L.received link.new) (K.taken sink.new) (L.sent link.new) (L.attached link.new))
         (counts (D.faults disk.old) (K.faults sink.old) (L.faults link.old)) (counts (D.faults disk.new) (K.faults sink.new) (L.faults link.new)) result }

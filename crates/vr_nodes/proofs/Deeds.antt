@@ -1,8 +1,9 @@
 -- The deeds of a run, however it ended.
-use Rattle.std.proofs.Common.{ℕ, ◌≡◌, inl, inr, refl, sym, ap, ◌∙◌, subst, Bool, List, [], ◌∷◌, ◌++◌, Option}
+use Rattle.std.proofs.Common.{ℕ, ◌≡◌, inl, inr, refl, sym, ap, ◌∙◌, subst, List, [], ◌∷◌, ◌++◌, Option}
 use Rattle.std.specs.Io.KnownBytes.{Appends}
 use Rattle.std.proofs.KnownBytes.{Appends-nil, Appends-trans}
 use Rattle.std.proofs.lemmas.List.{append-nil, append_assoc}
+use Rattle.vr_base.specs.declared.kind.Kind.{Kind}
 use Rattle.vr_base.specs.declared.table.Config.{Config}
 use Rattle.vr_disk.specs.DiskState.{Disk}
 use Rattle.vr_edge.specs.Told.{AppendsFront}
@@ -107,7 +108,7 @@ has_served turns first node o o' b n status.Occupied e = absurd e
 has_served turns first node o o' b n status.NoAnswer e = absurd e
 has_served turns first node o o' b n status.SpawnFault e = absurd e
 
-pub runs_deeds : (fresh : Bool) (c : Config) (peers : List (List ℕ)) (turns : ℕ) (o o' : Outside) (before now : Counts) (s : Status) → Ran fresh c peers turns o o' before now s → HasDeeds fresh c o o'
+pub runs_deeds : (fresh : Option Kind) (c : Config) (peers : List (List ℕ)) (turns : ℕ) (o o' : Outside) (before now : Counts) (s : Status) → Ran fresh c peers turns o o' before now s → HasDeeds fresh c o o'
 runs_deeds fresh c peers turns o o' before now s r =
     let has : Has r.first r.node r.disk o.taken o'.taken =
     elim r.ends [

@@ -1,5 +1,5 @@
 -- What a member did is a move of the group.
-use Rattle.std.proofs.Common.{ℕ, ◌^◌, ◌<◌, ◌≤◌, ◌≡◌, refl, sym, ap, ◌∙◌, subst, false, List, [], ◌∷◌, ◌++◌, Option, Some, None}
+use Rattle.std.proofs.Common.{ℕ, ◌^◌, ◌<◌, ◌≤◌, ◌≡◌, refl, sym, ap, ◌∙◌, subst, List, [], ◌∷◌, ◌++◌, Option, Some, None}
 use Rattle.std.specs.Prelude.{slice_get, All, Ok}
 use Rattle.std.proofs.lemmas.List.Elements.{All-nil, All-cons}
 use Rattle.vr_base.specs.declared.kind.Kind.{Kind}
@@ -62,7 +62,7 @@ one_step g at arrival d did m node there runs reaches does =
 
 -- an opening, with what is known of replica and outputs
 one_opening : (cluster : ℕ) (g : Group) (at : ℕ) (v : SuperValue) (d : Disk) (after : Option Disk) (first : List Output) (r : Replica) (m : Member) → slice_get g.members at ≡ Some m → m.replica ≡ None
-    → MayBeFound g m v d → Opens false (config_at cluster g.n at) (Some d) after first r
+    → MayBeFound g m v d → Opens None (config_at cluster g.n at) (Some d) after first r
     → Moves g (group.Recovers at v (lying_on d)) (after_opening g at m v d first r)
 one_opening cluster g at v d after first r m there stopped may opened =
     let y : Lying = lying_on d in

@@ -1,6 +1,6 @@
 -- Members of a group that run at the same time: all that they did, in one order. What one did is what its program says of it (`run_node`
 -- and `serve`), and two things are asked: of the network, what reaches a member; of a disk, how a member is found again on it.
-use Rattle.std.specs.Prelude.{ℕ, ◌≡◌, ⊤, false, List, [], ◌∷◌, ◌++◌, slice_get, Option, Some, None}
+use Rattle.std.specs.Prelude.{ℕ, ◌≡◌, ⊤, List, [], ◌∷◌, ◌++◌, slice_get, Option, Some, None}
 use Rattle.vr_base.specs.declared.table.Config.{Config}
 use Rattle.vr_disk.specs.DiskState.{Disk, IsFace}
 use Rattle.vr_msg.specs.declared.event.Event.{Event}
@@ -98,7 +98,7 @@ pub data Leads (cluster : ℕ) (g : Group) : By → Moved → Type 0 where
   ended : (at : ℕ) (m : Member) → slice_get g.members at ≡ Some m
       → Leads cluster g (by at Ended) (with_script g at (record m { replica = None }) [] [])
   found : (at : ℕ) (v : SuperValue) (d : Disk) (after : Option Disk) (first : List Output) (r : Replica) (m : Member) → slice_get g.members at ≡ Some m → m.replica ≡ None
-      → MayBeFound g m v d → Opens false (config_at cluster g.n at) (Some d) after first r
+      → MayBeFound g m v d → Opens None (config_at cluster g.n at) (Some d) after first r
       → Leads cluster g (by at (Found v d after first r)) (after_opening g at m v d first r)
   half_found : (at : ℕ) (v : SuperValue) (d : Disk) (effects : ℕ) (m : Member) → slice_get g.members at ≡ Some m → m.replica ≡ None
       → MayBeFound g m v d

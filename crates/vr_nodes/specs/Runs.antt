@@ -1,5 +1,6 @@
 -- What one run of a member's program comes to: an opening, and events that were handled one after the other.
-use Rattle.std.specs.Prelude.{ℕ, ◌++◌, Bool, List, Option}
+use Rattle.std.specs.Prelude.{ℕ, ◌++◌, List, Option}
+use Rattle.vr_base.specs.declared.kind.Kind.{Kind}
 use Rattle.vr_base.specs.declared.table.Config.{Config}
 use Rattle.vr_disk.specs.DiskState.{Disk}
 use Rattle.vr_edge.specs.Told.{AppendsFront}
@@ -14,7 +15,7 @@ use Rattle.vr_node.specs.declared.node.Node.{Node}
 use Rattle.vr_status.specs.declared.status.Status.{Status}
 
 -- It was made or found; each event is a whole step, on the disk that the one before left; and what was written is a front of their text.
-pub record HasDeeds (fresh : Bool) (c : Config) (o o' : Outside) : Type 0 where
+pub record HasDeeds (fresh : Option Kind) (c : Config) (o o' : Outside) : Type 0 where
   pub disk : Option Disk
   pub first : List Output
   pub node : Node
@@ -27,4 +28,4 @@ pub record HasDeeds (fresh : Bool) (c : Config) (o o' : Outside) : Type 0 where
 
 -- so does each run of a member whose disk was attached and that was opened, however it ends
 abbrev pub RunsAreDeeds : Type 0
-RunsAreDeeds = (fresh : Bool) (c : Config) (peers : List (List ℕ)) (turns : ℕ) (o o' : Outside) (before now : Counts) (status : Status) → Ran fresh c peers turns o o' before now status → HasDeeds fresh c o o'
+RunsAreDeeds = (fresh : Option Kind) (c : Config) (peers : List (List ℕ)) (turns : ℕ) (o o' : Outside) (before now : Counts) (status : Status) → Ran fresh c peers turns o o' before now status → HasDeeds fresh c o o'

@@ -1,10 +1,11 @@
 -- Commands, each against its run.
-use Rattle.std.proofs.Common.{◌≡◌, ◌≤◌, ◌<◌, ◌∙◌, zero, suc, ℕ, List, [], ◌∷◌, Bool, true, Option, Some, None, length, map, refl, ap, subst, sym, inl, inr, arith}
+use Rattle.std.proofs.Common.{◌≡◌, ◌≤◌, ◌<◌, ◌∙◌, zero, suc, ℕ, List, [], ◌∷◌, true, Option, Some, None, length, map, refl, ap, subst, sym, inl, inr, arith}
 use Rattle.std.specs.Prelude.{◌≢◌, is_some, string_bytes, vec_len}
 use Rattle.std.proofs.lemmas.Bool.Decides.{nat_tests}
 use Rattle.vr_ask.specs.Asking as ask
 use Rattle.vr_ask.specs.Run as run
 use Rattle.vr_base.specs.Groups.{quorums_of}
+use Rattle.vr_base.specs.declared.kind.Kind.{Kind}
 use Rattle.vr_base.specs.declared.table.Config.{Config}
 use Rattle.vr_node.specs.Running as node
 use Rattle.vr_program.specs.Run.{Comes, Faults, IsGood, Outside, RunEnds, client_of, config_of, counts_of, faults_of, of_client, of_member, of_trial, trial_faults, trial_of}
@@ -65,7 +66,7 @@ pub node_fits : (w : NodeWords) → (config_of (node_says w)).n ≤ vec_len w.pe
 node_fits w = let same : length (map string_bytes w.peers.items) ≡ vec_len w.peers = node_peers w in omega (arith, same)
 
 -- the run of a member in its role is that of its words
-pub by_role : (fresh fresh' : Bool) (c c' : Config) (peers peers' : List (List ℕ)) (turns turns' : ℕ) (o o' : node.Outside) (b n : serve.Counts) (s : Status)
+pub by_role : (fresh fresh' : Option Kind) (c c' : Config) (peers peers' : List (List ℕ)) (turns turns' : ℕ) (o o' : node.Outside) (b n : serve.Counts) (s : Status)
     → fresh ≡ fresh' → c ≡ c' → peers ≡ peers' → turns ≡ turns' → node.NodeEnds fresh c peers turns o o' b n s → node.NodeEnds fresh' c' peers' turns' o o' b n s
 by_role fresh fresh' c c' peers peers' turns turns' o o' b n s f k p t e =
     subst (λ x. node.NodeEnds x c' peers' turns' o o' b n s) f
@@ -115,7 +116,7 @@ by_plan p q o o' b n s same e = subst (λ t. trial.TrialEnds t o o' b n s) same 
 -- ---- what a command comes to
 
 pub serves : (a : NodeAsked) (o o' : Outside) (b n : Faults) (s : Status)
-    → node.NodeEnds a.is_fresh (config_of a) a.peers a.turns (of_member o) (of_member o') (counts_of b) (counts_of n) s → o'.source ≡ o.source → o'.calls ≡ o.calls → Comes (Some (Node a)) o o' b n (Some s)
+    → node.NodeEnds a.fresh (config_of a) a.peers a.turns (of_member o) (of_member o') (counts_of b) (counts_of n) s → o'.source ≡ o.source → o'.calls ≡ o.calls → Comes (Some (Node a)) o o' b n (Some s)
 serves a o o' b n s e u k = (s, refl, record { ends = e; unread = u; calls = k })
 
 pub asks : (a : ClientAsked) (o o' : Outside) (b n : Faults) (s : Status)

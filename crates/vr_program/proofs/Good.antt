@@ -6,6 +6,7 @@ use Rattle.std.specs.Str.{bytes_eq}
 use Rattle.std.proofs.lemmas.Bool.Decides.{nat_tests}
 use Rattle.std.proofs.lemmas.Grind.{common_steps}
 use Rattle.clap.specs.Words.{Row, Text, all_of, fault_of, first_of, subcommand_of}
+use Rattle.vr_base.specs.declared.kind.Kind.{Kind}
 use Rattle.vr_program.specs.Run.{IsGood}
 use Rattle.vr_sched.specs.Numbers.{number_below, number_of}
 use Rattle.vr_words.specs.Asked.{Asked, Client, ClientAsked, Node, NodeAsked, Replay, Soak, asked, asked_at, asker_at, below_at, client_at, fresh_at, id_at, is_size, is_taken, member_at, node_at, number_at, peers_at, soak_at, Trial, TrialAsked, trial_at, trier_at}
@@ -52,12 +53,14 @@ below_text : (bound : ℕ) (x : Option Text) (n : ℕ) → option_and_then (numb
 below_text bound None n e = absurd (cc e)
 below_text bound (Some text) n e = below_some bound (number_of text) n e
 
-member_by : (peers : List Text) (cluster replica : Option ℕ) (file : Option Text) (turns : Option ℕ) (fresh : Bool) (a : NodeAsked)
+member_by : (peers : List Text) (cluster replica : Option ℕ) (file : Option Text) (turns : Option ℕ) (fresh : Option (Option Kind)) (a : NodeAsked)
     → option_and_then
     (λ cluster. option_and_then
     (λ replica. option_and_then
-    (λ file. option_map
-    (λ turns. record { cluster = cluster; replica = replica; file = file; turns = turns; peers = peers; is_fresh = fresh })
+    (λ file. option_and_then
+    (λ turns. option_map
+    (λ fresh. record { cluster = cluster; replica = replica; file = file; turns = turns; peers = peers; fresh = fresh })
+    fresh)
     turns)
     file)
     replica)
@@ -67,8 +70,9 @@ member_by peers None replica file turns fresh a e = absurd (cc e)
 member_by peers (Some c) None file turns fresh a e = absurd (cc e)
 member_by peers (Some c) (Some r) None turns fresh a e = absurd (cc e)
 member_by peers (Some c) (Some r) (Some f) None fresh a e = absurd (cc e)
-member_by peers (Some c) (Some r) (Some f) (Some t) fresh a e =
-    let same : record { cluster = c; replica = r; file = f; turns = t; peers = peers; is_fresh = fresh } ≡ a = cc e in
+member_by peers (Some c) (Some r) (Some f) (Some t) None a e = absurd (cc e)
+member_by peers (Some c) (Some r) (Some f) (Some t) (Some x) a e =
+    let same : record { cluster = c; replica = r; file = f; turns = t; peers = peers; fresh = x } ≡ a = cc e in
     (sym (ap (λ (x : NodeAsked). x.peers) same), ap (λ (x : NodeAsked). Some x.replica) same)
 
 member_good : (peers : List Text) (rows : List Row) (a : NodeAsked) → member_at peers rows ≡ Some a → (a.peers ≡ peers) × (a.replica < length peers)

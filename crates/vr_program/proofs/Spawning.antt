@@ -1,8 +1,9 @@
 -- Where the answer is a fault of the spawner, the spawner had one.
-use Rattle.std.proofs.Common.{◌≡◌, ◌⊎◌, Bool, true, false, ℕ, List, Option, Some, None, inl, inr, subst, refl}
+use Rattle.std.proofs.Common.{◌≡◌, ◌⊎◌, ℕ, List, Option, Some, None, inl, inr, subst, refl}
 use Rattle.vr_ask.specs.Asking as ask
 use Rattle.vr_ask.specs.Run as run
 use Rattle.vr_base.specs.Causes.{Rose}
+use Rattle.vr_base.specs.declared.kind.Kind.{Kind}
 use Rattle.vr_base.specs.declared.table.Config.{Config}
 use Rattle.vr_msg.specs.declared.output.Output.{Output}
 use Rattle.vr_node.specs.Running as node
@@ -23,12 +24,12 @@ group : (peers : List (List ℕ)) (member turns : ℕ) (first : List Output) (m 
 group peers member turns first m o o' b n (inl x) = cc x.is
 group peers member turns first m o o' b n (inr x) = x.1
 
-attached : (fresh : Bool) (c : Config) (peers : List (List ℕ)) (turns : ℕ) (o o' : node.Outside) (b n : serve.Counts) → node.EndsAttached fresh c peers turns o o' b n status.SpawnFault → ⊥
-attached true c peers turns o o' b n (inl x) = x.why
-attached false c peers turns o o' b n (inl x) = x.why
+attached : (fresh : Option Kind) (c : Config) (peers : List (List ℕ)) (turns : ℕ) (o o' : node.Outside) (b n : serve.Counts) → node.EndsAttached fresh c peers turns o o' b n status.SpawnFault → ⊥
+attached (Some kind) c peers turns o o' b n (inl x) = x.why
+attached None c peers turns o o' b n (inl x) = x.why
 attached fresh c peers turns o o' b n (inr x) = group peers c.replica turns x.first x.node (node.on_disk x.disk o) o' b n x.ends
 
-serves : (fresh : Bool) (c : Config) (peers : List (List ℕ)) (turns : ℕ) (o o' : node.Outside) (b n : serve.Counts) → node.NodeEnds fresh c peers turns o o' b n status.SpawnFault → ⊥
+serves : (fresh : Option Kind) (c : Config) (peers : List (List ℕ)) (turns : ℕ) (o o' : node.Outside) (b n : serve.Counts) → node.NodeEnds fresh c peers turns o o' b n status.SpawnFault → ⊥
 serves fresh c peers turns o o' b n (inl x) = cc x.is
 serves fresh c peers turns o o' b n (inr x) = attached fresh c peers turns (node.on_disk x.0 o) o' b n x.2
 
@@ -62,7 +63,7 @@ comes (Soak w) o o' b n x =
     absurd (soaks b.sink n.sink o.sink o'.sink (soak_text w.seed w.count) (subst (λ s. SoakEnds b.sink n.sink o.sink o'.sink (soak_text w.seed w.count) s) same x.2.ends))
 comes (Node a) o o' b n x =
     let same : x.0 ≡ status.SpawnFault = cc x.1 in
-    absurd (serves a.is_fresh (config_of a) a.peers a.turns (of_member o) (of_member o') (counts_of b) (counts_of n) (subst (λ s. node.NodeEnds a.is_fresh (config_of a) a.peers a.turns (of_member o) (of_member o') (counts_of b) (counts_of n) s) same x.2.ends))
+    absurd (serves a.fresh (config_of a) a.peers a.turns (of_member o) (of_member o') (counts_of b) (counts_of n) (subst (λ s. node.NodeEnds a.fresh (config_of a) a.peers a.turns (of_member o) (of_member o') (counts_of b) (counts_of n) s) same x.2.ends))
 comes (Client a) o o' b n x =
     let same : x.0 ≡ status.SpawnFault = cc x.1 in
     absurd (asks (client_of a) a.peers (of_client o) (of_client o') (faults_of b) (faults_of n) (subst (λ s. run.ClientEnds (client_of a) a.peers (of_client o) (of_client o') (faults_of b) (faults_of n) s) same x.2.ends))

@@ -78,7 +78,7 @@ trial_of a = record { client = run.client_with a.cluster 1 (length a.peers) a.tu
 
 -- `node ..`: the run of a member, which reads nothing and starts no program
 pub record Serves (a : NodeAsked) (o o' : Outside) (before now : Faults) (status : Status) : Type 0 where
-  pub ends : node.NodeEnds a.is_fresh (config_of a) a.peers a.turns (of_member o) (of_member o') (counts_of before) (counts_of now) status
+  pub ends : node.NodeEnds a.fresh (config_of a) a.peers a.turns (of_member o) (of_member o') (counts_of before) (counts_of now) status
   pub unread : o'.source ≡ o.source
   pub calls : o'.calls ≡ o.calls
 

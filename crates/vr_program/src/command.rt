@@ -27,7 +27,7 @@ use vr_words::{ClientWords, Command, NodeWords, TrialWords, WordsFault, parse};
 fn role_of(words: NodeWords) -> Role
     requires { IsGood (Node (node_says words)) }
     ensures config { result.config ≡ config_of (node_says words) }
-    ensures others { (result.is_fresh ≡ words.is_fresh) × (result.turns ≡ words.turns) }
+    ensures others { (result.fresh ≡ words.fresh) × (result.turns ≡ words.turns) }
     ensures peers { result.peers ≡ words.peers }
 {
     Role {
@@ -36,7 +36,7 @@ fn role_of(words: NodeWords) -> Role
             replica: words.replica,
             n: words.peers.len() as u8,
         },
-        is_fresh: words.is_fresh,
+        fresh: words.fresh,
         file: words.file,
         turns: words.turns,
         peers: words.peers,
@@ -54,7 +54,7 @@ fn serve_role<K: Sink, D: SectorDisk, L: Link, C: Clock>(
     clock: &mut C,
 ) -> Status
     requires { IsGood (Node (node_says words)) }
-    ensures ends { NodeEnds words.is_fresh (config_of (node_says words)) (node_says words).peers words.turns
+    ensures ends { NodeEnds words.fresh (config_of (node_says words)) (node_says words).peers words.turns
         (member_outside (D.told disk.old) (C.left clock.old) (L.received link.old) (K.taken sink.old) (L.sent link.old) (L.attached link.old))
         (member_outside (D.told disk.new) (C.left clock.new) (L.received link.new) (K.taken sink.new) (L.sent link.new) (L.attached link.new))
         (counts (D.faults disk.old) (K.faults sink.old) (L.faults link.old)) (counts (D.faults disk.new) (K.faults sink.new) (L.faults link.new)) result }

@@ -4,7 +4,7 @@ ghost use Rattle.std.specs.Prelude.{◌≡◌, ◌≤◌, IfOk, vec_len};
 use crate::datagrams::register;
 use std::alloc::{AllocError, Global};
 use std::test::Fail;
-use vr_base::{ByteList, Config};
+use vr_base::{ByteList, Config, Kind, Mode};
 use vr_edge::{Coming, MemClock, MemSink, MemStreams, Piece, StreamScript};
 use vr_mem::MemDisk;
 use vr_node::{Role, run_node};
@@ -25,7 +25,7 @@ fn first_role(alloc: Global) -> Result<Role, AllocError>
     let second = String::from_str(alloc, "tcp:b")?;
     Ok(Role {
         config,
-        is_fresh: true,
+        fresh: Some(Kind::of_mode(Mode::Strict)),
         file: String::from_str(alloc, "f")?,
         turns: 3,
         peers: vec![in alloc; first, second]?,

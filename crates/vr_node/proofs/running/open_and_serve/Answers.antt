@@ -20,10 +20,10 @@ returns-in-Ok-clause-ends g c =
     let sent = g.L.Link.sent c.args.link.now in
     let o' = outside (g.D.SectorDisk.told c.serve_group.new.disk) (g.C.Clock.left c.serve_group.new.clock) (g.L.Link.received c.serve_group.new.link) (g.K.Sink.taken c.serve_group.new.sink) (g.L.Link.sent c.serve_group.new.link) (g.L.Link.attached c.serve_group.new.link) in
     let n = counts (g.D.SectorDisk.faults c.serve_group.new.disk) (g.K.Sink.faults c.serve_group.new.sink) (g.L.Link.faults c.serve_group.new.link) in
-    let opens : Opens role.is_fresh role.config disk disk' first c.new.result.replica.memory =
-    subst (λ (r : Running). Opens role.is_fresh role.config disk disk' first r.memory) (sym c.new.ensures) c.in-Ok.ensures.opened in
+    let opens : Opens role.fresh role.config disk disk' first c.new.result.replica.memory =
+    subst (λ (r : Running). Opens role.fresh role.config disk disk' first r.memory) (sym c.new.ensures) c.in-Ok.ensures.opened in
     let runs : c.new.result.replica.running ≡ true = subst (λ (r : Running). r.running ≡ true) (sym c.new.ensures) c.in-Ok.ensures.running in
-    opened role.is_fresh role.config (texts_of role.peers.items) role.turns first c.new.result disk disk' left got taken sent (g.L.Link.attached c.args.link.now)
+    opened role.fresh role.config (texts_of role.peers.items) role.turns first c.new.result disk disk' left got taken sent (g.L.Link.attached c.args.link.now)
     (g.D.SectorDisk.faults c.args.disk.now) (g.D.SectorDisk.faults c.open_member.new.disk) (g.K.Sink.faults c.args.sink.now) (g.L.Link.faults c.args.link.now)
     o' n c.serve_group.result opens runs c.open_member.ensures.cause.later c.serve_group.ensures.ends
 
@@ -34,4 +34,4 @@ pub returns-in-Err-clause-disk : goal.returns-in-Err-clause-disk
 returns-in-Err-clause-disk g c = unopened_disk c.in-Err.status _ _ c.in-Err.ensures.cause.failed c.in-Err.ensures.cause.spared
 
 pub returns-in-Err-clause-write : goal.returns-in-Err-clause-write
-returns-in-Err-clause-write g c = unopened_writes c.args.role.now.is_fresh _ _ _ c.in-Err.status _ c.in-Err.ensures.opened
+returns-in-Err-clause-write g c = unopened_writes c.args.role.now.fresh _ _ _ c.in-Err.status _ c.in-Err.ensures.opened
