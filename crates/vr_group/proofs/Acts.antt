@@ -6,6 +6,7 @@ use Rattle.std.specs.Option.{option_map_or}
 use Rattle.std.proofs.lemmas.List.FromFn.{map-range_with_len_more}
 use Rattle.std.proofs.lemmas.List.{append-nil}
 use Rattle.std.proofs.lemmas.Option.{slice_get_past, slice_get-get_or}
+use Rattle.vr_base.specs.declared.kind.Kind.{Kind}
 use Rattle.vr_base.specs.declared.memory.NoMemory.{NoMemory}
 use Rattle.vr_msg.specs.declared.event.Event.{Event}
 use Rattle.vr_msg.specs.declared.event.Event.TheVariants as event
@@ -100,14 +101,15 @@ delivered_none w at before e = subst (λ o. HasHappened (delivered hazards w o) 
 pub deliver_nothing : (w : World Lying) (number : ℕ) (before : Outputs) → length w.sent ≡ 0 → HasHappened (happens hazards w (Arrives number)) w w before before
 deliver_nothing w number before e = delivered_none w (number % length w.sent) before (slice_get_past w.sent (number % length w.sent) (omega (arith, e)))
 
-pub begun : (w new : World Lying) (n : ℕ) (before : Outputs) → new ≡ fresh_world hazards n → HasHappened (happens hazards w (Begins n)) w new before before
+pub begun : (w new : World Lying) (kind : Kind) (n : ℕ) (before : Outputs) → new ≡ fresh_world hazards kind n → HasHappened (happens hazards w (Begins kind n)) w new before before
 unfolding numbered
-begun w new n before e = record { world = e; outputs = sym (outputs_none before) }
+begun w new kind n before e = record { world = e; outputs = sym (outputs_none before) }
 
 -- ---- a new group
 
-pub hosts_more : (n k : ℕ) (hs : List (Host Lying)) (h : Host Lying) → hs ≡ map (fresh_host hazards n) (range_with_len 0 k) → h ≡ fresh_host hazards n k → hs ++ h ∷ [] ≡ map (fresh_host hazards n) (range_with_len 0 (k + 1))
-hosts_more n k hs h e f = rw (e, f) (sym (map-range_with_len_more (fresh_host hazards n) 0 k k (omega arith)))
+pub hosts_more : (kind : Kind) (n k : ℕ) (hs : List (Host Lying)) (h : Host Lying) → hs ≡ map (fresh_host hazards kind n) (range_with_len 0 k) → h ≡ fresh_host hazards kind n k
+    → hs ++ h ∷ [] ≡ map (fresh_host hazards kind n) (range_with_len 0 (k + 1))
+hosts_more kind n k hs h e f = rw (e, f) (sym (map-range_with_len_more (fresh_host hazards kind n) 0 k k (omega arith)))
 
 -- the message that is there
 pub letter_is : (w : World Lying) (at : ℕ) (s : Sent) (o : Option Sent) → o ≡ Some s → o ≡ slice_get w.sent at → slice_get w.sent at ≡ Some s

@@ -69,7 +69,7 @@ grows_delivered w None = grows_nothing w
 grows_delivered w (Some s) = grows_at w s.to _
 
 pub grows_one : (w : World Lying) (l : Line) → 0 < w.n → IsLineOf w.n l → Grows w (happens hazards w (happening l))
-grows_one w (line.Cluster n) g of = absurd (let z : w.n ≡ 0 = of.0 in omega arith)
+grows_one w (line.Cluster n mode) g of = absurd (let z : w.n ≡ 0 = of.0 in omega arith)
 grows_one w (line.Request replica request) g of = grows_at w replica _
 grows_one w (line.Deliver number) g of = grows_delivered w _
 grows_one w (line.Tick replica) g of = grows_at w replica _

@@ -2,6 +2,7 @@
 use Rattle.std.proofs.Common.{ℕ, ◌+◌, ◌^◌, ◌<◌, ◌≤◌, ◌≡◌, arith, subst, List, [], ◌∷◌, ◌++◌, length, take, take_all, get_or}
 use Rattle.std.specs.List.{AllByRecursion}
 use Rattle.std.proofs.lemmas.List.{length-map, take_more}
+use Rattle.vr_base.specs.declared.kind.Kind.{Kind}
 use Rattle.vr_lines.specs.Fits.{IsLineOf}
 use Rattle.vr_lines.specs.declared.line.Line.{Line}
 use Rattle.vr_lines.specs.declared.line.Line.TheVariants as line
@@ -15,7 +16,7 @@ use Rattle.vr_group.specs.Headline.{HasAsked, HaveAsked, IsJustMade, LinesKeepOn
 use Rattle.vr_group.specs.Lines.{AreLinesOf, happening, happenings}
 
 line_of : (n : ℕ) (l : Line) → 0 < n → IsLineOf n l → HasAsked l → IsLine (happening l)
-line_of n (line.Cluster m) some of asked = absurd (let z : n ≡ 0 = of.0 in omega (arith, some))
+line_of n (line.Cluster m mode) some of asked = absurd (let z : n ≡ 0 = of.0 in omega (arith, some))
 line_of n (line.Request replica request) some of asked = asked
 line_of n (line.Deliver number) some of asked = tt
 line_of n (line.Tick replica) some of asked = tt
@@ -32,12 +33,12 @@ unfolding AreLinesOf happenings
 lines_of n [] some of asked = tt
 lines_of n (l ∷ ls) some of asked = (line_of n l some of.0 asked.0, lines_of n ls some of.1 asked.1)
 
-pub lines_keep : (n : ℕ) (ls : List Line) → 2 ≤ n → n ≤ 6 → length ls < 2 ^ 60 → AreLinesOf n ls → HaveAsked ls → LinesKeepOneLog n ls
+pub lines_keep : (kind : Kind) (n : ℕ) (ls : List Line) → 2 ≤ n → n ≤ 6 → length ls < 2 ^ 60 → AreLinesOf n ls → HaveAsked ls → LinesKeepOneLog kind n ls
 unfolding happen happenings
-lines_keep n ls few many short of asked names =
+lines_keep kind n ls few many short of asked names =
     let size : length (happenings ls) ≡ length ls = length-map ls happening in
-    let m = schedules_are_runs n (happenings ls) few many (rw size short) (record { lines = lines_of n ls (omega (arith, few)) of asked; names = names }) in
-    keeps n few many (one_log 0 n) (happen hazards (fresh_world hazards n) (happenings ls)) m.0 m.1
+    let m = schedules_are_runs kind n (happenings ls) few many (rw size short) (record { lines = lines_of n ls (omega (arith, few)) of asked; names = names }) in
+    keeps kind n few many (one_log 0 n) (happen hazards (fresh_world hazards kind n) (happenings ls)) m.0 m.1
 
 -- ---- in the midst of lines, each of the first of which has asked
 
@@ -55,5 +56,5 @@ pub asked_all : (ls : List Line) (i : ℕ) → length ls ≤ i → HaveAsked (ta
 asked_all ls i past h = rw (← take_all i ls past) h
 
 -- a group that was just made
-pub just_made : (w : World Lying) (ls : List Line) → AreLinesOf w.n ls → HaveAsked ls → IsJustMade w → length ls < 2 ^ 60 → LinesKeepOneLog w.n ls
-just_made w ls of asked made short = lines_keep w.n ls made.few made.many short of asked
+pub just_made : (kind : Kind) (w : World Lying) (ls : List Line) → AreLinesOf w.n ls → HaveAsked ls → IsJustMade kind w → length ls < 2 ^ 60 → LinesKeepOneLog kind w.n ls
+just_made kind w ls of asked made short = lines_keep kind w.n ls made.few made.many short of asked

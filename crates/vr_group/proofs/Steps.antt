@@ -3,6 +3,7 @@ use Rattle.std.proofs.Common.{ℕ, ◌≡◌, refl, sym, ap, ◌∙◌, true, fa
 use Rattle.std.specs.List.{range_with_len}
 use Rattle.std.specs.Option.{option_map, option_map_or}
 use Rattle.std.specs.Prelude.{OnOk}
+use Rattle.vr_base.specs.declared.kind.Kind.{Kind}
 use Rattle.vr_base.specs.declared.memory.NoMemory.{NoMemory as WantsMemory}
 use Rattle.vr_base.specs.declared.table.Config.{Config}
 use Rattle.vr_disk.specs.DiskState.{Call, Disk, Face, Fate, Front, runs}
@@ -99,19 +100,19 @@ start_lost index d e o o' verdicts h =
 
 -- ---- a new member
 
-pub fresh_made : (config : Config) (r : Replica) (d e : Disk) → IsTold d → lying_in d ≡ blank_lying → d.fate ≡ calm → Made config (Some d) (Some e) (Ok r) → config.cluster ≡ 0
-    → (host_on (Some r) e ≡ fresh_host hazards config.n config.replica) × IsTold e
-fresh_made config r d e t zeros fate h none =
-    let cs = format_calls config.cluster config.n config.replica in
+pub fresh_made : (kind : Kind) (config : Config) (r : Replica) (d e : Disk) → IsTold d → lying_in d ≡ blank_lying → d.fate ≡ calm → Made kind config (Some d) (Some e) (Ok r) → config.cluster ≡ 0
+    → (host_on (Some r) e ≡ fresh_host hazards kind config.n config.replica) × IsTold e
+fresh_made kind config r d e t zeros fate h none =
+    let cs = format_calls kind config.cluster config.n config.replica in
     let ran = h.is.2 in
     let same : e ≡ (runs cs d).disk = let x = ran.0 in cc in
     let w : Went cs d e = subst (λ (e : Disk). Went cs d e) (sym same) (runs_went cs d t (sym ran.1)) in
-    let disk : lying_in e ≡ after_calls blank_lying (format_calls 0 config.n config.replica) = w.lying ∙ ap (λ x. after_calls x cs) zeros ∙ ap (λ k. after_calls blank_lying (format_calls k config.n config.replica)) none in
-    let replica : r ≡ fresh 0 config.n config.replica = h.is.1 ∙ ap (λ k. fresh k config.n config.replica) none in
+    let disk : lying_in e ≡ after_calls blank_lying (format_calls kind 0 config.n config.replica) = w.lying ∙ ap (λ x. after_calls x cs) zeros ∙ ap (λ k. after_calls blank_lying (format_calls kind k config.n config.replica)) none in
+    let replica : r ≡ fresh kind 0 config.n config.replica = h.is.1 ∙ ap (λ k. fresh kind k config.n config.replica) none in
     let fuse : e.fate.fuse ≡ None = w.fuse ∙ ap (λ (t : Fate). burnt (length cs) t.fuse) fate in (
       ap (λ r. let m : Host Lying = record { replica = Some r; disk = lying_in e; fuse = e.fate.fuse } in m) replica
-          ∙ ap (λ x. let m : Host Lying = record { replica = Some (fresh 0 config.n config.replica); disk = x; fuse = e.fate.fuse } in m) disk
-          ∙ ap (λ u. let m : Host Lying = record { replica = Some (fresh 0 config.n config.replica); disk = after_calls blank_lying (format_calls 0 config.n config.replica); fuse = u } in m) fuse,
+          ∙ ap (λ x. let m : Host Lying = record { replica = Some (fresh kind 0 config.n config.replica); disk = x; fuse = e.fate.fuse } in m) disk
+          ∙ ap (λ u. let m : Host Lying = record { replica = Some (fresh kind 0 config.n config.replica); disk = after_calls blank_lying (format_calls kind 0 config.n config.replica); fuse = u } in m) fuse,
       w.told,
     )
 
@@ -166,9 +167,10 @@ none_of (Some r) e = absurd cc
 
 -- ---- a new group
 
-pub begins : (n : ℕ) (hs : List (Host Lying)) (sent : List Sent) → hs ≡ map (fresh_host hazards n) (range_with_len 0 n) → sent ≡ [] → record { n = n; members = hs; sent = sent } ≡ fresh_world hazards n
+pub begins : (kind : Kind) (n : ℕ) (hs : List (Host Lying)) (sent : List Sent) → hs ≡ map (fresh_host hazards kind n) (range_with_len 0 n) → sent ≡ []
+    → record { n = n; members = hs; sent = sent } ≡ fresh_world hazards kind n
 unfolding fresh_world
-begins n hs sent e f = rw (e, f) refl
+begins kind n hs sent e f = rw (e, f) refl
 
 -- ---- the goals of the code
 

@@ -1,6 +1,7 @@
 -- What is so of whatever happens to a group that was just made: there is one log.
 use Rattle.std.specs.Prelude.{ℕ, ◌^◌, ◌<◌, ◌≤◌, ◌≡◌, ⊤, List}
 use Rattle.std.specs.List.{AllByRecursion}
+use Rattle.vr_base.specs.declared.kind.Kind.{Kind}
 use Rattle.vr_header.specs.NoCollision.{NoCollision}
 use Rattle.vr_lines.specs.declared.line.Line.{Line}
 use Rattle.vr_lines.specs.declared.line.Line.TheVariants.{Request}
@@ -10,11 +11,11 @@ use Rattle.vr_unforged.specs.Schedules.{IsHashed}
 use Rattle.vr_one_log.specs.Laws.{KeepsOneLog}
 use Rattle.vr_group.specs.Lines.{happenings}
 
--- a group of 2 to 6 members, as it is made
-pub record IsJustMade (w : World Lying) : Type 0 where
+-- a group of 2 to 6 members, as it is made on files of this kind
+pub record IsJustMade (kind : Kind) (w : World Lying) : Type 0 where
   pub few : 2 ≤ w.n
   pub many : w.n ≤ 6
-  pub fresh : w ≡ fresh_world hazards w.n
+  pub fresh : w ≡ fresh_world hazards kind w.n
 
 -- what the type of a line's request keeps: it can be asked
 abbrev pub HasAsked : Line → Type 0
@@ -24,7 +25,8 @@ HasAsked _ = ⊤
 abbrev pub HaveAsked : List Line → Type 0
 HaveAsked lines = AllByRecursion HasAsked lines
 
--- A group of n members that was just made keeps one log, on disks that lie within their premise, whatever these lines are: where names of what
--- is read, held and written don't collide.
-abbrev pub LinesKeepOneLog : ℕ → List Line → Type 0
-LinesKeepOneLog n lines = NoCollision (IsHashed (fresh_world hazards n) (happenings lines)) → KeepsOneLog n (happen hazards (fresh_world hazards n) (happenings lines))
+-- A group of n members that was just made, on files of this kind, keeps one log, on disks that lie within their premise, whatever these lines
+-- are: where names of what is read, held and written don't collide.
+abbrev pub LinesKeepOneLog : Kind → ℕ → List Line → Type 0
+LinesKeepOneLog kind n lines =
+    NoCollision (IsHashed (fresh_world hazards kind n) (happenings lines)) → KeepsOneLog kind n (happen hazards (fresh_world hazards kind n) (happenings lines))

@@ -1,6 +1,7 @@
 -- What lines say that happens to a group.
 use Rattle.std.specs.Prelude.{ℕ, ◌-◌, List, map}
 use Rattle.std.specs.List.{AllByRecursion}
+use Rattle.vr_base.specs.Kinds.{of_mode}
 use Rattle.vr_lie.specs.declared.fault.Fault.TheVariants as fault
 use Rattle.vr_lines.specs.Fits.{IsLineOf}
 use Rattle.vr_lines.specs.declared.line.Line.{Line}
@@ -8,7 +9,7 @@ use Rattle.vr_lines.specs.declared.line.Line.TheVariants.{Cluster, Request, Deli
 use Rattle.vr_rules.specs.World.{Happening, Begins, Asks, Arrives, Ticks, Stops, Starts, Fuses, Lies}
 
 abbrev pub happening : Line → Happening
-happening (Cluster n) = Begins n
+happening (Cluster n mode) = Begins (of_mode mode) n
 happening (Request replica request) = Asks replica request
 happening (Deliver number) = Arrives number
 happening (Tick replica) = Ticks replica

@@ -1,6 +1,7 @@
 //! What hosts a member of the group.
 ghost use Rattle.std.specs.Prelude.{◌≡◌, ◌-◌, ◌<◌, ◌≤◌, ◌∷◌, [], Some, None, IfOk, OnOk, is_some, true};
 ghost use Rattle.vr_base.specs.Groups.{quorums_of};
+ghost use Rattle.vr_base.specs.Kinds.{of_mode};
 ghost use Rattle.vr_lie.specs.Faults.{IsFault};
 ghost use Rattle.vr_rules.specs.Lying.{hazards};
 ghost use Rattle.vr_rules.specs.World.{fresh_host, handles, lies, starts};
@@ -13,7 +14,7 @@ ghost use Rattle.vr_group.specs.Views.{view_of};
 
 use std::alloc::Global;
 use std::marker::Model;
-use vr_base::{Config, NoMemory};
+use vr_base::{Config, Mode, NoMemory};
 use vr_lie::{Fault, Faulted};
 use vr_lying::HostDisk;
 use vr_msg::{Event, Outbox, Output};
@@ -41,10 +42,10 @@ impl Model for Host {
 }
 
 // The disk of a member of a new group, with its replica.
-fn make_replica(alloc: Global, index: u8, n: u8) -> Result<Host, NoMemory>
+fn make_replica(alloc: Global, index: u8, n: u8, mode: Mode) -> Result<Host, NoMemory>
     requires size { is_some (quorums_of n) ≡ true }
     requires member { index < n }
-    ensures { IfOk result (λ h. h ≡ fresh_host hazards n index) }
+    ensures { IfOk result (λ h. h ≡ fresh_host hazards (of_mode mode) n index) }
 {
     let mut disk = HostDisk::new(alloc)?;
     let config = Config {
@@ -52,7 +53,7 @@ fn make_replica(alloc: Global, index: u8, n: u8) -> Result<Host, NoMemory>
         replica: index,
         n,
     };
-    match Replica::fresh(alloc, &mut disk, &config) {
+    match Replica::fresh(alloc, &mut disk, &config, mode) {
         Ok(replica) => Ok(Host {
             replica: Some(replica),
             disk,
@@ -165,13 +166,13 @@ fn view_on(replica: &Option<Replica>, disk: &mut HostDisk) -> u32
 }
 
 impl Host {
-    /// The member of this index of a new group of `n`.
-    pub fn new(alloc: Global, index: u8, n: u8) -> Result<Host, NoMemory>
+    /// The member of this index of a new group of `n`, on a new file of this mode.
+    pub fn new(alloc: Global, index: u8, n: u8, mode: Mode) -> Result<Host, NoMemory>
         requires size { is_some (quorums_of n) ≡ true }
         requires member { index < n }
-        ensures { IfOk result (λ h. h ≡ fresh_host hazards n index) }
+        ensures { IfOk result (λ h. h ≡ fresh_host hazards (of_mode mode) n index) }
     {
-        make_replica(alloc, index, n)
+        make_replica(alloc, index, n, mode)
     }
 
     /// An event reaches it. Where it is stopped, nothing happens.

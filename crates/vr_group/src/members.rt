@@ -1,6 +1,7 @@
 //! The members of a group, and their messages.
 ghost use Rattle.std.specs.Prelude.{◌≡◌, ◌≤◌, IfOk, OnOk, slice_get};
 ghost use Rattle.std.specs.Option.{option_copied};
+ghost use Rattle.vr_base.specs.Kinds.{of_mode};
 ghost use Rattle.vr_lie.specs.Faults.{IsFault};
 ghost use Rattle.vr_lines.specs.Fits.{IsLineOf};
 ghost use Rattle.vr_rules.specs.Lying.{hazards};
@@ -13,7 +14,7 @@ use crate::hosts::{fuse_at, handle_at, lie_at, make_hosts, start_at, stop_at};
 use crate::outputs::record_outputs;
 use crate::{Host, Letter, Outputs};
 use std::alloc::Global;
-use vr_base::{NoMemory, Seq};
+use vr_base::{Mode, NoMemory, Seq};
 use vr_lie::Fault;
 use vr_lines::Line;
 use vr_msg::Event;
@@ -36,14 +37,14 @@ fn letter_at(sent: &Seq<Letter>, at: usize) -> Option<&Letter>
 impl Members {
     ghost use Rattle.vr_group.specs.Group.{HasHappened, world_of};
 
-    /// A new group.
-    pub fn begin(alloc: Global, n: u8) -> Result<Members, NoMemory>
+    /// A new group, each member on a new file of this mode.
+    pub fn begin(alloc: Global, n: u8, mode: Mode) -> Result<Members, NoMemory>
         requires { (2 ≤ n) × (n ≤ 6) }
-        ensures { IfOk result (λ m. world_of m ≡ fresh_world hazards n) }
+        ensures { IfOk result (λ m. world_of m ≡ fresh_world hazards (of_mode mode) n) }
     {
         Ok(Members {
             n,
-            hosts: make_hosts(alloc, n)?,
+            hosts: make_hosts(alloc, n, mode)?,
             sent: Seq::new(alloc),
         })
     }
@@ -136,8 +137,8 @@ impl Members {
         ensures asked { OnOk result (HasAsked line.now) }
     {
         match line {
-            Line::Cluster(n) => {
-                *self = Members::begin(alloc, *n)?;
+            Line::Cluster { n, mode } => {
+                *self = Members::begin(alloc, *n, *mode)?;
                 Ok(())
             }
             Line::Request { replica, request } => {

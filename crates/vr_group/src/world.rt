@@ -1,5 +1,7 @@
 //! A group of members, and every message that they have sent.
 ghost use Rattle.std.specs.Prelude.{◌≡◌, ◌≤◌, ◌<◌, ◌^◌, ◌++◌, true, false, IfOk, OnOk, OnErr, length};
+ghost use Rattle.vr_base.specs.Kinds.{of_mode};
+ghost use Rattle.vr_base.specs.declared.kind.Kind.{Kind};
 ghost use Rattle.vr_lines.specs.Fits.{IsLineOf};
 ghost use Rattle.vr_rules.specs.Lying.{hazards};
 ghost use Rattle.vr_rules.specs.World.{fresh_world, happen, happens, no_world};
@@ -14,7 +16,7 @@ use crate::members::Members;
 use crate::views::top_view;
 use std::alloc::Global;
 use std::marker::Model;
-use vr_base::{NoMemory, Seq};
+use vr_base::{Mode, NoMemory, Seq};
 use vr_lines::Line;
 
 /// A group of members on disks that lie, and every message that they have sent. It stops where there is no memory for a line,
@@ -68,14 +70,14 @@ impl World {
         }
     }
 
-    /// A new group of `n` members, 2 to 6.
-    pub fn new(alloc: Global, n: u8) -> Result<World, NoMemory>
+    /// A new group of `n` members, 2 to 6, each on a new file of this mode.
+    pub fn new(alloc: Global, n: u8, mode: Mode) -> Result<World, NoMemory>
         requires { (2 ≤ n) × (n ≤ 6) }
-        ensures world { IfOk result (λ w. w.world ≡ fresh_world hazards n) }
+        ensures world { IfOk result (λ w. w.world ≡ fresh_world hazards (of_mode mode) n) }
         ensures live { IfOk result (λ w. w.live ≡ true) }
     {
         Ok(World {
-            members: Members::begin(alloc, n)?,
+            members: Members::begin(alloc, n, mode)?,
             live: true,
         })
     }
@@ -138,8 +140,8 @@ impl World {
         ensures live { OnOk result (self.new.live ≡ true) }
         ensures stopped { OnErr result (self.new.live ≡ false) }
 
-        // Whatever happens to a group that was just made, there is one log.
-        ensures headline { OnOk result (IsJustMade self.old.world → length lines.now < 2 ^ 60 → LinesKeepOneLog self.old.world.n lines.now) }
+        // Whatever happens to a group that was just made, on files of whichever kind, there is one log.
+        ensures headline { OnOk result ((kind : Kind) → IsJustMade kind self.old.world → length lines.now < 2 ^ 60 → LinesKeepOneLog kind self.old.world.n lines.now) }
     {
         self.live = false;
         let mut outputs = Outputs::new(alloc);

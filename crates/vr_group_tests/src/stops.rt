@@ -1,31 +1,46 @@
 //! Stops at one call of a disk after the other.
 use crate::running::{check_end, check_outputs, executed};
 use std::alloc::{AllocError, Global};
+use std::process::Abort;
 use std::test::Fail;
 
 /// All that was written and not synced stays away, all of it is there, all of it is damaged: codes of forty digits 0, 1 and 2.
 const CODES: [u64; 3] = [0, 6_078_832_729_528_464_400, 12_157_665_459_056_928_800];
 
-/// A backup that is stopped at one of the seven calls by which it stores an operation acknowledges it once it is started and asked again.
+/// A backup of a group that begins so is stopped at one of the seven calls by which it stores an operation, by this code. It acknowledges it
+/// once it is started and asked again.
+fn check_stops(rt: &impl Abort, alloc: Global, first: &str, code: u64) -> Result<(), Fail> {
+    for call in 1..8u32 {
+        let row = format!(in alloc;
+            "{first}\nrequest 0 7 0 register\nfuse 1 {call} {code}\ndeliver 0\nstart 1\ndeliver 0\n"
+        )?;
+        let outputs = "send 0 0 1 prepare view 0 op 1 made 0 commit 0\n\
+                       halt 1\n\
+                       start 1 view 0 log_view 0 commit 0\n\
+                       send 1 1 0 prepare_ok view 0 op 1 made 0\n";
+        check_outputs(rt, alloc, row.as_str(), outputs)?;
+    }
+    Ok(())
+}
+
 #[test]
 fn a_stop_at_each_call_of_a_prepare(rt: HostRuntime) -> Result<(), Fail> {
     let alloc = rt.alloc();
     for code in CODES {
-        for call in 1..8u32 {
-            let row = format!(in alloc;
-                "cluster 2\nrequest 0 7 0 register\nfuse 1 {call} {code}\ndeliver 0\nstart 1\ndeliver 0\n"
-            )?;
-            let outputs = "send 0 0 1 prepare view 0 op 1 made 0 commit 0\n\
-                           halt 1\n\
-                           start 1 view 0 log_view 0 commit 0\n\
-                           send 1 1 0 prepare_ok view 0 op 1 made 0\n";
-            check_outputs(&rt, alloc, row.as_str(), outputs)?;
-        }
+        check_stops(&rt, alloc, "cluster 2", code)?;
     }
     let row = "cluster 2\nrequest 0 7 0 register\nfuse 1 8 0\ndeliver 0\n";
     let outputs = "send 0 0 1 prepare view 0 op 1 made 0 commit 0\n\
                    send 1 1 0 prepare_ok view 0 op 1 made 0\n";
     check_outputs(&rt, alloc, row, outputs)
+}
+
+#[test]
+fn a_stop_at_each_call_of_a_prepare_on_careful_files(rt: HostRuntime) -> Result<(), Fail> {
+    for code in CODES {
+        check_stops(&rt, rt.alloc(), "cluster 2 careful", code)?;
+    }
+    Ok(())
 }
 
 /// A replica that is stopped in a save of its superblock is in the view of the old value, or in that of the new one once two copies of

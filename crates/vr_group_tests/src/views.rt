@@ -152,6 +152,36 @@ fn rows_on_disks_put_out_what_is_stated(rt: HostRuntime) -> Result<(), Fail> {
            done\n\
          damage 1 40\n  \
            kept out\n",
+        // On careful files a torn prepare, whose header was never written, isn't denied.
+        "cluster 3 careful\n\
+         request 0 7 0 register\n  \
+           send 0 0 1 prepare view 0 op 1 made 0 commit 0\n  \
+           send 1 0 2 prepare view 0 op 1 made 0 commit 0\n\
+         fuse 1 3 26\n\
+         deliver 0\n  \
+           halt 1\n\
+         start 1\n  \
+           start 1 view 0 log_view 0 commit 0\n\
+         tick 1\ntick 1\ntick 1\ntick 1\n\
+         tick 1\n  \
+           send 2 1 0 start_view_change view 1\n  \
+           send 3 1 2 start_view_change view 1\n\
+         deliver 3\n  \
+           send 4 2 0 start_view_change view 1\n  \
+           send 5 2 1 start_view_change view 1\n  \
+           send 6 2 1 do_view_change view 1 log 0 commit 0 head 0 parts -\n\
+         deliver 6\n  \
+           wait 1 view 1 op 1\n",
+        // Nor may both places of a slot be stale there.
+        "cluster 2 careful\n\
+         request 0 7 0 register\n  \
+           send 0 0 1 prepare view 0 op 1 made 0 commit 0\n\
+         deliver 0\n  \
+           send 1 1 0 prepare_ok view 0 op 1 made 0\n\
+         stale 1 148\n  \
+           done\n\
+         stale 1 81\n  \
+           kept out\n",
     ];
     for row in rows {
         check_row(&rt, alloc, row)?;

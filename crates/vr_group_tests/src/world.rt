@@ -5,14 +5,14 @@ ghost use Rattle.vr_group.specs.Lines.{AreLinesOf};
 use std::alloc::Global;
 use std::process::Abort;
 use std::test::Fail;
-use vr_base::ByteList;
+use vr_base::{ByteList, Mode};
 use vr_group::World;
 use vr_lines::{Line, parse_line};
 
 /// The text of what a group puts out at one line after the other. It goes on.
-fn stepped(rt: &impl Abort, alloc: Global, n: u8, lines: &[&str]) -> Result<ByteList, Fail> {
+fn stepped(rt: &impl Abort, alloc: Global, n: u8, mode: Mode, lines: &[&str]) -> Result<ByteList, Fail> {
     assert!(rt; 2 <= n && n <= 6);
-    let mut world = World::new(alloc, n)?;
+    let mut world = World::new(alloc, n, mode)?;
     let mut text = ByteList::new(alloc);
     for line in lines {
         assert!(rt; world.live() && world.size() == n);
@@ -37,9 +37,9 @@ fn spelled(alloc: Global, n: u8, texts: &[&str]) -> Result<Vec<Line>, Fail>
 }
 
 /// The text of what a group puts out at all lines at once.
-fn run(rt: &impl Abort, alloc: Global, n: u8, texts: &[&str]) -> Result<ByteList, Fail> {
+fn run(rt: &impl Abort, alloc: Global, n: u8, mode: Mode, texts: &[&str]) -> Result<ByteList, Fail> {
     assert!(rt; 2 <= n && n <= 6);
-    let mut world = World::new(alloc, n)?;
+    let mut world = World::new(alloc, n, mode)?;
     let lines = spelled(alloc, n, texts)?;
     assert!(rt; world.live() && world.size() == n);
     let outputs = world.run(alloc, &lines)?;
@@ -51,9 +51,10 @@ fn run(rt: &impl Abort, alloc: Global, n: u8, texts: &[&str]) -> Result<ByteList
 #[test]
 fn a_group_goes_on_line_by_line(rt: HostRuntime) -> Result<(), Fail> {
     let alloc = rt.alloc();
-    let rows: [(u8, &[&str], &str); 2] = [
+    let rows: [(u8, Mode, &[&str], &str); 3] = [
         (
             2,
+            Mode::Strict,
             &[
                 "request 0 7 0 register",
                 "fuse 1 6 0",
@@ -68,6 +69,7 @@ fn a_group_goes_on_line_by_line(rt: HostRuntime) -> Result<(), Fail> {
         ),
         (
             3,
+            Mode::Strict,
             &[
                 "damage 1 0",
                 "damage 1 20",
@@ -76,11 +78,31 @@ fn a_group_goes_on_line_by_line(rt: HostRuntime) -> Result<(), Fail> {
             ],
             "done\ndone\nkept out\nreply 1 client 7 request 0 redirect 0\n",
         ),
+        // A header that is stale and a prepare that is damaged, on careful files.
+        (
+            2,
+            Mode::Careful,
+            &[
+                "request 0 7 0 register",
+                "deliver 0",
+                "stale 1 81",
+                "damage 1 148",
+                "stop 1",
+                "start 1",
+                "deliver 0",
+            ],
+            "send 0 0 1 prepare view 0 op 1 made 0 commit 0\n\
+             send 1 1 0 prepare_ok view 0 op 1 made 0\n\
+             done\n\
+             done\n\
+             start 1 view 0 log_view 0 commit 0\n\
+             send 2 1 0 prepare_ok view 0 op 1 made 0\n",
+        ),
     ];
-    for (n, lines, want) in rows {
-        let text = stepped(&rt, alloc, n, lines)?;
+    for (n, mode, lines, want) in rows {
+        let text = stepped(&rt, alloc, n, mode, lines)?;
         assert_eq!(rt; text.as_slice(), want.as_bytes());
-        let text = run(&rt, alloc, n, lines)?;
+        let text = run(&rt, alloc, n, mode, lines)?;
         assert_eq!(rt; text.as_slice(), want.as_bytes());
     }
     Ok(())

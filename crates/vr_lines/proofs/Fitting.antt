@@ -1,10 +1,11 @@
 -- Each line that is read speaks of the group.
 use Rattle.std.proofs.Common.{◌≡◌, ◌<◌, ◌≤◌, ◌^◌, ℕ, List, [], ◌∷◌, eqb, refl, arith, Option, Some, None}
-use Rattle.std.specs.Prelude.{nat_le, nat_lt, codes, length}
+use Rattle.std.specs.Prelude.{◌&&◌, nat_le, nat_lt, codes, length}
 use Rattle.std.specs.Option.{IfSome, option_map}
 use Rattle.std.specs.Str.{bytes_eq}
-use Rattle.std.proofs.lemmas.Bool.{lt-ltb}
+use Rattle.std.proofs.lemmas.Bool.{and_parts, lt-ltb}
 use Rattle.std.proofs.lemmas.Bool.Decides.{nat_tests}
+use Rattle.vr_base.specs.declared.mode.Mode.TheVariants.{Careful}
 use Rattle.vr_header.specs.declared.operation.Operation.{Operation}
 use Rattle.vr_sched.specs.Grammar as plain
 use Rattle.vr_sched.specs.Grammar.{line_words, asked_by, operation_words, is_fitting}
@@ -14,10 +15,10 @@ use Rattle.vr_sched.specs.declared.request.Asked.{Asked}
 use Rattle.vr_sched.specs.Numbers.{number_below, number_of}
 use Rattle.vr_sched.specs.Words.{only_word, words_of}
 use Rattle.vr_lines.specs.declared.line.Line.{Line}
-use Rattle.vr_lines.specs.declared.line.Line.TheVariants.{Tick, Stop, Start, Fuse, Misdirect}
+use Rattle.vr_lines.specs.declared.line.Line.TheVariants.{Cluster, Tick, Stop, Start, Fuse, Misdirect}
 use Rattle.vr_lines.specs.declared.member.Place.{Place}
 use Rattle.vr_lines.specs.Fits.{IsLineOf}
-use Rattle.vr_lines.specs.Grammar.{call_of, damage_line, fuse_line, fused, longest, lost_words, member_behind, member_line, misdirect_line, misdirected, or_member, parse, place_of, replica_word, sector_of, sector_words, stale_line, start_line, stop_line, tick_line, unread_line, widened}
+use Rattle.vr_lines.specs.Grammar.{call_of, careful_group, careful_line, careful_words, damage_line, fuse_line, fused, longest, lost_words, member_behind, member_line, misdirect_line, misdirected, or_other, other_line, parse, place_of, replica_word, sector_of, sector_words, stale_line, start_line, stop_line, tick_line, unread_line, widened}
 use Rattle.vr_lines.proofs.Answers.{either, through, mapped, it_is, below}
 
 -- ---- lines of clients and the network
@@ -164,17 +165,41 @@ unfolding member_line
 member_fits n [] = tt
 member_fits n (word ∷ words) = behind_fits n word words
 
+-- ---- the line that makes a group on careful files
+
+group_fits : (size mode : List ℕ) → IfSome (careful_group size mode) (IsLineOf 0)
+group_fits size mode =
+    through (IsLineOf 0) (number_below 7 size) _ (λ n e.
+    either (IsLineOf 0) (nat_le 2 n && bytes_eq mode (codes "careful")) (Some (Cluster n Careful)) None
+    (λ t. let most = below 7 size n e in let least = (and_parts (nat_le 2 n) (bytes_eq mode (codes "careful")) t).0 in (refl, grind (arith, nat_tests), omega (arith, most))) (λ t. tt))
+
+sizes_fit : (words : List (List ℕ)) → IfSome (careful_words words) (IsLineOf 0)
+sizes_fit [] = tt
+sizes_fit (size ∷ []) = tt
+sizes_fit (size ∷ mode ∷ []) = group_fits size mode
+sizes_fit (size ∷ mode ∷ more ∷ words) = tt
+
+careful_fits : (words : List (List ℕ)) → IfSome (careful_line words) (IsLineOf 0)
+unfolding careful_line
+careful_fits [] = tt
+careful_fits (word ∷ words) = either (IsLineOf 0) (bytes_eq word (codes "cluster")) (careful_words words) None (λ t. sizes_fit words) (λ t. tt)
+
+other_fits : (n : ℕ) (words : List (List ℕ)) → IfSome (other_line n words) (IsLineOf n)
+other_fits n words =
+    either (IsLineOf n) (eqb n 0) (careful_line words) (member_line n words)
+    (λ e. let none : n ≡ 0 = grind (arith, nat_tests) in rw none (careful_fits words)) (λ e. member_fits n words)
+
 -- ---- all lines
 
-either_fits : (n : ℕ) (o : Option network.Line) (other : Option Line) → IfSome o (IsPlainOf n) → IfSome other (IsLineOf n) → IfSome (or_member o other) (IsLineOf n)
+either_fits : (n : ℕ) (o : Option network.Line) (other : Option Line) → IfSome o (IsPlainOf n) → IfSome other (IsLineOf n) → IfSome (or_other o other) (IsLineOf n)
 either_fits n (Some l) other h k = h
 either_fits n None other h k = k
 
 pub parse_fits : (n : ℕ) (bytes : List ℕ) → IfSome (parse n bytes) (IsLineOf n)
 unfolding parse
 parse_fits n bytes =
-    either (IsLineOf n) (nat_lt longest (length bytes)) None (or_member (plain.parse n bytes) (member_line n (words_of bytes))) (λ e. tt)
-    (λ e. either_fits n (plain.parse n bytes) (member_line n (words_of bytes)) (plain_fits n bytes) (member_fits n (words_of bytes)))
+    either (IsLineOf n) (nat_lt longest (length bytes)) None (or_other (plain.parse n bytes) (other_line n (words_of bytes))) (λ e. tt)
+    (λ e. either_fits n (plain.parse n bytes) (other_line n (words_of bytes)) (plain_fits n bytes) (other_fits n (words_of bytes)))
 
 -- what is longer than every line is none
 pub long_parse : (n : ℕ) (bytes : List ℕ) → longest < length bytes → parse n bytes ≡ None
@@ -184,8 +209,8 @@ long_parse n bytes h = rw (lt-ltb longest (length bytes) h) refl
 pub plain_parsed : (n : ℕ) (bytes : List ℕ) (l : network.Line) → plain.parse n bytes ≡ Some l → IsLineOf n (widened l)
 plain_parsed n bytes l e = it_is (IsPlainOf n) (plain.parse n bytes) l (plain_fits n bytes) e
 
-pub member_parsed : (n : ℕ) (words : List (List ℕ)) (l : Line) → member_line n words ≡ Some l → IsLineOf n l
-member_parsed n words l e = it_is (IsLineOf n) (member_line n words) l (member_fits n words) e
+pub other_parsed : (n : ℕ) (words : List (List ℕ)) (l : Line) → other_line n words ≡ Some l → IsLineOf n l
+other_parsed n words l e = it_is (IsLineOf n) (other_line n words) l (other_fits n words) e
 
 pub parsed_fits : (n : ℕ) (bytes : List ℕ) (l : Line) → parse n bytes ≡ Some l → IsLineOf n l
 parsed_fits n bytes l e = it_is (IsLineOf n) (parse n bytes) l (parse_fits n bytes) e

@@ -5,7 +5,7 @@ use Rattle.vr_lines.specs.declared.line.Line.TheVariants.{Cluster, Request, Deli
 
 -- a line makes a group where there is none, and else speaks of one of n replicas
 abbrev pub IsLineOf : ℕ → Line → Type 0
-IsLineOf n (Cluster m) = (n ≡ 0) × (2 ≤ m) × (m ≤ 6)
+IsLineOf n (Cluster m mode) = (n ≡ 0) × (2 ≤ m) × (m ≤ 6)
 IsLineOf n (Request replica request) = replica < n
 IsLineOf n (Deliver number) = 0 < n
 IsLineOf n (Tick replica) = replica < n

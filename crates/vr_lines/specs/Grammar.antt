@@ -1,7 +1,8 @@
 -- The whole language of schedules, line by line.
-use Rattle.std.specs.Prelude.{ℕ, nat_lt, ◌==◌, List, [], ◌∷◌, length, Option, Some, None, option_and_then, if◌then◌else◌, codes}
+use Rattle.std.specs.Prelude.{ℕ, nat_le, nat_lt, ◌==◌, ◌&&◌, List, [], ◌∷◌, length, Option, Some, None, option_and_then, if◌then◌else◌, codes}
 use Rattle.std.specs.Option.{option_map}
 use Rattle.std.specs.Str.{bytes_eq}
+use Rattle.vr_base.specs.declared.mode.Mode.TheVariants.{Strict, Careful}
 use Rattle.vr_sched.specs.Grammar as plain
 use Rattle.vr_sched.specs.declared.line.Line as network
 use Rattle.vr_sched.specs.declared.line.Line.TheVariants as line
@@ -110,17 +111,38 @@ unfoldable pub member_line : ℕ → List (List ℕ) → Option Line
 member_line n [] = None
 member_line n (word ∷ words) = member_behind n word words
 
+-- ---- the line that makes a group on careful files
+
+-- N from 2 to 6, and `careful`
+abbrev pub careful_group : List ℕ → List ℕ → Option Line
+careful_group size mode =
+    option_and_then (λ n. if nat_le 2 n && bytes_eq mode (codes "careful") then Some (Cluster n Careful) else None) (number_below 7 size)
+
+-- N and its mode behind `cluster`
+abbrev pub careful_words : List (List ℕ) → Option Line
+careful_words (size ∷ mode ∷ []) = careful_group size mode
+careful_words _ = None
+
+-- `cluster N careful`
+unfoldable pub careful_line : List (List ℕ) → Option Line
+careful_line [] = None
+careful_line (word ∷ words) = if bytes_eq word (codes "cluster") then careful_words words else None
+
 -- ---- all lines
 
--- a line of what clients and the network do
+-- a line of what clients and the network do; its group is on strict files
 abbrev pub widened : network.Line → Line
-widened (line.Cluster n) = Cluster n
+widened (line.Cluster n) = Cluster n Strict
 widened (line.Request replica request) = Request replica request
 widened (line.Deliver number) = Deliver number
 
-abbrev pub or_member : Option network.Line → Option Line → Option Line
-or_member (Some l) other = Some (widened l)
-or_member None other = other
+-- a line of no client and not of the network: it makes a group, or speaks of one replica of the group that there is
+abbrev pub other_line : ℕ → List (List ℕ) → Option Line
+other_line n words = if n == 0 then careful_line words else member_line n words
+
+abbrev pub or_other : Option network.Line → Option Line → Option Line
+or_other (Some l) other = Some (widened l)
+or_other None other = other
 
 -- the most bytes that a line has
 abbrev pub longest : ℕ
@@ -128,4 +150,4 @@ longest = plain.longest
 
 -- the line that these bytes spell, without its end, for a group of n replicas; n is 0 before the first line, which makes the group
 unfoldable pub parse : ℕ → List ℕ → Option Line
-parse n bytes = if nat_lt longest (length bytes) then None else or_member (plain.parse n bytes) (member_line n (words_of bytes))
+parse n bytes = if nat_lt longest (length bytes) then None else or_other (plain.parse n bytes) (other_line n (words_of bytes))

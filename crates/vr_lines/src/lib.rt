@@ -1,6 +1,7 @@
 //! The lines of a schedule: what each of them is, and where they end in the pieces of a source.
 #![tactic(auto)]
 
+mod careful;
 mod line;
 mod lines;
 mod member;

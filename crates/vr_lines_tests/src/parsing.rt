@@ -2,6 +2,7 @@
 
 use std::alloc::Global;
 use std::process::Abort;
+use vr_base::Mode;
 use vr_lines::{Line, LineFault, parse_line};
 
 /// What a line of a group of three is read as.
@@ -86,15 +87,32 @@ fn other_lines_are_refused(rt: HostRuntime) {
     }
 }
 
+/// What the first line of a schedule is read as.
+fn begins(rt: &impl Abort, alloc: Global, line: &[u8], want: Result<Line, LineFault>) {
+    assert_eq!(rt; parse_line(alloc, 0, line), want, "at {line:?}");
+}
+
 #[test]
 fn the_first_line_makes_a_group(rt: HostRuntime) {
-    assert_eq!(rt;
-        parse_line(rt.alloc(), 0, b"cluster 3"),
-        Ok(Line::Cluster(3))
-    );
-    assert_eq!(rt;
-        parse_line(rt.alloc(), 0, b"tick 0"),
-        Err(LineFault::NotALine)
-    );
-    refused(&rt, rt.alloc(), b"cluster 3");
+    let alloc = rt.alloc();
+    for (line, n, mode) in [
+        ("cluster 3", 3, Mode::Strict),
+        ("cluster 2 careful", 2, Mode::Careful),
+        ("cluster 6 careful", 6, Mode::Careful),
+    ] {
+        begins(&rt, alloc, line.as_bytes(), Ok(Line::Cluster { n, mode }));
+        refused(&rt, alloc, line.as_bytes());
+    }
+    for line in [
+        "tick 0",
+        "cluster 3  careful",
+        "cluster 3 careful ",
+        "cluster careful 3",
+        "cluster careful",
+        "cluster 3 careful careful",
+        "cluster 3 strict",
+        "cluster 7 careful",
+    ] {
+        begins(&rt, alloc, line.as_bytes(), Err(LineFault::NotALine));
+    }
 }

@@ -4,6 +4,7 @@ use Rattle.std.specs.Prelude.{IsTrue, codes, length, nat_lt}
 use Rattle.std.specs.Option.{IfSome, option_map}
 use Rattle.std.specs.Str.{bytes_eq}
 use Rattle.std.proofs.lemmas.Bool.Decides.{nat_tests}
+use Rattle.vr_base.specs.declared.mode.Mode.TheVariants.{Careful}
 use Rattle.vr_header.specs.Bodies.{IsOperation}
 use Rattle.vr_header.specs.Text.{is_text, text_of}
 use Rattle.vr_header.specs.declared.operation.Operation.{Operation}
@@ -16,9 +17,9 @@ use Rattle.vr_sched.specs.declared.line.Line.TheVariants as line
 use Rattle.vr_sched.specs.declared.request.Asked.{Asked}
 use Rattle.vr_sched.specs.Numbers.{digits_on, number_below, number_of, with_digit}
 use Rattle.vr_sched.specs.Words.{only_word, words_of}
-use Rattle.vr_lines.specs.Grammar.{damage_line, fuse_line, lost_words, longest, member_line, misdirect_line, or_member, parse, replica_word, sector_of, sector_words, stale_line, start_line, stop_line, tick_line, unread_line, widened}
+use Rattle.vr_lines.specs.Grammar.{careful_line, careful_words, damage_line, fuse_line, lost_words, longest, member_line, misdirect_line, or_other, other_line, parse, replica_word, sector_of, sector_words, stale_line, start_line, stop_line, tick_line, unread_line, widened}
 use Rattle.vr_lines.specs.declared.line.Line.{Line}
-use Rattle.vr_lines.specs.declared.line.Line.TheVariants.{Tick, Stop, Start, Fuse, Misdirect}
+use Rattle.vr_lines.specs.declared.line.Line.TheVariants.{Cluster, Tick, Stop, Start, Fuse, Misdirect}
 use Rattle.vr_lines.specs.declared.member.Place.{Place}
 use Rattle.vr_lines.proofs.Answers.{below, either, it_is, mapped, through}
 use Rattle.vr_group.specs.Headline.{HasAsked}
@@ -180,17 +181,32 @@ member_asks n (word ∷ words) =
     (λ e. either HasAsked (bytes_eq word (codes "stop")) (stop_line n words) _ (λ e. replica_asks n words Stop (λ r. tt))
     (λ e. either HasAsked (bytes_eq word (codes "start")) (start_line n words) (lost_words n word words) (λ e. replica_asks n words Start (λ r. tt)) (λ e. lost_asks n word words)))
 
+-- ---- the line that makes a group on careful files
+
+careful_asks : (words : List (List ℕ)) → IfSome (careful_words words) HasAsked
+careful_asks [] = tt
+careful_asks (size ∷ []) = tt
+careful_asks (size ∷ mode ∷ []) = through HasAsked (number_below 7 size) _ (λ n e. either HasAsked _ (Some (Cluster n Careful)) None (λ t. tt) (λ t. tt))
+careful_asks (size ∷ mode ∷ more ∷ words) = tt
+
+other_asks : (n : ℕ) (words : List (List ℕ)) → IfSome (other_line n words) HasAsked
+unfolding careful_line
+other_asks n [] = either HasAsked (eqb n 0) None (member_line n []) (λ t. tt) (λ t. member_asks n [])
+other_asks n (word ∷ words) =
+    either HasAsked (eqb n 0) (careful_line (word ∷ words)) (member_line n (word ∷ words))
+    (λ t. either HasAsked (bytes_eq word (codes "cluster")) (careful_words words) None (λ u. careful_asks words) (λ u. tt)) (λ t. member_asks n (word ∷ words))
+
 -- ---- all lines
 
-either_asks : (o : Option network.Line) (other : Option Line) → IfSome o HasAskedPlain → IfSome other HasAsked → IfSome (or_member o other) HasAsked
+either_asks : (o : Option network.Line) (other : Option Line) → IfSome o HasAskedPlain → IfSome other HasAsked → IfSome (or_other o other) HasAsked
 either_asks (Some l) other h k = h
 either_asks None other h k = k
 
 parse_asks : (n : ℕ) (bytes : List ℕ) → IfSome (parse n bytes) HasAsked
 unfolding parse
 parse_asks n bytes =
-    either HasAsked (nat_lt longest (length bytes)) None (or_member (plain.parse n bytes) (member_line n (words_of bytes))) (λ e. tt)
-    (λ e. either_asks (plain.parse n bytes) (member_line n (words_of bytes)) (plain_fits n bytes) (member_asks n (words_of bytes)))
+    either HasAsked (nat_lt longest (length bytes)) None (or_other (plain.parse n bytes) (other_line n (words_of bytes))) (λ e. tt)
+    (λ e. either_asks (plain.parse n bytes) (other_line n (words_of bytes)) (plain_fits n bytes) (other_asks n (words_of bytes)))
 
 pub parsed_asks : (n : ℕ) (bytes : List ℕ) (l : Line) → parse n bytes ≡ Some l → HasAsked l
 parsed_asks n bytes l e = it_is HasAsked (parse n bytes) l (parse_asks n bytes) e

@@ -5,7 +5,7 @@ use Rattle.std.proofs.lemmas.Bool.{cases_lt, le-ltb}
 use Rattle.vr_lines.specs.Cuts.{lines_of}
 use Rattle.vr_lines.specs.declared.line.Line.{Line}
 use Rattle.vr_lines.specs.declared.line.Line.TheVariants as line
-use Rattle.vr_replay.specs.Schedule.{accepted, begun, limit, line_at, refuses, schedule, schedule_of, with_line}
+use Rattle.vr_replay.specs.Schedule.{accepted, begun, limit, line_at, no_group, refuses, schedule, schedule_of, with_line}
 
 accepted_few : (n number : ℕ) (texts : List (List ℕ)) → number ≤ limit → number + length (accepted n number texts).lines ≤ limit
 unfolding accepted
@@ -14,13 +14,13 @@ accepted_few n number (text ∷ texts) l =
     elim (cases_lt number limit) [
       | inl room ↦
           let rest = accepted_few n (number + 1) texts (omega (arith, room)) in
-          let cases : (o : Option Line) → number + length (option_map_or (λ l. with_line l (accepted n (number + 1) texts)) o (refuses n (number + 1))).lines ≤ limit = elim [ None ↦ omega (arith, l) | Some x ↦ omega (arith, rest) ] in
+          let cases : (o : Option Line) → number + length (option_map_or (λ l. with_line l (accepted n (number + 1) texts)) o (refuses (number + 1))).lines ≤ limit = elim [ None ↦ omega (arith, l) | Some x ↦ omega (arith, rest) ] in
           cases (line_at n number text)
       | inr full ↦ rw (le-ltb number limit full) (omega (arith, l))
     ]
 
 begun_few : (texts : List (List ℕ)) (l : Line) → length (begun texts l).lines ≤ limit
-begun_few texts (line.Cluster n) = let h = accepted_few n 1 texts (omega arith) in omega (arith, h)
+begun_few texts (line.Cluster n mode) = let h = accepted_few n 1 texts (omega arith) in omega (arith, h)
 begun_few texts (line.Request replica request) = omega arith
 begun_few texts (line.Deliver number) = omega arith
 begun_few texts (line.Tick replica) = omega arith
@@ -35,7 +35,7 @@ begun_few texts (line.Misdirect replica sector other) = omega arith
 schedule_few : (texts : List (List ℕ)) → length (schedule texts).lines ≤ limit
 schedule_few [] = omega arith
 schedule_few (text ∷ texts) =
-    let cases : (o : Option Line) → length (option_map_or (begun texts) o (refuses 0 1)).lines ≤ limit = elim [ None ↦ omega arith | Some l ↦ begun_few texts l ] in
+    let cases : (o : Option Line) → length (option_map_or (begun texts) o (no_group (Some 1))).lines ≤ limit = elim [ None ↦ omega arith | Some l ↦ begun_few texts l ] in
     cases (line_at 0 0 text)
 
 pub few_lines : (bytes : List ℕ) → length (schedule_of bytes).lines ≤ limit

@@ -2,6 +2,8 @@
 use Rattle.std.proofs.Common.{List, [], ◌∷◌, ℕ, ◌+◌, ◌<◌, ◌≤◌, ◌≡◌, Bool, true, false, cond, ltb, refl, arith, Option, None, Some}
 use Rattle.std.specs.Prelude.{IfSome}
 use Rattle.std.specs.Option.{option_map_or}
+use Rattle.vr_base.specs.Kinds.{of_mode}
+use Rattle.vr_base.specs.declared.kind.Kind.{Kind}
 use Rattle.vr_lines.specs.Cuts.{lines_of}
 use Rattle.vr_lines.specs.Fits.{IsLineOf}
 use Rattle.vr_lines.specs.Grammar.{parse}
@@ -11,10 +13,10 @@ use Rattle.vr_group.specs.Headline.{HasAsked, HaveAsked}
 use Rattle.vr_group.specs.Lines.{AreLinesOf}
 use Rattle.vr_group.proofs.Headline.{lines_keep}
 use Rattle.vr_replay.specs.Headline.{ScheduleHasOneLog}
-use Rattle.vr_replay.specs.Schedule.{Schedule, accepted, begun, limit, line_at, refuses, schedule, schedule_of, with_line}
+use Rattle.vr_replay.specs.Schedule.{Schedule, accepted, begun, limit, line_at, no_group, of_group, refuses, schedule, schedule_of, with_line}
 use Rattle.vr_replay.proofs.Asked.{parsed_asks}
 use Rattle.vr_replay.proofs.Few.{few_lines}
-use Rattle.vr_replay.proofs.Plays.{line_at_fits, size_kept}
+use Rattle.vr_replay.proofs.Plays.{line_at_fits}
 
 -- what the grammar gives of the lines of a schedule, where a group is made
 record IsRead (s : Schedule) : Type 0 where
@@ -34,7 +36,7 @@ accepted_of : (n number : ℕ) (texts : List (List ℕ)) → AreLinesOf n (accep
 unfolding accepted AreLinesOf
 accepted_of n number [] = tt
 accepted_of n number (text ∷ texts) =
-    let cases : (o : Option Line) → line_at n number text ≡ o → AreLinesOf n (option_map_or (λ l. with_line l (accepted n (number + 1) texts)) o (refuses n (number + 1))).lines =
+    let cases : (o : Option Line) → line_at n number text ≡ o → AreLinesOf n (option_map_or (λ l. with_line l (accepted n (number + 1) texts)) o (refuses (number + 1))).lines =
     elim [ None ↦ λ e. tt | Some l ↦ λ e. (line_at_fits n number text l e, accepted_of n (number + 1) texts) ] in
     cases (line_at n number text) refl
 
@@ -42,45 +44,43 @@ accepted_asked : (n number : ℕ) (texts : List (List ℕ)) → HaveAsked (accep
 unfolding accepted
 accepted_asked n number [] = tt
 accepted_asked n number (text ∷ texts) =
-    let cases : (o : Option Line) → line_at n number text ≡ o → HaveAsked (option_map_or (λ l. with_line l (accepted n (number + 1) texts)) o (refuses n (number + 1))).lines =
+    let cases : (o : Option Line) → line_at n number text ≡ o → HaveAsked (option_map_or (λ l. with_line l (accepted n (number + 1) texts)) o (refuses (number + 1))).lines =
     elim [ None ↦ λ e. tt | Some l ↦ λ e. (asks_at n number text l e, accepted_asked n (number + 1) texts) ] in
     cases (line_at n number text) refl
 
 -- ---- a schedule
 
-none_made : (number : ℕ) → IsRead (refuses 0 number)
+none_made : IsRead (no_group (Some 1))
 unfolding AreLinesOf
-none_made number = record { few = λ some. absurd (omega (arith, some)); many = omega arith; of = tt; asked = tt }
+none_made = record { few = λ some. absurd (omega (arith, some)); many = omega arith; of = tt; asked = tt }
 
-group_made : (n : ℕ) (texts : List (List ℕ)) → 2 ≤ n → n ≤ 6 → IsRead (accepted n 1 texts)
-group_made n texts few many =
-    let size = size_kept n 1 texts in
-    record { few = λ some. rw size few; many = rw size many; of = rw size (accepted_of n 1 texts); asked = accepted_asked n 1 texts }
+group_made : (kind : Kind) (n : ℕ) (texts : List (List ℕ)) → 2 ≤ n → n ≤ 6 → IsRead (of_group kind n (accepted n 1 texts))
+group_made kind n texts few many = record { few = λ some. few; many = many; of = accepted_of n 1 texts; asked = accepted_asked n 1 texts }
 
 first_read : (texts : List (List ℕ)) (l : Line) → IsLineOf 0 l → IsRead (begun texts l)
-first_read texts (line.Cluster n) of = group_made n texts of.1 of.2
-first_read texts (line.Request replica request) of = none_made 1
-first_read texts (line.Deliver number) of = none_made 1
-first_read texts (line.Tick replica) of = none_made 1
-first_read texts (line.Stop replica) of = none_made 1
-first_read texts (line.Start replica) of = none_made 1
-first_read texts (line.Fuse replica call code) of = none_made 1
-first_read texts (line.Damage replica sector) of = none_made 1
-first_read texts (line.Stale replica sector) of = none_made 1
-first_read texts (line.Unread replica sector) of = none_made 1
-first_read texts (line.Misdirect replica sector other) of = none_made 1
+first_read texts (line.Cluster n mode) of = group_made (of_mode mode) n texts of.1 of.2
+first_read texts (line.Request replica request) of = none_made
+first_read texts (line.Deliver number) of = none_made
+first_read texts (line.Tick replica) of = none_made
+first_read texts (line.Stop replica) of = none_made
+first_read texts (line.Start replica) of = none_made
+first_read texts (line.Fuse replica call code) of = none_made
+first_read texts (line.Damage replica sector) of = none_made
+first_read texts (line.Stale replica sector) of = none_made
+first_read texts (line.Unread replica sector) of = none_made
+first_read texts (line.Misdirect replica sector other) of = none_made
 
 schedule_read : (texts : List (List ℕ)) → IsRead (schedule texts)
-schedule_read [] = none_made 1
+schedule_read [] = none_made
 schedule_read (text ∷ texts) =
-    let cases : (o : Option Line) → line_at 0 0 text ≡ o → IsRead (option_map_or (begun texts) o (refuses 0 1)) = elim [ None ↦ λ e. none_made 1 | Some l ↦ λ e. first_read texts l (line_at_fits 0 0 text l e) ] in
+    let cases : (o : Option Line) → line_at 0 0 text ≡ o → IsRead (option_map_or (begun texts) o (no_group (Some 1))) = elim [ None ↦ λ e. none_made | Some l ↦ λ e. first_read texts l (line_at_fits 0 0 text l e) ] in
     cases (line_at 0 0 text) refl
 
 pub schedule_has_one_log : (bytes : List ℕ) → ScheduleHasOneLog (schedule_of bytes)
 schedule_has_one_log bytes some =
     let s = schedule_of bytes in
     let r = schedule_read (lines_of bytes) in
-    lines_keep s.n s.lines (r.few some) r.many (let few = few_lines bytes in omega (arith, few)) r.of r.asked
+    lines_keep s.kind s.n s.lines (r.few some) r.many (let few = few_lines bytes in omega (arith, few)) r.of r.asked
 
 pub headline : (left : Option (List ℕ)) → IfSome left (λ bytes. ScheduleHasOneLog (schedule_of bytes))
 headline None = tt

@@ -2,6 +2,8 @@
 use Rattle.std.proofs.Common.{◌≡◌, ◌<◌, ℕ, ◌+◌, List, [], ◌∷◌, ◌++◌, length, Bool, true, false, cond, ltb, refl, ap, sym, ◌∙◌, arith, append_assoc, length-append, Option, Some, None}
 use Rattle.std.specs.Option.{option_map_or}
 use Rattle.std.proofs.lemmas.List.{append-nil}
+use Rattle.vr_base.specs.Kinds.{of_mode}
+use Rattle.vr_base.specs.declared.kind.Kind.{Kind}
 use Rattle.vr_lines.specs.Fits.{IsLineOf}
 use Rattle.vr_lines.specs.Grammar.{longest, parse}
 use Rattle.vr_lines.specs.declared.line.Line.{Line}
@@ -12,7 +14,7 @@ use Rattle.vr_rules.specs.World.{Happened, World, no_world, fresh_world, happen,
 use Rattle.vr_group.specs.Outputs.{Numbered, numbered}
 use Rattle.vr_group.specs.Lines.{happening, happenings}
 use Rattle.vr_group.proofs.Goings.{Grows, grows_one, numbered_append}
-use Rattle.vr_replay.specs.Schedule.{Schedule, limit, line_at, accepted, begun, so_far, refuses, with_line, put_out}
+use Rattle.vr_replay.specs.Schedule.{Accepted, Schedule, accepted, begun, limit, line_at, no_group, of_group, put_out, refuses, so_far, with_line}
 use Rattle.vr_replay.specs.Playing.{Played, comes, judged, taken, behind, and_then, plays}
 
 pub behind_behind : (a b : List Numbered) (t : Played) → behind a (behind b t) ≡ behind (a ++ b) t
@@ -78,9 +80,9 @@ line_at_fits n number text l e =
     parsed_fits n text l (cases (ltb number limit) e)
 
 -- what a schedule says of lines behind its first
-record Follow (p : Played) (w : World Lying) (s : Schedule) : Type 0 where
-  refused : p.refused ≡ s.refused
-  outputs : p.outputs ≡ numbered (length w.sent) (happen hazards w (happenings s.lines)).outputs
+record Follow (p : Played) (w : World Lying) (a : Accepted) : Type 0 where
+  refused : p.refused ≡ a.refused
+  outputs : p.outputs ≡ numbered (length w.sent) (happen hazards w (happenings a.lines)).outputs
 
 happenings_more : (w : World Lying) (l : Line) (ls : List Line) → (happen hazards w (happenings (l ∷ ls))).outputs ≡ (happens hazards w (happening l)).outputs ++ (happen hazards (happens hazards w (happening l)).world (happenings ls)).outputs
 unfolding happen happenings
@@ -117,7 +119,7 @@ plays_follow : (w : World Lying) (number : ℕ) (texts : List (List ℕ)) → 0 
 unfolding plays taken accepted happen happenings numbered
 plays_follow w number [] some = record { refused = refl; outputs = refl }
 plays_follow w number (text ∷ texts) some =
-    let cases : (o : Option Line) → line_at w.n number text ≡ o → Follow (and_then (judged w number o).refused (judged w number o) (plays (judged w number o).world (judged w number o).number texts)) w (option_map_or (λ l. with_line l (accepted w.n (number + 1) texts)) o (refuses w.n (number + 1))) =
+    let cases : (o : Option Line) → line_at w.n number text ≡ o → Follow (and_then (judged w number o).refused (judged w number o) (plays (judged w number o).world (judged w number o).number texts)) w (option_map_or (λ l. with_line l (accepted w.n (number + 1) texts)) o (refuses (number + 1))) =
     elim [
       | None ↦ λ e. record { refused = refl; outputs = refl }
       | Some l ↦ λ e.
@@ -127,46 +129,40 @@ plays_follow w number (text ∷ texts) some =
     ] in
     cases (line_at w.n number text) refl
 
-pub size_kept : (n number : ℕ) (texts : List (List ℕ)) → (accepted n number texts).n ≡ n
-unfolding accepted
-size_kept n number [] = refl
-size_kept n number (text ∷ texts) =
-    let cases : (o : Option Line) → (option_map_or (λ l. with_line l (accepted n (number + 1) texts)) o (refuses n (number + 1))).n ≡ n = elim [ None ↦ refl | Some l ↦ size_kept n (number + 1) texts ] in
-    cases (line_at n number text)
-
 -- what a whole schedule says of its lines
 pub record Shows (p : Played) (s : Schedule) : Type 0 where
   pub refused : p.refused ≡ s.refused
   pub outputs : p.outputs ≡ put_out s
 
-fresh_size : (n : ℕ) → (fresh_world hazards n).n ≡ n
+fresh_size : (kind : Kind) (n : ℕ) → (fresh_world hazards kind n).n ≡ n
 unfolding fresh_world
-fresh_size n = refl
+fresh_size kind n = refl
 
-positive : (n : ℕ) → 0 < n → 0 < (fresh_world hazards n).n
+positive : (kind : Kind) (n : ℕ) → 0 < n → 0 < (fresh_world hazards kind n).n
 unfolding fresh_world
-positive n h = h
+positive kind n h = h
 
-fresh_sent : (n : ℕ) → length (fresh_world hazards n).sent ≡ 0
+fresh_sent : (kind : Kind) (n : ℕ) → length (fresh_world hazards kind n).sent ≡ 0
 unfolding fresh_world
-fresh_sent n = refl
+fresh_sent kind n = refl
 
 -- the group of the first line, and of the schedule
-numbered_fresh : (n : ℕ) (texts : List (List ℕ)) → numbered (length (fresh_world hazards n).sent) (happen hazards (fresh_world hazards n) (happenings (accepted (fresh_world hazards n).n 1 texts).lines)).outputs ≡ put_out (accepted n 1 texts)
-numbered_fresh n texts =
-    ap (λ m. numbered m (happen hazards (fresh_world hazards n) (happenings (accepted (fresh_world hazards n).n 1 texts).lines)).outputs) (fresh_sent n)
-    ∙ ap (λ m. numbered 0 (happen hazards (fresh_world hazards n) (happenings (accepted m 1 texts).lines)).outputs) (fresh_size n)
-    ∙ ap (λ m. numbered 0 (happen hazards (fresh_world hazards m) (happenings (accepted n 1 texts).lines)).outputs) (sym (size_kept n 1 texts))
+numbered_fresh : (kind : Kind) (n : ℕ) (texts : List (List ℕ))
+    → numbered (length (fresh_world hazards kind n).sent) (happen hazards (fresh_world hazards kind n) (happenings (accepted (fresh_world hazards kind n).n 1 texts).lines)).outputs ≡ put_out (of_group kind n (accepted n 1 texts))
+numbered_fresh kind n texts =
+    let w = fresh_world hazards kind n in
+    ap (λ m. numbered m (happen hazards w (happenings (accepted w.n 1 texts).lines)).outputs) (fresh_sent kind n)
+    ∙ ap (λ m. numbered 0 (happen hazards w (happenings (accepted m 1 texts).lines)).outputs) (fresh_size kind n)
 
 show_first : (text : List ℕ) (texts : List (List ℕ)) (l : Line) → IsLineOf 0 l → Shows (behind (comes no_world l).outputs (plays (comes no_world l).world 1 texts)) (begun texts l)
 unfolding comes numbered
-show_first text texts (line.Cluster n) h =
+show_first text texts (line.Cluster n mode) h =
+    let kind = of_mode mode in
     let least = h.1 in
-    let f = plays_follow (fresh_world hazards n) 1 texts (positive n (omega (arith, least))) in
-    let s = accepted n 1 texts in
+    let f = plays_follow (fresh_world hazards kind n) 1 texts (positive kind n (omega (arith, least))) in
     record {
-      refused = f.refused ∙ ap (λ m. (accepted m 1 texts).refused) (fresh_size n);
-      outputs = f.outputs ∙ numbered_fresh n texts;
+      refused = f.refused ∙ ap (λ m. (accepted m 1 texts).refused) (fresh_size kind n);
+      outputs = f.outputs ∙ numbered_fresh kind n texts;
     }
 show_first text texts (line.Request replica request) h = absurd (omega (arith, h))
 show_first text texts (line.Deliver number) h = absurd (omega (arith, h))
@@ -183,7 +179,7 @@ pub plays_show : (texts : List (List ℕ)) → Shows (plays no_world 0 texts) (s
 unfolding plays taken happen happenings numbered
 plays_show [] = record { refused = refl; outputs = refl }
 plays_show (text ∷ texts) =
-    let cases : (o : Option Line) → line_at 0 0 text ≡ o → Shows (and_then (judged no_world 0 o).refused (judged no_world 0 o) (plays (judged no_world 0 o).world (judged no_world 0 o).number texts)) (option_map_or (begun texts) o (refuses 0 1)) =
+    let cases : (o : Option Line) → line_at 0 0 text ≡ o → Shows (and_then (judged no_world 0 o).refused (judged no_world 0 o) (plays (judged no_world 0 o).world (judged no_world 0 o).number texts)) (option_map_or (begun texts) o (no_group (Some 1))) =
     elim [
       | None ↦ λ e. record { refused = refl; outputs = refl }
       | Some l ↦ λ e. show_first text texts l (line_at_fits 0 0 text l e)

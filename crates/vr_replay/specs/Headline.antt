@@ -5,4 +5,4 @@ use Rattle.vr_replay.specs.Schedule.{Schedule}
 
 -- The group that the first line makes keeps one log over the lines that are played: those behind it and before the first that is refused.
 abbrev pub ScheduleHasOneLog : Schedule → Type 0
-ScheduleHasOneLog s = 0 < s.n → LinesKeepOneLog s.n s.lines
+ScheduleHasOneLog s = 0 < s.n → LinesKeepOneLog s.kind s.n s.lines

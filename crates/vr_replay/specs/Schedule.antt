@@ -2,6 +2,8 @@
 -- it come to.
 use Rattle.std.specs.Prelude.{ℕ, ◌+◌, nat_lt, List, [], ◌∷◌, Option, Some, None, if◌then◌else◌}
 use Rattle.std.specs.Option.{option_map_or}
+use Rattle.vr_base.specs.Kinds.{of_mode, strict}
+use Rattle.vr_base.specs.declared.kind.Kind.{Kind}
 use Rattle.vr_rules.specs.Lying.{Lying, hazards}
 use Rattle.vr_rules.specs.World.{Happened, fresh_world, happen}
 use Rattle.vr_lines.specs.Cuts.{lines_of}
@@ -11,7 +13,13 @@ use Rattle.vr_lines.specs.declared.line.Line.TheVariants.{Cluster}
 use Rattle.vr_group.specs.Outputs.{Numbered, numbered}
 use Rattle.vr_group.specs.Lines.{happenings}
 
+-- lines of a group, up to the first that is refused
+pub record Accepted : Type 0 where
+  pub lines : List Line
+  pub refused : Option ℕ  -- its number
+
 pub record Schedule : Type 0 where
+  pub kind : Kind  -- what the files of the group are made as
   pub n : ℕ  -- the size of the group, 0 where none is made
   pub lines : List Line  -- those behind the first and before the first that is refused
   pub refused : Option ℕ  -- the number of the first line that is refused
@@ -24,31 +32,39 @@ limit = 1000000
 abbrev pub line_at : ℕ → ℕ → List ℕ → Option Line
 line_at n number text = if nat_lt number limit then parse n text else None
 
-abbrev pub refuses : ℕ → ℕ → Schedule
-refuses n number = record { n = n; lines = []; refused = Some number }
+abbrev pub refuses : ℕ → Accepted
+refuses number = record { lines = []; refused = Some number }
 
-abbrev pub with_line : Line → Schedule → Schedule
-with_line line s = record { n = s.n; lines = line ∷ s.lines; refused = s.refused }
+abbrev pub with_line : Line → Accepted → Accepted
+with_line line a = record { lines = line ∷ a.lines; refused = a.refused }
 
 -- further lines of a group of n, behind so many others
-unfoldable pub accepted : ℕ → ℕ → List (List ℕ) → Schedule
-accepted n number [] = record { n = n; lines = []; refused = None }
+unfoldable pub accepted : ℕ → ℕ → List (List ℕ) → Accepted
+accepted n number [] = record { lines = []; refused = None }
 accepted n number (text ∷ texts) =
-    option_map_or (λ line. with_line line (accepted n (number + 1) texts)) (line_at n number text) (refuses n (number + 1))
+    option_map_or (λ line. with_line line (accepted n (number + 1) texts)) (line_at n number text) (refuses (number + 1))
+
+-- no group is made
+abbrev pub no_group : Option ℕ → Schedule
+no_group refused = record { kind = strict; n = 0; lines = []; refused = refused }
+
+-- a group, and the lines behind
+abbrev pub of_group : Kind → ℕ → Accepted → Schedule
+of_group kind n a = record { kind = kind; n = n; lines = a.lines; refused = a.refused }
 
 -- the first line makes the group
 abbrev pub begun : List (List ℕ) → Line → Schedule
-begun texts (Cluster n) = accepted n 1 texts
-begun texts _ = refuses 0 1
+begun texts (Cluster n mode) = of_group (of_mode mode) n (accepted n 1 texts)
+begun texts _ = no_group (Some 1)
 
 -- lines to which others may come
 abbrev pub so_far : List (List ℕ) → Schedule
-so_far [] = record { n = 0; lines = []; refused = None }
-so_far (text ∷ texts) = option_map_or (begun texts) (line_at 0 0 text) (refuses 0 1)
+so_far [] = no_group None
+so_far (text ∷ texts) = option_map_or (begun texts) (line_at 0 0 text) (no_group (Some 1))
 
 -- all lines; a schedule has at least one
 abbrev pub schedule : List (List ℕ) → Schedule
-schedule [] = refuses 0 1
+schedule [] = no_group (Some 1)
 schedule (text ∷ texts) = so_far (text ∷ texts)
 
 abbrev pub schedule_of : List ℕ → Schedule
@@ -56,7 +72,7 @@ schedule_of bytes = schedule (lines_of bytes)
 
 -- what a schedule comes to
 abbrev pub replayed : Schedule → Happened Lying
-replayed s = happen hazards (fresh_world hazards s.n) (happenings s.lines)
+replayed s = happen hazards (fresh_world hazards s.kind s.n) (happenings s.lines)
 
 -- its outputs, with the numbers of messages
 abbrev pub put_out : Schedule → List Numbered

@@ -37,8 +37,8 @@ fn play(alloc: Global, group: &mut World, line: &Line) -> Result<ByteList, NoMem
     ensures text { IfOk result (λ t. t ≡ text_of (comes group.old.world line.now).outputs) }
     ensures live { OnOk result (group.new.live ≡ true) }
 {
-    if let Line::Cluster(n) = line {
-        *group = World::new(alloc, *n)?;
+    if let Line::Cluster { n, mode } = line {
+        *group = World::new(alloc, *n, *mode)?;
         return Ok(ByteList::new(alloc));
     }
     let Outputs { text, .. } = group.step(alloc, line)?;

@@ -4,6 +4,7 @@ use Rattle.std.specs.Prelude.{count_by}
 use Rattle.std.proofs.lemmas.List.{map-append}
 use Rattle.sha2.specs.Hashers.{Holds256}
 use Rattle.vr_base.specs.Bytes.{name_of}
+use Rattle.vr_base.specs.Kinds.{strict}
 use Rattle.vr_draws.specs.Asking.{next_requests}
 use Rattle.vr_draws.specs.Draws.{Drawn}
 use Rattle.vr_draws.specs.Drawn.{drawn_line, drawn_size}
@@ -37,7 +38,7 @@ record Comes (n : ℕ) (lines : List Line) (l : Line) : Type 0 where
 
 comes : (n : ℕ) (lines : List Line) (l : Line) → Comes n lines l
 comes n lines l =
-    let w = fresh_world hazards n in
+    let w = fresh_world hazards strict n in
     let e = happenings_more lines l in
     let all = happen_append w (happenings lines) (happening l ∷ []) in
     let one = happen_one (come_to n lines).world (happening l) in
@@ -58,15 +59,15 @@ number_first : (n number : ℕ) → (made n number 0).number ≡ number
 unfolding made
 number_first n number = refl
 
-none_happened : (n : ℕ) → come_to n [] ≡ record { world = fresh_world hazards n; outputs = [] }
+none_happened : (n : ℕ) → come_to n [] ≡ record { world = fresh_world hazards strict n; outputs = [] }
 unfolding happen happenings
 none_happened n = refl
 
-pub fresh_size : (n : ℕ) → (fresh_world hazards n).n ≡ n
+pub fresh_size : (n : ℕ) → (fresh_world hazards strict n).n ≡ n
 unfolding fresh_world
 fresh_size n = refl
 
-fresh_sent : (n : ℕ) → (fresh_world hazards n).sent ≡ []
+fresh_sent : (n : ℕ) → (fresh_world hazards strict n).sent ≡ []
 unfolding fresh_world
 fresh_sent n = refl
 
@@ -79,9 +80,9 @@ unfolding numbered
 no_numbered = refl
 
 -- a group that was just made
-pub soaking_first : (n number : ℕ) (s : Soaking) → s.group.world ≡ fresh_world hazards n → s.generator.number ≡ number → HasHeard s.heard [] → IsSoaking n number 0 s
+pub soaking_first : (n number : ℕ) (s : Soaking) → s.group.world ≡ fresh_world hazards strict n → s.generator.number ≡ number → HasHeard s.heard [] → IsSoaking n number 0 s
 soaking_first n number s w d h =
-    let e : come_to n (made n number 0).lines ≡ record { world = fresh_world hazards n; outputs = [] } = ap (come_to n) (none_made n number) ∙ none_happened n in
+    let e : come_to n (made n number 0).lines ≡ record { world = fresh_world hazards strict n; outputs = [] } = ap (come_to n) (none_made n number) ∙ none_happened n in
     record {
       size = ap (λ (w : World Lying). w.n) w ∙ fresh_size n;
       drawn = d ∙ sym (number_first n number);

@@ -1,5 +1,6 @@
 -- The schedule that a number makes.
 use Rattle.std.specs.Prelude.{ℕ, zero, suc, List, [], ◌∷◌, ◌++◌, length}
+use Rattle.vr_base.specs.Kinds.{strict}
 use Rattle.vr_draws.specs.Asking.{next_requests}
 use Rattle.vr_draws.specs.Draws.{Drawn}
 use Rattle.vr_draws.specs.Drawn.{drawn_line, drawn_size}
@@ -13,9 +14,9 @@ pub record Made : Type 0 where
   pub lines : List Line
   pub number : ℕ
 
--- what lines come to in a new group of n replicas
+-- what lines come to in a new group of n replicas, on strict files
 abbrev pub come_to : ℕ → List Line → Happened Lying
-come_to n lines = happen hazards (fresh_world hazards n) (happenings lines)
+come_to n lines = happen hazards (fresh_world hazards strict n) (happenings lines)
 
 -- a line more
 abbrev pub with_line : Made → Drawn Line → Made

@@ -7,7 +7,7 @@ ghost use Rattle.vr_soak.specs.Summing.{summary_of};
 
 use crate::{Heard, Summary};
 use std::alloc::Global;
-use vr_base::NoMemory;
+use vr_base::{Mode, NoMemory};
 use vr_draws::Generator;
 use vr_group::World;
 
@@ -20,7 +20,7 @@ pub struct Soaking {
 }
 
 impl Soaking {
-    /// A new group, of a size that is drawn from this number.
+    /// A new group on strict files, of a size that is drawn from this number.
     fn new(alloc: Global, seed: u64) -> Result<Soaking, NoMemory>
         ensures soaking { IfOk result (λ s. IsSoaking (size_of seed) (drawn_size seed).number 0 s) }
         ensures live { IfOk result (λ s. s.group.live ≡ true) }
@@ -28,7 +28,7 @@ impl Soaking {
     {
         let mut generator = Generator::new(seed);
         let n = generator.size();
-        let group = World::new(alloc, n)?;
+        let group = World::new(alloc, n, Mode::Strict)?;
         let heard = Heard::new();
         Ok(Soaking {
             group,
