@@ -1,4 +1,4 @@
-//! Tests of groups: the choice of a log, and worked schedules through the whole run and through a group alone.
+//! Tests of groups: the choice of a log, what fails in the midst of a replay, and a group alone.
 #![tactic(auto)]
 
 #[cfg(test)]
@@ -7,13 +7,5 @@ mod choose;
 mod replay;
 #[cfg(test)]
 mod running;
-#[cfg(test)]
-mod stops;
-#[cfg(test)]
-mod syncs;
-#[cfg(test)]
-mod views;
-#[cfg(test)]
-mod visits;
 #[cfg(test)]
 mod world;

@@ -10,7 +10,13 @@ use vr_group::World;
 use vr_lines::{Line, parse_line};
 
 /// The text of what a group puts out at one line after the other. It goes on.
-fn stepped(rt: &impl Abort, alloc: Global, n: u8, mode: Mode, lines: &[&str]) -> Result<ByteList, Fail> {
+fn stepped(
+    rt: &impl Abort,
+    alloc: Global,
+    n: u8,
+    mode: Mode,
+    lines: &[&str],
+) -> Result<ByteList, Fail> {
     assert!(rt; 2 <= n && n <= 6);
     let mut world = World::new(alloc, n, mode)?;
     let mut text = ByteList::new(alloc);
@@ -37,7 +43,13 @@ fn spelled(alloc: Global, n: u8, texts: &[&str]) -> Result<Vec<Line>, Fail>
 }
 
 /// The text of what a group puts out at all lines at once.
-fn run(rt: &impl Abort, alloc: Global, n: u8, mode: Mode, texts: &[&str]) -> Result<ByteList, Fail> {
+fn run(
+    rt: &impl Abort,
+    alloc: Global,
+    n: u8,
+    mode: Mode,
+    texts: &[&str],
+) -> Result<ByteList, Fail> {
     assert!(rt; 2 <= n && n <= 6);
     let mut world = World::new(alloc, n, mode)?;
     let lines = spelled(alloc, n, texts)?;

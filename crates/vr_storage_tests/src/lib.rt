@@ -1,17 +1,5 @@
-//! Tests of what stands on a disk: superblock, slots, blocks, checkpoints, and the disk that lies.
+//! A test of what an opening makes of a slot. What stands on a disk is rows of `vr_disk_rows`.
 #![tactic(auto)]
 
 #[cfg(test)]
-mod ckpt;
-#[cfg(test)]
-mod disks;
-#[cfg(test)]
-mod grid;
-#[cfg(test)]
-mod lie;
-#[cfg(test)]
 mod recover;
-#[cfg(test)]
-mod rings;
-#[cfg(test)]
-mod superblock;

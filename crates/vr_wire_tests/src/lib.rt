@@ -1,4 +1,4 @@
-//! Tests of what goes over the edge: fields of bytes, the outside in memory, headers, messages, lines.
+//! Tests of what goes over the edge: fields of bytes, the outside in memory, headers, lines. Messages are rows of `vr_message_rows`.
 #![tactic(auto)]
 
 #[cfg(test)]
@@ -9,7 +9,5 @@ mod chain;
 mod edge;
 #[cfg(test)]
 mod header;
-#[cfg(test)]
-mod msg;
 #[cfg(test)]
 mod sched;

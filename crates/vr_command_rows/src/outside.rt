@@ -1,0 +1,124 @@
+//! What a run finds outside.
+
+use std::alloc::{AllocError, Global};
+use std::mem;
+use vr_base::{ByteList, NoMemory};
+use vr_edge::{
+    Coming, Datagram, LinkRoom, LinkScript, MemClock, MemLink, MemStreams, Piece, StreamScript,
+};
+use vr_mem::MemDisk;
+use vr_spawn::MemSpawner;
+use vr_stream::StreamLink;
+
+/// What the next run finds outside: a disk, which stays for the runs behind it, and what comes and what fails in the next one.
+#[derive(Drop)]
+pub struct Outside {
+    pub disk: MemDisk,
+    script: LinkScript,
+    streams: StreamScript,
+    numbers: Vec<u64>,
+    failing_starts: Vec<u64>,
+    failing_stops: Vec<u64>,
+    /// So many bytes are taken of what it writes.
+    pub room: usize,
+}
+
+/// The bytes of hex digits, none where these are not.
+fn digits(alloc: Global, word: &str) -> Result<Vec<u8>, AllocError> {
+    match hex::decode(alloc, word) {
+        Ok(bytes) => Ok(bytes),
+        Err(hex::FromHexError::OutOfMemory) => Err(AllocError),
+        Err(_) => Ok(Vec::new(alloc)),
+    }
+}
+
+impl Outside {
+    /// A disk of zeros; nothing comes, the clock stands at 0, and nothing fails.
+    pub fn new(alloc: Global) -> Result<Outside, NoMemory> {
+        Ok(Outside {
+            disk: MemDisk::new(alloc)?,
+            script: LinkScript::quiet(alloc),
+            streams: StreamScript::quiet(alloc),
+            numbers: Vec::new(alloc),
+            failing_starts: Vec::new(alloc),
+            failing_stops: Vec::new(alloc),
+            room: 256,
+        })
+    }
+
+    /// A datagram comes at the next receive, from this port.
+    fn arrive(&mut self, port: u32, bytes: Vec<u8>) -> Result<(), AllocError> {
+        let bytes = ByteList::from_vec(bytes);
+        self.script.arrivals.push(Some(Datagram { port, bytes }))?;
+        Ok(())
+    }
+
+    /// Bytes come next over streams, at this port.
+    fn piece(&mut self, port: u32, bytes: Vec<u8>) -> Result<(), AllocError> {
+        let bytes = ByteList::from_vec(bytes);
+        self.streams
+            .comes
+            .push(Coming::Piece(Piece { port, bytes }))?;
+        Ok(())
+    }
+
+    /// The call of this number of its kind, from 0, fails; one of the disk is counted from 1.
+    fn fail(&mut self, alloc: Global, kind: &str, call: u64) -> Result<(), AllocError> {
+        match kind {
+            "send" => self.script.failing_sends.push(call)?,
+            "receive" => self.script.failing_receives.push(call)?,
+            "start" => self.failing_starts.push(call)?,
+            "stop" => self.failing_stops.push(call)?,
+            _ => self.disk.fail(vec![in alloc; call]?),
+        }
+        Ok(())
+    }
+
+    /// Takes a line that says what a run finds: `quiet`, `arrive PORT HEX`, `noise PORT COUNT`, `piece PORT HEX`, `fail KIND CALL`, `clock NUMBER`,
+    /// `room COUNT`.
+    pub fn set(&mut self, alloc: Global, what: &str, words: &str) -> Result<(), AllocError> {
+        let (first, second) = words.split_once(' ').unwrap_or((words, ""));
+        match what {
+            "quiet" => self.script.arrivals.push(None)?,
+            "arrive" => self.arrive(first.parse().unwrap_or(0), digits(alloc, second)?)?,
+            "piece" => self.piece(first.parse().unwrap_or(0), digits(alloc, second)?)?,
+            "noise" => {
+                let mut bytes = Vec::new(alloc);
+                bytes.resize(second.parse().unwrap_or(0), 7)?;
+                self.arrive(first.parse().unwrap_or(0), bytes)?;
+            }
+            "fail" => self.fail(alloc, first, second.parse().unwrap_or(0))?,
+            "clock" => self.numbers.push(first.parse().unwrap_or(0))?,
+            _ => self.room = first.parse().unwrap_or(0),
+        }
+        Ok(())
+    }
+
+    /// A link over which what was said comes, and which fails so.
+    pub fn link(&mut self, alloc: Global) -> Result<MemLink, AllocError> {
+        let room = LinkRoom {
+            datagrams: 4,
+            bytes: 4096,
+        };
+        let script = mem::replace(&mut self.script, LinkScript::quiet(alloc));
+        MemLink::new(alloc, script, room)
+    }
+
+    /// A link over streams of a group of two, over which what was said comes.
+    pub fn stream_link(&mut self, alloc: Global) -> Result<StreamLink<MemStreams>, AllocError> {
+        let script = mem::replace(&mut self.streams, StreamScript::quiet(alloc));
+        StreamLink::over_new(alloc, 2, MemStreams::new(alloc, 66, script)?)
+    }
+
+    pub fn clock(&mut self, alloc: Global) -> MemClock {
+        MemClock::new(mem::replace(&mut self.numbers, Vec::new(alloc)))
+    }
+
+    pub fn spawner(&mut self, alloc: Global) -> MemSpawner {
+        MemSpawner::new(
+            alloc,
+            mem::replace(&mut self.failing_starts, Vec::new(alloc)),
+            mem::replace(&mut self.failing_stops, Vec::new(alloc)),
+        )
+    }
+}

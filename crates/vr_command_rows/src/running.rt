@@ -1,0 +1,137 @@
+//! A run over objects in memory, and what is told of it.
+
+use crate::outside::Outside;
+use std::alloc::{AllocError, Global};
+use vr_base::ByteList;
+use vr_edge::{Link, MemLink, MemSink, MemSource};
+use vr_program::run;
+use vr_spawn::{MemSpawner, SpawnCall, Start, Stop};
+use vr_status::{Status, status_line};
+
+/// The words between single spaces.
+pub fn words_of(alloc: Global, line: &str) -> Result<Vec<String>, AllocError> {
+    let mut words = Vec::new(alloc);
+    for word in line.split(' ') {
+        words.push(String::from_str(alloc, word)?)?;
+    }
+    Ok(words)
+}
+
+/// Adds the lines of a text, two spaces in.
+fn put_lines(text: &[u8], to: &mut ByteList) -> Result<(), AllocError> {
+    for line in text.split_inclusive(|byte| *byte == b'\n') {
+        to.extend(b"  ")?;
+        to.extend(line)?;
+    }
+    if !text.is_empty() && !text.ends_with(b"\n") {
+        to.extend(b"\n")?;
+    }
+    Ok(())
+}
+
+/// How a run ends: the text of its status, `done` for the one without a text, `replay` where it is left to the caller.
+fn put_end(alloc: Global, end: Option<Status>, to: &mut ByteList) -> Result<(), AllocError> {
+    match end {
+        None => to.extend(b"  replay"),
+        Some(Status::Done) => to.extend(b"  done"),
+        Some(status) => {
+            to.extend(b"  ")?;
+            to.extend(status_line(alloc, &status)?.as_bytes())
+        }
+    }
+}
+
+/// The port of each datagram that was sent, of the first four.
+fn put_ports(alloc: Global, link: &MemLink, to: &mut ByteList) -> Result<(), AllocError> {
+    for at in 0..4 {
+        if let Some((port, _)) = link.sent(at) {
+            to.extend(format!(in alloc; ", to {port}")?.as_bytes())?;
+        }
+    }
+    to.extend(b"\n")
+}
+
+/// A start: its words, and behind them the number that was given, `-` where it failed.
+fn put_start(alloc: Global, start: &Start, to: &mut ByteList) -> Result<(), AllocError> {
+    to.extend(b"  start")?;
+    for word in start.words.as_slice() {
+        to.extend(b" ")?;
+        to.extend(word.as_slice())?;
+    }
+    match start.id {
+        Some(id) => to.extend(format!(in alloc; ": {id}\n")?.as_bytes()),
+        None => to.extend(b": -\n"),
+    }
+}
+
+/// A stop, `-` behind it where it failed.
+fn put_stop(alloc: Global, stop: Stop, to: &mut ByteList) -> Result<(), AllocError> {
+    let Stop { id, is_done } = stop;
+    let failed = if is_done { "" } else { ": -" };
+    to.extend(format!(in alloc; "  stop {id}{failed}\n")?.as_bytes())
+}
+
+/// The calls of a spawner.
+fn put_calls(alloc: Global, spawner: &MemSpawner, to: &mut ByteList) -> Result<(), AllocError> {
+    for call in spawner.calls().unwrap_or(&[]) {
+        match call {
+            SpawnCall::Start(start) => put_start(alloc, start, to)?,
+            SpawnCall::Stop(stop) => put_stop(alloc, *stop, to)?,
+        }
+    }
+    Ok(())
+}
+
+/// Runs with an empty source, and tells how it ends and what it wrote.
+fn put_run<L: Link>(
+    alloc: Global,
+    line: &str,
+    outside: &mut Outside,
+    link: &mut L,
+    spawner: &mut MemSpawner,
+    to: &mut ByteList,
+) -> Result<(), AllocError> {
+    let words = words_of(alloc, line)?;
+    let mut source = MemSource::new(Vec::new(alloc), Vec::new(alloc));
+    let mut sink = MemSink::new(alloc, outside.room, Vec::new(alloc))?;
+    let mut clock = outside.clock(alloc);
+    let end = run(
+        alloc,
+        &words,
+        &mut source,
+        &mut sink,
+        &mut outside.disk,
+        link,
+        &mut clock,
+        spawner,
+    );
+    put_lines(sink.bytes(), to)?;
+    put_end(alloc, end, to)
+}
+
+/// Runs a command line, and tells what it wrote, how it ended, to which ports it sent, and what it had the spawner do.
+pub fn tell(
+    alloc: Global,
+    line: &str,
+    outside: &mut Outside,
+    to: &mut ByteList,
+) -> Result<(), AllocError> {
+    let mut link = outside.link(alloc)?;
+    let mut spawner = outside.spawner(alloc);
+    put_run(alloc, line, outside, &mut link, &mut spawner, to)?;
+    put_ports(alloc, &link, to)?;
+    put_calls(alloc, &spawner, to)
+}
+
+/// Runs a command line over streams, and tells what it wrote and how it ended.
+pub fn tell_over_streams(
+    alloc: Global,
+    line: &str,
+    outside: &mut Outside,
+    to: &mut ByteList,
+) -> Result<(), AllocError> {
+    let mut link = outside.stream_link(alloc)?;
+    let mut spawner = outside.spawner(alloc);
+    put_run(alloc, line, outside, &mut link, &mut spawner, to)?;
+    to.extend(b"\n")
+}

@@ -1,0 +1,54 @@
+use Rattle.std.proofs.Common.{ℕ, zero, suc, arith, refl}
+use Rattle.std.specs.Prelude.{replicate}
+use Rattle.vr_base.specs.Bytes.{IsBytes}
+use Rattle.vr_base.proofs.AreBytes.{IsBytes-zeros}
+use Rattle.vr_super.specs.Copies.{are_listed, good_fields, is_listed}
+use Rattle.vr_disk_rows.proofs.superblocks.value.Goals as goal
+
+sevens : (n : ℕ) → IsBytes (replicate n 7)
+sevens zero i = omega arith
+sevens (suc n) zero = omega arith
+sevens (suc n) (suc i) = sevens n i
+
+pub made-requires : goal.made-requires
+unfolding good_fields are_listed is_listed
+made-requires c =
+    rw (c.in_ok-push.ensures.ok, c.new-headers.ensures, c.new.ensures) (record {
+      numbers = record {
+        sequence = omega arith;
+        cluster = omega arith;
+        view = omega arith;
+        log_view = omega arith;
+        checkpoint = omega arith;
+        root_address = omega arith;
+        root_name = refl;
+        root_name_bytes = IsBytes-zeros 16;
+        commit = omega arith;
+        head = omega arith;
+        replica = omega arith;
+        n = omega arith;
+      };
+      fields = refl;
+      each = (
+        record {
+          body = refl;
+          body_bytes = sevens 16;
+          parent = refl;
+          parent_bytes = IsBytes-zeros 16;
+          request_name = refl;
+          request_name_bytes = IsBytes-zeros 16;
+          cluster = omega arith;
+          client = omega arith;
+          request = omega arith;
+          view = omega arith;
+          op = omega arith;
+          commit = omega arith;
+          size = (omega arith, omega arith);
+          replica = omega arith;
+          kind = omega arith;
+          aux = omega arith;
+        },
+        tt,
+      );
+      listed = refl;
+    })

@@ -1,0 +1,58 @@
+//! Block 5 of group 3.
+
+use crate::act::Act;
+use crate::bench::Bench;
+use std::alloc::Global;
+use vr_base::{ByteList, NoMemory, Sum};
+use vr_grid::{DATA, Name, read_block, write_block};
+
+const PAYLOAD: &[u8] = b"payload";
+
+/// Writes the block.
+fn write(alloc: Global, bench: &mut Bench) -> bool {
+    match write_block(alloc, &mut bench.disk, 3, 5, 32, DATA, PAYLOAD) {
+        Ok(name) => {
+            bench.block = name;
+            true
+        }
+        Err(_) => false,
+    }
+}
+
+/// Reads the block under an address, and its own name or another; whether its payload is in the buffer then.
+fn read(alloc: Global, bench: &mut Bench, act: Act<'_>, to: &mut ByteList) -> Result<(), NoMemory> {
+    let name = Name {
+        address: act.first,
+        sum: if act.other {
+            Sum([7; 16])
+        } else {
+            bench.block.sum
+        },
+    };
+    match read_block(&mut bench.disk, &name, &mut bench.buffer) {
+        Ok(count) => to.extend(format!(in alloc; "{count} bytes")?.as_bytes())?,
+        Err(_) => to.extend(b"faulty")?,
+    }
+    if bench.buffer.as_slice()[128..].starts_with(PAYLOAD) {
+        to.extend(b", payload")?;
+    }
+    Ok(())
+}
+
+/// Does what a line says of the block, and tells of it. Whether it says something of that.
+pub fn act(
+    alloc: Global,
+    bench: &mut Bench,
+    act: Act<'_>,
+    to: &mut ByteList,
+) -> Result<bool, NoMemory> {
+    match act.name {
+        "block" => {
+            let is_ok = write(alloc, bench);
+            to.extend(bench.went(is_ok).as_bytes())?;
+        }
+        "read" => read(alloc, bench, act, to)?,
+        _ => return Ok(false),
+    }
+    Ok(true)
+}

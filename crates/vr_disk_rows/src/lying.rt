@@ -1,0 +1,110 @@
+//! Faults of a disk that lies, on each kind of sector, and what reads after them.
+ghost use Rattle.std.specs.Prelude.{◌<◌};
+ghost use Rattle.vr_lie.specs.Faults.{IsFault};
+
+use crate::act::Act;
+use crate::slots::entry;
+use crate::superblocks::value;
+use std::alloc::Global;
+use vr_base::{ByteList, NoMemory};
+use vr_disk::{Sector, SectorDisk};
+use vr_header::{Command, Header};
+use vr_lie::{Fault, Faulted, LieDisk};
+use vr_rings::{write_header, write_new};
+use vr_super::write;
+
+/// A header that is no entry's, as a new data file has one in each slot.
+fn reserved() -> Header {
+    Header {
+        command: Command::Reserved,
+        op: 1,
+        ..Header::root(2)
+    }
+}
+
+/// A superblock of four good copies, and an entry in slot 1.
+fn write_member(alloc: Global, disk: &mut LieDisk) -> Result<&'static str, NoMemory> {
+    let value = value(alloc, 1, None)?;
+    let saved = write(disk, &value, &value).is_ok();
+    let is_marked = write_header(disk, &reserved()).is_ok();
+    let is_stored = write_new(disk, &entry(1)).is_ok();
+    Ok(if saved && is_marked && is_stored {
+        "written"
+    } else {
+        "failed"
+    })
+}
+
+fn put_sector(disk: &mut LieDisk, i: u32, byte: u8) -> &'static str
+    requires { i < 1424 }
+{
+    let sector = Sector { bytes: [byte; 512] };
+    if disk.write(i, &sector).is_ok() && disk.sync().is_ok() {
+        "written"
+    } else {
+        "failed"
+    }
+}
+
+/// The first byte that a sector reads as.
+fn read(alloc: Global, disk: &mut LieDisk, i: u32, to: &mut ByteList) -> Result<(), NoMemory>
+    requires { i < 1424 }
+{
+    let mut sector = Sector { bytes: [0; 512] };
+    match disk.read(i, &mut sector) {
+        Ok(()) => {
+            let byte = sector.bytes[0];
+            Ok(to.extend(format!(in alloc; "{byte}")?.as_bytes())?)
+        }
+        Err(_) => Ok(to.extend(b"unread")?),
+    }
+}
+
+fn misdirect(disk: &mut LieDisk, i: u32, other: u32) -> &'static str
+    requires i { i < 1424 }
+    requires other { other < 1424 }
+{
+    if i == other {
+        return "not so: one sector";
+    }
+    fault(disk, &Fault::Misdirect(i, other))
+}
+
+/// Does a fault, or keeps it out.
+fn fault(disk: &mut LieDisk, fault: &Fault) -> &'static str
+    requires { IsFault fault.now }
+{
+    match disk.fault(fault) {
+        Faulted::Done => "done",
+        Faulted::KeptOut => "kept out",
+    }
+}
+
+/// Does what a line says of a disk that lies, and tells of it. Whether it says something of that.
+pub fn act(
+    alloc: Global,
+    disk: &mut LieDisk,
+    act: Act<'_>,
+    to: &mut ByteList,
+) -> Result<bool, NoMemory> {
+    let sector = act.sector();
+    let told = match act.name {
+        "member" => write_member(alloc, disk)?,
+        "mend" => match write_header(disk, &entry(1).header()) {
+            Ok(()) => "written",
+            Err(_) => "failed",
+        },
+        "put" => put_sector(disk, sector, act.second.min(255) as u8),
+        "damage" => fault(disk, &Fault::Damage(sector)),
+        "stale" => fault(disk, &Fault::Stale(sector)),
+        "unread" => fault(disk, &Fault::Unread(sector)),
+        "misdirect" => misdirect(disk, sector, act.second_sector()),
+        "sector" => {
+            read(alloc, disk, sector, to)?;
+            ""
+        }
+        _ => return Ok(false),
+    };
+    to.extend(told.as_bytes())?;
+    Ok(true)
+}

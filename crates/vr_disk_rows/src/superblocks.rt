@@ -1,0 +1,115 @@
+//! The superblock of member 1 of group 3, with one entry.
+ghost use Rattle.vr_super.specs.Copies.{IsGood};
+
+use crate::act::Act;
+use crate::bench::Bench;
+use std::alloc::Global;
+use vr_base::{ByteList, NoMemory, Seq, Sum};
+use vr_header::{Command, Header, HeaderList, Size};
+use vr_super::{Fields, Super, SuperFault, opens, recover, write};
+
+fn made(
+    alloc: Global,
+    fields: Fields,
+    headers: HeaderList,
+    old: Option<&Super>,
+) -> Result<Super, NoMemory>
+    requires { IsGood (record { fields = fields; headers = headers }) }
+{
+    match old {
+        Some(old) => old.next(alloc, fields, headers),
+        None => Super::new(alloc, fields, headers),
+    }
+}
+
+/// The value of this sequence, made after an old one where there is one.
+pub fn value(alloc: Global, sequence: u64, old: Option<&Super>) -> Result<Super, NoMemory> {
+    let entry = Header {
+        body: Sum([7; 16]),
+        parent: Sum([0; 16]),
+        request_name: Sum([0; 16]),
+        cluster: 3,
+        client: 5,
+        request: 1,
+        view: 0,
+        op: 1,
+        commit: 0,
+        size: Size::new(129),
+        command: Command::Entry,
+        replica: 0,
+        kind: 0,
+        aux: 0,
+    };
+    let mut headers = Seq::new(alloc);
+    headers.push(entry)?;
+    let fields = Fields {
+        sequence,
+        cluster: 3,
+        view: 0,
+        log_view: 0,
+        checkpoint: 0,
+        root_address: 0,
+        root_name: Sum([0; 16]),
+        commit: 0,
+        head: 1,
+        replica: 1,
+        n: 3,
+    };
+    made(alloc, fields, headers, old)
+}
+
+/// Writes the value of this sequence.
+fn save(alloc: Global, bench: &mut Bench, sequence: u64) -> Result<&'static str, NoMemory> {
+    let new = value(alloc, sequence, bench.value.as_ref())?;
+    let written = match &bench.value {
+        Some(old) => write(&mut bench.disk, old, &new),
+        None => write(&mut bench.disk, &new, &new),
+    };
+    bench.value = Some(new);
+    Ok(bench.went(written.is_ok()))
+}
+
+/// The value that is recovered, or why there is none.
+fn put_recovered(alloc: Global, bench: &mut Bench, to: &mut ByteList) -> Result<(), NoMemory> {
+    let text = match recover(alloc, &mut bench.disk) {
+        Ok(value) => {
+            let sequence = value.fields().sequence;
+            format!(in alloc; "sequence {sequence}")?
+        }
+        Err(SuperFault::NoMemory) => return Err(NoMemory),
+        Err(fault) => format!(in alloc; "{fault:?}")?,
+    };
+    Ok(to.extend(text.as_bytes())?)
+}
+
+fn put_opened(alloc: Global, bench: &mut Bench, to: &mut ByteList) -> Result<(), NoMemory> {
+    let text = match opens(&mut bench.disk) {
+        Some(found) => format!(in alloc;
+            "copy {copy} sequence {sequence} view {view}",
+            copy = found.copy,
+            sequence = found.sequence,
+            view = found.view
+        )?,
+        None => String::from_str(alloc, "none")?,
+    };
+    Ok(to.extend(text.as_bytes())?)
+}
+
+/// Does what a line says of the superblock, and tells of it. Whether it says something of that.
+pub fn act(
+    alloc: Global,
+    bench: &mut Bench,
+    act: Act<'_>,
+    to: &mut ByteList,
+) -> Result<bool, NoMemory> {
+    match act.name {
+        "save" => {
+            let told = save(alloc, bench, act.first)?;
+            to.extend(told.as_bytes())?;
+        }
+        "recover" => put_recovered(alloc, bench, to)?,
+        "opens" => put_opened(alloc, bench, to)?,
+        _ => return Ok(false),
+    }
+    Ok(true)
+}

@@ -1,0 +1,98 @@
+//! Rows, and what is told of them. A row `piece NAME HEX` names bytes; a row `message WORD ..` is of the bytes of its words, each the name of
+//! a piece or hex digits itself; any other row is told as it is.
+
+use std::alloc::{AllocError, Global};
+use vr_base::ByteList;
+use vr_codec::{decode, encode, judge};
+use vr_msg::{Frame, Message, Output, Sent};
+use vr_sched::write_text;
+
+/// Bytes that have a name.
+#[derive(Drop)]
+struct Piece {
+    name: String,
+    bytes: Vec<u8>,
+}
+
+/// The bytes of hex digits, none where these are not.
+fn digits(alloc: Global, word: &str) -> Result<Vec<u8>, AllocError> {
+    match hex::decode(alloc, word) {
+        Ok(bytes) => Ok(bytes),
+        Err(hex::FromHexError::OutOfMemory) => Err(AllocError),
+        Err(_) => Ok(Vec::new(alloc)),
+    }
+}
+
+fn named(alloc: Global, words: &str) -> Result<Piece, AllocError> {
+    let (name, word) = words.split_once(' ').unwrap_or((words, ""));
+    Ok(Piece {
+        name: String::from_str(alloc, name)?,
+        bytes: digits(alloc, word)?,
+    })
+}
+
+/// The bytes of these words, one behind the other.
+fn spelled(alloc: Global, pieces: &[Piece], words: &str) -> Result<Vec<u8>, AllocError> {
+    let mut bytes = Vec::new(alloc);
+    for word in words.split(' ') {
+        match pieces.iter().find(|piece| piece.name.as_str() == word) {
+            Some(piece) => bytes.extend_from_slice(piece.bytes.as_slice())?,
+            None => bytes.extend_from_slice(digits(alloc, word)?.as_slice())?,
+        }
+    }
+    Ok(bytes)
+}
+
+/// The line of a reply, or that of the message as number 6 from replica 1 to replica 0.
+fn tell_message(message: Message, to: &mut ByteList) -> Result<(), AllocError> {
+    let output = match message.into_frame() {
+        Frame::Reply(reply) => Output::Reply(reply),
+        frame => Output::Send(Sent {
+            from: 1,
+            to: 0,
+            message: Message::new(frame),
+        }),
+    };
+    write_text(6, &output, to)
+}
+
+/// What bytes are, and whether the message is spelled by them.
+fn tell(alloc: Global, bytes: &[u8], to: &mut ByteList) -> Result<(), AllocError> {
+    let judged = judge(bytes);
+    match decode(alloc, bytes) {
+        Ok(message) => {
+            let mut again = Vec::new(alloc);
+            encode(&message, &mut again)?;
+            if judged.is_some() || again.as_slice() != bytes {
+                to.extend(b"not so: ")?;
+            }
+            tell_message(message, to)
+        }
+        Err(fault) => {
+            if judged != Some(fault) {
+                to.extend(b"not so: ")?;
+            }
+            to.extend(format!(in alloc; "{fault:?}\n")?.as_bytes())
+        }
+    }
+}
+
+/// What the rows come to.
+pub fn told(alloc: Global, text: &str) -> Result<ByteList, AllocError> {
+    let mut pieces = Vec::new(alloc);
+    let mut told = ByteList::new(alloc);
+    for row in text.lines() {
+        match row.split_once(' ') {
+            Some(("piece", words)) => pieces.push(named(alloc, words)?)?,
+            Some(("message", words)) => {
+                let bytes = spelled(alloc, pieces.as_slice(), words)?;
+                tell(alloc, bytes.as_slice(), &mut told)?;
+            }
+            _ => {
+                told.extend(row.as_bytes())?;
+                told.extend(b"\n")?;
+            }
+        }
+    }
+    Ok(told)
+}
