@@ -14,7 +14,8 @@ use vr_disk::{DiskFailed, SECTOR_SIZE, SECTORS, Sector, SectorDisk};
 const FILE_SIZE: u64 = SECTORS as u64 * SECTOR_SIZE as u64;
 
 /// A disk of sectors in a file of the system: sector i stands at byte 512 i. It tells nothing. Each call is a call of the
-/// system, and fails where that does or where no file is attached; what is written goes through the system's page cache.
+/// system, and fails where that does or where no file is attached. The file is locked as long as it is attached. What is
+/// written goes through the system's page cache.
 #[derive(Drop)]
 pub struct FileDisk<R> {
     files: R,
@@ -43,20 +44,34 @@ fn sync_folder<R: Files<File = File>>(files: &R, name: &str) -> io::Result<()> {
     File::open(files, folder)?.sync_all()
 }
 
-/// The file with this name, opened and synced; where it has to be made or is too short, zeros stand behind what it had.
-fn open<R: Files<File = File>>(files: &R, name: &str) -> io::Result<File> {
+/// The file with this name, opened and locked. It fails, and leaves the file as it is, while another open of the file has the
+/// lock: each open file has one of its own, which ends with it.
+fn open_locked<R: Files<File = File>>(files: &R, name: &str) -> io::Result<File> {
     let file = OpenOptions::new()
         .read(true)
         .write(true)
         .create(true)
         .open(files, name)?;
+    if file.try_lock().is_err() {
+        return Err(io::Error::from(ErrorKind::WouldBlock));
+    }
+    Ok(file)
+}
+
+/// The file with this name, locked, synced and with its folder synced; where it has to be made or is too short, zeros stand
+/// behind what it had. It gets its whole length last, so a file of that length has no holes that were made here.
+fn open<R: Files<File = File>>(files: &R, name: &str) -> io::Result<File> {
+    let file = open_locked(files, name)?;
     let len = file.metadata()?.len();
     if len < FILE_SIZE {
-        file.set_len(FILE_SIZE)?;
         fill(&file, len)?;
-        sync_folder(files, name)?;
+        file.set_len(FILE_SIZE)?;
     }
     file.sync_all()?;
+    let named = sync_folder(files, name);
+    if len < FILE_SIZE {
+        named?;
+    }
     Ok(file)
 }
 
@@ -118,6 +133,8 @@ impl<R: Files<File = File>> SectorDisk for FileDisk<R> {
     ghost whole = { λ _. tt };
 
     fn attach(&mut self, name: &str) -> Result<(), DiskFailed> {
+        // The lock of the file that it had would keep the next open of that file out.
+        self.file = None;
         let opened = open(&self.files, name);
         self.file = Some(counted(opened, &mut self.faults, DiskFailed)?);
         Ok(())
