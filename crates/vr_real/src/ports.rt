@@ -7,13 +7,24 @@ use std::net::SocketAddr;
 /// The number of senders beside the peers that have a port at a time.
 pub const OTHERS: usize = 64;
 
-/// Addresses by their ports: the peers, and behind them the last senders beside them.
+/// The port of a sender that has none: nothing can be sent there.
+pub const NOBODY: u32 = u32::MAX;
+
+/// A sender beside the peers.
+#[derive(Clone, Copy, Debug)]
+struct Other {
+    address: SocketAddr,
+    /// The number of the datagram by which it was heard last.
+    heard: u64,
+}
+
+/// Addresses by their ports: the peers, and behind them the senders beside them that were heard last.
 #[derive(Drop)]
 pub struct Ports {
     peers: Vec<SocketAddr>,
-    others: Vec<SocketAddr>,
-    /// The place that the next sender takes.
-    next: usize,
+    others: Vec<Other>,
+    /// How many datagrams of others were heard.
+    count: u64,
 }
 
 /// The number of a port.
@@ -31,7 +42,7 @@ impl Ports {
         Ok(Ports {
             peers: Vec::new(alloc),
             others,
-            next: 0,
+            count: 0,
         })
     }
 
@@ -39,7 +50,7 @@ impl Ports {
     pub fn set_peers(&mut self, peers: Vec<SocketAddr>) {
         self.peers = peers;
         self.others.clear();
-        self.next = 0;
+        self.count = 0;
     }
 
     /// The address of a port.
@@ -50,32 +61,49 @@ impl Ports {
             None => self
                 .others
                 .get(at.saturating_sub(self.peers.len()))
-                .copied(),
+                .map(|other| other.address),
         }
     }
 
-    /// The port of an address: where it has none, it takes the oldest one's.
-    pub fn port_of(&mut self, address: SocketAddr) -> u32 {
-        if let Some(port) = self.peers.iter().position(|peer| *peer == address) {
-            return number(port);
-        }
-        let place = match self.others.iter().position(|other| *other == address) {
-            Some(place) => place,
-            None => self.take_place(address),
+    /// The port of a peer, `None` where the address is no peer's.
+    pub fn peer(&self, address: SocketAddr) -> Option<u32> {
+        let place = self.peers.iter().position(|peer| *peer == address)?;
+        Some(number(place))
+    }
+
+    /// The port of a sender beside the peers: where it has none, it takes that of the one that was heard longest ago.
+    pub fn other(&mut self, address: SocketAddr) -> u32 {
+        self.count = self.count.saturating_add(1);
+        let heard = Other {
+            address,
+            heard: self.count,
         };
+        let place = self.place_for(address);
+        match self.others.get_mut(place) {
+            Some(other) => *other = heard,
+            None => {
+                let _ = self.others.push(heard);
+            }
+        }
         number(self.peers.len().saturating_add(place))
     }
 
-    /// Gives a sender the next place of the ring.
-    fn take_place(&mut self, address: SocketAddr) -> usize {
-        let place = self.next;
-        self.next = if place >= OTHERS - 1 { 0 } else { place + 1 };
-        match self.others.get_mut(place) {
-            Some(other) => *other = address,
-            None => {
-                let _ = self.others.push(address);
+    /// The place of a sender: its own; else the next one that is free; else that of the one that was heard longest ago.
+    fn place_for(&self, address: SocketAddr) -> usize {
+        let mut oldest = 0;
+        let mut least = u64::MAX;
+        for (place, other) in self.others.iter().enumerate() {
+            if other.address == address {
+                return place;
+            }
+            if other.heard < least {
+                least = other.heard;
+                oldest = place;
             }
         }
-        place
+        if self.others.len() < OTHERS {
+            return self.others.len();
+        }
+        oldest
     }
 }

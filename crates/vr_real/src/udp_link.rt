@@ -3,7 +3,7 @@ ghost use Rattle.std.specs.Prelude.{◌≡◌, ◌≤◌, None, vec_capacity};
 ghost use Rattle.vr_base.specs.Causes.{HasCause};
 
 use crate::counting::counted;
-use crate::ports::Ports;
+use crate::ports::{NOBODY, Ports};
 use std::alloc::{AllocError, Global};
 use std::io;
 use std::io::ErrorKind;
@@ -15,8 +15,14 @@ use vr_edge::{Link, LinkFailed, RECEIVE_ROOM, Received};
 /// 4 become 8 where it has 250 of them a second, which is at most the 10 that a receive may take.
 const WAIT_MILLIS: u64 = 4;
 
+/// The bytes of a header, and where the message's size stands in it.
+const HEADER: usize = 128;
+
+const SIZE_AT: usize = 104;
+
 /// Datagrams over UDP. It tells nothing. A receive waits at most ten milliseconds; the ports of the peers are those of
-/// their addresses, and the last 64 other senders have ports behind them, of which a new sender takes the oldest's.
+/// their addresses, and the 64 other senders that were heard last have ports behind them, of which a new one takes that of
+/// the one that was heard longest ago. A sender that isn't heard, since what it sent can't be a message, has the port of nobody.
 #[derive(Drop)]
 pub struct UdpLink<R> {
     alloc: Global,
@@ -75,6 +81,26 @@ fn is_quiet(error: &io::Error) -> bool {
     )
 }
 
+/// Whether a datagram may be a message, by its length alone: that of a header or more, and the size that stands in it.
+fn may_be_message(bytes: &[u8]) -> bool {
+    if bytes.len() < HEADER || bytes.len() >= RECEIVE_ROOM {
+        return false;
+    }
+    match bytes.get(SIZE_AT..SIZE_AT + 4) {
+        Some([a, b, c, d]) => u32::from_be_bytes([*a, *b, *c, *d]) as usize == bytes.len(),
+        _ => false,
+    }
+}
+
+/// The port of the sender of a datagram.
+fn port_of(ports: &mut Ports, address: SocketAddr, bytes: &[u8]) -> u32 {
+    match ports.peer(address) {
+        Some(port) => port,
+        None if may_be_message(bytes) => ports.other(address),
+        None => NOBODY,
+    }
+}
+
 impl<R: Drop> UdpLink<R> {
     /// A link without its socket, which `attach` opens through `net`.
     pub fn new(alloc: Global, net: R) -> Result<UdpLink<R>, AllocError> {
@@ -112,9 +138,9 @@ impl<R: Drop> UdpLink<R> {
             return Err(io::Error::from(ErrorKind::NotConnected));
         };
         let (count, address) = socket.recv_from(&mut self.room)?;
-        to.extend_from_slice(&self.room[..count.min(RECEIVE_ROOM)])
-            .unwrap();
-        Ok(self.ports.port_of(address))
+        let bytes = &self.room[..count.min(RECEIVE_ROOM)];
+        to.extend_from_slice(bytes).unwrap();
+        Ok(port_of(&mut self.ports, address, bytes))
     }
 }
 
