@@ -6,20 +6,28 @@ use crate::counting::counted;
 use std::fs::{File, Files, OpenOptions};
 use std::io;
 use std::io::ErrorKind;
+use std::os::fd::AsRawFd;
 use std::os::unix::fs::FileExt;
 use std::path::Path;
+use std::time::Clock;
 use vr_disk::{DiskFailed, SECTOR_SIZE, SECTORS, Sector, SectorDisk};
 
 /// The bytes of the file.
 const FILE_SIZE: u64 = SECTORS as u64 * SECTOR_SIZE as u64;
 
+/// For how many milliseconds reads may come from the system's copies of the file, until it is to forget them.
+const KEPT_MILLIS: u64 = 60_000;
+
 /// A disk of sectors in a file of the system: sector i stands at byte 512 i. It tells nothing. Each call is a call of the
 /// system, and fails where that does or where no file is attached. The file is locked as long as it is attached. What is
-/// written goes through the system's page cache.
+/// written goes through the system's page cache; at each attach, and once a minute, the system is told to forget what it
+/// keeps of the file, so that reads tell what the disk has.
 #[derive(Drop)]
 pub struct FileDisk<R> {
-    files: R,
+    system: R,
     file: Option<File>,
+    /// The milliseconds of the clock when the system was told to forget.
+    forgotten: u64,
     faults: u64,
     read_faults: u64,
 }
@@ -42,6 +50,11 @@ fn sync_folder<R: Files<File = File>>(files: &R, name: &str) -> io::Result<()> {
         _ => ".",
     };
     File::open(files, folder)?.sync_all()
+}
+
+/// Tells the system to forget its copies of the file's bytes. What isn't synced yet it keeps.
+fn forget_copies(file: &File) {
+    let _ = libc::posix_fadvise(file.as_raw_fd(), 0, 0, libc::POSIX_FADV_DONTNEED);
 }
 
 /// The file with this name, opened and locked. It fails, and leaves the file as it is, while another open of the file has the
@@ -72,6 +85,7 @@ fn open<R: Files<File = File>>(files: &R, name: &str) -> io::Result<File> {
     if len < FILE_SIZE {
         named?;
     }
+    forget_copies(&file);
     Ok(file)
 }
 
@@ -86,13 +100,14 @@ fn not_attached() -> io::Error {
 }
 
 impl<R> FileDisk<R> {
-    /// A disk without its file, which `attach` opens through `files`.
-    pub fn new(files: R) -> FileDisk<R>
-        ensures { result ≡ record { files = files; file = None; faults = 0; read_faults = 0 } }
+    /// A disk without its file, which `attach` opens through the system that is handed in.
+    pub fn new(system: R) -> FileDisk<R>
+        ensures { result ≡ record { system = system; file = None; forgotten = 0; faults = 0; read_faults = 0 } }
     {
         FileDisk {
-            files,
+            system,
             file: None,
+            forgotten: 0,
             faults: 0,
             read_faults: 0,
         }
@@ -123,7 +138,32 @@ impl<R> FileDisk<R> {
     }
 }
 
-impl<R: Files<File = File>> SectorDisk for FileDisk<R> {
+impl<R: Clock> FileDisk<R> {
+    /// The milliseconds of the clock. Where it fails, those when the system was told to forget.
+    fn now(&self) -> u64 {
+        match self.system.monotonic() {
+            Ok(time) => u64::try_from(time.as_millis()).unwrap_or(u64::MAX),
+            Err(_) => self.forgotten,
+        }
+    }
+
+    /// Tells the system to forget its copies, where that was a minute ago.
+    fn refresh(&mut self)
+        ensures faults { self.new.faults ≡ self.old.faults }
+        ensures reads { self.new.read_faults ≡ self.old.read_faults }
+    {
+        let now = self.now();
+        if now.saturating_sub(self.forgotten) < KEPT_MILLIS {
+            return;
+        }
+        self.forgotten = now;
+        if let Some(file) = &self.file {
+            forget_copies(file);
+        }
+    }
+}
+
+impl<R: Files<File = File> + Clock> SectorDisk for FileDisk<R> {
     ghost told = { λ _. None };
 
     ghost faults = { λ d. d.faults };
@@ -135,12 +175,14 @@ impl<R: Files<File = File>> SectorDisk for FileDisk<R> {
     fn attach(&mut self, name: &str) -> Result<(), DiskFailed> {
         // The lock of the file that it had would keep the next open of that file out.
         self.file = None;
-        let opened = open(&self.files, name);
+        let opened = open(&self.system, name);
         self.file = Some(counted(opened, &mut self.faults, DiskFailed)?);
+        self.forgotten = self.now();
         Ok(())
     }
 
     fn read(&mut self, i: u32, to: &mut Sector) -> Result<(), DiskFailed> {
+        self.refresh();
         counted(self.read_at(i, to), &mut self.read_faults, DiskFailed)
     }
 
