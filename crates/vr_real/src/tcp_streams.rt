@@ -3,38 +3,33 @@ ghost use Rattle.std.specs.Prelude.{◌≡◌, ◌≤◌, ◌+◌, ℕ, IfOk, If
 ghost use Rattle.vr_edge.specs.Streaming.{IsPolled, IsPort};
 
 use crate::counting::counted;
-use crate::ports::number;
+use crate::slots::{
+    ENTRANCE, OTHERS, Slot, begins_at, empty_slots, note, put_stream, read_ready, take_in,
+};
+use crate::stream_options::watch;
 use mio::net::{TcpListener, TcpStream};
 use mio::{Events, Interest, Poll, Token};
 use std::alloc::{AllocError, Global};
 use std::io;
-use std::io::{ErrorKind, Read, Write};
+use std::io::ErrorKind;
 use std::net::{Net, SocketAddr, ToSocketAddrs};
-use std::time::Duration;
+use std::time::{Clock, Duration};
 use vr_edge::{Polled, STREAM_ROOM, StreamFailed, Streams};
 
 /// How long a poll waits where nothing is there. The system may round it up to one of its own ticks, and one more.
 const WAIT_MILLIS: u64 = 4;
 
-/// The most streams at a time that others than the peers have made.
-const OTHERS: usize = 64;
+/// How many pieces more are read, until the system is asked again what there is.
+const ROUND: u32 = 4;
 
 /// What the address of a stream begins with.
 pub const PREFIX: &str = "tcp:";
 
-/// The number by which the system tells that streams wait to be taken in.
-const ENTRANCE: usize = 1_000_000;
-
-/// The stream at a port.
-#[derive(Drop)]
-struct Slot {
-    stream: Option<TcpStream>,
-    /// Whether something may be there to be read.
-    ready: bool,
-}
-
 /// Streams over TCP. They tell nothing. A poll waits at most ten milliseconds. The stream to a peer is made at the first write to its port,
-/// and again after an end; what is written before it stands is lost.
+/// and again after an end, at most one a second; what is written before it stands is lost. One of which bytes aren't acknowledged for
+/// two seconds ends. Where 64 others are there and one more comes, it takes the place of the one that has been silent longest: for three
+/// seconds without having said anything, or for a minute, or at all where a peer's machine knocks; but never of one from a peer's
+/// machine that has said something. No stream is read for ever while others wait.
 #[derive(Drop)]
 pub struct TcpStreams<R> {
     alloc: Global,
@@ -46,6 +41,12 @@ pub struct TcpStreams<R> {
     slots: Vec<Slot>,
     /// Where the next search begins.
     next: usize,
+    /// How many pieces were read since the system was asked what there is.
+    pieces: u32,
+    /// Whether streams may wait to be taken in.
+    knocks: bool,
+    /// The milliseconds of the clock, as it was looked at last.
+    now: u64,
     faults: u64,
     call_faults: u64,
     ghost few: { vec_len slots ≤ vec_len peers + 64 },
@@ -73,135 +74,6 @@ fn addresses_of<R: Net>(alloc: Global, net: &R, texts: &Vec<String>) -> io::Resu
     Ok(addresses)
 }
 
-/// So many ports without a stream.
-fn empty_slots(alloc: Global, count: usize) -> Result<Vec<Slot>, AllocError>
-    ensures { IfOk result (λ slots. vec_len slots ≡ count) }
-{
-    let mut slots = Vec::new(alloc);
-    for _ in 0..count {
-        slots.push(Slot {
-            stream: None,
-            ready: false,
-        })?;
-    }
-    Ok(slots)
-}
-
-impl Slot {
-    /// The stream is there no more.
-    fn leave(&mut self) {
-        self.stream = None;
-        self.ready = false;
-    }
-
-    /// What its stream has; `None` where nothing is there.
-    fn read(&mut self, port: u32, to: &mut [u8]) -> Option<Polled>
-        requires { length to.old ≡ STREAM_ROOM }
-        ensures { (peers : ℕ) → IsPort peers port → IfSome result (IsPolled peers) }
-    {
-        if !self.ready {
-            return None;
-        }
-        let Some(stream) = &mut self.stream else {
-            self.ready = false;
-            return None;
-        };
-        match stream.read(to) {
-            Ok(0) => {
-                self.leave();
-                Some(Polled::Ended(port))
-            }
-            Ok(count) => Some(Polled::Bytes(port, count as u32)),
-            Err(error) if error.kind() == ErrorKind::WouldBlock => {
-                self.ready = false;
-                None
-            }
-            Err(error) if error.kind() == ErrorKind::Interrupted => None,
-            Err(_) => {
-                self.leave();
-                Some(Polled::Ended(port))
-            }
-        }
-    }
-}
-
-/// What one of the streams has, the first one from a place on.
-fn read_ready(slots: &mut Vec<Slot>, next: &mut usize, to: &mut [u8]) -> Option<Polled>
-    requires { length to.old ≡ STREAM_ROOM }
-    ensures bound { (peers : ℕ) → vec_len slots.old ≤ peers + 64 → IfSome result (IsPolled peers) }
-    ensures same { vec_len slots.new ≡ vec_len slots.old }
-{
-    let count = slots.len();
-    for _ in 0..count {
-        let at = if *next < count { *next } else { 0 };
-        *next = at.saturating_add(1);
-        if let Some(slot) = slots.get_mut(at) {
-            if let Some(polled) = slot.read(number(at), to) {
-                return Some(polled);
-            }
-        }
-    }
-    None
-}
-
-/// Notes at which ports something may be there, and says whether streams wait to be taken in.
-fn note(events: &Events, slots: &mut Vec<Slot>) -> bool
-    ensures { vec_len slots.new ≡ vec_len slots.old }
-{
-    let mut waiting = false;
-    for event in events.iter() {
-        let Token(at) = event.token();
-        waiting = waiting || at == ENTRANCE;
-        if let Some(slot) = slots.get_mut(at) {
-            slot.ready = true;
-        }
-    }
-    waiting
-}
-
-/// Puts a stream at a port.
-fn put_stream(slots: &mut Vec<Slot>, at: usize, stream: TcpStream)
-    ensures { vec_len slots.new ≡ vec_len slots.old }
-{
-    if let Some(slot) = slots.get_mut(at) {
-        slot.stream = Some(stream);
-    }
-}
-
-/// Takes in the streams that wait, as long as there is a port for them.
-fn take_in(poll: &Poll, listener: &TcpListener, slots: &mut Vec<Slot>, peers: usize)
-    ensures { vec_len slots.new ≡ vec_len slots.old }
-{
-    for at in peers..slots.len() {
-        if let Some(slot) = slots.get_mut(at) {
-            if slot.stream.is_none() {
-                let Ok((mut stream, _)) = listener.accept() else {
-                    return;
-                };
-                if poll
-                    .registry()
-                    .register(&mut stream, Token(at), Interest::READABLE)
-                    .is_ok()
-                {
-                    let _ = stream.set_nodelay(true);
-                    slot.stream = Some(stream);
-                    slot.ready = true;
-                }
-            }
-        }
-    }
-    turn_away(listener);
-}
-
-/// Lets the streams go for which there is no port.
-fn turn_away(listener: &TcpListener) {
-    for _ in 0..OTHERS {
-        if listener.accept().is_err() {
-            return;
-        }
-    }
-}
-
 impl<R: Drop> TcpStreams<R> {
     /// Streams that aren't attached, which `attach` opens through `net`.
     pub fn new(alloc: Global, net: R) -> Result<TcpStreams<R>, AllocError> {
@@ -214,13 +86,16 @@ impl<R: Drop> TcpStreams<R> {
             peers: Vec::new(alloc),
             slots: Vec::new(alloc),
             next: 0,
+            pieces: 0,
+            knocks: false,
+            now: 0,
             faults: 0,
             call_faults: 0,
         })
     }
 
-    /// Waits a little until something is there; a signal that comes ends the wait.
-    fn wait(&mut self) -> io::Result<()>
+    /// Waits so long until something is there; a signal that comes ends the wait.
+    fn wait(&mut self, millis: u64) -> io::Result<()>
         ensures attached { vec_len self.new.peers ≡ vec_len self.old.peers }
         ensures faults { self.new.faults ≡ self.old.faults }
         ensures others { self.new.call_faults ≡ self.old.call_faults }
@@ -228,14 +103,15 @@ impl<R: Drop> TcpStreams<R> {
         let Some(poll) = &mut self.poll else {
             return Err(io::Error::from(ErrorKind::NotConnected));
         };
-        match poll.poll(&mut self.events, Some(Duration::from_millis(WAIT_MILLIS))) {
+        self.pieces = 0;
+        match poll.poll(&mut self.events, Some(Duration::from_millis(millis))) {
             Ok(()) => {}
             Err(error) if error.kind() == ErrorKind::Interrupted => return Ok(()),
             Err(error) => return Err(error),
         }
-        let waiting = note(&self.events, &mut self.slots);
-        if let (true, Some(listener)) = (waiting, &self.listener) {
-            take_in(poll, listener, &mut self.slots, self.peers.len());
+        let knock = note(&self.events, &mut self.slots);
+        if let (true, Some(listener)) = (knock || self.knocks, &self.listener) {
+            self.knocks = take_in(poll, listener, &mut self.slots, &self.peers, self.now);
         }
         Ok(())
     }
@@ -248,13 +124,41 @@ impl<R: Drop> TcpStreams<R> {
         ensures faults { self.new.faults ≡ self.old.faults }
         ensures others { self.new.call_faults ≡ self.old.call_faults }
     {
-        if let Some(polled) = read_ready(&mut self.slots, &mut self.next, to) {
+        if self.pieces >= ROUND {
+            return self.find_anew(0, to);
+        }
+        if let Some(polled) = read_ready(&mut self.slots, &mut self.next, self.now, to) {
+            self.pieces = self.pieces.saturating_add(1);
             return Ok(polled);
         }
-        self.wait()?;
-        match read_ready(&mut self.slots, &mut self.next, to) {
+        self.find_anew(WAIT_MILLIS, to)
+    }
+
+    /// What comes next, once the system was asked what there is and so long was waited for it.
+    fn find_anew(&mut self, millis: u64, to: &mut [u8]) -> io::Result<Polled>
+        requires { length to.old ≡ STREAM_ROOM }
+        ensures bound { IfOk result (IsPolled (vec_len self.old.peers)) }
+        ensures attached { vec_len self.new.peers ≡ vec_len self.old.peers }
+        ensures faults { self.new.faults ≡ self.old.faults }
+        ensures others { self.new.call_faults ≡ self.old.call_faults }
+    {
+        self.wait(millis)?;
+        match read_ready(&mut self.slots, &mut self.next, self.now, to) {
             Some(polled) => Ok(polled),
             None => Ok(Polled::Quiet),
+        }
+    }
+}
+
+impl<R: Clock> TcpStreams<R> {
+    /// Looks at the clock. Where that fails it is as if no time had gone by.
+    fn look_at_clock(&mut self)
+        ensures attached { vec_len self.new.peers ≡ vec_len self.old.peers }
+        ensures faults { self.new.faults ≡ self.old.faults }
+        ensures others { self.new.call_faults ≡ self.old.call_faults }
+    {
+        if let Ok(time) = self.net.monotonic() {
+            self.now = u64::try_from(time.as_millis()).unwrap_or(u64::MAX);
         }
     }
 }
@@ -281,27 +185,24 @@ impl<R: Net + Drop> TcpStreams<R> {
         Ok(())
     }
 
-    /// Makes the stream to a peer, where there is none.
+    /// Begins the stream to a peer, where there is none or the one that was begun doesn't stand.
     fn connect(&mut self, at: usize) -> io::Result<()>
         ensures attached { vec_len self.new.peers ≡ vec_len self.old.peers }
         ensures faults { self.new.faults ≡ self.old.faults }
         ensures others { self.new.call_faults ≡ self.old.call_faults }
     {
-        let (Some(address), Some(slot), Some(poll)) = (
-            self.peers.get(at),
-            self.slots.get(at),
-            &self.poll,
-        ) else {
+        let (Some(address), Some(poll)) = (self.peers.get(at), &self.poll) else {
             return Ok(());
         };
-        if slot.stream.is_some() {
+        if !begins_at(&mut self.slots, at, self.now) {
             return Ok(());
         }
         let mut stream = TcpStream::connect(&self.net, *address)?;
         stream.set_nodelay(true)?;
+        watch(&stream);
         poll.registry()
             .register(&mut stream, Token(at), Interest::READABLE)?;
-        put_stream(&mut self.slots, at, stream);
+        put_stream(&mut self.slots, at, stream, true, self.now);
         Ok(())
     }
 
@@ -314,21 +215,14 @@ impl<R: Net + Drop> TcpStreams<R> {
     {
         let at = port as usize;
         self.connect(at)?;
-        let Some(slot) = self.slots.get_mut(at) else {
-            return Err(io::Error::from(ErrorKind::NotConnected));
-        };
-        let Some(stream) = &mut slot.stream else {
-            return Err(io::Error::from(ErrorKind::NotConnected));
-        };
-        let written = stream.write(bytes);
-        if written.is_err() {
-            slot.ready = true;
+        match self.slots.get_mut(at) {
+            Some(slot) => slot.write(bytes),
+            None => Err(io::Error::from(ErrorKind::NotConnected)),
         }
-        written
     }
 }
 
-impl<R: Net + Drop> Streams for TcpStreams<R> {
+impl<R: Net + Clock + Drop> Streams for TcpStreams<R> {
     ghost calls = { λ _. None };
 
     ghost polled = { λ _. None };
@@ -344,11 +238,13 @@ impl<R: Net + Drop> Streams for TcpStreams<R> {
     ghost call_faults = { λ s. s.call_faults };
 
     fn attach(&mut self, own: &str, peers: &Vec<String>) -> Result<(), StreamFailed> {
+        self.look_at_clock();
         let opened = self.open(own, peers);
         counted(opened, &mut self.faults, StreamFailed)
     }
 
     fn poll(&mut self, to: &mut [u8]) -> Result<Polled, StreamFailed> {
+        self.look_at_clock();
         match self.find(to) {
             Ok(polled) => Ok(polled),
             Err(error) => counted(Err(error), &mut self.faults, StreamFailed),

@@ -1,5 +1,5 @@
 use Rattle.std.proofs.Common.{◌≡◌, vec_len}
-use Rattle.vr_real.proofs.tcp_streams.empty_slots.Given as goal
+use Rattle.vr_real.proofs.slots.empty_slots.Given as goal
 
 abbrev pub invariant-loop : goal.invariant-loop
 invariant-loop l = vec_len l.slots ≡ l.counter

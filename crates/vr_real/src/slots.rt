@@ -1,0 +1,307 @@
+//! The streams at their ports: which of them may have something, and which gives its place up to another one.
+ghost use Rattle.std.specs.Prelude.{◌≡◌, ◌≤◌, ◌+◌, ℕ, IfOk, IfSome, length, vec_len};
+ghost use Rattle.vr_edge.specs.Streaming.{IsPolled, IsPort};
+
+use crate::ports::number;
+use crate::stream_options::watch;
+use mio::net::{TcpListener, TcpStream};
+use mio::{Events, Interest, Poll, Token};
+use std::alloc::{AllocError, Global};
+use std::io;
+use std::io::{ErrorKind, Read, Write};
+use std::net::SocketAddr;
+use vr_edge::{Polled, STREAM_ROOM};
+
+/// The most streams at a time that others than the peers have made.
+pub const OTHERS: usize = 64;
+
+/// The number by which the system tells that streams wait to be taken in.
+pub const ENTRANCE: usize = 1_000_000;
+
+/// How much later than the last one a stream to a peer is begun.
+const AGAIN_MILLIS: u64 = 1000;
+
+/// The bytes of a header. A stream that brought fewer has said nothing.
+const HEADER: usize = 128;
+
+/// How long a stream that has said nothing keeps its place where another one needs it.
+const MUTE_MILLIS: u64 = 3000;
+
+/// How long a stream that has said something, and was silent since, keeps its place where another one needs it.
+const SILENT_MILLIS: u64 = 60_000;
+
+/// The stream at a port.
+#[derive(Drop)]
+pub struct Slot {
+    stream: Option<TcpStream>,
+    /// Whether something may be there to be read.
+    ready: bool,
+    /// Whether it has taken bytes: one that is being made takes none.
+    stands: bool,
+    /// Whether the stream before it was ended here, which no poll has told yet.
+    over: bool,
+    /// Whether it comes from the machine of a peer.
+    near: bool,
+    /// The milliseconds of the clock when bytes came last; at first when it was put here.
+    heard: u64,
+    /// How many bytes came, as far as they are counted.
+    said: usize,
+    /// The milliseconds of the clock when a stream to the peer of this port was begun last.
+    begun: Option<u64>,
+}
+
+/// So many ports without a stream.
+pub fn empty_slots(alloc: Global, count: usize) -> Result<Vec<Slot>, AllocError>
+    ensures { IfOk result (λ slots. vec_len slots ≡ count) }
+{
+    let mut slots = Vec::new(alloc);
+    for _ in 0..count {
+        slots.push(Slot::empty())?;
+    }
+    Ok(slots)
+}
+
+impl Slot {
+    /// A port without a stream.
+    fn empty() -> Slot {
+        Slot {
+            stream: None,
+            ready: false,
+            stands: false,
+            over: false,
+            near: false,
+            heard: 0,
+            said: 0,
+            begun: None,
+        }
+    }
+
+    /// The stream is there no more, and no poll has to tell so.
+    pub fn leave(&mut self) {
+        self.stream = None;
+        self.ready = false;
+        self.over = false;
+    }
+
+    /// Takes a stream in the place of what it had.
+    fn put(&mut self, stream: TcpStream, near: bool, now: u64) {
+        self.over = self.over || self.stream.is_some();
+        self.stream = Some(stream);
+        self.ready = false;
+        self.stands = false;
+        self.near = near;
+        self.heard = now;
+        self.said = 0;
+    }
+
+    /// Whether its stream is made.
+    fn stands(&self) -> bool {
+        match &self.stream {
+            Some(stream) => self.stands || stream.peer_addr().is_ok(),
+            None => false,
+        }
+    }
+
+    /// Whether a stream to the peer of this port is to be begun. Then that counts as begun now.
+    fn begins(&mut self, now: u64) -> bool {
+        if let Some(begun) = self.begun {
+            if now.saturating_sub(begun) < AGAIN_MILLIS {
+                return false;
+            }
+        }
+        if self.stands() {
+            return false;
+        }
+        self.begun = Some(now);
+        true
+    }
+
+    /// How many milliseconds its stream has been silent, where it may be ended for one that comes from the machine of a peer
+    /// or not; `None` where it may not.
+    fn spare(&self, near: bool, now: u64) -> Option<u64> {
+        let silent = now.saturating_sub(self.heard);
+        let is_mute = self.said < HEADER && silent >= MUTE_MILLIS;
+        let is_far = !self.near && (near || silent >= SILENT_MILLIS);
+        if is_mute || is_far {
+            Some(silent)
+        } else {
+            None
+        }
+    }
+
+    /// Gives its stream bytes. Where that fails, the next poll looks whether it has ended.
+    pub fn write(&mut self, bytes: &[u8]) -> io::Result<usize>
+        ensures { IfOk result (λ count. count ≤ length bytes.now) }
+    {
+        let Some(stream) = &mut self.stream else {
+            return Err(io::Error::from(ErrorKind::NotConnected));
+        };
+        let written = stream.write(bytes);
+        match &written {
+            Ok(_) => self.stands = true,
+            Err(_) => self.ready = true,
+        }
+        written
+    }
+
+    /// What its stream has; `None` where nothing is there.
+    fn read(&mut self, port: u32, now: u64, to: &mut [u8]) -> Option<Polled>
+        requires { length to.old ≡ STREAM_ROOM }
+        ensures { (peers : ℕ) → IsPort peers port → IfSome result (IsPolled peers) }
+    {
+        if self.over {
+            self.over = false;
+            return Some(Polled::Ended(port));
+        }
+        if !self.ready {
+            return None;
+        }
+        let Some(stream) = &mut self.stream else {
+            self.ready = false;
+            return None;
+        };
+        match stream.read(to) {
+            Ok(0) => {
+                self.leave();
+                Some(Polled::Ended(port))
+            }
+            Ok(count) => {
+                self.heard = now;
+                self.said = self.said.saturating_add(count);
+                Some(Polled::Bytes(port, count as u32))
+            }
+            Err(error) if error.kind() == ErrorKind::WouldBlock => {
+                self.ready = false;
+                None
+            }
+            Err(error) if error.kind() == ErrorKind::Interrupted => None,
+            Err(_) => {
+                self.leave();
+                Some(Polled::Ended(port))
+            }
+        }
+    }
+}
+
+/// What one of the streams has, the first one from a place on.
+pub fn read_ready(
+    slots: &mut Vec<Slot>,
+    next: &mut usize,
+    now: u64,
+    to: &mut [u8],
+) -> Option<Polled>
+    requires { length to.old ≡ STREAM_ROOM }
+    ensures bound { (peers : ℕ) → vec_len slots.old ≤ peers + 64 → IfSome result (IsPolled peers) }
+    ensures same { vec_len slots.new ≡ vec_len slots.old }
+{
+    let count = slots.len();
+    for _ in 0..count {
+        let at = if *next < count { *next } else { 0 };
+        *next = at.saturating_add(1);
+        if let Some(slot) = slots.get_mut(at) {
+            if let Some(polled) = slot.read(number(at), now, to) {
+                return Some(polled);
+            }
+        }
+    }
+    None
+}
+
+/// Notes at which ports something may be there, and says whether streams wait to be taken in.
+pub fn note(events: &Events, slots: &mut Vec<Slot>) -> bool
+    ensures { vec_len slots.new ≡ vec_len slots.old }
+{
+    let mut waiting = false;
+    for event in events.iter() {
+        let Token(at) = event.token();
+        waiting = waiting || at == ENTRANCE;
+        if let Some(slot) = slots.get_mut(at) {
+            slot.ready = true;
+        }
+    }
+    waiting
+}
+
+/// Puts a stream at a port. Something may be there already.
+pub fn put_stream(slots: &mut Vec<Slot>, at: usize, stream: TcpStream, near: bool, now: u64)
+    ensures { vec_len slots.new ≡ vec_len slots.old }
+{
+    if let Some(slot) = slots.get_mut(at) {
+        slot.put(stream, near, now);
+        slot.ready = true;
+    }
+}
+
+/// Whether a stream to the peer of a port is to be begun. Then that counts as begun now.
+pub fn begins_at(slots: &mut Vec<Slot>, at: usize, now: u64) -> bool
+    ensures { vec_len slots.new ≡ vec_len slots.old }
+{
+    match slots.get_mut(at) {
+        Some(slot) => slot.begins(now),
+        None => false,
+    }
+}
+
+/// The place for a stream that comes from the machine of a peer or not: one that is free; else that of the stream that has
+/// been silent longest, of those that may be ended for it.
+fn place_for(slots: &Vec<Slot>, peers: usize, near: bool, now: u64) -> Option<usize> {
+    let mut found = None;
+    let mut longest = 0;
+    for at in peers..slots.len() {
+        let slot = slots.get(at)?;
+        if slot.stream.is_none() {
+            return Some(at);
+        }
+        if let Some(silent) = slot.spare(near, now) {
+            if found.is_none() || silent > longest {
+                found = Some(at);
+                longest = silent;
+            }
+        }
+    }
+    found
+}
+
+/// Takes a stream in where there is a place for it, and lets it go where there is none.
+fn seat(
+    poll: &Poll,
+    slots: &mut Vec<Slot>,
+    peers: &Vec<SocketAddr>,
+    mut stream: TcpStream,
+    from: SocketAddr,
+    now: u64,
+)
+    ensures { vec_len slots.new ≡ vec_len slots.old }
+{
+    let near = peers.iter().any(|peer| peer.ip() == from.ip());
+    let Some(at) = place_for(slots, peers.len(), near, now) else {
+        return;
+    };
+    let registered = poll
+        .registry()
+        .register(&mut stream, Token(at), Interest::READABLE);
+    if registered.is_ok() {
+        let _ = stream.set_nodelay(true);
+        watch(&stream);
+        put_stream(slots, at, stream, near, now);
+    }
+}
+
+/// Takes in streams that wait, at most as many as there are places, and says whether more may wait.
+pub fn take_in(
+    poll: &Poll,
+    listener: &TcpListener,
+    slots: &mut Vec<Slot>,
+    peers: &Vec<SocketAddr>,
+    now: u64,
+) -> bool
+    ensures { vec_len slots.new ≡ vec_len slots.old }
+{
+    for _ in 0..OTHERS {
+        match listener.accept() {
+            Ok((stream, from)) => seat(poll, slots, peers, stream, from, now),
+            Err(error) => return error.kind() != ErrorKind::WouldBlock,
+        }
+    }
+    true
+}
