@@ -1,8 +1,5 @@
 # What examples/cluster and examples/crash share: members of one group on loopback, and clients that ask it. It is sourced.
-# The program is crates/vr_app/out/vr_app (made by `rt ci`), or the one that PROGRAM names.
-cd "$(dirname "${BASH_SOURCE[0]}")/.." || exit 2
-program=${PROGRAM:-$PWD/crates/vr_app/out/vr_app}
-[ -x "$program" ] || { echo "no program: rt ci makes $program" >&2; exit 2; }
+. "$(dirname "${BASH_SOURCE[0]}")/program.sh"
 folder=$(mktemp -d) || exit 2
 port=$((20000 + ($$ * 7) % 9000))
 # Over TCP where SCHEME is tcp: and over UDP without it.
