@@ -80,6 +80,29 @@ fn fault(disk: &mut LieDisk, fault: &Fault) -> &'static str
     }
 }
 
+/// Writes the header sector of slot 1 anew.
+fn mend(disk: &mut LieDisk) -> &'static str {
+    match write_header(disk, &entry(1).header()) {
+        Ok(()) => "written",
+        Err(_) => "failed",
+    }
+}
+
+/// Does what a line says of a disk that lies; what is told of it, or `None` where it says nothing of that.
+fn done(alloc: Global, disk: &mut LieDisk, act: Act<'_>) -> Result<Option<&'static str>, NoMemory> {
+    let sector = act.sector();
+    match act.name {
+        "member" => Ok(Some(write_member(alloc, disk)?)),
+        "mend" => Ok(Some(mend(disk))),
+        "put" => Ok(Some(put_sector(disk, sector, act.second.min(255) as u8))),
+        "damage" => Ok(Some(fault(disk, &Fault::Damage(sector)))),
+        "stale" => Ok(Some(fault(disk, &Fault::Stale(sector)))),
+        "unread" => Ok(Some(fault(disk, &Fault::Unread(sector)))),
+        "misdirect" => Ok(Some(misdirect(disk, sector, act.second_sector()))),
+        _ => Ok(None),
+    }
+}
+
 /// Does what a line says of a disk that lies, and tells of it. Whether it says something of that.
 pub fn act(
     alloc: Global,
@@ -87,24 +110,15 @@ pub fn act(
     act: Act<'_>,
     to: &mut ByteList,
 ) -> Result<bool, NoMemory> {
-    let sector = act.sector();
-    let told = match act.name {
-        "member" => write_member(alloc, disk)?,
-        "mend" => match write_header(disk, &entry(1).header()) {
-            Ok(()) => "written",
-            Err(_) => "failed",
-        },
-        "put" => put_sector(disk, sector, act.second.min(255) as u8),
-        "damage" => fault(disk, &Fault::Damage(sector)),
-        "stale" => fault(disk, &Fault::Stale(sector)),
-        "unread" => fault(disk, &Fault::Unread(sector)),
-        "misdirect" => misdirect(disk, sector, act.second_sector()),
-        "sector" => {
-            read(alloc, disk, sector, to)?;
-            ""
+    if act.name == "sector" {
+        read(alloc, disk, act.sector(), to)?;
+        return Ok(true);
+    }
+    match done(alloc, disk, act)? {
+        Some(told) => {
+            to.extend(told.as_bytes())?;
+            Ok(true)
         }
-        _ => return Ok(false),
-    };
-    to.extend(told.as_bytes())?;
-    Ok(true)
+        None => Ok(false),
+    }
 }

@@ -9,7 +9,7 @@ use mio::{Events, Interest, Poll, Token};
 use std::alloc::{AllocError, Global};
 use std::io;
 use std::io::{ErrorKind, Read, Write};
-use std::net::SocketAddr;
+use std::net::{IpAddr, SocketAddr};
 use vr_edge::{Polled, STREAM_ROOM};
 
 /// The most streams at a time that others than the peers have made.
@@ -46,7 +46,7 @@ pub struct Slot {
     heard: u64,
     /// How many bytes came, as far as they are counted.
     said: usize,
-    /// The milliseconds of the clock when a stream to the peer of this port was begun last.
+    /// The milliseconds of the clock when a stream to the peer of this port was begun last; `None` where one may be begun at once.
     begun: Option<u64>,
 }
 
@@ -232,6 +232,14 @@ pub fn put_stream(slots: &mut Vec<Slot>, at: usize, stream: TcpStream, near: boo
     }
 }
 
+/// Whether the stream at a port is known to be made.
+pub fn stands_at(slots: &Vec<Slot>, at: usize) -> bool {
+    match slots.get(at) {
+        Some(slot) => slot.stands && slot.stream.is_some(),
+        None => false,
+    }
+}
+
 /// Whether a stream to the peer of a port is to be begun. Then that counts as begun now.
 pub fn begins_at(slots: &mut Vec<Slot>, at: usize, now: u64) -> bool
     ensures { vec_len slots.new ≡ vec_len slots.old }
@@ -262,18 +270,33 @@ fn place_for(slots: &Vec<Slot>, peers: usize, near: bool, now: u64) -> Option<us
     found
 }
 
+/// Whether an address is on the machine of a peer. Then that machine is there, and streams to peers on it may be begun at once.
+fn meet(slots: &mut Vec<Slot>, peers: &Vec<SocketAddr>, from: IpAddr) -> bool
+    ensures { vec_len slots.new ≡ vec_len slots.old }
+{
+    let mut near = false;
+    for at in 0..peers.len() {
+        if let (Some(peer), Some(slot)) = (peers.get(at), slots.get_mut(at)) {
+            if peer.ip() == from {
+                slot.begun = None;
+                near = true;
+            }
+        }
+    }
+    near
+}
+
 /// Takes a stream in where there is a place for it, and lets it go where there is none.
 fn seat(
     poll: &Poll,
     slots: &mut Vec<Slot>,
     peers: &Vec<SocketAddr>,
     mut stream: TcpStream,
-    from: SocketAddr,
+    near: bool,
     now: u64,
 )
     ensures { vec_len slots.new ≡ vec_len slots.old }
 {
-    let near = peers.iter().any(|peer| peer.ip() == from.ip());
     let Some(at) = place_for(slots, peers.len(), near, now) else {
         return;
     };
@@ -299,7 +322,10 @@ pub fn take_in(
 {
     for _ in 0..OTHERS {
         match listener.accept() {
-            Ok((stream, from)) => seat(poll, slots, peers, stream, from, now),
+            Ok((stream, from)) => {
+                let near = meet(slots, peers, from.ip());
+                seat(poll, slots, peers, stream, near, now);
+            }
             Err(error) => return error.kind() != ErrorKind::WouldBlock,
         }
     }

@@ -4,7 +4,8 @@ ghost use Rattle.vr_edge.specs.Streaming.{IsPolled, IsPort};
 
 use crate::counting::counted;
 use crate::slots::{
-    ENTRANCE, OTHERS, Slot, begins_at, empty_slots, note, put_stream, read_ready, take_in,
+    ENTRANCE, OTHERS, Slot, begins_at, empty_slots, note, put_stream, read_ready, stands_at,
+    take_in,
 };
 use crate::stream_options::watch;
 use mio::net::{TcpListener, TcpStream};
@@ -25,9 +26,9 @@ const ROUND: u32 = 4;
 /// What the address of a stream begins with.
 pub const PREFIX: &str = "tcp:";
 
-/// Streams over TCP. They tell nothing. A poll waits at most ten milliseconds. The stream to a peer is made at the first write to its port,
-/// and again after an end, at most one a second; what is written before it stands is lost. One of which bytes aren't acknowledged for
-/// two seconds ends. Where 64 others are there and one more comes, it takes the place of the one that has been silent longest: for three
+/// Streams over TCP. They tell nothing. A poll waits at most ten milliseconds. The stream to a peer is begun at an attach with an address
+/// of one's own, and at each write to its port while it doesn't stand, but at most once a second as long as no stream comes from the peer's
+/// machine; what is written before it stands is lost. One of which bytes aren't acknowledged for two seconds ends. Where 64 others are there and one more comes, it takes the place of the one that has been silent longest: for three
 /// seconds without having said anything, or for a minute, or at all where a peer's machine knocks; but never of one from a peer's
 /// machine that has said something. No stream is read for ever while others wait.
 #[derive(Drop)]
@@ -72,6 +73,14 @@ fn addresses_of<R: Net>(alloc: Global, net: &R, texts: &Vec<String>) -> io::Resu
         addresses.push(address_of(net, text.as_str())?)?;
     }
     Ok(addresses)
+}
+
+/// The address at which streams of others are taken in.
+fn own_address(listener: &Option<TcpListener>) -> Option<SocketAddr> {
+    match listener {
+        Some(listener) => listener.local_addr().ok(),
+        None => None,
+    }
 }
 
 impl<R: Drop> TcpStreams<R> {
@@ -163,7 +172,7 @@ impl<R: Clock> TcpStreams<R> {
     }
 }
 
-impl<R: Net + Drop> TcpStreams<R> {
+impl<R: Net + Clock + Drop> TcpStreams<R> {
     /// Takes the peers, and opens the own address to others.
     fn open(&mut self, own: &str, peers: &Vec<String>) -> io::Result<()>
         ensures attached { OnOk result (vec_len self.new.peers ≡ vec_len peers.now) }
@@ -191,6 +200,10 @@ impl<R: Net + Drop> TcpStreams<R> {
         ensures faults { self.new.faults ≡ self.old.faults }
         ensures others { self.new.call_faults ≡ self.old.call_faults }
     {
+        if stands_at(&self.slots, at) {
+            return Ok(());
+        }
+        self.look_at_clock();
         let (Some(address), Some(poll)) = (self.peers.get(at), &self.poll) else {
             return Ok(());
         };
@@ -204,6 +217,22 @@ impl<R: Net + Drop> TcpStreams<R> {
             .register(&mut stream, Token(at), Interest::READABLE)?;
         put_stream(&mut self.slots, at, stream, true, self.now);
         Ok(())
+    }
+
+    /// Begins the streams to the other members, where this one has an address of its own, so that they hear that it is there.
+    fn greet(&mut self)
+        ensures attached { vec_len self.new.peers ≡ vec_len self.old.peers }
+        ensures faults { self.new.faults ≡ self.old.faults }
+        ensures others { self.new.call_faults ≡ self.old.call_faults }
+    {
+        let Some(own) = own_address(&self.listener) else {
+            return;
+        };
+        for at in 0..self.peers.len() {
+            if self.peers.get(at) != Some(&own) {
+                let _ = self.connect(at);
+            }
+        }
     }
 
     /// Writes to the stream at a port. Where it fails for good the next poll finds its end.
@@ -238,8 +267,10 @@ impl<R: Net + Clock + Drop> Streams for TcpStreams<R> {
     ghost call_faults = { λ s. s.call_faults };
 
     fn attach(&mut self, own: &str, peers: &Vec<String>) -> Result<(), StreamFailed> {
-        self.look_at_clock();
         let opened = self.open(own, peers);
+        if opened.is_ok() {
+            self.greet();
+        }
         counted(opened, &mut self.faults, StreamFailed)
     }
 
