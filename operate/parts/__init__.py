@@ -1,0 +1,1 @@
+"""What the scripts of operate/ share: lines, policy, log, member, health, ways to talk to a keeper."""

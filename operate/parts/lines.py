@@ -1,0 +1,107 @@
+"""The lines that a member writes (docs/SCHEDULE.md, "Lines of the output"), as far as an operator's scripts look at them."""
+
+from typing import Iterable, List, NamedTuple, Optional, Tuple
+
+LONGEST = 4096  # bytes; the longest line that a member writes has some 1,300
+
+
+class Line(NamedTuple):
+    """One line: what it is, and the numbers that the policy looks at. What a kind of line doesn't tell is None."""
+
+    kind: str  # of a send the kind of its message, else the first word; `busy`, `redirect` and so on for a reply
+    view: Optional[int] = None
+    op: Optional[int] = None
+    commit: Optional[int] = None
+    asked: Optional[Tuple[str, ...]] = None  # of a question to the others: what it asks for
+
+
+QUESTIONS = ("get_prepare", "get_block", "get_view", "get_sync")
+UNKNOWN = Line("unknown")
+
+
+def parse(text: bytes) -> Line:
+    """The line that a text without its LF is; `UNKNOWN` where it is none, as where it was cut in two."""
+    words = text.decode("ascii", "replace").split(" ")
+    try:
+        return READERS.get(words[0], lambda _: UNKNOWN)(words)
+    except (IndexError, ValueError):
+        return UNKNOWN
+
+
+def value(words: List[str], name: str) -> int:
+    """The number behind a word; ValueError where there is none."""
+    return int(words[words.index(name) + 1])
+
+
+def read_send(words: List[str]) -> Line:
+    """`send M A B KIND ..`."""
+    kind = words[4]
+    if kind in QUESTIONS:
+        rest = tuple(words[5:])
+        if not any(word.isdigit() for word in rest):
+            return UNKNOWN
+        return Line(kind, view=value(words, "view") if "view" in words else None, op=value(words, "op") if "op" in words else None, asked=(kind,) + rest)
+    if kind == "commit":
+        return Line("beat", value(words, "view"), value(words, "op"), value(words[5:], "commit"))
+    if kind == "prepare":
+        return Line(kind, value(words, "view"), value(words, "op"), value(words, "commit"))
+    if kind in ("prepare_ok", "start_view_change", "do_view_change", "start_view", "sync_view"):
+        return Line(kind, view=value(words, "view"))
+    return Line(kind) if kind in ("give_prepare", "give_block") else UNKNOWN
+
+
+def read_commit(words: List[str]) -> Line:
+    """`commit R op K view W client C request Q OP`."""
+    return Line("applied", view=value(words, "view"), op=value(words, "op"))
+
+
+def read_reply(words: List[str]) -> Line:
+    """`reply R client C request Q ..`: kind `busy`, `redirect`, `old`, `gap`, `evicted`, or `reply` where it has an outcome."""
+    value(words, "request")
+    return Line(words[6] if words[6] in ("busy", "redirect", "old", "gap", "evicted") else "reply")
+
+
+def read_start(words: List[str]) -> Line:
+    """`start R view V log_view L commit C`."""
+    return Line("start", view=value(words, "view"), commit=value(words, "commit"))
+
+
+def read_choice(words: List[str]) -> Line:
+    """`choose R view V ..`, `wait R view V op K`."""
+    return Line(words[0], view=value(words, "view"), op=value(words, "op") if "op" in words else None)
+
+
+READERS = {
+    "send": read_send,
+    "commit": read_commit,
+    "reply": read_reply,
+    "start": read_start,
+    "choose": read_choice,
+    "wait": read_choice,
+    "halt": lambda words: Line("halt"),
+}
+
+
+class Splitter:
+    """Cuts what is read, in pieces of any length, into lines. A line longer than LONGEST is given up to its end, and counted."""
+
+    def __init__(self) -> None:
+        self.rest = b""
+        self.too_long = 0
+
+    def take(self, piece: bytes) -> Iterable[bytes]:
+        """The lines that end in this piece, without their LF."""
+        lines = (self.rest + piece).split(b"\n")
+        self.rest = lines.pop()
+        if len(self.rest) > LONGEST:
+            self.rest = self.rest[:LONGEST + 1]
+        for line in lines:
+            if len(line) > LONGEST:
+                self.too_long += 1
+            else:
+                yield line
+
+    def end(self) -> bytes:
+        """What stands of a line that was never ended."""
+        rest, self.rest = self.rest, b""
+        return rest

@@ -1,0 +1,149 @@
+"""Writes lines with times to a file that is put aside when it has grown, and leaves out what repeats, without ever holding up who reads."""
+
+import os
+import queue
+import sys
+import threading
+import time
+from collections import OrderedDict
+from typing import Callable, List, NamedTuple, Optional
+
+from .lines import Line
+
+REPEAT = 60.0  # seconds; a line that says the same again sooner is left out
+REMEMBERED = 256  # lines whose last time is kept
+MOST_WAITING = 20_000  # lines that wait to be written; more are dropped, and counted
+
+
+def stamp(seconds: float) -> str:
+    """A time since the epoch in UTC, to milliseconds."""
+    whole = time.strftime("%Y-%m-%dT%H:%M:%S", time.gmtime(seconds))
+    return f"{whole}.{int(seconds % 1 * 1000):03d}Z"
+
+
+class Thinner:
+    """Tells which lines are worth writing: one of those that say the same in a minute (messages have numbers, which aren't looked at; all heartbeats
+    say the same), and at most so many of any kind in a second. What an operator has to see is always written, once a minute."""
+
+    ALWAYS = ("start", "choose", "wait", "halt", "unknown")
+
+    def __init__(self, most: int) -> None:
+        self.most = most  # lines a second
+        self.second = 0.0
+        self.count = 0
+        self.last: "OrderedDict[bytes, float]" = OrderedDict()
+        self.left_out = 0
+
+    def keeps(self, now: float, text: bytes, line: Line) -> bool:
+        """Whether this line is written. `now` is in seconds."""
+        keep = self.is_news(now, text, line) and self.has_room(now, line)
+        self.left_out += not keep
+        return keep
+
+    def is_news(self, now: float, text: bytes, line: Line) -> bool:
+        key = b"beat" if line.kind == "beat" else text.split(b" ", 2)[-1] if text.startswith(b"send ") else text
+        last = self.last.get(key)
+        if last is not None and now - last < REPEAT:
+            return False
+        self.last[key] = now
+        self.last.move_to_end(key)
+        if len(self.last) > REMEMBERED:
+            self.last.popitem(last=False)
+        return True
+
+    def has_room(self, now: float, line: Line) -> bool:
+        if now - self.second >= 1:
+            self.second, self.count = now, 0
+        self.count += 1
+        return self.count <= self.most or line.kind in self.ALWAYS
+
+
+class Rotating:
+    """A file that lines are added to. Once it has `most` bytes it is put aside as FILE.1, what was FILE.1 as FILE.2, and so on to FILE.`kept`."""
+
+    def __init__(self, path: str, most: int, kept: int) -> None:
+        self.path, self.most, self.kept = path, most, kept
+        self.file = open(path, "ab", buffering=0)
+        self.size = self.file.tell()
+
+    def write(self, text: bytes) -> None:
+        """Adds the text; OSError where it can't be written whole."""
+        while text:
+            count = self.file.write(text)
+            self.size += count
+            text = text[count:]
+        if self.size >= self.most:
+            self.put_aside()
+
+    def put_aside(self) -> None:
+        for number in range(self.kept, 1, -1):
+            if os.path.exists(f"{self.path}.{number - 1}"):
+                os.replace(f"{self.path}.{number - 1}", f"{self.path}.{number}")
+        if self.kept:
+            os.replace(self.path, f"{self.path}.1")
+        fresh = open(self.path, "wb", buffering=0)
+        self.file.close()
+        self.file, self.size = fresh, 0
+
+
+class Waiting(NamedTuple):
+    """A line that waits to be written: when it came, in seconds since the epoch, and whether it is said too."""
+
+    seconds: float
+    text: bytes
+    said: bool
+
+
+class Writer:
+    """Writes lines in a thread of its own: who gives them never waits, neither for a slow disk nor for a full one. What can't be written, or
+    comes while MOST_WAITING lines wait, is dropped and counted."""
+
+    def __init__(self, file: Optional[Rotating], say: Callable[[str], None] = lambda text: None) -> None:
+        self.file, self.say = file, say
+        self.waiting: "queue.Queue[Optional[Waiting]]" = queue.Queue(MOST_WAITING)
+        self.dropped = 0
+        self.thread = threading.Thread(target=self.work, daemon=True)
+        self.thread.start()
+
+    def put(self, text: bytes, said: bool = False) -> None:
+        """A line, with the present time before it; one that is said goes to standard error too."""
+        try:
+            self.waiting.put_nowait(Waiting(time.time(), text, said))
+        except queue.Full:
+            self.dropped += 1
+
+    def work(self) -> None:
+        more = True
+        while more:
+            batch = self.take()
+            more = None not in batch
+            self.write([item for item in batch if item is not None])
+
+    def take(self) -> List[Optional[Waiting]]:
+        """What waits, at least one and at most a thousand."""
+        batch = [self.waiting.get()]
+        while len(batch) < 1000 and not self.waiting.empty():
+            batch.append(self.waiting.get())
+        return batch
+
+    def write(self, batch: List[Waiting]) -> None:
+        try:
+            for item in batch:
+                if item.said:
+                    self.say(item.text.decode("ascii", "replace"))
+            if self.file is not None:
+                self.file.write(b"".join(stamp(item.seconds).encode() + b" " + item.text + b"\n" for item in batch))
+        except OSError:
+            self.dropped += len(batch)
+
+    def end(self, most: float = 2.0) -> None:
+        """Writes what waits, for at most so many seconds."""
+        try:
+            self.waiting.put(None, timeout=most)
+        except queue.Full:
+            return
+        self.thread.join(most)
+
+
+def to_standard_error(text: str) -> None:
+    print(text, file=sys.stderr, flush=True)
