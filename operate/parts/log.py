@@ -41,6 +41,8 @@ class Thinner:
         return keep
 
     def is_news(self, now: float, text: bytes, line: Line) -> bool:
+        if line.kind == "start":
+            self.last.clear()
         key = b"beat" if line.kind == "beat" else text.split(b" ", 2)[-1] if text.startswith(b"send ") else text
         last = self.last.get(key)
         if last is not None and now - last < REPEAT:

@@ -41,7 +41,8 @@ class Seen:
     def begin(self, now: float, view: Optional[int], commit: int) -> None:
         """It starts: only its view and its commit number as saved are known."""
         self.view, self.commit, self.head, self.applied = view, commit, 0, 0
-        self.beat = self.change = self.busy = self.moved = NEVER
+        self.beat = self.change = self.busy = NEVER  # when it was last told that it leads, is in a view change, can't take a request
+        self.changing_since = NEVER  # of the view change that it is in, or was in last
         self.doubt = now  # since when blocks of its checkpoint may be missing
         self.lacks = False  # whether some are: it applies nothing until it has them
         self.block: Optional[Tuple[str, ...]] = None  # the one asked for last
@@ -74,10 +75,7 @@ class Seen:
         if line.kind == "start":
             self.begin(now, line.view, line.commit or 0)
             return True
-        moved = self.HEAR.get(line.kind, Seen.hear_other)(self, now, line)
-        if moved:
-            self.moved = now
-        return moved
+        return self.HEAR.get(line.kind, Seen.hear_other)(self, now, line)
 
     def hear_other(self, now: float, line: Line) -> bool:
         """The view is one that it is in or was in: of entries and questions older ones are told too."""
@@ -96,6 +94,8 @@ class Seen:
         return moved
 
     def hear_change(self, now: float, line: Line) -> bool:
+        if now - self.change > FORGOTTEN:
+            self.changing_since = now
         self.change, self.beat = now, NEVER
         self.rise(line.view)
         return False
@@ -216,6 +216,7 @@ class Policy:
             return None
         return f"has asked for {' '.join(question)} for {seconds.total:.1f} s, and nothing comes"
 
-    def standing(self) -> float:
+    def standing(self, now: float) -> float:
         """For how many seconds it has been standing still, by either rule."""
-        return max([self.stands.total] + [seconds.total for seconds in self.asks.values()])
+        seen = [self.stands] + list(self.asks.values())
+        return max([seconds.total for seconds in seen if seconds.last is not None and now - seconds.last <= FORGOTTEN], default=0.0)

@@ -1,0 +1,71 @@
+"""The line of health of a member: what its keeper knows of it, in words NAME=VALUE that a person and a program can read."""
+
+from typing import Dict, List, NamedTuple, Optional
+
+from .policy import PATIENCE, Policy
+
+LONG_CHANGE = 5.0  # seconds; a view change that takes longer is no ordinary one
+
+
+class Life(NamedTuple):
+    """What a keeper knows of its member's process. Times are seconds of the policy's clock."""
+
+    member: int
+    since: Optional[float]  # since when it runs; None while it doesn't
+    restarts: int  # because it stood still
+    ends: int  # by itself, or by a signal that wasn't the keeper's
+    lines: int
+    dropped: int  # lines that weren't written, for want of room or of a disk
+
+
+def state(policy: Policy, now: float, runs: bool) -> str:
+    if not runs:
+        return "down"
+    if policy.seen.leads(now):
+        return "leads"
+    return "changes" if policy.seen.changes(now) else "follows"
+
+
+def troubles(policy: Policy, now: float, life: Life) -> List[str]:
+    """Why a member isn't well, a word each; none where it is."""
+    if life.since is None:
+        return ["down"]
+    found = []
+    if policy.seen.changes(now) and now - policy.seen.changing_since > LONG_CHANGE:
+        found.append("changes")
+    if policy.standing(now) > (policy.patience or PATIENCE) / 2:
+        found.append("stands")
+    if policy.seen.lacks:
+        found.append("lacks_blocks")
+    return found
+
+
+def line(policy: Policy, now: float, life: Life) -> str:
+    """One line, without its end."""
+    seen, runs = policy.seen, life.since is not None
+    question = seen.waits_for(now) if runs else None
+    words = {
+        "member": life.member,
+        "well": ",".join(troubles(policy, now, life)) or "yes",
+        "state": state(policy, now, runs),
+        "view": "-" if seen.view is None else seen.view,
+        "applied": seen.caught_up_to(),
+        "commit": seen.commit,
+        "head": max(seen.head, seen.commit),
+        "asks": "_".join(question) if question else "-",
+        "stands": f"{policy.standing(now):.1f}",
+        "up": f"{now - life.since:.1f}" if life.since is not None else "-",
+        "restarts": life.restarts,
+        "ends": life.ends,
+        "lines": life.lines,
+        "dropped": life.dropped,
+    }
+    return " ".join(f"{name}={value}" for name, value in words.items())
+
+
+def read(text: str) -> Dict[str, str]:
+    """The values of a line of health by their names; ValueError where it is none."""
+    values = dict(word.split("=", 1) for word in text.split())
+    if not {"member", "well", "state", "applied", "commit"} <= values.keys():
+        raise ValueError(f"no line of health: {text}")
+    return values

@@ -1,0 +1,129 @@
+"""Restarts the members of a group one after the other: the next only once the one before applies what the others commit.
+
+What asks, restarts and waits is handed in, so that this is a function of what the members tell."""
+
+from typing import Callable, Dict, List, NamedTuple, Optional
+
+Health = Dict[str, str]  # a line of health by its names (health.read)
+
+LOOKS = 3  # so many looks in a row a member has to be seen with what the others commit
+LOOK = 0.5  # seconds from look to look
+
+
+class Stopped(Exception):
+    """The roll doesn't go on; its text says why."""
+
+
+class Hands(NamedTuple):
+    """What a roll does to the outside. `health` gives None where nobody answers; `hold` and `release` are of the clients, and may be None."""
+
+    health: Callable[[int], Optional[Health]]
+    restart: Callable[[int], None]
+    hold: Optional[Callable[[], None]]
+    release: Optional[Callable[[], None]]
+    sleep: Callable[[float], None]
+    clock: Callable[[], float]
+    say: Callable[[str], None]
+
+
+class Bounds(NamedTuple):
+    """Seconds: in which a member has to catch up; after which the clients are held."""
+
+    whole: float
+    hold: float
+
+
+def number(health: Optional[Health], name: str) -> int:
+    """A number of a line of health; 0 where there is none."""
+    text = health.get(name, "0") if health else "0"
+    return int(text) if text.isdigit() else 0
+
+
+def committed(hands: Hands, members: List[int], but: int) -> int:
+    """The greatest op that any other member is known to have applied or to know as committed."""
+    told = [hands.health(member) for member in members if member != but]
+    return max([0] + [max(number(health, "commit"), number(health, "applied")) for health in told])
+
+
+def behind(hands: Hands, members: List[int], member: int) -> Optional[str]:
+    """Why a member isn't yet one that applies what the others commit; None where it is. What the others have committed is asked first."""
+    goal = committed(hands, members, member)
+    health = hands.health(member)
+    if health is None:
+        return "nobody answers for it"
+    if health["state"] not in ("leads", "follows"):
+        return f"its state is {health['state']}"
+    if health.get("asks", "-") != "-":
+        return f"it asks for {health['asks'].replace('_', ' ')} and has applied {health['applied']} of {goal}"
+    if number(health, "applied") < goal:
+        return f"it has applied {health['applied']} of {goal}"
+    return None
+
+
+def settle(hands: Hands, members: List[int], member: int, bounds: Bounds) -> float:
+    """Waits until a member applies what the others commit, and gives the seconds that it took. The clients are held where it takes long."""
+    began, seen, held = hands.clock(), 0, False
+    try:
+        while seen < LOOKS:
+            hands.sleep(LOOK)
+            why, spent = behind(hands, members, member), hands.clock() - began
+            seen = seen + 1 if why is None else 0
+            if why is not None and spent > bounds.whole:
+                raise Stopped(advice(member, why, bounds, hands.hold is not None))
+            if why is not None and spent > bounds.hold and hands.hold is not None and not held:
+                held = True
+                hands.say(f"member {member} doesn't catch up ({why}): the clients are held")
+                hands.hold()
+    finally:
+        if held:
+            hands.release()
+            hands.say("the clients are let go")
+    return hands.clock() - began
+
+
+def advice(member: int, why: str, bounds: Bounds, holds: bool) -> str:
+    """Why a roll stops at a member that doesn't catch up, and what to do."""
+    text = f"member {member} doesn't apply what the others commit after {bounds.whole:.0f} s: {why}. No other member was restarted after it."
+    if holds:
+        return text + " The clients were held meanwhile: look at its log, and at operate/inspect of its file."
+    return text + " It gets a block with each tick, ten a second, while the others write over a checkpoint's blocks 33 to 64 operations later: hold the clients back for some 5 s, or give --hold."
+
+
+def order(hands: Hands, members: List[int]) -> List[int]:
+    """The members in the order in which they are restarted: the one that leads comes last, so that the view changes once."""
+    return sorted(members, key=lambda member: ((hands.health(member) or {}).get("state") == "leads", member))
+
+
+def check(hands: Hands, members: List[int]) -> None:
+    """A roll begins, and goes on, only with a group that is whole."""
+    for member in members:
+        health = hands.health(member)
+        if health is None:
+            raise Stopped(f"member {member}: nobody answers for it")
+        if health["well"] != "yes":
+            raise Stopped(f"member {member} isn't well: {health['well']}")
+    if not any((hands.health(member) or {}).get("state") == "leads" for member in members):
+        raise Stopped("no member leads")
+
+
+def wait_for_whole(hands: Hands, members: List[int], most: float) -> None:
+    """Waits until the group is whole, at most so many seconds: a view change may be going on."""
+    began = hands.clock()
+    while True:
+        try:
+            return check(hands, members)
+        except Stopped:
+            if hands.clock() - began > most:
+                raise
+            hands.sleep(LOOK)
+
+
+def roll(hands: Hands, members: List[int], bounds: Bounds, chosen: Optional[List[int]] = None) -> None:
+    """Restarts the chosen members, all where none are chosen; Stopped where it can't go on."""
+    wait_for_whole(hands, members, bounds.hold)
+    for member in order(hands, chosen or members):
+        wait_for_whole(hands, members, bounds.hold)
+        hands.say(f"member {member} is restarted")
+        hands.restart(member)
+        seconds = settle(hands, members, member, bounds)
+        hands.say(f"member {member} applies what the others commit, {seconds:.1f} s after its start")
