@@ -73,7 +73,9 @@ class Words(NamedTuple):
     addresses: List[str]
 
     def command(self) -> List[str]:
-        """Where the system has setpriv the member ends with its keeper."""
+        """The whole command; OSError where there is no such program. Where the system has setpriv the member ends with its keeper."""
+        if shutil.which(self.program) is None:
+            raise FileNotFoundError(f"there is no program {self.program}")
         tied = ["setpriv", "--pdeathsig", "KILL"] if shutil.which("setpriv") else []
         return tied + [self.program, "node", str(self.cluster), str(self.replica), self.file, TURNS] + self.addresses
 
@@ -170,6 +172,7 @@ class Keeper:
             self.start_later()
             return
         self.since = self.clock()
+        self.policy.begin(self.since)
         self.splitter = Splitter()
         self.lock.tell(f"keeper {os.getpid()}, member {self.child.pid}")
         self.widen()

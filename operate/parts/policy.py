@@ -45,7 +45,7 @@ class Seen:
         self.changing_since = NEVER  # of the view change that it is in, or was in last
         self.doubt = now  # since when blocks of its checkpoint may be missing
         self.lacks = False  # whether some are: it applies nothing until it has them
-        self.block: Optional[Tuple[str, ...]] = None  # the one asked for last
+        self.last_asked: Dict[str, Tuple[str, ...]] = {}  # the entry, and the block, asked for last
         self.asked: Dict[Tuple[str, ...], float] = {}  # questions, and when they were last asked
 
     def leads(self, now: float) -> bool:
@@ -71,7 +71,7 @@ class Seen:
         return 0 if self.lacks else max(self.applied, self.commit if self.applied == 0 else 0)
 
     def hear(self, now: float, line: Line) -> bool:
-        """Takes a line in, and tells whether by it the member went on: it applied something, its commit number or its view rose, or a block came."""
+        """Takes a line in, and tells whether by it the member went on: it applied something, its commit number or its view rose, or an entry or a block came."""
         if line.kind == "start":
             self.begin(now, line.view, line.commit or 0)
             return True
@@ -112,13 +112,12 @@ class Seen:
         return False
 
     def hear_question(self, now: float, line: Line) -> bool:
-        """A question; another block than before means that one came."""
-        came = False
+        """A question. It is always the first that is lacking, so another entry or block than before means that that one came."""
+        came = line.kind in ("get_prepare", "get_block") and self.last_asked.get(line.kind, line.asked) != line.asked
+        self.last_asked[line.kind] = line.asked
         if line.kind == "get_sync":
             self.doubt = now
         if line.kind == "get_block":
-            came = self.block is not None and self.block != line.asked
-            self.block = line.asked
             self.lacks = self.lacks or now - self.doubt <= FIRST_ASK or now - self.busy <= RECENT
         if len(self.asked) >= MOST_ASKED:
             self.asked.clear()
@@ -170,6 +169,11 @@ class Policy:
             return None
         self.ask(now)
         return reason
+
+    def begin(self, now: float) -> None:
+        """Its process is a new one: nothing is known of it yet."""
+        self.seen.begin(now, None, 0)
+        self.go_on(now)
 
     def go_on(self, now: float) -> None:
         """It went on: nothing has been seen for any time. After a long time of it the growth is forgotten."""

@@ -8,6 +8,7 @@ Health = Dict[str, str]  # a line of health by its names (health.read)
 
 LOOKS = 3  # so many looks in a row a member has to be seen with what the others commit
 LOOK = 0.5  # seconds from look to look
+SLACK = 1.0  # seconds; a process that runs for so much longer wasn't restarted
 
 
 class Stopped(Exception):
@@ -45,12 +46,23 @@ def committed(hands: Hands, members: List[int], but: int) -> int:
     return max([0] + [max(number(health, "commit"), number(health, "applied")) for health in told])
 
 
-def behind(hands: Hands, members: List[int], member: int) -> Optional[str]:
-    """Why a member isn't yet one that applies what the others commit; None where it is. What the others have committed is asked first."""
+def seconds(health: Health, name: str) -> float:
+    """Seconds of a line of health; 0 where it tells none."""
+    try:
+        return float(health.get(name, "0"))
+    except ValueError:
+        return 0.0
+
+
+def behind(hands: Hands, members: List[int], member: int, spent: float) -> Optional[str]:
+    """Why a member, `spent` seconds after it was restarted, isn't yet one that applies what the others commit; None where it is. What the others
+    have committed is asked first."""
     goal = committed(hands, members, member)
     health = hands.health(member)
     if health is None:
         return "nobody answers for it"
+    if seconds(health, "up") > spent + SLACK:
+        return "it still is the process from before"
     if health["state"] not in ("leads", "follows"):
         return f"its state is {health['state']}"
     if health.get("asks", "-") != "-":
@@ -66,7 +78,8 @@ def settle(hands: Hands, members: List[int], member: int, bounds: Bounds) -> flo
     try:
         while seen < LOOKS:
             hands.sleep(LOOK)
-            why, spent = behind(hands, members, member), hands.clock() - began
+            spent = hands.clock() - began
+            why = behind(hands, members, member, spent)
             seen = seen + 1 if why is None else 0
             if why is not None and spent > bounds.whole:
                 raise Stopped(advice(member, why, bounds, hands.hold is not None))
@@ -84,6 +97,8 @@ def settle(hands: Hands, members: List[int], member: int, bounds: Bounds) -> flo
 def advice(member: int, why: str, bounds: Bounds, holds: bool) -> str:
     """Why a roll stops at a member that doesn't catch up, and what to do."""
     text = f"member {member} doesn't apply what the others commit after {bounds.whole:.0f} s: {why}. No other member was restarted after it."
+    if not why.startswith("it asks") and not why.startswith("it has applied"):
+        return text
     if holds:
         return text + " The clients were held meanwhile: look at its log, and at operate/inspect of its file."
     return text + " It gets a block with each tick, ten a second, while the others write over a checkpoint's blocks 33 to 64 operations later: hold the clients back for some 5 s, or give --hold."
@@ -125,5 +140,5 @@ def roll(hands: Hands, members: List[int], bounds: Bounds, chosen: Optional[List
         wait_for_whole(hands, members, bounds.hold)
         hands.say(f"member {member} is restarted")
         hands.restart(member)
-        seconds = settle(hands, members, member, bounds)
-        hands.say(f"member {member} applies what the others commit, {seconds:.1f} s after its start")
+        spent = settle(hands, members, member, bounds)
+        hands.say(f"member {member} applies what the others commit, {spent:.1f} s after its restart")
