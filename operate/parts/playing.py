@@ -88,6 +88,7 @@ class Client:
         self.request = 0
         self.answered = 0
         self.leader = 0
+        self.first: Optional[float] = None  # when it was answered first
         self.longest = 0.0  # seconds without an answer
         self.since = 0.0  # when it was answered last
 
@@ -107,6 +108,7 @@ class Client:
         if words[6] != "op":
             return False
         self.longest = max(self.longest, now - self.since)
+        self.first = now if self.first is None else self.first
         self.since = now
         self.request += 1
         self.answered += 1

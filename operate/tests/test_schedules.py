@@ -1,0 +1,118 @@
+"""The policy over groups in counted time, played by the program: standstills end, and groups that are well are never touched. Without the built program
+these are left out."""
+
+import glob
+import os
+import unittest
+
+from parts import standing
+from parts.kept import Keepers
+from parts.playing import Client, Group, Replay
+from parts.policy import PATIENCE
+
+HERE = os.path.dirname(os.path.dirname(os.path.realpath(__file__)))
+PROGRAM = os.environ.get("PROGRAM") or os.path.join(os.path.dirname(HERE), "crates", "vr_app", "out", "vr_app")
+SLOW = 0.15  # seconds of a sync
+
+
+@unittest.skipUnless(os.access(PROGRAM, os.X_OK), f"no program {PROGRAM}")
+class Standing(unittest.TestCase):
+    def test_each_stands_still_as_it_is_and_goes_on_with_the_policy(self):
+        paths = sorted(glob.glob(os.path.join(os.path.dirname(HERE), "examples", "standstills", "*.txt")))
+        self.assertEqual(len(paths), 5)
+        for path in paths:
+            with self.subTest(os.path.basename(path)):
+                with open(path) as file:
+                    text = file.read()
+                self.assertEqual(standing.play(PROGRAM, text, 3 * PATIENCE, 0).answers, 0)
+                kept = standing.play(PROGRAM, text, 4.5 * PATIENCE, PATIENCE)
+                self.assertIsNotNone(kept.first)
+                self.assertLess(kept.first, 4 * PATIENCE)
+                self.assertGreater(kept.answers, 5)
+
+
+class Untouched:
+    """A group of three in counted time, of which the policies only tell whom they would restart."""
+
+    def __init__(self, sync: float, clients: int, pause: float, size: int = 1) -> None:
+        self.replay = Replay(PROGRAM)
+        self.keepers = Keepers(PATIENCE, acts=False)
+        self.group = Group(self.replay, self.keepers.hears, sync)
+        self.group.begin(3)
+        self.keepers.group = self.group
+        self.group.start_all()
+        for number in range(clients):
+            self.group.add(Client(number + 1, 3, pause, size))
+
+    def answered(self) -> int:
+        return sum(client.answered for client in self.group.clients)
+
+
+@unittest.skipUnless(os.access(PROGRAM, os.X_OK), f"no program {PROGRAM}")
+class Well(unittest.TestCase):
+    def group(self, *words) -> Untouched:
+        made = Untouched(*words)
+        self.addCleanup(made.replay.end)
+        return made
+
+    def check(self, made: Untouched, least: int) -> None:
+        """Nobody was to be restarted, and the clients had at least so many answers."""
+        self.assertEqual(made.keepers.restarts, [])
+        self.assertGreaterEqual(made.answered(), least)
+
+    def test_idle(self):
+        made = self.group(0.0, 0, 1.0)
+        made.group.go_on(30)
+        self.check(made, 0)
+
+    def test_busy(self):
+        made = self.group(0.0, 12, 0.05)
+        made.group.go_on(12)
+        self.check(made, 500)
+
+    def test_slow(self):
+        made = self.group(SLOW, 3, 0.1)
+        made.group.go_on(60)
+        self.check(made, 60)
+
+    def test_slow_and_busy(self):
+        made = self.group(SLOW, 12, 0.0)
+        made.group.go_on(60)
+        self.check(made, 60)
+
+    def test_a_view_change_and_a_start(self):
+        for sync in (0.0, SLOW):
+            with self.subTest(sync):
+                made = self.group(sync, 2, 0.5)
+                made.group.go_on(10)
+                before = made.answered()
+                made.group.stop(0)
+                made.group.go_on(20)
+                self.assertGreater(made.answered(), before)
+                made.group.start(0)
+                made.group.go_on(20)
+                self.check(made, before + 10)
+
+    def test_one_that_was_away_for_long(self):
+        """It fetches a checkpoint while the others go on."""
+        made = self.group(0.0, 2, 0.1)
+        made.group.go_on(2)
+        made.group.stop(2)
+        made.group.go_on(10)
+        made.group.start(2)
+        made.group.go_on(15)
+        self.check(made, 200)
+        self.assertGreater(made.keepers.policies[2].seen.caught_up_to(), 150)
+
+    def test_a_block_that_went_bad(self):
+        """A block of the checkpoint is damaged at all members: each asks for it until the next checkpoint, with its content in memory."""
+        made = self.group(0.0, 1, 0.02)
+        made.group.go_on(2)
+        made.group.clients.clear()
+        for member in range(3):
+            for sector in range(400 + 8 * 1, 400 + 8 * 1 + 1):
+                made.replay.play(f"damage {member} {sector}")
+                made.replay.play(f"damage {member} {sector + 8 * 64}")
+        made.group.go_on(30)
+        self.assertTrue(any(policy.seen.last_asked.get("get_block") for policy in made.keepers.policies.values()))
+        self.check(made, 0)
