@@ -23,9 +23,12 @@ class Keepers:
         self.restarts: List[Restart] = []
         self.group: Optional[Group] = None  # once it runs on: a schedule that is followed only shows what there is
 
+    def policy(self, member: int) -> Policy:
+        return self.policies.setdefault(member, Policy(self.patience, self.chance.random))
+
     def hears(self, now: float, member: int, output: str) -> None:
         """An output of a member, with its time."""
-        policy = self.policies.setdefault(member, Policy(self.patience, self.chance.random))
+        policy = self.policy(member)
         line = parse(output.encode())
         if self.group is None:
             policy.seen.hear(now, line)

@@ -128,9 +128,11 @@ class Group:
         self.free: Dict[int, float] = {}  # from when on a member does the next thing
         self.lives: Dict[int, int] = {}  # how often it was started
         self.views: Dict[int, int] = {}  # the last view that it said to enter
+        self.stored: Set[Tuple[int, int, int]] = set()  # member, op and made view of the entries that were stored
         self.running: Set[int] = set()
         self.cuts: Set[Tuple[int, int]] = set()
         self.clients: List[Client] = []
+        self.held = False  # whether the clients ask nothing new
         self.events: List[tuple] = []
         self.order = itertools.count()
 
@@ -206,7 +208,7 @@ class Group:
     def do(self, now: float, member: int, line: str) -> List[str]:
         """One line of one member: its outputs leave once its syncs are done."""
         outputs = self.replay.play(line)
-        self.free[member] = now + self.sync * self.syncs_of(member, line, outputs)
+        self.free[member] = now + self.sync * self.syncs_of(member, outputs)
         for output in outputs:
             self.put_out(self.free[member], member, output)
         return outputs
@@ -233,6 +235,9 @@ class Group:
     def ask(self, now: float, client: Client) -> None:
         """Asks the member that a client takes to lead; where no answer has come after AGAIN seconds, the next one."""
         request, member = client.request, client.leader
+        if self.held:
+            self.plan(now + TICK, lambda at: self.ask(at, client))
+            return
         self.plan(now + self.way, lambda at: self.request(at, client, request, member), member)
         self.plan(now + AGAIN, lambda at: self.ask_again(at, client, request, member))
 
@@ -263,19 +268,23 @@ class Group:
         self.do(self.now, member, f"start {member}")
         self.let_run(member)
 
-    def syncs_of(self, member: int, line: str, outputs: List[str]) -> int:
-        """How many syncs a line makes, by what it puts out: an entry that is stored, a save of the superblock, a checkpoint."""
-        count, kinds = 0, set()
+    def syncs_of(self, member: int, outputs: List[str]) -> int:
+        """How many syncs a line makes, by what it puts out: entries that are stored, a save of the superblock, a checkpoint."""
+        count = SAVE if any(output.startswith(("choose ", "start ")) for output in outputs) else 0
         for output in outputs:
             words = output.split(" ")
-            kinds.add(words[4] if words[0] == "send" else words[0])
-            if words[0] == "send" and words[4] == "start_view_change" and int(words[6]) > self.views[member]:
-                self.views[member] = int(words[6])
-                count += SAVE
             if words[0] == "commit" and int(words[3]) % 32 == 0:
                 count += 1 + SAVE
-        if kinds & {"choose", "start"}:
-            count += SAVE
-        if kinds & {"prepare", "prepare_ok"} and not line.startswith("tick"):
-            count += STORE
+            elif words[0] == "send" and words[4] == "start_view_change" and int(words[6]) > self.views[member]:
+                self.views[member] = int(words[6])
+                count += SAVE
+            elif words[0] == "send" and words[4] in ("prepare", "prepare_ok"):
+                count += self.store(member, int(words[8]), int(words[10]))
         return count
+
+    def store(self, member: int, op: int, made: int) -> int:
+        """The syncs of an entry that a member has or gets: none where it was stored before."""
+        if (member, op, made) in self.stored:
+            return 0
+        self.stored.add((member, op, made))
+        return STORE

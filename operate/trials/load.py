@@ -110,7 +110,7 @@ class Load:
         self.history: List[Asked] = []
         self.answers: List[float] = [time.monotonic()]
         self.stopping = False
-        self.threads = [threading.Thread(target=self.work, args=(number, random.Random(seed * 1000 + number))) for number in range(clients)]
+        self.threads = [threading.Thread(target=self.work, args=(number, random.Random(seed * 1000 + number)), daemon=True) for number in range(clients)]
 
     def start(self) -> None:
         for thread in self.threads:

@@ -104,7 +104,7 @@ class Namespaces(Net):
 
     def mend(self) -> None:
         for sender, receiver in self.blocked:
-            run("ip", "-n", self.name(sender), "route", "del", "blackhole", f"10.77.0.{receiver + 1}/32")
+            subprocess.run(["ip", "-n", self.name(sender), "route", "del", "blackhole", f"10.77.0.{receiver + 1}/32"], stderr=subprocess.DEVNULL)
         self.blocked.clear()
 
     def end(self) -> None:
