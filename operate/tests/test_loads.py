@@ -1,15 +1,12 @@
 """Rolling restarts in counted time, under loads at which a member that was away never catches up. Without the built program these are left out."""
 
-import os
 import unittest
 from typing import Dict, List, Optional
 
-from parts import health, rolling
+from parts import health, program, rolling
 from parts.kept import Keepers
 from parts.playing import Client, Group, Replay
 
-HERE = os.path.dirname(os.path.dirname(os.path.realpath(__file__)))
-PROGRAM = os.environ.get("PROGRAM") or os.path.join(os.path.dirname(HERE), "crates", "vr_app", "out", "vr_app")
 CLIENTS, RATE = 3, 30.0  # puts a second of all
 SIZE = 1000  # bytes of a value; a hundred keys are some 26 blocks
 DOWN = 4.0  # seconds for which a member is away: 120 operations, of which 64 fit into its window
@@ -19,7 +16,7 @@ class Loaded:
     """A group of three in counted time, with a hundred large values and a load of puts."""
 
     def __init__(self) -> None:
-        self.replay = Replay(PROGRAM)
+        self.replay = Replay(program.PATH)
         self.keepers = Keepers(0)
         self.group = Group(self.replay, self.keepers.hears)
         self.group.begin(3)
@@ -62,7 +59,7 @@ class Loaded:
         return sum(client.answered for client in self.group.clients) - before
 
 
-@unittest.skipUnless(os.access(PROGRAM, os.X_OK), f"no program {PROGRAM}")
+@unittest.skipUnless(program.is_there(), program.MISSING)
 class Loads(unittest.TestCase):
     """Members 1 and 2 are restarted under load, and then member 0, which led, is gone."""
 

@@ -5,17 +5,16 @@ import glob
 import os
 import unittest
 
-from parts import standing
+from parts import program, standing
 from parts.kept import Keepers
 from parts.playing import Client, Group, Replay
 from parts.policy import PATIENCE
 
 HERE = os.path.dirname(os.path.dirname(os.path.realpath(__file__)))
-PROGRAM = os.environ.get("PROGRAM") or os.path.join(os.path.dirname(HERE), "crates", "vr_app", "out", "vr_app")
 SLOW = 0.15  # seconds of a sync
 
 
-@unittest.skipUnless(os.access(PROGRAM, os.X_OK), f"no program {PROGRAM}")
+@unittest.skipUnless(program.is_there(), program.MISSING)
 class Standing(unittest.TestCase):
     def test_each_stands_still_as_it_is_and_goes_on_with_the_policy(self):
         paths = sorted(glob.glob(os.path.join(os.path.dirname(HERE), "examples", "standstills", "*.txt")))
@@ -24,8 +23,8 @@ class Standing(unittest.TestCase):
             with self.subTest(os.path.basename(path)):
                 with open(path) as file:
                     text = file.read()
-                self.assertEqual(standing.play(PROGRAM, text, 3 * PATIENCE, 0).answers, 0)
-                kept = standing.play(PROGRAM, text, 4.5 * PATIENCE, PATIENCE)
+                self.assertEqual(standing.play(program.PATH, text, 3 * PATIENCE, 0).answers, 0)
+                kept = standing.play(program.PATH, text, 4.5 * PATIENCE, PATIENCE)
                 self.assertIsNotNone(kept.first)
                 self.assertLess(kept.first, 4 * PATIENCE)
                 self.assertGreater(kept.answers, 5)
@@ -35,7 +34,7 @@ class Untouched:
     """A group of three in counted time, of which the policies only tell whom they would restart."""
 
     def __init__(self, sync: float, clients: int, pause: float, size: int = 1) -> None:
-        self.replay = Replay(PROGRAM)
+        self.replay = Replay(program.PATH)
         self.keepers = Keepers(PATIENCE, acts=False)
         self.group = Group(self.replay, self.keepers.hears, sync)
         self.group.begin(3)
@@ -48,7 +47,7 @@ class Untouched:
         return sum(client.answered for client in self.group.clients)
 
 
-@unittest.skipUnless(os.access(PROGRAM, os.X_OK), f"no program {PROGRAM}")
+@unittest.skipUnless(program.is_there(), program.MISSING)
 class Well(unittest.TestCase):
     def group(self, *words) -> Untouched:
         made = Untouched(*words)

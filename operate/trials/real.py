@@ -13,17 +13,9 @@ from typing import Dict, List, Optional, Set, Tuple
 HERE = os.path.dirname(os.path.dirname(os.path.realpath(__file__)))
 sys.path.insert(0, HERE)
 
-from parts import health, keeper  # noqa: E402
+from parts import health, keeper, program  # noqa: E402
 
 CLUSTER = 5
-
-
-def program() -> str:
-    """The built program, by $PROGRAM or in the crate's folder; ends with a sentence where there is none."""
-    path = os.environ.get("PROGRAM") or os.path.join(os.path.dirname(HERE), "crates", "vr_app", "out", "vr_app")
-    if not os.access(path, os.X_OK):
-        sys.exit(f"no program: (cd crates/vr_app && rt run -- replay < /dev/null) makes {path}; or name it by $PROGRAM")
-    return path
 
 
 def run(*words: str) -> None:
@@ -127,7 +119,7 @@ class Group:
 
     def __init__(self, size: int, net: Net, scheme: str = "", options: Tuple[str, ...] = ()) -> None:
         self.size, self.net, self.options = size, net, list(options)
-        self.program = program()
+        self.program = program.or_end()
         self.folder = tempfile.mkdtemp(prefix="vr-operate-")
         self.addresses = [scheme + host for host in net.hosts]
         self.keepers: Dict[int, subprocess.Popen] = {}
