@@ -63,9 +63,21 @@ class Lock:
             pass  # It is only said to whoever comes second.
 
 
-class Words(NamedTuple):
-    """The words of a member. It is never made anew here."""
+TIE = ["setpriv", "--pdeathsig", "KILL"]  # a program that is started so ends with whoever started it
 
+
+def tie() -> List[str]:
+    """The words that tie a member to its keeper; none where the system can't."""
+    try:
+        return TIE if subprocess.run(TIE + ["true"], stderr=subprocess.DEVNULL).returncode == 0 else []
+    except OSError:
+        return []
+
+
+class Words(NamedTuple):
+    """The words of a member, behind those that tie it to its keeper. It is never made anew here."""
+
+    tie: List[str]
     program: str
     cluster: int
     replica: int
@@ -73,11 +85,10 @@ class Words(NamedTuple):
     addresses: List[str]
 
     def command(self) -> List[str]:
-        """The whole command; OSError where there is no such program. Where the system has setpriv the member ends with its keeper."""
+        """The whole command; OSError where there is no such program."""
         if shutil.which(self.program) is None:
             raise FileNotFoundError(f"there is no program {self.program}")
-        tied = ["setpriv", "--pdeathsig", "KILL"] if shutil.which("setpriv") else []
-        return tied + [self.program, "node", str(self.cluster), str(self.replica), self.file, TURNS] + self.addresses
+        return self.tie + [self.program, "node", str(self.cluster), str(self.replica), self.file, TURNS] + self.addresses
 
 
 class Keeper:
