@@ -1,0 +1,71 @@
+"""Builds the wheel of a pure package by the standard library alone (the hooks of PEP 517).
+
+It reads name, version, description and Python's version from `pyproject.toml`, takes each file of `src/NAME`, and writes no date into the
+archive: the same files give the same bytes.
+"""
+
+import base64
+import hashlib
+import tarfile
+import tomllib
+import zipfile
+from pathlib import Path
+
+ROOT = Path(__file__).resolve().parent.parent
+EPOCH = (1980, 1, 1, 0, 0, 0)
+MODE = 0o644 << 16
+WHEEL = "Wheel-Version: 1.0\nGenerator: pure_wheel\nRoot-Is-Purelib: true\nTag: py3-none-any\n"
+
+
+def _project():
+    return tomllib.loads((ROOT / "pyproject.toml").read_text())["project"]
+
+
+def _metadata(project):
+    return "\n".join([
+        "Metadata-Version: 2.1",
+        f"Name: {project['name']}",
+        f"Version: {project['version']}",
+        f"Summary: {project['description']}",
+        f"Requires-Python: {project['requires-python']}",
+        "Description-Content-Type: text/markdown",
+        "",
+        (ROOT / project["readme"]).read_text(),
+    ])
+
+
+def _package(project):
+    """The files of the package, by their names in the wheel."""
+    source = ROOT / "src"
+    files = sorted(path for path in (source / project["name"]).rglob("*") if path.is_file() and path.suffix != ".pyc")
+    return {path.relative_to(source).as_posix(): path.read_bytes() for path in files}
+
+
+def _record_line(name, data):
+    digest = base64.urlsafe_b64encode(hashlib.sha256(data).digest()).rstrip(b"=").decode()
+    return f"{name},sha256={digest},{len(data)}\n"
+
+
+def build_wheel(wheel_directory, config_settings=None, metadata_directory=None):
+    project = _project()
+    stem = f"{project['name']}-{project['version']}"
+    files = _package(project)
+    files[f"{stem}.dist-info/METADATA"] = _metadata(project).encode()
+    files[f"{stem}.dist-info/WHEEL"] = WHEEL.encode()
+    record = f"{stem}.dist-info/RECORD"
+    files[record] = ("".join(_record_line(name, data) for name, data in files.items()) + f"{record},,\n").encode()
+    with zipfile.ZipFile(Path(wheel_directory) / f"{stem}-py3-none-any.whl", "w", zipfile.ZIP_DEFLATED) as wheel:
+        for name, data in files.items():
+            info = zipfile.ZipInfo(name, EPOCH)
+            info.compress_type, info.external_attr = zipfile.ZIP_DEFLATED, MODE
+            wheel.writestr(info, data)
+    return f"{stem}-py3-none-any.whl"
+
+
+def build_sdist(sdist_directory, config_settings=None):
+    project = _project()
+    stem = f"{project['name']}-{project['version']}"
+    with tarfile.open(Path(sdist_directory) / f"{stem}.tar.gz", "w:gz") as archive:
+        for part in ("pyproject.toml", "README.md", "backend", "src"):
+            archive.add(ROOT / part, f"{stem}/{part}", filter=lambda info: None if info.name.endswith((".pyc", "__pycache__")) else info)
+    return f"{stem}.tar.gz"
