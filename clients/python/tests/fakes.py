@@ -1,0 +1,114 @@
+"""What the tests put in the place of a group: a link and a clock in memory, and members that answer by a script over real sockets."""
+
+import socket
+import threading
+
+from nozhgiva.messages import Outcome, OutcomeKind, Reply, ReplyKind, decode
+
+OK = Outcome(OutcomeKind.OK)
+SESSION = Outcome(OutcomeKind.SESSION)
+
+
+def reply_to(request, member, kind=ReplyKind.OUTCOME, *, view=0, op=1, outcome=OK):
+    """A reply of a member to a request; op and outcome count only where it has one."""
+    executed = kind == ReplyKind.OUTCOME
+    return Reply(request.cluster, request.client, request.number, request.name(), member, view, kind, op if executed else 0, outcome if executed else None)
+
+
+class MemoryLink:
+    """A link without a network. `answer(member, request)` gives the replies that come of a request, each with how many seconds it takes. A
+    receive lets the time of `clock` go by until the next one comes."""
+
+    def __init__(self, answer):
+        self.answer = answer
+        self.time = 0.0
+        self.sent = []
+        self.waiting = []
+        self.is_open = True
+
+    def clock(self):
+        return self.time
+
+    def send(self, member, data, within):
+        self.sent.append((self.time, member))
+        for delay, reply in self.answer(member, decode(data)):
+            self.waiting.append((self.time + delay, reply if isinstance(reply, bytes) else reply.encode()))
+            self.waiting.sort()
+
+    def receive(self, within):
+        until = self.time + within
+        if not self.waiting or self.waiting[0][0] > until:
+            self.time = until
+            return None
+        at, data = self.waiting.pop(0)
+        self.time = max(at, self.time)
+        return data
+
+    def close(self):
+        self.is_open = False
+
+
+class Members:
+    """Members over UDP on loopback, each a thread. `answer(member, data)` gives the datagrams that come back."""
+
+    def __init__(self, size, answer):
+        self.answer = answer
+        self.sockets = [socket.socket(socket.AF_INET, socket.SOCK_DGRAM) for _ in range(size)]
+        for member in self.sockets:
+            member.bind(("127.0.0.1", 0))
+        self.addresses = [f"127.0.0.1:{member.getsockname()[1]}" for member in self.sockets]
+        self.threads = [threading.Thread(target=self._serve, args=(number,)) for number in range(size)]
+
+    def _serve(self, number):
+        while (datagram := self.sockets[number].recvfrom(65_536))[0]:
+            for answer in self.answer(number, datagram[0]):
+                self.sockets[number].sendto(answer, datagram[1])
+
+    def __enter__(self):
+        for thread in self.threads:
+            thread.start()
+        return self
+
+    def __exit__(self, *_):
+        for member, thread in zip(self.sockets, self.threads):
+            member.sendto(b"", member.getsockname())
+            thread.join()
+            member.close()
+
+
+class Streams:
+    """Members over TCP on loopback, each with a listener; the streams are answered one message a time by `answer(member, data)`, whose
+    pieces are sent one after the other; None closes the stream."""
+
+    def __init__(self, size, answer):
+        self.answer = answer
+        self.listeners = [socket.create_server(("127.0.0.1", 0)) for _ in range(size)]
+        self.addresses = [f"tcp:127.0.0.1:{listener.getsockname()[1]}" for listener in self.listeners]
+        self.made = [0] * size
+        for number in range(size):
+            threading.Thread(target=self._listen, args=(number,), daemon=True).start()
+
+    def _listen(self, number):
+        while True:
+            try:
+                stream, _ = self.listeners[number].accept()
+            except OSError:
+                return
+            self.made[number] += 1
+            with stream:
+                self._serve(number, stream)
+
+    def _serve(self, number, stream):
+        while data := stream.recv(65_536):
+            for piece in self.answer(number, data):
+                if piece is None:
+                    return
+                stream.sendall(piece)
+
+    def __enter__(self):
+        return self
+
+    def __exit__(self, *_):
+        for listener in self.listeners:
+            listener.shutdown(socket.SHUT_RDWR)
+            listener.close()

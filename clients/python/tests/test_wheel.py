@@ -1,0 +1,48 @@
+"""The wheel: built and installed into a fresh environment without a network, and imported there."""
+
+import os
+import subprocess
+import sys
+import tempfile
+import unittest
+from pathlib import Path
+
+ROOT = Path(__file__).resolve().parent.parent
+SCRIPT = """
+import importlib.metadata, nozhgiva, sys
+from nozhgiva.messages import Put, Request
+assert nozhgiva.__file__.startswith(sys.prefix), nozhgiva.__file__
+assert importlib.metadata.requires("nozhgiva") is None
+print(importlib.metadata.version("nozhgiva"), len(Request(5, 7, 1, Put("a", "b")).encode()))
+"""
+
+
+def run(*words):
+    """What a command prints, outside of the package's own folder; nothing of this process's way to modules, and nowhere to fetch from."""
+    env = {name: value for name, value in os.environ.items() if not name.startswith(("PYTHON", "PIP"))}
+    env |= {"PIP_NO_INDEX": "1", "PIP_DISABLE_PIP_VERSION_CHECK": "1"}
+    ran = subprocess.run([str(word) for word in words], cwd="/", env=env, capture_output=True, text=True)
+    if ran.returncode:
+        raise AssertionError(f"{words} ends with {ran.returncode}: {ran.stdout}{ran.stderr}")
+    return ran.stdout
+
+
+class Wheel(unittest.TestCase):
+    def test_built_and_installed_anew(self):
+        with tempfile.TemporaryDirectory() as folder:
+            try:
+                run(sys.executable, "-m", "venv", f"{folder}/fresh")
+            except AssertionError as error:
+                self.skipTest(f"no virtual environment can be made: {error}")
+            python = f"{folder}/fresh/bin/python"
+            run(python, "-m", "pip", "wheel", "--no-deps", "--wheel-dir", folder, ROOT)
+            run(python, "-m", "pip", "wheel", "--no-deps", "--wheel-dir", f"{folder}/again", ROOT)
+            wheels = list(Path(folder).glob("*.whl"))
+            self.assertEqual([wheel.name for wheel in wheels], ["nozhgiva-1.0.0-py3-none-any.whl"])
+            self.assertEqual(wheels[0].read_bytes(), Path(folder, "again", wheels[0].name).read_bytes())
+            run(python, "-m", "pip", "install", wheels[0])
+            self.assertEqual(run(python, "-c", SCRIPT), "1.0.0 134\n")
+
+
+if __name__ == "__main__":
+    unittest.main()
