@@ -1,0 +1,204 @@
+"""Messages byte for byte as the program spells them, and what isn't one refused.
+
+`messages.txt` has messages that the program spelled, each in words; tests/make-messages made it. A column after the words is a version of the
+format; all of them are compared."""
+
+import random
+import unittest
+from pathlib import Path
+
+from nozhgiva.messages import (
+    Delete, Fault, Get, HEADER, Header, LARGEST_VALUE, OperationKind, Outcome, OutcomeKind, Put, Refused, Register, Reply, ReplyKind, Request, decode,
+    name_of, size_of)
+
+TABLE = Path(__file__).with_name("messages.txt")
+OPERATIONS = {"register": Register, "put": Put, "get": Get, "del": Delete}
+
+
+def request_of(words, version):
+    """cluster C client C number N OPERATION"""
+    _, cluster, _, client, _, number, kind, *rest = words
+    return Request(int(cluster), int(client), int(number), OPERATIONS[kind](*rest), version)
+
+
+def reply_of(words, version):
+    """from R view V ANSWER to REQUEST"""
+    at = words.index("to")
+    _, replica, _, view, *answer = words[:at]
+    request = request_of(words[at + 1:], version)
+    fields = (request.cluster, request.client, request.number, request.name(), int(replica), int(view))
+    if answer[0] != "op":
+        return Reply(*fields, ReplyKind[answer[0].upper()], version=version)
+    _, op, kind, *value = answer
+    return Reply(*fields, ReplyKind.OUTCOME, int(op), Outcome(OutcomeKind[kind.upper()], *value), version)
+
+
+def rows():
+    """Each message of the table, with its bytes."""
+    found = []
+    for line in TABLE.read_text().splitlines():
+        if not line.startswith("#"):
+            said, *columns = line.split("\t")
+            kind, *words = said.split(" ")
+            read = {"request": request_of, "reply": reply_of}[kind]
+            found += [(read(words, version), bytes.fromhex(column)) for version, column in enumerate(columns, 1)]
+    return found
+
+
+def fault_of(data):
+    """The fault for which bytes are refused; None where they are taken. Any other exception goes on to the test."""
+    try:
+        decode(data)
+    except Refused as refused:
+        return refused.fault
+    return None
+
+
+def sealed(header, body=b"", *, named=True):
+    """A header of these fields with its name set right, and before that the body's, unless `named` is false."""
+    header = header._replace(body=name_of(body)) if named else header
+    rest = HEADER.pack(*header)[16:]
+    return name_of(rest) + rest + body
+
+
+def header_of(message):
+    data = message.encode()
+    return Header(*HEADER.unpack(data[:HEADER.size])), data[HEADER.size:]
+
+
+PUT = Request(5, 7, 1, Put("color", "green"))
+REPLY = Reply(5, 7, 1, PUT.name(), 0, 0, ReplyKind.OUTCOME, 2, Outcome(OutcomeKind.VALUE, "green"))
+
+
+class Table(unittest.TestCase):
+    def test_each_message_is_spelled_as_the_program_spells_it(self):
+        for message, data in rows():
+            with self.subTest(message):
+                self.assertEqual(message.encode(), data)
+                self.assertEqual(decode(data), message)
+
+    def test_the_table_has_each_kind(self):
+        messages = [message for message, _ in rows()]
+        requests = [message for message in messages if isinstance(message, Request)]
+        replies = [message for message in messages if isinstance(message, Reply)]
+        self.assertEqual({type(request.operation) for request in requests}, set(OPERATIONS.values()))
+        self.assertEqual({reply.kind for reply in replies}, set(ReplyKind))
+        self.assertEqual({reply.outcome.kind for reply in replies if reply.outcome}, set(OutcomeKind))
+        self.assertGreater(max(reply.view for reply in replies), 0)
+        for version, most in LARGEST_VALUE.items():
+            self.assertIn(most, [len(request.operation.value) for request in requests if request.version == version and isinstance(request.operation, Put)])
+
+
+class Damage(unittest.TestCase):
+    def test_cut_and_lengthened(self):
+        tried = 0
+        for _, data in rows():
+            for size in range(len(data)):
+                self.assertEqual(fault_of(data[:size]), Fault.SHORT if size < HEADER.size else Fault.BODY_SUM)
+            self.assertEqual(fault_of(data + b"\0"), Fault.BODY_SUM)
+            tried += len(data) + 1
+        self.assertGreater(tried, 5_000)
+
+    def test_each_bit_flipped(self):
+        tried = 0
+        for _, data in rows():
+            for bit in range(8 * len(data)):
+                flipped = bytearray(data)
+                flipped[bit // 8] ^= 1 << bit % 8
+                self.assertEqual(fault_of(bytes(flipped)), Fault.BAD_SUM if bit < 8 * HEADER.size else Fault.BODY_SUM)
+                tried += 1
+        self.assertGreater(tried, 30_000)
+
+    def test_random_bytes(self):
+        draw = random.Random(1)
+        for _ in range(10_000):
+            data = draw.randbytes(draw.choice((0, 1, 127, 128, 129, 200, 1_500, 20_481)))
+            self.assertEqual(fault_of(data), Fault.SHORT if len(data) < HEADER.size else Fault.BAD_SUM)
+
+    def test_random_fields_under_right_names(self):
+        """Headers whose names are right, with some fields drawn: what is taken has one spelling, these very bytes."""
+        draw = random.Random(2)
+        sizes = {"cluster": 8, "client": 8, "request": 4, "view": 4, "op": 8, "commit": 8, "size": 4, "command": 1, "replica": 1, "version": 1, "kind": 1, "aux": 8}
+        taken = 0
+        for _ in range(20_000):
+            header, body = header_of(draw.choice((PUT, REPLY)))
+            if draw.random() < 0.5:
+                body = draw.choice((body[:-1], body + b"x", b"", bytes([draw.randrange(7)]) + body[1:], draw.randbytes(draw.randrange(40))))
+                header = header._replace(size=HEADER.size + len(body))
+            for field in draw.sample(sorted(sizes), draw.randrange(3)):
+                value = draw.choice((0, 1, 2, 4, 5, 6, 7, 256 ** sizes[field] - 1, draw.randrange(256 ** sizes[field])))
+                header = header._replace(**{field: value % 256 ** sizes[field]})
+            data = sealed(header, body)
+            if fault_of(data) is None:
+                taken += 1
+                self.assertEqual(decode(data).encode(), data)
+        self.assertGreater(taken, 1_000)
+        self.assertLess(taken, 15_000)
+
+
+class Faults(unittest.TestCase):
+    def test_faults_of_the_header_in_their_order(self):
+        header, body = header_of(PUT)
+        for fault, changes in (
+                (Fault.BAD_COMMAND, {"command": 0, "version": 9, "size": 1, "zeros": b"1234567\0"}),
+                (Fault.BAD_COMMAND, {"command": 20}),
+                (Fault.BAD_VERSION, {"version": 0, "size": 1, "zeros": b"1234567\0"}),
+                (Fault.BAD_VERSION, {"version": 1 + max(LARGEST_VALUE)}),
+                (Fault.BAD_SIZE, {"size": 127, "zeros": b"1234567\0"}),
+                (Fault.BAD_SIZE, {"size": 20_481}),
+                (Fault.NOT_ZERO, {"zeros": b"\0\0\0\0\0\0\0\x01"}),
+                (Fault.BODY_SUM, {"size": header.size + 1}),
+                (Fault.OTHER_COMMAND, {"command": 6, "op": 1}),
+                (Fault.BODY_SHAPE, {"commit": 1})):
+            with self.subTest(fault, **changes):
+                self.assertEqual(fault_of(sealed(header._replace(**changes), body)), fault)
+        self.assertEqual(fault_of(sealed(header._replace(body=bytes(16), command=6), body, named=False)), Fault.BODY_SUM)
+
+    def test_other_commands(self):
+        header, body = header_of(PUT)
+        for command in range(1, 20):
+            if command not in (4, 5):
+                self.assertEqual(fault_of(sealed(header._replace(command=command), body)), Fault.OTHER_COMMAND)
+
+    def test_fields_of_a_request(self):
+        header, body = header_of(PUT)
+        for changes in ({"parent": b"1" * 16}, {"request_name": b"1" * 16}, {"view": 1}, {"op": 1}, {"commit": 1}, {"replica": 1}, {"kind": 1}, {"aux": 1}, {"request": 0}):
+            with self.subTest(**changes):
+                self.assertEqual(fault_of(sealed(header._replace(**changes), body)), Fault.BODY_SHAPE)
+        header, body = header_of(Request(5, 7, 0, Register()))
+        self.assertEqual(fault_of(sealed(header._replace(request=1), body)), Fault.BODY_SHAPE)
+
+    def test_fields_of_a_reply(self):
+        header, body = header_of(REPLY)
+        for changes in ({"parent": b"1" * 16}, {"commit": 1}, {"aux": 1}, {"kind": 0}, {"kind": 7}, {"kind": 2}, {"view": 2**32 - 1}, {"op": 2**62 + 1}):
+            with self.subTest(**changes):
+                self.assertEqual(fault_of(sealed(header._replace(**changes), body)), Fault.BODY_SHAPE)
+        for changes in ({"view": 2**32 - 2}, {"op": 2**62}, {"replica": 255}):
+            self.assertIsNone(fault_of(sealed(header._replace(**changes), body)))
+        header, body = header_of(Reply(5, 7, 1, PUT.name(), 0, 0, ReplyKind.BUSY))
+        self.assertEqual(fault_of(sealed(header._replace(op=1), body)), Fault.BODY_SHAPE)
+        self.assertEqual(fault_of(sealed(header._replace(size=129), b"\x02")), Fault.BODY_SHAPE)
+
+    def test_bodies(self):
+        put, get, delete = OperationKind.PUT, OperationKind.GET, OperationKind.DELETE
+        for body in (b"", b"\0", b"\x05", bytes([put]), bytes([put, 1, 0, 1]) + b"k", bytes([put, 1, 0, 1]) + b"kvv", bytes([put, 0, 0, 1]) + b"v",
+                     bytes([put, 1, 0, 0]) + b"k", bytes([put, 1, 0, 1]) + b"k ", bytes([put, 1, 4, 1]) + b"k" + b"v" * 1025, bytes([get]), bytes([get, 0]),
+                     bytes([get, 2]) + b"k", bytes([get, 1]) + b"kk", bytes([get, 1]) + b"\x7f", bytes([get, 65]) + b"k" * 65, bytes([delete, 1]), b"\x01"):
+            header, _ = header_of(PUT)
+            with self.subTest(body):
+                self.assertEqual(fault_of(sealed(header._replace(size=128 + len(body)), body)), Fault.BODY_SHAPE)
+        for body in (b"", b"\0", b"\x06", b"\x01\x01", b"\x05", b"\x05\0", b"\x05\0\0", b"\x05\0\x01", b"\x05\0\x01vv", b"\x05\0\x01\x20", b"\x05\x04\x01" + b"v" * 1025):
+            header, _ = header_of(REPLY)
+            with self.subTest(body):
+                self.assertEqual(fault_of(sealed(header._replace(size=128 + len(body)), body)), Fault.BODY_SHAPE)
+
+    def test_the_size_of_a_message_in_a_stream(self):
+        data = PUT.encode()
+        self.assertEqual(size_of(data + b"more"), len(data))
+        for front in (b"", data[:127], bytes(128)):
+            with self.assertRaises(Refused):
+                size_of(front)
+
+
+if __name__ == "__main__":
+    unittest.main()
