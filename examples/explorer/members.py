@@ -1,0 +1,269 @@
+"""What running members wrote, put together as one run.
+
+A member writes what it puts out, and neither when nor what it received. So the lines of each member stay in their order, and between
+members a line stands after the messages that it answers: an acknowledgement after its prepare, a commit after what tells it, a chosen log
+after the statements, a gift after the asking. Where several orders are left, one of them is taken; it needn't be that of the clock.
+"""
+
+from reading import BadRun, shorten, step_of
+
+MOST_STEPS = 5_000
+REPLICATION = {2: 2, 3: 2, 4: 2, 5: 3, 6: 3}
+VIEW_CHANGE = {2: 2, 3: 2, 4: 3, 5: 3, 6: 4}
+ENDED = "It was started again later on, so it had ended by then; when, no line tells."
+CARRIES_COMMIT = ("prepare", "commit", "start_view", "sync_view")
+
+
+def field(words, name):
+    """The number behind a word where it last stands; 0 where it isn't there."""
+    at = max((place for place, word in enumerate(words) if word == name), default=-1)
+    return int(words[at + 1]) if at >= 0 else 0
+
+
+class Message:
+    """What a `send` line says, without its number at its member."""
+
+    def __init__(self, words):
+        self.sender, self.to, self.words = int(words[2]), int(words[3]), words[4:]
+        self.kind, self.view, self.op, self.commit = self.words[0], field(self.words, "view"), field(self.words, "op"), field(self.words, "commit")
+        self.number = None
+        self.came = False
+
+
+class Group:
+    """Lines that one step put out, as far as they tell: the first says what they answer."""
+
+    def __init__(self, line, view):
+        self.lines = [line]
+        self.words = line.split()
+        self.messages = []
+        self.view = view
+        self.add_message(self.words)
+
+    def add_message(self, words):
+        if words[0] == "send":
+            self.messages.append(Message(words))
+
+    def add(self, line):
+        self.lines.append(line)
+        self.add_message(line.split())
+
+    def kind(self):
+        return "send " + self.words[4] if self.words[0] == "send" else self.words[0]
+
+    def text(self):
+        """Its lines without the messages' numbers."""
+        return [line.split()[:1] + line.split()[2:] if line.startswith("send ") else line.split() for line in self.lines]
+
+
+def goes_on(group, words):
+    """Whether a line belongs to the step of the lines before it."""
+    last = group.lines[-1].split()
+    if words[0] == "reply":
+        return last[0] == "commit" and last[2:4] == words[6:8]
+    if group.words[0] == "choose":
+        return words[0] == "send" and words[4] in ("start_view", "prepare") and field(words, "view") == group.view
+    if group.words[0] == "start":
+        return words[0] == "commit" or words[0] == "send" and words[4] == "start_view_change"
+    return last[0] == words[0] == "send" and last[4:] == words[4:] and int(last[3]) < int(words[3])
+
+
+def may_repeat(kind, words):
+    """Whether such lines are left out where they say again what was said."""
+    return kind.startswith("send ") or kind == "reply" and words[6] in ("redirect", "busy")
+
+
+def groups_of(lines):
+    """The steps of one member, and how many lines were left out because they say again what was said."""
+    groups, latest, left_out, view, group = [], {}, 0, 0, None
+    for line in lines:
+        words = line.split()
+        view = max(view, field(words, "view") if words[0] != "commit" else 0)
+        if group is not None and goes_on(group, words):
+            group.add(line)
+            continue
+        group = Group(line, view)
+        groups.append(group)
+    kept = []
+    for group in groups:
+        kind = group.kind()
+        if may_repeat(kind, group.words) and latest.get(kind) == group.text():
+            left_out += len(group.lines)
+            continue
+        latest[kind] = group.text()
+        kept.append(group)
+    return kept, left_out
+
+
+class Member:
+    """The lines of one member, and how far they are taken."""
+
+    def __init__(self, lines):
+        first = lines[0].split()
+        self.index = int(first[2] if first[0] == "send" else first[1])
+        self.groups, self.left_out = groups_of(lines)
+        self.at = 0
+        self.leads = self.index == 0
+        self.known = 0
+
+    def next(self):
+        return self.groups[self.at] if self.at < len(self.groups) else None
+
+    def take(self):
+        group = self.groups[self.at]
+        self.at += 1
+        if group.words[0] == "choose":
+            self.leads = True
+        if group.kind() in ("send start_view_change", "send prepare_ok", "send do_view_change") or group.words[0] == "start":
+            self.leads = False
+        if group.words[0] == "start":
+            self.known = field(group.words, "commit")
+        return group
+
+    def share(self):
+        return self.at / max(len(self.groups), 1)
+
+
+def repeats_own(member, group):
+    """Whether this member said so before: a tick says a change of view again."""
+    return any(earlier.words[0] == "send" and earlier.words[4:] == group.words[4:] for earlier in member.groups[:member.at])
+
+
+def answered(member, group):
+    """What a group answers: a test of messages to this member, and how many senders of such it takes. None where it answers nothing."""
+    words, kind = group.words, group.kind()
+    view, op = field(words, "view"), field(words, "op")
+    to = int(words[3]) if words[0] == "send" else None
+    alone = len(group.messages) == 1
+    if kind == "commit":
+        if op <= member.known:
+            return None
+        if member.leads:
+            return lambda m: m.kind == "prepare_ok" and m.op == op, "replication"
+        return lambda m: m.kind == "give_prepare" and m.op == op or m.kind in CARRIES_COMMIT and m.commit >= op, "one"
+    if kind == "send start_view_change":
+        return None if repeats_own(member, group) else (lambda m: m.kind in ("start_view_change", "do_view_change") and m.view == view, "any")
+    if kind in ("choose", "wait"):
+        return lambda m: m.kind == "do_view_change" and m.view == view, "view change"
+    if kind == "send start_view" and not alone:
+        return None
+    asked = {
+        "send prepare_ok": lambda m: m.view == view and (m.kind == "prepare" and m.op == op or m.kind in ("start_view", "sync_view") and m.op >= op) or m.kind == "give_prepare" and m.op == op,
+        "send do_view_change": lambda m: m.kind == "start_view_change" and m.view == view,
+        "send start_view": lambda m: m.sender == to and m.kind in ("get_view", "start_view_change", "do_view_change") and m.view <= view,
+        "send get_view": lambda m: m.sender == to and m.kind in ("prepare", "commit") and m.view == view,
+        "send get_sync": lambda m: m.sender == to and m.kind == "start_view" and m.view == view,
+        "send sync_view": lambda m: m.sender == to and m.kind == "get_sync",
+        "send give_prepare": lambda m: m.sender == to and m.kind == "get_prepare" and m.op == op,
+        "send give_block": lambda m: m.sender == to and m.kind == "get_block" and m.words[1] == words[5],
+    }
+    return (asked[kind], "one") if kind in asked else None
+
+
+class Merge:
+    """Takes the members' groups one after the other."""
+
+    def __init__(self, members, size):
+        self.members, self.size = members, size
+        self.arrived = {member.index: [] for member in members}
+        self.coming = {index: [] for index in range(size)}
+        for member in members:
+            for group in member.groups:
+                for message in group.messages:
+                    self.coming[message.to].append(message)
+        self.sent = 0
+        self.steps = []
+        self.last = None
+
+    def wanted(self, how_many):
+        """From how many senders a group has to have heard before it comes."""
+        return {"replication": REPLICATION[self.size] - 1, "view change": VIEW_CHANGE[self.size] - 1}.get(how_many, 1)
+
+    def causes(self, member, group):
+        """The messages that a group answers, None where it has to wait for one, and whether it may go without."""
+        rule = answered(member, group)
+        if rule is None:
+            return [], True
+        test, how_many = rule
+        found = [message for message in self.coming[member.index] if test(message)]
+        heard = [message for message in found if message.number is not None]
+        senders, all_senders = {m.sender for m in heard}, {m.sender for m in found}
+        if len(senders) < min(self.wanted(how_many), len(all_senders)):
+            return None, how_many == "any"
+        fresh = [message for message in heard if not message.came]
+        gifts = [message for message in fresh if message.kind == "give_prepare"]
+        return (gifts or fresh or heard)[:1] if how_many in ("one", "any") else self.one_each(fresh or heard), False
+
+    @staticmethod
+    def one_each(messages):
+        """The first of each sender."""
+        return list({message.sender: message for message in reversed(messages)}.values())
+
+    def choice(self):
+        """Whose group comes next, and what it answers: one that answers something before one that answers nothing, earlier views before later
+        ones; where all wait, one that can go without an answer, or whichever there is; a start as late as can be."""
+        ranked = []
+        for member in self.members:
+            group = member.next()
+            if group is None:
+                continue
+            causes, free = self.causes(member, group)
+            rank = 4 if group.words[0] == "start" else 0 if causes else 1 if causes is not None else 2 if free else 3
+            ranked.append((rank, group.view, member.share(), member.index, member, causes or []))
+        return min(ranked, key=lambda entry: entry[:4])[4:] if ranked else None
+
+    def emit(self, member, causes):
+        group = member.take()
+        again = self.last is not None and self.last[0] is member and causes and causes == self.last[1] and group.words[0] == "commit"
+        if not again:
+            self.steps.append(step_of(f"member {member.index}"))
+        step = self.steps[-1]
+        step["outputs"] += [shorten(line) for line in group.lines]
+        if not again:
+            step["came"] = [message.number for message in causes]
+        for message in causes:
+            message.came = True
+        for message in group.messages:
+            message.number = self.sent
+            self.sent += 1
+        self.last = (member, causes)
+        self.note_end(member)
+
+    def note_end(self, member):
+        """Where its next line is a start, it had ended before."""
+        group = member.next()
+        if group is not None and group.words[0] == "start":
+            self.steps.append(step_of(f"stop {member.index}", ENDED))
+            self.last = None
+
+    def run(self):
+        while (choice := self.choice()) is not None and len(self.steps) < MOST_STEPS:
+            self.emit(*choice)
+        return choice is None
+
+
+def read_member(path):
+    with open(path, encoding="ascii") as file:
+        lines = file.read().splitlines()
+    if not lines:
+        raise BadRun(f"{path} is empty")
+    try:
+        return Member(lines)
+    except (IndexError, ValueError) as error:
+        raise BadRun(f"{path} isn't what a member writes") from error
+
+
+def merge_members(paths):
+    """The run that the files of members tell, ready for the page."""
+    members = sorted((read_member(path) for path in paths), key=lambda member: member.index)
+    named = [message.to for member in members for group in member.groups for message in group.messages]
+    size = max(2, max(named + [member.index for member in members]) + 1)
+    if size not in REPLICATION or len({member.index for member in members}) < len(members):
+        raise BadRun("these aren't the files of the members of one group")
+    merge = Merge(members, size)
+    whole = merge.run()
+    left_out = sum(member.left_out for member in members)
+    about = "What running members wrote, in an order that fits what was sent and answered; it needn't be that of the clock."
+    about += f" {left_out} lines that say again what was said are left out." if left_out else ""
+    about += "" if whole else f" Only the first {MOST_STEPS:,} steps are shown."
+    return {"about": about, "size": size, "steps": merge.steps}

@@ -1,0 +1,184 @@
+// The page: shows one line of a run at a time.
+"use strict";
+
+const MOST_LETTERS = 16;
+const MOST_UNDER_WAY = 40;
+const LEAP = 10;
+
+const run = JSON.parse(document.getElementById("run").textContent);
+const messages = messagesOf(run);
+const lanes = new Lanes(run, messages, document.getElementById("timeline").clientWidth - 20);
+const shown = { at: 0, output: -1 };
+
+const byId = (id) => document.getElementById(id);
+
+// An element with what stands in it; text is text.
+function make(name, attributes, ...inside) {
+    const element = document.createElement(name);
+    for (const [key, value] of Object.entries(attributes)) element.setAttribute(key, value);
+    element.append(...inside);
+    return element;
+}
+
+// A piece of RULES.md, which explore has made into HTML.
+function ruleText(html) {
+    const element = document.createElement("span");
+    element.innerHTML = html;
+    return element;
+}
+
+function ruleCard(name, fits) {
+    const rule = run.rules.rules[name];
+    if (!rule) return make("p", {}, name);
+    const card = make("div", { class: fits ? "rule fits" : "rule", "data-rule": name }, make("b", {}, `Rule ${rule.no}, ${name}`), fits ? ": it fits what was put out" : "");
+    card.append(make("p", {}, make("i", {}, "When "), ruleText(rule.when)), make("p", {}, make("i", {}, "Then "), ruleText(rule.what)));
+    return card;
+}
+
+function wordCard(word) {
+    const entry = run.rules.words[word];
+    if (!entry) return make("p", { class: "note" }, "RULES.md has no rule for it.");
+    return make("div", { class: "rule fits", "data-word": word }, make("b", {}, word), make("p", {}, ruleText(entry)));
+}
+
+function showWhy() {
+    const step = run.steps[shown.at];
+    const why = byId("why");
+    if (shown.output >= 0) {
+        const word = explainOutput(step.outputs[shown.output]);
+        why.replaceChildren(make("p", { class: "note" }, "Of this output, RULES.md:"), wordCard(word));
+        return;
+    }
+    const { fit, others, words, note } = explainStep(run, messages, shown.at);
+    const parts = [...words.map(wordCard), ...fit.map((name) => ruleCard(name, step.outputs.length > 0))];
+    if (note) parts.unshift(make("p", { class: "note" }, note));
+    if (others.length > 0) {
+        parts.push(make("details", {}, make("summary", {}, `the other rules of this event: ${others.map((name) => run.rules.rules[name].no).join(", ")}`), ...others.map((name) => ruleCard(name, false))));
+    }
+    why.replaceChildren(...parts);
+}
+
+function showStep() {
+    const step = run.steps[shown.at];
+    const parts = [make("p", { class: "thing", id: "line" }, step.line)];
+    for (const number of step.came) {
+        const message = messages[number];
+        parts.push(make("p", { class: "came" }, `message ${number} comes, ${message.from} to ${message.to}: ${message.words.join(" ")}`));
+    }
+    if (step.note) parts.push(make("p", { class: "note" }, step.note));
+    step.outputs.forEach((output, place) => {
+        const button = make("button", { type: "button", class: "said", "aria-pressed": String(place === shown.output) }, output);
+        button.addEventListener("click", () => choose(shown.at, place === shown.output ? -1 : place));
+        parts.push(button);
+    });
+    if (step.outputs.length === 0) parts.push(make("p", { class: "note" }, "Nothing is put out."));
+    byId("step").replaceChildren(...parts);
+}
+
+function lettersOf(replica) {
+    const ops = [...replica.letters.keys()].sort((one, other) => one - other).slice(-MOST_LETTERS);
+    if (ops.length === 0) return ["nothing is told"];
+    return ops.map((op) => make("span", {}, `${op}${replica.letters.get(op)}`));
+}
+
+function keyList(world, replica) {
+    const { keys, untold } = keysOf(world, replica.applied);
+    if (!replica.runs) return ["its memory is lost"];
+    const items = [...keys].map(([key, value]) => make("li", {}, `${key} = ${value}`));
+    const list = items.length > 0 ? [make("ul", { class: "keys", tabindex: "0", "aria-label": "keys" }, ...items)] : ["none"];
+    return untold > 0 ? [...list, `(without ${untold} operations that no line tells)`] : list;
+}
+
+function replicaCard(world, replica) {
+    const role = roleOf(run, replica);
+    const rows = [["view", String(replica.view)], ["commit", String(replica.commit)], ["applied", String(replica.applied)]];
+    if (replica.waits) rows.push(["waits for", replica.waits]);
+    if (replica.asks) rows.push(["asked for", replica.asks]);
+    const list = make("dl", {});
+    for (const [name, value] of rows) list.append(make("dt", {}, name), make("dd", { class: name.replace(" ", "-") }, value));
+    list.append(make("dt", {}, "log"), make("dd", { class: "letters" }, ...lettersOf(replica)));
+    list.append(make("dt", {}, "keys"), make("dd", { class: "state" }, ...keyList(world, replica)));
+    const head = make("h3", {}, `replica ${replica.index}: `, make("span", { class: "role" }, role));
+    return make("div", { class: `replica ${role.split(" ")[0]}`, "data-replica": replica.index }, head, list);
+}
+
+function showWay() {
+    const left = underWay(messages, shown.at);
+    byId("way-title").textContent = left.length === 0 ? "Under way: nothing" : `Under way or lost: ${left.length}`;
+    const items = left.slice(0, MOST_UNDER_WAY).map((number) => {
+        const message = messages[number];
+        return make("li", { "data-message": number }, `${number}, ${message.from} to ${message.to}: ${message.words.join(" ")} (line ${message.sent + 1})`);
+    });
+    if (left.length > MOST_UNDER_WAY) items.push(make("li", {}, `and ${left.length - MOST_UNDER_WAY} earlier ones`));
+    byId("way").replaceChildren(make("ol", {}, ...items));
+}
+
+function showPicture() {
+    for (const row of document.querySelectorAll(".row.chosen")) row.classList.remove("chosen");
+    for (const arrow of document.querySelectorAll(".arrow.now")) arrow.classList.remove("now");
+    byId(`row-${shown.at}`).classList.add("chosen");
+    for (const arrow of document.querySelectorAll(`.arrow[data-step="${shown.at}"]`)) arrow.classList.add("now");
+    const { y, height } = lanes.rows[shown.at];
+    const later = byId("later");
+    later.setAttribute("y", y + height);
+    later.setAttribute("height", lanes.height - y - height);
+    const timeline = byId("timeline");
+    const room = timeline.clientHeight - byId("heading").offsetHeight;
+    if (y < timeline.scrollTop || y + height > timeline.scrollTop + room) timeline.scrollTop = Math.max(0, y - room / 2);
+}
+
+// Shows a line, and of it an output where one is chosen.
+function choose(at, output = -1) {
+    shown.at = Math.min(Math.max(at, 0), run.steps.length - 1);
+    shown.output = output;
+    const world = worldAfter(run, shown.at);
+    showStep();
+    showWhy();
+    byId("replicas").replaceChildren(...world.replicas.map((replica) => replicaCard(world, replica)));
+    showWay();
+    showPicture();
+    byId("slider").value = String(shown.at + 1);
+    byId("slider").setAttribute("aria-valuetext", `line ${shown.at + 1}: ${run.steps[shown.at].line}`);
+    byId("place").textContent = `${shown.at + 1} of ${run.steps.length}`;
+    history.replaceState(null, "", `#${shown.at + 1}`);
+}
+
+const KEYS = {
+    ArrowRight: () => shown.at + 1, ArrowLeft: () => shown.at - 1, PageDown: () => shown.at + LEAP, PageUp: () => shown.at - LEAP,
+    Home: () => 0, End: () => run.steps.length - 1,
+};
+
+function onKey(event) {
+    const key = KEYS[event.key];
+    if (!key || event.altKey || event.ctrlKey || event.metaKey) return;
+    event.preventDefault();
+    choose(key());
+}
+
+function onMark(event) {
+    const mark = event.target.closest("[data-step]");
+    if (mark) choose(Number(mark.dataset.step), Number(mark.dataset.output ?? -1));
+}
+
+function fromHash() {
+    const line = Number(location.hash.slice(1));
+    return Number.isInteger(line) && line > 0 ? line - 1 : 0;
+}
+
+function begin() {
+    byId("about").textContent = run.about;
+    byId("heading").innerHTML = lanes.heading();
+    byId("lanes").innerHTML = lanes.svg();
+    byId("slider").max = String(run.steps.length);
+    byId("slider").addEventListener("input", () => choose(Number(byId("slider").value) - 1));
+    byId("first").addEventListener("click", () => choose(0));
+    byId("back").addEventListener("click", () => choose(shown.at - 1));
+    byId("on").addEventListener("click", () => choose(shown.at + 1));
+    byId("last").addEventListener("click", () => choose(run.steps.length - 1));
+    byId("picture").addEventListener("click", onMark);
+    document.addEventListener("keydown", onKey);
+    addEventListener("hashchange", () => choose(fromHash()));
+    choose(fromHash());
+}
+
+begin();
