@@ -55,7 +55,7 @@ class Lanes {
         const left = this.gutter + this.clientLanes * CLIENT_LANE;
         this.lane = Math.min(Math.max(Math.floor((room - left) / run.size), NARROWEST_LANE), WIDEST_LANE);
         this.width = left + run.size * this.lane;
-        this.letters = Math.floor((this.lane - 22) / LETTER);
+        this.letters = Math.floor((this.lane - 25) / LETTER);
         this.labels = run.steps.map((step) => this.labelsOf(step));
         this.rows = [];
         let y = FIRST_ROW;
@@ -217,10 +217,10 @@ class Lanes {
         for (const label of this.labels[at]) {
             label.lines.forEach((line, place) => {
                 const words = line.to === "" ? line.text : `${line.text} → ${line.to}`;
-                marks.push(this.text(this.x(label.replica) + 12, this.y(at) + 4 + LINE * place, cut(words, this.letters), line.kind, this.mark(at, line.place)));
+                marks.push(this.text(this.x(label.replica) + 15, this.y(at) + 4 + LINE * place, cut(words, this.letters), line.kind, this.mark(at, line.place)));
             });
         }
-        return marks.join("");
+        return `<g id="words-${at}" class="words">${marks.join("")}</g>`;
     }
 
     heading() {
@@ -235,7 +235,7 @@ class Lanes {
         const steps = this.run.steps.map((_, at) => at);
         return [
             `<svg id="picture" width="${this.width}" height="${this.height}" role="img" aria-label="The run as a picture: its lines, replicas and messages. The panel beside it says the same of each line in words.">`,
-            '<defs><marker id="tip" viewBox="0 0 8 8" refX="7" refY="4" markerWidth="7" markerHeight="7" orient="auto"><path d="M0 0L8 4L0 8z" fill="context-stroke"/></marker></defs>',
+            '<defs><marker id="tip" viewBox="0 0 8 8" refX="7" refY="4" markerWidth="9" markerHeight="9" markerUnits="userSpaceOnUse" orient="auto"><path d="M0 0L8 4L0 8z" fill="context-stroke"/></marker></defs>',
             ...steps.map((at) => this.row(at)),
             ...this.lanes(),
             ...this.arrows(),

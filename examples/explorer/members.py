@@ -8,6 +8,9 @@ after the statements, a gift after the asking. Where several orders are left, on
 from reading import BadRun, shorten, step_of
 
 MOST_STEPS = 5_000
+ANSWERS, SPEAKS, GOES_WITHOUT, STARTS, WAITS = range(5)
+"""Which groups come first: one that answers something, one that needs nothing, one that can go without what would explain it, a start, which is
+as late as can be, and last one that waits for a message that never came to be written."""
 REPLICATION = {2: 2, 3: 2, 4: 2, 5: 3, 6: 3}
 VIEW_CHANGE = {2: 2, 3: 2, 4: 3, 5: 3, 6: 4}
 ENDED = "It was started again later on, so it had ended by then; when, no line tells."
@@ -200,15 +203,14 @@ class Merge:
         return list({message.sender: message for message in reversed(messages)}.values())
 
     def choice(self):
-        """Whose group comes next, and what it answers: one that answers something before one that answers nothing, earlier views before later
-        ones; where all wait, one that can go without an answer, or whichever there is; a start as late as can be."""
+        """Whose group comes next, and what it answers; of those that are alike, the one of the earliest view."""
         ranked = []
         for member in self.members:
             group = member.next()
             if group is None:
                 continue
             causes, free = self.causes(member, group)
-            rank = 4 if group.words[0] == "start" else 0 if causes else 1 if causes is not None else 2 if free else 3
+            rank = STARTS if group.words[0] == "start" else ANSWERS if causes else SPEAKS if causes is not None else GOES_WITHOUT if free else WAITS
             ranked.append((rank, group.view, member.share(), member.index, member, causes or []))
         return min(ranked, key=lambda entry: entry[:4])[4:] if ranked else None
 

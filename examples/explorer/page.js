@@ -4,6 +4,7 @@
 const MOST_LETTERS = 16;
 const MOST_UNDER_WAY = 40;
 const LEAP = 10;
+const ELSE = "none of the rules of this event that stand before it applies";
 
 const run = JSON.parse(document.getElementById("run").textContent);
 const messages = messagesOf(run);
@@ -31,7 +32,7 @@ function ruleCard(name, fits) {
     const rule = run.rules.rules[name];
     if (!rule) return make("p", {}, name);
     const card = make("div", { class: fits ? "rule fits" : "rule", "data-rule": name }, make("b", {}, `Rule ${rule.no}, ${name}`), fits ? ": it fits what was put out" : "");
-    card.append(make("p", {}, make("i", {}, "When "), ruleText(rule.when)), make("p", {}, make("i", {}, "Then "), ruleText(rule.what)));
+    card.append(make("p", {}, make("i", {}, "When "), ruleText(rule.when === "else" ? ELSE : rule.when)), make("p", {}, make("i", {}, "Then "), ruleText(rule.what)));
     return card;
 }
 
@@ -114,9 +115,10 @@ function showWay() {
 }
 
 function showPicture() {
-    for (const row of document.querySelectorAll(".row.chosen")) row.classList.remove("chosen");
+    for (const row of document.querySelectorAll(".row.chosen, .words.chosen")) row.classList.remove("chosen");
     for (const arrow of document.querySelectorAll(".arrow.now")) arrow.classList.remove("now");
     byId(`row-${shown.at}`).classList.add("chosen");
+    byId(`words-${shown.at}`).classList.add("chosen");
     for (const arrow of document.querySelectorAll(`.arrow[data-step="${shown.at}"]`)) arrow.classList.add("now");
     const { y, height } = lanes.rows[shown.at];
     const later = byId("later");

@@ -13,14 +13,16 @@ from nozhgiva import Full, Group, OutcomeKind, SessionLost, Unknown
 
 PROGRAM = os.environ.get("PROGRAM") or str(Path(__file__).resolve().parents[3] / "crates/vr_app/out/vr_app")
 SIZE = 3
-PATIENCE = 30.0
+PATIENCE = 60.0
+MEMORY = "/dev/shm"
+"""Where the members' files stand if it is there: these tests are of the client, and needn't wait for a disk."""
 
 
 class Running:
     """Three members on loopback, each with a file of its own."""
 
     def __init__(self, scheme):
-        self.folder = tempfile.TemporaryDirectory()
+        self.folder = tempfile.TemporaryDirectory(dir=MEMORY if os.path.isdir(MEMORY) else None)
         held = [socket.create_server(("127.0.0.1", 0)) for _ in range(SIZE)]
         self.addresses = [f"{scheme}127.0.0.1:{one.getsockname()[1]}" for one in held]
         for one in held:

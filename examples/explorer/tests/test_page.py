@@ -165,7 +165,7 @@ class Page(unittest.TestCase):
                 self.assertEqual(self.browser.value(fits), wanted)
         self.go(2)
         self.assertEqual(self.browser.value(fits), ["Made"])
-        self.browser.click("#row-0 ~ .t[data-step='4'][data-output='0']")
+        self.browser.click("#words-4 [data-output='0']")
         self.assertEqual(self.browser.value("document.getElementById('line').textContent"), "deliver 2")
         self.assertEqual(self.browser.value(fits), ["apply"])
         self.assertIn("commit line", self.browser.value("document.getElementById('why').textContent"))

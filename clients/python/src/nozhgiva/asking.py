@@ -32,7 +32,7 @@ class Retry:
 
     first: float = 0.25
     factor: float = 1.5
-    most: float = 2.0
+    most: float = 1.0
     jitter: float = 0.5
 
     def __post_init__(self) -> None:
