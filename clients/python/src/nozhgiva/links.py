@@ -58,7 +58,9 @@ def places_of(addresses: Sequence[str]) -> Places:
 
 def open_link(places: Places) -> Link:
     """A link to these members. Raises `OSError` where a name can't be resolved or no socket is to be had."""
-    return TcpLink(places.members) if places.over_tcp else UdpLink(places.members)
+    if places.over_tcp:
+        return TcpLink(places.members)
+    return UdpLink(places.members)
 
 
 class UdpLink:

@@ -10,7 +10,7 @@ import hashlib
 import struct
 from dataclasses import dataclass
 from enum import Enum, IntEnum
-from typing import NamedTuple, Union
+from typing import Any, NamedTuple, Union
 
 __all__ = [
     "Delete", "Fault", "Get", "LARGEST_KEY", "LARGEST_MESSAGE", "LARGEST_VALUE", "Operation", "Outcome", "OutcomeKind", "Put", "Refused",
@@ -243,7 +243,7 @@ class Header(NamedTuple):
     zeros: bytes
 
 
-def _message(body: bytes, command: Command, version: int, **fields: int | bytes) -> bytes:
+def _message(body: bytes, command: Command, version: int, **fields: Any) -> bytes:
     """A message of these fields, all others zero."""
     blank = Header(*HEADER.unpack(bytes(HEADER.size)))
     header = blank._replace(body=name_of(body), size=HEADER.size + len(body), command=command, version=version, **fields)
