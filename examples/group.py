@@ -66,9 +66,9 @@ class Group:
         with open(f"{self.folder}/{r}.text", "ab") as text, open(f"{self.folder}/{r}.err", "ab") as err:
             self.members[r] = subprocess.Popen(self.words(r, *more), stdin=subprocess.DEVNULL, stdout=text, stderr=err)
 
-    def start_all(self):
+    def start_all(self, *more):
         for r in range(3):
-            self.start(r, "--fresh")
+            self.start(r, "--fresh", *more)
 
     def kill(self, r):
         if self.members[r]:
