@@ -43,7 +43,7 @@ def troubles(policy: Policy, now: float, life: Life) -> List[str]:
 def line(policy: Policy, now: float, life: Life) -> str:
     """One line, without its end."""
     seen, runs = policy.seen, life.since is not None
-    question = seen.waits_for(now) if runs else None
+    asks, mends = (seen.waits_for(now), seen.mends(now)) if runs else (None, None)
     words = {
         "member": life.member,
         "well": ",".join(troubles(policy, now, life)) or "yes",
@@ -52,7 +52,8 @@ def line(policy: Policy, now: float, life: Life) -> str:
         "applied": seen.caught_up_to(),
         "commit": seen.commit,
         "head": max(seen.head, seen.commit),
-        "asks": "_".join(question) if question else "-",
+        "asks": "_".join(asks) if asks else "-",
+        "mends": "_".join(mends) if mends else "-",
         "stands": f"{policy.standing(now):.1f}",
         "up": f"{now - life.since:.1f}" if life.since is not None else "-",
         "restarts": life.restarts,

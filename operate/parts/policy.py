@@ -66,6 +66,10 @@ class Seen:
         """A question in the way that it asked a moment ago."""
         return next((q for q, last in self.asked.items() if now - last <= RECENT and self.is_in_the_way(q)), None)
 
+    def mends(self, now: float) -> Optional[Tuple[str, ...]]:
+        """A question that it asked a moment ago for what its disk lost and it has itself."""
+        return next((q for q, last in self.asked.items() if now - last <= RECENT and not self.is_in_the_way(q)), None)
+
     def caught_up_to(self) -> int:
         """The op up to which it has applied all; 0 where it isn't known."""
         return 0 if self.lacks else max(self.applied, self.commit if self.applied == 0 else 0)

@@ -117,6 +117,8 @@ def check(hands: Hands, members: List[int]) -> None:
             raise Stopped(f"member {member}: nobody answers for it")
         if health["well"] != "yes":
             raise Stopped(f"member {member} isn't well: {health['well']}")
+        if health.get("mends", "-") != "-":
+            raise Stopped(f"member {member} asks for {health['mends'].replace('_', ' ')}, which its disk lost and it has in memory: a restart would lose it")
     if not any((hands.health(member) or {}).get("state") == "leads" for member in members):
         raise Stopped("no member leads")
 

@@ -147,3 +147,16 @@ class Knowing(unittest.TestCase):
         ]:
             with self.subTest(str(lines)):
                 self.assertEqual(self.seen(*lines).caught_up_to(), op)
+
+    def test_what_it_waits_for_and_what_it_mends(self):
+        applied, block, entry = (0.1, APPLIED.format(65)), ("get_block", "3"), ("get_prepare", "op", "60", "made", "0")
+        for lines, now, waits, mends in [
+            ([applied, (20.0, BLOCK.format(3))], 20.5, None, block),
+            ([applied, (20.0, ASK.format(60))], 20.5, None, entry),
+            ([(0.1, BLOCK.format(3))], 0.5, block, None),
+            ([(0.1, ASK.format(60))], 0.5, entry, None),
+            ([(0.1, ASK.format(60))], 5.0, None, None),
+        ]:
+            with self.subTest(str(lines)):
+                seen = self.seen((0.0, "start 0 view 0 log_view 0 commit 0"), *lines)
+                self.assertEqual((seen.waits_for(now), seen.mends(now)), (waits, mends))

@@ -18,6 +18,7 @@ class Played:
         self.told: List[str] = []
         self.over = 0.0  # seconds for which the clients were held
         self.unwell: Optional[int] = None
+        self.mends: Optional[int] = None
         self.stale = False  # whether a restart does nothing
 
     def committed(self) -> int:
@@ -37,7 +38,7 @@ class Played:
             return None
         applied = 7 if self.lags(member) else self.committed()
         return {"member": str(member), "well": "no" if member == self.unwell else "yes", "state": "leads" if member == self.leader else "follows", "applied": str(applied),
-                "commit": str(self.committed()), "asks": "get_block_64" if self.lags(member) else "-", "up": f"{self.now - (-100.0 if since is None else since):.1f}"}
+                "commit": str(self.committed()), "asks": "get_block_64" if self.lags(member) else "-", "mends": "get_block_7" if member == self.mends else "-", "up": f"{self.now - (-100.0 if since is None else since):.1f}"}
 
     def restart(self, member: int) -> None:
         self.order.append(member)
@@ -101,6 +102,12 @@ class Rolling(unittest.TestCase):
             played.unwell = unwell
             self.assertRaisesRegex(Stopped, what, roll, played.hands(True), [0, 1, 2], BOUNDS)
             self.assertEqual(played.order, [])
+
+    def test_one_that_has_what_its_disk_lost_is_not_restarted(self):
+        played = Played()
+        played.mends = 2
+        self.assertRaisesRegex(Stopped, "member 2 asks for get block 7, which its disk lost", roll, played.hands(True), [0, 1, 2], BOUNDS)
+        self.assertEqual(played.order, [])
 
     def test_a_restart_that_did_nothing_is_seen(self):
         played = Played()
