@@ -134,6 +134,38 @@ class Page(unittest.TestCase):
                     with self.subTest(name, line=line, replica=replica):
                         self.assertEqual(self.shown(replica), wanted)
 
+    def test_answers_and_openings(self):
+        """In each example: what a get was answered is what the keys of the page say; and a replica that starts is in the view that it was known
+        to be in or in a later one."""
+        check = """(() => {
+            const faults = [];
+            let gets = 0, starts = 0;
+            run.steps.forEach((step, at) => step.outputs.forEach((output) => {
+                const words = output.split(" ");
+                const world = worldAfter(run, at);
+                const entry = words[0] === "reply" && words[6] === "op" ? world.log.get(Number(words[7])) : null;
+                if (entry && entry.operation[0] === "get") {
+                    const value = keysOf(world, entry.op).keys.get(entry.operation[1]);
+                    gets += 1;
+                    if ((value === undefined ? "absent" : `value ${value}`) !== words.slice(8).join(" ")) faults.push(output);
+                }
+                if (words[0] === "start") {
+                    starts += 1;
+                    if (worldAfter(run, at - 1).replicas[words[1]].view > Number(words[3])) faults.push(output);
+                }
+            }));
+            return [faults, gets, starts];
+        })()"""
+        gets = starts = 0
+        for example in sorted(EXAMPLES.glob("*.txt")):
+            self.open(example)
+            faults, some_gets, some_starts = self.browser.value(check)
+            with self.subTest(example.name):
+                self.assertEqual(faults, [])
+            gets, starts = gets + some_gets, starts + some_starts
+        self.assertGreater(gets, 1)
+        self.assertGreater(starts, 10)
+
     def test_messages_under_way(self):
         self.open(EXAMPLES / "view-change.txt")
         self.go(13)
