@@ -76,18 +76,28 @@ def may_repeat(kind, words):
     return kind.startswith("send ") or kind == "reply" and words[6] in ("redirect", "busy")
 
 
+def owner_of(words):
+    """The replica that a line is of."""
+    return int(words[2] if words[0] == "send" else words[1])
+
+
 def groups_of(lines):
-    """The steps of one member, and how many lines were left out because they say again what was said."""
-    groups, latest, left_out, view, group = [], {}, 0, 0, None
+    """The steps that put out these lines, as far as they tell."""
+    groups, views = [], {}
     for line in lines:
         words = line.split()
-        view = max(view, field(words, "view") if words[0] != "commit" else 0)
-        if group is not None and goes_on(group, words):
-            group.add(line)
-            continue
-        group = Group(line, view)
-        groups.append(group)
-    kept = []
+        owner = owner_of(words)
+        views[owner] = max(views.get(owner, 0), field(words, "view") if words[0] != "commit" else 0)
+        if groups and owner_of(groups[-1].words) == owner and goes_on(groups[-1], words):
+            groups[-1].add(line)
+        else:
+            groups.append(Group(line, views[owner]))
+    return groups
+
+
+def without_repeats(groups):
+    """Of one member's steps those that say something new, and how many lines are left out."""
+    kept, latest, left_out = [], {}, 0
     for group in groups:
         kind = group.kind()
         if may_repeat(kind, group.words) and latest.get(kind) == group.text():
@@ -101,13 +111,12 @@ def groups_of(lines):
 class Member:
     """The lines of one member, and how far they are taken."""
 
-    def __init__(self, lines):
-        first = lines[0].split()
-        self.index = int(first[2] if first[0] == "send" else first[1])
-        self.groups, self.left_out = groups_of(lines)
+    def __init__(self, index, groups, left_out=0):
+        self.index, self.groups, self.left_out = index, groups, left_out
         self.at = 0
         self.leads = self.index == 0
         self.known = 0
+        self.since = 0
 
     def next(self):
         return self.groups[self.at] if self.at < len(self.groups) else None
@@ -193,14 +202,15 @@ class Merge:
         senders, all_senders = {m.sender for m in heard}, {m.sender for m in found}
         if len(senders) < min(self.wanted(how_many), len(all_senders)):
             return None, how_many == "any"
-        fresh = [message for message in heard if not message.came]
+        fresh = [message for message in heard if not message.came and message.number >= member.since]
         gifts = [message for message in fresh if message.kind == "give_prepare"]
-        return (gifts or fresh or heard)[:1] if how_many in ("one", "any") else self.one_each(fresh or heard), False
+        return (gifts or fresh or heard)[:1] if how_many in ("one", "any") else self.one_each(fresh or heard)[:self.wanted(how_many)], False
 
     @staticmethod
     def one_each(messages):
-        """The first of each sender."""
-        return list({message.sender: message for message in reversed(messages)}.values())
+        """The first of each sender, in the order in which they were sent."""
+        first = {message.sender: message for message in sorted(messages, key=lambda message: -message.number)}
+        return sorted(first.values(), key=lambda message: message.number)
 
     def choice(self):
         """Whose group comes next, and what it answers; of those that are alike, the one of the earliest view."""
@@ -216,6 +226,8 @@ class Merge:
 
     def emit(self, member, causes):
         group = member.take()
+        if group.words[0] == "start":
+            member.since = self.sent
         again = self.last is not None and self.last[0] is member and causes and causes == self.last[1] and group.words[0] == "commit"
         if not again:
             self.steps.append(step_of(f"member {member.index}"))
@@ -239,18 +251,45 @@ class Merge:
             self.last = None
 
     def run(self):
+        """Takes all, or the first steps; whether that was all."""
         while (choice := self.choice()) is not None and len(self.steps) < MOST_STEPS:
             self.emit(*choice)
         return choice is None
 
 
-def read_member(path):
+class Played(Merge):
+    """The same of lines that stand in their true order."""
+
+    def __init__(self, members, size, order):
+        super().__init__(members, size)
+        self.order = iter(order)
+
+    def choice(self):
+        """Whose group comes next, and what it answers."""
+        member = next(self.order, None)
+        return None if member is None else (member, self.causes(member, member.next())[0] or [])
+
+
+def read_lines(path):
     with open(path, encoding="ascii") as file:
-        lines = file.read().splitlines()
+        return file.read().splitlines()
+
+
+def size_of(members):
+    """How many replicas a group has that put such lines out."""
+    named = [message.to for member in members for group in member.groups for message in group.messages]
+    size = max(2, max(named + [member.index for member in members]) + 1)
+    if size not in REPLICATION:
+        raise BadRun(f"a group has no replica {size - 1}")
+    return size
+
+
+def read_member(path):
+    lines = read_lines(path)
     if not lines:
         raise BadRun(f"{path} is empty")
     try:
-        return Member(lines)
+        return Member(owner_of(lines[0].split()), *without_repeats(groups_of(lines)))
     except (IndexError, ValueError) as error:
         raise BadRun(f"{path} isn't what a member writes") from error
 
@@ -258,10 +297,9 @@ def read_member(path):
 def merge_members(paths):
     """The run that the files of members tell, ready for the page."""
     members = sorted((read_member(path) for path in paths), key=lambda member: member.index)
-    named = [message.to for member in members for group in member.groups for message in group.messages]
-    size = max(2, max(named + [member.index for member in members]) + 1)
-    if size not in REPLICATION or len({member.index for member in members}) < len(members):
-        raise BadRun("these aren't the files of the members of one group")
+    if len({member.index for member in members}) < len(members):
+        raise BadRun("two files are of the same member")
+    size = size_of(members)
     merge = Merge(members, size)
     whole = merge.run()
     left_out = sum(member.left_out for member in members)
@@ -269,3 +307,32 @@ def merge_members(paths):
     about += f" {left_out} lines that say again what was said are left out." if left_out else ""
     about += "" if whole else f" Only the first {MOST_STEPS:,} steps are shown."
     return {"about": about, "size": size, "steps": merge.steps}
+
+
+def read_outputs(path):
+    """The run that the outputs of a `replay` tell without its schedule, ready for the page: who sent what, and what it answers, but no line."""
+    lines = read_lines(path)
+    try:
+        groups = groups_of([line for line in lines if line not in ("done", "kept out")])
+    except (IndexError, ValueError) as error:
+        raise BadRun(f"{path} isn't what `replay` writes") from error
+    members = {}
+    for group in groups:
+        owner = owner_of(group.words)
+        members.setdefault(owner, Member(owner, [])).groups.append(group)
+    size = size_of(list(members.values()))
+    merge = Played(list(members.values()), size, [members[owner_of(group.words)] for group in groups])
+    whole = merge.run()
+    about = "What `replay` wrote, without the lines of its schedule: what came is told as far as the outputs tell it."
+    about += "" if whole else f" Only the first {MOST_STEPS:,} steps are shown."
+    return {"about": about, "size": size, "steps": merge.steps}
+
+
+OUTPUTS = ("send", "commit", "reply", "choose", "wait", "start", "halt", "done", "kept")
+"""The words with which an output begins; no line of a schedule but `start` does so, and none begins a schedule."""
+
+
+def is_outputs(path):
+    """Whether a file has outputs alone."""
+    with open(path, encoding="ascii") as file:
+        return file.readline().split(" ")[0] in OUTPUTS

@@ -8,9 +8,10 @@ from pathlib import Path
 
 sys.path.insert(0, str(Path(__file__).resolve().parents[1]))
 
-from members import merge_members  # noqa: E402
+from members import is_outputs, merge_members, read_outputs  # noqa: E402
 from reading import BadRun  # noqa: E402
 
+EXAMPLES = Path(__file__).resolve().parents[2]
 FILES = [Path(__file__).with_name("members") / f"out.{member}" for member in range(3)]
 
 
@@ -77,6 +78,21 @@ class Members(unittest.TestCase):
                     texts.append(lines[:draw.randrange(1, len(lines))])
                     (Path(folder) / path.name).write_text("\n".join(texts[-1]) + "\n")
                 self.check(texts, merge_members([Path(folder) / path.name for path in FILES]))
+
+    def test_outputs_of_replay_without_their_schedule(self):
+        lines = [line.strip() for line in (EXAMPLES / "view-change.txt").read_text().splitlines() if line.startswith("  ")]
+        with tempfile.TemporaryDirectory() as folder:
+            path = Path(folder) / "outputs"
+            path.write_text("\n".join(lines) + "\n")
+            self.assertTrue(is_outputs(path))
+            self.assertFalse(is_outputs(EXAMPLES / "view-change.txt"))
+            run = read_outputs(path)
+        self.assertEqual([output for step in run["steps"] for output in step["outputs"]], lines)
+        came = [(step["outputs"][0], step["came"]) for step in run["steps"] if step["outputs"]]
+        # Message 2 commits operation 1 at replica 0; message 10 is the statement on which replica 1 chooses; 21 is the log that brings replica 0 back.
+        commit = "commit 0 op 1 view 0 client 7 request 0 register"
+        self.assertEqual([numbers for output, numbers in came if output == commit], [[2], [21]])
+        self.assertIn(("choose 1 view 1 log 0 commit 0 head 1 own h", [10]), came)
 
     def test_what_no_member_writes(self):
         with tempfile.TemporaryDirectory() as folder:
