@@ -8,6 +8,7 @@ after the statements, a gift after the asking. Where several orders are left, on
 from reading import BadRun, shorten, step_of
 
 MOST_STEPS = 5_000
+WINDOW = 64
 ANSWERS, SPEAKS, GOES_WITHOUT, STARTS, WAITS = range(5)
 """Which groups come first: one that answers something, one that needs nothing, one that can go without what would explain it, a start, which is
 as late as can be, and last one that waits for a message that never came to be written."""
@@ -141,35 +142,71 @@ def repeats_own(member, group):
     return any(earlier.words[0] == "send" and earlier.words[4:] == group.words[4:] for earlier in member.groups[:member.at])
 
 
-def answered(member, group):
-    """What a group answers: a test of messages to this member, and how many senders of such it takes. None where it answers nothing."""
-    words, kind = group.words, group.kind()
-    view, op = field(words, "view"), field(words, "op")
-    to = int(words[3]) if words[0] == "send" else None
-    alone = len(group.messages) == 1
-    if kind == "commit":
-        if op <= member.known:
-            return None
-        if member.leads:
-            return lambda m: m.kind == "prepare_ok" and m.op == op, "replication"
-        return lambda m: m.kind == "give_prepare" and m.op == op or m.kind in CARRIES_COMMIT and m.commit >= op, "one"
-    if kind == "send start_view_change":
-        return None if repeats_own(member, group) else (lambda m: m.kind in ("start_view_change", "do_view_change") and m.view == view, "any")
-    if kind in ("choose", "wait"):
-        return lambda m: m.kind == "do_view_change" and m.view == view, "view change"
-    if kind == "send start_view" and not alone:
+def places_of(message):
+    """Under which keys a message is found: its kind with its op, its view, its block; and its commit number."""
+    yield message.kind, "op", message.op
+    yield message.kind, "view", message.view
+    if message.kind == "get_block":
+        yield message.kind, "block", int(message.words[1])
+    if message.kind in CARRIES_COMMIT:
+        yield "commit", message.commit
+
+
+class Answer:
+    """What a group answers: messages to its member that stand under these keys and pass the test, from so many senders."""
+
+    def __init__(self, keys, how_many="one", test=lambda message: True):
+        self.keys, self.how_many, self.test = keys, how_many, test
+
+
+def views_to(view, *kinds):
+    """The keys of messages of these kinds in this view, and in some before it."""
+    return [(kind, "view", earlier) for kind in kinds for earlier in range(max(0, view - WINDOW), view + 1)]
+
+
+def answer_of_commit(member, op):
+    if op <= member.known:
         return None
-    asked = {
-        "send prepare_ok": lambda m: m.view == view and (m.kind == "prepare" and m.op == op or m.kind in ("start_view", "sync_view") and m.op >= op) or m.kind == "give_prepare" and m.op == op,
-        "send do_view_change": lambda m: m.kind == "start_view_change" and m.view == view,
-        "send start_view": lambda m: m.sender == to and m.kind in ("get_view", "start_view_change", "do_view_change") and m.view <= view,
-        "send get_view": lambda m: m.sender == to and m.kind in ("prepare", "commit") and m.view == view,
-        "send get_sync": lambda m: m.sender == to and m.kind == "start_view" and m.view == view,
-        "send sync_view": lambda m: m.sender == to and m.kind == "get_sync",
-        "send give_prepare": lambda m: m.sender == to and m.kind == "get_prepare" and m.op == op,
-        "send give_block": lambda m: m.sender == to and m.kind == "get_block" and m.words[1] == words[5],
+    if member.leads:
+        return Answer([("prepare_ok", "op", op)], "replication")
+    return Answer([("give_prepare", "op", op)] + [("commit", commit) for commit in range(op, op + WINDOW + 1)])
+
+
+def answer_of_send(member, group):
+    """That of messages; None of those that answer nothing, or nothing that is told."""
+    words, kind = group.words, group.words[4]
+    view, op = field(words, "view"), field(words, "op")
+
+    def from_there(message):
+        return message.sender == int(words[3])
+    if kind == "start_view_change" and repeats_own(member, group) or kind == "start_view" and len(group.messages) > 1:
+        return None
+    if kind == "prepare_ok":
+        logs = [("start_view", "view", view), ("sync_view", "view", view)]
+        return Answer([("prepare", "op", op), ("give_prepare", "op", op)] + logs, test=lambda message: message.view == view and message.op >= op or message.kind == "give_prepare")
+    answers = {
+        "start_view_change": Answer([("start_view_change", "view", view), ("do_view_change", "view", view)], "any"),
+        "do_view_change": Answer([("start_view_change", "view", view)]),
+        "start_view": Answer(views_to(view, "get_view", "start_view_change", "do_view_change"), test=from_there),
+        "get_view": Answer([("prepare", "view", view), ("commit", "view", view)], test=from_there),
+        "get_sync": Answer([("start_view", "view", view)], test=from_there),
+        "sync_view": Answer(views_to(view, "get_sync"), test=from_there),
+        "give_prepare": Answer([("get_prepare", "op", op)], test=from_there),
+        "give_block": Answer([("get_block", "block", field(words, "give_block"))], test=from_there),
     }
-    return (asked[kind], "one") if kind in asked else None
+    return answers.get(kind)
+
+
+def answer_of(member, group):
+    """What a group answers, by its first line; None where it answers nothing."""
+    words = group.words
+    if words[0] == "send":
+        return answer_of_send(member, group)
+    if words[0] == "commit":
+        return answer_of_commit(member, field(words, "op"))
+    if words[0] in ("choose", "wait"):
+        return Answer([("do_view_change", "view", field(words, "view"))], "view change")
+    return None
 
 
 class Merge:
@@ -178,11 +215,10 @@ class Merge:
     def __init__(self, members, size):
         self.members, self.size = members, size
         self.arrived = {member.index: [] for member in members}
-        self.coming = {index: [] for index in range(size)}
-        for member in members:
-            for group in member.groups:
-                for message in group.messages:
-                    self.coming[message.to].append(message)
+        self.coming = {index: {} for index in range(size)}
+        for message in (message for member in members for group in member.groups for message in group.messages):
+            for key in places_of(message):
+                self.coming[message.to].setdefault(key, []).append(message)
         self.sent = 0
         self.steps = []
         self.last = None
@@ -193,23 +229,24 @@ class Merge:
 
     def causes(self, member, group):
         """The messages that a group answers, None where it has to wait for one, and whether it may go without."""
-        rule = answered(member, group)
-        if rule is None:
+        answer = answer_of(member, group)
+        if answer is None:
             return [], True
-        test, how_many = rule
-        found = [message for message in self.coming[member.index] if test(message)]
+        how_many, coming = answer.how_many, self.coming[member.index]
+        found = [message for key in answer.keys for message in coming.get(key, ()) if answer.test(message)]
         heard = [message for message in found if message.number is not None]
         senders, all_senders = {m.sender for m in heard}, {m.sender for m in found}
         if len(senders) < min(self.wanted(how_many), len(all_senders)):
             return None, how_many == "any"
+        heard.sort(key=lambda message: message.number)
         fresh = [message for message in heard if not message.came and message.number >= member.since]
         gifts = [message for message in fresh if message.kind == "give_prepare"]
         return (gifts or fresh or heard)[:1] if how_many in ("one", "any") else self.one_each(fresh or heard)[:self.wanted(how_many)], False
 
     @staticmethod
     def one_each(messages):
-        """The first of each sender, in the order in which they were sent."""
-        first = {message.sender: message for message in sorted(messages, key=lambda message: -message.number)}
+        """Of messages in the order in which they were sent the first of each sender."""
+        first = {message.sender: message for message in reversed(messages)}
         return sorted(first.values(), key=lambda message: message.number)
 
     def choice(self):
