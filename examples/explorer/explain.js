@@ -75,14 +75,11 @@ const FITTING = {
     },
 };
 
-// The word or the line of RULES.md that an output comes of.
+// The word of RULES.md by which an output is made. Other messages are told by the rules of their step themselves.
 const OUTPUT_WORDS = {
     commit: "apply", choose: "begin a view", wait: "try", start: "the opening", halt: "a cut", done: "a fault", "kept out": "a fault",
 };
-const SEND_WORDS = {
-    prepare: "write e", prepare_ok: "accept e", commit: "advance", start_view_change: "enter v", do_view_change: "speak", start_view: "begin a view",
-    get_prepare: "ask", get_block: "ask", get_view: "take a log", get_sync: "jump", sync_view: "jump",
-};
+const SEND_WORDS = { start_view_change: "enter v", do_view_change: "speak", get_prepare: "ask", get_block: "ask" };
 
 // What happened to a replica in a step: the event by its key in EVENT_RULES, or the line itself, and the replica that it happened to.
 function eventOf(run, messages, at) {
@@ -104,6 +101,7 @@ function explainStep(run, messages, at) {
     const before = at > 0 && event.at !== null ? worldAfter(run, at - 1).replicas[event.at] : null;
     if (halted) return { fit: [], others: [], words: ["a cut"], note: "Its fuse fired in this step: of all that it would have put out, this line alone." };
     if (rules && before && !before.runs) return { fit: [], others: [], words: [], note: `Replica ${event.at} is stopped: it hears nothing.` };
+    if (event.kind === "member") return { fit: [], others: [], words: [], note: "No line tells what happened: a tick, a client's request, or a message that was told before." };
     if (!rules) return { fit: [], others: [], words: [event.kind], note: "" };
     const seen = seenIn(step);
     const fit = FITTING[event.kind](seen, before);
@@ -112,8 +110,12 @@ function explainStep(run, messages, at) {
     return { fit, others, words: [], note };
 }
 
-// The word that explains one output.
-function explainOutput(output) {
+// The word that explains one output of a step, none where the rules of the step do.
+function explainOutput(step, output, fit) {
     const words = output.split(" ");
-    return words[0] === "send" ? SEND_WORDS[words[4]] : OUTPUT_WORDS[output] || OUTPUT_WORDS[words[0]];
+    if (words[0] !== "send") return OUTPUT_WORDS[output] || OUTPUT_WORDS[words[0]] || null;
+    if (step.outputs.some((other) => other.startsWith("choose "))) return "begin a view";
+    if (step.outputs.some((other) => other.startsWith("start "))) return "the opening";
+    if (fit.includes("TickedChanging") && words[4] === "start_view_change") return null;
+    return SEND_WORDS[words[4]] || null;
 }

@@ -44,19 +44,21 @@ function wordCard(word) {
 
 function showWhy() {
     const step = run.steps[shown.at];
-    const why = byId("why");
+    const { fit, others, words, note } = explainStep(run, messages, shown.at);
+    const rules = fit.map((name) => ruleCard(name, step.outputs.length > 0));
     if (shown.output >= 0) {
-        const word = explainOutput(step.outputs[shown.output]);
-        why.replaceChildren(make("p", { class: "note" }, "Of this output, RULES.md:"), wordCard(word));
+        const word = explainOutput(step, step.outputs[shown.output], fit);
+        const cards = word ? [wordCard(word), ...rules] : [...rules, ...words.filter((name) => run.rules.words[name]).map(wordCard)];
+        byId("why").replaceChildren(make("p", { class: "note" }, "Of this output:"), ...cards);
         return;
     }
-    const { fit, others, words, note } = explainStep(run, messages, shown.at);
-    const parts = [...words.map(wordCard), ...fit.map((name) => ruleCard(name, step.outputs.length > 0))];
+    const parts = [...words.map(wordCard), ...rules];
     if (note) parts.unshift(make("p", { class: "note" }, note));
     if (others.length > 0) {
-        parts.push(make("details", {}, make("summary", {}, `the other rules of this event: ${others.map((name) => run.rules.rules[name].no).join(", ")}`), ...others.map((name) => ruleCard(name, false))));
+        const summary = make("summary", {}, `the other rules of this event: ${others.map((name) => run.rules.rules[name].no).join(", ")}`);
+        parts.push(make("details", {}, summary, ...others.map((name) => ruleCard(name, false))));
     }
-    why.replaceChildren(...parts);
+    byId("why").replaceChildren(...parts);
 }
 
 function showStep() {

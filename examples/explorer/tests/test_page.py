@@ -199,8 +199,13 @@ class Page(unittest.TestCase):
         self.assertEqual(self.browser.value(fits), ["Made"])
         self.browser.click("#words-4 [data-output='0']")
         self.assertEqual(self.browser.value("document.getElementById('line').textContent"), "deliver 2")
-        self.assertEqual(self.browser.value(fits), ["apply"])
+        self.assertEqual(self.browser.value(fits), ["apply", "Counted"])
         self.assertIn("commit line", self.browser.value("document.getElementById('why').textContent"))
+        for line, output, wanted in ((2, 0, ["Made"]), (5, 1, ["Counted"]), (12, 0, ["enter v", "TickedBackup"]), (13, 2, ["speak", "ChangeLater"]),
+                                     (14, 0, ["begin a view", "Stated"]), (14, 3, ["begin a view", "Stated"]), (20, 1, ["the opening"])):
+            self.browser.value(f"choose({line} - 1, {output})")
+            with self.subTest(line=line, output=output):
+                self.assertEqual(self.browser.value(fits), wanted)
 
     def test_by_keyboard_alone(self):
         self.open(EXAMPLES / "view-change.txt")
