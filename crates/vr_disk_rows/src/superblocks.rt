@@ -4,7 +4,7 @@ ghost use Rattle.vr_super.specs.Copies.{IsGood};
 use crate::act::Act;
 use crate::bench::Bench;
 use std::alloc::Global;
-use vr_base::{ByteList, NoMemory, Seq, Sum};
+use vr_base::{ByteList, Mode, NoMemory, Seq, Sum};
 use vr_header::{Command, Header, HeaderList, Size};
 use vr_super::{Fields, Super, SuperFault, opens, recover, write};
 
@@ -54,6 +54,7 @@ pub fn value(alloc: Global, sequence: u64, old: Option<&Super>) -> Result<Super,
         head: 1,
         replica: 1,
         n: 3,
+        mode: Mode::Strict,
     };
     made(alloc, fields, headers, old)
 }

@@ -1,68 +1,30 @@
 //! A slot after a stop in the midst of a write, and after damage.
+use HeaderReading::{Bad, Fits, Other};
+use PrepareReading::{Blank, Not, OtherEntry};
+use Verdict::{Here, Lost, Nothing, Rewrite, Unknown, Wanted};
 use std::test::Fail;
+use vr_base::Mode::{Careful, Strict};
 use vr_recover::{HeaderReading, PrepareReading, Verdict, verdict};
 
+// Whether the superblock names the op's header; what a strict file makes of the slot, and a careful one.
 #[test]
 fn slots(rt: HostRuntime) -> Result<(), Fail> {
-    for (what, header, prepare, named, expected) in [
-        (
-            "whole",
-            HeaderReading::Fits,
-            PrepareReading::Fits,
-            true,
-            Verdict::Here,
-        ),
-        (
-            "stopped before the header",
-            HeaderReading::Other,
-            PrepareReading::Fits,
-            false,
-            Verdict::Rewrite,
-        ),
-        (
-            "header damaged",
-            HeaderReading::Bad,
-            PrepareReading::Fits,
-            false,
-            Verdict::Rewrite,
-        ),
-        (
-            "prepare damaged",
-            HeaderReading::Fits,
-            PrepareReading::Not,
-            false,
-            Verdict::Lost,
-        ),
-        (
-            "both damaged",
-            HeaderReading::Bad,
-            PrepareReading::Not,
-            false,
-            Verdict::Unknown,
-        ),
-        (
-            "both damaged, named",
-            HeaderReading::Bad,
-            PrepareReading::Not,
-            true,
-            Verdict::Lost,
-        ),
-        (
-            "torn over another entry",
-            HeaderReading::Other,
-            PrepareReading::Not,
-            false,
-            Verdict::Nothing,
-        ),
-        (
-            "torn over another entry, named",
-            HeaderReading::Other,
-            PrepareReading::Not,
-            true,
-            Verdict::Wanted,
-        ),
+    let whole = PrepareReading::Fits;
+    for (what, header, prepare, named, strict, careful) in [
+        ("whole", Fits, whole, true, Here, Here),
+        ("no header yet", Other, whole, false, Rewrite, Rewrite),
+        ("header damaged", Bad, whole, false, Rewrite, Rewrite),
+        ("prepare damaged", Fits, Not, false, Lost, Lost),
+        ("both damaged", Bad, Not, false, Unknown, Unknown),
+        ("both damaged, named", Bad, Not, true, Lost, Lost),
+        ("torn over another", Other, Not, false, Nothing, Unknown),
+        ("torn over another, named", Other, Not, true, Wanted, Lost),
+        ("another", Other, OtherEntry, false, Nothing, Nothing),
+        ("another, named", Other, OtherEntry, true, Wanted, Wanted),
+        ("a new slot", Other, Blank, false, Nothing, Nothing),
     ] {
-        assert_eq!(rt; verdict(header, prepare, named), expected, "{what}");
+        assert_eq!(rt; verdict(Strict, header, prepare, named), strict, "{what}");
+        assert_eq!(rt; verdict(Careful, header, prepare, named), careful, "{what}");
     }
     Ok(())
 }
