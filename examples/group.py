@@ -1,5 +1,5 @@
 """What the Python scripts of this folder share: the built program, and a group of three members on this machine. The program is
-crates/vr_app/out/vr_app (made by `rt run` in crates/vr_app), or the one that PROGRAM names."""
+crates/vr_app/out/vr_app (made by `rt ci`), or the one that PROGRAM names."""
 import os
 import pathlib
 import shutil
@@ -17,7 +17,7 @@ def program():
     """The built program; without it the script ends."""
     path = os.path.abspath(os.environ.get("PROGRAM") or f"{TOP}/crates/vr_app/out/vr_app")
     if not (os.path.isfile(path) and os.access(path, os.X_OK)):
-        print(f"no program: (cd crates/vr_app && rt run -- replay < /dev/null) makes {path}", file=sys.stderr)
+        print(f"no program: rt ci makes {path}", file=sys.stderr)
         sys.exit(2)
     return path
 

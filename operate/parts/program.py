@@ -1,11 +1,11 @@
-"""The built program, for what plays or tries it: crates/vr_app/out/vr_app (made by `rt run` in crates/vr_app), or the one that PROGRAM names."""
+"""The built program, for what plays or tries it: crates/vr_app/out/vr_app (made by `rt ci`), or the one that PROGRAM names."""
 
 import os
 import sys
 
 TOP = os.path.dirname(os.path.dirname(os.path.dirname(os.path.realpath(__file__))))
 PATH = os.path.abspath(os.environ.get("PROGRAM") or os.path.join(TOP, "crates", "vr_app", "out", "vr_app"))
-MISSING = f"no program: (cd crates/vr_app && rt run -- replay < /dev/null) makes {PATH}"
+MISSING = f"no program: rt ci makes {PATH}"
 
 
 def is_there() -> bool:
