@@ -209,6 +209,15 @@ def answer_of(member, group):
     return None
 
 
+def rank_of(group, causes, free):
+    """How soon a group may come, by what it answers and whether it may go without."""
+    if group.words[0] == "start":
+        return STARTS
+    if causes is not None:
+        return ANSWERS if causes else SPEAKS
+    return GOES_WITHOUT if free else WAITS
+
+
 class Merge:
     """Takes the members' groups one after the other."""
 
@@ -257,8 +266,7 @@ class Merge:
             if group is None:
                 continue
             causes, free = self.causes(member, group)
-            rank = STARTS if group.words[0] == "start" else ANSWERS if causes else SPEAKS if causes is not None else GOES_WITHOUT if free else WAITS
-            ranked.append((rank, group.view, member.share(), member.index, member, causes or []))
+            ranked.append((rank_of(group, causes, free), group.view, member.share(), member.index, member, causes or []))
         return min(ranked, key=lambda entry: entry[:4])[4:] if ranked else None
 
     def emit(self, member, causes):
