@@ -92,7 +92,7 @@ for clients in 1 2 4 8; do
     group=$(run_clients node $clients $first)
     first=$((first + clients))
     echo "$clients ${floor[$clients]} $group" | awk '{ printf "%8s | %8s %8s %8s %8s | %8s %8s %8s %8s | %.2f, %.2f\n", $1, $2, $3, $4, $5, $6, $7, $8, $9, $9 / $5, $6 / $2 }'
-    [ $clients != 1 ] || echo "${floor[1]} $group" | awk '{ exit !($8 > 2 * $4) }' && worst=1
+    [ $clients = 1 ] && echo "${floor[1]} $group" | awk '{ exit !($8 > 2 * $4) }' && worst=1
 done
 cat "$folder"/[012].err
 
