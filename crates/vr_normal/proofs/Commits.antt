@@ -40,7 +40,7 @@ module _ (c : Commit) (r r' : Replica) (d d' : Option Disk) (o o' : List Output)
   unfolding on_commit
   obeyed x result e h = does_by _ r r' d d' o o' result (subst (λ y. Does (obey_commit c y) r r' d d' o o' result) (sym e) h)
 
-  pub commit_heard : (x : CommitRule) (result : Result (Unit {0}) Halt) → first_of (commit_table c r) ≡ commit_rule x → x ≡ rule.Heard
+  pub commit_heard : (x : CommitRule) (result : Result (Unit {0}) Halt) → first_of (commit_table c r) ≡ commit_rule x → x ≡ rule.CommitHeard
       → Does (change rested ⨾ asks_behind c ⨾ learn c.commit) r r' d d' o o' result → Does (on_commit c) r r' d d' o o' result
   unfolding asks_behind
   commit_heard x result e k h = obeyed CommitHeard result (e ∙ ap commit_rule k) h
@@ -49,10 +49,10 @@ module _ (c : Commit) (r : Replica) (d : Option Disk) (o : List Output) (x : Com
   pub commit_ignored : first_of (commit_table c r) ≡ commit_rule x → x ≡ rule.Ignored → Does (on_commit c) r r d d o o (Ok tt)
   commit_ignored e k = obeyed c r r d d o o Ignored (Ok tt) (e ∙ ap commit_rule k) (does_quiet r d o)
 
-  pub commit_before : first_of (commit_table c r) ≡ commit_rule x → x ≡ rule.Before → Does (on_commit c) r r d d o o (Ok tt)
+  pub commit_before : first_of (commit_table c r) ≡ commit_rule x → x ≡ rule.CommitBefore → Does (on_commit c) r r d d o o (Ok tt)
   commit_before e k = obeyed c r r d d o o CommitBefore (Ok tt) (e ∙ ap commit_rule k) (does_quiet r d o)
 
-  pub commit_later : (o' : List Output) → first_of (commit_table c r) ≡ commit_rule x → x ≡ rule.Later → o' ≡ o ++ send_to c.replica (get_view c.view r) r → Does (on_commit c) r r d d o o' (Ok tt)
+  pub commit_later : (o' : List Output) → first_of (commit_table c r) ≡ commit_rule x → x ≡ rule.CommitLater → o' ≡ o ++ send_to c.replica (get_view c.view r) r → Does (on_commit c) r r d d o o' (Ok tt)
   commit_later o' e k i = obeyed c r r d d o o' CommitLater (Ok tt) (e ∙ ap commit_rule k) (says_by _ r d o o' i)
 
 pub ruleset rules = (commit_heard, commit_ignored, commit_before, commit_later)

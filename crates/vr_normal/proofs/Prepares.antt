@@ -123,10 +123,10 @@ module _ (p : Prepare) (r : Replica) (d : Option Disk) (o : List Output) (x : Pr
   pub prepare_ignored : x ≡ rule.Ignored → Does (on_prepare p) r r d d o o (Ok tt)
   prepare_ignored k = obeyed p r r d d o o Ignored (Ok tt) (e ∙ ap prepare_rule k) (does_quiet r d o)
 
-  pub prepare_before : x ≡ rule.Before → Does (on_prepare p) r r d d o o (Ok tt)
+  pub prepare_before : x ≡ rule.PreparedBefore → Does (on_prepare p) r r d d o o (Ok tt)
   prepare_before k = obeyed p r r d d o o PreparedBefore (Ok tt) (e ∙ ap prepare_rule k) (does_quiet r d o)
 
-  pub prepare_later : (o' : List Output) → x ≡ rule.Later → o' ≡ o ++ send_to p.replica (get_view p.view r) r → Does (on_prepare p) r r d d o o' (Ok tt)
+  pub prepare_later : (o' : List Output) → x ≡ rule.PreparedLater → o' ≡ o ++ send_to p.replica (get_view p.view r) r → Does (on_prepare p) r r d d o o' (Ok tt)
   prepare_later o' k i = obeyed p r r d d o o' PreparedLater (Ok tt) (e ∙ ap prepare_rule k) (says_by _ r d o o' i)
 
   pub prepare_beyond : (q : Replica) → x ≡ rule.Beyond → q ≡ rested r → Does (on_prepare p) r q d d o o (Ok tt)

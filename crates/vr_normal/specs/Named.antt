@@ -1,4 +1,4 @@
--- The rules by their names in the program.
+-- What an event leads to is the rule of that name.
 use Rattle.vr_rules.specs.declared.rule.Rule.TheVariants as rules
 use Rattle.vr_rules.specs.declared.rule.Rule.{Rule}
 use Rattle.vr_normal.specs.declared.counting.CountRule.{CountRule}
@@ -16,9 +16,9 @@ count_rule count.Counted = rules.Counted
 
 abbrev pub commit_rule : CommitRule → Rule
 commit_rule commit.Ignored = rules.Ignored
-commit_rule commit.Before = rules.CommitBefore
-commit_rule commit.Later = rules.CommitLater
-commit_rule commit.Heard = rules.CommitHeard
+commit_rule commit.CommitBefore = rules.CommitBefore
+commit_rule commit.CommitLater = rules.CommitLater
+commit_rule commit.CommitHeard = rules.CommitHeard
 
 abbrev pub request_rule : RequestRule → Rule
 request_rule request.Ignored = rules.Ignored
@@ -31,8 +31,8 @@ request_rule request.Made = rules.Made
 
 abbrev pub prepare_rule : PrepareRule → Rule
 prepare_rule prepare.Ignored = rules.Ignored
-prepare_rule prepare.Before = rules.PreparedBefore
-prepare_rule prepare.Later = rules.PreparedLater
+prepare_rule prepare.PreparedBefore = rules.PreparedBefore
+prepare_rule prepare.PreparedLater = rules.PreparedLater
 prepare_rule prepare.Past = rules.Past
 prepare_rule prepare.Beyond = rules.Beyond
 prepare_rule prepare.Known = rules.Known

@@ -24,11 +24,11 @@ pub enum CommitRule {
     /// It isn't from the primary of its view, another replica of the group.
     Ignored,
     /// It is of a view before the replica's.
-    Before,
+    CommitBefore,
     /// It is of a view whose log the replica doesn't have, and asks for.
-    Later,
+    CommitLater,
     /// The commit number is learned.
-    Heard,
+    CommitHeard,
 }
 
 /// Asks a replica for the log of a view.
@@ -53,11 +53,11 @@ pub fn decide_commit(replica: &Replica, commit: &Commit) -> CommitRule
     if !replica.is_from_primary(commit.cluster, commit.replica, commit.view) {
         CommitRule::Ignored
     } else if commit.view < replica.view() {
-        CommitRule::Before
+        CommitRule::CommitBefore
     } else if replica.log_view() < commit.view {
-        CommitRule::Later
+        CommitRule::CommitLater
     } else {
-        CommitRule::Heard
+        CommitRule::CommitHeard
     }
 }
 
@@ -129,11 +129,11 @@ pub fn handle_commit<D: SectorDisk>(
 {
     match decide_commit(replica, commit) {
         CommitRule::Ignored => Ok(()),
-        CommitRule::Before => Ok(()),
-        CommitRule::Later => {
+        CommitRule::CommitBefore => Ok(()),
+        CommitRule::CommitLater => {
             ask_view(replica, commit.view, commit.replica, out)?;
             Ok(())
         }
-        CommitRule::Heard => hear(replica, alloc, disk, commit, out),
+        CommitRule::CommitHeard => hear(replica, alloc, disk, commit, out),
     }
 }

@@ -30,9 +30,9 @@ pub enum PrepareRule {
     /// It isn't from the primary of its view, another replica of the group.
     Ignored,
     /// It is of a view before the replica's.
-    Before,
+    PreparedBefore,
     /// It is of a view whose log the replica doesn't have, and asks for.
-    Later,
+    PreparedLater,
     /// Its op is one of the checkpoint.
     Past,
     /// Its op is past the window.
@@ -86,9 +86,9 @@ pub fn decide_prepare(replica: &Replica, prepare: &Prepare) -> PrepareRule
     if !replica.is_from_primary(header.cluster, prepare.replica, prepare.view) {
         PrepareRule::Ignored
     } else if prepare.view < replica.view() {
-        PrepareRule::Before
+        PrepareRule::PreparedBefore
     } else if replica.log_view() < prepare.view {
-        PrepareRule::Later
+        PrepareRule::PreparedLater
     } else if header.op <= replica.checkpoint() {
         PrepareRule::Past
     } else if is_beyond(replica, header.op) {
@@ -212,8 +212,8 @@ pub fn handle_prepare<D: SectorDisk>(
     let _header = header_of(&prepare.entry);
     match decide_prepare(replica, prepare) {
         PrepareRule::Ignored => Ok(()),
-        PrepareRule::Before => Ok(()),
-        PrepareRule::Later => {
+        PrepareRule::PreparedBefore => Ok(()),
+        PrepareRule::PreparedLater => {
             ask_view(replica, prepare.view, prepare.replica, out)?;
             Ok(())
         }

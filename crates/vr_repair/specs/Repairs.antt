@@ -1,4 +1,4 @@
--- Which rule a decision is, and the words of repair with names.
+-- The rule that a message of repair leads to is the one of that name; and the words of repair with names.
 use Rattle.std.specs.Prelude.{ℕ, Bool, List, Option, None, Some, is_some, slice_get, if◌then◌else◌}
 use Rattle.std.specs.Option.{option_and_then}
 use Rattle.vr_grid.specs.Blocks.{named}

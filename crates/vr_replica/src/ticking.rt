@@ -7,8 +7,8 @@ ghost use Rattle.vr_rules.specs.Rules.{backup_ticks, changing_ticks, on_tick, pr
 ghost use Rattle.vr_rules.specs.Steps.{◌⨾◌};
 ghost use Rattle.vr_rules.specs.Words.{ask, enter, visit};
 ghost use Rattle.vr_step.specs.Does.{Caused, Does};
-ghost use Rattle.vr_replica.specs.Ticks.{tells_all, tells_first, rule_of};
-ghost use Rattle.vr_replica.specs.declared.ticking.Tick.TheVariants as Tick;
+ghost use Rattle.vr_replica.specs.Ticks.{tells_all, tells_first, tick_rule};
+ghost use Rattle.vr_replica.specs.declared.ticking.TickRule.TheVariants as TickRule;
 
 use std::alloc::Global;
 use vr_disk::SectorDisk;
@@ -20,28 +20,28 @@ use vr_view::speak;
 
 /// What a tick finds the replica to be.
 #[derive(Clone, Copy, Debug, PartialEq, Eq)]
-pub enum Tick {
+pub enum TickRule {
     /// The primary of a view that is started.
-    Primary,
+    TickedPrimary,
     /// A backup of a view that is started.
-    Backup,
+    TickedBackup,
     /// Its view isn't started.
-    Changing,
+    TickedChanging,
 }
 
 /// Which rule applies to a tick.
 #[tactic(auto, using(vr_journal::proofs::Memory::some_member, crate::proofs::Ticks::unstarted), unfolding(vr_rules::specs::Deciding::first_of))]
-pub fn decide_tick(replica: &Replica) -> Tick
+pub fn decide_tick(replica: &Replica) -> TickRule
     requires { IsReady replica.now }
-    ensures rule { first_of (tick_table replica.now) ≡ rule_of result }
-    ensures changing { result ≡ Tick.Changing → replica.now.log_view < replica.now.view }
+    ensures rule { first_of (tick_table replica.now) ≡ tick_rule result }
+    ensures changing { result ≡ TickRule.TickedChanging → replica.now.log_view < replica.now.view }
 {
     if replica.leads() {
-        Tick::Primary
+        TickRule::TickedPrimary
     } else if replica.is_started() {
-        Tick::Backup
+        TickRule::TickedBackup
     } else {
-        Tick::Changing
+        TickRule::TickedChanging
     }
 }
 
@@ -226,8 +226,8 @@ pub fn handle_tick<D: SectorDisk>(
     ensures step { Does on_tick replica.old replica.new (D.told disk.old) (D.told disk.new) out.old out.new result }
 {
     match decide_tick(replica) {
-        Tick::Primary => tick_primary(replica, alloc, disk, out),
-        Tick::Backup => tick_backup(replica, alloc, disk, out),
-        Tick::Changing => tick_changing(replica, alloc, disk, out),
+        TickRule::TickedPrimary => tick_primary(replica, alloc, disk, out),
+        TickRule::TickedBackup => tick_backup(replica, alloc, disk, out),
+        TickRule::TickedChanging => tick_changing(replica, alloc, disk, out),
     }
 }

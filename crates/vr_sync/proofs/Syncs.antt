@@ -23,7 +23,7 @@ module _ (g : GetSync) (r : Replica) (d : Option Disk) (o : List Output) (x : Sy
   pub sync_ignored : first_of (get_sync_table g r) ≡ sync_rule x → x ≡ asked.Ignored → Does (on_get_sync g) r r d d o o (Ok tt)
   sync_ignored e k = asked_by g r d o o Ignored (e ∙ ap sync_rule k) (does_quiet r d o)
 
-  pub sync_given : (o' : List Output) → first_of (get_sync_table g r) ≡ sync_rule x → x ≡ asked.Given → o' ≡ o ++ send_to g.replica (sync_view r) r → Does (on_get_sync g) r r d d o o' (Ok tt)
+  pub sync_given : (o' : List Output) → first_of (get_sync_table g r) ≡ sync_rule x → x ≡ asked.SyncGiven → o' ≡ o ++ send_to g.replica (sync_view r) r → Does (on_get_sync g) r r d d o o' (Ok tt)
   sync_given o' e k i = asked_by g r d o o' SyncGiven (e ∙ ap sync_rule k) (says_by (λ q. send_to g.replica (sync_view q) q) r d o o' i)
 
 pub ruleset gives = (sync_ignored, sync_given)

@@ -1,4 +1,4 @@
--- The rules by their names in the program.
+-- What an event leads to is the rule of that name.
 use Rattle.vr_rules.specs.declared.rule.Rule.TheVariants as rules
 use Rattle.vr_rules.specs.declared.rule.Rule.{Rule}
 use Rattle.vr_sync.specs.declared.giving.SyncRule.{SyncRule}
@@ -8,7 +8,7 @@ use Rattle.vr_sync.specs.declared.jumping.JumpRule.TheVariants as jump
 
 abbrev pub sync_rule : SyncRule → Rule
 sync_rule sync.Ignored = rules.Ignored
-sync_rule sync.Given = rules.SyncGiven
+sync_rule sync.SyncGiven = rules.SyncGiven
 
 abbrev pub jump_rule : JumpRule → Rule
 jump_rule jump.Ignored = rules.Ignored

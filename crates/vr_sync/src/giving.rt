@@ -21,7 +21,7 @@ pub enum SyncRule {
     /// reaches down to.
     Ignored,
     /// The sender is given the checkpoint and the log.
-    Given,
+    SyncGiven,
 }
 
 /// Which rule applies to a get_sync.
@@ -29,12 +29,12 @@ pub enum SyncRule {
 pub fn decide_get_sync(replica: &Replica, get: &GetSync) -> SyncRule
     requires { IsReady replica.now }
     ensures rule { first_of (get_sync_table get.now replica.now) ≡ sync_rule result }
-    ensures down { result ≡ SyncRule.Given → reaches_down replica.now ≡ true }
+    ensures down { result ≡ SyncRule.SyncGiven → reaches_down replica.now ≡ true }
 {
     if !replica.is_from(get.cluster, get.replica) {
         SyncRule::Ignored
     } else if replica.leads() && get.view <= replica.view() && replica.reaches_down() {
-        SyncRule::Given
+        SyncRule::SyncGiven
     } else {
         SyncRule::Ignored
     }
@@ -57,7 +57,7 @@ pub fn handle_get_sync<D: SectorDisk>(
 {
     match decide_get_sync(replica, get) {
         SyncRule::Ignored => {}
-        SyncRule::Given => replica.tell_sync(alloc, get.replica, out)?,
+        SyncRule::SyncGiven => replica.tell_sync(alloc, get.replica, out)?,
     }
     Ok(())
 }

@@ -44,10 +44,10 @@ pub unstarted : (r : Replica) → is_started r ≡ false → IsReady r → r.log
 unfolding IsReady
 unstarted r e h = let views = h.sound.order.views in let other = eqb-false r.view r.log_view e in omega (arith, views, other)
 
-pub later_means : (c : StartViewChange) (r : Replica) (x : ChangeRule) → first_of (start_view_change_table c r) ≡ change_rule x → x ≡ rule.Later → r.view < c.view
+pub later_means : (c : StartViewChange) (r : Replica) (x : ChangeRule) → first_of (start_view_change_table c r) ≡ change_rule x → x ≡ rule.ChangeLater → r.view < c.view
 later_means c r x e k = later_by c r (e ∙ ap change_rule k)
 
-pub heard_means : (c : StartViewChange) (r : Replica) (x : ChangeRule) → first_of (start_view_change_table c r) ≡ change_rule x → x ≡ rule.Heard → IsReady r → r.log_view < r.view
+pub heard_means : (c : StartViewChange) (r : Replica) (x : ChangeRule) → first_of (start_view_change_table c r) ≡ change_rule x → x ≡ rule.ChangeHeard → IsReady r → r.log_view < r.view
 heard_means c r x e k h = unstarted r (heard_by c r (e ∙ ap change_rule k)) h
 
 pub ruleset means = (later_means, heard_means)
@@ -86,11 +86,11 @@ module _ (c : StartViewChange) (r r' : Replica) (d d' : Option Disk) (o o' : Lis
   unfolding on_start_view_change
   obeyed x result e h = does_by _ r r' d d' o o' result (subst (λ y. Does (obey_start_view_change c y) r r' d d' o o' result) (sym e) h)
 
-  pub change_later : (x : ChangeRule) (result : Result (Unit {0}) Halt) → first_of (start_view_change_table c r) ≡ change_rule x → x ≡ rule.Later
+  pub change_later : (x : ChangeRule) (result : Result (Unit {0}) Halt) → first_of (start_view_change_table c r) ≡ change_rule x → x ≡ rule.ChangeLater
       → Does (enter c.view ⨾ change (heard_of c.replica) ⨾ speak) r r' d d' o o' result → Does (on_start_view_change c) r r' d d' o o' result
   change_later x result e k h = obeyed ChangeLater result (e ∙ ap change_rule k) h
 
-  pub change_heard : (x : ChangeRule) (result : Result (Unit {0}) Halt) → first_of (start_view_change_table c r) ≡ change_rule x → x ≡ rule.Heard
+  pub change_heard : (x : ChangeRule) (result : Result (Unit {0}) Halt) → first_of (start_view_change_table c r) ≡ change_rule x → x ≡ rule.ChangeHeard
       → Does (change (heard_of c.replica) ⨾ speak) r r' d d' o o' result → Does (on_start_view_change c) r r' d d' o o' result
   change_heard x result e k h = obeyed ChangeHeard result (e ∙ ap change_rule k) h
 
@@ -98,10 +98,10 @@ module _ (c : StartViewChange) (r : Replica) (d : Option Disk) (o : List Output)
   pub change_ignored : first_of (start_view_change_table c r) ≡ change_rule x → x ≡ rule.Ignored → Does (on_start_view_change c) r r d d o o (Ok tt)
   change_ignored e k = obeyed c r r d d o o Ignored (Ok tt) (e ∙ ap change_rule k) (does_quiet r d o)
 
-  pub change_before : first_of (start_view_change_table c r) ≡ change_rule x → x ≡ rule.Before → Does (on_start_view_change c) r r d d o o (Ok tt)
+  pub change_before : first_of (start_view_change_table c r) ≡ change_rule x → x ≡ rule.ChangeBefore → Does (on_start_view_change c) r r d d o o (Ok tt)
   change_before e k = obeyed c r r d d o o ChangeBefore (Ok tt) (e ∙ ap change_rule k) (does_quiet r d o)
 
-  pub change_done : (o' : List Output) → first_of (start_view_change_table c r) ≡ change_rule x → x ≡ rule.Done → o' ≡ o ++ send_to c.replica (start_view r) r
+  pub change_done : (o' : List Output) → first_of (start_view_change_table c r) ≡ change_rule x → x ≡ rule.ChangeDone → o' ≡ o ++ send_to c.replica (start_view r) r
       → Does (on_start_view_change c) r r d d o o' (Ok tt)
   change_done o' e k i = obeyed c r r d d o o' ChangeDone (Ok tt) (e ∙ ap change_rule k) (says_by _ r d o o' i)
 

@@ -144,7 +144,7 @@ module _ (g : GetView) (r : Replica) (d : Option Disk) (o : List Output) (x : Vi
   pub view_ignored : first_of (get_view_table g r) ≡ view_rule x → x ≡ asked.Ignored → Does (on_get_view g) r r d d o o (Ok tt)
   view_ignored e k = asked_by g r d o o Ignored (e ∙ ap view_rule k) (does_quiet r d o)
 
-  pub view_given : (o' : List Output) → first_of (get_view_table g r) ≡ view_rule x → x ≡ asked.Given → o' ≡ o ++ send_to g.replica (start_view r) r → Does (on_get_view g) r r d d o o' (Ok tt)
+  pub view_given : (o' : List Output) → first_of (get_view_table g r) ≡ view_rule x → x ≡ asked.ViewGiven → o' ≡ o ++ send_to g.replica (start_view r) r → Does (on_get_view g) r r d d o o' (Ok tt)
   view_given o' e k i = asked_by g r d o o' ViewGiven (e ∙ ap view_rule k) (says_by _ r d o o' i)
 
 pub ruleset gives = (view_ignored, view_given)

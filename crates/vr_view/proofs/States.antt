@@ -132,10 +132,10 @@ module _ (c : DoViewChange) (r : Replica) (d : Option Disk) (o : List Output) (x
   pub state_ignored : first_of (do_view_change_table c r) ≡ state_rule x → x ≡ rule.Ignored → Does (on_do_view_change c) r r d d o o (Ok tt)
   state_ignored e k = obeyed c r r d d o o Ignored (Ok tt) (e ∙ ap state_rule k) (does_quiet r d o)
 
-  pub state_before : first_of (do_view_change_table c r) ≡ state_rule x → x ≡ rule.Before → Does (on_do_view_change c) r r d d o o (Ok tt)
+  pub state_before : first_of (do_view_change_table c r) ≡ state_rule x → x ≡ rule.StatedBefore → Does (on_do_view_change c) r r d d o o (Ok tt)
   state_before e k = obeyed c r r d d o o StatedBefore (Ok tt) (e ∙ ap state_rule k) (does_quiet r d o)
 
-  pub state_late : (o' : List Output) → first_of (do_view_change_table c r) ≡ state_rule x → x ≡ rule.Late → o' ≡ o ++ send_to c.replica (start_view r) r → Does (on_do_view_change c) r r d d o o' (Ok tt)
+  pub state_late : (o' : List Output) → first_of (do_view_change_table c r) ≡ state_rule x → x ≡ rule.StatedLate → o' ≡ o ++ send_to c.replica (start_view r) r → Does (on_do_view_change c) r r d d o o' (Ok tt)
   state_late o' e k i = obeyed c r r d d o o' StatedLate (Ok tt) (e ∙ ap state_rule k) (says_by _ r d o o' i)
 
 pub ruleset rules = (state_stated, state_is, state_ignored, state_before, state_late)

@@ -1,4 +1,4 @@
--- The rules by their names in the program.
+-- What an event leads to is the rule of that name.
 use Rattle.vr_rules.specs.declared.rule.Rule.TheVariants as rules
 use Rattle.vr_rules.specs.declared.rule.Rule.{Rule}
 use Rattle.vr_view.specs.declared.changing.ChangeRule.{ChangeRule}
@@ -12,15 +12,15 @@ use Rattle.vr_view.specs.declared.starting.ViewRule.TheVariants as view
 
 abbrev pub change_rule : ChangeRule → Rule
 change_rule change.Ignored = rules.Ignored
-change_rule change.Before = rules.ChangeBefore
-change_rule change.Later = rules.ChangeLater
-change_rule change.Heard = rules.ChangeHeard
-change_rule change.Done = rules.ChangeDone
+change_rule change.ChangeBefore = rules.ChangeBefore
+change_rule change.ChangeLater = rules.ChangeLater
+change_rule change.ChangeHeard = rules.ChangeHeard
+change_rule change.ChangeDone = rules.ChangeDone
 
 abbrev pub state_rule : StateRule → Rule
 state_rule state.Ignored = rules.Ignored
-state_rule state.Before = rules.StatedBefore
-state_rule state.Late = rules.StatedLate
+state_rule state.StatedBefore = rules.StatedBefore
+state_rule state.StatedLate = rules.StatedLate
 state_rule state.Stated = rules.Stated
 
 abbrev pub start_rule : StartRule → Rule
@@ -30,4 +30,4 @@ start_rule start.SyncAsked = rules.SyncAsked
 
 abbrev pub view_rule : ViewRule → Rule
 view_rule view.Ignored = rules.Ignored
-view_rule view.Given = rules.ViewGiven
+view_rule view.ViewGiven = rules.ViewGiven

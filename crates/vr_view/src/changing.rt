@@ -23,13 +23,13 @@ pub enum ChangeRule {
     /// It isn't from another replica of the group, or tells nothing new.
     Ignored,
     /// It is of a view before the replica's.
-    Before,
+    ChangeBefore,
     /// It is of a later view, which is entered.
-    Later,
+    ChangeLater,
     /// The replica's own view, which isn't started, was entered by one more.
-    Heard,
+    ChangeHeard,
     /// The replica leads its view: the sender is told of the log.
-    Done,
+    ChangeDone,
 }
 
 /// Which rule applies to a start_view_change.
@@ -41,13 +41,13 @@ pub fn decide_start_view_change(replica: &Replica, message: &StartViewChange) ->
     if !replica.is_from(message.cluster, message.replica) {
         ChangeRule::Ignored
     } else if message.view < replica.view() {
-        ChangeRule::Before
+        ChangeRule::ChangeBefore
     } else if replica.view() < message.view {
-        ChangeRule::Later
+        ChangeRule::ChangeLater
     } else if !replica.is_started() && !replica.heard().has(message.replica) {
-        ChangeRule::Heard
+        ChangeRule::ChangeHeard
     } else if replica.leads() {
-        ChangeRule::Done
+        ChangeRule::ChangeDone
     } else {
         ChangeRule::Ignored
     }
@@ -118,10 +118,10 @@ pub fn handle_start_view_change<D: SectorDisk>(
 {
     match decide_start_view_change(replica, message) {
         ChangeRule::Ignored => Ok(()),
-        ChangeRule::Before => Ok(()),
-        ChangeRule::Later => enter_later(replica, alloc, disk, message, out),
-        ChangeRule::Heard => hear_one(replica, alloc, disk, message.replica, out),
-        ChangeRule::Done => {
+        ChangeRule::ChangeBefore => Ok(()),
+        ChangeRule::ChangeLater => enter_later(replica, alloc, disk, message, out),
+        ChangeRule::ChangeHeard => hear_one(replica, alloc, disk, message.replica, out),
+        ChangeRule::ChangeDone => {
             replica.tell_view(alloc, message.replica, out)?;
             Ok(())
         }

@@ -41,7 +41,7 @@ pub enum ViewRule {
     /// It isn't from another replica of the group, or the replica doesn't lead a view that is late enough.
     Ignored,
     /// The sender is told of the log.
-    Given,
+    ViewGiven,
 }
 
 /// The log that a start_view tells of.
@@ -96,7 +96,7 @@ pub fn decide_get_view(replica: &Replica, get: &GetView) -> ViewRule
     if !replica.is_from(get.cluster, get.replica) {
         ViewRule::Ignored
     } else if replica.leads() && get.view <= replica.view() {
-        ViewRule::Given
+        ViewRule::ViewGiven
     } else {
         ViewRule::Ignored
     }
@@ -196,7 +196,7 @@ pub fn handle_get_view<D: SectorDisk>(
 {
     match decide_get_view(replica, get) {
         ViewRule::Ignored => {}
-        ViewRule::Given => replica.tell_view(alloc, get.replica, out)?,
+        ViewRule::ViewGiven => replica.tell_view(alloc, get.replica, out)?,
     }
     Ok(())
 }

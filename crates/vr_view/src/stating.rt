@@ -29,9 +29,9 @@ pub enum StateRule {
     /// It isn't from another replica of the group.
     Ignored,
     /// It is of a view before the replica's, or of one whose primary the replica isn't.
-    Before,
+    StatedBefore,
     /// The view is started already: the sender is told of the log.
-    Late,
+    StatedLate,
     /// The statement is kept.
     Stated,
 }
@@ -47,9 +47,9 @@ pub fn decide_do_view_change(replica: &Replica, message: &DoViewChange) -> State
     } else if message.view < replica.view()
         || replica.index() != primary(replica.n(), message.view)
     {
-        StateRule::Before
+        StateRule::StatedBefore
     } else if message.view == replica.view() && replica.is_started() {
-        StateRule::Late
+        StateRule::StatedLate
     } else {
         StateRule::Stated
     }
@@ -206,8 +206,8 @@ pub fn handle_do_view_change<D: SectorDisk>(
 {
     match decide_do_view_change(replica, message) {
         StateRule::Ignored => Ok(()),
-        StateRule::Before => Ok(()),
-        StateRule::Late => {
+        StateRule::StatedBefore => Ok(()),
+        StateRule::StatedLate => {
             replica.tell_view(alloc, message.replica, out)?;
             Ok(())
         }
