@@ -4,3 +4,6 @@ pub mod Clouds
 pub mod Begins
 pub mod Recovers
 pub mod Makes
+pub mod First
+pub mod Calls
+pub mod Formats

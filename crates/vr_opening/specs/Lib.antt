@@ -1,3 +1,4 @@
 pub mod Finding
 pub mod Recovering
 pub mod Making
+pub mod Calls

@@ -3,8 +3,10 @@
 
 mod begin;
 mod finding;
+mod formatting;
 mod looking;
 mod new_member;
+mod new_value;
 mod opening;
 mod reopen;
 

@@ -12,10 +12,11 @@ ghost use Rattle.vr_super.specs.Opens.{file_kind, good_copies, opened};
 ghost use Rattle.vr_opening.specs.Making.{Made};
 ghost use Rattle.vr_opening.specs.declared.new_member.FreshFault.TheVariants as FreshFault;
 
+use crate::formatting::format;
+use crate::new_value::first_value;
 use std::alloc::Global;
 use vr_base::{Config, Kind, Mode, NoMemory};
 use vr_disk::{DiskFault, SectorDisk};
-use vr_format::{first_value, format};
 use vr_journal::Replica;
 use vr_super::opens;
 

@@ -1,7 +1,7 @@
 use Rattle.std.proofs.Common.{◌≡◌}
 use Rattle.vr_rules.specs.Lying.{reserved_headers}
-use Rattle.vr_format.specs.Calls.{reserved_call, calls_from, Making}
-use Rattle.vr_format.proofs.writing.reserve_all.Given as goal
+use Rattle.vr_opening.specs.Calls.{reserved_call, calls_from, Making}
+use Rattle.vr_opening.proofs.formatting.reserve_all.Given as goal
 
 abbrev pub invariant-loop-slot : goal.invariant-loop-slot
 invariant-loop-slot g l = record {

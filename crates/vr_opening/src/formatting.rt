@@ -7,7 +7,7 @@ ghost use Rattle.vr_rings.specs.Slots.{sector_of};
 ghost use Rattle.vr_rules.specs.Lying.{format_calls, reserved_header, reserved_headers, zero_prepares};
 ghost use Rattle.vr_rules.specs.Opening.{first_value};
 ghost use Rattle.vr_super.specs.Opens.{file_kind};
-ghost use Rattle.vr_format.specs.Calls.{reserved_call};
+ghost use Rattle.vr_opening.specs.Calls.{reserved_call};
 
 use vr_base::{Config, Sum, checksum};
 use vr_disk::{DiskFailed, DiskFault, Sector, SectorDisk, header_place};

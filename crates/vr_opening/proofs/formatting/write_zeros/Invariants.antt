@@ -1,7 +1,7 @@
 use Rattle.std.proofs.Common.{◌≡◌}
 use Rattle.vr_rules.specs.Lying.{zero_prepares}
-use Rattle.vr_format.specs.Calls.{zero_call, calls_from, Making}
-use Rattle.vr_format.proofs.writing.write_zeros.Given as goal
+use Rattle.vr_opening.specs.Calls.{zero_call, calls_from, Making}
+use Rattle.vr_opening.proofs.formatting.write_zeros.Given as goal
 
 abbrev pub invariant-loop-i : goal.invariant-loop-i
 invariant-loop-i g l = record {

@@ -1,7 +1,7 @@
 use Rattle.std.proofs.Common.{◌∙◌, arith, refl}
 use Rattle.std.proofs.lemmas.Result.{err_from_is_err_and}
-use Rattle.vr_format.proofs.Calls.{headers_begin, headers_go, headers_stop}
-use Rattle.vr_format.proofs.writing.reserve_all.Goals as goal
+use Rattle.vr_opening.proofs.Calls.{headers_begin, headers_go, headers_stop}
+use Rattle.vr_opening.proofs.formatting.reserve_all.Goals as goal
 
 pub loop-slot-init : goal.loop-slot-init
 loop-slot-init g c = record { making = headers_begin c.args.cluster _; faults = refl }
