@@ -44,7 +44,7 @@ fn next_op(replica: &Replica) -> u64
     replica.head() + 1
 }
 
-/// The next entry, of this request.
+// The next entry, of this request.
 #[tactic(auto, unfolding(vr_rules::specs::Rules::next_entry))]
 fn next_entry(
     replica: &Replica,
@@ -72,7 +72,7 @@ fn next_entry(
     ))
 }
 
-/// An entry is stored, prepared to the others, and counted.
+// An entry is stored, prepared to the others, and counted.
 #[tactic(auto, using(vr_step::proofs::Stepping::steps, vr_journal::proofs::Memory::readies), unfolding(vr_rules::specs::Rules::make))]
 fn make<D: SectorDisk>(
     replica: &mut Replica,

@@ -27,6 +27,12 @@ use vr_msg::{Answered, Outbox, ReplyKind, Request, RequestFields};
 use vr_sess::SessionAnswer;
 use vr_step::Halt;
 
+// The most entries that stand above the commit number.
+const PIPELINE: u64 = 8;
+
+// The last op of a log.
+const LAST_OP: u64 = 1 << 62;
+
 /// What a request leads to.
 #[derive(Debug, Drop, PartialEq, Eq)]
 pub enum RequestRule {
@@ -101,9 +107,10 @@ fn is_full(replica: &Replica) -> bool
     ensures { result ≡ (nat_le pipeline (head replica.now - replica.now.commit) || nat_le last_op (head replica.now)) }
 {
     let head = replica.head();
-    8 <= head.saturating_sub(replica.commit()) || 1 << 62 <= head
+    PIPELINE <= head.saturating_sub(replica.commit()) || LAST_OP <= head
 }
 
+// Whether the sessions have no answer yet.
 fn is_fresh(answer: &SessionAnswer) -> bool
     ensures { result ≡ is_fresh answer.now }
 {

@@ -36,7 +36,7 @@ fn save_opened<D: SectorDisk>(
     }
 }
 
-/// A primary that comes back doesn't lead its old view again.
+// A primary that comes back doesn't lead its old view again.
 #[tactic(auto, using(crate::proofs::Begins::leave_then, crate::proofs::Begins::leave_none, crate::proofs::Begins::next_fits, crate::proofs::Begins::opened_next, crate::proofs::Begins::opened_member))]
 fn leave_view<D: SectorDisk>(
     replica: &mut Replica,
@@ -71,7 +71,7 @@ fn tell_view(replica: &Replica, out: &mut Outbox) -> Result<(), AllocError>
     }
 }
 
-/// The others hear of a view that isn't started.
+// The others hear of a view that isn't started.
 #[tactic(auto, using(crate::proofs::Begins::announce_then, crate::proofs::Begins::announce_none, crate::proofs::Begins::ready_heard, vr_step::proofs::Stepping::does_no_memory))]
 fn announce<D: SectorDisk>(
     replica: &mut Replica,

@@ -15,7 +15,7 @@ use vr_header::{Command, Header, Size};
 use vr_rings::sector_of;
 use vr_super::Super;
 
-/// Writes zeros to all prepares.
+// Writes zeros to all prepares.
 #[tactic(auto, using(crate::proofs::Calls::zeros_begin, crate::proofs::Calls::zeros_go, crate::proofs::Calls::zeros_stop, crate::proofs::Calls::zeros_end))]
 fn write_zeros<D: SectorDisk>(disk: &mut D) -> Result<(), DiskFailed>
     ensures runs { Runs zero_prepares (D.told disk.old) (D.told disk.new) (is_ok result) }
@@ -61,7 +61,7 @@ fn reserve<D: SectorDisk>(disk: &mut D, cluster: u64, slot: u32) -> Result<(), D
     disk.write(header_place(slot), &sector)
 }
 
-/// Writes the headers of all slots.
+// Writes the headers of all slots.
 #[tactic(auto, using(crate::proofs::Calls::headers_begin, crate::proofs::Calls::headers_go, crate::proofs::Calls::headers_stop, crate::proofs::Calls::headers_end))]
 fn reserve_all<D: SectorDisk>(disk: &mut D, cluster: u64) -> Result<(), DiskFailed>
     ensures runs { Runs (reserved_headers cluster) (D.told disk.old) (D.told disk.new) (is_ok result) }

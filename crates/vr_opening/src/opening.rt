@@ -131,7 +131,7 @@ fn recover_at<D: SectorDisk>(
     recover_listed(replica, alloc, disk, i, &header, out)
 }
 
-/// Finds what is known of the ops of the checkpoint that the value names.
+// Finds what is known of the ops of the checkpoint that the value names.
 #[tactic(auto, using(vr_step::proofs::Stepping::going_begins, crate::proofs::Olds::olds_at, crate::proofs::Olds::olds_end, crate::proofs::Olds::olds_stopped, crate::proofs::Olds::olds_found))]
 fn recover_olds<D: SectorDisk>(
     replica: &mut Replica,
@@ -172,7 +172,7 @@ fn recover_nth<D: SectorDisk>(
     recover_op(replica, disk, op, buffer, out)
 }
 
-/// Finds what is known of the ops of the window.
+// Finds what is known of the ops of the window.
 #[tactic(auto, using(vr_step::proofs::Stepping::going_begins, vr_step::proofs::Stepping::going_ends, crate::proofs::Olds::ops_at, crate::proofs::Olds::ops_stopped, crate::proofs::Olds::ops_begin, crate::proofs::Olds::ops_length))]
 fn recover_window<D: SectorDisk>(
     replica: &mut Replica,
@@ -272,7 +272,7 @@ fn cloud_one(replica: &mut Replica, at: usize)
     replica.replace_part(at, part);
 }
 
-/// Nothing is denied of an op above the value's head and below one that was stored.
+// Nothing is denied of an op above the value's head and below one that was stored.
 #[tactic(auto, using(crate::proofs::Clouds::cloud_none, crate::proofs::Clouds::cloud_more, crate::proofs::Clouds::cloud_all, crate::proofs::Clouds::cloud_room, crate::proofs::Clouds::cloud_within, crate::proofs::Clouds::cloud_saved))]
 fn cloud(replica: &mut Replica)
     requires { HasWindow replica.old }

@@ -53,7 +53,7 @@ pub fn decide_start_view_change(replica: &Replica, message: &StartViewChange) ->
     }
 }
 
-/// Enters the later view that a replica has entered, and speaks there.
+// Enters the later view that a replica has entered, and speaks there.
 #[tactic(auto, using(vr_step::proofs::Stepping::steps, crate::proofs::Changes::later))]
 fn enter_later<D: SectorDisk>(
     replica: &mut Replica,
@@ -75,7 +75,7 @@ fn enter_later<D: SectorDisk>(
     speak(replica, alloc, disk, out)
 }
 
-/// Hears of one more replica in its view, which isn't started, and speaks.
+// Hears of one more replica in its view, which isn't started, and speaks.
 #[tactic(auto, using(vr_step::proofs::Stepping::steps, crate::proofs::Changes::heard))]
 fn hear_one<D: SectorDisk>(
     replica: &mut Replica,

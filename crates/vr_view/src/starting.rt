@@ -44,7 +44,7 @@ pub enum ViewRule {
     ViewGiven,
 }
 
-/// The log that a start_view tells of.
+// The log that a start_view tells of.
 fn log_of(start: &StartView) -> Log<'_>
     ensures { result ≡ log_of start.now }
 {
@@ -57,7 +57,7 @@ fn log_of(start: &StartView) -> Log<'_>
     }
 }
 
-/// Whether a log ends past the window, or begins above what is committed here.
+// Whether a log ends past the window, or begins above what is committed here.
 fn is_out_of_reach(replica: &Replica, log: &Log) -> bool
     requires { HasWindow replica.now }
     ensures { result ≡ (nat_lt (window_end replica.now) log.now.head || nat_lt replica.now.commit log.now.lo) }
@@ -102,7 +102,7 @@ pub fn decide_get_view(replica: &Replica, get: &GetView) -> ViewRule
     }
 }
 
-/// Acknowledges the entry of an op if it is stored.
+// Acknowledges the entry of an op if it is stored.
 #[tactic(auto, using(crate::proofs::Starts::here_entry))]
 fn acknowledge_stored(replica: &Replica, op: u64, out: &mut Outbox) -> Result<(), AllocError>
     requires ready { IsReady replica.now }
@@ -131,7 +131,7 @@ pub fn acknowledge_all(replica: &Replica, log: &Log, out: &mut Outbox) -> Result
     Ok(())
 }
 
-/// Takes over a log that may be taken, acknowledges what is stored of it, and applies.
+// Takes over a log that may be taken, acknowledges what is stored of it, and applies.
 #[tactic(auto, using(vr_step::proofs::Stepping::steps, crate::proofs::Takes::taken_low, crate::proofs::Choices::head_small, crate::proofs::Starts::told))]
 fn follow<D: SectorDisk>(
     replica: &mut Replica,

@@ -63,7 +63,7 @@ fn valued(header: Header) -> Header
     header
 }
 
-/// The same Part; its header has the values of the program.
+// The same Part; its header has the values of the program.
 #[tactic(auto, using(crate::proofs::Copies::valued))]
 fn copy_part(part: &Part) -> Part
     ensures same { result ≡ part.now }
@@ -78,7 +78,7 @@ fn copy_part(part: &Part) -> Part
     }
 }
 
-/// The same Parts; their headers have the values of the program.
+// The same Parts; their headers have the values of the program.
 #[tactic(auto, using(crate::proofs::Copies::copies))]
 fn copy_parts(alloc: Global, parts: &[Part]) -> Result<Seq<Part>, AllocError>
     ensures same { IfOk result (λ copy. copy ≡ parts.now) }
@@ -91,7 +91,7 @@ fn copy_parts(alloc: Global, parts: &[Part]) -> Result<Seq<Part>, AllocError>
     Ok(copy)
 }
 
-/// The same statement; its headers have the values of the program.
+// The same statement; its headers have the values of the program.
 fn copy_statement(alloc: Global, statement: &Statement) -> Result<Statement, AllocError>
     ensures same { IfOk result (λ copy. copy ≡ statement.now) }
     ensures values { OnOk result (AreHeaders (known statement.now.body.parts)) }
@@ -134,7 +134,7 @@ fn enter_later<D: SectorDisk>(
     }
 }
 
-/// Enters a view unless it is in it.
+// Enters a view unless it is in it.
 #[tactic(auto, using(crate::proofs::States::enters))]
 fn enter_up_to<D: SectorDisk>(
     replica: &mut Replica,
@@ -162,7 +162,7 @@ fn enter_up_to<D: SectorDisk>(
     }
 }
 
-/// Keeps what a replica states of its log, in the view for which it does, and tries to begin that.
+// Keeps what a replica states of its log, in the view for which it does, and tries to begin that.
 #[tactic(auto, using(vr_step::proofs::Stepping::steps, crate::proofs::States::states))]
 fn keep<D: SectorDisk>(
     replica: &mut Replica,

@@ -19,7 +19,7 @@ use vr_msg::{Choice, Outbox, Statement};
 use vr_repair::prepare_again;
 use vr_step::Halt;
 
-/// The op of the last header, or the commit number where there is none.
+// The op of the last header, or the commit number where there is none.
 fn log_end(commit: u64, headers: &HeaderList) -> u64
     ensures { result ≡ log_end commit headers.now }
 {
@@ -29,7 +29,7 @@ fn log_end(commit: u64, headers: &HeaderList) -> u64
     }
 }
 
-/// The log of the replica's view with these headers, and the greatest commit number that was stated.
+// The log of the replica's view with these headers, and the greatest commit number that was stated.
 fn chosen_log<'a>(
     replica: &Replica,
     statements: &Seq<Statement>,
@@ -48,7 +48,7 @@ fn chosen_log<'a>(
     }
 }
 
-/// What the statements of the group decide of the log of its view.
+// What the statements of the group decide of the log of its view.
 #[tactic(auto, using(crate::proofs::Choices::some_stated))]
 fn decide(
     replica: &Replica,
@@ -65,7 +65,7 @@ fn decide(
     }
 }
 
-/// Prepares again each entry that it can read, from the one above its commit number on to the log's head.
+// Prepares again each entry that it can read, from the one above its commit number on to the log's head.
 #[tactic(auto, using(crate::proofs::Goes::goes))]
 fn prepare_all<D: SectorDisk>(
     replica: &mut Replica,
@@ -93,7 +93,7 @@ fn prepare_all<D: SectorDisk>(
     Ok(())
 }
 
-/// A line on the log that it chose.
+// A line on the log that it chose.
 #[tactic(auto, using(crate::proofs::Choices::choice_told, crate::proofs::Choices::commit_small))]
 fn tell_choice(
     replica: &Replica,
@@ -110,8 +110,8 @@ fn tell_choice(
     Ok(())
 }
 
-/// Begins its view with this log: it takes it over, the others hear of it, and what can be read above
-/// the commit number is prepared again and then applied.
+// Begins its view with this log: it takes it over, the others hear of it, and what can be read above
+// the commit number is prepared again and then applied.
 #[tactic(auto, using(vr_step::proofs::Stepping::steps, crate::proofs::Takes::taken_low, crate::proofs::Choices::head_small, crate::proofs::Choices::begins))]
 fn begin_view<D: SectorDisk>(
     replica: &mut Replica,
@@ -135,7 +135,7 @@ fn begin_view<D: SectorDisk>(
     replica.apply(alloc, disk, out)
 }
 
-/// Begins its view with this log if it may take it, and waits otherwise.
+// Begins its view with this log if it may take it, and waits otherwise.
 #[tactic(auto, using(vr_step::proofs::Stepping::steps, crate::proofs::Takes::may_take_now, vr_journal::proofs::Memory::window_of), unfolding(vr_rules::specs::Words::try_log))]
 fn try_log<D: SectorDisk>(
     replica: &mut Replica,
@@ -160,7 +160,7 @@ fn try_log<D: SectorDisk>(
     }
 }
 
-/// Obeys what the statements of the group decide.
+// Obeys what the statements of the group decide.
 #[tactic(auto, using(crate::proofs::Choices::choices, crate::proofs::Choices::chosen_taught, vr_journal::proofs::Memory::window_of, vr_step::proofs::Stepping::wants))]
 fn choose_log<D: SectorDisk>(
     replica: &mut Replica,
@@ -189,7 +189,7 @@ fn choose_log<D: SectorDisk>(
     }
 }
 
-/// Whether it is the primary of a view that isn't started.
+// Whether it is the primary of a view that isn't started.
 fn may_try(replica: &Replica) -> bool
     requires { 0 < replica.now.n }
     ensures { result ≡ (is_primary replica.now && not (is_started replica.now)) }
@@ -220,7 +220,7 @@ pub fn try_view<D: SectorDisk>(
     }
 }
 
-/// Whether a view-change quorum is known to have entered its view.
+// Whether a view-change quorum is known to have entered its view.
 fn is_heard(replica: &Replica) -> bool
     ensures { result ≡ nat_le (view_change replica.now.n) (size replica.now.heard) }
 {
