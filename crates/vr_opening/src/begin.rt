@@ -16,6 +16,7 @@ use vr_journal::Replica;
 use vr_msg::Outbox;
 use vr_step::Halt;
 
+// Saves what the replica now is.
 #[tactic(auto, using(crate::proofs::Begins::opened_saved, vr_journal::proofs::Loads::ready_opened))]
 fn save_opened<D: SectorDisk>(
     replica: &mut Replica,
@@ -61,6 +62,7 @@ fn leave_view<D: SectorDisk>(
 
 // ---- the others hear of it
 
+// Tells all of the view that it is in, unless that is past the last view.
 fn tell_view(replica: &Replica, out: &mut Outbox) -> Result<(), AllocError>
     ensures { OnOk result (out.new ≡ out.old ++ (if nat_le replica.now.view last_view then send_to_all start_view_change replica.now else [])) }
 {

@@ -17,6 +17,7 @@ use vr_journal::Replica;
 use vr_msg::Outbox;
 use vr_step::Halt;
 
+// An op of the checkpoint is here where its entry was found, and lost otherwise.
 fn old_part(header: &Header, found: &Option<Entry>) -> Part
     ensures { result ≡ old_part header.now found.now }
 {
@@ -26,6 +27,7 @@ fn old_part(header: &Header, found: &Option<Entry>) -> Part
     }
 }
 
+// Whether an entry was stored, readable or not.
 fn was_stored(part: &Part) -> bool
     ensures { result ≡ was_stored part.now }
 {
@@ -59,18 +61,21 @@ fn recover_old<D: SectorDisk>(
     Ok(())
 }
 
+// Whether the op of a header is one of the checkpoint.
 fn is_old(replica: &Replica, header: &Header) -> bool
     ensures { result ≡ nat_le header.now.op replica.now.saved.fields.checkpoint }
 {
     header.op <= replica.saved().fields().checkpoint
 }
 
+// How many headers the value has.
 fn names(replica: &Replica) -> usize
     ensures { result ≡ length replica.now.saved.headers }
 {
     replica.saved().headers().len()
 }
 
+// The header at a place of the value's.
 fn named(replica: &Replica, i: usize) -> Header
     requires { i < length replica.now.saved.headers }
     ensures { slice_get replica.now.saved.headers i ≡ Some result }
@@ -78,6 +83,7 @@ fn named(replica: &Replica, i: usize) -> Header
     replica.saved().headers()[i]
 }
 
+// The op at a place of the window.
 #[tactic(auto, using(crate::proofs::Olds::nth_fits))]
 fn op_at(replica: &Replica, i: u64) -> u64
     requires opening { IsOpening (replica.now.saved.fields.checkpoint + i) replica.now }
@@ -213,6 +219,7 @@ fn recover_ops<D: SectorDisk>(
     recover_window(replica, disk, &mut buffer, out)
 }
 
+// Whether something is stored at a place.
 #[tactic(auto, using(vr_journal::proofs::Lists::past_is, vr_journal::proofs::Lists::found_is))]
 fn is_stored(replica: &Replica, at: usize) -> bool
     ensures { result ≡ was_stored (slice_index_or replica.now.parts at Nothing) }
@@ -236,6 +243,8 @@ fn is_stored_from(replica: &Replica, at: usize) -> bool
     false
 }
 
+// The Part at a place: an op above the value's head that nothing was found of is unknown where one above it was stored, since its entry may
+// have been stored as well.
 fn cloud_by(replica: &Replica, at: usize) -> Part
     requires fits { replica.now.first + at < 2 ^ 63 }
     ensures { result ≡ cloud_by replica.now.saved replica.now.first replica.now.parts at }
@@ -257,12 +266,14 @@ fn cloud_by(replica: &Replica, at: usize) -> Part
     }
 }
 
+// How many ops are remembered.
 fn places(replica: &Replica) -> usize
     ensures { result ≡ length replica.now.parts }
 {
     replica.parts().len()
 }
 
+// Gives a place its Part, as above.
 fn cloud_one(replica: &mut Replica, at: usize)
     requires fits { replica.old.first + at < 2 ^ 63 }
     requires within { at < length replica.old.parts }

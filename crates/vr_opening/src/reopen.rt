@@ -60,9 +60,11 @@ pub enum Refusal {
     Lost([CopyVerdict; 4]),
     /// The disk is that of another member: of this one.
     OtherMember(Config),
+    /// A call of the disk failed, or there was no memory.
     Halted(Halt),
 }
 
+// The member that a value names.
 fn config_of(value: &Super) -> Config
     ensures { result ≡ config_of value.now }
 {
@@ -88,6 +90,7 @@ fn find_value<D: SectorDisk>(alloc: Global, disk: &mut D) -> Result<Super, Refus
     }
 }
 
+// Whether two members are one.
 fn is_same(found: &Config, asked: &Config) -> bool
     ensures same { result ≡ true → found.now ≡ asked.now }
     ensures other { result ≡ false → found.now ≢ asked.now }

@@ -18,6 +18,7 @@ use vr_journal::Replica;
 use vr_msg::{GetBlock, GiveBlock, Outbox};
 use vr_step::Halt;
 
+// The name of the block that is asked for.
 fn asked_block(get: &GetBlock) -> Name
     ensures { result ≡ asked_block get.now }
 {

@@ -44,6 +44,7 @@ pub fn decide_get_prepare(replica: &Replica, get: &GetPrepare) -> Repair
     }
 }
 
+// Whether the header of an op is known, and its entry is not to be had here.
 fn is_absent(part: &Part) -> bool
     ensures { result ≡ is_absent part.now }
 {

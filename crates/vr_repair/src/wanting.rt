@@ -17,6 +17,7 @@ fn is_wanted(name: &Name, give: &GiveBlock) -> bool
     name.address == give.address && is_block_of(give.block.as_slice(), name)
 }
 
+// The name at a place, where the bytes are its block.
 fn wanted_at(names: &NameList, give: &GiveBlock, at: usize) -> Option<Name>
     ensures { result ≡ found_at (is_wanted is_block give.now) names.now at }
 {
