@@ -1,35 +1,16 @@
 -- What applying an entry does.
-use Rattle.std.proofs.Common.{◌≡◌, ◌∙◌, ◌+◌, refl, sym, Bool, true, false, cond, List, [], ◌∷◌, ◌++◌, append_assoc, Option, Result, Ok}
+use Rattle.std.proofs.Common.{◌≡◌, ◌∙◌, ◌+◌, refl, sym, Bool, true, false, List, ◌++◌, append_assoc, Option, Result, Ok}
 use Rattle.std.specs.Prelude.{◌&&◌, nat_lt}
-use Rattle.vr_apply.specs.declared.reply.ReplyBody.{ReplyBody}
-use Rattle.vr_apply.specs.declared.state.State.{State}
-use Rattle.vr_apply.specs.Folds as state
 use Rattle.vr_disk.specs.DiskState.{Disk}
-use Rattle.vr_header.specs.declared.header.Header.{Header}
-use Rattle.vr_header.specs.Made.{Whole, IsEntry}
-use Rattle.vr_rules.proofs.Replying.{reply_numbered}
-use Rattle.vr_msg.specs.Asking.{IsReplyKind}
+use Rattle.vr_header.specs.Made.{Whole}
 use Rattle.vr_msg.specs.declared.output.Output.{Output}
-use Rattle.vr_msg.specs.declared.output.Output.TheVariants as output
-use Rattle.vr_rules.specs.Replica.{Replica, leads, part_at}
-use Rattle.vr_rules.specs.Outputs.{kind_of, replies, commit_line, applied_reply}
+use Rattle.vr_rules.specs.Replica.{Replica, part_at}
+use Rattle.vr_rules.specs.Outputs.{commit_line, applied_reply}
 use Rattle.vr_rules.specs.Words.{applied, apply_entry, apply_next, with_entry, with_entry_at, is_loaded, is_checkpoint, make_checkpoint}
 use Rattle.vr_step.specs.declared.halt.Halt.{Halt}
 use Rattle.vr_step.specs.Does.{Does}
-use Rattle.vr_journal.specs.Ready.{MayApply, due}
+use Rattle.vr_memory.specs.Ready.{due}
 use Rattle.vr_step.proofs.Stepping.{says_by_then, change_by_then, does_by, does_quiet}
-
--- what is replied has a number that a reply may carry
-pub reply_fits : (r : Replica) (t : State) (e : Whole) (b : ReplyBody) → t ≡ r.state → MayApply r → IsEntry e → b ≡ (state.applied t e).reply → IsReplyKind (kind_of b)
-unfolding MayApply
-reply_fits r t e b s m n i = rw (i, s) (reply_numbered r.state e m.ready.sound.numbers n.header.op.1)
-
--- the lines of an applied entry, as they are put out of the replica with the new state
-pub said_applied : (r : Replica) (t : State) (e : Whole) (h : Header) (b : ReplyBody) (o o1 o2 : List Output) → h ≡ e.header → b ≡ (state.applied r.state e).reply
-    → o1 ≡ o ++ output.Commit (record { replica = r.index; entry = e }) ∷ []
-    → o2 ≡ o1 ++ cond (leads (record r { state = t })) (replies (record { client = h.client; request = h.request; name = h.request_name }) (kind_of b) (record r { state = t })) []
-    → o2 ≡ o ++ (commit_line e r ++ applied_reply e r)
-said_applied r t e h b o o1 o2 i j p q = q ∙ rw (p, i, j) (append_assoc o (commit_line e r) (applied_reply e r))
 
 pub entry_then : (e : Whole) (r q r2 : Replica) (d d2 : Option Disk) (o o1 o2 : List Output) (res : Result (Unit {0}) Halt) → o1 ≡ o ++ (commit_line e r ++ applied_reply e r) → q ≡ applied e r
     → Does due q r2 d d2 o1 o2 res → Does (apply_entry e) r r2 d d2 o o2 res

@@ -1,7 +1,6 @@
 -- What loading a checkpoint leaves.
-use Rattle.std.proofs.Common.{◌≡◌, ◌≤◌, refl, List, [], ◌∷◌, Option, Some, None, true, false, Result, Ok, Err}
+use Rattle.std.proofs.Common.{◌≡◌, ◌≤◌, refl, subst, List, [], ◌∷◌, Option, true, false, Result, Ok, Err}
 use Rattle.std.specs.Prelude.{IfSome, nat_lt}
-use Rattle.vr_apply.specs.declared.codec.Texts.{Texts}
 use Rattle.vr_apply.specs.declared.state.State.{State}
 use Rattle.vr_apply.specs.Texts.{state_decoded}
 use Rattle.vr_ckpt.specs.declared.found.Load.{Load}
@@ -12,8 +11,6 @@ use Rattle.vr_disk.specs.DiskState.{Disk}
 use Rattle.vr_grid.specs.declared.name.Name.{Name}
 use Rattle.vr_msg.specs.declared.output.Output.{Output}
 use Rattle.vr_table.specs.declared.fault.StateFault.{StateFault}
-use Rattle.vr_table.specs.declared.fault.StateFault.TheVariants as fault
-use Rattle.vr_table.specs.Table.{IsOrNoMemory}
 use Rattle.vr_rules.specs.Replica.{Replica}
 use Rattle.vr_rules.specs.Sound.{IsSavable}
 use Rattle.vr_rules.specs.Words.{load, loads, loaded_state, with_state, with_missing, checkpoint_at}
@@ -21,26 +18,14 @@ use Rattle.vr_rules.proofs.SavesWell.{savable_alike}
 use Rattle.vr_rules.proofs.Wording.{kept_loads}
 use Rattle.vr_step.specs.Does.{Does, Finds}
 use Rattle.vr_step.proofs.Stepping.{does_by, does_quiet, does_reading, change_by}
-use Rattle.vr_journal.specs.Ready.{IsReady, MayLoad, Decodes, NotDecoded}
+use Rattle.vr_memory.specs.Ready.{IsReady, MayLoad}
 
 pub ready_opened : (r : Replica) → MayLoad r → IsReady r
 unfolding MayLoad
 ready_opened r h = h.ready
 
-pub not_decoded : (t : Texts) (f : StateFault) → IsOrNoMemory (state_decoded t) f → (f ≡ fault.NoMemory → ⊥) → NotDecoded t
-not_decoded t fault.Torn h n = record { fault = fault.Torn; is = h }
-not_decoded t fault.NotSorted h n = record { fault = fault.NotSorted; is = h }
-not_decoded t fault.TooMany h n = record { fault = fault.TooMany; is = h }
-not_decoded t fault.NoMemory h n = absurd (n refl)
-
-pub loads_state : (t : Texts) (table : PayloadTable) (s : State) (r q : Replica) → Decodes t (Some s) → q ≡ with_state table s r → q ≡ loads r.root (Loaded t table) r
-loads_state t table s r q d e = rw d e
-
-pub loads_none : (t : Texts) (table : PayloadTable) (r q : Replica) (names : List Name) → Decodes t None → names ≡ r.root ∷ [] → q ≡ with_missing names r → q ≡ loads r.root (Loaded t table) r
-loads_none t table r q names d n e = rw d.is (rw n at e)
-
-pub checkpoint_found : (root : Name) (l : Load) (d d' : Option Disk) → d' ≡ d → IfSome d (λ x. l ≡ loaded x.face root) → Finds (checkpoint_at root) d d' l
-checkpoint_found root l d d' e h = record { same = e; value = h }
+pub checkpoint_found : (root name : Name) (l : Load) (d d' : Option Disk) → name ≡ root → d' ≡ d → IfSome d (λ x. l ≡ loaded x.face name) → Finds (checkpoint_at root) d d' l
+checkpoint_found root name l d d' n e h = record { same = e; value = subst (λ (x : Name). IfSome d (λ y. l ≡ loaded y.face x)) n h }
 
 pub load_then : (l : Load) (r q : Replica) (d d' : Option Disk) (o : List Output) → nat_lt 0 r.checkpoint ≡ true → Finds (checkpoint_at r.root) d d' l → q ≡ loads r.root l r → Does load r q d d' o o (Ok tt)
 unfolding load

@@ -1,18 +1,20 @@
 -- What the calls of the storage crates are as effects.
-use Rattle.std.proofs.Common.{arith, ℕ, ◌≤◌, ◌+◌, ◌≡◌, refl, subst, List, Bool, true, false, Option, Some, None, Result, Ok, Err}
+use Rattle.std.proofs.Common.{ℕ, ◌≡◌, refl, List, Bool, true, false, Option, Some, None, Result, Ok, Err}
 use Rattle.vr_disk.specs.DiskState.{Call, Disk, Runs, RunsFrom}
 use Rattle.vr_header.specs.Made.{Whole}
 use Rattle.vr_rings.specs.Calls.{again_calls, new_calls, header_calls}
 use Rattle.vr_grid.specs.Grid.{put_calls}
 use Rattle.vr_grid.specs.declared.name.Name.{Name}
 use Rattle.vr_header.specs.declared.header.Header.{Header}
-use Rattle.vr_journal.specs.Effects.{mends, rewrites, puts}
+use Rattle.vr_journal.specs.Effects.{rewrites, puts}
 use Rattle.vr_rules.specs.Replica.{Replica, part_at}
-use Rattle.vr_super.specs.Calls.{mend_calls, write_calls}
+use Rattle.vr_super.specs.Calls.{write_calls}
 use Rattle.vr_super.specs.Copies.{SuperValue}
 use Rattle.vr_rules.specs.Words.{writes, saves, value_of, may_be_stored}
 use Rattle.vr_apply.specs.declared.codec.Texts.{Texts}
+use Rattle.vr_apply.specs.declared.state.State.{State}
 use Rattle.vr_apply.specs.Texts.{texts_of}
+use Rattle.vr_ckpt.specs.declared.table.PayloadTable.{PayloadTable}
 use Rattle.vr_ckpt.specs.declared.saving.SavedCheckpoint as checkpoint
 use Rattle.vr_ckpt.specs.Saves.{save_calls, saved_checkpoint}
 use Rattle.vr_grid.specs.Grid.{Leaves}
@@ -37,20 +39,12 @@ write_is_again e r d d' ok i h = record { silent = refl; ran = rw i (runs_from (
 pub write_is_new : (e : Whole) (r : Replica) (d d' : Option Disk) (ok : Bool) → may_be_stored (part_at r e.header.op) ≡ false → Runs (new_calls e) d d' ok → Performs (writes e) r d d' ok
 write_is_new e r d d' ok i h = record { silent = refl; ran = rw i (runs_from (new_calls e) d d' ok h) }
 
-pub save_is : (r : Replica) (v : SuperValue) (d d' : Option Disk) (ok : Bool) → v ≡ value_of r → RunsFrom (write_calls r.saved v) d d' ok → Performs saves r d d' ok
-save_is r v d d' ok e h = let k = rw e at h in record { silent = refl; ran = k }
-
-pub one_spent : (r : Replica) (v : SuperValue) → v ≡ value_of r → v.fields.sequence ≤ r.saved.fields.sequence + 1
-unfolding value_of
-one_spent r v e = rw e (omega arith)
+pub save_is : (r : Replica) (old v : SuperValue) (d d' : Option Disk) (ok : Bool) → old ≡ r.saved → v ≡ value_of r → RunsFrom (write_calls old v) d d' ok → Performs saves r d d' ok
+save_is r old v d d' ok i e h = let k = rw (i, e) at h in record { silent = refl; ran = k }
 
 pub rewrite_is : (h : Header) (r : Replica) (d d' : Option Disk) (ok : Bool) → Runs (header_calls h) d d' ok → Performs (rewrites h) r d d' ok
 unfolding rewrites
 rewrite_is h r d d' ok k = record { silent = refl; ran = runs_from (header_calls h) d d' ok k }
-
-pub mend_is : (r : Replica) (v : SuperValue) (d d' : Option Disk) (ok : Bool) → v ≡ r.saved → RunsFrom (mend_calls v) d d' ok → Performs mends r d d' ok
-unfolding mends
-mend_is r v d d' ok e k = record { silent = refl; ran = subst (λ (x : SuperValue). RunsFrom (mend_calls x) d d' ok) e k }
 
 pub put_is : (name : Name) (block : List ℕ) (r : Replica) (d d' : Option Disk) (ok : Bool) → Runs (put_calls name.address block) d d' ok → Performs (puts name block) r d d' ok
 unfolding puts
@@ -58,15 +52,16 @@ put_is name block r d d' ok k = record { silent = refl; ran = runs_from (put_cal
 
 -- ---- a checkpoint
 
-module _ (r : Replica) (texts : Texts) (d d' : Option Disk) (res : Result checkpoint.SavedCheckpoint CkptFault) (t : texts ≡ texts_of r.state) (h : Leaves (save_calls r.cluster texts r.applied r.table) d d' res) where
+module _ (r : Replica) (cluster op : ℕ) (state : State) (texts : Texts) (table : PayloadTable) (d d' : Option Disk) (res : Result checkpoint.SavedCheckpoint CkptFault) (c : cluster ≡ r.cluster) (a : op ≡ r.applied)
+    (s : state ≡ r.state) (b : table ≡ r.table) (t : texts ≡ texts_of state) (h : Leaves (save_calls cluster texts op table) d d' res) where
   pub checkpoint_ok : (c : checkpoint.SavedCheckpoint) → res ≡ Ok c → PerformsTo checkpoints r d d' (Ok tt)
   checkpoint_ok c e =
-      let k : Runs (save_calls r.cluster (texts_of r.state) r.applied r.table) d d' true = rw (e, t) at h in
+      let k : Runs (save_calls r.cluster (texts_of r.state) r.applied r.table) d d' true = rw (e, t, s, c, a, b) at h in
       performs_ok checkpoints r d d' (record { silent = refl; ran = runs_from (save_calls r.cluster (texts_of r.state) r.applied r.table) d d' true k })
 
   pub checkpoint_fault : res ≡ Err fault.DiskFault → PerformsTo checkpoints r d d' (Err DiskFault)
   checkpoint_fault e =
-      let k : Runs (save_calls r.cluster (texts_of r.state) r.applied r.table) d d' false = rw (e, t) at h in
+      let k : Runs (save_calls r.cluster (texts_of r.state) r.applied r.table) d d' false = rw (e, t, s, c, a, b) at h in
       performs_fault checkpoints r d d' (record { silent = refl; ran = runs_from (save_calls r.cluster (texts_of r.state) r.applied r.table) d d' false k })
 
   pub checkpoint_want : res ≡ Err fault.NoMemory → PerformsTo checkpoints r d d' (Err NoMemory)

@@ -1,84 +1,81 @@
 //! The effects of a replica on its disk, each by the call of its storage crate.
-ghost use Rattle.std.specs.Prelude.{◌≡◌, ◌<◌, ◌≤◌, ◌+◌, ◌^◌, ◌%◌, IfOk, OnOk, is_ok, is_some, true};
+ghost use Rattle.std.specs.Prelude.{◌≡◌, ◌≤◌, ◌+◌, OnOk, is_ok, is_some, true};
 ghost use Rattle.vr_base.specs.Causes.{HasCause};
-ghost use Rattle.vr_rules.specs.Words.{writes, saves, with_saved, checkpoints, value_of, checkpoint_of};
+ghost use Rattle.vr_rules.specs.Words.{writes, saves, with_saved, value_of};
 ghost use Rattle.vr_grid.specs.Blocks.{named};
 ghost use Rattle.vr_journal.specs.Effects.{rewrites, puts};
-ghost use Rattle.vr_step.specs.Does.{Performs, PerformsTo, Caused};
+ghost use Rattle.vr_step.specs.Does.{Performs};
 
-use crate::Replica;
-use crate::parts::may_be_stored;
 use vr_disk::{DiskFault, SectorDisk};
-use vr_grid::{Name, put_block};
+use vr_grid::Name;
 use vr_header::{Entry, Header};
+use vr_memory::{Replica, may_be_stored};
 use vr_rings::{write_again, write_header, write_new};
 use vr_super::Super;
 
-impl Replica {
-    /// Writes an entry into its slot.
-    #[tactic(auto, using(crate::proofs::Performing::write_is_again, crate::proofs::Performing::write_is_new))]
-    pub(crate) fn write_entry<D: SectorDisk>(
-        &self,
-        disk: &mut D,
-        entry: &Entry,
-    ) -> Result<(), DiskFault>
-        ensures runs { Performs (writes entry.now) self.now (D.told disk.old) (D.told disk.new) (is_ok result) }
-        ensures cause { HasCause (D.faults disk.old) (D.faults disk.new) result }
-    {
-        if may_be_stored(&self.part_at(entry.header().op)) {
-            write_again(disk, entry)
-        } else {
-            write_new(disk, entry)
+/// Writes an entry into its slot.
+#[tactic(auto, using(crate::proofs::Performing::write_is_again, crate::proofs::Performing::write_is_new))]
+pub(crate) fn write_entry<D: SectorDisk>(
+    replica: &Replica,
+    disk: &mut D,
+    entry: &Entry,
+) -> Result<(), DiskFault>
+    ensures runs { Performs (writes entry.now) replica.now (D.told disk.old) (D.told disk.new) (is_ok result) }
+    ensures cause { HasCause (D.faults disk.old) (D.faults disk.new) result }
+{
+    if may_be_stored(&replica.part_at(entry.header().op)) {
+        write_again(disk, entry)
+    } else {
+        write_new(disk, entry)
+    }
+}
+
+/// Writes this value over the one last saved, and keeps it.
+#[tactic(auto, using(crate::proofs::Performing::save_is))]
+pub(crate) fn save_value<D: SectorDisk>(
+    replica: &mut Replica,
+    disk: &mut D,
+    value: Super,
+) -> Result<(), DiskFault>
+    requires { value ≡ value_of replica.old }
+    ensures runs { Performs saves replica.old (D.told disk.old) (D.told disk.new) (is_ok result) }
+    ensures cause { HasCause (D.faults disk.old) (D.faults disk.new) result }
+    ensures saved { OnOk result (replica.new ≡ with_saved replica.old) }
+    ensures spent { OnOk result (replica.new.saved.fields.sequence ≤ replica.old.saved.fields.sequence + 1) }
+{
+    match vr_super::write(disk, replica.saved(), &value) {
+        Ok(()) => {
+            replica.keep_saved(value);
+            Ok(())
         }
+        Err(_) => Err(DiskFault),
     }
+}
 
-    /// Writes this value over the one last saved, and keeps it.
-    #[tactic(auto, using(crate::proofs::Performing::save_is, crate::proofs::Performing::one_spent))]
-    pub(crate) fn save_value<D: SectorDisk>(
-        &mut self,
-        disk: &mut D,
-        value: Super,
-    ) -> Result<(), DiskFault>
-        requires { value ≡ value_of self.old }
-        ensures runs { Performs saves self.old (D.told disk.old) (D.told disk.new) (is_ok result) }
-        ensures cause { HasCause (D.faults disk.old) (D.faults disk.new) result }
-        ensures saved { OnOk result (self.new ≡ with_saved self.old) }
-        ensures spent { OnOk result (self.new.saved.fields.sequence ≤ self.old.saved.fields.sequence + 1) }
-    {
-        match vr_super::write(disk, &self.saved, &value) {
-            Ok(()) => {
-                self.saved = value;
-                Ok(())
-            }
-            Err(_) => Err(DiskFault),
-        }
-    }
+/// Writes the header sector of a slot alone.
+#[tactic(auto, using(crate::proofs::Performing::rewrite_is))]
+pub fn rewrite_header<D: SectorDisk>(
+    _replica: &Replica,
+    disk: &mut D,
+    header: &Header,
+) -> Result<(), DiskFault>
+    ensures runs { Performs (rewrites header.now) _replica.now (D.told disk.old) (D.told disk.new) (is_ok result) }
+    ensures cause { HasCause (D.faults disk.old) (D.faults disk.new) result }
+{
+    write_header(disk, header)
+}
 
-    /// Writes the header sector of a slot alone.
-    #[tactic(auto, using(crate::proofs::Performing::rewrite_is))]
-    pub fn rewrite_header<D: SectorDisk>(
-        &self,
-        disk: &mut D,
-        header: &Header,
-    ) -> Result<(), DiskFault>
-        ensures runs { Performs (rewrites header.now) self.now (D.told disk.old) (D.told disk.new) (is_ok result) }
-        ensures cause { HasCause (D.faults disk.old) (D.faults disk.new) result }
-    {
-        write_header(disk, header)
-    }
-
-    /// Writes a whole block under its name.
-    #[tactic(auto, using(crate::proofs::Performing::put_is))]
-    pub fn put_block<D: SectorDisk>(
-        &self,
-        disk: &mut D,
-        name: &Name,
-        block: &[u8],
-    ) -> Result<(), DiskFault>
-        requires { is_some (named name.now block.now) ≡ true }
-        ensures runs { Performs (puts name.now block.now) self.now (D.told disk.old) (D.told disk.new) (is_ok result) }
-        ensures cause { HasCause (D.faults disk.old) (D.faults disk.new) result }
-    {
-        put_block(disk, name, block)
-    }
+/// Writes a whole block under its name.
+#[tactic(auto, using(crate::proofs::Performing::put_is))]
+pub fn put_block<D: SectorDisk>(
+    _replica: &Replica,
+    disk: &mut D,
+    name: &Name,
+    block: &[u8],
+) -> Result<(), DiskFault>
+    requires { is_some (named name.now block.now) ≡ true }
+    ensures runs { Performs (puts name.now block.now) _replica.now (D.told disk.old) (D.told disk.new) (is_ok result) }
+    ensures cause { HasCause (D.faults disk.old) (D.faults disk.new) result }
+{
+    vr_grid::put_block(disk, name, block)
 }

@@ -1,33 +1,22 @@
-//! What a replica has in memory beside its disk, and the words of which its rules are made.
+//! The words of which a replica's rules are made: what it does in memory and on its disk together.
+//!
+//! Each word has one clause on replica, disk and outputs: that what it does is the word of the definitions.
 #![tactic(auto)]
 
+mod acknowledging;
 mod applying;
-mod blank;
-mod changes;
+mod commits;
 mod effects;
-mod fields;
-mod giving;
-mod group;
-mod jumping;
 mod loading;
-mod names;
-mod outputs;
-mod parts;
-mod places;
+mod preparing;
 mod reading;
-mod repairing;
-mod replica;
-mod stating;
-mod taking;
-mod telling;
-mod visiting;
-mod window;
 mod words;
 
-pub use group::primary;
-pub use jumping::sync_log;
-pub use parts::{header_of, is_here, same_header};
-pub use replica::Replica;
-pub use taking::Log;
-pub use visiting::Visit;
-pub use window::Window;
+pub use acknowledging::acknowledge_all;
+pub use applying::{apply, learn};
+pub use commits::advance;
+pub use effects::{put_block, rewrite_header};
+pub use loading::load;
+pub use preparing::prepare_again;
+pub use reading::{find_entry, read_entry};
+pub use words::{accept, enter, save, write};

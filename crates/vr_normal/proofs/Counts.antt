@@ -20,7 +20,7 @@ use Rattle.vr_rules.proofs.SavesWell.{savable_alike}
 use Rattle.vr_step.specs.declared.halt.Halt.{Halt}
 use Rattle.vr_step.specs.Does.{Does}
 use Rattle.vr_step.proofs.Stepping.{does_by, does_naming, does_quiet}
-use Rattle.vr_journal.specs.Ready.{IsReady}
+use Rattle.vr_memory.specs.Ready.{IsReady}
 use Rattle.vr_normal.specs.declared.counting.CountRule.{CountRule}
 use Rattle.vr_normal.specs.declared.counting.CountRule.TheVariants as rule
 use Rattle.vr_normal.specs.Named.{count_rule}

@@ -20,7 +20,7 @@ use Rattle.vr_rules.proofs.Ruling.{by_rows, group_of_primary}
 use Rattle.vr_step.specs.declared.halt.Halt.{Halt}
 use Rattle.vr_step.specs.Does.{Does}
 use Rattle.vr_step.proofs.Stepping.{does_by, does_naming, does_quiet, says_by, change_by}
-use Rattle.vr_journal.specs.Ready.{MayStore}
+use Rattle.vr_memory.specs.Ready.{MayStore}
 use Rattle.vr_normal.specs.declared.storing.PrepareRule.{PrepareRule}
 use Rattle.vr_normal.specs.declared.storing.PrepareRule.TheVariants as rule
 use Rattle.vr_normal.specs.Messages.{IsPreparing}

@@ -29,7 +29,7 @@ use Rattle.vr_sess.specs.declared.session.SessionAnswer.TheVariants as answer
 use Rattle.vr_step.specs.declared.halt.Halt.{Halt}
 use Rattle.vr_step.specs.Does.{Does}
 use Rattle.vr_step.proofs.Stepping.{does_by, does_naming, does_quiet, says_by}
-use Rattle.vr_journal.specs.Ready.{IsReady, MayStore}
+use Rattle.vr_memory.specs.Ready.{IsReady, MayStore}
 use Rattle.vr_normal.specs.declared.requesting.RequestRule.{RequestRule}
 use Rattle.vr_normal.specs.declared.requesting.RequestRule.TheVariants as rule
 use Rattle.vr_normal.specs.Named.{request_rule}

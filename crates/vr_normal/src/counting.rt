@@ -1,8 +1,8 @@
 //! Acknowledgements are counted: prepare_oks.
 ghost use Rattle.std.specs.Prelude.{◌≡◌, ◌<◌, ◌≤◌, ◌+◌, ◌^◌, ◌&&◌, ◌==◌, nat_le, nat_lt, OnOk, true};
 ghost use Rattle.vr_base.specs.Bytes.{name_of};
-ghost use Rattle.vr_journal.specs.Ready.{IsReady};
-ghost use Rattle.vr_repair.specs.Waits.{EndsAtOnce, Waits, passes};
+ghost use Rattle.vr_memory.specs.Ready.{IsReady};
+ghost use Rattle.vr_journal.specs.Waits.{EndsAtOnce, Waits, passes};
 ghost use Rattle.vr_rules.specs.Deciding.{first_of, is_named, prepare_ok_table};
 ghost use Rattle.vr_rules.specs.declared.rule.Rule.TheVariants.{Counted};
 ghost use Rattle.vr_rules.specs.Replica.{head, leads};
@@ -15,9 +15,9 @@ ghost use Rattle.vr_normal.specs.declared.counting.CountRule.TheVariants as Coun
 
 use std::alloc::Global;
 use vr_disk::SectorDisk;
-use vr_journal::Replica;
+use vr_journal::advance;
+use vr_memory::Replica;
 use vr_msg::{Outbox, PrepareOk};
-use vr_repair::advance;
 use vr_step::Halt;
 
 /// What a prepare_ok leads to.
@@ -30,7 +30,7 @@ pub enum CountRule {
 }
 
 // Whether it is of an open entry of the view that this replica leads.
-#[tactic(auto, using(vr_journal::proofs::Memory::window_of, vr_journal::proofs::Memory::some_member))]
+#[tactic(auto, using(vr_memory::proofs::Memory::window_of, vr_memory::proofs::Memory::some_member))]
 fn is_open(replica: &Replica, ack: &PrepareOk) -> bool
     requires { IsReady replica.now }
     ensures { result ≡ (leads replica.now && ((ack.now.view == replica.now.view) && (nat_lt replica.now.commit ack.now.op && (nat_le ack.now.op (head replica.now) && is_named name_of ack.now.name ack.now.op replica.now)))) }

@@ -4,14 +4,7 @@ ghost use Rattle.vr_header.specs.Made.{IsEntryHeader};
 ghost use Rattle.vr_header.specs.Spelling.{IsHeader};
 
 use vr_header::{Entry, Header};
-
-// A header that is there has the values of one.
-fn valued(header: Header) -> Header
-    ensures same { result ≡ header }
-    ensures values { IsHeader result }
-{
-    header
-}
+use vr_window::valued;
 
 /// The header of an entry, which has the values of one.
 pub fn header_of(entry: &Entry) -> Header

@@ -1,6 +1,6 @@
 //! How far the log is committed is learned: commits.
 ghost use Rattle.std.specs.Prelude.{◌≡◌, ◌<◌, ◌≤◌, ◌+◌, ◌++◌, ◌^◌, nat_lt, OnOk};
-ghost use Rattle.vr_journal.specs.Ready.{IsReady};
+ghost use Rattle.vr_memory.specs.Ready.{IsReady};
 ghost use Rattle.vr_rules.specs.Deciding.{commit_table, first_of};
 ghost use Rattle.vr_rules.specs.Outputs.{get_view, send_to};
 ghost use Rattle.vr_rules.specs.Replica.{head, last_view};
@@ -14,7 +14,8 @@ ghost use Rattle.vr_normal.specs.Words.{asks_behind};
 
 use std::alloc::{AllocError, Global};
 use vr_disk::SectorDisk;
-use vr_journal::Replica;
+use vr_journal::learn;
+use vr_memory::Replica;
 use vr_msg::{Commit, GetView, Message, Outbox};
 use vr_step::Halt;
 
@@ -45,7 +46,7 @@ pub fn ask_view(replica: &Replica, view: u32, to: u8, out: &mut Outbox) -> Resul
 }
 
 /// Which rule applies to a commit.
-#[tactic(auto, using(vr_journal::proofs::Memory::some_member), unfolding(vr_rules::specs::Deciding::first_of))]
+#[tactic(auto, using(vr_memory::proofs::Memory::some_member), unfolding(vr_rules::specs::Deciding::first_of))]
 pub fn decide_commit(replica: &Replica, commit: &Commit) -> CommitRule
     requires { IsReady replica.now }
     ensures { first_of (commit_table commit.now replica.now) ≡ commit_rule result }
@@ -62,7 +63,7 @@ pub fn decide_commit(replica: &Replica, commit: &Commit) -> CommitRule
 }
 
 // Whether the primary's log is longer.
-#[tactic(auto, using(vr_journal::proofs::Memory::window_of))]
+#[tactic(auto, using(vr_memory::proofs::Memory::window_of))]
 fn is_behind(replica: &Replica, commit: &Commit) -> bool
     requires { IsReady replica.now }
     ensures { result ≡ nat_lt (head replica.now) commit.now.head }
@@ -90,7 +91,7 @@ fn ask_behind<D: SectorDisk>(
 }
 
 // The primary is heard, and the commit number learned.
-#[tactic(auto, using(vr_step::proofs::Stepping::steps, vr_journal::proofs::Memory::readies))]
+#[tactic(auto, using(vr_step::proofs::Stepping::steps, vr_memory::proofs::Memory::readies))]
 fn hear<D: SectorDisk>(
     replica: &mut Replica,
     alloc: Global,
@@ -107,7 +108,7 @@ fn hear<D: SectorDisk>(
 {
     replica.rest();
     ask_behind(replica, disk, commit, out)?;
-    replica.learn(alloc, disk, commit.commit, out)
+    learn(replica, alloc, disk, commit.commit, out)
 }
 
 /// The primary tells how far its log goes, and how far it is committed. A replica that has the view's log learns the commit number, and

@@ -2,7 +2,7 @@
 ghost use Rattle.std.specs.Prelude.{◌≡◌, ◌<◌, ◌≤◌, ◌+◌, ◌^◌, IfOk, OnOk};
 ghost use Rattle.vr_base.specs.Bytes.{name_of};
 ghost use Rattle.vr_header.specs.Names.{name_by};
-ghost use Rattle.vr_journal.specs.Ready.{IsReady, MayStore};
+ghost use Rattle.vr_memory.specs.Ready.{IsReady, MayStore};
 ghost use Rattle.vr_msg.specs.Asking.{IsRequest};
 ghost use Rattle.vr_rules.specs.Deciding.{first_of, request_table};
 ghost use Rattle.vr_rules.specs.declared.rule.Rule.TheVariants.{Made};
@@ -16,13 +16,13 @@ use std::alloc::{AllocError, Global};
 use vr_base::Sum;
 use vr_disk::SectorDisk;
 use vr_header::{Entry, Header};
-use vr_journal::Replica;
+use vr_journal::{advance, write};
+use vr_memory::Replica;
 use vr_msg::{Outbox, RequestFields};
-use vr_repair::advance;
 use vr_step::Halt;
 
 /// The name of what the next entry stands on.
-#[tactic(auto, using(vr_journal::proofs::Memory::window_of))]
+#[tactic(auto, using(vr_memory::proofs::Memory::window_of))]
 pub fn head_name(replica: &Replica) -> Sum
     requires { IsReady replica.now }
     ensures { result ≡ name_by name_of (head_header name_of replica.now) }
@@ -34,7 +34,7 @@ pub fn head_name(replica: &Replica) -> Sum
 }
 
 // The op of the next entry.
-#[tactic(auto, using(vr_journal::proofs::Memory::window_of))]
+#[tactic(auto, using(vr_memory::proofs::Memory::window_of))]
 fn next_op(replica: &Replica) -> u64
     requires ready { IsReady replica.now }
     requires room { head replica.now < 2 ^ 62 }
@@ -73,7 +73,7 @@ fn next_entry(
 }
 
 // An entry is stored, prepared to the others, and counted.
-#[tactic(auto, using(vr_step::proofs::Stepping::steps, vr_journal::proofs::Memory::readies), unfolding(vr_rules::specs::Rules::make))]
+#[tactic(auto, using(vr_step::proofs::Stepping::steps, vr_memory::proofs::Memory::readies), unfolding(vr_rules::specs::Rules::make))]
 fn make<D: SectorDisk>(
     replica: &mut Replica,
     alloc: Global,
@@ -90,7 +90,7 @@ fn make<D: SectorDisk>(
     ensures cause { Caused (D.faults disk.old) (D.faults disk.new) result }
     ensures step { Does (make entry.now) replica.old replica.new (D.told disk.old) (D.told disk.new) out.old out.new result }
 {
-    replica.write(disk, entry, out)?;
+    write(replica, disk, entry, out)?;
     replica.send_prepare(alloc, entry, out)?;
     advance(replica, alloc, disk, out)
 }

@@ -2,7 +2,7 @@
 ghost use Rattle.std.specs.Prelude.{◌≡◌, ◌<◌, ◌≤◌, ◌+◌, ◌-◌, ◌++◌, ◌^◌, ◌||◌, not, nat_le, nat_lt, slice_index_or, IfOk, OnOk};
 ghost use Rattle.vr_base.specs.Bytes.{name_of};
 ghost use Rattle.vr_header.specs.declared.part.Part.TheVariants.{Nothing};
-ghost use Rattle.vr_journal.specs.Ready.{IsReady};
+ghost use Rattle.vr_memory.specs.Ready.{IsReady};
 ghost use Rattle.vr_msg.specs.Asking.{IsRequest, IsReplyKind};
 ghost use Rattle.vr_msg.specs.Normal.{last_op, pipeline};
 ghost use Rattle.vr_rules.specs.Deciding.{first_of, is_in_flight, request_table};
@@ -22,10 +22,11 @@ use std::alloc::{AllocError, Global};
 use vr_base::{NoMemory, Sum};
 use vr_disk::SectorDisk;
 use vr_header::{Header, Part};
-use vr_journal::{Replica, Window, header_of};
+use vr_memory::Replica;
 use vr_msg::{Answered, Outbox, ReplyKind, Request, RequestFields};
 use vr_sess::SessionAnswer;
 use vr_step::Halt;
+use vr_window::Window;
 
 // The most entries that stand above the commit number.
 const PIPELINE: u64 = 8;
@@ -55,12 +56,12 @@ pub enum RequestRule {
 // ---- which rule applies
 
 // Whether the header that is known at a place is of this client's request.
-#[tactic(auto, using(vr_journal::proofs::Lists::past_is, vr_journal::proofs::Lists::found_is))]
+#[tactic(auto, using(vr_window::proofs::Lists::past_is, vr_window::proofs::Lists::found_is))]
 fn is_of(parts: &Window<Part>, client: u64, at: usize) -> bool
     ensures { result ≡ is_of client (slice_index_or parts.now at Nothing) }
 {
     match parts.item(at) {
-        Some(part) => match header_of(part) {
+        Some(part) => match part.header() {
             Some(header) => header.client == client,
             None => false,
         },
@@ -82,7 +83,7 @@ fn any_of(parts: &Window<Part>, client: u64, from: usize, end: usize) -> bool
 }
 
 // Whether an entry of the client stands above the commit number.
-#[tactic(auto, using(vr_journal::proofs::Memory::window_of, vr_journal::proofs::Memory::commit_fits, crate::proofs::Requests::flight_is))]
+#[tactic(auto, using(vr_memory::proofs::Memory::window_of, vr_memory::proofs::Memory::commit_fits, crate::proofs::Requests::flight_is))]
 fn is_in_flight(replica: &Replica, client: u64) -> bool
     requires { IsReady replica.now }
     ensures { result ≡ is_in_flight client replica.now }
@@ -101,7 +102,7 @@ fn is_late(replica: &Replica) -> bool
 }
 
 // Whether there is no room for one more entry.
-#[tactic(auto, using(vr_journal::proofs::Memory::window_of))]
+#[tactic(auto, using(vr_memory::proofs::Memory::window_of))]
 fn is_full(replica: &Replica) -> bool
     requires { IsReady replica.now }
     ensures { result ≡ (nat_le pipeline (head replica.now - replica.now.commit) || nat_le last_op (head replica.now)) }
@@ -138,7 +139,7 @@ fn decide_open(replica: &Replica, request: &RequestFields) -> Result<RequestRule
 }
 
 /// Which rule applies to a request, with what the sessions answer where it isn't fresh.
-#[tactic(auto, using(vr_journal::proofs::Memory::some_member), unfolding(vr_rules::specs::Deciding::first_of, crate::specs::Requests::Answers))]
+#[tactic(auto, using(vr_memory::proofs::Memory::some_member), unfolding(vr_rules::specs::Deciding::first_of, crate::specs::Requests::Answers))]
 pub fn decide_request(replica: &Replica, request: &RequestFields) -> Result<RequestRule, NoMemory>
     requires { IsReady replica.now }
     ensures rule { IfOk result (λ x. first_of (request_table request.now replica.now) ≡ request_rule x) }

@@ -21,7 +21,7 @@ use Rattle.vr_rules.proofs.SavesWell.{savable_alike, savable_saved}
 use Rattle.vr_rules.proofs.Keeping.{sound_alike}
 use Rattle.vr_step.specs.declared.halt.Halt.{Halt}
 use Rattle.vr_step.specs.Does.{Does}
-use Rattle.vr_journal.specs.Ready.{IsReady, MayLoad}
+use Rattle.vr_memory.specs.Ready.{IsReady, MayLoad}
 use Rattle.vr_opening.specs.Finding.{IsOpeningOld}
 use Rattle.vr_step.proofs.Stepping.{does_by, does_quiet, change_by_then, says_by}
 

@@ -22,7 +22,7 @@ use Rattle.vr_rules.proofs.SavesFound.{clouded_known, found_topped, savable_foun
 use Rattle.vr_rules.proofs.SavesParts.{Topped, topped_forgetting}
 use Rattle.vr_step.specs.declared.halt.Halt.{Halt}
 use Rattle.vr_step.specs.Does.{Does}
-use Rattle.vr_journal.specs.Ready.{IsReady, HasWindow, MayLoad}
+use Rattle.vr_memory.specs.Ready.{IsReady, HasWindow, MayLoad}
 use Rattle.vr_opening.specs.Finding.{IsOpening, cloud_by, cloud_to}
 use Rattle.vr_step.proofs.Stepping.{does_then, does_stopped, change_by_then, change_by}
 

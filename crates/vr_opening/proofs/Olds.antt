@@ -25,7 +25,7 @@ use Rattle.vr_rules.proofs.SavesFound.{set_keeps, known_old, only_later}
 use Rattle.vr_step.specs.declared.halt.Halt.{Halt}
 use Rattle.vr_step.specs.Does.{Finds, Does, LeftBy, Going}
 use Rattle.vr_opening.specs.Finding.{IsOpening, IsOpeningOld, DoesAt, recover_listed}
-use Rattle.vr_journal.proofs.Lists.{found_is}
+use Rattle.vr_window.proofs.Lists.{found_is}
 use Rattle.vr_step.proofs.Stepping.{does_reading, change_by, going_goes, going_stops, going_ends, going_begins}
 
 pub old_then : (h : Header) (e : Option Whole) (p : Part) (r q : Replica) (d d' : Option Disk) (o : List Output) → Finds (entry_of h) d d' e → p ≡ old_part h e → q ≡ with_part h.op p r

@@ -6,13 +6,14 @@ ghost use Rattle.vr_rules.specs.Replica.{is_spent, is_started, leads, last_view}
 ghost use Rattle.vr_rules.specs.Words.{save};
 ghost use Rattle.vr_rules.specs.Steps.{◌⨾◌};
 ghost use Rattle.vr_step.specs.Does.{Does, Caused};
-ghost use Rattle.vr_journal.specs.Ready.{IsReady, MayLoad};
+ghost use Rattle.vr_memory.specs.Ready.{IsReady, MayLoad};
 ghost use Rattle.vr_opening.specs.Finding.{IsOpeningOld};
 
 use crate::opening::recover_parts;
 use std::alloc::{AllocError, Global};
 use vr_disk::SectorDisk;
-use vr_journal::Replica;
+use vr_journal::{apply, load, save};
+use vr_memory::{LAST_VIEW, Replica};
 use vr_msg::Outbox;
 use vr_step::Halt;
 
@@ -31,7 +32,7 @@ fn save_opened<D: SectorDisk>(
     ensures cause { Caused (D.faults disk.old) (D.faults disk.new) result }
     ensures step { Does save replica.old replica.new (D.told disk.old) (D.told disk.new) out.old out.new result }
 {
-    match replica.save(alloc, disk, out) {
+    match save(replica, alloc, disk, out) {
         Ok(()) => Ok(()),
         Err(halt) => Err(halt),
     }
@@ -66,7 +67,7 @@ fn leave_view<D: SectorDisk>(
 fn tell_view(replica: &Replica, out: &mut Outbox) -> Result<(), AllocError>
     ensures { OnOk result (out.new ≡ out.old ++ (if nat_le replica.now.view last_view then send_to_all start_view_change replica.now else [])) }
 {
-    if replica.view() <= 4_294_967_294 {
+    if replica.view() <= LAST_VIEW {
         replica.tell_change(out)
     } else {
         Ok(())
@@ -110,8 +111,8 @@ fn go_on<D: SectorDisk>(
 {
     leave_view(replica, alloc, disk, out)?;
     replica.say_start(out)?;
-    replica.load(alloc, disk, out)?;
-    replica.apply(alloc, disk, out)?;
+    load(replica, alloc, disk, out)?;
+    apply(replica, alloc, disk, out)?;
     announce(replica, disk, out)
 }
 

@@ -6,14 +6,15 @@ ghost use Rattle.vr_rules.specs.Opening.{old_part, recover_old, recover_op, reco
 ghost use Rattle.vr_header.specs.declared.part.Part.TheVariants.{Nothing};
 ghost use Rattle.vr_rules.specs.Steps.{each};
 ghost use Rattle.vr_step.specs.Does.{Does, Caused};
-ghost use Rattle.vr_journal.specs.Ready.{HasWindow, MayLoad};
+ghost use Rattle.vr_memory.specs.Ready.{HasWindow, MayLoad};
 ghost use Rattle.vr_opening.specs.Finding.{IsOpening, IsOpeningOld, recover_listed, DoesAt, cloud_by};
 
 use crate::finding::{is_listed, recover_op};
 use std::alloc::Global;
 use vr_disk::{Buffer, SectorDisk};
 use vr_header::{Entry, Header, Part};
-use vr_journal::Replica;
+use vr_journal::find_entry;
+use vr_memory::Replica;
 use vr_msg::Outbox;
 use vr_step::Halt;
 
@@ -55,7 +56,7 @@ fn recover_old<D: SectorDisk>(
     ensures cause { Caused (D.faults disk.old) (D.faults disk.new) result }
     ensures step { Does (recover_old header.now) replica.old replica.new (D.told disk.old) (D.told disk.new) _out.old _out.new result }
 {
-    let found = replica.find_entry(alloc, disk, header)?;
+    let found = find_entry(replica, alloc, disk, header)?;
     let part = old_part(header, &found);
     replica.put_part(header.op, part);
     Ok(())
@@ -220,7 +221,7 @@ fn recover_ops<D: SectorDisk>(
 }
 
 // Whether something is stored at a place.
-#[tactic(auto, using(vr_journal::proofs::Lists::past_is, vr_journal::proofs::Lists::found_is))]
+#[tactic(auto, using(vr_window::proofs::Lists::past_is, vr_window::proofs::Lists::found_is))]
 fn is_stored(replica: &Replica, at: usize) -> bool
     ensures { result ≡ was_stored (slice_index_or replica.now.parts at Nothing) }
 {

@@ -3,7 +3,7 @@ ghost use Rattle.std.specs.Prelude.{◌≡◌, ◌≢◌, true, false, IfOk, IfE
 ghost use Rattle.vr_disk.specs.Counts.{CountsFault};
 ghost use Rattle.vr_opening.specs.declared.reopen.Refusal.TheVariants as Refusal;
 ghost use Rattle.vr_step.specs.Does.{Caused};
-ghost use Rattle.vr_journal.specs.Ready.{IsReady};
+ghost use Rattle.vr_memory.specs.Ready.{IsReady};
 ghost use Rattle.vr_opening.specs.Finding.{IsOpeningOld};
 ghost use Rattle.vr_rules.specs.Opening.{blank};
 ghost use Rattle.vr_opening.specs.Recovering.{after_mend, DoesTo, config_of, FindsValue, Recovered, RecoveredAny};
@@ -13,7 +13,7 @@ use crate::begin::open_mended;
 use std::alloc::Global;
 use vr_base::Config;
 use vr_disk::SectorDisk;
-use vr_journal::Replica;
+use vr_memory::Replica;
 use vr_msg::Outbox;
 use vr_step::Halt;
 use vr_super::{CopyVerdict, Super, SuperFault};

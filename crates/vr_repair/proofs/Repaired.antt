@@ -10,7 +10,7 @@ use Rattle.vr_grid.specs.declared.name.Name.{Name}
 use Rattle.vr_grid.proofs.Puts.{name_fits, put_law}
 use Rattle.vr_header.specs.declared.part.Part.TheVariants.{Here}
 use Rattle.vr_header.specs.Made.{Whole}
-use Rattle.vr_journal.specs.Ready.{IsReady, MayStore}
+use Rattle.vr_memory.specs.Ready.{IsReady, MayStore}
 use Rattle.vr_rings.specs.Calls.{again_calls, new_calls}
 use Rattle.vr_rings.specs.Slots.{IsWhole, slot_of, whole_in}
 use Rattle.vr_rings.proofs.Leaving.{again_leaves, new_leaves}

@@ -7,16 +7,16 @@ use Rattle.vr_grid.specs.declared.name.Name.{Name}
 use Rattle.vr_header.specs.declared.header.Header.{Header}
 use Rattle.vr_header.specs.Made.{Whole}
 use Rattle.vr_journal.specs.Effects.{puts}
-use Rattle.vr_journal.specs.Ready.{IsReady, MayLoad}
-use Rattle.vr_journal.proofs.Memory.{window_of}
-use Rattle.vr_journal.proofs.Repairs.{ready_dropped}
+use Rattle.vr_memory.specs.Ready.{IsReady, MayLoad}
+use Rattle.vr_memory.proofs.Memory.{window_of}
+use Rattle.vr_memory.proofs.Repairs.{ready_dropped}
 use Rattle.vr_msg.specs.declared.output.Output.{Output}
-use Rattle.vr_repair.specs.Reads.{Reads, loads_whole}
+use Rattle.vr_repair.specs.Repairs.{loads_whole}
 use Rattle.vr_rules.specs.Outputs.{get_block, get_prepare, prepare, prepare_ok, send_to_all, to_primary}
 use Rattle.vr_rules.specs.Replica.{Replica, is_primary, is_started}
 use Rattle.vr_rules.specs.Rules.{mend_found, not_worn, put_block, without}
 use Rattle.vr_rules.specs.Steps.{PutBlock, Word, change, says}
-use Rattle.vr_rules.specs.Words.{ask, ask_for, ask_peer, is_loaded, least_absent, load, prepare_again, resend}
+use Rattle.vr_rules.specs.Words.{ask, ask_for, ask_peer, is_loaded, least_absent, load, resend}
 use Rattle.vr_step.specs.declared.halt.Halt.{Halt}
 use Rattle.vr_step.specs.declared.halt.Halt.TheVariants.{DiskFault, NoMemory}
 use Rattle.vr_step.specs.Does.{Does, Performs}
@@ -42,15 +42,6 @@ module _ (e : Whole) (r : Replica) (d : Option Disk) where
   pub not_resent : (o : List Output) → (is_started r && nat_lt r.commit e.header.op) ≡ false → Does (resend e) r r d d o o (Ok tt)
   unfolding resend
   not_resent o t = does_naming _ r r d d o o (Ok tt) (does_by _ r r d d o o (Ok tt) (rw t (does_quiet r d o)))
-
-module _ (op : ℕ) (r q : Replica) (d d' : Option Disk) (found : Option Whole) (reads : Reads op r q d d' found) where
-  pub prepared_again : (e : Whole) (o o' : List Output) → found ≡ Some e → o' ≡ o ++ send_to_all (prepare e) q → Does (prepare_again op) r q d d' o o' (Ok tt)
-  unfolding prepare_again
-  prepared_again e o o' is said = reads.some (λ x. says (send_to_all (prepare x))) e q d' o o' (Ok tt) is (says_by (send_to_all (prepare e)) q d' o o' said)
-
-  pub not_prepared : (o : List Output) → found ≡ None → Does (prepare_again op) r q d d' o o (Ok tt)
-  unfolding prepare_again
-  not_prepared o is = reads.none (λ x. says (send_to_all (prepare x))) o is
 
 -- ---- what is asked for
 

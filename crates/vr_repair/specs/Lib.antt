@@ -1,4 +1,2 @@
 pub mod Laws
-pub mod Reads
 pub mod Repairs
-pub mod Waits

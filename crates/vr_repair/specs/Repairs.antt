@@ -7,7 +7,8 @@ use Rattle.vr_header.specs.Made.{Whole}
 use Rattle.vr_rules.specs.declared.rule.Rule.{Rule}
 use Rattle.vr_rules.specs.declared.rule.Rule.TheVariants.{Ignored, EntryGiven, EntryTaken, BlockGiven, BlockTaken, BlockMended}
 use Rattle.vr_rules.specs.Outputs.{give_prepare, send_to}
-use Rattle.vr_rules.specs.Steps.{Word, says}
+use Rattle.vr_rules.specs.Steps.{Word, by, says, when}
+use Rattle.vr_rules.specs.Words.{is_loaded, load}
 use Rattle.vr_repair.specs.declared.deciding.Repair.{Repair}
 use Rattle.vr_repair.specs.declared.deciding.Repair.TheVariants as repair
 
@@ -30,3 +31,7 @@ gives to e = says (λ r. send_to to (give_prepare e r) r)
 -- the item at a place, where it passes a test
 abbrev pub found_at : {X : Type 0} → (X → Bool) → List X → ℕ → Option X
 found_at p xs i = option_and_then (λ x. if p x then Some x else None) (slice_get xs i)
+
+-- the checkpoint is loaded where none of its blocks is missing
+unfoldable pub loads_whole : {F : Type 0} → Word F
+loads_whole = by (λ r. when (is_loaded r) load)

@@ -1,6 +1,6 @@
 //! Repair of blocks.
 ghost use Rattle.std.specs.Prelude.{◌≡◌, ◌<◌, ◌+◌, ◌^◌, OnOk, Some, find};
-ghost use Rattle.vr_journal.specs.Ready.{IsReady};
+ghost use Rattle.vr_memory.specs.Ready.{IsReady};
 ghost use Rattle.vr_repair.specs.Repairs.{is_block};
 ghost use Rattle.vr_rules.specs.Deciding.{is_wanted};
 ghost use Rattle.vr_rules.specs.Rules.{asked_block, block_at, give_read, mend_found, on_get_block, on_give_block, put_found};
@@ -14,7 +14,8 @@ use crate::wanting::decide_give_block;
 use std::alloc::Global;
 use vr_disk::SectorDisk;
 use vr_grid::Name;
-use vr_journal::Replica;
+use vr_journal::apply;
+use vr_memory::Replica;
 use vr_msg::{GetBlock, GiveBlock, Outbox};
 use vr_step::Halt;
 
@@ -83,11 +84,11 @@ fn take_block<D: SectorDisk>(
     ensures step { Does (put_found give.now.block (Some name)) replica.old replica.new (D.told disk.old) (D.told disk.new) out.old out.new result }
 {
     put_block(replica, alloc, disk, &name, give.block.as_slice(), out)?;
-    replica.apply(alloc, disk, out)
+    apply(replica, alloc, disk, out)
 }
 
 // Puts a block that had gone bad; the state has what was in it.
-#[tactic(auto, using(crate::proofs::Words::mended_then, crate::proofs::Words::mended_stopped, crate::proofs::Rules::is_put, vr_journal::proofs::Repairs::ready_unworn))]
+#[tactic(auto, using(crate::proofs::Words::mended_then, crate::proofs::Words::mended_stopped, crate::proofs::Rules::is_put, vr_memory::proofs::Repairs::ready_unworn))]
 fn mend_block<D: SectorDisk>(
     replica: &mut Replica,
     disk: &mut D,
@@ -101,7 +102,7 @@ fn mend_block<D: SectorDisk>(
     ensures cause { Caused (D.faults disk.old) (D.faults disk.new) result }
     ensures step { Does (mend_found give.now.block (Some name)) replica.old replica.new (D.told disk.old) (D.told disk.new) _out.old _out.new result }
 {
-    replica.put_block(disk, &name, give.block.as_slice())?;
+    vr_journal::put_block(replica, disk, &name, give.block.as_slice())?;
     replica.drop_worn(&name);
     Ok(())
 }

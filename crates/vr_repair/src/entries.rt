@@ -1,6 +1,6 @@
 //! Repair of entries.
-ghost use Rattle.std.specs.Prelude.{◌≡◌, ◌≤◌, ◌<◌, ◌+◌, ◌^◌, OnOk};
-ghost use Rattle.vr_journal.specs.Ready.{IsReady, MayStore};
+ghost use Rattle.std.specs.Prelude.{◌≤◌, ◌<◌, ◌+◌, ◌^◌, OnOk};
+ghost use Rattle.vr_memory.specs.Ready.{IsReady, MayStore};
 ghost use Rattle.vr_repair.specs.Repairs.{gives};
 ghost use Rattle.vr_rules.specs.Replica.{last_view};
 ghost use Rattle.vr_rules.specs.Rules.{on_get_prepare, on_give_prepare};
@@ -9,12 +9,12 @@ ghost use Rattle.vr_rules.specs.Words.{apply, resend, with_entry_at, write};
 ghost use Rattle.vr_step.specs.Does.{Caused, Does};
 
 use crate::deciding::{Repair, decide_get_prepare, decide_give_prepare};
-use crate::finding::read_entry;
 use crate::retelling::resend;
 use std::alloc::Global;
 use vr_disk::SectorDisk;
 use vr_header::Entry;
-use vr_journal::Replica;
+use vr_journal::{apply, read_entry, write};
+use vr_memory::Replica;
 use vr_msg::{GetPrepare, GivePrepare, Outbox};
 use vr_step::Halt;
 
@@ -76,9 +76,9 @@ fn take_entry<D: SectorDisk>(
     ensures cause { Caused (D.faults disk.old) (D.faults disk.new) result }
     ensures step { Does (write entry.now ⨾ resend entry.now ⨾ apply) replica.old replica.new (D.told disk.old) (D.told disk.new) out.old out.new result }
 {
-    replica.write(disk, entry, out)?;
+    write(replica, disk, entry, out)?;
     resend(replica, alloc, disk, entry, out)?;
-    replica.apply(alloc, disk, out)
+    apply(replica, alloc, disk, out)
 }
 
 /// An entry comes that was asked for: where it is above the checkpoint, and its op is lost or wanted with just this header, it is stored and

@@ -3,8 +3,8 @@ ghost use Rattle.std.specs.Prelude.{◌≡◌, None, OnOk, [], is_some, true};
 ghost use Rattle.vr_base.specs.Bytes.{name_of};
 ghost use Rattle.vr_grid.specs.Blocks.{named};
 ghost use Rattle.vr_header.specs.Made.{IsEntryHeader};
-ghost use Rattle.vr_journal.specs.Ready.{IsReady, MayLoad};
-ghost use Rattle.vr_repair.specs.Reads.{loads_whole};
+ghost use Rattle.vr_memory.specs.Ready.{IsReady, MayLoad};
+ghost use Rattle.vr_repair.specs.Repairs.{loads_whole};
 ghost use Rattle.vr_rules.specs.Outputs.{get_block, get_prepare};
 ghost use Rattle.vr_rules.specs.Rules.{put_block};
 ghost use Rattle.vr_rules.specs.Words.{ask, ask_for, ask_peer, least_absent};
@@ -14,12 +14,13 @@ use std::alloc::Global;
 use vr_disk::SectorDisk;
 use vr_grid::Name;
 use vr_header::Header;
-use vr_journal::Replica;
+use vr_journal::load;
+use vr_memory::Replica;
 use vr_msg::Outbox;
 use vr_step::Halt;
 
 // Asks a peer for a block.
-#[tactic(auto, using(vr_step::proofs::Stepping::steps, vr_journal::proofs::Repairs::ready_turned, vr_journal::proofs::Repairs::ready_size), unfolding(vr_rules::specs::Words::ask_peer))]
+#[tactic(auto, using(vr_step::proofs::Stepping::steps, vr_memory::proofs::Repairs::ready_turned, vr_memory::proofs::Repairs::ready_size), unfolding(vr_rules::specs::Words::ask_peer))]
 fn ask_block<D: SectorDisk>(
     replica: &mut Replica,
     _disk: &mut D,
@@ -37,7 +38,7 @@ fn ask_block<D: SectorDisk>(
 }
 
 // Asks a peer for an entry.
-#[tactic(auto, using(vr_step::proofs::Stepping::steps, vr_journal::proofs::Repairs::ready_turned, vr_journal::proofs::Repairs::ready_size), unfolding(vr_rules::specs::Words::ask_peer))]
+#[tactic(auto, using(vr_step::proofs::Stepping::steps, vr_memory::proofs::Repairs::ready_turned, vr_memory::proofs::Repairs::ready_size), unfolding(vr_rules::specs::Words::ask_peer))]
 fn ask_entry<D: SectorDisk>(
     replica: &mut Replica,
     _disk: &mut D,
@@ -74,7 +75,7 @@ fn ask_worn<D: SectorDisk>(
 }
 
 // Asks a peer for the least entry that is absent, or else for a block that has gone bad.
-#[tactic(auto, using(crate::proofs::Words::asked_entry, crate::proofs::Words::asked_none, crate::proofs::Words::checkpoint_fits, vr_journal::proofs::Memory::next_fits, vr_journal::proofs::Repairs::ready_absent))]
+#[tactic(auto, using(crate::proofs::Words::asked_entry, crate::proofs::Words::asked_none, crate::proofs::Words::checkpoint_fits, vr_memory::proofs::Memory::next_fits, vr_memory::proofs::Repairs::ready_absent))]
 fn ask_absent<D: SectorDisk>(
     replica: &mut Replica,
     disk: &mut D,
@@ -122,7 +123,7 @@ fn load_whole<D: SectorDisk>(
     ensures step { Does loads_whole replica.old replica.new (D.told disk.old) (D.told disk.new) out.old out.new result }
 {
     if replica.is_loaded() {
-        replica.load(alloc, disk, out)
+        load(replica, alloc, disk, out)
     } else {
         Ok(())
     }
@@ -146,7 +147,7 @@ pub fn put_block<D: SectorDisk>(
     ensures cause { Caused (D.faults disk.old) (D.faults disk.new) result }
     ensures step { Does (put_block name.now block.now) replica.old replica.new (D.told disk.old) (D.told disk.new) out.old out.new result }
 {
-    replica.put_block(disk, name, block)?;
+    vr_journal::put_block(replica, disk, name, block)?;
     replica.drop_missing(name);
     load_whole(replica, alloc, disk, out)
 }

@@ -1,17 +1,16 @@
 //! Entries that are told of again.
 ghost use Rattle.std.specs.Prelude.{◌≡◌, ◌≤◌, ◌++◌, ◌&&◌, nat_lt, OnOk, if◌then◌else◌};
 ghost use Rattle.vr_base.specs.Bytes.{name_of};
-ghost use Rattle.vr_journal.specs.Ready.{IsReady};
+ghost use Rattle.vr_memory.specs.Ready.{IsReady};
 ghost use Rattle.vr_rules.specs.Outputs.{prepare, prepare_ok, send_to_all, to_primary};
 ghost use Rattle.vr_rules.specs.Replica.{is_primary, is_started, last_view};
-ghost use Rattle.vr_rules.specs.Words.{prepare_again, resend};
+ghost use Rattle.vr_rules.specs.Words.{resend};
 ghost use Rattle.vr_step.specs.Does.{Caused, Does};
 
-use crate::finding::read_entry;
 use std::alloc::{AllocError, Global};
 use vr_disk::SectorDisk;
 use vr_header::Entry;
-use vr_journal::Replica;
+use vr_memory::Replica;
 use vr_msg::Outbox;
 use vr_step::Halt;
 
@@ -22,7 +21,7 @@ fn is_open(replica: &Replica, entry: &Entry) -> bool
 }
 
 // The primary prepares the entry to all, a backup tells the primary that it is stored.
-#[tactic(auto, using(vr_journal::proofs::Memory::some_member))]
+#[tactic(auto, using(vr_memory::proofs::Memory::some_member))]
 fn tell(replica: &Replica, alloc: Global, entry: &Entry, out: &mut Outbox) -> Result<(), AllocError>
     requires ready { IsReady replica.now }
     requires view { replica.now.view ≤ last_view }
@@ -54,30 +53,6 @@ pub fn resend<D: SectorDisk>(
 {
     if is_open(replica, entry) {
         tell(replica, alloc, entry, out)?;
-    }
-    Ok(())
-}
-
-/// Reads the entry of an op where it is stored, and prepares it to all others.
-#[tactic(auto, using(crate::proofs::Words::prepared_again, crate::proofs::Words::not_prepared, vr_step::proofs::Stepping::wants))]
-pub fn prepare_again<D: SectorDisk>(
-    replica: &mut Replica,
-    alloc: Global,
-    disk: &mut D,
-    op: u64,
-    out: &mut Outbox,
-) -> Result<(), Halt>
-    requires ready { IsReady replica.old }
-    requires view { replica.old.view ≤ last_view }
-    ensures ready { OnOk result (IsReady replica.new) }
-    ensures view { OnOk result (replica.new.view ≡ replica.old.view) }
-    ensures saved { OnOk result (replica.new.saved ≡ replica.old.saved) }
-    ensures cause { Caused (D.faults disk.old) (D.faults disk.new) result }
-    ensures step { Does (prepare_again op) replica.old replica.new (D.told disk.old) (D.told disk.new) out.old out.new result }
-{
-    match read_entry(replica, alloc, disk, op)? {
-        Some(entry) => replica.send_prepare(alloc, &entry, out)?,
-        None => {}
     }
     Ok(())
 }

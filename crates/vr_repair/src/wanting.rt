@@ -7,7 +7,7 @@ ghost use Rattle.vr_rules.specs.Deciding.{first_of, give_block_table, is_wanted}
 
 use crate::deciding::Repair;
 use vr_grid::{Name, NameList, is_block_of};
-use vr_journal::Replica;
+use vr_memory::Replica;
 use vr_msg::GiveBlock;
 
 // Whether the bytes are the missing block of this name, which belongs at this address. Only where the address is right they are hashed.

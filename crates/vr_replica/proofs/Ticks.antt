@@ -18,7 +18,7 @@ use Rattle.vr_rules.proofs.Storing.{head_number}
 use Rattle.vr_step.specs.declared.halt.Halt.{Halt}
 use Rattle.vr_step.specs.Does.{Does, LeftBy}
 use Rattle.vr_step.proofs.Stepping.{does_by, does_quiet, does_change_then}
-use Rattle.vr_journal.specs.Ready.{IsReady}
+use Rattle.vr_memory.specs.Ready.{IsReady}
 use Rattle.vr_replica.specs.Ticks.{tells_first, tells_all}
 
 -- ---- bounds

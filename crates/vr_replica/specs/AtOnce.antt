@@ -5,7 +5,7 @@ use Rattle.vr_msg.specs.declared.event.Event.{Event}
 use Rattle.vr_msg.specs.declared.event.Event.TheVariants as event
 use Rattle.vr_msg.specs.declared.frame.Frame.{Frame}
 use Rattle.vr_msg.specs.declared.frame.Frame.TheVariants as frame
-use Rattle.vr_repair.specs.Waits.{Waits, passes}
+use Rattle.vr_journal.specs.Waits.{Waits, passes}
 use Rattle.vr_rules.specs.Deciding.{first_of, prepare_ok_table, prepare_table, start_view_change_table}
 use Rattle.vr_rules.specs.Replica.{Replica}
 use Rattle.vr_rules.specs.Rules.{acknowledged}

@@ -1,7 +1,7 @@
 //! Entries are read.
 ghost use Rattle.std.specs.Prelude.{◌≡◌, IfOk, IfSome, OnErr, OnOk};
 ghost use Rattle.vr_header.specs.declared.part.Part.TheVariants.{Here};
-ghost use Rattle.vr_journal.specs.Ready.{IsReady};
+ghost use Rattle.vr_memory.specs.Ready.{IsReady};
 ghost use Rattle.vr_rules.specs.Replica.{part_at};
 ghost use Rattle.vr_replica.specs.Entries.{after_reading, entry_by};
 
@@ -9,10 +9,11 @@ use std::alloc::Global;
 use vr_base::NoMemory;
 use vr_disk::SectorDisk;
 use vr_header::{Entry, Header, Part};
-use vr_journal::Replica;
+use vr_journal::find_entry;
+use vr_memory::Replica;
 
 // Reads the entry of this header, which is stored; one that can't be read is lost.
-#[tactic(auto, using(crate::proofs::EntryReadings::found, vr_journal::proofs::Memory::readies))]
+#[tactic(auto, using(crate::proofs::EntryReadings::found, vr_memory::proofs::Memory::readies))]
 fn read_stored<D: SectorDisk>(
     replica: &mut Replica,
     alloc: Global,
@@ -28,7 +29,7 @@ fn read_stored<D: SectorDisk>(
     ensures left { IfOk result (λ found. replica.new ≡ after_reading (Here header.now) found replica.old) }
     ensures kept { OnErr result (replica.new ≡ replica.old) }
 {
-    match replica.find_entry(alloc, disk, header) {
+    match find_entry(replica, alloc, disk, header) {
         Ok(Some(entry)) => Ok(Some(entry)),
         Ok(None) => {
             replica.lose(header);
@@ -40,7 +41,7 @@ fn read_stored<D: SectorDisk>(
 
 /// Reads the entry of an op where it is stored; one that can't be read is lost. `None`: there is none to be had. It changes nothing on
 /// the disk, and an `Err` changes nothing.
-#[tactic(auto, using(vr_journal::proofs::Memory::here_op))]
+#[tactic(auto, using(vr_memory::proofs::Memory::here_op))]
 pub fn read_entry<D: SectorDisk>(
     replica: &mut Replica,
     alloc: Global,

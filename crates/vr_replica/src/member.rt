@@ -8,7 +8,7 @@ ghost use Rattle.vr_opening.specs.Recovering.{Recovered, RecoveredAny};
 ghost use Rattle.vr_rules.specs.Replica.{header_at, part_at};
 ghost use Rattle.vr_rules.specs.Rules.{react};
 ghost use Rattle.vr_step.specs.Does.{Caused, Does};
-ghost use Rattle.vr_repair.specs.Waits.{EndsAtOnce};
+ghost use Rattle.vr_journal.specs.Waits.{EndsAtOnce};
 ghost use Rattle.vr_replica.specs.AtOnce.{IsAtOnce};
 ghost use Rattle.vr_replica.specs.Entries.{after_reading, entry_by};
 ghost use Rattle.vr_replica.specs.Running.{memory_of};
@@ -34,7 +34,7 @@ pub struct Replica {
 
 impl Model for Replica {
     ghost use Rattle.std.specs.Prelude.{◌≡◌, true};
-    ghost use Rattle.vr_journal.specs.Ready.{IsReady};
+    ghost use Rattle.vr_memory.specs.Ready.{IsReady};
     ghost use Rattle.vr_replica.specs.Running.{Running};
 
     ghost Value = { Running };

@@ -1,7 +1,7 @@
 //! The step of a replica: the rule of each event.
 ghost use Rattle.std.specs.Prelude.{◌≡◌, ◌<◌, ◌≤◌, ◌+◌, ◌^◌, OnOk};
-ghost use Rattle.vr_journal.specs.Ready.{IsReady};
-ghost use Rattle.vr_repair.specs.Waits.{EndsAtOnce};
+ghost use Rattle.vr_memory.specs.Ready.{IsReady};
+ghost use Rattle.vr_journal.specs.Waits.{EndsAtOnce};
 ghost use Rattle.vr_replica.specs.AtOnce.{IsAtOnce, IsLeft};
 ghost use Rattle.vr_rules.specs.Replica.{is_frozen, last_view};
 ghost use Rattle.vr_rules.specs.Rules.{on_event, on_message, react};
@@ -10,7 +10,7 @@ ghost use Rattle.vr_step.specs.Does.{Caused, Does};
 use crate::ticking::handle_tick;
 use std::alloc::Global;
 use vr_disk::SectorDisk;
-use vr_journal::Replica;
+use vr_memory::{LAST_VIEW, Replica};
 use vr_msg::{Event, Frame, Message, Outbox};
 use vr_normal::{handle_commit, handle_prepare, handle_prepare_ok, handle_request};
 use vr_repair::{handle_get_block, handle_get_prepare, handle_give_block, handle_give_prepare};
@@ -85,7 +85,7 @@ fn handle<D: SectorDisk>(
 fn is_frozen(replica: &Replica) -> bool
     ensures { result ≡ is_frozen replica.now }
 {
-    4_294_967_294 < replica.view() || replica.is_spent()
+    LAST_VIEW < replica.view() || replica.is_spent()
 }
 
 /// The step of an event; where views or sequence numbers are at their end, every event is ignored.

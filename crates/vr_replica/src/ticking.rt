@@ -1,6 +1,6 @@
 //! Time goes by.
 ghost use Rattle.std.specs.Prelude.{◌≡◌, ◌<◌, ◌≤◌, ◌+◌, ◌^◌, OnOk, nat_le, nat_lt};
-ghost use Rattle.vr_journal.specs.Ready.{IsReady};
+ghost use Rattle.vr_memory.specs.Ready.{IsReady};
 ghost use Rattle.vr_rules.specs.Deciding.{first_of, tick_table};
 ghost use Rattle.vr_rules.specs.Replica.{head, last_view};
 ghost use Rattle.vr_rules.specs.Rules.{backup_ticks, changing_ticks, on_tick, primary_ticks};
@@ -12,11 +12,13 @@ ghost use Rattle.vr_replica.specs.declared.ticking.TickRule.TheVariants as TickR
 
 use std::alloc::Global;
 use vr_disk::SectorDisk;
-use vr_journal::Replica;
+use vr_journal::{enter, prepare_again};
+use vr_memory::Replica;
 use vr_msg::Outbox;
-use vr_repair::{ask, prepare_again};
+use vr_repair::ask;
 use vr_step::Halt;
 use vr_view::speak;
+use vr_visit::visit;
 
 /// What a tick finds the replica to be.
 #[derive(Clone, Copy, Debug, PartialEq, Eq)]
@@ -30,7 +32,7 @@ pub enum TickRule {
 }
 
 /// Which rule applies to a tick.
-#[tactic(auto, using(vr_journal::proofs::Memory::some_member, crate::proofs::Ticks::unstarted), unfolding(vr_rules::specs::Deciding::first_of))]
+#[tactic(auto, using(vr_memory::proofs::Memory::some_member, crate::proofs::Ticks::unstarted), unfolding(vr_rules::specs::Deciding::first_of))]
 pub fn decide_tick(replica: &Replica) -> TickRule
     requires { IsReady replica.now }
     ensures rule { first_of (tick_table replica.now) ≡ tick_rule result }
@@ -57,14 +59,14 @@ fn look_and_ask<D: SectorDisk>(
     ensures cause { Caused (D.faults disk.old) (D.faults disk.new) result }
     ensures step { Does (visit ⨾ ask) replica.old replica.new (D.told disk.old) (D.told disk.new) out.old out.new result }
 {
-    replica.visit(disk, out)?;
+    visit(replica, disk, out)?;
     ask(replica, disk, out)
 }
 
 // ---- at the primary
 
 // Whether an op above the commit number is known.
-#[tactic(auto, using(vr_journal::proofs::Memory::window_of))]
+#[tactic(auto, using(vr_memory::proofs::Memory::window_of))]
 fn has_open(replica: &Replica) -> bool
     requires { IsReady replica.now }
     ensures { result ≡ nat_lt replica.now.commit (head replica.now) }
@@ -138,7 +140,7 @@ fn enter_next<D: SectorDisk>(
     ensures step { Does (enter (replica.old.view + 1)) replica.old replica.new (D.told disk.old) (D.told disk.new) out.old out.new result }
 {
     let view = replica.view() + 1;
-    replica.enter(alloc, disk, view, out)
+    enter(replica, alloc, disk, view, out)
 }
 
 // A backup that has heard nothing for five ticks enters the next view; before, it looks at a place of its disk, and asks
@@ -157,6 +159,7 @@ fn tick_backup<D: SectorDisk>(
     ensures cause { Caused (D.faults disk.old) (D.faults disk.new) result }
     ensures step { Does backup_ticks replica.old replica.new (D.told disk.old) (D.told disk.new) out.old out.new result }
 {
+    // The tick that has come isn't counted yet: with it there are five.
     if is_idle_for(replica, 4) {
         enter_next(replica, alloc, disk, out)
     } else {
@@ -202,6 +205,7 @@ fn tick_changing<D: SectorDisk>(
     ensures cause { Caused (D.faults disk.old) (D.faults disk.new) result }
     ensures step { Does changing_ticks replica.old replica.new (D.told disk.old) (D.told disk.new) out.old out.new result }
 {
+    // The tick that has come isn't counted yet: with it there are ten.
     if is_idle_for(replica, 9) {
         enter_next(replica, alloc, disk, out)
     } else {

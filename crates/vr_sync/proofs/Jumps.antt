@@ -16,7 +16,7 @@ use Rattle.vr_rules.specs.Replica.{Replica, forgetting, last_view}
 use Rattle.vr_rules.specs.Rules.{acknowledge_stored, obey_sync_view, on_sync_view}
 use Rattle.vr_rules.specs.Sound.{IsNameBytes}
 use Rattle.vr_rules.specs.Steps.{◌⨾◌}
-use Rattle.vr_rules.specs.Words.{Log, apply, jump, jumped, sync_log}
+use Rattle.vr_rules.specs.Words.{apply, jump, jumped}
 use Rattle.vr_rules.specs.Given.{IsSyncFor}
 use Rattle.vr_rules.proofs.Jumping.{kept_jumped, may_jump_is}
 use Rattle.vr_rules.proofs.Ruling.{by_rows, group_of_primary}
@@ -25,14 +25,13 @@ use Rattle.vr_rules.proofs.Trying.{from_at}
 use Rattle.vr_step.specs.declared.halt.Halt.{Halt}
 use Rattle.vr_step.specs.Does.{Does}
 use Rattle.vr_step.proofs.Stepping.{does_by, does_naming, does_quiet}
-use Rattle.vr_journal.specs.Jumps as moving
-use Rattle.vr_journal.specs.Ready.{IsReady}
+use Rattle.vr_memory.specs.Jumps as moving
+use Rattle.vr_memory.specs.Ready.{IsReady}
 use Rattle.vr_sync.specs.declared.jumping.JumpRule.{JumpRule}
 use Rattle.vr_sync.specs.declared.jumping.JumpRule.TheVariants as decided
 use Rattle.vr_sync.specs.Jumps.{IsSyncing, MayJump}
 use Rattle.vr_sync.specs.Named.{jump_rule}
-use Rattle.vr_view.specs.Telling.{Tells, each_to}
-use Rattle.vr_view.proofs.Starts.{told}
+use Rattle.vr_journal.specs.Telling.{each_to}
 
 -- ---- the log that a sync_view tells of
 
@@ -131,11 +130,6 @@ view_low v r m = m.view
 pub head_small : (v : SyncView) (r : Replica) → MayJump v r → v.head < 2 ^ 63
 unfolding MayJump
 head_small v r m = let head = m.log.head in omega arith
-
--- what is stored of the log is acknowledged
-pub told_sync_log : (v : SyncView) (l : Log) (r : Replica) (d : Option Disk) (o o' : List Output) → l ≡ sync_log v → Tells (each_to (acknowledge_stored name_of) l.head) r o o'
-    → Does (each_to (acknowledge_stored name_of) v.head) r r d d o o' (Ok tt)
-told_sync_log v l r d o o' e t = told (each_to (acknowledge_stored name_of) v.head) r d o o' (subst (λ (x : Log). Tells (each_to (acknowledge_stored name_of) x.head) r o o') e t)
 
 -- ---- the rules
 

@@ -1,6 +1,6 @@
 //! Checkpoints given: get_syncs.
 ghost use Rattle.std.specs.Prelude.{◌≡◌, ◌≤◌, true};
-ghost use Rattle.vr_journal.specs.Ready.{IsReady};
+ghost use Rattle.vr_memory.specs.Ready.{IsReady};
 ghost use Rattle.vr_rules.specs.Deciding.{first_of, get_sync_table, reaches_down};
 ghost use Rattle.vr_rules.specs.Replica.{last_view};
 ghost use Rattle.vr_rules.specs.Rules.{on_get_sync};
@@ -10,7 +10,7 @@ ghost use Rattle.vr_sync.specs.declared.giving.SyncRule.{SyncRule};
 
 use std::alloc::Global;
 use vr_disk::SectorDisk;
-use vr_journal::Replica;
+use vr_memory::Replica;
 use vr_msg::{GetSync, Outbox};
 use vr_step::Halt;
 
@@ -25,7 +25,7 @@ pub enum SyncRule {
 }
 
 /// Which rule applies to a get_sync.
-#[tactic(auto, using(vr_journal::proofs::Memory::some_member), unfolding(vr_rules::specs::Deciding::first_of))]
+#[tactic(auto, using(vr_memory::proofs::Memory::some_member), unfolding(vr_rules::specs::Deciding::first_of))]
 pub fn decide_get_sync(replica: &Replica, get: &GetSync) -> SyncRule
     requires { IsReady replica.now }
     ensures rule { first_of (get_sync_table get.now replica.now) ≡ sync_rule result }

@@ -18,7 +18,7 @@ use Rattle.vr_rules.proofs.SavesWell.{savable_alike}
 use Rattle.vr_step.specs.declared.halt.Halt.{Halt}
 use Rattle.vr_step.specs.Does.{Does}
 use Rattle.vr_step.proofs.Stepping.{does_by, does_quiet, says_by}
-use Rattle.vr_journal.specs.Ready.{IsReady}
+use Rattle.vr_memory.specs.Ready.{IsReady}
 use Rattle.vr_view.specs.declared.changing.ChangeRule.{ChangeRule}
 use Rattle.vr_view.specs.declared.changing.ChangeRule.TheVariants as rule
 use Rattle.vr_view.specs.Named.{change_rule}

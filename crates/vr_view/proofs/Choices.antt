@@ -25,10 +25,10 @@ use Rattle.vr_base.specs.Bytes.{name_of}
 use Rattle.vr_step.specs.declared.halt.Halt.{Halt}
 use Rattle.vr_step.specs.Does.{Does}
 use Rattle.vr_step.proofs.Stepping.{does_by, does_quiet, says_by}
-use Rattle.vr_journal.specs.Choosing.{chosen_line}
-use Rattle.vr_journal.specs.Ready.{IsReady}
+use Rattle.vr_memory.specs.Choosing.{chosen_line}
+use Rattle.vr_memory.specs.Ready.{IsReady}
 use Rattle.vr_view.specs.Logs.{IsTaught, MayTake}
-use Rattle.vr_view.specs.Telling.{each_to}
+use Rattle.vr_journal.specs.Telling.{each_to}
 
 pub some_stated : (r : Replica) (ss : List Statement) → IsReady r → ss ≡ stated r → All IsSomeStatement ss
 unfolding IsReady

@@ -1,5 +1,4 @@
 pub mod Takes
-pub mod Goes
 pub mod Choices
 pub mod Changes
 pub mod States

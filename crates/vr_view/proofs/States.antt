@@ -21,12 +21,12 @@ use Rattle.vr_rules.proofs.SavesWell.{savable_alike}
 use Rattle.vr_step.specs.declared.halt.Halt.{Halt}
 use Rattle.vr_step.specs.Does.{Does}
 use Rattle.vr_step.proofs.Stepping.{does_by, does_quiet, says_by}
-use Rattle.vr_journal.specs.Ready.{IsReady}
+use Rattle.vr_memory.specs.Ready.{IsReady}
 use Rattle.vr_view.specs.declared.stating.StateRule.{StateRule}
 use Rattle.vr_view.specs.declared.stating.StateRule.TheVariants as rule
 use Rattle.vr_view.specs.Messages.{IsStating}
 use Rattle.vr_view.specs.Named.{state_rule}
-use Rattle.vr_view.specs.Telling.{entering}
+use Rattle.vr_view.specs.Entering.{entering}
 
 -- ---- a later view is entered
 

@@ -1,14 +1,13 @@
 -- Readiness where a log is taken over.
-use Rattle.std.proofs.Common.{arith, ℕ, ◌≡◌, ◌≤◌, refl, sym, Bool, true}
-use Rattle.std.proofs.Common.{◌∙◌, Result, Ok, Err}
-use Rattle.std.specs.Prelude.{OnOk}
+use Rattle.std.proofs.Common.{arith, ◌≡◌, ◌≤◌, refl, sym, Bool, true}
+use Rattle.std.proofs.Common.{◌∙◌}
 use Rattle.vr_base.specs.Bytes.{name_of}
 use Rattle.vr_msg.specs.Spelling.{AreHeaders}
 use Rattle.vr_rules.specs.Replica.{Replica, forgetting, last_view}
 use Rattle.vr_rules.specs.Words.{Log, may_take, taken}
 use Rattle.vr_rules.proofs.SavesParts.{savable_taken}
 use Rattle.vr_rules.proofs.Taking.{may_take_is, kept_taken}
-use Rattle.vr_journal.specs.Ready.{IsReady}
+use Rattle.vr_memory.specs.Ready.{IsReady}
 use Rattle.vr_view.specs.Logs.{IsTaught, MayTake}
 
 idle_taken : (l : Log) (r : Replica) → (taken l r).idle ≤ 9
@@ -29,11 +28,6 @@ ready_taken l r q e m h =
 pub view_taken : (l : Log) (r q : Replica) → q ≡ taken l r → q.view ≡ l.view
 unfolding taken forgetting
 view_taken l r q e = rw e refl
-
--- what stays as it was, where all went well
-pub stays_ok : {T E : Type 0} (result : Result T E) (x y z : ℕ) → OnOk result (x ≡ y) → y ≡ z → OnOk result (x ≡ z)
-stays_ok (Ok t) x y z a b = a ∙ b
-stays_ok (Err e) x y z a b = tt
 
 pub may_take_now : (l : Log) (r : Replica) (b : Bool) → IsTaught l r → b ≡ may_take name_of l r → (b ≡ true → AreHeaders l.headers) → b ≡ true → MayTake l r
 unfolding IsTaught MayTake

@@ -1,5 +1,4 @@
 pub mod Logs
 pub mod Named
-pub mod Telling
+pub mod Entering
 pub mod Messages
-pub mod Acks

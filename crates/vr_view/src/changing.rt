@@ -1,7 +1,7 @@
 //! A replica has entered a view: start_view_changes.
 ghost use Rattle.std.specs.Prelude.{◌≡◌, ◌<◌, ◌≤◌, ◌+◌, ◌^◌, OnOk, true};
-ghost use Rattle.vr_journal.specs.Ready.{IsReady};
-ghost use Rattle.vr_repair.specs.Waits.{EndsAtOnce, passes};
+ghost use Rattle.vr_memory.specs.Ready.{IsReady};
+ghost use Rattle.vr_journal.specs.Waits.{EndsAtOnce, passes};
 ghost use Rattle.vr_rules.specs.Deciding.{first_of, start_view_change_table};
 ghost use Rattle.vr_rules.specs.Replica.{last_view};
 ghost use Rattle.vr_rules.specs.Rules.{heard_of, on_start_view_change};
@@ -13,7 +13,8 @@ ghost use Rattle.vr_view.specs.Named.{change_rule};
 use crate::trying::speak;
 use std::alloc::Global;
 use vr_disk::SectorDisk;
-use vr_journal::Replica;
+use vr_journal::enter;
+use vr_memory::Replica;
 use vr_msg::{Outbox, StartViewChange};
 use vr_step::Halt;
 
@@ -70,7 +71,7 @@ fn enter_later<D: SectorDisk>(
     ensures cause { Caused (D.faults disk.old) (D.faults disk.new) result }
     ensures step { Does (enter message.now.view ⨾ change (heard_of message.now.replica) ⨾ speak) replica.old replica.new (D.told disk.old) (D.told disk.new) out.old out.new result }
 {
-    replica.enter(alloc, disk, message.view, out)?;
+    enter(replica, alloc, disk, message.view, out)?;
     replica.hear(message.replica);
     speak(replica, alloc, disk, out)
 }
@@ -99,7 +100,7 @@ fn hear_one<D: SectorDisk>(
 /// A replica has entered a view. A later one is entered too, and it counts there; in a view that isn't
 /// started it counts, and where enough have entered it the replica speaks; the primary of a view that is
 /// started tells it of the log.
-#[tactic(auto, using(crate::proofs::Changes::changes, crate::proofs::Changes::means, vr_journal::proofs::Memory::some_member, vr_step::proofs::Stepping::wants))]
+#[tactic(auto, using(crate::proofs::Changes::changes, crate::proofs::Changes::means, vr_memory::proofs::Memory::some_member, vr_step::proofs::Stepping::wants))]
 pub fn handle_start_view_change<D: SectorDisk>(
     replica: &mut Replica,
     alloc: Global,

@@ -11,8 +11,7 @@ mod trying;
 
 pub use changing::{ChangeRule, decide_start_view_change, handle_start_view_change};
 pub use starting::{
-    StartRule, ViewRule, acknowledge_all, decide_get_view, decide_start_view, handle_get_view,
-    handle_start_view,
+    StartRule, ViewRule, decide_get_view, decide_start_view, handle_get_view, handle_start_view,
 };
 pub use stating::{StateRule, decide_do_view_change, handle_do_view_change};
 pub use taking::take;

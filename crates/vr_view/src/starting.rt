@@ -1,7 +1,7 @@
 //! The log of a view that is started: start_views, and get_views that ask for one.
-ghost use Rattle.std.specs.Prelude.{◌≡◌, ◌<◌, ◌≤◌, ◌+◌, ◌^◌, ◌++◌, ◌||◌, OnOk, nat_lt};
+ghost use Rattle.std.specs.Prelude.{◌≡◌, ◌<◌, ◌≤◌, ◌+◌, ◌^◌, ◌||◌, OnOk, nat_lt};
 ghost use Rattle.vr_base.specs.Bytes.{name_of};
-ghost use Rattle.vr_journal.specs.Ready.{HasWindow, IsReady};
+ghost use Rattle.vr_memory.specs.Ready.{HasWindow, IsReady};
 ghost use Rattle.vr_msg.specs.Spelling.{AreHeaders};
 ghost use Rattle.vr_rules.specs.Deciding.{first_of, get_view_table, log_of, start_view_table};
 ghost use Rattle.vr_rules.specs.Replica.{last_view, window_end};
@@ -12,15 +12,14 @@ ghost use Rattle.vr_step.specs.Does.{Caused, Does};
 ghost use Rattle.vr_view.specs.Logs.{MayTake};
 ghost use Rattle.vr_view.specs.Messages.{IsStarting};
 ghost use Rattle.vr_view.specs.Named.{start_rule, view_rule};
-ghost use Rattle.vr_view.specs.Telling.{Tells, each_to};
+ghost use Rattle.vr_journal.specs.Telling.{each_to};
 ghost use Rattle.vr_view.specs.declared.starting.StartRule.{StartRule};
-ghost use Rattle.vr_view.specs.Acks.{stored_ack};
 
 use crate::taking::{head_of, take};
-use std::alloc::{AllocError, Global};
+use std::alloc::Global;
 use vr_disk::SectorDisk;
-use vr_header::Part;
-use vr_journal::{Log, Replica, primary};
+use vr_journal::{acknowledge_all, apply};
+use vr_memory::{Log, Replica, primary};
 use vr_msg::{GetView, Outbox, StartView};
 use vr_step::Halt;
 
@@ -66,7 +65,7 @@ fn is_out_of_reach(replica: &Replica, log: &Log) -> bool
 }
 
 /// Which rule applies to a start_view; one that is taken has headers with the values of the program.
-#[tactic(auto, using(vr_journal::proofs::Memory::window_of, vr_journal::proofs::Memory::some_member), unfolding(vr_rules::specs::Deciding::first_of))]
+#[tactic(auto, using(vr_memory::proofs::Memory::window_of, vr_memory::proofs::Memory::some_member), unfolding(vr_rules::specs::Deciding::first_of))]
 pub fn decide_start_view(replica: &Replica, start: &StartView) -> StartRule
     requires { IsReady replica.now }
     ensures rule { first_of (start_view_table name_of start.now replica.now) ≡ start_rule result }
@@ -102,37 +101,8 @@ pub fn decide_get_view(replica: &Replica, get: &GetView) -> ViewRule
     }
 }
 
-// Acknowledges the entry of an op if it is stored.
-#[tactic(auto, using(crate::proofs::Starts::here_entry))]
-fn acknowledge_stored(replica: &Replica, op: u64, out: &mut Outbox) -> Result<(), AllocError>
-    requires ready { IsReady replica.now }
-    requires view { replica.now.view ≤ last_view }
-    ensures { OnOk result (out.new ≡ out.old ++ stored_ack op replica.now) }
-{
-    match replica.part_at(op) {
-        Part::Here(header) => replica.acknowledge(&header, out),
-        _ => Ok(()),
-    }
-}
-
-/// Acknowledges each entry that is stored, from the op above its commit number on to the log's head.
-#[tactic(auto, using(crate::proofs::Starts::acks))]
-pub fn acknowledge_all(replica: &Replica, log: &Log, out: &mut Outbox) -> Result<(), AllocError>
-    requires ready { IsReady replica.now }
-    requires view { replica.now.view ≤ last_view }
-    requires number { log.now.head < 2 ^ 63 }
-    ensures { OnOk result (Tells (each_to (acknowledge_stored name_of) log.now.head) replica.now out.old out.new) }
-{
-    let commit = replica.commit();
-    let head = head_of(log);
-    for i in 0..head.saturating_sub(commit) {
-        acknowledge_stored(replica, commit + 1 + i, out)?;
-    }
-    Ok(())
-}
-
 // Takes over a log that may be taken, acknowledges what is stored of it, and applies.
-#[tactic(auto, using(vr_step::proofs::Stepping::steps, crate::proofs::Takes::taken_low, crate::proofs::Choices::head_small, crate::proofs::Starts::told))]
+#[tactic(auto, using(vr_step::proofs::Stepping::steps, crate::proofs::Takes::taken_low, crate::proofs::Choices::head_small, vr_journal::proofs::Acks::told_to))]
 fn follow<D: SectorDisk>(
     replica: &mut Replica,
     alloc: Global,
@@ -148,8 +118,8 @@ fn follow<D: SectorDisk>(
     ensures step { Does (take log.now ⨾ each_to (acknowledge_stored name_of) log.now.head ⨾ apply) replica.old replica.new (D.told disk.old) (D.told disk.new) out.old out.new result }
 {
     take(replica, alloc, disk, log, out)?;
-    acknowledge_all(replica, log, out)?;
-    replica.apply(alloc, disk, out)
+    acknowledge_all(replica, head_of(log), out)?;
+    apply(replica, alloc, disk, out)
 }
 
 /// The primary of a view tells of its log. Where it is newer than the replica's, fits and is a chain, it
@@ -181,7 +151,7 @@ pub fn handle_start_view<D: SectorDisk>(
 }
 
 /// A replica asks for the log of a view: where this one leads that view or a later one, it is told.
-#[tactic(auto, using(crate::proofs::Starts::gives, vr_journal::proofs::Memory::some_member, vr_step::proofs::Stepping::wants))]
+#[tactic(auto, using(crate::proofs::Starts::gives, vr_memory::proofs::Memory::some_member, vr_step::proofs::Stepping::wants))]
 pub fn handle_get_view<D: SectorDisk>(
     replica: &Replica,
     alloc: Global,

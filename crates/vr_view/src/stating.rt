@@ -1,7 +1,6 @@
 //! A replica states its log for a view: do_view_changes.
 ghost use Rattle.std.specs.Prelude.{◌≡◌, ◌<◌, ◌≤◌, ◌+◌, ◌^◌, ◌∷◌, [], IfOk, OnOk};
-ghost use Rattle.vr_header.specs.Spelling.{IsHeader};
-ghost use Rattle.vr_journal.specs.Ready.{IsReady};
+ghost use Rattle.vr_memory.specs.Ready.{IsReady};
 ghost use Rattle.vr_msg.specs.Spelling.{AreHeaders, known};
 ghost use Rattle.vr_rules.specs.Deciding.{do_view_change_table, first_of};
 ghost use Rattle.vr_rules.specs.declared.rule.Rule.TheVariants.{Stated};
@@ -12,16 +11,18 @@ ghost use Rattle.vr_rules.specs.Words.{try};
 ghost use Rattle.vr_step.specs.Does.{Caused, Does};
 ghost use Rattle.vr_view.specs.Messages.{IsStating};
 ghost use Rattle.vr_view.specs.Named.{state_rule};
-ghost use Rattle.vr_view.specs.Telling.{entering};
+ghost use Rattle.vr_view.specs.Entering.{entering};
 
 use crate::trying::try_view;
 use std::alloc::{AllocError, Global};
 use vr_base::Seq;
 use vr_disk::SectorDisk;
-use vr_header::{Header, Part};
-use vr_journal::{Replica, primary};
+use vr_header::Part;
+use vr_journal::enter;
+use vr_memory::{Replica, primary};
 use vr_msg::{DoViewChange, DvcBody, Outbox, Statement};
 use vr_step::Halt;
+use vr_window::valued;
 
 /// What a do_view_change leads to.
 #[derive(Clone, Copy, Debug, PartialEq, Eq)]
@@ -53,14 +54,6 @@ pub fn decide_do_view_change(replica: &Replica, message: &DoViewChange) -> State
     } else {
         StateRule::Stated
     }
-}
-
-// The same header, which has the values of the program.
-fn valued(header: Header) -> Header
-    ensures same { result ≡ header }
-    ensures values { IsHeader result }
-{
-    header
 }
 
 // The same Part; its header has the values of the program.
@@ -128,7 +121,7 @@ fn enter_later<D: SectorDisk>(
     ensures cause { Caused (D.faults disk.old) (D.faults disk.new) result }
     ensures step { Does (entering view) replica.old replica.new (D.told disk.old) (D.told disk.new) out.old out.new result }
 {
-    match replica.enter(alloc, disk, view, out) {
+    match enter(replica, alloc, disk, view, out) {
         Ok(()) => Ok(()),
         Err(halt) => Err(halt),
     }
@@ -188,7 +181,7 @@ fn keep<D: SectorDisk>(
 /// A replica states its log for a view whose primary this one is. Where the view is started already, the
 /// sender is told of its log; else the view is entered if it is a later one, the statement is kept, and
 /// the replica tries to begin it.
-#[tactic(auto, using(crate::proofs::States::rules, vr_journal::proofs::Memory::some_member, vr_step::proofs::Stepping::wants))]
+#[tactic(auto, using(crate::proofs::States::rules, vr_memory::proofs::Memory::some_member, vr_step::proofs::Stepping::wants))]
 pub fn handle_do_view_change<D: SectorDisk>(
     replica: &mut Replica,
     alloc: Global,

@@ -1,12 +1,12 @@
 //! Try: the primary of a view that isn't started chooses the log with which it begins.
 ghost use Rattle.std.specs.Prelude.{◌≡◌, ◌<◌, ◌≤◌, ◌+◌, ◌^◌, ◌++◌, IfOk, OnOk, ◌&&◌, nat_le, not};
 ghost use Rattle.vr_base.specs.Replicas.{size};
-ghost use Rattle.vr_journal.specs.Ready.{IsReady};
+ghost use Rattle.vr_memory.specs.Ready.{IsReady};
 ghost use Rattle.vr_rules.specs.Replica.{is_primary, is_started, last_view, view_change};
 ghost use Rattle.vr_rules.specs.Words.{begin_view, choose_line, chosen_log, decided, log_end, obey_choice, prepare_again, speak, stated, try, try_log};
 ghost use Rattle.vr_step.specs.Does.{Caused, Does};
 ghost use Rattle.vr_view.specs.Logs.{IsTaught, MayTake};
-ghost use Rattle.vr_view.specs.Telling.{each_to};
+ghost use Rattle.vr_journal.specs.Telling.{each_to};
 
 use crate::taking::{commit_of, head_of, take};
 use std::alloc::{AllocError, Global};
@@ -14,9 +14,9 @@ use vr_base::{Seq, quorums};
 use vr_choose::{choose, top_commit, top_view};
 use vr_disk::SectorDisk;
 use vr_header::HeaderList;
-use vr_journal::{Log, Replica};
+use vr_journal::{apply, prepare_again};
+use vr_memory::{Log, Replica};
 use vr_msg::{Choice, Outbox, Statement};
-use vr_repair::prepare_again;
 use vr_step::Halt;
 
 // The op of the last header, or the commit number where there is none.
@@ -66,7 +66,7 @@ fn decide(
 }
 
 // Prepares again each entry that it can read, from the one above its commit number on to the log's head.
-#[tactic(auto, using(crate::proofs::Goes::goes))]
+#[tactic(auto, using(vr_journal::proofs::Goes::goes))]
 fn prepare_all<D: SectorDisk>(
     replica: &mut Replica,
     alloc: Global,
@@ -132,11 +132,11 @@ fn begin_view<D: SectorDisk>(
     take(replica, alloc, disk, log, out)?;
     replica.tell_views(alloc, out)?;
     prepare_all(replica, alloc, disk, log, out)?;
-    replica.apply(alloc, disk, out)
+    apply(replica, alloc, disk, out)
 }
 
 // Begins its view with this log if it may take it, and waits otherwise.
-#[tactic(auto, using(vr_step::proofs::Stepping::steps, crate::proofs::Takes::may_take_now, vr_journal::proofs::Memory::window_of), unfolding(vr_rules::specs::Words::try_log))]
+#[tactic(auto, using(vr_step::proofs::Stepping::steps, crate::proofs::Takes::may_take_now, vr_memory::proofs::Memory::window_of), unfolding(vr_rules::specs::Words::try_log))]
 fn try_log<D: SectorDisk>(
     replica: &mut Replica,
     alloc: Global,
@@ -161,7 +161,7 @@ fn try_log<D: SectorDisk>(
 }
 
 // Obeys what the statements of the group decide.
-#[tactic(auto, using(crate::proofs::Choices::choices, crate::proofs::Choices::chosen_taught, vr_journal::proofs::Memory::window_of, vr_step::proofs::Stepping::wants))]
+#[tactic(auto, using(crate::proofs::Choices::choices, crate::proofs::Choices::chosen_taught, vr_memory::proofs::Memory::window_of, vr_step::proofs::Stepping::wants))]
 fn choose_log<D: SectorDisk>(
     replica: &mut Replica,
     alloc: Global,
@@ -199,7 +199,7 @@ fn may_try(replica: &Replica) -> bool
 
 /// Tries to begin its view: the primary of a view that isn't started chooses its log from what the
 /// replicas have stated, and begins the view if they leave no doubt.
-#[tactic(auto, using(crate::proofs::Choices::tries, vr_journal::proofs::Memory::some_member))]
+#[tactic(auto, using(crate::proofs::Choices::tries, vr_memory::proofs::Memory::some_member))]
 pub fn try_view<D: SectorDisk>(
     replica: &mut Replica,
     alloc: Global,
@@ -226,13 +226,14 @@ fn is_heard(replica: &Replica) -> bool
 {
     match quorums(replica.n()) {
         Some(quorums) => quorums.view_change as usize <= replica.heard().size(),
+        // No group has such a size; by the definition its quorum is 0.
         None => true,
     }
 }
 
 /// Speaks, in a view that isn't started: where enough replicas have entered it, its primary tries to
 /// begin it, and another one states its log to the primary.
-#[tactic(auto, using(vr_step::proofs::Stepping::steps, vr_journal::proofs::Memory::some_member), unfolding(vr_rules::specs::Words::speak))]
+#[tactic(auto, using(vr_step::proofs::Stepping::steps, vr_memory::proofs::Memory::some_member), unfolding(vr_rules::specs::Words::speak))]
 pub fn speak<D: SectorDisk>(
     replica: &mut Replica,
     alloc: Global,

@@ -2,11 +2,11 @@ use Rattle.vr_base.specs.Bytes.{name_of}
 use Rattle.vr_rules.specs.Rules.{acknowledge_stored}
 use Rattle.vr_rules.specs.Words.{jump}
 use Rattle.vr_step.proofs.Stepping.{does_then}
-use Rattle.vr_view.specs.Telling.{each_to}
-use Rattle.vr_sync.proofs.Jumps.{told_sync_log}
+use Rattle.vr_journal.specs.Telling.{each_to}
+use Rattle.vr_journal.proofs.Acks.{told}
 use Rattle.vr_sync.proofs.jumping.follow.Goals as goal
 
 pub returns-clause-step : goal.returns-clause-step
 returns-clause-step g c =
     does_then (jump c.args.sync.now) _ _ _ _ _ _ _ _ _ _ _ c.in_ok-jump.ensures.step
-    (does_then (each_to (acknowledge_stored name_of) c.args.sync.now.head) _ _ _ _ _ _ _ _ _ _ _ (told_sync_log c.args.sync.now _ _ _ _ _ c.sync_log.ensures c.in_ok-acknowledge_all.ensures) c.apply.ensures.step)
+    (does_then (each_to (acknowledge_stored name_of) c.args.sync.now.head) _ _ _ _ _ _ _ _ _ _ _ (told _ _ _ _ _ c.in_ok-acknowledge_all.ensures) c.apply.ensures.step)

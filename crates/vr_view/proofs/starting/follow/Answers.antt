@@ -2,11 +2,11 @@ use Rattle.vr_base.specs.Bytes.{name_of}
 use Rattle.vr_rules.specs.Rules.{acknowledge_stored}
 use Rattle.vr_rules.specs.Words.{take}
 use Rattle.vr_step.proofs.Stepping.{does_then}
-use Rattle.vr_view.specs.Telling.{each_to}
-use Rattle.vr_view.proofs.Starts.{told}
+use Rattle.vr_journal.specs.Telling.{each_to}
+use Rattle.vr_journal.proofs.Acks.{told_to}
 use Rattle.vr_view.proofs.starting.follow.Goals as goal
 
 pub returns-clause-step : goal.returns-clause-step
 returns-clause-step g c =
     does_then (take c.args.log.now) _ _ _ _ _ _ _ _ _ _ _ c.in_ok-take.ensures.step
-    (does_then (each_to (acknowledge_stored name_of) c.args.log.now.head) _ _ _ _ _ _ _ _ _ _ _ (told _ _ _ _ _ c.in_ok-acknowledge_all.ensures) c.apply.ensures.step)
+    (does_then (each_to (acknowledge_stored name_of) c.args.log.now.head) _ _ _ _ _ _ _ _ _ _ _ (told_to (acknowledge_stored name_of) _ _ _ _ _ _ c.head_of.ensures c.in_ok-acknowledge_all.ensures) c.apply.ensures.step)

@@ -1,4 +1,5 @@
-use Rattle.vr_view.proofs.Takes.{stays_ok, view_taken}
+use Rattle.vr_memory.proofs.Memory.{stays_ok}
+use Rattle.vr_view.proofs.Takes.{view_taken}
 use Rattle.vr_view.proofs.taking.take.Goals as goal
 
 pub returns-clause-view : goal.returns-clause-view

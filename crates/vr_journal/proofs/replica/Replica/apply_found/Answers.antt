@@ -1,7 +1,0 @@
-use Rattle.std.proofs.Common.{◌∙◌, ap}
-use Rattle.vr_rules.specs.Words.{lost}
-use Rattle.vr_step.proofs.Stepping.{found_lost}
-use Rattle.vr_journal.proofs.replica.Replica.apply_found.Goals as goal
-
-pub returns-in-None-clause-step : goal.returns-in-None-clause-step
-returns-in-None-clause-step g c = found_lost _ _ _ _ _ _ _ (rw c.in-None.is at c.in_ok-entry.ensures.found) (c.lose.ensures.lost ∙ ap (lost c.args.header.now) c.find_entry.ensures.left)

@@ -1,7 +1,0 @@
-use Rattle.std.proofs.Common.{◌≡◌, ◌++◌}
-use Rattle.vr_msg.specs.declared.frame.Frame.TheVariants as frame
-use Rattle.vr_journal.specs.Sends.{sends}
-use Rattle.vr_journal.proofs.replica.Replica.tell_change.Given as goal
-
-abbrev pub invariant-loop-to : goal.invariant-loop-to
-invariant-loop-to l = l.out ≡ l.initial.out ++ sends l.self-inside.index l.to (frame.StartViewChange (record { cluster = l.self-inside.cluster; replica = l.self-inside.index; view = l.self-inside.view }))

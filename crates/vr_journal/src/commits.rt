@@ -1,0 +1,49 @@
+//! Commit numbers rise.
+ghost use Rattle.std.specs.Prelude.{◌≡◌, ◌<◌, ◌+◌, ◌^◌, OnOk};
+ghost use Rattle.vr_journal.specs.Waits.{EndsAtOnce, Waits, applies_next};
+ghost use Rattle.vr_memory.specs.Ready.{IsReady};
+ghost use Rattle.vr_rules.specs.Words.{advance};
+ghost use Rattle.vr_step.specs.Does.{Caused, Does};
+
+use crate::applying::apply;
+use std::alloc::Global;
+use vr_disk::SectorDisk;
+use vr_memory::{Replica, is_here};
+use vr_msg::Outbox;
+use vr_step::Halt;
+
+// Whether there is an op to apply, and its entry is here.
+#[tactic(auto, using(vr_memory::proofs::Memory::next_fits))]
+fn applies_next(replica: &Replica) -> bool
+    requires { IsReady replica.now }
+    ensures { result ≡ applies_next replica.now }
+{
+    replica.is_loaded()
+        && replica.applied() < replica.commit()
+        && is_here(&replica.part_at(replica.applied() + 1))
+}
+
+/// The commit number rises, up to the head, over each op that a replication quorum has acknowledged, the replica itself counted where the
+/// entry is stored; then what is committed is applied. Where the next op hasn't its quorum, and all that can be is applied, it makes no
+/// call of the disk and takes no memory.
+#[tactic(auto, using(vr_step::proofs::Stepping::steps, vr_memory::proofs::Memory::window_of, vr_memory::proofs::Repairs::ready_advanced, crate::proofs::Advancing::none_applied, crate::proofs::Advancing::none_next), unfolding(vr_rules::specs::Words::advance))]
+pub fn advance<D: SectorDisk>(
+    replica: &mut Replica,
+    alloc: Global,
+    disk: &mut D,
+    out: &mut Outbox,
+) -> Result<(), Halt>
+    requires ready { IsReady replica.old }
+    requires room { replica.old.saved.fields.sequence + 64 < 2 ^ 64 }
+    ensures ready { OnOk result (IsReady replica.new) }
+    ensures cause { Caused (D.faults disk.old) (D.faults disk.new) result }
+    ensures at_once { Waits replica.old → EndsAtOnce disk.old disk.new result }
+    ensures step { Does advance replica.old replica.new (D.told disk.old) (D.told disk.new) out.old out.new result }
+{
+    replica.advance_commit();
+    if applies_next(replica) {
+        apply(replica, alloc, disk, out)
+    } else {
+        Ok(())
+    }
+}

@@ -1,0 +1,37 @@
+//! Entries that are prepared again.
+ghost use Rattle.std.specs.Prelude.{◌≡◌, ◌≤◌, OnOk};
+ghost use Rattle.vr_memory.specs.Ready.{IsReady};
+ghost use Rattle.vr_rules.specs.Replica.{last_view};
+ghost use Rattle.vr_rules.specs.Words.{prepare_again};
+ghost use Rattle.vr_step.specs.Does.{Caused, Does};
+
+use crate::reading::read_entry;
+use std::alloc::Global;
+use vr_disk::SectorDisk;
+use vr_memory::Replica;
+use vr_msg::Outbox;
+use vr_step::Halt;
+
+/// Reads the entry of an op where it is stored, and prepares it to all others.
+#[tactic(auto, using(crate::proofs::Reads::prepared_again, crate::proofs::Reads::not_prepared, vr_step::proofs::Stepping::wants))]
+pub fn prepare_again<D: SectorDisk>(
+    replica: &mut Replica,
+    alloc: Global,
+    disk: &mut D,
+    op: u64,
+    out: &mut Outbox,
+) -> Result<(), Halt>
+    requires ready { IsReady replica.old }
+    requires view { replica.old.view ≤ last_view }
+    ensures ready { OnOk result (IsReady replica.new) }
+    ensures view { OnOk result (replica.new.view ≡ replica.old.view) }
+    ensures saved { OnOk result (replica.new.saved ≡ replica.old.saved) }
+    ensures cause { Caused (D.faults disk.old) (D.faults disk.new) result }
+    ensures step { Does (prepare_again op) replica.old replica.new (D.told disk.old) (D.told disk.new) out.old out.new result }
+{
+    match read_entry(replica, alloc, disk, op)? {
+        Some(entry) => replica.send_prepare(alloc, &entry, out)?,
+        None => {}
+    }
+    Ok(())
+}

@@ -1,0 +1,12 @@
+pub mod Memory
+pub mod Repairs
+pub mod Sending
+pub mod Entries
+pub mod Applies
+pub mod Blanks
+pub mod Loads
+pub mod Taken
+pub mod Stated
+pub mod Told
+pub mod Visits
+pub mod Jumps

@@ -1,0 +1,84 @@
+//! What a checkpoint that was loaded leaves.
+ghost use Rattle.std.specs.Prelude.{◌≡◌, ◌∷◌, [], IfOk, OnOk};
+ghost use Rattle.vr_ckpt.specs.declared.found.Load.{Load};
+ghost use Rattle.vr_rules.specs.Words.{loads, with_state};
+ghost use Rattle.vr_memory.specs.Ready.{Decodes};
+
+use crate::Replica;
+use std::alloc::{AllocError, Global};
+use vr_apply::{State, Texts};
+use vr_base::{NoMemory, Seq};
+use vr_ckpt::{Load, PayloadTable};
+use vr_grid::{Name, NameList};
+use vr_table::StateFault;
+
+// The state of these texts, none where they don't decode.
+#[tactic(auto, using(crate::proofs::Loads::not_decoded))]
+fn decode(alloc: Global, texts: &Texts) -> Result<Option<State>, NoMemory>
+    ensures { IfOk result (λ s. Decodes texts.now s) }
+{
+    match State::decode_state(alloc, texts) {
+        Ok(state) => Ok(Some(state)),
+        Err(StateFault::NoMemory) => Err(NoMemory),
+        Err(_) => Ok(None),
+    }
+}
+
+pub(crate) fn only(alloc: Global, name: Name) -> Result<NameList, AllocError>
+    ensures { IfOk result (λ names. names ≡ name ∷ []) }
+{
+    let mut names = Seq::new(alloc);
+    names.push(name)?;
+    Ok(names)
+}
+
+impl Replica {
+    // The state of the checkpoint is there.
+    #[tactic(auto, unfolding(vr_rules::specs::Words::with_state))]
+    fn take_state(&mut self, alloc: Global, table: PayloadTable, state: State)
+        ensures taken { self.new ≡ with_state table state self.old }
+        ensures view { self.new.view ≡ self.old.view }
+        ensures saved { self.new.saved ≡ self.old.saved }
+    {
+        self.table = table;
+        self.state = state;
+        self.missing = Seq::new(alloc);
+    }
+
+    // The state that was loaded, or what is missing of it. A root whose state doesn't decode counts as missing.
+    #[tactic(auto, using(crate::proofs::Loads::loads_state, crate::proofs::Loads::loads_none))]
+    fn take_texts(
+        &mut self,
+        alloc: Global,
+        texts: Texts,
+        table: PayloadTable,
+    ) -> Result<(), NoMemory>
+        ensures loaded { OnOk result (self.new ≡ loads self.old.root (Load.Loaded texts table) self.old) }
+        ensures view { OnOk result (self.new.view ≡ self.old.view) }
+        ensures saved { OnOk result (self.new.saved ≡ self.old.saved) }
+    {
+        match decode(alloc, &texts)? {
+            Some(state) => self.take_state(alloc, table, state),
+            None => {
+                let names = only(alloc, self.root)?;
+                self.take_missing(names);
+            }
+        }
+        Ok(())
+    }
+
+    /// What the disk had of the checkpoint is taken: its state, or what is missing of it.
+    pub fn take_load(&mut self, alloc: Global, found: Load) -> Result<(), NoMemory>
+        ensures loaded { OnOk result (self.new ≡ loads self.old.root found self.old) }
+        ensures view { OnOk result (self.new.view ≡ self.old.view) }
+        ensures saved { OnOk result (self.new.saved ≡ self.old.saved) }
+    {
+        match found {
+            Load::Loaded(texts, table) => self.take_texts(alloc, texts, table),
+            Load::Missing(names) => {
+                self.take_missing(names);
+                Ok(())
+            }
+        }
+    }
+}

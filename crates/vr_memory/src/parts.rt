@@ -1,0 +1,26 @@
+//! What is known of one op.
+ghost use Rattle.std.specs.Prelude.{◌≡◌};
+ghost use Rattle.vr_rules.specs.Replica.{is_here};
+ghost use Rattle.vr_rules.specs.Words.{may_be_stored};
+
+use vr_header::Part;
+
+/// Whether the entry of the op is stored.
+pub fn is_here(part: &Part) -> bool
+    ensures { result ≡ is_here part.now }
+{
+    match part {
+        Part::Here(_) => true,
+        _ => false,
+    }
+}
+
+/// Whether the entry of the op may be on the disk.
+pub fn may_be_stored(part: &Part) -> bool
+    ensures { result ≡ may_be_stored part.now }
+{
+    match part {
+        Part::Here(_) | Part::Lost(_) | Part::Unknown => true,
+        Part::Wanted(_) | Part::Nothing => false,
+    }
+}

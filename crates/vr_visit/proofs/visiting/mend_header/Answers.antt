@@ -1,0 +1,15 @@
+use Rattle.std.proofs.Common.{rules, ◌≡◌, Err}
+use Rattle.vr_step.specs.declared.halt.Halt.TheVariants.{DiskFault}
+use Rattle.vr_visit.proofs.Visits.{header_good, header_mended, header_stopped}
+use Rattle.vr_visit.proofs.visiting.mend_header.Goals as goal
+
+pub returns-then-reads_as-clause-step : goal.returns-then-reads_as-clause-step
+returns-then-reads_as-clause-step g c = header_good _ _ _ _ _ c.reads_as.ensures.told c.reads_as.ensures.value _ c.if-reads_as.true
+
+pub returns-in_err-rewrite_header-clause-step : goal.returns-in_err-rewrite_header-clause-step
+returns-in_err-rewrite_header-clause-step g c =
+    let is : c.from_residual.result ≡ Err DiskFault = search rules in
+    rw is (header_stopped c.args.header.now _ _ _ _ c.reads_as.ensures.told c.reads_as.ensures.value _ _ _ c.if-reads_as.false c.in_err-rewrite_header.ensures.runs)
+
+pub returns-clause-step : goal.returns-clause-step
+returns-clause-step g c = header_mended _ _ _ _ _ c.reads_as.ensures.told c.reads_as.ensures.value _ _ c.if-reads_as.false c.in_ok-rewrite_header.ensures.runs

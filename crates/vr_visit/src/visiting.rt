@@ -1,0 +1,182 @@
+//! A visit of the disk: one place is looked at, and mended where the replica can.
+ghost use Rattle.std.specs.Prelude.{◌≡◌, ◌<◌, ◌%◌, ◌==◌, IfErr, IfOk, IfSome, OnOk, Some, is_ok};
+ghost use Rattle.vr_base.specs.Causes.{HasCause};
+ghost use Rattle.vr_header.specs.declared.part.Part.TheVariants.{Here};
+ghost use Rattle.vr_memory.specs.Ready.{IsReady};
+ghost use Rattle.vr_visit.specs.Visits.{found_at, good_or_mended, mends, reads_as, stored_as};
+ghost use Rattle.vr_rings.specs.Slots.{header_in};
+ghost use Rattle.vr_rules.specs.Replica.{part_at};
+ghost use Rattle.vr_rules.specs.Sectors.{sectors};
+ghost use Rattle.vr_rules.specs.Steps.{reading};
+ghost use Rattle.vr_rules.specs.Words.{entry_of, header_read, mend_header, op_of_slot, place_now, visit, visit_block, visit_place, visit_slot};
+ghost use Rattle.vr_step.specs.Does.{Caused, Does, Performs, done};
+ghost use Rattle.vr_step.specs.declared.halt.Halt.TheVariants as halt;
+
+use crate::found::Visit;
+use vr_disk::{DiskFault, SectorDisk};
+use vr_grid::Name;
+use vr_header::{Header, Part};
+use vr_journal::rewrite_header;
+use vr_memory::Replica;
+use vr_msg::Outbox;
+use vr_rings::read_header;
+use vr_step::Halt;
+
+// ---- slots
+
+// Whether the header sector of an entry's slot reads as its header.
+fn reads_as<D: SectorDisk>(disk: &mut D, header: &Header) -> bool
+    ensures told { D.told disk.new ≡ D.told disk.old }
+    ensures faults { D.faults disk.new ≡ D.faults disk.old }
+    ensures value { IfSome (D.told disk.old) (λ d. result ≡ reads_as header.now (header_in d.face (header.now.op % 64))) }
+{
+    match read_header(disk, (header.op % 64) as u32) {
+        Some(found) => found.is(header),
+        None => false,
+    }
+}
+
+// The header sector of a slot is written anew where it doesn't read as this header.
+#[tactic(auto, using(crate::proofs::Visits::header_good, crate::proofs::Visits::header_mended, crate::proofs::Visits::header_stopped, crate::proofs::Visits::found_good, crate::proofs::Visits::found_mended))]
+fn mend_header<D: SectorDisk>(
+    replica: &Replica,
+    disk: &mut D,
+    header: &Header,
+    _out: &mut Outbox,
+) -> Result<Visit, Halt>
+    ensures cause { Caused (D.faults disk.old) (D.faults disk.new) result }
+    ensures step { Does (reading (header_read header.now.op) (mend_header header.now)) replica.now replica.now (D.told disk.old) (D.told disk.new) _out.old _out.new (done result) }
+    ensures fault { IfErr result (λ why. why ≡ halt.DiskFault) }
+    ensures found { IfSome (D.told disk.old) (λ d. IfOk result (λ v. v ≡ good_or_mended header.now (header_in d.face (header.now.op % 64)))) }
+{
+    if reads_as(disk, header) {
+        return Ok(Visit::Good);
+    }
+    rewrite_header(replica, disk, header)?;
+    Ok(Visit::Mended)
+}
+
+// The slot of an entry that is stored is looked at.
+#[tactic(auto, using(crate::proofs::Visits::slot_lost, crate::proofs::Visits::found_stored, crate::proofs::Visits::found_lost, vr_memory::proofs::Memory::readies))]
+fn visit_stored<D: SectorDisk>(
+    replica: &mut Replica,
+    disk: &mut D,
+    header: &Header,
+    out: &mut Outbox,
+) -> Result<Visit, Halt>
+    requires ready { IsReady replica.old }
+    requires here { part_at replica.old header.now.op ≡ Here header.now }
+    ensures ready { OnOk result (IsReady replica.new) }
+    ensures cause { Caused (D.faults disk.old) (D.faults disk.new) result }
+    ensures step { Does (visit_slot header.now.op) replica.old replica.new (D.told disk.old) (D.told disk.new) out.old out.new (done result) }
+    ensures fault { IfErr result (λ why. why ≡ halt.DiskFault) }
+    ensures found { IfSome (D.told disk.old) (λ d. IfOk result (λ v. v ≡ stored_as header.now (entry_of header.now sectors d.face) (header_in d.face (header.now.op % 64)))) }
+{
+    if replica.has_entry(disk, header) {
+        mend_header(replica, disk, header, out)
+    } else {
+        replica.lose(header);
+        Ok(Visit::Lost)
+    }
+}
+
+/// Looks at the slot of an op: an entry that was stored and can't be read is lost; the header sector of one that reads is written anew
+/// where it reads as something else. Nothing is looked at where no entry of the op is known to be stored. It takes no memory: an `Err` is a
+/// write that failed.
+#[tactic(auto, using(crate::proofs::Visits::slot_nothing, crate::proofs::Visits::found_here, crate::proofs::Visits::found_nothing, vr_memory::proofs::Memory::here_op))]
+pub fn visit_slot<D: SectorDisk>(
+    replica: &mut Replica,
+    disk: &mut D,
+    op: u64,
+    out: &mut Outbox,
+) -> Result<Visit, Halt>
+    requires ready { IsReady replica.old }
+    ensures ready { OnOk result (IsReady replica.new) }
+    ensures cause { Caused (D.faults disk.old) (D.faults disk.new) result }
+    ensures step { Does (visit_slot op) replica.old replica.new (D.told disk.old) (D.told disk.new) out.old out.new (done result) }
+    ensures fault { IfErr result (λ why. why ≡ halt.DiskFault) }
+    ensures found { IfSome (D.told disk.old) (λ d. IfOk result (λ v. v ≡ found_at (part_at replica.old op) d.face)) }
+{
+    match replica.part_at(op) {
+        Part::Here(header) => visit_stored(replica, disk, &header, out),
+        _ => Ok(Visit::Nothing),
+    }
+}
+
+// ---- the superblock, and blocks
+
+// Each copy of the superblock that doesn't read as the value last saved is written anew.
+fn mend_value<D: SectorDisk>(replica: &Replica, disk: &mut D) -> Result<(), DiskFault>
+    ensures runs { Performs mends replica.now (D.told disk.old) (D.told disk.new) (is_ok result) }
+    ensures cause { HasCause (D.faults disk.old) (D.faults disk.new) result }
+{
+    vr_super::mend_value(disk, replica.saved())
+}
+
+// A block of the checkpoint is looked at.
+#[tactic(auto, using(crate::proofs::Visits::block_bad, crate::proofs::Visits::block_good, crate::proofs::Visits::ready_worn, vr_step::proofs::Stepping::does_no_memory))]
+fn visit_block<D: SectorDisk>(
+    replica: &mut Replica,
+    disk: &mut D,
+    name: &Name,
+    _out: &mut Outbox,
+) -> Result<(), Halt>
+    requires ready { IsReady replica.old }
+    ensures ready { OnOk result (IsReady replica.new) }
+    ensures cause { Caused (D.faults disk.old) (D.faults disk.new) result }
+    ensures step { Does (visit_block (Some name.now)) replica.old replica.new (D.told disk.old) (D.told disk.new) _out.old _out.new result }
+{
+    if replica.is_worn(disk, name) {
+        replica.add_worn(*name)?;
+    }
+    Ok(())
+}
+
+// Looks at a place.
+#[tactic(auto, using(crate::proofs::Visits::place_slot, crate::proofs::Visits::place_value, crate::proofs::Visits::place_block, crate::proofs::Visits::block_none, vr_step::proofs::Stepping::does_effect, vr_step::proofs::Stepping::does_effect_stopped))]
+fn visit_place<D: SectorDisk>(
+    replica: &mut Replica,
+    disk: &mut D,
+    at: u64,
+    out: &mut Outbox,
+) -> Result<(), Halt>
+    requires ready { IsReady replica.old }
+    ensures ready { OnOk result (IsReady replica.new) }
+    ensures cause { Caused (D.faults disk.old) (D.faults disk.new) result }
+    ensures step { Does (visit_place at) replica.old replica.new (D.told disk.old) (D.told disk.new) out.old out.new result }
+{
+    if at < 64 {
+        let op = replica.op_of_slot(at);
+        visit_slot(replica, disk, op, out)?;
+        return Ok(());
+    }
+    if at == 64 {
+        mend_value(replica, disk)?;
+        return Ok(());
+    }
+    match replica.block_name((at - 65) as usize) {
+        Some(name) => visit_block(replica, disk, &name, out),
+        None => Ok(()),
+    }
+}
+
+/// Looks at the next place of the disk, one after the other and then from the front. While a block of the checkpoint is missing nothing
+/// is looked at.
+#[tactic(auto, using(crate::proofs::Visits::visit_then, crate::proofs::Visits::visit_stopped, crate::proofs::Visits::visit_none, crate::proofs::Visits::ready_moved))]
+pub fn visit<D: SectorDisk>(
+    replica: &mut Replica,
+    disk: &mut D,
+    out: &mut Outbox,
+) -> Result<(), Halt>
+    requires ready { IsReady replica.old }
+    ensures ready { OnOk result (IsReady replica.new) }
+    ensures cause { Caused (D.faults disk.old) (D.faults disk.new) result }
+    ensures step { Does visit replica.old replica.new (D.told disk.old) (D.told disk.new) out.old out.new result }
+{
+    if replica.is_loaded() {
+        let at = replica.place_now();
+        visit_place(replica, disk, at, out)?;
+        replica.go_on(at);
+    }
+    Ok(())
+}
