@@ -4,17 +4,12 @@ use Rattle.std.specs.Prelude.{true, false, option_and_then}
 use Rattle.std.proofs.lemmas.Grind.{common_steps}
 use Rattle.vr_ask.specs.Asking.{Client, EndsWith, Exchanges, Faults, Stand}
 use Rattle.vr_ask.specs.Run.{AreExchanged, CountsLine, EndsAt, EndsLines, Exchange, Hears, IsExchanged, Judges, Reading, ReadsLine, StopsAt, Takes, limit}
-use Rattle.vr_ask.specs.Stops.{stop_status}
 use Rattle.vr_ask.specs.Text.{operation_of, unless_register}
 use Rattle.vr_header.specs.declared.operation.Operation.{Operation}
 use Rattle.vr_header.specs.declared.operation.Operation.TheVariants.{Register, Put, Get, Delete}
 use Rattle.vr_header.specs.Made.{is_register}
-use Rattle.vr_reader.specs.Finding.{Breaks, LineCause}
-use Rattle.vr_reader.specs.declared.fault.LineStop.{LineStop}
-use Rattle.vr_reader.specs.declared.fault.LineStop.TheVariants as stop
-use Rattle.vr_reader.specs.declared.next.Next.{Next}
-use Rattle.vr_sched.specs.Grammar.{operation_words}
-use Rattle.vr_sched.specs.Words.{words_of}
+use Rattle.vr_lines.specs.Operations.{operation_words}
+use Rattle.vr_lines.specs.Words.{words_of}
 use Rattle.vr_status.specs.Counts.{reads_after, writes_after}
 use Rattle.vr_status.specs.declared.status.Status.{Status}
 use Rattle.vr_status.specs.declared.status.Status.TheVariants as status
@@ -24,8 +19,8 @@ use Rattle.vr_status.specs.declared.status.Status.TheVariants as status
 -- a line that was read and judged
 pub heard : (number : ℕ) (r r' : Reading) (line : List ℕ) (result : Result Operation Status) → ReadsLine r r' line → Judges number line result → Hears number r r' result
 heard number r r' line (Ok operation) read j = ((line, read, j.0), j.1)
-heard number r r' line (Err (status.Refused k)) read j = (j.0, (line, inr (read, j.1)))
-heard number r r' line (Err status.NoMemory) read j = inr (line, read)
+heard number r r' line (Err (status.Refused k)) read j = (j.0, inr (line, read, j.1))
+heard number r r' line (Err status.NoMemory) read j = (line, read)
 heard number r r' line (Err status.Done) read j = absurd j
 heard number r r' line (Err status.Usage) read j = absurd j
 heard number r r' line (Err status.SessionLost) read j = absurd j
@@ -56,15 +51,6 @@ judged_counts number line before now (Err (status.OtherMember x y)) e j = e
 judged_counts number line before now (Err status.Occupied) e j = e
 judged_counts number line before now (Err status.NoAnswer) e j = e
 judged_counts number line before now (Err status.SpawnFault) e j = e
-
--- a read that failed, or want of memory
-pub stopped : (number : ℕ) (r r' : Reading) (s : LineStop) → Breaks r.rest r.left r'.rest r'.left → StopsAt number r r' (stop_status s)
-stopped number r r' stop.Read b = b
-stopped number r r' stop.NoMemory b = inl b
-
-pub stopped_counts : (before now : ℕ) (s : LineStop) → LineCause {T = Next} before now (Err s) → now ≡ reads_after (stop_status s) before
-stopped_counts before now stop.Read e = e
-stopped_counts before now stop.NoMemory e = e
 
 -- an exchange of a line that was read
 pub taken : (c : Client) (number : ℕ) (r : Reading) (s : Stand) (r' : Reading) (s' : Stand) (b n : Faults) (operation : Operation) (result : Result (Unit {0}) Status)

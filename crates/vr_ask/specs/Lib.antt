@@ -1,4 +1,3 @@
 pub mod Asking
 pub mod Run
-pub mod Stops
 pub mod Text

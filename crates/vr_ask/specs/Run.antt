@@ -12,9 +12,8 @@ use Rattle.vr_edge.specs.declared.datagram.Datagram.{Datagram}
 use Rattle.vr_header.specs.declared.operation.Operation.{Operation}
 use Rattle.vr_header.specs.declared.operation.Operation.TheVariants.{Register}
 use Rattle.vr_msg.specs.declared.reply.Answered.{Answered}
-use Rattle.vr_reader.specs.Finding.{Breaks, FindsLine, rest}
-use Rattle.vr_reader.specs.declared.room.Lines.{Lines}
-use Rattle.vr_reader.specs.declared.next.Next.TheVariants as next
+use Rattle.vr_lines.specs.Coming.{Breaks, EndComes, LineComes, TooLongComes}
+use Rattle.vr_lines.specs.Held.{Held}
 use Rattle.vr_status.specs.Counts.{reads_after}
 use Rattle.vr_status.specs.declared.status.Status.{Status}
 use Rattle.vr_status.specs.declared.status.Status.TheVariants.{Done, Refused, ReadFault, LinkFault, NoMemory}
@@ -24,12 +23,12 @@ pub record Reading : Type 0 where
   pub rest : List ℕ
   pub left : Option (List ℕ)
 
-abbrev pub reading : Lines → Option (List ℕ) → Reading
-reading lines left = record { rest = rest lines; left = left }
+abbrev pub reading : Held → Option (List ℕ) → Reading
+reading lines left = record { rest = lines.bytes; left = left }
 
 -- a line was read
 abbrev pub ReadsLine : Reading → Reading → List ℕ → Type 0
-ReadsLine r r' line = FindsLine longest r.rest r.left r'.rest r'.left line next.Line
+ReadsLine r r' line = LineComes longest r.rest r.left r'.rest r'.left line
 
 -- a line of the source, its operation, and its outcome
 pub record Exchange : Type 0 where
@@ -56,15 +55,15 @@ limit = 1000000
 -- the line with this number is none of a client's, or one too many
 abbrev pub IsNone : ℕ → Reading → Reading → Type 0
 IsNone number r r' =
-    (line : List ℕ) × (FindsLine longest r.rest r.left r'.rest r'.left line next.TooLong
-    ⊎ (ReadsLine r r' line × ((operation_of line ≡ None) ⊎ (limit < number))))
+    TooLongComes longest r.rest r.left r'.rest r'.left
+    ⊎ ((line : List ℕ) × ReadsLine r r' line × ((operation_of line ≡ None) ⊎ (limit < number)))
 
 -- how it ends at the line with this number, which it doesn't ask; before and now count the failed reads
 abbrev pub StopsAt : ℕ → Reading → Reading → Status → Type 0
-StopsAt number r r' Done = FindsLine longest r.rest r.left r'.rest r'.left [] next.End
+StopsAt number r r' Done = EndComes r.rest r.left r'.rest r'.left
 StopsAt number r r' (Refused k) = (k ≡ number) × IsNone number r r'
 StopsAt number r r' ReadFault = Breaks r.rest r.left r'.rest r'.left
-StopsAt number r r' NoMemory = Breaks r.rest r.left r'.rest r'.left ⊎ ((line : List ℕ) × ReadsLine r r' line)
+StopsAt number r r' NoMemory = (line : List ℕ) × ReadsLine r r' line
 StopsAt number r r' _ = ⊥
 
 -- how it ends while it asks the line with this number

@@ -4,9 +4,9 @@ use Rattle.vr_client.specs.declared.answer.Answer.{Answer}
 use Rattle.vr_client.specs.declared.answer.Answer.TheVariants.{Outcome, Old, Gap, Evicted}
 use Rattle.vr_header.specs.declared.operation.Operation.{Operation}
 use Rattle.vr_header.specs.Made.{is_register}
-use Rattle.vr_sched.specs.Grammar.{operation_words}
-use Rattle.vr_sched.specs.Text.{outcome_text}
-use Rattle.vr_sched.specs.Words.{words_of}
+use Rattle.vr_lines.specs.Operations.{operation_words}
+use Rattle.vr_text.specs.Text.{outcome_text}
+use Rattle.vr_lines.specs.Words.{words_of}
 
 -- the most bytes of a line: `put KEY VALUE` with 64 and 1,024 bytes
 abbrev pub longest : ℕ

@@ -2,17 +2,15 @@
 ghost use Rattle.std.specs.Prelude.{◌≡◌, ◌≤◌, ◌<◌, ◌+◌, OnOk};
 ghost use Rattle.vr_ask.specs.Asking.{CountsWrites, client_of, faults, stand};
 ghost use Rattle.vr_ask.specs.Run.{CountsLine, EndsLines, Hears, Judges, Takes, reading};
-ghost use Rattle.vr_ask.specs.Stops.{stop_status};
 ghost use Rattle.vr_status.specs.Counts.{reads_after, writes_after};
 
 use crate::asking::exchange;
 use crate::text::read_line;
 use std::alloc::Global;
-use vr_base::Seq;
 use vr_client::ClientCore;
 use vr_edge::{Link, Sink, Source};
 use vr_header::Operation;
-use vr_reader::{LineStop, Lines, Next};
+use vr_lines::{Found, Lines};
 use vr_status::Status;
 
 /// The most lines of a source.
@@ -20,16 +18,6 @@ const LIMIT: u32 = 1_000_000;
 
 /// The most bytes of a line.
 const LONGEST: usize = 1093;
-
-/// The status of a line that couldn't be read.
-fn status_of(stop: LineStop) -> Status
-    ensures { result ≡ stop_status stop }
-{
-    match stop {
-        LineStop::Read => Status::ReadFault,
-        LineStop::NoMemory => Status::NoMemory,
-    }
-}
 
 /// The operation of the line with this number.
 fn judge(alloc: Global, number: u32, line: &[u8]) -> Result<Operation, Status>
@@ -43,7 +31,7 @@ fn judge(alloc: Global, number: u32, line: &[u8]) -> Result<Operation, Status>
 }
 
 /// Reads the line with this number: its operation, or how the client ends.
-#[tactic(auto, using(crate::proofs::Exchanges::heard, crate::proofs::Exchanges::judged_counts, crate::proofs::Exchanges::stopped, crate::proofs::Exchanges::stopped_counts))]
+#[tactic(auto, using(crate::proofs::Exchanges::heard, crate::proofs::Exchanges::judged_counts))]
 fn next_operation<S: Source>(
     alloc: Global,
     lines: &mut Lines,
@@ -53,12 +41,11 @@ fn next_operation<S: Source>(
     ensures heard { Hears number (reading lines.old (S.left source.old)) (reading lines.new (S.left source.new)) result }
     ensures counts { CountsLine (S.faults source.old) (S.faults source.new) result }
 {
-    let mut line = Seq::new(alloc);
-    match lines.next(source, LONGEST, &mut line) {
-        Ok(Next::Line) => judge(alloc, number, line.as_slice()),
-        Ok(Next::TooLong) => Err(Status::Refused(number)),
-        Ok(Next::End) => Err(Status::Done),
-        Err(stop) => Err(status_of(stop)),
+    match lines.read(source, LONGEST) {
+        Ok(Found::Line) => judge(alloc, number, lines.line()),
+        Ok(Found::TooLong) => Err(Status::Refused(number)),
+        Ok(Found::End) => Err(Status::Done),
+        Err(_) => Err(Status::ReadFault),
     }
 }
 

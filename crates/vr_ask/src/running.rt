@@ -4,7 +4,6 @@ ghost use Rattle.vr_ask.specs.Asking.{client_of, faults, stand};
 ghost use Rattle.vr_ask.specs.Run.{ClientEnds, EndsAttached, EndsRun, client_with, outside, reading};
 ghost use Rattle.vr_edge.specs.Attaching.{texts_of};
 ghost use Rattle.vr_edge.specs.Failing.{LinkFailure};
-ghost use Rattle.vr_reader.specs.Finding.{rest};
 ghost use Rattle.vr_status.specs.Counts.{reads_after, writes_after};
 
 use crate::asking::exchange;
@@ -13,7 +12,7 @@ use std::alloc::Global;
 use vr_client::ClientCore;
 use vr_edge::{Link, Sink, Source};
 use vr_header::Operation;
-use vr_reader::Lines;
+use vr_lines::Lines;
 use vr_status::Status;
 
 /// Registers, and then asks the lines of the source.
@@ -71,9 +70,7 @@ fn ask_made<S: Source, K: Sink, L: Link>(
     let Ok(mut core) = ClientCore::new(alloc, cluster, id, size) else {
         return Status::NoMemory;
     };
-    let Ok(mut lines) = Lines::new(alloc) else {
-        return Status::NoMemory;
-    };
+    let mut lines = Lines::new();
     ask_all(alloc, &mut core, &mut lines, source, link, sink, turns)
 }
 

@@ -6,7 +6,8 @@ use std::alloc::{AllocError, Global};
 use vr_base::{ByteList, Seq};
 use vr_client::Answer;
 use vr_header::Operation;
-use vr_sched::{parse_operation, put_outcome};
+use vr_lines::parse_operation;
+use vr_text::put_outcome;
 
 /// The operation of a line, without its end: `put KEY VALUE`, `get KEY` or `del KEY`.
 #[tactic(auto, unfolding(crate::specs::Text::operation_of))]

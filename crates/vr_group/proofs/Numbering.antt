@@ -7,7 +7,7 @@ use Rattle.vr_rules.specs.World.{message_of, messages}
 use Rattle.vr_group.specs.Outputs.{Numbered, line_text, numbered, outputs_of, put_as, put_of, text_of, with_number, with_outputs}
 use Rattle.vr_group.specs.declared.outputs.Outputs.{Outputs}
 use Rattle.vr_group.specs.declared.outputs.Put.{Put}
-use Rattle.vr_sched.specs.Text as sched
+use Rattle.vr_text.specs.Text as texts
 
 pub messages_more : (o : Output) (os : List Output) → messages (o ∷ os) ≡ message_of o ++ messages os
 unfolding messages
@@ -47,7 +47,7 @@ outputs_append before a b =
     let text : (before.text ++ text_of a) ++ text_of b ≡ before.text ++ text_of (a ++ b) = append_assoc before.text (text_of a) (text_of b) ∙ ap (λ x. before.text ++ x) (sym (text_append a b)) in
     ap (λ x. outputs_as x ((before.text ++ text_of a) ++ text_of b)) puts ∙ ap (λ x. outputs_as (before.puts ++ map put_of (a ++ b)) x) text
 
-pub outputs_one : (m : ℕ) (o : Output) (before : Outputs) → outputs_as (before.puts ++ put_as m o ∷ []) (before.text ++ sched.line_text m o) ≡ with_outputs before (with_number m o ∷ [])
+pub outputs_one : (m : ℕ) (o : Output) (before : Outputs) → outputs_as (before.puts ++ put_as m o ∷ []) (before.text ++ texts.line_text m o) ≡ with_outputs before (with_number m o ∷ [])
 outputs_one m o before = ap (λ x. outputs_as (before.puts ++ put_as m o ∷ []) (before.text ++ x)) (sym (text_one (with_number m o)))
 
 pub outputs_more : (before : Outputs) (m : ℕ) (o : Output) (os : List Output)

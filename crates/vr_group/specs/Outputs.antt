@@ -4,7 +4,7 @@ use Rattle.std.specs.List.{flat_map}
 use Rattle.vr_msg.specs.declared.output.Output.{Output}
 use Rattle.vr_msg.specs.declared.output.Output.TheVariants as output
 use Rattle.vr_rules.specs.World.{message_of}
-use Rattle.vr_sched.specs.Text as sched
+use Rattle.vr_text.specs.Text as texts
 use Rattle.vr_group.specs.declared.outputs.Outputs.{Outputs}
 use Rattle.vr_group.specs.declared.outputs.Put.{Put}
 use Rattle.vr_group.specs.declared.outputs.Put.TheVariants.{Message, Other}
@@ -28,7 +28,7 @@ plain outputs = map (λ o. o.output) outputs
 
 -- the output's line
 abbrev pub line_text : Numbered → List ℕ
-line_text o = sched.line_text o.number o.output
+line_text o = texts.line_text o.number o.output
 
 -- a line for each
 unfoldable pub text_of : List Numbered → List ℕ

@@ -8,7 +8,7 @@ use crate::Letter;
 use std::alloc::{AllocError, Global};
 use vr_base::{ByteList, Seq};
 use vr_msg::{Outbox, Output, Sent};
-use vr_sched::write_text;
+use vr_text::write_text;
 
 /// What is put out: a message, which stays with those that were sent, by its number, or any other output.
 #[derive(Debug, Drop, PartialEq, Eq)]

@@ -1,7 +1,7 @@
 -- Texts that come in pieces.
-use Rattle.std.proofs.Common.{zero, suc, ◌≡◌, ◌<◌, ◌+◌, ℕ, Option, Some, None, take, List, [], ◌∷◌, ◌++◌, length, get_or, Bool, true, false, cond, eqb, refl, ap, sym, ◌∙◌, arith, append_assoc, subst}
+use Rattle.std.proofs.Common.{zero, suc, ◌≡◌, ◌≤◌, ◌<◌, ◌+◌, ℕ, Option, Some, None, take, drop, take-append-drop, List, [], ◌∷◌, ◌++◌, length, get_or, Bool, true, false, cond, eqb, refl, ap, sym, ◌∙◌, arith, append_assoc, subst}
 use Rattle.std.specs.Option.{IfSome}
-use Rattle.std.proofs.lemmas.List.{append-nil}
+use Rattle.std.proofs.lemmas.List.{append-nil, take-take}
 use Rattle.std.proofs.lemmas.Bool.Decides.{nat_tests}
 use Rattle.memchr.specs.Find.{IsFirstByte, is_byte}
 use Rattle.vr_lines.specs.Cuts.{Cut, joined, before, cut, whole_lines, if_any, lines_of, IsEnd}
@@ -159,3 +159,20 @@ found_end xs (Some at) h = end_at xs at h.0.high (λ k l e. h.0.before k (omega 
 pub found_none : (xs : List ℕ) (r : Option ℕ) → IsFirstByte (is_byte 10) xs r → r ≡ None → whole_lines xs ≡ []
 found_none xs None h e = no_end xs (λ k l t. h k (omega arith) l t)
 found_none xs (Some at) h e = absurd (cc)
+
+-- where both of two are nothing
+pub both_none : {X : Type 0} (xs ys : List X) → xs ++ ys ≡ [] → (xs ≡ []) × (ys ≡ [])
+both_none [] ys e = (refl, e)
+both_none (x ∷ xs) ys e = absurd (cc e)
+
+-- the front of a text without LF has none
+pub part_take : (n : ℕ) (p : List ℕ) → whole_lines p ≡ [] → whole_lines (take n p) ≡ []
+unfolding extended
+part_take n p h =
+    let lines : (cut (take n p)).lines ++ (cut ((cut (take n p)).last ++ drop n p)).lines ≡ [] =
+    ap (λ (c : Cut). c.lines) (sym (cut_append (take n p) (drop n p)) ∙ ap cut (take-append-drop n p)) ∙ h in
+    (both_none _ _ lines).0
+
+-- nor has what stands before the first LF
+pub part_before : (n at : ℕ) (xs : List ℕ) → IsEnd xs at → n ≤ at → whole_lines (take n xs) ≡ []
+part_before n at xs end h = subst (λ l. whole_lines l ≡ []) (take-take n at xs h) (part_take n (take at xs) end.before)

@@ -1,30 +1,43 @@
 -- Each line that is read speaks of the group.
 use Rattle.std.proofs.Common.{◌≡◌, ◌<◌, ◌≤◌, ◌^◌, ℕ, List, [], ◌∷◌, eqb, refl, arith, Option, Some, None}
-use Rattle.std.specs.Prelude.{◌&&◌, nat_le, nat_lt, codes, length}
+use Rattle.std.specs.Prelude.{nat_le, nat_lt, codes, length}
 use Rattle.std.specs.Option.{IfSome, option_map}
 use Rattle.std.specs.Str.{bytes_eq}
-use Rattle.std.proofs.lemmas.Bool.{and_parts, lt-ltb}
+use Rattle.std.proofs.lemmas.Bool.{lt-ltb}
 use Rattle.std.proofs.lemmas.Bool.Decides.{nat_tests}
-use Rattle.vr_base.specs.declared.mode.Mode.TheVariants.{Careful}
 use Rattle.vr_header.specs.declared.operation.Operation.{Operation}
-use Rattle.vr_sched.specs.Grammar as plain
-use Rattle.vr_sched.specs.Grammar.{line_words, asked_by, operation_words, is_fitting}
-use Rattle.vr_sched.specs.declared.line.Line as network
-use Rattle.vr_sched.specs.declared.line.Line.TheVariants as line
-use Rattle.vr_sched.specs.declared.request.Asked.{Asked}
-use Rattle.vr_sched.specs.Numbers.{number_below, number_of}
-use Rattle.vr_sched.specs.Words.{only_word, words_of}
 use Rattle.vr_lines.specs.declared.line.Line.{Line}
-use Rattle.vr_lines.specs.declared.line.Line.TheVariants.{Cluster, Tick, Stop, Start, Fuse, Misdirect}
+use Rattle.vr_lines.specs.declared.line.Line.TheVariants.{Cluster, Request, Deliver, Tick, Stop, Start, Fuse, Misdirect}
 use Rattle.vr_lines.specs.declared.member.Place.{Place}
+use Rattle.vr_lines.specs.declared.request.Asked.{Asked}
 use Rattle.vr_lines.specs.Fits.{IsLineOf}
-use Rattle.vr_lines.specs.Grammar.{call_of, careful_group, careful_line, careful_words, damage_line, fuse_line, fused, longest, lost_words, member_behind, member_line, misdirect_line, misdirected, or_other, other_line, parse, place_of, replica_word, sector_of, sector_words, stale_line, start_line, stop_line, tick_line, unread_line, widened}
+use Rattle.vr_lines.specs.Grammar.{asked_by, behind_asked, call_of, cluster_line, damage_line, deliver_line, fuse_line, fused, is_fitting, line_behind, line_words, longest, lost_words, member_line, misdirect_line, misdirected, mode_words, parse, place_of, replica_word, request_for, request_line, sector_of, sector_words, size_of, stale_line, start_line, stop_line, tick_line, unread_line}
+use Rattle.vr_lines.specs.Numbers.{number_below, number_of}
+use Rattle.vr_lines.specs.Operations.{operation_words}
+use Rattle.vr_lines.specs.Words.{only_word, words_of}
 use Rattle.vr_lines.proofs.Answers.{either, through, mapped, it_is, below}
+
+-- ---- the line that makes a group
+
+abbrev IsSize : ℕ → Type 0
+IsSize n = (2 ≤ n) × (n ≤ 6)
+
+size_fits : (word : List ℕ) → IfSome (size_of word) IsSize
+size_fits word =
+    through IsSize (number_below 7 word) _ (λ n e.
+    either IsSize (nat_le 2 n) (Some n) None (λ t. let most = below 7 word n e in (grind (arith, nat_tests), omega (arith, most))) (λ t. tt))
+
+cluster_fits : (words : List (List ℕ)) → IfSome (cluster_line words) (IsLineOf 0)
+cluster_fits [] = tt
+cluster_fits (size ∷ words) =
+    through (IsLineOf 0) (size_of size) _ (λ n e.
+    mapped (IsLineOf 0) (mode_words words) (Cluster n) (λ mode h. let is = it_is IsSize (size_of size) n (size_fits size) e in (refl, is.0, is.1)))
 
 -- ---- lines of clients and the network
 
-abbrev IsPlainOf : ℕ → network.Line → Type 0
-IsPlainOf n l = IsLineOf n (widened l)
+deliver_fits : (n : ℕ) (words : List (List ℕ)) → 0 < n → IfSome (deliver_line words) (IsLineOf n)
+deliver_fits n words h =
+    through (IsLineOf n) (only_word words) (λ a. option_map Deliver (number_of a)) (λ a e. mapped (IsLineOf n) (number_of a) Deliver (λ x k. h))
 
 asked_fits : (n : ℕ) (r c q : List ℕ) → IfSome (asked_by n r c q) (λ a. a.replica < n)
 unfolding asked_by
@@ -34,47 +47,18 @@ asked_fits n r c q =
     through (λ a. a.replica < n) (number_below (2 ^ 32) q) _ (λ request k.
     either (λ a. a.replica < n) (eqb client 0) None (Some (record { replica = replica; client = client; request = request })) (λ t. tt) (λ t. below n r replica e))))
 
-request_fits : (n : ℕ) (a : Asked) (o : Operation) → a.replica < n → IfSome (plain.request_for a o) (IsPlainOf n)
+request_fits : (n : ℕ) (a : Asked) (o : Operation) → a.replica < n → IfSome (request_for a o) (IsLineOf n)
 request_fits n a o h =
-    either (IsPlainOf n) (is_fitting o a.request) (Some (line.Request a.replica (record { cluster = 0; client = a.client; request = a.request; operation = o }))) None (λ e. h) (λ e. tt)
+    either (IsLineOf n) (is_fitting o a.request) (Some (Request a.replica (record { cluster = 0; client = a.client; request = a.request; operation = o }))) None (λ e. h) (λ e. tt)
 
-asking_fits : (n : ℕ) (words : List (List ℕ)) → IfSome (plain.request_line n words) (IsPlainOf n)
+asking_fits : (n : ℕ) (words : List (List ℕ)) → IfSome (request_line n words) (IsLineOf n)
 asking_fits n [] = tt
 asking_fits n (r ∷ []) = tt
 asking_fits n (r ∷ c ∷ []) = tt
 asking_fits n (r ∷ c ∷ q ∷ words) =
-    through (IsPlainOf n) (asked_by n r c q) (λ asked. plain.behind_asked asked words) (λ a e.
-    through (IsPlainOf n) (operation_words words) (plain.request_for a) (λ o h.
+    through (IsLineOf n) (asked_by n r c q) (λ asked. behind_asked asked words) (λ a e.
+    through (IsLineOf n) (operation_words words) (request_for a) (λ o h.
     request_fits n a o (it_is (λ a. a.replica < n) (asked_by n r c q) a (asked_fits n r c q) e)))
-
-cluster_fits : (words : List (List ℕ)) → IfSome (plain.cluster_line words) (IsPlainOf 0)
-cluster_fits words =
-    through (IsPlainOf 0) (only_word words) _ (λ a e.
-    through (IsPlainOf 0) (number_below 7 a) _ (λ n h.
-    either (IsPlainOf 0) (nat_le 2 n) (Some (line.Cluster n)) None
-    (λ t. let most = below 7 a n h in (refl, grind (arith, nat_tests), omega (arith, most))) (λ t. tt)))
-
-deliver_fits : (n : ℕ) (words : List (List ℕ)) → 0 < n → IfSome (plain.deliver_line words) (IsPlainOf n)
-deliver_fits n words h =
-    through (IsPlainOf n) (only_word words) (λ a. option_map line.Deliver (number_of a)) (λ a e. mapped (IsPlainOf n) (number_of a) line.Deliver (λ x k. h))
-
-plain_behind : (n : ℕ) (word : List ℕ) (words : List (List ℕ)) → IfSome (plain.line_behind n word words) (IsPlainOf n)
-plain_behind n word words =
-    either (IsPlainOf n) (eqb n 0) _ _
-    (λ e. let none : n ≡ 0 = grind (arith, nat_tests) in
-    rw none (either (IsPlainOf 0) (bytes_eq word (codes "cluster")) (plain.cluster_line words) None (λ t. cluster_fits words) (λ t. tt)))
-    (λ e. let some : 0 < n = grind (arith, nat_tests) in
-    either (IsPlainOf n) (bytes_eq word (codes "request")) (plain.request_line n words) _ (λ t. asking_fits n words)
-    (λ t. either (IsPlainOf n) (bytes_eq word (codes "deliver")) (plain.deliver_line words) None (λ u. deliver_fits n words some) (λ u. tt)))
-
-plain_words : (n : ℕ) (words : List (List ℕ)) → IfSome (line_words n words) (IsPlainOf n)
-unfolding line_words
-plain_words n [] = tt
-plain_words n (word ∷ words) = plain_behind n word words
-
-plain_fits : (n : ℕ) (bytes : List ℕ) → IfSome (plain.parse n bytes) (IsPlainOf n)
-unfolding plain.parse
-plain_fits n bytes = either (IsPlainOf n) (nat_lt plain.longest (length bytes)) None (line_words n (words_of bytes)) (λ e. tt) (λ e. plain_words n (words_of bytes))
 
 -- ---- lines that speak of one replica
 
@@ -154,63 +138,36 @@ lost_fits n word words =
     (λ e. either (IsLineOf n) (bytes_eq word (codes "unread")) (unread_line n words) _ (λ e. sector_fits n words _ (λ p h. h))
     (λ e. either (IsLineOf n) (bytes_eq word (codes "misdirect")) (misdirect_line n words) None (λ e. misdirect_fits n words) (λ e. tt)))))
 
-behind_fits : (n : ℕ) (word : List ℕ) (words : List (List ℕ)) → IfSome (member_behind n word words) (IsLineOf n)
-behind_fits n word words =
+member_fits : (n : ℕ) (word : List ℕ) (words : List (List ℕ)) → IfSome (member_line n word words) (IsLineOf n)
+member_fits n word words =
     either (IsLineOf n) (bytes_eq word (codes "tick")) (tick_line n words) _ (λ e. replica_fits n words Tick (λ r h. h))
     (λ e. either (IsLineOf n) (bytes_eq word (codes "stop")) (stop_line n words) _ (λ e. replica_fits n words Stop (λ r h. h))
     (λ e. either (IsLineOf n) (bytes_eq word (codes "start")) (start_line n words) (lost_words n word words) (λ e. replica_fits n words Start (λ r h. h)) (λ e. lost_fits n word words)))
 
-member_fits : (n : ℕ) (words : List (List ℕ)) → IfSome (member_line n words) (IsLineOf n)
-unfolding member_line
-member_fits n [] = tt
-member_fits n (word ∷ words) = behind_fits n word words
-
--- ---- the line that makes a group on careful files
-
-group_fits : (size mode : List ℕ) → IfSome (careful_group size mode) (IsLineOf 0)
-group_fits size mode =
-    through (IsLineOf 0) (number_below 7 size) _ (λ n e.
-    either (IsLineOf 0) (nat_le 2 n && bytes_eq mode (codes "careful")) (Some (Cluster n Careful)) None
-    (λ t. let most = below 7 size n e in let least = (and_parts (nat_le 2 n) (bytes_eq mode (codes "careful")) t).0 in (refl, grind (arith, nat_tests), omega (arith, most))) (λ t. tt))
-
-sizes_fit : (words : List (List ℕ)) → IfSome (careful_words words) (IsLineOf 0)
-sizes_fit [] = tt
-sizes_fit (size ∷ []) = tt
-sizes_fit (size ∷ mode ∷ []) = group_fits size mode
-sizes_fit (size ∷ mode ∷ more ∷ words) = tt
-
-careful_fits : (words : List (List ℕ)) → IfSome (careful_line words) (IsLineOf 0)
-unfolding careful_line
-careful_fits [] = tt
-careful_fits (word ∷ words) = either (IsLineOf 0) (bytes_eq word (codes "cluster")) (careful_words words) None (λ t. sizes_fit words) (λ t. tt)
-
-other_fits : (n : ℕ) (words : List (List ℕ)) → IfSome (other_line n words) (IsLineOf n)
-other_fits n words =
-    either (IsLineOf n) (eqb n 0) (careful_line words) (member_line n words)
-    (λ e. let none : n ≡ 0 = grind (arith, nat_tests) in rw none (careful_fits words)) (λ e. member_fits n words)
-
 -- ---- all lines
 
-either_fits : (n : ℕ) (o : Option network.Line) (other : Option Line) → IfSome o (IsPlainOf n) → IfSome other (IsLineOf n) → IfSome (or_other o other) (IsLineOf n)
-either_fits n (Some l) other h k = h
-either_fits n None other h k = k
+behind_fits : (n : ℕ) (word : List ℕ) (words : List (List ℕ)) → IfSome (line_behind n word words) (IsLineOf n)
+behind_fits n word words =
+    either (IsLineOf n) (eqb n 0) _ _
+    (λ e. let none : n ≡ 0 = grind (arith, nat_tests) in
+    rw none (either (IsLineOf 0) (bytes_eq word (codes "cluster")) (cluster_line words) None (λ t. cluster_fits words) (λ t. tt)))
+    (λ e. let some : 0 < n = grind (arith, nat_tests) in
+    either (IsLineOf n) (bytes_eq word (codes "request")) (request_line n words) _ (λ t. asking_fits n words)
+    (λ t. either (IsLineOf n) (bytes_eq word (codes "deliver")) (deliver_line words) (member_line n word words) (λ u. deliver_fits n words some) (λ u. member_fits n word words)))
+
+words_fit : (n : ℕ) (words : List (List ℕ)) → IfSome (line_words n words) (IsLineOf n)
+unfolding line_words
+words_fit n [] = tt
+words_fit n (word ∷ words) = behind_fits n word words
 
 pub parse_fits : (n : ℕ) (bytes : List ℕ) → IfSome (parse n bytes) (IsLineOf n)
 unfolding parse
-parse_fits n bytes =
-    either (IsLineOf n) (nat_lt longest (length bytes)) None (or_other (plain.parse n bytes) (other_line n (words_of bytes))) (λ e. tt)
-    (λ e. either_fits n (plain.parse n bytes) (other_line n (words_of bytes)) (plain_fits n bytes) (other_fits n (words_of bytes)))
+parse_fits n bytes = either (IsLineOf n) (nat_lt longest (length bytes)) None (line_words n (words_of bytes)) (λ e. tt) (λ e. words_fit n (words_of bytes))
 
 -- what is longer than every line is none
 pub long_parse : (n : ℕ) (bytes : List ℕ) → longest < length bytes → parse n bytes ≡ None
 unfolding parse
 long_parse n bytes h = rw (lt-ltb longest (length bytes) h) refl
-
-pub plain_parsed : (n : ℕ) (bytes : List ℕ) (l : network.Line) → plain.parse n bytes ≡ Some l → IsLineOf n (widened l)
-plain_parsed n bytes l e = it_is (IsPlainOf n) (plain.parse n bytes) l (plain_fits n bytes) e
-
-pub other_parsed : (n : ℕ) (words : List (List ℕ)) (l : Line) → other_line n words ≡ Some l → IsLineOf n l
-other_parsed n words l e = it_is (IsLineOf n) (other_line n words) l (other_fits n words) e
 
 pub parsed_fits : (n : ℕ) (bytes : List ℕ) (l : Line) → parse n bytes ≡ Some l → IsLineOf n l
 parsed_fits n bytes l e = it_is (IsLineOf n) (parse n bytes) l (parse_fits n bytes) e

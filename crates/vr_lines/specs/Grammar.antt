@@ -1,16 +1,71 @@
 -- The whole language of schedules, line by line.
-use Rattle.std.specs.Prelude.{ℕ, nat_le, nat_lt, ◌==◌, ◌&&◌, List, [], ◌∷◌, length, Option, Some, None, option_and_then, if◌then◌else◌, codes}
+use Rattle.std.specs.Prelude.{ℕ, Bool, not, nat_le, nat_lt, ◌==◌, ◌^◌, List, [], ◌∷◌, length, Option, Some, None, option_and_then, if◌then◌else◌, codes}
 use Rattle.std.specs.Option.{option_map}
 use Rattle.std.specs.Str.{bytes_eq}
+use Rattle.vr_base.specs.declared.mode.Mode.{Mode}
 use Rattle.vr_base.specs.declared.mode.Mode.TheVariants.{Strict, Careful}
-use Rattle.vr_sched.specs.Grammar as plain
-use Rattle.vr_sched.specs.declared.line.Line as network
-use Rattle.vr_sched.specs.declared.line.Line.TheVariants as line
-use Rattle.vr_sched.specs.Numbers.{number_below, number_of}
-use Rattle.vr_sched.specs.Words.{only_word, words_of}
+use Rattle.vr_header.specs.declared.operation.Operation.{Operation}
+use Rattle.vr_header.specs.Made.{is_register}
 use Rattle.vr_lines.specs.declared.line.Line.{Line}
 use Rattle.vr_lines.specs.declared.line.Line.TheVariants.{Cluster, Request, Deliver, Tick, Stop, Start, Fuse, Damage, Stale, Unread, Misdirect}
 use Rattle.vr_lines.specs.declared.member.Place.{Place}
+use Rattle.vr_lines.specs.declared.request.Asked.{Asked}
+use Rattle.vr_lines.specs.Numbers.{number_of, number_below}
+use Rattle.vr_lines.specs.Operations.{operation_words}
+use Rattle.vr_lines.specs.Words.{only_word, words_of}
+
+-- ---- the line that makes a group
+
+-- the mode of a group's files, behind its size: strict, where nothing stands there
+abbrev pub mode_words : List (List ℕ) → Option Mode
+mode_words [] = Some Strict
+mode_words (word ∷ []) = if bytes_eq word (codes "careful") then Some Careful else None
+mode_words _ = None
+
+-- N from 2 to 6
+abbrev pub size_of : List ℕ → Option ℕ
+size_of word = option_and_then (λ n. if nat_le 2 n then Some n else None) (number_below 7 word)
+
+-- `cluster N`, `cluster N careful`
+abbrev pub cluster_line : List (List ℕ) → Option Line
+cluster_line [] = None
+cluster_line (size ∷ words) = option_and_then (λ n. option_map (Cluster n) (mode_words words)) (size_of size)
+
+-- ---- lines of clients and the network
+
+-- `deliver X` with X below 2 ^ 64
+abbrev pub deliver_line : List (List ℕ) → Option Line
+deliver_line words = option_and_then (λ a. option_map Deliver (number_of a)) (only_word words)
+
+-- replica, client and number of a request: `R C Q` with R below n, C from 1 to 2 ^ 64 - 1 and Q below 2 ^ 32
+unfoldable pub asked_by : ℕ → List ℕ → List ℕ → List ℕ → Option Asked
+asked_by n r c q =
+    option_and_then
+    (λ replica. option_and_then
+    (λ client. option_and_then
+    (λ request. if client == 0 then None else Some (record { replica = replica; client = client; request = request }))
+    (number_below (2 ^ 32) q))
+    (number_of c))
+    (number_below n r)
+
+-- a session begins exactly with request number 0
+abbrev pub is_fitting : Operation → ℕ → Bool
+is_fitting operation request = if is_register operation then request == 0 else not (request == 0)
+
+abbrev pub request_for : Asked → Operation → Option Line
+request_for asked operation =
+    if is_fitting operation asked.request
+    then Some (Request asked.replica (record { cluster = 0; client = asked.client; request = asked.request; operation = operation }))
+    else None
+
+-- the operation behind
+abbrev pub behind_asked : Asked → List (List ℕ) → Option Line
+behind_asked asked words = option_and_then (request_for asked) (operation_words words)
+
+-- `request R C Q OP`
+abbrev pub request_line : ℕ → List (List ℕ) → Option Line
+request_line n (r ∷ c ∷ q ∷ words) = option_and_then (λ asked. behind_asked asked words) (asked_by n r c q)
+request_line n _ = None
 
 -- ---- lines that speak of one replica
 
@@ -99,55 +154,33 @@ lost_words n word words =
     else (if bytes_eq word (codes "misdirect") then misdirect_line n words
     else None))))
 
--- a line by its first word and those behind it
-abbrev pub member_behind : ℕ → List ℕ → List (List ℕ) → Option Line
-member_behind n word words =
+-- by its first word and those behind it
+abbrev pub member_line : ℕ → List ℕ → List (List ℕ) → Option Line
+member_line n word words =
     if bytes_eq word (codes "tick") then tick_line n words
     else (if bytes_eq word (codes "stop") then stop_line n words
     else (if bytes_eq word (codes "start") then start_line n words
     else lost_words n word words))
 
-unfoldable pub member_line : ℕ → List (List ℕ) → Option Line
-member_line n [] = None
-member_line n (word ∷ words) = member_behind n word words
-
--- ---- the line that makes a group on careful files
-
--- N from 2 to 6, and `careful`
-abbrev pub careful_group : List ℕ → List ℕ → Option Line
-careful_group size mode =
-    option_and_then (λ n. if nat_le 2 n && bytes_eq mode (codes "careful") then Some (Cluster n Careful) else None) (number_below 7 size)
-
--- N and its mode behind `cluster`
-abbrev pub careful_words : List (List ℕ) → Option Line
-careful_words (size ∷ mode ∷ []) = careful_group size mode
-careful_words _ = None
-
--- `cluster N careful`
-unfoldable pub careful_line : List (List ℕ) → Option Line
-careful_line [] = None
-careful_line (word ∷ words) = if bytes_eq word (codes "cluster") then careful_words words else None
-
 -- ---- all lines
 
--- a line of what clients and the network do; its group is on strict files
-abbrev pub widened : network.Line → Line
-widened (line.Cluster n) = Cluster n Strict
-widened (line.Request replica request) = Request replica request
-widened (line.Deliver number) = Deliver number
+-- a line by its first word and those behind it, for a group of n replicas; n is 0 before the first line, which makes the group,
+-- and no other line does
+abbrev pub line_behind : ℕ → List ℕ → List (List ℕ) → Option Line
+line_behind n word words =
+    if n == 0 then (if bytes_eq word (codes "cluster") then cluster_line words else None)
+    else (if bytes_eq word (codes "request") then request_line n words
+    else (if bytes_eq word (codes "deliver") then deliver_line words
+    else member_line n word words))
 
--- a line of no client and not of the network: it makes a group, or speaks of one replica of the group that there is
-abbrev pub other_line : ℕ → List (List ℕ) → Option Line
-other_line n words = if n == 0 then careful_line words else member_line n words
+unfoldable pub line_words : ℕ → List (List ℕ) → Option Line
+line_words n [] = None
+line_words n (word ∷ words) = line_behind n word words
 
-abbrev pub or_other : Option network.Line → Option Line → Option Line
-or_other (Some l) other = Some (widened l)
-or_other None other = other
-
--- the most bytes that a line has
+-- the most bytes that a line has: `request 5 18446744073709551615 4294967295 put KEY VALUE` with 64 and 1,024 bytes
 abbrev pub longest : ℕ
-longest = plain.longest
+longest = 1135
 
--- the line that these bytes spell, without its end, for a group of n replicas; n is 0 before the first line, which makes the group
+-- the line that these bytes spell, without its end
 unfoldable pub parse : ℕ → List ℕ → Option Line
-parse n bytes = if nat_lt longest (length bytes) then None else or_other (plain.parse n bytes) (other_line n (words_of bytes))
+parse n bytes = if nat_lt longest (length bytes) then None else line_words n (words_of bytes)

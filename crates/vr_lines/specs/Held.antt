@@ -1,6 +1,6 @@
 -- What has come of a source, and the line that was given of it.
 use Rattle.std.specs.Io.KnownBytes.{Consumes, IsAtEnd}
-use Rattle.std.specs.Prelude.{ℕ, ◌-◌, ◌≡◌, ◌≤◌, ◌<◌, ◌⊎◌, Bool, true, false, List, [], ◌∷◌, ◌++◌, Option, length, take, drop}
+use Rattle.std.specs.Prelude.{ℕ, ◌+◌, ◌-◌, ◌≡◌, ◌≤◌, ◌<◌, ◌⊎◌, Bool, true, false, List, [], ◌∷◌, ◌++◌, Option, length, take, drop}
 use Rattle.vr_lines.specs.Cuts.{whole_lines}
 use Rattle.vr_lines.specs.declared.lines.Next.{Next}
 use Rattle.vr_lines.specs.declared.lines.Next.TheVariants as next
@@ -36,3 +36,10 @@ Gives ended old new next.Line = IsGiven ended old new
 Gives ended old new next.TooLong = (whole_lines old ≡ []) × (length old ≡ 1136) × (new.bytes ≡ old)
 Gives ended old new next.End = (ended ≡ true) × (old ≡ []) × (new.bytes ≡ old)
 Gives ended old new next.More = (ended ≡ false) × (whole_lines old ≡ []) × (length old < 1136) × (new.bytes ≡ old)
+
+-- the same of a source whose lines have at most so many bytes
+abbrev pub GivesWithin : ℕ → Bool → List ℕ → Held → Next → Type 0
+GivesWithin longest ended old new next.Line = IsGiven ended old new × (length new.line ≤ longest)
+GivesWithin longest ended old new next.TooLong = (whole_lines (take (longest + 1) old) ≡ []) × (longest < length old) × (length old ≤ 1136) × (new.bytes ≡ old)
+GivesWithin longest ended old new next.End = (ended ≡ true) × (old ≡ []) × (new.bytes ≡ old)
+GivesWithin longest ended old new next.More = (ended ≡ false) × (whole_lines old ≡ []) × (length old ≤ longest) × (new.bytes ≡ old)

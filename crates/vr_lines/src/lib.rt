@@ -1,13 +1,20 @@
-//! The lines of a schedule: what each of them is, and where they end in the pieces of a source.
+//! The language of schedules: its words, numbers, operations and lines, and where lines end in the pieces of a source.
 #![tactic(auto)]
 
-mod careful;
+mod group;
 mod line;
 mod lines;
 mod member;
+mod number;
+mod operation;
 mod parsing;
+mod reading;
+mod request;
+mod words;
 
 pub use line::Line;
 pub use lines::{Lines, Next};
-pub use parsing::{LONGEST, parse_line};
-pub use vr_sched::LineFault;
+pub use number::{read_below, read_number};
+pub use operation::parse_operation;
+pub use parsing::{LONGEST, LineFault, parse_line};
+pub use reading::Found;

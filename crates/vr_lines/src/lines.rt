@@ -1,10 +1,11 @@
 //! Where lines end in the pieces of a source.
-ghost use Rattle.std.specs.Prelude.{◌≡◌, ◌<◌, ◌-◌, ◌++◌, [], None, IfOk, IfSome, OnErr, length, min, take};
+ghost use Rattle.std.specs.Prelude.{◌≡◌, ◌≤◌, ◌<◌, ◌-◌, ◌++◌, [], None, IfOk, IfSome, OnErr, length, min, take};
 ghost use Rattle.std.specs.Io.KnownBytes.{Keeps};
 ghost use Rattle.vr_base.specs.Causes.{HasCause};
 ghost use Rattle.vr_lines.specs.Cuts.{whole_lines, IsEnd};
-ghost use Rattle.vr_lines.specs.Held.{Fills, Gives};
+ghost use Rattle.vr_lines.specs.Held.{Fills, Gives, GivesWithin};
 
+use crate::LONGEST;
 use memchr::memchr;
 use std::marker::Model;
 use vr_edge::{ReadFailed, Source};
@@ -107,19 +108,21 @@ impl Lines {
         Ok(count)
     }
 
-    /// What comes next; `ended` says that the source is at its end.
-    pub fn next(&mut self, ended: bool) -> Next
-        ensures { Gives ended self.old.bytes self.new result }
+    /// What comes next of a source whose lines have at most so many bytes; `ended` says that the source is at its end.
+    pub(crate) fn give(&mut self, longest: usize, ended: bool) -> Next
+        requires { longest ≤ 1135 }
+        ensures { GivesWithin longest ended self.old.bytes self.new result }
     {
         let held = self.end - self.start;
         match find_end(&self.buffer[self.start..self.end]) {
+            Some(at) if at > longest => Next::TooLong,
             Some(at) => {
                 self.from = self.start;
                 self.to = self.start + at;
                 self.start += at + 1;
                 Next::Line
             }
-            None if held == ROOM => Next::TooLong,
+            None if held > longest => Next::TooLong,
             None if !ended => Next::More,
             None if held == 0 => Next::End,
             None => {
@@ -129,6 +132,14 @@ impl Lines {
                 Next::Line
             }
         }
+    }
+
+    /// What comes next of a schedule; `ended` says that its source is at its end.
+    #[tactic(auto, using(std::proofs::lemmas::Grind::common_steps, crate::proofs::Giving::gives))]
+    pub fn next(&mut self, ended: bool) -> Next
+        ensures { Gives ended self.old.bytes self.new result }
+    {
+        self.give(LONGEST, ended)
     }
 
     /// The line that was given last, without its end.

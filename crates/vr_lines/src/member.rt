@@ -1,10 +1,11 @@
 //! Lines that speak of one replica.
 ghost use Rattle.std.specs.Prelude.{◌≡◌};
-ghost use Rattle.vr_lines.specs.Grammar.{call_of, damage_line, fuse_line, fused, lost_words, member_behind, member_line, misdirect_line, misdirected, replica_word, sector_of, sector_words, stale_line, start_line, stop_line, tick_line, unread_line};
-ghost use Rattle.vr_sched.specs.Words.{words_left};
+ghost use Rattle.vr_lines.specs.Grammar.{call_of, damage_line, fuse_line, fused, lost_words, member_line, misdirect_line, misdirected, replica_word, sector_of, sector_words, stale_line, start_line, stop_line, tick_line, unread_line};
+ghost use Rattle.vr_lines.specs.Words.{words_left};
 
 use crate::Line;
-use vr_sched::{Words, is_word, read_below, read_number};
+use crate::number::{read_below, read_number};
+use crate::words::{Words, is_word};
 
 /// A sector of a replica's disk.
 #[derive(Clone, Copy)]
@@ -159,8 +160,9 @@ fn read_lost(n: u8, word: &[u8], words: Words<'_>) -> Option<Line>
     }
 }
 
-fn read_behind(n: u8, word: &[u8], words: Words<'_>) -> Option<Line>
-    ensures { result ≡ member_behind n word.now (words_left words.entry) }
+/// A line that speaks of one replica of a group of `n`, by its first word and those behind it.
+pub fn read_member(n: u8, word: &[u8], words: Words<'_>) -> Option<Line>
+    ensures { result ≡ member_line n word.now (words_left words.entry) }
 {
     if is_word(word, "tick") {
         read_tick(n, words)
@@ -171,13 +173,4 @@ fn read_behind(n: u8, word: &[u8], words: Words<'_>) -> Option<Line>
     } else {
         read_lost(n, word, words)
     }
-}
-
-/// A line that speaks of one replica of a group of `n`.
-#[tactic(auto, unfolding(crate::specs::Grammar::member_line))]
-pub fn read_member(n: u8, words: Words<'_>) -> Option<Line>
-    ensures { result ≡ member_line n (words_left words.entry) }
-{
-    let (word, words) = words.first()?;
-    read_behind(n, word, words)
 }

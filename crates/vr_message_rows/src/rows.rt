@@ -5,7 +5,7 @@ use std::alloc::{AllocError, Global};
 use vr_base::ByteList;
 use vr_codec::{decode, encode, judge};
 use vr_msg::{Frame, Message, Output, Sent};
-use vr_sched::write_text;
+use vr_text::write_text;
 
 /// Bytes that have a name.
 #[derive(Drop)]

@@ -4,23 +4,19 @@ use Rattle.std.specs.Prelude.{IsTrue, codes, length, nat_lt}
 use Rattle.std.specs.Option.{IfSome, option_map}
 use Rattle.std.specs.Str.{bytes_eq}
 use Rattle.std.proofs.lemmas.Bool.Decides.{nat_tests}
-use Rattle.vr_base.specs.declared.mode.Mode.TheVariants.{Careful}
 use Rattle.vr_header.specs.Bodies.{IsOperation}
 use Rattle.vr_header.specs.Text.{is_text, text_of}
 use Rattle.vr_header.specs.declared.operation.Operation.{Operation}
 use Rattle.vr_header.specs.declared.operation.Operation.TheVariants as operation
 use Rattle.vr_msg.specs.Asking.{IsRequest}
-use Rattle.vr_sched.specs.Grammar as plain
-use Rattle.vr_sched.specs.Grammar.{asked_by, behind_asked, is_fitting, key_word, line_words, operation_words, pair_of, put_words, register_words, request_for}
-use Rattle.vr_sched.specs.declared.line.Line as network
-use Rattle.vr_sched.specs.declared.line.Line.TheVariants as line
-use Rattle.vr_sched.specs.declared.request.Asked.{Asked}
-use Rattle.vr_sched.specs.Numbers.{digits_on, number_below, number_of, with_digit}
-use Rattle.vr_sched.specs.Words.{only_word, words_of}
-use Rattle.vr_lines.specs.Grammar.{careful_line, careful_words, damage_line, fuse_line, lost_words, longest, member_line, misdirect_line, or_other, other_line, parse, replica_word, sector_of, sector_words, stale_line, start_line, stop_line, tick_line, unread_line, widened}
+use Rattle.vr_lines.specs.Grammar.{asked_by, behind_asked, cluster_line, damage_line, deliver_line, fuse_line, is_fitting, line_behind, line_words, longest, lost_words, member_line, misdirect_line, mode_words, parse, replica_word, request_for, request_line, sector_of, sector_words, size_of, stale_line, start_line, stop_line, tick_line, unread_line}
+use Rattle.vr_lines.specs.Numbers.{digits_on, number_below, number_of, with_digit}
+use Rattle.vr_lines.specs.Operations.{key_word, operation_words, pair_of, put_words, register_words}
+use Rattle.vr_lines.specs.Words.{only_word, words_of}
 use Rattle.vr_lines.specs.declared.line.Line.{Line}
-use Rattle.vr_lines.specs.declared.line.Line.TheVariants.{Cluster, Tick, Stop, Start, Fuse, Misdirect}
+use Rattle.vr_lines.specs.declared.line.Line.TheVariants.{Cluster, Request, Deliver, Tick, Stop, Start, Fuse, Misdirect}
 use Rattle.vr_lines.specs.declared.member.Place.{Place}
+use Rattle.vr_lines.specs.declared.request.Asked.{Asked}
 use Rattle.vr_lines.proofs.Answers.{below, either, it_is, mapped, through}
 use Rattle.vr_group.specs.Headline.{HasAsked}
 
@@ -97,47 +93,19 @@ fits_form a (operation.Put key value) e = (λ same. absurd cc, λ zero. absurd (
 fits_form a (operation.Get key) e = (λ same. absurd cc, λ zero. absurd (grind (arith, nat_tests)))
 fits_form a (operation.Delete key) e = (λ same. absurd cc, λ zero. absurd (grind (arith, nat_tests)))
 
--- a line's request can be asked
-abbrev HasAskedPlain : network.Line → Type 0
-HasAskedPlain l = HasAsked (widened l)
-
-request_fits : (a : Asked) (o : Operation) → IsNumbered a → IsOperation o → IfSome (request_for a o) HasAskedPlain
+request_fits : (a : Asked) (o : Operation) → IsNumbered a → IsOperation o → IfSome (request_for a o) HasAsked
 request_fits a o is of =
-    either HasAskedPlain (is_fitting o a.request) (Some (line.Request a.replica (record { cluster = 0; client = a.client; request = a.request; operation = o }))) None
+    either HasAsked (is_fitting o a.request) (Some (Request a.replica (record { cluster = 0; client = a.client; request = a.request; operation = o }))) None
     (λ e. (record { form = fits_form a o e; client = is.client; request = is.request; operation = of }, omega arith)) (λ e. tt)
 
-asking_fits : (n : ℕ) (words : List (List ℕ)) → IfSome (plain.request_line n words) HasAskedPlain
+asking_fits : (n : ℕ) (words : List (List ℕ)) → IfSome (request_line n words) HasAsked
 asking_fits n [] = tt
 asking_fits n (r ∷ []) = tt
 asking_fits n (r ∷ c ∷ []) = tt
 asking_fits n (r ∷ c ∷ q ∷ words) =
-    through HasAskedPlain (asked_by n r c q) (λ asked. behind_asked asked words) (λ a e.
-    through HasAskedPlain (operation_words words) (request_for a) (λ o h.
+    through HasAsked (asked_by n r c q) (λ asked. behind_asked asked words) (λ a e.
+    through HasAsked (operation_words words) (request_for a) (λ o h.
     request_fits a o (it_is IsNumbered (asked_by n r c q) a (asked_fits n r c q) e) (it_is IsOperation (operation_words words) o (operation_fits words) h)))
-
-cluster_fits : (words : List (List ℕ)) → IfSome (plain.cluster_line words) HasAskedPlain
-cluster_fits words =
-    through HasAskedPlain (only_word words) _ (λ a e.
-    through HasAskedPlain (number_below 7 a) _ (λ n h. either HasAskedPlain _ (Some (line.Cluster n)) None (λ t. tt) (λ t. tt)))
-
-deliver_fits : (words : List (List ℕ)) → IfSome (plain.deliver_line words) HasAskedPlain
-deliver_fits words = through HasAskedPlain (only_word words) (λ a. option_map line.Deliver (number_of a)) (λ a e. mapped HasAskedPlain (number_of a) line.Deliver (λ x k. tt))
-
-behind_fits : (n : ℕ) (word : List ℕ) (words : List (List ℕ)) → IfSome (plain.line_behind n word words) HasAskedPlain
-behind_fits n word words =
-    either HasAskedPlain (eqb n 0) _ _
-    (λ e. either HasAskedPlain (bytes_eq word (codes "cluster")) (plain.cluster_line words) None (λ t. cluster_fits words) (λ t. tt))
-    (λ e. either HasAskedPlain (bytes_eq word (codes "request")) (plain.request_line n words) _ (λ t. asking_fits n words)
-    (λ t. either HasAskedPlain (bytes_eq word (codes "deliver")) (plain.deliver_line words) None (λ u. deliver_fits words) (λ u. tt)))
-
-plain_words : (n : ℕ) (words : List (List ℕ)) → IfSome (line_words n words) HasAskedPlain
-unfolding line_words
-plain_words n [] = tt
-plain_words n (word ∷ words) = behind_fits n word words
-
-plain_fits : (n : ℕ) (bytes : List ℕ) → IfSome (plain.parse n bytes) HasAskedPlain
-unfolding plain.parse
-plain_fits n bytes = either HasAskedPlain (nat_lt plain.longest (length bytes)) None (line_words n (words_of bytes)) (λ e. tt) (λ e. plain_words n (words_of bytes))
 
 -- ---- lines that speak of one replica ask nothing
 
@@ -173,40 +141,36 @@ lost_asks n word words =
     (λ e. either HasAsked (bytes_eq word (codes "unread")) (unread_line n words) _ (λ e. sector_asks n words _ (λ p. tt))
     (λ e. either HasAsked (bytes_eq word (codes "misdirect")) (misdirect_line n words) None (λ e. misdirect_asks n words) (λ e. tt)))))
 
-member_asks : (n : ℕ) (words : List (List ℕ)) → IfSome (member_line n words) HasAsked
-unfolding member_line
-member_asks n [] = tt
-member_asks n (word ∷ words) =
+member_asks : (n : ℕ) (word : List ℕ) (words : List (List ℕ)) → IfSome (member_line n word words) HasAsked
+member_asks n word words =
     either HasAsked (bytes_eq word (codes "tick")) (tick_line n words) _ (λ e. replica_asks n words Tick (λ r. tt))
     (λ e. either HasAsked (bytes_eq word (codes "stop")) (stop_line n words) _ (λ e. replica_asks n words Stop (λ r. tt))
     (λ e. either HasAsked (bytes_eq word (codes "start")) (start_line n words) (lost_words n word words) (λ e. replica_asks n words Start (λ r. tt)) (λ e. lost_asks n word words)))
 
--- ---- the line that makes a group on careful files
-
-careful_asks : (words : List (List ℕ)) → IfSome (careful_words words) HasAsked
-careful_asks [] = tt
-careful_asks (size ∷ []) = tt
-careful_asks (size ∷ mode ∷ []) = through HasAsked (number_below 7 size) _ (λ n e. either HasAsked _ (Some (Cluster n Careful)) None (λ t. tt) (λ t. tt))
-careful_asks (size ∷ mode ∷ more ∷ words) = tt
-
-other_asks : (n : ℕ) (words : List (List ℕ)) → IfSome (other_line n words) HasAsked
-unfolding careful_line
-other_asks n [] = either HasAsked (eqb n 0) None (member_line n []) (λ t. tt) (λ t. member_asks n [])
-other_asks n (word ∷ words) =
-    either HasAsked (eqb n 0) (careful_line (word ∷ words)) (member_line n (word ∷ words))
-    (λ t. either HasAsked (bytes_eq word (codes "cluster")) (careful_words words) None (λ u. careful_asks words) (λ u. tt)) (λ t. member_asks n (word ∷ words))
-
 -- ---- all lines
 
-either_asks : (o : Option network.Line) (other : Option Line) → IfSome o HasAskedPlain → IfSome other HasAsked → IfSome (or_other o other) HasAsked
-either_asks (Some l) other h k = h
-either_asks None other h k = k
+cluster_asks : (words : List (List ℕ)) → IfSome (cluster_line words) HasAsked
+cluster_asks [] = tt
+cluster_asks (size ∷ words) = through HasAsked (size_of size) _ (λ n e. mapped HasAsked (mode_words words) (Cluster n) (λ mode h. tt))
+
+deliver_asks : (words : List (List ℕ)) → IfSome (deliver_line words) HasAsked
+deliver_asks words = through HasAsked (only_word words) (λ a. option_map Deliver (number_of a)) (λ a e. mapped HasAsked (number_of a) Deliver (λ x k. tt))
+
+behind_asks : (n : ℕ) (word : List ℕ) (words : List (List ℕ)) → IfSome (line_behind n word words) HasAsked
+behind_asks n word words =
+    either HasAsked (eqb n 0) _ _
+    (λ e. either HasAsked (bytes_eq word (codes "cluster")) (cluster_line words) None (λ t. cluster_asks words) (λ t. tt))
+    (λ e. either HasAsked (bytes_eq word (codes "request")) (request_line n words) _ (λ t. asking_fits n words)
+    (λ t. either HasAsked (bytes_eq word (codes "deliver")) (deliver_line words) (member_line n word words) (λ u. deliver_asks words) (λ u. member_asks n word words)))
+
+words_ask : (n : ℕ) (words : List (List ℕ)) → IfSome (line_words n words) HasAsked
+unfolding line_words
+words_ask n [] = tt
+words_ask n (word ∷ words) = behind_asks n word words
 
 parse_asks : (n : ℕ) (bytes : List ℕ) → IfSome (parse n bytes) HasAsked
 unfolding parse
-parse_asks n bytes =
-    either HasAsked (nat_lt longest (length bytes)) None (or_other (plain.parse n bytes) (other_line n (words_of bytes))) (λ e. tt)
-    (λ e. either_asks (plain.parse n bytes) (other_line n (words_of bytes)) (plain_fits n bytes) (other_asks n (words_of bytes)))
+parse_asks n bytes = either HasAsked (nat_lt longest (length bytes)) None (line_words n (words_of bytes)) (λ e. tt) (λ e. words_ask n (words_of bytes))
 
 pub parsed_asks : (n : ℕ) (bytes : List ℕ) (l : Line) → parse n bytes ≡ Some l → HasAsked l
 parsed_asks n bytes l e = it_is HasAsked (parse n bytes) l (parse_asks n bytes) e

@@ -11,7 +11,7 @@ use vr_base::{ByteList, NoMemory, Seq};
 use vr_lie::{Fault, LieDisk};
 use vr_msg::{Event, Outbox, Output};
 use vr_replica::Replica;
-use vr_sched::write_text;
+use vr_text::write_text;
 
 /// A member, what it put out last, and how many messages it has sent.
 #[derive(Drop)]

@@ -12,7 +12,7 @@ use Rattle.vr_msg.specs.declared.event.Event.{Event}
 use Rattle.vr_msg.specs.declared.event.Event.TheVariants.{Deliver, Tick}
 use Rattle.vr_msg.specs.declared.frame.Frame.TheVariants as frame
 use Rattle.vr_msg.specs.declared.statement.Statement.{Statement}
-use Rattle.vr_sched.specs.Text.{letters_of}
+use Rattle.vr_text.specs.Text.{letters_of}
 use Rattle.vr_rules.specs.Replica.{Replica, last_view}
 use Rattle.vr_rules.specs.Steps.{Effect, Write, Rewrite, Save, Mend, Checkpoint, PutBlock, Say, Step, after_all, outputs}
 use Rattle.vr_rules.specs.Rules.{react}

@@ -6,7 +6,7 @@ use Rattle.vr_header.specs.declared.header.Header.{Header}
 use Rattle.vr_header.specs.Made.{Whole}
 use Rattle.vr_header.specs.Names.{no_name}
 use Rattle.vr_super.specs.Copies.{SuperValue}
-use Rattle.vr_sched.specs.Text.{letters_of}
+use Rattle.vr_text.specs.Text.{letters_of}
 use Rattle.vr_rules.specs.Replica.{last_view, header_at}
 use Rattle.vr_rules.specs.Steps.{Step, outputs}
 use Rattle.vr_rules.specs.Opening.{opened}

@@ -33,7 +33,7 @@ use Rattle.vr_grid.specs.declared.name.Name.{Name}
 use Rattle.vr_ckpt.specs.Places as places
 use Rattle.vr_ckpt.specs.declared.found.Load.{Load}
 use Rattle.vr_ckpt.specs.declared.found.Load.TheVariants.{Loaded, Missing}
-use Rattle.vr_sched.specs.Text.{numbered, viewed, letters_of, statement_text, prepare_text, prepare_ok_text, commit_text, do_view_change_text, start_view_text, sync_view_text, get_prepare_text, give_prepare_text, sent_text, committed_text, reply_text, chosen_text, waiting_text, started_text, output_text}
+use Rattle.vr_text.specs.Text.{numbered, viewed, letters_of, statement_text, prepare_text, prepare_ok_text, commit_text, do_view_change_text, start_view_text, sync_view_text, get_prepare_text, give_prepare_text, sent_text, committed_text, reply_text, chosen_text, waiting_text, started_text, output_text}
 use Rattle.vr_rules.specs.Replica.{Replica, part_at, head, run, statement_of, forgetting, with_part}
 use Rattle.vr_rules.specs.Steps.{Effect, Write, Rewrite, Save, Mend, Checkpoint, PutBlock, Say, Setting, outputs, after_all, ◌⨾◌, quiet, change, does, says, by, naming, reading, times, each}
 use Rattle.vr_rules.specs.Outputs.{send_to_all}

@@ -5,7 +5,7 @@ use Rattle.std.specs.List.{flat_map, range_with_len}
 use Rattle.std.specs.Option.{option_map_or}
 use Rattle.vr_header.specs.declared.operation.Operation.TheVariants.{Register}
 use Rattle.vr_lie.specs.declared.fault.Fault.TheVariants.{Damage}
-use Rattle.vr_sched.specs.Text.{letter}
+use Rattle.vr_text.specs.Text.{letter}
 use Rattle.vr_rules.specs.Replica.{Replica, part_at, run_start}
 use Rattle.vr_rules.specs.World.{Happening, Arrives, Ticks, Lies}
 use Rattle.vr_rules.proofs.Plain.{Plain, asks, replayed, seen, stored_there}

@@ -2,7 +2,7 @@
 use Rattle.std.proofs.Common.{ℕ, ◌≡◌, List, [], ◌∷◌, ◌++◌, codes, drop, Some, refl}
 use Rattle.vr_header.specs.declared.operation.Operation.TheVariants.{Register, Put}
 use Rattle.vr_lie.specs.declared.fault.Fault.TheVariants.{Damage}
-use Rattle.vr_sched.specs.Text.{letters_of}
+use Rattle.vr_text.specs.Text.{letters_of}
 use Rattle.vr_rules.specs.World.{Happening, Arrives, Ticks, Stops, Starts, Lies}
 use Rattle.vr_rules.proofs.Plain.{asks, replayed, seen}
 

@@ -6,7 +6,7 @@ use Rattle.vr_header.specs.declared.operation.Operation.TheVariants.{Register, P
 use Rattle.vr_lie.specs.declared.fault.Fault.TheVariants.{Damage}
 use Rattle.vr_header.specs.declared.outcome.Outcome.TheVariants as outcome
 use Rattle.vr_apply.specs.declared.state.State.{State}
-use Rattle.vr_sched.specs.Text.{letter}
+use Rattle.vr_text.specs.Text.{letter}
 use Rattle.vr_rules.specs.Replica.{Replica, part_at, head}
 use Rattle.vr_rules.specs.World.{Happening, Arrives, Ticks, Stops, Starts, Lies}
 use Rattle.vr_rules.proofs.Plain.{asks, replayed, seen}

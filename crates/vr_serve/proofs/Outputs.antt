@@ -8,7 +8,7 @@ use Rattle.vr_mail.proofs.Growing.{append_nil, assoc}
 use Rattle.vr_mail.proofs.Sent.{sends_nil, sends_trans}
 use Rattle.vr_mail.specs.Sends.{Sends}
 use Rattle.vr_msg.specs.declared.output.Output.{Output}
-use Rattle.vr_sched.specs.Text.{line_text}
+use Rattle.vr_text.specs.Text.{line_text}
 use Rattle.vr_serve.specs.Outputs.{datagram_for, datagrams_for, number_after, numbers_after, text_from}
 use Rattle.vr_edge.specs.Told.{AppendsFront}
 use Rattle.vr_serve.specs.Runs.{PutsFront, SendsFront}

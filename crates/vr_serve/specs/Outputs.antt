@@ -12,7 +12,7 @@ use Rattle.vr_msg.specs.declared.frame.Frame.TheVariants as frame
 use Rattle.vr_msg.specs.declared.output.Output.{Output}
 use Rattle.vr_msg.specs.declared.output.Output.TheVariants.{Send, Reply}
 use Rattle.vr_msg.specs.declared.reply.ReplyFields.{ReplyFields}
-use Rattle.vr_sched.specs.Text.{line_text}
+use Rattle.vr_text.specs.Text.{line_text}
 use Rattle.vr_serve.specs.Events.{Come}
 use Rattle.vr_serve.specs.declared.clients.Client.{Client}
 

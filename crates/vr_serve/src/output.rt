@@ -10,7 +10,7 @@ use vr_base::ByteList;
 use vr_edge::Link;
 use vr_mail::send_message;
 use vr_msg::{Message, Outbox, Output, Reply};
-use vr_sched::write_text;
+use vr_text::write_text;
 
 /// The number of the next message behind an output.
 fn number_after(number: u64, output: &Output) -> u64

@@ -10,4 +10,4 @@ mod edge;
 #[cfg(test)]
 mod header;
 #[cfg(test)]
-mod sched;
+mod text;

@@ -8,7 +8,7 @@ use Rattle.clap.specs.Words.{Row, Text, all_of, fault_of, first_of, subcommand_o
 use Rattle.vr_base.specs.Kinds.{of_mode}
 use Rattle.vr_base.specs.declared.kind.Kind.{Kind}
 use Rattle.vr_base.specs.declared.mode.Mode.TheVariants.{Careful, Strict}
-use Rattle.vr_sched.specs.Numbers.{number_below, number_of}
+use Rattle.vr_lines.specs.Numbers.{number_below, number_of}
 use Rattle.vr_words.specs.Forms.{the_command}
 use Rattle.vr_words.specs.declared.asked.ClientTexts.{ClientTexts}
 use Rattle.vr_words.specs.declared.asked.NodeTexts.{NodeTexts}

@@ -8,7 +8,7 @@ use crate::command::{ClientWords, NodeWords, SoakWords, TrialWords};
 use clap::ArgMatches;
 use std::alloc::{AllocError, Global};
 use vr_base::{Kind, Mode};
-use vr_sched::{read_below, read_number};
+use vr_lines::{read_below, read_number};
 
 /// The text of an argument.
 #[tactic(auto, using(crate::proofs::Rows::first_in_rows))]

@@ -2,14 +2,14 @@ use Rattle.std.proofs.Common.{subst}
 use Rattle.vr_ask.specs.Run.{Judges, ReadsLine, reading}
 use Rattle.vr_ask.specs.Text.{longest}
 use Rattle.vr_ask.proofs.Exchanges.{heard}
-use Rattle.vr_reader.specs.Finding.{FindsLine}
+use Rattle.vr_lines.specs.Coming.{Comes}
 use Rattle.vr_ask.proofs.lines.next_operation.Goals as goal
 
 pub returns-in-Ok-Line-clause-heard : goal.returns-in-Ok-Line-clause-heard
 returns-in-Ok-Line-clause-heard g c =
     let before = reading c.args.lines.now (g.S.Source.left c.args.source.now) in
-    let after = reading c.next.new.self (g.S.Source.left c.next.new.source) in
-    let found : ReadsLine before after c.next.new.line =
-    subst (λ f. FindsLine longest before.rest before.left after.rest after.left c.next.new.line f) c.in-Ok-Line.field-0-is c.in-Ok-Line.ensures.found in
-    let judged : Judges c.args.number c.next.new.line c.judge.result = subst (λ l. Judges c.args.number l c.judge.result) c.as_slice.ensures c.judge.ensures in
-    heard c.args.number before after c.next.new.line c.judge.result found judged
+    let after = reading c.read.new.self (g.S.Source.left c.read.new.source) in
+    let found : ReadsLine before after c.read.new.self.line =
+    subst (λ f. Comes longest before.rest before.left c.read.new.self after.left f) c.in-Ok-Line.field-0-is c.in-Ok-Line.ensures.found in
+    let judged : Judges c.args.number c.read.new.self.line c.judge.result = subst (λ l. Judges c.args.number l c.judge.result) c.line.ensures c.judge.ensures in
+    heard c.args.number before after c.read.new.self.line c.judge.result found judged

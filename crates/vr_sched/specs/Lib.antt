@@ -1,6 +1,0 @@
-pub mod Fronts
-pub mod Grammar
-pub mod Numbers
-pub mod Words
-pub mod Text
-pub mod Plain

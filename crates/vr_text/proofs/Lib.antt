@@ -1,0 +1,4 @@
+pub mod Fronts
+pub mod Letters
+pub mod Plain
+mod Rows

@@ -1,0 +1,6 @@
+use Rattle.vr_text.proofs.Fronts.{front_then}
+use Rattle.vr_text.proofs.printing.put_sent.Goals as goal
+
+pub returns-clause-front : goal.returns-clause-front
+returns-clause-front c =
+    front_then _ _ _ (front_then _ _ _ (front_then _ _ _ (front_then _ _ _ c.in_ok-put_number.ensures.front c.in_ok-put_number-2.ensures.front) c.in_ok-put_number-3.ensures.front) c.in_ok-put.ensures.front) c.put_frame.ensures.front

@@ -1,0 +1,113 @@
+//! Pieces of text.
+ghost use Rattle.std.specs.Prelude.{◌≡◌, ◌++◌, OnOk};
+ghost use Rattle.vr_header.specs.Bodies.{IsOperation, IsOutcome};
+ghost use Rattle.vr_text.specs.Fronts.{IsFront};
+ghost use Rattle.vr_text.specs.Text.{client_text, entry_text, numbered, operation_text, outcome_text, viewed};
+
+use itoa::Buffer;
+use std::alloc::AllocError;
+use vr_base::ByteList;
+use vr_header::{Operation, Outcome};
+
+/// Bytes at the end.
+#[tactic(auto, using(std::proofs::lemmas::Grind::common_steps, crate::proofs::Fronts::front_grown))]
+pub fn put_bytes(to: &mut ByteList, bytes: &[u8]) -> Result<(), AllocError>
+    ensures text { OnOk result (to.new ≡ to.old ++ bytes.now) }
+    ensures front { IsFront to.old to.new }
+{
+    to.extend(bytes)
+}
+
+/// Words at the end.
+pub fn put(to: &mut ByteList, words: &str) -> Result<(), AllocError>
+    ensures text { OnOk result (to.new ≡ to.old ++ words.now) }
+    ensures front { IsFront to.old to.new }
+{
+    put_bytes(to, words.as_bytes())
+}
+
+/// Words with a number behind them.
+#[tactic(auto, using(std::proofs::lemmas::Grind::common_steps, crate::proofs::Fronts::front_then), unfolding(crate::specs::Text::numbered))]
+pub fn put_number(to: &mut ByteList, words: &str, n: u64) -> Result<(), AllocError>
+    ensures text { OnOk result (to.new ≡ to.old ++ numbered words.now n) }
+    ensures front { IsFront to.old to.new }
+{
+    put(to, words)?;
+    put_bytes(to, Buffer::new().format(n).as_bytes())
+}
+
+/// A message's word, with the view that it is of.
+#[tactic(auto, using(std::proofs::lemmas::Grind::common_steps, crate::proofs::Fronts::front_then), unfolding(crate::specs::Text::viewed))]
+pub fn put_view(to: &mut ByteList, word: &str, view: u32) -> Result<(), AllocError>
+    ensures text { OnOk result (to.new ≡ to.old ++ viewed word.now view) }
+    ensures front { IsFront to.old to.new }
+{
+    put(to, word)?;
+    put_number(to, " view ", u64::from(view))
+}
+
+/// The op of an entry, and the view in which it was made.
+#[tactic(auto, using(std::proofs::lemmas::Grind::common_steps, crate::proofs::Fronts::front_then))]
+pub fn put_entry(to: &mut ByteList, op: u64, made: u32) -> Result<(), AllocError>
+    ensures text { OnOk result (to.new ≡ to.old ++ entry_text op made) }
+    ensures front { IsFront to.old to.new }
+{
+    put_number(to, "op ", op)?;
+    put_number(to, " made ", u64::from(made))
+}
+
+/// A client, and the number of its request.
+#[tactic(auto, using(std::proofs::lemmas::Grind::common_steps, crate::proofs::Fronts::front_then))]
+pub fn put_client(to: &mut ByteList, client: u64, request: u32) -> Result<(), AllocError>
+    ensures text { OnOk result (to.new ≡ to.old ++ client_text client request) }
+    ensures front { IsFront to.old to.new }
+{
+    put_number(to, " client ", client)?;
+    put_number(to, " request ", u64::from(request))?;
+    put(to, " ")
+}
+
+/// The word and the key of an operation, and what it puts.
+#[tactic(auto, using(std::proofs::lemmas::Grind::common_steps, crate::proofs::Fronts::front_then))]
+pub fn put_operation(to: &mut ByteList, operation: &Operation) -> Result<(), AllocError>
+    ensures text { OnOk result (to.new ≡ to.old ++ operation_text operation.now) }
+    ensures printable { OnOk result (IsOperation operation.now) }
+    ensures front { IsFront to.old to.new }
+{
+    match operation {
+        Operation::Register => put(to, "register"),
+        Operation::Put(key, value) => {
+            put(to, "put ")?;
+            put_bytes(to, key.as_slice())?;
+            put(to, " ")?;
+            put_bytes(to, value.as_slice())
+        }
+        Operation::Get(key) => {
+            put(to, "get ")?;
+            put_bytes(to, key.as_slice())
+        }
+        Operation::Delete(key) => {
+            put(to, "del ")?;
+            put_bytes(to, key.as_slice())
+        }
+    }
+}
+
+/// The words of an outcome.
+#[tactic(auto, using(std::proofs::lemmas::Grind::common_steps, crate::proofs::Fronts::front_then))]
+pub fn put_outcome(to: &mut ByteList, outcome: &Outcome) -> Result<(), AllocError>
+    ensures text { OnOk result (to.new ≡ to.old ++ outcome_text outcome.now) }
+    ensures printable { OnOk result (IsOutcome outcome.now) }
+    ensures front { IsFront to.old to.new }
+{
+    match outcome {
+        Outcome::Session => put(to, "session"),
+        Outcome::Ok => put(to, "ok"),
+        Outcome::Full => put(to, "full"),
+        Outcome::Absent => put(to, "absent"),
+        Outcome::Value(value) => {
+            put(to, "value ")?;
+            put_bytes(to, value.as_slice())
+        }
+    }
+}
