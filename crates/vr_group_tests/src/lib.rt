@@ -1,8 +1,6 @@
-//! Tests of groups: the choice of a log, what fails in the midst of a replay, and a group alone.
+//! Tests of groups: what fails in the midst of a replay, and all lines of a group at once. Worked schedules are rows of `vr_schedule_rows`.
 #![tactic(auto)]
 
-#[cfg(test)]
-mod choose;
 #[cfg(test)]
 mod replay;
 #[cfg(test)]

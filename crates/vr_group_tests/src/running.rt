@@ -1,4 +1,4 @@
-//! Runs over objects in memory, and how they end.
+//! Replays over objects in memory, and how they end.
 use std::alloc::{AllocError, Global};
 use std::process::Abort;
 use vr_disk::NoDisk;
@@ -13,30 +13,32 @@ pub struct Ending {
     pub text: Vec<u8>,
 }
 
-fn owned(alloc: Global, words: &[&str]) -> Result<Vec<String>, AllocError> {
-    let mut owned = Vec::new(alloc);
-    for word in words {
-        owned.push(String::from_str(alloc, word)?)?;
-    }
-    Ok(owned)
+fn replay(alloc: Global) -> Result<Vec<String>, AllocError> {
+    let mut words = Vec::new(alloc);
+    words.push(String::from_str(alloc, "replay")?)?;
+    Ok(words)
 }
 
-/// Runs over objects in memory.
-fn run_over(
-    alloc: Global,
-    words: &Vec<String>,
-    source: &mut MemSource,
-    sink: &mut MemSink,
-) -> Result<Status, AllocError> {
+fn no_link(alloc: Global) -> Result<MemLink, AllocError> {
     let no_room = LinkRoom {
         datagrams: 0,
         bytes: 0,
     };
-    let mut link = MemLink::new(alloc, LinkScript::quiet(alloc), no_room)?;
+    MemLink::new(alloc, LinkScript::quiet(alloc), no_room)
+}
+
+/// Replays over objects in memory.
+fn run_over(
+    alloc: Global,
+    source: &mut MemSource,
+    sink: &mut MemSink,
+) -> Result<Status, AllocError> {
+    let words = replay(alloc)?;
+    let mut link = no_link(alloc)?;
     let mut clock = MemClock::new(Vec::new(alloc));
     let end = run(
         alloc,
-        words,
+        &words,
         source,
         sink,
         &mut NoDisk::new(),
@@ -46,47 +48,43 @@ fn run_over(
     Ok(end)
 }
 
-/// Runs over a sink with so much room, whose writes of these numbers fail. Each function that drops objects is dear to
-/// prove, the more so the more often it can end early: so this one alone drops a sink, and `ran` and its like a source.
-pub(crate) fn played(
+/// Runs over a sink with so much room, whose writes of these numbers fail. Each function that drops objects is expensive to prove, the more
+/// so the more often it can end early: so this one alone drops a sink, and `ran` and its like a source.
+fn played(
     alloc: Global,
-    words: &[&str],
     source: &mut MemSource,
     room: usize,
     failing: &[u64],
 ) -> Result<Ending, AllocError> {
     let mut sink = MemSink::new(alloc, room, Vec::from_slice(alloc, failing)?)?;
-    written(alloc, words, source, &mut sink)
+    written(alloc, source, &mut sink)
 }
 
 fn written(
     alloc: Global,
-    words: &[&str],
     source: &mut MemSource,
     sink: &mut MemSink,
 ) -> Result<Ending, AllocError> {
-    let words = owned(alloc, words)?;
-    let end = run_over(alloc, &words, source, sink)?;
+    let end = run_over(alloc, source, sink)?;
     let text = Vec::from_slice(alloc, sink.bytes())?;
     Ok(Ending { end, text })
 }
 
-/// Runs on a schedule whose reads do not fail.
+/// Replays a schedule whose reads do not fail.
 pub(crate) fn ran(
     alloc: Global,
-    words: &[&str],
     schedule: &[u8],
     room: usize,
     failing: &[u64],
 ) -> Result<Ending, AllocError> {
     let mut source = MemSource::new(Vec::from_slice(alloc, schedule)?, Vec::new(alloc));
-    played(alloc, words, &mut source, room, failing)
+    played(alloc, &mut source, room, failing)
 }
 
 /// Replays a schedule whose source gives one byte, then two, and so on.
-pub(crate) fn in_pieces(alloc: Global, schedule: &[u8]) -> Result<Ending, AllocError> {
-    let mut source = MemSource::pieces(alloc, Vec::from_slice(alloc, schedule)?);
-    played(alloc, &["replay"], &mut source, 4096, &[])
+pub(crate) fn in_pieces(alloc: Global, schedule: Vec<u8>) -> Result<Ending, AllocError> {
+    let mut source = MemSource::pieces(alloc, schedule);
+    played(alloc, &mut source, 4096, &[])
 }
 
 /// Replays a schedule whose read of this number fails.
@@ -96,10 +94,10 @@ pub(crate) fn replayed_to(
     failing: u64,
 ) -> Result<Ending, AllocError> {
     let mut source = MemSource::new(schedule, vec![in alloc; failing]?);
-    played(alloc, &["replay"], &mut source, 4096, &[])
+    played(alloc, &mut source, 4096, &[])
 }
 
-pub(crate) fn check(rt: &impl Abort, played: Ending, end: Status, text: &str, row: &[u8]) {
-    assert_eq!(rt; played.end, end, "at {row:?}");
-    assert_eq!(rt; played.text.as_slice(), text.as_bytes(), "at {row:?}");
+pub(crate) fn check(rt: &impl Abort, played: Ending, end: Status, text: &str) {
+    assert_eq!(rt; played.end, end);
+    assert_eq!(rt; played.text.as_slice(), text.as_bytes());
 }

@@ -1,7 +1,9 @@
-//! Messages as bytes, row by row: what each is, or why it is none. `examples/message-rows` makes the rows and what they come to.
+//! Messages and texts of states as bytes, row by row: what each is, or why it is none. `examples/message-rows` makes the rows and what they
+//! come to.
 #![tactic(auto)]
 
 mod rows;
+mod states;
 
 use std::io;
 use std::io::Write;

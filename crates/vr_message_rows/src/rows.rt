@@ -1,6 +1,7 @@
 //! Rows, and what is told of them. A row `piece NAME HEX` names bytes; a row `message WORD ..` is of the bytes of its words, each the name of
-//! a piece or hex digits itself; any other row is told as it is.
+//! a piece or hex digits itself, and so are `keys WORD ..` and `sessions WORD ..`; any other row is told as it is.
 
+use crate::states::{tell_keys, tell_sessions};
 use std::alloc::{AllocError, Global};
 use vr_base::ByteList;
 use vr_codec::{decode, encode, judge};
@@ -77,6 +78,20 @@ fn tell(alloc: Global, bytes: &[u8], to: &mut ByteList) -> Result<(), AllocError
     }
 }
 
+/// What the bytes of a row come to, of which its first word says what they are.
+fn tell_bytes(
+    alloc: Global,
+    what: &str,
+    bytes: &[u8],
+    to: &mut ByteList,
+) -> Result<(), AllocError> {
+    match what {
+        "message" => tell(alloc, bytes, to),
+        "keys" => tell_keys(alloc, bytes, to),
+        _ => tell_sessions(alloc, bytes, to),
+    }
+}
+
 /// What the rows come to.
 pub fn told(alloc: Global, text: &str) -> Result<ByteList, AllocError> {
     let mut pieces = Vec::new(alloc);
@@ -84,9 +99,9 @@ pub fn told(alloc: Global, text: &str) -> Result<ByteList, AllocError> {
     for row in text.lines() {
         match row.split_once(' ') {
             Some(("piece", words)) => pieces.push(named(alloc, words)?)?,
-            Some(("message", words)) => {
+            Some((what @ ("message" | "keys" | "sessions"), words)) => {
                 let bytes = spelled(alloc, pieces.as_slice(), words)?;
-                tell(alloc, bytes.as_slice(), &mut told)?;
+                tell_bytes(alloc, what, bytes.as_slice(), &mut told)?;
             }
             _ => {
                 told.extend(row.as_bytes())?;

@@ -1,21 +1,11 @@
 //! Programs of the system: what a shell is told to do.
-use std::alloc::{AllocError, Global};
-
-/// The words that have a shell do this.
-fn shell_words(alloc: Global, script: &str) -> Result<Vec<String>, AllocError> {
-    let mut words = Vec::new(alloc);
-    words.push(String::from_str(alloc, "-c")?)?;
-    words.push(String::from_str(alloc, script)?)?;
-    Ok(words)
-}
-
 #[cfg(test)]
 mod tests {
-    use crate::programs::shell_words;
+    use std::alloc::{AllocError, Global};
     use std::path::PathBuf;
     use std::test::Fail;
     use std::time::Duration;
-    use std::{fs, thread};
+    use std::{fs, io, thread};
     use vr_real::RealSpawner;
     use vr_spawn::{SpawnFailed, Spawner};
 
@@ -25,41 +15,79 @@ mod tests {
     const SCRIPT: &str =
         "echo $$ > vr_real_tests.part; mv vr_real_tests.part vr_real_tests.program; exec sleep 600";
 
-    #[test]
-    fn what_was_started_runs_until_it_is_stopped(rt: HostRuntime) -> Result<(), Fail> {
-        let alloc = rt.alloc();
-        let _ = fs::remove_file(&rt, NAME);
-        let shell = PathBuf::from_str(alloc, "/bin/sh")?;
-        let mut spawner = RealSpawner::new(alloc, &rt, Some(shell));
-        assert_eq!(rt; spawner.start(&shell_words(alloc, SCRIPT)?), Ok(0));
-        assert_eq!(rt; spawner.start(&shell_words(alloc, "exit 3")?), Ok(1));
+    /// The words that have a shell do this.
+    fn shell_words(alloc: Global, script: &str) -> Result<Vec<String>, AllocError> {
+        let mut words = Vec::new(alloc);
+        words.push(String::from_str(alloc, "-c")?)?;
+        words.push(String::from_str(alloc, script)?)?;
+        Ok(words)
+    }
+
+    /// Starts the program with the words that have a shell do this; the number that it is given.
+    fn start<S: Spawner>(
+        alloc: Global,
+        spawner: &mut S,
+        script: &str,
+    ) -> Result<Option<u32>, AllocError> {
+        let words = shell_words(alloc, script)?;
+        Ok(spawner.start(&words).ok())
+    }
+
+    /// Waits until the script has written its number.
+    fn wait_for_number(rt: &HostRuntime) {
         for _ in 0..3000 {
-            if fs::metadata(&rt, NAME).is_ok() {
+            if fs::metadata(rt, NAME).is_ok() {
                 break;
             }
-            let _ = thread::sleep(&rt, Duration::from_millis(10));
+            let _ = thread::sleep(rt, Duration::from_millis(10));
         }
-        let number = fs::read_to_string(&rt, NAME)?;
+    }
+
+    /// Whether the script runs that wrote its number.
+    fn runs(rt: &HostRuntime) -> io::Result<bool> {
+        let number = fs::read_to_string(rt, NAME)?;
         let number = number.trim();
-        let place = format!(in alloc; "/proc/{number}")?;
-        assert!(rt; fs::metadata(&rt, place.as_str()).is_ok());
-        assert_eq!(rt; spawner.stop(0), Ok(()));
-        assert!(rt; fs::metadata(&rt, place.as_str()).is_err());
-        assert_eq!(rt; spawner.stop(1), Ok(()));
-        assert_eq!(rt; spawner.stop(2), Err(SpawnFailed));
-        assert!(rt; fs::remove_file(&rt, NAME).is_ok());
+        let place = format!(in rt.alloc(); "/proc/{number}")?;
+        Ok(fs::metadata(rt, place.as_str()).is_ok())
+    }
+
+    /// Whether a script that runs on and one that ends by itself start, the first of them runs until it is stopped, and nothing else is stopped
+    /// than what was started.
+    fn runs_until_stopped<S: Spawner>(rt: &HostRuntime, spawner: &mut S) -> io::Result<bool> {
+        let starts = start(rt.alloc(), spawner, SCRIPT)? == Some(0)
+            && start(rt.alloc(), spawner, "exit 3")? == Some(1);
+        wait_for_number(rt);
+        Ok(
+            starts
+                && runs(rt)?
+                && spawner.stop(0).is_ok()
+                && !runs(rt)?
+                && spawner.stop(1).is_ok()
+                && spawner.stop(2) == Err(SpawnFailed),
+        )
+    }
+
+    #[test]
+    fn what_was_started_runs_until_it_is_stopped(rt: HostRuntime) -> Result<(), Fail> {
+        let _ = fs::remove_file(&rt, NAME);
+        let shell = PathBuf::from_str(rt.alloc(), "/bin/sh")?;
+        let mut spawner = RealSpawner::new(rt.alloc(), &rt, Some(shell));
+        assert!(rt; runs_until_stopped(&rt, &mut spawner)?);
+        fs::remove_file(&rt, NAME)?;
         Ok(())
+    }
+
+    /// The number that a program is given which stands there, or nowhere.
+    fn started(rt: &HostRuntime, program: Option<PathBuf>) -> Result<Option<u32>, AllocError> {
+        let mut spawner = RealSpawner::new(rt.alloc(), rt, program);
+        start(rt.alloc(), &mut spawner, "exit 0")
     }
 
     #[test]
     fn what_is_not_there_does_not_start(rt: HostRuntime) -> Result<(), Fail> {
-        let alloc = rt.alloc();
-        let words = shell_words(alloc, "exit 0")?;
-        let nowhere = PathBuf::from_str(alloc, "no/such/program")?;
-        let mut spawner = RealSpawner::new(alloc, &rt, Some(nowhere));
-        assert_eq!(rt; spawner.start(&words), Err(SpawnFailed));
-        let mut unknown = RealSpawner::new(alloc, &rt, None);
-        assert_eq!(rt; unknown.start(&words), Err(SpawnFailed));
+        let nowhere = PathBuf::from_str(rt.alloc(), "no/such/program")?;
+        assert_eq!(rt; started(&rt, Some(nowhere))?, None);
+        assert_eq!(rt; started(&rt, None)?, None);
         Ok(())
     }
 }

@@ -30,66 +30,83 @@ mod tests {
         Vec::with_capacity(alloc, RECEIVE_ROOM)
     }
 
-    /// The port and the bytes of the first datagram that comes from one link to the other, which is asked for it again and again: what is
-    /// sent before a stream stands is lost.
-    fn first_datagram<L: Link>(
+    /// The port at which the next receive gives these bytes.
+    fn port_of<L: Link>(
+        alloc: Global,
+        to: &mut L,
+        bytes: &[u8],
+    ) -> Result<Option<u32>, AllocError> {
+        let mut given = room(alloc)?;
+        match to.receive(&mut given) {
+            Ok(Received::Datagram(port)) if given.as_slice() == bytes => Ok(Some(port)),
+            _ => Ok(None),
+        }
+    }
+
+    /// The port of the first datagram that comes from one link to the other, which is asked for it again and again: what is sent before a
+    /// stream stands is lost.
+    fn first_port<L: Link>(
         alloc: Global,
         from: &mut L,
         to: &mut L,
-    ) -> Result<Option<(u32, Vec<u8>)>, AllocError> {
+    ) -> Result<Option<u32>, AllocError> {
         for _ in 0..500 {
             let _ = from.send(1, &COMMIT);
-            let mut bytes = room(alloc)?;
-            if let Ok(Received::Datagram(port)) = to.receive(&mut bytes) {
-                return Ok(Some((port, bytes)));
+            let port = port_of(alloc, to, &COMMIT)?;
+            if port.is_some() {
+                return Ok(port);
             }
         }
         Ok(None)
     }
 
-    #[test]
-    fn a_message_goes_over_tcp(rt: HostRuntime) -> Result<(), Fail> {
-        let alloc = rt.alloc();
-        let peers = addresses(alloc, "tcp:127.0.0.1:47111", "tcp:127.0.0.1:47112")?;
-        let mut first = RealLink::new(alloc, &rt)?;
-        let mut second = RealLink::new(alloc, &rt)?;
-        assert!(rt; first.attach("tcp:127.0.0.1:47111", &peers).is_ok());
-        assert!(rt; second.attach("tcp:127.0.0.1:47112", &peers).is_ok());
-        let heard = first_datagram(alloc, &mut first, &mut second)?;
-        let Some((port, bytes)) = heard else {
-            assert!(rt; false);
-            return Ok(());
-        };
-        assert_eq!(rt; port, 2);
-        assert_eq!(rt; bytes.as_slice(), COMMIT.as_slice());
-        Ok(())
+    /// The port of a message from one link to the other, which have these addresses.
+    fn port_over<L: Link>(
+        alloc: Global,
+        from: &mut L,
+        to: &mut L,
+        first: &str,
+        second: &str,
+    ) -> Result<Option<u32>, AllocError> {
+        let peers = addresses(alloc, first, second)?;
+        if from.attach(first, &peers).is_ok() && to.attach(second, &peers).is_ok() {
+            first_port(alloc, from, to)
+        } else {
+            Ok(None)
+        }
+    }
+
+    /// The port of a message from a new link to another new one.
+    fn port_between(
+        rt: &HostRuntime,
+        first: &str,
+        second: &str,
+    ) -> Result<Option<u32>, AllocError> {
+        let mut from = RealLink::new(rt.alloc(), rt)?;
+        let mut to = RealLink::new(rt.alloc(), rt)?;
+        port_over(rt.alloc(), &mut from, &mut to, first, second)
     }
 
     #[test]
-    fn a_message_goes_over_udp(rt: HostRuntime) -> Result<(), Fail> {
-        let alloc = rt.alloc();
-        let peers = addresses(alloc, "127.0.0.1:47113", "127.0.0.1:47114")?;
-        let mut first = RealLink::new(alloc, &rt)?;
-        let mut second = RealLink::new(alloc, &rt)?;
-        assert!(rt; first.attach("127.0.0.1:47113", &peers).is_ok());
-        assert!(rt; second.attach("127.0.0.1:47114", &peers).is_ok());
-        let heard = first_datagram(alloc, &mut first, &mut second)?;
-        let Some((port, bytes)) = heard else {
-            assert!(rt; false);
-            return Ok(());
-        };
-        assert_eq!(rt; port, 0);
-        assert_eq!(rt; bytes.as_slice(), COMMIT.as_slice());
+    fn a_message_goes_over_tcp_and_udp(rt: HostRuntime) -> Result<(), Fail> {
+        let over_tcp = port_between(&rt, "tcp:127.0.0.1:47111", "tcp:127.0.0.1:47112")?;
+        assert_eq!(rt; over_tcp, Some(2));
+        let over_udp = port_between(&rt, "127.0.0.1:47113", "127.0.0.1:47114")?;
+        assert_eq!(rt; over_udp, Some(0));
         Ok(())
+    }
+
+    /// Whether a new link is attached to an address beside one of TCP and one of UDP.
+    fn is_attached(rt: &HostRuntime, own: &str) -> Result<bool, AllocError> {
+        let peers = addresses(rt.alloc(), "tcp:127.0.0.1:47115", "127.0.0.1:47116")?;
+        let mut link = RealLink::new(rt.alloc(), rt)?;
+        Ok(link.attach(own, &peers).is_ok())
     }
 
     #[test]
     fn addresses_are_of_one_kind(rt: HostRuntime) -> Result<(), Fail> {
-        let alloc = rt.alloc();
-        let peers = addresses(alloc, "tcp:127.0.0.1:47115", "127.0.0.1:47116")?;
-        let mut link = RealLink::new(alloc, &rt)?;
-        assert!(rt; link.attach("tcp:127.0.0.1:47115", &peers).is_err());
-        assert!(rt; link.attach("", &peers).is_err());
+        assert!(rt; !is_attached(&rt, "tcp:127.0.0.1:47115")?);
+        assert!(rt; !is_attached(&rt, "")?);
         Ok(())
     }
 }

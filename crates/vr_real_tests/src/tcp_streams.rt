@@ -21,6 +21,17 @@ mod tests {
         Ok(peers)
     }
 
+    /// Whether streams are attached here, with a peer there.
+    fn is_attached<T: Streams>(
+        alloc: Global,
+        streams: &mut T,
+        own: &str,
+        peer: &str,
+    ) -> Result<bool, AllocError> {
+        let peers = only(alloc, peer)?;
+        Ok(streams.attach(own, &peers).is_ok())
+    }
+
     /// The port at which bytes come next, of so many polls at most.
     fn next_port<T: Streams>(streams: &mut T, polls: u32) -> Option<u32> {
         let mut room = [0; STREAM_ROOM];
@@ -32,6 +43,13 @@ mod tests {
         None
     }
 
+    /// A stream to an address, which says this.
+    fn saying(rt: &HostRuntime, address: &str, says: &[u8]) -> io::Result<TcpStream> {
+        let mut stream = TcpStream::connect(rt, address)?;
+        stream.write_all(says)?;
+        Ok(stream)
+    }
+
     /// Takes as many streams as there are places for, each of which says this.
     fn fill_places<T: Streams>(
         rt: &HostRuntime,
@@ -41,10 +59,8 @@ mod tests {
     ) -> io::Result<Vec<TcpStream>> {
         let mut others = Vec::new(rt.alloc());
         for _ in 0..PLACES {
-            let mut other = TcpStream::connect(rt, address)?;
-            other.write_all(says)?;
+            others.push(saying(rt, address, says)?)?;
             let _ = next_port(streams, 2);
-            others.push(other)?;
         }
         Ok(others)
     }
@@ -56,20 +72,41 @@ mod tests {
         Ok(next_port(streams, 20).is_some())
     }
 
+    /// Whether one more stream is heard three seconds after as many as there are places for, each of which said this.
+    fn is_heard_after<T: Streams>(
+        rt: &HostRuntime,
+        streams: &mut T,
+        address: &str,
+        says: &[u8],
+    ) -> io::Result<bool> {
+        let _others = fill_places(rt, streams, address, says)?;
+        thread::sleep(rt, Duration::from_millis(3100));
+        is_heard(rt, streams, address)
+    }
+
     #[test]
     fn who_said_nothing_gives_the_place_up(rt: HostRuntime) -> Result<(), Fail> {
-        let alloc = rt.alloc();
-        let peers = only(alloc, "tcp:127.0.0.1:47117")?;
-        let mut mute = TcpStreams::new(alloc, &rt)?;
-        assert!(rt; mute.attach("tcp:127.0.0.1:47118", &peers).is_ok());
-        let _silent = fill_places(&rt, &mut mute, "127.0.0.1:47118", &[])?;
-        let mut said = TcpStreams::new(alloc, &rt)?;
-        assert!(rt; said.attach("tcp:127.0.0.1:47119", &peers).is_ok());
-        let _others = fill_places(&rt, &mut said, "127.0.0.1:47119", &HEADER)?;
-        thread::sleep(&rt, Duration::from_millis(3100));
-        assert!(rt; is_heard(&rt, &mut mute, "127.0.0.1:47118")?);
-        assert!(rt; !is_heard(&rt, &mut said, "127.0.0.1:47119")?);
+        let (own, address) = ("tcp:127.0.0.1:47118", "127.0.0.1:47118");
+        let mut streams = TcpStreams::new(rt.alloc(), &rt)?;
+        assert!(rt; is_attached(rt.alloc(), &mut streams, own, "tcp:127.0.0.1:47117")?);
+        assert!(rt; is_heard_after(&rt, &mut streams, address, &[])?);
         Ok(())
+    }
+
+    #[test]
+    fn who_said_a_header_keeps_the_place(rt: HostRuntime) -> Result<(), Fail> {
+        let (own, address) = ("tcp:127.0.0.1:47119", "127.0.0.1:47119");
+        let mut streams = TcpStreams::new(rt.alloc(), &rt)?;
+        assert!(rt; is_attached(rt.alloc(), &mut streams, own, "tcp:127.0.0.1:47117")?);
+        assert!(rt; !is_heard_after(&rt, &mut streams, address, &HEADER)?);
+        Ok(())
+    }
+
+    /// A stream that brings more than some polls take.
+    fn endless(rt: &HostRuntime, address: &str) -> io::Result<TcpStream> {
+        let stream = saying(rt, address, &[7; 4 * STREAM_ROOM])?;
+        stream.set_nodelay(true)?;
+        Ok(stream)
     }
 
     /// Polls while a stream brings as much as each poll takes, and says whether bytes come at this port.
@@ -87,19 +124,26 @@ mod tests {
         Ok(false)
     }
 
+    /// Whether a stream is read beside one that never runs dry.
+    fn is_read_beside<T: Streams>(
+        rt: &HostRuntime,
+        streams: &mut T,
+        address: &str,
+    ) -> io::Result<bool> {
+        let mut first = endless(rt, address)?;
+        if next_port(streams, 20) != Some(1) {
+            return Ok(false);
+        }
+        let _other = saying(rt, address, &HEADER)?;
+        comes_beside(streams, &mut first, 2)
+    }
+
     #[test]
     fn no_stream_is_read_while_others_wait_for_ever(rt: HostRuntime) -> Result<(), Fail> {
-        let alloc = rt.alloc();
-        let peers = only(alloc, "tcp:127.0.0.1:47117")?;
-        let mut streams = TcpStreams::new(alloc, &rt)?;
-        assert!(rt; streams.attach("tcp:127.0.0.1:47120", &peers).is_ok());
-        let mut endless = TcpStream::connect(&rt, "127.0.0.1:47120")?;
-        endless.set_nodelay(true)?;
-        endless.write_all(&[7; 4 * STREAM_ROOM])?;
-        assert_eq!(rt; next_port(&mut streams, 20), Some(1));
-        let mut other = TcpStream::connect(&rt, "127.0.0.1:47120")?;
-        other.write_all(&HEADER)?;
-        assert!(rt; comes_beside(&mut streams, &mut endless, 2)?);
+        let (own, address) = ("tcp:127.0.0.1:47120", "127.0.0.1:47120");
+        let mut streams = TcpStreams::new(rt.alloc(), &rt)?;
+        assert!(rt; is_attached(rt.alloc(), &mut streams, own, "tcp:127.0.0.1:47117")?);
+        assert!(rt; is_read_beside(&rt, &mut streams, address)?);
         Ok(())
     }
 
@@ -127,16 +171,19 @@ mod tests {
         Ok(count)
     }
 
+    /// How many streams come at an address within two and a half seconds.
+    fn begun_at<T: Streams>(rt: &HostRuntime, streams: &mut T, address: &str) -> io::Result<u32> {
+        let listener = TcpListener::bind(rt, address)?;
+        listener.set_nonblocking(true)?;
+        count_begun(rt, streams, &listener, 2500)
+    }
+
     #[test]
     fn a_stream_is_begun_again_at_most_once_a_second(rt: HostRuntime) -> Result<(), Fail> {
-        let alloc = rt.alloc();
-        let peers = only(alloc, "tcp:127.0.0.1:47121")?;
-        let mut streams = TcpStreams::new(alloc, &rt)?;
-        assert!(rt; streams.attach("", &peers).is_ok());
+        let mut streams = TcpStreams::new(rt.alloc(), &rt)?;
+        assert!(rt; is_attached(rt.alloc(), &mut streams, "", "tcp:127.0.0.1:47121")?);
         assert!(rt; streams.write(0, &HEADER).is_err());
-        let listener = TcpListener::bind(&rt, "127.0.0.1:47121")?;
-        listener.set_nonblocking(true)?;
-        let begun = count_begun(&rt, &mut streams, &listener, 2500)?;
+        let begun = begun_at(&rt, &mut streams, "127.0.0.1:47121")?;
         assert!(rt; begun >= 1 && begun <= 2);
         Ok(())
     }

@@ -84,24 +84,29 @@ fn read_copy<D: SectorDisk>(disk: &mut D, copy: u32, readings: &mut [Reading])
     read_beside(disk, copy, earlier, &mut rest[0]);
 }
 
-/// Reads all four copies.
-pub fn read_all<D: SectorDisk>(disk: &mut D) -> [Reading; 4]
-    ensures told { D.told disk.new ≡ D.told disk.old }
-    ensures faults { D.faults disk.new ≡ D.faults disk.old }
-    ensures reads { D.read_faults disk.old ≤ D.read_faults disk.new }
-    ensures honest { AllByRecursion IsHonest result }
-    ensures value { IfSome (D.told disk.old) (λ d. map seen result ≡ good_copies d.face) }
-{
-    let mut readings = [Reading {
+/// Four copies that weren't read.
+pub fn unread() -> [Reading; 4] {
+    [Reading {
         bytes: [0; COPY_SIZE],
         whole: false,
         good: false,
-    }; 4];
-    read_copy(disk, 0, &mut readings);
-    read_copy(disk, 1, &mut readings);
-    read_copy(disk, 2, &mut readings);
-    read_copy(disk, 3, &mut readings);
-    readings
+    }; 4]
+}
+
+/// Reads all four copies, each in its place: they are large, and aren't handed out.
+pub fn read_all<D: SectorDisk>(disk: &mut D, readings: &mut [Reading])
+    requires { length readings.old ≡ 4 }
+    ensures told { D.told disk.new ≡ D.told disk.old }
+    ensures faults { D.faults disk.new ≡ D.faults disk.old }
+    ensures reads { D.read_faults disk.old ≤ D.read_faults disk.new }
+    ensures size { length readings.new ≡ 4 }
+    ensures honest { AllByRecursion IsHonest readings.new }
+    ensures value { IfSome (D.told disk.old) (λ d. map seen readings.new ≡ good_copies d.face) }
+{
+    read_copy(disk, 0, readings);
+    read_copy(disk, 1, readings);
+    read_copy(disk, 2, readings);
+    read_copy(disk, 3, readings);
 }
 
 /// Reads copy 0, and tells whether all four copies read as it.

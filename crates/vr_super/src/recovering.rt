@@ -14,7 +14,7 @@ ghost use Rattle.vr_super.specs.Seen.{IsHonest, seen};
 use crate::Super;
 use crate::check::is_good;
 use crate::opening::best_of;
-use crate::reading::{Reading, read_alike, read_all};
+use crate::reading::{Reading, read_alike, read_all, unread};
 use crate::writing::mend;
 use std::alloc::Global;
 use vr_disk::{COPY_SIZE, SectorDisk};
@@ -114,7 +114,9 @@ fn recover_apart<D: SectorDisk>(alloc: Global, disk: &mut D) -> Result<Super, Su
     ensures cause { CountsFault SuperFault.DiskFault (D.faults disk.old) (D.faults disk.new) result }
     ensures reads { D.read_faults disk.old ≤ D.read_faults disk.new }
 {
-    match choose(alloc, &read_all(disk)) {
+    let mut readings = unread();
+    read_all(disk, &mut readings);
+    match choose(alloc, &readings) {
         Ok(value) => mended(disk, value),
         Err(fault) => Err(fault),
     }

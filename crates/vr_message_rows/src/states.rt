@@ -1,0 +1,54 @@
+//! Texts of the replicated state, as they stand in a checkpoint: whether each is read and spelled again, or why it is none.
+
+use std::alloc::{AllocError, Global};
+use vr_base::{ByteList, NoMemory};
+use vr_kv::Kv;
+use vr_sess::Sessions;
+use vr_table::StateFault;
+
+/// Want of memory, as what it is of a text.
+fn spelled(text: Result<ByteList, NoMemory>) -> Result<ByteList, StateFault> {
+    match text {
+        Ok(text) => Ok(text),
+        Err(NoMemory) => Err(StateFault::NoMemory),
+    }
+}
+
+/// The text of the machine that a text is read as.
+fn keys_again(alloc: Global, text: &[u8]) -> Result<ByteList, StateFault> {
+    let keys = Kv::decode_state(alloc, text)?;
+    spelled(keys.encode_state())
+}
+
+/// The text of the sessions that a text is read as.
+fn sessions_again(alloc: Global, text: &[u8]) -> Result<ByteList, StateFault> {
+    let sessions = Sessions::decode_state(alloc, text)?;
+    spelled(sessions.encode_state())
+}
+
+/// Whether a text is spelled by what it is read as, or why it is none.
+fn tell(
+    text: &[u8],
+    again: Result<ByteList, StateFault>,
+    to: &mut ByteList,
+) -> Result<(), AllocError> {
+    let line = match again {
+        Ok(again) if again.as_slice() == text => "whole\n",
+        Ok(_) => "not so: another text\n",
+        Err(StateFault::Torn) => "Torn\n",
+        Err(StateFault::NotSorted) => "NotSorted\n",
+        Err(StateFault::TooMany) => "TooMany\n",
+        Err(StateFault::NoMemory) => return Err(AllocError),
+    };
+    to.extend(line.as_bytes())
+}
+
+/// What bytes are as the text of keys and values.
+pub fn tell_keys(alloc: Global, text: &[u8], to: &mut ByteList) -> Result<(), AllocError> {
+    tell(text, keys_again(alloc, text), to)
+}
+
+/// What bytes are as the text of sessions.
+pub fn tell_sessions(alloc: Global, text: &[u8], to: &mut ByteList) -> Result<(), AllocError> {
+    tell(text, sessions_again(alloc, text), to)
+}
