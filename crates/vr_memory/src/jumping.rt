@@ -19,8 +19,8 @@ use vr_grid::{Name, NameList};
 use vr_header::Part;
 use vr_msg::SyncView;
 
-/// The log that a sync_view tells of.
-pub fn sync_log(sync: &SyncView) -> Log<'_>
+// The log that a sync_view tells of.
+fn sync_log(sync: &SyncView) -> Log<'_>
     ensures { result ≡ sync_log sync.now }
 {
     Log {

@@ -20,7 +20,6 @@ mod taking;
 mod telling;
 
 pub use group::{LAST_VIEW, primary};
-pub use jumping::sync_log;
 pub use parts::{is_here, may_be_stored};
 pub use replica::Replica;
 pub use taking::Log;

@@ -16,7 +16,7 @@ ghost use Rattle.vr_journal.specs.Telling.{each_to};
 use std::alloc::Global;
 use vr_disk::SectorDisk;
 use vr_journal::{acknowledge_all, apply, save};
-use vr_memory::{Replica, primary, sync_log};
+use vr_memory::{Replica, primary};
 use vr_msg::{Outbox, SyncView};
 use vr_step::Halt;
 
