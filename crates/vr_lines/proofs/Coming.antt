@@ -1,12 +1,12 @@
 -- A source that is read until what comes next is here.
-use Rattle.std.proofs.Common.{◌≡◌, ◌≤◌, ◌<◌, ◌==◌, ◌+◌, ◌-◌, ◌∙◌, ℕ, zero, suc, List, [], ◌∷◌, ◌++◌, length, length-append, Option, Bool, true, false, refl, ap, ap₂, sym, subst, inl, inr, append_assoc, arith}
+use Rattle.std.proofs.Common.{◌≡◌, ◌≤◌, ◌<◌, ◌==◌, ◌-◌, ◌∙◌, ℕ, List, [], ◌++◌, length, Option, Bool, true, false, ap, sym, subst, inl, inr, append_assoc}
 use Rattle.std.specs.Io.KnownBytes.{Consumes, IsAtEnd, Keeps}
 use Rattle.std.proofs.KnownBytes.{Consumes-kept, Consumes-nil, Consumes-trans}
 use Rattle.std.proofs.lemmas.Bool.{eqb-true}
 use Rattle.std.proofs.lemmas.List.{append-nil}
 use Rattle.vr_lines.specs.Coming.{Breaks, EndComes, LineComes, TooLongComes}
 use Rattle.vr_lines.specs.Cuts.{whole_lines}
-use Rattle.vr_lines.specs.Held.{Fills, GivesWithin, Held}
+use Rattle.vr_lines.specs.Held.{Fills, GivesWithin, Held, IsGiven}
 use Rattle.vr_lines.specs.declared.lines.Next.TheVariants as next
 use Rattle.vr_lines.proofs.Cutting.{both_none}
 
@@ -29,17 +29,21 @@ midst_more before left after mid stands after' left' count ended m same f = reco
   end = λ e. f.end (eqb-true count 0 e);
 }
 
-pub line_comes : (longest : ℕ) (before : List ℕ) (left : Option (List ℕ)) (after : List ℕ) (left' : Option (List ℕ)) (ended : Bool) (new : Held)
-    → Midst before left after left' ended → GivesWithin longest ended after new next.Line → LineComes longest before left new.bytes left' new.line
-line_comes longest before left after left' ended new m (inl x, short) =
+given : (longest : ℕ) (before : List ℕ) (left : Option (List ℕ)) (after : List ℕ) (left' : Option (List ℕ)) (ended : Bool) (new : Held)
+    → Midst before left after left' ended → IsGiven ended after new → length new.line ≤ longest → LineComes longest before left new.bytes left' new.line
+given longest before left after left' ended new m (inl x) short =
     record { read = m.read; consumed = m.consumed; part = x.0; short = short; ended = inl (sym m.kept ∙ x.1) }
-line_comes longest before left after left' ended new m (inr x, short) = record {
+given longest before left after left' ended new m (inr x) short = record {
   read = m.read;
   consumed = m.consumed;
   part = subst (λ l. whole_lines l ≡ []) (sym x.3) x.2;
   short = short;
   ended = inr (sym m.kept ∙ sym x.3, subst (λ l. 0 < length l) (sym x.3) x.1, x.4, m.end x.0);
 }
+
+pub line_comes : (longest : ℕ) (before : List ℕ) (left : Option (List ℕ)) (after : List ℕ) (left' : Option (List ℕ)) (ended : Bool) (new : Held)
+    → Midst before left after left' ended → GivesWithin longest ended after new next.Line → LineComes longest before left new.bytes left' new.line
+line_comes longest before left after left' ended new m g = given longest before left after left' ended new m g.0 g.1
 
 pub too_long_comes : (longest : ℕ) (before : List ℕ) (left : Option (List ℕ)) (after : List ℕ) (left' : Option (List ℕ)) (ended : Bool) (new : Held)
     → Midst before left after left' ended → GivesWithin longest ended after new next.TooLong → TooLongComes longest before left new.bytes left'
@@ -67,15 +71,3 @@ breaks longest before left after mid ended new after' left' m g same k =
 abbrev pub turns_left : List ℕ → Bool → ℕ
 turns_left bytes true = 1136 - length bytes
 turns_left bytes false = 1137 - length bytes
-
-turns : (before after' : List ℕ) (count : ℕ) → length before ≤ 1135 → length after' ≤ 1136 → length after' ≡ length before + count
-    → turns_left after' (count == 0) < turns_left before false
-turns before after' zero few fits size = omega (arith, few, size)
-turns before after' (suc k) few fits size = omega (arith, few, fits, size)
-
-pub fewer_turns : (mid left' : Option (List ℕ)) (before stands after' : List ℕ) (count : ℕ)
-    → stands ≡ before → Fills mid left' stands after' count → length before ≤ 1135 → turns_left after' (count == 0) < turns_left before false
-fewer_turns mid left' before stands after' count same f few =
-    let size : length after' ≡ length before + count =
-    ap length f.behind ∙ length-append stands f.piece ∙ ap₂ (λ a b. a + b) (ap length same) f.size in
-    turns before after' count few f.fits size

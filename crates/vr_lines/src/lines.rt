@@ -1,5 +1,5 @@
 //! Where lines end in the pieces of a source.
-ghost use Rattle.std.specs.Prelude.{◌≡◌, ◌≤◌, ◌<◌, ◌-◌, ◌++◌, [], None, IfOk, IfSome, OnErr, length, min, take};
+ghost use Rattle.std.specs.Prelude.{◌≡◌, ◌<◌, ◌-◌, ◌++◌, [], None, IfOk, IfSome, OnErr, length, min, take};
 ghost use Rattle.std.specs.Io.KnownBytes.{Keeps};
 ghost use Rattle.vr_base.specs.Causes.{HasCause};
 ghost use Rattle.vr_lines.specs.Cuts.{whole_lines, IsEnd};
@@ -110,7 +110,6 @@ impl Lines {
 
     /// What comes next of a source whose lines have at most so many bytes; `ended` says that the source is at its end.
     pub(crate) fn give(&mut self, longest: usize, ended: bool) -> Next
-        requires { longest ≤ 1135 }
         ensures { GivesWithin longest ended self.old.bytes self.new result }
     {
         let held = self.end - self.start;

@@ -1,4 +1,4 @@
-use Rattle.std.proofs.Common.{◌≡◌, ◌≤◌, ◌-◌, length, Bool, true, false}
+use Rattle.std.proofs.Common.{◌≡◌}
 use Rattle.vr_lines.proofs.Coming.{Midst, turns_left}
 use Rattle.vr_lines.proofs.lines.Lines.read.Given as goal
 
