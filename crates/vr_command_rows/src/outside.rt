@@ -4,7 +4,8 @@ use std::alloc::{AllocError, Global};
 use std::mem;
 use vr_base::{ByteList, NoMemory};
 use vr_edge::{
-    Coming, Datagram, LinkRoom, LinkScript, MemClock, MemLink, MemStreams, Piece, StreamScript,
+    Coming, Datagram, LinkRoom, LinkScript, MemClock, MemLink, MemSource, MemStreams, Piece,
+    StreamScript,
 };
 use vr_mem::MemDisk;
 use vr_spawn::MemSpawner;
@@ -17,6 +18,7 @@ pub struct Outside {
     script: LinkScript,
     streams: StreamScript,
     numbers: Vec<u64>,
+    lines: Vec<u8>,
     failing_starts: Vec<u64>,
     failing_stops: Vec<u64>,
     /// So many bytes are taken of what it writes.
@@ -40,6 +42,7 @@ impl Outside {
             script: LinkScript::quiet(alloc),
             streams: StreamScript::quiet(alloc),
             numbers: Vec::new(alloc),
+            lines: Vec::new(alloc),
             failing_starts: Vec::new(alloc),
             failing_stops: Vec::new(alloc),
             room: 256,
@@ -62,6 +65,13 @@ impl Outside {
         Ok(())
     }
 
+    /// A line comes from its source.
+    fn line(&mut self, text: &str) -> Result<(), AllocError> {
+        self.lines.extend_from_slice(text.as_bytes())?;
+        self.lines.push(b'\n')?;
+        Ok(())
+    }
+
     /// The call of this number of its kind, from 0, fails; one of the disk is counted from 1.
     fn fail(&mut self, alloc: Global, kind: &str, call: u64) -> Result<(), AllocError> {
         match kind {
@@ -75,7 +85,7 @@ impl Outside {
     }
 
     /// Takes a line that says what a run finds: `quiet`, `arrive PORT HEX`, `noise PORT COUNT`, `piece PORT HEX`, `fail KIND CALL`, `clock NUMBER`,
-    /// `room COUNT`.
+    /// `line TEXT`, `room COUNT`.
     pub fn set(&mut self, alloc: Global, what: &str, words: &str) -> Result<(), AllocError> {
         let (first, second) = words.split_once(' ').unwrap_or((words, ""));
         match what {
@@ -88,6 +98,7 @@ impl Outside {
                 self.arrive(first.parse().unwrap_or(0), bytes)?;
             }
             "fail" => self.fail(alloc, first, second.parse().unwrap_or(0))?,
+            "line" => self.line(words)?,
             "clock" => self.numbers.push(first.parse().unwrap_or(0))?,
             _ => self.room = first.parse().unwrap_or(0),
         }
@@ -108,6 +119,11 @@ impl Outside {
     pub fn stream_link(&mut self, alloc: Global) -> Result<StreamLink<MemStreams>, AllocError> {
         let script = mem::replace(&mut self.streams, StreamScript::quiet(alloc));
         StreamLink::over_new(alloc, 2, MemStreams::new(alloc, 66, script)?)
+    }
+
+    pub fn source(&mut self, alloc: Global) -> MemSource {
+        let lines = mem::replace(&mut self.lines, Vec::new(alloc));
+        MemSource::new(lines, Vec::new(alloc))
     }
 
     pub fn clock(&mut self, alloc: Global) -> MemClock {

@@ -3,14 +3,17 @@
 use crate::outside::Outside;
 use std::alloc::{AllocError, Global};
 use vr_base::ByteList;
-use vr_edge::{Link, MemLink, MemSink, MemSource};
-use vr_program::run;
+use vr_edge::{Link, MemLink, MemSink};
 use vr_spawn::{MemSpawner, SpawnCall, Start, Stop};
 use vr_status::{Status, status_line};
+use vr_top::run;
 
-/// The words between single spaces.
+/// The words between single spaces; an empty line has none.
 pub fn words_of(alloc: Global, line: &str) -> Result<Vec<String>, AllocError> {
     let mut words = Vec::new(alloc);
+    if line.is_empty() {
+        return Ok(words);
+    }
     for word in line.split(' ') {
         words.push(String::from_str(alloc, word)?)?;
     }
@@ -29,16 +32,13 @@ fn put_lines(text: &[u8], to: &mut ByteList) -> Result<(), AllocError> {
     Ok(())
 }
 
-/// How a run ends: the text of its status, `done` for the one without a text, `replay` where it is left to the caller.
-fn put_end(alloc: Global, end: Option<Status>, to: &mut ByteList) -> Result<(), AllocError> {
-    match end {
-        None => to.extend(b"  replay"),
-        Some(Status::Done) => to.extend(b"  done"),
-        Some(status) => {
-            to.extend(b"  ")?;
-            to.extend(status_line(alloc, &status)?.as_bytes())
-        }
+/// How a run ends: the text of its status, `done` for the one without a text.
+fn put_end(alloc: Global, end: &Status, to: &mut ByteList) -> Result<(), AllocError> {
+    to.extend(b"  ")?;
+    if *end == Status::Done {
+        return to.extend(b"done");
     }
+    to.extend(status_line(alloc, end)?.as_bytes())
 }
 
 /// The port of each datagram that was sent, of the first four.
@@ -82,7 +82,7 @@ fn put_calls(alloc: Global, spawner: &MemSpawner, to: &mut ByteList) -> Result<(
     Ok(())
 }
 
-/// Runs with an empty source, and tells how it ends and what it wrote.
+/// Runs, and tells how it ends and what it wrote.
 fn put_run<L: Link>(
     alloc: Global,
     line: &str,
@@ -92,7 +92,7 @@ fn put_run<L: Link>(
     to: &mut ByteList,
 ) -> Result<(), AllocError> {
     let words = words_of(alloc, line)?;
-    let mut source = MemSource::new(Vec::new(alloc), Vec::new(alloc));
+    let mut source = outside.source(alloc);
     let mut sink = MemSink::new(alloc, outside.room, Vec::new(alloc))?;
     let mut clock = outside.clock(alloc);
     let end = run(
@@ -106,7 +106,7 @@ fn put_run<L: Link>(
         spawner,
     );
     put_lines(sink.bytes(), to)?;
-    put_end(alloc, end, to)
+    put_end(alloc, &end, to)
 }
 
 /// Runs a command line, and tells what it wrote, how it ended, to which ports it sent, and what it had the spawner do.

@@ -1,56 +1,20 @@
-//! Replays over objects in memory, and how they end.
+//! Replays over a source and a sink in memory, and how they end.
 use std::alloc::{AllocError, Global};
 use std::process::Abort;
-use vr_disk::NoDisk;
-use vr_edge::{LinkRoom, LinkScript, MemClock, MemLink, MemSink, MemSource};
-use vr_replay::run;
+use vr_edge::{MemSink, MemSource};
+use vr_replay::replay;
 use vr_status::Status;
 
-/// How a run ends, and what it wrote.
+/// How a replay ends, and what it wrote.
 #[derive(Drop)]
 pub struct Ending {
     pub end: Status,
     pub text: Vec<u8>,
 }
 
-fn replay(alloc: Global) -> Result<Vec<String>, AllocError> {
-    let mut words = Vec::new(alloc);
-    words.push(String::from_str(alloc, "replay")?)?;
-    Ok(words)
-}
-
-fn no_link(alloc: Global) -> Result<MemLink, AllocError> {
-    let no_room = LinkRoom {
-        datagrams: 0,
-        bytes: 0,
-    };
-    MemLink::new(alloc, LinkScript::quiet(alloc), no_room)
-}
-
-/// Replays over objects in memory.
-fn run_over(
-    alloc: Global,
-    source: &mut MemSource,
-    sink: &mut MemSink,
-) -> Result<Status, AllocError> {
-    let words = replay(alloc)?;
-    let mut link = no_link(alloc)?;
-    let mut clock = MemClock::new(Vec::new(alloc));
-    let end = run(
-        alloc,
-        &words,
-        source,
-        sink,
-        &mut NoDisk::new(),
-        &mut link,
-        &mut clock,
-    );
-    Ok(end)
-}
-
-/// Runs over a sink with so much room, whose writes of these numbers fail. Each function that drops objects is expensive to prove, the more
-/// so the more often it can end early: so this one alone drops a sink, and `ran` and its like a source.
-fn played(
+/// Replays to a sink with so much room, whose writes of these numbers fail. Each function that drops objects is expensive to
+/// prove, the more so the more often it can end early: so this one alone drops a sink, and `ran` and its like a source.
+pub(crate) fn played(
     alloc: Global,
     source: &mut MemSource,
     room: usize,
@@ -65,7 +29,7 @@ fn written(
     source: &mut MemSource,
     sink: &mut MemSink,
 ) -> Result<Ending, AllocError> {
-    let end = run_over(alloc, source, sink)?;
+    let end = replay(alloc, source, sink);
     let text = Vec::from_slice(alloc, sink.bytes())?;
     Ok(Ending { end, text })
 }

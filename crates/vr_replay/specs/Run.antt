@@ -1,7 +1,5 @@
--- What a run with the command `replay` comes to.
-use Rattle.std.specs.Prelude.{ℕ, ◌+◌, ◌≡◌, ◌≤◌, ◌++◌, ◌⊎◌, length, List, [], ◌∷◌, Bool, false, codes, String, string_bytes, Option, Some, None, IfSome}
-use Rattle.std.specs.Global.{Global}
-use Rattle.std.specs.Str.{bytes_eq}
+-- What a replay comes to.
+use Rattle.std.specs.Prelude.{ℕ, ◌+◌, ◌≡◌, ◌≤◌, ◌++◌, ◌⊎◌, length, List, Option, Some, None, IfSome}
 use Rattle.std.specs.Io.KnownBytes.{Appends, Consumes, IsAtEnd}
 use Rattle.vr_base.specs.Causes.{one_more}
 use Rattle.vr_edge.specs.Told.{AppendsFront}
@@ -71,8 +69,3 @@ Ends s s' k k' lo ln to tn _ = ⊥
 abbrev pub status_for : Option ℕ → Status
 status_for None = status.Done
 status_for (Some line) = status.Refused line
-
--- the one word `replay`
-abbrev pub is_replay_words : List (String Global) → Bool
-is_replay_words (word ∷ []) = bytes_eq (string_bytes word) (codes "replay")
-is_replay_words _ = false

@@ -1,15 +1,14 @@
-//! A replay over the outside that is handed in.
-ghost use Rattle.std.specs.Prelude.{◌≡◌, ◌↔◌, ◌⊎◌, ℕ, true, false, IfSome};
+//! A replay over the source and the sink that are handed in.
+ghost use Rattle.std.specs.Prelude.{◌≡◌, ◌⊎◌, ℕ, IfSome};
 ghost use Rattle.vr_base.specs.Causes.{Rose};
 ghost use Rattle.vr_replay.specs.Headline.{ScheduleHasOneLog};
 ghost use Rattle.vr_replay.specs.Schedule.{schedule_of};
-ghost use Rattle.vr_replay.specs.Run.{IsDone, IsRefused, IsCutShort, IsPartial, Ends, is_replay_words, refused_in, status_for};
+ghost use Rattle.vr_replay.specs.Run.{IsDone, IsRefused, IsCutShort, IsPartial, Ends, refused_in, status_for};
 ghost use Rattle.vr_status.specs.Counts.{reads_after, writes_after};
 
 use crate::Replay;
 use std::alloc::Global;
-use vr_disk::SectorDisk;
-use vr_edge::{Clock, Link, Sink, Source};
+use vr_edge::{Sink, Source};
 use vr_status::Status;
 
 /// Reads a schedule, and writes its outputs line by line.
@@ -56,56 +55,5 @@ pub fn replay<S: Source, K: Sink>(alloc: Global, source: &mut S, sink: &mut K) -
     // Whatever the schedule, its outputs have one log.
     ensures headline { IfSome (S.left source.old) (λ bytes. ScheduleHasOneLog (schedule_of bytes)) }
 {
-    read_schedule(alloc, source, sink)
-}
-
-/// Whether the words are those of the command `replay`.
-fn is_replay(words: &Vec<String>) -> bool
-    ensures { result ≡ is_replay_words words.now.items }
-{
-    words.len() == 1 && words[0].as_str() == "replay"
-}
-
-/// The command `replay`, by its one word: reads a schedule from the source and writes the lines of its outputs to the sink.
-#[tactic(auto, using(crate::proofs::Headline::headline))]
-pub fn run<S: Source, K: Sink, D: SectorDisk, L: Link, C: Clock>(
-    alloc: Global,
-    words: &Vec<String>,
-    source: &mut S,
-    sink: &mut K,
-    disk: &mut D,
-    link: &mut L,
-    clock: &mut C,
-) -> Status
-    // Exactly where the words are no command line; then nothing is called.
-    ensures usage { result ≡ Status.Usage ↔ (is_replay_words words.now.items ≡ false) }
-    ensures usage_source { result ≡ Status.Usage → source.new ≡ source.old }
-    ensures usage_sink { result ≡ Status.Usage → sink.new ≡ sink.old }
-
-    // What was read and written.
-    ensures done { result ≡ Status.Done → IsDone (S.left source.old) (S.left source.new) (K.taken sink.old) (K.taken sink.new) }
-    ensures refused { (line : ℕ) → result ≡ Status.Refused line → IsRefused line (S.left source.old) (S.left source.new) (K.taken sink.old) (K.taken sink.new) }
-    ensures read_text { result ≡ Status.ReadFault → IsCutShort (S.left source.old) (S.left source.new) (K.taken sink.old) (K.taken sink.new) }
-    ensures write_text { result ≡ Status.WriteFault → IsPartial (S.left source.old) (S.left source.new) (K.taken sink.old) (K.taken sink.new) }
-    ensures memory_text { result ≡ Status.NoMemory → IsPartial (S.left source.old) (S.left source.new) (K.taken sink.old) (K.taken sink.new) }
-
-    // A fault has its cause in the object that was handed in, and a read or a write that failed is told: no other answer leaves one.
-    ensures read { S.faults source.new ≡ reads_after result (S.faults source.old) }
-    ensures write { K.faults sink.new ≡ writes_after result (K.faults sink.old) }
-
-    // Where no fault comes, the answer is that of the source's bytes, or want of memory.
-    ensures complete { is_replay_words words.now.items ≡ true → ¬ Rose (S.faults source.old) (S.faults source.new) → ¬ Rose (K.faults sink.old) (K.faults sink.new) → IfSome (S.left source.old) (λ bytes. (result ≡ status_for (refused_in bytes)) ⊎ (result ≡ Status.NoMemory)) }
-
-    // No other object is called.
-    ensures disk { disk.new ≡ disk.old }
-    ensures link { link.new ≡ link.old }
-    ensures clock { clock.new ≡ clock.old }
-
-    // Whatever the schedule, its outputs have one log.
-    ensures headline { IfSome (S.left source.old) (λ bytes. ScheduleHasOneLog (schedule_of bytes)) }
-{
-    if !is_replay(words) {
-        return Status::Usage;
-    }
     read_schedule(alloc, source, sink)
 }

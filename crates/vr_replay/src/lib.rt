@@ -6,6 +6,6 @@ mod command;
 mod playing;
 mod stop;
 
-pub use command::{replay, run};
+pub use command::replay;
 use playing::Replay;
 use stop::Stop;

@@ -7,7 +7,7 @@ use Rattle.std.proofs.lemmas.Bool.Decides.{nat_tests}
 use Rattle.std.proofs.lemmas.Grind.{common_steps}
 use Rattle.clap.specs.Words.{Row, Text, all_of, fault_of, first_of, subcommand_of}
 use Rattle.vr_base.specs.declared.kind.Kind.{Kind}
-use Rattle.vr_program.specs.Run.{IsGood}
+use Rattle.vr_top.specs.Roles.{IsGood}
 use Rattle.vr_lines.specs.Numbers.{number_below, number_of}
 use Rattle.vr_words.specs.Asked.{Asked, Client, ClientAsked, Node, NodeAsked, Replay, Soak, asked, asked_at, asker_at, below_at, client_at, fresh_at, id_at, is_size, is_taken, member_at, node_at, number_at, peers_at, soak_at, Trial, TrialAsked, trial_at, trier_at}
 use Rattle.vr_words.specs.Forms.{the_command}

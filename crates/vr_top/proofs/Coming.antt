@@ -1,0 +1,273 @@
+-- Commands, each against its run.
+use Rattle.std.proofs.Common.{◌≡◌, ◌≤◌, ◌<◌, ◌⊎◌, ◌∙◌, zero, suc, ℕ, List, [], ◌∷◌, true, false, Option, Some, None, length, map, refl, ap, subst, sym, inl, inr, arith}
+use Rattle.std.specs.Prelude.{◌≢◌, IfSome, is_some, string_bytes, vec_len}
+use Rattle.std.proofs.lemmas.Bool.Decides.{nat_tests}
+use Rattle.vr_ask.specs.Asking as ask
+use Rattle.vr_ask.specs.Run as run
+use Rattle.vr_base.specs.Causes.{Rose}
+use Rattle.vr_base.specs.Groups.{quorums_of}
+use Rattle.vr_base.specs.declared.kind.Kind.{Kind}
+use Rattle.vr_base.specs.declared.table.Config.{Config}
+use Rattle.vr_edge.specs.Failing.{LinkFailure}
+use Rattle.vr_node.specs.Running as node
+use Rattle.vr_node.specs.Stops.{disk_after}
+use Rattle.vr_replay.specs.Run as replay
+use Rattle.vr_serve.specs.Causes as serve
+use Rattle.vr_soak.specs.Ends.{SoakEnds}
+use Rattle.vr_soak.specs.Summing.{soak_text}
+use Rattle.vr_status.specs.Counts.{reads_after, writes_after}
+use Rattle.vr_status.specs.declared.status.Status.{Status}
+use Rattle.vr_status.specs.declared.status.Status.TheVariants as status
+use Rattle.vr_top.proofs.Answers.{not_given, of_client, of_node, of_replay, of_soak, of_trial}
+use Rattle.vr_top.proofs.Counts.{no_disk, no_read}
+use Rattle.vr_top.specs.Answers.{client_gives, gives, node_gives, replay_gives, soak_gives, trial_gives}
+use Rattle.vr_top.specs.Causes.{HasCauses}
+use Rattle.vr_top.specs.Ends.{Does, Ends, client_counts, member_counts, of_client as client_outside, of_member, of_trial as trial_outside, trial_counts}
+use Rattle.vr_top.specs.Outside.{Outside}
+use Rattle.vr_top.specs.Roles.{IsGood, client_of, config_of, trial_of}
+use Rattle.vr_trial.specs.Run as trial
+use Rattle.vr_trial.specs.Told as told
+use Rattle.vr_trial.specs.declared.plan.Plan.{Plan}
+use Rattle.vr_words.specs.Asked.{Asked, Client, ClientAsked, Node, NodeAsked, Replay, Soak, Trial, TrialAsked, client_says, is_size, node_says, trial_says}
+use Rattle.vr_words.specs.declared.command.ClientWords.{ClientWords}
+use Rattle.vr_words.specs.declared.command.NodeWords.{NodeWords}
+use Rattle.vr_words.specs.declared.command.SoakWords.{SoakWords}
+use Rattle.vr_words.specs.declared.command.TrialWords.{TrialWords}
+
+size_bounds : (n : ℕ) → is_size n ≡ true → (2 ≤ n) × (n ≤ 6)
+size_bounds n e = (grind (arith, nat_tests), grind (arith, nat_tests))
+
+sized : (n : ℕ) → 2 ≤ n → n ≤ 6 → is_some (quorums_of n) ≡ true
+sized zero a b = absurd (omega (arith, a))
+sized (suc zero) a b = absurd (omega (arith, a))
+sized (suc (suc zero)) a b = refl
+sized (suc (suc (suc zero))) a b = refl
+sized (suc (suc (suc (suc zero)))) a b = refl
+sized (suc (suc (suc (suc (suc zero))))) a b = refl
+sized (suc (suc (suc (suc (suc (suc zero)))))) a b = refl
+sized (suc (suc (suc (suc (suc (suc (suc n))))))) a b = absurd (omega (arith, b))
+
+map_length : {X Y : Type 0} (f : X → Y) (xs : List X) → length (map f xs) ≡ length xs
+map_length f [] = refl
+map_length f (x ∷ xs) = ap suc (map_length f xs)
+
+-- ---- a member's words
+
+node_peers : (w : NodeWords) → length (map string_bytes w.peers.items) ≡ vec_len w.peers
+node_peers w = map_length string_bytes w.peers.items ∙ sym w.peers.ok.0
+
+abbrev config_with : ℕ → ℕ → ℕ → Config
+config_with cluster replica n = record { cluster = cluster; replica = replica; n = n }
+
+pub node_config : (w : NodeWords) → config_of (node_says w) ≡ record { cluster = w.cluster; replica = w.replica; n = vec_len w.peers }
+node_config w = ap (config_with w.cluster w.replica) (node_peers w)
+
+pub node_most : (w : NodeWords) → IsGood (Node (node_says w)) → vec_len w.peers ≤ 6
+node_most w h = subst (λ n. n ≤ 6) (node_peers w) (size_bounds (length (map string_bytes w.peers.items)) h.0).1
+
+pub node_size : (w : NodeWords) → IsGood (Node (node_says w)) → is_some (quorums_of (config_of (node_says w)).n) ≡ true
+node_size w h =
+    let n = length (map string_bytes w.peers.items) in
+    sized n (size_bounds n h.0).0 (size_bounds n h.0).1
+
+pub node_member : (w : NodeWords) → IsGood (Node (node_says w)) → (config_of (node_says w)).replica < (config_of (node_says w)).n
+node_member w h = h.1
+
+pub node_fits : (w : NodeWords) → (config_of (node_says w)).n ≤ vec_len w.peers
+node_fits w = let same : length (map string_bytes w.peers.items) ≡ vec_len w.peers = node_peers w in omega (arith, same)
+
+-- the run of a member in its role is that of its words
+pub by_role : (fresh fresh' : Option Kind) (c c' : Config) (peers peers' : List (List ℕ)) (turns turns' : ℕ) (o o' : node.Outside) (b n : serve.Counts) (s : Status)
+    → fresh ≡ fresh' → c ≡ c' → peers ≡ peers' → turns ≡ turns' → node.NodeEnds fresh c peers turns o o' b n s → node.NodeEnds fresh' c' peers' turns' o o' b n s
+by_role fresh fresh' c c' peers peers' turns turns' o o' b n s f k p t e =
+    subst (λ x. node.NodeEnds x c' peers' turns' o o' b n s) f
+    (subst (λ x. node.NodeEnds fresh x peers' turns' o o' b n s) k
+    (subst (λ x. node.NodeEnds fresh c x turns' o o' b n s) p (subst (λ x. node.NodeEnds fresh c peers x o o' b n s) t e)))
+
+-- ---- a client's words
+
+client_peers : (w : ClientWords) → length (map string_bytes w.peers.items) ≡ vec_len w.peers
+client_peers w = map_length string_bytes w.peers.items ∙ sym w.peers.ok.0
+
+pub client_least : (w : ClientWords) → IsGood (Client (client_says w)) → 2 ≤ vec_len w.peers
+client_least w h = subst (λ n. 2 ≤ n) (client_peers w) (size_bounds (length (map string_bytes w.peers.items)) h.0).0
+
+pub client_most : (w : ClientWords) → IsGood (Client (client_says w)) → vec_len w.peers ≤ 6
+client_most w h = subst (λ n. n ≤ 6) (client_peers w) (size_bounds (length (map string_bytes w.peers.items)) h.0).1
+
+pub client_named : (w : ClientWords) → IsGood (Client (client_says w)) → w.id ≢ 0
+client_named w h = h.1
+
+pub by_client : (w : ClientWords) (o o' : run.Outside) (b n : ask.Faults) (s : Status)
+    → run.ClientEnds (run.client_with w.cluster w.id (vec_len w.peers) w.turns) (map string_bytes w.peers.items) o o' b n s → run.ClientEnds (client_of (client_says w)) (client_says w).peers o o' b n s
+by_client w o o' b n s e = subst (λ k. run.ClientEnds (run.client_with w.cluster w.id k w.turns) (map string_bytes w.peers.items) o o' b n s) (sym (client_peers w)) e
+
+-- ---- a trial's words
+
+trial_peers : (w : TrialWords) → length (map string_bytes w.peers.items) ≡ vec_len w.peers
+trial_peers w = map_length string_bytes w.peers.items ∙ sym w.peers.ok.0
+
+pub trial_least : (w : TrialWords) → IsGood (Trial (trial_says w)) → 2 ≤ vec_len w.peers
+trial_least w h = subst (λ n. 2 ≤ n) (trial_peers w) (size_bounds (length (map string_bytes w.peers.items)) h).0
+
+pub trial_most : (w : TrialWords) → IsGood (Trial (trial_says w)) → vec_len w.peers ≤ 6
+trial_most w h = subst (λ n. n ≤ 6) (trial_peers w) (size_bounds (length (map string_bytes w.peers.items)) h).1
+
+abbrev trial_with : ℕ → ℕ → List ℕ → List (List ℕ) → ℕ → told.Trial
+trial_with cluster turns files peers n = record { client = run.client_with cluster 1 n turns; files = files; peers = peers }
+
+-- the plan with a trial's words is what they say
+pub planned : (w : TrialWords) → trial_with w.cluster w.turns (string_bytes w.files) (map string_bytes w.peers.items) (vec_len w.peers) ≡ trial_of (trial_says w)
+planned w = ap (trial_with w.cluster w.turns (string_bytes w.files) (map string_bytes w.peers.items)) (sym (trial_peers w))
+
+pub by_plan : (p : told.Trial) (q : told.Trial) (o o' : trial.Outside) (b n : trial.Faults) (s : Status)
+    → p ≡ q → trial.TrialEnds p o o' b n s → trial.TrialEnds q o o' b n s
+by_plan p q o o' b n s same e = subst (λ t. trial.TrialEnds t o o' b n s) same e
+
+-- ---- what a command comes to
+
+abbrev of_source : {S K D L C P : Type 0} → Outside S K D L C P → ℕ
+of_source o = o.source.faults
+
+abbrev of_disk : {S K D L C P : Type 0} → Outside S K D L C P → ℕ
+of_disk o = o.disk.faults
+
+-- the link's fault has its cause
+abbrev LinkOf : {S K D L C P : Type 0} → Outside S K D L C P → Outside S K D L C P → Type 0
+LinkOf o o' = LinkFailure o.link.faults o'.link.faults o.link.attached o'.link.attached o.link.received o'.link.received
+
+pub replays : {S K D L C P : Type 0} (o o' : Outside S K D L C P) (s : Status)
+    → replay.Ends o.source.faults o'.source.faults o.sink.faults o'.sink.faults o.source.left o'.source.left o.sink.taken o'.sink.taken s
+    → (¬ Rose o.source.faults o'.source.faults → ¬ Rose o.sink.faults o'.sink.faults → IfSome o.source.left (λ bytes. (s ≡ replay.status_for (replay.refused_in bytes)) ⊎ (s ≡ status.NoMemory)))
+    → o'.source.faults ≡ reads_after s o.source.faults → o'.sink.faults ≡ writes_after s o.sink.faults
+    → o' ≡ record o { source = o'.source; sink = o'.sink } → Ends (Some Replay) o o' s
+replays o o' s e c r w same =
+    let may = of_replay s o.source.faults o'.source.faults o.sink.faults o'.sink.faults o.source.left o'.source.left o.sink.taken o'.sink.taken e in
+    record {
+      does = inl (record { ends = e; complete = c; others = same });
+      answer = may;
+      causes = record {
+        read = r;
+        write = w;
+        disk = ap of_disk same ∙ no_disk s o.disk.faults (not_given replay_gives s status.DiskFault may refl);
+        link = λ is. absurd (not_given replay_gives s status.LinkFault may refl is);
+        spawn = λ is. absurd (not_given replay_gives s status.SpawnFault may refl is);
+      };
+    }
+
+soak_writes : (s : Status) (w w' : ℕ) (t t' : Option (List ℕ)) (text : List ℕ) → SoakEnds w w' t t' text s → w' ≡ writes_after s w
+soak_writes status.Done w w' t t' text e = e.0
+soak_writes status.WriteFault w w' t t' text e = e.0
+soak_writes status.NoMemory w w' t t' text e = e.0
+soak_writes status.Usage w w' t t' text e = absurd e
+soak_writes (status.Refused line) w w' t t' text e = absurd e
+soak_writes status.SessionLost w w' t t' text e = absurd e
+soak_writes status.ReadFault w w' t t' text e = absurd e
+soak_writes status.DiskFault w w' t t' text e = absurd e
+soak_writes status.LinkFault w w' t t' text e = absurd e
+soak_writes status.SuperLost w w' t t' text e = absurd e
+soak_writes (status.OtherMember found asked) w w' t t' text e = absurd e
+soak_writes status.Occupied w w' t t' text e = absurd e
+soak_writes status.NoAnswer w w' t t' text e = absurd e
+soak_writes status.SpawnFault w w' t t' text e = absurd e
+
+pub soaks : {S K D L C P : Type 0} (words : SoakWords) (o o' : Outside S K D L C P) (s : Status)
+    → SoakEnds o.sink.faults o'.sink.faults o.sink.taken o'.sink.taken (soak_text words.seed words.count) s
+    → o' ≡ record o { sink = o'.sink } → Ends (Some (Soak words)) o o' s
+soaks words o o' s e same =
+    let may = of_soak s o.sink.faults o'.sink.faults o.sink.taken o'.sink.taken (soak_text words.seed words.count) e in
+    record {
+      does = inl (record { ends = e; others = same });
+      answer = may;
+      causes = record {
+        read = ap of_source same ∙ no_read s o.source.faults (not_given soak_gives s status.ReadFault may refl);
+        write = soak_writes s o.sink.faults o'.sink.faults o.sink.taken o'.sink.taken (soak_text words.seed words.count) e;
+        disk = ap of_disk same ∙ no_disk s o.disk.faults (not_given soak_gives s status.DiskFault may refl);
+        link = λ is. absurd (not_given soak_gives s status.LinkFault may refl is);
+        spawn = λ is. absurd (not_given soak_gives s status.SpawnFault may refl is);
+      };
+    }
+
+pub serves : {S K D L C P : Type 0} (a : NodeAsked) (o o' : Outside S K D L C P) (s : Status)
+    → node.NodeEnds a.fresh (config_of a) a.peers a.turns (of_member o) (of_member o') (member_counts o) (member_counts o') s
+    → o'.disk.faults ≡ disk_after s o.disk.faults → o'.sink.faults ≡ writes_after s o.sink.faults → (s ≡ status.LinkFault → LinkOf o o')
+    → o' ≡ record o { sink = o'.sink; disk = o'.disk; link = o'.link; clock = o'.clock } → Ends (Some (Node a)) o o' s
+serves a o o' s e d w l same =
+    let may = of_node s a.fresh (config_of a) a.peers a.turns (of_member o) (of_member o') (member_counts o) (member_counts o') e in
+    record {
+      does = inl (record { ends = e; others = same });
+      answer = may;
+      causes = record {
+        read = ap of_source same ∙ no_read s o.source.faults (not_given node_gives s status.ReadFault may refl);
+        write = w;
+        disk = d;
+        link = l;
+        spawn = λ is. absurd (not_given node_gives s status.SpawnFault may refl is);
+      };
+    }
+
+pub asks : {S K D L C P : Type 0} (a : ClientAsked) (o o' : Outside S K D L C P) (s : Status)
+    → run.ClientEnds (client_of a) a.peers (client_outside o) (client_outside o') (client_counts o) (client_counts o') s
+    → o'.source.faults ≡ reads_after s o.source.faults → o'.sink.faults ≡ writes_after s o.sink.faults → (s ≡ status.LinkFault → LinkOf o o')
+    → o' ≡ record o { source = o'.source; sink = o'.sink; link = o'.link } → Ends (Some (Client a)) o o' s
+asks a o o' s e r w l same =
+    let may = of_client s (client_of a) a.peers (client_outside o) (client_outside o') (client_counts o) (client_counts o') e in
+    record {
+      does = inl (record { ends = e; others = same });
+      answer = may;
+      causes = record {
+        read = r;
+        write = w;
+        disk = ap of_disk same ∙ no_disk s o.disk.faults (not_given client_gives s status.DiskFault may refl);
+        link = l;
+        spawn = λ is. absurd (not_given client_gives s status.SpawnFault may refl is);
+      };
+    }
+
+pub tries : {S K D L C P : Type 0} (a : TrialAsked) (o o' : Outside S K D L C P) (s : Status)
+    → trial.TrialEnds (trial_of a) (trial_outside o) (trial_outside o') (trial_counts o) (trial_counts o') s
+    → o'.sink.faults ≡ writes_after s o.sink.faults → (s ≡ status.LinkFault → LinkOf o o') → (s ≡ status.SpawnFault → Rose o.spawner.faults o'.spawner.faults)
+    → o' ≡ record o { sink = o'.sink; link = o'.link; spawner = o'.spawner } → Ends (Some (Trial a)) o o' s
+tries a o o' s e w l p same =
+    let may = of_trial s (trial_of a) (trial_outside o) (trial_outside o') (trial_counts o) (trial_counts o') e in
+    record {
+      does = inl (record { ends = e; others = same });
+      answer = may;
+      causes = record {
+        read = ap of_source same ∙ no_read s o.source.faults (not_given trial_gives s status.ReadFault may refl);
+        write = w;
+        disk = ap of_disk same ∙ no_disk s o.disk.faults (not_given trial_gives s status.DiskFault may refl);
+        link = l;
+        spawn = p;
+      };
+    }
+
+-- ---- the words
+
+pub ends_by : {S K D L C P : Type 0} (a : Asked) (asked : Option Asked) (o o' : Outside S K D L C P) (s : Status) → asked ≡ Some a → Ends (Some a) o o' s → Ends asked o o' s
+ends_by a asked o o' s e x = subst (λ z. Ends z o o' s) (sym e) x
+
+none_ends : {S K D L C P : Type 0} (o : Outside S K D L C P) → Ends None o o status.Usage
+none_ends o = record {
+  does = inl (refl, refl);
+  answer = refl;
+  causes = record { read = refl; write = refl; disk = refl; link = λ is. absurd (cc is); spawn = λ is. absurd (cc is) };
+}
+
+pub ends_none : {S K D L C P : Type 0} (asked : Option Asked) (o : Outside S K D L C P) → asked ≡ None → Ends asked o o status.Usage
+ends_none asked o e = subst (λ z. Ends z o o status.Usage) (sym e) (none_ends o)
+
+may_be_short : (asked : Option Asked) → gives asked status.NoMemory ≡ true
+may_be_short None = refl
+may_be_short (Some Replay) = refl
+may_be_short (Some (Soak w)) = refl
+may_be_short (Some (Node a)) = refl
+may_be_short (Some (Client a)) = refl
+may_be_short (Some (Trial a)) = refl
+
+pub ends_short : {S K D L C P : Type 0} (asked : Option Asked) (o : Outside S K D L C P) → Ends asked o o status.NoMemory
+ends_short asked o = record {
+  does = inr (record { is = refl; same = refl });
+  answer = may_be_short asked;
+  causes = record { read = refl; write = refl; disk = refl; link = λ is. absurd (cc is); spawn = λ is. absurd (cc is) };
+}

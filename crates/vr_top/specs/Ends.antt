@@ -1,0 +1,100 @@
+-- What a run of the program comes to, by its words.
+use Rattle.std.specs.Prelude.{ℕ, ◌≡◌, ◌⊎◌, ⊤, true, List, Option, Some, None, IfSome}
+use Rattle.vr_ask.specs.Asking as ask
+use Rattle.vr_ask.specs.Run as client
+use Rattle.vr_base.specs.Causes.{Rose}
+use Rattle.vr_node.specs.Running as node
+use Rattle.vr_replay.specs.Headline.{ScheduleHasOneLog}
+use Rattle.vr_replay.specs.Run as replay
+use Rattle.vr_replay.specs.Schedule.{schedule_of}
+use Rattle.vr_serve.specs.Causes as serve
+use Rattle.vr_soak.specs.Ends.{SoakEnds}
+use Rattle.vr_soak.specs.Headline.{SoakHasOneLog}
+use Rattle.vr_soak.specs.Summing.{soak_text}
+use Rattle.vr_status.specs.declared.status.Status.{Status}
+use Rattle.vr_status.specs.declared.status.Status.TheVariants.{NoMemory, Usage}
+use Rattle.vr_top.specs.Answers.{gives}
+use Rattle.vr_top.specs.Causes.{HasCauses}
+use Rattle.vr_top.specs.Outside.{Outside}
+use Rattle.vr_top.specs.Roles.{client_of, config_of, trial_of}
+use Rattle.vr_trial.specs.Run as trial
+use Rattle.vr_words.specs.Asked.{Asked, Client, ClientAsked, Node, NodeAsked, Replay, Soak, Trial, TrialAsked}
+use Rattle.vr_words.specs.declared.command.SoakWords.{SoakWords}
+
+-- ---- what of the outside a member, a client and a trial have
+
+abbrev pub of_member : {S K D L C P : Type 0} → Outside S K D L C P → node.Outside
+of_member o = node.outside o.disk.told o.clock.left o.link.received o.sink.taken o.link.sent o.link.attached
+
+abbrev pub member_counts : {S K D L C P : Type 0} → Outside S K D L C P → serve.Counts
+member_counts o = serve.counts o.disk.faults o.sink.faults o.link.faults
+
+abbrev pub of_client : {S K D L C P : Type 0} → Outside S K D L C P → client.Outside
+of_client o = client.outside o.link.sent o.link.received o.sink.taken o.source.left o.link.attached
+
+abbrev pub client_counts : {S K D L C P : Type 0} → Outside S K D L C P → ask.Faults
+client_counts o = ask.faults o.link.faults o.sink.faults
+
+abbrev pub of_trial : {S K D L C P : Type 0} → Outside S K D L C P → trial.Outside
+of_trial o = trial.outside o.link.sent o.link.received o.sink.taken o.spawner.calls o.link.attached
+
+abbrev pub trial_counts : {S K D L C P : Type 0} → Outside S K D L C P → trial.Faults
+trial_counts o = trial.faults o.link.faults o.sink.faults o.spawner.faults
+
+-- ---- a command each
+
+-- `replay`: the lines of the source are played, and their outputs written. Where neither a read nor a write fails, the answer is the one that the source's bytes have,
+-- or want of memory.
+pub record Replays {S K D L C P : Type 0} (o o' : Outside S K D L C P) (status : Status) : Type 0 where
+  pub ends : replay.Ends o.source.faults o'.source.faults o.sink.faults o'.sink.faults o.source.left o'.source.left o.sink.taken o'.sink.taken status
+  pub complete : ¬ Rose o.source.faults o'.source.faults → ¬ Rose o.sink.faults o'.sink.faults
+      → IfSome o.source.left (λ bytes. (status ≡ replay.status_for (replay.refused_in bytes)) ⊎ (status ≡ NoMemory))
+  pub others : o' ≡ record o { source = o'.source; sink = o'.sink }
+
+-- `soak ..`: the summary of the schedule that a number makes
+pub record Soaks {S K D L C P : Type 0} (words : SoakWords) (o o' : Outside S K D L C P) (status : Status) : Type 0 where
+  pub ends : SoakEnds o.sink.faults o'.sink.faults o.sink.taken o'.sink.taken (soak_text words.seed words.count) status
+  pub others : o' ≡ record o { sink = o'.sink }
+
+-- `node ..`: the run of a member, which reads nothing and starts no program
+pub record Serves {S K D L C P : Type 0} (a : NodeAsked) (o o' : Outside S K D L C P) (status : Status) : Type 0 where
+  pub ends : node.NodeEnds a.fresh (config_of a) a.peers a.turns (of_member o) (of_member o') (member_counts o) (member_counts o') status
+  pub others : o' ≡ record o { sink = o'.sink; disk = o'.disk; link = o'.link; clock = o'.clock }
+
+-- `client ..`: the run of a client, which has no disk, looks at no clock and starts no program
+pub record Asks {S K D L C P : Type 0} (a : ClientAsked) (o o' : Outside S K D L C P) (status : Status) : Type 0 where
+  pub ends : client.ClientEnds (client_of a) a.peers (of_client o) (of_client o') (client_counts o) (client_counts o') status
+  pub others : o' ≡ record o { source = o'.source; sink = o'.sink; link = o'.link }
+
+-- `trial ..`: the run of a trial, which reads nothing, has no disk and looks at no clock
+pub record Tries {S K D L C P : Type 0} (a : TrialAsked) (o o' : Outside S K D L C P) (status : Status) : Type 0 where
+  pub ends : trial.TrialEnds (trial_of a) (of_trial o) (of_trial o') (trial_counts o) (trial_counts o') status
+  pub others : o' ≡ record o { sink = o'.sink; link = o'.link; spawner = o'.spawner }
+
+-- ---- all of them
+
+-- words that are none of the forms, and nothing was called
+abbrev pub Does : {S K D L C P : Type 0} → Option Asked → Outside S K D L C P → Outside S K D L C P → Status → Type 0
+Does None o o' status = (status ≡ Usage) × (o' ≡ o)
+Does (Some Replay) o o' status = Replays o o' status
+Does (Some (Soak words)) o o' status = Soaks words o o' status
+Does (Some (Node a)) o o' status = Serves a o o' status
+Does (Some (Client a)) o o' status = Asks a o o' status
+Does (Some (Trial a)) o o' status = Tries a o o' status
+
+-- memory was short for the words, and nothing was called
+pub record IsShort {S K D L C P : Type 0} (o o' : Outside S K D L C P) (status : Status) : Type 0 where
+  pub is : status ≡ NoMemory
+  pub same : o' ≡ o
+
+-- A run ends: what its words ask for was done, the answer is one that they may have, and it has its cause.
+pub record Ends {S K D L C P : Type 0} (asked : Option Asked) (o o' : Outside S K D L C P) (status : Status) : Type 0 where
+  pub does : Does asked o o' status ⊎ IsShort o o' status
+  pub answer : gives asked status ≡ true
+  pub causes : HasCauses o o' status
+
+-- The outputs of the schedule that words ask for have one log: of `replay` that of its source, where the source tells it, of `soak` that of its number.
+abbrev pub HasOneLog : Option Asked → Option (List ℕ) → Type 0
+HasOneLog (Some Replay) left = IfSome left (λ bytes. ScheduleHasOneLog (schedule_of bytes))
+HasOneLog (Some (Soak words)) left = SoakHasOneLog words.seed words.count
+HasOneLog _ left = ⊤

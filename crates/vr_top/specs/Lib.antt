@@ -1,0 +1,6 @@
+pub mod Outside
+pub mod Roles
+pub mod Answers
+pub mod Causes
+pub mod Ends
+pub mod Telling

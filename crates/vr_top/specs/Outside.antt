@@ -1,0 +1,65 @@
+-- What is outside of a run: the objects that are handed in, each with what it tells and with the count of its faults.
+use Rattle.std.specs.Prelude.{ℕ, List, Option}
+use Rattle.vr_disk.specs.DiskState.{Disk as DiskState}
+use Rattle.vr_disk.specs.declared.disk.SectorDisk as of_disk
+use Rattle.vr_edge.specs.Datagrams.{Arrival}
+use Rattle.vr_edge.specs.declared.attach.Attach.{Attach}
+use Rattle.vr_edge.specs.declared.clock.Clock as of_clock
+use Rattle.vr_edge.specs.declared.datagram.Datagram.{Datagram}
+use Rattle.vr_edge.specs.declared.link.Link as of_link
+use Rattle.vr_edge.specs.declared.sink.Sink as of_sink
+use Rattle.vr_edge.specs.declared.source.Source as of_source
+use Rattle.vr_spawn.specs.declared.spawner.SpawnCall.{SpawnCall}
+use Rattle.vr_spawn.specs.declared.spawner.Spawner as of_spawner
+
+pub record Source (S : Type 0) : Type 0 where
+  pub object : S
+  pub left : Option (List ℕ)
+  pub faults : ℕ
+
+pub record Sink (K : Type 0) : Type 0 where
+  pub object : K
+  pub taken : Option (List ℕ)
+  pub faults : ℕ
+
+pub record Disk (D : Type 0) : Type 0 where
+  pub object : D
+  pub told : Option DiskState
+  pub faults : ℕ
+
+pub record Link (L : Type 0) : Type 0 where
+  pub object : L
+  pub attached : Option (List Attach)
+  pub sent : Option (List (Option Datagram))
+  pub received : Option (List Arrival)
+  pub faults : ℕ
+
+pub record Clock (C : Type 0) : Type 0 where
+  pub object : C
+  pub left : Option (List ℕ)
+
+pub record Spawner (P : Type 0) : Type 0 where
+  pub object : P
+  pub calls : Option (List SpawnCall)
+  pub faults : ℕ
+
+-- Two that are equal are so object by object: nothing was called.
+pub record Outside (S K D L C P : Type 0) : Type 0 where
+  pub source : Source S
+  pub sink : Sink K
+  pub disk : Disk D
+  pub link : Link L
+  pub clock : Clock C
+  pub spawner : Spawner P
+
+-- the outside of these objects, by their traits
+abbrev pub outside : {S K D L C P : Type 0} → of_source.Ghosts S → of_sink.Ghosts K → of_disk.Ghosts D → of_link.Ghosts L → of_clock.Ghosts C → of_spawner.Ghosts P
+    → S → K → D → L → C → P → Outside S K D L C P
+outside s k d l c p source sink disk link clock spawner = record {
+  source = record { object = source; left = s.left source; faults = s.faults source };
+  sink = record { object = sink; taken = k.taken sink; faults = k.faults sink };
+  disk = record { object = disk; told = d.told disk; faults = d.faults disk };
+  link = record { object = link; attached = l.attached link; sent = l.sent link; received = l.received link; faults = l.faults link };
+  clock = record { object = clock; left = c.left clock };
+  spawner = record { object = spawner; calls = p.calls spawner; faults = p.faults spawner };
+}
