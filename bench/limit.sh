@@ -1,6 +1,6 @@
 #!/usr/bin/env bash
 # A schedule has at most 1,000,000 lines: runs the built program (crates/vr_app/out/vr_app, or the one that PROGRAM names) on a group of
-# two and 1,000,000 lines behind, of which it refuses the last, and on the same without that one. It ends with status 1 where the
+# two and 1,000,000 lines after the first, of which it refuses the last, and on the same without that one. It ends with status 1 where the
 # program ends otherwise or writes anything.
 #   bench/limit.sh
 set -eu
@@ -14,7 +14,7 @@ schedule() { awk -v lines="$1" 'BEGIN { print "cluster 2"; for (i = 0; i < lines
 check() {
     local said status=0
     said=$(schedule "$1" | "$program" replay 2>&1) || status=$?
-    printf '%7d lines behind the first: status %d, %s\n' "$1" "$status" "${said:-nothing written}"
+    printf '%7d lines after the first: status %d, %s\n' "$1" "$status" "${said:-nothing written}"
     [ "$status" = "$2" ] && [ "$said" = "$3" ]
 }
 
