@@ -24,8 +24,8 @@ pub ready_opened : (r : Replica) → MayLoad r → IsReady r
 unfolding MayLoad
 ready_opened r h = h.ready
 
-pub checkpoint_found : (root name : Name) (l : Load) (d d' : Option Disk) → name ≡ root → d' ≡ d → IfSome d (λ x. l ≡ loaded x.face name) → Finds (checkpoint_at root) d d' l
-checkpoint_found root name l d d' n e h = record { same = e; value = subst (λ (x : Name). IfSome d (λ y. l ≡ loaded y.face x)) n h }
+pub checkpoint_found : (root name : Name) (l : Load) (d d' : Option Disk) → d' ≡ d → IfSome d (λ x. l ≡ loaded x.face name) → name ≡ root → Finds (checkpoint_at root) d d' l
+checkpoint_found root name l d d' e h n = record { same = e; value = subst (λ (x : Name). IfSome d (λ y. l ≡ loaded y.face x)) n h }
 
 pub load_then : (l : Load) (r q : Replica) (d d' : Option Disk) (o : List Output) → nat_lt 0 r.checkpoint ≡ true → Finds (checkpoint_at r.root) d d' l → q ≡ loads r.root l r → Does load r q d d' o o (Ok tt)
 unfolding load

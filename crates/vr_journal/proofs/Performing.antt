@@ -39,8 +39,8 @@ write_is_again e r d d' ok i h = record { silent = refl; ran = rw i (runs_from (
 pub write_is_new : (e : Whole) (r : Replica) (d d' : Option Disk) (ok : Bool) → may_be_stored (part_at r e.header.op) ≡ false → Runs (new_calls e) d d' ok → Performs (writes e) r d d' ok
 write_is_new e r d d' ok i h = record { silent = refl; ran = rw i (runs_from (new_calls e) d d' ok h) }
 
-pub save_is : (r : Replica) (old v : SuperValue) (d d' : Option Disk) (ok : Bool) → old ≡ r.saved → v ≡ value_of r → RunsFrom (write_calls old v) d d' ok → Performs saves r d d' ok
-save_is r old v d d' ok i e h = let k = rw (i, e) at h in record { silent = refl; ran = k }
+pub save_is : (r : Replica) (old v : SuperValue) (d d' : Option Disk) (ok : Bool) → RunsFrom (write_calls old v) d d' ok → old ≡ r.saved → v ≡ value_of r → Performs saves r d d' ok
+save_is r old v d d' ok h i e = let k = rw (i, e) at h in record { silent = refl; ran = k }
 
 pub rewrite_is : (h : Header) (r : Replica) (d d' : Option Disk) (ok : Bool) → Runs (header_calls h) d d' ok → Performs (rewrites h) r d d' ok
 unfolding rewrites
@@ -52,16 +52,16 @@ put_is name block r d d' ok k = record { silent = refl; ran = runs_from (put_cal
 
 -- ---- a checkpoint
 
-module _ (r : Replica) (cluster op : ℕ) (state : State) (texts : Texts) (table : PayloadTable) (d d' : Option Disk) (res : Result checkpoint.SavedCheckpoint CkptFault) (c : cluster ≡ r.cluster) (a : op ≡ r.applied)
-    (s : state ≡ r.state) (b : table ≡ r.table) (t : texts ≡ texts_of state) (h : Leaves (save_calls cluster texts op table) d d' res) where
+module _ (r : Replica) (cluster op : ℕ) (state : State) (texts : Texts) (table : PayloadTable) (d d' : Option Disk) (res : Result checkpoint.SavedCheckpoint CkptFault) (h : Leaves (save_calls cluster texts op table) d d' res)
+    (t : texts ≡ texts_of state) (s : state ≡ r.state) (i : cluster ≡ r.cluster) (j : op ≡ r.applied) (b : table ≡ r.table) where
   pub checkpoint_ok : (c : checkpoint.SavedCheckpoint) → res ≡ Ok c → PerformsTo checkpoints r d d' (Ok tt)
   checkpoint_ok c e =
-      let k : Runs (save_calls r.cluster (texts_of r.state) r.applied r.table) d d' true = rw (e, t, s, c, a, b) at h in
+      let k : Runs (save_calls r.cluster (texts_of r.state) r.applied r.table) d d' true = rw (e, t, s, i, j, b) at h in
       performs_ok checkpoints r d d' (record { silent = refl; ran = runs_from (save_calls r.cluster (texts_of r.state) r.applied r.table) d d' true k })
 
   pub checkpoint_fault : res ≡ Err fault.DiskFault → PerformsTo checkpoints r d d' (Err DiskFault)
   checkpoint_fault e =
-      let k : Runs (save_calls r.cluster (texts_of r.state) r.applied r.table) d d' false = rw (e, t, s, c, a, b) at h in
+      let k : Runs (save_calls r.cluster (texts_of r.state) r.applied r.table) d d' false = rw (e, t, s, i, j, b) at h in
       performs_fault checkpoints r d d' (record { silent = refl; ran = runs_from (save_calls r.cluster (texts_of r.state) r.applied r.table) d d' false k })
 
   pub checkpoint_want : res ≡ Err fault.NoMemory → PerformsTo checkpoints r d d' (Err NoMemory)

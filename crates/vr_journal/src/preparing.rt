@@ -13,7 +13,7 @@ use vr_msg::Outbox;
 use vr_step::Halt;
 
 /// Reads the entry of an op where it is stored, and prepares it to all others.
-#[tactic(auto, using(crate::proofs::Reads::prepared_again, crate::proofs::Reads::not_prepared, vr_step::proofs::Stepping::wants))]
+#[tactic(auto, using(crate::proofs::Readings::prepared_again, crate::proofs::Readings::not_prepared, vr_step::proofs::Stepping::wants))]
 pub fn prepare_again<D: SectorDisk>(
     replica: &mut Replica,
     alloc: Global,

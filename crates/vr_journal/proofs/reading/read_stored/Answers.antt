@@ -1,5 +1,5 @@
 use Rattle.std.proofs.Common.{refl}
-use Rattle.vr_journal.proofs.Reads.{here_read}
+use Rattle.vr_journal.proofs.Readings.{here_read}
 use Rattle.vr_journal.proofs.reading.read_stored.Goals as goal
 
 pub returns-in-Some-clause-reads : goal.returns-in-Some-clause-reads
