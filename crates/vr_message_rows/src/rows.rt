@@ -78,17 +78,43 @@ fn tell(alloc: Global, bytes: &[u8], to: &mut ByteList) -> Result<(), AllocError
     }
 }
 
-/// What the bytes of a row come to, of which its first word says what they are.
+/// What the bytes of these words come to, as what a row calls them.
 fn tell_bytes(
     alloc: Global,
     what: &str,
-    bytes: &[u8],
+    pieces: &[Piece],
+    words: &str,
     to: &mut ByteList,
 ) -> Result<(), AllocError> {
+    let bytes = spelled(alloc, pieces, words)?;
     match what {
-        "message" => tell(alloc, bytes, to),
-        "keys" => tell_keys(alloc, bytes, to),
-        _ => tell_sessions(alloc, bytes, to),
+        "message" => tell(alloc, bytes.as_slice(), to),
+        "keys" => tell_keys(alloc, bytes.as_slice(), to),
+        _ => tell_sessions(alloc, bytes.as_slice(), to),
+    }
+}
+
+fn put_line(line: &str, to: &mut ByteList) -> Result<(), AllocError> {
+    to.extend(line.as_bytes())?;
+    to.extend(b"\n")
+}
+
+fn put_piece(alloc: Global, words: &str, pieces: &mut Vec<Piece>) -> Result<(), AllocError> {
+    pieces.push(named(alloc, words)?)?;
+    Ok(())
+}
+
+fn tell_row(
+    alloc: Global,
+    row: &str,
+    pieces: &mut Vec<Piece>,
+    to: &mut ByteList,
+) -> Result<(), AllocError> {
+    let (what, words) = row.split_once(' ').unwrap_or((row, ""));
+    match what {
+        "piece" => put_piece(alloc, words, pieces),
+        "message" | "keys" | "sessions" => tell_bytes(alloc, what, pieces.as_slice(), words, to),
+        _ => put_line(row, to),
     }
 }
 
@@ -97,17 +123,7 @@ pub fn told(alloc: Global, text: &str) -> Result<ByteList, AllocError> {
     let mut pieces = Vec::new(alloc);
     let mut told = ByteList::new(alloc);
     for row in text.lines() {
-        match row.split_once(' ') {
-            Some(("piece", words)) => pieces.push(named(alloc, words)?)?,
-            Some((what @ ("message" | "keys" | "sessions"), words)) => {
-                let bytes = spelled(alloc, pieces.as_slice(), words)?;
-                tell_bytes(alloc, what, bytes.as_slice(), &mut told)?;
-            }
-            _ => {
-                told.extend(row.as_bytes())?;
-                told.extend(b"\n")?;
-            }
-        }
+        tell_row(alloc, row, &mut pieces, &mut told)?;
     }
     Ok(told)
 }

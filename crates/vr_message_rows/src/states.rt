@@ -26,29 +26,37 @@ fn sessions_again(alloc: Global, text: &[u8]) -> Result<ByteList, StateFault> {
     spelled(sessions.encode_state())
 }
 
-/// Whether a text is spelled by what it is read as, or why it is none.
+/// Whether a text is spelled by what it is read as, or why it is none; `None` where memory was wanting.
+fn verdict(text: &[u8], again: &Result<ByteList, StateFault>) -> Option<&'static str> {
+    match again {
+        Ok(again) if again.as_slice() == text => Some("whole\n"),
+        Ok(_) => Some("not so: another text\n"),
+        Err(StateFault::Torn) => Some("Torn\n"),
+        Err(StateFault::NotSorted) => Some("NotSorted\n"),
+        Err(StateFault::TooMany) => Some("TooMany\n"),
+        Err(StateFault::NoMemory) => None,
+    }
+}
+
 fn tell(
     text: &[u8],
-    again: Result<ByteList, StateFault>,
+    again: &Result<ByteList, StateFault>,
     to: &mut ByteList,
 ) -> Result<(), AllocError> {
-    let line = match again {
-        Ok(again) if again.as_slice() == text => "whole\n",
-        Ok(_) => "not so: another text\n",
-        Err(StateFault::Torn) => "Torn\n",
-        Err(StateFault::NotSorted) => "NotSorted\n",
-        Err(StateFault::TooMany) => "TooMany\n",
-        Err(StateFault::NoMemory) => return Err(AllocError),
-    };
-    to.extend(line.as_bytes())
+    match verdict(text, again) {
+        Some(line) => to.extend(line.as_bytes()),
+        None => Err(AllocError),
+    }
 }
 
 /// What bytes are as the text of keys and values.
 pub fn tell_keys(alloc: Global, text: &[u8], to: &mut ByteList) -> Result<(), AllocError> {
-    tell(text, keys_again(alloc, text), to)
+    let again = keys_again(alloc, text);
+    tell(text, &again, to)
 }
 
 /// What bytes are as the text of sessions.
 pub fn tell_sessions(alloc: Global, text: &[u8], to: &mut ByteList) -> Result<(), AllocError> {
-    tell(text, sessions_again(alloc, text), to)
+    let again = sessions_again(alloc, text);
+    tell(text, &again, to)
 }

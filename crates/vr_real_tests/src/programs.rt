@@ -1,6 +1,7 @@
 //! Programs of the system: what a shell is told to do.
 #[cfg(test)]
 mod tests {
+    use crate::texts::owned;
     use std::alloc::{AllocError, Global};
     use std::path::PathBuf;
     use std::test::Fail;
@@ -15,21 +16,13 @@ mod tests {
     const SCRIPT: &str =
         "echo $$ > vr_real_tests.part; mv vr_real_tests.part vr_real_tests.program; exec sleep 600";
 
-    /// The words that have a shell do this.
-    fn shell_words(alloc: Global, script: &str) -> Result<Vec<String>, AllocError> {
-        let mut words = Vec::new(alloc);
-        words.push(String::from_str(alloc, "-c")?)?;
-        words.push(String::from_str(alloc, script)?)?;
-        Ok(words)
-    }
-
     /// Starts the program with the words that have a shell do this; the number that it is given.
     fn start<S: Spawner>(
         alloc: Global,
         spawner: &mut S,
         script: &str,
     ) -> Result<Option<u32>, AllocError> {
-        let words = shell_words(alloc, script)?;
+        let words = owned(alloc, &["-c", script])?;
         Ok(spawner.start(&words).ok())
     }
 

@@ -2,6 +2,7 @@ ghost use Rattle.std.specs.Prelude.{◌≤◌, IfOk, vec_capacity};
 
 #[cfg(test)]
 mod tests {
+    use crate::texts::owned;
     use std::alloc::{AllocError, Global};
     use std::test::Fail;
     use vr_edge::{Link, RECEIVE_ROOM, Received};
@@ -15,13 +16,6 @@ mod tests {
         0, 0, 0, 0, 0, 0, 0, 0, 0, 0, 0, 0, 0, 0, 3, 0, 0, 0, 0, 0, 0, 0, 9, 0, 0, 0, 0, 0, 0, 0,
         8, 0, 0, 0, 128, 8, 0, 1, 0, 0, 0, 0, 0, 0, 0, 0, 0, 0, 0, 0, 0, 0, 0, 0, 0,
     ];
-
-    fn addresses(alloc: Global, first: &str, second: &str) -> Result<Vec<String>, AllocError> {
-        let mut peers = Vec::new(alloc);
-        peers.push(String::from_str(alloc, first)?)?;
-        peers.push(String::from_str(alloc, second)?)?;
-        Ok(peers)
-    }
 
     /// Room for a receive.
     fn room(alloc: Global) -> Result<Vec<u8>, AllocError>
@@ -68,7 +62,7 @@ mod tests {
         first: &str,
         second: &str,
     ) -> Result<Option<u32>, AllocError> {
-        let peers = addresses(alloc, first, second)?;
+        let peers = owned(alloc, &[first, second])?;
         if from.attach(first, &peers).is_ok() && to.attach(second, &peers).is_ok() {
             first_port(alloc, from, to)
         } else {
@@ -98,7 +92,7 @@ mod tests {
 
     /// Whether a new link is attached to an address beside one of TCP and one of UDP.
     fn is_attached(rt: &HostRuntime, own: &str) -> Result<bool, AllocError> {
-        let peers = addresses(rt.alloc(), "tcp:127.0.0.1:47115", "127.0.0.1:47116")?;
+        let peers = owned(rt.alloc(), &["tcp:127.0.0.1:47115", "127.0.0.1:47116"])?;
         let mut link = RealLink::new(rt.alloc(), rt)?;
         Ok(link.attach(own, &peers).is_ok())
     }

@@ -1,5 +1,6 @@
 #[cfg(test)]
 mod tests {
+    use crate::texts::owned;
     use std::alloc::{AllocError, Global};
     use std::io::Write;
     use std::net::{TcpListener, TcpStream};
@@ -15,12 +16,6 @@ mod tests {
     /// As many bytes as a header has.
     const HEADER: [u8; 128] = [7; 128];
 
-    fn only(alloc: Global, peer: &str) -> Result<Vec<String>, AllocError> {
-        let mut peers = Vec::new(alloc);
-        peers.push(String::from_str(alloc, peer)?)?;
-        Ok(peers)
-    }
-
     /// Whether streams are attached here, with a peer there.
     fn is_attached<T: Streams>(
         alloc: Global,
@@ -28,7 +23,7 @@ mod tests {
         own: &str,
         peer: &str,
     ) -> Result<bool, AllocError> {
-        let peers = only(alloc, peer)?;
+        let peers = owned(alloc, &[peer])?;
         Ok(streams.attach(own, &peers).is_ok())
     }
 
