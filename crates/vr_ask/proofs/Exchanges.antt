@@ -10,7 +10,7 @@ use Rattle.vr_header.specs.declared.operation.Operation.TheVariants.{Register, P
 use Rattle.vr_header.specs.Made.{is_register}
 use Rattle.vr_lines.specs.Operations.{operation_words}
 use Rattle.vr_lines.specs.Words.{words_of}
-use Rattle.vr_status.specs.Counts.{reads_after, writes_after}
+use Rattle.vr_status.specs.Counts.{writes_after}
 use Rattle.vr_status.specs.declared.status.Status.{Status}
 use Rattle.vr_status.specs.declared.status.Status.TheVariants as status
 

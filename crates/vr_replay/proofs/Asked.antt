@@ -1,5 +1,5 @@
 -- The request of each line that is read can be asked.
-use Rattle.std.proofs.Common.{◌≡◌, ◌<◌, ◌^◌, ℕ, List, [], ◌∷◌, true, eqb, refl, arith, Option, Some, None}
+use Rattle.std.proofs.Common.{◌≡◌, ◌<◌, ◌^◌, ℕ, List, [], ◌∷◌, true, eqb, refl, arith, Some, None}
 use Rattle.std.specs.Prelude.{IsTrue, codes, length, nat_lt}
 use Rattle.std.specs.Option.{IfSome, option_map}
 use Rattle.std.specs.Str.{bytes_eq}
