@@ -31,7 +31,7 @@ it_may may s s' e h = subst (λ x. may x ≡ true) (sym e) h
 
 -- another one isn't
 pub not_given : (may : Status → Bool) (s s' : Status) → may s ≡ true → may s' ≡ false → s ≡ s' → ⊥
-not_given may s s' h no e = let both : true ≡ false = sym h ∙ (ap may e ∙ no) in cc
+not_given may s s' h other e = let both : true ≡ false = sym h ∙ (ap may e ∙ other) in cc
 
 -- ---- a replay
 

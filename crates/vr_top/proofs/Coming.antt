@@ -1,5 +1,5 @@
 -- Commands, each against its run.
-use Rattle.std.proofs.Common.{◌≡◌, ◌≤◌, ◌<◌, ◌⊎◌, ◌∙◌, zero, suc, ℕ, List, [], ◌∷◌, true, false, Option, Some, None, length, map, refl, ap, subst, sym, inl, inr, arith}
+use Rattle.std.proofs.Common.{◌≡◌, ◌≤◌, ◌<◌, ◌⊎◌, ◌∙◌, zero, suc, ℕ, List, [], ◌∷◌, true, Option, Some, None, length, map, refl, ap, subst, sym, inl, inr, arith}
 use Rattle.std.specs.Prelude.{◌≢◌, IfSome, is_some, string_bytes, vec_len}
 use Rattle.std.proofs.lemmas.Bool.Decides.{nat_tests}
 use Rattle.vr_ask.specs.Asking as ask
@@ -21,13 +21,11 @@ use Rattle.vr_status.specs.declared.status.Status.TheVariants as status
 use Rattle.vr_top.proofs.Answers.{not_given, of_client, of_node, of_replay, of_soak, of_trial}
 use Rattle.vr_top.proofs.Counts.{no_disk, no_read}
 use Rattle.vr_top.specs.Answers.{client_gives, gives, node_gives, replay_gives, soak_gives, trial_gives}
-use Rattle.vr_top.specs.Causes.{HasCauses}
-use Rattle.vr_top.specs.Ends.{Does, Ends, client_counts, member_counts, of_client as client_outside, of_member, of_trial as trial_outside, trial_counts}
+use Rattle.vr_top.specs.Ends.{Ends, client_counts, member_counts, of_client as client_outside, of_member, of_trial as trial_outside, trial_counts}
 use Rattle.vr_top.specs.Outside.{Outside}
 use Rattle.vr_top.specs.Roles.{IsGood, client_of, config_of, trial_of}
 use Rattle.vr_trial.specs.Run as trial
 use Rattle.vr_trial.specs.Told as told
-use Rattle.vr_trial.specs.declared.plan.Plan.{Plan}
 use Rattle.vr_words.specs.Asked.{Asked, Client, ClientAsked, Node, NodeAsked, Replay, Soak, Trial, TrialAsked, client_says, is_size, node_says, trial_says}
 use Rattle.vr_words.specs.declared.command.ClientWords.{ClientWords}
 use Rattle.vr_words.specs.declared.command.NodeWords.{NodeWords}

@@ -1,5 +1,5 @@
 -- What the words of a command ask for, as a member's, a client's and a trial's run take it.
-use Rattle.std.specs.Prelude.{ℕ, ◌≡◌, ◌≢◌, ◌<◌, ⊤, true, length}
+use Rattle.std.specs.Prelude.{◌≡◌, ◌≢◌, ◌<◌, ⊤, true, length}
 use Rattle.vr_ask.specs.Asking.{Client as Asker}
 use Rattle.vr_ask.specs.Run.{client_with}
 use Rattle.vr_base.specs.declared.table.Config.{Config}
