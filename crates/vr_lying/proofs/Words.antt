@@ -267,7 +267,7 @@ a_op : (v : SuperValue) (k : ℕ) → Alike (recover_op v k) (recover_op v k)
 unfolding recover_op
 a_op v k = a_reading _ _ (λ d. refl) (λ x. a_then (a_mend x (slot_verdict v k x)) (a_change (with_part k (part_by v k x (slot_verdict v k x)))))
 
-a_parts : (v : SuperValue) → Alike (recover_parts v) (recover_parts v)
+pub a_parts : (v : SuperValue) → Alike (recover_parts v) (recover_parts v)
 unfolding recover_parts
 a_parts v = a_then (a_each (old_headers v) a_old) (a_then (a_each (ops v.fields.checkpoint (v.fields.checkpoint + 64)) (a_op v)) (a_then (a_change (clouded v)) (a_change forgetting)))
 

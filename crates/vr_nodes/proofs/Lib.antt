@@ -1,2 +1,5 @@
 pub mod Moving
 pub mod Deeds
+pub mod Files
+pub mod Keeping
+pub mod Whole

@@ -1,3 +1,5 @@
 pub mod Deeds
+pub mod Files
 pub mod Runs
+pub mod Whole
 pub mod Laws

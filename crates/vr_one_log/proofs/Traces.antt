@@ -1,6 +1,6 @@
 -- What a run that is safe says of outputs that are its own but for some lines aside.
 use Rattle.vr_base.specs.declared.kind.Kind.{Kind}
-use Rattle.std.proofs.Common.{ℕ, ◌-◌, ◌<◌, ◌≤◌, ◌≡◌, ◌∙◌, inl, inr, arith, sym, ap, subst, List, Some}
+use Rattle.std.proofs.Common.{ℕ, ◌-◌, ◌^◌, ◌<◌, ◌≤◌, ◌≡◌, ◌∙◌, inl, inr, arith, sym, ap, subst, List, Some}
 use Rattle.std.specs.Prelude.{slice_get, take}
 use Rattle.vr_header.specs.declared.header.Header.{Header}
 use Rattle.vr_header.specs.Made.{Whole}
@@ -28,7 +28,7 @@ use Rattle.vr_agree.specs.Followed.{IsFitRun}
 use Rattle.vr_agree.proofs.Sets.{get_in, in_get, in_left, in_right}
 use Rattle.vr_agree.proofs.Traces.{in_either, output_of_move}
 use Rattle.vr_unforged.proofs.Names.{contains_in}
-use Rattle.vr_one_log.specs.Laws.{HasOneLog, KeepsOneLog}
+use Rattle.vr_one_log.specs.Laws.{HasOneLog, KeepsLog, KeepsOneLog}
 use Rattle.vr_one_log.specs.Outputs.{IsCutByNacks, IsOnceInSession, IsPlaced, RestsOn}
 use Rattle.vr_one_log.proofs.Places.{in_said, matches, placed}
 
@@ -70,27 +70,27 @@ module _ (xs ys : List Output) (all : SendNoMore xs ys) where
       said.stands_on earlier view d c (committed_said cluster n earlier d prior) le stands
       (record { voters = quorum.voters; enough = quorum.enough; each = λ r h. let y = quorum.each r h in (y.0, vouch_said n view r c y.1) })
 
-  numbers_said : (n : ℕ) (log : List Whole) (last commit : ℕ) → AreCommitted 0 n xs log last commit → AreCommitted 0 n ys log last commit
-  numbers_said n log last commit h op above upto =
+  numbers_said : (home n : ℕ) (log : List Whole) (last commit : ℕ) → AreCommitted home n xs log last commit → AreCommitted home n ys log last commit
+  numbers_said home n log last commit h op above upto =
       let e = h op above upto in
-      record { entry = e.entry; at = e.at; number = e.number; view = e.view; early = e.early; committed = committed_said 0 n e.view e.entry.header e.committed }
+      record { entry = e.entry; at = e.at; number = e.number; view = e.view; early = e.early; committed = committed_said home n e.view e.entry.header e.committed }
 
-  message_said : (n : ℕ) (log : List Whole) (m : Frame) → IsBackedMessage 0 n xs log m → IsBackedMessage 0 n ys log m
-  message_said n log (frame.Request q) h = tt
-  message_said n log (frame.Reply r) h = tt
-  message_said n log (frame.Prepare p) h = numbers_said n log p.view p.commit h
-  message_said n log (frame.PrepareOk p) h = tt
-  message_said n log (frame.Commit c) h = numbers_said n log c.view c.commit h
-  message_said n log (frame.StartViewChange s) h = tt
-  message_said n log (frame.DoViewChange d) h = tt
-  message_said n log (frame.StartView v) h = numbers_said n log v.view v.commit h
-  message_said n log (frame.GetView g) h = tt
-  message_said n log (frame.GetPrepare g) h = tt
-  message_said n log (frame.GivePrepare g) h = tt
-  message_said n log (frame.GetBlock g) h = tt
-  message_said n log (frame.GiveBlock g) h = tt
-  message_said n log (frame.GetSync g) h = tt
-  message_said n log (frame.SyncView v) h = (numbers_said n log v.view v.commit h.0, h.1)
+  message_said : (home n : ℕ) (log : List Whole) (m : Frame) → IsBackedMessage home n xs log m → IsBackedMessage home n ys log m
+  message_said home n log (frame.Request q) h = tt
+  message_said home n log (frame.Reply r) h = tt
+  message_said home n log (frame.Prepare p) h = numbers_said home n log p.view p.commit h
+  message_said home n log (frame.PrepareOk p) h = tt
+  message_said home n log (frame.Commit c) h = numbers_said home n log c.view c.commit h
+  message_said home n log (frame.StartViewChange s) h = tt
+  message_said home n log (frame.DoViewChange d) h = tt
+  message_said home n log (frame.StartView v) h = numbers_said home n log v.view v.commit h
+  message_said home n log (frame.GetView g) h = tt
+  message_said home n log (frame.GetPrepare g) h = tt
+  message_said home n log (frame.GivePrepare g) h = tt
+  message_said home n log (frame.GetBlock g) h = tt
+  message_said home n log (frame.GiveBlock g) h = tt
+  message_said home n log (frame.GetSync g) h = tt
+  message_said home n log (frame.SyncView v) h = (numbers_said home n log v.view v.commit h.0, h.1)
 
   -- a choice of a log is justified in what says no more
   justified_said : (n : ℕ) (p : Played) (l : Chosen) → IsJustified n ys p l → IsJustified n xs p l
@@ -108,8 +108,8 @@ module _ (xs ys : List Output) (all : SendNoMore xs ys) where
     each = λ i h. let d = j.each i h in record { statement = d.statement; stated = d.stated; denies = d.denies; silent = λ c op v. d.silent c op (vouch_said n l.log_view i c v) };
   }
 
-  line_said : (n : ℕ) (log : List Whole) (c : Committed) → IsLine 0 n xs log c → IsLine 0 n ys log c
-  line_said n log c h = record { at = h.at; number = h.number; view = h.view; committed = committed_said 0 n h.view c.entry.header h.committed }
+  line_said : (home n : ℕ) (log : List Whole) (c : Committed) → IsLine home n xs log c → IsLine home n ys log c
+  line_said home n log c h = record { at = h.at; number = h.number; view = h.view; committed = committed_said home n h.view c.entry.header h.committed }
 
 -- ---- a safe run
 
@@ -134,19 +134,19 @@ module _ (cluster n : ℕ) (run : List Played) (safe : Safe cluster n run) where
       let one : a.0 ≡ b.0 = cc in
       sym a.2 ∙ (ap (λ (e : Whole). e.header) one ∙ b.2)
 
-module _ (n : ℕ) (run : List Played) (safe : Safe 0 n run) where
+module _ (home n : ℕ) (run : List Played) (safe : Safe home n run) where
   -- what an output that was put out there rests on
-  rests : NoCollision (IsHashed run (root_header 0)) → (front : List Output) (o : Output) → IsPlaced run front o → RestsOn n safe.log run front o
+  rests : NoCollision (IsHashed run (root_header home)) → (front : List Output) (o : Output) → IsPlaced run front o → RestsOn home n safe.log run front o
   rests never front (output.Send s) x =
       let gs = before run x.move x.number x.moved in
-      message_said gs front (from_run front gs x.place) n safe.log s.message (safe.backed x.move x.number x.moved (output.Send s) never x.is)
+      message_said gs front (from_run front gs x.place) home n safe.log s.message (safe.backed x.move x.number x.moved (output.Send s) never x.is)
   rests never front (output.Commit c) x =
       let gs = before run x.move x.number x.moved in
-      line_said gs front (from_run front gs x.place) n safe.log c (safe.backed x.move x.number x.moved (output.Commit c) never x.is)
+      line_said gs front (from_run front gs x.place) home n safe.log c (safe.backed x.move x.number x.moved (output.Commit c) never x.is)
   rests never front (output.Reply a) x =
       let gs = before run x.move x.number x.moved in
       let so = safe.backed x.move x.number x.moved (output.Reply a) never x.is in
-      record { at = x; so = so; committed = numbers_said gs front (from_run front gs x.place) n safe.log a.view _ so.applied }
+      record { at = x; so = so; committed = numbers_said gs front (from_run front gs x.place) home n safe.log a.view _ so.applied }
   rests never front (output.Choose l) x = tt
   rests never front (output.Wait w) x = tt
   rests never front (output.Start s) x = tt
@@ -154,13 +154,13 @@ module _ (n : ℕ) (run : List Played) (safe : Safe 0 n run) where
   rests never front output.Done x = tt
   rests never front output.KeptOut x = tt
 
-  kept_in : (view : ℕ) (c : Header) → IsHeader c → NoCollision (IsHashed run c) → 0 < c.op → IsCommitted 0 n (run_outputs run) view c → (o : Output) → In o (run_outputs run) → KeepsEntry view c o
+  kept_in : (view : ℕ) (c : Header) → IsHeader c → NoCollision (IsHashed run c) → 0 < c.op → IsCommitted home n (run_outputs run) view c → (o : Output) → In o (run_outputs run) → KeepsEntry view c o
   kept_in view c form never above is o i =
       let m = output_of_move run o i in
       let k = in_get m.1.moved.outputs o m.3 in
       safe.kept view c form never above is m.0 k.0 m.1 o (record { at = m.2; is = k.1 })
 
-  cut_in : NoCollision (IsHashed run (root_header 0)) → (front outputs : List Output) → SendNoMore outputs (run_outputs run) → (l : Chosen) → IsPlaced run front (output.Choose l) → IsCutByNacks n run front outputs l
+  cut_in : NoCollision (IsHashed run (root_header home)) → (front outputs : List Output) → SendNoMore outputs (run_outputs run) → (l : Chosen) → IsPlaced run front (output.Choose l) → IsCutByNacks n run front outputs l
   cut_in never front outputs all l x = record { at = x; so = justified_said outputs (run_outputs run) all n x.moved l (safe.backed x.move x.number x.moved (output.Choose l) never x.is) }
 
 -- ---- what happened
@@ -177,16 +177,16 @@ kept_aside view c (output.Halted replica) h = tt
 kept_aside view c output.Done h = tt
 kept_aside view c output.KeptOut h = tt
 
-rests_aside : (n : ℕ) (log : List Whole) (run : List Played) (front : List Output) (o : Output) → ((IsAside o → ⊥) → RestsOn n log run front o) → RestsOn n log run front o
-rests_aside n log run front (output.Send s) h = h (λ a. a)
-rests_aside n log run front (output.Choose l) h = tt
-rests_aside n log run front (output.Commit l) h = h (λ a. a)
-rests_aside n log run front (output.Reply a) h = h (λ a. a)
-rests_aside n log run front (output.Wait w) h = tt
-rests_aside n log run front (output.Start s) h = tt
-rests_aside n log run front (output.Halted replica) h = tt
-rests_aside n log run front output.Done h = tt
-rests_aside n log run front output.KeptOut h = tt
+rests_aside : (home n : ℕ) (log : List Whole) (run : List Played) (front : List Output) (o : Output) → ((IsAside o → ⊥) → RestsOn home n log run front o) → RestsOn home n log run front o
+rests_aside home n log run front (output.Send s) h = h (λ a. a)
+rests_aside home n log run front (output.Choose l) h = tt
+rests_aside home n log run front (output.Commit l) h = h (λ a. a)
+rests_aside home n log run front (output.Reply a) h = h (λ a. a)
+rests_aside home n log run front (output.Wait w) h = tt
+rests_aside home n log run front (output.Start s) h = tt
+rests_aside home n log run front (output.Halted replica) h = tt
+rests_aside home n log run front output.Done h = tt
+rests_aside home n log run front output.KeptOut h = tt
 
 place_of : (run : List Played) (ws : List Output) → Said ws (run_outputs run) → (number : ℕ) (o : Output) → slice_get ws number ≡ Some o → (IsAside o → ⊥) → IsPlaced run (take number ws) o
 place_of run ws all number o e not =
@@ -197,10 +197,10 @@ place_of run ws all number o e not =
 once : (log : List Whole) → IsOnceInSession log
 once log before between later d e is client request first second = each_once before between d e client request first second
 
-pub keeps : (kind : Kind) (n : ℕ) → 2 ≤ n → n ≤ 6 → ((run : List Played) → IsFitRun 0 n run → HasOneLog 0 n run) → (h : Happened Lying) (m : IsMatched (fresh_group (λ i. kind) 0 n) h) → NoCollision (IsHashed m.run (root_header 0))
-    → KeepsOneLog kind n h
-keeps kind n few many one h m never =
-    let fit : IsFitRun 0 n m.run = record { number = omega arith; few = few; many = many; moves = m.reads; kinds = λ i. kind; of_run = m.is } in
+pub keeps_log : (kinds : ℕ → Kind) (home n : ℕ) → home < 2 ^ 64 → 2 ≤ n → n ≤ 6 → ((run : List Played) → IsFitRun home n run → HasOneLog home n run) → (h : Happened Lying) (m : IsMatched (fresh_group kinds home n) h) → NoCollision (IsHashed m.run (root_header home))
+    → KeepsLog kinds home n h
+keeps_log kinds home n number few many one h m never =
+    let fit : IsFitRun home n m.run = record { number = number; few = few; many = many; moves = m.reads; kinds = kinds; of_run = m.is } in
     let o = one m.run fit in
     let s = o.safe in
     let gs = run_outputs m.run in
@@ -210,12 +210,17 @@ keeps kind n few many one h m never =
       safe = s;
       names = never;
       folds = λ t p is. (o.folds never t p is).1;
-      rests = λ number o e. rests_aside n s.log m.run (take number h.outputs) o (λ not. rests n m.run s never (take number h.outputs) o (place_of m.run h.outputs m.said number o e not));
-      lines = λ c d i j same. one_line 0 n m.run s never c d (said_in h.outputs gs m.said (output.Commit c) (λ a. a) (contains_in h.outputs (output.Commit c) i))
+      rests = λ number o e. rests_aside home n s.log m.run (take number h.outputs) o (λ not. rests home n m.run s never (take number h.outputs) o (place_of m.run h.outputs m.said number o e not));
+      lines = λ c d i j same. one_line home n m.run s never c d (said_in h.outputs gs m.said (output.Commit c) (λ a. a) (contains_in h.outputs (output.Commit c) i))
           (said_in h.outputs gs m.said (output.Commit d) (λ a. a) (contains_in h.outputs (output.Commit d) j)) same;
-      logged = λ v c fc nc above kc. s.one v c fc nc above (committed_said h.outputs gs all 0 n v c kc);
-      one = λ v w c d fc fd nc nd above same kc kd. one_entry 0 n m.run s v w c d fc fd nc nd above same (committed_said h.outputs gs all 0 n v c kc) (committed_said h.outputs gs all 0 n w d kd);
-      kept = λ v c fc nc above kc o i. kept_aside v c o (λ not. kept_in n m.run s v c fc nc above (committed_said h.outputs gs all 0 n v c kc) o (said_in h.outputs gs m.said o not (contains_in h.outputs o i)));
-      cut = λ number l e. cut_in n m.run s never (take number h.outputs) h.outputs all l (place_of m.run h.outputs m.said number (output.Choose l) e (λ a. a));
+      logged = λ v c fc nc above kc. s.one v c fc nc above (committed_said h.outputs gs all home n v c kc);
+      one = λ v w c d fc fd nc nd above same kc kd. one_entry home n m.run s v w c d fc fd nc nd above same (committed_said h.outputs gs all home n v c kc) (committed_said h.outputs gs all home n w d kd);
+      kept = λ v c fc nc above kc o i. kept_aside v c o (λ not. kept_in home n m.run s v c fc nc above (committed_said h.outputs gs all home n v c kc) o (said_in h.outputs gs m.said o not (contains_in h.outputs o i)));
+      cut = λ number l e. cut_in home n m.run s never (take number h.outputs) h.outputs all l (place_of m.run h.outputs m.said number (output.Choose l) e (λ a. a));
       once = once s.log;
     }
+
+-- of the group that a schedule begins
+pub keeps : (kind : Kind) (n : ℕ) → 2 ≤ n → n ≤ 6 → ((run : List Played) → IsFitRun 0 n run → HasOneLog 0 n run) → (h : Happened Lying) (m : IsMatched (fresh_group (λ i. kind) 0 n) h) → NoCollision (IsHashed m.run (root_header 0))
+    → KeepsOneLog kind n h
+keeps kind n few many one h m never = keeps_log (λ i. kind) 0 n (omega arith) few many one h m never

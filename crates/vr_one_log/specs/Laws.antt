@@ -1,6 +1,7 @@
 -- One log: of every run of a group that was just made, and of every schedule of a group on disks that lie.
 use Rattle.vr_base.specs.declared.kind.Kind.{Kind}
 use Rattle.std.specs.Prelude.{ℕ, ◌-◌, ◌^◌, ◌<◌, ◌≤◌, ◌≡◌, ◌⊎◌, false, List, ◌∷◌, length, Contains, slice_get, take, Some}
+use Rattle.std.specs.List.{AllByRecursion}
 use Rattle.vr_header.specs.declared.header.Header.{Header}
 use Rattle.vr_header.specs.Bodies.{operation_bytes}
 use Rattle.vr_header.specs.Made.{Whole}
@@ -18,8 +19,8 @@ use Rattle.vr_rules.specs.Lying.{Lying, hazards}
 use Rattle.vr_rules.specs.Replica.{Replica, header_at, is_frozen}
 use Rattle.vr_rules.specs.Safe.{IsHashed, KeepsEntry, Safe}
 use Rattle.vr_rules.specs.World.{Happened, Happening, Begins, fresh_world, happen, no_world}
-use Rattle.vr_worlds.specs.Worlds.{IsMatched}
-use Rattle.vr_unforged.specs.Schedules.{MayAll}
+use Rattle.vr_worlds.specs.Worlds.{IsLine, IsMatched, first_world}
+use Rattle.vr_unforged.specs.Schedules.{IsHashedOf, MayAll, room}
 use Rattle.vr_agree.specs.Answering.{HasState}
 use Rattle.vr_agree.specs.Followed.{IsFitRun}
 use Rattle.vr_one_log.specs.Outputs.{IsCutByNacks, IsOnceInSession, RestsOn}
@@ -55,31 +56,42 @@ pub record HasOneLog (cluster n : ℕ) (run : List Played) : Type 0 where
 abbrev pub ReplicasHaveOneLog : Type 0
 ReplicasHaveOneLog = (cluster n : ℕ) (run : List Played) → IsFitRun cluster n run → HasOneLog cluster n run
 
--- What happened is a safe run of the group. So its outputs, in the order in which they were put out, are of that run's log. What is said
+-- What happened to a group of this number is a safe run of it. So its outputs, in the order in which they were put out, are of that run's log. What is said
 -- of an entry of any header is so where that header's name isn't another text's.
-pub record KeepsOneLog (kind : Kind) (n : ℕ) (h : Happened Lying) : Type 0 where
-  pub matched : IsMatched (fresh_group (λ i. kind) 0 n) h
-  pub safe : Safe 0 n matched.run
+pub record KeepsLog (kinds : ℕ → Kind) (cluster n : ℕ) (h : Happened Lying) : Type 0 where
+  pub matched : IsMatched (fresh_group kinds cluster n) h
+  pub safe : Safe cluster n matched.run
   -- names of what the run read and wrote don't collide
-  pub names : NoCollision (IsHashed matched.run (root_header 0))
+  pub names : NoCollision (IsHashed matched.run (root_header cluster))
   -- the state of each running replica is the plain fold of the log, also after it has taken over another's checkpoint
   pub folds : (t : ℕ) (p : Played) → slice_get matched.run t ≡ Some p → HaveFolds safe.log p.moved.group
   -- commit lines, the commit numbers of messages, and replies rest on the log, and on what was put out before them
-  pub rests : (number : ℕ) (o : Output) → slice_get h.outputs number ≡ Some o → RestsOn n safe.log matched.run (take number h.outputs) o
+  pub rests : (number : ℕ) (o : Output) → slice_get h.outputs number ≡ Some o → RestsOn cluster n safe.log matched.run (take number h.outputs) o
   -- two commit lines of one number are of one entry
   pub lines : (c d : Committed) → Contains h.outputs (output.Commit c) → Contains h.outputs (output.Commit d)
       → c.entry.header.op ≡ d.entry.header.op → c.entry ≡ d.entry
   -- an entry that is committed is the log's at its number; so two entries that are committed at one number are one
-  pub logged : (view : ℕ) (c : Header) → IsHeader c → NoCollision (IsHashed matched.run c) → 0 < c.op → IsCommitted 0 n h.outputs view c → (e : Whole) × (slice_get safe.log (c.op - 1) ≡ Some e) × (e.header ≡ c)
+  pub logged : (view : ℕ) (c : Header) → IsHeader c → NoCollision (IsHashed matched.run c) → 0 < c.op → IsCommitted cluster n h.outputs view c → (e : Whole) × (slice_get safe.log (c.op - 1) ≡ Some e) × (e.header ≡ c)
   pub one : (v w : ℕ) (c d : Header) → IsHeader c → IsHeader d → NoCollision (IsHashed matched.run c) → NoCollision (IsHashed matched.run d) → 0 < c.op → c.op ≡ d.op
-      → IsCommitted 0 n h.outputs v c → IsCommitted 0 n h.outputs w d → c ≡ d
+      → IsCommitted cluster n h.outputs v c → IsCommitted cluster n h.outputs w d → c ≡ d
   -- and keeps its number in every later view: what is prepared, chosen and taken over there has it
-  pub kept : (view : ℕ) (c : Header) → IsHeader c → NoCollision (IsHashed matched.run c) → 0 < c.op → IsCommitted 0 n h.outputs view c → (o : Output) → Contains h.outputs o → KeepsEntry view c o
+  pub kept : (view : ℕ) (c : Header) → IsHeader c → NoCollision (IsHashed matched.run c) → 0 < c.op → IsCommitted cluster n h.outputs view c → (o : Output) → Contains h.outputs o → KeepsEntry view c o
   -- only a nack quorum shortens a log
   pub cut : (number : ℕ) (l : Chosen) → slice_get h.outputs number ≡ Some (output.Choose l) → IsCutByNacks n matched.run (take number h.outputs) h.outputs l
   -- in one session no number is executed twice over the log
   pub once : IsOnceInSession safe.log
 
--- of each list of fewer than 2^60 lines that may happen to a group that was just made
+-- of the group that a schedule begins, on files of one kind
+abbrev pub KeepsOneLog : Kind → ℕ → Happened Lying → Type 0
+KeepsOneLog kind n h = KeepsLog (λ i. kind) 0 n h
+
+-- of whatever happens to a group that was just made, of any number, each member on a file of a kind of its own: where names don't collide,
+-- and it is so short that no log comes near the ops whose headers sessions could spell
+abbrev pub WorldsKeepOneLog : Type 0
+WorldsKeepOneLog =
+    (kinds : ℕ → Kind) (cluster n : ℕ) (xs : List Happening) → cluster < 2 ^ 64 → 2 ≤ n → n ≤ 6 → length xs < room cluster → AllByRecursion IsLine xs → NoCollision (IsHashedOf cluster (first_world kinds cluster n) xs)
+    → KeepsLog kinds cluster n (happen hazards (first_world kinds cluster n) xs)
+
+-- of each list of fewer than 2^60 lines that may happen to the group that a schedule begins
 abbrev pub SchedulesKeepOneLog : Type 0
 SchedulesKeepOneLog = (kind : Kind) (n : ℕ) (xs : List Happening) → 2 ≤ n → n ≤ 6 → length xs < 2 ^ 60 → MayAll (fresh_world hazards kind n) xs → KeepsOneLog kind n (happen hazards no_world (Begins kind n ∷ xs))

@@ -22,10 +22,10 @@ pub record IsPlaced (run : List Played) (before : List Output) (o : Output) : Ty
 
 -- A reply: the entries that its replica had applied are committed by what was put out before it, and it is what the plain sessions and machine
 -- say after them. The replica is as it was before the move of the run in which it answered.
-pub record IsTrueAnswer (n : ℕ) (log : List Whole) (run : List Played) (before : List Output) (a : ReplyFields) : Type 0 where
+pub record IsTrueAnswer (cluster n : ℕ) (log : List Whole) (run : List Played) (before : List Output) (a : ReplyFields) : Type 0 where
   pub at : IsPlaced run before (output.Reply a)
-  pub so : IsTrueReply 0 n log run at.move at.number at.moved a
-  pub committed : AreCommitted 0 n before log a.view (so.replica.applied + lines_by a.replica (take at.number at.moved.moved.outputs))
+  pub so : IsTrueReply cluster n log run at.move at.number at.moved a
+  pub committed : AreCommitted cluster n before log a.view (so.replica.applied + lines_by a.replica (take at.number at.moved.moved.outputs))
 
 -- A choice of a log, from what its replica had heard in the move in which it chose: all above the commit number up to the log's head is intact
 -- there, and a nack quorum denies the next, none of which vouches for it, in the log's view, in all that is put out.
@@ -34,11 +34,11 @@ pub record IsCutByNacks (n : ℕ) (run : List Played) (before outputs : List Out
   pub so : IsJustified n outputs at.moved l
 
 -- what each output rests on, of what was put out before it and of the log
-abbrev pub RestsOn : ℕ → List Whole → List Played → List Output → Output → Type 0
-RestsOn n log run before (output.Send s) = IsBackedMessage 0 n before log s.message
-RestsOn n log run before (output.Commit c) = IsLine 0 n before log c
-RestsOn n log run before (output.Reply a) = IsTrueAnswer n log run before a
-RestsOn n log run before _ = ⊤
+abbrev pub RestsOn : ℕ → ℕ → List Whole → List Played → List Output → Output → Type 0
+RestsOn cluster n log run before (output.Send s) = IsBackedMessage cluster n before log s.message
+RestsOn cluster n log run before (output.Commit c) = IsLine cluster n before log c
+RestsOn cluster n log run before (output.Reply a) = IsTrueAnswer cluster n log run before a
+RestsOn cluster n log run before _ = ⊤
 
 -- In one session no number is executed twice: between two entries of one client and number that are both executed, a session of the client begins.
 abbrev pub IsOnceInSession : List Whole → Type 0

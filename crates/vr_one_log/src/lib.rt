@@ -2,7 +2,7 @@
 //! statement, and it does nothing.
 #![tactic(auto)]
 
-ghost use Rattle.vr_one_log.specs.Laws.{ReplicasHaveOneLog, RunsAreSafe, SchedulesKeepOneLog};
+ghost use Rattle.vr_one_log.specs.Laws.{ReplicasHaveOneLog, RunsAreSafe, SchedulesKeepOneLog, WorldsKeepOneLog};
 
 /// Each run of a group that was just made is safe.
 pub fn runs_are_safe()
@@ -12,6 +12,11 @@ pub fn runs_are_safe()
 /// In it each running replica has the one log: the header that it knows of an op up to its commit number is the log's.
 pub fn replicas_have_one_log()
     ensures { ReplicasHaveOneLog }
+{}
+
+/// So is whatever happens to a group that was just made, of any number, on disks that lie within their premise.
+pub fn worlds_keep_one_log()
+    ensures { WorldsKeepOneLog }
 {}
 
 /// So is what happens on a schedule: its commit lines are of one log, and what its messages commit is of one log.

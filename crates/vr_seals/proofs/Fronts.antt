@@ -1,4 +1,4 @@
--- No header of an entry with an op below 2^61 stands in a text of sessions that come of entries, and none stands there with its bits turned.
+-- No header of an entry with an op that a log may come to stands in a text of sessions that come of entries, and none stands there with its bits turned.
 use Rattle.std.proofs.Common.{ℕ, ◌+◌, ◌-◌, ◌<◌, ◌≤◌, ◌≡◌, inl, inr, arith, sym, ap, ◌∙◌, subst, List, length, get_or}
 use Rattle.std.specs.List.{AllByRecursion, flat_map}
 use Rattle.std.proofs.lemmas.Bool.{cases_lt}
@@ -7,6 +7,7 @@ use Rattle.vr_sess.specs.Sessions.{Map}
 use Rattle.vr_sess.specs.Texts.{session_text}
 use Rattle.vr_seals.proofs.Begins.{Begins, Covers, covers, first, prior}
 use Rattle.vr_seals.proofs.Keys.{IsPrinted}
+use Rattle.vr_seals.proofs.Marks.{IsLow}
 
 -- a session's text by its form: client, request and op in twenty bytes, and the outcome behind them
 pub record IsForm (x : List ℕ) : Type 0 where
@@ -65,8 +66,7 @@ no_turned m all p ones =
 
 -- what stands where, from a place on, under the header of an entry
 pub record IsFront (t : List ℕ) (p : ℕ) : Type 0 where
-  pub cluster : (i : ℕ) → i < 8 → get_or t (p + (64 + i)) 0 ≡ 0
-  pub op : get_or t (p + 88) 0 < 32
+  pub low : IsLow (λ k. get_or t (p + k) 0)
   pub commit : (i : ℕ) → i < 8 → get_or t (p + (96 + i)) 0 ≡ 0
   pub command : get_or t (p + 108) 0 ≡ 3
   pub replica : get_or t (p + 109) 0 ≡ 0
@@ -88,8 +88,8 @@ module _ (t : List ℕ) (p : ℕ) (f : IsFront t p) where
       omega (arith, e, same, some)
 
   -- a session whose outcome's kind is the version: the one before it ends where the op does
-  kind_there : Begins IsComeForm t (p + 90) → ⊥
-  kind_there b =
+  kind_of_zero : ((i : ℕ) → i < 8 → get_or t (p + (64 + i)) 0 ≡ 0) → get_or t (p + 88) 0 < 32 → Begins IsComeForm t (p + 90) → ⊥
+  kind_of_zero cluster op b =
       let y = prior IsComeForm t (p + 90) b (omega arith) in
       let form = y.holds.is.form in
       let long = form.long in
@@ -100,22 +100,28 @@ module _ (t : List ℕ) (p : ℕ) (f : IsFront t p) where
             let e = y.holds.byte (length y.text - 2) (omega (arith, more)) in
             let same = ap (λ k. get_or t k 0) z in
             let h = form.printed (length y.text - 2) (omega (arith, more)) (omega (arith, more)) in
-            let op = f.op in
             omega (arith, e, same, h, op)
         | inr less ↦
             elim (cases_lt 21 (length y.text)) [
               | inl more ↦
                   let n = form.some (omega (arith, more)) in
                   let z : y.start - 1 ≡ p + (64 + 1) = omega (arith, ends, less, n) in
-                  let e = ap (λ k. get_or t k 0) z ∙ f.cluster 1 (omega arith) in
+                  let e = ap (λ k. get_or t k 0) z ∙ cluster 1 (omega arith) in
                   let some = before y.start y.begins (omega (arith, ends, less, n)) in
                   omega (arith, e, some)
               | inr few ↦
                   let z : y.start - 1 ≡ p + (64 + 4) = omega (arith, ends, few, long) in
-                  let e = ap (λ k. get_or t k 0) z ∙ f.cluster 4 (omega arith) in
+                  let e = ap (λ k. get_or t k 0) z ∙ cluster 4 (omega arith) in
                   let some = before y.start y.begins (omega (arith, ends, few, long)) in
                   omega (arith, e, some)
             ]
+      ]
+
+  kind_there : Begins IsComeForm t (p + 90) → ⊥
+  kind_there b =
+      elim f.low [
+        | inl z ↦ kind_of_zero z.0 z.1 b
+        | inr z ↦ (let s : p + 90 - 1 ≡ p + 89 = omega arith in let some = before (p + 90) b (omega arith) in let e = ap (λ k. get_or t k 0) s ∙ z in omega (arith, e, some))
       ]
 
   -- one that begins at the replica: the one before it has the command as the kind of its outcome, and zeros as its request's number

@@ -1,5 +1,5 @@
 -- What stands at some places of a sector that begins with the header of an entry, and of one that does so with its bits turned.
-use Rattle.std.proofs.Common.{ℕ, ◌+◌, ◌-◌, ◌<◌, ◌≡◌, ◌^◌, inl, inr, arith, refl, sym, ap, ◌∙◌, List, [], ◌∷◌, length, get_or}
+use Rattle.std.proofs.Common.{ℕ, zero, suc, ◌+◌, ◌-◌, ◌<◌, ◌≡◌, ◌⊎◌, ◌^◌, inl, inr, arith, refl, sym, ap, ◌∙◌, List, [], ◌∷◌, length, get_or}
 use Rattle.std.specs.Prelude.{replicate}
 use Rattle.std.proofs.lemmas.Bool.{cases_lt}
 use Rattle.std.proofs.lemmas.List.{get_or-replicate}
@@ -13,7 +13,7 @@ use Rattle.vr_header.specs.declared.header.Header.{Header}
 use Rattle.vr_header.specs.Spelling.{Spells, code_of, field_bytes, header_bytes, named_bytes}
 use Rattle.vr_header.proofs.EntryLaws.{entry_header_of}
 use Rattle.vr_header.proofs.HeaderLaws.{decoded_found}
-use Rattle.vr_seals.specs.Seals.{Fronts}
+use Rattle.vr_seals.specs.Seals.{Fronts, spelled_from}
 use Rattle.vr_seals.proofs.Turning.{turned_at}
 
 -- ---- the places of a header's fields
@@ -95,10 +95,13 @@ turned_marks b h c f =
 
 -- ---- more of them, for texts that aren't excluded by those alone
 
+-- of group 0 with a low op, or with a lower one
+abbrev pub IsLow : (ℕ → ℕ) → Type 0
+IsLow byte = (((i : ℕ) → i < 8 → byte (64 + i) ≡ 0) × (byte 88 < 32)) ⊎ (byte 89 ≡ 0)
+
 pub record FrontMarks (b : List ℕ) (h : Header) : Type 0 where
   pub marked : Marked (λ x. x) b
-  pub cluster : (i : ℕ) → i < 8 → get_or b (64 + i) 0 ≡ 0
-  pub op : get_or b 88 0 < 32
+  pub low : IsLow (λ k. get_or b k 0)
   pub replica : get_or b 109 0 ≡ 0
   pub zeros : (i : ℕ) → i < 17 → get_or b (111 + i) 0 ≡ 0
 
@@ -112,6 +115,14 @@ high_at b n e l = let at = get_or-piece 88 8 0 b (omega arith) in let same = ap 
 last_zeros : (b : List ℕ) → piece 120 8 b ≡ replicate 8 0 → (i : ℕ) → i < 8 → get_or b (120 + i) 0 ≡ 0
 last_zeros b e i l = sym (get_or-piece 120 8 i b l) ∙ (ap (λ x. get_or x i 0) e ∙ get_or-replicate {A = ℕ} 8 i 0 0 l)
 
+second_byte : (n : ℕ) → n < 2 ^ 48 → get_or (bytes64 n) 1 0 ≡ 0
+unfolding bytes64
+second_byte n l = omega (arith, l)
+
+low_at : (b : List ℕ) (cluster op : ℕ) → piece 64 8 b ≡ bytes64 cluster → piece 88 8 b ≡ bytes64 op → op < spelled_from cluster → IsLow (λ k. get_or b k 0)
+low_at b zero op c o l = inl (λ i q. zeros64 b 64 0 c refl i q, high_at b op o l)
+low_at b (suc cluster) op c o l = inr (sym (get_or-piece 88 8 1 b (omega arith)) ∙ (ap (λ x. get_or x 1 0) o ∙ second_byte op l))
+
 pub long_marks : (b : List ℕ) (h : Header) → IsBytes b → Fronts b h → FrontMarks b h
 long_marks b h are f =
     let all = decoded_found b are in
@@ -122,8 +133,7 @@ long_marks b h are f =
     let m = front_marks b h are f in
     record {
       marked = m;
-      cluster = zeros64 b 64 h.cluster (at 4 (omega arith)) f.group;
-      op = high_at b h.op (at 8 (omega arith)) f.low;
+      low = low_at b h.cluster h.op (at 4 (omega arith)) (at 8 (omega arith)) f.low;
       replica = byte_of 109 h.replica b (at 12 (omega arith)) ∙ is.replica;
       zeros = λ i l. elim (cases_lt i 1) [
         | inl none ↦ (let e : 111 + i ≡ 111 = omega (arith, none) in ap (λ k. get_or b k 0) e ∙ m.kind)

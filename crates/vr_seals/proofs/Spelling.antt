@@ -54,11 +54,11 @@ module _ (m : Map) (fits : AllByRecursion sess.Fits m) (come : AllByRecursion Is
 
     front_there : (h : Header) → FrontMarks b h → IsFront (flat_map session_text m) s.0
     front_there h f =
-        let high = f.op in
-        let same = s.1 88 (omega arith) in
         record {
-          cluster = λ i l. there 64 i (omega (arith, l)) ∙ f.cluster i l;
-          op = omega (arith, high, same);
+          low = elim f.low [
+            | inl z ↦ inl (λ i l. there 64 i (omega (arith, l)) ∙ z.0 i l, (let high = z.1 in let same = s.1 88 (omega arith) in omega (arith, high, same)))
+            | inr z ↦ inr (sym (s.1 89 (omega arith)) ∙ z)
+          ];
           commit = λ i l. there 96 i (omega (arith, l)) ∙ f.marked.commit i l;
           command = sym (s.1 108 (omega arith)) ∙ f.marked.command;
           replica = sym (s.1 109 (omega arith)) ∙ f.replica;

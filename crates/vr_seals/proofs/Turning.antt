@@ -1,5 +1,5 @@
 -- Bytes whose bits are turned, twice are what they were; and what stands in front of bytes.
-use Rattle.std.proofs.Common.{ℕ, suc, ◌-◌, ◌^◌, ◌<◌, ◌≡◌, ◌≢◌, arith, refl, sym, ap, ◌∙◌, subst, true, List, [], ◌∷◌, get_or, Some, None, Result, Ok, Err}
+use Rattle.std.proofs.Common.{ℕ, suc, ◌-◌, ◌<◌, ◌≡◌, ◌≢◌, arith, refl, sym, ap, ◌∙◌, subst, true, List, [], ◌∷◌, get_or, Some, None, Result, Ok, Err}
 use Rattle.std.specs.Prelude.{bit_xor, bit_and, ◌%◌}
 use Rattle.std.specs.Option.{option_map_or}
 use Rattle.std.specs.Int.Bits.{xor_add_and}
@@ -15,7 +15,7 @@ use Rattle.vr_header.specs.Spelling.{IsHeader, Spells, decoded, decoded_header, 
 use Rattle.vr_header.proofs.Faults.{IsSound, sound}
 use Rattle.vr_header.proofs.HeaderLaws.{decoded_again}
 use Rattle.vr_protocol.specs.Basics.{In}
-use Rattle.vr_seals.specs.Seals.{Fronts, IsSealed}
+use Rattle.vr_seals.specs.Seals.{Fronts, IsSealed, spelled_from}
 
 -- ---- turned twice
 
@@ -69,13 +69,13 @@ module _ (made : List Header) where
   same_read a b r e f = cc
 
   -- one that was made stands there, if it is that of an entry
-  pub headed_sealed : (b : List ℕ) (h : Header) → IsContent b → IsHeader h → Spells h b → (is_entry_header h ≡ true → h.cluster ≡ 0 → h.op < 2 ^ 61 → In h made) → IsSealed made b
+  pub headed_sealed : (b : List ℕ) (h : Header) → IsContent b → IsHeader h → Spells h b → (is_entry_header h ≡ true → h.op < spelled_from h.cluster → In h made) → IsSealed made b
   headed_sealed b h c i s m =
       let read = decoded_again h b i s in
       let version = (sound b (no_fault b h read)).version in
       record {
         content = c;
-        front = λ x f. (let same = same_read h x (decoded b) read f.reads in subst (λ (x : Header). In x made) same (m (subst (λ (x : Header). is_entry_header x ≡ true) (sym same) f.entry) (subst (λ (x : Header). x.cluster ≡ 0) (sym same) f.group) (subst (λ (x : Header). x.op < 2 ^ 61) (sym same) f.low)));
+        front = λ x f. (let same = same_read h x (decoded b) read f.reads in subst (λ (x : Header). In x made) same (m (subst (λ (x : Header). is_entry_header x ≡ true) (sym same) f.entry) (subst (λ (x : Header). x.op < spelled_from x.cluster) (sym same) f.low)));
         turned = λ x f. (let v = turned_version b x c f in absurd (omega (arith, v, version)));
       }
 

@@ -79,7 +79,7 @@ pub record IsOfEntry (s : ℕ × Session) : Type 0 where
   pub op : 1 ≤ s.1.op
   pub first : s.1.number ≡ 0 → s.1.outcome ≡ outcome.Session
 
--- Then no header of an entry with an op below 2^61 begins a sector of the blocks of their text, wherever one session ends and another
+-- Then no header of an entry with such an op begins a sector of the blocks of their text, wherever one session ends and another
 -- begins. (One with a higher op could: the last session's client and op would spell its end, and a client chooses its number.)
 abbrev pub SessionsAreHeadless : Type 0
 SessionsAreHeadless =

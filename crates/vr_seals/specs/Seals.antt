@@ -1,5 +1,5 @@
--- Sectors that begin with the header of an entry, of an op below 2^61, only where that entry was begun to be written.
-use Rattle.std.specs.Prelude.{ℕ, ◌^◌, ◌<◌, ◌≡◌, ⊤, true, List, length, All, Some, Ok}
+-- Sectors that begin with the header of an entry, of an op that a log may come to, only where that entry was begun to be written.
+use Rattle.std.specs.Prelude.{ℕ, zero, suc, ◌^◌, ◌<◌, ◌≡◌, ⊤, true, List, length, All, Some, Ok}
 use Rattle.vr_disk.specs.DiskState.{Call, Write, Sync, Cell, Face, Waiting, IsContent, damaged}
 use Rattle.vr_header.specs.declared.header.Header.{Header}
 use Rattle.vr_header.specs.Made.{is_entry_header}
@@ -30,12 +30,17 @@ Puts P Sync = ⊤
 
 -- ---- seals
 
--- the header of an entry, of the group that a schedule begins, in front of bytes; of those whose op a log may come to
+-- The sessions of a checkpoint could spell the header of an entry where a sector begins, with an op from here on: higher in group 0,
+-- whose number is spelled in zeros.
+abbrev pub spelled_from : ℕ → ℕ
+spelled_from zero = 2 ^ 61
+spelled_from (suc cluster) = 2 ^ 48
+
+-- the header of an entry in front of bytes, of those whose op is below that of its group
 pub record Fronts (bytes : List ℕ) (h : Header) : Type 0 where
   pub reads : decoded bytes ≡ Ok h
   pub entry : is_entry_header h ≡ true
-  pub group : h.cluster ≡ 0
-  pub low : h.op < 2 ^ 61
+  pub low : h.op < spelled_from h.cluster
 
 -- a sector in whose front no such header stands but one of those, nor once each of its bits is turned
 pub record IsSealed (made : List Header) (bytes : List ℕ) : Type 0 where

@@ -1,5 +1,5 @@
-//! Sectors that begin with the header of an entry, of an op below 2^61, only where that entry was made, and what keeps them so. Each
-//! function is a law: its contract is the statement, and it does nothing.
+//! Sectors that begin with the header of an entry, of an op that a log may come to, only where that entry was made, and what keeps them
+//! so. Such ops are those below 2^61 in group 0, and below 2^48 in any other. Each function is a law: its contract is the statement, and it does nothing.
 #![tactic(auto)]
 
 ghost use Rattle.vr_seals.specs.Laws.{CheckpointsAreHeadless, SealsLast, SessionsAreHeadless, SlotsAreSealed, ValuesAreSealed};

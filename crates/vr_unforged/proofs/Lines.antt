@@ -1,5 +1,5 @@
 -- A line of a schedule leaves sealed what was sealed.
-use Rattle.std.proofs.Common.{ℕ, ◌-◌, ◌^◌, ◌<◌, ◌≤◌, ◌≡◌, inl, inr, arith, refl, sym, ap, ◌∙◌, subst, true, false, cond, List, [], ◌++◌, length, set, Option, Some, None}
+use Rattle.std.proofs.Common.{ℕ, zero, suc, ◌+◌, ◌-◌, ◌<◌, ◌≤◌, ◌≡◌, inl, inr, arith, refl, sym, ap, ◌∙◌, subst, true, false, cond, List, [], ◌++◌, length, set, Option, Some, None}
 use Rattle.std.specs.Prelude.{◌%◌, nat_le, slice_get}
 use Rattle.std.specs.List.{AllByRecursion}
 use Rattle.std.specs.Option.{option_and_then, option_map, option_map_or}
@@ -41,11 +41,11 @@ use Rattle.vr_worlds.proofs.Lines.{get_both, other_place, outputs_given, own_pla
 use Rattle.vr_worlds.proofs.Matched.{blocks_both, mending_blocks, opened_as, opens_group, start_well, whole}
 use Rattle.vr_worlds.proofs.Starts.{begun_all}
 use Rattle.vr_worlds.proofs.StockingRules.{ReadsOn, b_resuming, gives_read}
-use Rattle.vr_seals.specs.Seals.{HasSectors, IsSealed}
+use Rattle.vr_seals.specs.Seals.{HasSectors, IsSealed, spelled_from}
 use Rattle.vr_seals.proofs.Contents.{has_after_all, has_fault, has_weaker}
 use Rattle.vr_seals.proofs.Turning.{sealed_more, turned_sealed}
 use Rattle.vr_unforged.specs.Bridged.{IsBridged, IsSealedBlock}
-use Rattle.vr_unforged.specs.Schedules.{IsSealedWorld}
+use Rattle.vr_unforged.specs.Schedules.{IsSealedWorld, room}
 use Rattle.vr_unforged.proofs.Begun.{begun_sealed, begun_some, block_more, named_more}
 use Rattle.vr_unforged.proofs.Readings.{block_sealed, found_made}
 use Rattle.vr_unforged.proofs.Scripts.{IsRight, Seals, cut_sealed, effect_sealed, script_sealed}
@@ -205,9 +205,14 @@ module _ (w : World Lying) (made : List Header) (s : IsSealedWorld w made) (i : 
 checkpoint_low : (v : SuperValue) → IsGood v → v.fields.checkpoint ≤ v.fields.head
 checkpoint_low v g = let x = value_is v g in let a = x.commit in let b = x.head in omega (arith, a, b)
 
+-- so long a log has no op that sessions could spell
+within_room : (home op made : ℕ) → op ≤ made → made < room home → op + 64 < spelled_from home
+within_room zero op made l few = omega (arith, l, few)
+within_room (suc home) op made l few = omega (arith, l, few)
+
 -- ---- a member of a world beside a group
 
-module _ (w : World Lying) (g : Group) (b : AreBeside w g) (fits : IsFitGroup 0 g) (stock : IsStockedGroup g) (bridged : IsBridged g) (low : length bridged.machine.made < 2 ^ 60) (s : IsSealedWorld w g.made) (i : ℕ) (m : world.Host Lying) (q : group.Member) (at : slice_get w.members i ≡ Some m)
+module _ {home : ℕ} (w : World Lying) (g : Group) (b : AreBeside w g) (fits : IsFitGroup home g) (stock : IsStockedGroup g) (bridged : IsBridged home g) (low : length bridged.machine.made < room home) (s : IsSealedWorld w g.made) (i : ℕ) (m : world.Host Lying) (q : group.Member) (at : slice_get w.members i ≡ Some m)
     (there : slice_get g.members i ≡ Some q) (stands : Stands m q) where
   disk_sealed : HasSectors (IsSealed g.made) m.disk.face
   disk_sealed = s.disks i m at
@@ -241,9 +246,9 @@ module _ (w : World Lying) (g : Group) (b : AreBeside w g) (fits : IsFitGroup 0 
 
   -- ---- an opening
 
-  off_right : (v : SuperValue) → IsOff m.disk q v → IsRight g.made v × (v.fields.cluster ≡ 0)
+  off_right : (v : SuperValue) → IsOff m.disk q v → IsRight g.made v × (v.fields.cluster ≡ home)
   off_right v o =
-      let value = good_value 0 g.n i q v (fits.members i q there) o.may in
+      let value = good_value home g.n i q v (fits.members i q there) o.may in
       ((value.0, may_open_named g bridged i q there v o.may), value.1.cluster)
 
   -- so what it looks for isn't forged
@@ -256,7 +261,8 @@ module _ (w : World Lying) (g : Group) (b : AreBeside w g) (fits : IsFitGroup 0 
       let one = effect_sealed g.made (Mend v) m.disk v (record { fit = refl; calls = calls }) tt x.0 face disk_sealed in
       let top = may_open_short g bridged i q there v o.may in
       let window = checkpoint_low v x.0.0 in
-      found_made g.made _ (has_after_all (IsSealed g.made) cs m.disk.face disk_sealed one) v (lying.after m.disk (Mend v)).held (face_after_all cs m.disk.face face calls) x.1 (omega (arith, top, window, low))
+      found_made g.made _ (has_after_all (IsSealed g.made) cs m.disk.face disk_sealed one) v (lying.after m.disk (Mend v)).held (face_after_all cs m.disk.face face calls)
+      (subst (λ (n : ℕ). v.fields.checkpoint + 64 < spelled_from n) (sym x.1) (within_room home v.fields.checkpoint (length bridged.machine.made) (omega (arith, top, window)) low))
 
   start_sealed : (v : SuperValue) → m.replica ≡ None → IsOff m.disk q v
       → (let bs = begun_by m.fuse (opening_script v m.disk) m.disk.face in AllByRecursion ComesOfEntries bs → IsSealedWorld (with_member w i (acts hazards i m (whole v m.disk))).world (g.made ++ made_in bs))
@@ -268,7 +274,7 @@ module _ (w : World Lying) (g : Group) (b : AreBeside w g) (fits : IsFitGroup 0 
       let face = o.calm.face in
       let h = start_well w g i m q b fits stock at there stands v o (off_unforged v o) in
       let none : List ℕ → Type 0 = λ b. ⊥ in
-      let later = (b_resuming {P = none} {Q = IsSealedBlock g.made}).each g.n i _ _ h.here (known_right 0 g.n i xs ys h.known) in
+      let later = (b_resuming {P = none} {Q = IsSealedBlock g.made}).each g.n i _ _ h.here (known_right home g.n i xs ys h.known) in
       let blocks : AllByRecursion (WritesBlocks none (IsSealedBlock g.made)) es = blocks_both none (IsSealedBlock g.made) xs ys (mending_blocks none (IsSealedBlock g.made) v d) later.blocks in
       let saves = start_saves g bridged fits i q there d (disks_fit.lying_reads d face) v (opens_group w g i m q b fits stock at there stands v run o h.finds) in
       let split = begun_some m.fuse es d.face in
@@ -300,7 +306,7 @@ module _ (w : World Lying) (g : Group) (b : AreBeside w g) (fits : IsFitGroup 0 
 
 -- ---- a line
 
-module _ (w : World Lying) (g : Group) (b : AreBeside w g) (fits : IsFitGroup 0 g) (stock : IsStockedGroup g) (bridged : IsBridged g) (low : length bridged.machine.made < 2 ^ 60) (s : IsSealedWorld w g.made) where
+module _ {home : ℕ} (w : World Lying) (g : Group) (b : AreBeside w g) (fits : IsFitGroup home g) (stock : IsStockedGroup g) (bridged : IsBridged home g) (low : length bridged.machine.made < room home) (s : IsSealedWorld w g.made) where
   abbrev pub Leaves : List Effect → World Lying → Type 0
   Leaves es v = AllByRecursion ComesOfEntries es → IsSealedWorld v (g.made ++ made_in es)
 

@@ -18,7 +18,7 @@ use Rattle.vr_protocol.specs.Basics.{In}
 use Rattle.vr_worlds.specs.Worlds.{IsOneMove, begun_in, moved_once, read_in, unmoved}
 use Rattle.vr_agree.proofs.Sets.{in_contains}
 use Rattle.vr_agree.proofs.Traces.{in_either}
-use Rattle.vr_unforged.specs.Schedules.{IsHashed, IsUsedAt}
+use Rattle.vr_unforged.specs.Schedules.{IsHashedOf, IsUsedAt}
 
 all_in : {X : Type 0} (xs : List X) → All (λ x. In x xs) xs
 all_in [] = All-nil (λ x. In x [])
@@ -85,11 +85,11 @@ pub begun_so : (P : Effect → Type 0) (past run : List Played) (es : List Effec
 begun_so P past _ es fs (unmoved none) all = subst (AllByRecursion P) (sym none) tt
 begun_so P past _ es fs (moved_once p script faces) all = subst (AllByRecursion P) script (all (length past) p (last_at past p))
 
-pub root_hashed : (xs : List Happening) (w : World Lying) → IsHashed w xs (named_bytes (root_header 0))
-root_hashed [] w = refl
-root_hashed (x ∷ xs) w = inr (root_hashed xs (happens hazards w x).world)
+pub root_hashed : (home : ℕ) (xs : List Happening) (w : World Lying) → IsHashedOf home w xs (named_bytes (root_header home))
+root_hashed home [] w = refl
+root_hashed home (x ∷ xs) w = inr (root_hashed home xs (happens hazards w x).world)
 
-pub none_hashed : (xs : List Happening) (w : World Lying) (bytes : List ℕ) → safe.IsHashed [] (root_header 0) bytes → IsHashed w xs bytes
-none_hashed xs w bytes (read q f _ i j r) = absurd (contains_none q i)
-none_hashed xs w bytes (wrote q e _ i j r) = absurd (contains_none q i)
-none_hashed xs w _ given = root_hashed xs w
+pub none_hashed : (home : ℕ) (xs : List Happening) (w : World Lying) (bytes : List ℕ) → safe.IsHashed [] (root_header home) bytes → IsHashedOf home w xs bytes
+none_hashed home xs w bytes (read q f _ i j r) = absurd (contains_none q i)
+none_hashed home xs w bytes (wrote q e _ i j r) = absurd (contains_none q i)
+none_hashed home xs w _ given = root_hashed home xs w

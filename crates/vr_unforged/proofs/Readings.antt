@@ -1,5 +1,5 @@
 -- What reads on a sealed disk as a header, as an entry or as a block.
-use Rattle.std.proofs.Common.{ℕ, zero, suc, ◌+◌, ◌*◌, ◌^◌, ◌≤◌, ◌<◌, ◌≡◌, ◌&&◌, inl, inr, arith, refl, sym, ap, ◌∙◌, subst, true, false, cond, List, [], ◌∷◌, ◌++◌, take, drop, Option, Some, None}
+use Rattle.std.proofs.Common.{ℕ, zero, suc, ◌+◌, ◌*◌, ◌≤◌, ◌<◌, ◌≡◌, ◌&&◌, inl, inr, arith, refl, sym, ap, ◌∙◌, subst, true, false, cond, List, [], ◌∷◌, ◌++◌, take, drop, Option, Some, None}
 use Rattle.std.specs.Prelude.{Contains, is_some, nat_lt, ◌%◌, ◌==◌}
 use Rattle.std.specs.Option.{option_and_then}
 use Rattle.std.proofs.lemmas.Bool.{and_parts, eqb-true, ltb-true}
@@ -27,7 +27,7 @@ use Rattle.vr_protocol.specs.Basics.{In}
 use Rattle.vr_worlds.specs.Beside.{AreMade}
 use Rattle.vr_worlds.proofs.Found.{read_header, read_whole}
 use Rattle.vr_worlds.proofs.Loading.{block_are}
-use Rattle.vr_seals.specs.Seals.{HasSectors, IsSealed}
+use Rattle.vr_seals.specs.Seals.{HasSectors, IsSealed, spelled_from}
 use Rattle.vr_seals.proofs.Contents.{has_at}
 use Rattle.vr_unforged.specs.Bridged.{IsSealedBlock}
 
@@ -81,40 +81,43 @@ module _ (made : List Header) (f : Face) (s : HasSectors (IsSealed made) f) wher
 
   -- ---- a header, and an entry
 
-  spelled_made : (b : List ℕ) (h : Header) → IsSealed made b → IsHeader h → Spells h b → is_entry_header h ≡ true → h.cluster ≡ 0 → h.op < 2 ^ 61 → In h made
-  spelled_made b h x i spells entry group low = x.front h (record { reads = decoded_again h b i spells; entry = entry; group = group; low = low })
+  spelled_made : (b : List ℕ) (h : Header) → IsSealed made b → IsHeader h → Spells h b → is_entry_header h ≡ true → h.op < spelled_from h.cluster → In h made
+  spelled_made b h x i spells entry low = x.front h (record { reads = decoded_again h b i spells; entry = entry; low = low })
 
-  pub header_made : (slot : ℕ) (h : Header) → IsFace f → slot < 64 → header_in f slot ≡ Some h → is_entry_header h ≡ true → h.cluster ≡ 0 → h.op < 2 ^ 61 → In h made
-  header_made slot h face l e entry group low =
+  pub header_made : (slot : ℕ) (h : Header) → IsFace f → slot < 64 → header_in f slot ≡ Some h → is_entry_header h ≡ true → h.op < spelled_from h.cluster → In h made
+  header_made slot h face l e entry low =
       let r = read_header f slot h face l e in
-      spelled_made (sector_of h) h ((has_at (IsSealed made) f (header_place slot) s (omega (arith, l))).reads (sector_of h) r.reads) r.header (sector_spells h r.header) entry group low
+      spelled_made (sector_of h) h ((has_at (IsSealed made) f (header_place slot) s (omega (arith, l))).reads (sector_of h) r.reads) r.header (sector_spells h r.header) entry low
 
-  pub entry_made : (slot : ℕ) (e : Whole) → IsFace f → slot < 64 → whole_in f slot ≡ Some e → e.header.cluster ≡ 0 → e.header.op < 2 ^ 61 → In e.header made
-  entry_made slot e face l w group low =
+  pub entry_made : (slot : ℕ) (e : Whole) → IsFace f → slot < 64 → whole_in f slot ≡ Some e → e.header.op < spelled_from e.header.cluster → In e.header made
+  entry_made slot e face l w low =
       let r = read_whole f slot e face l w in
       let x = together_first 3 (prepare_place slot) f (prepare_bytes e) r.reads in
       let one = (has_at (IsSealed made) f (prepare_place slot) s (omega (arith, l))).reads x.first x.reads in
       let size = one.content.size in
       let spells : Spells e.header x.first = sym (take-append-le 128 x.first x.rest (omega (arith, size))) ∙ (ap (take 128) (sym x.whole) ∙ prepare_spells e r.whole.header) in
-      spelled_made x.first e.header one r.whole.header spells (is_entry_header_of e.header r.whole.entry.header) group low
+      spelled_made x.first e.header one r.whole.header spells (is_entry_header_of e.header r.whole.entry.header) low
 
   -- ---- so nothing is forged
 
-  record FitsIn (k : ℕ) (h : Header) : Type 0 where
+  record FitsIn (v : SuperValue) (k : ℕ) (h : Header) : Type 0 where
     entry : is_entry_header h ≡ true
-    group : h.cluster ≡ 0
+    group : h.cluster ≡ v.fields.cluster
     op : h.op ≡ k
 
-  fits_parts : (v : SuperValue) (k : ℕ) (h : Header) → v.fields.cluster ≡ 0 → may_be v k h ≡ true → FitsIn k h
-  fits_parts v k h z e =
+  fits_parts : (v : SuperValue) (k : ℕ) (h : Header) → may_be v k h ≡ true → FitsIn v k h
+  fits_parts v k h e =
       let a = and_parts (is_entry_header h) ((h.cluster == v.fields.cluster) && ((h.op == k) && is_right v k h)) e in
       let b = and_parts (h.cluster == v.fields.cluster) ((h.op == k) && is_right v k h) a.1 in
       let c = and_parts (h.op == k) (is_right v k h) b.1 in
-      record { entry = a.0; group = eqb-true h.cluster v.fields.cluster b.0 ∙ z; op = eqb-true h.op k c.0 }
+      record { entry = a.0; group = eqb-true h.cluster v.fields.cluster b.0; op = eqb-true h.op k c.0 }
 
-  -- where an opening looks for it, below 2^61
-  pub found_made : (v : SuperValue) (held : List (Option (List ℕ))) → IsFace f → v.fields.cluster ≡ 0 → v.fields.checkpoint + 64 < 2 ^ 61 → AreMade made v (record { face = f; held = held })
-  found_made v held face z low = record {
-    header = λ k h a b e fits. (let p = fits_parts v k h z fits in let op = p.op in contains_of made h (header_made (k % 64) h face (omega arith) e p.entry p.group (omega (arith, op, b, low))));
-    entry = λ k x a b e fits. (let p = fits_parts v k x.header z fits in let op = p.op in contains_of made x.header (entry_made (k % 64) x face (omega arith) e p.group (omega (arith, op, b, low))));
+  low_in : (v : SuperValue) (k : ℕ) (h : Header) → FitsIn v k h → k ≤ v.fields.checkpoint + 64 → v.fields.checkpoint + 64 < spelled_from v.fields.cluster → h.op < spelled_from h.cluster
+  low_in v k h p b low = let op = p.op in subst (λ (n : ℕ). h.op < spelled_from n) (sym p.group) (omega (arith, op, b, low))
+
+  -- where an opening looks for it, below the ops that sessions could spell
+  pub found_made : (v : SuperValue) (held : List (Option (List ℕ))) → IsFace f → v.fields.checkpoint + 64 < spelled_from v.fields.cluster → AreMade made v (record { face = f; held = held })
+  found_made v held face low = record {
+    header = λ k h a b e fits. (let p = fits_parts v k h fits in contains_of made h (header_made (k % 64) h face (omega arith) e p.entry (low_in v k h p b low)));
+    entry = λ k x a b e fits. (let p = fits_parts v k x.header fits in contains_of made x.header (entry_made (k % 64) x face (omega arith) e (low_in v k x.header p b low)));
   }

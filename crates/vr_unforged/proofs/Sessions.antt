@@ -107,23 +107,23 @@ abbrev pub ComesOfEntries : Effect → Type 0
 ComesOfEntries (Checkpoint cluster texts op old) = AreOfEntries texts
 ComesOfEntries _ = ⊤
 
-effect_comes : (H : List ℕ → Type 0) (log : List Whole) (e : Effect) → IsBorne H 0 log e → ComesOfEntries e
-effect_comes H log (effect.Write again e) b = tt
-effect_comes H log (Rewrite h) b = tt
-effect_comes H log (Save old new) b = tt
-effect_comes H log (Mend v) b = tt
-effect_comes H log (Checkpoint by texts op old) b =
+effect_comes : (H : List ℕ → Type 0) (home : ℕ) (log : List Whole) (e : Effect) → IsBorne H home log e → ComesOfEntries e
+effect_comes H home log (effect.Write again e) b = tt
+effect_comes H home log (Rewrite h) b = tt
+effect_comes H home log (Save old new) b = tt
+effect_comes H home log (Mend v) b = tt
+effect_comes H home log (Checkpoint by texts op old) b =
     record { sessions = (state_at log op).sessions; are = ap (λ (t : Texts). t.sessions) b.state; fit = (state_is log op b.settled).sessions.fit; come = log_come log op b.settled }
-effect_comes H log (PutBlock name block) b = tt
-effect_comes H log (Say o) b = tt
+effect_comes H home log (PutBlock name block) b = tt
+effect_comes H home log (Say o) b = tt
 
-script_comes : (H : List ℕ → Type 0) (log : List Whole) (es : List Effect) → Every (IsBorne H 0 log) es → AllByRecursion ComesOfEntries es
-script_comes H log [] b = tt
-script_comes H log (e ∷ es) b = (effect_comes H log e b.0, script_comes H log es b.1)
+script_comes : (H : List ℕ → Type 0) (home : ℕ) (log : List Whole) (es : List Effect) → Every (IsBorne H home log) es → AllByRecursion ComesOfEntries es
+script_comes H home log [] b = tt
+script_comes H home log (e ∷ es) b = (effect_comes H home log e b.0, script_comes H home log es b.1)
 
 -- of each move of a run in which names don't collide
-pub run_comes : (n : ℕ) (run : List Played) → IsFitRun 0 n run → NoCollision (IsHashed run (root_header 0)) → (t : ℕ) (p : Played) → slice_get run t ≡ Some p → AllByRecursion ComesOfEntries p.moved.script
-run_comes n run fit never t p at =
-    let x = follows_it 0 n run fit in
-    let log = the_log 0 n x.setup run x.followed in
-    script_comes (λ bytes. IsHashed run (root_header 0) bytes) log p.moved.script (borne_at 0 n x.setup run x.followed x.bridges never log (is_log 0 n x.setup run x.followed) t p at)
+pub run_comes : (home n : ℕ) (run : List Played) → IsFitRun home n run → NoCollision (IsHashed run (root_header home)) → (t : ℕ) (p : Played) → slice_get run t ≡ Some p → AllByRecursion ComesOfEntries p.moved.script
+run_comes home n run fit never t p at =
+    let x = follows_it home n run fit in
+    let log = the_log home n x.setup run x.followed in
+    script_comes (λ bytes. IsHashed run (root_header home) bytes) home log p.moved.script (borne_at home n x.setup run x.followed x.bridges never log (is_log home n x.setup run x.followed) t p at)

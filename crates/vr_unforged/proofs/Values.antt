@@ -1,7 +1,7 @@
 -- The headers that values name are of entries that were begun to be written: of the values of each member, and of each that a script saves.
 -- And no head is greater than the count of entries that were made, at most one by a move.
 use Rattle.vr_base.specs.declared.kind.Kind.{Kind}
-use Rattle.std.proofs.Common.{ℕ, zero, suc, ◌+◌, ◌-◌, ◌≤◌, ◌<◌, ◌≡◌, inl, inr, arith, refl, sym, ap, ◌∙◌, subst, Bool, cond, List, [], ◌∷◌, ◌++◌, length, take, drop, Option, Some, None}
+use Rattle.std.proofs.Common.{ℕ, zero, suc, ◌+◌, ◌-◌, ◌^◌, ◌≤◌, ◌<◌, ◌≡◌, inl, inr, arith, refl, sym, ap, ◌∙◌, subst, Bool, cond, List, [], ◌∷◌, ◌++◌, length, take, drop, Option, Some, None}
 use Rattle.std.specs.Prelude.{All, slice_get}
 use Rattle.std.specs.List.{AllByRecursion}
 use Rattle.std.proofs.lemmas.Bool.{cases_lt, le-ltb, lt-ltb}
@@ -44,15 +44,15 @@ moved_made g x y (Moves.crashes i m at) = refl
 moved_made g x y (Moves.recovers i v d m opens) = refl
 moved_made g x y (Moves.recovers_cut i v d n m opens) = refl
 
-pub bridged_fresh : (kind : Kind) (n : ℕ) → 2 ≤ n → n ≤ 6 → (b : IsBridged (fresh_group (λ i. kind) 0 n)) × (length b.machine.made ≡ 0)
-bridged_fresh kind n a b =
-    let f = fresh_runs_so (λ i. kind) 0 n [] (omega arith) a b (All-nil (λ (p : Played). IsFitMove p.move)) (Run.ended (fresh_group (λ i. kind) 0 n)) in (
+pub bridged_fresh : (kinds : ℕ → Kind) (home n : ℕ) → home < 2 ^ 64 → 2 ≤ n → n ≤ 6 → (b : IsBridged home (fresh_group kinds home n)) × (length b.machine.made ≡ 0)
+bridged_fresh kinds home n room a b =
+    let f = fresh_runs_so kinds home n [] room a b (All-nil (λ (p : Played). IsFitMove p.move)) (Run.ended (fresh_group kinds home n)) in (
       record { setup = f.setup; fits = f.fits; hash_is = f.hash_is; cluster_is = f.cluster_is; machine = f.first; bridges = f.bridges; made = λ x i. absurd (subst (In x) f.none_made i) },
       ap length f.none_made,
     )
 
 -- a move makes at most one entry
-pub bridged_moved : (g : group.Group) (x : Move) (y : Moved) (b : IsBridged g) → IsFitGroup 0 g → IsFitMove x → Moves g x y → (c : IsBridged y.group) × (length c.machine.made ≤ length b.machine.made + 1)
+pub bridged_moved : {home : ℕ} (g : group.Group) (x : Move) (y : Moved) (b : IsBridged home g) → IsFitGroup home g → IsFitMove x → Moves g x y → (c : IsBridged home y.group) × (length c.machine.made ≤ length b.machine.made + 1)
 bridged_moved g x y b fit well move =
     let p : Played = record { before = g; move = x; moved = y } in
     let all : All (λ (p : Played). IsFitMove p.move) (p ∷ []) = All-cons (λ (p : Played). IsFitMove p.move) p [] well (All-nil (λ (p : Played). IsFitMove p.move)) in
@@ -89,7 +89,7 @@ under_of v None p u e = absurd cc
 under_of v (Some w) None u e = absurd u
 under_of v (Some w) (Some x) u e = let same : w ≡ v = cc in (x, refl, subst (λ (w : SuperValue). IsValue w x) same u)
 
-module _ (g : group.Group) (b : IsBridged g) (i : ℕ) (m : group.Member) (at : slice_get g.members i ≡ Some m) where
+module _ {home : ℕ} (g : group.Group) (b : IsBridged home g) (i : ℕ) (m : group.Member) (at : slice_get g.members i ≡ Some m) where
   named : NamedMade b.machine
   named = named_made_reached b.setup.quorums (entries_by b.setup.hash b.setup.cluster) b.machine b.bridges.reached
 
@@ -156,7 +156,7 @@ two_under xs ys f n old new m e =
       | inr past ↦ ap (λ (t : Bool). (choice t).under) (le-ltb n (length xs) past) ∙ cut_under ys (n - length xs) old new (f (carried_out xs m)) (sym (get_right xs ys n past) ∙ e)
     ]
 
-module _ (g : group.Group) (b : IsBridged g) (fit : IsFitGroup 0 g) (i : ℕ) (q : group.Member) (at : slice_get g.members i ≡ Some q) (d : Lying) (reads : ReadsWell lying d) where
+module _ {home : ℕ} (g : group.Group) (b : IsBridged home g) (fit : IsFitGroup home g) (i : ℕ) (q : group.Member) (at : slice_get g.members i ≡ Some q) (d : Lying) (reads : ReadsWell lying d) where
   -- of a member that is left so by a cut
   cut_named : (x : Move) (es : List Effect) (p : group.Member) (new : SuperValue) → IsFitMove x → Moves g x (with_script g i p es []) → p.under ≡ Some new → AreNamed (g.made ++ made_in es) new
   cut_named x es p new well move under =

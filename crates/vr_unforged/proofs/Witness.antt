@@ -16,11 +16,12 @@ use Rattle.vr_rules.specs.Words.{ask, prepare_again, visit, visit_place, visit_s
 use Rattle.vr_rules.specs.Opening.{blank, fresh}
 use Rattle.vr_rules.specs.Lying.{Lying, hazards, lying}
 use Rattle.vr_rules.specs.World.{Fuses, Stops, Ticks, World, fresh_host, fresh_world}
+use Rattle.vr_rules.specs.Group.{fresh_group}
 use Rattle.vr_rules.specs.Safe as safe
 use Rattle.vr_rules.specs.Safe.{IsRead, IsWritten}
 use Rattle.vr_protocol.specs.Basics.{In}
-use Rattle.vr_worlds.specs.Worlds.{IsHashedAt, IsHashedCut, Work, begun_in, begun_of, read_in, read_of, stepping, work_of}
-use Rattle.vr_worlds.proofs.Fresh.{fresh_beside}
+use Rattle.vr_worlds.specs.Worlds.{AreBeside, IsHashedAt, IsHashedCut, Work, begun_in, begun_of, read_in, read_of, stepping, work_of}
+use Rattle.vr_worlds.proofs.Fresh.{fresh_beside, schedules_begin}
 use Rattle.vr_unforged.specs.Laws.{SomeScheduleMay}
 use Rattle.vr_unforged.specs.Schedules.{IsHashed, IsUsedAt}
 use Rattle.vr_unforged.proofs.Blank.{reads_nothing}
@@ -83,10 +84,13 @@ first_there : slice_get start.members 0 ≡ Some (fresh_host hazards strict 2 0)
 unfolding fresh_world
 first_there = refl
 
+beside : AreBeside start (fresh_group (λ i. strict) 0 2)
+beside = subst (λ (w : World Lying). AreBeside w (fresh_group (λ i. strict) 0 2)) (sym (schedules_begin strict 2)) (fresh_beside (λ i. strict) 0 2 (omega arith) (omega arith) (omega arith))
+
 face_is : IsFace face
 face_is =
     let at : slice_get start.members 0 ≡ Some (fresh_host hazards strict 2 0) = first_there in
-    ((((fresh_beside strict 2 (omega arith) (omega arith)).each 0 (fresh_host hazards strict 2 0) at).2).running first refl).0.calm.face
+    (((beside.each 0 (fresh_host hazards strict 2 0) at).2).running first refl).0.calm.face
 
 read_is : (f : Face) → Contains (read_in start (Ticks 0)) f → f ≡ face
 read_is f c =

@@ -16,22 +16,22 @@ use Rattle.vr_run.specs.Bridge.{Bridges}
 use Rattle.vr_agree.specs.Followed.{IsFitRun}
 use Rattle.vr_worlds.specs.Worlds.{left}
 
--- the machine's group stands for it, and made nothing else
-pub record IsBridged (g : group.Group) : Type 0 where
+-- the machine's group of this number stands for it, and made nothing else
+pub record IsBridged (cluster : ℕ) (g : group.Group) : Type 0 where
   pub setup : Setup
   pub fits : Fits setup
   pub hash_is : setup.hash ≡ lying.hash
-  pub cluster_is : setup.cluster ≡ 0
+  pub cluster_is : setup.cluster ≡ cluster
   pub machine : Group Header
   pub bridges : Bridges setup g machine
   pub made : (x : Made Header) → In x machine.made → In x.entry g.made
 
 -- a run of a group of n replicas that was just made led there
-pub record IsLed (g : group.Group) : Type 0 where
+pub record IsLed (cluster : ℕ) (g : group.Group) : Type 0 where
   pub n : ℕ
   pub run : List Played
-  pub fit : IsFitRun 0 n run
-  pub is : left (fresh_group fit.kinds 0 n) run ≡ g
+  pub fit : IsFitRun cluster n run
+  pub is : left (fresh_group fit.kinds cluster n) run ≡ g
 
 -- each header that a value names is one of these
 abbrev pub AreNamed : List Header → SuperValue → Type 0

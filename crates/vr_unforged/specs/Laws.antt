@@ -1,4 +1,5 @@
 -- Every schedule is a run of the group.
+use Rattle.std.specs.List.{AllByRecursion}
 use Rattle.vr_base.specs.Kinds.{strict}
 use Rattle.vr_base.specs.declared.kind.Kind.{Kind}
 use Rattle.std.specs.Prelude.{ℕ, ◌^◌, ◌<◌, ◌≤◌, ◌≡◌, List, [], ◌∷◌, ◌++◌, length}
@@ -10,39 +11,55 @@ use Rattle.vr_rules.specs.Group.{Group, Played, fresh_group}
 use Rattle.vr_rules.specs.Safe as safe
 use Rattle.vr_rules.specs.GroupFit.{IsFitGroup}
 use Rattle.vr_worlds.specs.Stocks.{IsStockedGroup}
-use Rattle.vr_worlds.specs.Worlds.{AreBeside, IsMatched, IsMatchedBy, begun_in, left, read_in}
+use Rattle.vr_worlds.specs.Worlds.{AreBeside, IsLine, IsMatched, IsMatchedBy, begun_in, first_world, left, read_in}
 use Rattle.vr_unforged.specs.Bridged.{IsBridged, IsLed}
-use Rattle.vr_unforged.specs.Schedules.{IsHashed, IsSealedWorld, MayAll, MayFollow, MayHappen}
+use Rattle.vr_unforged.specs.Schedules.{IsHashedOf, IsSealedWorld, MayAll, MayFollow, MayHappen, room}
 
 -- a world beside a group, to which a run led, at most one entry made in each move: nothing that stands on its disks or was sent is forged
-pub record IsUnforgedBeside (w : World Lying) (g : Group) : Type 0 where
+pub record IsUnforgedBeside (cluster : ℕ) (w : World Lying) (g : Group) : Type 0 where
   pub beside : AreBeside w g
-  pub fit : IsFitGroup 0 g
+  pub fit : IsFitGroup cluster g
   pub stock : IsStockedGroup g
-  pub bridged : IsBridged g
+  pub bridged : IsBridged cluster g
   pub sealed : IsSealedWorld w g.made
-  pub past : IsLed g
+  pub past : IsLed cluster g
   pub few : length bridged.machine.made ≤ length past.run
 
 -- a line is a move of the group, or none, and leaves such a world, to which the run with that move led
 abbrev pub LinesStayUnforged : Type 0
 LinesStayUnforged =
-    (w : World Lying) (g : Group) (x : Happening) (u : IsUnforgedBeside w g) → MayHappen u.past.run w x
-    → (m : IsMatchedBy (begun_in w x) (read_in w x) g (happens hazards w x)) × (v : IsUnforgedBeside (happens hazards w x).world (left g m.matched.run)) × (v.past.run ≡ u.past.run ++ m.matched.run)
+    (cluster : ℕ) (w : World Lying) (g : Group) (x : Happening) (u : IsUnforgedBeside cluster w g) → MayHappen cluster u.past.run w x
+    → (m : IsMatchedBy cluster (begun_in w x) (read_in w x) g (happens hazards w x)) × (v : IsUnforgedBeside cluster (happens hazards w x).world (left g m.matched.run)) × (v.past.run ≡ u.past.run ++ m.matched.run)
 
 -- what a run hashes was hashed in these lines
-abbrev pub IsHashedBy : World Lying → List Happening → List Played → Type 0
-IsHashedBy w xs run = (bytes : List ℕ) → safe.IsHashed run (root_header 0) bytes → IsHashed w xs bytes
+abbrev pub IsHashedBy : ℕ → World Lying → List Happening → List Played → Type 0
+IsHashedBy cluster w xs run = (bytes : List ℕ) → safe.IsHashed run (root_header cluster) bytes → IsHashedOf cluster w xs bytes
 
+-- a run on from a group, to which this one led, leaves such a world
+pub record LeavesUnforged (cluster : ℕ) (w : World Lying) (g : Group) (past run : List Played) : Type 0 where
+  pub unforged : IsUnforgedBeside cluster w (left g run)
+  pub led : unforged.past.run ≡ past ++ run
+
+-- lines are as many moves, or fewer
 abbrev pub HappeningsAreRuns : Type 0
-HappeningsAreRuns = (xs : List Happening) (w : World Lying) (g : Group) (u : IsUnforgedBeside w g) → MayFollow u.past.run w xs → (m : IsMatched g (happen hazards w xs)) × IsHashedBy w xs m.run
+HappeningsAreRuns =
+    (cluster : ℕ) (xs : List Happening) (w : World Lying) (g : Group) (u : IsUnforgedBeside cluster w g) → MayFollow cluster u.past.run w xs
+    → (m : IsMatched g (happen hazards w xs)) × IsHashedBy cluster w xs m.run × LeavesUnforged cluster (happen hazards w xs).world g u.past.run m.run × (length m.run ≤ length xs)
 
--- so is a world that begins, of 2 to 6 replicas, to which no move led
+-- so is a world that begins, of 2 to 6 replicas of a group of any number, to which no move led
 abbrev pub WorldsBeginUnforged : Type 0
-WorldsBeginUnforged = (kind : Kind) (n : ℕ) → 2 ≤ n → n ≤ 6 → (u : IsUnforgedBeside (fresh_world hazards kind n) (fresh_group (λ i. kind) 0 n)) × (u.past.run ≡ [])
+WorldsBeginUnforged =
+    (kinds : ℕ → Kind) (cluster n : ℕ) → cluster < 2 ^ 64 → 2 ≤ n → n ≤ 6 → (u : IsUnforgedBeside cluster (first_world kinds cluster n) (fresh_group kinds cluster n)) × (u.past.run ≡ [])
 
--- and each schedule from there is a run of the group, in which names don't collide either; but for one of 2^60 lines or more: so long no op
--- comes near those that sessions could spell
+-- and what happens to it from there is a run of the group, in which names don't collide either, while no op comes near those that sessions
+-- could spell
+abbrev pub WorldsAreRuns : Type 0
+WorldsAreRuns =
+    (kinds : ℕ → Kind) (cluster n : ℕ) (xs : List Happening) → cluster < 2 ^ 64 → 2 ≤ n → n ≤ 6 → length xs < room cluster → AllByRecursion IsLine xs → NoCollision (IsHashedOf cluster (first_world kinds cluster n) xs)
+    → (m : IsMatched (fresh_group kinds cluster n) (happen hazards (first_world kinds cluster n) xs)) × NoCollision (λ bytes. safe.IsHashed m.run (root_header cluster) bytes)
+    × LeavesUnforged cluster (happen hazards (first_world kinds cluster n) xs).world (fresh_group kinds cluster n) [] m.run × (length m.run ≤ length xs)
+
+-- So each schedule is one; but for one of 2^60 lines or more.
 abbrev pub SchedulesAreRuns : Type 0
 SchedulesAreRuns =
     (kind : Kind) (n : ℕ) (xs : List Happening) → 2 ≤ n → n ≤ 6 → length xs < 2 ^ 60 → MayAll (fresh_world hazards kind n) xs

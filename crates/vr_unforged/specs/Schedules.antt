@@ -1,5 +1,5 @@
 -- What is asked of a schedule: its lines, that names don't collide, and that it isn't too long.
-use Rattle.std.specs.Prelude.{ℕ, ◌+◌, ◌^◌, ◌<◌, ◌≡◌, ◌⊎◌, List, [], ◌∷◌, length, Contains, slice_get, Some}
+use Rattle.std.specs.Prelude.{ℕ, zero, suc, ◌+◌, ◌^◌, ◌<◌, ◌≡◌, ◌⊎◌, List, [], ◌∷◌, length, Contains, slice_get, Some}
 use Rattle.std.specs.List.{AllByRecursion}
 use Rattle.vr_disk.specs.DiskState.{Face}
 use Rattle.vr_header.specs.declared.header.Header.{Header}
@@ -27,14 +27,23 @@ pub record IsSealedWorld (w : World Lying) (made : List Header) : Type 0 where
 
 -- ---- what is asked of a schedule
 
+-- fewer moves than this leave each log below the ops whose headers sessions could spell
+abbrev pub room : ℕ → ℕ
+room zero = 2 ^ 60
+room (suc cluster) = 2 ^ 47
+
 -- what a line's work hashes: of what its disk reads as, and of the effects that are begun
 abbrev pub IsUsedAt : World Lying → Happening → List ℕ → Type 0
 IsUsedAt w x bytes = ((f : Face) × Contains (read_in w x) f × IsRead f bytes) ⊎ ((e : Effect) × Contains (begun_in w x) e × IsWritten e bytes)
 
--- names don't collide, of what was read, held and written in any line, and of the root of the log
+-- names don't collide, of what was read, held and written in any line, and of the root of the group's log
+abbrev pub IsHashedOf : ℕ → World Lying → List Happening → List ℕ → Type 0
+IsHashedOf cluster w [] bytes = bytes ≡ named_bytes (root_header cluster)
+IsHashedOf cluster w (x ∷ xs) bytes = (IsHashedAt w x bytes ⊎ IsUsedAt w x bytes) ⊎ IsHashedOf cluster (happens hazards w x).world xs bytes
+
+-- of the group that a schedule begins
 abbrev pub IsHashed : World Lying → List Happening → List ℕ → Type 0
-IsHashed w [] bytes = bytes ≡ named_bytes (root_header 0)
-IsHashed w (x ∷ xs) bytes = (IsHashedAt w x bytes ⊎ IsUsedAt w x bytes) ⊎ IsHashed (happens hazards w x).world xs bytes
+IsHashed = IsHashedOf 0
 
 -- of a schedule
 pub record MayAll (w : World Lying) (xs : List Happening) : Type 0 where
@@ -42,13 +51,13 @@ pub record MayAll (w : World Lying) (xs : List Happening) : Type 0 where
   pub names : NoCollision (IsHashed w xs)
 
 -- of one line, after a run that led to its world
-pub record MayHappen (past : List Played) (w : World Lying) (x : Happening) : Type 0 where
+pub record MayHappen (cluster : ℕ) (past : List Played) (w : World Lying) (x : Happening) : Type 0 where
   pub line : IsLine x
-  pub names : NoCollision (λ bytes. safe.IsHashed past (root_header 0) bytes ⊎ (IsHashedAt w x bytes ⊎ IsUsedAt w x bytes))
-  pub few : length past < 2 ^ 60
+  pub names : NoCollision (λ bytes. safe.IsHashed past (root_header cluster) bytes ⊎ (IsHashedAt w x bytes ⊎ IsUsedAt w x bytes))
+  pub few : length past < room cluster
 
 -- and of lines after such a run
-pub record MayFollow (past : List Played) (w : World Lying) (xs : List Happening) : Type 0 where
+pub record MayFollow (cluster : ℕ) (past : List Played) (w : World Lying) (xs : List Happening) : Type 0 where
   pub lines : AllByRecursion IsLine xs
-  pub names : NoCollision (λ bytes. safe.IsHashed past (root_header 0) bytes ⊎ IsHashed w xs bytes)
-  pub few : length past + length xs < 2 ^ 60
+  pub names : NoCollision (λ bytes. safe.IsHashed past (root_header cluster) bytes ⊎ IsHashedOf cluster w xs bytes)
+  pub few : length past + length xs < room cluster

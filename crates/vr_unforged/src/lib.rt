@@ -4,10 +4,11 @@
 //!
 //! What is asked of a schedule (`MayAll`): its lines are those of a schedule; names don't collide, of what was read, held and written
 //! in any of them. And it has fewer than 2^60 lines: so long the log doesn't come near the ops, of 2^61 and more, whose headers the
-//! sessions of a checkpoint could spell where a sector begins.
+//! sessions of a checkpoint could spell where a sector begins. The same is asked of what happens to a group of any number, but that
+//! it be fewer than 2^47 lines: there sessions could spell headers from op 2^48 on.
 #![tactic(auto)]
 
-ghost use Rattle.vr_unforged.specs.Laws.{HappeningsAreRuns, LinesStayUnforged, SchedulesAreRuns, SomeScheduleMay, WorldsBeginUnforged};
+ghost use Rattle.vr_unforged.specs.Laws.{HappeningsAreRuns, LinesStayUnforged, SchedulesAreRuns, SomeScheduleMay, WorldsAreRuns, WorldsBeginUnforged};
 
 /// A group of 2 to 6 replicas begins with disks on which nothing is forged.
 pub fn worlds_begin_unforged()
@@ -22,6 +23,11 @@ pub fn lines_stay_unforged()
 /// A schedule, line after line, is a run of the group.
 pub fn happenings_are_runs()
     ensures { HappeningsAreRuns }
+{}
+
+/// What happens to a group of 2 to 6 replicas, whatever its number, is a run of the group.
+pub fn worlds_are_runs()
+    ensures { WorldsAreRuns }
 {}
 
 /// Every schedule of a group of 2 to 6 replicas is a run of the group.

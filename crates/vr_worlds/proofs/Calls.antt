@@ -1,5 +1,5 @@
 -- The calls of effects write sectors of 512 bytes.
-use Rattle.std.proofs.Common.{ℕ, zero, suc, ◌+◌, ◌*◌, ◌-◌, ◌≤◌, ◌<◌, ◌≡◌, arith, refl, true, false, cond, List, [], ◌∷◌, ◌++◌, length, drop, map}
+use Rattle.std.proofs.Common.{ℕ, zero, suc, ◌+◌, ◌*◌, ◌-◌, ◌^◌, ◌≤◌, ◌<◌, ◌≡◌, arith, refl, true, false, cond, List, [], ◌∷◌, ◌++◌, length, drop, map}
 use Rattle.std.specs.Prelude.{replicate}
 use Rattle.std.specs.List.{AllByRecursion, range_with_len}
 use Rattle.std.proofs.lemmas.List.{get_or-drop, length-drop, length-replicate}
@@ -148,15 +148,15 @@ zeros_written : (n i : ℕ) → i + n ≤ 1424 → AreCalls (map (λ k. Write k 
 zeros_written zero i l = tt
 zeros_written (suc n) i l = ((omega (arith, l), zero_content), zeros_written n (i + 1) (omega (arith, l)))
 
-pub reserved_is : (slot : ℕ) → slot < 64 → IsHeader (reserved_header 0 slot)
-reserved_is slot l = record {
+pub reserved_is : (home slot : ℕ) → home < 2 ^ 64 → slot < 64 → IsHeader (reserved_header home slot)
+reserved_is home slot room l = record {
   body = length-name_of [];
   body_bytes = IsBytes-name_of [];
   parent = refl;
   parent_bytes = IsBytes-zeros 16;
   request_name = refl;
   request_name_bytes = IsBytes-zeros 16;
-  cluster = omega arith;
+  cluster = room;
   client = omega arith;
   request = omega arith;
   view = omega arith;
@@ -168,13 +168,13 @@ reserved_is slot l = record {
   aux = omega arith;
 }
 
-reserved_written : (n i : ℕ) → i + n ≤ 64 → AreCalls (map (λ slot. Write (header_place slot) (sector_of (reserved_header 0 slot))) (range_with_len i n))
-reserved_written zero i l = tt
-reserved_written (suc n) i l = ((omega (arith, l), sector_content (reserved_header 0 i) (reserved_is i (omega (arith, l)))), reserved_written n (i + 1) (omega (arith, l)))
+reserved_written : (home n i : ℕ) → home < 2 ^ 64 → i + n ≤ 64 → AreCalls (map (λ slot. Write (header_place slot) (sector_of (reserved_header home slot))) (range_with_len i n))
+reserved_written home zero i room l = tt
+reserved_written home (suc n) i room l = ((omega (arith, l), sector_content (reserved_header home i) (reserved_is home i room (omega (arith, l)))), reserved_written home n (i + 1) room (omega (arith, l)))
 
-pub format_are : (kind : Kind) (n i : ℕ) → IsGood (first_value kind 0 n i) → AreCalls (format_calls kind 0 n i)
+pub format_are : (kind : Kind) (home n i : ℕ) → home < 2 ^ 64 → IsGood (first_value kind home n i) → AreCalls (format_calls kind home n i)
 unfolding format_calls
-format_are kind n i g =
-    let v = first_value kind 0 n i in
-    calls_append zero_prepares (reserved_headers 0 ++ Sync ∷ save_from 0 4 (copy_bytes v)) (zeros_written 256 144 (omega arith))
-    (calls_append (reserved_headers 0) (Sync ∷ save_from 0 4 (copy_bytes v)) (reserved_written 64 0 (omega arith)) (tt, saves_are 4 0 (copy_bytes v) (omega arith) (copy_are v g) (length-copy_bytes v g)))
+format_are kind home n i room g =
+    let v = first_value kind home n i in
+    calls_append zero_prepares (reserved_headers home ++ Sync ∷ save_from 0 4 (copy_bytes v)) (zeros_written 256 144 (omega arith))
+    (calls_append (reserved_headers home) (Sync ∷ save_from 0 4 (copy_bytes v)) (reserved_written home 64 0 room (omega arith)) (tt, saves_are 4 0 (copy_bytes v) (omega arith) (copy_are v g) (length-copy_bytes v g)))
