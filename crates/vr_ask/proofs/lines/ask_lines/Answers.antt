@@ -1,7 +1,8 @@
-use Rattle.std.proofs.Common.{◌+◌, ◌∙◌, refl, subst, arith}
-use Rattle.vr_ask.specs.Asking.{client_of, stand}
-use Rattle.vr_ask.specs.Run.{IsExchanged, reading}
-use Rattle.vr_ask.proofs.Exchanges.{midst_more}
+use Rattle.std.proofs.Common.{◌+◌, ◌≡◌, ◌∙◌, refl, sym, subst, arith, inl}
+use Rattle.vr_ask.specs.Asking.{client_of, faults, stand}
+use Rattle.vr_ask.specs.Run.{EndsLines, Hears, IsExchanged, StopsAt, reading}
+use Rattle.vr_ask.proofs.Exchanges.{ends_at, midst_more, one_too_many}
+use Rattle.vr_ask.proofs.lines.ask_lines.Goals.{in-Err-next_operation, in-Ok}
 use Rattle.vr_ask.proofs.lines.ask_lines.Goals as goal
 
 pub loop-done-preserved : goal.loop-done-preserved
@@ -23,3 +24,24 @@ loop-done-preserved g c =
       attached = c.take_line.ensures.attached ∙ i.attached;
       sink = e.sink ∙ i.sink;
     }
+
+pub returns-clause-ends : goal.returns-clause-ends
+returns-clause-ends g c =
+    let i = c.loop-done.invariant in
+    let client = client_of c.args.core.now c.args.turns in
+    let first = reading c.args.lines.now (g.S.Source.left c.args.source.now) in
+    let before = reading c.loop-done.lines (g.S.Source.left c.loop-done.source) in
+    let after = reading c.next_operation.new.lines (g.S.Source.left c.next_operation.new.source) in
+    let began = stand c.args.core.now (g.L.Link.sent c.args.link.now) (g.L.Link.received c.args.link.now) (g.K.Sink.taken c.args.sink.now) in
+    let stood = stand c.loop-done.core (g.L.Link.sent c.loop-done.link) (g.L.Link.received c.loop-done.link) (g.K.Sink.taken c.loop-done.sink) in
+    let b = faults (g.L.Link.faults c.args.link.now) (g.K.Sink.faults c.args.sink.now) in
+    let n = faults (g.L.Link.faults c.loop-done.link) (g.K.Sink.faults c.loop-done.sink) in
+    let at : 1000001 ≡ c.loop-done.done + 1 = omega (arith, c.loop-done-test.false, c.loop-done.auto.done-end) in
+    elim c.match-next_operation.branch [
+      | in-Ok w ↦ absurd (one_too_many before after w.in-Ok.field-0 (subst (λ x. Hears 1000001 before after x) w.in-Ok.is c.next_operation.ensures.heard))
+      | in-Err-next_operation w ↦
+          let status = w.in-Err-next_operation.status in
+          let stops : StopsAt 1000001 before after status = subst (λ x. Hears 1000001 before after x) w.in-Err-next_operation.is c.next_operation.ensures.heard in
+          subst (λ x. EndsLines client first began after stood b n x) (sym w.result-is)
+          (ends_at client c.loop-done.done 1000001 first began before stood after stood b n status at (omega (arith, at)) i.midst (inl (refl, stops)))
+    ]
