@@ -11,3 +11,4 @@ pub mod Runs
 pub mod Fresh
 pub mod Blank
 pub mod Witness
+pub mod Entry

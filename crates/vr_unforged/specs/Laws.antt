@@ -4,9 +4,11 @@ use Rattle.vr_base.specs.Kinds.{strict}
 use Rattle.vr_base.specs.declared.kind.Kind.{Kind}
 use Rattle.std.specs.Prelude.{ℕ, ◌^◌, ◌<◌, ◌≤◌, ◌≡◌, List, [], ◌∷◌, ◌++◌, length}
 use Rattle.vr_header.specs.Names.{root_header}
+use Rattle.vr_header.specs.declared.operation.Operation.TheVariants.{Register}
+use Rattle.vr_msg.specs.declared.request.RequestFields.{RequestFields}
 use Rattle.vr_header.specs.NoCollision.{NoCollision}
 use Rattle.vr_rules.specs.Lying.{Lying, hazards}
-use Rattle.vr_rules.specs.World.{World, Happening, Begins, Ticks, Stops, Fuses, fresh_world, happen, happens, no_world}
+use Rattle.vr_rules.specs.World.{World, Happening, Begins, Asks, Ticks, Stops, Fuses, fresh_world, happen, happens, no_world}
 use Rattle.vr_rules.specs.Group.{Group, Played, fresh_group}
 use Rattle.vr_rules.specs.Safe as safe
 use Rattle.vr_rules.specs.GroupFit.{IsFitGroup}
@@ -68,3 +70,11 @@ SchedulesAreRuns =
 -- of some schedule all holds that is asked: time goes by at a replica, another one loses its memory, a fuse is laid
 abbrev pub SomeScheduleMay : Type 0
 SomeScheduleMay = MayAll (fresh_world hazards strict 2) (Ticks 0 ∷ Stops 1 ∷ Fuses 0 5 7 ∷ [])
+
+-- client 7 begins a session
+abbrev pub registers : RequestFields
+registers = record { cluster = 0; client = 7; request = 0; operation = Register }
+
+-- so of one in which a primary makes an entry, and writes it
+abbrev pub SomeEntryMay : Type 0
+SomeEntryMay = MayAll (fresh_world hazards strict 2) (Asks 0 registers ∷ [])

@@ -8,7 +8,7 @@
 //! it be fewer than 2^47 lines: there sessions could spell headers from op 2^48 on.
 #![tactic(auto)]
 
-ghost use Rattle.vr_unforged.specs.Laws.{HappeningsAreRuns, LinesStayUnforged, SchedulesAreRuns, SomeScheduleMay, WorldsAreRuns, WorldsBeginUnforged};
+ghost use Rattle.vr_unforged.specs.Laws.{HappeningsAreRuns, LinesStayUnforged, SchedulesAreRuns, SomeEntryMay, SomeScheduleMay, WorldsAreRuns, WorldsBeginUnforged};
 
 /// A group of 2 to 6 replicas begins with disks on which nothing is forged.
 pub fn worlds_begin_unforged()
@@ -38,4 +38,10 @@ pub fn schedules_are_runs()
 /// Of some schedule all holds that is asked.
 pub fn some_schedule_may()
     ensures { SomeScheduleMay }
+{}
+
+/// And of one in which an entry is made: the names of the three texts that are hashed in it, the root's, the entry's and its operation's,
+/// are computed, and differ.
+pub fn some_entry_may()
+    ensures { SomeEntryMay }
 {}
