@@ -5,10 +5,10 @@ use Rattle.std.specs.List.{AllByRecursion}
 use Rattle.std.specs.Cmp.Lexicographic.{pointwise}
 use Rattle.std.proofs.lemmas.Bool.{cases_lt, eqb-true, eqb-false}
 use Rattle.std.proofs.lemmas.Slice.Eq.{bytes_eq-Decides}
-use Rattle.vr_apply.specs.Texts.{FitsPayloads, payloads}
-use Rattle.vr_apply.specs.declared.codec.Texts.{Texts}
-use Rattle.vr_grid.specs.Blocks.{block_of}
-use Rattle.vr_grid.specs.declared.block.Block.{Block}
+use Rattle.vr_state.specs.StateTexts.{FitsPayloads, payloads}
+use Rattle.vr_state.specs.declared.texts.Texts.{Texts}
+use Rattle.vr_ckpt.specs.Blocks.{block_of}
+use Rattle.vr_ckpt.specs.declared.block.Block.{Block}
 use Rattle.vr_ckpt.specs.Places.{first_place, is_place, other_place, root_place}
 use Rattle.vr_ckpt.specs.Saves.{PayloadBlocks, blocks_from, changed, data_content, goes_to, keys_run, payload_blocks, payload_blocks_at, payload_at, root_of, sessions_run, stays, table_of, written}
 use Rattle.vr_ckpt.specs.declared.plan.Run.{Run}

@@ -6,19 +6,19 @@ use Rattle.std.specs.Option.{option_and_then}
 use Rattle.std.specs.Int.{w16, w32, w64}
 use Rattle.std.proofs.lemmas.Bool.{eq-eqb, le-leb, le-ltb, lt-ltb, ltb-true}
 use Rattle.std.proofs.lemmas.List.{append-nil, drop-drop, drop_all, drop_at, take_at, take-append-drop}
-use Rattle.vr_apply.specs.Texts.{FitsPayloads, payloads}
-use Rattle.vr_apply.specs.declared.codec.Texts.{Texts}
+use Rattle.vr_state.specs.StateTexts.{FitsPayloads, payloads}
+use Rattle.vr_state.specs.declared.texts.Texts.{Texts}
 use Rattle.vr_base.specs.Bytes.{bytes16, bytes32, bytes64, number, piece}
 use Rattle.vr_base.proofs.FieldLaws.{length-bytes16, length-bytes32, length-bytes64, length-name_of, number16_of, number32_of, number64_of}
 use Rattle.vr_disk.specs.DiskState.{Disk, Face, IsFace, Sync, after, after_all}
 use Rattle.vr_disk.proofs.Telling.{if_some, some_if}
 use Rattle.vr_disk.proofs.Together.{after_all_append, length_after_all, together_synced}
-use Rattle.vr_grid.specs.Blocks.{Content, IsContent, block_bytes, block_name, block_of, named}
-use Rattle.vr_grid.specs.Grid.{block_calls, block_reading, named_at}
-use Rattle.vr_grid.specs.declared.block.Block.{Block}
-use Rattle.vr_grid.specs.declared.name.Name.{Name}
-use Rattle.vr_grid.proofs.Contents.{length-block_bytes, named_again, named_found}
-use Rattle.vr_grid.proofs.Puts.{written_reads}
+use Rattle.vr_ckpt.specs.Blocks.{Content, IsContent, block_bytes, block_name, block_of, named}
+use Rattle.vr_ckpt.specs.Grid.{block_calls, block_reading, named_at}
+use Rattle.vr_ckpt.specs.declared.block.Block.{Block}
+use Rattle.vr_ckpt.specs.declared.name.Name.{Name}
+use Rattle.vr_ckpt.proofs.Contents.{length-block_bytes, named_again, named_found}
+use Rattle.vr_ckpt.proofs.Puts.{written_reads}
 use Rattle.vr_ckpt.specs.Loads.{data_at, data_of, gathered, has_numbers, keys_size, name_at, names_at, read_root, root_at, root_in, sessions_size, text_of}
 use Rattle.vr_ckpt.specs.declared.found.Load.TheVariants.{Loaded}
 use Rattle.vr_ckpt.specs.Laws.{DoneLaw, Holds, HoldsFrom, SaveDone}

@@ -3,11 +3,11 @@ use Rattle.std.proofs.Common.{ℕ, ◌+◌, ◌-◌, ◌≤◌, ◌<◌, ◌≡�
 use Rattle.std.specs.Prelude.{min}
 use Rattle.std.proofs.lemmas.List.{append-nil, at_drop_more, at_drop_all}
 use Rattle.vr_disk.specs.DiskState.{Face}
-use Rattle.vr_grid.specs.declared.name.Name.{Name}
+use Rattle.vr_ckpt.specs.declared.name.Name.{Name}
 use Rattle.std.specs.Prelude.{IfOk}
 use Rattle.std.specs.Option.{option_and_then}
-use Rattle.vr_grid.specs.Blocks.{Content, named}
-use Rattle.vr_grid.specs.Grid.{named_at}
+use Rattle.vr_ckpt.specs.Blocks.{Content, named}
+use Rattle.vr_ckpt.specs.Grid.{named_at}
 use Rattle.vr_ckpt.specs.Loads.{HasSome, behind, data_at, data_of, gathered, gathered_both, load_of, read_root, root_at, text_of, with_data}
 use Rattle.vr_ckpt.specs.declared.loading.Gathered.{Gathered}
 use Rattle.vr_ckpt.specs.declared.table.Payload.{Payload}

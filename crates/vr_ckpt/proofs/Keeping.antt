@@ -4,20 +4,20 @@ use Rattle.std.specs.Prelude.{min, nat_lt, slice_get, IfSome}
 use Rattle.std.specs.List.{AllByRecursion}
 use Rattle.std.specs.Option.{option_and_then, option_map}
 use Rattle.std.proofs.lemmas.Bool.{and_parts, cases_lt, eqb-true}
-use Rattle.vr_apply.specs.Texts.{FitsPayloads, payloads}
-use Rattle.vr_apply.specs.declared.codec.Texts.{Texts}
+use Rattle.vr_state.specs.StateTexts.{FitsPayloads, payloads}
+use Rattle.vr_state.specs.declared.texts.Texts.{Texts}
 use Rattle.vr_disk.specs.DiskState.{Call, Cell, Disk, Face, Sync, after_all, cut}
 use Rattle.vr_disk.specs.Regions.{block_place}
 use Rattle.vr_disk.specs.Stops.{Spares}
 use Rattle.vr_disk.proofs.Frames.{frame_all, frame_cut}
 use Rattle.vr_disk.proofs.Telling.{if_some}
 use Rattle.vr_disk.proofs.Together.{spares_append, together_same, within_spares}
-use Rattle.vr_grid.specs.Blocks.{Content, block_name, named}
-use Rattle.vr_grid.specs.Grid.{block_calls, block_reading, named_at}
-use Rattle.vr_grid.specs.declared.block.Block.{Block}
-use Rattle.vr_grid.specs.declared.name.Name.{Name}
-use Rattle.vr_grid.proofs.Contents.{named_found}
-use Rattle.vr_grid.proofs.Puts.{block_within}
+use Rattle.vr_ckpt.specs.Blocks.{Content, block_name, named}
+use Rattle.vr_ckpt.specs.Grid.{block_calls, block_reading, named_at}
+use Rattle.vr_ckpt.specs.declared.block.Block.{Block}
+use Rattle.vr_ckpt.specs.declared.name.Name.{Name}
+use Rattle.vr_ckpt.proofs.Contents.{named_found}
+use Rattle.vr_ckpt.proofs.Puts.{block_within}
 use Rattle.vr_ckpt.specs.Laws.{Holds, HoldsFrom, SaveKeeps, KeepLaw, TablesHeld}
 use Rattle.vr_ckpt.specs.Loads.{both_named, data_at, data_of, gathered, has_numbers, is_root, load_by, load_of, loaded, names_at, name_at, read_root, root_at, root_in, text_of, with_data, with_name, sessions_size, keys_size}
 use Rattle.vr_ckpt.specs.Places.{is_place, root_place}

@@ -1,3 +1,7 @@
+pub mod Contents
+pub mod Made
+pub mod Puts
+pub mod Readings
 pub mod Apart
 pub mod Done
 pub mod Gathering

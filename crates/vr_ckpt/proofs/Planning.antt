@@ -6,14 +6,14 @@ use Rattle.std.proofs.Math.Nat.{min-eq_left, min-eq_right}
 use Rattle.std.proofs.lemmas.Bool.{cases_lt}
 use Rattle.std.proofs.lemmas.List.{append-nil, at_drop_all, at_drop_more, take_all}
 use Rattle.std.proofs.lemmas.Option.{slice_get-get_or}
-use Rattle.vr_apply.specs.Texts.{payloads}
+use Rattle.vr_state.specs.StateTexts.{payloads}
 use Rattle.vr_base.specs.Bytes.{piece}
-use Rattle.vr_apply.specs.declared.codec.Texts.{Texts}
-use Rattle.vr_grid.specs.Blocks.{Content, block_name, block_of}
-use Rattle.vr_grid.specs.Grid.{block_calls}
-use Rattle.vr_grid.specs.declared.name.Name.{Name}
-use Rattle.vr_grid.specs.declared.block.Block.{Block}
-use Rattle.vr_grid.proofs.Made.{name_of_made}
+use Rattle.vr_state.specs.declared.texts.Texts.{Texts}
+use Rattle.vr_ckpt.specs.Blocks.{Content, block_name, block_of}
+use Rattle.vr_ckpt.specs.Grid.{block_calls}
+use Rattle.vr_ckpt.specs.declared.name.Name.{Name}
+use Rattle.vr_ckpt.specs.declared.block.Block.{Block}
+use Rattle.vr_ckpt.proofs.Made.{name_of_made}
 use Rattle.vr_ckpt.specs.Places.{first_place, other_place}
 use Rattle.vr_ckpt.specs.Saves.{IsPlaced, blocks_calls, blocks_from, data_content, goes_to, keys_run, payload_blocks, payload_blocks_at, payload_at, payloads_from, root_of, saved_checkpoint, sessions_run, stays, table_of}
 use Rattle.vr_ckpt.specs.declared.saving.SavedCheckpoint.{SavedCheckpoint}

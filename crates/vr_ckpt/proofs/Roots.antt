@@ -4,9 +4,9 @@ use Rattle.std.specs.Option.{option_map}
 use Rattle.std.specs.Int.{w16, w64}
 use Rattle.std.proofs.lemmas.Bool.{and_parts, eqb-true, leb-true, ltb-false}
 use Rattle.std.proofs.lemmas.List.{append-nil, at_drop_more, at_drop_all}
-use Rattle.vr_apply.specs.Texts.{payloads}
+use Rattle.vr_state.specs.StateTexts.{payloads}
 use Rattle.vr_base.specs.Bytes.{bytes64, number}
-use Rattle.vr_grid.specs.declared.name.Name.{Name}
+use Rattle.vr_ckpt.specs.declared.name.Name.{Name}
 use Rattle.vr_ckpt.specs.Loads.{has_numbers, keys_size, name_at, names_at, sessions_size, with_name}
 use Rattle.vr_ckpt.specs.Places.{is_place}
 use Rattle.vr_ckpt.specs.Saves.{names_bytes}

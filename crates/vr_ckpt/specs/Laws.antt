@@ -1,9 +1,9 @@
 -- What a checkpoint leaves of the one before, and what it loads as.
 use Rattle.std.specs.Prelude.{ℕ, ◌+◌, ◌^◌, ◌<◌, ◌≤◌, ◌≡◌, ◌≢◌, true, List, [], ◌∷◌, length, take, Some}
 use Rattle.vr_disk.specs.DiskState.{Face, IsFace, after_all, cut}
-use Rattle.vr_apply.specs.Texts.{FitsPayloads}
-use Rattle.vr_apply.specs.declared.codec.Texts.{Texts}
-use Rattle.vr_grid.specs.declared.name.Name.{Name}
+use Rattle.vr_state.specs.StateTexts.{FitsPayloads}
+use Rattle.vr_state.specs.declared.texts.Texts.{Texts}
+use Rattle.vr_ckpt.specs.declared.name.Name.{Name}
 use Rattle.vr_ckpt.specs.Loads.{data_at, loaded}
 use Rattle.vr_ckpt.specs.Places.{IsCheckpoint, empty, is_place, keys_place, root_place, sessions_place}
 use Rattle.vr_ckpt.specs.Saves.{save_calls, saved_checkpoint}

@@ -4,10 +4,10 @@ use Rattle.std.specs.Option.{option_and_then, option_map}
 use Rattle.std.specs.Int.{w16, w32, w64}
 use Rattle.vr_base.specs.Bytes.{number, piece}
 use Rattle.vr_disk.specs.DiskState.{Face}
-use Rattle.vr_apply.specs.Texts.{payloads}
-use Rattle.vr_grid.specs.Blocks.{Content}
-use Rattle.vr_grid.specs.Grid.{named_at}
-use Rattle.vr_grid.specs.declared.name.Name.{Name}
+use Rattle.vr_state.specs.StateTexts.{payloads}
+use Rattle.vr_ckpt.specs.Blocks.{Content}
+use Rattle.vr_ckpt.specs.Grid.{named_at}
+use Rattle.vr_ckpt.specs.declared.name.Name.{Name}
 use Rattle.vr_ckpt.specs.Places.{is_place, keys_place, root_place, sessions_place}
 use Rattle.vr_ckpt.specs.declared.loading.Gathered.{Gathered}
 use Rattle.vr_ckpt.specs.declared.found.Load.{Load}

@@ -3,11 +3,11 @@ use Rattle.std.specs.Prelude.{ℕ, zero, suc, ◌+◌, ◌*◌, ◌<◌, ◌≡�
 use Rattle.std.specs.Cmp.Lexicographic.{pointwise}
 use Rattle.vr_base.specs.Bytes.{bytes16, bytes32, bytes64, piece}
 use Rattle.vr_disk.specs.DiskState.{Call, Sync}
-use Rattle.vr_apply.specs.Texts.{payloads}
-use Rattle.vr_apply.specs.declared.codec.Texts.{Texts}
-use Rattle.vr_grid.specs.Blocks.{Content, block_name, block_of}
-use Rattle.vr_grid.specs.Grid.{block_calls}
-use Rattle.vr_grid.specs.declared.block.Block.{Block}
+use Rattle.vr_state.specs.StateTexts.{payloads}
+use Rattle.vr_state.specs.declared.texts.Texts.{Texts}
+use Rattle.vr_ckpt.specs.Blocks.{Content, block_name, block_of}
+use Rattle.vr_ckpt.specs.Grid.{block_calls}
+use Rattle.vr_ckpt.specs.declared.block.Block.{Block}
 use Rattle.vr_ckpt.specs.Places.{first_place, keys_place, other_place, root_place, sessions_place}
 use Rattle.vr_ckpt.specs.declared.plan.Run.{Run}
 use Rattle.vr_ckpt.specs.declared.saving.SavedCheckpoint.{SavedCheckpoint}

@@ -1,7 +1,7 @@
 //! What a disk has of a checkpoint.
 
 use crate::{NameList, PayloadTable};
-use vr_apply::Texts;
+use vr_state::Texts;
 
 /// What a disk has of a checkpoint.
 #[derive(Drop)]

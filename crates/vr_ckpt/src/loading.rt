@@ -1,17 +1,18 @@
 //! A checkpoint loaded.
 ghost use Rattle.std.specs.Prelude.{◌≡◌, ◌≤◌, ◌∷◌, [], IfOk, IfSome, OnOk};
-ghost use Rattle.vr_grid.specs.Blocks.{Content};
+ghost use Rattle.vr_ckpt.specs.Blocks.{Content};
 ghost use Rattle.vr_ckpt.specs.Loads.{HasSome, behind, data_at, data_of, gathered, gathered_both, loaded, root_at, text_of, with_data};
 ghost use Rattle.vr_ckpt.specs.declared.loading.Gathered.{Gathered};
 ghost use Rattle.vr_ckpt.specs.declared.found.Load.TheVariants as Load;
 
 use crate::root::{Root, read_root};
-use crate::{Load, Name, NameList, Payload, PayloadTable};
+use crate::{
+    BlockView, DATA, Load, Name, NameList, PAYLOAD_SIZE, Payload, PayloadTable, read_block, view_of,
+};
 use std::alloc::Global;
-use vr_apply::Texts;
 use vr_base::{ByteList, NoMemory, Seq};
 use vr_disk::{Buffer, SectorDisk};
-use vr_grid::{BlockView, DATA, PAYLOAD_SIZE, read_block, view_of};
+use vr_state::Texts;
 
 // The root of this name.
 #[tactic(auto, unfolding(crate::specs::Loads::root_at))]

@@ -1,10 +1,9 @@
 //! A block of a checkpoint looked at.
 ghost use Rattle.std.specs.Prelude.{◌≡◌, ◌≤◌, IfSome, is_some, not};
-ghost use Rattle.vr_grid.specs.Grid.{named_at};
+ghost use Rattle.vr_ckpt.specs.Grid.{named_at};
 
-use crate::Name;
+use crate::{Name, read_block};
 use vr_disk::{Buffer, SectorDisk};
-use vr_grid::read_block;
 
 /// Whether the block of this name can't be read whole. It takes no memory, and reads into the buffer.
 pub fn worn<D: SectorDisk>(disk: &mut D, name: &Name, to: &mut Buffer) -> bool

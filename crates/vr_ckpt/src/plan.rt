@@ -1,14 +1,13 @@
 //! What a checkpoint has in its blocks, and which of them are written: made before the first call.
 ghost use Rattle.std.specs.Prelude.{◌≡◌, ◌≤◌, ◌<◌, ◌+◌, ◌*◌, ◌++◌, length, OnOk, IfOk, Some};
 ghost use Rattle.std.specs.List.{All};
-ghost use Rattle.vr_apply.specs.Texts.{payloads};
+ghost use Rattle.vr_state.specs.StateTexts.{payloads};
 ghost use Rattle.vr_ckpt.specs.Places.{first_place, other_place};
 ghost use Rattle.vr_ckpt.specs.Saves.{IsPlaced, changed, goes_to, payload_blocks, payload_blocks_at, payload_at, payloads_of};
 
-use crate::Payload;
+use crate::{Block, DATA, PAYLOAD_SIZE, Payload};
 use std::alloc::Global;
 use vr_base::{NoMemory, Seq};
-use vr_grid::{Block, DATA, PAYLOAD_SIZE};
 
 /// One text of a checkpoint: its group, the checkpoint's op, the lower place of its first payload.
 #[derive(Clone, Copy)]

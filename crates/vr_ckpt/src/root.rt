@@ -1,17 +1,16 @@
 //! Roots: blocks that name the others of their checkpoint.
 ghost use Rattle.std.specs.Prelude.{◌≡◌, ◌≤◌, ◌<◌, ◌+◌, ◌*◌, ◌++◌, length, OnOk, IfOk, Some, None, true, ◌==◌};
 ghost use Rattle.vr_base.specs.Bytes.{bytes16, bytes32, bytes64};
-ghost use Rattle.vr_apply.specs.Texts.{FitsPayloads, payloads};
-ghost use Rattle.vr_grid.specs.Blocks.{Content, block_of};
+ghost use Rattle.vr_state.specs.StateTexts.{FitsPayloads, payloads};
+ghost use Rattle.vr_ckpt.specs.Blocks.{Content, block_of};
 ghost use Rattle.vr_ckpt.specs.Loads.{both_named, has_numbers, keys_size, name_at, names_at, read_root, root_in, sessions_size};
 ghost use Rattle.vr_ckpt.specs.Places.{is_place, root_place};
 ghost use Rattle.vr_ckpt.specs.Saves.{IsPlaced, names_bytes, root_of, root_payload};
 
-use crate::{Name, NameList, Payload, PayloadTable};
+use crate::{Block, BlockView, Name, NameList, PAYLOAD_SIZE, Payload, PayloadTable, ROOT};
 use std::alloc::Global;
-use vr_apply::Texts;
 use vr_base::{NoMemory, Seq, put_u16, put_u32, put_u64, sum_at, u16_at, u32_at, u64_at};
-use vr_grid::{Block, BlockView, PAYLOAD_SIZE, ROOT};
+use vr_state::Texts;
 
 /// What a root says: how many bytes the texts have, and the names of their payloads.
 #[derive(Drop)]

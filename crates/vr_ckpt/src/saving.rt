@@ -4,20 +4,19 @@ ghost use Rattle.std.specs.List.{All};
 ghost use Rattle.vr_base.specs.Causes.{HasCause};
 ghost use Rattle.vr_disk.specs.Counts.{CountsFault};
 ghost use Rattle.vr_disk.specs.DiskState.{Runs, Sync};
-ghost use Rattle.vr_apply.specs.Texts.{FitsPayloads};
-ghost use Rattle.vr_grid.specs.Grid.{Leaves};
+ghost use Rattle.vr_state.specs.StateTexts.{FitsPayloads};
+ghost use Rattle.vr_ckpt.specs.Grid.{Leaves};
 ghost use Rattle.vr_ckpt.specs.Laws.{Holds, SaveDone, SaveKeeps};
 ghost use Rattle.vr_ckpt.specs.Places.{IsCheckpoint};
 ghost use Rattle.vr_ckpt.specs.Saves.{IsPlaced, blocks_calls, changed, keys_run, save_calls, saved_checkpoint, sessions_run, table_of, written};
 
 use crate::plan::{Run, plan_text};
 use crate::root::root_block;
-use crate::{CkptFault, Name, PayloadTable};
+use crate::{Block, CkptFault, Name, PayloadTable, write_at};
 use std::alloc::Global;
-use vr_apply::Texts;
 use vr_base::{NoMemory, Seq};
 use vr_disk::{DiskFailed, SectorDisk};
-use vr_grid::{Block, write_at};
+use vr_state::Texts;
 
 /// A checkpoint that was saved: the name of its root, and what it has in its blocks.
 #[derive(Debug, Drop, PartialEq, Eq)]

@@ -2,9 +2,9 @@
 ghost use Rattle.std.specs.Prelude.{◌≡◌};
 ghost use Rattle.vr_ckpt.specs.Places.{empty};
 
+use crate::Name;
 use std::alloc::Global;
 use vr_base::{ByteList, Seq};
-use vr_grid::Name;
 
 /// A part of a text, of at most 3,968 bytes, and the block that has it.
 #[derive(Debug, Drop, PartialEq, Eq)]

@@ -37,7 +37,8 @@ use Rattle.vr_msg.specs.Spelling.{AreHeaders, IsBodyValue, IsKindValue, body_byt
 use Rattle.vr_codec.proofs.Fitting.{PartsFound, asked_form, both, numbers, parts_found, views}
 use Rattle.vr_codec.proofs.Lists.{HeadersFound, IsBytes-drop, at_found, headers_found, nothing}
 use Rattle.vr_codec.proofs.Syncs.{sync_found, sync_spelled}
-use Rattle.vr_codec.proofs.Parts.{PartsRead, body_spelled, last_found, last_says, length-tags, parts_read, run_tags}
+use Rattle.vr_msg.proofs.Short.{length-tags}
+use Rattle.vr_codec.proofs.Parts.{PartsRead, body_spelled, last_found, last_says, parts_read, run_tags}
 
 -- ---- the fields that the command has no use for
 

@@ -12,6 +12,7 @@ use Rattle.vr_base.proofs.Places.{drop_both, take_both}
 use Rattle.vr_header.specs.declared.part.Part.{Part}
 use Rattle.vr_header.specs.declared.part.Part.TheVariants.{Here, Lost, Wanted, Unknown, Nothing}
 use Rattle.vr_header.specs.Spelling.{decoded_header, header_bytes}
+use Rattle.vr_msg.proofs.Short.{length-tags}
 use Rattle.vr_msg.specs.declared.statement.DvcBody.{DvcBody}
 use Rattle.vr_msg.specs.Logs.{FromOp, IsPartAt, has_header}
 use Rattle.vr_codec.specs.Reading.{body_at, part_of_tag, parts_at, rest_at}
@@ -48,10 +49,6 @@ run_tags (Lost h ∷ ps) = ap (λ n. 1 + n) (run_tags ps)
 run_tags (Wanted h ∷ ps) = ap (λ n. 1 + n) (run_tags ps)
 run_tags (Unknown ∷ ps) = refl
 run_tags (Nothing ∷ ps) = refl
-
-pub length-tags : (ps : List Part) → length (map tag ps) ≡ length ps
-length-tags [] = refl
-length-tags (p ∷ ps) = ap suc (length-tags ps)
 
 at_tag : (ps : List Part) (i : ℕ) → i < length ps → (q : Part) × (slice_get ps i ≡ Some q) × (get_or (map tag ps) i 0 ≡ tag q)
 at_tag [] i l = absurd (omega arith)

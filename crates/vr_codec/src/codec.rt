@@ -77,7 +77,7 @@ pub fn encode(message: &Message, to: &mut Vec<u8>) -> Result<(), AllocError>
 }
 
 // Writes the header of a message in front of its body, which ends the bytes.
-#[tactic(auto, using(std::proofs::lemmas::Grind::common_steps, crate::proofs::Written::body_short))]
+#[tactic(auto, using(std::proofs::lemmas::Grind::common_steps, vr_msg::proofs::Short::body_short))]
 fn put_header(frame: &Frame, start: usize, bytes: &mut [u8])
     requires form { IsFrame frame.now }
     requires values { IsBodyValue frame.now }

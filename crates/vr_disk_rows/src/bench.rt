@@ -3,12 +3,11 @@ ghost use Rattle.std.specs.Prelude.{◌<◌};
 
 use crate::act::Act;
 use std::alloc::Global;
-use vr_apply::Texts;
 use vr_base::{NoMemory, Sum};
-use vr_ckpt::SavedCheckpoint;
+use vr_ckpt::{Name, SavedCheckpoint};
 use vr_disk::{Buffer, Sector, SectorDisk};
-use vr_grid::Name;
 use vr_mem::MemDisk;
+use vr_state::Texts;
 use vr_super::Super;
 
 /// A disk in memory, and what was written last.

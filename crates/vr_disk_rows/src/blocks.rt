@@ -4,7 +4,7 @@ use crate::act::Act;
 use crate::bench::Bench;
 use std::alloc::Global;
 use vr_base::{ByteList, NoMemory, Sum};
-use vr_grid::{DATA, Name, read_block, write_block};
+use vr_ckpt::{DATA, Name, read_block, write_block};
 
 const PAYLOAD: &[u8] = b"payload";
 

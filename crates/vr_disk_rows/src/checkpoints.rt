@@ -1,14 +1,14 @@
 //! Checkpoints of group 3, one after the other: their calls, their places, and what loads where blocks are damaged.
 ghost use Rattle.std.specs.Prelude.{◌≤◌, IfOk};
-ghost use Rattle.vr_apply.specs.Texts.{FitsPayloads};
+ghost use Rattle.vr_state.specs.StateTexts.{FitsPayloads};
 
 use crate::act::Act;
 use crate::bench::Bench;
 use std::alloc::{AllocError, Global};
-use vr_apply::Texts;
 use vr_base::{ByteList, NoMemory, Seq};
 use vr_ckpt::{CkptFault, Load, PayloadTable, SavedCheckpoint, load, save};
 use vr_mem::MemDisk;
+use vr_state::Texts;
 
 /// Texts of one payload each: sessions of so many bytes, and keys.
 fn texts(alloc: Global, sessions: usize) -> Result<Texts, NoMemory>

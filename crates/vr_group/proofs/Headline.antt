@@ -6,12 +6,12 @@ use Rattle.vr_base.specs.declared.kind.Kind.{Kind}
 use Rattle.vr_lines.specs.Fits.{IsLineOf}
 use Rattle.vr_lines.specs.declared.line.Line.{Line}
 use Rattle.vr_lines.specs.declared.line.Line.TheVariants as line
-use Rattle.vr_rules.specs.Lying.{Lying, hazards}
-use Rattle.vr_rules.specs.World.{World, fresh_world, happen}
-use Rattle.vr_worlds.specs.Worlds.{IsLine}
-use Rattle.vr_unforged.proofs.Fresh.{schedules_are_runs}
-use Rattle.vr_one_log.proofs.Known.{one_log}
-use Rattle.vr_one_log.proofs.Traces.{keeps}
+use Rattle.vr_world.specs.Lying.{Lying, hazards}
+use Rattle.vr_world.specs.World.{World, fresh_world, happen}
+use Rattle.law_4_disks.specs.Worlds.{IsLine}
+use Rattle.law_6_one_log.proofs.Fresh.{schedules_are_runs}
+use Rattle.law_6_one_log.proofs.Known.{one_log}
+use Rattle.law_6_one_log.proofs.Traces.{keeps}
 use Rattle.vr_group.specs.Headline.{HasAsked, HaveAsked, IsJustMade, LinesKeepOneLog}
 use Rattle.vr_group.specs.Lines.{AreLinesOf, happening, happenings}
 

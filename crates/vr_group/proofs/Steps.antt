@@ -21,13 +21,14 @@ use Rattle.vr_step.specs.declared.halt.Halt.TheVariants.{DiskFault, NoMemory}
 use Rattle.vr_super.specs.Copies.{SuperValue}
 use Rattle.vr_super.specs.Opens.{opens}
 use Rattle.vr_super.specs.declared.recovering.CopyVerdict.{CopyVerdict}
-use Rattle.vr_rules.specs.Lying.{Lying, after_calls, format_calls, hazards, lying}
+use Rattle.vr_world.specs.Lying.{Lying, after_calls, hazards, lying}
+use Rattle.vr_rules.specs.Formatting.{format_calls}
 use Rattle.vr_rules.specs.Opening.{blank, fresh, opened, opening}
 use Rattle.vr_rules.specs.Replica.{Replica}
 use Rattle.vr_rules.specs.Rules.{react}
 use Rattle.vr_rules.specs.Sectors.{sectors}
 use Rattle.vr_rules.specs.Steps.{Step, Word}
-use Rattle.vr_rules.specs.World.{Acted, Host, acts, fresh_host, fresh_world, handles, starts, stays}
+use Rattle.vr_world.specs.World.{Acted, Host, acts, fresh_host, fresh_world, handles, starts, stays}
 use Rattle.vr_lying.specs.Told.{IsTold, burnt, host_on, lying_in}
 use Rattle.vr_lying.specs.Disks.{blank_lying, calm}
 use Rattle.vr_lying.specs.Laws.{Went, revived}

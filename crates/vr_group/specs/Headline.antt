@@ -5,10 +5,11 @@ use Rattle.vr_base.specs.declared.kind.Kind.{Kind}
 use Rattle.vr_header.specs.NoCollision.{NoCollision}
 use Rattle.vr_lines.specs.declared.line.Line.{Line}
 use Rattle.vr_lines.specs.declared.line.Line.TheVariants.{Request}
-use Rattle.vr_rules.specs.Lying.{Lying, hazards}
-use Rattle.vr_rules.specs.World.{IsAsked, World, fresh_world, happen}
-use Rattle.vr_unforged.specs.Schedules.{IsHashed}
-use Rattle.vr_one_log.specs.Laws.{KeepsOneLog}
+use Rattle.vr_world.specs.Lying.{Lying, hazards}
+use Rattle.vr_rules.specs.Fit.{IsAsked}
+use Rattle.vr_world.specs.World.{World, fresh_world, happen}
+use Rattle.law_6_one_log.specs.Schedules.{IsHashed}
+use Rattle.law_6_one_log.specs.Laws.{KeepsOneLog}
 use Rattle.vr_group.specs.Lines.{happenings}
 
 -- a group of 2 to 6 members, as it is made on files of this kind

@@ -3,8 +3,8 @@ ghost use Rattle.std.specs.Prelude.{◌≡◌, ◌-◌, ◌<◌, ◌≤◌, ◌�
 ghost use Rattle.vr_base.specs.Groups.{quorums_of};
 ghost use Rattle.vr_base.specs.Kinds.{of_mode};
 ghost use Rattle.vr_lie.specs.Faults.{IsFault};
-ghost use Rattle.vr_rules.specs.Lying.{hazards};
-ghost use Rattle.vr_rules.specs.World.{fresh_host, handles, lies, starts};
+ghost use Rattle.vr_world.specs.Lying.{hazards};
+ghost use Rattle.vr_world.specs.World.{fresh_host, handles, lies, starts};
 ghost use Rattle.vr_msg.specs.declared.output.Output.TheVariants as output;
 ghost use Rattle.vr_lying.specs.Disks.{told_by};
 ghost use Rattle.vr_lying.specs.Laws.{revived};
@@ -29,8 +29,8 @@ pub struct Host {
 }
 
 impl Model for Host {
-    ghost use Rattle.vr_rules.specs.Lying.{Lying};
-    ghost use Rattle.vr_rules.specs.World as world;
+    ghost use Rattle.vr_world.specs.Lying.{Lying};
+    ghost use Rattle.vr_world.specs.World as world;
     ghost use Rattle.vr_lying.specs.Disks.{told_by};
     ghost use Rattle.vr_group.specs.Hosts.{IsHost, host_of};
 

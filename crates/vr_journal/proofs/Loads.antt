@@ -1,16 +1,16 @@
 -- What loading a checkpoint leaves.
 use Rattle.std.proofs.Common.{◌≡◌, ◌≤◌, refl, subst, List, [], ◌∷◌, Option, true, false, Result, Ok, Err}
 use Rattle.std.specs.Prelude.{IfSome, nat_lt}
-use Rattle.vr_apply.specs.declared.state.State.{State}
-use Rattle.vr_apply.specs.Texts.{state_decoded}
+use Rattle.vr_state.specs.declared.state.State.{State}
+use Rattle.vr_state.specs.StateTexts.{state_decoded}
 use Rattle.vr_ckpt.specs.declared.found.Load.{Load}
 use Rattle.vr_ckpt.specs.declared.found.Load.TheVariants.{Loaded, Missing}
 use Rattle.vr_ckpt.specs.declared.table.PayloadTable.{PayloadTable}
 use Rattle.vr_ckpt.specs.Loads.{loaded}
 use Rattle.vr_disk.specs.DiskState.{Disk}
-use Rattle.vr_grid.specs.declared.name.Name.{Name}
+use Rattle.vr_ckpt.specs.declared.name.Name.{Name}
 use Rattle.vr_msg.specs.declared.output.Output.{Output}
-use Rattle.vr_table.specs.declared.fault.StateFault.{StateFault}
+use Rattle.vr_state.specs.declared.fault.StateFault.{StateFault}
 use Rattle.vr_rules.specs.Replica.{Replica}
 use Rattle.vr_rules.specs.Sound.{IsSavable}
 use Rattle.vr_rules.specs.Words.{load, loads, loaded_state, with_state, with_missing, checkpoint_at}

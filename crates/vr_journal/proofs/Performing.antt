@@ -3,23 +3,23 @@ use Rattle.std.proofs.Common.{ℕ, ◌≡◌, refl, List, Bool, true, false, Opt
 use Rattle.vr_disk.specs.DiskState.{Call, Disk, Runs, RunsFrom}
 use Rattle.vr_header.specs.Made.{Whole}
 use Rattle.vr_rings.specs.Calls.{again_calls, new_calls, header_calls}
-use Rattle.vr_grid.specs.Grid.{put_calls}
-use Rattle.vr_grid.specs.declared.name.Name.{Name}
+use Rattle.vr_ckpt.specs.Grid.{put_calls}
+use Rattle.vr_ckpt.specs.declared.name.Name.{Name}
 use Rattle.vr_header.specs.declared.header.Header.{Header}
 use Rattle.vr_journal.specs.Effects.{rewrites, puts}
 use Rattle.vr_rules.specs.Replica.{Replica, part_at}
 use Rattle.vr_super.specs.Calls.{write_calls}
 use Rattle.vr_super.specs.Copies.{SuperValue}
 use Rattle.vr_rules.specs.Words.{writes, saves, value_of, may_be_stored}
-use Rattle.vr_apply.specs.declared.codec.Texts.{Texts}
-use Rattle.vr_apply.specs.declared.state.State.{State}
-use Rattle.vr_apply.specs.Texts.{texts_of}
+use Rattle.vr_state.specs.declared.texts.Texts.{Texts}
+use Rattle.vr_state.specs.declared.state.State.{State}
+use Rattle.vr_state.specs.StateTexts.{texts_of}
 use Rattle.vr_ckpt.specs.declared.table.PayloadTable.{PayloadTable}
 use Rattle.vr_ckpt.specs.declared.saving.SavedCheckpoint as checkpoint
 use Rattle.vr_ckpt.specs.Saves.{save_calls, saved_checkpoint}
-use Rattle.vr_grid.specs.Grid.{Leaves}
-use Rattle.vr_grid.specs.declared.fault.CkptFault.{CkptFault}
-use Rattle.vr_grid.specs.declared.fault.CkptFault.TheVariants as fault
+use Rattle.vr_ckpt.specs.Grid.{Leaves}
+use Rattle.vr_ckpt.specs.declared.fault.CkptFault.{CkptFault}
+use Rattle.vr_ckpt.specs.declared.fault.CkptFault.TheVariants as fault
 use Rattle.vr_msg.specs.declared.output.Output.{Output}
 use Rattle.vr_rules.specs.Steps.{◌⨾◌, change, does}
 use Rattle.vr_rules.specs.Words.{checkpoints, checkpoint_of, with_checkpoint, make_checkpoint, save}

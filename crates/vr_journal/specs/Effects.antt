@@ -1,7 +1,7 @@
 -- Effects of what is given.
 use Rattle.std.specs.Prelude.{ℕ, List}
 use Rattle.vr_header.specs.declared.header.Header.{Header}
-use Rattle.vr_grid.specs.declared.name.Name.{Name}
+use Rattle.vr_ckpt.specs.declared.name.Name.{Name}
 use Rattle.vr_rules.specs.Replica.{Replica}
 use Rattle.vr_rules.specs.Steps.{Effect, Rewrite, PutBlock}
 

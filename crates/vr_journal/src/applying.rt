@@ -1,7 +1,7 @@
 //! Apply: the stored entries up to the commit number, in order.
 ghost use Rattle.std.specs.Prelude.{◌≡◌, ◌<◌, ◌≤◌, ◌+◌, ◌-◌, ◌^◌, IfOk, OnOk, true, if◌then◌else◌};
 ghost use Rattle.vr_ckpt.specs.Saves.{saved_checkpoint};
-ghost use Rattle.vr_apply.specs.Texts.{texts_of};
+ghost use Rattle.vr_state.specs.StateTexts.{texts_of};
 ghost use Rattle.vr_rules.specs.Replica.{part_at};
 ghost use Rattle.vr_rules.specs.Words.{checkpoints, make_checkpoint, is_checkpoint, applied, apply_entry, apply_next, apply, with_entry, learn};
 ghost use Rattle.vr_step.specs.Does.{Does, Caused, PerformsTo, done};
@@ -11,9 +11,8 @@ ghost use Rattle.vr_memory.specs.Ready.{IsReady, MayApply, HasApplied, due};
 use crate::reading::find_entry;
 use crate::words::save;
 use std::alloc::Global;
-use vr_ckpt::SavedCheckpoint;
+use vr_ckpt::{CkptFault, SavedCheckpoint};
 use vr_disk::SectorDisk;
-use vr_grid::CkptFault;
 use vr_header::{Entry, Header, Part};
 use vr_memory::Replica;
 use vr_msg::Outbox;

@@ -2,12 +2,12 @@
 ghost use Rattle.std.specs.Prelude.{◌≡◌, ◌≤◌, ◌+◌, OnOk, is_ok, is_some, true};
 ghost use Rattle.vr_base.specs.Causes.{HasCause};
 ghost use Rattle.vr_rules.specs.Words.{writes, saves, with_saved, value_of};
-ghost use Rattle.vr_grid.specs.Blocks.{named};
+ghost use Rattle.vr_ckpt.specs.Blocks.{named};
 ghost use Rattle.vr_journal.specs.Effects.{rewrites, puts};
 ghost use Rattle.vr_step.specs.Does.{Performs};
 
+use vr_ckpt::Name;
 use vr_disk::{DiskFault, SectorDisk};
-use vr_grid::Name;
 use vr_header::{Entry, Header};
 use vr_memory::{Replica, may_be_stored};
 use vr_rings::{write_again, write_header, write_new};
@@ -77,5 +77,5 @@ pub fn put_block<D: SectorDisk>(
     ensures runs { Performs (puts name.now block.now) _replica.now (D.told disk.old) (D.told disk.new) (is_ok result) }
     ensures cause { HasCause (D.faults disk.old) (D.faults disk.new) result }
 {
-    vr_grid::put_block(disk, name, block)
+    vr_ckpt::put_block(disk, name, block)
 }

@@ -4,8 +4,8 @@ use Rattle.std.specs.Prelude.{ℕ, ◌+◌, Bool, List, find, Option, Some, None
 use Rattle.std.specs.Option.{option_map_or}
 use Rattle.vr_header.specs.declared.header.Header.{Header}
 use Rattle.vr_header.specs.Made.{Whole}
-use Rattle.vr_sess.specs.declared.session.SessionAnswer.{SessionAnswer}
-use Rattle.vr_sess.specs.declared.session.SessionAnswer.TheVariants as answer
+use Rattle.vr_state.specs.declared.session.SessionAnswer.{SessionAnswer}
+use Rattle.vr_state.specs.declared.session.SessionAnswer.TheVariants as answer
 use Rattle.vr_msg.specs.declared.event.Event.{Event}
 use Rattle.vr_msg.specs.declared.event.Event.TheVariants as event
 use Rattle.vr_msg.specs.declared.frame.Frame.{Frame}
@@ -24,7 +24,7 @@ use Rattle.vr_msg.specs.declared.frame.StartView.{StartView}
 use Rattle.vr_msg.specs.declared.frame.StartViewChange.{StartViewChange}
 use Rattle.vr_msg.specs.declared.frame.SyncView.{SyncView}
 use Rattle.vr_msg.specs.declared.request.RequestFields.{RequestFields}
-use Rattle.vr_grid.specs.declared.name.Name.{Name}
+use Rattle.vr_ckpt.specs.declared.name.Name.{Name}
 use Rattle.vr_rules.specs.Replica.{header_at}
 use Rattle.vr_rules.specs.Steps.{PutBlock, ◌⨾◌, quiet, change, does}
 use Rattle.vr_rules.specs.declared.asker.Asker.{Asker}

@@ -9,8 +9,8 @@ use Rattle.vr_rings.specs.Held.{looked}
 use Rattle.vr_super.specs.Opens.{mode_in}
 use Rattle.vr_mem.specs.Seen as mem
 use Rattle.vr_mem.specs.Seen.{copies}
-use Rattle.vr_rules.specs.Lying.{Lying, each_slot, keeps_premise, lied_to, unless_kept_out, zero_face}
-use Rattle.vr_rules.proofs.Premises.{premise, premise_so}
+use Rattle.vr_world.specs.Lying.{Lying, each_slot, keeps_premise, lied_to, unless_kept_out, zero_face}
+use Rattle.vr_world.proofs.Premises.{premise, premise_so}
 use Rattle.vr_lying.specs.Told.{lying_in, slots}
 use Rattle.vr_lying.specs.Disks.{blank_lying}
 use Rattle.vr_lying.proofs.Runs.{rows_are, with_held}

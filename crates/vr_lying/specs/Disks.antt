@@ -2,7 +2,7 @@
 use Rattle.std.specs.Prelude.{ℕ, List, [], Option, Some, None, false, IfSome}
 use Rattle.vr_disk.specs.DiskState.{Disk, Fate, IsFace}
 use Rattle.vr_lie.specs.Told as lie
-use Rattle.vr_rules.specs.Lying.{Lying, each_slot, zero_face}
+use Rattle.vr_world.specs.Lying.{Lying, each_slot, zero_face}
 use Rattle.vr_lying.specs.Told.{lying_in, slots}
 use Rattle.vr_lying.specs.declared.disk.HostDisk.{HostDisk}
 

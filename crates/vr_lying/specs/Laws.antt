@@ -4,13 +4,13 @@ use Rattle.vr_disk.specs.DiskState.{Call, Disk, Fuse, Runs, runs}
 use Rattle.vr_msg.specs.declared.event.Event.{Event}
 use Rattle.vr_msg.specs.declared.output.Output.TheVariants as output
 use Rattle.vr_super.specs.Copies.{SuperValue}
-use Rattle.vr_rules.specs.Lying.{Lying, after_calls, cut_calls, hazards, lying}
+use Rattle.vr_world.specs.Lying.{Lying, after_calls, cut_calls, hazards, lying}
 use Rattle.vr_rules.specs.Opening.{blank, opening}
 use Rattle.vr_rules.specs.Replica.{Replica}
 use Rattle.vr_rules.specs.Rules.{react}
 use Rattle.vr_rules.specs.Sectors.{calls, sectors}
 use Rattle.vr_rules.specs.Steps.{Step, outputs}
-use Rattle.vr_rules.specs.World.{acts}
+use Rattle.vr_world.specs.World.{acts}
 use Rattle.vr_lying.specs.Told.{IsTold, burnt, host_on, lying_in, next_held}
 
 abbrev pub StepsAreOfSectors : Type 0

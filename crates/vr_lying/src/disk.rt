@@ -4,7 +4,7 @@ ghost use Rattle.vr_base.specs.Causes.{HasCause};
 ghost use Rattle.vr_disk.specs.DiskState.{Attaches, ReadsTo, Runs, Sync, Write};
 ghost use Rattle.vr_lie.specs.Faults.{IsFault};
 ghost use Rattle.vr_lying.specs.Told.{IsTold};
-ghost use Rattle.vr_rules.specs.Lying.{unless_kept_out};
+ghost use Rattle.vr_world.specs.Lying.{unless_kept_out};
 
 use std::alloc::Global;
 use vr_base::NoMemory;

@@ -2,7 +2,7 @@
 use Rattle.std.proofs.Common.{◌-◌, ◌^◌, ◌≡◌, ◌≤◌, ◌∙◌, sym, ap, cond, Bool, true, false, [], ◌∷◌, ◌++◌}
 use Rattle.vr_rules.specs.Replica.{Replica}
 use Rattle.vr_rules.specs.Words.{with_worn}
-use Rattle.vr_grid.specs.declared.name.Name.{Name}
+use Rattle.vr_ckpt.specs.declared.name.Name.{Name}
 use Rattle.vr_memory.specs.Ready.{IsReady}
 use Rattle.vr_memory.specs.Worn.{is_new}
 

@@ -1,7 +1,7 @@
 -- Which block is found bad anew.
 use Rattle.std.specs.Prelude.{Bool, not, nat_lt, ◌&&◌, ◌==◌}
 use Rattle.std.specs.List.{list_any}
-use Rattle.vr_grid.specs.declared.name.Name.{Name}
+use Rattle.vr_ckpt.specs.declared.name.Name.{Name}
 use Rattle.vr_rules.specs.Replica.{Replica}
 
 -- one of the grid that isn't known as bad

@@ -9,7 +9,7 @@ ghost use Rattle.vr_memory.specs.Ready.{IsReady, HasWindow, MayStore};
 
 use crate::Replica;
 use vr_base::Replicas;
-use vr_grid::NameList;
+use vr_ckpt::NameList;
 use vr_header::{Entry, Header, Part};
 use vr_msg::{PrepareOk, Statement};
 use vr_super::Super;

@@ -8,8 +8,7 @@ ghost use Rattle.vr_rules.specs.Words.{blocks_of, op_of_slot, place_now, places,
 
 use crate::Replica;
 use std::alloc::AllocError;
-use vr_ckpt::Payload;
-use vr_grid::Name;
+use vr_ckpt::{Name, Payload};
 
 // Whether a block of this address is among these.
 fn has_address(names: &[Name], address: u64) -> bool

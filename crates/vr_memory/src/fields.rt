@@ -8,11 +8,10 @@ ghost use Rattle.vr_rules.specs.Words.{is_loaded};
 
 use crate::Replica;
 use crate::group::primary;
-use vr_apply::State;
 use vr_base::{Config, Replicas, Sum};
-use vr_ckpt::PayloadTable;
-use vr_grid::{Name, NameList};
+use vr_ckpt::{Name, NameList, PayloadTable};
 use vr_header::{Header, Part};
+use vr_state::State;
 use vr_super::Super;
 use vr_window::Window;
 

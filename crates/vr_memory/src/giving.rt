@@ -10,7 +10,7 @@ ghost use Rattle.vr_memory.specs.Ready.{IsReady};
 use crate::Replica;
 use std::alloc::{AllocError, Global};
 use vr_base::ByteList;
-use vr_grid::Name;
+use vr_ckpt::Name;
 use vr_header::{Entry, Header};
 use vr_msg::{
     GetBlock, GetPrepare, GiveBlock, GivePrepare, Message, Outbox, Output, Prepare, Sent,

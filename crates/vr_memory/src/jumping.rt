@@ -15,7 +15,7 @@ use crate::taking::is_chain;
 use crate::{Log, Replica};
 use std::alloc::{AllocError, Global};
 use vr_base::{Replicas, Sum};
-use vr_grid::{Name, NameList};
+use vr_ckpt::{Name, NameList};
 use vr_header::Part;
 use vr_msg::SyncView;
 

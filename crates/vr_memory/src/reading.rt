@@ -1,14 +1,14 @@
 //! What a replica reads of its disk into its buffer.
 ghost use Rattle.std.specs.Prelude.{◌≡◌, ◌↔◌, ◌%◌, IfOk, IfSome, IsTrue, Some, is_some, not};
 ghost use Rattle.std.specs.Option.{option_map};
-ghost use Rattle.vr_grid.specs.Grid.{named_at};
+ghost use Rattle.vr_ckpt.specs.Grid.{named_at};
 ghost use Rattle.vr_rings.specs.Slots.{entry_for, whole_in};
 
 use crate::Replica;
 use std::alloc::Global;
 use vr_base::NoMemory;
+use vr_ckpt::Name;
 use vr_disk::SectorDisk;
-use vr_grid::Name;
 use vr_header::{Entry, Header};
 use vr_rings::read_prepare;
 

@@ -12,7 +12,7 @@ ghost use Rattle.vr_memory.specs.Ready.{HasWindow};
 use crate::Replica;
 use crate::parts::is_here;
 use vr_base::{Replicas, quorums};
-use vr_grid::{Name, NameList};
+use vr_ckpt::{Name, NameList};
 use vr_header::{Header, Part};
 use vr_window::Window;
 

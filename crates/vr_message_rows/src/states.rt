@@ -2,9 +2,7 @@
 
 use std::alloc::{AllocError, Global};
 use vr_base::{ByteList, NoMemory};
-use vr_kv::Kv;
-use vr_sess::Sessions;
-use vr_table::StateFault;
+use vr_state::{Kv, Sessions, StateFault};
 
 /// Want of memory, as what it is of a text.
 fn spelled(text: Result<ByteList, NoMemory>) -> Result<ByteList, StateFault> {

@@ -12,7 +12,7 @@ use Rattle.vr_opening.specs.declared.new_member.FreshFault.{FreshFault}
 use Rattle.vr_opening.specs.declared.new_member.FreshFault.TheVariants as made
 use Rattle.vr_opening.specs.declared.reopen.Refusal.TheVariants as found
 use Rattle.vr_replica.specs.Running.{Running}
-use Rattle.vr_rules.specs.Lying.{format_calls}
+use Rattle.vr_rules.specs.Formatting.{format_calls}
 use Rattle.vr_rules.specs.Opening.{blank}
 use Rattle.vr_rules.specs.Replica.{Replica}
 use Rattle.vr_status.specs.declared.status.Status.{Status}

@@ -24,8 +24,8 @@ use Rattle.vr_rules.specs.Rules.{asker_by, make, next_entry, obey_request, on_re
 use Rattle.vr_rules.specs.Steps.{by}
 use Rattle.vr_rules.specs.Words.{is_loaded}
 use Rattle.vr_rules.proofs.Ruling.{by_rows}
-use Rattle.vr_sess.specs.declared.session.SessionAnswer.{SessionAnswer}
-use Rattle.vr_sess.specs.declared.session.SessionAnswer.TheVariants as answer
+use Rattle.vr_state.specs.declared.session.SessionAnswer.{SessionAnswer}
+use Rattle.vr_state.specs.declared.session.SessionAnswer.TheVariants as answer
 use Rattle.vr_step.specs.declared.halt.Halt.{Halt}
 use Rattle.vr_step.specs.Does.{Does}
 use Rattle.vr_step.proofs.Stepping.{does_by, does_naming, does_quiet, says_by}

@@ -9,9 +9,9 @@ use Rattle.vr_rules.specs.declared.rule.Rule.TheVariants.{Answered, Full, Made}
 use Rattle.vr_rules.specs.Outputs.{replies}
 use Rattle.vr_rules.specs.declared.asker.Asker.{Asker}
 use Rattle.vr_rules.specs.Replica.{Replica, head}
-use Rattle.vr_sess.specs.Asks.{is_fresh}
-use Rattle.vr_sess.specs.declared.session.SessionAnswer.{SessionAnswer}
-use Rattle.vr_sess.specs.declared.session.SessionAnswer.TheVariants as answer
+use Rattle.vr_state.specs.Asks.{is_fresh}
+use Rattle.vr_state.specs.declared.session.SessionAnswer.{SessionAnswer}
+use Rattle.vr_state.specs.declared.session.SessionAnswer.TheVariants as answer
 use Rattle.vr_normal.specs.declared.requesting.RequestRule.{RequestRule}
 use Rattle.vr_normal.specs.declared.requesting.RequestRule.TheVariants as request
 

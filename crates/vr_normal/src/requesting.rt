@@ -10,7 +10,7 @@ ghost use Rattle.vr_rules.specs.Outputs.{replies};
 ghost use Rattle.vr_rules.specs.Replica.{head, last_view};
 ghost use Rattle.vr_rules.specs.Rules.{asker_by, on_request};
 ghost use Rattle.vr_rules.specs.Words.{is_loaded};
-ghost use Rattle.vr_sess.specs.Asks.{is_fresh};
+ghost use Rattle.vr_state.specs.Asks.{is_fresh};
 ghost use Rattle.vr_step.specs.Does.{Caused, Does};
 ghost use Rattle.vr_rules.proofs.Replying.{HasNumber};
 ghost use Rattle.vr_normal.specs.Named.{request_rule};
@@ -24,7 +24,7 @@ use vr_disk::SectorDisk;
 use vr_header::{Header, Part};
 use vr_memory::Replica;
 use vr_msg::{Answered, Outbox, ReplyKind, Request, RequestFields};
-use vr_sess::SessionAnswer;
+use vr_state::SessionAnswer;
 use vr_step::Halt;
 use vr_window::Window;
 

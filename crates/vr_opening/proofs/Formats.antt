@@ -5,7 +5,7 @@ use Rattle.vr_disk.specs.DiskState.{Call, Sync, Disk, Runs}
 use Rattle.vr_disk.proofs.Running.{Runs_then, Runs_stopped}
 use Rattle.vr_super.specs.Calls.{save_from}
 use Rattle.vr_super.specs.Copies.{SuperValue, copy_bytes}
-use Rattle.vr_rules.specs.Lying.{format_calls, reserved_headers, zero_prepares}
+use Rattle.vr_rules.specs.Formatting.{format_calls, reserved_headers, zero_prepares}
 use Rattle.vr_rules.specs.Opening.{first_value}
 
 module _ (kind : Kind) (cluster n index : ℕ) where

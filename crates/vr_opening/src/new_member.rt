@@ -5,7 +5,7 @@ ghost use Rattle.vr_base.specs.Groups.{quorums_of};
 ghost use Rattle.vr_disk.specs.Counts.{CountsFault};
 ghost use Rattle.vr_disk.specs.DiskState.{Runs};
 ghost use Rattle.vr_memory.specs.Ready.{IsReady};
-ghost use Rattle.vr_rules.specs.Lying.{format_calls};
+ghost use Rattle.vr_rules.specs.Formatting.{format_calls};
 ghost use Rattle.vr_rules.specs.Opening.{fresh};
 ghost use Rattle.vr_base.specs.Kinds.{of_mode};
 ghost use Rattle.vr_super.specs.Opens.{file_kind, good_copies, opened};

@@ -5,9 +5,9 @@ use Rattle.std.proofs.lemmas.Bool.{le-ltb, lt-ltb}
 use Rattle.vr_disk.specs.DiskState.{Disk, Face}
 use Rattle.vr_disk.specs.Regions as region
 use Rattle.vr_disk.specs.Sectors.{together}
-use Rattle.vr_grid.specs.Blocks.{named}
-use Rattle.vr_grid.specs.Grid.{block_reading, named_at}
-use Rattle.vr_grid.specs.declared.name.Name.{Name}
+use Rattle.vr_ckpt.specs.Blocks.{named}
+use Rattle.vr_ckpt.specs.Grid.{block_reading, named_at}
+use Rattle.vr_ckpt.specs.declared.name.Name.{Name}
 use Rattle.vr_rules.specs.Rules.{block_at}
 use Rattle.vr_rules.specs.Sectors.{block_in}
 use Rattle.vr_step.specs.Does.{Finds}

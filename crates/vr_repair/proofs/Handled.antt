@@ -10,8 +10,8 @@ use Rattle.vr_header.specs.declared.header.Header.{Header}
 use Rattle.vr_header.specs.declared.part.Part.{Part}
 use Rattle.vr_header.specs.declared.part.Part.TheVariants.{Here}
 use Rattle.vr_header.specs.Made.{Whole}
-use Rattle.vr_grid.specs.declared.name.Name.{Name}
-use Rattle.vr_grid.specs.Grid.{block_calls, put_calls}
+use Rattle.vr_ckpt.specs.declared.name.Name.{Name}
+use Rattle.vr_ckpt.specs.Grid.{block_calls, put_calls}
 use Rattle.vr_super.specs.Calls.{mend_calls, save_from, write_calls}
 use Rattle.vr_super.specs.Copies.{copy_bytes}
 use Rattle.vr_ckpt.specs.Saves.{blocks_calls, save_calls, written}

@@ -4,10 +4,10 @@ use Rattle.std.specs.Prelude.{find, ◌==◌}
 use Rattle.std.proofs.lemmas.Bool.{lt-ltb}
 use Rattle.vr_disk.specs.DiskState as disk
 use Rattle.vr_disk.specs.DiskState.{Face, Fate, IsFace, nothing_beside}
-use Rattle.vr_grid.specs.Blocks.{named}
-use Rattle.vr_grid.specs.Grid.{block_reading, named_at, put_calls}
-use Rattle.vr_grid.specs.declared.name.Name.{Name}
-use Rattle.vr_grid.proofs.Puts.{name_fits, put_law}
+use Rattle.vr_ckpt.specs.Blocks.{named}
+use Rattle.vr_ckpt.specs.Grid.{block_reading, named_at, put_calls}
+use Rattle.vr_ckpt.specs.declared.name.Name.{Name}
+use Rattle.vr_ckpt.proofs.Puts.{name_fits, put_law}
 use Rattle.vr_header.specs.declared.part.Part.TheVariants.{Here}
 use Rattle.vr_header.specs.Made.{Whole}
 use Rattle.vr_memory.specs.Ready.{IsReady, MayStore}

@@ -6,8 +6,8 @@ use Rattle.std.proofs.lemmas.Bool.{and_parts, cond_both, ltb-true}
 use Rattle.std.proofs.lemmas.List.{drop_all}
 use Rattle.vr_base.specs.Bytes.{name_of}
 use Rattle.vr_disk.specs.DiskState.{Disk, Face}
-use Rattle.vr_grid.specs.Blocks.{named}
-use Rattle.vr_grid.specs.declared.name.Name.{Name}
+use Rattle.vr_ckpt.specs.Blocks.{named}
+use Rattle.vr_ckpt.specs.declared.name.Name.{Name}
 use Rattle.vr_header.specs.Made.{Whole}
 use Rattle.vr_memory.specs.Ready.{IsReady, MayLoad, MayStore}
 use Rattle.vr_msg.specs.declared.frame.GetBlock.{GetBlock}

@@ -6,8 +6,8 @@ use Rattle.vr_repair.specs.Repairs.{is_block}
 use Rattle.vr_rules.specs.Deciding.{first_of, give_block_table, give_prepare_table, is_wanted}
 use Rattle.vr_rules.specs.declared.rule.Rule.TheVariants.{BlockTaken, EntryTaken}
 use Rattle.vr_disk.specs.DiskState.{Face, IsFace}
-use Rattle.vr_grid.specs.Blocks.{named}
-use Rattle.vr_grid.specs.declared.name.Name.{Name}
+use Rattle.vr_ckpt.specs.Blocks.{named}
+use Rattle.vr_ckpt.specs.declared.name.Name.{Name}
 use Rattle.vr_header.specs.declared.part.Part.TheVariants.{Here}
 use Rattle.vr_header.specs.Made.{Whole}
 use Rattle.vr_memory.specs.Ready.{IsReady, MayStore}

@@ -1,8 +1,8 @@
 -- The rule that a message of repair leads to is the one of that name; and the words of repair with names.
 use Rattle.std.specs.Prelude.{ℕ, Bool, List, Option, None, Some, is_some, slice_get, if◌then◌else◌}
 use Rattle.std.specs.Option.{option_and_then}
-use Rattle.vr_grid.specs.Blocks.{named}
-use Rattle.vr_grid.specs.declared.name.Name.{Name}
+use Rattle.vr_ckpt.specs.Blocks.{named}
+use Rattle.vr_ckpt.specs.declared.name.Name.{Name}
 use Rattle.vr_header.specs.Made.{Whole}
 use Rattle.vr_rules.specs.declared.rule.Rule.{Rule}
 use Rattle.vr_rules.specs.declared.rule.Rule.TheVariants.{Ignored, EntryGiven, EntryTaken, BlockGiven, BlockTaken, BlockMended}

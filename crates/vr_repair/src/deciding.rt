@@ -7,7 +7,7 @@ ghost use Rattle.vr_rules.specs.Deciding.{first_of, get_block_table, get_prepare
 ghost use Rattle.vr_rules.specs.declared.rule.Rule.TheVariants.{Ignored};
 ghost use Rattle.vr_rules.specs.Replica.{is_absent};
 
-use vr_grid::Name;
+use vr_ckpt::Name;
 use vr_header::Part;
 use vr_memory::{Replica, is_here};
 use vr_msg::{GetBlock, GetPrepare, GivePrepare};

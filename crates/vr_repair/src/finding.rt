@@ -5,8 +5,8 @@ ghost use Rattle.vr_step.specs.Does.{Finds};
 
 use std::alloc::{AllocError, Global};
 use vr_base::{ByteList, NoMemory, Seq};
+use vr_ckpt::{Name, is_block_of};
 use vr_disk::{BLOCK_SECTORS, SectorDisk, block_place, read_sectors};
-use vr_grid::{Name, is_block_of};
 
 fn list_of(alloc: Global, bytes: &[u8]) -> Result<ByteList, AllocError>
     ensures { IfOk result (λ list. list ≡ bytes.now) }

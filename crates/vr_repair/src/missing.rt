@@ -1,7 +1,7 @@
 //! What is missing is asked for, and put.
 ghost use Rattle.std.specs.Prelude.{◌≡◌, None, OnOk, [], is_some, true};
 ghost use Rattle.vr_base.specs.Bytes.{name_of};
-ghost use Rattle.vr_grid.specs.Blocks.{named};
+ghost use Rattle.vr_ckpt.specs.Blocks.{named};
 ghost use Rattle.vr_header.specs.Made.{IsEntryHeader};
 ghost use Rattle.vr_memory.specs.Ready.{IsReady, MayLoad};
 ghost use Rattle.vr_repair.specs.Repairs.{loads_whole};
@@ -11,8 +11,8 @@ ghost use Rattle.vr_rules.specs.Words.{ask, ask_for, ask_peer, least_absent};
 ghost use Rattle.vr_step.specs.Does.{Caused, Does};
 
 use std::alloc::Global;
+use vr_ckpt::Name;
 use vr_disk::SectorDisk;
-use vr_grid::Name;
 use vr_header::Header;
 use vr_journal::load;
 use vr_memory::Replica;

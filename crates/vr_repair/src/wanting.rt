@@ -6,7 +6,7 @@ ghost use Rattle.vr_repair.specs.Repairs.{found_at, is_block, rule_of};
 ghost use Rattle.vr_rules.specs.Deciding.{first_of, give_block_table, is_wanted};
 
 use crate::deciding::Repair;
-use vr_grid::{Name, NameList, is_block_of};
+use vr_ckpt::{Name, NameList, is_block_of};
 use vr_memory::Replica;
 use vr_msg::GiveBlock;
 

@@ -12,8 +12,8 @@ use Rattle.vr_lines.specs.Grammar.{longest}
 use Rattle.vr_lines.specs.Held.{Held, IsGiven}
 use Rattle.vr_lines.proofs.Cutting.{Begins, cut_line, cut_part}
 use Rattle.vr_group.specs.Outputs.{Numbered, text_of}
-use Rattle.vr_rules.specs.Lying.{Lying}
-use Rattle.vr_rules.specs.World.{World}
+use Rattle.vr_world.specs.Lying.{Lying}
+use Rattle.vr_world.specs.World.{World}
 use Rattle.vr_replay.specs.declared.playing.Replay.{Replay}
 use Rattle.vr_replay.specs.declared.stop.Stop.{Stop}
 use Rattle.vr_replay.specs.declared.stop.Stop.TheVariants as stop

@@ -2,8 +2,8 @@
 use Rattle.std.proofs.Common.{◌≡◌, ℕ, List, ap, refl, Option, Some, None}
 use Rattle.vr_edge.specs.Told.{AppendsFront}
 use Rattle.vr_edge.proofs.Told.{appends_nil}
-use Rattle.vr_rules.specs.Lying.{Lying}
-use Rattle.vr_rules.specs.World.{World}
+use Rattle.vr_world.specs.Lying.{Lying}
+use Rattle.vr_world.specs.World.{World}
 use Rattle.vr_lines.specs.declared.line.Line.{Line}
 use Rattle.vr_replay.specs.Schedule.{line_at}
 use Rattle.vr_replay.specs.Playing.{taken, judged}

@@ -11,8 +11,8 @@ use Rattle.vr_lines.specs.Cuts.{Cut, cut, whole_lines, if_any, lines_of}
 use Rattle.vr_lines.specs.Grammar.{longest}
 use Rattle.vr_lines.specs.declared.line.Line.{Line}
 use Rattle.vr_lines.proofs.Cutting.{begins, cut_append, extended, last_append, last_part, lines_append}
-use Rattle.vr_rules.specs.Lying.{Lying}
-use Rattle.vr_rules.specs.World.{World, no_world, fresh_world, happen}
+use Rattle.vr_world.specs.Lying.{Lying}
+use Rattle.vr_world.specs.World.{World, no_world, fresh_world, happen}
 use Rattle.vr_group.specs.Outputs.{Numbered, numbered, text_of}
 use Rattle.vr_group.specs.Lines.{happenings}
 use Rattle.vr_replay.specs.declared.playing.Replay.{Replay}

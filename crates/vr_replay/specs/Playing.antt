@@ -4,8 +4,8 @@ use Rattle.std.specs.Prelude.{ℕ, ◌+◌, ◌≡◌, ◌≤◌, ◌==◌, nat_
 use Rattle.vr_lines.specs.Cuts.{cut, whole_lines}
 use Rattle.vr_lines.specs.Grammar.{longest}
 use Rattle.vr_lines.specs.declared.line.Line.{Line}
-use Rattle.vr_rules.specs.Lying.{Lying, hazards}
-use Rattle.vr_rules.specs.World.{World, happens}
+use Rattle.vr_world.specs.Lying.{Lying, hazards}
+use Rattle.vr_world.specs.World.{World, happens}
 use Rattle.vr_group.specs.Outputs.{Numbered, numbered, text_of}
 use Rattle.vr_group.specs.Lines.{happening}
 use Rattle.vr_replay.specs.declared.playing.Replay.{Replay}

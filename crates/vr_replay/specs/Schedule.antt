@@ -4,8 +4,8 @@ use Rattle.std.specs.Prelude.{ℕ, ◌+◌, nat_lt, List, [], ◌∷◌, Option,
 use Rattle.std.specs.Option.{option_map_or}
 use Rattle.vr_base.specs.Kinds.{of_mode, strict}
 use Rattle.vr_base.specs.declared.kind.Kind.{Kind}
-use Rattle.vr_rules.specs.Lying.{Lying, hazards}
-use Rattle.vr_rules.specs.World.{Happened, fresh_world, happen}
+use Rattle.vr_world.specs.Lying.{Lying, hazards}
+use Rattle.vr_world.specs.World.{Happened, fresh_world, happen}
 use Rattle.vr_lines.specs.Cuts.{lines_of}
 use Rattle.vr_lines.specs.Grammar.{parse}
 use Rattle.vr_lines.specs.declared.line.Line.{Line}

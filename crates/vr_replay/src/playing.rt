@@ -66,7 +66,7 @@ fn judge(alloc: Global, n: u8, number: u32, text: &[u8]) -> Result<Line, Stop>
 impl Replay {
     ghost use Rattle.vr_replay.specs.Playing.{IsReplay, HearsAll, taken, hears_lines, ends};
     ghost use Rattle.vr_replay.specs.Stops.{Stopped};
-    ghost use Rattle.vr_rules.specs.World.{no_world};
+    ghost use Rattle.vr_world.specs.World.{no_world};
 
     /// Takes the line that was given, and writes its outputs.
     #[tactic(auto, using(std::proofs::lemmas::Grind::common_steps, crate::proofs::Taken::taken_some, crate::proofs::Taken::taken_none, vr_edge::proofs::Told::appends_nil, vr_group::proofs::Numbering::text_none))]

@@ -5,7 +5,7 @@ ghost use Rattle.vr_msg.specs.Logs.{IsStatement};
 
 use std::alloc::Global;
 use vr_base::{ByteList, NoMemory, Seq, Sum};
-use vr_grid::{Block, ROOT};
+use vr_ckpt::{Block, ROOT};
 use vr_header::{Entry, Header, Operation};
 use vr_msg::{
     Commit, DoViewChange, DvcBody, Event, GiveBlock, Message, Prepare, Request, RequestFields,

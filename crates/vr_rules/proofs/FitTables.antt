@@ -6,11 +6,11 @@ use Rattle.std.proofs.lemmas.List.Elements.{All-nil, All-cons, All-head, All-tai
 use Rattle.vr_base.proofs.FieldLaws.{length-name_of}
 use Rattle.vr_disk.specs.DiskState.{Face}
 use Rattle.vr_header.specs.Spelling.{named_bytes}
-use Rattle.vr_apply.specs.Texts.{payloads}
-use Rattle.vr_apply.specs.declared.codec.Texts.{Texts}
-use Rattle.vr_grid.specs.declared.name.Name.{Name}
-use Rattle.vr_grid.specs.Blocks.{block_header}
-use Rattle.vr_grid.specs.Grid.{named_at}
+use Rattle.vr_state.specs.StateTexts.{payloads}
+use Rattle.vr_state.specs.declared.texts.Texts.{Texts}
+use Rattle.vr_ckpt.specs.declared.name.Name.{Name}
+use Rattle.vr_ckpt.specs.Blocks.{block_header}
+use Rattle.vr_ckpt.specs.Grid.{named_at}
 use Rattle.vr_ckpt.specs.Loads.{data_at, gathered, load_by, load_of, loaded, read_root, root_at, with_data}
 use Rattle.vr_ckpt.specs.Places.{first_place, other_place}
 use Rattle.vr_ckpt.specs.Saves.{data_content, goes_to, keys_run, payload_at, payload_blocks, payloads_from, sessions_run, stays, table_of}

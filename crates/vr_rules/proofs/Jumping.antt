@@ -10,7 +10,7 @@ use Rattle.vr_header.specs.declared.header.Header.{Header}
 use Rattle.vr_header.specs.declared.part.Part.{Part}
 use Rattle.vr_header.specs.declared.part.Part.TheVariants.{Lost, Nothing}
 use Rattle.vr_header.specs.Spelling.{IsHeader}
-use Rattle.vr_grid.specs.declared.name.Name.{Name}
+use Rattle.vr_ckpt.specs.declared.name.Name.{Name}
 use Rattle.vr_msg.specs.declared.frame.SyncView.{SyncView}
 use Rattle.vr_msg.specs.Logs.{IsEntryAt, has_header, header_of}
 use Rattle.vr_msg.specs.Numbers.{IsNumber}

@@ -4,7 +4,7 @@ use Rattle.std.specs.Prelude.{nat_eq}
 use Rattle.std.specs.Option.{option_map_or}
 use Rattle.std.proofs.lemmas.Bool.{cond_both, and_parts, not-true, eqb-true, eqb-false, ltb-true, ne_eqb}
 use Rattle.vr_header.specs.declared.header.Header.{Header}
-use Rattle.vr_grid.specs.declared.name.Name.{Name}
+use Rattle.vr_ckpt.specs.declared.name.Name.{Name}
 use Rattle.vr_msg.specs.declared.frame.Commit.{Commit}
 use Rattle.vr_msg.specs.declared.frame.GetBlock.{GetBlock}
 use Rattle.vr_msg.specs.declared.frame.GetPrepare.{GetPrepare}
@@ -16,8 +16,8 @@ use Rattle.vr_msg.specs.declared.frame.Prepare.{Prepare}
 use Rattle.vr_msg.specs.declared.frame.PrepareOk.{PrepareOk}
 use Rattle.vr_msg.specs.declared.request.RequestFields.{RequestFields}
 use Rattle.vr_msg.specs.Normal.{primary}
-use Rattle.vr_sess.specs.declared.session.SessionAnswer.{SessionAnswer}
-use Rattle.vr_sess.specs.declared.session.SessionAnswer.TheVariants as answer
+use Rattle.vr_state.specs.declared.session.SessionAnswer.{SessionAnswer}
+use Rattle.vr_state.specs.declared.session.SessionAnswer.TheVariants as answer
 use Rattle.vr_rules.specs.Replica.{Replica, is_primary}
 use Rattle.vr_rules.specs.Steps.{quiet, says, outputs}
 use Rattle.vr_rules.specs.declared.asker.Asker.{Asker}

@@ -7,7 +7,7 @@ use Rattle.vr_header.specs.declared.header.Header.{Header}
 use Rattle.vr_header.specs.declared.part.Part.{Part}
 use Rattle.vr_header.specs.declared.part.Part.TheVariants.{Here, Lost, Wanted, Unknown, Nothing}
 use Rattle.vr_header.specs.Made.{Whole}
-use Rattle.vr_grid.specs.declared.name.Name.{Name}
+use Rattle.vr_ckpt.specs.declared.name.Name.{Name}
 use Rattle.vr_msg.specs.declared.frame.Frame.{Frame}
 use Rattle.vr_msg.specs.declared.frame.SyncView.{SyncView}
 use Rattle.vr_msg.specs.declared.output.Output.{Output}

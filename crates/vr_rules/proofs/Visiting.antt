@@ -3,7 +3,7 @@ use Rattle.std.proofs.Common.{ℕ, arith, refl, List, Option, Some, None}
 use Rattle.std.specs.Prelude.{nat_lt, ◌==◌, not}
 use Rattle.vr_header.specs.declared.header.Header.{Header}
 use Rattle.vr_header.specs.Same.{same_header}
-use Rattle.vr_grid.specs.declared.name.Name.{Name}
+use Rattle.vr_ckpt.specs.declared.name.Name.{Name}
 use Rattle.vr_rules.specs.Steps.{change}
 use Rattle.vr_rules.specs.Words.{is_loaded, mend_header, op_of_slot, place_now, visit, visit_block, visit_place, visit_read, visit_slot, with_cursor, with_worn}
 use Rattle.vr_rules.specs.Rules.{mend_found, not_worn}

@@ -7,16 +7,10 @@ pub mod Given
 pub mod Rules
 pub mod Opening
 pub mod Found
+pub mod Formatting
 pub mod Sectors
-pub mod World
-pub mod Lying
-pub mod Group
-pub mod Checkpoints
-pub mod Commitment
-pub mod Safe
 pub mod Sound
 pub mod Laws
 pub mod Fit
 pub mod Pinned
 pub mod Own
-pub mod GroupFit

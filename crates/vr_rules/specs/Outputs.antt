@@ -1,5 +1,5 @@
 -- What a replica puts out: messages, replies and lines, with present values.
-use Rattle.std.specs.Prelude.{ℕ, ◌==◌, not, List, [], ◌∷◌, map, filter, if◌then◌else◌}
+use Rattle.std.specs.Prelude.{ℕ, ◌==◌, not, List, [], ◌∷◌, map, filter, if◌then◌else◌, ◌++◌}
 use Rattle.std.specs.List.{range_with_len}
 use Rattle.vr_header.specs.declared.header.Header.{Header}
 use Rattle.vr_header.specs.Made.{Whole}
@@ -8,13 +8,14 @@ use Rattle.vr_msg.specs.declared.frame.Frame.{Frame}
 use Rattle.vr_msg.specs.declared.frame.Frame.TheVariants as frame
 use Rattle.vr_msg.specs.declared.output.Output.{Output}
 use Rattle.vr_msg.specs.declared.output.Output.TheVariants as output
+use Rattle.vr_msg.specs.declared.output.Sent.{Sent}
 use Rattle.vr_msg.specs.declared.reply.ReplyKind.{ReplyKind}
 use Rattle.vr_msg.specs.declared.reply.ReplyKind.TheVariants as reply
 use Rattle.vr_msg.specs.Normal.{primary}
-use Rattle.vr_apply.specs.Folds as state
-use Rattle.vr_apply.specs.declared.reply.ReplyBody.{ReplyBody}
-use Rattle.vr_apply.specs.declared.reply.ReplyBody.TheVariants as body
-use Rattle.vr_grid.specs.declared.name.Name.{Name}
+use Rattle.vr_state.specs.Folds as state
+use Rattle.vr_state.specs.declared.reply.ReplyBody.{ReplyBody}
+use Rattle.vr_state.specs.declared.reply.ReplyBody.TheVariants as body
+use Rattle.vr_ckpt.specs.declared.name.Name.{Name}
 use Rattle.vr_rules.specs.declared.asker.Asker.{Asker}
 use Rattle.vr_rules.specs.Replica.{Replica, leads, head, run, run_start, statement_of}
 
@@ -123,3 +124,13 @@ start_line r = output.Start (record { replica = r.index; view = r.view; log_view
 
 abbrev pub wait_line : ℕ → Replica → List Output
 wait_line op r = output.Wait (record { replica = r.index; view = r.view; op = op }) ∷ []
+
+-- ---- the messages among outputs
+
+abbrev pub message_of : Output → List Sent
+message_of (output.Send s) = s ∷ []
+message_of _ = []
+
+unfoldable pub messages : List Output → List Sent
+messages [] = []
+messages (o ∷ os) = message_of o ++ messages os

@@ -1,15 +1,6 @@
 // What every step and every opening puts out and saves. Each function is a law: its contract is the statement, and it does nothing.
 
-ghost use Rattle.vr_rules.specs.Laws.{
-  NothingIsDone,
-  OnlyHearingIsDone,
-  OpeningsArePresent,
-  OpeningsSaveWell,
-  SectorsFit,
-  StepsArePresent,
-  StepsSaveWell,
-  WaitsOnlyLose,
-};
+ghost use Rattle.vr_rules.specs.Laws.{NothingIsDone, OnlyHearingIsDone, OpeningsArePresent, OpeningsSaveWell, SectorsFit, StepsArePresent, StepsSaveWell, WaitsOnlyLose};
 
 /// A rule that says nothing leaves the replica as it is, and its step has no effects.
 pub fn nothing_is_done<F>()

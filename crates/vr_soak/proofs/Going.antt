@@ -10,8 +10,9 @@ use Rattle.vr_draws.specs.Draws.{Drawn}
 use Rattle.vr_draws.specs.Drawn.{drawn_line, drawn_size}
 use Rattle.vr_lines.specs.Fits.{IsLineOf}
 use Rattle.vr_lines.specs.declared.line.Line.{Line}
-use Rattle.vr_rules.specs.Lying.{Lying, hazards}
-use Rattle.vr_rules.specs.World.{Happened, World, fresh_world, happen, happens, messages}
+use Rattle.vr_world.specs.Lying.{Lying, hazards}
+use Rattle.vr_world.specs.World.{Happened, World, fresh_world, happen, happens}
+use Rattle.vr_rules.specs.Outputs.{messages}
 use Rattle.vr_group.specs.Lines.{happening, happenings}
 use Rattle.vr_group.specs.Outputs.{numbered, outputs_of, plain, text_of}
 use Rattle.vr_group.specs.declared.outputs.Outputs.{Outputs}

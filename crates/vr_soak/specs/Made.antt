@@ -6,8 +6,8 @@ use Rattle.vr_draws.specs.Draws.{Drawn}
 use Rattle.vr_draws.specs.Drawn.{drawn_line, drawn_size}
 use Rattle.vr_group.specs.Lines.{happenings}
 use Rattle.vr_lines.specs.declared.line.Line.{Line}
-use Rattle.vr_rules.specs.Lying.{Lying, hazards}
-use Rattle.vr_rules.specs.World.{Happened, fresh_world, happen}
+use Rattle.vr_world.specs.Lying.{Lying, hazards}
+use Rattle.vr_world.specs.World.{Happened, fresh_world, happen}
 
 -- lines, and the number that is drawn from next
 pub record Made : Type 0 where

@@ -7,8 +7,8 @@ use Rattle.vr_group.specs.Outputs.{numbered, text_of}
 use Rattle.vr_group.specs.Views.{top_view}
 use Rattle.vr_msg.specs.declared.output.Output.{Output}
 use Rattle.vr_msg.specs.declared.output.Output.TheVariants as output
-use Rattle.vr_rules.specs.Lying.{Lying}
-use Rattle.vr_rules.specs.World.{Happened}
+use Rattle.vr_world.specs.Lying.{Lying}
+use Rattle.vr_world.specs.World.{Happened}
 use Rattle.vr_soak.specs.declared.summary.Faults.{Faults}
 use Rattle.vr_soak.specs.declared.summary.Summary.{Summary}
 use Rattle.vr_soak.specs.Made.{come_to, lines_from, size_of}

@@ -20,9 +20,9 @@ use Rattle.vr_step.specs.declared.halt.Halt.{Halt}
 use Rattle.vr_step.specs.declared.halt.Halt.TheVariants.{DiskFault}
 use Rattle.vr_step.specs.Does.{Does, LeftBy, Performs}
 use Rattle.vr_step.proofs.Stepping.{does_by, does_change, does_effect, does_effect_stopped, does_quiet, does_stopped, does_then}
-use Rattle.vr_grid.specs.Blocks.{named}
-use Rattle.vr_grid.specs.Grid.{block_reading, named_at}
-use Rattle.vr_grid.specs.declared.name.Name.{Name}
+use Rattle.vr_ckpt.specs.Blocks.{named}
+use Rattle.vr_ckpt.specs.Grid.{block_reading, named_at}
+use Rattle.vr_ckpt.specs.declared.name.Name.{Name}
 use Rattle.vr_rules.proofs.Keeping.{sound_alike}
 use Rattle.vr_rules.proofs.SavesWell.{savable_alike}
 use Rattle.vr_journal.specs.Effects.{rewrites}

@@ -13,8 +13,8 @@ ghost use Rattle.vr_step.specs.Does.{Caused, Does, Performs, done};
 ghost use Rattle.vr_step.specs.declared.halt.Halt.TheVariants as halt;
 
 use crate::found::Visit;
+use vr_ckpt::Name;
 use vr_disk::{DiskFault, SectorDisk};
-use vr_grid::Name;
 use vr_header::{Header, Part};
 use vr_journal::rewrite_header;
 use vr_memory::Replica;

@@ -2,8 +2,8 @@ use Rattle.std.proofs.Common.{◌≡◌, ◌∙◌, ap, sym}
 use Rattle.std.specs.Prelude.{IfOk}
 use Rattle.vr_disk.specs.DiskState.{Disk}
 use Rattle.vr_disk.proofs.Telling.{if_some, some_if}
-use Rattle.vr_grid.specs.Blocks.{Content, named}
-use Rattle.vr_grid.specs.Grid.{IsWhole, named_at}
+use Rattle.vr_ckpt.specs.Blocks.{Content, named}
+use Rattle.vr_ckpt.specs.Grid.{IsWhole, named_at}
 use Rattle.vr_ckpt.specs.Loads.{data_at, data_of}
 use Rattle.vr_ckpt.proofs.Gathering.{data_is, if_ok}
 use Rattle.vr_ckpt.proofs.loading.load_payload.Goals as goal

@@ -2,10 +2,10 @@ use Rattle.std.proofs.Common.{◌≡◌, ◌∙◌, ap, sym}
 use Rattle.std.specs.Prelude.{IfOk}
 use Rattle.vr_disk.specs.DiskState.{Disk}
 use Rattle.vr_disk.proofs.Telling.{if_some, some_if}
-use Rattle.vr_grid.specs.Blocks.{Content, named}
-use Rattle.vr_grid.specs.Grid.{IsWhole, named_at}
-use Rattle.vr_grid.specs.declared.name.Name.{Name}
-use Rattle.vr_grid.proofs.Contents.{named_found}
+use Rattle.vr_ckpt.specs.Blocks.{Content, named}
+use Rattle.vr_ckpt.specs.Grid.{IsWhole, named_at}
+use Rattle.vr_ckpt.specs.declared.name.Name.{Name}
+use Rattle.vr_ckpt.proofs.Contents.{named_found}
 use Rattle.vr_ckpt.specs.Loads.{read_root, root_at}
 use Rattle.vr_ckpt.proofs.Gathering.{if_ok, root_is}
 use Rattle.vr_ckpt.proofs.loading.load_root.Goals as goal

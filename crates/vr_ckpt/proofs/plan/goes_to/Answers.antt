@@ -1,6 +1,6 @@
 use Rattle.std.proofs.Common.{◌∙◌, ap, sym}
 use Rattle.std.proofs.lemmas.List.Elements.{All-push}
-use Rattle.vr_grid.specs.Blocks.{block_of}
+use Rattle.vr_ckpt.specs.Blocks.{block_of}
 use Rattle.vr_ckpt.specs.Saves.{IsPlaced}
 use Rattle.vr_ckpt.proofs.Planning.{content_is, goes_block, goes_payload, placed_is}
 use Rattle.vr_ckpt.proofs.plan.goes_to.Goals as goal

@@ -1,5 +1,5 @@
 use Rattle.std.proofs.Common.{◌<◌, arith, length}
-use Rattle.vr_apply.specs.Texts.{payloads}
+use Rattle.vr_state.specs.StateTexts.{payloads}
 use Rattle.vr_ckpt.proofs.Planning.{blocks_end, blocks_step, payloads_end, payloads_step}
 use Rattle.vr_ckpt.proofs.plan.plan_text.Goals as goal
 

@@ -1,6 +1,6 @@
 use Rattle.std.proofs.Common.{◌≡◌, ◌-◌, ◌++◌, length}
 use Rattle.std.specs.List.{All}
-use Rattle.vr_apply.specs.Texts.{payloads}
+use Rattle.vr_state.specs.StateTexts.{payloads}
 use Rattle.vr_ckpt.specs.Saves.{IsPlaced, blocks_from, changed, payloads_from, payloads_of}
 use Rattle.vr_ckpt.proofs.plan.plan_text.Given as goal
 

@@ -2,7 +2,7 @@ use Rattle.std.proofs.Common.{◌∙◌, ◌+◌, arith, drop, true, false}
 use Rattle.std.proofs.lemmas.Result.{err_from_is_err_and}
 use Rattle.vr_disk.specs.DiskState.{Runs}
 use Rattle.vr_disk.proofs.Running.{Runs_stopped, Runs_then, runs_nothing}
-use Rattle.vr_grid.specs.Grid.{block_calls}
+use Rattle.vr_ckpt.specs.Grid.{block_calls}
 use Rattle.vr_ckpt.specs.Saves.{blocks_calls}
 use Rattle.vr_ckpt.proofs.Planning.{calls_end, calls_more}
 use Rattle.vr_ckpt.proofs.saving.write_all.Goals as goal

@@ -1,7 +1,7 @@
 use Rattle.std.proofs.Common.{◌≡◌, ◌∙◌, ap, arith}
 use Rattle.vr_draws.specs.Drawn.{drawn_size}
-use Rattle.vr_rules.specs.Lying.{Lying}
-use Rattle.vr_rules.specs.World.{World}
+use Rattle.vr_world.specs.Lying.{Lying}
+use Rattle.vr_world.specs.World.{World}
 use Rattle.vr_soak.specs.Made.{size_of}
 use Rattle.vr_soak.proofs.Going.{fresh_size, soaking_first}
 use Rattle.vr_soak.proofs.soaking.Soaking.new.Goals as goal

@@ -1,0 +1,26 @@
+-- The quorums of each size fit.
+use Rattle.std.proofs.Common.{ℕ, zero, suc, ◌+◌, ◌≤◌, ◌<◌, ◌≡◌, arith, refl, List}
+use Rattle.std.specs.Option.{option_map_or}
+use Rattle.vr_base.specs.Groups.{quorums_of}
+use Rattle.vr_rules.specs.Replica.{replication}
+use Rattle.law_2_chains.specs.Chains.{Setup}
+use Rattle.law_2_chains.specs.Tables.{Fits}
+
+abbrev setup : (n r k : ℕ) → (List ℕ → List ℕ) → ℕ → r + k ≡ n + 1 → 0 < r → Setup
+setup n r k hash cluster overlap some = record { quorums = record { n = n; replication = r; nack = k; overlap = overlap; not_empty = some }; hash = hash; cluster = cluster }
+
+abbrev Sized : (List ℕ → List ℕ) → ℕ → ℕ → Type 0
+Sized hash cluster n = (u : Setup) × Fits u × (u.quorums.n ≡ n) × (u.hash ≡ hash) × (u.cluster ≡ cluster)
+
+sized : (n r k : ℕ) (hash : List ℕ → List ℕ) (cluster : ℕ) → r + k ≡ n + 1 → 2 ≤ r → replication n ≡ r → option_map_or (λ q. q.nack) (quorums_of n) 0 ≡ k → Sized hash cluster n
+sized n r k hash cluster overlap several a b = (setup n r k hash cluster overlap (omega arith), record { replication_is = a; several = several; nack_is = b }, refl, refl, refl)
+
+pub sizes_fit : (hash : List ℕ → List ℕ) (cluster n : ℕ) → 2 ≤ n → n ≤ 6 → Sized hash cluster n
+sizes_fit hash cluster zero a b = absurd (omega arith)
+sizes_fit hash cluster (suc zero) a b = absurd (omega arith)
+sizes_fit hash cluster (suc (suc zero)) a b = sized 2 2 1 hash cluster refl (omega arith) refl refl
+sizes_fit hash cluster (suc (suc (suc zero))) a b = sized 3 2 2 hash cluster refl (omega arith) refl refl
+sizes_fit hash cluster (suc (suc (suc (suc zero)))) a b = sized 4 2 3 hash cluster refl (omega arith) refl refl
+sizes_fit hash cluster (suc (suc (suc (suc (suc zero))))) a b = sized 5 3 3 hash cluster refl (omega arith) refl refl
+sizes_fit hash cluster (suc (suc (suc (suc (suc (suc zero)))))) a b = sized 6 3 4 hash cluster refl (omega arith) refl refl
+sizes_fit hash cluster (suc (suc (suc (suc (suc (suc (suc n))))))) a b = absurd (omega arith)

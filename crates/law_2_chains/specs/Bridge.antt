@@ -1,0 +1,79 @@
+-- How the machine's group stands for a group of the rules, and what of it a move carries on.
+use Rattle.vr_base.specs.declared.kind.Kind.{Kind}
+use Rattle.std.specs.Prelude.{ℕ, ◌+◌, ◌≤◌, ◌≡◌, ◌⊎◌, ⊤, List, [], ◌∷◌, length, All, Contains, slice_get, Some, None}
+use Rattle.vr_header.specs.declared.header.Header.{Header}
+use Rattle.vr_msg.specs.declared.output.Chosen.{Chosen}
+use Rattle.vr_msg.specs.declared.output.Output.{Output}
+use Rattle.vr_msg.specs.declared.output.Output.TheVariants as output
+use Rattle.vr_msg.specs.declared.output.Sent.{Sent}
+use Rattle.vr_rules.specs.Replica.{Replica}
+use Rattle.vr_world.specs.Lying.{lying}
+use Rattle.vr_world.specs.Group as group
+use Rattle.vr_world.specs.Group.{Move, Steps, Runs, Played, made_in}
+use Rattle.law_1_machine.specs.Basics.{In}
+use Rattle.law_1_machine.specs.Group.{Group, Made}
+use Rattle.law_1_machine.specs.Members.{Choice, Memory, Message}
+use Rattle.law_2_chains.specs.Reflecting.{IsDisk, KeepsStored, Reflects}
+use Rattle.law_2_chains.specs.Chains.{Setup, IsReached, Every, WasMade, WasSent}
+use Rattle.law_2_chains.specs.Choices.{IsMadeFrom}
+use Rattle.law_2_chains.specs.Finished.{IsSaid, IsTrue}
+use Rattle.law_2_chains.specs.Tables.{Fits, HasTables}
+
+-- a running replica is what a memory of the machine says, what it has stored is kept, and its tables are true
+pub record IsRunning (u : Setup) (s : Group Header) (i : ℕ) (m : group.Member) (r : Replica) : Type 0 where
+  pub memory : Memory Header
+  pub running : (s.members i).memory ≡ Some memory
+  pub reflects : Reflects r memory
+  pub stored : KeepsStored r m
+  pub tables : HasTables u s i r
+
+pub record IsMember (u : Setup) (s : Group Header) (i : ℕ) (m : group.Member) : Type 0 where
+  pub disk : IsDisk m (s.members i)
+  pub running : (r : Replica) → m.replica ≡ Some r → IsRunning u s i m r
+  pub stopped : m.replica ≡ None → (s.members i).memory ≡ None
+
+abbrev pub IsSent : Setup → Group Header → Sent → Type 0
+IsSent u s w = WasSent u s.sent w.message
+
+-- the machine's group stands for the group: each member for its member, and what was sent and made was so in the machine
+pub record Bridges (u : Setup) (g : group.Group) (s : Group Header) : Type 0 where
+  pub reached : IsReached u s
+  pub size : g.n ≡ u.quorums.n
+  pub members : (i : ℕ) (m : group.Member) → slice_get g.members i ≡ Some m → IsMember u s i m
+  pub sent : All (IsSent u s) g.sent
+  pub made : All (WasMade s.made) g.made
+
+-- each choose line of a step is of one of these choices, from what its member had heard
+abbrev pub ChoosesWell : group.Group → Move → List (Choice Header) → List Output → Type 0
+ChoosesWell g (Steps at arrival e d) chosen os = (m : group.Member) (r : Replica) → Runs g at m r → (c : Chosen) → Contains os (output.Choose c) → IsMadeFrom chosen e r c
+ChoosesWell g _ chosen os = ⊤
+
+-- What a move leaves: nothing is taken back, what was put out is true, and nothing else was sent or made, at most one entry in all.
+pub record Chained (u : Setup) (s a : Group Header) (p : Played) : Type 0 where
+  pub bridges : Bridges u p.moved.group a
+  pub sent : (m : Message Header) → In m s.sent → In m a.sent
+  pub chosen : (c : Choice Header) → In c s.chosen → In c a.chosen
+  pub told : Every (IsTrue u s.sent a.sent) p.moved.outputs
+  pub only : (m : Message Header) → In m a.sent → In m s.sent ⊎ IsSaid u p.moved.outputs m
+  pub made : (x : Made Header) → In x a.made → In x s.made ⊎ In x.entry (made_in p.moved.script)
+  pub few : length a.made ≤ length s.made + 1
+  pub choices : ChoosesWell p.before p.move a.chosen p.moved.outputs
+
+-- a run, move by move
+abbrev pub Follows : Setup → Group Header → List Played → Type 0
+Follows u s [] = ⊤
+Follows u s (p ∷ ps) = (a : Group Header) × Chained u s a p × Follows u a ps
+
+-- A run of a group that was just made, from a group of the machine on in which nothing was sent or made; with the names of the program
+-- and the quorums of its size.
+pub record FollowsFresh (kinds : ℕ → Kind) (cluster n : ℕ) (run : List Played) : Type 0 where
+  pub setup : Setup
+  pub fits : Fits setup
+  pub hash_is : setup.hash ≡ lying.hash
+  pub cluster_is : setup.cluster ≡ cluster
+  pub size_is : setup.quorums.n ≡ n
+  pub first : Group Header
+  pub bridges : Bridges setup (group.fresh_group kinds cluster n) first
+  pub none_sent : first.sent ≡ []
+  pub none_made : first.made ≡ []
+  pub follows : Follows setup first run

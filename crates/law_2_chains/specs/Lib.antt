@@ -1,0 +1,14 @@
+pub mod Local
+pub mod Reflecting
+pub mod Chains
+pub mod Tables
+pub mod Finished
+pub mod Begins
+pub mod Choices
+pub mod Openings
+pub mod ChainLaws
+pub mod Bridge
+pub mod RunLaws
+pub mod Counted
+pub mod Facts
+pub mod FactLaws

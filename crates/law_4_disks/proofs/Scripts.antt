@@ -1,0 +1,134 @@
+-- Scripts: what is carried out, and a stop at a call, which is a stop within an effect.
+use Rattle.std.proofs.Common.{ℕ, zero, suc, take, ◌+◌, ◌-◌, ◌≤◌, ◌<◌, ◌≡◌, inl, inr, arith, refl, sym, ap, ◌∙◌, subst, List, [], ◌∷◌, ◌++◌, length, Option}
+use Rattle.std.proofs.lemmas.Bool.{cases_lt, le-ltb, lt-ltb}
+use Rattle.std.proofs.lemmas.List.{length-append}
+use Rattle.vr_disk.specs.DiskState.{Call, Face, IsFace}
+use Rattle.vr_disk.specs.DiskState as disk
+use Rattle.vr_disk.proofs.Stopping.{cuts_both}
+use Rattle.vr_super.specs.Copies.{SuperValue}
+use Rattle.vr_super.specs.Opens.{opens}
+use Rattle.vr_rings.specs.Held.{Stands, held_after, held_after_all, held_cut}
+use Rattle.vr_lie.specs.Faults.{held_at}
+use Rattle.vr_rules.specs.Steps.{Effect, Write, Rewrite, Save, Mend, Checkpoint, PutBlock, Say, after_all}
+use Rattle.vr_rules.specs.Sectors.{calls, calls_of}
+use Rattle.vr_world.specs.Lying.{Lying, after_calls, cut_calls, lying}
+use Rattle.vr_world.specs.Group.{Member, begins, carried_out, cut_after, ends}
+use Rattle.law_4_disks.specs.Beside.{HoldsEntry, IsCutAt, IsOff, MayGo, value_after}
+use Rattle.law_4_disks.specs.Laws.{OpeningsCut, OpeningsStay, ScriptsCut, ScriptsStay}
+use Rattle.law_4_disks.proofs.Effects.{at_slot, mend_cut, mend_opens}
+use Rattle.law_4_disks.proofs.Playing.{stay, stopped}
+
+pub value_is : (e : Effect) (m : Member) → (ends e (begins e m)).last ≡ value_after e m.last
+value_is (Write again e) m = refl
+value_is (Rewrite h) m = refl
+value_is (Save old new) m = refl
+value_is (Mend x) m = refl
+value_is (Checkpoint cluster texts op old) m = refl
+value_is (PutBlock name block) m = refl
+value_is (Say output) m = refl
+
+pub scripts_stay : ScriptsStay
+unfolding after_all carried_out
+scripts_stay [] d m o g = o
+scripts_stay (e ∷ es) d m o g = scripts_stay es (lying.after d e) (ends e (begins e m)) (stay e d m o g.0) (subst (MayGo es (lying.after d e)) (sym (value_is e m)) g.1)
+
+pub openings_stay : OpeningsStay
+unfolding after_all carried_out
+openings_stay es d m v o g = scripts_stay es (lying.after d (Mend v)) (ends (Mend v) (begins (Mend v) m)) (mend_opens v d m o g.0.calls) g.1
+
+-- ---- cuts
+
+-- disks that hold the same in each slot
+pub record Same (d x : Lying) : Type 0 where
+  pub face : x.face ≡ d.face
+  pub held : (slot : ℕ) → slot < 64 → held_at x.held slot ≡ held_at d.held slot
+
+pub same_off : (d x : Lying) (m : Member) (v : SuperValue) → Same d x → IsOff d m v → IsOff x m v
+same_off d x m v s o = record {
+  calm = record {
+    face = subst IsFace (sym s.face) o.calm.face;
+    rests = ap (λ (f : Face). f.waiting) s.face ∙ o.calm.rests;
+    stand = record { each = λ slot l. subst (λ (f : Face). Stands v.fields.mode f slot (held_at x.held slot)) (sym s.face) (subst (Stands v.fields.mode d.face slot) (sym (s.held slot l)) (o.calm.stand.each slot l)) };
+  };
+  held = record { count = o.held.count; each = λ slot h l e. subst (HoldsEntry m.last.fields.cluster h) (sym (s.held slot l)) (o.held.each slot h l e) };
+  value = ap opens s.face ∙ o.value;
+  may = o.may;
+  group = o.group;
+}
+
+pub both_held : (cs ds : List Call) (f : Face) (slot : ℕ) (held : Option (List ℕ)) (j code : ℕ)
+    → (j < length cs → held_cut j code f (cs ++ ds) slot held ≡ held_cut j code f cs slot held) × (length cs ≤ j → held_cut j code f (cs ++ ds) slot held ≡ held_cut (j - length cs) code (disk.after_all f cs) ds slot (held_after_all f cs slot held))
+unfolding held_cut held_after_all
+both_held [] ds f slot held j code = (λ l. absurd (omega arith), λ l. let e : j - 0 ≡ j = omega arith in rw e refl)
+both_held (c ∷ cs) ds f slot held zero code = (λ l. refl, λ l. absurd (omega arith))
+both_held (c ∷ cs) ds f slot held (suc j) code =
+    let rest = both_held cs ds (disk.after f c) slot (held_after f c slot held) j code in
+    let e : suc j - length (c ∷ cs) ≡ j - length cs = omega arith in
+    (λ l. rest.0 (omega arith), λ l. rw e (rest.1 (omega arith)))
+
+cut_first : (cs ds : List Call) (d : Lying) (j code : ℕ) → j < length cs → Same (cut_calls j code d cs) (cut_calls j code d (cs ++ ds))
+cut_first cs ds d j code l = record {
+  face = (cuts_both cs ds d.face j code).first l;
+  held = λ slot b. at_slot (λ slot. held_cut j code d.face (cs ++ ds) slot (held_at d.held slot)) slot b
+      ∙ ((both_held cs ds d.face slot (held_at d.held slot) j code).0 l ∙ sym (at_slot (λ slot. held_cut j code d.face cs slot (held_at d.held slot)) slot b));
+}
+
+cut_later : (cs ds : List Call) (d : Lying) (j code : ℕ) → length cs ≤ j → Same (cut_calls (j - length cs) code (after_calls d cs) ds) (cut_calls j code d (cs ++ ds))
+cut_later cs ds d j code l =
+    let k = j - length cs in
+    let g = disk.after_all d.face cs in
+    let x : Lying = after_calls d cs in
+    record {
+      face = (cuts_both cs ds d.face j code).later l;
+      held = λ slot b. at_slot (λ slot. held_cut j code d.face (cs ++ ds) slot (held_at d.held slot)) slot b
+          ∙ ((both_held cs ds d.face slot (held_at d.held slot) j code).1 l
+          ∙ (ap (held_cut k code g ds slot) (sym (at_slot (λ slot. held_after_all d.face cs slot (held_at d.held slot)) slot b)) ∙ sym (at_slot (λ slot. held_cut k code g ds slot (held_at x.held slot)) slot b)));
+    }
+
+same_cut : (es : List Effect) (f : Face) (j : ℕ) (d x : Lying) (m : Member) → Same d x → IsCutAt es f j d m → IsCutAt es f j x m
+same_cut es f j d x m s c = record { effects = c.effects; within = c.within; begun = c.begun; value = c.value; off = same_off d x (cut_after c.effects es m) c.value s c.off }
+
+cut_here : (e : Effect) (es : List Effect) (f : Face) (j : ℕ) (d : Lying) (m : Member) (v : SuperValue) → j < length (calls_of e f) → IsOff d (begins e m) v → IsCutAt (e ∷ es) f j d m
+unfolding carried_out
+cut_here e es f j d m v l o = record { effects = 0; within = omega arith; begun = rw (lt-ltb j (length (calls_of e f)) l) refl; value = v; off = o }
+
+cut_further : (e : Effect) (es : List Effect) (f : Face) (j : ℕ) (d : Lying) (m : Member) → length (calls_of e f) ≤ j → IsCutAt es (disk.after_all f (calls_of e f)) (j - length (calls_of e f)) d (ends e (begins e m)) → IsCutAt (e ∷ es) f j d m
+unfolding carried_out
+cut_further e es f j d m b c =
+    let l = c.within in
+    let place : suc (c.effects + 1) ≡ suc c.effects + 1 = omega arith in
+    record { effects = suc c.effects; within = omega arith; begun = rw (le-ltb j (length (calls_of e f)) b) (ap (λ (es : List Effect). e ∷ es) c.begun ∙ ap (λ (n : ℕ). take n (e ∷ es)) place); value = c.value; off = c.off }
+
+pub scripts_cut : ScriptsCut
+unfolding calls
+scripts_cut [] d m j code o g l t = absurd (omega arith)
+scripts_cut (e ∷ es) d m j code o g l t =
+    let cs = calls_of e d.face in
+    let x : Lying = lying.after d e in
+    let ds = calls es x.face in
+    elim (cases_lt j (length cs)) [
+      | inl a ↦
+          let s = stopped e d m j code o g.0 a (t.0 a) in
+          same_cut (e ∷ es) d.face j (cut_calls j code d cs) (cut_calls j code d (cs ++ ds)) m (cut_first cs ds d j code a) (cut_here e es d.face j (cut_calls j code d cs) m s.0 a s.1)
+      | inr b ↦
+          let n = length-append cs ds in
+          let less : j - length cs < length ds = omega (arith, n, l, b) in
+          let rest = scripts_cut es x (ends e (begins e m)) (j - length cs) code (stay e d m o g.0) (subst (MayGo es x) (sym (value_is e m)) g.1) less (t.1 b) in
+          same_cut (e ∷ es) d.face j (cut_calls (j - length cs) code x ds) (cut_calls j code d (cs ++ ds)) m (cut_later cs ds d j code b) (cut_further e es d.face j (cut_calls (j - length cs) code x ds) m b rest)
+    ]
+
+pub openings_cut : OpeningsCut
+unfolding calls
+openings_cut es d m v j code o g l t =
+    let cs = calls_of (Mend v) d.face in
+    let x : Lying = lying.after d (Mend v) in
+    let ds = calls es x.face in
+    elim (cases_lt j (length cs)) [
+      | inl a ↦
+          same_cut (Mend v ∷ es) d.face j (cut_calls j code d cs) (cut_calls j code d (cs ++ ds)) m (cut_first cs ds d j code a) (cut_here (Mend v) es d.face j (cut_calls j code d cs) m v a (mend_cut v d m j code o g.0 a (t.0 a)))
+      | inr b ↦
+          let n = length-append cs ds in
+          let less : j - length cs < length ds = omega (arith, n, l, b) in
+          let rest = scripts_cut es x (ends (Mend v) (begins (Mend v) m)) (j - length cs) code (mend_opens v d m o g.0.calls) g.1 less (t.1 b) in
+          same_cut (Mend v ∷ es) d.face j (cut_calls (j - length cs) code x ds) (cut_calls j code d (cs ++ ds)) m (cut_later cs ds d j code b) (cut_further (Mend v) es d.face j (cut_calls (j - length cs) code x ds) m b rest)
+    ]

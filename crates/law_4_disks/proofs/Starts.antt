@@ -1,0 +1,187 @@
+-- An opening in the world: what is carried out, and a stop in it.
+use Rattle.std.proofs.Common.{ℕ, zero, suc, take, ◌+◌, ◌-◌, ◌≤◌, ◌<◌, ◌≡◌, arith, refl, sym, ap, ◌∙◌, subst, Bool, cond, inl, inr, List, [], ◌∷◌, ◌++◌, length, Option}
+use Rattle.std.proofs.lemmas.Bool.{cases_lt, lt-ltb, le-ltb}
+use Rattle.std.proofs.lemmas.List.{length-append, append_assoc}
+use Rattle.vr_disk.specs.DiskState as disk
+use Rattle.vr_disk.specs.DiskState.{Call, Face}
+use Rattle.vr_disk.proofs.Together.{after_all_append}
+use Rattle.vr_disk.proofs.Stopping.{cuts_both}
+use Rattle.vr_super.specs.Copies.{SuperValue}
+use Rattle.vr_rings.specs.Held.{held_after, held_after_all, held_cut}
+use Rattle.vr_lie.specs.Faults.{held_at}
+use Rattle.vr_rules.specs.Steps.{Effect, Mend, Step, ◌⨾◌, after_all, does}
+use Rattle.vr_rules.specs.Opening.{blank, opening, recover_parts}
+use Rattle.vr_rules.specs.Sectors.{calls, calls_of}
+use Rattle.vr_world.specs.Lying.{Lying, cut_calls, lying}
+use Rattle.vr_world.specs.Group.{Member, carried_out, cut_after, cut_in_two, found, keeps_all, mended, once_mended, opening_script, resumed}
+use Rattle.vr_rules.proofs.Halves.{openings_go_on}
+use Rattle.law_4_disks.specs.Beside.{IsCutAt, IsOff, IsOn, MayGo, TellsIn, begun_before}
+use Rattle.law_4_disks.proofs.Effects.{at_slot}
+use Rattle.law_4_disks.proofs.Scripts.{Same, both_held, openings_cut, same_off, scripts_cut}
+
+pub opening_is : (v : SuperValue) (d : Lying) → let whole : Step = record { replica = (resumed v d).replica; script = opening_script v d } in opening v lying (blank v) d ≡ whole
+unfolding ◌⨾◌
+opening_is v d = openings_go_on lying d v (blank v)
+
+-- ---- calls of two scripts
+
+calls_both : (a b : List Effect) (f : Face) → calls (a ++ b) f ≡ calls a f ++ calls b (disk.after_all f (calls a f))
+unfolding calls
+calls_both [] b f = refl
+calls_both (e ∷ es) b f =
+    let cs = calls_of e f in
+    let x = disk.after_all f cs in
+    ap (λ (ds : List Call). cs ++ ds) (calls_both es b x) ∙ (sym (append_assoc cs (calls es x) (calls b (disk.after_all x (calls es x)))) ∙ ap (λ (y : Face). (cs ++ calls es x) ++ calls b y) (sym (after_all_append cs (calls es x) f)))
+
+face_all : (a : List Effect) (d : Lying) → (after_all lying d a).face ≡ disk.after_all d.face (calls a d.face)
+unfolding after_all calls
+face_all [] d = refl
+face_all (e ∷ es) d = face_all es (lying.after d e) ∙ sym (after_all_append (calls_of e d.face) (calls es (lying.after d e).face) d.face)
+
+held_both : (cs ds : List Call) (f : Face) (slot : ℕ) (held : Option (List ℕ)) → held_after_all f (cs ++ ds) slot held ≡ held_after_all (disk.after_all f cs) ds slot (held_after_all f cs slot held)
+unfolding held_after_all
+held_both [] ds f slot held = refl
+held_both (c ∷ cs) ds f slot held = held_both cs ds (disk.after f c) slot (held_after f c slot held)
+
+held_all : (a : List Effect) (d : Lying) (slot : ℕ) → slot < 64 → held_at (after_all lying d a).held slot ≡ held_after_all d.face (calls a d.face) slot (held_at d.held slot)
+unfolding after_all calls held_after_all
+held_all [] d slot l = refl
+held_all (e ∷ es) d slot l =
+    let cs = calls_of e d.face in
+    let x : Lying = lying.after d e in
+    held_all es x slot l ∙ (ap (held_after_all x.face (calls es x.face) slot) (at_slot (λ slot. held_after_all d.face cs slot (held_at d.held slot)) slot l) ∙ sym (held_both cs (calls es x.face) d.face slot (held_at d.held slot)))
+
+-- a stop in the second of two scripts
+cut_second : (a b : List Effect) (d : Lying) (j code : ℕ) → length (calls a d.face) ≤ j
+    → let x : Lying = after_all lying d a in Same (cut_calls (j - length (calls a d.face)) code x (calls b x.face)) (cut_calls j code d (calls (a ++ b) d.face))
+cut_second a b d j code l =
+    let x : Lying = after_all lying d a in
+    let cs = calls a d.face in
+    let k = j - length cs in
+    let ds = calls b x.face in
+    let all : calls (a ++ b) d.face ≡ cs ++ ds = calls_both a b d.face ∙ ap (λ (y : Face). cs ++ calls b y) (sym (face_all a d)) in
+    record {
+      face = ap (λ (es : List Call). disk.cut j code d.face es) all ∙ ((cuts_both cs ds d.face j code).later l ∙ ap (λ (y : Face). disk.cut k code y ds) (sym (face_all a d)));
+      held = λ slot b0. at_slot (λ slot. held_cut j code d.face (calls (a ++ b) d.face) slot (held_at d.held slot)) slot b0
+          ∙ (ap (λ (es : List Call). held_cut j code d.face es slot (held_at d.held slot)) all
+          ∙ ((both_held cs ds d.face slot (held_at d.held slot) j code).1 l
+          ∙ (ap (λ (y : Face). held_cut k code y ds slot (held_after_all d.face cs slot (held_at d.held slot))) (sym (face_all a d))
+          ∙ (ap (held_cut k code x.face ds slot) (sym (held_all a d slot b0)) ∙ sym (at_slot (λ slot. held_cut k code x.face ds slot (held_at x.held slot)) slot b0)))));
+    }
+
+cut_before : (a b : List Effect) (d : Lying) (j code : ℕ) → j < length (calls a d.face) → Same (cut_calls j code d (calls a d.face)) (cut_calls j code d (calls (a ++ b) d.face))
+cut_before a b d j code l =
+    let cs = calls a d.face in
+    let ds = calls b (disk.after_all d.face cs) in
+    let all = calls_both a b d.face in
+    record {
+      face = ap (λ (es : List Call). disk.cut j code d.face es) all ∙ (cuts_both cs ds d.face j code).first l;
+      held = λ slot b0. at_slot (λ slot. held_cut j code d.face (calls (a ++ b) d.face) slot (held_at d.held slot)) slot b0
+          ∙ (ap (λ (es : List Call). held_cut j code d.face es slot (held_at d.held slot)) all
+          ∙ ((both_held cs ds d.face slot (held_at d.held slot) j code).0 l ∙ sym (at_slot (λ slot. held_cut j code d.face cs slot (held_at d.held slot)) slot b0)));
+    }
+
+pub record IsStartCut (v : SuperValue) (d : Lying) (q : Member) (j code : ℕ) : Type 0 where
+  pub effects : ℕ
+  pub value : SuperValue
+  pub begun : begun_before (opening_script v d) d.face j ≡ take (effects + 1) (opening_script v d)
+  pub off : IsOff (cut_calls j code d (calls (opening_script v d) d.face)) (cut_in_two (mended v d).script (resumed v d).script (keeps_all (found v d)) effects q) value
+
+-- ---- what is begun in two scripts
+
+take_front : {X : Type 0} (k : ℕ) (xs ys : List X) → k ≤ length xs → take k (xs ++ ys) ≡ take k xs
+take_front zero xs ys l = refl
+take_front (suc k) [] ys l = absurd (omega arith)
+take_front (suc k) (x ∷ xs) ys l = ap (λ zs. x ∷ zs) (take_front k xs ys (omega (arith, l)))
+
+take_past : {X : Type 0} (k : ℕ) (xs ys : List X) → take (length xs + k) (xs ++ ys) ≡ xs ++ take k ys
+take_past k [] ys = let e : 0 + k ≡ k = omega arith in ap (λ (n : ℕ). take n ys) e
+take_past k (x ∷ xs) ys = let e : suc (length xs) + k ≡ suc (length xs + k) = omega arith in ap (λ (n : ℕ). take n (x ∷ (xs ++ ys))) e ∙ ap (λ zs. x ∷ zs) (take_past k xs ys)
+
+begun_first : (a b : List Effect) (f : Face) (j : ℕ) → j < length (calls a f) → begun_before (a ++ b) f j ≡ begun_before a f j
+unfolding calls
+begun_first [] b f j l = absurd (omega arith)
+begun_first (e ∷ es) b f j l =
+    let cs = calls_of e f in
+    let x = disk.after_all f cs in
+    let n = length-append cs (calls es x) in
+    elim (cases_lt j (length cs)) [
+      | inl first ↦ rw (lt-ltb j (length cs) first) refl
+      | inr later ↦ rw (le-ltb j (length cs) later) (ap (λ (es : List Effect). e ∷ es) (begun_first es b x (j - length cs) (omega (arith, n, l, later))))
+    ]
+
+begun_later : (a b : List Effect) (f : Face) (j : ℕ) → length (calls a f) ≤ j → begun_before (a ++ b) f j ≡ a ++ begun_before b (disk.after_all f (calls a f)) (j - length (calls a f))
+unfolding calls
+begun_later [] b f j l = let e : j - 0 ≡ j = omega arith in rw e refl
+begun_later (e ∷ es) b f j l =
+    let cs = calls_of e f in
+    let x = disk.after_all f cs in
+    let n = length-append cs (calls es x) in
+    let past : length cs ≤ j = omega (arith, n, l) in
+    let place : j - length cs - length (calls es x) ≡ j - length (cs ++ calls es x) = omega (arith, n, l) in
+    let rest = begun_later es b x (j - length cs) (omega (arith, n, l)) in
+    let end : disk.after_all x (calls es x) ≡ disk.after_all f (cs ++ calls es x) = sym (after_all_append cs (calls es x) f) in
+    rw (le-ltb j (length cs) past)
+    (ap (λ (es : List Effect). e ∷ es) (rest ∙ (ap (λ (y : Face). es ++ begun_before b y (j - length cs - length (calls es x))) end ∙ ap (λ (k : ℕ). es ++ begun_before b (disk.after_all f (cs ++ calls es x)) k) place)))
+
+-- a script that isn't cut is begun as a whole
+pub begun_all : (es : List Effect) (f : Face) (j : ℕ) → length (calls es f) ≤ j → begun_before es f j ≡ es
+unfolding calls
+begun_all [] f j l = refl
+begun_all (e ∷ es) f j l =
+    let cs = calls_of e f in
+    let x = disk.after_all f cs in
+    let n = length-append cs (calls es x) in
+    rw (le-ltb j (length cs) (omega (arith, n, l))) (ap (λ (es : List Effect). e ∷ es) (begun_all es x (j - length cs) (omega (arith, n, l))))
+
+-- ---- what a cut of two scripts meets
+
+tells_first : (a b : List Effect) (d : Lying) (j code : ℕ) → TellsIn (a ++ b) d j code → TellsIn a d j code
+tells_first [] b d j code t = tt
+tells_first (e ∷ es) b d j code t = (t.0, λ l. tells_first es b (lying.after d e) (j - length (calls_of e d.face)) code (t.1 l))
+
+tells_later : (a b : List Effect) (d : Lying) (j code : ℕ) → length (calls a d.face) ≤ j → TellsIn (a ++ b) d j code → TellsIn b (after_all lying d a) (j - length (calls a d.face)) code
+unfolding calls after_all
+tells_later [] b d j code l t = let e : j ≡ j - 0 = omega arith in subst (λ (j : ℕ). TellsIn b d j code) e t
+tells_later (e ∷ es) b d j code l t =
+    let cs = calls_of e d.face in
+    let x : Lying = lying.after d e in
+    let n = length-append cs (calls es x.face) in
+    let place : j - length cs - length (calls es x.face) ≡ j - length (cs ++ calls es x.face) = omega (arith, n, l) in
+    subst (λ (k : ℕ). TellsIn b (after_all lying x es) k code) place (tells_later es b x (j - length cs) code (omega (arith, n, l)) (t.1 (omega (arith, n, l))))
+
+mended_cut : (v : SuperValue) (d : Lying) (q : Member) (j code : ℕ) → IsOff d q v → MayGo (mended v d).script d v → j < length (calls (mended v d).script d.face) → TellsIn (mended v d).script d j code → IsCutAt (mended v d).script d.face j (cut_calls j code d (calls (mended v d).script d.face)) q
+unfolding ◌⨾◌ does
+mended_cut v d q j code o go l t = openings_cut (recover_parts v lying (blank v) (after_all lying d (Mend v ∷ []))).script d q v j code o go l t
+
+pub start_cuts : (v : SuperValue) (d : Lying) (q : Member) (j code : ℕ) → IsOff d q v → MayGo (mended v d).script d v → IsOn (after_all lying d (mended v d).script) (once_mended v d q)
+    → MayGo (resumed v d).script (after_all lying d (mended v d).script) (once_mended v d q).last → j < length (calls (opening_script v d) d.face) → TellsIn (opening_script v d) d j code → IsStartCut v d q j code
+start_cuts v d q j code o go on more l t =
+    let xs = (mended v d).script in
+    let ys = (resumed v d).script in
+    let x : Lying = after_all lying d xs in
+    let f : Member → Member = keeps_all (found v d) in
+    let cs = calls xs d.face in
+    elim (cases_lt j (length cs)) [
+      | inl first ↦
+          let c = mended_cut v d q j code o go first (tells_first xs ys d j code t) in
+          let within = c.within in
+          let begun = begun_first xs ys d.face j first ∙ (c.begun ∙ sym (take_front (c.effects + 1) xs ys (omega (arith, within)))) in
+          let at : cut_in_two xs ys f c.effects q ≡ cut_after c.effects xs q = ap (λ (t : Bool). cond t (cut_after c.effects xs q) (cut_after (c.effects - length xs) ys (f (carried_out xs q)))) (lt-ltb c.effects (length xs) c.within) in
+          record { effects = c.effects; value = c.value; begun = begun; off = subst (λ (p : Member). IsOff (cut_calls j code d (calls (opening_script v d) d.face)) p c.value) (sym at) (same_off (cut_calls j code d cs) (cut_calls j code d (calls (xs ++ ys) d.face)) (cut_after c.effects xs q) c.value (cut_before xs ys d j code first) c.off) }
+      | inr later ↦
+          let ds = calls ys x.face in
+          let k = j - length cs in
+          let all : calls (xs ++ ys) d.face ≡ cs ++ ds = calls_both xs ys d.face ∙ ap (λ (y : Face). cs ++ calls ys y) (sym (face_all xs d)) in
+          let size : length (calls (xs ++ ys) d.face) ≡ length cs + length ds = ap (λ (es : List Call). length es) all ∙ length-append cs ds in
+          let less : k < length ds = omega (arith, size, l, later) in
+          let c = scripts_cut ys x (once_mended v d q) k code on more less (tells_later xs ys d j code later t) in
+          let same : begun_before ys (disk.after_all d.face cs) k ≡ take (c.effects + 1) ys = ap (λ (y : Face). begun_before ys y k) (sym (face_all xs d)) ∙ c.begun in
+          let count : length xs + (c.effects + 1) ≡ length xs + c.effects + 1 = omega arith in
+          let begun = begun_later xs ys d.face j later ∙ (ap (λ (es : List Effect). xs ++ es) same ∙ (sym (take_past (c.effects + 1) xs ys) ∙ ap (λ (n : ℕ). take n (xs ++ ys)) count)) in
+          let n = length xs + c.effects in
+          let back : n - length xs ≡ c.effects = omega arith in
+          let at : cut_in_two xs ys f n q ≡ cut_after c.effects ys (f (carried_out xs q)) =
+          ap (λ (t : Bool). cond t (cut_after n xs q) (cut_after (n - length xs) ys (f (carried_out xs q)))) (le-ltb n (length xs) (omega arith)) ∙ ap (λ (m : ℕ). cut_after m ys (f (carried_out xs q))) back in
+          record { effects = n; value = c.value; begun = begun; off = subst (λ (p : Member). IsOff (cut_calls j code d (calls (opening_script v d) d.face)) p c.value) (sym at) (same_off (cut_calls k code x ds) (cut_calls j code d (calls (xs ++ ys) d.face)) (cut_after c.effects ys (f (carried_out xs q))) c.value (cut_second xs ys d j code later) c.off) }
+    ]

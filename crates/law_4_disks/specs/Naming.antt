@@ -1,0 +1,71 @@
+-- What tells prepares and copies apart: names that don't collide, of what was read, held and written where a script was cut.
+use Rattle.std.specs.Prelude.{ℕ, suc, ◌-◌, ◌≤◌, ◌<◌, ◌≡◌, ◌⊎◌, Bool, List, [], ◌∷◌, Some, drop, length, take}
+use Rattle.vr_disk.specs.DiskState as disk
+use Rattle.vr_disk.specs.DiskState.{Face, IsFace}
+use Rattle.vr_header.specs.Bodies.{operation_bytes}
+use Rattle.vr_header.specs.Made.{Whole}
+use Rattle.vr_header.specs.NoCollision.{NoCollision}
+use Rattle.vr_super.specs.Copies.{SuperValue, named_bytes}
+use Rattle.vr_super.specs.Laws.{TellsApart}
+use Rattle.vr_super.specs.Opens.{copy_reading}
+use Rattle.vr_rings.specs.Laws.{TellsPrepare}
+use Rattle.vr_rings.specs.Slots.{IsWhole, prepare_bytes, whole_in}
+use Rattle.vr_lie.specs.declared.fault.Fault.{Fault}
+use Rattle.vr_lie.specs.Faults.{faulted, held_at}
+use Rattle.vr_rules.specs.Steps.{Effect, Write}
+use Rattle.vr_rules.specs.Sectors.{calls_of}
+use Rattle.vr_world.specs.Lying.{Lying, lying}
+use Rattle.law_4_disks.specs.Beside.{IsInPlay}
+
+-- the bytes of the operation of an entry that reads on this face
+abbrev pub IsReadOperation : Face → List ℕ → Type 0
+IsReadOperation g bytes = (slot : ℕ) × (x : Whole) × (slot < 64) × (whole_in g slot ≡ Some x) × (bytes ≡ operation_bytes x.operation)
+
+-- of an entry that a slot holds
+abbrev pub IsHeldOperation : Lying → List ℕ → Type 0
+IsHeldOperation d bytes = (slot : ℕ) × (x : Whole) × (slot < 64) × IsWhole x × (held_at d.held slot ≡ Some (prepare_bytes x)) × (bytes ≡ operation_bytes x.operation)
+
+-- the text of a copy that reads on this face, after its name
+abbrev pub IsCopyText : Face → List ℕ → Type 0
+IsCopyText g text = (copy : ℕ) × (bytes : List ℕ) × (copy < 4) × (copy_reading g copy ≡ Some bytes) × (text ≡ drop 16 bytes)
+
+-- ---- what they tell
+
+abbrev pub IsNear : Face → Whole → List ℕ → Type 0
+IsNear g e bytes = IsReadOperation g bytes ⊎ (bytes ≡ operation_bytes e.operation)
+
+abbrev pub NamesTell : Type 0
+NamesTell = (g : Face) (slot : ℕ) (e : Whole) → IsFace g → slot < 64 → IsWhole e → NoCollision (IsNear g e) → TellsPrepare g slot (prepare_bytes e)
+
+-- two entries of one header are one
+abbrev pub EntriesTell : Type 0
+EntriesTell = (w e : Whole) → IsWhole w → IsWhole e → NoCollision (λ b. (b ≡ operation_bytes w.operation) ⊎ (b ≡ operation_bytes e.operation)) → w.header ≡ e.header → w ≡ e
+
+abbrev pub ValuesTell : Type 0
+ValuesTell = (g : Face) (v : SuperValue) → NoCollision (λ b. IsCopyText g b ⊎ (b ≡ named_bytes v)) → TellsApart g v
+
+-- ---- what was hashed where a script was cut
+
+-- the faces that an effect comes through where it is cut, by a code, at the call that comes after so many others: after each call
+-- up to that one, and as the cut leaves it
+pub data IsMet (e : Effect) (d : Lying) (j code : ℕ) : Face → Type 0 where
+  after : (k : ℕ) → k < suc j → IsMet e d j code (disk.after_all d.face (take (suc k) (calls_of e d.face)))
+  left : IsMet e d j code (disk.cut j code d.face (calls_of e d.face))
+
+-- what of these reads, what the slots held, and what the effect wrote
+pub data IsHashedBy (e : Effect) (d : Lying) (j code : ℕ) (bytes : List ℕ) : Type 0 where
+  reads : (g : Face) → IsMet e d j code g → IsReadOperation g bytes → IsHashedBy e d j code bytes
+  copies : (g : Face) → IsMet e d j code g → IsCopyText g bytes → IsHashedBy e d j code bytes
+  held : IsHeldOperation d bytes → IsHashedBy e d j code bytes
+  writes : (again : Bool) (x : Whole) → e ≡ Write again x → bytes ≡ operation_bytes x.operation → IsHashedBy e d j code bytes
+  saves : (v : SuperValue) → IsInPlay e v → bytes ≡ named_bytes v → IsHashedBy e d j code bytes
+
+-- of a script: by the effect in which the call comes
+abbrev pub IsHashedIn : List Effect → Lying → ℕ → ℕ → List ℕ → Type 0
+IsHashedIn [] d j code bytes = ⊥
+IsHashedIn (e ∷ es) d j code bytes =
+    ((j < length (calls_of e d.face)) × IsHashedBy e d j code bytes) ⊎ ((length (calls_of e d.face) ≤ j) × IsHashedIn es (lying.after d e) (j - length (calls_of e d.face)) code bytes)
+
+-- and by a fault: what then reads, and what the slots held
+abbrev pub IsHashedAfter : Lying → Fault → List ℕ → Type 0
+IsHashedAfter d fault bytes = IsReadOperation (faulted d.face fault) bytes ⊎ IsHeldOperation d bytes

@@ -1,0 +1,95 @@
+-- What a run of the group hashes was hashed in its lines.
+use Rattle.std.proofs.Common.{ℕ, ◌≡◌, ◌⊎◌, inl, inr, refl, sym, subst, List, [], ◌∷◌, ◌++◌, length, Some}
+use Rattle.std.specs.Prelude.{All, Contains, slice_get}
+use Rattle.std.specs.List.{AllByRecursion}
+use Rattle.std.proofs.lemmas.List.{append-nil}
+use Rattle.std.proofs.lemmas.List.Elements.{All-nil, All-cons, All-contains, All-weaker}
+use Rattle.vr_disk.specs.DiskState.{Face}
+use Rattle.vr_header.specs.declared.header.Header.{Header}
+use Rattle.vr_header.specs.Names.{root_header}
+use Rattle.vr_header.specs.Spelling.{named_bytes}
+use Rattle.vr_world.specs.Group.{Played}
+use Rattle.vr_world.specs.Lying.{Lying, hazards}
+use Rattle.vr_world.specs.Safe as safe
+use Rattle.vr_world.specs.Safe.{faces_of, given, read, wrote}
+use Rattle.vr_rules.specs.Steps.{Effect}
+use Rattle.vr_world.specs.World.{Happening, World, happens}
+use Rattle.law_1_machine.specs.Basics.{In}
+use Rattle.law_4_disks.specs.Worlds.{IsOneMove, begun_in, moved_once, read_in, unmoved}
+use Rattle.law_3_outputs.proofs.Sets.{in_contains}
+use Rattle.law_3_outputs.proofs.Traces.{in_either}
+use Rattle.law_6_one_log.specs.Schedules.{IsHashedOf, IsUsedAt}
+
+all_in : {X : Type 0} (xs : List X) → All (λ x. In x xs) xs
+all_in [] = All-nil (λ x. In x [])
+all_in {X} (y ∷ ys) = All-cons (λ x. In x (y ∷ ys)) y ys (inl refl) (All-weaker (λ (x : X). In x ys) (λ x. In x (y ∷ ys)) (λ x i. inr i) ys (all_in ys))
+
+pub contains_in : {X : Type 0} (xs : List X) (x : X) → Contains xs x → In x xs
+contains_in xs x h = All-contains (λ y. In y xs) xs x (all_in xs) h
+
+pub contains_none : {X : Type 0} (x : X) → Contains [] x → ⊥
+contains_none x h = contains_in [] x h
+
+-- ---- of one move
+
+faces_in : (fs : List Face) (p q : Played) (f : Face) → (faces_of p.move ≡ []) ⊎ (faces_of p.move ≡ fs) → q ≡ p → Contains (faces_of q.move) f → Contains fs f
+faces_in fs p q f (inl none) same c = absurd (contains_none f (subst (λ (gs : List Face). Contains gs f) none (subst (λ (z : Played). Contains (faces_of z.move) f) same c)))
+faces_in fs p q f (inr all) same c = subst (λ (gs : List Face). Contains gs f) all (subst (λ (z : Played). Contains (faces_of z.move) f) same c)
+
+effects_in : (es : List Effect) (p q : Played) (e : Effect) → p.moved.script ≡ es → q ≡ p → Contains q.moved.script e → Contains es e
+effects_in es p q e is same c = subst (λ (xs : List Effect). Contains xs e) is (subst (λ (z : Played). Contains z.moved.script e) same c)
+
+played : (past : List Played) (p q : Played) → Contains (past ++ p ∷ []) q → Contains past q ⊎ (q ≡ p)
+played past p q c =
+    elim (in_either past (p ∷ []) q (contains_in (past ++ p ∷ []) q c)) [
+      | inl old ↦ inl (in_contains past q old)
+      | inr new ↦ elim new [ inl same ↦ inr same | inr none ↦ absurd none ]
+    ]
+
+module _ (w : World Lying) (x : Happening) where
+  pub used : (past run : List Played) → IsOneMove (begun_in w x) (read_in w x) run → (c : Header) (bytes : List ℕ) → safe.IsHashed (past ++ run) c bytes → safe.IsHashed past c bytes ⊎ IsUsedAt w x bytes
+  used past _ (unmoved none) c bytes h = inl (subst (λ (ps : List Played). safe.IsHashed ps c bytes) (append-nil past) h)
+  used past _ (moved_once p script faces) c bytes (read q f _ i j r) =
+      elim (played past p q i) [
+        | inl old ↦ inl (read q f bytes old j r)
+        | inr same ↦ inr (inl (f, faces_in (read_in w x) p q f faces same j, r))
+      ]
+  used past _ (moved_once p script faces) c bytes (wrote q e _ i j r) =
+      elim (played past p q i) [
+        | inl old ↦ inl (wrote q e bytes old j r)
+        | inr same ↦ inr (inr (e, effects_in (begun_in w x) p q e script same j, r))
+      ]
+  used past _ (moved_once p script faces) c _ given = inl given
+
+-- ---- of all that came before, and of none
+
+pub hashed_both : (a b : List Played) (c : Header) (bytes : List ℕ) → safe.IsHashed (a ++ b) c bytes → safe.IsHashed a c bytes ⊎ safe.IsHashed b c bytes
+hashed_both a b c bytes (read q f _ i j r) =
+    elim (in_either a b q (contains_in (a ++ b) q i)) [
+      | inl first ↦ inl (read q f bytes (in_contains a q first) j r)
+      | inr later ↦ inr (read q f bytes (in_contains b q later) j r)
+    ]
+hashed_both a b c bytes (wrote q e _ i j r) =
+    elim (in_either a b q (contains_in (a ++ b) q i)) [
+      | inl first ↦ inl (wrote q e bytes (in_contains a q first) j r)
+      | inr later ↦ inr (wrote q e bytes (in_contains b q later) j r)
+    ]
+hashed_both a b c _ given = inl given
+
+last_at : (past : List Played) (p : Played) → slice_get (past ++ p ∷ []) (length past) ≡ Some p
+last_at [] p = refl
+last_at (q ∷ past) p = last_at past p
+
+-- the effects that are begun in a line are those of its move
+pub begun_so : (P : Effect → Type 0) (past run : List Played) (es : List Effect) (fs : List Face) → IsOneMove es fs run → ((t : ℕ) (p : Played) → slice_get (past ++ run) t ≡ Some p → AllByRecursion P p.moved.script) → AllByRecursion P es
+begun_so P past _ es fs (unmoved none) all = subst (AllByRecursion P) (sym none) tt
+begun_so P past _ es fs (moved_once p script faces) all = subst (AllByRecursion P) script (all (length past) p (last_at past p))
+
+pub root_hashed : (home : ℕ) (xs : List Happening) (w : World Lying) → IsHashedOf home w xs (named_bytes (root_header home))
+root_hashed home [] w = refl
+root_hashed home (x ∷ xs) w = inr (root_hashed home xs (happens hazards w x).world)
+
+pub none_hashed : (home : ℕ) (xs : List Happening) (w : World Lying) (bytes : List ℕ) → safe.IsHashed [] (root_header home) bytes → IsHashedOf home w xs bytes
+none_hashed home xs w bytes (read q f _ i j r) = absurd (contains_none q i)
+none_hashed home xs w bytes (wrote q e _ i j r) = absurd (contains_none q i)
+none_hashed home xs w _ given = root_hashed home xs w

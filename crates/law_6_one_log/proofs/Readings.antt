@@ -1,0 +1,123 @@
+-- What reads on a sealed disk as a header, as an entry or as a block.
+use Rattle.std.proofs.Common.{ℕ, zero, suc, ◌+◌, ◌*◌, ◌≤◌, ◌<◌, ◌≡◌, ◌&&◌, inl, inr, arith, refl, sym, ap, ◌∙◌, subst, true, false, cond, List, [], ◌∷◌, ◌++◌, take, drop, Option, Some, None}
+use Rattle.std.specs.Prelude.{Contains, is_some, nat_lt, ◌%◌, ◌==◌}
+use Rattle.std.specs.Option.{option_and_then}
+use Rattle.std.proofs.lemmas.Bool.{and_parts, eqb-true, ltb-true}
+use Rattle.std.proofs.lemmas.List.{drop_at, take_at, take-append-le}
+use Rattle.vr_base.specs.Bytes.{IsBytes, piece}
+use Rattle.vr_base.proofs.Places.{drop_both}
+use Rattle.vr_disk.specs.DiskState.{Face, IsFace, reads}
+use Rattle.vr_disk.specs.Regions.{block_place, header_place, prepare_place}
+use Rattle.vr_disk.specs.Sectors.{behind, together}
+use Rattle.vr_disk.proofs.Together.{together_cons, together_first}
+use Rattle.vr_header.specs.declared.header.Header.{Header}
+use Rattle.vr_header.specs.Made.{Whole, is_entry_header}
+use Rattle.vr_header.specs.Spelling.{IsHeader, Spells}
+use Rattle.vr_header.proofs.EntryLaws.{is_entry_header_of}
+use Rattle.vr_header.proofs.HeaderLaws.{decoded_again}
+use Rattle.vr_super.specs.Copies.{SuperValue}
+use Rattle.vr_rings.specs.Slots.{header_in, prepare_bytes, sector_of, whole_in}
+use Rattle.vr_rings.proofs.Spelling.{prepare_spells, sector_spells}
+use Rattle.vr_ckpt.specs.Blocks.{named}
+use Rattle.vr_ckpt.specs.Grid.{block_reading, named_at}
+use Rattle.vr_ckpt.specs.declared.name.Name.{Name}
+use Rattle.vr_rules.specs.Opening.{is_right, may_be}
+use Rattle.vr_rules.specs.Sectors.{block_in}
+use Rattle.law_1_machine.specs.Basics.{In}
+use Rattle.law_4_disks.specs.Beside.{AreMade}
+use Rattle.law_4_disks.proofs.Found.{read_header, read_whole}
+use Rattle.law_4_disks.proofs.Loading.{block_are}
+use Rattle.law_5_seals.specs.Seals.{HasSectors, IsSealed, spelled_from}
+use Rattle.law_5_seals.proofs.Contents.{has_at}
+use Rattle.law_6_one_log.specs.Bridged.{IsSealedBlock}
+
+pub contains_of : (made : List Header) (h : Header) → In h made → Contains made h
+contains_of [] h i = absurd i
+contains_of (y ∷ ys) h (inl e) = (0, omega arith, sym e)
+contains_of (y ∷ ys) h (inr i) = let c = contains_of ys h i in let l = c.1 in (suc c.0, omega (arith, l), c.2)
+
+-- ---- several sectors together
+
+pub behind_parts : (a r : Option (List ℕ)) (b : List ℕ) → behind a r ≡ Some b → (x : List ℕ) × (y : List ℕ) × (a ≡ Some x) × (r ≡ Some y) × (b ≡ x ++ y)
+behind_parts None r b e = absurd cc
+behind_parts (Some x) None b e = absurd cc
+behind_parts (Some x) (Some y) b e = let same : x ++ y ≡ b = cc in (x, y, refl, refl, sym same)
+
+module _ (made : List Header) (f : Face) (s : HasSectors (IsSealed made) f) where
+  -- each of them is sealed
+  pub together_sealed : (n i : ℕ) (b : List ℕ) → i + n ≤ 1424 → together i n f ≡ Some b → (j : ℕ) → j < n → IsSealed made (piece (0 + 512 * j) 512 b)
+  unfolding piece
+  together_sealed zero i b l e j p = absurd (omega (arith, p))
+  together_sealed (suc n) i b l e zero p =
+      let x = behind_parts (reads f i) (together (i + 1) n f) b (sym (together_cons n i f) ∙ e) in
+      let one = (has_at (IsSealed made) f i s (omega (arith, l))).reads x.0 x.2 in
+      let same : x.0 ≡ take 512 b = sym (take_at x.0 x.1 512 one.content.size) ∙ ap (take 512) (sym x.4) in
+      subst (IsSealed made) same one
+  together_sealed (suc n) i b l e (suc j) p =
+      let x = behind_parts (reads f i) (together (i + 1) n f) b (sym (together_cons n i f) ∙ e) in
+      let one = (has_at (IsSealed made) f i s (omega (arith, l))).reads x.0 x.2 in
+      let rest = together_sealed n (i + 1) x.1 (omega (arith, l)) x.3 j (omega (arith, p)) in
+      let place : 512 + (0 + 512 * j) ≡ 0 + 512 * suc j = omega arith in
+      let same : drop (0 + 512 * j) x.1 ≡ drop (0 + 512 * suc j) b =
+      ap (drop (0 + 512 * j)) (sym (drop_at x.0 x.1 512 one.content.size) ∙ ap (drop 512) (sym x.4)) ∙ (drop_both 512 (0 + 512 * j) b ∙ ap (λ (k : ℕ). drop k b) place) in
+      subst (λ (y : List ℕ). IsSealed made (take 512 y)) same rest
+
+  -- ---- a block
+
+  reading_sealed : (address : ℕ) (b : List ℕ) → address < 128 → IsBytes b → block_reading f address ≡ Some b → IsSealedBlock made b
+  unfolding block_reading
+  reading_sealed address b l are e = record { bytes = are; sectors = together_sealed 8 (block_place address) b (omega (arith, l)) e }
+
+  pub block_sealed : (name : Name) (b : List ℕ) → IsFace f → block_in f name ≡ Some b → IsSealedBlock made b
+  unfolding named_at
+  block_sealed name b face e =
+      elim (nat_lt name.address 128) as (λ t. nat_lt name.address 128 ≡ t → cond (is_some (cond t (option_and_then (named name) (block_reading f name.address)) None)) (block_reading f name.address) None ≡ Some b → IsSealedBlock made b) [
+        | false ↦ λ t q. absurd cc
+        | true ↦ λ t q. elim (is_some (option_and_then (named name) (block_reading f name.address))) as (λ s. cond s (block_reading f name.address) None ≡ Some b → IsSealedBlock made b) [
+          | false ↦ λ p. absurd cc
+          | true ↦ λ p. reading_sealed name.address b (ltb-true name.address 128 t) (block_are f name b face e) p
+        ] q
+      ] refl e
+
+  -- ---- a header, and an entry
+
+  spelled_made : (b : List ℕ) (h : Header) → IsSealed made b → IsHeader h → Spells h b → is_entry_header h ≡ true → h.op < spelled_from h.cluster → In h made
+  spelled_made b h x i spells entry low = x.front h (record { reads = decoded_again h b i spells; entry = entry; low = low })
+
+  pub header_made : (slot : ℕ) (h : Header) → IsFace f → slot < 64 → header_in f slot ≡ Some h → is_entry_header h ≡ true → h.op < spelled_from h.cluster → In h made
+  header_made slot h face l e entry low =
+      let r = read_header f slot h face l e in
+      spelled_made (sector_of h) h ((has_at (IsSealed made) f (header_place slot) s (omega (arith, l))).reads (sector_of h) r.reads) r.header (sector_spells h r.header) entry low
+
+  pub entry_made : (slot : ℕ) (e : Whole) → IsFace f → slot < 64 → whole_in f slot ≡ Some e → e.header.op < spelled_from e.header.cluster → In e.header made
+  entry_made slot e face l w low =
+      let r = read_whole f slot e face l w in
+      let x = together_first 3 (prepare_place slot) f (prepare_bytes e) r.reads in
+      let one = (has_at (IsSealed made) f (prepare_place slot) s (omega (arith, l))).reads x.first x.reads in
+      let size = one.content.size in
+      let spells : Spells e.header x.first = sym (take-append-le 128 x.first x.rest (omega (arith, size))) ∙ (ap (take 128) (sym x.whole) ∙ prepare_spells e r.whole.header) in
+      spelled_made x.first e.header one r.whole.header spells (is_entry_header_of e.header r.whole.entry.header) low
+
+  -- ---- so nothing is forged
+
+  record FitsIn (v : SuperValue) (k : ℕ) (h : Header) : Type 0 where
+    entry : is_entry_header h ≡ true
+    group : h.cluster ≡ v.fields.cluster
+    op : h.op ≡ k
+
+  fits_parts : (v : SuperValue) (k : ℕ) (h : Header) → may_be v k h ≡ true → FitsIn v k h
+  fits_parts v k h e =
+      let a = and_parts (is_entry_header h) ((h.cluster == v.fields.cluster) && ((h.op == k) && is_right v k h)) e in
+      let b = and_parts (h.cluster == v.fields.cluster) ((h.op == k) && is_right v k h) a.1 in
+      let c = and_parts (h.op == k) (is_right v k h) b.1 in
+      record { entry = a.0; group = eqb-true h.cluster v.fields.cluster b.0; op = eqb-true h.op k c.0 }
+
+  low_in : (v : SuperValue) (k : ℕ) (h : Header) → FitsIn v k h → k ≤ v.fields.checkpoint + 64 → v.fields.checkpoint + 64 < spelled_from v.fields.cluster → h.op < spelled_from h.cluster
+  low_in v k h p b low = let op = p.op in subst (λ (n : ℕ). h.op < spelled_from n) (sym p.group) (omega (arith, op, b, low))
+
+  -- where an opening looks for it, below the ops that sessions could spell
+  pub found_made : (v : SuperValue) (held : List (Option (List ℕ))) → IsFace f → v.fields.checkpoint + 64 < spelled_from v.fields.cluster → AreMade made v (record { face = f; held = held })
+  found_made v held face low = record {
+    header = λ k h a b e fits. (let p = fits_parts v k h fits in contains_of made h (header_made (k % 64) h face (omega arith) e p.entry (low_in v k h p b low)));
+    entry = λ k x a b e fits. (let p = fits_parts v k x.header fits in contains_of made x.header (entry_made (k % 64) x face (omega arith) e (low_in v k x.header p b low)));
+  }

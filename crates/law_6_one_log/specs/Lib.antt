@@ -1,0 +1,9 @@
+pub mod FollowLaws
+pub mod Hashed
+pub mod ReplyLaws
+pub mod CheckpointLaws
+pub mod Bridged
+pub mod Schedules
+pub mod ScheduleLaws
+pub mod Outputs
+pub mod Laws

@@ -1,0 +1,240 @@
+-- What effects leave of the blocks of the grid, and of the copies of the superblock.
+use Rattle.std.proofs.Common.{arith, ℕ, zero, suc, ◌+◌, ◌*◌, ◌≡◌, ◌≢◌, ◌<◌, ◌≤◌, ◌∙◌, ◌⊎◌, inl, inr, refl, sym, ap, subst, Bool, true, false, cond, List, [], ◌∷◌, ◌++◌, length, Option, Some, None, is_some}
+use Rattle.std.specs.Prelude.{nat_lt}
+use Rattle.std.specs.List.{AllByRecursion}
+use Rattle.std.specs.Option.{option_and_then}
+use Rattle.std.proofs.lemmas.Bool.{cases_eq, cases_lt, lt-ltb}
+use Rattle.std.proofs.lemmas.Nat.{mod_below}
+use Rattle.vr_disk.specs.DiskState as disk
+use Rattle.vr_disk.specs.DiskState.{Call, Face, Sync}
+use Rattle.vr_disk.specs.Regions.{block_place}
+use Rattle.vr_disk.specs.Sectors.{behind, has, together}
+use Rattle.vr_disk.specs.Stops.{Spares}
+use Rattle.vr_disk.proofs.Together.{after_all_append, has_is, length_after_all, spares_append, together_same, together_synced, within_spares}
+use Rattle.vr_ckpt.specs.Blocks.{named}
+use Rattle.vr_ckpt.specs.Grid.{block_calls, block_reading, named_at, put_calls}
+use Rattle.vr_ckpt.specs.declared.name.Name.{Name}
+use Rattle.vr_ckpt.proofs.Puts.{block_within, name_fits, written_reads}
+use Rattle.vr_header.specs.declared.header.Header.{Header}
+use Rattle.vr_header.specs.Made.{Whole}
+use Rattle.vr_ckpt.specs.Saves.{blocks_calls, save_calls, written}
+use Rattle.vr_rings.specs.Calls.{header_calls, prepare_calls}
+use Rattle.vr_super.specs.Calls.{copy_calls, mend_calls, mend_copy, mend_from, mend_unless, save_from}
+use Rattle.vr_super.specs.Copies.{IsGood, SuperValue, copy_bytes}
+use Rattle.vr_super.specs.Laws.{AllRead}
+use Rattle.vr_super.specs.Opens.{copy_reading}
+use Rattle.vr_super.proofs.Format.{length-copy_bytes}
+use Rattle.vr_super.proofs.Keeping.{copy_done, mend_done}
+use Rattle.vr_super.proofs.Readings.{copy_within, mend_within, other_after}
+use Rattle.vr_world.specs.Lying.{lying}
+use Rattle.vr_rules.specs.Sectors.{block_in, calls_of, sectors}
+use Rattle.vr_rules.specs.Steps.{Effect, Write, Rewrite, Save, Mend, Checkpoint, PutBlock, Say, Setting}
+use Rattle.vr_rules.proofs.FitDisks.{block_spares, blocks_spare, header_spares, mend_spares, prepare_spares, same_reads, save_spares}
+use Rattle.law_8_repair.proofs.Disks.{IsLong}
+use Rattle.law_8_repair.proofs.Standing.{SparesGrid}
+
+-- ---- a disk that holds what was put and saved
+
+-- effects that neither save nor mend
+abbrev pub SparesCopies : Effect → Type 0
+SparesCopies (Save old new) = ⊥
+SparesCopies (Mend v) = ⊥
+SparesCopies _ = Unit {0}
+
+pub record Holds {F : Type 0} (s : Setting F) (Fine : F → Type 0) (Copies : F → SuperValue → Type 0) : Type 0 where
+  pub block : (f : F) (e : Effect) (name : Name) → SparesGrid e → s.block (s.after f e) name ≡ s.block f name
+  pub put : (f : F) (name : Name) (b : List ℕ) → Fine f → s.is_block name b ≡ true → s.block (s.after f (PutBlock name b)) name ≡ Some b
+  pub beside : (f : F) (name other : Name) (b : List ℕ) → s.is_block name b ≡ true → other.address ≢ name.address → s.block (s.after f (PutBlock name b)) other ≡ s.block f other
+  pub copies : (f : F) (e : Effect) (v : SuperValue) → SparesCopies e → Copies f v → Copies (s.after f e) v
+  pub saved : (f : F) (old new : SuperValue) → Fine f → IsGood new → Copies (s.after f (Save old new)) new
+  pub mended : (f : F) (v : SuperValue) → Fine f → IsGood v → Copies (s.after f (Mend v)) v
+
+-- ---- blocks
+
+-- what the bytes at its address show of a name
+abbrev shown : Name → Option (List ℕ) → Option (List ℕ)
+shown name o = cond (is_some (cond (nat_lt name.address 128) (option_and_then (named name) o) None)) o None
+
+shows : (f : Face) (name : Name) → block_in f name ≡ shown name (block_reading f name.address)
+unfolding named_at
+shows f name = refl
+
+block_spared : (cs : List Call) (f : Face) (name : Name) → ((i : ℕ) → block_place name.address ≤ i → i < block_place name.address + 8 → AllByRecursion (Spares i) cs)
+    → block_in (disk.after_all f cs) name ≡ block_in f name
+unfolding block_reading
+block_spared cs f name h =
+    let same : block_reading (disk.after_all f cs) name.address ≡ block_reading f name.address =
+    together_same 8 (block_place name.address) f (disk.after_all f cs) (λ k a b. same_reads cs f k (h k a b)) in
+    shows (disk.after_all f cs) name ∙ (ap (shown name) same ∙ sym (shows f name))
+
+header_high : (h : Header) (i : ℕ) → 400 ≤ i → AllByRecursion (Spares i) (header_calls h)
+header_high h i l = let b = mod_below h.op 64 (omega arith) in header_spares h i (λ q. omega (arith, q, b, l))
+
+prepare_high : (e : Whole) (i : ℕ) → 400 ≤ i → AllByRecursion (Spares i) (prepare_calls e)
+prepare_high e i l = let b = mod_below e.header.op 64 (omega arith) in prepare_spares e i (inr (omega (arith, b, l)))
+
+grid_spared : (e : Effect) (f : Face) (i : ℕ) → SparesGrid e → 400 ≤ i → AllByRecursion (Spares i) (calls_of e f)
+grid_spared (Write true e) f i h l = spares_append i (header_calls e.header) (prepare_calls e) (header_high e.header i l) (prepare_high e i l)
+grid_spared (Write false e) f i h l = spares_append i (prepare_calls e) (header_calls e.header) (prepare_high e i l) (header_high e.header i l)
+grid_spared (Rewrite x) f i h l = header_high x i l
+grid_spared (Save old new) f i h l = spares_append i (mend_calls old f) (save_from 0 4 (copy_bytes new)) (mend_spares 4 0 i (copy_bytes old) f (omega arith) (omega (arith, l))) (save_spares 4 0 i (copy_bytes new) (omega arith) (omega (arith, l)))
+grid_spared (Mend v) f i h l = mend_spares 4 0 i (copy_bytes v) f (omega arith) (omega (arith, l))
+grid_spared (Checkpoint cluster texts op old) f i h l = absurd h
+grid_spared (PutBlock name block) f i h l = absurd h
+grid_spared (Say o) f i h l = tt
+
+block_kept : (f : Face) (e : Effect) (name : Name) → SparesGrid e → block_in (disk.after_all f (calls_of e f)) name ≡ block_in f name
+block_kept f e name h = block_spared (calls_of e f) f name (λ i a b. grid_spared e f i h (omega (arith, a)))
+
+pub grid_reads : (f : Face) (e : Effect) (address : ℕ) → SparesGrid e → block_reading (disk.after_all f (calls_of e f)) address ≡ block_reading f address
+unfolding block_reading
+grid_reads f e address h = together_same 8 (block_place address) f (disk.after_all f (calls_of e f)) (λ k a b. same_reads (calls_of e f) f k (grid_spared e f k h (omega (arith, a))))
+
+put_reads : (f : Face) (name : Name) (b : List ℕ) → IsLong f → is_some (named name b) ≡ true → block_in (disk.after_all f (put_calls name.address b)) name ≡ Some b
+unfolding put_calls block_reading
+put_reads f name b long whole =
+    let fits = name_fits name b whole in
+    let calls = block_calls name.address b in
+    let g : Face = disk.after_all f (calls ++ Sync ∷ []) in
+    let reading : block_reading g name.address ≡ Some b =
+    ap (together (block_place name.address) 8) (after_all_append calls (Sync ∷ []) f)
+    ∙ (together_synced 8 (block_place name.address) (disk.after_all f calls) ∙ written_reads name.address b f fits.0 fits.1 long) in
+    shows g name ∙ (ap (shown name) reading
+    ∙ (ap (λ (t : Bool). cond (is_some (cond t (named name b) None)) (Some b) None) (lt-ltb name.address 128 fits.0) ∙ ap (λ (t : Bool). cond t (Some b) None) whole))
+
+put_beside : (f : Face) (name other : Name) (b : List ℕ) → is_some (named name b) ≡ true → other.address ≢ name.address
+    → block_in (disk.after_all f (put_calls name.address b)) other ≡ block_in f other
+unfolding put_calls
+put_beside f name other b whole apart =
+    let low = block_place name.address in
+    let calls = block_calls name.address b in
+    block_spared (calls ++ Sync ∷ []) f other (λ i x y.
+    let outside : (i < low) ⊎ (low + 8 ≤ i) = elim (cases_lt other.address name.address) [
+      | inl before ↦ inl (omega (arith, y, before))
+      | inr behind ↦ inr (omega (arith, x, behind, apart))
+    ] in
+    spares_append i calls (Sync ∷ []) (within_spares low (low + 8) calls i (block_within name.address b) outside) (tt, tt))
+
+-- ---- copies
+
+copies_spared : (cs : List Call) (f : Face) (v : SuperValue) → ((i : ℕ) → i < 80 → AllByRecursion (Spares i) cs) → AllRead f v → AllRead (disk.after_all f cs) v
+unfolding copy_reading
+copies_spared cs f v h read = λ c l. together_same 20 (20 * c) f (disk.after_all f cs) (λ k a b. same_reads cs f k (h k (omega (arith, b, l)))) ∙ read c l
+
+header_low : (h : Header) (i : ℕ) → i < 80 → AllByRecursion (Spares i) (header_calls h)
+header_low h i l = header_spares h i (λ q. omega (arith, q, l))
+
+prepare_low : (e : Whole) (i : ℕ) → i < 80 → AllByRecursion (Spares i) (prepare_calls e)
+prepare_low e i l = prepare_spares e i (inl (omega (arith, l)))
+
+low_spared : (e : Effect) (f : Face) (i : ℕ) → SparesCopies e → i < 80 → AllByRecursion (Spares i) (calls_of e f)
+unfolding put_calls save_calls
+low_spared (Write true e) f i h l = spares_append i (header_calls e.header) (prepare_calls e) (header_low e.header i l) (prepare_low e i l)
+low_spared (Write false e) f i h l = spares_append i (prepare_calls e) (header_calls e.header) (prepare_low e i l) (header_low e.header i l)
+low_spared (Rewrite x) f i h l = header_low x i l
+low_spared (Save old new) f i h l = absurd h
+low_spared (Mend v) f i h l = absurd h
+low_spared (Checkpoint cluster texts op old) f i h l =
+    spares_append i (blocks_calls (written cluster texts op old)) (Sync ∷ []) (blocks_spare (written cluster texts op old) i (omega (arith, l))) (tt, tt)
+low_spared (PutBlock name block) f i h l = spares_append i (block_calls name.address block) (Sync ∷ []) (block_spares name.address i block (omega (arith, l))) (tt, tt)
+low_spared (Say o) f i h l = tt
+
+copies_kept : (f : Face) (e : Effect) (v : SuperValue) → SparesCopies e → AllRead f v → AllRead (disk.after_all f (calls_of e f)) v
+copies_kept f e v h read = copies_spared (calls_of e f) f v (λ i l. low_spared e f i h l) read
+
+-- so many copies read as these bytes
+record ReadTo (bytes : List ℕ) (k : ℕ) (f : Face) : Type 0 where
+  count : IsLong f
+  done : (c : ℕ) → c < k → copy_reading f c ≡ Some bytes
+
+saves_read : (n k : ℕ) (bytes : List ℕ) (f : Face) → length bytes ≡ 10240 → k + n ≡ 4 → ReadTo bytes k f → ReadTo bytes 4 (disk.after_all f (save_from k n bytes))
+unfolding save_from
+saves_read zero k bytes f size e to = let four : k ≡ 4 = omega (arith, e) in subst (λ c. ReadTo bytes c f) four to
+saves_read (suc n) k bytes f size e to =
+    let calls = copy_calls k bytes in
+    let g : Face = disk.after_all f calls in
+    let low : k < 4 = omega (arith, e) in
+    let next : ReadTo bytes (k + 1) g = record {
+      count = length_after_all calls f ∙ to.count;
+      done = λ c l. elim (cases_eq c k) [
+        | inl same ↦ ap (copy_reading g) same ∙ copy_done bytes f k size to.count low
+        | inr other ↦ other_after calls f k c (copy_within k bytes) (λ s. other (sym s)) ∙ to.done c (omega (arith, l, other))
+      ];
+    } in
+    subst (ReadTo bytes 4) (sym (after_all_append calls (save_from (k + 1) n bytes) f)) (saves_read n (k + 1) bytes g size (omega (arith, e)) next)
+
+saved_reads : (f : Face) (old new : SuperValue) → IsLong f → IsGood new → AllRead (disk.after_all f (calls_of (Save old new) f)) new
+saved_reads f old new long good =
+    let bytes = copy_bytes new in
+    let g : Face = disk.after_all f (mend_calls old f) in
+    let start : ReadTo bytes 0 g = record { count = length_after_all (mend_calls old f) f ∙ long; done = λ c l. absurd (omega (arith, l)) } in
+    let all = saves_read 4 0 bytes g (length-copy_bytes new good) (omega arith) start in
+    λ c l. ap (λ (x : Face). copy_reading x c) (after_all_append (mend_calls old f) (save_from 0 4 bytes) f) ∙ all.done c l
+
+-- the copies after those read as they did
+record MendedTo (bytes : List ℕ) (f : Face) (k : ℕ) (g : Face) : Type 0 where
+  to : ReadTo bytes k g
+  left : (c : ℕ) → k ≤ c → c < 4 → copy_reading g c ≡ copy_reading f c
+
+mended_next : (bytes : List ℕ) (f g : Face) (k : ℕ) → length bytes ≡ 10240 → k < 4 → MendedTo bytes f k g → MendedTo bytes f (k + 1) (disk.after_all g (mend_unless k bytes f))
+mended_next bytes f g k size low m =
+    elim (has bytes (copy_reading f k)) as (λ b. has bytes (copy_reading f k) ≡ b → MendedTo bytes f (k + 1) (disk.after_all g (cond b [] (mend_copy k bytes)))) [
+      | true ↦ λ h. record {
+        to = record {
+          count = m.to.count;
+          done = λ c a. elim (cases_eq c k) [
+            | inl e ↦ ap (copy_reading g) e ∙ (m.left k (omega arith) low ∙ has_is bytes (copy_reading f k) h)
+            | inr d ↦ m.to.done c (omega (arith, a, d))
+          ];
+        };
+        left = λ c a b. m.left c (omega (arith, a)) b;
+      }
+      | false ↦ λ h.
+          let calls = mend_copy k bytes in
+          let within = mend_within k bytes in
+          record {
+            to = record {
+              count = length_after_all calls g ∙ m.to.count;
+              done = λ c a. elim (cases_eq c k) [
+                | inl e ↦ ap (copy_reading (disk.after_all g calls)) e ∙ mend_done bytes g k size m.to.count low
+                | inr d ↦ other_after calls g k c within (λ s. d (sym s)) ∙ m.to.done c (omega (arith, a, d))
+              ];
+            };
+            left = λ c a b. other_after calls g k c within (λ s. absurd (omega (arith, a, s))) ∙ m.left c (omega (arith, a)) b;
+          }
+    ] refl
+
+mends_read : (n k : ℕ) (bytes : List ℕ) (f g : Face) → length bytes ≡ 10240 → k + n ≡ 4 → MendedTo bytes f k g → MendedTo bytes f 4 (disk.after_all g (mend_from k n bytes f))
+unfolding mend_from
+mends_read zero k bytes f g size e m = let four : k ≡ 4 = omega (arith, e) in subst (λ c. MendedTo bytes f c g) four m
+mends_read (suc n) k bytes f g size e m =
+    let calls = mend_unless k bytes f in
+    let next = mended_next bytes f g k size (omega (arith, e)) m in
+    subst (MendedTo bytes f 4) (sym (after_all_append calls (mend_from (k + 1) n bytes f) g)) (mends_read n (k + 1) bytes f (disk.after_all g calls) size (omega (arith, e)) next)
+
+mended_reads : (f : Face) (v : SuperValue) → IsLong f → IsGood v → AllRead (disk.after_all f (mend_calls v f)) v
+mended_reads f v long good =
+    let start : MendedTo (copy_bytes v) f 0 f = record { to = record { count = long; done = λ c l. absurd (omega (arith, l)) }; left = λ c a b. refl } in
+    (mends_read 4 0 (copy_bytes v) f f (length-copy_bytes v good) (omega arith) start).to.done
+
+-- ---- the disks of the program
+
+pub sectors_hold : Holds sectors IsLong AllRead
+sectors_hold = record {
+  block = block_kept;
+  put = put_reads;
+  beside = put_beside;
+  copies = copies_kept;
+  saved = saved_reads;
+  mended = mended_reads;
+}
+
+pub lying_holds : Holds lying (λ d. IsLong d.face) (λ d. AllRead d.face)
+lying_holds = record {
+  block = λ d e name h. block_kept d.face e name h;
+  put = λ d name b long whole. put_reads d.face name b long whole;
+  beside = λ d name other b whole apart. put_beside d.face name other b whole apart;
+  copies = λ d e v h read. copies_kept d.face e v h read;
+  saved = λ d old new long good. saved_reads d.face old new long good;
+  mended = λ d v long good. mended_reads d.face v long good;
+}

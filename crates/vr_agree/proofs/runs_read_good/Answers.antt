@@ -1,5 +1,0 @@
-use Rattle.vr_agree.proofs.Reading.{runs_read}
-use Rattle.vr_agree.proofs.runs_read_good.Goals as goal
-
-pub returns : goal.returns
-returns _ = λ cluster n run x t p is c j. runs_read cluster n run x t p is c j

@@ -1,5 +1,0 @@
-use Rattle.vr_agree.proofs.Answers.{right_react}
-use Rattle.vr_agree.proofs.steps_answer.Goals as goal
-
-pub returns : goal.returns
-returns g _ = λ log numbers s r f e within puts had lined. right_react log numbers s r f within e puts had lined

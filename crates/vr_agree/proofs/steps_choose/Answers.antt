@@ -1,5 +1,0 @@
-use Rattle.vr_agree.proofs.Picking.{chosen_by}
-use Rattle.vr_agree.proofs.steps_choose.Goals as goal
-
-pub returns : goal.returns
-returns g _ = λ s r f e sound l i. chosen_by s r f sound e l i

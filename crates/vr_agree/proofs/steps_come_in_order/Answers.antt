@@ -1,5 +1,0 @@
-use Rattle.vr_agree.proofs.Ordering.{come_in_order}
-use Rattle.vr_agree.proofs.steps_come_in_order.Goals as goal
-
-pub returns : goal.returns
-returns g _ = λ s r f e names sound came. come_in_order s r f e names sound came

@@ -1,7 +1,0 @@
-pub mod Followed
-pub mod Answering
-pub mod Replied
-pub mod Picked
-pub mod Laws
-pub mod Written
-pub mod Ordered

@@ -1,0 +1,84 @@
+//! A block as it is written.
+ghost use Rattle.std.specs.Prelude.{◌≡◌, ◌≤◌, ◌<◌, length, IfOk};
+ghost use Rattle.vr_ckpt.specs.Blocks.{block_header, block_of};
+
+use crate::Name;
+use std::alloc::{AllocError, Global};
+use vr_base::{ByteList, Seq, Sum, checksum, sum_at};
+use vr_header::{Command, Header, Size, encode};
+
+/// The kind of a block with a part of a text.
+pub const DATA: u8 = 2;
+
+/// The kind of a block that names the others of its checkpoint.
+pub const ROOT: u8 = 3;
+
+/// How many bytes a block has.
+pub const BLOCK_SIZE: usize = 4096;
+
+/// The greatest number of bytes in a payload.
+pub const PAYLOAD_SIZE: usize = 3968;
+
+/// Where the payload begins in a block.
+pub const PAYLOAD_AT: usize = 128;
+
+/// A block as it is written: its name and its 4,096 bytes.
+#[derive(Debug, Drop, PartialEq, Eq)]
+pub struct Block {
+    pub name: Name,
+    pub bytes: ByteList,
+}
+
+/// The header of a block.
+#[tactic(auto, unfolding(crate::specs::Blocks::block_header))]
+pub(crate) fn block_header(cluster: u64, address: u64, op: u64, kind: u8, payload: &[u8]) -> Header
+    requires { length payload.now ≤ 3968 }
+    ensures { result ≡ block_header (record { cluster = cluster; address = address; op = op; kind = kind; payload = payload.now }) }
+{
+    Header {
+        body: checksum(payload),
+        parent: Sum([0; 16]),
+        request_name: Sum([0; 16]),
+        cluster,
+        client: 0,
+        request: 0,
+        view: 0,
+        op,
+        commit: 0,
+        size: Size::new(128 + payload.len() as u32),
+        command: Command::Block,
+        replica: 0,
+        kind,
+        aux: address,
+    }
+}
+
+impl Block {
+    /// The block of checkpoint `op` at an address below 128, of this kind (`DATA` or `ROOT`), with a payload of at
+    /// most 3,968 bytes.
+    #[tactic(auto, unfolding(crate::specs::Blocks::block_of, crate::specs::Blocks::block_bytes))]
+    pub fn new(
+        alloc: Global,
+        cluster: u64,
+        address: u64,
+        op: u64,
+        kind: u8,
+        payload: &[u8],
+    ) -> Result<Block, AllocError>
+        requires payload { length payload.now ≤ 3968 }
+        ensures value { IfOk result (λ b. b ≡ block_of (record { cluster = cluster; address = address; op = op; kind = kind; payload = payload.now })) }
+        ensures size { IfOk result (λ b. length b.bytes ≡ 4096) }
+    {
+        let header = block_header(cluster, address, op, kind, payload);
+        let front = encode(&header);
+        let sum = sum_at(&front, 0);
+        let mut bytes = Vec::with_capacity(alloc, 4096)?;
+        bytes.extend_from_slice(&front)?;
+        bytes.extend_from_slice(payload)?;
+        bytes.resize(4096, 0)?;
+        Ok(Block {
+            name: Name { address, sum },
+            bytes: Seq::from_vec(bytes),
+        })
+    }
+}

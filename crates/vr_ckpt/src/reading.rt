@@ -1,0 +1,51 @@
+//! Blocks read by their names.
+ghost use Rattle.std.specs.Prelude.{◌≡◌, ◌<◌, ◌≤◌, Some, None, length, if◌then◌else◌, IfOk, IfSome, OnErr, is_ok};
+ghost use Rattle.vr_ckpt.specs.Blocks.{named};
+ghost use Rattle.vr_ckpt.specs.Grid.{IsWhole, block_reading, named_at};
+
+use crate::Name;
+use crate::check::payload_of;
+use vr_disk::{BLOCK_SECTORS, Buffer, Faulty, SectorDisk, block_place, read_sectors};
+
+// Reads the eight sectors of a block; false where one of them can't be read.
+#[tactic(auto, unfolding(crate::specs::Grid::block_reading))]
+fn fill<D: SectorDisk>(disk: &mut D, address: u32, to: &mut [u8]) -> bool
+    requires address { address < 128 }
+    requires size { length to.old ≡ 4096 }
+    ensures told { D.told disk.new ≡ D.told disk.old }
+    ensures faults { D.faults disk.new ≡ D.faults disk.old }
+    ensures reads { D.read_faults disk.old ≤ D.read_faults disk.new }
+    ensures value { IfSome (D.told disk.old) (λ d. block_reading d.face address ≡ (if result then Some to.new else None)) }
+{
+    read_sectors(disk, block_place(address), BLOCK_SECTORS, to)
+}
+
+/// Reads the block of this name; it takes no memory. After an `Ok` the buffer holds the whole block, whose payload begins at byte 128 and has this
+/// length. `Faulty` leaves the buffer as it was.
+pub fn read_block<D: SectorDisk>(
+    disk: &mut D,
+    name: &Name,
+    to: &mut Buffer,
+) -> Result<usize, Faulty>
+    ensures told { D.told disk.new ≡ D.told disk.old }
+    ensures faults { D.faults disk.new ≡ D.faults disk.old }
+    ensures reads { D.read_faults disk.old ≤ D.read_faults disk.new }
+    ensures exact { IfSome (D.told disk.old) (λ d. named_at d.face name.now ≡ (if is_ok result then named name.now to.new else None)) }
+    ensures whole { IfOk result (λ size. IsWhole name.now to.new size) }
+    ensures same { OnErr result (to.new ≡ to.old) }
+{
+    if name.address >= 128 {
+        return Err(Faulty);
+    }
+    let mut bytes = [0; 4096];
+    if !fill(disk, name.address as u32, &mut bytes) {
+        return Err(Faulty);
+    }
+    match payload_of(&bytes, name) {
+        None => Err(Faulty),
+        Some(size) => {
+            to.set(&bytes);
+            Ok(size)
+        }
+    }
+}

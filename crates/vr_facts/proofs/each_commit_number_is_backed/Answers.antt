@@ -1,6 +1,0 @@
-use Rattle.vr_protocol.proofs.Moves.{reached_good}
-use Rattle.vr_facts.proofs.Facts.{backed_numbers}
-use Rattle.vr_facts.proofs.each_commit_number_is_backed.Goals as goal
-
-pub returns : goal.returns
-returns g _ = λ q hs s reached. let b = reached_good q hs s reached in backed_numbers q hs b.0 s b.1

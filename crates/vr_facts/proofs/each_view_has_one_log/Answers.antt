@@ -1,5 +1,0 @@
-use Rattle.vr_facts.proofs.Facts.{one_log}
-use Rattle.vr_facts.proofs.each_view_has_one_log.Goals as goal
-
-pub returns : goal.returns
-returns g _ = λ q hs g s y. one_log q hs g s y

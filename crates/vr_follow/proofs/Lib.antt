@@ -1,3 +1,0 @@
-pub mod Silence
-pub mod Saying
-pub mod Following

@@ -1,4 +1,0 @@
-pub mod Contents
-pub mod Made
-pub mod Puts
-pub mod Readings

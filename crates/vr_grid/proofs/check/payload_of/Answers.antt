@@ -1,6 +1,0 @@
-use Rattle.std.proofs.Common.{◌∙◌, sym}
-use Rattle.vr_grid.proofs.Contents.{no_header}
-use Rattle.vr_grid.proofs.check.payload_of.Goals as goal
-
-pub returns-in-Err : goal.returns-in-Err
-returns-in-Err c = no_header c.args.bytes.now c.args.name.now _ c.requires (sym c.decode.ensures.exact ∙ c.in-Err.is)

@@ -1,4 +1,0 @@
-pub mod Kv
-pub mod Meaning
-pub mod Pairs
-pub mod Places

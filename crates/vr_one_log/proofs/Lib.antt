@@ -1,4 +1,0 @@
-pub mod Closing
-pub mod Known
-pub mod Places
-pub mod Traces

@@ -1,5 +1,0 @@
-use Rattle.vr_protocol.proofs.Growing.{open_shrinks}
-use Rattle.vr_protocol.proofs.nothing_becomes_committable.Goals as goal
-
-pub returns : goal.returns
-returns g _ = λ q hs a b. open_shrinks q hs a b

@@ -1,5 +1,0 @@
-use Rattle.vr_protocol.proofs.Staying.{stays}
-use Rattle.vr_protocol.proofs.nothing_is_taken_back.Goals as goal
-
-pub returns : goal.returns
-returns g _ = λ q hs s s' step. stays q hs s s' step

@@ -1,6 +1,0 @@
-use Rattle.vr_protocol.proofs.Moves.{reached_good}
-use Rattle.vr_protocol.proofs.Laws.{shortening}
-use Rattle.vr_protocol.proofs.only_nack_quorums_shorten.Goals as goal
-
-pub returns : goal.returns
-returns g _ = λ q hs s reached. let b = reached_good q hs s reached in shortening q hs b.0 s b.1

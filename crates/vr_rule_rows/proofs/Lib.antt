@@ -1,0 +1,12 @@
+pub mod Plain
+pub mod Rows
+pub mod Views
+pub mod Windows
+pub mod Long
+pub mod Acting
+pub mod ActingOn
+pub mod Doing
+pub mod DoingMore
+pub mod Opened
+pub mod Cuts
+pub mod Syncs

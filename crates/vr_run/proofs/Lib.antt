@@ -1,2 +1,0 @@
-pub mod Bridging
-pub mod Waking

@@ -1,5 +1,0 @@
-use Rattle.vr_safe.proofs.Opening.{opens}
-use Rattle.vr_safe.proofs.openings_are_chains.Goals as goal
-
-pub returns : goal.returns
-returns g _ = λ u start i l made v t f b. opens u start i l made v t f b

@@ -1,5 +1,0 @@
-use Rattle.vr_seals.proofs.Laws.{seals_last}
-use Rattle.vr_seals.proofs.seals_last.Goals as goal
-
-pub returns : goal.returns
-returns _ = seals_last

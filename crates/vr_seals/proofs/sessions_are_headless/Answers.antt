@@ -1,5 +1,0 @@
-use Rattle.vr_seals.proofs.Spelling.{sessions_are_headless}
-use Rattle.vr_seals.proofs.sessions_are_headless.Goals as goal
-
-pub returns : goal.returns
-returns _ = sessions_are_headless

@@ -1,7 +1,0 @@
--- The client's entry is taken out.
-use Rattle.std.proofs.Common.{◌∙◌}
-use Rattle.vr_sess.proofs.Lookups.{remove_entry_is_without}
-use Rattle.vr_sess.proofs.table.remove.Goals as goal
-
-pub returns : goal.returns
-returns c = c.shift_remove-session.ensures.entries ∙ remove_entry_is_without c.args.client c.args.table.now.entries c.requires

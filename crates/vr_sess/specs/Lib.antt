@@ -1,4 +1,0 @@
-pub mod Asks
-pub mod Effects
-pub mod Sessions
-pub mod Texts

@@ -1,0 +1,13 @@
+pub mod Finite
+pub mod Front
+pub mod Table
+pub mod Kv
+pub mod Meaning
+pub mod Pairs
+pub mod Places
+pub mod Asks
+pub mod Effects
+pub mod Sessions
+pub mod SessionTexts
+pub mod Folds
+pub mod StateTexts

@@ -1,0 +1,78 @@
+//! The bytes of a key with its value.
+ghost use Rattle.std.specs.Prelude.{◌≡◌, ◌++◌, IfOk, OnOk, IsTrue};
+ghost use Rattle.std.specs.Option.{option_map};
+ghost use Rattle.vr_header.specs.Text.{is_text};
+ghost use Rattle.vr_state.specs.Pairs.{pair_text, pieces_from, pair_from};
+
+use crate::{split_byte, split_piece, split_u16};
+use std::alloc::Global;
+use vr_base::{ByteList, NoMemory};
+use vr_header::{Key, Value};
+
+/// A key with its value.
+pub type Pair = (Key, Value);
+
+/// The pieces of a pair, as bytes begin with them.
+#[derive(Clone, Copy)]
+pub struct RawPair<'a> {
+    pub key: &'a [u8],
+    pub value: &'a [u8],
+    /// The bytes behind them.
+    pub rest: &'a [u8],
+}
+
+/// The pieces at the front: the key's length in one byte, the value's in two, the key, the value. `None` exactly
+/// where the bytes end before.
+#[tactic(auto, unfolding(crate::specs::Pairs::pieces_from))]
+fn split_pair(bytes: &[u8]) -> Option<RawPair<'_>>
+    ensures { option_map (λ p. ((p.key.now, p.value.now), p.rest.now)) result ≡ pieces_from bytes.now }
+{
+    let (key_length, rest) = split_byte(bytes)?;
+    let (value_length, rest) = split_u16(rest)?;
+    let (key, rest) = split_piece(rest, key_length as usize)?;
+    let (value, rest) = split_piece(rest, value_length as usize)?;
+    Some(RawPair { key, value, rest })
+}
+
+/// The pair at the front and the bytes behind it, `None` exactly where the bytes don't begin with a pair.
+#[tactic(auto, unfolding(crate::specs::Pairs::pair_from))]
+pub fn read_pair(alloc: Global, bytes: &[u8]) -> Result<Option<(Pair, &[u8])>, NoMemory>
+    ensures { IfOk result (λ r. option_map (λ p. (p.0, p.1.now)) r ≡ pair_from bytes.now) }
+{
+    let Some(raw) = split_pair(bytes) else {
+        return Ok(None);
+    };
+    let Some(key) = Key::read(alloc, raw.key)? else {
+        return Ok(None);
+    };
+    let Some(value) = Value::read(alloc, raw.value)? else {
+        return Ok(None);
+    };
+    Ok(Some(((key, value), raw.rest)))
+}
+
+/// Adds the bytes of a pair at the end.
+#[tactic(auto, using(std::proofs::lemmas::Grind::common_steps, crate::proofs::KvTexts::key_length, crate::proofs::KvTexts::value_length), unfolding(crate::specs::Pairs::pair_text, vr_base::specs::Bytes::bytes16))]
+pub fn write_pair(text: &mut ByteList, pair: &Pair) -> Result<(), NoMemory>
+    ensures { OnOk result (text.new ≡ text.old ++ pair_text pair.now) }
+{
+    let key = pair.0.as_slice();
+    let value = pair.1.as_slice();
+    text.push(key.len() as u8)?;
+    text.extend(&(value.len() as u16).to_be_bytes())?;
+    text.extend(key)?;
+    text.extend(value)?;
+    Ok(())
+}
+
+/// A pair of its own, of a key and a value that are texts.
+pub fn new_pair(alloc: Global, key: &[u8], value: &[u8]) -> Result<Pair, NoMemory>
+    requires key { IsTrue (is_text 64 key.now) }
+    requires value { IsTrue (is_text 1024 value.now) }
+    ensures { IfOk result (λ pair. pair ≡ (key.now, value.now)) }
+{
+    Ok((
+        Key::from_bytes(alloc, key)?,
+        Value::from_bytes(alloc, value)?,
+    ))
+}

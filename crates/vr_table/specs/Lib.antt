@@ -1,3 +1,0 @@
-pub mod Finite
-pub mod Front
-pub mod Table

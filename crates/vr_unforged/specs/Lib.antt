@@ -1,3 +1,0 @@
-pub mod Bridged
-pub mod Schedules
-pub mod Laws

@@ -1,0 +1,4 @@
+pub mod InTwo
+pub mod Premises
+pub mod FitLies
+pub mod FitGroups

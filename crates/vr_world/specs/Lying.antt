@@ -1,0 +1,97 @@
+-- The disk of a world: sectors that may lie, within the premise that what slots hold is never denied.
+use Rattle.std.specs.Prelude.{ℕ, Bool, true, false, not, ◌&&◌, ◌||◌, nat_eq, List, [], ◌∷◌, ◌++◌, length, map, replicate, Option, Some, None, if◌then◌else◌}
+use Rattle.std.specs.List.{list_all, range_with_len}
+use Rattle.std.specs.Option.{option_map_or}
+use Rattle.std.specs.Cmp.Lexicographic.{pointwise}
+use Rattle.vr_base.specs.declared.kind.Kind.{Kind}
+use Rattle.vr_base.specs.declared.mode.Mode.{Mode}
+use Rattle.vr_disk.specs.DiskState as disk
+use Rattle.vr_disk.specs.DiskState.{Call, Cell, Face}
+use Rattle.vr_super.specs.Opens.{good_copies, mode_in, opened}
+use Rattle.vr_rings.specs.Held.{held_after_all, held_cut, looked}
+use Rattle.vr_lie.specs.declared.fault.Fault.{Fault}
+use Rattle.vr_lie.specs.Faults.{faulted, held_at}
+use Rattle.vr_lie.specs.Table.{holds}
+use Rattle.vr_rules.specs.Steps.{Setting}
+use Rattle.vr_rules.specs.Formatting.{format_calls, zero_sector}
+use Rattle.vr_rules.specs.Sectors.{calls, calls_of, sectors}
+use Rattle.vr_world.specs.World.{Hazards}
+
+-- sectors, and the entry that each slot holds, by the bytes of its prepare
+pub record Lying : Type 0 where
+  pub face : Face
+  pub held : List (Option (List ℕ))
+
+abbrev pub each_slot : (ℕ → Option (List ℕ)) → List (Option (List ℕ))
+each_slot f = map f (range_with_len 0 64)
+
+-- ---- calls
+
+abbrev pub after_calls : Lying → List Call → Lying
+after_calls d cs = record {
+  face = disk.after_all d.face cs;
+  held = each_slot (λ slot. held_after_all d.face cs slot (held_at d.held slot));
+}
+
+abbrev pub cut_calls : ℕ → ℕ → Lying → List Call → Lying
+cut_calls j code d cs = record {
+  face = disk.cut j code d.face cs;
+  held = each_slot (λ slot. held_cut j code d.face cs slot (held_at d.held slot));
+}
+
+-- ---- faults
+
+abbrev pub same_value : Option (List ℕ) → Option (List ℕ) → Bool
+same_value None None = true
+same_value None (Some b) = false
+same_value (Some a) None = false
+same_value (Some a) (Some b) = pointwise nat_eq a b
+
+-- where the premise held of a slot's entry, it still holds
+abbrev pub still_holds : Mode → Face → Face → ℕ → Option (List ℕ) → Bool
+still_holds mode f g slot held = option_map_or (λ prepare. not (holds mode f slot prepare) || holds mode g slot prepare) held true
+
+-- the superblock opens as before, and the premise of each slot stands for what it held
+unfoldable pub keeps_premise : Lying → Face → Bool
+keeps_premise d g =
+    same_value (opened (good_copies d.face)) (opened (good_copies g))
+    && list_all (λ slot. still_holds (mode_in d.face) d.face g slot (held_at d.held slot)) (range_with_len 0 64)
+
+abbrev pub lied_to : Lying → Face → Lying
+lied_to d g = record { face = g; held = each_slot (λ slot. looked g slot (held_at d.held slot)) }
+
+unfoldable pub unless_kept_out : Lying → Fault → Option Lying
+unless_kept_out d fault = if keeps_premise d (faulted d.face fault) then Some (lied_to d (faulted d.face fault)) else None
+
+-- ---- a disk before anything was written to it
+
+abbrev pub zero_cell : Cell
+zero_cell = record { truth = zero_sector; reads = Some zero_sector; before = zero_sector }
+
+abbrev pub zero_face : Face
+zero_face = record { cells = replicate 1424 zero_cell; waiting = [] }
+
+-- ---- the disk of a world
+
+abbrev pub lying : Setting Lying
+lying = record {
+  hash = sectors.hash;
+  opens = λ d. sectors.opens d.face;
+  header = λ d. sectors.header d.face;
+  entry = λ d. sectors.entry d.face;
+  is_blank = λ d. sectors.is_blank d.face;
+  block = λ d. sectors.block d.face;
+  is_block = sectors.is_block;
+  loaded = λ d. sectors.loaded d.face;
+  save_state = sectors.save_state;
+  after = λ d e. after_calls d (calls_of e d.face);
+}
+
+abbrev pub hazards : Hazards Lying
+hazards = record {
+  setting = lying;
+  formatted = λ kind cluster n index. after_calls (record { face = zero_face; held = each_slot (λ slot. None) }) (format_calls kind cluster n index);
+  count = λ d script. length (calls script d.face);
+  cut = λ j code d script. cut_calls j code d (calls script d.face);
+  faulted = unless_kept_out;
+}
