@@ -24,11 +24,11 @@ use Rattle.vr_choose.proofs.Logs.{found, chosen_front, chosen_open}
 use Rattle.vr_choose.proofs.Named.{names_of, unnamed}
 use Rattle.vr_choose.proofs.Order.{view_most}
 use Rattle.vr_choose.proofs.Standing.{headers_stand}
-use Rattle.vr_rules.specs.Replica.{Replica, statement_of}
-use Rattle.vr_rules.specs.Words.{stated, chosen_log, log_end, log_header, Log}
-use Rattle.vr_rules.specs.Sound.{IsSound, IsStated}
-use Rattle.vr_rules.proofs.Taking.{log_reaches}
-use Rattle.vr_rules.proofs.Trying.{all_stated, log_end_is}
+use Rattle.vr_world.specs.Replica.{Replica, statement_of}
+use Rattle.vr_world.specs.Words.{stated, chosen_log, log_end, log_header, Log}
+use Rattle.vr_world.specs.Sound.{IsSound, IsStated}
+use Rattle.vr_world.proofs.Taking.{log_reaches}
+use Rattle.vr_world.proofs.Trying.{all_stated, log_end_is}
 use Rattle.std.proofs.lemmas.List.Elements.{All-weaker}
 use Rattle.law_1_machine.specs.Choosing.{Denies, plainly, other, silent, Chosen}
 use Rattle.law_1_machine.specs.Members as machine

@@ -2,7 +2,7 @@
 use Rattle.std.proofs.Common.{ℕ, zero, suc, ◌+◌, ◌≤◌, ◌<◌, ◌≡◌, arith, refl, List}
 use Rattle.std.specs.Option.{option_map_or}
 use Rattle.vr_base.specs.Groups.{quorums_of}
-use Rattle.vr_rules.specs.Replica.{replication}
+use Rattle.vr_world.specs.Replica.{replication}
 use Rattle.law_2_chains.specs.Chains.{Setup}
 use Rattle.law_2_chains.specs.Tables.{Fits}
 

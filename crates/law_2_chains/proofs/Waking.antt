@@ -7,10 +7,10 @@ use Rattle.std.proofs.lemmas.List.Elements.{All-nil}
 use Rattle.vr_base.specs.Groups.{quorums_of}
 use Rattle.vr_header.specs.declared.header.Header.{Header}
 use Rattle.vr_world.specs.Lying.{lying}
-use Rattle.vr_rules.specs.Opening.{blank, fresh}
+use Rattle.vr_world.specs.Opening.{blank, fresh}
 use Rattle.vr_world.specs.Group.{Played, Run, fresh_group, fresh_member}
 use Rattle.vr_world.specs.GroupFit.{IsFitGroup, IsFitMove}
-use Rattle.vr_rules.proofs.FitFresh.{fresh_fits}
+use Rattle.vr_world.proofs.FitFresh.{fresh_fits}
 use Rattle.vr_world.proofs.FitGroups.{fresh_at, fresh_group_fits}
 use Rattle.law_1_machine.specs.Basics.{update}
 use Rattle.law_1_machine.proofs.Counting.{here, elsewhere}

@@ -6,7 +6,7 @@ use Rattle.vr_msg.specs.declared.output.Chosen.{Chosen}
 use Rattle.vr_msg.specs.declared.output.Output.{Output}
 use Rattle.vr_msg.specs.declared.output.Output.TheVariants as output
 use Rattle.vr_msg.specs.declared.output.Sent.{Sent}
-use Rattle.vr_rules.specs.Replica.{Replica}
+use Rattle.vr_world.specs.Replica.{Replica}
 use Rattle.vr_world.specs.Lying.{lying}
 use Rattle.vr_world.specs.Group as group
 use Rattle.vr_world.specs.Group.{Move, Steps, Runs, Played, made_in}

@@ -11,8 +11,8 @@ use Rattle.vr_msg.specs.declared.output.Output.{Output}
 use Rattle.vr_msg.specs.declared.output.Output.TheVariants as output
 use Rattle.vr_msg.specs.declared.output.Sent.{Sent}
 use Rattle.vr_msg.specs.Normal.{same_sum}
-use Rattle.vr_rules.specs.Replica.{replication}
-use Rattle.vr_world.specs.Group.{Played}
+use Rattle.law_2_chains.specs.Replica.{replication}
+use Rattle.law_2_chains.specs.Group.{Played}
 use Rattle.law_1_machine.specs.Basics.{In}
 use Rattle.law_1_machine.specs.Group.{Vouches}
 use Rattle.law_1_machine.specs.Laws.{Committed, at_root, stands_on}
@@ -20,9 +20,9 @@ use Rattle.law_1_machine.specs.Members as machine
 use Rattle.law_1_machine.proofs.Moves.{reached_good}
 use Rattle.law_2_chains.specs.Chains.{Setup}
 use Rattle.law_2_chains.specs.Reflecting.{entries_by}
-use Rattle.vr_world.specs.Commitment as said
-use Rattle.vr_world.specs.Commitment.{HasSent, IsCommitted}
-use Rattle.vr_world.specs.Safe.{run_outputs}
+use Rattle.law_2_chains.specs.Commitment as said
+use Rattle.law_2_chains.specs.Commitment.{HasSent, IsCommitted}
+use Rattle.law_2_chains.specs.Safe.{run_outputs}
 use Rattle.law_3_outputs.specs.Followed.{IsFollowed, IsFrom}
 use Rattle.law_3_outputs.proofs.Sets.{in_get, set_of}
 use Rattle.law_3_outputs.proofs.Traces.{came, from_of, outputs_front, vouch_said}

@@ -9,14 +9,14 @@ use Rattle.vr_base.specs.Groups.{quorums_of}
 use Rattle.vr_msg.specs.declared.event.Event.{Event}
 use Rattle.vr_msg.specs.Logs.{IsStatement}
 use Rattle.law_1_machine.specs.Members as machine
-use Rattle.vr_world.specs.Group.{Played}
+use Rattle.law_2_chains.specs.Group.{Played}
 use Rattle.law_3_outputs.specs.Picked.{IsChosenBy}
-use Rattle.vr_rules.specs.Laws.{IsEvent, IsPresentFrame}
-use Rattle.vr_rules.specs.Replica.{Replica}
+use Rattle.law_2_chains.specs.Laws.{IsEvent, IsPresentFrame}
+use Rattle.law_2_chains.specs.Replica.{Replica}
 use Rattle.law_1_machine.specs.Basics.{In}
 use Rattle.law_2_chains.specs.Chains.{Setup, Every}
 use Rattle.law_2_chains.specs.Choices.{IsMadeFrom}
-use Rattle.vr_world.specs.Safe.{actor, all_heard, event_of}
+use Rattle.law_2_chains.specs.Safe.{actor, all_heard, event_of}
 use Rattle.law_3_outputs.specs.Followed.{IsChoiceLine, IsFrom}
 
 pub every_of : {X : Type 0} (P : X → Type 0) (xs : List X) → ((x : X) → In x xs → P x) → Every P xs

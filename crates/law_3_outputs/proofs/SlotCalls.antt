@@ -22,12 +22,12 @@ use Rattle.vr_super.specs.Calls.{mend_calls, save_from, write_calls}
 use Rattle.vr_super.specs.Copies.{copy_bytes}
 use Rattle.vr_ckpt.specs.Grid.{block_calls, put_calls}
 use Rattle.vr_ckpt.specs.Saves.{blocks_calls, save_calls, written}
-use Rattle.vr_rules.specs.Steps.{Effect, Write, Rewrite, Save, Mend, Checkpoint, PutBlock, Say, after_all}
-use Rattle.vr_rules.specs.Sectors.{calls_of, sectors}
-use Rattle.vr_world.specs.Lying.{Lying, lying}
-use Rattle.vr_rules.specs.Fit.{IsFit}
-use Rattle.vr_rules.proofs.FitDisks.{block_spares, blocks_spare, header_spares, mend_spares, prepare_spares, same_entry, save_spares}
-use Rattle.vr_world.proofs.FitLies.{same_face}
+use Rattle.law_2_chains.specs.Steps.{Effect, Write, Rewrite, Save, Mend, Checkpoint, PutBlock, Say, after_all}
+use Rattle.law_2_chains.specs.Sectors.{calls_of, sectors}
+use Rattle.law_2_chains.specs.Lying.{Lying, lying}
+use Rattle.law_2_chains.specs.Fit.{IsFit}
+use Rattle.law_2_chains.proofs.FitDisks.{block_spares, blocks_spare, header_spares, mend_spares, prepare_spares, same_entry, save_spares}
+use Rattle.law_2_chains.proofs.FitLies.{same_face}
 use Rattle.law_1_machine.specs.Basics.{In}
 
 -- ---- sectors that aren't there don't read

@@ -20,10 +20,10 @@ use Rattle.vr_msg.specs.Choice.{choice, named, top_commit, top_view}
 use Rattle.vr_msg.specs.Logs.{IsStatement}
 use Rattle.vr_base.specs.Groups.{quorums_of}
 use Rattle.vr_base.specs.declared.table.Quorums.{Quorums}
-use Rattle.vr_world.specs.Group.{Played, Run, fresh_group, made_in}
-use Rattle.vr_world.specs.GroupFit.{IsFitMove}
-use Rattle.vr_rules.specs.Replica.{Replica}
-use Rattle.vr_rules.specs.Words.{log_end}
+use Rattle.law_2_chains.specs.Group.{Played, Run, fresh_group, made_in}
+use Rattle.law_2_chains.specs.GroupFit.{IsFitMove}
+use Rattle.law_2_chains.specs.Replica.{Replica}
+use Rattle.law_2_chains.specs.Words.{log_end}
 use Rattle.law_1_machine.specs.Basics.{In}
 use Rattle.law_1_machine.specs.Group.{Group, Made}
 use Rattle.law_1_machine.specs.Laws.{Committed}
@@ -33,7 +33,7 @@ use Rattle.law_2_chains.specs.Chains.{Setup, IsReached, WasSent, Every}
 use Rattle.law_2_chains.specs.Choices.{told_if}
 use Rattle.law_2_chains.specs.Finished.{IsNumbered, IsSaid}
 use Rattle.law_2_chains.specs.Tables.{Fits}
-use Rattle.vr_world.specs.Safe.{IsHashed, actor, all_heard, event_of, heard_from}
+use Rattle.law_2_chains.specs.Safe.{IsHashed, actor, all_heard, event_of, heard_from}
 
 -- ---- what is so of each output of a move
 

@@ -14,15 +14,15 @@ use Rattle.vr_header.specs.Spelling.{field_bytes, header_bytes, named_bytes}
 use Rattle.vr_ckpt.specs.Blocks.{Content, block_bytes, block_header, block_name, block_of, named}
 use Rattle.vr_ckpt.specs.Grid.{block_calls, put_calls}
 use Rattle.vr_ckpt.specs.declared.block.Block.{Block}
-use Rattle.vr_state.specs.StateTexts.{payloads}
-use Rattle.vr_state.specs.declared.texts.Texts.{Texts}
+use Rattle.vr_ckpt.specs.StateTexts.{payloads}
+use Rattle.vr_ckpt.specs.Texts.{Texts}
 use Rattle.vr_ckpt.specs.Places.{first_place, other_place, root_place}
 use Rattle.vr_ckpt.specs.Saves.{PayloadBlocks, blocks_calls, blocks_from, changed, data_content, goes_to, keys_run, names_bytes, payload_blocks, payload_blocks_at, payload_at, payloads_from, root_of, root_payload, save_calls, sessions_run, stays, table_of, written}
 use Rattle.vr_ckpt.specs.declared.plan.Run.{Run}
 use Rattle.vr_ckpt.specs.declared.table.Payload.{Payload}
 use Rattle.vr_ckpt.specs.declared.table.PayloadTable.{PayloadTable}
 use Rattle.vr_ckpt.proofs.Planning.{payload_short}
-use Rattle.vr_rules.specs.Sound.{IsNameBytes}
+use Rattle.vr_world.specs.Sound.{IsNameBytes}
 use Rattle.law_4_disks.specs.Stocks.{IsNamed}
 use Rattle.law_4_disks.proofs.Calls.{AreCalls, calls_append, writes_are}
 

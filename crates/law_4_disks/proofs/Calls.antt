@@ -18,15 +18,15 @@ use Rattle.vr_base.proofs.FieldLaws.{length-name_of}
 use Rattle.vr_base.specs.declared.kind.Kind.{Kind}
 use Rattle.vr_base.specs.declared.mode.Mode.{Mode}
 use Rattle.vr_base.specs.declared.mode.Mode.TheVariants.{Strict, Careful}
-use Rattle.vr_super.specs.Copies.{IsFields, IsGood, SuperValue, copy_bytes, field_bytes, front_bytes, list_bytes, named_bytes, zeros, mode_byte}
-use Rattle.vr_super.specs.Opens.{copy_reading}
-use Rattle.vr_super.specs.Calls.{copy_calls, mend_calls, mend_copy, mend_from, mend_unless, save_from, write_calls}
-use Rattle.vr_super.proofs.Format.{length-copy_bytes}
+use Rattle.vr_lie.specs.Copies.{IsFields, IsGood, SuperValue, copy_bytes, field_bytes, front_bytes, list_bytes, named_bytes, zeros, mode_byte}
+use Rattle.vr_lie.specs.Opens.{copy_reading}
+use Rattle.vr_lie.specs.Calls.{copy_calls, mend_calls, mend_copy, mend_from, mend_unless, save_from, write_calls}
+use Rattle.vr_lie.proofs.Format.{length-copy_bytes}
 use Rattle.vr_rings.specs.Calls.{again_calls, header_calls, new_calls, prepare_calls}
-use Rattle.vr_rings.specs.Slots.{IsWhole, prepare_bytes, sector_of, slot_of}
-use Rattle.vr_rings.proofs.Spelling.{length-prepare, length-sector}
-use Rattle.vr_rules.specs.Opening.{first_value}
-use Rattle.vr_rules.specs.Formatting.{format_calls, reserved_header, reserved_headers, zero_prepares, zero_sector}
+use Rattle.vr_lie.specs.Slots.{IsWhole, prepare_bytes, sector_of, slot_of}
+use Rattle.vr_lie.proofs.Spelling.{length-prepare, length-sector}
+use Rattle.vr_world.specs.Opening.{first_value}
+use Rattle.vr_world.specs.Formatting.{format_calls, reserved_header, reserved_headers, zero_prepares, zero_sector}
 
 abbrev pub AreCalls : List Call → Type 0
 AreCalls cs = AllByRecursion IsCall cs

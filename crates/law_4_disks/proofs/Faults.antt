@@ -18,13 +18,13 @@ use Rattle.vr_disk.proofs.Faces.{there}
 use Rattle.vr_disk.specs.Sectors.{has}
 use Rattle.vr_header.specs.Made.{Whole}
 use Rattle.vr_mem.specs.Lies.{lied}
-use Rattle.vr_super.specs.Copies.{SuperValue}
-use Rattle.vr_super.specs.Opens.{mode_in, opens}
-use Rattle.vr_rings.specs.Held.{Holds, MayRead, entry_of_both, entry_read, found, header_sector, is_header_sector, is_prepare, looked}
+use Rattle.vr_lie.specs.Copies.{SuperValue}
+use Rattle.vr_lie.specs.Opens.{mode_in, opens}
+use Rattle.vr_lie.specs.Held.{Holds, MayRead, entry_of_both, entry_read, found, header_sector, is_header_sector, is_prepare, looked}
 use Rattle.vr_rings.specs.Laws.{TellsPrepare}
-use Rattle.vr_rings.specs.Slots.{IsWhole, header_reading, prepare_bytes, prepare_reading, whole_in, whole_of}
-use Rattle.vr_rings.proofs.Spelling.{header_again, header_sector_is}
-use Rattle.vr_rings.proofs.Standing.{both_is}
+use Rattle.vr_lie.specs.Slots.{IsWhole, header_reading, prepare_bytes, prepare_reading, whole_in, whole_of}
+use Rattle.vr_lie.proofs.Spelling.{header_again, header_sector_is}
+use Rattle.vr_lie.proofs.Standing.{both_is}
 use Rattle.vr_lie.specs.declared.fault.Fault.{Fault}
 use Rattle.vr_lie.specs.declared.fault.Fault.TheVariants.{Damage, Stale, Unread, Misdirect}
 use Rattle.vr_lie.specs.Faults.{HeldLooked, IsFault, KeepsPremise, faulted, held_at}

@@ -15,22 +15,22 @@ use Rattle.vr_disk.proofs.Together.{after_all_append, length_after_all, together
 use Rattle.vr_header.specs.declared.header.Header.{Header}
 use Rattle.vr_mem.specs.Seen.{copies}
 use Rattle.vr_mem.specs.Seen as mem
-use Rattle.vr_super.specs.Copies.{IsGood, SuperValue, are_listed, copy_bytes, good_fields}
-use Rattle.vr_super.specs.Opens.{copy_reading, good_copies, good_copy, opened, opens}
-use Rattle.vr_super.specs.Calls.{copy_calls, save_from}
-use Rattle.vr_super.proofs.Best.{opened_among, opened_some}
-use Rattle.vr_super.proofs.Format.{length-copy_bytes, value_again}
-use Rattle.vr_super.proofs.Keeping.{two_first}
-use Rattle.vr_super.proofs.Readings.{copy_within, other_after}
-use Rattle.vr_rings.specs.Held.{Stands}
+use Rattle.vr_lie.specs.Copies.{IsGood, SuperValue, are_listed, copy_bytes, good_fields}
+use Rattle.vr_lie.specs.Opens.{copy_reading, good_copies, good_copy, opened, opens}
+use Rattle.vr_lie.specs.Calls.{copy_calls, save_from}
+use Rattle.vr_lie.proofs.Best.{opened_among, opened_some}
+use Rattle.vr_lie.proofs.Format.{length-copy_bytes, value_again}
+use Rattle.vr_lie.proofs.Keeping.{two_first}
+use Rattle.vr_lie.proofs.Readings.{copy_within, other_after}
+use Rattle.vr_lie.specs.Held.{Stands}
 use Rattle.vr_lie.specs.Laws.{AllStand}
 use Rattle.vr_lie.specs.Table.{table_of}
 use Rattle.vr_lie.proofs.Calls.{empty_at, new_table}
 use Rattle.vr_lie.proofs.Premise.{none_stands}
-use Rattle.vr_rules.specs.Replica.{Replica}
-use Rattle.vr_rules.specs.Opening.{blank, first_value, fresh}
+use Rattle.vr_world.specs.Replica.{Replica}
+use Rattle.vr_world.specs.Opening.{blank, first_value, fresh}
 use Rattle.vr_world.specs.Lying.{Lying, each_slot, hazards, zero_cell, zero_face}
-use Rattle.vr_rules.specs.Formatting.{format_calls, reserved_headers, zero_prepares, zero_sector}
+use Rattle.vr_world.specs.Formatting.{format_calls, reserved_headers, zero_prepares, zero_sector}
 use Rattle.vr_world.specs.World as world
 use Rattle.vr_world.specs.Group as group
 use Rattle.vr_world.specs.Group.{fresh_group}

@@ -10,18 +10,18 @@ use Rattle.vr_msg.specs.declared.event.Event.{Event}
 use Rattle.vr_msg.specs.declared.output.Output.{Output}
 use Rattle.vr_msg.specs.declared.output.Output.TheVariants as output
 use Rattle.vr_msg.specs.declared.output.Sent.{Sent}
-use Rattle.vr_super.specs.Copies.{SuperValue}
-use Rattle.vr_rules.specs.Replica.{Replica}
-use Rattle.vr_rules.specs.Steps.{Effect, Mend, Step, after_all}
-use Rattle.vr_rules.specs.Steps as steps
-use Rattle.vr_rules.specs.Rules.{asked_block, react}
+use Rattle.vr_lie.specs.Copies.{SuperValue}
+use Rattle.vr_world.specs.Replica.{Replica}
+use Rattle.vr_world.specs.Steps.{Effect, Mend, Step, after_all}
+use Rattle.vr_world.specs.Steps as steps
+use Rattle.vr_world.specs.Rules.{asked_block, react}
 use Rattle.vr_msg.specs.declared.event.Event.TheVariants as event
 use Rattle.vr_msg.specs.declared.frame.Frame.TheVariants as frame
-use Rattle.vr_rules.specs.Sectors.{calls}
+use Rattle.vr_world.specs.Sectors.{calls}
 use Rattle.vr_world.specs.Lying.{Lying, cut_calls, hazards, lying}
 use Rattle.vr_world.specs.World as world
 use Rattle.vr_world.specs.World.{Acted, Happened, World, acts, halted, stays, went, went_or_halted, with_member}
-use Rattle.vr_rules.specs.Outputs.{message_of, messages}
+use Rattle.vr_world.specs.Outputs.{message_of, messages}
 use Rattle.vr_world.specs.Group as group
 use Rattle.vr_world.specs.Group.{Arrival, Group, IsArrival, Move, Moved, Moves, Played, Run, Runs, carried_out, cut_after, cut_short, finished, stepped, with_script}
 use Rattle.vr_world.specs.Safe.{faces_of, run_outputs}
@@ -30,7 +30,7 @@ use Rattle.std.specs.List.{AllByRecursion}
 use Rattle.std.specs.Option.{option_map}
 use Rattle.vr_base.specs.Bytes.{IsBytes}
 use Rattle.vr_header.specs.NoCollision.{NoCollision}
-use Rattle.vr_super.specs.Copies.{IsGood}
+use Rattle.vr_lie.specs.Copies.{IsGood}
 use Rattle.vr_world.specs.Group.{made_in}
 use Rattle.vr_world.specs.GroupFit.{IsFitArrival, IsFitGroup, IsFitMove}
 use Rattle.vr_world.proofs.FitLies.{lies_fit}

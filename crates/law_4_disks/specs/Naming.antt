@@ -5,15 +5,15 @@ use Rattle.vr_disk.specs.DiskState.{Face, IsFace}
 use Rattle.vr_header.specs.Bodies.{operation_bytes}
 use Rattle.vr_header.specs.Made.{Whole}
 use Rattle.vr_header.specs.NoCollision.{NoCollision}
-use Rattle.vr_super.specs.Copies.{SuperValue, named_bytes}
+use Rattle.vr_lie.specs.Copies.{SuperValue, named_bytes}
 use Rattle.vr_super.specs.Laws.{TellsApart}
-use Rattle.vr_super.specs.Opens.{copy_reading}
+use Rattle.vr_lie.specs.Opens.{copy_reading}
 use Rattle.vr_rings.specs.Laws.{TellsPrepare}
-use Rattle.vr_rings.specs.Slots.{IsWhole, prepare_bytes, whole_in}
+use Rattle.vr_lie.specs.Slots.{IsWhole, prepare_bytes, whole_in}
 use Rattle.vr_lie.specs.declared.fault.Fault.{Fault}
 use Rattle.vr_lie.specs.Faults.{faulted, held_at}
-use Rattle.vr_rules.specs.Steps.{Effect, Write}
-use Rattle.vr_rules.specs.Sectors.{calls_of}
+use Rattle.vr_world.specs.Steps.{Effect, Write}
+use Rattle.vr_world.specs.Sectors.{calls_of}
 use Rattle.vr_world.specs.Lying.{Lying, lying}
 use Rattle.law_4_disks.specs.Beside.{IsInPlay}
 

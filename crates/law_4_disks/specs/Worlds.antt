@@ -11,16 +11,16 @@ use Rattle.vr_msg.specs.declared.event.Event.TheVariants as event
 use Rattle.vr_msg.specs.declared.output.Output.{Output}
 use Rattle.vr_msg.specs.declared.output.Output.TheVariants as output
 use Rattle.vr_msg.specs.declared.output.Sent.{Sent}
-use Rattle.vr_super.specs.Copies.{SuperValue}
-use Rattle.vr_super.specs.Opens.{opens}
+use Rattle.vr_lie.specs.Copies.{SuperValue}
+use Rattle.vr_lie.specs.Opens.{opens}
 use Rattle.vr_lie.specs.Faults.{IsFault}
-use Rattle.vr_rules.specs.Replica.{Replica}
-use Rattle.vr_rules.specs.Steps.{Effect, Mend, Step}
-use Rattle.vr_rules.specs.Rules.{react}
-use Rattle.vr_rules.specs.Opening.{fresh, opened}
+use Rattle.vr_world.specs.Replica.{Replica}
+use Rattle.vr_world.specs.Steps.{Effect, Mend, Step}
+use Rattle.vr_world.specs.Rules.{react}
+use Rattle.vr_world.specs.Opening.{fresh, opened}
 use Rattle.vr_world.specs.Lying.{Lying, hazards, lying}
 use Rattle.vr_world.specs.World.{World, Host, Happening, Happened, Begins, Asks, Arrives, Ticks, Stops, Starts, Fuses, Lies}
-use Rattle.vr_rules.specs.Fit.{IsAsked}
+use Rattle.vr_world.specs.Fit.{IsAsked}
 use Rattle.vr_world.specs.Group.{Crashes, Cuts, Group, Member, Move, Played, Recovers, RecoversCut, Run, Steps, made_in}
 use Rattle.vr_world.specs.GroupFit.{IsFitGroup, IsFitMove}
 use Rattle.vr_world.specs.Safe.{faces_of, run_outputs}

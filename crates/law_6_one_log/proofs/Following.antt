@@ -10,20 +10,20 @@ use Rattle.vr_msg.specs.declared.output.Committed.{Committed}
 use Rattle.vr_msg.specs.declared.output.Output.{Output}
 use Rattle.vr_msg.specs.declared.output.Output.TheVariants as output
 use Rattle.vr_msg.specs.declared.output.Sent.{Sent}
-use Rattle.vr_world.specs.Group as group
-use Rattle.vr_world.specs.Group.{Played, Run, fresh_group}
-use Rattle.vr_world.specs.GroupFit.{IsFitGroup}
-use Rattle.vr_world.specs.Safe.{IsHashed}
+use Rattle.law_3_outputs.specs.Group as group
+use Rattle.law_3_outputs.specs.Group.{Played, Run, fresh_group}
+use Rattle.law_3_outputs.specs.GroupFit.{IsFitGroup}
+use Rattle.law_3_outputs.specs.Safe.{IsHashed}
 use Rattle.law_1_machine.specs.Basics.{In}
 use Rattle.law_1_machine.specs.Group.{Group}
 use Rattle.law_1_machine.specs.Laws as law
 use Rattle.law_1_machine.proofs.Moves.{reached_good}
-use Rattle.law_2_chains.specs.Chains.{Setup, IsReached}
-use Rattle.law_2_chains.specs.Finished.{IsTrue}
-use Rattle.law_2_chains.specs.Reflecting.{entries_by}
-use Rattle.law_2_chains.specs.Tables.{Fits}
-use Rattle.law_2_chains.specs.Bridge.{Bridges, Chained, Follows, FollowsFresh}
-use Rattle.law_2_chains.proofs.Waking.{fresh_runs_so}
+use Rattle.law_3_outputs.specs.Chains.{Setup, IsReached}
+use Rattle.law_3_outputs.specs.Finished.{IsTrue}
+use Rattle.law_3_outputs.specs.Reflecting.{entries_by}
+use Rattle.law_3_outputs.specs.Tables.{Fits}
+use Rattle.law_3_outputs.specs.Bridge.{Bridges, Chained, Follows, FollowsFresh}
+use Rattle.law_3_outputs.proofs.Waking.{fresh_runs_so}
 use Rattle.law_3_outputs.specs.Followed.{IsCarried, IsChoiceLine, IsFitRun, IsFollowed, IsFrom, IsSo}
 use Rattle.law_3_outputs.proofs.Carrying.{every_of}
 use Rattle.law_3_outputs.proofs.Fitting.{fit_at, move_of}

@@ -15,35 +15,35 @@ use Rattle.vr_msg.specs.declared.output.Committed.{Committed}
 use Rattle.vr_msg.specs.declared.output.Output.{Output}
 use Rattle.vr_msg.specs.declared.output.Output.TheVariants as output
 use Rattle.vr_msg.specs.declared.output.Sent.{Sent}
-use Rattle.vr_super.specs.Copies.{SuperValue}
-use Rattle.vr_world.specs.Commitment.{is_line_of}
-use Rattle.vr_rules.specs.Fit.{IsFit, ReadsWell}
-use Rattle.vr_world.specs.Group as group
-use Rattle.vr_world.specs.Group.{Arrival, Group, IsArrival, Member, Move, Moved, Moves, Opens, Played, Run, Runs, carried_out, cut_after, cut_in_two, ended, found, fresh_group, fresh_member, goes, keeps_all, mended, once_mended, opening_script, recovered, resumed, stepped}
-use Rattle.vr_world.specs.GroupFit.{IsFitArrival, IsFitGroup, IsFitReplica, IsFitValue}
-use Rattle.vr_rules.specs.Laws.{IsEvent}
-use Rattle.vr_world.specs.Lying.{Lying, lying}
-use Rattle.vr_rules.specs.Opening.{blank, fresh, mending}
-use Rattle.vr_rules.specs.Own.{IsAt}
-use Rattle.vr_rules.specs.Replica.{Replica, is_frozen, is_spent, last_view}
-use Rattle.vr_rules.specs.Rules.{react}
-use Rattle.vr_world.specs.Safe as safe
-use Rattle.vr_world.specs.Safe.{IsHashed, faces_of, read, wrote}
-use Rattle.vr_rules.specs.Steps.{Effect, Write, Rewrite, Save, Mend, Checkpoint, PutBlock, Say, Step, by, outputs, quiet, says}
-use Rattle.vr_rules.specs.Outputs.{messages}
-use Rattle.vr_world.proofs.FitLies.{lies_fit}
-use Rattle.vr_world.proofs.FitGroups.{fresh_at}
-use Rattle.vr_rules.proofs.FitSteps.{steps_fit}
-use Rattle.vr_rules.proofs.SendsScripts.{outputs_append}
+use Rattle.vr_lie.specs.Copies.{SuperValue}
+use Rattle.law_3_outputs.specs.Commitment.{is_line_of}
+use Rattle.law_3_outputs.specs.Fit.{IsFit, ReadsWell}
+use Rattle.law_3_outputs.specs.Group as group
+use Rattle.law_3_outputs.specs.Group.{Arrival, Group, IsArrival, Member, Move, Moved, Moves, Opens, Played, Run, Runs, carried_out, cut_after, cut_in_two, ended, found, fresh_group, fresh_member, goes, keeps_all, mended, once_mended, opening_script, recovered, resumed, stepped}
+use Rattle.law_3_outputs.specs.GroupFit.{IsFitArrival, IsFitGroup, IsFitReplica, IsFitValue}
+use Rattle.law_3_outputs.specs.Laws.{IsEvent}
+use Rattle.law_3_outputs.specs.Lying.{Lying, lying}
+use Rattle.law_3_outputs.specs.Opening.{blank, fresh, mending}
+use Rattle.law_3_outputs.specs.Own.{IsAt}
+use Rattle.law_3_outputs.specs.Replica.{Replica, is_frozen, is_spent, last_view}
+use Rattle.law_3_outputs.specs.Rules.{react}
+use Rattle.law_3_outputs.specs.Safe as safe
+use Rattle.law_3_outputs.specs.Safe.{IsHashed, faces_of, read, wrote}
+use Rattle.law_3_outputs.specs.Steps.{Effect, Write, Rewrite, Save, Mend, Checkpoint, PutBlock, Say, Step, by, outputs, quiet, says}
+use Rattle.law_3_outputs.specs.Outputs.{messages}
+use Rattle.law_3_outputs.proofs.FitLies.{lies_fit}
+use Rattle.law_3_outputs.proofs.FitGroups.{fresh_at}
+use Rattle.law_3_outputs.proofs.FitSteps.{steps_fit}
+use Rattle.law_3_outputs.proofs.SendsScripts.{outputs_append}
 use Rattle.law_1_machine.specs.Basics.{In}
-use Rattle.law_2_chains.specs.Chains.{Every, IsBackedLine, Setup}
-use Rattle.law_2_chains.specs.Finished.{IsTrue}
-use Rattle.law_2_chains.specs.Local.{Local, carried}
-use Rattle.law_2_chains.specs.Openings.{keeping}
-use Rattle.law_2_chains.proofs.Opening as opening
-use Rattle.law_2_chains.proofs.Playing.{leaves}
-use Rattle.law_2_chains.specs.Bridge.{Bridges}
-use Rattle.law_2_chains.proofs.Bridging.{begun_of, chain_of, local, may_begin}
+use Rattle.law_3_outputs.specs.Chains.{Every, IsBackedLine, Setup}
+use Rattle.law_3_outputs.specs.Finished.{IsTrue}
+use Rattle.law_3_outputs.specs.Local.{Local, carried}
+use Rattle.law_3_outputs.specs.Openings.{keeping}
+use Rattle.law_3_outputs.proofs.Opening as opening
+use Rattle.law_3_outputs.proofs.Playing.{leaves}
+use Rattle.law_3_outputs.specs.Bridge.{Bridges}
+use Rattle.law_3_outputs.proofs.Bridging.{begun_of, chain_of, local, may_begin}
 use Rattle.law_3_outputs.specs.Answering.{one_if}
 use Rattle.law_3_outputs.specs.Followed.{IsFollowed}
 use Rattle.law_3_outputs.specs.Ordered.{AreInOrder}
@@ -61,7 +61,7 @@ use Rattle.law_6_one_log.proofs.Lines.{lines_may}
 use Rattle.law_6_one_log.proofs.Members.{Values, bears_front, borne_all, carried_values, cut_values, every_front, kept_values}
 use Rattle.law_6_one_log.proofs.Opening.{L, all_calm, live_at, mending_at, mending_calm, spent_at}
 use Rattle.law_6_one_log.proofs.Reacting.{IsTrueEvent, react_at}
-use Rattle.vr_world.specs.Checkpoints.{IsCheckpointOf}
+use Rattle.law_3_outputs.specs.Checkpoints.{IsCheckpointOf}
 use Rattle.vr_msg.specs.declared.frame.Frame.TheVariants as frame
 use Rattle.vr_msg.specs.declared.frame.SyncView.{SyncView}
 use Rattle.law_3_outputs.specs.Replied.{root_told}

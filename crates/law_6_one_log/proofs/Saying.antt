@@ -15,25 +15,25 @@ use Rattle.vr_msg.specs.declared.output.Committed.{Committed}
 use Rattle.vr_msg.specs.declared.output.Output.{Output}
 use Rattle.vr_msg.specs.declared.output.Output.TheVariants as output
 use Rattle.vr_msg.specs.declared.output.Sent.{Sent}
-use Rattle.vr_rules.specs.Fit.{IsFit}
-use Rattle.vr_world.specs.Group.{Member, Group, Move, Moved, Moves, Played, mended, opening_script, resumed, stepped}
-use Rattle.vr_world.specs.Group as group
-use Rattle.vr_world.specs.GroupFit.{IsFitGroup, IsFitMove}
-use Rattle.vr_rules.specs.Laws.{Answers, IsPresent, IsPresentOutput}
-use Rattle.vr_world.specs.Lying.{Lying, lying}
-use Rattle.vr_rules.specs.Opening.{blank}
-use Rattle.vr_rules.specs.Replica.{Replica}
-use Rattle.vr_world.specs.Safe.{IsHashed, actor, faces_of}
-use Rattle.vr_world.specs.Safe as safe
-use Rattle.vr_rules.specs.Steps.{Effect, Step, Write, after_all, outputs}
-use Rattle.vr_world.proofs.FitLies.{lies_fit}
-use Rattle.vr_rules.proofs.FitSteps.{steps_fit}
-use Rattle.vr_rules.proofs.SendsScripts.{outputs_append}
+use Rattle.law_3_outputs.specs.Fit.{IsFit}
+use Rattle.law_3_outputs.specs.Group.{Member, Group, Move, Moved, Moves, Played, mended, opening_script, resumed, stepped}
+use Rattle.law_3_outputs.specs.Group as group
+use Rattle.law_3_outputs.specs.GroupFit.{IsFitGroup, IsFitMove}
+use Rattle.law_3_outputs.specs.Laws.{Answers, IsPresent, IsPresentOutput}
+use Rattle.law_3_outputs.specs.Lying.{Lying, lying}
+use Rattle.law_3_outputs.specs.Opening.{blank}
+use Rattle.law_3_outputs.specs.Replica.{Replica}
+use Rattle.law_3_outputs.specs.Safe.{IsHashed, actor, faces_of}
+use Rattle.law_3_outputs.specs.Safe as safe
+use Rattle.law_3_outputs.specs.Steps.{Effect, Step, Write, after_all, outputs}
+use Rattle.law_3_outputs.proofs.FitLies.{lies_fit}
+use Rattle.law_3_outputs.proofs.FitSteps.{steps_fit}
+use Rattle.law_3_outputs.proofs.SendsScripts.{outputs_append}
 use Rattle.law_1_machine.specs.Basics.{In}
 use Rattle.law_1_machine.specs.Members.{Choice}
-use Rattle.law_2_chains.specs.Chains.{Setup}
-use Rattle.law_2_chains.proofs.Scripts.{after_append}
-use Rattle.law_2_chains.specs.Bridge.{ChoosesWell}
+use Rattle.law_3_outputs.specs.Chains.{Setup}
+use Rattle.law_3_outputs.proofs.Scripts.{after_append}
+use Rattle.law_3_outputs.specs.Bridge.{ChoosesWell}
 use Rattle.law_3_outputs.specs.Followed.{IsChoiceLine, IsFrom}
 use Rattle.law_3_outputs.proofs.Carrying.{choice_line, from_is}
 use Rattle.law_3_outputs.proofs.Fitting.{arrives, good_value, opening_fit}

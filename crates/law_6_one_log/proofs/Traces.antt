@@ -14,13 +14,13 @@ use Rattle.vr_msg.specs.declared.output.Committed.{Committed}
 use Rattle.vr_msg.specs.declared.output.Output.{Output}
 use Rattle.vr_msg.specs.declared.output.Output.TheVariants as output
 use Rattle.vr_msg.specs.declared.output.Sent.{Sent}
-use Rattle.vr_state.proofs.Once.{each_once}
-use Rattle.vr_world.specs.Commitment as said
-use Rattle.vr_world.specs.Commitment.{AreCommitted, HasSent, IsBackedMessage, IsCommitted, IsLine, Vouches}
-use Rattle.vr_world.specs.Group.{Played, fresh_group}
-use Rattle.vr_world.specs.Lying.{Lying}
-use Rattle.vr_world.specs.Safe.{IsHashed, IsJustified, KeepsEntry, Safe, before, run_outputs}
-use Rattle.vr_world.specs.World.{Happened}
+use Rattle.vr_ckpt.proofs.Once.{each_once}
+use Rattle.law_3_outputs.specs.Commitment as said
+use Rattle.law_3_outputs.specs.Commitment.{AreCommitted, HasSent, IsBackedMessage, IsCommitted, IsLine, Vouches}
+use Rattle.law_3_outputs.specs.Group.{Played, fresh_group}
+use Rattle.law_3_outputs.specs.Lying.{Lying}
+use Rattle.law_3_outputs.specs.Safe.{IsHashed, IsJustified, KeepsEntry, Safe, before, run_outputs}
+use Rattle.law_3_outputs.specs.World.{Happened}
 use Rattle.law_1_machine.specs.Basics.{In}
 use Rattle.law_4_disks.specs.Worlds.{IsAside, IsMatched, Said}
 use Rattle.law_4_disks.specs.Worlds as worlds

@@ -12,13 +12,13 @@ use Rattle.vr_msg.specs.declared.output.Chosen.{Chosen}
 use Rattle.vr_msg.specs.declared.output.Committed.{Committed}
 use Rattle.vr_msg.specs.declared.output.Output.{Output}
 use Rattle.vr_msg.specs.declared.output.Output.TheVariants as output
-use Rattle.vr_world.specs.Commitment.{IsCommitted}
-use Rattle.vr_rings.specs.Slots.{IsWhole}
-use Rattle.vr_world.specs.Group.{Group, Member, Played, Runs, fresh_group}
-use Rattle.vr_world.specs.Lying.{Lying, hazards}
-use Rattle.vr_rules.specs.Replica.{Replica, header_at, is_frozen}
-use Rattle.vr_world.specs.Safe.{IsHashed, KeepsEntry, Safe}
-use Rattle.vr_world.specs.World.{Happened, Happening, Begins, fresh_world, happen, no_world}
+use Rattle.law_3_outputs.specs.Commitment.{IsCommitted}
+use Rattle.vr_lie.specs.Slots.{IsWhole}
+use Rattle.law_3_outputs.specs.Group.{Group, Member, Played, Runs, fresh_group}
+use Rattle.law_3_outputs.specs.Lying.{Lying, hazards}
+use Rattle.law_3_outputs.specs.Replica.{Replica, header_at, is_frozen}
+use Rattle.law_3_outputs.specs.Safe.{IsHashed, KeepsEntry, Safe}
+use Rattle.law_3_outputs.specs.World.{Happened, Happening, Begins, fresh_world, happen, no_world}
 use Rattle.law_4_disks.specs.Worlds.{IsLine, IsMatched, first_world}
 use Rattle.law_6_one_log.specs.Schedules.{IsHashedOf, MayAll, room}
 use Rattle.law_3_outputs.specs.Answering.{HasState}

@@ -18,21 +18,21 @@ use Rattle.vr_super.specs.Copies.{SuperValue}
 use Rattle.vr_super.specs.Opens.{opens}
 use Rattle.vr_world.specs.Group.{Arrival, Asked, Message, Time, opening_script, resumed}
 use Rattle.vr_world.specs.Lying.{Lying, hazards, lying}
-use Rattle.vr_rules.specs.Opening.{blank, opened, opening}
-use Rattle.vr_rules.specs.Replica.{Replica}
-use Rattle.vr_rules.specs.Rules.{react}
-use Rattle.vr_rules.specs.Sectors.{calls, sectors}
-use Rattle.vr_rules.specs.Steps.{Effect, Step, after_all, outputs}
+use Rattle.vr_world.specs.Opening.{blank, opened, opening}
+use Rattle.vr_node.specs.Replica.{Replica}
+use Rattle.vr_node.specs.Rules.{react}
+use Rattle.vr_node.specs.Sectors.{calls, sectors}
+use Rattle.vr_world.specs.Steps.{Effect, Step, after_all, outputs}
 use Rattle.vr_world.specs.World as world
 use Rattle.vr_world.specs.World.{Acted, Happened, Happening, Host, World, Fuses, Lies, Starts, Stops, acts, at_member, delivered, handles, happen, happens, lied, nothing, starts, stays, stops, with_member}
-use Rattle.vr_rules.specs.Outputs.{messages}
+use Rattle.vr_node.specs.Outputs.{messages}
 use Rattle.law_4_disks.specs.Worlds.{IsLine}
 use Rattle.law_4_disks.proofs.Lines.{own_place}
 use Rattle.law_4_disks.proofs.Starts.{opening_is}
 use Rattle.vr_lying.proofs.Rules.{a_react}
 use Rattle.vr_lying.proofs.Words.{a_opening}
 use Rattle.vr_serve.specs.Runs.{Did}
-use Rattle.vr_step.specs.Does.{Does}
+use Rattle.vr_node.specs.Does.{Does}
 use Rattle.vr_node.specs.Opening.{Opens}
 use Rattle.vr_node.specs.Steps.{steps}
 use Rattle.vr_node.specs.declared.node.Node.{Node}

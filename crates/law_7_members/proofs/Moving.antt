@@ -11,19 +11,19 @@ use Rattle.vr_world.specs.Group as group
 use Rattle.vr_world.specs.Group.{Arrival, Group, Member, Move, Moved, Moves, Played, Run, carried_out, cut_short, finished, fresh_group, once_mended, opening_script, resumed, started, stepped, with_script}
 use Rattle.vr_world.specs.GroupFit.{IsFitMove}
 use Rattle.vr_world.specs.Lying.{Lying, lying}
-use Rattle.vr_rules.specs.Opening.{blank, opening}
-use Rattle.vr_rules.specs.Replica.{Replica}
-use Rattle.vr_rules.specs.Rules.{react}
+use Rattle.vr_world.specs.Opening.{blank, opening}
+use Rattle.vr_node.specs.Replica.{Replica}
+use Rattle.vr_node.specs.Rules.{react}
 use Rattle.vr_world.specs.Safe.{run_outputs}
-use Rattle.vr_rules.specs.Sectors.{sectors}
-use Rattle.vr_rules.specs.Steps.{Step, outputs}
+use Rattle.vr_node.specs.Sectors.{sectors}
+use Rattle.vr_world.specs.Steps.{Step, outputs}
 use Rattle.vr_world.proofs.FitLies.{lies_fit}
 use Rattle.law_4_disks.specs.Worlds.{IsOfBytes}
 use Rattle.law_4_disks.proofs.Starts.{opening_is}
 use Rattle.vr_lying.proofs.Rules.{a_react}
 use Rattle.vr_lying.proofs.Words.{a_opening}
 use Rattle.vr_serve.specs.Runs.{Did}
-use Rattle.vr_step.specs.Does.{Does}
+use Rattle.vr_node.specs.Does.{Does}
 use Rattle.vr_node.specs.Opening.{Opens}
 use Rattle.vr_node.specs.Steps.{steps}
 use Rattle.vr_node.specs.declared.node.Node.{Node}

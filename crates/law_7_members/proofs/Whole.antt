@@ -18,22 +18,22 @@ use Rattle.vr_super.specs.Copies.{SuperValue}
 use Rattle.vr_super.specs.Opens.{opens}
 use Rattle.vr_world.specs.Group.{Arrival, opening_script, resumed}
 use Rattle.vr_world.specs.Lying.{Lying, hazards, lying, zero_face}
-use Rattle.vr_rules.specs.Formatting.{format_calls}
-use Rattle.vr_rules.specs.Opening.{blank, fresh, opening}
-use Rattle.vr_rules.specs.Replica.{Replica}
-use Rattle.vr_rules.specs.Rules.{react}
-use Rattle.vr_rules.specs.Sectors.{calls, calls_of, sectors}
-use Rattle.vr_rules.specs.Steps.{Effect, Step, after_all}
+use Rattle.vr_node.specs.Formatting.{format_calls}
+use Rattle.vr_world.specs.Opening.{blank, fresh, opening}
+use Rattle.vr_node.specs.Replica.{Replica}
+use Rattle.vr_node.specs.Rules.{react}
+use Rattle.vr_node.specs.Sectors.{calls, calls_of, sectors}
+use Rattle.vr_world.specs.Steps.{Effect, Step, after_all}
 use Rattle.vr_world.specs.World as world
 use Rattle.vr_world.specs.World.{Happened, Host, World, nothing}
-use Rattle.vr_rules.specs.Outputs.{messages}
+use Rattle.vr_node.specs.Outputs.{messages}
 use Rattle.law_4_disks.specs.Worlds.{first_host, first_world}
 use Rattle.law_4_disks.proofs.Fresh.{some_world}
 use Rattle.law_4_disks.proofs.Lines.{other_place, own_place, some_member}
 use Rattle.law_4_disks.proofs.Starts.{opening_is}
 use Rattle.vr_lying.proofs.Words.{a_opening}
 use Rattle.vr_serve.specs.Runs.{Did, IsRun}
-use Rattle.vr_step.specs.Does.{Does}
+use Rattle.vr_node.specs.Does.{Does}
 use Rattle.vr_node.specs.Opening.{Opens}
 use Rattle.vr_node.specs.Running.{Outside}
 use Rattle.vr_node.specs.Steps.{steps}

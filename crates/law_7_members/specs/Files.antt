@@ -14,12 +14,12 @@ use Rattle.vr_super.specs.Copies.{SuperValue}
 use Rattle.vr_super.specs.Opens.{opens}
 use Rattle.vr_world.specs.Group.{Arrival, Asked, Message, Time, opening_script}
 use Rattle.vr_world.specs.Lying.{Lying, cut_calls, lying, unless_kept_out}
-use Rattle.vr_rules.specs.Replica.{Replica}
-use Rattle.vr_rules.specs.Rules.{react}
-use Rattle.vr_rules.specs.Sectors.{calls, sectors}
-use Rattle.vr_rules.specs.Steps.{Effect, after_all}
+use Rattle.vr_node.specs.Replica.{Replica}
+use Rattle.vr_node.specs.Rules.{react}
+use Rattle.vr_node.specs.Sectors.{calls, sectors}
+use Rattle.vr_world.specs.Steps.{Effect, after_all}
 use Rattle.vr_world.specs.World.{Happened, Happening, Host, World, Arrives, Asks, Fuses, Lies, Starts, Stops, Ticks, later, nothing, with_member}
-use Rattle.vr_rules.specs.Fit.{IsAsked}
+use Rattle.vr_node.specs.Fit.{IsAsked}
 use Rattle.vr_serve.specs.Runs.{Did}
 use Rattle.vr_node.specs.Opening.{Opens}
 use Rattle.vr_node.specs.Steps.{steps}

@@ -11,10 +11,10 @@ use Rattle.vr_super.specs.Copies.{SuperValue}
 use Rattle.vr_super.specs.Opens.{opens}
 use Rattle.vr_world.specs.Group.{Arrival, opening_script}
 use Rattle.vr_world.specs.Lying.{Lying, hazards, lying, zero_face}
-use Rattle.vr_rules.specs.Replica.{Replica}
-use Rattle.vr_rules.specs.Steps.{after_all}
+use Rattle.vr_node.specs.Replica.{Replica}
+use Rattle.vr_world.specs.Steps.{after_all}
 use Rattle.vr_world.specs.World.{Happened}
-use Rattle.vr_rules.specs.Outputs.{messages}
+use Rattle.vr_node.specs.Outputs.{messages}
 use Rattle.law_4_disks.specs.Worlds.{first_world}
 use Rattle.law_6_one_log.specs.Schedules.{IsHashedOf}
 use Rattle.law_6_one_log.specs.Laws.{KeepsLog}

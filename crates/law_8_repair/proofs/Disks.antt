@@ -14,9 +14,9 @@ use Rattle.vr_ckpt.specs.Saves.{blocks_calls, save_calls, written}
 use Rattle.vr_rings.specs.Calls.{header_calls, prepare_calls}
 use Rattle.vr_rings.specs.Slots.{IsWhole, whole_in}
 use Rattle.vr_world.specs.Lying.{Lying, lying}
-use Rattle.vr_rules.specs.Sectors.{calls_of, sectors}
-use Rattle.vr_rules.specs.Steps.{Effect, Write, Rewrite, Save, Mend, Checkpoint, PutBlock, Say, Setting}
-use Rattle.vr_rules.proofs.FitDisks.{block_spares, blocks_spare, header_spares, mend_spares, prepare_reads, prepare_spares, same_entry, save_spares}
+use Rattle.vr_world.specs.Sectors.{calls_of, sectors}
+use Rattle.vr_world.specs.Steps.{Effect, Write, Rewrite, Save, Mend, Checkpoint, PutBlock, Say, Setting}
+use Rattle.vr_world.proofs.FitDisks.{block_spares, blocks_spare, header_spares, mend_spares, prepare_reads, prepare_spares, same_entry, save_spares}
 
 -- effects that write no slot
 abbrev pub IsDry : Effect → Type 0

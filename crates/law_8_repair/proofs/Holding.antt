@@ -27,9 +27,9 @@ use Rattle.vr_super.proofs.Format.{length-copy_bytes}
 use Rattle.vr_super.proofs.Keeping.{copy_done, mend_done}
 use Rattle.vr_super.proofs.Readings.{copy_within, mend_within, other_after}
 use Rattle.vr_world.specs.Lying.{lying}
-use Rattle.vr_rules.specs.Sectors.{block_in, calls_of, sectors}
-use Rattle.vr_rules.specs.Steps.{Effect, Write, Rewrite, Save, Mend, Checkpoint, PutBlock, Say, Setting}
-use Rattle.vr_rules.proofs.FitDisks.{block_spares, blocks_spare, header_spares, mend_spares, prepare_spares, same_reads, save_spares}
+use Rattle.vr_world.specs.Sectors.{block_in, calls_of, sectors}
+use Rattle.vr_world.specs.Steps.{Effect, Write, Rewrite, Save, Mend, Checkpoint, PutBlock, Say, Setting}
+use Rattle.vr_world.proofs.FitDisks.{block_spares, blocks_spare, header_spares, mend_spares, prepare_spares, same_reads, save_spares}
 use Rattle.law_8_repair.proofs.Disks.{IsLong}
 use Rattle.law_8_repair.proofs.Standing.{SparesGrid}
 

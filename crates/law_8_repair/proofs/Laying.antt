@@ -4,8 +4,8 @@ use Rattle.std.specs.Prelude.{nat_lt, slice_get, ◌==◌, ◌||◌}
 use Rattle.std.specs.Option.{option_and_then}
 use Rattle.std.proofs.lemmas.Bool.{and_parts, cases_eq, cases_lt, eq-eqb, eqb-true, le-ltb, lt-ltb}
 use Rattle.std.proofs.lemmas.List.{get_or-append-add, get_or_append_left, get_or_default, length-append, length-map}
-use Rattle.vr_state.specs.StateTexts.{FitsPayloads, payloads}
-use Rattle.vr_state.specs.declared.texts.Texts.{Texts}
+use Rattle.vr_ckpt.specs.StateTexts.{FitsPayloads, payloads}
+use Rattle.vr_ckpt.specs.Texts.{Texts}
 use Rattle.vr_disk.specs.DiskState.{Face}
 use Rattle.vr_ckpt.specs.Blocks.{Content, named}
 use Rattle.vr_ckpt.specs.Grid.{block_reading, named_at}
@@ -24,9 +24,9 @@ use Rattle.vr_ckpt.specs.declared.table.PayloadTable.{PayloadTable}
 use Rattle.vr_ckpt.proofs.Apart.{AtPlace, part_cases, place_of, places_apart, root_at_place}
 use Rattle.vr_ckpt.proofs.Keeping.{each_held}
 use Rattle.vr_world.specs.Lying.{lying}
-use Rattle.vr_rules.specs.Sectors.{sectors}
-use Rattle.vr_rules.specs.Steps.{Setting}
-use Rattle.vr_rules.proofs.FitLoads.{given, some_missing}
+use Rattle.vr_world.specs.Sectors.{sectors}
+use Rattle.vr_world.specs.Steps.{Setting}
+use Rattle.vr_world.proofs.FitLoads.{given, some_missing}
 use Rattle.law_8_repair.specs.Cover.{StandApart}
 use Rattle.law_8_repair.specs.Places.{AreAt, StandsAt, IsInPlaces}
 

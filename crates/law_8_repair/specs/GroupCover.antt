@@ -5,10 +5,10 @@ use Rattle.vr_disk.specs.DiskState.{IsFace}
 use Rattle.vr_msg.specs.declared.event.Event.{Event}
 use Rattle.vr_world.specs.Group.{Group, Member, Played, Run, fresh_group}
 use Rattle.vr_world.specs.GroupFit.{IsFitMove}
-use Rattle.vr_rules.specs.Laws.{IsEvent}
+use Rattle.vr_world.specs.Laws.{IsEvent}
 use Rattle.vr_world.specs.Lying.{Lying, lying}
-use Rattle.vr_rules.specs.Replica.{Replica}
-use Rattle.vr_rules.specs.Words.{places}
+use Rattle.vr_world.specs.Replica.{Replica}
+use Rattle.vr_world.specs.Words.{places}
 use Rattle.law_4_disks.specs.Worlds.{IsOfBytes}
 use Rattle.law_8_repair.specs.Cover.{KnowsFaults, visits_made}
 use Rattle.law_8_repair.specs.Visits.{after_events}

@@ -3,7 +3,7 @@ use Rattle.std.specs.Prelude.{ℕ, ◌^◌, ◌<◌, ◌≤◌, ◌≡◌, List,
 use Rattle.vr_base.specs.declared.kind.Kind.{Kind}
 use Rattle.vr_world.specs.Group.{Group, Member, Played, Run, fresh_group}
 use Rattle.vr_world.specs.GroupFit.{IsFitMove}
-use Rattle.vr_rules.specs.Replica.{Replica}
+use Rattle.vr_world.specs.Replica.{Replica}
 use Rattle.law_8_repair.specs.CaughtUp.{KeepsUp}
 
 abbrev pub AllKeepUp : Group → Type 0

@@ -8,3 +8,10 @@ pub mod Gathering
 pub mod Keeping
 pub mod Planning
 pub mod Roots
+pub use Rattle.vr_state.proofs.KvSteps
+pub use Rattle.vr_state.proofs.KvTexts
+pub use Rattle.vr_state.proofs.Numbers
+pub use Rattle.vr_state.proofs.Once
+pub use Rattle.vr_state.proofs.SessionSteps
+pub use Rattle.vr_state.proofs.Spelled
+pub use Rattle.vr_state.proofs.Stored

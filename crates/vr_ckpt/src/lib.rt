@@ -33,4 +33,5 @@ pub use reading::read_block;
 pub use saving::{SavedCheckpoint, save};
 pub use table::{Payload, PayloadTable};
 pub use view::{BlockView, view_of};
+pub use vr_state::{ReplyBody, SessionAnswer, State, StateFault, Texts};
 pub use writing::{put_block, write_at, write_block};

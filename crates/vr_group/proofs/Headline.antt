@@ -6,8 +6,8 @@ use Rattle.vr_base.specs.declared.kind.Kind.{Kind}
 use Rattle.vr_lines.specs.Fits.{IsLineOf}
 use Rattle.vr_lines.specs.declared.line.Line.{Line}
 use Rattle.vr_lines.specs.declared.line.Line.TheVariants as line
-use Rattle.vr_world.specs.Lying.{Lying, hazards}
-use Rattle.vr_world.specs.World.{World, fresh_world, happen}
+use Rattle.vr_lying.specs.Lying.{Lying, hazards}
+use Rattle.vr_lying.specs.World.{World, fresh_world, happen}
 use Rattle.law_4_disks.specs.Worlds.{IsLine}
 use Rattle.law_6_one_log.proofs.Fresh.{schedules_are_runs}
 use Rattle.law_6_one_log.proofs.Known.{one_log}

@@ -11,24 +11,24 @@ use Rattle.vr_msg.specs.declared.event.Event.{Event}
 use Rattle.vr_msg.specs.declared.output.Output.{Output}
 use Rattle.vr_msg.specs.declared.output.Output.TheVariants as output
 use Rattle.vr_msg.specs.declared.output.Sent.{Sent}
-use Rattle.vr_opening.specs.Making.{Made}
-use Rattle.vr_opening.specs.Recovering.{RecoveredAny}
-use Rattle.vr_opening.specs.declared.reopen.Refusal.{Refusal}
-use Rattle.vr_opening.specs.declared.reopen.Refusal.TheVariants.{Halted, Lost, OtherMember}
-use Rattle.vr_step.specs.Does.{Does}
-use Rattle.vr_step.specs.declared.halt.Halt.{Halt}
-use Rattle.vr_step.specs.declared.halt.Halt.TheVariants.{DiskFault, NoMemory}
-use Rattle.vr_super.specs.Copies.{SuperValue}
-use Rattle.vr_super.specs.Opens.{opens}
-use Rattle.vr_super.specs.declared.recovering.CopyVerdict.{CopyVerdict}
-use Rattle.vr_world.specs.Lying.{Lying, after_calls, hazards, lying}
-use Rattle.vr_rules.specs.Formatting.{format_calls}
-use Rattle.vr_rules.specs.Opening.{blank, fresh, opened, opening}
-use Rattle.vr_rules.specs.Replica.{Replica}
-use Rattle.vr_rules.specs.Rules.{react}
-use Rattle.vr_rules.specs.Sectors.{sectors}
-use Rattle.vr_rules.specs.Steps.{Step, Word}
-use Rattle.vr_world.specs.World.{Acted, Host, acts, fresh_host, fresh_world, handles, starts, stays}
+use Rattle.vr_replica.specs.Making.{Made}
+use Rattle.vr_replica.specs.Recovering.{RecoveredAny}
+use Rattle.vr_replica.specs.Refusal.{Refusal}
+use Rattle.vr_replica.specs.Refusal.TheVariants.{Halted, Lost, OtherMember}
+use Rattle.vr_replica.specs.Does.{Does}
+use Rattle.vr_replica.specs.Halt.{Halt}
+use Rattle.vr_replica.specs.Halt.TheVariants.{DiskFault, NoMemory}
+use Rattle.vr_lie.specs.Copies.{SuperValue}
+use Rattle.vr_lie.specs.Opens.{opens}
+use Rattle.vr_lie.specs.CopyVerdict.{CopyVerdict}
+use Rattle.vr_lying.specs.Lying.{Lying, after_calls, hazards, lying}
+use Rattle.vr_replica.specs.Formatting.{format_calls}
+use Rattle.vr_replica.specs.Opening.{blank, fresh, opened, opening}
+use Rattle.vr_replica.specs.Replica.{Replica}
+use Rattle.vr_replica.specs.Rules.{react}
+use Rattle.vr_replica.specs.Sectors.{sectors}
+use Rattle.vr_replica.specs.Steps.{Step, Word}
+use Rattle.vr_lying.specs.World.{Acted, Host, acts, fresh_host, fresh_world, handles, starts, stays}
 use Rattle.vr_lying.specs.Told.{IsTold, burnt, host_on, lying_in}
 use Rattle.vr_lying.specs.Disks.{blank_lying, calm}
 use Rattle.vr_lying.specs.Laws.{Went, revived}

@@ -6,7 +6,7 @@ use Rattle.vr_lie.specs.declared.fault.Fault.TheVariants as fault
 use Rattle.vr_lines.specs.Fits.{IsLineOf}
 use Rattle.vr_lines.specs.declared.line.Line.{Line}
 use Rattle.vr_lines.specs.declared.line.Line.TheVariants.{Cluster, Request, Deliver, Tick, Stop, Start, Fuse, Damage, Stale, Unread, Misdirect}
-use Rattle.vr_world.specs.World.{Happening, Begins, Asks, Arrives, Ticks, Stops, Starts, Fuses, Lies}
+use Rattle.vr_lying.specs.World.{Happening, Begins, Asks, Arrives, Ticks, Stops, Starts, Fuses, Lies}
 
 abbrev pub happening : Line → Happening
 happening (Cluster n mode) = Begins (of_mode mode) n

@@ -2,7 +2,7 @@
 ghost use Rattle.std.specs.Prelude.{◌≡◌, ◌<◌, ◌^◌, IfOk, OnOk};
 ghost use Rattle.vr_header.specs.Bodies.{IsOperation};
 ghost use Rattle.vr_msg.specs.declared.event.Event.TheVariants as event;
-ghost use Rattle.vr_rules.specs.Fit.{IsAsked};
+ghost use Rattle.vr_replica.specs.Fit.{IsAsked};
 
 use std::alloc::{AllocError, Global};
 use vr_header::{Key, Operation, Value};

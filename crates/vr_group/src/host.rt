@@ -3,8 +3,8 @@ ghost use Rattle.std.specs.Prelude.{◌≡◌, ◌-◌, ◌<◌, ◌≤◌, ◌�
 ghost use Rattle.vr_base.specs.Groups.{quorums_of};
 ghost use Rattle.vr_base.specs.Kinds.{of_mode};
 ghost use Rattle.vr_lie.specs.Faults.{IsFault};
-ghost use Rattle.vr_world.specs.Lying.{hazards};
-ghost use Rattle.vr_world.specs.World.{fresh_host, handles, lies, starts};
+ghost use Rattle.vr_lying.specs.Lying.{hazards};
+ghost use Rattle.vr_lying.specs.World.{fresh_host, handles, lies, starts};
 ghost use Rattle.vr_msg.specs.declared.output.Output.TheVariants as output;
 ghost use Rattle.vr_lying.specs.Disks.{told_by};
 ghost use Rattle.vr_lying.specs.Laws.{revived};
@@ -15,11 +15,10 @@ ghost use Rattle.vr_group.specs.Views.{view_of};
 use std::alloc::Global;
 use std::marker::Model;
 use vr_base::{Config, Mode, NoMemory};
-use vr_lie::{Fault, Faulted};
+use vr_lie::{Fault, Faulted, opens};
 use vr_lying::HostDisk;
 use vr_msg::{Event, Outbox, Output};
 use vr_replica::{Halt, Refusal, Replica};
-use vr_super::opens;
 
 /// A member's replica, none while it is stopped, and its disk.
 #[derive(Drop)]
@@ -29,8 +28,8 @@ pub struct Host {
 }
 
 impl Model for Host {
-    ghost use Rattle.vr_world.specs.Lying.{Lying};
-    ghost use Rattle.vr_world.specs.World as world;
+    ghost use Rattle.vr_lying.specs.Lying.{Lying};
+    ghost use Rattle.vr_lying.specs.World as world;
     ghost use Rattle.vr_lying.specs.Disks.{told_by};
     ghost use Rattle.vr_group.specs.Hosts.{IsHost, host_of};
 

@@ -4,8 +4,8 @@ ghost use Rattle.std.specs.List.{range_with_len};
 ghost use Rattle.vr_base.specs.Groups.{quorums_of};
 ghost use Rattle.vr_base.specs.Kinds.{of_mode};
 ghost use Rattle.vr_lie.specs.Faults.{IsFault};
-ghost use Rattle.vr_world.specs.Lying.{hazards};
-ghost use Rattle.vr_world.specs.World.{fresh_host, fused, handles, lies, starts, stops};
+ghost use Rattle.vr_lying.specs.Lying.{hazards};
+ghost use Rattle.vr_lying.specs.World.{fresh_host, fused, handles, lies, starts, stops};
 ghost use Rattle.vr_group.specs.Hosts.{HaveActed};
 
 use crate::Host;

@@ -4,8 +4,8 @@ ghost use Rattle.std.specs.Option.{option_copied};
 ghost use Rattle.vr_base.specs.Kinds.{of_mode};
 ghost use Rattle.vr_lie.specs.Faults.{IsFault};
 ghost use Rattle.vr_lines.specs.Fits.{IsLineOf};
-ghost use Rattle.vr_world.specs.Lying.{hazards};
-ghost use Rattle.vr_world.specs.World.{Arrives, Lies, Starts, at_member, delivered, fresh_world, handles, happens};
+ghost use Rattle.vr_lying.specs.Lying.{hazards};
+ghost use Rattle.vr_lying.specs.World.{Arrives, Lies, Starts, at_member, delivered, fresh_world, handles, happens};
 ghost use Rattle.vr_group.specs.Headline.{HasAsked};
 ghost use Rattle.vr_group.specs.Lines.{happening};
 

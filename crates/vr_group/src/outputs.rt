@@ -1,6 +1,6 @@
 //! What is put out, and the messages among it.
 ghost use Rattle.std.specs.Prelude.{◌≡◌, ◌++◌, ◌∷◌, [], length, IfOk, OnOk};
-ghost use Rattle.vr_rules.specs.Outputs.{message_of, messages};
+ghost use Rattle.vr_replica.specs.Outputs.{message_of, messages};
 ghost use Rattle.vr_group.specs.Outputs.{numbered, outputs_of, put_as, with_number, with_outputs};
 ghost use Rattle.vr_group.specs.declared.outputs.Put.TheVariants.{Message};
 

@@ -1,9 +1,9 @@
 //! Apply: the stored entries up to the commit number, in order.
 ghost use Rattle.std.specs.Prelude.{◌≡◌, ◌<◌, ◌≤◌, ◌+◌, ◌-◌, ◌^◌, IfOk, OnOk, true, if◌then◌else◌};
 ghost use Rattle.vr_ckpt.specs.Saves.{saved_checkpoint};
-ghost use Rattle.vr_state.specs.StateTexts.{texts_of};
-ghost use Rattle.vr_rules.specs.Replica.{part_at};
-ghost use Rattle.vr_rules.specs.Words.{checkpoints, make_checkpoint, is_checkpoint, applied, apply_entry, apply_next, apply, with_entry, learn};
+ghost use Rattle.vr_ckpt.specs.StateTexts.{texts_of};
+ghost use Rattle.vr_memory.specs.Replica.{part_at};
+ghost use Rattle.vr_memory.specs.Words.{checkpoints, make_checkpoint, is_checkpoint, applied, apply_entry, apply_next, apply, with_entry, learn};
 ghost use Rattle.vr_step.specs.Does.{Does, Caused, PerformsTo, done};
 ghost use Rattle.vr_header.specs.declared.part.Part.TheVariants.{Here};
 ghost use Rattle.vr_memory.specs.Ready.{IsReady, MayApply, HasApplied, due};
@@ -190,7 +190,7 @@ fn apply_next<D: SectorDisk>(
 }
 
 /// Applies the stored entries up to the commit number.
-#[tactic(auto, using(vr_step::proofs::Stepping::loops, vr_memory::proofs::Memory::few_to_apply), unfolding(vr_rules::specs::Words::apply))]
+#[tactic(auto, using(vr_step::proofs::Stepping::loops, vr_memory::proofs::Memory::few_to_apply), unfolding(vr_memory::specs::Words::apply))]
 pub fn apply<D: SectorDisk>(
     replica: &mut Replica,
     alloc: Global,
@@ -212,7 +212,7 @@ pub fn apply<D: SectorDisk>(
 }
 
 /// Learns a commit number, and applies.
-#[tactic(auto, using(vr_step::proofs::Stepping::steps, vr_memory::proofs::Memory::readies, vr_memory::proofs::Memory::window_of), unfolding(vr_rules::specs::Words::learn))]
+#[tactic(auto, using(vr_step::proofs::Stepping::steps, vr_memory::proofs::Memory::readies, vr_memory::proofs::Memory::window_of), unfolding(vr_memory::specs::Words::learn))]
 pub fn learn<D: SectorDisk>(
     replica: &mut Replica,
     alloc: Global,

@@ -1,7 +1,7 @@
 //! The effects of a replica on its disk, each by the call of its storage crate.
 ghost use Rattle.std.specs.Prelude.{◌≡◌, ◌≤◌, ◌+◌, OnOk, is_ok, is_some, true};
 ghost use Rattle.vr_base.specs.Causes.{HasCause};
-ghost use Rattle.vr_rules.specs.Words.{writes, saves, with_saved, value_of};
+ghost use Rattle.vr_memory.specs.Words.{writes, saves, with_saved, value_of};
 ghost use Rattle.vr_ckpt.specs.Blocks.{named};
 ghost use Rattle.vr_journal.specs.Effects.{rewrites, puts};
 ghost use Rattle.vr_step.specs.Does.{Performs};

@@ -1,7 +1,7 @@
 //! The checkpoint is loaded.
 ghost use Rattle.std.specs.Prelude.{◌≡◌, IfOk, OnOk, nat_lt};
 ghost use Rattle.vr_ckpt.specs.declared.found.Load.{Load};
-ghost use Rattle.vr_rules.specs.Words.{load, checkpoint_at};
+ghost use Rattle.vr_memory.specs.Words.{load, checkpoint_at};
 ghost use Rattle.vr_step.specs.Does.{Does, Finds, Caused};
 ghost use Rattle.vr_memory.specs.Ready.{IsReady, MayLoad};
 

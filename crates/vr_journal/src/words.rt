@@ -1,9 +1,9 @@
 //! The words of which rules are made.
 ghost use Rattle.std.specs.Prelude.{◌≡◌, ◌<◌, ◌≤◌, ◌+◌, ◌^◌, OnOk};
-ghost use Rattle.vr_rules.specs.Words.{save, write, accept, enter, entered, value_of, with_saved};
-ghost use Rattle.vr_rules.specs.Outputs.{send_to_all, start_view_change};
-ghost use Rattle.vr_rules.specs.Steps.{◌⨾◌, change, says};
-ghost use Rattle.vr_rules.specs.Replica.{last_view};
+ghost use Rattle.vr_memory.specs.Words.{save, write, accept, enter, entered, value_of, with_saved};
+ghost use Rattle.vr_memory.specs.Outputs.{send_to_all, start_view_change};
+ghost use Rattle.vr_memory.specs.Steps.{◌⨾◌, change, says};
+ghost use Rattle.vr_memory.specs.Replica.{last_view};
 ghost use Rattle.vr_step.specs.Does.{Does, Caused};
 ghost use Rattle.vr_memory.specs.Ready.{IsReady, MayStore};
 
@@ -17,7 +17,7 @@ use vr_step::Halt;
 use vr_super::Super;
 
 /// Saves this value, which is the present one.
-#[tactic(auto, using(vr_step::proofs::Stepping::effects, vr_memory::proofs::Memory::readies), unfolding(vr_rules::specs::Words::save))]
+#[tactic(auto, using(vr_step::proofs::Stepping::effects, vr_memory::proofs::Memory::readies), unfolding(vr_memory::specs::Words::save))]
 fn save_made<D: SectorDisk>(
     replica: &mut Replica,
     disk: &mut D,
@@ -63,7 +63,7 @@ pub fn save<D: SectorDisk>(
 }
 
 /// Stores an entry.
-#[tactic(auto, using(vr_step::proofs::Stepping::effects, vr_memory::proofs::Memory::window_of, vr_memory::proofs::Memory::readies), unfolding(vr_rules::specs::Words::write))]
+#[tactic(auto, using(vr_step::proofs::Stepping::effects, vr_memory::proofs::Memory::window_of, vr_memory::proofs::Memory::readies), unfolding(vr_memory::specs::Words::write))]
 pub fn write<D: SectorDisk>(
     replica: &mut Replica,
     disk: &mut D,
@@ -84,7 +84,7 @@ pub fn write<D: SectorDisk>(
 }
 
 /// Stores an entry unless it is stored.
-#[tactic(auto, using(vr_step::proofs::Stepping::steps), unfolding(vr_rules::specs::Words::accept))]
+#[tactic(auto, using(vr_step::proofs::Stepping::steps), unfolding(vr_memory::specs::Words::accept))]
 pub fn accept<D: SectorDisk>(
     replica: &mut Replica,
     disk: &mut D,
@@ -132,7 +132,7 @@ fn enter_now<D: SectorDisk>(
 }
 
 /// Enters a view, and the others hear of it; past the last view there is none to enter.
-#[tactic(auto, using(vr_step::proofs::Stepping::steps, vr_memory::proofs::Memory::readies), unfolding(vr_rules::specs::Words::enter))]
+#[tactic(auto, using(vr_step::proofs::Stepping::steps, vr_memory::proofs::Memory::readies), unfolding(vr_memory::specs::Words::enter))]
 pub fn enter<D: SectorDisk>(
     replica: &mut Replica,
     alloc: Global,

@@ -11,3 +11,4 @@ mod trial;
 pub use disk::LieDisk;
 pub use fault::{Fault, Faulted};
 pub use laws::lie_laws;
+pub use vr_super::opens;

@@ -7,11 +7,11 @@ use Rattle.vr_disk.specs.DiskState.{Call, Disk, Face, Fuse, Runs, runs}
 use Rattle.vr_disk.proofs.Together.{after_all_append}
 use Rattle.vr_lie.specs.Faults.{held_at}
 use Rattle.vr_msg.specs.declared.output.Output.{Output}
-use Rattle.vr_rings.specs.Held.{held_after_all}
+use Rattle.vr_lie.specs.Held.{held_after_all}
 use Rattle.vr_world.specs.Lying.{Lying, after_calls, cut_calls, each_slot, hazards, lying}
-use Rattle.vr_rules.specs.Replica.{Replica}
-use Rattle.vr_rules.specs.Sectors.{calls, calls_of}
-use Rattle.vr_rules.specs.Steps.{Effect, Step, after_all, outputs}
+use Rattle.vr_world.specs.Replica.{Replica}
+use Rattle.vr_world.specs.Sectors.{calls, calls_of}
+use Rattle.vr_world.specs.Steps.{Effect, Step, after_all, outputs}
 use Rattle.vr_world.specs.World.{Acted, Host, acts, halted, went, went_or_halted}
 use Rattle.vr_lying.specs.Told.{IsTold, burnt, host_on, lying_in}
 use Rattle.vr_lying.specs.Laws.{ActsGo, ActsHalt, HaltedAt, WasCut, WentOn, Went, revived}

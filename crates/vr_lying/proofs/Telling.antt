@@ -5,8 +5,8 @@ use Rattle.std.proofs.lemmas.List.{get_or-replicate, length-replicate}
 use Rattle.vr_disk.specs.DiskState.{Beside, Call, CallVerdict, Goes, Fails, Cuts, Disk, Face, Fate, IsFace, Attaches, Runs, attached, attached_as, is_to_fail, judged, ran, ran_as, runs}
 use Rattle.vr_lie.specs.Faults.{HeldLooked, HeldRan, KeepsPremise, faulted, held_as, held_at}
 use Rattle.vr_lie.specs.declared.fault.Fault.{Fault}
-use Rattle.vr_rings.specs.Held.{looked}
-use Rattle.vr_super.specs.Opens.{mode_in}
+use Rattle.vr_lie.specs.Held.{looked}
+use Rattle.vr_lie.specs.Opens.{mode_in}
 use Rattle.vr_mem.specs.Seen as mem
 use Rattle.vr_mem.specs.Seen.{copies}
 use Rattle.vr_world.specs.Lying.{Lying, each_slot, keeps_premise, lied_to, unless_kept_out, zero_face}

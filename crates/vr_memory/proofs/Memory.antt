@@ -22,7 +22,7 @@ use Rattle.vr_rules.proofs.SavesParts.{savable_move, topped_moved}
 use Rattle.vr_rules.proofs.SavesSectors.{sectors_fit}
 use Rattle.vr_rules.specs.Words.{with_checkpoint, is_checkpoint, is_loaded}
 use Rattle.vr_rules.specs.Sectors.{sectors}
-use Rattle.vr_state.specs.declared.texts.Texts.{Texts}
+use Rattle.vr_ckpt.specs.Texts.{Texts}
 use Rattle.vr_ckpt.specs.declared.table.PayloadTable.{PayloadTable}
 use Rattle.vr_ckpt.specs.declared.saving.SavedCheckpoint as checkpoint
 use Rattle.vr_ckpt.specs.Places.{IsCheckpoint}

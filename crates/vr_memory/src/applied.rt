@@ -9,10 +9,9 @@ ghost use Rattle.vr_memory.specs.Ready.{IsReady, MayApply, HasApplied};
 use crate::Replica;
 use std::alloc::AllocError;
 use vr_base::{NoMemory, Replicas, Sum};
-use vr_ckpt::SavedCheckpoint;
+use vr_ckpt::{ReplyBody, SavedCheckpoint};
 use vr_header::{Entry, Header, Part};
 use vr_msg::{Answered, Committed, Outbox, Output, Reply, ReplyFields, ReplyKind};
-use vr_state::ReplyBody;
 
 impl Replica {
     /// The window moves up with the checkpoint.

@@ -5,10 +5,9 @@ ghost use Rattle.vr_rules.specs.Opening.{blank, first_listed};
 use crate::Replica;
 use std::alloc::Global;
 use vr_base::{NoMemory, Replicas, Seq};
-use vr_ckpt::{Name, PayloadTable};
+use vr_ckpt::{Name, PayloadTable, State};
 use vr_disk::Buffer;
 use vr_header::Part;
-use vr_state::State;
 use vr_super::Super;
 use vr_window::{Names, Places, Window};
 

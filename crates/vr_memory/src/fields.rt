@@ -9,9 +9,8 @@ ghost use Rattle.vr_rules.specs.Words.{is_loaded};
 use crate::Replica;
 use crate::group::primary;
 use vr_base::{Config, Replicas, Sum};
-use vr_ckpt::{Name, NameList, PayloadTable};
+use vr_ckpt::{Name, NameList, PayloadTable, State};
 use vr_header::{Header, Part};
-use vr_state::State;
 use vr_super::Super;
 use vr_window::Window;
 

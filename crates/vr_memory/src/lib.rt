@@ -23,3 +23,4 @@ pub use group::{LAST_VIEW, primary};
 pub use parts::{is_here, may_be_stored};
 pub use replica::Replica;
 pub use taking::Log;
+pub use vr_window::{Window, valued};

@@ -7,8 +7,7 @@ ghost use Rattle.vr_memory.specs.Ready.{Decodes};
 use crate::Replica;
 use std::alloc::{AllocError, Global};
 use vr_base::{NoMemory, Seq};
-use vr_ckpt::{Load, Name, NameList, PayloadTable};
-use vr_state::{State, StateFault, Texts};
+use vr_ckpt::{Load, Name, NameList, PayloadTable, State, StateFault, Texts};
 
 // The state of these texts, none where they don't decode.
 #[tactic(auto, using(crate::proofs::Loads::not_decoded))]

@@ -3,11 +3,10 @@
 use std::alloc::{AllocError, Global};
 use std::marker::Model;
 use vr_base::{NoMemory, Replicas};
-use vr_ckpt::{Name, NameList, PayloadTable};
+use vr_ckpt::{Name, NameList, PayloadTable, State};
 use vr_disk::Buffer;
 use vr_header::{HeaderList, Part};
 use vr_msg::Statement;
-use vr_state::State;
 use vr_super::{Fields, Super};
 use vr_window::{Names, Places, Window, known_from, run_of};
 

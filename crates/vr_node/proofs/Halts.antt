@@ -3,9 +3,9 @@ use Rattle.std.proofs.Common.{◌≡◌, ℕ, Err, ap}
 use Rattle.vr_serve.specs.Causes.{HaltCause}
 use Rattle.vr_serve.specs.declared.member.Halt.{Halt}
 use Rattle.vr_serve.specs.declared.member.Halt.TheVariants as stop
-use Rattle.vr_step.specs.Does.{Caused}
-use Rattle.vr_step.specs.declared.halt.Halt as step
-use Rattle.vr_step.specs.declared.halt.Halt.TheVariants as halt
+use Rattle.vr_replica.specs.Does.{Caused}
+use Rattle.vr_replica.specs.Halt as step
+use Rattle.vr_replica.specs.Halt.TheVariants as halt
 
 pub halts : (before now : ℕ) (why : step.Halt) (s : Halt) → (s ≡ stop.Disk → why ≡ halt.DiskFault) → (s ≡ stop.NoMemory → why ≡ halt.NoMemory)
     → Caused {T = Unit {0}} before now (Err why) → HaltCause {T = Unit {0}} before now (Err s)

@@ -6,18 +6,18 @@ use Rattle.vr_base.specs.declared.table.Config.{Config}
 use Rattle.vr_disk.specs.DiskState.{Disk}
 use Rattle.vr_msg.specs.declared.output.Output.{Output}
 use Rattle.vr_node.specs.Opening.{Opening}
-use Rattle.vr_opening.specs.Making.{Made}
-use Rattle.vr_opening.specs.Recovering.{Recovered}
-use Rattle.vr_opening.specs.declared.new_member.FreshFault.{FreshFault}
-use Rattle.vr_opening.specs.declared.new_member.FreshFault.TheVariants as made
-use Rattle.vr_opening.specs.declared.reopen.Refusal.TheVariants as found
+use Rattle.vr_replica.specs.Making.{Made}
+use Rattle.vr_replica.specs.Recovering.{Recovered}
+use Rattle.vr_replica.specs.FreshFault.{FreshFault}
+use Rattle.vr_replica.specs.FreshFault.TheVariants as made
+use Rattle.vr_replica.specs.Refusal.TheVariants as found
 use Rattle.vr_replica.specs.Running.{Running}
-use Rattle.vr_rules.specs.Formatting.{format_calls}
-use Rattle.vr_rules.specs.Opening.{blank}
-use Rattle.vr_rules.specs.Replica.{Replica}
+use Rattle.vr_replica.specs.Formatting.{format_calls}
+use Rattle.vr_replica.specs.Opening.{blank}
+use Rattle.vr_replica.specs.Replica.{Replica}
 use Rattle.vr_status.specs.declared.status.Status.{Status}
 use Rattle.vr_status.specs.declared.status.Status.TheVariants as status
-use Rattle.vr_step.specs.declared.halt.Halt.TheVariants as halt
+use Rattle.vr_replica.specs.Halt.TheVariants as halt
 use Rattle.vr_super.specs.declared.recovering.CopyVerdict.{CopyVerdict}
 
 -- what is put out by an opening that failed is nothing

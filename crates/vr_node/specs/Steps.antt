@@ -1,9 +1,9 @@
 -- What a member of a group does at an event.
 use Rattle.std.specs.Prelude.{[], Ok}
 use Rattle.vr_node.specs.declared.node.Node.{Node}
-use Rattle.vr_rules.specs.Rules.{react}
+use Rattle.vr_replica.specs.Rules.{react}
 use Rattle.vr_serve.specs.Runs.{Doing}
-use Rattle.vr_step.specs.Does.{Does}
+use Rattle.vr_replica.specs.Does.{Does}
 
 -- one step of the rules, whole: replica, disk and outputs are those that the rules give
 abbrev pub steps : Doing Node

@@ -1,7 +1,7 @@
 //! A replica as the loop of turns takes it.
 ghost use Rattle.std.specs.Prelude.{◌≡◌};
 ghost use Rattle.vr_serve.specs.declared.member.Halt.TheVariants as stop;
-ghost use Rattle.vr_step.specs.declared.halt.Halt.TheVariants as halt;
+ghost use Rattle.vr_replica.specs.Halt.TheVariants as halt;
 
 use std::alloc::Global;
 use vr_disk::SectorDisk;

@@ -5,9 +5,9 @@ use Rattle.std.specs.Option.{option_map_or}
 use Rattle.vr_header.specs.declared.part.Part.{Part}
 use Rattle.vr_msg.specs.declared.frame.Commit.{Commit}
 use Rattle.vr_msg.specs.Logs.{header_of}
-use Rattle.vr_rules.specs.Replica.{head}
-use Rattle.vr_rules.specs.Rules.{ask_view}
-use Rattle.vr_rules.specs.Steps.{Word, by, when}
+use Rattle.vr_journal.specs.Replica.{head}
+use Rattle.vr_journal.specs.Rules.{ask_view}
+use Rattle.vr_journal.specs.Steps.{Word, by, when}
 
 -- where the log of the primary is longer, it is asked for
 unfoldable pub asks_behind : {F : Type 0} → Commit → Word F

@@ -1,24 +1,22 @@
 //! Acknowledgements are counted: prepare_oks.
 ghost use Rattle.std.specs.Prelude.{◌≡◌, ◌<◌, ◌≤◌, ◌+◌, ◌^◌, ◌&&◌, ◌==◌, nat_le, nat_lt, OnOk, true};
 ghost use Rattle.vr_base.specs.Bytes.{name_of};
-ghost use Rattle.vr_memory.specs.Ready.{IsReady};
+ghost use Rattle.vr_journal.specs.Ready.{IsReady};
 ghost use Rattle.vr_journal.specs.Waits.{EndsAtOnce, Waits, passes};
-ghost use Rattle.vr_rules.specs.Deciding.{first_of, is_named, prepare_ok_table};
-ghost use Rattle.vr_rules.specs.declared.rule.Rule.TheVariants.{Counted};
-ghost use Rattle.vr_rules.specs.Replica.{head, leads};
-ghost use Rattle.vr_rules.specs.Rules.{acknowledged, on_prepare_ok};
-ghost use Rattle.vr_rules.specs.Steps.{◌⨾◌, change};
-ghost use Rattle.vr_rules.specs.Words.{advance};
-ghost use Rattle.vr_step.specs.Does.{Caused, Does};
+ghost use Rattle.vr_journal.specs.Deciding.{first_of, is_named, prepare_ok_table};
+ghost use Rattle.vr_journal.specs.Rule.TheVariants.{Counted};
+ghost use Rattle.vr_journal.specs.Replica.{head, leads};
+ghost use Rattle.vr_journal.specs.Rules.{acknowledged, on_prepare_ok};
+ghost use Rattle.vr_journal.specs.Steps.{◌⨾◌, change};
+ghost use Rattle.vr_journal.specs.Words.{advance};
+ghost use Rattle.vr_journal.specs.Does.{Caused, Does};
 ghost use Rattle.vr_normal.specs.Named.{count_rule};
 ghost use Rattle.vr_normal.specs.declared.counting.CountRule.TheVariants as CountRule;
 
 use std::alloc::Global;
 use vr_disk::SectorDisk;
-use vr_journal::advance;
-use vr_memory::Replica;
+use vr_journal::{Halt, Replica, advance};
 use vr_msg::{Outbox, PrepareOk};
-use vr_step::Halt;
 
 /// What a prepare_ok leads to.
 #[derive(Clone, Copy, Debug, PartialEq, Eq)]
@@ -30,7 +28,7 @@ pub enum CountRule {
 }
 
 // Whether it is of an open entry of the view that this replica leads.
-#[tactic(auto, using(vr_memory::proofs::Memory::window_of, vr_memory::proofs::Memory::some_member))]
+#[tactic(auto, using(vr_journal::proofs::Memory::window_of, vr_journal::proofs::Memory::some_member))]
 fn is_open(replica: &Replica, ack: &PrepareOk) -> bool
     requires { IsReady replica.now }
     ensures { result ≡ (leads replica.now && ((ack.now.view == replica.now.view) && (nat_lt replica.now.commit ack.now.op && (nat_le ack.now.op (head replica.now) && is_named name_of ack.now.name ack.now.op replica.now)))) }
@@ -43,7 +41,7 @@ fn is_open(replica: &Replica, ack: &PrepareOk) -> bool
 }
 
 /// Which rule applies to a prepare_ok.
-#[tactic(auto, unfolding(vr_rules::specs::Deciding::first_of))]
+#[tactic(auto, unfolding(vr_journal::specs::Deciding::first_of))]
 pub fn decide_prepare_ok(replica: &Replica, ack: &PrepareOk) -> CountRule
     requires { IsReady replica.now }
     ensures { first_of (prepare_ok_table name_of ack.now replica.now) ≡ count_rule result }
@@ -58,7 +56,7 @@ pub fn decide_prepare_ok(replica: &Replica, ack: &PrepareOk) -> CountRule
 }
 
 // It is counted, and the commit number rises as far as it may.
-#[tactic(auto, using(vr_step::proofs::Stepping::steps, crate::proofs::Counts::counted_from, crate::proofs::Counts::counted_within, crate::proofs::Counts::ready_counted))]
+#[tactic(auto, using(vr_journal::proofs::Stepping::steps, crate::proofs::Counts::counted_from, crate::proofs::Counts::counted_within, crate::proofs::Counts::ready_counted))]
 fn count<D: SectorDisk>(
     replica: &mut Replica,
     alloc: Global,

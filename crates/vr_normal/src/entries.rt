@@ -4,7 +4,7 @@ ghost use Rattle.vr_header.specs.Made.{IsEntryHeader};
 ghost use Rattle.vr_header.specs.Spelling.{IsHeader};
 
 use vr_header::{Entry, Header};
-use vr_window::valued;
+use vr_journal::valued;
 
 /// The header of an entry, which has the values of one.
 pub fn header_of(entry: &Entry) -> Header

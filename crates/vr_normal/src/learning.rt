@@ -1,23 +1,21 @@
 //! How far the log is committed is learned: commits.
 ghost use Rattle.std.specs.Prelude.{◌≡◌, ◌<◌, ◌≤◌, ◌+◌, ◌++◌, ◌^◌, nat_lt, OnOk};
-ghost use Rattle.vr_memory.specs.Ready.{IsReady};
-ghost use Rattle.vr_rules.specs.Deciding.{commit_table, first_of};
-ghost use Rattle.vr_rules.specs.Outputs.{get_view, send_to};
-ghost use Rattle.vr_rules.specs.Replica.{head, last_view};
-ghost use Rattle.vr_rules.specs.Rules.{on_commit};
-ghost use Rattle.vr_rules.specs.Steps.{◌⨾◌, change};
-ghost use Rattle.vr_rules.specs.Words.{learn, rested};
-ghost use Rattle.vr_step.specs.Does.{Caused, Does};
+ghost use Rattle.vr_journal.specs.Ready.{IsReady};
+ghost use Rattle.vr_journal.specs.Deciding.{commit_table, first_of};
+ghost use Rattle.vr_journal.specs.Outputs.{get_view, send_to};
+ghost use Rattle.vr_journal.specs.Replica.{head, last_view};
+ghost use Rattle.vr_journal.specs.Rules.{on_commit};
+ghost use Rattle.vr_journal.specs.Steps.{◌⨾◌, change};
+ghost use Rattle.vr_journal.specs.Words.{learn, rested};
+ghost use Rattle.vr_journal.specs.Does.{Caused, Does};
 ghost use Rattle.vr_normal.specs.Messages.{IsCommitting};
 ghost use Rattle.vr_normal.specs.Named.{commit_rule};
 ghost use Rattle.vr_normal.specs.Words.{asks_behind};
 
 use std::alloc::{AllocError, Global};
 use vr_disk::SectorDisk;
-use vr_journal::learn;
-use vr_memory::Replica;
+use vr_journal::{Halt, Replica, learn};
 use vr_msg::{Commit, GetView, Message, Outbox};
-use vr_step::Halt;
 
 /// What a commit leads to.
 #[derive(Clone, Copy, Debug, PartialEq, Eq)]
@@ -46,7 +44,7 @@ pub fn ask_view(replica: &Replica, view: u32, to: u8, out: &mut Outbox) -> Resul
 }
 
 /// Which rule applies to a commit.
-#[tactic(auto, using(vr_memory::proofs::Memory::some_member), unfolding(vr_rules::specs::Deciding::first_of))]
+#[tactic(auto, using(vr_journal::proofs::Memory::some_member), unfolding(vr_journal::specs::Deciding::first_of))]
 pub fn decide_commit(replica: &Replica, commit: &Commit) -> CommitRule
     requires { IsReady replica.now }
     ensures { first_of (commit_table commit.now replica.now) ≡ commit_rule result }
@@ -63,7 +61,7 @@ pub fn decide_commit(replica: &Replica, commit: &Commit) -> CommitRule
 }
 
 // Whether the primary's log is longer.
-#[tactic(auto, using(vr_memory::proofs::Memory::window_of))]
+#[tactic(auto, using(vr_journal::proofs::Memory::window_of))]
 fn is_behind(replica: &Replica, commit: &Commit) -> bool
     requires { IsReady replica.now }
     ensures { result ≡ nat_lt (head replica.now) commit.now.head }
@@ -72,7 +70,7 @@ fn is_behind(replica: &Replica, commit: &Commit) -> bool
 }
 
 // Asks for the log where the primary's is longer.
-#[tactic(auto, using(crate::proofs::Commits::behind, vr_step::proofs::Stepping::wants))]
+#[tactic(auto, using(crate::proofs::Commits::behind, vr_journal::proofs::Stepping::wants))]
 fn ask_behind<D: SectorDisk>(
     replica: &Replica,
     _disk: &mut D,
@@ -91,7 +89,7 @@ fn ask_behind<D: SectorDisk>(
 }
 
 // The primary is heard, and the commit number learned.
-#[tactic(auto, using(vr_step::proofs::Stepping::steps, vr_memory::proofs::Memory::readies))]
+#[tactic(auto, using(vr_journal::proofs::Stepping::steps, vr_journal::proofs::Memory::readies))]
 fn hear<D: SectorDisk>(
     replica: &mut Replica,
     alloc: Global,
@@ -113,7 +111,7 @@ fn hear<D: SectorDisk>(
 
 /// The primary tells how far its log goes, and how far it is committed. A replica that has the view's log learns the commit number, and
 /// asks for the log where its own is shorter; one that hasn't asks for the log.
-#[tactic(auto, using(crate::proofs::Commits::rules, crate::proofs::Commits::view_fits, vr_step::proofs::Stepping::wants))]
+#[tactic(auto, using(crate::proofs::Commits::rules, crate::proofs::Commits::view_fits, vr_journal::proofs::Stepping::wants))]
 pub fn handle_commit<D: SectorDisk>(
     replica: &mut Replica,
     alloc: Global,

@@ -2,27 +2,25 @@
 ghost use Rattle.std.specs.Prelude.{◌≡◌, ◌<◌, ◌≤◌, ◌+◌, ◌^◌, IfOk, OnOk};
 ghost use Rattle.vr_base.specs.Bytes.{name_of};
 ghost use Rattle.vr_header.specs.Names.{name_by};
-ghost use Rattle.vr_memory.specs.Ready.{IsReady, MayStore};
+ghost use Rattle.vr_journal.specs.Ready.{IsReady, MayStore};
 ghost use Rattle.vr_msg.specs.Asking.{IsRequest};
-ghost use Rattle.vr_rules.specs.Deciding.{first_of, request_table};
-ghost use Rattle.vr_rules.specs.declared.rule.Rule.TheVariants.{Made};
-ghost use Rattle.vr_rules.specs.Replica.{head, head_header, last_view};
-ghost use Rattle.vr_rules.specs.Rules.{make, next_entry};
-ghost use Rattle.vr_rules.specs.Steps.{by};
-ghost use Rattle.vr_step.specs.Does.{Caused, Does};
+ghost use Rattle.vr_journal.specs.Deciding.{first_of, request_table};
+ghost use Rattle.vr_journal.specs.Rule.TheVariants.{Made};
+ghost use Rattle.vr_journal.specs.Replica.{head, head_header, last_view};
+ghost use Rattle.vr_journal.specs.Rules.{make, next_entry};
+ghost use Rattle.vr_journal.specs.Steps.{by};
+ghost use Rattle.vr_journal.specs.Does.{Caused, Does};
 
 use crate::entries::header_of;
 use std::alloc::{AllocError, Global};
 use vr_base::Sum;
 use vr_disk::SectorDisk;
 use vr_header::{Entry, Header};
-use vr_journal::{advance, write};
-use vr_memory::Replica;
+use vr_journal::{Halt, Replica, advance, write};
 use vr_msg::{Outbox, RequestFields};
-use vr_step::Halt;
 
 /// The name of what the next entry stands on.
-#[tactic(auto, using(vr_memory::proofs::Memory::window_of))]
+#[tactic(auto, using(vr_journal::proofs::Memory::window_of))]
 pub fn head_name(replica: &Replica) -> Sum
     requires { IsReady replica.now }
     ensures { result ≡ name_by name_of (head_header name_of replica.now) }
@@ -34,7 +32,7 @@ pub fn head_name(replica: &Replica) -> Sum
 }
 
 // The op of the next entry.
-#[tactic(auto, using(vr_memory::proofs::Memory::window_of))]
+#[tactic(auto, using(vr_journal::proofs::Memory::window_of))]
 fn next_op(replica: &Replica) -> u64
     requires ready { IsReady replica.now }
     requires room { head replica.now < 2 ^ 62 }
@@ -45,7 +43,7 @@ fn next_op(replica: &Replica) -> u64
 }
 
 // The next entry, of this request.
-#[tactic(auto, unfolding(vr_rules::specs::Rules::next_entry))]
+#[tactic(auto, unfolding(vr_journal::specs::Rules::next_entry))]
 fn next_entry(
     replica: &Replica,
     alloc: Global,
@@ -73,7 +71,7 @@ fn next_entry(
 }
 
 // An entry is stored, prepared to the others, and counted.
-#[tactic(auto, using(vr_step::proofs::Stepping::steps, vr_memory::proofs::Memory::readies), unfolding(vr_rules::specs::Rules::make))]
+#[tactic(auto, using(vr_journal::proofs::Stepping::steps, vr_journal::proofs::Memory::readies), unfolding(vr_journal::specs::Rules::make))]
 fn make<D: SectorDisk>(
     replica: &mut Replica,
     alloc: Global,
@@ -96,7 +94,7 @@ fn make<D: SectorDisk>(
 }
 
 /// The next entry is made of this request.
-#[tactic(auto, using(vr_step::proofs::Stepping::steps, crate::proofs::Requests::may_make, crate::proofs::Requests::made_view, crate::proofs::Requests::head_room))]
+#[tactic(auto, using(vr_journal::proofs::Stepping::steps, crate::proofs::Requests::may_make, crate::proofs::Requests::made_view, crate::proofs::Requests::head_room))]
 pub fn make_next<D: SectorDisk>(
     replica: &mut Replica,
     alloc: Global,

@@ -2,17 +2,17 @@
 ghost use Rattle.std.specs.Prelude.{◌≡◌, ◌<◌, ◌≤◌, ◌+◌, ◌-◌, ◌++◌, ◌^◌, ◌||◌, not, nat_le, nat_lt, slice_index_or, IfOk, OnOk};
 ghost use Rattle.vr_base.specs.Bytes.{name_of};
 ghost use Rattle.vr_header.specs.declared.part.Part.TheVariants.{Nothing};
-ghost use Rattle.vr_memory.specs.Ready.{IsReady};
+ghost use Rattle.vr_journal.specs.Ready.{IsReady};
 ghost use Rattle.vr_msg.specs.Asking.{IsRequest, IsReplyKind};
 ghost use Rattle.vr_msg.specs.Normal.{last_op, pipeline};
-ghost use Rattle.vr_rules.specs.Deciding.{first_of, is_in_flight, request_table};
-ghost use Rattle.vr_rules.specs.Outputs.{replies};
-ghost use Rattle.vr_rules.specs.Replica.{head, last_view};
-ghost use Rattle.vr_rules.specs.Rules.{asker_by, on_request};
-ghost use Rattle.vr_rules.specs.Words.{is_loaded};
-ghost use Rattle.vr_state.specs.Asks.{is_fresh};
-ghost use Rattle.vr_step.specs.Does.{Caused, Does};
-ghost use Rattle.vr_rules.proofs.Replying.{HasNumber};
+ghost use Rattle.vr_journal.specs.Deciding.{first_of, is_in_flight, request_table};
+ghost use Rattle.vr_journal.specs.Outputs.{replies};
+ghost use Rattle.vr_journal.specs.Replica.{head, last_view};
+ghost use Rattle.vr_journal.specs.Rules.{asker_by, on_request};
+ghost use Rattle.vr_journal.specs.Words.{is_loaded};
+ghost use Rattle.vr_ckpt.specs.Asks.{is_fresh};
+ghost use Rattle.vr_journal.specs.Does.{Caused, Does};
+ghost use Rattle.vr_journal.proofs.Replying.{HasNumber};
 ghost use Rattle.vr_normal.specs.Named.{request_rule};
 ghost use Rattle.vr_normal.specs.Requests.{Answers, open_rows, stored_replies};
 ghost use Rattle.vr_normal.specs.Words.{any_of, is_of};
@@ -20,13 +20,11 @@ ghost use Rattle.vr_normal.specs.Words.{any_of, is_of};
 use crate::making::make_next;
 use std::alloc::{AllocError, Global};
 use vr_base::{NoMemory, Sum};
+use vr_ckpt::SessionAnswer;
 use vr_disk::SectorDisk;
 use vr_header::{Header, Part};
-use vr_memory::Replica;
+use vr_journal::{Halt, Replica, Window};
 use vr_msg::{Answered, Outbox, ReplyKind, Request, RequestFields};
-use vr_state::SessionAnswer;
-use vr_step::Halt;
-use vr_window::Window;
 
 // The most entries that stand above the commit number.
 const PIPELINE: u64 = 8;
@@ -56,7 +54,7 @@ pub enum RequestRule {
 // ---- which rule applies
 
 // Whether the header that is known at a place is of this client's request.
-#[tactic(auto, using(vr_window::proofs::Lists::past_is, vr_window::proofs::Lists::found_is))]
+#[tactic(auto, using(vr_journal::proofs::Lists::past_is, vr_journal::proofs::Lists::found_is))]
 fn is_of(parts: &Window<Part>, client: u64, at: usize) -> bool
     ensures { result ≡ is_of client (slice_index_or parts.now at Nothing) }
 {
@@ -83,7 +81,7 @@ fn any_of(parts: &Window<Part>, client: u64, from: usize, end: usize) -> bool
 }
 
 // Whether an entry of the client stands above the commit number.
-#[tactic(auto, using(vr_memory::proofs::Memory::window_of, vr_memory::proofs::Memory::commit_fits, crate::proofs::Requests::flight_is))]
+#[tactic(auto, using(vr_journal::proofs::Memory::window_of, vr_journal::proofs::Memory::commit_fits, crate::proofs::Requests::flight_is))]
 fn is_in_flight(replica: &Replica, client: u64) -> bool
     requires { IsReady replica.now }
     ensures { result ≡ is_in_flight client replica.now }
@@ -102,7 +100,7 @@ fn is_late(replica: &Replica) -> bool
 }
 
 // Whether there is no room for one more entry.
-#[tactic(auto, using(vr_memory::proofs::Memory::window_of))]
+#[tactic(auto, using(vr_journal::proofs::Memory::window_of))]
 fn is_full(replica: &Replica) -> bool
     requires { IsReady replica.now }
     ensures { result ≡ (nat_le pipeline (head replica.now - replica.now.commit) || nat_le last_op (head replica.now)) }
@@ -122,7 +120,7 @@ fn is_fresh(answer: &SessionAnswer) -> bool
 }
 
 // Which rule applies where nothing else is to be done first: by what the sessions answer, and whether there is room.
-#[tactic(auto, unfolding(vr_rules::specs::Deciding::first_of, crate::specs::Requests::Answers))]
+#[tactic(auto, unfolding(vr_journal::specs::Deciding::first_of, crate::specs::Requests::Answers))]
 fn decide_open(replica: &Replica, request: &RequestFields) -> Result<RequestRule, NoMemory>
     requires { IsReady replica.now }
     ensures rule { IfOk result (λ x. first_of (open_rows request.now replica.now) ≡ request_rule x) }
@@ -139,7 +137,7 @@ fn decide_open(replica: &Replica, request: &RequestFields) -> Result<RequestRule
 }
 
 /// Which rule applies to a request, with what the sessions answer where it isn't fresh.
-#[tactic(auto, using(vr_memory::proofs::Memory::some_member), unfolding(vr_rules::specs::Deciding::first_of, crate::specs::Requests::Answers))]
+#[tactic(auto, using(vr_journal::proofs::Memory::some_member), unfolding(vr_journal::specs::Deciding::first_of, crate::specs::Requests::Answers))]
 pub fn decide_request(replica: &Replica, request: &RequestFields) -> Result<RequestRule, NoMemory>
     requires { IsReady replica.now }
     ensures rule { IfOk result (λ x. first_of (request_table request.now replica.now) ≡ request_rule x) }
@@ -217,7 +215,7 @@ fn reply_stored(
 }
 
 // Does what the rule says.
-#[tactic(auto, using(crate::proofs::Requests::rules, vr_step::proofs::Stepping::wants))]
+#[tactic(auto, using(crate::proofs::Requests::rules, vr_journal::proofs::Stepping::wants))]
 fn obey_request<D: SectorDisk>(
     replica: &mut Replica,
     alloc: Global,
@@ -262,7 +260,7 @@ fn obey_request<D: SectorDisk>(
 /// A client asks. The primary makes the next entry of a fresh request, stores it, and prepares it to the others. One that isn't fresh is
 /// replied to with the outcome that is stored, or with why there is none; one that is in flight isn't replied to yet. A replica that doesn't
 /// lead redirects, and one that is behind or has no room replies that it is busy.
-#[tactic(auto, using(vr_step::proofs::Stepping::wants))]
+#[tactic(auto, using(vr_journal::proofs::Stepping::wants))]
 pub fn handle_request<D: SectorDisk>(
     replica: &mut Replica,
     alloc: Global,

@@ -2,15 +2,15 @@
 ghost use Rattle.std.specs.Prelude.{◌≡◌, ◌<◌, ◌≤◌, ◌+◌, ◌^◌, ◌&&◌, ◌==◌, nat_lt, OnOk, true};
 ghost use Rattle.vr_base.specs.Bytes.{name_of};
 ghost use Rattle.vr_header.specs.Names.{name_by};
-ghost use Rattle.vr_memory.specs.Ready.{IsReady, MayStore};
+ghost use Rattle.vr_journal.specs.Ready.{IsReady, MayStore};
 ghost use Rattle.vr_msg.specs.Normal.{same_sum};
 ghost use Rattle.vr_journal.specs.Waits.{EndsAtOnce, passes};
-ghost use Rattle.vr_rules.specs.Deciding.{first_of, is_unknown, prepare_table};
-ghost use Rattle.vr_rules.specs.Replica.{head, head_header, last_view};
-ghost use Rattle.vr_rules.specs.Rules.{acknowledge, ask_view, on_prepare};
-ghost use Rattle.vr_rules.specs.Steps.{◌⨾◌, change};
-ghost use Rattle.vr_rules.specs.Words.{accept, learn, rested, write};
-ghost use Rattle.vr_step.specs.Does.{Caused, Does};
+ghost use Rattle.vr_journal.specs.Deciding.{first_of, is_unknown, prepare_table};
+ghost use Rattle.vr_journal.specs.Replica.{head, head_header, last_view};
+ghost use Rattle.vr_journal.specs.Rules.{acknowledge, ask_view, on_prepare};
+ghost use Rattle.vr_journal.specs.Steps.{◌⨾◌, change};
+ghost use Rattle.vr_journal.specs.Words.{accept, learn, rested, write};
+ghost use Rattle.vr_journal.specs.Does.{Caused, Does};
 ghost use Rattle.vr_normal.specs.Messages.{IsPreparing};
 ghost use Rattle.vr_normal.specs.Named.{prepare_rule};
 
@@ -20,10 +20,8 @@ use crate::making::head_name;
 use std::alloc::Global;
 use vr_disk::SectorDisk;
 use vr_header::Header;
-use vr_journal::{accept, learn, write};
-use vr_memory::Replica;
+use vr_journal::{Halt, Replica, accept, learn, write};
 use vr_msg::{Outbox, Prepare};
-use vr_step::Halt;
 
 /// What a prepare leads to.
 #[derive(Clone, Copy, Debug, PartialEq, Eq)]
@@ -49,7 +47,7 @@ pub enum PrepareRule {
 }
 
 // Whether it is the next entry: the head's op and name come before it.
-#[tactic(auto, using(vr_memory::proofs::Memory::window_of, vr_memory::proofs::Memory::head_fits))]
+#[tactic(auto, using(vr_journal::proofs::Memory::window_of, vr_journal::proofs::Memory::head_fits))]
 fn is_next(replica: &Replica, header: &Header) -> bool
     requires { IsReady replica.now }
     ensures { result ≡ (is_unknown header.now.op replica.now && ((header.now.op == head replica.now + 1) && same_sum header.now.parent (name_by name_of (head_header name_of replica.now)))) }
@@ -60,7 +58,7 @@ fn is_next(replica: &Replica, header: &Header) -> bool
 }
 
 // Whether entries before it are missing.
-#[tactic(auto, using(vr_memory::proofs::Memory::window_of, vr_memory::proofs::Memory::head_fits))]
+#[tactic(auto, using(vr_journal::proofs::Memory::window_of, vr_journal::proofs::Memory::head_fits))]
 fn is_ahead(replica: &Replica, header: &Header) -> bool
     requires { IsReady replica.now }
     ensures { result ≡ (is_unknown header.now.op replica.now && nat_lt (head replica.now + 1) header.now.op) }
@@ -69,7 +67,7 @@ fn is_ahead(replica: &Replica, header: &Header) -> bool
 }
 
 // Whether it is past the window.
-#[tactic(auto, using(vr_memory::proofs::Memory::window_of))]
+#[tactic(auto, using(vr_journal::proofs::Memory::window_of))]
 fn is_beyond(replica: &Replica, op: u64) -> bool
     requires { IsReady replica.now }
     ensures { result ≡ nat_lt (replica.now.checkpoint + 64) op }
@@ -78,7 +76,7 @@ fn is_beyond(replica: &Replica, op: u64) -> bool
 }
 
 /// Which rule applies to a prepare.
-#[tactic(auto, using(vr_memory::proofs::Memory::some_member), unfolding(vr_rules::specs::Deciding::first_of))]
+#[tactic(auto, using(vr_journal::proofs::Memory::some_member), unfolding(vr_journal::specs::Deciding::first_of))]
 pub fn decide_prepare(replica: &Replica, prepare: &Prepare) -> PrepareRule
     requires { IsReady replica.now }
     ensures { first_of (prepare_table name_of prepare.now replica.now) ≡ prepare_rule result }
@@ -106,7 +104,7 @@ pub fn decide_prepare(replica: &Replica, prepare: &Prepare) -> PrepareRule
 }
 
 // The primary is heard, and the commit number learned.
-#[tactic(auto, using(vr_step::proofs::Stepping::steps, vr_memory::proofs::Memory::readies))]
+#[tactic(auto, using(vr_journal::proofs::Stepping::steps, vr_journal::proofs::Memory::readies))]
 fn hear<D: SectorDisk>(
     replica: &mut Replica,
     alloc: Global,
@@ -125,7 +123,7 @@ fn hear<D: SectorDisk>(
 }
 
 // The entry of a known header is stored unless it is, and acknowledged.
-#[tactic(auto, using(vr_step::proofs::Stepping::steps, vr_memory::proofs::Memory::readies))]
+#[tactic(auto, using(vr_journal::proofs::Stepping::steps, vr_journal::proofs::Memory::readies))]
 fn store_known<D: SectorDisk>(
     replica: &mut Replica,
     alloc: Global,
@@ -148,7 +146,7 @@ fn store_known<D: SectorDisk>(
 }
 
 // The next entry is stored, and acknowledged.
-#[tactic(auto, using(vr_step::proofs::Stepping::steps, vr_memory::proofs::Memory::readies))]
+#[tactic(auto, using(vr_journal::proofs::Stepping::steps, vr_journal::proofs::Memory::readies))]
 fn store_next<D: SectorDisk>(
     replica: &mut Replica,
     alloc: Global,
@@ -171,7 +169,7 @@ fn store_next<D: SectorDisk>(
 }
 
 // The log is asked for, since entries before this one are missing.
-#[tactic(auto, using(vr_step::proofs::Stepping::steps, vr_memory::proofs::Memory::readies))]
+#[tactic(auto, using(vr_journal::proofs::Stepping::steps, vr_journal::proofs::Memory::readies))]
 fn ask_ahead<D: SectorDisk>(
     replica: &mut Replica,
     alloc: Global,
@@ -193,7 +191,7 @@ fn ask_ahead<D: SectorDisk>(
 
 /// The primary prepares an entry. A replica that has the view's log stores it where it is known or the next one, acknowledges it, and
 /// learns the commit number; one that misses entries before it, or the view's log, asks for that.
-#[tactic(auto, using(crate::proofs::Prepares::rules, crate::proofs::Prepares::may_store, crate::proofs::Prepares::view_fits, vr_memory::proofs::Memory::readies, vr_step::proofs::Stepping::wants))]
+#[tactic(auto, using(crate::proofs::Prepares::rules, crate::proofs::Prepares::may_store, crate::proofs::Prepares::view_fits, vr_journal::proofs::Memory::readies, vr_journal::proofs::Stepping::wants))]
 pub fn handle_prepare<D: SectorDisk>(
     replica: &mut Replica,
     alloc: Global,

@@ -2,7 +2,7 @@
 use Rattle.std.proofs.Common.{arith, ℕ, suc, ◌≡◌, ◌<◌, ◌≤◌, ◌+◌, ◌-◌, refl, List, [], ◌∷◌, Option, true, false}
 use Rattle.vr_disk.specs.DiskState.{Call, Write, Disk, Runs}
 use Rattle.vr_disk.proofs.Running.{Runs_then, Runs_stopped, runs_nothing}
-use Rattle.vr_rules.specs.Formatting.{zero_prepares, zero_sector, reserved_headers}
+use Rattle.vr_journal.specs.Formatting.{zero_prepares, zero_sector, reserved_headers}
 use Rattle.vr_opening.specs.Calls.{zero_call, reserved_call, calls_from, Making}
 
 calls_past : (c : ℕ → Call) (i end : ℕ) → end ≤ i → calls_from c i end ≡ []

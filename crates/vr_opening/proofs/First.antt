@@ -6,7 +6,7 @@ use Rattle.std.proofs.lemmas.Bool.{and_from, cases_eq, le-leb, lt-ltb, ne_eqb}
 use Rattle.vr_base.proofs.AreBytes.{IsBytes-zeros}
 use Rattle.vr_base.specs.Groups.{quorums_of}
 use Rattle.vr_super.specs.Copies.{IsGood, good_fields, are_listed}
-use Rattle.vr_rules.specs.Opening.{first_value}
+use Rattle.vr_journal.specs.Opening.{first_value}
 
 -- groups have from 2 to 6 replicas
 abbrev IsSize : ℕ → Type 0

@@ -11,16 +11,16 @@ use Rattle.vr_super.specs.Opens.{opens, good_copies}
 use Rattle.vr_super.specs.Recovers.{RecoversFrom, copy_verdict}
 use Rattle.vr_super.specs.declared.recovering.CopyVerdict.{CopyVerdict}
 use Rattle.vr_super.specs.declared.recovering.SuperFault.TheVariants as fault
-use Rattle.vr_rules.specs.Replica.{Replica}
-use Rattle.vr_rules.specs.Steps.{Word, Mend}
-use Rattle.vr_rules.specs.Opening.{blank, opening, first_value}
-use Rattle.vr_step.specs.declared.halt.Halt.{Halt}
-use Rattle.vr_step.specs.declared.halt.Halt.TheVariants.{DiskFault, NoMemory}
+use Rattle.vr_journal.specs.Replica.{Replica}
+use Rattle.vr_journal.specs.Steps.{Word, Mend}
+use Rattle.vr_journal.specs.Opening.{blank, opening, first_value}
+use Rattle.vr_journal.specs.Halt.{Halt}
+use Rattle.vr_journal.specs.Halt.TheVariants.{DiskFault, NoMemory}
 use Rattle.vr_opening.specs.declared.reopen.Refusal.{Refusal}
 use Rattle.vr_opening.specs.declared.reopen.Refusal.TheVariants.{Lost, OtherMember, Halted}
-use Rattle.vr_step.specs.Does.{Does, Performs}
+use Rattle.vr_journal.specs.Does.{Does, Performs}
 use Rattle.vr_opening.specs.Recovering.{after_mend, DoesTo, config_of, LosesValue, MendsValue, BeginsWith, StopsMending, LeavesUnmended, FindsValue, IsOther, IsAsked, StopsAsked, Recovered, RecoveredAny}
-use Rattle.vr_step.proofs.Stepping.{does_no_memory, effect_then, effect_stopped}
+use Rattle.vr_journal.proofs.Stepping.{does_no_memory, effect_then, effect_stopped}
 
 pub begun_wanted : (v : SuperValue) (d : Option Disk) (o : List Output) → DoesTo (after_mend v) (blank v) d d o o (Err NoMemory)
 begun_wanted v d o = does_no_memory (after_mend v) (blank v) (blank v) d o o

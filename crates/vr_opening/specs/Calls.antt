@@ -4,7 +4,7 @@ use Rattle.std.specs.List.{range_with_len}
 use Rattle.vr_disk.specs.DiskState.{Call, Write, Disk, Runs}
 use Rattle.vr_disk.specs.Regions.{header_place}
 use Rattle.vr_rings.specs.Slots.{sector_of}
-use Rattle.vr_rules.specs.Formatting.{reserved_header, zero_sector}
+use Rattle.vr_journal.specs.Formatting.{reserved_header, zero_sector}
 
 abbrev pub zero_call : ℕ → Call
 zero_call i = Write i zero_sector

@@ -8,14 +8,14 @@ use Rattle.vr_super.specs.Copies.{SuperValue}
 use Rattle.vr_super.specs.Opens.{opens, good_copies}
 use Rattle.vr_super.specs.Recovers.{copy_verdict}
 use Rattle.vr_super.specs.declared.recovering.CopyVerdict.{CopyVerdict}
-use Rattle.vr_rules.specs.Replica.{Replica}
-use Rattle.vr_rules.specs.Steps.{Word, ◌⨾◌}
-use Rattle.vr_rules.specs.Opening.{recover_parts, resuming, opening, blank}
-use Rattle.vr_step.specs.declared.halt.Halt.{Halt}
-use Rattle.vr_step.specs.declared.halt.Halt.TheVariants.{DiskFault, NoMemory}
+use Rattle.vr_journal.specs.Replica.{Replica}
+use Rattle.vr_journal.specs.Steps.{Word, ◌⨾◌}
+use Rattle.vr_journal.specs.Opening.{recover_parts, resuming, opening, blank}
+use Rattle.vr_journal.specs.Halt.{Halt}
+use Rattle.vr_journal.specs.Halt.TheVariants.{DiskFault, NoMemory}
 use Rattle.vr_opening.specs.declared.reopen.Refusal.{Refusal}
 use Rattle.vr_opening.specs.declared.reopen.Refusal.TheVariants.{Lost, OtherMember, Halted}
-use Rattle.vr_step.specs.Does.{Does}
+use Rattle.vr_journal.specs.Does.{Does}
 
 -- an opening, behind the mending of the superblock
 abbrev pub after_mend : SuperValue → Word Face

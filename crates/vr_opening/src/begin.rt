@@ -1,21 +1,19 @@
 //! What a replica does as it opens, once its Parts are found.
 ghost use Rattle.std.specs.Prelude.{◌≡◌, ◌<◌, ◌≤◌, ◌+◌, ◌++◌, ◌^◌, [], OnOk, nat_le, if◌then◌else◌};
-ghost use Rattle.vr_rules.specs.Opening.{announce, going_on, leave_view, recover_parts, resuming};
-ghost use Rattle.vr_rules.specs.Outputs.{start_line, send_to_all, start_view_change};
-ghost use Rattle.vr_rules.specs.Replica.{is_spent, is_started, leads, last_view};
-ghost use Rattle.vr_rules.specs.Words.{save};
-ghost use Rattle.vr_rules.specs.Steps.{◌⨾◌};
-ghost use Rattle.vr_step.specs.Does.{Does, Caused};
-ghost use Rattle.vr_memory.specs.Ready.{IsReady, MayLoad};
+ghost use Rattle.vr_journal.specs.Opening.{announce, going_on, leave_view, recover_parts, resuming};
+ghost use Rattle.vr_journal.specs.Outputs.{start_line, send_to_all, start_view_change};
+ghost use Rattle.vr_journal.specs.Replica.{is_spent, is_started, leads, last_view};
+ghost use Rattle.vr_journal.specs.Words.{save};
+ghost use Rattle.vr_journal.specs.Steps.{◌⨾◌};
+ghost use Rattle.vr_journal.specs.Does.{Does, Caused};
+ghost use Rattle.vr_journal.specs.Ready.{IsReady, MayLoad};
 ghost use Rattle.vr_opening.specs.Finding.{IsOpeningOld};
 
 use crate::opening::recover_parts;
 use std::alloc::{AllocError, Global};
 use vr_disk::SectorDisk;
-use vr_journal::{apply, load, save};
-use vr_memory::{LAST_VIEW, Replica};
+use vr_journal::{Halt, LAST_VIEW, Replica, apply, load, save};
 use vr_msg::Outbox;
-use vr_step::Halt;
 
 // Saves what the replica now is.
 #[tactic(auto, using(crate::proofs::Begins::opened_saved, vr_journal::proofs::Loads::ready_opened))]
@@ -75,7 +73,7 @@ fn tell_view(replica: &Replica, out: &mut Outbox) -> Result<(), AllocError>
 }
 
 // The others hear of a view that isn't started.
-#[tactic(auto, using(crate::proofs::Begins::announce_then, crate::proofs::Begins::announce_none, crate::proofs::Begins::ready_heard, vr_step::proofs::Stepping::does_no_memory))]
+#[tactic(auto, using(crate::proofs::Begins::announce_then, crate::proofs::Begins::announce_none, crate::proofs::Begins::ready_heard, vr_journal::proofs::Stepping::does_no_memory))]
 fn announce<D: SectorDisk>(
     replica: &mut Replica,
     _disk: &mut D,
@@ -96,7 +94,7 @@ fn announce<D: SectorDisk>(
 }
 
 // What comes of an opening: a primary leaves its view, the checkpoint is loaded, what is committed is applied, and the others are told.
-#[tactic(auto, using(vr_step::proofs::Stepping::steps, vr_journal::proofs::Loads::ready_opened))]
+#[tactic(auto, using(vr_journal::proofs::Stepping::steps, vr_journal::proofs::Loads::ready_opened))]
 fn go_on<D: SectorDisk>(
     replica: &mut Replica,
     alloc: Global,
@@ -117,7 +115,7 @@ fn go_on<D: SectorDisk>(
 }
 
 // The same, unless sequence numbers are at their end: then nothing is written any more, and nothing sent.
-#[tactic(auto, using(crate::proofs::Begins::resumed, crate::proofs::Begins::spent, crate::proofs::Begins::unspent_room, vr_journal::proofs::Loads::ready_opened, vr_step::proofs::Stepping::wants))]
+#[tactic(auto, using(crate::proofs::Begins::resumed, crate::proofs::Begins::spent, crate::proofs::Begins::unspent_room, vr_journal::proofs::Loads::ready_opened, vr_journal::proofs::Stepping::wants))]
 fn resume<D: SectorDisk>(
     replica: &mut Replica,
     alloc: Global,
@@ -138,7 +136,7 @@ fn resume<D: SectorDisk>(
 }
 
 /// All that a replica does as it opens, behind the mending of its superblock.
-#[tactic(auto, using(vr_step::proofs::Stepping::steps))]
+#[tactic(auto, using(vr_journal::proofs::Stepping::steps))]
 pub fn open_mended<D: SectorDisk>(
     replica: &mut Replica,
     alloc: Global,

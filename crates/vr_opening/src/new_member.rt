@@ -4,9 +4,9 @@ ghost use Rattle.vr_base.specs.Causes.{HasCause};
 ghost use Rattle.vr_base.specs.Groups.{quorums_of};
 ghost use Rattle.vr_disk.specs.Counts.{CountsFault};
 ghost use Rattle.vr_disk.specs.DiskState.{Runs};
-ghost use Rattle.vr_memory.specs.Ready.{IsReady};
-ghost use Rattle.vr_rules.specs.Formatting.{format_calls};
-ghost use Rattle.vr_rules.specs.Opening.{fresh};
+ghost use Rattle.vr_journal.specs.Ready.{IsReady};
+ghost use Rattle.vr_journal.specs.Formatting.{format_calls};
+ghost use Rattle.vr_journal.specs.Opening.{fresh};
 ghost use Rattle.vr_base.specs.Kinds.{of_mode};
 ghost use Rattle.vr_super.specs.Opens.{file_kind, good_copies, opened};
 ghost use Rattle.vr_opening.specs.Making.{Made};
@@ -17,7 +17,7 @@ use crate::new_value::first_value;
 use std::alloc::Global;
 use vr_base::{Config, Kind, Mode, NoMemory};
 use vr_disk::{DiskFault, SectorDisk};
-use vr_memory::Replica;
+use vr_journal::Replica;
 use vr_super::opens;
 
 /// Why a disk gives no new member.

@@ -2,21 +2,19 @@
 ghost use Rattle.std.specs.Prelude.{◌≡◌, ◌<◌, ◌≤◌, ◌+◌, ◌-◌, IfOk, OnOk, Some, length, nat_le, slice_get, slice_set, slice_index_or, drop, ◌^◌, true};
 ghost use Rattle.std.specs.List.{list_any};
 ghost use Rattle.vr_msg.specs.Choice.{ops};
-ghost use Rattle.vr_rules.specs.Opening.{old_part, recover_old, recover_op, recover_parts, old_headers, was_stored, clouded, blank};
+ghost use Rattle.vr_journal.specs.Opening.{old_part, recover_old, recover_op, recover_parts, old_headers, was_stored, clouded, blank};
 ghost use Rattle.vr_header.specs.declared.part.Part.TheVariants.{Nothing};
-ghost use Rattle.vr_rules.specs.Steps.{each};
-ghost use Rattle.vr_step.specs.Does.{Does, Caused};
-ghost use Rattle.vr_memory.specs.Ready.{HasWindow, MayLoad};
+ghost use Rattle.vr_journal.specs.Steps.{each};
+ghost use Rattle.vr_journal.specs.Does.{Does, Caused};
+ghost use Rattle.vr_journal.specs.Ready.{HasWindow, MayLoad};
 ghost use Rattle.vr_opening.specs.Finding.{IsOpening, IsOpeningOld, recover_listed, DoesAt, cloud_by};
 
 use crate::finding::{is_listed, recover_op};
 use std::alloc::Global;
 use vr_disk::{Buffer, SectorDisk};
 use vr_header::{Entry, Header, Part};
-use vr_journal::find_entry;
-use vr_memory::Replica;
+use vr_journal::{Halt, Replica, find_entry};
 use vr_msg::Outbox;
-use vr_step::Halt;
 
 // An op of the checkpoint is here where its entry was found, and lost otherwise.
 fn old_part(header: &Header, found: &Option<Entry>) -> Part
@@ -39,7 +37,7 @@ fn was_stored(part: &Part) -> bool
 }
 
 // Finds what is known of an op of the checkpoint, of which the value has this header.
-#[tactic(auto, using(crate::proofs::Olds::old_then, crate::proofs::Olds::old_window, crate::proofs::Olds::opening_old, vr_step::proofs::Stepping::does_no_memory))]
+#[tactic(auto, using(crate::proofs::Olds::old_then, crate::proofs::Olds::old_window, crate::proofs::Olds::opening_old, vr_journal::proofs::Stepping::does_no_memory))]
 fn recover_old<D: SectorDisk>(
     replica: &mut Replica,
     alloc: Global,
@@ -95,7 +93,7 @@ fn op_at(replica: &Replica, i: u64) -> u64
 }
 
 // The same where the op is one of the checkpoint.
-#[tactic(auto, using(vr_step::proofs::Stepping::does_quiet, crate::proofs::Olds::old_skipped))]
+#[tactic(auto, using(vr_journal::proofs::Stepping::does_quiet, crate::proofs::Olds::old_skipped))]
 fn recover_listed<D: SectorDisk>(
     replica: &mut Replica,
     alloc: Global,
@@ -139,7 +137,7 @@ fn recover_at<D: SectorDisk>(
 }
 
 // Finds what is known of the ops of the checkpoint that the value names.
-#[tactic(auto, using(vr_step::proofs::Stepping::going_begins, crate::proofs::Olds::olds_at, crate::proofs::Olds::olds_end, crate::proofs::Olds::olds_stopped, crate::proofs::Olds::olds_found))]
+#[tactic(auto, using(vr_journal::proofs::Stepping::going_begins, crate::proofs::Olds::olds_at, crate::proofs::Olds::olds_end, crate::proofs::Olds::olds_stopped, crate::proofs::Olds::olds_found))]
 fn recover_olds<D: SectorDisk>(
     replica: &mut Replica,
     alloc: Global,
@@ -180,7 +178,7 @@ fn recover_nth<D: SectorDisk>(
 }
 
 // Finds what is known of the ops of the window.
-#[tactic(auto, using(vr_step::proofs::Stepping::going_begins, vr_step::proofs::Stepping::going_ends, crate::proofs::Olds::ops_at, crate::proofs::Olds::ops_stopped, crate::proofs::Olds::ops_begin, crate::proofs::Olds::ops_length))]
+#[tactic(auto, using(vr_journal::proofs::Stepping::going_begins, vr_journal::proofs::Stepping::going_ends, crate::proofs::Olds::ops_at, crate::proofs::Olds::ops_stopped, crate::proofs::Olds::ops_begin, crate::proofs::Olds::ops_length))]
 fn recover_window<D: SectorDisk>(
     replica: &mut Replica,
     disk: &mut D,
@@ -203,7 +201,7 @@ fn recover_window<D: SectorDisk>(
 }
 
 // The same with a buffer of its own.
-#[tactic(auto, using(vr_step::proofs::Stepping::does_no_memory))]
+#[tactic(auto, using(vr_journal::proofs::Stepping::does_no_memory))]
 fn recover_ops<D: SectorDisk>(
     replica: &mut Replica,
     alloc: Global,
@@ -221,7 +219,7 @@ fn recover_ops<D: SectorDisk>(
 }
 
 // Whether something is stored at a place.
-#[tactic(auto, using(vr_window::proofs::Lists::past_is, vr_window::proofs::Lists::found_is))]
+#[tactic(auto, using(vr_journal::proofs::Lists::past_is, vr_journal::proofs::Lists::found_is))]
 fn is_stored(replica: &Replica, at: usize) -> bool
     ensures { result ≡ was_stored (slice_index_or replica.now.parts at Nothing) }
 {

@@ -2,20 +2,19 @@
 ghost use Rattle.std.specs.Prelude.{◌≡◌, ◌≢◌, true, false, IfOk, IfErr, Ok};
 ghost use Rattle.vr_disk.specs.Counts.{CountsFault};
 ghost use Rattle.vr_opening.specs.declared.reopen.Refusal.TheVariants as Refusal;
-ghost use Rattle.vr_step.specs.Does.{Caused};
-ghost use Rattle.vr_memory.specs.Ready.{IsReady};
+ghost use Rattle.vr_journal.specs.Does.{Caused};
+ghost use Rattle.vr_journal.specs.Ready.{IsReady};
 ghost use Rattle.vr_opening.specs.Finding.{IsOpeningOld};
-ghost use Rattle.vr_rules.specs.Opening.{blank};
+ghost use Rattle.vr_journal.specs.Opening.{blank};
 ghost use Rattle.vr_opening.specs.Recovering.{after_mend, DoesTo, config_of, FindsValue, Recovered, RecoveredAny};
-ghost use Rattle.vr_step.specs.declared.halt.Halt.TheVariants as Halt;
+ghost use Rattle.vr_journal.specs.Halt.TheVariants as Halt;
 
 use crate::begin::open_mended;
 use std::alloc::Global;
 use vr_base::Config;
 use vr_disk::SectorDisk;
-use vr_memory::Replica;
+use vr_journal::{Halt, Replica};
 use vr_msg::Outbox;
-use vr_step::Halt;
 use vr_super::{CopyVerdict, Super, SuperFault};
 
 // The replica of a value that makes a good copy, before it looks at its disk.

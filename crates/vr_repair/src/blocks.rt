@@ -1,11 +1,11 @@
 //! Repair of blocks.
 ghost use Rattle.std.specs.Prelude.{◌≡◌, ◌<◌, ◌+◌, ◌^◌, OnOk, Some, find};
-ghost use Rattle.vr_memory.specs.Ready.{IsReady};
+ghost use Rattle.vr_journal.specs.Ready.{IsReady};
 ghost use Rattle.vr_repair.specs.Repairs.{is_block};
-ghost use Rattle.vr_rules.specs.Deciding.{is_wanted};
-ghost use Rattle.vr_rules.specs.Rules.{asked_block, block_at, give_read, mend_found, on_get_block, on_give_block, put_found};
-ghost use Rattle.vr_rules.specs.Steps.{reading};
-ghost use Rattle.vr_step.specs.Does.{Caused, Does};
+ghost use Rattle.vr_journal.specs.Deciding.{is_wanted};
+ghost use Rattle.vr_journal.specs.Rules.{asked_block, block_at, give_read, mend_found, on_get_block, on_give_block, put_found};
+ghost use Rattle.vr_journal.specs.Steps.{reading};
+ghost use Rattle.vr_journal.specs.Does.{Caused, Does};
 
 use crate::deciding::{Repair, decide_get_block};
 use crate::finding::find_block;
@@ -14,10 +14,8 @@ use crate::wanting::decide_give_block;
 use std::alloc::Global;
 use vr_ckpt::Name;
 use vr_disk::SectorDisk;
-use vr_journal::apply;
-use vr_memory::Replica;
+use vr_journal::{Halt, Replica, apply};
 use vr_msg::{GetBlock, GiveBlock, Outbox};
-use vr_step::Halt;
 
 // The name of the block that is asked for.
 fn asked_block(get: &GetBlock) -> Name
@@ -30,7 +28,7 @@ fn asked_block(get: &GetBlock) -> Name
 }
 
 // Gives the block that is asked for, where it reads.
-#[tactic(auto, using(crate::proofs::Rules::block_read, crate::proofs::Rules::block_unread, vr_step::proofs::Stepping::wants))]
+#[tactic(auto, using(crate::proofs::Rules::block_read, crate::proofs::Rules::block_unread, vr_journal::proofs::Stepping::wants))]
 fn give_block<D: SectorDisk>(
     replica: &Replica,
     alloc: Global,
@@ -67,7 +65,7 @@ pub fn handle_get_block<D: SectorDisk>(
 }
 
 // Puts a block that was missing, and applies.
-#[tactic(auto, using(vr_step::proofs::Stepping::steps, crate::proofs::Rules::may_put, crate::proofs::Rules::is_put))]
+#[tactic(auto, using(vr_journal::proofs::Stepping::steps, crate::proofs::Rules::may_put, crate::proofs::Rules::is_put))]
 fn take_block<D: SectorDisk>(
     replica: &mut Replica,
     alloc: Global,
@@ -88,7 +86,7 @@ fn take_block<D: SectorDisk>(
 }
 
 // Puts a block that had gone bad; the state has what was in it.
-#[tactic(auto, using(crate::proofs::Words::mended_then, crate::proofs::Words::mended_stopped, crate::proofs::Rules::is_put, vr_memory::proofs::Repairs::ready_unworn))]
+#[tactic(auto, using(crate::proofs::Words::mended_then, crate::proofs::Words::mended_stopped, crate::proofs::Rules::is_put, vr_journal::proofs::Repairs::ready_unworn))]
 fn mend_block<D: SectorDisk>(
     replica: &mut Replica,
     disk: &mut D,

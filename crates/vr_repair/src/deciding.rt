@@ -1,15 +1,15 @@
 //! Which rule a message of repair leads to.
 ghost use Rattle.std.specs.Prelude.{◌≡◌, Bool, if◌then◌else◌};
 ghost use Rattle.vr_base.specs.Bytes.{name_of};
-ghost use Rattle.vr_memory.specs.Ready.{IsReady, MayStore};
+ghost use Rattle.vr_journal.specs.Ready.{IsReady, MayStore};
 ghost use Rattle.vr_repair.specs.Repairs.{rule_of};
-ghost use Rattle.vr_rules.specs.Deciding.{first_of, get_block_table, get_prepare_table, give_prepare_table};
-ghost use Rattle.vr_rules.specs.declared.rule.Rule.TheVariants.{Ignored};
-ghost use Rattle.vr_rules.specs.Replica.{is_absent};
+ghost use Rattle.vr_journal.specs.Deciding.{first_of, get_block_table, get_prepare_table, give_prepare_table};
+ghost use Rattle.vr_journal.specs.Rule.TheVariants.{Ignored};
+ghost use Rattle.vr_journal.specs.Replica.{is_absent};
 
 use vr_ckpt::Name;
 use vr_header::Part;
-use vr_memory::{Replica, is_here};
+use vr_journal::{Replica, is_here};
 use vr_msg::{GetBlock, GetPrepare, GivePrepare};
 
 /// What a message of repair leads to, by the name of its rule.
@@ -30,7 +30,7 @@ pub enum Repair {
 }
 
 /// Which rule a get_prepare leads to.
-#[tactic(auto, unfolding(vr_rules::specs::Deciding::first_of))]
+#[tactic(auto, unfolding(vr_journal::specs::Deciding::first_of))]
 pub fn decide_get_prepare(replica: &Replica, get: &GetPrepare) -> Repair
     ensures { first_of (get_prepare_table name_of get.now replica.now) ≡ rule_of result }
 {
@@ -55,7 +55,7 @@ fn is_absent(part: &Part) -> bool
 }
 
 /// Which rule a give_prepare leads to. An entry that is taken is one that may be stored.
-#[tactic(auto, using(crate::proofs::Rules::may_take), unfolding(vr_rules::specs::Deciding::first_of))]
+#[tactic(auto, using(crate::proofs::Rules::may_take), unfolding(vr_journal::specs::Deciding::first_of))]
 pub fn decide_give_prepare(replica: &Replica, give: &GivePrepare) -> Repair
     requires { IsReady replica.now }
     ensures rule { first_of (give_prepare_table give.now replica.now) ≡ rule_of result }
@@ -74,7 +74,7 @@ pub fn decide_give_prepare(replica: &Replica, give: &GivePrepare) -> Repair
 }
 
 /// Which rule a get_block leads to where the block reads; where it doesn't nothing is done.
-#[tactic(auto, unfolding(vr_rules::specs::Deciding::first_of))]
+#[tactic(auto, unfolding(vr_journal::specs::Deciding::first_of))]
 pub fn decide_get_block(replica: &Replica, get: &GetBlock) -> Repair
     ensures { (reads : Bool) → first_of (get_block_table reads get.now replica.now) ≡ (if reads then rule_of result else Ignored) }
 {

@@ -1,25 +1,23 @@
 //! Repair of entries.
 ghost use Rattle.std.specs.Prelude.{◌≤◌, ◌<◌, ◌+◌, ◌^◌, OnOk};
-ghost use Rattle.vr_memory.specs.Ready.{IsReady, MayStore};
+ghost use Rattle.vr_journal.specs.Ready.{IsReady, MayStore};
 ghost use Rattle.vr_repair.specs.Repairs.{gives};
-ghost use Rattle.vr_rules.specs.Replica.{last_view};
-ghost use Rattle.vr_rules.specs.Rules.{on_get_prepare, on_give_prepare};
-ghost use Rattle.vr_rules.specs.Steps.{◌⨾◌};
-ghost use Rattle.vr_rules.specs.Words.{apply, resend, with_entry_at, write};
-ghost use Rattle.vr_step.specs.Does.{Caused, Does};
+ghost use Rattle.vr_journal.specs.Replica.{last_view};
+ghost use Rattle.vr_journal.specs.Rules.{on_get_prepare, on_give_prepare};
+ghost use Rattle.vr_journal.specs.Steps.{◌⨾◌};
+ghost use Rattle.vr_journal.specs.Words.{apply, resend, with_entry_at, write};
+ghost use Rattle.vr_journal.specs.Does.{Caused, Does};
 
 use crate::deciding::{Repair, decide_get_prepare, decide_give_prepare};
 use crate::retelling::resend;
 use std::alloc::Global;
 use vr_disk::SectorDisk;
 use vr_header::Entry;
-use vr_journal::{apply, read_entry, write};
-use vr_memory::Replica;
+use vr_journal::{Halt, Replica, apply, read_entry, write};
 use vr_msg::{GetPrepare, GivePrepare, Outbox};
-use vr_step::Halt;
 
 // Reads the entry of an op, and gives it to a replica.
-#[tactic(auto, using(crate::proofs::Rules::given_read, crate::proofs::Rules::given_none, vr_step::proofs::Stepping::wants))]
+#[tactic(auto, using(crate::proofs::Rules::given_read, crate::proofs::Rules::given_none, vr_journal::proofs::Stepping::wants))]
 fn give_entry<D: SectorDisk>(
     replica: &mut Replica,
     alloc: Global,
@@ -60,7 +58,7 @@ pub fn handle_get_prepare<D: SectorDisk>(
 }
 
 // Stores an entry that was absent, tells of it, and applies.
-#[tactic(auto, using(vr_step::proofs::Stepping::steps, crate::proofs::Rules::entry_made))]
+#[tactic(auto, using(vr_journal::proofs::Stepping::steps, crate::proofs::Rules::entry_made))]
 fn take_entry<D: SectorDisk>(
     replica: &mut Replica,
     alloc: Global,

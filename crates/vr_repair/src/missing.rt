@@ -3,24 +3,22 @@ ghost use Rattle.std.specs.Prelude.{◌≡◌, None, OnOk, [], is_some, true};
 ghost use Rattle.vr_base.specs.Bytes.{name_of};
 ghost use Rattle.vr_ckpt.specs.Blocks.{named};
 ghost use Rattle.vr_header.specs.Made.{IsEntryHeader};
-ghost use Rattle.vr_memory.specs.Ready.{IsReady, MayLoad};
+ghost use Rattle.vr_journal.specs.Ready.{IsReady, MayLoad};
 ghost use Rattle.vr_repair.specs.Repairs.{loads_whole};
-ghost use Rattle.vr_rules.specs.Outputs.{get_block, get_prepare};
-ghost use Rattle.vr_rules.specs.Rules.{put_block};
-ghost use Rattle.vr_rules.specs.Words.{ask, ask_for, ask_peer, least_absent};
-ghost use Rattle.vr_step.specs.Does.{Caused, Does};
+ghost use Rattle.vr_journal.specs.Outputs.{get_block, get_prepare};
+ghost use Rattle.vr_journal.specs.Rules.{put_block};
+ghost use Rattle.vr_journal.specs.Words.{ask, ask_for, ask_peer, least_absent};
+ghost use Rattle.vr_journal.specs.Does.{Caused, Does};
 
 use std::alloc::Global;
 use vr_ckpt::Name;
 use vr_disk::SectorDisk;
 use vr_header::Header;
-use vr_journal::load;
-use vr_memory::Replica;
+use vr_journal::{Halt, Replica, load};
 use vr_msg::Outbox;
-use vr_step::Halt;
 
 // Asks a peer for a block.
-#[tactic(auto, using(vr_step::proofs::Stepping::steps, vr_memory::proofs::Repairs::ready_turned, vr_memory::proofs::Repairs::ready_size), unfolding(vr_rules::specs::Words::ask_peer))]
+#[tactic(auto, using(vr_journal::proofs::Stepping::steps, vr_journal::proofs::Repairs::ready_turned, vr_journal::proofs::Repairs::ready_size), unfolding(vr_journal::specs::Words::ask_peer))]
 fn ask_block<D: SectorDisk>(
     replica: &mut Replica,
     _disk: &mut D,
@@ -38,7 +36,7 @@ fn ask_block<D: SectorDisk>(
 }
 
 // Asks a peer for an entry.
-#[tactic(auto, using(vr_step::proofs::Stepping::steps, vr_memory::proofs::Repairs::ready_turned, vr_memory::proofs::Repairs::ready_size), unfolding(vr_rules::specs::Words::ask_peer))]
+#[tactic(auto, using(vr_journal::proofs::Stepping::steps, vr_journal::proofs::Repairs::ready_turned, vr_journal::proofs::Repairs::ready_size), unfolding(vr_journal::specs::Words::ask_peer))]
 fn ask_entry<D: SectorDisk>(
     replica: &mut Replica,
     _disk: &mut D,
@@ -75,7 +73,7 @@ fn ask_worn<D: SectorDisk>(
 }
 
 // Asks a peer for the least entry that is absent, or else for a block that has gone bad.
-#[tactic(auto, using(crate::proofs::Words::asked_entry, crate::proofs::Words::asked_none, crate::proofs::Words::checkpoint_fits, vr_memory::proofs::Memory::next_fits, vr_memory::proofs::Repairs::ready_absent))]
+#[tactic(auto, using(crate::proofs::Words::asked_entry, crate::proofs::Words::asked_none, crate::proofs::Words::checkpoint_fits, vr_journal::proofs::Memory::next_fits, vr_journal::proofs::Repairs::ready_absent))]
 fn ask_absent<D: SectorDisk>(
     replica: &mut Replica,
     disk: &mut D,

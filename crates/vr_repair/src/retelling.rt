@@ -1,18 +1,17 @@
 //! Entries that are told of again.
 ghost use Rattle.std.specs.Prelude.{◌≡◌, ◌≤◌, ◌++◌, ◌&&◌, nat_lt, OnOk, if◌then◌else◌};
 ghost use Rattle.vr_base.specs.Bytes.{name_of};
-ghost use Rattle.vr_memory.specs.Ready.{IsReady};
-ghost use Rattle.vr_rules.specs.Outputs.{prepare, prepare_ok, send_to_all, to_primary};
-ghost use Rattle.vr_rules.specs.Replica.{is_primary, is_started, last_view};
-ghost use Rattle.vr_rules.specs.Words.{resend};
-ghost use Rattle.vr_step.specs.Does.{Caused, Does};
+ghost use Rattle.vr_journal.specs.Ready.{IsReady};
+ghost use Rattle.vr_journal.specs.Outputs.{prepare, prepare_ok, send_to_all, to_primary};
+ghost use Rattle.vr_journal.specs.Replica.{is_primary, is_started, last_view};
+ghost use Rattle.vr_journal.specs.Words.{resend};
+ghost use Rattle.vr_journal.specs.Does.{Caused, Does};
 
 use std::alloc::{AllocError, Global};
 use vr_disk::SectorDisk;
 use vr_header::Entry;
-use vr_memory::Replica;
+use vr_journal::{Halt, Replica};
 use vr_msg::Outbox;
-use vr_step::Halt;
 
 fn is_open(replica: &Replica, entry: &Entry) -> bool
     ensures { result ≡ (is_started replica.now && nat_lt replica.now.commit entry.now.header.op) }
@@ -21,7 +20,7 @@ fn is_open(replica: &Replica, entry: &Entry) -> bool
 }
 
 // The primary prepares the entry to all, a backup tells the primary that it is stored.
-#[tactic(auto, using(vr_memory::proofs::Memory::some_member))]
+#[tactic(auto, using(vr_journal::proofs::Memory::some_member))]
 fn tell(replica: &Replica, alloc: Global, entry: &Entry, out: &mut Outbox) -> Result<(), AllocError>
     requires ready { IsReady replica.now }
     requires view { replica.now.view ≤ last_view }
@@ -37,7 +36,7 @@ fn tell(replica: &Replica, alloc: Global, entry: &Entry, out: &mut Outbox) -> Re
 
 /// Tells of an entry that was stored late: where the view is started and the entry stands above the commit number, the primary prepares it to
 /// all, and a backup tells the primary that it is stored.
-#[tactic(auto, using(crate::proofs::Words::resent, crate::proofs::Words::not_resent, vr_step::proofs::Stepping::wants))]
+#[tactic(auto, using(crate::proofs::Words::resent, crate::proofs::Words::not_resent, vr_journal::proofs::Stepping::wants))]
 pub fn resend<D: SectorDisk>(
     replica: &Replica,
     alloc: Global,

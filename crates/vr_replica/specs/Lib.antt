@@ -2,3 +2,17 @@ pub mod AtOnce
 pub mod Ticks
 pub mod Running
 pub mod Entries
+pub use Rattle.vr_journal.specs.Does
+pub use Rattle.vr_journal.specs.Fit
+pub use Rattle.vr_journal.specs.Formatting
+pub use Rattle.vr_opening.specs.declared.new_member.FreshFault
+pub use Rattle.vr_journal.specs.Halt
+pub use Rattle.vr_opening.specs.Making
+pub use Rattle.vr_journal.specs.Opening
+pub use Rattle.vr_journal.specs.Outputs
+pub use Rattle.vr_opening.specs.Recovering
+pub use Rattle.vr_opening.specs.declared.reopen.Refusal
+pub use Rattle.vr_journal.specs.Replica
+pub use Rattle.vr_journal.specs.Rules
+pub use Rattle.vr_journal.specs.Sectors
+pub use Rattle.vr_journal.specs.Steps

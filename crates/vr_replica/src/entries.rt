@@ -1,19 +1,18 @@
 //! Entries are read.
 ghost use Rattle.std.specs.Prelude.{◌≡◌, IfOk, IfSome, OnErr, OnOk};
 ghost use Rattle.vr_header.specs.declared.part.Part.TheVariants.{Here};
-ghost use Rattle.vr_memory.specs.Ready.{IsReady};
-ghost use Rattle.vr_rules.specs.Replica.{part_at};
+ghost use Rattle.vr_journal.specs.Ready.{IsReady};
+ghost use Rattle.vr_journal.specs.Replica.{part_at};
 ghost use Rattle.vr_replica.specs.Entries.{after_reading, entry_by};
 
 use std::alloc::Global;
 use vr_base::NoMemory;
 use vr_disk::SectorDisk;
 use vr_header::{Entry, Header, Part};
-use vr_journal::find_entry;
-use vr_memory::Replica;
+use vr_journal::{Replica, find_entry};
 
 // Reads the entry of this header, which is stored; one that can't be read is lost.
-#[tactic(auto, using(crate::proofs::EntryReadings::found, vr_memory::proofs::Memory::readies))]
+#[tactic(auto, using(crate::proofs::EntryReadings::found, vr_journal::proofs::Memory::readies))]
 fn read_stored<D: SectorDisk>(
     replica: &mut Replica,
     alloc: Global,
@@ -41,7 +40,7 @@ fn read_stored<D: SectorDisk>(
 
 /// Reads the entry of an op where it is stored; one that can't be read is lost. `None`: there is none to be had. It changes nothing on
 /// the disk, and an `Err` changes nothing.
-#[tactic(auto, using(vr_memory::proofs::Memory::here_op))]
+#[tactic(auto, using(vr_journal::proofs::Memory::here_op))]
 pub fn read_entry<D: SectorDisk>(
     replica: &mut Replica,
     alloc: Global,

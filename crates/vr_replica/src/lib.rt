@@ -7,5 +7,5 @@ mod reacting;
 mod ticking;
 
 pub use member::Replica;
+pub use vr_journal::Halt;
 pub use vr_opening::{FreshFault, Refusal};
-pub use vr_step::Halt;

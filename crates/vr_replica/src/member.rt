@@ -5,9 +5,9 @@ ghost use Rattle.vr_base.specs.Kinds.{of_mode};
 ghost use Rattle.vr_disk.specs.Counts.{CountsFault};
 ghost use Rattle.vr_opening.specs.Making.{Made};
 ghost use Rattle.vr_opening.specs.Recovering.{Recovered, RecoveredAny};
-ghost use Rattle.vr_rules.specs.Replica.{header_at, part_at};
-ghost use Rattle.vr_rules.specs.Rules.{react};
-ghost use Rattle.vr_step.specs.Does.{Caused, Does};
+ghost use Rattle.vr_journal.specs.Replica.{header_at, part_at};
+ghost use Rattle.vr_journal.specs.Rules.{react};
+ghost use Rattle.vr_journal.specs.Does.{Caused, Does};
 ghost use Rattle.vr_journal.specs.Waits.{EndsAtOnce};
 ghost use Rattle.vr_replica.specs.AtOnce.{IsAtOnce};
 ghost use Rattle.vr_replica.specs.Entries.{after_reading, entry_by};
@@ -20,10 +20,9 @@ use std::marker::Model;
 use vr_base::{Config, Mode, NoMemory};
 use vr_disk::SectorDisk;
 use vr_header::Entry;
-use vr_journal::Replica as Memory;
+use vr_journal::{Halt, Replica as Memory};
 use vr_msg::{Event, Outbox};
 use vr_opening::{FreshFault, Refusal};
-use vr_step::Halt;
 
 /// A replica of a group. Contracts see what it has in memory, and whether it runs: a step that stops ends that, for good.
 #[derive(Drop)]
@@ -34,7 +33,7 @@ pub struct Replica {
 
 impl Model for Replica {
     ghost use Rattle.std.specs.Prelude.{◌≡◌, true};
-    ghost use Rattle.vr_memory.specs.Ready.{IsReady};
+    ghost use Rattle.vr_journal.specs.Ready.{IsReady};
     ghost use Rattle.vr_replica.specs.Running.{Running};
 
     ghost Value = { Running };

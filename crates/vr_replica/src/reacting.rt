@@ -1,27 +1,26 @@
 //! The step of a replica: the rule of each event.
 ghost use Rattle.std.specs.Prelude.{◌≡◌, ◌<◌, ◌≤◌, ◌+◌, ◌^◌, OnOk};
-ghost use Rattle.vr_memory.specs.Ready.{IsReady};
+ghost use Rattle.vr_journal.specs.Ready.{IsReady};
 ghost use Rattle.vr_journal.specs.Waits.{EndsAtOnce};
 ghost use Rattle.vr_replica.specs.AtOnce.{IsAtOnce, IsLeft};
-ghost use Rattle.vr_rules.specs.Replica.{is_frozen, last_view};
-ghost use Rattle.vr_rules.specs.Rules.{on_event, on_message, react};
-ghost use Rattle.vr_step.specs.Does.{Caused, Does};
+ghost use Rattle.vr_journal.specs.Replica.{is_frozen, last_view};
+ghost use Rattle.vr_journal.specs.Rules.{on_event, on_message, react};
+ghost use Rattle.vr_journal.specs.Does.{Caused, Does};
 
 use crate::ticking::handle_tick;
 use std::alloc::Global;
 use vr_disk::SectorDisk;
-use vr_memory::{LAST_VIEW, Replica};
+use vr_journal::{Halt, LAST_VIEW, Replica};
 use vr_msg::{Event, Frame, Message, Outbox};
 use vr_normal::{handle_commit, handle_prepare, handle_prepare_ok, handle_request};
 use vr_repair::{handle_get_block, handle_get_prepare, handle_give_block, handle_give_prepare};
-use vr_step::Halt;
 use vr_sync::{handle_get_sync, handle_sync_view};
 use vr_view::{
     handle_do_view_change, handle_get_view, handle_start_view, handle_start_view_change,
 };
 
 // A message arrives. Replies aren't for replicas.
-#[tactic(auto, using(crate::proofs::Forms::forms, vr_step::proofs::Stepping::does_quiet))]
+#[tactic(auto, using(crate::proofs::Forms::forms, vr_journal::proofs::Stepping::does_quiet))]
 fn handle_message<D: SectorDisk>(
     replica: &mut Replica,
     alloc: Global,

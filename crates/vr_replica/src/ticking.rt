@@ -1,22 +1,20 @@
 //! Time goes by.
 ghost use Rattle.std.specs.Prelude.{◌≡◌, ◌<◌, ◌≤◌, ◌+◌, ◌^◌, OnOk, nat_le, nat_lt};
-ghost use Rattle.vr_memory.specs.Ready.{IsReady};
-ghost use Rattle.vr_rules.specs.Deciding.{first_of, tick_table};
-ghost use Rattle.vr_rules.specs.Replica.{head, last_view};
-ghost use Rattle.vr_rules.specs.Rules.{backup_ticks, changing_ticks, on_tick, primary_ticks};
-ghost use Rattle.vr_rules.specs.Steps.{◌⨾◌};
-ghost use Rattle.vr_rules.specs.Words.{ask, enter, visit};
-ghost use Rattle.vr_step.specs.Does.{Caused, Does};
+ghost use Rattle.vr_journal.specs.Ready.{IsReady};
+ghost use Rattle.vr_journal.specs.Deciding.{first_of, tick_table};
+ghost use Rattle.vr_journal.specs.Replica.{head, last_view};
+ghost use Rattle.vr_journal.specs.Rules.{backup_ticks, changing_ticks, on_tick, primary_ticks};
+ghost use Rattle.vr_journal.specs.Steps.{◌⨾◌};
+ghost use Rattle.vr_journal.specs.Words.{ask, enter, visit};
+ghost use Rattle.vr_journal.specs.Does.{Caused, Does};
 ghost use Rattle.vr_replica.specs.Ticks.{tells_all, tells_first, tick_rule};
 ghost use Rattle.vr_replica.specs.declared.ticking.TickRule.TheVariants as TickRule;
 
 use std::alloc::Global;
 use vr_disk::SectorDisk;
-use vr_journal::{enter, prepare_again};
-use vr_memory::Replica;
+use vr_journal::{Halt, Replica, enter, prepare_again};
 use vr_msg::Outbox;
 use vr_repair::ask;
-use vr_step::Halt;
 use vr_view::speak;
 use vr_visit::visit;
 
@@ -32,7 +30,7 @@ pub enum TickRule {
 }
 
 /// Which rule applies to a tick.
-#[tactic(auto, using(vr_memory::proofs::Memory::some_member, crate::proofs::Ticks::unstarted), unfolding(vr_rules::specs::Deciding::first_of))]
+#[tactic(auto, using(vr_journal::proofs::Memory::some_member, crate::proofs::Ticks::unstarted), unfolding(vr_journal::specs::Deciding::first_of))]
 pub fn decide_tick(replica: &Replica) -> TickRule
     requires { IsReady replica.now }
     ensures rule { first_of (tick_table replica.now) ≡ tick_rule result }
@@ -48,7 +46,7 @@ pub fn decide_tick(replica: &Replica) -> TickRule
 }
 
 // One place of the disk is looked at, and then what is missing is asked for.
-#[tactic(auto, using(vr_step::proofs::Stepping::steps))]
+#[tactic(auto, using(vr_journal::proofs::Stepping::steps))]
 fn look_and_ask<D: SectorDisk>(
     replica: &mut Replica,
     disk: &mut D,
@@ -66,7 +64,7 @@ fn look_and_ask<D: SectorDisk>(
 // ---- at the primary
 
 // Whether an op above the commit number is known.
-#[tactic(auto, using(vr_memory::proofs::Memory::window_of))]
+#[tactic(auto, using(vr_journal::proofs::Memory::window_of))]
 fn has_open(replica: &Replica) -> bool
     requires { IsReady replica.now }
     ensures { result ≡ nat_lt replica.now.commit (head replica.now) }
@@ -97,7 +95,7 @@ fn tell_first<D: SectorDisk>(
 }
 
 // The primary tells how far its log goes, sends the first open entry again, looks at a place of its disk, and asks for what is missing.
-#[tactic(auto, using(vr_step::proofs::Stepping::steps), unfolding(crate::specs::Ticks::tells_first))]
+#[tactic(auto, using(vr_journal::proofs::Stepping::steps), unfolding(crate::specs::Ticks::tells_first))]
 fn tick_primary<D: SectorDisk>(
     replica: &mut Replica,
     alloc: Global,
@@ -169,7 +167,7 @@ fn tick_backup<D: SectorDisk>(
 }
 
 // It tells the view that it has entered, states its log, looks at a place of its disk, and asks for what is missing.
-#[tactic(auto, using(vr_step::proofs::Stepping::steps))]
+#[tactic(auto, using(vr_journal::proofs::Stepping::steps))]
 fn tell_all<D: SectorDisk>(
     replica: &mut Replica,
     alloc: Global,

@@ -7,8 +7,8 @@ use Rattle.std.proofs.lemmas.Bool.{cases_lt, cases_eq, leb-true}
 use Rattle.std.proofs.lemmas.List.{length-set, length-replicate, get_or-replicate, get_or_past}
 use Rattle.std.proofs.lemmas.List.FromFn.{length-map-range_with_len}
 use Rattle.std.proofs.lemmas.Bool.{cond_both}
-use Rattle.vr_state.specs.Sessions.{HaveNumbers}
-use Rattle.vr_state.specs.Folds.{empty}
+use Rattle.vr_ckpt.specs.Sessions.{HaveNumbers}
+use Rattle.vr_ckpt.specs.Folds.{empty}
 use Rattle.vr_base.specs.Replicas.{no_replicas}
 use Rattle.vr_header.specs.declared.header.Header.{Header}
 use Rattle.vr_header.specs.declared.part.Part.{Part}

@@ -6,7 +6,7 @@ use Rattle.std.proofs.lemmas.List.{nil_from_length}
 use Rattle.vr_rules.proofs.Wording.{entry_numbered, read_is}
 use Rattle.vr_msg.specs.Numbers.{IsNumber}
 use Rattle.vr_ckpt.specs.declared.saving.SavedCheckpoint as checkpoint
-use Rattle.vr_state.specs.StateTexts.{texts_of}
+use Rattle.vr_ckpt.specs.StateTexts.{texts_of}
 use Rattle.vr_ckpt.specs.declared.name.Name.{Name}
 use Rattle.vr_header.specs.declared.header.Header.{Header}
 use Rattle.vr_header.specs.declared.part.Part.{Part}

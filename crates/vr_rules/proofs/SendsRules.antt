@@ -16,8 +16,8 @@ use Rattle.vr_msg.specs.declared.frame.Prepare.{Prepare}
 use Rattle.vr_msg.specs.declared.frame.PrepareOk.{PrepareOk}
 use Rattle.vr_msg.specs.declared.request.RequestFields.{RequestFields}
 use Rattle.vr_msg.specs.Normal.{primary}
-use Rattle.vr_state.specs.declared.session.SessionAnswer.{SessionAnswer}
-use Rattle.vr_state.specs.declared.session.SessionAnswer.TheVariants as answer
+use Rattle.vr_ckpt.specs.SessionAnswer.{SessionAnswer}
+use Rattle.vr_ckpt.specs.SessionAnswer.TheVariants as answer
 use Rattle.vr_rules.specs.Replica.{Replica, is_primary}
 use Rattle.vr_rules.specs.Steps.{quiet, says, outputs}
 use Rattle.vr_rules.specs.declared.asker.Asker.{Asker}

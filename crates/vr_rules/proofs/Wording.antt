@@ -11,8 +11,8 @@ use Rattle.vr_msg.specs.Logs.{header_of}
 use Rattle.vr_header.proofs.SameHeaders.{same_header_is}
 use Rattle.vr_header.specs.Same.{same_header}
 use Rattle.vr_msg.specs.Numbers.{IsNumber}
-use Rattle.vr_state.specs.Sessions.{HaveNumbers}
-use Rattle.vr_state.proofs.Numbers.{texts_have_numbers}
+use Rattle.vr_ckpt.specs.Sessions.{HaveNumbers}
+use Rattle.vr_ckpt.proofs.Numbers.{texts_have_numbers}
 use Rattle.vr_base.specs.Replicas.{no_replicas, with_replica}
 use Rattle.vr_ckpt.specs.declared.found.Load.{Load}
 use Rattle.vr_ckpt.specs.declared.found.Load.TheVariants.{Loaded, Missing}
@@ -26,9 +26,9 @@ use Rattle.vr_header.specs.Made.{Whole}
 use Rattle.vr_msg.specs.declared.frame.Frame.{Frame}
 use Rattle.vr_msg.specs.declared.statement.Statement.{Statement}
 use Rattle.vr_msg.specs.Choice.{ops}
-use Rattle.vr_state.specs.declared.state.State.{State}
-use Rattle.vr_state.specs.StateTexts.{state_decoded}
-use Rattle.vr_state.specs.declared.fault.StateFault.{StateFault}
+use Rattle.vr_ckpt.specs.State.{State}
+use Rattle.vr_ckpt.specs.StateTexts.{state_decoded}
+use Rattle.vr_ckpt.specs.StateFault.{StateFault}
 use Rattle.std.specs.Prelude.{Result}
 use Rattle.vr_rules.specs.Replica.{Replica, last_view, part_at, head}
 use Rattle.vr_rules.specs.Steps.{Setting, Word, ◌⨾◌, quiet, change, does, says, by, reading, when}

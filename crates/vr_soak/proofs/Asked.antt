@@ -10,7 +10,7 @@ use Rattle.vr_header.specs.declared.operation.Operation.TheVariants as operation
 use Rattle.vr_lines.specs.declared.line.Line.{Line}
 use Rattle.vr_lines.specs.declared.line.Line.TheVariants as line
 use Rattle.vr_lines.specs.Fits.{IsLineOf}
-use Rattle.vr_rules.specs.Fit.{IsAsked}
+use Rattle.vr_world.specs.Fit.{IsAsked}
 use Rattle.vr_group.specs.Headline.{HasAsked, HaveAsked}
 use Rattle.vr_group.specs.Lines.{AreLinesOf}
 use Rattle.vr_msg.specs.declared.output.Output.{Output}

@@ -15,7 +15,7 @@ use Rattle.vr_group.specs.declared.outputs.Outputs.{Outputs}
 use Rattle.vr_group.specs.declared.outputs.Put.{Put}
 use Rattle.vr_group.specs.declared.outputs.Put.TheVariants.{Message, Other}
 use Rattle.vr_group.specs.Outputs.{Numbered, numbered, outputs_of, plain, put_as, put_of, text_of, with_number}
-use Rattle.vr_rules.specs.Outputs.{message_of}
+use Rattle.vr_world.specs.Outputs.{message_of}
 use Rattle.vr_soak.specs.declared.heard.Heard.{Heard}
 use Rattle.vr_soak.specs.declared.summary.Faults.{Faults}
 use Rattle.vr_soak.specs.Heard.{Counts, HasCounted, HasHeard, Hears, HearsPuts, one_if}

@@ -1,18 +1,17 @@
 //! Checkpoints given: get_syncs.
 ghost use Rattle.std.specs.Prelude.{◌≡◌, ◌≤◌, true};
-ghost use Rattle.vr_memory.specs.Ready.{IsReady};
-ghost use Rattle.vr_rules.specs.Deciding.{first_of, get_sync_table, reaches_down};
-ghost use Rattle.vr_rules.specs.Replica.{last_view};
-ghost use Rattle.vr_rules.specs.Rules.{on_get_sync};
-ghost use Rattle.vr_step.specs.Does.{Caused, Does};
+ghost use Rattle.vr_journal.specs.Ready.{IsReady};
+ghost use Rattle.vr_journal.specs.Deciding.{first_of, get_sync_table, reaches_down};
+ghost use Rattle.vr_journal.specs.Replica.{last_view};
+ghost use Rattle.vr_journal.specs.Rules.{on_get_sync};
+ghost use Rattle.vr_journal.specs.Does.{Caused, Does};
 ghost use Rattle.vr_sync.specs.Named.{sync_rule};
 ghost use Rattle.vr_sync.specs.declared.giving.SyncRule.{SyncRule};
 
 use std::alloc::Global;
 use vr_disk::SectorDisk;
-use vr_memory::Replica;
+use vr_journal::{Halt, Replica};
 use vr_msg::{GetSync, Outbox};
-use vr_step::Halt;
 
 /// What a get_sync leads to.
 #[derive(Clone, Copy, Debug, PartialEq, Eq)]
@@ -25,7 +24,7 @@ pub enum SyncRule {
 }
 
 /// Which rule applies to a get_sync.
-#[tactic(auto, using(vr_memory::proofs::Memory::some_member), unfolding(vr_rules::specs::Deciding::first_of))]
+#[tactic(auto, using(vr_journal::proofs::Memory::some_member), unfolding(vr_journal::specs::Deciding::first_of))]
 pub fn decide_get_sync(replica: &Replica, get: &GetSync) -> SyncRule
     requires { IsReady replica.now }
     ensures rule { first_of (get_sync_table get.now replica.now) ≡ sync_rule result }
@@ -42,7 +41,7 @@ pub fn decide_get_sync(replica: &Replica, get: &GetSync) -> SyncRule
 
 /// A replica that is out of reach of a view's log asks for its checkpoint: where this one leads that view or a later one, and its log reaches
 /// down to its checkpoint, it is given both.
-#[tactic(auto, using(crate::proofs::Syncs::gives, vr_step::proofs::Stepping::wants))]
+#[tactic(auto, using(crate::proofs::Syncs::gives, vr_journal::proofs::Stepping::wants))]
 pub fn handle_get_sync<D: SectorDisk>(
     replica: &Replica,
     alloc: Global,

@@ -1,13 +1,13 @@
 //! Checkpoints taken over: sync_views.
 ghost use Rattle.std.specs.Prelude.{◌≡◌, ◌<◌, ◌≤◌, ◌+◌, ◌^◌, OnOk};
 ghost use Rattle.vr_base.specs.Bytes.{name_of};
-ghost use Rattle.vr_memory.specs.Ready.{IsReady};
+ghost use Rattle.vr_journal.specs.Ready.{IsReady};
 ghost use Rattle.vr_msg.specs.Spelling.{AreHeaders};
-ghost use Rattle.vr_rules.specs.Deciding.{first_of, sync_view_table};
-ghost use Rattle.vr_rules.specs.Rules.{acknowledge_stored, on_sync_view};
-ghost use Rattle.vr_rules.specs.Steps.{◌⨾◌};
-ghost use Rattle.vr_rules.specs.Words.{apply, jump};
-ghost use Rattle.vr_step.specs.Does.{Caused, Does};
+ghost use Rattle.vr_journal.specs.Deciding.{first_of, sync_view_table};
+ghost use Rattle.vr_journal.specs.Rules.{acknowledge_stored, on_sync_view};
+ghost use Rattle.vr_journal.specs.Steps.{◌⨾◌};
+ghost use Rattle.vr_journal.specs.Words.{apply, jump};
+ghost use Rattle.vr_journal.specs.Does.{Caused, Does};
 ghost use Rattle.vr_sync.specs.Jumps.{IsSyncing, MayJump};
 ghost use Rattle.vr_sync.specs.Named.{jump_rule};
 ghost use Rattle.vr_sync.specs.declared.jumping.JumpRule.{JumpRule};
@@ -15,10 +15,8 @@ ghost use Rattle.vr_journal.specs.Telling.{each_to};
 
 use std::alloc::Global;
 use vr_disk::SectorDisk;
-use vr_journal::{acknowledge_all, apply, save};
-use vr_memory::{Replica, primary};
+use vr_journal::{Halt, Replica, acknowledge_all, apply, primary, save};
 use vr_msg::{Outbox, SyncView};
-use vr_step::Halt;
 
 /// What a sync_view leads to.
 #[derive(Clone, Copy, Debug, PartialEq, Eq)]
@@ -30,7 +28,7 @@ pub enum JumpRule {
 }
 
 /// Which rule applies to a sync_view; one that is taken over has headers with the values of the program.
-#[tactic(auto, using(vr_memory::proofs::Memory::window_of, vr_memory::proofs::Memory::some_member), unfolding(vr_rules::specs::Deciding::first_of))]
+#[tactic(auto, using(vr_journal::proofs::Memory::window_of, vr_journal::proofs::Memory::some_member), unfolding(vr_journal::specs::Deciding::first_of))]
 pub fn decide_sync_view(replica: &Replica, sync: &SyncView) -> JumpRule
     requires { IsReady replica.now }
     ensures rule { first_of (sync_view_table name_of sync.now replica.now) ≡ jump_rule result }
@@ -46,7 +44,7 @@ pub fn decide_sync_view(replica: &Replica, sync: &SyncView) -> JumpRule
 }
 
 // Takes over a log with its checkpoint, and saves that it has them.
-#[tactic(auto, using(vr_step::proofs::Stepping::steps, crate::proofs::Jumps::ready_jumped, crate::proofs::Jumps::view_jumped, crate::proofs::Jumps::may_move, vr_memory::proofs::Memory::window_of), unfolding(vr_rules::specs::Words::jump))]
+#[tactic(auto, using(vr_journal::proofs::Stepping::steps, crate::proofs::Jumps::ready_jumped, crate::proofs::Jumps::view_jumped, crate::proofs::Jumps::may_move, vr_journal::proofs::Memory::window_of), unfolding(vr_journal::specs::Words::jump))]
 fn jump<D: SectorDisk>(
     replica: &mut Replica,
     alloc: Global,
@@ -68,7 +66,7 @@ fn jump<D: SectorDisk>(
 }
 
 // And then acknowledges what is stored of the log, and applies.
-#[tactic(auto, using(vr_step::proofs::Stepping::steps, crate::proofs::Jumps::view_low, crate::proofs::Jumps::head_small))]
+#[tactic(auto, using(vr_journal::proofs::Stepping::steps, crate::proofs::Jumps::view_low, crate::proofs::Jumps::head_small))]
 fn follow<D: SectorDisk>(
     replica: &mut Replica,
     alloc: Global,

@@ -1,22 +1,20 @@
 //! A replica has entered a view: start_view_changes.
 ghost use Rattle.std.specs.Prelude.{◌≡◌, ◌<◌, ◌≤◌, ◌+◌, ◌^◌, OnOk, true};
-ghost use Rattle.vr_memory.specs.Ready.{IsReady};
+ghost use Rattle.vr_journal.specs.Ready.{IsReady};
 ghost use Rattle.vr_journal.specs.Waits.{EndsAtOnce, passes};
-ghost use Rattle.vr_rules.specs.Deciding.{first_of, start_view_change_table};
-ghost use Rattle.vr_rules.specs.Replica.{last_view};
-ghost use Rattle.vr_rules.specs.Rules.{heard_of, on_start_view_change};
-ghost use Rattle.vr_rules.specs.Steps.{◌⨾◌, change};
-ghost use Rattle.vr_rules.specs.Words.{enter, speak};
-ghost use Rattle.vr_step.specs.Does.{Caused, Does};
+ghost use Rattle.vr_journal.specs.Deciding.{first_of, start_view_change_table};
+ghost use Rattle.vr_journal.specs.Replica.{last_view};
+ghost use Rattle.vr_journal.specs.Rules.{heard_of, on_start_view_change};
+ghost use Rattle.vr_journal.specs.Steps.{◌⨾◌, change};
+ghost use Rattle.vr_journal.specs.Words.{enter, speak};
+ghost use Rattle.vr_journal.specs.Does.{Caused, Does};
 ghost use Rattle.vr_view.specs.Named.{change_rule};
 
 use crate::trying::speak;
 use std::alloc::Global;
 use vr_disk::SectorDisk;
-use vr_journal::enter;
-use vr_memory::Replica;
+use vr_journal::{Halt, Replica, enter};
 use vr_msg::{Outbox, StartViewChange};
-use vr_step::Halt;
 
 /// What a start_view_change leads to.
 #[derive(Clone, Copy, Debug, PartialEq, Eq)]
@@ -34,7 +32,7 @@ pub enum ChangeRule {
 }
 
 /// Which rule applies to a start_view_change.
-#[tactic(auto, unfolding(vr_rules::specs::Deciding::first_of))]
+#[tactic(auto, unfolding(vr_journal::specs::Deciding::first_of))]
 pub fn decide_start_view_change(replica: &Replica, message: &StartViewChange) -> ChangeRule
     requires { 0 < replica.now.n }
     ensures { first_of (start_view_change_table message.now replica.now) ≡ change_rule result }
@@ -55,7 +53,7 @@ pub fn decide_start_view_change(replica: &Replica, message: &StartViewChange) ->
 }
 
 // Enters the later view that a replica has entered, and speaks there.
-#[tactic(auto, using(vr_step::proofs::Stepping::steps, crate::proofs::Changes::later))]
+#[tactic(auto, using(vr_journal::proofs::Stepping::steps, crate::proofs::Changes::later))]
 fn enter_later<D: SectorDisk>(
     replica: &mut Replica,
     alloc: Global,
@@ -77,7 +75,7 @@ fn enter_later<D: SectorDisk>(
 }
 
 // Hears of one more replica in its view, which isn't started, and speaks.
-#[tactic(auto, using(vr_step::proofs::Stepping::steps, crate::proofs::Changes::heard))]
+#[tactic(auto, using(vr_journal::proofs::Stepping::steps, crate::proofs::Changes::heard))]
 fn hear_one<D: SectorDisk>(
     replica: &mut Replica,
     alloc: Global,
@@ -100,7 +98,7 @@ fn hear_one<D: SectorDisk>(
 /// A replica has entered a view. A later one is entered too, and it counts there; in a view that isn't
 /// started it counts, and where enough have entered it the replica speaks; the primary of a view that is
 /// started tells it of the log.
-#[tactic(auto, using(crate::proofs::Changes::changes, crate::proofs::Changes::means, vr_memory::proofs::Memory::some_member, vr_step::proofs::Stepping::wants))]
+#[tactic(auto, using(crate::proofs::Changes::changes, crate::proofs::Changes::means, vr_journal::proofs::Memory::some_member, vr_journal::proofs::Stepping::wants))]
 pub fn handle_start_view_change<D: SectorDisk>(
     replica: &mut Replica,
     alloc: Global,

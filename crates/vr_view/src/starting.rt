@@ -1,14 +1,14 @@
 //! The log of a view that is started: start_views, and get_views that ask for one.
 ghost use Rattle.std.specs.Prelude.{◌≡◌, ◌<◌, ◌≤◌, ◌+◌, ◌^◌, ◌||◌, OnOk, nat_lt};
 ghost use Rattle.vr_base.specs.Bytes.{name_of};
-ghost use Rattle.vr_memory.specs.Ready.{HasWindow, IsReady};
+ghost use Rattle.vr_journal.specs.Ready.{HasWindow, IsReady};
 ghost use Rattle.vr_msg.specs.Spelling.{AreHeaders};
-ghost use Rattle.vr_rules.specs.Deciding.{first_of, get_view_table, log_of, start_view_table};
-ghost use Rattle.vr_rules.specs.Replica.{last_view, window_end};
-ghost use Rattle.vr_rules.specs.Rules.{acknowledge_stored, on_get_view, on_start_view};
-ghost use Rattle.vr_rules.specs.Steps.{◌⨾◌};
-ghost use Rattle.vr_rules.specs.Words.{apply, take};
-ghost use Rattle.vr_step.specs.Does.{Caused, Does};
+ghost use Rattle.vr_journal.specs.Deciding.{first_of, get_view_table, log_of, start_view_table};
+ghost use Rattle.vr_journal.specs.Replica.{last_view, window_end};
+ghost use Rattle.vr_journal.specs.Rules.{acknowledge_stored, on_get_view, on_start_view};
+ghost use Rattle.vr_journal.specs.Steps.{◌⨾◌};
+ghost use Rattle.vr_journal.specs.Words.{apply, take};
+ghost use Rattle.vr_journal.specs.Does.{Caused, Does};
 ghost use Rattle.vr_view.specs.Logs.{MayTake};
 ghost use Rattle.vr_view.specs.Messages.{IsStarting};
 ghost use Rattle.vr_view.specs.Named.{start_rule, view_rule};
@@ -18,10 +18,8 @@ ghost use Rattle.vr_view.specs.declared.starting.StartRule.{StartRule};
 use crate::taking::{head_of, take};
 use std::alloc::Global;
 use vr_disk::SectorDisk;
-use vr_journal::{acknowledge_all, apply};
-use vr_memory::{Log, Replica, primary};
+use vr_journal::{Halt, Log, Replica, acknowledge_all, apply, primary};
 use vr_msg::{GetView, Outbox, StartView};
-use vr_step::Halt;
 
 /// What a start_view leads to.
 #[derive(Clone, Copy, Debug, PartialEq, Eq)]
@@ -65,7 +63,7 @@ fn is_out_of_reach(replica: &Replica, log: &Log) -> bool
 }
 
 /// Which rule applies to a start_view; one that is taken has headers with the values of the program.
-#[tactic(auto, using(vr_memory::proofs::Memory::window_of, vr_memory::proofs::Memory::some_member), unfolding(vr_rules::specs::Deciding::first_of))]
+#[tactic(auto, using(vr_journal::proofs::Memory::window_of, vr_journal::proofs::Memory::some_member), unfolding(vr_journal::specs::Deciding::first_of))]
 pub fn decide_start_view(replica: &Replica, start: &StartView) -> StartRule
     requires { IsReady replica.now }
     ensures rule { first_of (start_view_table name_of start.now replica.now) ≡ start_rule result }
@@ -87,7 +85,7 @@ pub fn decide_start_view(replica: &Replica, start: &StartView) -> StartRule
 }
 
 /// Which rule applies to a get_view.
-#[tactic(auto, unfolding(vr_rules::specs::Deciding::first_of))]
+#[tactic(auto, unfolding(vr_journal::specs::Deciding::first_of))]
 pub fn decide_get_view(replica: &Replica, get: &GetView) -> ViewRule
     requires { 0 < replica.now.n }
     ensures { first_of (get_view_table get.now replica.now) ≡ view_rule result }
@@ -102,7 +100,7 @@ pub fn decide_get_view(replica: &Replica, get: &GetView) -> ViewRule
 }
 
 // Takes over a log that may be taken, acknowledges what is stored of it, and applies.
-#[tactic(auto, using(vr_step::proofs::Stepping::steps, crate::proofs::Takes::taken_low, crate::proofs::Choices::head_small, vr_journal::proofs::Acks::told_to))]
+#[tactic(auto, using(vr_journal::proofs::Stepping::steps, crate::proofs::Takes::taken_low, crate::proofs::Choices::head_small, vr_journal::proofs::Acks::told_to))]
 fn follow<D: SectorDisk>(
     replica: &mut Replica,
     alloc: Global,
@@ -125,7 +123,7 @@ fn follow<D: SectorDisk>(
 /// The primary of a view tells of its log. Where it is newer than the replica's, fits and is a chain, it
 /// is taken over, the entries of it that are stored are acknowledged, and what is committed is applied.
 /// Where it is newer and out of reach, the view's checkpoint is asked for.
-#[tactic(auto, using(crate::proofs::Starts::starts, crate::proofs::Starts::may_follow, crate::proofs::Starts::view_started, vr_step::proofs::Stepping::wants))]
+#[tactic(auto, using(crate::proofs::Starts::starts, crate::proofs::Starts::may_follow, crate::proofs::Starts::view_started, vr_journal::proofs::Stepping::wants))]
 pub fn handle_start_view<D: SectorDisk>(
     replica: &mut Replica,
     alloc: Global,
@@ -151,7 +149,7 @@ pub fn handle_start_view<D: SectorDisk>(
 }
 
 /// A replica asks for the log of a view: where this one leads that view or a later one, it is told.
-#[tactic(auto, using(crate::proofs::Starts::gives, vr_memory::proofs::Memory::some_member, vr_step::proofs::Stepping::wants))]
+#[tactic(auto, using(crate::proofs::Starts::gives, vr_journal::proofs::Memory::some_member, vr_journal::proofs::Stepping::wants))]
 pub fn handle_get_view<D: SectorDisk>(
     replica: &Replica,
     alloc: Global,

@@ -1,14 +1,14 @@
 //! A replica states its log for a view: do_view_changes.
 ghost use Rattle.std.specs.Prelude.{◌≡◌, ◌<◌, ◌≤◌, ◌+◌, ◌^◌, ◌∷◌, [], IfOk, OnOk};
-ghost use Rattle.vr_memory.specs.Ready.{IsReady};
+ghost use Rattle.vr_journal.specs.Ready.{IsReady};
 ghost use Rattle.vr_msg.specs.Spelling.{AreHeaders, known};
-ghost use Rattle.vr_rules.specs.Deciding.{do_view_change_table, first_of};
-ghost use Rattle.vr_rules.specs.declared.rule.Rule.TheVariants.{Stated};
-ghost use Rattle.vr_rules.specs.Replica.{last_view};
-ghost use Rattle.vr_rules.specs.Rules.{on_do_view_change, with_statement};
-ghost use Rattle.vr_rules.specs.Steps.{◌⨾◌, change};
-ghost use Rattle.vr_rules.specs.Words.{try};
-ghost use Rattle.vr_step.specs.Does.{Caused, Does};
+ghost use Rattle.vr_journal.specs.Deciding.{do_view_change_table, first_of};
+ghost use Rattle.vr_journal.specs.Rule.TheVariants.{Stated};
+ghost use Rattle.vr_journal.specs.Replica.{last_view};
+ghost use Rattle.vr_journal.specs.Rules.{on_do_view_change, with_statement};
+ghost use Rattle.vr_journal.specs.Steps.{◌⨾◌, change};
+ghost use Rattle.vr_journal.specs.Words.{try};
+ghost use Rattle.vr_journal.specs.Does.{Caused, Does};
 ghost use Rattle.vr_view.specs.Messages.{IsStating};
 ghost use Rattle.vr_view.specs.Named.{state_rule};
 ghost use Rattle.vr_view.specs.Entering.{entering};
@@ -18,11 +18,8 @@ use std::alloc::{AllocError, Global};
 use vr_base::Seq;
 use vr_disk::SectorDisk;
 use vr_header::Part;
-use vr_journal::enter;
-use vr_memory::{Replica, primary};
+use vr_journal::{Halt, Replica, enter, primary, valued};
 use vr_msg::{DoViewChange, DvcBody, Outbox, Statement};
-use vr_step::Halt;
-use vr_window::valued;
 
 /// What a do_view_change leads to.
 #[derive(Clone, Copy, Debug, PartialEq, Eq)]
@@ -38,7 +35,7 @@ pub enum StateRule {
 }
 
 /// Which rule applies to a do_view_change.
-#[tactic(auto, unfolding(vr_rules::specs::Deciding::first_of))]
+#[tactic(auto, unfolding(vr_journal::specs::Deciding::first_of))]
 pub fn decide_do_view_change(replica: &Replica, message: &DoViewChange) -> StateRule
     requires { 0 < replica.now.n }
     ensures { first_of (do_view_change_table message.now replica.now) ≡ state_rule result }
@@ -156,7 +153,7 @@ fn enter_up_to<D: SectorDisk>(
 }
 
 // Keeps what a replica states of its log, in the view for which it does, and tries to begin that.
-#[tactic(auto, using(vr_step::proofs::Stepping::steps, crate::proofs::States::states))]
+#[tactic(auto, using(vr_journal::proofs::Stepping::steps, crate::proofs::States::states))]
 fn keep<D: SectorDisk>(
     replica: &mut Replica,
     alloc: Global,
@@ -181,7 +178,7 @@ fn keep<D: SectorDisk>(
 /// A replica states its log for a view whose primary this one is. Where the view is started already, the
 /// sender is told of its log; else the view is entered if it is a later one, the statement is kept, and
 /// the replica tries to begin it.
-#[tactic(auto, using(crate::proofs::States::rules, vr_memory::proofs::Memory::some_member, vr_step::proofs::Stepping::wants))]
+#[tactic(auto, using(crate::proofs::States::rules, vr_journal::proofs::Memory::some_member, vr_journal::proofs::Stepping::wants))]
 pub fn handle_do_view_change<D: SectorDisk>(
     replica: &mut Replica,
     alloc: Global,

@@ -1,16 +1,14 @@
 //! Take: the log of a view is taken over.
 ghost use Rattle.std.specs.Prelude.{◌≡◌, ◌<◌, ◌≤◌, ◌+◌, ◌^◌, OnOk};
-ghost use Rattle.vr_rules.specs.Words.{take};
-ghost use Rattle.vr_step.specs.Does.{Does, Caused};
-ghost use Rattle.vr_memory.specs.Ready.{IsReady};
+ghost use Rattle.vr_journal.specs.Words.{take};
+ghost use Rattle.vr_journal.specs.Does.{Does, Caused};
+ghost use Rattle.vr_journal.specs.Ready.{IsReady};
 ghost use Rattle.vr_view.specs.Logs.{MayTake};
 
 use std::alloc::Global;
 use vr_disk::SectorDisk;
-use vr_journal::save;
-use vr_memory::{Log, Replica};
+use vr_journal::{Halt, Log, Replica, save};
 use vr_msg::Outbox;
-use vr_step::Halt;
 
 /// Where a log ends.
 pub fn head_of(log: &Log) -> u64
@@ -27,7 +25,7 @@ pub fn commit_of(log: &Log) -> u64
 }
 
 /// Takes over the log of a view, and saves that it has it.
-#[tactic(auto, using(vr_step::proofs::Stepping::steps, crate::proofs::Takes::takes, vr_memory::proofs::Memory::window_of), unfolding(vr_rules::specs::Words::take))]
+#[tactic(auto, using(vr_journal::proofs::Stepping::steps, crate::proofs::Takes::takes, vr_journal::proofs::Memory::window_of), unfolding(vr_journal::specs::Words::take))]
 pub fn take<D: SectorDisk>(
     replica: &mut Replica,
     alloc: Global,

@@ -1,10 +1,10 @@
 //! Try: the primary of a view that isn't started chooses the log with which it begins.
 ghost use Rattle.std.specs.Prelude.{◌≡◌, ◌<◌, ◌≤◌, ◌+◌, ◌^◌, ◌++◌, IfOk, OnOk, ◌&&◌, nat_le, not};
 ghost use Rattle.vr_base.specs.Replicas.{size};
-ghost use Rattle.vr_memory.specs.Ready.{IsReady};
-ghost use Rattle.vr_rules.specs.Replica.{is_primary, is_started, last_view, view_change};
-ghost use Rattle.vr_rules.specs.Words.{begin_view, choose_line, chosen_log, decided, log_end, obey_choice, prepare_again, speak, stated, try, try_log};
-ghost use Rattle.vr_step.specs.Does.{Caused, Does};
+ghost use Rattle.vr_journal.specs.Ready.{IsReady};
+ghost use Rattle.vr_journal.specs.Replica.{is_primary, is_started, last_view, view_change};
+ghost use Rattle.vr_journal.specs.Words.{begin_view, choose_line, chosen_log, decided, log_end, obey_choice, prepare_again, speak, stated, try, try_log};
+ghost use Rattle.vr_journal.specs.Does.{Caused, Does};
 ghost use Rattle.vr_view.specs.Logs.{IsTaught, MayTake};
 ghost use Rattle.vr_journal.specs.Telling.{each_to};
 
@@ -14,10 +14,8 @@ use vr_base::{Seq, quorums};
 use vr_choose::{choose, top_commit, top_view};
 use vr_disk::SectorDisk;
 use vr_header::HeaderList;
-use vr_journal::{apply, prepare_again};
-use vr_memory::{Log, Replica};
+use vr_journal::{Halt, Log, Replica, apply, prepare_again};
 use vr_msg::{Choice, Outbox, Statement};
-use vr_step::Halt;
 
 // The op of the last header, or the commit number where there is none.
 fn log_end(commit: u64, headers: &HeaderList) -> u64
@@ -112,7 +110,7 @@ fn tell_choice(
 
 // Begins its view with this log: it takes it over, the others hear of it, and what can be read above
 // the commit number is prepared again and then applied.
-#[tactic(auto, using(vr_step::proofs::Stepping::steps, crate::proofs::Takes::taken_low, crate::proofs::Choices::head_small, crate::proofs::Choices::begins))]
+#[tactic(auto, using(vr_journal::proofs::Stepping::steps, crate::proofs::Takes::taken_low, crate::proofs::Choices::head_small, crate::proofs::Choices::begins))]
 fn begin_view<D: SectorDisk>(
     replica: &mut Replica,
     alloc: Global,
@@ -136,7 +134,7 @@ fn begin_view<D: SectorDisk>(
 }
 
 // Begins its view with this log if it may take it, and waits otherwise.
-#[tactic(auto, using(vr_step::proofs::Stepping::steps, crate::proofs::Takes::may_take_now, vr_memory::proofs::Memory::window_of), unfolding(vr_rules::specs::Words::try_log))]
+#[tactic(auto, using(vr_journal::proofs::Stepping::steps, crate::proofs::Takes::may_take_now, vr_journal::proofs::Memory::window_of), unfolding(vr_journal::specs::Words::try_log))]
 fn try_log<D: SectorDisk>(
     replica: &mut Replica,
     alloc: Global,
@@ -161,7 +159,7 @@ fn try_log<D: SectorDisk>(
 }
 
 // Obeys what the statements of the group decide.
-#[tactic(auto, using(crate::proofs::Choices::choices, crate::proofs::Choices::chosen_taught, vr_memory::proofs::Memory::window_of, vr_step::proofs::Stepping::wants))]
+#[tactic(auto, using(crate::proofs::Choices::choices, crate::proofs::Choices::chosen_taught, vr_journal::proofs::Memory::window_of, vr_journal::proofs::Stepping::wants))]
 fn choose_log<D: SectorDisk>(
     replica: &mut Replica,
     alloc: Global,
@@ -199,7 +197,7 @@ fn may_try(replica: &Replica) -> bool
 
 /// Tries to begin its view: the primary of a view that isn't started chooses its log from what the
 /// replicas have stated, and begins the view if they leave no doubt.
-#[tactic(auto, using(crate::proofs::Choices::tries, vr_memory::proofs::Memory::some_member))]
+#[tactic(auto, using(crate::proofs::Choices::tries, vr_journal::proofs::Memory::some_member))]
 pub fn try_view<D: SectorDisk>(
     replica: &mut Replica,
     alloc: Global,
@@ -233,7 +231,7 @@ fn is_heard(replica: &Replica) -> bool
 
 /// Speaks, in a view that isn't started: where enough replicas have entered it, its primary tries to
 /// begin it, and another one states its log to the primary.
-#[tactic(auto, using(vr_step::proofs::Stepping::steps, vr_memory::proofs::Memory::some_member), unfolding(vr_rules::specs::Words::speak))]
+#[tactic(auto, using(vr_journal::proofs::Stepping::steps, vr_journal::proofs::Memory::some_member), unfolding(vr_journal::specs::Words::speak))]
 pub fn speak<D: SectorDisk>(
     replica: &mut Replica,
     alloc: Global,

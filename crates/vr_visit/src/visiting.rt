@@ -2,25 +2,23 @@
 ghost use Rattle.std.specs.Prelude.{◌≡◌, ◌<◌, ◌%◌, ◌==◌, IfErr, IfOk, IfSome, OnOk, Some, is_ok};
 ghost use Rattle.vr_base.specs.Causes.{HasCause};
 ghost use Rattle.vr_header.specs.declared.part.Part.TheVariants.{Here};
-ghost use Rattle.vr_memory.specs.Ready.{IsReady};
+ghost use Rattle.vr_journal.specs.Ready.{IsReady};
 ghost use Rattle.vr_visit.specs.Visits.{found_at, good_or_mended, mends, reads_as, stored_as};
 ghost use Rattle.vr_rings.specs.Slots.{header_in};
-ghost use Rattle.vr_rules.specs.Replica.{part_at};
-ghost use Rattle.vr_rules.specs.Sectors.{sectors};
-ghost use Rattle.vr_rules.specs.Steps.{reading};
-ghost use Rattle.vr_rules.specs.Words.{entry_of, header_read, mend_header, op_of_slot, place_now, visit, visit_block, visit_place, visit_slot};
-ghost use Rattle.vr_step.specs.Does.{Caused, Does, Performs, done};
-ghost use Rattle.vr_step.specs.declared.halt.Halt.TheVariants as halt;
+ghost use Rattle.vr_journal.specs.Replica.{part_at};
+ghost use Rattle.vr_journal.specs.Sectors.{sectors};
+ghost use Rattle.vr_journal.specs.Steps.{reading};
+ghost use Rattle.vr_journal.specs.Words.{entry_of, header_read, mend_header, op_of_slot, place_now, visit, visit_block, visit_place, visit_slot};
+ghost use Rattle.vr_journal.specs.Does.{Caused, Does, Performs, done};
+ghost use Rattle.vr_journal.specs.Halt.TheVariants as halt;
 
 use crate::found::Visit;
 use vr_ckpt::Name;
 use vr_disk::{DiskFault, SectorDisk};
 use vr_header::{Header, Part};
-use vr_journal::rewrite_header;
-use vr_memory::Replica;
+use vr_journal::{Halt, Replica, rewrite_header};
 use vr_msg::Outbox;
 use vr_rings::read_header;
-use vr_step::Halt;
 
 // ---- slots
 
@@ -57,7 +55,7 @@ fn mend_header<D: SectorDisk>(
 }
 
 // The slot of an entry that is stored is looked at.
-#[tactic(auto, using(crate::proofs::Visits::slot_lost, crate::proofs::Visits::found_stored, crate::proofs::Visits::found_lost, vr_memory::proofs::Memory::readies))]
+#[tactic(auto, using(crate::proofs::Visits::slot_lost, crate::proofs::Visits::found_stored, crate::proofs::Visits::found_lost, vr_journal::proofs::Memory::readies))]
 fn visit_stored<D: SectorDisk>(
     replica: &mut Replica,
     disk: &mut D,
@@ -83,7 +81,7 @@ fn visit_stored<D: SectorDisk>(
 /// Looks at the slot of an op: an entry that was stored and can't be read is lost; the header sector of one that reads is written anew
 /// where it reads as something else. Nothing is looked at where no entry of the op is known to be stored. It takes no memory: an `Err` is a
 /// write that failed.
-#[tactic(auto, using(crate::proofs::Visits::slot_nothing, crate::proofs::Visits::found_here, crate::proofs::Visits::found_nothing, vr_memory::proofs::Memory::here_op))]
+#[tactic(auto, using(crate::proofs::Visits::slot_nothing, crate::proofs::Visits::found_here, crate::proofs::Visits::found_nothing, vr_journal::proofs::Memory::here_op))]
 pub fn visit_slot<D: SectorDisk>(
     replica: &mut Replica,
     disk: &mut D,
@@ -114,7 +112,7 @@ fn mend_value<D: SectorDisk>(replica: &Replica, disk: &mut D) -> Result<(), Disk
 }
 
 // A block of the checkpoint is looked at.
-#[tactic(auto, using(crate::proofs::Visits::block_bad, crate::proofs::Visits::block_good, crate::proofs::Visits::ready_worn, vr_step::proofs::Stepping::does_no_memory))]
+#[tactic(auto, using(crate::proofs::Visits::block_bad, crate::proofs::Visits::block_good, crate::proofs::Visits::ready_worn, vr_journal::proofs::Stepping::does_no_memory))]
 fn visit_block<D: SectorDisk>(
     replica: &mut Replica,
     disk: &mut D,
@@ -133,7 +131,7 @@ fn visit_block<D: SectorDisk>(
 }
 
 // Looks at a place.
-#[tactic(auto, using(crate::proofs::Visits::place_slot, crate::proofs::Visits::place_value, crate::proofs::Visits::place_block, crate::proofs::Visits::block_none, vr_step::proofs::Stepping::does_effect, vr_step::proofs::Stepping::does_effect_stopped))]
+#[tactic(auto, using(crate::proofs::Visits::place_slot, crate::proofs::Visits::place_value, crate::proofs::Visits::place_block, crate::proofs::Visits::block_none, vr_journal::proofs::Stepping::does_effect, vr_journal::proofs::Stepping::does_effect_stopped))]
 fn visit_place<D: SectorDisk>(
     replica: &mut Replica,
     disk: &mut D,

@@ -9,7 +9,7 @@ use Rattle.vr_header.specs.declared.part.Part.{Part}
 use Rattle.vr_header.specs.declared.part.Part.TheVariants.{Here, Lost, Wanted, Unknown, Nothing}
 use Rattle.vr_msg.specs.declared.event.Event.{Event}
 use Rattle.vr_msg.specs.declared.output.Output.{Output}
-use Rattle.vr_super.specs.Copies.{SuperValue}
+use Rattle.vr_lie.specs.Copies.{SuperValue}
 use Rattle.vr_rules.specs.Replica.{Replica}
 use Rattle.vr_rules.specs.Steps.{Effect, Write, Rewrite, Save, Mend, Checkpoint, PutBlock, Say, Step, outputs}
 use Rattle.vr_rules.specs.Opening.{blank, first_value, fresh, opening}

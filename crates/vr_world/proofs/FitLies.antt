@@ -1,7 +1,7 @@
 -- Sectors that may lie are a disk on which what is read is as the program has it.
 use Rattle.std.proofs.Common.{◌≡◌, ◌∙◌, refl, sym, ap, List, [], ◌∷◌}
 use Rattle.vr_disk.specs.DiskState.{IsFace}
-use Rattle.vr_rings.specs.Slots.{header_in, whole_in}
+use Rattle.vr_lie.specs.Slots.{header_in, whole_in}
 use Rattle.vr_rules.specs.Steps.{Effect, after_all}
 use Rattle.vr_rules.specs.Sectors.{calls_of, sectors}
 use Rattle.vr_rules.specs.Fit.{ReadsWell, IsProgram}

@@ -1,5 +1,5 @@
 use Rattle.std.proofs.Common.{[], ◌-◌, arith, refl}
-use Rattle.vr_world.specs.World.{fused}
+use Rattle.vr_lying.specs.World.{fused}
 use Rattle.vr_group.proofs.Acts.{acted_there}
 use Rattle.vr_group.proofs.hosts.fuse_at.Goals as goal
 

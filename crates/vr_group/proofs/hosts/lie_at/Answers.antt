@@ -1,6 +1,6 @@
 use Rattle.std.proofs.Common.{arith}
-use Rattle.vr_world.specs.Lying.{hazards}
-use Rattle.vr_world.specs.World.{lies}
+use Rattle.vr_lying.specs.Lying.{hazards}
+use Rattle.vr_lying.specs.World.{lies}
 use Rattle.vr_group.proofs.Acts.{acted_ok}
 use Rattle.vr_group.proofs.hosts.lie_at.Goals as goal
 

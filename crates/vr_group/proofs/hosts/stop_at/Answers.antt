@@ -1,5 +1,5 @@
 use Rattle.std.proofs.Common.{[], arith, refl}
-use Rattle.vr_world.specs.World.{stops}
+use Rattle.vr_lying.specs.World.{stops}
 use Rattle.vr_group.proofs.Acts.{acted_there}
 use Rattle.vr_group.proofs.hosts.stop_at.Goals as goal
 

@@ -1,5 +1,5 @@
 use Rattle.std.proofs.Common.{◌≡◌, ◌++◌, length}
-use Rattle.vr_rules.specs.Outputs.{messages}
+use Rattle.vr_replica.specs.Outputs.{messages}
 use Rattle.vr_group.specs.Outputs.{numbered, with_outputs}
 use Rattle.vr_group.proofs.outputs.record_outputs.Given as goal
 

@@ -1,4 +1,4 @@
-use Rattle.vr_memory.proofs.Memory.{stays_ok}
+use Rattle.vr_journal.proofs.Memory.{stays_ok}
 use Rattle.vr_view.proofs.Takes.{view_taken}
 use Rattle.vr_view.proofs.taking.take.Goals as goal
 

@@ -1,5 +1,5 @@
 use Rattle.std.proofs.Common.{subst, sym}
-use Rattle.vr_memory.specs.Ready.{IsReady}
+use Rattle.vr_journal.specs.Ready.{IsReady}
 use Rattle.vr_visit.proofs.Visits.{ready_worn}
 use Rattle.vr_visit.proofs.visiting.visit_block.Goals as goal
 
