@@ -7,7 +7,7 @@ top=$(cd "$(dirname "$0")/.." && pwd)
 work=$(mktemp -d)
 trap 'rm -rf "$work"' EXIT
 mkdir "$work/crates"
-names='vr_base vr_header vr_table vr_state'
+names='vr_base vr_header vr_state'
 for name in $names; do
     cp -r "$top/crates/$name" "$work/crates/$name"
 done
@@ -15,7 +15,7 @@ cp -r "$top/bench/apply" "$work/crates/apply_bench"
 # Sources of a crate end in .txt here, since no check of the repository reads them.
 find "$work/crates/apply_bench" -name '*.txt' | while read -r file; do mv "$file" "${file%.txt}"; done
 rm "$work/crates/apply_bench/plain.rs"
-grep -E '^(vr_base|vr_header|vr_table|vr_state):' "$top/crates.txt" > "$work/crates.txt"
+grep -E '^(vr_base|vr_header|vr_state):' "$top/crates.txt" > "$work/crates.txt"
 echo 'apply_bench: vr_base vr_header vr_state' >> "$work/crates.txt"
 (cd "$work/crates/apply_bench" && rt run --jobs 1)
 rustc -O -o "$work/plain" "$top/bench/apply/plain.rs"
