@@ -80,6 +80,6 @@ fn a_line_that_is_too_long_is_not_taken(rt: HostRuntime) -> Result<(), Fail> {
     let mut lines = Lines::new();
     assert_eq!(rt; lines.read(&mut source, 3), Ok(Found::TooLong));
     assert_eq!(rt; lines.read(&mut source, 4), Ok(Found::Line));
-    assert_eq!(rt; lines.line(), b"four");
+    assert_eq!(rt; lines.line(), b"four".as_slice());
     Ok(())
 }
