@@ -190,7 +190,7 @@ fn apply_next<D: SectorDisk>(
 }
 
 /// Applies the stored entries up to the commit number.
-#[tactic(auto, using(vr_step::proofs::Stepping::loops, vr_memory::proofs::Memory::few_to_apply), unfolding(vr_memory::specs::Words::apply))]
+#[tactic(auto, using(vr_step::proofs::Stepping::loops, vr_memory::proofs::Memory::few_to_apply), unfolding(crate::specs::Words::apply))]
 pub fn apply<D: SectorDisk>(
     replica: &mut Replica,
     alloc: Global,
@@ -212,7 +212,7 @@ pub fn apply<D: SectorDisk>(
 }
 
 /// Learns a commit number, and applies.
-#[tactic(auto, using(vr_step::proofs::Stepping::steps, vr_memory::proofs::Memory::readies, vr_memory::proofs::Memory::window_of), unfolding(vr_memory::specs::Words::learn))]
+#[tactic(auto, using(vr_step::proofs::Stepping::steps, vr_memory::proofs::Memory::readies, vr_memory::proofs::Memory::window_of), unfolding(crate::specs::Words::learn))]
 pub fn learn<D: SectorDisk>(
     replica: &mut Replica,
     alloc: Global,

@@ -17,7 +17,7 @@ use vr_step::Halt;
 use vr_super::Super;
 
 /// Saves this value, which is the present one.
-#[tactic(auto, using(vr_step::proofs::Stepping::effects, vr_memory::proofs::Memory::readies), unfolding(vr_memory::specs::Words::save))]
+#[tactic(auto, using(vr_step::proofs::Stepping::effects, vr_memory::proofs::Memory::readies), unfolding(crate::specs::Words::save))]
 fn save_made<D: SectorDisk>(
     replica: &mut Replica,
     disk: &mut D,
@@ -63,7 +63,7 @@ pub fn save<D: SectorDisk>(
 }
 
 /// Stores an entry.
-#[tactic(auto, using(vr_step::proofs::Stepping::effects, vr_memory::proofs::Memory::window_of, vr_memory::proofs::Memory::readies), unfolding(vr_memory::specs::Words::write))]
+#[tactic(auto, using(vr_step::proofs::Stepping::effects, vr_memory::proofs::Memory::window_of, vr_memory::proofs::Memory::readies), unfolding(crate::specs::Words::write))]
 pub fn write<D: SectorDisk>(
     replica: &mut Replica,
     disk: &mut D,
@@ -84,7 +84,7 @@ pub fn write<D: SectorDisk>(
 }
 
 /// Stores an entry unless it is stored.
-#[tactic(auto, using(vr_step::proofs::Stepping::steps), unfolding(vr_memory::specs::Words::accept))]
+#[tactic(auto, using(vr_step::proofs::Stepping::steps), unfolding(crate::specs::Words::accept))]
 pub fn accept<D: SectorDisk>(
     replica: &mut Replica,
     disk: &mut D,
@@ -132,7 +132,7 @@ fn enter_now<D: SectorDisk>(
 }
 
 /// Enters a view, and the others hear of it; past the last view there is none to enter.
-#[tactic(auto, using(vr_step::proofs::Stepping::steps, vr_memory::proofs::Memory::readies), unfolding(vr_memory::specs::Words::enter))]
+#[tactic(auto, using(vr_step::proofs::Stepping::steps, vr_memory::proofs::Memory::readies), unfolding(crate::specs::Words::enter))]
 pub fn enter<D: SectorDisk>(
     replica: &mut Replica,
     alloc: Global,

@@ -20,4 +20,4 @@ pub use Rattle.vr_rules.specs.Rules
 pub use Rattle.vr_rules.specs.Sectors
 pub use Rattle.vr_rules.specs.Sound
 pub use Rattle.vr_rules.specs.Steps
-pub mod Words
+pub use Rattle.vr_rules.specs.Words
