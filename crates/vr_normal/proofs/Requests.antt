@@ -12,7 +12,6 @@ use Rattle.vr_header.specs.Spelling.{IsHeader}
 use Rattle.vr_msg.specs.declared.output.Output.{Output}
 use Rattle.vr_msg.specs.declared.reply.ReplyKind.TheVariants as reply
 use Rattle.vr_msg.specs.declared.request.RequestFields.{RequestFields}
-use Rattle.vr_journal.proofs.Replying.{HasNumber}
 use Rattle.vr_journal.proofs.Replying as sessions
 use Rattle.vr_journal.specs.Deciding.{first_of, is_in_flight, request_table, session_answer}
 use Rattle.vr_journal.specs.Rule.{Rule}
@@ -33,7 +32,7 @@ use Rattle.vr_journal.specs.Ready.{IsReady, MayStore}
 use Rattle.vr_normal.specs.declared.requesting.RequestRule.{RequestRule}
 use Rattle.vr_normal.specs.declared.requesting.RequestRule.TheVariants as rule
 use Rattle.vr_normal.specs.Named.{request_rule}
-use Rattle.vr_normal.specs.Requests.{Answers, stored_replies}
+use Rattle.vr_normal.specs.Requests.{Answers, HasNumber, stored_replies}
 use Rattle.vr_normal.specs.Words.{any_of, is_of}
 
 -- ---- requests in flight
@@ -132,9 +131,16 @@ pub answer_is : (q : RequestFields) (r : Replica) (x : RequestRule) (a : Session
 unfolding Answers
 answer_is q r x a h k = rw k at h
 
+same_number : (a : SessionAnswer) → sessions.HasNumber a → HasNumber a
+same_number answer.Fresh h = h
+same_number (answer.Repeat outcome op) h = h
+same_number answer.Old h = h
+same_number answer.Gap h = h
+same_number answer.Evicted h = h
+
 pub answer_fits : (q : RequestFields) (r : Replica) (x : RequestRule) (a : SessionAnswer) → IsReady r → Answers x q r → x ≡ rule.Answered a → HasNumber a
 unfolding IsReady
-answer_fits q r x a h i k = rw (answer_is q r x a i k) (sessions.answer_numbered r.state.sessions q.client q.request h.sound.numbers)
+answer_fits q r x a h i k = rw (answer_is q r x a i k) (same_number (session_answer q r) (sessions.answer_numbered r.state.sessions q.client q.request h.sound.numbers))
 
 stored_said : (a : Asker) (x : SessionAnswer) (r : Replica) (d : Option Disk) (o o' : List Output) → o' ≡ o ++ stored_replies a x r → Does (stored_reply a x) r r d d o o' (Ok tt)
 stored_said a answer.Fresh r d o o' e = rw (e, append-nil o) (does_quiet r d o)

@@ -4,6 +4,7 @@ use Rattle.vr_msg.specs.declared.output.Output.{Output}
 use Rattle.vr_msg.specs.declared.reply.ReplyKind.TheVariants as reply
 use Rattle.vr_msg.specs.declared.request.RequestFields.{RequestFields}
 use Rattle.vr_msg.specs.Normal.{last_op, pipeline}
+use Rattle.vr_msg.specs.Numbers.{IsNumber}
 use Rattle.vr_journal.specs.Deciding.{Table, session_answer}
 use Rattle.vr_journal.specs.Rule.TheVariants.{Answered, Full, Made}
 use Rattle.vr_journal.specs.Outputs.{replies}
@@ -32,6 +33,14 @@ Answers request.InFlight q r = ⊤
 Answers (request.Answered a) q r = a ≡ session_answer q r
 Answers request.Full q r = ⊤
 Answers request.Made q r = ⊤
+
+-- the op of an answer, where it has one, is the number of an entry
+abbrev pub HasNumber : SessionAnswer → Type 0
+HasNumber answer.Fresh = ⊤
+HasNumber (answer.Repeat outcome op) = IsNumber op
+HasNumber answer.Old = ⊤
+HasNumber answer.Gap = ⊤
+HasNumber answer.Evicted = ⊤
 
 -- what is replied to a request that isn't fresh
 abbrev pub stored_replies : Asker → SessionAnswer → Replica → List Output

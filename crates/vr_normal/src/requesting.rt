@@ -12,9 +12,8 @@ ghost use Rattle.vr_journal.specs.Rules.{asker_by, on_request};
 ghost use Rattle.vr_journal.specs.Words.{is_loaded};
 ghost use Rattle.vr_ckpt.specs.Asks.{is_fresh};
 ghost use Rattle.vr_journal.specs.Does.{Caused, Does};
-ghost use Rattle.vr_journal.proofs.Replying.{HasNumber};
 ghost use Rattle.vr_normal.specs.Named.{request_rule};
-ghost use Rattle.vr_normal.specs.Requests.{Answers, open_rows, stored_replies};
+ghost use Rattle.vr_normal.specs.Requests.{Answers, HasNumber, open_rows, stored_replies};
 ghost use Rattle.vr_normal.specs.Words.{any_of, is_of};
 
 use crate::making::make_next;
