@@ -1,16 +1,18 @@
 -- One ask, and what becomes of its answer.
-use Rattle.std.proofs.Common.{◌≡◌, ◌⊎◌, ℕ, List, [], Option, Result, Ok, Err, refl, inl, inr, subst, sym}
+use Rattle.std.proofs.Common.{◌≡◌, ◌⊎◌, ℕ, List, [], Option, Result, Ok, Err, refl, inl, inr, subst, sym, arith}
 use Rattle.std.specs.Io.KnownBytes.{Appends}
 use Rattle.std.proofs.KnownBytes.{Appends-nil}
-use Rattle.vr_ask.specs.Asking.{Answers, Client, CountsWrites, EndsWith, Exchanges, Faults, KeepsSession, PutsAnswer, Stand, WritesAnswer, request_of, status_of}
+use Rattle.vr_ask.specs.Asking.{Answers, Client, CountsLinks, CountsWrites, EndsWith, Exchanges, Faults, KeepsSession, PutsAnswer, Stand, WritesAnswer, request_of, status_of}
 use Rattle.vr_ask.specs.Text.{answer_text}
+use Rattle.vr_base.specs.Causes.{one_more}
 use Rattle.vr_client.specs.Asking.{AskCause, IsAsked, IsUnasked, ask_of}
 use Rattle.vr_client.specs.declared.answer.Answer.{Answer}
 use Rattle.vr_client.specs.declared.answer.AskFault.{AskFault}
 use Rattle.vr_client.specs.declared.answer.AskFault.TheVariants as fault
 use Rattle.vr_edge.specs.Told.{AppendsFront}
 use Rattle.vr_header.specs.declared.operation.Operation.{Operation}
-use Rattle.vr_status.specs.Counts.{writes_after}
+use Rattle.vr_status.proofs.Counting.{links_kept}
+use Rattle.vr_status.specs.Counts.{links_after, writes_after}
 use Rattle.vr_status.specs.declared.status.Status.{Status}
 use Rattle.vr_status.specs.declared.status.Status.TheVariants as status
 
@@ -51,6 +53,21 @@ unanswered_counts fault.NoAnswer before now e = e
 unanswered_counts fault.Link before now e = e
 unanswered_counts fault.NoMemory before now e = e
 
+-- nor is an answer that came one of the link
+lost_links : (a : Answer) (t t' : Option (List ℕ)) (b n : ℕ) (s : Status) → PutsAnswer a t t' b n (Err s) → s ≡ status.LinkFault → ⊥
+lost_links a t t' b n s put is = subst (λ x. PutsAnswer a t t' b n (Err x)) is put
+
+pub put_links : (a : Answer) (t t' : Option (List ℕ)) (b n before now : ℕ) (r : Result (Unit {0}) Status)
+    → now ≡ before → PutsAnswer a t t' b n r → CountsLinks before now r
+put_links a t t' b n before now (Ok x) e put = e
+put_links a t t' b n before now (Err s) e put = links_kept s before now e (lost_links a t t' b n s put)
+
+-- an ask without one has the count that it left
+pub unanswered_links : (f : AskFault) (before now : ℕ) → AskCause {T = Answer} before now (Err f) → now ≡ links_after (status_of f) before
+unanswered_links fault.NoAnswer before now c = c.counted
+unanswered_links fault.Link before now c = c.counted
+unanswered_links fault.NoMemory before now c = c.counted
+
 -- an answer that came
 abbrev pub Came : Client → ℕ → Operation → Stand → Stand → Result Answer AskFault → Type 0
 Came c number operation s s' r =
@@ -85,7 +102,7 @@ pub unanswered : (c : Client) (number : ℕ) (operation : Operation) (s s' : Sta
     → Came c number operation s s' (Err f) → AskCause {T = Answer} b.link n.link (Err f) → s'.taken ≡ s.taken → EndsWith c number operation s s' b n (status_of f)
 unanswered c number operation s s' b n fault.NoAnswer (inl x) cause same = record { asked = x; unwritten = same }
 unanswered c number operation s s' b n fault.NoAnswer (inr u) cause same = absurd (cc u.memory)
-unanswered c number operation s s' b n fault.Link (inl x) cause same = (cause.failed refl, record { asked = x; unwritten = same })
+unanswered c number operation s s' b n fault.Link (inl x) cause same = (let one : n.link ≡ one_more b.link = cause.counted in omega (arith, one), record { asked = x; unwritten = same })
 unanswered c number operation s s' b n fault.Link (inr u) cause same = absurd (cc u.memory)
 unanswered c number operation s s' b n fault.NoMemory (inl x) cause same = inl (inl (record { asked = x; unwritten = same }))
 unanswered c number operation s s' b n fault.NoMemory (inr u) cause same = inl (inr (record { port = u.at; sent = u.unsent; got = u.unheard; taken = same }))

@@ -10,7 +10,8 @@ use Rattle.vr_header.specs.declared.operation.Operation.TheVariants.{Register, P
 use Rattle.vr_header.specs.Made.{is_register}
 use Rattle.vr_lines.specs.Operations.{operation_words}
 use Rattle.vr_lines.specs.Words.{words_of}
-use Rattle.vr_status.specs.Counts.{writes_after}
+use Rattle.vr_status.proofs.Counting.{links_kept}
+use Rattle.vr_status.specs.Counts.{links_after, writes_after}
 use Rattle.vr_status.specs.declared.status.Status.{Status}
 use Rattle.vr_status.specs.declared.status.Status.TheVariants as status
 
@@ -95,6 +96,10 @@ heard_writes number r r' status.Occupied before now e h = e
 heard_writes number r r' status.NoAnswer before now e h = e
 heard_writes number r r' status.SpawnFault before now e h = e
 
+-- nor a failed call of the link
+pub heard_links : (number : ℕ) (r r' : Reading) (s : Status) (before now : ℕ) → now ≡ before → Hears number r r' (Err s) → now ≡ links_after s before
+heard_links number r r' s before now e h = links_kept s before now e (λ is. subst (λ x. Hears number r r' (Err x)) is h)
+
 -- ---- lines one after the other
 
 -- so many lines were read, asked and answered
@@ -160,11 +165,11 @@ ends_later c number operation s s' b m n status.Occupied l w e = absurd e
 ends_later c number operation s s' b m n status.SpawnFault l w e = absurd e
 
 pub stops_later : (c : Client) (number : ℕ) (r : Reading) (s : Stand) (r' : Reading) (s' : Stand) (b m n : Faults) (status : Status)
-    → b.link ≤ m.link → m.write ≡ b.write → ((s' ≡ s) × StopsAt number r r' status) ⊎ EndsAt c number r s r' s' m n status
+    → m.link ≡ b.link → m.write ≡ b.write → ((s' ≡ s) × StopsAt number r r' status) ⊎ EndsAt c number r s r' s' m n status
     → ((s' ≡ s) × StopsAt number r r' status) ⊎ EndsAt c number r s r' s' b n status
 stops_later c number r s r' s' b m n status l w (inl x) = inl x
 stops_later c number r s r' s' b m n status l w (inr e) =
-    inr (record { line = e.line; operation = e.operation; read = e.read; meant = e.meant; ends = ends_later c number e.operation s s' b m n status l (omega (arith, w)) e.ends })
+    inr (record { line = e.line; operation = e.operation; read = e.read; meant = e.meant; ends = ends_later c number e.operation s s' b m n status (omega (arith, l)) (omega (arith, w)) e.ends })
 
 -- a line behind the last one that may be is refused
 pub one_too_many : (r r' : Reading) (operation : Operation) → Hears (limit + 1) r r' (Ok operation) → ⊥

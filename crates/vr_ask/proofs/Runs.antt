@@ -23,7 +23,7 @@ pub unregistered : (c : Client) (r : Reading) (s : Stand) (s' : Stand) (b n : Fa
 unregistered c r s s' b n status e = inl (refl, e)
 
 pub lines_later : (c : Client) (r : Reading) (s : Stand) (r' : Reading) (s' : Stand) (b m n : Faults) (status : Status)
-    → b.link ≤ m.link → m.write ≡ b.write → EndsLines c r s r' s' m n status → EndsLines c r s r' s' b n status
+    → m.link ≡ b.link → m.write ≡ b.write → EndsLines c r s r' s' m n status → EndsLines c r s r' s' b n status
 lines_later c r s r' s' b m n status l w e = record {
   exchanges = e.exchanges;
   few = e.few;
@@ -35,7 +35,7 @@ lines_later c r s r' s' b m n status l w e = record {
 
 -- it registered, and asked its lines
 pub registered : (c : Client) (r : Reading) (s s'' : Stand) (r' : Reading) (s' : Stand) (b m n : Faults) (status : Status)
-    → Exchanges c 0 Register s s'' b m (Ok tt) → b.link ≤ m.link → m.write ≡ b.write → EndsLines c r s'' r' s' m n status → EndsRun c r s r' s' b n status
+    → Exchanges c 0 Register s s'' b m (Ok tt) → m.link ≡ b.link → m.write ≡ b.write → EndsLines c r s'' r' s' m n status → EndsRun c r s r' s' b n status
 registered c r s s'' r' s' b m n status e l w lines = inr (e.0, s'', e.1, lines_later c r s'' r' s' b m n status l w lines)
 
 -- ---- the link

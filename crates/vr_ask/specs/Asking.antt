@@ -15,7 +15,7 @@ use Rattle.vr_edge.specs.declared.datagram.Datagram.{Datagram}
 use Rattle.vr_header.specs.declared.operation.Operation.{Operation}
 use Rattle.vr_msg.specs.declared.reply.Answered.{Answered}
 use Rattle.vr_msg.specs.declared.request.RequestFields.{RequestFields}
-use Rattle.vr_status.specs.Counts.{writes_after}
+use Rattle.vr_status.specs.Counts.{links_after, writes_after}
 use Rattle.vr_status.specs.declared.status.Status.{Status}
 use Rattle.vr_status.specs.declared.status.Status.TheVariants.{SessionLost, WriteFault, LinkFault, NoMemory, NoAnswer}
 
@@ -89,6 +89,11 @@ faults link write = record { link = link; write = write }
 abbrev pub CountsWrites : {T : Type 0} → ℕ → ℕ → Result T Status → Type 0
 CountsWrites before now (Ok x) = now ≡ before
 CountsWrites before now (Err status) = now ≡ writes_after status before
+
+-- that of the link's
+abbrev pub CountsLinks : {T : Type 0} → ℕ → ℕ → Result T Status → Type 0
+CountsLinks before now (Ok x) = now ≡ before
+CountsLinks before now (Err status) = now ≡ links_after status before
 
 -- how a client ends with an ask
 abbrev pub EndsWith : Client → ℕ → Operation → Stand → Stand → Faults → Faults → Status → Type 0

@@ -1,6 +1,6 @@
 //! One ask, whose answer is written.
 ghost use Rattle.std.specs.Prelude.{◌≡◌, ◌≤◌, ◌<◌, ◌+◌, ◌^◌, ◌↔◌};
-ghost use Rattle.vr_ask.specs.Asking.{CountsWrites, Exchanges, KeepsSession, PutsAnswer, WritesAnswer, client_of, faults, stand, status_of};
+ghost use Rattle.vr_ask.specs.Asking.{CountsLinks, CountsWrites, Exchanges, KeepsSession, PutsAnswer, WritesAnswer, client_of, faults, stand, status_of};
 ghost use Rattle.vr_header.specs.declared.operation.Operation.TheVariants.{Register};
 
 use crate::text::answer_text;
@@ -59,7 +59,7 @@ fn put_answer<K: Sink>(alloc: Global, sink: &mut K, answer: &Answer) -> Result<(
 }
 
 /// Asks, and writes the answer; an `Err` is how the client ends.
-#[tactic(auto, using(crate::proofs::Answers::exchanged, crate::proofs::Answers::unanswered, crate::proofs::Answers::unanswered_counts))]
+#[tactic(auto, using(crate::proofs::Answers::exchanged, crate::proofs::Answers::unanswered, crate::proofs::Answers::unanswered_counts, crate::proofs::Answers::put_links, crate::proofs::Answers::unanswered_links))]
 pub fn exchange<K: Sink, L: Link>(
     alloc: Global,
     core: &mut ClientCore,
@@ -77,6 +77,7 @@ pub fn exchange<K: Sink, L: Link>(
     ensures number { core.new.number ≡ core.old.number + 1 }
     ensures client { client_of core.new turns ≡ client_of core.old turns }
     ensures link { L.faults link.old ≤ L.faults link.new }
+    ensures links { CountsLinks (L.faults link.old) (L.faults link.new) result }
     ensures sink { CountsWrites (K.faults sink.old) (K.faults sink.new) result }
     ensures attached { L.attached link.new ≡ L.attached link.old }
 {

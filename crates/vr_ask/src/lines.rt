@@ -1,8 +1,8 @@
 //! The lines of a source, asked one after the other.
 ghost use Rattle.std.specs.Prelude.{◌≡◌, ◌≤◌, ◌<◌, ◌+◌, OnOk};
-ghost use Rattle.vr_ask.specs.Asking.{CountsWrites, client_of, faults, stand};
+ghost use Rattle.vr_ask.specs.Asking.{CountsLinks, CountsWrites, client_of, faults, stand};
 ghost use Rattle.vr_ask.specs.Run.{CountsLine, EndsLines, Hears, Judges, Takes, reading};
-ghost use Rattle.vr_status.specs.Counts.{reads_after, writes_after};
+ghost use Rattle.vr_status.specs.Counts.{links_after, reads_after, writes_after};
 
 use crate::asking::exchange;
 use crate::text::read_line;
@@ -50,7 +50,7 @@ fn next_operation<S: Source>(
 }
 
 /// Reads the line with this number, asks it and writes the answer; an `Err` is how the client ends.
-#[tactic(auto, using(crate::proofs::Exchanges::taken, crate::proofs::Exchanges::exchange_counts, crate::proofs::Exchanges::heard_writes))]
+#[tactic(auto, using(crate::proofs::Exchanges::taken, crate::proofs::Exchanges::exchange_counts, crate::proofs::Exchanges::heard_writes, crate::proofs::Exchanges::heard_links))]
 fn take_line<S: Source, K: Sink, L: Link>(
     alloc: Global,
     core: &mut ClientCore,
@@ -71,6 +71,7 @@ fn take_line<S: Source, K: Sink, L: Link>(
     ensures client { OnOk result (client_of core.new turns ≡ client_of core.old turns) }
     ensures counts { CountsLine (S.faults source.old) (S.faults source.new) result }
     ensures link { L.faults link.old ≤ L.faults link.new }
+    ensures links { CountsLinks (L.faults link.old) (L.faults link.new) result }
     ensures sink { CountsWrites (K.faults sink.old) (K.faults sink.new) result }
     ensures attached { L.attached link.new ≡ L.attached link.old }
 {
@@ -81,7 +82,7 @@ fn take_line<S: Source, K: Sink, L: Link>(
 }
 
 /// The lines of a source, to an end.
-#[tactic(auto, using(std::proofs::lemmas::Grind::common_steps, crate::proofs::Exchanges::midst_begins, crate::proofs::Exchanges::midst_more, crate::proofs::Exchanges::ends_at, crate::proofs::Exchanges::stops_later, crate::proofs::Exchanges::one_too_many, crate::proofs::Exchanges::heard_writes))]
+#[tactic(auto, using(std::proofs::lemmas::Grind::common_steps, crate::proofs::Exchanges::midst_begins, crate::proofs::Exchanges::midst_more, crate::proofs::Exchanges::ends_at, crate::proofs::Exchanges::stops_later, crate::proofs::Exchanges::one_too_many, crate::proofs::Exchanges::heard_writes, crate::proofs::Exchanges::heard_links))]
 pub fn ask_lines<S: Source, K: Sink, L: Link>(
     alloc: Global,
     core: &mut ClientCore,
@@ -98,6 +99,7 @@ pub fn ask_lines<S: Source, K: Sink, L: Link>(
         (faults (L.faults link.old) (K.faults sink.old)) (faults (L.faults link.new) (K.faults sink.new)) result }
     ensures counts { S.faults source.new ≡ reads_after result (S.faults source.old) }
     ensures link { L.faults link.old ≤ L.faults link.new }
+    ensures links { L.faults link.new ≡ links_after result (L.faults link.old) }
     ensures sink { K.faults sink.new ≡ writes_after result (K.faults sink.old) }
     ensures attached { L.attached link.new ≡ L.attached link.old }
 {

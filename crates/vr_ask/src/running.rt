@@ -4,7 +4,7 @@ ghost use Rattle.vr_ask.specs.Asking.{client_of, faults, stand};
 ghost use Rattle.vr_ask.specs.Run.{ClientEnds, EndsAttached, EndsRun, client_with, outside, reading};
 ghost use Rattle.vr_edge.specs.Attaching.{texts_of};
 ghost use Rattle.vr_edge.specs.Failing.{LinkFailure};
-ghost use Rattle.vr_status.specs.Counts.{reads_after, writes_after};
+ghost use Rattle.vr_status.specs.Counts.{links_after, reads_after, writes_after};
 
 use crate::asking::exchange;
 use crate::lines::ask_lines;
@@ -33,6 +33,7 @@ fn ask_all<S: Source, K: Sink, L: Link>(
         (faults (L.faults link.old) (K.faults sink.old)) (faults (L.faults link.new) (K.faults sink.new)) result }
     ensures counts { S.faults source.new ≡ reads_after result (S.faults source.old) }
     ensures link { L.faults link.old ≤ L.faults link.new }
+    ensures links { L.faults link.new ≡ links_after result (L.faults link.old) }
     ensures sink { K.faults sink.new ≡ writes_after result (K.faults sink.old) }
     ensures attached { L.attached link.new ≡ L.attached link.old }
 {
@@ -63,6 +64,7 @@ fn ask_made<S: Source, K: Sink, L: Link>(
         (faults (L.faults link.old) (K.faults sink.old)) (faults (L.faults link.new) (K.faults sink.new)) result }
     ensures counts { S.faults source.new ≡ reads_after result (S.faults source.old) }
     ensures link { L.faults link.old ≤ L.faults link.new }
+    ensures links { L.faults link.new ≡ links_after result (L.faults link.old) }
     ensures sink { K.faults sink.new ≡ writes_after result (K.faults sink.old) }
     ensures attached { L.attached link.new ≡ L.attached link.old }
 {
@@ -94,9 +96,10 @@ pub fn run_client<S: Source, K: Sink, L: Link>(
         (outside (L.sent link.old) (L.received link.old) (K.taken sink.old) (S.left source.old) (L.attached link.old))
         (outside (L.sent link.new) (L.received link.new) (K.taken sink.new) (S.left source.new) (L.attached link.new))
         (faults (L.faults link.old) (K.faults sink.old)) (faults (L.faults link.new) (K.faults sink.new)) result }
-    // A fault has its cause in the object that was handed in, and a read or a write that failed is told: no other answer leaves one.
+    // A fault has its cause in the object that was handed in, and a call of the link, a read or a write that failed is told: no other answer leaves one.
     ensures read { S.faults source.new ≡ reads_after result (S.faults source.old) }
     ensures write { K.faults sink.new ≡ writes_after result (K.faults sink.old) }
+    ensures links { L.faults link.new ≡ links_after result (L.faults link.old) }
     ensures link { result ≡ Status.LinkFault → LinkFailure (L.faults link.old) (L.faults link.new) (L.attached link.old) (L.attached link.new) (L.received link.old) (L.received link.new) }
 {
     match link.attach("", peers) {

@@ -1,10 +1,13 @@
 -- What stays of a client from call to call.
-use Rattle.std.proofs.Common.{◌≡◌, ◌∙◌, ℕ, ◌≤◌, List, [], Result, refl, arith}
-use Rattle.vr_base.specs.Causes.{Rose}
+use Rattle.std.proofs.Common.{◌≡◌, ◌∙◌, ℕ, List, [], Result, Err, refl, subst}
 use Rattle.vr_base.specs.declared.sum.Sum.{Sum}
 use Rattle.vr_client.specs.Asking.{AskCause, Keeps, ask_in, requests}
+use Rattle.vr_client.specs.Heeding.{fault_of}
 use Rattle.vr_client.specs.declared.answer.AskFault.{AskFault}
 use Rattle.vr_client.specs.declared.client.ClientCore.{ClientCore}
+use Rattle.vr_mail.specs.Letters.{ReceiveCause}
+use Rattle.vr_mail.specs.declared.receiving.ReceiveFault.{ReceiveFault}
+use Rattle.vr_mail.specs.declared.receiving.ReceiveFault.TheVariants as received
 
 pub keeps_same : (c : ClientCore) → Keeps c c
 keeps_same c = record { cluster = refl; id = refl; n = refl; number = refl; bytes = refl }
@@ -24,12 +27,11 @@ no_requests bytes = refl
 pub same_ask : (c d : ClientCore) (name : Sum) (turns : ℕ) → Keeps c d → ask_in d name turns ≡ ask_in c name turns
 same_ask c d name turns k = rw (k.cluster, k.n, k.bytes) refl
 
-rose_first : (before mid now : ℕ) → before ≤ mid → Rose mid now → Rose before now
-rose_first before mid now h rose = omega (arith, h, rose)
-
-pub rose_later : (before mid now : ℕ) → Rose before mid → mid ≤ now → Rose before now
-rose_later before mid now rose h = omega (arith, rose, h)
+-- a receive that had no answer
+pub cause_heard : {S T : Type 0} (before now : ℕ) (f : ReceiveFault) → ReceiveCause {T = S} before now (Err f) → AskCause {T = T} before now (Err (fault_of f))
+cause_heard before now received.Link c = record { later = c.later; counted = c.failed refl }
+cause_heard before now received.NoMemory c = record { later = c.later; counted = c.wanted refl }
 
 -- a later call's causes, from the beginning on
-pub cause_later : {T : Type 0} (before mid now : ℕ) (r : Result T AskFault) → before ≤ mid → AskCause mid now r → AskCause before now r
-cause_later before mid now r h c = record { later = omega (arith, h, c.later); failed = λ e. rose_first before mid now h (c.failed e) }
+pub cause_later : {T : Type 0} (before mid now : ℕ) (r : Result T AskFault) → mid ≡ before → AskCause mid now r → AskCause before now r
+cause_later before mid now r same c = subst (λ k. AskCause k now r) same c

@@ -1,6 +1,6 @@
 -- The run of a client's ask: to which ports the request goes, and when it ends.
 use Rattle.std.specs.Prelude.{ℕ, ◌+◌, ◌%◌, ◌==◌, ◌&&◌, ◌≡◌, ◌≤◌, ◌<◌, ⊤, nat_lt, Bool, if◌then◌else◌, List, [], ◌∷◌, ◌++◌, length, map, Option, Some, None, Result, Ok, Err}
-use Rattle.vr_base.specs.Causes.{Rose}
+use Rattle.vr_base.specs.Causes.{one_more}
 use Rattle.vr_base.specs.declared.sum.Sum.{Sum}
 use Rattle.vr_edge.specs.Datagrams.{Arrival, Failed}
 use Rattle.vr_edge.specs.Sending.{datagram_at}
@@ -171,7 +171,12 @@ pub record IsUnasked (port port' : ℕ) (sent sent' : Option (List (Option Datag
   pub unsent : sent' ≡ sent
   pub unheard : got' ≡ got
 
--- the link's faults don't fall, and it failed only where they rose
+-- the count of the link's faults after an ask: one more where a receive failed
+abbrev pub faults_after : {T : Type 0} → Result T AskFault → ℕ → ℕ
+faults_after (Err fault.Link) count = one_more count
+faults_after _ count = count
+
+-- a receive that failed is told: no other answer leaves one in the link's count, which doesn't fall
 pub record AskCause {T : Type 0} (before now : ℕ) (result : Result T AskFault) : Type 0 where
   pub later : before ≤ now
-  pub failed : result ≡ Err fault.Link → Rose before now
+  pub counted : now ≡ faults_after result before

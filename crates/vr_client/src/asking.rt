@@ -71,7 +71,7 @@ impl ClientCore {
     }
 
     /// One receive, and what it makes of that.
-    #[tactic(auto, using(std::proofs::lemmas::Grind::common_steps, crate::proofs::Keeping::keeps_same, crate::proofs::Keeping::keeps_later, crate::proofs::Keeping::no_requests, vr_mail::proofs::Sent::sends_nil))]
+    #[tactic(auto, using(std::proofs::lemmas::Grind::common_steps, crate::proofs::Keeping::keeps_same, crate::proofs::Keeping::keeps_later, crate::proofs::Keeping::cause_heard, crate::proofs::Keeping::no_requests, vr_mail::proofs::Sent::sends_nil))]
     fn hear<L: Link>(&mut self, link: &mut L, name: &Sum) -> Result<Heed, AskFault>
         ensures core { Keeps self.old self.new }
         ensures stays { self.new.port ≡ self.old.port }
@@ -150,7 +150,7 @@ impl ClientCore {
     }
 
     /// Asks, and waits so many turns.
-    #[tactic(auto, using(std::proofs::lemmas::Grind::common_steps, crate::proofs::Keeping::keeps_later, crate::proofs::Keeping::cause_later, crate::proofs::Keeping::rose_later, crate::proofs::Waits::waited_all))]
+    #[tactic(auto, using(std::proofs::lemmas::Grind::common_steps, crate::proofs::Keeping::keeps_later, crate::proofs::Keeping::cause_later, crate::proofs::Waits::waited_all))]
     fn wait<L: Link>(&mut self, link: &mut L, name: &Sum, turns: u64) -> Result<Answer, AskFault>
         ensures core { Keeps self.old self.new }
         ensures run { IsAsked (ask_in self.old name.now turns) self.old.port self.new.port (L.sent link.old) (L.sent link.new) (L.received link.old) (L.received link.new) result }

@@ -1,6 +1,6 @@
 -- Messages of one group among all that comes over a link.
 use Rattle.std.specs.Prelude.{ℕ, ◌≡◌, ◌≤◌, ⊤, List, [], ◌∷◌, Option, Some, None, Result, Ok, Err, OnOk}
-use Rattle.vr_base.specs.Causes.{Rose}
+use Rattle.vr_base.specs.Causes.{one_more}
 use Rattle.vr_edge.specs.Datagrams.{Arrival, Failed, Nothing, Came}
 use Rattle.vr_msg.specs.Spelling.{Spells}
 use Rattle.vr_msg.specs.declared.frame.Frame.{Frame}
@@ -60,11 +60,11 @@ Gives cluster arrival (Ok letter) = Brings cluster arrival letter
 Gives cluster arrival (Err fault.Link) = arrival ≡ Failed
 Gives cluster arrival (Err fault.NoMemory) = IsMessage arrival
 
--- the link's faults don't fall; where it failed they rose, and no other answer adds to them
+-- the link's faults don't fall; where it failed they are one more, and no other answer adds to them
 pub record ReceiveCause {T : Type 0} (before now : ℕ) (result : Result T ReceiveFault) : Type 0 where
   pub later : before ≤ now
   pub kept : OnOk result (now ≡ before)
-  pub failed : result ≡ Err fault.Link → Rose before now
+  pub failed : result ≡ Err fault.Link → now ≡ one_more before
   pub wanted : result ≡ Err fault.NoMemory → now ≡ before
 
 -- the same receive; or nothing, in place of a datagram that is refused

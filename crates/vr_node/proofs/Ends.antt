@@ -24,7 +24,8 @@ use Rattle.vr_serve.specs.Causes as serve
 use Rattle.vr_serve.specs.Runs.{IsServed}
 use Rattle.vr_serve.specs.declared.stop.Stop.{Stop}
 use Rattle.vr_serve.specs.declared.stop.Stop.TheVariants as stop
-use Rattle.vr_status.specs.Counts.{writes_after}
+use Rattle.vr_status.proofs.Counting.{links_kept}
+use Rattle.vr_status.specs.Counts.{links_after, writes_after}
 use Rattle.vr_status.specs.declared.status.Status.{Status}
 use Rattle.vr_status.specs.declared.status.Status.TheVariants as status
 
@@ -39,7 +40,7 @@ pub cut_off : (turns : ℕ) (first : List Output) (node : Node) (o o' : Outside)
     → HasCauses {T = Unit {0}} b n (Err s) → (◌≡◌ {A = Result (Unit {0}) Stop} (Err s) (Err stop.Link) → EndsFailed o.got o'.got) → IsCut turns first node o o'
     → ServeEnds turns first node o o' b n (status_of s)
 cut_off turns first node o o' b n stop.Disk h l c = (let d = h.disk in omega (arith, d), c)
-cut_off turns first node o o' b n stop.Link h l c = (h.stop, l refl, c)
+cut_off turns first node o o' b n stop.Link h l c = (let k = h.link in omega (arith, k), l refl, c)
 cut_off turns first node o o' b n stop.Write h l c = (let w = h.write in omega (arith, w), c)
 cut_off turns first node o o' b n stop.NoMemory h l c = c
 
@@ -167,6 +168,12 @@ stop_writes stop.Link b n e = e
 stop_writes stop.Write b n e = e
 stop_writes stop.NoMemory b n e = e
 
+pub stop_links : (s : Stop) (b n : ℕ) → n ≡ serve.links_after {T = Unit {0}} (Err s) b → n ≡ links_after (status_of s) b
+stop_links stop.Disk b n e = e
+stop_links stop.Link b n e = e
+stop_links stop.Write b n e = e
+stop_links stop.NoMemory b n e = e
+
 -- an opening that fails counts no fault but the disk's
 pub unopened_disk : (s : Status) (b n : ℕ) → (s ≡ status.DiskFault → n ≡ one_more b) → (s ≢ status.DiskFault → n ≡ b) → n ≡ disk_after s b
 unopened_disk status.Done b n f g = g (λ e. let no : status.Done ≡ status.DiskFault = e in cc)
@@ -213,3 +220,10 @@ unopened_writes None c d d' status.NoMemory n h = refl
 unopened_writes None c d d' status.Occupied n h = refl
 unopened_writes None c d d' status.NoAnswer n h = refl
 unopened_writes None c d d' status.SpawnFault n h = refl
+
+none_of_link : (fresh : Option Kind) (c : Config) (d d' : Option Disk) → OpensNone fresh c d d' status.LinkFault → ⊥
+none_of_link (Some kind) c d d' h = h
+none_of_link None c d d' h = h
+
+pub unopened_links : (fresh : Option Kind) (c : Config) (d d' : Option Disk) (s : Status) (n : ℕ) → OpensNone fresh c d d' s → n ≡ links_after s n
+unopened_links fresh c d d' s n h = links_kept s n n refl (λ is. none_of_link fresh c d d' (subst (λ x. OpensNone fresh c d d' x) is h))

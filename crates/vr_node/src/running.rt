@@ -6,7 +6,7 @@ ghost use Rattle.vr_edge.specs.Failing.{LinkFailure};
 ghost use Rattle.vr_node.specs.Running.{EndsAttached, GroupEnds, NodeEnds, ServeEnds, outside};
 ghost use Rattle.vr_node.specs.Stops.{disk_after, status_of};
 ghost use Rattle.vr_serve.specs.Causes.{counts};
-ghost use Rattle.vr_status.specs.Counts.{writes_after};
+ghost use Rattle.vr_status.specs.Counts.{links_after, writes_after};
 
 use crate::opening::open_member;
 use crate::{Node, Role, serve};
@@ -47,9 +47,10 @@ fn serve_turns<D: SectorDisk, L: Link, C: Clock, K: Sink>(
         (outside (D.told disk.new) (C.left clock.new) (L.received link.new) (K.taken sink.new) (L.sent link.new) (L.attached link.new))
         (counts (D.faults disk.old) (K.faults sink.old) (L.faults link.old)) (counts (D.faults disk.new) (K.faults sink.new) (L.faults link.new)) result }
     ensures attached { L.attached link.new ≡ L.attached link.old }
-    // A fault of the disk or of the sink is told: no other end leaves one.
+    // A fault of the disk, of the sink or of the link is told: no other end leaves one.
     ensures disk { D.faults disk.new ≡ disk_after result (D.faults disk.old) }
     ensures write { K.faults sink.new ≡ writes_after result (K.faults sink.old) }
+    ensures links { L.faults link.new ≡ links_after result (L.faults link.old) }
 {
     match serve(alloc, node, first, disk, link, clock, sink, turns) {
         Ok(()) => Status::Done,
@@ -75,9 +76,10 @@ fn serve_group<D: SectorDisk, L: Link, C: Clock, K: Sink>(
         (outside (D.told disk.old) (C.left clock.old) (L.received link.old) (K.taken sink.old) (L.sent link.old) (L.attached link.old))
         (outside (D.told disk.new) (C.left clock.new) (L.received link.new) (K.taken sink.new) (L.sent link.new) (L.attached link.new))
         (counts (D.faults disk.old) (K.faults sink.old) (L.faults link.old)) (counts (D.faults disk.new) (K.faults sink.new) (L.faults link.new)) result }
-    // A fault of the disk or of the sink is told: no other end leaves one.
+    // A fault of the disk, of the sink or of the link is told: no other end leaves one.
     ensures disk { D.faults disk.new ≡ disk_after result (D.faults disk.old) }
     ensures write { K.faults sink.new ≡ writes_after result (K.faults sink.old) }
+    ensures links { L.faults link.new ≡ links_after result (L.faults link.old) }
 {
     let own = role.peers[usize::from(role.config.replica)].as_str();
     match link.attach(own, &role.peers) {
@@ -103,9 +105,10 @@ fn open_and_serve<D: SectorDisk, L: Link, C: Clock, K: Sink>(
         (outside (D.told disk.old) (C.left clock.old) (L.received link.old) (K.taken sink.old) (L.sent link.old) (L.attached link.old))
         (outside (D.told disk.new) (C.left clock.new) (L.received link.new) (K.taken sink.new) (L.sent link.new) (L.attached link.new))
         (counts (D.faults disk.old) (K.faults sink.old) (L.faults link.old)) (counts (D.faults disk.new) (K.faults sink.new) (L.faults link.new)) result }
-    // A fault of the disk or of the sink is told: no other end leaves one.
+    // A fault of the disk, of the sink or of the link is told: no other end leaves one.
     ensures disk { D.faults disk.new ≡ disk_after result (D.faults disk.old) }
     ensures write { K.faults sink.new ≡ writes_after result (K.faults sink.old) }
+    ensures links { L.faults link.new ≡ links_after result (L.faults link.old) }
 {
     let mut first = Seq::new(alloc);
     match open_member(alloc, disk, &role.config, role.fresh, &mut first) {
@@ -141,10 +144,11 @@ pub fn run_node<D: SectorDisk, L: Link, C: Clock, K: Sink>(
         (outside (D.told disk.old) (C.left clock.old) (L.received link.old) (K.taken sink.old) (L.sent link.old) (L.attached link.old))
         (outside (D.told disk.new) (C.left clock.new) (L.received link.new) (K.taken sink.new) (L.sent link.new) (L.attached link.new))
         (counts (D.faults disk.old) (K.faults sink.old) (L.faults link.old)) (counts (D.faults disk.new) (K.faults sink.new) (L.faults link.new)) result }
-    // A fault of the disk or of the sink is told, and no other answer leaves one. One of the link has its cause there: where it
-    // tells, the attach failed or the last receive.
+    // A fault of the disk, of the sink or of the link is told, and no other answer leaves one. One of the link has its cause there:
+    // where it tells, the attach failed or the last receive.
     ensures disk { D.faults disk.new ≡ disk_after result (D.faults disk.old) }
     ensures write { K.faults sink.new ≡ writes_after result (K.faults sink.old) }
+    ensures links { L.faults link.new ≡ links_after result (L.faults link.old) }
     ensures link { result ≡ Status.LinkFault → LinkFailure (L.faults link.old) (L.faults link.new) (L.attached link.old) (L.attached link.new) (L.received link.old) (L.received link.new) }
 {
     match disk.attach(role.file.as_str()) {

@@ -1,62 +1,48 @@
 -- Causes of an early end, one call after another.
-use Rattle.std.proofs.Common.{ℕ, ◌≡◌, ◌≤◌, ◌∙◌, List, [], ◌∷◌, Option, Result, Ok, Err, arith, ap, refl, subst}
-use Rattle.std.specs.Prelude.{IfErr}
-use Rattle.vr_base.specs.Causes.{Rose, one_more}
+use Rattle.std.proofs.Common.{ℕ, ◌≡◌, ◌∙◌, List, [], ◌∷◌, Option, Result, Ok, Err, arith, ap, refl, subst}
+use Rattle.vr_base.specs.Causes.{one_more}
 use Rattle.vr_edge.specs.Datagrams.{Arrival, Failed}
 use Rattle.vr_edge.specs.Told.{Grows}
 use Rattle.vr_mail.specs.Letters.{Gives, ReceiveCause}
 use Rattle.vr_mail.specs.declared.receiving.ReceiveFault.{ReceiveFault}
 use Rattle.vr_mail.specs.declared.receiving.ReceiveFault.TheVariants as received
-use Rattle.vr_serve.specs.Causes.{HaltCause, HasCauses, LinkCause, counts, disk_after, received_stop, stop_of, writes_after}
+use Rattle.vr_serve.specs.Causes.{HaltCause, HasCauses, counts, disk_after, links_after, received_stop, stop_of, writes_after}
 use Rattle.vr_serve.specs.declared.member.Halt.{Halt}
 use Rattle.vr_serve.specs.declared.member.Halt.TheVariants as halt
 use Rattle.vr_serve.specs.declared.stop.Stop.{Stop}
 use Rattle.vr_serve.specs.declared.stop.Stop.TheVariants as stop
 
-rose_first : (before mid now : ℕ) → before ≤ mid → Rose mid now → Rose before now
-rose_first before mid now h rose = omega (arith, h, rose)
-
-pub rose_later : (before mid now : ℕ) → Rose before mid → mid ≤ now → Rose before now
-rose_later before mid now rose h = omega (arith, rose, h)
-
 pub causes_none : {T : Type 0} (d w l : ℕ) (t : T) → HasCauses (counts d w l) (counts d w l) (Ok t)
-causes_none d w l t = record { disk = refl; write = refl; link = omega arith; stop = tt }
-
-link_later : {T : Type 0} (l l' l'' : ℕ) (r : Result T Stop) → l ≤ l' → IfErr r (LinkCause l' l'') → IfErr r (LinkCause l l'')
-link_later l l' l'' (Ok t) z c = tt
-link_later l l' l'' (Err stop.Disk) z c = tt
-link_later l l' l'' (Err stop.Link) z c = rose_first l l' l'' z c
-link_later l l' l'' (Err stop.Write) z c = tt
-link_later l l' l'' (Err stop.NoMemory) z c = tt
+causes_none d w l t = record { disk = refl; write = refl; link = refl; later = omega arith }
 
 -- what a later call's causes are from the beginning on
-pub causes_later : {T : Type 0} (d d' d'' w w' w'' l l' l'' : ℕ) (r : Result T Stop) → d' ≡ d → w' ≡ w → l ≤ l'
+pub causes_later : {T : Type 0} (d d' d'' w w' w'' l l' l'' : ℕ) (r : Result T Stop) → d' ≡ d → w' ≡ w → l' ≡ l
     → HasCauses (counts d' w' l') (counts d'' w'' l'') r → HasCauses (counts d w l) (counts d'' w'' l'') r
 causes_later d d' d'' w w' w'' l l' l'' r x y z c = record {
   disk = c.disk ∙ ap (disk_after r) x;
   write = c.write ∙ ap (writes_after r) y;
-  link = omega (arith, z, c.link);
-  stop = link_later l l' l'' r z c.stop;
+  link = c.link ∙ ap (links_after r) z;
+  later = omega (arith, z, c.later);
 }
 
 -- what was put out after a step: no disk is called
 pub causes_put : {T : Type 0} (d d' w w' l l' : ℕ) (r : Result T Stop) → d' ≡ d
     → HasCauses (counts 0 w l) (counts 0 w' l') r → HasCauses (counts d w l) (counts d' w' l') r
-causes_put d d' w w' l l' (Ok t) x c = record { disk = x; write = c.write; link = c.link; stop = tt }
+causes_put d d' w w' l l' (Ok t) x c = record { disk = x; write = c.write; link = c.link; later = c.later }
 causes_put d d' w w' l l' (Err stop.Disk) x c = absurd (let no : 0 ≡ one_more 0 = c.disk in omega (arith, no))
-causes_put d d' w w' l l' (Err stop.Link) x c = record { disk = x; write = c.write; link = c.link; stop = c.stop }
-causes_put d d' w w' l l' (Err stop.Write) x c = record { disk = x; write = c.write; link = c.link; stop = tt }
-causes_put d d' w w' l l' (Err stop.NoMemory) x c = record { disk = x; write = c.write; link = c.link; stop = tt }
+causes_put d d' w w' l l' (Err stop.Link) x c = record { disk = x; write = c.write; link = c.link; later = c.later }
+causes_put d d' w w' l l' (Err stop.Write) x c = record { disk = x; write = c.write; link = c.link; later = c.later }
+causes_put d d' w w' l l' (Err stop.NoMemory) x c = record { disk = x; write = c.write; link = c.link; later = c.later }
 
 -- a step that stopped
 pub causes_halted : {S T : Type 0} (d d' w l : ℕ) (h : Halt) → HaltCause {T = S} d d' (Err h) → HasCauses {T = T} (counts d w l) (counts d' w l) (Err (stop_of h))
-causes_halted d d' w l halt.Disk c = record { disk = c.failed refl; write = refl; link = omega arith; stop = tt }
-causes_halted d d' w l halt.NoMemory c = record { disk = c.wanted refl; write = refl; link = omega arith; stop = tt }
+causes_halted d d' w l halt.Disk c = record { disk = c.failed refl; write = refl; link = refl; later = omega arith }
+causes_halted d d' w l halt.NoMemory c = record { disk = c.wanted refl; write = refl; link = refl; later = omega arith }
 
 -- a receive that failed
 pub causes_received : {S T : Type 0} (d w l l' : ℕ) (f : ReceiveFault) → ReceiveCause {T = S} l l' (Err f) → HasCauses {T = T} (counts d w l) (counts d w l') (Err (received_stop f))
-causes_received d w l l' received.Link c = record { disk = refl; write = refl; link = c.later; stop = c.failed refl }
-causes_received d w l l' received.NoMemory c = record { disk = refl; write = refl; link = c.later; stop = tt }
+causes_received d w l l' received.Link c = record { disk = refl; write = refl; link = c.failed refl; later = c.later }
+causes_received d w l l' received.NoMemory c = record { disk = refl; write = refl; link = c.wanted refl; later = c.later }
 
 -- a receive that failed is told as such
 pub link_failed : (cluster : ℕ) (f : ReceiveFault) (old new : Option (List Arrival)) (arrival : Arrival) → Grows old new (arrival ∷ [])

@@ -1,6 +1,6 @@
 -- Why a loop of turns ended before they were done.
-use Rattle.std.specs.Prelude.{ℕ, ◌≤◌, ◌≡◌, ⊤, Result, Err, IfErr, OnOk}
-use Rattle.vr_base.specs.Causes.{Rose, one_more}
+use Rattle.std.specs.Prelude.{ℕ, ◌≤◌, ◌≡◌, Result, Err, OnOk}
+use Rattle.vr_base.specs.Causes.{one_more}
 use Rattle.vr_mail.specs.declared.receiving.ReceiveFault.{ReceiveFault}
 use Rattle.vr_mail.specs.declared.receiving.ReceiveFault.TheVariants as received
 use Rattle.vr_serve.specs.declared.member.Halt.{Halt}
@@ -41,13 +41,14 @@ abbrev pub writes_after : {T : Type 0} → Result T Stop → ℕ → ℕ
 writes_after (Err stop.Write) count = one_more count
 writes_after _ count = count
 
-abbrev pub LinkCause : ℕ → ℕ → Stop → Type 0
-LinkCause before now stop.Link = Rose before now
-LinkCause before now _ = ⊤
+-- that of the link's
+abbrev pub links_after : {T : Type 0} → Result T Stop → ℕ → ℕ
+links_after (Err stop.Link) count = one_more count
+links_after _ count = count
 
--- A fault of the disk or of the sink is told: no other end leaves one. The link's count doesn't fall, and where it ended for the link that rose.
+-- A fault of the disk, of the sink or of the link is told: no other end leaves one. The link's count doesn't fall.
 pub record HasCauses {T : Type 0} (before now : Counts) (result : Result T Stop) : Type 0 where
   pub disk : now.disk ≡ disk_after result before.disk
   pub write : now.write ≡ writes_after result before.write
-  pub link : before.link ≤ now.link
-  pub stop : IfErr result (LinkCause before.link now.link)
+  pub link : now.link ≡ links_after result before.link
+  pub later : before.link ≤ now.link

@@ -45,7 +45,7 @@ impl Post {
     }
 
     /// Writes the text of outputs whole, and then sends their datagrams in order.
-    #[tactic(auto, using(std::proofs::lemmas::Grind::common_steps, crate::proofs::Outputs::puts_none, crate::proofs::Outputs::puts_text, crate::proofs::Outputs::puts_sent, crate::proofs::Ending::rose_later))]
+    #[tactic(auto, using(std::proofs::lemmas::Grind::common_steps, crate::proofs::Outputs::puts_none, crate::proofs::Outputs::puts_text, crate::proofs::Outputs::puts_sent))]
     pub fn put_out<K: Sink, L: Link>(
         &mut self,
         sink: &mut K,

@@ -11,6 +11,7 @@ ghost use Rattle.vr_serve.specs.Runs.{Cut, IsCutBefore, IsCutInTurn, IsServed, P
 
 use crate::handling::{event_of, handle};
 use crate::post::Post;
+use crate::stop::received_stop;
 use crate::{Member, Stop};
 use std::alloc::Global;
 use vr_disk::SectorDisk;
@@ -44,12 +45,13 @@ fn arrive<M: Member, D: SectorDisk, K: Sink, L: Link>(
         (comes_of letter) (K.taken sink.new) (L.sent link.new)) }
     ensures attached { L.attached link.new ≡ L.attached link.old }
 {
-    match receive_letter(alloc, link, cluster, &mut post.to)? {
-        Some(letter) => {
+    match receive_letter(alloc, link, cluster, &mut post.to) {
+        Ok(Some(letter)) => {
             let event = event_of(letter.message);
             handle(alloc, member, disk, sink, link, post, letter.port, &event)
         }
-        None => Ok(()),
+        Ok(None) => Ok(()),
+        Err(fault) => Err(received_stop(fault)),
     }
 }
 

@@ -1,5 +1,6 @@
 //! Why the loop ended before its turns were done.
 ghost use Rattle.std.specs.Prelude.{◌≡◌};
+ghost use Rattle.vr_serve.specs.Causes.{received_stop};
 ghost use Rattle.vr_serve.specs.declared.stop.Stop.TheVariants as stop;
 
 use crate::Halt;
@@ -32,19 +33,6 @@ impl From<Halt> for Stop {
     }
 }
 
-impl From<ReceiveFault> for Stop {
-    ghost use Rattle.vr_serve.specs.Causes.{received_stop};
-
-    ghost from_gives = { λ f e. e ≡ received_stop f };
-
-    fn from(fault: ReceiveFault) -> Stop {
-        match fault {
-            ReceiveFault::Link => Stop::Link,
-            ReceiveFault::NoMemory => Stop::NoMemory,
-        }
-    }
-}
-
 impl From<WriteFailed> for Stop {
     ghost from_gives = { λ _ e. e ≡ stop.Write };
 
@@ -58,5 +46,15 @@ impl From<AllocError> for Stop {
 
     fn from(_error: AllocError) -> Stop {
         Stop::NoMemory
+    }
+}
+
+/// Why a receive ends the loop.
+pub fn received_stop(fault: ReceiveFault) -> Stop
+    ensures { result ≡ received_stop fault }
+{
+    match fault {
+        ReceiveFault::Link => Stop::Link,
+        ReceiveFault::NoMemory => Stop::NoMemory,
     }
 }

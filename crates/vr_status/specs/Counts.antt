@@ -2,7 +2,7 @@
 use Rattle.std.specs.Prelude.{ℕ}
 use Rattle.vr_base.specs.Causes.{one_more}
 use Rattle.vr_status.specs.declared.status.Status.{Status}
-use Rattle.vr_status.specs.declared.status.Status.TheVariants.{ReadFault, WriteFault}
+use Rattle.vr_status.specs.declared.status.Status.TheVariants.{LinkFault, ReadFault, WriteFault}
 
 -- that of the source's: one more where the run ended with a fault of the source
 abbrev pub reads_after : Status → ℕ → ℕ
@@ -13,3 +13,8 @@ reads_after _ count = count
 abbrev pub writes_after : Status → ℕ → ℕ
 writes_after WriteFault count = one_more count
 writes_after _ count = count
+
+-- that of the link's: one more where it ended with a fault of the link
+abbrev pub links_after : Status → ℕ → ℕ
+links_after LinkFault count = one_more count
+links_after _ count = count

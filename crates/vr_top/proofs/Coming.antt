@@ -15,7 +15,8 @@ use Rattle.vr_replay.specs.Run as replay
 use Rattle.vr_serve.specs.Causes as serve
 use Rattle.vr_soak.specs.Ends.{SoakEnds}
 use Rattle.vr_soak.specs.Summing.{soak_text}
-use Rattle.vr_status.specs.Counts.{reads_after, writes_after}
+use Rattle.vr_status.proofs.Counting.{links_kept}
+use Rattle.vr_status.specs.Counts.{links_after, reads_after, writes_after}
 use Rattle.vr_status.specs.declared.status.Status.{Status}
 use Rattle.vr_status.specs.declared.status.Status.TheVariants as status
 use Rattle.vr_top.proofs.Answers.{not_given, of_client, of_node, of_replay, of_soak, of_trial}
@@ -130,6 +131,9 @@ of_source o = o.source.faults
 abbrev of_disk : {S K D L C P : Type 0} → Outside S K D L C P → ℕ
 of_disk o = o.disk.faults
 
+abbrev of_link : {S K D L C P : Type 0} → Outside S K D L C P → ℕ
+of_link o = o.link.faults
+
 -- the link's fault has its cause
 abbrev LinkOf : {S K D L C P : Type 0} → Outside S K D L C P → Outside S K D L C P → Type 0
 LinkOf o o' = LinkFailure o.link.faults o'.link.faults o.link.attached o'.link.attached o.link.received o'.link.received
@@ -148,6 +152,7 @@ replays o o' s e c r w same =
         read = r;
         write = w;
         disk = ap of_disk same ∙ no_disk s o.disk.faults (not_given replay_gives s status.DiskFault may refl);
+        links = links_kept s o.link.faults o'.link.faults (ap of_link same) (not_given replay_gives s status.LinkFault may refl);
         link = λ is. absurd (not_given replay_gives s status.LinkFault may refl is);
         spawn = λ is. absurd (not_given replay_gives s status.SpawnFault may refl is);
       };
@@ -181,6 +186,7 @@ soaks words o o' s e same =
         read = ap of_source same ∙ no_read s o.source.faults (not_given soak_gives s status.ReadFault may refl);
         write = soak_writes s o.sink.faults o'.sink.faults o.sink.taken o'.sink.taken (soak_text words.seed words.count) e;
         disk = ap of_disk same ∙ no_disk s o.disk.faults (not_given soak_gives s status.DiskFault may refl);
+        links = links_kept s o.link.faults o'.link.faults (ap of_link same) (not_given soak_gives s status.LinkFault may refl);
         link = λ is. absurd (not_given soak_gives s status.LinkFault may refl is);
         spawn = λ is. absurd (not_given soak_gives s status.SpawnFault may refl is);
       };
@@ -188,9 +194,10 @@ soaks words o o' s e same =
 
 pub serves : {S K D L C P : Type 0} (a : NodeAsked) (o o' : Outside S K D L C P) (s : Status)
     → node.NodeEnds a.fresh (config_of a) a.peers a.turns (of_member o) (of_member o') (member_counts o) (member_counts o') s
-    → o'.disk.faults ≡ disk_after s o.disk.faults → o'.sink.faults ≡ writes_after s o.sink.faults → (s ≡ status.LinkFault → LinkOf o o')
+    → o'.disk.faults ≡ disk_after s o.disk.faults → o'.sink.faults ≡ writes_after s o.sink.faults
+    → o'.link.faults ≡ links_after s o.link.faults → (s ≡ status.LinkFault → LinkOf o o')
     → o' ≡ record o { sink = o'.sink; disk = o'.disk; link = o'.link; clock = o'.clock } → Ends (Some (Node a)) o o' s
-serves a o o' s e d w l same =
+serves a o o' s e d w k l same =
     let may = of_node s a.fresh (config_of a) a.peers a.turns (of_member o) (of_member o') (member_counts o) (member_counts o') e in
     record {
       does = inl (record { ends = e; others = same });
@@ -199,6 +206,7 @@ serves a o o' s e d w l same =
         read = ap of_source same ∙ no_read s o.source.faults (not_given node_gives s status.ReadFault may refl);
         write = w;
         disk = d;
+        links = k;
         link = l;
         spawn = λ is. absurd (not_given node_gives s status.SpawnFault may refl is);
       };
@@ -206,9 +214,10 @@ serves a o o' s e d w l same =
 
 pub asks : {S K D L C P : Type 0} (a : ClientAsked) (o o' : Outside S K D L C P) (s : Status)
     → run.ClientEnds (client_of a) a.peers (client_outside o) (client_outside o') (client_counts o) (client_counts o') s
-    → o'.source.faults ≡ reads_after s o.source.faults → o'.sink.faults ≡ writes_after s o.sink.faults → (s ≡ status.LinkFault → LinkOf o o')
+    → o'.source.faults ≡ reads_after s o.source.faults → o'.sink.faults ≡ writes_after s o.sink.faults
+    → o'.link.faults ≡ links_after s o.link.faults → (s ≡ status.LinkFault → LinkOf o o')
     → o' ≡ record o { source = o'.source; sink = o'.sink; link = o'.link } → Ends (Some (Client a)) o o' s
-asks a o o' s e r w l same =
+asks a o o' s e r w k l same =
     let may = of_client s (client_of a) a.peers (client_outside o) (client_outside o') (client_counts o) (client_counts o') e in
     record {
       does = inl (record { ends = e; others = same });
@@ -217,6 +226,7 @@ asks a o o' s e r w l same =
         read = r;
         write = w;
         disk = ap of_disk same ∙ no_disk s o.disk.faults (not_given client_gives s status.DiskFault may refl);
+        links = k;
         link = l;
         spawn = λ is. absurd (not_given client_gives s status.SpawnFault may refl is);
       };
@@ -224,9 +234,10 @@ asks a o o' s e r w l same =
 
 pub tries : {S K D L C P : Type 0} (a : TrialAsked) (o o' : Outside S K D L C P) (s : Status)
     → trial.TrialEnds (trial_of a) (trial_outside o) (trial_outside o') (trial_counts o) (trial_counts o') s
-    → o'.sink.faults ≡ writes_after s o.sink.faults → (s ≡ status.LinkFault → LinkOf o o') → (s ≡ status.SpawnFault → Rose o.spawner.faults o'.spawner.faults)
+    → o'.sink.faults ≡ writes_after s o.sink.faults → o'.link.faults ≡ links_after s o.link.faults
+    → (s ≡ status.LinkFault → LinkOf o o') → (s ≡ status.SpawnFault → Rose o.spawner.faults o'.spawner.faults)
     → o' ≡ record o { sink = o'.sink; link = o'.link; spawner = o'.spawner } → Ends (Some (Trial a)) o o' s
-tries a o o' s e w l p same =
+tries a o o' s e w k l p same =
     let may = of_trial s (trial_of a) (trial_outside o) (trial_outside o') (trial_counts o) (trial_counts o') e in
     record {
       does = inl (record { ends = e; others = same });
@@ -235,6 +246,7 @@ tries a o o' s e w l p same =
         read = ap of_source same ∙ no_read s o.source.faults (not_given trial_gives s status.ReadFault may refl);
         write = w;
         disk = ap of_disk same ∙ no_disk s o.disk.faults (not_given trial_gives s status.DiskFault may refl);
+        links = k;
         link = l;
         spawn = p;
       };
@@ -249,7 +261,7 @@ none_ends : {S K D L C P : Type 0} (o : Outside S K D L C P) → Ends None o o s
 none_ends o = record {
   does = inl (refl, refl);
   answer = refl;
-  causes = record { read = refl; write = refl; disk = refl; link = λ is. absurd (cc is); spawn = λ is. absurd (cc is) };
+  causes = record { read = refl; write = refl; disk = refl; links = refl; link = λ is. absurd (cc is); spawn = λ is. absurd (cc is) };
 }
 
 pub ends_none : {S K D L C P : Type 0} (asked : Option Asked) (o : Outside S K D L C P) → asked ≡ None → Ends asked o o status.Usage
@@ -267,5 +279,5 @@ pub ends_short : {S K D L C P : Type 0} (asked : Option Asked) (o : Outside S K 
 ends_short asked o = record {
   does = inr (record { is = refl; same = refl });
   answer = may_be_short asked;
-  causes = record { read = refl; write = refl; disk = refl; link = λ is. absurd (cc is); spawn = λ is. absurd (cc is) };
+  causes = record { read = refl; write = refl; disk = refl; links = refl; link = λ is. absurd (cc is); spawn = λ is. absurd (cc is) };
 }

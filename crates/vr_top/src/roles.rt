@@ -7,7 +7,7 @@ ghost use Rattle.vr_edge.specs.Failing.{LinkFailure};
 ghost use Rattle.vr_node.specs.Running.{NodeEnds, outside as member_outside};
 ghost use Rattle.vr_node.specs.Stops.{disk_after};
 ghost use Rattle.vr_serve.specs.Causes.{counts};
-ghost use Rattle.vr_status.specs.Counts.{reads_after, writes_after};
+ghost use Rattle.vr_status.specs.Counts.{links_after, reads_after, writes_after};
 ghost use Rattle.vr_top.specs.Roles.{IsGood, client_of, config_of, trial_of};
 ghost use Rattle.vr_trial.specs.Run.{TrialEnds, outside as trial_outside, faults as trial_faults};
 ghost use Rattle.vr_trial.specs.Told.{trial_of as plan_says};
@@ -62,6 +62,7 @@ pub fn serve_role<K: Sink, D: SectorDisk, L: Link, C: Clock>(
         (counts (D.faults disk.old) (K.faults sink.old) (L.faults link.old)) (counts (D.faults disk.new) (K.faults sink.new) (L.faults link.new)) result }
     ensures disk { D.faults disk.new ≡ disk_after result (D.faults disk.old) }
     ensures write { K.faults sink.new ≡ writes_after result (K.faults sink.old) }
+    ensures links { L.faults link.new ≡ links_after result (L.faults link.old) }
     ensures link { result ≡ Status.LinkFault → LinkFailure (L.faults link.old) (L.faults link.new) (L.attached link.old) (L.attached link.new) (L.received link.old) (L.received link.new) }
 {
     run_node(alloc, &role_of(words), disk, link, clock, sink)
@@ -83,6 +84,7 @@ pub fn ask_group<S: Source, K: Sink, L: Link>(
         (client_faults (L.faults link.old) (K.faults sink.old)) (client_faults (L.faults link.new) (K.faults sink.new)) result }
     ensures read { S.faults source.new ≡ reads_after result (S.faults source.old) }
     ensures write { K.faults sink.new ≡ writes_after result (K.faults sink.old) }
+    ensures links { L.faults link.new ≡ links_after result (L.faults link.old) }
     ensures link { result ≡ Status.LinkFault → LinkFailure (L.faults link.old) (L.faults link.new) (L.attached link.old) (L.attached link.new) (L.received link.old) (L.received link.new) }
 {
     run_client(
@@ -126,6 +128,7 @@ pub fn try_group<K: Sink, L: Link, P: Spawner>(
         (trial_outside (L.sent link.new) (L.received link.new) (K.taken sink.new) (P.calls spawner.new) (L.attached link.new))
         (trial_faults (L.faults link.old) (K.faults sink.old) (P.faults spawner.old)) (trial_faults (L.faults link.new) (K.faults sink.new) (P.faults spawner.new)) result }
     ensures write { K.faults sink.new ≡ writes_after result (K.faults sink.old) }
+    ensures links { L.faults link.new ≡ links_after result (L.faults link.old) }
     ensures link { result ≡ Status.LinkFault → LinkFailure (L.faults link.old) (L.faults link.new) (L.attached link.old) (L.attached link.new) (L.received link.old) (L.received link.new) }
     ensures spawn { result ≡ Status.SpawnFault → Rose (P.faults spawner.old) (P.faults spawner.new) }
 {

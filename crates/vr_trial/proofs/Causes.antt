@@ -1,8 +1,10 @@
 -- A fault has its cause in the object that was handed in.
-use Rattle.std.proofs.Common.{◌≡◌, ◌≤◌, ◌⊎◌, ℕ, List, [], ◌∷◌, ◌++◌, true, false, Option, refl, sym, ap, inl, inr, subst, arith}
+use Rattle.std.proofs.Common.{◌≡◌, ◌≤◌, ◌⊎◌, ℕ, List, [], ◌∷◌, ◌++◌, true, false, Bool, Option, None, Result, Ok, Err, refl, sym, ap, inl, inr, subst, arith}
+use Rattle.std.specs.Prelude.{IfErr}
 use Rattle.vr_ask.proofs.Exchanges.{ends_later}
 use Rattle.vr_ask.proofs.Runs.{asked_last}
 use Rattle.vr_ask.specs.Asking as ask
+use Rattle.vr_ask.specs.Asking.{CountsLinks}
 use Rattle.vr_base.specs.Causes.{Rose}
 use Rattle.vr_edge.specs.Attaching.{attach_of}
 use Rattle.vr_edge.specs.Datagrams.{Arrival}
@@ -11,9 +13,11 @@ use Rattle.vr_edge.specs.Told.{Grows}
 use Rattle.vr_edge.specs.declared.attach.Attach.{Attach as Attached}
 use Rattle.vr_mail.proofs.Growing.{failure_after, grows_nil}
 use Rattle.vr_spawn.specs.declared.spawner.SpawnCall.{SpawnCall}
+use Rattle.vr_status.proofs.Counting.{links_kept}
+use Rattle.vr_status.specs.Counts.{links_after}
 use Rattle.vr_status.specs.declared.status.Status.{Status}
 use Rattle.vr_status.specs.declared.status.Status.TheVariants as status
-use Rattle.vr_trial.specs.Run.{AsksNothing, BreaksOff, CantCall, Counts, Does, Ends, Fails, FailsIn, Faults, IsCut, Members, Outside, Place, Starts, Stops, TrialEnds, faults, of_client}
+use Rattle.vr_trial.specs.Run.{AsksNothing, BreaksOff, CantCall, Counts, Does, Ends, Fails, FailsIn, Faults, IsCut, Members, Outside, Place, Starts, Stops, TrialEnds, faults, of_client, running_at, start_call, started, stopped, stops_of}
 use Rattle.vr_trial.specs.Script.{number_of}
 use Rattle.vr_trial.specs.Told.{Trial, operation_of, start_words}
 use Rattle.vr_trial.specs.declared.step.Step.{Step}
@@ -131,6 +135,22 @@ breaks_link : (Changes : Members → Members → Type 0) (calls : List SpawnCall
     → BreaksOff Changes calls line m m' t t' b n status.LinkFault → ⊥
 breaks_link Changes calls line m m' t t' b n (inl x) = cant_link calls m m' b.spawn n.spawn x.0
 breaks_link Changes calls line m m' t t' b n (inr x) = cut_link b.write n.write x.1.cause
+
+-- a step of the spawner leaves the link's count
+told_links : (Changes : Members → Members → Type 0) (calls : List SpawnCall) (line : List ℕ) (m m' : Members) (t t' : Option (List ℕ)) (b n : Counts) (before now : ℕ) (s : Status)
+    → now ≡ before → BreaksOff Changes calls line m m' t t' b n s → now ≡ links_after s before
+told_links Changes calls line m m' t t' b n before now s e broke =
+    links_kept s before now e (λ is. breaks_link Changes calls line m m' t t' b n (subst (λ k. BreaksOff Changes calls line m m' t t' b n k) is broke))
+
+pub start_links : (t : Trial) (member : ℕ) (is_fresh : Bool) (m m' : Members) (w w' : Option (List ℕ)) (b n : Counts) (before now : ℕ) (r : Result (Unit {0}) Status)
+    → now ≡ before → IfErr r (BreaksOff (Starts (start_words t member is_fresh) member) (start_call (start_words t member is_fresh) None ∷ []) (started member) m m' w w' b n) → CountsLinks before now r
+start_links t member is_fresh m m' w w' b n before now (Ok x) e broke = e
+start_links t member is_fresh m m' w w' b n before now (Err s) e broke = told_links (Starts (start_words t member is_fresh) member) _ _ m m' w w' b n before now s e broke
+
+pub stop_links : (member : ℕ) (m m' : Members) (w w' : Option (List ℕ)) (b n : Counts) (before now : ℕ) (r : Result (Unit {0}) Status)
+    → now ≡ before → IfErr r (BreaksOff (Stops member) (stops_of (running_at m.running member) false) (stopped member) m m' w w' b n) → CountsLinks before now r
+stop_links member m m' w w' b n before now (Ok x) e broke = e
+stop_links member m m' w w' b n before now (Err s) e broke = told_links (Stops member) _ _ m m' w w' b n before now s e broke
 
 step_link : (t : Trial) (step : Step) (p p' : Place) (b n : Faults) → Fails t step p p' b n status.LinkFault → PlaceFailure p p' b n
 step_link t (Start r) p p' b n x = absurd (breaks_link (Starts (start_words t r true) r) _ _ p.members p'.members p.client.taken p'.client.taken b.counts n.counts x.0)

@@ -23,11 +23,11 @@ fails_then t steps i d step p q p' b n s h is does rest =
     subst (λ l. FailsIn t l p p' b n s) (sym (drop_more steps i d h)) (inr (q, subst (λ x. Does t x p q) is does, rest))
 
 pub fails_here : (t : Trial) (steps : List Step) (i : ℕ) (d step : Step) (p p' : Place) (b mid n : Faults) (s : Status) → i < length steps → step ≡ get_or steps i d
-    → b.link ≤ mid.link → mid.counts.write ≡ b.counts.write → mid.counts.spawn ≡ b.counts.spawn
+    → mid.link ≡ b.link → mid.counts.write ≡ b.counts.write → mid.counts.spawn ≡ b.counts.spawn
     → Fails t step p p' mid n s → FailsIn t (drop i steps) p p' b n s
 fails_here t steps i d step p p' b mid n s h is l w c fails =
     subst (λ x. FailsIn t x p p' b n s) (sym (drop_more steps i d h))
-    (inl (fails_earlier t (get_or steps i d) p p' b mid n s l (omega (arith, w)) (omega (arith, c)) (subst (λ x. Fails t x p p' mid n s) is fails)))
+    (inl (fails_earlier t (get_or steps i d) p p' b mid n s (omega (arith, l)) (omega (arith, w)) (omega (arith, c)) (subst (λ x. Fails t x p p' mid n s) is fails)))
 
 pub next_here : (steps : List Step) (i number : ℕ) (d step : Step) → i < length steps → step ≡ get_or steps i d → AreNext number (drop i steps) → IsNext number step
 next_here steps i number d step h is next =

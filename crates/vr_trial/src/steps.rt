@@ -1,6 +1,6 @@
 //! The steps of a trial, each by itself.
 ghost use Rattle.std.specs.Prelude.{◌≡◌, ◌≤◌, ◌+◌, [], ◌∷◌, IfErr, None, OnOk, false, is_ok};
-ghost use Rattle.vr_ask.specs.Asking.{CountsWrites, Exchanges, client_of, faults as ask_faults, stand};
+ghost use Rattle.vr_ask.specs.Asking.{CountsLinks, CountsWrites, Exchanges, client_of, faults as ask_faults, stand};
 ghost use Rattle.vr_base.specs.Causes.{Rose};
 ghost use Rattle.vr_edge.specs.Attaching.{attach_of};
 ghost use Rattle.vr_edge.specs.Told.{Grows};
@@ -124,6 +124,7 @@ impl Course {
         ensures sent { L.sent link.new ≡ L.sent link.old }
         ensures received { L.received link.new ≡ L.received link.old }
         ensures later { L.faults link.old ≤ L.faults link.new }
+        ensures links { CountsLinks (L.faults link.old) (L.faults link.new) result }
     {
         match link.attach("", &plan.peers) {
             Ok(()) => Ok(()),
@@ -150,6 +151,7 @@ impl Course {
         ensures running { self.new.running ≡ self.old.running }
         ensures attached { L.attached link.new ≡ L.attached link.old }
         ensures link { L.faults link.old ≤ L.faults link.new }
+        ensures links { CountsLinks (L.faults link.old) (L.faults link.new) result }
         ensures sink { CountsWrites (K.faults sink.old) (K.faults sink.new) result }
     {
         match operation_of(self.alloc, question) {
@@ -159,7 +161,7 @@ impl Course {
     }
 
     /// Takes a step; an `Err` is how the trial ends.
-    #[tactic(auto, using(std::proofs::lemmas::Grind::common_steps, crate::proofs::Taking::has_started, crate::proofs::Taking::cant_start, crate::proofs::Taking::has_stopped, crate::proofs::Taking::cant_stop, crate::proofs::Taking::attached, crate::proofs::Taking::unattached, crate::proofs::Taking::has_asked, crate::proofs::Taking::cant_ask, crate::proofs::Telling::attach_writes, crate::proofs::Telling::attach_spawns, crate::proofs::Telling::ask_spawns))]
+    #[tactic(auto, using(std::proofs::lemmas::Grind::common_steps, crate::proofs::Taking::has_started, crate::proofs::Taking::cant_start, crate::proofs::Taking::has_stopped, crate::proofs::Taking::cant_stop, crate::proofs::Taking::attached, crate::proofs::Taking::unattached, crate::proofs::Taking::has_asked, crate::proofs::Taking::cant_ask, crate::proofs::Telling::attach_writes, crate::proofs::Telling::attach_spawns, crate::proofs::Telling::ask_spawns, crate::proofs::Causes::start_links, crate::proofs::Causes::stop_links))]
     pub fn take<K: Sink, L: Link, P: Spawner>(
         &mut self,
         plan: &Plan,
@@ -180,6 +182,7 @@ impl Course {
         ensures client { client_of self.new.core plan.now.turns ≡ client_of self.old.core plan.now.turns }
         ensures number { OnOk result (self.new.core.number ≡ number_after self.old.core.number step) }
         ensures link { L.faults link.old ≤ L.faults link.new }
+        ensures links { CountsLinks (L.faults link.old) (L.faults link.new) result }
         ensures sink { CountsWrites (K.faults sink.old) (K.faults sink.new) result }
         ensures spawner { CountsSpawns (P.faults spawner.old) (P.faults spawner.new) result }
     {

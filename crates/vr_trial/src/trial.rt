@@ -1,9 +1,9 @@
 //! The whole trial.
 ghost use Rattle.std.specs.Prelude.{◌≡◌, ◌≤◌, IfErr, OnOk, vec_len};
-ghost use Rattle.vr_ask.specs.Asking.{CountsWrites, client_of};
+ghost use Rattle.vr_ask.specs.Asking.{CountsLinks, CountsWrites, client_of};
 ghost use Rattle.vr_base.specs.Causes.{Rose};
 ghost use Rattle.vr_edge.specs.Failing.{LinkFailure};
-ghost use Rattle.vr_status.specs.Counts.{writes_after};
+ghost use Rattle.vr_status.specs.Counts.{links_after, writes_after};
 ghost use Rattle.vr_trial.specs.Run.{CountsSpawns, DoesAll, Ends, FailsIn, TrialEnds, faults, outside, place};
 ghost use Rattle.vr_trial.specs.Script.{AreNext};
 ghost use Rattle.vr_trial.specs.Told.{trial_of};
@@ -37,6 +37,7 @@ fn take_all<K: Sink, L: Link, P: Spawner>(
         (place course.old (L.sent link.old) (L.received link.old) (K.taken sink.old) (P.calls spawner.old) (L.attached link.old))
         (place course.new (L.sent link.new) (L.received link.new) (K.taken sink.new) (P.calls spawner.new) (L.attached link.new))
         (faults (L.faults link.old) (K.faults sink.old) (P.faults spawner.old)) (faults (L.faults link.new) (K.faults sink.new) (P.faults spawner.new))) }
+    ensures links { CountsLinks (L.faults link.old) (L.faults link.new) result }
     ensures sink { CountsWrites (K.faults sink.old) (K.faults sink.new) result }
     ensures spawner { CountsSpawns (P.faults spawner.old) (P.faults spawner.new) result }
 {
@@ -62,6 +63,7 @@ fn take_or_end<K: Sink, L: Link, P: Spawner>(
         (place course.old (L.sent link.old) (L.received link.old) (K.taken sink.old) (P.calls spawner.old) (L.attached link.old))
         (outside (L.sent link.new) (L.received link.new) (K.taken sink.new) (P.calls spawner.new) (L.attached link.new))
         (faults (L.faults link.old) (K.faults sink.old) (P.faults spawner.old)) (faults (L.faults link.new) (K.faults sink.new) (P.faults spawner.new)) result }
+    ensures links { L.faults link.new ≡ links_after result (L.faults link.old) }
     ensures sink { K.faults sink.new ≡ writes_after result (K.faults sink.old) }
 {
     match take_all(course, plan, steps, sink, link, spawner) {
@@ -89,9 +91,10 @@ pub fn run_trial<K: Sink, L: Link, P: Spawner>(
         (outside (L.sent link.old) (L.received link.old) (K.taken sink.old) (P.calls spawner.old) (L.attached link.old))
         (outside (L.sent link.new) (L.received link.new) (K.taken sink.new) (P.calls spawner.new) (L.attached link.new))
         (faults (L.faults link.old) (K.faults sink.old) (P.faults spawner.old)) (faults (L.faults link.new) (K.faults sink.new) (P.faults spawner.new)) result }
-    // A fault has its cause in the object that was handed in, and a write that failed is told: no other answer leaves one. The spawner's count at each end stands in
+    // A fault has its cause in the object that was handed in, and a write or a call of the link that failed is told: no other answer leaves one. The spawner's count at each end stands in
     // `ends`, since behind a step that ended the trial stops may fail.
     ensures write { K.faults sink.new ≡ writes_after result (K.faults sink.old) }
+    ensures links { L.faults link.new ≡ links_after result (L.faults link.old) }
     ensures link { result ≡ Status.LinkFault → LinkFailure (L.faults link.old) (L.faults link.new) (L.attached link.old) (L.attached link.new) (L.received link.old) (L.received link.new) }
     ensures spawn { result ≡ Status.SpawnFault → Rose (P.faults spawner.old) (P.faults spawner.new) }
 {

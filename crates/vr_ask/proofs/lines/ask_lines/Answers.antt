@@ -20,7 +20,7 @@ loop-done-preserved g c =
       client = e.client ∙ i.client;
       number = e.number;
       counts = e.counts ∙ i.counts;
-      link = omega (arith, i.link, e.link);
+      link = e.links ∙ i.link;
       attached = c.take_line.ensures.attached ∙ i.attached;
       sink = e.sink ∙ i.sink;
     }

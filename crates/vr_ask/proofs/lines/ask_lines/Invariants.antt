@@ -1,4 +1,4 @@
-use Rattle.std.proofs.Common.{◌≡◌, ◌≤◌, ◌+◌}
+use Rattle.std.proofs.Common.{◌≡◌, ◌+◌}
 use Rattle.vr_ask.specs.Asking.{client_of, stand}
 use Rattle.vr_ask.specs.Run.{reading}
 use Rattle.vr_ask.proofs.Exchanges.{Midst}
@@ -12,7 +12,7 @@ invariant-loop-done g l = record {
   client : client_of l.core l.turns ≡ client_of l.fn.core l.turns;
   number : l.core.number ≡ l.done + 1;
   counts : g.S.Source.faults l.source ≡ g.S.Source.faults l.fn.source;
-  link : g.L.Link.faults l.fn.link ≤ g.L.Link.faults l.link;
+  link : g.L.Link.faults l.link ≡ g.L.Link.faults l.fn.link;
   attached : g.L.Link.attached l.link ≡ g.L.Link.attached l.fn.link;
   sink : g.K.Sink.faults l.sink ≡ g.K.Sink.faults l.fn.sink;
 }

@@ -19,4 +19,4 @@ returns-in-Ok-clause-ends g c =
     let begun : Exchanges who 0 Register s s'' first mid (Ok tt) = subst (λ n. Exchanges who n Register s s'' first mid (Ok tt)) c.requires c.in-Ok.ensures.exchanged in
     let lines : EndsLines who r s'' r' s' mid last c.ask_lines.result =
     subst (λ x. EndsLines x r s'' r' s' mid last c.ask_lines.result) c.exchange.ensures.client c.ask_lines.ensures.ends in
-    registered who r s s'' r' s' first mid last c.ask_lines.result begun c.exchange.ensures.link c.in-Ok.ensures.sink lines
+    registered who r s s'' r' s' first mid last c.ask_lines.result begun c.in-Ok.ensures.links c.in-Ok.ensures.sink lines

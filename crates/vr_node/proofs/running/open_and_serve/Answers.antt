@@ -3,7 +3,7 @@ use Rattle.vr_edge.specs.Attaching.{texts_of}
 use Rattle.vr_node.specs.Opening.{Opens}
 use Rattle.vr_node.specs.Running.{outside}
 use Rattle.vr_node.specs.Stops.{disk_after}
-use Rattle.vr_node.proofs.Ends.{opened, unopened_disk, unopened_writes}
+use Rattle.vr_node.proofs.Ends.{opened, unopened_disk, unopened_links, unopened_writes}
 use Rattle.vr_replica.specs.Running.{Running}
 use Rattle.vr_serve.specs.Causes.{counts}
 use Rattle.vr_node.proofs.running.open_and_serve.Goals as goal
@@ -35,3 +35,6 @@ returns-in-Err-clause-disk g c = unopened_disk c.in-Err.status _ _ c.in-Err.ensu
 
 pub returns-in-Err-clause-write : goal.returns-in-Err-clause-write
 returns-in-Err-clause-write g c = unopened_writes c.args.role.now.fresh _ _ _ c.in-Err.status _ c.in-Err.ensures.opened
+
+pub returns-in-Err-clause-links : goal.returns-in-Err-clause-links
+returns-in-Err-clause-links g c = unopened_links c.args.role.now.fresh _ _ _ c.in-Err.status _ c.in-Err.ensures.opened

@@ -1,6 +1,6 @@
 use Rattle.std.proofs.Common.{◌∙◌, subst, sym}
 use Rattle.vr_node.specs.Running.{ServeEnds, outside}
-use Rattle.vr_node.proofs.Ends.{cut_off, stop_disk, stop_writes}
+use Rattle.vr_node.proofs.Ends.{cut_off, stop_disk, stop_links, stop_writes}
 use Rattle.vr_serve.specs.Causes.{counts}
 use Rattle.vr_node.proofs.running.serve_turns.Goals as goal
 
@@ -18,3 +18,6 @@ returns-in-Err-clause-disk g c = rw c.status_of.ensures (stop_disk c.in-Err.stop
 
 pub returns-in-Err-clause-write : goal.returns-in-Err-clause-write
 returns-in-Err-clause-write g c = rw c.status_of.ensures (stop_writes c.in-Err.stop _ _ c.in-Err.ensures.causes.write)
+
+pub returns-in-Err-clause-links : goal.returns-in-Err-clause-links
+returns-in-Err-clause-links g c = rw c.status_of.ensures (stop_links c.in-Err.stop _ _ c.in-Err.ensures.causes.link)

@@ -1,4 +1,4 @@
-use Rattle.std.proofs.Common.{Err, ◌∷◌, refl, rules, sym, ◌≡◌, ◌∙◌, ◌⊎◌, [], ap, arith, inr, subst}
+use Rattle.std.proofs.Common.{Err, ◌∷◌, refl, rules, sym, ◌≡◌, ◌∙◌, ◌⊎◌, [], ap, inr, subst}
 use Rattle.std.specs.Io.KnownBytes.{Appends}
 use Rattle.vr_edge.specs.Datagrams.{Failed}
 use Rattle.vr_mail.proofs.Growing.{grows_trans}
@@ -43,7 +43,7 @@ loop-preserved g c =
       running = c.in_ok-last.ensures.running;
       disk = c.in_ok-last.ensures.causes.disk ∙ c.loop.invariant.disk;
       write = c.in_ok-last.ensures.causes.write ∙ c.loop.invariant.write;
-      link = omega (arith, c.loop.invariant.link, c.in_ok-last.ensures.causes.link);
+      link = c.in_ok-last.ensures.causes.link ∙ c.loop.invariant.link;
       attached = c.turn.ensures.attached ∙ c.loop.invariant.attached;
       serving = serving_more g.M.Member.does c.args.cluster c.loop.counter c.loop.last c.in_ok-last.last c.args.first c.args.member.now (g.D.SectorDisk.told c.args.disk.now)
           (g.C.Clock.left c.args.clock.now) (g.C.Clock.left c.loop.clock) (g.C.Clock.left c.turn.new.clock)

@@ -1,4 +1,4 @@
-use Rattle.std.proofs.Common.{◌≡◌, ◌≤◌, drop}
+use Rattle.std.proofs.Common.{◌≡◌, drop}
 use Rattle.vr_ask.specs.Asking.{client_of}
 use Rattle.vr_status.specs.declared.status.Status.{Status}
 use Rattle.vr_trial.specs.Run.{DoesAll, FailsIn, Faults, Place, faults, place}
@@ -18,7 +18,7 @@ invariant-loop-step g l = record {
       (faults (g.L.Link.faults l.fn.link) (g.K.Sink.faults l.fn.sink) (g.P.Spawner.faults l.fn.spawner)) now status;
   client : client_of l.course.core l.plan.turns ≡ (trial_of l.plan).client;
   next : AreNext l.course.core.number (drop l.step-index l.steps);
-  link : g.L.Link.faults l.fn.link ≤ g.L.Link.faults l.link;
+  link : g.L.Link.faults l.link ≡ g.L.Link.faults l.fn.link;
   sink : g.K.Sink.faults l.sink ≡ g.K.Sink.faults l.fn.sink;
   spawner : g.P.Spawner.faults l.spawner ≡ g.P.Spawner.faults l.fn.spawner;
 }

@@ -1,4 +1,4 @@
-use Rattle.std.proofs.Common.{◌≡◌, ◌∙◌, None, Some, Err, arith, rules, subst}
+use Rattle.std.proofs.Common.{◌≡◌, ◌∙◌, None, Some, Err, rules, subst}
 use Rattle.vr_client.specs.Asking.{Turned, ask_in}
 use Rattle.vr_client.proofs.Keeping.{keeps_later, same_ask}
 use Rattle.vr_client.proofs.Waits.{waited_answer, waited_fault, waiting_begins, waiting_more}
@@ -7,7 +7,7 @@ use Rattle.vr_client.proofs.client.ClientCore.wait.Goals as goal
 pub loop-done-init : goal.loop-done-init
 loop-done-init g c = record {
   core = c.ask_at.ensures.core;
-  later = omega (arith, c.ask_at.ensures.faults);
+  faults = c.ask_at.ensures.faults;
   attached = c.ask_at.ensures.attached;
   waiting = waiting_begins (ask_in c.args.self.now c.args.name.now c.args.turns) c.args.self.now.port c.ask_at.new.self.port
       (g.L.Link.sent c.args.link.now) (g.L.Link.sent c.ask_at.new.link) (g.L.Link.received c.args.link.now) (g.L.Link.received c.ask_at.new.link)
@@ -45,7 +45,7 @@ loop-done-preserved g c =
     (g.L.Link.sent c.loop-done.link) (g.L.Link.sent c.turn.new.link) (g.L.Link.received c.loop-done.link) (g.L.Link.received c.turn.new.link) x) is c.in_ok-answer.ensures.turned in
     record {
       core = keeps_later c.args.self.now c.loop-done.self c.turn.new.self c.loop-done.invariant.core c.turn.ensures.core;
-      later = omega (arith, c.loop-done.invariant.later, c.turn.ensures.cause.later);
+      faults = c.in_ok-answer.ensures.cause.counted ∙ c.loop-done.invariant.faults;
       attached = c.turn.ensures.attached ∙ c.loop-done.invariant.attached;
       waiting = waiting_more (ask_in c.args.self.now c.args.name.now c.args.turns) c.loop-done.done c.args.self.now.port c.loop-done.self.port c.turn.new.self.port
           (g.L.Link.sent c.args.link.now) (g.L.Link.sent c.loop-done.link) (g.L.Link.sent c.turn.new.link)
