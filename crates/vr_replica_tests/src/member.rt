@@ -1,10 +1,12 @@
 //! A member of a group of three on a disk that lies, and what it answers to one act after the other.
-use crate::act::{Act, byte, small};
+use crate::act::Act;
 use crate::events::{
     change, give_block, heard, other_block, prepare, register, start_view, state_nothing, sync_view,
 };
 use crate::hosting::{fault, format, own_block, start, step};
 use std::alloc::Global;
+use std::process::Abort;
+use std::test::Fail;
 use vr_base::{ByteList, NoMemory, Seq};
 use vr_lie::{Fault, LieDisk};
 use vr_msg::{Event, Outbox, Output};
@@ -88,76 +90,57 @@ impl Member {
         Ok(())
     }
 
-    // What others send it, what a client asks, and ticks; `None` for an act that is none of these.
-    fn heard(&mut self, alloc: Global, act: Act<'_>) -> Result<Option<Event>, NoMemory> {
-        let event = match act.name {
-            "register" => register(act.first),
-            "prepare" => prepare(act.before()),
-            "change" => change(byte(act.first), byte(act.second)),
-            "state" => state_nothing(alloc, byte(act.first)),
-            "start_view" => {
-                let before = small(act.second.saturating_sub(1));
-                start_view(alloc, byte(act.first), before, small(act.third))?
+    // What others send it, and what a client asks.
+    fn hear(&mut self, alloc: Global, act: Act, text: &mut ByteList) -> Result<(), NoMemory> {
+        let event = match act {
+            Act::Register(client) => register(client),
+            Act::Prepare(op) => prepare(op.saturating_sub(1)),
+            Act::Change(replica, view) => change(replica, view),
+            Act::State(replica) => state_nothing(alloc, replica),
+            Act::StartView(view, op, commit) => {
+                start_view(alloc, view, op.saturating_sub(1), commit)?
             }
-            "sync_view" => sync_view(alloc)?,
-            "own_block" => give_block(own_block(&mut self.disk, alloc)?),
-            "other_block" => other_block(alloc)?,
-            "tick" => Event::Tick,
-            _ => return Ok(None),
+            Act::SyncView => sync_view(alloc)?,
+            Act::OwnBlock => give_block(own_block(&mut self.disk, alloc)?),
+            Act::OtherBlock => other_block(alloc)?,
+            _ => Event::Tick,
         };
-        Ok(Some(event))
+        self.step(alloc, &event, text)
     }
 
-    fn hear(&mut self, alloc: Global, act: Act<'_>, text: &mut ByteList) -> Result<(), NoMemory> {
-        match self.heard(alloc, act)? {
-            Some(event) => self.step(alloc, &event, text),
-            None => Ok(text.extend(b"not so: nothing of the kind happens\n")?),
-        }
-    }
-
-    // What happens to its disk; `None` for an act that is nothing of the kind.
-    fn touched(&mut self, alloc: Global, act: Act<'_>) -> Result<Option<&'static str>, NoMemory> {
-        let told = match act.name {
-            "format" => format(&mut self.replica, &mut self.disk, alloc, self.index),
-            "damage" => fault(&mut self.disk, &Fault::Damage(act.sector())),
-            "stale" => fault(&mut self.disk, &Fault::Stale(act.sector())),
-            "unread" => fault(&mut self.disk, &Fault::Unread(act.sector())),
-            "fail" => {
-                self.disk.fail(vec![in alloc; act.first]?);
+    fn act(&mut self, alloc: Global, act: Act, text: &mut ByteList) -> Result<(), NoMemory> {
+        let told = match act {
+            Act::Format => format(&mut self.replica, &mut self.disk, alloc, self.index),
+            Act::Start(index) => return self.start(alloc, index, text),
+            Act::Prepares(count) => return self.prepares(alloc, count),
+            Act::Ticks => return self.ticks(alloc, text),
+            Act::Rounds(count) => return self.rounds(alloc, count),
+            Act::Fail(call) => {
+                self.disk.fail(vec![in alloc; call]?);
                 ""
             }
-            "fuse" => {
-                self.disk.fuse(act.first.max(1), act.second);
+            Act::Fuse(call, code) => {
+                self.disk.fuse(call.max(1), code);
                 ""
             }
-            _ => return Ok(None),
+            Act::Damage(sector) => fault(&mut self.disk, &Fault::Damage(sector.min(1423))),
+            Act::Stale(sector) => fault(&mut self.disk, &Fault::Stale(sector.min(1423))),
+            Act::Unread(sector) => fault(&mut self.disk, &Fault::Unread(sector.min(1423))),
+            _ => return self.hear(alloc, act, text),
         };
-        Ok(Some(told))
+        Ok(text.extend(told.as_bytes())?)
     }
 
-    fn act(&mut self, alloc: Global, act: Act<'_>, text: &mut ByteList) -> Result<(), NoMemory> {
-        if let Some(told) = self.touched(alloc, act)? {
-            return Ok(text.extend(told.as_bytes())?);
-        }
-        match act.name {
-            "start" => self.start(alloc, byte(act.first), text),
-            "prepares" => self.prepares(alloc, small(act.first)),
-            "ticks" => self.ticks(alloc, text),
-            "rounds" => self.rounds(alloc, small(act.first)),
-            _ => self.hear(alloc, act, text),
-        }
-    }
-
-    fn play(&mut self, alloc: Global, acts: &str, text: &mut ByteList) -> Result<(), NoMemory> {
-        for act in acts.split(", ") {
-            self.act(alloc, Act::of(act), text)?;
+    fn play(&mut self, alloc: Global, acts: &[Act], text: &mut ByteList) -> Result<(), NoMemory> {
+        for act in acts {
+            self.act(alloc, *act, text)?;
         }
         Ok(())
     }
 }
 
-/// What the member of this number puts out and answers, line by line, at each act, from a disk of zeros on.
-pub fn play(alloc: Global, index: u8, acts: &str, text: &mut ByteList) -> Result<(), NoMemory> {
+// What the member of this number puts out and answers, line by line, at each act, from a disk of zeros on.
+fn play(alloc: Global, index: u8, acts: &[Act], text: &mut ByteList) -> Result<(), NoMemory> {
     let mut member = Member {
         index,
         replica: None,
@@ -166,4 +149,18 @@ pub fn play(alloc: Global, index: u8, acts: &str, text: &mut ByteList) -> Result
         sent: 0,
     };
     member.play(alloc, acts, text)
+}
+
+/// The member of this number puts out and answers these lines.
+pub fn check(
+    rt: &impl Abort,
+    alloc: Global,
+    index: u8,
+    acts: &[Act],
+    want: &str,
+) -> Result<(), Fail> {
+    let mut text = Seq::new(alloc);
+    play(alloc, index, acts, &mut text)?;
+    assert_eq!(rt; std::str::from_utf8(text.as_slice()), Ok(want));
+    Ok(())
 }
