@@ -4,12 +4,11 @@ use Rattle.std.specs.Prelude.{◌≢◌, ◌==◌, nat_lt, codes, if◌then◌el
 use Rattle.std.specs.Option.{option_map}
 use Rattle.std.specs.Str.{bytes_eq}
 use Rattle.std.proofs.lemmas.Bool.Decides.{nat_tests}
-use Rattle.clap.specs.Words.{Row, Text, all_of, first_of, subcommand_of}
+use Rattle.clap.specs.Words.{Row, Text, all_of, first_of}
 use Rattle.vr_base.specs.declared.kind.Kind.{Kind}
 use Rattle.vr_top.specs.Roles.{IsGood}
 use Rattle.vr_lines.specs.Numbers.{number_below, number_of}
-use Rattle.vr_words.specs.Asked.{Asked, Client, ClientAsked, Node, NodeAsked, Replay, Soak, asked, asked_at, asker_at, below_at, client_at, fresh_at, id_at, is_size, is_taken, member_at, node_at, number_at, peers_at, soak_at, Trial, TrialAsked, trial_at, trier_at}
-use Rattle.vr_words.specs.Forms.{the_command}
+use Rattle.vr_words.specs.Asked.{Asked, Client, ClientAsked, Node, NodeAsked, Replay, Soak, asked, asked_at, asker_at, below_at, client_at, entered_by, fresh_at, id_at, is_size, is_taken, member_at, node_at, number_at, peers_at, soak_at, Trial, TrialAsked, trial_at, trier_at}
 use Rattle.vr_words.specs.declared.command.SoakWords.{SoakWords}
 
 -- ---- tests
@@ -233,5 +232,5 @@ taken_good (Some p) a e = command_good p.0 p.1 a e
 pub asked_good : (words : List Text) (a : Asked) → asked words ≡ Some a → IsGood a
 unfolding asked
 asked_good words a e =
-    let x = if_some (is_taken words) (option_and_then (λ p. asked_at p.0 p.1) (subcommand_of the_command words)) a e in
-    taken_good (subcommand_of the_command words) a x.1
+    let x = if_some (is_taken words) (option_and_then (λ p. asked_at p.0 p.1) (entered_by words)) a e in
+    taken_good (entered_by words) a x.1

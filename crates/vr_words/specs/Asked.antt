@@ -1,10 +1,9 @@
 -- What the words of a command line ask for.
-use Rattle.std.specs.Prelude.{ℕ, List, length, map, Bool, true, false, ◌&&◌, ◌==◌, nat_le, if◌then◌else◌, Option, Some, None, option_and_then, codes, String, string_bytes}
+use Rattle.std.specs.Prelude.{ℕ, List, length, map, Bool, true, false, ◌&&◌, ◌==◌, nat_le, if◌then◌else◌, Option, Some, None, option_and_then, codes, string_bytes}
 use Rattle.std.specs.Borrow.{Bor}
-use Rattle.std.specs.Global.{Global}
 use Rattle.std.specs.Option.{option_map, option_map_or}
 use Rattle.std.specs.Str.{bytes_eq}
-use Rattle.clap.specs.Words.{Row, Text, all_of, fault_of, first_of, subcommand_of}
+use Rattle.clap.specs.Words.{Kinds, Row, Text, all_of, fault_of, first_of, subcommand_of}
 use Rattle.vr_base.specs.Kinds.{of_mode}
 use Rattle.vr_base.specs.declared.kind.Kind.{Kind}
 use Rattle.vr_base.specs.declared.mode.Mode.TheVariants.{Careful, Strict}
@@ -183,11 +182,18 @@ asked_at name rows =
     else (if bytes_eq name (codes "trial") then option_map Trial (trial_at rows)
     else None))))
 
+-- the faults that clap finds in the words
+unfoldable pub faults_in : List Text → Kinds
+faults_in words = fault_of the_command words
+
+-- the command that clap enters by them, by its name, with what it finds of its arguments
+unfoldable pub entered_by : List Text → Option (Text × List Row)
+entered_by words = subcommand_of the_command words
+
 -- clap finds no fault in the words
 abbrev pub is_taken : List Text → Bool
-is_taken words = length (fault_of the_command words) == 0
+is_taken words = length (faults_in words) == 0
 
 -- what the words ask for; None where they aren't one of the forms
 unfoldable pub asked : List Text → Option Asked
-asked words =
-    if is_taken words then option_and_then (λ p. asked_at p.0 p.1) (subcommand_of the_command words) else None
+asked words = if is_taken words then option_and_then (λ p. asked_at p.0 p.1) (entered_by words) else None

@@ -1,73 +1,95 @@
--- The forms of the command line, as clap takes them.
-use Rattle.std.specs.Prelude.{ℕ, List, [], ◌∷◌, Some, true, false, codes}
+-- The forms of the command line, as clap takes them. Each word is closed to the tactics: what makes a form opens it.
+use Rattle.std.specs.Prelude.{◌≡◌, List, [], ◌∷◌, Some, true, false, codes}
 use Rattle.clap.specs.Lexer.{usize_max}
-use Rattle.clap.specs.Words.{App, Rule, new_app, new_rule, with_rule, with_subcommand}
+use Rattle.clap.specs.Words.{App, Rule, Text, app_of, new_app, new_rule, rule_of, with_rule, with_subcommand}
 use Rattle.clap.specs.Simple.{on_top}
 use Rattle.clap.specs.declared.builder.action.ArgAction.TheVariants.{Append, SetTrue}
+use Rattle.clap.specs.declared.builder.arg.Arg.{Arg}
+use Rattle.clap.specs.declared.builder.command.Command.{Command}
+use Rattle.clap.specs.declared.builder.command.Command.TheViews.{out-Command as fields_of}
 
--- an argument that has to be there
-abbrev pub wanted : List ℕ → Rule
+-- the form of a command, and the rule of an argument
+unfoldable pub form_of : Command → App
+form_of c = app_of c
+
+unfoldable pub rule_in : Arg → Rule
+rule_in a = rule_of a
+
+-- no argument of the command is one of the commands below it too, nor is this one
+unfoldable pub IsLocal : Command → Type 0
+IsLocal c = (fields_of c).has_globals ≡ false
+
+unfoldable pub IsLocalArg : Arg → Type 0
+IsLocalArg a = a.global ≡ false
+
+-- the form with one argument more
+unfoldable pub taking : App → Rule → App
+taking a rule = with_rule a rule
+
+-- the form with one command below it more
+unfoldable pub above : App → App → App
+above a sub = with_subcommand a sub.top
+
+-- a required argument
+unfoldable pub wanted : Text → Rule
 wanted id = record (new_rule id) { required = true }
 
--- the addresses of the members
-abbrev pub addresses : Rule
-addresses = record (wanted (codes "addr")) {
+-- the addresses
+unfoldable pub addresses : Rule
+addresses = record (new_rule (codes "addr")) {
+  required = true;
   range = Some (record { start_inclusive = 1; end_inclusive = usize_max });
   action = Some Append;
 }
 
 -- a flag
-abbrev pub flag : List ℕ → Rule
+unfoldable pub flag : Text → Rule
 flag id = record (new_rule id) { long = Some id; action = Some SetTrue }
 
+-- the form with these required arguments more
+unfoldable pub wanting : App → List Text → App
+wanting a [] = a
+wanting a (id ∷ ids) = wanting (taking a (wanted id)) ids
+
 -- a command without help and version
-abbrev pub plain : List ℕ → App
+unfoldable pub plain : Text → App
 plain name = on_top (λ s. record s { disable_help_flag = true; disable_version_flag = true }) (new_app name)
 
+-- a command with these required arguments, and with addresses behind them
+unfoldable pub peered : Text → List Text → App
+peered name ids = taking (wanting (plain name) ids) addresses
+
 -- `replay`
-abbrev pub replay : App
+unfoldable pub replay : App
 replay = plain (codes "replay")
 
 -- `soak SEED COUNT`
-abbrev pub soak : App
-soak = with_rule (with_rule (plain (codes "soak")) (wanted (codes "seed"))) (wanted (codes "count"))
-
-abbrev pub member : App
-member = with_rule (with_rule (plain (codes "node")) (wanted (codes "cluster"))) (wanted (codes "replica"))
-
-abbrev pub turning : App
-turning = with_rule (with_rule member (wanted (codes "file"))) (wanted (codes "turns"))
-
-abbrev pub placed : App
-placed = with_rule turning addresses
+unfoldable pub soak : App
+soak = wanting (plain (codes "soak")) (codes "seed" ∷ codes "count" ∷ [])
 
 -- `node CLUSTER REPLICA FILE TURNS ADDR..` with `--fresh` or not, with `--careful` or not
-abbrev pub node : App
-node = with_rule (with_rule placed (flag (codes "fresh"))) (flag (codes "careful"))
-
-abbrev pub asker : App
-asker = with_rule (with_rule (plain (codes "client")) (wanted (codes "cluster"))) (wanted (codes "id"))
+unfoldable pub node : App
+node = taking (taking
+    (peered (codes "node") (codes "cluster" ∷ codes "replica" ∷ codes "file" ∷ codes "turns" ∷ []))
+    (flag (codes "fresh"))) (flag (codes "careful"))
 
 -- `client CLUSTER ID TURNS ADDR..`
-abbrev pub client : App
-client = with_rule (with_rule asker (wanted (codes "turns"))) addresses
-
-abbrev pub trier : App
-trier = with_rule (with_rule (plain (codes "trial")) (wanted (codes "cluster"))) (wanted (codes "turns"))
+unfoldable pub client : App
+client = peered (codes "client") (codes "cluster" ∷ codes "id" ∷ codes "turns" ∷ [])
 
 -- `trial CLUSTER TURNS FILES ADDR..`
-abbrev pub trial : App
-trial = with_rule (with_rule trier (wanted (codes "files"))) addresses
+unfoldable pub trial : App
+trial = peered (codes "trial") (codes "cluster" ∷ codes "turns" ∷ codes "files" ∷ [])
 
 -- the command line without its commands
-abbrev pub top : App
-top = on_top (λ s. record s { no_binary_name = true; disable_help_subcommand = true; subcommand_required = true }) (plain (codes "nozhgiva"))
+unfoldable pub top : App
+top = on_top (λ s. record s { no_binary_name = true; disable_help_subcommand = true; subcommand_required = true })
+    (plain (codes "nozhgiva"))
 
-abbrev pub running : App
-running = with_subcommand (with_subcommand top replay.top) soak.top
+-- the command line with the commands that run a group in one process
+unfoldable pub running : App
+running = above (above top replay) soak
 
-abbrev pub asking : App
-asking = with_subcommand (with_subcommand running node.top) client.top
-
-abbrev pub the_command : App
-the_command = with_subcommand asking trial.top
+-- the command line with all of its commands
+unfoldable pub the_command : App
+the_command = above (above (above running node) client) trial

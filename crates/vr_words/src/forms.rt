@@ -1,24 +1,25 @@
 //! The forms of the command line, as `clap` takes them.
-ghost use Rattle.std.specs.Prelude.{◌≡◌, IfOk, false};
-ghost use Rattle.clap.specs.Words.{app_of, rule_of, with_rule, with_subcommand};
-ghost use Rattle.clap.specs.declared.builder.command.Command.TheViews.{out-Command as fields_of};
-ghost use Rattle.vr_words.specs.Forms.{addresses, asker, asking, client, flag, member, node, placed, plain, running, soak, the_command, top, trial, trier, turning, wanted};
+ghost use Rattle.std.specs.Prelude.{◌≡◌, IfOk, IsOkAnd};
+ghost use Rattle.vr_words.specs.Asked.{texts_now};
+ghost use Rattle.vr_words.specs.Forms.{IsLocal, IsLocalArg, above, addresses, client, flag, form_of, node, peered, plain, replay, rule_in, running, soak, taking, the_command, top, trial, wanted, wanting};
 
 use clap::{Arg, ArgAction, Command};
 use std::alloc::{AllocError, Global};
 
 /// A required argument.
+#[tactic(auto, unfolding(crate::specs::Forms::rule_in, crate::specs::Forms::IsLocalArg, crate::specs::Forms::wanted))]
 fn wanted<'a>(alloc: Global, id: &'a str) -> Arg<'a>
-    ensures rule { rule_of result ≡ wanted id.entry.now }
-    ensures local { result.global ≡ false }
+    ensures rule { rule_in result ≡ wanted id.entry.now }
+    ensures local { IsLocalArg result }
 {
     Arg::new(alloc, id).required(true)
 }
 
 /// The addresses of the members.
+#[tactic(auto, unfolding(crate::specs::Forms::rule_in, crate::specs::Forms::IsLocalArg, crate::specs::Forms::wanted, crate::specs::Forms::addresses))]
 fn addresses<'a>(alloc: Global) -> Arg<'a>
-    ensures rule { rule_of result ≡ addresses }
-    ensures local { result.global ≡ false }
+    ensures rule { rule_in result ≡ addresses }
+    ensures local { IsLocalArg result }
 {
     wanted(alloc, "addr")
         .num_args(1..)
@@ -26,17 +27,19 @@ fn addresses<'a>(alloc: Global) -> Arg<'a>
 }
 
 /// A flag.
+#[tactic(auto, unfolding(crate::specs::Forms::rule_in, crate::specs::Forms::IsLocalArg, crate::specs::Forms::flag))]
 fn flag<'a>(alloc: Global, id: &'a str) -> Arg<'a>
-    ensures rule { rule_of result ≡ flag id.entry.now }
-    ensures local { result.global ≡ false }
+    ensures rule { rule_in result ≡ flag id.entry.now }
+    ensures local { IsLocalArg result }
 {
     Arg::new(alloc, id).long(id).action(ArgAction::SetTrue)
 }
 
 /// A command without help and version.
+#[tactic(auto, unfolding(crate::specs::Forms::form_of, crate::specs::Forms::IsLocal, crate::specs::Forms::plain))]
 fn plain<'a>(alloc: Global, name: &'a str) -> Command<'a>
-    ensures app { app_of result ≡ plain name.entry.now }
-    ensures local { (fields_of result).has_globals ≡ false }
+    ensures form { form_of result ≡ plain name.entry.now }
+    ensures local { IsLocal result }
 {
     Command::new(alloc, name)
         .disable_help_flag(true)
@@ -44,109 +47,109 @@ fn plain<'a>(alloc: Global, name: &'a str) -> Command<'a>
 }
 
 /// The command with one argument more.
+#[tactic(auto, unfolding(crate::specs::Forms::form_of, crate::specs::Forms::rule_in, crate::specs::Forms::IsLocal, crate::specs::Forms::IsLocalArg, crate::specs::Forms::taking))]
 fn with_arg<'a>(command: Command<'a>, arg: Arg<'a>) -> Result<Command<'a>, AllocError>
-    requires arg { arg.global ≡ false }
-    requires command { (fields_of command).has_globals ≡ false }
-    ensures app { IfOk result (λ c. app_of c ≡ with_rule (app_of command.entry) (rule_of arg.entry)) }
-    ensures local { IfOk result (λ c. (fields_of c).has_globals ≡ false) }
+    requires arg { IsLocalArg arg }
+    requires command { IsLocal command }
+    ensures form { IfOk result (λ c. form_of c ≡ taking (form_of command.entry) (rule_in arg.entry)) }
+    ensures local { IfOk result (λ c. IsLocal c) }
 {
     command.arg(arg)
 }
 
-/// The command with one command below it more.
-fn with_command<'a>(command: Command<'a>, sub: Command<'a>) -> Result<Command<'a>, AllocError>
-    requires sub { (fields_of sub).has_globals ≡ false }
-    requires command { (fields_of command).has_globals ≡ false }
-    ensures app { IfOk result (λ c. app_of c ≡ with_subcommand (app_of command.entry) ((app_of sub.entry).top)) }
-    ensures local { IfOk result (λ c. (fields_of c).has_globals ≡ false) }
+/// The command with one command below it more, where there is memory for that one.
+#[tactic(auto, unfolding(crate::specs::Forms::form_of, crate::specs::Forms::IsLocal, crate::specs::Forms::above))]
+fn with_command<'a>(
+    command: Command<'a>,
+    sub: Result<Command<'a>, AllocError>,
+) -> Result<Command<'a>, AllocError>
+    requires sub { IfOk sub (λ s. IsLocal s) }
+    requires command { IsLocal command }
+    ensures form { IfOk result (λ c. IsOkAnd sub.entry (λ s. form_of c ≡ above (form_of command.entry) (form_of s))) }
+    ensures local { IfOk result (λ c. IsLocal c) }
 {
-    command.subcommand(sub)
+    command.subcommand(sub?)
+}
+
+/// The command with these required arguments more.
+#[tactic(auto, using(std::proofs::lemmas::Grind::common_steps, crate::proofs::Forming::wanting_more, crate::proofs::Forming::wanting_all))]
+fn with_wanted<'a>(
+    alloc: Global,
+    command: Command<'a>,
+    ids: &[&'a str],
+) -> Result<Command<'a>, AllocError>
+    requires { IsLocal command }
+    ensures form { IfOk result (λ c. form_of c ≡ wanting (form_of command.entry) (texts_now ids.now)) }
+    ensures local { IfOk result (λ c. IsLocal c) }
+{
+    let mut command = command;
+    for id in ids {
+        command = with_arg(command, wanted(alloc, id))?;
+    }
+    Ok(command)
+}
+
+/// A command with these required arguments, and with addresses behind them.
+#[tactic(auto, unfolding(crate::specs::Forms::peered))]
+fn peered<'a>(alloc: Global, name: &'a str, ids: &[&'a str]) -> Result<Command<'a>, AllocError>
+    ensures form { IfOk result (λ c. form_of c ≡ peered name.entry.now (texts_now ids.now)) }
+    ensures local { IfOk result (λ c. IsLocal c) }
+{
+    let command = with_wanted(alloc, plain(alloc, name), ids)?;
+    with_arg(command, addresses(alloc))
+}
+
+/// `replay`.
+#[tactic(auto, unfolding(crate::specs::Forms::replay))]
+fn replay<'a>(alloc: Global) -> Command<'a>
+    ensures form { form_of result ≡ replay }
+    ensures local { IsLocal result }
+{
+    plain(alloc, "replay")
 }
 
 /// `soak SEED COUNT`.
 fn soak<'a>(alloc: Global) -> Result<Command<'a>, AllocError>
-    ensures app { IfOk result (λ c. app_of c ≡ soak) }
-    ensures local { IfOk result (λ c. (fields_of c).has_globals ≡ false) }
+    ensures form { IfOk result (λ c. form_of c ≡ soak) }
+    ensures local { IfOk result (λ c. IsLocal c) }
 {
-    let command = with_arg(plain(alloc, "soak"), wanted(alloc, "seed"))?;
-    with_arg(command, wanted(alloc, "count"))
-}
-
-/// Which member it is.
-fn member<'a>(alloc: Global) -> Result<Command<'a>, AllocError>
-    ensures app { IfOk result (λ c. app_of c ≡ member) }
-    ensures local { IfOk result (λ c. (fields_of c).has_globals ≡ false) }
-{
-    let command = with_arg(plain(alloc, "node"), wanted(alloc, "cluster"))?;
-    with_arg(command, wanted(alloc, "replica"))
-}
-
-/// Which member it is, with its file, and for how long.
-fn turning<'a>(alloc: Global) -> Result<Command<'a>, AllocError>
-    ensures app { IfOk result (λ c. app_of c ≡ turning) }
-    ensures local { IfOk result (λ c. (fields_of c).has_globals ≡ false) }
-{
-    let command = with_arg(member(alloc)?, wanted(alloc, "file"))?;
-    with_arg(command, wanted(alloc, "turns"))
-}
-
-/// Which member it is, with its file, for how long, and among whom.
-fn placed<'a>(alloc: Global) -> Result<Command<'a>, AllocError>
-    ensures app { IfOk result (λ c. app_of c ≡ placed) }
-    ensures local { IfOk result (λ c. (fields_of c).has_globals ≡ false) }
-{
-    with_arg(turning(alloc)?, addresses(alloc))
+    with_wanted(alloc, plain(alloc, "soak"), &["seed", "count"])
 }
 
 /// `node CLUSTER REPLICA FILE TURNS ADDR..` with `--fresh` or not, with `--careful` or not.
+#[tactic(auto, unfolding(crate::specs::Forms::node))]
 fn node<'a>(alloc: Global) -> Result<Command<'a>, AllocError>
-    ensures app { IfOk result (λ c. app_of c ≡ node) }
-    ensures local { IfOk result (λ c. (fields_of c).has_globals ≡ false) }
+    ensures form { IfOk result (λ c. form_of c ≡ node) }
+    ensures local { IfOk result (λ c. IsLocal c) }
 {
-    let command = with_arg(placed(alloc)?, flag(alloc, "fresh"))?;
+    let command = peered(alloc, "node", &["cluster", "replica", "file", "turns"])?;
+    let command = with_arg(command, flag(alloc, "fresh"))?;
     with_arg(command, flag(alloc, "careful"))
 }
 
-/// Which client it is.
-fn asker<'a>(alloc: Global) -> Result<Command<'a>, AllocError>
-    ensures app { IfOk result (λ c. app_of c ≡ asker) }
-    ensures local { IfOk result (λ c. (fields_of c).has_globals ≡ false) }
-{
-    let command = with_arg(plain(alloc, "client"), wanted(alloc, "cluster"))?;
-    with_arg(command, wanted(alloc, "id"))
-}
-
 /// `client CLUSTER ID TURNS ADDR..`.
+#[tactic(auto, unfolding(crate::specs::Forms::client))]
 fn client<'a>(alloc: Global) -> Result<Command<'a>, AllocError>
-    ensures app { IfOk result (λ c. app_of c ≡ client) }
-    ensures local { IfOk result (λ c. (fields_of c).has_globals ≡ false) }
+    ensures form { IfOk result (λ c. form_of c ≡ client) }
+    ensures local { IfOk result (λ c. IsLocal c) }
 {
-    let command = with_arg(asker(alloc)?, wanted(alloc, "turns"))?;
-    with_arg(command, addresses(alloc))
-}
-
-/// Which group is tried, and for how long.
-fn trier<'a>(alloc: Global) -> Result<Command<'a>, AllocError>
-    ensures app { IfOk result (λ c. app_of c ≡ trier) }
-    ensures local { IfOk result (λ c. (fields_of c).has_globals ≡ false) }
-{
-    let command = with_arg(plain(alloc, "trial"), wanted(alloc, "cluster"))?;
-    with_arg(command, wanted(alloc, "turns"))
+    peered(alloc, "client", &["cluster", "id", "turns"])
 }
 
 /// `trial CLUSTER TURNS FILES ADDR..`.
+#[tactic(auto, unfolding(crate::specs::Forms::trial))]
 fn trial<'a>(alloc: Global) -> Result<Command<'a>, AllocError>
-    ensures app { IfOk result (λ c. app_of c ≡ trial) }
-    ensures local { IfOk result (λ c. (fields_of c).has_globals ≡ false) }
+    ensures form { IfOk result (λ c. form_of c ≡ trial) }
+    ensures local { IfOk result (λ c. IsLocal c) }
 {
-    let command = with_arg(trier(alloc)?, wanted(alloc, "files"))?;
-    with_arg(command, addresses(alloc))
+    peered(alloc, "trial", &["cluster", "turns", "files"])
 }
 
 /// The command line without its commands.
+#[tactic(auto, unfolding(crate::specs::Forms::form_of, crate::specs::Forms::IsLocal, crate::specs::Forms::top))]
 fn top<'a>(alloc: Global) -> Command<'a>
-    ensures app { app_of result ≡ top }
-    ensures local { (fields_of result).has_globals ≡ false }
+    ensures form { form_of result ≡ top }
+    ensures local { IsLocal result }
 {
     plain(alloc, "nozhgiva")
         .no_binary_name(true)
@@ -156,25 +159,18 @@ fn top<'a>(alloc: Global) -> Command<'a>
 
 /// The command line with the commands that run a group in one process.
 fn running<'a>(alloc: Global) -> Result<Command<'a>, AllocError>
-    ensures app { IfOk result (λ c. app_of c ≡ running) }
-    ensures local { IfOk result (λ c. (fields_of c).has_globals ≡ false) }
+    ensures form { IfOk result (λ c. form_of c ≡ running) }
+    ensures local { IfOk result (λ c. IsLocal c) }
 {
-    let command = with_command(top(alloc), plain(alloc, "replay"))?;
-    with_command(command, soak(alloc)?)
-}
-
-/// The command line with the commands of a member and a client besides.
-fn asking<'a>(alloc: Global) -> Result<Command<'a>, AllocError>
-    ensures app { IfOk result (λ c. app_of c ≡ asking) }
-    ensures local { IfOk result (λ c. (fields_of c).has_globals ≡ false) }
-{
-    let command = with_command(running(alloc)?, node(alloc)?)?;
-    with_command(command, client(alloc)?)
+    let command = with_command(top(alloc), Ok(replay(alloc)))?;
+    with_command(command, soak(alloc))
 }
 
 /// The command line with all of its commands.
 pub fn command<'a>(alloc: Global) -> Result<Command<'a>, AllocError>
-    ensures { IfOk result (λ c. app_of c ≡ the_command) }
+    ensures { IfOk result (λ c. form_of c ≡ the_command) }
 {
-    with_command(asking(alloc)?, trial(alloc)?)
+    let command = with_command(running(alloc)?, node(alloc))?;
+    let command = with_command(command, client(alloc))?;
+    with_command(command, trial(alloc))
 }

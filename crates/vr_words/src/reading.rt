@@ -1,9 +1,8 @@
 //! The words of a command line.
 ghost use Rattle.std.specs.Prelude.{◌≡◌, ◌≢◌, IfOk, None, Some, map, option_and_then, string_bytes};
 ghost use Rattle.std.specs.Option.{option_map};
-ghost use Rattle.clap.specs.Words.{FailsBy, HasMatchesOf, fault_of, found_of, kind_of, rows_of, subcommand_rows_of};
-ghost use Rattle.vr_words.specs.Asked.{asked, asked_at, says};
-ghost use Rattle.vr_words.specs.Forms.{the_command};
+ghost use Rattle.clap.specs.Words.{FailsBy, found_of, kind_of, rows_of, subcommand_rows_of};
+ghost use Rattle.vr_words.specs.Asked.{asked, asked_at, entered_by, faults_in, says};
 
 use crate::asked::{client_at, node_at, soak_at, trial_at};
 use crate::forms::command;
@@ -13,10 +12,9 @@ use clap::{ArgMatches, Error};
 use std::alloc::{AllocError, Global};
 
 /// What the words say to `clap`.
-#[tactic(auto, using(crate::proofs::Found::fails_by))]
 fn matches_of<'a>(alloc: Global, words: &'a [String]) -> Result<ArgMatches<'a>, Error>
-    ensures fails { FailsBy (fault_of the_command (map string_bytes words.now)) result }
-    ensures matches { IfOk result (λ m. HasMatchesOf the_command (map string_bytes words.now) m) }
+    ensures fails { FailsBy (faults_in (map string_bytes words.now)) result }
+    ensures entered { IfOk result (λ m. subcommand_rows_of m ≡ entered_by (map string_bytes words.now)) }
 {
     command(alloc)?.try_get_matches_from(words)
 }
