@@ -34,6 +34,13 @@ fn digits(alloc: Global, word: &str) -> Result<Vec<u8>, AllocError> {
     }
 }
 
+/// So many bytes that are no message.
+fn noise(alloc: Global, count: usize) -> Result<Vec<u8>, AllocError> {
+    let mut bytes = Vec::new(alloc);
+    bytes.resize(count, 7)?;
+    Ok(bytes)
+}
+
 impl Outside {
     /// A disk of zeros; nothing comes, the clock stands at 0, and nothing fails.
     pub fn new(alloc: Global) -> Result<Outside, NoMemory> {
@@ -84,23 +91,31 @@ impl Outside {
         Ok(())
     }
 
-    /// Takes a line that says what a run finds: `quiet`, `arrive PORT HEX`, `noise PORT COUNT`, `piece PORT HEX`, `fail KIND CALL`, `clock NUMBER`,
-    /// `line TEXT`, `room COUNT`.
+    /// Takes a line that says which bytes come: `arrive PORT HEX`, `piece PORT HEX`, `noise PORT COUNT`.
+    fn come(
+        &mut self,
+        alloc: Global,
+        what: &str,
+        port: u32,
+        bytes: &str,
+    ) -> Result<(), AllocError> {
+        match what {
+            "arrive" => self.arrive(port, digits(alloc, bytes)?),
+            "piece" => self.piece(port, digits(alloc, bytes)?),
+            _ => self.arrive(port, noise(alloc, bytes.parse().unwrap_or(0))?),
+        }
+    }
+
+    /// Takes a line that says what a run finds: which bytes come, `quiet`, `fail KIND CALL`, `clock NUMBER`, `line TEXT`, `room COUNT`.
     pub fn set(&mut self, alloc: Global, what: &str, words: &str) -> Result<(), AllocError> {
         let (first, second) = words.split_once(' ').unwrap_or((words, ""));
         match what {
             "quiet" => self.script.arrivals.push(None)?,
-            "arrive" => self.arrive(first.parse().unwrap_or(0), digits(alloc, second)?)?,
-            "piece" => self.piece(first.parse().unwrap_or(0), digits(alloc, second)?)?,
-            "noise" => {
-                let mut bytes = Vec::new(alloc);
-                bytes.resize(second.parse().unwrap_or(0), 7)?;
-                self.arrive(first.parse().unwrap_or(0), bytes)?;
-            }
-            "fail" => self.fail(alloc, first, second.parse().unwrap_or(0))?,
-            "line" => self.line(words)?,
+            "fail" => return self.fail(alloc, first, second.parse().unwrap_or(0)),
+            "line" => return self.line(words),
             "clock" => self.numbers.push(first.parse().unwrap_or(0))?,
-            _ => self.room = first.parse().unwrap_or(0),
+            "room" => self.room = first.parse().unwrap_or(0),
+            _ => return self.come(alloc, what, first.parse().unwrap_or(0), second),
         }
         Ok(())
     }

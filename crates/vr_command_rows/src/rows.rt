@@ -5,7 +5,7 @@ use crate::outside::Outside;
 use crate::running::{tell, tell_over_streams, words_of};
 use std::alloc::{AllocError, Global};
 use vr_base::{ByteList, NoMemory, Seq};
-use vr_words::{WordsFault, parse};
+use vr_words::{Command, WordsFault, parse};
 
 /// Adds a line.
 fn put_line(line: &str, to: &mut ByteList) -> Result<(), AllocError> {
@@ -13,10 +13,16 @@ fn put_line(line: &str, to: &mut ByteList) -> Result<(), AllocError> {
     to.extend(b"\n")
 }
 
+/// Adds a command.
+fn put_command(alloc: Global, command: &Command, to: &mut ByteList) -> Result<(), AllocError> {
+    put_line(format!(in alloc; "  {command:?}")?.as_str(), to)
+}
+
 /// What a command line is read as.
 fn tell_words(alloc: Global, line: &str, to: &mut ByteList) -> Result<(), AllocError> {
-    match parse(alloc, words_of(alloc, line)?.as_slice()) {
-        Ok(command) => put_line(format!(in alloc; "  {command:?}")?.as_str(), to),
+    let words = words_of(alloc, line)?;
+    match parse(alloc, words.as_slice()) {
+        Ok(command) => put_command(alloc, &command, to),
         Err(WordsFault::Usage) => put_line("  usage", to),
         Err(WordsFault::NoMemory) => Err(AllocError),
     }
@@ -40,10 +46,23 @@ fn tell_line(
         }
         "streams" => {
             put_line(line, to)?;
-            tell_over_streams(alloc, words, outside, to)
+            tell_over_streams(alloc, words, outside, to)?;
+            to.extend(b"\n")
         }
         _ => outside.set(alloc, what, words),
     }
+}
+
+fn tell_lines(
+    alloc: Global,
+    lines: &str,
+    outside: &mut Outside,
+    to: &mut ByteList,
+) -> Result<(), AllocError> {
+    for line in lines.lines() {
+        tell_line(alloc, line, outside, to)?;
+    }
+    Ok(())
 }
 
 fn tell_row(alloc: Global, row: &str, to: &mut ByteList) -> Result<(), NoMemory> {
@@ -51,8 +70,12 @@ fn tell_row(alloc: Global, row: &str, to: &mut ByteList) -> Result<(), NoMemory>
     to.extend(b"== ")?;
     put_line(what, to)?;
     let mut outside = Outside::new(alloc)?;
-    for line in lines.lines() {
-        tell_line(alloc, line, &mut outside, to)?;
+    Ok(tell_lines(alloc, lines, &mut outside, to)?)
+}
+
+fn tell_rows(alloc: Global, text: &str, to: &mut ByteList) -> Result<(), NoMemory> {
+    for row in text.split("== ").skip(1) {
+        tell_row(alloc, row, to)?;
     }
     Ok(())
 }
@@ -60,11 +83,8 @@ fn tell_row(alloc: Global, row: &str, to: &mut ByteList) -> Result<(), NoMemory>
 /// What the rows come to.
 pub fn told(alloc: Global, text: &str) -> Result<ByteList, AllocError> {
     let mut told = Seq::new(alloc);
-    for row in text.split("== ").skip(1) {
-        match tell_row(alloc, row, &mut told) {
-            Ok(()) => {}
-            Err(NoMemory) => return Err(AllocError),
-        }
+    match tell_rows(alloc, text, &mut told) {
+        Ok(()) => Ok(told),
+        Err(NoMemory) => Err(AllocError),
     }
-    Ok(told)
 }

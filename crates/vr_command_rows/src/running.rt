@@ -8,14 +8,19 @@ use vr_spawn::{MemSpawner, SpawnCall, Start, Stop};
 use vr_status::{Status, status_line};
 use vr_top::run;
 
+/// Adds the words between single spaces.
+fn add_words(alloc: Global, line: &str, to: &mut Vec<String>) -> Result<(), AllocError> {
+    for word in line.split(' ') {
+        to.push(String::from_str(alloc, word)?)?;
+    }
+    Ok(())
+}
+
 /// The words between single spaces; an empty line has none.
 pub fn words_of(alloc: Global, line: &str) -> Result<Vec<String>, AllocError> {
     let mut words = Vec::new(alloc);
-    if line.is_empty() {
-        return Ok(words);
-    }
-    for word in line.split(' ') {
-        words.push(String::from_str(alloc, word)?)?;
+    if !line.is_empty() {
+        add_words(alloc, line, &mut words)?;
     }
     Ok(words)
 }
@@ -82,8 +87,47 @@ fn put_calls(alloc: Global, spawner: &MemSpawner, to: &mut ByteList) -> Result<(
     Ok(())
 }
 
+/// Runs. Each function that drops objects is expensive to prove, the more so the more often it can end early: so here each drops few, and ends
+/// early at most once while it has any.
+fn run_over<L: Link>(
+    alloc: Global,
+    words: &Vec<String>,
+    outside: &mut Outside,
+    link: &mut L,
+    spawner: &mut MemSpawner,
+    sink: &mut MemSink,
+) -> Status {
+    let mut source = outside.source(alloc);
+    let mut clock = outside.clock(alloc);
+    run(
+        alloc,
+        words,
+        &mut source,
+        sink,
+        &mut outside.disk,
+        link,
+        &mut clock,
+        spawner,
+    )
+}
+
 /// Runs, and tells how it ends and what it wrote.
 fn put_run<L: Link>(
+    alloc: Global,
+    words: &Vec<String>,
+    outside: &mut Outside,
+    link: &mut L,
+    spawner: &mut MemSpawner,
+    sink: &mut MemSink,
+    to: &mut ByteList,
+) -> Result<(), AllocError> {
+    let end = run_over(alloc, words, outside, link, spawner, sink);
+    put_lines(sink.bytes(), to)?;
+    put_end(alloc, &end, to)
+}
+
+/// The same with a command line, and with a sink that takes as much as was said.
+fn put_line_run<L: Link>(
     alloc: Global,
     line: &str,
     outside: &mut Outside,
@@ -92,21 +136,22 @@ fn put_run<L: Link>(
     to: &mut ByteList,
 ) -> Result<(), AllocError> {
     let words = words_of(alloc, line)?;
-    let mut source = outside.source(alloc);
     let mut sink = MemSink::new(alloc, outside.room, Vec::new(alloc))?;
-    let mut clock = outside.clock(alloc);
-    let end = run(
-        alloc,
-        &words,
-        &mut source,
-        &mut sink,
-        &mut outside.disk,
-        link,
-        &mut clock,
-        spawner,
-    );
-    put_lines(sink.bytes(), to)?;
-    put_end(alloc, &end, to)
+    put_run(alloc, &words, outside, link, spawner, &mut sink, to)
+}
+
+/// The same, and to which ports it sent, and what it had the spawner do.
+fn put_whole_run(
+    alloc: Global,
+    line: &str,
+    outside: &mut Outside,
+    link: &mut MemLink,
+    spawner: &mut MemSpawner,
+    to: &mut ByteList,
+) -> Result<(), AllocError> {
+    put_line_run(alloc, line, outside, link, spawner, to)?;
+    put_ports(alloc, link, to)?;
+    put_calls(alloc, spawner, to)
 }
 
 /// Runs a command line, and tells what it wrote, how it ended, to which ports it sent, and what it had the spawner do.
@@ -118,9 +163,7 @@ pub fn tell(
 ) -> Result<(), AllocError> {
     let mut link = outside.link(alloc)?;
     let mut spawner = outside.spawner(alloc);
-    put_run(alloc, line, outside, &mut link, &mut spawner, to)?;
-    put_ports(alloc, &link, to)?;
-    put_calls(alloc, &spawner, to)
+    put_whole_run(alloc, line, outside, &mut link, &mut spawner, to)
 }
 
 /// Runs a command line over streams, and tells what it wrote and how it ended.
@@ -132,6 +175,5 @@ pub fn tell_over_streams(
 ) -> Result<(), AllocError> {
     let mut link = outside.stream_link(alloc)?;
     let mut spawner = outside.spawner(alloc);
-    put_run(alloc, line, outside, &mut link, &mut spawner, to)?;
-    to.extend(b"\n")
+    put_line_run(alloc, line, outside, &mut link, &mut spawner, to)
 }
