@@ -2,6 +2,7 @@
 
 use crate::act::Act;
 use crate::bench::Bench;
+use crate::telling::put_number;
 use std::alloc::Global;
 use vr_base::{ByteList, NoMemory, Sum};
 use vr_ckpt::{DATA, Name, read_block, write_block};
@@ -19,8 +20,8 @@ fn write(alloc: Global, bench: &mut Bench) -> bool {
     }
 }
 
-/// Reads the block under an address, and its own name or another; whether its payload is in the buffer then.
-fn read(alloc: Global, bench: &mut Bench, act: Act<'_>, to: &mut ByteList) -> Result<(), NoMemory> {
+/// Reads the block under an address, and its own name or another; the size of its payload, `None` where it is faulty.
+fn read(bench: &mut Bench, act: Act<'_>) -> Option<usize> {
     let name = Name {
         address: act.first,
         sum: if act.other {
@@ -29,9 +30,22 @@ fn read(alloc: Global, bench: &mut Bench, act: Act<'_>, to: &mut ByteList) -> Re
             bench.block.sum
         },
     };
-    match read_block(&mut bench.disk, &name, &mut bench.buffer) {
-        Ok(count) => to.extend(format!(in alloc; "{count} bytes")?.as_bytes())?,
-        Err(_) => to.extend(b"faulty")?,
+    read_block(&mut bench.disk, &name, &mut bench.buffer).ok()
+}
+
+/// Tells what was read, and whether the payload is in the buffer.
+fn put_read(
+    alloc: Global,
+    bench: &Bench,
+    size: Option<usize>,
+    to: &mut ByteList,
+) -> Result<(), NoMemory> {
+    match size {
+        Some(count) => {
+            put_number(alloc, count as u64, to)?;
+            to.extend(b" bytes")?;
+        }
+        None => to.extend(b"faulty")?,
     }
     if bench.buffer.as_slice()[128..].starts_with(PAYLOAD) {
         to.extend(b", payload")?;
@@ -51,7 +65,10 @@ pub fn act(
             let is_ok = write(alloc, bench);
             to.extend(bench.went(is_ok).as_bytes())?;
         }
-        "read" => read(alloc, bench, act, to)?,
+        "read" => {
+            let size = read(bench, act);
+            put_read(alloc, bench, size, to)?;
+        }
         _ => return Ok(false),
     }
     Ok(true)

@@ -4,9 +4,10 @@ ghost use Rattle.vr_state.specs.StateTexts.{FitsPayloads};
 
 use crate::act::Act;
 use crate::bench::Bench;
+use crate::telling::put_number;
 use std::alloc::{AllocError, Global};
 use vr_base::{ByteList, NoMemory, Seq};
-use vr_ckpt::{CkptFault, Load, PayloadTable, SavedCheckpoint, load, save};
+use vr_ckpt::{CkptFault, Load, Name, Payload, PayloadTable, SavedCheckpoint, load, save};
 use vr_mem::MemDisk;
 use vr_state::Texts;
 
@@ -48,16 +49,51 @@ fn save_second(
     save(alloc, disk, 3, texts, 64, &old.table)
 }
 
-/// The addresses of a checkpoint's blocks, the root first.
-fn put_places(alloc: Global, done: &SavedCheckpoint, to: &mut ByteList) -> Result<(), AllocError> {
-    let root = done.root.address;
-    to.extend(format!(in alloc; "at {root}")?.as_bytes())?;
-    let payloads = done.table.sessions.as_slice().iter();
-    for payload in payloads.chain(done.table.keys.as_slice()) {
-        let address = payload.name.address;
-        to.extend(format!(in alloc; " {address}")?.as_bytes())?;
+/// Saves the checkpoint of a line.
+fn save_texts(
+    alloc: Global,
+    bench: &mut Bench,
+    act: Act<'_>,
+    texts: &Texts,
+) -> Result<SavedCheckpoint, CkptFault>
+    requires { FitsPayloads texts.now }
+{
+    match &bench.checkpoint {
+        Some((_, old)) if act.name == "second" => save_second(alloc, &mut bench.disk, texts, old),
+        _ => save_first(alloc, &mut bench.disk, texts),
+    }
+}
+
+/// Saves the checkpoint of a line, and keeps it. Whether it was saved.
+fn keep(alloc: Global, bench: &mut Bench, act: Act<'_>) -> Result<bool, NoMemory> {
+    let texts = texts(alloc, act.first.min(3968) as usize)?;
+    match save_texts(alloc, bench, act, &texts) {
+        Ok(done) => {
+            bench.checkpoint = Some((texts, done));
+            Ok(true)
+        }
+        Err(_) => Ok(false),
+    }
+}
+
+fn put_place(alloc: Global, name: &Name, to: &mut ByteList) -> Result<(), AllocError> {
+    to.extend(b" ")?;
+    put_number(alloc, name.address, to)
+}
+
+fn put_payloads(alloc: Global, payloads: &[Payload], to: &mut ByteList) -> Result<(), AllocError> {
+    for payload in payloads {
+        put_place(alloc, &payload.name, to)?;
     }
     Ok(())
+}
+
+/// The addresses of a checkpoint's blocks, the root first.
+fn put_places(alloc: Global, done: &SavedCheckpoint, to: &mut ByteList) -> Result<(), AllocError> {
+    to.extend(b"at")?;
+    put_place(alloc, &done.root, to)?;
+    put_payloads(alloc, done.table.sessions.as_slice(), to)?;
+    put_payloads(alloc, done.table.keys.as_slice(), to)
 }
 
 /// Saves a checkpoint, and tells its places.
@@ -67,21 +103,36 @@ fn put_saved(
     act: Act<'_>,
     to: &mut ByteList,
 ) -> Result<(), NoMemory> {
-    let texts = texts(alloc, act.first.min(3968) as usize)?;
-    let saved = match &bench.checkpoint {
-        Some((_, old)) if act.name == "second" => {
-            save_second(alloc, &mut bench.disk, &texts, old)
-        }
-        _ => save_first(alloc, &mut bench.disk, &texts),
-    };
-    match saved {
-        Ok(done) => {
-            put_places(alloc, &done, to)?;
-            bench.checkpoint = Some((texts, done));
-        }
-        Err(_) => to.extend(bench.went(false).as_bytes())?,
+    let is_saved = keep(alloc, bench, act)?;
+    match &bench.checkpoint {
+        Some((_, done)) if is_saved => Ok(put_places(alloc, done, to)?),
+        _ => Ok(to.extend(bench.went(false).as_bytes())?),
+    }
+}
+
+fn put_missing(alloc: Global, names: &[Name], to: &mut ByteList) -> Result<(), AllocError> {
+    to.extend(b"missing")?;
+    for name in names {
+        put_place(alloc, name, to)?;
     }
     Ok(())
+}
+
+/// What was loaded, beside what was saved.
+fn put_load(
+    alloc: Global,
+    load: &Load,
+    texts: &Texts,
+    table: &PayloadTable,
+    to: &mut ByteList,
+) -> Result<(), AllocError> {
+    match load {
+        Load::Loaded(others, blocks) if *others == *texts && *blocks == *table => {
+            to.extend(b"loaded")
+        }
+        Load::Loaded(_, _) => to.extend(b"not so"),
+        Load::Missing(names) => put_missing(alloc, names.as_slice(), to),
+    }
 }
 
 /// What the checkpoint that was saved last loads as.
@@ -89,21 +140,8 @@ fn put_loaded(alloc: Global, bench: &mut Bench, to: &mut ByteList) -> Result<(),
     let Some((texts, done)) = &bench.checkpoint else {
         return Ok(());
     };
-    match load(alloc, &mut bench.disk, &done.root)? {
-        Load::Loaded(others, blocks) => {
-            let is_same = others == *texts && blocks == done.table;
-            let told = if is_same { "loaded" } else { "not so" };
-            to.extend(told.as_bytes())?;
-        }
-        Load::Missing(names) => {
-            to.extend(b"missing")?;
-            for name in names.as_slice() {
-                let address = name.address;
-                to.extend(format!(in alloc; " {address}")?.as_bytes())?;
-            }
-        }
-    }
-    Ok(())
+    let load = load(alloc, &mut bench.disk, &done.root)?;
+    Ok(put_load(alloc, &load, texts, &done.table, to)?)
 }
 
 /// Does what a line says of checkpoints, and tells of it. Whether it says something of that.

@@ -5,10 +5,11 @@ ghost use Rattle.vr_lie.specs.Faults.{IsFault};
 use crate::act::Act;
 use crate::slots::entry;
 use crate::superblocks::value;
+use crate::telling::{put_number, put_told};
 use std::alloc::Global;
 use vr_base::{ByteList, NoMemory};
 use vr_disk::{Sector, SectorDisk};
-use vr_header::{Command, Header};
+use vr_header::{Command, Entry, Header};
 use vr_lie::{Fault, Faulted, LieDisk};
 use vr_rings::{write_header, write_new};
 use vr_super::write;
@@ -22,13 +23,23 @@ fn reserved() -> Header {
     }
 }
 
+/// A superblock of four good copies.
+fn save(alloc: Global, disk: &mut LieDisk) -> Result<bool, NoMemory> {
+    let value = value(alloc, 1, None)?;
+    Ok(write(disk, &value, &value).is_ok())
+}
+
+/// An entry in slot 1.
+fn store(disk: &mut LieDisk, entry: &Entry) -> bool {
+    write_new(disk, entry).is_ok()
+}
+
 /// A superblock of four good copies, and an entry in slot 1.
 fn write_member(alloc: Global, disk: &mut LieDisk) -> Result<&'static str, NoMemory> {
-    let value = value(alloc, 1, None)?;
-    let saved = write(disk, &value, &value).is_ok();
+    let is_saved = save(alloc, disk)?;
     let is_marked = write_header(disk, &reserved()).is_ok();
-    let is_stored = write_new(disk, &entry(1)).is_ok();
-    Ok(if saved && is_marked && is_stored {
+    let is_stored = store(disk, &entry(1));
+    Ok(if is_saved && is_marked && is_stored {
         "written"
     } else {
         "failed"
@@ -52,10 +63,7 @@ fn read(alloc: Global, disk: &mut LieDisk, i: u32, to: &mut ByteList) -> Result<
 {
     let mut sector = Sector { bytes: [0; 512] };
     match disk.read(i, &mut sector) {
-        Ok(()) => {
-            let byte = sector.bytes[0];
-            Ok(to.extend(format!(in alloc; "{byte}")?.as_bytes())?)
-        }
+        Ok(()) => Ok(put_number(alloc, u64::from(sector.bytes[0]), to)?),
         Err(_) => Ok(to.extend(b"unread")?),
     }
 }
@@ -81,8 +89,8 @@ fn fault(disk: &mut LieDisk, fault: &Fault) -> &'static str
 }
 
 /// Writes the header sector of slot 1 anew.
-fn mend(disk: &mut LieDisk) -> &'static str {
-    match write_header(disk, &entry(1).header()) {
+fn mend(disk: &mut LieDisk, header: &Header) -> &'static str {
+    match write_header(disk, header) {
         Ok(()) => "written",
         Err(_) => "failed",
     }
@@ -93,7 +101,7 @@ fn done(alloc: Global, disk: &mut LieDisk, act: Act<'_>) -> Result<Option<&'stat
     let sector = act.sector();
     match act.name {
         "member" => Ok(Some(write_member(alloc, disk)?)),
-        "mend" => Ok(Some(mend(disk))),
+        "mend" => Ok(Some(mend(disk, &entry(1).header()))),
         "put" => Ok(Some(put_sector(disk, sector, act.second.min(255) as u8))),
         "damage" => Ok(Some(fault(disk, &Fault::Damage(sector)))),
         "stale" => Ok(Some(fault(disk, &Fault::Stale(sector)))),
@@ -114,11 +122,5 @@ pub fn act(
         read(alloc, disk, act.sector(), to)?;
         return Ok(true);
     }
-    match done(alloc, disk, act)? {
-        Some(told) => {
-            to.extend(told.as_bytes())?;
-            Ok(true)
-        }
-        None => Ok(false),
-    }
+    put_told(done(alloc, disk, act)?, to)
 }

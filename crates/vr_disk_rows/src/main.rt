@@ -10,6 +10,7 @@ mod lying;
 mod rows;
 mod slots;
 mod superblocks;
+mod telling;
 
 use std::io;
 use std::io::Write;

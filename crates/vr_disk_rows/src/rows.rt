@@ -8,24 +8,23 @@ use std::alloc::{AllocError, Global};
 use vr_base::{ByteList, NoMemory, Seq};
 use vr_lie::LieDisk;
 
-/// What a line comes to.
-fn told_of(
+/// Does what a line says, and tells what it comes to.
+fn act(
     alloc: Global,
     bench: &mut Bench,
     disk: &mut LieDisk,
-    line: &str,
-) -> Result<ByteList, NoMemory> {
-    let mut told = Seq::new(alloc);
-    let act = Act::of(line);
-    let is_known = superblocks::act(alloc, bench, act, &mut told)?
-        || slots::act(alloc, bench, act, &mut told)?
-        || blocks::act(alloc, bench, act, &mut told)?
-        || checkpoints::act(alloc, bench, act, &mut told)?
-        || lying::act(alloc, disk, act, &mut told)?;
+    act: Act<'_>,
+    to: &mut ByteList,
+) -> Result<(), NoMemory> {
+    let is_known = superblocks::act(alloc, bench, act, to)?
+        || slots::act(alloc, bench, act, to)?
+        || blocks::act(alloc, bench, act, to)?
+        || checkpoints::act(alloc, bench, act, to)?
+        || lying::act(alloc, disk, act, to)?;
     if !is_known {
-        told.extend(bench.touch(alloc, act)?.as_bytes())?;
+        to.extend(bench.touch(alloc, act)?.as_bytes())?;
     }
-    Ok(told)
+    Ok(())
 }
 
 fn tell_line(line: &str, told: &[u8], to: &mut ByteList) -> Result<(), NoMemory> {
@@ -37,17 +36,43 @@ fn tell_line(line: &str, told: &[u8], to: &mut ByteList) -> Result<(), NoMemory>
     Ok(to.extend(b"\n")?)
 }
 
+fn tell_act(
+    alloc: Global,
+    bench: &mut Bench,
+    disk: &mut LieDisk,
+    line: &str,
+    to: &mut ByteList,
+) -> Result<(), NoMemory> {
+    let mut told = Seq::new(alloc);
+    act(alloc, bench, disk, Act::of(line), &mut told)?;
+    tell_line(line, told.as_slice(), to)
+}
+
+fn tell_acts(
+    alloc: Global,
+    bench: &mut Bench,
+    disk: &mut LieDisk,
+    lines: &str,
+    to: &mut ByteList,
+) -> Result<(), NoMemory> {
+    for line in lines.lines() {
+        tell_act(alloc, bench, disk, line, to)?;
+    }
+    Ok(())
+}
+
+/// Tells the lines of a row, on disks of zeros.
+fn tell_begun(alloc: Global, lines: &str, to: &mut ByteList) -> Result<(), NoMemory> {
+    let mut bench = Bench::new(alloc)?;
+    let mut disk = LieDisk::new(alloc)?;
+    tell_acts(alloc, &mut bench, &mut disk, lines, to)
+}
+
 fn tell_row(alloc: Global, row: &str, to: &mut ByteList) -> Result<(), NoMemory> {
     let (what, lines) = row.split_once('\n').unwrap_or((row, ""));
     to.extend(b"== ")?;
     tell_line(what, b"", to)?;
-    let mut bench = Bench::new(alloc)?;
-    let mut disk = LieDisk::new(alloc)?;
-    for line in lines.lines() {
-        let told = told_of(alloc, &mut bench, &mut disk, line)?;
-        tell_line(line, told.as_slice(), to)?;
-    }
-    Ok(())
+    tell_begun(alloc, lines, to)
 }
 
 /// What the rows come to.

@@ -3,9 +3,11 @@ ghost use Rattle.std.specs.Prelude.{◌≤◌, ◌^◌};
 
 use crate::act::Act;
 use crate::bench::Bench;
+use crate::telling::{put_number, put_told};
 use std::alloc::{AllocError, Global};
 use vr_base::{ByteList, NoMemory};
 use vr_header::{Entry, Header, Operation};
+use vr_mem::MemDisk;
 use vr_rings::{read_header, read_prepare, read_whole, write_again, write_header, write_new};
 
 /// The entry of an op of group 2: client 7 registers.
@@ -20,7 +22,7 @@ pub fn entry(op: u64) -> Entry
 /// Adds a number, `-` where there is none.
 fn put_op(alloc: Global, op: Option<u64>, to: &mut ByteList) -> Result<(), AllocError> {
     match op {
-        Some(op) => to.extend(format!(in alloc; "{op}")?.as_bytes()),
+        Some(op) => put_number(alloc, op, to),
         None => to.extend(b"-"),
     }
 }
@@ -46,6 +48,25 @@ fn reads(bench: &mut Bench, header: &Header) -> &'static str {
     }
 }
 
+/// Writes the entry as a line says; whether that went well, `None` where the line says no write.
+fn write(disk: &mut MemDisk, name: &str, entry: &Entry) -> Option<bool> {
+    match name {
+        "new" => Some(write_new(disk, entry).is_ok()),
+        "again" => Some(write_again(disk, entry).is_ok()),
+        "header" => Some(write_header(disk, &entry.header()).is_ok()),
+        _ => None,
+    }
+}
+
+/// What is told of the entry, `None` where a line says nothing of it.
+fn told(bench: &mut Bench, act: Act<'_>, entry: &Entry) -> Option<&'static str> {
+    if act.name == "prepare" {
+        return Some(reads(bench, &entry.header()));
+    }
+    let is_ok = write(&mut bench.disk, act.name, entry)?;
+    Some(bench.went(is_ok))
+}
+
 /// Does what a line says of the slot, and tells of it. Whether it says something of that.
 pub fn act(
     alloc: Global,
@@ -53,21 +74,9 @@ pub fn act(
     act: Act<'_>,
     to: &mut ByteList,
 ) -> Result<bool, NoMemory> {
-    let entry = entry(act.op());
-    let is_ok = match act.name {
-        "new" => write_new(&mut bench.disk, &entry).is_ok(),
-        "again" => write_again(&mut bench.disk, &entry).is_ok(),
-        "header" => write_header(&mut bench.disk, &entry.header()).is_ok(),
-        "slot" => {
-            put_slot(alloc, bench, to)?;
-            return Ok(true);
-        }
-        "prepare" => {
-            to.extend(reads(bench, &entry.header()).as_bytes())?;
-            return Ok(true);
-        }
-        _ => return Ok(false),
-    };
-    to.extend(bench.went(is_ok).as_bytes())?;
-    Ok(true)
+    if act.name == "slot" {
+        put_slot(alloc, bench, to)?;
+        return Ok(true);
+    }
+    put_told(told(bench, act, &entry(act.op())), to)
 }

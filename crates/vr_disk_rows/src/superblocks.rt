@@ -3,10 +3,11 @@ ghost use Rattle.vr_super.specs.Copies.{IsGood};
 
 use crate::act::Act;
 use crate::bench::Bench;
+use crate::telling::put_number;
 use std::alloc::Global;
 use vr_base::{ByteList, Mode, NoMemory, Seq, Sum};
 use vr_header::{Command, Header, HeaderList, Size};
-use vr_super::{Fields, Super, SuperFault, opens, recover, write};
+use vr_super::{Fields, Found, Super, SuperFault, opens, recover, write};
 
 fn made(
     alloc: Global,
@@ -70,30 +71,42 @@ fn save(alloc: Global, bench: &mut Bench, sequence: u64) -> Result<&'static str,
     Ok(bench.went(written.is_ok()))
 }
 
+fn put_sequence(alloc: Global, value: &Super, to: &mut ByteList) -> Result<(), NoMemory> {
+    to.extend(b"sequence ")?;
+    Ok(put_number(alloc, value.fields().sequence, to)?)
+}
+
+/// Why there is no value; want of memory is told to nobody.
+fn put_fault(alloc: Global, fault: SuperFault, to: &mut ByteList) -> Result<(), NoMemory> {
+    match fault {
+        SuperFault::NoMemory => Err(NoMemory),
+        fault => Ok(to.extend(format!(in alloc; "{fault:?}")?.as_bytes())?),
+    }
+}
+
 /// The value that is recovered, or why there is none.
 fn put_recovered(alloc: Global, bench: &mut Bench, to: &mut ByteList) -> Result<(), NoMemory> {
-    let text = match recover(alloc, &mut bench.disk) {
-        Ok(value) => {
-            let sequence = value.fields().sequence;
-            format!(in alloc; "sequence {sequence}")?
-        }
-        Err(SuperFault::NoMemory) => return Err(NoMemory),
-        Err(fault) => format!(in alloc; "{fault:?}")?,
-    };
+    match recover(alloc, &mut bench.disk) {
+        Ok(value) => put_sequence(alloc, &value, to),
+        Err(fault) => put_fault(alloc, fault, to),
+    }
+}
+
+fn put_found(alloc: Global, found: &Found, to: &mut ByteList) -> Result<(), NoMemory> {
+    let text = format!(in alloc;
+        "copy {copy} sequence {sequence} view {view}",
+        copy = found.copy,
+        sequence = found.sequence,
+        view = found.view
+    )?;
     Ok(to.extend(text.as_bytes())?)
 }
 
 fn put_opened(alloc: Global, bench: &mut Bench, to: &mut ByteList) -> Result<(), NoMemory> {
-    let text = match opens(&mut bench.disk) {
-        Some(found) => format!(in alloc;
-            "copy {copy} sequence {sequence} view {view}",
-            copy = found.copy,
-            sequence = found.sequence,
-            view = found.view
-        )?,
-        None => String::from_str(alloc, "none")?,
-    };
-    Ok(to.extend(text.as_bytes())?)
+    match opens(&mut bench.disk) {
+        Some(found) => put_found(alloc, &found, to),
+        None => Ok(to.extend(b"none")?),
+    }
 }
 
 /// Does what a line says of the superblock, and tells of it. Whether it says something of that.
