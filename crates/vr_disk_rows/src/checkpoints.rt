@@ -135,13 +135,24 @@ fn put_load(
     }
 }
 
-/// What the checkpoint that was saved last loads as.
-fn put_loaded(alloc: Global, bench: &mut Bench, to: &mut ByteList) -> Result<(), NoMemory> {
-    let Some((texts, done)) = &bench.checkpoint else {
-        return Ok(());
-    };
-    let load = load(alloc, &mut bench.disk, &done.root)?;
+/// What a checkpoint that was saved loads as.
+fn put_loaded(
+    alloc: Global,
+    disk: &mut MemDisk,
+    texts: &Texts,
+    done: &SavedCheckpoint,
+    to: &mut ByteList,
+) -> Result<(), NoMemory> {
+    let load = load(alloc, disk, &done.root)?;
     Ok(put_load(alloc, &load, texts, &done.table, to)?)
+}
+
+/// The same of the one that was saved last.
+fn put_last(alloc: Global, bench: &mut Bench, to: &mut ByteList) -> Result<(), NoMemory> {
+    match &bench.checkpoint {
+        Some((texts, done)) => put_loaded(alloc, &mut bench.disk, texts, done, to),
+        None => Ok(()),
+    }
 }
 
 /// Does what a line says of checkpoints, and tells of it. Whether it says something of that.
@@ -153,7 +164,7 @@ pub fn act(
 ) -> Result<bool, NoMemory> {
     match act.name {
         "first" | "second" => put_saved(alloc, bench, act, to)?,
-        "load" => put_loaded(alloc, bench, to)?,
+        "load" => put_last(alloc, bench, to)?,
         _ => return Ok(false),
     }
     Ok(true)

@@ -9,7 +9,7 @@ use crate::telling::{put_number, put_told};
 use std::alloc::Global;
 use vr_base::{ByteList, NoMemory};
 use vr_disk::{Sector, SectorDisk};
-use vr_header::{Command, Entry, Header};
+use vr_header::{Command, Header};
 use vr_lie::{Fault, Faulted, LieDisk};
 use vr_rings::{write_header, write_new};
 use vr_super::write;
@@ -30,15 +30,20 @@ fn save(alloc: Global, disk: &mut LieDisk) -> Result<bool, NoMemory> {
 }
 
 /// An entry in slot 1.
-fn store(disk: &mut LieDisk, entry: &Entry) -> bool {
-    write_new(disk, entry).is_ok()
+fn store(disk: &mut LieDisk) -> bool {
+    write_new(disk, &entry(1)).is_ok()
+}
+
+/// The header of that entry.
+fn stored() -> Header {
+    entry(1).header()
 }
 
 /// A superblock of four good copies, and an entry in slot 1.
 fn write_member(alloc: Global, disk: &mut LieDisk) -> Result<&'static str, NoMemory> {
     let is_saved = save(alloc, disk)?;
     let is_marked = write_header(disk, &reserved()).is_ok();
-    let is_stored = store(disk, &entry(1));
+    let is_stored = store(disk);
     Ok(if is_saved && is_marked && is_stored {
         "written"
     } else {
@@ -89,25 +94,32 @@ fn fault(disk: &mut LieDisk, fault: &Fault) -> &'static str
 }
 
 /// Writes the header sector of slot 1 anew.
-fn mend(disk: &mut LieDisk, header: &Header) -> &'static str {
-    match write_header(disk, header) {
+fn mend(disk: &mut LieDisk) -> &'static str {
+    match write_header(disk, &stored()) {
         Ok(()) => "written",
         Err(_) => "failed",
     }
 }
 
-/// Does what a line says of a disk that lies; what is told of it, or `None` where it says nothing of that.
-fn done(alloc: Global, disk: &mut LieDisk, act: Act<'_>) -> Result<Option<&'static str>, NoMemory> {
+/// Does the fault that a line says; what is told of it, or `None` where it says none.
+fn faulted(disk: &mut LieDisk, act: Act<'_>) -> Option<&'static str> {
     let sector = act.sector();
     match act.name {
+        "damage" => Some(fault(disk, &Fault::Damage(sector))),
+        "stale" => Some(fault(disk, &Fault::Stale(sector))),
+        "unread" => Some(fault(disk, &Fault::Unread(sector))),
+        "misdirect" => Some(misdirect(disk, sector, act.second_sector())),
+        _ => None,
+    }
+}
+
+/// Does what a line says of a disk that lies; what is told of it, or `None` where it says nothing of that.
+fn done(alloc: Global, disk: &mut LieDisk, act: Act<'_>) -> Result<Option<&'static str>, NoMemory> {
+    match act.name {
         "member" => Ok(Some(write_member(alloc, disk)?)),
-        "mend" => Ok(Some(mend(disk, &entry(1).header()))),
-        "put" => Ok(Some(put_sector(disk, sector, act.second.min(255) as u8))),
-        "damage" => Ok(Some(fault(disk, &Fault::Damage(sector)))),
-        "stale" => Ok(Some(fault(disk, &Fault::Stale(sector)))),
-        "unread" => Ok(Some(fault(disk, &Fault::Unread(sector)))),
-        "misdirect" => Ok(Some(misdirect(disk, sector, act.second_sector()))),
-        _ => Ok(None),
+        "mend" => Ok(Some(mend(disk))),
+        "put" => Ok(Some(put_sector(disk, act.sector(), act.second.min(255) as u8))),
+        _ => Ok(faulted(disk, act)),
     }
 }
 
