@@ -144,7 +144,9 @@ fn put_loaded(
     to: &mut ByteList,
 ) -> Result<(), NoMemory> {
     let load = load(alloc, disk, &done.root)?;
-    Ok(put_load(alloc, &load, texts, &done.table, to)?)
+    let told = put_load(alloc, &load, texts, &done.table, to);
+    drop(load);
+    Ok(told?)
 }
 
 /// The same of the one that was saved last.

@@ -26,17 +26,25 @@ fn reserved() -> Header {
 /// A superblock of four good copies.
 fn save(alloc: Global, disk: &mut LieDisk) -> Result<bool, NoMemory> {
     let value = value(alloc, 1, None)?;
-    Ok(write(disk, &value, &value).is_ok())
+    let is_ok = write(disk, &value, &value).is_ok();
+    drop(value);
+    Ok(is_ok)
 }
 
 /// An entry in slot 1.
 fn store(disk: &mut LieDisk) -> bool {
-    write_new(disk, &entry(1)).is_ok()
+    let entry = entry(1);
+    let is_ok = write_new(disk, &entry).is_ok();
+    drop(entry);
+    is_ok
 }
 
 /// The header of that entry.
 fn stored() -> Header {
-    entry(1).header()
+    let entry = entry(1);
+    let header = entry.header();
+    drop(entry);
+    header
 }
 
 /// A superblock of four good copies, and an entry in slot 1.

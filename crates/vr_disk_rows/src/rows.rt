@@ -61,11 +61,25 @@ fn tell_acts(
     Ok(())
 }
 
+/// Tells the lines of a row, on a lying disk of zeros beside the bench.
+fn tell_beside(
+    alloc: Global,
+    bench: &mut Bench,
+    lines: &str,
+    to: &mut ByteList,
+) -> Result<(), NoMemory> {
+    let mut disk = LieDisk::new(alloc)?;
+    let told = tell_acts(alloc, bench, &mut disk, lines, to);
+    drop(disk);
+    told
+}
+
 /// Tells the lines of a row, on disks of zeros.
 fn tell_begun(alloc: Global, lines: &str, to: &mut ByteList) -> Result<(), NoMemory> {
     let mut bench = Bench::new(alloc)?;
-    let mut disk = LieDisk::new(alloc)?;
-    tell_acts(alloc, &mut bench, &mut disk, lines, to)
+    let told = tell_beside(alloc, &mut bench, lines, to);
+    drop(bench);
+    told
 }
 
 fn tell_row(alloc: Global, row: &str, to: &mut ByteList) -> Result<(), NoMemory> {
