@@ -78,5 +78,8 @@ pub fn act(
         put_slot(alloc, bench, to)?;
         return Ok(true);
     }
-    put_told(told(bench, act, &entry(act.op())), to)
+    let entry = entry(act.op());
+    let told = told(bench, act, &entry);
+    drop(entry);
+    put_told(told, to)
 }
