@@ -1,5 +1,6 @@
 pub mod Causes
 pub mod Events
 pub mod Laws
+pub mod Outgoing
 pub mod Outputs
 pub mod Runs

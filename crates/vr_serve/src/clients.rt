@@ -10,7 +10,7 @@ use vr_msg::Event;
 const MOST: usize = 64;
 
 /// A client, and the port of its latest request.
-#[derive(Clone, Copy, Debug, PartialEq, Eq)]
+#[derive(Clone, Copy)]
 pub struct Client {
     pub id: u64,
     pub port: u32,

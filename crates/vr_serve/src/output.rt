@@ -1,6 +1,7 @@
 //! What an event puts out: its text, and the datagrams behind it.
 ghost use Rattle.std.specs.Prelude.{◌≡◌, ◌++◌, OnOk, OnErr};
 ghost use Rattle.vr_mail.specs.Sends.{Sends};
+ghost use Rattle.vr_serve.specs.Outgoing.{datagram_of};
 ghost use Rattle.vr_serve.specs.Outputs.{datagram_for, datagrams_for, number_after, numbers_after, reply_for, text_from};
 ghost use Rattle.vr_serve.specs.Runs.{SendsFront};
 
@@ -35,22 +36,43 @@ pub fn put_text(number: &mut u64, outputs: &[Output], text: &mut ByteList) -> Re
     Ok(())
 }
 
-/// Sends a reply to the port of its client, if it has one.
-fn send_reply<L: Link>(
-    link: &mut L,
-    clients: &[Client],
-    reply: Reply,
-    bytes: &mut Vec<u8>,
-) -> Result<(), AllocError>
-    ensures sent { OnOk result (Sends (reply_for clients.now reply) (L.sent link.old) (L.sent link.new)) }
-    ensures unsent { OnErr result (L.sent link.new ≡ L.sent link.old) }
-    ensures received { L.received link.new ≡ L.received link.old }
-    ensures faults { L.faults link.new ≡ L.faults link.old }
-    ensures attached { L.attached link.new ≡ L.attached link.old }
+/// A message, and the port that it goes to.
+#[derive(Drop)]
+pub struct Outgoing {
+    pub port: u32,
+    pub message: Message,
+}
+
+/// A reply goes to the port of its client, if it has one.
+fn address_reply(clients: &[Client], reply: Reply) -> Option<Outgoing>
+    ensures { datagram_of result ≡ reply_for clients.now reply }
 {
     match port_of(clients, reply.fields().client) {
-        Some(port) => send_message(link, port, &Message::reply(reply), bytes),
-        None => Ok(()),
+        Some(port) => Some(Outgoing {
+            port,
+            message: Message::reply(reply),
+        }),
+        None => {
+            drop(reply);
+            None
+        }
+    }
+}
+
+/// What goes out of an output.
+fn address(clients: &[Client], output: Output) -> Option<Outgoing>
+    ensures { datagram_of result ≡ datagram_for clients.now output }
+{
+    match output {
+        Output::Send(sent) => Some(Outgoing {
+            port: u32::from(sent.to),
+            message: sent.message,
+        }),
+        Output::Reply(reply) => address_reply(clients, reply),
+        other => {
+            drop(other);
+            None
+        }
     }
 }
 
@@ -67,11 +89,13 @@ fn send_output<L: Link>(
     ensures faults { L.faults link.new ≡ L.faults link.old }
     ensures attached { L.attached link.new ≡ L.attached link.old }
 {
-    match output {
-        Output::Send(sent) => send_message(link, u32::from(sent.to), &sent.message, bytes),
-        Output::Reply(reply) => send_reply(link, clients, reply, bytes),
-        _ => Ok(()),
-    }
+    let out = address(clients, output);
+    let sent = match &out {
+        Some(out) => send_message(link, out.port, &out.message, bytes),
+        None => Ok(()),
+    };
+    drop(out);
+    sent
 }
 
 /// The same for each output, in order.

@@ -16,7 +16,7 @@ use vr_edge::{Link, RECEIVE_ROOM, Sink, write_whole};
 use vr_msg::Outbox;
 
 /// What the loop keeps of a run, and its rooms.
-#[derive(Debug, Drop)]
+#[derive(Drop)]
 pub struct Post {
     /// The number of the next message.
     pub number: u64,

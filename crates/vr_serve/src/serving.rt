@@ -48,7 +48,9 @@ fn arrive<M: Member, D: SectorDisk, K: Sink, L: Link>(
     match receive_letter(alloc, link, cluster, &mut post.to) {
         Ok(Some(letter)) => {
             let event = event_of(letter.message);
-            handle(alloc, member, disk, sink, link, post, letter.port, &event)
+            let handled = handle(alloc, member, disk, sink, link, post, letter.port, &event);
+            drop(event);
+            handled
         }
         Ok(None) => Ok(()),
         Err(fault) => Err(received_stop(fault)),
