@@ -15,13 +15,19 @@ use vr_disk::{DiskFailed, SECTOR_SIZE, SECTORS, Sector, SectorDisk};
 /// The bytes of the file.
 const FILE_SIZE: u64 = SECTORS as u64 * SECTOR_SIZE as u64;
 
-/// For how many milliseconds reads may come from the system's copies of the file, until it is to forget them.
+/// For how many milliseconds reads may come from the system's copies of the file, until it is to read them anew.
 const KEPT_MILLIS: u64 = 60_000;
+
+/// How many bytes the system is asked at once to read: what it usually reads ahead, so that it doesn't cut them short.
+const PIECE: i64 = 131_072;
+
+/// As many pieces as the file has, the last one not whole.
+const PIECES: i64 = (FILE_SIZE as i64 + PIECE - 1) / PIECE;
 
 /// A disk of sectors in a file of the system: sector i stands at byte 512 i. It tells nothing. Each call is a call of the
 /// system, and fails where that does or where no file is attached. The file is locked as long as it is attached. What is
 /// written goes through the system's page cache; at each attach, and once a minute, the system is told to forget what it
-/// keeps of the file, so that reads tell what the disk has.
+/// keeps of the file and to read it anew, so that reads tell what the disk has.
 #[derive(Drop)]
 pub struct FileDisk<R> {
     system: R,
@@ -52,9 +58,20 @@ fn sync_folder<R: Files<File = File>>(files: &R, name: &str) -> io::Result<()> {
     File::open(files, folder)?.sync_all()
 }
 
-/// Tells the system to forget its copies of the file's bytes. What isn't synced yet it keeps.
-fn forget_copies(file: &File) {
-    let _ = libc::posix_fadvise(file.as_raw_fd(), 0, 0, libc::POSIX_FADV_DONTNEED);
+/// Tells the system to forget its copies of the file's bytes, and to read them anew from the disk. What isn't synced yet it
+/// keeps. Without the second advice each page comes by the first write that falls in it, which waits for it, or many together
+/// by reads that go on: then each write to them, and its sync, takes more of a processor.
+fn renew_copies(file: &File) {
+    let fd = file.as_raw_fd();
+    let _ = libc::posix_fadvise(fd, 0, 0, libc::POSIX_FADV_DONTNEED);
+    for piece in 0..PIECES {
+        let _ = libc::posix_fadvise(
+            fd,
+            piece.saturating_mul(PIECE),
+            PIECE,
+            libc::POSIX_FADV_WILLNEED,
+        );
+    }
 }
 
 /// The file with this name, opened and locked. It fails, and leaves the file as it is, while another open of the file has the
@@ -85,7 +102,7 @@ fn open<R: Files<File = File>>(files: &R, name: &str) -> io::Result<File> {
     if len < FILE_SIZE {
         named?;
     }
-    forget_copies(&file);
+    renew_copies(&file);
     Ok(file)
 }
 
@@ -147,7 +164,7 @@ impl<R: Clock> FileDisk<R> {
         }
     }
 
-    /// Tells the system to forget its copies, where that was a minute ago.
+    /// Has the system's copies read anew, where that was a minute ago.
     fn refresh(&mut self)
         ensures faults { self.new.faults ≡ self.old.faults }
         ensures reads { self.new.read_faults ≡ self.old.read_faults }
@@ -158,7 +175,7 @@ impl<R: Clock> FileDisk<R> {
         }
         self.forgotten = now;
         if let Some(file) = &self.file {
-            forget_copies(file);
+            renew_copies(file);
         }
     }
 }
