@@ -1,4 +1,4 @@
-//! A link over UDP or over TCP, by its addresses.
+//! A link over datagrams or over streams, by its addresses: the program's is over UDP or over TCP.
 ghost use Rattle.std.specs.Prelude.{None};
 
 use crate::counting::counted;
@@ -19,14 +19,12 @@ enum Over {
     Streams,
 }
 
-/// A link over streams where all addresses begin with `tcp:`, over datagrams where none does; otherwise it can't be attached.
+/// The link over streams where all addresses begin with `tcp:`, that over datagrams where none does; otherwise it can't be
+/// attached. It tells nothing.
 #[derive(Drop)]
-pub struct RealLink<R: Net + Drop>
-where
-    TcpStreams<R>: Streams,
-{
-    datagrams: UdpLink<R>,
-    streams: StreamLink<TcpStreams<R>>,
+pub struct RealLink<D, S> {
+    datagrams: D,
+    streams: S,
     over: Over,
     faults: u64,
     send_faults: u64,
@@ -50,12 +48,15 @@ fn asked(own: &str, peers: &Vec<String>) -> Option<Over> {
     None
 }
 
-impl<R: Net + Drop + Copy> RealLink<R>
+impl<R: Net + Drop + Copy> RealLink<UdpLink<R>, StreamLink<TcpStreams<R>>>
 where
     TcpStreams<R>: Streams,
 {
-    /// A link that isn't attached; `attach` opens it through `net`.
-    pub fn new(alloc: Global, net: R) -> Result<RealLink<R>, AllocError> {
+    /// A link over UDP or over TCP that isn't attached; `attach` opens it through `net`.
+    pub fn new(
+        alloc: Global,
+        net: R,
+    ) -> Result<RealLink<UdpLink<R>, StreamLink<TcpStreams<R>>>, AllocError> {
         Ok(RealLink {
             datagrams: UdpLink::new(alloc, net)?,
             streams: StreamLink::new(alloc, PEERS, TcpStreams::new(alloc, net)?)?,
@@ -66,10 +67,7 @@ where
     }
 }
 
-impl<R: Net + Drop> Link for RealLink<R>
-where
-    TcpStreams<R>: Streams,
-{
+impl<D: Link, S: Link> Link for RealLink<D, S> {
     ghost attached = { λ _. None };
 
     ghost sent = { λ _. None };
