@@ -1,5 +1,5 @@
 -- The deeds of a run, however it ended.
-use Rattle.std.proofs.Common.{ℕ, ◌≡◌, inl, inr, refl, sym, ap, ◌∙◌, subst, List, [], ◌∷◌, ◌++◌, Option}
+use Rattle.std.proofs.Common.{ℕ, ◌≡◌, ◌⊎◌, inl, inr, refl, sym, ap, ◌∙◌, subst, List, [], ◌∷◌, ◌++◌, Option}
 use Rattle.std.specs.Io.KnownBytes.{Appends}
 use Rattle.std.proofs.KnownBytes.{Appends-nil, Appends-trans}
 use Rattle.std.proofs.lemmas.List.{append-nil, append_assoc}
@@ -12,11 +12,13 @@ use Rattle.vr_msg.specs.declared.output.Output.{Output}
 use Rattle.vr_serve.specs.Causes.{Counts}
 use Rattle.vr_serve.specs.Events.{Come}
 use Rattle.vr_serve.specs.Outputs.{numbers_after, text_from}
-use Rattle.vr_serve.specs.Runs.{At, Begun, Did, IsRun, Passed, PutsFront, begun_at, numbers_of, texts_of}
-use Rattle.vr_node.specs.Running.{IsCut, Outside, Ran, ServeEnds, on_disk}
-use Rattle.vr_node.specs.Steps.{steps}
+use Rattle.vr_serve.specs.Runs.{At, Begun, Did, End, IsRun, Passed, PutsFront, begun_at, numbers_of, texts_of}
+use Rattle.vr_node.specs.Running.{IsCut, Outside, Ran, ServeEnds, end_in, on_disk}
+use Rattle.vr_node.specs.Steps.{steps, stops}
 use Rattle.vr_node.specs.declared.node.Node.{Node}
-use Rattle.law_7_members.specs.Runs.{HasDeeds}
+use Rattle.vr_serve.specs.declared.stop.Stop.{Stop}
+use Rattle.vr_serve.specs.declared.stop.Stop.TheVariants as stop
+use Rattle.law_7_members.specs.Runs.{HasDeeds, Stopped}
 use Rattle.vr_status.specs.declared.status.Status.{Status}
 use Rattle.vr_status.specs.declared.status.Status.TheVariants as status
 
@@ -57,47 +59,65 @@ texts_one i (y ∷ ys) x =
 
 -- ---- how it ended
 
-module _ (first : List Output) (node : Node) (disk : Option Disk) (t u : Option (List ℕ)) where
+-- the disk at the end is d
+module _ (first : List Output) (node : Node) (disk : Option Disk) (t u : Option (List ℕ)) (d : Option Disk) where
   record Has : Type 0 where
     dids : List (Did Node)
     last : Node
     left : Option Disk
     run : IsRun steps node disk dids last left
+    ends : (d ≡ left) ⊎ Stopped last left d
     taken : AppendsFront t u (text_from 0 first ++ texts_of (numbers_after 0 first) dids)
 
-  has_none : AppendsFront t u (text_from 0 first) → Has
-  has_none f = record { dids = []; last = node; left = disk; run = (refl, refl); taken = front_more t u (text_from 0 first) [] f }
+  has_none : d ≡ disk → AppendsFront t u (text_from 0 first) → Has
+  has_none same f = record { dids = []; last = node; left = disk; run = (refl, refl); ends = inl same; taken = front_more t u (text_from 0 first) [] f }
 
-  has_all : (mid : Option (List ℕ)) (dids : List (Did Node)) (last : Node) (left : Option Disk) → Appends t mid (text_from 0 first) → IsRun steps node disk dids last left
-      → AppendsFront mid u (texts_of (numbers_after 0 first) dids) → Has
-  has_all mid dids last left a r f =
-      record { dids = dids; last = last; left = left; run = r; taken = front_then t mid u (text_from 0 first) (texts_of (numbers_after 0 first) dids) a f }
+  has_all : (mid : Option (List ℕ)) (dids : List (Did Node)) (last : Node) (left : Option Disk) → (d ≡ left) ⊎ Stopped last left d → Appends t mid (text_from 0 first)
+      → IsRun steps node disk dids last left → AppendsFront mid u (texts_of (numbers_after 0 first) dids) → Has
+  has_all mid dids last left ends a r f =
+      record { dids = dids; last = last; left = left; run = r; ends = ends; taken = front_then t mid u (text_from 0 first) (texts_of (numbers_after 0 first) dids) a f }
 
-  -- of an event that was begun
-  has_begun : (mid : Option (List ℕ)) (sent sent' : Option (List (Option Datagram))) (done begun : List Come) (m : At Node) → Appends t mid (text_from 0 first)
-      → Passed steps (begun_at node disk first mid sent) m done → Begun steps m begun u sent' → Has
-  has_begun mid sent sent' done [] m a p b =
-      has_all mid p.dids m.member m.disk a p.run (front_all mid u (texts_of (numbers_after 0 first) p.dids) (subst (λ (z : Option (List ℕ)). Appends mid z (texts_of (numbers_after 0 first) p.dids)) (sym b.0) p.taken))
-  has_begun mid sent sent' done (c ∷ cs) m a p b =
+  -- nothing was put out of the event that was begun
+  has_done : (mid : Option (List ℕ)) (sent : Option (List (Option Datagram))) (done : List Come) (m : At Node) → (d ≡ m.disk) ⊎ Stopped m.member m.disk d → u ≡ m.taken
+      → Appends t mid (text_from 0 first) → Passed steps (begun_at node disk first mid sent) m done → Has
+  has_done mid sent done m ends same a p =
+      has_all mid p.dids m.member m.disk ends a p.run
+      (front_all mid u (texts_of (numbers_after 0 first) p.dids) (subst (λ (z : Option (List ℕ)). Appends mid z (texts_of (numbers_after 0 first) p.dids)) (sym same) p.taken))
+
+  -- a front was
+  has_one : (mid : Option (List ℕ)) (sent : Option (List (Option Datagram))) (done : List Come) (come : Come) (outputs : List Output) (after : Node) (m : At Node)
+      → steps m.member m.disk come.event outputs after d → AppendsFront m.taken u (text_from m.number outputs) → Appends t mid (text_from 0 first)
+      → Passed steps (begun_at node disk first mid sent) m done → Has
+  has_one mid sent done come outputs after m did puts a p =
       let i : ℕ = numbers_after 0 first in
-      let x : Did Node = record { come = c; outputs = b.1; after = b.2; disk = b.3 } in
-      let puts : AppendsFront m.taken u (text_from m.number b.1) = puts_front (text_from m.number b.1) _ m.taken u m.sent sent' b.5 in
-      let text : AppendsFront m.taken u (text_from (numbers_of i p.dids) b.1) = subst (λ (j : ℕ). AppendsFront m.taken u (text_from j b.1)) p.number puts in
-      let whole : AppendsFront mid u (texts_of i p.dids ++ text_from (numbers_of i p.dids) b.1) = front_then mid m.taken u (texts_of i p.dids) (text_from (numbers_of i p.dids) b.1) p.taken text in
-      has_all mid (p.dids ++ (x ∷ [])) b.2 b.3 a (run_one node m.member b.2 disk m.disk b.3 p.dids x p.run b.4 refl refl) (subst (λ (l : List ℕ). AppendsFront mid u l) (sym (texts_one i p.dids x)) whole)
+      let x : Did Node = record { come = come; outputs = outputs; after = after; disk = d } in
+      let text : AppendsFront m.taken u (text_from (numbers_of i p.dids) outputs) = subst (λ (j : ℕ). AppendsFront m.taken u (text_from j outputs)) p.number puts in
+      let whole : AppendsFront mid u (texts_of i p.dids ++ text_from (numbers_of i p.dids) outputs) = front_then mid m.taken u (texts_of i p.dids) (text_from (numbers_of i p.dids) outputs) p.taken text in
+      has_all mid (p.dids ++ (x ∷ [])) after d (inl refl) a (run_one node m.member after disk m.disk d p.dids x p.run did refl refl)
+      (subst (λ (l : List ℕ). AppendsFront mid u l) (sym (texts_one i p.dids x)) whole)
 
-has_cut : (turns : ℕ) (first : List Output) (node : Node) (o o' : Outside) → IsCut turns first node o o' → Has first node o.disk o.taken o'.taken
-has_cut turns first node o o' (inl h) = has_none first node o.disk o.taken o'.taken (puts_front (text_from 0 first) _ o.taken o'.taken o.sent o'.sent h.front)
-has_cut turns first node o o' (inr h) = has_begun first node o.disk o.taken o'.taken h.taken h.sent o'.sent h.cut.done h.cut.begun h.cut.mid h.puts.taken h.cut.passed h.cut.front
+-- of an event that was begun
+has_begun : (first : List Output) (node : Node) (disk : Option Disk) (t mid : Option (List ℕ)) (sent : Option (List (Option Datagram))) (done begun : List Come) (m : At Node) (end : End)
+    → Appends t mid (text_from 0 first) → Passed steps (begun_at node disk first mid sent) m done → Begun steps stops m begun end → Has first node disk t end.taken end.disk
+has_begun first node disk t mid sent done [] m end a p b = has_done first node disk t end.taken end.disk mid sent done m (inl b.disk) b.taken a p
+has_begun first node disk t mid sent done (c ∷ cs) m end a p b = elim b.1 [
+  | inl h ↦ has_done first node disk t end.taken end.disk mid sent done m (inr (record { event = c.event; halt = h.halt; after = h.after; left = h.disk })) h.taken a p
+  | inr s ↦ has_one first node disk t end.taken end.disk mid sent done c s.outputs s.after m s.disk
+      (puts_front (text_from m.number s.outputs) _ m.taken end.taken m.sent end.sent s.front) a p
+]
 
-has_served : (turns : ℕ) (first : List Output) (node : Node) (o o' : Outside) (before now : Counts) (s : Status) → ServeEnds turns first node o o' before now s → Has first node o.disk o.taken o'.taken
+has_cut : (turns : ℕ) (first : List Output) (node : Node) (o o' : Outside) (why : Stop) → IsCut turns first node o o' why → Has first node o.disk o.taken o'.taken o'.disk
+has_cut turns first node o o' why (inl h) = has_none first node o.disk o.taken o'.taken o'.disk h.disk (puts_front (text_from 0 first) _ o.taken o'.taken o.sent o'.sent h.front)
+has_cut turns first node o o' why (inr h) = has_begun first node o.disk o.taken h.taken h.sent h.cut.done h.cut.begun h.cut.mid (end_in why o') h.puts.taken h.cut.passed h.cut.front
+
+has_served : (turns : ℕ) (first : List Output) (node : Node) (o o' : Outside) (before now : Counts) (s : Status) → ServeEnds turns first node o o' before now s → Has first node o.disk o.taken o'.taken o'.disk
 has_served turns first node o o' b n status.Done e =
     let x = e.1 in
-    has_all first node o.disk o.taken o'.taken x.taken x.passed.dids e.0 o'.disk x.puts.taken x.passed.run (front_all x.taken o'.taken (texts_of (numbers_after 0 first) x.passed.dids) x.passed.taken)
-has_served turns first node o o' b n status.DiskFault e = has_cut turns first node o o' e.1
-has_served turns first node o o' b n status.LinkFault e = has_cut turns first node o o' e.2
-has_served turns first node o o' b n status.WriteFault e = has_cut turns first node o o' e.1
-has_served turns first node o o' b n status.NoMemory e = has_cut turns first node o o' e
+    has_all first node o.disk o.taken o'.taken o'.disk x.taken x.passed.dids e.0 o'.disk (inl refl) x.puts.taken x.passed.run (front_all x.taken o'.taken (texts_of (numbers_after 0 first) x.passed.dids) x.passed.taken)
+has_served turns first node o o' b n status.DiskFault e = has_cut turns first node o o' stop.Disk e.1
+has_served turns first node o o' b n status.LinkFault e = has_cut turns first node o o' stop.Link e.2
+has_served turns first node o o' b n status.WriteFault e = has_cut turns first node o o' stop.Write e.1
+has_served turns first node o o' b n status.NoMemory e = has_cut turns first node o o' stop.NoMemory e
 has_served turns first node o o' b n status.Usage e = absurd e
 has_served turns first node o o' b n (status.Refused line) e = absurd e
 has_served turns first node o o' b n status.SessionLost e = absurd e
@@ -110,9 +130,9 @@ has_served turns first node o o' b n status.SpawnFault e = absurd e
 
 pub runs_deeds : (fresh : Option Kind) (c : Config) (peers : List (List ℕ)) (turns : ℕ) (o o' : Outside) (before now : Counts) (s : Status) → Ran fresh c peers turns o o' before now s → HasDeeds fresh c o o'
 runs_deeds fresh c peers turns o o' before now s r =
-    let has : Has r.first r.node r.disk o.taken o'.taken =
+    let has : Has r.first r.node r.disk o.taken o'.taken o'.disk =
     elim r.ends [
-      | inl h ↦ has_none r.first r.node r.disk o.taken o'.taken (subst (λ (z : Outside). AppendsFront o.taken z.taken (text_from 0 r.first)) (sym h.same) (front_none o.taken (text_from 0 r.first)))
+      | inl h ↦ has_none r.first r.node r.disk o.taken o'.taken o'.disk (ap (λ (z : Outside). z.disk) h.same) (subst (λ (z : Outside). AppendsFront o.taken z.taken (text_from 0 r.first)) (sym h.same) (front_none o.taken (text_from 0 r.first)))
       | inr h ↦ has_served turns r.first r.node (on_disk r.disk o) o' before now s h.1
     ] in
-    record { disk = r.disk; first = r.first; node = r.node; opens = r.opens; dids = has.dids; last = has.last; left = has.left; run = has.run; taken = has.taken }
+    record { disk = r.disk; first = r.first; node = r.node; opens = r.opens; dids = has.dids; last = has.last; left = has.left; run = has.run; ends = has.ends; taken = has.taken }

@@ -1,20 +1,30 @@
 -- What one run of a member's program comes to: an opening, and events that were handled one after the other.
-use Rattle.std.specs.Prelude.{ℕ, ◌++◌, List, Option}
+use Rattle.std.specs.Prelude.{ℕ, ◌≡◌, ◌⊎◌, ◌++◌, List, Option}
 use Rattle.vr_base.specs.declared.kind.Kind.{Kind}
 use Rattle.vr_base.specs.declared.table.Config.{Config}
 use Rattle.vr_disk.specs.DiskState.{Disk}
 use Rattle.vr_edge.specs.Told.{AppendsFront}
+use Rattle.vr_msg.specs.declared.event.Event.{Event}
 use Rattle.vr_msg.specs.declared.output.Output.{Output}
 use Rattle.vr_serve.specs.Causes.{Counts}
 use Rattle.vr_serve.specs.Outputs.{numbers_after, text_from}
 use Rattle.vr_serve.specs.Runs.{Did, IsRun, texts_of}
+use Rattle.vr_serve.specs.declared.member.Halt.{Halt}
 use Rattle.vr_node.specs.Opening.{Opens}
 use Rattle.vr_node.specs.Running.{Outside, Ran}
-use Rattle.vr_node.specs.Steps.{steps}
+use Rattle.vr_node.specs.Steps.{steps, stops}
 use Rattle.vr_node.specs.declared.node.Node.{Node}
 use Rattle.vr_status.specs.declared.status.Status.{Status}
 
--- It was made or found; each event is a whole step, on the disk that the one before left; and what was written is a front of their text.
+-- an event whose step stopped was the last, and left the disk so
+pub record Stopped (node : Node) (d d' : Option Disk) : Type 0 where
+  pub event : Event
+  pub halt : Halt
+  pub after : Node
+  pub left : stops node d event halt after d'
+
+-- It was made or found; each event is a whole step, on the disk that the one before left; the disk at the end is as the last of them left it, or as
+-- one more step left it, that stopped; and what was written is a front of their text.
 pub record HasDeeds (fresh : Option Kind) (c : Config) (o o' : Outside) : Type 0 where
   pub disk : Option Disk
   pub first : List Output
@@ -24,6 +34,7 @@ pub record HasDeeds (fresh : Option Kind) (c : Config) (o o' : Outside) : Type 0
   pub last : Node
   pub left : Option Disk
   pub run : IsRun steps node disk dids last left
+  pub ends : (o'.disk ≡ left) ⊎ Stopped last left o'.disk
   pub taken : AppendsFront o.taken o'.taken (text_from 0 first ++ texts_of (numbers_after 0 first) dids)
 
 -- so does each run of a member whose disk was attached and that was opened, however it ends

@@ -6,8 +6,8 @@ ghost use Rattle.law_7_members.specs.Laws.{MembersAreFound, NodesAreFound, Nodes
 ghost use Rattle.law_7_members.specs.Runs.{RunsAreDeeds};
 ghost use Rattle.law_7_members.specs.Whole.{RunsAreAtWork, RunsKeepOneLog};
 
-/// What a run of a member's program comes to, however it ends: whole steps, each on the disk that the one before left, and a front of
-/// their text.
+/// What a run of a member's program comes to, however it ends: whole steps, each on the disk that the one before left, at most one that
+/// stopped behind them, and a front of their text.
 pub fn runs_are_deeds()
     ensures { RunsAreDeeds }
 {}

@@ -37,7 +37,7 @@ pub served : (turns : ℕ) (first : List Output) (node node' : Node) (o o' : Out
 served turns first node node' o o' b n s = (node', s)
 
 pub cut_off : (turns : ℕ) (first : List Output) (node : Node) (o o' : Outside) (b n : Counts) (s : Stop)
-    → HasCauses {T = Unit {0}} b n (Err s) → (◌≡◌ {A = Result (Unit {0}) Stop} (Err s) (Err stop.Link) → EndsFailed o.got o'.got) → IsCut turns first node o o'
+    → HasCauses {T = Unit {0}} b n (Err s) → (◌≡◌ {A = Result (Unit {0}) Stop} (Err s) (Err stop.Link) → EndsFailed o.got o'.got) → IsCut turns first node o o' s
     → ServeEnds turns first node o o' b n (status_of s)
 cut_off turns first node o o' b n stop.Disk h l c = (let d = h.disk in omega (arith, d), c)
 cut_off turns first node o o' b n stop.Link h l c = (let k = h.link in omega (arith, k), l refl, c)

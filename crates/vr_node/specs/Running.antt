@@ -12,10 +12,12 @@ use Rattle.vr_edge.specs.declared.attach.Attach.{Attach}
 use Rattle.vr_edge.specs.declared.datagram.Datagram.{Datagram}
 use Rattle.vr_msg.specs.declared.output.Output.{Output}
 use Rattle.vr_node.specs.Opening.{Opens, OpensNone}
-use Rattle.vr_node.specs.Steps.{steps}
+use Rattle.vr_node.specs.Steps.{steps, stops}
 use Rattle.vr_node.specs.declared.node.Node.{Node}
 use Rattle.vr_serve.specs.Causes.{Counts}
-use Rattle.vr_serve.specs.Runs.{IsCutBefore, IsCutInTurn, IsServed}
+use Rattle.vr_serve.specs.Runs.{End, IsCutBefore, IsCutInTurn, IsServed, end_at}
+use Rattle.vr_serve.specs.declared.stop.Stop.{Stop}
+use Rattle.vr_serve.specs.declared.stop.Stop.TheVariants as stop
 use Rattle.vr_status.specs.declared.status.Status.{Status}
 use Rattle.vr_status.specs.declared.status.Status.TheVariants.{Done, WriteFault, DiskFault, LinkFault, NoMemory}
 
@@ -35,20 +37,24 @@ outside disk left got taken sent attached = record { disk = disk; left = left; g
 abbrev pub on_disk : Option Disk → Outside → Outside
 on_disk d o = record o { disk = d }
 
--- a front of the run was put out: no message before the whole text of its event
-abbrev pub IsCut : ℕ → List Output → Node → Outside → Outside → Type 0
-IsCut turns first node o o' =
-    IsCutBefore first o.got o'.got o.taken o'.taken o.sent o'.sent
-    ⊎ IsCutInTurn steps node.replica.memory.cluster turns first node o.disk o.got o'.got o.taken o'.taken o.sent o'.sent
+-- an early end that leaves this outside
+abbrev pub end_in : Stop → Outside → End
+end_in why o = end_at why o.disk o.taken o.sent
+
+-- a front of the run was put out, no message before the whole text of its event; and the disk is as the steps left it, the last of which may have stopped
+abbrev pub IsCut : ℕ → List Output → Node → Outside → Outside → Stop → Type 0
+IsCut turns first node o o' why =
+    IsCutBefore first o.disk o.got o'.got o.taken o.sent (end_in why o')
+    ⊎ IsCutInTurn steps stops node.replica.memory.cluster turns first node o.disk o.got o'.got o.taken o.sent (end_in why o')
 
 -- how a member ends that serves so many turns
 abbrev pub ServeEnds : ℕ → List Output → Node → Outside → Outside → Counts → Counts → Status → Type 0
 ServeEnds turns first node o o' before now Done =
     (node' : Node) × IsServed steps node.replica.memory.cluster turns first node node' o.disk o'.disk o.left o'.left o.got o'.got o.taken o'.taken o.sent o'.sent
-ServeEnds turns first node o o' before now DiskFault = Rose before.disk now.disk × IsCut turns first node o o'
-ServeEnds turns first node o o' before now LinkFault = Rose before.link now.link × EndsFailed o.got o'.got × IsCut turns first node o o'
-ServeEnds turns first node o o' before now WriteFault = Rose before.write now.write × IsCut turns first node o o'
-ServeEnds turns first node o o' before now NoMemory = IsCut turns first node o o'
+ServeEnds turns first node o o' before now DiskFault = Rose before.disk now.disk × IsCut turns first node o o' stop.Disk
+ServeEnds turns first node o o' before now LinkFault = Rose before.link now.link × EndsFailed o.got o'.got × IsCut turns first node o o' stop.Link
+ServeEnds turns first node o o' before now WriteFault = Rose before.write now.write × IsCut turns first node o o' stop.Write
+ServeEnds turns first node o o' before now NoMemory = IsCut turns first node o o' stop.NoMemory
 ServeEnds turns first node o o' before now _ = ⊥
 
 -- the link was attached, once: the member's own address is that with its number among those of all

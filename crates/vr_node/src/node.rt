@@ -1,7 +1,6 @@
 //! A replica as the loop of turns takes it.
 ghost use Rattle.std.specs.Prelude.{◌≡◌};
-ghost use Rattle.vr_serve.specs.declared.member.Halt.TheVariants as stop;
-ghost use Rattle.vr_replica.specs.Halt.TheVariants as halt;
+ghost use Rattle.vr_node.specs.Steps.{why_of};
 
 use std::alloc::Global;
 use vr_disk::SectorDisk;
@@ -17,8 +16,7 @@ pub struct Node {
 
 /// Why a step stopped, as the loop hears it.
 fn halt_of(why: vr_replica::Halt) -> Halt
-    ensures disk { result ≡ stop.Disk → why ≡ halt.DiskFault }
-    ensures memory { result ≡ stop.NoMemory → why ≡ halt.NoMemory }
+    ensures { why ≡ why_of result }
 {
     match why {
         vr_replica::Halt::DiskFault => Halt::Disk,
@@ -43,13 +41,15 @@ impl Node {
 }
 
 impl Member for Node {
-    ghost use Rattle.vr_node.specs.Steps.{steps};
+    ghost use Rattle.vr_node.specs.Steps.{steps, stops};
 
     ghost does = { steps };
 
+    ghost halts = { stops };
+
     ghost runs = { λ node. node.replica.running };
 
-    #[tactic(auto, using(crate::proofs::Halts::halts))]
+    #[tactic(auto, using(crate::proofs::Halts::halts, crate::proofs::Halts::stopped))]
     fn step<D: SectorDisk>(
         &mut self,
         alloc: Global,

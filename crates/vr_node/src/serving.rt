@@ -1,9 +1,9 @@
 //! A member serves its group.
-ghost use Rattle.std.specs.Prelude.{◌≡◌, ◌⊎◌, OnOk, OnErr, true};
+ghost use Rattle.std.specs.Prelude.{◌≡◌, ◌⊎◌, IfErr, OnOk, true};
 ghost use Rattle.vr_edge.specs.Failing.{EndsFailed};
-ghost use Rattle.vr_node.specs.Steps.{steps};
+ghost use Rattle.vr_node.specs.Steps.{steps, stops};
 ghost use Rattle.vr_serve.specs.Causes.{HasCauses, counts};
-ghost use Rattle.vr_serve.specs.Runs.{IsCutBefore, IsCutInTurn, IsServed};
+ghost use Rattle.vr_serve.specs.Runs.{IsCutBefore, IsCutInTurn, IsServed, end_at};
 
 use crate::Node;
 use std::alloc::Global;
@@ -29,8 +29,8 @@ pub fn serve<D: SectorDisk, L: Link, C: Clock, K: Sink>(
     ensures linked { result ≡ Err Stop.Link → EndsFailed (L.received link.old) (L.received link.new) }
     ensures attached { L.attached link.new ≡ L.attached link.old }
     ensures done { OnOk result (IsServed steps node.old.replica.memory.cluster turns first node.old node.new (D.told disk.old) (D.told disk.new) (C.left clock.old) (C.left clock.new) (L.received link.old) (L.received link.new) (K.taken sink.old) (K.taken sink.new) (L.sent link.old) (L.sent link.new)) }
-    ensures cut { OnErr result (IsCutBefore first (L.received link.old) (L.received link.new) (K.taken sink.old) (K.taken sink.new) (L.sent link.old) (L.sent link.new)
-        ⊎ IsCutInTurn steps node.old.replica.memory.cluster turns first node.old (D.told disk.old) (L.received link.old) (L.received link.new) (K.taken sink.old) (K.taken sink.new) (L.sent link.old) (L.sent link.new)) }
+    ensures cut { IfErr result (λ why. IsCutBefore first (D.told disk.old) (L.received link.old) (L.received link.new) (K.taken sink.old) (L.sent link.old) (end_at why (D.told disk.new) (K.taken sink.new) (L.sent link.new))
+        ⊎ IsCutInTurn steps stops node.old.replica.memory.cluster turns first node.old (D.told disk.old) (L.received link.old) (L.received link.new) (K.taken sink.old) (L.sent link.old) (end_at why (D.told disk.new) (K.taken sink.new) (L.sent link.new))) }
 {
     let cluster = node.cluster();
     vr_serve::serve(alloc, cluster, node, first, disk, link, clock, sink, turns)

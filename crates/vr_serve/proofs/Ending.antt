@@ -1,5 +1,5 @@
 -- Causes of an early end, one call after another.
-use Rattle.std.proofs.Common.{ℕ, ◌≡◌, ◌∙◌, List, [], ◌∷◌, Option, Result, Ok, Err, arith, ap, refl, subst}
+use Rattle.std.proofs.Common.{ℕ, ◌≡◌, ◌≢◌, ◌∙◌, List, [], ◌∷◌, Option, Result, Ok, Err, arith, ap, refl, subst}
 use Rattle.vr_base.specs.Causes.{one_more}
 use Rattle.vr_edge.specs.Datagrams.{Arrival, Failed}
 use Rattle.vr_edge.specs.Told.{Grows}
@@ -43,6 +43,10 @@ causes_halted d d' w l halt.NoMemory c = record { disk = c.wanted refl; write = 
 pub causes_received : {S T : Type 0} (d w l l' : ℕ) (f : ReceiveFault) → ReceiveCause {T = S} l l' (Err f) → HasCauses {T = T} (counts d w l) (counts d w l') (Err (received_stop f))
 causes_received d w l l' received.Link c = record { disk = refl; write = refl; link = c.failed refl; later = c.later }
 causes_received d w l l' received.NoMemory c = record { disk = refl; write = refl; link = c.wanted refl; later = c.later }
+
+-- what is put out after a step makes no call of the disk, so it ends for none
+pub put_spares : {T : Type 0} (w w' l l' : ℕ) (r : Result T Stop) (s : Stop) → r ≡ Err s → HasCauses (counts 0 w l) (counts 0 w' l') r → s ≢ stop.Disk
+put_spares w w' l l' r s is c e = let no : 0 ≡ one_more 0 = subst (λ x. 0 ≡ disk_after x 0) (is ∙ ap (λ x. Err x) e) c.disk in omega (arith, no)
 
 -- a receive that failed is told as such
 pub link_failed : (cluster : ℕ) (f : ReceiveFault) (old new : Option (List Arrival)) (arrival : Arrival) → Grows old new (arrival ∷ [])

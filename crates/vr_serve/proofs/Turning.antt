@@ -12,7 +12,7 @@ use Rattle.vr_msg.specs.declared.event.Event.TheVariants.{Tick}
 use Rattle.vr_msg.specs.declared.output.Output.{Output}
 use Rattle.vr_serve.specs.Events.{AreTurns, Begins, Gives, Turn, arrivals, due, events_of, happened, last_after, last_of, letters}
 use Rattle.vr_serve.specs.Outputs.{numbers_after}
-use Rattle.vr_serve.specs.Runs.{At, Cut, Doing, IsCutInTurn, IsServed, Passed, PutsFirst, at, begun_at}
+use Rattle.vr_serve.specs.Runs.{At, Cut, Doing, End, Halting, IsCutInTurn, IsServed, Passed, PutsFirst, at, begun_at}
 use Rattle.vr_serve.specs.declared.clients.Client.{Client}
 use Rattle.vr_serve.proofs.Cutting.{cut_after}
 use Rattle.vr_serve.proofs.Running.{map_append, passed_none, passed_trans}
@@ -133,12 +133,12 @@ served does cluster count last first member member' disk disk' left left' got go
 }
 
 -- an early end in the turn behind these
-pub serving_cut : {S : Type 0} (does : Doing S) (cluster count last limit : ℕ) (first : List Output) (member : S) (disk : Option Disk)
-    (left left' : Option (List ℕ)) (got got' got'' : Option (List Arrival)) (t t' : Option (List ℕ)) (u u' : Option (List (Option Datagram)))
-    (b : At S) (turn : Turn) → Serving does cluster count last first member disk left left' got got' t u b → count < limit
-    → Grows got' got'' (turn.arrival ∷ []) → Begins cluster turn.arrival turn.letter → Cut does b (events_of last turn) t' u'
-    → IsCutInTurn does cluster limit first member disk got got'' t t' u u'
-serving_cut does cluster count last limit first member disk left left' got got' got'' t t' u u' b turn s lt more begun cut = record {
+pub serving_cut : {S : Type 0} (does : Doing S) (halts : Halting S) (cluster count last limit : ℕ) (first : List Output) (member : S) (disk : Option Disk)
+    (left left' : Option (List ℕ)) (got got' got'' : Option (List Arrival)) (t : Option (List ℕ)) (u : Option (List (Option Datagram)))
+    (b : At S) (turn : Turn) (end : End) → Serving does cluster count last first member disk left left' got got' t u b → count < limit
+    → Grows got' got'' (turn.arrival ∷ []) → Begins cluster turn.arrival turn.letter → Cut does halts b (events_of last turn) end
+    → IsCutInTurn does halts cluster limit first member disk got got'' t u end
+serving_cut does halts cluster count last limit first member disk left left' got got' got'' t u b turn end s lt more begun cut = record {
   begins = s.begins;
   turns = s.turns;
   last = turn;
@@ -149,6 +149,6 @@ serving_cut does cluster count last limit first member disk left left' got got' 
   taken = s.taken;
   sent = s.sent;
   puts = s.puts;
-  cut = rw (happened_more s.begins s.turns turn) (cut_after does (begun_at member disk first s.taken s.sent) b (happened s.begins s.turns)
-      (events_of (last_of s.begins s.turns) turn) t' u' s.passed (rw (sym s.ticked) cut));
+  cut = rw (happened_more s.begins s.turns turn) (cut_after does halts (begun_at member disk first s.taken s.sent) b (happened s.begins s.turns)
+      (events_of (last_of s.begins s.turns) turn) end s.passed (rw (sym s.ticked) cut));
 }

@@ -1,5 +1,5 @@
 -- Runs of a member, with all that is put out.
-use Rattle.std.specs.Prelude.{ℕ, ◌<◌, List, [], ◌∷◌, ◌++◌, length, Option, map, ◌≡◌, ◌⊎◌}
+use Rattle.std.specs.Prelude.{ℕ, ◌<◌, List, [], ◌∷◌, ◌++◌, length, Option, map, ◌≡◌, ◌≢◌, ◌⊎◌}
 use Rattle.std.specs.Io.KnownBytes.{Appends}
 use Rattle.vr_disk.specs.DiskState.{Disk}
 use Rattle.vr_edge.specs.Datagrams.{Arrival}
@@ -8,13 +8,21 @@ use Rattle.vr_edge.specs.declared.datagram.Datagram.{Datagram}
 use Rattle.vr_mail.specs.Sends.{Sends}
 use Rattle.vr_msg.specs.declared.event.Event.{Event}
 use Rattle.vr_msg.specs.declared.output.Output.{Output}
+use Rattle.vr_serve.specs.Causes.{stop_of}
 use Rattle.vr_serve.specs.Events.{AreTurns, Begins, Come, Gives, Turn, arrivals, happened}
 use Rattle.vr_serve.specs.Outputs.{datagrams_for, heard, numbers_after, text_from}
 use Rattle.vr_serve.specs.declared.clients.Client.{Client}
+use Rattle.vr_serve.specs.declared.member.Halt.{Halt}
+use Rattle.vr_serve.specs.declared.stop.Stop.{Stop}
+use Rattle.vr_serve.specs.declared.stop.Stop.TheVariants as stop
 
 -- what a step of a member does
 abbrev pub Doing : Type 0 → Type 1
 Doing S = S → Option Disk → Event → List Output → S → Option Disk → Type 0
+
+-- what a step of a member that stops leaves
+abbrev pub Halting : Type 0 → Type 1
+Halting S = S → Option Disk → Event → Halt → S → Option Disk → Type 0
 
 -- one event, what it put out, and the member and its disk after it
 pub record Did (S : Type 0) : Type 0 where
@@ -75,22 +83,54 @@ abbrev pub PutsFront : List ℕ → List Datagram → Option (List ℕ) → Opti
     → Option (List (Option Datagram)) → Type 0
 PutsFront text ds t t' u u' = (AppendsFront t t' text × (u' ≡ u)) ⊎ (Appends t t' text × SendsFront ds u u')
 
--- what was put out of an event that was begun
-abbrev pub Begun : {S : Type 0} → Doing S → At S → List Come → Option (List ℕ) → Option (List (Option Datagram)) → Type 0
-Begun does a [] t u = (t ≡ a.taken) × (u ≡ a.sent)
-Begun {S} does a (c ∷ cs) t u =
-    (cs ≡ []) × (outputs : List Output) × (after : S) × (disk : Option Disk) × does a.member a.disk c.event outputs after disk
-    × PutsFront (text_from a.number outputs) (datagrams_for (heard c a.clients) outputs) a.taken t a.sent u
+-- an early end: why, and what disk, sink and link tell there
+pub record End : Type 0 where
+  pub why : Stop
+  pub disk : Option Disk
+  pub taken : Option (List ℕ)
+  pub sent : Option (List (Option Datagram))
 
--- an early end among these events: some happened wholly, of the next one a front was put out, and the rest didn't happen
-pub record Cut {S : Type 0} (does : Doing S) (a : At S) (comes : List Come) (t : Option (List ℕ)) (u : Option (List (Option Datagram))) : Type 0 where
+abbrev pub end_at : Stop → Option Disk → Option (List ℕ) → Option (List (Option Datagram)) → End
+end_at why disk taken sent = record { why = why; disk = disk; taken = taken; sent = sent }
+
+-- between two steps: the disk is as the last one left it
+pub record EndsBetween {S : Type 0} (a : At S) (end : End) : Type 0 where
+  pub why : end.why ≢ stop.Disk
+  pub disk : end.disk ≡ a.disk
+  pub taken : end.taken ≡ a.taken
+  pub sent : end.sent ≡ a.sent
+
+-- in a step that stopped: the disk is as that leaves it, and nothing of it was put out
+pub record EndsInStep {S : Type 0} (halts : Halting S) (a : At S) (come : Come) (end : End) : Type 0 where
+  pub halt : Halt
+  pub after : S
+  pub why : end.why ≡ stop_of halt
+  pub disk : halts a.member a.disk come.event halt after end.disk
+  pub taken : end.taken ≡ a.taken
+  pub sent : end.sent ≡ a.sent
+
+-- behind a step that was done: the disk is as that left it, and a front was put out
+pub record EndsBehindStep {S : Type 0} (does : Doing S) (a : At S) (come : Come) (end : End) : Type 0 where
+  pub outputs : List Output
+  pub after : S
+  pub why : end.why ≢ stop.Disk
+  pub disk : does a.member a.disk come.event outputs after end.disk
+  pub front : PutsFront (text_from a.number outputs) (datagrams_for (heard come a.clients) outputs) a.taken end.taken a.sent end.sent
+
+-- an early end where this event, if any, was begun
+abbrev pub Begun : {S : Type 0} → Doing S → Halting S → At S → List Come → End → Type 0
+Begun does halts a [] end = EndsBetween a end
+Begun does halts a (c ∷ cs) end = (cs ≡ []) × (EndsInStep halts a c end ⊎ EndsBehindStep does a c end)
+
+-- an early end among these events: some happened wholly, the next one was begun, and the rest didn't happen
+pub record Cut {S : Type 0} (does : Doing S) (halts : Halting S) (a : At S) (comes : List Come) (end : End) : Type 0 where
   pub done : List Come
   pub begun : List Come
   pub rest : List Come
   pub parts : done ++ (begun ++ rest) ≡ comes
   pub mid : At S
   pub passed : Passed does a mid done
-  pub front : Begun does mid begun t u
+  pub front : Begun does halts mid begun end
 
 -- what comes first, before any event: the outputs of an opening
 pub record PutsFirst (first : List Output) (t t' : Option (List ℕ)) (u u' : Option (List (Option Datagram))) : Type 0 where
@@ -118,8 +158,8 @@ pub record IsServed {S : Type 0} (does : Doing S) (cluster count : ℕ) (first :
   pub passed : Passed does (begun_at member disk first taken sent) (at member' disk' number clients t' u') (happened begins turns)
 
 -- a run that was cut off in a turn
-pub record IsCutInTurn {S : Type 0} (does : Doing S) (cluster count : ℕ) (first : List Output) (member : S) (disk : Option Disk)
-    (got got' : Option (List Arrival)) (t t' : Option (List ℕ)) (u u' : Option (List (Option Datagram))) : Type 0 where
+pub record IsCutInTurn {S : Type 0} (does : Doing S) (halts : Halting S) (cluster count : ℕ) (first : List Output) (member : S) (disk : Option Disk)
+    (got got' : Option (List Arrival)) (t : Option (List ℕ)) (u : Option (List (Option Datagram))) (end : End) : Type 0 where
   pub begins : ℕ
   pub turns : List Turn
   pub last : Turn
@@ -130,9 +170,12 @@ pub record IsCutInTurn {S : Type 0} (does : Doing S) (cluster count : ℕ) (firs
   pub taken : Option (List ℕ)
   pub sent : Option (List (Option Datagram))
   pub puts : PutsFirst first t taken u sent
-  pub cut : Cut does (begun_at member disk first taken sent) (happened begins (turns ++ last ∷ [])) t' u'
+  pub cut : Cut does halts (begun_at member disk first taken sent) (happened begins (turns ++ last ∷ [])) end
 
--- or before the first turn: a front of the first outputs was put out, and nothing received
-pub record IsCutBefore (first : List Output) (got got' : Option (List Arrival)) (t t' : Option (List ℕ)) (u u' : Option (List (Option Datagram))) : Type 0 where
+-- or before the first turn: a front of the first outputs was put out, nothing received, and no step done
+pub record IsCutBefore (first : List Output) (d : Option Disk) (got got' : Option (List Arrival)) (t : Option (List ℕ)) (u : Option (List (Option Datagram)))
+    (end : End) : Type 0 where
+  pub why : end.why ≢ stop.Disk
+  pub disk : end.disk ≡ d
   pub received : got' ≡ got
-  pub front : PutsFront (text_from 0 first) (datagrams_for [] first) t t' u u'
+  pub front : PutsFront (text_from 0 first) (datagrams_for [] first) t end.taken u end.sent

@@ -1,8 +1,8 @@
 //! One event.
-ghost use Rattle.std.specs.Prelude.{◌≡◌, ◌≢◌, ◌≤◌, [], ◌∷◌, OnOk, OnErr, true};
+ghost use Rattle.std.specs.Prelude.{◌≡◌, ◌≢◌, ◌≤◌, [], ◌∷◌, IfErr, OnOk, true};
 ghost use Rattle.vr_serve.specs.Causes.{HasCauses, counts};
 ghost use Rattle.vr_serve.specs.Events.{event_of};
-ghost use Rattle.vr_serve.specs.Runs.{Cut, Passed, at};
+ghost use Rattle.vr_serve.specs.Runs.{Cut, Passed, at, end_at};
 
 use crate::clients::hear;
 use crate::post::Post;
@@ -24,7 +24,7 @@ pub fn event_of(message: Message) -> Event
 }
 
 /// An event that came from a port: one step, its text, and then its datagrams.
-#[tactic(auto, using(std::proofs::lemmas::Grind::common_steps, crate::proofs::Cutting::cut_none, crate::proofs::Cutting::cut_event, crate::proofs::Running::passed_one, crate::proofs::Ending::causes_put, crate::proofs::Ending::causes_halted))]
+#[tactic(auto, using(std::proofs::lemmas::Grind::common_steps, crate::proofs::Running::passed_one, crate::proofs::Ending::causes_put, crate::proofs::Ending::causes_halted))]
 pub fn handle<M: Member, D: SectorDisk, K: Sink, L: Link>(
     alloc: Global,
     member: &mut M,
@@ -44,9 +44,9 @@ pub fn handle<M: Member, D: SectorDisk, K: Sink, L: Link>(
         (at member.old (D.told disk.old) post.old.number post.old.clients.items (K.taken sink.old) (L.sent link.old))
         (at member.new (D.told disk.new) post.new.number post.new.clients.items (K.taken sink.new) (L.sent link.new))
         (record { port = port; event = event.now } ∷ [])) }
-    ensures cut { OnErr result (Cut M.does
+    ensures cut { IfErr result (λ why. Cut M.does M.halts
         (at member.old (D.told disk.old) post.old.number post.old.clients.items (K.taken sink.old) (L.sent link.old))
-        (record { port = port; event = event.now } ∷ []) (K.taken sink.new) (L.sent link.new)) }
+        (record { port = port; event = event.now } ∷ []) (end_at why (D.told disk.new) (K.taken sink.new) (L.sent link.new))) }
     ensures attached { L.attached link.new ≡ L.attached link.old }
 {
     hear(&mut post.clients, port, event)?;

@@ -1,9 +1,10 @@
 //! What the loop goes around.
-ghost use Rattle.std.specs.Prelude.{◌≡◌, [], List, Bool, Option, OnOk, true};
+ghost use Rattle.std.specs.Prelude.{◌≡◌, [], List, Bool, Option, IfErr, OnOk, true};
 ghost use Rattle.vr_disk.specs.DiskState.{Disk};
 ghost use Rattle.vr_msg.specs.declared.event.Event.{Event};
 ghost use Rattle.vr_msg.specs.declared.output.Output.{Output};
 ghost use Rattle.vr_serve.specs.Causes.{HaltCause};
+ghost use Rattle.vr_serve.specs.declared.member.Halt.{Halt};
 
 use std::alloc::Global;
 use vr_disk::SectorDisk;
@@ -23,6 +24,10 @@ pub trait Member {
     /// its disk tells then.
     ghost does: { Self → Option Disk → Event → List Output → Self → Option Disk → Type 0 };
 
+    /// What a step that stops leaves: the replica before, what its disk tells, the event, why it stopped, the replica after,
+    /// and what its disk tells then.
+    ghost halts: { Self → Option Disk → Event → Halt → Self → Option Disk → Type 0 };
+
     /// Whether it runs; it doesn't after a halt.
     ghost runs: { Self → Bool };
 
@@ -37,6 +42,7 @@ pub trait Member {
         requires running { runs self.old ≡ true }
         requires empty { out.old ≡ [] }
         ensures done { OnOk result (does self.old (D.told disk.old) event.now out.new self.new (D.told disk.new)) }
+        ensures halted { IfErr result (λ halt. halts self.old (D.told disk.old) event.now halt self.new (D.told disk.new)) }
         ensures running { OnOk result (runs self.new ≡ true) }
         ensures cause { HaltCause (D.faults disk.old) (D.faults disk.new) result };
 }

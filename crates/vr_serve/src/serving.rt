@@ -1,5 +1,5 @@
 //! The loop.
-ghost use Rattle.std.specs.Prelude.{◌≡◌, ◌≢◌, ◌≤◌, ◌⊎◌, [], ◌∷◌, Option, OnOk, OnErr, IfOk, true};
+ghost use Rattle.std.specs.Prelude.{◌≡◌, ◌≢◌, ◌≤◌, ◌⊎◌, [], ◌∷◌, Option, OnOk, IfErr, IfOk, true};
 ghost use Rattle.vr_edge.specs.Datagrams.{Arrival, Failed};
 ghost use Rattle.vr_edge.specs.Failing.{EndsFailed};
 ghost use Rattle.vr_edge.specs.Told.{GivesNext, Grows};
@@ -7,7 +7,7 @@ ghost use Rattle.vr_mail.specs.Letters.{Brings};
 ghost use Rattle.vr_mail.specs.declared.receiving.Letter.{Letter};
 ghost use Rattle.vr_serve.specs.Causes.{HasCauses, counts};
 ghost use Rattle.vr_serve.specs.Events.{Begins, Turn, comes_of, due, events_of, last_after};
-ghost use Rattle.vr_serve.specs.Runs.{Cut, IsCutBefore, IsCutInTurn, IsServed, Passed, at};
+ghost use Rattle.vr_serve.specs.Runs.{Cut, IsCutBefore, IsCutInTurn, IsServed, Passed, at, end_at};
 
 use crate::handling::{event_of, handle};
 use crate::post::Post;
@@ -39,10 +39,10 @@ fn arrive<M: Member, D: SectorDisk, K: Sink, L: Link>(
         (at member.old (D.told disk.old) post.old.number post.old.clients.items (K.taken sink.old) (L.sent link.old))
         (at member.new (D.told disk.new) post.new.number post.new.clients.items (K.taken sink.new) (L.sent link.new))
         (comes_of letter)) }
-    ensures cut { OnErr result ((arrival : Arrival) × (letter : Option Letter) × Grows (L.received link.old) (L.received link.new) (arrival ∷ [])
-        × Begins cluster arrival letter × Cut M.does
+    ensures cut { IfErr result (λ why. (arrival : Arrival) × (letter : Option Letter) × Grows (L.received link.old) (L.received link.new) (arrival ∷ [])
+        × Begins cluster arrival letter × Cut M.does M.halts
         (at member.old (D.told disk.old) post.old.number post.old.clients.items (K.taken sink.old) (L.sent link.old))
-        (comes_of letter) (K.taken sink.new) (L.sent link.new)) }
+        (comes_of letter) (end_at why (D.told disk.new) (K.taken sink.new) (L.sent link.new))) }
     ensures attached { L.attached link.new ≡ L.attached link.old }
 {
     match receive_letter(alloc, link, cluster, &mut post.to) {
@@ -79,9 +79,9 @@ fn beat<M: Member, D: SectorDisk, K: Sink, L: Link>(
         (at member.old (D.told disk.old) post.old.number post.old.clients.items (K.taken sink.old) (L.sent link.old))
         (at member.new (D.told disk.new) post.new.number post.new.clients.items (K.taken sink.new) (L.sent link.new))
         (due last now)) }
-    ensures cut { OnErr result (Cut M.does
+    ensures cut { IfErr result (λ why. Cut M.does M.halts
         (at member.old (D.told disk.old) post.old.number post.old.clients.items (K.taken sink.old) (L.sent link.old))
-        (due last now) (K.taken sink.new) (L.sent link.new)) }
+        (due last now) (end_at why (D.told disk.new) (K.taken sink.new) (L.sent link.new))) }
     ensures attached { L.attached link.new ≡ L.attached link.old }
 {
     if now < last {
@@ -118,10 +118,10 @@ fn turn<M: Member, D: SectorDisk, K: Sink, L: Link, C: Clock>(
         (at member.old (D.told disk.old) post.old.number post.old.clients.items (K.taken sink.old) (L.sent link.old))
         (at member.new (D.told disk.new) post.new.number post.new.clients.items (K.taken sink.new) (L.sent link.new))
         (events_of last turn)) }
-    ensures cut { OnErr result ((turn : Turn) × Grows (L.received link.old) (L.received link.new) (turn.arrival ∷ [])
-        × Begins cluster turn.arrival turn.letter × Cut M.does
+    ensures cut { IfErr result (λ why. (turn : Turn) × Grows (L.received link.old) (L.received link.new) (turn.arrival ∷ [])
+        × Begins cluster turn.arrival turn.letter × Cut M.does M.halts
         (at member.old (D.told disk.old) post.old.number post.old.clients.items (K.taken sink.old) (L.sent link.old))
-        (events_of last turn) (K.taken sink.new) (L.sent link.new)) }
+        (events_of last turn) (end_at why (D.told disk.new) (K.taken sink.new) (L.sent link.new))) }
     ensures attached { L.attached link.new ≡ L.attached link.old }
 {
     arrive(alloc, cluster, member, disk, sink, link, post)?;
@@ -147,8 +147,8 @@ pub fn serve<M: Member, D: SectorDisk, K: Sink, L: Link, C: Clock>(
     ensures causes { HasCauses (counts (D.faults disk.old) (K.faults sink.old) (L.faults link.old)) (counts (D.faults disk.new) (K.faults sink.new) (L.faults link.new)) result }
     ensures linked { result ≡ Err Stop.Link → EndsFailed (L.received link.old) (L.received link.new) }
     ensures done { OnOk result (IsServed M.does cluster turns first member.old member.new (D.told disk.old) (D.told disk.new) (C.left clock.old) (C.left clock.new) (L.received link.old) (L.received link.new) (K.taken sink.old) (K.taken sink.new) (L.sent link.old) (L.sent link.new)) }
-    ensures cut { OnErr result (IsCutBefore first (L.received link.old) (L.received link.new) (K.taken sink.old) (K.taken sink.new) (L.sent link.old) (L.sent link.new)
-        ⊎ IsCutInTurn M.does cluster turns first member.old (D.told disk.old) (L.received link.old) (L.received link.new) (K.taken sink.old) (K.taken sink.new) (L.sent link.old) (L.sent link.new)) }
+    ensures cut { IfErr result (λ why. IsCutBefore first (D.told disk.old) (L.received link.old) (L.received link.new) (K.taken sink.old) (L.sent link.old) (end_at why (D.told disk.new) (K.taken sink.new) (L.sent link.new))
+        ⊎ IsCutInTurn M.does M.halts cluster turns first member.old (D.told disk.old) (L.received link.old) (L.received link.new) (K.taken sink.old) (L.sent link.old) (end_at why (D.told disk.new) (K.taken sink.new) (L.sent link.new))) }
     ensures attached { L.attached link.new ≡ L.attached link.old }
 {
     let mut post = Post::new(alloc)?;

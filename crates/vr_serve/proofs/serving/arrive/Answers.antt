@@ -1,9 +1,9 @@
 use Rattle.std.proofs.Common.{◌∙◌, sym, [], None, refl, subst}
 use Rattle.vr_mail.specs.Letters.{Brings}
-use Rattle.vr_serve.proofs.Cutting.{cut_none, failed_begins}
+use Rattle.vr_serve.proofs.Cutting.{cut_none, failed_begins, received_stop_spares}
 use Rattle.vr_serve.proofs.Ending.{link_failed, same_stop}
 use Rattle.vr_serve.proofs.Running.{passed_none}
-use Rattle.vr_serve.specs.Runs.{at}
+use Rattle.vr_serve.specs.Runs.{End, at, end_at}
 use Rattle.vr_serve.specs.declared.stop.Stop.TheVariants.{Link}
 use Rattle.vr_serve.proofs.serving.arrive.Goals as goal
 
@@ -11,7 +11,14 @@ pub returns-in-Err-clause-cut : goal.returns-in-Err-clause-cut
 returns-in-Err-clause-cut g c =
     let a = at c.args.member.now (g.D.SectorDisk.told c.args.disk.now) c.args.post.now.number c.args.post.now.clients.items (g.K.Sink.taken c.args.sink.now) (g.L.Link.sent c.args.link.now) in
     let r = c.in-Err.ensures.received in
-    (r.0, None, r.1, failed_begins c.args.cluster r.0 c.in-Err.fault r.2, rw c.receive_letter.ensures.sent (cut_none g.M.Member.does a []))
+    let end : End = end_at c.received_stop.result (g.D.SectorDisk.told c.args.disk.now) (g.K.Sink.taken c.args.sink.now) (g.L.Link.sent c.receive_letter.new.link) in (
+      r.0,
+      None,
+      r.1,
+      failed_begins c.args.cluster r.0 c.in-Err.fault r.2,
+      cut_none g.M.Member.does g.M.Member.halts a [] end
+          (record { why = rw c.received_stop.ensures (received_stop_spares c.in-Err.fault); disk = refl; taken = refl; sent = c.receive_letter.ensures.sent }),
+    )
 
 pub returns-in-Ok-None-clause-passed : goal.returns-in-Ok-None-clause-passed
 returns-in-Ok-None-clause-passed g c =

@@ -3,13 +3,14 @@ use Rattle.std.specs.Io.KnownBytes.{Appends}
 use Rattle.vr_edge.specs.Datagrams.{Failed}
 use Rattle.vr_mail.proofs.Growing.{grows_trans}
 use Rattle.vr_mail.specs.Sends.{Sends}
-use Rattle.vr_serve.proofs.Cutting.{on_err}
+use Rattle.vr_serve.proofs.Cutting.{if_err_is}
 use Rattle.vr_serve.proofs.Ending.{same_stop}
 use Rattle.vr_serve.proofs.Turning.{serving_begins, serving_cut, serving_more}
 use Rattle.vr_serve.specs.Events.{arrivals}
 use Rattle.vr_serve.specs.Outputs.{datagrams_for, numbers_after, text_from}
+use Rattle.vr_serve.specs.declared.stop.Stop.{Stop}
 use Rattle.vr_serve.specs.declared.stop.Stop.TheVariants.{Link}
-use Rattle.vr_serve.specs.Runs.{IsCutBefore, IsCutInTurn, at}
+use Rattle.vr_serve.specs.Runs.{End, IsCutBefore, IsCutInTurn, at, end_at}
 use Rattle.vr_serve.proofs.serving.serve.Goals as goal
 
 pub loop-init : goal.loop-init
@@ -55,15 +56,20 @@ pub returns-in_err-last-clause-cut : goal.returns-in_err-last-clause-cut
 returns-in_err-last-clause-cut g c =
     let b = at c.loop.member (g.D.SectorDisk.told c.loop.disk) c.loop.post.number c.loop.post.clients.items (g.K.Sink.taken c.loop.sink) (g.L.Link.sent c.loop.link) in
     let r = c.in_err-last.ensures.cut in
-    on_err c.from_residual-in_err-last.result
-    (IsCutBefore c.args.first (g.L.Link.received c.args.link.now) (g.L.Link.received c.turn.new.link) (g.K.Sink.taken c.args.sink.now) (g.K.Sink.taken c.turn.new.sink)
-    (g.L.Link.sent c.args.link.now) (g.L.Link.sent c.turn.new.link)
-    ⊎ IsCutInTurn g.M.Member.does c.args.cluster c.args.turns c.args.first c.args.member.now (g.D.SectorDisk.told c.args.disk.now) (g.L.Link.received c.args.link.now)
-    (g.L.Link.received c.turn.new.link) (g.K.Sink.taken c.args.sink.now) (g.K.Sink.taken c.turn.new.sink) (g.L.Link.sent c.args.link.now) (g.L.Link.sent c.turn.new.link))
-    (inr (serving_cut g.M.Member.does c.args.cluster c.loop.counter c.loop.last c.args.turns c.args.first c.args.member.now (g.D.SectorDisk.told c.args.disk.now)
-    (g.C.Clock.left c.args.clock.now) (g.C.Clock.left c.loop.clock) (g.L.Link.received c.args.link.now) (g.L.Link.received c.loop.link) (g.L.Link.received c.turn.new.link)
-    (g.K.Sink.taken c.args.sink.now) (g.K.Sink.taken c.turn.new.sink) (g.L.Link.sent c.args.link.now) (g.L.Link.sent c.turn.new.link)
-    b r.0 c.loop.invariant.serving c.loop-test.true r.1 r.2 r.3))
+    let stop = c.in_err-last.field-0.0 in
+    let is : c.from_residual-in_err-last.result ≡ Err stop = search rules in
+    let got = g.L.Link.received c.args.link.now in
+    let got' = g.L.Link.received c.turn.new.link in
+    let taken = g.K.Sink.taken c.args.sink.now in
+    let sent = g.L.Link.sent c.args.link.now in
+    let end : Stop → End = λ why. end_at why (g.D.SectorDisk.told c.turn.new.disk) (g.K.Sink.taken c.turn.new.sink) (g.L.Link.sent c.turn.new.link) in
+    if_err_is c.from_residual-in_err-last.result
+    (λ why. IsCutBefore c.args.first (g.D.SectorDisk.told c.args.disk.now) got got' taken sent (end why)
+    ⊎ IsCutInTurn g.M.Member.does g.M.Member.halts c.args.cluster c.args.turns c.args.first c.args.member.now (g.D.SectorDisk.told c.args.disk.now) got got' taken sent (end why))
+    stop is
+    (inr (serving_cut g.M.Member.does g.M.Member.halts c.args.cluster c.loop.counter c.loop.last c.args.turns c.args.first c.args.member.now (g.D.SectorDisk.told c.args.disk.now)
+    (g.C.Clock.left c.args.clock.now) (g.C.Clock.left c.loop.clock) got (g.L.Link.received c.loop.link) got' taken sent b r.0 (end stop) c.loop.invariant.serving c.loop-test.true
+    r.1 r.2 r.3))
 
 pub returns-in_err-last-clause-linked : goal.returns-in_err-last-clause-linked
 returns-in_err-last-clause-linked g c =

@@ -1,18 +1,22 @@
-use Rattle.std.proofs.Common.{inl}
-use Rattle.vr_serve.proofs.Cutting.{CutTurn, cut_after, cut_before, on_err, on_err_then}
+use Rattle.std.proofs.Common.{Err, rules, ◌≡◌, inl}
+use Rattle.vr_serve.proofs.Cutting.{CutTurn, cut_after, cut_before, if_err_is, if_err_then}
 use Rattle.vr_serve.proofs.Running.{passed_trans}
 use Rattle.vr_serve.proofs.Turning.{both}
 use Rattle.vr_serve.specs.Events.{comes_of, due, turn_of}
-use Rattle.vr_serve.specs.Runs.{at}
+use Rattle.vr_serve.specs.Runs.{End, at, end_at}
+use Rattle.vr_serve.specs.declared.stop.Stop.{Stop}
 use Rattle.vr_serve.proofs.serving.turn.Goals as goal
 
 pub returns-in_err-arrive-clause-cut : goal.returns-in_err-arrive-clause-cut
 returns-in_err-arrive-clause-cut g c =
     let a = at c.args.member.now (g.D.SectorDisk.told c.args.disk.now) c.args.post.now.number c.args.post.now.clients.items (g.K.Sink.taken c.args.sink.now) (g.L.Link.sent c.args.link.now) in
     let r = c.in_err-arrive.ensures.cut in
-    on_err c.from_residual.result (CutTurn g.M.Member.does a c.args.cluster c.args.last (g.L.Link.received c.args.link.now) (g.L.Link.received c.arrive.new.link)
-    (g.K.Sink.taken c.arrive.new.sink) (g.L.Link.sent c.arrive.new.link))
-    (turn_of r.0 r.1 0, r.2, r.3, cut_before g.M.Member.does a (comes_of r.1) (due c.args.last 0) (g.K.Sink.taken c.arrive.new.sink) (g.L.Link.sent c.arrive.new.link) r.4)
+    let stop = c.in_err-arrive.field-0.0 in
+    let is : c.from_residual.result ≡ Err stop = search rules in
+    let end : Stop → End = λ why. end_at why (g.D.SectorDisk.told c.arrive.new.disk) (g.K.Sink.taken c.arrive.new.sink) (g.L.Link.sent c.arrive.new.link) in
+    if_err_is c.from_residual.result
+    (λ why. CutTurn g.M.Member.does g.M.Member.halts a c.args.cluster c.args.last (g.L.Link.received c.args.link.now) (g.L.Link.received c.arrive.new.link) (end why)) stop is
+    (turn_of r.0 r.1 0, r.2, r.3, cut_before g.M.Member.does g.M.Member.halts a (comes_of r.1) (due c.args.last 0) (end stop) r.4)
 
 pub returns-clause-turned : goal.returns-clause-turned
 returns-clause-turned g c =
@@ -34,10 +38,11 @@ returns-clause-cut g c =
     let a = at c.args.member.now (g.D.SectorDisk.told c.args.disk.now) c.args.post.now.number c.args.post.now.clients.items (g.K.Sink.taken c.args.sink.now) (g.L.Link.sent c.args.link.now) in
     let b = at c.arrive.new.member (g.D.SectorDisk.told c.arrive.new.disk) c.arrive.new.post.number c.arrive.new.post.clients.items (g.K.Sink.taken c.arrive.new.sink) (g.L.Link.sent c.arrive.new.link) in
     let r = c.in_ok-arrive.ensures.passed in
-    on_err_then c.beat.result _ (CutTurn g.M.Member.does a c.args.cluster c.args.last (g.L.Link.received c.args.link.now) (g.L.Link.received c.beat.new.link)
-    (g.K.Sink.taken c.beat.new.sink) (g.L.Link.sent c.beat.new.link)) (λ cut. (
+    let end : Stop → End = λ why. end_at why (g.D.SectorDisk.told c.beat.new.disk) (g.K.Sink.taken c.beat.new.sink) (g.L.Link.sent c.beat.new.link) in
+    if_err_then c.beat.result _
+    (λ why. CutTurn g.M.Member.does g.M.Member.halts a c.args.cluster c.args.last (g.L.Link.received c.args.link.now) (g.L.Link.received c.beat.new.link) (end why)) (λ why cut. (
       turn_of r.0 r.1 c.now-now.result,
       rw c.beat.ensures.received r.2,
       inl r.3,
-      cut_after g.M.Member.does a b (comes_of r.1) (due c.args.last c.now-now.result) (g.K.Sink.taken c.beat.new.sink) (g.L.Link.sent c.beat.new.link) r.4 cut,
+      cut_after g.M.Member.does g.M.Member.halts a b (comes_of r.1) (due c.args.last c.now-now.result) (end why) r.4 cut,
     )) c.beat.ensures.cut
