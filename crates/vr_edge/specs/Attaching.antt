@@ -1,4 +1,4 @@
--- What a link tells of its attaches.
+-- What a link, or streams, tell of their attaches.
 use Rattle.std.specs.Global.{Global}
 use Rattle.std.specs.Prelude.{ℕ, List, map, Bool, true, false, String, string_bytes, Result, Ok, Err}
 use Rattle.vr_edge.specs.declared.attach.Attach.{Attach}

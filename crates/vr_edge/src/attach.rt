@@ -1,13 +1,12 @@
-//! An attach of a link.
+//! An attach of a link, or of streams.
 ghost use Rattle.std.specs.Prelude.{◌≡◌, IfOk};
 ghost use Rattle.vr_edge.specs.Attaching.{attached_by, texts_of};
 
-use crate::LinkFailed;
 use crate::texts::texts_of;
 use std::alloc::{AllocError, Global};
 use vr_base::{ByteList, Seq};
 
-/// One attach of a link.
+/// One attach of a link, or of streams.
 #[derive(Debug, Drop, PartialEq, Eq)]
 pub struct Attach {
     /// The own address that it was given.
@@ -19,11 +18,11 @@ pub struct Attach {
 }
 
 /// The entry of one attach.
-pub fn attach_entry(
+pub fn attach_entry<E>(
     alloc: Global,
     own: &str,
     peers: &Vec<String>,
-    given: &Result<(), LinkFailed>,
+    given: &Result<(), E>,
 ) -> Result<Attach, AllocError>
     ensures { IfOk result (λ a. a ≡ attached_by own.now (texts_of peers.now.items) given.now) }
 {

@@ -1,15 +1,18 @@
 //! Streams in memory.
 ghost use Rattle.std.specs.Prelude.{◌≡◌, ◌≤◌, [], ◌∷◌, List, take, Option, Some, None, IfOk, OnErr, OnOk, if◌then◌else◌, length, vec_len, replicate, false, true, slice_get, slice_set, unwrap_or};
 ghost use Rattle.vr_base.specs.Causes.{HasCause};
+ghost use Rattle.vr_edge.specs.Attaching.{attached_by, texts_of};
 ghost use Rattle.vr_edge.specs.Counts.{is_listed, one_more};
 ghost use Rattle.vr_edge.specs.Streaming.{IsPolled, polled_by, written_by};
 ghost use Rattle.vr_edge.specs.StreamScripts.{gives, is_left_out, left_behind};
 ghost use Rattle.vr_edge.specs.Told.{Grows, IsNothing};
 ghost use Rattle.vr_edge.specs.declared.streams.StreamCall.TheVariants as call;
 
+use crate::attach::attach_entry;
 use crate::calls::is_listed;
 use crate::{
-    Coming, Piece, Polled, STREAM_ROOM, StreamCall, StreamFailed, StreamScript, Streams, Write,
+    Attach, Coming, Piece, Polled, STREAM_ROOM, StreamCall, StreamFailed, StreamScript, Streams,
+    Write,
 };
 use std::alloc::{AllocError, Global};
 use vr_base::ByteList;
@@ -45,6 +48,7 @@ pub struct MemStreams {
     peers: usize,
     /// Whether what comes at a port is left out.
     left_out: Vec<bool>,
+    attached: Log<Attach>,
     calls: CallLog,
     written: Log<Write>,
     attaches: u64,
@@ -223,6 +227,7 @@ impl MemStreams {
 
     /// Streams at so many ports, on which the script runs. What comes at other ports is left out.
     pub fn new(alloc: Global, ports: usize, script: StreamScript) -> Result<MemStreams, AllocError>
+        ensures attached { IfOk result (λ s. ⟦<MemStreams as Streams>⟧.attaches s ≡ Some []) }
         ensures calls { IfOk result (λ s. ⟦<MemStreams as Streams>⟧.calls s ≡ Some []) }
         ensures polled { IfOk result (λ s. ⟦<MemStreams as Streams>⟧.polled s ≡ Some []) }
         ensures written { IfOk result (λ s. ⟦<MemStreams as Streams>⟧.written s ≡ Some []) }
@@ -243,6 +248,7 @@ impl MemStreams {
             script,
             peers: 0,
             left_out,
+            attached: Log::new(alloc),
             calls: CallLog::new(alloc),
             written: Log::new(alloc),
             attaches: 0,
@@ -252,6 +258,17 @@ impl MemStreams {
             faults: 0,
             call_faults: 0,
         })
+    }
+
+    /// What each attach so far was given, and whether it went well; `None` where memory was wanting for one.
+    pub fn attached(&self) -> Option<&[Attach]>
+        ensures { option_map (λ attached. attached.now) result ≡ ⟦<MemStreams as Streams>⟧.attaches self.now }
+    {
+        if self.attached.whole {
+            Some(self.attached.entries.as_slice())
+        } else {
+            None
+        }
     }
 
     /// What each poll and each close so far did; `None` where memory was wanting for it.
@@ -298,6 +315,8 @@ impl MemStreams {
 impl Streams for MemStreams {
     ghost use Rattle.vr_edge.specs.StreamScripts.{found_at, gives_at, told, told_to, waits, write_takes};
 
+    ghost attaches = { λ s. told s.attached.whole s.attached.entries.items };
+
     ghost calls = { λ s. told s.calls.log.whole s.calls.log.entries.items };
 
     ghost polled = { λ s. told_to s.calls.was_whole s.calls.polled s.calls.log.entries.items };
@@ -312,8 +331,9 @@ impl Streams for MemStreams {
 
     ghost call_faults = { λ s. s.call_faults };
 
-    fn attach(&mut self, _own: &str, peers: &Vec<String>) -> Result<(), StreamFailed>
+    fn attach(&mut self, own: &str, peers: &Vec<String>) -> Result<(), StreamFailed>
         ensures cause { HasCause self.old.faults self.new.faults result }
+        ensures attaches { Grows (⟦<MemStreams as Streams>⟧.attaches self.old) (⟦<MemStreams as Streams>⟧.attaches self.new) (attached_by own.now (texts_of peers.now.items) result ∷ []) }
         ensures calls { ⟦<MemStreams as Streams>⟧.calls self.new ≡ ⟦<MemStreams as Streams>⟧.calls self.old }
         ensures polled { ⟦<MemStreams as Streams>⟧.polled self.new ≡ ⟦<MemStreams as Streams>⟧.polled self.old }
         ensures written { ⟦<MemStreams as Streams>⟧.written self.new ≡ ⟦<MemStreams as Streams>⟧.written self.old }
@@ -321,16 +341,23 @@ impl Streams for MemStreams {
         ensures kept { OnErr result (self.new.peers ≡ self.old.peers) }
         ensures others { self.new.call_faults ≡ self.old.call_faults }
         ensures result { result ≡ (if is_listed self.old.script.failing_attaches.items self.old.attaches then Err (record {}) else Ok (record {})) }
-        ensures state { self.new ≡ record self.old { peers = self.new.peers; attaches = one_more self.old.attaches; faults = self.new.faults } }
+        ensures state { self.new ≡ record self.old { peers = self.new.peers; attached = self.new.attached; attaches = one_more self.old.attaches; faults = self.new.faults } }
     {
         let call = self.attaches;
         self.attaches = call.saturating_add(1);
-        if is_listed(&self.script.failing_attaches, call) {
+        let given = if is_listed(&self.script.failing_attaches, call) {
+            Err(StreamFailed)
+        } else {
+            Ok(())
+        };
+        let entry = attach_entry(self.alloc, own, peers, &given);
+        self.attached.note(entry);
+        if given.is_ok() {
+            self.peers = peers.len();
+        } else {
             self.faults = self.faults.saturating_add(1);
-            return Err(StreamFailed);
         }
-        self.peers = peers.len();
-        Ok(())
+        given
     }
 
     fn poll(&mut self, to: &mut [u8]) -> Result<Polled, StreamFailed>
@@ -338,6 +365,7 @@ impl Streams for MemStreams {
         ensures bound { IfOk result (IsPolled self.old.peers) }
         ensures cause { HasCause self.old.faults self.new.faults result }
         ensures quiet { IfOk result (λ p. p ≡ Polled.Quiet → IsNothing (⟦<MemStreams as Streams>⟧.waiting self.old)) }
+        ensures attaches { ⟦<MemStreams as Streams>⟧.attaches self.new ≡ ⟦<MemStreams as Streams>⟧.attaches self.old }
         ensures calls { Grows (⟦<MemStreams as Streams>⟧.calls self.old) (⟦<MemStreams as Streams>⟧.calls self.new) (polled_by result to.new ∷ []) }
         ensures polled { ⟦<MemStreams as Streams>⟧.polled self.new ≡ ⟦<MemStreams as Streams>⟧.calls self.new }
         ensures written { ⟦<MemStreams as Streams>⟧.written self.new ≡ ⟦<MemStreams as Streams>⟧.written self.old }
@@ -359,6 +387,7 @@ impl Streams for MemStreams {
     fn write(&mut self, port: u32, bytes: &[u8]) -> Result<usize, StreamFailed>
         ensures bound { IfOk result (λ count. count ≤ length bytes.now) }
         ensures cause { HasCause self.old.call_faults self.new.call_faults result }
+        ensures attaches { ⟦<MemStreams as Streams>⟧.attaches self.new ≡ ⟦<MemStreams as Streams>⟧.attaches self.old }
         ensures calls { ⟦<MemStreams as Streams>⟧.calls self.new ≡ ⟦<MemStreams as Streams>⟧.calls self.old }
         ensures polled { ⟦<MemStreams as Streams>⟧.polled self.new ≡ ⟦<MemStreams as Streams>⟧.polled self.old }
         ensures written { Grows (⟦<MemStreams as Streams>⟧.written self.old) (⟦<MemStreams as Streams>⟧.written self.new) (written_by port bytes.now result ∷ []) }
@@ -380,6 +409,7 @@ impl Streams for MemStreams {
 
     fn close(&mut self, port: u32) -> Result<(), StreamFailed>
         ensures cause { HasCause self.old.call_faults self.new.call_faults result }
+        ensures attaches { ⟦<MemStreams as Streams>⟧.attaches self.new ≡ ⟦<MemStreams as Streams>⟧.attaches self.old }
         ensures calls { Grows (⟦<MemStreams as Streams>⟧.calls self.old) (⟦<MemStreams as Streams>⟧.calls self.new) (call.Closed port ∷ []) }
         ensures polled { ⟦<MemStreams as Streams>⟧.polled self.new ≡ ⟦<MemStreams as Streams>⟧.polled self.old }
         ensures written { ⟦<MemStreams as Streams>⟧.written self.new ≡ ⟦<MemStreams as Streams>⟧.written self.old }

@@ -1,8 +1,10 @@
 //! Streams of bytes, one at each port.
 ghost use Rattle.std.specs.Prelude.{◌≡◌, ◌≤◌, List, [], ◌∷◌, ℕ, Option, IfOk, OnErr, OnOk, length, vec_len};
 ghost use Rattle.vr_base.specs.Causes.{HasCause};
+ghost use Rattle.vr_edge.specs.Attaching.{attached_by, texts_of};
 ghost use Rattle.vr_edge.specs.Told.{Grows, IsNothing};
 ghost use Rattle.vr_edge.specs.Streaming.{IsPolled, polled_by, written_by};
+ghost use Rattle.vr_edge.specs.declared.attach.Attach.{Attach};
 ghost use Rattle.vr_edge.specs.declared.streams.StreamCall.{StreamCall};
 ghost use Rattle.vr_edge.specs.declared.streams.StreamCall.TheVariants.{Closed};
 ghost use Rattle.vr_edge.specs.declared.streams.Write.{Write};
@@ -63,6 +65,9 @@ pub enum StreamCall {
 /// connection; after a close, failed or not, no bytes of that connection come. The ports of peers are 0, 1, ..;
 /// others have ports from there on, at most 64 at once.
 pub trait Streams {
+    /// What each attach so far was given, and whether it went well, where the streams tell it.
+    ghost attaches: { Self → Option (List Attach) };
+
     /// What each poll and each close so far did, where the streams tell it.
     ghost calls: { Self → Option (List StreamCall) };
 
@@ -87,6 +92,7 @@ pub trait Streams {
     /// Takes the own address, empty for an object that only asks, and those of the peers.
     fn attach(&mut self, own: &str, peers: &Vec<String>) -> Result<(), StreamFailed>
         ensures cause { HasCause (faults self.old) (faults self.new) result }
+        ensures attaches { Grows (attaches self.old) (attaches self.new) (attached_by own.now (texts_of peers.now.items) result ∷ []) }
         ensures calls { calls self.new ≡ calls self.old }
         ensures polled { polled self.new ≡ polled self.old }
         ensures written { written self.new ≡ written self.old }
@@ -100,6 +106,7 @@ pub trait Streams {
         ensures bound { IfOk result (IsPolled (attached self.old)) }
         ensures cause { HasCause (faults self.old) (faults self.new) result }
         ensures quiet { IfOk result (λ p. p ≡ Polled.Quiet → IsNothing (waiting self.old)) }
+        ensures attaches { attaches self.new ≡ attaches self.old }
         ensures calls { Grows (calls self.old) (calls self.new) (polled_by result to.new ∷ []) }
         ensures polled { polled self.new ≡ calls self.new }
         ensures written { written self.new ≡ written self.old }
@@ -111,6 +118,7 @@ pub trait Streams {
     fn write(&mut self, port: u32, bytes: &[u8]) -> Result<usize, StreamFailed>
         ensures bound { IfOk result (λ count. count ≤ length bytes.now) }
         ensures cause { HasCause (call_faults self.old) (call_faults self.new) result }
+        ensures attaches { attaches self.new ≡ attaches self.old }
         ensures calls { calls self.new ≡ calls self.old }
         ensures polled { polled self.new ≡ polled self.old }
         ensures written { Grows (written self.old) (written self.new) (written_by port bytes.now result ∷ []) }
@@ -120,6 +128,7 @@ pub trait Streams {
     /// Ends the stream at a port.
     fn close(&mut self, port: u32) -> Result<(), StreamFailed>
         ensures cause { HasCause (call_faults self.old) (call_faults self.new) result }
+        ensures attaches { attaches self.new ≡ attaches self.old }
         ensures calls { Grows (calls self.old) (calls self.new) (Closed port ∷ []) }
         ensures polled { polled self.new ≡ polled self.old }
         ensures written { written self.new ≡ written self.old }

@@ -252,6 +252,8 @@ impl<R: Net + Clock + Drop> TcpStreams<R> {
 }
 
 impl<R: Net + Clock + Drop> Streams for TcpStreams<R> {
+    ghost attaches = { λ _. None };
+
     ghost calls = { λ _. None };
 
     ghost polled = { λ _. None };

@@ -1,3 +1,4 @@
+pub mod Attached
 pub mod Connected
 pub mod Found
 pub mod Fronts

@@ -1,3 +1,4 @@
+pub mod Attaching
 pub mod Connections
 pub mod Cutting
 pub mod Framers

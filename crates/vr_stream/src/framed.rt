@@ -1,5 +1,5 @@
 //! Streams, and the messages of each.
-ghost use Rattle.std.specs.Prelude.{◌≡◌, ◌≤◌, ◌<◌, ◌+◌, ◌⊎◌, [], ◌∷◌, Ok, None, IfOk, OnErr, OnOk, replicate, take, vec_capacity, vec_len};
+ghost use Rattle.std.specs.Prelude.{◌≡◌, ◌≤◌, ◌<◌, ◌+◌, ◌⊎◌, [], ◌∷◌, Ok, None, false, IfOk, OnErr, OnOk, replicate, take, vec_capacity, vec_len};
 
 use crate::framer::{Framer, Given};
 use std::alloc::{AllocError, Global};
@@ -12,6 +12,8 @@ pub struct Framed<T> {
     pub framer: Framer,
     /// How many peers there may be.
     pub peers: usize,
+    /// Whether more of them were refused once; from then on it tells no attach.
+    pub is_over: bool,
     /// What a poll gives.
     room: [u8; STREAM_ROOM],
     pub faults: u64,
@@ -20,11 +22,13 @@ pub struct Framed<T> {
 
 impl<T: Streams> Framed<T> {
     ghost use Rattle.vr_base.specs.Causes.{HasCause, Rose};
+    ghost use Rattle.vr_edge.specs.Attaching.{texts_of};
     ghost use Rattle.vr_edge.specs.Datagrams.{sent_by};
     ghost use Rattle.vr_edge.specs.Told.{Grows};
     ghost use Rattle.vr_edge.specs.Streaming.{IsPolled, polled_by};
     ghost use Rattle.vr_edge.specs.declared.streams.StreamFailed.{StreamFailed};
     ghost use Rattle.vr_edge.specs.declared.streams.StreamCall.TheVariants.{Came, Closed};
+    ghost use Rattle.vr_stream.specs.Attaching.{IsAttach};
     ghost use Rattle.vr_stream.specs.Framers.{framing};
     ghost use Rattle.vr_stream.specs.Framing.{ended};
     ghost use Rattle.vr_stream.specs.Lines.{fresh_line};
@@ -38,6 +42,7 @@ impl<T: Streams> Framed<T> {
         ensures streams { IfOk result (λ l. l.streams ≡ streams) }
         ensures peers { IfOk result (λ l. l.peers ≡ peers) }
         ensures lines { IfOk result (λ l. l.framer.lines.items ≡ replicate (peers + 64) fresh_line) }
+        ensures over { IfOk result (λ l. l.is_over ≡ false) }
         ensures ready { IfOk result (λ l. l.framer.ready ≡ None) }
         ensures faults { IfOk result (λ l. (l.faults ≡ 0) × (l.send_faults ≡ 0)) }
     {
@@ -46,6 +51,7 @@ impl<T: Streams> Framed<T> {
             streams,
             framer: Framer::new(alloc, peers + 64)?,
             peers,
+            is_over: false,
             room: [0; STREAM_ROOM],
             faults: 0,
             send_faults: 0,
@@ -58,6 +64,7 @@ impl<T: Streams> Framed<T> {
         ensures calls { Grows (T.calls self.old.streams) (T.calls self.new.streams) (Closed port ∷ []) }
         ensures written { T.written self.new.streams ≡ T.written self.old.streams }
         ensures polled { T.polled self.new.streams ≡ T.polled self.old.streams }
+        ensures attached { (T.attaches self.new.streams ≡ T.attaches self.old.streams) × (self.new.is_over ≡ self.old.is_over) }
         ensures faults { (self.new.faults ≡ self.old.faults) × (self.new.send_faults ≡ self.old.send_faults) }
     {
         let _ = self.streams.close(port);
@@ -72,6 +79,7 @@ impl<T: Streams> Framed<T> {
         ensures ready { result ≡ None → self.new.framer.ready ≡ None }
         ensures written { T.written self.new.streams ≡ T.written self.old.streams }
         ensures polled { T.polled self.new.streams ≡ T.polled self.old.streams }
+        ensures attached { (T.attaches self.new.streams ≡ T.attaches self.old.streams) × (self.new.is_over ≡ self.old.is_over) }
         ensures faults { (self.new.faults ≡ self.old.faults) × (self.new.send_faults ≡ self.old.send_faults) }
         ensures room { vec_capacity to.old ≤ vec_capacity to.new }
     {
@@ -94,6 +102,7 @@ impl<T: Streams> Framed<T> {
         ensures heard { IsHeard (framing self.old.framer) (Came (record { port = port; bytes = take count self.old.room })) (T.calls self.old.streams) (framing self.new.framer) (T.calls self.new.streams) to.new.items result }
         ensures written { T.written self.new.streams ≡ T.written self.old.streams }
         ensures polled { T.polled self.new.streams ≡ T.polled self.old.streams }
+        ensures attached { (T.attaches self.new.streams ≡ T.attaches self.old.streams) × (self.new.is_over ≡ self.old.is_over) }
         ensures faults { (self.new.faults ≡ self.old.faults) × (self.new.send_faults ≡ self.old.send_faults) }
         ensures room { vec_capacity to.old ≤ vec_capacity to.new }
     {
@@ -116,6 +125,7 @@ impl<T: Streams> Framed<T> {
         ensures heard { IsHeard (framing self.old.framer) (polled_by {E = StreamFailed} (Ok polled) self.old.room) (T.calls self.old.streams) (framing self.new.framer) (T.calls self.new.streams) to.new.items result }
         ensures written { T.written self.new.streams ≡ T.written self.old.streams }
         ensures polled { T.polled self.new.streams ≡ T.polled self.old.streams }
+        ensures attached { (T.attaches self.new.streams ≡ T.attaches self.old.streams) × (self.new.is_over ≡ self.old.is_over) }
         ensures faults { (self.new.faults ≡ self.old.faults) × (self.new.send_faults ≡ self.old.send_faults) }
         ensures room { vec_capacity to.old ≤ vec_capacity to.new }
     {
@@ -130,8 +140,10 @@ impl<T: Streams> Framed<T> {
     }
 
     /// Attaches the streams; it fails with more peers than there may be.
+    #[tactic(auto, using(std::proofs::lemmas::Grind::common_steps, crate::proofs::Attached::passed_on, crate::proofs::Attached::refused))]
     pub fn attach(&mut self, own: &str, peers: &Vec<String>) -> Result<(), LinkFailed>
         ensures cause { HasCause self.old.faults self.new.faults result }
+        ensures asked { IsAttach self.old.peers (vec_len peers.now) own.now (texts_of peers.now.items) self.old.is_over self.new.is_over (T.attaches self.old.streams) (T.attaches self.new.streams) result }
         ensures written { T.written self.new.streams ≡ T.written self.old.streams }
         ensures others { self.new.send_faults ≡ self.old.send_faults }
         ensures few { OnOk result (vec_len peers.now ≤ self.old.peers) }
@@ -142,6 +154,7 @@ impl<T: Streams> Framed<T> {
         ensures polled { T.polled self.new.streams ≡ T.polled self.old.streams }
     {
         if peers.len() > self.peers {
+            self.is_over = true;
             self.faults = self.faults.saturating_add(1);
             return Err(LinkFailed);
         }
@@ -161,6 +174,7 @@ impl<T: Streams> Framed<T> {
         ensures sent { Grows (sent_told (T.written self.old.streams)) (sent_told (T.written self.new.streams)) (sent_by to bytes.now result ∷ []) }
         ensures sends { Sends to bytes.now (framing self.old.framer) (T.calls self.old.streams) (T.written self.old.streams) (framing self.new.framer) (T.calls self.new.streams) (T.written self.new.streams) }
         ensures polled { T.polled self.new.streams ≡ T.polled self.old.streams }
+        ensures attached { (T.attaches self.new.streams ≡ T.attaches self.old.streams) × (self.new.is_over ≡ self.old.is_over) }
         ensures others { self.new.faults ≡ self.old.faults }
     {
         match self.streams.write(to, bytes) {
@@ -179,6 +193,7 @@ impl<T: Streams> Framed<T> {
         ensures cause { HasCause self.old.faults self.new.faults result }
         ensures written { T.written self.new.streams ≡ T.written self.old.streams }
         ensures room { RECEIVE_ROOM ≤ vec_capacity to.new }
+        ensures attached { (T.attaches self.new.streams ≡ T.attaches self.old.streams) × (self.new.is_over ≡ self.old.is_over) }
         ensures others { self.new.send_faults ≡ self.old.send_faults }
         ensures heard { IsReceived (framing self.old.framer) (T.calls self.old.streams) (T.polled self.old.streams) (framing self.new.framer) (T.calls self.new.streams) (T.polled self.new.streams) to.new.items result }
     {

@@ -62,11 +62,12 @@ impl<T: Streams> Link for StreamLink<T> {
     ghost use Rattle.vr_edge.specs.Attaching.{attached_by, texts_of};
     ghost use Rattle.vr_edge.specs.Datagrams.{sent_by, received_by};
     ghost use Rattle.vr_edge.specs.Told.{Grows, IsNothing};
+    ghost use Rattle.vr_stream.specs.Attaching.{IsAttach, attached_told};
     ghost use Rattle.vr_stream.specs.Heard.{told_if};
     ghost use Rattle.vr_stream.specs.Receiving.{IsReceived};
     ghost use Rattle.vr_stream.specs.Sending.{Sends, sent_told};
 
-    ghost attached = { λ l. None };
+    ghost attached = { λ l. attached_told l.framed.is_over (T.attaches l.framed.streams) };
 
     ghost sent = { λ l. sent_told (T.written l.framed.streams) };
 
@@ -78,13 +79,14 @@ impl<T: Streams> Link for StreamLink<T> {
 
     ghost send_faults = { λ l. l.framed.send_faults };
 
-    #[tactic(auto, using(crate::proofs::Told::told_still, crate::proofs::Told::received_still))]
+    #[tactic(auto, using(crate::proofs::Told::told_still, crate::proofs::Told::received_still, crate::proofs::Attached::attached_more))]
     fn attach(&mut self, own: &str, peers: &Vec<String>) -> Result<(), LinkFailed>
         ensures cause { HasCause self.old.framed.faults self.new.framed.faults result }
         ensures attached { Grows (⟦<StreamLink<T> as Link>⟧.attached self.old) (⟦<StreamLink<T> as Link>⟧.attached self.new) (attached_by own.now (texts_of peers.now.items) result ∷ []) }
         ensures sent { ⟦<StreamLink<T> as Link>⟧.sent self.new ≡ ⟦<StreamLink<T> as Link>⟧.sent self.old }
         ensures received { ⟦<StreamLink<T> as Link>⟧.received self.new ≡ ⟦<StreamLink<T> as Link>⟧.received self.old }
         ensures others { self.new.framed.send_faults ≡ self.old.framed.send_faults }
+        ensures asked { IsAttach self.old.framed.peers (vec_len peers.now) own.now (texts_of peers.now.items) self.old.framed.is_over self.new.framed.is_over (T.attaches self.old.framed.streams) (T.attaches self.new.framed.streams) result }
         ensures few { OnOk result (vec_len peers.now ≤ self.old.framed.peers) }
         ensures reached { OnOk result (T.attached self.new.framed.streams ≡ vec_len peers.now) }
         ensures failed { OnErr result ((self.old.framed.peers < vec_len peers.now) ⊎ Rose (T.faults self.old.framed.streams) (T.faults self.new.framed.streams)) }
