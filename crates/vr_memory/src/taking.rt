@@ -14,7 +14,7 @@ use crate::Replica;
 use std::marker::Model;
 use vr_base::Replicas;
 use vr_header::{Header, HeaderList, Part};
-use vr_window::{Names, has_header, valued};
+use vr_window::{Names, Standing, has_header, valued};
 
 /// The log of a view: its headers of the ops above `lo`, up to its head, and a commit number.
 #[derive(Drop)]
@@ -155,10 +155,12 @@ impl Replica {
         requires { HasWindow self.now }
         ensures { result ≡ is_newer log.now self.now }
     {
-        self.view < log.view
-            || (log.view == self.view
-                && (self.log_view < log.view
-                    || (log.view == self.log_view && self.head() < log.head)))
+        let standing = Standing {
+            view: self.view,
+            log_view: self.log_view,
+            head: self.head(),
+        };
+        standing.is_behind(log.view, log.head)
     }
 
     #[tactic(auto, using(crate::proofs::Memory::bounds))]
