@@ -1,5 +1,7 @@
 //! A replica that knows nothing of any op.
-ghost use Rattle.std.specs.Prelude.{◌≡◌, ◌≤◌, ◌+◌, ◌-◌, IfOk};
+ghost use Rattle.std.specs.Prelude.{◌≡◌, ◌≤◌, ◌+◌, ◌-◌, IfOk, None, replicate};
+ghost use Rattle.vr_base.specs.Replicas.{no_replicas};
+ghost use Rattle.vr_header.specs.declared.part.Part.TheVariants.{Nothing};
 ghost use Rattle.vr_rules.specs.Opening.{blank, first_listed};
 
 use crate::Replica;
@@ -8,6 +10,7 @@ use vr_base::{NoMemory, Replicas, Seq};
 use vr_ckpt::{Name, PayloadTable, State};
 use vr_disk::Buffer;
 use vr_header::Part;
+use vr_msg::Statement;
 use vr_super::Super;
 use vr_window::{Names, Places, Window};
 
@@ -29,16 +32,65 @@ fn count_of(value: &Super) -> usize
     (value.fields().checkpoint + 65 - first) as usize
 }
 
+// How many replicas its group has.
+fn members_of(value: &Super) -> u8
+    ensures { result ≡ value.now.fields.n }
+{
+    value.fields().n
+}
+
+// What a replica has room for from its beginning on.
+#[derive(Drop)]
+struct Room {
+    parts: Window<Part>,
+    names: Names,
+    ackers: Window<Replicas>,
+    statements: Places<Statement>,
+    buffer: Buffer,
+}
+
+impl Room {
+    // Room for so many ops, of which nothing is known, in a group of n.
+    fn new(alloc: Global, count: usize, n: u8) -> Result<Room, NoMemory>
+        requires { count ≤ 128 }
+        ensures parts { IfOk result (λ room. room.parts ≡ replicate count Nothing) }
+        ensures ackers { IfOk result (λ room. room.ackers ≡ replicate count no_replicas) }
+        ensures statements { IfOk result (λ room. room.statements ≡ replicate n None) }
+    {
+        let parts = Window::full(alloc, Part::Nothing, count)?;
+        let names = Names::new(alloc)?;
+        let ackers = Window::full(alloc, Replicas::none(), count)?;
+        let statements = Places::new(alloc, n)?;
+        let buffer = Buffer::new(alloc)?;
+        Ok(Room {
+            parts,
+            names,
+            ackers,
+            statements,
+            buffer,
+        })
+    }
+}
+
 impl Replica {
-    /// The replica of this value that knows nothing of any op.
+    // The replica of this value in this room; it takes no memory.
     #[tactic(auto, unfolding(vr_rules::specs::Opening::blank))]
-    pub fn blank(alloc: Global, value: Super) -> Result<Replica, NoMemory>
-        ensures blank { IfOk result (λ r. r ≡ blank value) }
+    fn within(alloc: Global, value: Super, first: u64, room: Room) -> Replica
+        requires first { first ≡ first_listed value }
+        requires parts { room.parts ≡ replicate (value.fields.checkpoint + 65 - first) Nothing }
+        requires ackers { room.ackers ≡ replicate (value.fields.checkpoint + 65 - first) no_replicas }
+        requires statements { room.statements ≡ replicate value.fields.n None }
+        ensures { result ≡ blank value }
     {
         let f = value.fields();
-        let first = first_of(&value);
-        let count = count_of(&value);
-        Ok(Replica {
+        let Room {
+            parts,
+            names,
+            ackers,
+            statements,
+            buffer,
+        } = room;
+        Replica {
             cluster: f.cluster,
             index: f.replica,
             n: f.n,
@@ -55,17 +107,27 @@ impl Replica {
             state: State::new(alloc),
             missing: Seq::new(alloc),
             first,
-            parts: Window::full(alloc, Part::Nothing, count)?,
-            names: Names::new(alloc)?,
-            ackers: Window::full(alloc, Replicas::none(), count)?,
+            parts,
+            names,
+            ackers,
             heard: Replicas::none(),
-            statements: Places::new(alloc, f.n)?,
+            statements,
             idle: 0,
             turn: 0,
             cursor: 0,
             worn: Seq::new(alloc),
             saved: value,
-            buffer: Buffer::new(alloc)?,
-        })
+            buffer,
+        }
+    }
+
+    /// The replica of this value that knows nothing of any op.
+    pub fn blank(alloc: Global, value: Super) -> Result<Replica, NoMemory>
+        ensures blank { IfOk result (λ r. r ≡ blank value) }
+    {
+        let first = first_of(&value);
+        let count = count_of(&value);
+        let room = Room::new(alloc, count, members_of(&value))?;
+        Ok(Replica::within(alloc, value, first, room))
     }
 }
