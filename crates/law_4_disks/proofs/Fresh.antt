@@ -24,7 +24,6 @@ use Rattle.vr_lie.proofs.Keeping.{two_first}
 use Rattle.vr_lie.proofs.Readings.{copy_within, other_after}
 use Rattle.vr_lie.specs.Held.{Stands}
 use Rattle.vr_lie.specs.Laws.{AllStand}
-use Rattle.vr_lie.specs.Table.{table_of}
 use Rattle.vr_lie.proofs.Calls.{empty_at, new_table}
 use Rattle.vr_lie.proofs.Premise.{none_stands}
 use Rattle.vr_world.specs.Replica.{Replica}
@@ -73,8 +72,8 @@ zero_is = refl
 
 zero_stands : (mode : Mode) (slot : ℕ) → slot < 64 → Stands mode zero_face slot None
 zero_stands mode slot l =
-    let held = table_of (replicate 64 None) in
-    let all : AllStand mode zero_face held = none_stands zero_face held (new_table zero_face (replicate 64 None) zero_is refl) (λ s b. empty_at 64 s) in
+    let held : List (Option (List ℕ)) = replicate 64 None in
+    let all : AllStand mode zero_face held = none_stands zero_face held (new_table zero_face held zero_is refl) (λ s b. empty_at 64 s) in
     subst (Stands mode zero_face slot) (empty_at 64 slot) (all.each slot l)
 
 abbrev empty : Lying

@@ -34,6 +34,7 @@ fn run_outside(rt: &HostRuntime) -> Result<Status, AllocError> {
     let mut source = StdSource::new(rt.stdin());
     let mut sink = StdSink::new(rt.stdout());
     let mut disk = FileDisk::new(rt);
+    disk.remember(alloc)?;
     let mut link = RealLink::new(alloc, rt)?;
     let mut clock = RealClock::new(rt);
     let mut spawner = RealSpawner::new(alloc, rt, own_path(rt)?);

@@ -150,14 +150,14 @@ read_of b c e =
     ] refl e
 
 -- what the test of a block says
-record Sound (h : Header) (b : List ℕ) : Type 0 where
-  size : h.size ≤ 4096
-  kind : is_kind h.kind ≡ true
-  address : h.aux < 128
-  zeros : is_zeros (drop h.size b) ≡ true
-  same : h ≡ block_header (content_at h b)
+pub record Sound (h : Header) (b : List ℕ) : Type 0 where
+  pub size : h.size ≤ 4096
+  pub kind : is_kind h.kind ≡ true
+  pub address : h.aux < 128
+  pub zeros : is_zeros (drop h.size b) ≡ true
+  pub same : h ≡ block_header (content_at h b)
 
-sound_of : (h : Header) (b : List ℕ) → is_block h b ≡ true → Sound h b
+pub sound_of : (h : Header) (b : List ℕ) → is_block h b ≡ true → Sound h b
 unfolding is_block
 sound_of h b e =
     let s = same_header h (block_header (content_at h b)) in

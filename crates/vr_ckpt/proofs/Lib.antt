@@ -8,6 +8,7 @@ pub mod Gathering
 pub mod Keeping
 pub mod Planning
 pub mod Roots
+pub mod Sealed
 pub use Rattle.vr_state.proofs.KvSteps
 pub use Rattle.vr_state.proofs.KvTexts
 pub use Rattle.vr_state.proofs.Numbers

@@ -1,6 +1,6 @@
 -- A block as it is made.
-use Rattle.std.proofs.Common.{ℕ, ◌+◌, ◌-◌, ◌≤◌, ◌≡◌, arith, ap, ◌∙◌, Bool, List, ◌++◌, length, take, append_assoc, length-append, Option}
-use Rattle.std.specs.Prelude.{replicate}
+use Rattle.std.proofs.Common.{ℕ, ◌+◌, ◌-◌, ◌≤◌, ◌≡◌, arith, ap, ◌∙◌, Bool, true, List, ◌++◌, length, take, append_assoc, length-append, Option}
+use Rattle.std.specs.Prelude.{is_some, replicate}
 use Rattle.std.proofs.lemmas.List.{take_all}
 use Rattle.vr_base.specs.Bytes.{piece}
 use Rattle.vr_base.specs.declared.sum.Sum.{Sum}
@@ -9,10 +9,10 @@ use Rattle.vr_header.specs.Names.{header_name}
 use Rattle.vr_header.specs.Spelling.{IsHeader, header_bytes}
 use Rattle.vr_header.specs.declared.header.Header.{Header}
 use Rattle.vr_header.proofs.HeaderLaws.{length-header_bytes}
-use Rattle.vr_ckpt.specs.Blocks.{Content, block_bytes, block_header, block_name, block_of}
+use Rattle.vr_ckpt.specs.Blocks.{Content, IsContent, block_bytes, block_header, block_name, block_of, content_of}
 use Rattle.vr_ckpt.specs.Grid.{block_calls}
 use Rattle.vr_ckpt.specs.declared.block.Block.{Block}
-use Rattle.vr_ckpt.proofs.Contents.{sum_in}
+use Rattle.vr_ckpt.proofs.Contents.{content_again, sum_in}
 
 bytes_are : (c : Content) (h : Header) (one two three : List ℕ) (n : ℕ) → length c.payload ≤ 3968 → IsHeader h → h ≡ block_header c → one ≡ header_bytes h → two ≡ one ++ c.payload
     → n ≡ length two → three ≡ take 4096 two ++ replicate (4096 - n) 0 → three ≡ block_bytes c
@@ -50,3 +50,7 @@ bytes_of_made b c e = ap (λ (x : Block). x.bytes) e
 
 pub runs_made : (b : Block) (c : Content) (bytes : List ℕ) (address : ℕ) (old new : Option Disk) (ok : Bool) → b ≡ block_of c → bytes ≡ b.bytes → Runs (block_calls address bytes) old new ok → Runs (block_calls address (block_bytes c)) old new ok
 runs_made b c bytes address old new ok e s r = let same : bytes ≡ block_bytes c = s ∙ bytes_of_made b c e in rw (← same) r
+
+pub whole_made : (b : Block) (c : Content) → b ≡ block_of c → IsContent c → is_some (content_of b.bytes) ≡ true
+unfolding block_of
+whole_made b c e i = ap (λ (x : Block). is_some (content_of x.bytes)) e ∙ ap is_some (content_again c i)

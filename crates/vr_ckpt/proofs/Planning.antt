@@ -1,6 +1,6 @@
 -- What is planned, payload by payload.
 use Rattle.std.proofs.Common.{ℕ, zero, suc, ◌+◌, ◌-◌, ◌*◌, ◌≤◌, ◌<◌, ◌≡◌, arith, refl, sym, ap, ◌∙◌, true, false, List, [], ◌∷◌, ◌++◌, length, take, drop, get_or, Some, None, append_assoc, length-take, inl, inr, subst}
-use Rattle.std.specs.Prelude.{min, nat_eq, slice_get}
+use Rattle.std.specs.Prelude.{is_some, min, nat_eq, slice_get}
 use Rattle.std.specs.Cmp.Lexicographic.{pointwise}
 use Rattle.std.proofs.Math.Nat.{min-eq_left, min-eq_right}
 use Rattle.std.proofs.lemmas.Bool.{cases_lt}
@@ -9,7 +9,7 @@ use Rattle.std.proofs.lemmas.Option.{slice_get-get_or}
 use Rattle.vr_state.specs.StateTexts.{payloads}
 use Rattle.vr_base.specs.Bytes.{piece}
 use Rattle.vr_state.specs.declared.texts.Texts.{Texts}
-use Rattle.vr_ckpt.specs.Blocks.{Content, block_name, block_of}
+use Rattle.vr_ckpt.specs.Blocks.{Content, block_name, block_of, content_of}
 use Rattle.vr_ckpt.specs.Grid.{block_calls}
 use Rattle.vr_ckpt.specs.declared.name.Name.{Name}
 use Rattle.vr_ckpt.specs.declared.block.Block.{Block}
@@ -114,12 +114,13 @@ begins_before n i l = omega arith
 
 -- ---- blocks in the grid
 
-placed_made : (c : Content) → c.address < 128 → length (block_of c).bytes ≡ 4096 → IsPlaced (block_of c)
+placed_made : (c : Content) → c.address < 128 → length (block_of c).bytes ≡ 4096 → is_some (content_of (block_of c).bytes) ≡ true → IsPlaced (block_of c)
 unfolding block_of
-placed_made c l s = record { address = l; size = s }
+placed_made c l s w = record { address = l; size = s; whole = w }
 
-pub placed_is : (b : Block) (c : Content) → b ≡ block_of c → c.address < 128 → length b.bytes ≡ 4096 → IsPlaced b
-placed_is b c e l s = subst IsPlaced (sym e) (placed_made c l (subst (λ (b : Block). length b.bytes ≡ 4096) e s))
+pub placed_is : (b : Block) (c : Content) → b ≡ block_of c → c.address < 128 → length b.bytes ≡ 4096 → is_some (content_of b.bytes) ≡ true → IsPlaced b
+placed_is b c e l s w =
+    subst IsPlaced (sym e) (placed_made c l (subst (λ (b : Block). length b.bytes ≡ 4096) e s) (subst (λ (b : Block). is_some (content_of b.bytes) ≡ true) e w))
 
 -- ---- both texts
 

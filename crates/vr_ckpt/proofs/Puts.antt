@@ -39,7 +39,7 @@ put_law address bytes f a l h w = record {
 }
 
 -- a whole block of a name
-some_there : {X : Type 0} → (o : Option X) → is_some o ≡ true → (x : X) × (o ≡ Some x)
+pub some_there : {X : Type 0} → (o : Option X) → is_some o ≡ true → (x : X) × (o ≡ Some x)
 some_there None e = absurd cc
 some_there (Some x) e = (x, refl)
 

@@ -53,7 +53,7 @@ whole_of name b n (Some c) s e = let same : n ≡ length c.payload = cc in recor
 
 -- ---- what a whole block says of itself
 
-read_header : (b : List ℕ) (h : Header) → decoded b ≡ Ok h → decoded_header b ≡ h
+pub read_header : (b : List ℕ) (h : Header) → decoded b ≡ Ok h → decoded_header b ≡ h
 read_header b h e =
     elim (fault_of b) as (λ (o : Option HeaderFault). option_map_or Err o (Ok (decoded_header b)) ≡ Ok h → decoded_header b ≡ h) [ None ↦ λ e. cc | Some x ↦ λ e. absurd cc ] e
 

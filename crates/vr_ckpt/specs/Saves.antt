@@ -1,11 +1,11 @@
 -- What a checkpoint writes: the payloads that changed since the one before, the root, one sync.
-use Rattle.std.specs.Prelude.{ℕ, zero, suc, ◌+◌, ◌*◌, ◌<◌, ◌≡◌, nat_eq, if◌then◌else◌, List, [], ◌∷◌, ◌++◌, length, Option, None, Some, slice_get}
+use Rattle.std.specs.Prelude.{ℕ, zero, suc, ◌+◌, ◌*◌, ◌<◌, ◌≡◌, nat_eq, if◌then◌else◌, List, [], ◌∷◌, ◌++◌, length, Option, None, Some, is_some, slice_get, true}
 use Rattle.std.specs.Cmp.Lexicographic.{pointwise}
 use Rattle.vr_base.specs.Bytes.{bytes16, bytes32, bytes64, piece}
 use Rattle.vr_disk.specs.DiskState.{Call, Sync}
 use Rattle.vr_state.specs.StateTexts.{payloads}
 use Rattle.vr_state.specs.declared.texts.Texts.{Texts}
-use Rattle.vr_ckpt.specs.Blocks.{Content, block_name, block_of}
+use Rattle.vr_ckpt.specs.Blocks.{Content, block_name, block_of, content_of}
 use Rattle.vr_ckpt.specs.Grid.{block_calls}
 use Rattle.vr_ckpt.specs.declared.block.Block.{Block}
 use Rattle.vr_ckpt.specs.Places.{first_place, keys_place, other_place, root_place, sessions_place}
@@ -106,7 +106,8 @@ save_calls cluster texts op old = blocks_calls (written cluster texts op old) ++
 abbrev pub saved_checkpoint : ℕ → Texts → ℕ → PayloadTable → SavedCheckpoint
 saved_checkpoint cluster texts op old = record { root = block_name (root_of cluster texts op (table_of cluster texts op old)); table = table_of cluster texts op old }
 
--- a block at an address of the grid
+-- a whole block at an address of the grid
 pub record IsPlaced (b : Block) : Type 0 where
   pub address : b.name.address < 128
   pub size : length b.bytes ≡ 4096
+  pub whole : is_some (content_of b.bytes) ≡ true

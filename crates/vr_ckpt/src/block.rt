@@ -1,6 +1,7 @@
 //! A block as it is written.
-ghost use Rattle.std.specs.Prelude.{◌≡◌, ◌≤◌, ◌<◌, length, IfOk};
-ghost use Rattle.vr_ckpt.specs.Blocks.{block_header, block_of};
+ghost use Rattle.std.specs.Prelude.{◌≡◌, ◌≤◌, ◌<◌, length, IfOk, is_some, true};
+ghost use Rattle.vr_base.specs.Bytes.{name_of};
+ghost use Rattle.vr_ckpt.specs.Blocks.{block_header, block_of, content_of, is_kind};
 
 use crate::Name;
 use std::alloc::{AllocError, Global};
@@ -30,13 +31,29 @@ pub struct Block {
 }
 
 /// The header of a block.
-#[tactic(auto, unfolding(crate::specs::Blocks::block_header))]
 pub(crate) fn block_header(cluster: u64, address: u64, op: u64, kind: u8, payload: &[u8]) -> Header
     requires { length payload.now ≤ 3968 }
     ensures { result ≡ block_header (record { cluster = cluster; address = address; op = op; kind = kind; payload = payload.now }) }
 {
+    header_over(cluster, address, op, kind, payload, checksum(payload))
+}
+
+/// The header of a block whose payload has this name.
+#[tactic(auto, unfolding(crate::specs::Blocks::block_header))]
+pub(crate) fn header_over(
+    cluster: u64,
+    address: u64,
+    op: u64,
+    kind: u8,
+    payload: &[u8],
+    body: Sum,
+) -> Header
+    requires size { length payload.now ≤ 3968 }
+    requires body { body.0 ≡ name_of payload.now }
+    ensures { result ≡ block_header (record { cluster = cluster; address = address; op = op; kind = kind; payload = payload.now }) }
+{
     Header {
-        body: checksum(payload),
+        body,
         parent: Sum([0; 16]),
         request_name: Sum([0; 16]),
         cluster,
@@ -68,6 +85,7 @@ impl Block {
         requires payload { length payload.now ≤ 3968 }
         ensures value { IfOk result (λ b. b ≡ block_of (record { cluster = cluster; address = address; op = op; kind = kind; payload = payload.now })) }
         ensures size { IfOk result (λ b. length b.bytes ≡ 4096) }
+        ensures whole { IfOk result (λ b. address < 128 → is_kind kind ≡ true → is_some (content_of b.bytes) ≡ true) }
     {
         let header = block_header(cluster, address, op, kind, payload);
         let front = encode(&header);

@@ -1,16 +1,18 @@
 //! Whether bytes are the whole block of a name.
-ghost use Rattle.std.specs.Prelude.{◌≡◌, ◌<◌, ◌-◌, length, Ok, nat_eq, ◌==◌, ◌&&◌};
+ghost use Rattle.std.specs.Prelude.{◌≡◌, ◌<◌, ◌≤◌, ◌-◌, length, Ok, nat_eq, ◌==◌, ◌&&◌};
 ghost use Rattle.std.specs.Option.{option_map};
 ghost use Rattle.std.specs.Cmp.Lexicographic.{pointwise};
 ghost use Rattle.vr_base.specs.Bytes.{piece};
 ghost use Rattle.vr_header.specs.Names.{header_name};
+ghost use Rattle.vr_header.specs.Same.{same_header};
 ghost use Rattle.vr_header.specs.Spelling.{decoded};
 ghost use Rattle.vr_ckpt.specs.Blocks.{block_header, is_block, is_kind, named};
 
 use crate::Name;
-use crate::block::block_header;
+use crate::block::header_over;
 use vr_base::{is_zeros, sum_at};
-use vr_header::{Header, decode};
+use vr_disk::{Room, SectorDisk};
+use vr_header::{Header, decode_by};
 
 fn is_kind(kind: u8) -> bool
     ensures { result ≡ is_kind kind }
@@ -18,21 +20,35 @@ fn is_kind(kind: u8) -> bool
     kind == 2 || kind == 3
 }
 
+// The header is that of a block with this payload.
+#[tactic(auto, unfolding(vr_header::specs::Same::same_header))]
+fn is_over<D: SectorDisk>(disk: &mut D, h: &Header, payload: &[u8]) -> bool
+    requires { length payload.now ≤ 3968 }
+    ensures value { result ≡ same_header h.now (block_header (record { cluster = h.now.cluster; address = h.now.aux; op = h.now.op; kind = h.now.kind; payload = payload.now })) }
+    ensures told { D.told disk.new ≡ D.told disk.old }
+    ensures faults { D.faults disk.new ≡ D.faults disk.old }
+    ensures reads { D.read_faults disk.new ≡ D.read_faults disk.old }
+{
+    let body = disk.name_of(Room::Payload(h.aux), payload);
+    *h == header_over(h.cluster, h.aux, h.op, h.kind, payload, body)
+}
+
 // The header is that of the payload behind it.
 #[tactic(auto, unfolding(crate::specs::Blocks::is_block, vr_base::specs::Bytes::piece, vr_header::specs::Same::same_header))]
-fn is_block(h: &Header, bytes: &[u8]) -> bool
+fn is_block<D: SectorDisk>(disk: &mut D, h: &Header, bytes: &[u8]) -> bool
     requires { length bytes.now ≡ 4096 }
-    ensures { result ≡ is_block h.now bytes.now }
+    ensures value { result ≡ is_block h.now bytes.now }
+    ensures told { D.told disk.new ≡ D.told disk.old }
+    ensures faults { D.faults disk.new ≡ D.faults disk.old }
+    ensures reads { D.read_faults disk.new ≡ D.read_faults disk.old }
 {
     let size = h.size.get();
     if size > 4096 {
         return false;
     }
     let end = size as usize;
-    is_kind(h.kind)
-        && h.aux < 128
-        && is_zeros(&bytes[end..])
-        && *h == block_header(h.cluster, h.aux, h.op, h.kind, &bytes[128..end])
+    let payload = &bytes[128..end];
+    is_kind(h.kind) && h.aux < 128 && is_zeros(&bytes[end..]) && is_over(disk, h, payload)
 }
 
 // The header that these bytes begin with is that of the name.
@@ -45,12 +61,20 @@ fn has_name(h: &Header, bytes: &[u8], name: &Name) -> bool
 }
 
 // The length of the payload, where the header is that of the payload behind it and has the name.
-fn payload_behind(h: Header, bytes: &[u8], name: &Name) -> Option<usize>
+fn payload_behind<D: SectorDisk>(
+    disk: &mut D,
+    h: Header,
+    bytes: &[u8],
+    name: &Name,
+) -> Option<usize>
     requires size { length bytes.now ≡ 4096 }
     requires read { decoded bytes.now ≡ Ok h }
-    ensures { result ≡ option_map (λ c. length c.payload) (named name.now bytes.now) }
+    ensures value { result ≡ option_map (λ c. length c.payload) (named name.now bytes.now) }
+    ensures told { D.told disk.new ≡ D.told disk.old }
+    ensures faults { D.faults disk.new ≡ D.faults disk.old }
+    ensures reads { D.read_faults disk.new ≡ D.read_faults disk.old }
 {
-    if is_block(&h, bytes) && has_name(&h, bytes, name) {
+    if is_block(disk, &h, bytes) && has_name(&h, bytes, name) {
         Some(h.size.get() as usize - 128)
     } else {
         None
@@ -58,12 +82,17 @@ fn payload_behind(h: Header, bytes: &[u8], name: &Name) -> Option<usize>
 }
 
 /// The length of the payload of the whole block of this name that the bytes are; none where they aren't.
-pub fn payload_of(bytes: &[u8], name: &Name) -> Option<usize>
+#[tactic(auto, unfolding(vr_base::specs::Bytes::piece))]
+pub fn payload_of<D: SectorDisk>(disk: &mut D, bytes: &[u8], name: &Name) -> Option<usize>
     requires { length bytes.now ≡ 4096 }
-    ensures { result ≡ option_map (λ c. length c.payload) (named name.now bytes.now) }
+    ensures value { result ≡ option_map (λ c. length c.payload) (named name.now bytes.now) }
+    ensures told { D.told disk.new ≡ D.told disk.old }
+    ensures faults { D.faults disk.new ≡ D.faults disk.old }
+    ensures reads { D.read_faults disk.new ≡ D.read_faults disk.old }
 {
-    match decode(bytes) {
+    let front = disk.name_of(Room::Header, &bytes[16..128]);
+    match decode_by(bytes, front) {
         Err(_) => None,
-        Ok(header) => payload_behind(header, bytes, name),
+        Ok(header) => payload_behind(disk, header, bytes, name),
     }
 }

@@ -28,7 +28,7 @@ pub use laws::checkpoint_laws;
 pub use loading::load;
 pub use looking::worn;
 pub use name::{Name, NameList};
-pub use naming::is_block_of;
+pub use naming::{is_block_of, is_block_on};
 pub use reading::read_block;
 pub use saving::{SavedCheckpoint, save};
 pub use table::{Payload, PayloadTable};

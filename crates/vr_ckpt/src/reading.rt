@@ -41,7 +41,7 @@ pub fn read_block<D: SectorDisk>(
     if !fill(disk, name.address as u32, &mut bytes) {
         return Err(Faulty);
     }
-    match payload_of(&bytes, name) {
+    match payload_of(disk, &bytes, name) {
         None => Err(Faulty),
         Some(size) => {
             to.set(&bytes);

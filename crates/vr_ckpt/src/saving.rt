@@ -12,6 +12,7 @@ ghost use Rattle.vr_ckpt.specs.Saves.{IsPlaced, blocks_calls, changed, keys_run,
 
 use crate::plan::{Run, plan_text};
 use crate::root::root_block;
+use crate::writing::note_block;
 use crate::{Block, CkptFault, Name, PayloadTable, write_at};
 use std::alloc::Global;
 use vr_base::{NoMemory, Seq};
@@ -94,7 +95,9 @@ fn write_all<D: SectorDisk>(disk: &mut D, blocks: &[Block]) -> Result<(), DiskFa
     ensures others { D.read_faults disk.new ≡ D.read_faults disk.old }
 {
     for block in blocks {
-        write_at(disk, block.name.address, block.bytes.as_slice())?;
+        let bytes = block.bytes.as_slice();
+        note_block(disk, bytes);
+        write_at(disk, block.name.address, bytes)?;
     }
     Ok(())
 }

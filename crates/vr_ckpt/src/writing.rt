@@ -3,13 +3,14 @@ ghost use Rattle.std.specs.Prelude.{◌≡◌, ◌≤◌, ◌<◌, [], length, I
 ghost use Rattle.vr_base.specs.Causes.{HasCause};
 ghost use Rattle.vr_disk.specs.Counts.{CountsFault};
 ghost use Rattle.vr_disk.specs.DiskState.{Runs};
-ghost use Rattle.vr_ckpt.specs.Blocks.{block_bytes, block_name, is_kind, named};
+ghost use Rattle.vr_ckpt.specs.Blocks.{block_bytes, block_name, content_of, is_kind, named};
 ghost use Rattle.vr_ckpt.specs.Grid.{Leaves, block_calls, put_calls};
 ghost use Rattle.vr_ckpt.specs.GridLaws.{PutLeaves};
 
 use crate::{Block, CkptFault, Name};
 use std::alloc::Global;
-use vr_disk::{BLOCK_SECTORS, DiskFailed, DiskFault, SectorDisk, block_place, write_sectors};
+use vr_base::{sum_at, u32_at, u64_at};
+use vr_disk::{BLOCK_SECTORS, DiskFailed, DiskFault, Room, SectorDisk, block_place, write_sectors};
 
 /// Writes the eight sectors of a block; it takes no memory.
 #[tactic(auto, unfolding(crate::specs::Grid::block_calls))]
@@ -21,6 +22,20 @@ pub fn write_at<D: SectorDisk>(disk: &mut D, address: u64, bytes: &[u8]) -> Resu
     ensures others { D.read_faults disk.new ≡ D.read_faults disk.old }
 {
     write_sectors(disk, block_place(address as u32), BLOCK_SECTORS, bytes)
+}
+
+/// The disk takes note of the names of a whole block's header and payload, which stand in its bytes.
+pub(crate) fn note_block<D: SectorDisk>(disk: &mut D, block: &[u8])
+    requires { is_some (content_of block.now) ≡ true }
+    ensures told { D.told disk.new ≡ D.told disk.old }
+    ensures faults { D.faults disk.new ≡ D.faults disk.old }
+    ensures reads { D.read_faults disk.new ≡ D.read_faults disk.old }
+{
+    let end = u32_at(block, 104) as usize;
+    let header = sum_at(block, 0);
+    let payload = sum_at(block, 16);
+    disk.keep_name(Room::Header, &block[16..128], header);
+    disk.keep_name(Room::Payload(u64_at(block, 112)), &block[128..end], payload);
 }
 
 /// Makes the block of checkpoint `op` at an address below 128, of this kind (`DATA` or `ROOT`), with a payload of at most
@@ -62,6 +77,7 @@ pub fn put_block<D: SectorDisk>(disk: &mut D, name: &Name, block: &[u8]) -> Resu
     // At the end the block reads as it was put. A stop at any of these calls changes no other sector.
     ensures stop { IfSome (D.told disk.old) (λ d. d.face.waiting ≡ [] → PutLeaves name.now.address block.now d.face) }
 {
+    note_block(disk, block);
     write_at(disk, name.address, block)?;
     disk.sync()?;
     Ok(())

@@ -16,10 +16,10 @@ ghost use Rattle.vr_msg.specs.declared.frame.Frame.TheVariants as frame;
 use crate::answer::{Heed, heed_letter};
 use crate::{Answer, AskFault, ClientCore};
 use std::alloc::AllocError;
-use vr_base::Sum;
+use vr_base::{Sum, sum_at};
 use vr_codec::encode;
 use vr_edge::Link;
-use vr_header::{Header, Operation};
+use vr_header::Operation;
 use vr_mail::{receive_letter, send_bytes};
 use vr_msg::{Message, Request, RequestFields};
 
@@ -52,7 +52,7 @@ impl ClientCore {
             operation: operation.try_clone(self.alloc)?,
         };
         spell(fields, &mut self.bytes)?;
-        Ok(Header::of_request(self.cluster, self.id, number, operation).name())
+        Ok(sum_at(self.bytes.as_slice(), 0))
     }
 
     /// Sends the request to a port, which is the one that it asks from then on.

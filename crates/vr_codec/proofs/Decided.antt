@@ -1,18 +1,27 @@
 -- What decoding finds is what is spelled.
-use Rattle.std.proofs.Common.{◌≡◌, ℕ, ◌+◌, ◌≤◌, ◌⊎◌, inl, inr, Bool, true, false, cond, List, [], ◌++◌, length, take, drop, refl, sym, ap, ◌∙◌, arith, subst, append_assoc, length-drop, Result, Ok, Err, Some, None}
+use Rattle.std.proofs.Common.{◌≡◌, ℕ, ◌+◌, ◌≤◌, ◌⊎◌, inl, inr, Bool, true, false, cond, List, [], ◌++◌, length, take, drop, refl, sym, ap, ◌∙◌, arith, subst, append_assoc, length-drop, Result, Ok, Err, Option, Some, None}
 use Rattle.std.specs.Prelude.{IfErr, IfOk, ◌≢◌, not}
+use Rattle.std.specs.Option.{option_map}
 use Rattle.std.proofs.lemmas.List.{append-nil, take_at}
-use Rattle.vr_base.specs.Bytes.{IsBytes}
+use Rattle.vr_base.specs.declared.sum.Sum.{Sum}
+use Rattle.vr_base.specs.Bytes.{IsBytes, piece}
+use Rattle.vr_base.proofs.FieldLaws.{length-name_of}
 use Rattle.vr_header.specs.declared.header.Header.{Header}
 use Rattle.vr_header.specs.declared.header.HeaderFault.{HeaderFault}
-use Rattle.vr_header.specs.Spelling.{IsHeader, decoded, header_bytes}
+use Rattle.vr_header.specs.declared.command.Command.{Command}
+use Rattle.vr_header.specs.declared.command.Command.TheVariants as command
+use Rattle.vr_header.specs.declared.operation.Operation.{Operation}
+use Rattle.vr_header.specs.Bodies.{operation_bytes, operation_of}
+use Rattle.vr_header.specs.Names.{header_name}
+use Rattle.vr_header.specs.Spelling.{IsHeader, decoded, header_bytes, named_bytes}
 use Rattle.vr_codec.specs.declared.fault.MsgFault.{MsgFault}
 use Rattle.vr_codec.specs.declared.fault.MsgFault.TheVariants as fault
 use Rattle.vr_msg.specs.declared.frame.Frame.{Frame}
+use Rattle.vr_msg.specs.declared.frame.Frame.TheVariants as frame
 use Rattle.vr_codec.specs.Deciding.{HasBody, IsFault, Reads}
-use Rattle.vr_codec.specs.Reading.{frame_for}
+use Rattle.vr_codec.specs.Reading.{IsAsking, frame_for}
 use Rattle.vr_codec.specs.Shapes.{has_shape, inspected, inspected_with, is_body}
-use Rattle.vr_msg.specs.Spelling.{Spells, body_bytes, frame_header, spelling}
+use Rattle.vr_msg.specs.Spelling.{Spells, body_bytes, frame_header, header_before, spelling}
 use Rattle.vr_codec.proofs.Again.{command_of_frame, frame_again, is_body_true, name_of_frame, shape_true, size_of_frame}
 use Rattle.vr_codec.proofs.Fitting.{long_of}
 use Rattle.vr_codec.proofs.Found.{Found, ShapeFound, body_found, found, shape_found}
@@ -75,6 +84,31 @@ inspected_found b h i e =
       | Err g ↦ λ d t. absurd cc
     ] in
     cases (decoded b) refl e
+
+-- a request's header, and its name
+asking_in : (h : Header) (body : List ℕ) → Found command.Request h body → IsAsking h body
+asking_in h body x =
+    let cases : (o : Option Operation) → option_map (λ (p : Operation). frame.Request (record { cluster = h.cluster; client = h.client; request = h.request; operation = p })) o ≡ Some x.message → IsAsking h body =
+    elim [
+      | None ↦ λ e. absurd cc
+      | Some o ↦ λ e.
+          let m : Frame = frame.Request (record { cluster = h.cluster; client = h.client; request = h.request; operation = o }) in
+          let same : x.message ≡ m = cc in
+          let header : frame_header m ≡ h = subst (λ (n : Frame). frame_header n ≡ h) same x.header in
+          let spelled : operation_bytes o ≡ body = subst (λ (n : Frame). body_bytes n ≡ body) same x.spelled in
+          sym header ∙ ap (λ (b : List ℕ). record (header_before b command.Request) { cluster = h.cluster; client = h.client; request = h.request }) spelled
+    ] in
+    cases (operation_of body) x.read
+
+pub asking_found : (b : List ℕ) (h : Header) → Inspected b h → h.command ≡ command.Request → IsAsking h (drop 128 b)
+asking_found b h x e = asking_in h (drop 128 b) (subst (λ (c : Command). Found c h (drop 128 b)) e x.message)
+
+pub name_found : (b : List ℕ) (h : Header) (s : Sum) → Inspected b h → s.0 ≡ piece 0 16 b → s ≡ header_name h
+unfolding piece header_bytes
+name_found b h s x e =
+    let front : take 16 b ≡ (header_name h).0 =
+    ap (take 16) x.spelled ∙ (ap (take 16) (append_assoc (header_name h).0 (named_bytes h) (drop 128 b)) ∙ take_at (header_name h).0 (named_bytes h ++ drop 128 b) 16 (length-name_of (named_bytes h))) in
+    ap (λ (n : List ℕ). let x : Sum = record { 0 = n } in x) (e ∙ front)
 
 -- the message that was found is spelled by the bytes
 pub spells_found : (b : List ℕ) (h : Header) (x : Inspected b h) → Spells x.message.message b

@@ -5,7 +5,10 @@ use Rattle.std.specs.List.{prefix_len}
 use Rattle.std.specs.Option.{option_map, option_map_or}
 use Rattle.std.proofs.lemmas.Bool.{eq-eqb, eqb-true, leb-false, leb-true, ltb-false, ltb-true}
 use Rattle.std.proofs.lemmas.List.{drop_all}
+use Rattle.vr_header.specs.declared.command.Command.TheVariants as command
 use Rattle.vr_header.specs.declared.header.Header.{Header}
+use Rattle.vr_header.specs.Names.{header_name, request_header}
+use Rattle.vr_base.specs.declared.sum.Sum.{Sum}
 use Rattle.vr_header.specs.declared.header.HeaderFault.{HeaderFault}
 use Rattle.vr_header.specs.Spelling.{decoded, fault_of, decoded_header}
 use Rattle.vr_header.specs.declared.outcome.Outcome.{Outcome}
@@ -17,8 +20,9 @@ use Rattle.vr_header.specs.declared.operation.Operation.TheVariants.{Register, P
 use Rattle.vr_header.specs.Bodies.{IsOperation, operation_bytes, operation_of, outcome_of}
 use Rattle.vr_msg.specs.declared.reply.ReplyKind.{ReplyKind}
 use Rattle.vr_msg.specs.declared.reply.ReplyKind.TheVariants as reply
-use Rattle.vr_msg.specs.Asking.{IsReplyKind}
-use Rattle.vr_codec.specs.Reading.{are_headers, kind_at, are_parts, headers_at, part_of_tag, parts_at, rest_at}
+use Rattle.vr_msg.specs.Asking.{AreNames, IsReplyKind}
+use Rattle.vr_msg.specs.Spelling.{header_before}
+use Rattle.vr_codec.specs.Reading.{IsAsking, are_headers, kind_at, are_parts, headers_at, part_of_tag, parts_at, rest_at}
 use Rattle.vr_header.specs.Made.{Whole, entry_of}
 use Rattle.vr_codec.specs.Shapes.{after_tag, begins_entry, entry_fits, is_at, headers_fit, is_asked, is_ok_entry_at, is_view, knows, log_fits, numbers_fit, parts_fit, statement_fits, sync_fits, tags_fit, tags_run}
 
@@ -154,6 +158,14 @@ asked_form request body o a r b i =
     let one = one_byte o i in
     let n : length body ≡ length (operation_bytes o) = ap length b in
     (λ e. eqb-true request 0 (sym same ∙ eq-eqb (length body) 1 (n ∙ one.0 e)), λ e. one.1 (sym n ∙ eqb-true (length body) 1 (same ∙ eq-eqb request 0 e)))
+
+-- a request's header and its name tell the names that it keeps
+pub asked_names : (h : Header) (body : List ℕ) (o : Operation) (name : Sum) → IsAsking h body → body ≡ operation_bytes o → name ≡ header_name h
+    → AreNames (record { cluster = h.cluster; client = h.client; request = h.request; operation = o }) (record { body = h.body; header = name })
+asked_names h body o name a b n =
+    let same : h ≡ request_header h.cluster h.client h.request o =
+    a ∙ ap (λ (x : List ℕ). record (header_before x command.Request) { cluster = h.cluster; client = h.client; request = h.request }) b in
+    record { body = ap (λ (x : Header). x.body.0) same; header = n ∙ ap header_name same }
 
 kinds : (a b c d f g : Bool) (o : Option ReplyKind) → IfSome o IsReplyKind
     → IfSome (cond a o (cond b (Some reply.Old) (cond c (Some reply.Gap) (cond d (Some reply.Evicted) (cond f (Some reply.Busy) (cond g (Some reply.Redirect) None)))))) IsReplyKind

@@ -1,5 +1,5 @@
 -- What a header and the bytes after it say, by their places.
-use Rattle.std.specs.Prelude.{ℕ, zero, suc, ◌+◌, ◌-◌, ◌==◌, Bool, true, false, not, ◌&&◌, ◌||◌, if◌then◌else◌, List, [], ◌∷◌, take, drop, Option, Some, None, is_ok}
+use Rattle.std.specs.Prelude.{ℕ, zero, suc, ◌+◌, ◌-◌, ◌==◌, ◌≡◌, Bool, true, false, not, ◌&&◌, ◌||◌, if◌then◌else◌, List, [], ◌∷◌, take, drop, Option, Some, None, is_ok}
 use Rattle.std.specs.Int.{w16, w64}
 use Rattle.std.specs.Option.{option_map}
 use Rattle.vr_base.specs.Bytes.{number, piece}
@@ -16,6 +16,7 @@ use Rattle.vr_msg.specs.declared.frame.Frame.TheVariants as frame
 use Rattle.vr_msg.specs.declared.reply.ReplyKind.{ReplyKind}
 use Rattle.vr_msg.specs.declared.reply.ReplyKind.TheVariants as reply
 use Rattle.vr_msg.specs.declared.statement.DvcBody.{DvcBody}
+use Rattle.vr_msg.specs.Spelling.{header_before}
 use Rattle.vr_codec.specs.Shapes.{knows}
 
 unfoldable pub kind_at : ℕ → ℕ → List ℕ → Option ReplyKind
@@ -83,6 +84,10 @@ bare_for command.GetPrepare h =
 bare_for command.GetBlock h = Some (frame.GetBlock (record { cluster = h.cluster; replica = h.replica; address = h.aux; name = h.parent }))
 bare_for command.GetSync h = Some (frame.GetSync (record { cluster = h.cluster; replica = h.replica; view = h.view }))
 bare_for _ h = None
+
+-- a header that asks is that of a request over these bytes: it sets three fields, and all others are as every message has them
+abbrev pub IsAsking : Header → List ℕ → Type 0
+IsAsking h body = h ≡ record (header_before body command.Request) { cluster = h.cluster; client = h.client; request = h.request }
 
 abbrev pub frame_for : Command → Header → List ℕ → Option Frame
 frame_for command.Request h body =

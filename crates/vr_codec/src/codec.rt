@@ -15,7 +15,7 @@ use crate::read::read_frame;
 use crate::shape::inspect;
 use crate::write::write_body;
 use std::alloc::{AllocError, Global};
-use vr_base::put;
+use vr_base::{put, sum_at};
 use vr_header::Header;
 use vr_msg::{Frame, Message};
 
@@ -53,7 +53,7 @@ fn read_message(alloc: Global, header: &Header, bytes: &[u8]) -> Result<Message,
     ensures { Reads bytes.now result }
 {
     let (_, body) = bytes.split_at(128);
-    match read_frame(alloc, header, body) {
+    match read_frame(alloc, header, sum_at(bytes, 0), body) {
         Ok(Some(frame)) => Ok(Message::new(frame)),
         Ok(None) => Err(MsgFault::BodyShape),
         Err(_) => Err(MsgFault::NoMemory),

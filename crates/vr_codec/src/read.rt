@@ -3,20 +3,21 @@ ghost use Rattle.std.specs.Prelude.{◌≡◌, ◌+◌, ◌-◌, ◌≤◌, ◌<
 ghost use Rattle.std.specs.Int.{w16};
 ghost use Rattle.vr_base.specs.Bytes.{number};
 ghost use Rattle.vr_header.specs.Made.{entry_of};
+ghost use Rattle.vr_header.specs.Names.{header_name};
 ghost use Rattle.vr_header.specs.Spelling.{decoded};
 ghost use Rattle.vr_header.specs.declared.command.Command.{Command};
 ghost use Rattle.vr_msg.specs.declared.frame.Frame.{Frame};
 ghost use Rattle.vr_codec.specs.Shapes.{body_fits, is_asked, knows, numbers_fit};
-ghost use Rattle.vr_codec.specs.Reading.{kind_at, headers_at, are_headers, are_parts, part_of_tag, rest_at, parts_at, body_at, bare_for, needs_view, frame_for};
+ghost use Rattle.vr_codec.specs.Reading.{kind_at, headers_at, are_headers, are_parts, part_of_tag, rest_at, parts_at, body_at, bare_for, needs_view, frame_for, IsAsking};
 
 use crate::shape::knows;
 use std::alloc::{AllocError, Global};
-use vr_base::{ByteList, Seq, sum_at, u16_at, u64_at};
+use vr_base::{ByteList, Seq, Sum, sum_at, u16_at, u64_at};
 use vr_header::{Command, Entry, Header, HeaderList, Operation, Outcome, Part, decoded_header};
 use vr_msg::{
     Answered, Commit, DoViewChange, DvcBody, Frame, GetBlock, GetPrepare, GetSync, GetView,
     GiveBlock, GivePrepare, Prepare, PrepareOk, Reply, ReplyFields, ReplyKind, Request,
-    RequestFields, StartView, StartViewChange, Statement, SvBody, SyncView,
+    RequestFields, RequestNames, StartView, StartViewChange, Statement, SvBody, SyncView,
 };
 
 #[tactic(auto, unfolding(crate::specs::Reading::kind_at))]
@@ -108,18 +109,32 @@ fn read_body(alloc: Global, body: &[u8]) -> Result<DvcBody, AllocError>
     })
 }
 
-#[tactic(auto, using(std::proofs::lemmas::Grind::common_steps, crate::proofs::Fitting::asked_form))]
-fn read_request(alloc: Global, h: &Header, body: &[u8]) -> Result<Option<Frame>, AllocError>
-    requires { is_asked h.now.request body.now ≡ true }
+#[tactic(auto, using(std::proofs::lemmas::Grind::common_steps, crate::proofs::Fitting::asked_form, crate::proofs::Fitting::asked_names))]
+fn read_request(
+    alloc: Global,
+    h: &Header,
+    name: Sum,
+    body: &[u8],
+) -> Result<Option<Frame>, AllocError>
+    requires asked { is_asked h.now.request body.now ≡ true }
+    requires header { IsAsking h.now body.now }
+    requires name { name ≡ header_name h.now }
     ensures { IfOk result (λ read. read ≡ frame_for Command.Request h.now body.now) }
 {
     match Operation::decode_body(alloc, body)? {
-        Some(operation) => Ok(Some(Frame::Request(Request::new(RequestFields {
-            cluster: h.cluster,
-            client: h.client,
-            request: h.request,
-            operation,
-        })))),
+        Some(operation) => {
+            let fields = RequestFields {
+                cluster: h.cluster,
+                client: h.client,
+                request: h.request,
+                operation,
+            };
+            let names = RequestNames {
+                body: h.body,
+                header: name,
+            };
+            Ok(Some(Frame::Request(Request::named(fields, names))))
+        }
         None => Ok(None),
     }
 }
@@ -304,19 +319,22 @@ fn read_bare(h: &Header) -> Option<Frame>
     }
 }
 
-// What a header and the bytes after it say, `None` where its command is no message's.
+// What a header of this name and the bytes after it say, `None` where its command is no message's.
 #[tactic(auto, using(crate::proofs::Fitting::readable))]
 pub(crate) fn read_frame(
     alloc: Global,
     h: &Header,
+    name: Sum,
     body: &[u8],
 ) -> Result<Option<Frame>, AllocError>
     requires numbers { numbers_fit h.now ≡ true }
     requires body { body_fits h.now.command h.now body.now ≡ true }
+    requires asking { h.now.command ≡ Command.Request → IsAsking h.now body.now }
+    requires name { name ≡ header_name h.now }
     ensures { IfOk result (λ read. read ≡ frame_for h.now.command h.now body.now) }
 {
     match h.command {
-        Command::Request => read_request(alloc, h, body),
+        Command::Request => read_request(alloc, h, name, body),
         Command::Reply => read_reply(alloc, h, body),
         Command::Prepare => read_prepare(alloc, h, body),
         Command::GivePrepare => read_give_prepare(alloc, h, body),

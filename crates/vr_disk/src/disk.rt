@@ -1,9 +1,11 @@
 //! The calls of a disk.
 ghost use Rattle.std.specs.Prelude.{◌≡◌, ◌<◌, ℕ, [], ◌∷◌, Option, Some, None, IfSome, is_ok, if◌then◌else◌};
 ghost use Rattle.vr_base.specs.Causes.{HasCause};
+ghost use Rattle.vr_base.specs.Bytes.{name_of};
 ghost use Rattle.vr_disk.specs.DiskState.{Disk, IsFace, Attaches, ReadsTo, Runs, Write, Sync};
 
-use crate::{SECTORS, Sector};
+use crate::{Room, SECTORS, Sector};
+use vr_base::Sum;
 
 /// A call of a disk that failed.
 #[derive(Clone, Copy, Debug, PartialEq, Eq)]
@@ -47,6 +49,20 @@ pub trait SectorDisk {
         ensures told { Runs (Sync ∷ []) (told self.old) (told self.new) (is_ok result) }
         ensures cause { HasCause (faults self.old) (faults self.new) result }
         ensures others { read_faults self.new ≡ read_faults self.old };
+
+    /// The name of these bytes. A disk may keep texts with their names: then it makes no digest of one that it has.
+    fn name_of(&mut self, room: Room, bytes: &[u8]) -> Sum
+        ensures name { result.0 ≡ name_of bytes.now }
+        ensures told { told self.new ≡ told self.old }
+        ensures faults { faults self.new ≡ faults self.old }
+        ensures reads { read_faults self.new ≡ read_faults self.old };
+
+    /// Takes note of a text whose name is known.
+    fn keep_name(&mut self, room: Room, bytes: &[u8], name: Sum)
+        requires { name.0 ≡ name_of bytes.now }
+        ensures told { told self.new ≡ told self.old }
+        ensures faults { faults self.new ≡ faults self.old }
+        ensures reads { read_faults self.new ≡ read_faults self.old };
 
     /// What is told is a disk of 1,424 sectors of 512 bytes.
     ghost whole: { (s : Self) → IfSome (told s) (λ d. IsFace d.face) };

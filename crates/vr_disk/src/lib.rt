@@ -5,6 +5,7 @@ mod buffer;
 mod disk;
 mod fault;
 mod laws;
+mod memo;
 mod none;
 mod regions;
 mod sector;
@@ -14,6 +15,7 @@ pub use buffer::Buffer;
 pub use disk::{DiskFailed, SectorDisk};
 pub use fault::{DiskFault, Faulty};
 pub use laws::disk_laws;
+pub use memo::{Memo, Room};
 pub use none::NoDisk;
 pub use regions::{
     BLOCK_SECTORS, BLOCKS, COPIES, COPY_SECTORS, COPY_SIZE, PREPARE_SECTORS, SECTORS, SLOTS,

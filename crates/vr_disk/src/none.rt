@@ -2,7 +2,8 @@
 ghost use Rattle.std.specs.Prelude.{◌≡◌, None, IsErr};
 ghost use Rattle.vr_base.specs.Causes.{HasCause};
 
-use crate::{DiskFailed, Sector, SectorDisk};
+use crate::{DiskFailed, Room, Sector, SectorDisk};
+use vr_base::{Sum, checksum};
 
 /// A disk that isn't there: each call fails and adds one to its count.
 #[derive(Drop)]
@@ -73,4 +74,10 @@ impl SectorDisk for NoDisk {
     {
         self.fail()
     }
+
+    fn name_of(&mut self, _room: Room, bytes: &[u8]) -> Sum {
+        checksum(bytes)
+    }
+
+    fn keep_name(&mut self, _room: Room, _bytes: &[u8], _name: Sum) {}
 }

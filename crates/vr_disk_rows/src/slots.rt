@@ -16,7 +16,14 @@ pub fn entry(op: u64) -> Entry
     requires most { op ≤ 2 ^ 62 }
 {
     let request = Header::of_request(2, 7, 0, &Operation::Register);
-    Entry::of_request(&request, Operation::Register, 0, op, Header::root(2).name())
+    Entry::of_request(
+        &request,
+        request.name(),
+        Operation::Register,
+        0,
+        op,
+        Header::root(2).name(),
+    )
 }
 
 /// Adds a number, `-` where there is none.

@@ -6,7 +6,7 @@ use crate::bench::Bench;
 use crate::telling::put_number;
 use std::alloc::Global;
 use vr_base::{ByteList, Mode, NoMemory, Seq, Sum};
-use vr_header::{Command, Header, HeaderList, Size};
+use vr_header::{Command, Header, HeaderList, Names, Size};
 use vr_super::{Fields, Found, Super, SuperFault, opens, recover, write};
 
 fn made(
@@ -18,7 +18,10 @@ fn made(
     requires { IsGood (record { fields = fields; headers = headers }) }
 {
     match old {
-        Some(old) => old.next(alloc, fields, headers),
+        Some(old) => {
+            let names = Names::new(alloc)?;
+            old.next(alloc, fields, headers, &names)
+        }
         None => Super::new(alloc, fields, headers),
     }
 }

@@ -1,5 +1,5 @@
 -- Headers, operations and entries are spelled by bytes.
-use Rattle.std.proofs.Common.{◌≡◌, ℕ, zero, suc, ◌+◌, ◌<◌, ◌≤◌, List, [], ◌∷◌, ◌++◌, length, arith, true}
+use Rattle.std.proofs.Common.{ℕ, zero, suc, ◌<◌, List, [], ◌∷◌, ◌++◌, length, arith}
 use Rattle.std.specs.Prelude.{◌&&◌, IsTrue, nat_le}
 use Rattle.std.specs.List.{list_all}
 use Rattle.std.proofs.lemmas.Bool.{leb-true}
@@ -15,7 +15,6 @@ use Rattle.vr_header.specs.Made.{Whole, entry_bytes}
 use Rattle.vr_header.specs.Spelling.{IsHeader, code_of, field_bytes, header_bytes, named_bytes}
 use Rattle.vr_header.specs.Text.{is_printable, is_text}
 use Rattle.vr_header.proofs.BodyLaws.{text_limit}
-use Rattle.vr_header.proofs.HeaderLaws.{length-header_bytes}
 use Rattle.vr_header.proofs.Truths.{both}
 
 code_small : (c : Command) → code_of c < 256

@@ -1,13 +1,14 @@
 -- An entry that is read is spelled so, and what is spelled so is read.
-use Rattle.std.proofs.Common.{◌≡◌, ℕ, ◌-◌, ◌^◌, Bool, true, false, cond, eqb, not, List, ◌++◌, length, take, drop, refl, sym, ap, subst, ◌∙◌, arith, Option, Some, None, Ok, Err, length-append, length-drop}
+use Rattle.std.proofs.Common.{◌≡◌, ℕ, ◌-◌, ◌^◌, Bool, true, false, cond, eqb, not, List, ◌++◌, length, take, drop, refl, sym, ap, subst, ◌∙◌, arith, Option, Some, None, Ok, Err, append_assoc, length-append, length-drop}
 use Rattle.std.specs.Option.{option_map}
 use Rattle.std.specs.Prelude.{◌↔◌, ◌≤◌, IfSome, IfOk, Result, is_ok, is_some, nat_le, nat_lt, nat_eq}
 use Rattle.std.specs.Cmp.Lexicographic.{pointwise}
 use Rattle.std.proofs.lemmas.Bool.{le-leb, lt-ltb, leb-true, ltb-true, eq-eqb, eqb-true}
 use Rattle.std.proofs.lemmas.List.{take_at, drop_at, take-append-drop}
 use Rattle.std.proofs.lemmas.Slice.Eq.{bytes_eq-Decides}
-use Rattle.vr_base.specs.Bytes.{IsBytes, name_of}
-use Rattle.vr_base.proofs.FieldLaws.{IsBytes-drop}
+use Rattle.vr_base.specs.Bytes.{IsBytes, name_of, piece}
+use Rattle.vr_base.specs.declared.sum.Sum.{Sum}
+use Rattle.vr_base.proofs.FieldLaws.{IsBytes-drop, length-name_of}
 use Rattle.vr_header.specs.declared.command.Command.{Command}
 use Rattle.vr_header.specs.declared.command.Command.TheVariants.{Entry}
 use Rattle.vr_header.specs.declared.header.Header.{Header}
@@ -16,7 +17,8 @@ use Rattle.vr_header.specs.declared.operation.Operation.{Operation}
 use Rattle.vr_header.specs.declared.operation.Operation.TheVariants.{Register, Put, Get, Delete}
 use Rattle.vr_header.specs.Bodies.{IsOperation, operation_bytes, operation_of}
 use Rattle.vr_header.specs.Made.{IsBodyOf, IsEntry, IsEntryHeader, Whole, entry_bytes, entry_of, is_bare, is_entry_header, is_register, is_whole, with_body, with_header}
-use Rattle.vr_header.specs.Spelling.{IsHeader, Spells, code_of, decoded, header_bytes}
+use Rattle.vr_header.specs.Names.{header_name}
+use Rattle.vr_header.specs.Spelling.{IsHeader, Spells, code_of, decoded, header_bytes, named_bytes}
 use Rattle.vr_header.proofs.BodyLaws.{operation_again, operation_found, through}
 use Rattle.vr_header.proofs.HeaderLaws.{decoded_again, decoded_found, length-header_bytes}
 use Rattle.vr_header.specs.declared.view.OperationView.{OperationView}
@@ -186,3 +188,23 @@ some_seen (Some v) e = refl
 
 pub entry_known : (b : List ℕ) (e : Whole) → IsBytes b → entry_of b ≡ Some e → IsSpelled b e
 entry_known b e f p = let P : Option Whole → Type 0 = λ o. IfSome o (IsSpelled b) in subst P p (entry_found b f)
+
+-- the name of an entry's header stands in front
+pub spelled_long : (b : List ℕ) (e : Whole) → IsSpelled b e → 16 ≤ length b
+unfolding entry_bytes
+spelled_long b e s =
+    let l = length-header_bytes e.header s.2 in
+    let n = length-append (header_bytes e.header) (operation_bytes e.operation) in
+    let same = ap length s.0 in
+    omega (arith, l, n, same)
+
+pub spelled_name : (b : List ℕ) (e : Whole) (name : Sum) → IsSpelled b e → name.0 ≡ piece 0 16 b → name ≡ header_name e.header
+unfolding entry_bytes header_bytes piece
+spelled_name b e name s p =
+    let h = e.header in
+    let n = name_of (named_bytes h) in
+    let rest = named_bytes h ++ operation_bytes e.operation in
+    let all : b ≡ n ++ rest = s.0 ∙ append_assoc n (named_bytes h) (operation_bytes e.operation) in
+    let front : take 16 (n ++ rest) ≡ n = take_at n rest 16 (length-name_of (named_bytes h)) in
+    let made : List ℕ → Sum = λ x. record { 0 = x } in
+    ap made (p ∙ (ap (take 16) all ∙ front))

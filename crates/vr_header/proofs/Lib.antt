@@ -4,6 +4,7 @@ pub mod EntryLaws
 pub mod Faults
 pub mod HeaderLaws
 pub mod NameLaws
+mod Places
 mod Rows
 pub mod Truths
 pub mod SameHeaders

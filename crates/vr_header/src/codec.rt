@@ -1,6 +1,7 @@
 //! The 128 bytes of a header, both ways.
 ghost use Rattle.std.specs.Prelude.{◌≡◌, ◌≤◌, ◌<◌, length, drop, Some, None, Ok, IfOk, is_ok, true};
-ghost use Rattle.vr_base.specs.Bytes.{name_of};
+ghost use Rattle.vr_base.specs.Bytes.{name_of, piece};
+ghost use Rattle.vr_header.specs.Names.{header_name};
 ghost use Rattle.vr_header.specs.declared.header.Header.{Header};
 ghost use Rattle.vr_header.specs.Spelling.{Spells, IsHeader, code_of, command_of, decoded, fault_of, decoded_header, header_bytes, is_named, is_size, named_bytes};
 
@@ -16,23 +17,26 @@ pub fn decode(bytes: &[u8]) -> Result<Header, HeaderFault>
     read(bytes)
 }
 
-fn read(bytes: &[u8]) -> Result<Header, HeaderFault>
+/// The header that the first 128 bytes spell, as `decode` gives it, where the name of bytes 16 to 127 is known; nothing is hashed.
+pub fn decode_by(bytes: &[u8], name: Sum) -> Result<Header, HeaderFault>
+    requires long { 128 ≤ length bytes.now }
+    requires name { name.0 ≡ name_of (piece 16 112 bytes.now) }
     ensures { result ≡ decoded bytes.now }
 {
-    match fault_of(bytes) {
+    match fault_by(bytes, name) {
         Some(fault) => Err(fault),
         None => Ok(decoded_header(bytes)),
     }
 }
 
-#[tactic(auto, using(std::proofs::lemmas::Grind::common_steps), unfolding(crate::specs::Spelling::fault_of))]
-fn fault_of(bytes: &[u8]) -> Option<HeaderFault>
+// The first fault of 128 bytes or more, where the name of bytes 16 to 127 is known.
+#[tactic(auto, using(std::proofs::lemmas::Grind::common_steps), unfolding(crate::specs::Spelling::fault_of, crate::specs::Spelling::is_named, vr_base::specs::Bytes::piece))]
+fn fault_by(bytes: &[u8], name: Sum) -> Option<HeaderFault>
+    requires long { 128 ≤ length bytes.now }
+    requires name { name.0 ≡ name_of (piece 16 112 bytes.now) }
     ensures { result ≡ fault_of bytes.now }
 {
-    if bytes.len() < 128 {
-        return Some(HeaderFault::Short);
-    }
-    if !is_named(bytes) {
+    if sum_at(bytes, 0) != name {
         return Some(HeaderFault::BadSum);
     }
     if command_of(bytes[108]).is_none() {
@@ -50,15 +54,36 @@ fn fault_of(bytes: &[u8]) -> Option<HeaderFault>
     None
 }
 
-#[tactic(auto, unfolding(crate::specs::Spelling::is_named, vr_base::specs::Bytes::piece))]
-fn is_named(bytes: &[u8]) -> bool
-    requires { 128 ≤ length bytes.now }
-    ensures { result ≡ is_named bytes.now }
+/// The one spelling of a header whose name is known; nothing is hashed.
+pub fn spelled(h: &Header, name: Sum) -> [u8; 128]
+    requires { name ≡ header_name h.now }
+    ensures bytes { result ≡ header_bytes h.now }
+    ensures header { IsHeader h.now }
 {
+    let mut out = written(*h);
+    put_sum(&mut out, 0, name);
+    out
+}
+
+fn read(bytes: &[u8]) -> Result<Header, HeaderFault>
+    ensures { result ≡ decoded bytes.now }
+{
+    match fault_of(bytes) {
+        Some(fault) => Err(fault),
+        None => Ok(decoded_header(bytes)),
+    }
+}
+
+#[tactic(auto, unfolding(crate::specs::Spelling::fault_of, vr_base::specs::Bytes::piece))]
+fn fault_of(bytes: &[u8]) -> Option<HeaderFault>
+    ensures { result ≡ fault_of bytes.now }
+{
+    if bytes.len() < 128 {
+        return Some(HeaderFault::Short);
+    }
     let (front, _) = bytes.split_at(128);
-    let (sum, named) = front.split_at(16);
-    let right = checksum(named);
-    sum == right.0.as_slice()
+    let (_, named) = front.split_at(16);
+    fault_by(bytes, checksum(named))
 }
 
 fn is_size(bytes: u32) -> bool
@@ -165,6 +190,14 @@ pub(crate) fn name_of_rest(bytes: &[u8]) -> Sum
 {
     let (_, rest) = bytes.split_at(16);
     checksum(rest)
+}
+
+/// The bytes of a header without its name: the first 16 are zero.
+pub fn nameless(h: &Header) -> [u8; 128]
+    ensures bytes { drop 16 result ≡ named_bytes h.now }
+    ensures header { IsHeader h.now }
+{
+    written(*h)
 }
 
 // Bytes 16 to 127; the first 16 are zero.

@@ -1,5 +1,7 @@
 //! Entries of the log.
-ghost use Rattle.std.specs.Prelude.{◌≡◌, ◌+◌, ◌-◌, ◌^◌, ◌<◌, ◌≤◌, ◌++◌, Some, IfOk, IfSome, OnOk, OnErr, is_some, true};
+ghost use Rattle.vr_header.specs.Names.{header_name};
+ghost use Rattle.vr_header.specs.Spelling.{decoded};
+ghost use Rattle.std.specs.Prelude.{Ok, length, drop, ◌≡◌, ◌+◌, ◌-◌, ◌^◌, ◌<◌, ◌≤◌, ◌++◌, Some, IfOk, IfSome, OnOk, OnErr, is_some, true};
 ghost use Rattle.std.specs.Option.{option_map};
 ghost use Rattle.vr_base.specs.Bytes.{KeepsFront, name_of};
 ghost use Rattle.vr_header.specs.Bodies.{IsOperation};
@@ -8,29 +10,33 @@ ghost use Rattle.vr_header.specs.Spelling.{IsHeader};
 ghost use Rattle.vr_header.specs.Views.{entry_seen, operation_seen};
 
 use crate::body::owned_operation;
-use crate::view::{EntryView, entry_at, read_entry};
-use crate::{Command, Header, Operation, encode};
+use crate::codec::spelled;
+use crate::view::{EntryView, entry_at, entry_by, read_entry};
+use crate::{Command, Header, Operation};
 use std::alloc::{AllocError, Global};
 use std::marker::Model;
-use vr_base::Sum;
+use vr_base::{Sum, sum_at};
 
 /// An entry of the log: its header with its operation.
 #[derive(Debug, Drop, PartialEq, Eq)]
 pub struct Entry {
     header: Header,
     operation: Operation,
+    name: Sum,
 }
 
 impl Model for Entry {
+    ghost use Rattle.std.specs.Prelude.{◌≡◌};
     ghost use Rattle.vr_header.specs.Made.{IsEntry, Whole};
+    ghost use Rattle.vr_header.specs.Names.{header_name};
 
     ghost Value = { Whole };
 
     ghost view = { λ e. record { header = e.header; operation = e.operation } };
 
-    ghost invariant = { λ e. IsEntry (record { header = e.header; operation = e.operation }) };
+    ghost invariant = { λ e. IsEntry (record { header = e.header; operation = e.operation }) × (e.name ≡ header_name e.header) };
 
-    ghost inverse = { λ e. record { header = e.header; operation = e.operation } };
+    ghost inverse = { λ e. record { header = e.header; operation = e.operation; name = header_name e.header } };
 }
 
 impl Entry {
@@ -39,25 +45,52 @@ impl Entry {
         requires { IsEntry (record { header = header; operation = operation }) }
         ensures { result ≡ record { header = header; operation = operation } }
     {
-        Entry { header, operation }
+        let name = header.name();
+        Entry {
+            header,
+            operation,
+            name,
+        }
+    }
+
+    // The entry of this header, of which the name is known, and this operation.
+    fn named(header: Header, operation: Operation, name: Sum) -> Entry
+        requires entry { IsEntry (record { header = header; operation = operation }) }
+        requires name { name ≡ header_name header }
+        ensures { result ≡ record { header = header; operation = operation } }
+    {
+        Entry {
+            header,
+            operation,
+            name,
+        }
+    }
+
+    /// The name of its header.
+    pub fn name(&self) -> Sum
+        ensures { result ≡ header_name self.now.header }
+    {
+        self.name
     }
 
     /// The entry of a request, made in this view for this op, on the entry of this name.
     pub fn of_request(
         request: &Header,
+        request_name: Sum,
         operation: Operation,
         view: u32,
         op: u64,
         parent: Sum,
     ) -> Entry
         requires request { IsRequest request.now operation }
+        requires name { request_name ≡ header_name request.now }
         requires view { view < 2 ^ 32 - 1 }
         requires op { (1 ≤ op) × (op ≤ 2 ^ 62) }
         ensures { result ≡ made_by name_of request.now operation view op parent }
     {
         let header = Header {
             parent,
-            request_name: request.name(),
+            request_name,
             view,
             op,
             size: operation.size(),
@@ -85,7 +118,7 @@ impl Entry {
         ensures { IfOk result (λ copy. copy ≡ self.now) }
     {
         let header = self.header();
-        Ok(Entry::new(header, self.operation().try_clone(alloc)?))
+        Ok(Entry::named(header, self.operation().try_clone(alloc)?, self.name))
     }
 
     /// Adds the spelling at the end: the header, and the operation behind it. An `Err` may have added
@@ -97,7 +130,7 @@ impl Entry {
         ensures header { OnOk result (IsHeader self.now.header) }
         ensures operation { OnOk result (IsOperation self.now.operation) }
     {
-        let header = encode(&self.header());
+        let header = spelled(&self.header(), self.name);
         to.extend_from_slice(&header)?;
         self.operation().write_body(to)
     }
@@ -128,7 +161,20 @@ impl Entry {
     {
         let view = entry_at(bytes);
         let operation = owned_operation(alloc, view.operation)?;
-        Ok(Entry::new(view.header, operation))
+        Ok(Entry::named(view.header, operation, sum_at(bytes, 0)))
+    }
+
+    /// The header of the entry that the bytes spell, as `header_in` gives it, where the names of bytes 16 to 127 and of those from 128 on are known.
+    pub fn header_by(bytes: &[u8], header: Header, body: Sum) -> Option<Header>
+        requires long { 128 ≤ length bytes.now }
+        requires header { decoded bytes.now ≡ Ok header }
+        requires body { body.0 ≡ name_of (drop 128 bytes.now) }
+        ensures { result ≡ option_map (λ e. e.header) (entry_of bytes.now) }
+    {
+        match entry_by(bytes, header, body) {
+            Some(view) => Some(view.header),
+            None => None,
+        }
     }
 }
 
@@ -136,16 +182,17 @@ fn made_entry(alloc: Global, bytes: &[u8]) -> Result<Option<Entry>, AllocError>
     ensures { IfOk result (λ read. read ≡ entry_of bytes.now) }
 {
     match read_entry(bytes) {
-        Some(view) => Ok(Some(owned_entry(alloc, view)?)),
+        Some(view) => Ok(Some(owned_entry(alloc, view, sum_at(bytes, 0))?)),
         None => Ok(None),
     }
 }
 
-fn owned_entry(alloc: Global, view: EntryView<'_>) -> Result<Entry, AllocError>
+fn owned_entry(alloc: Global, view: EntryView<'_>, name: Sum) -> Result<Entry, AllocError>
+    requires name { name ≡ header_name view.header }
     requires entry { IsEntry (entry_seen view) }
     requires operation { IsOperation (operation_seen view.operation) }
     ensures { IfOk result (λ entry. entry ≡ entry_seen view.entry) }
 {
     let operation = owned_operation(alloc, view.operation)?;
-    Ok(Entry::new(view.header, operation))
+    Ok(Entry::named(view.header, operation, name))
 }

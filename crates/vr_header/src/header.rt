@@ -55,7 +55,10 @@ pub enum HeaderFault {
 }
 
 impl Header {
-    ghost use Rattle.std.specs.Prelude.{◌≡◌, ◌↔◌, IsTrue};
+    ghost use Rattle.std.specs.Prelude.{◌≡◌, ◌+◌, ◌↔◌, IsTrue, length};
+    ghost use Rattle.vr_base.specs.Bytes.{name_of};
+    ghost use Rattle.vr_header.specs.Bodies.{operation_bytes};
+    ghost use Rattle.vr_header.specs.declared.operation.Operation.{Operation};
     ghost use Rattle.vr_header.specs.Made.{IsEntryHeader, is_bare, is_entry_header};
     ghost use Rattle.vr_header.specs.Names.{header_name, request_header, root_header};
     ghost use Rattle.vr_header.specs.Same.{same_header};
@@ -99,6 +102,19 @@ impl Header {
             size: operation.size(),
             command: Command::Request,
             ..Header::over(operation.body_name(), cluster)
+        }
+    }
+
+    /// The header of a client's request whose operation has this name, and this size with a header.
+    pub fn of_named(cluster: u64, client: u64, request: u32, size: Size, body: Sum) -> Header
+        ensures { (o : Operation) → body.0 ≡ name_of (operation_bytes o) → size ≡ 128 + length (operation_bytes o) → result ≡ request_header cluster client request o }
+    {
+        Header {
+            client,
+            request,
+            size,
+            command: Command::Request,
+            ..Header::over(body, cluster)
         }
     }
 

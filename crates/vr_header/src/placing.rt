@@ -4,7 +4,8 @@ ghost use Rattle.vr_header.specs.Bodies.{IsOperation, operation_bytes};
 ghost use Rattle.vr_header.specs.Made.{IsEntry, entry_bytes};
 ghost use Rattle.vr_header.specs.Spelling.{IsHeader};
 
-use crate::{Entry, Operation, encode};
+use crate::codec::spelled;
+use crate::{Entry, Operation};
 use vr_base::put;
 
 impl Operation {
@@ -46,7 +47,7 @@ impl Entry {
         ensures size { length (entry_bytes self.now) ≤ 2048 }
         ensures whole { IsEntry self.now × IsHeader self.now.header × IsOperation self.now.operation }
     {
-        put(out, 0, &encode(&self.header()));
+        put(out, 0, &spelled(&self.header(), self.name()));
         self.operation().put_body(out, 128);
     }
 }

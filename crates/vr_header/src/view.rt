@@ -1,10 +1,11 @@
 //! Reading of bodies in place.
-ghost use Rattle.std.specs.Prelude.{◌≡◌, ◌<◌, ◌≤◌, IsTrue, Some, is_some, length, drop, nat_eq, true};
+ghost use Rattle.std.specs.Prelude.{◌≡◌, ◌<◌, ◌≤◌, IsTrue, Ok, Some, is_some, length, drop, nat_eq, true};
 ghost use Rattle.std.specs.Cmp.Lexicographic.{pointwise};
 ghost use Rattle.vr_base.specs.Bytes.{name_of};
 ghost use Rattle.std.specs.Option.{option_map};
 ghost use Rattle.vr_header.specs.Bodies.{key_of, operation_of, outcome_of, pair_of, value_of};
-ghost use Rattle.vr_header.specs.Made.{entry_of, is_register, is_whole};
+ghost use Rattle.vr_header.specs.Made.{entry_of, is_register, is_whole, with_body};
+ghost use Rattle.vr_header.specs.Spelling.{decoded};
 ghost use Rattle.vr_header.specs.Views.{entry_seen, operation_seen, outcome_seen};
 
 use crate::text::is_text;
@@ -117,9 +118,33 @@ pub fn read_entry(bytes: &[u8]) -> Option<EntryView<'_>>
     ensures { option_map entry_seen result ≡ entry_of bytes.now }
 {
     let header = decode(bytes).ok()?;
-    if !is_whole(&header, bytes) {
-        return None;
+    if is_whole(&header, bytes) {
+        with_body(header, bytes)
+    } else {
+        None
     }
+}
+
+/// The entry that these bytes spell, as `read_entry` gives it, where they begin with this header, and this is the name of those behind it.
+#[tactic(auto, unfolding(crate::specs::Made::entry_of))]
+pub fn entry_by(bytes: &[u8], header: Header, body: Sum) -> Option<EntryView<'_>>
+    requires long { 128 ≤ length bytes.now }
+    requires header { decoded bytes.now ≡ Ok header }
+    requires body { body.0 ≡ name_of (drop 128 bytes.now) }
+    ensures { option_map entry_seen result ≡ entry_of bytes.now }
+{
+    if is_whole_by(&header, bytes, body) {
+        with_body(header, bytes)
+    } else {
+        None
+    }
+}
+
+// This header with the operation behind it.
+fn with_body(header: Header, bytes: &[u8]) -> Option<EntryView<'_>>
+    requires { 128 ≤ length bytes.now }
+    ensures { option_map entry_seen result ≡ with_body header (operation_of (drop 128 bytes.now)) }
+{
     let (_, body) = bytes.split_at(128);
     let operation = read_operation(body)?;
     if is_register(operation) == (header.request == 0) {
@@ -147,6 +172,14 @@ fn is_whole(header: &Header, bytes: &[u8]) -> bool
     ensures long { IsTrue result → 128 < length bytes.now }
 {
     header.is_entry() && header.size.get() as usize == bytes.len() && has_name(bytes, header.body)
+}
+
+// The same, where the name of those behind it is known.
+fn is_whole_by(header: &Header, bytes: &[u8], body: Sum) -> bool
+    requires { body.0 ≡ name_of (drop 128 bytes.now) }
+    ensures { result ≡ is_whole header.now bytes.now }
+{
+    header.is_entry() && header.size.get() as usize == bytes.len() && header.body == body
 }
 
 fn has_name(bytes: &[u8], name: Sum) -> bool

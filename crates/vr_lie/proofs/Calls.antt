@@ -10,11 +10,10 @@ use Rattle.vr_disk.proofs.Running.{one_cuts, one_fails, one_goes}
 use Rattle.vr_header.specs.Made.{entry_of}
 use Rattle.vr_header.specs.Spelling.{fault_of}
 use Rattle.vr_mem.specs.Seen.{copies, zero_cell}
-use Rattle.vr_lie.specs.declared.table.Prepare.{Prepare}
 use Rattle.vr_lie.specs.Faults.{HeldRan, held_at}
 use Rattle.vr_rings.specs.Held.{entry_of_both, header_sector, held_after, is_prepare}
 use Rattle.vr_rings.specs.Slots.{header_reading, size_at, whole_of}
-use Rattle.vr_lie.specs.Table.{IsTable, table_of}
+use Rattle.vr_lie.specs.Table.{IsTable}
 use Rattle.vr_lie.proofs.Slotted.{same_entry, same_slot}
 
 -- the disk below keeps nothing beside its sectors
@@ -98,21 +97,21 @@ no_entry header p e =
     let x : None ≡ Some p = sym (ap (λ b. cond b (Some four) None) n) ∙ e in
     absurd cc
 
-pub empty_at : (n slot : ℕ) → held_at (table_of (replicate n None)) slot ≡ None
+pub empty_at : (n slot : ℕ) → held_at (replicate n None) slot ≡ None
 empty_at zero s = refl
 empty_at (suc n) zero = refl
 empty_at (suc n) (suc s) = empty_at n s
 
-empty_count : (n : ℕ) → length (table_of (replicate n None)) ≡ n
+empty_count : (n : ℕ) → let none : List (Option (List ℕ)) = replicate n None in length none ≡ n
 empty_count zero = refl
 empty_count (suc n) = ap suc (empty_count n)
 
-pub new_table : (f : Face) (held : List (Option Prepare)) → f ≡ record { cells = copies 1424 zero_cell; waiting = [] } → held ≡ replicate 64 None → IsTable f (table_of held)
-new_table f held e h =
-    let t : IsTable f (table_of (replicate 64 None)) = record {
+pub new_table : (f : Face) (table : List (Option (List ℕ))) → f ≡ record { cells = copies 1424 zero_cell; waiting = [] } → table ≡ replicate 64 None → IsTable f table
+new_table f table e h =
+    let t : IsTable f (replicate 64 None) = record {
       count = empty_count 64;
       seen = λ s l p x.
           let w = zeros_whole f (prepare_place s) e (omega arith) in
           absurd (no_entry (header_reading f s) p (sym (ap (entry_of_both (header_reading f s)) w) ∙ x));
     } in
-    subst (λ (held : List (Option Prepare)). IsTable f (table_of held)) (sym h) t
+    subst (IsTable f) (sym h) t

@@ -1,4 +1,5 @@
 pub mod Calls
+pub mod Early
 pub mod Lies
 pub mod Opening
 pub mod Premise

@@ -1,21 +1,24 @@
 -- What the slots hold, by the table of the code.
-use Rattle.std.proofs.Common.{ℕ, ◌+◌, ◌<◌, ◌≤◌, ◌≡◌, ◌≢◌, refl, sym, ap, ◌∙◌, arith, true, false, cond, eqb, List, length, get_or, set, length-set, Option, Some, None, get_or-set_other, get_or-set_same, inl, inr}
+use Rattle.std.proofs.Common.{ℕ, ◌+◌, ◌<◌, ◌≤◌, ◌≡◌, ◌≢◌, refl, sym, ap, ◌∙◌, arith, true, false, cond, eqb, List, [], length, get_or, set, length-set, Option, Some, None, get_or-set_other, get_or-set_same, inl, inr}
 use Rattle.std.specs.Prelude.{nat_le, nat_lt}
 use Rattle.std.proofs.lemmas.Bool.{cases_eq, cond_both, eq-eqb, ne_eqb, and_parts, leb-true, ltb-true}
 use Rattle.std.proofs.lemmas.List.{get_or-map, map-set}
 use Rattle.vr_disk.specs.DiskState.{Face, Write, Sync, Waiting, after, digit_at, settle}
 use Rattle.vr_disk.specs.Regions.{header_place, prepare_place}
 use Rattle.vr_disk.proofs.Frames.{reads_other}
-use Rattle.vr_lie.specs.declared.table.Prepare.{Prepare}
+use Rattle.vr_lie.specs.declared.table.Held.{Held}
 use Rattle.vr_lie.specs.Faults.{HeldAfter, HeldLooked, held_at}
 use Rattle.vr_rings.specs.Held.{entry_read, found, held_after, held_begun, held_cut_at, is_part, keeps, kept, looked}
 use Rattle.vr_lie.specs.Table.{HeldBegun, HeldCut, IsTable, held_of, slot_at, table_of}
 use Rattle.vr_lie.proofs.Slotted.{SameSlot, header_slot, part_slot, same_entry, same_slot}
 
-pub at_table : (held : List (Option Prepare)) (slot : ℕ) → slot < length held → held_at (table_of held) slot ≡ held_of (get_or held slot None)
-at_table held s l = get_or-map held_of held s None None l
+abbrev pub no_held : Held
+no_held = record { some = false; prepare = [] }
 
-pub set_table : (held : List (Option Prepare)) (slot : ℕ) (x : Option Prepare) (v : Option (List ℕ)) → held_of x ≡ v → table_of (set held slot x) ≡ set (table_of held) slot v
+pub at_table : (held : List Held) (slot : ℕ) → slot < length held → held_at (table_of held) slot ≡ held_of (get_or held slot no_held)
+at_table held s l = get_or-map held_of held s no_held None l
+
+pub set_table : (held : List Held) (slot : ℕ) (x : Held) (v : Option (List ℕ)) → held_of x ≡ v → table_of (set held slot x) ≡ set (table_of held) slot v
 set_table held s x v e = map-set held_of held s x ∙ ap (set (table_of held) s) e
 
 pub looks : (f : Face) (slot : ℕ) (h v r : Option (List ℕ)) → r ≡ looked f slot h → v ≡ h → r ≡ looked f slot v

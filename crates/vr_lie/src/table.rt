@@ -4,18 +4,31 @@ ghost use Rattle.vr_disk.specs.DiskState.{Sync, Write, after, settle};
 ghost use Rattle.vr_lie.specs.Faults.{HeldAfter, HeldLooked, held_at};
 ghost use Rattle.vr_rings.specs.Held.{found, held_after, held_begun, is_prepare, keeps, kept, looked};
 ghost use Rattle.vr_disk.specs.Sectors.{has};
-ghost use Rattle.vr_lie.specs.Table.{HeldBegun, HeldCut, IsTable, held_of, slot_at, table_of};
+ghost use Rattle.vr_lie.specs.Table.{HeldBegun, HeldCut, IsOwnHeader, IsTable, held_of, slot_at, table_of};
 ghost use Rattle.vr_mem.specs.Cells.{disk_of};
 
-use crate::reading::{has_header, is_prepare, read_prepare};
+use crate::reading::{begins_alike, has_header, is_prepare, read_prepare};
 use vr_disk::{Sector, header_place, prepare_place, sector_at};
 use vr_mem::CellDisk;
 use vr_rings::header_sector;
 
-/// The four sectors of an entry's prepare: its header, its body and zeros.
+/// What a slot holds: an entry, by the four sectors of its prepare, or nothing.
 #[derive(Clone, Copy)]
-pub struct Prepare {
-    pub bytes: [u8; 2048],
+pub struct Held {
+    pub some: bool,
+    /// Its header, its body and zeros. What stands here where nothing is held stays: to clear it would only take time.
+    pub prepare: [u8; 2048],
+}
+
+impl Held {
+    pub fn nothing() -> Held
+        ensures { held_of result ≡ None }
+    {
+        Held {
+            some: false,
+            prepare: [0; 2048],
+        }
+    }
 }
 
 /// The slot that a sector belongs to.
@@ -36,47 +49,56 @@ pub fn slot_of(i: u32) -> Option<u32>
 }
 
 // Whether a slot holds the entry with this prepare.
-fn is_held(held: &Option<Prepare>, bytes: &[u8]) -> bool
+fn is_held(held: &Held, bytes: &[u8]) -> bool
     ensures { result ≡ has bytes.now (held_of held.now) }
 {
-    match held {
-        Some(prepare) => prepare.bytes.as_slice() == bytes,
-        None => false,
-    }
+    held.some && held.prepare.as_slice() == bytes
 }
 
 // A slot holds the entry that it reads as, where these are an entry's bytes. Those of the one that it holds aren't hashed.
-fn find(bytes: &[u8; 2048], held: &mut Option<Prepare>)
-    ensures { held_of held.new ≡ found (if is_prepare bytes.now then Some bytes.now else None) (held_of held.old) }
+fn find(disk: &mut CellDisk, bytes: &[u8; 2048], held: &mut Held)
+    ensures told { disk_of disk.new ≡ disk_of disk.old }
+    ensures faults { disk.new.faults ≡ disk.old.faults }
+    ensures value { held_of held.new ≡ found (if is_prepare bytes.now then Some bytes.now else None) (held_of held.old) }
 {
     if is_held(held, bytes) {
         return;
     }
-    if is_prepare(bytes) {
-        *held = Some(Prepare { bytes: *bytes });
+    if is_prepare(disk, bytes) {
+        held.prepare = *bytes;
+        held.some = true;
     }
 }
 
-// Looks at a slot again.
-#[tactic(auto, unfolding(vr_rings::specs::Held::entry_of_both))]
-fn look_in(disk: &mut CellDisk, slot: u32, held: &mut Option<Prepare>)
-    requires { slot < 64 }
+// Looks at a slot whose header sector is that of the prepare beside it.
+#[tactic(auto, using(std::proofs::lemmas::Grind::common_steps, crate::proofs::Early::none_looked))]
+fn look_whole(disk: &mut CellDisk, slot: u32, held: &mut Held)
+    requires slot { slot < 64 }
+    requires own { IsOwnHeader (disk_of disk.old).face slot }
     ensures told { disk_of disk.new ≡ disk_of disk.old }
     ensures faults { disk.new.faults ≡ disk.old.faults }
     ensures value { held_of held.new ≡ looked (disk_of disk.old).face slot (held_of held.old) }
 {
     let mut bytes = [0; 2048];
-    if !read_prepare(disk, slot, &mut bytes) {
-        return;
+    if read_prepare(disk, slot, &mut bytes) {
+        find(disk, &bytes, held);
     }
-    if !has_header(disk, slot, &bytes) {
-        return;
+}
+
+// Looks at a slot again: at the first sector of its prepare, and at the others where its header sector is that of this one.
+fn look_in(disk: &mut CellDisk, slot: u32, held: &mut Held)
+    requires { slot < 64 }
+    ensures told { disk_of disk.new ≡ disk_of disk.old }
+    ensures faults { disk.new.faults ≡ disk.old.faults }
+    ensures value { held_of held.new ≡ looked (disk_of disk.old).face slot (held_of held.old) }
+{
+    if begins_alike(disk, slot) {
+        look_whole(disk, slot, held);
     }
-    find(&bytes, held);
 }
 
 /// Looks at a slot again.
-pub fn look(disk: &mut CellDisk, held: &mut [Option<Prepare>], slot: u32)
+pub fn look(disk: &mut CellDisk, held: &mut [Held], slot: u32)
     requires slot { slot < 64 }
     requires count { length held.old ≡ 64 }
     ensures told { disk_of disk.new ≡ disk_of disk.old }
@@ -87,7 +109,7 @@ pub fn look(disk: &mut CellDisk, held: &mut [Option<Prepare>], slot: u32)
 }
 
 /// Looks at each slot again.
-pub fn look_all(disk: &mut CellDisk, held: &mut [Option<Prepare>])
+pub fn look_all(disk: &mut CellDisk, held: &mut [Held])
     requires { length held.old ≡ 64 }
     ensures told { disk_of disk.new ≡ disk_of disk.old }
     ensures faults { disk.new.faults ≡ disk.old.faults }
@@ -121,33 +143,34 @@ fn keeps(disk: &mut CellDisk, slot: u32, i: u32, bytes: &[u8], prepare: &[u8]) -
 }
 
 // Whether a write leaves it that a slot holds what it holds.
-fn keeps_held(disk: &mut CellDisk, slot: u32, i: u32, from: &Sector, held: &Option<Prepare>) -> bool
+fn keeps_held(disk: &mut CellDisk, slot: u32, i: u32, from: &Sector, held: &Held) -> bool
     requires { slot < 64 }
     ensures told { disk_of disk.new ≡ disk_of disk.old }
     ensures faults { disk.new.faults ≡ disk.old.faults }
     ensures value { kept (disk_of disk.old).face slot i from.now.bytes (held_of held.now) ≡ (if result then held_of held.now else None) }
 {
-    match held {
-        Some(prepare) => keeps(disk, slot, i, &from.bytes, &prepare.bytes),
-        None => true,
+    if held.some {
+        keeps(disk, slot, i, &from.bytes, &held.prepare)
+    } else {
+        true
     }
 }
 
 // Looks at a slot that a write leaves what it holds, or nothing.
-fn follow(disk: &mut CellDisk, slot: u32, keeps: bool, held: &mut Option<Prepare>)
+fn follow(disk: &mut CellDisk, slot: u32, keeps: bool, held: &mut Held)
     requires { slot < 64 }
     ensures told { disk_of disk.new ≡ disk_of disk.old }
     ensures faults { disk.new.faults ≡ disk.old.faults }
     ensures value { held_of held.new ≡ looked (disk_of disk.old).face slot (if keeps then held_of held.old else None) }
 {
     if !keeps {
-        *held = None;
+        held.some = false;
     }
     look_in(disk, slot, held);
 }
 
 // Writes a sector of a slot.
-fn put_in(disk: &mut CellDisk, held: &mut [Option<Prepare>], slot: u32, i: u32, from: &Sector)
+fn put_in(disk: &mut CellDisk, held: &mut [Held], slot: u32, i: u32, from: &Sector)
     requires slot { slot < 64 }
     requires i { i < 1424 }
     requires count { length held.old ≡ 64 }
@@ -162,7 +185,7 @@ fn put_in(disk: &mut CellDisk, held: &mut [Option<Prepare>], slot: u32, i: u32, 
 }
 
 /// A write that goes through.
-pub fn put(disk: &mut CellDisk, held: &mut [Option<Prepare>], i: u32, from: &Sector)
+pub fn put(disk: &mut CellDisk, held: &mut [Held], i: u32, from: &Sector)
     requires i { i < 1424 }
     requires table { IsTable (disk_of disk.old).face (table_of held.old) }
     ensures told { disk_of disk.new ≡ record (disk_of disk.old) { face = after (disk_of disk.old).face (Write i from.now.bytes) } }
@@ -177,14 +200,7 @@ pub fn put(disk: &mut CellDisk, held: &mut [Option<Prepare>], i: u32, from: &Sec
 }
 
 // Begins to write a sector of a slot, which the code then settles.
-fn begin_in(
-    disk: &mut CellDisk,
-    held: &mut [Option<Prepare>],
-    slot: u32,
-    i: u32,
-    from: &Sector,
-    code: u64,
-)
+fn begin_in(disk: &mut CellDisk, held: &mut [Held], slot: u32, i: u32, from: &Sector, code: u64)
     requires slot { slot < 64 }
     requires i { i < 1424 }
     requires count { length held.old ≡ 64 }
@@ -200,7 +216,7 @@ fn begin_in(
     }
 }
 
-fn begin(disk: &mut CellDisk, held: &mut [Option<Prepare>], i: u32, from: &Sector, code: u64)
+fn begin(disk: &mut CellDisk, held: &mut [Held], i: u32, from: &Sector, code: u64)
     requires i { i < 1424 }
     requires table { IsTable (disk_of disk.old).face (table_of held.old) }
     ensures told { disk_of disk.new ≡ record (disk_of disk.old) { face = after (disk_of disk.old).face (Write i from.now.bytes) } }
@@ -214,7 +230,7 @@ fn begin(disk: &mut CellDisk, held: &mut [Option<Prepare>], i: u32, from: &Secto
 }
 
 /// A write that is cut by this code.
-pub fn cut_put(disk: &mut CellDisk, held: &mut [Option<Prepare>], i: u32, from: &Sector, code: u64)
+pub fn cut_put(disk: &mut CellDisk, held: &mut [Held], i: u32, from: &Sector, code: u64)
     requires i { i < 1424 }
     requires table { IsTable (disk_of disk.old).face (table_of held.old) }
     ensures told { disk_of disk.new ≡ record (disk_of disk.old) { face = settle code (after (disk_of disk.old).face (Write i from.now.bytes)) } }
@@ -228,7 +244,7 @@ pub fn cut_put(disk: &mut CellDisk, held: &mut [Option<Prepare>], i: u32, from: 
 }
 
 /// A sync that is cut by this code.
-pub fn cut_sync(disk: &mut CellDisk, held: &mut [Option<Prepare>], code: u64)
+pub fn cut_sync(disk: &mut CellDisk, held: &mut [Held], code: u64)
     requires { IsTable (disk_of disk.old).face (table_of held.old) }
     ensures told { disk_of disk.new ≡ record (disk_of disk.old) { face = settle code (disk_of disk.old).face } }
     ensures faults { disk.new.faults ≡ disk.old.faults }

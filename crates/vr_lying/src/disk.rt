@@ -7,8 +7,8 @@ ghost use Rattle.vr_lying.specs.Told.{IsTold};
 ghost use Rattle.vr_world.specs.Lying.{unless_kept_out};
 
 use std::alloc::Global;
-use vr_base::NoMemory;
-use vr_disk::{DiskFailed, Sector, SectorDisk};
+use vr_base::{NoMemory, Sum};
+use vr_disk::{DiskFailed, Room, Sector, SectorDisk};
 use vr_lie::{Fault, Faulted, LieDisk};
 
 /// A disk that lies, and tells what its slots hold beside what its sectors do.
@@ -92,5 +92,13 @@ impl SectorDisk for HostDisk {
 
     fn sync(&mut self) -> Result<(), DiskFailed> {
         self.lie.sync()
+    }
+
+    fn name_of(&mut self, room: Room, bytes: &[u8]) -> Sum {
+        self.lie.name_of(room, bytes)
+    }
+
+    fn keep_name(&mut self, room: Room, bytes: &[u8], name: Sum) {
+        self.lie.keep_name(room, bytes, name);
     }
 }

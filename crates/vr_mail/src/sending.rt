@@ -28,6 +28,7 @@ pub fn send_message<L: Link>(
 ) -> Result<(), AllocError>
     ensures sent { OnOk result (Sends (datagram_at port (spelling message.now) ∷ []) (L.sent link.old) (L.sent link.new)) }
     ensures unsent { OnErr result (L.sent link.new ≡ L.sent link.old) }
+    ensures bytes { OnOk result (bytes.new.items ≡ spelling message.now) }
     ensures received { L.received link.new ≡ L.received link.old }
     ensures faults { L.faults link.new ≡ L.faults link.old }
     ensures attached { L.attached link.new ≡ L.attached link.old }

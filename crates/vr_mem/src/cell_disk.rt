@@ -8,8 +8,8 @@ ghost use Rattle.vr_mem.specs.Seen.{IsMemFace, cell_of, copies, call_verdict, ze
 use crate::cells::{MemCell, MemFace};
 use crate::fate::{MemFate, MemFuse, MemVerdict};
 use std::alloc::Global;
-use vr_base::NoMemory;
-use vr_disk::{DiskFailed, SECTORS, Sector, SectorDisk};
+use vr_base::{NoMemory, Sum};
+use vr_disk::{DiskFailed, Memo, Room, SECTORS, Sector, SectorDisk};
 
 /// A disk of 1,424 sectors in memory. A read gives what the sector reads as, and fails where it can't be read.
 #[derive(Drop)]
@@ -18,6 +18,7 @@ pub struct CellDisk {
     fate: MemFate,
     faults: u64,
     read_faults: u64,
+    memo: Memo,
     ghost sectors: { IsMemFace face },
 }
 
@@ -41,6 +42,7 @@ impl CellDisk {
             },
             faults: 0,
             read_faults: 0,
+            memo: Memo::new(alloc)?,
         })
     }
 
@@ -223,5 +225,13 @@ impl SectorDisk for CellDisk {
                 self.fault()
             }
         }
+    }
+
+    fn name_of(&mut self, room: Room, bytes: &[u8]) -> Sum {
+        self.memo.name_of(room, bytes)
+    }
+
+    fn keep_name(&mut self, room: Room, bytes: &[u8], name: Sum) {
+        self.memo.keep(room, bytes, name);
     }
 }

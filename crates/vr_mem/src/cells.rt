@@ -104,30 +104,25 @@ fn is_waiting(index: u32, waiting: &[MemWaiting]) -> bool
 }
 
 // Notes that a sector waits, once.
-fn note(waiting: &mut Vec<MemWaiting>, index: u32, was: MemCell)
+fn note(waiting: &mut Vec<MemWaiting>, index: u32, was: &MemCell)
     requires { list_any (λ w. w.index == index) waiting.old.items ≡ false → length waiting.old.items < vec_capacity waiting.old }
-    ensures items { waiting.new.items ≡ (if list_any (λ w. w.index == index) waiting.old.items then waiting.old.items else waiting.old.items ++ record { index = index; was = was } ∷ []) }
+    ensures items { waiting.new.items ≡ (if list_any (λ w. w.index == index) waiting.old.items then waiting.old.items else waiting.old.items ++ record { index = index; was = was.now } ∷ []) }
     ensures capacity { vec_capacity waiting.old ≤ vec_capacity waiting.new }
 {
     if !is_waiting(index, waiting) {
-        let _ = waiting.push(MemWaiting { index, was });
+        let _ = waiting.push(MemWaiting { index, was: *was });
     }
 }
 
-// A sector after a write of these bytes.
-fn written(bytes: &[u8], was: &MemCell) -> MemCell
+// Writes these bytes to a sector, in its place.
+fn set(cell: &mut MemCell, bytes: &[u8])
     requires { length bytes.now ≡ 512 }
-    ensures cell { result ≡ record { truth = record { bytes = bytes.now }; reads = Some (record { bytes = bytes.now }); before = was.now.truth } }
+    ensures cell { cell.new ≡ record { truth = record { bytes = bytes.now }; reads = Some (record { bytes = bytes.now }); before = cell.old.truth } }
     ensures content { IsContent bytes.now }
 {
-    let mut copied = [0; 512];
-    copied.copy_from_slice(bytes);
-    let truth = Sector { bytes: copied };
-    MemCell {
-        truth,
-        reads: Some(truth),
-        before: was.truth,
-    }
+    cell.before = cell.truth;
+    cell.truth.bytes.copy_from_slice(bytes);
+    cell.reads = Some(cell.truth);
 }
 
 // A sector that reads as these bytes.
@@ -217,9 +212,8 @@ impl MemFace {
         ensures face { IsMemFace self.new }
     {
         let at = index as usize;
-        let was = self.cells[at];
-        note(&mut self.waiting, index, was);
-        self.cells[at] = written(&from.bytes, &was);
+        note(&mut self.waiting, index, &self.cells[at]);
+        set(&mut self.cells[at], &from.bytes);
     }
 
     pub fn sync(&mut self)

@@ -6,8 +6,8 @@ ghost use Rattle.vr_mem.specs.Cells.{disk_of};
 
 use crate::CellDisk;
 use std::alloc::Global;
-use vr_base::NoMemory;
-use vr_disk::{DiskFailed, SECTORS, Sector, SectorDisk};
+use vr_base::{NoMemory, Sum};
+use vr_disk::{DiskFailed, Room, SECTORS, Sector, SectorDisk};
 
 /// A disk of 1,424 sectors in memory. Its reads give what it holds and never fail.
 #[derive(Drop)]
@@ -92,5 +92,13 @@ impl SectorDisk for MemDisk {
 
     fn sync(&mut self) -> Result<(), DiskFailed> {
         self.disk.sync()
+    }
+
+    fn name_of(&mut self, room: Room, bytes: &[u8]) -> Sum {
+        self.disk.name_of(room, bytes)
+    }
+
+    fn keep_name(&mut self, room: Room, bytes: &[u8], name: Sum) {
+        self.disk.keep_name(room, bytes, name);
     }
 }

@@ -1,5 +1,5 @@
 -- What applying an entry does.
-use Rattle.std.proofs.Common.{◌≡◌, ◌∙◌, ◌+◌, cond, List, [], ◌∷◌, ◌++◌, append_assoc}
+use Rattle.std.proofs.Common.{◌≡◌, ◌∙◌, cond, List, [], ◌∷◌, ◌++◌, append_assoc}
 use Rattle.vr_ckpt.specs.ReplyBody.{ReplyBody}
 use Rattle.vr_ckpt.specs.State.{State}
 use Rattle.vr_ckpt.specs.Folds as state
@@ -11,7 +11,6 @@ use Rattle.vr_msg.specs.declared.output.Output.{Output}
 use Rattle.vr_msg.specs.declared.output.Output.TheVariants as output
 use Rattle.vr_rules.specs.Replica.{Replica, leads}
 use Rattle.vr_rules.specs.Outputs.{kind_of, replies, commit_line, applied_reply}
-use Rattle.vr_rules.specs.Words.{applied}
 use Rattle.vr_memory.specs.Ready.{MayApply}
 
 -- what is replied has a number that a reply may carry

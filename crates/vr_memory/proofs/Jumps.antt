@@ -6,6 +6,7 @@ use Rattle.std.proofs.lemmas.List.{drop_all, get_or-append_right, get_or-drop, g
 use Rattle.std.proofs.lemmas.List.FromFn.{get_or-map-range_with_len, length-map-range_with_len, map-range_with_len_more}
 use Rattle.std.proofs.Math.ListN.{get_or-append}
 use Rattle.vr_base.specs.declared.replicas.Replicas.{Replicas}
+use Rattle.vr_base.specs.Bytes.{name_of}
 use Rattle.vr_base.specs.Replicas.{no_replicas}
 use Rattle.vr_ckpt.specs.declared.name.Name.{Name}
 use Rattle.vr_header.specs.declared.part.Part.{Part}
@@ -13,7 +14,7 @@ use Rattle.vr_header.specs.declared.part.Part.TheVariants.{Nothing}
 use Rattle.vr_msg.specs.declared.frame.SyncView.{SyncView}
 use Rattle.vr_msg.specs.Logs.{has_header}
 use Rattle.vr_rules.specs.Replica.{Replica, forgetting, head, part_at}
-use Rattle.vr_rules.specs.Words.{jumped, jumped_part, no_statements}
+use Rattle.vr_rules.specs.Words.{is_chain, jumped, jumped_part, no_statements}
 use Rattle.vr_rules.proofs.Heads.{Spans, head_reaches, part_within}
 use Rattle.vr_rules.proofs.Taking.{log_reaches, replaced_header}
 use Rattle.vr_memory.specs.Jumps.{MayJump, first_then, jumped_at, jumped_by, jumped_to, moved_to}
@@ -307,5 +308,8 @@ jumped_is v r m q p b s root missing a n e i k j f may h =
     let whole : b ≡ reaching v r (first_then v r) = j ∙ rw (k, i, e, n) (lands v r root a may h) in
     let first : first_then v r + (top v r - 63 - first_then v r) ≡ r.first + (top v r - 63 - r.first) = omega arith in
     f ∙ ap forgetting whole ∙ forgets v r (first_then v r) low ∙ ap (reaching v r) first ∙ sym (forgets v r r.first (omega arith))
+
+pub chained : (v : SyncView) (r : Replica) → MayJump v r → is_chain name_of v.body.headers ≡ true
+chained v r m = m.chain
 
 pub ruleset jumps = (window_landed, room_moved, jumped_is)

@@ -2,14 +2,17 @@
 use Rattle.std.proofs.Common.{arith, ℕ, zero, suc, ◌≡◌, ◌≤◌, ◌<◌, ◌+◌, ◌-◌, ◌^◌, ◌∙◌, refl, sym, ap, subst, true, List, [], ◌∷◌, ◌++◌, length, drop, get_or, set, map, max, append_assoc, append-nil, slice_get, Some, None, add-one, drop-cons}
 use Rattle.std.specs.Prelude.{◌&&◌}
 use Rattle.std.specs.List.{range_with_len}
-use Rattle.std.proofs.lemmas.Bool.{le-ltb}
+use Rattle.std.proofs.lemmas.Bool.{and_parts, le-ltb}
 use Rattle.std.proofs.lemmas.List.{drop_all, length-append, length-drop, length-replicate}
 use Rattle.std.proofs.lemmas.List.FromFn.{length-map-range_with_len, map-range_with_len_more}
+use Rattle.std.proofs.lemmas.Slice.Eq.{bytes_eq-Decides}
+use Rattle.vr_base.specs.declared.sum.Sum.{Sum}
+use Rattle.vr_base.specs.Bytes.{name_of}
 use Rattle.vr_base.specs.Replicas.{no_replicas}
 use Rattle.vr_header.specs.declared.header.Header.{Header}
 use Rattle.vr_header.specs.declared.part.Part.{Part}
 use Rattle.vr_header.specs.declared.part.Part.TheVariants.{Nothing}
-use Rattle.vr_header.specs.Names.{name_by}
+use Rattle.vr_header.specs.Names.{header_name, name_by}
 use Rattle.vr_header.specs.Spelling.{IsHeader}
 use Rattle.vr_msg.specs.Normal.{same_sum}
 use Rattle.vr_msg.specs.Spelling.{AreHeaders}
@@ -46,6 +49,28 @@ pub values_more : (hs : List Header) (i : ℕ) (a : Header) → slice_get hs i �
 values_more [] i a e is h = absurd cc
 values_more (x ∷ xs) zero a e is h = let p : x ≡ a = cc in (rw p is, h)
 values_more (x ∷ xs) (suc i) a e is h = values_more xs i a e is (rw add-one (rw add-one at h))
+
+chain_behind : (hash : List ℕ → List ℕ) (x : Header) (xs : List Header) → is_chain hash (x ∷ xs) ≡ true → is_chain hash xs ≡ true
+unfolding is_chain_from
+chain_behind hash x [] c = refl
+chain_behind hash x (y ∷ ys) c = (and_parts (same_sum y.parent (name_by hash x)) (is_chain_from hash y ys) c).1
+
+sum_is : (a b : Sum) → same_sum a b ≡ true → a ≡ b
+sum_is a b e = let bytes = (bytes_eq-Decides a.0 b.0).0 e in λ i. record { 0 = bytes i }
+
+-- in a chain, the one behind has the name of the one before as its parent
+pub linked : (hs : List Header) (i : ℕ) (a b : Header) → is_chain name_of hs ≡ true → slice_get hs i ≡ Some a → slice_get hs (i + 1) ≡ Some b → b.parent ≡ header_name a
+unfolding is_chain_from
+linked [] i a b c e k = absurd cc
+linked (x ∷ []) zero a b c e k = absurd cc
+linked (x ∷ y ∷ ys) zero a b c e k =
+    let p : x ≡ a = cc in
+    let q : y ≡ b = cc in
+    let named = sum_is y.parent (header_name x) (and_parts (same_sum y.parent (header_name x)) (is_chain_from name_of y ys) c).0 in
+    rw (p, q) at named
+linked (x ∷ xs) (suc i) a b c e k =
+    let next : slice_get xs (i + 1) ≡ Some b = rw add-one (rw add-one at k) in
+    linked xs i a b (chain_behind name_of x xs c) e next
 
 pub ruleset links = (chain_more, chain_last, values_more)
 

@@ -1,5 +1,5 @@
 -- The places of a disk, and blocks found bad.
-use Rattle.std.proofs.Common.{◌-◌, ◌^◌, ◌≡◌, ◌≤◌, ◌∙◌, sym, ap, cond, Bool, true, false, [], ◌∷◌, ◌++◌}
+use Rattle.std.proofs.Common.{◌^◌, ◌≡◌, ◌≤◌, ◌∙◌, sym, ap, cond, Bool, true, false, [], ◌∷◌, ◌++◌}
 use Rattle.vr_rules.specs.Replica.{Replica}
 use Rattle.vr_rules.specs.Words.{with_worn}
 use Rattle.vr_ckpt.specs.declared.name.Name.{Name}

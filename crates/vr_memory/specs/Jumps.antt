@@ -1,14 +1,15 @@
 -- A log that is taken over with a later checkpoint, place by place.
-use Rattle.std.specs.Prelude.{ℕ, ◌+◌, ◌-◌, ◌<◌, ◌≤◌, List, drop, length, map, replicate, max, ◌++◌, nat_le, nat_lt, slice_index_or, ◌≡◌, if◌then◌else◌}
+use Rattle.std.specs.Prelude.{ℕ, ◌+◌, ◌-◌, ◌<◌, ◌≤◌, List, drop, length, map, replicate, max, ◌++◌, nat_le, nat_lt, slice_index_or, ◌≡◌, true, if◌then◌else◌}
 use Rattle.std.specs.List.{range_with_len}
 use Rattle.std.specs.Option.{option_map_or}
+use Rattle.vr_base.specs.Bytes.{name_of}
 use Rattle.vr_base.specs.Replicas.{no_replicas}
 use Rattle.vr_header.specs.declared.part.Part.{Part}
 use Rattle.vr_header.specs.declared.part.Part.TheVariants.{Lost, Nothing}
 use Rattle.vr_msg.specs.declared.frame.SyncView.{SyncView}
 use Rattle.vr_msg.specs.Numbers.{IsNumber}
 use Rattle.vr_rules.specs.Replica.{Replica}
-use Rattle.vr_rules.specs.Words.{log_header, replaced_by, sync_log}
+use Rattle.vr_rules.specs.Words.{is_chain, log_header, replaced_by, sync_log}
 
 -- what is known of an op then, by what was known of it
 abbrev pub jumped_by : SyncView → ℕ → ℕ → ℕ → Part → Part
@@ -40,7 +41,7 @@ moved_to v r =
       ackers = drop (first_then v r - r.first) r.ackers ++ replicate (v.checkpoint + 65 - first_then v r - length parts) no_replicas;
     }
 
--- the checkpoint is a later one, and stands within the log, whose headers begin at most 64 ops below its head
+-- the checkpoint is a later one, and stands within the log, whose headers are a chain that begins at most 64 ops below its head
 pub record MayJump (v : SyncView) (r : Replica) : Type 0 where
   pub above : r.checkpoint < v.checkpoint
   pub lo : v.body.lo < v.checkpoint
@@ -48,4 +49,5 @@ pub record MayJump (v : SyncView) (r : Replica) : Type 0 where
   pub commit : v.commit ≤ v.head
   pub short : v.head ≤ v.body.lo + 64
   pub count : v.body.lo + length v.body.headers ≡ v.head
+  pub chain : is_chain name_of v.body.headers ≡ true
   pub number : IsNumber v.head

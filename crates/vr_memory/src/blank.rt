@@ -9,10 +9,10 @@ use std::alloc::Global;
 use vr_base::{NoMemory, Replicas, Seq};
 use vr_ckpt::{Name, PayloadTable, State};
 use vr_disk::Buffer;
-use vr_header::Part;
+use vr_header::{Names, Part};
 use vr_msg::Statement;
 use vr_super::Super;
-use vr_window::{Names, Places, Window};
+use vr_window::{Places, Window};
 
 // The op of the first header that a value names.
 #[tactic(auto, using(crate::proofs::Blanks::value_bounds))]
@@ -39,9 +39,9 @@ fn members_of(value: &Super) -> u8
     value.fields().n
 }
 
-// What a replica has room for from its beginning on.
+// What a replica has space for from its beginning on.
 #[derive(Drop)]
-struct Room {
+struct Space {
     parts: Window<Part>,
     names: Names,
     ackers: Window<Replicas>,
@@ -49,20 +49,20 @@ struct Room {
     buffer: Buffer,
 }
 
-impl Room {
-    // Room for so many ops, of which nothing is known, in a group of n.
-    fn new(alloc: Global, count: usize, n: u8) -> Result<Room, NoMemory>
+impl Space {
+    // Space for so many ops, of which nothing is known, in a group of n.
+    fn new(alloc: Global, count: usize, n: u8) -> Result<Space, NoMemory>
         requires { count ≤ 128 }
-        ensures parts { IfOk result (λ room. room.parts ≡ replicate count Nothing) }
-        ensures ackers { IfOk result (λ room. room.ackers ≡ replicate count no_replicas) }
-        ensures statements { IfOk result (λ room. room.statements ≡ replicate n None) }
+        ensures parts { IfOk result (λ space. space.parts ≡ replicate count Nothing) }
+        ensures ackers { IfOk result (λ space. space.ackers ≡ replicate count no_replicas) }
+        ensures statements { IfOk result (λ space. space.statements ≡ replicate n None) }
     {
         let parts = Window::full(alloc, Part::Nothing, count)?;
         let names = Names::new(alloc)?;
         let ackers = Window::full(alloc, Replicas::none(), count)?;
         let statements = Places::new(alloc, n)?;
         let buffer = Buffer::new(alloc)?;
-        Ok(Room {
+        Ok(Space {
             parts,
             names,
             ackers,
@@ -73,23 +73,24 @@ impl Room {
 }
 
 impl Replica {
-    // The replica of this value in this room; it takes no memory.
+    // The replica of this value in this space; it takes no memory.
     #[tactic(auto, unfolding(vr_rules::specs::Opening::blank))]
-    fn within(alloc: Global, value: Super, first: u64, room: Room) -> Replica
+    fn within(alloc: Global, value: Super, first: u64, space: Space) -> Replica
         requires first { first ≡ first_listed value }
-        requires parts { room.parts ≡ replicate (value.fields.checkpoint + 65 - first) Nothing }
-        requires ackers { room.ackers ≡ replicate (value.fields.checkpoint + 65 - first) no_replicas }
-        requires statements { room.statements ≡ replicate value.fields.n None }
+        requires parts { space.parts ≡ replicate (value.fields.checkpoint + 65 - first) Nothing }
+        requires ackers { space.ackers ≡ replicate (value.fields.checkpoint + 65 - first) no_replicas }
+        requires statements { space.statements ≡ replicate value.fields.n None }
         ensures { result ≡ blank value }
     {
         let f = value.fields();
-        let Room {
+        let Space {
             parts,
-            names,
+            mut names,
             ackers,
             statements,
             buffer,
-        } = room;
+        } = space;
+        value.tell_names(&mut names);
         Replica {
             cluster: f.cluster,
             index: f.replica,
@@ -127,7 +128,7 @@ impl Replica {
     {
         let first = first_of(&value);
         let count = count_of(&value);
-        let room = Room::new(alloc, count, members_of(&value))?;
-        Ok(Replica::within(alloc, value, first, room))
+        let space = Space::new(alloc, count, members_of(&value))?;
+        Ok(Replica::within(alloc, value, first, space))
     }
 }

@@ -57,7 +57,7 @@ impl Replica {
         let op = header.op;
         self.put_part(op, Part::Here(header));
         self.forget();
-        self.names.keep(&entry.header());
+        self.names.keep(&entry.header(), entry.name());
     }
 
     /// The entry of this header, which is stored, can't be read.

@@ -10,7 +10,8 @@ use crate::Replica;
 use crate::group::primary;
 use vr_base::{Config, Replicas, Sum};
 use vr_ckpt::{Name, NameList, PayloadTable, State};
-use vr_header::{Header, Part};
+use vr_disk::{Room, SectorDisk};
+use vr_header::{Header, Part, nameless};
 use vr_super::Super;
 use vr_window::Window;
 
@@ -226,6 +227,20 @@ impl Replica {
         ensures { result ≡ header_name header.now }
     {
         self.names.name_of(header)
+    }
+
+    /// Keeps the name of a header of which the disk may have it.
+    pub fn keep_name<D: SectorDisk>(&mut self, disk: &mut D, header: &Header)
+        ensures same { self.new ≡ self.old }
+        ensures told { D.told disk.new ≡ D.told disk.old }
+        ensures faults { D.faults disk.new ≡ D.faults disk.old }
+    {
+        if self.names.kept(header).is_none() {
+            let bytes = nameless(header);
+            let (_, named) = bytes.split_at(16);
+            let name = disk.name_of(Room::Header, named);
+            self.names.keep(header, name);
+        }
     }
 
     /// Whether the known header of an op is this one.

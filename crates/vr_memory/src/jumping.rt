@@ -139,7 +139,7 @@ impl Replica {
 
     /// Takes over the log of a view with a later checkpoint: all that is up to the checkpoint counts as applied, and its state is still to
     /// be had. Where memory is wanting nothing is changed.
-    #[tactic(auto, using(crate::proofs::Jumps::jumps, crate::proofs::Taken::window_begun))]
+    #[tactic(auto, using(crate::proofs::Jumps::jumps, crate::proofs::Jumps::chained, crate::proofs::Taken::window_begun))]
     pub fn jump(&mut self, alloc: Global, sync: &SyncView) -> Result<(), AllocError>
         requires window { HasWindow self.old }
         requires may { MayJump sync.now self.old }
@@ -155,6 +155,7 @@ impl Replica {
         self.land(root, missing, sync.checkpoint);
         self.begin_log(sync.view, sync.commit);
         self.forget();
+        self.keep_names(sync.body.headers.as_slice());
         Ok(())
     }
 }

@@ -5,10 +5,10 @@ use std::marker::Model;
 use vr_base::{NoMemory, Replicas};
 use vr_ckpt::{Name, NameList, PayloadTable, State};
 use vr_disk::Buffer;
-use vr_header::{HeaderList, Part};
+use vr_header::{HeaderList, Names, Part};
 use vr_msg::Statement;
 use vr_super::{Fields, Super};
-use vr_window::{Names, Places, Window, known_from, run_of};
+use vr_window::{Places, Window, known_from, run_of};
 
 /// A replica between two events. Contracts see it as the definitions do.
 #[derive(Drop)]
@@ -27,7 +27,7 @@ pub struct Replica {
     pub(crate) missing: NameList,
     pub(crate) first: u64,
     pub(crate) parts: Window<Part>,
-    /// Of the headers of entries that it stored since it was opened.
+    /// Of the headers that it knows, each named once.
     pub(crate) names: Names,
     pub(crate) ackers: Window<Replicas>,
     pub(crate) heard: Replicas,
@@ -142,6 +142,6 @@ impl Replica {
         ensures { IfOk result (λ v. v ≡ value_of self.now) }
     {
         let headers = self.run(alloc)?;
-        self.saved.next(alloc, self.fields(), headers)
+        self.saved.next(alloc, self.fields(), headers, &self.names)
     }
 }

@@ -13,8 +13,8 @@ ghost use Rattle.vr_rules.specs.Words.{fits, is_chain, is_newer, log_header, may
 use crate::Replica;
 use std::marker::Model;
 use vr_base::Replicas;
-use vr_header::{Header, HeaderList, Part};
-use vr_window::{Names, Standing, has_header, valued};
+use vr_header::{Header, HeaderList, Names, Part};
+use vr_window::{Standing, has_header, valued};
 
 /// The log of a view: its headers of the ops above `lo`, up to its head, and a commit number.
 #[derive(Drop)]
@@ -84,6 +84,26 @@ pub(crate) fn is_chain(names: &Names, headers: &[Header]) -> bool
         }
     }
     true
+}
+
+// Keeps the name of the header at this place of a chain, which the one behind it, if any, has as its parent.
+fn keep_name_at(names: &mut Names, headers: &[Header], at: usize)
+    requires chain { is_chain name_of headers.now ≡ true }
+    requires within { at < length headers.now }
+{
+    let header = header_in(headers, at);
+    if let Some(next) = next_in(headers, at) {
+        names.keep(&header, next.parent);
+    }
+}
+
+// Keeps the names of the headers of a chain, but for the last one's.
+fn keep_names(names: &mut Names, headers: &[Header])
+    requires { is_chain name_of headers.now ≡ true }
+{
+    for i in 0..headers.len() {
+        keep_name_at(names, headers, i);
+    }
 }
 
 /// A Part for which the log has this header.
@@ -232,15 +252,25 @@ impl Replica {
         self.commit = self.commit.max(commit);
     }
 
+    // Keeps the names of the headers of a chain; contracts see nothing of it.
+    pub(crate) fn keep_names(&mut self, headers: &[Header])
+        requires { is_chain name_of headers.now ≡ true }
+        ensures { self.new ≡ self.old }
+    {
+        keep_names(&mut self.names, headers);
+    }
+
     /// Takes over the log of a view.
     #[tactic(auto, using(crate::proofs::Taken::takes))]
     pub fn take_over(&mut self, log: &Log)
-        requires { HasWindow self.old }
+        requires window { HasWindow self.old }
+        requires chain { is_chain name_of log.now.headers ≡ true }
         ensures taken { self.new ≡ taken log.now self.old }
         ensures saved { self.new.saved ≡ self.old.saved }
     {
         self.take_parts(log);
         self.begin_log(log.view, log.commit);
         self.forget();
+        self.keep_names(log.headers.as_slice());
     }
 }

@@ -1,6 +1,10 @@
 -- What requests and replies may carry.
 use Rattle.std.specs.Prelude.{◌≡◌, ◌↔◌, ⊤}
+use Rattle.vr_base.specs.Bytes.{name_of}
+use Rattle.vr_header.specs.Bodies.{operation_bytes}
+use Rattle.vr_header.specs.Names.{header_name, request_header}
 use Rattle.vr_header.specs.declared.operation.Operation.TheVariants.{Register}
+use Rattle.vr_msg.specs.declared.request.Names.{Names}
 use Rattle.vr_msg.specs.declared.request.RequestFields.{RequestFields}
 use Rattle.vr_msg.specs.declared.reply.ReplyKind.{ReplyKind}
 use Rattle.vr_msg.specs.declared.reply.ReplyKind.TheVariants as reply
@@ -18,6 +22,11 @@ IsReplyKind reply.Gap = ⊤
 IsReplyKind reply.Evicted = ⊤
 IsReplyKind reply.Busy = ⊤
 IsReplyKind reply.Redirect = ⊤
+
+-- the names of a request's operation and of its header
+pub record AreNames (q : RequestFields) (n : Names) : Type 0 where
+  pub body : n.body.0 ≡ name_of (operation_bytes q.operation)
+  pub header : n.header ≡ header_name (request_header q.cluster q.client q.request q.operation)
 
 pub record IsReply (r : ReplyFields) : Type 0 where
   pub view : IsView r.view

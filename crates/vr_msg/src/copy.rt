@@ -13,12 +13,13 @@ impl Request {
         ensures { IfOk result (λ copy. copy ≡ self.now) }
     {
         let q = self.fields();
-        Ok(Request::new(RequestFields {
+        let fields = RequestFields {
             cluster: q.cluster,
             client: q.client,
             request: q.request,
             operation: q.operation.try_clone(alloc)?,
-        }))
+        };
+        Ok(self.same(fields))
     }
 }
 

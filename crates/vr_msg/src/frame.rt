@@ -14,6 +14,18 @@ pub struct Prepare {
     pub entry: Entry,
 }
 
+impl Prepare {
+    ghost use Rattle.std.specs.Prelude.{◌≡◌, true};
+
+    /// Whether both are one.
+    #[tactic(auto, using(crate::proofs::Same::prepare_is))]
+    pub fn is(&self, other: &Prepare) -> bool
+        ensures { result ≡ true → self.now ≡ other.now }
+    {
+        self == other
+    }
+}
+
 /// The entry of this op and name is stored.
 #[derive(Clone, Copy, Debug, PartialEq, Eq)]
 pub struct PrepareOk {

@@ -22,5 +22,5 @@ pub use frame::{
 pub use message::Message;
 pub use output::{Chosen, Committed, Outbox, Output, Sent, Started, Waiting};
 pub use reply::{Answered, Reply, ReplyFields, ReplyKind};
-pub use request::{Request, RequestFields};
+pub use request::{Names as RequestNames, Request, RequestFields};
 pub use statement::{DvcBody, Statement, SvBody};

@@ -1,5 +1,5 @@
 //! Messages.
-ghost use Rattle.std.specs.Prelude.{◌≡◌};
+ghost use Rattle.std.specs.Prelude.{◌≡◌, true};
 ghost use Rattle.vr_msg.specs.Forms.{IsFrame};
 
 use crate::Frame;
@@ -40,6 +40,16 @@ impl Message {
         ensures form { IsFrame self.now }
     {
         &self.frame
+    }
+
+    /// Whether both are one prepare.
+    pub fn is_same_prepare(&self, other: &Message) -> bool
+        ensures { result ≡ true → self.now ≡ other.now }
+    {
+        match (&self.frame, &other.frame) {
+            (Frame::Prepare(mine), Frame::Prepare(its)) => mine.is(its),
+            _ => false,
+        }
     }
 
     /// What it says; it takes no memory.

@@ -1,9 +1,13 @@
 //! Requests of clients.
 ghost use Rattle.std.specs.Prelude.{◌≡◌};
-ghost use Rattle.vr_msg.specs.Asking.{IsRequest};
+ghost use Rattle.vr_base.specs.Bytes.{name_of};
+ghost use Rattle.vr_header.specs.Bodies.{operation_bytes};
+ghost use Rattle.vr_header.specs.Names.{header_name, request_header};
+ghost use Rattle.vr_msg.specs.Asking.{AreNames, IsRequest};
 
 use std::marker::Model;
-use vr_header::Operation;
+use vr_base::Sum;
+use vr_header::{Header, Operation};
 
 /// What a request says.
 #[derive(Debug, Drop, PartialEq, Eq)]
@@ -18,22 +22,48 @@ pub struct RequestFields {
 }
 
 /// A request of a client; `Register` stands exactly with number 0.
-#[derive(Debug, Drop, PartialEq, Eq)]
+#[derive(Debug, Drop)]
 pub struct Request {
     fields: RequestFields,
+    names: Option<Names>,
+}
+
+/// The names of a request's operation and header.
+#[derive(Clone, Copy, Debug, PartialEq, Eq)]
+pub struct Names {
+    pub body: Sum,
+    pub header: Sum,
 }
 
 impl Model for Request {
     ghost use Rattle.vr_msg.specs.declared.request.RequestFields.{RequestFields};
-    ghost use Rattle.vr_msg.specs.Asking.{IsRequest};
+    ghost use Rattle.std.specs.Prelude.{IfSome};
+    ghost use Rattle.vr_msg.specs.Asking.{AreNames, IsRequest};
 
     ghost Value = { RequestFields };
 
     ghost view = { λ r. r.fields };
 
-    ghost invariant = { λ r. IsRequest r.fields };
+    ghost invariant = { λ r. IsRequest r.fields × IfSome r.names (AreNames r.fields) };
+}
 
-    ghost inverse = { λ fields. record { fields = fields } };
+// Requests that say the same are one, whether names are kept or not.
+impl PartialEq for Request {
+    ghost use Rattle.vr_msg.specs.contracts.request.RequestFieldsPartialEq.TheImpl.Laws.{laws-law};
+
+    ghost eq = { λ x y. ⟦<RequestFields as PartialEq>⟧.eq x y };
+
+    ghost laws = { laws-law };
+
+    fn eq(&self, other: &Self) -> bool {
+        self.fields == other.fields
+    }
+}
+
+impl Eq for Request {
+    ghost use Rattle.vr_msg.specs.contracts.request.RequestFieldsEq.TheImpl.Laws.{laws-law};
+
+    ghost laws = { laws-law };
 }
 
 impl Request {
@@ -42,7 +72,45 @@ impl Request {
         requires { IsRequest fields }
         ensures { result ≡ fields }
     {
-        Request { fields }
+        Request {
+            fields,
+            names: None,
+        }
+    }
+
+    /// The request that says this, with its names, which are known.
+    pub fn named(fields: RequestFields, names: Names) -> Request
+        requires form { IsRequest fields }
+        requires names { AreNames fields names }
+        ensures { result ≡ fields }
+    {
+        Request {
+            fields,
+            names: Some(names),
+        }
+    }
+
+    /// Its header, and the header's name.
+    pub fn header(&self) -> (Header, Sum)
+        ensures header { result.0 ≡ request_header self.now.cluster self.now.client self.now.request self.now.operation }
+        ensures name { result.1 ≡ header_name result.0 }
+    {
+        match self.names {
+            Some(names) => (self.header_over(names.body), names.header),
+            None => {
+                let header = self.header_over(self.fields.operation.body_name());
+                (header, header.name())
+            }
+        }
+    }
+
+    // Its header, whose operation has this name.
+    fn header_over(&self, body: Sum) -> Header
+        requires { body.0 ≡ name_of (operation_bytes self.now.operation) }
+        ensures { result ≡ request_header self.now.cluster self.now.client self.now.request self.now.operation }
+    {
+        let q = &self.fields;
+        Header::of_named(q.cluster, q.client, q.request, q.operation.size(), body)
     }
 
     /// What it says.
@@ -51,6 +119,17 @@ impl Request {
         ensures form { IsRequest self.now }
     {
         &self.fields
+    }
+
+    /// A request that says the same, with its names.
+    pub(crate) fn same(&self, fields: RequestFields) -> Request
+        requires { fields ≡ self.now }
+        ensures { result ≡ fields }
+    {
+        Request {
+            fields,
+            names: self.names,
+        }
     }
 
     /// What it says; it takes no memory.

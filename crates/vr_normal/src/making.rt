@@ -17,7 +17,7 @@ use vr_base::Sum;
 use vr_disk::SectorDisk;
 use vr_header::{Entry, Header};
 use vr_journal::{Halt, Replica, advance, write};
-use vr_msg::{Outbox, RequestFields};
+use vr_msg::{Outbox, Request};
 
 /// The name of what the next entry stands on.
 #[tactic(auto, using(vr_journal::proofs::Memory::window_of))]
@@ -44,26 +44,18 @@ fn next_op(replica: &Replica) -> u64
 
 // The next entry, of this request.
 #[tactic(auto, unfolding(vr_journal::specs::Rules::next_entry))]
-fn next_entry(
-    replica: &Replica,
-    alloc: Global,
-    request: &RequestFields,
-) -> Result<Entry, AllocError>
+fn next_entry(replica: &Replica, alloc: Global, request: &Request) -> Result<Entry, AllocError>
     requires ready { IsReady replica.now }
     requires view { replica.now.view ≤ last_view }
     requires room { head replica.now < 2 ^ 62 }
     requires form { IsRequest request.now }
     ensures value { IfOk result (λ entry. entry ≡ next_entry name_of request.now replica.now) }
 {
-    let header = Header::of_request(
-        request.cluster,
-        request.client,
-        request.request,
-        &request.operation,
-    );
+    let (header, name) = request.header();
     Ok(Entry::of_request(
         &header,
-        request.operation.try_clone(alloc)?,
+        name,
+        request.fields().operation.try_clone(alloc)?,
         replica.view(),
         next_op(replica),
         head_name(replica),
@@ -99,7 +91,7 @@ pub fn make_next<D: SectorDisk>(
     replica: &mut Replica,
     alloc: Global,
     disk: &mut D,
-    request: &RequestFields,
+    request: &Request,
     out: &mut Outbox,
 ) -> Result<(), Halt>
     requires ready { IsReady replica.old }

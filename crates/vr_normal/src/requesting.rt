@@ -158,22 +158,17 @@ pub fn decide_request(replica: &Replica, request: &RequestFields) -> Result<Requ
 // ---- what is done
 
 // The name of a request.
-fn request_name(request: &RequestFields) -> Sum
+fn request_name(request: &Request) -> Sum
     ensures { result ≡ (asker_by name_of request.now).name }
 {
-    Header::of_request(
-        request.cluster,
-        request.client,
-        request.request,
-        &request.operation,
-    )
-    .name()
+    let (_, name) = request.header();
+    name
 }
 
 // Replies to a request.
 fn reply_to(
     replica: &Replica,
-    request: &RequestFields,
+    request: &Request,
     kind: ReplyKind,
     out: &mut Outbox,
 ) -> Result<(), AllocError>
@@ -181,9 +176,10 @@ fn reply_to(
     requires kind { IsReplyKind kind }
     ensures { OnOk result (out.new ≡ out.old ++ replies (asker_by name_of request.now) kind replica.now) }
 {
+    let fields = request.fields();
     replica.reply(
-        request.client,
-        request.request,
+        fields.client,
+        fields.request,
         request_name(request),
         kind,
         out,
@@ -193,7 +189,7 @@ fn reply_to(
 // Replies what the sessions answer to a request that isn't fresh.
 fn reply_stored(
     replica: &Replica,
-    request: &RequestFields,
+    request: &Request,
     answer: SessionAnswer,
     out: &mut Outbox,
 ) -> Result<(), AllocError>
@@ -219,7 +215,7 @@ fn obey_request<D: SectorDisk>(
     replica: &mut Replica,
     alloc: Global,
     disk: &mut D,
-    request: &RequestFields,
+    request: &Request,
     rule: RequestRule,
     out: &mut Outbox,
 ) -> Result<(), Halt>
@@ -275,5 +271,5 @@ pub fn handle_request<D: SectorDisk>(
     ensures step { Does (on_request request.now) replica.old replica.new (D.told disk.old) (D.told disk.new) out.old out.new result }
 {
     let rule = decide_request(replica, request.fields())?;
-    obey_request(replica, alloc, disk, request.fields(), rule, out)
+    obey_request(replica, alloc, disk, request, rule, out)
 }

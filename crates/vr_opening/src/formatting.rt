@@ -1,5 +1,6 @@
 //! The calls that format a disk.
 ghost use Rattle.std.specs.Prelude.{◌≡◌, ◌<◌, ◌∷◌, [], is_ok};
+ghost use Rattle.vr_base.specs.Bytes.{name_of};
 ghost use Rattle.vr_base.specs.Causes.{HasCause};
 ghost use Rattle.vr_disk.specs.DiskState.{Runs, Write};
 ghost use Rattle.vr_disk.specs.Regions.{header_place};
@@ -28,13 +29,14 @@ fn write_zeros<D: SectorDisk>(disk: &mut D) -> Result<(), DiskFailed>
     Ok(())
 }
 
-// The header of a slot that has no entry yet.
-fn reserved_header(cluster: u64, slot: u32) -> Header
+// The header of a slot that has no entry yet, where the name of no bytes is known.
+fn reserved_header(cluster: u64, slot: u32, body: Sum) -> Header
+    requires { body.0 ≡ name_of [] }
     ensures { result ≡ reserved_header cluster slot }
 {
     let none = Sum([0; 16]);
     Header {
-        body: checksum(&[]),
+        body,
         parent: none,
         request_name: none,
         cluster,
@@ -52,12 +54,18 @@ fn reserved_header(cluster: u64, slot: u32) -> Header
 }
 
 // Writes the header of a slot that has no entry yet.
-fn reserve<D: SectorDisk>(disk: &mut D, cluster: u64, slot: u32) -> Result<(), DiskFailed>
-    requires { slot < 64 }
+fn reserve<D: SectorDisk>(
+    disk: &mut D,
+    cluster: u64,
+    slot: u32,
+    body: Sum,
+) -> Result<(), DiskFailed>
+    requires slot { slot < 64 }
+    requires body { body.0 ≡ name_of [] }
     ensures runs { Runs (reserved_call cluster slot ∷ []) (D.told disk.old) (D.told disk.new) (is_ok result) }
     ensures cause { HasCause (D.faults disk.old) (D.faults disk.new) result }
 {
-    let sector = sector_of(&reserved_header(cluster, slot));
+    let sector = sector_of(&reserved_header(cluster, slot, body));
     disk.write(header_place(slot), &sector)
 }
 
@@ -67,8 +75,9 @@ fn reserve_all<D: SectorDisk>(disk: &mut D, cluster: u64) -> Result<(), DiskFail
     ensures runs { Runs (reserved_headers cluster) (D.told disk.old) (D.told disk.new) (is_ok result) }
     ensures cause { HasCause (D.faults disk.old) (D.faults disk.new) result }
 {
+    let none = checksum(&[]);
     for slot in 0..64u32 {
-        reserve(disk, cluster, slot)?;
+        reserve(disk, cluster, slot, none)?;
     }
     Ok(())
 }

@@ -3,6 +3,7 @@ ghost use Rattle.std.specs.Prelude.{◌≡◌, ◌<◌, None};
 ghost use Rattle.vr_base.specs.Causes.{HasCause};
 
 use crate::counting::counted;
+use std::alloc::{AllocError, Global};
 use std::fs::{File, Files, OpenOptions};
 use std::io;
 use std::io::ErrorKind;
@@ -10,7 +11,8 @@ use std::os::fd::AsRawFd;
 use std::os::unix::fs::FileExt;
 use std::path::Path;
 use std::time::Clock;
-use vr_disk::{DiskFailed, SECTOR_SIZE, SECTORS, Sector, SectorDisk};
+use vr_base::{Sum, checksum};
+use vr_disk::{DiskFailed, Memo, Room, SECTOR_SIZE, SECTORS, Sector, SectorDisk};
 
 /// The bytes of the file.
 const FILE_SIZE: u64 = SECTORS as u64 * SECTOR_SIZE as u64;
@@ -36,6 +38,8 @@ pub struct FileDisk<R> {
     forgotten: u64,
     faults: u64,
     read_faults: u64,
+    /// Texts with their names, from `remember` on.
+    memo: Option<Memo>,
 }
 
 /// Writes zeros to each sector that lies wholly behind this length, so that no later write has to find room for it.
@@ -119,7 +123,7 @@ fn not_attached() -> io::Error {
 impl<R> FileDisk<R> {
     /// A disk without its file, which `attach` opens through the system that is handed in.
     pub fn new(system: R) -> FileDisk<R>
-        ensures { result ≡ record { system = system; file = None; forgotten = 0; faults = 0; read_faults = 0 } }
+        ensures { result ≡ record { system = system; file = None; forgotten = 0; faults = 0; read_faults = 0; memo = None } }
     {
         FileDisk {
             system,
@@ -127,7 +131,17 @@ impl<R> FileDisk<R> {
             forgotten: 0,
             faults: 0,
             read_faults: 0,
+            memo: None,
         }
+    }
+
+    /// From now on it keeps texts with their names. After an `Err` it goes on to make a digest for each name.
+    pub fn remember(&mut self, alloc: Global) -> Result<(), AllocError>
+        ensures faults { self.new.faults ≡ self.old.faults }
+        ensures reads { self.new.read_faults ≡ self.old.read_faults }
+    {
+        self.memo = Some(Memo::new(alloc)?);
+        Ok(())
     }
 
     /// Reads a sector from its place.
@@ -209,5 +223,19 @@ impl<R: Files<File = File> + Clock> SectorDisk for FileDisk<R> {
 
     fn sync(&mut self) -> Result<(), DiskFailed> {
         counted(self.sync_data(), &mut self.faults, DiskFailed)
+    }
+
+    fn name_of(&mut self, room: Room, bytes: &[u8]) -> Sum {
+        match &mut self.memo {
+            Some(memo) => memo.name_of(room, bytes),
+            None => checksum(bytes),
+        }
+    }
+
+    fn keep_name(&mut self, room: Room, bytes: &[u8], name: Sum) {
+        match &mut self.memo {
+            Some(memo) => memo.keep(room, bytes, name),
+            None => {}
+        }
     }
 }

@@ -5,7 +5,7 @@ ghost use Rattle.vr_journal.specs.Does.{Finds};
 
 use std::alloc::{AllocError, Global};
 use vr_base::{ByteList, NoMemory, Seq};
-use vr_ckpt::{Name, is_block_of};
+use vr_ckpt::{Name, is_block_on};
 use vr_disk::{BLOCK_SECTORS, SectorDisk, block_place, read_sectors};
 
 fn list_of(alloc: Global, bytes: &[u8]) -> Result<ByteList, AllocError>
@@ -31,7 +31,7 @@ fn read_whole<D: SectorDisk>(disk: &mut D, name: &Name, to: &mut [u8]) -> bool
     if !read_sectors(disk, block_place(name.address as u32), BLOCK_SECTORS, to) {
         return false;
     }
-    is_block_of(to, name)
+    is_block_on(disk, to, name)
 }
 
 /// The whole block that reads under this name, of 4,096 bytes; `None` where none does. Memory is taken for the block alone.

@@ -22,7 +22,7 @@ fn entry_on(op: u64, parent: Sum) -> Entry
     ensures made { result.header.view ≡ 0 }
 {
     let request = Header::of_request(0, op + 6, 0, &Operation::Register);
-    Entry::of_request(&request, Operation::Register, 0, op, parent)
+    Entry::of_request(&request, request.name(), Operation::Register, 0, op, parent)
 }
 
 // The entry behind so many others.

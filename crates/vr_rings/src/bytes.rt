@@ -1,14 +1,33 @@
 //! The sectors of a slot, both ways.
 ghost use Rattle.std.specs.Prelude.{◌≡◌, ◌≤◌, length};
 ghost use Rattle.std.specs.Option.{option_map};
+ghost use Rattle.std.specs.Result.{result_ok};
 ghost use Rattle.vr_base.specs.Bytes.{IsBytes};
-ghost use Rattle.vr_header.specs.Spelling.{IsHeader};
+ghost use Rattle.vr_header.specs.Made.{entry_of};
+ghost use Rattle.vr_header.specs.Spelling.{IsHeader, decoded};
 ghost use Rattle.vr_rings.specs.Held.{header_sector};
 ghost use Rattle.vr_rings.specs.Slots.{IsWhole, header_of, prepare_bytes, sector_of, whole_of};
 
 use vr_base::{is_zeros, put, u32_at};
-use vr_disk::Sector;
-use vr_header::{Entry, Header, decode, encode};
+use vr_disk::{Room, Sector, SectorDisk};
+use vr_header::{Entry, Header, decode_by, encode, nameless, spelled};
+
+/// The header sector of an entry of this header. The disk may have its name.
+#[tactic(auto, using(crate::proofs::Spelling::spelled_sector))]
+pub fn sector_by<D: SectorDisk>(disk: &mut D, header: &Header) -> Sector
+    ensures bytes { result.bytes ≡ sector_of header.now }
+    ensures header { IsHeader header.now }
+    ensures told { D.told disk.new ≡ D.told disk.old }
+    ensures faults { D.faults disk.new ≡ D.faults disk.old }
+    ensures reads { D.read_faults disk.new ≡ D.read_faults disk.old }
+{
+    let bytes = nameless(header);
+    let (_, named) = bytes.split_at(16);
+    let name = disk.name_of(Room::Header, named);
+    let mut sector = Sector { bytes: [0; 512] };
+    put(&mut sector.bytes, 0, &spelled(header, name));
+    sector
+}
 
 /// The header sector of an entry of this header.
 #[tactic(auto, using(crate::proofs::Spelling::spelled_sector))]
@@ -24,7 +43,7 @@ pub fn sector_of(header: &Header) -> Sector
 /// The header sector of the entry with this prepare of 2,048 bytes: the first 128 of them, and zeros.
 #[tactic(auto, using(crate::proofs::Spelling::header_sector_made))]
 pub fn header_sector(prepare: &[u8]) -> Sector
-    requires { length prepare.now ≡ 2048 }
+    requires { 128 ≤ length prepare.now }
     ensures { result.bytes ≡ header_sector prepare.now }
 {
     let (header, _) = prepare.split_at(128);
@@ -47,27 +66,68 @@ pub fn prepare_of(entry: &Entry) -> [u8; 2048]
 
 /// The header that a header sector's bytes are, `None` exactly where they aren't a valid header and zeros.
 #[tactic(auto, unfolding(crate::specs::Slots::header_of))]
-pub fn header_of(sector: &Sector) -> Option<Header>
-    ensures { result ≡ header_of sector.now.bytes }
+pub fn header_of<D: SectorDisk>(disk: &mut D, sector: &Sector) -> Option<Header>
+    ensures value { result ≡ header_of sector.now.bytes }
+    ensures told { D.told disk.new ≡ D.told disk.old }
+    ensures faults { D.faults disk.new ≡ D.faults disk.old }
+    ensures reads { D.read_faults disk.new ≡ D.read_faults disk.old }
 {
     let (_, padding) = sector.bytes.split_at(128);
     if is_zeros(padding) {
-        decode(&sector.bytes).ok()
+        header_in(disk, &sector.bytes)
     } else {
         None
     }
 }
 
+// The header that these bytes begin with. The disk may have its name.
+#[tactic(auto, unfolding(vr_base::specs::Bytes::piece))]
+fn header_in<D: SectorDisk>(disk: &mut D, bytes: &[u8]) -> Option<Header>
+    requires { 128 ≤ length bytes.now }
+    ensures value { result ≡ result_ok (decoded bytes.now) }
+    ensures told { D.told disk.new ≡ D.told disk.old }
+    ensures faults { D.faults disk.new ≡ D.faults disk.old }
+    ensures reads { D.read_faults disk.new ≡ D.read_faults disk.old }
+{
+    let (front, _) = bytes.split_at(128);
+    let (_, named) = front.split_at(16);
+    let name = disk.name_of(Room::Header, named);
+    decode_by(bytes, name).ok()
+}
+
+// The header of the entry that these bytes are. The disk may have its names.
+#[tactic(auto, using(crate::proofs::Spelling::short_none, crate::proofs::Spelling::headless_none, crate::proofs::Spelling::sized_none, crate::proofs::Spelling::header_ok))]
+fn entry_in<D: SectorDisk>(disk: &mut D, bytes: &[u8]) -> Option<Header>
+    ensures value { result ≡ option_map (λ e. e.header) (entry_of bytes.now) }
+    ensures told { D.told disk.new ≡ D.told disk.old }
+    ensures faults { D.faults disk.new ≡ D.faults disk.old }
+    ensures reads { D.read_faults disk.new ≡ D.read_faults disk.old }
+{
+    if bytes.len() < 128 {
+        return None;
+    }
+    let header = header_in(disk, bytes)?;
+    if header.size.get() as usize != bytes.len() {
+        return None;
+    }
+    let (_, body) = bytes.split_at(128);
+    let name = disk.name_of(Room::Body((header.op % 64) as u32), body);
+    Entry::header_by(bytes, header, name)
+}
+
 /// The header of the entry that the 2,048 bytes of a prepare are, `None` exactly where they aren't a whole entry and zeros.
-pub fn whole_of(bytes: &[u8]) -> Option<Header>
+pub fn whole_of<D: SectorDisk>(disk: &mut D, bytes: &[u8]) -> Option<Header>
     requires { length bytes.now ≡ 2048 }
     ensures value { result ≡ option_map (λ e. e.header) (whole_of bytes.now) }
     ensures each { IsBytes bytes.now }
+    ensures told { D.told disk.new ≡ D.told disk.old }
+    ensures faults { D.faults disk.new ≡ D.faults disk.old }
+    ensures reads { D.read_faults disk.new ≡ D.read_faults disk.old }
 {
     let size = u32_at(bytes, 104).min(2048) as usize;
     let (entry, padding) = bytes.split_at(size);
     if is_zeros(padding) {
-        Entry::header_in(entry)
+        entry_in(disk, entry)
     } else {
         None
     }

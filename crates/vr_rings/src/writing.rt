@@ -2,14 +2,14 @@
 ghost use Rattle.std.specs.Prelude.{◌≡◌, [], IfSome, is_ok};
 ghost use Rattle.vr_base.specs.Causes.{HasCause};
 ghost use Rattle.vr_disk.specs.DiskState.{Runs};
-ghost use Rattle.vr_rings.specs.Slots.{prepare_bytes, sector_of};
+ghost use Rattle.vr_rings.specs.Slots.{IsWhole, prepare_bytes, sector_of};
 ghost use Rattle.vr_rings.specs.Calls.{again_calls, header_calls, new_calls, prepare_calls};
 ghost use Rattle.vr_rings.specs.Laws.{AgainLeaves, HeaderLeaves, NewLeaves};
 
-use crate::bytes::{header_sector, prepare_of, sector_of};
+use crate::bytes::{header_sector, prepare_of, sector_by};
 use crate::slot::slot_of;
 use vr_disk::{
-    DiskFailed, DiskFault, Sector, SectorDisk, header_place, prepare_place, write_sectors,
+    DiskFailed, DiskFault, Room, Sector, SectorDisk, header_place, prepare_place, write_sectors,
 };
 use vr_header::{Entry, Header};
 
@@ -46,6 +46,21 @@ fn put_header<D: SectorDisk>(
     Ok(())
 }
 
+// The disk takes note of the names of an entry's header and body.
+fn note<D: SectorDisk>(disk: &mut D, entry: &Entry, bytes: &[u8; 2048])
+    requires bytes { bytes.now ≡ prepare_bytes entry.now }
+    requires whole { IsWhole entry.now }
+    ensures told { D.told disk.new ≡ D.told disk.old }
+    ensures faults { D.faults disk.new ≡ D.faults disk.old }
+{
+    let header = entry.header();
+    let (whole, _) = bytes.split_at(header.size.get() as usize);
+    let (front, body) = whole.split_at(128);
+    let (_, named) = front.split_at(16);
+    disk.keep_name(Room::Header, named, entry.name());
+    disk.keep_name(Room::Body(slot_of(&header)), body, header.body);
+}
+
 /// Writes an entry to its slot, which holds another one or none: the prepare first, then the header sector. It takes no
 /// memory.
 #[tactic(auto, using(vr_disk::proofs::Running::Runs_then, vr_disk::proofs::Running::Runs_stopped, crate::proofs::Leaving::new_leaves))]
@@ -58,6 +73,7 @@ pub fn write_new<D: SectorDisk>(disk: &mut D, entry: &Entry) -> Result<(), DiskF
     ensures stop { IfSome (D.told disk.old) (λ d. d.face.waiting ≡ [] → NewLeaves entry.now d.face) }
 {
     let bytes = prepare_of(entry);
+    note(disk, entry, &bytes);
     put_prepare(disk, entry, &bytes)?;
     put_header(disk, &entry.header(), &header_sector(&bytes))?;
     Ok(())
@@ -74,6 +90,7 @@ pub fn write_again<D: SectorDisk>(disk: &mut D, entry: &Entry) -> Result<(), Dis
     ensures stop { IfSome (D.told disk.old) (λ d. d.face.waiting ≡ [] → AgainLeaves entry.now d.face) }
 {
     let prepare = prepare_of(entry);
+    note(disk, entry, &prepare);
     let sector = header_sector(&prepare);
     put_header(disk, &entry.header(), &sector)?;
     put_prepare(disk, entry, &prepare)?;
@@ -89,6 +106,7 @@ pub fn write_header<D: SectorDisk>(disk: &mut D, header: &Header) -> Result<(), 
     // A stop at any of these calls keeps the premise on slots.
     ensures stop { IfSome (D.told disk.old) (λ d. d.face.waiting ≡ [] → HeaderLeaves header.now d.face) }
 {
-    put_header(disk, header, &sector_of(header))?;
+    let sector = sector_by(disk, header);
+    put_header(disk, header, &sector)?;
     Ok(())
 }

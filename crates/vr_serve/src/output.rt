@@ -1,6 +1,8 @@
 //! What an event puts out: its text, and the datagrams behind it.
-ghost use Rattle.std.specs.Prelude.{◌≡◌, ◌++◌, OnOk, OnErr};
+ghost use Rattle.std.specs.Prelude.{◌≡◌, ◌++◌, ◌∷◌, [], Some, true, IfOk, IfSome, OnOk, OnErr};
+ghost use Rattle.vr_edge.specs.Sending.{datagram_at};
 ghost use Rattle.vr_mail.specs.Sends.{Sends};
+ghost use Rattle.vr_msg.specs.Spelling.{spelling};
 ghost use Rattle.vr_serve.specs.Outgoing.{datagram_of};
 ghost use Rattle.vr_serve.specs.Outputs.{datagram_for, datagrams_for, number_after, numbers_after, reply_for, text_from};
 ghost use Rattle.vr_serve.specs.Runs.{SendsFront};
@@ -9,7 +11,7 @@ use crate::clients::{Client, port_of};
 use std::alloc::AllocError;
 use vr_base::ByteList;
 use vr_edge::Link;
-use vr_mail::send_message;
+use vr_mail::{send_bytes, send_message};
 use vr_msg::{Message, Outbox, Output, Reply};
 use vr_text::write_text;
 
@@ -76,26 +78,64 @@ fn address(clients: &[Client], output: Output) -> Option<Outgoing>
     }
 }
 
-/// Sends what an output says.
+// Whether the message that was sent last is the same prepare.
+fn is_last(last: &Option<Message>, message: &Message) -> bool
+    ensures { result ≡ true → last.now ≡ Some message.now }
+{
+    match last {
+        Some(same) => same.is_same_prepare(message),
+        None => false,
+    }
+}
+
+/// Sends a message to a port. A prepare is spelled once for all backups: where it was sent last, its bytes stand there already.
+fn send_again<L: Link>(
+    link: &mut L,
+    out: &Outgoing,
+    last: &Option<Message>,
+    bytes: &mut Vec<u8>,
+) -> Result<(), AllocError>
+    requires { IfSome last.now (λ m. bytes.old.items ≡ spelling m) }
+    ensures bytes { OnOk result (bytes.new.items ≡ spelling out.now.message) }
+    ensures sent { OnOk result (Sends (datagram_at out.now.port (spelling out.now.message) ∷ []) (L.sent link.old) (L.sent link.new)) }
+    ensures unsent { OnErr result (L.sent link.new ≡ L.sent link.old) }
+    ensures received { L.received link.new ≡ L.received link.old }
+    ensures faults { L.faults link.new ≡ L.faults link.old }
+    ensures attached { L.attached link.new ≡ L.attached link.old }
+{
+    if is_last(last, &out.message) {
+        send_bytes(link, out.port, bytes.as_slice());
+        return Ok(());
+    }
+    send_message(link, out.port, &out.message, bytes)
+}
+
+/// Sends what an output says, and gives the message whose bytes are left, if it says one.
 fn send_output<L: Link>(
     link: &mut L,
     clients: &[Client],
     output: Output,
+    last: &Option<Message>,
     bytes: &mut Vec<u8>,
-) -> Result<(), AllocError>
+) -> Result<Option<Message>, AllocError>
+    requires { IfSome last.now (λ m. bytes.old.items ≡ spelling m) }
+    ensures last { IfOk result (λ last. IfSome last (λ m. bytes.new.items ≡ spelling m)) }
     ensures sent { OnOk result (Sends (datagram_for clients.now output) (L.sent link.old) (L.sent link.new)) }
     ensures unsent { OnErr result (L.sent link.new ≡ L.sent link.old) }
     ensures received { L.received link.new ≡ L.received link.old }
     ensures faults { L.faults link.new ≡ L.faults link.old }
     ensures attached { L.attached link.new ≡ L.attached link.old }
 {
-    let out = address(clients, output);
-    let sent = match &out {
-        Some(out) => send_message(link, out.port, &out.message, bytes),
-        None => Ok(()),
+    let Some(out) = address(clients, output) else {
+        return Ok(None);
     };
-    drop(out);
-    sent
+    match send_again(link, &out, last, bytes) {
+        Ok(()) => Ok(Some(out.message)),
+        Err(why) => {
+            drop(out);
+            Err(why)
+        }
+    }
 }
 
 /// The same for each output, in order.
@@ -111,8 +151,9 @@ pub fn send_outputs<L: Link>(
     ensures faults { L.faults link.new ≡ L.faults link.old }
     ensures attached { L.attached link.new ≡ L.attached link.old }
 {
+    let mut last = None;
     for output in outputs.into_vec() {
-        send_output(link, clients, output, bytes)?;
+        last = send_output(link, clients, output, &last, bytes)?;
     }
     Ok(())
 }

@@ -46,13 +46,16 @@ fn known(earlier: &[Reading], bytes: &[u8; COPY_SIZE]) -> Option<bool>
 }
 
 // Whether these are the bytes of a good copy, judged anew only where no earlier one has them.
-fn is_good_beside(bytes: &[u8; COPY_SIZE], earlier: &[Reading]) -> bool
+fn is_good_beside<D: SectorDisk>(disk: &mut D, bytes: &[u8; COPY_SIZE], earlier: &[Reading]) -> bool
     requires { AllByRecursion IsHonest earlier.now }
-    ensures { result ≡ is_some (value_of bytes.now) }
+    ensures value { result ≡ is_some (value_of bytes.now) }
+    ensures told { D.told disk.new ≡ D.told disk.old }
+    ensures faults { D.faults disk.new ≡ D.faults disk.old }
+    ensures reads { D.read_faults disk.new ≡ D.read_faults disk.old }
 {
     match known(earlier, bytes) {
         Some(good) => good,
-        None => is_good(bytes),
+        None => is_good(disk, bytes),
     }
 }
 
@@ -67,7 +70,7 @@ fn read_beside<D: SectorDisk>(disk: &mut D, copy: u32, earlier: &[Reading], to: 
     ensures value { IfSome (D.told disk.old) (λ d. seen to.new ≡ good_copy d.face copy) }
 {
     to.whole = fill(disk, copy, &mut to.bytes);
-    to.good = to.whole && is_good_beside(&to.bytes, earlier);
+    to.good = to.whole && is_good_beside(disk, &to.bytes, earlier);
 }
 
 // Reads a copy in its place, where those before it were read.

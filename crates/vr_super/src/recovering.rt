@@ -73,11 +73,18 @@ fn read_value(alloc: Global, bytes: &[u8]) -> Result<Super, SuperFault>
 }
 
 // The value that four copies open as that read as these bytes.
-fn choose_alike(alloc: Global, bytes: &[u8]) -> Result<Super, SuperFault>
+fn choose_alike<D: SectorDisk>(
+    alloc: Global,
+    disk: &mut D,
+    bytes: &[u8],
+) -> Result<Super, SuperFault>
     requires { length bytes.now ≡ COPY_SIZE }
-    ensures { Chosen (four (if_good (Some bytes.now))) result }
+    ensures told { D.told disk.new ≡ D.told disk.old }
+    ensures faults { D.faults disk.new ≡ D.faults disk.old }
+    ensures reads { D.read_faults disk.new ≡ D.read_faults disk.old }
+    ensures value { Chosen (four (if_good (Some bytes.now))) result }
 {
-    if is_good(bytes) {
+    if is_good(disk, bytes) {
         read_value(alloc, bytes)
     } else {
         Err(SuperFault::Lost([CopyVerdict::Bad; 4]))
@@ -136,7 +143,7 @@ pub fn recover<D: SectorDisk>(alloc: Global, disk: &mut D) -> Result<Super, Supe
 {
     let mut first = [0; COPY_SIZE];
     if read_alike(disk, &mut first) {
-        choose_alike(alloc, &first)
+        choose_alike(alloc, disk, &first)
     } else {
         recover_apart(alloc, disk)
     }

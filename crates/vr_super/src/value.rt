@@ -10,9 +10,9 @@ use crate::check::{count_at, fields_at};
 use crate::listing::read_list;
 use std::alloc::Global;
 use std::marker::Model;
-use vr_base::NoMemory;
+use vr_base::{NoMemory, sum_at};
 use vr_disk::COPY_SIZE;
-use vr_header::{Header, HeaderList, encode};
+use vr_header::{Header, HeaderList, Names, spelled};
 
 /// What a member keeps in its superblock: numbers, and the headers of the last ops up to the head. It makes a good copy.
 #[derive(Drop)]
@@ -63,17 +63,19 @@ impl Super {
         Super::made(alloc, fields, headers, None)
     }
 
-    /// The value of these numbers and headers, as `new` makes it. Headers that this value has too aren't hashed again.
+    /// The value of these numbers and headers, as `new` makes it. Headers that this value has too, and those whose names are kept, aren't hashed
+    /// again.
     pub fn next(
         &self,
         alloc: Global,
         fields: Fields,
         headers: HeaderList,
+        names: &Names,
     ) -> Result<Super, NoMemory>
         requires { IsGood (record { fields = fields; headers = headers }) }
         ensures { IfOk result (λ s. s ≡ record { fields = fields; headers = headers }) }
     {
-        Super::made(alloc, fields, headers, Some(self))
+        Super::made(alloc, fields, headers, Some((self, names)))
     }
 
     // The value of these, where an old value may have some of the headers.
@@ -81,7 +83,7 @@ impl Super {
         alloc: Global,
         fields: Fields,
         headers: HeaderList,
-        old: Option<&Super>,
+        old: Option<(&Super, &Names)>,
     ) -> Result<Super, NoMemory>
         requires { IsGood (record { fields = fields; headers = headers }) }
         ensures { IfOk result (λ s. s ≡ record { fields = fields; headers = headers }) }
@@ -127,16 +129,31 @@ impl Super {
     }
 
     // The 128 bytes of a header, copied where the list has it in the place of its op.
-    pub(crate) fn spelling(&self, header: &Header) -> [u8; 128]
+    pub(crate) fn spelling(&self, header: &Header, names: &Names) -> [u8; 128]
         ensures { result ≡ header_bytes header.now }
     {
         let Some(first) = self.headers.get(0) else {
-            return encode(header);
+            return spelled(header, names.name_of(header));
         };
         let at = header.op.saturating_sub(first.op) as usize;
         match self.headers.get(at) {
             Some(same) if same == *header => header_bytes(&self.bytes, 128 + 128 * at),
-            _ => encode(header),
+            _ => spelled(header, names.name_of(header)),
+        }
+    }
+
+    // Keeps a header of the list with its name, which stands in the bytes.
+    fn tell_name(&self, at: usize, names: &mut Names) {
+        match self.headers.get(at) {
+            Some(header) => names.keep(&header, sum_at(&self.bytes, 128 + 128 * at)),
+            None => {}
+        }
+    }
+
+    /// Keeps the headers with their names, which stand in the bytes.
+    pub fn tell_names(&self, names: &mut Names) {
+        for at in 0..self.headers.len() {
+            self.tell_name(at, names);
         }
     }
 

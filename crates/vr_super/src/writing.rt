@@ -9,7 +9,8 @@ ghost use Rattle.vr_super.specs.Opens.{opens};
 
 use crate::sectors::{mend_unless, write_copy};
 use crate::{Super, SuperFault};
-use vr_disk::{COPY_SIZE, DiskFailed, DiskFault, SectorDisk};
+use vr_base::{sum_at, u64_at};
+use vr_disk::{COPY_SIZE, DiskFailed, DiskFault, Room, SectorDisk};
 
 /// Mends each copy that doesn't read as these bytes.
 pub fn mend<D: SectorDisk>(disk: &mut D, bytes: &[u8]) -> Result<(), DiskFailed>
@@ -48,12 +49,53 @@ pub fn mend_value<D: SectorDisk>(disk: &mut D, value: &Super) -> Result<(), Disk
     Ok(())
 }
 
+// The disk keeps the bytes of a value with their name.
+fn keep_value<D: SectorDisk>(disk: &mut D, value: &Super)
+    ensures told { D.told disk.new ≡ D.told disk.old }
+    ensures faults { D.faults disk.new ≡ D.faults disk.old }
+    ensures reads { D.read_faults disk.new ≡ D.read_faults disk.old }
+{
+    let bytes = value.bytes();
+    let (_, rest) = bytes.split_at(16);
+    disk.keep_name(Room::Value(u64_at(bytes, 16)), rest, sum_at(bytes, 0));
+}
+
+// The disk keeps the bytes of a header of its list with their name.
+#[tactic(auto, unfolding(vr_base::specs::Bytes::piece))]
+fn keep_header<D: SectorDisk>(disk: &mut D, value: &Super, at: usize)
+    requires { at < length value.now.headers }
+    ensures told { D.told disk.new ≡ D.told disk.old }
+    ensures faults { D.faults disk.new ≡ D.faults disk.old }
+    ensures reads { D.read_faults disk.new ≡ D.read_faults disk.old }
+{
+    let bytes = value.bytes();
+    let start = 128 + 128 * at;
+    disk.keep_name(
+        Room::Header,
+        &bytes[start + 16..start + 128],
+        sum_at(bytes, start),
+    );
+}
+
+// The disk keeps what stands in a value with its name: the whole, and each header of its list.
+fn keep_names<D: SectorDisk>(disk: &mut D, value: &Super)
+    ensures told { D.told disk.new ≡ D.told disk.old }
+    ensures faults { D.faults disk.new ≡ D.faults disk.old }
+    ensures reads { D.read_faults disk.new ≡ D.read_faults disk.old }
+{
+    keep_value(disk, value);
+    for at in 0..value.headers().len() {
+        keep_header(disk, value, at);
+    }
+}
+
 /// Writes a value to all four copies of a disk that has none to be mended.
 pub fn write_copies<D: SectorDisk>(disk: &mut D, value: &Super) -> Result<(), DiskFault>
     ensures runs { Runs (save_from 0 4 (copy_bytes value.now)) (D.told disk.old) (D.told disk.new) (is_ok result) }
     ensures cause { HasCause (D.faults disk.old) (D.faults disk.new) result }
     ensures others { D.read_faults disk.new ≡ D.read_faults disk.old }
 {
+    keep_names(disk, value);
     save(disk, value.bytes())?;
     Ok(())
 }
@@ -68,6 +110,7 @@ fn write_value<D: SectorDisk>(disk: &mut D, old: &Super, new: &Super) -> Result<
     ensures good { IsGood new.now }
 {
     let bytes = new.bytes();
+    keep_names(disk, new);
     mend(disk, old.bytes())?;
     save(disk, bytes)?;
     Ok(())

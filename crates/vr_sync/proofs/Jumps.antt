@@ -120,6 +120,7 @@ may_move v r m =
       commit = m.log.log.commit;
       short = omega arith;
       count = count;
+      chain = (and_parts _ _ (and_parts _ _ m.may).1).0;
       number = m.log.head;
     }
 

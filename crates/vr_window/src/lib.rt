@@ -1,15 +1,13 @@
-//! Lists that a replica has in memory, each in a block that is made once: a window of at most 128 items, a place for each member, headers with
-//! their names; and how far its log goes.
+//! Lists that a replica has in memory, each in a block that is made once: a window of at most 128 items, and a place for each member; and how far
+//! its log goes.
 #![tactic(auto)]
 
 mod known;
-mod names;
 mod places;
 mod standing;
 mod window;
 
 pub use known::{has_header, known_at, known_from, run_of, valued};
-pub use names::Names;
 pub use places::Places;
 pub use standing::Standing;
 pub use window::Window;

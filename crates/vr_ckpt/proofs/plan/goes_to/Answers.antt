@@ -1,4 +1,4 @@
-use Rattle.std.proofs.Common.{◌∙◌, ap, sym}
+use Rattle.std.proofs.Common.{◌∙◌, ap, refl, sym}
 use Rattle.std.proofs.lemmas.List.Elements.{All-push}
 use Rattle.vr_ckpt.specs.Blocks.{block_of}
 use Rattle.vr_ckpt.specs.Saves.{IsPlaced}
@@ -18,4 +18,4 @@ returns-clause-blocks c =
 pub returns-clause-placed : goal.returns-clause-placed
 returns-clause-placed c h =
     rw c.in_ok-push.ensures.ok (All-push IsPlaced c.args.blocks.now c.in_ok-block.block h
-    (placed_is c.in_ok-block.block _ c.in_ok-block.ensures.value c.requires.address c.in_ok-block.ensures.size))
+    (placed_is c.in_ok-block.block _ c.in_ok-block.ensures.value c.requires.address c.in_ok-block.ensures.size (c.in_ok-block.ensures.whole c.requires.address refl)))

@@ -13,7 +13,7 @@ returns-then-not-fill-clause-exact g c =
 pub returns-in-None-clause-exact : goal.returns-in-None-clause-exact
 returns-in-None-clause-exact g c =
     let told = g.D.SectorDisk.told c.args.disk.now in
-    reads_none told c.args.name.now c.fill.new.to (reads_it told c.args.name.now c.fill.new.to c.fill.result (omega arith) c.if-not-fill.false c.fill.ensures.value) (sym c.in-None.is ∙ c.payload_of.ensures)
+    reads_none told c.args.name.now c.fill.new.to (reads_it told c.args.name.now c.fill.new.to c.fill.result (omega arith) c.if-not-fill.false c.fill.ensures.value) (sym c.in-None.is ∙ c.payload_of.ensures.value)
 
 pub returns-in-Some-clause-exact : goal.returns-in-Some-clause-exact
 returns-in-Some-clause-exact g c =
@@ -21,4 +21,4 @@ returns-in-Some-clause-exact g c =
 
 pub returns-in-Some-clause-whole : goal.returns-in-Some-clause-whole
 returns-in-Some-clause-whole g c =
-    rw c.set.ensures (whole_of c.args.name.now c.fill.new.to c.in-Some.size (named c.args.name.now c.fill.new.to) refl (sym c.in-Some.is ∙ c.payload_of.ensures))
+    rw c.set.ensures (whole_of c.args.name.now c.fill.new.to c.in-Some.size (named c.args.name.now c.fill.new.to) refl (sym c.in-Some.is ∙ c.payload_of.ensures.value))

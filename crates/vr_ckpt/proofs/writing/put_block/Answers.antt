@@ -1,5 +1,9 @@
 use Rattle.vr_ckpt.proofs.Puts.{name_fits, puts}
+use Rattle.vr_ckpt.proofs.Sealed.{whole_named}
 use Rattle.vr_ckpt.proofs.writing.put_block.Goals as goal
+
+pub note_block-requires : goal.note_block-requires
+note_block-requires g c = whole_named c.args.name.now c.args.block.now c.requires
 
 pub write_at-requires-clause-address : goal.write_at-requires-clause-address
 write_at-requires-clause-address g c = (name_fits c.args.name.now c.args.block.now c.requires).0

@@ -9,8 +9,9 @@ loop-output-preserved g c =
     record {
       sending = sending_next c.args.clients.now (datagrams_for c.args.clients.now c.args.outputs) c.loop-output.output-iterator.rest.items c.in-Some.output
           c.next.new.self.rest.items (g.L.Link.sent c.args.link.now) (g.L.Link.sent c.loop-output.link) (g.L.Link.sent c.send_output.new.link)
-          is c.loop-output.invariant.sending c.in_ok-send_output.ensures.sent;
+          is c.loop-output.invariant.sending c.in_ok-last.ensures.sent;
       received = c.send_output.ensures.received ∙ c.loop-output.invariant.received;
       attached = c.send_output.ensures.attached ∙ c.loop-output.invariant.attached;
       faults = c.send_output.ensures.faults ∙ c.loop-output.invariant.faults;
+      last = c.in_ok-last.ensures.last;
     }

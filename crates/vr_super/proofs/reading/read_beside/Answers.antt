@@ -17,7 +17,7 @@ returns-clause-value g c =
     let bytes = c.fill-to.new.to in
     let good = c.if-to.to in
     let judged : good ≡ (whole && is_some (value_of bytes)) = elim c.if-to.branch [
-      | then-to w ↦ judged_so whole w.is_good_beside-to.result good bytes w.if-to.true w.is_good_beside-to.ensures w.to-is
+      | then-to w ↦ judged_so whole w.is_good_beside-to.result good bytes w.if-to.true w.is_good_beside-to.ensures.value w.to-is
       | else-to w ↦ judged_not whole good bytes w.if-to.false (w.to-is ∙ w.if-to.false)
     ] in
     if_some (λ (d : Disk). cond good (Some bytes) None ≡ if_good (copy_reading d.face copy)) told (λ d e.

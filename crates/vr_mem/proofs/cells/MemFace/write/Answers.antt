@@ -1,9 +1,9 @@
-use Rattle.std.proofs.Common.{ℕ, ◌≡◌, ◌∙◌, sym, refl, true, false, ap, get_or, arith, cond, eqb, ◌++◌, ◌∷◌, [], List}
+use Rattle.std.proofs.Common.{ℕ, ◌<◌, ◌≡◌, ◌∙◌, length, sym, refl, true, false, ap, get_or, arith, cond, eqb, ◌++◌, ◌∷◌, [], List}
 use Rattle.std.specs.Prelude.{map}
 use Rattle.std.specs.List.{list_any}
 use Rattle.std.proofs.lemmas.Bool.{cond_both}
 use Rattle.std.proofs.lemmas.List.{map-set, get_or-map, map-append, length-map}
-use Rattle.vr_disk.specs.DiskState.{blank, waits}
+use Rattle.vr_disk.specs.DiskState.{Cell, blank, waits}
 use Rattle.vr_mem.specs.declared.cells.MemCell.{MemCell}
 use Rattle.vr_mem.specs.declared.cells.MemWaiting.{MemWaiting}
 use Rattle.vr_mem.specs.Seen.{waiting_of, cell_of, once}
@@ -26,10 +26,14 @@ noted_seen ws index was = rw waits_of
 
 pub returns-clause-after : goal.returns-clause-after
 returns-clause-after c =
+    let cells = c.args.self.now.cells.items in
+    let within : c.args.index < length cells = let n = length-map cells cell_of in let m = c.requires.face.face.count in let i = c.requires.index in omega arith in
     let was = c.index.result.now in
-    let now : get_or (map cell_of c.args.self.now.cells.items) c.args.index blank ≡ cell_of was =
-    get_or-map cell_of c.args.self.now.cells.items c.args.index was blank (let n = length-map c.args.self.now.cells.items cell_of in let m = c.requires.face.face.count in let i = c.requires.index in omega arith) ∙ ap cell_of (sym c.index.ensures) in
-    rw (now, c.note.ensures.items, noted_seen, c.written.ensures.cell, map-set) refl
+    let set = c.index_mut.result.now in
+    let now : get_or (map cell_of cells) c.args.index blank ≡ cell_of was = get_or-map cell_of cells c.args.index was blank within ∙ ap cell_of (sym c.index.ensures) in
+    let here : get_or (map cell_of cells) c.args.index blank ≡ cell_of set = get_or-map cell_of cells c.args.index set blank within ∙ ap cell_of (sym c.index_mut.ensures.value) in
+    let same : set.truth.bytes ≡ was.truth.bytes = ap (λ (x : Cell). x.truth) (sym here ∙ now) in
+    rw (now, c.note.ensures.items, noted_seen, c.set.ensures.cell, map-set, same) refl
 
 once_kept : (ws : List MemWaiting) (index : ℕ) (was : MemCell) → once ws ≡ true → once (cond (list_any (λ w. eqb w.index index) ws) ws (ws ++ record { index = index; was = was } ∷ [])) ≡ true
 once_kept ws index was o = cond_both (list_any (λ w. eqb w.index index) ws) ws (ws ++ record { index = index; was = was } ∷ []) (λ ws. once ws ≡ true) (λ _. o) (λ f. once_push ws (record { index = index; was = was }) o f)
@@ -37,7 +41,7 @@ once_kept ws index was o = cond_both (list_any (λ w. eqb w.index index) ws) ws 
 pub returns-clause-face : goal.returns-clause-face
 returns-clause-face c =
     let old = c.requires.face in
-    written_is c.args.self.now _ c.args.index c.args.from.now.bytes old c.requires.index c.written.ensures.content
+    written_is c.args.self.now _ c.args.index c.args.from.now.bytes old c.requires.index c.set.ensures.content
     (returns-clause-after c)
     (rw c.note.ensures.items (once_kept c.args.self.now.waiting.items c.args.index _ old.once))
     (let r = old.room in let l = c.note.ensures.capacity in omega arith)

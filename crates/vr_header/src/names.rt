@@ -2,11 +2,13 @@
 ghost use Rattle.std.specs.Prelude.{◌≡◌, ◌<◌, ◌%◌, IfOk, IfSome, None, Some, replicate, slice_set};
 ghost use Rattle.vr_header.specs.Names.{header_name};
 
-use crate::Places;
+use crate::Header;
 use std::alloc::{AllocError, Global};
 use std::marker::Model;
 use vr_base::Sum;
-use vr_header::Header;
+
+/// How many headers are kept: one for each slot of a data file.
+const SLOTS: usize = 64;
 
 /// A header with its name. Contracts see the header.
 #[derive(Drop)]
@@ -28,15 +30,15 @@ impl Model for Named {
 }
 
 impl Named {
-    fn new(header: Header) -> Named
+    fn new(header: Header, name: Sum) -> Named
+        requires { name ≡ header_name header }
         ensures { result ≡ header }
     {
-        let name = header.name();
         Named { header, name }
     }
 
     // The name of this header, where it is the one.
-    #[tactic(auto, using(vr_header::proofs::SameHeaders::same_header_is))]
+    #[tactic(auto, using(crate::proofs::SameHeaders::same_header_is))]
     fn name_of(&self, header: &Header) -> Option<Sum>
         ensures { IfSome result (λ name. name ≡ header_name header.now) }
     {
@@ -51,7 +53,7 @@ impl Named {
 /// The headers that were kept last, each in the place of its slot, with their names. Contracts see the headers; only `new` takes memory.
 #[derive(Drop)]
 pub struct Names {
-    slots: Places<Named>,
+    slots: Vec<Option<Named>>,
 }
 
 impl Model for Names {
@@ -60,37 +62,42 @@ impl Model for Names {
 
     ghost Value = { List (Option Header) };
 
-    ghost view = { λ n. n.slots };
+    ghost view = { λ n. n.slots.items };
 
-    ghost invariant = { λ n. length n.slots ≡ 64 };
+    ghost invariant = { λ n. length n.slots.items ≡ 64 };
 }
 
 fn slot_of(header: &Header) -> usize
     ensures value { result ≡ header.now.op % 64 }
-    ensures within { result < 64 }
+    ensures within { result < SLOTS }
 {
-    (header.op % 64) as usize
+    (header.op % SLOTS as u64) as usize
 }
 
 impl Names {
     /// No headers are kept.
+    #[tactic(auto, using(crate::proofs::Places::one_more))]
     pub fn new(alloc: Global) -> Result<Names, AllocError>
         ensures { IfOk result (λ names. names ≡ replicate 64 None) }
     {
-        Ok(Names {
-            slots: Places::new(alloc, 64)?,
-        })
+        let mut slots = Vec::with_capacity(alloc, SLOTS)?;
+        for i in 0..SLOTS {
+            let _ = i;
+            slots.push(None)?;
+        }
+        Ok(Names { slots })
     }
 
-    /// Keeps a header, in place of the one in its slot.
-    pub fn keep(&mut self, header: &Header)
+    /// Keeps a header with its name, in place of the one in its slot.
+    pub fn keep(&mut self, header: &Header, name: Sum)
+        requires { name ≡ header_name header.now }
         ensures { self.new ≡ slice_set self.old (header.now.op % 64) (Some header.now) }
     {
-        self.slots.put(slot_of(header), Named::new(*header));
+        self.slots[slot_of(header)] = Some(Named::new(*header, name));
     }
 
-    // The kept name of a header, if any.
-    fn kept(&self, header: &Header) -> Option<Sum>
+    /// The kept name of a header, if any.
+    pub fn kept(&self, header: &Header) -> Option<Sum>
         ensures { IfSome result (λ name. name ≡ header_name header.now) }
     {
         match self.slots.as_slice().get(slot_of(header)) {

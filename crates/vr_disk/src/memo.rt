@@ -1,0 +1,175 @@
+//! Texts with their names, so that a digest of a text is made once.
+ghost use Rattle.std.specs.Prelude.{◌≡◌, ◌<◌, IfSome, IfOk, length};
+ghost use Rattle.vr_base.specs.Bytes.{name_of};
+
+use crate::{BLOCKS, SLOTS};
+use std::alloc::{AllocError, Global};
+use std::marker::Model;
+use vr_base::{Sum, checksum};
+
+// In a header without its name: the last byte of its op, its kind, the last byte of its address.
+const OP_END: usize = 79;
+
+const KIND: usize = 95;
+
+const AUX_END: usize = 103;
+
+// A text with its name. What stands here before the first text is kept, or where there was no memory for one, has none.
+#[derive(Drop)]
+struct Text {
+    bytes: Vec<u8>,
+    name: Sum,
+    whole: bool,
+}
+
+impl Model for Text {
+    ghost use Rattle.std.specs.Prelude.{◌≡◌, true, ⊤};
+    ghost use Rattle.vr_base.specs.Bytes.{name_of};
+
+    ghost Value = { ⊤ };
+
+    ghost view = { λ _. tt };
+
+    ghost invariant = { λ t. t.whole ≡ true → t.name.0 ≡ name_of t.bytes.items };
+}
+
+impl Text {
+    fn none(alloc: Global) -> Text {
+        Text {
+            bytes: Vec::new(alloc),
+            name: Sum([0; 16]),
+            whole: false,
+        }
+    }
+
+    // The name of these bytes, where they are the ones that stand here.
+    fn name_of(&self, bytes: &[u8]) -> Option<Sum>
+        ensures { IfSome result (λ name. name.0 ≡ name_of bytes.now) }
+    {
+        if self.whole && self.bytes.as_slice() == bytes {
+            Some(self.name)
+        } else {
+            None
+        }
+    }
+
+    // Keeps these bytes in the place of others. Where there is no memory for them, nothing stands here.
+    fn set(&mut self, bytes: &[u8], name: Sum)
+        requires { name.0 ≡ name_of bytes.now }
+    {
+        self.whole = false;
+        self.bytes.clear();
+        match self.bytes.extend_from_slice(bytes) {
+            Ok(()) => {
+                self.name = name;
+                self.whole = true;
+            }
+            Err(_) => {}
+        }
+    }
+}
+
+/// Texts with their names: the one that was kept last in each room. Contracts see nothing of them.
+#[derive(Drop)]
+pub struct Memo {
+    places: Vec<Text>,
+}
+
+impl Model for Memo {
+    ghost use Rattle.std.specs.Prelude.{⊤};
+
+    ghost Value = { ⊤ };
+
+    ghost view = { λ _. tt };
+}
+
+/// Which kept text another one replaces: at most one is kept in each room.
+#[derive(Clone, Copy, Debug, PartialEq, Eq)]
+pub enum Room {
+    /// Of a header without its name, of 112 bytes: one for each address of a block, one for each 256th op of others.
+    Header,
+    /// Of an entry's operation: one for each slot.
+    Body(u32),
+    /// Of a block's payload: one for each address.
+    Payload(u64),
+    /// Of a value of the superblock, by its sequence: the values before and after have another one.
+    Value(u64),
+}
+
+// Where the rooms of each kind begin: those of headers by op, those of headers by address, and so on.
+const BY_OP: usize = 0;
+
+const BY_ADDRESS: usize = 256;
+
+const BODIES: usize = BY_ADDRESS + BLOCKS as usize;
+
+const PAYLOADS: usize = BODIES + SLOTS as usize;
+
+const VALUES: usize = PAYLOADS + BLOCKS as usize;
+
+const ROOMS: usize = VALUES + 2;
+
+// The room of a header without its name: those of blocks have theirs by address, and all others by op.
+fn header_room(bytes: &[u8]) -> usize {
+    match (bytes.get(OP_END), bytes.get(KIND), bytes.get(AUX_END)) {
+        (Some(op), Some(0), _) => BY_OP + usize::from(*op),
+        (_, _, Some(address)) => BY_ADDRESS + usize::from(*address % 128),
+        _ => BY_OP,
+    }
+}
+
+impl Room {
+    // Its number; which header it is its bytes say.
+    fn number(self, bytes: &[u8]) -> usize {
+        match self {
+            Room::Header => header_room(bytes),
+            Room::Body(slot) => BODIES + (slot % SLOTS) as usize,
+            Room::Payload(address) => PAYLOADS + (address % u64::from(BLOCKS)) as usize,
+            Room::Value(sequence) => VALUES + (sequence % 2) as usize,
+        }
+    }
+}
+
+impl Memo {
+    /// No text is kept.
+    pub fn new(alloc: Global) -> Result<Memo, AllocError> {
+        let mut places = Vec::with_capacity(alloc, ROOMS)?;
+        for _ in 0..ROOMS {
+            places.push(Text::none(alloc))?;
+        }
+        Ok(Memo { places })
+    }
+
+    fn kept(&self, room: Room, bytes: &[u8]) -> Option<Sum>
+        ensures { IfSome result (λ name. name.0 ≡ name_of bytes.now) }
+    {
+        match self.places.as_slice().get(room.number(bytes)) {
+            Some(text) => text.name_of(bytes),
+            None => None,
+        }
+    }
+
+    /// Keeps a text with its name, in place of another one.
+    pub fn keep(&mut self, room: Room, bytes: &[u8], name: Sum)
+        requires { name.0 ≡ name_of bytes.now }
+    {
+        match self.places.as_mut_slice().get_mut(room.number(bytes)) {
+            Some(text) => text.set(bytes, name),
+            None => {}
+        }
+    }
+
+    /// The name of these bytes: the kept one, or one that is made, and kept.
+    pub fn name_of(&mut self, room: Room, bytes: &[u8]) -> Sum
+        ensures { result.0 ≡ name_of bytes.now }
+    {
+        match self.kept(room, bytes) {
+            Some(name) => name,
+            None => {
+                let name = checksum(bytes);
+                self.keep(room, bytes, name);
+                name
+            }
+        }
+    }
+}
