@@ -57,7 +57,10 @@ fn make_replica(alloc: Global, index: u8, n: u8, mode: Mode) -> Result<Host, NoM
             replica: Some(replica),
             disk,
         }),
-        Err(_) => Err(NoMemory),
+        Err(_) => {
+            drop(disk);
+            Err(NoMemory)
+        }
     }
 }
 
@@ -73,7 +76,7 @@ fn halt(
     ensures told { told_by disk.new ≡ revived (told_by disk.old) }
     ensures out { OnOk result (out.new ≡ output.Halted index ∷ []) }
 {
-    *replica = None;
+    drop(replica.take());
     disk.revive();
     out.push(Output::Halted(index))?;
     Ok(())
@@ -99,7 +102,7 @@ fn step_on(
     match running.step(alloc, disk, event, out) {
         Ok(()) => Ok(()),
         Err(Halt::NoMemory) => {
-            *replica = None;
+            drop(replica.take());
             Err(NoMemory)
         }
         Err(Halt::DiskFault) => halt(replica, disk, index, out),
@@ -121,7 +124,7 @@ fn recover_on(
 {
     match Replica::recover_any(alloc, disk, out) {
         Ok(recovered) => {
-            *replica = Some(recovered);
+            drop(replica.replace(recovered));
             Ok(())
         }
         Err(Refusal::Halted(Halt::NoMemory)) => Err(NoMemory),
@@ -191,7 +194,7 @@ impl Host {
     pub fn stop(&mut self)
         ensures { self.new ≡ record self.old { replica = None } }
     {
-        self.replica = None;
+        drop(self.replica.take());
     }
 
     /// It is recovered. Where it runs, or its superblock doesn't open, nothing happens.

@@ -143,7 +143,9 @@ impl Members {
             }
             Line::Request { replica, request } => {
                 let event = asked(alloc, request)?;
-                self.reach(alloc, *replica, &event, to)
+                let reached = self.reach(alloc, *replica, &event, to);
+                drop(event);
+                reached
             }
             Line::Deliver(number) => self.deliver(alloc, *number, to),
             Line::Tick(replica) => self.reach(alloc, *replica, &Event::Tick, to),

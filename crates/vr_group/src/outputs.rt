@@ -65,7 +65,10 @@ fn record_output(sent: &mut Seq<Letter>, output: Output, to: &mut Outputs) -> Re
     ensures numbered { OnOk result (to.new ≡ with_outputs to.old (with_number (length sent.old) output ∷ [])) }
 {
     let number = sent.len() as u64;
-    write_text(number, &output, &mut to.text)?;
+    if let Err(wanted) = write_text(number, &output, &mut to.text) {
+        drop(output);
+        return Err(wanted);
+    }
     to.puts.push(put_of(number, sent, output)?)
 }
 

@@ -87,8 +87,9 @@ impl Replay {
         ensures stopped { IfErr result (Stopped (K.faults sink.old) (K.faults sink.new) (K.taken sink.old) (K.taken sink.new) (taken self.old.group.world self.old.number self.old.lines.line)) }
     {
         let line = judge(alloc, self.group.size(), self.number, self.lines.line())?;
-        let text = play(alloc, &mut self.group, &line)?;
-        write_whole(sink, text.as_slice())?;
+        let played = play(alloc, &mut self.group, &line);
+        drop(line);
+        write_whole(sink, played?.as_slice())?;
         self.number += 1;
         Ok(())
     }

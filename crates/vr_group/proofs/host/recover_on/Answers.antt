@@ -5,11 +5,13 @@ use Rattle.vr_group.proofs.host.recover_on.Goals as goal
 
 pub returns-in-Ok-clause-host : goal.returns-in-Ok-clause-host
 returns-in-Ok-clause-host c =
-    (host_recovered c.args.index c.in-Ok.recovered (told_by c.args.disk.now) (told_by c.recover_any.new.disk) c.recover_any.new.out c.requires.told c.in-Ok.ensures.recovered c.in-Ok.ensures.running).1
+    rw c.replace.ensures.after
+    ((host_recovered c.args.index c.in-Ok.recovered (told_by c.args.disk.now) (told_by c.recover_any.new.disk) c.recover_any.new.out c.requires.told c.in-Ok.ensures.recovered c.in-Ok.ensures.running).1)
 
 pub returns-in-Ok-clause-acted : goal.returns-in-Ok-clause-acted
 returns-in-Ok-clause-acted c =
-    (host_recovered c.args.index c.in-Ok.recovered (told_by c.args.disk.now) (told_by c.recover_any.new.disk) c.recover_any.new.out c.requires.told c.in-Ok.ensures.recovered c.in-Ok.ensures.running).0
+    rw c.replace.ensures.after
+    ((host_recovered c.args.index c.in-Ok.recovered (told_by c.args.disk.now) (told_by c.recover_any.new.disk) c.recover_any.new.out c.requires.told c.in-Ok.ensures.recovered c.in-Ok.ensures.running).0)
 
 pub returns-in-Err-Halted-NoMemory-clause-host : goal.returns-in-Err-Halted-NoMemory-clause-host
 returns-in-Err-Halted-NoMemory-clause-host c =

@@ -15,7 +15,8 @@ returns-in-Ok-clause-acted c =
 
 pub returns-in-Err-NoMemory-clause-host : goal.returns-in-Err-NoMemory-clause-host
 returns-in-Err-NoMemory-clause-host c =
-    host_wanting c.args.event.now c.in-Some.running c.step.new.self (told_by c.args.disk.now) (told_by c.step.new.disk) c.step.new.out c.in-Err-NoMemory.field-0 c.in-Err-NoMemory.field-0-is (some_runs _ _ _ c.in-Some.is c.requires) c.in-Err-NoMemory.ensures.step
+    rw c.take.ensures.after
+    (host_wanting c.args.event.now c.in-Some.running c.step.new.self (told_by c.args.disk.now) (told_by c.step.new.disk) c.step.new.out c.in-Err-NoMemory.field-0 c.in-Err-NoMemory.field-0-is (some_runs _ _ _ c.in-Some.is c.requires) c.in-Err-NoMemory.ensures.step)
 
 pub returns-in-Err-DiskFault-clause-host : goal.returns-in-Err-DiskFault-clause-host
 returns-in-Err-DiskFault-clause-host c =
