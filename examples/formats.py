@@ -18,13 +18,13 @@ def number(n, size):
 
 
 def header(command, body=b"", **fields):
-    """The header before a body; a field that isn't given is zero, and `size` is the body's unless it is given."""
-    f = dict(parent=bytes(16), request_name=bytes(16), cluster=0, client=0, request=0, view=0, op=0, commit=0, replica=0, kind=0, aux=0,
+    """The header before a body; a field that isn't given is zero, the version is 1, and `size` is the body's unless it is given."""
+    f = dict(parent=bytes(16), request_name=bytes(16), cluster=0, client=0, request=0, view=0, op=0, commit=0, replica=0, version=1, kind=0, aux=0,
              size=128 + len(body))
     f.update(fields)
     rest = (name(body) + f["parent"] + f["request_name"] + number(f["cluster"], 8) + number(f["client"], 8) + number(f["request"], 4)
             + number(f["view"], 4) + number(f["op"], 8) + number(f["commit"], 8) + number(f["size"], 4)
-            + bytes([COMMANDS.index(command) + 1, f["replica"], 1, f["kind"]]) + number(f["aux"], 8) + bytes(8))
+            + bytes([COMMANDS.index(command) + 1, f["replica"], f["version"], f["kind"]]) + number(f["aux"], 8) + bytes(8))
     return name(rest) + rest
 
 

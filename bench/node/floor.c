@@ -15,7 +15,7 @@
 #include <time.h>
 #include <unistd.h>
 
-enum { SECTOR = 512, SECTORS = 1424, ENTRY = 384, MOST = 64 };
+enum { SECTOR = 512, SECTORS = 3984, ENTRY = 384, MOST = 64 };
 
 static void need(int ok, const char *what) {
     if (!ok) { perror(what); exit(1); }

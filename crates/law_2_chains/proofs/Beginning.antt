@@ -22,18 +22,17 @@ use Rattle.vr_msg.specs.Choice as said
 use Rattle.vr_msg.specs.Choice.{top_view, top_commit, named, ops, choice}
 use Rattle.vr_msg.specs.Logs.{header_of}
 use Rattle.vr_msg.specs.Normal.{primary}
-use Rattle.vr_world.specs.Replica.{Replica, last_view, head, is_started, is_primary, part_at, run_start, statement_of, with_part}
+use Rattle.vr_world.specs.Replica.{Replica, last_view, head, is_started, is_primary, part_at, run_start, statement_of, with_part, version}
 use Rattle.vr_world.specs.Outputs.{others, send, send_to_all, start_view, start_view_change, prepare, wait_line}
 use Rattle.vr_world.specs.Steps.{Effect, Say, Setting, Step, Word, ◌⨾◌, quiet, change, does, says, by, reading, when, each, after_all}
 use Rattle.vr_world.specs.Words.{Log, saves, with_saved, save, entered, enter, entry_of, or_lost, lost, with_entry, with_entry_at, taken, take, log_header, may_take, prepare_again, stated, chosen_log, choose_line, begin_view, try_log, obey_choice, decided, try, apply}
 use Rattle.vr_world.specs.Opening.{listed}
 use Rattle.vr_world.specs.Words.{value_of}
-use Rattle.vr_world.specs.Deciding.{do_view_change_table, is_from}
+use Rattle.vr_world.specs.Deciding.{do_view_change_table, is_from, is_for}
 use Rattle.vr_world.specs.Rules.{with_statement, obey_do_view_change, on_do_view_change, tell_view}
 use Rattle.vr_world.specs.Laws.{IsMessage}
 use Rattle.vr_world.specs.Sound.{IsSound, IsStated}
-use Rattle.vr_world.proofs.Keeping.{sound_alike}
-use Rattle.vr_world.proofs.Ruling.{by_rows, group_of, kept_statement}
+use Rattle.vr_world.proofs.Ruling.{by_rows, group_of, kept_statement, IsFor}
 use Rattle.vr_world.proofs.SilentSteps.{still_enter}
 use Rattle.vr_world.proofs.SilentWaits.{mute_one, mute_quiet}
 use Rattle.vr_world.proofs.Stating.{run_of, given_at}
@@ -59,7 +58,7 @@ use Rattle.law_2_chains.proofs.Scripts.{every_append, goes_then, goes_regrouped,
 use Rattle.law_2_chains.proofs.Readying.{free_ready}
 use Rattle.law_2_chains.proofs.Moving.{IsStep, member_at, memory_at, under_moves, mid_runs, mid_stays, goes_says}
 use Rattle.law_2_chains.proofs.Writing.{told_header}
-use Rattle.law_2_chains.proofs.Saving.{Covers, forgotten, names_of, value_is, reflects_saved, keeps_saved, goes_save_known}
+use Rattle.law_2_chains.proofs.Saving.{Covers, forgotten, names_of, value_is, reflects_saved, keeps_saved, goes_save_known, saved_sound}
 use Rattle.law_2_chains.proofs.Applying.{goes_says_then, goes_with_entry_at, goes_apply}
 use Rattle.law_2_chains.proofs.Repairs.{every_mapped, may_prepare, may_start, goes_tell_view}
 use Rattle.law_2_chains.proofs.Takes.{parts_over, commit_over, takes_over, covers_taken, keeps_taken, taken_views}
@@ -215,7 +214,7 @@ module _ (u : Setup) (start : Group Header) (i : ℕ) (q : Replica) (l : Local) 
       (record { last = d.last; under = d.under; slots = d.slots; size = d.size }) made_so
 
   choose_ends : Mid u start i (with_saved q) (through effect l) (becomes s1 i z2)
-  choose_ends = mid_runs u start i (with_saved q) (through effect l) s1 z2 (forgotten q m') forgets refl (reflects_saved q m' covers) (sound_alike q (with_saved q) refl sound) place size (keeps_saved q l stored)
+  choose_ends = mid_runs u start i (with_saved q) (through effect l) s1 z2 (forgotten q m') forgets refl (reflects_saved q m' covers) (saved_sound q sound) place size (keeps_saved q l stored)
       (free_ready u start.sent i (forgotten q m') z2.slots (through effect l).said (every_append AsksNothing l.said [] free tt))
 
   -- what comes after it begins with that choice
@@ -459,8 +458,9 @@ statement_cases i t ss j x e =
     ]
 
 pub entered_fields : (v : ℕ) (r : Replica) → ((with_saved (entered v r)).view ≡ v) × ((with_saved (entered v r)).cluster ≡ r.cluster) × ((with_saved (entered v r)).statements ≡ replicate r.n None) × ((with_saved (entered v r)).log_view ≡ r.log_view)
-unfolding entered
-entered_fields v r = (refl, refl, refl, refl)
+    × (version (with_saved (entered v r)) ≡ version r)
+unfolding entered value_of
+entered_fields v r = (refl, refl, refl, refl, refl)
 
 module _ (u : Setup) (fits : Fits u) (start : Group Header) (i : ℕ) where
   pub with_statement_told : (d : DoViewChange) (r : Replica) → AreStated u start r → In (Do_view_change d.replica r.view (statement_told d.statement)) start.sent → AreStated u start (with_statement d.replica d.statement r)
@@ -470,7 +470,7 @@ module _ (u : Setup) (fits : Fits u) (start : Group Header) (i : ℕ) where
         | inr old ↦ all j t old
       ]
 
-  mid_statement : (d : DoViewChange) (r : Replica) (l : Local) (s : Group Header) → Mid u start i r l s → IsStated r.cluster r.view d.statement → Mid u start i (with_statement d.replica d.statement r) l s
+  mid_statement : (d : DoViewChange) (r : Replica) (l : Local) (s : Group Header) → Mid u start i r l s → IsStated (version r) r.cluster r.view d.statement → Mid u start i (with_statement d.replica d.statement r) l s
   unfolding head part_at
   mid_statement d r l s x is =
       let f = x.reflects in
@@ -478,8 +478,8 @@ module _ (u : Setup) (fits : Fits u) (start : Group Header) (i : ℕ) where
       (record { view = f.view; log_view = f.log_view; checkpoint = f.checkpoint; commit = f.commit; applied = f.applied; reach = f.reach; parts = f.parts; loaded = f.loaded; waits = f.waits })
       (kept_statement d.replica d.statement r x.sound is).sound refl refl x.stored
 
-  states_it : {F : Type 0} (d : DoViewChange) (o : Replica) (t : Setting F) (r : Replica) (f : F) (l : Local) (s : Group Header) → Mid u start i r l s → GoesOn o r → d.replica < r.n → d.cluster ≡ o.cluster → AreStated u start r
-      → Every AsksNothing l.said → IsStated r.cluster r.view d.statement → In (Do_view_change d.replica r.view (statement_told d.statement)) start.sent
+  states_it : {F : Type 0} (d : DoViewChange) (o : Replica) (t : Setting F) (r : Replica) (f : F) (l : Local) (s : Group Header) → Mid u start i r l s → GoesOn o r → d.replica < r.n → IsFor d.version d.cluster o → AreStated u start r
+      → Every AsksNothing l.said → IsStated (version r) r.cluster r.view d.statement → In (Do_view_change d.replica r.view (statement_told d.statement)) start.sent
       → GoesAndChooses u start i (event.Deliver (frame.DoViewChange d)) o l ((change (with_statement d.replica d.statement) ⨾ try) t r f)
   states_it d o t r f l s x on member group all free is new =
       let e : Event = event.Deliver (frame.DoViewChange d) in
@@ -487,8 +487,8 @@ module _ (u : Setup) (fits : Fits u) (start : Group Header) (i : ℕ) where
       chooses_changed u start i e o (with_statement d.replica d.statement) try t r f l (λ g.
       goes_try u fits start i e o t (with_statement d.replica d.statement r) g l s y (hears_statement d o r on member group) (with_statement_told d r all new) free)
 
-  enters_first : {F : Type 0} (d : DoViewChange) (b : Bool) (t : Setting F) (r : Replica) (f : F) (l : Local) (s : Group Header) (x : Mid u start i r l s) → nat_lt r.view d.view ≡ b → d.replica < r.n → d.cluster ≡ r.cluster
-      → AreStated u start r → Every AsksNothing l.said → r.view ≤ d.view → nat_lt last_view d.view ≡ false → IsStated r.cluster d.view d.statement → WasSent u start.sent (frame.DoViewChange d)
+  enters_first : {F : Type 0} (d : DoViewChange) (b : Bool) (t : Setting F) (r : Replica) (f : F) (l : Local) (s : Group Header) (x : Mid u start i r l s) → nat_lt r.view d.view ≡ b → d.replica < r.n → IsFor d.version d.cluster r
+      → AreStated u start r → Every AsksNothing l.said → r.view ≤ d.view → nat_lt last_view d.view ≡ false → IsStated (version r) r.cluster d.view d.statement → WasSent u start.sent (frame.DoViewChange d)
       → GoesAndChooses u start i (event.Deliver (frame.DoViewChange d)) r l ((when b (enter d.view) ⨾ change (with_statement d.replica d.statement) ⨾ try) t r f)
   enters_first d true t r f l s x b member group all free up low is sent =
       chooses_enter_then u fits start i (event.Deliver (frame.DoViewChange d)) r d.view _ t r f l s x free up low (λ k a c free y.
@@ -496,14 +496,14 @@ module _ (u : Setup) (fits : Fits u) (start : Group Header) (i : ℕ) where
       let p = entered_fields d.view r in
       let on = picking.goes_entered d.view r (ltb-true r.view d.view b) in
       states_it d r t q c k a y on (let n = on.n in omega arith) group
-      (λ j g h. absurd (none_stated r.n j g (sym (ap (λ (ys : List (Option Statement)). get_or ys j None) p.2) ∙ h))) free (rw (p.0, p.1) is) (rw (p.0) sent))
+      (λ j g h. absurd (none_stated r.n j g (sym (ap (λ (ys : List (Option Statement)). get_or ys j None) p.2) ∙ h))) free (rw (p.4, p.0, p.1) is) (rw (p.0) sent))
   enters_first d false t r f l s x b member group all free up low is sent =
       let m = ltb-false r.view d.view b in
       let same : r.view ≡ d.view = omega arith in
       chooses_quiet_then u start i (event.Deliver (frame.DoViewChange d)) r _ t r f l (λ c. states_it d r t r c l s x (goes_itself r x.sound) member group all free (rw same is) (rw same sent))
 
-  enters_then : {F : Type 0} (d : DoViewChange) (t : Setting F) (r : Replica) (f : F) (l : Local) (s : Group Header) (x : Mid u start i r l s) → d.replica < r.n → d.cluster ≡ r.cluster → AreStated u start r → Every AsksNothing l.said
-      → r.view ≤ d.view → nat_lt last_view d.view ≡ false → IsStated r.cluster d.view d.statement → WasSent u start.sent (frame.DoViewChange d)
+  enters_then : {F : Type 0} (d : DoViewChange) (t : Setting F) (r : Replica) (f : F) (l : Local) (s : Group Header) (x : Mid u start i r l s) → d.replica < r.n → IsFor d.version d.cluster r → AreStated u start r → Every AsksNothing l.said
+      → r.view ≤ d.view → nat_lt last_view d.view ≡ false → IsStated (version r) r.cluster d.view d.statement → WasSent u start.sent (frame.DoViewChange d)
       → GoesAndChooses u start i (event.Deliver (frame.DoViewChange d)) r l ((by (λ r. when (nat_lt r.view d.view) (enter d.view)) ⨾ change (with_statement d.replica d.statement) ⨾ try) t r f)
   unfolding by ◌⨾◌
   enters_then d t r f l s x member group all free up low is sent =
@@ -535,12 +535,11 @@ module _ (u : Setup) (fits : Fits u) (start : Group Header) (i : ℕ) where
                   let o = or_parts (nat_lt d.view r.view) _ n1 in
                   let up = ltb-false d.view r.view o.0 in
                   let low : nat_lt last_view d.view ≡ false = le-ltb last_view d.view (omega arith) in
-                  let from = and_parts (d.cluster == r.cluster) (nat_lt d.replica r.n && not (d.replica == r.index)) (not-false (is_from d.cluster d.replica r) n0) in
+                  let from = and_parts (is_for d.version d.cluster r) (nat_lt d.replica r.n && not (d.replica == r.index)) (not-false (is_from d.version d.cluster d.replica r) n0) in
                   let member = ltb-true d.replica r.n (and_parts (nat_lt d.replica r.n) (not (d.replica == r.index)) from.1).0 in
-                  let same : d.cluster ≡ r.cluster = eqb-true d.cluster r.cluster from.0 in
-                  let group = group_of d.cluster d.replica r (not-false _ n0) in
-                  let is : IsStated r.cluster d.view d.statement = rw (← group) (record { statement = form.statement; values = m.body; view = omega arith }) in
-                  enters_then d t r f l s x member same all free up low is sent,
+                  let group = group_of d.version d.cluster d.replica r (not-false _ n0) in
+                  let is : IsStated (version r) r.cluster d.view d.statement = rw (← group.0, ← group.1) (record { statement = form.statement; values = m.body; view = omega arith }) in
+                  enters_then d t r f l s x member group all free up low is sent,
               λ n3. idle,
             ),
           ),

@@ -1,20 +1,19 @@
 -- The repair of blocks (rules 30 and 31): a checkpoint whose blocks are all there is loaded.
-use Rattle.std.proofs.Common.{ℕ, ◌≡◌, ◌≢◌, arith, refl, sym, subst, Bool, true, false, List, [], ◌∷◌, ◌++◌, Option, Some, None, Ok, Err, is_some}
-use Rattle.std.specs.Prelude.{find, nat_lt, Result}
+use Rattle.std.proofs.Common.{ℕ, ◌≡◌, ◌≢◌, arith, refl, sym, subst, Bool, true, false, List, [], ◌∷◌, ◌++◌, Option, Some, None, is_some}
+use Rattle.std.specs.Prelude.{find, nat_lt}
 use Rattle.vr_header.specs.declared.header.Header.{Header}
 use Rattle.vr_ckpt.specs.State.{State}
 use Rattle.vr_ckpt.specs.StateTexts.{state_decoded}
-use Rattle.vr_ckpt.specs.StateFault.{StateFault}
 use Rattle.vr_ckpt.specs.declared.found.Load.{Load}
 use Rattle.vr_ckpt.specs.declared.found.Load.TheVariants.{Loaded, Missing}
 use Rattle.vr_ckpt.specs.declared.table.PayloadTable.{PayloadTable}
 use Rattle.vr_ckpt.specs.declared.name.Name.{Name}
 use Rattle.vr_msg.specs.declared.frame.GetBlock.{GetBlock}
 use Rattle.vr_msg.specs.declared.frame.GiveBlock.{GiveBlock}
-use Rattle.vr_world.specs.Replica.{Replica, part_at, head}
+use Rattle.vr_world.specs.Replica.{Replica, part_at, head, version}
 use Rattle.vr_world.specs.Outputs.{send_to, give_block}
 use Rattle.vr_world.specs.Steps.{Effect, PutBlock, Setting, Word, ◌⨾◌, quiet, change, does, by, reading, when, after_all}
-use Rattle.vr_world.specs.Words.{is_loaded, with_state, loaded_state, loads, checkpoint_at, load, apply}
+use Rattle.vr_world.specs.Words.{is_loaded, with_state, loaded_state, loads, checkpoint_at, load, apply, usable}
 use Rattle.vr_world.specs.Deciding.{is_wanted, get_block_table, give_block_table}
 use Rattle.vr_world.specs.Rules.{asked_block, block_at, give_read, obey_get_block, on_get_block, without, put_block, put_found, mend_found, not_worn, test_of, obey_give_block, on_give_block}
 use Rattle.vr_world.specs.Sound.{IsSound}
@@ -40,13 +39,13 @@ with_other table s names r = record r { table = table; state = s; missing = name
 abbrev pub Other : Replica → Replica → Type 0
 Other r q = q ≡ with_other q.table q.state q.missing r
 
-other_loaded : (root : Name) (table : PayloadTable) (o : Result State StateFault) (r : Replica) → Other r (loaded_state root table o r)
+other_loaded : (root : Name) (table : PayloadTable) (o : Option State) (r : Replica) → Other r (loaded_state root table o r)
 unfolding with_state
-other_loaded root table (Ok s) r = refl
-other_loaded root table (Err fault) r = refl
+other_loaded root table (Some s) r = refl
+other_loaded root table None r = refl
 
 pub other_loads : (root : Name) (x : Load) (r : Replica) → Other r (loads root x r)
-other_loads root (Loaded texts table) r = other_loaded root table (state_decoded texts) r
+other_loads root (Loaded texts table) r = other_loaded root table (usable (version r) (state_decoded texts)) r
 other_loads root (Missing names) r = refl
 
 -- a word that changes nothing but the state, and says and does nothing

@@ -20,6 +20,7 @@ use Rattle.vr_world.specs.Group.{Arrival, Asked, Message, Time, IsArrival, MayOp
 use Rattle.vr_world.specs.GroupFit.{IsFitArrival, IsFitGroup, IsFitMember, IsFitMove, IsFitValue}
 use Rattle.vr_world.specs.Own.{IsAt}
 use Rattle.vr_world.specs.Fit.{MayCome, ReadsWell}
+use Rattle.vr_world.proofs.Slots.{least_two}
 use Rattle.vr_world.proofs.FitMessages.{asked_may_come}
 use Rattle.vr_world.proofs.FitLies.{lies_fit}
 use Rattle.vr_world.proofs.FitGroups.{groups_fit}
@@ -144,7 +145,7 @@ module _ (u : Setup) (g : group.Group) (s : Group Header) (bridge : Bridges u g 
   vouched v k j x = (x.0, elim x.1 [ inl c ↦ inl (sent _ c) | inr d ↦ inr (d.0, (d.1.0, sent _ d.1.1)) ])
 
   -- the tables of another member: what is made is made in another view than its own
-  tables_other : (j : ℕ) (r : Replica) → j ≢ at → IsAt u.cluster g.n j r → HasTables u s j r → HasTables u a j r
+  tables_other : (j : ℕ) (r : Replica) → j ≢ at → IsAt u.cluster g.n j 1 r → HasTables u s j r → HasTables u a j r
   tables_other j r other is h frozen =
       let t = h frozen in
       record {
@@ -343,6 +344,7 @@ module _ (u : Setup) (fits : Fits u) (hash : u.hash ≡ lying.hash) (g : group.G
         written = tt;
         value = o.value;
         good = f.0;
+        several = least_two v f.0 f.1.version;
         place = f.1.index;
         size = f.1.n ∙ bridge.size;
         reads = headers_of lying d reads;

@@ -24,7 +24,7 @@ use Rattle.vr_choose.proofs.Logs.{found, chosen_front, chosen_open}
 use Rattle.vr_choose.proofs.Named.{names_of, unnamed}
 use Rattle.vr_choose.proofs.Order.{view_most}
 use Rattle.vr_choose.proofs.Standing.{headers_stand}
-use Rattle.vr_world.specs.Replica.{Replica, statement_of}
+use Rattle.vr_world.specs.Replica.{Replica, statement_of, version}
 use Rattle.vr_world.specs.Words.{stated, chosen_log, log_end, log_header, Log}
 use Rattle.vr_world.specs.Sound.{IsSound, IsStated}
 use Rattle.vr_world.proofs.Taking.{log_reaches}
@@ -197,15 +197,15 @@ module _ (r : Replica) (sound : IsSound r) (q : Quorums) (hs : List Header) (end
 
   meets : IsChoice q ss (Ends hs)
   meets =
-      let are = All-weaker (IsStated r.cluster r.view) (IsStatement r.cluster) (λ s i. i.statement) ss (all_stated r sound) in
-      subst (IsChoice q ss) ends (choice_meets q ss (bounded ss (some_statements r.cluster ss are)))
+      let are = All-weaker (IsStated (version r) r.cluster r.view) (IsStatement (version r) r.cluster) (λ s i. i.statement) ss (all_stated r sound) in
+      subst (IsChoice q ss) ends (choice_meets q ss (bounded ss (some_statements (version r) r.cluster ss are)))
 
   -- where the log ends
   end_is : log_end (top_commit ss) hs ≡ meets.head
   end_is =
-      let are = All-weaker (IsStated r.cluster r.view) (IsStatement r.cluster) (λ s i. i.statement) ss (all_stated r sound) in
+      let are = All-weaker (IsStated (version r) r.cluster r.view) (IsStatement (version r) r.cluster) (λ s i. i.statement) ss (all_stated r sound) in
       let above = meets.ends.next.above in
-      log_end_is r.cluster ss meets.head hs meets.log.whole (omega arith) (headers_stand r.cluster ss meets.head hs are meets.log)
+      log_end_is (version r) r.cluster ss meets.head hs meets.log.whole (omega arith) (headers_stand (version r) r.cluster ss meets.head hs are meets.log)
 
   abbrev l : Log
   l = chosen_log r ss hs

@@ -18,7 +18,7 @@ use Rattle.vr_msg.specs.Choice.{ops}
 use Rattle.vr_world.specs.Replica.{Replica, replication, ackers_at, head, is_here, leads, part_at}
 use Rattle.vr_world.specs.Steps.{Setting}
 use Rattle.vr_world.specs.Words.{votes, has_quorum, advance}
-use Rattle.vr_world.specs.Deciding.{prepare_ok_table, is_from}
+use Rattle.vr_world.specs.Deciding.{prepare_ok_table, is_from, is_for}
 use Rattle.vr_world.specs.Rules.{acknowledged, obey_prepare_ok, on_prepare_ok}
 use Rattle.vr_world.specs.Sound.{IsSound}
 use Rattle.vr_world.proofs.Keeping.{sound_ackers}
@@ -202,7 +202,7 @@ module _ (u : Setup) (fits : Fits u) (start : Group Header) (i : ℕ) where
         λ c. idle,
         λ n0. (
           λ c.
-              let from = and_parts (a.cluster == r.cluster) _ (not-false (is_from a.cluster a.replica r) n0) in
+              let from = and_parts (is_for a.version a.cluster r) _ (not-false (is_from a.version a.cluster a.replica r) n0) in
               let sender = ltb-true a.replica r.n (and_parts (nat_lt a.replica r.n) _ from.1).0 in
               let size_is = x.size in
               let p = and_parts (leads r) _ c in

@@ -8,7 +8,7 @@ use Rattle.std.proofs.lemmas.List.Elements.{All-nil, All-cons, All-append}
 use Rattle.vr_base.specs.Replicas.{size}
 use Rattle.vr_msg.specs.declared.output.Chosen.{Chosen}
 use Rattle.vr_msg.specs.Choice.{top_commit, top_view}
-use Rattle.vr_world.specs.Replica.{Replica, is_primary, is_started, view_change, statement_of, run, head, parts_from, trimmed}
+use Rattle.vr_world.specs.Replica.{Replica, is_primary, is_started, view_change, statement_of, run, head, parts_from, trimmed, version}
 use Rattle.vr_world.specs.Steps.{Setting, Word, ◌⨾◌, quiet, says, by, naming, outputs, after_all}
 use Rattle.vr_world.specs.Words as words
 use Rattle.vr_world.specs.Words.{decided, log_end, stated}
@@ -27,6 +27,7 @@ use Rattle.vr_msg.specs.declared.frame.StartViewChange.{StartViewChange}
 use Rattle.vr_msg.specs.declared.output.Output.TheVariants as output
 use Rattle.vr_msg.specs.declared.output.Output.{Output}
 use Rattle.vr_msg.specs.declared.statement.Statement.{Statement}
+use Rattle.vr_world.proofs.Ruling.{IsFor}
 use Rattle.vr_world.proofs.SilentWaits.{IsPlain, Mute, plain_are, mute_all, mute_apply, mute_by, mute_each, mute_one, mute_prepare_again, mute_quiet, mute_take, mute_then}
 use Rattle.vr_world.proofs.SendsScripts.{outputs_append, outputs_said}
 use Rattle.vr_world.specs.Outputs as told
@@ -131,7 +132,7 @@ pub record Hears (e : Event) (o r : Replica) : Type 0 where
   pub own : statement_of r ≡ statement_of o
   pub others : (i : ℕ) → get_or r.statements i None ≡ or_else (brought i e) (cond (eqb o.view r.view) (get_or o.statements i None) None)
   -- what was brought is of the group
-  pub group : (i : ℕ) (t : Statement) → brought i e ≡ Some t → IsEvent e → IsStatement o.cluster t
+  pub group : (i : ℕ) (t : Statement) → brought i e ≡ Some t → IsEvent e → IsStatement (version o) o.cluster t
 
 pub cell : (i j k : ℕ) (a b : Statement) (y z : Option Statement) → j ≡ k → a ≡ b → y ≡ z → cond (eqb i j) (Some a) y ≡ cond (eqb i k) (Some b) z
 cell i j k a b y z e f g = λ p. cond (eqb i (e p)) (Some (f p)) (g p)
@@ -181,18 +182,18 @@ pub no_brought : (c : StartViewChange) (i : ℕ) → brought i (event.Deliver (f
 no_brought c i = refl
 
 -- the statement that was brought
-pub brought_here : (d : DoViewChange) (i : ℕ) (t : Statement) → brought i (event.Deliver (frame.DoViewChange d)) ≡ Some t → IsStatement d.cluster d.statement → IsStatement d.cluster t
+pub brought_here : (d : DoViewChange) (i : ℕ) (t : Statement) → brought i (event.Deliver (frame.DoViewChange d)) ≡ Some t → IsStatement d.version d.cluster d.statement → IsStatement d.version d.cluster t
 brought_here d i t is h =
-    elim (eqb d.replica i) as (λ b. cond b (Some d.statement) None ≡ Some t → IsStatement d.cluster t) [
-      | true ↦ λ e. let same : d.statement ≡ t = (let z : Some d.statement ≡ Some t = e in cc) in subst (IsStatement d.cluster) same h
+    elim (eqb d.replica i) as (λ b. cond b (Some d.statement) None ≡ Some t → IsStatement d.version d.cluster t) [
+      | true ↦ λ e. let same : d.statement ≡ t = (let z : Some d.statement ≡ Some t = e in cc) in subst (IsStatement d.version d.cluster) same h
       | false ↦ λ e. absurd cc
     ] is
 
 -- a statement is taken in
-pub hears_statement : (d : DoViewChange) (o x : Replica) → GoesOn o x → d.replica < x.n → d.cluster ≡ o.cluster → Hears (event.Deliver (frame.DoViewChange d)) o (rules.with_statement d.replica d.statement x)
+pub hears_statement : (d : DoViewChange) (o x : Replica) → GoesOn o x → d.replica < x.n → IsFor d.version d.cluster o → Hears (event.Deliver (frame.DoViewChange d)) o (rules.with_statement d.replica d.statement x)
 unfolding statement_of run head
 hears_statement d o x h member of_group = record {
-  group = λ i t is came. subst (λ c. IsStatement c t) of_group (brought_here d i t is came.form.statement);
+  group = λ i t is came. rw (← of_group.0, ← of_group.1) (brought_here d i t is came.form.statement);
   index = h.index;
   n = h.n;
   own = h.own;

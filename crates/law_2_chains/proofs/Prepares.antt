@@ -112,9 +112,9 @@ module _ (u : Setup) (start : Group Header) (i : ℕ) where
         let rests = goes_rested u start i t r f l s x in
         let log : nat_lt p.view r.view ≡ false → nat_lt r.log_view p.view ≡ false → r.log_view ≡ p.view = λ a b. let c = ltb-false p.view r.view a in let d = ltb-false r.log_view p.view b in omega arith in
         let now : nat_lt p.view r.view ≡ false → nat_lt r.log_view p.view ≡ false → r.view ≡ p.view = λ a b. let c = ltb-false p.view r.view a in let d = ltb-false r.log_view p.view b in omega arith in
-        let may : not (is_from_primary p.entry.header.cluster p.replica p.view r) ≡ false → nat_lt r.log_view p.view ≡ false → nat_le op r.checkpoint ≡ false → nat_lt (r.checkpoint + 64) op ≡ false
+        let may : not (is_from_primary p.version p.entry.header.cluster p.replica p.view r) ≡ false → nat_lt r.log_view p.view ≡ false → nat_le op r.checkpoint ≡ false → nat_lt (r.checkpoint + 64) op ≡ false
         → MayStore p.entry (rested r) =
-        λ a b c d. may_store_prepare p r m (group_of_primary p.entry.header.cluster p.replica p.view r a) (ltb-false r.log_view p.view b) (leb-false op r.checkpoint c) (ltb-false (r.checkpoint + 64) op d) in
+        λ a b c d. may_store_prepare p r m (group_of_primary p.version p.entry.header.cluster p.replica p.view r a) (ltb-false r.log_view p.view b) (leb-false op r.checkpoint c) (ltb-false (r.checkpoint + 64) op d) in
         goes_naming u start i _ t r f l (goes_by u start i _ t r f l (by_rows (λ y. Goes u start i l (obey_prepare t.hash p y t r f)) (prepare_table t.hash p r) (
           λ c. idle,
           λ n0. (

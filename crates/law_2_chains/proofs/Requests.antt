@@ -3,7 +3,7 @@ use Rattle.std.proofs.Common.{ℕ, suc, ◌+◌, ◌-◌, ◌%◌, ◌^◌, ◌�
 use Rattle.std.specs.Prelude.{nat_lt, nat_le, nat_eq}
 use Rattle.std.specs.Cmp.Lexicographic.{pointwise}
 use Rattle.std.specs.Option.{option_map_or}
-use Rattle.std.proofs.lemmas.Bool.{and_from, or_parts, cases_lt, eq-eqb, not-false, ltb-false, leb-true, leb-false, eqb-true, true≢false}
+use Rattle.std.proofs.lemmas.Bool.{and_from, or_parts, cases_lt, eq-eqb, not-false, ltb-false, leb-true, leb-false, true≢false}
 use Rattle.vr_base.specs.declared.replicas.Replicas.{Replicas}
 use Rattle.vr_base.specs.Replicas.{has_replica, size}
 use Rattle.vr_header.specs.declared.header.Header.{Header}
@@ -26,7 +26,7 @@ use Rattle.vr_world.specs.Deciding.{request_table, session_answer}
 use Rattle.vr_world.specs.Rules.{asker_by, next_entry, make, stored_reply, obey_request, on_request}
 use Rattle.vr_world.specs.Laws.{IsMessage}
 use Rattle.vr_world.proofs.Reacting.{may_store_next}
-use Rattle.vr_world.proofs.Ruling.{by_rows}
+use Rattle.vr_world.proofs.Ruling.{by_rows, for_of}
 use Rattle.vr_world.proofs.Storing.{MayStore}
 use Rattle.law_1_machine.specs.Basics.{In}
 use Rattle.law_1_machine.specs.Group.{Group, made_at}
@@ -270,7 +270,7 @@ module _ (u : Setup) (fits : Fits u) (start : Group Header) (i : ℕ) where
                         let few = leb-false 8 (head r - r.commit) full.0 in
                         let known = h.order.known in
                         let e : Whole = next_entry t.hash q r in
-                        let may = may_store_next t.hash q r names h m (eqb-true q.cluster r.cluster (not-false _ n0)) both.0 last (ltb-false r.applied r.commit behind.1) (omega arith) (leb-false (2 ^ 62) (head r) full.1) in
+                        let may = may_store_next t.hash q r names h m (for_of q.version q.cluster r (not-false _ n0)) both.0 last (ltb-false r.applied r.commit behind.1) (omega arith) (leb-false (2 ^ 62) (head r) full.1) in
                         let is = next_is t.hash q r same group in
                         let writes_it = make_script e t r f in
                         let size_is = x.size in

@@ -26,7 +26,7 @@ use Rattle.law_2_chains.proofs.Scripts.{carried_append, cut_append, goes_then, g
 use Rattle.law_2_chains.proofs.Readying.{free_ready}
 use Rattle.law_2_chains.proofs.Moving.{mid_stays, goes_says}
 use Rattle.law_2_chains.proofs.Writing.{told_header}
-use Rattle.law_2_chains.proofs.Saving.{Covers, forgotten, save_after, save_cut, save_ends}
+use Rattle.law_2_chains.proofs.Saving.{Covers, forgotten, save_after, save_cut, save_ends, saved_sound}
 use Rattle.law_2_chains.proofs.Applying.{goes_apply}
 use Rattle.law_2_chains.proofs.Vouching.{goes_change_then}
 use Rattle.law_2_chains.proofs.Blocks.{other_mid, quietly_load}
@@ -56,7 +56,7 @@ unfolding value_of run head part_at
 saves_waiting r = refl
 
 left_sound : (b : Bool) (r : Replica) → IsSound r → IsSound (left_if b r)
-left_sound true r h = sound_alike (in_next_view r) (with_saved (in_next_view r)) refl (kept_next r h).sound
+left_sound true r h = saved_sound (in_next_view r) (kept_next r h).sound
 left_sound false r h = h
 
 left_applied : (b : Bool) (r : Replica) → r.applied ≡ r.checkpoint → (left_if b r).applied ≡ (left_if b r).checkpoint

@@ -107,6 +107,11 @@ pub value_is : (q : Replica) (m : Memory Header) → Covers q m → IsValue (val
 unfolding value_of
 value_is q m c = record { view = c.view; log_view = c.log_view; checkpoint = c.checkpoint; commit = c.commit; reach = c.reach; names = λ k. refl }
 
+-- soundness sees nothing of what is saved but the version
+pub saved_sound : (q : Replica) → IsSound q → IsSound (with_saved q)
+unfolding value_of
+saved_sound q sound = sound_alike q (with_saved q) refl sound
+
 pub reflects_saved : (q : Replica) (m : Memory Header) → Covers q m → Reflects (with_saved q) (forgotten q m)
 unfolding head part_at
 reflects_saved q m c = record {
@@ -193,7 +198,7 @@ module _ (u : Setup) (start : Group Header) (i : ℕ) (q : Replica) (l : Local) 
 
   pub save_ends : Mid u start i (with_saved q) (through effect l) save_after
   unfolding save_after
-  save_ends = mid_runs u start i (with_saved q) (through effect l) s1 z2 (forgotten q m') forgets refl (reflects_saved q m' c) (sound_alike q (with_saved q) refl sound) place size
+  save_ends = mid_runs u start i (with_saved q) (through effect l) s1 z2 (forgotten q m') forgets refl (reflects_saved q m' c) (saved_sound q sound) place size
       (keeps_saved q l stored)
       (every_append _ l.said [] (subst (λ (y : ℕ → Option Header). Every (MayBeSaid u start.sent i (forgotten q m') y) l.said) (sym slots_same) ready) tt)
 

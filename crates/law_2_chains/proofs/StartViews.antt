@@ -94,7 +94,7 @@ module _ (u : Setup) (start : Group Header) (i : ℕ) where
         λ a. idle,
         λ n0. (
           λ a.
-              let log = told_log v r m (group_of_primary v.cluster v.replica v.view r n0) in
+              let log = told_log v r m (group_of_primary v.version v.cluster v.replica v.view r n0) in
               let may = may_take_is t.hash (log_of v) r (and_parts (may_take t.hash (log_of v) r) _ a).0 in
               let q : Replica = with_saved (taken (log_of v) r) in
               let w = taken_views (log_of v) r x.sound log may in

@@ -73,7 +73,7 @@ module _ (u : Setup) (start : Group Header) (i : ℕ) where
         λ a. idle,
         λ n0. (
           λ a.
-              let is = told_sync v r m (group_of_primary v.cluster v.replica v.view r n0) in
+              let is = told_sync v r m (group_of_primary v.version v.cluster v.replica v.view r n0) in
               let may = may_jump_is t.hash v r (and_parts (may_jump t.hash v r) _ a).0 in
               let q : Replica = with_saved (jumped v r) in
               let w = jumped_views v r x.sound is may in

@@ -22,11 +22,11 @@ use Rattle.vr_msg.specs.declared.frame.StartViewChange.{StartViewChange}
 use Rattle.vr_msg.specs.declared.statement.Statement.{Statement}
 use Rattle.vr_msg.specs.Choice.{ops}
 use Rattle.vr_ckpt.specs.declared.name.Name.{Name}
-use Rattle.vr_world.specs.Replica.{Replica, last_view, head, header_at, is_here, is_started, leads, part_at, forgetting, with_part}
+use Rattle.vr_world.specs.Replica.{Replica, last_view, head, header_at, is_here, is_started, leads, part_at, forgetting, with_part, version}
 use Rattle.vr_world.specs.Outputs.{send_to, send_to_all, commit_message, start_view_change, give_prepare, give_block, get_sync, sync_view}
 use Rattle.vr_world.specs.Steps.{Setting, Step, Word, ◌⨾◌, quiet, change, does, says, by, naming, reading, when, each, after_all}
-use Rattle.vr_world.specs.Words.{with_saved, entered, enter, rested, stored, write, accept, apply, learn, advance, taken, may_take, prepare_again, try, speak, resend, ask, visit, jumped, is_loaded, load}
-use Rattle.vr_world.specs.Deciding.{Hash, is_from, is_from_primary, is_known, prepare_table, prepare_ok_table, commit_table, start_view_change_table, do_view_change_table, log_of, start_view_table, get_view_table, get_prepare_table, give_prepare_table, get_block_table, is_wanted, give_block_table, tick_table, get_sync_table, sync_view_table, may_jump}
+use Rattle.vr_world.specs.Words.{with_saved, entered, enter, rested, stored, write, accept, apply, learn, advance, taken, may_take, prepare_again, try, speak, resend, ask, visit, jumped, is_loaded, load, value_of}
+use Rattle.vr_world.specs.Deciding.{Hash, is_from, is_from_primary, is_known, prepare_table, prepare_ok_table, commit_table, start_view_change_table, do_view_change_table, log_of, start_view_table, get_view_table, get_prepare_table, give_prepare_table, get_block_table, is_wanted, give_block_table, tick_table, get_sync_table, sync_view_table, may_jump, is_for}
 use Rattle.vr_world.specs.Rules.{acknowledge, ask_view, obey_prepare, on_prepare, acknowledged, obey_prepare_ok, on_prepare_ok, obey_commit, on_commit, heard_of, tell_view, obey_start_view_change, on_start_view_change, with_statement, obey_do_view_change, on_do_view_change, acknowledge_stored, obey_start_view, on_start_view, obey_get_view, on_get_view, obey_get_prepare, on_get_prepare, obey_give_prepare, on_give_prepare, asked_block, block_at, give_read, obey_get_block, on_get_block, without, put_block, put_found, test_of, obey_give_block, on_give_block, mend_found, obey_get_sync, on_get_sync, obey_sync_view, on_sync_view, idler, next_view, primary_ticks, obey_tick, on_tick}
 use Rattle.vr_world.specs.Laws.{IsMessage}
 use Rattle.vr_world.specs.Sound.{IsSound, IsStated}
@@ -46,6 +46,7 @@ use Rattle.law_1_machine.specs.Members.{Do_view_change}
 use Rattle.law_2_chains.specs.Local.{Local}
 use Rattle.law_2_chains.specs.Chains.{Setup, Mid, WasSent, statement_told}
 use Rattle.law_2_chains.specs.Tables.{Fits, HasVouchedAt, Tables}
+use Rattle.law_2_chains.proofs.Saving.{saved_sound}
 use Rattle.law_2_chains.proofs.Beginning.{with_statement_told}
 use Rattle.law_2_chains.proofs.Counting.{tables_acknowledged}
 use Rattle.law_2_chains.proofs.Repairs.{leads_is}
@@ -117,10 +118,10 @@ module _ (u : Setup) (fits : Fits u) (start : Group Header) (i : ℕ) where
       (tables.stated j z (sym (ap (λ (ys : List (Option Statement)). get_or ys j None) h.statements) ∙ is)))
 
   -- who hears its view's primary isn't the primary
-  not_primary : (cluster sender view : ℕ) (r : Replica) → not (is_from_primary cluster sender view r) ≡ false → r.view ≡ view → leads r ≡ true → ⊥
-  not_primary cluster sender view r e same l =
-      let p = and_parts (is_from cluster sender r) (sender == view % r.n) (not-false _ e) in
-      let from = and_parts (cluster == r.cluster) _ p.0 in
+  not_primary : (v cluster sender view : ℕ) (r : Replica) → not (is_from_primary v cluster sender view r) ≡ false → r.view ≡ view → leads r ≡ true → ⊥
+  not_primary v cluster sender view r e same l =
+      let p = and_parts (is_from v cluster sender r) (sender == view % r.n) (not-false _ e) in
+      let from = and_parts (is_for v cluster r) _ p.0 in
       let other = and_parts (nat_lt sender r.n) (not (sender == r.index)) from.1 in
       let apart = eqb-false sender r.index (not-true _ other.1) in
       let first = eqb-true sender (view % r.n) p.1 in
@@ -160,9 +161,9 @@ module _ (u : Setup) (fits : Fits u) (start : Group Header) (i : ℕ) where
         let op : ℕ = p.entry.header.op in
         let views = x.sound.order.views in
         let now : nat_lt p.view r.view ≡ false → nat_lt r.log_view p.view ≡ false → r.view ≡ p.view = λ a b. let c = ltb-false p.view r.view a in let d = ltb-false r.log_view p.view b in omega arith in
-        let may : not (is_from_primary p.entry.header.cluster p.replica p.view r) ≡ false → nat_lt r.log_view p.view ≡ false → nat_le op r.checkpoint ≡ false → nat_lt (r.checkpoint + 64) op ≡ false
+        let may : not (is_from_primary p.version p.entry.header.cluster p.replica p.view r) ≡ false → nat_lt r.log_view p.view ≡ false → nat_le op r.checkpoint ≡ false → nat_lt (r.checkpoint + 64) op ≡ false
         → MayStore p.entry (rested r) =
-        λ a b c d. may_store_prepare p r m (group_of_primary p.entry.header.cluster p.replica p.view r a) (ltb-false r.log_view p.view b) (leb-false op r.checkpoint c) (ltb-false (r.checkpoint + 64) op d) in
+        λ a b c d. may_store_prepare p r m (group_of_primary p.version p.entry.header.cluster p.replica p.view r a) (ltb-false r.log_view p.view b) (leb-false op r.checkpoint c) (ltb-false (r.checkpoint + 64) op d) in
         let rests = held (change rested) stays_rested in
         by_rows (λ y. Tabled u start i (obey_prepare t.hash p y t r f)) (prepare_table t.hash p r) (
           λ c. idle,
@@ -175,9 +176,9 @@ module _ (u : Setup) (fits : Fits u) (start : Group Header) (i : ℕ) where
                 λ n3. (
                   λ c. rests,
                   λ n4. (
-                    λ c. backup r _ tables (not_primary p.entry.header.cluster p.replica p.view r n0 (now n1 n2)) (alike_known p.entry p.commit (may n0 n2 n3 n4)),
+                    λ c. backup r _ tables (not_primary p.version p.entry.header.cluster p.replica p.view r n0 (now n1 n2)) (alike_known p.entry p.commit (may n0 n2 n3 n4)),
                     λ n5. (
-                      λ c. backup r _ tables (not_primary p.entry.header.cluster p.replica p.view r n0 (now n1 n2)) (alike_next p.entry p.commit (may n0 n2 n3 n4)),
+                      λ c. backup r _ tables (not_primary p.version p.entry.header.cluster p.replica p.view r n0 (now n1 n2)) (alike_next p.entry p.commit (may n0 n2 n3 n4)),
                       λ n6. (
                         λ c. held (change rested ⨾ ask_view p.view p.replica ⨾ learn p.commit) (stays_then (change rested) _ stays_rested (stays_then (ask_view p.view p.replica) (learn p.commit) (stays_says _) (stays_learn p.commit))),
                         λ n7. (λ c. rests, λ n8. idle),
@@ -203,7 +204,7 @@ module _ (u : Setup) (fits : Fits u) (start : Group Header) (i : ℕ) where
           λ c. idle,
           λ n0. (
             λ c.
-                let from = and_parts (a.cluster == r.cluster) _ (not-false (is_from a.cluster a.replica r) n0) in
+                let from = and_parts (is_for a.version a.cluster r) _ (not-false (is_from a.version a.cluster a.replica r) n0) in
                 let sender = ltb-true a.replica r.n (and_parts (nat_lt a.replica r.n) _ from.1).0 in
                 let size_is = x.size in
                 let p = and_parts (leads r) _ c in
@@ -268,14 +269,14 @@ module _ (u : Setup) (fits : Fits u) (start : Group Header) (i : ℕ) where
           ),
         )
 
-    states : (d : DoViewChange) (q : Replica) (e : F) → Enters u start i q → IsStated q.cluster q.view d.statement → In (Do_view_change d.replica q.view (statement_told d.statement)) start.sent
+    states : (d : DoViewChange) (q : Replica) (e : F) → Enters u start i q → IsStated (version q) q.cluster q.view d.statement → In (Do_view_change d.replica q.view (statement_told d.statement)) start.sent
         → Tabled u start i ((change (with_statement d.replica d.statement) ⨾ try) t q e)
     states d q e y is new =
         tabled_change_then u start i (with_statement d.replica d.statement) try t q e (λ g. tabled_try u start i t (with_statement d.replica d.statement q) g
         (record { sound = (kept_statement d.replica d.statement q y.sound is).sound; place = y.place; size = y.size; several = y.several; lower = y.lower; stated = with_statement_told u fits start i d q y.stated new; unmade = y.unmade }))
 
-    entered_stated : (d : DoViewChange) → IsStated r.cluster d.view d.statement → IsStated (with_saved (entered d.view r)).cluster (with_saved (entered d.view r)).view d.statement
-    unfolding entered
+    entered_stated : (d : DoViewChange) → IsStated (version r) r.cluster d.view d.statement → IsStated (version (with_saved (entered d.view r))) (with_saved (entered d.view r)).cluster (with_saved (entered d.view r)).view d.statement
+    unfolding entered value_of
     entered_stated d is = is
 
     entered_sent : (d : DoViewChange) → WasSent u start.sent (frame.DoViewChange d) → In (Do_view_change d.replica (with_saved (entered d.view r)).view (statement_told d.statement)) start.sent
@@ -283,7 +284,7 @@ module _ (u : Setup) (fits : Fits u) (start : Group Header) (i : ℕ) where
     entered_sent d sent = sent
 
     -- the view is entered first, where it is later
-    states_in : (d : DoViewChange) (b : Bool) → nat_lt r.view d.view ≡ b → r.view ≤ d.view → (d.view ≡ r.view → r.log_view < r.view) → nat_lt last_view d.view ≡ false → IsStated r.cluster d.view d.statement
+    states_in : (d : DoViewChange) (b : Bool) → nat_lt r.view d.view ≡ b → r.view ≤ d.view → (d.view ≡ r.view → r.log_view < r.view) → nat_lt last_view d.view ≡ false → IsStated (version r) r.cluster d.view d.statement
         → WasSent u start.sent (frame.DoViewChange d) → Tabled u start i ((when b (enter d.view) ⨾ change (with_statement d.replica d.statement) ⨾ try) t r f)
     states_in d true e up apart low is sent =
         tabled_enter_then u start i d.view _ t r f low (λ g. states d (with_saved (entered d.view r)) g (entered_so u start i d.view r l x several (ltb-true r.view d.view e)) (entered_stated d is) (entered_sent d sent))
@@ -292,7 +293,7 @@ module _ (u : Setup) (fits : Fits u) (start : Group Header) (i : ℕ) where
         let same : d.view ≡ r.view = omega arith in
         tabled_quiet_then u start i _ t r f (λ g. states d r g (started_so u start i r l x tables.stated several (apart same)) (rw (← same) is) (rw (← same) sent))
 
-    stated_then : (d : DoViewChange) → r.view ≤ d.view → (d.view ≡ r.view → r.log_view < r.view) → nat_lt last_view d.view ≡ false → IsStated r.cluster d.view d.statement → WasSent u start.sent (frame.DoViewChange d)
+    stated_then : (d : DoViewChange) → r.view ≤ d.view → (d.view ≡ r.view → r.log_view < r.view) → nat_lt last_view d.view ≡ false → IsStated (version r) r.cluster d.view d.statement → WasSent u start.sent (frame.DoViewChange d)
         → Tabled u start i ((by (λ r. when (nat_lt r.view d.view) (enter d.view)) ⨾ change (with_statement d.replica d.statement) ⨾ try) t r f)
     unfolding by ◌⨾◌
     stated_then d up apart low is sent = states_in d (nat_lt r.view d.view) refl up apart low is sent
@@ -322,8 +323,8 @@ module _ (u : Setup) (fits : Fits u) (start : Group Header) (i : ℕ) where
                     let o = or_parts (nat_lt d.view r.view) _ n1 in
                     let up = ltb-false d.view r.view o.0 in
                     let low : nat_lt last_view d.view ≡ false = le-ltb last_view d.view (omega arith) in
-                    let group = group_of d.cluster d.replica r (not-false _ n0) in
-                    let is : IsStated r.cluster d.view d.statement = rw (← group) (record { statement = form.statement; values = m.body; view = omega arith }) in
+                    let group = group_of d.version d.cluster d.replica r (not-false _ n0) in
+                    let is : IsStated (version r) r.cluster d.view d.statement = rw (← group.0, ← group.1) (record { statement = form.statement; values = m.body; view = omega arith }) in
                     stated_then d up (λ same. below_view d same n2) low is sent,
                 λ n3. idle,
               ),
@@ -338,13 +339,13 @@ module _ (u : Setup) (fits : Fits u) (start : Group Header) (i : ℕ) where
           λ a. idle,
           λ n0. (
             λ a.
-                let log = told_log v r m (group_of_primary v.cluster v.replica v.view r n0) in
+                let log = told_log v r m (group_of_primary v.version v.cluster v.replica v.view r n0) in
                 let p = and_parts (may_take t.hash (log_of v) r) (not (r.index == v.view % r.n)) a in
                 let may = may_take_is t.hash (log_of v) r p.0 in
                 let apart = eqb-false r.index (v.view % r.n) (not-true _ p.1) in
                 let q : Replica = with_saved (taken (log_of v) r) in
                 let w = taken_views (log_of v) r x.sound log may in
-                let sound = sound_alike (taken (log_of v) r) q refl (kept_taken (log_of v) r x.sound log may).sound in
+                let sound = saved_sound (taken (log_of v) r) (kept_taken (log_of v) r x.sound log may).sound in
                 let unled : leads q ≡ true → ⊥ = λ l. let own = (leads_is q l).1 in apart (sym w.2 ∙ (own ∙ (ap (λ k. k % q.n) w.0 ∙ ap (λ k. v.view % k) w.3))) in
                 let none = tables_unled u start i start q unled (λ j z e. absurd (none_stated r.n j z (sym (ap (λ (ys : List (Option Statement)). get_or ys j None) (taken_statements (log_of v) r)) ∙ e))) in
                 tabled_take_then u start i (log_of v) _ t r f (λ d. tabled_stays u start i _ t q d
@@ -367,13 +368,13 @@ module _ (u : Setup) (fits : Fits u) (start : Group Header) (i : ℕ) where
           λ a. idle,
           λ n0. (
             λ a.
-                let told = told_sync v r m (group_of_primary v.cluster v.replica v.view r n0) in
+                let told = told_sync v r m (group_of_primary v.version v.cluster v.replica v.view r n0) in
                 let p = and_parts (may_jump t.hash v r) (not (r.index == v.view % r.n)) a in
                 let may = may_jump_is t.hash v r p.0 in
                 let apart = eqb-false r.index (v.view % r.n) (not-true _ p.1) in
                 let q : Replica = with_saved (jumped v r) in
                 let w = jumped_views v r x.sound told may in
-                let sound = sound_alike (jumped v r) q refl (kept_jumped v r x.sound told may).sound in
+                let sound = saved_sound (jumped v r) (kept_jumped v r x.sound told may).sound in
                 let unled : leads q ≡ true → ⊥ = λ l. let own = (leads_is q l).1 in apart (sym w.2 ∙ (own ∙ (ap (λ k. k % q.n) w.0 ∙ ap (λ k. v.view % k) w.3))) in
                 let none = tables_unled u start i start q unled (λ j z e. absurd (none_stated r.n j z (sym (ap (λ (ys : List (Option Statement)). get_or ys j None) (jumped_statements v r)) ∙ e))) in
                 tabled_jump_then u start i v _ t r f (λ d. tabled_stays u start i _ t q d

@@ -23,7 +23,6 @@ use Rattle.vr_world.specs.Steps.{Effect, Say, Setting, Step, Word, ◌⨾◌, qu
 use Rattle.vr_world.specs.Words.{Log, save, with_saved, entered, enter, rested, stored, write, taken, take, may_take, stated, chosen_log, choose_line, begin_view, try_log, obey_choice, decided, try, speak, resend, prepare_again, apply, advance, no_ackers, jump, jumped}
 use Rattle.vr_world.specs.Rules.{make}
 use Rattle.vr_world.specs.Sound.{IsSound}
-use Rattle.vr_world.proofs.Keeping.{sound_alike}
 use Rattle.vr_world.proofs.Storing.{MayStore, kept_stored}
 use Rattle.vr_world.specs.Given.{IsLogFor}
 use Rattle.vr_world.proofs.Taking.{MayTake, may_take_is, over, kept_taken}
@@ -38,6 +37,7 @@ use Rattle.law_2_chains.specs.Reflecting.{entries_by}
 use Rattle.law_2_chains.specs.Chains.{Setup, Mid, statement_told}
 use Rattle.law_2_chains.specs.Tables.{Fits, HasVouchedAt, Tables}
 use Rattle.law_2_chains.specs.Begins.{with_made}
+use Rattle.law_2_chains.proofs.Saving.{saved_sound}
 use Rattle.law_2_chains.proofs.Repairs.{leads_is}
 use Rattle.law_2_chains.proofs.Writing.{stored_ackers, stored_fields, stored_next, stored_other, stored_up, stored_views}
 use Rattle.law_2_chains.proofs.Beginning.{AreStated}
@@ -205,7 +205,7 @@ entered_so u start i v r l x several later =
     let size_is = x.size in
     let q : Replica = with_saved (entered v r) in
     record {
-      sound = sound_alike (entered v r) q refl (kept_entered v r x.sound (omega arith)).sound;
+      sound = saved_sound (entered v r) (kept_entered v r x.sound (omega arith)).sound;
       place = x.place;
       size = x.size;
       several = omega arith;
@@ -306,7 +306,7 @@ module _ (u : Setup) (start : Group Header) (i : ℕ) where
       let q : Replica = with_saved (taken l r) in
       let v = taken_views l r y.sound log may in
       let view : q.view ≡ r.view = v.0 ∙ view_is in
-      let sound : IsSound q = sound_alike (taken l r) q refl (kept_taken l r y.sound log may).sound in
+      let sound : IsSound q = saved_sound (taken l r) (kept_taken l r y.sound log may).sound in
       let xs = ops q.commit l.head in
       let x = each prepare_again xs t q d in
       let holds = holds_each t xs q d sound in

@@ -12,7 +12,7 @@ use Rattle.vr_msg.specs.declared.frame.Prepare.{Prepare}
 use Rattle.vr_msg.specs.declared.output.Output.{Output}
 use Rattle.vr_msg.specs.declared.output.Output.TheVariants as output
 use Rattle.vr_msg.specs.declared.output.Sent.{Sent}
-use Rattle.vr_world.specs.Replica.{Replica, leads, part_at, with_part}
+use Rattle.vr_world.specs.Replica.{Replica, leads, part_at, with_part, version}
 use Rattle.vr_world.specs.Outputs.{others, send, send_to_all, prepare}
 use Rattle.vr_world.specs.Steps.{Effect, Say, Setting, Step, Word, ◌⨾◌, quiet, change, says, by, reading, each, after_all, outputs}
 use Rattle.vr_world.specs.Words.{entry_of, or_lost, lost, with_entry, with_entry_at, prepare_again}
@@ -182,7 +182,7 @@ prepared_all e r l =
     let to = another r.index r.n l in
     record {
       send = record { from = r.index; to = to.0; message = prepare e r };
-      prepare = record { replica = r.index; view = r.view; commit = r.commit; entry = e };
+      prepare = record { version = version r; replica = r.index; view = r.view; commit = r.commit; entry = e };
       said = in_said (map (λ to. send to (prepare e r) r) (others r.index r.n)) (send to.0 (prepare e r) r) (in_mapped (λ to. send to (prepare e r) r) to.0 (others r.index r.n) to.1);
       is = refl;
       by = refl;

@@ -1,5 +1,5 @@
 -- An opening as a chain of the machine's moves, in its two parts.
-use Rattle.std.specs.Prelude.{ℕ, ◌+◌, ◌≡◌, List, Contains, None}
+use Rattle.std.specs.Prelude.{ℕ, ◌+◌, ◌≤◌, ◌≡◌, List, Contains, None}
 use Rattle.vr_header.specs.declared.header.Header.{Header}
 use Rattle.vr_super.specs.Copies.{IsGood, SuperValue}
 use Rattle.vr_world.specs.Replica.{parts_from}
@@ -14,8 +14,8 @@ use Rattle.law_2_chains.specs.Chains.{Setup, IsReached, Every, AsksNothing, WasM
 use Rattle.law_2_chains.specs.Tables.{HasTables}
 use Rattle.law_2_chains.specs.Finished.{Finishes}
 
--- Member i of the machine's group is stopped and stands for this member, whose superblock opens as a good value of its own; and on the
--- disk sound Parts are found.
+-- Member i of the machine's group of at least two is stopped and stands for this member, whose superblock opens as a good value of its
+-- own; and on the disk sound Parts are found.
 pub record MayBegin {F : Type 0} (u : Setup) (start : Group Header) (i : ℕ) (l : Local) (made : List Header) (v : SuperValue) (t : Setting F) (f : F) : Type 0 where
   pub reached : IsReached u start
   pub disk : IsDisk l.member (start.members i)
@@ -23,6 +23,7 @@ pub record MayBegin {F : Type 0} (u : Setup) (start : Group Header) (i : ℕ) (l
   pub written : Every (WasMade start.made) l.made
   pub value : MayOpen l.member v
   pub good : IsGood v
+  pub several : 2 ≤ v.fields.n
   pub place : v.fields.replica ≡ i
   pub size : v.fields.n ≡ u.quorums.n
   pub reads : ReadsHeaders t f

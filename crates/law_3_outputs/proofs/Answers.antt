@@ -1,6 +1,6 @@
 -- Every step of every replica: its replies are true of the log, and it keeps the state.
 use Rattle.std.proofs.Common.{ℕ, ◌+◌, ◌-◌, ◌≤◌, ◌≡◌, ◌∙◌, ◌⊎◌, inl, inr, arith, refl, subst, Bool, true, false, List, [], ◌∷◌, length, take, Option, Some, None}
-use Rattle.std.specs.Prelude.{nat_lt, nat_le, not, is_some, Result, Ok, Err}
+use Rattle.std.specs.Prelude.{nat_lt, nat_le, not, is_some}
 use Rattle.std.specs.List.{find}
 use Rattle.std.specs.Option.{option_map_or}
 use Rattle.std.proofs.lemmas.Bool.{eqb-true, not-false, or_parts}
@@ -10,7 +10,6 @@ use Rattle.vr_header.specs.Made.{Whole}
 use Rattle.vr_ckpt.specs.Folds.{state_after}
 use Rattle.vr_ckpt.specs.StateTexts.{state_decoded}
 use Rattle.vr_ckpt.specs.State.{State}
-use Rattle.vr_ckpt.specs.StateFault.{StateFault}
 use Rattle.vr_ckpt.specs.declared.found.Load.{Load}
 use Rattle.vr_ckpt.specs.declared.found.Load.TheVariants.{Loaded, Missing}
 use Rattle.vr_ckpt.specs.declared.name.Name.{Name}
@@ -43,9 +42,9 @@ use Rattle.vr_msg.specs.Choice.{ops}
 use Rattle.vr_ckpt.proofs.Stored.{repeat_stored}
 use Rattle.law_2_chains.specs.Outputs.{replies, send_to, send_to_all, prepare, commit_message, start_view, start_view_change, get_view, get_sync, sync_view, give_prepare, give_block}
 use Rattle.law_2_chains.specs.Asker.{Asker}
-use Rattle.law_2_chains.specs.Replica.{Replica, is_frozen, part_at, header_at, head, is_here}
+use Rattle.law_2_chains.specs.Replica.{Replica, is_frozen, part_at, header_at, head, is_here, version}
 use Rattle.law_2_chains.specs.Steps.{Step, Setting, Word, ◌⨾◌, quiet, change, does, says, by, naming, reading, when, each, outputs, after_all, PutBlock}
-use Rattle.law_2_chains.specs.Words.{rested, write, accept, enter, apply, advance, learn, is_loaded, load, loads, loaded_state, checkpoint_at, try, speak, resend, ask, prepare_again, visit}
+use Rattle.law_2_chains.specs.Words.{rested, write, accept, enter, apply, advance, learn, is_loaded, load, loads, loaded_state, checkpoint_at, try, speak, resend, ask, prepare_again, visit, usable}
 use Rattle.law_2_chains.specs.Words as word
 use Rattle.law_2_chains.specs.Deciding.{Hash, session_answer, request_table, prepare_table, prepare_ok_table, commit_table, start_view_change_table, do_view_change_table, log_of, start_view_table, get_view_table, get_prepare_table, give_prepare_table, get_block_table, is_from, is_wanted, give_block_table, tick_table, get_sync_table, sync_view_table}
 use Rattle.law_2_chains.specs.Rules.{asker_by, next_entry, make, stored_reply, obey_request, on_request, acknowledge, ask_view, obey_prepare, on_prepare, acknowledged, obey_prepare_ok, on_prepare_ok, obey_commit, on_commit, heard_of, obey_start_view_change, on_start_view_change, with_statement, obey_do_view_change, on_do_view_change, acknowledge_stored, obey_start_view, on_start_view, obey_get_view, on_get_view, obey_get_prepare, on_get_prepare, obey_give_prepare, on_give_prepare, asked_block, block_at, give_read, obey_get_block, on_get_block, without, put_block, put_found, mend_found, not_worn, obey_give_block, on_give_block, obey_get_sync, on_get_sync, obey_sync_view, on_sync_view, idler, next_view, obey_tick, on_tick, on_message, on_event, react}
@@ -74,8 +73,8 @@ pub loads_place : (root : Name) (l : Load) (r : Replica) → ((loads root l r).i
 unfolding word.with_state
 loads_place root (Missing names) r = (refl, refl)
 loads_place root (Loaded texts table) r =
-    let go : (x : Result State StateFault) → ((loaded_state root table x r).index ≡ r.index) × ((loaded_state root table x r).applied ≡ r.applied) = elim [ Ok s ↦ (refl, refl) | Err fault ↦ (refl, refl) ] in
-    go (state_decoded texts)
+    let go : (x : Option State) → ((loaded_state root table x r).index ≡ r.index) × ((loaded_state root table x r).applied ≡ r.applied) = elim [ Some s ↦ (refl, refl) | None ↦ (refl, refl) ] in
+    go (usable (version r) (state_decoded texts))
 
 pub record IsPut (r : Replica) (x : Step) : Type 0 where
   pub script : x.script ≡ []
@@ -334,7 +333,7 @@ module _ {F : Type 0} (log : List Whole) (numbers : IsNumbered log) where
   -- what is left where a replica that isn't frozen puts a missing block in its place
   abbrev PutsFree : Setting F → Replica → F → Event → Type 0
   PutsFree s r f e =
-      (g : GiveBlock) (name : Name) → e ≡ event.Deliver (frame.GiveBlock g) → is_from g.cluster g.replica r ≡ true → find (is_wanted s.is_block g) r.missing ≡ Some name → HasState log (put_block name g.block s r f).replica
+      (g : GiveBlock) (name : Name) → e ≡ event.Deliver (frame.GiveBlock g) → is_from g.version g.cluster g.replica r ≡ true → find (is_wanted s.is_block g) r.missing ≡ Some name → HasState log (put_block name g.block s r f).replica
 
   fair_give_block : (g : GiveBlock) (s : Setting F) (r : Replica) (f : F) → PutsFree s r f (event.Deliver (frame.GiveBlock g)) → FairAt log s r f (on_give_block g)
   unfolding on_give_block reading by

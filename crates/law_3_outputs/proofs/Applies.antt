@@ -24,7 +24,7 @@ use Rattle.vr_msg.specs.Choice.{ops}
 use Rattle.vr_ckpt.specs.declared.name.Name.{Name}
 use Rattle.vr_ckpt.proofs.Stored.{answer_next, repeat_stored, state_next}
 use Rattle.law_2_chains.specs.Outputs.{kind_of, replies, asker_of, commit_line, applied_reply, send, send_to, send_to_all, others, to_primary, prepare, prepare_ok, start_view, start_view_change, do_view_change, get_block, get_prepare, wait_line}
-use Rattle.law_2_chains.specs.Replica.{Replica, leads, part_at, with_part, forgetting, last_view, is_primary, is_started, is_here}
+use Rattle.law_2_chains.specs.Replica.{Replica, leads, part_at, with_part, forgetting, last_view, is_primary, is_started, is_here, version}
 use Rattle.law_2_chains.specs.Steps.{Mend, Rewrite, Say, Setting, Word, ◌⨾◌, quiet, change, does, says, by, reading, when, times, each, outputs, after_all}
 use Rattle.law_2_chains.specs.Words.{Log, rested, entered, enter, saves, with_saved, save, writes, stored, write, accept, entry_of, lost, or_lost, with_entry, with_entry_at, applied, checkpoints, with_checkpoint, checkpoint_of, make_checkpoint, is_checkpoint, apply_entry, is_loaded, apply_next, apply, advanced, advance, learned, learn, taken, take as take_over, prepare_again, choose_line, begin_view, try_log, may_take, obey_choice, chosen_log, decided, stated, try, speak, resend, turned, ask_peer, ask_for, ask, least_absent, peer, blocks_of, header_read, mend_header, op_of_slot, place_now, visit, visit_block, visit_place, visit_read, visit_slot, with_cursor, with_worn}
 use Rattle.law_2_chains.specs.Chains.{Every}
@@ -124,7 +124,7 @@ module _ {F : Type 0} (log : List Whole) (numbers : IsNumbered log) where
       let back : m + 1 - 1 ≡ m = omega arith in
       let cases : (c : Bool) → leads r ≡ c → (b : Bool) → Leaves log r b (record { replica = applied e r; script = map Say (commit_line e r ++ cond c (replies (asker_of e) (kind_of (state.applied r.state e).reply) r) []) }) = elim [
         | true ↦ λ t b.
-            let a : ReplyFields = record { cluster = r.cluster; replica = r.index; view = r.view; client = e.header.client; request = e.header.request; request_name = e.header.request_name; kind = kind_of (state.applied r.state e).reply } in
+            let a : ReplyFields = record { version = version r; cluster = r.cluster; replica = r.index; view = r.view; client = e.header.client; request = e.header.request; request_name = e.header.request_name; kind = kind_of (state.applied r.state e).reply } in
             let so : IsReplyOf log (m + 1) (m + 1 - 1) a a.kind = rw back (says_so log m e r.state a numbers at refl refl (had none)) in
             record { told = rw own (tt, (so, tt)); index = refl; applied = rw own refl; state = state' }
         | false ↦ λ t b. record { told = (tt, tt); index = refl; applied = rw own refl; state = state' }

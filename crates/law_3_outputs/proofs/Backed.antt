@@ -4,7 +4,7 @@ use Rattle.std.specs.Prelude.{slice_get}
 use Rattle.std.proofs.lemmas.Bool.{lt-leb}
 use Rattle.std.proofs.lemmas.Option.{slice_get_within}
 use Rattle.vr_header.specs.declared.header.Header.{Header}
-use Rattle.vr_header.specs.Bodies.{operation_bytes, operation_of}
+use Rattle.vr_header.specs.Bodies.{operation_bytes, operation_of, IsOperation}
 use Rattle.vr_header.specs.Made.{Whole}
 use Rattle.vr_header.specs.Names.{root_header}
 use Rattle.vr_header.specs.NoCollision.{NoCollision}
@@ -50,7 +50,9 @@ pub one_whole : (IsBody : List ℕ → Type 0) → NoCollision IsBody → (d e :
 one_whole IsBody never d e same gd ge hd he =
     let name = sym gd.body.name ∙ (ap (λ (h : Header). h.body.0) same ∙ ge.body.name) in
     let bytes = never (operation_bytes d.operation) (operation_bytes e.operation) hd he name in
-    let read : Some d.operation ≡ Some e.operation = sym (operation_again d.operation gd.operation) ∙ (ap operation_of bytes ∙ operation_again e.operation ge.operation) in
+    let v : ℕ = d.header.version in
+    let fits : IsOperation v e.operation = rw (ap (λ (h : Header). h.version) same) ge.body.fits in
+    let read : Some d.operation ≡ Some e.operation = sym (operation_again v d.operation gd.body.fits) ∙ (ap (operation_of v) bytes ∙ operation_again v e.operation fits) in
     let operation : d.operation ≡ e.operation = cc in
     λ i. record { header = same i; operation = operation i }
 

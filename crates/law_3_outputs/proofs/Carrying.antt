@@ -12,7 +12,7 @@ use Rattle.law_1_machine.specs.Members as machine
 use Rattle.law_2_chains.specs.Group.{Played}
 use Rattle.law_3_outputs.specs.Picked.{IsChosenBy}
 use Rattle.law_2_chains.specs.Laws.{IsEvent, IsPresentFrame}
-use Rattle.law_2_chains.specs.Replica.{Replica}
+use Rattle.law_2_chains.specs.Replica.{Replica, version}
 use Rattle.law_1_machine.specs.Basics.{In}
 use Rattle.law_2_chains.specs.Chains.{Setup, Every}
 use Rattle.law_2_chains.specs.Choices.{IsMadeFrom}
@@ -49,7 +49,7 @@ choice_line u chosen p e r l is_of by_event size group came c m = record {
   is_of = is_of;
   event = e;
   by_event = by_event;
-  statements = subst (λ k. All (IsStatement k) (all_heard l.view e r)) group (c.statements came);
+  statements = subst (λ k. All (IsStatement (version r) k) (all_heard l.view e r)) group (c.statements came);
   sizes = c.sizes;
   sizes_are = ap quorums_of (sym size) ∙ c.sizes_are;
   headers = c.headers;

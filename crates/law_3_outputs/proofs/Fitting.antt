@@ -20,6 +20,7 @@ use Rattle.law_2_chains.proofs.FitSteps.{steps_fit}
 use Rattle.law_2_chains.proofs.FitOpening.{openings_fit}
 use Rattle.law_2_chains.proofs.FitLies.{lies_fit}
 use Rattle.law_2_chains.proofs.FitGroups.{groups_fit}
+use Rattle.law_2_chains.proofs.Slots.{least_two}
 use Rattle.law_3_outputs.proofs.Sets.{in_contains}
 use Rattle.law_3_outputs.specs.Followed.{IsFitRun, IsGoodEntry}
 use Rattle.law_3_outputs.specs.Written.{WritesGood}
@@ -33,7 +34,7 @@ move_of _ _ (goes g move moved later moves rest) zero p e =
 move_of _ _ (goes g move moved later moves rest) (suc k) p e = move_of moved.group later rest k p e
 
 pub good_whole : (e : Whole) → IsWhole e → IsGoodEntry e
-good_whole e h = record { header = h.header; body = h.entry.body; operation = h.operation }
+good_whole e h = record { header = h.header; body = h.entry.body }
 
 fit_good : (es : List Effect) → All IsFit es → WritesGood es
 fit_good es h again e i = good_whole e (All-contains IsFit es (Write again e) h (in_contains es (Write again e) i))
@@ -55,7 +56,8 @@ step_fit : (r : Replica) (e : Event) (d : Lying) → IsFitReplica r → IsEvent 
 step_fit r e d h m k = (steps_fit lying d r e lies_fit.program lies_fit.roots k h.sound h.savable h.blocks m).each
 
 pub opening_fit : (c n i : ℕ) (v : SuperValue) (d : Lying) → IsFitValue c n i v → ReadsWell lying d → All IsFit (opening_script v d)
-opening_fit c n i v d g k = subst (λ (x : Step). All IsFit x.script) (opening_in_two v d) (openings_fit lying d v lies_fit.program lies_fit.roots k g.0).each
+opening_fit c n i v d g k =
+    subst (λ (x : Step). All IsFit x.script) (opening_in_two v d) (openings_fit lying d v lies_fit.program lies_fit.roots k g.0 (least_two v g.0 g.1.version)).each
 
 pub good_value : (c n i : ℕ) (m : Member) (v : SuperValue) → IsFitMember c n i m → MayOpen m v → IsFitValue c n i v
 good_value c n i m v h (inl e) = subst (IsFitValue c n i) e h.last

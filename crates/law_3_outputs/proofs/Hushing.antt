@@ -2,7 +2,7 @@
 use Rattle.std.proofs.Common.{ℕ, zero, suc, ◌+◌, ◌≡◌, refl, arith, Bool, true, false, cond, eqb, List, [], ◌∷◌, Option, Some, None}
 use Rattle.vr_ckpt.specs.StateTexts.{state_decoded}
 use Rattle.std.proofs.lemmas.List.Elements.{All-nil, All-cons, All-contains}
-use Rattle.std.specs.Prelude.{⊤, All, Contains, Ok, Err, nat_lt, nat_le, not}
+use Rattle.std.specs.Prelude.{⊤, All, Contains, nat_lt, nat_le, not}
 use Rattle.std.proofs.lemmas.Bool.{and_parts, eqb-true, ne_eqb, cond_both}
 use Rattle.vr_header.specs.declared.header.Header.{Header}
 use Rattle.vr_header.specs.declared.part.Part.{Part}
@@ -18,7 +18,7 @@ use Rattle.vr_recover.specs.declared.readings.Verdict.TheVariants as verdict
 use Rattle.vr_super.specs.Copies.{SuperValue}
 use Rattle.vr_msg.specs.Choice.{ops}
 use Rattle.law_2_chains.specs.Outputs.{applied_reply, commit_line, others, send, send_to_all, start_line, start_view_change}
-use Rattle.law_2_chains.specs.Replica.{Replica, forgetting, is_spent, is_started, last_view, leads, part_at, with_part}
+use Rattle.law_2_chains.specs.Replica.{Replica, forgetting, is_spent, is_started, last_view, leads, part_at, with_part, version}
 use Rattle.law_2_chains.specs.Steps.{Effect, Mend, Setting, Step, Word, ◌⨾◌, quiet, change, does, says, by, reading, times, each, outputs, after_all}
 use Rattle.law_2_chains.specs.Words as words
 use Rattle.law_2_chains.specs.Opening as opening
@@ -157,7 +157,7 @@ backs_loads : (r : Replica) (l : Load) (q : Replica) → Backs q → Backs (word
 unfolding words.with_state
 backs_loads r (Missing names) q c = c
 backs_loads r (Loaded texts table) q c =
-    elim (state_decoded texts) as (λ z. Backs (words.loaded_state r.root table z q)) [ Ok s ↦ c | Err fault ↦ c ]
+    elim (words.usable (version q) (state_decoded texts)) as (λ z. Backs (words.loaded_state r.root table z q)) [ Some s ↦ c | None ↦ c ]
 
 hush_all : (r : Replica) → Every IsHush (send_to_all start_view_change r)
 unfolding send_to_all

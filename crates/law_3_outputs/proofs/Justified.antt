@@ -30,6 +30,7 @@ use Rattle.law_2_chains.specs.Chains.{Setup, statement_told}
 use Rattle.law_2_chains.specs.Reflecting.{entries_by, told_of}
 use Rattle.law_2_chains.specs.Safe.{IsDenier, IsJustified, all_heard, heard_from, run_outputs}
 use Rattle.law_2_chains.proofs.Choosing.{told_some}
+use Rattle.law_2_chains.specs.Replica.{version}
 use Rattle.law_3_outputs.specs.Followed.{IsChoiceLine, IsFollowed}
 use Rattle.law_3_outputs.proofs.Sets.{set_of}
 use Rattle.law_3_outputs.proofs.Traces.{chosen_later, last}
@@ -88,12 +89,12 @@ module _ (cluster n : ℕ) (u : Setup) (run : List Played) (x : IsFollowed clust
   ss = all_heard l.view line.event line.replica
 
   meets : IsChoice line.sizes ss (Ends line.headers)
-  meets = subst (IsChoice line.sizes ss) line.ends (choice_meets line.sizes ss (bounded ss (some_statements u.cluster ss line.statements)))
+  meets = subst (IsChoice line.sizes ss) line.ends (choice_meets line.sizes ss (bounded ss (some_statements (version line.replica) u.cluster ss line.statements)))
 
   end_is : l.head ≡ meets.head
   end_is =
       let above = meets.ends.next.above in
-      line.reach ∙ log_end_is u.cluster ss meets.head line.headers meets.log.whole (omega arith) (headers_stand u.cluster ss meets.head line.headers line.statements meets.log)
+      line.reach ∙ log_end_is (version line.replica) u.cluster ss meets.head line.headers meets.log.whole (omega arith) (headers_stand (version line.replica) u.cluster ss meets.head line.headers line.statements meets.log)
 
   abbrev end : Group Header
   end = last cluster n u run x

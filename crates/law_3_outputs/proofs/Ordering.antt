@@ -40,7 +40,7 @@ use Rattle.law_2_chains.specs.Deciding.{Hash, session_answer, request_table, pre
 use Rattle.law_2_chains.specs.Asker.{Asker}
 use Rattle.law_2_chains.specs.Laws.{HasNames, IsEvent, IsMessage}
 use Rattle.law_2_chains.specs.Outputs.{send_to, send_to_all, to_primary, prepare, commit_message, do_view_change, start_view, start_view_change, get_view, get_sync, sync_view, give_prepare, give_block, wait_line}
-use Rattle.law_2_chains.specs.Replica.{Replica, head, header_at, is_here, is_frozen, is_spent, is_primary, is_started, last_view, part_at, view_change}
+use Rattle.law_2_chains.specs.Replica.{Replica, head, header_at, is_here, is_frozen, is_spent, is_primary, is_started, last_view, part_at, view_change, version}
 use Rattle.law_2_chains.specs.Rules.{asker_by, next_entry, make, stored_reply, obey_request, on_request, acknowledge, ask_view, obey_prepare, on_prepare, acknowledged, obey_prepare_ok, on_prepare_ok, obey_commit, on_commit, heard_of, obey_start_view_change, on_start_view_change, with_statement, obey_do_view_change, on_do_view_change, acknowledge_stored, obey_start_view, on_start_view, obey_get_view, on_get_view, obey_get_prepare, on_get_prepare, obey_give_prepare, on_give_prepare, asked_block, block_at, give_read, obey_get_block, on_get_block, without, put_block, put_found, mend_found, not_worn, obey_give_block, on_give_block, obey_get_sync, on_get_sync, obey_sync_view, on_sync_view, test_of, idler, next_view, obey_tick, on_tick, on_message, on_event, react}
 use Rattle.law_2_chains.specs.Sound.{IsSound, IsStated}
 use Rattle.law_2_chains.specs.Steps.{PutBlock, Say, Setting, Step, Word, ◌⨾◌, quiet, change, does, says, by, naming, reading, when, each, outputs, after_all}
@@ -48,7 +48,7 @@ use Rattle.law_2_chains.specs.Words.{Log, rested, enter, write, accept, may_take
 use Rattle.law_2_chains.proofs.Combining.{KeptBy, Keeps, kept_change_then, kept_does_then, kept_by, kept_when, keeps_says, keeps_quiet, keeps_by, keeps_change, keeps_each, keeps_when}
 use Rattle.law_2_chains.proofs.Keeping.{Kept, sound_commit}
 use Rattle.law_2_chains.proofs.Reacting.{may_store_next, kept_without, keeps_idler}
-use Rattle.law_2_chains.proofs.Ruling.{by_rows, group_of, group_of_primary, may_store_prepare, may_store_given, keeps_acknowledged, keeps_heard, kept_statement, in_view, told_log}
+use Rattle.law_2_chains.proofs.Ruling.{by_rows, group_of, group_of_primary, may_store_prepare, may_store_given, keeps_acknowledged, keeps_heard, kept_statement, in_view, told_log, IsFor, for_of}
 use Rattle.law_2_chains.proofs.Storing.{MayStore}
 use Rattle.law_2_chains.specs.Given.{IsLogFor}
 use Rattle.law_2_chains.proofs.Taking.{MayTake, may_take_is, kept_take}
@@ -139,7 +139,7 @@ module _ {F : Type 0} where
                         let full = or_parts (nat_le 8 (head r - r.commit)) (nat_le (2 ^ 62) (head r)) n5 in
                         let few = leb-false 8 (head r - r.commit) full.0 in
                         let known = h.order.known in
-                        let may = may_store_next s.hash q r names h m (eqb-true q.cluster r.cluster (not-false _ n0)) (eqb-true r.view r.log_view lead.0) last (ltb-false r.applied r.commit behind.1) (omega arith) (leb-false (2 ^ 62) (head r) full.1) in
+                        let may = may_store_next s.hash q r names h m (for_of q.version q.cluster r (not-false _ n0)) (eqb-true r.view r.log_view lead.0) last (ltb-false r.applied r.commit behind.1) (omega arith) (leb-false (2 ^ 62) (head r) full.1) in
                         at_make (next_entry s.hash q r) s r f h may,
                     λ n6. idle,
                   ),
@@ -167,9 +167,9 @@ module _ {F : Type 0} where
       let told : Orderly (acknowledge s.hash p.entry.header ⨾ learn p.commit) = quiet_and (acknowledge s.hash p.entry.header) (learn p.commit) (quiet_primary _) (keeps_says _) learns in
       let k = keeps_rested.every s r f h in
       let rest_then : (w : Word F) → Orderly w → OrderlyAt s r f (change rested ⨾ w) = λ w o. at_and (change rested) w s r f quiet_rested k o in
-      let may : not (is_from_primary p.entry.header.cluster p.replica p.view r) ≡ false → nat_lt r.log_view p.view ≡ false → nat_le op r.checkpoint ≡ false
+      let may : not (is_from_primary p.version p.entry.header.cluster p.replica p.view r) ≡ false → nat_lt r.log_view p.view ≡ false → nat_le op r.checkpoint ≡ false
       → nat_lt (r.checkpoint + 64) op ≡ false → MayStore p.entry (rested r) =
-      λ a b c d. may_store_prepare p r m (group_of_primary p.entry.header.cluster p.replica p.view r a) (ltb-false r.log_view p.view b) (leb-false op r.checkpoint c) (ltb-false (r.checkpoint + 64) op d) in
+      λ a b c d. may_store_prepare p r m (group_of_primary p.version p.entry.header.cluster p.replica p.view r a) (ltb-false r.log_view p.view b) (leb-false op r.checkpoint c) (ltb-false (r.checkpoint + 64) op d) in
       by_rows (λ x. OrderlyAt s r f (obey_prepare s.hash p x)) (prepare_table s.hash p r) (
         λ t. idle,
         λ n0. (
@@ -275,7 +275,7 @@ module _ {F : Type 0} where
         ),
       )
 
-  at_stated : (d : DoViewChange) (s : Setting F) (r : Replica) (f : F) → IsMessage (frame.DoViewChange d) → IsSound r → d.cluster ≡ r.cluster → r.view ≤ d.view
+  at_stated : (d : DoViewChange) (s : Setting F) (r : Replica) (f : F) → IsMessage (frame.DoViewChange d) → IsSound r → IsFor d.version d.cluster r → r.view ≤ d.view
       → OrderlyAt s r f (by (λ r. when (nat_lt r.view d.view) (enter d.view)) ⨾ change (with_statement d.replica d.statement) ⨾ try)
   unfolding by change
   at_stated d s r f m h g a =
@@ -288,7 +288,8 @@ module _ {F : Type 0} where
       let low : nat_lt last_view d.view ≡ false = le-ltb last_view d.view (omega arith) in
       let at = in_view d.view (nat_lt r.view d.view) s r f refl low a in
       let older = form.log_view in
-      let is : IsStated q.cluster q.view d.statement = rw (at.0, at.1, ← g) (record { statement = form.statement; values = m.body; view = omega arith }) in
+      let is : IsStated (version q) q.cluster q.view d.statement =
+      rw (at.0, at.1, at.2, ← g.0, ← g.1) (record { statement = form.statement; values = m.body; view = omega arith }) in
       let g1 = after_all s f w.script in
       at_then first (change (with_statement d.replica d.statement) ⨾ try) s r f (at_quiet first s r f (quiet_by _ (λ r. quiet_when (nat_lt r.view d.view) (enter d.view) (quiet_enter d.view))))
       (at_then (change (with_statement d.replica d.statement)) try s q g1 (at_quiet _ s q g1 (quiet_change (with_statement d.replica d.statement) (λ r. refl) (λ r. refl)))
@@ -304,7 +305,7 @@ module _ {F : Type 0} where
           λ t. idle,
           λ n1. (
             λ t. at_quiet _ s r f (quiet_tell d.replica start_view),
-            λ n2. (λ t. at_stated d s r f m h (group_of d.cluster d.replica r (not-false _ n0)) (ltb-false d.view r.view (or_parts (nat_lt d.view r.view) _ n1).0), λ n3. idle),
+            λ n2. (λ t. at_stated d s r f m h (group_of d.version d.cluster d.replica r (not-false _ n0)) (ltb-false d.view r.view (or_parts (nat_lt d.view r.view) _ n1).0), λ n3. idle),
           ),
         ),
       )
@@ -336,7 +337,7 @@ module _ {F : Type 0} where
         λ t. idle,
         λ n0. (
           λ t.
-              let log = told_log v r m (group_of_primary v.cluster v.replica v.view r n0) in
+              let log = told_log v r m (group_of_primary v.version v.cluster v.replica v.view r n0) in
               let may = may_take_is s.hash (log_of v) r (and_parts (may_take s.hash (log_of v) r) _ t).0 in
               at_and (take (log_of v)) (told ⨾ apply) s r f (quiet_take (log_of v)) (kept_take (log_of v) s r f h log may)
               (quiet_and told apply (quiet_by _ (λ r. quiet_each (acknowledge_stored s.hash) (ops r.commit v.head) (quiet_acknowledges s.hash))) (keeps_by _ (λ r. keeps_each (acknowledge_stored s.hash) (ops r.commit v.head) (keeps_acknowledges s.hash))) orderly_apply),

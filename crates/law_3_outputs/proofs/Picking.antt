@@ -3,17 +3,17 @@ use Rattle.std.proofs.Common.{ℕ, ◌+◌, ◌<◌, ◌≡◌, ◌∙◌, refl,
 use Rattle.std.specs.Prelude.{All, nat_lt, nat_le, not, ◌&&◌, ◌==◌, Contains}
 use Rattle.std.specs.List.{cons_option, filter_map, range_with_len}
 use Rattle.std.specs.Option.{option_map_or}
-use Rattle.std.proofs.lemmas.Bool.{and_parts, eqb-true, ltb-true, not-false}
+use Rattle.std.proofs.lemmas.Bool.{and_parts, ltb-true, not-false}
 use Rattle.std.proofs.lemmas.List.Elements.{All-nil, All-cons, All-contains}
 use Rattle.vr_base.specs.Groups.{quorums_of}
 use Rattle.vr_base.specs.declared.table.Quorums.{Quorums}
 use Rattle.vr_msg.specs.declared.output.Chosen.{Chosen}
 use Rattle.vr_msg.specs.Choice.{choice, top_commit, top_view}
-use Rattle.law_2_chains.specs.Replica.{Replica, is_frozen, last_view, statement_of, head}
+use Rattle.law_2_chains.specs.Replica.{Replica, is_frozen, last_view, statement_of, head, version}
 use Rattle.law_2_chains.specs.Steps.{Setting, Word, ◌⨾◌, quiet, change, does, says, by, outputs}
 use Rattle.law_2_chains.specs.Words as words
 use Rattle.law_2_chains.specs.Words.{log_end, stated}
-use Rattle.law_2_chains.proofs.Ruling.{by_rows}
+use Rattle.law_2_chains.proofs.Ruling.{by_rows, IsFor, for_of}
 use Rattle.law_2_chains.specs.Sound.{IsSound}
 use Rattle.law_2_chains.specs.Laws.{IsEvent}
 use Rattle.vr_msg.specs.Logs.{IsStatement}
@@ -32,7 +32,7 @@ use Rattle.vr_msg.specs.declared.output.Output.TheVariants as output
 use Rattle.vr_msg.specs.declared.statement.Statement.{Statement}
 use Rattle.law_2_chains.proofs.SilentWaits.{Mute, mute_all, mute_by, mute_change, mute_if, mute_naming, mute_one, mute_prepare_again, mute_quiet, mute_reading, mute_then, mute_visit}
 use Rattle.law_2_chains.proofs.SilentSteps.{still_enter, still_ask, mute_commit, mute_get_block, mute_get_prepare, mute_get_view, mute_give_block, mute_give_prepare, mute_prepare, mute_prepare_ok, mute_request, mute_start_view, mute_get_sync, mute_sync_view}
-use Rattle.law_2_chains.specs.Deciding.{commit_table, do_view_change_table, first_of, get_block_table, get_prepare_table, get_sync_table, get_view_table, give_block_table, give_prepare_table, is_from, prepare_ok_table, prepare_table, request_table, start_view_change_table, start_view_table, sync_view_table, tick_table}
+use Rattle.law_2_chains.specs.Deciding.{commit_table, do_view_change_table, first_of, get_block_table, get_prepare_table, get_sync_table, get_view_table, give_block_table, give_prepare_table, is_from, prepare_ok_table, prepare_table, request_table, start_view_change_table, start_view_table, sync_view_table, tick_table, is_for}
 use Rattle.law_2_chains.specs.Outputs as told
 use Rattle.law_2_chains.specs.Rules as rules
 use Rattle.law_2_chains.proofs.Picking.{GoesOn, Hears, IsPicked, MayPick, PicksAt, at_if, at_then, goes_entered, goes_heard, goes_idler, goes_itself, goes_rested, hears_none, hears_statement, no_brought, plain, speak_at, stated_is, try_at}
@@ -47,24 +47,24 @@ each_heard {X} P f (i ∷ is) h =
     ] refl
 
 -- a statement that was there before
-before_is : (b : Bool) (i : ℕ) (o : Replica) (t : Statement) → IsSound o → cond b (get_or o.statements i None) None ≡ Some t → IsStatement o.cluster t
+before_is : (b : Bool) (i : ℕ) (o : Replica) (t : Statement) → IsSound o → cond b (get_or o.statements i None) None ≡ Some t → IsStatement (version o) o.cluster t
 before_is true i o t sound e = (sound.stated.each i t e).statement
 before_is false i o t sound e = absurd cc
 
 -- a statement that was heard
-heard_is : (e : Event) (o r : Replica) (i : ℕ) (t : Statement) → IsSound o → Hears e o r → IsEvent e → heard_from r.view e o i ≡ Some t → IsStatement o.cluster t
+heard_is : (e : Event) (o r : Replica) (i : ℕ) (t : Statement) → IsSound o → Hears e o r → IsEvent e → heard_from r.view e o i ≡ Some t → IsStatement (version o) o.cluster t
 heard_is e o r i t sound h came is =
-    elim (eqb i o.index) as (λ b. cond b (Some (statement_of o)) (or_else (brought i e) (cond (eqb o.view r.view) (get_or o.statements i None) None)) ≡ Some t → IsStatement o.cluster t) [
-      | true ↦ λ x. let same : statement_of o ≡ t = (let z : Some (statement_of o) ≡ Some t = x in cc) in subst (IsStatement o.cluster) same (own_statement o sound).statement
-      | false ↦ elim (brought i e) as (λ b. brought i e ≡ b → or_else b (cond (eqb o.view r.view) (get_or o.statements i None) None) ≡ Some t → IsStatement o.cluster t) [
+    elim (eqb i o.index) as (λ b. cond b (Some (statement_of o)) (or_else (brought i e) (cond (eqb o.view r.view) (get_or o.statements i None) None)) ≡ Some t → IsStatement (version o) o.cluster t) [
+      | true ↦ λ x. let same : statement_of o ≡ t = (let z : Some (statement_of o) ≡ Some t = x in cc) in subst (IsStatement (version o) o.cluster) same (own_statement o sound).statement
+      | false ↦ elim (brought i e) as (λ b. brought i e ≡ b → or_else b (cond (eqb o.view r.view) (get_or o.statements i None) None) ≡ Some t → IsStatement (version o) o.cluster t) [
         | Some s ↦ λ y x. h.group i t (y ∙ x) came
         | None ↦ λ y x. before_is (eqb o.view r.view) i o t sound x
       ] refl
     ] is
 
-all_are : (e : Event) (o r : Replica) → IsSound o → Hears e o r → IsEvent e → All (IsStatement o.cluster) (all_heard r.view e o)
+all_are : (e : Event) (o r : Replica) → IsSound o → Hears e o r → IsEvent e → All (IsStatement (version o) o.cluster) (all_heard r.view e o)
 unfolding all_heard
-all_are e o r sound h came = each_heard (IsStatement o.cluster) (heard_from r.view e o) (range_with_len 0 o.n) (λ i t is. heard_is e o r i t sound h came is)
+all_are e o r sound h came = each_heard (IsStatement (version o) o.cluster) (heard_from r.view e o) (range_with_len 0 o.n) (λ i t is. heard_is e o r i t sound h came is)
 
 decided_of : (o : Option Quorums) (ss : List Statement) (hs : List Header) → option_map_or (λ q. choice q ss) o TooFew ≡ Ends hs → (q : Quorums) × (o ≡ Some q) × (choice q ss ≡ Ends hs)
 decided_of None ss hs e = absurd cc
@@ -135,7 +135,7 @@ module _ {F : Type 0} (s : Setting F) (o : Replica) (f : F) (sound : IsSound o) 
   entered_or d false t = goes_itself o sound
 
   -- rule 25
-  try_stated : (d : DoViewChange) (x : Replica) (g : F) → GoesOn o x → d.replica < x.n → d.cluster ≡ o.cluster → PicksAt (IsChosenBy (event.Deliver (frame.DoViewChange d)) o) s x g (change (rules.with_statement d.replica d.statement) ⨾ words.try)
+  try_stated : (d : DoViewChange) (x : Replica) (g : F) → GoesOn o x → d.replica < x.n → IsFor d.version d.cluster o → PicksAt (IsChosenBy (event.Deliver (frame.DoViewChange d)) o) s x g (change (rules.with_statement d.replica d.statement) ⨾ words.try)
   unfolding change
   try_stated d x g h member of_group =
       let e = event.Deliver (frame.DoViewChange d) in
@@ -158,13 +158,13 @@ module _ {F : Type 0} (s : Setting F) (o : Replica) (f : F) (sound : IsSound o) 
             λ t. told_view,
             λ n2. (
               λ t.
-                  let from = and_parts (d.cluster == o.cluster) (nat_lt d.replica o.n && not (d.replica == o.index)) (not-false (is_from d.cluster d.replica o) n0) in
+                  let from = and_parts (is_for d.version d.cluster o) (nat_lt d.replica o.n && not (d.replica == o.index)) (not-false (is_from d.version d.cluster d.replica o) n0) in
                   let member = ltb-true d.replica o.n (and_parts (nat_lt d.replica o.n) (not (d.replica == o.index)) from.1).0 in
                   let first : Word F = by (λ r. cond (nat_lt r.view d.view) (words.enter d.view) quiet) in
                   let rest : Word F = change (rules.with_statement d.replica d.statement) ⨾ words.try in
                   let on : GoesOn o (first s o f).replica = entered_or d (nat_lt o.view d.view) refl in
                   at_then Q first rest s o f (plain Q (mute_by _ (λ r. mute_if (nat_lt r.view d.view) (words.enter d.view) quiet (still_enter d.view).mute mute_quiet)) s o f)
-                  (λ g. try_stated d (first s o f).replica g on (let m = on.n in omega arith) (eqb-true d.cluster o.cluster from.0)),
+                  (λ g. try_stated d (first s o f).replica g on (let m = on.n in omega arith) (for_of d.version d.cluster o from.0)),
               λ n3. idle,
             ),
           ),

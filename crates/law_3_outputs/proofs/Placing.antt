@@ -17,6 +17,7 @@ use Rattle.law_2_chains.proofs.FitGroups.{fresh_at, fresh_group_fits, groups_fit
 use Rattle.law_2_chains.proofs.InTwo.{opening_in_two}
 use Rattle.law_2_chains.proofs.SendsSteps.{steps_are_present}
 use Rattle.law_2_chains.proofs.SendsOpening.{openings_are_present}
+use Rattle.law_2_chains.proofs.Slots.{least_two}
 use Rattle.law_3_outputs.specs.Followed.{IsFitRun}
 use Rattle.law_3_outputs.proofs.Fitting.{good_value}
 
@@ -37,7 +38,7 @@ pub step_present : (r : Replica) (e : Event) (d : Lying) → IsPlaced r → IsPr
 step_present r e d h = steps_are_present lying d r e h
 
 pub opening_present : (c n i : ℕ) (m : Member) (v : SuperValue) (d : Lying) → group.MayOpen m v → IsFitMember c n i m → IsPresent (λ to view. ⊥) (blank v) (record { replica = (resumed v d).replica; script = opening_script v d })
-opening_present c n i m v d may fit = subst (IsPresent (λ to view. ⊥) (blank v)) (opening_in_two v d) (openings_are_present lying d v (good_value c n i m v fit may).0)
+opening_present c n i m v d may fit = subst (IsPresent (λ to view. ⊥) (blank v)) (opening_in_two v d) (let g = good_value c n i m v fit may in openings_are_present lying d v g.0 (least_two v g.0 g.1.version))
 
 module _ (g : Group) (at : ℕ) (placed : ArePlaced g) where
   -- one member runs on, or has stopped

@@ -18,6 +18,7 @@ use Rattle.law_2_chains.proofs.FitLies.{lies_fit}
 use Rattle.law_2_chains.proofs.FitSteps.{steps_fit}
 use Rattle.law_2_chains.proofs.FitWords.{reads_later}
 use Rattle.law_2_chains.proofs.SendsScripts.{outputs_append}
+use Rattle.law_2_chains.proofs.Slots.{least_two}
 use Rattle.law_1_machine.specs.Basics.{In}
 use Rattle.law_3_outputs.specs.Written.{IsWellRead, StepsReadGood}
 use Rattle.law_3_outputs.specs.Followed.{IsFitRun}
@@ -53,7 +54,7 @@ opening_reads c n i v d g k l j =
     elim (in_either (outputs xs) (outputs ys) (output.Commit l) (subst (λ (os : List Output). In (output.Commit l) os) (outputs_append xs ys) j)) [
       | inl a ↦ absurd (every_in IsOther (outputs xs) (output.Commit l) a ((quiet_mending v).every lying (blank v) d).said)
       | inr b ↦
-          let o = (resumed_order v d g.0 k).read l b in
+          let o = (resumed_order v d g.0 (least_two v g.0 g.1.version) k).read l b in
           let late = reads_later lying d xs k (fit_front xs ys fit) in
           let whole = late.entry o.first (fit_front o.first o.rest (subst (All IsFit) (sym o.are) (fit_back xs ys fit))) o.slot l.entry o.within o.reads in
           record { form = whole.entry.header; good = good_whole l.entry whole }

@@ -75,5 +75,5 @@ pub record Jumps (r : Replica) (x : Step) : Type 0 where
 -- checkpoint loaded anew.
 abbrev pub PutsWell : {F : Type 0} → List Whole → Setting F → Replica → F → Event → Type 0
 PutsWell log s r f e =
-    (g : GiveBlock) (name : Name) → e ≡ event.Deliver (frame.GiveBlock g) → is_frozen r ≡ false → is_from g.cluster g.replica r ≡ true → find (is_wanted s.is_block g) r.missing ≡ Some name
+    (g : GiveBlock) (name : Name) → e ≡ event.Deliver (frame.GiveBlock g) → is_frozen r ≡ false → is_from g.version g.cluster g.replica r ≡ true → find (is_wanted s.is_block g) r.missing ≡ Some name
     → HasState log (put_block name g.block s r f).replica

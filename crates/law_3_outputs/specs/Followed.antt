@@ -4,7 +4,7 @@ use Rattle.vr_base.specs.declared.kind.Kind.{Kind}
 use Rattle.std.specs.Prelude.{ℕ, suc, ◌^◌, ◌<◌, ◌≤◌, ◌≡◌, ◌⊎◌, ⊤, List, [], length, All, slice_get, Some}
 use Rattle.vr_base.specs.Bytes.{name_of}
 use Rattle.vr_header.specs.declared.header.Header.{Header}
-use Rattle.vr_header.specs.Bodies.{IsOperation, operation_bytes}
+use Rattle.vr_header.specs.Bodies.{operation_bytes}
 use Rattle.vr_header.specs.Made.{IsBodyOf, Whole}
 use Rattle.vr_header.specs.Names.{root_header}
 use Rattle.vr_header.specs.Spelling.{IsHeader}
@@ -22,7 +22,7 @@ use Rattle.vr_base.specs.Groups.{quorums_of}
 use Rattle.vr_base.specs.declared.table.Quorums.{Quorums}
 use Rattle.law_2_chains.specs.Group.{Played, Run, fresh_group, made_in}
 use Rattle.law_2_chains.specs.GroupFit.{IsFitMove}
-use Rattle.law_2_chains.specs.Replica.{Replica}
+use Rattle.law_2_chains.specs.Replica.{Replica, version}
 use Rattle.law_2_chains.specs.Words.{log_end}
 use Rattle.law_1_machine.specs.Basics.{In}
 use Rattle.law_1_machine.specs.Group.{Group, Made}
@@ -53,7 +53,6 @@ pub record IsSaidSo (u : Setup) (before after : List (Message Header)) (s : Sent
 pub record IsGoodEntry (e : Whole) : Type 0 where
   pub header : IsHeader e.header
   pub body : IsBodyOf e.header e.operation
-  pub operation : IsOperation e.operation
 
 -- a commit line is of an entry that is committed by what was sent before, and that was read or written in the run: its operation's bytes
 -- were hashed
@@ -69,7 +68,7 @@ pub record IsChoiceLine (u : Setup) (chosen : List (Choice Header)) (p : Played)
   pub event : Event
   pub by_event : event_of p.move ≡ Some event
   -- of the rules
-  pub statements : All (IsStatement u.cluster) (all_heard l.view event replica)
+  pub statements : All (IsStatement (version replica) u.cluster) (all_heard l.view event replica)
   pub sizes : Quorums
   pub sizes_are : quorums_of u.quorums.n ≡ Some sizes
   pub headers : List Header

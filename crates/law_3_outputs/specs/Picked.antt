@@ -9,15 +9,15 @@ use Rattle.vr_msg.specs.declared.output.Chosen.{Chosen}
 use Rattle.vr_msg.specs.Choice.{choice, top_commit, top_view}
 use Rattle.vr_msg.specs.Logs.{IsStatement}
 use Rattle.law_2_chains.specs.Laws.{IsEvent}
-use Rattle.law_2_chains.specs.Replica.{Replica}
+use Rattle.law_2_chains.specs.Replica.{Replica, version}
 use Rattle.law_2_chains.specs.Words.{log_end}
 use Rattle.law_2_chains.specs.Safe.{all_heard}
 
 -- of a replica before a step, and its event
 pub record IsChosenBy (e : Event) (r : Replica) (l : Chosen) : Type 0 where
   pub place : l.replica ≡ r.index
-  -- all that was heard is of logs of the group
-  pub statements : IsEvent e → All (IsStatement r.cluster) (all_heard l.view e r)
+  -- all that was heard is of logs of the group, of entries that its file takes
+  pub statements : IsEvent e → All (IsStatement (version r) r.cluster) (all_heard l.view e r)
   pub sizes : Quorums
   pub sizes_are : quorums_of r.n ≡ Some sizes
   pub headers : List Header

@@ -1,6 +1,6 @@
 -- The calls that write blocks.
-use Rattle.std.proofs.Common.{ℕ, zero, suc, ◌+◌, ◌*◌, ◌-◌, ◌/◌, ◌≤◌, ◌<◌, ◌≡◌, arith, refl, sym, ap, subst, true, false, cond, List, [], ◌∷◌, ◌++◌, length, Option, Some, None}
-use Rattle.std.specs.Prelude.{◌%◌, ◌==◌, replicate, slice_get, nat_eq}
+use Rattle.std.proofs.Common.{ℕ, zero, suc, ◌+◌, ◌*◌, ◌-◌, ◌≤◌, ◌<◌, ◌≡◌, ◌≢◌, inl, inr, arith, refl, sym, ap, subst, true, false, cond, List, [], ◌∷◌, ◌++◌, length, Option, Some, None}
+use Rattle.std.specs.Prelude.{replicate, slice_get, nat_eq}
 use Rattle.std.specs.Cmp.Lexicographic.{pointwise}
 use Rattle.std.specs.List.{AllByRecursion}
 use Rattle.std.proofs.lemmas.List.{length-append, length-replicate}
@@ -14,13 +14,15 @@ use Rattle.vr_header.specs.Spelling.{field_bytes, header_bytes, named_bytes}
 use Rattle.vr_ckpt.specs.Blocks.{Content, block_bytes, block_header, block_name, block_of, named}
 use Rattle.vr_ckpt.specs.Grid.{block_calls, put_calls}
 use Rattle.vr_ckpt.specs.declared.block.Block.{Block}
-use Rattle.vr_ckpt.specs.StateTexts.{payloads}
+use Rattle.vr_ckpt.specs.StateTexts.{key_payloads, payloads, session_payloads}
 use Rattle.vr_ckpt.specs.Texts.{Texts}
-use Rattle.vr_ckpt.specs.Places.{first_place, other_place, root_place}
+use Rattle.vr_ckpt.specs.Places.{IsLower, first_place, grid_size, keys_places, other_place, place_of, root_place, sessions_places}
+use Rattle.vr_ckpt.specs.declared.places.Places.{Places}
 use Rattle.vr_ckpt.specs.Saves.{PayloadBlocks, blocks_calls, blocks_from, changed, data_content, goes_to, keys_run, names_bytes, payload_blocks, payload_blocks_at, payload_at, payloads_from, root_of, root_payload, save_calls, sessions_run, stays, table_of, written}
 use Rattle.vr_ckpt.specs.declared.plan.Run.{Run}
 use Rattle.vr_ckpt.specs.declared.table.Payload.{Payload}
 use Rattle.vr_ckpt.specs.declared.table.PayloadTable.{PayloadTable}
+use Rattle.vr_ckpt.proofs.Placing.{AtPlace, at_within, block_inside, first_at, key_above, key_lower, other_at, root_at_place, root_lower, session_above, session_lower, twin_below, twin_later}
 use Rattle.vr_ckpt.proofs.Planning.{payload_short}
 use Rattle.vr_world.specs.Sound.{IsNameBytes}
 use Rattle.law_4_disks.specs.Stocks.{IsNamed}
@@ -66,18 +68,18 @@ block_long c l =
     let e = header_long c in
     omega (arith, a, b, d, e, l)
 
-calls_of_block : (address : ℕ) (bytes : List ℕ) → address < 128 → IsBytes bytes → length bytes ≡ 4096 → AreCalls (block_calls address bytes)
+calls_of_block : (address : ℕ) (bytes : List ℕ) → address < grid_size → IsBytes bytes → length bytes ≡ 4096 → AreCalls (block_calls address bytes)
 unfolding block_calls
-calls_of_block address bytes l are size = writes_are 8 (block_place address) bytes are (omega (arith, size)) (omega (arith, l))
+calls_of_block address bytes l are size = writes_are 8 (block_place address) bytes are (omega (arith, size)) (block_inside address l)
 
-pub put_are : (address : ℕ) (bytes : List ℕ) → address < 128 → IsBytes bytes → length bytes ≡ 4096 → AreCalls (put_calls address bytes)
+pub put_are : (address : ℕ) (bytes : List ℕ) → address < grid_size → IsBytes bytes → length bytes ≡ 4096 → AreCalls (put_calls address bytes)
 unfolding put_calls
 put_are address bytes l are size = calls_append (block_calls address bytes) (Sync ∷ []) (calls_of_block address bytes l are size) (tt, tt)
 
 abbrev GoodBlock : Block → Type 0
 GoodBlock b = AreCalls (block_calls b.name.address b.bytes)
 
-content_good : (c : Content) → c.address < 128 → c.kind < 256 → IsBytes c.payload → length c.payload ≤ 3968 → GoodBlock (block_of c)
+content_good : (c : Content) → c.address < grid_size → c.kind < 256 → IsBytes c.payload → length c.payload ≤ 3968 → GoodBlock (block_of c)
 unfolding block_of
 content_good c l k p s = calls_of_block c.address (block_bytes c) l (block_are c k p) (block_long c s)
 
@@ -100,24 +102,35 @@ record Made (p : PayloadBlocks) : Type 0 where
 name_made : (c : Content) → IsNameBytes (block_name c).sum.0
 name_made c = (length-name_of (named_bytes (block_header c)), IsBytes-name_of (named_bytes (block_header c)))
 
-goes_made : (r : Run) (address : ℕ) (bytes : List ℕ) → 0 < address → address < 128 → IsBytes bytes → length bytes ≤ 3968 → Made (goes_to r address bytes)
+goes_made : (r : Run) (address : ℕ) (bytes : List ℕ) → 0 < address → address < grid_size → IsBytes bytes → length bytes ≤ 3968 → Made (goes_to r address bytes)
 unfolding goes_to data_content
 goes_made r address bytes some l are s = record { blocks = (content_good (data_content r address bytes) l (omega arith) are s, tt); payload = record { sum = name_made (data_content r address bytes); some = some; few = l } }
 
-place_first : (op low : ℕ) → 0 < low → low < 64 → (0 < first_place op low) × (first_place op low < 128)
-place_first op low a l = elim ((op / 32) % 2 == 0) as (λ t. (0 < cond t low (low + 64)) × (cond t low (low + 64) < 128)) [ true ↦ (a, omega (arith, l)) | false ↦ (omega arith, omega (arith, l)) ]
+-- a place of a payload is an address behind the root's first
+pub placed : (low address : ℕ) → IsLower low → low ≢ 0 → AtPlace low address → (0 < address) × (address < grid_size)
+placed low address l some at =
+    let few = at_within low address l at in (
+      elim at [
+        | inl e ↦ omega (arith, e, some)
+        | inr e ↦ elim l [
+          | inl a ↦ let t = twin_below low (omega (arith, a)) in omega (arith, e, t, some)
+          | inr b ↦ let least = b.0 in let t = twin_later low least in omega (arith, e, t, some)
+        ]
+      ],
+      few,
+    )
 
-place_other : (low address : ℕ) → 0 < low → low < 64 → (0 < other_place low address) × (other_place low address < 128)
-place_other low address a l = elim (address == low) as (λ t. (0 < cond t (low + 64) low) × (cond t (low + 64) low < 128)) [ true ↦ (omega arith, omega (arith, l)) | false ↦ (a, omega (arith, l)) ]
-
-part_made : (r : Run) (i : ℕ) (bytes : List ℕ) (o : Option Payload) → 0 < r.low → r.low + i < 64 → IsBytes bytes → length bytes ≤ 3968 → ((p : Payload) → o ≡ Some p → IsNamed p) → Made (payload_blocks r i bytes o)
+part_made : (r : Run) (i : ℕ) (bytes : List ℕ) (o : Option Payload) → IsLower (place_of r.places i) → place_of r.places i ≢ 0 → IsBytes bytes → length bytes ≤ 3968 → ((p : Payload) → o ≡ Some p → IsNamed p) → Made (payload_blocks r i bytes o)
 unfolding payload_blocks
 part_made r i bytes None a l are s old =
-    let w = place_first r.op (r.low + i) (omega (arith, a)) l in goes_made r (first_place r.op (r.low + i)) bytes w.0 w.1 are s
+    let low = place_of r.places i in
+    let w = placed low (first_place r.op low) a l (first_at r.op low) in goes_made r (first_place r.op low) bytes w.0 w.1 are s
 part_made r i bytes (Some p) a l are s old =
-    elim (pointwise nat_eq p.bytes bytes) as (λ t. Made (cond t (stays p) (goes_to r (other_place (r.low + i) p.name.address) bytes))) [
+    elim (pointwise nat_eq p.bytes bytes) as (λ t. Made (cond t (stays p) (goes_to r (other_place (place_of r.places i) p.name.address) bytes))) [
       | true ↦ record { blocks = tt; payload = old p refl }
-      | false ↦ (let w = place_other (r.low + i) p.name.address (omega (arith, a)) l in goes_made r (other_place (r.low + i) p.name.address) bytes w.0 w.1 are s)
+      | false ↦
+          let low = place_of r.places i in
+          let w = placed low (other_place low p.name.address) a l (other_at low p.name.address) in goes_made r (other_place low p.name.address) bytes w.0 w.1 are s
     ]
 
 old_named : (ps : List Payload) (i : ℕ) (p : Payload) → AllByRecursion IsNamed ps → slice_get ps i ≡ Some p → IsNamed p
@@ -129,19 +142,37 @@ piece_are : (text : List ℕ) (i : ℕ) → IsBytes text → IsBytes (payload_at
 unfolding payload_at
 piece_are text i are = IsBytes-piece (3968 * i) 3968 text are
 
-made_at : (r : Run) (text : List ℕ) (old : List Payload) (i : ℕ) → 0 < r.low → r.low + i < 64 → IsBytes text → AllByRecursion IsNamed old → Made (payload_blocks_at r text old i)
+made_at : (r : Run) (text : List ℕ) (old : List Payload) (i : ℕ) → IsLower (place_of r.places i) → place_of r.places i ≢ 0 → IsBytes text → AllByRecursion IsNamed old → Made (payload_blocks_at r text old i)
 made_at r text old i a l are named = part_made r i (payload_at text i) (slice_get old i) a l (piece_are text i are) (payload_short text i) (λ p e. old_named old i p named e)
 
-blocks_good : (n i : ℕ) (r : Run) (text : List ℕ) (old : List Payload) → 0 < r.low → r.low + (i + n) ≤ 64 → IsBytes text → AllByRecursion IsNamed old → AllByRecursion GoodBlock (blocks_from r text old i n)
-unfolding blocks_from
-blocks_good zero i r text old a l are named = tt
-blocks_good (suc n) i r text old a l are named =
-    goods_append (payload_blocks_at r text old i).blocks (blocks_from r text old (i + 1) n) (made_at r text old i a (omega (arith, l)) are named).blocks (blocks_good n (i + 1) r text old a (omega (arith, l)) are named)
+-- the lower places of so many payloads, none of which is the root's
+abbrev pub Lowers : Places → ℕ → Type 0
+Lowers p n = (i : ℕ) → i < n → IsLower (place_of p i) × (place_of p i ≢ 0)
 
-names_good : (n i : ℕ) (r : Run) (text : List ℕ) (old : List Payload) → 0 < r.low → r.low + (i + n) ≤ 64 → IsBytes text → AllByRecursion IsNamed old → AllByRecursion IsNamed (payloads_from r text old i n)
+pub fewer_lowers : (p : Places) (n m : ℕ) → n ≤ m → Lowers p m → Lowers p n
+fewer_lowers p n m l h i k = h i (omega (arith, l, k))
+
+-- those of a text from its first payload on
+pub session_lowers : (n : ℕ) → n ≤ session_payloads → Lowers sessions_places (0 + n)
+session_lowers n l i k = (session_lower i (omega (arith, l, k)), session_above i)
+
+pub key_lowers : (n : ℕ) → n ≤ key_payloads → Lowers keys_places (0 + n)
+key_lowers n l i k = (key_lower i (omega (arith, l, k)), key_above i)
+
+blocks_good : (n i : ℕ) (r : Run) (text : List ℕ) (old : List Payload) → Lowers r.places (i + n) → IsBytes text → AllByRecursion IsNamed old → AllByRecursion GoodBlock (blocks_from r text old i n)
+unfolding blocks_from
+blocks_good zero i r text old l are named = tt
+blocks_good (suc n) i r text old l are named =
+    let here = l i (omega arith) in
+    goods_append (payload_blocks_at r text old i).blocks (blocks_from r text old (i + 1) n) (made_at r text old i here.0 here.1 are named).blocks
+    (blocks_good n (i + 1) r text old (fewer_lowers r.places (i + 1 + n) (i + suc n) (omega arith) l) are named)
+
+names_good : (n i : ℕ) (r : Run) (text : List ℕ) (old : List Payload) → Lowers r.places (i + n) → IsBytes text → AllByRecursion IsNamed old → AllByRecursion IsNamed (payloads_from r text old i n)
 unfolding payloads_from
-names_good zero i r text old a l are named = tt
-names_good (suc n) i r text old a l are named = ((made_at r text old i a (omega (arith, l)) are named).payload, names_good n (i + 1) r text old a (omega (arith, l)) are named)
+names_good zero i r text old l are named = tt
+names_good (suc n) i r text old l are named =
+    let here = l i (omega arith) in
+    ((made_at r text old i here.0 here.1 are named).payload, names_good n (i + 1) r text old (fewer_lowers r.places (i + 1 + n) (i + suc n) (omega arith) l) are named)
 
 length_payloads : (n i : ℕ) (r : Run) (text : List ℕ) (old : List Payload) → length (payloads_from r text old i n) ≡ n
 unfolding payloads_from
@@ -153,8 +184,8 @@ length_payloads (suc n) i r text old = ap suc (length_payloads n (i + 1) r text 
 pub record Texted (texts : Texts) (old : PayloadTable) : Type 0 where
   pub sessions : IsBytes texts.sessions
   pub keys : IsBytes texts.keys
-  pub few_sessions : payloads (length texts.sessions) ≤ 9
-  pub few_keys : payloads (length texts.keys) ≤ 36
+  pub few_sessions : payloads (length texts.sessions) ≤ session_payloads
+  pub few_keys : payloads (length texts.keys) ≤ key_payloads
   pub old_sessions : AllByRecursion IsNamed old.sessions
   pub old_keys : AllByRecursion IsNamed old.keys
 
@@ -165,11 +196,11 @@ pub record TableNamed (t : PayloadTable) : Type 0 where
 pub table_named : (cluster : ℕ) (texts : Texts) (op : ℕ) (old : PayloadTable) → Texted texts old → TableNamed (table_of cluster texts op old)
 unfolding table_of
 table_named cluster texts op old t =
-    let a = t.few_sessions in
-    let b = t.few_keys in
+    let s = payloads (length texts.sessions) in
+    let k = payloads (length texts.keys) in
     record {
-      sessions = names_good (payloads (length texts.sessions)) 0 (sessions_run cluster op) texts.sessions old.sessions (omega arith) (omega (arith, a)) t.sessions t.old_sessions;
-      keys = names_good (payloads (length texts.keys)) 0 (keys_run cluster op) texts.keys old.keys (omega arith) (omega (arith, b)) t.keys t.old_keys;
+      sessions = names_good s 0 (sessions_run cluster op) texts.sessions old.sessions (session_lowers s t.few_sessions) t.sessions t.old_sessions;
+      keys = names_good k 0 (keys_run cluster op) texts.keys old.keys (key_lowers k t.few_keys) t.keys t.old_keys;
     }
 
 names_are : (ps : List Payload) → AllByRecursion IsNamed ps → IsBytes (names_bytes ps)
@@ -217,33 +248,33 @@ root_long op s k t n =
     let v = names_long t.keys n.keys in
     omega (arith, a, b, c, d, e, x, y, z, w, u, v)
 
-place_root : (op : ℕ) → root_place op < 128
-place_root op = omega arith
+place_root : (op : ℕ) → root_place op < grid_size
+place_root op = at_within 0 (root_place op) root_lower (root_at_place op)
 
-root_good : (cluster : ℕ) (texts : Texts) (op : ℕ) (t : PayloadTable) → TableNamed t → length t.sessions ≤ 9 → length t.keys ≤ 36 → GoodBlock (block_of (root_of cluster texts op t))
+root_good : (cluster : ℕ) (texts : Texts) (op : ℕ) (t : PayloadTable) → TableNamed t → length t.sessions ≤ session_payloads → length t.keys ≤ key_payloads → GoodBlock (block_of (root_of cluster texts op t))
 unfolding root_of
 root_good cluster texts op t n a b =
     let size = root_long op (length texts.sessions) (length texts.keys) t n in
     content_good (root_of cluster texts op t) (place_root op) (omega arith) (root_are op (length texts.sessions) (length texts.keys) t n) (omega (arith, size, a, b))
 
-pub table_few : (cluster : ℕ) (texts : Texts) (op : ℕ) (old : PayloadTable) → Texted texts old → (length (table_of cluster texts op old).sessions ≤ 9) × (length (table_of cluster texts op old).keys ≤ 36)
+pub table_few : (cluster : ℕ) (texts : Texts) (op : ℕ) (old : PayloadTable) → Texted texts old → (length (table_of cluster texts op old).sessions ≤ session_payloads) × (length (table_of cluster texts op old).keys ≤ key_payloads)
 unfolding table_of
 table_few cluster texts op old t =
     let x = length_payloads (payloads (length texts.sessions)) 0 (sessions_run cluster op) texts.sessions old.sessions in
     let y = length_payloads (payloads (length texts.keys)) 0 (keys_run cluster op) texts.keys old.keys in
-    (subst (λ (n : ℕ). n ≤ 9) (sym x) t.few_sessions, subst (λ (n : ℕ). n ≤ 36) (sym y) t.few_keys)
+    (subst (λ (n : ℕ). n ≤ session_payloads) (sym x) t.few_sessions, subst (λ (n : ℕ). n ≤ key_payloads) (sym y) t.few_keys)
 
 pub save_state_are : (cluster : ℕ) (texts : Texts) (op : ℕ) (old : PayloadTable) → Texted texts old → AreCalls (save_calls cluster texts op old)
 unfolding save_calls written
 save_state_are cluster texts op old t =
     let table = table_of cluster texts op old in
     let few = table_few cluster texts op old t in
-    let a = t.few_sessions in
-    let b = t.few_keys in
+    let n = payloads (length texts.sessions) in
+    let m = payloads (length texts.keys) in
     let s = changed (sessions_run cluster op) texts.sessions old.sessions in
     let k = changed (keys_run cluster op) texts.keys old.keys in
     let root = block_of (root_of cluster texts op table) in
     let good : AllByRecursion GoodBlock (s ++ (k ++ root ∷ [])) =
-    goods_append s (k ++ root ∷ []) (blocks_good (payloads (length texts.sessions)) 0 (sessions_run cluster op) texts.sessions old.sessions (omega arith) (omega (arith, a)) t.sessions t.old_sessions)
-    (goods_append k (root ∷ []) (blocks_good (payloads (length texts.keys)) 0 (keys_run cluster op) texts.keys old.keys (omega arith) (omega (arith, b)) t.keys t.old_keys) (root_good cluster texts op table (table_named cluster texts op old t) few.0 few.1, tt)) in
+    goods_append s (k ++ root ∷ []) (blocks_good n 0 (sessions_run cluster op) texts.sessions old.sessions (session_lowers n t.few_sessions) t.sessions t.old_sessions)
+    (goods_append k (root ∷ []) (blocks_good m 0 (keys_run cluster op) texts.keys old.keys (key_lowers m t.few_keys) t.keys t.old_keys) (root_good cluster texts op table (table_named cluster texts op old t) few.0 few.1, tt)) in
     calls_append (blocks_calls (s ++ (k ++ root ∷ []))) (Sync ∷ []) (good_calls (s ++ (k ++ root ∷ [])) good) (tt, tt)

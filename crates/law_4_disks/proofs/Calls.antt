@@ -9,7 +9,8 @@ use Rattle.vr_base.proofs.AreBytes.{AllBytes, IsBytes-append, IsBytes-bytes16, I
 use Rattle.vr_disk.specs.DiskState.{Call, Write, Sync, Face, IsContent}
 use Rattle.vr_disk.specs.Sectors.{has, writes}
 use Rattle.vr_disk.specs.Stops.{IsCall}
-use Rattle.vr_disk.specs.Regions.{header_place, prepare_place}
+use Rattle.vr_disk.specs.Regions.{header_place, prepare_place, prepare_sectors, sectors}
+use Rattle.vr_disk.proofs.Places.{counted, inside}
 use Rattle.vr_header.specs.declared.header.Header.{Header}
 use Rattle.vr_header.specs.Made.{Whole, entry_bytes}
 use Rattle.vr_header.specs.Spelling.{IsHeader, header_bytes}
@@ -38,12 +39,13 @@ calls_append (c ∷ cs) ds a b = (a.0, calls_append cs ds a.1 b)
 bytes_drop : (n : ℕ) (b : List ℕ) → IsBytes b → IsBytes (drop n b)
 bytes_drop n b are i = rw (get_or-drop n b i 0) (are (n + i))
 
-pub writes_are : (n i : ℕ) (b : List ℕ) → IsBytes b → length b ≡ 512 * n → i + n ≤ 1424 → AreCalls (writes i n b)
+-- as many sectors as there are bytes for
+pub writes_are : (n i : ℕ) (b : List ℕ) → IsBytes b → 512 * n ≤ length b → i + n ≤ sectors → AreCalls (writes i n b)
 unfolding writes
 writes_are zero i b are size l = tt
 writes_are (suc n) i b are size l =
     let first : IsContent (piece 0 512 b) = record { size = length-piece 0 512 b (omega (arith, size)); each = IsBytes-piece 0 512 b are } in
-    let rest : length (drop 512 b) ≡ 512 * n = let d = length-drop 512 b in omega (arith, d, size) in
+    let rest : 512 * n ≤ length (drop 512 b) = let d = length-drop 512 b in omega (arith, d, size) in
     ((omega (arith, l), first), writes_are n (i + 1) (drop 512 b) (bytes_drop 512 b are) rest (omega (arith, l)))
 
 -- ---- slots
@@ -54,24 +56,26 @@ sector_content h is = record { size = length-sector h is; each = IsBytes-append 
 
 pub prepare_are : (e : Whole) → IsWhole e → IsBytes (prepare_bytes e)
 unfolding prepare_bytes
-prepare_are e w = IsBytes-append (entry_bytes e) (replicate (2048 - length (entry_bytes e)) 0) (entry_bytes-are e w.header w.operation) (IsBytes-zeros (2048 - length (entry_bytes e)))
+prepare_are e w = IsBytes-append (entry_bytes e) (replicate (4096 - length (entry_bytes e)) 0) (entry_bytes-are e w.header w.entry.body.fits) (IsBytes-zeros (4096 - length (entry_bytes e)))
 
 pub header_are : (h : Header) → IsHeader h → AreCalls (header_calls h)
 unfolding header_calls
 header_are h is = ((omega arith, sector_content h is), (tt, tt))
 
-prepares_are : (e : Whole) → IsWhole e → AreCalls (prepare_calls e)
+prepares_are : (ver : ℕ) (e : Whole) → IsWhole e → AreCalls (prepare_calls ver e)
 unfolding prepare_calls
-prepares_are e w =
-    let at = prepare_place (slot_of e.header) in
+prepares_are ver e w =
+    let at = prepare_place ver (slot_of e.header) in
+    let n = prepare_sectors ver in
     let size = length-prepare e w in
-    calls_append (writes at 4 (prepare_bytes e)) (Sync ∷ []) (writes_are 4 at (prepare_bytes e) (prepare_are e w) (omega (arith, size)) (omega arith)) (tt, tt)
+    let few = (counted ver).1 in
+    calls_append (writes at n (prepare_bytes e)) (Sync ∷ []) (writes_are n at (prepare_bytes e) (prepare_are e w) (omega (arith, size, few)) (inside ver (slot_of e.header) (omega arith))) (tt, tt)
 
-pub new_are : (e : Whole) → IsWhole e → AreCalls (new_calls e)
-new_are e w = calls_append (prepare_calls e) (header_calls e.header) (prepares_are e w) (header_are e.header w.header)
+pub new_are : (ver : ℕ) (e : Whole) → IsWhole e → AreCalls (new_calls ver e)
+new_are ver e w = calls_append (prepare_calls ver e) (header_calls e.header) (prepares_are ver e w) (header_are e.header w.header)
 
-pub again_are : (e : Whole) → IsWhole e → AreCalls (again_calls e)
-again_are e w = calls_append (header_calls e.header) (prepare_calls e) (header_are e.header w.header) (prepares_are e w)
+pub again_are : (ver : ℕ) (e : Whole) → IsWhole e → AreCalls (again_calls ver e)
+again_are ver e w = calls_append (header_calls e.header) (prepare_calls ver e) (header_are e.header w.header) (prepares_are ver e w)
 
 -- ---- the superblock
 
@@ -97,7 +101,7 @@ front_are v f =
     let x = v.fields in
     let all : AllBytes (field_bytes x (length v.headers)) = (
       IsBytes-bytes64 x.sequence,
-      (IsBytes-bytes64 x.cluster, (IsBytes-bytes32 x.view, (IsBytes-bytes32 x.log_view, (IsBytes-bytes64 x.checkpoint, (IsBytes-bytes64 x.root_address, (f.root_name_bytes, (IsBytes-bytes64 x.commit, (IsBytes-bytes64 x.head, (IsBytes-bytes16 (length v.headers), (one x.replica f.replica, (one x.n f.n, (one 1 (omega arith), (mode_is x.mode, (zeros_are 34, tt)))))))))))))),
+      (IsBytes-bytes64 x.cluster, (IsBytes-bytes32 x.view, (IsBytes-bytes32 x.log_view, (IsBytes-bytes64 x.checkpoint, (IsBytes-bytes64 x.root_address, (f.root_name_bytes, (IsBytes-bytes64 x.commit, (IsBytes-bytes64 x.head, (IsBytes-bytes16 (length v.headers), (one x.replica f.replica, (one x.n f.n, (one x.version (let few = f.version.1 in omega (arith, few)), (mode_is x.mode, (zeros_are 34, tt)))))))))))))),
     ) in
     IsBytes-joined (field_bytes x (length v.headers)) all
 
@@ -144,7 +148,7 @@ save_are old new f g h = calls_append (mend_calls old f) (save_from 0 4 (copy_by
 pub zero_content : IsContent zero_sector
 zero_content = record { size = length-replicate {A = ℕ} 512 0; each = IsBytes-zeros 512 }
 
-zeros_written : (n i : ℕ) → i + n ≤ 1424 → AreCalls (map (λ k. Write k zero_sector) (range_with_len i n))
+zeros_written : (n i : ℕ) → i + n ≤ sectors → AreCalls (map (λ k. Write k zero_sector) (range_with_len i n))
 zeros_written zero i l = tt
 zeros_written (suc n) i l = ((omega (arith, l), zero_content), zeros_written n (i + 1) (omega (arith, l)))
 
@@ -164,6 +168,7 @@ reserved_is home slot room l = record {
   commit = omega arith;
   size = omega arith;
   replica = omega arith;
+  version = (omega arith, omega arith);
   kind = omega arith;
   aux = omega arith;
 }
@@ -176,5 +181,5 @@ pub format_are : (kind : Kind) (home n i : ℕ) → home < 2 ^ 64 → IsGood (fi
 unfolding format_calls
 format_are kind home n i room g =
     let v = first_value kind home n i in
-    calls_append zero_prepares (reserved_headers home ++ Sync ∷ save_from 0 4 (copy_bytes v)) (zeros_written 256 144 (omega arith))
+    calls_append zero_prepares (reserved_headers home ++ Sync ∷ save_from 0 4 (copy_bytes v)) (zeros_written (64 * prepare_sectors 1) (prepare_place 1 0) (omega arith))
     (calls_append (reserved_headers home) (Sync ∷ save_from 0 4 (copy_bytes v)) (reserved_written home 64 0 room (omega arith)) (tt, saves_are 4 0 (copy_bytes v) (omega arith) (copy_are v g) (length-copy_bytes v g)))

@@ -1,5 +1,5 @@
 -- What a step saves follows what was saved before it, and the replica knows it.
-use Rattle.std.proofs.Common.{ℕ, zero, suc, ◌≡◌, refl, sym, subst, Bool, true, false, cond, List, [], ◌∷◌, ◌++◌, map, Option, Some, None, Result, Ok, Err}
+use Rattle.std.proofs.Common.{ℕ, zero, suc, ◌≡◌, refl, sym, ap, ◌∙◌, subst, Bool, true, false, cond, List, [], ◌∷◌, ◌++◌, map, Option, Some, None}
 use Rattle.std.specs.Prelude.{nat_lt, not}
 use Rattle.vr_header.specs.declared.header.Header.{Header}
 use Rattle.vr_header.specs.declared.part.Part.{Part}
@@ -13,17 +13,17 @@ use Rattle.vr_msg.specs.declared.output.Output.{Output}
 use Rattle.vr_msg.specs.declared.statement.Statement.{Statement}
 use Rattle.vr_ckpt.specs.StateTexts.{state_decoded}
 use Rattle.vr_ckpt.specs.State.{State}
-use Rattle.vr_ckpt.specs.StateFault.{StateFault}
 use Rattle.vr_lie.specs.Copies.{SuperValue}
+use Rattle.vr_lie.specs.Opens.{file_kind}
 use Rattle.vr_ckpt.specs.declared.name.Name.{Name}
 use Rattle.vr_ckpt.specs.declared.found.Load.{Load}
 use Rattle.vr_ckpt.specs.declared.found.Load.TheVariants.{Loaded, Missing}
 use Rattle.vr_ckpt.specs.declared.saving.SavedCheckpoint as checkpoint
 use Rattle.vr_ckpt.specs.declared.table.PayloadTable.{PayloadTable}
-use Rattle.vr_world.specs.Replica.{Replica, forgetting, is_here, leads, part_at, with_part, is_primary, last_view}
+use Rattle.vr_world.specs.Replica.{Replica, version, forgetting, is_here, leads, part_at, with_part, is_primary, last_view}
 use Rattle.vr_world.specs.Steps.{Effect, Write, Rewrite, Save, Mend, Checkpoint, PutBlock, Say, Setting, Word, ◌⨾◌, quiet, change, does, says, by, naming, reading, when, times, each, after_all}
 use Rattle.vr_world.specs.Outputs.{applied_reply, commit_line, send_to_all, start_line, start_view_change, wait_line, to_primary, do_view_change}
-use Rattle.vr_world.specs.Words.{Log, accept, advance, advanced, apply, apply_entry, apply_next, applied, ask, ask_for, ask_peer, begin_view, checkpoint_of, checkpoints, chosen_log, choose_line, decided, enter, entered, entry_of, is_checkpoint, learn, learned, load, loaded_state, loads, lost, make_checkpoint, obey_choice, or_lost, prepare_again, resend, rested, save, speak, stated, stored, take, taken, try, try_log, turned, value_of, with_checkpoint, with_entry, with_entry_at, with_state, write, jump, jumped, mend_header, visit, visit_block, visit_place, visit_read, visit_slot, with_worn}
+use Rattle.vr_world.specs.Words.{Log, accept, advance, advanced, apply, apply_entry, apply_next, applied, ask, ask_for, ask_peer, begin_view, checkpoint_of, checkpoints, chosen_log, choose_line, decided, enter, entered, entry_of, is_checkpoint, learn, learned, load, loaded_state, loads, lost, make_checkpoint, obey_choice, or_lost, prepare_again, resend, rested, save, speak, stated, stored, take, taken, try, try_log, turned, value_of, with_checkpoint, with_entry, with_entry_at, with_state, write, jump, jumped, mend_header, visit, visit_block, visit_place, visit_read, visit_slot, with_worn, usable}
 use Rattle.vr_world.specs.Opening.{announce, heard_itself, in_next_view, leave_view, resuming}
 use Rattle.law_4_disks.specs.Chains.{Chain}
 
@@ -39,6 +39,17 @@ chain_both (Mend m ∷ es) b u v w x y = (x.0, chain_both es b u v w x.1 y)
 chain_both (Checkpoint c t o k ∷ es) b u v w x y = chain_both es b u v w x y
 chain_both (PutBlock n k ∷ es) b u v w x y = chain_both es b u v w x y
 chain_both (Say o ∷ es) b u v w x y = chain_both es b u v w x y
+
+-- the kind of its file stays
+pub chain_kind : (es : List Effect) (v u : SuperValue) → Chain v es u → file_kind u.fields ≡ file_kind v.fields
+chain_kind [] v u c = ap (λ (x : SuperValue). file_kind x.fields) (sym c)
+chain_kind (Write again e ∷ es) v u c = chain_kind es v u c
+chain_kind (Rewrite h ∷ es) v u c = chain_kind es v u c
+chain_kind (Save old new ∷ es) v u c = chain_kind es new u c.2 ∙ (c.1 ∙ ap (λ (x : SuperValue). file_kind x.fields) c.0)
+chain_kind (Mend x ∷ es) v u c = chain_kind es v u c.1
+chain_kind (Checkpoint k t o b ∷ es) v u c = chain_kind es v u c
+chain_kind (PutBlock n b ∷ es) v u c = chain_kind es v u c
+chain_kind (Say o ∷ es) v u c = chain_kind es v u c
 
 said_chain : (os : List Output) (v : SuperValue) → Chain v (map Say os) v
 said_chain [] v = refl
@@ -68,13 +79,13 @@ pub jumped_saved : (v : SyncView) (r : Replica) → (jumped v r).saved ≡ r.sav
 unfolding jumped forgetting
 jumped_saved v r = refl
 
-state_saved : (root : Name) (t : PayloadTable) (x : Result State StateFault) (r : Replica) → (loaded_state root t x r).saved ≡ r.saved
+state_saved : (root : Name) (t : PayloadTable) (x : Option State) (r : Replica) → (loaded_state root t x r).saved ≡ r.saved
 unfolding with_state
-state_saved root t (Ok s) r = refl
-state_saved root t (Err e) r = refl
+state_saved root t (Some s) r = refl
+state_saved root t None r = refl
 
 pub loads_saved : (root : Name) (l : Load) (r : Replica) → (loads root l r).saved ≡ r.saved
-loads_saved root (Loaded texts table) r = state_saved root table (state_decoded texts) r
+loads_saved root (Loaded texts table) r = state_saved root table (usable (version r) (state_decoded texts)) r
 loads_saved root (Missing names) r = refl
 
 module _ {F : Type 0} where

@@ -1,8 +1,9 @@
 -- Each effect keeps the disk beside the member, carried out and cut.
-use Rattle.std.proofs.Common.{ℕ, ◌<◌, ◌≡◌, ◌≢◌, inl, inr, arith, refl, sym, ap, ◌∙◌, subst, Bool, true, false, cond, List, [], ◌∷◌, ◌++◌, length, get_or, set, Option, Some, None, length-set, get_or-set_other, get_or-set_same}
+use Rattle.std.proofs.Common.{ℕ, ◌≤◌, ◌<◌, ◌≡◌, ◌≢◌, inl, inr, arith, refl, sym, ap, ◌∙◌, subst, Bool, true, false, cond, List, [], ◌∷◌, ◌++◌, length, get_or, set, Option, Some, None, length-set, get_or-set_other, get_or-set_same}
 use Rattle.std.specs.List.{AllByRecursion}
 use Rattle.std.proofs.lemmas.Bool.{cases_eq}
 use Rattle.std.proofs.lemmas.List.FromFn.{get_or-map-range_with_len}
+use Rattle.vr_base.specs.declared.kind.Kind.{Kind}
 use Rattle.vr_base.specs.declared.mode.Mode.{Mode}
 use Rattle.vr_disk.specs.DiskState.{Call, Disk, Face, Sync, after_all, cut, nothing_beside}
 use Rattle.vr_disk.specs.Stops.{IsCall}
@@ -14,6 +15,7 @@ use Rattle.vr_header.specs.Made.{Whole}
 use Rattle.vr_header.specs.Same.{same_header}
 use Rattle.vr_header.proofs.SameHeaders.{same_header_is}
 use Rattle.vr_lie.specs.Copies.{SuperValue}
+use Rattle.vr_lie.specs.Opens.{file_kind}
 use Rattle.vr_lie.specs.Calls.{mend_calls, write_calls}
 use Rattle.vr_lie.proofs.Keeping.{mend_law, write_law}
 use Rattle.vr_lie.specs.Held.{Stands, held_after_all, held_cut}
@@ -38,25 +40,25 @@ pub calm_after : {mode : Mode} (cs : List Call) (d : Lying) → IsCalm mode d �
 calm_after {mode} cs d c k r = record {
   face = face_after_all cs d.face c.face k;
   rests = r;
-  stand = record { each = λ slot l. subst (Stands mode (after_all d.face cs) slot) (sym (at_slot (λ slot. held_after_all d.face cs slot (held_at d.held slot)) slot l)) (calls_stand cs d.face slot (held_at d.held slot) l c.face.count (c.stand.each slot l)) };
+  stand = record { each = λ slot l. subst (Stands 1 mode (after_all d.face cs) slot) (sym (at_slot (λ slot. held_after_all 1 d.face cs slot (held_at d.held slot)) slot l)) (calls_stand 1 cs d.face slot (held_at d.held slot) l c.face.count (c.stand.each slot l)) };
 }
 
 pub calm_cut : {mode : Mode} (cs : List Call) (d : Lying) (j code : ℕ) → IsCalm mode d → AllByRecursion IsCall cs → j < length cs
-    → ((slot : ℕ) → slot < 64 → Stands mode (cut j code d.face cs) slot (held_cut j code d.face cs slot (held_at d.held slot))) → IsCalm mode (cut_calls j code d cs)
+    → ((slot : ℕ) → slot < 64 → Stands 1 mode (cut j code d.face cs) slot (held_cut 1 j code d.face cs slot (held_at d.held slot))) → IsCalm mode (cut_calls j code d cs)
 calm_cut {mode} cs d j code c k l s = record {
   face = face_cut cs d.face j code c.face k;
   rests = nothing_left cs d.face j code l;
-  stand = record { each = λ slot m. subst (Stands mode (cut j code d.face cs) slot) (sym (at_slot (λ slot. held_cut j code d.face cs slot (held_at d.held slot)) slot m)) (s slot m) };
+  stand = record { each = λ slot m. subst (Stands 1 mode (cut j code d.face cs) slot) (sym (at_slot (λ slot. held_cut 1 j code d.face cs slot (held_at d.held slot)) slot m)) (s slot m) };
 }
 
 -- ---- calls that leave all slots alone
 
 abbrev Apart : List Call → Type 0
-Apart cs = (slot : ℕ) → slot < 64 → AllByRecursion (AllApart slot) cs
+Apart cs = (slot : ℕ) → slot < 64 → AllByRecursion (AllApart 1 slot) cs
 
 -- the same entry, of the same group
 pub holds_as : {a b : ℕ} {x y : Option (List ℕ)} (g : Header) → x ≡ y → a ≡ b → HoldsEntry a g x → HoldsEntry b g y
-holds_as g e c h = record { entry = h.entry; whole = h.whole; header = h.header; group = h.group ∙ c; there = sym e ∙ h.there }
+holds_as g e c h = record { entry = h.entry; whole = h.whole; header = h.header; group = h.group ∙ c; version = h.version; there = sym e ∙ h.there }
 
 held_moves : (d x : Lying) (m q : Member) → q.kept ≡ m.kept → q.last.fields.cluster ≡ m.last.fields.cluster → ((slot : ℕ) → slot < 64 → held_at x.held slot ≡ held_at d.held slot) → IsHeld d m → IsHeld x q
 held_moves d x m q e c s h = record {
@@ -66,14 +68,14 @@ held_moves d x m q e c s h = record {
 
 apart_after : {mode : Mode} (cs : List Call) (d : Lying) → IsCalm mode d → Apart cs → (slot : ℕ) → slot < 64 → held_at (after_calls d cs).held slot ≡ held_at d.held slot
 apart_after cs d c a slot l =
-    at_slot (λ slot. held_after_all d.face cs slot (held_at d.held slot)) slot l ∙ apart_held_all cs d.face slot (held_at d.held slot) l c.face.count (a slot l) (c.stand.each slot l)
+    at_slot (λ slot. held_after_all 1 d.face cs slot (held_at d.held slot)) slot l ∙ apart_held_all 1 cs d.face slot (held_at d.held slot) l c.face.count (a slot l) (c.stand.each slot l)
 
 apart_stopped : {mode : Mode} (cs : List Call) (d : Lying) (j code : ℕ) → IsCalm mode d → Apart cs → (slot : ℕ) → slot < 64 → held_at (cut_calls j code d cs).held slot ≡ held_at d.held slot
 apart_stopped cs d j code c a slot l =
-    at_slot (λ slot. held_cut j code d.face cs slot (held_at d.held slot)) slot l ∙ apart_held_cut cs d.face slot j code (held_at d.held slot) l c.face.count (a slot l) (λ k x. rw c.rests refl) (c.stand.each slot l)
+    at_slot (λ slot. held_cut 1 j code d.face cs slot (held_at d.held slot)) slot l ∙ apart_held_cut 1 cs d.face slot j code (held_at d.held slot) l c.face.count (a slot l) (λ k x. rw c.rests refl) (c.stand.each slot l)
 
-apart_stands : {mode : Mode} (cs : List Call) (d : Lying) (j code : ℕ) → IsCalm mode d → Apart cs → (slot : ℕ) → slot < 64 → Stands mode (cut j code d.face cs) slot (held_cut j code d.face cs slot (held_at d.held slot))
-apart_stands cs d j code c a slot l = apart_cut cs d.face slot (held_at d.held slot) j code l c.face.count (a slot l) (λ k x. rw c.rests refl) (c.stand.each slot l)
+apart_stands : {mode : Mode} (cs : List Call) (d : Lying) (j code : ℕ) → IsCalm mode d → Apart cs → (slot : ℕ) → slot < 64 → Stands 1 mode (cut j code d.face cs) slot (held_cut 1 j code d.face cs slot (held_at d.held slot))
+apart_stands cs d j code c a slot l = apart_cut 1 cs d.face slot (held_at d.held slot) j code l c.face.count (a slot l) (λ k x. rw c.rests refl) (c.stand.each slot l)
 
 -- ---- mending, from whatever the superblock opens as
 
@@ -83,8 +85,9 @@ mend_opens v d m o k =
     let s = mended v d.face o.calm.face o.calm.rests o.value in
     record {
       calm = calm_after cs d o.calm k s.waiting;
-      held = held_moves d (after_calls d cs) m (ends (Mend v) m) refl o.group (apart_after cs d o.calm (mend_apart v d.face)) o.held;
+      held = held_moves d (after_calls d cs) m (ends (Mend v) m) refl o.group (apart_after cs d o.calm (λ slot l. mend_apart 1 v d.face slot)) o.held;
       value = s.opens;
+      version = o.version;
       under = refl;
     }
 
@@ -92,15 +95,16 @@ pub mend_cut : (v : SuperValue) (d : Lying) (m : Member) (j code : ℕ) → IsOf
 mend_cut v d m j code o c l t =
     let cs = mend_calls v d.face in
     record {
-      calm = calm_cut cs d j code o.calm c.calls l (apart_stands cs d j code o.calm (mend_apart v d.face));
-      held = held_moves d (cut_calls j code d cs) m m refl refl (apart_stopped cs d j code o.calm (mend_apart v d.face)) o.held;
+      calm = calm_cut cs d j code o.calm c.calls l (apart_stands cs d j code o.calm (λ slot l. mend_apart 1 v d.face slot));
+      held = held_moves d (cut_calls j code d cs) m m refl refl (apart_stopped cs d j code o.calm (λ slot l. mend_apart 1 v d.face slot)) o.held;
       value = (mend_law v d.face o.calm.face o.calm.rests o.value).stopped j code (t.value v refl);
+      version = o.version;
       may = o.may;
       group = o.group;
     }
 
 pub off : (d : Lying) (m : Member) → IsOn d m → IsOff d m m.last
-off d m o = record { calm = o.calm; held = o.held; value = o.value; may = inl refl; group = refl }
+off d m o = record { calm = o.calm; held = o.held; value = o.value; version = o.version; may = inl refl; group = refl }
 
 -- ---- saving
 
@@ -108,10 +112,12 @@ pub save_done : (old new : SuperValue) (d : Lying) (m : Member) → IsOn d m →
 save_done old new d m o c =
     let cs = write_calls old new d.face in
     let s = saved old new d.face o.calm.face o.calm.rests (o.value ∙ ap Some (sym c.fit.0)) c.fit.2 in
+    let kind = c.fit.1 ∙ ap (λ (v : SuperValue). file_kind v.fields) c.fit.0 in
     record {
-      calm = subst (λ k. IsCalm k (after_calls d cs)) (sym (c.fit.1 ∙ ap (λ (v : SuperValue). v.fields.mode) c.fit.0)) (calm_after cs d o.calm c.calls s.waiting);
-      held = held_moves d (after_calls d cs) m (ends (Save old new) (begins (Save old new) m)) refl (c.fit.3 ∙ ap (λ (v : SuperValue). v.fields.cluster) c.fit.0) (apart_after cs d o.calm (write_apart old new d.face)) o.held;
+      calm = subst (λ k. IsCalm k (after_calls d cs)) (sym (ap (λ (k : Kind). k.mode) kind)) (calm_after cs d o.calm c.calls s.waiting);
+      held = held_moves d (after_calls d cs) m (ends (Save old new) (begins (Save old new) m)) refl (c.fit.3 ∙ ap (λ (v : SuperValue). v.fields.cluster) c.fit.0) (apart_after cs d o.calm (λ slot l. write_apart 1 old new d.face slot)) o.held;
       value = s.opens;
+      version = ap (λ (k : Kind). k.version) kind ∙ o.version;
       under = refl;
     }
 
@@ -121,14 +127,15 @@ save_cut old new d m j code o c l t =
     let cs = write_calls old new d.face in
     let x : Lying = cut_calls j code d cs in
     let q : Member = begins (Save old new) m in
-    let calm = calm_cut cs d j code o.calm c.calls l (apart_stands cs d j code o.calm (write_apart old new d.face)) in
-    let held = held_moves d x m q refl refl (apart_stopped cs d j code o.calm (write_apart old new d.face)) o.held in
-    let first = ap (λ (v : SuperValue). v.fields.mode) c.fit.0 in
+    let calm = calm_cut cs d j code o.calm c.calls l (apart_stands cs d j code o.calm (λ slot l. write_apart 1 old new d.face slot)) in
+    let held = held_moves d x m q refl refl (apart_stopped cs d j code o.calm (λ slot l. write_apart 1 old new d.face slot)) o.held in
+    let first = ap (λ (v : SuperValue). file_kind v.fields) c.fit.0 in
+    let later = c.fit.1 ∙ first in
     let group = ap (λ (v : SuperValue). v.fields.cluster) c.fit.0 in
     let leads = write_law old new d.face o.calm.face o.calm.rests (o.value ∙ ap Some (sym c.fit.0)) c.fit.2 in
     elim (leads.stopped j code (t.value old (inl refl)) (t.value new (inr refl))) [
-      | inl e ↦ (old, record { calm = subst (λ k. IsCalm k x) (sym first) calm; held = held; value = e; may = inl (sym c.fit.0); group = group })
-      | inr e ↦ (new, record { calm = subst (λ k. IsCalm k x) (sym (c.fit.1 ∙ first)) calm; held = held; value = e; may = inr refl; group = c.fit.3 ∙ group })
+      | inl e ↦ (old, record { calm = subst (λ k. IsCalm k x) (sym (ap (λ (k : Kind). k.mode) first)) calm; held = held; value = e; version = ap (λ (k : Kind). k.version) first ∙ o.version; may = inl (sym c.fit.0); group = group })
+      | inr e ↦ (new, record { calm = subst (λ k. IsCalm k x) (sym (ap (λ (k : Kind). k.mode) later)) calm; held = held; value = e; version = ap (λ (k : Kind). k.version) later ∙ o.version; may = inr refl; group = c.fit.3 ∙ group })
     ]
 
 -- ---- blocks, which no slot and no copy of the superblock shares
@@ -138,6 +145,7 @@ grid_done cs d m o k a r = record {
   calm = calm_after cs d o.calm k r;
   held = held_moves d (after_calls d cs) m m refl refl (apart_after cs d o.calm (λ slot l. from_apart slot cs l a)) o.held;
   value = opens_after cs d.face (from_less 80 400 cs (omega arith) a) ∙ o.value;
+  version = o.version;
   under = o.under;
 }
 
@@ -146,6 +154,7 @@ grid_cut cs d m j code o k a l = record {
   calm = calm_cut cs d j code o.calm k l (apart_stands cs d j code o.calm (λ slot l. from_apart slot cs l a));
   held = held_moves d (cut_calls j code d cs) m m refl refl (apart_stopped cs d j code o.calm (λ slot l. from_apart slot cs l a)) o.held;
   value = opens_cut cs d.face j code o.calm.rests (from_less 80 400 cs (omega arith) a) ∙ o.value;
+  version = o.version;
   may = inl refl;
   group = refl;
 }
@@ -172,13 +181,13 @@ pub set_other : (xs : List (Option Header)) (at : ℕ) (a : Option Header) (slot
 set_other xs at a slot d = get_or-set_other xs at slot a None (λ e. d (sym e))
 
 -- another slot's table, in the end and in a cut
-pub others_after : {mode : Mode} (cs : List Call) (d : Lying) (at : ℕ) → IsCalm mode d → ((slot : ℕ) → slot < 64 → at ≢ slot → AllByRecursion (AllApart slot) cs) → (slot : ℕ) → slot < 64 → at ≢ slot → held_at (after_calls d cs).held slot ≡ held_at d.held slot
+pub others_after : {mode : Mode} (cs : List Call) (d : Lying) (at : ℕ) → IsCalm mode d → ((slot : ℕ) → slot < 64 → at ≢ slot → AllByRecursion (AllApart 1 slot) cs) → (slot : ℕ) → slot < 64 → at ≢ slot → held_at (after_calls d cs).held slot ≡ held_at d.held slot
 others_after cs d at c a slot l o =
-    at_slot (λ slot. held_after_all d.face cs slot (held_at d.held slot)) slot l ∙ apart_held_all cs d.face slot (held_at d.held slot) l c.face.count (a slot l o) (c.stand.each slot l)
+    at_slot (λ slot. held_after_all 1 d.face cs slot (held_at d.held slot)) slot l ∙ apart_held_all 1 cs d.face slot (held_at d.held slot) l c.face.count (a slot l o) (c.stand.each slot l)
 
-others_cut : {mode : Mode} (cs : List Call) (d : Lying) (j code at : ℕ) → IsCalm mode d → ((slot : ℕ) → slot < 64 → at ≢ slot → AllByRecursion (AllApart slot) cs) → (slot : ℕ) → slot < 64 → at ≢ slot → held_at (cut_calls j code d cs).held slot ≡ held_at d.held slot
+others_cut : {mode : Mode} (cs : List Call) (d : Lying) (j code at : ℕ) → IsCalm mode d → ((slot : ℕ) → slot < 64 → at ≢ slot → AllByRecursion (AllApart 1 slot) cs) → (slot : ℕ) → slot < 64 → at ≢ slot → held_at (cut_calls j code d cs).held slot ≡ held_at d.held slot
 others_cut cs d j code at c a slot l o =
-    at_slot (λ slot. held_cut j code d.face cs slot (held_at d.held slot)) slot l ∙ apart_held_cut cs d.face slot j code (held_at d.held slot) l c.face.count (a slot l o) (λ k x. rw c.rests refl) (c.stand.each slot l)
+    at_slot (λ slot. held_cut 1 j code d.face cs slot (held_at d.held slot)) slot l ∙ apart_held_cut 1 cs d.face slot j code (held_at d.held slot) l c.face.count (a slot l o) (λ k x. rw c.rests refl) (c.stand.each slot l)
 
 some_header : (a b : Header) → Some a ≡ Some b → a ≡ b
 some_header a b e = cc
@@ -198,9 +207,9 @@ slot_less h = omega arith
 
 -- written to the end
 pub stored_on : (cs : List Call) (d : Lying) (m q : Member) (e : Whole) (mid : Option Header) → IsOn d m → AllByRecursion IsCall cs → AllByRecursion (From 80) cs → (after_all d.face cs).waiting ≡ []
-    → ((slot : ℕ) → slot < 64 → slot_of e.header ≢ slot → AllByRecursion (AllApart slot) cs) → IsWhole e → e.header.cluster ≡ m.last.fields.cluster → held_after_all d.face cs (slot_of e.header) (held_at d.held (slot_of e.header)) ≡ Some (prepare_bytes e)
+    → ((slot : ℕ) → slot < 64 → slot_of e.header ≢ slot → AllByRecursion (AllApart 1 slot) cs) → IsWhole e → e.header.cluster ≡ m.last.fields.cluster → e.header.version ≤ 1 → held_after_all 1 d.face cs (slot_of e.header) (held_at d.held (slot_of e.header)) ≡ Some (prepare_bytes e)
     → q ≡ record m { kept = set (set m.kept (slot_of e.header) mid) (slot_of e.header) (Some e.header) } → IsOn (after_calls d cs) q
-stored_on cs d m q e mid o k a r apart w own held is =
+stored_on cs d m q e mid o k a r apart w own few held is =
     let at = slot_of e.header in
     let ks = set (set m.kept at mid) at (Some e.header) in
     let n : length ks ≡ 64 = length-set (set m.kept at mid) at (Some e.header) ∙ (length-set m.kept at mid ∙ o.held.count) in
@@ -209,17 +218,18 @@ stored_on cs d m q e mid o k a r apart w own held is =
     subst (IsOn (after_calls d cs)) (sym is) (let x : IsOn (after_calls d cs) p = record {
       calm = calm_after cs d o.calm k r;
       held = written_held d (after_calls d cs) m p at n refl (λ slot b c. set_other (set m.kept at mid) at (Some e.header) slot c ∙ set_other m.kept at mid slot c) (others_after cs d at o.calm apart)
-          (λ g i. let one = some_header e.header g (sym (get_or-set_same (set m.kept at mid) at (Some e.header) None l) ∙ i) in record { entry = e; whole = w; header = one; group = ap (λ (h : Header). h.cluster) (sym one) ∙ own; there = at_slot (λ slot. held_after_all d.face cs slot (held_at d.held slot)) at (slot_less e.header) ∙ held })
+          (λ g i. let one = some_header e.header g (sym (get_or-set_same (set m.kept at mid) at (Some e.header) None l) ∙ i) in record { entry = e; whole = w; header = one; group = ap (λ (h : Header). h.cluster) (sym one) ∙ own; version = subst (λ (h : Header). h.version ≤ 1) one few; there = at_slot (λ slot. held_after_all 1 d.face cs slot (held_at d.held slot)) at (slot_less e.header) ∙ held })
           o.held;
       value = opens_after cs d.face a ∙ o.value;
+      version = o.version;
       under = o.under;
     } in x)
 
 -- begun, and cut: what was kept is the entry, and is held all the time
 pub begun_off : (cs : List Call) (d : Lying) (m q : Member) (h : Header) (again : Bool) (j code : ℕ) → IsOn d m → AllByRecursion IsCall cs → AllByRecursion (From 80) cs → j < length cs
-    → ((slot : ℕ) → slot < 64 → slot_of h ≢ slot → AllByRecursion (AllApart slot) cs)
-    → ((slot : ℕ) → slot < 64 → Stands m.last.fields.mode (cut j code d.face cs) slot (held_cut j code d.face cs slot (held_at d.held slot)))
-    → (again ≡ true → HoldsEntry m.last.fields.cluster h (held_at d.held (slot_of h)) → held_cut j code d.face cs (slot_of h) (held_at d.held (slot_of h)) ≡ held_at d.held (slot_of h))
+    → ((slot : ℕ) → slot < 64 → slot_of h ≢ slot → AllByRecursion (AllApart 1 slot) cs)
+    → ((slot : ℕ) → slot < 64 → Stands 1 m.last.fields.mode (cut j code d.face cs) slot (held_cut 1 j code d.face cs slot (held_at d.held slot)))
+    → (again ≡ true → HoldsEntry m.last.fields.cluster h (held_at d.held (slot_of h)) → held_cut 1 j code d.face cs (slot_of h) (held_at d.held (slot_of h)) ≡ held_at d.held (slot_of h))
     → q ≡ record m { kept = set m.kept (slot_of h) (kept_under again h (kept_at m h.op)) } → IsOff (cut_calls j code d cs) q m.last
 begun_off cs d m q h again j code o k a l apart stands lasts is =
     let at = slot_of h in
@@ -235,10 +245,11 @@ begun_off cs d m q h again j code o k a l apart stands lasts is =
           (λ g i.
           let under = under_is again h g (kept_at m h.op) (sym (get_or-set_same m.kept at u None less) ∙ i) in
           let was : HoldsEntry m.last.fields.cluster g (held_at d.held at) = o.held.each at g (slot_less h) under.1 in
-          let same : held_at x.held at ≡ held_at d.held at = at_slot (λ slot. held_cut j code d.face cs slot (held_at d.held slot)) at (slot_less h) ∙ lasts under.0 (subst (λ (g : Header). HoldsEntry m.last.fields.cluster g (held_at d.held at)) under.2 was) in
+          let same : held_at x.held at ≡ held_at d.held at = at_slot (λ slot. held_cut 1 j code d.face cs slot (held_at d.held slot)) at (slot_less h) ∙ lasts under.0 (subst (λ (g : Header). HoldsEntry m.last.fields.cluster g (held_at d.held at)) under.2 was) in
           subst (HoldsEntry m.last.fields.cluster g) (sym same) was)
           o.held;
       value = opens_cut cs d.face j code o.calm.rests a ∙ o.value;
+      version = o.version;
       may = inl refl;
       group = refl;
     } in y)

@@ -1,9 +1,8 @@
 -- A fault that is done leaves the disk beside the member.
-use Rattle.std.proofs.Common.{ℕ, ◌<◌, ◌≡◌, ◌≢◌, arith, refl, sym, ap, ◌∙◌, subst, true, false, cond, List, length, get_or, Option, Some, None}
-use Rattle.std.specs.Prelude.{is_some, nat_eq, ◌&&◌}
+use Rattle.std.proofs.Common.{ℕ, ◌<◌, ◌≡◌, ◌≢◌, arith, refl, sym, ap, ◌∙◌, subst, true, false, List, length, get_or, Option, Some, None}
+use Rattle.std.specs.Prelude.{is_some, nat_eq}
 use Rattle.std.specs.Cmp.Lexicographic.{pointwise}
 use Rattle.std.specs.Option.{option_and_then, option_map_or}
-use Rattle.std.proofs.lemmas.Bool.{and_parts}
 use Rattle.std.proofs.lemmas.Slice.Eq.{bytes_eq-Decides}
 use Rattle.std.specs.Prelude.{bit_xor}
 use Rattle.std.proofs.Common.{inl, inr, length-set}
@@ -15,16 +14,16 @@ use Rattle.vr_base.specs.declared.mode.Mode.{Mode}
 use Rattle.vr_base.specs.declared.mode.Mode.TheVariants.{Strict, Careful}
 use Rattle.vr_disk.specs.DiskState.{Face, IsCell, IsContent, IsFace, cell, damaged}
 use Rattle.vr_disk.proofs.Faces.{there}
-use Rattle.vr_disk.specs.Sectors.{has}
+use Rattle.vr_disk.specs.Regions.{sectors}
 use Rattle.vr_header.specs.Made.{Whole}
 use Rattle.vr_mem.specs.Lies.{lied}
 use Rattle.vr_lie.specs.Copies.{SuperValue}
 use Rattle.vr_lie.specs.Opens.{mode_in, opens}
-use Rattle.vr_lie.specs.Held.{Holds, MayRead, entry_of_both, entry_read, found, header_sector, is_header_sector, is_prepare, looked}
+use Rattle.vr_lie.specs.Held.{Holds, MayRead, entry_read, found, header_sector, is_header_sector, is_prepare, looked}
 use Rattle.vr_rings.specs.Laws.{TellsPrepare}
 use Rattle.vr_lie.specs.Slots.{IsWhole, header_reading, prepare_bytes, prepare_reading, whole_in, whole_of}
 use Rattle.vr_lie.proofs.Spelling.{header_again, header_sector_is}
-use Rattle.vr_lie.proofs.Standing.{both_is}
+use Rattle.vr_lie.proofs.Standing.{both_is, both_whole}
 use Rattle.vr_lie.specs.declared.fault.Fault.{Fault}
 use Rattle.vr_lie.specs.declared.fault.Fault.TheVariants.{Damage, Stale, Unread, Misdirect}
 use Rattle.vr_lie.specs.Faults.{HeldLooked, IsFault, KeepsPremise, faulted, held_at}
@@ -38,15 +37,6 @@ use Rattle.law_4_disks.proofs.Found.{read_whole}
 
 -- ---- what is held stays
 
-whole_both : (h r : Option (List ℕ)) (p : List ℕ) → entry_of_both h r ≡ Some p → is_prepare p ≡ true
-unfolding entry_of_both
-whole_both h None p e = absurd cc
-whole_both h (Some q) p e =
-    elim (has (header_sector q) h && is_prepare q) as (λ b. (has (header_sector q) h && is_prepare q) ≡ b → cond b (Some q) None ≡ Some p → is_prepare p ≡ true) [
-      | true ↦ λ x e. let same : q ≡ p = cc in subst (λ q. is_prepare q ≡ true) same (and_parts (has (header_sector q) h) (is_prepare q) x).1
-      | false ↦ λ x e. absurd cc
-    ] refl e
-
 some_of : {X : Type 0} (o : Option X) → is_some o ≡ true → (x : X) × (o ≡ Some x)
 some_of None t = absurd cc
 some_of (Some x) t = (x, refl)
@@ -54,14 +44,14 @@ some_of (Some x) t = (x, refl)
 some_bytes : (a b : List ℕ) → Some a ≡ Some b → a ≡ b
 some_bytes a b e = cc
 
-in_by : (g : Face) (slot : ℕ) (r : List ℕ) (e : Whole) → prepare_reading g slot ≡ Some r → whole_of r ≡ Some e → whole_in g slot ≡ Some e
+in_by : (ver : ℕ) (g : Face) (slot : ℕ) (r : List ℕ) (e : Whole) → prepare_reading ver g slot ≡ Some r → whole_of r ≡ Some e → whole_in ver g slot ≡ Some e
 unfolding whole_in
-in_by g slot r e reads w = ap (option_and_then whole_of) reads ∙ w
+in_by ver g slot r e reads w = ap (option_and_then whole_of) reads ∙ w
 
-valid : (g : Face) (slot : ℕ) (r : List ℕ) → IsFace g → slot < 64 → prepare_reading g slot ≡ Some r → is_prepare r ≡ true → is_header_sector (header_sector r) ≡ true
-valid g slot r f l reads t =
+valid : (ver : ℕ) (g : Face) (slot : ℕ) (r : List ℕ) → IsFace g → slot < 64 → prepare_reading ver g slot ≡ Some r → is_prepare r ≡ true → is_header_sector (header_sector r) ≡ true
+valid ver g slot r f l reads t =
     let w = some_of (whole_of r) t in
-    let x = read_whole g slot w.0 f l (in_by g slot r w.0 reads w.1) in
+    let x = read_whole ver g slot w.0 f l (in_by ver g slot r w.0 reads w.1) in
     let is : r ≡ prepare_bytes w.0 = some_bytes r (prepare_bytes w.0) (sym reads ∙ x.reads) in
     ap is_header_sector (ap header_sector is ∙ header_sector_is w.0 x.whole.header) ∙ ap is_some (header_again w.0.header x.whole.header)
 
@@ -70,25 +60,25 @@ own_read : (mode : Mode) (p r : List ℕ) (o : Option (List ℕ)) → o ≡ Some
 own_read Strict p r o e w m = sym e ∙ m
 own_read Careful p r o e w m = ap Some (m r e (rw w refl))
 
-look_stays : {mode : Mode} (g : Face) (slot : ℕ) (p : List ℕ) → IsFace g → slot < 64 → Holds mode g slot (Some p) → TellsPrepare g slot p → looked g slot (Some p) ≡ Some p
-look_stays {mode} g slot p f l h t =
-    elim (entry_read g slot) as (λ o. entry_read g slot ≡ o → found o (Some p) ≡ Some p) [
+look_stays : {mode : Mode} (ver : ℕ) (g : Face) (slot : ℕ) (p : List ℕ) → IsFace g → slot < 64 → Holds ver mode g slot (Some p) → TellsPrepare ver g slot p → looked ver g slot (Some p) ≡ Some p
+look_stays {mode} ver g slot p f l h t =
+    elim (entry_read ver g slot) as (λ o. entry_read ver g slot ≡ o → found o (Some p) ≡ Some p) [
       | None ↦ λ e. refl
       | Some r ↦ λ e.
-          let x = both_is (header_reading g slot) (prepare_reading g slot) r e in
-          let whole = whole_both (header_reading g slot) (prepare_reading g slot) r e in
+          let x = both_is (header_reading g slot) (prepare_reading ver g slot) r e in
+          let whole = both_whole (header_reading g slot) (prepare_reading ver g slot) r e in
           elim (pointwise nat_eq (header_sector r) (header_sector p)) as (λ b. pointwise nat_eq (header_sector r) (header_sector p) ≡ b → Some r ≡ Some p) [
             | true ↦ λ b. ap Some (t r x.1 whole ((bytes_eq-Decides (header_sector r) (header_sector p)).0 b))
             | false ↦ λ b.
                 let apart : header_sector r ≢ header_sector p = λ s. (let bad : false ≡ true = sym b ∙ (bytes_eq-Decides (header_sector r) (header_sector p)).1 s in cc) in
-                own_read mode p r (prepare_reading g slot) x.1 whole (h.prepare p (header_sector r) refl x.0 (valid g slot r f l x.1 whole) apart)
+                own_read mode p r (prepare_reading ver g slot) x.1 whole (h.prepare p (header_sector r) refl x.0 (valid ver g slot r f l x.1 whole) apart)
           ] refl
     ] refl
 
 -- ---- the disk
 
 -- readings that are contents leave a face
-reads_face : (f : Face) (i : ℕ) (r : Option (List ℕ)) → IsFace f → i < 1424 → ((b : List ℕ) → r ≡ Some b → IsContent b) → IsFace (lied f i r)
+reads_face : (f : Face) (i : ℕ) (r : Option (List ℕ)) → IsFace f → i < sectors → ((b : List ℕ) → r ≡ Some b → IsContent b) → IsFace (lied f i r)
 unfolding lied
 reads_face f i r h l c =
     let was = there f i h l in
@@ -128,18 +118,18 @@ waits_on f (Misdirect i k) = refl
 judged : (f : Face) (v : SuperValue) → opens f ≡ Some v → mode_in f ≡ v.fields.mode
 judged f v e = ap (λ (o : Option SuperValue). option_map_or (λ (v : SuperValue). v.fields.mode) o Strict) e
 
-module _ (d : Lying) (x : Fault) (t : keeps_premise d (faulted d.face x) ≡ true) (face : IsFace (faulted d.face x)) (tells : (slot : ℕ) (x0 : Whole) → slot < 64 → IsWhole x0 → held_at d.held slot ≡ Some (prepare_bytes x0) → TellsPrepare (faulted d.face x) slot (prepare_bytes x0)) where
+module _ (d : Lying) (x : Fault) (t : keeps_premise d (faulted d.face x) ≡ true) (face : IsFace (faulted d.face x)) (tells : (slot : ℕ) (x0 : Whole) → slot < 64 → IsWhole x0 → held_at d.held slot ≡ Some (prepare_bytes x0) → TellsPrepare 1 (faulted d.face x) slot (prepare_bytes x0)) where
   abbrev mode : Mode
   mode = mode_in d.face
 
-  kept : KeepsPremise mode d.face (faulted d.face x) d.held
+  kept : KeepsPremise 1 mode d.face (faulted d.face x) d.held
   kept = premise d (faulted d.face x) t
 
-  looks : HeldLooked (faulted d.face x) d.held (lied_to d (faulted d.face x)).held
-  looks = record { each = λ slot l. at_slot (λ slot. looked (faulted d.face x) slot (held_at d.held slot)) slot l }
+  looks : HeldLooked 1 (faulted d.face x) d.held (lied_to d (faulted d.face x)).held
+  looks = record { each = λ slot l. at_slot (λ slot. looked 1 (faulted d.face x) slot (held_at d.held slot)) slot l }
 
   calm : IsCalm mode d → IsCalm mode (lied_to d (faulted d.face x))
-  calm c = record { face = face; rests = waits_on d.face x ∙ c.rests; stand = fault_stands d.face (faulted d.face x) d.held (lied_to d (faulted d.face x)).held kept looks c.stand }
+  calm c = record { face = face; rests = waits_on d.face x ∙ c.rests; stand = fault_stands 1 d.face (faulted d.face x) d.held (lied_to d (faulted d.face x)).held kept looks c.stand }
 
   held : (q : Member) → IsCalm mode d → IsHeld d q → IsHeld (lied_to d (faulted d.face x)) q
   held q c h = record {
@@ -147,19 +137,19 @@ module _ (d : Lying) (x : Fault) (t : keeps_premise d (faulted d.face x) ≡ tru
     each = λ slot g l e.
         let y = h.each slot g l e in
         let s = c.stand.each slot l in
-        let now : Holds mode (faulted d.face x) slot (Some (prepare_bytes y.entry)) = subst (Holds mode (faulted d.face x) slot) y.there (kept.slots slot l s.holds) in
-        let same = look_stays (faulted d.face x) slot (prepare_bytes y.entry) face l now (tells slot y.entry l y.whole y.there) in
-        record { entry = y.entry; whole = y.whole; header = y.header; group = y.group; there = looks.each slot l ∙ (ap (looked (faulted d.face x) slot) y.there ∙ same) };
+        let now : Holds 1 mode (faulted d.face x) slot (Some (prepare_bytes y.entry)) = subst (Holds 1 mode (faulted d.face x) slot) y.there (kept.slots slot l s.holds) in
+        let same = look_stays 1 (faulted d.face x) slot (prepare_bytes y.entry) face l now (tells slot y.entry l y.whole y.there) in
+        record { entry = y.entry; whole = y.whole; header = y.header; group = y.group; version = y.version; there = looks.each slot l ∙ (ap (looked 1 (faulted d.face x) slot) y.there ∙ same) };
   }
 
   pub lie_on : (q : Member) → IsOn d q → IsOn (lied_to d (faulted d.face x)) q
   lie_on q o =
       let j : mode ≡ q.last.fields.mode = judged d.face q.last o.value in
       let was : IsCalm mode d = subst (λ (m : Mode). IsCalm m d) (sym j) o.calm in
-      record { calm = subst (λ (m : Mode). IsCalm m (lied_to d (faulted d.face x))) j (calm was); held = held q was o.held; value = kept.opens ∙ o.value; under = o.under }
+      record { calm = subst (λ (m : Mode). IsCalm m (lied_to d (faulted d.face x))) j (calm was); held = held q was o.held; value = kept.opens ∙ o.value; version = o.version; under = o.under }
 
   pub lie_off : (q : Member) (v : SuperValue) → IsOff d q v → IsOff (lied_to d (faulted d.face x)) q v
   lie_off q v o =
       let j : mode ≡ v.fields.mode = judged d.face v o.value in
       let was : IsCalm mode d = subst (λ (m : Mode). IsCalm m d) (sym j) o.calm in
-      record { calm = subst (λ (m : Mode). IsCalm m (lied_to d (faulted d.face x))) j (calm was); held = held q was o.held; value = kept.opens ∙ o.value; may = o.may; group = o.group }
+      record { calm = subst (λ (m : Mode). IsCalm m (lied_to d (faulted d.face x))) j (calm was); held = held q was o.held; value = kept.opens ∙ o.value; version = o.version; may = o.may; group = o.group }

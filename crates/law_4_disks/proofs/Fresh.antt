@@ -10,6 +10,7 @@ use Rattle.vr_base.proofs.AreBytes.{IsBytes-zeros}
 use Rattle.vr_base.specs.declared.kind.Kind.{Kind}
 use Rattle.vr_base.specs.declared.mode.Mode.{Mode}
 use Rattle.vr_disk.specs.DiskState.{Call, Face, IsCell, IsContent, IsFace, Sync, after, after_all}
+use Rattle.vr_disk.specs.Regions.{sectors}
 use Rattle.vr_disk.specs.Sectors.{together, writes}
 use Rattle.vr_disk.proofs.Together.{after_all_append, length_after_all, together_synced, together_written}
 use Rattle.vr_header.specs.declared.header.Header.{Header}
@@ -61,20 +62,20 @@ zero_is_cell = record { truth = zero_content; reads = λ b e. content_same zero_
 
 zero_is_face : IsFace zero_face
 zero_is_face = record {
-  count = length-replicate 1424 zero_cell;
-  cells = λ k d l. let n = length-replicate 1424 zero_cell in subst IsCell (sym (get_or-replicate 1424 k zero_cell d (omega (arith, n, l)))) zero_is_cell;
+  count = length-replicate sectors zero_cell;
+  cells = λ k d l. let n = length-replicate sectors zero_cell in subst IsCell (sym (get_or-replicate sectors k zero_cell d (omega (arith, n, l)))) zero_is_cell;
   waiting = λ k d l. absurd (omega arith);
 }
 
-zero_is : zero_face ≡ record { cells = copies 1424 mem.zero_cell; waiting = [] }
+zero_is : zero_face ≡ record { cells = copies sectors mem.zero_cell; waiting = [] }
 unfolding copies mem.zero_cell
 zero_is = refl
 
-zero_stands : (mode : Mode) (slot : ℕ) → slot < 64 → Stands mode zero_face slot None
+zero_stands : (mode : Mode) (slot : ℕ) → slot < 64 → Stands 1 mode zero_face slot None
 zero_stands mode slot l =
     let held : List (Option (List ℕ)) = replicate 64 None in
-    let all : AllStand mode zero_face held = none_stands zero_face held (new_table zero_face held zero_is refl) (λ s b. empty_at 64 s) in
-    subst (Stands mode zero_face slot) (empty_at 64 slot) (all.each slot l)
+    let all : AllStand 1 mode zero_face held = none_stands 1 zero_face held (new_table 1 zero_face held zero_is refl) (λ s b. empty_at 64 s) in
+    subst (Stands 1 mode zero_face slot) (empty_at 64 slot) (all.each slot l)
 
 abbrev empty : Lying
 empty = record { face = zero_face; held = each_slot (λ slot. None) }
@@ -83,19 +84,19 @@ empty_calm : (mode : Mode) → IsCalm mode empty
 empty_calm mode = record {
   face = zero_is_face;
   rests = refl;
-  stand = record { each = λ slot l. subst (Stands mode zero_face slot) (sym (at_slot (λ slot. None) slot l)) (zero_stands mode slot l) };
+  stand = record { each = λ slot l. subst (Stands 1 mode zero_face slot) (sym (at_slot (λ slot. None) slot l)) (zero_stands mode slot l) };
 }
 
 -- ---- four copies
 
-copy_read : (b : List ℕ) (f : Face) (c : ℕ) → length b ≡ 10240 → length f.cells ≡ 1424 → c < 4 → copy_reading (after_all f (copy_calls c b)) c ≡ Some b
+copy_read : (b : List ℕ) (f : Face) (c : ℕ) → length b ≡ 10240 → length f.cells ≡ sectors → c < 4 → copy_reading (after_all f (copy_calls c b)) c ≡ Some b
 unfolding copy_reading copy_calls
 copy_read b f c n l k =
     let g = after_all f (writes (20 * c) 20 b) in
     let joined : after_all f (writes (20 * c) 20 b ++ Sync ∷ []) ≡ after g Sync = after_all_append (writes (20 * c) 20 b) (Sync ∷ []) f in
     ap (λ h. together (20 * c) 20 h) joined ∙ (together_synced 20 (20 * c) g ∙ (together_written 20 (20 * c) b f (omega arith) ∙ ap Some (take_all (512 * 20) b (omega arith))))
 
-copies_read : (n k : ℕ) (b : List ℕ) (f : Face) → length b ≡ 10240 → length f.cells ≡ 1424 → k + n ≡ 4 → ((c : ℕ) → c < k → copy_reading f c ≡ Some b) → (c : ℕ) → c < 4 → copy_reading (after_all f (save_from k n b)) c ≡ Some b
+copies_read : (n k : ℕ) (b : List ℕ) (f : Face) → length b ≡ 10240 → length f.cells ≡ sectors → k + n ≡ 4 → ((c : ℕ) → c < k → copy_reading f c ≡ Some b) → (c : ℕ) → c < 4 → copy_reading (after_all f (save_from k n b)) c ≡ Some b
 unfolding save_from
 copies_read zero k b f size l e h c m = h c (omega arith)
 copies_read (suc n) k b f size l e h c m =
@@ -152,6 +153,7 @@ good_first kind home n i room a b l = record {
     head = omega arith;
     replica = omega arith;
     n = omega arith;
+    version = (omega arith, omega arith);
   };
   fields = rw (le-leb 2 n a, le-leb n 6 b, lt-ltb i n l) refl;
   each = tt;
@@ -176,12 +178,13 @@ formatted_on kind home n i room a b l =
     let f2 = after_all f1 two in
     let f3 = after f2 Sync in
     let all : after_all zero_face (one ++ (two ++ Sync ∷ saves)) ≡ after_all f3 saves = after_all_append one (two ++ Sync ∷ saves) zero_face ∙ after_all_append two (Sync ∷ saves) f1 in
-    let count : length f3.cells ≡ 1424 = length_after_all two f1 ∙ (length_after_all one zero_face ∙ length-replicate 1424 zero_cell) in
+    let count : length f3.cells ≡ sectors = length_after_all two f1 ∙ (length_after_all one zero_face ∙ length-replicate sectors zero_cell) in
     let reads = copies_read 4 0 cs f3 (length-copy_bytes v good) count (omega arith) (λ c m. absurd (omega arith)) in
     record {
       calm = calm_after (one ++ (two ++ Sync ∷ saves)) empty (empty_calm kind.mode) (format_are kind home n i room good) (ap (λ (g : Face). g.waiting) all ∙ saves_rest 3 0 cs f3);
       held = record { count = length-replicate 64 (nothing_kept); each = λ slot h b e. absurd (let bad : None ≡ Some h = sym (get_or-replicate 64 slot nothing_kept None b) ∙ e in cc) };
       value = ap opens all ∙ all_open v (after_all f3 saves) good reads;
+      version = refl;
       under = refl;
     }
 

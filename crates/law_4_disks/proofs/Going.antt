@@ -3,7 +3,6 @@ use Rattle.std.proofs.Common.{ℕ, ◌≡◌, refl, sym, ap, ◌∙◌, subst, B
 use Rattle.vr_header.specs.declared.header.Header.{Header}
 use Rattle.vr_header.specs.Made.{Whole}
 use Rattle.vr_header.specs.declared.part.Part.{Part}
-use Rattle.vr_header.specs.declared.part.Part.TheVariants.{Here, Lost, Wanted, Unknown, Nothing}
 use Rattle.vr_lie.specs.Copies.{SuperValue}
 use Rattle.vr_world.specs.Replica.{Replica, forgetting, with_part}
 use Rattle.vr_world.specs.Steps.{Effect, Write, Rewrite, Save, Mend, Checkpoint, PutBlock, Say, Setting, Word, ◌⨾◌, after_all, change, does, each, quiet, reading}
@@ -30,8 +29,8 @@ use Rattle.law_4_disks.proofs.Recovering.{carried_last, values}
 
 pub chain_goes : (home : ℕ) (es : List Effect) (d : Lying) (v u : SuperValue) → v.fields.cluster ≡ home → Chain v es u → GoesWell home es d → MayGo es d v
 chain_goes home [] d v u own c g = tt
-chain_goes home (Write again e ∷ es) d v u own c g = (record { fit = (g.0.0, g.0.1 ∙ sym own); calls = g.1 }, chain_goes home es (lying.after d (Write again e)) v u own c g.2)
-chain_goes home (Rewrite h ∷ es) d v u own c g = (record { fit = (g.0.0, g.0.1, g.0.2, g.0.3 ∙ sym own); calls = g.1 }, chain_goes home es (lying.after d (Rewrite h)) v u own c g.2)
+chain_goes home (Write again e ∷ es) d v u own c g = (record { fit = (g.0.0, g.0.1 ∙ sym own, g.0.2); calls = g.1 }, chain_goes home es (lying.after d (Write again e)) v u own c g.2)
+chain_goes home (Rewrite h ∷ es) d v u own c g = (record { fit = (g.0.0, g.0.1, g.0.2, g.0.3 ∙ sym own, g.0.4); calls = g.1 }, chain_goes home es (lying.after d (Rewrite h)) v u own c g.2)
 chain_goes home (Save old new ∷ es) d v u own c g = (record { fit = (c.0, c.1, g.0.0, g.0.1 ∙ sym (ap (λ (x : SuperValue). x.fields.cluster) c.0 ∙ own)); calls = g.1 }, chain_goes home es (lying.after d (Save old new)) new u g.0.1 c.2 g.2)
 chain_goes home (Mend x ∷ es) d v u own c g = (record { fit = c.0; calls = g.1 }, chain_goes home es (lying.after d (Mend x)) x u (ap (λ (x : SuperValue). x.fields.cluster) c.0 ∙ own) (subst (λ y. Chain y es u) (sym c.0) c.1) g.2)
 chain_goes home (Checkpoint k t o b ∷ es) d v u own c g = (record { fit = tt; calls = g.1 }, chain_goes home es (lying.after d (Checkpoint k t o b)) v u own c g.2)
@@ -53,14 +52,14 @@ chain_last es m u c = carried_last es m ∙ chain_values es m.last u c
 
 -- ---- what is known of a script's effects
 
-write_are : (again : Bool) (e : Whole) → IsWhole e → AreCalls (cond again (again_calls e) (new_calls e))
-write_are true e w = again_are e w
-write_are false e w = new_are e w
+write_are : (again : Bool) (e : Whole) → IsWhole e → AreCalls (cond again (again_calls 1 e) (new_calls 1 e))
+write_are true e w = again_are 1 e w
+write_are false e w = new_are 1 e w
 
 pub known_goes : (P Q : List ℕ → Type 0) (home n i : ℕ) (es : List Effect) (d : Lying) (v u : SuperValue) → IsGood v → Chain v es u → Known home n i es → AllByRecursion (WritesBlocks P Q) es → Rewrites home es d → GoesWell home es d
 known_goes P Q home n i [] d v u g c k b w = tt
 known_goes P Q home n i (Write again e ∷ es) d v u g c k b w =
-    let one = known_first home n i (Write again e) es k in ((one.0, one.2), write_are again e one.0, known_goes P Q home n i es (lying.after d (Write again e)) v u g c (known_rest home n i (Write again e) es k) b.1 w.1)
+    let one = known_first home n i (Write again e) es k in ((one.0, one.2.0, one.2.1), write_are again e one.0, known_goes P Q home n i es (lying.after d (Write again e)) v u g c (known_rest home n i (Write again e) es k) b.1 w.1)
 known_goes P Q home n i (Rewrite h ∷ es) d v u g c k b w =
     (w.0, header_are h (known_first home n i (Rewrite h) es k).0, known_goes P Q home n i es (lying.after d (Rewrite h)) v u g c (known_rest home n i (Rewrite h) es k) b.1 w.1)
 known_goes P Q home n i (Save old new ∷ es) d v u g c k b w =

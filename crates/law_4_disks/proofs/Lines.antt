@@ -156,10 +156,10 @@ reads_bytes (event.Request q) = tt
 reads_bytes event.Tick = tt
 
 pub on_running : (d : Lying) (q : group.Member) (r : Option Replica) → IsOn d q → IsOn d (record q { replica = r })
-on_running d q r o = record { calm = o.calm; held = record { count = o.held.count; each = o.held.each }; value = o.value; under = o.under }
+on_running d q r o = record { calm = o.calm; held = record { count = o.held.count; each = o.held.each }; value = o.value; version = o.version; under = o.under }
 
 pub off_stopped : (d : Lying) (q : group.Member) (r : Option Replica) (v : SuperValue) → IsOff d q v → IsOff d (record q { replica = r }) v
-off_stopped d q r v o = record { calm = o.calm; held = record { count = o.held.count; each = o.held.each }; value = o.value; may = o.may; group = o.group }
+off_stopped d q r v o = record { calm = o.calm; held = record { count = o.held.count; each = o.held.each }; value = o.value; version = o.version; may = o.may; group = o.group }
 
 pub some_replica : (a b : Replica) → Some a ≡ Some b → a ≡ b
 some_replica a b e = cc
@@ -183,7 +183,7 @@ halted_stands i m q s u n v o = record {
 }
 
 pub running_off : (d : Lying) (q : group.Member) → IsOn d q → IsOff d q q.last
-running_off d q o = record { calm = o.calm; held = o.held; value = o.value; may = inl refl; group = refl }
+running_off d q o = record { calm = o.calm; held = o.held; value = o.value; version = o.version; may = inl refl; group = refl }
 
 -- ---- what is known of the work of a line
 

@@ -1,20 +1,22 @@
 -- What a disk has of a checkpoint consists of bytes.
-use Rattle.std.proofs.Common.{arith, ◌≡◌, ◌≤◌, ◌<◌, ◌+◌, ◌-◌, ◌*◌, inl, inr, refl, subst, ℕ, zero, suc, true, false, cond, List, [], ◌∷◌, ◌++◌, length, Option, Some, None, is_some, min}
-use Rattle.std.specs.Prelude.{All, nat_le, nat_lt, nat_eq, ◌==◌, ◌&&◌}
+use Rattle.std.proofs.Common.{arith, ◌≡◌, ◌≢◌, ◌≤◌, ◌<◌, ◌+◌, ◌-◌, ◌*◌, refl, subst, ℕ, zero, suc, true, false, cond, List, [], ◌∷◌, ◌++◌, length, Option, Some, None, is_some, min}
+use Rattle.std.specs.Prelude.{All, nat_le, nat_lt, nat_eq, ◌&&◌}
 use Rattle.std.specs.Option.{option_and_then, option_map}
 use Rattle.std.specs.Int.{w16, w64}
-use Rattle.std.proofs.lemmas.Bool.{ltb-true, and_parts, or_cases, eqb-true, leb-true}
+use Rattle.std.proofs.lemmas.Bool.{ltb-true, and_parts, eqb-true, leb-true}
 use Rattle.std.proofs.lemmas.List.Elements.{All-nil, All-cons, All-head, All-tail}
 use Rattle.vr_base.specs.Bytes.{IsBytes, number}
 use Rattle.vr_base.proofs.FieldLaws.{IsBytes-piece, length-piece}
 use Rattle.vr_disk.specs.DiskState.{Face, IsFace}
-use Rattle.vr_ckpt.specs.StateTexts.{payloads}
+use Rattle.vr_ckpt.specs.StateTexts.{key_payloads, payloads, session_payloads}
 use Rattle.vr_ckpt.specs.declared.name.Name.{Name}
 use Rattle.vr_ckpt.specs.Blocks.{Content, named}
 use Rattle.vr_ckpt.specs.Grid.{block_reading, named_at}
 use Rattle.vr_ckpt.proofs.Contents.{named_found, read_of}
 use Rattle.vr_ckpt.specs.Loads.{both_named, data_at, gathered, has_numbers, text_of, data_of, is_root, keys_size, load_by, load_of, loaded, name_at, names_at, read_root, root_at, root_in, sessions_size, with_data, with_name}
-use Rattle.vr_ckpt.specs.Places.{is_place, root_place}
+use Rattle.vr_ckpt.specs.Places.{IsLower, grid_size, is_place, keys_places, place_of, root_place, sessions_places}
+use Rattle.vr_ckpt.specs.declared.places.Places.{Places}
+use Rattle.vr_ckpt.proofs.Placing.{at_place, block_inside}
 use Rattle.vr_ckpt.specs.declared.found.Load.TheVariants.{Loaded}
 use Rattle.vr_ckpt.specs.declared.loading.Gathered.{Gathered}
 use Rattle.vr_ckpt.specs.declared.root.Root.{Root}
@@ -27,7 +29,7 @@ use Rattle.vr_ckpt.specs.declared.table.PayloadTable.{PayloadTable}
 use Rattle.vr_world.specs.Sectors.{block_in}
 use Rattle.vr_world.proofs.FitLoads.{given}
 use Rattle.law_4_disks.specs.Stocks.{IsNamed, IsPlaced}
-use Rattle.law_4_disks.proofs.Blocks.{TableNamed}
+use Rattle.law_4_disks.proofs.Blocks.{Lowers, TableNamed, fewer_lowers, key_lowers, placed, session_lowers}
 
 abbrev IsGoodName : Name → Type 0
 IsGoodName n = IsPlaced n
@@ -43,26 +45,21 @@ with_one low name rest names e =
       ] refl q
     ] refl e
 
-place_within : (low address : ℕ) → 1 ≤ low → low < 64 → is_place low address ≡ true → (0 < address) × (address < 128)
-place_within low address a b t =
-    elim (or_cases (address == low) (address == low + 64) t) [
-      | inl e ↦ (let same = eqb-true address low e in (omega (arith, same, a), omega (arith, same, b)))
-      | inr e ↦ (let same = eqb-true address (low + 64) e in (omega (arith, same, a), omega (arith, same, b)))
-    ]
-
-good_at : (bytes : List ℕ) (i low : ℕ) → 18 + 24 * (i + 1) ≤ length bytes → IsBytes bytes → 1 ≤ low → low < 64 → is_place low (name_at bytes i).address ≡ true → IsGoodName (name_at bytes i)
+good_at : (bytes : List ℕ) (i low : ℕ) → 18 + 24 * (i + 1) ≤ length bytes → IsBytes bytes → IsLower low → low ≢ 0 → is_place low (name_at bytes i).address ≡ true → IsGoodName (name_at bytes i)
 unfolding name_at
 good_at bytes i low l are a b t =
-    let w = place_within low (name_at bytes i).address a b t in
+    let w = placed low (name_at bytes i).address a b (at_place low (name_at bytes i).address t) in
     record { sum = (length-piece (26 + 24 * i) 16 bytes (omega arith), IsBytes-piece (26 + 24 * i) 16 bytes are); some = w.0; few = w.1 }
 
-names_are : (n low i : ℕ) (bytes : List ℕ) (names : List Name) → 1 ≤ low → low + n ≤ 64 → IsBytes bytes → 18 + 24 * (i + n) ≤ length bytes → names_at low bytes i n ≡ Some names → All IsGoodName names
+-- those of a text's payloads from the k-th on
+names_are : (n k i : ℕ) (p : Places) (bytes : List ℕ) (names : List Name) → Lowers p (k + n) → IsBytes bytes → 18 + 24 * (i + n) ≤ length bytes → names_at p k bytes i n ≡ Some names → All IsGoodName names
 unfolding names_at
-names_are zero low i bytes names p q are b e = let same : [] ≡ names = cc in subst (λ (ns : List Name). All IsGoodName ns) same (All-nil IsGoodName)
-names_are (suc n) low i bytes names p q are b e =
-    let w = with_one low (name_at bytes i) (names_at (low + 1) bytes (i + 1) n) names e in
-    let rest = names_are n (low + 1) (i + 1) bytes w.1 (omega (arith, p)) (omega (arith, q)) are (omega arith) w.2 in
-    let is : IsGoodName (name_at bytes i) = good_at bytes i low (omega arith) are p (omega (arith, q)) w.0 in
+names_are zero k i p bytes names l are b e = let same : [] ≡ names = cc in subst (λ (ns : List Name). All IsGoodName ns) same (All-nil IsGoodName)
+names_are (suc n) k i p bytes names l are b e =
+    let w = with_one (place_of p k) (name_at bytes i) (names_at p (k + 1) bytes (i + 1) n) names e in
+    let here = l k (omega arith) in
+    let rest = names_are n (k + 1) (i + 1) p bytes w.1 (fewer_lowers p (k + 1 + n) (k + suc n) (omega arith) l) are (omega arith) w.2 in
+    let is : IsGoodName (name_at bytes i) = good_at bytes i (place_of p k) (omega arith) are here.0 here.1 w.0 in
     subst (λ (ns : List Name). All IsGoodName ns) w.3 (All-cons IsGoodName (name_at bytes i) w.1 is rest)
 
 -- the names of a root
@@ -80,8 +77,8 @@ both_are bytes (Some x) (Some y) r h k e =
 
 -- how many names the payload has room for
 record Room (bytes : List ℕ) : Type 0 where
-  few_sessions : payloads (sessions_size bytes) ≤ 9
-  few_keys : payloads (keys_size bytes) ≤ 36
+  few_sessions : payloads (sessions_size bytes) ≤ session_payloads
+  few_keys : payloads (keys_size bytes) ≤ key_payloads
   size : length bytes ≡ 18 + 24 * (payloads (sessions_size bytes) + payloads (keys_size bytes))
 
 room_of : (op : ℕ) (bytes : List ℕ) → has_numbers op bytes ≡ true → Room bytes
@@ -89,14 +86,14 @@ unfolding has_numbers
 room_of op bytes e =
     let s : ℕ = payloads (sessions_size bytes) in
     let k : ℕ = payloads (keys_size bytes) in
-    elim (nat_lt (length bytes) 18) as (λ t. cond t false (nat_eq (number w64 0 bytes) op && (nat_le s 9 && (nat_le k 36 && (nat_eq (number w16 16 bytes) (s + k) && nat_eq (length bytes) (18 + 24 * (s + k)))))) ≡ true → Room bytes) [
+    elim (nat_lt (length bytes) 18) as (λ t. cond t false (nat_eq (number w64 0 bytes) op && (nat_le s session_payloads && (nat_le k key_payloads && (nat_eq (number w16 16 bytes) (s + k) && nat_eq (length bytes) (18 + 24 * (s + k)))))) ≡ true → Room bytes) [
       | true ↦ λ q. absurd cc
       | false ↦ λ q.
           let a = and_parts (nat_eq (number w64 0 bytes) op) _ q in
-          let b = and_parts (nat_le s 9) _ a.1 in
-          let c = and_parts (nat_le k 36) _ b.1 in
+          let b = and_parts (nat_le s session_payloads) _ a.1 in
+          let c = and_parts (nat_le k key_payloads) _ b.1 in
           let d = and_parts (nat_eq (number w16 16 bytes) (s + k)) (nat_eq (length bytes) (18 + 24 * (s + k))) c.1 in
-          record { few_sessions = leb-true s 9 b.0; few_keys = leb-true k 36 c.0; size = eqb-true (length bytes) (18 + 24 * (s + k)) d.1 }
+          record { few_sessions = leb-true s session_payloads b.0; few_keys = leb-true k key_payloads c.0; size = eqb-true (length bytes) (18 + 24 * (s + k)) d.1 }
     ] e
 
 root_names : (c : Content) (r : Root) → IsBytes c.payload → read_root c ≡ Some r → Names r
@@ -105,25 +102,23 @@ root_names c r are e =
     let bytes : List ℕ = c.payload in
     let s : ℕ = payloads (sessions_size bytes) in
     let k : ℕ = payloads (keys_size bytes) in
-    elim (is_root c) as (λ t. is_root c ≡ t → cond t (both_named bytes (names_at 1 bytes 0 s) (names_at 10 bytes s k)) None ≡ Some r → Names r) [
+    elim (is_root c) as (λ t. is_root c ≡ t → cond t (both_named bytes (names_at sessions_places 0 bytes 0 s) (names_at keys_places 0 bytes s k)) None ≡ Some r → Names r) [
       | false ↦ λ t q. absurd cc
       | true ↦ λ t q.
           let a = and_parts (nat_eq c.kind 3) _ t in
           let b = and_parts (nat_eq c.address (root_place c.op)) (has_numbers c.op bytes) a.1 in
           let room = room_of c.op bytes b.1 in
-          let few = room.few_sessions in
-          let more = room.few_keys in
           let size = room.size in
-          both_are bytes (names_at 1 bytes 0 s) (names_at 10 bytes s k) r
-          (λ ns i. names_are s 1 0 bytes ns (omega arith) (omega (arith, few)) are (omega arith) i)
-          (λ ns i. names_are k 10 s bytes ns (omega arith) (omega (arith, more)) are (omega arith) i) q
+          both_are bytes (names_at sessions_places 0 bytes 0 s) (names_at keys_places 0 bytes s k) r
+          (λ ns i. names_are s 0 0 sessions_places bytes ns (session_lowers s room.few_sessions) are (omega arith) i)
+          (λ ns i. names_are k 0 s keys_places bytes ns (key_lowers k room.few_keys) are (omega arith) i) q
     ] refl e
 
 -- ---- what reads
 
-reading_are : (f : Face) (address : ℕ) (b : List ℕ) → IsFace f → address < 128 → block_reading f address ≡ Some b → IsBytes b
+reading_are : (f : Face) (address : ℕ) (b : List ℕ) → IsFace f → address < grid_size → block_reading f address ≡ Some b → IsBytes b
 unfolding block_reading
-reading_are f address b face l e = together_bytes 8 (block_place address) f face (omega (arith, l)) b e
+reading_are f address b face l e = together_bytes 8 (block_place address) f face (block_inside address l) b e
 
 payload_are : (name : Name) (b : List ℕ) (c : Content) → IsBytes b → named name b ≡ Some c → IsBytes c.payload
 payload_are name b c are e =
@@ -133,22 +128,22 @@ payload_are name b c are e =
 pub content_are : (f : Face) (name : Name) (c : Content) → IsFace f → named_at f name ≡ Some c → IsBytes c.payload
 unfolding named_at
 content_are f name c face e =
-    elim (nat_lt name.address 128) as (λ t. nat_lt name.address 128 ≡ t → cond t (option_and_then (named name) (block_reading f name.address)) None ≡ Some c → IsBytes c.payload) [
+    elim (nat_lt name.address grid_size) as (λ t. nat_lt name.address grid_size ≡ t → cond t (option_and_then (named name) (block_reading f name.address)) None ≡ Some c → IsBytes c.payload) [
       | false ↦ λ t e. absurd cc
       | true ↦ λ t e.
           let x = given (named name) (block_reading f name.address) c e in
-          payload_are name x.0 c (reading_are f name.address x.0 face (ltb-true name.address 128 t) x.1) x.2
+          payload_are name x.0 c (reading_are f name.address x.0 face (ltb-true name.address grid_size t) x.1) x.2
     ] refl e
 
 -- a whole block that reads under its name
 pub block_are : (f : Face) (name : Name) (b : List ℕ) → IsFace f → block_in f name ≡ Some b → IsBytes b
 unfolding named_at
 block_are f name b face e =
-    elim (nat_lt name.address 128) as (λ t. nat_lt name.address 128 ≡ t → cond (is_some (cond t (option_and_then (named name) (block_reading f name.address)) None)) (block_reading f name.address) None ≡ Some b → IsBytes b) [
+    elim (nat_lt name.address grid_size) as (λ t. nat_lt name.address grid_size ≡ t → cond (is_some (cond t (option_and_then (named name) (block_reading f name.address)) None)) (block_reading f name.address) None ≡ Some b → IsBytes b) [
       | false ↦ λ t q. absurd cc
       | true ↦ λ t q. elim (is_some (option_and_then (named name) (block_reading f name.address))) as (λ s. cond s (block_reading f name.address) None ≡ Some b → IsBytes b) [
         | false ↦ λ p. absurd cc
-        | true ↦ λ p. reading_are f name.address b face (ltb-true name.address 128 t) p
+        | true ↦ λ p. reading_are f name.address b face (ltb-true name.address grid_size t) p
       ] q
     ] refl e
 

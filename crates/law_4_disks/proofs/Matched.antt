@@ -15,7 +15,7 @@ use Rattle.vr_world.specs.Replica.{Replica}
 use Rattle.vr_world.specs.Steps.{Step, after_all}
 use Rattle.vr_world.specs.Steps as steps
 use Rattle.vr_world.specs.Opening.{blank, opened, opening}
-use Rattle.vr_world.specs.Sectors.{calls}
+use Rattle.vr_world.specs.Sectors.{calls, runnable}
 use Rattle.vr_world.specs.Lying.{Lying, cut_calls, hazards, keeps_premise, lied_to, lying, unless_kept_out}
 use Rattle.vr_world.specs.World as world
 use Rattle.vr_world.specs.World.{Acted, Happening, World, Begins, Asks, Arrives, Ticks, Stops, Starts, Fuses, Lies, at_member, acts, delivered, halted, handles, lied, nothing, stays, went, went_or_halted, with_member}
@@ -224,7 +224,7 @@ module _ {home : ℕ} (w : World Lying) (g : Group) (i : ℕ) (m : world.Host Ly
   pub opened_as : (v : SuperValue) → IsOff m.disk q v → opened lying m.disk ≡ Some (whole v m.disk)
   unfolding opened
   opened_as v o =
-      let is : lying.opens m.disk ≡ Some v = o.value in
+      let is : lying.opens m.disk ≡ Some v = ap (option_and_then runnable) o.value ∙ (rw o.version refl) in
       ap (option_map (λ (v : SuperValue). opening v lying (blank v) m.disk)) is ∙ ap Some (opening_is v m.disk)
 
   start_line : (r : Option Replica) → m.replica ≡ r → ((v : SuperValue) → r ≡ None → opens m.disk.face ≡ Some v → AreMade g.made v (lying.after m.disk (Mend v))) → ((k : Work) → starting_by m r ≡ Some k → WorksWell k)

@@ -17,7 +17,7 @@ use Rattle.vr_world.specs.Opening.{blank, clouded, clouded_at, clouded_part, fir
 use Rattle.vr_world.specs.Lying.{Lying, lying}
 use Rattle.vr_world.specs.Group.{AreSound, IsFoundAbove, IsUndenied, Member, begins, carried_out, ends, found, keeps_all, keeps_found, kept_at, mended, once_mended, recovered, with_kept}
 use Rattle.vr_world.proofs.Heads.{Spans, forgetting_at, forgetting_checkpoint, forgetting_spans, head_within, known_within, knows_some, part_within, remade_at, remade_spans}
-use Rattle.vr_world.proofs.Slots.{Value, value_is}
+use Rattle.vr_world.proofs.Slots.{Value, least_two, value_is}
 use Rattle.law_4_disks.specs.Beside.{AreMade, HoldsEntry, IsCalm, IsHeld, IsOff, IsOn, MayGo}
 use Rattle.vr_lie.proofs.Keeping.{opens_on}
 use Rattle.law_4_disks.specs.Laws.{OpeningsFind}
@@ -162,8 +162,8 @@ stored_there q k j s first a b e =
     let at : get_or xs i part.Nothing ≡ part_at q j = get_or-drop (k + 1 - q.first) q.parts i part.Nothing ∙ (ap (λ (i : ℕ). get_or q.parts i part.Nothing) place ∙ sym (part_within q j (omega arith))) in
     list_any-from_Any was_stored xs (i, part_at q j, less, get_or_default xs i (part_at q j) part.Nothing less ∙ at, e)
 
-pub sound : (v : SuperValue) (d : Lying) (r : Replica) (m : Member) (made : List Header) → Value v → Final v d r → IsCalm v.fields.mode d → IsHeld d m → AreMade made v d → m.last.fields.cluster ≡ v.fields.cluster → AreSound v (kept_at m) made r
-sound v d r m made w f calm held are home =
+pub sound : (v : SuperValue) (d : Lying) (r : Replica) (m : Member) (made : List Header) → Value v → v.fields.version ≡ 1 → Final v d r → IsCalm v.fields.mode d → IsHeld d m → AreMade made v d → m.last.fields.cluster ≡ v.fields.cluster → AreSound v (kept_at m) made r
+sound v d r m made w version f calm held are home =
     let commit = w.commit in
     let head = w.head in
     let window = w.window in
@@ -186,7 +186,7 @@ sound v d r m made w f calm held are home =
       counted = λ k h a b e c.
           let less : k % 64 < 64 = omega arith in
           let there : HoldsEntry v.fields.cluster h (held_at d.held (k % 64)) = subst (λ (n : ℕ). HoldsEntry n h (held_at d.held (k % 64))) home (held.each (k % 64) h less e) in
-          let one = undenied v k d h w calm.face (calm.stand.each (k % 64) less) there c in
+          let one = undenied v k d h w version calm.face (calm.stand.each (k % 64) less) there c in
           elim (cases_lt v.fields.head k) [
             | inl up ↦ subst IsUndenied (sym (found_above v d r w f k up b)) (undenied_clouded (stored_above q k) (Of v k (slot_at k lying d)) one)
             | inr low ↦ subst IsUndenied (sym (found_named v d r w f k a low)) one
@@ -219,7 +219,7 @@ with_kept_held d m h i y =
     (λ g e. let one : h ≡ g = let both : Some h ≡ Some g = sym (get_or-set_same m.kept at (Some h) None less) ∙ e in cc in subst (λ (g : Header). HoldsEntry m.last.fields.cluster g (held_at d.held at)) one y) i
 
 on_kept : (d : Lying) (m : Member) (h : Header) → IsOn d m → HoldsEntry m.last.fields.cluster h (held_at d.held (slot_of h)) → IsOn d (with_kept h.op (Some h) m)
-on_kept d m h o y = record { calm = o.calm; held = with_kept_held d m h o.held y; value = o.value; under = o.under }
+on_kept d m h o y = record { calm = o.calm; held = with_kept_held d m h o.held y; value = o.value; version = o.version; under = o.under }
 
 on_found : (d : Lying) (m : Member) (p : Part) → IsOn d m → ((h : Header) → p ≡ part.Here h → HoldsEntry m.last.fields.cluster h (held_at d.held (slot_of h))) → IsOn d (keeps_found p m)
 on_found d m (part.Here h) o y = on_kept d m h o (y h refl)
@@ -283,14 +283,14 @@ once_mended_on v d m w h =
 pub openings_find : OpeningsFind
 openings_find d m v made o are =
     let good = ((opens_on d.face o.calm.face).value v o.value).1 in
-    let w = value_is v good in
+    let w = value_is v good (least_two v good o.version) in
     let h = is_mended v d m w good o in
     let one = stood_first v d m good o in
     record {
       go = h.go;
       on = once_mended_on v d m w h;
-      sound = sound v (behind v d) (recovered v d) (ends (Mend v) (begins (Mend v) m)) made w h.final one.on.calm one.on.held are refl;
+      sound = sound v (behind v d) (recovered v d) (ends (Mend v) (begins (Mend v) m)) made w o.version h.final one.on.calm one.on.held are refl;
     }
 
 pub is_mended_of : (v : SuperValue) (d : Lying) (m : Member) → IsOff d m v → IsMended v d m
-is_mended_of v d m o = let good = ((opens_on d.face o.calm.face).value v o.value).1 in is_mended v d m (value_is v good) good o
+is_mended_of v d m o = let good = ((opens_on d.face o.calm.face).value v o.value).1 in is_mended v d m (value_is v good (least_two v good o.version)) good o

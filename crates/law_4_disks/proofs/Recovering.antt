@@ -17,7 +17,7 @@ use Rattle.vr_lie.specs.Faults.{held_at}
 use Rattle.vr_world.specs.Replica.{Replica, part_at, with_part}
 use Rattle.vr_world.specs.Steps.{Effect, Rewrite, Word, ◌⨾◌, quiet, change, does, reading, each, after_all}
 use Rattle.vr_world.specs.Words.{entry_of}
-use Rattle.vr_world.specs.Opening.{Slot, entry_header, first_listed, mend_slot, old_part, part_by, recover_old, recover_op, rewrite, slot_at, slot_verdict, some_part}
+use Rattle.vr_world.specs.Opening.{Slot, entry_header, first_listed, may_be, mend_slot, old_part, part_by, recover_old, recover_op, rewrite, slot_at, slot_verdict, some_part}
 use Rattle.vr_world.specs.Lying.{Lying, lying}
 use Rattle.vr_world.specs.Group.{Member, begins, carried_out, ends, kept_at, kept_under}
 use Rattle.vr_world.proofs.Halves.{after_both}
@@ -31,7 +31,7 @@ use Rattle.law_4_disks.proofs.Effects.{others_after, slot_less}
 use Rattle.law_4_disks.proofs.Found.{read_header, read_whole}
 use Rattle.law_4_disks.proofs.Playing.{reads_entry, stay}
 use Rattle.law_4_disks.proofs.Scripts.{value_is}
-use Rattle.law_4_disks.proofs.Verdicts.{Of, case_of, group_of, here, here_is, lost, nothing, rewrite as rewritten, right_of, unknown, unread, wanted}
+use Rattle.law_4_disks.proofs.Verdicts.{Of, case_of, group_of, here, here_is, lost, nothing, rewrite as rewritten, right_of, unknown, unread, version_of, wanted}
 
 -- ---- scripts one after the other
 
@@ -72,6 +72,14 @@ pub record Stood (v : SuperValue) (d : Lying) (n : ℕ) (g : Lying) (m : Member)
   pub last : m.last ≡ v
   pub left : (k : ℕ) → n < k → k ≤ v.fields.checkpoint + 64 → slot_at k lying g ≡ slot_at k lying d
   pub holds : (k : ℕ) (h : Header) → v.fields.checkpoint < k → k ≤ n → Of v k (slot_at k lying d) ≡ part.Here h → HoldsEntry v.fields.cluster h (held_at g.held (k % 64))
+
+-- what may be an op's is of version 1
+stood_few : (v : SuperValue) (d : Lying) (n : ℕ) (g : Lying) (m : Member) (k : ℕ) (h : Header) → Stood v d n g m → may_be v k h ≡ true → h.version ≤ 1
+stood_few v d n g m k h s e =
+    let most = version_of v k h e in
+    let same = ap (λ (x : SuperValue). x.fields.version) s.last in
+    let one = s.on.version in
+    omega (arith, most, same, one)
 
 -- what a word leaves
 pub record Went (R : Replica → Type 0) (v : SuperValue) (d : Lying) (n : ℕ) (w : Word Lying) (q : Replica) (g : Lying) (m : Member) : Type 0 where
@@ -114,7 +122,7 @@ passes_quiet P v d n q g m p s = record { found = p; stood = s; go = tt }
 slot_stays : (k : ℕ) (h : Header) (g : Lying) → slot_of h ≢ k % 64 → slot_at k lying (lying.after g (Rewrite h)) ≡ slot_at k lying g
 unfolding header_in whole_in
 slot_stays k h g d =
-    let a = apart_alike (header_calls h) g.face (k % 64) (header_apart h (k % 64) (omega arith) d) in
+    let a = apart_alike 1 (header_calls h) g.face (k % 64) (header_apart 1 h (k % 64) (omega arith) d) in
     rw (a.header, a.prepare) refl
 
 other_slot : (c k j : ℕ) → c < k → k < j → j ≤ c + 64 → k % 64 ≡ j % 64 → ⊥
@@ -149,15 +157,15 @@ stood_still v d n g m s own = record {
 }
 
 -- where both sectors read as the entry the slot holds it
-here_holds : (k home : ℕ) (g : Lying) (m : Member) (e : Whole) (x : Slot) → IsOn g m → x ≡ slot_at k lying g → x.entry ≡ Some e → x.header ≡ Some e.header → e.header.op ≡ k → e.header.cluster ≡ home → HoldsEntry home e.header (held_at g.held (k % 64))
-here_holds k home g m e x o is entry head at own =
+here_holds : (k home : ℕ) (g : Lying) (m : Member) (e : Whole) (x : Slot) → IsOn g m → x ≡ slot_at k lying g → x.entry ≡ Some e → x.header ≡ Some e.header → e.header.op ≡ k → e.header.cluster ≡ home → e.header.version ≤ 1 → HoldsEntry home e.header (held_at g.held (k % 64))
+here_holds k home g m e x o is entry head at own few =
     let slot : slot_of e.header ≡ k % 64 = ap (λ (k : ℕ). k % 64) at in
     let less : k % 64 < 64 = omega arith in
-    let w = read_whole g.face (k % 64) e o.calm.face less (ap (λ (x : Slot). x.entry) (sym is) ∙ entry) in
+    let w = read_whole 1 g.face (k % 64) e o.calm.face less (ap (λ (x : Slot). x.entry) (sym is) ∙ entry) in
     let h = read_header g.face (k % 64) e.header o.calm.face less (ap (λ (x : Slot). x.header) (sym is) ∙ head) in
-    let reads : entry_read g.face (k % 64) ≡ Some (prepare_bytes e) =
-    subst (λ (s : ℕ). entry_read g.face s ≡ Some (prepare_bytes e)) slot (reads_entry g.face e w.whole (subst (λ (s : ℕ). header_reading g.face s ≡ Some (sector_of e.header)) (sym slot) h.reads) (subst (λ (s : ℕ). prepare_reading g.face s ≡ Some (prepare_bytes e)) (sym slot) w.reads)) in
-    record { entry = e; whole = w.whole; header = refl; group = own; there = (o.calm.stand.each (k % 64) less).seen (prepare_bytes e) reads }
+    let reads : entry_read 1 g.face (k % 64) ≡ Some (prepare_bytes e) =
+    subst (λ (s : ℕ). entry_read 1 g.face s ≡ Some (prepare_bytes e)) slot (reads_entry 1 g.face e w.whole (subst (λ (s : ℕ). header_reading g.face s ≡ Some (sector_of e.header)) (sym slot) h.reads) (subst (λ (s : ℕ). prepare_reading 1 g.face s ≡ Some (prepare_bytes e)) (sym slot) w.reads)) in
+    record { entry = e; whole = w.whole; header = refl; group = own; version = few; there = (o.calm.stand.each (k % 64) less).seen (prepare_bytes e) reads }
 
 -- the header sector is written
 stood_written : (v : SuperValue) (d : Lying) (n : ℕ) (g : Lying) (m : Member) (e : Whole) → v.fields.checkpoint ≤ n → n < v.fields.checkpoint + 64 → Stood v d n g m → e.header.op ≡ n + 1 → Of v (n + 1) (slot_at (n + 1) lying d) ≡ part.Here e.header
@@ -180,7 +188,7 @@ stood_written v d n g m e low high s at of may =
             subst (λ (s : ℕ). HoldsEntry v.fields.cluster g0 (held_at x.held s)) (slot ∙ ap (λ (k : ℕ). k % 64) (sym same)) (subst (λ (h0 : Header). HoldsEntry v.fields.cluster h0 (held_at x.held (slot_of h))) one y)
         | inr other ↦
             let apart : slot_of h ≢ k % 64 = λ c. other_slot v.fields.checkpoint k (n + 1) a (omega arith) (omega arith) (sym c ∙ slot) in
-            let same = others_after (header_calls h) g (slot_of h) s.on.calm (λ slot l c. header_apart h slot l c) (k % 64) (omega arith) apart in
+            let same = others_after (header_calls h) g (slot_of h) s.on.calm (λ slot l c. header_apart 1 h slot l c) (k % 64) (omega arith) apart in
             subst (HoldsEntry v.fields.cluster g0) (sym same) (s.holds k g0 a (omega arith) z)
       ];
     }
@@ -191,11 +199,11 @@ unfolding quiet after_all carried_out
 went_quiet v d n q g m p s = record { found = p; stood = s; go = tt }
 
 went_rewrite : (v : SuperValue) (d : Lying) (n : ℕ) (q : Replica) (g : Lying) (m : Member) (e : Whole) → v.fields.checkpoint ≤ n → n < v.fields.checkpoint + 64 → Parted v d n q → Stood v d n g m → e.header.op ≡ n + 1
-    → Of v (n + 1) (slot_at (n + 1) lying d) ≡ part.Here e.header → whole_in g.face (slot_of e.header) ≡ Some e → e.header.cluster ≡ v.fields.cluster → Went (Parted v d n) v d (n + 1) (rewrite (Some e.header)) q g m
+    → Of v (n + 1) (slot_at (n + 1) lying d) ≡ part.Here e.header → whole_in 1 g.face (slot_of e.header) ≡ Some e → e.header.cluster ≡ v.fields.cluster → e.header.version ≤ 1 → Went (Parted v d n) v d (n + 1) (rewrite (Some e.header)) q g m
 unfolding does after_all carried_out
-went_rewrite v d n q g m e low high p s at of reads own =
-    let is = (read_whole g.face (slot_of e.header) e s.on.calm.face (slot_less e.header) reads).whole in
-    let may : MayCome (Rewrite e.header) g v = record { fit = (e, reads, refl, own); calls = header_are e.header is.header } in
+went_rewrite v d n q g m e low high p s at of reads own few =
+    let is = (read_whole 1 g.face (slot_of e.header) e s.on.calm.face (slot_less e.header) reads).whole in
+    let may : MayCome (Rewrite e.header) g v = record { fit = (e, reads, refl, own, few); calls = header_are e.header is.header } in
     record { found = p; stood = stood_written v d n g m e low high s at of may; go = (may, tt) }
 
 went_mend : (v : SuperValue) (d : Lying) (n : ℕ) (q : Replica) (g : Lying) (m : Member) (x : Slot) → v.fields.checkpoint ≤ n → n < v.fields.checkpoint + 64 → Parted v d n q → Stood v d n g m → x ≡ slot_at (n + 1) lying g
@@ -211,14 +219,14 @@ went_mend v d n q g m x low high p s is =
       | here e c ↦ subst M (sym c.verdict) (still (λ h z.
           let of = is_part verdict.Here c.verdict ∙ here_is v k x e c.entry in
           let one : e.header ≡ h = let both : part.Here e.header ≡ part.Here h = sym of ∙ z in cc in
-          subst (λ (h : Header). HoldsEntry v.fields.cluster h (held_at g.held (k % 64))) one (here_holds k v.fields.cluster g m e x s.on is c.entry c.header (right_of v k e.header c.fits).0 (group_of v k e.header c.fits))))
+          subst (λ (h : Header). HoldsEntry v.fields.cluster h (held_at g.held (k % 64))) one (here_holds k v.fields.cluster g m e x s.on is c.entry c.header (right_of v k e.header c.fits).0 (group_of v k e.header c.fits) (stood_few v d n g m k e.header s c.fits))))
       | rewritten e c ↦
           let at = (right_of v k e.header c.fits).0 in
           let slot : slot_of e.header ≡ k % 64 = ap (λ (k : ℕ). k % 64) at in
           let of = back ∙ (is_part verdict.Rewrite c.verdict ∙ here_is v k x e c.entry) in
-          let reads : whole_in g.face (slot_of e.header) ≡ Some e = subst (λ (i : ℕ). whole_in g.face i ≡ Some e) (sym slot) (ap (λ (x : Slot). x.entry) (sym is) ∙ c.entry) in
+          let reads : whole_in 1 g.face (slot_of e.header) ≡ Some e = subst (λ (i : ℕ). whole_in 1 g.face i ≡ Some e) (sym slot) (ap (λ (x : Slot). x.entry) (sym is) ∙ c.entry) in
           let head : entry_header x ≡ Some e.header = ap (option_map (λ (e : Whole). e.header)) c.entry in
-          subst M (sym c.verdict) (subst (λ (o : Option Header). Went (Parted v d n) v d (n + 1) (rewrite o) q g m) (sym head) (went_rewrite v d n q g m e low high p s at of reads (group_of v k e.header c.fits)))
+          subst M (sym c.verdict) (subst (λ (o : Option Header). Went (Parted v d n) v d (n + 1) (rewrite o) q g m) (sym head) (went_rewrite v d n q g m e low high p s at of reads (group_of v k e.header c.fits) (stood_few v d n g m k e.header s c.fits)))
       | lost h c ↦ subst M (sym c.verdict) (still (λ h z. absurd (not_here _ part.Lost h (λ g. lost_here g h) (sym (is_part verdict.Lost c.verdict) ∙ z))))
       | unread l e ↦ subst M (sym e) (still (λ h z. absurd (not_here _ part.Lost h (λ g. lost_here g h) (sym (is_part verdict.Lost e) ∙ z))))
       | wanted l e ↦ subst M (sym e) (still (λ h z. absurd (not_here _ part.Wanted h (λ g. wanted_here g h) (sym (is_part verdict.Wanted e) ∙ z))))

@@ -3,8 +3,9 @@ use Rattle.std.proofs.Common.{ℕ, zero, suc, ◌+◌, ◌*◌, ◌≤◌, ◌<�
 use Rattle.std.specs.List.{AllByRecursion}
 use Rattle.std.proofs.lemmas.Bool.{cases_lt}
 use Rattle.vr_disk.specs.DiskState.{Call, Write, Sync, Face}
-use Rattle.vr_disk.specs.Regions.{block_place, prepare_place}
+use Rattle.vr_disk.specs.Regions.{block_place, prepare_place, prepare_sectors}
 use Rattle.vr_disk.specs.Sectors.{has, writes}
+use Rattle.vr_disk.proofs.Places.{behind_headers, in_order}
 use Rattle.vr_disk.proofs.Together.{Within, writes_within}
 use Rattle.vr_header.specs.declared.header.Header.{Header}
 use Rattle.vr_header.specs.Made.{Whole}
@@ -20,33 +21,35 @@ use Rattle.vr_ckpt.specs.declared.block.Block.{Block}
 use Rattle.vr_ckpt.specs.Saves.{blocks_calls, save_calls, written}
 use Rattle.vr_ckpt.specs.Texts.{Texts}
 use Rattle.vr_ckpt.specs.declared.table.PayloadTable.{PayloadTable}
+use Rattle.vr_world.proofs.FitDisks.{grid_behind}
 use Rattle.law_4_disks.proofs.Slots.{apart_append, within_low}
 use Rattle.law_4_disks.proofs.Supers.{From, from_append, writes_from}
 
 -- ---- the superblock's
 
-mends_apart : (n k slot : ℕ) (b : List ℕ) (f : Face) → slot < 64 → k + n ≤ 4 → AllByRecursion (AllApart slot) (mend_from k n b f)
+mends_apart : (ver n k slot : ℕ) (b : List ℕ) (f : Face) → k + n ≤ 4 → AllByRecursion (AllApart ver slot) (mend_from k n b f)
 unfolding mend_from
-mends_apart zero k slot b f l m = tt
-mends_apart (suc n) k slot b f l m =
-    let one : AllByRecursion (AllApart slot) (mend_unless k b f) =
-    elim (has b (copy_reading f k)) as (λ t. AllByRecursion (AllApart slot) (cond t [] (mend_copy k b))) [ true ↦ tt | false ↦ within_low (20 * k) (20 * k + 20) slot (mend_copy k b) l (omega arith) (mend_within k b) ] in
-    apart_append slot (mend_unless k b f) (mend_from (k + 1) n b f) one (mends_apart n (k + 1) slot b f l (omega arith))
+mends_apart ver zero k slot b f m = tt
+mends_apart ver (suc n) k slot b f m =
+    let one : AllByRecursion (AllApart ver slot) (mend_unless k b f) =
+    elim (has b (copy_reading f k)) as (λ t. AllByRecursion (AllApart ver slot) (cond t [] (mend_copy k b))) [ true ↦ tt | false ↦ within_low ver (20 * k) (20 * k + 20) slot (mend_copy k b) (omega arith) (mend_within k b) ] in
+    apart_append ver slot (mend_unless k b f) (mend_from (k + 1) n b f) one (mends_apart ver n (k + 1) slot b f (omega arith))
 
-saves_apart : (n k slot : ℕ) (b : List ℕ) → slot < 64 → k + n ≤ 4 → AllByRecursion (AllApart slot) (save_from k n b)
+saves_apart : (ver n k slot : ℕ) (b : List ℕ) → k + n ≤ 4 → AllByRecursion (AllApart ver slot) (save_from k n b)
 unfolding save_from
-saves_apart zero k slot b l m = tt
-saves_apart (suc n) k slot b l m = apart_append slot (copy_calls k b) (save_from (k + 1) n b) (within_low (20 * k) (20 * k + 20) slot (copy_calls k b) l (omega arith) (copy_within k b)) (saves_apart n (k + 1) slot b l (omega arith))
+saves_apart ver zero k slot b m = tt
+saves_apart ver (suc n) k slot b m = apart_append ver slot (copy_calls k b) (save_from (k + 1) n b) (within_low ver (20 * k) (20 * k + 20) slot (copy_calls k b) (omega arith) (copy_within k b)) (saves_apart ver n (k + 1) slot b (omega arith))
 
-pub mend_apart : (v : SuperValue) (f : Face) (slot : ℕ) → slot < 64 → AllByRecursion (AllApart slot) (mend_calls v f)
-mend_apart v f slot l = mends_apart 4 0 slot (copy_bytes v) f l (omega arith)
+pub mend_apart : (ver : ℕ) (v : SuperValue) (f : Face) (slot : ℕ) → AllByRecursion (AllApart ver slot) (mend_calls v f)
+mend_apart ver v f slot = mends_apart ver 4 0 slot (copy_bytes v) f (omega arith)
 
-pub write_apart : (old new : SuperValue) (f : Face) (slot : ℕ) → slot < 64 → AllByRecursion (AllApart slot) (write_calls old new f)
-write_apart old new f slot l = apart_append slot (mend_calls old f) (save_from 0 4 (copy_bytes new)) (mend_apart old f slot l) (saves_apart 4 0 slot (copy_bytes new) l (omega arith))
+pub write_apart : (ver : ℕ) (old new : SuperValue) (f : Face) (slot : ℕ) → AllByRecursion (AllApart ver slot) (write_calls old new f)
+write_apart ver old new f slot = apart_append ver slot (mend_calls old f) (save_from 0 4 (copy_bytes new)) (mend_apart ver old f slot) (saves_apart ver 4 0 slot (copy_bytes new) (omega arith))
 
 -- ---- the grid's
 
-pub from_apart : (slot : ℕ) (cs : List Call) → slot < 64 → AllByRecursion (From 400) cs → AllByRecursion (AllApart slot) cs
+-- which the slots of a file of version 1 lie in front of
+pub from_apart : (slot : ℕ) (cs : List Call) → slot < 64 → AllByRecursion (From 400) cs → AllByRecursion (AllApart 1 slot) cs
 from_apart slot [] l a = tt
 from_apart slot (Sync ∷ cs) l a = (tt, from_apart slot cs l a.1)
 from_apart slot (Write i b ∷ cs) l a = let x = a.0 in (((λ e. omega arith), inr (omega arith)), from_apart slot cs l a.1)
@@ -58,7 +61,7 @@ from_less low high (Write i b ∷ cs) l a = let x = a.0 in (omega arith, from_le
 
 block_from : (address : ℕ) (b : List ℕ) → AllByRecursion (From 400) (block_calls address b)
 unfolding block_calls
-block_from address b = writes_from 8 (block_place address) 400 b (omega arith)
+block_from address b = writes_from 8 (block_place address) 400 b (grid_behind address)
 
 pub put_from : (address : ℕ) (b : List ℕ) → AllByRecursion (From 400) (put_calls address b)
 unfolding put_calls
@@ -75,41 +78,50 @@ checkpoint_from cluster texts op old = from_append 400 (blocks_calls (written cl
 
 -- ---- the rings'
 
-prepare_from : (e : Whole) → AllByRecursion (From 80) (prepare_calls e)
+prepare_from : (ver : ℕ) (e : Whole) → AllByRecursion (From 80) (prepare_calls ver e)
 unfolding prepare_calls
-prepare_from e = from_append 80 (writes (prepare_place (slot_of e.header)) 4 (prepare_bytes e)) (Sync ∷ []) (writes_from 4 (prepare_place (slot_of e.header)) 80 (prepare_bytes e) (omega arith)) (tt, tt)
+prepare_from ver e =
+    let at = prepare_place ver (slot_of e.header) in
+    let n = prepare_sectors ver in
+    let behind = behind_headers ver (slot_of e.header) in
+    from_append 80 (writes at n (prepare_bytes e)) (Sync ∷ []) (writes_from n at 80 (prepare_bytes e) (omega (arith, behind))) (tt, tt)
 
 pub header_from : (h : Header) → AllByRecursion (From 80) (header_calls h)
 unfolding header_calls
 header_from h = (omega arith, (tt, tt))
 
-pub new_from : (e : Whole) → AllByRecursion (From 80) (new_calls e)
-new_from e = from_append 80 (prepare_calls e) (header_calls e.header) (prepare_from e) (header_from e.header)
+pub new_from : (ver : ℕ) (e : Whole) → AllByRecursion (From 80) (new_calls ver e)
+new_from ver e = from_append 80 (prepare_calls ver e) (header_calls e.header) (prepare_from ver e) (header_from e.header)
 
-pub again_from : (e : Whole) → AllByRecursion (From 80) (again_calls e)
-again_from e = from_append 80 (header_calls e.header) (prepare_calls e) (header_from e.header) (prepare_from e)
+pub again_from : (ver : ℕ) (e : Whole) → AllByRecursion (From 80) (again_calls ver e)
+again_from ver e = from_append 80 (header_calls e.header) (prepare_calls ver e) (header_from e.header) (prepare_from ver e)
 
-ring_apart : (s slot : ℕ) (cs : List Call) → slot < 64 → s ≢ slot → AllByRecursion (Within (prepare_place s) (prepare_place s + 4)) cs → AllByRecursion (AllApart slot) cs
+ring_apart : (ver s slot : ℕ) (cs : List Call) → s < 64 → slot < 64 → s ≢ slot → AllByRecursion (Within (prepare_place ver s) (prepare_place ver s + prepare_sectors ver)) cs → AllByRecursion (AllApart ver slot) cs
 unfolding Within
-ring_apart s slot [] b d w = tt
-ring_apart s slot (Write i x ∷ cs) b d w =
+ring_apart ver s slot [] a b d w = tt
+ring_apart ver s slot (Write i x ∷ cs) a b d w =
     let p = w.0 in
-    let other : (i < prepare_place slot) ⊎ (prepare_place slot + 4 ≤ i) = elim (cases_lt s slot) [ inl l ↦ inl (omega arith) | inr g ↦ inr (omega arith) ] in
-    (((λ e. omega arith), other), ring_apart s slot cs b d w.1)
-ring_apart s slot (Sync ∷ cs) b d w = (tt, ring_apart s slot cs b d w.1)
+    let behind = behind_headers ver s in
+    let other : (i < prepare_place ver slot) ⊎ (prepare_place ver slot + prepare_sectors ver ≤ i) = elim (cases_lt s slot) [
+      | inl l ↦ let o = in_order ver s slot l in inl (omega (arith, o, p))
+      | inr g ↦ let less : slot < s = omega (arith, g, d) in let o = in_order ver slot s less in inr (omega (arith, o, p))
+    ] in
+    (((λ e. omega (arith, b, behind, p)), other), ring_apart ver s slot cs a b d w.1)
+ring_apart ver s slot (Sync ∷ cs) a b d w = (tt, ring_apart ver s slot cs a b d w.1)
 
-prepare_apart : (e : Whole) (slot : ℕ) → slot < 64 → slot_of e.header ≢ slot → AllByRecursion (AllApart slot) (prepare_calls e)
+prepare_apart : (ver : ℕ) (e : Whole) (slot : ℕ) → slot < 64 → slot_of e.header ≢ slot → AllByRecursion (AllApart ver slot) (prepare_calls ver e)
 unfolding prepare_calls
-prepare_apart e slot l d =
-    let at = prepare_place (slot_of e.header) in
-    apart_append slot (writes at 4 (prepare_bytes e)) (Sync ∷ []) (ring_apart (slot_of e.header) slot (writes at 4 (prepare_bytes e)) l d (writes_within at (at + 4) 4 at (prepare_bytes e) (omega arith) (omega arith))) (tt, tt)
+prepare_apart ver e slot l d =
+    let at = prepare_place ver (slot_of e.header) in
+    let n = prepare_sectors ver in
+    apart_append ver slot (writes at n (prepare_bytes e)) (Sync ∷ []) (ring_apart ver (slot_of e.header) slot (writes at n (prepare_bytes e)) (omega arith) l d (writes_within at (at + n) n at (prepare_bytes e) (omega arith) (omega arith))) (tt, tt)
 
-pub header_apart : (h : Header) (slot : ℕ) → slot < 64 → slot_of h ≢ slot → AllByRecursion (AllApart slot) (header_calls h)
+pub header_apart : (ver : ℕ) (h : Header) (slot : ℕ) → slot < 64 → slot_of h ≢ slot → AllByRecursion (AllApart ver slot) (header_calls h)
 unfolding header_calls
-header_apart h slot l d = (((λ e. d (omega arith)), inl (omega arith)), (tt, tt))
+header_apart ver h slot l d = let behind = behind_headers ver slot in (((λ e. d (omega arith)), inl (omega (arith, behind))), (tt, tt))
 
-pub new_apart : (e : Whole) (slot : ℕ) → slot < 64 → slot_of e.header ≢ slot → AllByRecursion (AllApart slot) (new_calls e)
-new_apart e slot l d = apart_append slot (prepare_calls e) (header_calls e.header) (prepare_apart e slot l d) (header_apart e.header slot l d)
+pub new_apart : (ver : ℕ) (e : Whole) (slot : ℕ) → slot < 64 → slot_of e.header ≢ slot → AllByRecursion (AllApart ver slot) (new_calls ver e)
+new_apart ver e slot l d = apart_append ver slot (prepare_calls ver e) (header_calls e.header) (prepare_apart ver e slot l d) (header_apart ver e.header slot l d)
 
-pub again_apart : (e : Whole) (slot : ℕ) → slot < 64 → slot_of e.header ≢ slot → AllByRecursion (AllApart slot) (again_calls e)
-again_apart e slot l d = apart_append slot (header_calls e.header) (prepare_calls e) (header_apart e.header slot l d) (prepare_apart e slot l d)
+pub again_apart : (ver : ℕ) (e : Whole) (slot : ℕ) → slot < 64 → slot_of e.header ≢ slot → AllByRecursion (AllApart ver slot) (again_calls ver e)
+again_apart ver e slot l d = apart_append ver slot (header_calls e.header) (prepare_calls ver e) (header_apart ver e.header slot l d) (prepare_apart ver e slot l d)

@@ -1,5 +1,5 @@
 -- Scripts: what is carried out, and a stop at a call, which is a stop within an effect.
-use Rattle.std.proofs.Common.{ℕ, zero, suc, take, ◌+◌, ◌-◌, ◌≤◌, ◌<◌, ◌≡◌, inl, inr, arith, refl, sym, ap, ◌∙◌, subst, List, [], ◌∷◌, ◌++◌, length, Option}
+use Rattle.std.proofs.Common.{ℕ, suc, take, ◌+◌, ◌-◌, ◌≤◌, ◌<◌, ◌≡◌, inl, inr, arith, refl, sym, ap, ◌∙◌, subst, List, [], ◌∷◌, ◌++◌, length}
 use Rattle.std.proofs.lemmas.Bool.{cases_lt, le-ltb, lt-ltb}
 use Rattle.std.proofs.lemmas.List.{length-append}
 use Rattle.vr_disk.specs.DiskState.{Call, Face, IsFace}
@@ -7,7 +7,8 @@ use Rattle.vr_disk.specs.DiskState as disk
 use Rattle.vr_disk.proofs.Stopping.{cuts_both}
 use Rattle.vr_lie.specs.Copies.{SuperValue}
 use Rattle.vr_lie.specs.Opens.{opens}
-use Rattle.vr_lie.specs.Held.{Stands, held_after, held_after_all, held_cut}
+use Rattle.vr_lie.specs.Held.{Stands, held_after_all, held_cut}
+use Rattle.vr_lie.proofs.Cutting.{held_both}
 use Rattle.vr_lie.specs.Faults.{held_at}
 use Rattle.vr_world.specs.Steps.{Effect, Write, Rewrite, Save, Mend, Checkpoint, PutBlock, Say, after_all}
 use Rattle.vr_world.specs.Sectors.{calls, calls_of}
@@ -48,29 +49,20 @@ same_off d x m v s o = record {
   calm = record {
     face = subst IsFace (sym s.face) o.calm.face;
     rests = ap (λ (f : Face). f.waiting) s.face ∙ o.calm.rests;
-    stand = record { each = λ slot l. subst (λ (f : Face). Stands v.fields.mode f slot (held_at x.held slot)) (sym s.face) (subst (Stands v.fields.mode d.face slot) (sym (s.held slot l)) (o.calm.stand.each slot l)) };
+    stand = record { each = λ slot l. subst (λ (f : Face). Stands 1 v.fields.mode f slot (held_at x.held slot)) (sym s.face) (subst (Stands 1 v.fields.mode d.face slot) (sym (s.held slot l)) (o.calm.stand.each slot l)) };
   };
   held = record { count = o.held.count; each = λ slot h l e. subst (HoldsEntry m.last.fields.cluster h) (sym (s.held slot l)) (o.held.each slot h l e) };
   value = ap opens s.face ∙ o.value;
+  version = o.version;
   may = o.may;
   group = o.group;
 }
 
-pub both_held : (cs ds : List Call) (f : Face) (slot : ℕ) (held : Option (List ℕ)) (j code : ℕ)
-    → (j < length cs → held_cut j code f (cs ++ ds) slot held ≡ held_cut j code f cs slot held) × (length cs ≤ j → held_cut j code f (cs ++ ds) slot held ≡ held_cut (j - length cs) code (disk.after_all f cs) ds slot (held_after_all f cs slot held))
-unfolding held_cut held_after_all
-both_held [] ds f slot held j code = (λ l. absurd (omega arith), λ l. let e : j - 0 ≡ j = omega arith in rw e refl)
-both_held (c ∷ cs) ds f slot held zero code = (λ l. refl, λ l. absurd (omega arith))
-both_held (c ∷ cs) ds f slot held (suc j) code =
-    let rest = both_held cs ds (disk.after f c) slot (held_after f c slot held) j code in
-    let e : suc j - length (c ∷ cs) ≡ j - length cs = omega arith in
-    (λ l. rest.0 (omega arith), λ l. rw e (rest.1 (omega arith)))
-
 cut_first : (cs ds : List Call) (d : Lying) (j code : ℕ) → j < length cs → Same (cut_calls j code d cs) (cut_calls j code d (cs ++ ds))
 cut_first cs ds d j code l = record {
   face = (cuts_both cs ds d.face j code).first l;
-  held = λ slot b. at_slot (λ slot. held_cut j code d.face (cs ++ ds) slot (held_at d.held slot)) slot b
-      ∙ ((both_held cs ds d.face slot (held_at d.held slot) j code).0 l ∙ sym (at_slot (λ slot. held_cut j code d.face cs slot (held_at d.held slot)) slot b));
+  held = λ slot b. at_slot (λ slot. held_cut 1 j code d.face (cs ++ ds) slot (held_at d.held slot)) slot b
+      ∙ ((held_both 1 cs ds d.face slot (held_at d.held slot) j code).0 l ∙ sym (at_slot (λ slot. held_cut 1 j code d.face cs slot (held_at d.held slot)) slot b));
 }
 
 cut_later : (cs ds : List Call) (d : Lying) (j code : ℕ) → length cs ≤ j → Same (cut_calls (j - length cs) code (after_calls d cs) ds) (cut_calls j code d (cs ++ ds))
@@ -80,9 +72,9 @@ cut_later cs ds d j code l =
     let x : Lying = after_calls d cs in
     record {
       face = (cuts_both cs ds d.face j code).later l;
-      held = λ slot b. at_slot (λ slot. held_cut j code d.face (cs ++ ds) slot (held_at d.held slot)) slot b
-          ∙ ((both_held cs ds d.face slot (held_at d.held slot) j code).1 l
-          ∙ (ap (held_cut k code g ds slot) (sym (at_slot (λ slot. held_after_all d.face cs slot (held_at d.held slot)) slot b)) ∙ sym (at_slot (λ slot. held_cut k code g ds slot (held_at x.held slot)) slot b)));
+      held = λ slot b. at_slot (λ slot. held_cut 1 j code d.face (cs ++ ds) slot (held_at d.held slot)) slot b
+          ∙ ((held_both 1 cs ds d.face slot (held_at d.held slot) j code).1 l
+          ∙ (ap (held_cut 1 k code g ds slot) (sym (at_slot (λ slot. held_after_all 1 d.face cs slot (held_at d.held slot)) slot b)) ∙ sym (at_slot (λ slot. held_cut 1 k code g ds slot (held_at x.held slot)) slot b)));
     }
 
 same_cut : (es : List Effect) (f : Face) (j : ℕ) (d x : Lying) (m : Member) → Same d x → IsCutAt es f j d m → IsCutAt es f j x m

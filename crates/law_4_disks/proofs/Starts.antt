@@ -8,6 +8,7 @@ use Rattle.vr_disk.proofs.Together.{after_all_append}
 use Rattle.vr_disk.proofs.Stopping.{cuts_both}
 use Rattle.vr_lie.specs.Copies.{SuperValue}
 use Rattle.vr_lie.specs.Held.{held_after, held_after_all, held_cut}
+use Rattle.vr_lie.proofs.Cutting.{held_both}
 use Rattle.vr_lie.specs.Faults.{held_at}
 use Rattle.vr_world.specs.Steps.{Effect, Mend, Step, ◌⨾◌, after_all, does}
 use Rattle.vr_world.specs.Opening.{blank, opening, recover_parts}
@@ -17,7 +18,7 @@ use Rattle.vr_world.specs.Group.{Member, carried_out, cut_after, cut_in_two, fou
 use Rattle.vr_world.proofs.Halves.{openings_go_on}
 use Rattle.law_4_disks.specs.Beside.{IsCutAt, IsOff, IsOn, MayGo, TellsIn, begun_before}
 use Rattle.law_4_disks.proofs.Effects.{at_slot}
-use Rattle.law_4_disks.proofs.Scripts.{Same, both_held, openings_cut, same_off, scripts_cut}
+use Rattle.law_4_disks.proofs.Scripts.{Same, openings_cut, same_off, scripts_cut}
 
 pub opening_is : (v : SuperValue) (d : Lying) → let whole : Step = record { replica = (resumed v d).replica; script = opening_script v d } in opening v lying (blank v) d ≡ whole
 unfolding ◌⨾◌
@@ -38,18 +39,18 @@ unfolding after_all calls
 face_all [] d = refl
 face_all (e ∷ es) d = face_all es (lying.after d e) ∙ sym (after_all_append (calls_of e d.face) (calls es (lying.after d e).face) d.face)
 
-held_both : (cs ds : List Call) (f : Face) (slot : ℕ) (held : Option (List ℕ)) → held_after_all f (cs ++ ds) slot held ≡ held_after_all (disk.after_all f cs) ds slot (held_after_all f cs slot held)
+held_all_both : (ver : ℕ) (cs ds : List Call) (f : Face) (slot : ℕ) (held : Option (List ℕ)) → held_after_all ver f (cs ++ ds) slot held ≡ held_after_all ver (disk.after_all f cs) ds slot (held_after_all ver f cs slot held)
 unfolding held_after_all
-held_both [] ds f slot held = refl
-held_both (c ∷ cs) ds f slot held = held_both cs ds (disk.after f c) slot (held_after f c slot held)
+held_all_both ver [] ds f slot held = refl
+held_all_both ver (c ∷ cs) ds f slot held = held_all_both ver cs ds (disk.after f c) slot (held_after ver f c slot held)
 
-held_all : (a : List Effect) (d : Lying) (slot : ℕ) → slot < 64 → held_at (after_all lying d a).held slot ≡ held_after_all d.face (calls a d.face) slot (held_at d.held slot)
+held_all : (a : List Effect) (d : Lying) (slot : ℕ) → slot < 64 → held_at (after_all lying d a).held slot ≡ held_after_all 1 d.face (calls a d.face) slot (held_at d.held slot)
 unfolding after_all calls held_after_all
 held_all [] d slot l = refl
 held_all (e ∷ es) d slot l =
     let cs = calls_of e d.face in
     let x : Lying = lying.after d e in
-    held_all es x slot l ∙ (ap (held_after_all x.face (calls es x.face) slot) (at_slot (λ slot. held_after_all d.face cs slot (held_at d.held slot)) slot l) ∙ sym (held_both cs (calls es x.face) d.face slot (held_at d.held slot)))
+    held_all es x slot l ∙ (ap (held_after_all 1 x.face (calls es x.face) slot) (at_slot (λ slot. held_after_all 1 d.face cs slot (held_at d.held slot)) slot l) ∙ sym (held_all_both 1 cs (calls es x.face) d.face slot (held_at d.held slot)))
 
 -- a stop in the second of two scripts
 cut_second : (a b : List Effect) (d : Lying) (j code : ℕ) → length (calls a d.face) ≤ j
@@ -62,11 +63,11 @@ cut_second a b d j code l =
     let all : calls (a ++ b) d.face ≡ cs ++ ds = calls_both a b d.face ∙ ap (λ (y : Face). cs ++ calls b y) (sym (face_all a d)) in
     record {
       face = ap (λ (es : List Call). disk.cut j code d.face es) all ∙ ((cuts_both cs ds d.face j code).later l ∙ ap (λ (y : Face). disk.cut k code y ds) (sym (face_all a d)));
-      held = λ slot b0. at_slot (λ slot. held_cut j code d.face (calls (a ++ b) d.face) slot (held_at d.held slot)) slot b0
-          ∙ (ap (λ (es : List Call). held_cut j code d.face es slot (held_at d.held slot)) all
-          ∙ ((both_held cs ds d.face slot (held_at d.held slot) j code).1 l
-          ∙ (ap (λ (y : Face). held_cut k code y ds slot (held_after_all d.face cs slot (held_at d.held slot))) (sym (face_all a d))
-          ∙ (ap (held_cut k code x.face ds slot) (sym (held_all a d slot b0)) ∙ sym (at_slot (λ slot. held_cut k code x.face ds slot (held_at x.held slot)) slot b0)))));
+      held = λ slot b0. at_slot (λ slot. held_cut 1 j code d.face (calls (a ++ b) d.face) slot (held_at d.held slot)) slot b0
+          ∙ (ap (λ (es : List Call). held_cut 1 j code d.face es slot (held_at d.held slot)) all
+          ∙ ((held_both 1 cs ds d.face slot (held_at d.held slot) j code).1 l
+          ∙ (ap (λ (y : Face). held_cut 1 k code y ds slot (held_after_all 1 d.face cs slot (held_at d.held slot))) (sym (face_all a d))
+          ∙ (ap (held_cut 1 k code x.face ds slot) (sym (held_all a d slot b0)) ∙ sym (at_slot (λ slot. held_cut 1 k code x.face ds slot (held_at x.held slot)) slot b0)))));
     }
 
 cut_before : (a b : List Effect) (d : Lying) (j code : ℕ) → j < length (calls a d.face) → Same (cut_calls j code d (calls a d.face)) (cut_calls j code d (calls (a ++ b) d.face))
@@ -76,9 +77,9 @@ cut_before a b d j code l =
     let all = calls_both a b d.face in
     record {
       face = ap (λ (es : List Call). disk.cut j code d.face es) all ∙ (cuts_both cs ds d.face j code).first l;
-      held = λ slot b0. at_slot (λ slot. held_cut j code d.face (calls (a ++ b) d.face) slot (held_at d.held slot)) slot b0
-          ∙ (ap (λ (es : List Call). held_cut j code d.face es slot (held_at d.held slot)) all
-          ∙ ((both_held cs ds d.face slot (held_at d.held slot) j code).0 l ∙ sym (at_slot (λ slot. held_cut j code d.face cs slot (held_at d.held slot)) slot b0)));
+      held = λ slot b0. at_slot (λ slot. held_cut 1 j code d.face (calls (a ++ b) d.face) slot (held_at d.held slot)) slot b0
+          ∙ (ap (λ (es : List Call). held_cut 1 j code d.face es slot (held_at d.held slot)) all
+          ∙ ((held_both 1 cs ds d.face slot (held_at d.held slot) j code).0 l ∙ sym (at_slot (λ slot. held_cut 1 j code d.face cs slot (held_at d.held slot)) slot b0)));
     }
 
 pub record IsStartCut (v : SuperValue) (d : Lying) (q : Member) (j code : ℕ) : Type 0 where

@@ -5,6 +5,8 @@ use Rattle.std.specs.List.{AllByRecursion, flat_map}
 use Rattle.std.specs.Option.{option_map_or}
 use Rattle.std.specs.Ordering.{eq_by_cmp, nat_cmp}
 use Rattle.std.proofs.lemmas.Bool.{cond_both, ltb-true, ltb-false}
+use Rattle.vr_base.specs.Versions.{session_limit, value_limit}
+use Rattle.vr_base.proofs.Versions.{more}
 use Rattle.vr_base.specs.Bytes.{IsBytes, bytes16, bytes32, bytes64}
 use Rattle.vr_base.proofs.AreBytes.{IsBytes-append, IsBytes-bytes16, IsBytes-bytes32, IsBytes-bytes64, IsBytes-none, IsBytes-one}
 use Rattle.vr_header.specs.Bodies.{IsOperation, outcome_bytes}
@@ -15,7 +17,7 @@ use Rattle.vr_header.specs.declared.operation.Operation.TheVariants.{Register, P
 use Rattle.vr_header.specs.declared.outcome.Outcome.{Outcome}
 use Rattle.vr_header.specs.declared.outcome.Outcome.TheVariants as outcome
 use Rattle.vr_header.proofs.AreBytes.{text-are}
-use Rattle.vr_header.proofs.BodyLaws.{text_limit}
+use Rattle.vr_header.proofs.BodyLaws.{text_limit, text_more}
 use Rattle.vr_ckpt.specs.Finite.{byte_order, find, put}
 use Rattle.vr_ckpt.specs.Table.{table_text}
 use Rattle.vr_ckpt.specs.Kv as kv
@@ -33,7 +35,7 @@ use Rattle.vr_ckpt.specs.SessionAnswer.TheVariants as answer
 use Rattle.vr_ckpt.proofs.SessionSteps.{evicted_applied, evicted_held, full_has_oldest, room_applied, room_held, there_applied, there_held}
 use Rattle.vr_ckpt.proofs.Spelled.{length-sessions_text, sessions_found}
 use Rattle.vr_ckpt.specs.Folds.{applied, answered, empty, asked, check, executed}
-use Rattle.vr_ckpt.specs.StateTexts.{both_read, payloads, state_decoded, texts_of}
+use Rattle.vr_ckpt.specs.StateTexts.{both_read, key_payloads, payloads, session_payloads, state_decoded, texts_of}
 use Rattle.vr_ckpt.specs.Texts.{Texts}
 use Rattle.vr_ckpt.specs.State.{State}
 use Rattle.vr_lie.specs.Slots.{IsWhole}
@@ -50,7 +52,7 @@ outcome_are outcome.Session f = IsBytes-one 1 [] (omega arith) IsBytes-none
 outcome_are outcome.Ok f = IsBytes-one 2 [] (omega arith) IsBytes-none
 outcome_are outcome.Full f = IsBytes-one 3 [] (omega arith) IsBytes-none
 outcome_are outcome.Absent f = IsBytes-one 4 [] (omega arith) IsBytes-none
-outcome_are (outcome.Value value) f = IsBytes-append (5 ∷ bytes16 (length value)) value (IsBytes-one 5 (bytes16 (length value)) (omega arith) (IsBytes-bytes16 (length value))) (text-are 1024 value f)
+outcome_are (outcome.Value value) f = IsBytes-append (5 ∷ bytes16 (length value)) value (IsBytes-one 5 (bytes16 (length value)) (omega arith) (IsBytes-bytes16 (length value))) (text-are (value_limit 2) value f)
 
 session_are : (e : ℕ × Session) → sess.Fits e → IsBytes (session_text e)
 unfolding session_text
@@ -70,7 +72,7 @@ pair_are : (e : List ℕ × List ℕ) → pairs.Fits e → IsBytes (pair_text e)
 unfolding pair_text
 pair_are e f =
     let k = text_limit 64 e.0 f.key in
-    IsBytes-one (length e.0) (bytes16 (length e.1) ++ (e.0 ++ e.1)) (omega (arith, k)) (IsBytes-append (bytes16 (length e.1)) (e.0 ++ e.1) (IsBytes-bytes16 (length e.1)) (IsBytes-append e.0 e.1 (text-are 64 e.0 f.key) (text-are 1024 e.1 f.value)))
+    IsBytes-one (length e.0) (bytes16 (length e.1) ++ (e.0 ++ e.1)) (omega (arith, k)) (IsBytes-append (bytes16 (length e.1)) (e.0 ++ e.1) (IsBytes-bytes16 (length e.1)) (IsBytes-append e.0 e.1 (text-are 64 e.0 f.key) (text-are (value_limit 2) e.1 f.value)))
 
 all_pairs : (m : kv.Map) → AllByRecursion pairs.Fits m → IsBytes (flat_map pair_text m)
 all_pairs [] h = IsBytes-none
@@ -84,8 +86,8 @@ keys_are m h = IsBytes-append (bytes16 (length m)) (flat_map pair_text m) (IsByt
 pub record IsText (t : Texts) : Type 0 where
   pub sessions : IsBytes t.sessions
   pub keys : IsBytes t.keys
-  pub few_sessions : payloads (length t.sessions) ≤ 9
-  pub few_keys : payloads (length t.keys) ≤ 36
+  pub few_sessions : payloads (length t.sessions) ≤ session_payloads
+  pub few_keys : payloads (length t.keys) ≤ key_payloads
 
 pub text_of_state : (s : State) → IsState s → IsText (texts_of s)
 text_of_state s h =
@@ -95,11 +97,11 @@ text_of_state s h =
 
 -- ---- applying
 
-find_fits : (m : kv.Map) (key value : List ℕ) → AllByRecursion pairs.Fits m → find byte_order key m ≡ Some value → is_text 1024 value ≡ true
+find_fits : (m : kv.Map) (key value : List ℕ) → AllByRecursion pairs.Fits m → find byte_order key m ≡ Some value → is_text (value_limit 2) value ≡ true
 find_fits [] key value h e = absurd cc
 find_fits (x ∷ xs) key value h e =
-    elim (eq_by_cmp byte_order key x.0) as (λ b. cond b (Some x.1) (find byte_order key xs) ≡ Some value → is_text 1024 value ≡ true) [
-      | true ↦ λ e. (let same : x.1 ≡ value = cc in subst (λ (v : List ℕ). is_text 1024 v ≡ true) same h.0.value)
+    elim (eq_by_cmp byte_order key x.0) as (λ b. cond b (Some x.1) (find byte_order key xs) ≡ Some value → is_text (value_limit 2) value ≡ true) [
+      | true ↦ λ e. (let same : x.1 ≡ value = cc in subst (λ (v : List ℕ). is_text (value_limit 2) v ≡ true) same h.0.value)
       | false ↦ λ e. find_fits xs key value h.1 e
     ] e
 
@@ -122,34 +124,34 @@ record Machined (m : kv.Map) (o : Operation) : Type 0 where
   machine : IsKv (kv.applied m o).machine
   outcome : OutcomeFits (kv.applied m o).outcome
 
-machined : (m : kv.Map) (o : Operation) → IsKv m → IsOperation o → Machined m o
+machined : (v : ℕ) (m : kv.Map) (o : Operation) → v ≤ 2 → IsKv m → IsOperation v o → Machined m o
 unfolding kv.applied kv.getting
-machined m Register h g = record { machine = h; outcome = tt }
-machined m (Put key value) h g = record { machine = IsKv-putting m key value h (record { key = g.0; value = g.1 }); outcome = putting_fits m key value }
-machined m (Get key) h g = record { machine = h; outcome = getting_fits m key h }
-machined m (Delete key) h g = record { machine = IsKv-deleting m key h; outcome = deleting_fits m key }
+machined v m Register l h g = record { machine = h; outcome = tt }
+machined v m (Put key value) l h g = record { machine = IsKv-putting m key value h (record { key = g.0; value = text_more (value_limit v) (value_limit 2) value (more v 2 1024 3000 l (omega arith) (omega arith)) g.1 }); outcome = putting_fits m key value }
+machined v m (Get key) l h g = record { machine = h; outcome = getting_fits m key h }
+machined v m (Delete key) l h g = record { machine = IsKv-deleting m key h; outcome = deleting_fits m key }
 
 stored_sessions : (m : sess.Map) (a : sess.Asked) → IsSessions m → sess.Fits (a.client, stored a) → IsSessions (sess.applied m a)
 stored_sessions m a held f =
-    let by : (room there : Bool) → ltb (length m) 32 ≡ room → is_some (find nat_cmp a.client m) ≡ there → IsSessions (sess.applied m a) = elim [
-      | true ↦ λ there r t. subst IsSessions (room_applied m a held f (ltb-true (length m) 32 r)) (room_held m a held f (ltb-true (length m) 32 r))
+    let by : (room there : Bool) → ltb (length m) (session_limit a.version) ≡ room → is_some (find nat_cmp a.client m) ≡ there → IsSessions (sess.applied m a) = elim [
+      | true ↦ λ there r t. subst IsSessions (room_applied m a held f (ltb-true (length m) (session_limit a.version) r)) (room_held m a held f (ltb-true (length m) (session_limit a.version) r))
       | false ↦ elim [
-        | true ↦ λ r t. subst IsSessions (there_applied m a held f (ltb-false (length m) 32 r) t) (there_held m a held f (ltb-false (length m) 32 r) t)
+        | true ↦ λ r t. subst IsSessions (there_applied m a held f (ltb-false (length m) (session_limit a.version) r) t) (there_held m a held f (ltb-false (length m) (session_limit a.version) r) t)
         | false ↦ λ r t.
-            let full = ltb-false (length m) 32 r in
+            let full = ltb-false (length m) (session_limit a.version) r in
             elim (oldest m) as (λ o. oldest m ≡ o → IsSessions (sess.applied m a)) [
-              | None ↦ λ e. absurd (full_has_oldest m full e)
+              | None ↦ λ e. absurd (full_has_oldest a.version m full e)
               | Some d ↦ λ e. subst IsSessions (evicted_applied m a held f full t d.0 d.1 e) (evicted_held m a held f full t d.0 d.1 e)
             ] refl
       ]
     ] in
-    by (ltb (length m) 32) (is_some (find nat_cmp a.client m)) refl refl
+    by (ltb (length m) (session_limit a.version)) (is_some (find nat_cmp a.client m)) refl refl
 
 -- an entry that is applied
 pub state_kept : (s : State) (e : Whole) → IsState s → IsWhole e → IsState (applied s e).state
 unfolding applied answered executed
 state_kept s e h w =
-    let m = machined s.machine e.operation h.machine w.operation in
+    let m = machined e.header.version s.machine e.operation w.header.version.1 h.machine w.entry.body.fits in
     let f : sess.Fits ((asked s e).client, stored (asked s e)) = record { client = w.header.client; number = w.header.request; op = w.entry.header.op.1; outcome = m.outcome } in
     elim (check s e) as (λ a. IsState (answered s e a).state) [
       | answer.Fresh ↦ record { sessions = stored_sessions s.sessions (asked s e) h.sessions f; machine = m.machine }

@@ -1,5 +1,5 @@
 -- What writes of blocks words make, and what a replica keeps of which its checkpoints are written.
-use Rattle.std.proofs.Common.{◌≡◌, refl, sym, subst, ℕ, zero, suc, Bool, true, false, cond, List, [], ◌∷◌, ◌++◌, map, Option, Some, None, Result, Ok, Err}
+use Rattle.std.proofs.Common.{◌≡◌, refl, sym, subst, ℕ, zero, suc, Bool, true, false, cond, List, [], ◌∷◌, ◌++◌, map, Option, Some, None, Ok}
 use Rattle.std.specs.Prelude.{◌%◌}
 use Rattle.std.specs.Option.{option_and_then}
 use Rattle.std.proofs.Common.{arith}
@@ -24,18 +24,18 @@ use Rattle.vr_ckpt.specs.Texts.{Texts}
 use Rattle.vr_ckpt.specs.State.{State}
 use Rattle.vr_ckpt.specs.Folds as applying
 use Rattle.vr_ckpt.specs.StateTexts.{state_decoded, texts_of}
-use Rattle.vr_ckpt.specs.StateFault.{StateFault}
 use Rattle.vr_msg.specs.declared.choice.Choice.{Choice}
 use Rattle.vr_msg.specs.declared.choice.Choice.TheVariants.{Ends, WaitsAt, TooFew}
 use Rattle.vr_msg.specs.declared.frame.Frame.{Frame}
 use Rattle.vr_msg.specs.declared.frame.SyncView.{SyncView}
 use Rattle.vr_msg.specs.declared.output.Output.{Output}
 use Rattle.vr_msg.specs.declared.statement.Statement.{Statement}
-use Rattle.vr_world.specs.Replica.{Replica, leads, part_at, forgetting, with_part}
+use Rattle.vr_world.specs.Replica.{Replica, version, leads, part_at, forgetting, with_part}
 use Rattle.vr_world.specs.Outputs.{applied_reply, asker_of, kind_of, others, prepare, replies, send, send_to_all, start_view, start_view_change}
 use Rattle.vr_world.specs.Steps.{Effect, Write, Rewrite, Save, Mend, Checkpoint, PutBlock, Say, Setting, Word, ◌⨾◌, quiet, change, does, says, by, naming, reading, when, times, each, after_all}
-use Rattle.vr_world.specs.Words.{Log, save, enter, entered, write, stored, accept, entry_of, lost, or_lost, with_entry, with_entry_at, with_checkpoint, make_checkpoint, checkpoints, checkpoint_at, checkpoint_of, apply_entry, apply_next, apply, applied, advanced, advance, learn, taken, take, prepare_again, begin_view, try_log, stated, decided, obey_choice, try, speak, resend, ask_peer, ask_for, ask, with_state, loaded_state, loads, load, jump, jumped}
+use Rattle.vr_world.specs.Words.{Log, save, enter, entered, write, stored, accept, entry_of, lost, or_lost, with_entry, with_entry_at, with_checkpoint, make_checkpoint, checkpoints, checkpoint_at, checkpoint_of, apply_entry, apply_next, apply, applied, advanced, advance, learn, taken, take, prepare_again, begin_view, try_log, stated, decided, obey_choice, try, speak, resend, ask_peer, ask_for, ask, with_state, loaded_state, loads, load, jump, jumped, usable}
 use Rattle.vr_world.specs.Lying.{Lying, lying}
+use Rattle.vr_world.proofs.Wording.{usable_is}
 use Rattle.vr_world.proofs.FitGroups.{Known, known_first, known_left, known_rest, known_right}
 use Rattle.law_4_disks.specs.Chains.{Chain, GoesWell, Rewrites}
 use Rattle.law_4_disks.specs.Stocks.{IsGiven, IsGivenOutput, IsNamed, IsStocked, WritesBlocks}
@@ -130,15 +130,15 @@ some_entry h (Some x) e q =
     elim (same_header x.header h) as (λ t. cond t (Some x) None ≡ Some e → Some x ≡ Some e) [ true ↦ λ q. q | false ↦ λ q. absurd cc ] q
 
 entry_whole : (h : Header) (d : Lying) (e : Whole) → IsFace d.face → entry_of h lying d ≡ Some e → IsWhole e
-entry_whole h d e f q = (read_whole d.face (h.op % 64) e f (omega arith) (some_entry h (whole_in d.face (h.op % 64)) e q)).whole
+entry_whole h d e f q = (read_whole 1 d.face (h.op % 64) e f (omega arith) (some_entry h (whole_in 1 d.face (h.op % 64)) e q)).whole
 
-state_stocked : (root : Name) (table : PayloadTable) (texts : Texts) (o : Result State StateFault) (q : Replica) → LoadsWell texts table → state_decoded texts ≡ o → IsStocked q → IsStocked (loaded_state root table o q)
+state_stocked : (root : Name) (table : PayloadTable) (texts : Texts) (o : Option State) (q : Replica) → LoadsWell texts table → ((s : State) → o ≡ Some s → state_decoded texts ≡ Ok s) → IsStocked q → IsStocked (loaded_state root table o q)
 unfolding with_state
-state_stocked root table texts (Ok s) q w e k = let x = state_read texts s w.sessions w.keys e in record { sessions = x.sessions; machine = x.machine; old_sessions = w.table.sessions; old_keys = w.table.keys }
-state_stocked root table texts (Err fault) q w e k = record { sessions = k.sessions; machine = k.machine; old_sessions = k.old_sessions; old_keys = k.old_keys }
+state_stocked root table texts (Some s) q w e k = let x = state_read texts s w.sessions w.keys (e s refl) in record { sessions = x.sessions; machine = x.machine; old_sessions = w.table.sessions; old_keys = w.table.keys }
+state_stocked root table texts None q w e k = record { sessions = k.sessions; machine = k.machine; old_sessions = k.old_sessions; old_keys = k.old_keys }
 
 loads_stocked : (root : Name) (d : Lying) → IsFace d.face → (l : Load) → loaded d.face root ≡ l → (q : Replica) → IsStocked q → IsStocked (loads root l q)
-loads_stocked root d f (Loaded texts table) e q k = state_stocked root table texts (state_decoded texts) q (loads_well d.face root texts table f e) refl k
+loads_stocked root d f (Loaded texts table) e q k = state_stocked root table texts (usable (version q) (state_decoded texts)) q (loads_well d.face root texts table f e) (λ s i. (usable_is (version q) (state_decoded texts) s i).0) k
 loads_stocked root d f (Missing names) e q k = record { sessions = k.sessions; machine = k.machine; old_sessions = k.old_sessions; old_keys = k.old_keys }
 
 reply_given : (P : List ℕ → Type 0) (e : Whole) (r : Replica) → AllByRecursion (IsGivenOutput P) (applied_reply e r)

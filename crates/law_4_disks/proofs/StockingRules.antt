@@ -50,6 +50,7 @@ use Rattle.std.specs.Prelude.{is_some, ⊤}
 use Rattle.vr_disk.specs.DiskState.{IsFace}
 use Rattle.vr_base.specs.Bytes.{IsBytes}
 use Rattle.vr_ckpt.specs.Blocks.{named}
+use Rattle.vr_ckpt.specs.Places.{grid_size}
 use Rattle.vr_ckpt.specs.Grid.{put_calls}
 use Rattle.vr_ckpt.proofs.Contents.{fits_address, named_found, read_of}
 use Rattle.law_4_disks.specs.Stocks.{IsGiven, IsGivenEvent}
@@ -75,7 +76,7 @@ block_calls_are name block are t =
       | None ↦ λ e t. absurd cc
       | Some c ↦ λ e t.
           let found = named_found name block c e in
-          let l : name.address < 128 = subst (λ (a : ℕ). a < 128) (ap (λ (n : Name). n.address) found.1) (fits_address block c found.0) in
+          let l : name.address < grid_size = subst (λ (a : ℕ). a < grid_size) (ap (λ (n : Name). n.address) found.1) (fits_address block c found.0) in
           put_are name.address block l are (read_of block c found.0).size
     ] refl t
 
@@ -278,7 +279,7 @@ module _ {P Q : List ℕ → Type 0} {home : ℕ} where
 abbrev pub ReadsOn : Lying → List ℕ → Type 0
 ReadsOn d b = (name : Name) × (lying.block d name ≡ Some b)
 
-module _ {Q : List ℕ → Type 0} {home : ℕ} (n i : ℕ) (r : Replica) (d : Lying) (at : At r d) (sound : IsSound r) (is : IsAt home n i r) where
+module _ {Q : List ℕ → Type 0} {home : ℕ} (n i : ℕ) (r : Replica) (d : Lying) (at : At r d) (sound : IsSound r) (is : IsAt home n i 1 r) where
   get_leaves : (g : GetBlock) → IsKnown home n i (rules.on_message (frame.GetBlock g) lying r d).script → Leaves (ReadsOn d) Q home (rules.on_message (frame.GetBlock g)) r d
   unfolding rules.on_get_block reading by
   get_leaves g known =

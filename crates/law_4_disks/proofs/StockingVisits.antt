@@ -1,5 +1,5 @@
 -- A visit of the disk, by a sound replica of the group that a schedule begins: a header is written where the entry of it is read.
-use Rattle.std.proofs.Common.{◌≡◌, refl, sym, ap, ◌∙◌, subst, ℕ, Bool, true, false, cond, not, List, Option, Some, None}
+use Rattle.std.proofs.Common.{◌≤◌, ◌≡◌, arith, refl, sym, ap, ◌∙◌, subst, ℕ, Bool, true, false, cond, not, List, Option, Some, None}
 use Rattle.std.specs.Prelude.{nat_lt, slice_get, ◌-◌, ◌%◌, ◌==◌}
 use Rattle.vr_header.specs.declared.header.Header.{Header}
 use Rattle.vr_header.specs.declared.part.Part.{Part}
@@ -9,7 +9,7 @@ use Rattle.vr_header.specs.Same.{same_header}
 use Rattle.vr_lie.specs.Slots.{slot_of, whole_in}
 use Rattle.vr_ckpt.specs.declared.name.Name.{Name}
 use Rattle.vr_msg.specs.Logs.{header_of}
-use Rattle.vr_world.specs.Replica.{Replica, part_at, with_part}
+use Rattle.vr_world.specs.Replica.{Replica, version, part_at, with_part}
 use Rattle.vr_world.specs.Steps.{Mend, Rewrite, Word, ◌⨾◌, by, change, does, quiet, reading, when, after_all}
 use Rattle.vr_world.specs.Words.{ask, blocks_of, entry_of, header_read, is_loaded, lost, mend_header, op_of_slot, or_lost, place_now, visit, visit_block, visit_place, visit_read, visit_slot, with_cursor, with_entry, with_entry_at, with_worn}
 use Rattle.vr_world.specs.Lying.{Lying, lying}
@@ -25,7 +25,7 @@ use Rattle.law_4_disks.proofs.Stocking.{At, Leaves, Stocking, at_next, b_ask, b_
 -- of a sound replica in its place
 pub record Sounded (P Q : List ℕ → Type 0) (home : ℕ) (w : Word Lying) : Type 0 where
   pub chained : Chained w
-  pub each : (n i : ℕ) (r : Replica) (d : Lying) → At r d → IsSound r → IsAt home n i r → Known home n i (w lying r d).script → Leaves P Q home w r d
+  pub each : (n i : ℕ) (r : Replica) (d : Lying) → At r d → IsSound r → IsAt home n i 1 r → Known home n i (w lying r d).script → Leaves P Q home w r d
 
 abbrev visited : ℕ → Whole → Word Lying
 visited op e = reading (header_read op) (mend_header e.header)
@@ -35,7 +35,7 @@ module _ {P Q : List ℕ → Type 0} {home : ℕ} where
   v_of w h = record { chained = h.chained; each = λ n i r d a sound is k. h.each n i r d a k }
 
   -- after a word that keeps it sound, and in its place
-  pub v_then : (v w : Word Lying) → Stocking P Q home v → Keeps v → Owned home v → Sounded P Q home w → Sounded P Q home (v ⨾ w)
+  pub v_then : (v w : Word Lying) → Stocking P Q home v → Keeps v → Owned home 1 v → Sounded P Q home w → Sounded P Q home (v ⨾ w)
   unfolding ◌⨾◌
   v_then v w h keeps own k = record {
     chained = c_then v w h.chained k.chained;
@@ -77,36 +77,38 @@ module _ {P Q : List ℕ → Type 0} {home : ℕ} where
 
   -- ---- a visit
 
-  header_leaves : (e : Whole) (o : Option Header) (r : Replica) (d : Lying) → At r d → whole_in d.face (slot_of e.header) ≡ Some e → e.header.cluster ≡ home → Leaves P Q home (mend_header e.header o) r d
+  header_leaves : (e : Whole) (o : Option Header) (r : Replica) (d : Lying) → At r d → whole_in 1 d.face (slot_of e.header) ≡ Some e → e.header.cluster ≡ home → e.header.version ≤ 1 → Leaves P Q home (mend_header e.header o) r d
   unfolding does quiet
-  header_leaves e None r d a there own = record { blocks = (tt, tt); rewrites = ((e, there, refl, own), tt); stock = a.stock }
-  header_leaves e (Some x) r d a there own =
+  header_leaves e None r d a there own few = record { blocks = (tt, tt); rewrites = ((e, there, refl, own, few), tt); stock = a.stock }
+  header_leaves e (Some x) r d a there own few =
       elim (same_header x e.header) as (λ t. Leaves P Q home (when (not t) (does (λ r. Rewrite e.header))) r d) [
         | true ↦ record { blocks = tt; rewrites = tt; stock = a.stock }
-        | false ↦ record { blocks = (tt, tt); rewrites = ((e, there, refl, own), tt); stock = a.stock }
+        | false ↦ record { blocks = (tt, tt); rewrites = ((e, there, refl, own, few), tt); stock = a.stock }
       ]
 
-  read_leaves : (op : ℕ) (h : Header) (o : Option Whole) (r : Replica) (d : Lying) → entry_of h lying d ≡ o → At r d → h.cluster ≡ home → Leaves P Q home (or_lost h (visited op) o) r d
+  read_leaves : (op : ℕ) (h : Header) (o : Option Whole) (r : Replica) (d : Lying) → entry_of h lying d ≡ o → At r d → h.cluster ≡ home → h.version ≤ 1 → Leaves P Q home (or_lost h (visited op) o) r d
   unfolding reading change with_part
-  read_leaves op h None r d q a own = record { blocks = tt; rewrites = tt; stock = moved (lost h r) r (record { saved = refl; state = refl; table = refl }) a.stock }
-  read_leaves op h (Some e) r d q a own =
-      let p = read_here h (whole_in d.face (h.op % 64)) e q in
-      let x = header_leaves e (header_read op lying d) r d a (subst (λ (g : Header). whole_in d.face (slot_of g) ≡ Some e) (sym p.1) p.0) (ap (λ (g : Header). g.cluster) p.1 ∙ own) in
+  read_leaves op h None r d q a own few = record { blocks = tt; rewrites = tt; stock = moved (lost h r) r (record { saved = refl; state = refl; table = refl }) a.stock }
+  read_leaves op h (Some e) r d q a own few =
+      let p = read_here h (whole_in 1 d.face (h.op % 64)) e q in
+      let x = header_leaves e (header_read op lying d) r d a (subst (λ (g : Header). whole_in 1 d.face (slot_of g) ≡ Some e) (sym p.1) p.0) (ap (λ (g : Header). g.cluster) p.1 ∙ own) (subst (λ (g : Header). g.version ≤ 1) (sym p.1) few) in
       record { blocks = x.blocks; rewrites = x.rewrites; stock = x.stock }
 
-  part_leaves : (op : ℕ) (p : Part) (r : Replica) (d : Lying) → part_at r op ≡ p → At r d → IsSound r → r.cluster ≡ home → Leaves P Q home (with_entry (visited op) p) r d
+  part_leaves : (op : ℕ) (p : Part) (r : Replica) (d : Lying) → part_at r op ≡ p → At r d → IsSound r → r.cluster ≡ home → version r ≡ 1 → Leaves P Q home (with_entry (visited op) p) r d
   unfolding reading quiet
-  part_leaves op (Here h) r d e a sound own =
-      let x = read_leaves op h (entry_of h lying d) r d refl a ((sound.entries.each op h (ap header_of e)).1.of_group ∙ own) in
+  part_leaves op (Here h) r d e a sound own one =
+      let is = (sound.entries.each op h (ap header_of e)).1 in
+      let most = is.of_version in
+      let x = read_leaves op h (entry_of h lying d) r d refl a (is.of_group ∙ own) (omega (arith, most, one)) in
       record { blocks = x.blocks; rewrites = x.rewrites; stock = x.stock }
-  part_leaves op (Lost h) r d e a sound own = record { blocks = tt; rewrites = tt; stock = a.stock }
-  part_leaves op (Wanted h) r d e a sound own = record { blocks = tt; rewrites = tt; stock = a.stock }
-  part_leaves op Unknown r d e a sound own = record { blocks = tt; rewrites = tt; stock = a.stock }
-  part_leaves op Nothing r d e a sound own = record { blocks = tt; rewrites = tt; stock = a.stock }
+  part_leaves op (Lost h) r d e a sound own one = record { blocks = tt; rewrites = tt; stock = a.stock }
+  part_leaves op (Wanted h) r d e a sound own one = record { blocks = tt; rewrites = tt; stock = a.stock }
+  part_leaves op Unknown r d e a sound own one = record { blocks = tt; rewrites = tt; stock = a.stock }
+  part_leaves op Nothing r d e a sound own one = record { blocks = tt; rewrites = tt; stock = a.stock }
 
-  slot_leaves : (op : ℕ) (r : Replica) (d : Lying) → At r d → IsSound r → r.cluster ≡ home → Leaves P Q home (visit_slot op) r d
+  slot_leaves : (op : ℕ) (r : Replica) (d : Lying) → At r d → IsSound r → r.cluster ≡ home → version r ≡ 1 → Leaves P Q home (visit_slot op) r d
   unfolding visit_slot with_entry_at by
-  slot_leaves op r d a sound own = let x = part_leaves op (part_at r op) r d refl a sound own in record { blocks = x.blocks; rewrites = x.rewrites; stock = x.stock }
+  slot_leaves op r d a sound own one = let x = part_leaves op (part_at r op) r d refl a sound own one in record { blocks = x.blocks; rewrites = x.rewrites; stock = x.stock }
 
   mend_leaves : (r : Replica) (d : Lying) → At r d → Leaves P Q home (does (λ r. Mend r.saved)) r d
   unfolding does
@@ -126,16 +128,16 @@ module _ {P Q : List ℕ → Type 0} {home : ℕ} where
   if_leaves true v w r d h k = h
   if_leaves false v w r d h k = k
 
-  place_leaves : (at : ℕ) (r : Replica) (d : Lying) → At r d → IsSound r → r.cluster ≡ home → Leaves P Q home (visit_place at) r d
+  place_leaves : (at : ℕ) (r : Replica) (d : Lying) → At r d → IsSound r → r.cluster ≡ home → version r ≡ 1 → Leaves P Q home (visit_place at) r d
   unfolding visit_place by
-  place_leaves at r d a sound own =
+  place_leaves at r d a sound own one =
       let block = visit_block (slice_get (blocks_of r) (at - 65)) in
-      let x = if_leaves (nat_lt at 64) (visit_slot (op_of_slot r at)) (cond (at == 64) (does (λ r. Mend r.saved)) block) r d (slot_leaves (op_of_slot r at) r d a sound own)
+      let x = if_leaves (nat_lt at 64) (visit_slot (op_of_slot r at)) (cond (at == 64) (does (λ r. Mend r.saved)) block) r d (slot_leaves (op_of_slot r at) r d a sound own one)
       (if_leaves (at == 64) (does (λ r. Mend r.saved)) block r d (mend_leaves r d a) (block_leaves (slice_get (blocks_of r) (at - 65)) r d a)) in
       record { blocks = x.blocks; rewrites = x.rewrites; stock = x.stock }
 
   v_place : (at : ℕ) → Sounded P Q home (visit_place at)
-  v_place at = record { chained = c_visit_place at; each = λ n i r d a sound is k. place_leaves at r d a sound is.cluster }
+  v_place at = record { chained = c_visit_place at; each = λ n i r d a sound is k. place_leaves at r d a sound is.cluster is.saved.version }
 
   pub v_visit : Sounded P Q home visit
   unfolding visit

@@ -41,7 +41,7 @@ some_header a b e = cc
 some_list : (a b : List ℕ) → Some a ≡ Some b → a ≡ b
 some_list a b e = cc
 
-in_by : (g : Face) (slot : ℕ) (r : List ℕ) (e : Whole) → prepare_reading g slot ≡ Some r → whole_of r ≡ Some e → whole_in g slot ≡ Some e
+in_by : (g : Face) (slot : ℕ) (r : List ℕ) (e : Whole) → prepare_reading 1 g slot ≡ Some r → whole_of r ≡ Some e → whole_in 1 g slot ≡ Some e
 unfolding whole_in
 in_by g slot r e reads w = ap (option_and_then whole_of) reads ∙ w
 
@@ -50,14 +50,14 @@ same_prepare : (a b : Whole) → a.header ≡ b.header → operation_bytes a.ope
 unfolding prepare_bytes entry_bytes
 same_prepare a b h o =
     let bytes : header_bytes a.header ++ operation_bytes a.operation ≡ header_bytes b.header ++ operation_bytes b.operation = ap (λ (h : Header). header_bytes h ++ operation_bytes a.operation) h ∙ ap (λ (x : List ℕ). header_bytes b.header ++ x) o in
-    ap (λ (x : List ℕ). x ++ replicate (2048 - length x) 0) bytes
+    ap (λ (x : List ℕ). x ++ replicate (4096 - length x) 0) bytes
 
 pub names_tell : NamesTell
 names_tell g slot e f l w never other reads whole same =
     let x = some_of (whole_of other) whole in
     let d = x.0 in
-    let inside : whole_in g slot ≡ Some d = in_by g slot other d reads x.1 in
-    let y = read_whole g slot d f l inside in
+    let inside : whole_in 1 g slot ≡ Some d = in_by g slot other d reads x.1 in
+    let y = read_whole 1 g slot d f l inside in
     let is : other ≡ prepare_bytes d = some_list other (prepare_bytes d) (sym reads ∙ y.reads) in
     let sectors : sector_of d.header ≡ sector_of e.header = sym (header_sector_is d y.whole.header) ∙ (ap header_sector (sym is) ∙ (same ∙ header_sector_is e w.header)) in
     let head : d.header ≡ e.header = some_header d.header e.header (sym (header_again d.header y.whole.header) ∙ (ap header_of sectors ∙ header_again e.header w.header)) in
@@ -67,16 +67,18 @@ names_tell g slot e f l w never other reads whole same =
 
 -- ---- entries of one header, and copies of one name
 
-same_operation : (a b : Whole) → IsWhole a → IsWhole b → operation_bytes a.operation ≡ operation_bytes b.operation → a.operation ≡ b.operation
-same_operation a b v w e =
-    let both : Some a.operation ≡ Some b.operation = sym (operation_again a.operation v.operation) ∙ (ap operation_of e ∙ operation_again b.operation w.operation) in
+same_operation : (a b : Whole) → IsWhole a → IsWhole b → a.header ≡ b.header → operation_bytes a.operation ≡ operation_bytes b.operation → a.operation ≡ b.operation
+same_operation a b v w same e =
+    let version = ap (λ (h : Header). operation_of h.version (operation_bytes a.operation)) same in
+    let both : Some a.operation ≡ Some b.operation =
+    sym (operation_again a.header.version a.operation v.entry.body.fits) ∙ (version ∙ (ap (operation_of b.header.version) e ∙ operation_again b.header.version b.operation w.entry.body.fits)) in
     cc
 
 pub entries_tell : EntriesTell
 entries_tell w e i k never same =
     let names : name_of (operation_bytes w.operation) ≡ name_of (operation_bytes e.operation) = sym i.entry.body.name ∙ (ap (λ (h : Header). h.body.0) same ∙ k.entry.body.name) in
     let bytes = never (operation_bytes w.operation) (operation_bytes e.operation) (inl refl) (inr refl) names in
-    let operation = same_operation w e i k bytes in
+    let operation = same_operation w e i k same bytes in
     ap (λ (h : Header). let x : Whole = record { header = h; operation = w.operation } in x) same ∙ ap (λ (o : Operation). let x : Whole = record { header = e.header; operation = o } in x) operation
 
 pub values_tell : ValuesTell
@@ -113,7 +115,7 @@ tells_entry (PutBlock name block) d v j code c never = tt
 tells_entry (Say output) d v j code c never = tt
 
 module _ (e : Effect) (d : Lying) (j code : ℕ) (f : IsFace d.face) (a : AllByRecursion IsCall (calls_of e d.face)) (never : NoCollision (IsHashedBy e d j code)) where
-  met_tells : (g : Face) → IsMet e d j code g → (slot : ℕ) (x : Whole) → slot < 64 → IsWhole x → held_at d.held slot ≡ Some (prepare_bytes x) → TellsPrepare g slot (prepare_bytes x)
+  met_tells : (g : Face) → IsMet e d j code g → (slot : ℕ) (x : Whole) → slot < 64 → IsWhole x → held_at d.held slot ≡ Some (prepare_bytes x) → TellsPrepare 1 g slot (prepare_bytes x)
   met_tells g m slot x l w held =
       let in_play : (b : List ℕ) → IsNear g x b → IsHashedBy e d j code b = λ b. elim [
         | inl y ↦ IsHashedBy.reads g m y
@@ -152,7 +154,7 @@ tells_in (e ∷ es) d v j code f go never =
 
 -- and so after a fault
 pub fault_tells : (d : Lying) (fault : Fault) → IsFace (faulted d.face fault) → NoCollision (IsHashedAfter d fault)
-    → (slot : ℕ) (x : Whole) → slot < 64 → IsWhole x → held_at d.held slot ≡ Some (prepare_bytes x) → TellsPrepare (faulted d.face fault) slot (prepare_bytes x)
+    → (slot : ℕ) (x : Whole) → slot < 64 → IsWhole x → held_at d.held slot ≡ Some (prepare_bytes x) → TellsPrepare 1 (faulted d.face fault) slot (prepare_bytes x)
 fault_tells d fault f never slot x l w held =
     let g = faulted d.face fault in
     let in_play : (b : List ℕ) → IsNear g x b → IsHashedAfter d fault b = λ b. elim [

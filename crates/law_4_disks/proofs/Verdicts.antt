@@ -1,8 +1,8 @@
 -- What the Parts of an opening say of what a slot holds.
 use Rattle.std.proofs.Common.{ℕ, ◌-◌, ◌%◌, ◌≤◌, ◌<◌, ◌≡◌, ◌≢◌, ◌⊎◌, inl, inr, arith, refl, sym, ap, ◌∙◌, subst, Bool, true, false, cond, ◌||◌, List, Option, Some, None}
-use Rattle.std.specs.Prelude.{slice_get, is_some, ◌==◌, Contains}
+use Rattle.std.specs.Prelude.{slice_get, is_some, nat_le, ◌==◌, Contains}
 use Rattle.std.specs.Option.{option_map, option_map_or, option_and_then}
-use Rattle.std.proofs.lemmas.Bool.{and_parts, and_from, cases_lt, eq-eqb, le-leb, lt-leb, le-ltb, eqb-true}
+use Rattle.std.proofs.lemmas.Bool.{and_parts, and_from, cases_lt, eq-eqb, le-leb, lt-leb, le-ltb, eqb-true, leb-true}
 use Rattle.std.proofs.lemmas.Option.{slice_get_past}
 use Rattle.vr_header.specs.declared.header.Header.{Header}
 use Rattle.vr_header.specs.declared.part.Part.{Part}
@@ -59,10 +59,11 @@ right_counts v k h w c =
       | inr a ↦ rw (lt-leb k v.fields.head a.0) (eq-eqb h.view v.fields.log_view a.1)
     ]
 
-pub fits : (v : SuperValue) (k : ℕ) (e : Whole) → Value v → IsWhole e → e.header.cluster ≡ v.fields.cluster → Counts v k e.header → may_be v k e.header ≡ true
-fits v k e w i cluster c =
+pub fits : (v : SuperValue) (k : ℕ) (e : Whole) → Value v → IsWhole e → e.header.version ≤ v.fields.version → e.header.cluster ≡ v.fields.cluster → Counts v k e.header → may_be v k e.header ≡ true
+fits v k e w i few cluster c =
     and_from (is_entry_header e.header) _ (is_entry_header_of e.header i.entry.header)
-    (and_from (e.header.cluster == v.fields.cluster) _ (eq-eqb e.header.cluster v.fields.cluster cluster) (and_from (e.header.op == k) (is_right v k e.header) (eq-eqb e.header.op k c.0) (right_counts v k e.header w c)))
+    (and_from (nat_le e.header.version v.fields.version) _ (le-leb e.header.version v.fields.version few)
+    (and_from (e.header.cluster == v.fields.cluster) _ (eq-eqb e.header.cluster v.fields.cluster cluster) (and_from (e.header.op == k) (is_right v k e.header) (eq-eqb e.header.op k c.0) (right_counts v k e.header w c))))
 
 -- ---- it isn't denied
 
@@ -110,9 +111,9 @@ undenied_other Careful v k x p named (inl m) = rw m (undenied_some (entry_header
 undenied_other Careful v k x p named (inr m) = rw m (undenied_unread v k x named)
 
 -- what the prepare may read as, where the header sector reads as another valid header
-other_may : (mode : Mode) (f : Face) (slot : ℕ) (e : Whole) (g : Header) → IsFace f → slot < 64 → IsWhole e → Stands mode f slot (Some (prepare_bytes e)) → header_in f slot ≡ Some g → g ≢ e.header
-    → MayRead mode (prepare_bytes e) (prepare_reading f slot)
-other_may mode f slot e g h l w s r d =
+other_may : (ver : ℕ) (mode : Mode) (f : Face) (slot : ℕ) (e : Whole) (g : Header) → IsFace f → slot < 64 → IsWhole e → Stands ver mode f slot (Some (prepare_bytes e)) → header_in f slot ≡ Some g → g ≢ e.header
+    → MayRead mode (prepare_bytes e) (prepare_reading ver f slot)
+other_may ver mode f slot e g h l w s r d =
     let x = read_header f slot g h l r in
     let p = prepare_bytes e in
     let own : header_sector p ≡ sector_of e.header = header_sector_is e w.header in
@@ -147,30 +148,32 @@ mute : (mode : Mode) (e : Whole) (fits : Whole → Bool) (r : Option (List ℕ))
 mute Strict e fits r w t m = read_own e fits r w t m
 mute Careful e fits r w t m = read_mute e fits r w t m
 
-undenied_by : (v : SuperValue) (k : ℕ) (f : Face) (e : Whole) (o : Option Header) → IsFace f → IsWhole e → Stands v.fields.mode f (k % 64) (Some (prepare_bytes e)) → may_be v k e.header ≡ true → header_in f (k % 64) ≡ o
-    → let x : Slot = record { header = o; entry = whole_in f (k % 64); blank = is_blank f (k % 64) } in IsUndenied (Of v k x)
+undenied_by : (v : SuperValue) (k : ℕ) (f : Face) (e : Whole) (o : Option Header) → IsFace f → IsWhole e → Stands 1 v.fields.mode f (k % 64) (Some (prepare_bytes e)) → may_be v k e.header ≡ true → header_in f (k % 64) ≡ o
+    → let x : Slot = record { header = o; entry = whole_in 1 f (k % 64); blank = is_blank 1 f (k % 64) } in IsUndenied (Of v k x)
 unfolding whole_in
 undenied_by v k f e None h w s t r =
-    let x : Slot = record { header = None; entry = whole_in f (k % 64); blank = is_blank f (k % 64) } in undenied_bad v.fields.mode v k x (entry_kind v k x) (is_listed v k)
+    let x : Slot = record { header = None; entry = whole_in 1 f (k % 64); blank = is_blank 1 f (k % 64) } in undenied_bad v.fields.mode v k x (entry_kind v k x) (is_listed v k)
 undenied_by v k f e (Some g) h w s t r =
     let mode = v.fields.mode in
-    let x : Slot = record { header = Some g; entry = whole_in f (k % 64); blank = is_blank f (k % 64) } in
+    let x : Slot = record { header = Some g; entry = whole_in 1 f (k % 64); blank = is_blank 1 f (k % 64) } in
     elim (may_be v k g) as (λ b. may_be v k g ≡ b → IsUndenied (part_by v k x (verdict_of mode (cond b header.Fits header.Other) (entry_kind v k x) (is_listed v k)))) [
       | true ↦ λ m. undenied_fits mode v k x (entry_kind v k x) (is_listed v k)
       | false ↦ λ m.
           let apart : g ≢ e.header = λ same. (let bad : false ≡ true = sym m ∙ (ap (may_be v k) same ∙ t) in cc) in
           let fit : entry_fits v k x e ≡ true = and_from (may_be v k e.header) _ t (rw m refl) in
-          undenied_other mode v k x (entry_kind v k x) (is_listed v k) (mute mode e (entry_fits v k x) (prepare_reading f (k % 64)) w fit (other_may mode f (k % 64) e g h (omega arith) w s r apart))
+          undenied_other mode v k x (entry_kind v k x) (is_listed v k) (mute mode e (entry_fits v k x) (prepare_reading 1 f (k % 64)) w fit (other_may 1 mode f (k % 64) e g h (omega arith) w s r apart))
     ] refl
 
 -- what the slot holds, where it counts beside the value, isn't denied
-pub undenied : (v : SuperValue) (k : ℕ) (d : Lying) (h : Header) → Value v → IsFace d.face → Stands v.fields.mode d.face (k % 64) (held_at d.held (k % 64)) → HoldsEntry v.fields.cluster h (held_at d.held (k % 64)) → Counts v k h
+pub undenied : (v : SuperValue) (k : ℕ) (d : Lying) (h : Header) → Value v → v.fields.version ≡ 1 → IsFace d.face → Stands 1 v.fields.mode d.face (k % 64) (held_at d.held (k % 64)) → HoldsEntry v.fields.cluster h (held_at d.held (k % 64)) → Counts v k h
     → IsUndenied (Of v k (slot_at k lying d))
-undenied v k d h w f s y c =
+undenied v k d h w one f s y c =
     let e = y.entry in
+    let less = y.version in
+    let few : e.header.version ≤ v.fields.version = subst (λ (h : Header). h.version ≤ v.fields.version) (sym y.header) (omega (arith, less, one)) in
     let back : h ≡ e.header = sym y.header in
     let own = ap (λ (h : Header). h.cluster) y.header ∙ y.group in
-    undenied_by v k d.face e (header_in d.face (k % 64)) f y.whole (subst (Stands v.fields.mode d.face (k % 64)) y.there s) (fits v k e w y.whole own (subst (Counts v k) back c)) refl
+    undenied_by v k d.face e (header_in d.face (k % 64)) f y.whole (subst (Stands 1 v.fields.mode d.face (k % 64)) y.there s) (fits v k e w y.whole few own (subst (Counts v k) back c)) refl
 
 pub undenied_clouded : (b : Bool) (p : Part) → IsUndenied p → IsUndenied (clouded_part b p)
 undenied_clouded b (part.Here h) u = u
@@ -271,13 +274,16 @@ case_of v k x = case_by v k x.header x.entry x.blank
 
 pub right_of : (v : SuperValue) (k : ℕ) (h : Header) → may_be v k h ≡ true → (h.op ≡ k) × (is_right v k h ≡ true)
 right_of v k h e =
-    let a = and_parts (is_entry_header h) _ e in
+    let a = and_parts (nat_le h.version v.fields.version) _ (and_parts (is_entry_header h) _ e).1 in
     let b = and_parts (h.cluster == v.fields.cluster) _ a.1 in
     let c = and_parts (h.op == k) (is_right v k h) b.1 in
     (eqb-true h.op k c.0, c.1)
 
 pub group_of : (v : SuperValue) (k : ℕ) (h : Header) → may_be v k h ≡ true → h.cluster ≡ v.fields.cluster
-group_of v k h e = eqb-true h.cluster v.fields.cluster (and_parts (h.cluster == v.fields.cluster) _ (and_parts (is_entry_header h) _ e).1).0
+group_of v k h e = eqb-true h.cluster v.fields.cluster (and_parts (h.cluster == v.fields.cluster) _ (and_parts (nat_le h.version v.fields.version) _ (and_parts (is_entry_header h) _ e).1).1).0
+
+pub version_of : (v : SuperValue) (k : ℕ) (h : Header) → may_be v k h ≡ true → h.version ≤ v.fields.version
+version_of v k h e = leb-true h.version v.fields.version (and_parts (nat_le h.version v.fields.version) _ (and_parts (is_entry_header h) _ e).1).0
 
 some_same : (h : Header) (o : Option Header) → option_map_or (same_header h) o false ≡ true → o ≡ Some h
 some_same h None e = absurd cc

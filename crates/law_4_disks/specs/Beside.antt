@@ -8,7 +8,7 @@ use Rattle.vr_disk.specs.DiskState as disk
 use Rattle.vr_disk.specs.DiskState.{Face, IsFace}
 use Rattle.vr_disk.specs.Stops.{IsCall}
 use Rattle.vr_lie.specs.Copies.{SuperValue, IsGood}
-use Rattle.vr_lie.specs.Opens.{opens}
+use Rattle.vr_lie.specs.Opens.{file_kind, opens}
 use Rattle.vr_super.specs.Laws.{TellsApart}
 use Rattle.vr_rings.specs.Laws.{TellsPrepare, TellsUpTo}
 use Rattle.vr_lie.specs.Slots.{IsWhole, header_in, prepare_bytes, slot_of, whole_in}
@@ -22,19 +22,20 @@ use Rattle.vr_world.specs.Group.{AreSound, Member, MayOpen, cut_after, kept_at, 
 
 -- ---- the relation
 
--- a slot holds an entry of this header, of a group
+-- a slot of a file of version 1 holds an entry of this header, of a group
 pub record HoldsEntry (cluster : ℕ) (h : Header) (held : Option (List ℕ)) : Type 0 where
   pub entry : Whole
   pub whole : IsWhole entry
   pub header : entry.header ≡ h
   pub group : h.cluster ≡ cluster
+  pub version : h.version ≤ 1
   pub there : held ≡ Some (prepare_bytes entry)
 
--- a disk of a file of this mode, between calls that end with a sync: nothing waits, and the premise of each slot stands
+-- a disk of a file of version 1 and of this mode, between calls that end with a sync: nothing waits, and the premise of each slot stands
 pub record IsCalm (mode : Mode) (d : Lying) : Type 0 where
   pub face : IsFace d.face
   pub rests : d.face.waiting ≡ []
-  pub stand : AllStand mode d.face d.held
+  pub stand : AllStand 1 mode d.face d.held
 
 -- what the member keeps of a slot is an entry of its group that the slot holds
 pub record IsHeld (d : Lying) (m : Member) : Type 0 where
@@ -46,6 +47,7 @@ pub record IsOn (d : Lying) (m : Member) : Type 0 where
   pub calm : IsCalm m.last.fields.mode d
   pub held : IsHeld d m
   pub value : opens d.face ≡ Some m.last
+  pub version : m.last.fields.version ≡ 1
   pub under : m.under ≡ None
 
 -- one that is stopped: it opens as that value, or as the one whose write was cut, which is of the same group
@@ -53,6 +55,7 @@ pub record IsOff (d : Lying) (m : Member) (v : SuperValue) : Type 0 where
   pub calm : IsCalm v.fields.mode d
   pub held : IsHeld d m
   pub value : opens d.face ≡ Some v
+  pub version : v.fields.version ≡ 1
   pub may : MayOpen m v
   pub group : v.fields.cluster ≡ m.last.fields.cluster
 
@@ -73,8 +76,8 @@ TellsEntry _ d = ⊤
 pub record Tells (e : Effect) (d : Lying) (j code : ℕ) : Type 0 where
   -- of the prepares that are whole and have the header of a held one, no other one is read: after each call up to that one, and
   -- after the cut
-  pub front : (slot : ℕ) (x : Whole) → slot < 64 → IsWhole x → held_at d.held slot ≡ Some (prepare_bytes x) → TellsUpTo (suc j) (calls_of e d.face) d.face slot (prepare_bytes x)
-  pub cut : (slot : ℕ) (x : Whole) → slot < 64 → IsWhole x → held_at d.held slot ≡ Some (prepare_bytes x) → TellsPrepare (disk.cut j code d.face (calls_of e d.face)) slot (prepare_bytes x)
+  pub front : (slot : ℕ) (x : Whole) → slot < 64 → IsWhole x → held_at d.held slot ≡ Some (prepare_bytes x) → TellsUpTo 1 (suc j) (calls_of e d.face) d.face slot (prepare_bytes x)
+  pub cut : (slot : ℕ) (x : Whole) → slot < 64 → IsWhole x → held_at d.held slot ≡ Some (prepare_bytes x) → TellsPrepare 1 (disk.cut j code d.face (calls_of e d.face)) slot (prepare_bytes x)
   pub entry : TellsEntry e d
   -- no copy has another text than a value's with the name of the value's
   pub value : (v : SuperValue) → IsInPlay e v → TellsApart (disk.cut j code d.face (calls_of e d.face)) v
@@ -87,12 +90,12 @@ TellsIn (e ∷ es) d j code =
 
 -- ---- what an effect of a script is
 
--- entries and values have the forms of their kinds, and are of the group that the superblock has; a header is written where the entry
--- of it is read; what is saved follows what the superblock has, and keeps its mode
+-- entries and values have the forms of their kinds, and are of the group that the superblock has, and entries of version 1; a header is written
+-- where the entry of it is read; what is saved follows what the superblock has, in a file of its kind
 abbrev pub IsFit : Effect → Lying → SuperValue → Type 0
-IsFit (Write again e) d v = IsWhole e × (e.header.cluster ≡ v.fields.cluster)
-IsFit (Rewrite h) d v = (e : Whole) × (whole_in d.face (slot_of h) ≡ Some e) × (e.header ≡ h) × (e.header.cluster ≡ v.fields.cluster)
-IsFit (Save old new) d v = (old ≡ v) × (new.fields.mode ≡ old.fields.mode) × IsGood new × (new.fields.cluster ≡ old.fields.cluster)
+IsFit (Write again e) d v = IsWhole e × (e.header.cluster ≡ v.fields.cluster) × (e.header.version ≤ 1)
+IsFit (Rewrite h) d v = (e : Whole) × (whole_in 1 d.face (slot_of h) ≡ Some e) × (e.header ≡ h) × (e.header.cluster ≡ v.fields.cluster) × (e.header.version ≤ 1)
+IsFit (Save old new) d v = (old ≡ v) × (file_kind new.fields ≡ file_kind old.fields) × IsGood new × (new.fields.cluster ≡ old.fields.cluster)
 IsFit (Mend x) d v = x ≡ v
 IsFit (Checkpoint cluster texts op old) d v = ⊤
 IsFit (PutBlock name block) d v = ⊤
@@ -134,7 +137,7 @@ pub record IsCutAt (es : List Effect) (f : Face) (j : ℕ) (d : Lying) (m : Memb
 -- what reads after the mending as a header of the window above the head of the value, or as an entry there, was made, where it fits
 pub record AreMade (made : List Header) (v : SuperValue) (d : Lying) : Type 0 where
   pub header : (k : ℕ) (h : Header) → v.fields.head < k → k ≤ v.fields.checkpoint + 64 → header_in d.face (k % 64) ≡ Some h → may_be v k h ≡ true → Contains made h
-  pub entry : (k : ℕ) (e : Whole) → v.fields.head < k → k ≤ v.fields.checkpoint + 64 → whole_in d.face (k % 64) ≡ Some e → may_be v k e.header ≡ true → Contains made e.header
+  pub entry : (k : ℕ) (e : Whole) → v.fields.head < k → k ≤ v.fields.checkpoint + 64 → whole_in 1 d.face (k % 64) ≡ Some e → may_be v k e.header ≡ true → Contains made e.header
 
 -- The script that mends and finds may go on this disk, and leaves the disk beside the member with what was found; and what was
 -- found is sound.

@@ -1,10 +1,11 @@
 -- What a script saves, one value after the other.
-use Rattle.std.specs.Prelude.{ℕ, ◌≡◌, ⊤, List, [], ◌∷◌, Some}
+use Rattle.std.specs.Prelude.{ℕ, ◌≤◌, ◌≡◌, ⊤, List, [], ◌∷◌, Some}
 use Rattle.std.specs.List.{AllByRecursion}
 use Rattle.vr_disk.specs.Stops.{IsCall}
 use Rattle.vr_msg.specs.declared.event.Event.{Event}
 use Rattle.vr_lie.specs.Copies.{IsGood}
 use Rattle.vr_header.specs.Made.{Whole}
+use Rattle.vr_lie.specs.Opens.{file_kind}
 use Rattle.vr_lie.specs.Slots.{IsWhole, slot_of, whole_in}
 use Rattle.vr_world.specs.Replica.{Replica}
 use Rattle.vr_world.specs.Steps.{Setting}
@@ -15,12 +16,12 @@ use Rattle.vr_world.specs.Lying.{Lying, lying}
 use Rattle.vr_lie.specs.Copies.{SuperValue}
 use Rattle.vr_world.specs.Steps.{Effect, Write, Rewrite, Save, Mend, Checkpoint, PutBlock, Say}
 
--- from one value to another: each is saved over the one before it, with its mode, and what is mended is the last one
+-- from one value to another: each is saved over the one before it, in a file of its kind, and what is mended is the last one
 abbrev pub Chain : SuperValue → List Effect → SuperValue → Type 0
 Chain v [] u = v ≡ u
 Chain v (Write again e ∷ es) u = Chain v es u
 Chain v (Rewrite h ∷ es) u = Chain v es u
-Chain v (Save old new ∷ es) u = (old ≡ v) × (new.fields.mode ≡ old.fields.mode) × Chain new es u
+Chain v (Save old new ∷ es) u = (old ≡ v) × (file_kind new.fields ≡ file_kind old.fields) × Chain new es u
 Chain v (Mend x ∷ es) u = (x ≡ v) × Chain v es u
 Chain v (Checkpoint cluster texts op old ∷ es) u = Chain v es u
 Chain v (PutBlock name block ∷ es) u = Chain v es u
@@ -33,9 +34,9 @@ StepsChain F = (s : Setting F) (f : F) (r : Replica) (e : Event) → Chain r.sav
 abbrev pub OpeningsChain : Type 0 → Type 0
 OpeningsChain F = (s : Setting F) (f : F) (r : Replica) → Chain r.saved (resuming s r f).script (resuming s r f).replica.saved
 
--- on this disk the header of an entry of the group is written where that entry is read
+-- on this disk the header of an entry of the group, of version 1, is written where that entry is read
 abbrev pub IsRewritten : ℕ → Effect → Lying → Type 0
-IsRewritten cluster (Rewrite h) d = (e : Whole) × (whole_in d.face (slot_of h) ≡ Some e) × (e.header ≡ h) × (e.header.cluster ≡ cluster)
+IsRewritten cluster (Rewrite h) d = (e : Whole) × (whole_in 1 d.face (slot_of h) ≡ Some e) × (e.header ≡ h) × (e.header.cluster ≡ cluster) × (e.header.version ≤ 1)
 IsRewritten cluster _ d = ⊤
 
 -- each that a script writes, on the disk that the effects before it have left
@@ -43,9 +44,9 @@ abbrev pub Rewrites : ℕ → List Effect → Lying → Type 0
 Rewrites cluster [] d = ⊤
 Rewrites cluster (e ∷ es) d = IsRewritten cluster e d × Rewrites cluster es (lying.after d e)
 
--- an entry of that group, and a value of it, have their forms
+-- an entry of that group, of version 1, and a value of it have their forms
 abbrev pub IsFormed : ℕ → Effect → Lying → Type 0
-IsFormed cluster (Write again e) d = IsWhole e × (e.header.cluster ≡ cluster)
+IsFormed cluster (Write again e) d = IsWhole e × (e.header.cluster ≡ cluster) × (e.header.version ≤ 1)
 IsFormed cluster (Rewrite h) d = IsRewritten cluster (Rewrite h) d
 IsFormed cluster (Save old new) d = IsGood new × (new.fields.cluster ≡ cluster)
 IsFormed cluster _ d = ⊤

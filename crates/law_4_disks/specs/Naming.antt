@@ -17,9 +17,9 @@ use Rattle.vr_world.specs.Sectors.{calls_of}
 use Rattle.vr_world.specs.Lying.{Lying, lying}
 use Rattle.law_4_disks.specs.Beside.{IsInPlay}
 
--- the bytes of the operation of an entry that reads on this face
+-- the bytes of the operation of an entry that reads on this face, of a file of version 1
 abbrev pub IsReadOperation : Face → List ℕ → Type 0
-IsReadOperation g bytes = (slot : ℕ) × (x : Whole) × (slot < 64) × (whole_in g slot ≡ Some x) × (bytes ≡ operation_bytes x.operation)
+IsReadOperation g bytes = (slot : ℕ) × (x : Whole) × (slot < 64) × (whole_in 1 g slot ≡ Some x) × (bytes ≡ operation_bytes x.operation)
 
 -- of an entry that a slot holds
 abbrev pub IsHeldOperation : Lying → List ℕ → Type 0
@@ -35,7 +35,7 @@ abbrev pub IsNear : Face → Whole → List ℕ → Type 0
 IsNear g e bytes = IsReadOperation g bytes ⊎ (bytes ≡ operation_bytes e.operation)
 
 abbrev pub NamesTell : Type 0
-NamesTell = (g : Face) (slot : ℕ) (e : Whole) → IsFace g → slot < 64 → IsWhole e → NoCollision (IsNear g e) → TellsPrepare g slot (prepare_bytes e)
+NamesTell = (g : Face) (slot : ℕ) (e : Whole) → IsFace g → slot < 64 → IsWhole e → NoCollision (IsNear g e) → TellsPrepare 1 g slot (prepare_bytes e)
 
 -- two entries of one header are one
 abbrev pub EntriesTell : Type 0

@@ -16,6 +16,7 @@ use Rattle.vr_ckpt.specs.StateTexts.{texts_of}
 use Rattle.vr_ckpt.specs.Texts.{Texts}
 use Rattle.vr_ckpt.specs.State.{State}
 use Rattle.vr_ckpt.specs.Grid.{put_calls}
+use Rattle.vr_ckpt.specs.Places.{grid_size}
 use Rattle.vr_ckpt.specs.declared.name.Name.{Name}
 use Rattle.vr_ckpt.specs.declared.table.PayloadTable.{PayloadTable}
 use Rattle.vr_ckpt.specs.Saves.{save_calls}
@@ -29,7 +30,7 @@ use Rattle.vr_world.specs.Group.{Group, Member}
 pub record IsPlaced (name : Name) : Type 0 where
   pub sum : IsNameBytes name.sum.0
   pub some : 0 < name.address
-  pub few : name.address < 128
+  pub few : name.address < grid_size
 
 abbrev pub IsNamed : Payload → Type 0
 IsNamed p = IsPlaced p.name

@@ -16,7 +16,7 @@ use Rattle.vr_header.specs.Spelling.{Spells, header_bytes}
 use Rattle.vr_ckpt.specs.Blocks.{Content, block_bytes, block_header, block_of}
 use Rattle.vr_ckpt.specs.Grid.{block_calls}
 use Rattle.vr_ckpt.specs.declared.block.Block.{Block}
-use Rattle.vr_ckpt.specs.Places.{first_place, other_place}
+use Rattle.vr_ckpt.specs.Places.{first_place, other_place, place_of}
 use Rattle.vr_ckpt.specs.Saves.{blocks_calls, blocks_from, data_content, goes_to, payload_at, payload_blocks, payload_blocks_at, stays}
 use Rattle.vr_ckpt.specs.declared.plan.Run.{Run}
 use Rattle.vr_ckpt.specs.declared.table.Payload.{Payload}
@@ -151,10 +151,10 @@ module _ (S : List ℕ → Type 0) (text : List ℕ) (every : (c : Content) (i :
 
   part_so : (r : Run) (i : ℕ) (o : Option Payload) → AllByRecursion (IsLater S) (payload_blocks r i (payload_at text i) o).blocks
   unfolding payload_blocks goes_to data_content
-  part_so r i None = ((data_content r (first_place r.op (r.low + i)) (payload_at text i), refl, every (data_content r (first_place r.op (r.low + i)) (payload_at text i)) i refl), tt)
+  part_so r i None = (let a = first_place r.op (place_of r.places i) in ((data_content r a (payload_at text i), refl, every (data_content r a (payload_at text i)) i refl), tt))
   part_so r i (Some p) =
       let bytes = payload_at text i in
-      let a = other_place (r.low + i) p.name.address in
+      let a = other_place (place_of r.places i) p.name.address in
       elim (pointwise nat_eq p.bytes bytes) as (λ t. AllByRecursion (IsLater S) (cond t (stays p) (goes_to r a bytes)).blocks) [
         | true ↦ tt
         | false ↦ ((data_content r a bytes, refl, every (data_content r a bytes) i refl), tt)
@@ -168,13 +168,15 @@ module _ (S : List ℕ → Type 0) (text : List ℕ) (every : (c : Content) (i :
 -- ---- keys
 
 module _ (m : kv.Map) (fits : AllByRecursion Fits m) where
-  clear_at : (q : ℕ) → 2 ≤ q → (get_or (kv_text m) q 0 ≡ 1 → get_or (kv_text m) (q + 1) 0 ≡ 0 → get_or (kv_text m) (q + 2) 0 ≡ 0 → ⊥) × (get_or (kv_text m) q 0 ≡ 254 → get_or (kv_text m) (q + 1) 0 ≡ 255 → ⊥)
+  clear_at : (q : ℕ) → 2 ≤ q
+      → (1 ≤ get_or (kv_text m) q 0 → get_or (kv_text m) q 0 ≤ 2 → get_or (kv_text m) (q + 1) 0 ≡ 0 → get_or (kv_text m) (q + 2) 0 ≡ 0 → ⊥)
+      × (253 ≤ get_or (kv_text m) q 0 → get_or (kv_text m) (q + 1) 0 ≡ 255 → ⊥)
   clear_at q l =
       let c = pairs_clear m fits in
       let k = q - 2 in
       let at : (i : ℕ) → get_or (kv_text m) (q + i) 0 ≡ get_or (flat_map pair_text m) (k + i) 0 = λ i. (let e : q + i - 2 ≡ k + i = omega (arith, l) in keys_at m (q + i) (omega (arith, l)) ∙ ap (λ j. get_or (flat_map pair_text m) j 0) e) in
       let zero_at : get_or (kv_text m) q 0 ≡ get_or (flat_map pair_text m) k 0 = keys_at m q l in
-      (λ a b d. c.one k (sym zero_at ∙ a) (sym (at 1) ∙ b) (sym (at 2) ∙ d), λ a b. c.other k (sym zero_at ∙ a) (sym (at 1) ∙ b))
+      (λ a m b d. c.one k (omega (arith, zero_at, a)) (omega (arith, zero_at, m)) (sym (at 1) ∙ b) (sym (at 2) ∙ d), λ a b. c.other k (omega (arith, zero_at, a)) (sym (at 1) ∙ b))
 
   key_markless : (c : Content) (i : ℕ) → c.payload ≡ payload_at (kv_text m) i → (j : ℕ) → j < 7 → IsMarkless (piece (0 + 512 * suc j) 512 (block_bytes c))
   key_markless c i e j l =
@@ -185,8 +187,8 @@ module _ (m : kv.Map) (fits : AllByRecursion Fits m) where
       let zero_place : q + 0 ≡ q = omega arith in
       let byte0 : get_or b 110 0 ≡ get_or (kv_text m) q 0 = byte 0 (omega arith) ∙ ap (λ n. get_or (kv_text m) n 0) zero_place in
       let clear = clear_at q (omega arith) in (
-        λ t. clear.0 (sym byte0 ∙ t.version) (sym (byte 1 (omega arith)) ∙ t.kind) (sym (byte 2 (omega arith)) ∙ t.aux 0 (omega arith)),
-        λ t. clear.1 (sym byte0 ∙ t.version) (sym (byte 1 (omega arith)) ∙ t.kind),
+        λ t. (let v = t.version in let is = t.is_version in clear.0 (omega (arith, byte0, v, is)) (omega (arith, byte0, v, is)) (sym (byte 1 (omega arith)) ∙ t.kind) (sym (byte 2 (omega arith)) ∙ t.aux 0 (omega arith))),
+        λ t. (let v = t.version in let is = t.is_version in clear.1 (omega (arith, byte0, v, is)) (sym (byte 1 (omega arith)) ∙ t.kind)),
       )
 
   pub keys_markless : (n i : ℕ) (r : Run) (old : List Payload) → AllByRecursion IsLaterMarkless (blocks_from r (kv_text m) old i n)

@@ -40,5 +40,5 @@ checkpoints_are_headless cluster texts op old h a sessions =
     let parts = both_calls k root later in
     let marks : AllByRecursion IsLaterMarkless k = subst (λ (text : List ℕ). AllByRecursion IsLaterMarkless (changed (keys_run cluster op) text old.keys)) (sym h.keys) (keys_markless h.machine h.fits (payloads (length (kv_text h.machine))) 0 (keys_run cluster op) old.keys) in
     let keys = blocks_headless k marks parts.0 in
-    let roots = blocks_headless root ((c, refl, root_markless op (length texts.sessions) (length texts.keys) t h.names h.few c refl), tt) parts.1 in
+    let roots = blocks_headless root ((c, refl, root_markless op (length texts.sessions) (length texts.keys) t h.names c refl), tt) parts.1 in
     headless_both (blocks_calls (s ++ (k ++ root))) (Sync ∷ []) (both_headless s (k ++ root) sessions (both_headless k root keys roots)) (tt, tt)

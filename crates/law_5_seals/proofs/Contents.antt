@@ -4,6 +4,7 @@ use Rattle.std.specs.List.{All, AllByRecursion}
 use Rattle.std.proofs.lemmas.Bool.{cond_both}
 use Rattle.std.proofs.lemmas.List.Elements.{All-set, All-push, recursion_from_All}
 use Rattle.vr_disk.specs.DiskState.{Call, Write, Sync, Face, Cell, Waiting, blank, after, after_all, begun, cell, cut, damaged, settle, settled, settled_cell, waits, written}
+use Rattle.vr_disk.specs.Regions.{sectors}
 use Rattle.vr_mem.specs.Lies.{lied}
 use Rattle.vr_lie.specs.declared.fault.Fault.{Fault}
 use Rattle.vr_lie.specs.declared.fault.Fault.TheVariants.{Damage, Stale, Unread, Misdirect}
@@ -14,7 +15,7 @@ module _ (P : List ℕ → Type 0) where
   some_has : (a b : List ℕ) → P a → Some a ≡ Some b → P b
   some_has a b h e = let same : a ≡ b = cc in subst P same h
 
-  pub has_at : (f : Face) (i : ℕ) → HasSectors P f → i < 1424 → HasCell P (cell f i)
+  pub has_at : (f : Face) (i : ℕ) → HasSectors P f → i < sectors → HasCell P (cell f i)
   has_at f i h l = let n = h.count in h.cells i blank (omega arith)
 
   -- ---- calls
@@ -43,8 +44,8 @@ module _ (P : List ℕ → Type 0) where
         cond_both (eqb digit 1) _ _ (HasCell P) (λ _. record { truth = b.truth; reads = λ c e. some_has now.truth c b.truth e; before = b.before })
         (λ _. let l = turns now.truth b.truth in record { truth = l; reads = λ c e. some_has (damaged now.truth) c l e; before = b.before }))
 
-    has_settled : (code : ℕ) (ws : List Waiting) (cells : List Cell) → AllByRecursion (HasWaiting P) ws → length cells ≡ 1424 → All (HasCell P) cells
-        → (length (settled code ws cells) ≡ 1424) × All (HasCell P) (settled code ws cells)
+    has_settled : (code : ℕ) (ws : List Waiting) (cells : List Cell) → AllByRecursion (HasWaiting P) ws → length cells ≡ sectors → All (HasCell P) cells
+        → (length (settled code ws cells) ≡ sectors) × All (HasCell P) (settled code ws cells)
     has_settled code [] cells w n h = (n, h)
     has_settled code (x ∷ ws) cells w n h =
         let now = get_or cells x.index blank in
@@ -70,7 +71,7 @@ module _ (P : List ℕ → Type 0) where
 
     -- ---- faults
 
-    has_lied : (f : Face) (i : ℕ) (o : Option (List ℕ)) → HasSectors P f → i < 1424 → ((b : List ℕ) → o ≡ Some b → P b) → HasSectors P (lied f i o)
+    has_lied : (f : Face) (i : ℕ) (o : Option (List ℕ)) → HasSectors P f → i < sectors → ((b : List ℕ) → o ≡ Some b → P b) → HasSectors P (lied f i o)
     unfolding lied
     has_lied f i o h l r =
         let c : Cell = record (cell f i) { reads = o } in

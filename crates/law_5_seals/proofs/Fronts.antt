@@ -15,7 +15,7 @@ pub record IsForm (x : List ℕ) : Type 0 where
   pub high : get_or x 12 0 ≤ 64
   pub kind : 1 ≤ get_or x 20 0
   pub small : get_or x 20 0 ≤ 5
-  pub size : get_or x 21 0 ≤ 4
+  pub size : get_or x 21 0 < 255
   pub some : 22 ≤ length x → 24 ≤ length x
   pub printed : (k : ℕ) → 23 ≤ k → k < length x → IsPrinted (get_or x k 0)
 
@@ -70,7 +70,7 @@ pub record IsFront (t : List ℕ) (p : ℕ) : Type 0 where
   pub commit : (i : ℕ) → i < 8 → get_or t (p + (96 + i)) 0 ≡ 0
   pub command : get_or t (p + 108) 0 ≡ 3
   pub replica : get_or t (p + 109) 0 ≡ 0
-  pub version : get_or t (p + 110) 0 ≡ 1
+  pub version : (1 ≤ get_or t (p + 110) 0) × (get_or t (p + 110) 0 ≤ 2)
   pub zeros : (i : ℕ) → i < 17 → get_or t (p + (111 + i)) 0 ≡ 0
 
 module _ (t : List ℕ) (p : ℕ) (f : IsFront t p) where

@@ -1,10 +1,11 @@
--- No header of an entry begins anywhere in the text of keys and values: no text has a byte 1 before two zeros, nor 254 before 255.
+-- No header of an entry begins anywhere in the text of keys and values: no text has a byte 1 or 2 before two zeros, nor 253 or more before 255.
 use Rattle.std.proofs.Common.{ℕ, zero, suc, ◌+◌, ◌-◌, ◌<◌, ◌≤◌, ◌≡◌, inl, inr, arith, refl, sym, ap, ◌∙◌, subst, List, [], ◌∷◌, ◌++◌, length, get_or}
 use Rattle.std.specs.Prelude.{IsTrue, nat_le, ◌&&◌}
 use Rattle.std.specs.List.{AllByRecursion, flat_map, list_all}
 use Rattle.std.proofs.lemmas.Bool.{cases_lt, leb-true}
 use Rattle.std.proofs.lemmas.List.{get_or-append_right, get_or_append_left, length-append}
 use Rattle.vr_base.specs.Bytes.{bytes16}
+use Rattle.vr_base.specs.Versions.{value_limit}
 use Rattle.vr_header.specs.Text.{is_printable, is_text}
 use Rattle.vr_header.proofs.BodyLaws.{text_limit}
 use Rattle.vr_header.proofs.Truths.{both}
@@ -43,14 +44,14 @@ both_printed a b p q i l =
 -- ---- clear texts
 
 pub record IsClear (t : List ℕ) : Type 0 where
-  pub one : (q : ℕ) → get_or t q 0 ≡ 1 → get_or t (q + 1) 0 ≡ 0 → get_or t (q + 2) 0 ≡ 0 → ⊥
-  pub other : (q : ℕ) → get_or t q 0 ≡ 254 → get_or t (q + 1) 0 ≡ 255 → ⊥
+  pub one : (q : ℕ) → 1 ≤ get_or t q 0 → get_or t q 0 ≤ 2 → get_or t (q + 1) 0 ≡ 0 → get_or t (q + 2) 0 ≡ 0 → ⊥
+  pub other : (q : ℕ) → 253 ≤ get_or t q 0 → get_or t (q + 1) 0 ≡ 255 → ⊥
 
 none_clear : IsClear []
-none_clear = record { one = λ q e a b. omega (arith, e); other = λ q e a. omega (arith, e) }
+none_clear = record { one = λ q e m a b. omega (arith, e); other = λ q e a. omega (arith, e) }
 
 -- a length and two bytes of another one, and texts behind them
-module _ (n high low : ℕ) (text rest : List ℕ) (small : n ≤ 64) (some : 1 ≤ high + low) (few : high ≤ 4) (long : 1 ≤ length text) (p : (i : ℕ) → i < length text → IsPrinted (get_or text i 0)) (c : IsClear rest) where
+module _ (n high low : ℕ) (text rest : List ℕ) (small : n ≤ 64) (some : 1 ≤ high + low) (few : high < 253) (long : 1 ≤ length text) (p : (i : ℕ) → i < length text → IsPrinted (get_or text i 0)) (c : IsClear rest) where
   abbrev whole : List ℕ
   whole = n ∷ high ∷ low ∷ (text ++ rest)
 
@@ -63,22 +64,22 @@ module _ (n high low : ℕ) (text rest : List ℕ) (small : n ≤ 64) (some : 1 
   shifted : (i k : ℕ) → get_or whole (suc (suc (suc i)) + k) 0 ≡ get_or (text ++ rest) (i + k) 0
   shifted i k = let e : suc (suc (suc i)) + k ≡ suc (suc (suc (i + k))) = omega arith in ap (λ q. get_or whole q 0) e
 
-  entry_one : (q : ℕ) → get_or whole q 0 ≡ 1 → get_or whole (q + 1) 0 ≡ 0 → get_or whole (q + 2) 0 ≡ 0 → ⊥
-  entry_one zero e a b = omega (arith, a, b, some)
-  entry_one (suc zero) e a b = let t = in_text 0 (omega (arith, long)) in omega (arith, b, t)
-  entry_one (suc (suc zero)) e a b = let t = in_text 0 (omega (arith, long)) in omega (arith, a, t)
-  entry_one (suc (suc (suc i))) e a b =
+  entry_one : (q : ℕ) → 1 ≤ get_or whole q 0 → get_or whole q 0 ≤ 2 → get_or whole (q + 1) 0 ≡ 0 → get_or whole (q + 2) 0 ≡ 0 → ⊥
+  entry_one zero e m a b = omega (arith, a, b, some)
+  entry_one (suc zero) e m a b = let t = in_text 0 (omega (arith, long)) in omega (arith, b, t)
+  entry_one (suc (suc zero)) e m a b = let t = in_text 0 (omega (arith, long)) in omega (arith, a, t)
+  entry_one (suc (suc (suc i))) e m a b =
       elim (cases_lt i (length text)) [
-        | inl l ↦ (let t = in_text i l in omega (arith, e, t))
+        | inl l ↦ (let t = in_text i l in omega (arith, m, t))
         | inr g ↦
             let j = i - length text in
-            let first : get_or rest j 0 ≡ 1 = sym (past_text i j (omega (arith, g))) ∙ e in
+            let first = past_text i j (omega (arith, g)) in
             let next : get_or rest (j + 1) 0 ≡ 0 = sym (past_text (i + 1) (j + 1) (omega (arith, g))) ∙ (sym (shifted i 1) ∙ a) in
             let last : get_or rest (j + 2) 0 ≡ 0 = sym (past_text (i + 2) (j + 2) (omega (arith, g))) ∙ (sym (shifted i 2) ∙ b) in
-            c.one j first next last
+            c.one j (omega (arith, first, e)) (omega (arith, first, m)) next last
       ]
 
-  entry_other : (q : ℕ) → get_or whole q 0 ≡ 254 → get_or whole (q + 1) 0 ≡ 255 → ⊥
+  entry_other : (q : ℕ) → 253 ≤ get_or whole q 0 → get_or whole (q + 1) 0 ≡ 255 → ⊥
   entry_other zero e a = omega (arith, e, small)
   entry_other (suc zero) e a = omega (arith, e, few)
   entry_other (suc (suc zero)) e a = let t = in_text 0 (omega (arith, long)) in omega (arith, a, t)
@@ -87,9 +88,9 @@ module _ (n high low : ℕ) (text rest : List ℕ) (small : n ≤ 64) (some : 1 
         | inl l ↦ (let t = in_text i l in omega (arith, e, t))
         | inr g ↦
             let j = i - length text in
-            let first : get_or rest j 0 ≡ 254 = sym (past_text i j (omega (arith, g))) ∙ e in
+            let first = past_text i j (omega (arith, g)) in
             let next : get_or rest (j + 1) 0 ≡ 255 = sym (past_text (i + 1) (j + 1) (omega (arith, g))) ∙ (sym (shifted i 1) ∙ a) in
-            c.other j first next
+            c.other j (omega (arith, first, e)) next
       ]
 
   entry_clear : IsClear whole
@@ -99,12 +100,12 @@ pair_clear : (e : List ℕ × List ℕ) (rest : List ℕ) → Fits e → IsClear
 unfolding pair_text bytes16
 pair_clear e rest f c =
     let k = text_limit 64 e.0 f.key in
-    let v = text_limit 1024 e.1 f.value in
+    let v = text_limit (value_limit 2) e.1 f.value in
     let some_key = text_some 64 e.0 f.key in
-    let some_value = text_some 1024 e.1 f.value in
+    let some_value = text_some (value_limit 2) e.1 f.value in
     let n = length-append e.0 e.1 in
     entry_clear (length e.0) (get_or (bytes16 (length e.1)) 0 0) (get_or (bytes16 (length e.1)) 1 0) (e.0 ++ e.1) rest k (omega (arith, v, some_value)) (omega (arith, v)) (omega (arith, n, some_key))
-    (both_printed e.0 e.1 (text_printed 64 e.0 f.key) (text_printed 1024 e.1 f.value)) c
+    (both_printed e.0 e.1 (text_printed 64 e.0 f.key) (text_printed (value_limit 2) e.1 f.value)) c
 
 pub pairs_clear : (m : kv.Map) → AllByRecursion Fits m → IsClear (flat_map pair_text m)
 pairs_clear [] h = none_clear

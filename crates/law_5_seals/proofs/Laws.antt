@@ -16,7 +16,7 @@ seals_last made f s = record {
 }
 
 pub slots_are_sealed : SlotsAreSealed
-slots_are_sealed made e w c are size m = record { new = new_sealed made e w c are size m; again = again_sealed made e w c are size m; header = header_calls_sealed made e.header w.header c (λ _. m) }
+slots_are_sealed version made e w c are size m = record { new = new_sealed made version e w c are size m; again = again_sealed made version e w c are size m; header = header_calls_sealed made e.header w.header c (λ _. m) }
 
 pub values_are_sealed : ValuesAreSealed
 values_are_sealed made old new f a b c d m n = seals_append made (mend_calls old f) (save_from 0 4 (copy_bytes new)) (mend_sealed made old a c m f) (saves_sealed made new b d n 4 0 (omega arith))

@@ -1,11 +1,12 @@
 -- What stands at some places of a sector that begins with the header of an entry, and of one that does so with its bits turned.
-use Rattle.std.proofs.Common.{ℕ, zero, suc, ◌+◌, ◌-◌, ◌<◌, ◌≡◌, ◌⊎◌, ◌^◌, inl, inr, arith, refl, sym, ap, ◌∙◌, List, [], ◌∷◌, length, get_or}
+use Rattle.std.proofs.Common.{ℕ, zero, suc, ◌+◌, ◌-◌, ◌<◌, ◌≤◌, ◌≡◌, ◌⊎◌, ◌^◌, inl, inr, arith, refl, sym, ap, ◌∙◌, List, [], ◌∷◌, length, get_or}
 use Rattle.std.specs.Prelude.{replicate}
 use Rattle.std.proofs.lemmas.Bool.{cases_lt}
 use Rattle.std.proofs.lemmas.List.{get_or-replicate}
-use Rattle.vr_base.specs.Bytes.{IsBytes, bytes64, joined, name_of, piece}
+use Rattle.vr_base.specs.Bytes.{IsBytes, bytes32, bytes64, joined, name_of, piece}
 use Rattle.vr_base.proofs.FieldLaws.{byte_of, get_or-piece, length-bytes32, length-bytes64, length-name_of}
 use Rattle.vr_base.proofs.Places.{BeginsWith, length-joined, piece_there, place, total, widths}
+use Rattle.vr_base.proofs.Versions.{between}
 use Rattle.vr_disk.specs.DiskState.{IsContent, damaged}
 use Rattle.vr_disk.proofs.Faces.{damaged_content}
 use Rattle.vr_header.specs.declared.command.Command.TheVariants.{Entry}
@@ -49,10 +50,13 @@ zeros64 b k n e z i l =
     let all : piece k 8 b ≡ replicate 8 0 = e ∙ ap bytes64 z in
     sym (get_or-piece k 8 i b l) ∙ (ap (λ x. get_or x i 0) all ∙ get_or-replicate {A = ℕ} 8 i 0 0 l)
 
--- what stands where, each byte as f leaves it
+-- what stands where, each byte as f leaves it; a size below 2^16 has two zeros in front
 pub record Marked (f : ℕ → ℕ) (b : List ℕ) : Type 0 where
+  pub number : ℕ
+  pub is_version : (1 ≤ number) × (number ≤ 2)
+  pub size : (i : ℕ) → i < 2 → get_or b (104 + i) 0 ≡ f 0
   pub command : get_or b 108 0 ≡ f 3
-  pub version : get_or b 110 0 ≡ f 1
+  pub version : get_or b 110 0 ≡ f number
   pub kind : get_or b 111 0 ≡ f 0
   pub commit : (i : ℕ) → i < 8 → get_or b (96 + i) 0 ≡ f 0
   pub aux : (i : ℕ) → i < 8 → get_or b (112 + i) 0 ≡ f 0
@@ -61,12 +65,24 @@ pub record Marked (f : ℕ → ℕ) (b : List ℕ) : Type 0 where
 pub command_at : (h : Header) (b : List ℕ) → HasNames h → Spells h b → get_or b 108 0 ≡ code_of h.command
 command_at h b f s = byte_of 108 (code_of h.command) b (piece_there layout (pieces h) b (begins h b f s) 11 (omega arith))
 
-spelled_marks : (h : Header) (b : List ℕ) → HasNames h → Spells h b → h.command ≡ Entry → h.commit ≡ 0 → h.kind ≡ 0 → h.aux ≡ 0 → Marked (λ x. x) b
-spelled_marks h b f s entry commit kind aux =
+short_size : (n : ℕ) → n < 2 ^ 16 → (i : ℕ) → i < 2 → get_or (bytes32 n) i 0 ≡ 0
+unfolding bytes32
+short_size n l zero k = omega (arith, l)
+short_size n l (suc zero) k = omega (arith, l)
+short_size n l (suc (suc i)) k = absurd (omega (arith, k))
+
+size_front : (b : List ℕ) (n : ℕ) → piece 104 4 b ≡ bytes32 n → n < 2 ^ 16 → (i : ℕ) → i < 2 → get_or b (104 + i) 0 ≡ 0
+size_front b n e l i k = sym (get_or-piece 104 4 i b (omega (arith, k))) ∙ (ap (λ x. get_or x i 0) e ∙ short_size n l i k)
+
+spelled_marks : (h : Header) (b : List ℕ) → HasNames h → Spells h b → (1 ≤ h.version) × (h.version ≤ 2) → h.size < 2 ^ 16 → h.command ≡ Entry → h.commit ≡ 0 → h.kind ≡ 0 → h.aux ≡ 0 → Marked (λ x. x) b
+spelled_marks h b f s version size entry commit kind aux =
     let at : (i : ℕ) → i < 17 → piece (place layout i) (get_or layout i 0) b ≡ get_or (pieces h) i [] = λ i l. piece_there layout (pieces h) b (begins h b f s) i l in
     record {
+      number = h.version;
+      is_version = version;
+      size = size_front b h.size (at 10 (omega arith)) size;
       command = command_at h b f s ∙ ap code_of entry;
-      version = byte_of 110 1 b (at 13 (omega arith));
+      version = byte_of 110 h.version b (at 13 (omega arith));
       kind = byte_of 111 h.kind b (at 14 (omega arith)) ∙ kind;
       commit = zeros64 b 96 h.commit (at 9 (omega arith)) commit;
       aux = zeros64 b 112 h.aux (at 15 (omega arith)) aux;
@@ -77,7 +93,9 @@ front_marks b h are f =
     let all = decoded_found b are in
     let s = rw f.reads at all in
     let is = entry_header_of h f.entry in
-    spelled_marks h b (record { body = s.1.body; parent = s.1.parent; request_name = s.1.request_name }) s.0 is.command is.commit is.kind is.aux
+    let most = between h.version 1920 3968 (omega arith) in
+    let size = is.size in
+    spelled_marks h b (record { body = s.1.body; parent = s.1.parent; request_name = s.1.request_name }) s.0 s.1.version (omega (arith, most, size)) is.command is.commit is.kind is.aux
 
 turned_mark : (b : List ℕ) (i x : ℕ) → IsContent b → i < 512 → get_or (damaged b) i 0 ≡ x → get_or b i 0 ≡ 255 - x
 turned_mark b i x c l e = let t = turned_at b i c l in let small = c.each i in omega (arith, t, e, small)
@@ -86,8 +104,11 @@ pub turned_marks : (b : List ℕ) (h : Header) → IsContent b → Fronts (damag
 turned_marks b h c f =
     let m = front_marks (damaged b) h (damaged_content b c).each f in
     record {
+      number = m.number;
+      is_version = m.is_version;
+      size = λ i l. turned_mark b (104 + i) 0 c (omega (arith, l)) (m.size i l);
       command = turned_mark b 108 3 c (omega arith) m.command;
-      version = turned_mark b 110 1 c (omega arith) m.version;
+      version = turned_mark b 110 m.number c (omega arith) m.version;
       kind = turned_mark b 111 0 c (omega arith) m.kind;
       commit = λ i l. turned_mark b (96 + i) 0 c (omega (arith, l)) (m.commit i l);
       aux = λ i l. turned_mark b (112 + i) 0 c (omega (arith, l)) (m.aux i l);

@@ -6,6 +6,7 @@ use Rattle.std.specs.List.{AllByRecursion, list_all}
 use Rattle.std.proofs.lemmas.Bool.{and_parts, cases_lt, leb-true}
 use Rattle.std.proofs.lemmas.List.{drop_at, get_or-append_right, get_or-drop, get_or_append_left, take_at}
 use Rattle.vr_base.specs.Bytes.{IsBytes, bytes16, is_zeros, piece}
+use Rattle.vr_base.specs.Versions.{is_version, value_limit}
 use Rattle.vr_base.proofs.FieldLaws.{IsBytes-piece, get_or-piece, length-piece}
 use Rattle.vr_base.proofs.Places.{drop_both}
 use Rattle.vr_base.proofs.ZeroLaws.{are_zeros}
@@ -28,7 +29,8 @@ use Rattle.vr_lie.proofs.Format.{behind_copy, length-copy_bytes, length-list_byt
 use Rattle.vr_rings.specs.Calls.{again_calls, header_calls, new_calls, prepare_calls}
 use Rattle.vr_lie.specs.Slots.{IsWhole, prepare_bytes, sector_of, slot_of}
 use Rattle.vr_lie.proofs.Spelling.{prepare_spells, sector_spells}
-use Rattle.vr_disk.specs.Regions.{prepare_place}
+use Rattle.vr_disk.specs.Regions.{prepare_place, prepare_sectors, sectors}
+use Rattle.vr_disk.proofs.Places.{counted, inside}
 use Rattle.law_5_seals.specs.Seals.{IsSealed, Puts, spelled_from}
 use Rattle.law_5_seals.proofs.Turning.{headed_sealed, plain_sealed}
 
@@ -66,12 +68,12 @@ zeros_plain (suc n) zero = inl refl
 zeros_plain (suc n) (suc i) = zeros_plain n i
 
 -- from the fourth byte on
-operation_plain : (o : Operation) → IsOperation o → ArePlain (drop 4 (operation_bytes o))
+operation_plain : (version : ℕ) (o : Operation) → IsOperation version o → ArePlain (drop 4 (operation_bytes o))
 unfolding operation_bytes bytes16
-operation_plain Register g i = inl refl
-operation_plain (Put key value) g i = plain_both key value (text_plain 64 key g.0) (text_plain 1024 value g.1) i
-operation_plain (Get key) g i = subst IsPlain (sym (get_or-drop 2 key i 0)) (text_plain 64 key g (2 + i))
-operation_plain (Delete key) g i = subst IsPlain (sym (get_or-drop 2 key i 0)) (text_plain 64 key g (2 + i))
+operation_plain version Register g i = inl refl
+operation_plain version (Put key value) g i = plain_both key value (text_plain 64 key g.0) (text_plain (value_limit version) value g.1) i
+operation_plain version (Get key) g i = subst IsPlain (sym (get_or-drop 2 key i 0)) (text_plain 64 key g (2 + i))
+operation_plain version (Delete key) g i = subst IsPlain (sym (get_or-drop 2 key i 0)) (text_plain 64 key g (2 + i))
 
 -- a prepare is plain from byte 132 on
 prepare_plain : (e : Whole) → IsWhole e → (i : ℕ) → 132 ≤ i → IsPlain (get_or (prepare_bytes e) i 0)
@@ -79,7 +81,7 @@ unfolding prepare_bytes entry_bytes
 prepare_plain e w i l =
     let h = header_bytes e.header in
     let o = operation_bytes e.operation in
-    let z : List ℕ = replicate (2048 - length (h ++ o)) 0 in
+    let z : List ℕ = replicate (4096 - length (h ++ o)) 0 in
     let n = length-header_bytes e.header w.header in
     let all : (h ++ o) ++ z ≡ h ++ (o ++ z) = append_assoc h o z in
     let past : get_or (h ++ (o ++ z)) i 0 ≡ get_or (o ++ z) (i - length h) 0 = get_or-append_right h (o ++ z) (length h) i 0 refl (omega (arith, n, l)) in
@@ -87,8 +89,8 @@ prepare_plain e w i l =
     let at : i - length h ≡ 4 + k = omega (arith, n, l) in
     let is : IsPlain (get_or (o ++ z) (i - length h) 0) =
     elim (cases_lt (i - length h) (length o)) [
-      | inl in_text ↦ (let t : get_or (o ++ z) (i - length h) 0 ≡ get_or (drop 4 o) k 0 = get_or_append_left o z 0 (i - length h) in_text ∙ (ap (λ m. get_or o m 0) at ∙ sym (get_or-drop 4 o k 0)) in subst IsPlain (sym t) (operation_plain e.operation w.operation k))
-      | inr behind ↦ subst IsPlain (sym (get_or-append_right o z (length o) (i - length h) 0 refl behind)) (zeros_plain (2048 - length (h ++ o)) (i - length h - length o))
+      | inl in_text ↦ (let t : get_or (o ++ z) (i - length h) 0 ≡ get_or (drop 4 o) k 0 = get_or_append_left o z 0 (i - length h) in_text ∙ (ap (λ m. get_or o m 0) at ∙ sym (get_or-drop 4 o k 0)) in subst IsPlain (sym t) (operation_plain e.header.version e.operation w.entry.body.fits k))
+      | inr behind ↦ subst IsPlain (sym (get_or-append_right o z (length o) (i - length h) 0 refl behind)) (zeros_plain (4096 - length (h ++ o)) (i - length h - length o))
     ] in
     subst IsPlain (sym (ap (λ b. get_or b i 0) all ∙ past)) is
 
@@ -109,8 +111,8 @@ module _ (made : List Header) where
   at_piece k b c p =
       let e = get_or-piece k 512 110 b (omega arith) in
       elim p [
-        | inl z ↦ plain_sealed made (piece k 512 b) c (λ one. omega (arith, e, z, one)) (λ other. omega (arith, e, z, other))
-        | inr t ↦ plain_sealed made (piece k 512 b) c (λ one. omega (arith, e, t, one)) (λ other. omega (arith, e, t, other))
+        | inl z ↦ plain_sealed made (piece k 512 b) c (inl (e ∙ z))
+        | inr t ↦ plain_sealed made (piece k 512 b) c (inr (omega (arith, e, t), omega (arith, e, t)))
       ]
 
   -- ---- calls that write pieces
@@ -119,7 +121,7 @@ module _ (made : List Header) where
   seals_append [] ds a b = b
   seals_append (c ∷ cs) ds a b = (a.0, seals_append cs ds a.1 b)
 
-  pub seals_writes : (n i k : ℕ) (b : List ℕ) → i + n ≤ 1424 → ((j : ℕ) → j < n → IsSealed made (piece (k + 512 * j) 512 b)) → AllByRecursion (Puts (IsSealed made)) (writes i n (drop k b))
+  pub seals_writes : (n i k : ℕ) (b : List ℕ) → i + n ≤ sectors → ((j : ℕ) → j < n → IsSealed made (piece (k + 512 * j) 512 b)) → AllByRecursion (Puts (IsSealed made)) (writes i n (drop k b))
   unfolding writes piece
   seals_writes zero i k b l h = tt
   seals_writes (suc n) i k b l h =
@@ -134,26 +136,31 @@ module _ (made : List Header) where
   pub header_sealed : (h : Header) → IsHeader h → IsContent (sector_of h) → (is_entry_header h ≡ true → h.op < spelled_from h.cluster → In h made) → IsSealed made (sector_of h)
   header_sealed h i c m = headed_sealed made (sector_of h) h c i (sector_spells h i) m
 
-  prepare_piece : (e : Whole) → IsWhole e → IsBytes (prepare_bytes e) → length (prepare_bytes e) ≡ 2048 → In e.header made → (j : ℕ) → j < 4 → IsSealed made (piece (0 + 512 * j) 512 (prepare_bytes e))
+  prepare_piece : (e : Whole) → IsWhole e → IsBytes (prepare_bytes e) → length (prepare_bytes e) ≡ 4096 → In e.header made → (j : ℕ) → j < 8 → IsSealed made (piece (0 + 512 * j) 512 (prepare_bytes e))
   unfolding piece
   prepare_piece e w are size m zero l =
       let c = piece_content 0 (prepare_bytes e) are (omega (arith, size)) in
       headed_sealed made (piece 0 512 (prepare_bytes e)) e.header c w.header (take_less 128 512 (prepare_bytes e) (omega arith) ∙ prepare_spells e w.header) (λ _ _. m)
   prepare_piece e w are size m (suc j) l = at_piece (0 + 512 * suc j) (prepare_bytes e) (piece_content (0 + 512 * suc j) (prepare_bytes e) are (omega (arith, size, l))) (prepare_plain e w (0 + 512 * suc j + 110) (omega arith))
 
-  prepare_sealed : (e : Whole) → IsWhole e → IsBytes (prepare_bytes e) → length (prepare_bytes e) ≡ 2048 → In e.header made → AllByRecursion (Puts (IsSealed made)) (prepare_calls e)
+  prepare_sealed : (version : ℕ) (e : Whole) → IsWhole e → IsBytes (prepare_bytes e) → length (prepare_bytes e) ≡ 4096 → In e.header made → AllByRecursion (Puts (IsSealed made)) (prepare_calls version e)
   unfolding prepare_calls
-  prepare_sealed e w are size m = seals_append (writes (prepare_place (slot_of e.header)) 4 (prepare_bytes e)) (Sync ∷ []) (seals_writes 4 (prepare_place (slot_of e.header)) 0 (prepare_bytes e) (omega arith) (prepare_piece e w are size m)) (tt, tt)
+  prepare_sealed version e w are size m =
+      let slot = slot_of e.header in
+      let n = prepare_sectors version in
+      let most = counted version in
+      seals_append (writes (prepare_place version slot) n (prepare_bytes e)) (Sync ∷ [])
+      (seals_writes n (prepare_place version slot) 0 (prepare_bytes e) (inside version slot (omega arith)) (λ j l. prepare_piece e w are size m j (omega (arith, l, most)))) (tt, tt)
 
   pub header_calls_sealed : (h : Header) → IsHeader h → IsContent (sector_of h) → (h.op < spelled_from h.cluster → In h made) → AllByRecursion (Puts (IsSealed made)) (header_calls h)
   unfolding header_calls
   header_calls_sealed h i c m = ((omega arith, header_sealed h i c (λ _ low. m low)), (tt, tt))
 
-  pub new_sealed : (e : Whole) → IsWhole e → IsContent (sector_of e.header) → IsBytes (prepare_bytes e) → length (prepare_bytes e) ≡ 2048 → In e.header made → AllByRecursion (Puts (IsSealed made)) (new_calls e)
-  new_sealed e w c are size m = seals_append (prepare_calls e) (header_calls e.header) (prepare_sealed e w are size m) (header_calls_sealed e.header w.header c (λ _. m))
+  pub new_sealed : (version : ℕ) (e : Whole) → IsWhole e → IsContent (sector_of e.header) → IsBytes (prepare_bytes e) → length (prepare_bytes e) ≡ 4096 → In e.header made → AllByRecursion (Puts (IsSealed made)) (new_calls version e)
+  new_sealed version e w c are size m = seals_append (prepare_calls version e) (header_calls e.header) (prepare_sealed version e w are size m) (header_calls_sealed e.header w.header c (λ _. m))
 
-  pub again_sealed : (e : Whole) → IsWhole e → IsContent (sector_of e.header) → IsBytes (prepare_bytes e) → length (prepare_bytes e) ≡ 2048 → In e.header made → AllByRecursion (Puts (IsSealed made)) (again_calls e)
-  again_sealed e w c are size m = seals_append (header_calls e.header) (prepare_calls e) (header_calls_sealed e.header w.header c (λ _. m)) (prepare_sealed e w are size m)
+  pub again_sealed : (version : ℕ) (e : Whole) → IsWhole e → IsContent (sector_of e.header) → IsBytes (prepare_bytes e) → length (prepare_bytes e) ≡ 4096 → In e.header made → AllByRecursion (Puts (IsSealed made)) (again_calls version e)
+  again_sealed version e w c are size m = seals_append (header_calls e.header) (prepare_calls version e) (header_calls_sealed e.header w.header c (λ _. m)) (prepare_sealed version e w are size m)
 
 -- ---- copies of the superblock
 
@@ -192,9 +199,9 @@ unfolding is_sealed is_closed
 blank_of b e =
     let rest = is_zeros (drop (128 + 128 * count_at b) b) && is_named b in
     let modes = nat_lt (get_or b 93 0) 2 in
-    let p = and_parts (length b == 10240) (good_fields (fields_at b) (count_at b) && ((get_or b 92 0 == 1) && (modes && (is_zeros (piece 94 34 b) && rest)))) e in
-    let q = and_parts (good_fields (fields_at b) (count_at b)) ((get_or b 92 0 == 1) && (modes && (is_zeros (piece 94 34 b) && rest))) p.1 in
-    let r = and_parts (get_or b 92 0 == 1) (modes && (is_zeros (piece 94 34 b) && rest)) q.1 in
+    let p = and_parts (length b == 10240) (good_fields (fields_at b) (count_at b) && (is_version (get_or b 92 0) && (modes && (is_zeros (piece 94 34 b) && rest)))) e in
+    let q = and_parts (good_fields (fields_at b) (count_at b)) (is_version (get_or b 92 0) && (modes && (is_zeros (piece 94 34 b) && rest))) p.1 in
+    let r = and_parts (is_version (get_or b 92 0)) (modes && (is_zeros (piece 94 34 b) && rest)) q.1 in
     let s = and_parts modes (is_zeros (piece 94 34 b) && rest) r.1 in
     (and_parts (is_zeros (piece 94 34 b)) rest s.1).0
 

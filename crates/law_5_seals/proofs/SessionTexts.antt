@@ -3,6 +3,7 @@ use Rattle.std.proofs.Common.{ℕ, zero, suc, ◌+◌, ◌-◌, ◌<◌, ◌≤�
 use Rattle.std.specs.List.{AllByRecursion}
 use Rattle.std.proofs.lemmas.List.{get_or-drop, length-append}
 use Rattle.vr_base.specs.Bytes.{bytes16, bytes32, bytes64}
+use Rattle.vr_base.specs.Versions.{value_limit}
 use Rattle.vr_base.proofs.FieldLaws.{length-bytes32, length-bytes64}
 use Rattle.vr_header.specs.Bodies.{outcome_bytes}
 use Rattle.vr_header.specs.declared.outcome.Outcome.{Outcome}
@@ -21,14 +22,14 @@ record IsOutcome (b : List ℕ) : Type 0 where
   some : 1 ≤ length b
   kind : 1 ≤ get_or b 0 0
   small : get_or b 0 0 ≤ 5
-  size : get_or b 1 0 ≤ 4
+  size : get_or b 1 0 < 255
   value : 2 ≤ length b → 4 ≤ length b
   printed : (k : ℕ) → 3 ≤ k → k < length b → IsPrinted (get_or b k 0)
 
 one_byte : (k : ℕ) → 1 ≤ k → k ≤ 5 → IsOutcome (k ∷ [])
 one_byte k a b = record { some = omega arith; kind = a; small = b; size = omega arith; value = λ l. absurd (omega (arith, l)); printed = λ i l r. absurd (omega (arith, l, r)) }
 
-value_bytes : (high low : ℕ) (v : List ℕ) → high ≤ 4 → 1 ≤ length v → ((i : ℕ) → i < length v → IsPrinted (get_or v i 0)) → IsOutcome (5 ∷ high ∷ low ∷ v)
+value_bytes : (high low : ℕ) (v : List ℕ) → high < 255 → 1 ≤ length v → ((i : ℕ) → i < length v → IsPrinted (get_or v i 0)) → IsOutcome (5 ∷ high ∷ low ∷ v)
 value_bytes high low v few some p = record { some = omega arith; kind = omega arith; small = omega arith; size = few; value = λ l. omega (arith, some); printed = behind } where
   behind : (k : ℕ) → 3 ≤ k → k < length (5 ∷ high ∷ low ∷ v) → IsPrinted (get_or (5 ∷ high ∷ low ∷ v) k 0)
   behind zero l r = absurd (omega (arith, l))
@@ -43,8 +44,8 @@ outcome_form outcome.Ok f = one_byte 2 (omega arith) (omega arith)
 outcome_form outcome.Full f = one_byte 3 (omega arith) (omega arith)
 outcome_form outcome.Absent f = one_byte 4 (omega arith) (omega arith)
 outcome_form (outcome.Value v) f =
-    let n = text_limit 1024 v f in
-    value_bytes (get_or (bytes16 (length v)) 0 0) (get_or (bytes16 (length v)) 1 0) v (omega (arith, n)) (text_some 1024 v f) (text_printed 1024 v f)
+    let n = text_limit (value_limit 2) v f in
+    value_bytes (get_or (bytes16 (length v)) 0 0) (get_or (bytes16 (length v)) 1 0) v (omega (arith, n)) (text_some (value_limit 2) v f) (text_printed (value_limit 2) v f)
 
 -- ---- a session
 

@@ -62,7 +62,7 @@ module _ (m : Map) (fits : AllByRecursion sess.Fits m) (come : AllByRecursion Is
           commit = λ i l. there 96 i (omega (arith, l)) ∙ f.marked.commit i l;
           command = sym (s.1 108 (omega arith)) ∙ f.marked.command;
           replica = sym (s.1 109 (omega arith)) ∙ f.replica;
-          version = sym (s.1 110 (omega arith)) ∙ f.marked.version;
+          version = (let same = s.1 110 (omega arith) in let number = f.marked.version in let is = f.marked.is_version in (omega (arith, same, number, is), omega (arith, same, number, is)));
           zeros = λ i l. there 111 i (omega (arith, l)) ∙ f.zeros i l;
         }
 

@@ -1,5 +1,5 @@
 -- Bytes whose bits are turned, twice are what they were; and what stands in front of bytes.
-use Rattle.std.proofs.Common.{ℕ, suc, ◌-◌, ◌<◌, ◌≡◌, ◌≢◌, arith, refl, sym, ap, ◌∙◌, subst, true, List, [], ◌∷◌, get_or, Some, None, Result, Ok, Err}
+use Rattle.std.proofs.Common.{ℕ, suc, ◌-◌, ◌<◌, ◌≤◌, ◌≡◌, ◌⊎◌, inl, inr, arith, refl, sym, ap, ◌∙◌, subst, true, List, [], ◌∷◌, get_or, Some, None, Result, Ok, Err}
 use Rattle.std.specs.Prelude.{bit_xor, bit_and, ◌%◌}
 use Rattle.std.specs.Option.{option_map_or}
 use Rattle.std.specs.Int.Bits.{xor_add_and}
@@ -49,21 +49,25 @@ no_fault b h e =
 pub front_sound : (b : List ℕ) (h : Header) → Fronts b h → IsSound b
 front_sound b h f = sound b (no_fault b h f.reads)
 
-pub front_version : (b : List ℕ) (h : Header) → Fronts b h → get_or b 110 0 ≡ 1
+pub front_version : (b : List ℕ) (h : Header) → Fronts b h → (1 ≤ get_or b 110 0) × (get_or b 110 0 ≤ 2)
 front_version b h f = (front_sound b h f).version
 
 pub turned_at : (b : List ℕ) (i : ℕ) → IsContent b → i < 512 → get_or (damaged b) i 0 ≡ 255 - get_or b i 0
 turned_at b i c l = let n = c.size in let each = c.each i in get_or-map (λ b. bit_xor b 255) b i 0 0 (omega (arith, n, l)) ∙ byte_turned (get_or b i 0) each
 
-pub turned_version : (b : List ℕ) (h : Header) → IsContent b → Fronts (damaged b) h → get_or b 110 0 ≡ 254
-turned_version b h c f = let v = front_version (damaged b) h f in let t = turned_at b 110 c (omega arith) in let small = c.each 110 in omega (arith, v, t, small)
+pub turned_version : (b : List ℕ) (h : Header) → IsContent b → Fronts (damaged b) h → (253 ≤ get_or b 110 0) × (get_or b 110 0 ≤ 254)
+turned_version b h c f = let v = front_version (damaged b) h f in let t = turned_at b 110 c (omega arith) in let small = c.each 110 in (omega (arith, v, t, small), omega (arith, v, t, small))
 
 -- ---- seals
 
+-- no version of a header, as it is or with its bits turned
+abbrev pub IsFree : ℕ → Type 0
+IsFree x = (x ≡ 0) ⊎ ((3 ≤ x) × (x ≤ 252))
+
 module _ (made : List Header) where
-  -- no version of a header stands there
-  pub plain_sealed : (b : List ℕ) → IsContent b → get_or b 110 0 ≢ 1 → get_or b 110 0 ≢ 254 → IsSealed made b
-  plain_sealed b c one other = record { content = c; front = λ h f. absurd (one (front_version b h f)); turned = λ h f. absurd (other (turned_version b h c f)) }
+  pub plain_sealed : (b : List ℕ) → IsContent b → IsFree (get_or b 110 0) → IsSealed made b
+  plain_sealed b c (inl none) = record { content = c; front = λ h f. (let v = front_version b h f in absurd (omega (arith, none, v))); turned = λ h f. (let v = turned_version b h c f in absurd (omega (arith, none, v))) }
+  plain_sealed b c (inr other) = record { content = c; front = λ h f. (let v = front_version b h f in absurd (omega (arith, other, v))); turned = λ h f. (let v = turned_version b h c f in absurd (omega (arith, other, v))) }
 
   same_read : (a b : Header) (r : Result Header HeaderFault) → r ≡ Ok a → r ≡ Ok b → a ≡ b
   same_read a b r e f = cc

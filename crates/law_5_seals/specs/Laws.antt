@@ -4,6 +4,7 @@ use Rattle.std.specs.List.{AllByRecursion}
 use Rattle.vr_base.specs.Bytes.{IsBytes}
 use Rattle.vr_disk.specs.DiskState.{Call, Face, IsContent, after_all, cut}
 use Rattle.vr_disk.specs.Stops.{IsCall}
+use Rattle.vr_ckpt.specs.Places.{grid_size}
 use Rattle.vr_ckpt.specs.Texts.{Texts}
 use Rattle.vr_ckpt.specs.Saves.{blocks_calls, changed, save_calls, sessions_run, table_of}
 use Rattle.vr_ckpt.specs.declared.table.Payload.{Payload}
@@ -37,14 +38,15 @@ pub record Lasts (P : List ℕ → Type 0) (f : Face) : Type 0 where
 abbrev pub SealsLast : Type 0
 SealsLast = (made : List Header) (f : Face) → HasSectors (IsSealed made) f → Lasts (IsSealed made) f
 
--- an entry that was made is written in sealed sectors
-pub record IsSealedSlot (made : List Header) (e : Whole) : Type 0 where
-  pub new : AllByRecursion (Puts (IsSealed made)) (new_calls e)
-  pub again : AllByRecursion (Puts (IsSealed made)) (again_calls e)
+-- an entry that was made is written in sealed sectors, in a file of either version
+pub record IsSealedSlot (version : ℕ) (made : List Header) (e : Whole) : Type 0 where
+  pub new : AllByRecursion (Puts (IsSealed made)) (new_calls version e)
+  pub again : AllByRecursion (Puts (IsSealed made)) (again_calls version e)
   pub header : AllByRecursion (Puts (IsSealed made)) (header_calls e.header)
 
 abbrev pub SlotsAreSealed : Type 0
-SlotsAreSealed = (made : List Header) (e : Whole) → IsWhole e → IsContent (sector_of e.header) → IsBytes (prepare_bytes e) → length (prepare_bytes e) ≡ 2048 → In e.header made → IsSealedSlot made e
+SlotsAreSealed =
+    (version : ℕ) (made : List Header) (e : Whole) → IsWhole e → IsContent (sector_of e.header) → IsBytes (prepare_bytes e) → length (prepare_bytes e) ≡ 4096 → In e.header made → IsSealedSlot version made e
 
 -- and a value that names what was made, over another one
 abbrev pub ValuesAreSealed : Type 0
@@ -56,7 +58,7 @@ ValuesAreSealed =
 pub record HasPlace (p : Payload) : Type 0 where
   pub size : length p.name.sum.0 ≡ 16
   pub some : 0 < p.name.address
-  pub few : p.name.address < 128
+  pub few : p.name.address < grid_size
 
 -- The sectors of a checkpoint of a state's keys begin with no header of an entry, if those of its sessions don't.
 pub record IsChecked (cluster : ℕ) (texts : Texts) (op : ℕ) (old : PayloadTable) : Type 0 where
@@ -65,7 +67,6 @@ pub record IsChecked (cluster : ℕ) (texts : Texts) (op : ℕ) (old : PayloadTa
   pub fits : AllByRecursion Fits machine
   -- the names in its table
   pub names : AllByRecursion HasPlace ((table_of cluster texts op old).sessions ++ (table_of cluster texts op old).keys)
-  pub few : length ((table_of cluster texts op old).sessions ++ (table_of cluster texts op old).keys) ≤ 45
 
 abbrev pub CheckpointsAreHeadless : Type 0
 CheckpointsAreHeadless =

@@ -1,6 +1,7 @@
 -- Sectors that begin with the header of an entry, of an op that a log may come to, only where that entry was begun to be written.
 use Rattle.std.specs.Prelude.{ℕ, zero, suc, ◌^◌, ◌<◌, ◌≡◌, ⊤, true, List, length, All, Some, Ok}
 use Rattle.vr_disk.specs.DiskState.{Call, Write, Sync, Cell, Face, Waiting, IsContent, damaged}
+use Rattle.vr_disk.specs.Regions.{sectors}
 use Rattle.vr_header.specs.declared.header.Header.{Header}
 use Rattle.vr_header.specs.Made.{is_entry_header}
 use Rattle.vr_header.specs.Spelling.{decoded}
@@ -15,17 +16,17 @@ pub record HasCell (P : List ℕ → Type 0) (c : Cell) : Type 0 where
   pub before : P c.before
 
 pub record HasWaiting (P : List ℕ → Type 0) (w : Waiting) : Type 0 where
-  pub index : w.index < 1424
+  pub index : w.index < sectors
   pub was : HasCell P w.was
 
 pub record HasSectors (P : List ℕ → Type 0) (f : Face) : Type 0 where
-  pub count : length f.cells ≡ 1424
+  pub count : length f.cells ≡ sectors
   pub cells : All (HasCell P) f.cells
   pub waiting : All (HasWaiting P) f.waiting
 
 -- and of what a call writes
 abbrev pub Puts : (List ℕ → Type 0) → Call → Type 0
-Puts P (Write i bytes) = (i < 1424) × P bytes
+Puts P (Write i bytes) = (i < sectors) × P bytes
 Puts P Sync = ⊤
 
 -- ---- seals

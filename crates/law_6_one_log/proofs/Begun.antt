@@ -2,7 +2,7 @@
 use Rattle.std.proofs.Common.{ℕ, zero, suc, ◌+◌, ◌-◌, ◌≡◌, inl, inr, arith, refl, sym, ap, ◌∙◌, subst, true, false, cond, List, [], ◌∷◌, ◌++◌, length, take, Option, Some, None}
 use Rattle.std.specs.Prelude.{nat_lt, slice_get}
 use Rattle.std.specs.List.{AllByRecursion}
-use Rattle.std.proofs.lemmas.List.{append-nil, length-append, take-append-le}
+use Rattle.std.proofs.lemmas.List.{append-nil, take-append-le}
 use Rattle.std.proofs.lemmas.Option.{slice_get_within}
 use Rattle.vr_disk.specs.DiskState as disk
 use Rattle.vr_disk.specs.DiskState.{Call, Write, Sync, Face, Fuse}
@@ -22,7 +22,7 @@ use Rattle.vr_ckpt.specs.declared.block.Block.{Block}
 use Rattle.vr_ckpt.specs.declared.table.Payload.{Payload}
 use Rattle.vr_ckpt.specs.declared.table.PayloadTable.{PayloadTable}
 use Rattle.law_4_disks.specs.Stocks.{IsNamed, IsOfState, WritesBlocks}
-use Rattle.law_4_disks.proofs.Blocks.{Texted, table_few, table_named}
+use Rattle.law_4_disks.proofs.Blocks.{Texted, table_named}
 use Rattle.law_4_disks.proofs.States.{text_of_state}
 use Rattle.law_5_seals.proofs.Blocks.{calls_left}
 use Rattle.law_5_seals.proofs.Checks.{both_calls, checkpoints_are_headless}
@@ -127,10 +127,8 @@ check_headless cluster texts op old h a s =
     let x = texted_of texts old h in
     let t = table_of cluster texts op old in
     let named = table_named cluster texts op old x in
-    let few = table_few cluster texts op old x in
-    let size = length-append t.sessions t.keys in
     checkpoints_are_headless cluster texts op old
-    (record { machine = h.state.machine; keys = ap (λ (x : Texts). x.keys) h.are; fits = h.machine.fit; names = places_both t.sessions t.keys (places t.sessions named.sessions) (places t.keys named.keys); few = omega (arith, few, size) }) a
+    (record { machine = h.state.machine; keys = ap (λ (x : Texts). x.keys) h.are; fits = h.machine.fit; names = places_both t.sessions t.keys (places t.sessions named.sessions) (places t.keys named.keys) }) a
     (sessions_headless cluster texts op old a s)
 
 -- those from here on, which saw these before them

@@ -1,12 +1,13 @@
 -- A disk that was just formatted reads as no entry and as no block: its prepares and its grid are zeros.
 use Rattle.vr_base.specs.declared.kind.Kind.{Kind}
-use Rattle.std.proofs.Common.{ℕ, zero, suc, ◌+◌, ◌*◌, ◌≤◌, ◌<◌, ◌≡◌, arith, refl, sym, ap, ◌∙◌, subst, List, [], ◌∷◌, ◌++◌, length, map, take, get_or, Option, Some, None, Ok, inl, inr}
+use Rattle.vr_base.proofs.AreBytes.{IsBytes-append, IsBytes-zeros}
+use Rattle.std.proofs.Common.{ℕ, zero, suc, ◌+◌, ◌-◌, ◌*◌, ◌≤◌, ◌<◌, ◌≡◌, arith, refl, sym, ap, ◌∙◌, subst, List, [], ◌∷◌, ◌++◌, length, map, take, replicate, get_or, Option, Some, None, Ok, inl, inr, append_assoc}
 use Rattle.std.specs.List.{AllByRecursion, range_with_len}
-use Rattle.std.specs.Option.{option_and_then}
+use Rattle.std.specs.Option.{option_and_then, option_map}
 use Rattle.std.proofs.lemmas.Bool.{cases_lt}
 use Rattle.std.proofs.lemmas.List.{get_or-replicate, get_or_append_left, length-append, length-replicate}
 use Rattle.vr_disk.specs.DiskState.{Call, Cell, Face, IsFace, Sync, Write, after_all, cell, reads}
-use Rattle.vr_disk.specs.Regions.{block_place, header_place, prepare_place}
+use Rattle.vr_disk.specs.Regions.{block_place, header_place, prepare_place, prepare_sectors, sectors}
 use Rattle.vr_disk.specs.Sectors.{together}
 use Rattle.vr_disk.specs.Stops.{Spares}
 use Rattle.vr_disk.proofs.Frames.{frame_all}
@@ -18,18 +19,19 @@ use Rattle.vr_header.proofs.Faults.{sound}
 use Rattle.vr_header.proofs.HeaderLaws.{decoded_again}
 use Rattle.vr_lie.specs.Copies.{copy_bytes}
 use Rattle.vr_lie.specs.Calls.{save_from}
-use Rattle.vr_lie.specs.Slots.{prepare_reading, sector_of, whole_in, whole_of}
+use Rattle.vr_lie.specs.Slots.{padded, sector_of, whole_in, whole_of}
 use Rattle.vr_lie.proofs.Spelling.{one_spelling, prepare_spells}
 use Rattle.vr_ckpt.specs.Blocks.{Content}
 use Rattle.vr_ckpt.specs.Grid.{block_reading, named_at}
 use Rattle.vr_ckpt.specs.declared.name.Name.{Name}
 use Rattle.vr_ckpt.proofs.Contents.{named_found, read_of}
+use Rattle.vr_ckpt.proofs.Placing.{block_inside}
 use Rattle.law_3_outputs.specs.Opening.{first_value}
 use Rattle.law_3_outputs.specs.Formatting.{format_calls, reserved_header, reserved_headers, zero_prepares, zero_sector}
 use Rattle.law_3_outputs.specs.Lying.{zero_cell, zero_face}
 use Rattle.law_3_outputs.specs.Safe as safe
 use Rattle.law_3_outputs.specs.Safe.{IsRead}
-use Rattle.law_3_outputs.proofs.FitDisks.{save_spares}
+use Rattle.law_3_outputs.proofs.FitDisks.{grid_behind, save_spares}
 use Rattle.law_3_outputs.proofs.SlotCalls.{together_past}
 use Rattle.law_5_seals.specs.Seals.{HasCell, HasSectors, Puts}
 use Rattle.law_5_seals.proofs.Contents.{has_after_all, has_at}
@@ -47,12 +49,12 @@ some_zero b e = let same : zero_sector ≡ b = cc in sym same
 
 zero_has : HasSectors IsZero zero_face
 zero_has = record {
-  count = length-replicate 1424 zero_cell;
-  cells = λ k d l. let n = length-replicate 1424 zero_cell in subst (HasCell IsZero) (sym (get_or-replicate 1424 k zero_cell d (omega (arith, n, l)))) (record { truth = refl; reads = some_zero; before = refl });
+  count = length-replicate sectors zero_cell;
+  cells = λ k d l. let n = length-replicate sectors zero_cell in subst (HasCell IsZero) (sym (get_or-replicate sectors k zero_cell d (omega (arith, n, l)))) (record { truth = refl; reads = some_zero; before = refl });
   waiting = λ k d l. absurd (omega arith);
 }
 
-zeros_put : (n i : ℕ) → i + n ≤ 1424 → AllByRecursion (Puts IsZero) (map (λ k. Write k zero_sector) (range_with_len i n))
+zeros_put : (n i : ℕ) → i + n ≤ sectors → AllByRecursion (Puts IsZero) (map (λ k. Write k zero_sector) (range_with_len i n))
 zeros_put zero i l = tt
 zeros_put (suc n) i l = ((omega (arith, l), refl), zeros_put n (i + 1) (omega (arith, l)))
 
@@ -89,18 +91,18 @@ module _ (kind : Kind) (n i : ℕ) where
   later_spares : (k : ℕ) → 144 ≤ k → AllByRecursion (Spares k) later
   later_spares k l = spares_append k (reserved_headers 0) (Sync ∷ save_from 0 4 (copy_bytes (first_value kind 0 n i))) (heads_spare 64 0 k (omega arith) l) (tt, save_spares 4 0 k (copy_bytes (first_value kind 0 n i)) (omega arith) (omega (arith, l)))
 
-  zero_at : (k : ℕ) (b : List ℕ) → 144 ≤ k → k < 1424 → reads fresh_face k ≡ Some b → IsZero b
+  zero_at : (k : ℕ) (b : List ℕ) → 144 ≤ k → k < sectors → reads fresh_face k ≡ Some b → IsZero b
   unfolding format_calls
   zero_at k b l m e =
       let g = after_all zero_face zero_prepares in
       let same : cell fresh_face k ≡ cell g k = ap (λ (h : Face). cell h k) (after_all_append zero_prepares later zero_face) ∙ frame_all later g k (later_spares k l) in
       (has_at IsZero g k (has_after_all IsZero zero_prepares zero_face zero_has (zeros_put 256 144 (omega arith))) m).reads b (ap (λ (c : Cell). c.reads) (sym same) ∙ e)
 
-  count : length fresh_face.cells ≡ 1424
-  count = length_after_all (format_calls kind 0 n i) zero_face ∙ length-replicate 1424 zero_cell
+  count : length fresh_face.cells ≡ sectors
+  count = length_after_all (format_calls kind 0 n i) zero_face ∙ length-replicate sectors zero_cell
 
   -- what reads behind the header sectors is zeros
-  all_zero : (k s : ℕ) (b : List ℕ) → 144 ≤ s → s + k ≤ 1424 → together s k fresh_face ≡ Some b → b ≡ zeros k
+  all_zero : (k s : ℕ) (b : List ℕ) → 144 ≤ s → s + k ≤ sectors → together s k fresh_face ≡ Some b → b ≡ zeros k
   unfolding together
   all_zero zero s b l m r = let same : [] ≡ b = cc in sym same
   all_zero (suc k) s b l m r =
@@ -109,29 +111,37 @@ module _ (kind : Kind) (n i : ℕ) where
 
   -- ---- no entry, and no block
 
-  no_reading : IsFace fresh_face → (slot : ℕ) (e : Whole) (o : Option (List ℕ)) → prepare_reading fresh_face slot ≡ o → option_and_then whole_of o ≡ Some e → ⊥
+  no_reading : IsFace fresh_face → (slot : ℕ) (e : Whole) (o : Option (List ℕ)) → together (prepare_place 1 slot) (prepare_sectors 1) fresh_face ≡ o → option_and_then whole_of (option_map (padded 1) o) ≡ Some e → ⊥
   no_reading face slot e None r w = absurd cc
   no_reading face slot e (Some b) r w =
       let n = count in
-      elim (cases_lt (prepare_place slot + 3) 1424) [
-        | inr past ↦ (let none : None ≡ Some b = sym (together_past 3 (prepare_place slot) fresh_face (omega (arith, n, past))) ∙ r in absurd cc)
+      elim (cases_lt (prepare_place 1 slot + 3) sectors) [
+        | inr past ↦ (let none : None ≡ Some b = sym (together_past 3 (prepare_place 1 slot) fresh_face (omega (arith, n, past))) ∙ r in absurd cc)
         | inl within ↦
-            let z = all_zero 4 (prepare_place slot) b (omega arith) (omega (arith, within)) r in
-            let found = one_spelling.entry_found b e (together_bytes 4 (prepare_place slot) fresh_face face (omega (arith, within)) b r) (ap length z ∙ length-zeros 4) w in
-            let spells : Spells e.header b = ap (take 128) found.0 ∙ prepare_spells e found.1.header in
-            no_header b (zeros 3) e.header z (decoded_again e.header b found.1.header spells)
+            let k = 4096 - 512 * prepare_sectors 1 in
+            let behind : List ℕ = replicate k 0 in
+            let z = all_zero 4 (prepare_place 1 slot) b (omega arith) (omega (arith, within)) r in
+            let is : padded 1 b ≡ zero_sector ++ (zeros 3 ++ behind) = ap (padded 1) z ∙ append_assoc zero_sector (zeros 3) behind in
+            let size = ap length z ∙ length-zeros 4 in
+            let all = length-append b behind in
+            let rest = length-replicate {A = ℕ} k 0 in
+            let are = IsBytes-append b behind (together_bytes 4 (prepare_place 1 slot) fresh_face face (omega (arith, within)) b r) (IsBytes-zeros k) in
+            let found = one_spelling.entry_found (padded 1 b) e are (omega (arith, size, all, rest)) w in
+            let spells : Spells e.header (padded 1 b) = ap (take 128) found.0 ∙ prepare_spells e found.1.header in
+            no_header (padded 1 b) (zeros 3 ++ behind) e.header is (decoded_again e.header (padded 1 b) found.1.header spells)
       ]
 
-  no_entry : IsFace fresh_face → (slot : ℕ) (e : Whole) → whole_in fresh_face slot ≡ Some e → ⊥
+  no_entry : IsFace fresh_face → (slot : ℕ) (e : Whole) → whole_in 1 fresh_face slot ≡ Some e → ⊥
   unfolding whole_in
-  no_entry face slot e w = no_reading face slot e (prepare_reading fresh_face slot) refl w
+  no_entry face slot e w = no_reading face slot e (together (prepare_place 1 slot) (prepare_sectors 1) fresh_face) refl w
 
   no_block : (name : Name) (c : Content) → named_at fresh_face name ≡ Some c → ⊥
   unfolding block_reading
   no_block name c e =
       let x = named_bytes_at fresh_face name c e in
       let within = x.1 in
-      let z = all_zero 8 (block_place name.address) x.0 (omega arith) (omega (arith, within)) x.2 in
+      let behind = grid_behind name.address in
+      let z = all_zero 8 (block_place name.address) x.0 (omega (arith, behind)) (block_inside name.address within) x.2 in
       let r = read_of x.0 c (named_found name x.0 c x.3).0 in
       no_header x.0 (zeros 7) r.header z r.read
 

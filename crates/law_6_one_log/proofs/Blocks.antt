@@ -10,7 +10,7 @@ use Rattle.vr_base.proofs.FieldLaws.{length-name_of}
 use Rattle.vr_header.specs.Spelling.{named_bytes}
 use Rattle.vr_header.specs.NoCollision.{NoCollision}
 use Rattle.vr_disk.specs.DiskState.{Face}
-use Rattle.vr_ckpt.specs.StateTexts.{FitsPayloads, payloads}
+use Rattle.vr_ckpt.specs.StateTexts.{FitsPayloads, key_payloads, payloads, session_payloads}
 use Rattle.vr_ckpt.specs.Texts.{Texts}
 use Rattle.vr_ckpt.specs.Blocks.{Content, block_header, block_name, block_of}
 use Rattle.vr_ckpt.specs.Grid.{block_reading, named_at}
@@ -19,7 +19,8 @@ use Rattle.vr_ckpt.specs.declared.block.Block.{Block}
 use Rattle.vr_ckpt.specs.declared.name.Name.{Name}
 use Rattle.vr_ckpt.proofs.Contents.{named_found}
 use Rattle.vr_ckpt.specs.Loads.{both_named, data_at, data_of, gathered, gathered_both, is_root, keys_size, load_by, load_of, loaded, name_at, names_at, read_root, root_at, root_in, sessions_size, text_of, with_data, with_name}
-use Rattle.vr_ckpt.specs.Places.{is_place}
+use Rattle.vr_ckpt.specs.Places.{HasRoom, grid_size, is_place, keys_places, place_of, sessions_places}
+use Rattle.vr_ckpt.specs.declared.places.Places.{Places}
 use Rattle.vr_ckpt.specs.Saves.{PayloadBlocks, blocks_from, changed, data_content, goes_to, names_bytes, payload_blocks_at, payload_at, payloads_from, payloads_of, keys_run, root_of, root_payload, sessions_run, table_of, written}
 use Rattle.vr_ckpt.specs.declared.found.Load.TheVariants.{Loaded}
 use Rattle.vr_ckpt.specs.declared.loading.Gathered.{Gathered}
@@ -27,7 +28,8 @@ use Rattle.vr_ckpt.specs.declared.plan.Run.{Run}
 use Rattle.vr_ckpt.specs.declared.root.Root.{Root}
 use Rattle.vr_ckpt.specs.declared.table.Payload.{Payload}
 use Rattle.vr_ckpt.specs.declared.table.PayloadTable.{PayloadTable}
-use Rattle.vr_ckpt.proofs.Apart.{AtPlace, part_cases}
+use Rattle.vr_ckpt.proofs.Apart.{part_cases}
+use Rattle.vr_ckpt.proofs.Placing.{at_within, keys_room, place_lower, sessions_room}
 use Rattle.vr_ckpt.proofs.Done.{Fit, Fits, after_name, length-names, name_there, text_again, words}
 use Rattle.vr_ckpt.proofs.Planning.{keys_count, sessions_count}
 use Rattle.law_6_one_log.specs.Hashed.{AllKept, IsHashedBlock, IsKept, IsTable, IsWrittenOut, ReadsHashed}
@@ -48,23 +50,23 @@ with_found low n o ns e =
     ] e
 
 -- names that are read where these were spelled are these
-names_found : (low : ℕ) (b rest : List ℕ) (i : ℕ) (ps : List Payload) (ns : List Name) → Fits ps → drop (18 + 24 * i) b ≡ names_bytes ps ++ rest → names_at low b i (length ps) ≡ Some ns → ns ≡ names_of ps
+names_found : (l : Places) (k : ℕ) (b rest : List ℕ) (i : ℕ) (ps : List Payload) (ns : List Name) → Fits ps → drop (18 + 24 * i) b ≡ names_bytes ps ++ rest → names_at l k b i (length ps) ≡ Some ns → ns ≡ names_of ps
 unfolding names_at names_bytes
-names_found low b rest i [] ns h e is = let same : [] ≡ ns = cc in sym same
-names_found low b rest i (p ∷ ps) ns h e is =
+names_found l k b rest i [] ns h e is = let same : [] ≡ ns = cc in sym same
+names_found l k b rest i (p ∷ ps) ns h e is =
     let f = h.0 in
     let s : drop (18 + 24 * i) b ≡ bytes64 p.name.address ++ (p.name.sum.0 ++ (names_bytes ps ++ rest)) =
     e ∙ (append_assoc (bytes64 p.name.address) (p.name.sum.0 ++ names_bytes ps) rest ∙ ap (λ x. bytes64 p.name.address ++ x) (append_assoc p.name.sum.0 (names_bytes ps) rest)) in
-    let first = with_found low (name_at b i) (names_at (low + 1) b (i + 1) (length ps)) ns is in
-    let later = names_found (low + 1) b rest (i + 1) ps first.0 h.1 (after_name b (names_bytes ps ++ rest) i p.name f s) first.1 in
+    let first = with_found (place_of l k) (name_at b i) (names_at l (k + 1) b (i + 1) (length ps)) ns is in
+    let later = names_found l (k + 1) b rest (i + 1) ps first.0 h.1 (after_name b (names_bytes ps ++ rest) i p.name f s) first.1 in
     first.2 ∙ (ap (λ n. n ∷ first.0) (name_there b (names_bytes ps ++ rest) i p.name f s) ∙ ap (λ ms. p.name ∷ ms) later)
 
 -- a root that is read
 record RootIn (b : List ℕ) (r : Root) : Type 0 where
   sessions_long : r.sessions_size ≡ sessions_size b
   keys_long : r.keys_size ≡ keys_size b
-  sessions : names_at 1 b 0 (payloads (sessions_size b)) ≡ Some r.sessions
-  keys : names_at 10 b (payloads (sessions_size b)) (payloads (keys_size b)) ≡ Some r.keys
+  sessions : names_at sessions_places 0 b 0 (payloads (sessions_size b)) ≡ Some r.sessions
+  keys : names_at keys_places 0 b (payloads (sessions_size b)) (payloads (keys_size b)) ≡ Some r.keys
 
 both_found : (b : List ℕ) (s k : Option (List Name)) (r : Root) → both_named b s k ≡ Some r → (s ≡ Some r.sessions) × (k ≡ Some r.keys) × (r.sessions_size ≡ sessions_size b) × (r.keys_size ≡ keys_size b)
 both_found b None k r e = absurd cc
@@ -76,7 +78,7 @@ both_found b (Some s) (Some k) r e =
 root_found : (b : List ℕ) (r : Root) → root_in b ≡ Some r → RootIn b r
 unfolding root_in
 root_found b r e =
-    let p = both_found b (names_at 1 b 0 (payloads (sessions_size b))) (names_at 10 b (payloads (sessions_size b)) (payloads (keys_size b))) r e in
+    let p = both_found b (names_at sessions_places 0 b 0 (payloads (sessions_size b))) (names_at keys_places 0 b (payloads (sessions_size b)) (payloads (keys_size b))) r e in
     record { sessions_long = p.2; keys_long = p.3; sessions = p.0; keys = p.1 }
 
 read_found : (c : Content) (r : Root) → read_root c ≡ Some r → root_in c.payload ≡ Some r
@@ -97,12 +99,8 @@ kept_at H [] j p h e = absurd cc
 kept_at H (q ∷ ps) zero p h e = let same : q ≡ p = cc in subst (IsKept H) same h.0
 kept_at H (q ∷ ps) (suc j) p h e = kept_at H ps j p h.1 e
 
-in_grid : (low x : ℕ) → low < 64 → AtPlace low x → x < 128
-in_grid low x l (inl e) = omega arith
-in_grid low x l (inr e) = omega arith
-
 module _ (H : List ℕ → Type 0) where
-  goes_kept : (r : Run) (x : ℕ) (bytes : List ℕ) → x < 128 → IsHashedBlock H (data_content r x bytes) → IsKept H (goes_to r x bytes).payload
+  goes_kept : (r : Run) (x : ℕ) (bytes : List ℕ) → x < grid_size → IsHashedBlock H (data_content r x bytes) → IsKept H (goes_to r x bytes).payload
   unfolding goes_to data_content
   goes_kept r x bytes l h = record { content = data_content r x bytes; hashed = h; payload = refl; name = refl; address = l }
 
@@ -110,10 +108,10 @@ module _ (H : List ℕ → Type 0) where
   unfolding goes_to
   goes_there r x bytes = (0, omega arith, refl)
 
-  kept_new : (r : Run) (text : List ℕ) (old : List Payload) (i n : ℕ) → r.low + (i + n) ≤ 64 → AllKept H old → ((c : Content) → Contains (blocks_from r text old i n) (block_of c) → IsHashedBlock H c) → AllKept H (payloads_from r text old i n)
+  kept_new : (r : Run) (text : List ℕ) (old : List Payload) (i n m : ℕ) → HasRoom r.places m → i + n ≤ m → AllKept H old → ((c : Content) → Contains (blocks_from r text old i n) (block_of c) → IsHashedBlock H c) → AllKept H (payloads_from r text old i n)
   unfolding payloads_from blocks_from
-  kept_new r text old i zero l h hashed = tt
-  kept_new r text old i (suc n) l h hashed =
+  kept_new r text old i zero m room l h hashed = tt
+  kept_new r text old i (suc n) m room l h hashed =
       let first : List Block = (payload_blocks_at r text old i).blocks in
       let later : List Block = blocks_from r text old (i + 1) n in (
         elim (part_cases r i (payload_at text i) (slice_get old i)) [
@@ -121,9 +119,9 @@ module _ (H : List ℕ → Type 0) where
           | inr g ↦
               let c = data_content r g.address (payload_at text i) in
               let there : Contains first (block_of c) = subst (λ (x : PayloadBlocks). Contains x.blocks (block_of c)) (sym g.is) (goes_there r g.address (payload_at text i)) in
-              subst (λ (x : PayloadBlocks). IsKept H x.payload) (sym g.is) (goes_kept r g.address (payload_at text i) (in_grid (r.low + i) g.address (omega arith) g.at) (hashed c (Contains-append_left first later (block_of c) there)))
+              subst (λ (x : PayloadBlocks). IsKept H x.payload) (sym g.is) (goes_kept r g.address (payload_at text i) (at_within (place_of r.places i) g.address (place_lower r.places m i room (omega arith)) g.at) (hashed c (Contains-append_left first later (block_of c) there)))
         ],
-        kept_new r text old (i + 1) n (omega arith) h (λ c k. hashed c (Contains-append_right first later (block_of c) k)),
+        kept_new r text old (i + 1) n m room (omega arith) h (λ c k. hashed c (Contains-append_right first later (block_of c) k)),
       )
 
   -- its table is one of blocks that were hashed, where the table before was
@@ -136,8 +134,8 @@ module _ (H : List ℕ → Type 0) where
       let keys : List Block = changed (keys_run cluster op) texts.keys old.keys in
       let root : List Block = block_of (root_of cluster texts op (table_of cluster texts op old)) ∷ [] in
       record {
-        sessions = kept_new (sessions_run cluster op) texts.sessions old.sessions 0 (payloads (length texts.sessions)) (omega (arith, few)) h.sessions (λ c i. hashed c (Contains-append_left sessions (keys ++ root) (block_of c) i));
-        keys = kept_new (keys_run cluster op) texts.keys old.keys 0 (payloads (length texts.keys)) (omega (arith, many)) h.keys
+        sessions = kept_new (sessions_run cluster op) texts.sessions old.sessions 0 (payloads (length texts.sessions)) session_payloads (sessions_room session_payloads (omega arith)) (omega (arith, few)) h.sessions (λ c i. hashed c (Contains-append_left sessions (keys ++ root) (block_of c) i));
+        keys = kept_new (keys_run cluster op) texts.keys old.keys 0 (payloads (length texts.keys)) key_payloads (keys_room key_payloads (omega arith)) (omega (arith, many)) h.keys
             (λ c i. hashed c (Contains-append_right sessions (keys ++ root) (block_of c) (Contains-append_left keys root (block_of c) i)));
       }
 
@@ -168,16 +166,16 @@ load_found s k [] found table e =
 load_found s k (n ∷ ns) found table e = absurd cc
 
 module _ (f : Face) where
-  named_here : (name : Name) (c : Content) → named_at f name ≡ Some c → (block_name c ≡ name) × (name.address < 128)
+  named_here : (name : Name) (c : Content) → named_at f name ≡ Some c → (block_name c ≡ name) × (name.address < grid_size)
   unfolding named_at
-  named_here name c e = by_test (ltb name.address 128) refl e
+  named_here name c e = by_test (ltb name.address grid_size) refl e
     where
-      by_reading : (o : Option (List ℕ)) → name.address < 128 → option_and_then (named name) o ≡ Some c → (block_name c ≡ name) × (name.address < 128)
+      by_reading : (o : Option (List ℕ)) → name.address < grid_size → option_and_then (named name) o ≡ Some c → (block_name c ≡ name) × (name.address < grid_size)
       by_reading None l e = absurd cc
       by_reading (Some b) l e = ((named_found name b c e).1, l)
 
-      by_test : (t : Bool) → ltb name.address 128 ≡ t → cond t (option_and_then (named name) (block_reading f name.address)) None ≡ Some c → (block_name c ≡ name) × (name.address < 128)
-      by_test true t e = by_reading (block_reading f name.address) (ltb-true name.address 128 t) e
+      by_test : (t : Bool) → ltb name.address grid_size ≡ t → cond t (option_and_then (named name) (block_reading f name.address)) None ≡ Some c → (block_name c ≡ name) × (name.address < grid_size)
+      by_test true t e = by_reading (block_reading f name.address) (ltb-true name.address grid_size t) e
       by_test false t e = absurd cc
 
   data_found : (name : Name) (size : ℕ) (bytes : List ℕ) → data_at f name size ≡ Some bytes → (c : Content) × (named_at f name ≡ Some c) × (c.payload ≡ bytes)
@@ -260,9 +258,9 @@ module _ (H : List ℕ → Type 0) (never : NoCollision H) where
           let nk : payloads (keys_size p) ≡ length t.keys = ap payloads w.keys_there ∙ sym many in
           let at : drop (18 + 24 * length t.sessions) p ≡ names_bytes t.keys ++ [] =
           sym (drop-drop (24 * length t.sessions) 18 p) ∙ (ap (drop (24 * length t.sessions)) w.names ∙ (drop_at (names_bytes t.sessions) (names_bytes t.keys) (24 * length t.sessions) size ∙ sym (append-nil (names_bytes t.keys)))) in
-          let first : names_at 1 p 0 (length t.sessions) ≡ Some r.sessions = ap (names_at 1 p 0) (sym ns) ∙ i.sessions in
-          let second : names_at 10 p (length t.sessions) (length t.keys) ≡ Some r.keys = ap (λ n. names_at 10 p n (length t.keys)) (sym ns) ∙ (ap (names_at 10 p (payloads (sessions_size p))) (sym nk) ∙ i.keys) in
-          (names_found 1 p (names_bytes t.keys) 0 t.sessions r.sessions fs w.names first, names_found 10 p [] (length t.sessions) t.keys r.keys fk at second)
+          let first : names_at sessions_places 0 p 0 (length t.sessions) ≡ Some r.sessions = ap (names_at sessions_places 0 p 0) (sym ns) ∙ i.sessions in
+          let second : names_at keys_places 0 p (length t.sessions) (length t.keys) ≡ Some r.keys = ap (λ n. names_at keys_places 0 p n (length t.keys)) (sym ns) ∙ (ap (names_at keys_places 0 p (payloads (sessions_size p))) (sym nk) ∙ i.keys) in
+          (names_found sessions_places 0 p (names_bytes t.keys) 0 t.sessions r.sessions fs w.names first, names_found keys_places 0 p [] (length t.sessions) t.keys r.keys fk at second)
 
       load_right : (r : Root) → RootIn (root_payload op (length texts.sessions) (length texts.keys) t) r → (found : Texts) (table : PayloadTable) → gathered_both (gathered f r.sessions_size r.sessions) (gathered f r.keys_size r.keys) ≡ Loaded found table
           → IsOf found table

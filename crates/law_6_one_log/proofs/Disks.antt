@@ -20,15 +20,17 @@ use Rattle.vr_lie.specs.Calls.{mend_calls, save_from, write_calls}
 use Rattle.vr_rings.specs.Calls.{again_calls, header_calls, new_calls, prepare_calls}
 use Rattle.vr_lie.specs.Slots.{slot_of}
 use Rattle.vr_ckpt.specs.Blocks.{Content, content_of, named}
+use Rattle.vr_ckpt.specs.Places.{grid_size}
 use Rattle.vr_ckpt.specs.Grid.{block_calls, block_reading, named_at, put_calls}
 use Rattle.vr_ckpt.specs.declared.name.Name.{Name}
 use Rattle.vr_ckpt.proofs.Contents.{named_found}
+use Rattle.vr_ckpt.proofs.Placing.{blocks_apart}
 use Rattle.vr_ckpt.proofs.Puts.{block_within, name_fits}
 use Rattle.law_3_outputs.specs.Lying.{Lying, lying}
 use Rattle.law_3_outputs.specs.Safe as safe
 use Rattle.law_3_outputs.specs.Safe.{IsWritten}
 use Rattle.law_3_outputs.specs.Steps.{Effect, Write, Rewrite, Save, Mend, Checkpoint, PutBlock, Say}
-use Rattle.law_3_outputs.proofs.FitDisks.{header_spares, mend_spares, prepare_spares, save_spares}
+use Rattle.law_3_outputs.proofs.FitDisks.{grid_behind, header_spares, mend_spares, prepare_spares, save_spares}
 use Rattle.law_3_outputs.proofs.SlotCalls.{together_past}
 use Rattle.law_6_one_log.specs.Hashed.{IsHashedBlock, ReadsHashed}
 
@@ -40,18 +42,19 @@ Begun H e = (bytes : List ℕ) → IsWritten e bytes → H bytes
 named_same : (cs : List Call) (f : Face) (name : Name) → ((i : ℕ) → 400 ≤ i → AllByRecursion (Spares i) cs) → named_at (disk.after_all f cs) name ≡ named_at f name
 unfolding named_at block_reading
 named_same cs f name spare =
-    ap (λ o. cond (ltb name.address 128) (option_and_then (named name) o) None)
+    let behind = grid_behind name.address in
+    ap (λ o. cond (ltb name.address grid_size) (option_and_then (named name) o) None)
     (together_same 8 (block_place name.address) f (disk.after_all f cs) (λ k l m. ap (λ (c : Cell). c.reads) (frame_all cs f k (spare k (omega arith)))))
 
 head_spares : (x : Header) (i : ℕ) → 400 ≤ i → AllByRecursion (Spares i) (header_calls x)
 head_spares x i l = let b : slot_of x < 64 = mod_below x.op 64 (omega arith) in header_spares x i (λ q. omega (arith, q, b, l))
 
-body_spares : (e : Whole) (i : ℕ) → 400 ≤ i → AllByRecursion (Spares i) (prepare_calls e)
+body_spares : (e : Whole) (i : ℕ) → 400 ≤ i → AllByRecursion (Spares i) (prepare_calls 1 e)
 body_spares e i l = let b : slot_of e.header < 64 = mod_below e.header.op 64 (omega arith) in prepare_spares e i (inr (omega (arith, b, l)))
 
-write_same : (again : Bool) (e : Whole) (f : Face) (name : Name) → named_at (disk.after_all f (cond again (again_calls e) (new_calls e))) name ≡ named_at f name
-write_same true e f name = named_same (again_calls e) f name (λ i l. spares_append i (header_calls e.header) (prepare_calls e) (head_spares e.header i l) (body_spares e i l))
-write_same false e f name = named_same (new_calls e) f name (λ i l. spares_append i (prepare_calls e) (header_calls e.header) (body_spares e i l) (head_spares e.header i l))
+write_same : (again : Bool) (e : Whole) (f : Face) (name : Name) → named_at (disk.after_all f (cond again (again_calls 1 e) (new_calls 1 e))) name ≡ named_at f name
+write_same true e f name = named_same (again_calls 1 e) f name (λ i l. spares_append i (header_calls e.header) (prepare_calls 1 e) (head_spares e.header i l) (body_spares e i l))
+write_same false e f name = named_same (new_calls 1 e) f name (λ i l. spares_append i (prepare_calls 1 e) (header_calls e.header) (body_spares e i l) (head_spares e.header i l))
 
 -- effects that write no block
 abbrev pub IsBeside : Effect → Type 0
@@ -105,27 +108,27 @@ unfolding block_reading put_calls
 put_other f a c block other =
     let g = disk.after_all f (block_calls a block) in
     let apart : (k : ℕ) → block_place c ≤ k → k < block_place c + 8 → (k < block_place a) ⊎ (block_place a + 8 ≤ k) =
-    λ k l m. elim (cases_lt c a) [ inl below ↦ inl (omega arith) | inr above ↦ inr (let more : a < c = omega (arith, other) in omega arith) ] in
+    λ k l m. elim (blocks_apart c a other) [ inl below ↦ inl (omega arith) | inr above ↦ inr (omega arith) ] in
     ap (together (block_place c) 8) (after_all_append (block_calls a block) (Sync ∷ []) f)
     ∙ (together_synced 8 (block_place c) g
     ∙ together_same 8 (block_place c) f g (λ k l m. ap (λ (x : Cell). x.reads) (frame_all (block_calls a block) f k (within_spares (block_place a) (block_place a + 8) (block_calls a block) k (block_within a block) (apart k l m)))))
 
 -- the bytes that read under a name
-pub named_bytes_at : (f : Face) (name : Name) (c : Content) → named_at f name ≡ Some c → (b : List ℕ) × (name.address < 128) × (block_reading f name.address ≡ Some b) × (named name b ≡ Some c)
+pub named_bytes_at : (f : Face) (name : Name) (c : Content) → named_at f name ≡ Some c → (b : List ℕ) × (name.address < grid_size) × (block_reading f name.address ≡ Some b) × (named name b ≡ Some c)
 unfolding named_at
-named_bytes_at f name c e = by_test (ltb name.address 128) refl e
+named_bytes_at f name c e = by_test (ltb name.address grid_size) refl e
   where
-    by_reading : (o : Option (List ℕ)) → block_reading f name.address ≡ o → name.address < 128 → option_and_then (named name) o ≡ Some c → (b : List ℕ) × (name.address < 128) × (block_reading f name.address ≡ Some b) × (named name b ≡ Some c)
+    by_reading : (o : Option (List ℕ)) → block_reading f name.address ≡ o → name.address < grid_size → option_and_then (named name) o ≡ Some c → (b : List ℕ) × (name.address < grid_size) × (block_reading f name.address ≡ Some b) × (named name b ≡ Some c)
     by_reading None r l e = absurd cc
     by_reading (Some b) r l e = (b, l, r, e)
 
-    by_test : (t : Bool) → ltb name.address 128 ≡ t → cond t (option_and_then (named name) (block_reading f name.address)) None ≡ Some c → (b : List ℕ) × (name.address < 128) × (block_reading f name.address ≡ Some b) × (named name b ≡ Some c)
-    by_test true t e = by_reading (block_reading f name.address) refl (ltb-true name.address 128 t) e
+    by_test : (t : Bool) → ltb name.address grid_size ≡ t → cond t (option_and_then (named name) (block_reading f name.address)) None ≡ Some c → (b : List ℕ) × (name.address < grid_size) × (block_reading f name.address ≡ Some b) × (named name b ≡ Some c)
+    by_test true t e = by_reading (block_reading f name.address) refl (ltb-true name.address grid_size t) e
     by_test false t e = absurd cc
 
-named_there : (f : Face) (name : Name) (b : List ℕ) (c : Content) → name.address < 128 → block_reading f name.address ≡ Some b → named name b ≡ Some c → named_at f name ≡ Some c
+named_there : (f : Face) (name : Name) (b : List ℕ) (c : Content) → name.address < grid_size → block_reading f name.address ≡ Some b → named name b ≡ Some c → named_at f name ≡ Some c
 unfolding named_at
-named_there f name b c l r n = rw (lt-ltb name.address 128 l, r) n
+named_there f name b c l r n = rw (lt-ltb name.address grid_size l, r) n
 
 some_content : (name : Name) (b : List ℕ) → is_some (named name b) ≡ true → (c : Content) × (named name b ≡ Some c)
 some_content name b e = elim (named name b) as (λ o. named name b ≡ o → is_some o ≡ true → (c : Content) × (named name b ≡ Some c)) [ None ↦ λ n e. absurd cc | Some c ↦ λ n e. (c, n) ] refl e

@@ -1,6 +1,6 @@
 -- A schedule in which an entry is made: of what it hashes, the names are computed, and they differ.
 use Rattle.vr_base.specs.Kinds.{strict}
-use Rattle.std.proofs.Common.{ℕ, ◌≡◌, ◌⊎◌, arith, inl, inr, refl, sym, ap, ◌∙◌, subst, List, [], ◌∷◌, get_or, Option, Some, None}
+use Rattle.std.proofs.Common.{ℕ, ◌≡◌, arith, inl, inr, refl, sym, ap, ◌∙◌, subst, List, [], ◌∷◌, get_or, Option, Some, None}
 use Rattle.std.specs.Prelude.{Contains, slice_get, ⊤}
 use Rattle.std.specs.List.{AllByRecursion}
 use Rattle.vr_base.specs.Bytes.{sha256, first_words, schedule, rounds, compress, hash_after, digest_bytes, bytes16, bytes32, bytes64, name_of}
@@ -26,11 +26,11 @@ use Rattle.law_3_outputs.specs.World.{Asks, World, fresh_host, fresh_world}
 use Rattle.law_3_outputs.specs.Safe as safe
 use Rattle.law_3_outputs.specs.Safe.{IsRead, IsWritten}
 use Rattle.law_1_machine.specs.Basics.{In}
-use Rattle.law_4_disks.specs.Worlds.{AreBeside, IsHashedAt, IsHashedCut, Work, begun_in, begun_of, read_in, read_of, stepping, work_of}
+use Rattle.law_4_disks.specs.Worlds.{AreBeside, IsHashedCut, Work, begun_in, begun_of, read_in, read_of, stepping, work_of}
 use Rattle.law_4_disks.proofs.Fresh.{fresh_beside, schedules_begin}
-use Rattle.law_6_one_log.specs.Schedules.{IsHashed, IsUsedAt}
+use Rattle.law_6_one_log.specs.Schedules.{IsHashed}
 use Rattle.law_6_one_log.proofs.Blank.{reads_nothing}
-use Rattle.law_6_one_log.proofs.Names.{contains_in, contains_none}
+use Rattle.law_6_one_log.proofs.Names.{contains_in}
 use Rattle.law_6_one_log.specs.ScheduleLaws.{SomeEntryMay, registers}
 
 -- the replica of a group of two that is asked
@@ -154,6 +154,6 @@ never a b p q same = texts a b (hashed_text a p) (hashed_text b q) same where
 
 pub some_entry_may : SomeEntryMay
 some_entry_may = record {
-  lines = ((record { form = (λ e. refl, λ e. refl); client = omega arith; request = omega arith; operation = tt }, omega arith), tt);
+  lines = ((record { form = record { first = (λ e. refl, λ e. refl); fits = tt }; client = omega arith; request = omega arith; version = (omega arith, omega arith) }, omega arith), tt);
   names = never;
 }

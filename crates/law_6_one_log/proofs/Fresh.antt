@@ -7,7 +7,7 @@ use Rattle.std.proofs.lemmas.List.FromFn.{get_or-map-range_with_len, length-map-
 use Rattle.std.proofs.lemmas.List.Elements.{All-nil}
 use Rattle.std.proofs.lemmas.Option.{slice_get_within, slice_get-get_or}
 use Rattle.vr_disk.specs.DiskState.{Write, Sync}
-use Rattle.vr_disk.specs.Regions.{header_place}
+use Rattle.vr_disk.specs.Regions.{header_place, sectors}
 use Rattle.vr_header.specs.Made.{is_entry_header}
 use Rattle.vr_lie.specs.Copies.{copy_bytes}
 use Rattle.vr_lie.specs.Calls.{save_from}
@@ -44,7 +44,7 @@ zero_there : get_or zero_sector 110 0 ≡ 0
 zero_there = refl
 
 zero_sealed : IsSealed [] zero_sector
-zero_sealed = plain_sealed [] zero_sector zero_content (λ e. (let bad : 0 ≡ 1 = sym zero_there ∙ e in cc)) (λ e. (let bad : 0 ≡ 254 = sym zero_there ∙ e in cc))
+zero_sealed = plain_sealed [] zero_sector zero_content (inl zero_there)
 
 zero_some : (b : List ℕ) → Some zero_sector ≡ Some b → IsSealed [] b
 zero_some b e = let same : zero_sector ≡ b = cc in subst (IsSealed []) same zero_sealed
@@ -54,14 +54,14 @@ zero_cell_sealed = record { truth = zero_sealed; reads = zero_some; before = zer
 
 zero_face_sealed : HasSectors (IsSealed []) zero_face
 zero_face_sealed = record {
-  count = length-replicate 1424 zero_cell;
-  cells = λ k d l. let n = length-replicate 1424 zero_cell in subst (HasCell (IsSealed [])) (sym (get_or-replicate 1424 k zero_cell d (omega (arith, n, l)))) zero_cell_sealed;
+  count = length-replicate sectors zero_cell;
+  cells = λ k d l. let n = length-replicate sectors zero_cell in subst (HasCell (IsSealed [])) (sym (get_or-replicate sectors k zero_cell d (omega (arith, n, l)))) zero_cell_sealed;
   waiting = λ k d l. absurd (omega arith);
 }
 
 -- ---- formatting
 
-zeros_sealed : (n i : ℕ) → i + n ≤ 1424 → AreSealed [] (map (λ k. Write k zero_sector) (range_with_len i n))
+zeros_sealed : (n i : ℕ) → i + n ≤ sectors → AreSealed [] (map (λ k. Write k zero_sector) (range_with_len i n))
 zeros_sealed zero i l = tt
 zeros_sealed (suc n) i l = ((omega (arith, l), zero_sealed), zeros_sealed n (i + 1) (omega (arith, l)))
 

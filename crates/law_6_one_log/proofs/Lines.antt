@@ -11,7 +11,6 @@ use Rattle.vr_msg.specs.declared.output.Output.{Output}
 use Rattle.vr_msg.specs.declared.output.Output.TheVariants as output
 use Rattle.vr_lie.specs.Slots.{IsWhole}
 use Rattle.law_3_outputs.specs.Commitment.{is_line_of}
-use Rattle.law_3_outputs.specs.Fit.{IsFit}
 use Rattle.law_3_outputs.specs.Group.{Played}
 use Rattle.law_3_outputs.specs.Lying.{Lying, lying}
 use Rattle.law_3_outputs.specs.Safe as safe
@@ -30,13 +29,13 @@ use Rattle.law_1_machine.proofs.Moves.{reached_good}
 use Rattle.law_3_outputs.proofs.Backed.{at_end, one_whole}
 use Rattle.law_3_outputs.proofs.Machine.{number_is}
 use Rattle.law_3_outputs.proofs.Sets.{in_left, in_right}
-use Rattle.law_3_outputs.proofs.SlotCalls.{read_or_written}
+use Rattle.law_3_outputs.proofs.SlotCalls.{IsTaken, read_or_written}
 use Rattle.law_6_one_log.proofs.Disks.{Begun}
 use Rattle.law_6_one_log.proofs.Walk.{AllMay, May, MaySay}
 
-fit_front : (xs ys : List Effect) → All IsFit (xs ++ ys) → All IsFit xs
-fit_front [] ys h = All-nil IsFit
-fit_front (x ∷ xs) ys h = All-cons IsFit x xs (All-head IsFit x (xs ++ ys) h) (fit_front xs ys (All-tail IsFit x (xs ++ ys) h))
+taken_front : (xs ys : List Effect) → All IsTaken (xs ++ ys) → All IsTaken xs
+taken_front [] ys h = All-nil IsTaken
+taken_front (x ∷ xs) ys h = All-cons IsTaken x xs (All-head IsTaken x (xs ++ ys) h) (taken_front xs ys (All-tail IsTaken x (xs ++ ys) h))
 
 -- the outputs after some
 ordered_back : (i m : ℕ) (a b : List Output) → AreInOrder i m (a ++ b) → AreInOrder i (m + lines i a) b
@@ -59,9 +58,9 @@ module _ (cluster n : ℕ) (u : Setup) (run : List Played) (x : IsFollowed clust
       let w = is_log v b.number e.header (omega arith) (at_end cluster n u run x t l v b.number e.header c) in
       let same = one_whole (IsHashed run (root_header cluster)) never w.entry e w.is w.good read.good w.hashed hashed in
       let place : b.number - 1 ≡ m = omega arith in
-      (subst (λ k. slice_get log k ≡ Some e) place (w.at ∙ ap Some same), record { entry = record { header = read.form; body = read.good.body }; header = read.good.header; operation = read.good.operation }, op)
+      (subst (λ k. slice_get log k ≡ Some e) place (w.at ∙ ap Some same), record { entry = record { header = read.form; body = read.good.body }; header = read.good.header }, op)
 
-  module _ (t : ℕ) (l : t ≤ length run) (i : ℕ) (d : Lying) (xs : List Effect) (fits : All IsFit xs) (begun : (e : Effect) → In e xs → Begun H e)
+  module _ (t : ℕ) (l : t ≤ length run) (i : ℕ) (d : Lying) (xs : List Effect) (taken : All IsTaken xs) (begun : (e : Effect) → In e xs → Begun H e)
       (entries : (slot : ℕ) (e : Whole) → slot < 64 → lying.entry d slot ≡ Some e → H (operation_bytes e.operation)) where
     abbrev Facts : Committed → Type 0
     Facts c = IsBackedLine u (x.group t).sent c.entry.header × IsWellRead c.entry
@@ -69,7 +68,7 @@ module _ (cluster n : ℕ) (u : Setup) (run : List Played) (x : IsFollowed clust
     -- an entry that reads after some of the effects
     entry_hashed : (done rest : List Effect) → done ++ rest ≡ xs → (slot : ℕ) (e : Whole) → slot < 64 → lying.entry (after_all lying d done) slot ≡ Some e → H (operation_bytes e.operation)
     entry_hashed done rest are slot e within reads =
-        elim (read_or_written done d (fit_front done rest (subst (All IsFit) (sym are) fits)) slot e within reads) [
+        elim (read_or_written done d (taken_front done rest (subst (All IsTaken) (sym are) taken)) slot e within reads) [
           | inl old ↦ entries slot e within old
           | inr w ↦ begun (Write w.0 e) (subst (In (Write w.0 e)) are (in_left done rest (Write w.0 e) w.1)) _ (safe.IsWritten.operation w.0 e)
         ]
@@ -104,8 +103,8 @@ module _ (cluster n : ℕ) (u : Setup) (run : List Played) (x : IsFollowed clust
         let later = all_may rest (done ++ e ∷ []) (append_assoc done (e ∷ []) rest ∙ are) (m + lines i (output_of e)) (ordered_back i m (output_of e) (outputs rest) order) (λ c j. facts c (in_right (output_of e) (outputs rest) (output.Commit c) j)) in
         (effect_may done rest e are m order facts, subst (λ f. AllMay H cluster log i (m + lines i (output_of e)) f rest) (after_both lying d done (e ∷ [])) later)
 
-  pub lines_may : (t : ℕ) → t ≤ length run → (i m : ℕ) (d : Lying) (xs : List Effect) → All IsFit xs → AreInOrder i m (outputs xs)
+  pub lines_may : (t : ℕ) → t ≤ length run → (i m : ℕ) (d : Lying) (xs : List Effect) → All IsTaken xs → AreInOrder i m (outputs xs)
       → ((c : Committed) → In (output.Commit c) (outputs xs) → IsBackedLine u (x.group t).sent c.entry.header × IsWellRead c.entry)
       → ((e : Effect) → In e xs → Begun H e) → ((slot : ℕ) (e : Whole) → slot < 64 → lying.entry d slot ≡ Some e → H (operation_bytes e.operation)) → AllMay H cluster log i m d xs
   unfolding after_all
-  lines_may t l i m d xs fits order facts begun entries = all_may t l i d xs fits begun entries xs [] refl m order facts
+  lines_may t l i m d xs taken order facts begun entries = all_may t l i d xs taken begun entries xs [] refl m order facts

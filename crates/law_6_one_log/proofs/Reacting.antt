@@ -66,7 +66,7 @@ found_any p (x ∷ names) name e =
     elim (p x) as (λ b. cond b (Some x) (find p names) ≡ Some name → (b || list_any p names) ≡ true) [ true ↦ λ e. refl | false ↦ λ e. found_any p names name e ] e
 
 -- a missing block that is given by another replica of the group is put first
-pub puts_first : (g : GiveBlock) (name : Name) (r : Replica) (d : Lying) → is_frozen r ≡ false → is_from g.cluster g.replica r ≡ true → find (is_wanted lying.is_block g) r.missing ≡ Some name
+pub puts_first : (g : GiveBlock) (name : Name) (r : Replica) (d : Lying) → is_frozen r ≡ false → is_from g.version g.cluster g.replica r ≡ true → find (is_wanted lying.is_block g) r.missing ≡ Some name
     → (later : List Effect) × ((stepped (event.Deliver (frame.GiveBlock g)) r d).script ≡ PutBlock name g.block ∷ later)
 unfolding rules.react rules.on_give_block rules.put_block first_of by reading does change ◌⨾◌
 puts_first g name r d free from found =

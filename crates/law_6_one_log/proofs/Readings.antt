@@ -1,13 +1,13 @@
 -- What reads on a sealed disk as a header, as an entry or as a block.
-use Rattle.std.proofs.Common.{ℕ, zero, suc, ◌+◌, ◌*◌, ◌≤◌, ◌<◌, ◌≡◌, ◌&&◌, inl, inr, arith, refl, sym, ap, ◌∙◌, subst, true, false, cond, List, [], ◌∷◌, ◌++◌, take, drop, Option, Some, None}
-use Rattle.std.specs.Prelude.{Contains, is_some, nat_lt, ◌%◌, ◌==◌}
-use Rattle.std.specs.Option.{option_and_then}
+use Rattle.std.proofs.Common.{ℕ, zero, suc, ◌+◌, ◌-◌, ◌*◌, ◌≤◌, ◌<◌, ◌≡◌, ◌&&◌, inl, inr, arith, refl, sym, ap, ◌∙◌, subst, true, false, cond, List, [], ◌∷◌, ◌++◌, take, drop, replicate, Option, Some, None, append_assoc}
+use Rattle.std.specs.Prelude.{Contains, is_some, nat_le, nat_lt, ◌%◌, ◌==◌}
+use Rattle.std.specs.Option.{option_and_then, option_map}
 use Rattle.std.proofs.lemmas.Bool.{and_parts, eqb-true, ltb-true}
 use Rattle.std.proofs.lemmas.List.{drop_at, take_at, take-append-le}
 use Rattle.vr_base.specs.Bytes.{IsBytes, piece}
 use Rattle.vr_base.proofs.Places.{drop_both}
 use Rattle.vr_disk.specs.DiskState.{Face, IsFace, reads}
-use Rattle.vr_disk.specs.Regions.{block_place, header_place, prepare_place}
+use Rattle.vr_disk.specs.Regions.{block_place, header_place, prepare_place, prepare_sectors, sectors}
 use Rattle.vr_disk.specs.Sectors.{behind, together}
 use Rattle.vr_disk.proofs.Together.{together_cons, together_first}
 use Rattle.vr_header.specs.declared.header.Header.{Header}
@@ -16,11 +16,13 @@ use Rattle.vr_header.specs.Spelling.{IsHeader, Spells}
 use Rattle.vr_header.proofs.EntryLaws.{is_entry_header_of}
 use Rattle.vr_header.proofs.HeaderLaws.{decoded_again}
 use Rattle.vr_lie.specs.Copies.{SuperValue}
-use Rattle.vr_lie.specs.Slots.{header_in, prepare_bytes, sector_of, whole_in}
+use Rattle.vr_lie.specs.Slots.{header_in, padded, prepare_bytes, sector_of, whole_in}
 use Rattle.vr_lie.proofs.Spelling.{prepare_spells, sector_spells}
 use Rattle.vr_ckpt.specs.Blocks.{named}
+use Rattle.vr_ckpt.specs.Places.{grid_size}
 use Rattle.vr_ckpt.specs.Grid.{block_reading, named_at}
 use Rattle.vr_ckpt.specs.declared.name.Name.{Name}
+use Rattle.vr_ckpt.proofs.Placing.{block_inside}
 use Rattle.law_3_outputs.specs.Opening.{is_right, may_be}
 use Rattle.law_3_outputs.specs.Sectors.{block_in}
 use Rattle.law_1_machine.specs.Basics.{In}
@@ -43,9 +45,14 @@ behind_parts None r b e = absurd cc
 behind_parts (Some x) None b e = absurd cc
 behind_parts (Some x) (Some y) b e = let same : x ++ y ≡ b = cc in (x, y, refl, refl, sym same)
 
+-- a prepare of a file of version 1 is its sectors, in front of zeros
+padded_parts : (o : Option (List ℕ)) (b : List ℕ) → option_map (padded 1) o ≡ Some b → (x : List ℕ) × (o ≡ Some x) × (b ≡ padded 1 x)
+padded_parts None b e = absurd cc
+padded_parts (Some x) b e = let same : padded 1 x ≡ b = cc in (x, refl, sym same)
+
 module _ (made : List Header) (f : Face) (s : HasSectors (IsSealed made) f) where
   -- each of them is sealed
-  pub together_sealed : (n i : ℕ) (b : List ℕ) → i + n ≤ 1424 → together i n f ≡ Some b → (j : ℕ) → j < n → IsSealed made (piece (0 + 512 * j) 512 b)
+  pub together_sealed : (n i : ℕ) (b : List ℕ) → i + n ≤ sectors → together i n f ≡ Some b → (j : ℕ) → j < n → IsSealed made (piece (0 + 512 * j) 512 b)
   unfolding piece
   together_sealed zero i b l e j p = absurd (omega (arith, p))
   together_sealed (suc n) i b l e zero p =
@@ -64,18 +71,18 @@ module _ (made : List Header) (f : Face) (s : HasSectors (IsSealed made) f) wher
 
   -- ---- a block
 
-  reading_sealed : (address : ℕ) (b : List ℕ) → address < 128 → IsBytes b → block_reading f address ≡ Some b → IsSealedBlock made b
+  reading_sealed : (address : ℕ) (b : List ℕ) → address < grid_size → IsBytes b → block_reading f address ≡ Some b → IsSealedBlock made b
   unfolding block_reading
-  reading_sealed address b l are e = record { bytes = are; sectors = together_sealed 8 (block_place address) b (omega (arith, l)) e }
+  reading_sealed address b l are e = record { bytes = are; sectors = together_sealed 8 (block_place address) b (block_inside address l) e }
 
   pub block_sealed : (name : Name) (b : List ℕ) → IsFace f → block_in f name ≡ Some b → IsSealedBlock made b
   unfolding named_at
   block_sealed name b face e =
-      elim (nat_lt name.address 128) as (λ t. nat_lt name.address 128 ≡ t → cond (is_some (cond t (option_and_then (named name) (block_reading f name.address)) None)) (block_reading f name.address) None ≡ Some b → IsSealedBlock made b) [
+      elim (nat_lt name.address grid_size) as (λ t. nat_lt name.address grid_size ≡ t → cond (is_some (cond t (option_and_then (named name) (block_reading f name.address)) None)) (block_reading f name.address) None ≡ Some b → IsSealedBlock made b) [
         | false ↦ λ t q. absurd cc
         | true ↦ λ t q. elim (is_some (option_and_then (named name) (block_reading f name.address))) as (λ s. cond s (block_reading f name.address) None ≡ Some b → IsSealedBlock made b) [
           | false ↦ λ p. absurd cc
-          | true ↦ λ p. reading_sealed name.address b (ltb-true name.address 128 t) (block_are f name b face e) p
+          | true ↦ λ p. reading_sealed name.address b (ltb-true name.address grid_size t) (block_are f name b face e) p
         ] q
       ] refl e
 
@@ -89,13 +96,16 @@ module _ (made : List Header) (f : Face) (s : HasSectors (IsSealed made) f) wher
       let r = read_header f slot h face l e in
       spelled_made (sector_of h) h ((has_at (IsSealed made) f (header_place slot) s (omega (arith, l))).reads (sector_of h) r.reads) r.header (sector_spells h r.header) entry low
 
-  pub entry_made : (slot : ℕ) (e : Whole) → IsFace f → slot < 64 → whole_in f slot ≡ Some e → e.header.op < spelled_from e.header.cluster → In e.header made
+  pub entry_made : (slot : ℕ) (e : Whole) → IsFace f → slot < 64 → whole_in 1 f slot ≡ Some e → e.header.op < spelled_from e.header.cluster → In e.header made
   entry_made slot e face l w low =
-      let r = read_whole f slot e face l w in
-      let x = together_first 3 (prepare_place slot) f (prepare_bytes e) r.reads in
-      let one = (has_at (IsSealed made) f (prepare_place slot) s (omega (arith, l))).reads x.first x.reads in
+      let r = read_whole 1 f slot e face l w in
+      let p = padded_parts (together (prepare_place 1 slot) (prepare_sectors 1) f) (prepare_bytes e) r.reads in
+      let x = together_first 3 (prepare_place 1 slot) f p.0 p.1 in
+      let one = (has_at (IsSealed made) f (prepare_place 1 slot) s (omega (arith, l))).reads x.first x.reads in
       let size = one.content.size in
-      let spells : Spells e.header x.first = sym (take-append-le 128 x.first x.rest (omega (arith, size))) ∙ (ap (take 128) (sym x.whole) ∙ prepare_spells e r.whole.header) in
+      let rest : List ℕ = x.rest ++ replicate (4096 - 512 * prepare_sectors 1) 0 in
+      let whole : prepare_bytes e ≡ x.first ++ rest = p.2 ∙ (ap (padded 1) x.whole ∙ append_assoc x.first x.rest (replicate (4096 - 512 * prepare_sectors 1) 0)) in
+      let spells : Spells e.header x.first = sym (take-append-le 128 x.first rest (omega (arith, size))) ∙ (ap (take 128) (sym whole) ∙ prepare_spells e r.whole.header) in
       spelled_made x.first e.header one r.whole.header spells (is_entry_header_of e.header r.whole.entry.header) low
 
   -- ---- so nothing is forged
@@ -107,8 +117,9 @@ module _ (made : List Header) (f : Face) (s : HasSectors (IsSealed made) f) wher
 
   fits_parts : (v : SuperValue) (k : ℕ) (h : Header) → may_be v k h ≡ true → FitsIn v k h
   fits_parts v k h e =
-      let a = and_parts (is_entry_header h) ((h.cluster == v.fields.cluster) && ((h.op == k) && is_right v k h)) e in
-      let b = and_parts (h.cluster == v.fields.cluster) ((h.op == k) && is_right v k h) a.1 in
+      let a = and_parts (is_entry_header h) (nat_le h.version v.fields.version && ((h.cluster == v.fields.cluster) && ((h.op == k) && is_right v k h))) e in
+      let d = and_parts (nat_le h.version v.fields.version) ((h.cluster == v.fields.cluster) && ((h.op == k) && is_right v k h)) a.1 in
+      let b = and_parts (h.cluster == v.fields.cluster) ((h.op == k) && is_right v k h) d.1 in
       let c = and_parts (h.op == k) (is_right v k h) b.1 in
       record { entry = a.0; group = eqb-true h.cluster v.fields.cluster b.0; op = eqb-true h.op k c.0 }
 

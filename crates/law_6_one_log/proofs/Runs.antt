@@ -17,7 +17,7 @@ use Rattle.vr_msg.specs.declared.output.Output.TheVariants as output
 use Rattle.vr_msg.specs.declared.output.Sent.{Sent}
 use Rattle.vr_lie.specs.Copies.{SuperValue}
 use Rattle.law_3_outputs.specs.Commitment.{is_line_of}
-use Rattle.law_3_outputs.specs.Fit.{IsFit, ReadsWell}
+use Rattle.law_3_outputs.specs.Fit.{ReadsWell}
 use Rattle.law_3_outputs.specs.Group as group
 use Rattle.law_3_outputs.specs.Group.{Arrival, Group, IsArrival, Member, Move, Moved, Moves, Opens, Played, Run, Runs, carried_out, cut_after, cut_in_two, ended, found, fresh_group, fresh_member, goes, keeps_all, mended, once_mended, opening_script, recovered, resumed, stepped}
 use Rattle.law_3_outputs.specs.GroupFit.{IsFitArrival, IsFitGroup, IsFitReplica, IsFitValue}
@@ -32,8 +32,7 @@ use Rattle.law_3_outputs.specs.Safe.{IsHashed, faces_of, read, wrote}
 use Rattle.law_3_outputs.specs.Steps.{Effect, Write, Rewrite, Save, Mend, Checkpoint, PutBlock, Say, Step, by, outputs, quiet, says}
 use Rattle.law_3_outputs.specs.Outputs.{messages}
 use Rattle.law_3_outputs.proofs.FitLies.{lies_fit}
-use Rattle.law_3_outputs.proofs.FitGroups.{fresh_at}
-use Rattle.law_3_outputs.proofs.FitSteps.{steps_fit}
+use Rattle.law_3_outputs.proofs.FitGroups.{fresh_at, start_is, step_is}
 use Rattle.law_3_outputs.proofs.SendsScripts.{outputs_append}
 use Rattle.law_1_machine.specs.Basics.{In}
 use Rattle.law_3_outputs.specs.Chains.{Every, IsBackedLine, Setup}
@@ -48,12 +47,13 @@ use Rattle.law_3_outputs.specs.Answering.{one_if}
 use Rattle.law_3_outputs.specs.Followed.{IsFollowed}
 use Rattle.law_3_outputs.specs.Ordered.{AreInOrder}
 use Rattle.law_3_outputs.specs.Replied.{IsLogOf}
-use Rattle.law_3_outputs.proofs.Fitting.{arrives, fit_at, good_value, move_of, opening_fit}
+use Rattle.law_3_outputs.proofs.Fitting.{arrives, fit_at, good_value, move_of}
 use Rattle.law_3_outputs.proofs.Ordering.{come_in_order}
 use Rattle.law_3_outputs.proofs.Reading.{opening_reads, reads_good}
 use Rattle.law_3_outputs.proofs.Resuming.{on_disk, resumed_order, said_right}
 use Rattle.law_3_outputs.proofs.Sets.{every_at, get_in, in_contains, in_left, in_right}
-use Rattle.law_3_outputs.proofs.SlotCalls.{read_or_written}
+use Rattle.law_3_outputs.proofs.Slots.{least_two}
+use Rattle.law_3_outputs.proofs.SlotCalls.{IsTaken, known_taken, read_or_written}
 use Rattle.law_3_outputs.proofs.Traces.{every_in}
 use Rattle.law_6_one_log.specs.Hashed.{ReadsHashed}
 use Rattle.law_6_one_log.proofs.Disks.{Begun}
@@ -222,14 +222,14 @@ module _ (cluster n : ℕ) (u : Setup) (run : List Played) (x : IsFollowed clust
       abbrev es : List Effect
       es = (stepped e r d).script
 
-      own : IsFitReplica r × IsAt cluster p.before.n at r
+      own : IsFitReplica r × IsAt cluster p.before.n at 1 r
       own = (fit_group.members at m runs.member).running r runs.running
 
       event : IsEvent e
       event = arrives cluster p.before at arrival e fit_group fit.0 came
 
-      step_fits : All IsFit es
-      step_fits = (steps_fit lying d r e lies_fit.program lies_fit.roots fit.1 own.0.sound own.0.savable own.0.blocks event).each
+      step_taken : All IsTaken es
+      step_taken = known_taken cluster p.before.n at es (step_is cluster p.before.n at r e d own.0 own.1 event fit.1).known
 
       step_told : (c : Committed) → In (output.Commit c) (outputs es) → IsBackedLine u (x.group t).sent c.entry.header
       step_told c j =
@@ -242,7 +242,7 @@ module _ (cluster n : ℕ) (u : Setup) (run : List Played) (x : IsFollowed clust
       step_may xs ys are has =
           let said : outputs es ≡ outputs xs ++ outputs ys = ap outputs (sym are) ∙ outputs_append xs ys in
           let order = (come_in_order lying r d e lies_fit.names own.0.sound event).ordered in
-          lines_may cluster n u run x never log is_log t within r.index r.applied d xs (all_front IsFit xs ys (subst (All IsFit) (sym are) step_fits)) (ordered_front r.index r.applied (outputs xs) (outputs ys) (subst (AreInOrder r.index r.applied) said order))
+          lines_may cluster n u run x never log is_log t within r.index r.applied d xs (all_front IsTaken xs ys (subst (All IsTaken) (sym are) step_taken)) (ordered_front r.index r.applied (outputs xs) (outputs ys) (subst (AreInOrder r.index r.applied) said order))
           (λ c j. let i = subst (λ (os : List Output). In (output.Commit c) os) (sym said) (in_left (outputs xs) (outputs ys) (output.Commit c) j) in
           (step_told c i, reads_good lying d r e lies_fit.program lies_fit.roots fit.1 own.0.sound own.0.savable own.0.blocks event c i))
           (λ z i. begun_in z (has z i)) (entries_in d face)
@@ -317,8 +317,8 @@ module _ (cluster n : ℕ) (u : Setup) (run : List Played) (x : IsFollowed clust
       mends_borne : Every (IsBorne H cluster log) xs
       mends_borne = borne_all H cluster log (blank v).index (blank v).applied d xs mends.bears mends_may
 
-      script_fits : All IsFit (xs ++ ys)
-      script_fits = opening_fit cluster p.before.n at v d value fit
+      script_taken : All IsTaken (xs ++ ys)
+      script_taken = known_taken cluster p.before.n at (xs ++ ys) (start_is cluster p.before.n at v d value fit).known
 
       told_rest : (c : Committed) → In (output.Commit c) (outputs ys) → IsBackedLine u (x.group t).sent c.entry.header
       told_rest c j =
@@ -331,13 +331,13 @@ module _ (cluster n : ℕ) (u : Setup) (run : List Played) (x : IsFollowed clust
       rest_may first fs gs are has =
           let q : Replica = recovered v d in
           let said : outputs ys ≡ outputs fs ++ outputs gs = ap outputs (sym are) ∙ outputs_append fs gs in
-          let order = (resumed_order v d value.0 fit).ordered in
-          let fits = all_back IsFit xs ys script_fits in
-          lines_may cluster n u run x never log is_log t within q.index q.applied (on_disk v d) fs (all_front IsFit fs gs (subst (All IsFit) (sym are) fits)) (ordered_front q.index q.applied (outputs fs) (outputs gs) (subst (AreInOrder q.index q.applied) said order))
+          let order = (resumed_order v d value.0 (least_two v value.0 value.1.version) fit).ordered in
+          let taken = all_back IsTaken xs ys script_taken in
+          lines_may cluster n u run x never log is_log t within q.index q.applied (on_disk v d) fs (all_front IsTaken fs gs (subst (All IsTaken) (sym are) taken)) (ordered_front q.index q.applied (outputs fs) (outputs gs) (subst (AreInOrder q.index q.applied) said order))
           (λ c j. let i = subst (λ (os : List Output). In (output.Commit c) os) (sym said) (in_left (outputs fs) (outputs gs) (output.Commit c) j) in
           (told_rest c i, opening_reads cluster p.before.n at v d value fit c (said_right xs ys (output.Commit c) i)))
           (λ z i. begun_in z (has z i))
-          (λ slot e l q. elim (read_or_written xs d (all_front IsFit xs ys script_fits) slot e l q) [
+          (λ slot e l q. elim (read_or_written xs d (all_front IsTaken xs ys script_taken) slot e l q) [
             | inl old ↦ entries_in d face slot e l old
             | inr w ↦ begun_in (Write w.0 e) (first (Write w.0 e) w.1) _ (safe.IsWritten.operation w.0 e)
           ])

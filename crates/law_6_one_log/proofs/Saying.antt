@@ -15,7 +15,6 @@ use Rattle.vr_msg.specs.declared.output.Committed.{Committed}
 use Rattle.vr_msg.specs.declared.output.Output.{Output}
 use Rattle.vr_msg.specs.declared.output.Output.TheVariants as output
 use Rattle.vr_msg.specs.declared.output.Sent.{Sent}
-use Rattle.law_3_outputs.specs.Fit.{IsFit}
 use Rattle.law_3_outputs.specs.Group.{Member, Group, Move, Moved, Moves, Played, mended, opening_script, resumed, stepped}
 use Rattle.law_3_outputs.specs.Group as group
 use Rattle.law_3_outputs.specs.GroupFit.{IsFitGroup, IsFitMove}
@@ -27,7 +26,7 @@ use Rattle.law_3_outputs.specs.Safe.{IsHashed, actor, faces_of}
 use Rattle.law_3_outputs.specs.Safe as safe
 use Rattle.law_3_outputs.specs.Steps.{Effect, Step, Write, after_all, outputs}
 use Rattle.law_3_outputs.proofs.FitLies.{lies_fit}
-use Rattle.law_3_outputs.proofs.FitSteps.{steps_fit}
+use Rattle.law_3_outputs.proofs.FitGroups.{start_is, step_is}
 use Rattle.law_3_outputs.proofs.SendsScripts.{outputs_append}
 use Rattle.law_1_machine.specs.Basics.{In}
 use Rattle.law_1_machine.specs.Members.{Choice}
@@ -36,14 +35,15 @@ use Rattle.law_3_outputs.proofs.Scripts.{after_append}
 use Rattle.law_3_outputs.specs.Bridge.{ChoosesWell}
 use Rattle.law_3_outputs.specs.Followed.{IsChoiceLine, IsFrom}
 use Rattle.law_3_outputs.proofs.Carrying.{choice_line, from_is}
-use Rattle.law_3_outputs.proofs.Fitting.{arrives, good_value, opening_fit}
+use Rattle.law_3_outputs.proofs.Fitting.{arrives, good_value}
 use Rattle.law_3_outputs.proofs.Ordering.{come_in_order}
 use Rattle.law_3_outputs.proofs.Orders.{IsOther}
 use Rattle.law_3_outputs.proofs.Picking.{chosen_by}
 use Rattle.law_3_outputs.proofs.Placing.{ArePlaced, opening_present, step_present}
 use Rattle.law_3_outputs.proofs.Resuming.{quiet_mending, resumed_order}
 use Rattle.law_3_outputs.proofs.Sets.{in_contains, in_left}
-use Rattle.law_3_outputs.proofs.SlotCalls.{read_or_written}
+use Rattle.law_3_outputs.proofs.Slots.{least_two}
+use Rattle.law_3_outputs.proofs.SlotCalls.{IsTaken, known_taken, read_or_written}
 use Rattle.law_3_outputs.proofs.Traces.{every_in, in_either}
 use Rattle.law_6_one_log.proofs.Silence.{chooses_nothing}
 
@@ -64,19 +64,19 @@ from_so c g _ _ fit placed (group.recovers_cut at v d k m o) s j = absurd j
 
 -- ---- commit lines
 
-fit_front : (xs ys : List Effect) → All IsFit (xs ++ ys) → All IsFit xs
-fit_front [] ys h = All-nil IsFit
-fit_front (x ∷ xs) ys h = All-cons IsFit x xs (All-head IsFit x (xs ++ ys) h) (fit_front xs ys (All-tail IsFit x (xs ++ ys) h))
+taken_front : (xs ys : List Effect) → All IsTaken (xs ++ ys) → All IsTaken xs
+taken_front [] ys h = All-nil IsTaken
+taken_front (x ∷ xs) ys h = All-cons IsTaken x xs (All-head IsTaken x (xs ++ ys) h) (taken_front xs ys (All-tail IsTaken x (xs ++ ys) h))
 
 one_face : (f : Face) → Contains (f ∷ []) f
 one_face f = in_contains (f ∷ []) f (inl refl)
 
 module _ (run : List Played) (c : ℕ) (p : Played) (there : Contains run p) where
   -- an entry that reads after the first effects of a move was read by it, or written in it
-  read_hashed : (d : Lying) (first rest : List Effect) (slot : ℕ) (e : Whole) → Contains (faces_of p.move) d.face → first ++ rest ≡ p.moved.script → All IsFit first → slot < 64 → lying.entry (after_all lying d first) slot ≡ Some e
+  read_hashed : (d : Lying) (first rest : List Effect) (slot : ℕ) (e : Whole) → Contains (faces_of p.move) d.face → first ++ rest ≡ p.moved.script → All IsTaken first → slot < 64 → lying.entry (after_all lying d first) slot ≡ Some e
       → IsHashed run (root_header c) (operation_bytes e.operation)
-  read_hashed d first rest slot e face are fit within reads =
-      elim (read_or_written first d fit slot e within reads) [
+  read_hashed d first rest slot e face are taken within reads =
+      elim (read_or_written first d taken slot e within reads) [
         | inl old ↦ safe.read p d.face (operation_bytes e.operation) there face (safe.IsRead.operation slot e old)
         | inr new ↦
             let among : In (Write new.0 e) p.moved.script = subst (In (Write new.0 e)) are (in_left first rest (Write new.0 e) new.1) in
@@ -89,23 +89,23 @@ line_hashed run c g _ _ there fit h (group.steps at a e d m r runs i) l j =
     let f = (fit.members at m runs.member).running r runs.running in
     let x = stepped e r d in
     let came = arrives c g at a e fit h.0 i in
-    let whole = (steps_fit lying d r e lies_fit.program lies_fit.roots h.1 f.0.sound f.0.savable f.0.blocks came).each in
+    let taken = known_taken c g.n at (stepped e r d).script (step_is c g.n at r e d f.0 f.1 came h.1).known in
     let o = (come_in_order lying r d e lies_fit.names f.0.sound came).read l j in
-    read_hashed run c (record { before = g; move = group.Steps at a e d; moved = group.finished g at m x }) there d o.first o.rest o.slot l.entry (one_face d.face) o.are (fit_front o.first o.rest (subst (All IsFit) (sym o.are) whole)) o.within o.reads
+    read_hashed run c (record { before = g; move = group.Steps at a e d; moved = group.finished g at m x }) there d o.first o.rest o.slot l.entry (one_face d.face) o.are (taken_front o.first o.rest (subst (All IsTaken) (sym o.are) taken)) o.within o.reads
 line_hashed run c g _ _ there fit h (group.cuts at a e d k m r runs i) l j = absurd j
 line_hashed run c g _ _ there fit h (group.crashes at m o) l j = absurd j
 line_hashed run c g _ _ there fit h (group.recovers at v d m o) l j =
     let xs = (mended v d).script in
     let ys = (resumed v d).script in
     let value = good_value c g.n at m v (fit.members at m o.member) o.value in
-    let whole = opening_fit c g.n at v d value h in
+    let taken = known_taken c g.n at (opening_script v d) (start_is c g.n at v d value h).known in
     elim (in_either (outputs xs) (outputs ys) (output.Commit l) (subst (λ (os : List Output). In (output.Commit l) os) (outputs_append xs ys) j)) [
       | inl a ↦ absurd (every_in IsOther (outputs xs) (output.Commit l) a ((quiet_mending v).every lying (blank v) d).said)
       | inr b ↦
-          let q = (resumed_order v d value.0 h).read l b in
+          let q = (resumed_order v d value.0 (least_two v value.0 value.1.version) h).read l b in
           let parts : (xs ++ q.first) ++ q.rest ≡ opening_script v d = append_assoc xs q.first q.rest ∙ ap (λ (zs : List Effect). xs ++ zs) q.are in
           read_hashed run c (record { before = g; move = group.Recovers at v d; moved = group.started g at m v d }) there d (xs ++ q.first) q.rest q.slot l.entry (one_face d.face) parts
-          (fit_front (xs ++ q.first) q.rest (subst (All IsFit) (sym parts) whole)) q.within (ap (λ (z : Lying). lying.entry z q.slot) (after_append lying d xs q.first) ∙ q.reads)
+          (taken_front (xs ++ q.first) q.rest (subst (All IsTaken) (sym parts) taken)) q.within (ap (λ (z : Lying). lying.entry z q.slot) (after_append lying d xs q.first) ∙ q.reads)
     ]
 line_hashed run c g _ _ there fit h (group.recovers_cut at v d k m o) l j = absurd j
 

@@ -77,13 +77,13 @@ module _ (made : List Header) where
       seals_append made (mend_calls old f) (save_from 0 4 (copy_bytes new)) (mend_sealed made old a.0 (copy_are old a.0) a.1 f) (saves_sealed made new b.0 (copy_are new b.0) b.1 4 0 (omega arith))
 
   pub effect_sealed : (e : Effect) (d : Lying) (v : SuperValue) → MayCome e d v → Seals made e → IsRight made v → IsFace d.face → HasSectors (IsSealed made) d.face → AreSealed made (calls_of e d.face)
-  effect_sealed (effect.Write true e) d v may h r f s = let w = may.fit.0 in again_sealed made e w (sector_content e.header w.header) (prepare_are e w) (length-prepare e w) h
-  effect_sealed (effect.Write false e) d v may h r f s = let w = may.fit.0 in new_sealed made e w (sector_content e.header w.header) (prepare_are e w) (length-prepare e w) h
+  effect_sealed (effect.Write true e) d v may h r f s = let w = may.fit.0 in again_sealed made 1 e w (sector_content e.header w.header) (prepare_are e w) (length-prepare e w) h
+  effect_sealed (effect.Write false e) d v may h r f s = let w = may.fit.0 in new_sealed made 1 e w (sector_content e.header w.header) (prepare_are e w) (length-prepare e w) h
   effect_sealed (Rewrite h) d v may x r f s =
       let fit = may.fit in
       let e = fit.0 in
       let m : e.header.op < spelled_from e.header.cluster → In e.header made = λ low. entry_made made d.face s (slot_of h) e f (omega arith) fit.1 low in
-      let is = (read_whole d.face (slot_of h) e f (omega arith) fit.1).whole.header in
+      let is = (read_whole 1 d.face (slot_of h) e f (omega arith) fit.1).whole.header in
       let same = fit.2 in
       subst (λ (h : Header). AreSealed made (calls_of (Rewrite h) d.face)) same (header_calls_sealed made e.header is (sector_content e.header is) m)
   effect_sealed (Save old new) d v may h r f s = save_sealed old new d.face (subst (IsRight made) (sym may.fit.0) r) (may.fit.2, h)

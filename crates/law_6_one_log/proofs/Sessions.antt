@@ -7,6 +7,7 @@ use Rattle.std.specs.Ordering.{nat_cmp}
 use Rattle.std.specs.declared.cmp.Ordering.TheVariants.{Less, Equal, Greater}
 use Rattle.std.specs.FinMap.Entries.{by_order, where_key}
 use Rattle.std.proofs.lemmas.Bool.{cond_both}
+use Rattle.vr_base.specs.Versions.{session_limit}
 use Rattle.vr_header.specs.Made.{Whole}
 use Rattle.vr_header.specs.Names.{root_header}
 use Rattle.vr_header.specs.NoCollision.{NoCollision}
@@ -65,7 +66,7 @@ applied_come m a h f =
     let here = put nat_cmp a.client (stored a) m in
     let there = put nat_cmp a.client (stored a) (without_oldest m) in
     let inner = put_come a.client (stored a) m h f in
-    cond_both (ltb (length m) 32) here _ (AllByRecursion IsOfEntry) (λ t. inner)
+    cond_both (ltb (length m) (session_limit a.version)) here _ (AllByRecursion IsOfEntry) (λ t. inner)
     (λ t. cond_both (is_some (find nat_cmp a.client m)) here there (AllByRecursion IsOfEntry) (λ t. inner) (λ t. put_come a.client (stored a) (without_oldest m) (gone_come m (oldest m) h) f))
 
 -- ---- an entry that is applied

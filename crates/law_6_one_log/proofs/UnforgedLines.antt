@@ -32,7 +32,7 @@ use Rattle.law_3_outputs.specs.Group.{Arrival, Asked, Group, IsArrival, Message,
 use Rattle.law_3_outputs.specs.GroupFit.{IsFitArrival, IsFitGroup}
 use Rattle.law_3_outputs.proofs.FitLies.{lies_fit}
 use Rattle.law_3_outputs.proofs.FitGroups.{good_value, known_right}
-use Rattle.law_3_outputs.proofs.Slots.{value_is}
+use Rattle.law_3_outputs.proofs.Slots.{least_two, value_is}
 use Rattle.law_1_machine.specs.Basics.{In}
 use Rattle.law_4_disks.specs.Beside.{AreMade, IsOff, MayGo}
 use Rattle.law_4_disks.specs.Stocks.{IsGiven, IsGivenEvent, IsStockedGroup, WritesBlocks}
@@ -202,9 +202,9 @@ module _ (w : World Lying) (made : List Header) (s : IsSealedWorld w made) (i : 
           | false ↦ λ t. halted_sealed u bs refl seals
         ] refl
 
--- a good value's checkpoint is no greater than its head
-checkpoint_low : (v : SuperValue) → IsGood v → v.fields.checkpoint ≤ v.fields.head
-checkpoint_low v g = let x = value_is v g in let a = x.commit in let b = x.head in omega (arith, a, b)
+-- the checkpoint of a good value of version 1 is no greater than its head
+checkpoint_low : (v : SuperValue) → IsGood v → v.fields.version ≡ 1 → v.fields.checkpoint ≤ v.fields.head
+checkpoint_low v g e = let x = value_is v g (least_two v g e) in let a = x.commit in let b = x.head in omega (arith, a, b)
 
 -- so long a log has no op that sessions could spell
 within_room : (home op made : ℕ) → op ≤ made → made < room home → op + 64 < spelled_from home
@@ -261,7 +261,7 @@ module _ {home : ℕ} (w : World Lying) (g : Group) (b : AreBeside w g) (fits : 
       let calls = mend_are v m.disk.face x.0.0 in
       let one = effect_sealed g.made (Mend v) m.disk v (record { fit = refl; calls = calls }) tt x.0 face disk_sealed in
       let top = may_open_short g bridged i q there v o.may in
-      let window = checkpoint_low v x.0.0 in
+      let window = checkpoint_low v x.0.0 (good_value home g.n i q v (fits.members i q there) o.may).1.version in
       found_made g.made _ (has_after_all (IsSealed g.made) cs m.disk.face disk_sealed one) v (lying.after m.disk (Mend v)).held (face_after_all cs m.disk.face face calls)
       (subst (λ (n : ℕ). v.fields.checkpoint + 64 < spelled_from n) (sym x.1) (within_room home v.fields.checkpoint (length bridged.machine.made) (omega (arith, top, window)) low))
 

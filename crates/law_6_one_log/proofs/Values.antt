@@ -1,11 +1,11 @@
 -- What a checkpoint's root stands for in a run, and what a replica has of it: the state of the log's first entries.
-use Rattle.std.proofs.Common.{ℕ, zero, suc, ◌+◌, ◌^◌, ◌-◌, ◌<◌, ◌≤◌, ◌≡◌, ◌≢◌, ◌∙◌, arith, refl, sym, ap, subst, cond, true, false, List, [], length, Some}
-use Rattle.std.specs.Prelude.{slice_get, Result, Ok, Err}
+use Rattle.std.proofs.Common.{ℕ, zero, suc, ◌+◌, ◌^◌, ◌-◌, ◌<◌, ◌≤◌, ◌≡◌, ◌≢◌, ◌∙◌, arith, refl, sym, ap, subst, cond, true, false, List, [], length, Option, Some, None}
+use Rattle.std.specs.Prelude.{slice_get, Ok}
 use Rattle.std.proofs.lemmas.Option.{slice_get_within}
 use Rattle.vr_header.specs.Made.{Whole}
 use Rattle.vr_header.specs.NoCollision.{NoCollision}
 use Rattle.vr_disk.specs.DiskState.{Face}
-use Rattle.vr_ckpt.specs.StateFault.{StateFault}
+use Rattle.vr_ckpt.specs.Fitting.{fits as fits_version}
 use Rattle.vr_ckpt.proofs.Spelled.{sessions_decoded-text}
 use Rattle.vr_ckpt.proofs.KvTexts.{kv_decoded-kv_text}
 use Rattle.vr_ckpt.specs.StateTexts.{FitsPayloads, state_decoded, texts_of}
@@ -25,8 +25,8 @@ use Rattle.vr_ckpt.specs.declared.table.PayloadTable.{PayloadTable}
 use Rattle.vr_msg.specs.declared.frame.SyncView.{SyncView}
 use Rattle.law_3_outputs.specs.Checkpoints.{IsCheckpointOf, state_at, table_at, table_before}
 use Rattle.law_3_outputs.specs.Lying.{Lying, lying}
-use Rattle.law_3_outputs.specs.Replica.{Replica}
-use Rattle.law_3_outputs.specs.Words.{is_checkpoint, loaded_state, loads, with_state}
+use Rattle.law_3_outputs.specs.Replica.{Replica, version}
+use Rattle.law_3_outputs.specs.Words.{is_checkpoint, loaded_state, loads, usable, with_state}
 use Rattle.law_3_outputs.proofs.FitLies.{lies_fit}
 use Rattle.law_3_outputs.specs.Replied.{root_told}
 use Rattle.law_4_disks.proofs.States.{IsState, state_empty, state_kept, text_of_state}
@@ -164,6 +164,10 @@ pub record Stands (H : List ℕ → Type 0) (cluster : ℕ) (log : List Whole) (
 
 -- ---- a load
 
+-- a state that is usable is the one that was read
+usable_same : (v : ℕ) (s t : State) → usable v (Ok s) ≡ Some t → t ≡ s
+usable_same v s t e = elim (fits_version v s) as (λ b. cond b (Some s) None ≡ Some t → t ≡ s) [ true ↦ λ k. (let same : s ≡ t = cc in sym same) | false ↦ λ k. absurd cc ] e
+
 module _ (H : List ℕ → Type 0) (never : NoCollision H) (cluster : ℕ) (log : List Whole) where
   right_texts : (f : Face) → ReadsHashed H f → (c : ℕ) (root : Name) → IsRootOf H cluster log c root → (found : Texts) (table : PayloadTable) → loaded f root ≡ Loaded found table
       → (state_decoded found ≡ Ok (state_at log c)) × (table ≡ table_at cluster log c) × IsTable H table
@@ -177,10 +181,14 @@ module _ (H : List ℕ → Type 0) (never : NoCollision H) (cluster : ℕ) (log 
   unfolding with_state
   loads_stand r d above same h reads = by_load (loaded d.face r.root) refl
     where
-      by_state : (table : PayloadTable) → IsTable H table → table ≡ table_at cluster log r.checkpoint → (x : Result State StateFault) → x ≡ Ok (state_at log r.checkpoint) → Stands H cluster log (core (loaded_state r.root table x r))
-      by_state table t at (Err fault) e = absurd cc
-      by_state table t at (Ok s) e =
-          let is : s ≡ state_at log r.checkpoint = cc in
+      by_state : (table : PayloadTable) → IsTable H table → table ≡ table_at cluster log r.checkpoint → (x : Option State) → ((s : State) → x ≡ Some s → s ≡ state_at log r.checkpoint) → Stands H cluster log (core (loaded_state r.root table x r))
+      by_state table t at None e = record {
+        rests = record { own = h.own; settled = h.settled; root = h.root; table = h.table; waits = λ n. above; saved = h.saved };
+        state = λ none. absurd cc;
+        table = λ none. absurd cc;
+      }
+      by_state table t at (Some s) e =
+          let is = e s refl in
           record {
             rests = record { own = h.own; settled = h.settled; root = h.root; table = t; waits = λ n. above; saved = h.saved };
             state = λ none. is ∙ ap (state_at log) (sym same);
@@ -195,4 +203,4 @@ module _ (H : List ℕ → Type 0) (never : NoCollision H) (cluster : ℕ) (log 
       }
       by_load (Loaded texts table) e =
           let x = right_texts d.face reads r.checkpoint r.root (h.root above) texts table e in
-          by_state table x.2 x.1 (state_decoded texts) x.0
+          by_state table x.2 x.1 (usable (version r) (state_decoded texts)) (λ s i. usable_same (version r) (state_at log r.checkpoint) s (sym (ap (usable (version r)) x.0) ∙ i))

@@ -6,6 +6,7 @@ use Rattle.vr_disk.specs.DiskState.{Face}
 use Rattle.vr_ckpt.specs.Texts.{Texts}
 use Rattle.vr_ckpt.specs.Blocks.{Content, block_header, block_name, block_of}
 use Rattle.vr_ckpt.specs.Grid.{named_at}
+use Rattle.vr_ckpt.specs.Places.{grid_size}
 use Rattle.vr_ckpt.specs.declared.name.Name.{Name}
 use Rattle.vr_ckpt.specs.Saves.{written}
 use Rattle.vr_ckpt.specs.declared.table.Payload.{Payload}
@@ -22,7 +23,7 @@ pub record IsKept (H : List ℕ → Type 0) (p : Payload) : Type 0 where
   pub hashed : IsHashedBlock H content
   pub payload : content.payload ≡ p.bytes
   pub name : block_name content ≡ p.name
-  pub address : p.name.address < 128
+  pub address : p.name.address < grid_size
 
 abbrev pub AllKept : (List ℕ → Type 0) → List Payload → Type 0
 AllKept H ps = AllByRecursion (λ (p : Payload). IsKept H p) ps

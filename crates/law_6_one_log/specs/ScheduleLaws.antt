@@ -73,7 +73,7 @@ SomeScheduleMay = MayAll (fresh_world hazards strict 2) (Ticks 0 ∷ Stops 1 ∷
 
 -- client 7 begins a session
 abbrev pub registers : RequestFields
-registers = record { cluster = 0; client = 7; request = 0; operation = Register }
+registers = record { version = 1; cluster = 0; client = 7; request = 0; operation = Register }
 
 -- so of one in which a primary makes an entry, and writes it
 abbrev pub SomeEntryMay : Type 0

@@ -8,14 +8,13 @@ use Rattle.std.proofs.lemmas.List.{append-nil, append_assoc, length-append}
 use Rattle.std.proofs.lemmas.Nat.{mod-mul-add}
 use Rattle.std.proofs.lemmas.Option.{slice_get_within}
 use Rattle.vr_base.specs.declared.table.Config.{Config}
-use Rattle.vr_disk.specs.DiskState.{Disk, Fuse}
+use Rattle.vr_disk.specs.DiskState.{Disk, Face, Fuse}
 use Rattle.vr_msg.specs.declared.event.Event.{Event}
 use Rattle.vr_msg.specs.declared.event.Event.TheVariants as event
 use Rattle.vr_msg.specs.declared.output.Output.{Output}
 use Rattle.vr_msg.specs.declared.output.Output.TheVariants as output
 use Rattle.vr_msg.specs.declared.output.Sent.{Sent}
 use Rattle.vr_super.specs.Copies.{SuperValue}
-use Rattle.vr_super.specs.Opens.{opens}
 use Rattle.vr_world.specs.Group.{Arrival, Asked, Message, Time, opening_script, resumed}
 use Rattle.vr_world.specs.Lying.{Lying, hazards, lying}
 use Rattle.vr_world.specs.Opening.{blank, opened, opening}
@@ -115,17 +114,17 @@ acts_cut at made code o file s l =
     let rest : Fuse = record { calls = made - length (calls s.script file.face); code = code } in
     ap (λ (t : Bool). cond t (world.went hazards m s (Some rest)) (world.halted hazards at m s u)) (lt-leb (length (calls s.script file.face)) made l)
 
--- the opening of a file whose superblock opens as a value
+-- the opening of a file that opens as a value
 abbrev whole : SuperValue → Lying → Step
 whole v file = record { replica = (resumed v file).replica; script = opening_script v file }
 
-opened_is : (v : SuperValue) (file : Lying) → opens file.face ≡ Some v → opened lying file ≡ Some (whole v file)
+opened_is : (v : SuperValue) (file : Lying) → sectors.opens file.face ≡ Some v → opened lying file ≡ Some (whole v file)
 unfolding opened
 opened_is v file o =
     let is : lying.opens file ≡ Some v = o in
     ap (option_map (λ (v : SuperValue). opening v lying (blank v) file)) is ∙ ap Some (opening_is v file)
 
-starts_as : (at : ℕ) (fuse : Option Fuse) (file : Lying) (v : SuperValue) (a : Acted Lying) → opens file.face ≡ Some v
+starts_as : (at : ℕ) (fuse : Option Fuse) (file : Lying) (v : SuperValue) (a : Acted Lying) → sectors.opens file.face ≡ Some v
     → (let h : Host Lying = record { replica = None; disk = file; fuse = fuse } in acts hazards at h (whole v file) ≡ a → starts hazards at h ≡ a)
 starts_as at fuse file v a o e =
     let h : Host Lying = record { replica = None; disk = file; fuse = fuse } in
@@ -166,7 +165,7 @@ handled_told w at file e d did node there tells does =
     ∙ ap (left_at w at (Some did.after.replica.memory) (after_all lying file y.script)) outputs_is))
 
 -- a member is found again
-found_told : (c : Config) (w : World Lying) (at : ℕ) (file : Lying) (v : SuperValue) (d : Disk) (after : Option Disk) (first : List Output) (r : Replica) → slice_get w.members at ≡ Some (on_file None file) → d.face ≡ file.face → opens d.face ≡ Some v → Opens None c (Some d) after first r
+found_told : (c : Config) (w : World Lying) (at : ℕ) (file : Lying) (v : SuperValue) (d : Disk) (after : Option Disk) (first : List Output) (r : Replica) → slice_get w.members at ≡ Some (on_file None file) → d.face ≡ file.face → sectors.opens d.face ≡ Some v → Opens None c (Some d) after first r
     → at_member w at (starts hazards) ≡ left_at w at (Some r) (after_all lying file (opening_script v file)) first
 found_told c w at file v d after first r there tells o opens_as =
     let is : v ≡ opens_as.value = (let e : Some v ≡ Some opens_as.value = sym o ∙ opens_as.opens in cc) in
@@ -175,7 +174,7 @@ found_told c w at file v d after first r there tells o opens_as =
     let there_after = after_all lying file (opening_script v file) in
     let replica_is : (whole v file).replica ≡ r = sym (left.0 ∙ ap (λ (z : Step). z.replica) same) in
     let first_is : outputs (opening_script v file) ≡ first = sym (left.1 ∙ ap (λ (z : Step). outputs z.script) same) in
-    at_one w at (on_file None file) there (starts hazards) _ (starts_as at None file v _ (sym (ap opens tells) ∙ o) refl)
+    at_one w at (on_file None file) there (starts hazards) _ (starts_as at None file v _ (sym (ap (λ (f : Face). sectors.opens f) tells) ∙ o) refl)
     ∙ (ap (λ (q : Replica). left_at w at (Some q) there_after (outputs (opening_script v file))) replica_is ∙ ap (left_at w at (Some r) there_after) first_is)
 
 -- ---- what befalls a member

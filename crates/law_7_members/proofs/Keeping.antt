@@ -1,13 +1,13 @@
 -- What befalls members of a group keeps one log, and a member is found again on its file.
 use Rattle.vr_base.specs.declared.kind.Kind.{Kind}
 use Rattle.std.proofs.Common.{ℕ, zero, suc, ◌*◌, ◌^◌, ◌<◌, ◌≤◌, ◌≡◌, arith, refl, sym, ap, ◌∙◌, subst, List, [], length}
-use Rattle.vr_disk.specs.DiskState.{Disk, Face, IsFace}
+use Rattle.std.specs.Option.{option_and_then}
+use Rattle.vr_disk.specs.DiskState.{Face, IsFace}
 use Rattle.vr_super.specs.Copies.{SuperValue}
-use Rattle.vr_super.specs.Opens.{opens}
 use Rattle.vr_world.specs.Group.{AreSound, Played, fresh_group, kept_at, recovered}
 use Rattle.vr_world.specs.Lying.{Lying, hazards, lying}
 use Rattle.vr_world.specs.Opening.{blank, mending}
-use Rattle.vr_node.specs.Sectors.{sectors}
+use Rattle.vr_node.specs.Sectors.{runnable, sectors}
 use Rattle.vr_world.specs.Steps.{Mend, Step}
 use Rattle.vr_world.specs.World.{Happened, Starts, happen}
 use Rattle.law_4_disks.specs.Beside.{AreMade}
@@ -53,7 +53,7 @@ members_are_found cluster w g u few at m d there stopped tells =
       stopped = y.2.replica ∙ stopped;
       may = record {
         face = subst IsFace (sym tells) off.calm.face;
-        value = ap opens tells ∙ off.value;
+        value = ap (λ (f : Face). sectors.opens f) tells ∙ (ap (option_and_then runnable) off.value ∙ (rw off.version refl));
         may = off.may;
         sound = subst (AreSound v (kept_at q) g.made) (same_found v m.disk (lying_on d) (sym tells)) f.sound;
       };

@@ -1,6 +1,6 @@
 -- Whole runs of the programs of a group's members, interleaved, are members of one group at work.
 use Rattle.vr_base.specs.declared.kind.Kind.{Kind}
-use Rattle.std.proofs.Common.{ℕ, zero, suc, ◌<◌, ◌≡◌, ◌≢◌, arith, inl, inr, refl, sym, ap, ◌∙◌, subst, Bool, true, false, cond, List, [], ◌∷◌, ◌++◌, length, length-set, map, set, Option, Some, None}
+use Rattle.std.proofs.Common.{ℕ, zero, suc, ◌<◌, ◌≡◌, ◌≢◌, arith, inl, inr, refl, sym, ap, ◌∙◌, subst, Bool, true, cond, List, [], ◌∷◌, ◌++◌, length, length-set, map, set, Option, Some, None}
 use Rattle.std.specs.Prelude.{slice_get, IfSome, Ok, ⊤}
 use Rattle.std.specs.List.{AllByRecursion, range_with_len}
 use Rattle.std.proofs.lemmas.Bool.{cases_eq, eq-eqb, ne_eqb}
@@ -13,9 +13,7 @@ use Rattle.vr_disk.proofs.Running.{after_is}
 use Rattle.vr_disk.proofs.Together.{after_all_append}
 use Rattle.vr_msg.specs.declared.event.Event.{Event}
 use Rattle.vr_msg.specs.declared.output.Output.{Output}
-use Rattle.vr_msg.specs.declared.output.Sent.{Sent}
 use Rattle.vr_super.specs.Copies.{SuperValue}
-use Rattle.vr_super.specs.Opens.{opens}
 use Rattle.vr_world.specs.Group.{Arrival, opening_script, resumed}
 use Rattle.vr_world.specs.Lying.{Lying, hazards, lying, zero_face}
 use Rattle.vr_node.specs.Formatting.{format_calls}
@@ -26,7 +24,6 @@ use Rattle.vr_node.specs.Sectors.{calls, calls_of, sectors}
 use Rattle.vr_world.specs.Steps.{Effect, Step, after_all}
 use Rattle.vr_world.specs.World as world
 use Rattle.vr_world.specs.World.{Happened, Host, World, nothing}
-use Rattle.vr_node.specs.Outputs.{messages}
 use Rattle.law_4_disks.specs.Worlds.{first_host, first_world}
 use Rattle.law_4_disks.proofs.Fresh.{some_world}
 use Rattle.law_4_disks.proofs.Lines.{other_place, own_place, some_member}
@@ -95,9 +92,9 @@ handled_goes c (a ∷ arrivals) (x ∷ dids) node last o left file acts tells si
     )
 
 -- what an opening leaves
-opened_tells : (c : Config) (file : Lying) (d : Disk) (v : SuperValue) (o o' : Outside) (run : HasDeeds None c o o') → o.disk ≡ Some d → d.face ≡ file.face → opens d.face ≡ Some v → TellsFace run.disk (after_all lying file (opening_script v file)).face
+opened_tells : (c : Config) (file : Lying) (d : Disk) (v : SuperValue) (o o' : Outside) (run : HasDeeds None c o o') → o.disk ≡ Some d → d.face ≡ file.face → sectors.opens d.face ≡ Some v → TellsFace run.disk (after_all lying file (opening_script v file)).face
 opened_tells c file d v o o' run told tells is_open =
-    let on = subst (λ (x : Option Disk). (value : SuperValue) × IfSome x (λ (d : Disk). opens d.face ≡ Some value) × Does (opening value) (blank value) run.node.replica.memory x run.disk [] run.first (Ok tt)) told (run.opens.value, run.opens.opens, run.opens.step) in
+    let on = subst (λ (x : Option Disk). (value : SuperValue) × IfSome x (λ (d : Disk). sectors.opens d.face ≡ Some value) × Does (opening value) (blank value) run.node.replica.memory x run.disk [] run.first (Ok tt)) told (run.opens.value, run.opens.opens, run.opens.step) in
     let is : on.0 ≡ v = (let e : Some on.0 ≡ Some v = sym on.1 ∙ is_open in cc) in
     let left = (subst (λ (u : SuperValue). Does (opening u) (blank u) run.node.replica.memory (Some d) run.disk [] run.first (Ok tt)) is on.2).told d refl in
     let s : Step = record { replica = (resumed v file).replica; script = opening_script v file } in

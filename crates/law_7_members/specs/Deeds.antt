@@ -6,7 +6,6 @@ use Rattle.vr_disk.specs.DiskState.{Disk, IsFace}
 use Rattle.vr_msg.specs.declared.event.Event.{Event}
 use Rattle.vr_msg.specs.declared.output.Output.{Output}
 use Rattle.vr_super.specs.Copies.{SuperValue}
-use Rattle.vr_super.specs.Opens.{opens}
 use Rattle.vr_world.specs.Group.{AreSound, Arrival, Group, IsArrival, MayOpen, Member, Moved, carried_out, cut_short, kept_at, once_mended, opening_script, recovered, resumed, start_cut, with_script}
 use Rattle.vr_world.specs.GroupFit.{IsFitArrival}
 use Rattle.vr_world.specs.Lying.{Lying}
@@ -63,11 +62,11 @@ pub record Reaches (g : Group) (at : ℕ) (arrival : Arrival) (event : Event) : 
 abbrev pub lying_on : Disk → Lying
 lying_on d = record { face = d.face; held = [] }
 
--- Of a disk on which a member is found again: the superblock opens as the value that was last written to its end, or as the one whose write
+-- Of a disk on which a member is found again: its program opens it as the value that was last written to its end, or as the one whose write
 -- was cut; and what is found in its slots is sound, so that no entry is denied that was kept there.
 pub record MayBeFound (g : Group) (m : Member) (v : SuperValue) (d : Disk) : Type 0 where
   pub face : IsFace d.face
-  pub value : opens d.face ≡ Some v
+  pub value : sectors.opens d.face ≡ Some v
   pub may : MayOpen m v
   pub sound : AreSound v (kept_at m) g.made (recovered v (lying_on d))
 

@@ -11,7 +11,6 @@ use Rattle.vr_msg.specs.declared.output.Output.{Output}
 use Rattle.vr_msg.specs.declared.output.Output.TheVariants as output
 use Rattle.vr_msg.specs.declared.output.Sent.{Sent}
 use Rattle.vr_super.specs.Copies.{SuperValue}
-use Rattle.vr_super.specs.Opens.{opens}
 use Rattle.vr_world.specs.Group.{Arrival, Asked, Message, Time, opening_script}
 use Rattle.vr_world.specs.Lying.{Lying, cut_calls, lying, unless_kept_out}
 use Rattle.vr_node.specs.Replica.{Replica}
@@ -92,9 +91,9 @@ pub data Becomes (c : Config) : Option Replica → Lying → Act → Option Repl
   breaks : (file : Lying) (arrival : Arrival) (e : Event) (made code : ℕ) (r : Replica) → IsWithin file (react e sectors r file.face).script made
       → Becomes c (Some r) file (Breaks arrival e made code) None (cut_in file (react e sectors r file.face).script made code)
   ends : (file : Lying) (o : Option Replica) → Becomes c o file Ends None file
-  finds : (file : Lying) (d : Disk) (v : SuperValue) (after : Option Disk) (first : List Output) (r : Replica) → d.face ≡ file.face → opens d.face ≡ Some v → Opens None c (Some d) after first r
+  finds : (file : Lying) (d : Disk) (v : SuperValue) (after : Option Disk) (first : List Output) (r : Replica) → d.face ≡ file.face → sectors.opens d.face ≡ Some v → Opens None c (Some d) after first r
       → Becomes c None file (Finds after first r) (Some r) (after_all lying file (opening_script v file))
-  half_finds : (file : Lying) (v : SuperValue) (made code : ℕ) → opens file.face ≡ Some v → IsWithin file (opening_script v file) made
+  half_finds : (file : Lying) (v : SuperValue) (made code : ℕ) → sectors.opens file.face ≡ Some v → IsWithin file (opening_script v file) made
       → Becomes c None file (HalfFinds made code) None (cut_in file (opening_script v file) made code)
   decays : (file : Lying) (o : Option Replica) (fault : Fault) (left : Lying) → IsFault fault → unless_kept_out file fault ≡ Some left
       → Becomes c o file (Decays fault) o left

@@ -8,13 +8,13 @@ use Rattle.vr_header.specs.NoCollision.{NoCollision}
 use Rattle.vr_msg.specs.declared.output.Output.{Output}
 use Rattle.vr_msg.specs.declared.output.Sent.{Sent}
 use Rattle.vr_super.specs.Copies.{SuperValue}
-use Rattle.vr_super.specs.Opens.{opens}
 use Rattle.vr_world.specs.Group.{Arrival, opening_script}
 use Rattle.vr_world.specs.Lying.{Lying, hazards, lying, zero_face}
 use Rattle.vr_node.specs.Replica.{Replica}
 use Rattle.vr_world.specs.Steps.{after_all}
 use Rattle.vr_world.specs.World.{Happened}
 use Rattle.vr_node.specs.Outputs.{messages}
+use Rattle.vr_node.specs.Sectors.{sectors}
 use Rattle.law_4_disks.specs.Worlds.{first_world}
 use Rattle.law_6_one_log.specs.Schedules.{IsHashedOf}
 use Rattle.law_6_one_log.specs.Laws.{KeepsLog}
@@ -43,7 +43,7 @@ file_of file r (did ∷ dids) = file_of (file_after file r did.come.event) did.a
 -- begin to lie.
 pub data Lives (c : Config) : Option Replica → Lying → List Act → Type 0 where
   rests : (o : Option Replica) (file : Lying) → Lives c o file []
-  runs : (file : Lying) (d : Disk) (v : SuperValue) (o o' : Outside) (run : HasDeeds None c o o') (arrivals : List Arrival) (acts : List Act) → o.disk ≡ Some d → d.face ≡ file.face → opens d.face ≡ Some v → length arrivals ≡ length run.dids
+  runs : (file : Lying) (d : Disk) (v : SuperValue) (o o' : Outside) (run : HasDeeds None c o o') (arrivals : List Arrival) (acts : List Act) → o.disk ≡ Some d → d.face ≡ file.face → sectors.opens d.face ≡ Some v → length arrivals ≡ length run.dids
       → Lives c (Some run.last.replica.memory) (file_of (after_all lying file (opening_script v file)) run.node.replica.memory run.dids) acts
       → Lives c None file (Finds run.disk run.first run.node.replica.memory ∷ (handled arrivals run.dids ++ acts))
   goes : (o next : Option Replica) (file left : Lying) (act : Act) (acts : List Act) → Becomes c o file act next left → Lives c next left acts → Lives c o file (act ∷ acts)

@@ -10,7 +10,7 @@ use Rattle.vr_header.specs.declared.part.Part.TheVariants.{Here, Lost, Wanted, U
 use Rattle.vr_header.specs.Made.{Whole}
 use Rattle.std.specs.Option.{option_and_then}
 use Rattle.vr_header.specs.Same.{same_header}
-use Rattle.vr_world.specs.Replica.{Replica, is_here, part_at}
+use Rattle.vr_world.specs.Replica.{Replica, is_here, part_at, version}
 use Rattle.vr_world.specs.Steps.{Setting, Step, Word, ◌⨾◌, after_all, by, change, does, quiet, reading, says, times, when}
 use Rattle.vr_world.specs.Words.{applied, apply, apply_entry, apply_next, checkpoint_of, entry_of, is_checkpoint, is_loaded, make_checkpoint, or_lost, save, value_of, with_checkpoint, with_entry, with_entry_at}
 use Rattle.vr_world.proofs.Storing.{moved_at}
@@ -18,11 +18,12 @@ use Rattle.law_8_repair.specs.Completing.{AllRead}
 use Rattle.law_8_repair.proofs.Disks.{Stores}
 use Rattle.law_8_repair.proofs.Dry.{dry_next, same_entries}
 
--- its place, its view and what it knows of each op stay, and each sequence number is that of an op
+-- its place, its version, its view and what it knows of each op stay, and each sequence number is that of an op
 pub record Goes (r q : Replica) : Type 0 where
   pub cluster : q.cluster ≡ r.cluster
   pub n : q.n ≡ r.n
   pub index : q.index ≡ r.index
+  pub version : version q ≡ version r
   pub view : q.view ≡ r.view
   pub commit : q.commit ≡ r.commit
   pub missing : q.missing ≡ r.missing
@@ -30,7 +31,7 @@ pub record Goes (r q : Replica) : Type 0 where
   pub room : q.saved.fields.sequence + (q.commit - q.applied) ≤ r.saved.fields.sequence + (r.commit - r.applied)
 
 goes_same : (r : Replica) → Goes r r
-goes_same r = record { cluster = refl; n = refl; index = refl; view = refl; commit = refl; missing = refl; parts = λ k. refl; room = omega arith }
+goes_same r = record { cluster = refl; n = refl; index = refl; version = refl; view = refl; commit = refl; missing = refl; parts = λ k. refl; room = omega arith }
 
 goes_more : (a b c : Replica) → Goes a b → Goes b c → Goes a c
 goes_more a b c h k =
@@ -40,6 +41,7 @@ goes_more a b c h k =
       cluster = k.cluster ∙ h.cluster;
       n = k.n ∙ h.n;
       index = k.index ∙ h.index;
+      version = k.version ∙ h.version;
       view = k.view ∙ h.view;
       commit = k.commit ∙ h.commit;
       missing = k.missing ∙ h.missing;
@@ -88,7 +90,7 @@ module _ {F : Type 0} (s : Setting F) where
   checkpoint_next e r f l =
       let c = checkpoint_of (applied e r) s f in
       record {
-        goes = record { cluster = refl; n = refl; index = refl; view = refl; commit = refl; missing = refl; parts = λ k. moved_at c e r k; room = omega (arith, l) };
+        goes = record { cluster = refl; n = refl; index = refl; version = refl; view = refl; commit = refl; missing = refl; parts = λ k. moved_at c e r k; room = omega (arith, l) };
         up = refl;
       }
 
@@ -96,7 +98,7 @@ module _ {F : Type 0} (s : Setting F) where
   unfolding quiet part_at
   applied_next e r f true l = checkpoint_next e r f l
   applied_next e r f false l = record {
-    goes = record { cluster = refl; n = refl; index = refl; view = refl; commit = refl; missing = refl; parts = λ k. refl; room = omega (arith, l) };
+    goes = record { cluster = refl; n = refl; index = refl; version = refl; view = refl; commit = refl; missing = refl; parts = λ k. refl; room = omega (arith, l) };
     up = refl;
   }
 

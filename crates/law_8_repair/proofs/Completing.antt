@@ -10,7 +10,7 @@ use Rattle.vr_msg.specs.declared.frame.Frame.TheVariants as frame
 use Rattle.vr_msg.specs.declared.frame.GivePrepare.{GivePrepare}
 use Rattle.vr_msg.specs.Logs.{has_header, header_of}
 use Rattle.vr_world.specs.Lying.{Lying, lying}
-use Rattle.vr_world.specs.Replica.{Replica, is_absent, is_here, part_at}
+use Rattle.vr_world.specs.Replica.{Replica, is_absent, is_here, part_at, version}
 use Rattle.vr_world.specs.Rules.{react}
 use Rattle.vr_world.specs.Sectors.{sectors}
 use Rattle.vr_world.specs.Steps.{Setting, Step, after_all}
@@ -43,6 +43,7 @@ module _ {F : Type 0} (s : Setting F) (Fine : F → Type 0) (store : Stores s Fi
     fine : Fine f
     n : r.n ≡ old.n
     index : r.index ≡ old.index
+    version : version r ≡ version old
     commit : r.commit ≡ old.commit
     up : old.applied ≤ r.applied
     from : old.applied ≤ lo
@@ -64,6 +65,7 @@ module _ {F : Type 0} (s : Setting F) (Fine : F → Type 0) (store : Stores s Fi
         fine = h.fine;
         n = h.n;
         index = h.index;
+        version = h.version;
         commit = h.commit;
         up = h.up;
         from = omega arith;
@@ -86,6 +88,7 @@ module _ {F : Type 0} (s : Setting F) (Fine : F → Type 0) (store : Stores s Fi
       record {
         entry = c.entry;
         named = ap header_of same ∙ c.named;
+        version = c.version ∙ sym h.version;
         member = subst (λ n. (copy (lo + 1)).replica < n) (sym h.n) c.member;
         other = subst (λ i. (copy (lo + 1)).replica ≢ i) (sym h.index) c.other;
       }
@@ -112,6 +115,7 @@ module _ {F : Type 0} (s : Setting F) (Fine : F → Type 0) (store : Stores s Fi
         fine = t.fine;
         n = t.n ∙ h.n;
         index = t.index ∙ h.index;
+        version = t.version ∙ h.version;
         commit = t.commit ∙ h.commit;
         up = omega arith;
         from = omega arith;
@@ -165,6 +169,7 @@ module _ {F : Type 0} (s : Setting F) (Fine : F → Type 0) (store : Stores s Fi
     fine = fine;
     n = refl;
     index = refl;
+    version = refl;
     commit = refl;
     up = omega arith;
     from = omega arith;

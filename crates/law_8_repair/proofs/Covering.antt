@@ -6,6 +6,7 @@ use Rattle.std.proofs.lemmas.Bool.{eq-eqb, eqb-true, ne_eqb, true≢false}
 use Rattle.std.proofs.lemmas.Nat.{mod_below}
 use Rattle.std.proofs.Math.Nat.{mod-eq_of_lt}
 use Rattle.vr_disk.specs.DiskState.{Face}
+use Rattle.vr_ckpt.specs.Places.{grid_size}
 use Rattle.vr_ckpt.specs.declared.name.Name.{Name}
 use Rattle.vr_header.specs.declared.header.Header.{Header}
 use Rattle.vr_header.specs.declared.part.Part.{Part}
@@ -17,7 +18,7 @@ use Rattle.vr_super.specs.Laws.{AllRead}
 use Rattle.vr_world.specs.Fit.{IsProgram}
 use Rattle.vr_world.specs.Laws.{HasNames, IsEvent, SavesRoots, SavesWell}
 use Rattle.vr_world.specs.Lying.{Lying, lying}
-use Rattle.vr_world.specs.Replica.{Replica, is_absent, part_at}
+use Rattle.vr_world.specs.Replica.{Replica, is_absent, part_at, version}
 use Rattle.vr_world.specs.Rules as rules
 use Rattle.vr_world.specs.Sectors.{sectors}
 use Rattle.vr_world.specs.Sound.{IsSavable, IsSound}
@@ -33,7 +34,7 @@ use Rattle.law_8_repair.specs.Visits.{AreRead, after_events, visited}
 use Rattle.law_8_repair.proofs.Counting.{Sees, all_known, goes_walks}
 use Rattle.law_8_repair.proofs.Disks.{IsLong}
 use Rattle.law_8_repair.proofs.Dry.{fine_after}
-use Rattle.law_8_repair.proofs.Finding.{both, lying_sturdy, sectors_sturdy, step_reads}
+use Rattle.law_8_repair.proofs.Finding.{both, lying_sturdy, sectors_sturdy, step_reads, step_version}
 use Rattle.law_8_repair.proofs.Holding.{Holds, lying_holds, sectors_hold}
 use Rattle.law_8_repair.proofs.Lasting.{All-one, goes_copies, goes_found, goes_known, goes_laid, goes_mended, got_is, has_moved, is_got, laid_loaded, missing_none}
 use Rattle.law_8_repair.proofs.Laying.{LoadsApart, lying_apart, sectors_apart}
@@ -51,7 +52,7 @@ module _ {F : Type 0} (s : Setting F) (Fine : F → Type 0) (sturdy : Sturdy s F
   -- ---- slots
 
   abbrev Ok : Replica → F → Type 0
-  Ok r f = IsSound r × Fine f
+  Ok r f = (version r ≡ 1) × IsSound r × Fine f
 
   abbrev SlotKnown : ℕ → Replica → F → Type 0
   SlotKnown p r f = p < 64 → AreRead s (λ slot. slot == p) r f
@@ -64,15 +65,15 @@ module _ {F : Type 0} (s : Setting F) (Fine : F → Type 0) (sturdy : Sturdy s F
 
   slots_seen : Sees s Ok SlotKnown
   slots_seen = record {
-    sound = λ r f ok. ok.0;
-    stays = λ e r f m ok same. (steps_stay_sound s f r e names ok.0 m, fine_after s Fine sturdy.stores (rules.react e s r f).script f ok.1);
+    sound = λ r f ok. ok.1;
+    stays = λ e r f m ok same. (step_version s e r f ∙ ok.0, steps_stay_sound s f r e names ok.1 m, fine_after s Fine sturdy.stores (rules.react e s r f).script f ok.2);
     keeps = λ p e r f m ok loaded same within known l.
         let x = rules.react e s r f in
-        let read = step_reads s Fine sturdy program names (λ slot. slot == p) e r f ok.0 ok.1 m (known l) in
+        let read = step_reads s Fine sturdy program names (λ slot. slot == p) e r f ok.0 ok.1 ok.2 m (known l) in
         only (both (λ slot. slot == p) r x.replica) p x.replica (after_all s f x.script) (ap (λ b. b || visited r x.replica p) (eq-eqb p p refl)) read;
     finds = λ e r f m ok loaded same turned l.
         let x = rules.react e s r f in
-        let read = step_reads s Fine sturdy program names (λ slot. false) e r f ok.0 ok.1 m (nothing_seen r f) in
+        let read = step_reads s Fine sturdy program names (λ slot. false) e r f ok.0 ok.1 ok.2 m (nothing_seen r f) in
         only (both (λ slot. false) r x.replica) (words.place_now r) x.replica (after_all s f x.script) (slot_visited r x.replica l turned) read;
   }
 
@@ -155,7 +156,7 @@ module _ {F : Type 0} (s : Setting F) (Fine : F → Type 0) (face : F → Face) 
           let k : ℕ = words.place_now r - 65 in
           λ name high at.
           let there : slice_get (words.blocks_of r) k ≡ Some name = ap (λ xs. slice_get xs k) (sym blocks) ∙ at in
-          let low : name.address < 128 = All-one (λ (m : Name). m.address < 128) (words.blocks_of r) name (ok.laid.apart (missing_none r loaded)).grid (got_is (words.blocks_of r) k name there) in
+          let low : name.address < grid_size = All-one (λ (m : Name). m.address < grid_size) (words.blocks_of r) name (ok.laid.apart (missing_none r loaded)).grid (got_is (words.blocks_of r) k name there) in
           goes_found s Fine (λ f v. AllRead (face f) v) sturdy.stores holds r f x name goes order loaded same (has_moved r x.replica turned) high there low;
     }
 
@@ -175,11 +176,11 @@ module _ {F : Type 0} (s : Setting F) (Fine : F → Type 0) (face : F → Face) 
 -- ---- all places
 
 module _ {F : Type 0} (s : Setting F) (Fine : F → Type 0) (face : F → Face) (sturdy : Sturdy s Fine) (holds : Holds s Fine (λ f v. AllRead (face f) v)) (program : IsProgram s) (names : HasNames s) (roots : SavesRoots s) (apart : LoadsApart s) where
-  covered : (es : List Event) (r : Replica) (f : F) → IsSound r → IsSavable r → IsLaidOut r → Fine f → All IsEvent es
+  covered : (es : List Event) (r : Replica) (f : F) → version r ≡ 1 → IsSound r → IsSavable r → IsLaidOut r → Fine f → All IsEvent es
       → let end = after_events s es r f in end.replica.checkpoint ≡ r.checkpoint → words.places end.replica ≤ visits_made s es r f → KnowsFaults s face end.replica end.disk
-  covered es r f sound savable laid fine m same enough =
+  covered es r f one sound savable laid fine m same enough =
       let end = after_events s es r f in
-      let slots = all_known s (Ok s Fine sturdy program names) (SlotKnown s Fine sturdy program names) (slots_seen s Fine sturdy program names) names es r f m (sound, fine) same enough in
+      let slots = all_known s (Ok s Fine sturdy program names) (SlotKnown s Fine sturdy program names) (slots_seen s Fine sturdy program names) names es r f m (one, sound, fine) same enough in
       let copies = all_known s _ _ (copies_seen s Fine face sturdy holds names roots) names es r f m (record { sound = sound; fine = fine; savable = savable }) same enough in
       let blocks = all_known s _ _ (blocks_seen s Fine face sturdy holds names apart) names es r f m (record { sound = sound; fine = fine; laid = laid }) same enough in
       record {
@@ -200,8 +201,8 @@ module _ {F : Type 0} (s : Setting F) (Fine : F → Type 0) (face : F → Face) 
 -- ---- the disks of the program
 
 pub sectors_cover : VisitsCover sectors (λ f. f)
-sectors_cover es r f face sound savable laid m same enough =
-    covered sectors IsLong (λ f. f) sectors_sturdy sectors_hold disks_fit.program sectors_fit.0 sectors_fit.1 sectors_apart es r f sound savable laid face.count m same enough
+sectors_cover es r f face one sound savable laid m same enough =
+    covered sectors IsLong (λ f. f) sectors_sturdy sectors_hold disks_fit.program sectors_fit.0 sectors_fit.1 sectors_apart es r f one sound savable laid face.count m same enough
 
 pub lying_roots : SavesRoots lying
 lying_roots = record { address = sectors_fit.1.address; name = sectors_fit.1.name }
@@ -213,5 +214,5 @@ pub lying_lay_out : LaysOut lying
 lying_lay_out = lays_out lying (λ (x : Lying). IsLong x.face) (λ x. x.face) lying_sturdy lying_holds lies_fit.program lies_fit.names lying_roots lying_apart
 
 pub lying_covers : VisitsCover lying (λ d. d.face)
-lying_covers es r d face sound savable laid m same enough =
-    covered lying (λ (x : Lying). IsLong x.face) (λ x. x.face) lying_sturdy lying_holds lies_fit.program lies_fit.names lying_roots lying_apart es r d sound savable laid face.count m same enough
+lying_covers es r d face one sound savable laid m same enough =
+    covered lying (λ (x : Lying). IsLong x.face) (λ x. x.face) lying_sturdy lying_holds lies_fit.program lies_fit.names lying_roots lying_apart es r d one sound savable laid face.count m same enough

@@ -6,7 +6,9 @@ use Rattle.std.proofs.lemmas.Bool.{eq-eqb, ltb-false, or_parts}
 use Rattle.std.proofs.lemmas.Nat.{mod_below}
 use Rattle.std.proofs.lemmas.List.Elements.{All-head, All-tail}
 use Rattle.vr_disk.specs.DiskState as disk
+use Rattle.vr_disk.proofs.Places.{behind_headers}
 use Rattle.vr_disk.specs.DiskState.{Face}
+use Rattle.vr_base.specs.declared.kind.Kind.{Kind}
 use Rattle.vr_header.specs.declared.header.Header.{Header}
 use Rattle.vr_header.specs.declared.part.Part.TheVariants.{Here}
 use Rattle.vr_header.specs.Made.{Whole}
@@ -22,7 +24,7 @@ use Rattle.vr_rings.specs.Slots.{whole_in}
 use Rattle.vr_world.specs.Laws.{HasNames, IsEvent}
 use Rattle.vr_world.specs.Lying.{Lying, lying}
 use Rattle.vr_world.specs.Sectors.{sectors}
-use Rattle.vr_world.specs.Replica.{Replica, head, is_frozen, last_view, part_at}
+use Rattle.vr_world.specs.Replica.{Replica, head, is_frozen, last_view, part_at, version}
 use Rattle.vr_world.specs.Rules as rules
 use Rattle.vr_world.specs.Outputs as told
 use Rattle.vr_world.specs.Sound.{IsSound}
@@ -42,6 +44,8 @@ use Rattle.vr_world.proofs.Trying.{keeps_speak}
 use Rattle.vr_world.proofs.SavesSectors.{sectors_fit}
 use Rattle.vr_world.proofs.Visiting.{keeps_visit}
 use Rattle.vr_world.proofs.Wording.{keeps_ask, keeps_prepare_again}
+use Rattle.law_4_disks.proofs.Chaining.{chain_kind}
+use Rattle.law_4_disks.proofs.ChainingRules.{c_react}
 use Rattle.law_8_repair.specs.Visits.{AreRead, VisitsFind, after_events, seen_after, visited}
 use Rattle.law_8_repair.proofs.Disks.{IsLong, lying_stores, sectors_store}
 use Rattle.law_8_repair.proofs.Dry.{fine_after}
@@ -49,6 +53,12 @@ use Rattle.law_8_repair.proofs.Looking.{Leaves, Sturdy, all_spared, of_sheds, on
 use Rattle.law_8_repair.proofs.LookingRules.{at_message, at_request}
 use Rattle.law_8_repair.proofs.Seeing.{Saw, visit_saw}
 use Rattle.law_8_repair.proofs.Shedding.{Sheds, sheds_again, sheds_ask, sheds_by, sheds_enter, sheds_quiet, sheds_same, sheds_says, sheds_speak, sheds_then, sheds_when}
+
+-- a step keeps the version of its file
+pub step_version : {F : Type 0} (s : Setting F) (e : Event) (r : Replica) (f : F) → version (rules.react e s r f).replica ≡ version r
+step_version s e r f =
+    let x = rules.react e s r f in
+    ap (λ (k : Kind). k.version) (chain_kind x.script r.saved x.replica.saved ((c_react e).each s r f))
 
 -- what is seen with a step's visit
 abbrev pub both : (ℕ → Bool) → Replica → Replica → ℕ → Bool
@@ -209,41 +219,41 @@ module _ {F : Type 0} (s : Setting F) where
     -- ---- steps
 
     module _ (program : IsProgram s) (names : HasNames s) where
-      at_event : (seen : ℕ → Bool) (e : Event) (r : Replica) (f : F) → IsSound r → Fine f → IsEvent e → r.view ≤ last_view → r.checkpoint ≤ (rules.on_event e s r f).replica.checkpoint → AreRead s seen r f → Reads seen r f (rules.on_event e s r f)
+      at_event : (seen : ℕ → Bool) (e : Event) (r : Replica) (f : F) → version r ≡ 1 → IsSound r → Fine f → IsEvent e → r.view ≤ last_view → r.checkpoint ≤ (rules.on_event e s r f).replica.checkpoint → AreRead s seen r f → Reads seen r f (rules.on_event e s r f)
       unfolding rules.on_tick by
-      at_event seen (event.Request q) r f sound fine m last up read =
-          read_still seen r (rules.on_request q s r f).replica f _ sound up (at_request s Fine sturdy program names q r f sound fine m last).leaves read
-      at_event seen (event.Deliver message) r f sound fine m last up read =
-          read_still seen r (rules.on_message message s r f).replica f _ sound up (at_message s Fine sturdy program names message r f sound fine m last).leaves read
-      at_event seen event.Tick r f sound fine m last up read = at_tick seen (first_of (tick_table r)) r f sound up read
+      at_event seen (event.Request q) r f one sound fine m last up read =
+          read_still seen r (rules.on_request q s r f).replica f _ sound up (at_request s Fine sturdy program names q r f one sound fine m last).leaves read
+      at_event seen (event.Deliver message) r f one sound fine m last up read =
+          read_still seen r (rules.on_message message s r f).replica f _ sound up (at_message s Fine sturdy program names message r f one sound fine m last).leaves read
+      at_event seen event.Tick r f one sound fine m last up read = at_tick seen (first_of (tick_table r)) r f sound up read
 
-      pub step_reads : (seen : ℕ → Bool) (e : Event) (r : Replica) (f : F) → IsSound r → Fine f → IsEvent e → AreRead s seen r f → Reads seen r f (rules.react e s r f)
+      pub step_reads : (seen : ℕ → Bool) (e : Event) (r : Replica) (f : F) → version r ≡ 1 → IsSound r → Fine f → IsEvent e → AreRead s seen r f → Reads seen r f (rules.react e s r f)
       unfolding rules.react by
-      step_reads seen e r f sound fine m read =
+      step_reads seen e r f one sound fine m read =
           let up = (steps_rise s f r e sound m).checkpoint in
           elim (is_frozen r) as (λ b. is_frozen r ≡ b → r.checkpoint ≤ ((cond (not b) (rules.on_event e) quiet) s r f).replica.checkpoint → Reads seen r f ((cond (not b) (rules.on_event e) quiet) s r f)) [
             | true ↦ λ i u. read_sheds seen quiet r f sheds_quiet sound u read
-            | false ↦ λ i u. at_event seen e r f sound fine m (ltb-false last_view r.view (or_parts (nat_lt last_view r.view) _ i).0) u read
+            | false ↦ λ i u. at_event seen e r f one sound fine m (ltb-false last_view r.view (or_parts (nat_lt last_view r.view) _ i).0) u read
           ] refl up
 
       -- ---- and many
 
-      pub events_read : (es : List Event) (seen : ℕ → Bool) (r : Replica) (f : F) → IsSound r → Fine f → All IsEvent es → AreRead s seen r f
+      pub events_read : (es : List Event) (seen : ℕ → Bool) (r : Replica) (f : F) → version r ≡ 1 → IsSound r → Fine f → All IsEvent es → AreRead s seen r f
           → AreRead s (seen_after s es seen r f) (after_events s es r f).replica (after_events s es r f).disk
       unfolding seen_after after_events
-      events_read [] seen r f sound fine m read = read
-      events_read (e ∷ es) seen r f sound fine m read =
+      events_read [] seen r f one sound fine m read = read
+      events_read (e ∷ es) seen r f one sound fine m read =
           let x = rules.react e s r f in
           let first = All-head IsEvent e es m in
-          events_read es (both seen r x.replica) x.replica (after_all s f x.script) (steps_stay_sound s f r e names sound first) (fine_after s Fine sturdy.stores x.script f fine) (All-tail IsEvent e es m)
-          (step_reads seen e r f sound fine first read)
+          events_read es (both seen r x.replica) x.replica (after_all s f x.script) (step_version s e r f ∙ one) (steps_stay_sound s f r e names sound first) (fine_after s Fine sturdy.stores x.script f fine) (All-tail IsEvent e es m)
+          (step_reads seen e r f one sound fine first read)
 
 -- ---- the disks of the program
 
-rewritten_entry : (f : Face) (h : Header) (slot : ℕ) → whole_in (disk.after_all f (header_calls h)) slot ≡ whole_in f slot
+rewritten_entry : (f : Face) (h : Header) (slot : ℕ) → whole_in 1 (disk.after_all f (header_calls h)) slot ≡ whole_in 1 f slot
 rewritten_entry f h slot =
     let b = mod_below h.op 64 (omega arith) in
-    same_entry (header_calls h) f slot (λ k m n. header_spares h k (λ q. omega (arith, q, b, m)))
+    same_entry (header_calls h) f slot (λ k m n. header_spares h k (λ q. omega (arith, q, b, behind_headers 1 slot, m)))
 
 pub sectors_sturdy : Sturdy sectors IsLong
 sectors_sturdy = record { stores = sectors_store; rewritten = rewritten_entry }
@@ -252,7 +262,7 @@ pub lying_sturdy : Sturdy lying (λ (d : Lying). IsLong d.face)
 lying_sturdy = record { stores = lying_stores; rewritten = λ d h slot. rewritten_entry d.face h slot }
 
 pub sectors_find : VisitsFind sectors (λ f. f)
-sectors_find es seen r f face sound m read = events_read sectors IsLong sectors_sturdy disks_fit.program sectors_fit.0 es seen r f sound face.count m read
+sectors_find es seen r f face one sound m read = events_read sectors IsLong sectors_sturdy disks_fit.program sectors_fit.0 es seen r f one sound face.count m read
 
 pub lying_finds : VisitsFind lying (λ d. d.face)
-lying_finds es seen r d face sound m read = events_read lying (λ (x : Lying). IsLong x.face) lying_sturdy lies_fit.program lies_fit.names es seen r d sound face.count m read
+lying_finds es seen r d face one sound m read = events_read lying (λ (x : Lying). IsLong x.face) lying_sturdy lies_fit.program lies_fit.names es seen r d one sound face.count m read

@@ -13,6 +13,7 @@ use Rattle.vr_world.specs.Steps.{Step}
 use Rattle.vr_world.proofs.FitLies.{lies_fit}
 use Rattle.vr_world.proofs.FitGroups.{arrives, fresh_at, fresh_group_fits, good_value, groups_fit}
 use Rattle.vr_world.proofs.FitOpening.{headers_of}
+use Rattle.vr_world.proofs.Slots.{least_two}
 use Rattle.vr_world.proofs.InTwo.{opening_in_two}
 use Rattle.law_8_repair.specs.CaughtUp.{KeepsUp}
 use Rattle.law_8_repair.specs.Groups.{AllKeepUp, GroupsKeepUp}
@@ -49,7 +50,7 @@ moves_up c g _ _ h u k (group.cuts at arrival e d j m r runs i) = one_up g at _ 
 moves_up c g _ _ h u k (group.crashes at m there) = one_up g at _ u (λ q same. stopped_up q same)
 moves_up c g _ _ h u k (group.recovers at v d m o) =
     let good = good_value c g.n at m v (h.members at m o.member) o.value in
-    let up : KeepsUp (opening v lying (blank v) d).replica = openings_keep_up lying d v (headers_of lying d k) good.0 in
+    let up : KeepsUp (opening v lying (blank v) d).replica = openings_keep_up lying d v (headers_of lying d k) good.0 (least_two v good.0 good.1.version) in
     one_up g at _ u (λ q same. runs_up (resumed v d).replica q (subst (λ (x : Step). KeepsUp x.replica) (opening_in_two v d) up) same)
 moves_up c g _ _ h u k (group.recovers_cut at v d j m o) = one_up g at _ u (λ q same. stopped_up q same)
 

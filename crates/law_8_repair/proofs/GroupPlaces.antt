@@ -20,13 +20,14 @@ use Rattle.vr_world.specs.GroupFit.{IsFitGroup, IsFitMove, IsFitReplica}
 use Rattle.vr_world.specs.Laws.{IsEvent}
 use Rattle.vr_world.specs.Lying.{Lying, lying}
 use Rattle.vr_world.specs.Opening.{blank, fresh, opening}
-use Rattle.vr_world.specs.Replica.{Replica, is_spent}
+use Rattle.vr_world.specs.Replica.{Replica, is_spent, version}
 use Rattle.vr_world.specs.Sectors.{sectors}
 use Rattle.vr_world.specs.Steps.{Step, after_all}
 use Rattle.vr_world.specs.Words as words
 use Rattle.vr_world.proofs.FitDisks.{disks_fit}
 use Rattle.vr_world.proofs.FitLies.{lies_fit}
 use Rattle.vr_world.proofs.FitGroups.{arrives, fresh_at, fresh_group_fits, good_value, groups_fit}
+use Rattle.vr_world.proofs.Slots.{least_two}
 use Rattle.vr_world.proofs.InTwo.{opening_in_two}
 use Rattle.vr_world.proofs.SavesSectors.{sectors_fit}
 use Rattle.law_4_disks.specs.Stocks.{IsGiven, IsGivenEvent}
@@ -138,7 +139,7 @@ moves_placed c g _ _ h u w k b (group.cuts at arrival e d j m r runs i) = one_pl
 moves_placed c g _ _ h u w k b (group.crashes at m there) = one_placed g at _ u (λ q same. stopped_placed q same)
 moves_placed c g _ _ h u w k b (group.recovers at v d m o) =
     let good = good_value c g.n at m v (h.members at m o.member) o.value in
-    let placed : StaysInPlace (opening v lying (blank v) d).replica = lying_places.openings d v b good.0 in
+    let placed : StaysInPlace (opening v lying (blank v) d).replica = lying_places.openings d v b good.0 (least_two v good.0 good.1.version) in
     one_placed g at _ u (λ q same. runs_placed (resumed v d).replica q (subst (λ (x : Step). StaysInPlace x.replica) (opening_in_two v d) placed) same)
 moves_placed c g _ _ h u w k b (group.recovers_cut at v d j m o) = one_placed g at _ u (λ q same. stopped_placed q same)
 
@@ -157,17 +158,17 @@ none_made (e ∷ es) r d t =
     let rest = none_made es r d t in
     subst (λ (x : Step). counted x.replica.cursor r.cursor + visits_made lying es x.replica (after_all lying d x.script) ≡ 0) (sym still) (omega (arith, rest, one))
 
-covers : (r : Replica) (es : List Event) (d : Lying) → IsFitReplica r → StaysInPlace r → IsFace d.face → All IsEvent es
+covers : (r : Replica) (es : List Event) (d : Lying) → version r ≡ 1 → IsFitReplica r → StaysInPlace r → IsFace d.face → All IsEvent es
     → let end = after_events lying es r d in end.replica.checkpoint ≡ r.checkpoint → words.places end.replica ≤ visits_made lying es r d → KnowsFaults lying (λ (x : Lying). x.face) end.replica end.disk
-covers r es d fit placed whole m same enough =
+covers r es d one fit placed whole m same enough =
     let end = after_events lying es r d in
     elim (is_spent r) as (λ b. is_spent r ≡ b → KnowsFaults lying (λ (x : Lying). x.face) end.replica end.disk) [
       | true ↦ λ t. absurd (let none = none_made es r d t in omega (arith, none, enough))
-      | false ↦ λ t. lying_covers es r d whole fit.sound fit.savable (laid_out r (placed t)) m same enough
+      | false ↦ λ t. lying_covers es r d whole one fit.sound fit.savable (laid_out r (placed t)) m same enough
     ] refl
 
 all_cover : (c : ℕ) (g : Group) → IsFitGroup c g → AllInPlace g → AllCover g
-all_cover c g h u = λ at m r es d there runs whole events same enough. covers r es d ((h.members at m there).running r runs).0 (u at m r there runs) whole events same enough
+all_cover c g h u = λ at m r es d there runs whole events same enough. (let fit = (h.members at m there).running r runs in covers r es d fit.1.saved.version fit.0 (u at m r there runs) whole events same enough)
 
 -- ---- runs
 

@@ -3,7 +3,7 @@ use Rattle.std.proofs.Common.{arith, ℕ, zero, suc, ◌+◌, ◌*◌, ◌≡◌
 use Rattle.std.specs.Prelude.{nat_lt}
 use Rattle.std.specs.List.{AllByRecursion}
 use Rattle.std.specs.Option.{option_and_then}
-use Rattle.std.proofs.lemmas.Bool.{cases_eq, cases_lt, lt-ltb}
+use Rattle.std.proofs.lemmas.Bool.{cases_eq, lt-ltb}
 use Rattle.std.proofs.lemmas.Nat.{mod_below}
 use Rattle.vr_disk.specs.DiskState as disk
 use Rattle.vr_disk.specs.DiskState.{Call, Face, Sync}
@@ -13,7 +13,9 @@ use Rattle.vr_disk.specs.Stops.{Spares}
 use Rattle.vr_disk.proofs.Together.{after_all_append, has_is, length_after_all, spares_append, together_same, together_synced, within_spares}
 use Rattle.vr_ckpt.specs.Blocks.{named}
 use Rattle.vr_ckpt.specs.Grid.{block_calls, block_reading, named_at, put_calls}
+use Rattle.vr_ckpt.specs.Places.{grid_size}
 use Rattle.vr_ckpt.specs.declared.name.Name.{Name}
+use Rattle.vr_ckpt.proofs.Placing.{blocks_apart}
 use Rattle.vr_ckpt.proofs.Puts.{block_within, name_fits, written_reads}
 use Rattle.vr_header.specs.declared.header.Header.{Header}
 use Rattle.vr_header.specs.Made.{Whole}
@@ -29,7 +31,7 @@ use Rattle.vr_super.proofs.Readings.{copy_within, mend_within, other_after}
 use Rattle.vr_world.specs.Lying.{lying}
 use Rattle.vr_world.specs.Sectors.{block_in, calls_of, sectors}
 use Rattle.vr_world.specs.Steps.{Effect, Write, Rewrite, Save, Mend, Checkpoint, PutBlock, Say, Setting}
-use Rattle.vr_world.proofs.FitDisks.{block_spares, blocks_spare, header_spares, mend_spares, prepare_spares, same_reads, save_spares}
+use Rattle.vr_world.proofs.FitDisks.{block_spares, blocks_spare, grid_behind, header_spares, mend_spares, prepare_spares, same_reads, save_spares}
 use Rattle.law_8_repair.proofs.Disks.{IsLong}
 use Rattle.law_8_repair.proofs.Standing.{SparesGrid}
 
@@ -53,7 +55,7 @@ pub record Holds {F : Type 0} (s : Setting F) (Fine : F → Type 0) (Copies : F 
 
 -- what the bytes at its address show of a name
 abbrev shown : Name → Option (List ℕ) → Option (List ℕ)
-shown name o = cond (is_some (cond (nat_lt name.address 128) (option_and_then (named name) o) None)) o None
+shown name o = cond (is_some (cond (nat_lt name.address grid_size) (option_and_then (named name) o) None)) o None
 
 shows : (f : Face) (name : Name) → block_in f name ≡ shown name (block_reading f name.address)
 unfolding named_at
@@ -70,12 +72,12 @@ block_spared cs f name h =
 header_high : (h : Header) (i : ℕ) → 400 ≤ i → AllByRecursion (Spares i) (header_calls h)
 header_high h i l = let b = mod_below h.op 64 (omega arith) in header_spares h i (λ q. omega (arith, q, b, l))
 
-prepare_high : (e : Whole) (i : ℕ) → 400 ≤ i → AllByRecursion (Spares i) (prepare_calls e)
+prepare_high : (e : Whole) (i : ℕ) → 400 ≤ i → AllByRecursion (Spares i) (prepare_calls 1 e)
 prepare_high e i l = let b = mod_below e.header.op 64 (omega arith) in prepare_spares e i (inr (omega (arith, b, l)))
 
 grid_spared : (e : Effect) (f : Face) (i : ℕ) → SparesGrid e → 400 ≤ i → AllByRecursion (Spares i) (calls_of e f)
-grid_spared (Write true e) f i h l = spares_append i (header_calls e.header) (prepare_calls e) (header_high e.header i l) (prepare_high e i l)
-grid_spared (Write false e) f i h l = spares_append i (prepare_calls e) (header_calls e.header) (prepare_high e i l) (header_high e.header i l)
+grid_spared (Write true e) f i h l = spares_append i (header_calls e.header) (prepare_calls 1 e) (header_high e.header i l) (prepare_high e i l)
+grid_spared (Write false e) f i h l = spares_append i (prepare_calls 1 e) (header_calls e.header) (prepare_high e i l) (header_high e.header i l)
 grid_spared (Rewrite x) f i h l = header_high x i l
 grid_spared (Save old new) f i h l = spares_append i (mend_calls old f) (save_from 0 4 (copy_bytes new)) (mend_spares 4 0 i (copy_bytes old) f (omega arith) (omega (arith, l))) (save_spares 4 0 i (copy_bytes new) (omega arith) (omega (arith, l)))
 grid_spared (Mend v) f i h l = mend_spares 4 0 i (copy_bytes v) f (omega arith) (omega (arith, l))
@@ -84,11 +86,13 @@ grid_spared (PutBlock name block) f i h l = absurd h
 grid_spared (Say o) f i h l = tt
 
 block_kept : (f : Face) (e : Effect) (name : Name) → SparesGrid e → block_in (disk.after_all f (calls_of e f)) name ≡ block_in f name
-block_kept f e name h = block_spared (calls_of e f) f name (λ i a b. grid_spared e f i h (omega (arith, a)))
+block_kept f e name h = let high = grid_behind name.address in block_spared (calls_of e f) f name (λ i a b. grid_spared e f i h (omega (arith, a, high)))
 
 pub grid_reads : (f : Face) (e : Effect) (address : ℕ) → SparesGrid e → block_reading (disk.after_all f (calls_of e f)) address ≡ block_reading f address
 unfolding block_reading
-grid_reads f e address h = together_same 8 (block_place address) f (disk.after_all f (calls_of e f)) (λ k a b. same_reads (calls_of e f) f k (grid_spared e f k h (omega (arith, a))))
+grid_reads f e address h =
+    let high = grid_behind address in
+    together_same 8 (block_place address) f (disk.after_all f (calls_of e f)) (λ k a b. same_reads (calls_of e f) f k (grid_spared e f k h (omega (arith, a, high))))
 
 put_reads : (f : Face) (name : Name) (b : List ℕ) → IsLong f → is_some (named name b) ≡ true → block_in (disk.after_all f (put_calls name.address b)) name ≡ Some b
 unfolding put_calls block_reading
@@ -100,7 +104,7 @@ put_reads f name b long whole =
     ap (together (block_place name.address) 8) (after_all_append calls (Sync ∷ []) f)
     ∙ (together_synced 8 (block_place name.address) (disk.after_all f calls) ∙ written_reads name.address b f fits.0 fits.1 long) in
     shows g name ∙ (ap (shown name) reading
-    ∙ (ap (λ (t : Bool). cond (is_some (cond t (named name b) None)) (Some b) None) (lt-ltb name.address 128 fits.0) ∙ ap (λ (t : Bool). cond t (Some b) None) whole))
+    ∙ (ap (λ (t : Bool). cond (is_some (cond t (named name b) None)) (Some b) None) (lt-ltb name.address grid_size fits.0) ∙ ap (λ (t : Bool). cond t (Some b) None) whole))
 
 put_beside : (f : Face) (name other : Name) (b : List ℕ) → is_some (named name b) ≡ true → other.address ≢ name.address
     → block_in (disk.after_all f (put_calls name.address b)) other ≡ block_in f other
@@ -109,9 +113,9 @@ put_beside f name other b whole apart =
     let low = block_place name.address in
     let calls = block_calls name.address b in
     block_spared (calls ++ Sync ∷ []) f other (λ i x y.
-    let outside : (i < low) ⊎ (low + 8 ≤ i) = elim (cases_lt other.address name.address) [
+    let outside : (i < low) ⊎ (low + 8 ≤ i) = elim (blocks_apart other.address name.address apart) [
       | inl before ↦ inl (omega (arith, y, before))
-      | inr behind ↦ inr (omega (arith, x, behind, apart))
+      | inr behind ↦ inr (omega (arith, x, behind))
     ] in
     spares_append i calls (Sync ∷ []) (within_spares low (low + 8) calls i (block_within name.address b) outside) (tt, tt))
 
@@ -124,13 +128,13 @@ copies_spared cs f v h read = λ c l. together_same 20 (20 * c) f (disk.after_al
 header_low : (h : Header) (i : ℕ) → i < 80 → AllByRecursion (Spares i) (header_calls h)
 header_low h i l = header_spares h i (λ q. omega (arith, q, l))
 
-prepare_low : (e : Whole) (i : ℕ) → i < 80 → AllByRecursion (Spares i) (prepare_calls e)
+prepare_low : (e : Whole) (i : ℕ) → i < 80 → AllByRecursion (Spares i) (prepare_calls 1 e)
 prepare_low e i l = prepare_spares e i (inl (omega (arith, l)))
 
 low_spared : (e : Effect) (f : Face) (i : ℕ) → SparesCopies e → i < 80 → AllByRecursion (Spares i) (calls_of e f)
 unfolding put_calls save_calls
-low_spared (Write true e) f i h l = spares_append i (header_calls e.header) (prepare_calls e) (header_low e.header i l) (prepare_low e i l)
-low_spared (Write false e) f i h l = spares_append i (prepare_calls e) (header_calls e.header) (prepare_low e i l) (header_low e.header i l)
+low_spared (Write true e) f i h l = spares_append i (header_calls e.header) (prepare_calls 1 e) (header_low e.header i l) (prepare_low e i l)
+low_spared (Write false e) f i h l = spares_append i (prepare_calls 1 e) (header_calls e.header) (prepare_low e i l) (header_low e.header i l)
 low_spared (Rewrite x) f i h l = header_low x i l
 low_spared (Save old new) f i h l = absurd h
 low_spared (Mend v) f i h l = absurd h

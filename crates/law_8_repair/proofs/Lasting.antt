@@ -6,6 +6,7 @@ use Rattle.std.proofs.lemmas.Nat.{mod-mul-add}
 use Rattle.std.proofs.Math.Nat.{mod-eq_of_lt}
 use Rattle.std.proofs.lemmas.List.{nil_from_length}
 use Rattle.std.proofs.lemmas.List.Elements.{All-filter, All-head, All-tail, Contains-get_or}
+use Rattle.vr_ckpt.specs.Places.{grid_size}
 use Rattle.vr_ckpt.specs.declared.name.Name.{Name}
 use Rattle.vr_super.specs.Copies.{IsGood, SuperValue}
 use Rattle.vr_world.specs.Laws.{IsGoodSave}
@@ -223,7 +224,7 @@ module _ {F : Type 0} (s : Setting F) (Fine : F → Type 0) (Copies : F → Supe
   -- what words around a visit leave
   record VisitLeaves (r : Replica) (f : F) (x : Step) : Type 0 where
     kept : (name : Name) → Known s f r name → Known s (after_all s f x.script) x.replica name
-    found : (name : Name) → 65 ≤ words.place_now r → slice_get (words.blocks_of r) (words.place_now r - 65) ≡ Some name → name.address < 128 → Known s (after_all s f x.script) x.replica name
+    found : (name : Name) → 65 ≤ words.place_now r → slice_get (words.blocks_of r) (words.place_now r - 65) ≡ Some name → name.address < grid_size → Known s (after_all s f x.script) x.replica name
 
   visit_leaves : (v w : Word F) (r : Replica) (f : F) → Standing v → Standing w → r.checkpoint ≤ r.applied → words.is_loaded r ≡ true
       → let x = (v ⨾ words.visit ⨾ w) s r f in x.replica.checkpoint ≡ r.checkpoint → VisitLeaves r f x
@@ -275,7 +276,7 @@ module _ {F : Type 0} (s : Setting F) (Fine : F → Type 0) (Copies : F → Supe
   ]
 
   pub goes_found : {G : List ℕ → Type 0} (r : Replica) (f : F) (x : Step) (name : Name) → Goes G s r f x → r.checkpoint ≤ r.applied → words.is_loaded r ≡ true → x.replica.checkpoint ≡ r.checkpoint → x.replica.cursor ≢ r.cursor
-      → 65 ≤ words.place_now r → slice_get (words.blocks_of r) (words.place_now r - 65) ≡ Some name → name.address < 128 → Known s (after_all s f x.script) x.replica name
+      → 65 ≤ words.place_now r → slice_get (words.blocks_of r) (words.place_now r - 65) ≡ Some name → name.address < grid_size → Known s (after_all s f x.script) x.replica name
   goes_found r f x name goes o loaded same moved high at low = elim goes [
     | rests h keeps ↦ absurd (moved h.cursor)
     | moves p up keeps ↦ absurd (moved p.cursor)

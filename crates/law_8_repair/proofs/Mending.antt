@@ -9,6 +9,7 @@ use Rattle.vr_disk.specs.DiskState as disk
 use Rattle.vr_disk.specs.DiskState.{Face, IsFace}
 use Rattle.vr_ckpt.specs.Blocks.{Content, named}
 use Rattle.vr_ckpt.specs.Grid.{block_reading, named_at, put_calls}
+use Rattle.vr_ckpt.specs.Places.{grid_size}
 use Rattle.vr_ckpt.specs.declared.name.Name.{Name}
 use Rattle.vr_ckpt.proofs.Puts.{name_fits, put_law}
 use Rattle.vr_msg.specs.declared.event.Event.TheVariants as event
@@ -18,7 +19,7 @@ use Rattle.vr_world.specs.Deciding.{first_of, give_block_table, has_missing, is_
 use Rattle.vr_world.specs.Rule.{Rule}
 use Rattle.vr_world.specs.Rule.TheVariants.{BlockMended, BlockTaken, Ignored}
 use Rattle.vr_world.specs.Lying.{lying}
-use Rattle.vr_world.specs.Replica.{Replica, is_frozen}
+use Rattle.vr_world.specs.Replica.{Replica, is_frozen, version}
 use Rattle.vr_world.specs.Rules.{mend_found, not_worn, obey_give_block, on_event, on_give_block, react}
 use Rattle.vr_world.specs.Sectors.{block_in, sectors}
 use Rattle.vr_world.specs.Steps.{PutBlock, Setting, Step, ◌⨾◌, after_all, by, change, does, quiet, reading}
@@ -51,9 +52,9 @@ rule_mended : (a b c : Bool) → a ≡ true → b ≡ false → c ≡ true → f
 unfolding first_of
 rule_mended a b c p q u = rw (p, q, u) refl
 
-from_other : (g : GiveBlock) (r : Replica) (name : Name) {F : Type 0} (s : Setting F) → IsBlockCopy s r name g → is_from g.cluster g.replica r ≡ true
+from_other : (g : GiveBlock) (r : Replica) (name : Name) {F : Type 0} (s : Setting F) → IsBlockCopy s r name g → is_from g.version g.cluster g.replica r ≡ true
 from_other g r name s copy =
-    both_true (eq-eqb g.cluster r.cluster copy.cluster) (both_true (lt-ltb g.replica r.n copy.member) (ap not (ne_eqb g.replica r.index copy.other)))
+    both_true (both_true (eq-eqb g.version (version r) copy.version) (eq-eqb g.cluster r.cluster copy.cluster)) (both_true (lt-ltb g.replica r.n copy.member) (ap not (ne_eqb g.replica r.index copy.other)))
 
 -- ---- the step
 
@@ -88,7 +89,7 @@ module _ {F : Type 0} (s : Setting F) where
       let address : m.address ≡ name.address = eqb-true m.address g.address (and_parts (m.address == g.address) (s.is_block m g.block) finds.passes).0 ∙ copy.address in
       let none : has_missing p r ≡ false = ap (list_any p) bad.loaded in
       let rule : first_of (give_block_table s.is_block g r) ≡ BlockMended =
-      rule_mended (is_from g.cluster g.replica r) (has_missing p r) (list_any p r.worn) (from_other g r name s copy) none finds.any in
+      rule_mended (is_from g.version g.cluster g.replica r) (has_missing p r) (list_any p r.worn) (from_other g r name s copy) none finds.any in
       record {
         at = m;
         address = address;
@@ -105,10 +106,10 @@ unfolding named_at
 block_reads f name m b face done same whole =
     let fits = name_fits name b whole in
     let g : Face = disk.after_all f (put_calls m.address b) in
-    let low : m.address < 128 = (let l = fits.0 in omega (arith, l, same)) in
+    let low : m.address < grid_size = (let l = fits.0 in omega (arith, l, same)) in
     let read : block_reading g name.address ≡ Some b = subst (λ a. block_reading g a ≡ Some b) same (put_law m.address b f low fits.1 face done).done in
     let there : named_at g name ≡ named name b =
-    ap (λ (t : Bool). cond t (option_and_then (named name) (block_reading g name.address)) None) (lt-ltb name.address 128 fits.0) ∙ ap (option_and_then (named name)) read in
+    ap (λ (t : Bool). cond t (option_and_then (named name) (block_reading g name.address)) None) (lt-ltb name.address grid_size fits.0) ∙ ap (option_and_then (named name)) read in
     ap (λ (o : Option Content). cond (is_some o) (block_reading g name.address) None) there ∙ (ap (λ (t : Bool). cond t (block_reading g name.address) None) whole ∙ read)
 
 pub sectors_mend : BlocksMend sectors (λ f. f)

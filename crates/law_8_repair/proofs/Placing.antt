@@ -13,6 +13,7 @@ use Rattle.vr_disk.specs.DiskState.{Face, IsFace}
 use Rattle.vr_disk.proofs.Faces.{face_after_all}
 use Rattle.vr_ckpt.specs.Blocks.{named}
 use Rattle.vr_ckpt.specs.Grid.{block_reading, named_at, put_calls}
+use Rattle.vr_ckpt.specs.Places.{grid_size}
 use Rattle.vr_ckpt.specs.declared.name.Name.{Name}
 use Rattle.vr_ckpt.proofs.Puts.{name_fits}
 use Rattle.vr_msg.specs.declared.event.Event.{Event}
@@ -53,7 +54,7 @@ pub record Loads {F : Type 0} (s : Setting F) (face : F → Face) : Type 0 where
 module _ (f g : Face) (same : (address : ℕ) → block_reading g address ≡ block_reading f address) where
   named_same : (name : Name) → named_at g name ≡ named_at f name
   unfolding named_at
-  named_same name = ap (λ o. cond (nat_lt name.address 128) (option_and_then (named name) o) None) (same name.address)
+  named_same name = ap (λ o. cond (nat_lt name.address grid_size) (option_and_then (named name) o) None) (same name.address)
 
   data_same : (name : Name) (size : ℕ) → data_at g name size ≡ data_at f name size
   unfolding data_at

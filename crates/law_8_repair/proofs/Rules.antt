@@ -32,7 +32,7 @@ use Rattle.vr_msg.specs.declared.statement.Statement.{Statement}
 use Rattle.vr_world.specs.Deciding.{Hash, commit_table, do_view_change_table, get_block_table, get_prepare_table, get_sync_table, get_view_table, give_block_table, give_prepare_table, is_from_primary, is_known, is_wanted, log_of, may_jump, prepare_ok_table, prepare_table, request_table, session_answer, start_view_change_table, start_view_table, sync_view_table, tick_table}
 use Rattle.vr_world.specs.Laws.{HasNames, IsMessage}
 use Rattle.vr_world.specs.Outputs.{do_view_change, to_primary, wait_line}
-use Rattle.vr_world.specs.Replica.{Replica, head, header_at, is_here, is_primary, is_started, last_view, part_at, view_change}
+use Rattle.vr_world.specs.Replica.{Replica, head, header_at, is_here, is_primary, is_started, last_view, part_at, version, view_change}
 use Rattle.vr_world.specs.Rules.{acknowledge, acknowledge_stored, acknowledged, asked_block, asker_by, block_at, give_read, heard_of, idler, make, mend_found, next_entry, next_view, not_worn, obey_commit, obey_do_view_change, obey_get_block, obey_get_prepare, obey_get_sync, obey_get_view, obey_give_block, obey_give_prepare, obey_prepare, obey_prepare_ok, obey_request, obey_start_view, obey_start_view_change, obey_sync_view, obey_tick, on_commit, on_do_view_change, on_get_block, on_get_prepare, on_get_sync, on_get_view, on_give_block, on_give_prepare, on_prepare, on_prepare_ok, on_request, on_start_view, on_start_view_change, on_sync_view, on_tick, put_block, put_found, stored_reply, test_of, with_statement, without}
 use Rattle.vr_world.specs.Sound.{IsCaughtUp, IsSound, IsStated}
 use Rattle.vr_world.specs.Steps.{Setting, Word, ◌⨾◌, after_all, by, change, each, quiet, says, when}
@@ -42,7 +42,7 @@ use Rattle.vr_world.proofs.Combining.{kept_change, kept_when}
 use Rattle.vr_world.proofs.Jumping.{kept_jump, may_jump_is}
 use Rattle.vr_world.proofs.Keeping.{Kept}
 use Rattle.vr_world.proofs.Reacting.{keeps_idler, may_store_next}
-use Rattle.vr_world.proofs.Ruling.{by_rows, group_of, group_of_primary, in_view, keeps_heard, kept_statement, may_store_given, may_store_prepare, told_log, told_sync}
+use Rattle.vr_world.proofs.Ruling.{IsFor, by_rows, for_of, group_of, group_of_primary, in_view, keeps_heard, kept_statement, may_store_given, may_store_prepare, told_log, told_sync}
 use Rattle.vr_world.proofs.Storing.{MayStore}
 use Rattle.vr_world.specs.Given.{IsLogFor}
 use Rattle.vr_world.proofs.Taking.{MayTake, kept_take, may_take_is}
@@ -163,7 +163,7 @@ module _ {F : Type 0} (s : Setting F) where
                         let full = or_parts (nat_le 8 (head r - r.commit)) (nat_le (2 ^ 62) (head r)) n5 in
                         let few = leb-false 8 (head r - r.commit) full.0 in
                         let known = h.order.known in
-                        let may = may_store_next s.hash q r names h m (eqb-true q.cluster r.cluster (not-false _ n0)) (eqb-true r.view r.log_view lead.0) last (ltb-false r.applied r.commit behind.1) (omega arith) (leb-false (2 ^ 62) (head r) full.1) in
+                        let may = may_store_next s.hash q r names h m (for_of q.version q.cluster r (not-false _ n0)) (eqb-true r.view r.log_view lead.0) last (ltb-false r.applied r.commit behind.1) (omega arith) (leb-false (2 ^ 62) (head r) full.1) in
                         up_by s _ r f (up_make (next_entry s.hash q r) r f h may),
                     λ n6. idle,
                   ),
@@ -194,9 +194,9 @@ module _ {F : Type 0} (s : Setting F) where
       let op : ℕ = p.entry.header.op in
       let idle = up_calm s quiet r f u calm_quiet in
       let rests = up_calm s _ r f u calm_rested in
-      let may : not (is_from_primary p.entry.header.cluster p.replica p.view r) ≡ false → nat_lt r.log_view p.view ≡ false → nat_le op r.checkpoint ≡ false
+      let may : not (is_from_primary p.version p.entry.header.cluster p.replica p.view r) ≡ false → nat_lt r.log_view p.view ≡ false → nat_le op r.checkpoint ≡ false
       → nat_lt (r.checkpoint + 64) op ≡ false → MayStore p.entry (rested r) =
-      λ a b c d. may_store_prepare p r m (group_of_primary p.entry.header.cluster p.replica p.view r a) (ltb-false r.log_view p.view b) (leb-false op r.checkpoint c) (ltb-false (r.checkpoint + 64) op d) in
+      λ a b c d. may_store_prepare p r m (group_of_primary p.version p.entry.header.cluster p.replica p.view r a) (ltb-false r.log_view p.view b) (leb-false op r.checkpoint c) (ltb-false (r.checkpoint + 64) op d) in
       up_naming s _ r f (up_by s _ r f (by_rows (λ x. UpBy (obey_prepare s.hash p x) s r f) (prepare_table s.hash p r) (
         λ t. idle,
         λ n0. (
@@ -271,7 +271,7 @@ module _ {F : Type 0} (s : Setting F) where
         ),
       ))
 
-  up_stated : (d : DoViewChange) (r : Replica) (f : F) → IsMessage (frame.DoViewChange d) → IsSound r → IsCaughtUp r → d.cluster ≡ r.cluster → r.view ≤ d.view
+  up_stated : (d : DoViewChange) (r : Replica) (f : F) → IsMessage (frame.DoViewChange d) → IsSound r → IsCaughtUp r → IsFor d.version d.cluster r → r.view ≤ d.view
       → UpBy (by (λ r. when (nat_lt r.view d.view) (enter d.view)) ⨾ change (with_statement d.replica d.statement) ⨾ try) s r f
   unfolding ◌⨾◌ by
   up_stated d r f m h u g a =
@@ -285,8 +285,8 @@ module _ {F : Type 0} (s : Setting F) where
       let low : nat_lt last_view d.view ≡ false = le-ltb last_view d.view (omega arith) in
       let at = in_view d.view b s r f refl low a in
       let older = form.log_view in
-      let is : IsStated q.cluster q.view d.statement =
-      rw (at.0, at.1, ← g) (record { statement = form.statement; values = m.body; view = omega arith }) in
+      let is : IsStated (version q) q.cluster q.view d.statement =
+      rw (at.0, at.1, at.2, ← g.0, ← g.1) (record { statement = form.statement; values = m.body; view = omega arith }) in
       let after = up_calm_then s (change (with_statement d.replica d.statement)) try q (after_all s f w.script) v (calm_statement d.replica d.statement)
       (kept_change (with_statement d.replica d.statement) s q (after_all s f w.script) (kept_statement d.replica d.statement q k.sound is)) (λ p e i y. up_try p e i y) in
       record { up = after.up }
@@ -302,7 +302,7 @@ module _ {F : Type 0} (s : Setting F) where
           λ n1. (
             λ t. up_calm s _ r f u (calm_says _),
             λ n2. (
-              λ t. up_stated d r f m h u (group_of d.cluster d.replica r (not-false _ n0)) (ltb-false d.view r.view (or_parts (nat_lt d.view r.view) _ n1).0),
+              λ t. up_stated d r f m h u (group_of d.version d.cluster d.replica r (not-false _ n0)) (ltb-false d.view r.view (or_parts (nat_lt d.view r.view) _ n1).0),
               λ n3. idle,
             ),
           ),
@@ -317,7 +317,7 @@ module _ {F : Type 0} (s : Setting F) where
         λ t. idle,
         λ n0. (
           λ t.
-              let log = told_log v r m (group_of_primary v.cluster v.replica v.view r n0) in
+              let log = told_log v r m (group_of_primary v.version v.cluster v.replica v.view r n0) in
               let may = may_take_is s.hash (log_of v) r (and_parts (may_take s.hash (log_of v) r) _ t).0 in
               up_then s (take (log_of v)) _ r f (kept_take (log_of v) s r f h log may) (settles_told s.hash v.head),
           λ n1. (λ t. up_calm s _ r f u (calm_says _), λ n2. idle),
@@ -340,7 +340,7 @@ module _ {F : Type 0} (s : Setting F) where
         λ t. idle,
         λ n0. (
           λ t.
-              let is = told_sync v r m (group_of_primary v.cluster v.replica v.view r n0) in
+              let is = told_sync v r m (group_of_primary v.version v.cluster v.replica v.view r n0) in
               let may = may_jump_is s.hash v r (and_parts (may_jump s.hash v r) _ t).0 in
               up_then s (jump v) _ r f (kept_jump v s r f h is may) (settles_told s.hash v.head),
           λ n1. idle,

@@ -1,6 +1,6 @@
 -- Words that write no prepare, and after which no entry is here that wasn't before.
 use Rattle.std.proofs.Common.{arith, ℕ, zero, suc, ◌+◌, ◌-◌, ◌≡◌, ◌∙◌, inl, inr, refl, sym, ap, Bool, true, false, cond, List, [], ◌∷◌, ◌++◌, map, length, get_or, replicate, max, Option, Some, None}
-use Rattle.std.specs.Prelude.{All, Result, Ok, Err, nat_le, nat_lt}
+use Rattle.std.specs.Prelude.{All, nat_le, nat_lt}
 use Rattle.std.specs.List.{range_with_len}
 use Rattle.std.specs.Option.{option_map_or}
 use Rattle.std.proofs.lemmas.Bool.{cases_lt, le-ltb, lt-ltb}
@@ -19,7 +19,6 @@ use Rattle.vr_ckpt.specs.declared.found.Load.TheVariants.{Loaded, Missing}
 use Rattle.vr_ckpt.specs.declared.table.PayloadTable.{PayloadTable}
 use Rattle.vr_ckpt.specs.State.{State}
 use Rattle.vr_ckpt.specs.StateTexts.{state_decoded}
-use Rattle.vr_ckpt.specs.StateFault.{StateFault}
 use Rattle.vr_ckpt.specs.declared.saving.SavedCheckpoint as checkpoint
 use Rattle.vr_msg.specs.declared.choice.Choice.{Choice}
 use Rattle.vr_msg.specs.declared.choice.Choice.TheVariants.{Ends, WaitsAt, TooFew}
@@ -27,9 +26,10 @@ use Rattle.vr_msg.specs.declared.frame.Frame.{Frame}
 use Rattle.vr_msg.specs.declared.frame.SyncView.{SyncView}
 use Rattle.vr_msg.specs.declared.output.Output.{Output}
 use Rattle.vr_msg.specs.declared.statement.Statement.{Statement}
-use Rattle.vr_world.specs.Replica.{Replica, forgetting, part_at, with_part}
+use Rattle.vr_world.specs.Replica.{Replica, forgetting, part_at, version, with_part}
 use Rattle.vr_world.specs.Steps.{Effect, Write, Say, Setting, Word, ◌⨾◌, after_all, by, change, does, each, naming, quiet, reading, says, times, when}
 use Rattle.vr_world.specs.Words as words
+use Rattle.vr_world.specs.Words.{usable}
 use Rattle.vr_world.proofs.Heads.{forgetting_at, forgetting_before, gone}
 use Rattle.vr_world.proofs.Jumping.{landed}
 use Rattle.law_8_repair.proofs.Settling.{lost_before}
@@ -184,13 +184,13 @@ lost_cursor : (h : Header) (r : Replica) → (words.lost h r).cursor ≡ r.curso
 unfolding with_part
 lost_cursor h r = refl
 
-state_cursor : (root : Name) (table : PayloadTable) (o : Result State StateFault) (r : Replica) → (words.loaded_state root table o r).cursor ≡ r.cursor
+state_cursor : (root : Name) (table : PayloadTable) (o : Option State) (r : Replica) → (words.loaded_state root table o r).cursor ≡ r.cursor
 unfolding words.with_state
-state_cursor root table (Ok t) r = refl
-state_cursor root table (Err fault) r = refl
+state_cursor root table (Some t) r = refl
+state_cursor root table None r = refl
 
 loads_cursor : (root : Name) (l : Load) (r : Replica) → (words.loads root l r).cursor ≡ r.cursor
-loads_cursor root (Loaded texts table) r = state_cursor root table (state_decoded texts) r
+loads_cursor root (Loaded texts table) r = state_cursor root table (usable (version r) (state_decoded texts)) r
 loads_cursor root (Missing names) r = refl
 
 -- ---- words

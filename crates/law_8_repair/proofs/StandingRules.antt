@@ -1,6 +1,6 @@
 -- What each step does of the places of a disk: nothing, unless it visits one, mends a block, or loads or makes a checkpoint.
 use Rattle.std.proofs.Common.{arith, ℕ, zero, suc, ◌+◌, ◌≡◌, ◌≢◌, ◌<◌, ◌≤◌, ◌∙◌, refl, sym, ap, subst, Bool, true, false, cond, not, List, [], ◌∷◌, ◌++◌, length, Option, Some, None}
-use Rattle.std.specs.Prelude.{Contains, Result, Ok, Err, ⊤, find, is_some, nat_le, nat_lt, ◌==◌}
+use Rattle.std.specs.Prelude.{Contains, Ok, ⊤, find, is_some, nat_le, nat_lt, ◌==◌}
 use Rattle.std.specs.Option.{option_map_or}
 use Rattle.std.proofs.lemmas.Bool.{and_parts, ltb-false, ne_eqb, true≢false}
 use Rattle.vr_header.specs.declared.header.Header.{Header}
@@ -9,7 +9,6 @@ use Rattle.vr_ckpt.specs.Folds.{empty}
 use Rattle.vr_ckpt.specs.StateTexts.{state_decoded}
 use Rattle.vr_ckpt.specs.Texts.{Texts}
 use Rattle.vr_ckpt.specs.State.{State}
-use Rattle.vr_ckpt.specs.StateFault.{StateFault}
 use Rattle.vr_ckpt.specs.Places as places
 use Rattle.vr_ckpt.specs.declared.found.Load.{Load}
 use Rattle.vr_ckpt.specs.declared.found.Load.TheVariants.{Loaded, Missing}
@@ -37,11 +36,13 @@ use Rattle.vr_msg.specs.declared.request.RequestFields.{RequestFields}
 use Rattle.vr_msg.specs.Choice.{ops}
 use Rattle.vr_world.specs.Deciding.{Hash, commit_table, do_view_change_table, first_of, get_block_table, get_prepare_table, get_sync_table, get_view_table, give_block_table, give_prepare_table, is_wanted, log_of, may_jump, prepare_ok_table, prepare_table, request_table, session_answer, start_view_change_table, start_view_table, sync_view_table, tick_table}
 use Rattle.vr_world.specs.Outputs as told
-use Rattle.vr_world.specs.Replica.{Replica, forgetting, head, header_at, is_frozen, is_here, part_at}
+use Rattle.vr_world.specs.Replica.{Replica, forgetting, head, header_at, is_frozen, is_here, part_at, version}
 use Rattle.vr_world.specs.Rules as rules
 use Rattle.vr_world.specs.Fit.{IsFit}
 use Rattle.vr_world.specs.Steps.{Effect, PutBlock, Setting, Step, Word, ◌⨾◌, after_all, by, change, does, each, naming, quiet, reading, says, when}
 use Rattle.vr_world.specs.Words as words
+use Rattle.vr_world.specs.Words.{usable}
+use Rattle.vr_world.proofs.Wording.{usable_is}
 use Rattle.vr_world.specs.Asker.{Asker}
 use Rattle.vr_world.specs.Rule.{Rule}
 use Rattle.vr_world.specs.Rule.TheVariants.{Ahead, Answered, Behind, Beyond, BlockGiven, ChangeDone, ChangeHeard, ChangeLater, CommitHeard, CommitLater, Counted, EntryGiven, EntryTaken, Full, Known, Made, Next, Other, Past, PreparedLater, Redirected, Stated, StatedLate, SyncAsked, SyncGiven, Taken, TickedBackup, TickedChanging, TickedPrimary, ViewGiven}
@@ -129,13 +130,13 @@ pub data Goes {F : Type 0} (G : List ℕ → Type 0) (s : Setting F) (r : Replic
 abbrev pub rest : Replica → Aspect
 rest r = aspect (record r { missing = []; table = places.empty; state = empty })
 
-loaded_rest : (root : Name) (table : PayloadTable) (o : Result State StateFault) (r : Replica) → rest (words.loaded_state root table o r) ≡ rest r
+loaded_rest : (root : Name) (table : PayloadTable) (o : Option State) (r : Replica) → rest (words.loaded_state root table o r) ≡ rest r
 unfolding words.with_state
-loaded_rest root table (Ok t) r = refl
-loaded_rest root table (Err fault) r = refl
+loaded_rest root table (Some t) r = refl
+loaded_rest root table None r = refl
 
 loads_rest : (root : Name) (l : Load) (r : Replica) → rest (words.loads root l r) ≡ rest r
-loads_rest root (Loaded texts table) r = loaded_rest root table (state_decoded texts) r
+loads_rest root (Loaded texts table) r = loaded_rest root table (usable (version r) (state_decoded texts)) r
 loads_rest root (Missing names) r = refl
 
 rest_passes : (r q : Replica) (es : List Effect) → rest q ≡ rest r → r.checkpoint ≤ r.applied → Chain r.saved es r.saved → Passes r (step_of q es)
@@ -155,29 +156,29 @@ record Puts {F : Type 0} (s : Setting F) (r : Replica) (x : Step) : Type 0 where
   pub rest_same : rest x.replica ≡ rest r
   pub from : words.is_loaded x.replica ≡ true → FromLoad s x.replica
 
-from_state : {F : Type 0} (s : Setting F) (f : F) (texts : Texts) (table : PayloadTable) (o : Result State StateFault) (r : Replica) → s.loaded f r.root ≡ Loaded texts table
+from_state : {F : Type 0} (s : Setting F) (f : F) (texts : Texts) (table : PayloadTable) (o : Option State) (r : Replica) → s.loaded f r.root ≡ Loaded texts table
     → words.is_loaded (words.loaded_state r.root table o r) ≡ true → FromLoad s (words.loaded_state r.root table o r)
 unfolding words.with_state
-from_state s f texts table (Ok t) r e loaded = some f texts e
-from_state s f texts table (Err fault) r e loaded = absurd (true≢false (sym loaded ∙ ne_eqb 1 0 (λ i. absurd (omega (arith, i)))))
+from_state s f texts table (Some t) r e loaded = some f texts e
+from_state s f texts table None r e loaded = absurd (true≢false (sym loaded ∙ ne_eqb 1 0 (λ i. absurd (omega (arith, i)))))
 
 from_loads : {F : Type 0} (s : Setting F) (f : F) (l : Load) (r : Replica) → s.loaded f r.root ≡ l → words.is_loaded (words.loads r.root l r) ≡ true → FromLoad s (words.loads r.root l r)
-from_loads s f (Loaded texts table) r e loaded = from_state s f texts table (state_decoded texts) r e loaded
+from_loads s f (Loaded texts table) r e loaded = from_state s f texts table (usable (version r) (state_decoded texts)) r e loaded
 from_loads s f (Missing []) r e loaded = unnamed f e
 from_loads s f (Missing (name ∷ names)) r e loaded = absurd (true≢false (sym loaded ∙ ne_eqb (length (name ∷ names)) 0 (λ i. absurd (omega (arith, i)))))
 
 -- what a load leaves of what checkpoints are made of
-read_stocks : (root : Name) (table : PayloadTable) (texts : Texts) (o : Result State StateFault) (q : Replica) → IsBytes texts.sessions × IsBytes texts.keys → IsInPlaces table → state_decoded texts ≡ o
+read_stocks : (root : Name) (table : PayloadTable) (texts : Texts) (o : Option State) (q : Replica) → IsBytes texts.sessions × IsBytes texts.keys → IsInPlaces table → ((s : State) → o ≡ Some s → state_decoded texts ≡ Ok s)
     → IsStocked q → IsStocked (words.loaded_state root table o q)
 unfolding words.with_state
-read_stocks root table texts (Ok st) q are places e k = let x = state_read texts st are.0 are.1 e in record { sessions = x.sessions; machine = x.machine; table = places }
-read_stocks root table texts (Err fault) q are places e k = k
+read_stocks root table texts (Some st) q are places e k = let x = state_read texts st are.0 are.1 (e st refl) in record { sessions = x.sessions; machine = x.machine; table = places }
+read_stocks root table texts None q are places e k = k
 
 -- and where the root stands
-read_roots : (root : Name) (table : PayloadTable) (o : Result State StateFault) (q : Replica) → StandsAt 0 q.root → IsRooted (words.loaded_state root table o q)
+read_roots : (root : Name) (table : PayloadTable) (o : Option State) (q : Replica) → StandsAt 0 q.root → IsRooted (words.loaded_state root table o q)
 unfolding words.with_state
-read_roots root table (Ok st) q at = λ none some. at
-read_roots root table (Err fault) q at = λ none some. absurd cc
+read_roots root table (Some st) q at = λ none some. at
+read_roots root table None q at = λ none some. absurd cc
 
 -- nothing of what is missing is known as bad
 lacks : (r : Replica) → words.is_loaded r ≡ false → r.missing ≢ []
@@ -217,7 +218,7 @@ module _ {F : Type 0} where
   ]
 
   loads_stocks : (s : Setting F) (g : F) (root : Name) (l : Load) (q : Replica) → LoadsApart s → LoadsBytes s g → s.loaded g root ≡ l → IsStocked q → IsStocked (words.loads root l q)
-  loads_stocks s g root (Loaded texts table) q apart are e k = read_stocks root table texts (state_decoded texts) q (are root texts table e) (apart.places g root texts table e).1 refl k
+  loads_stocks s g root (Loaded texts table) q apart are e k = read_stocks root table texts (usable (version q) (state_decoded texts)) q (are root texts table e) (apart.places g root texts table e).1 (λ s i. (usable_is (version q) (state_decoded texts) s i).0) k
   loads_stocks s g root (Missing names) q apart are e k = k
 
   pub load_stocks : (s : Setting F) (q : Replica) (g : F) → LoadsApart s → LoadsBytes s g → IsStocked q → IsStocked (words.load s q g).replica
@@ -229,7 +230,7 @@ module _ {F : Type 0} where
       ]
 
   loads_roots : (s : Setting F) (g : F) (l : Load) (q : Replica) → LoadsApart s → s.loaded g q.root ≡ l → IsRooted (words.loads q.root l q)
-  loads_roots s g (Loaded texts table) q apart e = read_roots q.root table (state_decoded texts) q (apart.places g q.root texts table e).0
+  loads_roots s g (Loaded texts table) q apart e = read_roots q.root table (usable (version q) (state_decoded texts)) q (apart.places g q.root texts table e).0
   loads_roots s g (Missing []) q apart e = absurd (apart.some g q.root e)
   loads_roots s g (Missing (name ∷ names)) q apart e = λ none some. absurd cc
 

@@ -20,7 +20,7 @@ use Rattle.vr_rings.specs.Slots.{IsWhole}
 use Rattle.vr_world.specs.Deciding.{first_of, give_prepare_table, is_from, is_known}
 use Rattle.vr_world.specs.Rule.{Rule}
 use Rattle.vr_world.specs.Rule.TheVariants.{EntryTaken, Ignored}
-use Rattle.vr_world.specs.Replica.{Replica, forgetting, is_absent, is_frozen, is_here, is_primary, is_started, last_view, part_at, with_part}
+use Rattle.vr_world.specs.Replica.{Replica, forgetting, is_absent, is_frozen, is_here, is_primary, is_started, last_view, part_at, version, with_part}
 use Rattle.vr_world.specs.Rules.{obey_give_prepare, on_event, on_give_prepare, react}
 use Rattle.vr_world.specs.Sound.{IsSound}
 use Rattle.vr_world.specs.Steps.{Effect, Write, Setting, Step, Word, ◌⨾◌, after_all, by, change, does, naming, says}
@@ -54,8 +54,8 @@ copy_taken g r sound copy above absent =
     let h : Header = g.entry.header in
     let order = sound.order.applied in
     let group = (sound.entries.each h.op h copy.named).1.of_group in
-    rule_taken (is_from h.cluster g.replica r) (nat_lt r.checkpoint h.op) (is_known h h.op r) (is_absent (part_at r h.op))
-    (both_true (eq-eqb h.cluster r.cluster group) (both_true (lt-ltb g.replica r.n copy.member) (ap not (ne_eqb g.replica r.index copy.other))))
+    rule_taken (is_from g.version h.cluster g.replica r) (nat_lt r.checkpoint h.op) (is_known h h.op r) (is_absent (part_at r h.op))
+    (both_true (both_true (eq-eqb g.version (version r) copy.version) (eq-eqb h.cluster r.cluster group)) (both_true (lt-ltb g.replica r.n copy.member) (ap not (ne_eqb g.replica r.index copy.other))))
     (lt-ltb r.checkpoint h.op (omega arith))
     (ap (λ (o : Option Header). option_map_or (λ d. same_header d h) o false) copy.named ∙ same_header_of h h refl)
     absent
@@ -96,6 +96,7 @@ stored_other e r j sound above from other =
 record Alike (r q : Replica) : Type 0 where
   n : q.n ≡ r.n
   index : q.index ≡ r.index
+  version : version q ≡ version r
   view : q.view ≡ r.view
   commit : q.commit ≡ r.commit
   applied : q.applied ≡ r.applied
@@ -104,7 +105,7 @@ record Alike (r q : Replica) : Type 0 where
 
 stored_alike : (e : Whole) (r : Replica) → Alike r (stored e r)
 unfolding forgetting with_part
-stored_alike e r = record { n = refl; index = refl; view = refl; commit = refl; applied = refl; missing = refl; saved = refl }
+stored_alike e r = record { n = refl; index = refl; version = refl; view = refl; commit = refl; applied = refl; missing = refl; saved = refl }
 
 -- slots of ops of a window are apart
 slots_apart : (c k j : ℕ) → c < k → k ≤ c + 64 → c < j → j ≤ c + 64 → k ≢ j → k % 64 ≢ j % 64
@@ -120,6 +121,7 @@ module _ {F : Type 0} (s : Setting F) (Fine : F → Type 0) (store : Stores s Fi
     pub fine : Fine g
     pub n : q.n ≡ r.n
     pub index : q.index ≡ r.index
+    pub version : version q ≡ version r
     pub commit : q.commit ≡ r.commit
     pub up : r.applied ≤ q.applied
     pub here : is_here (part_at q k) ≡ true
@@ -133,9 +135,9 @@ module _ {F : Type 0} (s : Setting F) (Fine : F → Type 0) (store : Stores s Fi
   read_same h e f same is =
       ap (λ (o : Option Whole). option_and_then (λ x. cond (same_header x.header h) (Some x) None) o) is ∙ ap (λ (b : Bool). cond b (Some e) None) (same_header_of e.header h same)
 
-  stored_read : (e : Whole) (again : Bool) (r : Replica) (f g : F) → LacksEntries s r f → Fine f → IsWhole e → r.checkpoint < e.header.op → e.header.op ≤ r.commit
+  stored_read : (e : Whole) (again : Bool) (r : Replica) (f g : F) → LacksEntries s r f → Fine f → IsWhole e → e.header.version ≤ 1 → r.checkpoint < e.header.op → e.header.op ≤ r.commit
       → ((slot : ℕ) → slot < 64 → s.entry g slot ≡ s.entry (s.after f (Write again e)) slot) → AllRead s (stored e r) g
-  stored_read e again r f g lacks fine whole above within same =
+  stored_read e again r f g lacks fine whole few above within same =
       λ j x a b is.
       let sound = lacks.sound in
       let like = stored_alike e r in
@@ -149,7 +151,7 @@ module _ {F : Type 0} (s : Setting F) (Fine : F → Type 0) (store : Stores s Fi
             let at : part_at (stored e r) e.header.op ≡ Here x = subst (λ i. part_at (stored e r) i ≡ Here x) same_op is in
             let two : Here e.header ≡ Here x = sym (stored_here e r sound above within) ∙ at in
             let one : e.header ≡ x = cc in
-            let there : s.entry g (e.header.op % 64) ≡ Some e = same (e.header.op % 64) (mod_below e.header.op 64 (omega arith)) ∙ store.written f again e fine whole in
+            let there : s.entry g (e.header.op % 64) ≡ Some e = same (e.header.op % 64) (mod_below e.header.op 64 (omega arith)) ∙ store.written f again e fine whole few in
             (e, subst (λ (h : Header). entry_of h s g ≡ Some e) one (read_same e.header e g refl there))
         | inr other ↦
             let old : part_at r j ≡ Here x = sym (stored_other e r j sound above (omega (arith, from, low)) other) ∙ is in
@@ -175,6 +177,7 @@ module _ {F : Type 0} (s : Setting F) (Fine : F → Type 0) (store : Stores s Fi
       let old = lacks.room in
       record {
         lacks = record {
+          version = c.goes.version ∙ (like.version ∙ lacks.version);
           sound = ((keeps_apply {F = F}).every s q g sound).kept.sound;
           loaded = c.goes.missing ∙ like.missing ∙ lacks.loaded;
           reads = read_on s Fine store q x.replica g (after_all s g x.script) c.goes up (λ slot b. same_entries s Fine store x.script g slot (dry_apply.every s q g) b) reads;
@@ -184,6 +187,7 @@ module _ {F : Type 0} (s : Setting F) (Fine : F → Type 0) (store : Stores s Fi
         fine = fine_after s Fine store x.script g fine;
         n = c.goes.n ∙ like.n;
         index = c.goes.index ∙ like.index;
+        version = c.goes.version ∙ like.version;
         commit = c.goes.commit ∙ like.commit;
         up = omega (arith, up, like.applied);
         here = ap is_here (c.goes.parts e.header.op ∙ stored_here e r lacks.sound above within);
@@ -222,27 +226,27 @@ module _ {F : Type 0} (s : Setting F) (Fine : F → Type 0) (store : Stores s Fi
   after_one f e = refl
 
   -- from the written entry on
-  told_taken : (e : Whole) (r : Replica) (f : F) → LacksEntries s r f → Fine f → IsSound (stored e r) → IsWhole e → r.checkpoint < e.header.op → e.header.op ≤ r.commit
+  told_taken : (e : Whole) (r : Replica) (f : F) → LacksEntries s r f → Fine f → IsSound (stored e r) → IsWhole e → e.header.version ≤ 1 → r.checkpoint < e.header.op → e.header.op ≤ r.commit
       → let g = after_all s f (writes e r ∷ []) in
       Taken e.header.op r ((resend e ⨾ apply) s (stored e r) g).replica (after_all s g ((resend e ⨾ apply) s (stored e r) g).script)
-  told_taken e r f lacks fine sound whole above within =
+  told_taken e r f lacks fine sound whole few above within =
       let q : Replica = stored e r in
       let g = after_all s f (writes e r ∷ []) in
       let x = resend e s q g in
       let g2 = after_all s g x.script in
       let fine2 : Fine g2 = fine_after s Fine store x.script g (fine_after s Fine store (writes e r ∷ []) f fine) in
       let reads : AllRead s q g2 =
-      stored_read e (may_be_stored (part_at r e.header.op)) r f g2 lacks fine whole above within
+      stored_read e (may_be_stored (part_at r e.header.op)) r f g2 lacks fine whole few above within
       (λ slot b. same_entries s Fine store x.script g slot ((dry_resend e).every s q g) b ∙ ap (λ (y : F). s.entry y slot) (after_one f (writes e r))) in
       at_end (Taken e.header.op r) (resend e) apply q g
       (subst (λ (p : Replica). Taken e.header.op r (apply s p g2).replica (after_all s g2 (apply s p g2).script)) (sym (resend_still e q g)) (applied_taken e r f g2 lacks fine2 sound reads above within))
 
-  all_taken : (e : Whole) (r : Replica) (f : F) → LacksEntries s r f → Fine f → IsSound (stored e r) → IsWhole e → r.checkpoint < e.header.op → e.header.op ≤ r.commit
+  all_taken : (e : Whole) (r : Replica) (f : F) → LacksEntries s r f → Fine f → IsSound (stored e r) → IsWhole e → e.header.version ≤ 1 → r.checkpoint < e.header.op → e.header.op ≤ r.commit
       → let x = (write e ⨾ (resend e ⨾ apply)) s r f in Taken e.header.op r x.replica (after_all s f x.script)
-  all_taken e r f lacks fine sound whole above within =
+  all_taken e r f lacks fine sound whole few above within =
       at_end (Taken e.header.op r) (write e) (resend e ⨾ apply) r f
       (subst (λ (y : Step). let g = after_all s f y.script in Taken e.header.op r ((resend e ⨾ apply) s y.replica g).replica (after_all s g ((resend e ⨾ apply) s y.replica g).script)) (sym (write_is e r f))
-      (told_taken e r f lacks fine sound whole above within))
+      (told_taken e r f lacks fine sound whole few above within))
 
   react_is : (g : GivePrepare) (r : Replica) (f : F) → not (is_frozen r) ≡ true → first_of (give_prepare_table g r) ≡ EntryTaken
       → react (event.Deliver (frame.GivePrepare g)) s r f ≡ (write g.entry ⨾ (resend g.entry ⨾ apply)) s r f
@@ -265,8 +269,10 @@ module _ {F : Type 0} (s : Setting F) (Fine : F → Type 0) (store : Stores s Fi
       let rule = copy_taken g r sound copy from absent in
       let known : is_known e.header e.header.op r ≡ true =
       ap (λ (o : Option Header). option_map_or (λ d. same_header d e.header) o false) copy.named ∙ same_header_of e.header e.header refl in
-      let keeps = kept_stored e r sound (may_store_given e r sound above known) in
-      subst (λ (y : Step). Taken e.header.op r y.replica (after_all s f y.script)) (sym (react_is g r f warm rule)) (all_taken e r f lacks fine keeps.sound copy.entry above upto)
+      let may = may_store_given e r sound above known in
+      let few = subst (λ v. e.header.version ≤ v) lacks.version may.is_entry.of_version in
+      let keeps = kept_stored e r sound may in
+      subst (λ (y : Step). Taken e.header.op r y.replica (after_all s f y.script)) (sym (react_is g r f warm rule)) (all_taken e r f lacks fine keeps.sound copy.entry few above upto)
 
   pub copy_comes : (g : GivePrepare) (k : ℕ) (r : Replica) (f : F) → LacksEntries s r f → Fine f → IsCopy r k g → r.applied < k → k ≤ r.commit → is_absent (part_at r k) ≡ true
       → let x = react (event.Deliver (frame.GivePrepare g)) s r f in Taken k r x.replica (after_all s f x.script)

@@ -1,6 +1,6 @@
 -- Words that leave a replica caught up, and what is made of them.
 use Rattle.std.proofs.Common.{ℕ, ◌+◌, ◌-◌, ◌≡◌, ◌∙◌, arith, refl, sym, ap, subst, Bool, true, false, cond, List, [], ◌∷◌, map, Option, Some, None}
-use Rattle.std.specs.Prelude.{Result, Ok, Err, nat_lt, not, slice_get, ◌==◌}
+use Rattle.std.specs.Prelude.{nat_lt, not, slice_get, ◌==◌}
 use Rattle.vr_header.specs.declared.header.Header.{Header}
 use Rattle.vr_header.specs.declared.part.Part.{Part}
 use Rattle.vr_header.specs.declared.part.Part.TheVariants.{Here, Lost, Wanted, Unknown, Nothing}
@@ -12,13 +12,12 @@ use Rattle.vr_ckpt.specs.declared.found.Load.TheVariants.{Loaded, Missing}
 use Rattle.vr_ckpt.specs.declared.table.PayloadTable.{PayloadTable}
 use Rattle.vr_ckpt.specs.State.{State}
 use Rattle.vr_ckpt.specs.StateTexts.{state_decoded}
-use Rattle.vr_ckpt.specs.StateFault.{StateFault}
 use Rattle.vr_msg.specs.declared.frame.Frame.{Frame}
 use Rattle.vr_msg.specs.declared.output.Output.{Output}
-use Rattle.vr_world.specs.Replica.{Replica, is_here, part_at}
+use Rattle.vr_world.specs.Replica.{Replica, is_here, part_at, version}
 use Rattle.vr_world.specs.Sound.{IsCaughtUp, IsSound}
 use Rattle.vr_world.specs.Steps.{Effect, Mend, Say, Setting, Word, ◌⨾◌, after_all, by, change, does, each, naming, quiet, reading, says, when}
-use Rattle.vr_world.specs.Words.{advance, advanced, apply, ask, ask_for, ask_peer, enter, entered, entry_of, learn, learned, load, loaded_state, loads, or_lost, prepare_again, resend, rested, save, value_of, with_entry, with_entry_at, with_state, blocks_of, is_loaded, mend_header, op_of_slot, place_now, visit, visit_block, visit_place, visit_read, visit_slot, with_cursor, with_worn}
+use Rattle.vr_world.specs.Words.{advance, advanced, apply, ask, ask_for, ask_peer, enter, entered, entry_of, learn, learned, load, loaded_state, loads, or_lost, prepare_again, resend, rested, save, value_of, with_entry, with_entry_at, with_state, blocks_of, is_loaded, mend_header, op_of_slot, place_now, visit, visit_block, visit_place, visit_read, visit_slot, with_cursor, with_worn, usable}
 use Rattle.vr_world.proofs.Combining.{KeptBy}
 use Rattle.law_8_repair.proofs.Settling.{Placed, placed_lost, placed_of, times_settle, up_lost}
 
@@ -51,14 +50,14 @@ pub record Settles {F : Type 0} (w : Word F) : Type 0 where
   pub every : (s : Setting F) (r : Replica) (f : F) → Placed r → IsCaughtUp (w s r f).replica
 
 -- loading changes no part
-loaded_parts : (root : Name) (table : PayloadTable) (o : Result State StateFault) (r : Replica) (k : ℕ) → part_at (loaded_state root table o r) k ≡ part_at r k
+loaded_parts : (root : Name) (table : PayloadTable) (o : Option State) (r : Replica) (k : ℕ) → part_at (loaded_state root table o r) k ≡ part_at r k
 unfolding with_state part_at
-loaded_parts root table (Ok t) r k = refl
-loaded_parts root table (Err fault) r k = refl
+loaded_parts root table (Some t) r k = refl
+loaded_parts root table None r k = refl
 
 pub loads_parts : (root : Name) (l : Load) (r : Replica) (k : ℕ) → part_at (loads root l r) k ≡ part_at r k
 unfolding part_at
-loads_parts root (Loaded texts table) r k = loaded_parts root table (state_decoded texts) r k
+loads_parts root (Loaded texts table) r k = loaded_parts root table (usable (version r) (state_decoded texts)) r k
 loads_parts root (Missing names) r k = refl
 
 module _ {F : Type 0} where

@@ -4,6 +4,7 @@ use Rattle.std.specs.Prelude.{All, Contains, nat_lt, slice_get, ◌==◌, ◌&&�
 use Rattle.std.specs.List.{list_any}
 use Rattle.std.proofs.lemmas.Bool.{eq-eqb, eqb-true, ltb-false, ltb-true, lt-ltb, true≢false}
 use Rattle.std.proofs.lemmas.List.Elements.{All-nil, All-cons, Contains-append_left, Contains-push, Contains-push_cases}
+use Rattle.vr_ckpt.specs.Places.{grid_size}
 use Rattle.vr_ckpt.specs.declared.name.Name.{Name}
 use Rattle.vr_header.specs.declared.header.Header.{Header}
 use Rattle.vr_header.specs.declared.part.Part.{Part}
@@ -40,7 +41,7 @@ pub record Looked {F : Type 0} (s : Setting F) (f : F) (at : ℕ) (r : Replica) 
   pub mended : at ≡ 64 → x.script ≡ Mend r.saved ∷ []
   pub kept : (name : Name) → Contains r.worn name → Contains x.replica.worn name
   pub among : (name : Name) → Contains x.replica.worn name → Contains r.worn name ⊎ (slice_get (words.blocks_of r) (at - 65) ≡ Some name)
-  pub found : (name : Name) → 65 ≤ at → slice_get (words.blocks_of r) (at - 65) ≡ Some name → name.address < 128 → Known s f x.replica name
+  pub found : (name : Name) → 65 ≤ at → slice_get (words.blocks_of r) (at - 65) ≡ Some name → name.address < grid_size → Known s f x.replica name
 
 -- nothing changes of the blocks that have gone bad
 still : {F : Type 0} (s : Setting F) (f : F) (at : ℕ) (r q : Replica) (es : List Effect) → at < 65 → q.saved ≡ r.saved → q.worn ≡ r.worn → All SparesGrid es → Chain r.saved es r.saved
@@ -105,15 +106,15 @@ module _ {F : Type 0} (s : Setting F) where
   worn_among false name r m c = inl c
 
   -- a block that doesn't read
-  bad_found : (f : F) (name : Name) (r : Replica) → name.address < 128 → Known s f (words.with_worn name r) name
+  bad_found : (f : F) (name : Name) (r : Replica) → name.address < grid_size → Known s f (words.with_worn name r) name
   bad_found f name r low =
-      let in_grid : nat_lt name.address 128 ≡ true = lt-ltb name.address 128 low in
+      let in_grid : nat_lt name.address grid_size ≡ true = lt-ltb name.address grid_size low in
       elim (list_any (is_at name) r.worn) as (λ b. list_any (is_at name) r.worn ≡ b → Known s f (words.with_worn name r) name) [
         | true ↦ λ t.
             let bad = any_in (is_at name) r.worn t in
-            worn bad.0 (worn_kept (nat_lt name.address 128 && not (list_any (is_at name) r.worn)) name r bad.0 bad.1) (eqb-true bad.0.address name.address bad.2)
+            worn bad.0 (worn_kept (nat_lt name.address grid_size && not (list_any (is_at name) r.worn)) name r bad.0 bad.1) (eqb-true bad.0.address name.address bad.2)
         | false ↦ λ t.
-            let added : nat_lt name.address 128 && not (list_any (is_at name) r.worn) ≡ true = rw (in_grid, t) refl in
+            let added : nat_lt name.address grid_size && not (list_any (is_at name) r.worn) ≡ true = rw (in_grid, t) refl in
             worn name (subst (λ b. Contains (worn_after b name r) name) (sym added) (Contains-push r.worn name)) refl
       ] refl
 
@@ -123,7 +124,7 @@ module _ {F : Type 0} (s : Setting F) where
       let one : (m : Name) → slice_get (words.blocks_of r) (at - 65) ≡ Some m → name ≡ m = λ m i. let two : Some name ≡ Some m = sym e ∙ i in cc in
       elim (s.block f name) as (λ o. s.block f name ≡ o → Looked s f at r (words.visit_read name o s r f)) [
         | None ↦ λ t.
-            let b : Bool = nat_lt name.address 128 && not (list_any (is_at name) r.worn) in
+            let b : Bool = nat_lt name.address grid_size && not (list_any (is_at name) r.worn) in
             record {
               saved = refl;
               spares = All-nil SparesGrid;
@@ -131,7 +132,7 @@ module _ {F : Type 0} (s : Setting F) where
               mended = λ i. absurd (omega (arith, i, high));
               kept = λ m c. worn_kept b name r m c;
               among = λ m c. elim (worn_among b name r m c) [ inl old ↦ inl old | inr new ↦ inr (e ∙ ap Some new) ];
-              found = λ m l i low. subst (Known s f (words.with_worn name r)) (one m i) (bad_found f name r (subst (λ (k : Name). k.address < 128) (sym (one m i)) low));
+              found = λ m l i low. subst (Known s f (words.with_worn name r)) (one m i) (bad_found f name r (subst (λ (k : Name). k.address < grid_size) (sym (one m i)) low));
             }
         | Some block ↦ λ t. record {
           saved = refl;

@@ -9,7 +9,7 @@ use Rattle.vr_msg.specs.declared.frame.Frame.TheVariants as frame
 use Rattle.vr_msg.specs.declared.frame.GivePrepare.{GivePrepare}
 use Rattle.vr_msg.specs.Choice.{ops}
 use Rattle.vr_rings.specs.Slots.{IsWhole}
-use Rattle.vr_world.specs.Replica.{Replica, header_at, is_absent, last_view, part_at}
+use Rattle.vr_world.specs.Replica.{Replica, header_at, is_absent, last_view, part_at, version}
 use Rattle.vr_world.specs.Rules.{react}
 use Rattle.vr_world.specs.Sound.{IsCaughtUp, IsSound}
 use Rattle.vr_world.specs.Steps.{Setting, after_all}
@@ -19,10 +19,11 @@ use Rattle.vr_world.specs.Words.{entry_of}
 unfoldable pub absent_ops : Replica → List ℕ
 absent_ops r = filter (λ k. is_absent (part_at r k)) (ops r.applied r.commit)
 
--- a copy of the entry that is named for an op, from another member of the group
+-- a copy of the entry that is named for an op, in a message of the replica's version, from another member of the group
 pub record IsCopy (r : Replica) (op : ℕ) (g : GivePrepare) : Type 0 where
   pub entry : IsWhole g.entry
   pub named : header_at r op ≡ Some g.entry.header
+  pub version : g.version ≡ version r
   pub member : g.replica < r.n
   pub other : g.replica ≢ r.index
 
@@ -37,8 +38,9 @@ after_copies s (g ∷ gs) r f =
 abbrev pub AllRead : {F : Type 0} → Setting F → Replica → F → Type 0
 AllRead s r f = (k : ℕ) (h : Header) → r.applied < k → k ≤ r.commit → part_at r k ≡ Here h → (e : Whole) × (entry_of h s f ≡ Some e)
 
--- It lacks nothing but entries, and neither views nor sequence numbers end: each op that is applied saves at most once.
+-- On a file of version 1, it lacks nothing but entries, and neither views nor sequence numbers end: each op that is applied saves at most once.
 pub record LacksEntries {F : Type 0} (s : Setting F) (r : Replica) (f : F) : Type 0 where
+  pub version : version r ≡ 1
   pub sound : IsSound r
   pub loaded : r.missing ≡ []
   pub reads : AllRead s r f

@@ -1,5 +1,6 @@
 -- After as many visits as there are places, what doesn't read is known.
 use Rattle.std.specs.Prelude.{ℕ, ◌+◌, ◌<◌, ◌≤◌, ◌≡◌, ◌≢◌, ◌==◌, ◌⊎◌, true, List, [], ◌∷◌, All, Contains, Some, if◌then◌else◌}
+use Rattle.vr_ckpt.specs.Places.{grid_size}
 use Rattle.vr_ckpt.specs.Texts.{Texts}
 use Rattle.vr_ckpt.specs.declared.found.Load.TheVariants.{Loaded}
 use Rattle.vr_disk.specs.DiskState.{Face, IsFace}
@@ -9,7 +10,7 @@ use Rattle.vr_header.specs.Made.{Whole}
 use Rattle.vr_msg.specs.declared.event.Event.{Event}
 use Rattle.vr_super.specs.Laws.{AllRead}
 use Rattle.vr_world.specs.Laws.{IsEvent}
-use Rattle.vr_world.specs.Replica.{Replica, header_at, is_absent, part_at}
+use Rattle.vr_world.specs.Replica.{Replica, header_at, is_absent, part_at, version}
 use Rattle.vr_world.specs.Rules.{react}
 use Rattle.vr_world.specs.Sound.{IsSavable, IsSound}
 use Rattle.vr_world.specs.Steps.{Setting, after_all}
@@ -18,7 +19,7 @@ use Rattle.law_8_repair.specs.Visits.{after_events}
 
 -- no two of these blocks stand at one address, and each stands in the grid
 pub record StandApart (names : List Name) : Type 0 where
-  pub grid : All (λ (m : Name). m.address < 128) names
+  pub grid : All (λ (m : Name). m.address < grid_size) names
   pub own : (a b : Name) → Contains names a → Contains names b → a.address ≡ b.address → a ≡ b
 
 -- The blocks of its checkpoint stand apart, once it has them, and those that have gone bad are among them. While it misses some, none is
@@ -49,10 +50,10 @@ pub record KnowsFaults {F : Type 0} (s : Setting F) (face : F → Face) (r : Rep
   -- each block of the checkpoint reads, or has gone bad
   pub blocks : (name : Name) → Contains (blocks_of r) name → ((block : List ℕ) × (s.block f name ≡ Some block)) ⊎ Contains r.worn name
 
--- On sectors of the program: after events, one after the other with no fault between, in which the checkpoint stayed and at least as many
--- visits were made as there are places.
+-- On sectors of the program, of a file of version 1: after events, one after the other with no fault between, in which the checkpoint stayed and at
+-- least as many visits were made as there are places.
 abbrev pub VisitsCover : {F : Type 0} → Setting F → (F → Face) → Type 0
 VisitsCover s face =
-    (es : List Event) (r : Replica) (f : _) → IsFace (face f) → IsSound r → IsSavable r → IsLaidOut r → All IsEvent es
+    (es : List Event) (r : Replica) (f : _) → IsFace (face f) → version r ≡ 1 → IsSound r → IsSavable r → IsLaidOut r → All IsEvent es
     → let end = after_events s es r f in
     end.replica.checkpoint ≡ r.checkpoint → places end.replica ≤ visits_made s es r f → KnowsFaults s face end.replica end.disk

@@ -6,7 +6,9 @@ use Rattle.vr_disk.specs.DiskState.{Face, IsFace}
 use Rattle.vr_ckpt.specs.declared.name.Name.{Name}
 use Rattle.vr_ckpt.specs.Kv.{IsKv}
 use Rattle.vr_ckpt.specs.Sessions.{IsSessions}
-use Rattle.vr_ckpt.specs.Places.{is_place, keys_place, sessions_place}
+use Rattle.vr_ckpt.specs.Places.{is_place, keys_places, place_of, sessions_places}
+use Rattle.vr_ckpt.specs.declared.places.Places.{Places}
+use Rattle.vr_ckpt.specs.StateTexts.{key_payloads, session_payloads}
 use Rattle.vr_ckpt.specs.declared.table.Payload.{Payload}
 use Rattle.vr_ckpt.specs.declared.table.PayloadTable.{PayloadTable}
 use Rattle.vr_msg.specs.declared.event.Event.{Event}
@@ -25,17 +27,17 @@ use Rattle.law_8_repair.specs.Cover.{IsLaidOut}
 abbrev pub StandsAt : ℕ → Name → Type 0
 StandsAt low name = is_place low name.address ≡ true
 
--- payloads at the places of a text, one after the other
-abbrev pub AreAt : ℕ → List Payload → Type 0
-AreAt low [] = Unit {0}
-AreAt low (p ∷ ps) = StandsAt low p.name × AreAt (low + 1) ps
+-- payloads at the places of a text, from the i-th of it on, one after the other
+abbrev pub AreAt : Places → ℕ → List Payload → Type 0
+AreAt l i [] = Unit {0}
+AreAt l i (p ∷ ps) = StandsAt (place_of l i) p.name × AreAt l (i + 1) ps
 
 -- no more of them than there are places
 pub record IsInPlaces (t : PayloadTable) : Type 0 where
-  pub sessions : AreAt sessions_place t.sessions
-  pub few_sessions : length t.sessions ≤ 9
-  pub keys : AreAt keys_place t.keys
-  pub few_keys : length t.keys ≤ 36
+  pub sessions : AreAt sessions_places 0 t.sessions
+  pub few_sessions : length t.sessions ≤ session_payloads
+  pub keys : AreAt keys_places 0 t.keys
+  pub few_keys : length t.keys ≤ key_payloads
 
 -- Its state is one of the program's, so that its texts never fill more blocks than there are places for. The payloads of its last table stand
 -- at theirs, and so does the root, where there is a checkpoint and no block is missing. What has gone bad is among the checkpoint's blocks;
@@ -52,11 +54,11 @@ pub record IsInPlace (r : Replica) : Type 0 where
 abbrev pub StaysInPlace : Replica → Type 0
 StaysInPlace r = is_spent r ≡ false → IsInPlace r
 
--- So a replica begins, and so it goes on, whatever comes: where its disk, and a block that comes, consist of bytes. And then its blocks are laid
--- out.
+-- So a replica of a group of at least two begins, and so it goes on, whatever comes: where its disk, and a block that comes, consist of bytes.
+-- And then its blocks are laid out.
 pub record PlacesStay {F : Type 0} (s : Setting F) (face : F → Face) : Type 0 where
   pub fresh : (kind : Kind) (cluster n index : ℕ) → IsInPlace (fresh kind cluster n index)
-  pub openings : (f : F) (v : SuperValue) → IsFace (face f) → IsGood v → StaysInPlace (opening v s (blank v) f).replica
+  pub openings : (f : F) (v : SuperValue) → IsFace (face f) → IsGood v → 2 ≤ v.fields.n → StaysInPlace (opening v s (blank v) f).replica
   pub steps : (e : Event) (r : Replica) (f : F) → IsFace (face f) → IsFitReplica r → IsEvent e → IsGivenEvent IsBytes e → StaysInPlace r
       → StaysInPlace (react e s r f).replica
   pub laid : (r : Replica) → IsInPlace r → IsLaidOut r

@@ -6,7 +6,7 @@ use Rattle.vr_header.specs.declared.part.Part.TheVariants.{Here}
 use Rattle.vr_header.specs.Made.{Whole}
 use Rattle.vr_msg.specs.declared.event.Event.{Event}
 use Rattle.vr_world.specs.Laws.{IsEvent}
-use Rattle.vr_world.specs.Replica.{Replica, part_at}
+use Rattle.vr_world.specs.Replica.{Replica, part_at, version}
 use Rattle.vr_world.specs.Rules.{react}
 use Rattle.vr_world.specs.Sound.{IsSound}
 use Rattle.vr_world.specs.Steps.{Setting, after_all}
@@ -37,8 +37,8 @@ seen_after s (e ∷ es) seen r f =
     seen_after s es (λ slot. seen slot || visited r x.replica slot) x.replica (after_all s f x.script)
 
 -- Each entry of the window that is here, and whose slot was visited, reads: one that doesn't was found lost. On sectors of the program,
--- whatever comes and whatever the replica does.
+-- of a file of version 1, whatever comes and whatever the replica does.
 abbrev pub VisitsFind : {F : Type 0} → Setting F → (F → Face) → Type 0
 VisitsFind s face =
-    (es : List Event) (seen : ℕ → Bool) (r : Replica) (f : _) → IsFace (face f) → IsSound r → All IsEvent es → AreRead s seen r f
+    (es : List Event) (seen : ℕ → Bool) (r : Replica) (f : _) → IsFace (face f) → version r ≡ 1 → IsSound r → All IsEvent es → AreRead s seen r f
     → AreRead s (seen_after s es seen r f) (after_events s es r f).replica (after_events s es r f).disk

@@ -5,9 +5,11 @@ use Rattle.std.proofs.lemmas.Grind.{common_steps}
 use Rattle.vr_ask.specs.Asking.{Client, EndsWith, Exchanges, Faults, Stand}
 use Rattle.vr_ask.specs.Run.{AreExchanged, CountsLine, EndsAt, EndsLines, Exchange, Hears, IsExchanged, Judges, Reading, ReadsLine, StopsAt, Takes, limit}
 use Rattle.vr_ask.specs.Text.{operation_of, unless_register}
+use Rattle.vr_header.specs.Bodies.{IsOperation}
 use Rattle.vr_header.specs.declared.operation.Operation.{Operation}
 use Rattle.vr_header.specs.declared.operation.Operation.TheVariants.{Register, Put, Get, Delete}
 use Rattle.vr_header.specs.Made.{is_register}
+use Rattle.vr_lines.proofs.Operations.{spelled_fits}
 use Rattle.vr_lines.specs.Operations.{operation_words}
 use Rattle.vr_lines.specs.Words.{words_of}
 use Rattle.vr_status.proofs.Counting.{links_kept}
@@ -18,44 +20,45 @@ use Rattle.vr_status.specs.declared.status.Status.TheVariants as status
 -- ---- one line
 
 -- a line that was read and judged
-pub heard : (number : ℕ) (r r' : Reading) (line : List ℕ) (result : Result Operation Status) → ReadsLine r r' line → Judges number line result → Hears number r r' result
-heard number r r' line (Ok operation) read j = ((line, read, j.0), j.1)
-heard number r r' line (Err (status.Refused k)) read j = (j.0, inr (line, read, j.1))
-heard number r r' line (Err status.NoMemory) read j = (line, read)
-heard number r r' line (Err status.Done) read j = absurd j
-heard number r r' line (Err status.Usage) read j = absurd j
-heard number r r' line (Err status.SessionLost) read j = absurd j
-heard number r r' line (Err status.ReadFault) read j = absurd j
-heard number r r' line (Err status.WriteFault) read j = absurd j
-heard number r r' line (Err status.DiskFault) read j = absurd j
-heard number r r' line (Err status.LinkFault) read j = absurd j
-heard number r r' line (Err status.SuperLost) read j = absurd j
-heard number r r' line (Err (status.OtherMember x y)) read j = absurd j
-heard number r r' line (Err status.Occupied) read j = absurd j
-heard number r r' line (Err status.NoAnswer) read j = absurd j
-heard number r r' line (Err status.SpawnFault) read j = absurd j
+pub heard : (version number : ℕ) (r r' : Reading) (line : List ℕ) (result : Result Operation Status) → ReadsLine r r' line → Judges version number line result
+    → Hears version number r r' result
+heard version number r r' line (Ok operation) read j = ((line, read, j.0), j.1)
+heard version number r r' line (Err (status.Refused k)) read j = (j.0, inr (line, read, j.1))
+heard version number r r' line (Err status.NoMemory) read j = (line, read)
+heard version number r r' line (Err status.Done) read j = absurd j
+heard version number r r' line (Err status.Usage) read j = absurd j
+heard version number r r' line (Err status.SessionLost) read j = absurd j
+heard version number r r' line (Err status.ReadFault) read j = absurd j
+heard version number r r' line (Err status.WriteFault) read j = absurd j
+heard version number r r' line (Err status.DiskFault) read j = absurd j
+heard version number r r' line (Err status.LinkFault) read j = absurd j
+heard version number r r' line (Err status.SuperLost) read j = absurd j
+heard version number r r' line (Err (status.OtherMember x y)) read j = absurd j
+heard version number r r' line (Err status.Occupied) read j = absurd j
+heard version number r r' line (Err status.NoAnswer) read j = absurd j
+heard version number r r' line (Err status.SpawnFault) read j = absurd j
 
 -- a judgement is no failed read
-pub judged_counts : (number : ℕ) (line : List ℕ) (before now : ℕ) (result : Result Operation Status) → now ≡ before → Judges number line result → CountsLine before now result
-judged_counts number line before now (Ok operation) e j = e
-judged_counts number line before now (Err (status.Refused k)) e j = e
-judged_counts number line before now (Err status.NoMemory) e j = e
-judged_counts number line before now (Err status.Done) e j = e
-judged_counts number line before now (Err status.Usage) e j = e
-judged_counts number line before now (Err status.SessionLost) e j = e
-judged_counts number line before now (Err status.ReadFault) e j = absurd j
-judged_counts number line before now (Err status.WriteFault) e j = e
-judged_counts number line before now (Err status.DiskFault) e j = e
-judged_counts number line before now (Err status.LinkFault) e j = e
-judged_counts number line before now (Err status.SuperLost) e j = e
-judged_counts number line before now (Err (status.OtherMember x y)) e j = e
-judged_counts number line before now (Err status.Occupied) e j = e
-judged_counts number line before now (Err status.NoAnswer) e j = e
-judged_counts number line before now (Err status.SpawnFault) e j = e
+pub judged_counts : (version number : ℕ) (line : List ℕ) (before now : ℕ) (result : Result Operation Status) → now ≡ before → Judges version number line result → CountsLine before now result
+judged_counts version number line before now (Ok operation) e j = e
+judged_counts version number line before now (Err (status.Refused k)) e j = e
+judged_counts version number line before now (Err status.NoMemory) e j = e
+judged_counts version number line before now (Err status.Done) e j = e
+judged_counts version number line before now (Err status.Usage) e j = e
+judged_counts version number line before now (Err status.SessionLost) e j = e
+judged_counts version number line before now (Err status.ReadFault) e j = absurd j
+judged_counts version number line before now (Err status.WriteFault) e j = e
+judged_counts version number line before now (Err status.DiskFault) e j = e
+judged_counts version number line before now (Err status.LinkFault) e j = e
+judged_counts version number line before now (Err status.SuperLost) e j = e
+judged_counts version number line before now (Err (status.OtherMember x y)) e j = e
+judged_counts version number line before now (Err status.Occupied) e j = e
+judged_counts version number line before now (Err status.NoAnswer) e j = e
+judged_counts version number line before now (Err status.SpawnFault) e j = e
 
 -- an exchange of a line that was read
 pub taken : (c : Client) (number : ℕ) (r : Reading) (s : Stand) (r' : Reading) (s' : Stand) (b n : Faults) (operation : Operation) (result : Result (Unit {0}) Status)
-    → Hears number r r' (Ok operation) → Exchanges c number operation s s' b n result → Takes c number r s r' s' b n result
+    → Hears c.version number r r' (Ok operation) → Exchanges c number operation s s' b n result → Takes c number r s r' s' b n result
 taken c number r s r' s' b n operation (Ok x) h e =
     ((record { line = h.0.0; operation = operation; answered = e.0 }, record { read = h.0.1; meant = h.0.2; answered = e.1 }), h.1)
 taken c number r s r' s' b n operation (Err status) h e = inr (record { line = h.0.0; operation = operation; read = h.0.1; meant = h.0.2; ends = e })
@@ -80,25 +83,25 @@ exchange_counts c number s s' b n operation before now (Err status.NoAnswer) e x
 exchange_counts c number s s' b n operation before now (Err status.SpawnFault) e x = e
 
 -- nor is a line that isn't asked a failed write
-pub heard_writes : (number : ℕ) (r r' : Reading) (s : Status) (before now : ℕ) → now ≡ before → Hears number r r' (Err s) → now ≡ writes_after s before
-heard_writes number r r' status.Done before now e h = e
-heard_writes number r r' status.Usage before now e h = e
-heard_writes number r r' (status.Refused k) before now e h = e
-heard_writes number r r' status.SessionLost before now e h = e
-heard_writes number r r' status.ReadFault before now e h = e
-heard_writes number r r' status.WriteFault before now e h = absurd h
-heard_writes number r r' status.DiskFault before now e h = e
-heard_writes number r r' status.LinkFault before now e h = e
-heard_writes number r r' status.SuperLost before now e h = e
-heard_writes number r r' (status.OtherMember x y) before now e h = e
-heard_writes number r r' status.NoMemory before now e h = e
-heard_writes number r r' status.Occupied before now e h = e
-heard_writes number r r' status.NoAnswer before now e h = e
-heard_writes number r r' status.SpawnFault before now e h = e
+pub heard_writes : (version number : ℕ) (r r' : Reading) (s : Status) (before now : ℕ) → now ≡ before → Hears version number r r' (Err s) → now ≡ writes_after s before
+heard_writes version number r r' status.Done before now e h = e
+heard_writes version number r r' status.Usage before now e h = e
+heard_writes version number r r' (status.Refused k) before now e h = e
+heard_writes version number r r' status.SessionLost before now e h = e
+heard_writes version number r r' status.ReadFault before now e h = e
+heard_writes version number r r' status.WriteFault before now e h = absurd h
+heard_writes version number r r' status.DiskFault before now e h = e
+heard_writes version number r r' status.LinkFault before now e h = e
+heard_writes version number r r' status.SuperLost before now e h = e
+heard_writes version number r r' (status.OtherMember x y) before now e h = e
+heard_writes version number r r' status.NoMemory before now e h = e
+heard_writes version number r r' status.Occupied before now e h = e
+heard_writes version number r r' status.NoAnswer before now e h = e
+heard_writes version number r r' status.SpawnFault before now e h = e
 
 -- nor a failed call of the link
-pub heard_links : (number : ℕ) (r r' : Reading) (s : Status) (before now : ℕ) → now ≡ before → Hears number r r' (Err s) → now ≡ links_after s before
-heard_links number r r' s before now e h = links_kept s before now e (λ is. subst (λ x. Hears number r r' (Err x)) is h)
+pub heard_links : (version number : ℕ) (r r' : Reading) (s : Status) (before now : ℕ) → now ≡ before → Hears version number r r' (Err s) → now ≡ links_after s before
+heard_links version number r r' s before now e h = links_kept s before now e (λ is. subst (λ x. Hears version number r r' (Err x)) is h)
 
 -- ---- lines one after the other
 
@@ -133,7 +136,7 @@ midst_more c count number r s r' s' x r'' s'' at m one =
 
 -- the run ends at the next line
 pub ends_at : (c : Client) (count number : ℕ) (r : Reading) (s : Stand) (r' : Reading) (s' : Stand) (r'' : Reading) (s'' : Stand) (b n : Faults) (status : Status)
-    → number ≡ count + 1 → count ≤ limit → Midst c count r s r' s' → ((s'' ≡ s') × StopsAt number r' r'' status) ⊎ EndsAt c number r' s' r'' s'' b n status
+    → number ≡ count + 1 → count ≤ limit → Midst c count r s r' s' → ((s'' ≡ s') × StopsAt c.version number r' r'' status) ⊎ EndsAt c number r' s' r'' s'' b n status
     → EndsLines c r s r'' s'' b n status
 ends_at c count number r s r' s' r'' s'' b n status at few m e =
     let place : number ≡ length m.exchanges + 1 = omega (arith, at, m.counted) in
@@ -143,7 +146,7 @@ ends_at c count number r s r' s' r'' s'' b n status at few m e =
       reads = r';
       stands = s';
       done = m.done;
-      ends = subst (λ k. ((s'' ≡ s') × StopsAt k r' r'' status) ⊎ EndsAt c k r' s' r'' s'' b n status) place e;
+      ends = subst (λ k. ((s'' ≡ s') × StopsAt c.version k r' r'' status) ⊎ EndsAt c k r' s' r'' s'' b n status) place e;
     }
 
 -- the counts of the link and the sink, from the beginning on
@@ -165,15 +168,15 @@ ends_later c number operation s s' b m n status.Occupied l w e = absurd e
 ends_later c number operation s s' b m n status.SpawnFault l w e = absurd e
 
 pub stops_later : (c : Client) (number : ℕ) (r : Reading) (s : Stand) (r' : Reading) (s' : Stand) (b m n : Faults) (status : Status)
-    → m.link ≡ b.link → m.write ≡ b.write → ((s' ≡ s) × StopsAt number r r' status) ⊎ EndsAt c number r s r' s' m n status
-    → ((s' ≡ s) × StopsAt number r r' status) ⊎ EndsAt c number r s r' s' b n status
+    → m.link ≡ b.link → m.write ≡ b.write → ((s' ≡ s) × StopsAt c.version number r r' status) ⊎ EndsAt c number r s r' s' m n status
+    → ((s' ≡ s) × StopsAt c.version number r r' status) ⊎ EndsAt c number r s r' s' b n status
 stops_later c number r s r' s' b m n status l w (inl x) = inl x
 stops_later c number r s r' s' b m n status l w (inr e) =
     inr (record { line = e.line; operation = e.operation; read = e.read; meant = e.meant; ends = ends_later c number e.operation s s' b m n status (omega (arith, l)) (omega (arith, w)) e.ends })
 
 -- a line behind the last one that may be is refused
-pub one_too_many : (r r' : Reading) (operation : Operation) → Hears (limit + 1) r r' (Ok operation) → ⊥
-one_too_many r r' operation h = omega (arith, h.1)
+pub one_too_many : (version : ℕ) (r r' : Reading) (operation : Operation) → Hears version (limit + 1) r r' (Ok operation) → ⊥
+one_too_many version r r' operation h = omega (arith, h.1)
 
 -- a line asks for no register
 unless_some : (x : Option Operation) (operation : Operation) → option_and_then unless_register x ≡ Some operation → is_register operation ≡ false
@@ -183,12 +186,25 @@ unless_some (Some (Put key value)) operation e = let same : Put key value ≡ op
 unless_some (Some (Get key)) operation e = let same : Get key ≡ operation = cc e in subst (λ o. is_register o ≡ false) same refl
 unless_some (Some (Delete key)) operation e = let same : Delete key ≡ operation = cc e in subst (λ o. is_register o ≡ false) same refl
 
-no_register : (line : List ℕ) (operation : Operation) → operation_of line ≡ Some operation → is_register operation ≡ false
+no_register : (version : ℕ) (line : List ℕ) (operation : Operation) → operation_of version line ≡ Some operation → is_register operation ≡ false
 unfolding operation_of
-no_register line operation e = unless_some (operation_words (words_of line)) operation e
+no_register version line operation e = unless_some (operation_words version (words_of line)) operation e
 
-pub later_fits : (line : List ℕ) (operation : Operation) (number : ℕ) → operation_of line ≡ Some operation → 0 < number
+pub later_first : (version : ℕ) (line : List ℕ) (operation : Operation) (number : ℕ) → operation_of version line ≡ Some operation → 0 < number
     → (operation ≡ Register → number ≡ 0) × (number ≡ 0 → operation ≡ Register)
-later_fits line operation number e h =
-    let no : is_register operation ≡ false = no_register line operation e in
+later_first version line operation number e h =
+    let no : is_register operation ≡ false = no_register version line operation e in
     (λ is. absurd (let yes : is_register operation ≡ true = subst (λ o. is_register o ≡ true) (sym is) refl in cc (no, yes)), λ z. absurd (omega (arith, h, z)))
+
+-- the operation of a line is of its version
+some_unless : (x : Option Operation) (operation : Operation) → option_and_then unless_register x ≡ Some operation → x ≡ Some operation
+some_unless None operation e = absurd (cc e)
+some_unless (Some Register) operation e = absurd (cc e)
+some_unless (Some (Put key value)) operation e = e
+some_unless (Some (Get key)) operation e = e
+some_unless (Some (Delete key)) operation e = e
+
+pub later_fits : (version : ℕ) (line : List ℕ) (operation : Operation) → operation_of version line ≡ Some operation → IsOperation version operation
+unfolding operation_of
+later_fits version line operation e =
+    spelled_fits version (words_of line) (Some operation) (sym (some_unless (operation_words version (words_of line)) operation e))

@@ -70,7 +70,7 @@ pub asked_last : (c : Client) (k : ℕ) (x : Operation) (s s' : Stand) → HasNo
 asked_last c k x s s' h = (h.asked.arrivals, subst (λ (l : List Arrival). Grows s.got s'.got (h.asked.arrivals ++ l)) h.asked.ends.0 h.asked.received)
 
 stops_link : (c : Client) (k : ℕ) (r : Reading) (s : Stand) (r' : Reading) (s' : Stand) (b n : Faults)
-    → ((s' ≡ s) × StopsAt k r r' status.LinkFault) ⊎ EndsAt c k r s r' s' b n status.LinkFault → Rose b.link n.link × EndsFailed s.got s'.got
+    → ((s' ≡ s) × StopsAt c.version k r r' status.LinkFault) ⊎ EndsAt c k r s r' s' b n status.LinkFault → Rose b.link n.link × EndsFailed s.got s'.got
 stops_link c k r s r' s' b n (inl x) = absurd x.1
 stops_link c k r s r' s' b n (inr x) = (x.ends.0, asked_last c k x.operation s s' x.ends.1)
 

@@ -19,15 +19,16 @@ use Rattle.vr_status.specs.Counts.{links_after, writes_after}
 use Rattle.vr_status.specs.declared.status.Status.{Status}
 use Rattle.vr_status.specs.declared.status.Status.TheVariants.{SessionLost, WriteFault, LinkFault, NoMemory, NoAnswer}
 
--- a client: its group and its number, the size of the group, and the turns of each ask
+-- a client: the version of its frames, its group and its number, the size of the group, and the turns of each ask
 pub record Client : Type 0 where
+  pub version : ℕ
   pub cluster : ℕ
   pub id : ℕ
   pub n : ℕ
   pub turns : ℕ
 
 abbrev pub client_of : ClientCore → ℕ → Client
-client_of core turns = record { cluster = core.cluster; id = core.id; n = core.n; turns = turns }
+client_of core turns = record { version = core.version; cluster = core.cluster; id = core.id; n = core.n; turns = turns }
 
 -- where it stands: the port that it asks, and what link and sink tell
 pub record Stand : Type 0 where
@@ -40,7 +41,7 @@ abbrev pub stand : ClientCore → Option (List (Option Datagram)) → Option (Li
 stand core sent got taken = record { port = core.port; sent = sent; got = got; taken = taken }
 
 abbrev pub request_of : Client → ℕ → Operation → RequestFields
-request_of c number operation = record { cluster = c.cluster; client = c.id; request = number; operation = operation }
+request_of c number operation = record { version = c.version; cluster = c.cluster; client = c.id; request = number; operation = operation }
 
 -- the operation was asked with this number, and this was its answer
 abbrev pub Answers : Client → ℕ → Operation → Stand → Stand → Answer → Type 0

@@ -39,7 +39,7 @@ pub record Exchange : Type 0 where
 -- it was read, asked with this number, answered, and the answer was written
 pub record IsExchanged (c : Client) (number : ℕ) (r : Reading) (s : Stand) (x : Exchange) (r' : Reading) (s' : Stand) : Type 0 where
   pub read : ReadsLine r r' x.line
-  pub meant : operation_of x.line ≡ Some x.operation
+  pub meant : operation_of c.version x.line ≡ Some x.operation
   pub answered : IsAnswered c number x.operation s s' (answer.Outcome x.answered)
 
 -- these one after the other, with numbers from this one on
@@ -52,26 +52,26 @@ AreExchanged c number r s (x ∷ xs) r' s' =
 abbrev pub limit : ℕ
 limit = 1000000
 
--- the line with this number is none of a client's, or one too many
-abbrev pub IsNone : ℕ → Reading → Reading → Type 0
-IsNone number r r' =
+-- the line with this number is none of a client's of this version, or one too many
+abbrev pub IsNone : ℕ → ℕ → Reading → Reading → Type 0
+IsNone version number r r' =
     TooLongComes longest r.rest r.left r'.rest r'.left
-    ⊎ ((line : List ℕ) × ReadsLine r r' line × ((operation_of line ≡ None) ⊎ (limit < number)))
+    ⊎ ((line : List ℕ) × ReadsLine r r' line × ((operation_of version line ≡ None) ⊎ (limit < number)))
 
 -- how it ends at the line with this number, which it doesn't ask; before and now count the failed reads
-abbrev pub StopsAt : ℕ → Reading → Reading → Status → Type 0
-StopsAt number r r' Done = EndComes r.rest r.left r'.rest r'.left
-StopsAt number r r' (Refused k) = (k ≡ number) × IsNone number r r'
-StopsAt number r r' ReadFault = Breaks r.rest r.left r'.rest r'.left
-StopsAt number r r' NoMemory = (line : List ℕ) × ReadsLine r r' line
-StopsAt number r r' _ = ⊥
+abbrev pub StopsAt : ℕ → ℕ → Reading → Reading → Status → Type 0
+StopsAt version number r r' Done = EndComes r.rest r.left r'.rest r'.left
+StopsAt version number r r' (Refused k) = (k ≡ number) × IsNone version number r r'
+StopsAt version number r r' ReadFault = Breaks r.rest r.left r'.rest r'.left
+StopsAt version number r r' NoMemory = (line : List ℕ) × ReadsLine r r' line
+StopsAt version number r r' _ = ⊥
 
 -- how it ends while it asks the line with this number
 pub record EndsAt (c : Client) (number : ℕ) (r : Reading) (s : Stand) (r' : Reading) (s' : Stand) (before now : Faults) (status : Status) : Type 0 where
   pub line : List ℕ
   pub operation : Operation
   pub read : ReadsLine r r' line
-  pub meant : operation_of line ≡ Some operation
+  pub meant : operation_of c.version line ≡ Some operation
   pub ends : EndsWith c number operation s s' before now status
 
 -- the lines of a source, to an end
@@ -81,7 +81,7 @@ pub record EndsLines (c : Client) (r : Reading) (s : Stand) (r' : Reading) (s' :
   pub reads : Reading
   pub stands : Stand
   pub done : AreExchanged c 1 r s exchanges reads stands
-  pub ends : ((s' ≡ stands) × StopsAt (length exchanges + 1) reads r' status) ⊎ EndsAt c (length exchanges + 1) reads stands r' s' before now status
+  pub ends : ((s' ≡ stands) × StopsAt c.version (length exchanges + 1) reads r' status) ⊎ EndsAt c (length exchanges + 1) reads stands r' s' before now status
 
 -- it registers, and then asks the lines of its source
 abbrev pub EndsRun : Client → Reading → Stand → Reading → Stand → Faults → Faults → Status → Type 0
@@ -138,20 +138,24 @@ abbrev pub ClientEnds : Client → List (List ℕ) → Outside → Outside → F
 ClientEnds c peers o o' before now status =
     Unlinked peers o o' before now status ⊎ (TakesLink peers true o o' × EndsAttached c o o' before now status)
 
+-- the version of a command's client
+abbrev pub client_version : ℕ
+client_version = 1
+
 abbrev pub client_with : ℕ → ℕ → ℕ → ℕ → Client
-client_with cluster id n turns = record { cluster = cluster; id = id; n = n; turns = turns }
+client_with cluster id n turns = record { version = client_version; cluster = cluster; id = id; n = n; turns = turns }
 
 -- what a read line that isn't asked makes of the run
-abbrev pub Judges : ℕ → List ℕ → Result Operation Status → Type 0
-Judges number line (Ok operation) = (operation_of line ≡ Some operation) × (number ≤ limit)
-Judges number line (Err (Refused k)) = (k ≡ number) × ((operation_of line ≡ None) ⊎ (limit < number))
-Judges number line (Err NoMemory) = ⊤
-Judges number line (Err _) = ⊥
+abbrev pub Judges : ℕ → ℕ → List ℕ → Result Operation Status → Type 0
+Judges version number line (Ok operation) = (operation_of version line ≡ Some operation) × (number ≤ limit)
+Judges version number line (Err (Refused k)) = (k ≡ number) × ((operation_of version line ≡ None) ⊎ (limit < number))
+Judges version number line (Err NoMemory) = ⊤
+Judges version number line (Err _) = ⊥
 
 -- the line with this number was read, or the run ends there
-abbrev pub Hears : ℕ → Reading → Reading → Result Operation Status → Type 0
-Hears number r r' (Ok operation) = ((line : List ℕ) × ReadsLine r r' line × (operation_of line ≡ Some operation)) × (number ≤ limit)
-Hears number r r' (Err status) = StopsAt number r r' status
+abbrev pub Hears : ℕ → ℕ → Reading → Reading → Result Operation Status → Type 0
+Hears version number r r' (Ok operation) = ((line : List ℕ) × ReadsLine r r' line × (operation_of version line ≡ Some operation)) × (number ≤ limit)
+Hears version number r r' (Err status) = StopsAt version number r r' status
 
 -- the count of the source's faults after a line
 abbrev pub CountsLine : {T : Type 0} → ℕ → ℕ → Result T Status → Type 0
@@ -161,4 +165,4 @@ CountsLine before now (Err status) = now ≡ reads_after status before
 -- the line with this number was read, asked and answered, or the run ends there
 abbrev pub Takes : Client → ℕ → Reading → Stand → Reading → Stand → Faults → Faults → Result (Unit {0}) Status → Type 0
 Takes c number r s r' s' before now (Ok x) = ((x : Exchange) × IsExchanged c number r s x r' s') × (number ≤ limit)
-Takes c number r s r' s' before now (Err status) = ((s' ≡ s) × StopsAt number r r' status) ⊎ EndsAt c number r s r' s' before now status
+Takes c number r s r' s' before now (Err status) = ((s' ≡ s) × StopsAt c.version number r r' status) ⊎ EndsAt c number r s r' s' before now status

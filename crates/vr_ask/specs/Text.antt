@@ -16,9 +16,9 @@ longest = 1093
 abbrev pub unless_register : Operation → Option Operation
 unless_register operation = if is_register operation then None else Some operation
 
--- the operation of a line: `put KEY VALUE`, `get KEY` or `del KEY`
-unfoldable pub operation_of : List ℕ → Option Operation
-operation_of line = option_and_then unless_register (operation_words (words_of line))
+-- the operation of this version that a line is: `put KEY VALUE`, `get KEY` or `del KEY`
+unfoldable pub operation_of : ℕ → List ℕ → Option Operation
+operation_of version line = option_and_then unless_register (operation_words version (words_of line))
 
 -- an answer, without the end of its line
 abbrev pub answer_words : Answer → List ℕ

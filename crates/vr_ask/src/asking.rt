@@ -1,6 +1,7 @@
 //! One ask, whose answer is written.
 ghost use Rattle.std.specs.Prelude.{◌≡◌, ◌≤◌, ◌<◌, ◌+◌, ◌^◌, ◌↔◌};
 ghost use Rattle.vr_ask.specs.Asking.{CountsLinks, CountsWrites, Exchanges, KeepsSession, PutsAnswer, WritesAnswer, client_of, faults, stand, status_of};
+ghost use Rattle.vr_header.specs.Bodies.{IsOperation};
 ghost use Rattle.vr_header.specs.declared.operation.Operation.TheVariants.{Register};
 
 use crate::text::answer_text;
@@ -70,6 +71,7 @@ pub fn exchange<K: Sink, L: Link>(
 ) -> Result<(), Status>
     requires number { core.old.number < 2 ^ 32 }
     requires first { (operation.now ≡ Register) ↔ (core.old.number ≡ 0) }
+    requires fits { IsOperation core.old.version operation.now }
     ensures exchanged { Exchanges (client_of core.old turns) core.old.number operation.now
         (stand core.old (L.sent link.old) (L.received link.old) (K.taken sink.old))
         (stand core.new (L.sent link.new) (L.received link.new) (K.taken sink.new))

@@ -7,6 +7,7 @@ ghost use Rattle.vr_status.specs.Counts.{links_after, reads_after, writes_after}
 use crate::asking::exchange;
 use crate::text::read_line;
 use std::alloc::Global;
+use vr_base::Version;
 use vr_client::ClientCore;
 use vr_edge::{Link, Sink, Source};
 use vr_header::Operation;
@@ -19,30 +20,31 @@ const LIMIT: u32 = 1_000_000;
 /// The most bytes of a line.
 const LONGEST: usize = 1093;
 
-/// The operation of the line with this number.
-fn judge(alloc: Global, number: u32, line: &[u8]) -> Result<Operation, Status>
-    ensures { Judges number line.now result }
+/// The operation of this version that the line with this number is.
+fn judge(alloc: Global, number: u32, line: &[u8], version: Version) -> Result<Operation, Status>
+    ensures { Judges version number line.now result }
 {
-    match read_line(alloc, line) {
+    match read_line(alloc, line, version) {
         Ok(Some(operation)) if number <= LIMIT => Ok(operation),
         Ok(_) => Err(Status::Refused(number)),
         Err(_) => Err(Status::NoMemory),
     }
 }
 
-/// Reads the line with this number: its operation, or how the client ends.
+/// Reads the line with this number: its operation of this version, or how the client ends.
 #[tactic(auto, using(crate::proofs::Exchanges::heard, crate::proofs::Exchanges::judged_counts))]
 fn next_operation<S: Source>(
     alloc: Global,
     lines: &mut Lines,
     source: &mut S,
     number: u32,
+    version: Version,
 ) -> Result<Operation, Status>
-    ensures heard { Hears number (reading lines.old (S.left source.old)) (reading lines.new (S.left source.new)) result }
+    ensures heard { Hears version number (reading lines.old (S.left source.old)) (reading lines.new (S.left source.new)) result }
     ensures counts { CountsLine (S.faults source.old) (S.faults source.new) result }
 {
     match lines.read(source, LONGEST) {
-        Ok(Found::Line) => judge(alloc, number, lines.line()),
+        Ok(Found::Line) => judge(alloc, number, lines.line(), version),
         Ok(Found::TooLong) => Err(Status::Refused(number)),
         Ok(Found::End) => Err(Status::Done),
         Err(_) => Err(Status::ReadFault),
@@ -75,7 +77,7 @@ fn take_line<S: Source, K: Sink, L: Link>(
     ensures sink { CountsWrites (K.faults sink.old) (K.faults sink.new) result }
     ensures attached { L.attached link.new ≡ L.attached link.old }
 {
-    match next_operation(alloc, lines, source, number) {
+    match next_operation(alloc, lines, source, number, core.version()) {
         Ok(operation) => exchange(alloc, core, link, sink, &operation, turns),
         Err(status) => Err(status),
     }
@@ -108,7 +110,7 @@ pub fn ask_lines<S: Source, K: Sink, L: Link>(
             return status;
         }
     }
-    match next_operation(alloc, lines, source, LIMIT + 1) {
+    match next_operation(alloc, lines, source, LIMIT + 1, core.version()) {
         Ok(_) => Status::Refused(LIMIT + 1),
         Err(status) => status,
     }

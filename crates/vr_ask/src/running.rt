@@ -9,11 +9,15 @@ ghost use Rattle.vr_status.specs.Counts.{links_after, reads_after, writes_after}
 use crate::asking::exchange;
 use crate::lines::ask_lines;
 use std::alloc::Global;
+use vr_base::Version;
 use vr_client::ClientCore;
 use vr_edge::{Link, Sink, Source};
 use vr_header::Operation;
 use vr_lines::Lines;
 use vr_status::Status;
+
+/// The version of the frames in which a command's client asks.
+pub const CLIENT_VERSION: u8 = 1;
 
 /// Registers, and then asks the lines of the source.
 #[tactic(auto, using(crate::proofs::Runs::unregistered, crate::proofs::Runs::registered))]
@@ -69,7 +73,8 @@ fn ask_made<S: Source, K: Sink, L: Link>(
     ensures attached { L.attached link.new ≡ L.attached link.old }
 {
     let size = peers.len() as u8;
-    let Ok(mut core) = ClientCore::new(alloc, cluster, id, size) else {
+    let Ok(mut core) = ClientCore::new(alloc, cluster, id, size, Version::new(CLIENT_VERSION))
+    else {
         return Status::NoMemory;
     };
     let mut lines = Lines::new();

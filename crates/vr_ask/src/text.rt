@@ -3,18 +3,22 @@ ghost use Rattle.std.specs.Prelude.{◌≡◌, ◌++◌, IfOk, OnOk};
 ghost use Rattle.vr_ask.specs.Text.{answer_text, answer_words, operation_of};
 
 use std::alloc::{AllocError, Global};
-use vr_base::{ByteList, Seq};
+use vr_base::{ByteList, Seq, Version};
 use vr_client::Answer;
 use vr_header::Operation;
 use vr_lines::parse_operation;
 use vr_text::put_outcome;
 
-/// The operation of a line, without its end: `put KEY VALUE`, `get KEY` or `del KEY`.
+/// The operation of this version that a line is, without its end: `put KEY VALUE`, `get KEY` or `del KEY`.
 #[tactic(auto, unfolding(crate::specs::Text::operation_of))]
-pub fn read_line(alloc: Global, line: &[u8]) -> Result<Option<Operation>, AllocError>
-    ensures { IfOk result (λ operation. operation ≡ operation_of line.now) }
+pub fn read_line(
+    alloc: Global,
+    line: &[u8],
+    version: Version,
+) -> Result<Option<Operation>, AllocError>
+    ensures { IfOk result (λ operation. operation ≡ operation_of version line.now) }
 {
-    match parse_operation(alloc, line)? {
+    match parse_operation(alloc, line, version)? {
         Some(operation) if !operation.is_register() => Ok(Some(operation)),
         _ => Ok(None),
     }

@@ -4,5 +4,6 @@ pub mod FieldLaws
 pub mod Places
 mod Rows
 pub mod Sets
+pub mod Versions
 pub mod Writing
 pub mod ZeroLaws

@@ -4,3 +4,4 @@ pub mod Count
 pub mod Groups
 pub mod Kinds
 pub mod Replicas
+pub mod Versions

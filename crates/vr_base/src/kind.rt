@@ -3,14 +3,15 @@ ghost use Rattle.std.specs.Prelude.{◌≡◌};
 ghost use Rattle.vr_base.specs.Kinds.{of_mode};
 
 use crate::mode::Mode;
+use crate::version::Version;
 
 /// What a data file is made as, and stays.
 #[derive(Clone, Copy, Debug, PartialEq, Eq)]
 pub struct Kind {
     /// How its slots are judged.
     pub mode: Mode,
-    /// The version of its layout: 1.
-    pub version: u8,
+    /// The version of its layout, its frames and its entries.
+    pub version: Version,
 }
 
 impl Kind {
@@ -18,6 +19,9 @@ impl Kind {
     pub const fn of_mode(mode: Mode) -> Kind
         ensures { result ≡ of_mode mode }
     {
-        Kind { mode, version: 1 }
+        Kind {
+            mode,
+            version: Version::new(1),
+        }
     }
 }

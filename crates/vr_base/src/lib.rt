@@ -11,6 +11,7 @@ mod replicas;
 mod seq;
 mod sum;
 mod table;
+mod version;
 mod zeros;
 
 pub use fields::{put, put_sum, put_u16, put_u32, put_u64, sum_at, u16_at, u32_at, u64_at};
@@ -22,4 +23,5 @@ pub use replicas::Replicas;
 pub use seq::{ByteList, Seq};
 pub use sum::{Sum, checksum, checksum_of_parts};
 pub use table::{Config, Quorums};
+pub use version::{Version, is_version};
 pub use zeros::is_zeros;

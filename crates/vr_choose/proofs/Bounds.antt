@@ -20,8 +20,8 @@ pub record IsBounded (s : Statement) : Type 0 where
   -- its headers from first to head are known
   pub known : (k : ℕ) → s.body.first ≤ k → k ≤ s.head → IsSome (stated_header k s)
 
-known_of : (cluster : ℕ) (s : Statement) → IsStatement cluster s → (k : ℕ) → s.body.first ≤ k → k ≤ s.head → IsSome (stated_header k s)
-known_of cluster s is k l m =
+known_of : (version cluster : ℕ) (s : Statement) → IsStatement version cluster s → (k : ℕ) → s.body.first ≤ k → k ≤ s.head → IsSome (stated_header k s)
+known_of version cluster s is k l m =
     let xs = s.body.parts in
     let run = is.run in
     let place : k - s.body.first < prefix_len has_header xs = omega arith in
@@ -37,12 +37,13 @@ bounds_of s some =
       committed = is.commit;
       short = is.count;
       small = is.head;
-      known = known_of some.cluster s is;
+      known = known_of some.version some.cluster s is;
     }
 
 pub bounded : (ss : List Statement) → All IsSomeStatement ss → All IsBounded ss
 bounded ss all = All-weaker IsSomeStatement IsBounded bounds_of ss all
 
 -- statements of one group are statements of some group
-pub some_statements : (cluster : ℕ) (ss : List Statement) → All (IsStatement cluster) ss → All IsSomeStatement ss
-some_statements cluster ss all = All-weaker (IsStatement cluster) IsSomeStatement (λ s is. record { cluster = cluster; statement = is }) ss all
+pub some_statements : (version cluster : ℕ) (ss : List Statement) → All (IsStatement version cluster) ss → All IsSomeStatement ss
+some_statements version cluster ss all =
+    All-weaker (IsStatement version cluster) IsSomeStatement (λ s is. record { version = version; cluster = cluster; statement = is }) ss all

@@ -31,6 +31,7 @@ entry op made =
       replica = 0;
       kind = 0;
       aux = 0;
+      version = 1;
     }
 
 abbrev stated : ℕ → ℕ → ℕ → ℕ → List Part → Statement

@@ -28,15 +28,15 @@ all_stand P op (x ∷ xs) h =
     (rw e at (h 0 x refl), all_stand P (op + 1) xs (λ i y at. let f : op + suc i ≡ op + 1 + i = omega arith in rw f at (h (suc i) y at)))
 
 -- of the header that a part knows
-part_header : (cluster last op : ℕ) (p : Part) (h : Header) → IsPartAt cluster last op p → header_of p ≡ Some h → IsEntryAt cluster last op h
-part_header cluster last op (Here g) h is e = let same : g ≡ h = cc in subst (IsEntryAt cluster last op) same is
-part_header cluster last op (Lost g) h is e = let same : g ≡ h = cc in subst (IsEntryAt cluster last op) same is
-part_header cluster last op (Wanted g) h is e = let same : g ≡ h = cc in subst (IsEntryAt cluster last op) same is
-part_header cluster last op Unknown h is e = cc
-part_header cluster last op Nothing h is e = cc
+part_header : (version cluster last op : ℕ) (p : Part) (h : Header) → IsPartAt version cluster last op p → header_of p ≡ Some h → IsEntryAt version cluster last op h
+part_header version cluster last op (Here g) h is e = let same : g ≡ h = cc in subst (IsEntryAt version cluster last op) same is
+part_header version cluster last op (Lost g) h is e = let same : g ≡ h = cc in subst (IsEntryAt version cluster last op) same is
+part_header version cluster last op (Wanted g) h is e = let same : g ≡ h = cc in subst (IsEntryAt version cluster last op) same is
+part_header version cluster last op Unknown h is e = cc
+part_header version cluster last op Nothing h is e = cc
 
-stated_stands : (cluster k : ℕ) (s : Statement) (h : Header) → IsStatement cluster s → stated_header k s ≡ Some h → IsEntryAt cluster s.log_view k h
-stated_stands cluster k s h is e =
+stated_stands : (version cluster k : ℕ) (s : Statement) (h : Header) → IsStatement version cluster s → stated_header k s ≡ Some h → IsEntryAt version cluster s.log_view k h
+stated_stands version cluster k s h is e =
     elim (cases_lt k s.body.first) [
       | inl before ↦ let none : header_of Nothing ≡ Some h = rw (lt-ltb k s.body.first before) at e in cc
       | inr from ↦
@@ -44,37 +44,37 @@ stated_stands cluster k s h is e =
           let there : header_of (get_or s.body.parts i Nothing) ≡ Some h = rw (le-ltb k s.body.first from) at e in
           elim (cases_lt i (length s.body.parts)) [
             | inl within ↦
-                let part = item_stands (IsPartAt cluster s.log_view) s.body.first s.body.parts i Nothing is.parts within in
+                let part = item_stands (IsPartAt version cluster s.log_view) s.body.first s.body.parts i Nothing is.parts within in
                 let op : s.body.first + i ≡ k = omega arith in
-                rw op at (part_header cluster s.log_view (s.body.first + i) (get_or s.body.parts i Nothing) h part there)
+                rw op at (part_header version cluster s.log_view (s.body.first + i) (get_or s.body.parts i Nothing) h part there)
             | inr past ↦ let none : header_of Nothing ≡ Some h = rw (get_or_past s.body.parts i Nothing past) at there in cc
           ]
     ]
 
-later : (cluster last most op : ℕ) (h : Header) → last ≤ most → IsEntryAt cluster last op h → IsEntryAt cluster most op h
-later cluster last most op h l is = let made = is.made in record { entry = is.entry; of_group = is.of_group; at_op = is.at_op; made = omega arith }
+later : (version cluster last most op : ℕ) (h : Header) → last ≤ most → IsEntryAt version cluster last op h → IsEntryAt version cluster most op h
+later version cluster last most op h l is = let made = is.made in record { entry = is.entry; of_version = is.of_version; of_group = is.of_group; at_op = is.at_op; made = omega arith }
 
-front_stands : (cluster k : ℕ) (ss : List Statement) (h : Header) (o : Option Statement) → All (IsStatement cluster) ss → farthest ss ≡ o
-    → option_and_then (stated_header k) o ≡ Some h → IsEntryAt cluster (top_view ss) k h
-front_stands cluster k ss h None all f e = cc
-front_stands cluster k ss h (Some s) all f e =
-    let is = (found (IsStatement cluster) (λ (s : Statement). s.commit == top_commit ss) ss s f all).1 in
+front_stands : (version cluster k : ℕ) (ss : List Statement) (h : Header) (o : Option Statement) → All (IsStatement version cluster) ss → farthest ss ≡ o
+    → option_and_then (stated_header k) o ≡ Some h → IsEntryAt version cluster (top_view ss) k h
+front_stands version cluster k ss h None all f e = cc
+front_stands version cluster k ss h (Some s) all f e =
+    let is = (found (IsStatement version cluster) (λ (s : Statement). s.commit == top_commit ss) ss s f all).1 in
     let low = (found (λ s. s.log_view ≤ top_view ss) (λ (s : Statement). s.commit == top_commit ss) ss s f (view_most ss)).1 in
-    later cluster s.log_view (top_view ss) k h low (stated_stands cluster k s h is e)
+    later version cluster s.log_view (top_view ss) k h low (stated_stands version cluster k s h is e)
 
-open_stands : (cluster k : ℕ) (ss : List Statement) (h : Header) → All (IsStatement cluster) ss → named ss k ≡ Some h → IsEntryAt cluster (top_view ss) k h
-open_stands cluster k ss h all e =
+open_stands : (version cluster k : ℕ) (ss : List Statement) (h : Header) → All (IsStatement version cluster) ss → named ss k ≡ Some h → IsEntryAt version cluster (top_view ss) k h
+open_stands version cluster k ss h all e =
     let names = names_of (top_view ss) k ss h e in
     let s = names.statement in
-    let is = All-contains (IsStatement cluster) ss s all names.there in
+    let is = All-contains (IsStatement version cluster) ss s all names.there in
     let view = names.view in
-    later cluster s.log_view (top_view ss) k h (omega arith) (stated_stands cluster k s h is names.header)
+    later version cluster s.log_view (top_view ss) k h (omega arith) (stated_stands version cluster k s h is names.header)
 
-chosen_stands : (cluster k : ℕ) (ss : List Statement) (h : Header) → All (IsStatement cluster) ss → chosen_header ss k ≡ Some h → IsEntryAt cluster (top_view ss) k h
-chosen_stands cluster k ss h all e =
+chosen_stands : (version cluster k : ℕ) (ss : List Statement) (h : Header) → All (IsStatement version cluster) ss → chosen_header ss k ≡ Some h → IsEntryAt version cluster (top_view ss) k h
+chosen_stands version cluster k ss h all e =
     elim (cases_lt (top_commit ss) k) [
-      | inl above ↦ open_stands cluster k ss h all (sym (chosen_open ss k above) ∙ e)
-      | inr below ↦ front_stands cluster k ss h (farthest ss) all refl (sym (chosen_front ss k below) ∙ e)
+      | inl above ↦ open_stands version cluster k ss h all (sym (chosen_open ss k above) ∙ e)
+      | inr below ↦ front_stands version cluster k ss h (farthest ss) all refl (sym (chosen_front ss k below) ∙ e)
     ]
 
 there_within : {X : Type 0} (xs : List X) (i : ℕ) (x : X) → slice_get xs i ≡ Some x → i < length xs
@@ -83,14 +83,14 @@ there_within (y ∷ ys) zero x e = omega arith
 there_within (y ∷ ys) (suc i) x e = let rest = there_within ys i x e in omega arith
 
 pub headers_stand : HeadersStand
-headers_stand cluster ss head headers all log =
+headers_stand version cluster ss head headers all log =
     let start : ℕ = log_start ss head in
     let whole = log.whole in
-    all_stand (IsEntryAt cluster (top_view ss)) (start + 1) headers (λ i x at.
+    all_stand (IsEntryAt version cluster (top_view ss)) (start + 1) headers (λ i x at.
     let within = there_within headers i x at in
     let place : start + 1 + i - (start + 1) ≡ i = omega arith in
     let is : slice_get headers i ≡ chosen_header ss (start + 1 + i) = rw place at (log.each (start + 1 + i) (omega arith) (omega arith)) in
-    chosen_stands cluster (start + 1 + i) ss x all (sym is ∙ at))
+    chosen_stands version cluster (start + 1 + i) ss x all (sym is ∙ at))
 
 start_high : (commit head : ℕ) (o : Option Statement) → head ≤ commit + 64 → head ≤ option_map_or (start_of commit head) o commit + 64
 start_high commit head None l = l

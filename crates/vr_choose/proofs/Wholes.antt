@@ -25,10 +25,10 @@ last_known (x ∷ xs) zero all e =
     cc
 last_known (x ∷ xs) (suc i) all e = last_known xs i (All-tail (λ p. has_header p ≡ true) x xs all) e
 
-pub whole_statement : (log_view head : ℕ) (parts : List Part) → length parts ≡ head → head ≤ 64 → FromOp (IsPartAt 1 log_view) 1 parts
+pub whole_statement : (version log_view head : ℕ) (parts : List Part) → length parts ≡ head → head ≤ 64 → FromOp (IsPartAt version 1 log_view) 1 parts
     → All (λ p. has_header p ≡ true) parts
-    → IsStatement 1 (record { log_view = log_view; commit = 0; head = head; body = record { first = 1; parts = parts } })
-whole_statement log_view head parts size small stand known =
+    → IsStatement version 1 (record { log_view = log_view; commit = 0; head = head; body = record { first = 1; parts = parts } })
+whole_statement version log_view head parts size small stand known =
     let run = all_known parts known in
     record {
       commit = omega arith;

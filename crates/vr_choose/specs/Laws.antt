@@ -62,11 +62,12 @@ NamesAgree ss =
 abbrev pub KeepsNames : Type 0
 KeepsNames = (ss ts : List Statement) → IsPermutation ss ts → NamesAgree ss → (k : ℕ) → named ss k ≡ named ts k
 
--- the headers of a log that statements of one group give are those of entries of the group, in order, from its start on
+-- the headers of a log that statements of one group give are those of entries of the group, in order, from its start on, of no later version than
+-- theirs
 abbrev pub HeadersStand : Type 0
 HeadersStand =
-    (cluster : ℕ) (ss : List Statement) (head : ℕ) (headers : List Header) → All (IsStatement cluster) ss → IsLog ss head headers
-    → FromOp (IsEntryAt cluster (top_view ss)) (log_start ss head + 1) headers
+    (version cluster : ℕ) (ss : List Statement) (head : ℕ) (headers : List Header) → All (IsStatement version cluster) ss → IsLog ss head headers
+    → FromOp (IsEntryAt version cluster (top_view ss)) (log_start ss head + 1) headers
 
 -- They are at most 64, where the log reaches no more than 64 above the greatest commit number.
 abbrev pub HeadersFew : Type 0

@@ -5,5 +5,6 @@ use Rattle.vr_msg.specs.Logs.{IsStatement}
 
 -- a statement as replicas of some group make it
 pub record IsSomeStatement (s : Statement) : Type 0 where
+  pub version : ℕ
   pub cluster : ℕ
-  pub statement : IsStatement cluster s
+  pub statement : IsStatement version cluster s

@@ -1,5 +1,5 @@
 -- The bytes of a block, both ways.
-use Rattle.std.proofs.Common.{ℕ, zero, suc, ◌+◌, ◌-◌, ◌≤◌, ◌<◌, ◌≡◌, arith, refl, sym, ap, ◌∙◌, true, false, cond, eqb, leb, ltb, ◌&&◌, List, [], ◌∷◌, ◌++◌, length, take, drop, Option, Some, None, Result, Ok, Err, length-append, length-drop, subst}
+use Rattle.std.proofs.Common.{ℕ, ◌+◌, ◌-◌, ◌≤◌, ◌<◌, ◌≡◌, arith, refl, sym, ap, ◌∙◌, true, false, cond, eqb, leb, ltb, ◌&&◌, List, ◌++◌, length, take, drop, Option, Some, None, Result, Ok, Err, length-append, length-drop, subst}
 use Rattle.std.specs.Prelude.{replicate, nat_eq, IfOk}
 use Rattle.std.specs.Option.{option_map}
 use Rattle.std.specs.Cmp.Lexicographic.{pointwise}
@@ -19,6 +19,7 @@ use Rattle.vr_header.proofs.HeaderLaws.{decoded_again, decoded_found, length-hea
 use Rattle.vr_header.proofs.NameLaws.{one_header_of_bytes}
 use Rattle.vr_header.proofs.SameHeaders.{same_header_is, same_header_of}
 use Rattle.vr_ckpt.specs.Blocks.{Content, IsContent, block_bytes, block_header, block_name, content_at, content_of, has_name, if_named, is_block, is_kind, named, with_header}
+use Rattle.vr_ckpt.specs.Places.{grid_size}
 use Rattle.vr_ckpt.specs.GridLaws.{OneBlock, OneSpelling, OwnNames}
 use Rattle.vr_ckpt.specs.declared.name.Name.{Name}
 
@@ -52,6 +53,7 @@ header_is c h =
       commit = omega arith;
       size = (omega arith, omega arith);
       replica = omega arith;
+      version = (omega arith, omega arith);
       kind = omega arith;
       aux = omega arith;
     }
@@ -98,9 +100,9 @@ kind_stands : (c : Content) → IsContent c → is_kind (block_header c).kind �
 unfolding block_header
 kind_stands c h = h.kind
 
-aux_fits : (c : Content) → IsContent c → ltb (block_header c).aux 128 ≡ true
+aux_fits : (c : Content) → IsContent c → ltb (block_header c).aux grid_size ≡ true
 unfolding block_header
-aux_fits c h = lt-ltb c.address 128 h.address
+aux_fits c h = lt-ltb c.address grid_size h.address
 
 rest_at : (c : Content) → IsContent c → drop (block_header c).size (block_bytes c) ≡ replicate (3968 - length c.payload) 0
 unfolding block_header
@@ -113,7 +115,7 @@ is_there c h =
     let b = block_bytes c in
     and_from (leb hd.size 4096) _ (le-leb hd.size 4096 (size_fits c h))
     (and_from (is_kind hd.kind) _ (kind_stands c h)
-    (and_from (ltb hd.aux 128) _ (aux_fits c h)
+    (and_from (ltb hd.aux grid_size) _ (aux_fits c h)
     (and_from (is_zeros (drop hd.size b)) _ (ap is_zeros (rest_at c h) ∙ zeros_are (3968 - length c.payload))
     (same_header_of hd (block_header (content_at hd b)) (ap block_header (sym (content_there c h)))))))
 
@@ -153,7 +155,7 @@ read_of b c e =
 pub record Sound (h : Header) (b : List ℕ) : Type 0 where
   pub size : h.size ≤ 4096
   pub kind : is_kind h.kind ≡ true
-  pub address : h.aux < 128
+  pub address : h.aux < grid_size
   pub zeros : is_zeros (drop h.size b) ≡ true
   pub same : h ≡ block_header (content_at h b)
 
@@ -163,12 +165,12 @@ sound_of h b e =
     let s = same_header h (block_header (content_at h b)) in
     let p = and_parts (leb h.size 4096) _ e in
     let q = and_parts (is_kind h.kind) _ p.1 in
-    let r = and_parts (ltb h.aux 128) _ q.1 in
+    let r = and_parts (ltb h.aux grid_size) _ q.1 in
     let t = and_parts (is_zeros (drop h.size b)) s r.1 in
     record {
       size = leb-true h.size 4096 p.0;
       kind = q.0;
-      address = ltb-true h.aux 128 r.0;
+      address = ltb-true h.aux grid_size r.0;
       zeros = t.0;
       same = same_header_is h (block_header (content_at h b)) t.1;
     }
@@ -308,8 +310,8 @@ no_header b name x l d = rw (eq-eqb (length b) 4096 l, d) refl
 
 -- ---- put
 
-pub fits_address : (b : List ℕ) (c : Content) → content_of b ≡ Some c → c.address < 128
-fits_address b c e = let r = read_of b c e in let s = sound_of r.header b r.is in let a = s.address in subst (λ (c : Content). c.address < 128) r.content a
+pub fits_address : (b : List ℕ) (c : Content) → content_of b ≡ Some c → c.address < grid_size
+fits_address b c e = let r = read_of b c e in let s = sound_of r.header b r.is in let a = s.address in subst (λ (c : Content). c.address < grid_size) r.content a
 
 -- a whole block's header tells a size from 128 to 4,096
 pub sizes_of : (b : List ℕ) (c : Content) → IsBytes b → (r : Read b c) → (128 ≤ r.header.size) × (r.header.size ≤ 4096)

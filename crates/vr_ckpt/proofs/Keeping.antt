@@ -3,7 +3,7 @@ use Rattle.std.proofs.Common.{ℕ, zero, suc, ◌+◌, ◌-◌, ◌≤◌, ◌<�
 use Rattle.std.specs.Prelude.{min, nat_lt, slice_get, IfSome}
 use Rattle.std.specs.List.{AllByRecursion}
 use Rattle.std.specs.Option.{option_and_then, option_map}
-use Rattle.std.proofs.lemmas.Bool.{and_parts, cases_lt, eqb-true}
+use Rattle.std.proofs.lemmas.Bool.{and_parts, eqb-true}
 use Rattle.vr_state.specs.StateTexts.{FitsPayloads, payloads}
 use Rattle.vr_state.specs.declared.texts.Texts.{Texts}
 use Rattle.vr_disk.specs.DiskState.{Call, Cell, Disk, Face, Sync, after_all, cut}
@@ -20,14 +20,16 @@ use Rattle.vr_ckpt.proofs.Contents.{named_found}
 use Rattle.vr_ckpt.proofs.Puts.{block_within}
 use Rattle.vr_ckpt.specs.Laws.{Holds, HoldsFrom, SaveKeeps, KeepLaw, TablesHeld}
 use Rattle.vr_ckpt.specs.Loads.{both_named, data_at, data_of, gathered, has_numbers, is_root, load_by, load_of, loaded, names_at, name_at, read_root, root_at, root_in, text_of, with_data, with_name, sessions_size, keys_size}
-use Rattle.vr_ckpt.specs.Places.{is_place, root_place}
+use Rattle.vr_ckpt.specs.Places.{grid_size, is_place, keys_places, place_of, root_place, sessions_places}
 use Rattle.vr_ckpt.specs.Saves.{blocks_calls, save_calls, written}
 use Rattle.vr_ckpt.specs.declared.found.Load.TheVariants.{Loaded}
 use Rattle.vr_ckpt.specs.declared.loading.Gathered.{Gathered}
+use Rattle.vr_ckpt.specs.declared.places.Places.{Places}
 use Rattle.vr_ckpt.specs.declared.root.Root.{Root}
 use Rattle.vr_ckpt.specs.declared.table.Payload.{Payload}
 use Rattle.vr_ckpt.specs.declared.table.PayloadTable.{PayloadTable}
-use Rattle.vr_ckpt.proofs.Apart.{AtPlace, Avoids, key_avoided, place_of, root_at_place, root_avoided, session_avoided}
+use Rattle.vr_ckpt.proofs.Apart.{Avoids, key_avoided, root_avoided, session_avoided}
+use Rattle.vr_ckpt.proofs.Placing.{AtPlace, at_place, blocks_apart, root_at_place}
 use Rattle.vr_ckpt.proofs.Roots.{numbers_of}
 
 -- ---- a block that no call writes
@@ -36,7 +38,7 @@ abbrev pub SameAt : Face → Face → ℕ → Type 0
 SameAt f g a = block_reading g a ≡ block_reading f a
 
 outside : (a x i : ℕ) → x ≢ a → block_place a ≤ i → i < block_place a + 8 → (i < block_place x) ⊎ (block_place x + 8 ≤ i)
-outside a x i d l m = elim (cases_lt a x) [ inl b ↦ inl (omega arith) | inr g ↦ elim (cases_lt x a) [ inl b ↦ inr (omega arith) | inr h ↦ absurd (d (omega arith)) ] ]
+outside a x i d l m = elim (blocks_apart a x (λ e. d (sym e))) [ inl b ↦ inl (omega arith) | inr b ↦ inr (omega arith) ]
 
 blocks_spare : (bs : List Block) (a i : ℕ) → Avoids a bs → block_place a ≤ i → i < block_place a + 8 → AllByRecursion (Spares i) (blocks_calls bs)
 unfolding blocks_calls
@@ -193,17 +195,15 @@ loaded_same f g root texts t e r s k =
 
 -- ---- the payloads of a table
 
-pub all_same : (f g : Face) (old ps : List Payload) (low i : ℕ) → ((k : ℕ) → slice_get old (i + k) ≡ slice_get ps k) → HoldsFrom f (low + i) ps
-    → ((j : ℕ) (p : Payload) → slice_get old j ≡ Some p → j < i + length ps → AtPlace (low + j) p.name.address → SameAt f g p.name.address) → AllSame f g ps
-all_same f g old [] low i at h same = tt
-all_same f g old (p ∷ ps) low i at h same =
+pub all_same : (f g : Face) (old ps : List Payload) (l : Places) (i : ℕ) → ((k : ℕ) → slice_get old (i + k) ≡ slice_get ps k) → HoldsFrom f l i ps
+    → ((j : ℕ) (p : Payload) → slice_get old j ≡ Some p → j < i + length ps → AtPlace (place_of l j) p.name.address → SameAt f g p.name.address) → AllSame f g ps
+all_same f g old [] l i at h same = tt
+all_same f g old (p ∷ ps) l i at h same =
     let z : i + 0 ≡ i = omega arith in
-    let here : slice_get old i ≡ Some p = ap (slice_get old) (sym z) ∙ at 0 in
-    let n : low + i + 1 ≡ low + (i + 1) = omega arith in
-    let later : HoldsFrom f (low + (i + 1)) ps = rw n at h.2 in (
-      same i p here (omega arith) (place_of (low + i) p.name.address h.0),
-      all_same f g old ps low (i + 1) (λ k. let m : i + 1 + k ≡ i + suc k = omega arith in ap (slice_get old) m ∙ at (suc k)) later
-          (λ j q s l a. same j q s (omega arith) a),
+    let here : slice_get old i ≡ Some p = ap (slice_get old) (sym z) ∙ at 0 in (
+      same i p here (omega arith) (at_place (place_of l i) p.name.address h.0),
+      all_same f g old ps l (i + 1) (λ k. let m : i + 1 + k ≡ i + suc k = omega arith in ap (slice_get old) m ∙ at (suc k)) h.2
+          (λ j q s less a. same j q s (omega arith) a),
     )
 
 -- ---- the table is held
@@ -237,36 +237,36 @@ length_is f n size bytes e = by_content (named_at f n) e
     by_content None e = absurd cc
     by_content (Some c) e = by_data c e
 
-record Named (f : Face) (low n : ℕ) (ps : List Payload) : Type 0 where
-  holds : HoldsFrom f low ps
+record Named (f : Face) (l : Places) (k n : ℕ) (ps : List Payload) : Type 0 where
+  holds : HoldsFrom f l k ps
   count : length ps ≡ n
 
-holds_by : (f : Face) (low : ℕ) (b : List ℕ) (i n size : ℕ) (ns : List Name) (ps : List Payload) → names_at low b i n ≡ Some ns → gathered f size ns ≡ All ps → Named f low n ps
+holds_by : (f : Face) (l : Places) (k : ℕ) (b : List ℕ) (i n size : ℕ) (ns : List Name) (ps : List Payload) → names_at l k b i n ≡ Some ns → gathered f size ns ≡ All ps → Named f l k n ps
 unfolding names_at gathered
-holds_by f low b i zero size ns ps e h =
+holds_by f l k b i zero size ns ps e h =
     let same : [] ≡ ns = cc in
     let h' : gathered f size [] ≡ All ps = subst (λ (ns : List Name). gathered f size ns ≡ All ps) (sym same) h in
     let none : [] ≡ ps = ap (λ (g : Gathered). g.payloads) h' in
-    subst (λ (ps : List Payload). Named f low 0 ps) none (record { holds = tt; count = refl })
-holds_by f low b i (suc n) size ns ps e h =
-    let w = with_parts low (name_at b i) (names_at (low + 1) b (i + 1) n) ns e in
+    subst (λ (ps : List Payload). Named f l k 0 ps) none (record { holds = tt; count = refl })
+holds_by f l k b i (suc n) size ns ps e h =
+    let w = with_parts (place_of l k) (name_at b i) (names_at l (k + 1) b (i + 1) n) ns e in
     let m = name_at b i in
     let rest = w.1.0 in
     let h' : gathered f size (m ∷ rest) ≡ All ps = subst (λ (ns : List Name). gathered f size ns ≡ All ps) w.1.2 h in
     let x = first_of f size m rest ps h' in
-    let later = holds_by f (low + 1) b (i + 1) n (size - 3968) rest x.others w.1.1 x.rest in
-    let l = length_is f m (min size 3968) x.bytes x.reads in
-    subst (λ (ps : List Payload). Named f low (suc n) ps) (sym x.whole) (record { holds = (w.0, rw l x.reads, later.holds); count = ap suc later.count })
+    let later = holds_by f l (k + 1) b (i + 1) n (size - 3968) rest x.others w.1.1 x.rest in
+    let size_is = length_is f m (min size 3968) x.bytes x.reads in
+    subst (λ (ps : List Payload). Named f l k (suc n) ps) (sym x.whole) (record { holds = (w.0, rw size_is x.reads, later.holds); count = ap suc later.count })
 
 -- a root's own words
 record Said (r : Root) : Type 0 where
   bytes : List ℕ
   op : ℕ
   numbers : has_numbers op bytes ≡ true
-  sessions : names_at 1 bytes 0 (payloads (sessions_size bytes)) ≡ Some r.sessions
-  keys : names_at 10 bytes (payloads (sessions_size bytes)) (payloads (keys_size bytes)) ≡ Some r.keys
+  sessions : names_at sessions_places 0 bytes 0 (payloads (sessions_size bytes)) ≡ Some r.sessions
+  keys : names_at keys_places 0 bytes (payloads (sessions_size bytes)) (payloads (keys_size bytes)) ≡ Some r.keys
 
-both_said : (b : List ℕ) (op : ℕ) (r : Root) (s k : Option (List Name)) → has_numbers op b ≡ true → names_at 1 b 0 (payloads (sessions_size b)) ≡ s → names_at 10 b (payloads (sessions_size b)) (payloads (keys_size b)) ≡ k
+both_said : (b : List ℕ) (op : ℕ) (r : Root) (s k : Option (List Name)) → has_numbers op b ≡ true → names_at sessions_places 0 b 0 (payloads (sessions_size b)) ≡ s → names_at keys_places 0 b (payloads (sessions_size b)) (payloads (keys_size b)) ≡ k
     → both_named b s k ≡ Some r → Said r
 both_said b op r None k n p q e = absurd cc
 both_said b op r (Some s) None n p q e = absurd cc
@@ -288,13 +288,13 @@ record Read (name : Name) (r : Root) : Type 0 where
 read_said : (c : Content) (name : Name) (r : Root) → block_name c ≡ name → read_root c ≡ Some r → Read name r
 unfolding read_root root_in
 read_said c name r n e =
-    elim (is_root c) as (λ t. is_root c ≡ t → cond t (both_named c.payload (names_at 1 c.payload 0 (payloads (sessions_size c.payload))) (names_at 10 c.payload (payloads (sessions_size c.payload)) (payloads (keys_size c.payload)))) None ≡ Some r → Read name r) [
+    elim (is_root c) as (λ t. is_root c ≡ t → cond t (both_named c.payload (names_at sessions_places 0 c.payload 0 (payloads (sessions_size c.payload))) (names_at keys_places 0 c.payload (payloads (sessions_size c.payload)) (payloads (keys_size c.payload)))) None ≡ Some r → Read name r) [
       | true ↦ λ t e.
           let p = and_parts (eqb c.kind 3) _ t in
           let q = and_parts (eqb c.address (root_place c.op)) (has_numbers c.op c.payload) p.1 in
           let a : name.address ≡ root_place c.op = ap (λ (n : Name). n.address) (sym n) ∙ eqb-true c.address (root_place c.op) q.0 in
           record {
-            said = both_said c.payload c.op r (names_at 1 c.payload 0 (payloads (sessions_size c.payload))) (names_at 10 c.payload (payloads (sessions_size c.payload)) (payloads (keys_size c.payload))) q.1 refl refl e;
+            said = both_said c.payload c.op r (names_at sessions_places 0 c.payload 0 (payloads (sessions_size c.payload))) (names_at keys_places 0 c.payload (payloads (sessions_size c.payload)) (payloads (keys_size c.payload))) q.1 refl refl e;
             at = subst (AtPlace 0) (sym a) (root_at_place c.op);
           }
       | false ↦ λ t e. absurd cc
@@ -302,7 +302,7 @@ read_said c name r n e =
 
 read_of_root : (f : Face) (name : Name) (r : Root) → root_at f name ≡ Some r → Read name r
 unfolding root_at named_at
-read_of_root f name r e = by_test (nat_lt name.address 128) e
+read_of_root f name r e = by_test (nat_lt name.address grid_size) e
   where
     by_bytes : (b : List ℕ) (o : Option Content) → named name b ≡ o → option_and_then read_root o ≡ Some r → Read name r
     by_bytes b None n e = absurd cc
@@ -321,8 +321,8 @@ each_held f root texts t e =
     let l = loads_of f root texts t e in
     let said = (read_of_root f root l.found l.at).said in
     let n = numbers_of said.op said.bytes said.numbers in
-    let s = holds_by f 1 said.bytes 0 (payloads (sessions_size said.bytes)) l.found.sessions_size l.found.sessions t.sessions said.sessions l.sessions in
-    let k = holds_by f 10 said.bytes (payloads (sessions_size said.bytes)) (payloads (keys_size said.bytes)) l.found.keys_size l.found.keys t.keys said.keys l.keys in
+    let s = holds_by f sessions_places 0 said.bytes 0 (payloads (sessions_size said.bytes)) l.found.sessions_size l.found.sessions t.sessions said.sessions l.sessions in
+    let k = holds_by f keys_places 0 said.bytes (payloads (sessions_size said.bytes)) (payloads (keys_size said.bytes)) l.found.keys_size l.found.keys t.keys said.keys l.keys in
     record {
       sessions = s.holds;
       few_sessions = let a = s.count in let b = n.sessions in omega arith;
@@ -345,8 +345,8 @@ keeps_by cluster texts op old f g fits same root before d e =
     let at = (read_of_root f root l.found l.at).at in
     loaded_same f g root before old e
     (same root.address (root_avoided cluster texts op old root.address fits at (λ s. d (sym s))))
-    (all_same f g old.sessions old.sessions 1 0 (λ k. let z : 0 + k ≡ k = omega arith in ap (slice_get old.sessions) z) h.sessions (λ j p s n a. same p.name.address (session_avoided cluster texts op old j p fits s (omega arith) a)))
-    (all_same f g old.keys old.keys 10 0 (λ k. let z : 0 + k ≡ k = omega arith in ap (slice_get old.keys) z) h.keys (λ j p s n a. same p.name.address (key_avoided cluster texts op old j p fits s (omega arith) a)))
+    (all_same f g old.sessions old.sessions sessions_places 0 (λ k. let z : 0 + k ≡ k = omega arith in ap (slice_get old.sessions) z) h.sessions (λ j p s n a. same p.name.address (session_avoided cluster texts op old j p fits s (omega arith) a)))
+    (all_same f g old.keys old.keys keys_places 0 (λ k. let z : 0 + k ≡ k = omega arith in ap (slice_get old.keys) z) h.keys (λ j p s n a. same p.name.address (key_avoided cluster texts op old j p fits s (omega arith) a)))
 
 pub keep_law : KeepLaw
 keep_law cluster texts op old f fits w = record {

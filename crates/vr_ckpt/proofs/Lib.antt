@@ -1,5 +1,6 @@
 pub mod Contents
 pub mod Made
+pub mod Placing
 pub mod Puts
 pub mod Readings
 pub mod Apart
@@ -8,7 +9,9 @@ pub mod Gathering
 pub mod Keeping
 pub mod Planning
 pub mod Roots
+mod Rows
 pub mod Sealed
+pub use Rattle.vr_state.proofs.Fitting
 pub use Rattle.vr_state.proofs.KvSteps
 pub use Rattle.vr_state.proofs.KvTexts
 pub use Rattle.vr_state.proofs.Numbers

@@ -14,7 +14,7 @@ use Rattle.vr_ckpt.specs.Grid.{block_calls}
 use Rattle.vr_ckpt.specs.declared.name.Name.{Name}
 use Rattle.vr_ckpt.specs.declared.block.Block.{Block}
 use Rattle.vr_ckpt.proofs.Made.{name_of_made}
-use Rattle.vr_ckpt.specs.Places.{first_place, other_place}
+use Rattle.vr_ckpt.specs.Places.{first_place, grid_size, other_place, place_of}
 use Rattle.vr_ckpt.specs.Saves.{IsPlaced, blocks_calls, blocks_from, data_content, goes_to, keys_run, payload_blocks, payload_blocks_at, payload_at, payloads_from, root_of, saved_checkpoint, sessions_run, stays, table_of}
 use Rattle.vr_ckpt.specs.declared.saving.SavedCheckpoint.{SavedCheckpoint}
 use Rattle.vr_ckpt.specs.declared.table.PayloadTable.{PayloadTable}
@@ -56,11 +56,11 @@ pub part_same : (r : Run) (i : ℕ) (bytes : List ℕ) (p : Payload) → pointwi
 unfolding payload_blocks
 part_same r i bytes p e = rw e refl
 
-pub part_other : (r : Run) (i : ℕ) (bytes : List ℕ) (p : Payload) → pointwise nat_eq p.bytes bytes ≡ false → payload_blocks r i bytes (Some p) ≡ goes_to r (other_place (r.low + i) p.name.address) bytes
+pub part_other : (r : Run) (i : ℕ) (bytes : List ℕ) (p : Payload) → pointwise nat_eq p.bytes bytes ≡ false → payload_blocks r i bytes (Some p) ≡ goes_to r (other_place (place_of r.places i) p.name.address) bytes
 unfolding payload_blocks
 part_other r i bytes p e = rw e refl
 
-pub part_first : (r : Run) (i : ℕ) (bytes : List ℕ) → payload_blocks r i bytes None ≡ goes_to r (first_place r.op (r.low + i)) bytes
+pub part_first : (r : Run) (i : ℕ) (bytes : List ℕ) → payload_blocks r i bytes None ≡ goes_to r (first_place r.op (place_of r.places i)) bytes
 unfolding payload_blocks
 part_first r i bytes = refl
 
@@ -72,7 +72,7 @@ past [] i l = refl
 past (x ∷ xs) zero l = absurd (omega arith)
 past (x ∷ xs) (suc i) l = past xs i (omega arith)
 
-pub part_new : (r : Run) (text : List ℕ) (old : List Payload) (i : ℕ) → length old ≤ i → payload_blocks_at r text old i ≡ goes_to r (first_place r.op (r.low + i)) (payload_at text i)
+pub part_new : (r : Run) (text : List ℕ) (old : List Payload) (i : ℕ) → length old ≤ i → payload_blocks_at r text old i ≡ goes_to r (first_place r.op (place_of r.places i)) (payload_at text i)
 part_new r text old i l = ap (payload_blocks r i (payload_at text i)) (past old i l) ∙ part_first r i (payload_at text i)
 
 -- the loop over payloads
@@ -114,11 +114,11 @@ begins_before n i l = omega arith
 
 -- ---- blocks in the grid
 
-placed_made : (c : Content) → c.address < 128 → length (block_of c).bytes ≡ 4096 → is_some (content_of (block_of c).bytes) ≡ true → IsPlaced (block_of c)
+placed_made : (c : Content) → c.address < grid_size → length (block_of c).bytes ≡ 4096 → is_some (content_of (block_of c).bytes) ≡ true → IsPlaced (block_of c)
 unfolding block_of
 placed_made c l s w = record { address = l; size = s; whole = w }
 
-pub placed_is : (b : Block) (c : Content) → b ≡ block_of c → c.address < 128 → length b.bytes ≡ 4096 → is_some (content_of b.bytes) ≡ true → IsPlaced b
+pub placed_is : (b : Block) (c : Content) → b ≡ block_of c → c.address < grid_size → length b.bytes ≡ 4096 → is_some (content_of b.bytes) ≡ true → IsPlaced b
 placed_is b c e l s w =
     subst IsPlaced (sym e) (placed_made c l (subst (λ (b : Block). length b.bytes ≡ 4096) e s) (subst (λ (b : Block). is_some (content_of b.bytes) ≡ true) e w))
 

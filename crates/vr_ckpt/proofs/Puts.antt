@@ -4,7 +4,7 @@ use Rattle.std.specs.Prelude.{IfSome, is_some}
 use Rattle.std.specs.List.{AllByRecursion}
 use Rattle.std.proofs.lemmas.List.{take_all}
 use Rattle.vr_disk.specs.DiskState.{Disk, Face, IsFace, Sync, after_all}
-use Rattle.vr_disk.specs.Regions.{block_place}
+use Rattle.vr_disk.specs.Regions.{block_place, sectors}
 use Rattle.vr_disk.specs.Sectors.{together}
 use Rattle.vr_disk.proofs.Frames.{frame_all, frame_cut}
 use Rattle.vr_disk.proofs.Telling.{if_some, some_if}
@@ -12,13 +12,17 @@ use Rattle.vr_disk.proofs.Together.{Within, after_all_append, together_synced, t
 use Rattle.vr_ckpt.specs.Blocks.{named}
 use Rattle.vr_ckpt.specs.Grid.{block_calls, block_reading, put_calls}
 use Rattle.vr_ckpt.specs.GridLaws.{PutLaw, PutLeaves}
+use Rattle.vr_ckpt.specs.Places.{grid_size}
 use Rattle.vr_ckpt.specs.declared.name.Name.{Name}
+use Rattle.vr_ckpt.proofs.Placing.{block_inside}
 use Rattle.vr_ckpt.proofs.Contents.{named_found, read_of, fits_address}
 
 -- a block's sectors, written
-pub written_reads : (address : ℕ) (bytes : List ℕ) (f : Face) → address < 128 → length bytes ≡ 4096 → length f.cells ≡ 1424 → block_reading (after_all f (block_calls address bytes)) address ≡ Some bytes
+pub written_reads : (address : ℕ) (bytes : List ℕ) (f : Face) → address < grid_size → length bytes ≡ 4096 → length f.cells ≡ sectors → block_reading (after_all f (block_calls address bytes)) address ≡ Some bytes
 unfolding block_reading block_calls
-written_reads address bytes f a l n = together_written 8 (block_place address) bytes f (omega arith) ∙ ap Some (take_all 4096 bytes (omega arith))
+written_reads address bytes f a l n =
+    let inside = block_inside address a in
+    together_written 8 (block_place address) bytes f (omega arith) ∙ ap Some (take_all 4096 bytes (omega arith))
 
 pub block_within : (address : ℕ) (bytes : List ℕ) → AllByRecursion (Within (block_place address) (block_place address + 8)) (block_calls address bytes)
 unfolding block_calls
@@ -43,7 +47,7 @@ pub some_there : {X : Type 0} → (o : Option X) → is_some o ≡ true → (x :
 some_there None e = absurd cc
 some_there (Some x) e = (x, refl)
 
-pub name_fits : (name : Name) (b : List ℕ) → is_some (named name b) ≡ true → (name.address < 128) × (length b ≡ 4096)
+pub name_fits : (name : Name) (b : List ℕ) → is_some (named name b) ≡ true → (name.address < grid_size) × (length b ≡ 4096)
 name_fits name b e =
     let p = some_there (named name b) e in
     let q = named_found name b p.0 p.1 in

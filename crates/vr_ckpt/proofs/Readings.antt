@@ -13,26 +13,27 @@ use Rattle.vr_disk.specs.DiskState.{Disk, Face}
 use Rattle.vr_disk.proofs.Telling.{if_some, some_if}
 use Rattle.vr_ckpt.specs.Blocks.{Content, content_at, named}
 use Rattle.vr_ckpt.specs.Grid.{IsWhole, block_reading, named_at}
+use Rattle.vr_ckpt.specs.Places.{grid_size}
 use Rattle.vr_ckpt.specs.declared.name.Name.{Name}
 
-pub named_by_reading : (f : Face) (name : Name) → name.address < 128 → named_at f name ≡ option_and_then (named name) (block_reading f name.address)
+pub named_by_reading : (f : Face) (name : Name) → name.address < grid_size → named_at f name ≡ option_and_then (named name) (block_reading f name.address)
 unfolding named_at
-named_by_reading f name l = rw (lt-ltb name.address 128 l) refl
+named_by_reading f name l = rw (lt-ltb name.address grid_size l) refl
 
-outside : (f : Face) (name : Name) → 128 ≤ name.address → named_at f name ≡ None
+outside : (f : Face) (name : Name) → grid_size ≤ name.address → named_at f name ≡ None
 unfolding named_at
-outside f name l = rw (le-ltb name.address 128 l) refl
+outside f name l = rw (le-ltb name.address grid_size l) refl
 
-pub reads_outside : (t : Option Disk) (name : Name) → 128 ≤ name.address → IfSome t (λ (d : Disk). named_at d.face name ≡ None)
+pub reads_outside : (t : Option Disk) (name : Name) → grid_size ≤ name.address → IfSome t (λ (d : Disk). named_at d.face name ≡ None)
 reads_outside t name l = if_some (λ (d : Disk). named_at d.face name ≡ None) t (λ d e. outside d.face name l)
 
-pub reads_not : (t : Option Disk) (name : Name) (b : List ℕ) (r : Bool) → name.address < 128 → r ≡ false → IfSome t (λ (d : Disk). block_reading d.face name.address ≡ cond r (Some b) None)
+pub reads_not : (t : Option Disk) (name : Name) (b : List ℕ) (r : Bool) → name.address < grid_size → r ≡ false → IfSome t (λ (d : Disk). block_reading d.face name.address ≡ cond r (Some b) None)
     → IfSome t (λ (d : Disk). named_at d.face name ≡ None)
 reads_not t name b r l f h =
     if_some (λ (d : Disk). named_at d.face name ≡ None) t
     (λ d e. named_by_reading d.face name l ∙ ap (option_and_then (named name)) (some_if (λ (d : Disk). block_reading d.face name.address ≡ cond r (Some b) None) t d h e ∙ ap (λ x. cond x (Some b) None) f))
 
-pub reads_it : (t : Option Disk) (name : Name) (b : List ℕ) (r : Bool) → name.address < 128 → r ≡ true → IfSome t (λ (d : Disk). block_reading d.face name.address ≡ cond r (Some b) None)
+pub reads_it : (t : Option Disk) (name : Name) (b : List ℕ) (r : Bool) → name.address < grid_size → r ≡ true → IfSome t (λ (d : Disk). block_reading d.face name.address ≡ cond r (Some b) None)
     → IfSome t (λ (d : Disk). named_at d.face name ≡ named name b)
 reads_it t name b r l f h =
     if_some (λ (d : Disk). named_at d.face name ≡ named name b) t

@@ -10,6 +10,7 @@ use Rattle.vr_header.specs.declared.header.Header.{Header}
 use Rattle.vr_header.specs.declared.header.HeaderFault.{HeaderFault}
 use Rattle.vr_ckpt.specs.declared.block.Block.{Block}
 use Rattle.vr_ckpt.specs.declared.name.Name.{Name}
+use Rattle.vr_ckpt.specs.Places.{grid_size}
 
 -- what a block holds: its group, its address in the grid, the checkpoint that wrote it, its kind and its payload
 pub record Content : Type 0 where
@@ -26,14 +27,14 @@ is_kind kind = (kind == 2) || (kind == 3)
 -- what the blocks of the program hold
 pub record IsContent (c : Content) : Type 0 where
   pub cluster : c.cluster < 2 ^ 64
-  pub address : c.address < 128
+  pub address : c.address < grid_size
   pub op : c.op < 2 ^ 64
   pub kind : is_kind c.kind ≡ true
   pub payload : length c.payload ≤ 3968
 
 -- ---- the bytes of a content
 
--- the fields that a block has no use for are zero
+-- of version 1 in every file; the fields that a block has no use for are zero
 unfoldable pub block_header : Content → Header
 block_header c = record {
   body = record { 0 = name_of c.payload };
@@ -47,6 +48,7 @@ block_header c = record {
   commit = 0;
   size = 128 + length c.payload;
   command = command.Block;
+  version = 1;
   replica = 0;
   kind = c.kind;
   aux = c.address;
@@ -72,7 +74,7 @@ content_at h bytes = record { cluster = h.cluster; address = h.aux; op = h.op; k
 -- the header is that of what stands behind it, and zeros fill the rest
 unfoldable pub is_block : Header → List ℕ → Bool
 is_block h bytes =
-    nat_le h.size 4096 && (is_kind h.kind && (nat_lt h.aux 128 && (is_zeros (drop h.size bytes) && same_header h (block_header (content_at h bytes)))))
+    nat_le h.size 4096 && (is_kind h.kind && (nat_lt h.aux grid_size && (is_zeros (drop h.size bytes) && same_header h (block_header (content_at h bytes)))))
 
 abbrev pub with_header : List ℕ → Result Header HeaderFault → Option Content
 with_header bytes (Err fault) = None

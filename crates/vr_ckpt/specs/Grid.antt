@@ -5,6 +5,7 @@ use Rattle.vr_disk.specs.DiskState.{Call, Disk, Sync, Face, Runs}
 use Rattle.vr_disk.specs.Regions.{block_place}
 use Rattle.vr_disk.specs.Sectors.{together, writes}
 use Rattle.vr_ckpt.specs.Blocks.{Content, named}
+use Rattle.vr_ckpt.specs.Places.{grid_size}
 use Rattle.vr_ckpt.specs.declared.fault.CkptFault.{CkptFault}
 use Rattle.vr_ckpt.specs.declared.fault.CkptFault.TheVariants as fault
 use Rattle.vr_ckpt.specs.declared.name.Name.{Name}
@@ -15,7 +16,7 @@ block_reading f address = together (block_place address) 8 f
 
 -- the block that reads under a name; None: it is faulty
 unfoldable pub named_at : Face → Name → Option Content
-named_at f name = if nat_lt name.address 128 then option_and_then (named name) (block_reading f name.address) else None
+named_at f name = if nat_lt name.address grid_size then option_and_then (named name) (block_reading f name.address) else None
 
 -- the eight sectors of a block
 unfoldable pub block_calls : ℕ → List ℕ → List Call

@@ -6,6 +6,7 @@ use Rattle.vr_disk.specs.Regions.{block_place}
 use Rattle.vr_header.specs.Spelling.{named_bytes}
 use Rattle.vr_ckpt.specs.Blocks.{Content, IsContent, block_bytes, block_header, block_name, content_of, named}
 use Rattle.vr_ckpt.specs.Grid.{block_reading, put_calls}
+use Rattle.vr_ckpt.specs.Places.{grid_size}
 use Rattle.vr_ckpt.specs.declared.name.Name.{Name}
 
 -- a whole block has the bytes of its content, and no other bytes have that content
@@ -36,4 +37,4 @@ pub record PutLeaves (address : ℕ) (bytes : List ℕ) (f : Face) : Type 0 wher
 
 abbrev pub PutLaw : Type 0
 PutLaw =
-    (address : ℕ) (bytes : List ℕ) (f : Face) → address < 128 → length bytes ≡ 4096 → IsFace f → f.waiting ≡ [] → PutLeaves address bytes f
+    (address : ℕ) (bytes : List ℕ) (f : Face) → address < grid_size → length bytes ≡ 4096 → IsFace f → f.waiting ≡ [] → PutLeaves address bytes f

@@ -1,27 +1,28 @@
 -- What a checkpoint leaves of the one before, and what it loads as.
 use Rattle.std.specs.Prelude.{ℕ, ◌+◌, ◌^◌, ◌<◌, ◌≤◌, ◌≡◌, ◌≢◌, true, List, [], ◌∷◌, length, take, Some}
 use Rattle.vr_disk.specs.DiskState.{Face, IsFace, after_all, cut}
-use Rattle.vr_state.specs.StateTexts.{FitsPayloads}
+use Rattle.vr_state.specs.StateTexts.{FitsPayloads, key_payloads, session_payloads}
 use Rattle.vr_state.specs.declared.texts.Texts.{Texts}
 use Rattle.vr_ckpt.specs.declared.name.Name.{Name}
 use Rattle.vr_ckpt.specs.Loads.{data_at, loaded}
-use Rattle.vr_ckpt.specs.Places.{IsCheckpoint, empty, is_place, keys_place, root_place, sessions_place}
+use Rattle.vr_ckpt.specs.Places.{IsCheckpoint, empty, is_place, keys_places, place_of, root_place, sessions_places}
 use Rattle.vr_ckpt.specs.Saves.{save_calls, saved_checkpoint}
 use Rattle.vr_ckpt.specs.declared.found.Load.TheVariants.{Loaded}
+use Rattle.vr_ckpt.specs.declared.places.Places.{Places}
 use Rattle.vr_ckpt.specs.declared.table.Payload.{Payload}
 use Rattle.vr_ckpt.specs.declared.table.PayloadTable.{PayloadTable}
 
--- each payload stands at one of its places and reads as it is kept
-abbrev pub HoldsFrom : Face → ℕ → List Payload → Type 0
-HoldsFrom f low [] = Unit {0}
-HoldsFrom f low (p ∷ ps) = (is_place low p.name.address ≡ true) × (data_at f p.name (length p.bytes) ≡ Some p.bytes) × HoldsFrom f (low + 1) ps
+-- each payload, from the i-th of a text on, stands at one of its places and reads as it is kept
+abbrev pub HoldsFrom : Face → Places → ℕ → List Payload → Type 0
+HoldsFrom f l i [] = Unit {0}
+HoldsFrom f l i (p ∷ ps) = (is_place (place_of l i) p.name.address ≡ true) × (data_at f p.name (length p.bytes) ≡ Some p.bytes) × HoldsFrom f l (i + 1) ps
 
 -- the disk holds what a table names
 pub record Holds (f : Face) (t : PayloadTable) : Type 0 where
-  pub sessions : HoldsFrom f sessions_place t.sessions
-  pub few_sessions : length t.sessions ≤ 9
-  pub keys : HoldsFrom f keys_place t.keys
-  pub few_keys : length t.keys ≤ 36
+  pub sessions : HoldsFrom f sessions_places 0 t.sessions
+  pub few_sessions : length t.sessions ≤ session_payloads
+  pub keys : HoldsFrom f keys_places 0 t.keys
+  pub few_keys : length t.keys ≤ key_payloads
 
 -- the table of no checkpoint is held, and so is each that is loaded
 pub record TablesHeld : Type 0 where

@@ -8,6 +8,7 @@ pub mod Saves
 pub use Rattle.vr_state.specs.Asks
 pub use Rattle.vr_state.specs.Effects
 pub use Rattle.vr_state.specs.Finite
+pub use Rattle.vr_state.specs.Fitting
 pub use Rattle.vr_state.specs.Folds
 pub use Rattle.vr_state.specs.Kv
 pub use Rattle.vr_state.specs.Pairs

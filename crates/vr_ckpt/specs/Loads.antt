@@ -4,14 +4,15 @@ use Rattle.std.specs.Option.{option_and_then, option_map}
 use Rattle.std.specs.Int.{w16, w32, w64}
 use Rattle.vr_base.specs.Bytes.{number, piece}
 use Rattle.vr_disk.specs.DiskState.{Face}
-use Rattle.vr_state.specs.StateTexts.{payloads}
+use Rattle.vr_state.specs.StateTexts.{key_payloads, payloads, session_payloads}
 use Rattle.vr_ckpt.specs.Blocks.{Content}
 use Rattle.vr_ckpt.specs.Grid.{named_at}
 use Rattle.vr_ckpt.specs.declared.name.Name.{Name}
-use Rattle.vr_ckpt.specs.Places.{is_place, keys_place, root_place, sessions_place}
+use Rattle.vr_ckpt.specs.Places.{is_place, keys_places, place_of, root_place, sessions_places}
 use Rattle.vr_ckpt.specs.declared.loading.Gathered.{Gathered}
 use Rattle.vr_ckpt.specs.declared.found.Load.{Load}
 use Rattle.vr_ckpt.specs.declared.found.Load.TheVariants.{Loaded, Missing}
+use Rattle.vr_ckpt.specs.declared.places.Places.{Places}
 use Rattle.vr_ckpt.specs.declared.root.Root.{Root}
 use Rattle.vr_ckpt.specs.declared.table.Payload.{Payload}
 
@@ -24,10 +25,10 @@ name_at bytes i = record { address = number w64 (18 + 24 * i) bytes; sum = recor
 abbrev pub with_name : ℕ → Name → Option (List Name) → Option (List Name)
 with_name low name rest = if is_place low name.address then option_map (λ names. name ∷ names) rest else None
 
--- so many names from the i-th on, each of one of its places, by the lower one of the first
-unfoldable pub names_at : ℕ → List ℕ → ℕ → ℕ → Option (List Name)
-names_at low bytes i zero = Some []
-names_at low bytes i (suc n) = with_name low (name_at bytes i) (names_at (low + 1) bytes (i + 1) n)
+-- so many names from the i-th on, each at one of its places: those of a text's payloads from the k-th on
+unfoldable pub names_at : Places → ℕ → List ℕ → ℕ → ℕ → Option (List Name)
+names_at l k bytes i zero = Some []
+names_at l k bytes i (suc n) = with_name (place_of l k) (name_at bytes i) (names_at l (k + 1) bytes (i + 1) n)
 
 -- how long the texts are
 unfoldable pub sessions_size : List ℕ → ℕ
@@ -40,7 +41,7 @@ keys_size bytes = number w32 12 bytes
 unfoldable pub has_numbers : ℕ → List ℕ → Bool
 has_numbers op bytes =
     if nat_lt (length bytes) 18 then false
-    else ((number w64 0 bytes == op) && (nat_le (payloads (sessions_size bytes)) 9 && (nat_le (payloads (keys_size bytes)) 36
+    else ((number w64 0 bytes == op) && (nat_le (payloads (sessions_size bytes)) session_payloads && (nat_le (payloads (keys_size bytes)) key_payloads
     && ((number w16 16 bytes == payloads (sessions_size bytes) + payloads (keys_size bytes))
     && (length bytes == 18 + 24 * (payloads (sessions_size bytes) + payloads (keys_size bytes)))))))
 
@@ -56,7 +57,7 @@ both_named bytes (Some sessions) (Some keys) =
 -- what a root's payload says: how long the texts are, and the names of their payloads
 unfoldable pub root_in : List ℕ → Option Root
 root_in bytes =
-    both_named bytes (names_at sessions_place bytes 0 (payloads (sessions_size bytes))) (names_at keys_place bytes (payloads (sessions_size bytes)) (payloads (keys_size bytes)))
+    both_named bytes (names_at sessions_places 0 bytes 0 (payloads (sessions_size bytes))) (names_at keys_places 0 bytes (payloads (sessions_size bytes)) (payloads (keys_size bytes)))
 
 -- the root that a block is, None where it isn't one
 unfoldable pub read_root : Content → Option Root

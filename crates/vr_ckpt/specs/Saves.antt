@@ -8,7 +8,7 @@ use Rattle.vr_state.specs.declared.texts.Texts.{Texts}
 use Rattle.vr_ckpt.specs.Blocks.{Content, block_name, block_of, content_of}
 use Rattle.vr_ckpt.specs.Grid.{block_calls}
 use Rattle.vr_ckpt.specs.declared.block.Block.{Block}
-use Rattle.vr_ckpt.specs.Places.{first_place, keys_place, other_place, root_place, sessions_place}
+use Rattle.vr_ckpt.specs.Places.{first_place, grid_size, keys_places, other_place, place_of, root_place, sessions_places}
 use Rattle.vr_ckpt.specs.declared.plan.Run.{Run}
 use Rattle.vr_ckpt.specs.declared.saving.SavedCheckpoint.{SavedCheckpoint}
 use Rattle.vr_ckpt.specs.declared.table.Payload.{Payload}
@@ -38,8 +38,8 @@ goes_to r address bytes = record {
 
 -- the i-th payload, by what the checkpoint before had there: with the same bytes it stays, else it goes to the other place
 unfoldable pub payload_blocks : Run → ℕ → List ℕ → Option Payload → PayloadBlocks
-payload_blocks r i bytes None = goes_to r (first_place r.op (r.low + i)) bytes
-payload_blocks r i bytes (Some p) = if pointwise nat_eq p.bytes bytes then stays p else goes_to r (other_place (r.low + i) p.name.address) bytes
+payload_blocks r i bytes None = goes_to r (first_place r.op (place_of r.places i)) bytes
+payload_blocks r i bytes (Some p) = if pointwise nat_eq p.bytes bytes then stays p else goes_to r (other_place (place_of r.places i) p.name.address) bytes
 
 abbrev pub payload_blocks_at : Run → List ℕ → List Payload → ℕ → PayloadBlocks
 payload_blocks_at r text old i = payload_blocks r i (payload_at text i) (slice_get old i)
@@ -62,10 +62,10 @@ changed r text old = blocks_from r text old 0 (payloads (length text))
 -- ---- both texts
 
 abbrev pub sessions_run : ℕ → ℕ → Run
-sessions_run cluster op = record { cluster = cluster; op = op; low = sessions_place }
+sessions_run cluster op = record { cluster = cluster; op = op; places = sessions_places }
 
 abbrev pub keys_run : ℕ → ℕ → Run
-keys_run cluster op = record { cluster = cluster; op = op; low = keys_place }
+keys_run cluster op = record { cluster = cluster; op = op; places = keys_places }
 
 unfoldable pub table_of : ℕ → Texts → ℕ → PayloadTable → PayloadTable
 table_of cluster texts op old = record {
@@ -108,6 +108,6 @@ saved_checkpoint cluster texts op old = record { root = block_name (root_of clus
 
 -- a whole block at an address of the grid
 pub record IsPlaced (b : Block) : Type 0 where
-  pub address : b.name.address < 128
+  pub address : b.name.address < grid_size
   pub size : length b.bytes ≡ 4096
   pub whole : is_some (content_of b.bytes) ≡ true

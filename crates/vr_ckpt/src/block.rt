@@ -5,7 +5,8 @@ ghost use Rattle.vr_ckpt.specs.Blocks.{block_header, block_of, content_of, is_ki
 
 use crate::Name;
 use std::alloc::{AllocError, Global};
-use vr_base::{ByteList, Seq, Sum, checksum, sum_at};
+use vr_base::{ByteList, Seq, Sum, Version, checksum, sum_at};
+use vr_disk::BLOCKS;
 use vr_header::{Command, Header, Size, encode};
 
 /// The kind of a block with a part of a text.
@@ -65,13 +66,14 @@ pub(crate) fn header_over(
         size: Size::new(128 + payload.len() as u32),
         command: Command::Block,
         replica: 0,
+        version: Version::new(1),
         kind,
         aux: address,
     }
 }
 
 impl Block {
-    /// The block of checkpoint `op` at an address below 128, of this kind (`DATA` or `ROOT`), with a payload of at
+    /// The block of checkpoint `op` at an address below 384, of this kind (`DATA` or `ROOT`), with a payload of at
     /// most 3,968 bytes.
     #[tactic(auto, unfolding(crate::specs::Blocks::block_of, crate::specs::Blocks::block_bytes))]
     pub fn new(
@@ -85,7 +87,7 @@ impl Block {
         requires payload { length payload.now ≤ 3968 }
         ensures value { IfOk result (λ b. b ≡ block_of (record { cluster = cluster; address = address; op = op; kind = kind; payload = payload.now })) }
         ensures size { IfOk result (λ b. length b.bytes ≡ 4096) }
-        ensures whole { IfOk result (λ b. address < 128 → is_kind kind ≡ true → is_some (content_of b.bytes) ≡ true) }
+        ensures whole { IfOk result (λ b. address < BLOCKS → is_kind kind ≡ true → is_some (content_of b.bytes) ≡ true) }
     {
         let header = block_header(cluster, address, op, kind, payload);
         let front = encode(&header);

@@ -11,7 +11,7 @@ ghost use Rattle.vr_ckpt.specs.Blocks.{block_header, is_block, is_kind, named};
 use crate::Name;
 use crate::block::header_over;
 use vr_base::{is_zeros, sum_at};
-use vr_disk::{Room, SectorDisk};
+use vr_disk::{BLOCKS, Room, SectorDisk};
 use vr_header::{Header, decode_by};
 
 fn is_kind(kind: u8) -> bool
@@ -48,7 +48,10 @@ fn is_block<D: SectorDisk>(disk: &mut D, h: &Header, bytes: &[u8]) -> bool
     }
     let end = size as usize;
     let payload = &bytes[128..end];
-    is_kind(h.kind) && h.aux < 128 && is_zeros(&bytes[end..]) && is_over(disk, h, payload)
+    is_kind(h.kind)
+        && h.aux < u64::from(BLOCKS)
+        && is_zeros(&bytes[end..])
+        && is_over(disk, h, payload)
 }
 
 // The header that these bytes begin with is that of the name.

@@ -12,6 +12,7 @@ mod loading;
 mod looking;
 mod name;
 mod naming;
+mod places;
 mod plan;
 mod reading;
 mod root;

@@ -2,7 +2,7 @@
 
 use vr_base::{Seq, Sum};
 
-/// What a block is asked for by: its address in the grid, below 128, and the name of its header.
+/// What a block is asked for by: its address in the grid, below 384, and the name of its header.
 #[derive(Clone, Copy, Debug, PartialEq, Eq)]
 pub struct Name {
     pub address: u64,

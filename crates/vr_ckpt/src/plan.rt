@@ -2,40 +2,25 @@
 ghost use Rattle.std.specs.Prelude.{◌≡◌, ◌≤◌, ◌<◌, ◌+◌, ◌*◌, ◌++◌, length, OnOk, IfOk, Some};
 ghost use Rattle.std.specs.List.{All};
 ghost use Rattle.vr_state.specs.StateTexts.{payloads};
-ghost use Rattle.vr_ckpt.specs.Places.{first_place, other_place};
+ghost use Rattle.vr_ckpt.specs.Places.{HasRoom};
 ghost use Rattle.vr_ckpt.specs.Saves.{IsPlaced, changed, goes_to, payload_blocks, payload_blocks_at, payload_at, payloads_of};
 
+use crate::places::{Places, first_place, other_place};
 use crate::{Block, DATA, PAYLOAD_SIZE, Payload};
 use std::alloc::Global;
 use vr_base::{NoMemory, Seq};
+use vr_disk::BLOCKS;
 
-/// One text of a checkpoint: its group, the checkpoint's op, the lower place of its first payload.
+/// One text of a checkpoint: its group, the checkpoint's op, the lower places of its payloads.
 #[derive(Clone, Copy)]
 pub struct Run {
     pub cluster: u64,
     pub op: u64,
-    pub low: u64,
-}
-
-fn first_place(op: u64, low: u64) -> u64
-    requires { low < 64 }
-    ensures value { result ≡ first_place op low }
-    ensures within { result < 128 }
-{
-    if op / 32 % 2 == 0 { low } else { low + 64 }
-}
-
-fn other_place(low: u64, address: u64) -> u64
-    requires { low < 64 }
-    ensures value { result ≡ other_place low address }
-    ensures within { result < 128 }
-{
-    if address == low { low + 64 } else { low }
+    pub places: Places,
 }
 
 /// How many payloads a text has.
 pub fn payloads_in(text: &[u8]) -> usize
-    requires { payloads (length text.now) ≤ 36 }
     ensures { result ≡ payloads (length text.now) }
 {
     text.len().div_ceil(PAYLOAD_SIZE)
@@ -45,7 +30,6 @@ pub fn payloads_in(text: &[u8]) -> usize
 #[tactic(auto, unfolding(crate::specs::Saves::payload_at, vr_base::specs::Bytes::piece))]
 fn payload_at(text: &[u8], i: usize) -> &[u8]
     requires begins { PAYLOAD_SIZE * i ≤ length text.now }
-    requires few { i < 36 }
     ensures { result.now ≡ payload_at text.now i }
 {
     let (_, rest) = text.split_at(PAYLOAD_SIZE * i);
@@ -62,7 +46,7 @@ fn goes_to(
     blocks: &mut Seq<Block>,
 ) -> Result<Payload, NoMemory>
     requires size { length bytes.now ≤ PAYLOAD_SIZE }
-    requires address { address < 128 }
+    requires address { address < BLOCKS }
     ensures payload { IfOk result (λ p. p ≡ (goes_to run address bytes.now).payload) }
     ensures blocks { OnOk result (blocks.new ≡ blocks.old ++ (goes_to run address bytes.now).blocks) }
     ensures placed { OnOk result (All IsPlaced blocks.old → All IsPlaced blocks.new) }
@@ -87,7 +71,7 @@ fn goes_on(
     blocks: &mut Seq<Block>,
 ) -> Result<Payload, NoMemory>
     requires size { length bytes.now ≤ PAYLOAD_SIZE }
-    requires low { run.low + i < 64 }
+    requires room { HasRoom run.places (i + 1) }
     ensures payload { IfOk result (λ p. p ≡ (payload_blocks run i bytes.now (Some old.now)).payload) }
     ensures blocks { OnOk result (blocks.new ≡ blocks.old ++ (payload_blocks run i bytes.now (Some old.now)).blocks) }
     ensures placed { OnOk result (All IsPlaced blocks.old → All IsPlaced blocks.new) }
@@ -98,7 +82,8 @@ fn goes_on(
             bytes: old.bytes.try_clone(alloc)?,
         });
     }
-    let address = other_place(run.low + i as u64, old.name.address);
+    let low = run.places.of(i);
+    let address = other_place(low, old.name.address);
     goes_to(alloc, run, address, bytes, blocks)
 }
 
@@ -112,8 +97,7 @@ fn plan_payload(
     blocks: &mut Seq<Block>,
 ) -> Result<Payload, NoMemory>
     requires begins { PAYLOAD_SIZE * i ≤ length text.now }
-    requires few { i < 36 }
-    requires low { run.low + i < 64 }
+    requires room { HasRoom run.places (i + 1) }
     ensures payload { IfOk result (λ p. p ≡ (payload_blocks_at run text.now old.now i).payload) }
     ensures blocks { OnOk result (blocks.new ≡ blocks.old ++ (payload_blocks_at run text.now old.now i).blocks) }
     ensures placed { OnOk result (All IsPlaced blocks.old → All IsPlaced blocks.new) }
@@ -122,7 +106,8 @@ fn plan_payload(
     if i < old.len() {
         return goes_on(alloc, run, i, bytes, &old[i], blocks);
     }
-    let address = first_place(run.op, run.low + i as u64);
+    let low = run.places.of(i);
+    let address = first_place(run.op, low);
     goes_to(alloc, run, address, bytes, blocks)
 }
 
@@ -134,8 +119,7 @@ pub fn plan_text(
     old: &[Payload],
     blocks: &mut Seq<Block>,
 ) -> Result<Seq<Payload>, NoMemory>
-    requires few { payloads (length text.now) ≤ 36 }
-    requires low { run.low + payloads (length text.now) ≤ 64 }
+    requires { HasRoom run.places (payloads (length text.now)) }
     ensures payloads { IfOk result (λ ps. ps ≡ payloads_of run text.now old.now) }
     ensures blocks { OnOk result (blocks.new ≡ blocks.old ++ changed run text.now old.now) }
     ensures placed { OnOk result (All IsPlaced blocks.old → All IsPlaced blocks.new) }

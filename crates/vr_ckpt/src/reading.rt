@@ -5,12 +5,12 @@ ghost use Rattle.vr_ckpt.specs.Grid.{IsWhole, block_reading, named_at};
 
 use crate::Name;
 use crate::check::payload_of;
-use vr_disk::{BLOCK_SECTORS, Buffer, Faulty, SectorDisk, block_place, read_sectors};
+use vr_disk::{BLOCK_SECTORS, BLOCKS, Buffer, Faulty, SectorDisk, block_place, read_sectors};
 
 // Reads the eight sectors of a block; false where one of them can't be read.
 #[tactic(auto, unfolding(crate::specs::Grid::block_reading))]
 fn fill<D: SectorDisk>(disk: &mut D, address: u32, to: &mut [u8]) -> bool
-    requires address { address < 128 }
+    requires address { address < BLOCKS }
     requires size { length to.old ≡ 4096 }
     ensures told { D.told disk.new ≡ D.told disk.old }
     ensures faults { D.faults disk.new ≡ D.faults disk.old }
@@ -34,7 +34,7 @@ pub fn read_block<D: SectorDisk>(
     ensures whole { IfOk result (λ size. IsWhole name.now to.new size) }
     ensures same { OnErr result (to.new ≡ to.old) }
 {
-    if name.address >= 128 {
+    if name.address >= u64::from(BLOCKS) {
         return Err(Faulty);
     }
     let mut bytes = [0; 4096];

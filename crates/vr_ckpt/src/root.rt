@@ -4,9 +4,10 @@ ghost use Rattle.vr_base.specs.Bytes.{bytes16, bytes32, bytes64};
 ghost use Rattle.vr_state.specs.StateTexts.{FitsPayloads, payloads};
 ghost use Rattle.vr_ckpt.specs.Blocks.{Content, block_of};
 ghost use Rattle.vr_ckpt.specs.Loads.{both_named, has_numbers, keys_size, name_at, names_at, read_root, root_in, sessions_size};
-ghost use Rattle.vr_ckpt.specs.Places.{is_place, root_place};
+ghost use Rattle.vr_ckpt.specs.Places.{HasRoom};
 ghost use Rattle.vr_ckpt.specs.Saves.{IsPlaced, names_bytes, root_of, root_payload};
 
+use crate::places::{KEY_PAYLOADS, Places, SESSION_PAYLOADS, is_place, root_place};
 use crate::{Block, BlockView, Name, NameList, PAYLOAD_SIZE, Payload, PayloadTable, ROOT};
 use std::alloc::Global;
 use vr_base::{NoMemory, Seq, put_u16, put_u32, put_u64, sum_at, u16_at, u32_at, u64_at};
@@ -19,13 +20,6 @@ pub struct Root {
     pub keys_size: u32,
     pub sessions: NameList,
     pub keys: NameList,
-}
-
-fn root_place(op: u64) -> u64
-    ensures value { result ≡ root_place op }
-    ensures within { result < 128 }
-{
-    64 * (op / 32 % 2)
 }
 
 // Adds the addresses and names of these payloads.
@@ -110,8 +104,7 @@ pub fn root_block(
 // The i-th name that a root gives.
 #[tactic(auto, unfolding(crate::specs::Loads::name_at))]
 fn name_at(bytes: &[u8], i: usize) -> Name
-    requires few { i < 64 }
-    requires within { 42 + 24 * i ≤ length bytes.now }
+    requires { 42 + 24 * i ≤ length bytes.now }
     ensures { result ≡ name_at bytes.now i }
 {
     Name {
@@ -120,30 +113,23 @@ fn name_at(bytes: &[u8], i: usize) -> Name
     }
 }
 
-fn is_place(low: u64, address: u64) -> bool
-    requires { low < 64 }
-    ensures { result ≡ is_place low address }
-{
-    address == low || address == low + 64
-}
-
-// So many names from one on, by the lower place of the first.
+// So many names from one on, those of a text's payloads.
 fn names_at(
     alloc: Global,
-    low: u64,
+    places: Places,
     bytes: &[u8],
     first: usize,
     count: usize,
 ) -> Result<Option<NameList>, NoMemory>
-    requires low { low + count < 64 }
-    requires few { first + count < 64 }
+    requires room { HasRoom places count }
     requires within { 18 + 24 * (first + count) ≤ length bytes.now }
-    ensures { IfOk result (λ names. names ≡ names_at low bytes.now first count) }
+    ensures { IfOk result (λ names. names ≡ names_at places 0 bytes.now first count) }
 {
     let mut names = Seq::new(alloc);
     for k in 0..count {
         let name = name_at(bytes, first + k);
-        if !is_place(low + k as u64, name.address) {
+        let low = places.of(k);
+        if !is_place(low, name.address) {
             return Ok(None);
         }
         names.push(name)?;
@@ -185,8 +171,8 @@ fn has_numbers(op: u64, bytes: &[u8]) -> bool
     let sessions = payloads(sessions_size(bytes));
     let keys = payloads(keys_size(bytes));
     u64_at(bytes, 0) == op
-        && sessions <= 9
-        && keys <= 36
+        && sessions <= SESSION_PAYLOADS
+        && keys <= KEY_PAYLOADS
         && u16_at(bytes, 16) as usize == sessions + keys
         && bytes.len() == 18 + 24 * (sessions + keys)
 }
@@ -199,8 +185,8 @@ fn root_in(alloc: Global, op: u64, bytes: &[u8]) -> Result<Option<Root>, NoMemor
 {
     let sessions = payloads(sessions_size(bytes));
     let keys = payloads(keys_size(bytes));
-    let first = names_at(alloc, 1, bytes, 0, sessions)?;
-    let second = names_at(alloc, 10, bytes, sessions, keys)?;
+    let first = names_at(alloc, Places::of_sessions(), bytes, 0, sessions)?;
+    let second = names_at(alloc, Places::of_keys(), bytes, sessions, keys)?;
     Ok(both(bytes, first, second))
 }
 

@@ -10,6 +10,7 @@ ghost use Rattle.vr_ckpt.specs.Laws.{Holds, SaveDone, SaveKeeps};
 ghost use Rattle.vr_ckpt.specs.Places.{IsCheckpoint};
 ghost use Rattle.vr_ckpt.specs.Saves.{IsPlaced, blocks_calls, changed, keys_run, save_calls, saved_checkpoint, sessions_run, table_of, written};
 
+use crate::places::Places;
 use crate::plan::{Run, plan_text};
 use crate::root::root_block;
 use crate::writing::note_block;
@@ -44,7 +45,7 @@ fn plan_table(
     let run = Run {
         cluster,
         op,
-        low: 1,
+        places: Places::of_sessions(),
     };
     let sessions = plan_text(
         alloc,
@@ -55,7 +56,10 @@ fn plan_table(
     )?;
     let keys = plan_text(
         alloc,
-        Run { low: 10, ..run },
+        Run {
+            places: Places::of_keys(),
+            ..run
+        },
         texts.keys.as_slice(),
         old.keys.as_slice(),
         blocks,

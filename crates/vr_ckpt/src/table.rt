@@ -16,9 +16,9 @@ pub struct Payload {
 /// The payloads of a checkpoint's texts, in order.
 #[derive(Debug, Drop, PartialEq, Eq)]
 pub struct PayloadTable {
-    /// At most 9.
+    /// At most 49.
     pub sessions: Seq<Payload>,
-    /// At most 36.
+    /// At most 99.
     pub keys: Seq<Payload>,
 }
 

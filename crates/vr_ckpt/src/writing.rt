@@ -10,12 +10,14 @@ ghost use Rattle.vr_ckpt.specs.GridLaws.{PutLeaves};
 use crate::{Block, CkptFault, Name};
 use std::alloc::Global;
 use vr_base::{sum_at, u32_at, u64_at};
-use vr_disk::{BLOCK_SECTORS, DiskFailed, DiskFault, Room, SectorDisk, block_place, write_sectors};
+use vr_disk::{
+    BLOCK_SECTORS, BLOCKS, DiskFailed, DiskFault, Room, SectorDisk, block_place, write_sectors,
+};
 
 /// Writes the eight sectors of a block; it takes no memory.
 #[tactic(auto, unfolding(crate::specs::Grid::block_calls))]
 pub fn write_at<D: SectorDisk>(disk: &mut D, address: u64, bytes: &[u8]) -> Result<(), DiskFailed>
-    requires address { address < 128 }
+    requires address { address < BLOCKS }
     requires size { length bytes.now ≡ 4096 }
     ensures runs { Runs (block_calls address bytes.now) (D.told disk.old) (D.told disk.new) (is_ok result) }
     ensures cause { HasCause (D.faults disk.old) (D.faults disk.new) result }
@@ -38,7 +40,7 @@ pub(crate) fn note_block<D: SectorDisk>(disk: &mut D, block: &[u8])
     disk.keep_name(Room::Payload(u64_at(block, 112)), &block[128..end], payload);
 }
 
-/// Makes the block of checkpoint `op` at an address below 128, of this kind (`DATA` or `ROOT`), with a payload of at most
+/// Makes the block of checkpoint `op` at an address below 384, of this kind (`DATA` or `ROOT`), with a payload of at most
 /// 3,968 bytes, and writes its eight sectors. Want of memory comes before the first call.
 pub fn write_block<D: SectorDisk>(
     alloc: Global,
@@ -49,7 +51,7 @@ pub fn write_block<D: SectorDisk>(
     kind: u8,
     payload: &[u8],
 ) -> Result<Name, CkptFault>
-    requires address { address < 128 }
+    requires address { address < BLOCKS }
     requires kind { is_kind kind ≡ true }
     requires payload { length payload.now ≤ 3968 }
     ensures name { IfOk result (λ n. n ≡ block_name (record { cluster = cluster; address = address; op = op; kind = kind; payload = payload.now })) }

@@ -10,10 +10,11 @@ use Rattle.vr_mail.specs.declared.receiving.ReceiveFault.{ReceiveFault}
 use Rattle.vr_mail.specs.declared.receiving.ReceiveFault.TheVariants as received
 
 pub keeps_same : (c : ClientCore) → Keeps c c
-keeps_same c = record { cluster = refl; id = refl; n = refl; number = refl; bytes = refl }
+keeps_same c = record { version = refl; cluster = refl; id = refl; n = refl; number = refl; bytes = refl }
 
 pub keeps_later : (c d e : ClientCore) → Keeps c d → Keeps d e → Keeps c e
 keeps_later c d e x y = record {
+  version = y.version ∙ x.version;
   cluster = y.cluster ∙ x.cluster;
   id = y.id ∙ x.id;
   n = y.n ∙ x.n;
@@ -25,7 +26,7 @@ pub no_requests : (bytes : List ℕ) → requests bytes [] ≡ []
 no_requests bytes = refl
 
 pub same_ask : (c d : ClientCore) (name : Sum) (turns : ℕ) → Keeps c d → ask_in d name turns ≡ ask_in c name turns
-same_ask c d name turns k = rw (k.cluster, k.n, k.bytes) refl
+same_ask c d name turns k = rw (k.version, k.cluster, k.n, k.bytes) refl
 
 -- a receive that had no answer
 pub cause_heard : {S T : Type 0} (before now : ℕ) (f : ReceiveFault) → ReceiveCause {T = S} before now (Err f) → AskCause {T = T} before now (Err (fault_of f))

@@ -12,7 +12,7 @@ use Rattle.vr_client.proofs.Waits.{requests_append}
 
 -- what was heard is no answer
 pub turned_none : (a : Ask) (done port mid port' : ℕ) (u u' u'' : Option (List (Option Datagram))) (got got' : Option (List Arrival)) (h : Heed)
-    → Hears a.cluster a.n a.name got got' h → IsSilent h → mid ≡ moved h port → Sends (requests a.bytes (moved_to h)) u u'
+    → Hears a.version a.cluster a.n a.name got got' h → IsSilent h → mid ≡ moved h port → Sends (requests a.bytes (moved_to h)) u u'
     → port' ≡ go_on_port a.n a.turns done mid → Sends (requests a.bytes (go_on_to a.n a.turns done mid)) u' u''
     → Turned a done port port' u u'' got got' None
 turned_none a done port mid port' u u' u'' got got' h hears silent is first goes second =
@@ -34,7 +34,7 @@ turned_none a done port mid port' u u' u'' got got' h hears silent is first goes
 
 -- what was heard is the answer
 pub turned_answer : (a : Ask) (done port port' : ℕ) (u u' : Option (List (Option Datagram))) (got got' : Option (List Arrival)) (h : Heed) (answer : Answer)
-    → Hears a.cluster a.n a.name got got' h → h ≡ Answered answer → port' ≡ moved h port → Sends (requests a.bytes (moved_to h)) u u'
+    → Hears a.version a.cluster a.n a.name got got' h → h ≡ Answered answer → port' ≡ moved h port → Sends (requests a.bytes (moved_to h)) u u'
     → Turned a done port port' u u' got got' (Some answer)
 turned_answer a done port port' u u' got got' h answer hears is at sent = (
   hears.0,

@@ -60,7 +60,7 @@ pub record Waiting (a : Ask) (count port port' : ℕ) (u u' : Option (List (Opti
   pub arrivals : List Arrival
   pub letters : List (Option Letter)
   pub counted : length letters ≡ count
-  pub brought : AreBrought a.cluster arrivals letters
+  pub brought : AreBrought a.version a.cluster arrivals letters
   pub silent : AreSilent a letters
   pub received : Grows got got' arrivals
   pub at : port' ≡ port_at a 0 port letters
@@ -88,7 +88,7 @@ waiting_more a count port mid port' u u' u'' got got' got'' w t =
       arrivals = w.arrivals ++ t.0 ∷ [];
       letters = w.letters ++ t.1 ∷ [];
       counted = length_more w.letters t.1 ∙ ap (λ n. n + 1) w.counted;
-      brought = brought_more a.cluster w.arrivals w.letters t.0 t.1 w.brought t.3;
+      brought = brought_more a.version a.cluster w.arrivals w.letters t.0 t.1 w.brought t.3;
       silent = silent_more a w.letters t.1 w.silent t.4.0;
       received = grows_trans got got' got'' w.arrivals (t.0 ∷ []) w.received t.2;
       at = t.4.1 ∙ (ap (λ p. port_after a count p t.1) w.at ∙ sym (port_more a 0 port count w.letters t.1 k));

@@ -22,8 +22,9 @@ use Rattle.vr_client.specs.declared.answer.Heed.{Heed}
 use Rattle.vr_client.specs.declared.answer.Heed.TheVariants.{Ignored, Moved, Answered}
 use Rattle.vr_client.specs.declared.client.ClientCore.{ClientCore}
 
--- one ask: in a group of n, the name and the bytes of the request, and so many turns
+-- one ask: of a version, in a group of n, the name and the bytes of the request, and so many turns
 pub record Ask : Type 0 where
+  pub version : ℕ
   pub cluster : ℕ
   pub n : ℕ
   pub name : Sum
@@ -33,23 +34,25 @@ pub record Ask : Type 0 where
 -- the ask of a request
 abbrev pub ask_of : ℕ → RequestFields → ℕ → Ask
 ask_of n q turns = record {
+  version = q.version;
   cluster = q.cluster;
   n = n;
-  name = header_name (request_header q.cluster q.client q.request q.operation);
+  name = header_name (request_header q.version q.cluster q.client q.request q.operation);
   bytes = spelling (frame.Request q);
   turns = turns;
 }
 
 -- the next request of a client
 abbrev pub request_in : ClientCore → Operation → RequestFields
-request_in c operation = record { cluster = c.cluster; client = c.id; request = c.number; operation = operation }
+request_in c operation = record { version = c.version; cluster = c.cluster; client = c.id; request = c.number; operation = operation }
 
 -- the ask of the request that a client has made
 abbrev pub ask_in : ClientCore → Sum → ℕ → Ask
-ask_in c name turns = record { cluster = c.cluster; n = c.n; name = name; bytes = c.bytes.items; turns = turns }
+ask_in c name turns = record { version = c.version; cluster = c.cluster; n = c.n; name = name; bytes = c.bytes.items; turns = turns }
 
 -- all but the port, and the room for what comes, is as it was
 pub record Keeps (old new : ClientCore) : Type 0 where
+  pub version : new.version ≡ old.version
   pub cluster : new.cluster ≡ old.cluster
   pub id : new.id ≡ old.id
   pub n : new.n ≡ old.n
@@ -120,9 +123,9 @@ abbrev pub Fails : Option (List Arrival) → Option (List Arrival) → AskFault 
 Fails got got' f = (arrival : Arrival) × Grows got got' (arrival ∷ []) × FailsAt arrival f
 
 -- one receive, and what is heeded of it
-abbrev pub Hears : ℕ → ℕ → Sum → Option (List Arrival) → Option (List Arrival) → Heed → Type 0
-Hears cluster n name got got' heard =
-    (arrival : Arrival) × (letter : Option Letter) × Grows got got' (arrival ∷ []) × Brings cluster arrival letter
+abbrev pub Hears : ℕ → ℕ → ℕ → Sum → Option (List Arrival) → Option (List Arrival) → Heed → Type 0
+Hears version cluster n name got got' heard =
+    (arrival : Arrival) × (letter : Option Letter) × Grows got got' (arrival ∷ []) × Brings version cluster arrival letter
     × (heard ≡ heed n name letter)
 
 -- a turn, behind so many others: it may bring the answer
@@ -136,14 +139,14 @@ TurnedBy a done port port' sent sent' letter (Some answer) =
 abbrev pub Turned : Ask → ℕ → ℕ → ℕ → Option (List (Option Datagram)) → Option (List (Option Datagram)) → Option (List Arrival)
     → Option (List Arrival) → Option Answer → Type 0
 Turned a done port port' sent sent' got got' answer =
-    (arrival : Arrival) × (letter : Option Letter) × Grows got got' (arrival ∷ []) × Brings a.cluster arrival letter
+    (arrival : Arrival) × (letter : Option Letter) × Grows got got' (arrival ∷ []) × Brings a.version a.cluster arrival letter
     × TurnedBy a done port port' sent sent' letter answer
 
 -- How an ask ends behind turns without an answer, and what it receives last: the answer comes; all turns have passed; or a
 -- receive failed.
 abbrev pub EndsBy : Ask → List (Option Letter) → List Arrival → Result Answer AskFault → Type 0
 EndsBy a ls last (Ok answer) =
-    (arrival : Arrival) × (letter : Option Letter) × (last ≡ arrival ∷ []) × Brings a.cluster arrival letter
+    (arrival : Arrival) × (letter : Option Letter) × (last ≡ arrival ∷ []) × Brings a.version a.cluster arrival letter
     × (heed a.n a.name letter ≡ Answered answer) × (length ls < a.turns)
 EndsBy a ls last (Err fault.NoAnswer) = (last ≡ []) × (length ls ≡ a.turns)
 EndsBy a ls last (Err fault.Link) = (last ≡ Failed ∷ []) × (length ls < a.turns)
@@ -156,7 +159,7 @@ pub record IsAsked (a : Ask) (port port' : ℕ) (sent sent' : Option (List (Opti
   pub arrivals : List Arrival
   pub letters : List (Option Letter)
   pub last : List Arrival
-  pub brought : AreBrought a.cluster arrivals letters
+  pub brought : AreBrought a.version a.cluster arrivals letters
   pub silent : AreSilent a letters
   pub ends : EndsBy a letters last result
   pub received : Grows got got' (arrivals ++ last)

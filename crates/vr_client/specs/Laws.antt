@@ -12,5 +12,5 @@ use Rattle.vr_client.specs.declared.answer.AskFault.{AskFault}
 abbrev pub RefusedChangeNothing : Type 0
 RefusedChangeNothing =
     (a : Ask) (port port' : ℕ) (u u' : Option (List (Option Datagram))) (got got' g g' : Option (List Arrival)) (result : Result Answer AskFault)
-    (ask : IsAsked a port port' u u' got got' result) (stilled : List Arrival) → AreStilled a.cluster ask.arrivals stilled
+    (ask : IsAsked a port port' u u' got got' result) (stilled : List Arrival) → AreStilled a.version a.cluster ask.arrivals stilled
     → Grows g g' (stilled ++ ask.last) → IsAsked a port port' u u' g g' result

@@ -5,6 +5,7 @@ ghost use Rattle.vr_client.specs.Heeding.{MovesWithin};
 ghost use Rattle.vr_client.specs.declared.answer.Heed.TheVariants as did;
 ghost use Rattle.vr_edge.specs.Datagrams.{Arrival};
 ghost use Rattle.vr_edge.specs.Sending.{datagram_at};
+ghost use Rattle.vr_header.specs.Bodies.{IsOperation};
 ghost use Rattle.vr_header.specs.Names.{header_name, request_header};
 ghost use Rattle.vr_header.specs.declared.operation.Operation.TheVariants.{Register};
 ghost use Rattle.vr_mail.specs.Sends.{Sends};
@@ -37,15 +38,18 @@ impl ClientCore {
     fn write_request(&mut self, operation: &Operation) -> Result<Sum, AllocError>
         requires number { self.old.number < 2 ^ 32 }
         requires first { (operation.now ≡ Register) ↔ (self.old.number ≡ 0) }
+        requires fits { IsOperation self.old.version operation.now }
+        ensures version { self.new.version ≡ self.old.version }
         ensures group { (self.new.cluster ≡ self.old.cluster) × (self.new.n ≡ self.old.n) }
         ensures client { (self.new.id ≡ self.old.id) × (self.new.port ≡ self.old.port) }
         ensures number { self.new.number ≡ self.old.number + 1 }
         ensures bytes { OnOk result (self.new.bytes.items ≡ spelling (frame.Request (request_in self.old operation.now))) }
-        ensures name { IfOk result (λ name. name ≡ header_name (request_header self.old.cluster self.old.id self.old.number operation.now)) }
+        ensures name { IfOk result (λ name. name ≡ header_name (request_header self.old.version self.old.cluster self.old.id self.old.number operation.now)) }
     {
         let number = self.number as u32;
         self.number += 1;
         let fields = RequestFields {
+            version: self.version,
             cluster: self.cluster,
             client: self.id,
             request: number,
@@ -75,14 +79,14 @@ impl ClientCore {
     fn hear<L: Link>(&mut self, link: &mut L, name: &Sum) -> Result<Heed, AskFault>
         ensures core { Keeps self.old self.new }
         ensures stays { self.new.port ≡ self.old.port }
-        ensures heard { IfOk result (Hears self.old.cluster self.old.n name.now (L.received link.old) (L.received link.new)) }
+        ensures heard { IfOk result (Hears self.old.version self.old.cluster self.old.n name.now (L.received link.old) (L.received link.new)) }
         ensures port { IfOk result (MovesWithin self.old.n) }
         ensures failed { IfErr result (Fails (L.received link.old) (L.received link.new)) }
         ensures cause { AskCause (L.faults link.old) (L.faults link.new) result }
         ensures sent { L.sent link.new ≡ L.sent link.old }
         ensures attached { L.attached link.new ≡ L.attached link.old }
     {
-        let letter = receive_letter(self.alloc, link, self.cluster, &mut self.to)?;
+        let letter = receive_letter(self.alloc, link, self.version, self.cluster, &mut self.to)?;
         Ok(heed_letter(self.n, name, letter))
     }
 
@@ -166,7 +170,7 @@ impl ClientCore {
         Err(AskFault::NoAnswer)
     }
 
-    /// Asks for an operation: `Register` first, with number 0, and then any other, each with the next number. It waits
+    /// Asks for an operation of its version: `Register` first, with number 0, and then any other, each with the next number. It waits
     /// for so many receives, and hears the answer to this request alone. Whatever it answers, the number is used up.
     pub fn ask<L: Link>(
         &mut self,
@@ -176,8 +180,10 @@ impl ClientCore {
     ) -> Result<Answer, AskFault>
         requires number { self.old.number < 2 ^ 32 }
         requires first { (operation.now ≡ Register) ↔ (self.old.number ≡ 0) }
+        requires fits { IsOperation self.old.version operation.now }
         ensures run { IsAsked (ask_of self.old.n (request_in self.old operation.now) turns) self.old.port self.new.port (L.sent link.old) (L.sent link.new) (L.received link.old) (L.received link.new) result ⊎ IsUnasked self.old.port self.new.port (L.sent link.old) (L.sent link.new) (L.received link.old) (L.received link.new) result }
         ensures number { self.new.number ≡ self.old.number + 1 }
+        ensures version { self.new.version ≡ self.old.version }
         ensures group { (self.new.cluster ≡ self.old.cluster) × (self.new.n ≡ self.old.n) }
         ensures id { self.new.id ≡ self.old.id }
         ensures cause { AskCause (L.faults link.old) (L.faults link.new) result }

@@ -5,13 +5,15 @@ ghost use Rattle.vr_edge.specs.declared.link.TheConstants.{RECEIVE_ROOM};
 ghost use Rattle.vr_header.specs.declared.operation.Operation.TheVariants.{Register};
 
 use std::alloc::Global;
-use vr_base::NoMemory;
+use vr_base::{NoMemory, Version};
 use vr_edge::RECEIVE_ROOM;
 
 /// A client of a group between two asks. It asks one member at a time, whose port it keeps.
 #[derive(Debug, Drop)]
 pub struct ClientCore {
     pub(crate) alloc: Global,
+    /// Of its frames.
+    pub(crate) version: Version,
     pub(crate) cluster: u64,
     pub(crate) id: u64,
     pub(crate) n: u8,
@@ -28,17 +30,26 @@ pub struct ClientCore {
 }
 
 impl ClientCore {
-    /// The client `id` of a group of `n`, which asks the member with port 0 first, and its next request is its first.
-    pub fn new(alloc: Global, cluster: u64, id: u64, n: u8) -> Result<ClientCore, NoMemory>
+    /// The client `id` of a group of `n`, which asks in frames of this version and the member with port 0 first, and its next request
+    /// is its first.
+    pub fn new(
+        alloc: Global,
+        cluster: u64,
+        id: u64,
+        n: u8,
+        version: Version,
+    ) -> Result<ClientCore, NoMemory>
         requires id { id ≢ 0 }
         requires size { (2 ≤ n) × (n ≤ 6) }
         ensures group { IfOk result (λ c. (c.cluster ≡ cluster) × (c.n ≡ n)) }
+        ensures version { IfOk result (λ c. c.version ≡ version) }
         ensures id { IfOk result (λ c. c.id ≡ id) }
         ensures port { IfOk result (λ c. c.port ≡ 0) }
         ensures number { IfOk result (λ c. c.number ≡ 0) }
     {
         Ok(ClientCore {
             alloc,
+            version,
             cluster,
             id,
             n,
@@ -47,5 +58,12 @@ impl ClientCore {
             to: Vec::with_capacity(alloc, RECEIVE_ROOM)?,
             bytes: Vec::new(alloc),
         })
+    }
+
+    /// The version of its frames.
+    pub fn version(&self) -> Version
+        ensures { result ≡ self.now.version }
+    {
+        self.version
     }
 }

@@ -20,13 +20,13 @@ use Rattle.vr_msg.specs.declared.frame.Frame.TheVariants as frame
 use Rattle.vr_msg.specs.declared.reply.ReplyKind.{ReplyKind}
 use Rattle.vr_msg.specs.declared.reply.ReplyKind.TheVariants as reply
 use Rattle.vr_msg.specs.declared.statement.Statement.{Statement}
-use Rattle.vr_msg.specs.Asking.{IsReplyKind}
+use Rattle.vr_msg.specs.Asking.{IsKindValue, IsReplyKind}
 use Rattle.vr_msg.specs.declared.frame.SyncView.{SyncView}
 use Rattle.vr_msg.specs.Forms.{IsFrame, IsSyncView}
 use Rattle.vr_msg.specs.Logs.{FromOp, IsEntryAt, IsPartAt, IsStatement, has_header}
 use Rattle.vr_codec.specs.Reading.{frame_for, kind_at}
 use Rattle.vr_codec.specs.Shapes.{body_fits, entry_fits, has_shape, is_asked, is_body, is_view, kind_fits, log_fits, numbers_fit, parts_fit, statement_fits, sync_fits, tags_run, unused_names_are_zero, unused_numbers_are_zero}
-use Rattle.vr_msg.specs.Spelling.{AreHeaders, IsBodyValue, IsKindValue, IsName, body_bytes, command_for, frame_header, headers_bytes, kind_bytes, kind_number, kind_op, known, parts_bytes, sync_bytes, tag}
+use Rattle.vr_msg.specs.Spelling.{AreHeaders, IsBodyValue, IsName, body_bytes, command_for, frame_header, headers_bytes, kind_bytes, kind_number, kind_op, known, parts_bytes, sync_bytes, tag}
 use Rattle.vr_codec.proofs.Fitting.{one_byte}
 use Rattle.vr_codec.proofs.Lists.{at_true, headers_again, headers_true}
 use Rattle.vr_codec.proofs.Syncs.{checkpoint_true, sync_parts}
@@ -169,7 +169,7 @@ numbers_true (frame.DoViewChange d) i =
 numbers_true (frame.StartView v) i = three (frame_header (frame.StartView v)) i.view i.head (let a = i.commit in let b = i.head in omega arith)
 numbers_true (frame.GetView g) i = three (frame_header (frame.GetView g)) i (omega arith) (omega arith)
 numbers_true (frame.GetPrepare g) i = three (frame_header (frame.GetPrepare g)) (omega arith) i.op (omega arith)
-numbers_true (frame.GivePrepare g) i = three (frame_header (frame.GivePrepare g)) (omega arith) i.header.op.1 (omega arith)
+numbers_true (frame.GivePrepare g) i = three (frame_header (frame.GivePrepare g)) (omega arith) i.entry.header.op.1 (omega arith)
 numbers_true (frame.GetBlock g) i = three (frame_header (frame.GetBlock g)) (omega arith) (omega arith) (omega arith)
 numbers_true (frame.GiveBlock g) i = three (frame_header (frame.GiveBlock g)) (omega arith) (omega arith) (omega arith)
 numbers_true (frame.GetSync g) i = three (frame_header (frame.GetSync g)) i (omega arith) (omega arith)
@@ -182,38 +182,38 @@ one_way true c f g = f refl
 one_way false true f g = absurd (let e = g refl in cc)
 one_way false false f g = refl
 
-asked_true : (request : ℕ) (o : Operation) → IsOperation o → ((o ≡ Register) ↔ (request ≡ 0)) → is_asked request (operation_bytes o) ≡ true
+asked_true : (version request : ℕ) (o : Operation) → IsOperation version o → ((o ≡ Register) ↔ (request ≡ 0)) → is_asked version request (operation_bytes o) ≡ true
 unfolding is_asked
-asked_true request o i r =
-    let one = one_byte o i in
-    rw (operation_again o i)
+asked_true version request o i r =
+    let one = one_byte version o i in
+    rw (operation_again version o i)
     (one_way (eqb (length (operation_bytes o)) 1) (eqb request 0)
     (λ e. eq-eqb request 0 (r.0 (one.1 (eqb-true (length (operation_bytes o)) 1 e))))
     (λ e. eq-eqb (length (operation_bytes o)) 1 (one.0 (r.1 (eqb-true request 0 e)))))
 
-reply_true : (k : ReplyKind) → IsKindValue k → kind_fits (kind_number k) (kind_op k) (kind_bytes k) ≡ true
+reply_true : (version : ℕ) (k : ReplyKind) → IsKindValue version k → kind_fits version (kind_number k) (kind_op k) (kind_bytes k) ≡ true
 unfolding kind_fits
-reply_true (reply.Outcome a) v = rw (outcome_again a.outcome v) refl
-reply_true reply.Old v = refl
-reply_true reply.Gap v = refl
-reply_true reply.Evicted v = refl
-reply_true reply.Busy v = refl
-reply_true reply.Redirect v = refl
+reply_true version (reply.Outcome a) v = rw (outcome_again version a.outcome v) refl
+reply_true version reply.Old v = refl
+reply_true version reply.Gap v = refl
+reply_true version reply.Evicted v = refl
+reply_true version reply.Busy v = refl
+reply_true version reply.Redirect v = refl
 
-entry_true : (cluster last op : ℕ) (e : Whole) → IsEntry e → IsHeader e.header → IsOperation e.operation → e.header.cluster ≡ cluster → e.header.op ≡ op → e.header.view ≤ last
-    → entry_fits cluster last op (entry_bytes e) ≡ true
+entry_true : (version cluster last op : ℕ) (e : Whole) → IsEntry e → IsHeader e.header → e.header.version ≤ version → e.header.cluster ≡ cluster → e.header.op ≡ op → e.header.view ≤ last
+    → entry_fits version cluster last op (entry_bytes e) ≡ true
 unfolding entry_fits
-entry_true cluster last op e i f g c o v = rw (entry_again e i f g) (at_true cluster last op e.header c o v)
+entry_true version cluster last op e i f n c o v = rw (entry_again e i f) (at_true version cluster last op e.header n c o v)
 
 view_true : (n : ℕ) → n < 2 ^ 32 - 1 → (is_view n && eqb (length (let x : List ℕ = [] in x)) 0) ≡ true
 view_true n l = rw (lt-ltb n (2 ^ 32 - 1) l) refl
 
 log_true : (h : Header) (hs : List Header) → h.commit ≤ h.op → h.aux + length hs ≡ h.op → length hs ≤ 64 → AreHeaders hs
-    → FromOp (IsEntryAt h.cluster h.view) (h.aux + 1) hs → log_fits h (headers_bytes hs) ≡ true
+    → FromOp (IsEntryAt h.version h.cluster h.view) (h.aux + 1) hs → log_fits h (headers_bytes hs) ≡ true
 unfolding log_fits
 log_true h hs c n s a f =
     let count : h.op - h.aux ≡ length hs = omega arith in
-    rw (le-ltb h.op h.commit c, le-ltb h.op h.aux (omega arith), count, le-ltb 64 (length hs) s) (headers_true h.cluster h.view (h.aux + 1) hs a f)
+    rw (le-ltb h.op h.commit c, le-ltb h.op h.aux (omega arith), count, le-ltb 64 (length hs) s) (headers_true h.version h.cluster h.view (h.aux + 1) hs a f)
 
 run_true : (head first : ℕ) (ps : List Part) → first + prefix_len has_header ps ≡ head + 1 → prefix_len has_header ps ≤ 64 → slice_get ps (length ps - 1) ≢ Some Nothing
     → tags_run head first (map tag ps) ≡ true
@@ -221,13 +221,13 @@ unfolding tags_run
 run_true head first ps r s l = rw (run_tags ps, le-ltb 64 (prefix_len has_header ps) s, eq-eqb (first + prefix_len has_header ps) (head + 1) r) (last_true ps l)
 
 statement_true : (h : Header) (first : ℕ) (ps : List Part) → 1 ≤ first → first ≤ h.commit + 1 → h.commit ≤ h.op → h.aux < h.view
-    → tags_run h.op first (map tag ps) ≡ true → AreHeaders (known ps) → FromOp (IsPartAt h.cluster h.aux) first ps
+    → tags_run h.op first (map tag ps) ≡ true → AreHeaders (known ps) → FromOp (IsPartAt h.version h.cluster h.aux) first ps
     → statement_fits h first (map tag ps) (headers_bytes (known ps)) ≡ true
 unfolding statement_fits
 statement_true h first ps one reach commit view run a f =
-    rw (positive first one, le-ltb (h.commit + 1) first reach, le-ltb h.op h.commit commit, lt-not_le h.view h.aux view, run) (tags_true h.cluster h.aux first ps a f)
+    rw (positive first one, le-ltb (h.commit + 1) first reach, le-ltb h.op h.commit commit, lt-not_le h.view h.aux view, run) (tags_true h.version h.cluster h.aux first ps a f)
 
-parts_true : (h : Header) (s : Statement) → h.op ≡ s.head → h.commit ≡ s.commit → h.aux ≡ s.log_view → s.log_view < h.view → IsStatement h.cluster s → AreHeaders (known s.body.parts)
+parts_true : (h : Header) (s : Statement) → h.op ≡ s.head → h.commit ≡ s.commit → h.aux ≡ s.log_view → s.log_view < h.view → IsStatement h.version h.cluster s → AreHeaders (known s.body.parts)
     → parts_fit h (parts_bytes s.body) ≡ true
 unfolding parts_fit
 parts_true h s head commit log_view view i a =
@@ -241,8 +241,8 @@ parts_true h s head commit log_view view i a =
     let later : h.aux < h.view = omega arith in
     let run : tags_run h.op s.body.first (map tag s.body.parts) ≡ true =
     run_true h.op s.body.first s.body.parts (i.run ∙ ap (λ n. n + 1) (sym head)) i.short i.last in
-    let parts : FromOp (IsPartAt h.cluster h.aux) s.body.first s.body.parts =
-    subst (λ n. FromOp (IsPartAt h.cluster n) s.body.first s.body.parts) (sym log_view) i.parts in
+    let parts : FromOp (IsPartAt h.version h.cluster h.aux) s.body.first s.body.parts =
+    subst (λ n. FromOp (IsPartAt h.version h.cluster n) s.body.first s.body.parts) (sym log_view) i.parts in
     rw (le-ltb (length (parts_bytes s.body)) 10 long, p.tags, p.rest, p.count, le-ltb 128 (length s.body.parts) i.count, le-ltb (length (parts_bytes s.body)) (10 + length s.body.parts) whole, p.first_there)
     (statement_true h s.body.first s.body.parts i.first.0 reach order later run a parts)
 
@@ -258,9 +258,9 @@ sync_true w i n a =
     (log_true h w.body.headers i.order.2 i.count i.short a i.headers)
 
 body_true : (m : Frame) → IsFrame m → IsBodyValue m → body_fits (command_for m) (frame_header m) (body_bytes m) ≡ true
-body_true (frame.Request q) i v = asked_true q.request q.operation v i
-body_true (frame.Reply r) i v = reply_true r.kind v
-body_true (frame.Prepare p) i v = entry_true p.entry.header.cluster p.view p.entry.header.op p.entry i.entry v.0 v.1 refl refl i.made
+body_true (frame.Request q) i v = asked_true q.version q.request q.operation i.fits i.first
+body_true (frame.Reply r) i v = reply_true r.version r.kind i.fits
+body_true (frame.Prepare p) i v = entry_true p.version p.entry.header.cluster p.view p.entry.header.op p.entry i.entry v i.of_version refl refl i.made
 body_true (frame.PrepareOk p) i v = view_true p.made i.made
 body_true (frame.Commit c) i v = refl
 body_true (frame.StartViewChange s) i v = refl
@@ -269,7 +269,7 @@ body_true (frame.StartView w) i v = log_true (frame_header (frame.StartView w)) 
 body_true (frame.GetView g) i v = refl
 body_true (frame.GetPrepare g) i v = view_true g.made i.made
 body_true (frame.GivePrepare g) i v =
-    entry_true g.entry.header.cluster (2 ^ 32 - 2) g.entry.header.op g.entry i v.0 v.1 refl refl (let w = i.header.view in omega arith)
+    entry_true g.version g.entry.header.cluster (2 ^ 32 - 2) g.entry.header.op g.entry i.entry v i.of_version refl refl (let w = i.entry.header.view in omega arith)
 body_true (frame.GetBlock g) i v = refl
 body_true (frame.GiveBlock g) i v = eq-eqb (length g.block) 4096 i
 body_true (frame.GetSync g) i v = refl
@@ -281,19 +281,19 @@ shape_true m i v = rw (names_true m, unused_true m, numbers_true m i, command_of
 
 -- ---- and it is read again
 
-kind_again : (k : ReplyKind) → IsKindValue k → kind_at (kind_number k) (kind_op k) (kind_bytes k) ≡ Some k
+kind_again : (version : ℕ) (k : ReplyKind) → IsKindValue version k → kind_at version (kind_number k) (kind_op k) (kind_bytes k) ≡ Some k
 unfolding kind_at
-kind_again (reply.Outcome a) v = rw (outcome_again a.outcome v) refl
-kind_again reply.Old v = refl
-kind_again reply.Gap v = refl
-kind_again reply.Evicted v = refl
-kind_again reply.Busy v = refl
-kind_again reply.Redirect v = refl
+kind_again version (reply.Outcome a) v = rw (outcome_again version a.outcome v) refl
+kind_again version reply.Old v = refl
+kind_again version reply.Gap v = refl
+kind_again version reply.Evicted v = refl
+kind_again version reply.Busy v = refl
+kind_again version reply.Redirect v = refl
 
 pub frame_again : (m : Frame) → IsFrame m → IsBodyValue m → frame_for (command_for m) (frame_header m) (body_bytes m) ≡ Some m
-frame_again (frame.Request q) i v = rw (operation_again q.operation v) refl
-frame_again (frame.Reply r) i v = rw (kind_again r.kind v) refl
-frame_again (frame.Prepare p) i v = rw (entry_again p.entry i.entry v.0 v.1) refl
+frame_again (frame.Request q) i v = rw (operation_again q.version q.operation i.fits) refl
+frame_again (frame.Reply r) i v = rw (kind_again r.version r.kind i.fits) refl
+frame_again (frame.Prepare p) i v = rw (entry_again p.entry i.entry v) refl
 frame_again (frame.PrepareOk p) i v = refl
 frame_again (frame.Commit c) i v = refl
 frame_again (frame.StartViewChange s) i v = refl
@@ -306,7 +306,7 @@ frame_again (frame.StartView w) i v =
     rw (count, headers_again w.body.headers v) refl
 frame_again (frame.GetView g) i v = refl
 frame_again (frame.GetPrepare g) i v = refl
-frame_again (frame.GivePrepare g) i v = rw (entry_again g.entry i v.0 v.1) refl
+frame_again (frame.GivePrepare g) i v = rw (entry_again g.entry i.entry v) refl
 frame_again (frame.GetBlock g) i v = refl
 frame_again (frame.GiveBlock g) i v = refl
 frame_again (frame.GetSync g) i v = refl

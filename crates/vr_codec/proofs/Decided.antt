@@ -88,17 +88,17 @@ inspected_found b h i e =
 -- a request's header, and its name
 asking_in : (h : Header) (body : List ℕ) → Found command.Request h body → IsAsking h body
 asking_in h body x =
-    let cases : (o : Option Operation) → option_map (λ (p : Operation). frame.Request (record { cluster = h.cluster; client = h.client; request = h.request; operation = p })) o ≡ Some x.message → IsAsking h body =
+    let cases : (o : Option Operation) → option_map (λ (p : Operation). frame.Request (record { version = h.version; cluster = h.cluster; client = h.client; request = h.request; operation = p })) o ≡ Some x.message → IsAsking h body =
     elim [
       | None ↦ λ e. absurd cc
       | Some o ↦ λ e.
-          let m : Frame = frame.Request (record { cluster = h.cluster; client = h.client; request = h.request; operation = o }) in
+          let m : Frame = frame.Request (record { version = h.version; cluster = h.cluster; client = h.client; request = h.request; operation = o }) in
           let same : x.message ≡ m = cc in
           let header : frame_header m ≡ h = subst (λ (n : Frame). frame_header n ≡ h) same x.header in
           let spelled : operation_bytes o ≡ body = subst (λ (n : Frame). body_bytes n ≡ body) same x.spelled in
-          sym header ∙ ap (λ (b : List ℕ). record (header_before b command.Request) { cluster = h.cluster; client = h.client; request = h.request }) spelled
+          sym header ∙ ap (λ (b : List ℕ). record (header_before h.version b command.Request) { cluster = h.cluster; client = h.client; request = h.request }) spelled
     ] in
-    cases (operation_of body) x.read
+    cases (operation_of h.version body) x.read
 
 pub asking_found : (b : List ℕ) (h : Header) → Inspected b h → h.command ≡ command.Request → IsAsking h (drop 128 b)
 asking_found b h x e = asking_in h (drop 128 b) (subst (λ (c : Command). Found c h (drop 128 b)) e x.message)

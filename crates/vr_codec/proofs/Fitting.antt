@@ -43,34 +43,34 @@ no_fault_in b h e =
 pub long_of : (b : List ℕ) (h : Header) → decoded b ≡ Ok h → 128 ≤ length b
 long_of b h e = (no_fault b (no_fault_in b h e).0).0
 
-pub begins_long : (cluster last op : ℕ) (b : List ℕ) → begins_entry cluster last op b ≡ true → 128 ≤ length b
+pub begins_long : (version cluster last op : ℕ) (b : List ℕ) → begins_entry version cluster last op b ≡ true → 128 ≤ length b
 unfolding begins_entry
-begins_long cluster last op b e =
-    let cases : (r : Result Header HeaderFault) → decoded b ≡ r → is_ok_entry_at cluster last op r ≡ true → 128 ≤ length b =
+begins_long version cluster last op b e =
+    let cases : (r : Result Header HeaderFault) → decoded b ≡ r → is_ok_entry_at version cluster last op r ≡ true → 128 ≤ length b =
     elim [
       | Ok h ↦ λ o t. long_of b h o
       | Err f ↦ λ o t. absurd cc
     ] in
     cases (decoded b) refl e
 
-pub headers_more : (cluster last count i op : ℕ) (rest : List ℕ) → i < count
-    → headers_fit cluster last (count - i) (op + i) rest ≡ (begins_entry cluster last (op + i) rest && headers_fit cluster last (count - (i + 1)) (op + (i + 1)) (drop 128 rest))
+pub headers_more : (version cluster last count i op : ℕ) (rest : List ℕ) → i < count
+    → headers_fit version cluster last (count - i) (op + i) rest ≡ (begins_entry version cluster last (op + i) rest && headers_fit version cluster last (count - (i + 1)) (op + (i + 1)) (drop 128 rest))
 unfolding headers_fit
-headers_more cluster last count i op rest l =
+headers_more version cluster last count i op rest l =
     let n : count - i ≡ suc (count - (i + 1)) = omega arith in
     let o : (op + i) + 1 ≡ op + (i + 1) = omega arith in
     rw (n, o) refl
 
 pub ruleset headers_fitting = (headers_more, begins_long)
 
-pub tags_more : (cluster last op i : ℕ) (tags bytes : List ℕ) → i < length tags
-    → tags_fit cluster last (drop i tags) op bytes ≡ option_map_or (λ rest. tags_fit cluster last (drop (i + 1) tags) (op + 1) rest) (after_tag cluster last op (get_or tags i 0) bytes) false
+pub tags_more : (version cluster last op i : ℕ) (tags bytes : List ℕ) → i < length tags
+    → tags_fit version cluster last (drop i tags) op bytes ≡ option_map_or (λ rest. tags_fit version cluster last (drop (i + 1) tags) (op + 1) rest) (after_tag version cluster last op (get_or tags i 0) bytes) false
 unfolding tags_fit
-tags_more cluster last op i tags bytes l = let e : i + 1 ≡ suc i = omega arith in rw (e, drop-cons tags i 0) refl
+tags_more version cluster last op i tags bytes l = let e : i + 1 ≡ suc i = omega arith in rw (e, drop-cons tags i 0) refl
 
-pub tags_none : (cluster last op i : ℕ) (tags bytes : List ℕ) → length tags ≤ i → tags_fit cluster last (drop i tags) op bytes ≡ (length bytes == 0)
+pub tags_none : (version cluster last op i : ℕ) (tags bytes : List ℕ) → length tags ≤ i → tags_fit version cluster last (drop i tags) op bytes ≡ (length bytes == 0)
 unfolding tags_fit
-tags_none cluster last op i tags bytes l = rw (drop_all i tags l) refl
+tags_none version cluster last op i tags bytes l = rw (drop_all i tags l) refl
 
 pub ruleset tags_fitting = (tags_more, tags_none)
 
@@ -136,12 +136,12 @@ pub headers_read : (count i : ℕ) (rest : List ℕ) (before all : List Header) 
 headers_read count i rest before all l e =
     append_assoc before (decoded_header rest ∷ []) (headers_at (count - (i + 1)) (drop 128 rest)) ∙ (ap (λ hs. before ++ hs) (sym (headers_at_more count i rest l)) ∙ e)
 
-pub one_byte : (o : Operation) → IsOperation o → (o ≡ Register) ↔ (length (operation_bytes o) ≡ 1)
+pub one_byte : (version : ℕ) (o : Operation) → IsOperation version o → (o ≡ Register) ↔ (length (operation_bytes o) ≡ 1)
 unfolding operation_bytes
-one_byte Register i = (λ e. refl, λ e. refl)
-one_byte (Put key value) i = (λ e. absurd cc, λ e. absurd (omega (arith, length-append (2 ∷ length key ∷ bytes16 (length value)) (key ++ value), e)))
-one_byte (Get key) i = (λ e. absurd cc, λ e. absurd (omega (arith, e)))
-one_byte (Delete key) i = (λ e. absurd cc, λ e. absurd (omega (arith, e)))
+one_byte version Register i = (λ e. refl, λ e. refl)
+one_byte version (Put key value) i = (λ e. absurd cc, λ e. absurd (omega (arith, length-append (2 ∷ length key ∷ bytes16 (length value)) (key ++ value), e)))
+one_byte version (Get key) i = (λ e. absurd cc, λ e. absurd (omega (arith, e)))
+one_byte version (Delete key) i = (λ e. absurd cc, λ e. absurd (omega (arith, e)))
 
 chosen : (b c : Bool) → cond b c (not c) ≡ true → b ≡ c
 chosen true c e = sym e
@@ -149,22 +149,22 @@ chosen false true e = absurd cc
 chosen false false e = refl
 
 -- a test of the bytes that an operation was read from
-pub asked_form : (request : ℕ) (body : List ℕ) (o : Operation) → is_asked request body ≡ true → operation_of body ≡ Some o → body ≡ operation_bytes o → IsOperation o
-    → (o ≡ Register) ↔ (request ≡ 0)
+pub asked_form : (version request : ℕ) (body : List ℕ) (o : Operation) → is_asked version request body ≡ true → operation_of version body ≡ Some o → body ≡ operation_bytes o
+    → IsOperation version o → (o ≡ Register) ↔ (request ≡ 0)
 unfolding is_asked
-asked_form request body o a r b i =
+asked_form version request body o a r b i =
     let test = rw r at a in
     let same : eqb (length body) 1 ≡ eqb request 0 = chosen (eqb (length body) 1) (eqb request 0) test in
-    let one = one_byte o i in
+    let one = one_byte version o i in
     let n : length body ≡ length (operation_bytes o) = ap length b in
     (λ e. eqb-true request 0 (sym same ∙ eq-eqb (length body) 1 (n ∙ one.0 e)), λ e. one.1 (sym n ∙ eqb-true (length body) 1 (same ∙ eq-eqb request 0 e)))
 
 -- a request's header and its name tell the names that it keeps
 pub asked_names : (h : Header) (body : List ℕ) (o : Operation) (name : Sum) → IsAsking h body → body ≡ operation_bytes o → name ≡ header_name h
-    → AreNames (record { cluster = h.cluster; client = h.client; request = h.request; operation = o }) (record { body = h.body; header = name })
+    → AreNames (record { version = h.version; cluster = h.cluster; client = h.client; request = h.request; operation = o }) (record { body = h.body; header = name })
 asked_names h body o name a b n =
-    let same : h ≡ request_header h.cluster h.client h.request o =
-    a ∙ ap (λ (x : List ℕ). record (header_before x command.Request) { cluster = h.cluster; client = h.client; request = h.request }) b in
+    let same : h ≡ request_header h.version h.cluster h.client h.request o =
+    a ∙ ap (λ (x : List ℕ). record (header_before h.version x command.Request) { cluster = h.cluster; client = h.client; request = h.request }) b in
     record { body = ap (λ (x : Header). x.body.0) same; header = n ∙ ap header_name same }
 
 kinds : (a b c d f g : Bool) (o : Option ReplyKind) → IfSome o IsReplyKind
@@ -181,19 +181,19 @@ outcome_form : (op : ℕ) → op ≤ 2 ^ 62 → (o : Option Outcome) → IfSome 
 outcome_form op l None = tt
 outcome_form op l (Some o) = l
 
-kinds_form : (kind op : ℕ) (body : List ℕ) → op ≤ 2 ^ 62 → IfSome (kind_at kind op body) IsReplyKind
+kinds_form : (version kind op : ℕ) (body : List ℕ) → op ≤ 2 ^ 62 → IfSome (kind_at version kind op body) IsReplyKind
 unfolding kind_at
-kinds_form kind op body l = kinds (eqb kind 1) (eqb kind 2) (eqb kind 3) (eqb kind 4) (eqb kind 5) (eqb kind 6) _ (outcome_form op l (outcome_of body))
+kinds_form version kind op body l = kinds (eqb kind 1) (eqb kind 2) (eqb kind 3) (eqb kind 4) (eqb kind 5) (eqb kind 6) _ (outcome_form op l (outcome_of version body))
 
-pub reply_form : (kind op : ℕ) (body : List ℕ) (k : ReplyKind) → kind_at kind op body ≡ Some k → op ≤ 2 ^ 62 → IsReplyKind k
-reply_form kind op body k e l = let P : Option ReplyKind → Type 0 = λ o. IfSome o IsReplyKind in subst P e (kinds_form kind op body l)
+pub reply_form : (version kind op : ℕ) (body : List ℕ) (k : ReplyKind) → kind_at version kind op body ≡ Some k → op ≤ 2 ^ 62 → IsReplyKind k
+reply_form version kind op body k e l = let P : Option ReplyKind → Type 0 = λ o. IfSome o IsReplyKind in subst P e (kinds_form version kind op body l)
 
 -- ---- tests that pass, and headers that can be read
 
-pub begins_ok : (cluster last op : ℕ) (b : List ℕ) → begins_entry cluster last op b ≡ true → is_ok (decoded b) ≡ true
+pub begins_ok : (version cluster last op : ℕ) (b : List ℕ) → begins_entry version cluster last op b ≡ true → is_ok (decoded b) ≡ true
 unfolding begins_entry
-begins_ok cluster last op b e =
-    let cases : (r : Result Header HeaderFault) → is_ok_entry_at cluster last op r ≡ true → is_ok r ≡ true =
+begins_ok version cluster last op b e =
+    let cases : (r : Result Header HeaderFault) → is_ok_entry_at version cluster last op r ≡ true → is_ok r ≡ true =
     elim [
       | Ok h ↦ λ t. refl
       | Err f ↦ λ t. absurd cc
@@ -203,28 +203,28 @@ begins_ok cluster last op b e =
 both_true : (a b : Bool) → a ≡ true → b ≡ true → (a && b) ≡ true
 both_true a b p q = rw (p, q) refl
 
-pub headers_are : (cluster last n op : ℕ) (b : List ℕ) → headers_fit cluster last n op b ≡ true → are_headers n b ≡ true
+pub headers_are : (version cluster last n op : ℕ) (b : List ℕ) → headers_fit version cluster last n op b ≡ true → are_headers n b ≡ true
 unfolding headers_fit are_headers
-headers_are cluster last zero op b e = refl
-headers_are cluster last (suc n) op b e =
+headers_are version cluster last zero op b e = refl
+headers_are version cluster last (suc n) op b e =
     let p = both _ _ e in
-    both_true _ _ (begins_ok cluster last op b p.0) (headers_are cluster last n (op + 1) (drop 128 b) p.1)
+    both_true _ _ (begins_ok version cluster last op b p.0) (headers_are version cluster last n (op + 1) (drop 128 b) p.1)
 
 -- by the test of the tag
-tag_cases : (cluster last op t : ℕ) (ts b : List ℕ) (k f h : Bool) → (f ≡ true → is_ok (decoded b) ≡ true)
-    → ((x : List ℕ) → tags_fit cluster last ts (op + 1) x ≡ true → are_parts ts x ≡ true)
-    → option_map_or (λ rest. tags_fit cluster last ts (op + 1) rest) (cond k (cond f (Some (drop 128 b)) None) (cond h None (Some b))) false ≡ true
+tag_cases : (version cluster last op t : ℕ) (ts b : List ℕ) (k f h : Bool) → (f ≡ true → is_ok (decoded b) ≡ true)
+    → ((x : List ℕ) → tags_fit version cluster last ts (op + 1) x ≡ true → are_parts ts x ≡ true)
+    → option_map_or (λ rest. tags_fit version cluster last ts (op + 1) rest) (cond k (cond f (Some (drop 128 b)) None) (cond h None (Some b))) false ≡ true
     → ((not k || is_ok (decoded b)) && are_parts ts (cond k (drop 128 b) b)) ≡ true
-tag_cases cluster last op t ts b true true h begins more e = both_true _ _ (begins refl) (more (drop 128 b) e)
-tag_cases cluster last op t ts b true false h begins more e = absurd cc
-tag_cases cluster last op t ts b false f true begins more e = absurd cc
-tag_cases cluster last op t ts b false f false begins more e = more b e
+tag_cases version cluster last op t ts b true true h begins more e = both_true _ _ (begins refl) (more (drop 128 b) e)
+tag_cases version cluster last op t ts b true false h begins more e = absurd cc
+tag_cases version cluster last op t ts b false f true begins more e = absurd cc
+tag_cases version cluster last op t ts b false f false begins more e = more b e
 
-pub tags_are : (cluster last : ℕ) (tags : List ℕ) (op : ℕ) (b : List ℕ) → tags_fit cluster last tags op b ≡ true → are_parts tags b ≡ true
+pub tags_are : (version cluster last : ℕ) (tags : List ℕ) (op : ℕ) (b : List ℕ) → tags_fit version cluster last tags op b ≡ true → are_parts tags b ≡ true
 unfolding tags_fit are_parts after_tag rest_at
-tags_are cluster last [] op b e = refl
-tags_are cluster last (t ∷ ts) op b e =
-    tag_cases cluster last op t ts b (knows t) (begins_entry cluster last op b) (ltb 4 t) (begins_ok cluster last op b) (λ x. tags_are cluster last ts (op + 1) x) e
+tags_are version cluster last [] op b e = refl
+tags_are version cluster last (t ∷ ts) op b e =
+    tag_cases version cluster last op t ts b (knows t) (begins_entry version cluster last op b) (ltb 4 t) (begins_ok version cluster last op b) (λ x. tags_are version cluster last ts (op + 1) x) e
 
 -- a test that an `if` asks for before another
 passed : (t x : Bool) → cond t false x ≡ true → (t ≡ false) × (x ≡ true)
@@ -237,7 +237,7 @@ log_found h body e =
     let commit = passed _ _ e in
     let lo = passed _ _ commit.1 in
     let short = passed _ _ lo.1 in
-    (ltb-false _ _ lo.0, headers_are _ _ _ _ _ short.1)
+    (ltb-false _ _ lo.0, headers_are _ _ _ _ _ _ short.1)
 
 -- what the tests of a statement found
 pub record StatementFound (h : Header) (first : ℕ) (tags bytes : List ℕ) : Type 0 where
@@ -246,7 +246,7 @@ pub record StatementFound (h : Header) (first : ℕ) (tags bytes : List ℕ) : T
   pub commit : h.commit ≤ h.op
   pub log_view : h.aux < h.view
   pub run : tags_run h.op first tags ≡ true
-  pub known : tags_fit h.cluster h.aux tags first bytes ≡ true
+  pub known : tags_fit h.version h.cluster h.aux tags first bytes ≡ true
 
 not_zero : (n : ℕ) → eqb n 0 ≡ false → 1 ≤ n
 not_zero zero e = absurd cc
@@ -259,7 +259,7 @@ statement_found h first tags bytes e =
     let below = passed (ltb (h.commit + 1) first) _ one.1 in
     let commit = passed (ltb h.op h.commit) _ below.1 in
     let view = passed (leb h.view h.aux) _ commit.1 in
-    let rest = both (tags_run h.op first tags) (tags_fit h.cluster h.aux tags first bytes) view.1 in
+    let rest = both (tags_run h.op first tags) (tags_fit h.version h.cluster h.aux tags first bytes) view.1 in
     record {
       one = not_zero first one.0;
       reach = ltb-false (h.commit + 1) first below.0;
@@ -291,7 +291,7 @@ pub parts_readable : (h : Header) (body : List ℕ) → parts_fit h body ≡ tru
     → (h.aux < h.view) × (10 + number w16 8 body ≤ length body) × (are_parts (take (number w16 8 body) (drop 10 body)) (drop (10 + number w16 8 body) body) ≡ true)
 parts_readable h body e =
     let p = parts_found h body e in
-    (p.statement.log_view, p.long, tags_are _ _ _ _ _ p.statement.known)
+    (p.statement.log_view, p.long, tags_are _ _ _ _ _ _ p.statement.known)
 
 pub views : (h : Header) → numbers_fit h ≡ true → h.view < 2 ^ 32 - 1
 unfolding numbers_fit
@@ -300,10 +300,10 @@ views h e = ltb-true h.view (2 ^ 32 - 1) (both _ _ e).0
 pub view_of : (n : ℕ) (b : Bool) → (is_view n && b) ≡ true → n < 2 ^ 32 - 1
 view_of n b e = ltb-true n (2 ^ 32 - 1) (both _ _ e).0
 
-pub entry_there : (cluster last op : ℕ) (body : List ℕ) → entry_fits cluster last op body ≡ true → is_some (entry_of body) ≡ true
+pub entry_there : (version cluster last op : ℕ) (body : List ℕ) → entry_fits version cluster last op body ≡ true → is_some (entry_of body) ≡ true
 unfolding entry_fits
-entry_there cluster last op body e =
-    let cases : (o : Option Whole) → option_map_or (is_at cluster last op) (option_map (λ (x : Whole). x.header) o) false ≡ true → is_some o ≡ true =
+entry_there version cluster last op body e =
+    let cases : (o : Option Whole) → option_map_or (is_at version cluster last op) (option_map (λ (x : Whole). x.header) o) false ≡ true → is_some o ≡ true =
     elim [
       | None ↦ λ t. absurd cc
       | Some x ↦ λ t. refl

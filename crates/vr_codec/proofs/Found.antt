@@ -28,12 +28,12 @@ use Rattle.vr_msg.specs.declared.reply.ReplyKind.{ReplyKind}
 use Rattle.vr_msg.specs.declared.reply.ReplyKind.TheVariants as reply
 use Rattle.vr_msg.specs.declared.statement.DvcBody.{DvcBody}
 use Rattle.vr_msg.specs.declared.statement.Statement.{Statement}
-use Rattle.vr_msg.specs.Asking.{IsReplyKind}
+use Rattle.vr_msg.specs.Asking.{IsKindValue, IsReplyKind}
 use Rattle.vr_msg.specs.Forms.{IsFrame}
 use Rattle.vr_msg.specs.Logs.{IsStatement, has_header}
 use Rattle.vr_codec.specs.Reading.{body_at, frame_for, headers_at, kind_at, parts_at}
 use Rattle.vr_codec.specs.Shapes.{body_fits, entry_fits, has_shape, is_asked, is_at, is_body, is_no_name, is_view, kind_fits, knows, log_fits, numbers_fit, parts_fit, sync_fits, tags_run, unused_names_are_zero, unused_numbers_are_zero, uses_aux, uses_client, uses_commit, uses_op, uses_parent, uses_replica, uses_request_name, uses_view}
-use Rattle.vr_msg.specs.Spelling.{AreHeaders, IsBodyValue, IsKindValue, body_bytes, frame_header, headers_bytes, kind_bytes, kind_number, kind_op, known, parts_bytes, sync_bytes}
+use Rattle.vr_msg.specs.Spelling.{AreHeaders, IsBodyValue, body_bytes, frame_header, headers_bytes, kind_bytes, kind_number, kind_op, known, parts_bytes, sync_bytes}
 use Rattle.vr_codec.proofs.Fitting.{PartsFound, asked_form, both, numbers, parts_found, views}
 use Rattle.vr_codec.proofs.Lists.{HeadersFound, IsBytes-drop, at_found, headers_found, nothing}
 use Rattle.vr_codec.proofs.Syncs.{sync_found, sync_spelled}
@@ -115,8 +115,8 @@ pub record Found (c : Command) (h : Header) (body : List ℕ) : Type 0 where
   pub values : IsBodyValue message
   pub spelled : body_bytes message ≡ body
 
-abbrev pub header_with : List ℕ → Sum → Sum → ℕ → ℕ → ℕ → ℕ → ℕ → ℕ → Command → ℕ → ℕ → ℕ → Header
-header_with t parent request_name cluster client request view op commit c replica kind aux = record {
+abbrev pub header_with : List ℕ → ℕ → Sum → Sum → ℕ → ℕ → ℕ → ℕ → ℕ → ℕ → Command → ℕ → ℕ → ℕ → Header
+header_with t version parent request_name cluster client request view op commit c replica kind aux = record {
   body = record { 0 = name_of t };
   parent = parent;
   request_name = request_name;
@@ -129,13 +129,14 @@ header_with t parent request_name cluster client request view op commit c replic
   size = 128 + length t;
   command = c;
   replica = replica;
+  version = version;
   kind = kind;
   aux = aux;
 }
 
 header_is : (c : Command) (h : Header) (body t : List ℕ) (parent request_name : Sum) (cluster client request view op commit replica kind aux : ℕ) → Base c h body → t ≡ body
     → parent ≡ h.parent → request_name ≡ h.request_name → cluster ≡ h.cluster → client ≡ h.client → request ≡ h.request → view ≡ h.view → op ≡ h.op → commit ≡ h.commit
-    → replica ≡ h.replica → kind ≡ h.kind → aux ≡ h.aux → header_with t parent request_name cluster client request view op commit c replica kind aux ≡ h
+    → replica ≡ h.replica → kind ≡ h.kind → aux ≡ h.aux → header_with t h.version parent request_name cluster client request view op commit c replica kind aux ≡ h
 header_is c h body t parent request_name cluster client request view op commit replica kind aux b e p r cl ci re vi o co rp k a =
     let name : name_of t ≡ h.body.0 = ap name_of e ∙ b.name in
     let size : 128 + length t ≡ h.size = ap (λ x. 128 + length x) e ∙ b.size in
@@ -144,54 +145,54 @@ header_is c h body t parent request_name cluster client request view op commit r
 
 -- ---- kind by kind
 
-no_operation : (request : ℕ) (body : List ℕ) → is_asked request body ≡ true → operation_of body ≡ None → ⊥
+no_operation : (version request : ℕ) (body : List ℕ) → is_asked version request body ≡ true → operation_of version body ≡ None → ⊥
 unfolding is_asked
-no_operation request body a r = let e = rw r at a in cc
+no_operation version request body a r = let e = rw r at a in cc
 
-operation_there : (body : List ℕ) (o : Operation) → IsBytes body → operation_of body ≡ Some o → (body ≡ operation_bytes o) × IsOperation o
-operation_there body o i r = let P : Option Operation → Type 0 = λ x. IfSome x (λ o. (body ≡ operation_bytes o) × IsOperation o) in subst P r (operation_found body i)
+operation_there : (version : ℕ) (body : List ℕ) (o : Operation) → IsBytes body → operation_of version body ≡ Some o → (body ≡ operation_bytes o) × IsOperation version o
+operation_there version body o i r = let P : Option Operation → Type 0 = λ x. IfSome x (λ o. (body ≡ operation_bytes o) × IsOperation version o) in subst P r (operation_found version body i)
 
-request_found : (h : Header) (body : List ℕ) → Base command.Request h body → is_asked h.request body ≡ true → Found command.Request h body
+request_found : (h : Header) (body : List ℕ) → Base command.Request h body → is_asked h.version h.request body ≡ true → Found command.Request h body
 request_found h body b a =
-    let cases : (o : Option Operation) → operation_of body ≡ o → Found command.Request h body =
+    let cases : (o : Option Operation) → operation_of h.version body ≡ o → Found command.Request h body =
     elim [
-      | None ↦ λ r. absurd (no_operation h.request body a r)
+      | None ↦ λ r. absurd (no_operation h.version h.request body a r)
       | Some o ↦ λ r.
           let z = b.zero in
-          let s = operation_there body o b.bytes r in
+          let s = operation_there h.version body o b.bytes r in
           record {
-            message = frame.Request (record { cluster = h.cluster; client = h.client; request = h.request; operation = o });
+            message = frame.Request (record { version = h.version; cluster = h.cluster; client = h.client; request = h.request; operation = o });
             read = rw r refl;
             header = header_is command.Request h body (operation_bytes o) no_name no_name h.cluster h.client h.request 0 0 0 0 0 0 b (sym s.0) (z.parent refl) (z.request_name refl) refl refl refl
                 (z.view refl) (z.op refl) (z.commit refl) (z.replica refl) (z.kind refl) (z.aux refl);
-            form = asked_form h.request body o a r s.0 s.1;
-            values = s.1;
+            form = record { first = asked_form h.version h.request body o a r s.0 s.1; fits = s.1 };
+            values = tt;
             spelled = sym s.0;
           }
     ] in
-    cases (operation_of body) refl
+    cases (operation_of h.version body) refl
 
 -- the kind of a reply
-record KindFound (kind op : ℕ) (body : List ℕ) : Type 0 where
+record KindFound (version kind op : ℕ) (body : List ℕ) : Type 0 where
   it : ReplyKind
-  read : kind_at kind op body ≡ Some it
+  read : kind_at version kind op body ≡ Some it
   number : kind_number it ≡ kind
   at_op : kind_op it ≡ op
   form : IsReplyKind it
-  values : IsKindValue it
+  values : IsKindValue version it
   spelled : kind_bytes it ≡ body
 
-outcome_there : (body : List ℕ) (o : Outcome) → IsBytes body → outcome_of body ≡ Some o → (body ≡ outcome_bytes o) × IsOutcome o
-outcome_there body o i r = let P : Option Outcome → Type 0 = λ x. IfSome x (λ o. (body ≡ outcome_bytes o) × IsOutcome o) in subst P r (outcome_found body i)
+outcome_there : (version : ℕ) (body : List ℕ) (o : Outcome) → IsBytes body → outcome_of version body ≡ Some o → (body ≡ outcome_bytes o) × IsOutcome version o
+outcome_there version body o i r = let P : Option Outcome → Type 0 = λ x. IfSome x (λ o. (body ≡ outcome_bytes o) × IsOutcome version o) in subst P r (outcome_found version body i)
 
-outcome_kind : (op : ℕ) (body : List ℕ) → IsBytes body → op ≤ 2 ^ 62 → kind_fits 1 op body ≡ true → KindFound 1 op body
+outcome_kind : (version op : ℕ) (body : List ℕ) → IsBytes body → op ≤ 2 ^ 62 → kind_fits version 1 op body ≡ true → KindFound version 1 op body
 unfolding kind_fits kind_at
-outcome_kind op body i l e =
-    let cases : (o : Option Outcome) → outcome_of body ≡ o → is_some o ≡ true → KindFound 1 op body =
+outcome_kind version op body i l e =
+    let cases : (o : Option Outcome) → outcome_of version body ≡ o → is_some o ≡ true → KindFound version 1 op body =
     elim [
       | None ↦ λ r t. absurd cc
       | Some o ↦ λ r t.
-          let s = outcome_there body o i r in
+          let s = outcome_there version body o i r in
           record {
             it = reply.Outcome (record { op = op; outcome = o });
             read = rw r refl;
@@ -202,7 +203,7 @@ outcome_kind op body i l e =
             spelled = sym s.0;
           }
     ] in
-    cases (outcome_of body) refl e
+    cases (outcome_of version body) refl e
 
 bare_kind : (op : ℕ) (body : List ℕ) → (eqb op 0 && eqb (length body) 0) ≡ true → (0 ≡ op) × ([] ≡ body)
 bare_kind op body e = let p = both (eqb op 0) (eqb (length body) 0) e in (sym (eqb-true op 0 p.0), nothing body p.1)
@@ -223,57 +224,58 @@ kind_range kind x e =
     some_kind zero p = absurd cc
     some_kind (suc n) p = omega arith
 
-at_most_six : (kind op : ℕ) (body : List ℕ) → kind_fits kind op body ≡ true → (1 ≤ kind) × (kind ≤ 6)
+at_most_six : (version kind op : ℕ) (body : List ℕ) → kind_fits version kind op body ≡ true → (1 ≤ kind) × (kind ≤ 6)
 unfolding kind_fits
-at_most_six kind op body e =
+at_most_six version kind op body e =
     let one : (t : Bool) (x : Bool) → eqb kind 1 ≡ t → cond t x (cond (eqb kind 0) false (cond (ltb 6 kind) false (eqb op 0 && eqb (length body) 0))) ≡ true → (1 ≤ kind) × (kind ≤ 6) =
     elim [
       | true ↦ λ x t f. let k = eqb-true kind 1 t in (omega arith, omega arith)
       | false ↦ λ x t f. (kind_range kind (eqb op 0 && eqb (length body) 0) f)
     ] in
-    one (eqb kind 1) (is_some (outcome_of body)) refl e
+    one (eqb kind 1) (is_some (outcome_of version body)) refl e
 
-old_kind : (op : ℕ) (body : List ℕ) → kind_fits 2 op body ≡ true → KindFound 2 op body
+old_kind : (version op : ℕ) (body : List ℕ) → kind_fits version 2 op body ≡ true → KindFound version 2 op body
 unfolding kind_fits kind_at
-old_kind op body e = let p = bare_kind op body e in record { it = reply.Old; read = refl; number = refl; at_op = p.0; form = tt; values = tt; spelled = p.1 }
+old_kind version op body e = let p = bare_kind op body e in record { it = reply.Old; read = refl; number = refl; at_op = p.0; form = tt; values = tt; spelled = p.1 }
 
-gap_kind : (op : ℕ) (body : List ℕ) → kind_fits 3 op body ≡ true → KindFound 3 op body
+gap_kind : (version op : ℕ) (body : List ℕ) → kind_fits version 3 op body ≡ true → KindFound version 3 op body
 unfolding kind_fits kind_at
-gap_kind op body e = let p = bare_kind op body e in record { it = reply.Gap; read = refl; number = refl; at_op = p.0; form = tt; values = tt; spelled = p.1 }
+gap_kind version op body e = let p = bare_kind op body e in record { it = reply.Gap; read = refl; number = refl; at_op = p.0; form = tt; values = tt; spelled = p.1 }
 
-evicted_kind : (op : ℕ) (body : List ℕ) → kind_fits 4 op body ≡ true → KindFound 4 op body
+evicted_kind : (version op : ℕ) (body : List ℕ) → kind_fits version 4 op body ≡ true → KindFound version 4 op body
 unfolding kind_fits kind_at
-evicted_kind op body e = let p = bare_kind op body e in record { it = reply.Evicted; read = refl; number = refl; at_op = p.0; form = tt; values = tt; spelled = p.1 }
+evicted_kind version op body e = let p = bare_kind op body e in record { it = reply.Evicted; read = refl; number = refl; at_op = p.0; form = tt; values = tt; spelled = p.1 }
 
-busy_kind : (op : ℕ) (body : List ℕ) → kind_fits 5 op body ≡ true → KindFound 5 op body
+busy_kind : (version op : ℕ) (body : List ℕ) → kind_fits version 5 op body ≡ true → KindFound version 5 op body
 unfolding kind_fits kind_at
-busy_kind op body e = let p = bare_kind op body e in record { it = reply.Busy; read = refl; number = refl; at_op = p.0; form = tt; values = tt; spelled = p.1 }
+busy_kind version op body e = let p = bare_kind op body e in record { it = reply.Busy; read = refl; number = refl; at_op = p.0; form = tt; values = tt; spelled = p.1 }
 
-redirect_kind : (op : ℕ) (body : List ℕ) → kind_fits 6 op body ≡ true → KindFound 6 op body
+redirect_kind : (version op : ℕ) (body : List ℕ) → kind_fits version 6 op body ≡ true → KindFound version 6 op body
 unfolding kind_fits kind_at
-redirect_kind op body e = let p = bare_kind op body e in record { it = reply.Redirect; read = refl; number = refl; at_op = p.0; form = tt; values = tt; spelled = p.1 }
+redirect_kind version op body e = let p = bare_kind op body e in record { it = reply.Redirect; read = refl; number = refl; at_op = p.0; form = tt; values = tt; spelled = p.1 }
 
-by_number : (kind op : ℕ) (body : List ℕ) → IsBytes body → op ≤ 2 ^ 62 → kind_fits kind op body ≡ true → 1 ≤ kind → kind ≤ 6 → KindFound kind op body
-by_number zero op body i l e g k = absurd (omega arith)
-by_number (suc zero) op body i l e g k = outcome_kind op body i l e
-by_number (suc (suc zero)) op body i l e g k = old_kind op body e
-by_number (suc (suc (suc zero))) op body i l e g k = gap_kind op body e
-by_number (suc (suc (suc (suc zero)))) op body i l e g k = evicted_kind op body e
-by_number (suc (suc (suc (suc (suc zero))))) op body i l e g k = busy_kind op body e
-by_number (suc (suc (suc (suc (suc (suc zero)))))) op body i l e g k = redirect_kind op body e
-by_number (suc (suc (suc (suc (suc (suc (suc n))))))) op body i l e g k = absurd (omega arith)
+by_number : (version kind op : ℕ) (body : List ℕ) → IsBytes body → op ≤ 2 ^ 62 → kind_fits version kind op body ≡ true → 1 ≤ kind → kind ≤ 6 → KindFound version kind op body
+by_number version zero op body i l e g k = absurd (omega arith)
+by_number version (suc zero) op body i l e g k = outcome_kind version op body i l e
+by_number version (suc (suc zero)) op body i l e g k = old_kind version op body e
+by_number version (suc (suc (suc zero))) op body i l e g k = gap_kind version op body e
+by_number version (suc (suc (suc (suc zero)))) op body i l e g k = evicted_kind version op body e
+by_number version (suc (suc (suc (suc (suc zero))))) op body i l e g k = busy_kind version op body e
+by_number version (suc (suc (suc (suc (suc (suc zero)))))) op body i l e g k = redirect_kind version op body e
+by_number version (suc (suc (suc (suc (suc (suc (suc n))))))) op body i l e g k = absurd (omega arith)
 
-kind_found : (kind op : ℕ) (body : List ℕ) → IsBytes body → op ≤ 2 ^ 62 → kind_fits kind op body ≡ true → KindFound kind op body
-kind_found kind op body i l e =
-    let range = at_most_six kind op body e in
-    by_number kind op body i l e range.0 range.1
+kind_found : (version kind op : ℕ) (body : List ℕ) → IsBytes body → op ≤ 2 ^ 62 → kind_fits version kind op body ≡ true → KindFound version kind op body
+kind_found version kind op body i l e =
+    let range = at_most_six version kind op body e in
+    by_number version kind op body i l e range.0 range.1
 
-reply_found : (h : Header) (body : List ℕ) → Base command.Reply h body → kind_fits h.kind h.op body ≡ true → Found command.Reply h body
+reply_found : (h : Header) (body : List ℕ) → Base command.Reply h body → kind_fits h.version h.kind h.op body ≡ true → Found command.Reply h body
 reply_found h body b e =
-    let k = kind_found h.kind h.op body b.bytes b.op e in
+    let k = kind_found h.version h.kind h.op body b.bytes b.op e in
     let z = b.zero in
     record {
       message = frame.Reply (record {
+        version = h.version;
         cluster = h.cluster;
         replica = h.replica;
         view = h.view;
@@ -285,59 +287,60 @@ reply_found h body b e =
       read = rw k.read refl;
       header = header_is command.Reply h body (kind_bytes k.it) no_name h.request_name h.cluster h.client h.request h.view (kind_op k.it) 0 h.replica (kind_number k.it) 0 b k.spelled
           (z.parent refl) refl refl refl refl refl k.at_op (z.commit refl) refl k.number (z.aux refl);
-      form = record { view = b.view; kind = k.form };
-      values = k.values;
+      form = record { view = b.view; kind = k.form; fits = k.values };
+      values = tt;
       spelled = k.spelled;
     }
 
--- an entry of the frame's group and op
-record EntryFound (cluster last op : ℕ) (body : List ℕ) : Type 0 where
+-- an entry of the frame's version or an earlier one, and of its group and op
+record EntryFound (version cluster last op : ℕ) (body : List ℕ) : Type 0 where
   it : Whole
   read : entry_of body ≡ Some it
   spelled : body ≡ entry_bytes it
   form : IsEntry it
-  values : IsHeader it.header × IsOperation it.operation
+  values : IsHeader it.header
+  of_version : it.header.version ≤ version
   of_group : it.header.cluster ≡ cluster
   at_op : it.header.op ≡ op
   made : it.header.view ≤ last
 
-entry_there : (cluster last op : ℕ) (body : List ℕ) → IsBytes body → entry_fits cluster last op body ≡ true → EntryFound cluster last op body
+entry_there : (version cluster last op : ℕ) (body : List ℕ) → IsBytes body → entry_fits version cluster last op body ≡ true → EntryFound version cluster last op body
 unfolding entry_fits
-entry_there cluster last op body i e =
-    let cases : (o : Option Whole) → entry_of body ≡ o → IfSome o (IsSpelled body) → option_map_or (is_at cluster last op) (option_map (λ (e : Whole). e.header) o) false ≡ true
-    → EntryFound cluster last op body =
+entry_there version cluster last op body i e =
+    let cases : (o : Option Whole) → entry_of body ≡ o → IfSome o (IsSpelled body) → option_map_or (is_at version cluster last op) (option_map (λ (e : Whole). e.header) o) false ≡ true
+    → EntryFound version cluster last op body =
     elim [
       | None ↦ λ r s t. absurd cc
       | Some x ↦ λ r s t.
-          let place = at_found cluster last op x.header t in
-          record { it = x; read = r; spelled = s.0; form = s.1; values = (s.2, s.3); of_group = place.0; at_op = place.1; made = place.2 }
+          let place = at_found version cluster last op x.header t in
+          record { it = x; read = r; spelled = s.0; form = s.1; values = s.2; of_version = place.0; of_group = place.1; at_op = place.2; made = place.3 }
     ] in
     cases (entry_of body) refl (entry_found body i) e
 
-prepare_found : (h : Header) (body : List ℕ) → Base command.Prepare h body → entry_fits h.cluster h.view h.op body ≡ true → Found command.Prepare h body
+prepare_found : (h : Header) (body : List ℕ) → Base command.Prepare h body → entry_fits h.version h.cluster h.view h.op body ≡ true → Found command.Prepare h body
 prepare_found h body b e =
-    let x = entry_there h.cluster h.view h.op body b.bytes e in
+    let x = entry_there h.version h.cluster h.view h.op body b.bytes e in
     let z = b.zero in
     record {
-      message = frame.Prepare (record { replica = h.replica; view = h.view; commit = h.commit; entry = x.it });
+      message = frame.Prepare (record { version = h.version; replica = h.replica; view = h.view; commit = h.commit; entry = x.it });
       read = rw x.read refl;
       header = header_is command.Prepare h body (entry_bytes x.it) no_name no_name x.it.header.cluster 0 0 h.view x.it.header.op h.commit h.replica 0 0 b (sym x.spelled)
           (z.parent refl) (z.request_name refl) x.of_group (z.client refl) (z.request refl) refl x.at_op refl refl (z.kind refl) (z.aux refl);
-      form = record { view = b.view; commit = b.commit; entry = x.form; made = x.made };
+      form = record { view = b.view; commit = b.commit; entry = x.form; made = x.made; of_version = x.of_version };
       values = x.values;
       spelled = sym x.spelled;
     }
 
-give_prepare_found : (h : Header) (body : List ℕ) → Base command.GivePrepare h body → entry_fits h.cluster (2 ^ 32 - 2) h.op body ≡ true → Found command.GivePrepare h body
+give_prepare_found : (h : Header) (body : List ℕ) → Base command.GivePrepare h body → entry_fits h.version h.cluster (2 ^ 32 - 2) h.op body ≡ true → Found command.GivePrepare h body
 give_prepare_found h body b e =
-    let x = entry_there h.cluster (2 ^ 32 - 2) h.op body b.bytes e in
+    let x = entry_there h.version h.cluster (2 ^ 32 - 2) h.op body b.bytes e in
     let z = b.zero in
     record {
-      message = frame.GivePrepare (record { replica = h.replica; entry = x.it });
+      message = frame.GivePrepare (record { version = h.version; replica = h.replica; entry = x.it });
       read = rw x.read refl;
       header = header_is command.GivePrepare h body (entry_bytes x.it) no_name no_name x.it.header.cluster 0 0 0 x.it.header.op 0 h.replica 0 0 b (sym x.spelled)
           (z.parent refl) (z.request_name refl) x.of_group (z.client refl) (z.request refl) (z.view refl) x.at_op (z.commit refl) refl (z.kind refl) (z.aux refl);
-      form = x.form;
+      form = record { entry = x.form; of_version = x.of_version };
       values = x.values;
       spelled = sym x.spelled;
     }
@@ -352,7 +355,7 @@ prepare_ok_found h body b e =
     let p = view_found h.aux body e in
     let z = b.zero in
     record {
-      message = frame.PrepareOk (record { cluster = h.cluster; replica = h.replica; view = h.view; op = h.op; name = h.parent; made = h.aux });
+      message = frame.PrepareOk (record { version = h.version; cluster = h.cluster; replica = h.replica; view = h.view; op = h.op; name = h.parent; made = h.aux });
       read = refl;
       header = header_is command.PrepareOk h body [] h.parent no_name h.cluster 0 0 h.view h.op 0 h.replica 0 h.aux b p.1
           refl (z.request_name refl) refl (z.client refl) (z.request refl) refl refl (z.commit refl) refl (z.kind refl) refl;
@@ -365,7 +368,7 @@ commit_found : (h : Header) (body : List ℕ) → Base command.Commit h body →
 commit_found h body b e =
     let z = b.zero in
     record {
-      message = frame.Commit (record { cluster = h.cluster; replica = h.replica; view = h.view; head = h.op; commit = h.commit });
+      message = frame.Commit (record { version = h.version; cluster = h.cluster; replica = h.replica; view = h.view; head = h.op; commit = h.commit });
       read = refl;
       header = header_is command.Commit h body [] no_name no_name h.cluster 0 0 h.view h.op h.commit h.replica 0 0 b (nothing body e)
           (z.parent refl) (z.request_name refl) refl (z.client refl) (z.request refl) refl refl refl refl (z.kind refl) (z.aux refl);
@@ -378,7 +381,7 @@ start_view_change_found : (h : Header) (body : List ℕ) → Base command.StartV
 start_view_change_found h body b e =
     let z = b.zero in
     record {
-      message = frame.StartViewChange (record { cluster = h.cluster; replica = h.replica; view = h.view });
+      message = frame.StartViewChange (record { version = h.version; cluster = h.cluster; replica = h.replica; view = h.view });
       read = refl;
       header = header_is command.StartViewChange h body [] no_name no_name h.cluster 0 0 h.view 0 0 h.replica 0 0 b (nothing body e)
           (z.parent refl) (z.request_name refl) refl (z.client refl) (z.request refl) refl (z.op refl) (z.commit refl) refl (z.kind refl) (z.aux refl);
@@ -391,7 +394,7 @@ get_view_found : (h : Header) (body : List ℕ) → Base command.GetView h body 
 get_view_found h body b e =
     let z = b.zero in
     record {
-      message = frame.GetView (record { cluster = h.cluster; replica = h.replica; view = h.view });
+      message = frame.GetView (record { version = h.version; cluster = h.cluster; replica = h.replica; view = h.view });
       read = refl;
       header = header_is command.GetView h body [] no_name no_name h.cluster 0 0 h.view 0 0 h.replica 0 0 b (nothing body e)
           (z.parent refl) (z.request_name refl) refl (z.client refl) (z.request refl) refl (z.op refl) (z.commit refl) refl (z.kind refl) (z.aux refl);
@@ -405,7 +408,7 @@ get_prepare_found h body b e =
     let p = view_found h.aux body e in
     let z = b.zero in
     record {
-      message = frame.GetPrepare (record { cluster = h.cluster; replica = h.replica; op = h.op; name = h.parent; made = h.aux });
+      message = frame.GetPrepare (record { version = h.version; cluster = h.cluster; replica = h.replica; op = h.op; name = h.parent; made = h.aux });
       read = refl;
       header = header_is command.GetPrepare h body [] h.parent no_name h.cluster 0 0 0 h.op 0 h.replica 0 h.aux b p.1
           refl (z.request_name refl) refl (z.client refl) (z.request refl) (z.view refl) refl (z.commit refl) refl (z.kind refl) refl;
@@ -418,7 +421,7 @@ get_block_found : (h : Header) (body : List ℕ) → Base command.GetBlock h bod
 get_block_found h body b e =
     let z = b.zero in
     record {
-      message = frame.GetBlock (record { cluster = h.cluster; replica = h.replica; address = h.aux; name = h.parent });
+      message = frame.GetBlock (record { version = h.version; cluster = h.cluster; replica = h.replica; address = h.aux; name = h.parent });
       read = refl;
       header = header_is command.GetBlock h body [] h.parent no_name h.cluster 0 0 0 0 0 h.replica 0 h.aux b (nothing body e)
           refl (z.request_name refl) refl (z.client refl) (z.request refl) (z.view refl) (z.op refl) (z.commit refl) refl (z.kind refl) refl;
@@ -433,7 +436,7 @@ give_block_found : (h : Header) (body : List ℕ) → Base command.GiveBlock h b
 give_block_found h body b e =
     let z = b.zero in
     record {
-      message = frame.GiveBlock (record { cluster = h.cluster; replica = h.replica; address = h.aux; block = body });
+      message = frame.GiveBlock (record { version = h.version; cluster = h.cluster; replica = h.replica; address = h.aux; block = body });
       read = refl;
       header = header_is command.GiveBlock h body body no_name no_name h.cluster 0 0 0 0 0 h.replica 0 h.aux b refl
           (z.parent refl) (z.request_name refl) refl (z.client refl) (z.request refl) (z.view refl) (z.op refl) (z.commit refl) refl (z.kind refl) refl;
@@ -451,7 +454,7 @@ record LogFound (h : Header) (body : List ℕ) : Type 0 where
   commit : h.commit ≤ h.op
   lo : h.aux ≤ h.op
   short : h.op - h.aux ≤ 64
-  headers : HeadersFound h.cluster h.view (h.aux + 1) (h.op - h.aux) body
+  headers : HeadersFound h.version h.cluster h.view (h.aux + 1) (h.op - h.aux) body
 
 log_there : (h : Header) (body : List ℕ) → IsBytes body → log_fits h body ≡ true → LogFound h body
 unfolding log_fits
@@ -463,7 +466,7 @@ log_there h body i e =
       commit = ltb-false h.op h.commit commit.0;
       lo = ltb-false h.op h.aux lo.0;
       short = ltb-false 64 (h.op - h.aux) short.0;
-      headers = headers_found h.cluster h.view (h.aux + 1) (h.op - h.aux) body i short.1;
+      headers = headers_found h.version h.cluster h.view (h.aux + 1) (h.op - h.aux) body i short.1;
     }
 
 start_view_found : (h : Header) (body : List ℕ) → Base command.StartView h body → log_fits h body ≡ true → Found command.StartView h body
@@ -476,6 +479,7 @@ start_view_found h body b e =
     let z = b.zero in
     record {
       message = frame.StartView (record {
+        version = h.version;
         cluster = h.cluster;
         replica = h.replica;
         view = h.view;
@@ -495,7 +499,7 @@ get_sync_found : (h : Header) (body : List ℕ) → Base command.GetSync h body 
 get_sync_found h body b e =
     let z = b.zero in
     record {
-      message = frame.GetSync (record { cluster = h.cluster; replica = h.replica; view = h.view });
+      message = frame.GetSync (record { version = h.version; cluster = h.cluster; replica = h.replica; view = h.view });
       read = refl;
       header = header_is command.GetSync h body [] no_name no_name h.cluster 0 0 h.view 0 0 h.replica 0 0 b (nothing body e)
           (z.parent refl) (z.request_name refl) refl (z.client refl) (z.request refl) refl (z.op refl) (z.commit refl) refl (z.kind refl) (z.aux refl);
@@ -516,6 +520,7 @@ sync_view_found h body b e =
     let short = l.short in
     let z = b.zero in
     let v : SyncView = record {
+      version = h.version;
       cluster = h.cluster;
       replica = h.replica;
       view = h.view;
@@ -562,8 +567,8 @@ run_there head first ts e =
 
 -- the statement that is read is one
 statement_form : (h : Header) (body : List ℕ) (d : DvcBody) → h.op ≤ 2 ^ 62 → PartsFound h body → body_at body ≡ d
-    → PartsRead h.cluster h.aux (number w64 0 body) (take (number w16 8 body) (drop 10 body)) (drop (10 + number w16 8 body) body)
-    → (let s : Statement = record { log_view = h.aux; commit = h.commit; head = h.op; body = d } in IsStatement h.cluster s)
+    → PartsRead h.version h.cluster h.aux (number w64 0 body) (take (number w16 8 body) (drop 10 body)) (drop (10 + number w16 8 body) body)
+    → (let s : Statement = record { log_view = h.aux; commit = h.commit; head = h.op; body = d } in IsStatement h.version h.cluster s)
 unfolding body_at
 statement_form h body d l p e r =
     let first = number w64 0 body in
@@ -574,7 +579,7 @@ statement_form h body d l p e r =
     let count : length ps ≤ 128 =
     (let a : length ts ≡ length ps = ap length (sym r.tags) ∙ length-tags ps in let c = p.count in let t = length-take (number w16 8 body) (drop 10 body) in omega arith) in
     let s : Statement = record { log_view = h.aux; commit = h.commit; head = h.op; body = record { first = first; parts = ps } } in
-    let form : IsStatement h.cluster s = record {
+    let form : IsStatement h.version h.cluster s = record {
       commit = p.statement.commit;
       head = l;
       first = (p.statement.one, p.statement.reach);
@@ -584,7 +589,7 @@ statement_form h body d l p e r =
       last = last_found ps (ap last_says r.tags ∙ run.says);
       parts = r.parts;
     } in
-    subst (λ (x : DvcBody). let s : Statement = record { log_view = h.aux; commit = h.commit; head = h.op; body = x } in IsStatement h.cluster s) e form
+    subst (λ (x : DvcBody). let s : Statement = record { log_view = h.aux; commit = h.commit; head = h.op; body = x } in IsStatement h.version h.cluster s) e form
 
 statement_values : (body : List ℕ) (d : DvcBody) → body_at body ≡ d
     → AreHeaders (known (parts_at (take (number w16 8 body) (drop 10 body)) (drop (10 + number w16 8 body) body))) → AreHeaders (known d.parts)
@@ -596,11 +601,12 @@ do_view_change_found h body b e =
     let p = parts_found h body e in
     let count = number w16 8 body in
     let rest = drop (10 + count) body in
-    let r = parts_read h.cluster h.aux (number w64 0 body) (take count (drop 10 body)) rest (IsBytes-drop (10 + count) body b.bytes) p.statement.known in
-    let spelled = body_spelled h.cluster h.aux body b.bytes p.long r in
+    let r = parts_read h.version h.cluster h.aux (number w64 0 body) (take count (drop 10 body)) rest (IsBytes-drop (10 + count) body b.bytes) p.statement.known in
+    let spelled = body_spelled h.version h.cluster h.aux body b.bytes p.long r in
     let z = b.zero in
     record {
       message = frame.DoViewChange (record {
+        version = h.version;
         cluster = h.cluster;
         replica = h.replica;
         view = h.view;

@@ -1,5 +1,5 @@
 -- Lists of headers and of Parts: what is spelled is read, and what is read is spelled so.
-use Rattle.std.proofs.Common.{◌≡◌, ℕ, zero, suc, ◌+◌, ◌≤◌, Bool, true, false, cond, eqb, List, [], ◌∷◌, ◌++◌, length, drop, refl, sym, ap, ◌∙◌, arith, subst, Result, Ok, Err}
+use Rattle.std.proofs.Common.{◌≡◌, ℕ, zero, suc, ◌+◌, ◌≤◌, Bool, true, false, cond, eqb, leb, List, [], ◌∷◌, ◌++◌, length, drop, refl, sym, ap, ◌∙◌, arith, subst, Result, Ok, Err}
 use Rattle.std.specs.Prelude.{IfOk, not}
 use Rattle.std.proofs.lemmas.Bool.{eq-eqb, eqb-true, leb-true, le-leb}
 use Rattle.std.proofs.lemmas.List.{drop_at, take_at, take-append-drop, get_or-drop}
@@ -47,42 +47,43 @@ IsBytes-drop n b i k = rw (get_or-drop n b k 0) (i (n + k))
 
 -- ---- the tests of one header
 
-pub at_true : (cluster last op : ℕ) (h : Header) → h.cluster ≡ cluster → h.op ≡ op → h.view ≤ last → is_at cluster last op h ≡ true
+pub at_true : (version cluster last op : ℕ) (h : Header) → h.version ≤ version → h.cluster ≡ cluster → h.op ≡ op → h.view ≤ last → is_at version cluster last op h ≡ true
 unfolding is_at
-at_true cluster last op h c o v = rw (eq-eqb h.cluster cluster c, eq-eqb h.op op o, le-leb h.view last v) refl
+at_true version cluster last op h n c o v = rw (le-leb h.version version n, eq-eqb h.cluster cluster c, eq-eqb h.op op o, le-leb h.view last v) refl
 
 passed : (t x : Bool) → cond (not t) false x ≡ true → (t ≡ true) × (x ≡ true)
 passed true x e = (refl, e)
 passed false x e = absurd cc
 
-pub at_found : (cluster last op : ℕ) (h : Header) → is_at cluster last op h ≡ true → (h.cluster ≡ cluster) × (h.op ≡ op) × (h.view ≤ last)
+pub at_found : (version cluster last op : ℕ) (h : Header) → is_at version cluster last op h ≡ true → (h.version ≤ version) × (h.cluster ≡ cluster) × (h.op ≡ op) × (h.view ≤ last)
 unfolding is_at
-at_found cluster last op h e =
-    let c = passed (eqb h.cluster cluster) _ e in
+at_found version cluster last op h e =
+    let n = passed (leb h.version version) _ e in
+    let c = passed (eqb h.cluster cluster) _ n.1 in
     let o = passed (eqb h.op op) _ c.1 in
-    (eqb-true h.cluster cluster c.0, eqb-true h.op op o.0, leb-true h.view last o.1)
+    (leb-true h.version version n.0, eqb-true h.cluster cluster c.0, eqb-true h.op op o.0, leb-true h.view last o.1)
 
-pub begins_true : (cluster last op : ℕ) (h : Header) (r : List ℕ) → IsHeader h → IsEntryAt cluster last op h → begins_entry cluster last op (header_bytes h ++ r) ≡ true
+pub begins_true : (version cluster last op : ℕ) (h : Header) (r : List ℕ) → IsHeader h → IsEntryAt version cluster last op h → begins_entry version cluster last op (header_bytes h ++ r) ≡ true
 unfolding begins_entry
-begins_true cluster last op h r i e = rw (decoded_front h r i, is_entry_header_of h e.entry, at_true cluster last op h e.of_group e.at_op e.made) refl
+begins_true version cluster last op h r i e = rw (decoded_front h r i, is_entry_header_of h e.entry, at_true version cluster last op h e.of_version e.of_group e.at_op e.made) refl
 
-pub record BeginsFound (cluster last op : ℕ) (b : List ℕ) : Type 0 where
+pub record BeginsFound (version cluster last op : ℕ) (b : List ℕ) : Type 0 where
   pub front : FrontFound (decoded_header b) b
-  pub entry : IsEntryAt cluster last op (decoded_header b)
+  pub entry : IsEntryAt version cluster last op (decoded_header b)
 
-pub begins_found : (cluster last op : ℕ) (b : List ℕ) → IsBytes b → begins_entry cluster last op b ≡ true → BeginsFound cluster last op b
+pub begins_found : (version cluster last op : ℕ) (b : List ℕ) → IsBytes b → begins_entry version cluster last op b ≡ true → BeginsFound version cluster last op b
 unfolding begins_entry
-begins_found cluster last op b i e =
-    let cases : (r : Result Header HeaderFault) → decoded b ≡ r → is_ok_entry_at cluster last op r ≡ true → BeginsFound cluster last op b =
+begins_found version cluster last op b i e =
+    let cases : (r : Result Header HeaderFault) → decoded b ≡ r → is_ok_entry_at version cluster last op r ≡ true → BeginsFound version cluster last op b =
     elim [
       | Ok h ↦ λ d t.
           let there = (no_fault_in b h d).1 in
           let entry = passed (is_entry_header h) _ t in
-          let place = at_found cluster last op h entry.1 in
-          let found : IsEntryAt cluster last op h = record { entry = entry_header_of h entry.0; of_group = place.0; at_op = place.1; made = place.2 } in
+          let place = at_found version cluster last op h entry.1 in
+          let found : IsEntryAt version cluster last op h = record { entry = entry_header_of h entry.0; of_version = place.0; of_group = place.1; at_op = place.2; made = place.3 } in
           record {
             front = subst (λ x. FrontFound x b) (sym there) (front_found b h i d);
-            entry = subst (IsEntryAt cluster last op) (sym there) found;
+            entry = subst (IsEntryAt version cluster last op) (sym there) found;
           }
       | Err f ↦ λ d t. absurd cc
     ] in
@@ -95,29 +96,29 @@ unfolding headers_at
 headers_again [] a = refl
 headers_again (h ∷ hs) a = rw (header_front h (headers_bytes hs) a.0, rest_front h (headers_bytes hs) a.0) (ap (λ x. h ∷ x) (headers_again hs a.1))
 
-pub headers_true : (cluster last op : ℕ) (hs : List Header) → AreHeaders hs → FromOp (IsEntryAt cluster last) op hs → headers_fit cluster last (length hs) op (headers_bytes hs) ≡ true
+pub headers_true : (version cluster last op : ℕ) (hs : List Header) → AreHeaders hs → FromOp (IsEntryAt version cluster last) op hs → headers_fit version cluster last (length hs) op (headers_bytes hs) ≡ true
 unfolding headers_fit
-headers_true cluster last op [] a f = refl
-headers_true cluster last op (h ∷ hs) a f =
-    rw (begins_true cluster last op h (headers_bytes hs) a.0 f.0, rest_front h (headers_bytes hs) a.0) (headers_true cluster last (op + 1) hs a.1 f.1)
+headers_true version cluster last op [] a f = refl
+headers_true version cluster last op (h ∷ hs) a f =
+    rw (begins_true version cluster last op h (headers_bytes hs) a.0 f.0, rest_front h (headers_bytes hs) a.0) (headers_true version cluster last (op + 1) hs a.1 f.1)
 
-pub record HeadersFound (cluster last op n : ℕ) (b : List ℕ) : Type 0 where
+pub record HeadersFound (version cluster last op n : ℕ) (b : List ℕ) : Type 0 where
   pub spelled : headers_bytes (headers_at n b) ≡ b
   pub values : AreHeaders (headers_at n b)
-  pub entries : FromOp (IsEntryAt cluster last) op (headers_at n b)
+  pub entries : FromOp (IsEntryAt version cluster last) op (headers_at n b)
   pub count : length (headers_at n b) ≡ n
 
 pub nothing : (b : List ℕ) → eqb (length b) 0 ≡ true → [] ≡ b
 nothing [] e = refl
 nothing (x ∷ b) e = absurd (omega (arith, eqb-true (length (x ∷ b)) 0 e))
 
-pub headers_found : (cluster last op n : ℕ) (b : List ℕ) → IsBytes b → headers_fit cluster last n op b ≡ true → HeadersFound cluster last op n b
+pub headers_found : (version cluster last op n : ℕ) (b : List ℕ) → IsBytes b → headers_fit version cluster last n op b ≡ true → HeadersFound version cluster last op n b
 unfolding headers_fit headers_at
-headers_found cluster last op zero b i e = record { spelled = nothing b e; values = tt; entries = tt; count = refl }
-headers_found cluster last op (suc n) b i e =
+headers_found version cluster last op zero b i e = record { spelled = nothing b e; values = tt; entries = tt; count = refl }
+headers_found version cluster last op (suc n) b i e =
     let p = both _ _ e in
-    let first = begins_found cluster last op b i p.0 in
-    let rest = headers_found cluster last (op + 1) n (drop 128 b) (IsBytes-drop 128 b i) p.1 in
+    let first = begins_found version cluster last op b i p.0 in
+    let rest = headers_found version cluster last (op + 1) n (drop 128 b) (IsBytes-drop 128 b i) p.1 in
     record {
       spelled = ap (λ x. header_bytes (decoded_header b) ++ x) rest.spelled ∙ sym first.front.spelled;
       values = (first.front.header, rest.values);

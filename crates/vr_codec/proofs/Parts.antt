@@ -33,14 +33,14 @@ parts_again (Wanted h ∷ ps) a = rw (header_front h (headers_bytes (known ps)) 
 parts_again (Unknown ∷ ps) a = ap (λ x. Unknown ∷ x) (parts_again ps a)
 parts_again (Nothing ∷ ps) a = ap (λ x. Nothing ∷ x) (parts_again ps a)
 
-pub tags_true : (cluster last op : ℕ) (ps : List Part) → AreHeaders (known ps) → FromOp (IsPartAt cluster last) op ps → tags_fit cluster last (map tag ps) op (headers_bytes (known ps)) ≡ true
+pub tags_true : (version cluster last op : ℕ) (ps : List Part) → AreHeaders (known ps) → FromOp (IsPartAt version cluster last) op ps → tags_fit version cluster last (map tag ps) op (headers_bytes (known ps)) ≡ true
 unfolding tags_fit after_tag
-tags_true cluster last op [] a f = refl
-tags_true cluster last op (Here h ∷ ps) a f = rw (begins_true cluster last op h (headers_bytes (known ps)) a.0 f.0, rest_front h (headers_bytes (known ps)) a.0) (tags_true cluster last (op + 1) ps a.1 f.1)
-tags_true cluster last op (Lost h ∷ ps) a f = rw (begins_true cluster last op h (headers_bytes (known ps)) a.0 f.0, rest_front h (headers_bytes (known ps)) a.0) (tags_true cluster last (op + 1) ps a.1 f.1)
-tags_true cluster last op (Wanted h ∷ ps) a f = rw (begins_true cluster last op h (headers_bytes (known ps)) a.0 f.0, rest_front h (headers_bytes (known ps)) a.0) (tags_true cluster last (op + 1) ps a.1 f.1)
-tags_true cluster last op (Unknown ∷ ps) a f = tags_true cluster last (op + 1) ps a f.1
-tags_true cluster last op (Nothing ∷ ps) a f = tags_true cluster last (op + 1) ps a f.1
+tags_true version cluster last op [] a f = refl
+tags_true version cluster last op (Here h ∷ ps) a f = rw (begins_true version cluster last op h (headers_bytes (known ps)) a.0 f.0, rest_front h (headers_bytes (known ps)) a.0) (tags_true version cluster last (op + 1) ps a.1 f.1)
+tags_true version cluster last op (Lost h ∷ ps) a f = rw (begins_true version cluster last op h (headers_bytes (known ps)) a.0 f.0, rest_front h (headers_bytes (known ps)) a.0) (tags_true version cluster last (op + 1) ps a.1 f.1)
+tags_true version cluster last op (Wanted h ∷ ps) a f = rw (begins_true version cluster last op h (headers_bytes (known ps)) a.0 f.0, rest_front h (headers_bytes (known ps)) a.0) (tags_true version cluster last (op + 1) ps a.1 f.1)
+tags_true version cluster last op (Unknown ∷ ps) a f = tags_true version cluster last (op + 1) ps a f.1
+tags_true version cluster last op (Nothing ∷ ps) a f = tags_true version cluster last (op + 1) ps a f.1
 
 pub run_tags : (ps : List Part) → prefix_len knows (map tag ps) ≡ prefix_len has_header ps
 run_tags [] = refl
@@ -123,27 +123,27 @@ zero_or_four t k e = by_number t k (ltb-false 4 t e)
     by_number (suc (suc (suc (suc (suc n))))) k l = absurd (omega arith)
 
 -- the Parts that tags and bytes give
-pub record PartsRead (cluster last op : ℕ) (ts b : List ℕ) : Type 0 where
+pub record PartsRead (version cluster last op : ℕ) (ts b : List ℕ) : Type 0 where
   pub tags : map tag (parts_at ts b) ≡ ts
   pub spelled : headers_bytes (known (parts_at ts b)) ≡ b
   pub values : AreHeaders (known (parts_at ts b))
-  pub parts : FromOp (IsPartAt cluster last) op (parts_at ts b)
+  pub parts : FromOp (IsPartAt version cluster last) op (parts_at ts b)
 
-abbrev Step : ℕ → ℕ → ℕ → List ℕ → List ℕ → ℕ → Type 0
-Step cluster last op ts b t =
-    ((x : List ℕ) → IsBytes x → tags_fit cluster last ts (op + 1) x ≡ true → PartsRead cluster last (op + 1) ts x)
-    → tags_fit cluster last (t ∷ ts) op b ≡ true → PartsRead cluster last op (t ∷ ts) b
+abbrev Step : ℕ → ℕ → ℕ → ℕ → List ℕ → List ℕ → ℕ → Type 0
+Step version cluster last op ts b t =
+    ((x : List ℕ) → IsBytes x → tags_fit version cluster last ts (op + 1) x ≡ true → PartsRead version cluster last (op + 1) ts x)
+    → tags_fit version cluster last (t ∷ ts) op b ≡ true → PartsRead version cluster last op (t ∷ ts) b
 
 -- the test of a header, and the rest
 fits_split : (f : Bool) (F : List ℕ → Bool) (x : List ℕ) → option_map_or F (cond f (Some x) None) false ≡ true → (f ≡ true) × (F x ≡ true)
 fits_split true F x e = (refl, e)
 fits_split false F x e = absurd cc
 
-step_here : (cluster last op : ℕ) (ts b : List ℕ) → IsBytes b → Step cluster last op ts b 1
+step_here : (version cluster last op : ℕ) (ts b : List ℕ) → IsBytes b → Step version cluster last op ts b 1
 unfolding tags_fit after_tag parts_at part_of_tag rest_at
-step_here cluster last op ts b i more e =
-    let p = fits_split (begins_entry cluster last op b) (tags_fit cluster last ts (op + 1)) (drop 128 b) e in
-    let first = begins_found cluster last op b i p.0 in
+step_here version cluster last op ts b i more e =
+    let p = fits_split (begins_entry version cluster last op b) (tags_fit version cluster last ts (op + 1)) (drop 128 b) e in
+    let first = begins_found version cluster last op b i p.0 in
     let rest = more (drop 128 b) (IsBytes-drop 128 b i) p.1 in
     record {
       tags = ap (λ x. 1 ∷ x) rest.tags;
@@ -152,11 +152,11 @@ step_here cluster last op ts b i more e =
       parts = (first.entry, rest.parts);
     }
 
-step_lost : (cluster last op : ℕ) (ts b : List ℕ) → IsBytes b → Step cluster last op ts b 2
+step_lost : (version cluster last op : ℕ) (ts b : List ℕ) → IsBytes b → Step version cluster last op ts b 2
 unfolding tags_fit after_tag parts_at part_of_tag rest_at
-step_lost cluster last op ts b i more e =
-    let p = fits_split (begins_entry cluster last op b) (tags_fit cluster last ts (op + 1)) (drop 128 b) e in
-    let first = begins_found cluster last op b i p.0 in
+step_lost version cluster last op ts b i more e =
+    let p = fits_split (begins_entry version cluster last op b) (tags_fit version cluster last ts (op + 1)) (drop 128 b) e in
+    let first = begins_found version cluster last op b i p.0 in
     let rest = more (drop 128 b) (IsBytes-drop 128 b i) p.1 in
     record {
       tags = ap (λ x. 2 ∷ x) rest.tags;
@@ -165,11 +165,11 @@ step_lost cluster last op ts b i more e =
       parts = (first.entry, rest.parts);
     }
 
-step_wanted : (cluster last op : ℕ) (ts b : List ℕ) → IsBytes b → Step cluster last op ts b 3
+step_wanted : (version cluster last op : ℕ) (ts b : List ℕ) → IsBytes b → Step version cluster last op ts b 3
 unfolding tags_fit after_tag parts_at part_of_tag rest_at
-step_wanted cluster last op ts b i more e =
-    let p = fits_split (begins_entry cluster last op b) (tags_fit cluster last ts (op + 1)) (drop 128 b) e in
-    let first = begins_found cluster last op b i p.0 in
+step_wanted version cluster last op ts b i more e =
+    let p = fits_split (begins_entry version cluster last op b) (tags_fit version cluster last ts (op + 1)) (drop 128 b) e in
+    let first = begins_found version cluster last op b i p.0 in
     let rest = more (drop 128 b) (IsBytes-drop 128 b i) p.1 in
     record {
       tags = ap (λ x. 3 ∷ x) rest.tags;
@@ -178,56 +178,56 @@ step_wanted cluster last op ts b i more e =
       parts = (first.entry, rest.parts);
     }
 
-step_nothing : (cluster last op : ℕ) (ts b : List ℕ) → IsBytes b → Step cluster last op ts b 0
+step_nothing : (version cluster last op : ℕ) (ts b : List ℕ) → IsBytes b → Step version cluster last op ts b 0
 unfolding tags_fit after_tag parts_at part_of_tag rest_at
-step_nothing cluster last op ts b i more e =
+step_nothing version cluster last op ts b i more e =
     let rest = more b i e in
     record { tags = ap (λ x. 0 ∷ x) rest.tags; spelled = rest.spelled; values = rest.values; parts = (tt, rest.parts) }
 
-step_unknown : (cluster last op : ℕ) (ts b : List ℕ) → IsBytes b → Step cluster last op ts b 4
+step_unknown : (version cluster last op : ℕ) (ts b : List ℕ) → IsBytes b → Step version cluster last op ts b 4
 unfolding tags_fit after_tag parts_at part_of_tag rest_at
-step_unknown cluster last op ts b i more e =
+step_unknown version cluster last op ts b i more e =
     let rest = more b i e in
     record { tags = ap (λ x. 4 ∷ x) rest.tags; spelled = rest.spelled; values = rest.values; parts = (tt, rest.parts) }
 
 -- a tag above 4 doesn't fit
-at_most_four : (cluster last op t : ℕ) (ts b : List ℕ) → knows t ≡ false → tags_fit cluster last (t ∷ ts) op b ≡ true → ltb 4 t ≡ false
+at_most_four : (version cluster last op t : ℕ) (ts b : List ℕ) → knows t ≡ false → tags_fit version cluster last (t ∷ ts) op b ≡ true → ltb 4 t ≡ false
 unfolding tags_fit after_tag
-at_most_four cluster last op t ts b k e = by_test (knows t) (ltb 4 t) k e
+at_most_four version cluster last op t ts b k e = by_test (knows t) (ltb 4 t) k e
   where
     by_test : (k h : Bool) → k ≡ false
-        → option_map_or (λ rest. tags_fit cluster last ts (op + 1) rest) (cond k (cond (begins_entry cluster last op b) (Some (drop 128 b)) None) (cond h None (Some b))) false ≡ true
+        → option_map_or (λ rest. tags_fit version cluster last ts (op + 1) rest) (cond k (cond (begins_entry version cluster last op b) (Some (drop 128 b)) None) (cond h None (Some b))) false ≡ true
         → h ≡ false
     by_test true h k e = absurd cc
     by_test false true k e = absurd cc
     by_test false false k e = refl
 
-step : (cluster last op : ℕ) (ts b : List ℕ) → IsBytes b → (t : ℕ) → Step cluster last op ts b t
-step cluster last op ts b i t more e =
-    let at : (n : ℕ) → t ≡ n → Step cluster last op ts b n → PartsRead cluster last op (t ∷ ts) b = λ n same s. subst (Step cluster last op ts b) (sym same) s more e in
-    let cases : (k : Bool) → knows t ≡ k → PartsRead cluster last op (t ∷ ts) b =
+step : (version cluster last op : ℕ) (ts b : List ℕ) → IsBytes b → (t : ℕ) → Step version cluster last op ts b t
+step version cluster last op ts b i t more e =
+    let at : (n : ℕ) → t ≡ n → Step version cluster last op ts b n → PartsRead version cluster last op (t ∷ ts) b = λ n same s. subst (Step version cluster last op ts b) (sym same) s more e in
+    let cases : (k : Bool) → knows t ≡ k → PartsRead version cluster last op (t ∷ ts) b =
     elim [
       | true ↦ λ k. elim (one_to_three t k) [
-        | inl n ↦ at 1 n (step_here cluster last op ts b i)
+        | inl n ↦ at 1 n (step_here version cluster last op ts b i)
         | inr r ↦ elim r [
-          | inl n ↦ at 2 n (step_lost cluster last op ts b i)
-          | inr n ↦ at 3 n (step_wanted cluster last op ts b i)
+          | inl n ↦ at 2 n (step_lost version cluster last op ts b i)
+          | inr n ↦ at 3 n (step_wanted version cluster last op ts b i)
         ]
       ]
-      | false ↦ λ k. elim (zero_or_four t k (at_most_four cluster last op t ts b k e)) [
-        | inl n ↦ at 0 n (step_nothing cluster last op ts b i)
-        | inr n ↦ at 4 n (step_unknown cluster last op ts b i)
+      | false ↦ λ k. elim (zero_or_four t k (at_most_four version cluster last op t ts b k e)) [
+        | inl n ↦ at 0 n (step_nothing version cluster last op ts b i)
+        | inr n ↦ at 4 n (step_unknown version cluster last op ts b i)
       ]
     ] in
     cases (knows t) refl
 
-none_read : (cluster last op : ℕ) (b : List ℕ) → tags_fit cluster last [] op b ≡ true → PartsRead cluster last op [] b
+none_read : (version cluster last op : ℕ) (b : List ℕ) → tags_fit version cluster last [] op b ≡ true → PartsRead version cluster last op [] b
 unfolding tags_fit parts_at
-none_read cluster last op b e = record { tags = refl; spelled = nothing b e; values = tt; parts = tt }
+none_read version cluster last op b e = record { tags = refl; spelled = nothing b e; values = tt; parts = tt }
 
-pub parts_read : (cluster last op : ℕ) (ts b : List ℕ) → IsBytes b → tags_fit cluster last ts op b ≡ true → PartsRead cluster last op ts b
-parts_read cluster last op [] b i e = none_read cluster last op b e
-parts_read cluster last op (t ∷ ts) b i e = step cluster last op ts b i t (λ x j f. parts_read cluster last (op + 1) ts x j f) e
+pub parts_read : (version cluster last op : ℕ) (ts b : List ℕ) → IsBytes b → tags_fit version cluster last ts op b ≡ true → PartsRead version cluster last op ts b
+parts_read version cluster last op [] b i e = none_read version cluster last op b e
+parts_read version cluster last op (t ∷ ts) b i e = step version cluster last op ts b i t (λ x j f. parts_read version cluster last (op + 1) ts x j f) e
 
 -- ---- the body of a statement
 
@@ -271,10 +271,10 @@ body_again d f c a =
     ap (λ (n : ℕ). let x : DvcBody = record { first = n; parts = parts_at (take (number w16 8 (parts_bytes d)) (drop 10 (parts_bytes d))) (drop (10 + number w16 8 (parts_bytes d)) (parts_bytes d)) } in x) p.first_there
     ∙ ap (λ (l : List Part). let x : DvcBody = record { first = d.first; parts = l } in x) ps
 
-pub body_spelled : (cluster last : ℕ) (b : List ℕ) → IsBytes b → 10 + number w16 8 b ≤ length b
-    → PartsRead cluster last (number w64 0 b) (take (number w16 8 b) (drop 10 b)) (drop (10 + number w16 8 b) b) → parts_bytes (body_at b) ≡ b
+pub body_spelled : (version cluster last : ℕ) (b : List ℕ) → IsBytes b → 10 + number w16 8 b ≤ length b
+    → PartsRead version cluster last (number w64 0 b) (take (number w16 8 b) (drop 10 b)) (drop (10 + number w16 8 b) b) → parts_bytes (body_at b) ≡ b
 unfolding body_at
-body_spelled cluster last b i l r =
+body_spelled version cluster last b i l r =
     let n = number w16 8 b in
     let ts = take n (drop 10 b) in
     let rest = drop (10 + n) b in

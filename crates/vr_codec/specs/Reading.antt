@@ -19,9 +19,9 @@ use Rattle.vr_msg.specs.declared.statement.DvcBody.{DvcBody}
 use Rattle.vr_msg.specs.Spelling.{header_before}
 use Rattle.vr_codec.specs.Shapes.{knows}
 
-unfoldable pub kind_at : ℕ → ℕ → List ℕ → Option ReplyKind
-kind_at kind op body =
-    if kind == 1 then option_map (λ o. reply.Outcome (record { op = op; outcome = o })) (outcome_of body)
+unfoldable pub kind_at : ℕ → ℕ → ℕ → List ℕ → Option ReplyKind
+kind_at version kind op body =
+    if kind == 1 then option_map (λ o. reply.Outcome (record { op = op; outcome = o })) (outcome_of version body)
     else (if kind == 2 then Some reply.Old
     else (if kind == 3 then Some reply.Gap
     else (if kind == 4 then Some reply.Evicted
@@ -74,27 +74,28 @@ needs_view _ = false
 -- a message without a body
 abbrev pub bare_for : Command → Header → Option Frame
 bare_for command.PrepareOk h =
-    Some (frame.PrepareOk (record { cluster = h.cluster; replica = h.replica; view = h.view; op = h.op; name = h.parent; made = h.aux }))
+    Some (frame.PrepareOk (record { version = h.version; cluster = h.cluster; replica = h.replica; view = h.view; op = h.op; name = h.parent; made = h.aux }))
 bare_for command.Commit h =
-    Some (frame.Commit (record { cluster = h.cluster; replica = h.replica; view = h.view; head = h.op; commit = h.commit }))
-bare_for command.StartViewChange h = Some (frame.StartViewChange (record { cluster = h.cluster; replica = h.replica; view = h.view }))
-bare_for command.GetView h = Some (frame.GetView (record { cluster = h.cluster; replica = h.replica; view = h.view }))
+    Some (frame.Commit (record { version = h.version; cluster = h.cluster; replica = h.replica; view = h.view; head = h.op; commit = h.commit }))
+bare_for command.StartViewChange h = Some (frame.StartViewChange (record { version = h.version; cluster = h.cluster; replica = h.replica; view = h.view }))
+bare_for command.GetView h = Some (frame.GetView (record { version = h.version; cluster = h.cluster; replica = h.replica; view = h.view }))
 bare_for command.GetPrepare h =
-    Some (frame.GetPrepare (record { cluster = h.cluster; replica = h.replica; op = h.op; name = h.parent; made = h.aux }))
-bare_for command.GetBlock h = Some (frame.GetBlock (record { cluster = h.cluster; replica = h.replica; address = h.aux; name = h.parent }))
-bare_for command.GetSync h = Some (frame.GetSync (record { cluster = h.cluster; replica = h.replica; view = h.view }))
+    Some (frame.GetPrepare (record { version = h.version; cluster = h.cluster; replica = h.replica; op = h.op; name = h.parent; made = h.aux }))
+bare_for command.GetBlock h = Some (frame.GetBlock (record { version = h.version; cluster = h.cluster; replica = h.replica; address = h.aux; name = h.parent }))
+bare_for command.GetSync h = Some (frame.GetSync (record { version = h.version; cluster = h.cluster; replica = h.replica; view = h.view }))
 bare_for _ h = None
 
 -- a header that asks is that of a request over these bytes: it sets three fields, and all others are as every message has them
 abbrev pub IsAsking : Header → List ℕ → Type 0
-IsAsking h body = h ≡ record (header_before body command.Request) { cluster = h.cluster; client = h.client; request = h.request }
+IsAsking h body = h ≡ record (header_before h.version body command.Request) { cluster = h.cluster; client = h.client; request = h.request }
 
 abbrev pub frame_for : Command → Header → List ℕ → Option Frame
 frame_for command.Request h body =
-    option_map (λ o. frame.Request (record { cluster = h.cluster; client = h.client; request = h.request; operation = o })) (operation_of body)
+    option_map (λ o. frame.Request (record { version = h.version; cluster = h.cluster; client = h.client; request = h.request; operation = o })) (operation_of h.version body)
 frame_for command.Reply h body =
     option_map
     (λ k. frame.Reply (record {
+      version = h.version;
       cluster = h.cluster;
       replica = h.replica;
       view = h.view;
@@ -103,11 +104,12 @@ frame_for command.Reply h body =
       request_name = h.request_name;
       kind = k;
     }))
-    (kind_at h.kind h.op body)
+    (kind_at h.version h.kind h.op body)
 frame_for command.Prepare h body =
-    option_map (λ e. frame.Prepare (record { replica = h.replica; view = h.view; commit = h.commit; entry = e })) (entry_of body)
+    option_map (λ e. frame.Prepare (record { version = h.version; replica = h.replica; view = h.view; commit = h.commit; entry = e })) (entry_of body)
 frame_for command.DoViewChange h body =
     Some (frame.DoViewChange (record {
+      version = h.version;
       cluster = h.cluster;
       replica = h.replica;
       view = h.view;
@@ -115,6 +117,7 @@ frame_for command.DoViewChange h body =
     }))
 frame_for command.StartView h body =
     Some (frame.StartView (record {
+      version = h.version;
       cluster = h.cluster;
       replica = h.replica;
       view = h.view;
@@ -122,11 +125,12 @@ frame_for command.StartView h body =
       commit = h.commit;
       body = record { lo = h.aux; headers = headers_at (h.op - h.aux) body };
     }))
-frame_for command.GivePrepare h body = option_map (λ e. frame.GivePrepare (record { replica = h.replica; entry = e })) (entry_of body)
+frame_for command.GivePrepare h body = option_map (λ e. frame.GivePrepare (record { version = h.version; replica = h.replica; entry = e })) (entry_of body)
 frame_for command.GiveBlock h body =
-    Some (frame.GiveBlock (record { cluster = h.cluster; replica = h.replica; address = h.aux; block = body }))
+    Some (frame.GiveBlock (record { version = h.version; cluster = h.cluster; replica = h.replica; address = h.aux; block = body }))
 frame_for command.SyncView h body =
     Some (frame.SyncView (record {
+      version = h.version;
       cluster = h.cluster;
       replica = h.replica;
       view = h.view;

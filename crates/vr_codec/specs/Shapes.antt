@@ -101,54 +101,55 @@ is_number op = nat_le op (2 ^ 62)
 unfoldable pub numbers_fit : Header → Bool
 numbers_fit h = is_view h.view && (is_number h.op && is_number h.commit)
 
--- the bytes are an operation that a request of this number may ask for; a session's beginning alone is of one byte
-unfoldable pub is_asked : ℕ → List ℕ → Bool
-is_asked request body =
-    if not (is_some (operation_of body)) then false
+-- the bytes are an operation of this version that a request of this number may ask for; a session's beginning alone is of one byte
+unfoldable pub is_asked : ℕ → ℕ → List ℕ → Bool
+is_asked version request body =
+    if not (is_some (operation_of version body)) then false
     else (if length body == 1 then request == 0 else not (request == 0))
 
 -- the number of a reply's kind, with its op and its body
-unfoldable pub kind_fits : ℕ → ℕ → List ℕ → Bool
-kind_fits kind op body =
-    if kind == 1 then is_some (outcome_of body)
+unfoldable pub kind_fits : ℕ → ℕ → ℕ → List ℕ → Bool
+kind_fits version kind op body =
+    if kind == 1 then is_some (outcome_of version body)
     else (if kind == 0 then false
     else (if nat_lt 6 kind then false
     else ((op == 0) && (length body == 0))))
 
--- of this group and op, and made in a view up to the last one that is allowed
-unfoldable pub is_at : ℕ → ℕ → ℕ → Header → Bool
-is_at cluster last op h =
-    if not (h.cluster == cluster) then false
+-- of this version or an earlier one, of this group and op, and made in a view up to the last one that is allowed
+unfoldable pub is_at : ℕ → ℕ → ℕ → ℕ → Header → Bool
+is_at version cluster last op h =
+    if not (nat_le h.version version) then false
+    else (if not (h.cluster == cluster) then false
     else (if not (h.op == op) then false
-    else nat_le h.view last)
+    else nat_le h.view last))
 
-abbrev pub is_ok_entry_at : ℕ → ℕ → ℕ → Result Header HeaderFault → Bool
-is_ok_entry_at cluster last op (Ok h) = if not (is_entry_header h) then false else is_at cluster last op h
-is_ok_entry_at cluster last op (Err f) = false
+abbrev pub is_ok_entry_at : ℕ → ℕ → ℕ → ℕ → Result Header HeaderFault → Bool
+is_ok_entry_at version cluster last op (Ok h) = if not (is_entry_header h) then false else is_at version cluster last op h
+is_ok_entry_at version cluster last op (Err f) = false
 
 -- the bytes begin with the header of such an entry
-unfoldable pub begins_entry : ℕ → ℕ → ℕ → List ℕ → Bool
-begins_entry cluster last op bytes = is_ok_entry_at cluster last op (decoded bytes)
+unfoldable pub begins_entry : ℕ → ℕ → ℕ → ℕ → List ℕ → Bool
+begins_entry version cluster last op bytes = is_ok_entry_at version cluster last op (decoded bytes)
 
 -- the header has this body
 unfoldable pub is_body : Header → List ℕ → Bool
 is_body h body = (h.size == 128 + length body) && pointwise nat_eq h.body.0 (name_of body)
 
 -- the bytes are such an entry
-unfoldable pub entry_fits : ℕ → ℕ → ℕ → List ℕ → Bool
-entry_fits cluster last op bytes = option_map_or (is_at cluster last op) (option_map (λ e. e.header) (entry_of bytes)) false
+unfoldable pub entry_fits : ℕ → ℕ → ℕ → ℕ → List ℕ → Bool
+entry_fits version cluster last op bytes = option_map_or (is_at version cluster last op) (option_map (λ e. e.header) (entry_of bytes)) false
 
 -- the bytes are this many headers of entries, from this op on
-unfoldable pub headers_fit : ℕ → ℕ → ℕ → ℕ → List ℕ → Bool
-headers_fit cluster last zero op bytes = length bytes == 0
-headers_fit cluster last (suc n) op bytes = begins_entry cluster last op bytes && headers_fit cluster last n (op + 1) (drop 128 bytes)
+unfoldable pub headers_fit : ℕ → ℕ → ℕ → ℕ → ℕ → List ℕ → Bool
+headers_fit version cluster last zero op bytes = length bytes == 0
+headers_fit version cluster last (suc n) op bytes = begins_entry version cluster last op bytes && headers_fit version cluster last n (op + 1) (drop 128 bytes)
 
 unfoldable pub log_fits : Header → List ℕ → Bool
 log_fits h body =
     if nat_lt h.op h.commit then false
     else (if nat_lt h.op h.aux then false
     else (if nat_lt 64 (h.op - h.aux) then false
-    else headers_fit h.cluster h.view (h.op - h.aux) (h.aux + 1) body))
+    else headers_fit h.version h.cluster h.view (h.op - h.aux) (h.aux + 1) body))
 
 -- a checkpoint is of a committed op whose header is among those of the log, and its root stands in the grid
 unfoldable pub checkpoint_fits : Header → ℕ → ℕ → Bool
@@ -170,16 +171,16 @@ abbrev pub knows : ℕ → Bool
 knows tag = nat_le 1 tag && nat_le tag 3
 
 -- the bytes after the header that a tag speaks of, if any; None where the tag or the header doesn't fit
-unfoldable pub after_tag : ℕ → ℕ → ℕ → ℕ → List ℕ → Option (List ℕ)
-after_tag cluster last op tag bytes =
-    if knows tag then (if begins_entry cluster last op bytes then Some (drop 128 bytes) else None)
+unfoldable pub after_tag : ℕ → ℕ → ℕ → ℕ → ℕ → List ℕ → Option (List ℕ)
+after_tag version cluster last op tag bytes =
+    if knows tag then (if begins_entry version cluster last op bytes then Some (drop 128 bytes) else None)
     else (if nat_lt 4 tag then None else Some bytes)
 
 -- after these tags, of the ops from this one on, stand the headers that they speak of
-unfoldable pub tags_fit : ℕ → ℕ → List ℕ → ℕ → List ℕ → Bool
-tags_fit cluster last [] op bytes = length bytes == 0
-tags_fit cluster last (t ∷ ts) op bytes =
-    option_map_or (λ rest. tags_fit cluster last ts (op + 1) rest) (after_tag cluster last op t bytes) false
+unfoldable pub tags_fit : ℕ → ℕ → ℕ → List ℕ → ℕ → List ℕ → Bool
+tags_fit version cluster last [] op bytes = length bytes == 0
+tags_fit version cluster last (t ∷ ts) op bytes =
+    option_map_or (λ rest. tags_fit version cluster last ts (op + 1) rest) (after_tag version cluster last op t bytes) false
 
 -- the known headers at the front are those up to the head, and the last tag isn't 0
 unfoldable pub tags_run : ℕ → ℕ → List ℕ → Bool
@@ -194,7 +195,7 @@ statement_fits h first tags bytes =
     else (if nat_lt (h.commit + 1) first then false
     else (if nat_lt h.op h.commit then false
     else (if nat_le h.view h.aux then false
-    else (tags_run h.op first tags && tags_fit h.cluster h.aux tags first bytes))))
+    else (tags_run h.op first tags && tags_fit h.version h.cluster h.aux tags first bytes))))
 
 unfoldable pub parts_fit : Header → List ℕ → Bool
 parts_fit h body =
@@ -205,9 +206,9 @@ parts_fit h body =
 
 -- what each command asks of its header's numbers and of the bytes after the header
 abbrev pub body_fits : Command → Header → List ℕ → Bool
-body_fits command.Request h body = is_asked h.request body
-body_fits command.Reply h body = kind_fits h.kind h.op body
-body_fits command.Prepare h body = entry_fits h.cluster h.view h.op body
+body_fits command.Request h body = is_asked h.version h.request body
+body_fits command.Reply h body = kind_fits h.version h.kind h.op body
+body_fits command.Prepare h body = entry_fits h.version h.cluster h.view h.op body
 body_fits command.PrepareOk h body = is_view h.aux && (length body == 0)
 body_fits command.Commit h body = length body == 0
 body_fits command.StartViewChange h body = length body == 0
@@ -215,7 +216,7 @@ body_fits command.DoViewChange h body = parts_fit h body
 body_fits command.StartView h body = log_fits h body
 body_fits command.GetView h body = length body == 0
 body_fits command.GetPrepare h body = is_view h.aux && (length body == 0)
-body_fits command.GivePrepare h body = entry_fits h.cluster (2 ^ 32 - 2) h.op body
+body_fits command.GivePrepare h body = entry_fits h.version h.cluster (2 ^ 32 - 2) h.op body
 body_fits command.GetBlock h body = length body == 0
 body_fits command.GiveBlock h body = length body == 4096
 body_fits command.GetSync h body = length body == 0

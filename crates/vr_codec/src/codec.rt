@@ -87,7 +87,8 @@ fn put_header(frame: &Frame, start: usize, bytes: &mut [u8])
     ensures header { IsHeader (frame_header frame.now) }
 {
     let (_, body) = bytes.split_at(start + 128);
-    let header = with_fields(frame, header_before(body, command_for(frame)));
+    let bare = header_before(frame.version(), body, command_for(frame));
+    let header = with_fields(frame, bare);
     let head = vr_header::encode(&header);
     put(bytes, start, &head);
 }

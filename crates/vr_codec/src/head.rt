@@ -3,7 +3,7 @@ ghost use Rattle.std.specs.Prelude.{◌≡◌, ◌≤◌, length};
 ghost use Rattle.vr_msg.specs.declared.frame.Frame.{Frame};
 ghost use Rattle.vr_msg.specs.Spelling.{command_for, header_before, kind_number, kind_op, with_fields};
 
-use vr_base::{Sum, checksum};
+use vr_base::{Sum, Version, checksum};
 use vr_header::{Command, Header, Size};
 use vr_msg::{
     Commit, DoViewChange, Frame, GetBlock, GetPrepare, GetSync, GetView, GiveBlock, GivePrepare,
@@ -33,10 +33,10 @@ pub(crate) fn command_for(frame: &Frame) -> Command
     }
 }
 
-/// A header of this command before a body, with no other field set.
-pub(crate) fn header_before(body: &[u8], command: Command) -> Header
+/// A header of this version and command before a body, with no other field set.
+pub(crate) fn header_before(version: Version, body: &[u8], command: Command) -> Header
     requires { length body.now ≤ 20352 }
-    ensures { result ≡ header_before body.now command }
+    ensures { result ≡ header_before version body.now command }
 {
     Header {
         body: checksum(body),
@@ -51,6 +51,7 @@ pub(crate) fn header_before(body: &[u8], command: Command) -> Header
         size: Size::new(128 + body.len() as u32),
         command,
         replica: 0,
+        version,
         kind: 0,
         aux: 0,
     }

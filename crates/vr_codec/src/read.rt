@@ -1,5 +1,5 @@
 //! What a header and the bytes after it say, once they are known to be of a message's form.
-ghost use Rattle.std.specs.Prelude.{◌≡◌, ◌+◌, ◌-◌, ◌≤◌, ◌<◌, ◌^◌, ◌||◌, not, true, Some, length, take, drop, IfOk, is_ok, is_some};
+ghost use Rattle.std.specs.Prelude.{◌≡◌, ◌+◌, ◌-◌, ◌≤◌, ◌<◌, ◌^◌, ◌||◌, not, true, Some, length, take, drop, IfOk, IfSome, is_ok, is_some};
 ghost use Rattle.std.specs.Int.{w16};
 ghost use Rattle.vr_base.specs.Bytes.{number};
 ghost use Rattle.vr_header.specs.Made.{entry_of};
@@ -7,12 +7,13 @@ ghost use Rattle.vr_header.specs.Names.{header_name};
 ghost use Rattle.vr_header.specs.Spelling.{decoded};
 ghost use Rattle.vr_header.specs.declared.command.Command.{Command};
 ghost use Rattle.vr_msg.specs.declared.frame.Frame.{Frame};
+ghost use Rattle.vr_msg.specs.Asking.{IsKindValue};
 ghost use Rattle.vr_codec.specs.Shapes.{body_fits, is_asked, knows, numbers_fit};
 ghost use Rattle.vr_codec.specs.Reading.{kind_at, headers_at, are_headers, are_parts, part_of_tag, rest_at, parts_at, body_at, bare_for, needs_view, frame_for, IsAsking};
 
 use crate::shape::knows;
 use std::alloc::{AllocError, Global};
-use vr_base::{ByteList, Seq, Sum, sum_at, u16_at, u64_at};
+use vr_base::{ByteList, Seq, Sum, Version, sum_at, u16_at, u64_at};
 use vr_header::{Command, Entry, Header, HeaderList, Operation, Outcome, Part, decoded_header};
 use vr_msg::{
     Answered, Commit, DoViewChange, DvcBody, Frame, GetBlock, GetPrepare, GetSync, GetView,
@@ -21,11 +22,18 @@ use vr_msg::{
 };
 
 #[tactic(auto, unfolding(crate::specs::Reading::kind_at))]
-fn read_kind(alloc: Global, kind: u8, op: u64, body: &[u8]) -> Result<Option<ReplyKind>, AllocError>
-    ensures { IfOk result (λ read. read ≡ kind_at kind op body.now) }
+fn read_kind(
+    alloc: Global,
+    version: Version,
+    kind: u8,
+    op: u64,
+    body: &[u8],
+) -> Result<Option<ReplyKind>, AllocError>
+    ensures kind { IfOk result (λ read. read ≡ kind_at version kind op body.now) }
+    ensures fits { IfOk result (λ read. IfSome read (IsKindValue version)) }
 {
     match kind {
-        1 => match Outcome::decode_body(alloc, body)? {
+        1 => match Outcome::decode_body(alloc, body, version)? {
             Some(outcome) => Ok(Some(ReplyKind::Outcome(Answered { op, outcome }))),
             None => Ok(None),
         },
@@ -116,14 +124,15 @@ fn read_request(
     name: Sum,
     body: &[u8],
 ) -> Result<Option<Frame>, AllocError>
-    requires asked { is_asked h.now.request body.now ≡ true }
+    requires asked { is_asked h.now.version h.now.request body.now ≡ true }
     requires header { IsAsking h.now body.now }
     requires name { name ≡ header_name h.now }
     ensures { IfOk result (λ read. read ≡ frame_for Command.Request h.now body.now) }
 {
-    match Operation::decode_body(alloc, body)? {
+    match Operation::decode_body(alloc, body, h.version)? {
         Some(operation) => {
             let fields = RequestFields {
+                version: h.version,
                 cluster: h.cluster,
                 client: h.client,
                 request: h.request,
@@ -145,8 +154,9 @@ fn read_reply(alloc: Global, h: &Header, body: &[u8]) -> Result<Option<Frame>, A
     requires op { h.now.op ≤ 2 ^ 62 }
     ensures { IfOk result (λ read. read ≡ frame_for Command.Reply h.now body.now) }
 {
-    match read_kind(alloc, h.kind, h.op, body)? {
+    match read_kind(alloc, h.version, h.kind, h.op, body)? {
         Some(kind) => Ok(Some(Frame::Reply(Reply::new(ReplyFields {
+            version: h.version,
             cluster: h.cluster,
             replica: h.replica,
             view: h.view,
@@ -164,6 +174,7 @@ fn read_prepare(alloc: Global, h: &Header, body: &[u8]) -> Result<Option<Frame>,
     ensures { IfOk result (λ read. read ≡ frame_for Command.Prepare h.now body.now) }
 {
     Ok(Some(Frame::Prepare(Prepare {
+        version: h.version,
         replica: h.replica,
         view: h.view,
         commit: h.commit,
@@ -176,6 +187,7 @@ fn read_give_prepare(alloc: Global, h: &Header, body: &[u8]) -> Result<Option<Fr
     ensures { IfOk result (λ read. read ≡ frame_for Command.GivePrepare h.now body.now) }
 {
     Ok(Some(Frame::GivePrepare(GivePrepare {
+        version: h.version,
         replica: h.replica,
         entry: Entry::from_bytes(alloc, body)?,
     })))
@@ -188,6 +200,7 @@ fn read_do_view_change(alloc: Global, h: &Header, body: &[u8]) -> Result<Option<
     ensures { IfOk result (λ read. read ≡ frame_for Command.DoViewChange h.now body.now) }
 {
     Ok(Some(Frame::DoViewChange(DoViewChange {
+        version: h.version,
         cluster: h.cluster,
         replica: h.replica,
         view: h.view,
@@ -206,6 +219,7 @@ fn read_start_view(alloc: Global, h: &Header, body: &[u8]) -> Result<Option<Fram
     ensures { IfOk result (λ read. read ≡ frame_for Command.StartView h.now body.now) }
 {
     Ok(Some(Frame::StartView(StartView {
+        version: h.version,
         cluster: h.cluster,
         replica: h.replica,
         view: h.view,
@@ -222,6 +236,7 @@ fn read_give_block(alloc: Global, h: &Header, body: &[u8]) -> Result<Option<Fram
     ensures { IfOk result (λ read. read ≡ frame_for Command.GiveBlock h.now body.now) }
 {
     Ok(Some(Frame::GiveBlock(GiveBlock {
+        version: h.version,
         cluster: h.cluster,
         replica: h.replica,
         address: h.aux,
@@ -237,6 +252,7 @@ fn read_sync_view(alloc: Global, h: &Header, body: &[u8]) -> Result<Option<Frame
 {
     let (_, headers) = body.split_at(32);
     Ok(Some(Frame::SyncView(SyncView {
+        version: h.version,
         cluster: h.cluster,
         replica: h.replica,
         view: h.view,
@@ -257,6 +273,7 @@ fn read_prepare_ok(h: &Header) -> PrepareOk
     ensures { bare_for Command.PrepareOk h.now ≡ Some (Frame.PrepareOk result) }
 {
     PrepareOk {
+        version: h.version,
         cluster: h.cluster,
         replica: h.replica,
         view: h.view,
@@ -271,6 +288,7 @@ fn read_get_prepare(h: &Header) -> GetPrepare
     ensures { bare_for Command.GetPrepare h.now ≡ Some (Frame.GetPrepare result) }
 {
     GetPrepare {
+        version: h.version,
         cluster: h.cluster,
         replica: h.replica,
         op: h.op,
@@ -287,6 +305,7 @@ fn read_bare(h: &Header) -> Option<Frame>
     match h.command {
         Command::PrepareOk => Some(Frame::PrepareOk(read_prepare_ok(h))),
         Command::Commit => Some(Frame::Commit(Commit {
+            version: h.version,
             cluster: h.cluster,
             replica: h.replica,
             view: h.view,
@@ -294,23 +313,27 @@ fn read_bare(h: &Header) -> Option<Frame>
             commit: h.commit,
         })),
         Command::StartViewChange => Some(Frame::StartViewChange(StartViewChange {
+            version: h.version,
             cluster: h.cluster,
             replica: h.replica,
             view: h.view,
         })),
         Command::GetView => Some(Frame::GetView(GetView {
+            version: h.version,
             cluster: h.cluster,
             replica: h.replica,
             view: h.view,
         })),
         Command::GetPrepare => Some(Frame::GetPrepare(read_get_prepare(h))),
         Command::GetBlock => Some(Frame::GetBlock(GetBlock {
+            version: h.version,
             cluster: h.cluster,
             replica: h.replica,
             address: h.aux,
             name: h.parent,
         })),
         Command::GetSync => Some(Frame::GetSync(GetSync {
+            version: h.version,
             cluster: h.cluster,
             replica: h.replica,
             view: h.view,

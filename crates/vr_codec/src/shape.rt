@@ -6,7 +6,7 @@ ghost use Rattle.vr_header.specs.declared.command.Command.{Command};
 ghost use Rattle.vr_codec.specs.Shapes.{uses_parent, uses_request_name, uses_client, uses_view, uses_op, uses_commit, uses_replica, uses_aux, is_no_name, unused_names_are_zero, unused_numbers_are_zero, is_view, is_number, numbers_fit, is_asked, kind_fits, is_at, is_ok_entry_at, begins_entry, is_body, entry_fits, headers_fit, checkpoint_fits, log_fits, sync_fits, knows, after_tag, tags_fit, tags_run, statement_fits, parts_fit, body_fits, has_shape, inspected, inspected_with};
 
 use crate::MsgFault;
-use vr_base::{Sum, checksum, u16_at, u64_at};
+use vr_base::{Sum, Version, checksum, u16_at, u64_at};
 use vr_header::{Command, Entry, Header, Operation, Outcome, decode};
 
 fn uses_parent(command: Command) -> bool
@@ -156,12 +156,12 @@ fn numbers_fit(h: &Header) -> bool
     is_view(h.view as u64) && (is_number(h.op) && is_number(h.commit))
 }
 
-// Whether the bytes are an operation that a request of this number may ask for.
+// Whether the bytes are an operation of this version that a request of this number may ask for.
 #[tactic(auto, unfolding(crate::specs::Shapes::is_asked))]
-fn is_asked(request: u32, body: &[u8]) -> bool
-    ensures { result ≡ is_asked request body.now }
+fn is_asked(version: Version, request: u32, body: &[u8]) -> bool
+    ensures { result ≡ is_asked version request body.now }
 {
-    if !Operation::is_body(body) {
+    if !Operation::is_body(body, version) {
         return false;
     }
     if body.len() == 1 {
@@ -171,13 +171,13 @@ fn is_asked(request: u32, body: &[u8]) -> bool
     }
 }
 
-// Whether a reply of this kind may have this op and this body.
+// Whether a reply of this version and kind may have this op and this body.
 #[tactic(auto, unfolding(crate::specs::Shapes::kind_fits))]
-fn kind_fits(kind: u8, op: u64, body: &[u8]) -> bool
-    ensures { result ≡ kind_fits kind op body.now }
+fn kind_fits(version: Version, kind: u8, op: u64, body: &[u8]) -> bool
+    ensures { result ≡ kind_fits version kind op body.now }
 {
     if kind == 1 {
-        return Outcome::is_body(body);
+        return Outcome::is_body(body, version);
     }
     if kind == 0 {
         return false;
@@ -188,11 +188,14 @@ fn kind_fits(kind: u8, op: u64, body: &[u8]) -> bool
     op == 0 && body.is_empty()
 }
 
-// Whether a header is of this group and op, and made in a view up to `last`.
+// Whether a header is of this version or an earlier one, of this group and op, and made in a view up to `last`.
 #[tactic(auto, unfolding(crate::specs::Shapes::is_at))]
-fn is_at(cluster: u64, last: u32, op: u64, h: &Header) -> bool
-    ensures { result ≡ is_at cluster last op h.now }
+fn is_at(version: Version, cluster: u64, last: u32, op: u64, h: &Header) -> bool
+    ensures { result ≡ is_at version cluster last op h.now }
 {
+    if h.version.get() > version.get() {
+        return false;
+    }
     if h.cluster != cluster {
         return false;
     }
@@ -204,22 +207,22 @@ fn is_at(cluster: u64, last: u32, op: u64, h: &Header) -> bool
 
 // Whether the bytes begin with the header of such an entry.
 #[tactic(auto, unfolding(crate::specs::Shapes::begins_entry))]
-fn begins_entry(cluster: u64, last: u32, op: u64, bytes: &[u8]) -> bool
-    ensures { result ≡ begins_entry cluster last op bytes.now }
+fn begins_entry(version: Version, cluster: u64, last: u32, op: u64, bytes: &[u8]) -> bool
+    ensures { result ≡ begins_entry version cluster last op bytes.now }
 {
     match decode(bytes) {
-        Ok(h) => is_entry_at(cluster, last, op, &h),
+        Ok(h) => is_entry_at(version, cluster, last, op, &h),
         Err(_) => false,
     }
 }
 
-fn is_entry_at(cluster: u64, last: u32, op: u64, h: &Header) -> bool
-    ensures { result ≡ is_ok_entry_at cluster last op (Ok h.now) }
+fn is_entry_at(version: Version, cluster: u64, last: u32, op: u64, h: &Header) -> bool
+    ensures { result ≡ is_ok_entry_at version cluster last op (Ok h.now) }
 {
     if !h.is_entry() {
         return false;
     }
-    is_at(cluster, last, op, h)
+    is_at(version, cluster, last, op, h)
 }
 
 // Whether the header has this body.
@@ -236,24 +239,24 @@ fn is_body(h: &Header, body: &[u8]) -> bool
 
 // Whether the bytes are such an entry.
 #[tactic(auto, unfolding(crate::specs::Shapes::entry_fits))]
-fn entry_fits(cluster: u64, last: u32, op: u64, bytes: &[u8]) -> bool
-    ensures { result ≡ entry_fits cluster last op bytes.now }
+fn entry_fits(version: Version, cluster: u64, last: u32, op: u64, bytes: &[u8]) -> bool
+    ensures { result ≡ entry_fits version cluster last op bytes.now }
 {
     match Entry::header_in(bytes) {
-        Some(h) => is_at(cluster, last, op, &h),
+        Some(h) => is_at(version, cluster, last, op, &h),
         None => false,
     }
 }
 
 // Whether the bytes are `count` headers of entries, from `op` on.
 #[tactic(auto, using(std::proofs::lemmas::Grind::common_steps, crate::proofs::Fitting::headers_fitting), unfolding(crate::specs::Shapes::headers_fit))]
-fn headers_fit(cluster: u64, last: u32, count: u64, op: u64, bytes: &[u8]) -> bool
+fn headers_fit(version: Version, cluster: u64, last: u32, count: u64, op: u64, bytes: &[u8]) -> bool
     requires { op + count < 2 ^ 64 }
-    ensures { result ≡ headers_fit cluster last count op bytes.now }
+    ensures { result ≡ headers_fit version cluster last count op bytes.now }
 {
     let mut rest = bytes;
     for i in 0..count {
-        if !begins_entry(cluster, last, op + i, rest) {
+        if !begins_entry(version, cluster, last, op + i, rest) {
             return false;
         }
         let (_, after) = rest.split_at(128);
@@ -276,7 +279,8 @@ fn log_fits(h: &Header, body: &[u8]) -> bool
     if h.op - h.aux > 64 {
         return false;
     }
-    headers_fit(h.cluster, h.view, h.op - h.aux, h.aux + 1, body)
+    let count = h.op - h.aux;
+    headers_fit(h.version, h.cluster, h.view, count, h.aux + 1, body)
 }
 
 // Whether a checkpoint of this op, whose root has this address, may stand before the log of the header.
@@ -320,11 +324,18 @@ pub(crate) fn knows(tag: u8) -> bool
 
 // The bytes after the header that a tag speaks of; `None` where the tag or the header doesn't fit.
 #[tactic(auto, using(std::proofs::lemmas::Grind::common_steps, crate::proofs::Fitting::begins_long), unfolding(crate::specs::Shapes::after_tag))]
-fn after_tag(cluster: u64, last: u32, op: u64, tag: u8, bytes: &[u8]) -> Option<&[u8]>
-    ensures { option_map (λ x. x.now) result ≡ after_tag cluster last op tag bytes.now }
+fn after_tag(
+    version: Version,
+    cluster: u64,
+    last: u32,
+    op: u64,
+    tag: u8,
+    bytes: &[u8],
+) -> Option<&[u8]>
+    ensures { option_map (λ x. x.now) result ≡ after_tag version cluster last op tag bytes.now }
 {
     if knows(tag) {
-        if begins_entry(cluster, last, op, bytes) {
+        if begins_entry(version, cluster, last, op, bytes) {
             let (_, after) = bytes.split_at(128);
             Some(after)
         } else {
@@ -339,14 +350,14 @@ fn after_tag(cluster: u64, last: u32, op: u64, tag: u8, bytes: &[u8]) -> Option<
 
 // Whether after these tags, of the ops from `op` on, stand the headers that they speak of.
 #[tactic(auto, using(std::proofs::lemmas::Grind::common_steps, crate::proofs::Fitting::tags_fitting))]
-fn tags_fit(cluster: u64, last: u32, tags: &[u8], op: u64, bytes: &[u8]) -> bool
+fn tags_fit(version: Version, cluster: u64, last: u32, tags: &[u8], op: u64, bytes: &[u8]) -> bool
     requires { op + length tags.now < 2 ^ 64 }
-    ensures { result ≡ tags_fit cluster last tags.now op bytes.now }
+    ensures { result ≡ tags_fit version cluster last tags.now op bytes.now }
 {
     let mut rest = bytes;
     let mut at = op;
     for tag in tags {
-        match after_tag(cluster, last, at, *tag, rest) {
+        match after_tag(version, cluster, last, at, *tag, rest) {
             Some(after) => rest = after,
             None => return false,
         }
@@ -407,7 +418,8 @@ fn statement_fits(h: &Header, first: u64, tags: &[u8], bytes: &[u8]) -> bool
     if h.view as u64 <= h.aux {
         return false;
     }
-    tags_run(h.op, first, tags) && tags_fit(h.cluster, h.aux as u32, tags, first, bytes)
+    let log_view = h.aux as u32;
+    tags_run(h.op, first, tags) && tags_fit(h.version, h.cluster, log_view, tags, first, bytes)
 }
 
 #[tactic(auto, unfolding(crate::specs::Shapes::parts_fit))]
@@ -436,9 +448,9 @@ fn body_fits(h: &Header, body: &[u8]) -> bool
     ensures { result ≡ body_fits h.now.command h.now body.now }
 {
     match h.command {
-        Command::Request => is_asked(h.request, body),
-        Command::Reply => kind_fits(h.kind, h.op, body),
-        Command::Prepare => entry_fits(h.cluster, h.view, h.op, body),
+        Command::Request => is_asked(h.version, h.request, body),
+        Command::Reply => kind_fits(h.version, h.kind, h.op, body),
+        Command::Prepare => entry_fits(h.version, h.cluster, h.view, h.op, body),
         Command::PrepareOk => is_view(h.aux) && body.is_empty(),
         Command::Commit => body.is_empty(),
         Command::StartViewChange => body.is_empty(),
@@ -446,7 +458,7 @@ fn body_fits(h: &Header, body: &[u8]) -> bool
         Command::StartView => log_fits(h, body),
         Command::GetView => body.is_empty(),
         Command::GetPrepare => is_view(h.aux) && body.is_empty(),
-        Command::GivePrepare => entry_fits(h.cluster, u32::MAX - 1, h.op, body),
+        Command::GivePrepare => entry_fits(h.version, h.cluster, u32::MAX - 1, h.op, body),
         Command::GetBlock => body.is_empty(),
         Command::GiveBlock => body.len() == 4096,
         Command::GetSync => body.is_empty(),

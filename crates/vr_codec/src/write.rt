@@ -2,7 +2,7 @@
 ghost use Rattle.std.specs.Prelude.{◌≡◌, ◌≤◌, ◌++◌, ◌∷◌, [], OnOk, OnErr, length, map};
 ghost use Rattle.vr_base.specs.Bytes.{KeepsFront, bytes16, bytes64};
 ghost use Rattle.vr_msg.specs.Forms.{IsFrame};
-ghost use Rattle.vr_msg.specs.Spelling.{AreHeaders, IsBodyValue, IsKindValue, body_bytes, headers_bytes, kind_bytes, known, parts_bytes, sync_bytes, tag, IsName};
+ghost use Rattle.vr_msg.specs.Spelling.{AreHeaders, IsBodyValue, body_bytes, headers_bytes, kind_bytes, known, parts_bytes, sync_bytes, tag, IsName};
 
 use std::alloc::AllocError;
 use vr_base::Sum;
@@ -12,7 +12,6 @@ use vr_msg::{DvcBody, Frame, ReplyKind, SyncView};
 fn write_kind(kind: &ReplyKind, to: &mut Vec<u8>) -> Result<(), AllocError>
     ensures bytes { OnOk result (to.new.items ≡ to.old.items ++ kind_bytes kind.now) }
     ensures front { OnErr result (KeepsFront to.old.items to.new.items) }
-    ensures values { IsKindValue kind.now }
 {
     match kind {
         ReplyKind::Outcome(answered) => answered.outcome.write_body(to),

@@ -7,6 +7,7 @@ use Rattle.std.proofs.lemmas.List.{get_or-map, get_or_past, length-map}
 use Rattle.std.proofs.lemmas.Nat.{xor_of_8}
 use Rattle.vr_base.specs.Bytes.{IsBytes}
 use Rattle.std.proofs.lemmas.List.Elements.{All-set, All-push, recursion_from_All}
+use Rattle.vr_disk.specs.Regions.{sectors}
 use Rattle.vr_disk.specs.DiskState.{Call, Write, Sync, Face, Cell, Waiting, IsCell, IsContent, IsFace, IsWaiting, blank, after, after_all, begun, cell, cut, damaged, settle, settled, settled_cell, waits, written}
 use Rattle.vr_disk.specs.Stops.{IsCall, FacesStay}
 
@@ -23,7 +24,7 @@ damaged_byte bytes i h =
 pub damaged_content : (bytes : List ℕ) → IsContent bytes → IsContent (damaged bytes)
 damaged_content bytes h = record { size = length-map bytes (λ b. bit_xor b 255) ∙ h.size; each = λ i. damaged_byte bytes i h.each }
 
-pub there : (f : Face) (i : ℕ) → IsFace f → i < 1424 → IsCell (cell f i)
+pub there : (f : Face) (i : ℕ) → IsFace f → i < sectors → IsCell (cell f i)
 there f i h l = let n = h.count in h.cells i blank (omega arith)
 
 pub face_after : (f : Face) (c : Call) → IsFace f → IsCall c → IsFace (after f c)
@@ -43,8 +44,8 @@ settled_stays digit was now a b =
     cond_both (eqb digit 1) _ _ IsCell (λ _. record { truth = b.truth; reads = λ c e. sized now.truth c b.truth e; before = b.before })
     (λ _. let l = damaged_content now.truth b.truth in record { truth = l; reads = λ c e. sized (damaged now.truth) c l e; before = b.before }))
 
-cells_settled : (code : ℕ) (ws : List Waiting) (cells : List Cell) → AllByRecursion IsWaiting ws → length cells ≡ 1424 → All IsCell cells
-    → (length (settled code ws cells) ≡ 1424) × All IsCell (settled code ws cells)
+cells_settled : (code : ℕ) (ws : List Waiting) (cells : List Cell) → AllByRecursion IsWaiting ws → length cells ≡ sectors → All IsCell cells
+    → (length (settled code ws cells) ≡ sectors) × All IsCell (settled code ws cells)
 cells_settled code [] cells w n h = (n, h)
 cells_settled code (x ∷ ws) cells w n h =
     let now = get_or cells x.index blank in

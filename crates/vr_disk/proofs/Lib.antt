@@ -4,6 +4,7 @@ pub mod Fuses
 pub mod Halting
 pub mod Outcomes
 mod Rows
+pub mod Places
 pub mod Running
 pub mod Together
 pub mod SectorSteps

@@ -1,10 +1,15 @@
 -- The regions of a data file lie one behind the other and fill it; a settled sector by each digit.
 use Rattle.std.proofs.Common.{◌≡◌, ◌∷◌, [], List, ℕ, refl, Some}
-use Rattle.vr_disk.specs.Regions.{copy_place, header_place, prepare_place, block_place}
+use Rattle.vr_disk.specs.Regions.{copy_place, header_place, prepare_place, prepare_sectors, block_place, sectors}
 use Rattle.vr_disk.specs.DiskState.{Cell, Face, Call, Write, Sync, cut}
 
-regions : copy_place 0 0 ∷ copy_place 4 0 ∷ header_place 64 ∷ prepare_place 64 ∷ block_place 128 ∷ [] ≡ 0 ∷ header_place 0 ∷ prepare_place 0 ∷ block_place 0 ∷ 1424 ∷ []
+regions : copy_place 0 0 ∷ copy_place 4 0 ∷ header_place 64 ∷ prepare_place 1 64 ∷ block_place 127 ∷ prepare_place 2 64 ∷ block_place 384 ∷ []
+    ≡ 0 ∷ header_place 0 ∷ prepare_place 1 0 ∷ block_place 0 ∷ 1416 ∷ block_place 128 ∷ sectors ∷ []
 regions = refl
+
+-- those of version 2 behind the grid of version 1
+behind : prepare_place 2 0 ∷ prepare_place 1 7 ∷ prepare_sectors 1 ∷ prepare_sectors 2 ∷ [] ≡ 1424 ∷ 172 ∷ 4 ∷ 8 ∷ []
+behind = refl
 
 abbrev holds : ℕ → Cell
 holds b = record { truth = b ∷ []; reads = Some (b ∷ []); before = 0 ∷ [] }

@@ -6,6 +6,7 @@ use Rattle.std.proofs.lemmas.Slice.Eq.{bytes_eq-Decides}
 use Rattle.std.specs.Prelude.{nat_eq}
 use Rattle.std.specs.Cmp.Lexicographic.{pointwise}
 use Rattle.vr_base.specs.Bytes.{piece}
+use Rattle.vr_disk.specs.Regions.{sectors}
 use Rattle.vr_disk.specs.DiskState.{Write, Face, IsFace, reads}
 use Rattle.vr_disk.specs.Sectors.{behind, has, together, writes}
 use Rattle.vr_disk.proofs.Faces.{there}
@@ -60,7 +61,7 @@ has_both b (Some x) (Some y) h = both_same x y b (h x refl)
 pub has_start : (i n : ℕ) (b : List ℕ) (f : Face) → has b (together i n f) ≡ has (drop (512 * 0) b) (together (i + 0) (n - 0) f)
 has_start i n b f = let z : i + 0 ≡ i = omega arith in let m : n - 0 ≡ n = omega arith in rw (z, m) refl
 
-pub has_step : (i n k : ℕ) (b : List ℕ) (f : Face) → IsFace f → k < n → i + n ≤ 1424
+pub has_step : (i n k : ℕ) (b : List ℕ) (f : Face) → IsFace f → k < n → i + n ≤ sectors
     → has (drop (512 * k) b) (together (i + k) (n - k) f) ≡ (has (piece (512 * k) 512 b) (reads f (i + k)) && has (drop (512 * (k + 1)) b) (together (i + (k + 1)) (n - (k + 1)) f))
 unfolding piece
 has_step i n k b f h l m =

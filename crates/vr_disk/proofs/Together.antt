@@ -6,6 +6,7 @@ use Rattle.std.proofs.lemmas.List.{get_or_append_left, get_or-append_right}
 use Rattle.std.proofs.lemmas.Slice.Eq.{bytes_eq-Decides}
 use Rattle.vr_base.specs.Bytes.{IsBytes, piece}
 use Rattle.vr_base.proofs.Places.{take_both}
+use Rattle.vr_disk.specs.Regions.{sectors}
 use Rattle.vr_disk.specs.DiskState.{Call, Write, Sync, Face, IsFace, Cell, after, after_all, cell, reads, written}
 use Rattle.vr_disk.specs.Sectors.{behind, has, together, writes}
 use Rattle.vr_disk.specs.Stops.{Spares, WritesOnly}
@@ -74,7 +75,7 @@ behind_bytes None r b f g e = absurd cc
 behind_bytes (Some x) None b f g e = absurd cc
 behind_bytes (Some x) (Some y) b f g e = let same : x ++ y ≡ b = cc in subst IsBytes same (bytes_append x y (f x refl) (g y refl))
 
-pub together_bytes : (n i : ℕ) (f : Face) → IsFace f → i + n ≤ 1424 → (b : List ℕ) → together i n f ≡ Some b → IsBytes b
+pub together_bytes : (n i : ℕ) (f : Face) → IsFace f → i + n ≤ sectors → (b : List ℕ) → together i n f ≡ Some b → IsBytes b
 unfolding together
 together_bytes zero i f h l b e = let same : [] ≡ b = cc in subst IsBytes same nothing_bytes
 together_bytes (suc n) i f h l b e = behind_bytes (reads f i) (together (i + 1) n f) b (λ x r. ((there f i h (omega arith)).reads x r).each) (together_bytes n (i + 1) f h (omega arith)) e

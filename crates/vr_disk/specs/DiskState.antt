@@ -1,7 +1,8 @@
--- A disk of 1,424 sectors of 512 bytes: what it holds, what each call leaves, and what a stop leaves.
+-- A disk of 3,984 sectors of 512 bytes: what it holds, what each call leaves, and what a stop leaves.
 use Rattle.std.specs.Prelude.{ℕ, zero, suc, ◌+◌, ◌-◌, ◌/◌, ◌%◌, ◌^◌, ◌<◌, ◌≡◌, Bool, true, false, ◌||◌, ◌==◌, if◌then◌else◌, List, [], ◌∷◌, ◌++◌, length, map, Option, None, Some, slice_index_or, slice_set, bit_xor, min}
 use Rattle.std.specs.List.{list_any, All}
 use Rattle.vr_base.specs.Bytes.{IsBytes}
+use Rattle.vr_disk.specs.Regions.{sectors}
 
 -- ---- what a disk holds
 
@@ -45,11 +46,11 @@ pub record IsCell (c : Cell) : Type 0 where
   pub before : IsContent c.before
 
 pub record IsWaiting (w : Waiting) : Type 0 where
-  pub index : w.index < 1424
+  pub index : w.index < sectors
   pub was : IsCell w.was
 
 pub record IsFace (f : Face) : Type 0 where
-  pub count : length f.cells ≡ 1424
+  pub count : length f.cells ≡ sectors
   pub cells : All IsCell f.cells
   pub waiting : All IsWaiting f.waiting
 

@@ -1,6 +1,7 @@
 -- What calls leave where one of them fails or is cut short.
 use Rattle.std.specs.Prelude.{ℕ, zero, suc, ◌-◌, ◌<◌, ◌≤◌, ◌≡◌, ◌≢◌, ◌⊎◌, true, false, List, [], ◌∷◌, ◌++◌, length, take, Option, None, Some, IfSome}
 use Rattle.std.specs.List.{AllByRecursion}
+use Rattle.vr_disk.specs.Regions.{sectors}
 use Rattle.vr_disk.specs.DiskState.{Call, Write, Sync, Face, IsContent, IsFace, Disk, Fuse, Attaches, after, after_all, cut, cut_at, cell, damaged, reads, waits, runs}
 
 -- the calls before one of them went well, and that one failed or was cut
@@ -79,7 +80,7 @@ CutsOfBoth = (cs ds : List Call) (f : Face) (j code : ℕ) → Cuts cs ds f j co
 
 -- sectors stay sectors: calls with contents of a sector's size, on sectors that are there
 abbrev pub IsCall : Call → Type 0
-IsCall (Write i bytes) = (i < 1424) × IsContent bytes
+IsCall (Write i bytes) = (i < sectors) × IsContent bytes
 IsCall Sync = Unit {0}
 
 abbrev pub FacesStay : Type 0

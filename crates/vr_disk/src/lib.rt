@@ -18,8 +18,8 @@ pub use laws::disk_laws;
 pub use memo::{Memo, Room};
 pub use none::NoDisk;
 pub use regions::{
-    BLOCK_SECTORS, BLOCKS, COPIES, COPY_SECTORS, COPY_SIZE, PREPARE_SECTORS, SECTORS, SLOTS,
-    block_place, copy_place, header_place, prepare_place,
+    BLOCK_SECTORS, BLOCKS, COPIES, COPY_SECTORS, COPY_SIZE, SECTORS, SLOTS, block_place,
+    copy_place, header_place, prepare_place, prepare_sectors,
 };
 pub use sector::{SECTOR_SIZE, Sector};
 pub use sectors::{read_sectors, sector_at, sectors_read_as, write_sectors};

@@ -27,7 +27,7 @@ pub fn write_sectors<D: SectorDisk>(
     bytes: &[u8],
 ) -> Result<(), DiskFailed>
     requires within { at + count ≤ SECTORS }
-    requires size { length bytes.now ≡ 512 * count }
+    requires size { 512 * count ≤ length bytes.now }
     ensures runs { Runs (writes at count bytes.now) (D.told disk.old) (D.told disk.new) (is_ok result) }
     ensures cause { HasCause (D.faults disk.old) (D.faults disk.new) result }
     ensures others { D.read_faults disk.new ≡ D.read_faults disk.old }

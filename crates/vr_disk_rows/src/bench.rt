@@ -5,7 +5,7 @@ use crate::act::Act;
 use std::alloc::Global;
 use vr_base::{NoMemory, Sum};
 use vr_ckpt::{Name, SavedCheckpoint};
-use vr_disk::{Buffer, Sector, SectorDisk};
+use vr_disk::{Buffer, SECTORS, Sector, SectorDisk};
 use vr_mem::MemDisk;
 use vr_state::Texts;
 use vr_super::Super;
@@ -22,7 +22,7 @@ pub struct Bench {
 
 /// Other bytes in a sector.
 fn spoil(disk: &mut MemDisk, i: u32) -> &'static str
-    requires { i < 1424 }
+    requires { i < SECTORS }
 {
     let sector = Sector { bytes: [7; 512] };
     if disk.write(i, &sector).is_ok() && disk.sync().is_ok() {

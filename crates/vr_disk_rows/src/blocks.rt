@@ -1,4 +1,6 @@
-//! Block 5 of group 3.
+//! A block of group 3.
+
+ghost use Rattle.std.specs.Prelude.{◌<◌};
 
 use crate::act::Act;
 use crate::bench::Bench;
@@ -6,12 +8,15 @@ use crate::telling::put_number;
 use std::alloc::Global;
 use vr_base::{ByteList, NoMemory, Sum};
 use vr_ckpt::{DATA, Name, read_block, write_block};
+use vr_disk::BLOCKS;
 
 const PAYLOAD: &[u8] = b"payload";
 
-/// Writes the block.
-fn write(alloc: Global, bench: &mut Bench) -> bool {
-    match write_block(alloc, &mut bench.disk, 3, 5, 32, DATA, PAYLOAD) {
+/// Writes the block of an address below 384.
+fn write(alloc: Global, bench: &mut Bench, address: u64) -> bool
+    requires { address < BLOCKS }
+{
+    match write_block(alloc, &mut bench.disk, 3, address, 32, DATA, PAYLOAD) {
         Ok(name) => {
             bench.block = name;
             true
@@ -62,7 +67,7 @@ pub fn act(
 ) -> Result<bool, NoMemory> {
     match act.name {
         "block" => {
-            let is_ok = write(alloc, bench);
+            let is_ok = write(alloc, bench, act.address());
             to.extend(bench.went(is_ok).as_bytes())?;
         }
         "read" => {

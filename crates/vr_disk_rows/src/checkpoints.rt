@@ -11,9 +11,9 @@ use vr_ckpt::{CkptFault, Load, Name, Payload, PayloadTable, SavedCheckpoint, loa
 use vr_mem::MemDisk;
 use vr_state::Texts;
 
-/// Texts of one payload each: sessions of so many bytes, and keys.
+/// Texts: sessions of so many bytes, at most ten payloads, and keys of one payload.
 fn texts(alloc: Global, sessions: usize) -> Result<Texts, NoMemory>
-    requires { sessions ≤ 3968 }
+    requires { sessions ≤ 39680 }
     ensures { IfOk result FitsPayloads }
 {
     let mut first = Vec::new(alloc);
@@ -66,7 +66,7 @@ fn save_texts(
 
 /// Saves the checkpoint of a line, and keeps it. Whether it was saved.
 fn keep(alloc: Global, bench: &mut Bench, act: Act<'_>) -> Result<bool, NoMemory> {
-    let texts = texts(alloc, act.first.min(3968) as usize)?;
+    let texts = texts(alloc, act.first.min(39680) as usize)?;
     match save_texts(alloc, bench, act, &texts) {
         Ok(done) => {
             bench.checkpoint = Some((texts, done));

@@ -7,16 +7,17 @@ use crate::slots::entry;
 use crate::superblocks::value;
 use crate::telling::{put_number, put_told};
 use std::alloc::Global;
-use vr_base::{ByteList, NoMemory};
-use vr_disk::{Sector, SectorDisk};
+use vr_base::{ByteList, NoMemory, Version};
+use vr_disk::{SECTORS, Sector, SectorDisk};
 use vr_header::{Command, Header};
 use vr_lie::{Fault, Faulted, LieDisk};
 use vr_rings::{write_header, write_new};
 use vr_super::write;
 
 /// A header that is no entry's, as a new data file has one in each slot.
-fn reserved() -> Header {
+fn reserved(version: Version) -> Header {
     Header {
+        version,
         command: Command::Reserved,
         op: 1,
         ..Header::root(2)
@@ -24,34 +25,39 @@ fn reserved() -> Header {
 }
 
 /// A superblock of four good copies.
-fn save(alloc: Global, disk: &mut LieDisk) -> Result<bool, NoMemory> {
-    let value = value(alloc, 1, None)?;
+fn save(alloc: Global, disk: &mut LieDisk, version: Version) -> Result<bool, NoMemory> {
+    let value = value(alloc, 1, None, version)?;
     let is_ok = write(disk, &value, &value).is_ok();
     drop(value);
     Ok(is_ok)
 }
 
 /// An entry in slot 1.
-fn store(disk: &mut LieDisk) -> bool {
-    let entry = entry(1);
-    let is_ok = write_new(disk, &entry).is_ok();
+fn store(alloc: Global, disk: &mut LieDisk, version: Version) -> Result<bool, NoMemory> {
+    let entry = entry(alloc, 1, version)?;
+    let is_ok = write_new(disk, &entry, version).is_ok();
     drop(entry);
-    is_ok
+    Ok(is_ok)
 }
 
 /// The header of that entry.
-fn stored() -> Header {
-    let entry = entry(1);
+fn stored(alloc: Global, version: Version) -> Result<Header, NoMemory> {
+    let entry = entry(alloc, 1, version)?;
     let header = entry.header();
     drop(entry);
-    header
+    Ok(header)
 }
 
-/// A superblock of four good copies, and an entry in slot 1.
-fn write_member(alloc: Global, disk: &mut LieDisk) -> Result<&'static str, NoMemory> {
-    let is_saved = save(alloc, disk)?;
-    let is_marked = write_header(disk, &reserved()).is_ok();
-    let is_stored = store(disk);
+/// A superblock of four good copies, and an entry in slot 1, in a file of this version.
+fn write_member(
+    alloc: Global,
+    disk: &mut LieDisk,
+    version: Version,
+) -> Result<&'static str, NoMemory> {
+    disk.set_version(version);
+    let is_saved = save(alloc, disk, version)?;
+    let is_marked = write_header(disk, &reserved(version)).is_ok();
+    let is_stored = store(alloc, disk, version)?;
     Ok(if is_saved && is_marked && is_stored {
         "written"
     } else {
@@ -60,7 +66,7 @@ fn write_member(alloc: Global, disk: &mut LieDisk) -> Result<&'static str, NoMem
 }
 
 fn put_sector(disk: &mut LieDisk, i: u32, byte: u8) -> &'static str
-    requires { i < 1424 }
+    requires { i < SECTORS }
 {
     let sector = Sector { bytes: [byte; 512] };
     if disk.write(i, &sector).is_ok() && disk.sync().is_ok() {
@@ -72,7 +78,7 @@ fn put_sector(disk: &mut LieDisk, i: u32, byte: u8) -> &'static str
 
 /// The first byte that a sector reads as.
 fn read(alloc: Global, disk: &mut LieDisk, i: u32, to: &mut ByteList) -> Result<(), NoMemory>
-    requires { i < 1424 }
+    requires { i < SECTORS }
 {
     let mut sector = Sector { bytes: [0; 512] };
     match disk.read(i, &mut sector) {
@@ -82,8 +88,8 @@ fn read(alloc: Global, disk: &mut LieDisk, i: u32, to: &mut ByteList) -> Result<
 }
 
 fn misdirect(disk: &mut LieDisk, i: u32, other: u32) -> &'static str
-    requires i { i < 1424 }
-    requires other { other < 1424 }
+    requires i { i < SECTORS }
+    requires other { other < SECTORS }
 {
     if i == other {
         return "not so: one sector";
@@ -102,10 +108,11 @@ fn fault(disk: &mut LieDisk, fault: &Fault) -> &'static str
 }
 
 /// Writes the header sector of slot 1 anew.
-fn mend(disk: &mut LieDisk) -> &'static str {
-    match write_header(disk, &stored()) {
-        Ok(()) => "written",
-        Err(_) => "failed",
+fn mend(alloc: Global, disk: &mut LieDisk) -> Result<&'static str, NoMemory> {
+    let header = stored(alloc, disk.version())?;
+    match write_header(disk, &header) {
+        Ok(()) => Ok("written"),
+        Err(_) => Ok("failed"),
     }
 }
 
@@ -124,8 +131,8 @@ fn faulted(disk: &mut LieDisk, act: Act<'_>) -> Option<&'static str> {
 /// Does what a line says of a disk that lies; what is told of it, or `None` where it says nothing of that.
 fn done(alloc: Global, disk: &mut LieDisk, act: Act<'_>) -> Result<Option<&'static str>, NoMemory> {
     match act.name {
-        "member" => Ok(Some(write_member(alloc, disk)?)),
-        "mend" => Ok(Some(mend(disk))),
+        "member" => Ok(Some(write_member(alloc, disk, act.version())?)),
+        "mend" => Ok(Some(mend(alloc, disk)?)),
         "put" => Ok(Some(put_sector(disk, act.sector(), act.second.min(255) as u8))),
         _ => Ok(faulted(disk, act)),
     }

@@ -5,7 +5,7 @@ use crate::act::Act;
 use crate::bench::Bench;
 use crate::telling::put_number;
 use std::alloc::Global;
-use vr_base::{ByteList, Mode, NoMemory, Seq, Sum};
+use vr_base::{ByteList, Mode, NoMemory, Seq, Sum, Version};
 use vr_header::{Command, Header, HeaderList, Names, Size};
 use vr_super::{Fields, Found, Super, SuperFault, opens, recover, write};
 
@@ -26,8 +26,13 @@ fn made(
     }
 }
 
-/// The value of this sequence, made after an old one where there is one.
-pub fn value(alloc: Global, sequence: u64, old: Option<&Super>) -> Result<Super, NoMemory> {
+/// The value of this sequence in a file of this version, made after an old one where there is one.
+pub fn value(
+    alloc: Global,
+    sequence: u64,
+    old: Option<&Super>,
+    version: Version,
+) -> Result<Super, NoMemory> {
     let entry = Header {
         body: Sum([7; 16]),
         parent: Sum([0; 16]),
@@ -41,6 +46,7 @@ pub fn value(alloc: Global, sequence: u64, old: Option<&Super>) -> Result<Super,
         size: Size::new(129),
         command: Command::Entry,
         replica: 0,
+        version,
         kind: 0,
         aux: 0,
     };
@@ -58,14 +64,15 @@ pub fn value(alloc: Global, sequence: u64, old: Option<&Super>) -> Result<Super,
         head: 1,
         replica: 1,
         n: 3,
+        version,
         mode: Mode::Strict,
     };
     made(alloc, fields, headers, old)
 }
 
-/// Writes the value of this sequence.
-fn save(alloc: Global, bench: &mut Bench, sequence: u64) -> Result<&'static str, NoMemory> {
-    let new = value(alloc, sequence, bench.value.as_ref())?;
+/// Writes the value of a line.
+fn save(alloc: Global, bench: &mut Bench, act: Act<'_>) -> Result<&'static str, NoMemory> {
+    let new = value(alloc, act.first, bench.value.as_ref(), act.version())?;
     let written = match &bench.value {
         Some(old) => write(&mut bench.disk, old, &new),
         None => write(&mut bench.disk, &new, &new),
@@ -97,10 +104,11 @@ fn put_recovered(alloc: Global, bench: &mut Bench, to: &mut ByteList) -> Result<
 
 fn put_found(alloc: Global, found: &Found, to: &mut ByteList) -> Result<(), NoMemory> {
     let text = format!(in alloc;
-        "copy {copy} sequence {sequence} view {view}",
+        "copy {copy} sequence {sequence} view {view} version {version}",
         copy = found.copy,
         sequence = found.sequence,
-        view = found.view
+        view = found.view,
+        version = found.version.get()
     )?;
     Ok(to.extend(text.as_bytes())?)
 }
@@ -121,7 +129,7 @@ pub fn act(
 ) -> Result<bool, NoMemory> {
     match act.name {
         "save" => {
-            let told = save(alloc, bench, act.first)?;
+            let told = save(alloc, bench, act)?;
             to.extend(told.as_bytes())?;
         }
         "recover" => put_recovered(alloc, bench, to)?,

@@ -1,4 +1,5 @@
 pub mod Answered
 pub mod Drawing
 pub mod Texts
+pub mod Fitting
 mod Rows

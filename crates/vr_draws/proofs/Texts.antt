@@ -32,5 +32,8 @@ lettered limit letter n room least most small =
 pub key_text : (d : ℕ) → IsTrue (is_text 64 (key d))
 key_text d = lettered 64 107 (d % 8) (omega arith) (omega arith) (omega arith) (omega arith)
 
-pub value_text : (d : ℕ) → IsTrue (is_text 1024 (value d))
-value_text d = lettered 1024 118 (d % 1000) (omega arith) (omega arith) (omega arith) (omega arith)
+pub short_value : (limit d : ℕ) → 4 ≤ limit → IsTrue (is_text limit (value d))
+short_value limit d room = lettered limit 118 (d % 1000) room (omega arith) (omega arith) (omega arith)
+
+pub value_text : (d : ℕ) → IsTrue (is_text 3000 (value d))
+value_text d = short_value 3000 d (omega arith)

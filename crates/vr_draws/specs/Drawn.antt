@@ -3,6 +3,7 @@ use Rattle.std.specs.Prelude.{ℕ, ◌+◌, ◌-◌, ◌%◌, ◌==◌, min, nat
 use Rattle.std.specs.Fmt.{decimal}
 use Rattle.vr_header.specs.declared.operation.Operation.{Operation}
 use Rattle.vr_header.specs.declared.operation.Operation.TheVariants as operation
+use Rattle.vr_lines.specs.Versions.{line_sectors, schedule_version}
 use Rattle.vr_lines.specs.declared.line.Line.{Line}
 use Rattle.vr_lines.specs.declared.line.Line.TheVariants as line
 use Rattle.vr_draws.specs.Draws.{Drawn, after_draws, draw}
@@ -30,7 +31,7 @@ drawn_asking number x = if number == 0 then record { value = operation.Register;
 
 abbrev pub request : ℕ → ℕ → ℕ → Drawn Operation → Drawn Line
 request replica client number asked = record {
-  value = line.Request replica (record { cluster = 0; client = client; request = number; operation = asked.value });
+  value = line.Request replica (record { version = schedule_version; cluster = 0; client = client; request = number; operation = asked.value });
   number = asked.number;
 }
 
@@ -51,9 +52,9 @@ drawn_delivery count x =
 abbrev pub at_replica : ℕ → ℕ → (ℕ → Line) → Drawn Line
 at_replica n x make = record { value = make (draw x 1 % n); number = after_draws x 1 }
 
--- a replica and a sector of its disk, by two draws
+-- a replica and a sector of its disk that lines speak of, by two draws
 abbrev pub at_sector : ℕ → ℕ → (ℕ → ℕ → Line) → Drawn Line
-at_sector n x make = record { value = make (draw x 1 % n) (draw x 2 % 1424); number = after_draws x 2 }
+at_sector n x make = record { value = make (draw x 1 % n) (draw x 2 % line_sectors schedule_version); number = after_draws x 2 }
 
 -- A line by its kind, of 64, for a group that has so many replicas and messages, and whose clients' next requests have these numbers.
 unfoldable pub drawn_kind : ℕ → ℕ → List ℕ → ℕ → ℕ → Drawn Line

@@ -2,16 +2,17 @@
 ghost use Rattle.std.specs.Prelude.{◌≡◌, ◌↔◌, ◌%◌, ◌<◌, ◌≤◌, ℕ, List, IfOk, OnOk};
 ghost use Rattle.vr_draws.specs.Draws.{draw, next_number};
 ghost use Rattle.vr_draws.specs.Drawn.{at_replica, at_sector, drawn_asking, drawn_delivery, drawn_kind, drawn_line, drawn_operation, drawn_request, drawn_size};
+ghost use Rattle.vr_header.specs.Bodies.{IsOperation};
 ghost use Rattle.vr_header.specs.declared.operation.Operation.TheVariants as operation;
-ghost use Rattle.vr_lines.specs.Fits.{IsLineOf};
+ghost use Rattle.vr_lines.specs.Fits.{IsLineOf, IsSector};
+ghost use Rattle.vr_lines.specs.Versions.{line_sectors, schedule_version};
 
 use crate::Requests;
 use crate::operation::{key_of, value_of};
 use std::alloc::{AllocError, Global};
 use std::cmp::min;
-use vr_disk::SECTORS;
 use vr_header::Operation;
-use vr_lines::Line;
+use vr_lines::{Line, line_sectors, schedule_version};
 use vr_msg::{Request, RequestFields};
 
 /// Draws numbers from a number, and makes the lines of a schedule of them.
@@ -93,6 +94,7 @@ impl Generator {
         ensures value { IfOk result (λ o. o ≡ (drawn_asking number self.old.number).value) }
         ensures number { OnOk result (self.new.number ≡ (drawn_asking number self.old.number).number) }
         ensures first { IfOk result (λ o. (o ≡ operation.Register) ↔ (number ≡ 0)) }
+        ensures fits { IfOk result (λ o. IsOperation schedule_version o) }
     {
         if number == 0 {
             return Ok(Operation::Register);
@@ -113,6 +115,7 @@ impl Generator {
         let number = requests.get(client as usize);
         let operation = self.asking(alloc, number)?;
         let request = Request::new(RequestFields {
+            version: schedule_version(),
             cluster: 0,
             client: 1 + client,
             request: number,
@@ -146,13 +149,13 @@ impl Generator {
         self.draw_below(u64::from(n)) as u8
     }
 
-    /// A sector.
+    /// A sector that lines speak of.
     fn sector(&mut self) -> u32
-        ensures sector { result ≡ draw self.old.number 1 % 1424 }
+        ensures sector { result ≡ draw self.old.number 1 % line_sectors schedule_version }
         ensures number { self.new.number ≡ next_number self.old.number }
-        ensures least { result < 1424 }
+        ensures least { IsSector result }
     {
-        self.draw_below(u64::from(SECTORS)) as u32
+        self.draw_below(u64::from(line_sectors(schedule_version()))) as u32
     }
 
     /// A line of a fault, by its kind.

@@ -14,6 +14,7 @@ use Rattle.law_6_one_log.proofs.Known.{one_log}
 use Rattle.law_6_one_log.proofs.Traces.{keeps}
 use Rattle.vr_group.specs.Headline.{HasAsked, HaveAsked, IsJustMade, LinesKeepOneLog}
 use Rattle.vr_group.specs.Lines.{AreLinesOf, happening, happenings}
+use Rattle.vr_group.proofs.Sectors.{on_disk}
 
 line_of : (n : ℕ) (l : Line) → 0 < n → IsLineOf n l → HasAsked l → IsLine (happening l)
 line_of n (line.Cluster m mode) some of asked = absurd (let z : n ≡ 0 = of.0 in omega (arith, some))
@@ -23,10 +24,10 @@ line_of n (line.Tick replica) some of asked = tt
 line_of n (line.Stop replica) some of asked = tt
 line_of n (line.Start replica) some of asked = tt
 line_of n (line.Fuse replica call code) some of asked = tt
-line_of n (line.Damage replica sector) some of asked = of.1
-line_of n (line.Stale replica sector) some of asked = of.1
-line_of n (line.Unread replica sector) some of asked = of.1
-line_of n (line.Misdirect replica sector other) some of asked = (of.1, of.2, of.3)
+line_of n (line.Damage replica sector) some of asked = on_disk sector of.1
+line_of n (line.Stale replica sector) some of asked = on_disk sector of.1
+line_of n (line.Unread replica sector) some of asked = on_disk sector of.1
+line_of n (line.Misdirect replica sector other) some of asked = (on_disk sector of.1, on_disk other of.2, of.3)
 
 lines_of : (n : ℕ) (ls : List Line) → 0 < n → AreLinesOf n ls → HaveAsked ls → AllByRecursion IsLine (happenings ls)
 unfolding AreLinesOf happenings

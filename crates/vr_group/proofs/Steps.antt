@@ -12,14 +12,13 @@ use Rattle.vr_msg.specs.declared.output.Output.{Output}
 use Rattle.vr_msg.specs.declared.output.Output.TheVariants as output
 use Rattle.vr_msg.specs.declared.output.Sent.{Sent}
 use Rattle.vr_replica.specs.Making.{Made}
-use Rattle.vr_replica.specs.Recovering.{RecoveredAny}
+use Rattle.vr_replica.specs.Recovering.{RecoveredAny, opens}
 use Rattle.vr_replica.specs.Refusal.{Refusal}
 use Rattle.vr_replica.specs.Refusal.TheVariants.{Halted, Lost, OtherMember}
 use Rattle.vr_replica.specs.Does.{Does}
 use Rattle.vr_replica.specs.Halt.{Halt}
 use Rattle.vr_replica.specs.Halt.TheVariants.{DiskFault, NoMemory}
 use Rattle.vr_lie.specs.Copies.{SuperValue}
-use Rattle.vr_lie.specs.Opens.{opens}
 use Rattle.vr_lie.specs.CopyVerdict.{CopyVerdict}
 use Rattle.vr_lying.specs.Lying.{Lying, after_calls, hazards, lying}
 use Rattle.vr_replica.specs.Formatting.{format_calls}

@@ -8,7 +8,7 @@ use Rattle.vr_msg.specs.declared.frame.Frame.TheVariants as frame
 abbrev pub message_in : Event → Frame
 message_in (event.Deliver message) = message
 message_in (event.Request request) = frame.Request request
-message_in event.Tick = frame.GetView (record { cluster = 0; replica = 0; view = 0 })
+message_in event.Tick = frame.GetView (record { version = 1; cluster = 0; replica = 0; view = 0 })
 
 abbrev pub IsDelivery : Event → Type 0
 IsDelivery (event.Deliver message) = Unit {0}

@@ -15,6 +15,8 @@ use Rattle.vr_header.specs.Made.{Whole, entry_bytes}
 use Rattle.vr_header.specs.Spelling.{IsHeader, code_of, field_bytes, header_bytes, named_bytes}
 use Rattle.vr_header.specs.Text.{is_printable, is_text}
 use Rattle.vr_header.proofs.BodyLaws.{text_limit}
+use Rattle.vr_header.proofs.HeaderLaws.{length-header_bytes}
+use Rattle.vr_base.specs.Versions.{value_limit}
 use Rattle.vr_header.proofs.Truths.{both}
 
 code_small : (c : Command) → code_of c < 256
@@ -67,7 +69,7 @@ fields_are h f = (
                       (
                         one h.replica f.replica,
                         (
-                          one 1 (omega arith),
+                          one h.version (omega (arith, f.version)),
                           (
                             one h.kind f.kind,
                             (
@@ -114,22 +116,22 @@ unfolding is_text
 text-are limit text t = each_printable text ((both (nat_le 1 (length text) && nat_le (length text) limit) (list_all is_printable text) t).1)
 
 -- the spelling of an operation consists of bytes
-pub operation_bytes-are : (o : Operation) → IsOperation o → IsBytes (operation_bytes o)
+pub operation_bytes-are : (v : ℕ) (o : Operation) → IsOperation v o → IsBytes (operation_bytes o)
 unfolding operation_bytes
-operation_bytes-are Register g = one 1 (omega arith)
-operation_bytes-are (Put key value) g =
+operation_bytes-are v Register g = one 1 (omega arith)
+operation_bytes-are v (Put key value) g =
     let k = text_limit 64 key g.0 in
     IsBytes-append (2 ∷ length key ∷ bytes16 (length value)) (key ++ value)
     (IsBytes-one 2 (length key ∷ bytes16 (length value)) (omega arith) (IsBytes-one (length key) (bytes16 (length value)) (omega arith) (IsBytes-bytes16 (length value))))
-    (IsBytes-append key value (text-are 64 key g.0) (text-are 1024 value g.1))
-operation_bytes-are (Get key) g =
+    (IsBytes-append key value (text-are 64 key g.0) (text-are (value_limit v) value g.1))
+operation_bytes-are v (Get key) g =
     let k = text_limit 64 key g in
     IsBytes-one 3 (length key ∷ key) (omega arith) (IsBytes-one (length key) key (omega arith) (text-are 64 key g))
-operation_bytes-are (Delete key) g =
+operation_bytes-are v (Delete key) g =
     let k = text_limit 64 key g in
     IsBytes-one 4 (length key ∷ key) (omega arith) (IsBytes-one (length key) key (omega arith) (text-are 64 key g))
 
 -- the spelling of an entry consists of bytes
-pub entry_bytes-are : (e : Whole) → IsHeader e.header → IsOperation e.operation → IsBytes (entry_bytes e)
+pub entry_bytes-are : (e : Whole) → IsHeader e.header → IsOperation e.header.version e.operation → IsBytes (entry_bytes e)
 unfolding entry_bytes
-entry_bytes-are e f g = IsBytes-append (header_bytes e.header) (operation_bytes e.operation) (header_bytes-are e.header f) (operation_bytes-are e.operation g)
+entry_bytes-are e f g = IsBytes-append (header_bytes e.header) (operation_bytes e.operation) (header_bytes-are e.header f) (operation_bytes-are e.header.version e.operation g)

@@ -4,7 +4,7 @@ use Rattle.std.specs.Prelude.{◌&&◌, IsTrue, IfSome, nat_le, nat_lt}
 use Rattle.std.specs.Option.{option_map}
 use Rattle.std.specs.Int.{from_be_bytes, w16}
 use Rattle.std.specs.List.{list_all}
-use Rattle.std.proofs.lemmas.Bool.{le-ltb, eq-eqb, eqb-true, leb-true, ltb-false}
+use Rattle.std.proofs.lemmas.Bool.{le-ltb, le-leb, eq-eqb, eqb-true, leb-true, ltb-false}
 use Rattle.std.proofs.lemmas.List.{take_at, drop_at, take-append-drop}
 use Rattle.std.proofs.lemmas.Nat.{be_bytes_2, from_be_bytes-to_be_bytes_2}
 use Rattle.vr_base.specs.Bytes.{IsBytes, bytes16}
@@ -14,6 +14,8 @@ use Rattle.vr_header.specs.declared.outcome.Outcome.{Outcome}
 use Rattle.vr_header.specs.declared.outcome.Outcome.TheVariants as outcome
 use Rattle.vr_header.specs.Text.{is_printable, is_text, text_of}
 use Rattle.vr_header.specs.Bodies.{IsOperation, IsOutcome, key_of, operation_bytes, operation_of, outcome_bytes, outcome_of, pair_of, value_of}
+use Rattle.vr_base.specs.Versions.{value_limit}
+use Rattle.vr_base.proofs.Versions.{between}
 use Rattle.vr_header.proofs.Truths.{both}
 
 -- a text is no longer than its limit
@@ -24,40 +26,66 @@ text_limit limit text h =
     let lengths = both (nat_le 1 (length text)) (nat_le (length text) limit) all.0 in
     leb-true (length text) limit lengths.1
 
+-- nor than a greater one
+pub text_more : (a b : ℕ) (text : List ℕ) → a ≤ b → IsTrue (is_text a text) → IsTrue (is_text b text)
+unfolding is_text
+text_more a b text l h =
+    let all = both (nat_le 1 (length text) && nat_le (length text) a) (list_all is_printable text) h in
+    let lengths = both (nat_le 1 (length text)) (nat_le (length text) a) all.0 in
+    let m = leb-true (length text) a lengths.1 in
+    rw (lengths.0, le-leb (length text) b (omega arith), all.1) refl
+
+-- what a version has, version 2 has
+pub any_operation : (v : ℕ) (o : Operation) → IsOperation v o → IsOperation 2 o
+any_operation v Register h = tt
+any_operation v (Put key value) h = (h.0, text_more (value_limit v) 3000 value ((between v 1024 3000 (omega arith)).1) h.1)
+any_operation v (Get key) h = h
+any_operation v (Delete key) h = h
+
+pub any_outcome : (v : ℕ) (o : Outcome) → IsOutcome v o → IsOutcome 2 o
+any_outcome v outcome.Session h = tt
+any_outcome v outcome.Ok h = tt
+any_outcome v outcome.Full h = tt
+any_outcome v outcome.Absent h = tt
+any_outcome v (outcome.Value value) h = text_more (value_limit v) 3000 value ((between v 1024 3000 (omega arith)).1) h
+
 key_again : (key : List ℕ) → IsTrue (is_text 64 key) → key_of (length key ∷ key) ≡ Some key
 unfolding key_of
 key_again key h = rw (eq-eqb (length key) (length key) refl, h) refl
 
-value_again : (value : List ℕ) → IsTrue (is_text 1024 value) → value_of (bytes16 (length value) ++ value) ≡ Some value
+value_again : (limit : ℕ) (value : List ℕ) → limit < 2 ^ 16 → IsTrue (is_text limit value) → value_of limit (bytes16 (length value) ++ value) ≡ Some value
 unfolding value_of bytes16
-value_again value h =
+value_again limit value few h =
     let n = length value in
-    let small : n < 2 ^ 16 = (let l = text_limit 1024 value h in omega arith) in
+    let small : n < 2 ^ 16 = (let l = text_limit limit value h in omega (arith, few)) in
     rw (from_be_bytes-to_be_bytes_2 n small, eq-eqb n n refl, h) refl
 
-pair_again : (key value : List ℕ) → IsTrue (is_text 64 key) → IsTrue (is_text 1024 value) → pair_of ((length key ∷ bytes16 (length value)) ++ (key ++ value)) ≡ Some (Put key value)
+pair_again : (limit : ℕ) (key value : List ℕ) → limit < 2 ^ 16 → IsTrue (is_text 64 key) → IsTrue (is_text limit value) → pair_of limit ((length key ∷ bytes16 (length value)) ++ (key ++ value)) ≡ Some (Put key value)
 unfolding pair_of bytes16
-pair_again key value hk hv =
+pair_again limit key value few hk hv =
     let n = length value in
-    let small : n < 2 ^ 16 = (let l = text_limit 1024 value hv in omega arith) in
+    let small : n < 2 ^ 16 = (let l = text_limit limit value hv in omega (arith, few)) in
     let long : length key ≤ length (key ++ value) = omega (arith, length-append key value) in
     rw (le-ltb (length (key ++ value)) (length key) long, take_at key value (length key) refl, drop_at key value (length key) refl, from_be_bytes-to_be_bytes_2 n small, eq-eqb n n refl, hk, hv) refl
 
--- what is spelled so is read
-pub operation_again : (o : Operation) → IsOperation o → operation_of (operation_bytes o) ≡ Some o
-unfolding operation_of operation_bytes
-operation_again Register h = refl
-operation_again (Put key value) h = pair_again key value h.0 h.1
-operation_again (Get key) h = rw (key_again key h) refl
-operation_again (Delete key) h = rw (key_again key h) refl
+few : (v : ℕ) → value_limit v < 2 ^ 16
+few v = let l = between v 1024 3000 (omega arith) in omega (arith, l)
 
-pub outcome_again : (o : Outcome) → IsOutcome o → outcome_of (outcome_bytes o) ≡ Some o
+-- what is spelled so is read
+pub operation_again : (v : ℕ) (o : Operation) → IsOperation v o → operation_of v (operation_bytes o) ≡ Some o
+unfolding operation_of operation_bytes
+operation_again v Register h = refl
+operation_again v (Put key value) h = pair_again (value_limit v) key value (few v) h.0 h.1
+operation_again v (Get key) h = rw (key_again key h) refl
+operation_again v (Delete key) h = rw (key_again key h) refl
+
+pub outcome_again : (v : ℕ) (o : Outcome) → IsOutcome v o → outcome_of v (outcome_bytes o) ≡ Some o
 unfolding outcome_of outcome_bytes
-outcome_again outcome.Session h = refl
-outcome_again outcome.Ok h = refl
-outcome_again outcome.Full h = refl
-outcome_again outcome.Absent h = refl
-outcome_again (outcome.Value value) h = rw (value_again value h) refl
+outcome_again v outcome.Session h = refl
+outcome_again v outcome.Ok h = refl
+outcome_again v outcome.Full h = refl
+outcome_again v outcome.Absent h = refl
+outcome_again v (outcome.Value value) h = rw (value_again (value_limit v) value (few v) h) refl
 
 -- ---- what is read is spelled so
 
@@ -91,13 +119,13 @@ two high low n h l e = be_bytes_2 (high ∷ low ∷ []) n refl (at high low h l)
     at high low h l (suc zero) = l
     at high low h l (suc (suc i)) = omega arith
 
-value_found : (b : List ℕ) → IsBytes b → IfSome (value_of b) (λ value. (b ≡ bytes16 (length value) ++ value) × IsTrue (is_text 1024 value))
+value_found : (limit : ℕ) (b : List ℕ) → IsBytes b → IfSome (value_of limit b) (λ value. (b ≡ bytes16 (length value) ++ value) × IsTrue (is_text limit value))
 unfolding value_of
-value_found [] f = tt
-value_found (high ∷ []) f = tt
-value_found (high ∷ low ∷ value) f =
-    let P : List ℕ → Type 0 = λ v. (high ∷ low ∷ value ≡ bytes16 (length v) ++ v) × IsTrue (is_text 1024 v) in
-    through P (eqb (length value) (from_be_bytes w16 (high ∷ low ∷ []))) (text_of 1024 value) (λ e. through P (is_text 1024 value) (Some value) (λ t.
+value_found limit [] f = tt
+value_found limit (high ∷ []) f = tt
+value_found limit (high ∷ low ∷ value) f =
+    let P : List ℕ → Type 0 = λ v. (high ∷ low ∷ value ≡ bytes16 (length v) ++ v) × IsTrue (is_text limit v) in
+    through P (eqb (length value) (from_be_bytes w16 (high ∷ low ∷ []))) (text_of limit value) (λ e. through P (is_text limit value) (Some value) (λ t.
     (ap (λ x. x ++ value) (sym (two high low (length value) (f 0) (f 1) (eqb-true (length value) (from_be_bytes w16 (high ∷ low ∷ [])) e))), t)))
 
 -- the other way of a test
@@ -105,20 +133,20 @@ unless : {A : Type 0} (P : A → Type 0) (t : Bool) (o : Option A) → (t ≡ fa
 unless P true o f = tt
 unless P false o f = f refl
 
-pair_found : (b : List ℕ) → IsBytes b → IfSome (pair_of b) (λ o. (2 ∷ b ≡ operation_bytes o) × IsOperation o)
+pair_found : (v : ℕ) (b : List ℕ) → IsBytes b → IfSome (pair_of (value_limit v) b) (λ o. (2 ∷ b ≡ operation_bytes o) × IsOperation v o)
 unfolding pair_of operation_bytes
-pair_found [] f = tt
-pair_found (n ∷ []) f = tt
-pair_found (n ∷ high ∷ []) f = tt
-pair_found (n ∷ high ∷ low ∷ texts) f =
-    let P : Operation → Type 0 = λ o. (2 ∷ n ∷ high ∷ low ∷ texts ≡ operation_bytes o) × IsOperation o in
+pair_found v [] f = tt
+pair_found v (n ∷ []) f = tt
+pair_found v (n ∷ high ∷ []) f = tt
+pair_found v (n ∷ high ∷ low ∷ texts) f =
+    let P : Operation → Type 0 = λ o. (2 ∷ n ∷ high ∷ low ∷ texts ≡ operation_bytes o) × IsOperation v o in
     let key = take n texts in
     let value = drop n texts in
     let size = eqb (length value) (from_be_bytes w16 (high ∷ low ∷ [])) in
     unless P (nat_lt (length texts) n) _ (λ long.
-    through P (size && (is_text 64 key && is_text 1024 value)) (Some (Put key value)) (λ t.
-    let a = both size (is_text 64 key && is_text 1024 value) t in
-    let c = both (is_text 64 key) (is_text 1024 value) a.1 in
+    through P (size && (is_text 64 key && is_text (value_limit v) value)) (Some (Put key value)) (λ t.
+    let a = both size (is_text 64 key && is_text (value_limit v) value) t in
+    let c = both (is_text 64 key) (is_text (value_limit v) value) a.1 in
     let len : length key ≡ n = (let l = length-take n texts in let m = ltb-false (length texts) n long in omega arith) in
     let lengths = two high low (length value) (f 1) (f 2) (eqb-true (length value) (from_be_bytes w16 (high ∷ low ∷ [])) a.0) in
     (rw (len, lengths, take-append-drop) refl, (c.0, c.1))))
@@ -131,34 +159,34 @@ alone : (kind code : ℕ) (rest : List ℕ) → eqb kind code ≡ true → eqb (
 alone kind code [] e z = ap (λ n. n ∷ []) (eqb-true kind code e)
 alone kind code (x ∷ rest) e z = let n = eqb-true (length (x ∷ rest)) 0 z in absurd (omega arith)
 
-keyed : (kind code : ℕ) (make : List ℕ → Operation) (rest : List ℕ) → kind ≡ code → ((key : List ℕ) → operation_bytes (make key) ≡ code ∷ length key ∷ key)
-    → ((key : List ℕ) → IsTrue (is_text 64 key) → IsOperation (make key)) → IfSome (key_of rest) (λ key. (kind ∷ rest ≡ operation_bytes (make key)) × IsOperation (make key))
-keyed kind code make rest k spelled sound =
+keyed : (v kind code : ℕ) (make : List ℕ → Operation) (rest : List ℕ) → kind ≡ code → ((key : List ℕ) → operation_bytes (make key) ≡ code ∷ length key ∷ key)
+    → ((key : List ℕ) → IsTrue (is_text 64 key) → IsOperation v (make key)) → IfSome (key_of rest) (λ key. (kind ∷ rest ≡ operation_bytes (make key)) × IsOperation v (make key))
+keyed v kind code make rest k spelled sound =
     let P : List ℕ → Type 0 = λ key. (rest ≡ length key ∷ key) × IsTrue (is_text 64 key) in
-    let Q : List ℕ → Type 0 = λ key. (kind ∷ rest ≡ operation_bytes (make key)) × IsOperation (make key) in
+    let Q : List ℕ → Type 0 = λ key. (kind ∷ rest ≡ operation_bytes (make key)) × IsOperation v (make key) in
     weaker P Q (key_of rest) (λ key h. (ap (λ n. n ∷ rest) k ∙ (ap (λ r. code ∷ r) h.0 ∙ sym (spelled key)), sound key h.1)) (key_found rest)
 
 -- what is read is spelled so
-pub operation_found : (b : List ℕ) → IsBytes b → IfSome (operation_of b) (λ o. (b ≡ operation_bytes o) × IsOperation o)
+pub operation_found : (v : ℕ) (b : List ℕ) → IsBytes b → IfSome (operation_of v b) (λ o. (b ≡ operation_bytes o) × IsOperation v o)
 unfolding operation_of operation_bytes
-operation_found [] f = tt
-operation_found (kind ∷ rest) f =
-    let P : Operation → Type 0 = λ o. (kind ∷ rest ≡ operation_bytes o) × IsOperation o in
+operation_found v [] f = tt
+operation_found v (kind ∷ rest) f =
+    let P : Operation → Type 0 = λ o. (kind ∷ rest ≡ operation_bytes o) × IsOperation v o in
     let bytes : IsBytes rest = λ i. f (suc i) in
     either P (eqb kind 1) _ _ (λ e. through P (eqb (length rest) 0) (Some Register) (λ z. (alone kind 1 rest e z, tt)))
-    (either P (eqb kind 2) _ _ (λ e. let k = eqb-true kind 2 e in rw k (pair_found rest bytes))
-    (either P (eqb kind 3) _ _ (λ e. mapped P Get (key_of rest) (keyed kind 3 Get rest (eqb-true kind 3 e) (λ key. refl) (λ key h. h)))
-    (through P (eqb kind 4) _ (λ e. mapped P Delete (key_of rest) (keyed kind 4 Delete rest (eqb-true kind 4 e) (λ key. refl) (λ key h. h))))))
+    (either P (eqb kind 2) _ _ (λ e. let k = eqb-true kind 2 e in rw k (pair_found v rest bytes))
+    (either P (eqb kind 3) _ _ (λ e. mapped P Get (key_of rest) (keyed v kind 3 Get rest (eqb-true kind 3 e) (λ key. refl) (λ key h. h)))
+    (through P (eqb kind 4) _ (λ e. mapped P Delete (key_of rest) (keyed v kind 4 Delete rest (eqb-true kind 4 e) (λ key. refl) (λ key h. h))))))
 
-pub outcome_found : (b : List ℕ) → IsBytes b → IfSome (outcome_of b) (λ o. (b ≡ outcome_bytes o) × IsOutcome o)
+pub outcome_found : (v : ℕ) (b : List ℕ) → IsBytes b → IfSome (outcome_of v b) (λ o. (b ≡ outcome_bytes o) × IsOutcome v o)
 unfolding outcome_of outcome_bytes
-outcome_found [] f = tt
-outcome_found (kind ∷ rest) f =
-    let P : Outcome → Type 0 = λ o. (kind ∷ rest ≡ outcome_bytes o) × IsOutcome o in
-    let V : List ℕ → Type 0 = λ v. (rest ≡ bytes16 (length v) ++ v) × IsTrue (is_text 1024 v) in
+outcome_found v [] f = tt
+outcome_found v (kind ∷ rest) f =
+    let P : Outcome → Type 0 = λ o. (kind ∷ rest ≡ outcome_bytes o) × IsOutcome v o in
+    let V : List ℕ → Type 0 = λ x. (rest ≡ bytes16 (length x) ++ x) × IsTrue (is_text (value_limit v) x) in
     let bytes : IsBytes rest = λ i. f (suc i) in
-    either P (eqb kind 5) _ _ (λ e. mapped P outcome.Value (value_of rest)
-    (weaker V (λ v. P (outcome.Value v)) (value_of rest) (λ v h. (ap (λ n. n ∷ rest) (eqb-true kind 5 e) ∙ ap (λ r. 5 ∷ r) h.0, h.1)) (value_found rest bytes)))
+    either P (eqb kind 5) _ _ (λ e. mapped P outcome.Value (value_of (value_limit v) rest)
+    (weaker V (λ x. P (outcome.Value x)) (value_of (value_limit v) rest) (λ x h. (ap (λ n. n ∷ rest) (eqb-true kind 5 e) ∙ ap (λ r. 5 ∷ r) h.0, h.1)) (value_found (value_limit v) rest bytes)))
     (through P (eqb (length rest) 0) _ (λ z.
     either P (eqb kind 1) (Some outcome.Session) _ (λ e. (alone kind 1 rest e z, tt))
     (either P (eqb kind 2) (Some outcome.Ok) _ (λ e. (alone kind 2 rest e z, tt))

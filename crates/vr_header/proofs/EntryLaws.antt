@@ -1,5 +1,5 @@
 -- An entry that is read is spelled so, and what is spelled so is read.
-use Rattle.std.proofs.Common.{◌≡◌, ℕ, ◌-◌, ◌^◌, Bool, true, false, cond, eqb, not, List, ◌++◌, length, take, drop, refl, sym, ap, subst, ◌∙◌, arith, Option, Some, None, Ok, Err, append_assoc, length-append, length-drop}
+use Rattle.std.proofs.Common.{◌≡◌, ℕ, ◌-◌, ◌^◌, Bool, true, false, cond, eqb, not, List, ◌++◌, length, take, drop, ◌+◌, refl, sym, ap, subst, ◌∙◌, arith, Option, Some, None, Ok, Err, append_assoc, length-append, length-drop}
 use Rattle.std.specs.Option.{option_map}
 use Rattle.std.specs.Prelude.{◌↔◌, ◌≤◌, IfSome, IfOk, Result, is_ok, is_some, nat_le, nat_lt, nat_eq}
 use Rattle.std.specs.Cmp.Lexicographic.{pointwise}
@@ -24,11 +24,12 @@ use Rattle.vr_header.proofs.HeaderLaws.{decoded_again, decoded_found, length-hea
 use Rattle.vr_header.specs.declared.view.OperationView.{OperationView}
 use Rattle.vr_header.specs.Views.{operation_seen}
 use Rattle.vr_header.proofs.Faults.{no_fault_of_ok}
+use Rattle.vr_base.specs.Versions.{body_limit}
 use Rattle.vr_header.proofs.Truths.{both}
 
 -- what an entry that is read is
 abbrev pub IsSpelled : List ℕ → Whole → Type 0
-IsSpelled b e = (b ≡ entry_bytes e) × IsEntry e × IsHeader e.header × IsOperation e.operation
+IsSpelled b e = (b ≡ entry_bytes e) × IsEntry e × IsHeader e.header × IsOperation e.header.version e.operation
 
 entry_code : (c : Command) → eqb (code_of c) 3 ≡ true → c ≡ Entry
 entry_code Entry e = refl
@@ -36,7 +37,7 @@ entry_code _ e = absurd cc
 
 pub is_entry_header_of : (h : Header) → IsEntryHeader h → is_entry_header h ≡ true
 is_entry_header_of h i =
-    rw (i.command, lt-ltb 128 h.size i.size.0, le-leb h.size 2048 i.size.1, lt-ltb h.view (2 ^ 32 - 1) i.view, le-leb 1 h.op i.op.0, le-leb h.op (2 ^ 62) i.op.1, i.commit, i.replica, i.kind, i.aux) refl
+    rw (i.command, lt-ltb 128 h.size i.size.0, le-leb h.size (128 + body_limit h.version) i.size.1, lt-ltb h.view (2 ^ 32 - 1) i.view, le-leb 1 h.op i.op.0, le-leb h.op (2 ^ 62) i.op.1, i.commit, i.replica, i.kind, i.aux) refl
 
 pub entry_header_of : (h : Header) → is_entry_header h ≡ true → IsEntryHeader h
 entry_header_of h e =
@@ -44,14 +45,14 @@ entry_header_of h e =
     let s5 = both _ (nat_le h.op (2 ^ 62)) s6.0 in
     let s4 = both _ (nat_le 1 h.op) s5.0 in
     let s3 = both _ (nat_lt h.view (2 ^ 32 - 1)) s4.0 in
-    let s2 = both _ (nat_le h.size 2048) s3.0 in
+    let s2 = both _ (nat_le h.size (128 + body_limit h.version)) s3.0 in
     let s1 = both (eqb (code_of h.command) 3) (nat_lt 128 h.size) s2.0 in
     let b3 = both _ (eqb h.aux 0) s6.1 in
     let b2 = both _ (eqb h.kind 0) b3.0 in
     let b1 = both (eqb h.commit 0) (eqb h.replica 0) b2.0 in
     record {
       command = entry_code h.command s1.0;
-      size = (ltb-true 128 h.size s1.1, leb-true h.size 2048 s2.1);
+      size = (ltb-true 128 h.size s1.1, leb-true h.size (128 + body_limit h.version) s2.1);
       view = ltb-true h.view (2 ^ 32 - 1) s3.1;
       op = (leb-true 1 h.op s4.1, leb-true h.op (2 ^ 62) s5.1);
       commit = eqb-true h.commit 0 b1.0;
@@ -84,9 +85,9 @@ first_of_test h (Get key) e = (λ r. absurd cc, λ z. absurd (never (eqb h.reque
 first_of_test h (Delete key) e = (λ r. absurd cc, λ z. absurd (never (eqb h.request 0) e (eq-eqb h.request 0 z)))
 
 -- what is spelled so is read
-pub entry_again : (e : Whole) → IsEntry e → IsHeader e.header → IsOperation e.operation → entry_of (entry_bytes e) ≡ Some e
+pub entry_again : (e : Whole) → IsEntry e → IsHeader e.header → entry_of (entry_bytes e) ≡ Some e
 unfolding entry_of entry_bytes
-entry_again e i f g =
+entry_again e i f =
     let h = e.header in
     let o = e.operation in
     let b = header_bytes h ++ operation_bytes o in
@@ -95,9 +96,9 @@ entry_again e i f g =
     let back : drop 128 b ≡ operation_bytes o = drop_at (header_bytes h) (operation_bytes o) 128 l in
     let size : h.size ≡ length b = omega (arith, i.body.size, l, length-append (header_bytes h) (operation_bytes o)) in
     let name : pointwise nat_eq h.body.0 (name_of (operation_bytes o)) ≡ true = (bytes_eq-Decides h.body.0 (name_of (operation_bytes o))).1 i.body.name in
-    rw (decoded_again h b f front, is_entry_header_of h i.header, eq-eqb h.size (length b) size, back, name, operation_again o g, first_true h o i.body.first) refl
+    rw (decoded_again h b f front, is_entry_header_of h i.header, eq-eqb h.size (length b) size, back, name, operation_again h.version o i.body.fits, first_true h o i.body.first) refl
 
-with_body_found : (b : List ℕ) (h : Header) (read : Option Operation) → IfSome read (λ o. (drop 128 b ≡ operation_bytes o) × IsOperation o)
+with_body_found : (b : List ℕ) (h : Header) (read : Option Operation) → IfSome read (λ o. (drop 128 b ≡ operation_bytes o) × IsOperation h.version o)
     → Spells h b → IsHeader h → is_whole h b ≡ true → IfSome (with_body h read) (IsSpelled b)
 unfolding entry_bytes
 with_body_found b h None r s f w = tt
@@ -113,6 +114,7 @@ with_body_found b h (Some o) r s f w =
       name = name ∙ ap name_of r.0;
       size = (let e = ap length r.0 in let d = length-drop 128 b in let m = header.size.0 in omega arith);
       first = first_of_test h o t;
+      fits = r.1;
     } in
     (all, record { header = header; body = body }, f, r.1))
 
@@ -121,7 +123,7 @@ pub entry_found : (b : List ℕ) → IsBytes b → IfSome (entry_of b) (IsSpelle
 unfolding entry_of
 entry_found b f =
     elim (decoded b) as (λ r. IfOk r (λ h. Spells h b × IsHeader h) → IfSome (with_header b r) (IsSpelled b)) [
-      | Ok h ↦ λ s. through (IsSpelled b) (is_whole h b) _ (λ w. with_body_found b h (operation_of (drop 128 b)) (operation_found (drop 128 b) (IsBytes-drop 128 b f)) s.0 s.1 w)
+      | Ok h ↦ λ s. through (IsSpelled b) (is_whole h b) _ (λ w. with_body_found b h (operation_of h.version (drop 128 b)) (operation_found h.version (drop 128 b) (IsBytes-drop 128 b f)) s.0 s.1 w)
       | Err x ↦ λ s. tt
     ] (decoded_found b f)
 
@@ -137,14 +139,14 @@ body_stands h (Some o) e p =
     cases (first_test h o) p
 
 abbrev pub Stands : List ℕ → Whole → Result Header HeaderFault → Type 0
-Stands b e r = (r ≡ Ok e.header) × (operation_of (drop 128 b) ≡ Some e.operation)
+Stands b e r = (r ≡ Ok e.header) × (operation_of e.header.version (drop 128 b) ≡ Some e.operation)
 
 header_stands : (b : List ℕ) (e : Whole) (r : Result Header HeaderFault) → with_header b r ≡ Some e → Stands b e r
 header_stands b e (Err f) p = absurd cc
 header_stands b e (Ok h) p =
-    let cases : (t : Bool) → cond t (with_body h (operation_of (drop 128 b))) None ≡ Some e → Stands b e (Ok h) =
+    let cases : (t : Bool) → cond t (with_body h (operation_of h.version (drop 128 b))) None ≡ Some e → Stands b e (Ok h) =
     elim [
-      | true ↦ λ q. (let found = body_stands h (operation_of (drop 128 b)) e q in (ap (λ (x : Header). Ok x) found.0, found.1))
+      | true ↦ λ q. (let found = body_stands h (operation_of h.version (drop 128 b)) e q in (ap (λ (x : Header). Ok x) found.0, ap (λ (x : Header). operation_of x.version (drop 128 b)) (sym found.0) ∙ found.1))
       | false ↦ λ q. absurd cc
     ] in
     cases (is_whole h b) p
@@ -169,17 +171,21 @@ entry_ok b p = let some = some_entry b p in rw ((entry_stands b some.0 some.1).0
 pub entry_long : (b : List ℕ) → is_some (entry_of b) ≡ true → 128 ≤ length b
 entry_long b p = (no_fault_of_ok b (entry_ok b p)).0
 
-pub entry_operation : (b : List ℕ) → is_some (entry_of b) ≡ true → is_some (operation_of (drop 128 b)) ≡ true
-entry_operation b p = let some = some_entry b p in rw ((entry_stands b some.0 some.1).1) refl
+pub entry_operation : (b : List ℕ) (h : Header) → is_some (entry_of b) ≡ true → decoded b ≡ Ok h → is_some (operation_of h.version (drop 128 b)) ≡ true
+entry_operation b h p d =
+    let some = some_entry b p in
+    let stands = entry_stands b some.0 some.1 in
+    let same : h ≡ some.0.header = (let r = sym d ∙ stands.0 in cc) in
+    rw (same, stands.1) refl
 
-pub entry_made : (b : List ℕ) (h : Header) (o : Operation) → is_some (entry_of b) ≡ true → decoded b ≡ Ok h → operation_of (drop 128 b) ≡ Some o
+pub entry_made : (b : List ℕ) (h : Header) (o : Operation) → is_some (entry_of b) ≡ true → decoded b ≡ Ok h → operation_of h.version (drop 128 b) ≡ Some o
     → entry_of b ≡ Some (record { header = h; operation = o })
 entry_made b h o p d q =
     let some = some_entry b p in
     let e = some.0 in
     let stands = entry_stands b e some.1 in
     let header : h ≡ e.header = (let r = sym d ∙ stands.0 in cc) in
-    let operation : o ≡ e.operation = (let r = sym q ∙ stands.1 in cc) in
+    let operation : o ≡ e.operation = (let r = sym q ∙ (ap (λ (x : Header). operation_of x.version (drop 128 b)) header ∙ stands.1) in cc) in
     rw (header, operation) some.1
 
 pub some_seen : (v : Option OperationView) → is_some (option_map operation_seen v) ≡ true → is_some v ≡ true

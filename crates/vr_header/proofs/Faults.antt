@@ -5,6 +5,7 @@ use Rattle.std.specs.Int.{w32, w64}
 use Rattle.std.proofs.lemmas.Bool.{ltb-false, eqb-true}
 use Rattle.vr_header.specs.declared.header.HeaderFault.{HeaderFault}
 use Rattle.vr_base.specs.Bytes.{number}
+use Rattle.vr_base.proofs.Versions.{version_of}
 use Rattle.vr_header.proofs.Truths.{not_false, size_of}
 use Rattle.vr_header.specs.Spelling.{command_of, decoded, fault_of, decoded_header, is_named}
 
@@ -13,7 +14,7 @@ pub record IsSound (b : List ℕ) : Type 0 where
   pub long : 128 ≤ length b
   pub named : is_named b ≡ true
   pub command : is_none (command_of (slice_index b 108)) ≡ false
-  pub version : slice_index b 110 ≡ 1
+  pub version : (1 ≤ slice_index b 110) × (slice_index b 110 ≤ 2)
   pub size : (128 ≤ number w32 104 b) × (number w32 104 b ≤ 20480)
   pub zeros : number w64 120 b ≡ 0
 
@@ -34,14 +35,14 @@ sound b e =
       long = ltb-false _ _ long.0;
       named = not_false _ named.0;
       command = command.0;
-      version = eqb-true _ _ (not_false _ version.0);
+      version = version_of _ (not_false _ version.0);
       size = size_of _ (not_false _ size.0);
       zeros = eqb-true _ _ (not_false _ zeros.0);
     }
 
 -- what reading the fields at their places needs
-pub no_fault : (b : List ℕ) → fault_of b ≡ None → (128 ≤ length b) × (128 ≤ number w32 104 b) × (number w32 104 b ≤ 20480)
-no_fault b e = let s = sound b e in (s.long, s.size.0, s.size.1)
+pub no_fault : (b : List ℕ) → fault_of b ≡ None → (128 ≤ length b) × (128 ≤ number w32 104 b) × (number w32 104 b ≤ 20480) × (1 ≤ slice_index b 110) × (slice_index b 110 ≤ 2)
+no_fault b e = let s = sound b e in (s.long, s.size.0, s.size.1, s.version.0, s.version.1)
 
 pub none_of_ok : (b : List ℕ) → is_ok (decoded b) ≡ true → fault_of b ≡ None
 none_of_ok b e =
@@ -52,7 +53,7 @@ none_of_ok b e =
     ] in
     cases (fault_of b) refl
 
-pub no_fault_of_ok : (b : List ℕ) → is_ok (decoded b) ≡ true → (128 ≤ length b) × (128 ≤ number w32 104 b) × (number w32 104 b ≤ 20480)
+pub no_fault_of_ok : (b : List ℕ) → is_ok (decoded b) ≡ true → (128 ≤ length b) × (128 ≤ number w32 104 b) × (number w32 104 b ≤ 20480) × (1 ≤ slice_index b 110) × (slice_index b 110 ≤ 2)
 no_fault_of_ok b e = no_fault b (none_of_ok b e)
 
 pub read_at : (b : List ℕ) → is_ok (decoded b) ≡ true → decoded b ≡ Ok (decoded_header b)

@@ -15,6 +15,7 @@ use Rattle.vr_header.specs.declared.header.Header.{Header}
 use Rattle.vr_header.specs.Spelling.{IsHeader, Spells, code_of, command_of, decoded, fault_of, field_bytes, decoded_header, header_bytes, is_named, named_bytes}
 use Rattle.vr_header.proofs.Faults.{IsSound, sound}
 use Rattle.vr_header.proofs.Truths.{is_size_of}
+use Rattle.vr_base.proofs.Versions.{is_version_of}
 
 abbrev layout : List ℕ
 layout = 16 ∷ 16 ∷ 16 ∷ 16 ∷ 8 ∷ 8 ∷ 4 ∷ 4 ∷ 8 ∷ 8 ∷ 4 ∷ 1 ∷ 1 ∷ 1 ∷ 1 ∷ 8 ∷ 8 ∷ []
@@ -73,7 +74,7 @@ record Standing (h : Header) (b : List ℕ) : Type 0 where
   size : number w32 104 b ≡ h.size
   command : get_or b 108 0 ≡ code_of h.command
   replica : get_or b 109 0 ≡ h.replica
-  version : get_or b 110 0 ≡ 1
+  version : get_or b 110 0 ≡ h.version
   kind : get_or b 111 0 ≡ h.kind
   aux : number w64 112 b ≡ h.aux
   zeros : number w64 120 b ≡ 0
@@ -100,7 +101,7 @@ standing h b f s =
       size = number32_of 104 h.size b (at 10 (omega arith)) (omega (arith, f.size));
       command = byte_of 108 (code_of h.command) b (at 11 (omega arith));
       replica = byte_of 109 h.replica b (at 12 (omega arith));
-      version = byte_of 110 1 b (at 13 (omega arith));
+      version = byte_of 110 h.version b (at 13 (omega arith));
       kind = byte_of 111 h.kind b (at 14 (omega arith));
       aux = number64_of 112 h.aux b (at 15 (omega arith)) f.aux;
       zeros = number64_of 120 0 b (at 16 (omega arith) ∙ sym bytes64-zero) (omega arith);
@@ -123,14 +124,14 @@ unfolding fault_of is_named
 fault_of-spelled h b f s =
     let t = standing h b f s in
     let command : command_of (get_or b 108 0) ≡ Some h.command = ap command_of t.command ∙ command_again h.command in
-    rw (le-ltb (length b) 128 (long h b f s), t.name, named h b f s, (bytes_eq-Decides (name_of (named_bytes h)) (name_of (named_bytes h))).1 refl, command, t.version, t.size, is_size_of h.size f.size, t.zeros) refl
+    rw (le-ltb (length b) 128 (long h b f s), t.name, named h b f s, (bytes_eq-Decides (name_of (named_bytes h)) (name_of (named_bytes h))).1 refl, command, t.version, is_version_of h.version f.version, t.size, is_size_of h.size f.size, t.zeros) refl
 
 decoded_header-spelled : (h : Header) (b : List ℕ) → IsHeader h → Spells h b → decoded_header b ≡ h
 unfolding decoded_header
 decoded_header-spelled h b f s =
     let t = standing h b f s in
     let command : command_of (get_or b 108 0) ≡ Some h.command = ap command_of t.command ∙ command_again h.command in
-    rw (t.body, t.parent, t.request_name, t.cluster, t.client, t.request, t.view, t.op, t.commit, t.size, command, t.replica, t.kind, t.aux) refl
+    rw (t.body, t.parent, t.request_name, t.cluster, t.client, t.request, t.view, t.op, t.commit, t.size, command, t.replica, t.version, t.kind, t.aux) refl
 
 -- what is spelled so is read
 pub decoded_again : (h : Header) (b : List ℕ) → IsHeader h → Spells h b → decoded b ≡ Ok h
@@ -169,9 +170,8 @@ field_bytes-decoded_header b f s =
     let one : (k : ℕ) → k < 128 → get_or b k 0 ∷ [] ≡ piece k 1 b = λ k d. byte_back k b (omega (arith, s.long)) in
     let code : get_or b 108 0 ≡ code_of (unwrap_or (command_of (get_or b 108 0)) Reserved) = code_back (get_or b 108 0) _ s.command refl in
     let command : code_of (unwrap_or (command_of (get_or b 108 0)) Reserved) ∷ [] ≡ piece 108 1 b = ap (λ x. x ∷ []) (sym code) ∙ one 108 (omega arith) in
-    let version : 1 ∷ [] ≡ piece 110 1 b = ap (λ x. x ∷ []) (sym s.version) ∙ one 110 (omega arith) in
     let zeros : replicate 8 0 ≡ piece 120 8 b = sym bytes64-zero ∙ (ap bytes64 (sym s.zeros) ∙ n64 120 (omega arith)) in
-    rw (n64 64 (omega arith), n64 72 (omega arith), n32 80 (omega arith), n32 84 (omega arith), n64 88 (omega arith), n64 96 (omega arith), n32 104 (omega arith), n64 112 (omega arith), command, one 109 (omega arith), version, one 111 (omega arith), zeros) refl
+    rw (n64 64 (omega arith), n64 72 (omega arith), n32 80 (omega arith), n32 84 (omega arith), n64 88 (omega arith), n64 96 (omega arith), n32 104 (omega arith), n64 112 (omega arith), command, one 109 (omega arith), one 110 (omega arith), one 111 (omega arith), zeros) refl
 
 header_bytes-decoded_header : (b : List ℕ) → IsBytes b → IsSound b → Spells (decoded_header b) b
 unfolding header_bytes named_bytes is_named piece
@@ -198,6 +198,7 @@ fits b f s = record {
   commit = (number64_back 96 b f (omega (arith, s.long))).1;
   size = s.size;
   replica = f 109;
+  version = s.version;
   kind = f 111;
   aux = (number64_back 112 b f (omega (arith, s.long))).1;
 }

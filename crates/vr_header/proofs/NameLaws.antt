@@ -6,6 +6,7 @@ use Rattle.vr_base.specs.Bytes.{name_of}
 use Rattle.vr_header.specs.declared.header.Header.{Header}
 use Rattle.vr_header.specs.declared.operation.Operation.{Operation}
 use Rattle.vr_header.specs.declared.operation.Operation.TheVariants.{Register}
+use Rattle.vr_header.specs.Bodies.{IsOperation}
 use Rattle.vr_header.specs.Made.{IsBodyOf, IsRequest}
 use Rattle.vr_header.specs.Names.{header_name, request_header}
 use Rattle.vr_header.specs.NoCollision.{NoCollision}
@@ -27,7 +28,7 @@ one_header IsHashed never h k fh fk hashed_h hashed_k e =
     one_header_of_bytes h k fh fk (never (named_bytes h) (named_bytes k) hashed_h hashed_k (ap (λ s. s.0) e))
 
 -- the header of a request is one
-pub request_is : (cluster client request : ℕ) (operation : Operation) → ((operation ≡ Register) ↔ (request ≡ 0)) → IsRequest (request_header cluster client request operation) operation
-request_is cluster client request operation first =
-    let body : IsBodyOf (request_header cluster client request operation) operation = record { name = refl; size = refl; first = first } in
+pub request_is : (version cluster client request : ℕ) (operation : Operation) → ((operation ≡ Register) ↔ (request ≡ 0)) → IsOperation version operation → IsRequest (request_header version cluster client request operation) operation
+request_is version cluster client request operation first fits =
+    let body : IsBodyOf (request_header version cluster client request operation) operation = record { name = refl; size = refl; first = first; fits = fits } in
     record { command = refl; body = body; parent = refl; request_name = refl; view = refl; op = refl; commit = refl; replica = refl; kind = refl; aux = refl }

@@ -44,6 +44,7 @@ commit = record {
   size = 128;
   command = Commit;
   replica = 3;
+  version = 1;
   kind = 0;
   aux = 0;
 }
@@ -73,7 +74,7 @@ faults : map fault_of
     ∷ slice_set commit_bytes 127 1
     ∷ with_right_name 108 (0 ∷ 3 ∷ 0 ∷ []) commit_bytes
     ∷ with_right_name 108 (20 ∷ []) commit_bytes
-    ∷ with_right_name 110 (2 ∷ []) commit_bytes
+    ∷ with_right_name 110 (3 ∷ []) commit_bytes
     ∷ with_right_name 104 (0 ∷ 0 ∷ 0 ∷ 127 ∷ []) commit_bytes
     ∷ with_right_name 104 (0 ∷ 0 ∷ 80 ∷ 1 ∷ []) commit_bytes
     ∷ with_right_name 104 (0 ∷ 0 ∷ 80 ∷ 0 ∷ []) commit_bytes
@@ -96,7 +97,7 @@ unfolding operation_bytes bytes16
 bodies = refl
 
 -- no body: nothing, a byte too many, a key too short or too long for its length, no key, an unknown kind, a blank, lengths past the end
-no_bodies : map operation_of ([] ∷ (1 ∷ 1 ∷ []) ∷ (3 ∷ 2 ∷ 107 ∷ []) ∷ (3 ∷ 1 ∷ 107 ∷ 49 ∷ []) ∷ (3 ∷ 0 ∷ []) ∷ (5 ∷ 1 ∷ 107 ∷ []) ∷ (3 ∷ 1 ∷ 32 ∷ [])
+no_bodies : map (operation_of 1) ([] ∷ (1 ∷ 1 ∷ []) ∷ (3 ∷ 2 ∷ 107 ∷ []) ∷ (3 ∷ 1 ∷ 107 ∷ 49 ∷ []) ∷ (3 ∷ 0 ∷ []) ∷ (5 ∷ 1 ∷ 107 ∷ []) ∷ (3 ∷ 1 ∷ 32 ∷ [])
     ∷ (2 ∷ 9 ∷ 0 ∷ 1 ∷ 107 ∷ 118 ∷ []) ∷ (2 ∷ 1 ∷ 0 ∷ 2 ∷ 107 ∷ 118 ∷ []) ∷ (2 ∷ 1 ∷ 1 ∷ 1 ∷ 107 ∷ 118 ∷ []) ∷ [])
     ≡ replicate 10 None
 unfolding operation_of pair_of key_of is_text
@@ -107,7 +108,7 @@ outcomes : map outcome_bytes (outcome.Session ∷ outcome.Ok ∷ outcome.Full �
 unfolding outcome_bytes bytes16
 outcomes = refl
 
-no_outcomes : map outcome_of ([] ∷ (0 ∷ []) ∷ (2 ∷ 0 ∷ []) ∷ (5 ∷ 0 ∷ 0 ∷ []) ∷ (5 ∷ 0 ∷ 1 ∷ 118 ∷ 55 ∷ []) ∷ (5 ∷ 1 ∷ 2 ∷ 118 ∷ 55 ∷ []) ∷ (6 ∷ []) ∷ [])
+no_outcomes : map (outcome_of 1) ([] ∷ (0 ∷ []) ∷ (2 ∷ 0 ∷ []) ∷ (5 ∷ 0 ∷ 0 ∷ []) ∷ (5 ∷ 0 ∷ 1 ∷ 118 ∷ 55 ∷ []) ∷ (5 ∷ 1 ∷ 2 ∷ 118 ∷ 55 ∷ []) ∷ (6 ∷ []) ∷ [])
     ≡ replicate 7 None
 unfolding outcome_of value_of is_text
 no_outcomes = refl
@@ -127,6 +128,7 @@ numbered size view op committed = record {
   size = size;
   command = Entry;
   replica = 0;
+  version = 1;
   kind = 0;
   aux = 0;
 }

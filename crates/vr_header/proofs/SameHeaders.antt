@@ -31,6 +31,7 @@ same_header_is a b h =
     let p10 = and_parts _ _ p9.1 in
     let p11 = and_parts _ _ p10.1 in
     let p12 = and_parts _ _ p11.1 in
+    let p13 = and_parts _ _ p12.1 in
     let body = sum_is a.body b.body p0.0 in
     let parent = sum_is a.parent b.parent p1.0 in
     let request_name = sum_is a.request_name b.request_name p2.0 in
@@ -43,8 +44,9 @@ same_header_is a b h =
     let size = eqb-true a.size b.size p9.0 in
     let command = same_true the_type tt a.command b.command p10.0 in
     let replica = eqb-true a.replica b.replica p11.0 in
-    let kind = eqb-true a.kind b.kind p12.0 in
-    let aux = eqb-true a.aux b.aux p12.1 in
+    let version = eqb-true a.version b.version p12.0 in
+    let kind = eqb-true a.kind b.kind p13.0 in
+    let aux = eqb-true a.aux b.aux p13.1 in
     λ i. record {
       body = body i;
       parent = parent i;
@@ -58,6 +60,7 @@ same_header_is a b h =
       size = size i;
       command = command i;
       replica = replica i;
+      version = version i;
       kind = kind i;
       aux = aux i;
     }
@@ -81,6 +84,7 @@ same_header_of a b e =
       number a.size,
       true_same the_type a.command a.command refl,
       number a.replica,
+      number a.version,
       number a.kind,
       number a.aux,
     ) refl)

@@ -3,6 +3,7 @@ use Rattle.std.specs.Prelude.{ℕ, ◌==◌, ◌&&◌, nat_lt, IsTrue, ⊤, if�
 use Rattle.std.specs.Option.{option_map}
 use Rattle.std.specs.Int.{from_be_bytes, w16}
 use Rattle.vr_base.specs.Bytes.{bytes16}
+use Rattle.vr_base.specs.Versions.{value_limit}
 use Rattle.vr_header.specs.declared.operation.Operation.{Operation}
 use Rattle.vr_header.specs.declared.operation.Operation.TheVariants.{Register, Put, Get, Delete}
 use Rattle.vr_header.specs.declared.outcome.Outcome.{Outcome}
@@ -23,55 +24,55 @@ outcome_bytes outcome.Full = 3 ∷ []
 outcome_bytes outcome.Absent = 4 ∷ []
 outcome_bytes (outcome.Value value) = (5 ∷ bytes16 (length value)) ++ value
 
--- the values that an operation of the program has: a key has 1 to 64 bytes and a value 1 to 1,024, each byte from 33 to 126
-abbrev pub IsOperation : Operation → Type 0
-IsOperation Register = ⊤
-IsOperation (Put key value) = IsTrue (is_text 64 key) × IsTrue (is_text 1024 value)
-IsOperation (Get key) = IsTrue (is_text 64 key)
-IsOperation (Delete key) = IsTrue (is_text 64 key)
+-- the values that an operation of a version has: a key has 1 to 64 bytes and a value 1 to 1,024 or 3,000, each byte from 33 to 126
+abbrev pub IsOperation : ℕ → Operation → Type 0
+IsOperation version Register = ⊤
+IsOperation version (Put key value) = IsTrue (is_text 64 key) × IsTrue (is_text (value_limit version) value)
+IsOperation version (Get key) = IsTrue (is_text 64 key)
+IsOperation version (Delete key) = IsTrue (is_text 64 key)
 
-abbrev pub IsOutcome : Outcome → Type 0
-IsOutcome outcome.Session = ⊤
-IsOutcome outcome.Ok = ⊤
-IsOutcome outcome.Full = ⊤
-IsOutcome outcome.Absent = ⊤
-IsOutcome (outcome.Value value) = IsTrue (is_text 1024 value)
+abbrev pub IsOutcome : ℕ → Outcome → Type 0
+IsOutcome version outcome.Session = ⊤
+IsOutcome version outcome.Ok = ⊤
+IsOutcome version outcome.Full = ⊤
+IsOutcome version outcome.Absent = ⊤
+IsOutcome version (outcome.Value value) = IsTrue (is_text (value_limit version) value)
 
 -- a key behind its length
 unfoldable pub key_of : List ℕ → Option (List ℕ)
 key_of [] = None
 key_of (n ∷ key) = if length key == n then text_of 64 key else None
 
--- a value behind its length
-unfoldable pub value_of : List ℕ → Option (List ℕ)
-value_of [] = None
-value_of (high ∷ []) = None
-value_of (high ∷ low ∷ value) = if length value == from_be_bytes w16 (high ∷ low ∷ []) then text_of 1024 value else None
+-- a value of at most so many bytes behind its length
+unfoldable pub value_of : ℕ → List ℕ → Option (List ℕ)
+value_of limit [] = None
+value_of limit (high ∷ []) = None
+value_of limit (high ∷ low ∷ value) = if length value == from_be_bytes w16 (high ∷ low ∷ []) then text_of limit value else None
 
 -- a key and a value behind both lengths
-unfoldable pub pair_of : List ℕ → Option Operation
-pair_of [] = None
-pair_of (n ∷ []) = None
-pair_of (n ∷ high ∷ []) = None
-pair_of (n ∷ high ∷ low ∷ texts) =
+unfoldable pub pair_of : ℕ → List ℕ → Option Operation
+pair_of limit [] = None
+pair_of limit (n ∷ []) = None
+pair_of limit (n ∷ high ∷ []) = None
+pair_of limit (n ∷ high ∷ low ∷ texts) =
     if nat_lt (length texts) n then None
-    else (if (length (drop n texts) == from_be_bytes w16 (high ∷ low ∷ [])) && (is_text 64 (take n texts) && is_text 1024 (drop n texts))
+    else (if (length (drop n texts) == from_be_bytes w16 (high ∷ low ∷ [])) && (is_text 64 (take n texts) && is_text limit (drop n texts))
     then Some (Put (take n texts) (drop n texts)) else None)
 
--- the operation that these bytes are, None where they are none
-unfoldable pub operation_of : List ℕ → Option Operation
-operation_of [] = None
-operation_of (kind ∷ rest) =
+-- the operation of this version that these bytes are, None where they are none
+unfoldable pub operation_of : ℕ → List ℕ → Option Operation
+operation_of version [] = None
+operation_of version (kind ∷ rest) =
     if kind == 1 then (if length rest == 0 then Some Register else None)
-    else (if kind == 2 then pair_of rest
+    else (if kind == 2 then pair_of (value_limit version) rest
     else (if kind == 3 then option_map Get (key_of rest)
     else (if kind == 4 then option_map Delete (key_of rest) else None)))
 
--- the outcome that these bytes are, None where they are none
-unfoldable pub outcome_of : List ℕ → Option Outcome
-outcome_of [] = None
-outcome_of (kind ∷ rest) =
-    if kind == 5 then option_map outcome.Value (value_of rest)
+-- the outcome of this version that these bytes are, None where they are none
+unfoldable pub outcome_of : ℕ → List ℕ → Option Outcome
+outcome_of version [] = None
+outcome_of version (kind ∷ rest) =
+    if kind == 5 then option_map outcome.Value (value_of (value_limit version) rest)
     else (if length rest == 0
     then (if kind == 1 then Some outcome.Session
     else (if kind == 2 then Some outcome.Ok

@@ -3,19 +3,20 @@ use Rattle.std.specs.Prelude.{ℕ, ◌≡◌, ◌+◌, ◌-◌, ◌^◌, ◌<◌
 use Rattle.std.specs.Cmp.Lexicographic.{pointwise}
 use Rattle.vr_base.specs.declared.sum.Sum.{Sum}
 use Rattle.vr_base.specs.Bytes.{name_of}
+use Rattle.vr_base.specs.Versions.{body_limit}
 use Rattle.vr_header.specs.declared.command.Command.TheVariants.{Entry, Request}
 use Rattle.vr_header.specs.declared.header.Header.{Header}
 use Rattle.vr_header.specs.declared.header.HeaderFault.{HeaderFault}
 use Rattle.vr_header.specs.declared.operation.Operation.{Operation}
 use Rattle.vr_header.specs.declared.operation.Operation.TheVariants.{Register, Put, Get, Delete}
-use Rattle.vr_header.specs.Bodies.{operation_bytes, operation_of}
+use Rattle.vr_header.specs.Bodies.{IsOperation, operation_bytes, operation_of}
 use Rattle.vr_header.specs.Names.{name_by, no_name}
 use Rattle.vr_header.specs.Spelling.{code_of, decoded, header_bytes}
 
--- a header that an entry may have: with a body of at most 1,920 bytes
+-- a header that an entry may have: with a body of at most 1,920 bytes, or 3,968 in version 2
 pub record IsEntryHeader (h : Header) : Type 0 where
   pub command : h.command ≡ Entry
-  pub size : (128 < h.size) × (h.size ≤ 2048)
+  pub size : (128 < h.size) × (h.size ≤ 128 + body_limit h.version)
   pub view : h.view < 2 ^ 32 - 1
   pub op : (1 ≤ h.op) × (h.op ≤ 2 ^ 62)
   pub commit : h.commit ≡ 0
@@ -23,12 +24,13 @@ pub record IsEntryHeader (h : Header) : Type 0 where
   pub kind : h.kind ≡ 0
   pub aux : h.aux ≡ 0
 
--- the operation is this header's body
+-- the operation is this header's body, of its version
 pub record IsBodyOf (h : Header) (operation : Operation) : Type 0 where
   pub name : h.body.0 ≡ name_of (operation_bytes operation)
   pub size : h.size ≡ 128 + length (operation_bytes operation)
   -- a session begins exactly with request number 0
   pub first : (operation ≡ Register) ↔ (h.request ≡ 0)
+  pub fits : IsOperation h.version operation
 
 -- a header with its operation
 pub record Whole : Type 0 where
@@ -67,7 +69,7 @@ is_bare h = (h.commit == 0) && (h.replica == 0) && (h.kind == 0) && (h.aux == 0)
 -- the test for it
 abbrev pub is_entry_header : Header → Bool
 is_entry_header h =
-    (code_of h.command == 3) && nat_lt 128 h.size && nat_le h.size 2048 && nat_lt h.view (2 ^ 32 - 1) && nat_le 1 h.op && nat_le h.op (2 ^ 62) && is_bare h
+    (code_of h.command == 3) && nat_lt 128 h.size && nat_le h.size (128 + body_limit h.version) && nat_lt h.view (2 ^ 32 - 1) && nat_le 1 h.op && nat_le h.op (2 ^ 62) && is_bare h
 
 -- a header, and its operation behind it
 unfoldable pub entry_bytes : Whole → List ℕ
@@ -90,7 +92,7 @@ with_body h (Some o) =
 
 abbrev pub with_header : List ℕ → Result Header HeaderFault → Option Whole
 with_header bytes (Err fault) = None
-with_header bytes (Ok h) = if is_whole h bytes then with_body h (operation_of (drop 128 bytes)) else None
+with_header bytes (Ok h) = if is_whole h bytes then with_body h (operation_of h.version (drop 128 bytes)) else None
 
 -- the entry that these bytes spell, None where they spell none
 unfoldable pub entry_of : List ℕ → Option Whole

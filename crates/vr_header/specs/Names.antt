@@ -19,7 +19,7 @@ header_name h = name_by name_of h
 abbrev pub no_name : Sum
 no_name = record { 0 = replicate 16 0 }
 
--- what op 1 stands on: with no body, all else zero
+-- what op 1 stands on, in files of either version: of version 1, with no body, all else zero
 abbrev pub root_by : (List ℕ → List ℕ) → ℕ → Header
 root_by hash cluster = record {
   body = record { 0 = hash [] };
@@ -34,6 +34,7 @@ root_by hash cluster = record {
   size = 128;
   command = Root;
   replica = 0;
+  version = 1;
   kind = 0;
   aux = 0;
 }
@@ -41,9 +42,9 @@ root_by hash cluster = record {
 abbrev pub root_header : ℕ → Header
 root_header cluster = root_by name_of cluster
 
--- the header of a client's request
-abbrev pub request_by : (List ℕ → List ℕ) → ℕ → ℕ → ℕ → Operation → Header
-request_by hash cluster client request operation = record {
+-- the header of a client's request, in a frame of this version
+abbrev pub request_by : (List ℕ → List ℕ) → ℕ → ℕ → ℕ → ℕ → Operation → Header
+request_by hash version cluster client request operation = record {
   body = record { 0 = hash (operation_bytes operation) };
   parent = no_name;
   request_name = no_name;
@@ -56,12 +57,13 @@ request_by hash cluster client request operation = record {
   size = 128 + length (operation_bytes operation);
   command = Request;
   replica = 0;
+  version = version;
   kind = 0;
   aux = 0;
 }
 
-abbrev pub request_header : ℕ → ℕ → ℕ → Operation → Header
-request_header cluster client request operation = request_by name_of cluster client request operation
+abbrev pub request_header : ℕ → ℕ → ℕ → ℕ → Operation → Header
+request_header version cluster client request operation = request_by name_of version cluster client request operation
 
 -- e comes right after d; op 1 comes after the root of its cluster
 pub record StandsOn (e d : Header) : Type 0 where

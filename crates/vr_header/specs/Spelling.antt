@@ -4,6 +4,7 @@ use Rattle.std.specs.Option.{option_map_or}
 use Rattle.std.specs.Int.{w32, w64}
 use Rattle.std.specs.Cmp.Lexicographic.{pointwise}
 use Rattle.vr_base.specs.Bytes.{IsBytes, bytes32, bytes64, joined, name_of, number, piece}
+use Rattle.vr_base.specs.Versions.{is_version}
 use Rattle.vr_header.specs.declared.command.Command.{Command}
 use Rattle.vr_header.specs.declared.command.Command.TheVariants.{Reserved, Root, Entry, Request, Reply, Prepare, PrepareOk, Commit, StartViewChange, DoViewChange, StartView, GetView, GetPrepare, GivePrepare, GetBlock, GiveBlock, Block, GetSync, SyncView}
 use Rattle.vr_header.specs.declared.header.Header.{Header}
@@ -45,7 +46,7 @@ command_of (suc code) = slice_get commands code
 abbrev pub field_bytes : Header → List (List ℕ)
 field_bytes h =
     h.body.0 ∷ h.parent.0 ∷ h.request_name.0 ∷ bytes64 h.cluster ∷ bytes64 h.client ∷ bytes32 h.request ∷ bytes32 h.view ∷ bytes64 h.op ∷ bytes64 h.commit
-    ∷ bytes32 h.size ∷ (code_of h.command ∷ []) ∷ (h.replica ∷ []) ∷ (1 ∷ []) ∷ (h.kind ∷ []) ∷ bytes64 h.aux ∷ replicate 8 0 ∷ []
+    ∷ bytes32 h.size ∷ (code_of h.command ∷ []) ∷ (h.replica ∷ []) ∷ (h.version ∷ []) ∷ (h.kind ∷ []) ∷ bytes64 h.aux ∷ replicate 8 0 ∷ []
 
 -- bytes 16 to 127, which give the header its name
 unfoldable pub named_bytes : Header → List ℕ
@@ -79,6 +80,7 @@ pub record IsHeader (h : Header) : Type 0 where
   pub commit : h.commit < 2 ^ 64
   pub size : (128 ≤ h.size) × (h.size ≤ 20480)
   pub replica : h.replica < 256
+  pub version : (1 ≤ h.version) × (h.version ≤ 2)
   pub kind : h.kind < 256
   pub aux : h.aux < 2 ^ 64
 
@@ -92,7 +94,7 @@ fault_of bytes =
     if nat_lt (length bytes) 128 then Some Short
     else (if not (is_named bytes) then Some BadSum
     else (if is_none (command_of (slice_index bytes 108)) then Some BadCommand
-    else (if not (slice_index bytes 110 == 1) then Some BadVersion
+    else (if not (is_version (slice_index bytes 110)) then Some BadVersion
     else (if not (is_size (number w32 104 bytes)) then Some BadSize
     else (if not (number w64 120 bytes == 0) then Some NotZero else None)))))
 
@@ -111,6 +113,7 @@ decoded_header bytes = record {
   size = number w32 104 bytes;
   command = unwrap_or (command_of (slice_index bytes 108)) Reserved;
   replica = slice_index bytes 109;
+  version = slice_index bytes 110;
   kind = slice_index bytes 111;
   aux = number w64 112 bytes;
 }

@@ -9,14 +9,14 @@ ghost use Rattle.vr_header.specs.Views.{operation_seen, outcome_seen};
 use crate::view::{OperationView, OutcomeView, read_operation, read_outcome};
 use crate::{Key, Operation, Outcome, Size, Value};
 use std::alloc::{AllocError, Global};
-use vr_base::{ByteList, Sum, checksum, checksum_of_parts};
+use vr_base::{ByteList, Sum, Version, checksum, checksum_of_parts};
 
 impl Operation {
-    /// The one spelling of an operation, of at most 1,092 bytes.
+    /// The one spelling of an operation, of at most 3,068 bytes.
     pub fn encode_body(&self, alloc: Global) -> Result<ByteList, AllocError>
         ensures bytes { IfOk result (λ body. body ≡ operation_bytes self.now) }
     {
-        let mut body = Vec::with_capacity(alloc, 1092)?;
+        let mut body = Vec::with_capacity(alloc, 3068)?;
         self.write_body(&mut body)?;
         Ok(ByteList::from_vec(body))
     }
@@ -26,7 +26,7 @@ impl Operation {
     pub fn write_body(&self, to: &mut Vec<u8>) -> Result<(), AllocError>
         ensures ok { OnOk result (to.new.items ≡ to.old.items ++ operation_bytes self.now) }
         ensures front { OnErr result (KeepsFront to.old.items to.new.items) }
-        ensures texts { IsOperation self.now }
+        ensures texts { IsOperation 2 self.now }
     {
         match self {
             Operation::Register => to.extend_from_slice(&[1])?,
@@ -76,12 +76,12 @@ impl Operation {
         }
     }
 
-    /// How many bytes a header with this spelling behind it has, from 129 to 1,220.
+    /// How many bytes a header with this spelling behind it has, from 129 to 3,196.
     #[tactic(auto, using(std::proofs::lemmas::Grind::common_steps), unfolding(crate::specs::Bodies::operation_bytes, vr_base::specs::Bytes::bytes16))]
     pub fn size(&self) -> Size
         ensures value { result ≡ 128 + length (operation_bytes self.now) }
         ensures least { 129 ≤ result }
-        ensures most { result ≤ 1220 }
+        ensures most { result ≤ 3196 }
     {
         let body = match self {
             Operation::Register => 1,
@@ -92,28 +92,32 @@ impl Operation {
     }
 
     /// Whether the bytes spell an operation.
-    pub fn is_body(bytes: &[u8]) -> bool
-        ensures { result ≡ is_some (operation_of bytes.now) }
+    pub fn is_body(bytes: &[u8], version: Version) -> bool
+        ensures { result ≡ is_some (operation_of version bytes.now) }
     {
-        read_operation(bytes).is_some()
+        read_operation(version, bytes).is_some()
     }
 
-    /// The operation that the bytes spell, `None` exactly where they spell none.
-    pub fn decode_body(alloc: Global, bytes: &[u8]) -> Result<Option<Operation>, AllocError>
-        ensures exact { IfOk result (λ read. read ≡ operation_of bytes.now) }
-        ensures found { IfSome (operation_of bytes.now) (λ o. (bytes.now ≡ operation_bytes o) × IsOperation o) }
-        ensures only { (o : Operation) → IsOperation o → bytes.now ≡ operation_bytes o → operation_of bytes.now ≡ Some o }
+    /// The operation of this version that the bytes spell, `None` exactly where they spell none.
+    pub fn decode_body(
+        alloc: Global,
+        bytes: &[u8],
+        version: Version,
+    ) -> Result<Option<Operation>, AllocError>
+        ensures exact { IfOk result (λ read. read ≡ operation_of version bytes.now) }
+        ensures found { IfSome (operation_of version bytes.now) (λ o. (bytes.now ≡ operation_bytes o) × IsOperation version o) }
+        ensures only { (o : Operation) → IsOperation version o → bytes.now ≡ operation_bytes o → operation_of version bytes.now ≡ Some o }
     {
-        made_operation(alloc, bytes)
+        made_operation(alloc, bytes, version)
     }
 }
 
 impl Outcome {
-    /// The one spelling of an outcome, of at most 1,027 bytes.
+    /// The one spelling of an outcome, of at most 3,003 bytes.
     pub fn encode_body(&self, alloc: Global) -> Result<ByteList, AllocError>
         ensures bytes { IfOk result (λ body. body ≡ outcome_bytes self.now) }
     {
-        let mut body = Vec::with_capacity(alloc, 1027)?;
+        let mut body = Vec::with_capacity(alloc, 3003)?;
         self.write_body(&mut body)?;
         Ok(ByteList::from_vec(body))
     }
@@ -123,7 +127,7 @@ impl Outcome {
     pub fn write_body(&self, to: &mut Vec<u8>) -> Result<(), AllocError>
         ensures ok { OnOk result (to.new.items ≡ to.old.items ++ outcome_bytes self.now) }
         ensures front { OnErr result (KeepsFront to.old.items to.new.items) }
-        ensures texts { IsOutcome self.now }
+        ensures texts { IsOutcome 2 self.now }
     {
         match self {
             Outcome::Session => to.extend_from_slice(&[1])?,
@@ -140,26 +144,34 @@ impl Outcome {
     }
 
     /// Whether the bytes spell an outcome.
-    pub fn is_body(bytes: &[u8]) -> bool
-        ensures { result ≡ is_some (outcome_of bytes.now) }
+    pub fn is_body(bytes: &[u8], version: Version) -> bool
+        ensures { result ≡ is_some (outcome_of version bytes.now) }
     {
-        read_outcome(bytes).is_some()
+        read_outcome(version, bytes).is_some()
     }
 
-    /// The outcome that the bytes spell, `None` exactly where they spell none.
-    pub fn decode_body(alloc: Global, bytes: &[u8]) -> Result<Option<Outcome>, AllocError>
-        ensures exact { IfOk result (λ read. read ≡ outcome_of bytes.now) }
-        ensures found { IfSome (outcome_of bytes.now) (λ o. (bytes.now ≡ outcome_bytes o) × IsOutcome o) }
-        ensures only { (o : Outcome) → IsOutcome o → bytes.now ≡ outcome_bytes o → outcome_of bytes.now ≡ Some o }
+    /// The outcome of this version that the bytes spell, `None` exactly where they spell none.
+    pub fn decode_body(
+        alloc: Global,
+        bytes: &[u8],
+        version: Version,
+    ) -> Result<Option<Outcome>, AllocError>
+        ensures exact { IfOk result (λ read. read ≡ outcome_of version bytes.now) }
+        ensures found { IfSome (outcome_of version bytes.now) (λ o. (bytes.now ≡ outcome_bytes o) × IsOutcome version o) }
+        ensures only { (o : Outcome) → IsOutcome version o → bytes.now ≡ outcome_bytes o → outcome_of version bytes.now ≡ Some o }
     {
-        made_outcome(alloc, bytes)
+        made_outcome(alloc, bytes, version)
     }
 }
 
-fn made_operation(alloc: Global, bytes: &[u8]) -> Result<Option<Operation>, AllocError>
-    ensures { IfOk result (λ read. read ≡ operation_of bytes.now) }
+fn made_operation(
+    alloc: Global,
+    bytes: &[u8],
+    version: Version,
+) -> Result<Option<Operation>, AllocError>
+    ensures { IfOk result (λ read. read ≡ operation_of version bytes.now) }
 {
-    match read_operation(bytes) {
+    match read_operation(version, bytes) {
         Some(view) => Ok(Some(owned_operation(alloc, view)?)),
         None => Ok(None),
     }
@@ -169,7 +181,7 @@ pub(crate) fn owned_operation(
     alloc: Global,
     view: OperationView<'_>,
 ) -> Result<Operation, AllocError>
-    requires { IsOperation (operation_seen view) }
+    requires { IsOperation 2 (operation_seen view) }
     ensures { IfOk result (λ operation. operation ≡ operation_seen view.entry) }
 {
     match view {
@@ -185,17 +197,21 @@ pub(crate) fn owned_operation(
     }
 }
 
-fn made_outcome(alloc: Global, bytes: &[u8]) -> Result<Option<Outcome>, AllocError>
-    ensures { IfOk result (λ read. read ≡ outcome_of bytes.now) }
+fn made_outcome(
+    alloc: Global,
+    bytes: &[u8],
+    version: Version,
+) -> Result<Option<Outcome>, AllocError>
+    ensures { IfOk result (λ read. read ≡ outcome_of version bytes.now) }
 {
-    match read_outcome(bytes) {
+    match read_outcome(version, bytes) {
         Some(view) => Ok(Some(owned_outcome(alloc, view)?)),
         None => Ok(None),
     }
 }
 
 fn owned_outcome(alloc: Global, view: OutcomeView<'_>) -> Result<Outcome, AllocError>
-    requires { IsOutcome (outcome_seen view) }
+    requires { IsOutcome 2 (outcome_seen view) }
     ensures { IfOk result (λ outcome. outcome ≡ outcome_seen view.entry) }
 {
     match view {

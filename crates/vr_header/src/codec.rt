@@ -6,7 +6,9 @@ ghost use Rattle.vr_header.specs.declared.header.Header.{Header};
 ghost use Rattle.vr_header.specs.Spelling.{Spells, IsHeader, code_of, command_of, decoded, fault_of, decoded_header, header_bytes, is_named, is_size, named_bytes};
 
 use crate::{Command, Header, HeaderFault, Size};
-use vr_base::{Sum, checksum, put, put_sum, put_u32, put_u64, sum_at, u32_at, u64_at};
+use vr_base::{
+    Sum, Version, checksum, is_version, put, put_sum, put_u32, put_u64, sum_at, u32_at, u64_at,
+};
 
 /// The header that the first 128 bytes spell, or the first fault that applies.
 pub fn decode(bytes: &[u8]) -> Result<Header, HeaderFault>
@@ -42,7 +44,7 @@ fn fault_by(bytes: &[u8], name: Sum) -> Option<HeaderFault>
     if command_of(bytes[108]).is_none() {
         return Some(HeaderFault::BadCommand);
     }
-    if bytes[110] != 1 {
+    if !is_version(bytes[110]) {
         return Some(HeaderFault::BadVersion);
     }
     if !is_size(u32_at(bytes, 104)) {
@@ -166,6 +168,7 @@ pub fn decoded_header(bytes: &[u8]) -> Header
         size: Size::new(u32_at(bytes, 104)),
         command: command_of(bytes[108]).unwrap_or(Command::Reserved),
         replica: bytes[109],
+        version: Version::new(bytes[110]),
         kind: bytes[111],
         aux: u64_at(bytes, 112),
     }
@@ -216,7 +219,11 @@ pub(crate) fn written(h: Header) -> [u8; 128]
     put_u64(&mut out, 88, h.op);
     put_u64(&mut out, 96, h.commit);
     put_u32(&mut out, 104, h.size.get());
-    put(&mut out, 108, &[code_of(h.command), h.replica, 1, h.kind]);
+    put(
+        &mut out,
+        108,
+        &[code_of(h.command), h.replica, h.version.get(), h.kind],
+    );
     put_u64(&mut out, 112, h.aux);
     put(&mut out, 120, &[0; 8]);
     out

@@ -74,6 +74,7 @@ impl Entry {
     }
 
     /// The entry of a request, made in this view for this op, on the entry of this name.
+    #[tactic(auto, using(crate::proofs::Putting::body_fits))]
     pub fn of_request(
         request: &Header,
         request_name: Sum,
@@ -128,7 +129,7 @@ impl Entry {
         ensures ok { OnOk result (to.new.items ≡ to.old.items ++ entry_bytes self.now) }
         ensures front { OnErr result (KeepsFront to.old.items to.new.items) }
         ensures header { OnOk result (IsHeader self.now.header) }
-        ensures operation { OnOk result (IsOperation self.now.operation) }
+        ensures operation { OnOk result (IsOperation self.now.header.version self.now.operation) }
     {
         let header = spelled(&self.header(), self.name);
         to.extend_from_slice(&header)?;
@@ -148,8 +149,8 @@ impl Entry {
     /// The entry that the bytes spell, `None` exactly where they spell none.
     pub fn decode(alloc: Global, bytes: &[u8]) -> Result<Option<Entry>, AllocError>
         ensures exact { IfOk result (λ read. read ≡ entry_of bytes.now) }
-        ensures found { IfSome (entry_of bytes.now) (λ e. (bytes.now ≡ entry_bytes e) × IsEntry e × IsHeader e.header × IsOperation e.operation) }
-        ensures only { (e : Whole) → IsEntry e → IsHeader e.header → IsOperation e.operation → bytes.now ≡ entry_bytes e → entry_of bytes.now ≡ Some e }
+        ensures found { IfSome (entry_of bytes.now) (λ e. (bytes.now ≡ entry_bytes e) × IsEntry e × IsHeader e.header) }
+        ensures only { (e : Whole) → IsEntry e → IsHeader e.header → bytes.now ≡ entry_bytes e → entry_of bytes.now ≡ Some e }
     {
         made_entry(alloc, bytes)
     }
@@ -187,10 +188,10 @@ fn made_entry(alloc: Global, bytes: &[u8]) -> Result<Option<Entry>, AllocError>
     }
 }
 
+#[tactic(auto, using(crate::proofs::BodyLaws::any_operation))]
 fn owned_entry(alloc: Global, view: EntryView<'_>, name: Sum) -> Result<Entry, AllocError>
     requires name { name ≡ header_name view.header }
     requires entry { IsEntry (entry_seen view) }
-    requires operation { IsOperation (operation_seen view.operation) }
     ensures { IfOk result (λ entry. entry ≡ entry_seen view.entry) }
 {
     let operation = owned_operation(alloc, view.operation)?;

@@ -2,7 +2,7 @@
 
 use crate::codec::{name_of_rest, written};
 use crate::{Command, Operation, Size};
-use vr_base::{Seq, Sum, checksum};
+use vr_base::{Seq, Sum, Version, checksum};
 
 /// The header of an entry, of a message, or of a record of the disk. A field that its command has no
 /// use for is zero.
@@ -28,6 +28,8 @@ pub struct Header {
     pub command: Command,
     /// The number of the sender.
     pub replica: u8,
+    /// Of the frame, or of the entry.
+    pub version: Version,
     /// Which kind of reply, or of block.
     pub kind: u8,
     /// One number more, by command.
@@ -46,7 +48,7 @@ pub enum HeaderFault {
     BadSum,
     /// No command has this number.
     BadCommand,
-    /// The version isn't 1.
+    /// The version is neither 1 nor 2.
     BadVersion,
     /// The size is below 128 or above 20,480.
     BadSize,
@@ -87,16 +89,24 @@ impl Header {
             size: Size::new(128),
             command: Command::Root,
             replica: 0,
+            version: Version::new(1),
             kind: 0,
             aux: 0,
         }
     }
 
-    /// The header of a client's request, with the request's number.
-    pub fn of_request(cluster: u64, client: u64, request: u32, operation: &Operation) -> Header
-        ensures { result ≡ request_header cluster client request operation.now }
+    /// The header of a client's request in a frame of this version, with the request's number.
+    pub fn of_request(
+        version: Version,
+        cluster: u64,
+        client: u64,
+        request: u32,
+        operation: &Operation,
+    ) -> Header
+        ensures { result ≡ request_header version cluster client request operation.now }
     {
         Header {
+            version,
             client,
             request,
             size: operation.size(),
@@ -106,10 +116,18 @@ impl Header {
     }
 
     /// The header of a client's request whose operation has this name, and this size with a header.
-    pub fn of_named(cluster: u64, client: u64, request: u32, size: Size, body: Sum) -> Header
-        ensures { (o : Operation) → body.0 ≡ name_of (operation_bytes o) → size ≡ 128 + length (operation_bytes o) → result ≡ request_header cluster client request o }
+    pub fn of_named(
+        version: Version,
+        cluster: u64,
+        client: u64,
+        request: u32,
+        size: Size,
+        body: Sum,
+    ) -> Header
+        ensures { (o : Operation) → body.0 ≡ name_of (operation_bytes o) → size ≡ 128 + length (operation_bytes o) → result ≡ request_header version cluster client request o }
     {
         Header {
+            version,
             client,
             request,
             size,
@@ -140,7 +158,7 @@ impl Header {
     {
         self.command == Command::Entry
             && 128 < self.size.get()
-            && self.size.get() <= 2048
+            && self.size.get() <= 128 + self.version.body_limit()
             && self.view < u32::MAX
             && 1 <= self.op
             && self.op <= 1 << 62

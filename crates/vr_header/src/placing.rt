@@ -3,19 +3,20 @@ ghost use Rattle.std.specs.Prelude.{◌≡◌, ◌≤◌, ◌+◌, ◌++◌, len
 ghost use Rattle.vr_header.specs.Bodies.{IsOperation, operation_bytes};
 ghost use Rattle.vr_header.specs.Made.{IsEntry, entry_bytes};
 ghost use Rattle.vr_header.specs.Spelling.{IsHeader};
+ghost use Rattle.vr_base.specs.Versions.{body_limit};
 
 use crate::codec::spelled;
 use crate::{Entry, Operation};
 use vr_base::put;
 
 impl Operation {
-    /// Puts the spelling, of at most 1,092 bytes, from a place on; the other bytes stay. It takes no memory.
+    /// Puts the spelling, of at most 3,068 bytes, from a place on; the other bytes stay. It takes no memory.
     #[tactic(auto, using(std::proofs::lemmas::Grind::common_steps), unfolding(crate::specs::Bodies::operation_bytes, vr_base::specs::Bytes::bytes16))]
     pub fn put_body(&self, out: &mut [u8], at: usize)
         requires { at + length (operation_bytes self.now) ≤ length out.old }
         ensures front { take (at + length (operation_bytes self.now)) out.new ≡ take at out.old ++ operation_bytes self.now }
         ensures back { drop (at + length (operation_bytes self.now)) out.new ≡ drop (at + length (operation_bytes self.now)) out.old }
-        ensures form { IsOperation self.now }
+        ensures form { IsOperation 2 self.now }
     {
         match self {
             Operation::Register => put(out, at, &[1]),
@@ -39,13 +40,13 @@ impl Operation {
 }
 
 impl Entry {
-    /// Puts the spelling, of at most 2,048 bytes, in front; the other bytes stay. It takes no memory.
+    /// Puts the spelling, of at most 4,096 bytes, in front; the other bytes stay. It takes no memory.
     pub fn put(&self, out: &mut [u8])
-        requires { 2048 ≤ length out.old }
+        requires { 4096 ≤ length out.old }
         ensures front { take (length (entry_bytes self.now)) out.new ≡ entry_bytes self.now }
         ensures back { drop (length (entry_bytes self.now)) out.new ≡ drop (length (entry_bytes self.now)) out.old }
-        ensures size { length (entry_bytes self.now) ≤ 2048 }
-        ensures whole { IsEntry self.now × IsHeader self.now.header × IsOperation self.now.operation }
+        ensures size { length (entry_bytes self.now) ≤ 128 + body_limit self.now.header.version }
+        ensures whole { IsEntry self.now × IsHeader self.now.header }
     {
         put(out, 0, &spelled(&self.header(), self.name()));
         self.operation().put_body(out, 128);

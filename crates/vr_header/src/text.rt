@@ -16,8 +16,8 @@ pub struct Text<const LIMIT: usize> {
 /// The text of a key, of 1 to 64 bytes, each from 33 to 126.
 pub type Key = Text<64>;
 
-/// The text of a value, of 1 to 1,024 bytes, each from 33 to 126.
-pub type Value = Text<1024>;
+/// The text of a value, of 1 to 3,000 bytes, each from 33 to 126; in version 1 it has at most 1,024.
+pub type Value = Text<3000>;
 
 impl<const LIMIT: usize> Model for Text<LIMIT> {
     ghost use Rattle.std.specs.Prelude.{ℕ, List, IsTrue};

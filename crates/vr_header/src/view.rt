@@ -10,7 +10,7 @@ ghost use Rattle.vr_header.specs.Views.{entry_seen, operation_seen, outcome_seen
 
 use crate::text::is_text;
 use crate::{Header, decode, decoded_header};
-use vr_base::{Sum, checksum};
+use vr_base::{Sum, Version, checksum};
 
 /// An operation whose texts stand in the bytes that it was read from.
 #[derive(Clone, Copy)]
@@ -49,12 +49,12 @@ fn read_key(bytes: &[u8]) -> Option<&[u8]>
 }
 
 #[tactic(auto, unfolding(crate::specs::Bodies::value_of))]
-fn read_value(bytes: &[u8]) -> Option<&[u8]>
-    ensures { option_map (λ x. x.now) result ≡ value_of bytes.now }
+fn read_value(limit: usize, bytes: &[u8]) -> Option<&[u8]>
+    ensures { option_map (λ x. x.now) result ≡ value_of limit bytes.now }
 {
     match bytes {
         [high, low, value @ ..] => {
-            if value.len() == u16::from_be_bytes([*high, *low]) as usize && is_text(1024, value) {
+            if value.len() == u16::from_be_bytes([*high, *low]) as usize && is_text(limit, value) {
                 Some(value)
             } else {
                 None
@@ -65,8 +65,8 @@ fn read_value(bytes: &[u8]) -> Option<&[u8]>
 }
 
 #[tactic(auto, unfolding(crate::specs::Bodies::pair_of))]
-fn read_pair(bytes: &[u8]) -> Option<OperationView<'_>>
-    ensures { option_map operation_seen result ≡ pair_of bytes.now }
+fn read_pair(limit: usize, bytes: &[u8]) -> Option<OperationView<'_>>
+    ensures { option_map operation_seen result ≡ pair_of limit bytes.now }
 {
     let [n, high, low, texts @ ..] = bytes else {
         return None;
@@ -76,38 +76,38 @@ fn read_pair(bytes: &[u8]) -> Option<OperationView<'_>>
     }
     let (key, value) = texts.split_at(*n as usize);
     let size = u16::from_be_bytes([*high, *low]) as usize;
-    if value.len() == size && is_text(64, key) && is_text(1024, value) {
+    if value.len() == size && is_text(64, key) && is_text(limit, value) {
         Some(OperationView::Put(key, value))
     } else {
         None
     }
 }
 
-/// The operation that these bytes are, `None` exactly where they are none.
+/// The operation of this version that these bytes are, `None` exactly where they are none.
 #[tactic(auto, unfolding(crate::specs::Bodies::operation_of))]
-pub fn read_operation(bytes: &[u8]) -> Option<OperationView<'_>>
-    ensures { option_map operation_seen result ≡ operation_of bytes.now }
+pub fn read_operation(version: Version, bytes: &[u8]) -> Option<OperationView<'_>>
+    ensures { option_map operation_seen result ≡ operation_of version bytes.now }
 {
     match bytes {
         [1] => Some(OperationView::Register),
-        [2, rest @ ..] => read_pair(rest),
+        [2, rest @ ..] => read_pair(version.value_limit(), rest),
         [3, rest @ ..] => Some(OperationView::Get(read_key(rest)?)),
         [4, rest @ ..] => Some(OperationView::Delete(read_key(rest)?)),
         _ => None,
     }
 }
 
-/// The outcome that these bytes are, `None` exactly where they are none.
+/// The outcome of this version that these bytes are, `None` exactly where they are none.
 #[tactic(auto, unfolding(crate::specs::Bodies::outcome_of))]
-pub fn read_outcome(bytes: &[u8]) -> Option<OutcomeView<'_>>
-    ensures { option_map outcome_seen result ≡ outcome_of bytes.now }
+pub fn read_outcome(version: Version, bytes: &[u8]) -> Option<OutcomeView<'_>>
+    ensures { option_map outcome_seen result ≡ outcome_of version bytes.now }
 {
     match bytes {
         [1] => Some(OutcomeView::Session),
         [2] => Some(OutcomeView::Ok),
         [3] => Some(OutcomeView::Full),
         [4] => Some(OutcomeView::Absent),
-        [5, rest @ ..] => Some(OutcomeView::Value(read_value(rest)?)),
+        [5, rest @ ..] => Some(OutcomeView::Value(read_value(version.value_limit(), rest)?)),
         _ => None,
     }
 }
@@ -143,10 +143,10 @@ pub fn entry_by(bytes: &[u8], header: Header, body: Sum) -> Option<EntryView<'_>
 // This header with the operation behind it.
 fn with_body(header: Header, bytes: &[u8]) -> Option<EntryView<'_>>
     requires { 128 ≤ length bytes.now }
-    ensures { option_map entry_seen result ≡ with_body header (operation_of (drop 128 bytes.now)) }
+    ensures { option_map entry_seen result ≡ with_body header (operation_of header.version (drop 128 bytes.now)) }
 {
     let (_, body) = bytes.split_at(128);
-    let operation = read_operation(body)?;
+    let operation = read_operation(header.version, body)?;
     if is_register(operation) == (header.request == 0) {
         Some(EntryView { header, operation })
     } else {
@@ -162,7 +162,7 @@ pub fn entry_at(bytes: &[u8]) -> EntryView<'_>
 {
     let header = decoded_header(bytes);
     let (_, body) = bytes.split_at(128);
-    let operation = read_operation(body).unwrap();
+    let operation = read_operation(header.version, body).unwrap();
     EntryView { header, operation }
 }
 

@@ -33,11 +33,11 @@ pub runs_from : (cs : List Call) (d d' : Option Disk) (ok : Bool) → Runs cs d 
 runs_from cs None d' ok h = h
 runs_from cs (Some x) d' ok h = h
 
-pub write_is_again : (e : Whole) (r : Replica) (d d' : Option Disk) (ok : Bool) → may_be_stored (part_at r e.header.op) ≡ true → Runs (again_calls e) d d' ok → Performs (writes e) r d d' ok
-write_is_again e r d d' ok i h = record { silent = refl; ran = rw i (runs_from (again_calls e) d d' ok h) }
+pub write_is_again : (e : Whole) (r : Replica) (d d' : Option Disk) (ok : Bool) → may_be_stored (part_at r e.header.op) ≡ true → Runs (again_calls 1 e) d d' ok → Performs (writes e) r d d' ok
+write_is_again e r d d' ok i h = record { silent = refl; ran = rw i (runs_from (again_calls 1 e) d d' ok h) }
 
-pub write_is_new : (e : Whole) (r : Replica) (d d' : Option Disk) (ok : Bool) → may_be_stored (part_at r e.header.op) ≡ false → Runs (new_calls e) d d' ok → Performs (writes e) r d d' ok
-write_is_new e r d d' ok i h = record { silent = refl; ran = rw i (runs_from (new_calls e) d d' ok h) }
+pub write_is_new : (e : Whole) (r : Replica) (d d' : Option Disk) (ok : Bool) → may_be_stored (part_at r e.header.op) ≡ false → Runs (new_calls 1 e) d d' ok → Performs (writes e) r d d' ok
+write_is_new e r d d' ok i h = record { silent = refl; ran = rw i (runs_from (new_calls 1 e) d d' ok h) }
 
 pub save_is : (r : Replica) (old v : SuperValue) (d d' : Option Disk) (ok : Bool) → RunsFrom (write_calls old v) d d' ok → old ≡ r.saved → v ≡ value_of r → Performs saves r d d' ok
 save_is r old v d d' ok h i e = let k = rw (i, e) at h in record { silent = refl; ran = k }

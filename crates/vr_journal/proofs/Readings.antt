@@ -9,7 +9,7 @@ use Rattle.vr_memory.specs.Ready.{IsReady}
 use Rattle.vr_msg.specs.Logs.{header_of}
 use Rattle.vr_msg.specs.declared.output.Output.{Output}
 use Rattle.vr_journal.specs.Reads.{Reads}
-use Rattle.vr_memory.specs.Replica.{Replica, is_here, part_at}
+use Rattle.vr_memory.specs.Replica.{Replica, is_here, part_at, version}
 use Rattle.vr_memory.specs.Outputs.{prepare, send_to_all}
 use Rattle.vr_memory.specs.Steps.{Word, says}
 use Rattle.vr_memory.specs.Words.{entry_of, lost, prepare_again, with_entry, with_entry_at}
@@ -65,6 +65,11 @@ here_made h r ready e =
     let made = (ready.sound.entries.each h.op h (ap header_of e)).1.made in
     let views = ready.sound.order.views in
     omega arith
+
+-- and is one that the file takes
+pub here_taken : (h : Header) (r : Replica) → IsReady r → part_at r h.op ≡ Here h → h.version ≤ version r
+unfolding IsReady
+here_taken h r ready e = (ready.sound.entries.each h.op h (ap header_of e)).1.of_version
 
 -- ---- and told of again
 

@@ -2,7 +2,7 @@
 ghost use Rattle.std.specs.Prelude.{◌≡◌, ◌<◌, ◌≤◌, ◌+◌, ◌-◌, ◌^◌, IfOk, OnOk, true, if◌then◌else◌};
 ghost use Rattle.vr_ckpt.specs.Saves.{saved_checkpoint};
 ghost use Rattle.vr_ckpt.specs.StateTexts.{texts_of};
-ghost use Rattle.vr_memory.specs.Replica.{part_at};
+ghost use Rattle.vr_memory.specs.Replica.{part_at, version};
 ghost use Rattle.vr_memory.specs.Words.{checkpoints, make_checkpoint, is_checkpoint, applied, apply_entry, apply_next, apply, with_entry, learn};
 ghost use Rattle.vr_step.specs.Does.{Does, Caused, PerformsTo, done};
 ghost use Rattle.vr_header.specs.declared.part.Part.TheVariants.{Here};
@@ -102,6 +102,7 @@ fn apply_entry<D: SectorDisk>(
     out: &mut Outbox,
 ) -> Result<(), Halt>
     requires may { MayApply replica.old }
+    requires taken { entry.header.version ≤ version replica.old }
     requires room { replica.old.saved.fields.sequence + 1 < 2 ^ 64 }
     ensures ready { OnOk result (IsReady replica.new) }
     ensures view { OnOk result (replica.new.view ≡ replica.old.view) }
@@ -115,7 +116,7 @@ fn apply_entry<D: SectorDisk>(
 }
 
 // Applies the entry of this header, which is stored.
-#[tactic(auto, using(vr_step::proofs::Stepping::readings, vr_step::proofs::Stepping::wants, vr_memory::proofs::Memory::readies, vr_memory::proofs::Memory::may_ready))]
+#[tactic(auto, using(vr_step::proofs::Stepping::readings, vr_step::proofs::Stepping::wants, vr_memory::proofs::Memory::readies, vr_memory::proofs::Memory::may_ready, crate::proofs::Readings::here_taken))]
 fn apply_found<D: SectorDisk>(
     replica: &mut Replica,
     alloc: Global,

@@ -63,7 +63,7 @@ pub fn save<D: SectorDisk>(
 }
 
 /// Stores an entry.
-#[tactic(auto, using(vr_step::proofs::Stepping::effects, vr_memory::proofs::Memory::window_of, vr_memory::proofs::Memory::readies), unfolding(crate::specs::Words::write))]
+#[tactic(auto, using(vr_step::proofs::Stepping::effects, vr_memory::proofs::Memory::window_of, vr_memory::proofs::Memory::entry_taken, vr_memory::proofs::Memory::readies), unfolding(crate::specs::Words::write))]
 pub fn write<D: SectorDisk>(
     replica: &mut Replica,
     disk: &mut D,

@@ -1,18 +1,20 @@
 -- Calls by what becomes of them, and the table that they leave.
-use Rattle.std.proofs.Common.{ℕ, zero, suc, ◌+◌, ◌<◌, ◌≤◌, ◌≡◌, refl, sym, ap, ◌∙◌, arith, Bool, true, false, cond, ◌||◌, ◌&&◌, List, [], ◌∷◌, ◌++◌, length, get_or, Option, Some, None, subst}
-use Rattle.std.specs.Prelude.{replicate}
-use Rattle.std.proofs.lemmas.List.{get_or-replicate}
-use Rattle.vr_base.specs.Bytes.{number}
+use Rattle.std.proofs.Common.{ℕ, zero, suc, ◌+◌, ◌-◌, ◌*◌, ◌<◌, ◌≤◌, ◌≡◌, refl, sym, ap, ◌∙◌, arith, Bool, true, false, cond, ◌||◌, ◌&&◌, List, [], ◌∷◌, length, get_or, Option, Some, None, subst}
+use Rattle.std.specs.Prelude.{is_some, replicate}
+use Rattle.std.specs.Option.{option_map}
+use Rattle.std.proofs.lemmas.List.{get_or-replicate, replicate-append-replicate}
+use Rattle.vr_base.specs.Bytes.{is_zeros}
+use Rattle.vr_base.proofs.ZeroLaws.{zeros_are}
 use Rattle.vr_disk.specs.DiskState.{Beside, Call, Sync, Cell, Disk, Face, Fate, Goes, Fails, Cuts, Runs, Attaches, after, attached, attached_as, blank, cut_at, is_to_fail, judged, nothing_beside, reads}
-use Rattle.vr_disk.specs.Regions.{prepare_place}
-use Rattle.vr_disk.specs.Sectors.{has, together}
+use Rattle.vr_disk.specs.Regions.{prepare_place, prepare_sectors, sectors}
+use Rattle.vr_disk.specs.Sectors.{behind, has, together}
+use Rattle.vr_disk.proofs.Places.{counted, inside}
 use Rattle.vr_disk.proofs.Running.{one_cuts, one_fails, one_goes}
-use Rattle.vr_header.specs.Made.{entry_of}
-use Rattle.vr_header.specs.Spelling.{fault_of}
 use Rattle.vr_mem.specs.Seen.{copies, zero_cell}
 use Rattle.vr_lie.specs.Faults.{HeldRan, held_at}
 use Rattle.vr_rings.specs.Held.{entry_of_both, header_sector, held_after, is_prepare}
-use Rattle.vr_rings.specs.Slots.{header_reading, size_at, whole_of}
+use Rattle.vr_rings.specs.Slots.{header_reading, padded, prepare_reading}
+use Rattle.vr_rings.proofs.Spelling.{zeros_none}
 use Rattle.vr_lie.specs.Table.{IsTable}
 use Rattle.vr_lie.proofs.Slotted.{same_entry, same_slot}
 
@@ -45,56 +47,63 @@ cuts_told d e g h c code n v i j k =
 
 -- ---- calls that leave each reading
 
-pub same_table : (f g : Face) (held : List (Option (List ℕ))) → ((k : ℕ) → reads g k ≡ reads f k) → IsTable f held → IsTable g held
-same_table f g held h t = record { count = t.count; seen = λ s l p e. t.seen s l p (sym (same_entry f g s (same_slot f g s l (λ k z. h k))) ∙ e) }
+pub same_table : (ver : ℕ) (f g : Face) (held : List (Option (List ℕ))) → ((k : ℕ) → reads g k ≡ reads f k) → IsTable ver f held → IsTable ver g held
+same_table ver f g held h t = record { count = t.count; seen = λ s l p e. t.seen s l p (sym (same_entry ver f g s (same_slot ver f g s l (λ k z. h k))) ∙ e) }
 
 attached_as_cells : (d : Disk) (fails : Bool) → (attached_as d fails).disk.face.cells ≡ d.face.cells
 attached_as_cells d true = refl
 attached_as_cells d false = refl
 
-pub attach_table : (d e : Disk) (ok : Bool) (held : List (Option (List ℕ))) → Attaches (Some d) (Some e) ok → IsTable d.face held → IsTable e.face held
+pub attach_table : (ver : ℕ) (d e : Disk) (ok : Bool) (held : List (Option (List ℕ))) → Attaches (Some d) (Some e) ok → IsTable ver d.face held → IsTable ver e.face held
 unfolding attached
-attach_table d e ok held h t =
+attach_table ver d e ok held h t =
     let same : e ≡ (attached_as d (d.fate.dead || is_to_fail d.fate)).disk = let x = h.0 in cc in
     let cells : e.face.cells ≡ d.face.cells = ap (λ (e : Disk). e.face.cells) same ∙ attached_as_cells d (d.fate.dead || is_to_fail d.fate) in
-    same_table d.face e.face held (λ k. ap (λ (cs : List Cell). (get_or cs k blank).reads) cells) t
+    same_table ver d.face e.face held (λ k. ap (λ (cs : List Cell). (get_or cs k blank).reads) cells) t
 
-pub clear_table : (d e g : Disk) (held : List (Option (List ℕ))) → e ≡ record d { fate = (judged d.fate).next } → g ≡ record e { face = after e.face Sync } → IsTable d.face held → IsTable g.face held
-clear_table d e g held i j t =
+pub clear_table : (ver : ℕ) (d e g : Disk) (held : List (Option (List ℕ))) → e ≡ record d { fate = (judged d.fate).next } → g ≡ record e { face = after e.face Sync } → IsTable ver d.face held → IsTable ver g.face held
+clear_table ver d e g held i j t =
     let there : g.face ≡ after d.face Sync = ap (λ (g : Disk). g.face) j ∙ ap (λ (e : Disk). after e.face Sync) i in
-    subst (λ (f : Face). IsTable f held) (sym there) (same_table d.face (after d.face Sync) held (λ k. refl) t)
+    subst (λ (f : Face). IsTable ver f held) (sym there) (same_table ver d.face (after d.face Sync) held (λ k. refl) t)
 
-pub sync_held : (d : Disk) (held : List (Option (List ℕ))) → Goes ≡ (judged d.fate).verdict → HeldRan d Sync held held
+pub sync_held : (ver : ℕ) (d : Disk) (held : List (Option (List ℕ))) → Goes ≡ (judged d.fate).verdict → HeldRan ver d Sync held held
 unfolding held_after
-sync_held d held v = record { each = λ s l. rw (← v) refl }
+sync_held ver d held v = record { each = λ s l. rw (← v) refl }
 
 -- ---- a disk of zeros
 
-zeros_read : (f : Face) (i : ℕ) → f ≡ record { cells = copies 1424 zero_cell; waiting = [] } → i < 1424 → reads f i ≡ Some (copies 512 0)
+abbrev IsZeroed : Face → Type 0
+IsZeroed f = f ≡ record { cells = copies sectors zero_cell; waiting = [] }
+
+zeros_read : (f : Face) (i : ℕ) → IsZeroed f → i < sectors → reads f i ≡ Some (replicate 512 0)
 unfolding copies zero_cell
-zeros_read f i e l = ap (λ (f : Face). reads f i) e ∙ ap (λ (c : Cell). c.reads) (get_or-replicate 1424 i zero_cell blank l)
+zeros_read f i e l = ap (λ (f : Face). reads f i) e ∙ ap (λ (c : Cell). c.reads) (get_or-replicate sectors i zero_cell blank l)
 
-four : List ℕ
-four = copies 512 0 ++ (copies 512 0 ++ (copies 512 0 ++ (copies 512 0 ++ [])))
+zeros_together : (n i : ℕ) (f : Face) → IsZeroed f → i + n ≤ sectors → together i n f ≡ Some (replicate (512 * n) 0)
+unfolding together
+zeros_together zero i f e l = refl
+zeros_together (suc n) i f e l =
+    let more : 512 + 512 * n ≡ 512 * suc n = omega arith in
+    ap (λ r. behind r (together (i + 1) n f)) (zeros_read f i e (omega arith)) ∙ (ap (behind (Some (replicate 512 0))) (zeros_together n (i + 1) f e (omega arith)) ∙ ap Some (replicate-append-replicate 512 (512 * n) 0 ∙ ap (λ k. replicate k 0) more))
 
-zeros_whole : (f : Face) (i : ℕ) → f ≡ record { cells = copies 1424 zero_cell; waiting = [] } → i + 4 ≤ 1424 → together i 4 f ≡ Some four
-unfolding together four
-zeros_whole f i e l =
-    rw (zeros_read f i e (omega arith), zeros_read f (i + 1) e (omega arith), zeros_read f (i + 1 + 1) e (omega arith), zeros_read f (i + 1 + 1 + 1) e (omega arith)) refl
-
-no_prepare : is_prepare four ≡ false
-unfolding four copies whole_of size_at entry_of fault_of number
-no_prepare = refl
+zeros_whole : (ver slot : ℕ) (f : Face) → IsZeroed f → slot < 64 → prepare_reading ver f slot ≡ Some (replicate 4096 0)
+zeros_whole ver s f e l =
+    let within = inside ver s l in
+    let count = counted ver in
+    let n = prepare_sectors ver in
+    let all : 512 * n + (4096 - 512 * n) ≡ 4096 = omega (arith, count.1) in
+    ap (option_map (padded ver)) (zeros_together n (prepare_place ver s) f e (omega (arith, within))) ∙ ap Some (replicate-append-replicate (512 * n) (4096 - 512 * n) 0 ∙ ap (λ k. replicate k 0) all)
 
 and_no : (a b : Bool) → b ≡ false → (a && b) ≡ false
 and_no true b e = e
 and_no false b e = refl
 
-no_entry : (header : Option (List ℕ)) (p : List ℕ) → entry_of_both header (Some four) ≡ Some p → ⊥
+-- zeros are no entry
+no_entry : (header : Option (List ℕ)) (zs p : List ℕ) → is_zeros zs ≡ true → entry_of_both header (Some zs) ≡ Some p → ⊥
 unfolding entry_of_both
-no_entry header p e =
-    let n : (has (header_sector four) header && is_prepare four) ≡ false = and_no (has (header_sector four) header) (is_prepare four) no_prepare in
-    let x : None ≡ Some p = sym (ap (λ b. cond b (Some four) None) n) ∙ e in
+no_entry header zs p z e =
+    let n : (has (header_sector zs) header && is_prepare zs) ≡ false = and_no (has (header_sector zs) header) (is_prepare zs) (ap is_some (zeros_none zs z)) in
+    let x : None ≡ Some p = sym (ap (λ b. cond b (Some zs) None) n) ∙ e in
     absurd cc
 
 pub empty_at : (n slot : ℕ) → held_at (replicate n None) slot ≡ None
@@ -106,12 +115,10 @@ empty_count : (n : ℕ) → let none : List (Option (List ℕ)) = replicate n No
 empty_count zero = refl
 empty_count (suc n) = ap suc (empty_count n)
 
-pub new_table : (f : Face) (table : List (Option (List ℕ))) → f ≡ record { cells = copies 1424 zero_cell; waiting = [] } → table ≡ replicate 64 None → IsTable f table
-new_table f table e h =
-    let t : IsTable f (replicate 64 None) = record {
+pub new_table : (ver : ℕ) (f : Face) (table : List (Option (List ℕ))) → IsZeroed f → table ≡ replicate 64 None → IsTable ver f table
+new_table ver f table e h =
+    let t : IsTable ver f (replicate 64 None) = record {
       count = empty_count 64;
-      seen = λ s l p x.
-          let w = zeros_whole f (prepare_place s) e (omega arith) in
-          absurd (no_entry (header_reading f s) p (sym (ap (entry_of_both (header_reading f s)) w) ∙ x));
+      seen = λ s l p x. absurd (no_entry (header_reading f s) (replicate 4096 0) p (zeros_are 4096) (sym (ap (entry_of_both (header_reading f s)) (zeros_whole ver s f e l)) ∙ x));
     } in
-    subst (IsTable f) (sym h) t
+    subst (IsTable ver f) (sym h) t

@@ -8,9 +8,13 @@ use Rattle.vr_lie.specs.declared.fault.Fault.TheVariants.{Damage, Stale, Unread,
 use Rattle.vr_lie.specs.Faults.{faulted}
 use Rattle.vr_lie.specs.Table.{slot_at}
 
-slots_row : map slot_at (79 ∷ 80 ∷ 81 ∷ 143 ∷ 144 ∷ 147 ∷ 148 ∷ 399 ∷ 400 ∷ []) ≡ None ∷ Some 0 ∷ Some 1 ∷ Some 63 ∷ Some 0 ∷ Some 0 ∷ Some 1 ∷ Some 63 ∷ None ∷ []
+slots_row : map (slot_at 1) (79 ∷ 80 ∷ 81 ∷ 143 ∷ 144 ∷ 147 ∷ 148 ∷ 399 ∷ 400 ∷ []) ≡ None ∷ Some 0 ∷ Some 1 ∷ Some 63 ∷ Some 0 ∷ Some 0 ∷ Some 1 ∷ Some 63 ∷ None ∷ []
 unfolding slot_at
 slots_row = refl
+
+later_slots_row : map (slot_at 2) (79 ∷ 80 ∷ 143 ∷ 144 ∷ 399 ∷ 1423 ∷ 1424 ∷ 1431 ∷ 1432 ∷ 1935 ∷ 1936 ∷ []) ≡ None ∷ Some 0 ∷ Some 63 ∷ None ∷ None ∷ None ∷ Some 0 ∷ Some 0 ∷ Some 1 ∷ Some 63 ∷ None ∷ []
+unfolding slot_at
+later_slots_row = refl
 
 two : Face
 two = record {

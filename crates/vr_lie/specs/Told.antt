@@ -12,5 +12,9 @@ told_by m = disk_of m.disk
 abbrev pub held_by : LieDisk → List (Option (List ℕ))
 held_by m = table_of m.held.items
 
+-- the version of the file on it, by which its slots have their sectors
+abbrev pub version_by : LieDisk → ℕ
+version_by m = m.version
+
 pub told_is_whole : (m : LieDisk) → IfSome (Some (told_by m)) (λ d. IsFace d.face)
 told_is_whole m = m.disk.sectors.face

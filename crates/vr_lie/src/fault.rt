@@ -1,6 +1,6 @@
 //! Faults of sectors.
 
-/// What is to be wrong with a sector, until it is written again. Sectors are below 1,424.
+/// What is to be wrong with a sector, until it is written again. Sectors are below 3,984.
 #[derive(Clone, Copy, Debug, PartialEq, Eq)]
 pub enum Fault {
     /// It reads as what it should hold with every bit turned.

@@ -1,23 +1,26 @@
 //! What the slots hold.
-ghost use Rattle.std.specs.Prelude.{◌≡◌, ◌<◌, None, Some, IfSome, if◌then◌else◌, length, slice_set};
+ghost use Rattle.std.specs.Prelude.{◌≡◌, ◌≤◌, ◌<◌, None, Some, IfSome, if◌then◌else◌, length, slice_set};
 ghost use Rattle.vr_disk.specs.DiskState.{Sync, Write, after, settle};
 ghost use Rattle.vr_lie.specs.Faults.{HeldAfter, HeldLooked, held_at};
 ghost use Rattle.vr_rings.specs.Held.{found, held_after, held_begun, is_prepare, keeps, kept, looked};
 ghost use Rattle.vr_disk.specs.Sectors.{has};
-ghost use Rattle.vr_lie.specs.Table.{HeldBegun, HeldCut, IsOwnHeader, IsTable, held_of, slot_at, table_of};
+ghost use Rattle.vr_lie.specs.Table.{HeldBegun, HeldCut, IsOwnHeader, IsTable, held_of, slot_at, slot_in, table_of};
 ghost use Rattle.vr_mem.specs.Cells.{disk_of};
 
-use crate::reading::{begins_alike, has_header, is_prepare, read_prepare};
-use vr_disk::{Sector, header_place, prepare_place, sector_at};
+use crate::reading::{begins_alike, has_header, is_prepare};
+use vr_base::Version;
+use vr_disk::{
+    SECTOR_SIZE, SECTORS, Sector, header_place, prepare_place, prepare_sectors, sector_at,
+};
 use vr_mem::CellDisk;
-use vr_rings::header_sector;
+use vr_rings::{header_sector, read_bytes};
 
-/// What a slot holds: an entry, by the four sectors of its prepare, or nothing.
+/// What a slot holds: an entry, by its prepare, or nothing.
 #[derive(Clone, Copy)]
 pub struct Held {
     pub some: bool,
     /// Its header, its body and zeros. What stands here where nothing is held stays: to clear it would only take time.
-    pub prepare: [u8; 2048],
+    pub prepare: [u8; 4096],
 }
 
 impl Held {
@@ -26,25 +29,38 @@ impl Held {
     {
         Held {
             some: false,
-            prepare: [0; 2048],
+            prepare: [0; 4096],
         }
     }
 }
 
-/// The slot that a sector belongs to.
-#[tactic(auto, unfolding(crate::specs::Table::slot_at))]
-pub fn slot_of(i: u32) -> Option<u32>
-    ensures slot { result ≡ slot_at i }
+// The slot that a sector belongs to, of 64 that have so many sectors each, one behind the other from the first one on.
+#[tactic(auto, using(std::proofs::lemmas::Grind::common_steps, crate::proofs::Slotted::in_64))]
+fn slot_in(i: u32, first: u32, count: u32) -> Option<u32>
+    requires first { first < SECTORS }
+    requires least { 1 ≤ count }
+    requires most { count ≤ 8 }
+    ensures slot { result ≡ slot_in first count i }
     ensures within { IfSome result (λ slot. slot < 64) }
 {
-    if i < 80 {
+    if i < first {
         None
-    } else if i < 144 {
-        Some(i - 80)
-    } else if i < 400 {
-        Some((i - 144) / 4)
+    } else if i < first + 64 * count {
+        Some((i - first) / count)
     } else {
         None
+    }
+}
+
+/// The slot that a sector belongs to, in a file of this version.
+#[tactic(auto, unfolding(crate::specs::Table::slot_at))]
+pub fn slot_of(i: u32, version: Version) -> Option<u32>
+    ensures slot { result ≡ slot_at version i }
+    ensures within { IfSome result (λ slot. slot < 64) }
+{
+    match slot_in(i, header_place(0), 1) {
+        Some(slot) => Some(slot),
+        None => slot_in(i, prepare_place(0, version), prepare_sectors(version)),
     }
 }
 
@@ -56,7 +72,7 @@ fn is_held(held: &Held, bytes: &[u8]) -> bool
 }
 
 // A slot holds the entry that it reads as, where these are an entry's bytes. Those of the one that it holds aren't hashed.
-fn find(disk: &mut CellDisk, bytes: &[u8; 2048], held: &mut Held)
+fn find(disk: &mut CellDisk, bytes: &[u8; 4096], held: &mut Held)
     ensures told { disk_of disk.new ≡ disk_of disk.old }
     ensures faults { disk.new.faults ≡ disk.old.faults }
     ensures value { held_of held.new ≡ found (if is_prepare bytes.now then Some bytes.now else None) (held_of held.old) }
@@ -72,185 +88,221 @@ fn find(disk: &mut CellDisk, bytes: &[u8; 2048], held: &mut Held)
 
 // Looks at a slot whose header sector is that of the prepare beside it.
 #[tactic(auto, using(std::proofs::lemmas::Grind::common_steps, crate::proofs::Early::none_looked))]
-fn look_whole(disk: &mut CellDisk, slot: u32, held: &mut Held)
+fn look_whole(disk: &mut CellDisk, slot: u32, held: &mut Held, version: Version)
     requires slot { slot < 64 }
-    requires own { IsOwnHeader (disk_of disk.old).face slot }
+    requires own { IsOwnHeader version (disk_of disk.old).face slot }
     ensures told { disk_of disk.new ≡ disk_of disk.old }
     ensures faults { disk.new.faults ≡ disk.old.faults }
-    ensures value { held_of held.new ≡ looked (disk_of disk.old).face slot (held_of held.old) }
+    ensures value { held_of held.new ≡ looked version (disk_of disk.old).face slot (held_of held.old) }
 {
-    let mut bytes = [0; 2048];
-    if read_prepare(disk, slot, &mut bytes) {
+    let mut bytes = [0; 4096];
+    if read_bytes(disk, slot, &mut bytes, version) {
         find(disk, &bytes, held);
     }
 }
 
 // Looks at a slot again: at the first sector of its prepare, and at the others where its header sector is that of this one.
-fn look_in(disk: &mut CellDisk, slot: u32, held: &mut Held)
+fn look_in(disk: &mut CellDisk, slot: u32, held: &mut Held, version: Version)
     requires { slot < 64 }
     ensures told { disk_of disk.new ≡ disk_of disk.old }
     ensures faults { disk.new.faults ≡ disk.old.faults }
-    ensures value { held_of held.new ≡ looked (disk_of disk.old).face slot (held_of held.old) }
+    ensures value { held_of held.new ≡ looked version (disk_of disk.old).face slot (held_of held.old) }
 {
-    if begins_alike(disk, slot) {
-        look_whole(disk, slot, held);
+    if begins_alike(disk, slot, version) {
+        look_whole(disk, slot, held, version);
     }
 }
 
 /// Looks at a slot again.
-pub fn look(disk: &mut CellDisk, held: &mut [Held], slot: u32)
+pub fn look(disk: &mut CellDisk, held: &mut [Held], slot: u32, version: Version)
     requires slot { slot < 64 }
     requires count { length held.old ≡ 64 }
     ensures told { disk_of disk.new ≡ disk_of disk.old }
     ensures faults { disk.new.faults ≡ disk.old.faults }
-    ensures held { table_of held.new ≡ slice_set (table_of held.old) slot (looked (disk_of disk.old).face slot (held_at (table_of held.old) slot)) }
+    ensures held { table_of held.new ≡ slice_set (table_of held.old) slot (looked version (disk_of disk.old).face slot (held_at (table_of held.old) slot)) }
 {
-    look_in(disk, slot, &mut held[slot as usize]);
+    look_in(disk, slot, &mut held[slot as usize], version);
 }
 
 /// Looks at each slot again.
-pub fn look_all(disk: &mut CellDisk, held: &mut [Held])
+pub fn look_all(disk: &mut CellDisk, held: &mut [Held], version: Version)
     requires { length held.old ≡ 64 }
     ensures told { disk_of disk.new ≡ disk_of disk.old }
     ensures faults { disk.new.faults ≡ disk.old.faults }
-    ensures held { HeldLooked (disk_of disk.old).face (table_of held.old) (table_of held.new) }
-    ensures table { IsTable (disk_of disk.new).face (table_of held.new) }
+    ensures held { HeldLooked version (disk_of disk.old).face (table_of held.old) (table_of held.new) }
+    ensures table { IsTable version (disk_of disk.new).face (table_of held.new) }
 {
     for slot in 0..64 {
-        look(disk, held, slot);
+        look(disk, held, slot, version);
     }
 }
 
 // Whether a write leaves it that a slot holds the entry with this prepare.
 #[tactic(auto, unfolding(vr_rings::specs::Held::keeps, vr_base::specs::Bytes::piece))]
-fn keeps(disk: &mut CellDisk, slot: u32, i: u32, bytes: &[u8], prepare: &[u8]) -> bool
+fn keeps(
+    disk: &mut CellDisk,
+    slot: u32,
+    i: u32,
+    bytes: &[u8],
+    prepare: &[u8],
+    version: Version,
+) -> bool
     requires slot { slot < 64 }
     requires size { length bytes.now ≡ 512 }
-    requires prepare { length prepare.now ≡ 2048 }
+    requires prepare { length prepare.now ≡ 4096 }
     ensures told { disk_of disk.new ≡ disk_of disk.old }
     ensures faults { disk.new.faults ≡ disk.old.faults }
-    ensures value { result ≡ keeps (disk_of disk.old).face slot i bytes.now prepare.now }
+    ensures value { result ≡ keeps version (disk_of disk.old).face slot i bytes.now prepare.now }
 {
     if i == header_place(slot) {
         return bytes == header_sector(prepare).bytes.as_slice();
     }
-    let first = prepare_place(slot);
-    if first <= i && i < first + 4 {
-        let part = sector_at(prepare, 512 * (i - first) as usize);
+    let first = prepare_place(slot, version);
+    if first <= i && i < first + prepare_sectors(version) {
+        let part = sector_at(prepare, SECTOR_SIZE * (i - first) as usize);
         return has_header(disk, slot, prepare) && bytes == part.bytes.as_slice();
     }
     true
 }
 
 // Whether a write leaves it that a slot holds what it holds.
-fn keeps_held(disk: &mut CellDisk, slot: u32, i: u32, from: &Sector, held: &Held) -> bool
+fn keeps_held(
+    disk: &mut CellDisk,
+    slot: u32,
+    i: u32,
+    from: &Sector,
+    held: &Held,
+    version: Version,
+) -> bool
     requires { slot < 64 }
     ensures told { disk_of disk.new ≡ disk_of disk.old }
     ensures faults { disk.new.faults ≡ disk.old.faults }
-    ensures value { kept (disk_of disk.old).face slot i from.now.bytes (held_of held.now) ≡ (if result then held_of held.now else None) }
+    ensures value { kept version (disk_of disk.old).face slot i from.now.bytes (held_of held.now) ≡ (if result then held_of held.now else None) }
 {
     if held.some {
-        keeps(disk, slot, i, &from.bytes, &held.prepare)
+        keeps(disk, slot, i, &from.bytes, &held.prepare, version)
     } else {
         true
     }
 }
 
 // Looks at a slot that a write leaves what it holds, or nothing.
-fn follow(disk: &mut CellDisk, slot: u32, keeps: bool, held: &mut Held)
+fn follow(disk: &mut CellDisk, slot: u32, keeps: bool, held: &mut Held, version: Version)
     requires { slot < 64 }
     ensures told { disk_of disk.new ≡ disk_of disk.old }
     ensures faults { disk.new.faults ≡ disk.old.faults }
-    ensures value { held_of held.new ≡ looked (disk_of disk.old).face slot (if keeps then held_of held.old else None) }
+    ensures value { held_of held.new ≡ looked version (disk_of disk.old).face slot (if keeps then held_of held.old else None) }
 {
     if !keeps {
         held.some = false;
     }
-    look_in(disk, slot, held);
+    look_in(disk, slot, held, version);
 }
 
 // Writes a sector of a slot.
-fn put_in(disk: &mut CellDisk, held: &mut [Held], slot: u32, i: u32, from: &Sector)
+fn put_in(
+    disk: &mut CellDisk,
+    held: &mut [Held],
+    slot: u32,
+    i: u32,
+    from: &Sector,
+    version: Version,
+)
     requires slot { slot < 64 }
-    requires i { i < 1424 }
+    requires i { i < SECTORS }
     requires count { length held.old ≡ 64 }
     ensures told { disk_of disk.new ≡ record (disk_of disk.old) { face = after (disk_of disk.old).face (Write i from.now.bytes) } }
     ensures faults { disk.new.faults ≡ disk.old.faults }
-    ensures held { table_of held.new ≡ slice_set (table_of held.old) slot (held_after (disk_of disk.old).face (Write i from.now.bytes) slot (held_at (table_of held.old) slot)) }
+    ensures held { table_of held.new ≡ slice_set (table_of held.old) slot (held_after version (disk_of disk.old).face (Write i from.now.bytes) slot (held_at (table_of held.old) slot)) }
 {
     let at = slot as usize;
-    let keeps = keeps_held(disk, slot, i, from, &held[at]);
+    let keeps = keeps_held(disk, slot, i, from, &held[at], version);
     disk.put(i, from);
-    follow(disk, slot, keeps, &mut held[at]);
+    follow(disk, slot, keeps, &mut held[at], version);
 }
 
 /// A write that goes through.
-pub fn put(disk: &mut CellDisk, held: &mut [Held], i: u32, from: &Sector)
-    requires i { i < 1424 }
-    requires table { IsTable (disk_of disk.old).face (table_of held.old) }
+pub fn put(disk: &mut CellDisk, held: &mut [Held], i: u32, from: &Sector, version: Version)
+    requires i { i < SECTORS }
+    requires table { IsTable version (disk_of disk.old).face (table_of held.old) }
     ensures told { disk_of disk.new ≡ record (disk_of disk.old) { face = after (disk_of disk.old).face (Write i from.now.bytes) } }
     ensures faults { disk.new.faults ≡ disk.old.faults }
-    ensures held { HeldAfter (disk_of disk.old).face (Write i from.now.bytes) (table_of held.old) (table_of held.new) }
-    ensures table { IsTable (disk_of disk.new).face (table_of held.new) }
+    ensures held { HeldAfter version (disk_of disk.old).face (Write i from.now.bytes) (table_of held.old) (table_of held.new) }
+    ensures table { IsTable version (disk_of disk.new).face (table_of held.new) }
 {
-    match slot_of(i) {
-        Some(slot) => put_in(disk, held, slot, i, from),
+    match slot_of(i, version) {
+        Some(slot) => put_in(disk, held, slot, i, from, version),
         None => disk.put(i, from),
     }
 }
 
 // Begins to write a sector of a slot, which the code then settles.
-fn begin_in(disk: &mut CellDisk, held: &mut [Held], slot: u32, i: u32, from: &Sector, code: u64)
+fn begin_in(
+    disk: &mut CellDisk,
+    held: &mut [Held],
+    slot: u32,
+    i: u32,
+    from: &Sector,
+    code: u64,
+    version: Version,
+)
     requires slot { slot < 64 }
-    requires i { i < 1424 }
+    requires i { i < SECTORS }
     requires count { length held.old ≡ 64 }
     ensures told { disk_of disk.new ≡ record (disk_of disk.old) { face = after (disk_of disk.old).face (Write i from.now.bytes) } }
     ensures faults { disk.new.faults ≡ disk.old.faults }
-    ensures held { table_of held.new ≡ slice_set (table_of held.old) slot (held_begun code (disk_of disk.old).face (Write i from.now.bytes) slot (held_at (table_of held.old) slot)) }
+    ensures held { table_of held.new ≡ slice_set (table_of held.old) slot (held_begun version code (disk_of disk.old).face (Write i from.now.bytes) slot (held_at (table_of held.old) slot)) }
 {
     let at = slot as usize;
-    let keeps = keeps_held(disk, slot, i, from, &held[at]);
+    let keeps = keeps_held(disk, slot, i, from, &held[at], version);
     disk.put(i, from);
     if disk.digit(code, i) != 0 {
-        follow(disk, slot, keeps, &mut held[at]);
+        follow(disk, slot, keeps, &mut held[at], version);
     }
 }
 
-fn begin(disk: &mut CellDisk, held: &mut [Held], i: u32, from: &Sector, code: u64)
-    requires i { i < 1424 }
-    requires table { IsTable (disk_of disk.old).face (table_of held.old) }
+fn begin(disk: &mut CellDisk, held: &mut [Held], i: u32, from: &Sector, code: u64, version: Version)
+    requires i { i < SECTORS }
+    requires table { IsTable version (disk_of disk.old).face (table_of held.old) }
     ensures told { disk_of disk.new ≡ record (disk_of disk.old) { face = after (disk_of disk.old).face (Write i from.now.bytes) } }
     ensures faults { disk.new.faults ≡ disk.old.faults }
-    ensures held { HeldBegun code (disk_of disk.old).face (Write i from.now.bytes) (table_of held.old) (table_of held.new) }
+    ensures held { HeldBegun version code (disk_of disk.old).face (Write i from.now.bytes) (table_of held.old) (table_of held.new) }
 {
-    match slot_of(i) {
-        Some(slot) => begin_in(disk, held, slot, i, from, code),
+    match slot_of(i, version) {
+        Some(slot) => begin_in(disk, held, slot, i, from, code, version),
         None => disk.put(i, from),
     }
 }
 
 /// A write that is cut by this code.
-pub fn cut_put(disk: &mut CellDisk, held: &mut [Held], i: u32, from: &Sector, code: u64)
-    requires i { i < 1424 }
-    requires table { IsTable (disk_of disk.old).face (table_of held.old) }
+pub fn cut_put(
+    disk: &mut CellDisk,
+    held: &mut [Held],
+    i: u32,
+    from: &Sector,
+    code: u64,
+    version: Version,
+)
+    requires i { i < SECTORS }
+    requires table { IsTable version (disk_of disk.old).face (table_of held.old) }
     ensures told { disk_of disk.new ≡ record (disk_of disk.old) { face = settle code (after (disk_of disk.old).face (Write i from.now.bytes)) } }
     ensures faults { disk.new.faults ≡ disk.old.faults }
-    ensures held { HeldCut code (disk_of disk.old).face (Write i from.now.bytes) (table_of held.old) (table_of held.new) }
-    ensures table { IsTable (disk_of disk.new).face (table_of held.new) }
+    ensures held { HeldCut version code (disk_of disk.old).face (Write i from.now.bytes) (table_of held.old) (table_of held.new) }
+    ensures table { IsTable version (disk_of disk.new).face (table_of held.new) }
 {
-    begin(disk, held, i, from, code);
+    begin(disk, held, i, from, code, version);
     disk.settle(code);
-    look_all(disk, held);
+    look_all(disk, held, version);
 }
 
 /// A sync that is cut by this code.
-pub fn cut_sync(disk: &mut CellDisk, held: &mut [Held], code: u64)
-    requires { IsTable (disk_of disk.old).face (table_of held.old) }
+pub fn cut_sync(disk: &mut CellDisk, held: &mut [Held], code: u64, version: Version)
+    requires { IsTable version (disk_of disk.old).face (table_of held.old) }
     ensures told { disk_of disk.new ≡ record (disk_of disk.old) { face = settle code (disk_of disk.old).face } }
     ensures faults { disk.new.faults ≡ disk.old.faults }
-    ensures held { HeldCut code (disk_of disk.old).face Sync (table_of held.old) (table_of held.new) }
-    ensures table { IsTable (disk_of disk.new).face (table_of held.new) }
+    ensures held { HeldCut version code (disk_of disk.old).face Sync (table_of held.old) (table_of held.new) }
+    ensures table { IsTable version (disk_of disk.new).face (table_of held.new) }
 {
     disk.settle(code);
-    look_all(disk, held);
+    look_all(disk, held, version);
 }

@@ -10,10 +10,11 @@ use Rattle.vr_lines.specs.declared.line.Line.{Line}
 use Rattle.vr_lines.specs.declared.line.Line.TheVariants.{Cluster, Request, Deliver, Tick, Stop, Start, Fuse, Misdirect}
 use Rattle.vr_lines.specs.declared.member.Place.{Place}
 use Rattle.vr_lines.specs.declared.request.Asked.{Asked}
-use Rattle.vr_lines.specs.Fits.{IsLineOf}
+use Rattle.vr_lines.specs.Fits.{IsLineOf, IsSector}
 use Rattle.vr_lines.specs.Grammar.{asked_by, behind_asked, call_of, cluster_line, damage_line, deliver_line, fuse_line, fused, is_fitting, line_behind, line_words, longest, lost_words, member_line, misdirect_line, misdirected, mode_words, parse, place_of, replica_word, request_for, request_line, sector_of, sector_words, size_of, stale_line, start_line, stop_line, tick_line, unread_line}
 use Rattle.vr_lines.specs.Numbers.{number_below, number_of}
 use Rattle.vr_lines.specs.Operations.{operation_words}
+use Rattle.vr_lines.specs.Versions.{line_sectors, schedule_version}
 use Rattle.vr_lines.specs.Words.{only_word, words_of}
 use Rattle.vr_lines.proofs.Answers.{either, through, mapped, it_is, below}
 
@@ -49,7 +50,7 @@ asked_fits n r c q =
 
 request_fits : (n : ℕ) (a : Asked) (o : Operation) → a.replica < n → IfSome (request_for a o) (IsLineOf n)
 request_fits n a o h =
-    either (IsLineOf n) (is_fitting o a.request) (Some (Request a.replica (record { cluster = 0; client = a.client; request = a.request; operation = o }))) None (λ e. h) (λ e. tt)
+    either (IsLineOf n) (is_fitting o a.request) (Some (Request a.replica (record { version = schedule_version; cluster = 0; client = a.client; request = a.request; operation = o }))) None (λ e. h) (λ e. tt)
 
 asking_fits : (n : ℕ) (words : List (List ℕ)) → IfSome (request_line n words) (IsLineOf n)
 asking_fits n [] = tt
@@ -57,7 +58,7 @@ asking_fits n (r ∷ []) = tt
 asking_fits n (r ∷ c ∷ []) = tt
 asking_fits n (r ∷ c ∷ q ∷ words) =
     through (IsLineOf n) (asked_by n r c q) (λ asked. behind_asked asked words) (λ a e.
-    through (IsLineOf n) (operation_words words) (request_for a) (λ o h.
+    through (IsLineOf n) (operation_words schedule_version words) (request_for a) (λ o h.
     request_fits n a o (it_is (λ a. a.replica < n) (asked_by n r c q) a (asked_fits n r c q) e)))
 
 -- ---- lines that speak of one replica
@@ -97,13 +98,16 @@ fuse_fits n (r ∷ j ∷ []) = tt
 fuse_fits n (r ∷ j ∷ code ∷ []) = fused_fits n r j code
 fuse_fits n (r ∷ j ∷ code ∷ more ∷ words) = tt
 
+sector_below : (word : List ℕ) (sector : ℕ) → sector_of word ≡ Some sector → IsSector sector
+sector_below word sector e = below (line_sectors schedule_version) word sector e
+
 abbrev IsPlaceOf : ℕ → Place → Type 0
-IsPlaceOf n p = (p.replica < n) × (p.sector < 1424)
+IsPlaceOf n p = (p.replica < n) × IsSector p.sector
 
 place_fits : (n : ℕ) (r s : List ℕ) → IfSome (place_of n r s) (IsPlaceOf n)
 place_fits n r s =
     through (IsPlaceOf n) (number_below n r) _ (λ replica e.
-    mapped (IsPlaceOf n) (sector_of s) _ (λ sector h. (below n r replica e, below 1424 s sector h)))
+    mapped (IsPlaceOf n) (sector_of s) _ (λ sector h. (below n r replica e, sector_below s sector h)))
 
 places_fit : (n : ℕ) (words : List (List ℕ)) → IfSome (sector_words n words) (IsPlaceOf n)
 places_fit n [] = tt
@@ -121,7 +125,7 @@ misdirected_fits n r s t =
     through (IsLineOf n) (sector_of s) _ (λ sector h.
     through (IsLineOf n) (sector_of t) _ (λ other k.
     either (IsLineOf n) (eqb sector other) None (Some (Misdirect replica sector other)) (λ d. tt)
-    (λ d. (below n r replica e, below 1424 s sector h, below 1424 t other k, λ same. grind (arith, nat_tests))))))
+    (λ d. (below n r replica e, sector_below s sector h, sector_below t other k, λ same. grind (arith, nat_tests))))))
 
 misdirect_fits : (n : ℕ) (words : List (List ℕ)) → IfSome (misdirect_line n words) (IsLineOf n)
 misdirect_fits n [] = tt

@@ -1,6 +1,7 @@
 pub mod Answers
 pub mod Digits
 pub mod FirstWord
+pub mod Operations
 pub mod Fitting
 pub mod Cutting
 pub mod Holding

@@ -1,5 +1,5 @@
 -- Worked rows of the grammar, computed: a line, and what it is.
-use Rattle.std.proofs.Common.{◌≡◌, ℕ, ◌-◌, ◌^◌, ◌++◌, codes, replicate, refl, Option, Some, None}
+use Rattle.std.proofs.Common.{◌≡◌, ℕ, ◌-◌, ◌^◌, ◌++◌, codes, replicate, refl, [], ◌∷◌, Option, Some, None}
 use Rattle.vr_base.specs.declared.mode.Mode.TheVariants.{Strict, Careful}
 use Rattle.vr_header.specs.declared.operation.Operation.{Operation}
 use Rattle.vr_header.specs.declared.operation.Operation.TheVariants.{Register, Put, Get, Delete}
@@ -9,10 +9,11 @@ use Rattle.vr_lines.specs.declared.line.Line.TheVariants.{Cluster, Request, Deli
 use Rattle.vr_lines.specs.Grammar.{asked_by, line_words, parse}
 use Rattle.vr_lines.specs.Numbers.{digits_on, number_of}
 use Rattle.vr_lines.specs.Operations.{operation_words}
+use Rattle.vr_lines.specs.Versions.{line_sectors}
 use Rattle.vr_lines.specs.Words.{words_of}
 
 abbrev asks : ℕ → ℕ → ℕ → Operation → Option Line
-asks r c q operation = Some (Request r (record { cluster = 0; client = c; request = q; operation = operation }))
+asks r c q operation = Some (Request r (record { version = 1; cluster = 0; client = c; request = q; operation = operation }))
 
 cluster_lines : (parse 0 (codes "cluster 2") ≡ Some (Cluster 2 Strict)) × (parse 0 (codes "cluster 6") ≡ Some (Cluster 6 Strict))
     × (parse 0 (codes "cluster 1") ≡ None) × (parse 0 (codes "cluster 7") ≡ None) × (parse 3 (codes "cluster 3") ≡ None)
@@ -54,6 +55,13 @@ long_texts : (parse 2 (codes "request 0 7 1 get " ++ replicate 64 97) ≡ asks 0
 unfolding parse line_words operation_words words_of number_of digits_on asked_by is_text
 long_texts = (refl, refl, refl, refl)
 
+-- a value of version 2 has up to 3,000 bytes
+long_values : (operation_words 1 (codes "put" ∷ codes "a" ∷ replicate 1025 98 ∷ []) ≡ None)
+    × (operation_words 2 (codes "put" ∷ codes "a" ∷ replicate 3000 98 ∷ []) ≡ Some (Put (codes "a") (replicate 3000 98)))
+    × (operation_words 2 (codes "put" ∷ codes "a" ∷ replicate 3001 98 ∷ []) ≡ None)
+unfolding operation_words is_text
+long_values = (refl, refl, refl)
+
 -- the longest line
 longest_line : parse 6 (codes "request 5 18446744073709551615 4294967295 put " ++ replicate 64 97 ++ codes " " ++ replicate 1024 98)
     ≡ asks 5 (2 ^ 64 - 1) (2 ^ 32 - 1) (Put (replicate 64 97) (replicate 1024 98))
@@ -82,6 +90,10 @@ fuses : (parse 3 (codes "fuse 1 6 0") ≡ Some (Fuse 1 6 0)) × (parse 3 (codes 
     × (parse 3 (codes "fuse 1 6") ≡ None) × (parse 3 (codes "fuse 3 6 0") ≡ None) × (parse 3 (codes "fuse 1 6 0 0") ≡ None)
 unfolding parse line_words words_of number_of digits_on
 fuses = (refl, refl, refl, refl, refl, refl, refl, refl)
+
+-- the sectors of both versions
+sectors_of_lines : (line_sectors 1 ≡ 1424) × (line_sectors 2 ≡ 3984)
+sectors_of_lines = (refl, refl)
 
 -- faults: sectors are below 1,424, and a write goes astray to another one
 faults : (parse 2 (codes "damage 1 1423") ≡ Some (Damage 1 1423)) × (parse 2 (codes "stale 0 81") ≡ Some (Stale 0 81)) × (parse 2 (codes "unread 1 0") ≡ Some (Unread 1 0))

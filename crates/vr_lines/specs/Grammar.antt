@@ -12,6 +12,7 @@ use Rattle.vr_lines.specs.declared.member.Place.{Place}
 use Rattle.vr_lines.specs.declared.request.Asked.{Asked}
 use Rattle.vr_lines.specs.Numbers.{number_of, number_below}
 use Rattle.vr_lines.specs.Operations.{operation_words}
+use Rattle.vr_lines.specs.Versions.{line_sectors, schedule_version}
 use Rattle.vr_lines.specs.Words.{only_word, words_of}
 
 -- ---- the line that makes a group
@@ -55,12 +56,12 @@ is_fitting operation request = if is_register operation then request == 0 else n
 abbrev pub request_for : Asked → Operation → Option Line
 request_for asked operation =
     if is_fitting operation asked.request
-    then Some (Request asked.replica (record { cluster = 0; client = asked.client; request = asked.request; operation = operation }))
+    then Some (Request asked.replica (record { version = schedule_version; cluster = 0; client = asked.client; request = asked.request; operation = operation }))
     else None
 
 -- the operation behind
 abbrev pub behind_asked : Asked → List (List ℕ) → Option Line
-behind_asked asked words = option_and_then (request_for asked) (operation_words words)
+behind_asked asked words = option_and_then (request_for asked) (operation_words schedule_version words)
 
 -- `request R C Q OP`
 abbrev pub request_line : ℕ → List (List ℕ) → Option Line
@@ -103,9 +104,9 @@ abbrev pub fuse_line : ℕ → List (List ℕ) → Option Line
 fuse_line n (r ∷ j ∷ code ∷ []) = fused n r j code
 fuse_line n _ = None
 
--- a sector is below 1,424
+-- a sector that lines speak of
 abbrev pub sector_of : List ℕ → Option ℕ
-sector_of word = number_below 1424 word
+sector_of word = number_below (line_sectors schedule_version) word
 
 abbrev pub place_of : ℕ → List ℕ → List ℕ → Option Place
 place_of n r s =

@@ -2,19 +2,20 @@
 use Rattle.std.specs.Prelude.{ℕ, List, [], ◌∷◌, Option, Some, None, option_and_then, if◌then◌else◌, codes}
 use Rattle.std.specs.Option.{option_map}
 use Rattle.std.specs.Str.{bytes_eq}
+use Rattle.vr_base.specs.Versions.{value_limit}
 use Rattle.vr_header.specs.declared.operation.Operation.{Operation}
 use Rattle.vr_header.specs.declared.operation.Operation.TheVariants.{Register, Put, Get, Delete}
 use Rattle.vr_header.specs.Text.{text_of}
 use Rattle.vr_lines.specs.Words.{only_word}
 
--- a key of 1 to 64 bytes and a value of 1 to 1,024, each byte from 33 to 126
-abbrev pub pair_of : List ℕ → List ℕ → Option Operation
-pair_of key value = option_and_then (λ k. option_map (Put k) (text_of 1024 value)) (text_of 64 key)
+-- a key of 1 to 64 bytes and a value of 1 to 1,024, in version 2 to 3,000, each byte from 33 to 126
+abbrev pub pair_of : ℕ → List ℕ → List ℕ → Option Operation
+pair_of version key value = option_and_then (λ k. option_map (Put k) (text_of (value_limit version) value)) (text_of 64 key)
 
 -- KEY and VALUE behind `put`
-abbrev pub put_words : List (List ℕ) → Option Operation
-put_words (key ∷ value ∷ []) = pair_of key value
-put_words _ = None
+abbrev pub put_words : ℕ → List (List ℕ) → Option Operation
+put_words version (key ∷ value ∷ []) = pair_of version key value
+put_words version _ = None
 
 -- KEY alone behind `get` and `del`
 abbrev pub key_word : List (List ℕ) → Option (List ℕ)
@@ -25,15 +26,15 @@ register_words [] = Some Register
 register_words _ = None
 
 -- an operation by its first word and those behind it
-abbrev pub operation_behind : List ℕ → List (List ℕ) → Option Operation
-operation_behind word words =
+abbrev pub operation_behind : ℕ → List ℕ → List (List ℕ) → Option Operation
+operation_behind version word words =
     if bytes_eq word (codes "register") then register_words words
-    else (if bytes_eq word (codes "put") then put_words words
+    else (if bytes_eq word (codes "put") then put_words version words
     else (if bytes_eq word (codes "get") then option_map Get (key_word words)
     else (if bytes_eq word (codes "del") then option_map Delete (key_word words)
     else None)))
 
--- the operation that these words spell
-unfoldable pub operation_words : List (List ℕ) → Option Operation
-operation_words [] = None
-operation_words (word ∷ words) = operation_behind word words
+-- the operation of this version that these words spell
+unfoldable pub operation_words : ℕ → List (List ℕ) → Option Operation
+operation_words version [] = None
+operation_words version (word ∷ words) = operation_behind version word words

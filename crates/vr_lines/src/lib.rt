@@ -10,6 +10,7 @@ mod operation;
 mod parsing;
 mod reading;
 mod request;
+mod versions;
 mod words;
 
 pub use line::Line;
@@ -18,3 +19,4 @@ pub use number::{read_below, read_number};
 pub use operation::parse_operation;
 pub use parsing::{LONGEST, LineFault, parse_line};
 pub use reading::Found;
+pub use versions::{line_sectors, schedule_version};

@@ -3,9 +3,9 @@ ghost use Rattle.std.specs.Prelude.{◌≡◌};
 ghost use Rattle.vr_lines.specs.Grammar.{call_of, damage_line, fuse_line, fused, lost_words, member_line, misdirect_line, misdirected, replica_word, sector_of, sector_words, stale_line, start_line, stop_line, tick_line, unread_line};
 ghost use Rattle.vr_lines.specs.Words.{words_left};
 
-use crate::Line;
 use crate::number::{read_below, read_number};
 use crate::words::{Words, is_word};
+use crate::{Line, line_sectors, schedule_version};
 
 /// A sector of a replica's disk.
 #[derive(Clone, Copy)]
@@ -73,10 +73,11 @@ fn read_fuse(n: u8, words: Words<'_>) -> Option<Line>
     read_fused(n, r, j, words.only()?)
 }
 
+/// A sector that lines speak of.
 fn read_sector(word: &[u8]) -> Option<u32>
     ensures { result ≡ sector_of word.now }
 {
-    Some(read_below(1424, word)? as u32)
+    Some(read_below(u64::from(line_sectors(schedule_version())), word)? as u32)
 }
 
 /// R and S.

@@ -1,12 +1,14 @@
 //! Requests of a schedule.
 ghost use Rattle.std.specs.Prelude.{◌≡◌, IfOk, option_and_then};
+ghost use Rattle.vr_header.specs.Bodies.{IsOperation};
 ghost use Rattle.vr_lines.specs.Grammar.{asked_by, behind_asked, is_fitting, request_for, request_line};
+ghost use Rattle.vr_lines.specs.Versions.{schedule_version};
 ghost use Rattle.vr_lines.specs.Words.{words_left};
 
-use crate::Line;
 use crate::number::{read_below, read_number};
 use crate::operation::read_operation;
 use crate::words::Words;
+use crate::{Line, schedule_version};
 use std::alloc::{AllocError, Global};
 use vr_header::Operation;
 use vr_msg::{Request, RequestFields};
@@ -48,10 +50,12 @@ fn is_fitting(operation: &Operation, request: u32) -> bool
 }
 
 fn request_for(asked: Asked, operation: Operation) -> Option<Line>
+    requires { IsOperation schedule_version operation }
     ensures { result ≡ request_for asked operation }
 {
     if is_fitting(&operation, asked.request) {
         let request = Request::new(RequestFields {
+            version: schedule_version(),
             cluster: 0,
             client: asked.client,
             request: asked.request,
@@ -83,7 +87,7 @@ pub fn read_request(alloc: Global, n: u8, words: Words<'_>) -> Result<Option<Lin
     let Some((asked, words)) = read_front(n, words) else {
         return Ok(None);
     };
-    match read_operation(alloc, words)? {
+    match read_operation(alloc, words, schedule_version())? {
         Some(operation) => Ok(request_for(asked, operation)),
         None => Ok(None),
     }

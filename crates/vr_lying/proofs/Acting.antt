@@ -1,5 +1,5 @@
 -- A member acts on a disk that tells what its slots hold.
-use Rattle.std.proofs.Common.{ℕ, zero, suc, ◌-◌, ◌<◌, ◌≤◌, ◌≡◌, refl, sym, ap, ◌∙◌, arith, leb, true, false, cond, List, [], ◌∷◌, ◌++◌, length, Option, Some, None, subst}
+use Rattle.std.proofs.Common.{ℕ, ◌<◌, ◌≤◌, ◌≡◌, refl, sym, ap, ◌∙◌, List, [], ◌∷◌, ◌++◌, length, Option, Some, None, subst}
 use Rattle.std.specs.Prelude.{IfSome}
 use Rattle.std.proofs.lemmas.Bool.{le-leb, lt-leb}
 use Rattle.vr_disk.specs.DiskState as disk
@@ -8,18 +8,18 @@ use Rattle.vr_disk.proofs.Together.{after_all_append}
 use Rattle.vr_lie.specs.Faults.{held_at}
 use Rattle.vr_msg.specs.declared.output.Output.{Output}
 use Rattle.vr_lie.specs.Held.{held_after_all}
-use Rattle.vr_world.specs.Lying.{Lying, after_calls, cut_calls, each_slot, hazards, lying}
+use Rattle.vr_world.specs.Lying.{Lying, after_calls, hazards, lying}
 use Rattle.vr_world.specs.Replica.{Replica}
 use Rattle.vr_world.specs.Sectors.{calls, calls_of}
 use Rattle.vr_world.specs.Steps.{Effect, Step, after_all, outputs}
-use Rattle.vr_world.specs.World.{Acted, Host, acts, halted, went, went_or_halted}
-use Rattle.vr_lying.specs.Told.{IsTold, burnt, host_on, lying_in}
-use Rattle.vr_lying.specs.Laws.{ActsGo, ActsHalt, HaltedAt, WasCut, WentOn, Went, revived}
+use Rattle.vr_world.specs.World.{Acted, Host, halted, went, went_or_halted}
+use Rattle.vr_lying.specs.Told.{burnt, host_on, lying_in}
+use Rattle.vr_lying.specs.Laws.{ActsGo, ActsHalt, WasCut, Went}
 use Rattle.vr_lying.proofs.Runs.{at_slot, no_calls, runs_cut, runs_went, same_rows, slots_count, with_held}
 
 -- ---- the calls of effects
 
-held_both : (cs ds : List Call) (f : Face) (slot : ℕ) (h : Option (List ℕ)) → held_after_all f (cs ++ ds) slot h ≡ held_after_all (disk.after_all f cs) ds slot (held_after_all f cs slot h)
+held_both : (cs ds : List Call) (f : Face) (slot : ℕ) (h : Option (List ℕ)) → held_after_all 1 f (cs ++ ds) slot h ≡ held_after_all 1 (disk.after_all f cs) ds slot (held_after_all 1 f cs slot h)
 unfolding held_after_all
 held_both [] ds f slot h = refl
 held_both (c ∷ cs) ds f slot h = held_both cs ds (disk.after f c) slot _
@@ -27,8 +27,8 @@ held_both (c ∷ cs) ds f slot h = held_both cs ds (disk.after f c) slot _
 calls_both : (d : Lying) (cs ds : List Call) → after_calls (after_calls d cs) ds ≡ after_calls d (cs ++ ds)
 calls_both d cs ds =
     let f = disk.after_all d.face cs in
-    let rows = same_rows (λ slot. held_after_all f ds slot (held_at (after_calls d cs).held slot)) (λ slot. held_after_all d.face (cs ++ ds) slot (held_at d.held slot))
-    (λ slot l. ap (held_after_all f ds slot) (at_slot (λ slot. held_after_all d.face cs slot (held_at d.held slot)) slot l) ∙ sym (held_both cs ds d.face slot (held_at d.held slot))) in
+    let rows = same_rows (λ slot. held_after_all 1 f ds slot (held_at (after_calls d cs).held slot)) (λ slot. held_after_all 1 d.face (cs ++ ds) slot (held_at d.held slot))
+    (λ slot l. ap (held_after_all 1 f ds slot) (at_slot (λ slot. held_after_all 1 d.face cs slot (held_at d.held slot)) slot l) ∙ sym (held_both cs ds d.face slot (held_at d.held slot))) in
     ap (with_held (disk.after_all f ds)) rows ∙ ap (λ g. with_held g (after_calls d (cs ++ ds)).held) (sym (after_all_append cs ds d.face))
 
 -- effects one after the other leave what all their calls leave
@@ -37,7 +37,7 @@ unfolding after_all calls
 script_calls [] d n = no_calls d n
 script_calls (e ∷ es) d n =
     let one = after_calls d (calls_of e d.face) in
-    script_calls es one (slots_count (λ slot. held_after_all d.face (calls_of e d.face) slot (held_at d.held slot))) ∙ calls_both d (calls_of e d.face) (calls es one.face)
+    script_calls es one (slots_count (λ slot. held_after_all 1 d.face (calls_of e d.face) slot (held_at d.held slot))) ∙ calls_both d (calls_of e d.face) (calls es one.face)
 
 -- ---- a step
 

@@ -33,7 +33,7 @@ use Rattle.vr_world.specs.Deciding.{Hash, first_of, session_answer, request_tabl
 use Rattle.vr_world.specs.Rule.{Rule}
 use Rattle.vr_world.specs.Rule.TheVariants.{Redirected, Behind, Answered, Full, Made, PreparedLater, Past, Beyond, Known, Next, Ahead, Other, Counted, CommitLater, CommitHeard, ChangeLater, ChangeHeard, ChangeDone, StatedLate, Stated, Taken, ViewGiven, EntryGiven, EntryTaken, BlockGiven, BlockTaken, BlockMended, TickedPrimary, TickedBackup, TickedChanging, SyncAsked, SyncGiven, Jumped}
 use Rattle.vr_world.specs.Rules.{acknowledge, acknowledge_stored, acknowledged, asker_by, give_read, heard_of, idler, make, mend_found, next_entry, next_view, not_worn, obey_commit, obey_do_view_change, obey_get_block, obey_get_prepare, obey_get_sync, obey_get_view, obey_give_block, obey_give_prepare, obey_prepare, obey_prepare_ok, obey_request, obey_start_view, obey_start_view_change, obey_sync_view, obey_tick, on_commit, on_do_view_change, on_event, on_get_block, on_get_prepare, on_get_sync, on_get_view, on_give_block, on_give_prepare, on_message, on_prepare, on_prepare_ok, on_request, on_start_view, on_start_view_change, on_sync_view, on_tick, put_block, put_found, react, stored_reply, with_statement, without}
-use Rattle.vr_lying.proofs.Words.{Alike, a_accept, a_advance, a_apply, a_ask, a_by, a_change, a_does, a_each, a_enter, a_if, a_jump, a_learn, a_load, a_naming, a_prepare_again, a_quiet, a_reading, a_resend, a_says, a_speak, a_take, a_then, a_times, a_try, a_visit, a_when, a_with_at, a_write}
+use Rattle.vr_lying.proofs.Words.{Alike, a_accept, a_advance, a_apply, a_ask, a_by, a_change, a_does, a_each, a_enter, a_if, a_jump, a_learn, a_load, a_naming, a_prepare_again, a_quiet, a_reading, a_resend, a_says, a_speak, a_take, a_then, a_try, a_visit, a_when, a_with_at, a_write}
 
 a_make : (e : Whole) → Alike (make e) (make e)
 unfolding make

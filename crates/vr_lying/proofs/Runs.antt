@@ -1,7 +1,6 @@
 -- What calls leave of a disk that tells what its slots hold.
-use Rattle.std.proofs.Common.{ℕ, zero, suc, ◌+◌, ◌-◌, ◌<◌, ◌≤◌, ◌≡◌, refl, sym, ap, ◌∙◌, arith, true, false, cond, List, [], ◌∷◌, length, get_or, map, Option, Some, None, subst}
+use Rattle.std.proofs.Common.{ℕ, zero, suc, ◌-◌, ◌<◌, ◌≤◌, ◌≡◌, refl, sym, ap, ◌∙◌, arith, true, false, List, [], ◌∷◌, length, Option, Some, None}
 use Rattle.std.specs.Prelude.{IfSome}
-use Rattle.std.specs.List.{range_with_len}
 use Rattle.std.proofs.lemmas.List.{ext_get_or}
 use Rattle.std.proofs.lemmas.List.FromFn.{get_or-map-range_with_len, length-map-range_with_len}
 use Rattle.vr_disk.specs.DiskState.{Call, Disk, Face, Fuse, after, after_all, cut, cut_at, ran, runs}
@@ -29,7 +28,7 @@ same_rows f g h = rows_are (each_slot f) g (slots_count f) (λ slot l. at_slot f
 
 -- what a call leaves
 abbrev pub after_one : Lying → Call → Lying
-after_one d c = record { face = after d.face c; held = each_slot (λ slot. held_after d.face c slot (held_at d.held slot)) }
+after_one d c = record { face = after d.face c; held = each_slot (λ slot. held_after 1 d.face c slot (held_at d.held slot)) }
 
 abbrev pub with_held : Face → List (Option (List ℕ)) → Lying
 with_held f rows = record { face = f; held = rows }
@@ -42,15 +41,15 @@ pub calls_more : (d : Lying) (c : Call) (cs : List Call) → after_calls (after_
 unfolding held_after_all
 calls_more d c cs =
     let f = after d.face c in
-    ap (with_held (after_all f cs)) (same_rows (λ slot. held_after_all f cs slot (held_at (after_one d c).held slot)) (λ slot. held_after_all f cs slot (held_after d.face c slot (held_at d.held slot)))
-    (λ slot l. ap (held_after_all f cs slot) (at_slot (λ slot. held_after d.face c slot (held_at d.held slot)) slot l)))
+    ap (with_held (after_all f cs)) (same_rows (λ slot. held_after_all 1 f cs slot (held_at (after_one d c).held slot)) (λ slot. held_after_all 1 f cs slot (held_after 1 d.face c slot (held_at d.held slot)))
+    (λ slot l. ap (held_after_all 1 f cs slot) (at_slot (λ slot. held_after 1 d.face c slot (held_at d.held slot)) slot l)))
 
 pub cut_more : (d : Lying) (c : Call) (cs : List Call) (j code : ℕ) → cut_calls j code (after_one d c) cs ≡ cut_calls (suc j) code d (c ∷ cs)
 unfolding held_cut cut
 cut_more d c cs j code =
     let f = after d.face c in
-    ap (with_held (cut j code f cs)) (same_rows (λ slot. held_cut j code f cs slot (held_at (after_one d c).held slot)) (λ slot. held_cut j code f cs slot (held_after d.face c slot (held_at d.held slot)))
-    (λ slot l. ap (held_cut j code f cs slot) (at_slot (λ slot. held_after d.face c slot (held_at d.held slot)) slot l)))
+    ap (with_held (cut j code f cs)) (same_rows (λ slot. held_cut 1 j code f cs slot (held_at (after_one d c).held slot)) (λ slot. held_cut 1 j code f cs slot (held_after 1 d.face c slot (held_at d.held slot)))
+    (λ slot l. ap (held_cut 1 j code f cs slot) (at_slot (λ slot. held_after 1 d.face c slot (held_at d.held slot)) slot l)))
 
 -- ---- one call
 
@@ -66,7 +65,7 @@ record Cut (d : Disk) (c : Call) : Type 0 where
   fuse : Fuse
   armed : d.fate.fuse ≡ Some fuse
   first : fuse.calls ≡ 0
-  lying : lying_in (ran d c).disk ≡ record { face = cut_at fuse.code d.face c; held = each_slot (λ slot. held_cut_at fuse.code d.face c slot (held_at d.beside.rows slot)) }
+  lying : lying_in (ran d c).disk ≡ record { face = cut_at fuse.code d.face c; held = each_slot (λ slot. held_cut_at 1 fuse.code d.face c slot (held_at d.beside.rows slot)) }
   spent : (ran d c).disk.fate.fuse ≡ None
   dead : (ran d c).disk.fate.dead ≡ true
   sure : (ran d c).disk.fate.failing ≡ []
@@ -79,7 +78,7 @@ data One (d : Disk) (c : Call) : Type 0 where
 
 one_unarmed : (d : Disk) (c : Call) → IsTold d → d.fate.fuse ≡ None → Passed d c
 unfolding ran
-one_unarmed d c t n = rw (t.alive, t.sure, n, t.next) (record { ok = refl; lying = refl; told = record { alive = refl; sure = refl; count = slots_count (λ slot. held_after d.face c slot (held_at d.beside.rows slot)); next = refl }; fuse = refl; reach = tt })
+one_unarmed d c t n = rw (t.alive, t.sure, n, t.next) (record { ok = refl; lying = refl; told = record { alive = refl; sure = refl; count = slots_count (λ slot. held_after 1 d.face c slot (held_at d.beside.rows slot)); next = refl }; fuse = refl; reach = tt })
 
 one_armed : (d : Disk) (c : Call) (u : Fuse) (k : ℕ) → IsTold d → d.fate.fuse ≡ Some u → u.calls ≡ suc k → Passed d c
 unfolding ran
@@ -91,7 +90,7 @@ one_armed d c u k t e n =
     rw (t.alive, t.sure, armed, t.next) (record {
       ok = refl;
       lying = refl;
-      told = record { alive = refl; sure = refl; count = slots_count (λ slot. held_after d.face c slot (held_at d.beside.rows slot)); next = refl };
+      told = record { alive = refl; sure = refl; count = slots_count (λ slot. held_after 1 d.face c slot (held_at d.beside.rows slot)); next = refl };
       fuse = ap (λ (n : ℕ). let x : Fuse = record { calls = n; code = u.code } in Some x) less;
       reach = omega arith;
     })
@@ -102,7 +101,7 @@ one_cut d c u t e n =
     let v : Fuse = record { calls = 0; code = u.code } in
     let same : u ≡ v = ap (λ (n : ℕ). let x : Fuse = record { calls = n; code = u.code } in x) n in
     let armed : d.fate.fuse ≡ Some v = e ∙ ap Some same in
-    rw (t.alive, t.sure, armed, t.next) (record { ok = refl; fuse = v; armed = refl; first = refl; lying = refl; spent = refl; dead = refl; sure = refl; count = slots_count (λ slot. held_cut_at u.code d.face c slot (held_at d.beside.rows slot)); next = refl })
+    rw (t.alive, t.sure, armed, t.next) (record { ok = refl; fuse = v; armed = refl; first = refl; lying = refl; spent = refl; dead = refl; sure = refl; count = slots_count (λ slot. held_cut_at 1 u.code d.face c slot (held_at d.beside.rows slot)); next = refl })
 
 one : (d : Disk) (c : Call) → IsTold d → One d c
 one d c t =

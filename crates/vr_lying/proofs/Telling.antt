@@ -3,6 +3,7 @@ use Rattle.std.proofs.Common.{ℕ, ◌<◌, ◌≡◌, refl, sym, ap, ◌∙◌,
 use Rattle.std.specs.Prelude.{replicate}
 use Rattle.std.proofs.lemmas.List.{get_or-replicate, length-replicate}
 use Rattle.vr_disk.specs.DiskState.{Beside, Call, CallVerdict, Goes, Fails, Cuts, Disk, Face, Fate, IsFace, Attaches, Runs, attached, attached_as, is_to_fail, judged, ran, ran_as, runs}
+use Rattle.vr_disk.specs.Regions.{sectors}
 use Rattle.vr_lie.specs.Faults.{HeldLooked, HeldRan, KeepsPremise, faulted, held_as, held_at}
 use Rattle.vr_lie.specs.declared.fault.Fault.{Fault}
 use Rattle.vr_lie.specs.Held.{looked}
@@ -28,10 +29,10 @@ record Same (f : Face) (t : Fate) (b : Beside) (c : Call) (v : CallVerdict) (old
   disk : with_table (ran_as f t b c v).disk new ≡ (ran_as f t (slots old) c v).disk
   ok : (ran_as f t b c v).ok ≡ (ran_as f t (slots old) c v).ok
 
-same_as : (f : Face) (t : Fate) (b : Beside) (c : Call) (v : CallVerdict) (old new : List (Option (List ℕ))) → length old ≡ 64 → length new ≡ 64 → ((slot : ℕ) → slot < 64 → held_at new slot ≡ held_as f c v slot (held_at old slot)) → Same f t b c v old new
-same_as f t b c Goes old new n m h = record { disk = ap (with_rows _ t) (rows_are new (λ slot. held_as f c Goes slot (held_at old slot)) m h); ok = refl }
+same_as : (f : Face) (t : Fate) (b : Beside) (c : Call) (v : CallVerdict) (old new : List (Option (List ℕ))) → length old ≡ 64 → length new ≡ 64 → ((slot : ℕ) → slot < 64 → held_at new slot ≡ held_as 1 f c v slot (held_at old slot)) → Same f t b c v old new
+same_as f t b c Goes old new n m h = record { disk = ap (with_rows _ t) (rows_are new (λ slot. held_as 1 f c Goes slot (held_at old slot)) m h); ok = refl }
 same_as f t b c Fails old new n m h = record { disk = ap (with_rows f t) (rows_are new (held_at old) m h ∙ sym (rows_are old (held_at old) n (λ slot l. refl))); ok = refl }
-same_as f t b c (Cuts code) old new n m h = record { disk = ap (with_rows _ t) (rows_are new (λ slot. held_as f c (Cuts code) slot (held_at old slot)) m h); ok = refl }
+same_as f t b c (Cuts code) old new n m h = record { disk = ap (with_rows _ t) (rows_are new (λ slot. held_as 1 f c (Cuts code) slot (held_at old slot)) m h); ok = refl }
 
 runs_disk : (d : Disk) (c : Call) → (runs (c ∷ []) d).disk ≡ (ran d c).disk
 runs_disk d c = elim (ran d c).ok as (λ b. (cond b (record { disk = (ran d c).disk; ok = true }) (ran d c)).disk ≡ (ran d c).disk) [ true ↦ refl | false ↦ refl ]
@@ -39,7 +40,7 @@ runs_disk d c = elim (ran d c).ok as (λ b. (cond b (record { disk = (ran d c).d
 runs_ok : (d : Disk) (c : Call) → (runs (c ∷ []) d).ok ≡ (ran d c).ok
 runs_ok d c = elim (ran d c).ok as (λ b. (ran d c).ok ≡ b → (cond b (record { disk = (ran d c).disk; ok = true }) (ran d c)).ok ≡ b) [ true ↦ λ e. refl | false ↦ λ e. e ] refl
 
-pub told_one : (d e : Disk) (c : Call) (ok : Bool) (old new : List (Option (List ℕ))) → length old ≡ 64 → length new ≡ 64 → Runs (c ∷ []) (Some d) (Some e) ok → HeldRan d c old new
+pub told_one : (d e : Disk) (c : Call) (ok : Bool) (old new : List (Option (List ℕ))) → length old ≡ 64 → length new ≡ 64 → Runs (c ∷ []) (Some d) (Some e) ok → HeldRan 1 d c old new
     → Runs (c ∷ []) (Some (with_table d old)) (Some (with_table e new)) ok
 unfolding ran
 told_one d e c ok old new n m r h =
@@ -69,10 +70,10 @@ told_attached d e ok old new k r =
 
 -- ---- faults
 
-lied_is : (d : Lying) (g : Face) (new : List (Option (List ℕ))) → length new ≡ 64 → HeldLooked g d.held new → lied_to d g ≡ with_held g new
-lied_is d g new n h = ap (with_held g) (sym (rows_are new (λ slot. looked g slot (held_at d.held slot)) n h.each))
+lied_is : (d : Lying) (g : Face) (new : List (Option (List ℕ))) → length new ≡ 64 → HeldLooked 1 g d.held new → lied_to d g ≡ with_held g new
+lied_is d g new n h = ap (with_held g) (sym (rows_are new (λ slot. looked 1 g slot (held_at d.held slot)) n h.each))
 
-pub fault_done : (d e : Disk) (old new : List (Option (List ℕ))) (x : Fault) → IsFace d.face → IsFace e.face → length new ≡ 64 → KeepsPremise (mode_in d.face) d.face (faulted d.face x) old → e ≡ record d { face = faulted d.face x } → HeldLooked (faulted d.face x) old new
+pub fault_done : (d e : Disk) (old new : List (Option (List ℕ))) (x : Fault) → IsFace d.face → IsFace e.face → length new ≡ 64 → KeepsPremise 1 (mode_in d.face) d.face (faulted d.face x) old → e ≡ record d { face = faulted d.face x } → HeldLooked 1 (faulted d.face x) old new
     → unless_kept_out (lying_in (with_table d old)) x ≡ Some (lying_in (with_table e new))
 unfolding unless_kept_out
 fault_done d e old new x w z n k is h =
@@ -82,7 +83,7 @@ fault_done d e old new x w z n k is h =
     let face_is : IsFace g = subst IsFace face z in
     ap (λ b. cond b (Some (lied_to l g)) None) (premise_so l g w face_is k) ∙ ap Some (lied_is l g new n h ∙ ap (λ f. with_held f new) (sym face))
 
-pub fault_kept_out : (d : Disk) (old : List (Option (List ℕ))) (x : Fault) → (KeepsPremise (mode_in d.face) d.face (faulted d.face x) old → ⊥) → unless_kept_out (lying_in (with_table d old)) x ≡ None
+pub fault_kept_out : (d : Disk) (old : List (Option (List ℕ))) (x : Fault) → (KeepsPremise 1 (mode_in d.face) d.face (faulted d.face x) old → ⊥) → unless_kept_out (lying_in (with_table d old)) x ≡ None
 unfolding unless_kept_out
 fault_kept_out d old x never =
     let l = lying_in (with_table d old) in
@@ -94,7 +95,7 @@ fault_kept_out d old x never =
 
 -- ---- a disk of zeros
 
-pub zeros_lie : (d : Disk) (held : List (Option (List ℕ))) → d.face ≡ record { cells = copies 1424 mem.zero_cell; waiting = [] } → held ≡ replicate 64 None → lying_in (with_table d held) ≡ blank_lying
+pub zeros_lie : (d : Disk) (held : List (Option (List ℕ))) → d.face ≡ record { cells = copies sectors mem.zero_cell; waiting = [] } → held ≡ replicate 64 None → lying_in (with_table d held) ≡ blank_lying
 unfolding copies mem.zero_cell
 zeros_lie d held e h =
     let rows : replicate 64 None ≡ each_slot (λ slot. None) = rows_are (replicate 64 None) (λ slot. None) (length-replicate {A = Option (List ℕ)} 64 None) (λ slot l. get_or-replicate 64 slot None None l) in

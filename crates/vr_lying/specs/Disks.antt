@@ -1,5 +1,5 @@
 -- The disk of a member, which lies.
-use Rattle.std.specs.Prelude.{ℕ, List, [], Option, Some, None, false, IfSome}
+use Rattle.std.specs.Prelude.{[], Some, None, false, IfSome}
 use Rattle.vr_disk.specs.DiskState.{Disk, Fate, IsFace}
 use Rattle.vr_lie.specs.Told as lie
 use Rattle.vr_world.specs.Lying.{Lying, each_slot, zero_face}

@@ -6,9 +6,9 @@ use Rattle.vr_world.specs.Lying.{Lying, each_slot}
 use Rattle.vr_world.specs.Replica.{Replica}
 use Rattle.vr_world.specs.World.{Host}
 
--- what a call leaves of what the slots hold
+-- what a call leaves of what the slots hold, in a file of version 1
 abbrev pub next_held : Face → Call → CallVerdict → List (Option (List ℕ)) → List (Option (List ℕ))
-next_held f c v held = each_slot (λ slot. held_as f c v slot (held_at held slot))
+next_held f c v held = each_slot (λ slot. held_as 1 f c v slot (held_at held slot))
 
 -- what the slots hold, beside the sectors
 abbrev pub slots : List (Option (List ℕ)) → Beside

@@ -3,6 +3,7 @@ ghost use Rattle.std.specs.Prelude.{◌≡◌, ◌-◌, ◌<◌, ◌≤◌, [], 
 ghost use Rattle.vr_base.specs.Causes.{HasCause};
 ghost use Rattle.vr_disk.specs.DiskState.{Attaches, ReadsTo, Runs, Sync, Write};
 ghost use Rattle.vr_lie.specs.Faults.{IsFault};
+ghost use Rattle.vr_lie.specs.Told.{version_by};
 ghost use Rattle.vr_lying.specs.Told.{IsTold};
 ghost use Rattle.vr_world.specs.Lying.{unless_kept_out};
 
@@ -11,10 +12,11 @@ use vr_base::{NoMemory, Sum};
 use vr_disk::{DiskFailed, Room, Sector, SectorDisk};
 use vr_lie::{Fault, Faulted, LieDisk};
 
-/// A disk that lies, and tells what its slots hold beside what its sectors do.
+/// A disk that lies, for a file of version 1, and tells what its slots hold beside what its sectors do.
 #[derive(Drop)]
 pub struct HostDisk {
     lie: LieDisk,
+    ghost version: { version_by lie ≡ 1 },
 }
 
 impl HostDisk {

@@ -1,8 +1,8 @@
--- Messages of one group among all that comes over a link.
+-- Messages of one version and group among all that comes over a link.
 use Rattle.std.specs.Prelude.{ℕ, ◌≡◌, ◌≤◌, ⊤, List, [], ◌∷◌, Option, Some, None, Result, Ok, Err, OnOk}
 use Rattle.vr_base.specs.Causes.{one_more}
 use Rattle.vr_edge.specs.Datagrams.{Arrival, Failed, Nothing, Came}
-use Rattle.vr_msg.specs.Spelling.{Spells}
+use Rattle.vr_msg.specs.Spelling.{Spells, version_of}
 use Rattle.vr_msg.specs.declared.frame.Frame.{Frame}
 use Rattle.vr_msg.specs.declared.frame.Frame.TheVariants as frame
 use Rattle.vr_mail.specs.declared.receiving.Letter.{Letter}
@@ -27,26 +27,27 @@ cluster_of (frame.GiveBlock g) = g.cluster
 cluster_of (frame.GetSync g) = g.cluster
 cluster_of (frame.SyncView v) = v.cluster
 
--- the bytes are this message, and it is of this group
-pub record IsOfGroup (cluster : ℕ) (bytes : List ℕ) (m : Frame) : Type 0 where
+-- the bytes are this message, and it is of this version and group
+pub record IsOfGroup (version cluster : ℕ) (bytes : List ℕ) (m : Frame) : Type 0 where
   pub spelled : Spells m bytes
+  pub of_version : version_of m ≡ version
   pub group : cluster_of m ≡ cluster
 
--- the bytes are no message of this group
-abbrev pub IsRefused : ℕ → List ℕ → Type 0
-IsRefused cluster bytes = (m : Frame) → ¬ IsOfGroup cluster bytes m
+-- the bytes are no message of this version and group
+abbrev pub IsRefused : ℕ → ℕ → List ℕ → Type 0
+IsRefused version cluster bytes = (m : Frame) → ¬ IsOfGroup version cluster bytes m
 
--- what a member of this group reads of bytes
-abbrev pub Reads : ℕ → List ℕ → Option Frame → Type 0
-Reads cluster bytes None = IsRefused cluster bytes
-Reads cluster bytes (Some m) = IsOfGroup cluster bytes m
+-- what a member of this version and group reads of bytes
+abbrev pub Reads : ℕ → ℕ → List ℕ → Option Frame → Type 0
+Reads version cluster bytes None = IsRefused version cluster bytes
+Reads version cluster bytes (Some m) = IsOfGroup version cluster bytes m
 
 -- what a receive that went well brings: refused bytes are as if nothing came
-abbrev pub Brings : ℕ → Arrival → Option Letter → Type 0
-Brings cluster Failed letter = ⊥
-Brings cluster Nothing letter = letter ≡ None
-Brings cluster (Came d) None = IsRefused cluster d.bytes
-Brings cluster (Came d) (Some letter) = (letter.port ≡ d.port) × IsOfGroup cluster d.bytes letter.message
+abbrev pub Brings : ℕ → ℕ → Arrival → Option Letter → Type 0
+Brings version cluster Failed letter = ⊥
+Brings version cluster Nothing letter = letter ≡ None
+Brings version cluster (Came d) None = IsRefused version cluster d.bytes
+Brings version cluster (Came d) (Some letter) = (letter.port ≡ d.port) × IsOfGroup version cluster d.bytes letter.message
 
 -- a datagram came that is a message
 abbrev pub IsMessage : Arrival → Type 0
@@ -55,10 +56,10 @@ IsMessage Nothing = ⊥
 IsMessage (Came d) = (m : Frame) × Spells m d.bytes
 
 -- what a receive answers
-abbrev pub Gives : ℕ → Arrival → Result (Option Letter) ReceiveFault → Type 0
-Gives cluster arrival (Ok letter) = Brings cluster arrival letter
-Gives cluster arrival (Err fault.Link) = arrival ≡ Failed
-Gives cluster arrival (Err fault.NoMemory) = IsMessage arrival
+abbrev pub Gives : ℕ → ℕ → Arrival → Result (Option Letter) ReceiveFault → Type 0
+Gives version cluster arrival (Ok letter) = Brings version cluster arrival letter
+Gives version cluster arrival (Err fault.Link) = arrival ≡ Failed
+Gives version cluster arrival (Err fault.NoMemory) = IsMessage arrival
 
 -- the link's faults don't fall; where it failed they are one more, and no other answer adds to them
 pub record ReceiveCause {T : Type 0} (before now : ℕ) (result : Result T ReceiveFault) : Type 0 where
@@ -68,28 +69,28 @@ pub record ReceiveCause {T : Type 0} (before now : ℕ) (result : Result T Recei
   pub wanted : result ≡ Err fault.NoMemory → now ≡ before
 
 -- the same receive; or nothing, in place of a datagram that is refused
-abbrev pub Stills : ℕ → Arrival → Arrival → Type 0
-Stills cluster Failed still = still ≡ Failed
-Stills cluster Nothing still = still ≡ Nothing
-Stills cluster (Came d) Failed = ⊥
-Stills cluster (Came d) Nothing = IsRefused cluster d.bytes
-Stills cluster (Came d) (Came e) = e ≡ d
+abbrev pub Stills : ℕ → ℕ → Arrival → Arrival → Type 0
+Stills version cluster Failed still = still ≡ Failed
+Stills version cluster Nothing still = still ≡ Nothing
+Stills version cluster (Came d) Failed = ⊥
+Stills version cluster (Came d) Nothing = IsRefused version cluster d.bytes
+Stills version cluster (Came d) (Came e) = e ≡ d
 
 -- the same of receives one after another
-abbrev pub AreBrought : ℕ → List Arrival → List (Option Letter) → Type 0
-AreBrought cluster [] [] = ⊤
-AreBrought cluster [] (l ∷ ls) = ⊥
-AreBrought cluster (a ∷ arrivals) [] = ⊥
-AreBrought cluster (a ∷ arrivals) (l ∷ ls) = Brings cluster a l × AreBrought cluster arrivals ls
+abbrev pub AreBrought : ℕ → ℕ → List Arrival → List (Option Letter) → Type 0
+AreBrought version cluster [] [] = ⊤
+AreBrought version cluster [] (l ∷ ls) = ⊥
+AreBrought version cluster (a ∷ arrivals) [] = ⊥
+AreBrought version cluster (a ∷ arrivals) (l ∷ ls) = Brings version cluster a l × AreBrought version cluster arrivals ls
 
-abbrev pub AreStilled : ℕ → List Arrival → List Arrival → Type 0
-AreStilled cluster [] [] = ⊤
-AreStilled cluster [] (s ∷ ss) = ⊥
-AreStilled cluster (a ∷ arrivals) [] = ⊥
-AreStilled cluster (a ∷ arrivals) (s ∷ ss) = Stills cluster a s × AreStilled cluster arrivals ss
+abbrev pub AreStilled : ℕ → ℕ → List Arrival → List Arrival → Type 0
+AreStilled version cluster [] [] = ⊤
+AreStilled version cluster [] (s ∷ ss) = ⊥
+AreStilled version cluster (a ∷ arrivals) [] = ⊥
+AreStilled version cluster (a ∷ arrivals) (s ∷ ss) = Stills version cluster a s × AreStilled version cluster arrivals ss
 
 -- a list of receives in which each refused datagram may be replaced by nothing brings the same
 abbrev pub RefusedAreNothing : Type 0
 RefusedAreNothing =
-    (cluster : ℕ) (arrivals stilled : List Arrival) (letters : List (Option Letter))
-    → AreBrought cluster arrivals letters → AreStilled cluster arrivals stilled → AreBrought cluster stilled letters
+    (version cluster : ℕ) (arrivals stilled : List Arrival) (letters : List (Option Letter))
+    → AreBrought version cluster arrivals letters → AreStilled version cluster arrivals stilled → AreBrought version cluster stilled letters

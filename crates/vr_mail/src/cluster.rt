@@ -1,11 +1,20 @@
-//! The group of a message.
-ghost use Rattle.std.specs.Prelude.{◌≡◌};
+//! The version and the group of a message.
+ghost use Rattle.std.specs.Prelude.{◌≡◌, ◌==◌, ◌&&◌};
 ghost use Rattle.vr_mail.specs.Letters.{cluster_of};
+ghost use Rattle.vr_msg.specs.Spelling.{version_of};
 
+use vr_base::Version;
 use vr_msg::Frame;
 
+/// Whether a message is of this version and group.
+pub fn is_for(version: Version, cluster: u64, frame: &Frame) -> bool
+    ensures { result ≡ ((version_of frame.now == version) && (cluster_of frame.now == cluster)) }
+{
+    frame.version() == version && cluster_of(frame) == cluster
+}
+
 /// The number of the group that a message is of.
-pub fn cluster_of(frame: &Frame) -> u64
+fn cluster_of(frame: &Frame) -> u64
     ensures { result ≡ cluster_of frame.now }
 {
     match frame {

@@ -1,4 +1,4 @@
-//! Messages of one group over a link: those that come, among all that comes, and those that go out.
+//! Messages of one version and group over a link: those that come, among all that comes, and those that go out.
 #![tactic(auto)]
 
 mod cluster;

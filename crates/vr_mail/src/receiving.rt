@@ -7,8 +7,9 @@ ghost use Rattle.vr_msg.specs.Spelling.{Spells};
 ghost use Rattle.vr_msg.specs.declared.frame.Frame.{Frame};
 ghost use Rattle.vr_mail.specs.declared.receiving.ReceiveFault.TheVariants as fault;
 
-use crate::cluster::cluster_of;
+use crate::cluster::is_for;
 use std::alloc::{AllocError, Global};
+use vr_base::Version;
 use vr_codec::{MsgFault, decode};
 use vr_edge::{Link, LinkFailed, RECEIVE_ROOM, Received};
 use vr_msg::Message;
@@ -45,28 +46,34 @@ impl From<AllocError> for ReceiveFault {
     }
 }
 
-/// The message of a group that bytes spell.
-fn read_message(alloc: Global, cluster: u64, bytes: &[u8]) -> Result<Option<Message>, AllocError>
-    ensures reads { IfOk result (Reads cluster bytes.now) }
+/// The message of this version and group that bytes spell.
+fn read_message(
+    alloc: Global,
+    version: Version,
+    cluster: u64,
+    bytes: &[u8],
+) -> Result<Option<Message>, AllocError>
+    ensures reads { IfOk result (Reads version cluster bytes.now) }
     ensures wants { OnErr result ((m : Frame) × Spells m bytes.now) }
 {
     match decode(alloc, bytes) {
-        Ok(message) if cluster_of(message.frame()) == cluster => Ok(Some(message)),
+        Ok(message) if is_for(version, cluster, message.frame()) => Ok(Some(message)),
         Ok(_) => Ok(None),
         Err(MsgFault::NoMemory) => Err(AllocError),
         Err(_) => Ok(None),
     }
 }
 
-/// One receive. Bytes that are no message of the group are as if nothing came.
+/// One receive. Bytes that are no message of this version and group are as if nothing came.
 pub fn receive_letter<L: Link>(
     alloc: Global,
     link: &mut L,
+    version: Version,
     cluster: u64,
     to: &mut Vec<u8>,
 ) -> Result<Option<Letter>, ReceiveFault>
     requires { RECEIVE_ROOM ≤ vec_capacity to.old }
-    ensures received { (arrival : Arrival) × Grows (L.received link.old) (L.received link.new) (arrival ∷ []) × Gives cluster arrival result }
+    ensures received { (arrival : Arrival) × Grows (L.received link.old) (L.received link.new) (arrival ∷ []) × Gives version cluster arrival result }
     ensures cause { ReceiveCause (L.faults link.old) (L.faults link.new) result }
     ensures sent { L.sent link.new ≡ L.sent link.old }
     ensures others { L.send_faults link.new ≡ L.send_faults link.old }
@@ -76,7 +83,7 @@ pub fn receive_letter<L: Link>(
     let Received::Datagram(port) = link.receive(to)? else {
         return Ok(None);
     };
-    match read_message(alloc, cluster, to.as_slice())? {
+    match read_message(alloc, version, cluster, to.as_slice())? {
         Some(message) => Ok(Some(Letter { port, message })),
         None => Ok(None),
     }

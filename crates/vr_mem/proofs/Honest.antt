@@ -5,6 +5,7 @@ use Rattle.std.proofs.lemmas.Bool.{cond_both}
 use Rattle.std.proofs.lemmas.List.Elements.{All-set, All-push, recursion_from_All, All-replicate}
 use Rattle.vr_disk.specs.DiskState.{Beside, Call, Write, Sync, Cell, Disk, Face, Fate, CallVerdict, Goes, Fails, Cuts, Waiting, Runs, Attaches, after, attached, attached_as, begun, blank, cell, is_to_fail, judged, ran, ran_as, runs, settle, settled, settled_cell, waits, written}
 use Rattle.std.specs.Prelude.{◌||◌}
+use Rattle.vr_disk.specs.Regions.{sectors}
 use Rattle.vr_mem.specs.Honesty.{IsHonest}
 use Rattle.vr_mem.specs.Seen.{copies, zero_cell}
 
@@ -76,5 +77,5 @@ zeros_honest : (n : ℕ) → All HonestCell (copies n zero_cell)
 unfolding copies zero_cell
 zeros_honest n = All-replicate HonestCell n _ refl
 
-pub made_honest : (f : Face) → f ≡ record { cells = copies 1424 zero_cell; waiting = [] } → IsHonest f
-made_honest f e = let g : Face = record { cells = copies 1424 zero_cell; waiting = [] } in let h : IsHonest g = record { cells = zeros_honest 1424; waiting = none_waits } in subst IsHonest (sym e) h
+pub made_honest : (f : Face) → f ≡ record { cells = copies sectors zero_cell; waiting = [] } → IsHonest f
+made_honest f e = let g : Face = record { cells = copies sectors zero_cell; waiting = [] } in let h : IsHonest g = record { cells = zeros_honest sectors; waiting = none_waits } in subst IsHonest (sym e) h

@@ -1,4 +1,5 @@
 pub mod Honest
+pub mod Kept
 pub mod Made
 pub mod Room
 pub mod Settling

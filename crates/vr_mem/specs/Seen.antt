@@ -1,8 +1,9 @@
 -- What a disk in memory holds, as the calls of a disk see it.
-use Rattle.std.specs.List.{list_any}
+use Rattle.std.specs.List.{list_any, All}
 use Rattle.std.specs.Vec.{vec_capacity}
-use Rattle.std.specs.Prelude.{◌==◌, ◌&&◌, ◌≡◌, ◌≤◌, Bool, true, not, ℕ, List, [], ◌∷◌, map, replicate, Option, Some, None}
+use Rattle.std.specs.Prelude.{◌==◌, ◌&&◌, ◌≡◌, ◌≤◌, ◌<◌, ◌-◌, ◌++◌, Bool, true, not, ℕ, List, [], ◌∷◌, length, map, replicate, Option, Some, None}
 use Rattle.vr_disk.specs.DiskState.{Cell, Waiting, Face, IsFace, Fate, Fuse, CallVerdict, Goes, Fails, Cuts}
+use Rattle.vr_disk.specs.Regions.{sectors}
 use Rattle.vr_disk.specs.declared.sector.Sector.{Sector}
 use Rattle.vr_mem.specs.declared.cells.MemCell.{MemCell}
 use Rattle.vr_mem.specs.declared.cells.MemWaiting.{MemWaiting}
@@ -23,8 +24,20 @@ cell_of c = record { truth = c.truth.bytes; reads = reads_of c.reads; before = c
 abbrev pub waiting_of : MemWaiting → Waiting
 waiting_of w = record { index = w.index; was = cell_of w.was }
 
+-- so many copies of an item
+unfoldable pub copies : {X : Type 0} → ℕ → X → List X
+copies n x = replicate n x
+
+-- a sector of zeros that was never written
+unfoldable pub zero_cell : Cell
+zero_cell = record { truth = copies 512 0; reads = Some (copies 512 0); before = copies 512 0 }
+
+-- those that are kept, and behind them those that nothing was done to
+unfoldable pub seen : List MemCell → List Cell
+seen cells = map cell_of cells ++ copies (sectors - length cells) zero_cell
+
 abbrev pub face_of : MemFace → Face
-face_of f = record { cells = map cell_of f.cells.items; waiting = map waiting_of f.waiting.items }
+face_of f = record { cells = seen f.cells.items; waiting = map waiting_of f.waiting.items }
 
 abbrev pub fuse_of : Option MemFuse → Option Fuse
 fuse_of None = None
@@ -43,16 +56,11 @@ abbrev pub once : List MemWaiting → Bool
 once [] = true
 once (w ∷ ws) = not (list_any (λ x. x.index == w.index) ws) && once ws
 
--- 1,424 sectors, each of which can wait
+-- 3,984 sectors, each of which can be kept, and can wait where it is kept
 pub record IsMemFace (f : MemFace) : Type 0 where
   pub face : IsFace (face_of f)
+  pub count : length f.cells.items ≤ sectors
+  pub space : sectors ≤ vec_capacity f.cells
+  pub kept : All (λ (w : MemWaiting). w.index < length f.cells.items) f.waiting.items
   pub once : once f.waiting.items ≡ true
-  pub room : 1424 ≤ vec_capacity f.waiting
-
--- so many copies of an item
-unfoldable pub copies : {X : Type 0} → ℕ → X → List X
-copies n x = replicate n x
-
--- a sector of zeros that was never written
-unfoldable pub zero_cell : Cell
-zero_cell = record { truth = copies 512 0; reads = Some (copies 512 0); before = copies 512 0 }
+  pub room : sectors ≤ vec_capacity f.waiting

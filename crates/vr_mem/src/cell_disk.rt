@@ -11,7 +11,7 @@ use std::alloc::Global;
 use vr_base::{NoMemory, Sum};
 use vr_disk::{DiskFailed, Memo, Room, SECTORS, Sector, SectorDisk};
 
-/// A disk of 1,424 sectors in memory. A read gives what the sector reads as, and fails where it can't be read.
+/// A disk of 3,984 sectors in memory. A read gives what the sector reads as, and fails where it can't be read.
 #[derive(Drop)]
 pub struct CellDisk {
     face: MemFace,

@@ -4,7 +4,7 @@ ghost use Rattle.std.specs.List.{list_any, All};
 ghost use Rattle.std.specs.Vec.{vec_capacity};
 ghost use Rattle.vr_disk.specs.DiskState.{after, cell, damaged, digit_at, IsContent, settle, settled, settled_cell, Write, Sync};
 ghost use Rattle.vr_mem.specs.Lies.{lied};
-ghost use Rattle.vr_mem.specs.Seen.{IsMemFace, cell_of, copies, face_of, waiting_of, zero_cell};
+ghost use Rattle.vr_mem.specs.Seen.{IsMemFace, cell_of, copies, face_of, seen, waiting_of, zero_cell};
 
 use std::alloc::Global;
 use vr_base::NoMemory;
@@ -26,7 +26,8 @@ pub struct MemWaiting {
     pub was: MemCell,
 }
 
-/// All sectors, and those that wait, in the order of their first write.
+/// All sectors, and those that wait, in the order of their first write. Kept are the sectors up to the last one that was
+/// written or reads as something else; those behind it are zeros, and take no memory.
 #[derive(Drop)]
 pub struct MemFace {
     pub cells: Vec<MemCell>,
@@ -73,7 +74,8 @@ fn settle_cell(digit: u64, was: &MemCell, now: &MemCell) -> MemCell
 // Settles the sectors that wait, by the digits of the code.
 fn settle_all(code: u64, waiting: &[MemWaiting], cells: &mut [MemCell])
     requires { All (λ w. w.index < length cells.old) waiting.now }
-    ensures { map cell_of cells.new ≡ settled code (map waiting_of waiting.now) (map cell_of cells.old) }
+    ensures cells { seen cells.new ≡ settled code (map waiting_of waiting.now) (seen cells.old) }
+    ensures count { length cells.new ≡ length cells.old }
 {
     let mut rest = code;
     for w in waiting {
@@ -110,7 +112,7 @@ fn note(waiting: &mut Vec<MemWaiting>, index: u32, was: &MemCell)
     ensures capacity { vec_capacity waiting.old ≤ vec_capacity waiting.new }
 {
     if !is_waiting(index, waiting) {
-        let _ = waiting.push(MemWaiting { index, was: *was });
+        waiting.push_reserved(MemWaiting { index, was: *was });
     }
 }
 
@@ -139,14 +141,6 @@ fn shown(bytes: &[u8], was: &MemCell) -> MemCell
     }
 }
 
-fn filled<T: Copy + Drop>(alloc: Global, count: usize, item: T) -> Result<Vec<T>, NoMemory>
-    ensures { IfOk result (λ v. v.items ≡ copies count item) }
-{
-    let mut items = Vec::new(alloc);
-    items.resize(count, item)?;
-    Ok(items)
-}
-
 // A sector of zeros that was never written.
 #[tactic(auto, unfolding(crate::specs::Seen::copies, crate::specs::Seen::zero_cell))]
 fn zero() -> MemCell
@@ -160,14 +154,30 @@ fn zero() -> MemCell
     }
 }
 
+// Keeps this sector too, and those before it.
+fn keep(cells: &mut Vec<MemCell>, at: usize)
+    requires at { at < SECTORS }
+    requires count { length cells.old.items ≤ SECTORS }
+    requires space { SECTORS ≤ vec_capacity cells.old }
+    ensures cells { seen cells.new.items ≡ seen cells.old.items }
+    ensures kept { at < length cells.new.items }
+    ensures count { length cells.new.items ≤ SECTORS }
+    ensures grown { length cells.old.items ≤ length cells.new.items }
+    ensures space { SECTORS ≤ vec_capacity cells.new }
+{
+    while cells.len() <= at {
+        cells.push_reserved(zero());
+    }
+}
+
 impl MemFace {
-    /// 1,424 sectors of zeros, with room for each of them to wait.
+    /// 3,984 sectors of zeros, with room for each of them to be kept and to wait.
     pub fn new(alloc: Global) -> Result<MemFace, NoMemory>
         ensures face { IfOk result (λ f. face_of f ≡ record { cells = copies SECTORS zero_cell; waiting = [] }) }
         ensures whole { IfOk result IsMemFace }
     {
         Ok(MemFace {
-            cells: filled(alloc, SECTORS as usize, zero())?,
+            cells: Vec::with_capacity(alloc, SECTORS as usize)?,
             waiting: Vec::with_capacity(alloc, SECTORS as usize)?,
         })
     }
@@ -178,7 +188,12 @@ impl MemFace {
         requires index { index < SECTORS }
         ensures { cell (face_of self.now) index ≡ cell_of result }
     {
-        self.cells[index as usize]
+        let at = index as usize;
+        if at < self.cells.len() {
+            self.cells[at]
+        } else {
+            zero()
+        }
     }
 
     /// From now on a sector reads as another content, until it is written.
@@ -189,6 +204,7 @@ impl MemFace {
         ensures face { IsMemFace self.new }
     {
         let at = index as usize;
+        keep(&mut self.cells, at);
         let was = self.cells[at];
         self.cells[at] = shown(&sector.bytes, &was);
     }
@@ -201,6 +217,7 @@ impl MemFace {
         ensures face { IsMemFace self.new }
     {
         let at = index as usize;
+        keep(&mut self.cells, at);
         let was = self.cells[at];
         self.cells[at] = MemCell { reads: None, ..was };
     }
@@ -212,6 +229,7 @@ impl MemFace {
         ensures face { IsMemFace self.new }
     {
         let at = index as usize;
+        keep(&mut self.cells, at);
         note(&mut self.waiting, index, &self.cells[at]);
         set(&mut self.cells[at], &from.bytes);
     }

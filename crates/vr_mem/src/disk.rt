@@ -9,7 +9,7 @@ use std::alloc::Global;
 use vr_base::{NoMemory, Sum};
 use vr_disk::{DiskFailed, Room, SECTORS, Sector, SectorDisk};
 
-/// A disk of 1,424 sectors in memory. Its reads give what it holds and never fail.
+/// A disk of 3,984 sectors in memory. Its reads give what it holds and never fail.
 #[derive(Drop)]
 pub struct MemDisk {
     disk: CellDisk,

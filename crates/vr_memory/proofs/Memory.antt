@@ -1,4 +1,8 @@
 -- Bounds that sound replicas have, and changes of ready ones.
+use Rattle.vr_rings.specs.Slots.{Takes}
+use Rattle.vr_ckpt.specs.Folds as state
+use Rattle.vr_ckpt.proofs.Fitting.{Fits-applied}
+use Rattle.vr_ckpt.specs.Fitting.{Fits}
 use Rattle.std.proofs.Common.{arith, ◌≡◌, ◌≤◌, ◌<◌, ◌+◌, ◌-◌, ◌^◌, ◌%◌, refl, sym, subst, ℕ, length, List}
 use Rattle.std.proofs.lemmas.List.{length-set}
 use Rattle.vr_super.specs.Copies.{IsGood, SuperValue}
@@ -7,7 +11,7 @@ use Rattle.vr_header.specs.declared.header.Header.{Header}
 use Rattle.vr_header.specs.declared.part.Part.{Part}
 use Rattle.vr_header.specs.declared.part.Part.TheVariants.{Here}
 use Rattle.vr_header.specs.Made.{Whole, IsEntry}
-use Rattle.vr_rules.specs.Replica.{Replica, head, run, forgetting, with_part, part_at, last_view}
+use Rattle.vr_rules.specs.Replica.{Replica, head, run, forgetting, with_part, part_at, last_view, version}
 use Rattle.vr_rules.specs.Words.{value_of, with_saved, rested, stored, lost, entered, learned, applied}
 use Rattle.vr_rules.proofs.SavesCore.{value_is_good}
 use Rattle.vr_rules.proofs.SavesWell.{savable_alike, savable_saved}
@@ -31,7 +35,7 @@ use Rattle.std.specs.Prelude.{max, min, OnOk, Bool, true, false, ◌&&◌, nat_l
 use Rattle.std.proofs.Common.{◌∙◌, ap, Result, Ok, Err}
 use Rattle.std.proofs.lemmas.Bool.{and_parts, ltb-true, eqb-true, eqb-false}
 use Rattle.std.proofs.lemmas.List.{nil_from_length}
-use Rattle.vr_memory.specs.Ready.{IsReady, HasWindow, MayStore, MayApply, HasApplied}
+use Rattle.vr_memory.specs.Ready.{IsReady, HasWindow, MayStore, MayApply, HasApplied, Readiness}
 
 pub record Bounds (r : Replica) : Type 0 where
   pub top : head r ≤ r.checkpoint + 64
@@ -65,26 +69,31 @@ unfolding value_of
 one_spent r v e = rw e (omega arith)
 
 pub ready_saved : (r q : Replica) (v : SuperValue) → q ≡ with_saved r → v ≡ value_of r → IsGood v → IsReady r → IsReady q
-unfolding IsReady
-ready_saved r q v e i g h = rw e (record { sound = sound_alike r (with_saved r) refl h.sound; savable = savable_saved r h.savable (subst IsGood i g); idle = h.idle })
+unfolding IsReady value_of
+ready_saved r q v e i g h = rw e (record { sound = sound_alike r (with_saved r) refl h.sound; savable = savable_saved r h.savable (subst IsGood i g); idle = h.idle; fits = h.fits; runs = h.runs })
 
 pub ready_rested : (r q : Replica) → q ≡ rested r → IsReady r → IsReady q
 unfolding IsReady
-ready_rested r q e h = rw e (record { sound = sound_alike r (rested r) refl h.sound; savable = savable_alike r (rested r) refl h.savable; idle = omega arith })
+ready_rested r q e h = rw e (record { sound = sound_alike r (rested r) refl h.sound; savable = savable_alike r (rested r) refl h.savable; idle = omega arith; fits = h.fits; runs = h.runs })
 
 pub ready_stored : (e : Whole) (r q : Replica) → q ≡ stored e r → MayStore e r → IsReady r → IsReady q
 unfolding IsReady MayStore forgetting with_part
 ready_stored e r q i m h =
     let may : May e r = record { above = m.above; window = m.window; header = m.header; is_entry = m.is_entry } in
-    rw i (record { sound = (kept_stored e r h.sound may).sound; savable = savable_stored e r h.sound may h.savable; idle = h.idle })
+    rw i (record { sound = (kept_stored e r h.sound may).sound; savable = savable_stored e r h.sound may h.savable; idle = h.idle; fits = h.fits; runs = h.runs })
 
 pub ready_entered : (view : ℕ) (r q : Replica) → q ≡ entered view r → r.view ≤ view → view < 2 ^ 32 → IsReady r → IsReady q
 unfolding IsReady entered
-ready_entered view r q e a b h = rw e (record { sound = (kept_entered view r h.sound a).sound; savable = savable_entered view r b h.savable; idle = omega arith })
+ready_entered view r q e a b h = rw e (record { sound = (kept_entered view r h.sound a).sound; savable = savable_entered view r b h.savable; idle = omega arith; fits = h.fits; runs = h.runs })
 
 pub ready_lost : (k : ℕ) (g : Header) (r q : Replica) → q ≡ lost g r → part_at r k ≡ Here g → IsReady r → IsReady q
 unfolding IsReady with_part
-ready_lost k g r q e i h = rw e (record { sound = (kept_lost k g r h.sound i).sound; savable = savable_lost k g r h.sound i h.savable; idle = h.idle })
+ready_lost k g r q e i h = rw e (record { sound = (kept_lost k g r h.sound i).sound; savable = savable_lost k g r h.sound i h.savable; idle = h.idle; fits = h.fits; runs = h.runs })
+
+-- the file takes an entry that may be stored
+pub entry_taken : (e : Whole) (r : Replica) → IsReady r → MayStore e r → Takes 1 e
+unfolding IsReady MayStore
+entry_taken e r h m = let of = m.is_entry.of_version in let runs = h.runs in record { most = omega arith; taken = omega arith }
 
 pub in_window : (e : Whole) (r : Replica) → MayStore e r → HasWindow r → (r.first ≤ e.header.op) × (e.header.op - r.first < length r.parts)
 unfolding MayStore
@@ -109,9 +118,13 @@ pub may_ready : (r : Replica) → MayApply r → IsReady r
 unfolding IsReady MayApply
 may_ready r h = h.ready
 
-pub has_applied : (e : Whole) (r q : Replica) → q ≡ applied e r → MayApply r → IsEntry e → HasApplied q
+pub has_applied : (e : Whole) (r q : Replica) → q ≡ applied e r → MayApply r → IsEntry e → e.header.version ≤ version r → HasApplied q
 unfolding HasApplied MayApply
-has_applied e r q i m n = record { before = r; entry = e; may = m; is = i; op = n.header.op.1 }
+has_applied e r q i m n t = record { before = r; entry = e; may = m; is = i; op = n.header.op.1; whole = n; takes = t }
+
+-- what is applied leaves a state that the file's version allows
+applied_state : (r : Replica) (e : Whole) → Readiness r → IsEntry e → e.header.version ≤ version r → Fits (version r) (state.applied r.state e).state
+applied_state r e h n t = let one = h.runs in Fits-applied (version r) r.state h.fits e t (omega arith) n.body.fits
 
 -- where no checkpoint is due
 pub ready_applied : (q : Replica) → is_checkpoint q.applied ≡ false → HasApplied q → IsReady q
@@ -123,7 +136,7 @@ ready_applied q d h =
     let due : is_checkpoint (r.applied + 1) ≡ false = rw is at d in
     let m = h.may in
     let kept = kept_applied e r m.ready.sound h.op m.known m.loaded (eqb-false ((r.applied + 1) % 32) 0 due) in
-    rw is (record { sound = kept.sound; savable = savable_alike r (applied e r) refl m.ready.savable; idle = m.ready.idle })
+    rw is (record { sound = kept.sound; savable = savable_alike r (applied e r) refl m.ready.savable; idle = m.ready.idle; fits = applied_state r e m.ready h.whole h.takes; runs = m.ready.runs })
 
 -- where one is made
 pub ready_moved : (c : checkpoint.SavedCheckpoint) (q p : Replica) (cluster : ℕ) (texts : Texts) (op : ℕ) (old : PayloadTable) → is_checkpoint q.applied ≡ true → HasApplied q
@@ -141,7 +154,7 @@ ready_moved c q p cluster texts op old d h s i =
     let name : IsNameBytes c.root.sum.0 = rw s (roots.name cluster texts op old) in
     let kept = kept_moved c e r m.ready.sound h.op known m.loaded (eqb-true ((r.applied + 1) % 32) 0 due) in
     let savable = savable_move c (applied e r) address name (omega arith) (savable_alike r (applied e r) refl m.ready.savable) (topped_moved c e r m.ready.sound known) in
-    rw (i, is) (record { sound = kept.sound; savable = savable; idle = m.ready.idle })
+    rw (i, is) (record { sound = kept.sound; savable = savable; idle = m.ready.idle; fits = applied_state r e m.ready h.whole h.takes; runs = m.ready.runs })
 
 -- there is room for the window to move up
 pub room_to_move : (q : Replica) → HasApplied q → (length q.parts + (q.applied - q.checkpoint) ≤ 128) × (length q.ackers + (q.applied - q.checkpoint) ≤ 128)
@@ -229,7 +242,7 @@ pub ready_learned : (c : ℕ) (r q : Replica) → q ≡ learned c r → IsReady 
 unfolding IsReady
 ready_learned c r q e h =
     let known = h.sound.order.known in
-    rw e (record { sound = sound_commit r (max r.commit (min c (head r))) (omega arith) (omega arith) h.sound; savable = savable_alike r (learned c r) refl h.savable; idle = h.idle })
+    rw e (record { sound = sound_commit r (max r.commit (min c (head r))) (omega arith) (omega arith) h.sound; savable = savable_alike r (learned c r) refl h.savable; idle = h.idle; fits = h.fits; runs = h.runs })
 
 -- where an entry may be stored is left to what soundness doesn't ask for
 pub store_rested : (e : Whole) (r q : Replica) → q ≡ rested r → MayStore e r → MayStore e q

@@ -9,7 +9,7 @@ use Rattle.vr_header.specs.declared.part.Part.TheVariants.{Nothing}
 use Rattle.vr_msg.specs.Forms.{IsDoViewChange, IsStartView, IsSyncView}
 use Rattle.vr_msg.specs.Logs.{FromOp, IsEntryAt, has_header}
 use Rattle.vr_rules.specs.Deciding.{reaches_down}
-use Rattle.vr_rules.specs.Replica.{Replica, head, last_view, part_at, run, run_start, statement_of, knows}
+use Rattle.vr_rules.specs.Replica.{Replica, head, last_view, part_at, run, run_start, statement_of, knows, version}
 use Rattle.vr_rules.specs.Outputs.{send_to_all}
 use Rattle.vr_rules.specs.Sound.{IsSound}
 use Rattle.vr_rules.proofs.Heads.{Spans, head_from, head_knows, known_within, prefix_reaches}
@@ -20,27 +20,27 @@ use Rattle.vr_rules.proofs.SavesCore.{Listed, run_listed}
 use Rattle.vr_memory.specs.Ready.{IsReady}
 use Rattle.vr_memory.specs.Sends.{sends}
 
-listed_views : (r : Replica) (op : ℕ) (hs : List Header) → r.log_view ≤ r.view → FromOp (Listed r) op hs → FromOp (IsEntryAt r.cluster r.view) op hs
+listed_views : (r : Replica) (op : ℕ) (hs : List Header) → r.log_view ≤ r.view → FromOp (Listed r) op hs → FromOp (IsEntryAt (version r) r.cluster r.view) op hs
 listed_views r op [] l h = tt
 listed_views r op (x ∷ xs) l h =
     let is = h.0.1 in
     let made = is.made in
-    (record { entry = is.entry; of_group = is.of_group; at_op = is.at_op; made = omega arith }, listed_views r (op + 1) xs l h.1)
+    (record { entry = is.entry; of_version = is.of_version; of_group = is.of_group; at_op = is.at_op; made = omega arith }, listed_views r (op + 1) xs l h.1)
 
-pub may_start : (q r : Replica) (hs : List Header) (lo top n : ℕ) → q ≡ r → IsReady r → r.view ≤ last_view → hs ≡ run r → top ≡ head r → n ≡ length hs → lo ≡ top - n
-    → IsStartView (record { cluster = q.cluster; replica = q.index; view = q.view; head = top; commit = q.commit; body = record { lo = lo; headers = hs } })
+pub may_start : (q r : Replica) (v : ℕ) (hs : List Header) (lo top n : ℕ) → q ≡ r → v ≡ version r → IsReady r → r.view ≤ last_view → hs ≡ run r → top ≡ head r → n ≡ length hs → lo ≡ top - n
+    → IsStartView (record { version = v; cluster = q.cluster; replica = q.index; view = q.view; head = top; commit = q.commit; body = record { lo = lo; headers = hs } })
 unfolding IsReady
-may_start q r hs lo top n same h v e i l k =
+may_start q r w0 hs lo top n same of h v e i l k =
     let s = h.sound in
     let w = run_of r s in
     let start = w.start in
     let listed = listed_views r (run_start r + 1) (run r) s.order.views (run_listed r s) in
-    rw (same, k, l, e, i) (record { view = omega arith; head = head_number r s; commit = s.order.known; count = omega arith; short = w.short; headers = listed })
+    rw (of, same, k, l, e, i) (record { view = omega arith; head = head_number r s; commit = s.order.known; count = omega arith; short = w.short; headers = listed })
 
-pub may_state : (q r : Replica) (s : Statement) → q ≡ r → IsReady r → r.view ≤ last_view → r.log_view < r.view → s ≡ statement_of r
-    → IsDoViewChange (record { cluster = q.cluster; replica = q.index; view = q.view; statement = s })
+pub may_state : (q r : Replica) (v : ℕ) (s : Statement) → q ≡ r → v ≡ version r → IsReady r → r.view ≤ last_view → r.log_view < r.view → s ≡ statement_of r
+    → IsDoViewChange (record { version = v; cluster = q.cluster; replica = q.index; view = q.view; statement = s })
 unfolding IsReady statement_of
-may_state q r s same h v l e = rw (same, e) (record { view = omega arith; log_view = l; statement = (own_statement r h.sound).statement })
+may_state q r w0 s same of h v l e = rw (of, same, e) (record { view = omega arith; log_view = l; statement = (own_statement r h.sound).statement })
 
 pub all_told : (message : Replica → Frame) (m : Frame) (r : Replica) → m ≡ message r → sends r.index r.n m ≡ send_to_all message r
 unfolding sends send_to_all
@@ -85,10 +85,10 @@ pub reaches_is : (r : Replica) (b : Bool) → IsReady r → b ≡ (nat_lt 0 r.ch
 unfolding IsReady
 reaches_is r b h e = e ∙ ap (λ (t : Bool). nat_lt 0 r.checkpoint && t) (down_known r h.sound)
 
-pub may_sync : (q r : Replica) (hs : List Header) (lo top n : ℕ) → q ≡ r → IsReady r → r.view ≤ last_view → reaches_down r ≡ true → hs ≡ run r → top ≡ head r → n ≡ length hs → lo ≡ top - n
-    → IsSyncView (record { cluster = q.cluster; replica = q.index; view = q.view; head = top; commit = q.commit; checkpoint = q.checkpoint; root_address = q.root.address; root_name = q.root.sum; body = record { lo = lo; headers = hs } })
+pub may_sync : (q r : Replica) (v : ℕ) (hs : List Header) (lo top n : ℕ) → q ≡ r → v ≡ version r → IsReady r → r.view ≤ last_view → reaches_down r ≡ true → hs ≡ run r → top ≡ head r → n ≡ length hs → lo ≡ top - n
+    → IsSyncView (record { version = v; cluster = q.cluster; replica = q.index; view = q.view; head = top; commit = q.commit; checkpoint = q.checkpoint; root_address = q.root.address; root_name = q.root.sum; body = record { lo = lo; headers = hs } })
 unfolding IsReady
-may_sync q r hs lo top n same h v down e i l k =
+may_sync q r w0 hs lo top n same of h v down e i l k =
     let s = h.sound in
     let w = run_of r s in
     let start = w.start in
@@ -96,7 +96,7 @@ may_sync q r hs lo top n same h v down e i l k =
     let applied = s.order.applied in
     let commit = s.order.commit in
     let below = and_parts (nat_lt 0 r.checkpoint) (nat_lt (run_start r) r.checkpoint) down in
-    rw (same, k, l, e, i) (record {
+    rw (of, same, k, l, e, i) (record {
       view = omega arith;
       head = head_number r s;
       order = (ltb-true (run_start r) r.checkpoint below.1, omega (arith, applied, commit), s.order.known);

@@ -1,7 +1,7 @@
 //! What an entry that is applied changes and answers, and how the window moves up with a checkpoint.
 ghost use Rattle.std.specs.Prelude.{◌≡◌, ◌<◌, ◌≤◌, ◌-◌, ◌++◌, ◌&&◌, nat_lt, OnOk, true, if◌then◌else◌, []};
-ghost use Rattle.vr_msg.specs.Asking.{IsReplyKind};
-ghost use Rattle.vr_rules.specs.Replica.{last_view, leads};
+ghost use Rattle.vr_msg.specs.Asking.{IsKindValue, IsReplyKind};
+ghost use Rattle.vr_rules.specs.Replica.{last_view, leads, version};
 ghost use Rattle.vr_rules.specs.Outputs.{replies, kind_of, commit_line, applied_reply};
 ghost use Rattle.vr_rules.specs.Words.{with_checkpoint, is_checkpoint, is_loaded, applied};
 ghost use Rattle.vr_memory.specs.Ready.{IsReady, MayApply, HasApplied};
@@ -68,9 +68,11 @@ impl Replica {
     ) -> Result<(), AllocError>
         requires view { self.now.view ≤ last_view }
         requires kind { IsReplyKind kind }
+        requires fits { IsKindValue (version self.now) kind }
         ensures { OnOk result (out.new ≡ out.old ++ replies (record { client = client; request = request; name = name }) kind self.now) }
     {
         out.push(Output::Reply(Reply::new(ReplyFields {
+            version: self.version(),
             cluster: self.cluster,
             replica: self.index,
             view: self.view,
@@ -91,6 +93,7 @@ impl Replica {
         requires member { 0 < self.now.n }
         requires view { leads self.now ≡ true → self.now.view ≤ last_view }
         requires kind { IsReplyKind (kind_of body) }
+        requires fits { IsKindValue (version self.now) (kind_of body) }
         ensures { OnOk result (out.new ≡ out.old ++ (if leads self.now then replies (record { client = header.now.client; request = header.now.request; name = header.now.request_name }) (kind_of body) self.now else [])) }
     {
         if self.leads() {

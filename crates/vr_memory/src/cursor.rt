@@ -9,6 +9,7 @@ ghost use Rattle.vr_rules.specs.Words.{blocks_of, op_of_slot, place_now, places,
 use crate::Replica;
 use std::alloc::AllocError;
 use vr_ckpt::{Name, Payload};
+use vr_disk::BLOCKS;
 
 // Whether a block of this address is among these.
 fn has_address(names: &[Name], address: u64) -> bool
@@ -107,7 +108,7 @@ impl Replica {
     fn is_new(&self, name: &Name) -> bool
         ensures { result ≡ is_new name.now self.now }
     {
-        name.address < 128 && !has_address(self.worn.as_slice(), name.address)
+        name.address < u64::from(BLOCKS) && !has_address(self.worn.as_slice(), name.address)
     }
 
     /// A block was found bad; one of each address is enough.

@@ -2,13 +2,13 @@
 ghost use Rattle.std.specs.Prelude.{◌≡◌, ◌<◌, ◌≤◌};
 ghost use Rattle.vr_base.specs.Bytes.{name_of};
 ghost use Rattle.vr_header.specs.Names.{header_name};
-ghost use Rattle.vr_rules.specs.Deciding.{is_from, is_from_primary, is_known, is_named, is_unknown};
-ghost use Rattle.vr_rules.specs.Replica.{header_at, is_primary, is_spent, is_started, leads};
+ghost use Rattle.vr_rules.specs.Deciding.{is_for, is_from, is_from_primary, is_known, is_named, is_unknown};
+ghost use Rattle.vr_rules.specs.Replica.{header_at, is_primary, is_spent, is_started, leads, version};
 ghost use Rattle.vr_rules.specs.Words.{is_loaded};
 
 use crate::Replica;
 use crate::group::primary;
-use vr_base::{Config, Replicas, Sum};
+use vr_base::{Config, Replicas, Sum, Version};
 use vr_ckpt::{Name, NameList, PayloadTable, State};
 use vr_disk::{Room, SectorDisk};
 use vr_header::{Header, Part, nameless};
@@ -189,19 +189,33 @@ impl Replica {
         18_446_744_073_709_551_360 < self.saved.fields().sequence
     }
 
-    /// Whether a message of this group is from another replica of it.
-    pub fn is_from(&self, cluster: u64, sender: u8) -> bool
-        ensures { result ≡ is_from cluster sender self.now }
+    /// The version of its file, which its messages have, and the entries that it makes.
+    pub fn version(&self) -> Version
+        ensures { result ≡ version self.now }
     {
-        cluster == self.cluster && sender < self.n && sender != self.index
+        self.saved.fields().version
+    }
+
+    /// Whether a message of this version and group is for it.
+    pub fn is_for(&self, version: Version, cluster: u64) -> bool
+        ensures { result ≡ is_for version cluster self.now }
+    {
+        version == self.version() && cluster == self.cluster
+    }
+
+    /// Whether such a message is from another replica of the group.
+    pub fn is_from(&self, version: Version, cluster: u64, sender: u8) -> bool
+        ensures { result ≡ is_from version cluster sender self.now }
+    {
+        self.is_for(version, cluster) && sender < self.n && sender != self.index
     }
 
     /// Whether it is from the primary of its view, too.
-    pub fn is_from_primary(&self, cluster: u64, sender: u8, view: u32) -> bool
+    pub fn is_from_primary(&self, version: Version, cluster: u64, sender: u8, view: u32) -> bool
         requires { 0 < self.now.n }
-        ensures { result ≡ is_from_primary cluster sender view self.now }
+        ensures { result ≡ is_from_primary version cluster sender view self.now }
     {
-        self.is_from(cluster, sender) && sender == primary(self.n, view)
+        self.is_from(version, cluster, sender) && sender == primary(self.n, view)
     }
 }
 

@@ -2,7 +2,7 @@
 ghost use Rattle.std.specs.Prelude.{◌≡◌, ◌≤◌, ◌<◌, ◌++◌, IfOk, OnOk, length};
 ghost use Rattle.vr_base.specs.Bytes.{name_of};
 ghost use Rattle.vr_header.specs.Made.{IsEntryHeader};
-ghost use Rattle.vr_rules.specs.Replica.{last_view};
+ghost use Rattle.vr_rules.specs.Replica.{last_view, version};
 ghost use Rattle.vr_rules.specs.Outputs.{get_block, get_prepare, give_block, give_prepare, prepare, send_to, send_to_all};
 ghost use Rattle.vr_rules.specs.Words.{peer};
 ghost use Rattle.vr_memory.specs.Ready.{IsReady};
@@ -22,11 +22,13 @@ impl Replica {
     fn prepare_of(&self, alloc: Global, entry: &Entry) -> Result<Message, AllocError>
         requires ready { IsReady self.now }
         requires view { self.now.view ≤ last_view }
+        requires version { entry.now.header.version ≤ version self.now }
         requires made { entry.now.header.view ≤ self.now.view }
         ensures { IfOk result (λ message. message ≡ prepare entry.now self.now) }
     {
         let copy = entry.try_clone(alloc)?;
         Ok(Message::prepare(Prepare {
+            version: self.version(),
             replica: self.index,
             view: self.view,
             commit: self.commit,
@@ -44,6 +46,7 @@ impl Replica {
     ) -> Result<(), AllocError>
         requires ready { IsReady self.now }
         requires view { self.now.view ≤ last_view }
+        requires version { entry.now.header.version ≤ version self.now }
         requires made { entry.now.header.view ≤ self.now.view }
         ensures { OnOk result (out.new ≡ out.old ++ send_to_all (prepare entry.now) self.now) }
     {
@@ -62,9 +65,11 @@ impl Replica {
 
     /// Gives an entry to the replica that asked for it.
     pub fn give_entry(&self, to: u8, entry: Entry, out: &mut Outbox) -> Result<(), AllocError>
+        requires { entry.header.version ≤ version self.now }
         ensures { OnOk result (out.new ≡ out.old ++ send_to to (give_prepare entry self.now) self.now) }
     {
         let give = GivePrepare {
+            version: self.version(),
             replica: self.index,
             entry,
         };
@@ -87,6 +92,7 @@ impl Replica {
         ensures { OnOk result (out.new ≡ out.old ++ send_to to (give_block address block self.now) self.now) }
     {
         let give = GiveBlock {
+            version: self.version(),
             cluster: self.cluster,
             replica: self.index,
             address,
@@ -105,6 +111,7 @@ impl Replica {
         ensures { OnOk result (out.new ≡ out.old ++ send_to (peer self.now) (get_block name.now self.now) self.now) }
     {
         let get = GetBlock {
+            version: self.version(),
             cluster: self.cluster,
             replica: self.index,
             address: name.address,
@@ -124,6 +131,7 @@ impl Replica {
         ensures { OnOk result (out.new ≡ out.old ++ send_to (peer self.now) (get_prepare name_of header.now self.now) self.now) }
     {
         let get = GetPrepare {
+            version: self.version(),
             cluster: self.cluster,
             replica: self.index,
             op: header.op,

@@ -1,21 +1,27 @@
 //! What a checkpoint that was loaded leaves.
 ghost use Rattle.std.specs.Prelude.{◌≡◌, ◌∷◌, [], IfOk, OnOk};
 ghost use Rattle.vr_ckpt.specs.declared.found.Load.{Load};
-ghost use Rattle.vr_rules.specs.Words.{loads, with_state};
-ghost use Rattle.vr_memory.specs.Ready.{Decodes};
+ghost use Rattle.vr_ckpt.specs.StateTexts.{state_decoded};
+ghost use Rattle.vr_rules.specs.Words.{loads, usable, with_state};
 
 use crate::Replica;
 use std::alloc::{AllocError, Global};
-use vr_base::{NoMemory, Seq};
+use vr_base::{NoMemory, Seq, Version};
 use vr_ckpt::{Load, Name, NameList, PayloadTable, State, StateFault, Texts};
 
-// The state of these texts, none where they don't decode.
-#[tactic(auto, using(crate::proofs::Loads::not_decoded))]
-fn decode(alloc: Global, texts: &Texts) -> Result<Option<State>, NoMemory>
-    ensures { IfOk result (λ s. Decodes texts.now s) }
+// The state of these texts, none where they don't decode, or the version doesn't allow it.
+#[tactic(auto, using(crate::proofs::Loads::usable_ok, crate::proofs::Loads::usable_unfit, crate::proofs::Loads::usable_err))]
+fn decode(alloc: Global, texts: &Texts, version: Version) -> Result<Option<State>, NoMemory>
+    ensures { IfOk result (λ s. s ≡ usable version (state_decoded texts.now)) }
 {
     match State::decode_state(alloc, texts) {
-        Ok(state) => Ok(Some(state)),
+        Ok(state) => {
+            if state.fits(version) {
+                Ok(Some(state))
+            } else {
+                Ok(None)
+            }
+        }
         Err(StateFault::NoMemory) => Err(NoMemory),
         Err(_) => Ok(None),
     }
@@ -42,7 +48,7 @@ impl Replica {
         self.missing = Seq::new(alloc);
     }
 
-    // The state that was loaded, or what is missing of it. A root whose state doesn't decode counts as missing.
+    // The state that was loaded, or what is missing of it. A root without a state that can be used counts as missing.
     #[tactic(auto, using(crate::proofs::Loads::loads_state, crate::proofs::Loads::loads_none))]
     fn take_texts(
         &mut self,
@@ -54,7 +60,7 @@ impl Replica {
         ensures view { OnOk result (self.new.view ≡ self.old.view) }
         ensures saved { OnOk result (self.new.saved ≡ self.old.saved) }
     {
-        match decode(alloc, &texts)? {
+        match decode(alloc, &texts, self.version())? {
             Some(state) => self.take_state(alloc, table, state),
             None => {
                 let names = only(alloc, self.root)?;

@@ -1,10 +1,9 @@
 //! What a replica puts out.
-ghost use Rattle.vr_msg.specs.declared.frame.Frame.TheVariants as Frame;
 ghost use Rattle.std.specs.Prelude.{◌≡◌, ◌≤◌, ◌<◌, ◌^◌, ◌++◌, ◌∷◌, [], IfOk, OnOk, if◌then◌else◌};
 ghost use Rattle.vr_base.specs.Bytes.{name_of};
 ghost use Rattle.vr_header.specs.Made.{IsEntryHeader};
 ghost use Rattle.vr_msg.specs.Normal.{primary};
-ghost use Rattle.vr_rules.specs.Replica.{last_view};
+ghost use Rattle.vr_rules.specs.Replica.{head, last_view};
 ghost use Rattle.vr_rules.specs.Outputs.{send_to, send_to_all, to_primary, start_view_change, prepare_ok, start_line, commit_message};
 ghost use Rattle.vr_memory.specs.Ready.{IsReady};
 
@@ -12,7 +11,7 @@ use crate::Replica;
 use crate::group::primary;
 use std::alloc::AllocError;
 use vr_header::Header;
-use vr_msg::{Commit, Frame, Message, Outbox, Output, PrepareOk, Sent, StartViewChange, Started};
+use vr_msg::{Commit, Message, Outbox, Output, PrepareOk, Sent, StartViewChange, Started};
 
 impl Replica {
     /// The others hear that it has entered its view.
@@ -21,21 +20,29 @@ impl Replica {
         requires { self.now.view ≤ last_view }
         ensures { OnOk result (out.new ≡ out.old ++ send_to_all start_view_change self.now) }
     {
-        let change = StartViewChange {
-            cluster: self.cluster,
-            replica: self.index,
-            view: self.view,
-        };
         for to in 0..self.n {
             if to != self.index {
                 out.push(Output::Send(Sent {
                     from: self.index,
                     to,
-                    message: Message::start_view_change(change),
+                    message: self.start_view_change(),
                 }))?;
             }
         }
         Ok(())
+    }
+
+    // That it has entered its view.
+    fn start_view_change(&self) -> Message
+        requires { self.now.view ≤ last_view }
+        ensures { result ≡ start_view_change self.now }
+    {
+        Message::start_view_change(StartViewChange {
+            version: self.version(),
+            cluster: self.cluster,
+            replica: self.index,
+            view: self.view,
+        })
     }
 
     /// Tells the primary that the entry of this header is stored.
@@ -47,6 +54,7 @@ impl Replica {
         ensures { OnOk result (out.new ≡ out.old ++ to_primary (prepare_ok name_of header.now) self.now) }
     {
         let ok = PrepareOk {
+            version: self.version(),
             cluster: self.cluster,
             replica: self.index,
             view: self.view,
@@ -80,33 +88,34 @@ impl Replica {
         requires view { self.now.view ≤ last_view }
         ensures { OnOk result (out.new ≡ out.old ++ send_to_all commit_message self.now) }
     {
-        let commit = self.commit_message();
+        let head = self.head();
         for to in 0..self.n {
             if to != self.index {
                 out.push(Output::Send(Sent {
                     from: self.index,
                     to,
-                    message: Message::commit(commit),
+                    message: self.commit_message(head),
                 }))?;
             }
         }
         Ok(())
     }
 
-    // How far its log goes, and how far it is committed.
+    // How far its log goes, which is up to this head, and how far it is committed.
     #[tactic(auto, using(crate::proofs::Memory::window_of, crate::proofs::Memory::head_fits, crate::proofs::Memory::commit_fits))]
-    fn commit_message(&self) -> Commit
+    fn commit_message(&self, top: u64) -> Message
         requires ready { IsReady self.now }
-        ensures value { Frame.Commit result ≡ commit_message self.now }
-        ensures head { result.head ≤ 2 ^ 62 }
-        ensures commit { result.commit ≤ 2 ^ 62 }
+        requires view { self.now.view ≤ last_view }
+        requires head { top ≡ head self.now }
+        ensures { result ≡ commit_message self.now }
     {
-        Commit {
+        Message::commit(Commit {
+            version: self.version(),
             cluster: self.cluster,
             replica: self.index,
             view: self.view,
-            head: self.head(),
+            head: top,
             commit: self.commit,
-        }
+        })
     }
 }

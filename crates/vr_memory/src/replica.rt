@@ -130,6 +130,7 @@ impl Replica {
             head: self.head(),
             replica: self.index,
             n: self.n,
+            version: self.version(),
             mode: self.saved.fields().mode,
         }
     }

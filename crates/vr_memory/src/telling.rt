@@ -61,6 +61,7 @@ impl Replica {
         let headers = self.run(alloc)?;
         let head = self.head();
         Ok(Message::start_view(StartView {
+            version: self.version(),
             cluster: self.cluster,
             replica: self.index,
             view: self.view,
@@ -100,6 +101,7 @@ impl Replica {
         ensures { OnOk result (out.new ≡ out.old ++ send_to to (get_sync view self.now) self.now) }
     {
         let get = GetSync {
+            version: self.version(),
             cluster: self.cluster,
             replica: self.index,
             view,
@@ -118,6 +120,7 @@ impl Replica {
         let headers = self.run(alloc)?;
         let head = self.head();
         Ok(Message::sync_view(SyncView {
+            version: self.version(),
             cluster: self.cluster,
             replica: self.index,
             view: self.view,
@@ -171,6 +174,7 @@ impl Replica {
     {
         let statement = self.statement(alloc)?;
         let message = Message::do_view_change(DoViewChange {
+            version: self.version(),
             cluster: self.cluster,
             replica: self.index,
             view: self.view,

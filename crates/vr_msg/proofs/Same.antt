@@ -48,8 +48,10 @@ prepare_is a b e =
     let p = and_parts _ _ e in
     let q = and_parts _ _ p.1 in
     let r = and_parts _ _ q.1 in
-    let replica = eqb-true a.replica b.replica p.0 in
-    let view = eqb-true a.view b.view q.0 in
-    let commit = eqb-true a.commit b.commit r.0 in
-    let entry = entry_is a.entry b.entry r.1 in
-    λ i. record { replica = replica i; view = view i; commit = commit i; entry = entry i }
+    let s = and_parts _ _ r.1 in
+    let version = eqb-true a.version b.version p.0 in
+    let replica = eqb-true a.replica b.replica q.0 in
+    let view = eqb-true a.view b.view r.0 in
+    let commit = eqb-true a.commit b.commit s.0 in
+    let entry = entry_is a.entry b.entry s.1 in
+    λ i. record { version = version i; replica = replica i; view = view i; commit = commit i; entry = entry i }

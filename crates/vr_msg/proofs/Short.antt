@@ -1,7 +1,9 @@
 -- How long the bodies of messages are.
-use Rattle.std.proofs.Common.{◌≡◌, suc, ◌*◌, ◌≤◌, List, [], ◌∷◌, ◌++◌, length, length-append, refl, ap, arith, ◌+◌}
+use Rattle.std.proofs.Common.{ℕ, ◌≡◌, suc, ◌*◌, ◌≤◌, List, [], ◌∷◌, ◌++◌, length, length-append, refl, ap, arith, ◌+◌}
 use Rattle.std.specs.Prelude.{map}
 use Rattle.vr_base.specs.Bytes.{bytes16, bytes64}
+use Rattle.vr_base.specs.Versions.{value_limit}
+use Rattle.vr_base.proofs.Versions.{between}
 use Rattle.vr_base.proofs.FieldLaws.{length-bytes16, length-bytes64}
 use Rattle.vr_header.specs.declared.header.Header.{Header}
 use Rattle.vr_header.specs.declared.part.Part.{Part}
@@ -11,7 +13,7 @@ use Rattle.vr_header.specs.declared.operation.Operation.TheVariants.{Register, P
 use Rattle.vr_header.specs.declared.outcome.Outcome.{Outcome}
 use Rattle.vr_header.specs.declared.outcome.Outcome.TheVariants as outcome
 use Rattle.vr_header.specs.Bodies.{IsOperation, IsOutcome, operation_bytes, outcome_bytes}
-use Rattle.vr_header.specs.Made.{Whole, entry_bytes}
+use Rattle.vr_header.specs.Made.{IsEntry, Whole, entry_bytes}
 use Rattle.vr_header.specs.Spelling.{IsHeader, header_bytes}
 use Rattle.vr_header.proofs.BodyLaws.{text_limit}
 use Rattle.vr_header.proofs.HeaderLaws.{length-header_bytes}
@@ -21,45 +23,55 @@ use Rattle.vr_msg.specs.declared.reply.ReplyKind.{ReplyKind}
 use Rattle.vr_msg.specs.declared.reply.ReplyKind.TheVariants as reply
 use Rattle.vr_msg.specs.declared.statement.DvcBody.{DvcBody}
 use Rattle.vr_msg.specs.declared.frame.SyncView.{SyncView}
+use Rattle.vr_msg.specs.Asking.{IsKindValue}
 use Rattle.vr_msg.specs.Forms.{IsFrame}
-use Rattle.vr_msg.specs.Spelling.{AreHeaders, IsBodyValue, IsKindValue, body_bytes, headers_bytes, kind_bytes, known, parts_bytes, sync_bytes, tag}
+use Rattle.vr_msg.specs.Spelling.{AreHeaders, IsBodyValue, body_bytes, headers_bytes, kind_bytes, known, parts_bytes, sync_bytes, tag}
 
 pub length-tags : (ps : List Part) → length (map tag ps) ≡ length ps
 length-tags [] = refl
 length-tags (p ∷ ps) = ap suc (length-tags ps)
 
-operation_short : (o : Operation) → IsOperation o → length (operation_bytes o) ≤ 1092
+operation_short : (version : ℕ) (o : Operation) → IsOperation version o → length (operation_bytes o) ≤ 68 + value_limit version
 unfolding operation_bytes
-operation_short Register i = omega arith
-operation_short (Put key value) i =
+operation_short version Register i = omega arith
+operation_short version (Put key value) i =
     let k = text_limit 64 key i.0 in
-    let v = text_limit 1024 value i.1 in
+    let v = text_limit (value_limit version) value i.1 in
     omega (arith, length-append (2 ∷ length key ∷ bytes16 (length value)) (key ++ value), length-append key value, length-bytes16 (length value))
-operation_short (Get key) i = let k = text_limit 64 key i in omega arith
-operation_short (Delete key) i = let k = text_limit 64 key i in omega arith
+operation_short version (Get key) i = let k = text_limit 64 key i in omega arith
+operation_short version (Delete key) i = let k = text_limit 64 key i in omega arith
 
-outcome_short : (o : Outcome) → IsOutcome o → length (outcome_bytes o) ≤ 1027
+outcome_short : (version : ℕ) (o : Outcome) → IsOutcome version o → length (outcome_bytes o) ≤ 3 + value_limit version
 unfolding outcome_bytes
-outcome_short outcome.Session i = omega arith
-outcome_short outcome.Ok i = omega arith
-outcome_short outcome.Full i = omega arith
-outcome_short outcome.Absent i = omega arith
-outcome_short (outcome.Value value) i =
-    let v = text_limit 1024 value i in
+outcome_short version outcome.Session i = omega arith
+outcome_short version outcome.Ok i = omega arith
+outcome_short version outcome.Full i = omega arith
+outcome_short version outcome.Absent i = omega arith
+outcome_short version (outcome.Value value) i =
+    let v = text_limit (value_limit version) value i in
     omega (arith, length-append (5 ∷ bytes16 (length value)) value, length-bytes16 (length value))
 
-kind_short : (k : ReplyKind) → IsKindValue k → length (kind_bytes k) ≤ 1027
-kind_short (reply.Outcome a) i = outcome_short a.outcome i
-kind_short reply.Old i = omega arith
-kind_short reply.Gap i = omega arith
-kind_short reply.Evicted i = omega arith
-kind_short reply.Busy i = omega arith
-kind_short reply.Redirect i = omega arith
+kind_short : (version : ℕ) (k : ReplyKind) → IsKindValue version k → length (kind_bytes k) ≤ 3 + value_limit version
+kind_short version (reply.Outcome a) i = outcome_short version a.outcome i
+kind_short version reply.Old i = omega arith
+kind_short version reply.Gap i = omega arith
+kind_short version reply.Evicted i = omega arith
+kind_short version reply.Busy i = omega arith
+kind_short version reply.Redirect i = omega arith
 
-entry_short : (e : Whole) → IsHeader e.header → IsOperation e.operation → length (entry_bytes e) ≤ 1220
+entry_short : (e : Whole) → IsHeader e.header → IsEntry e → length (entry_bytes e) ≤ 196 + value_limit e.header.version
 unfolding entry_bytes
-entry_short e h o =
-    omega (arith, length-append (header_bytes e.header) (operation_bytes e.operation), length-header_bytes e.header h, operation_short e.operation o)
+entry_short e h i =
+    omega (
+      arith,
+      length-append (header_bytes e.header) (operation_bytes e.operation),
+      length-header_bytes e.header h,
+      operation_short e.header.version e.operation i.body.fits,
+    )
+
+-- no value has more than 3,000 bytes
+value_most : (version : ℕ) → value_limit version ≤ 3000
+value_most version = (between version 1024 3000 (omega arith)).1
 
 headers_long : (hs : List Header) → AreHeaders hs → length (headers_bytes hs) ≡ 128 * length hs
 headers_long [] a = refl
@@ -103,9 +115,9 @@ sync_short v n l a =
 
 -- a message has at most 20,480 bytes
 pub body_short : (m : Frame) → IsFrame m → IsBodyValue m → length (body_bytes m) ≤ 20352
-body_short (frame.Request q) i v = let l = operation_short q.operation v in omega arith
-body_short (frame.Reply r) i v = let l = kind_short r.kind v in omega arith
-body_short (frame.Prepare p) i v = let l = entry_short p.entry v.0 v.1 in omega arith
+body_short (frame.Request q) i v = let l = operation_short q.version q.operation i.fits in let m = value_most q.version in omega arith
+body_short (frame.Reply r) i v = let l = kind_short r.version r.kind i.fits in let m = value_most r.version in omega arith
+body_short (frame.Prepare p) i v = let l = entry_short p.entry v i.entry in let m = value_most p.entry.header.version in omega arith
 body_short (frame.PrepareOk p) i v = omega arith
 body_short (frame.Commit c) i v = omega arith
 body_short (frame.StartViewChange s) i v = omega arith
@@ -113,7 +125,7 @@ body_short (frame.DoViewChange d) i v = let l = parts_short d.statement.body i.s
 body_short (frame.StartView w) i v = let l = headers_long w.body.headers v in let s = i.short in omega arith
 body_short (frame.GetView g) i v = omega arith
 body_short (frame.GetPrepare g) i v = omega arith
-body_short (frame.GivePrepare g) i v = let l = entry_short g.entry v.0 v.1 in omega arith
+body_short (frame.GivePrepare g) i v = let l = entry_short g.entry v i.entry in let m = value_most g.entry.header.version in omega arith
 body_short (frame.GetBlock g) i v = omega arith
 body_short (frame.GiveBlock g) i v = omega arith
 body_short (frame.GetSync g) i v = omega arith

@@ -7,6 +7,7 @@ use Rattle.vr_msg.specs.declared.frame.Commit.{Commit}
 use Rattle.vr_msg.specs.declared.frame.DoViewChange.{DoViewChange}
 use Rattle.vr_msg.specs.declared.frame.StartView.{StartView}
 use Rattle.vr_msg.specs.declared.frame.GetPrepare.{GetPrepare}
+use Rattle.vr_msg.specs.declared.frame.GivePrepare.{GivePrepare}
 use Rattle.vr_msg.specs.declared.frame.SyncView.{SyncView}
 use Rattle.vr_msg.specs.declared.frame.Frame.{Frame}
 use Rattle.vr_msg.specs.declared.frame.Frame.TheVariants as frame
@@ -19,6 +20,7 @@ pub record IsPrepare (p : Prepare) : Type 0 where
   pub commit : IsNumber p.commit
   pub entry : IsEntry p.entry
   pub made : p.entry.header.view ≤ p.view
+  pub of_version : p.entry.header.version ≤ p.version
 
 pub record IsPrepareOk (p : PrepareOk) : Type 0 where
   pub view : IsView p.view
@@ -33,7 +35,7 @@ pub record IsCommit (c : Commit) : Type 0 where
 pub record IsDoViewChange (d : DoViewChange) : Type 0 where
   pub view : IsView d.view
   pub log_view : d.statement.log_view < d.view
-  pub statement : IsStatement d.cluster d.statement
+  pub statement : IsStatement d.version d.cluster d.statement
 
 pub record IsStartView (v : StartView) : Type 0 where
   pub view : IsView v.view
@@ -42,11 +44,15 @@ pub record IsStartView (v : StartView) : Type 0 where
   -- the headers of all ops after lo, up to the head
   pub count : v.body.lo + length v.body.headers ≡ v.head
   pub short : length v.body.headers ≤ 64
-  pub headers : FromOp (IsEntryAt v.cluster v.view) (v.body.lo + 1) v.body.headers
+  pub headers : FromOp (IsEntryAt v.version v.cluster v.view) (v.body.lo + 1) v.body.headers
 
 pub record IsGetPrepare (g : GetPrepare) : Type 0 where
   pub op : IsNumber g.op
   pub made : IsView g.made
+
+pub record IsGivePrepare (g : GivePrepare) : Type 0 where
+  pub entry : IsEntry g.entry
+  pub of_version : g.entry.header.version ≤ g.version
 
 pub record IsSyncView (v : SyncView) : Type 0 where
   pub view : IsView v.view
@@ -58,7 +64,7 @@ pub record IsSyncView (v : SyncView) : Type 0 where
   -- the headers of all ops after lo, up to the head
   pub count : v.body.lo + length v.body.headers ≡ v.head
   pub short : length v.body.headers ≤ 64
-  pub headers : FromOp (IsEntryAt v.cluster v.view) (v.body.lo + 1) v.body.headers
+  pub headers : FromOp (IsEntryAt v.version v.cluster v.view) (v.body.lo + 1) v.body.headers
 
 -- what a frame of each kind may carry
 abbrev pub IsFrame : Frame → Type 0
@@ -72,7 +78,7 @@ IsFrame (frame.DoViewChange d) = IsDoViewChange d
 IsFrame (frame.StartView v) = IsStartView v
 IsFrame (frame.GetView g) = IsView g.view
 IsFrame (frame.GetPrepare g) = IsGetPrepare g
-IsFrame (frame.GivePrepare g) = IsEntry g.entry
+IsFrame (frame.GivePrepare g) = IsGivePrepare g
 IsFrame (frame.GetBlock g) = ⊤
 IsFrame (frame.GiveBlock g) = length g.block ≡ 4096
 IsFrame (frame.GetSync g) = IsView g.view

@@ -14,23 +14,24 @@ abbrev pub FromOp : {X : Type 0} → (ℕ → X → Type 0) → ℕ → List X �
 FromOp P op [] = ⊤
 FromOp P op (x ∷ xs) = P op x × FromOp P (op + 1) xs
 
--- the header of an entry of this group and op, made in a view up to the last one that is allowed
-pub record IsEntryAt (cluster last op : ℕ) (h : Header) : Type 0 where
+-- the header of an entry of this group and op, made in a view up to the last one that is allowed, and of this version or an earlier one
+pub record IsEntryAt (version cluster last op : ℕ) (h : Header) : Type 0 where
   pub entry : IsEntryHeader h
+  pub of_version : h.version ≤ version
   pub of_group : h.cluster ≡ cluster
   pub at_op : h.op ≡ op
   pub made : h.view ≤ last
 
 -- the header that the Part knows, if any, is of an entry
-abbrev pub IsPartAt : ℕ → ℕ → ℕ → Part → Type 0
-IsPartAt cluster last op (Here h) = IsEntryAt cluster last op h
-IsPartAt cluster last op (Lost h) = IsEntryAt cluster last op h
-IsPartAt cluster last op (Wanted h) = IsEntryAt cluster last op h
-IsPartAt cluster last op Unknown = ⊤
-IsPartAt cluster last op Nothing = ⊤
+abbrev pub IsPartAt : ℕ → ℕ → ℕ → ℕ → Part → Type 0
+IsPartAt version cluster last op (Here h) = IsEntryAt version cluster last op h
+IsPartAt version cluster last op (Lost h) = IsEntryAt version cluster last op h
+IsPartAt version cluster last op (Wanted h) = IsEntryAt version cluster last op h
+IsPartAt version cluster last op Unknown = ⊤
+IsPartAt version cluster last op Nothing = ⊤
 
--- what a statement says of the ops of a group
-pub record IsStatement (cluster : ℕ) (s : Statement) : Type 0 where
+-- what a statement says of the ops of a group, with entries of this version or an earlier one
+pub record IsStatement (version cluster : ℕ) (s : Statement) : Type 0 where
   pub commit : s.commit ≤ s.head
   pub head : IsNumber s.head
   pub first : (1 ≤ s.body.first) × (s.body.first ≤ s.commit + 1)
@@ -39,4 +40,4 @@ pub record IsStatement (cluster : ℕ) (s : Statement) : Type 0 where
   pub short : prefix_len has_header s.body.parts ≤ 64
   pub count : length s.body.parts ≤ 128
   pub last : slice_get s.body.parts (length s.body.parts - 1) ≢ Some Nothing
-  pub parts : FromOp (IsPartAt cluster s.log_view) s.body.first s.body.parts
+  pub parts : FromOp (IsPartAt version cluster s.log_view) s.body.first s.body.parts

@@ -8,7 +8,7 @@ use Rattle.vr_header.specs.declared.command.Command.TheVariants as command
 use Rattle.vr_header.specs.declared.header.Header.{Header}
 use Rattle.vr_header.specs.declared.part.Part.{Part}
 use Rattle.vr_header.specs.declared.part.Part.TheVariants.{Here, Lost, Wanted, Unknown, Nothing}
-use Rattle.vr_header.specs.Bodies.{IsOperation, IsOutcome, operation_bytes, outcome_bytes}
+use Rattle.vr_header.specs.Bodies.{operation_bytes, outcome_bytes}
 use Rattle.vr_header.specs.Made.{entry_bytes}
 use Rattle.vr_header.specs.Names.{no_name}
 use Rattle.vr_header.specs.Spelling.{header_bytes, IsHeader}
@@ -38,6 +38,24 @@ command_for (frame.GetBlock g) = command.GetBlock
 command_for (frame.GiveBlock g) = command.GiveBlock
 command_for (frame.GetSync g) = command.GetSync
 command_for (frame.SyncView v) = command.SyncView
+
+-- the version of each
+abbrev pub version_of : Frame → ℕ
+version_of (frame.Request q) = q.version
+version_of (frame.Reply r) = r.version
+version_of (frame.Prepare p) = p.version
+version_of (frame.PrepareOk p) = p.version
+version_of (frame.Commit c) = c.version
+version_of (frame.StartViewChange s) = s.version
+version_of (frame.DoViewChange d) = d.version
+version_of (frame.StartView v) = v.version
+version_of (frame.GetView g) = g.version
+version_of (frame.GetPrepare g) = g.version
+version_of (frame.GivePrepare g) = g.version
+version_of (frame.GetBlock g) = g.version
+version_of (frame.GiveBlock g) = g.version
+version_of (frame.GetSync g) = g.version
+version_of (frame.SyncView v) = v.version
 
 -- the number of a kind of reply
 abbrev pub kind_number : ReplyKind → ℕ
@@ -146,9 +164,9 @@ body_bytes (frame.GiveBlock g) = g.block
 body_bytes (frame.GetSync g) = []
 body_bytes (frame.SyncView v) = sync_bytes v
 
--- a header of this command before a body, with no other field set
-abbrev pub header_before : List ℕ → Command → Header
-header_before body c = record {
+-- a header of this version and command before a body, with no other field set
+abbrev pub header_before : ℕ → List ℕ → Command → Header
+header_before version body c = record {
   body = record { 0 = name_of body };
   parent = no_name;
   request_name = no_name;
@@ -161,12 +179,13 @@ header_before body c = record {
   size = 128 + length body;
   command = c;
   replica = 0;
+  version = version;
   kind = 0;
   aux = 0;
 }
 
 abbrev pub frame_header : Frame → Header
-frame_header m = with_fields m (header_before (body_bytes m) (command_for m))
+frame_header m = with_fields m (header_before (version_of m) (body_bytes m) (command_for m))
 
 -- header and body
 unfoldable pub spelling : Frame → List ℕ
@@ -177,23 +196,15 @@ abbrev pub AreHeaders : List Header → Type 0
 AreHeaders [] = ⊤
 AreHeaders (h ∷ hs) = IsHeader h × AreHeaders hs
 
-abbrev pub IsKindValue : ReplyKind → Type 0
-IsKindValue (reply.Outcome a) = IsOutcome a.outcome
-IsKindValue reply.Old = ⊤
-IsKindValue reply.Gap = ⊤
-IsKindValue reply.Evicted = ⊤
-IsKindValue reply.Busy = ⊤
-IsKindValue reply.Redirect = ⊤
-
 -- 16 bytes
 abbrev pub IsName : Sum → Type 0
 IsName s = (length s.0 ≡ 16) × IsBytes s.0
 
--- the values that the body of a message of the program has
+-- the values that the body of a message of the program has, beside those of its form
 abbrev pub IsBodyValue : Frame → Type 0
-IsBodyValue (frame.Request q) = IsOperation q.operation
-IsBodyValue (frame.Reply r) = IsKindValue r.kind
-IsBodyValue (frame.Prepare p) = IsHeader p.entry.header × IsOperation p.entry.operation
+IsBodyValue (frame.Request q) = ⊤
+IsBodyValue (frame.Reply r) = ⊤
+IsBodyValue (frame.Prepare p) = IsHeader p.entry.header
 IsBodyValue (frame.PrepareOk p) = ⊤
 IsBodyValue (frame.Commit c) = ⊤
 IsBodyValue (frame.StartViewChange s) = ⊤
@@ -201,7 +212,7 @@ IsBodyValue (frame.DoViewChange d) = AreHeaders (known d.statement.body.parts)
 IsBodyValue (frame.StartView v) = AreHeaders v.body.headers
 IsBodyValue (frame.GetView g) = ⊤
 IsBodyValue (frame.GetPrepare g) = ⊤
-IsBodyValue (frame.GivePrepare g) = IsHeader g.entry.header × IsOperation g.entry.operation
+IsBodyValue (frame.GivePrepare g) = IsHeader g.entry.header
 IsBodyValue (frame.GetBlock g) = ⊤
 IsBodyValue (frame.GiveBlock g) = ⊤
 IsBodyValue (frame.GetSync g) = ⊤

@@ -14,6 +14,7 @@ impl Request {
     {
         let q = self.fields();
         let fields = RequestFields {
+            version: q.version,
             cluster: q.cluster,
             client: q.client,
             request: q.request,
@@ -49,6 +50,7 @@ impl Reply {
     {
         let r = self.fields();
         Ok(Reply::new(ReplyFields {
+            version: r.version,
             cluster: r.cluster,
             replica: r.replica,
             view: r.view,
@@ -102,6 +104,7 @@ fn copy_prepare(alloc: Global, p: &Prepare) -> Result<Prepare, AllocError>
     ensures { IfOk result (λ copy. copy ≡ p.now) }
 {
     Ok(Prepare {
+        version: p.version,
         replica: p.replica,
         view: p.view,
         commit: p.commit,
@@ -113,6 +116,7 @@ fn copy_change(alloc: Global, d: &DoViewChange) -> Result<DoViewChange, AllocErr
     ensures { IfOk result (λ copy. copy ≡ d.now) }
 {
     Ok(DoViewChange {
+        version: d.version,
         cluster: d.cluster,
         replica: d.replica,
         view: d.view,
@@ -124,6 +128,7 @@ fn copy_start(alloc: Global, v: &StartView) -> Result<StartView, AllocError>
     ensures { IfOk result (λ copy. copy ≡ v.now) }
 {
     Ok(StartView {
+        version: v.version,
         cluster: v.cluster,
         replica: v.replica,
         view: v.view,
@@ -137,6 +142,7 @@ fn copy_give_prepare(alloc: Global, g: &GivePrepare) -> Result<GivePrepare, Allo
     ensures { IfOk result (λ copy. copy ≡ g.now) }
 {
     Ok(GivePrepare {
+        version: g.version,
         replica: g.replica,
         entry: g.entry.try_clone(alloc)?,
     })
@@ -146,6 +152,7 @@ fn copy_give_block(alloc: Global, g: &GiveBlock) -> Result<GiveBlock, AllocError
     ensures { IfOk result (λ copy. copy ≡ g.now) }
 {
     Ok(GiveBlock {
+        version: g.version,
         cluster: g.cluster,
         replica: g.replica,
         address: g.address,
@@ -157,6 +164,7 @@ fn copy_sync(alloc: Global, v: &SyncView) -> Result<SyncView, AllocError>
     ensures { IfOk result (λ copy. copy ≡ v.now) }
 {
     Ok(SyncView {
+        version: v.version,
         cluster: v.cluster,
         replica: v.replica,
         view: v.view,

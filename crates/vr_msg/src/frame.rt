@@ -1,16 +1,17 @@
 //! The kinds of messages, and what each carries.
 
 use crate::{Reply, Request, Statement, SvBody};
-use vr_base::{ByteList, Sum};
+use vr_base::{ByteList, Sum, Version};
 use vr_header::Entry;
 
 /// An entry goes out from the primary of `view`.
 #[derive(Debug, Drop, PartialEq, Eq)]
 pub struct Prepare {
+    pub version: Version,
     pub replica: u8,
     pub view: u32,
     pub commit: u64,
-    /// The frame's group and op are the entry's.
+    /// The frame's group and op are the entry's, whose version is no later than the frame's.
     pub entry: Entry,
 }
 
@@ -29,6 +30,7 @@ impl Prepare {
 /// The entry of this op and name is stored.
 #[derive(Clone, Copy, Debug, PartialEq, Eq)]
 pub struct PrepareOk {
+    pub version: Version,
     pub cluster: u64,
     pub replica: u8,
     pub view: u32,
@@ -42,6 +44,7 @@ pub struct PrepareOk {
 /// The primary's head and commit number.
 #[derive(Clone, Copy, Debug, PartialEq, Eq)]
 pub struct Commit {
+    pub version: Version,
     pub cluster: u64,
     pub replica: u8,
     pub view: u32,
@@ -52,6 +55,7 @@ pub struct Commit {
 /// The sender has entered `view`.
 #[derive(Clone, Copy, Debug, PartialEq, Eq)]
 pub struct StartViewChange {
+    pub version: Version,
     pub cluster: u64,
     pub replica: u8,
     pub view: u32,
@@ -60,6 +64,7 @@ pub struct StartViewChange {
 /// The sender's statement for the choice of the log of `view`.
 #[derive(Debug, Drop, PartialEq, Eq)]
 pub struct DoViewChange {
+    pub version: Version,
     pub cluster: u64,
     pub replica: u8,
     pub view: u32,
@@ -69,6 +74,7 @@ pub struct DoViewChange {
 /// The log of `view`, up to `head`.
 #[derive(Debug, Drop, PartialEq, Eq)]
 pub struct StartView {
+    pub version: Version,
     pub cluster: u64,
     pub replica: u8,
     pub view: u32,
@@ -80,6 +86,7 @@ pub struct StartView {
 /// Asks for the log of `view`.
 #[derive(Clone, Copy, Debug, PartialEq, Eq)]
 pub struct GetView {
+    pub version: Version,
     pub cluster: u64,
     pub replica: u8,
     pub view: u32,
@@ -88,6 +95,7 @@ pub struct GetView {
 /// Asks for the entry of this op and name.
 #[derive(Clone, Copy, Debug, PartialEq, Eq)]
 pub struct GetPrepare {
+    pub version: Version,
     pub cluster: u64,
     pub replica: u8,
     pub op: u64,
@@ -100,14 +108,16 @@ pub struct GetPrepare {
 /// An entry that was asked for.
 #[derive(Debug, Drop, PartialEq, Eq)]
 pub struct GivePrepare {
+    pub version: Version,
     pub replica: u8,
-    /// The frame's group and op are the entry's.
+    /// The frame's group and op are the entry's, whose version is no later than the frame's.
     pub entry: Entry,
 }
 
 /// Asks for the block of this address and name.
 #[derive(Clone, Copy, Debug, PartialEq, Eq)]
 pub struct GetBlock {
+    pub version: Version,
     pub cluster: u64,
     pub replica: u8,
     pub address: u64,
@@ -118,6 +128,7 @@ pub struct GetBlock {
 /// A block that was asked for.
 #[derive(Debug, Drop, PartialEq, Eq)]
 pub struct GiveBlock {
+    pub version: Version,
     pub cluster: u64,
     pub replica: u8,
     pub address: u64,
@@ -128,6 +139,7 @@ pub struct GiveBlock {
 /// Asks for the checkpoint and the log of `view`.
 #[derive(Clone, Copy, Debug, PartialEq, Eq)]
 pub struct GetSync {
+    pub version: Version,
     pub cluster: u64,
     pub replica: u8,
     pub view: u32,
@@ -136,6 +148,7 @@ pub struct GetSync {
 /// The checkpoint of the primary of `view`, and its log from below the checkpoint up to `head`.
 #[derive(Debug, Drop, PartialEq, Eq)]
 pub struct SyncView {
+    pub version: Version,
     pub cluster: u64,
     pub replica: u8,
     pub view: u32,
@@ -168,4 +181,32 @@ pub enum Frame {
     GiveBlock(GiveBlock),
     GetSync(GetSync),
     SyncView(SyncView),
+}
+
+impl Frame {
+    ghost use Rattle.std.specs.Prelude.{◌≡◌};
+    ghost use Rattle.vr_msg.specs.Spelling.{version_of};
+
+    /// Its version.
+    pub fn version(&self) -> Version
+        ensures { result ≡ version_of self.now }
+    {
+        match self {
+            Frame::Request(q) => q.fields().version,
+            Frame::Reply(r) => r.fields().version,
+            Frame::Prepare(p) => p.version,
+            Frame::PrepareOk(p) => p.version,
+            Frame::Commit(c) => c.version,
+            Frame::StartViewChange(s) => s.version,
+            Frame::DoViewChange(d) => d.version,
+            Frame::StartView(v) => v.version,
+            Frame::GetView(g) => g.version,
+            Frame::GetPrepare(g) => g.version,
+            Frame::GivePrepare(g) => g.version,
+            Frame::GetBlock(g) => g.version,
+            Frame::GiveBlock(g) => g.version,
+            Frame::GetSync(g) => g.version,
+            Frame::SyncView(v) => v.version,
+        }
+    }
 }

@@ -1,9 +1,10 @@
 //! Messages from what they say.
 ghost use Rattle.std.specs.Prelude.{◌≡◌, ◌≤◌, length};
+ghost use Rattle.vr_header.specs.Bodies.{IsOutcome};
 ghost use Rattle.vr_header.specs.Names.{header_name, request_header};
 ghost use Rattle.vr_msg.specs.declared.frame.Frame.{Frame};
 ghost use Rattle.vr_msg.specs.declared.reply.ReplyKind.{ReplyKind};
-ghost use Rattle.vr_msg.specs.Asking.{IsReplyKind};
+ghost use Rattle.vr_msg.specs.Asking.{IsKindValue, IsReplyKind};
 ghost use Rattle.vr_msg.specs.Forms.{IsDoViewChange, IsStartView, IsSyncView};
 ghost use Rattle.vr_msg.specs.Numbers.{IsNumber, IsView};
 
@@ -12,14 +13,16 @@ use crate::{
     GivePrepare, Message, Prepare, PrepareOk, Reply, ReplyFields, ReplyKind, Request, StartView,
     StartViewChange, SyncView,
 };
+use vr_base::Version;
 use vr_header::{Header, Outcome};
 
 impl PrepareOk {
     /// That the entry of this header is stored.
-    pub fn of(header: &Header, replica: u8, view: u32) -> PrepareOk
-        ensures { result ≡ record { cluster = header.now.cluster; replica = replica; view = view; op = header.now.op; name = header_name header.now; made = header.now.view } }
+    pub fn of(version: Version, header: &Header, replica: u8, view: u32) -> PrepareOk
+        ensures { result ≡ record { version = version; cluster = header.now.cluster; replica = replica; view = view; op = header.now.op; name = header_name header.now; made = header.now.view } }
     {
         PrepareOk {
+            version,
             cluster: header.cluster,
             replica,
             view,
@@ -32,10 +35,11 @@ impl PrepareOk {
 
 impl GetPrepare {
     /// Asks for the entry of this header.
-    pub fn of(header: &Header, replica: u8) -> GetPrepare
-        ensures { result ≡ record { cluster = header.now.cluster; replica = replica; op = header.now.op; name = header_name header.now; made = header.now.view } }
+    pub fn of(version: Version, header: &Header, replica: u8) -> GetPrepare
+        ensures { result ≡ record { version = version; cluster = header.now.cluster; replica = replica; op = header.now.op; name = header_name header.now; made = header.now.view } }
     {
         GetPrepare {
+            version,
             cluster: header.cluster,
             replica,
             op: header.op,
@@ -46,15 +50,17 @@ impl GetPrepare {
 }
 
 impl Reply {
-    /// The reply of this kind to a request.
+    /// The reply of this kind to a request, of its version.
     pub fn to(request: &Request, replica: u8, view: u32, kind: ReplyKind) -> Reply
         requires view { IsView view }
         requires kind { IsReplyKind kind }
-        ensures { result ≡ record { cluster = request.now.cluster; replica = replica; view = view; client = request.now.client; request = request.now.request; request_name = header_name (request_header request.now.cluster request.now.client request.now.request request.now.operation); kind = kind } }
+        requires fits { IsKindValue request.now.version kind }
+        ensures { result ≡ record { version = request.now.version; cluster = request.now.cluster; replica = replica; view = view; client = request.now.client; request = request.now.request; request_name = header_name (request_header request.now.version request.now.cluster request.now.client request.now.request request.now.operation); kind = kind } }
     {
         let q = request.fields();
-        let header = Header::of_request(q.cluster, q.client, q.request, &q.operation);
+        let header = Header::of_request(q.version, q.cluster, q.client, q.request, &q.operation);
         Reply::new(ReplyFields {
+            version: q.version,
             cluster: q.cluster,
             replica,
             view,
@@ -66,12 +72,20 @@ impl Reply {
     }
 
     /// The reply to the request that the entry of this header was made of, with its outcome.
-    pub fn of_entry(header: &Header, replica: u8, view: u32, outcome: Outcome) -> Reply
+    pub fn of_entry(
+        version: Version,
+        header: &Header,
+        replica: u8,
+        view: u32,
+        outcome: Outcome,
+    ) -> Reply
         requires view { IsView view }
         requires op { IsNumber header.now.op }
-        ensures { result ≡ record { cluster = header.now.cluster; replica = replica; view = view; client = header.now.client; request = header.now.request; request_name = header.now.request_name; kind = ReplyKind.Outcome (record { op = header.now.op; outcome = outcome }) } }
+        requires fits { IsOutcome version outcome }
+        ensures { result ≡ record { version = version; cluster = header.now.cluster; replica = replica; view = view; client = header.now.client; request = header.now.request; request_name = header.now.request_name; kind = ReplyKind.Outcome (record { op = header.now.op; outcome = outcome }) } }
     {
         Reply::new(ReplyFields {
+            version,
             cluster: header.cluster,
             replica,
             view,
@@ -103,11 +117,12 @@ impl Message {
         Message::new(Frame::Reply(reply))
     }
 
-    /// A prepare of an entry that was made in no later view.
+    /// A prepare of an entry that was made in no later view, and of no later version.
     pub fn prepare(prepare: Prepare) -> Message
         requires view { IsView prepare.view }
         requires commit { IsNumber prepare.commit }
         requires made { prepare.entry.header.view ≤ prepare.view }
+        requires of_version { prepare.entry.header.version ≤ prepare.version }
         ensures { result ≡ Frame.Prepare prepare }
     {
         let _ = prepare.entry.header();
@@ -175,8 +190,9 @@ impl Message {
         Message::new(Frame::GetPrepare(get))
     }
 
-    /// A give_prepare.
+    /// A give_prepare of an entry of no later version.
     pub fn give_prepare(give: GivePrepare) -> Message
+        requires { give.entry.header.version ≤ give.version }
         ensures { result ≡ Frame.GivePrepare give }
     {
         let _ = give.entry.header();

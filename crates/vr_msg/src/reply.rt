@@ -3,7 +3,7 @@ ghost use Rattle.std.specs.Prelude.{◌≡◌};
 ghost use Rattle.vr_msg.specs.Asking.{IsReply};
 
 use std::marker::Model;
-use vr_base::Sum;
+use vr_base::{Sum, Version};
 use vr_header::Outcome;
 
 /// The outcome of a request, and the op that it was.
@@ -33,6 +33,7 @@ pub enum ReplyKind {
 /// What a reply says.
 #[derive(Debug, Drop, PartialEq, Eq)]
 pub struct ReplyFields {
+    pub version: Version,
     /// The number of the group.
     pub cluster: u64,
     /// The number of the sender.
@@ -46,7 +47,7 @@ pub struct ReplyFields {
     pub kind: ReplyKind,
 }
 
-/// A reply to a client; its view is at most 2^32 - 2 and its op at most 2^62.
+/// A reply to a client; its view is at most 2^32 - 2 and its op at most 2^62, and an outcome fits the version.
 #[derive(Debug, Drop, PartialEq, Eq)]
 pub struct Reply {
     fields: ReplyFields,

@@ -6,12 +6,14 @@ ghost use Rattle.vr_header.specs.Names.{header_name, request_header};
 ghost use Rattle.vr_msg.specs.Asking.{AreNames, IsRequest};
 
 use std::marker::Model;
-use vr_base::Sum;
+use vr_base::{Sum, Version};
 use vr_header::{Header, Operation};
 
 /// What a request says.
 #[derive(Debug, Drop, PartialEq, Eq)]
 pub struct RequestFields {
+    /// Of the frame, and of the entry that is made of it.
+    pub version: Version,
     /// The number of the group.
     pub cluster: u64,
     /// The number of the client.
@@ -21,7 +23,7 @@ pub struct RequestFields {
     pub operation: Operation,
 }
 
-/// A request of a client; `Register` stands exactly with number 0.
+/// A request of a client; `Register` stands exactly with number 0, and the operation fits the version.
 #[derive(Debug, Drop)]
 pub struct Request {
     fields: RequestFields,
@@ -92,7 +94,7 @@ impl Request {
 
     /// Its header, and the header's name.
     pub fn header(&self) -> (Header, Sum)
-        ensures header { result.0 ≡ request_header self.now.cluster self.now.client self.now.request self.now.operation }
+        ensures header { result.0 ≡ request_header self.now.version self.now.cluster self.now.client self.now.request self.now.operation }
         ensures name { result.1 ≡ header_name result.0 }
     {
         match self.names {
@@ -107,10 +109,11 @@ impl Request {
     // Its header, whose operation has this name.
     fn header_over(&self, body: Sum) -> Header
         requires { body.0 ≡ name_of (operation_bytes self.now.operation) }
-        ensures { result ≡ request_header self.now.cluster self.now.client self.now.request self.now.operation }
+        ensures { result ≡ request_header self.now.version self.now.cluster self.now.client self.now.request self.now.operation }
     {
         let q = &self.fields;
-        Header::of_named(q.cluster, q.client, q.request, q.operation.size(), body)
+        let size = q.operation.size();
+        Header::of_named(q.version, q.cluster, q.client, q.request, size, body)
     }
 
     /// What it says.

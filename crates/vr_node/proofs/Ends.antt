@@ -19,6 +19,7 @@ use Rattle.vr_node.specs.Running.{EndsAttached, GroupEnds, IsCut, NodeEnds, Outs
 use Rattle.vr_node.specs.Steps.{steps}
 use Rattle.vr_node.specs.Stops.{disk_after, status_of}
 use Rattle.vr_node.specs.declared.node.Node.{Node}
+use Rattle.vr_replica.specs.Replica.{version}
 use Rattle.vr_serve.specs.Causes.{Counts, HasCauses, counts}
 use Rattle.vr_serve.specs.Causes as serve
 use Rattle.vr_serve.specs.Runs.{IsServed}
@@ -32,7 +33,7 @@ use Rattle.vr_status.specs.declared.status.Status.TheVariants as status
 -- ---- serving
 
 pub served : (turns : ℕ) (first : List Output) (node node' : Node) (o o' : Outside) (b n : Counts)
-    → IsServed steps node.replica.memory.cluster turns first node node' o.disk o'.disk o.left o'.left o.got o'.got o.taken o'.taken o.sent o'.sent
+    → IsServed steps (version node.replica.memory) node.replica.memory.cluster turns first node node' o.disk o'.disk o.left o'.left o.got o'.got o.taken o'.taken o.sent o'.sent
     → ServeEnds turns first node o o' b n status.Done
 served turns first node node' o o' b n s = (node', s)
 

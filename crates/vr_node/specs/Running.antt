@@ -14,6 +14,7 @@ use Rattle.vr_msg.specs.declared.output.Output.{Output}
 use Rattle.vr_node.specs.Opening.{Opens, OpensNone}
 use Rattle.vr_node.specs.Steps.{steps, stops}
 use Rattle.vr_node.specs.declared.node.Node.{Node}
+use Rattle.vr_replica.specs.Replica.{version}
 use Rattle.vr_serve.specs.Causes.{Counts}
 use Rattle.vr_serve.specs.Runs.{End, IsCutBefore, IsCutInTurn, IsServed, end_at}
 use Rattle.vr_serve.specs.declared.stop.Stop.{Stop}
@@ -45,12 +46,12 @@ end_in why o = end_at why o.disk o.taken o.sent
 abbrev pub IsCut : ℕ → List Output → Node → Outside → Outside → Stop → Type 0
 IsCut turns first node o o' why =
     IsCutBefore first o.disk o.got o'.got o.taken o.sent (end_in why o')
-    ⊎ IsCutInTurn steps stops node.replica.memory.cluster turns first node o.disk o.got o'.got o.taken o.sent (end_in why o')
+    ⊎ IsCutInTurn steps stops (version node.replica.memory) node.replica.memory.cluster turns first node o.disk o.got o'.got o.taken o.sent (end_in why o')
 
 -- how a member ends that serves so many turns
 abbrev pub ServeEnds : ℕ → List Output → Node → Outside → Outside → Counts → Counts → Status → Type 0
 ServeEnds turns first node o o' before now Done =
-    (node' : Node) × IsServed steps node.replica.memory.cluster turns first node node' o.disk o'.disk o.left o'.left o.got o'.got o.taken o'.taken o.sent o'.sent
+    (node' : Node) × IsServed steps (version node.replica.memory) node.replica.memory.cluster turns first node node' o.disk o'.disk o.left o'.left o.got o'.got o.taken o'.taken o.sent o'.sent
 ServeEnds turns first node o o' before now DiskFault = Rose before.disk now.disk × IsCut turns first node o o' stop.Disk
 ServeEnds turns first node o o' before now LinkFault = Rose before.link now.link × EndsFailed o.got o'.got × IsCut turns first node o o' stop.Link
 ServeEnds turns first node o o' before now WriteFault = Rose before.write now.write × IsCut turns first node o o' stop.Write

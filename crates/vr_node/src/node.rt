@@ -1,8 +1,10 @@
 //! A replica as the loop of turns takes it.
 ghost use Rattle.std.specs.Prelude.{◌≡◌};
 ghost use Rattle.vr_node.specs.Steps.{why_of};
+ghost use Rattle.vr_replica.specs.Replica.{version};
 
 use std::alloc::Global;
+use vr_base::Version;
 use vr_disk::SectorDisk;
 use vr_msg::{Event, Outbox};
 use vr_replica::Replica;
@@ -30,6 +32,13 @@ impl Node {
         ensures { result.replica ≡ replica }
     {
         Node { replica }
+    }
+
+    /// The version of its file, which its messages have.
+    pub fn version(&self) -> Version
+        ensures { result ≡ version self.now.replica.memory }
+    {
+        self.replica.version()
     }
 
     /// The number of its group.

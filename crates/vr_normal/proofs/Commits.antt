@@ -1,5 +1,5 @@
 -- Commits: which rule applies, and what it is.
-use Rattle.std.proofs.Common.{arith, ◌≡◌, ◌≤◌, ◌+◌, ◌∙◌, sym, ap, subst, true, false, List, ◌++◌, Option, Result, Ok}
+use Rattle.std.proofs.Common.{arith, ◌≡◌, ◌≤◌, ◌∙◌, sym, ap, subst, true, false, List, ◌++◌, Option, Result, Ok}
 use Rattle.std.specs.Prelude.{nat_lt}
 use Rattle.vr_disk.specs.DiskState.{Disk}
 use Rattle.vr_msg.specs.declared.frame.Commit.{Commit}

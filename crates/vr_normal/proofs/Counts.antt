@@ -68,6 +68,8 @@ ready_counted a r q e h =
       sound = sound_ackers r _ (length-set r.ackers (a.op - r.first) _) h.sound;
       savable = savable_alike r (acknowledged a r) refl h.savable;
       idle = h.idle;
+      fits = h.fits;
+      runs = h.runs;
     })
 
 pub saved_counted : (a : PrepareOk) (r q : Replica) → q ≡ acknowledged a r → q.saved ≡ r.saved

@@ -1,5 +1,5 @@
 -- Prepares: which rule applies, and what it is.
-use Rattle.std.proofs.Common.{arith, ◌≡◌, ◌≤◌, ◌<◌, ◌+◌, ◌-◌, ◌∙◌, ◌⊎◌, inl, inr, refl, sym, ap, subst, false, not, List, ◌++◌, Option, Result, Ok}
+use Rattle.std.proofs.Common.{arith, ◌≡◌, ◌≤◌, ◌<◌, ◌+◌, ◌∙◌, ◌⊎◌, inl, inr, refl, sym, ap, subst, false, not, List, ◌++◌, Option, Result, Ok}
 use Rattle.std.specs.Prelude.{nat_lt, nat_le}
 use Rattle.std.proofs.lemmas.Bool.{ltb-false, leb-false}
 use Rattle.vr_base.specs.Bytes.{name_of}
@@ -16,7 +16,7 @@ use Rattle.vr_journal.specs.Replica.{Replica, last_view}
 use Rattle.vr_journal.specs.Rules.{acknowledge, ask_view, obey_prepare, on_prepare}
 use Rattle.vr_journal.specs.Steps.{◌⨾◌, change}
 use Rattle.vr_journal.specs.Words.{accept, learn, rested, write}
-use Rattle.vr_journal.proofs.Ruling.{by_rows, group_of_primary}
+use Rattle.vr_journal.proofs.Ruling.{by_rows, group_of_primary, IsFor}
 use Rattle.vr_journal.specs.Halt.{Halt}
 use Rattle.vr_journal.specs.Does.{Does}
 use Rattle.vr_journal.proofs.Stepping.{does_by, does_naming, does_quiet, says_by, change_by}
@@ -34,15 +34,15 @@ view_fits p h = let view = h.view in omega arith
 
 -- it is of the log's view, and of the window
 record Fits (p : Prepare) (r : Replica) : Type 0 where
-  group : p.entry.header.cluster ≡ r.cluster
+  group : IsFor p.version p.entry.header.cluster r
   view : p.view ≤ r.log_view
   above : r.checkpoint < p.entry.header.op
   window : p.entry.header.op ≤ r.checkpoint + 64
 
-fits : (p : Prepare) (r : Replica) → not (is_from_primary p.entry.header.cluster p.replica p.view r) ≡ false → nat_lt r.log_view p.view ≡ false → nat_le p.entry.header.op r.checkpoint ≡ false
+fits : (p : Prepare) (r : Replica) → not (is_from_primary p.version p.entry.header.cluster p.replica p.view r) ≡ false → nat_lt r.log_view p.view ≡ false → nat_le p.entry.header.op r.checkpoint ≡ false
     → nat_lt (r.checkpoint + 64) p.entry.header.op ≡ false → Fits p r
 fits p r a b c d = record {
-  group = group_of_primary p.entry.header.cluster p.replica p.view r a;
+  group = group_of_primary p.version p.entry.header.cluster p.replica p.view r a;
   view = ltb-false r.log_view p.view b;
   above = leb-false p.entry.header.op r.checkpoint c;
   window = ltb-false (r.checkpoint + 64) p.entry.header.op d;
@@ -88,7 +88,7 @@ fits_may p r m h n f =
       above = f.above;
       window = f.window;
       header = h;
-      is_entry = record { entry = n; of_group = f.group; at_op = refl; made = omega arith };
+      is_entry = record { entry = n; of_version = rw (← f.group.0) m.of_version; of_group = f.group.1; at_op = refl; made = omega arith };
     }
 
 pub may_known : (p : Prepare) (r : Replica) (x : PrepareRule) → first_of (prepare_table name_of p r) ≡ prepare_rule x → x ≡ rule.Known → IsPreparing p → IsHeader p.entry.header → IsEntryHeader p.entry.header → MayStore p.entry r

@@ -1,6 +1,8 @@
 -- Requests: which rule applies, and what it is.
+use Rattle.vr_ckpt.proofs.Fitting.{check_fits}
+use Rattle.vr_ckpt.specs.Fitting.{AnswerFits}
 use Rattle.std.proofs.Common.{arith, ℕ, zero, suc, ◌≡◌, ◌≤◌, ◌<◌, ◌+◌, ◌-◌, ◌^◌, ◌∙◌, refl, sym, ap, subst, Bool, true, false, not, List, [], ◌∷◌, ◌++◌, take, drop, get_or, add-one, append-nil, Option, Result, Ok}
-use Rattle.std.specs.Prelude.{◌||◌, ◌==◌, nat_lt, nat_le}
+use Rattle.std.specs.Prelude.{◌||◌, nat_lt, nat_le}
 use Rattle.std.specs.List.{list_any}
 use Rattle.std.proofs.lemmas.Bool.{and_parts, or_parts, not-false, eqb-true, leb-false, ltb-false}
 use Rattle.vr_base.specs.Bytes.{name_of}
@@ -18,11 +20,11 @@ use Rattle.vr_journal.specs.Rule.{Rule}
 use Rattle.vr_journal.specs.Rule.TheVariants.{Ignored, Redirected, Behind, InFlight, Answered, Full, Made}
 use Rattle.vr_journal.specs.Outputs.{replies}
 use Rattle.vr_journal.specs.Asker.{Asker}
-use Rattle.vr_journal.specs.Replica.{Replica, head, is_primary, is_started, leads}
+use Rattle.vr_journal.specs.Replica.{Replica, head, is_primary, is_started, leads, version}
 use Rattle.vr_journal.specs.Rules.{asker_by, make, next_entry, obey_request, on_request, stored_reply}
 use Rattle.vr_journal.specs.Steps.{by}
 use Rattle.vr_journal.specs.Words.{is_loaded}
-use Rattle.vr_journal.proofs.Ruling.{by_rows}
+use Rattle.vr_journal.proofs.Ruling.{by_rows, IsFor, for_of}
 use Rattle.vr_ckpt.specs.SessionAnswer.{SessionAnswer}
 use Rattle.vr_ckpt.specs.SessionAnswer.TheVariants as answer
 use Rattle.vr_journal.specs.Halt.{Halt}
@@ -74,18 +76,18 @@ flight_is client from end r b h i j e = e ∙ rw (i, j, flight_count r h) refl
 -- ---- the next entry
 
 record MayMake (q : RequestFields) (r : Replica) : Type 0 where
-  group : q.cluster ≡ r.cluster
+  group : IsFor q.version q.cluster r
   started : r.view ≡ r.log_view
   applied : r.commit ≤ r.applied
   few : head r < r.commit + 8
   low : head r < 2 ^ 62
 
-may_make_is : (q : RequestFields) (r : Replica) → not (q.cluster == r.cluster) ≡ false → not (leads r) ≡ false → (not (is_loaded r) || nat_lt r.applied r.commit) ≡ false
+may_make_is : (q : RequestFields) (r : Replica) → IsFor q.version q.cluster r → not (leads r) ≡ false → (not (is_loaded r) || nat_lt r.applied r.commit) ≡ false
     → (nat_le 8 (head r - r.commit) || nat_le (2 ^ 62) (head r)) ≡ false → MayMake q r
 may_make_is q r a b c d =
     let few = leb-false 8 (head r - r.commit) (or_parts (nat_le 8 (head r - r.commit)) (nat_le (2 ^ 62) (head r)) d).0 in
     record {
-      group = eqb-true q.cluster r.cluster (not-false _ a);
+      group = a;
       started = eqb-true r.view r.log_view (and_parts (is_started r) (is_primary r) (not-false _ b)).0;
       applied = ltb-false r.applied r.commit (or_parts (not (is_loaded r)) (nat_lt r.applied r.commit) c).1;
       few = omega arith;
@@ -95,10 +97,14 @@ may_make_is q r a b c d =
 made_by_rule : (q : RequestFields) (r : Replica) → first_of (request_table q r) ≡ Made → MayMake q r
 made_by_rule q r =
     by_rows (λ x. x ≡ Made → MayMake q r) (request_table q r)
-    (λ t e. absurd cc, λ n0. (λ t e. absurd cc, λ n1. (λ t e. absurd cc, λ n2. (λ t e. absurd cc, λ n3. (λ t e. absurd cc, λ n4. (λ t e. absurd cc, λ n5. (λ t e. may_make_is q r n0 n1 n2 n5, λ n6 e. absurd cc)))))))
+    (λ t e. absurd cc, λ n0. (λ t e. absurd cc, λ n1. (λ t e. absurd cc, λ n2. (λ t e. absurd cc, λ n3. (λ t e. absurd cc, λ n4. (λ t e. absurd cc, λ n5. (λ t e. may_make_is q r (for_of q.version q.cluster r (not-false _ n0)) n1 n2 n5, λ n6 e. absurd cc)))))))
 
 pub head_room : (q : RequestFields) (r : Replica) → first_of (request_table q r) ≡ Made → head r < 2 ^ 62
 head_room q r e = (made_by_rule q r e).low
+
+pub made_taken : (q : RequestFields) (r : Replica) (e : Whole) → first_of (request_table q r) ≡ Made → e ≡ next_entry name_of q r → e.header.version ≤ version r
+unfolding next_entry
+made_taken q r e k i = let group = (made_by_rule q r k).group.0 in rw i (omega (arith, group))
 
 pub made_view : (q : RequestFields) (r : Replica) (e : Whole) → e ≡ next_entry name_of q r → e.header.view ≤ r.view
 unfolding next_entry
@@ -110,6 +116,8 @@ may_make q r e h k i v n =
     let m = made_by_rule q r k in
     let op : e.header.op ≡ head r + 1 = ap (λ (x : Whole). x.header.op) i in
     let cluster : e.header.cluster ≡ q.cluster = ap (λ (x : Whole). x.header.cluster) i in
+    let made : e.header.version ≡ q.version = ap (λ (x : Whole). x.header.version) i in
+    let own = m.group.0 in
     let view : e.header.view ≡ r.view = ap (λ (x : Whole). x.header.view) i in
     let low = h.sound.order.applied in
     let commit = h.sound.order.commit in
@@ -122,7 +130,7 @@ may_make q r e h k i v n =
       above = omega arith;
       window = omega arith;
       header = v;
-      is_entry = record { entry = n; of_group = cluster ∙ m.group; at_op = refl; made = omega arith };
+      is_entry = record { entry = n; of_version = omega (arith, made, own); of_group = cluster ∙ m.group.1; at_op = refl; made = omega arith };
     }
 
 -- ---- what the sessions answer
@@ -141,6 +149,11 @@ same_number answer.Evicted h = h
 pub answer_fits : (q : RequestFields) (r : Replica) (x : RequestRule) (a : SessionAnswer) → IsReady r → Answers x q r → x ≡ rule.Answered a → HasNumber a
 unfolding IsReady
 answer_fits q r x a h i k = rw (answer_is q r x a i k) (same_number (session_answer q r) (sessions.answer_numbered r.state.sessions q.client q.request h.sound.numbers))
+
+-- and has an outcome of the replica's version
+pub answer_suits : (q : RequestFields) (r : Replica) (x : RequestRule) (a : SessionAnswer) → IsReady r → Answers x q r → x ≡ rule.Answered a → AnswerFits (version r) a
+unfolding IsReady
+answer_suits q r x a h i k = rw (answer_is q r x a i k) (check_fits (version r) r.state h.fits q.client q.request)
 
 stored_said : (a : Asker) (x : SessionAnswer) (r : Replica) (d : Option Disk) (o o' : List Output) → o' ≡ o ++ stored_replies a x r → Does (stored_reply a x) r r d d o o' (Ok tt)
 stored_said a answer.Fresh r d o o' e = rw (e, append-nil o) (does_quiet r d o)
@@ -185,4 +198,4 @@ module _ (q : RequestFields) (r : Replica) (d : Option Disk) (o : List Output) (
 pub made_means : (q : RequestFields) (r : Replica) (x : RequestRule) → first_of (request_table q r) ≡ request_rule x → x ≡ rule.Made → first_of (request_table q r) ≡ Made
 made_means q r x e k = e ∙ ap request_rule k
 
-pub ruleset rules = (request_made, request_answered, request_ignored, request_in_flight, request_redirected, request_behind, request_full, made_means, answer_fits)
+pub ruleset rules = (request_made, request_answered, request_ignored, request_in_flight, request_redirected, request_behind, request_full, made_means, answer_fits, answer_suits)

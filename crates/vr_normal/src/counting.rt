@@ -46,7 +46,7 @@ pub fn decide_prepare_ok(replica: &Replica, ack: &PrepareOk) -> CountRule
     requires { IsReady replica.now }
     ensures { first_of (prepare_ok_table name_of ack.now replica.now) ≡ count_rule result }
 {
-    if !replica.is_from(ack.cluster, ack.replica) {
+    if !replica.is_from(ack.version, ack.cluster, ack.replica) {
         CountRule::Ignored
     } else if is_open(replica, ack) {
         CountRule::Counted

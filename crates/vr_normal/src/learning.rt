@@ -36,6 +36,7 @@ pub fn ask_view(replica: &Replica, view: u32, to: u8, out: &mut Outbox) -> Resul
     ensures { OnOk result (out.new ≡ out.old ++ send_to to (get_view view replica.now) replica.now) }
 {
     let message = Message::get_view(GetView {
+        version: replica.version(),
         cluster: replica.cluster(),
         replica: replica.index(),
         view,
@@ -49,7 +50,7 @@ pub fn decide_commit(replica: &Replica, commit: &Commit) -> CommitRule
     requires { IsReady replica.now }
     ensures { first_of (commit_table commit.now replica.now) ≡ commit_rule result }
 {
-    if !replica.is_from_primary(commit.cluster, commit.replica, commit.view) {
+    if !replica.is_from_primary(commit.version, commit.cluster, commit.replica, commit.view) {
         CommitRule::Ignored
     } else if commit.view < replica.view() {
         CommitRule::CommitBefore

@@ -6,7 +6,7 @@ ghost use Rattle.vr_journal.specs.Ready.{IsReady, MayStore};
 ghost use Rattle.vr_msg.specs.Asking.{IsRequest};
 ghost use Rattle.vr_journal.specs.Deciding.{first_of, request_table};
 ghost use Rattle.vr_journal.specs.Rule.TheVariants.{Made};
-ghost use Rattle.vr_journal.specs.Replica.{head, head_header, last_view};
+ghost use Rattle.vr_journal.specs.Replica.{head, head_header, last_view, version};
 ghost use Rattle.vr_journal.specs.Rules.{make, next_entry};
 ghost use Rattle.vr_journal.specs.Steps.{by};
 ghost use Rattle.vr_journal.specs.Does.{Caused, Does};
@@ -73,6 +73,7 @@ fn make<D: SectorDisk>(
 ) -> Result<(), Halt>
     requires ready { IsReady replica.old }
     requires may { MayStore entry.now replica.old }
+    requires taken { entry.now.header.version ≤ version replica.old }
     requires made { entry.now.header.view ≤ replica.old.view }
     requires view { replica.old.view ≤ last_view }
     requires room { replica.old.saved.fields.sequence + 64 < 2 ^ 64 }
@@ -86,7 +87,7 @@ fn make<D: SectorDisk>(
 }
 
 /// The next entry is made of this request.
-#[tactic(auto, using(vr_journal::proofs::Stepping::steps, crate::proofs::Requests::may_make, crate::proofs::Requests::made_view, crate::proofs::Requests::head_room))]
+#[tactic(auto, using(vr_journal::proofs::Stepping::steps, crate::proofs::Requests::may_make, crate::proofs::Requests::made_taken, crate::proofs::Requests::made_view, crate::proofs::Requests::head_room))]
 pub fn make_next<D: SectorDisk>(
     replica: &mut Replica,
     alloc: Global,

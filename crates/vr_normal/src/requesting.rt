@@ -3,14 +3,15 @@ ghost use Rattle.std.specs.Prelude.{◌≡◌, ◌<◌, ◌≤◌, ◌+◌, ◌-
 ghost use Rattle.vr_base.specs.Bytes.{name_of};
 ghost use Rattle.vr_header.specs.declared.part.Part.TheVariants.{Nothing};
 ghost use Rattle.vr_journal.specs.Ready.{IsReady};
-ghost use Rattle.vr_msg.specs.Asking.{IsRequest, IsReplyKind};
+ghost use Rattle.vr_msg.specs.Asking.{IsKindValue, IsReplyKind, IsRequest};
 ghost use Rattle.vr_msg.specs.Normal.{last_op, pipeline};
 ghost use Rattle.vr_journal.specs.Deciding.{first_of, is_in_flight, request_table};
 ghost use Rattle.vr_journal.specs.Outputs.{replies};
-ghost use Rattle.vr_journal.specs.Replica.{head, last_view};
+ghost use Rattle.vr_journal.specs.Replica.{head, last_view, version};
 ghost use Rattle.vr_journal.specs.Rules.{asker_by, on_request};
 ghost use Rattle.vr_journal.specs.Words.{is_loaded};
 ghost use Rattle.vr_ckpt.specs.Asks.{is_fresh};
+ghost use Rattle.vr_ckpt.specs.Fitting.{AnswerFits};
 ghost use Rattle.vr_journal.specs.Does.{Caused, Does};
 ghost use Rattle.vr_normal.specs.Named.{request_rule};
 ghost use Rattle.vr_normal.specs.Requests.{Answers, HasNumber, open_rows, stored_replies};
@@ -142,7 +143,7 @@ pub fn decide_request(replica: &Replica, request: &RequestFields) -> Result<Requ
     ensures rule { IfOk result (λ x. first_of (request_table request.now replica.now) ≡ request_rule x) }
     ensures answer { IfOk result (λ x. Answers x request.now replica.now) }
 {
-    if request.cluster != replica.cluster() {
+    if !replica.is_for(request.version, request.cluster) {
         Ok(RequestRule::Ignored)
     } else if !replica.leads() {
         Ok(RequestRule::Redirected)
@@ -174,6 +175,7 @@ fn reply_to(
 ) -> Result<(), AllocError>
     requires view { replica.now.view ≤ last_view }
     requires kind { IsReplyKind kind }
+    requires fits { IsKindValue (version replica.now) kind }
     ensures { OnOk result (out.new ≡ out.old ++ replies (asker_by name_of request.now) kind replica.now) }
 {
     let fields = request.fields();
@@ -195,6 +197,7 @@ fn reply_stored(
 ) -> Result<(), AllocError>
     requires view { replica.now.view ≤ last_view }
     requires number { HasNumber answer }
+    requires fits { AnswerFits (version replica.now) answer }
     ensures { OnOk result (out.new ≡ out.old ++ stored_replies (asker_by name_of request.now) answer replica.now) }
 {
     match answer {

@@ -82,7 +82,12 @@ pub fn decide_prepare(replica: &Replica, prepare: &Prepare) -> PrepareRule
     ensures { first_of (prepare_table name_of prepare.now replica.now) ≡ prepare_rule result }
 {
     let header = prepare.entry.header();
-    if !replica.is_from_primary(header.cluster, prepare.replica, prepare.view) {
+    if !replica.is_from_primary(
+        prepare.version,
+        header.cluster,
+        prepare.replica,
+        prepare.view,
+    ) {
         PrepareRule::Ignored
     } else if prepare.view < replica.view() {
         PrepareRule::PreparedBefore

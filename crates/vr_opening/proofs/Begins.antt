@@ -1,5 +1,5 @@
 -- A replica as it begins, and what it does once its Parts are found.
-use Rattle.std.proofs.Common.{arith, ◌≡◌, ◌<◌, ◌+◌, ◌-◌, ◌^◌, ◌∙◌, inr, refl, subst, Bool, List, [], ◌++◌, Option, true, false, Result, Ok}
+use Rattle.std.proofs.Common.{arith, ◌≡◌, ◌<◌, ◌+◌, ◌-◌, ◌^◌, ◌∙◌, inr, refl, sym, subst, Bool, List, [], ◌++◌, Option, true, false, Result, Ok}
 use Rattle.std.specs.Prelude.{nat_le}
 use Rattle.std.proofs.lemmas.Bool.{and_parts, eqb-true, ltb-false}
 use Rattle.vr_disk.specs.DiskState.{Disk}
@@ -11,13 +11,12 @@ use Rattle.std.proofs.Common.{cond, append-nil}
 use Rattle.vr_journal.specs.Steps.{when, says}
 use Rattle.vr_journal.specs.Words.{with_saved, save}
 use Rattle.vr_journal.specs.Opening.{blank, in_next_view, leave_view, heard_itself, announce, going_on, resuming}
-use Rattle.vr_journal.proofs.Slots.{value_is}
+use Rattle.vr_journal.proofs.Slots.{value_is, least_two}
 use Rattle.vr_journal.proofs.Openings.{partly_blank, kept_next}
 use Rattle.vr_journal.specs.Found.{Lists}
 use Rattle.vr_journal.proofs.SavesFound.{lists_head, list_size}
 use Rattle.vr_journal.proofs.SavesOpening.{savable_next}
-use Rattle.vr_journal.proofs.SavesCore.{value_is_good}
-use Rattle.vr_journal.proofs.SavesWell.{savable_alike, savable_saved}
+use Rattle.vr_journal.proofs.SavesWell.{savable_alike}
 use Rattle.vr_journal.proofs.Keeping.{sound_alike}
 use Rattle.vr_journal.specs.Halt.{Halt}
 use Rattle.vr_journal.specs.Does.{Does}
@@ -25,12 +24,13 @@ use Rattle.vr_journal.specs.Ready.{IsReady, MayLoad}
 use Rattle.vr_opening.specs.Finding.{IsOpeningOld}
 use Rattle.vr_journal.proofs.Stepping.{does_by, does_quiet, change_by_then, says_by}
 
-pub opening_blank : (v : SuperValue) (r : Replica) → r ≡ blank v → IsGood v → IsOpeningOld 0 r
+pub opening_blank : (v : SuperValue) (r : Replica) → r ≡ blank v → IsGood v → v.fields.version ≡ 1 → IsOpeningOld 0 r
 unfolding IsOpeningOld blank
-opening_blank v r e g =
-    let w = value_is v g in
+opening_blank v r e g one =
+    let w = value_is v g (least_two v g one) in
     rw e (record {
       good = g;
+      version = one;
       partly = partly_blank v;
       top = λ same some. inr (subst (λ j. Lists j v.headers) same (lists_head v w (list_size v g some)));
     })
@@ -54,21 +54,13 @@ opened_next r q h l e =
     let same = same_views r l in
     let low = h.ready.savable.log_view in
     rw e (record {
-      ready = record { sound = (kept_next r h.ready.sound).sound; savable = savable_next r (omega arith) h.ready.savable; idle = h.ready.idle };
+      ready = record { sound = (kept_next r h.ready.sound).sound; savable = savable_next r (omega arith) h.ready.savable; idle = h.ready.idle; fits = h.ready.fits; runs = h.ready.runs };
       applied = h.applied;
     })
 
-pub opened_saved : (r q : Replica) → MayLoad r → r.saved.fields.sequence + 1 < 2 ^ 64 → q ≡ with_saved r → MayLoad q
-unfolding MayLoad IsReady
-opened_saved r q h l e =
-    rw e (record {
-      ready = record {
-        sound = sound_alike r (with_saved r) refl h.ready.sound;
-        savable = savable_saved r h.ready.savable (value_is_good r h.ready.sound h.ready.savable l);
-        idle = h.ready.idle;
-      };
-      applied = h.applied;
-    })
+pub opened_saved : (r q : Replica) → MayLoad r → IsReady q → q ≡ with_saved r → MayLoad q
+unfolding MayLoad
+opened_saved r q h ready e = record { ready = ready; applied = subst (λ (x : Replica). x.applied ≡ x.checkpoint) (sym e) h.applied }
 
 pub leave_then : (r q r2 : Replica) (d d2 : Option Disk) (o o2 : List Output) (res : Result (Unit {0}) Halt) → leads r ≡ true → q ≡ in_next_view r → Does save q r2 d d2 o o2 res → Does leave_view r r2 d d2 o o2 res
 leave_then r q r2 d d2 o o2 res l e h = does_by _ r r2 d d2 o o2 res (rw l (change_by_then in_next_view save r q r2 d d2 o o2 res e h))
@@ -81,7 +73,7 @@ leave_none r d o l = does_by _ r r d d o o (Ok tt) (rw l (does_quiet r d o))
 pub ready_heard : (r q : Replica) → IsReady r → q ≡ heard_itself r → IsReady q
 unfolding IsReady
 ready_heard r q h e =
-    rw e (record { sound = sound_alike r (heard_itself r) refl h.sound; savable = savable_alike r (heard_itself r) refl h.savable; idle = h.idle })
+    rw e (record { sound = sound_alike r (heard_itself r) refl h.sound; savable = savable_alike r (heard_itself r) refl h.savable; idle = h.idle; fits = h.fits; runs = h.runs })
 
 told_view : (b : Bool) (r : Replica) (d : Option Disk) (o o2 : List Output) → o2 ≡ o ++ cond b (send_to_all start_view_change r) [] → Does (when b (says (send_to_all start_view_change))) r r d d o o2 (Ok tt)
 told_view true r d o o2 e = says_by (send_to_all start_view_change) r d o o2 e

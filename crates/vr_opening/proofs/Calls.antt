@@ -1,9 +1,10 @@
 -- Calls that are made one after the other.
 use Rattle.std.proofs.Common.{arith, ℕ, suc, ◌≡◌, ◌<◌, ◌≤◌, ◌+◌, ◌-◌, refl, List, [], ◌∷◌, Option, true, false}
 use Rattle.vr_disk.specs.DiskState.{Call, Write, Disk, Runs}
+use Rattle.vr_disk.specs.Regions.{prepare_place}
 use Rattle.vr_disk.proofs.Running.{Runs_then, Runs_stopped, runs_nothing}
 use Rattle.vr_journal.specs.Formatting.{zero_prepares, zero_sector, reserved_headers}
-use Rattle.vr_opening.specs.Calls.{zero_call, reserved_call, calls_from, Making}
+use Rattle.vr_opening.specs.Calls.{prepares_end, zero_call, reserved_call, calls_from, Making}
 
 calls_past : (c : ℕ → Call) (i end : ℕ) → end ≤ i → calls_from c i end ≡ []
 unfolding calls_from
@@ -26,18 +27,18 @@ making_ends c i end cs d d' l m = m.goes d' true (rw (calls_past c i end l) (run
 
 -- ---- zeros
 
-pub zeros_begin : (d : Option Disk) → Making zero_prepares (calls_from zero_call 144 400) d d
+pub zeros_begin : (d : Option Disk) → Making zero_prepares (calls_from zero_call (prepare_place 1 0) prepares_end) d d
 unfolding calls_from
 zeros_begin d = record { goes = λ e ok h. h }
 
-pub zeros_go : (i : ℕ) (b : List ℕ) (cs : List Call) (d d' d'' : Option Disk) → i < 400 → b ≡ zero_sector → Making cs (calls_from zero_call i 400) d d' → Runs (Write i b ∷ []) d' d'' true → Making cs (calls_from zero_call (i + 1) 400) d d''
-zeros_go i b cs d d' d'' l e m one = making_goes zero_call i 400 cs d d' d'' l m (rw e at one)
+pub zeros_go : (i : ℕ) (b : List ℕ) (cs : List Call) (d d' d'' : Option Disk) → i < prepares_end → b ≡ zero_sector → Making cs (calls_from zero_call i prepares_end) d d' → Runs (Write i b ∷ []) d' d'' true → Making cs (calls_from zero_call (i + 1) prepares_end) d d''
+zeros_go i b cs d d' d'' l e m one = making_goes zero_call i prepares_end cs d d' d'' l m (rw e at one)
 
-pub zeros_stop : (i : ℕ) (b : List ℕ) (cs : List Call) (d d' d'' : Option Disk) → i < 400 → b ≡ zero_sector → Making cs (calls_from zero_call i 400) d d' → Runs (Write i b ∷ []) d' d'' false → Runs cs d d'' false
-zeros_stop i b cs d d' d'' l e m one = making_stops zero_call i 400 cs d d' d'' l m (rw e at one)
+pub zeros_stop : (i : ℕ) (b : List ℕ) (cs : List Call) (d d' d'' : Option Disk) → i < prepares_end → b ≡ zero_sector → Making cs (calls_from zero_call i prepares_end) d d' → Runs (Write i b ∷ []) d' d'' false → Runs cs d d'' false
+zeros_stop i b cs d d' d'' l e m one = making_stops zero_call i prepares_end cs d d' d'' l m (rw e at one)
 
-pub zeros_end : (i : ℕ) (cs : List Call) (d d' : Option Disk) → 400 ≤ i → Making cs (calls_from zero_call i 400) d d' → Runs cs d d' true
-zeros_end i cs d d' l m = making_ends zero_call i 400 cs d d' l m
+pub zeros_end : (i : ℕ) (cs : List Call) (d d' : Option Disk) → prepares_end ≤ i → Making cs (calls_from zero_call i prepares_end) d d' → Runs cs d d' true
+zeros_end i cs d d' l m = making_ends zero_call i prepares_end cs d d' l m
 
 -- ---- headers
 

@@ -49,6 +49,7 @@ first_good kind cluster n index c i k s m =
         head = omega arith;
         replica = i;
         n = k;
+        version = (omega arith, omega arith);
       };
       fields = and_from _ _ (and_from _ _ (and_from _ _ (le-leb 2 n size.0) (le-leb n 6 size.1)) (and_from _ _ (lt-ltb index n m) refl)) refl;
       each = tt;

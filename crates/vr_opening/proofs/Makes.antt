@@ -1,4 +1,6 @@
 -- A new member is made on its disk.
+use Rattle.vr_ckpt.proofs.Fitting.{Fits-empty}
+use Rattle.vr_ckpt.specs.Fitting.{Fits}
 use Rattle.vr_base.specs.Kinds.{of_mode}
 use Rattle.vr_base.specs.declared.kind.Kind.{Kind}
 use Rattle.vr_base.specs.declared.mode.Mode.{Mode}
@@ -11,10 +13,10 @@ use Rattle.vr_super.specs.declared.opening.Found.{Found}
 use Rattle.vr_super.specs.Copies.{SuperValue, IsGood}
 use Rattle.vr_super.specs.Opens.{file_kind, good_copies, opened, found_of}
 use Rattle.vr_journal.specs.Opening.{fresh, blank, first_value}
-use Rattle.vr_journal.specs.Replica.{Replica, forgetting}
+use Rattle.vr_journal.specs.Replica.{Replica, forgetting, version}
 use Rattle.vr_journal.specs.Replica.{head}
 use Rattle.vr_journal.specs.Sound.{IsSound, IsSavable}
-use Rattle.vr_journal.proofs.Slots.{value_is}
+use Rattle.vr_journal.proofs.Slots.{value_is, least_two}
 use Rattle.vr_journal.proofs.Openings.{partly_blank, opened_forgetting}
 use Rattle.vr_journal.proofs.SavesFound.{found_topped, savable_found}
 use Rattle.vr_opening.proofs.First.{first_good}
@@ -83,15 +85,24 @@ fresh_idle : (kind : Kind) (cluster n index : ℕ) → (fresh kind cluster n ind
 unfolding blank
 fresh_idle kind cluster n index = omega arith
 
+fresh_state : (kind : Kind) (cluster n index : ℕ) → Fits (version (fresh kind cluster n index)) (fresh kind cluster n index).state
+unfolding blank
+fresh_state kind cluster n index = Fits-empty 1
+
+fresh_version : (kind : Kind) (cluster n index : ℕ) → version (fresh kind cluster n index) ≡ 1
+unfolding blank
+fresh_version kind cluster n index = refl
+
 pub fresh_ready : (kind : Kind) (cluster n index : ℕ) (r : Replica) → cluster < 2 ^ 64 → index < 256 → n < 256 → is_some (quorums_of n) ≡ true → index < n → r ≡ fresh kind cluster n index → IsReady r
 unfolding IsReady
 fresh_ready kind cluster n index r a b c s m e =
     let v : SuperValue = first_value kind cluster n index in
     let g : IsGood v = first_good kind cluster n index a b c s m in
-    let w = value_is v g in
+    let two = least_two v g refl in
+    let w = value_is v g two in
     let x : Replica = blank v in
     let part = partly_blank v in
     let top = found_topped v 0 x w part (omega arith) (λ i j. absurd (omega (arith, j))) in
     let sound : IsSound x = subst IsSound (fresh_forgets kind cluster n index) (opened_forgetting v 0 x w part (omega arith)).sound in
     let savable : IsSavable x = savable_found v x.parts g top in
-    rw e (record { sound = sound; savable = savable; idle = fresh_idle kind cluster n index })
+    rw e (record { sound = sound; savable = savable; idle = fresh_idle kind cluster n index; fits = fresh_state kind cluster n index; runs = fresh_version kind cluster n index })

@@ -1,16 +1,23 @@
 -- A replica is recovered from its disk.
 use Rattle.vr_base.specs.Kinds.{strict}
-use Rattle.std.proofs.Common.{◌≡◌, ◌∙◌, refl, sym, subst, List, Bool, true, false, Option, Some, None, Result, Ok, Err, rules, map}
-use Rattle.std.specs.Prelude.{IfSome, IsSome}
+use Rattle.std.proofs.Common.{ℕ, ◌≡◌, ◌∙◌, inl, inr, refl, sym, ap, subst, cond, List, Bool, true, false, Option, Some, None, Result, Ok, Err, rules, map}
+use Rattle.std.specs.Prelude.{IfSome, IsSome, is_some, not, ◌==◌}
+use Rattle.std.specs.Option.{option_and_then, option_map, option_map_or}
+use Rattle.std.proofs.lemmas.Bool.{eqb-true}
 use Rattle.vr_base.specs.declared.table.Config.{Config}
 use Rattle.vr_disk.specs.DiskState.{Disk, Face, Runs, RunsFrom}
 use Rattle.vr_msg.specs.declared.output.Output.{Output}
 use Rattle.vr_super.specs.Calls.{mend_calls}
-use Rattle.vr_super.specs.Copies.{SuperValue}
-use Rattle.vr_super.specs.Opens.{opens, good_copies}
+use Rattle.vr_super.specs.Copies.{SuperValue, value_of, version_at}
+use Rattle.vr_super.proofs.Best.{Among, opened_among}
+use Rattle.vr_super.proofs.Format.{versioned}
+use Rattle.vr_super.specs.Opens as superblock
+use Rattle.vr_super.specs.Opens.{copy_reading, good_copies, good_copy, if_good, found_as, found_of, opened}
+use Rattle.vr_super.specs.declared.opening.Found.{Found}
 use Rattle.vr_super.specs.Recovers.{RecoversFrom, copy_verdict}
 use Rattle.vr_super.specs.declared.recovering.CopyVerdict.{CopyVerdict}
 use Rattle.vr_super.specs.declared.recovering.SuperFault.TheVariants as fault
+use Rattle.vr_journal.specs.Sectors.{runnable}
 use Rattle.vr_journal.specs.Replica.{Replica}
 use Rattle.vr_journal.specs.Steps.{Word, Mend}
 use Rattle.vr_journal.specs.Opening.{blank, opening, first_value}
@@ -19,7 +26,7 @@ use Rattle.vr_journal.specs.Halt.TheVariants.{DiskFault, NoMemory}
 use Rattle.vr_opening.specs.declared.reopen.Refusal.{Refusal}
 use Rattle.vr_opening.specs.declared.reopen.Refusal.TheVariants.{Lost, OtherMember, Halted}
 use Rattle.vr_journal.specs.Does.{Does, Performs}
-use Rattle.vr_opening.specs.Recovering.{after_mend, DoesTo, config_of, LosesValue, MendsValue, BeginsWith, StopsMending, LeavesUnmended, FindsValue, IsOther, IsAsked, StopsAsked, Recovered, RecoveredAny}
+use Rattle.vr_opening.specs.Recovering.{after_mend, all_good, DoesTo, config_of, is_foreign, is_other, lost_verdicts, opens, LosesValue, MendsValue, BeginsWith, StopsMending, LeavesUnmended, FindsValue, IsOther, IsAsked, StopsAsked, Recovered, RecoveredAny}
 use Rattle.vr_journal.proofs.Stepping.{does_no_memory, effect_then, effect_stopped}
 
 pub begun_wanted : (v : SuperValue) (d : Option Disk) (o : List Output) → DoesTo (after_mend v) (blank v) d d o o (Err NoMemory)
@@ -61,29 +68,121 @@ mended_then : (v : SuperValue) (q : Replica) (d d1 d2 : Option Disk) (o o' : Lis
 unfolding opening
 mended_then v q d d1 d2 o o' res m h = effect_then (λ r. Mend v) (after_mend v) (blank v) q d d1 d2 o o' res (mends v (blank v) d d1 true (runs_of v d d1 m)) h
 
-pub found_value : (v : SuperValue) (d d' : Option Disk) → RecoversFrom d d' (Ok v) → MendsValue v d d'
-found_value v None d' h = record { untold = λ e. h; told = λ x e. cc }
-found_value v (Some y) d' h = record { untold = λ e. cc; told = λ x e. let same : y ≡ x = search rules in subst (λ (z : Disk). (opens z.face ≡ Some v) × Runs (mend_calls v z.face) (Some z) d' true) same h }
+-- ---- the version of the file
+
+-- a good copy has a value
+good_value : (r : Option (List ℕ)) (b : List ℕ) → if_good r ≡ Some b → value_of b ≡ None → ⊥
+good_value None b e n = absurd cc
+good_value (Some x) b e n =
+    elim (is_some (value_of x)) as (λ y. is_some (value_of x) ≡ y → cond y (Some x) None ≡ Some b → ⊥) [
+      | true ↦ λ y e. let same : x ≡ b = cc in let no : is_some (value_of x) ≡ false = ap (λ z. is_some (value_of z)) same ∙ ap is_some n in let bad : true ≡ false = sym y ∙ no in cc
+      | false ↦ λ y e. cc
+    ] refl e
+
+among_good : (f : Face) (b : List ℕ) → Among b (good_copies f) → value_of b ≡ None → ⊥
+unfolding good_copy
+among_good f b a n =
+    elim a [
+      | inl e ↦ good_value (copy_reading f 0) b e n
+      | inr a ↦ elim a [ inl e ↦ good_value (copy_reading f 1) b e n | inr a ↦ elim a [ inl e ↦ good_value (copy_reading f 2) b e n | inr a ↦ elim a [ inl e ↦ good_value (copy_reading f 3) b e n | inr a ↦ elim a [ ] ] ] ]
+    ]
+
+-- by the bytes that it opens as
+other_by : (f : Face) (o : Option (List ℕ)) → opened (good_copies f) ≡ o
+    → option_map_or (λ (x : Found). is_other x.version) (option_map (found_as (good_copies f)) o) false ≡ option_map_or (λ (v : SuperValue). is_other v.fields.version) (option_and_then value_of o) false
+other_by f None e = refl
+other_by f (Some b) e =
+    elim (value_of b) as (λ w. value_of b ≡ w → is_other (version_at b) ≡ option_map_or (λ (v : SuperValue). is_other v.fields.version) w false) [
+      | None ↦ λ w. absurd (among_good f b (opened_among b (good_copies f) e) w)
+      | Some v ↦ λ w. sym (ap is_other (versioned b v w))
+    ] refl
+
+other_is : (f : Face) (o : Option Found) → o ≡ found_of (good_copies f) → option_map_or (λ (x : Found). is_other x.version) o false ≡ is_foreign f
+unfolding superblock.opens found_of
+other_is f o e = ap (λ (o : Option Found). option_map_or (λ (x : Found). is_other x.version) o false) e ∙ other_by f (opened (good_copies f)) refl
+
+-- of a disk that may tell
+pub found_foreign : (t : Option Disk) (o : Option Found) (b : Bool) → IfSome t (λ d. o ≡ found_of (good_copies d.face)) → b ≡ option_map_or (λ (x : Found). is_other x.version) o false → IfSome t (λ d. b ≡ is_foreign d.face)
+found_foreign None o b h e = tt
+found_foreign (Some d) o b h e = e ∙ other_is d.face o h
+
+-- where the file isn't of another version, the value of its superblock opens
+run_some : (o : Option SuperValue) (v : SuperValue) → option_map_or (λ (x : SuperValue). is_other x.fields.version) o false ≡ false → o ≡ Some v → option_and_then runnable o ≡ Some v
+run_some None v n e = absurd cc
+run_some (Some w) v n e =
+    elim (w.fields.version == 1) as (λ t. not t ≡ false → cond t (Some w) None ≡ Some v) [
+      | true ↦ λ n. e
+      | false ↦ λ n. absurd cc
+    ] n
+
+-- where it is, none does
+run_none : (o : Option SuperValue) → option_map_or (λ (x : SuperValue). is_other x.fields.version) o false ≡ true → (option_and_then runnable o ≡ None) × (is_some o ≡ true)
+run_none None e = absurd cc
+run_none (Some w) e =
+    elim (w.fields.version == 1) as (λ t. not t ≡ true → (cond t (Some w) None ≡ None) × (true ≡ true)) [
+      | true ↦ λ e. absurd cc
+      | false ↦ λ e. (refl, refl)
+    ] e
+
+verdicts_of : (b c : Bool) (f : Face) → b ≡ c → cond c all_good (map copy_verdict (good_copies f)) ≡ cond b all_good (map copy_verdict (good_copies f))
+verdicts_of b c f e = ap (λ (t : Bool). cond t all_good (map copy_verdict (good_copies f))) (sym e)
+
+pub foreign_lost : (d d' : Option Disk) (b : Bool) → IfSome d (λ x. b ≡ is_foreign x.face) → b ≡ true → d' ≡ d → LosesValue d d' all_good
+foreign_lost None d' b h e s = record { untold = λ x. s; told = λ x e. absurd cc }
+foreign_lost (Some y) d' b h e s =
+    let n = run_none (superblock.opens y.face) (sym h ∙ e) in
+    record {
+      untold = λ x. absurd cc;
+      told = λ x i. let same : y ≡ x = search rules in subst (λ (z : Disk). (opens z.face ≡ None) × (d' ≡ Some z) × (all_good ≡ lost_verdicts z.face)) same (n.0, s, verdicts_of (is_some (superblock.opens y.face)) true y.face n.1);
+    }
+
+pub foreign_not : (d d' : Option Disk) (b : Bool) → IfSome d (λ x. b ≡ is_foreign x.face) → b ≡ false → d' ≡ d → IfSome d' (λ x. is_foreign x.face ≡ false)
+foreign_not None d' b h e s = rw s tt
+foreign_not (Some y) d' b h e s = rw s (sym h ∙ e)
+
+-- ---- what is found of the superblock
+
+pub found_one : (v : SuperValue) (b : Bool) → b ≡ (v.fields.version == 1) → b ≡ true → v.fields.version ≡ 1
+found_one v b e t = eqb-true v.fields.version 1 (sym e ∙ t)
+
+pub found_value : (v : SuperValue) (d d' : Option Disk) → IfSome d (λ x. is_foreign x.face ≡ false) → RecoversFrom d d' (Ok v) → MendsValue v d d'
+found_value v None d' n h = record { untold = λ e. h; told = λ x e. cc }
+found_value v (Some y) d' n h = record {
+  untold = λ e. cc;
+  told = λ x e. let same : y ≡ x = search rules in subst (λ (z : Disk). (opens z.face ≡ Some v) × Runs (mend_calls v z.face) (Some z) d' true) same (run_some (superblock.opens y.face) v n h.0, h.1);
+}
+
+-- only a disk that doesn't tell answers so
+pub found_other : (v : SuperValue) (b : Bool) (d d' : Option Disk) → IfSome d (λ x. is_foreign x.face ≡ false) → RecoversFrom d d' (Ok v) → b ≡ (v.fields.version == 1) → b ≡ false → LosesValue d d' all_good
+found_other v b None d' n h e t = record { untold = λ e. h; told = λ x e. cc }
+found_other v b (Some y) d' n h e t =
+    let other : true ≡ is_other v.fields.version = ap not (sym t ∙ e) in
+    let bad : true ≡ false = other ∙ (sym (ap (λ (o : Option SuperValue). option_map_or (λ (x : SuperValue). is_other x.fields.version) o false) h.0) ∙ n) in
+    cc
 
 pub lost : (vs : List CopyVerdict) (d d' : Option Disk) → RecoversFrom d d' (Err (fault.Lost vs)) → LosesValue d d' vs
 lost vs None d' h = record { untold = λ e. h; told = λ x e. cc }
 lost vs (Some y) d' h =
-    record { untold = λ e. cc; told = λ x e. let same : y ≡ x = search rules in subst (λ (z : Disk). (opens z.face ≡ None) × (d' ≡ Some z) × (vs ≡ map copy_verdict (good_copies z.face))) same h }
+    let none : is_some (superblock.opens y.face) ≡ false = ap is_some h.0 in
+    record {
+      untold = λ e. cc;
+      told = λ x e. let same : y ≡ x = search rules in subst (λ (z : Disk). (opens z.face ≡ None) × (d' ≡ Some z) × (vs ≡ lost_verdicts z.face)) same (ap (option_and_then runnable) h.0, h.1, h.2 ∙ verdicts_of (is_some (superblock.opens y.face)) false y.face none);
+    }
 
 any_value : SuperValue
 any_value = first_value strict 0 0 0
 
-pub mend_faulted : (d d' : Option Disk) → RecoversFrom d d' (Err fault.DiskFault) → LeavesUnmended d d' DiskFault
-mend_faulted None d' h = record { value = any_value; opens = tt; stops = h }
-mend_faulted (Some y) d' h = record { value = h.value; opens = h.opens; stops = h.ran }
+pub mend_faulted : (d d' : Option Disk) → IfSome d (λ x. is_foreign x.face ≡ false) → RecoversFrom d d' (Err fault.DiskFault) → LeavesUnmended d d' DiskFault
+mend_faulted None d' n h = record { value = any_value; opens = tt; stops = h }
+mend_faulted (Some y) d' n h = record { value = h.value; opens = run_some (superblock.opens y.face) h.value n h.opens; stops = h.ran }
 
 some_value : (o : Option SuperValue) → IsSome o → (v : SuperValue) × (o ≡ Some v)
 some_value None h = absurd cc
 some_value (Some v) h = (v, refl)
 
-pub mend_wanted : (d d' : Option Disk) → RecoversFrom d d' (Err fault.NoMemory) → LeavesUnmended d d' NoMemory
-mend_wanted None d' h = record { value = any_value; opens = tt; stops = h }
-mend_wanted (Some y) d' h = let t = some_value (opens y.face) h.0 in record { value = t.0; opens = t.1; stops = h.1 }
+pub mend_wanted : (d d' : Option Disk) → IfSome d (λ x. is_foreign x.face ≡ false) → RecoversFrom d d' (Err fault.NoMemory) → LeavesUnmended d d' NoMemory
+mend_wanted None d' n h = record { value = any_value; opens = tt; stops = h }
+mend_wanted (Some y) d' n h = let t = some_value (superblock.opens y.face) h.0 in record { value = t.0; opens = run_some (superblock.opens y.face) t.0 n t.1; stops = h.1 }
 
 -- a stop in the mending is one of the whole opening
 stopped_mending : (v : SuperValue) (d d' : Option Disk) (o : List Output) (halt : Halt) → StopsMending v d d' halt → DoesTo (opening v) (blank v) d d' o o (Err halt)

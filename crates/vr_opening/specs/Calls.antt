@@ -1,10 +1,14 @@
 -- Calls that are made one after the other.
-use Rattle.std.specs.Prelude.{ℕ, ◌-◌, List, map, Option, Bool}
+use Rattle.std.specs.Prelude.{ℕ, ◌+◌, ◌*◌, ◌-◌, List, map, Option, Bool}
 use Rattle.std.specs.List.{range_with_len}
 use Rattle.vr_disk.specs.DiskState.{Call, Write, Disk, Runs}
-use Rattle.vr_disk.specs.Regions.{header_place}
+use Rattle.vr_disk.specs.Regions.{header_place, prepare_place, prepare_sectors}
 use Rattle.vr_rings.specs.Slots.{sector_of}
 use Rattle.vr_journal.specs.Formatting.{reserved_header, zero_sector}
+
+-- the sector behind the prepares of version 1
+abbrev pub prepares_end : ℕ
+prepares_end = prepare_place 1 0 + 64 * prepare_sectors 1
 
 abbrev pub zero_call : ℕ → Call
 zero_call i = Write i zero_sector

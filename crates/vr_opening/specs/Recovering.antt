@@ -1,13 +1,17 @@
 -- A replica is recovered from its disk.
-use Rattle.std.specs.Prelude.{◌≡◌, ◌≢◌, List, map, Option, Some, None, IfSome, true, false, Result, Ok, Err}
+use Rattle.std.specs.Prelude.{ℕ, ◌≡◌, ◌≢◌, ◌==◌, Bool, not, true, false, if◌then◌else◌, List, [], ◌∷◌, map, Option, Some, None, IfSome, is_some, Result, Ok, Err}
+use Rattle.std.specs.Option.{option_map_or}
 use Rattle.vr_base.specs.declared.table.Config.{Config}
 use Rattle.vr_disk.specs.DiskState.{Disk, Face, Runs, RunsFrom}
 use Rattle.vr_msg.specs.declared.output.Output.{Output}
 use Rattle.vr_super.specs.Calls.{mend_calls}
 use Rattle.vr_super.specs.Copies.{SuperValue}
-use Rattle.vr_super.specs.Opens.{opens, good_copies}
+use Rattle.vr_super.specs.Opens as superblock
+use Rattle.vr_super.specs.Opens.{good_copies}
 use Rattle.vr_super.specs.Recovers.{copy_verdict}
 use Rattle.vr_super.specs.declared.recovering.CopyVerdict.{CopyVerdict}
+use Rattle.vr_super.specs.declared.recovering.CopyVerdict.TheVariants.{Good}
+use Rattle.vr_journal.specs.Sectors.{sectors}
 use Rattle.vr_journal.specs.Replica.{Replica}
 use Rattle.vr_journal.specs.Steps.{Word, ◌⨾◌}
 use Rattle.vr_journal.specs.Opening.{recover_parts, resuming, opening, blank}
@@ -29,10 +33,29 @@ DoesTo w r d d' o o' (Err halt) = Does w r r d d' o o' (Err halt)
 abbrev pub config_of : SuperValue → Config
 config_of v = record { cluster = v.fields.cluster; replica = v.fields.replica; n = v.fields.n }
 
--- no two good copies agree, and no call is made
+-- the value that a disk opens as: none where no two good copies agree, and none where its file is of another version than 1
+abbrev pub opens : Face → Option SuperValue
+opens f = sectors.opens f
+
+-- replicas don't run on files of this version
+abbrev pub is_other : ℕ → Bool
+is_other version = not (version == 1)
+
+-- two good copies agree, on a value of such a version
+abbrev pub is_foreign : Face → Bool
+is_foreign f = option_map_or (λ v. is_other v.fields.version) (superblock.opens f) false
+
+abbrev pub all_good : List CopyVerdict
+all_good = Good ∷ Good ∷ Good ∷ Good ∷ []
+
+-- which copies are good, where no two good ones agree; those of a file of another version are all called so
+abbrev pub lost_verdicts : Face → List CopyVerdict
+lost_verdicts f = if is_some (superblock.opens f) then all_good else map copy_verdict (good_copies f)
+
+-- no value opens, and no call is made
 pub record LosesValue (d d' : Option Disk) (verdicts : List CopyVerdict) : Type 0 where
   pub untold : d ≡ None → d' ≡ None
-  pub told : (x : Disk) → d ≡ Some x → (opens x.face ≡ None) × (d' ≡ Some x) × (verdicts ≡ map copy_verdict (good_copies x.face))
+  pub told : (x : Disk) → d ≡ Some x → (opens x.face ≡ None) × (d' ≡ Some x) × (verdicts ≡ lost_verdicts x.face)
 
 -- the value that opens is mended
 pub record MendsValue (v : SuperValue) (d d' : Option Disk) : Type 0 where

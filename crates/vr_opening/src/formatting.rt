@@ -3,27 +3,43 @@ ghost use Rattle.std.specs.Prelude.{◌≡◌, ◌<◌, ◌∷◌, [], is_ok};
 ghost use Rattle.vr_base.specs.Bytes.{name_of};
 ghost use Rattle.vr_base.specs.Causes.{HasCause};
 ghost use Rattle.vr_disk.specs.DiskState.{Runs, Write};
-ghost use Rattle.vr_disk.specs.Regions.{header_place};
+ghost use Rattle.vr_disk.specs.Regions.{header_place, prepare_place};
 ghost use Rattle.vr_rings.specs.Slots.{sector_of};
 ghost use Rattle.vr_journal.specs.Formatting.{format_calls, reserved_header, reserved_headers, zero_prepares};
 ghost use Rattle.vr_journal.specs.Opening.{first_value};
 ghost use Rattle.vr_super.specs.Opens.{file_kind};
-ghost use Rattle.vr_opening.specs.Calls.{reserved_call};
+ghost use Rattle.vr_opening.specs.Calls.{prepares_end, reserved_call};
 
-use vr_base::{Config, Sum, checksum};
-use vr_disk::{DiskFailed, DiskFault, Sector, SectorDisk, header_place};
+use vr_base::{Config, Sum, Version, checksum};
+use vr_disk::{
+    DiskFailed, DiskFault, SLOTS, Sector, SectorDisk, header_place, prepare_place, prepare_sectors,
+};
 use vr_header::{Command, Header, Size};
 use vr_rings::sector_of;
 use vr_super::Super;
 
-// Writes zeros to all prepares.
+// The first sector of the prepares of version 1.
+fn prepares_begin() -> u32
+    ensures { result ≡ prepare_place 1 0 }
+{
+    prepare_place(0, Version::new(1))
+}
+
+// The sector behind them.
+fn prepares_end() -> u32
+    ensures { result ≡ prepares_end }
+{
+    prepares_begin() + SLOTS * prepare_sectors(Version::new(1))
+}
+
+// Writes zeros to them.
 #[tactic(auto, using(crate::proofs::Calls::zeros_begin, crate::proofs::Calls::zeros_go, crate::proofs::Calls::zeros_stop, crate::proofs::Calls::zeros_end))]
 fn write_zeros<D: SectorDisk>(disk: &mut D) -> Result<(), DiskFailed>
     ensures runs { Runs zero_prepares (D.told disk.old) (D.told disk.new) (is_ok result) }
     ensures cause { HasCause (D.faults disk.old) (D.faults disk.new) result }
 {
     let zeros = Sector { bytes: [0; 512] };
-    for i in 144..400u32 {
+    for i in prepares_begin()..prepares_end() {
         disk.write(i, &zeros)?;
     }
     Ok(())
@@ -48,6 +64,7 @@ fn reserved_header(cluster: u64, slot: u32, body: Sum) -> Header
         size: Size::new(128),
         command: Command::Reserved,
         replica: 0,
+        version: Version::new(1),
         kind: 0,
         aux: 0,
     }

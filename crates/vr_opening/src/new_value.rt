@@ -4,10 +4,10 @@ ghost use Rattle.vr_base.specs.Groups.{quorums_of};
 ghost use Rattle.vr_journal.specs.Opening.{first_value};
 
 use std::alloc::Global;
-use vr_base::{Config, Kind, NoMemory, Seq, Sum};
+use vr_base::{Config, Kind, NoMemory, Seq, Sum, Version};
 use vr_super::{Fields, Super};
 
-// Its numbers.
+// Its numbers: each file is made of version 1.
 fn first_fields(config: Config, kind: Kind) -> Fields
     ensures value { result ≡ (first_value kind config.cluster config.n config.replica).fields }
     ensures cluster { config.cluster < 2 ^ 64 }
@@ -26,6 +26,7 @@ fn first_fields(config: Config, kind: Kind) -> Fields
         head: 0,
         replica: config.replica,
         n: config.n,
+        version: Version::new(1),
         mode: kind.mode,
     }
 }

@@ -38,7 +38,7 @@ IsDry (Write again e) = ⊥
 IsDry (Rewrite h) = ⊥
 IsDry _ = Unit {0}
 
-dry_effect : (e : Effect) (f : Face) (slot : ℕ) → IsDry e → slot < 64 → whole_in (disk.after_all f (calls_of e f)) slot ≡ whole_in f slot
+dry_effect : (e : Effect) (f : Face) (slot : ℕ) → IsDry e → slot < 64 → whole_in 1 (disk.after_all f (calls_of e f)) slot ≡ whole_in 1 f slot
 unfolding put_calls save_calls
 dry_effect (Write again e) f slot h l = absurd h
 dry_effect (Rewrite e) f slot h l = absurd h
@@ -53,7 +53,7 @@ dry_effect (PutBlock name block) f slot h l =
     same_entry (block_calls name.address block ++ Sync ∷ []) f slot (λ k a b. spares_append k (block_calls name.address block) (Sync ∷ []) (block_spares name.address k block (omega (arith, b, l))) (tt, tt))
 dry_effect (Say o) f slot h l = refl
 
-dry_all : (es : List Effect) (f : Face) (slot : ℕ) → All IsDry es → slot < 64 → whole_in (after_all sectors f es) slot ≡ whole_in f slot
+dry_all : (es : List Effect) (f : Face) (slot : ℕ) → All IsDry es → slot < 64 → whole_in 1 (after_all sectors f es) slot ≡ whole_in 1 f slot
 unfolding after_all
 dry_all [] f slot h l = refl
 dry_all (e ∷ es) f slot h l = dry_all es (disk.after_all f (calls_of e f)) slot (All-tail IsDry e es h) l ∙ dry_effect e f slot (All-head IsDry e es h) l
@@ -153,8 +153,8 @@ taken_of true false c d e = absurd cc
 taken_of false b c d e = absurd cc
 
 -- an entry that is written, and then words that write no slot
-kept_behind : (e : Whole) (w : Word Face) (r : Replica) (f : Face) → Dry w → whole_in (after_all sectors f (write e sectors r f).script) (e.header.op % 64) ≡ Some e
-    → whole_in (after_all sectors f ((write e ⨾ w) sectors r f).script) (e.header.op % 64) ≡ Some e
+kept_behind : (e : Whole) (w : Word Face) (r : Replica) (f : Face) → Dry w → whole_in 1 (after_all sectors f (write e sectors r f).script) (e.header.op % 64) ≡ Some e
+    → whole_in 1 (after_all sectors f ((write e ⨾ w) sectors r f).script) (e.header.op % 64) ≡ Some e
 unfolding ◌⨾◌
 kept_behind e w r f d h =
     let a = write e sectors r f in

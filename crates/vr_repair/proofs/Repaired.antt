@@ -1,4 +1,5 @@
 -- What a copy that comes makes good.
+use Rattle.vr_ckpt.specs.Places.{grid_size}
 use Rattle.std.proofs.Common.{arith, ◌≡◌, ◌≤◌, ◌<◌, ◌+◌, ◌-◌, ◌∙◌, refl, ℕ, Bool, true, false, not, cond, filter, set, List, [], ◌∷◌, Some, None, is_some}
 use Rattle.std.specs.Prelude.{find, ◌==◌}
 use Rattle.std.proofs.lemmas.Bool.{lt-ltb}
@@ -12,12 +13,13 @@ use Rattle.vr_header.specs.declared.part.Part.TheVariants.{Here}
 use Rattle.vr_header.specs.Made.{Whole}
 use Rattle.vr_journal.specs.Ready.{IsReady, MayStore}
 use Rattle.vr_rings.specs.Calls.{again_calls, new_calls}
-use Rattle.vr_rings.specs.Slots.{IsWhole, slot_of, whole_in}
+use Rattle.vr_rings.specs.Slots.{IsWhole, Takes, slot_of, whole_in}
 use Rattle.vr_rings.proofs.Leaving.{again_leaves, new_leaves}
-use Rattle.vr_journal.specs.Replica.{Replica, head, part_at, with_part}
+use Rattle.vr_journal.specs.Replica.{Replica, head, part_at, version, with_part}
 use Rattle.vr_journal.specs.Sectors.{block_in}
 use Rattle.vr_journal.specs.Steps.{◌⨾◌, after_all, change, does}
 use Rattle.vr_journal.specs.Words.{may_be_stored, stored, write}
+use Rattle.vr_journal.proofs.Memory.{entry_taken}
 use Rattle.vr_journal.proofs.Heads.{Spans, forgetting_at, head_within, with_part_at, with_part_spans}
 use Rattle.vr_journal.proofs.Keeping.{spans_of}
 use Rattle.vr_repair.specs.Laws.{BlocksAreRepaired, EntriesAreRepaired}
@@ -39,18 +41,23 @@ stored_here e r h m =
     let parts = s.parts in
     forgetting_at q k (omega (arith, top, above, reach)) ∙ with_part_at k (Here e.header) r (omega (arith, above, reach)) (omega (arith, window, parts))
 
+-- the replica that has stored it still has its version
+pub still_taken : (e : Whole) (r q : Replica) → IsReady r → MayStore e r → IsReady q → e.header.version ≤ version q
+unfolding IsReady
+still_taken e r q h m k = let taken = (entry_taken e r h m).taken in let runs = k.runs in omega arith
+
 calm : Fate
 calm = record { fuse = None; made = 0; failing = []; dead = false }
 
-entry_reads : (again : Bool) (e : Whole) (f : Face) → IsWhole e → IsFace f → f.waiting ≡ [] → whole_in (disk.after_all f (cond again (again_calls e) (new_calls e))) (slot_of e.header) ≡ Some e
-entry_reads true e f w h rest = (again_leaves e (Some (record { face = f; fate = calm; beside = nothing_beside })) h w rest).done.whole
-entry_reads false e f w h rest = (new_leaves e (Some (record { face = f; fate = calm; beside = nothing_beside })) h w rest).done.whole
+entry_reads : (again : Bool) (e : Whole) (f : Face) → IsWhole e → Takes 1 e → IsFace f → f.waiting ≡ [] → whole_in 1 (disk.after_all f (cond again (again_calls 1 e) (new_calls 1 e))) (slot_of e.header) ≡ Some e
+entry_reads true e f w t h rest = (again_leaves 1 e (Some (record { face = f; fate = calm; beside = nothing_beside })) h w t rest).done.whole
+entry_reads false e f w t h rest = (new_leaves 1 e (Some (record { face = f; fate = calm; beside = nothing_beside })) h w t rest).done.whole
 
 pub entries_repaired : EntriesAreRepaired
 unfolding write ◌⨾◌ does change after_all
 entries_repaired e r f h m w face rest = record {
   here = stored_here e r h m;
-  reads = entry_reads (may_be_stored (part_at r e.header.op)) e f w face rest;
+  reads = entry_reads (may_be_stored (part_at r e.header.op)) e f w (entry_taken e r h m) face rest;
 }
 
 -- ---- blocks
@@ -64,9 +71,9 @@ none_left name (m ∷ names) =
     ] refl
 
 -- a whole block that its sectors read as is read under its name
-pub block_there : (f : Face) (name : Name) (block : List ℕ) → is_some (named name block) ≡ true → name.address < 128 → block_reading f name.address ≡ Some block → block_in f name ≡ Some block
+pub block_there : (f : Face) (name : Name) (block : List ℕ) → is_some (named name block) ≡ true → name.address < grid_size → block_reading f name.address ≡ Some block → block_in f name ≡ Some block
 unfolding named_at
-block_there f name block n low read = rw (lt-ltb name.address 128 low, read, n) refl
+block_there f name block n low read = rw (lt-ltb name.address grid_size low, read, n) refl
 
 pub blocks_repaired : BlocksAreRepaired
 unfolding after_all

@@ -34,7 +34,7 @@ pub enum Repair {
 pub fn decide_get_prepare(replica: &Replica, get: &GetPrepare) -> Repair
     ensures { first_of (get_prepare_table name_of get.now replica.now) ≡ rule_of result }
 {
-    if replica.is_from(get.cluster, get.replica)
+    if replica.is_from(get.version, get.cluster, get.replica)
         && replica.is_named(&get.name, get.op)
         && is_here(&replica.part_at(get.op))
     {
@@ -62,7 +62,7 @@ pub fn decide_give_prepare(replica: &Replica, give: &GivePrepare) -> Repair
     ensures may { result ≡ Repair.EntryTaken → MayStore give.now.entry replica.now }
 {
     let header = give.entry.header();
-    if replica.is_from(header.cluster, give.replica)
+    if replica.is_from(give.version, header.cluster, give.replica)
         && replica.checkpoint() < header.op
         && replica.is_known(&header, header.op)
         && is_absent(&replica.part_at(header.op))
@@ -78,7 +78,7 @@ pub fn decide_give_prepare(replica: &Replica, give: &GivePrepare) -> Repair
 pub fn decide_get_block(replica: &Replica, get: &GetBlock) -> Repair
     ensures { (reads : Bool) → first_of (get_block_table reads get.now replica.now) ≡ (if reads then rule_of result else Ignored) }
 {
-    if replica.is_from(get.cluster, get.replica) {
+    if replica.is_from(get.version, get.cluster, get.replica) {
         Repair::BlockGiven
     } else {
         Repair::Ignored

@@ -6,7 +6,7 @@ ghost use Rattle.vr_journal.specs.Does.{Finds};
 use std::alloc::{AllocError, Global};
 use vr_base::{ByteList, NoMemory, Seq};
 use vr_ckpt::{Name, is_block_on};
-use vr_disk::{BLOCK_SECTORS, SectorDisk, block_place, read_sectors};
+use vr_disk::{BLOCK_SECTORS, BLOCKS, SectorDisk, block_place, read_sectors};
 
 fn list_of(alloc: Global, bytes: &[u8]) -> Result<ByteList, AllocError>
     ensures { IfOk result (λ list. list ≡ bytes.now) }
@@ -25,7 +25,7 @@ fn read_whole<D: SectorDisk>(disk: &mut D, name: &Name, to: &mut [u8]) -> bool
     ensures found { Finds (block_at name.now) (D.told disk.old) (D.told disk.new) (if result then Some to.new else None) }
     ensures size { length to.new ≡ 4096 }
 {
-    if name.address >= 128 {
+    if name.address >= u64::from(BLOCKS) {
         return false;
     }
     if !read_sectors(disk, block_place(name.address as u32), BLOCK_SECTORS, to) {

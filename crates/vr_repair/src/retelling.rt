@@ -3,7 +3,7 @@ ghost use Rattle.std.specs.Prelude.{◌≡◌, ◌≤◌, ◌++◌, ◌&&◌, na
 ghost use Rattle.vr_base.specs.Bytes.{name_of};
 ghost use Rattle.vr_journal.specs.Ready.{IsReady};
 ghost use Rattle.vr_journal.specs.Outputs.{prepare, prepare_ok, send_to_all, to_primary};
-ghost use Rattle.vr_journal.specs.Replica.{is_primary, is_started, last_view};
+ghost use Rattle.vr_journal.specs.Replica.{is_primary, is_started, last_view, version};
 ghost use Rattle.vr_journal.specs.Words.{resend};
 ghost use Rattle.vr_journal.specs.Does.{Caused, Does};
 
@@ -24,6 +24,7 @@ fn is_open(replica: &Replica, entry: &Entry) -> bool
 fn tell(replica: &Replica, alloc: Global, entry: &Entry, out: &mut Outbox) -> Result<(), AllocError>
     requires ready { IsReady replica.now }
     requires view { replica.now.view ≤ last_view }
+    requires taken { entry.now.header.version ≤ version replica.now }
     requires made { entry.now.header.view ≤ replica.now.view }
     ensures { OnOk result (out.new ≡ out.old ++ (if is_primary replica.now then send_to_all (prepare entry.now) replica.now else to_primary (prepare_ok name_of entry.now.header) replica.now)) }
 {
@@ -46,6 +47,7 @@ pub fn resend<D: SectorDisk>(
 ) -> Result<(), Halt>
     requires ready { IsReady replica.now }
     requires view { replica.now.view ≤ last_view }
+    requires taken { entry.now.header.version ≤ version replica.now }
     requires made { entry.now.header.view ≤ replica.now.view }
     ensures cause { Caused (D.faults _disk.old) (D.faults _disk.new) result }
     ensures step { Does (resend entry.now) replica.now replica.now (D.told _disk.old) (D.told _disk.new) out.old out.new result }

@@ -60,7 +60,7 @@ pub fn decide_give_block(replica: &Replica, give: &GiveBlock) -> Repair
     ensures name { (name : Name) → result ≡ Repair.BlockTaken name → find (is_wanted is_block give.now) replica.now.missing ≡ Some name }
     ensures mended { (name : Name) → result ≡ Repair.BlockMended name → find (is_wanted is_block give.now) replica.now.worn ≡ Some name }
 {
-    if !replica.is_from(give.cluster, give.replica) {
+    if !replica.is_from(give.version, give.cluster, give.replica) {
         return Repair::Ignored;
     }
     match find_wanted(replica.missing(), give) {

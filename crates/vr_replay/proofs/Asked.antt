@@ -1,23 +1,23 @@
 -- The request of each line that is read can be asked.
 use Rattle.std.proofs.Common.{◌≡◌, ◌<◌, ◌^◌, ℕ, List, [], ◌∷◌, true, eqb, refl, arith, Some, None}
-use Rattle.std.specs.Prelude.{IsTrue, codes, length, nat_lt}
+use Rattle.std.specs.Prelude.{◌↔◌, codes, length, nat_lt}
 use Rattle.std.specs.Option.{IfSome, option_map}
 use Rattle.std.specs.Str.{bytes_eq}
 use Rattle.std.proofs.lemmas.Bool.Decides.{nat_tests}
 use Rattle.vr_header.specs.Bodies.{IsOperation}
-use Rattle.vr_header.specs.Text.{is_text, text_of}
 use Rattle.vr_header.specs.declared.operation.Operation.{Operation}
 use Rattle.vr_header.specs.declared.operation.Operation.TheVariants as operation
-use Rattle.vr_msg.specs.Asking.{IsRequest}
 use Rattle.vr_lines.specs.Grammar.{asked_by, behind_asked, cluster_line, damage_line, deliver_line, fuse_line, is_fitting, line_behind, line_words, longest, lost_words, member_line, misdirect_line, mode_words, parse, replica_word, request_for, request_line, sector_of, sector_words, size_of, stale_line, start_line, stop_line, tick_line, unread_line}
 use Rattle.vr_lines.specs.Numbers.{digits_on, number_below, number_of, with_digit}
-use Rattle.vr_lines.specs.Operations.{key_word, operation_words, pair_of, put_words, register_words}
+use Rattle.vr_lines.specs.Operations.{operation_words}
+use Rattle.vr_lines.specs.Versions.{schedule_version}
 use Rattle.vr_lines.specs.Words.{only_word, words_of}
 use Rattle.vr_lines.specs.declared.line.Line.{Line}
 use Rattle.vr_lines.specs.declared.line.Line.TheVariants.{Cluster, Request, Deliver, Tick, Stop, Start, Fuse, Misdirect}
 use Rattle.vr_lines.specs.declared.member.Place.{Place}
 use Rattle.vr_lines.specs.declared.request.Asked.{Asked}
 use Rattle.vr_lines.proofs.Answers.{below, either, it_is, mapped, through}
+use Rattle.vr_lines.proofs.Operations.{operation_fits}
 use Rattle.vr_group.specs.Headline.{HasAsked}
 
 -- ---- numbers
@@ -37,41 +37,6 @@ unfolding number_of
 number_fits [] = tt
 number_fits (b ∷ bytes) = either (λ m. m < 2 ^ 64) _ None (digits_on 0 (b ∷ bytes)) (λ t. tt) (λ t. digits_below 0 (b ∷ bytes) (omega arith))
 
--- ---- operations
-
-text_fits : (limit : ℕ) (bytes : List ℕ) → IfSome (text_of limit bytes) (λ t. IsTrue (is_text limit t))
-text_fits limit bytes = either (λ t. IsTrue (is_text limit t)) (is_text limit bytes) (Some bytes) None (λ e. e) (λ e. tt)
-
-pair_fits : (key value : List ℕ) → IfSome (pair_of key value) IsOperation
-pair_fits key value =
-    through IsOperation (text_of 64 key) _ (λ k e.
-    mapped IsOperation (text_of 1024 value) (operation.Put k) (λ v h.
-    (it_is (λ t. IsTrue (is_text 64 t)) (text_of 64 key) k (text_fits 64 key) e, it_is (λ t. IsTrue (is_text 1024 t)) (text_of 1024 value) v (text_fits 1024 value) h)))
-
-put_fits : (words : List (List ℕ)) → IfSome (put_words words) IsOperation
-put_fits [] = tt
-put_fits (key ∷ []) = tt
-put_fits (key ∷ value ∷ []) = pair_fits key value
-put_fits (key ∷ value ∷ more ∷ words) = tt
-
-key_fits : (words : List (List ℕ)) (make : List ℕ → Operation) → ((k : List ℕ) → IsTrue (is_text 64 k) → IsOperation (make k)) → IfSome (option_map make (key_word words)) IsOperation
-key_fits words make h =
-    mapped IsOperation (key_word words) make (λ k e.
-    h k (it_is (λ t. IsTrue (is_text 64 t)) (key_word words) k (through (λ t. IsTrue (is_text 64 t)) (only_word words) (text_of 64) (λ w u. text_fits 64 w)) e))
-
-register_fits : (words : List (List ℕ)) → IfSome (register_words words) IsOperation
-register_fits [] = tt
-register_fits (word ∷ words) = tt
-
-operation_fits : (words : List (List ℕ)) → IfSome (operation_words words) IsOperation
-unfolding operation_words
-operation_fits [] = tt
-operation_fits (word ∷ words) =
-    either IsOperation (bytes_eq word (codes "register")) (register_words words) _ (λ e. register_fits words)
-    (λ e. either IsOperation (bytes_eq word (codes "put")) (put_words words) _ (λ e. put_fits words)
-    (λ e. either IsOperation (bytes_eq word (codes "get")) (option_map operation.Get (key_word words)) _ (λ e. key_fits words operation.Get (λ k h. h))
-    (λ e. either IsOperation (bytes_eq word (codes "del")) (option_map operation.Delete (key_word words)) None (λ e. key_fits words operation.Delete (λ k h. h)) (λ e. tt))))
-
 -- ---- requests
 
 record IsNumbered (a : Asked) : Type 0 where
@@ -87,16 +52,16 @@ asked_fits n r c q =
     either IsNumbered (eqb client 0) None (Some (record { replica = replica; client = client; request = request })) (λ t. tt)
     (λ t. record { client = it_is (λ m. m < 2 ^ 64) (number_of c) client (number_fits c) h; request = below (2 ^ 32) q request k }))))
 
-fits_form : (a : Asked) (o : Operation) → is_fitting o a.request ≡ true → IsRequest (record { cluster = 0; client = a.client; request = a.request; operation = o })
+fits_form : (a : Asked) (o : Operation) → is_fitting o a.request ≡ true → (o ≡ operation.Register) ↔ (a.request ≡ 0)
 fits_form a operation.Register e = (λ same. grind (arith, nat_tests), λ zero. refl)
 fits_form a (operation.Put key value) e = (λ same. absurd cc, λ zero. absurd (grind (arith, nat_tests)))
 fits_form a (operation.Get key) e = (λ same. absurd cc, λ zero. absurd (grind (arith, nat_tests)))
 fits_form a (operation.Delete key) e = (λ same. absurd cc, λ zero. absurd (grind (arith, nat_tests)))
 
-request_fits : (a : Asked) (o : Operation) → IsNumbered a → IsOperation o → IfSome (request_for a o) HasAsked
+request_fits : (a : Asked) (o : Operation) → IsNumbered a → IsOperation schedule_version o → IfSome (request_for a o) HasAsked
 request_fits a o is of =
-    either HasAsked (is_fitting o a.request) (Some (Request a.replica (record { cluster = 0; client = a.client; request = a.request; operation = o }))) None
-    (λ e. (record { form = fits_form a o e; client = is.client; request = is.request; operation = of }, omega arith)) (λ e. tt)
+    either HasAsked (is_fitting o a.request) (Some (Request a.replica (record { version = schedule_version; cluster = 0; client = a.client; request = a.request; operation = o }))) None
+    (λ e. (record { form = record { first = fits_form a o e; fits = of }; client = is.client; request = is.request; version = (omega arith, omega arith) }, omega arith)) (λ e. tt)
 
 asking_fits : (n : ℕ) (words : List (List ℕ)) → IfSome (request_line n words) HasAsked
 asking_fits n [] = tt
@@ -104,8 +69,9 @@ asking_fits n (r ∷ []) = tt
 asking_fits n (r ∷ c ∷ []) = tt
 asking_fits n (r ∷ c ∷ q ∷ words) =
     through HasAsked (asked_by n r c q) (λ asked. behind_asked asked words) (λ a e.
-    through HasAsked (operation_words words) (request_for a) (λ o h.
-    request_fits a o (it_is IsNumbered (asked_by n r c q) a (asked_fits n r c q) e) (it_is IsOperation (operation_words words) o (operation_fits words) h)))
+    through HasAsked (operation_words schedule_version words) (request_for a) (λ o h.
+    request_fits a o (it_is IsNumbered (asked_by n r c q) a (asked_fits n r c q) e)
+    (it_is (IsOperation schedule_version) (operation_words schedule_version words) o (operation_fits schedule_version words) h)))
 
 -- ---- lines that speak of one replica ask nothing
 

@@ -5,7 +5,7 @@ ghost use Rattle.vr_base.specs.Kinds.{of_mode};
 ghost use Rattle.vr_disk.specs.Counts.{CountsFault};
 ghost use Rattle.vr_opening.specs.Making.{Made};
 ghost use Rattle.vr_opening.specs.Recovering.{Recovered, RecoveredAny};
-ghost use Rattle.vr_journal.specs.Replica.{header_at, part_at};
+ghost use Rattle.vr_journal.specs.Replica.{header_at, part_at, version};
 ghost use Rattle.vr_journal.specs.Rules.{react};
 ghost use Rattle.vr_journal.specs.Does.{Caused, Does};
 ghost use Rattle.vr_journal.specs.Waits.{EndsAtOnce};
@@ -17,7 +17,7 @@ use crate::entries::read_entry;
 use crate::reacting::react;
 use std::alloc::Global;
 use std::marker::Model;
-use vr_base::{Config, Mode, NoMemory};
+use vr_base::{Config, Mode, NoMemory, Version};
 use vr_disk::SectorDisk;
 use vr_header::Entry;
 use vr_journal::{Halt, Replica as Memory};
@@ -156,6 +156,13 @@ impl Replica {
         ensures { result ≡ self.now.running }
     {
         self.running
+    }
+
+    /// The version of its file, which its messages have.
+    pub fn version(&self) -> Version
+        ensures { result ≡ version self.now.memory }
+    {
+        self.memory.version()
     }
 
     /// The group, the number in it, and its size.

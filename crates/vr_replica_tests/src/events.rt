@@ -4,7 +4,7 @@ ghost use Rattle.vr_header.specs.Made.{IsEntryHeader};
 ghost use Rattle.vr_msg.specs.Logs.{IsStatement};
 
 use std::alloc::Global;
-use vr_base::{ByteList, NoMemory, Seq, Sum};
+use vr_base::{ByteList, NoMemory, Seq, Sum, Version};
 use vr_ckpt::{Block, ROOT};
 use vr_header::{Entry, Header, Operation};
 use vr_msg::{
@@ -12,22 +12,31 @@ use vr_msg::{
     StartView, StartViewChange, Statement, SvBody, SyncView,
 };
 
+// The version of the group's files, messages and entries.
+fn version() -> Version
+    ensures { result ≡ 1 }
+{
+    Version::new(1)
+}
+
 // The entry of an op, made in view 0: client `op + 6` registers.
 fn entry_on(op: u64, parent: Sum) -> Entry
     requires op { 1 ≤ op }
     requires most { op ≤ 2 ^ 32 }
     ensures header { IsEntryHeader result.header }
+    ensures version { result.header.version ≡ 1 }
     ensures group { result.header.cluster ≡ 0 }
     ensures at_op { result.header.op ≡ op }
     ensures made { result.header.view ≡ 0 }
 {
-    let request = Header::of_request(0, op + 6, 0, &Operation::Register);
+    let request = Header::of_request(version(), 0, op + 6, 0, &Operation::Register);
     Entry::of_request(&request, request.name(), Operation::Register, 0, op, parent)
 }
 
 // The entry behind so many others.
 fn entry_after(count: u32) -> Entry
     ensures header { IsEntryHeader result.header }
+    ensures version { result.header.version ≡ 1 }
     ensures group { result.header.cluster ≡ 0 }
     ensures at_op { result.header.op ≡ count + 1 }
     ensures made { result.header.view ≡ 0 }
@@ -42,6 +51,7 @@ fn entry_after(count: u32) -> Entry
 /// A new client registers.
 pub fn register(client: u64) -> Event {
     Event::Request(Request::new(RequestFields {
+        version: version(),
         cluster: 0,
         client,
         request: 0,
@@ -52,6 +62,7 @@ pub fn register(client: u64) -> Event {
 /// The prepare of the entry behind so many others, which are committed, from the primary of view 0.
 pub fn prepare(count: u32) -> Event {
     Event::Deliver(Message::prepare(Prepare {
+        version: version(),
         replica: 0,
         view: 0,
         commit: u64::from(count),
@@ -62,6 +73,7 @@ pub fn prepare(count: u32) -> Event {
 /// A start_view_change.
 pub fn change(replica: u8, view: u8) -> Event {
     Event::Deliver(Message::start_view_change(StartViewChange {
+        version: version(),
         cluster: 0,
         replica,
         view: u32::from(view),
@@ -74,6 +86,7 @@ pub fn start_view(alloc: Global, view: u8, count: u32, commit: u32) -> Result<Ev
     headers.push(entry_after(count).header())?;
     let lo = u64::from(count);
     Ok(Event::Deliver(Message::start_view(StartView {
+        version: version(),
         cluster: 0,
         replica: view % 3,
         view: u32::from(view),
@@ -86,6 +99,7 @@ pub fn start_view(alloc: Global, view: u8, count: u32, commit: u32) -> Result<Ev
 /// A commit of view 0, which tells nothing but that its primary is there.
 pub fn heard() -> Event {
     Event::Deliver(Message::commit(Commit {
+        version: version(),
         cluster: 0,
         replica: 0,
         view: 0,
@@ -94,9 +108,9 @@ pub fn heard() -> Event {
     }))
 }
 
-// A statement of view 0 that knows of nothing.
+// A statement of view 0, of the group's version, that knows of nothing.
 fn knows_nothing(alloc: Global) -> Statement
-    ensures statement { IsStatement 0 result }
+    ensures statement { IsStatement 1 0 result }
     ensures view { result.log_view ≡ 0 }
 {
     Statement {
@@ -113,6 +127,7 @@ fn knows_nothing(alloc: Global) -> Statement
 /// A do_view_change of view 1 that states nothing.
 pub fn state_nothing(alloc: Global, replica: u8) -> Event {
     Event::Deliver(Message::do_view_change(DoViewChange {
+        version: version(),
         cluster: 0,
         replica,
         view: 1,
@@ -125,6 +140,7 @@ pub fn give_block(block: ByteList) -> Event
     requires { length block ≡ 4096 }
 {
     Event::Deliver(Message::give_block(GiveBlock {
+        version: version(),
         cluster: 0,
         replica: 2,
         address: 64,
@@ -150,6 +166,7 @@ pub fn sync_view(alloc: Global) -> Result<Event, NoMemory> {
     let mut headers = Seq::new(alloc);
     headers.push(entry_after(31).header())?;
     Ok(Event::Deliver(Message::sync_view(SyncView {
+        version: version(),
         cluster: 0,
         replica: 0,
         view: 0,

@@ -5,7 +5,7 @@ ghost use Rattle.vr_lie.specs.Faults.{IsFault};
 
 use std::alloc::Global;
 use vr_base::{ByteList, Config, Mode, NoMemory, Seq, put};
-use vr_disk::{Sector, read_sectors, sector_at};
+use vr_disk::{BLOCK_SECTORS, Sector, block_place, read_sectors, sector_at};
 use vr_lie::{Fault, Faulted, LieDisk};
 use vr_msg::{Event, Outbox};
 use vr_replica::{FreshFault, Halt, Refusal, Replica};
@@ -111,7 +111,7 @@ pub fn own_block(disk: &mut LieDisk, alloc: Global) -> Result<ByteList, NoMemory
 {
     let mut block = Vec::new(alloc);
     block.resize(4096, 0)?;
-    let _ = read_sectors(disk, 912, 8, block.as_mut_slice());
+    let _ = read_sectors(disk, block_place(64), BLOCK_SECTORS, block.as_mut_slice());
     let first = turned(&sector_at(block.as_slice(), 0));
     put(block.as_mut_slice(), 0, &first.bytes);
     Ok(Seq::from_vec(block))

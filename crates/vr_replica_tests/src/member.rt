@@ -8,6 +8,7 @@ use std::alloc::Global;
 use std::process::Abort;
 use std::test::Fail;
 use vr_base::{ByteList, NoMemory, Seq};
+use vr_disk::SECTORS;
 use vr_lie::{Fault, LieDisk};
 use vr_msg::{Event, Outbox, Output};
 use vr_replica::Replica;
@@ -123,9 +124,9 @@ impl Member {
                 self.disk.fuse(call.max(1), code);
                 ""
             }
-            Act::Damage(sector) => fault(&mut self.disk, &Fault::Damage(sector.min(1423))),
-            Act::Stale(sector) => fault(&mut self.disk, &Fault::Stale(sector.min(1423))),
-            Act::Unread(sector) => fault(&mut self.disk, &Fault::Unread(sector.min(1423))),
+            Act::Damage(sector) => fault(&mut self.disk, &Fault::Damage(sector.min(SECTORS - 1))),
+            Act::Stale(sector) => fault(&mut self.disk, &Fault::Stale(sector.min(SECTORS - 1))),
+            Act::Unread(sector) => fault(&mut self.disk, &Fault::Unread(sector.min(SECTORS - 1))),
             _ => return self.hear(alloc, act, text),
         };
         Ok(text.extend(told.as_bytes())?)

@@ -9,9 +9,9 @@ use Rattle.vr_rings.specs.Slots.{IsWhole, prepare_bytes, prepare_reading}
 pub record BeginsWith (h : Header) (buffer : List ℕ) : Type 0 where
   pub entry : Whole
   pub header : entry.header ≡ h
-  pub bytes : take 2048 buffer ≡ prepare_bytes entry
+  pub bytes : take 4096 buffer ≡ prepare_bytes entry
   pub whole : IsWhole entry
 
 -- what the slot's prepare reads as
-abbrev pub Found : Face → ℕ → List ℕ → Type 0
-Found f slot buffer = prepare_reading f slot ≡ Some (take 2048 buffer)
+abbrev pub Found : ℕ → Face → ℕ → List ℕ → Type 0
+Found version f slot buffer = prepare_reading version f slot ≡ Some (take 4096 buffer)

@@ -40,7 +40,7 @@ pub fn sector_of(header: &Header) -> Sector
     sector
 }
 
-/// The header sector of the entry with this prepare of 2,048 bytes: the first 128 of them, and zeros.
+/// The header sector of the entry with this prepare of 4,096 bytes: the first 128 of them, and zeros.
 #[tactic(auto, using(crate::proofs::Spelling::header_sector_made))]
 pub fn header_sector(prepare: &[u8]) -> Sector
     requires { 128 ≤ length prepare.now }
@@ -52,14 +52,14 @@ pub fn header_sector(prepare: &[u8]) -> Sector
     sector
 }
 
-/// The four sectors of an entry.
+/// The prepare of an entry, whatever the version of the file.
 #[tactic(auto, using(crate::proofs::Spelling::spelled_prepare))]
-pub fn prepare_of(entry: &Entry) -> [u8; 2048]
+pub fn prepare_of(entry: &Entry) -> [u8; 4096]
     ensures bytes { result ≡ prepare_bytes entry.now }
-    ensures size { length (prepare_bytes entry.now) ≡ 2048 }
+    ensures size { length (prepare_bytes entry.now) ≡ 4096 }
     ensures whole { IsWhole entry.now }
 {
-    let mut bytes = [0; 2048];
+    let mut bytes = [0; 4096];
     entry.put(&mut bytes);
     bytes
 }
@@ -115,16 +115,16 @@ fn entry_in<D: SectorDisk>(disk: &mut D, bytes: &[u8]) -> Option<Header>
     Entry::header_by(bytes, header, name)
 }
 
-/// The header of the entry that the 2,048 bytes of a prepare are, `None` exactly where they aren't a whole entry and zeros.
+/// The header of the entry that the 4,096 bytes of a prepare are, `None` exactly where they aren't a whole entry and zeros.
 pub fn whole_of<D: SectorDisk>(disk: &mut D, bytes: &[u8]) -> Option<Header>
-    requires { length bytes.now ≡ 2048 }
+    requires { length bytes.now ≡ 4096 }
     ensures value { result ≡ option_map (λ e. e.header) (whole_of bytes.now) }
     ensures each { IsBytes bytes.now }
     ensures told { D.told disk.new ≡ D.told disk.old }
     ensures faults { D.faults disk.new ≡ D.faults disk.old }
     ensures reads { D.read_faults disk.new ≡ D.read_faults disk.old }
 {
-    let size = u32_at(bytes, 104).min(2048) as usize;
+    let size = u32_at(bytes, 104).min(4096) as usize;
     let (entry, padding) = bytes.split_at(size);
     if is_zeros(padding) {
         entry_in(disk, entry)

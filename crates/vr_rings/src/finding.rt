@@ -1,5 +1,5 @@
 //! Finding the entry of a header.
-ghost use Rattle.std.specs.Prelude.{◌≡◌, IfOk, IfSome, take, length, min};
+ghost use Rattle.std.specs.Prelude.{◌≡◌, ◌≤◌, IfOk, IfSome, take, length, min};
 ghost use Rattle.std.specs.Int.{w32};
 ghost use Rattle.vr_base.specs.Bytes.{number};
 ghost use Rattle.vr_rings.specs.Readings.{BeginsWith};
@@ -8,24 +8,24 @@ ghost use Rattle.vr_rings.specs.Slots.{IsWhole, entry_for, whole_of};
 use crate::reading::read_prepare;
 use crate::slot::slot_of;
 use std::alloc::Global;
-use vr_base::{NoMemory, u32_at};
+use vr_base::{NoMemory, Version, u32_at};
 use vr_disk::{Buffer, SectorDisk};
 use vr_header::{Entry, Header};
 
 // The size that a prepare gives, at most its own.
 fn size_in(prepare: &[u8]) -> usize
-    requires { length prepare.now ≡ 2048 }
-    ensures { result ≡ min (number w32 104 prepare.now) 2048 }
+    requires { length prepare.now ≡ 4096 }
+    ensures { result ≡ min (number w32 104 prepare.now) 4096 }
 {
-    (u32_at(prepare, 104) as usize).min(2048)
+    (u32_at(prepare, 104) as usize).min(4096)
 }
 
 // The bytes of the entry with which a buffer begins.
 fn front_of(buffer: &Buffer) -> &[u8]
-    ensures front { result.now ≡ take (min (number w32 104 (take 2048 buffer.now)) 2048) (take 2048 buffer.now) }
+    ensures front { result.now ≡ take (min (number w32 104 (take 4096 buffer.now)) 4096) (take 4096 buffer.now) }
     ensures size { length buffer.now ≡ 4096 }
 {
-    let (prepare, _) = buffer.as_slice().split_at(2048);
+    let (prepare, _) = buffer.as_slice().split_at(4096);
     let (entry, _) = prepare.split_at(size_in(prepare));
     entry
 }
@@ -33,7 +33,7 @@ fn front_of(buffer: &Buffer) -> &[u8]
 // The entry of this header, with which a buffer begins.
 fn entry_in(alloc: Global, header: &Header, buffer: &Buffer) -> Result<Entry, NoMemory>
     requires { BeginsWith header.now buffer.now }
-    ensures value { IfOk result (λ e. whole_of (take 2048 buffer.now) ≡ Some e) }
+    ensures value { IfOk result (λ e. whole_of (take 4096 buffer.now) ≡ Some e) }
     ensures whole { IfOk result (λ e. (e.header ≡ header.now) × IsWhole e) }
 {
     let entry = Entry::from_bytes(alloc, front_of(buffer))?;
@@ -47,15 +47,16 @@ pub fn find_entry<D: SectorDisk>(
     disk: &mut D,
     header: &Header,
     buffer: &mut Buffer,
+    version: Version,
 ) -> Result<Option<Entry>, NoMemory>
     ensures told { D.told disk.new ≡ D.told disk.old }
     ensures faults { D.faults disk.new ≡ D.faults disk.old }
-    ensures value { IfSome (D.told disk.old) (λ d. IfOk result (λ e. e ≡ entry_for d.face header.now)) }
+    ensures value { IfSome (D.told disk.old) (λ d. IfOk result (λ e. e ≡ entry_for version d.face header.now)) }
 
     // What is handed out was checked, whatever the disk gave.
     ensures whole { IfOk result (λ e. IfSome e (λ e. (e.header ≡ header.now) × IsWhole e)) }
 {
-    match read_prepare(disk, slot_of(header), header, buffer) {
+    match read_prepare(disk, slot_of(header), header, buffer, version) {
         Err(_) => Ok(None),
         Ok(()) => Ok(Some(entry_in(alloc, header, buffer)?)),
     }

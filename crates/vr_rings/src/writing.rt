@@ -1,31 +1,35 @@
 //! Writing a slot.
-ghost use Rattle.std.specs.Prelude.{◌≡◌, [], IfSome, is_ok};
+ghost use Rattle.std.specs.Prelude.{ℕ, ◌≡◌, [], IfSome, is_ok};
 ghost use Rattle.vr_base.specs.Causes.{HasCause};
 ghost use Rattle.vr_disk.specs.DiskState.{Runs};
-ghost use Rattle.vr_rings.specs.Slots.{IsWhole, prepare_bytes, sector_of};
+ghost use Rattle.vr_rings.specs.Slots.{IsWhole, Takes, prepare_bytes, sector_of};
 ghost use Rattle.vr_rings.specs.Calls.{again_calls, header_calls, new_calls, prepare_calls};
 ghost use Rattle.vr_rings.specs.Laws.{AgainLeaves, HeaderLeaves, NewLeaves};
 
 use crate::bytes::{header_sector, prepare_of, sector_by};
 use crate::slot::slot_of;
+use vr_base::Version;
 use vr_disk::{
-    DiskFailed, DiskFault, Room, Sector, SectorDisk, header_place, prepare_place, write_sectors,
+    DiskFailed, DiskFault, Room, Sector, SectorDisk, header_place, prepare_place, prepare_sectors,
+    write_sectors,
 };
 use vr_header::{Entry, Header};
 
-// Writes the four sectors of an entry, which are these bytes, and syncs them.
+// Writes the sectors of an entry, whose prepare has these bytes, and syncs them.
 #[tactic(auto, using(vr_disk::proofs::Running::Runs_then, vr_disk::proofs::Running::Runs_stopped), unfolding(crate::specs::Calls::prepare_calls))]
 fn put_prepare<D: SectorDisk>(
     disk: &mut D,
     entry: &Entry,
-    bytes: &[u8; 2048],
+    bytes: &[u8; 4096],
+    version: Version,
 ) -> Result<(), DiskFailed>
     requires { bytes.now ≡ prepare_bytes entry.now }
-    ensures runs { Runs (prepare_calls entry.now) (D.told disk.old) (D.told disk.new) (is_ok result) }
+    ensures runs { Runs (prepare_calls version entry.now) (D.told disk.old) (D.told disk.new) (is_ok result) }
     ensures cause { HasCause (D.faults disk.old) (D.faults disk.new) result }
 {
-    let at = prepare_place(slot_of(&entry.header()));
-    write_sectors(disk, at, 4, bytes)?;
+    let at = prepare_place(slot_of(&entry.header()), version);
+    let count = prepare_sectors(version);
+    write_sectors(disk, at, count, bytes)?;
     disk.sync()?;
     Ok(())
 }
@@ -47,7 +51,7 @@ fn put_header<D: SectorDisk>(
 }
 
 // The disk takes note of the names of an entry's header and body.
-fn note<D: SectorDisk>(disk: &mut D, entry: &Entry, bytes: &[u8; 2048])
+fn note<D: SectorDisk>(disk: &mut D, entry: &Entry, bytes: &[u8; 4096])
     requires bytes { bytes.now ≡ prepare_bytes entry.now }
     requires whole { IsWhole entry.now }
     ensures told { D.told disk.new ≡ D.told disk.old }
@@ -64,47 +68,56 @@ fn note<D: SectorDisk>(disk: &mut D, entry: &Entry, bytes: &[u8; 2048])
 /// Writes an entry to its slot, which holds another one or none: the prepare first, then the header sector. It takes no
 /// memory.
 #[tactic(auto, using(vr_disk::proofs::Running::Runs_then, vr_disk::proofs::Running::Runs_stopped, crate::proofs::Leaving::new_leaves))]
-pub fn write_new<D: SectorDisk>(disk: &mut D, entry: &Entry) -> Result<(), DiskFault>
-    ensures runs { Runs (new_calls entry.now) (D.told disk.old) (D.told disk.new) (is_ok result) }
+pub fn write_new<D: SectorDisk>(
+    disk: &mut D,
+    entry: &Entry,
+    version: Version,
+) -> Result<(), DiskFault>
+    requires { Takes version entry.now }
+    ensures runs { Runs (new_calls version entry.now) (D.told disk.old) (D.told disk.new) (is_ok result) }
     ensures cause { HasCause (D.faults disk.old) (D.faults disk.new) result }
 
     // After all calls the slot reads as the entry; a stop at any of them leaves the header sector as it was, or the
     // prepare synced already; and the premise on slots is kept.
-    ensures stop { IfSome (D.told disk.old) (λ d. d.face.waiting ≡ [] → NewLeaves entry.now d.face) }
+    ensures stop { IfSome (D.told disk.old) (λ d. d.face.waiting ≡ [] → NewLeaves version entry.now d.face) }
 {
     let bytes = prepare_of(entry);
     note(disk, entry, &bytes);
-    put_prepare(disk, entry, &bytes)?;
+    put_prepare(disk, entry, &bytes, version)?;
     put_header(disk, &entry.header(), &header_sector(&bytes))?;
     Ok(())
 }
 
 /// Writes an entry to its slot, which may hold it already: the header sector first, then the prepare. It takes no memory.
 #[tactic(auto, using(vr_disk::proofs::Running::Runs_then, vr_disk::proofs::Running::Runs_stopped, crate::proofs::Leaving::again_leaves))]
-pub fn write_again<D: SectorDisk>(disk: &mut D, entry: &Entry) -> Result<(), DiskFault>
-    ensures runs { Runs (again_calls entry.now) (D.told disk.old) (D.told disk.new) (is_ok result) }
+pub fn write_again<D: SectorDisk>(
+    disk: &mut D,
+    entry: &Entry,
+    version: Version,
+) -> Result<(), DiskFault>
+    requires { Takes version entry.now }
+    ensures runs { Runs (again_calls version entry.now) (D.told disk.old) (D.told disk.new) (is_ok result) }
     ensures cause { HasCause (D.faults disk.old) (D.faults disk.new) result }
 
     // After all calls the slot reads as the entry; a stop at any of them leaves the prepare as it was, or the header
     // sector synced already; and the premise on slots is kept.
-    ensures stop { IfSome (D.told disk.old) (λ d. d.face.waiting ≡ [] → AgainLeaves entry.now d.face) }
+    ensures stop { IfSome (D.told disk.old) (λ d. d.face.waiting ≡ [] → AgainLeaves version entry.now d.face) }
 {
     let prepare = prepare_of(entry);
     note(disk, entry, &prepare);
     let sector = header_sector(&prepare);
     put_header(disk, &entry.header(), &sector)?;
-    put_prepare(disk, entry, &prepare)?;
+    put_prepare(disk, entry, &prepare, version)?;
     Ok(())
 }
 
 /// Writes the header sector of a slot alone, as an opening does whose prepare reads whole. It takes no memory.
-#[tactic(auto, using(crate::proofs::Leaving::header_leaves))]
 pub fn write_header<D: SectorDisk>(disk: &mut D, header: &Header) -> Result<(), DiskFault>
     ensures runs { Runs (header_calls header.now) (D.told disk.old) (D.told disk.new) (is_ok result) }
     ensures cause { HasCause (D.faults disk.old) (D.faults disk.new) result }
 
     // A stop at any of these calls keeps the premise on slots.
-    ensures stop { IfSome (D.told disk.old) (λ d. d.face.waiting ≡ [] → HeaderLeaves header.now d.face) }
+    ensures stop { IfSome (D.told disk.old) (λ d. d.face.waiting ≡ [] → (version : ℕ) → HeaderLeaves version header.now d.face) }
 {
     let sector = sector_by(disk, header);
     put_header(disk, header, &sector)?;

@@ -36,6 +36,7 @@ header cluster made op parent = record {
   size = 129;
   command = command.Entry;
   replica = 0;
+  version = 1;
   kind = 0;
   aux = 0;
 }
@@ -126,12 +127,12 @@ rules r es = map (λ e. number_of (rule_for plain disk r e)) es
 -- ---- requests
 
 abbrev pub ask : ℕ → ℕ → Operation → Event
-ask client request operation = Request (record { cluster = 0; client = client; request = request; operation = operation })
+ask client request operation = Request (record { version = 1; cluster = 0; client = client; request = request; operation = operation })
 
 abbrev pub get : Operation
 get = Get (codes "a")
 
-other_group : rules primary (Request (record { cluster = 5; client = 8; request = 0; operation = Register }) ∷ []) ≡ 0 ∷ []
+other_group : rules primary (Request (record { version = 1; cluster = 5; client = 8; request = 0; operation = Register }) ∷ []) ≡ 0 ∷ []
 unfolding after_fresh
 other_group = refl
 
@@ -171,7 +172,7 @@ full = refl
 -- ---- prepares
 
 abbrev pub prepare : ℕ → ℕ → Header → Event
-prepare sender view h = Deliver (frame.Prepare (record { replica = sender; view = view; commit = 0; entry = record { header = h; operation = get } }))
+prepare sender view h = Deliver (frame.Prepare (record { version = 1; replica = sender; view = view; commit = 0; entry = record { header = h; operation = get } }))
 
 -- of another group; from itself; from no member; from one that isn't the primary of the view
 prepares_ignored : rules backup (prepare 0 0 (header 5 0 3 (name h2)) ∷ prepare 1 1 h3 ∷ prepare 3 3 h3 ∷ prepare 2 0 h3 ∷ []) ≡ 0 ∷ 0 ∷ 0 ∷ 0 ∷ []
@@ -202,8 +203,8 @@ prepares_new = refl
 
 -- ---- prepare_oks
 
-abbrev prepare_ok : ℕ → ℕ → ℕ → ℕ → Sum → Event
-prepare_ok cluster sender view op name = Deliver (frame.PrepareOk (record { cluster = cluster; replica = sender; view = view; op = op; name = name; made = 0 }))
+abbrev pub prepare_ok : ℕ → ℕ → ℕ → ℕ → Sum → Event
+prepare_ok cluster sender view op name = Deliver (frame.PrepareOk (record { version = 1; cluster = cluster; replica = sender; view = view; op = op; name = name; made = 0 }))
 
 -- the one that counts; of another group, from itself, from no member; of another view; of a committed op, past the head, by another name
 counted : rules primary (
@@ -223,7 +224,7 @@ not_counted = refl
 -- ---- commits
 
 abbrev pub commit : ℕ → ℕ → ℕ → Event
-commit cluster sender view = Deliver (frame.Commit (record { cluster = cluster; replica = sender; view = view; head = 2; commit = 2 }))
+commit cluster sender view = Deliver (frame.Commit (record { version = 1; cluster = cluster; replica = sender; view = view; head = 2; commit = 2 }))
 
 commits : map (λ r. rules r (commit 0 0 0 ∷ commit 0 2 2 ∷ commit 0 0 3 ∷ [])) (backup ∷ changing ∷ in_view 3 2 backup ∷ in_view 2 2 backup ∷ [])
     ≡ (18 ∷ 17 ∷ 17 ∷ []) ∷ (16 ∷ 17 ∷ 17 ∷ []) ∷ (16 ∷ 16 ∷ 17 ∷ []) ∷ (16 ∷ 18 ∷ 17 ∷ []) ∷ []

@@ -20,7 +20,7 @@ use Rattle.vr_rule_rows.proofs.Plain.{Plain, after_fresh, plain, bare_at, root_b
 -- ---- start_view_changes
 
 abbrev pub start_view_change : ℕ → ℕ → ℕ → Event
-start_view_change cluster sender view = Deliver (frame.StartViewChange (record { cluster = cluster; replica = sender; view = view }))
+start_view_change cluster sender view = Deliver (frame.StartViewChange (record { version = 1; cluster = cluster; replica = sender; view = view }))
 
 -- `changing` has heard of replica 2, and not of replica 0
 changes : map (λ r. rules r (start_view_change 0 0 1 ∷ start_view_change 0 0 2 ∷ start_view_change 0 2 2 ∷ start_view_change 0 2 3 ∷ [])) (
@@ -35,9 +35,10 @@ changes_ignored = refl
 
 -- ---- do_view_changes
 
-abbrev do_view_change : ℕ → ℕ → ℕ → Event
+abbrev pub do_view_change : ℕ → ℕ → ℕ → Event
 do_view_change cluster sender view =
     Deliver (frame.DoViewChange (record {
+      version = 1;
       cluster = cluster;
       replica = sender;
       view = view;
@@ -58,7 +59,7 @@ statements_ignored = refl
 
 abbrev pub start_view : ℕ → ℕ → ℕ → ℕ → List Header → Event
 start_view sender view head lo headers =
-    Deliver (frame.StartView (record { cluster = 0; replica = sender; view = view; head = head; commit = 0; body = record { lo = lo; headers = headers } }))
+    Deliver (frame.StartView (record { version = 1; cluster = 0; replica = sender; view = view; head = head; commit = 0; body = record { lo = lo; headers = headers } }))
 
 -- of a later view; of the view that isn't started; of the view that is, with a longer log or not; of an earlier view
 logs_of_views : map (λ r. rules r (start_view 2 2 2 0 (h1 ∷ h2 ∷ []) ∷ start_view 2 2 3 0 (h1 ∷ h2 ∷ h3 ∷ []) ∷ [])) (backup ∷ changing ∷ in_view 2 2 backup ∷ in_view 3 2 backup ∷ [])
@@ -98,8 +99,8 @@ logs_out_of_reach = refl
 
 -- ---- get_views
 
-abbrev get_view : ℕ → ℕ → ℕ → Event
-get_view cluster sender view = Deliver (frame.GetView (record { cluster = cluster; replica = sender; view = view }))
+abbrev pub get_view : ℕ → ℕ → ℕ → Event
+get_view cluster sender view = Deliver (frame.GetView (record { version = 1; cluster = cluster; replica = sender; view = view }))
 
 views : map (λ r. rules r (get_view 0 1 2 ∷ get_view 0 1 3 ∷ get_view 0 1 4 ∷ [])) (in_view 3 3 primary ∷ in_view 3 2 primary ∷ in_view 4 4 primary ∷ [])
     ≡ (27 ∷ 27 ∷ 0 ∷ []) ∷ replicate 2 (0 ∷ 0 ∷ 0 ∷ [])
@@ -113,7 +114,7 @@ views_ignored = refl
 -- ---- checkpoints of others
 
 abbrev pub get_sync : ℕ → ℕ → ℕ → Event
-get_sync cluster sender view = Deliver (frame.GetSync (record { cluster = cluster; replica = sender; view = view }))
+get_sync cluster sender view = Deliver (frame.GetSync (record { version = 1; cluster = cluster; replica = sender; view = view }))
 
 -- op 32 is in the checkpoint, and its header is known
 abbrev pub holder : ℕ → Replica
@@ -133,6 +134,7 @@ syncs_not_given = refl
 abbrev pub sync_view : ℕ → ℕ → List Header → Event
 sync_view sender view headers =
     Deliver (frame.SyncView (record {
+      version = 1;
       cluster = 0;
       replica = sender;
       view = view;
@@ -171,10 +173,10 @@ syncs_behind = refl
 -- ---- repair of entries
 
 abbrev pub get_prepare : ℕ → ℕ → ℕ → Sum → Event
-get_prepare cluster sender op name = Deliver (frame.GetPrepare (record { cluster = cluster; replica = sender; op = op; name = name; made = 0 }))
+get_prepare cluster sender op name = Deliver (frame.GetPrepare (record { version = 1; cluster = cluster; replica = sender; op = op; name = name; made = 0 }))
 
 abbrev pub give_prepare : ℕ → Header → Event
-give_prepare sender h = Deliver (frame.GivePrepare (record { replica = sender; entry = record { header = h; operation = get } }))
+give_prepare sender h = Deliver (frame.GivePrepare (record { version = 1; replica = sender; entry = record { header = h; operation = get } }))
 
 -- who has the entry gives it, in any view
 entries_asked : map (λ p. rules (with_parts (Here h1 ∷ p ∷ []) changing) (get_prepare 0 2 2 (name h2) ∷ get_prepare 0 2 2 (name g2) ∷ [])) (Here h2 ∷ Lost h2 ∷ Wanted h2 ∷ Unknown ∷ Nothing ∷ [])
@@ -205,11 +207,11 @@ root = root_name (bare_at 32)
 abbrev pub keeping : Plain
 keeping = record disk { kept = Some (bare_at 32) }
 
-abbrev get_block : ℕ → ℕ → ℕ → Sum → Event
-get_block cluster sender address name = Deliver (frame.GetBlock (record { cluster = cluster; replica = sender; address = address; name = name }))
+abbrev pub get_block : ℕ → ℕ → ℕ → Sum → Event
+get_block cluster sender address name = Deliver (frame.GetBlock (record { version = 1; cluster = cluster; replica = sender; address = address; name = name }))
 
 abbrev pub give_block : ℕ → ℕ → ℕ → List ℕ → Event
-give_block cluster sender address block = Deliver (frame.GiveBlock (record { cluster = cluster; replica = sender; address = address; block = block }))
+give_block cluster sender address block = Deliver (frame.GiveBlock (record { version = 1; cluster = cluster; replica = sender; address = address; block = block }))
 
 -- of its name; of another address or name; of another group, from itself; where the block doesn't read
 blocks_asked : map (λ e. number_of (rule_for plain keeping changing e)) (
@@ -253,6 +255,6 @@ at_ends = refl
 
 -- a reply is for no replica
 reply_ignored : rules backup (
-    Deliver (frame.Reply (record { cluster = 0; replica = 0; view = 0; client = 7; request = 0; request_name = no_name; kind = reply.Old })) ∷ []) ≡ 0 ∷ []
+    Deliver (frame.Reply (record { version = 1; cluster = 0; replica = 0; view = 0; client = 7; request = 0; request_name = no_name; kind = reply.Old })) ∷ []) ≡ 0 ∷ []
 unfolding after_fresh
 reply_ignored = refl

@@ -95,10 +95,10 @@ making = refl
 -- ---- the log is asked for before what is committed is applied
 
 abbrev committing : ℕ → Header → Event
-committing c h = Deliver (frame.Prepare (record { replica = 0; view = 0; commit = c; entry = entry h }))
+committing c h = Deliver (frame.Prepare (record { version = 1; replica = 0; view = 0; commit = c; entry = entry h }))
 
 abbrev heads : ℕ → ℕ → Event
-heads h c = Deliver (frame.Commit (record { cluster = 0; replica = 0; view = 0; head = h; commit = c }))
+heads h c = Deliver (frame.Commit (record { version = 1; cluster = 0; replica = 0; view = 0; head = h; commit = c }))
 
 asks_first : map (said both backup) (committing 9 (header 0 0 4 no_name) ∷ heads 5 9 ∷ heads 2 9 ∷ heads 2 1 ∷ [])
     ≡ (codes "send 0 1 0 get_view view 0" ∷ codes "commit 1 op 2 view 0 client 7 request 1 get a" ∷ [])
@@ -136,7 +136,7 @@ enters = refl
 
 -- a statement of replica 0 for view 2
 abbrev states : Statement → Event
-states s = Deliver (frame.DoViewChange (record { cluster = 0; replica = 0; view = 2; statement = s }))
+states s = Deliver (frame.DoViewChange (record { version = 1; cluster = 0; replica = 0; view = 2; statement = s }))
 
 abbrev stating : ℕ → ℕ → List Part → Statement
 stating c h parts = record { log_view = 0; commit = c; head = h; body = record { first = 1; parts = parts } }
@@ -226,7 +226,7 @@ late = refl
 
 -- a primary counts itself only where it has the entry; and it applies no entry that it lacks
 abbrev acknowledges : ℕ → Event
-acknowledges sender = Deliver (frame.PrepareOk (record { cluster = 0; replica = sender; view = 0; op = 2; name = name h2; made = 0 }))
+acknowledges sender = Deliver (frame.PrepareOk (record { version = 1; cluster = 0; replica = sender; view = 0; op = 2; name = name h2; made = 0 }))
 
 abbrev progress : Replica → ℕ × ℕ
 progress r = (r.commit, r.applied)
@@ -311,7 +311,7 @@ unfolding after_fresh
 empties = refl
 
 -- a statement for a later view, with which the choice waits, is kept after the emptying; one that begins the view empties all
-keeps_statement : counts_after (in_view 3 3 (lacking (two 2))) (Deliver (frame.DoViewChange (record { cluster = 0; replica = 0; view = 5; statement = stating 0 0 (Unknown ∷ []) })))
+keeps_statement : counts_after (in_view 3 3 (lacking (two 2))) (Deliver (frame.DoViewChange (record { version = 1; cluster = 0; replica = 0; view = 5; statement = stating 0 0 (Unknown ∷ []) })))
     ≡ 0 ∷ 1 ∷ 1 ∷ []
 unfolding after_fresh
 keeps_statement = refl

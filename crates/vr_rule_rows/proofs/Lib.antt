@@ -8,5 +8,6 @@ pub mod ActingOn
 pub mod Doing
 pub mod DoingMore
 pub mod Opened
+pub mod Versions
 pub mod Cuts
 pub mod Syncs

@@ -17,18 +17,18 @@ use Rattle.vr_rule_rows.proofs.Plain.{Kept, Plain, after_fresh, formatted, lines
 -- ---- disks of replica 1 of three
 
 -- the superblock's numbers, and the headers that it names
-abbrev value : (view log_view commit head : ℕ) → List Header → SuperValue
+abbrev pub value : (view log_view commit head : ℕ) → List Header → SuperValue
 value view log_view commit head headers = let first = (formatted strict 0 3 1).value in
     record { fields = record first.fields { view = view; log_view = log_view; commit = commit; head = head }; headers = headers }
 
-abbrev having : SuperValue → Plain
+abbrev pub having : SuperValue → Plain
 having v = record (formatted strict 0 3 1) { value = v }
 
 abbrev with_slot : ℕ → Option Header → Option Whole → Plain → Plain
 with_slot op h e f = record f { headers = slice_set f.headers (op % 64) h; entries = slice_set f.entries (op % 64) e }
 
 -- the letters of the Parts with those of the script, and the lines
-abbrev found : Plain → List ℕ × List ℕ
+abbrev pub found : Plain → List ℕ × List ℕ
 found f = option_map_or (λ (s : Step). (letters_of s.replica.parts, flat_map effect_letter s.script)) (opened plain f) ([], [])
 
 abbrev said : Plain → List (List ℕ)
@@ -39,7 +39,7 @@ both f = (said f, option_map_or (λ (s : Step). flat_map effect_letter s.script)
 
 -- ---- one slot: its header sector has the entry's header, another valid one, or none; its prepare is the entry, or it isn't
 
-abbrev slots_of : ℕ → Header → Plain → List Plain
+abbrev pub slots_of : ℕ → Header → Plain → List Plain
 slots_of op h f =
     with_slot op (Some h) (Some (entry h)) f
     ∷ with_slot op (Some (reserved op)) (Some (entry h)) f
@@ -122,7 +122,7 @@ abbrev at_32 : List ℕ → Plain
 at_32 sessions = let v = value 0 0 32 32 (h31 ∷ h32 ∷ []) in
     having (record v { fields = record v.fields { checkpoint = 32; root_address = 64; root_name = (root_name (kept_of sessions)).sum } })
 
-abbrev with_texts : List ℕ → Plain
+abbrev pub with_texts : List ℕ → Plain
 with_texts sessions = record (at_32 sessions) { kept = Some (kept_of sessions) }
 
 old_ops : map found (
@@ -134,7 +134,7 @@ unfolding after_fresh
 old_ops = refl
 
 -- no block; the block; a block whose state doesn't decode
-abbrev missing : Plain → Option (List ℕ)
+abbrev pub missing : Plain → Option (List ℕ)
 missing f = option_map_or (λ (s : Step). Some (map (λ m. m.address) s.replica.missing)) (opened plain f) None
 
 loads : map missing (at_32 (0 ∷ 0 ∷ []) ∷ with_texts (0 ∷ 0 ∷ []) ∷ with_texts (0 ∷ []) ∷ having (value 0 0 0 0 []) ∷ []) ≡ Some (64 ∷ []) ∷ Some [] ∷ Some (64 ∷ []) ∷ Some [] ∷ []

@@ -26,6 +26,7 @@ use Rattle.vr_state.specs.Sessions as sess
 use Rattle.vr_state.specs.SessionTexts.{session_text, value_from, outcome_of, outcome_from, numbers_from, session_from}
 use Rattle.vr_state.specs.Kv as kv
 use Rattle.vr_state.specs.Pairs.{pair_text, pieces_from, pair_from}
+use Rattle.vr_state.specs.Fitting.{sessions_fit, keys_fit}
 use Rattle.vr_super.specs.Copies.{SuperValue}
 use Rattle.vr_lie.specs.declared.fault.Fault.{Fault}
 use Rattle.vr_lie.specs.declared.fault.Fault.TheVariants as fault
@@ -80,6 +81,7 @@ reserved slot = record {
   size = 128;
   command = command.Reserved;
   replica = 0;
+  version = 1;
   kind = 0;
   aux = 0;
 }
@@ -220,7 +222,7 @@ hazards = record {
 -- ---- rows
 
 abbrev pub asks : ℕ → ℕ → ℕ → Operation → Happening
-asks replica client request operation = Asks replica (record { cluster = 0; client = client; request = request; operation = operation })
+asks replica client request operation = Asks replica (record { version = 1; cluster = 0; client = client; request = request; operation = operation })
 
 -- the lines of outputs, the messages numbered from m on
 unfoldable pub lines : ℕ → List Output → List (List ℕ)
@@ -229,7 +231,7 @@ lines m (o ∷ os) = output_text m o ∷ lines (m + length (message_of o)) os
 
 -- What happens to a fresh group of n. Whoever computes something of it names this definition, which lists all that is computed with.
 unfoldable pub after_fresh : ℕ → List Happening → Happened Plain
-unfolding cheap formatted count cut lines digits bytes16 bytes32 bytes64 operation_bytes outcome_bytes is_text byte_from number_from piece_from table_text count_from read_on decoded session_text value_from outcome_of outcome_from numbers_from session_from pair_text pieces_from pair_from same_header named_bytes choice named_by row_end log_headers state.applied state.answered state.executed sess.checked sess.applied sess.oldest sess.without_oldest kv.applied kv.putting kv.getting kv.deleting numbered viewed letters_of statement_text prepare_text prepare_ok_text commit_text do_view_change_text start_view_text sync_view_text get_prepare_text give_prepare_text sent_text committed_text reply_text chosen_text waiting_text started_text part_at head run statement_of forgetting with_part outputs after_all ◌⨾◌ quiet change does says by naming reading times each send_to_all value_of save entered enter write accept with_entry_at with_checkpoint make_checkpoint apply_entry apply_next apply advanced advance learn is_chain_from may_take taken_part taken take_over prepare_again stated begin_view try_log try speak resend ask_peer ask with_state load jump jumped jumped_part visit visit_block visit_place visit_slot first_of is_in_flight next_entry make on_request on_prepare on_prepare_ok on_commit on_start_view_change on_do_view_change acknowledge_stored on_start_view on_get_view on_get_prepare on_give_prepare on_get_block put_block on_give_block on_get_sync on_sync_view on_tick react rule_for blank recover_op recover_old clouded recover_parts opening opened messages at_member fresh_world happen
+unfolding cheap formatted count cut lines digits bytes16 bytes32 bytes64 operation_bytes outcome_bytes is_text byte_from number_from piece_from table_text count_from read_on decoded session_text value_from outcome_of outcome_from numbers_from session_from pair_text pieces_from pair_from same_header named_bytes choice named_by row_end log_headers state.applied state.answered state.executed sess.checked sess.applied sess.oldest sess.without_oldest kv.applied kv.putting kv.getting kv.deleting sessions_fit keys_fit numbered viewed letters_of statement_text prepare_text prepare_ok_text commit_text do_view_change_text start_view_text sync_view_text get_prepare_text give_prepare_text sent_text committed_text reply_text chosen_text waiting_text started_text part_at head run statement_of forgetting with_part outputs after_all ◌⨾◌ quiet change does says by naming reading times each send_to_all value_of save entered enter write accept with_entry_at with_checkpoint make_checkpoint apply_entry apply_next apply advanced advance learn is_chain_from may_take taken_part taken take_over prepare_again stated begin_view try_log try speak resend ask_peer ask with_state load jump jumped jumped_part visit visit_block visit_place visit_slot first_of is_in_flight next_entry make on_request on_prepare on_prepare_ok on_commit on_start_view_change on_do_view_change acknowledge_stored on_start_view on_get_view on_get_prepare on_give_prepare on_get_block put_block on_give_block on_get_sync on_sync_view on_tick react rule_for blank recover_op recover_old clouded recover_parts opening opened messages at_member fresh_world happen
 after_fresh n xs = happen hazards (fresh_world hazards strict n) xs
 
 -- its lines

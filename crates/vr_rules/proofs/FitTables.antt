@@ -12,7 +12,7 @@ use Rattle.vr_ckpt.specs.declared.name.Name.{Name}
 use Rattle.vr_ckpt.specs.Blocks.{block_header}
 use Rattle.vr_ckpt.specs.Grid.{named_at}
 use Rattle.vr_ckpt.specs.Loads.{data_at, gathered, load_by, load_of, loaded, read_root, root_at, with_data}
-use Rattle.vr_ckpt.specs.Places.{first_place, other_place}
+use Rattle.vr_ckpt.specs.Places.{first_place, other_place, place_of}
 use Rattle.vr_ckpt.specs.Saves.{data_content, goes_to, keys_run, payload_at, payload_blocks, payloads_from, sessions_run, stays, table_of}
 use Rattle.vr_ckpt.specs.declared.found.Load.TheVariants.{Loaded}
 use Rattle.vr_ckpt.specs.declared.loading.Gathered.{Gathered}
@@ -68,11 +68,11 @@ goes_named r address bytes = length-name_of (named_bytes (block_header (data_con
 
 part_named : (r : Run) (i : ℕ) (bytes : List ℕ) (o : Option Payload) → ((p : Payload) → o ≡ Some p → HasSum p) → HasSum (payload_blocks r i bytes o).payload
 unfolding payload_blocks
-part_named r i bytes None h = goes_named r (first_place r.op (r.low + i)) bytes
+part_named r i bytes None h = goes_named r (first_place r.op (place_of r.places i)) bytes
 part_named r i bytes (Some p) h =
-    elim (pointwise nat_eq p.bytes bytes) as (λ t. HasSum (cond t (stays p) (goes_to r (other_place (r.low + i) p.name.address) bytes)).payload) [
+    elim (pointwise nat_eq p.bytes bytes) as (λ t. HasSum (cond t (stays p) (goes_to r (other_place (place_of r.places i) p.name.address) bytes)).payload) [
       | true ↦ h p refl
-      | false ↦ goes_named r (other_place (r.low + i) p.name.address) bytes
+      | false ↦ goes_named r (other_place (place_of r.places i) p.name.address) bytes
     ]
 
 parts_named : (n i : ℕ) (r : Run) (text : List ℕ) (old : List Payload) → All HasSum old → All HasSum (payloads_from r text old i n)

@@ -1,5 +1,6 @@
 -- A visit of the disk, and a jump, have effects as the program has them.
-use Rattle.std.proofs.Common.{◌≡◌, refl, subst, ℕ, zero, suc, not, List, [], ◌∷◌, ◌++◌, length, map, Option, Some, None}
+use Rattle.vr_ckpt.specs.Places.{grid_size}
+use Rattle.std.proofs.Common.{◌≡◌, refl, subst, ℕ, zero, suc, not, List, [], ◌∷◌, ◌++◌, length, map, Option, Some, None, arith}
 use Rattle.std.specs.Prelude.{All, nat_eq, nat_lt, slice_get, ◌-◌, ◌==◌, ◌&&◌}
 use Rattle.std.specs.List.{list_any}
 use Rattle.std.proofs.lemmas.Bool.{and_parts, cond_both, ltb-true}
@@ -49,10 +50,10 @@ worn_named name r is k =
     record {
       missing = k.missing;
       worn =
-          cond_both (nat_lt name.address 128 && old) (r.worn ++ name ∷ []) r.worn (All IsBlockName)
+          cond_both (nat_lt name.address grid_size && old) (r.worn ++ name ∷ []) r.worn (All IsBlockName)
           (λ t.
-          let low = and_parts (nat_lt name.address 128) old t in
-          All-append IsBlockName r.worn (name ∷ []) k.worn (All-cons IsBlockName name [] (record { address = ltb-true name.address 128 low.0; sum = is }) (All-nil IsBlockName)))
+          let low = and_parts (nat_lt name.address grid_size) old t in
+          All-append IsBlockName r.worn (name ∷ []) k.worn (All-cons IsBlockName name [] (record { address = ltb-true name.address grid_size low.0; sum = is }) (All-nil IsBlockName)))
           (λ t. k.worn);
       table = k.table;
     }
@@ -107,7 +108,7 @@ module _ {F : Type 0} (v : ℕ) (s : Setting F) where
   fit_jump w r f m =
       fit_then_at (change (jumped w)) save s r f
       (fit_change (jumped w) s r f (λ p k. record {
-        missing = All-cons IsBlockName _ [] (record { address = m.form.address; sum = m.body.0.0 }) (All-nil IsBlockName);
+        missing = All-cons IsBlockName _ [] (record { address = (let low = m.form.address in omega arith); sum = m.body.0.0 }) (All-nil IsBlockName);
         worn = All-nil IsBlockName;
         table = k.table;
       }))

@@ -14,7 +14,7 @@ use Rattle.vr_ckpt.specs.declared.name.Name.{Name}
 use Rattle.vr_msg.specs.declared.frame.SyncView.{SyncView}
 use Rattle.vr_msg.specs.Logs.{IsEntryAt, has_header, header_of}
 use Rattle.vr_msg.specs.Numbers.{IsNumber}
-use Rattle.vr_rules.specs.Replica.{Replica, part_at, head}
+use Rattle.vr_rules.specs.Replica.{Replica, part_at, head, version}
 use Rattle.vr_rules.specs.Steps.{Setting}
 use Rattle.vr_rules.specs.Words.{above_end, is_chain, is_newer, jump, jumped, jumped_ops, jumped_part, log_header, no_statements, replaced_by, save, sync_log}
 use Rattle.vr_rules.specs.Deciding.{may_jump}
@@ -82,11 +82,11 @@ jumped_from v r k =
     ]
 
 jumped_entry : (v : SyncView) (r : Replica) (k : ℕ) (h : Header) → IsSound r → IsSyncFor r v → r.log_view ≤ v.view → header_of (jumped_part v r k) ≡ Some h
-    → IsHeader h × IsEntryAt r.cluster v.view k h
+    → IsHeader h × IsEntryAt (version r) r.cluster v.view k h
 jumped_entry v r k h sound is w e =
     elim (jumped_from v r k) [
-      | old i ↦ let was = sound.entries.each k h (sym i ∙ e) in (was.0, later r.cluster r.log_view v.view k h w was.1)
-      | new g at i ↦ let same : g ≡ h = (let t : Some g ≡ Some h = sym i ∙ e in cc) in subst (λ x. IsHeader x × IsEntryAt r.cluster v.view k x) same (log_header_is (sync_log v) r k g is.log at)
+      | old i ↦ let was = sound.entries.each k h (sym i ∙ e) in (was.0, later (version r) r.cluster r.log_view v.view k h w was.1)
+      | new g at i ↦ let same : g ≡ h = (let t : Some g ≡ Some h = sym i ∙ e in cc) in subst (λ x. IsHeader x × IsEntryAt (version r) r.cluster v.view k x) same (log_header_is (sync_log v) r k g is.log at)
       | none i ↦ let no_header : None ≡ Some h = sym i ∙ e in absurd cc
     ]
 

@@ -1,4 +1,5 @@
 -- Changes of single fields keep a replica sound.
+use Rattle.vr_super.specs.Copies.{SuperValue}
 use Rattle.vr_base.specs.Kinds.{strict}
 use Rattle.std.proofs.Common.{ℕ, ◌+◌, ◌-◌, ◌%◌, ◌≤◌, ◌<◌, ◌≡◌, ◌≢◌, ◌∙◌, arith, sym, ap, true, List, [], length, get_or, drop, Option, Some, None, is_some}
 use Rattle.std.proofs.lemmas.List.{length-drop}
@@ -11,7 +12,7 @@ use Rattle.vr_ckpt.specs.State.{State}
 use Rattle.vr_ckpt.specs.Sessions.{HaveNumbers}
 use Rattle.vr_ckpt.specs.Places as places
 use Rattle.vr_ckpt.specs.declared.name.Name.{Name}
-use Rattle.vr_rules.specs.Replica.{Replica, part_at, head, forgetting}
+use Rattle.vr_rules.specs.Replica.{Replica, part_at, head, forgetting, version}
 use Rattle.vr_rules.specs.Opening.{first_value}
 use Rattle.vr_rules.specs.Sound.{IsOrdered, KnowsEntries, IsStated, KnowsStatements, IsSound}
 use Rattle.vr_rules.specs.Laws.{Rises}
@@ -51,6 +52,10 @@ spans_of r h = record { reach = h.lists.reach; parts = h.lists.parts }
 
 -- ---- fields that soundness doesn't ask for
 
+-- a value of which nothing matters but its version
+abbrev pub of_version : ℕ → SuperValue
+of_version v = record { fields = record (first_value strict 0 0 0).fields { version = v }; headers = [] }
+
 abbrev pub core : Replica → Replica
 core r = record r {
   idle = 0;
@@ -58,7 +63,7 @@ core r = record r {
   cursor = 0;
   worn = [];
   heard = no_replicas;
-  saved = first_value strict 0 0 0;
+  saved = of_version (version r);
   root = record { address = 0; sum = no_name };
   table = places.empty;
 }
@@ -179,7 +184,7 @@ sound_missing r names w h =
 
 -- a greater view, and what is stated for it
 pub sound_view : (r : Replica) (v : ℕ) (ss : List (Option Statement)) → r.view ≤ v → length ss ≡ r.n
-    → ((i : ℕ) (s : Statement) → get_or ss i None ≡ Some s → IsStated r.cluster v s) → IsSound r → IsSound (record r { view = v; statements = ss })
+    → ((i : ℕ) (s : Statement) → get_or ss i None ≡ Some s → IsStated (version r) r.cluster v s) → IsSound r → IsSound (record r { view = v; statements = ss })
 unfolding head part_at
 sound_view r v ss a n each h =
     let o = h.order in

@@ -1,4 +1,7 @@
 -- A step keeps a sound replica sound: requests, blocks, ticks, and each event.
+use Rattle.vr_header.proofs.Putting.{body_fits}
+use Rattle.vr_base.proofs.Versions.{between}
+use Rattle.vr_base.specs.Versions.{body_limit}
 use Rattle.std.proofs.Common.{ℕ, ◌+◌, ◌-◌, ◌≤◌, ◌<◌, ◌≡◌, ◌≢◌, ◌^◌, arith, refl, ap, Bool, not, List, [], ◌++◌, length, Option, Some, None}
 use Rattle.std.specs.Prelude.{find, filter, is_some, nat_lt, nat_le, ◌==◌}
 use Rattle.std.proofs.lemmas.Bool.{and_parts, or_parts, not-false, not-true, ltb-false, leb-false, eqb-true}
@@ -33,26 +36,24 @@ use Rattle.vr_rules.proofs.Combining.{KeptBy, Keeps, kept_then, kept_change_then
 use Rattle.vr_rules.proofs.Storing.{MayStore}
 use Rattle.vr_rules.proofs.Trying.{keeps_speak}
 use Rattle.vr_rules.proofs.Wording.{kept_alike, kept_enter, kept_write, keeps_advance, keeps_apply, keeps_prepare_again, keeps_ask, kept_load}
-use Rattle.vr_rules.proofs.Ruling.{by_rows, keeps_prepare, keeps_prepare_ok, keeps_commit, keeps_start_view_change, keeps_do_view_change, keeps_start_view, keeps_get_view, keeps_get_prepare, keeps_give_prepare, keeps_get_sync, keeps_sync_view}
+use Rattle.vr_rules.proofs.Ruling.{by_rows, keeps_prepare, keeps_prepare_ok, keeps_commit, keeps_start_view_change, keeps_do_view_change, keeps_start_view, keeps_get_view, keeps_get_prepare, keeps_give_prepare, keeps_get_sync, keeps_sync_view, IsFor, for_of}
 use Rattle.vr_rules.proofs.Visiting.{keeps_visit, keeps_mend_found}
 
 -- ---- requests
 
-operation_size : (o : Operation) → IsOperation o → (0 < length (operation_bytes o)) × (length (operation_bytes o) ≤ 1920)
+operation_size : (v : ℕ) (o : Operation) → IsOperation v o → (0 < length (operation_bytes o)) × (length (operation_bytes o) ≤ body_limit v)
 unfolding operation_bytes
-operation_size Register h = (omega arith, omega arith)
-operation_size (Put key value) h =
-    let k = text_limit 64 key h.0 in
-    let v = text_limit 1024 value h.1 in
-    (omega arith, omega (arith, k, v, length-append (bytes16 (length value)) (key ++ value), length-append key value, length-bytes16 (length value)))
-operation_size (Get key) h = let k = text_limit 64 key h in (omega arith, omega (arith, k))
-operation_size (Delete key) h = let k = text_limit 64 key h in (omega arith, omega (arith, k))
+operation_size v Register h = (omega arith, body_fits v Register h)
+operation_size v (Put key value) h = (omega arith, body_fits v (Put key value) h)
+operation_size v (Get key) h = (omega arith, body_fits v (Get key) h)
+operation_size v (Delete key) h = (omega arith, body_fits v (Delete key) h)
 
 pub may_store_next : (hash : Hash) (q : RequestFields) (r : Replica) → ((bytes : List ℕ) → IsNameBytes (hash bytes)) → IsSound r → IsMessage (frame.Request q)
-    → q.cluster ≡ r.cluster → r.view ≡ r.log_view → r.view ≤ last_view → r.commit ≤ r.applied → head r < r.commit + 8 → head r < 2 ^ 62 → MayStore (next_entry hash q r) r
+    → IsFor q.version q.cluster r → r.view ≡ r.log_view → r.view ≤ last_view → r.commit ≤ r.applied → head r < r.commit + 8 → head r < 2 ^ 62 → MayStore (next_entry hash q r) r
 unfolding next_entry
 may_store_next hash q r names h m g v w a b c =
-    let size = operation_size q.operation m.body in
+    let size = operation_size q.version q.operation m.form.fits in
+    let most = (between q.version 1920 3968 (omega arith)).1 in
     let near = h.near in
     let low = h.order.applied in
     let known = h.order.known in
@@ -68,13 +69,14 @@ may_store_next hash q r names h m g v w a b c =
         parent_bytes = (names _).1;
         request_name = (names _).0;
         request_name_bytes = (names _).1;
-        cluster = omega (arith, cluster, g);
+        cluster = omega (arith, cluster, g.1);
         client = m.header.client;
         request = m.header.request;
         view = omega arith;
         op = omega arith;
         commit = omega arith;
-        size = (omega arith, omega (arith, size.1));
+        size = (omega arith, omega (arith, size.1, most));
+        version = m.header.version;
         replica = omega arith;
         kind = omega arith;
         aux = omega arith;
@@ -90,7 +92,8 @@ may_store_next hash q r names h m g v w a b c =
           kind = refl;
           aux = refl;
         };
-        of_group = g;
+        of_version = rw g.0 (omega arith);
+        of_group = g.1;
         at_op = refl;
         made = omega arith;
       };
@@ -131,7 +134,7 @@ kept_request q s r f names h m last =
                       let full = or_parts (nat_le 8 (head r - r.commit)) (nat_le (2 ^ 62) (head r)) n5 in
                       let few = leb-false 8 (head r - r.commit) full.0 in
                       let known = h.order.known in
-                      let may = may_store_next s.hash q r names h m (eqb-true q.cluster r.cluster (not-false _ n0)) (eqb-true r.view r.log_view lead.0) last (ltb-false r.applied r.commit behind.1) (omega arith) (leb-false (2 ^ 62) (head r) full.1) in
+                      let may = may_store_next s.hash q r names h m (for_of q.version q.cluster r (not-false _ n0)) (eqb-true r.view r.log_view lead.0) last (ltb-false r.applied r.commit behind.1) (omega arith) (leb-false (2 ^ 62) (head r) full.1) in
                       kept_by _ s r f (kept_make (next_entry s.hash q r) s r f h may),
                   λ n6. idle,
                 ),

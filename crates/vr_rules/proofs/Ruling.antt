@@ -25,10 +25,10 @@ use Rattle.vr_msg.specs.declared.statement.Statement.{Statement}
 use Rattle.vr_msg.specs.Choice.{ops}
 use Rattle.vr_msg.specs.Logs.{IsEntryAt}
 use Rattle.vr_msg.specs.Spelling.{AreHeaders}
-use Rattle.vr_rules.specs.Replica.{Replica, last_view, header_at, head, is_here, part_at}
+use Rattle.vr_rules.specs.Replica.{Replica, last_view, header_at, head, is_here, part_at, version}
 use Rattle.vr_rules.specs.Steps.{Setting, ◌⨾◌, quiet, change, does, says, by, when, after_all}
-use Rattle.vr_rules.specs.Words.{entered, enter, rested, save, write, accept, learn, may_take, take, try, jump}
-use Rattle.vr_rules.specs.Deciding.{Table, first_of, Hash, prepare_table, prepare_ok_table, commit_table, start_view_change_table, do_view_change_table, log_of, start_view_table, get_view_table, get_prepare_table, give_prepare_table, get_sync_table, sync_view_table, may_jump, is_from, is_from_primary, is_known}
+use Rattle.vr_rules.specs.Words.{entered, enter, rested, save, write, accept, learn, may_take, take, try, jump, value_of}
+use Rattle.vr_rules.specs.Deciding.{Table, first_of, Hash, prepare_table, prepare_ok_table, commit_table, start_view_change_table, do_view_change_table, log_of, start_view_table, get_view_table, get_prepare_table, give_prepare_table, get_sync_table, sync_view_table, may_jump, is_from, is_from_primary, is_known, is_for}
 use Rattle.vr_rules.specs.declared.rule.Rule.{Rule}
 use Rattle.vr_rules.specs.declared.rule.Rule.TheVariants.{Ignored}
 use Rattle.vr_rules.specs.Rules.{acknowledge, ask_view, obey_prepare, on_prepare, acknowledged, obey_prepare_ok, on_prepare_ok, obey_commit, on_commit, heard_of, obey_start_view_change, on_start_view_change, with_statement, obey_do_view_change, on_do_view_change, acknowledge_stored, obey_start_view, on_start_view, obey_get_view, on_get_view, obey_get_prepare, on_get_prepare, obey_give_prepare, on_give_prepare, obey_get_sync, on_get_sync, obey_sync_view, on_sync_view}
@@ -57,16 +57,24 @@ by_rows D [] h = h
 by_rows D (row ∷ rows) h =
     elim (row.0) as (λ b. row.0 ≡ b → D (cond b row.1 (first_of rows))) [ true ↦ λ e. h.0 e | false ↦ λ e. by_rows D rows (h.1 e) ] refl
 
--- it is of the replica's group
-pub group_of : (cluster sender : ℕ) (r : Replica) → is_from cluster sender r ≡ true → cluster ≡ r.cluster
-group_of cluster sender r e = eqb-true cluster r.cluster (and_parts (cluster == r.cluster) _ e).0
+-- it is of the replica's version and group
+abbrev pub IsFor : ℕ → ℕ → Replica → Type 0
+IsFor v cluster r = (v ≡ version r) × (cluster ≡ r.cluster)
 
-pub group_of_primary : (cluster sender view : ℕ) (r : Replica) → not (is_from_primary cluster sender view r) ≡ false → cluster ≡ r.cluster
-group_of_primary cluster sender view r e = group_of cluster sender r (and_parts (is_from cluster sender r) _ (not-false _ e)).0
+pub for_of : (v cluster : ℕ) (r : Replica) → is_for v cluster r ≡ true → IsFor v cluster r
+for_of v cluster r e =
+    let parts = and_parts (v == version r) (cluster == r.cluster) e in
+    (eqb-true v (version r) parts.0, eqb-true cluster r.cluster parts.1)
+
+pub group_of : (v cluster sender : ℕ) (r : Replica) → is_from v cluster sender r ≡ true → IsFor v cluster r
+group_of v cluster sender r e = for_of v cluster r (and_parts (is_for v cluster r) _ e).0
+
+pub group_of_primary : (v cluster sender view : ℕ) (r : Replica) → not (is_from_primary v cluster sender view r) ≡ false → IsFor v cluster r
+group_of_primary v cluster sender view r e = group_of v cluster sender r (and_parts (is_from v cluster sender r) _ (not-false _ e)).0
 
 -- ---- prepares
 
-pub may_store_prepare : (p : Prepare) (r : Replica) → IsMessage (frame.Prepare p) → p.entry.header.cluster ≡ r.cluster → p.view ≤ r.log_view → r.checkpoint < p.entry.header.op
+pub may_store_prepare : (p : Prepare) (r : Replica) → IsMessage (frame.Prepare p) → IsFor p.version p.entry.header.cluster r → p.view ≤ r.log_view → r.checkpoint < p.entry.header.op
     → p.entry.header.op ≤ r.checkpoint + 64 → MayStore p.entry (rested r)
 may_store_prepare p r m g v a b =
     let form = m.form in
@@ -74,8 +82,8 @@ may_store_prepare p r m g v a b =
     record {
       above = a;
       window = b;
-      header = m.body.0;
-      is_entry = record { entry = form.entry.header; of_group = g; at_op = refl; made = omega arith };
+      header = m.body;
+      is_entry = record { entry = form.entry.header; of_version = rw (← g.0) form.of_version; of_group = g.1; at_op = refl; made = omega arith };
     }
 
 kept_known : {F : Type 0} (hash : Hash) (p : Prepare) (s : Setting F) (r : Replica) (f : F) → IsSound r → MayStore p.entry (rested r)
@@ -99,9 +107,9 @@ keeps_prepare p m = record {
       let op : ℕ = p.entry.header.op in
       let idle = (keeps_quiet).every s r f h in
       let rests = keeps_rested.every s r f h in
-      let may : not (is_from_primary p.entry.header.cluster p.replica p.view r) ≡ false → nat_lt r.log_view p.view ≡ false → nat_le op r.checkpoint ≡ false
+      let may : not (is_from_primary p.version p.entry.header.cluster p.replica p.view r) ≡ false → nat_lt r.log_view p.view ≡ false → nat_le op r.checkpoint ≡ false
       → nat_lt (r.checkpoint + 64) op ≡ false → MayStore p.entry (rested r) =
-      λ a b c d. may_store_prepare p r m (group_of_primary p.entry.header.cluster p.replica p.view r a) (ltb-false r.log_view p.view b) (leb-false op r.checkpoint c) (ltb-false (r.checkpoint + 64) op d) in
+      λ a b c d. may_store_prepare p r m (group_of_primary p.version p.entry.header.cluster p.replica p.view r a) (ltb-false r.log_view p.view b) (leb-false op r.checkpoint c) (ltb-false (r.checkpoint + 64) op d) in
       kept_naming _ s r f (kept_by _ s r f (by_rows (λ x. KeptBy (obey_prepare s.hash p x) s r f) (prepare_table s.hash p r) (
         λ t. idle,
         λ n0. (
@@ -203,10 +211,10 @@ with_statement_each i t ss j x e =
       ]
     ]
 
-pub kept_statement : (i : ℕ) (t : Statement) (r : Replica) → IsSound r → IsStated r.cluster r.view t → Kept r (with_statement i t r)
+pub kept_statement : (i : ℕ) (t : Statement) (r : Replica) → IsSound r → IsStated (version r) r.cluster r.view t → Kept r (with_statement i t r)
 kept_statement i t r h is = record {
   sound = sound_view r r.view (set r.statements i (Some t)) (omega arith) (length-set r.statements i (Some t) ∙ h.lists.statements) (λ j x e. elim (with_statement_each i t r.statements j x e) [
-    | inl same ↦ subst (IsStated r.cluster r.view) same is
+    | inl same ↦ subst (IsStated (version r) r.cluster r.view) same is
     | inr old ↦ h.stated.each j x old
   ]) h;
   rises = record { view = omega arith; log_view = omega arith; commit = omega arith; applied = omega arith; checkpoint = omega arith };
@@ -214,12 +222,12 @@ kept_statement i t r h is = record {
 
 -- the view that is entered is the replica's then
 pub in_view : {F : Type 0} (v : ℕ) (b : Bool) (s : Setting F) (r : Replica) (f : F) → nat_lt r.view v ≡ b → nat_lt last_view v ≡ false → r.view ≤ v
-    → ((when b (enter v) s r f).replica.view ≡ v) × ((when b (enter v) s r f).replica.cluster ≡ r.cluster)
-unfolding enter entered save says change does quiet ◌⨾◌
-in_view v true s r f e l a = rw l (refl, refl)
-in_view v false s r f e l a = let m = ltb-false r.view v e in (omega arith, refl)
+    → ((when b (enter v) s r f).replica.view ≡ v) × ((when b (enter v) s r f).replica.cluster ≡ r.cluster) × (version (when b (enter v) s r f).replica ≡ version r)
+unfolding enter entered save value_of says change does quiet ◌⨾◌
+in_view v true s r f e l a = rw l (refl, refl, refl)
+in_view v false s r f e l a = let m = ltb-false r.view v e in (omega arith, refl, refl)
 
-keeps_stated : {F : Type 0} (d : DoViewChange) (s : Setting F) (r : Replica) (f : F) → IsMessage (frame.DoViewChange d) → IsSound r → d.cluster ≡ r.cluster → r.view ≤ d.view
+keeps_stated : {F : Type 0} (d : DoViewChange) (s : Setting F) (r : Replica) (f : F) → IsMessage (frame.DoViewChange d) → IsSound r → IsFor d.version d.cluster r → r.view ≤ d.view
     → KeptBy (by (λ r. when (nat_lt r.view d.view) (enter d.view)) ⨾ change (with_statement d.replica d.statement) ⨾ try) s r f
 unfolding ◌⨾◌ by
 keeps_stated d s r f m h g a =
@@ -231,8 +239,8 @@ keeps_stated d s r f m h g a =
     let low : nat_lt last_view d.view ≡ false = le-ltb last_view d.view (omega arith) in
     let at = in_view d.view (nat_lt r.view d.view) s r f refl low a in
     let older = form.log_view in
-    let is : IsStated q.cluster q.view d.statement =
-    rw (at.0, at.1, ← g) (record { statement = form.statement; values = m.body; view = omega arith }) in
+    let is : IsStated (version q) q.cluster q.view d.statement =
+    rw (at.0, at.1, at.2, ← g.0, ← g.1) (record { statement = form.statement; values = m.body; view = omega arith }) in
     let after = kept_change_then (with_statement d.replica d.statement) try s q (after_all s f w.script) (kept_statement d.replica d.statement q k.sound is)
     (λ e. keeps_try.every s (with_statement d.replica d.statement q) e (kept_statement d.replica d.statement q k.sound is).sound) in
     record { kept = kept_more r q _ k after.kept }
@@ -249,7 +257,7 @@ keeps_do_view_change d m = record {
           λ n1. (
             λ t. (keeps_says _).every s r f h,
             λ n2. (
-              λ t. keeps_stated d s r f m h (group_of d.cluster d.replica r (not-false _ n0)) (ltb-false d.view r.view (or_parts (nat_lt d.view r.view) _ n1).0),
+              λ t. keeps_stated d s r f m h (group_of d.version d.cluster d.replica r (not-false _ n0)) (ltb-false d.view r.view (or_parts (nat_lt d.view r.view) _ n1).0),
               λ n3. idle,
             ),
           ),
@@ -264,7 +272,7 @@ header_in [] i h all e = absurd cc
 header_in (g ∷ hs) zero h all e = let same : g ≡ h = cc in subst IsHeader same all.0
 header_in (g ∷ hs) (suc i) h all e = header_in hs i h all.1 e
 
-pub told_log : (v : StartView) (r : Replica) → IsMessage (frame.StartView v) → v.cluster ≡ r.cluster → IsLogFor r (log_of v)
+pub told_log : (v : StartView) (r : Replica) → IsMessage (frame.StartView v) → IsFor v.version v.cluster r → IsLogFor r (log_of v)
 told_log v r m g =
     let form = m.form in
     record {
@@ -272,7 +280,7 @@ told_log v r m g =
       count = form.count;
       each = λ i h e. (
         header_in v.body.headers i h m.body e,
-        subst (λ c. IsEntryAt c v.view (v.body.lo + 1 + i) h) g (from_at (IsEntryAt v.cluster v.view) (v.body.lo + 1) v.body.headers i h form.headers e),
+        rw (← g.0, ← g.1) (from_at (IsEntryAt v.version v.cluster v.view) (v.body.lo + 1) v.body.headers i h form.headers e),
       );
     }
 
@@ -293,7 +301,7 @@ keeps_start_view v m = record {
         λ t. idle,
         λ n0. (
           λ t.
-              let log = told_log v r m (group_of_primary v.cluster v.replica v.view r n0) in
+              let log = told_log v r m (group_of_primary v.version v.cluster v.replica v.view r n0) in
               let may = may_take_is s.hash (log_of v) r (and_parts (may_take s.hash (log_of v) r) _ t).0 in
               kept_then (take (log_of v)) _ s r f (kept_take (log_of v) s r f h log may)
               (keeps_then _ _ (keeps_by _ (λ r. keeps_each (acknowledge_stored s.hash) (ops r.commit v.head) (keeps_acknowledge_stored s.hash))) keeps_apply),
@@ -304,7 +312,7 @@ keeps_start_view v m = record {
 
 -- ---- checkpoints of others
 
-pub told_sync : (v : SyncView) (r : Replica) → IsMessage (frame.SyncView v) → v.cluster ≡ r.cluster → IsSyncFor r v
+pub told_sync : (v : SyncView) (r : Replica) → IsMessage (frame.SyncView v) → IsFor v.version v.cluster r → IsSyncFor r v
 told_sync v r m g =
     let form = m.form in
     record {
@@ -313,7 +321,7 @@ told_sync v r m g =
         count = form.count;
         each = λ i h e. (
           header_in v.body.headers i h m.body.1 e,
-          subst (λ c. IsEntryAt c v.view (v.body.lo + 1 + i) h) g (from_at (IsEntryAt v.cluster v.view) (v.body.lo + 1) v.body.headers i h form.headers e),
+          rw (← g.0, ← g.1) (from_at (IsEntryAt v.version v.cluster v.view) (v.body.lo + 1) v.body.headers i h form.headers e),
         );
       };
       within = (form.order.0, form.order.1);
@@ -339,7 +347,7 @@ keeps_sync_view v m = record {
         λ t. idle,
         λ n0. (
           λ t.
-              let is = told_sync v r m (group_of_primary v.cluster v.replica v.view r n0) in
+              let is = told_sync v r m (group_of_primary v.version v.cluster v.replica v.view r n0) in
               let may = may_jump_is s.hash v r (and_parts (may_jump s.hash v r) _ t).0 in
               kept_then (jump v) _ s r f (kept_jump v s r f h is may)
               (keeps_then _ _ (keeps_by _ (λ r. keeps_each (acknowledge_stored s.hash) (ops r.commit v.head) (keeps_acknowledge_stored s.hash))) keeps_apply),

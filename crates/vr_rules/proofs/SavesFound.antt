@@ -11,7 +11,7 @@ use Rattle.vr_msg.specs.Choice.{ops}
 use Rattle.vr_msg.specs.Logs.{has_header}
 use Rattle.vr_recover.specs.declared.readings.Verdict.{Verdict}
 use Rattle.vr_recover.specs.declared.readings.Verdict.TheVariants as verdict
-use Rattle.vr_super.specs.Copies.{SuperValue, IsGood, good_fields, good_member, good_window, good_root, good_count}
+use Rattle.vr_super.specs.Copies.{SuperValue, IsGood, good_fields, good_member, good_window, good_root, good_count, least_members}
 use Rattle.vr_rules.specs.Replica.{Replica, head, forgetting, with_part, knows}
 use Rattle.vr_rules.specs.Steps.{Setting, ◌⨾◌, quiet, change, does, reading, each, after_all}
 use Rattle.vr_rules.specs.Words.{entry_of}
@@ -160,7 +160,7 @@ savable_found v ps g top =
     let a = and_parts (good_member k) (good_window k && (good_root k && good_count k n)) g.fields in
     let b = and_parts (good_window k) (good_root k && good_count k n) a.1 in
     let c = and_parts (good_root k) (good_count k n) b.1 in
-    let member = and_parts (nat_lt k.replica k.n) (nat_le k.log_view k.view && nat_lt k.log_view (2 ^ 32 - 1)) (and_parts (nat_le 2 k.n && nat_le k.n 6) _ a.0).1 in
+    let member = and_parts (nat_lt k.replica k.n) (nat_le k.log_view k.view && nat_lt k.log_view (2 ^ 32 - 1)) (and_parts (nat_le (least_members k.version) k.n && nat_le k.n 6) _ a.0).1 in
     let root = and_parts (nat_lt k.root_address 128) (nat_lt 0 k.checkpoint || (nat_eq k.root_address 0 && is_zeros k.root_name.0)) c.0 in
     record {
       cluster = g.numbers.cluster;

@@ -69,9 +69,9 @@ module _ {F : Type 0} (s : Setting F) (roots : SavesRoots s) where
       let op : ℕ = p.entry.header.op in
       let idle = idles r f h in
       let rests = fit 0 (change rested) (omega arith) goods_rested r f h in
-      let may : not (is_from_primary p.entry.header.cluster p.replica p.view r) ≡ false → nat_lt r.log_view p.view ≡ false → nat_le op r.checkpoint ≡ false
+      let may : not (is_from_primary p.version p.entry.header.cluster p.replica p.view r) ≡ false → nat_lt r.log_view p.view ≡ false → nat_le op r.checkpoint ≡ false
       → nat_lt (r.checkpoint + 64) op ≡ false → MayStore p.entry (rested r) =
-      λ a b c d. may_store_prepare p r m (group_of_primary p.entry.header.cluster p.replica p.view r a) (ltb-false r.log_view p.view b) (leb-false op r.checkpoint c) (ltb-false (r.checkpoint + 64) op d) in
+      λ a b c d. may_store_prepare p r m (group_of_primary p.version p.entry.header.cluster p.replica p.view r a) (ltb-false r.log_view p.view b) (leb-false op r.checkpoint c) (ltb-false (r.checkpoint + 64) op d) in
       good_naming views s 0 _ r f (good_by views s 0 _ r f (by_rows (λ x. GoodBy views 0 (rules.obey_prepare s.hash p x) s r f) (prepare_table s.hash p r) (
         λ t. idle,
         λ n0. (

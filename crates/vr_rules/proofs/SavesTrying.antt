@@ -1,5 +1,5 @@
 -- Words that move the commit number, take a log over or load a checkpoint save values that make good copies.
-use Rattle.std.proofs.Common.{arith, ◌≡◌, ◌≤◌, ◌<◌, ◌+◌, ◌-◌, ◌^◌, refl, ℕ, true, not, List, [], min, max, Result, Ok, Err}
+use Rattle.std.proofs.Common.{arith, ◌≡◌, ◌≤◌, ◌<◌, ◌+◌, ◌-◌, ◌^◌, refl, ℕ, true, not, List, [], min, max, Result, Ok, Err, Option, Some, None}
 use Rattle.std.specs.Prelude.{nat_lt, nat_le, ◌&&◌}
 use Rattle.std.specs.List.{prefix_len}
 use Rattle.std.proofs.lemmas.Bool.{cond_both}
@@ -19,10 +19,10 @@ use Rattle.vr_msg.specs.declared.choice.Choice.TheVariants.{Ends, WaitsAt, TooFe
 use Rattle.vr_msg.specs.declared.frame.SyncView.{SyncView}
 use Rattle.vr_msg.specs.declared.statement.Statement.{Statement}
 use Rattle.vr_msg.specs.Choice.{ops}
-use Rattle.vr_rules.specs.Replica.{Replica, head, is_primary, is_started, view_change}
+use Rattle.vr_rules.specs.Replica.{Replica, head, is_primary, is_started, view_change, version}
 use Rattle.vr_rules.specs.Steps.{Setting, Word, quiet, change, says, by, reading}
 use Rattle.vr_rules.specs.Outputs.{wait_line, to_primary, do_view_change}
-use Rattle.vr_rules.specs.Words.{Log, save, has_quorum, advanced, advance, learned, learn, taken, take, prepare_again, may_take, chosen_log, choose_line, begin_view, try_log, stated, decided, obey_choice, try, speak, with_state, loaded_state, loads, checkpoint_at, load, apply, jump, jumped}
+use Rattle.vr_rules.specs.Words.{Log, save, has_quorum, advanced, advance, learned, learn, taken, take, prepare_again, may_take, chosen_log, choose_line, begin_view, try_log, stated, decided, obey_choice, try, speak, with_state, loaded_state, loads, checkpoint_at, load, apply, jump, jumped, usable}
 use Rattle.vr_rules.specs.Sound.{IsNameBytes, IsSound}
 use Rattle.vr_rules.specs.Laws.{IsGoodSave, SavesRoots}
 use Rattle.vr_rules.proofs.Keeping.{Kept, sound_commit}
@@ -58,13 +58,13 @@ record Unloaded (r q : Replica) : Type 0 where
   body_same : body q ≡ body r
   saved_same : q.saved ≡ r.saved
 
-state_leaves : (root : Name) (table : PayloadTable) (o : Result State StateFault) (r : Replica) → Unloaded r (loaded_state root table o r)
+state_leaves : (root : Name) (table : PayloadTable) (o : Option State) (r : Replica) → Unloaded r (loaded_state root table o r)
 unfolding with_state
-state_leaves root table (Ok t) r = record { body_same = refl; saved_same = refl }
-state_leaves root table (Err fault) r = record { body_same = refl; saved_same = refl }
+state_leaves root table (Some t) r = record { body_same = refl; saved_same = refl }
+state_leaves root table None r = record { body_same = refl; saved_same = refl }
 
 loads_leave : (root : Name) (l : Load) (r : Replica) → Unloaded r (loads root l r)
-loads_leave root (Loaded texts table) r = state_leaves root table (state_decoded texts) r
+loads_leave root (Loaded texts table) r = state_leaves root table (usable (version r) (state_decoded texts)) r
 loads_leave root (Missing names) r = record { body_same = refl; saved_same = refl }
 
 load_leaves : {F : Type 0} (s : Setting F) (r : Replica) (f : F) → Unloaded r (load s r f).replica × ((load s r f).script ≡ [])

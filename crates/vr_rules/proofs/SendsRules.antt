@@ -33,8 +33,8 @@ use Rattle.vr_rules.proofs.SendsWords.{own, own_commit, calm_keeps, calm_primary
 
 -- ---- senders
 
-pub from_is : (cluster sender : ℕ) (r : Replica) → is_from cluster sender r ≡ true → IsOther r.index r.n sender
-from_is cluster sender r e =
+pub from_is : (v cluster sender : ℕ) (r : Replica) → is_from v cluster sender r ≡ true → IsOther r.index r.n sender
+from_is v cluster sender r e =
     let a = and_parts _ _ e in
     let b = and_parts _ _ a.1 in
     (ltb-true sender r.n b.0, eqb-false sender r.index (not-true _ b.1))
@@ -46,10 +46,10 @@ other_stays o r to near h =
     (omega arith, λ (q : to ≡ r.index). h.1 (q ∙ near.same.index))
 
 -- what comes from the primary of a view doesn't come to it
-pub not_primary : (cluster sender view : ℕ) (r : Replica) → is_from_primary cluster sender view r ≡ true → nat_eq r.index (primary r.n view) ≡ false
-not_primary cluster sender view r e =
+pub not_primary : (v cluster sender view : ℕ) (r : Replica) → is_from_primary v cluster sender view r ≡ true → nat_eq r.index (primary r.n view) ≡ false
+not_primary v cluster sender view r e =
     let a = and_parts _ _ e in
-    let o = from_is cluster sender r a.0 in
+    let o = from_is v cluster sender r a.0 in
     let p : sender ≡ primary r.n view = eqb-true sender (primary r.n view) a.1 in
     ne_eqb r.index (primary r.n view) (λ q. o.1 (p ∙ sym q))
 

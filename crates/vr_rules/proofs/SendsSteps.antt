@@ -139,12 +139,12 @@ module _ {F : Type 0} (MayAsk : ℕ → ℕ → Type 0) (s : Setting F) (r : Rep
 
 module _ {F : Type 0} (s : Setting F) (r : Replica) (f : F) (h : IsPlaced r) where
   -- from another replica, or ignored
-  from_other : (MayAsk : ℕ → ℕ → Type 0) (cluster sender : ℕ) (obey : Rule → Word F) (rows : List (Bool × Rule)) → obey Ignored ≡ quiet → (IsOther r.index r.n sender → IsPresent MayAsk r (obey (first_row rows) s r f))
-      → IsPresent MayAsk r (obey (first_row ((not (is_from cluster sender r), Ignored) ∷ rows)) s r f)
-  from_other MayAsk cluster sender obey rows e k =
-      row (not (is_from cluster sender r)) Ignored rows (λ rule. IsPresent MayAsk r (obey rule s r f))
+  from_other : (MayAsk : ℕ → ℕ → Type 0) (v cluster sender : ℕ) (obey : Rule → Word F) (rows : List (Bool × Rule)) → obey Ignored ≡ quiet → (IsOther r.index r.n sender → IsPresent MayAsk r (obey (first_row rows) s r f))
+      → IsPresent MayAsk r (obey (first_row ((not (is_from v cluster sender r), Ignored) ∷ rows)) s r f)
+  from_other MayAsk v cluster sender obey rows e k =
+      row (not (is_from v cluster sender r)) Ignored rows (λ rule. IsPresent MayAsk r (obey rule s r f))
       (λ _. rw e (calmly MayAsk s r f h quiet calm_quiet))
-      (λ b. k (from_is cluster sender r (not-false _ b)))
+      (λ b. k (from_is v cluster sender r (not-false _ b)))
 
   present_prepare : (p : Prepare) → IsPresent (Answers (event.Deliver (frame.Prepare p))) r (rules.on_prepare p s r f)
   unfolding rules.on_prepare naming by
@@ -152,15 +152,15 @@ module _ {F : Type 0} (s : Setting F) (r : Replica) (f : F) (h : IsPlaced r) whe
       let a = Answers (event.Deliver (frame.Prepare p)) in
       let obey : Rule → Word F = rules.obey_prepare s.hash p in
       row _ Ignored _ (λ rule. IsPresent a r (obey rule s r f)) (λ _. calmly a s r f h _ calm_quiet) (λ b.
-      let from : is_from_primary p.entry.header.cluster p.replica p.view r ≡ true = not-false _ b in
-      let other = from_is p.entry.header.cluster p.replica r (and_parts _ _ from).0 in
+      let from : is_from_primary p.version p.entry.header.cluster p.replica p.view r ≡ true = not-false _ b in
+      let other = from_is p.version p.entry.header.cluster p.replica r (and_parts _ _ from).0 in
       row (nat_lt p.view r.view) PreparedBefore _ (λ rule. IsPresent a r (obey rule s r f)) (λ _. calmly a s r f h _ calm_quiet) (λ c.
       let least : r.view ≤ p.view = ltb-false p.view r.view c in
       row (nat_lt r.log_view p.view) PreparedLater _ (λ rule. IsPresent a r (obey rule s r f)) (λ _. calmly a s r f h _ (calm_ask_view p.view p.replica other (refl, refl))) (λ d.
       let most : p.view ≤ r.log_view = ltb-false r.log_view p.view d in
       let views : r.log_view ≤ r.view = h.views in
       let same : p.view ≡ r.view = omega (arith, least, most, views) in
-      let backup : nat_eq r.index (primary r.n p.view) ≡ false = not_primary p.entry.header.cluster p.replica p.view r from in
+      let backup : nat_eq r.index (primary r.n p.view) ≡ false = not_primary p.version p.entry.header.cluster p.replica p.view r from in
       calmly a s r f h _ (calm_prepare s.hash p _ other (refl, refl) (rw same at backup)))))
 
   present_commit : (c : Commit) → IsPresent (Answers (event.Deliver (frame.Commit c))) r (rules.on_commit c s r f)
@@ -168,13 +168,13 @@ module _ {F : Type 0} (s : Setting F) (r : Replica) (f : F) (h : IsPlaced r) whe
   present_commit c =
       let a = Answers (event.Deliver (frame.Commit c)) in
       row _ Ignored _ (λ rule. IsPresent a r (rules.obey_commit {F = F} c rule s r f)) (λ _. calmly a s r f h _ calm_quiet) (λ b.
-      let from : is_from_primary c.cluster c.replica c.view r ≡ true = not-false _ b in
-      calmly a s r f h _ (calm_commit c _ (from_is c.cluster c.replica r (and_parts _ _ from).0) (refl, refl)))
+      let from : is_from_primary c.version c.cluster c.replica c.view r ≡ true = not-false _ b in
+      calmly a s r f h _ (calm_commit c _ (from_is c.version c.cluster c.replica r (and_parts _ _ from).0) (refl, refl)))
 
   present_change : (MayAsk : ℕ → ℕ → Type 0) (c : StartViewChange) → IsPresent MayAsk r (rules.on_start_view_change c s r f)
   unfolding rules.on_start_view_change by
   present_change a c =
-      from_other a c.cluster c.replica (rules.obey_start_view_change c) _ refl (λ other.
+      from_other a c.version c.cluster c.replica (rules.obey_start_view_change c) _ refl (λ other.
       row (nat_lt c.view r.view) ChangeBefore _ (λ rule. IsPresent a r (rules.obey_start_view_change {F = F} c rule s r f)) (λ _. calmly a s r f h _ calm_quiet) (λ b.
       let least : r.view ≤ c.view = ltb-false c.view r.view b in
       let views : r.log_view ≤ r.view = h.views in
@@ -182,21 +182,21 @@ module _ {F : Type 0} (s : Setting F) (r : Replica) (f : F) (h : IsPlaced r) whe
 
   present_statement : (MayAsk : ℕ → ℕ → Type 0) (d : DoViewChange) → IsPresent MayAsk r (rules.on_do_view_change d s r f)
   unfolding rules.on_do_view_change by
-  present_statement a d = from_other a d.cluster d.replica (rules.obey_do_view_change d) _ refl (λ other. hears_statement a s r f h d _ other)
+  present_statement a d = from_other a d.version d.cluster d.replica (rules.obey_do_view_change d) _ refl (λ other. hears_statement a s r f h d _ other)
 
   present_view : (v : StartView) → IsPresent (Answers (event.Deliver (frame.StartView v))) r (rules.on_start_view v s r f)
   unfolding rules.on_start_view naming by
   present_view v =
       let a = Answers (event.Deliver (frame.StartView v)) in
       row _ Ignored _ (λ rule. IsPresent a r (rules.obey_start_view {F = F} s.hash v rule s r f)) (λ _. calmly a s r f h _ calm_quiet) (λ b.
-      let from : is_from_primary v.cluster v.replica v.view r ≡ true = not-false _ b in
-      takes_view a s r f h s.hash v _ (from_is v.cluster v.replica r (and_parts _ _ from).0) (refl, refl) (not_primary v.cluster v.replica v.view r from))
+      let from : is_from_primary v.version v.cluster v.replica v.view r ≡ true = not-false _ b in
+      takes_view a s r f h s.hash v _ (from_is v.version v.cluster v.replica r (and_parts _ _ from).0) (refl, refl) (not_primary v.version v.cluster v.replica v.view r from))
 
   present_sync : (MayAsk : ℕ → ℕ → Type 0) (v : SyncView) → IsPresent MayAsk r (rules.on_sync_view v s r f)
   unfolding rules.on_sync_view naming by
   present_sync a v =
       row _ Ignored _ (λ rule. IsPresent a r (rules.obey_sync_view {F = F} s.hash v rule s r f)) (λ _. calmly a s r f h _ calm_quiet) (λ b.
-      takes_sync a s r f h s.hash v _ (not_primary v.cluster v.replica v.view r (not-false _ b)))
+      takes_sync a s r f h s.hash v _ (not_primary v.version v.cluster v.replica v.view r (not-false _ b)))
 
   present_message : (m : Frame) → IsPresent (Answers (event.Deliver m)) r (rules.on_message m s r f)
   unfolding rules.on_request rules.on_prepare_ok rules.on_get_view rules.on_get_sync rules.on_get_prepare rules.on_give_prepare rules.on_get_block rules.on_give_block naming by reading
@@ -208,13 +208,13 @@ module _ {F : Type 0} (s : Setting F) (r : Replica) (f : F) (h : IsPlaced r) whe
   present_message (frame.StartViewChange c) = present_change _ c
   present_message (frame.DoViewChange d) = present_statement _ d
   present_message (frame.StartView v) = present_view v
-  present_message (frame.GetView g) = from_other _ g.cluster g.replica (rules.obey_get_view g) _ refl (λ other. calmly _ s r f h _ (calm_get_view g _ other))
-  present_message (frame.GetPrepare g) = from_other _ g.cluster g.replica (rules.obey_get_prepare g) _ refl (λ other. calmly _ s r f h _ (calm_get_prepare g _ other))
+  present_message (frame.GetView g) = from_other _ g.version g.cluster g.replica (rules.obey_get_view g) _ refl (λ other. calmly _ s r f h _ (calm_get_view g _ other))
+  present_message (frame.GetPrepare g) = from_other _ g.version g.cluster g.replica (rules.obey_get_prepare g) _ refl (λ other. calmly _ s r f h _ (calm_get_prepare g _ other))
   present_message (frame.GivePrepare g) = calmly _ s r f h _ (calm_give_prepare g _)
   present_message (frame.GetBlock g) =
-      from_other _ g.cluster g.replica (rules.obey_get_block g (s.block f (rules.asked_block g))) _ refl (λ other. calmly _ s r f h _ (calm_get_block g (s.block f (rules.asked_block g)) _ other))
+      from_other _ g.version g.cluster g.replica (rules.obey_get_block g (s.block f (rules.asked_block g))) _ refl (λ other. calmly _ s r f h _ (calm_get_block g (s.block f (rules.asked_block g)) _ other))
   present_message (frame.GiveBlock g) = calmly _ s r f h _ (calm_give_block s.is_block g _)
-  present_message (frame.GetSync g) = from_other _ g.cluster g.replica (rules.obey_get_sync g) _ refl (λ other. calmly _ s r f h _ (calm_get_sync g _ other))
+  present_message (frame.GetSync g) = from_other _ g.version g.cluster g.replica (rules.obey_get_sync g) _ refl (λ other. calmly _ s r f h _ (calm_get_sync g _ other))
   present_message (frame.SyncView v) = present_sync _ v
 
   present_event : (e : Event) → IsPresent (Answers e) r (rules.on_event e s r f)

@@ -1,4 +1,5 @@
 -- The words that are calm: all but those that enter a view.
+use Rattle.vr_rules.specs.Words.{usable}
 use Rattle.std.proofs.Common.{arith, ◌≡◌, ◌≤◌, ◌<◌, ◌+◌, ◌-◌, ◌%◌, refl, sym, ap, ◌∙◌, ℕ, false, cond, List, [], ◌∷◌, Option, Some, None}
 use Rattle.std.specs.Prelude.{All, nat_lt, slice_get, ◌==◌}
 use Rattle.std.proofs.lemmas.Bool.{cond_both, eqb-false}
@@ -22,7 +23,7 @@ use Rattle.vr_msg.specs.declared.statement.Statement.{Statement}
 use Rattle.vr_msg.specs.declared.choice.Choice.{Choice}
 use Rattle.vr_msg.specs.declared.choice.Choice.TheVariants.{Ends, WaitsAt, TooFew}
 use Rattle.vr_msg.specs.Normal.{primary}
-use Rattle.vr_rules.specs.Replica.{Replica, leads, is_primary, statement_of, forgetting, with_part}
+use Rattle.vr_rules.specs.Replica.{Replica, leads, is_primary, statement_of, forgetting, with_part, version}
 use Rattle.vr_rules.specs.Steps.{Mend, Word, change, does, says, outputs}
 use Rattle.vr_rules.specs.declared.asker.Asker.{Asker}
 use Rattle.vr_rules.specs.Outputs as told
@@ -82,13 +83,13 @@ primary_is r h e =
     let below : r.view % r.n < r.n = mod_below r.view r.n (omega arith) in
     (below, λ (q : r.view % r.n ≡ r.index). eqb-false r.index (r.view % r.n) e (sym q))
 
-state_place : (root : Name) (table : PayloadTable) (x : Result State StateFault) (r : Replica) → place (words.loaded_state root table x r) ≡ place r
+state_place : (root : Name) (table : PayloadTable) (x : Option State) (r : Replica) → place (words.loaded_state root table x r) ≡ place r
 unfolding words.with_state
-state_place root table (Ok s) r = refl
-state_place root table (Err fault) r = refl
+state_place root table (Some s) r = refl
+state_place root table None r = refl
 
 load_place : (root : Name) (l : Load) (r : Replica) → place (words.loads root l r) ≡ place r
-load_place root (Loaded texts table) r = state_place root table (state_decoded texts) r
+load_place root (Loaded texts table) r = state_place root table (usable (version r) (state_decoded texts)) r
 load_place root (Missing names) r = refl
 
 module _ {F : Type 0} {MayAsk : ℕ → ℕ → Type 0} {o : Replica} where

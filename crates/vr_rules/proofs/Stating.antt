@@ -11,7 +11,7 @@ use Rattle.vr_header.specs.declared.part.Part.TheVariants.{Here, Lost, Wanted, U
 use Rattle.vr_header.specs.Spelling.{IsHeader}
 use Rattle.vr_msg.specs.Logs.{FromOp, IsEntryAt, IsPartAt, has_header, header_of}
 use Rattle.vr_msg.specs.Spelling.{AreHeaders}
-use Rattle.vr_rules.specs.Replica.{Replica, part_at, parts_from, head, run, run_start, is_nothing, trimmed, statement_of, knows}
+use Rattle.vr_rules.specs.Replica.{Replica, part_at, parts_from, head, run, run_start, is_nothing, trimmed, statement_of, knows, version}
 use Rattle.vr_rules.specs.Sound.{IsStated, IsSound}
 use Rattle.vr_rules.proofs.Heads.{prefix_reaches, part_within, head_from, head_within, head_knows, head_stops}
 use Rattle.vr_rules.proofs.Keeping.{spans_of}
@@ -87,12 +87,12 @@ all_from P op d (x ∷ xs) h =
       all_from P (op + 1) d xs (λ i l. let f : op + suc i ≡ op + 1 + i = omega arith in subst (λ k. P k (get_or xs i d)) f (h (suc i) (omega arith))),
     )
 
-part_is : (cluster last k : ℕ) (p : Part) → ((h : Header) → header_of p ≡ Some h → IsEntryAt cluster last k h) → IsPartAt cluster last k p
-part_is cluster last k (Here h) all = all h refl
-part_is cluster last k (Lost h) all = all h refl
-part_is cluster last k (Wanted h) all = all h refl
-part_is cluster last k Unknown all = tt
-part_is cluster last k Nothing all = tt
+part_is : (v cluster last k : ℕ) (p : Part) → ((h : Header) → header_of p ≡ Some h → IsEntryAt v cluster last k h) → IsPartAt v cluster last k p
+part_is v cluster last k (Here h) all = all h refl
+part_is v cluster last k (Lost h) all = all h refl
+part_is v cluster last k (Wanted h) all = all h refl
+part_is v cluster last k Unknown all = tt
+part_is v cluster last k Nothing all = tt
 
 are_known : (ps : List Part) → ((i : ℕ) (h : Header) → header_of (get_or ps i Nothing) ≡ Some h → IsHeader h) → AreHeaders (filter_map header_of ps)
 are_known [] all = tt
@@ -189,7 +189,7 @@ given_run r h =
       | inr most ↦ omega arith
     ]
 
-pub own_statement : (r : Replica) → IsSound r → IsStated r.cluster r.view (statement_of r)
+pub own_statement : (r : Replica) → IsSound r → IsStated (version r) r.cluster r.view (statement_of r)
 unfolding statement_of
 own_statement r h =
     let o = h.order in
@@ -208,7 +208,7 @@ own_statement r h =
     let d : ℕ = run_start r + 1 - r.first in
     let all : length (drop d r.parts) ≡ length r.parts - d = length-drop d r.parts in
     let trim = trimmed_short (drop d r.parts) in
-    let each : (i : ℕ) (g : Header) → header_of (get_or (given r) i Nothing) ≡ Some g → IsHeader g × IsEntryAt r.cluster r.log_view (run_start r + 1 + i) g =
+    let each : (i : ℕ) (g : Header) → header_of (get_or (given r) i Nothing) ≡ Some g → IsHeader g × IsEntryAt (version r) r.cluster r.log_view (run_start r + 1 + i) g =
     λ i g e. h.entries.each (run_start r + 1 + i) g (sym (ap header_of (given_at r i h)) ∙ e) in
     record {
       statement = record {
@@ -219,7 +219,7 @@ own_statement r h =
         short = omega arith;
         count = omega arith;
         last = trimmed_last (drop d r.parts);
-        parts = all_from (IsPartAt r.cluster r.log_view) (run_start r + 1) Nothing (given r) (λ i m. part_is r.cluster r.log_view (run_start r + 1 + i) _ (λ g e. (each i g e).1));
+        parts = all_from (IsPartAt (version r) r.cluster r.log_view) (run_start r + 1) Nothing (given r) (λ i m. part_is (version r) r.cluster r.log_view (run_start r + 1 + i) _ (λ g e. (each i g e).1));
       };
       values = are_known (given r) (λ i g e. (each i g e).0);
       view = o.views;

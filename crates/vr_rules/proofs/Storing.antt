@@ -14,7 +14,7 @@ use Rattle.vr_header.specs.declared.part.Part.TheVariants.{Here, Lost, Nothing}
 use Rattle.vr_header.specs.Made.{Whole}
 use Rattle.vr_header.specs.Spelling.{IsHeader}
 use Rattle.vr_msg.specs.Logs.{IsEntryAt, has_header, header_of}
-use Rattle.vr_rules.specs.Replica.{Replica, part_at, head, with_part, knows}
+use Rattle.vr_rules.specs.Replica.{Replica, part_at, head, with_part, knows, version}
 use Rattle.vr_rules.specs.Words.{applied, lost, stored, with_checkpoint}
 use Rattle.vr_rules.specs.Sound.{IsSound}
 use Rattle.vr_rules.specs.Laws.{Rises}
@@ -23,7 +23,7 @@ use Rattle.vr_rules.proofs.Keeping.{Kept, Roomy, spans_of, sound_few, sound_forg
 
 -- what a Part may be set to: it knows an entry's header
 abbrev pub MayBe : ℕ → Part → Replica → Type 0
-MayBe k p r = (h : Header) → header_of p ≡ Some h → IsHeader h × IsEntryAt r.cluster r.log_view k h
+MayBe k p r = (h : Header) → header_of p ≡ Some h → IsHeader h × IsEntryAt (version r) r.cluster r.log_view k h
 
 pub with_part_known : (k : ℕ) (p : Part) (r : Replica) (j : ℕ) → Spans r → r.first ≤ k → k ≤ r.checkpoint + 64 → (knows r k ≡ true → has_header p ≡ true)
     → knows r j ≡ true → knows (with_part k p r) j ≡ true
@@ -36,7 +36,7 @@ with_part_known k p r j s a b stays e =
     ]
 
 with_part_header : (k : ℕ) (p : Part) (r : Replica) (j : ℕ) (h : Header) → IsSound r → r.first ≤ k → k ≤ r.checkpoint + 64 → MayBe k p r
-    → header_of (part_at (with_part k p r) j) ≡ Some h → IsHeader h × IsEntryAt r.cluster r.log_view j h
+    → header_of (part_at (with_part k p r) j) ≡ Some h → IsHeader h × IsEntryAt (version r) r.cluster r.log_view j h
 with_part_header k p r j h sound a b may e =
     let sp = (spans_of r sound).parts in
     elim (cases_eq j k) [
@@ -83,10 +83,10 @@ pub record MayStore (e : Whole) (r : Replica) : Type 0 where
   pub above : r.checkpoint < e.header.op
   pub window : e.header.op ≤ r.checkpoint + 64
   pub header : IsHeader e.header
-  pub is_entry : IsEntryAt r.cluster r.log_view e.header.op e.header
+  pub is_entry : IsEntryAt (version r) r.cluster r.log_view e.header.op e.header
 
 may_be_here : (e : Whole) (r : Replica) → MayStore e r → MayBe e.header.op (Here e.header) r
-may_be_here e r m h i = let same : e.header ≡ h = cc in subst (λ g. IsHeader g × IsEntryAt r.cluster r.log_view e.header.op g) same (m.header, m.is_entry)
+may_be_here e r m h i = let same : e.header ≡ h = cc in subst (λ g. IsHeader g × IsEntryAt (version r) r.cluster r.log_view e.header.op g) same (m.header, m.is_entry)
 
 pub kept_stored : (e : Whole) (r : Replica) → IsSound r → MayStore e r → Kept r (stored e r)
 kept_stored e r h m =
@@ -118,7 +118,7 @@ sound_other_part k p h r sound e i =
     let known = knows_some r k h e in
     let s = spans_of r sound in
     let w = known_within r k s known in
-    let may : MayBe k p r = λ g j. let same : h ≡ g = cc in subst (λ x. IsHeader x × IsEntryAt r.cluster r.log_view k x) same (sound.entries.each k h e) in
+    let may : MayBe k p r = λ g j. let same : h ≡ g = cc in subst (λ x. IsHeader x × IsEntryAt (version r) r.cluster r.log_view k x) same (sound.entries.each k h e) in
     let roomy = roomy_part k p r sound w.0 w.1 (λ t. rw i refl) may in
     sound_few (with_part k p r) roomy (lost_few k p r sound w.0 known roomy.spans)
 

@@ -14,7 +14,7 @@ use Rattle.vr_header.specs.Same.{same_header}
 use Rattle.vr_header.specs.Spelling.{IsHeader}
 use Rattle.vr_header.proofs.SameHeaders.{same_header_is}
 use Rattle.vr_msg.specs.Logs.{IsEntryAt, has_header, header_of}
-use Rattle.vr_rules.specs.Replica.{Replica, part_at, head}
+use Rattle.vr_rules.specs.Replica.{Replica, part_at, head, version}
 use Rattle.vr_rules.specs.Steps.{Setting}
 use Rattle.vr_rules.specs.Words.{Log, is_newer, fits, is_chain, may_take, log_header, replaced_by, taken_part, taken, no_ackers, no_statements, save, take}
 use Rattle.vr_rules.specs.Sound.{IsSound}
@@ -99,24 +99,24 @@ taken_from l r k =
 pub log_header_at : (l : Log) (k : ℕ) → l.lo < k → log_header l k ≡ slice_get l.headers (k - (l.lo + 1))
 log_header_at l k a = rw (lt-leb k l.lo a) refl
 
-pub log_header_is : (l : Log) (r : Replica) (k : ℕ) (e : Header) → IsLogFor r l → log_header l k ≡ Some e → IsHeader e × IsEntryAt r.cluster l.view k e
+pub log_header_is : (l : Log) (r : Replica) (k : ℕ) (e : Header) → IsLogFor r l → log_header l k ≡ Some e → IsHeader e × IsEntryAt (version r) r.cluster l.view k e
 log_header_is l r k e log i =
     elim (cases_lt l.lo k) [
       | inl above ↦
           let place : l.lo + 1 + (k - (l.lo + 1)) ≡ k = omega arith in
-          subst (λ j. IsHeader e × IsEntryAt r.cluster l.view j e) place (log.each (k - (l.lo + 1)) e (sym (log_header_at l k above) ∙ i))
+          subst (λ j. IsHeader e × IsEntryAt (version r) r.cluster l.view j e) place (log.each (k - (l.lo + 1)) e (sym (log_header_at l k above) ∙ i))
       | inr low ↦ let no_header : None ≡ Some e = rw (le-leb k l.lo low) at i in cc
     ]
 
-pub later : (cluster last most op : ℕ) (h : Header) → last ≤ most → IsEntryAt cluster last op h → IsEntryAt cluster most op h
-later cluster last most op h l is = let made = is.made in record { entry = is.entry; of_group = is.of_group; at_op = is.at_op; made = omega arith }
+pub later : (v cluster last most op : ℕ) (h : Header) → last ≤ most → IsEntryAt v cluster last op h → IsEntryAt v cluster most op h
+later v cluster last most op h l is = let made = is.made in record { entry = is.entry; of_version = is.of_version; of_group = is.of_group; at_op = is.at_op; made = omega arith }
 
 taken_entry : (l : Log) (r : Replica) (k : ℕ) (h : Header) → IsSound r → IsLogFor r l → r.log_view ≤ l.view → header_of (taken_part l r k) ≡ Some h
-    → IsHeader h × IsEntryAt r.cluster l.view k h
+    → IsHeader h × IsEntryAt (version r) r.cluster l.view k h
 taken_entry l r k h sound log v e =
     elim (taken_from l r k) [
-      | old i ↦ let is = sound.entries.each k h (sym i ∙ e) in (is.0, later r.cluster r.log_view l.view k h v is.1)
-      | new g at i ↦ let same : g ≡ h = search (rules, i, e) in subst (λ x. IsHeader x × IsEntryAt r.cluster l.view k x) same (log_header_is l r k g log at)
+      | old i ↦ let is = sound.entries.each k h (sym i ∙ e) in (is.0, later (version r) r.cluster r.log_view l.view k h v is.1)
+      | new g at i ↦ let same : g ≡ h = search (rules, i, e) in subst (λ x. IsHeader x × IsEntryAt (version r) r.cluster l.view k x) same (log_header_is l r k g log at)
       | none past i ↦ let no_header : None ≡ Some h = sym i ∙ e in absurd cc
     ]
 

@@ -21,7 +21,7 @@ use Rattle.vr_choose.proofs.Bounds.{bounded, some_statements}
 use Rattle.vr_choose.proofs.Choices.{choice_meets}
 use Rattle.vr_choose.proofs.Logs.{found}
 use Rattle.vr_choose.proofs.Standing.{headers_stand}
-use Rattle.vr_rules.specs.Replica.{Replica, head, is_primary, is_started, view_change, statement_of}
+use Rattle.vr_rules.specs.Replica.{Replica, head, is_primary, is_started, view_change, statement_of, version}
 use Rattle.vr_rules.specs.Steps.{Setting, says}
 use Rattle.vr_rules.specs.Outputs.{to_primary, do_view_change, wait_line}
 use Rattle.vr_rules.specs.Words.{Log, may_take, take, prepare_again, stated, log_end, chosen_log, choose_line, begin_view, try_log, obey_choice, decided, try, speak}
@@ -68,12 +68,12 @@ known_header (Nothing ∷ ps) (suc i) h all e = known_header ps i h all e
 
 -- ---- what is stated
 
-pub all_stated : (r : Replica) → IsSound r → All (IsStated r.cluster r.view) (stated r)
+pub all_stated : (r : Replica) → IsSound r → All (IsStated (version r) r.cluster r.view) (stated r)
 unfolding stated
 all_stated r h =
-    each_kept (IsStated r.cluster r.view) (λ i. cond (eqb i r.index) (Some (statement_of r)) (get_or r.statements i None)) (range_with_len 0 r.n) (λ i s e.
-    elim (eqb i r.index) as (λ b. cond b (Some (statement_of r)) (get_or r.statements i None) ≡ Some s → IsStated r.cluster r.view s) [
-      | true ↦ λ t. let same : statement_of r ≡ s = search (rules, t) in subst (IsStated r.cluster r.view) same (own_statement r h)
+    each_kept (IsStated (version r) r.cluster r.view) (λ i. cond (eqb i r.index) (Some (statement_of r)) (get_or r.statements i None)) (range_with_len 0 r.n) (λ i s e.
+    elim (eqb i r.index) as (λ b. cond b (Some (statement_of r)) (get_or r.statements i None) ≡ Some s → IsStated (version r) r.cluster r.view s) [
+      | true ↦ λ t. let same : statement_of r ≡ s = search (rules, t) in subst (IsStated (version r) r.cluster r.view) same (own_statement r h)
       | false ↦ λ t. h.stated.each i s t
     ] e)
 
@@ -84,8 +84,8 @@ top_view_low v (s ∷ ss) all =
     let rest = top_view_low v ss (All-tail (λ (s : Statement). s.log_view ≤ v) s ss all) in
     omega arith
 
-stated_is_header : (cluster last k : ℕ) (s : Statement) (h : Header) → IsStated cluster last s → stated_header k s ≡ Some h → IsHeader h
-stated_is_header cluster last k s h is e =
+stated_is_header : (v cluster last k : ℕ) (s : Statement) (h : Header) → IsStated v cluster last s → stated_header k s ≡ Some h → IsHeader h
+stated_is_header v cluster last k s h is e =
     elim (cases_lt k s.body.first) [
       | inl before ↦ let no_header : header_of Nothing ≡ Some h = rw (lt-ltb k s.body.first before) at e in absurd cc
       | inr from ↦
@@ -93,21 +93,21 @@ stated_is_header cluster last k s h is e =
           known_header s.body.parts (k - s.body.first) h is.values there
     ]
 
-found_header : (cluster last k : ℕ) (p : Statement → Bool) (ss : List Statement) (h : Header) (o : Option Statement) → find p ss ≡ o → All (IsStated cluster last) ss
+found_header : (v cluster last k : ℕ) (p : Statement → Bool) (ss : List Statement) (h : Header) (o : Option Statement) → find p ss ≡ o → All (IsStated v cluster last) ss
     → option_and_then (stated_header k) o ≡ Some h → IsHeader h
-found_header cluster last k p ss h None i all e = absurd cc
-found_header cluster last k p ss h (Some s) i all e = stated_is_header cluster last k s h (found (IsStated cluster last) p ss s i all).1 e
+found_header v cluster last k p ss h None i all e = absurd cc
+found_header v cluster last k p ss h (Some s) i all e = stated_is_header v cluster last k s h (found (IsStated v cluster last) p ss s i all).1 e
 
-chosen_is : (cluster last k : ℕ) (ss : List Statement) (h : Header) → All (IsStated cluster last) ss → chosen_header ss k ≡ Some h → IsHeader h
+chosen_is : (v cluster last k : ℕ) (ss : List Statement) (h : Header) → All (IsStated v cluster last) ss → chosen_header ss k ≡ Some h → IsHeader h
 unfolding named_by
-chosen_is cluster last k ss h all e =
+chosen_is v cluster last k ss h all e =
     elim (cases_lt (top_commit ss) k) [
       | inl above ↦
           let there : named ss k ≡ Some h = rw (lt-leb k (top_commit ss) above) at e in
-          found_header cluster last k _ ss h _ refl all there
+          found_header v cluster last k _ ss h _ refl all there
       | inr below ↦
           let there : option_and_then (stated_header k) (farthest ss) ≡ Some h = rw (le-leb k (top_commit ss) below) at e in
-          found_header cluster last k _ ss h _ refl all there
+          found_header v cluster last k _ ss h _ refl all there
     ]
 
 -- ---- the log that is chosen
@@ -116,41 +116,41 @@ start_low : (C head : ℕ) (o : Option Statement) → option_map_or (start_of C 
 start_low C head None = omega arith
 start_low C head (Some s) = omega arith
 
-pub log_end_is : (cluster : ℕ) (ss : List Statement) (head : ℕ) (hs : List Header) → log_start ss head + length hs ≡ head → top_commit ss ≤ head
-    → FromOp (IsEntryAt cluster (top_view ss)) (log_start ss head + 1) hs → log_end (top_commit ss) hs ≡ head
-log_end_is cluster ss head [] whole low all = let start = start_low (top_commit ss) head (farthest ss) in omega arith
-log_end_is cluster ss head (h ∷ hs) whole low all =
+pub log_end_is : (v cluster : ℕ) (ss : List Statement) (head : ℕ) (hs : List Header) → log_start ss head + length hs ≡ head → top_commit ss ≤ head
+    → FromOp (IsEntryAt v cluster (top_view ss)) (log_start ss head + 1) hs → log_end (top_commit ss) hs ≡ head
+log_end_is v cluster ss head [] whole low all = let start = start_low (top_commit ss) head (farthest ss) in omega arith
+log_end_is v cluster ss head (h ∷ hs) whole low all =
     let there = log_reaches (h ∷ hs) (length hs) (omega arith) in
-    let is = from_at (IsEntryAt cluster (top_view ss)) (log_start ss head + 1) (h ∷ hs) (length hs) there.0 all there.1 in
+    let is = from_at (IsEntryAt v cluster (top_view ss)) (log_start ss head + 1) (h ∷ hs) (length hs) there.0 all there.1 in
     let op = is.at_op in
     let place : length (h ∷ hs) - 1 ≡ length hs = omega arith in
     let last : slice_get (h ∷ hs) (length (h ∷ hs) - 1) ≡ Some there.0 = ap (slice_get (h ∷ hs)) place ∙ there.1 in
     rw last (omega arith)
 
-pub chosen_log_is : (r : Replica) (q : Quorums) (ss : List Statement) (hs : List Header) → All (IsStated r.cluster r.view) ss → choice q ss ≡ Ends hs → IsLogFor r (chosen_log r ss hs)
+pub chosen_log_is : (r : Replica) (q : Quorums) (ss : List Statement) (hs : List Header) → All (IsStated (version r) r.cluster r.view) ss → choice q ss ≡ Ends hs → IsLogFor r (chosen_log r ss hs)
 chosen_log_is r q ss hs all e =
-    let are = All-weaker (IsStated r.cluster r.view) (IsStatement r.cluster) (λ s i. i.statement) ss all in
-    let meets : IsChoice q ss (Ends hs) = subst (IsChoice q ss) e (choice_meets q ss (bounded ss (some_statements r.cluster ss are))) in
+    let are = All-weaker (IsStated (version r) r.cluster r.view) (IsStatement (version r) r.cluster) (λ s i. i.statement) ss all in
+    let meets : IsChoice q ss (Ends hs) = subst (IsChoice q ss) e (choice_meets q ss (bounded ss (some_statements (version r) r.cluster ss are))) in
     let top : ℕ = meets.head in
     let log = meets.log in
     let whole = log.whole in
     let above = meets.ends.next.above in
-    let stand = headers_stand r.cluster ss top hs are log in
-    let low = top_view_low r.view ss (All-weaker (IsStated r.cluster r.view) (λ s. s.log_view ≤ r.view) (λ s i. i.view) ss all) in
-    let end : log_end (top_commit ss) hs ≡ top = log_end_is r.cluster ss top hs whole (omega arith) stand in
+    let stand = headers_stand (version r) r.cluster ss top hs are log in
+    let low = top_view_low r.view ss (All-weaker (IsStated (version r) r.cluster r.view) (λ s. s.log_view ≤ r.view) (λ s i. i.view) ss all) in
+    let end : log_end (top_commit ss) hs ≡ top = log_end_is (version r) r.cluster ss top hs whole (omega arith) stand in
     record {
       commit = omega (arith, end);
       count = omega (arith, end);
       each = λ i h at.
-          let is = from_at (IsEntryAt r.cluster (top_view ss)) (log_start ss top + 1) hs i h stand at in
+          let is = from_at (IsEntryAt (version r) r.cluster (top_view ss)) (log_start ss top + 1) hs i h stand at in
           let made = is.made in
           let within = at_within hs i h at in
           let start : log_start ss top + 1 + i ≡ log_end (top_commit ss) hs - length hs + 1 + i = omega (arith, end) in
           let place : log_start ss top + 1 + i - (log_start ss top + 1) ≡ i = omega arith in
           let chosen : slice_get hs i ≡ chosen_header ss (log_start ss top + 1 + i) = subst (λ j. slice_get hs j ≡ chosen_header ss (log_start ss top + 1 + i)) place (log.each (log_start ss top + 1 + i) (omega arith) (omega arith)) in
-          let entry : IsEntryAt r.cluster r.view (log_start ss top + 1 + i) h = record { entry = is.entry; of_group = is.of_group; at_op = is.at_op; made = omega arith } in (
-            chosen_is r.cluster r.view (log_start ss top + 1 + i) ss h all (sym chosen ∙ at),
-            subst (λ k. IsEntryAt r.cluster r.view k h) start entry,
+          let entry : IsEntryAt (version r) r.cluster r.view (log_start ss top + 1 + i) h = record { entry = is.entry; of_version = is.of_version; of_group = is.of_group; at_op = is.at_op; made = omega arith } in (
+            chosen_is (version r) r.cluster r.view (log_start ss top + 1 + i) ss h all (sym chosen ∙ at),
+            subst (λ k. IsEntryAt (version r) r.cluster r.view k h) start entry,
           );
     }
   where

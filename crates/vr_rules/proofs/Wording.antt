@@ -28,11 +28,12 @@ use Rattle.vr_msg.specs.declared.statement.Statement.{Statement}
 use Rattle.vr_msg.specs.Choice.{ops}
 use Rattle.vr_ckpt.specs.State.{State}
 use Rattle.vr_ckpt.specs.StateTexts.{state_decoded}
+use Rattle.vr_ckpt.specs.Fitting.{fits as fits_version}
 use Rattle.vr_ckpt.specs.StateFault.{StateFault}
 use Rattle.std.specs.Prelude.{Result}
-use Rattle.vr_rules.specs.Replica.{Replica, last_view, part_at, head}
+use Rattle.vr_rules.specs.Replica.{Replica, last_view, part_at, head, version}
 use Rattle.vr_rules.specs.Steps.{Setting, Word, ◌⨾◌, quiet, change, does, says, by, reading, when}
-use Rattle.vr_rules.specs.Words.{saves, with_saved, save, no_ackers, no_statements, entered, rested, enter, writes, stored, write, accept, entry_of, or_lost, lost, with_entry, with_entry_at, applied, with_checkpoint, checkpoint_of, make_checkpoint, is_checkpoint, apply_entry, is_loaded, apply_next, apply, has_quorum, advanced, advance, learned, learn, prepare_again, resend, turned, ask_peer, ask_for, ask, with_state, with_missing, loaded_state, loads, checkpoint_at, load}
+use Rattle.vr_rules.specs.Words.{saves, with_saved, save, no_ackers, no_statements, entered, rested, enter, writes, stored, write, accept, entry_of, or_lost, lost, with_entry, with_entry_at, applied, with_checkpoint, checkpoint_of, make_checkpoint, is_checkpoint, apply_entry, is_loaded, apply_next, apply, has_quorum, advanced, advance, learned, learn, prepare_again, resend, turned, ask_peer, ask_for, ask, with_state, with_missing, loaded_state, loads, checkpoint_at, load, usable, value_of}
 use Rattle.vr_rules.specs.Sound.{IsSound}
 use Rattle.vr_rules.specs.Laws.{Rises}
 use Rattle.vr_rules.proofs.Keeping.{Kept, core, kept_more, sound_alike, sound_commit, sound_ackers, sound_missing, sound_view, sound_state}
@@ -50,7 +51,7 @@ pub kept_rested : (r : Replica) → IsSound r → Kept r (rested r)
 kept_rested r h = kept_alike r (rested r) refl (record { view = omega arith; log_view = omega arith; commit = omega arith; applied = omega arith; checkpoint = omega arith }) h
 
 pub keeps_save : {F : Type 0} → Keeps {F = F} save
-unfolding save
+unfolding save value_of
 keeps_save = keeps_then (does saves) (change with_saved) (keeps_does saves)
     (keeps_change with_saved (λ r h. kept_alike r (with_saved r) refl (record { view = omega arith; log_view = omega arith; commit = omega arith; applied = omega arith; checkpoint = omega arith }) h))
 
@@ -213,15 +214,25 @@ keeps_ask = keeps_by _ (λ r. keeps_ask_for r.missing _ r.worn)
 kept_missing : (names : List Name) (r : Replica) → IsSound r → (names ≢ [] → r.applied ≡ r.checkpoint) → Kept r (with_missing names r)
 kept_missing names r h w = record { sound = sound_missing r names w h; rises = record { view = omega arith; log_view = omega arith; commit = omega arith; applied = omega arith; checkpoint = omega arith } }
 
-kept_loaded : (root : Name) (table : PayloadTable) (o : Result State StateFault) (r : Replica) → IsSound r → r.applied ≡ r.checkpoint → ((t : State) → o ≡ Ok t → HaveNumbers t.sessions) → Kept r (loaded_state root table o r)
+-- what is usable was decoded
+pub usable_is : (v : ℕ) (o : Result State StateFault) (t : State) → usable v o ≡ Some t → (o ≡ Ok t) × (fits_version v t ≡ true)
+usable_is v (Ok s) t e =
+    elim (fits_version v s) as (λ b. fits_version v s ≡ b → cond b (Some s) None ≡ Some t → (◌≡◌ {A = Result State StateFault} (Ok s) (Ok t)) × (fits_version v t ≡ true)) [
+      | true ↦ λ i k. let same : s ≡ t = cc in subst (λ x. (◌≡◌ {A = Result State StateFault} (Ok s) (Ok x)) × (fits_version v x ≡ true)) same (refl, i)
+      | false ↦ λ i k. absurd cc
+    ] refl e
+usable_is v (Err fault) t e = absurd cc
+
+kept_loaded : (root : Name) (table : PayloadTable) (o : Option State) (r : Replica) → IsSound r → r.applied ≡ r.checkpoint → ((t : State) → o ≡ Some t → HaveNumbers t.sessions) → Kept r (loaded_state root table o r)
 unfolding with_state
-kept_loaded root table (Ok t) r h e n =
+kept_loaded root table (Some t) r h e n =
     let k = kept_missing [] r h (λ n. absurd (n refl)) in
     record { sound = sound_alike (record (with_missing [] r) { state = t }) (record r { table = table; state = t; missing = [] }) refl (sound_state (with_missing [] r) t (n t refl) k.sound); rises = record { view = omega arith; log_view = omega arith; commit = omega arith; applied = omega arith; checkpoint = omega arith } }
-kept_loaded root table (Err fault) r h e n = kept_missing (root ∷ []) r h (λ n. e)
+kept_loaded root table None r h e n = kept_missing (root ∷ []) r h (λ n. e)
 
 pub kept_loads : (root : Name) (l : Load) (r : Replica) → IsSound r → r.applied ≡ r.checkpoint → Kept r (loads root l r)
-kept_loads root (Loaded texts table) r h e = kept_loaded root table (state_decoded texts) r h e (texts_have_numbers texts)
+kept_loads root (Loaded texts table) r h e =
+    kept_loaded root table (usable (version r) (state_decoded texts)) r h e (λ t i. texts_have_numbers texts t (usable_is (version r) (state_decoded texts) t i).0)
 kept_loads root (Missing names) r h e = kept_missing names r h (λ n. e)
 
 -- where nothing is applied yet above the checkpoint

@@ -30,7 +30,7 @@ use Rattle.vr_ckpt.specs.Asks.{is_fresh}
 use Rattle.vr_ckpt.specs.Sessions.{checked}
 use Rattle.vr_ckpt.specs.SessionAnswer.{SessionAnswer}
 use Rattle.vr_ckpt.specs.declared.name.Name.{Name}
-use Rattle.vr_rules.specs.Replica.{Replica, is_started, is_primary, leads, window_end, part_at, header_at, parts_from, head, head_header, is_here, is_absent, run_start}
+use Rattle.vr_rules.specs.Replica.{Replica, version, is_started, is_primary, leads, window_end, part_at, header_at, parts_from, head, head_header, is_here, is_absent, run_start}
 use Rattle.vr_rules.specs.Words.{Log, is_chain, is_loaded, is_newer, may_take, sync_log}
 
 -- the number of a rule, 0 for none
@@ -88,13 +88,17 @@ Hash = List ℕ → List ℕ
 
 -- ---- of messages
 
--- it is of the same group, and from another replica of it
-abbrev pub is_from : ℕ → ℕ → Replica → Bool
-is_from cluster sender r = (cluster == r.cluster) && (nat_lt sender r.n && not (sender == r.index))
+-- of the replica's version and group
+abbrev pub is_for : ℕ → ℕ → Replica → Bool
+is_for v cluster r = (v == version r) && (cluster == r.cluster)
+
+-- and from another replica of the group
+abbrev pub is_from : ℕ → ℕ → ℕ → Replica → Bool
+is_from v cluster sender r = is_for v cluster r && (nat_lt sender r.n && not (sender == r.index))
 
 -- it is from the primary of its view, too
-abbrev pub is_from_primary : ℕ → ℕ → ℕ → Replica → Bool
-is_from_primary cluster sender view r = is_from cluster sender r && (sender == primary r.n view)
+abbrev pub is_from_primary : ℕ → ℕ → ℕ → ℕ → Replica → Bool
+is_from_primary v cluster sender view r = is_from v cluster sender r && (sender == primary r.n view)
 
 -- op k has a known header, and it is this one
 abbrev pub is_known : Header → ℕ → Replica → Bool
@@ -119,7 +123,7 @@ session_answer q r = checked r.state.sessions q.client q.request
 
 abbrev pub request_table : RequestFields → Replica → Table
 request_table q r =
-    (not (q.cluster == r.cluster), Ignored)
+    (not (is_for q.version q.cluster r), Ignored)
     ∷ (not (leads r), Redirected)
     ∷ (not (is_loaded r) || nat_lt r.applied r.commit, Behind)
     ∷ (is_in_flight q.client r, InFlight)
@@ -133,7 +137,7 @@ request_table q r =
 abbrev pub prepare_table : Hash → Prepare → Replica → Table
 prepare_table hash p r =
     let h = p.entry.header in
-    (not (is_from_primary h.cluster p.replica p.view r), Ignored)
+    (not (is_from_primary p.version h.cluster p.replica p.view r), Ignored)
     ∷ (nat_lt p.view r.view, PreparedBefore)
     ∷ (nat_lt r.log_view p.view, PreparedLater)
     ∷ (nat_le h.op r.checkpoint, Past)
@@ -148,7 +152,7 @@ prepare_table hash p r =
 
 abbrev pub prepare_ok_table : Hash → PrepareOk → Replica → Table
 prepare_ok_table hash a r =
-    (not (is_from a.cluster a.replica r), Ignored)
+    (not (is_from a.version a.cluster a.replica r), Ignored)
     ∷ (leads r && ((a.view == r.view) && (nat_lt r.commit a.op && (nat_le a.op (head r) && is_named hash a.name a.op r))), Counted)
     ∷ []
 
@@ -156,7 +160,7 @@ prepare_ok_table hash a r =
 
 abbrev pub commit_table : Commit → Replica → Table
 commit_table c r =
-    (not (is_from_primary c.cluster c.replica c.view r), Ignored)
+    (not (is_from_primary c.version c.cluster c.replica c.view r), Ignored)
     ∷ (nat_lt c.view r.view, CommitBefore)
     ∷ (nat_lt r.log_view c.view, CommitLater)
     ∷ (true, CommitHeard)
@@ -166,7 +170,7 @@ commit_table c r =
 
 abbrev pub start_view_change_table : StartViewChange → Replica → Table
 start_view_change_table c r =
-    (not (is_from c.cluster c.replica r), Ignored)
+    (not (is_from c.version c.cluster c.replica r), Ignored)
     ∷ (nat_lt c.view r.view, ChangeBefore)
     ∷ (nat_lt r.view c.view, ChangeLater)
     ∷ (not (is_started r) && not (has_replica r.heard c.replica), ChangeHeard)
@@ -175,7 +179,7 @@ start_view_change_table c r =
 
 abbrev pub do_view_change_table : DoViewChange → Replica → Table
 do_view_change_table d r =
-    (not (is_from d.cluster d.replica r), Ignored)
+    (not (is_from d.version d.cluster d.replica r), Ignored)
     ∷ (nat_lt d.view r.view || not (r.index == primary r.n d.view), StatedBefore)
     ∷ ((d.view == r.view) && is_started r, StatedLate)
     ∷ (true, Stated)
@@ -190,13 +194,13 @@ is_out_of_reach v r = nat_lt (window_end r) v.head || nat_lt r.commit v.body.lo
 
 abbrev pub start_view_table : Hash → StartView → Replica → Table
 start_view_table hash v r =
-    (not (is_from_primary v.cluster v.replica v.view r), Ignored)
+    (not (is_from_primary v.version v.cluster v.replica v.view r), Ignored)
     ∷ (may_take hash (log_of v) r && not (r.index == primary r.n v.view), Taken)
     ∷ (is_newer (log_of v) r && (is_out_of_reach v r && not (r.index == primary r.n v.view)), SyncAsked)
     ∷ []
 
 abbrev pub get_view_table : GetView → Replica → Table
-get_view_table g r = (not (is_from g.cluster g.replica r), Ignored) ∷ (leads r && nat_le g.view r.view, ViewGiven) ∷ []
+get_view_table g r = (not (is_from g.version g.cluster g.replica r), Ignored) ∷ (leads r && nat_le g.view r.view, ViewGiven) ∷ []
 
 -- ---- checkpoints of others
 
@@ -206,7 +210,7 @@ reaches_down r = nat_lt 0 r.checkpoint && nat_lt (run_start r) r.checkpoint
 
 abbrev pub get_sync_table : GetSync → Replica → Table
 get_sync_table g r =
-    (not (is_from g.cluster g.replica r), Ignored) ∷ (leads r && (nat_le g.view r.view && reaches_down r), SyncGiven) ∷ []
+    (not (is_from g.version g.cluster g.replica r), Ignored) ∷ (leads r && (nat_le g.view r.view && reaches_down r), SyncGiven) ∷ []
 
 -- as for a log that is taken over; that it begins no later than what is committed here isn't asked, and the checkpoint is a later one
 abbrev pub may_jump : Hash → SyncView → Replica → Bool
@@ -215,7 +219,7 @@ may_jump hash v r =
 
 abbrev pub sync_view_table : Hash → SyncView → Replica → Table
 sync_view_table hash v r =
-    (not (is_from_primary v.cluster v.replica v.view r), Ignored)
+    (not (is_from_primary v.version v.cluster v.replica v.view r), Ignored)
     ∷ (may_jump hash v r && not (r.index == primary r.n v.view), Jumped)
     ∷ []
 
@@ -223,20 +227,20 @@ sync_view_table hash v r =
 
 abbrev pub get_prepare_table : Hash → GetPrepare → Replica → Table
 get_prepare_table hash g r =
-    (not (is_from g.cluster g.replica r), Ignored)
+    (not (is_from g.version g.cluster g.replica r), Ignored)
     ∷ (is_named hash g.name g.op r && is_here (part_at r g.op), EntryGiven)
     ∷ []
 
 abbrev pub give_prepare_table : GivePrepare → Replica → Table
 give_prepare_table g r =
     let h = g.entry.header in
-    (not (is_from h.cluster g.replica r), Ignored)
+    (not (is_from g.version h.cluster g.replica r), Ignored)
     ∷ (nat_lt r.checkpoint h.op && (is_known h h.op r && is_absent (part_at r h.op)), EntryTaken)
     ∷ []
 
 -- whether the block that is asked for reads under its name
 abbrev pub get_block_table : Bool → GetBlock → Replica → Table
-get_block_table reads g r = (not (is_from g.cluster g.replica r), Ignored) ∷ (reads, BlockGiven) ∷ []
+get_block_table reads g r = (not (is_from g.version g.cluster g.replica r), Ignored) ∷ (reads, BlockGiven) ∷ []
 
 -- the missing block of this address
 abbrev pub has_missing : (Name → Bool) → Replica → Bool
@@ -248,7 +252,7 @@ is_wanted is_block g name = (name.address == g.address) && is_block name g.block
 
 abbrev pub give_block_table : (Name → List ℕ → Bool) → GiveBlock → Replica → Table
 give_block_table is_block g r =
-    (not (is_from g.cluster g.replica r), Ignored)
+    (not (is_from g.version g.cluster g.replica r), Ignored)
     ∷ (has_missing (is_wanted is_block g) r, BlockTaken)
     ∷ (list_any (is_wanted is_block g) r.worn, BlockMended)
     ∷ []

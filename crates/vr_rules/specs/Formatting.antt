@@ -1,10 +1,10 @@
 -- The calls that make the data file of a new member.
-use Rattle.std.specs.Prelude.{ℕ, List, [], ◌∷◌, ◌++◌, map, replicate}
+use Rattle.std.specs.Prelude.{ℕ, ◌*◌, List, [], ◌∷◌, ◌++◌, map, replicate}
 use Rattle.std.specs.List.{range_with_len}
 use Rattle.vr_base.specs.Bytes.{name_of}
 use Rattle.vr_base.specs.declared.kind.Kind.{Kind}
 use Rattle.vr_disk.specs.DiskState.{Call, Write, Sync}
-use Rattle.vr_disk.specs.Regions.{header_place}
+use Rattle.vr_disk.specs.Regions.{header_place, prepare_place, prepare_sectors}
 use Rattle.vr_header.specs.declared.command.Command.TheVariants as command
 use Rattle.vr_header.specs.declared.header.Header.{Header}
 use Rattle.vr_header.specs.Names.{no_name}
@@ -31,12 +31,14 @@ reserved_header cluster slot = record {
   size = 128;
   command = command.Reserved;
   replica = 0;
+  version = 1;
   kind = 0;
   aux = 0;
 }
 
+-- of a file of version 1
 abbrev pub zero_prepares : List Call
-zero_prepares = map (λ i. Write i zero_sector) (range_with_len 144 256)
+zero_prepares = map (λ i. Write i zero_sector) (range_with_len (prepare_place 1 0) (64 * prepare_sectors 1))
 
 abbrev pub reserved_headers : ℕ → List Call
 reserved_headers cluster = map (λ slot. Write (header_place slot) (sector_of (reserved_header cluster slot))) (range_with_len 0 64)

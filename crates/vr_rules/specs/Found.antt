@@ -10,7 +10,7 @@ use Rattle.vr_rules.specs.Replica.{Replica, knows, part_at}
 
 -- of an op's header: it is that of an entry for it, of the value's last log view at most
 abbrev pub IsOf : SuperValue → ℕ → Header → Type 0
-IsOf v k h = IsHeader h × IsEntryAt v.fields.cluster v.fields.log_view k h
+IsOf v k h = IsHeader h × IsEntryAt v.fields.version v.fields.cluster v.fields.log_view k h
 
 -- what reads in a slot has the values that a header has
 pub record Reads (x : Slot) : Type 0 where

@@ -17,7 +17,7 @@ use Rattle.vr_ckpt.specs.ReplyBody.{ReplyBody}
 use Rattle.vr_ckpt.specs.ReplyBody.TheVariants as body
 use Rattle.vr_ckpt.specs.declared.name.Name.{Name}
 use Rattle.vr_rules.specs.declared.asker.Asker.{Asker}
-use Rattle.vr_rules.specs.Replica.{Replica, leads, head, run, run_start, statement_of}
+use Rattle.vr_rules.specs.Replica.{Replica, version, leads, head, run, run_start, statement_of}
 
 -- ---- outputs
 
@@ -40,31 +40,32 @@ to_primary message r = send_to (primary r.n r.view) (message r) r
 -- ---- messages, with present values
 
 abbrev pub prepare : Whole → Replica → Frame
-prepare e r = frame.Prepare (record { replica = r.index; view = r.view; commit = r.commit; entry = e })
+prepare e r = frame.Prepare (record { version = version r; replica = r.index; view = r.view; commit = r.commit; entry = e })
 
 -- the entry of this header is stored
 abbrev pub prepare_ok : (List ℕ → List ℕ) → Header → Replica → Frame
 prepare_ok hash h r =
-    frame.PrepareOk (record { cluster = r.cluster; replica = r.index; view = r.view; op = h.op; name = name_by hash h; made = h.view })
+    frame.PrepareOk (record { version = version r; cluster = r.cluster; replica = r.index; view = r.view; op = h.op; name = name_by hash h; made = h.view })
 
 abbrev pub commit_message : Replica → Frame
-commit_message r = frame.Commit (record { cluster = r.cluster; replica = r.index; view = r.view; head = head r; commit = r.commit })
+commit_message r = frame.Commit (record { version = version r; cluster = r.cluster; replica = r.index; view = r.view; head = head r; commit = r.commit })
 
 abbrev pub start_view_change : Replica → Frame
-start_view_change r = frame.StartViewChange (record { cluster = r.cluster; replica = r.index; view = r.view })
+start_view_change r = frame.StartViewChange (record { version = version r; cluster = r.cluster; replica = r.index; view = r.view })
 
 abbrev pub do_view_change : Replica → Frame
 do_view_change r =
-    frame.DoViewChange (record { cluster = r.cluster; replica = r.index; view = r.view; statement = statement_of r })
+    frame.DoViewChange (record { version = version r; cluster = r.cluster; replica = r.index; view = r.view; statement = statement_of r })
 
 abbrev pub start_view : Replica → Frame
 start_view r =
-    frame.StartView (record { cluster = r.cluster; replica = r.index; view = r.view; head = head r; commit = r.commit; body = record { lo = run_start r; headers = run r } })
+    frame.StartView (record { version = version r; cluster = r.cluster; replica = r.index; view = r.view; head = head r; commit = r.commit; body = record { lo = run_start r; headers = run r } })
 
 -- the checkpoint, and the log from below it
 abbrev pub sync_view : Replica → Frame
 sync_view r =
     frame.SyncView (record {
+      version = version r;
       cluster = r.cluster;
       replica = r.index;
       view = r.view;
@@ -77,29 +78,29 @@ sync_view r =
     })
 
 abbrev pub get_sync : ℕ → Replica → Frame
-get_sync view r = frame.GetSync (record { cluster = r.cluster; replica = r.index; view = view })
+get_sync view r = frame.GetSync (record { version = version r; cluster = r.cluster; replica = r.index; view = view })
 
 abbrev pub get_view : ℕ → Replica → Frame
-get_view view r = frame.GetView (record { cluster = r.cluster; replica = r.index; view = view })
+get_view view r = frame.GetView (record { version = version r; cluster = r.cluster; replica = r.index; view = view })
 
 abbrev pub get_prepare : (List ℕ → List ℕ) → Header → Replica → Frame
 get_prepare hash h r =
-    frame.GetPrepare (record { cluster = r.cluster; replica = r.index; op = h.op; name = name_by hash h; made = h.view })
+    frame.GetPrepare (record { version = version r; cluster = r.cluster; replica = r.index; op = h.op; name = name_by hash h; made = h.view })
 
 abbrev pub give_prepare : Whole → Replica → Frame
-give_prepare e r = frame.GivePrepare (record { replica = r.index; entry = e })
+give_prepare e r = frame.GivePrepare (record { version = version r; replica = r.index; entry = e })
 
 abbrev pub get_block : Name → Replica → Frame
-get_block name r = frame.GetBlock (record { cluster = r.cluster; replica = r.index; address = name.address; name = name.sum })
+get_block name r = frame.GetBlock (record { version = version r; cluster = r.cluster; replica = r.index; address = name.address; name = name.sum })
 
 abbrev pub give_block : ℕ → List ℕ → Replica → Frame
-give_block address block r = frame.GiveBlock (record { cluster = r.cluster; replica = r.index; address = address; block = block })
+give_block address block r = frame.GiveBlock (record { version = version r; cluster = r.cluster; replica = r.index; address = address; block = block })
 
 -- ---- lines and replies
 
 abbrev pub replies : Asker → ReplyKind → Replica → List Output
 replies a kind r =
-    output.Reply (record { cluster = r.cluster; replica = r.index; view = r.view; client = a.client; request = a.request; request_name = a.name; kind = kind })
+    output.Reply (record { version = version r; cluster = r.cluster; replica = r.index; view = r.view; client = a.client; request = a.request; request_name = a.name; kind = kind })
     ∷ []
 
 -- an entry's request

@@ -43,6 +43,10 @@ pub record Replica : Type 0 where
   pub worn : List Name  -- the checkpoint's blocks that were found bad when they were visited; the state has what was in them
   pub saved : SuperValue  -- the superblock's value as last saved or opened
 
+-- the version of its file, which its messages have, and the entries that it makes
+abbrev pub version : Replica → ℕ
+version r = r.saved.fields.version
+
 -- ---- of its place in the group
 
 abbrev pub replication : ℕ → ℕ

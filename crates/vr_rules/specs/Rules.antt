@@ -41,12 +41,12 @@ use Rattle.vr_rules.specs.declared.rule.Rule.TheVariants.{Ignored, Redirected, B
 -- ---- requests (rules 1 to 6)
 
 abbrev pub asker_by : Hash → RequestFields → Asker
-asker_by hash q = record { client = q.client; request = q.request; name = name_by hash (request_by hash q.cluster q.client q.request q.operation) }
+asker_by hash q = record { client = q.client; request = q.request; name = name_by hash (request_by hash q.version q.cluster q.client q.request q.operation) }
 
 -- the next entry, of this request
 unfoldable pub next_entry : Hash → RequestFields → Replica → Whole
 next_entry hash q r =
-    made_by hash (request_by hash q.cluster q.client q.request q.operation) q.operation r.view (head r + 1) (name_by hash (head_header hash r))
+    made_by hash (request_by hash q.version q.cluster q.client q.request q.operation) q.operation r.view (head r + 1) (name_by hash (head_header hash r))
 
 unfoldable pub make : {F : Type 0} → Whole → Word F
 make e = write e ⨾ says (send_to_all (prepare e)) ⨾ advance

@@ -10,7 +10,7 @@ use Rattle.vr_msg.specs.Numbers.{IsNumber}
 use Rattle.vr_msg.specs.Spelling.{AreHeaders, known}
 use Rattle.vr_ckpt.specs.Sessions.{HaveNumbers}
 use Rattle.vr_super.specs.Copies.{IsGood}
-use Rattle.vr_rules.specs.Replica.{Replica, head, header_at, is_here, part_at, window_end}
+use Rattle.vr_rules.specs.Replica.{Replica, version, head, header_at, is_here, part_at, window_end}
 
 -- checkpoint, applied, commit number, head and window stand in this order
 pub record IsOrdered (r : Replica) : Type 0 where
@@ -31,18 +31,18 @@ pub record IsListed (r : Replica) : Type 0 where
   -- no more than the last 64 ops up to the head are remembered
   pub few : head r < r.first + 64
 
--- the known header of an op is that of an entry of the group for it, made in a view up to the log's
+-- the known header of an op is that of an entry of the group for it, of a version that the file takes, made in a view up to the log's
 pub record KnowsEntries (r : Replica) : Type 0 where
-  pub each : (k : ℕ) (h : Header) → header_at r k ≡ Some h → IsHeader h × IsEntryAt r.cluster r.log_view k h
+  pub each : (k : ℕ) (h : Header) → header_at r k ≡ Some h → IsHeader h × IsEntryAt (version r) r.cluster r.log_view k h
 
--- what the others have stated is of a log of the group, of no later view
-pub record IsStated (cluster last : ℕ) (s : Statement) : Type 0 where
-  pub statement : IsStatement cluster s
+-- what the others have stated is of a log of the group, of entries of versions up to this one, of no later view
+pub record IsStated (v cluster last : ℕ) (s : Statement) : Type 0 where
+  pub statement : IsStatement v cluster s
   pub values : AreHeaders (known s.body.parts)
   pub view : s.log_view ≤ last
 
 pub record KnowsStatements (r : Replica) : Type 0 where
-  pub each : (i : ℕ) (s : Statement) → slice_index_or r.statements i None ≡ Some s → IsStated r.cluster r.view s
+  pub each : (i : ℕ) (s : Statement) → slice_index_or r.statements i None ≡ Some s → IsStated (version r) r.cluster r.view s
 
 pub record IsSound (r : Replica) : Type 0 where
   pub size : is_some (quorums_of r.n) ≡ true

@@ -99,19 +99,19 @@ if_err_then (Ok t) P Q f p = tt
 if_err_then (Err e) P Q f p = f e p
 
 -- an early end at a receive
-abbrev pub CutArrival : {S : Type 0} → Doing S → Halting S → At S → ℕ → (got got' : Option (List Arrival)) → End → Type 0
-CutArrival does halts a cluster got got' end =
-    (x : Arrival) × (l : Option Letter) × Grows got got' (x ∷ []) × Begins cluster x l × Cut does halts a (comes_of l) end
+abbrev pub CutArrival : {S : Type 0} → Doing S → Halting S → At S → ℕ → ℕ → (got got' : Option (List Arrival)) → End → Type 0
+CutArrival does halts a version cluster got got' end =
+    (x : Arrival) × (l : Option Letter) × Grows got got' (x ∷ []) × Begins version cluster x l × Cut does halts a (comes_of l) end
 
 -- an early end in a turn
-abbrev pub CutTurn : {S : Type 0} → Doing S → Halting S → At S → ℕ → ℕ → (got got' : Option (List Arrival)) → End → Type 0
-CutTurn does halts a cluster last got got' end =
-    (x : Turn) × Grows got got' (x.arrival ∷ []) × Begins cluster x.arrival x.letter × Cut does halts a (events_of last x) end
+abbrev pub CutTurn : {S : Type 0} → Doing S → Halting S → At S → ℕ → ℕ → ℕ → (got got' : Option (List Arrival)) → End → Type 0
+CutTurn does halts a version cluster last got got' end =
+    (x : Turn) × Grows got got' (x.arrival ∷ []) × Begins version cluster x.arrival x.letter × Cut does halts a (events_of last x) end
 
 -- nothing comes of a receive that failed
-pub failed_begins : (cluster : ℕ) (arrival : Arrival) (f : ReceiveFault) → Gives cluster arrival (Err f) → Begins cluster arrival None
-failed_begins cluster arrival received.Link gives = inr (inl gives, refl)
-failed_begins cluster arrival received.NoMemory gives = inr (inr gives, refl)
+pub failed_begins : (version cluster : ℕ) (arrival : Arrival) (f : ReceiveFault) → Gives version cluster arrival (Err f) → Begins version cluster arrival None
+failed_begins version cluster arrival received.Link gives = inr (inl gives, refl)
+failed_begins version cluster arrival received.NoMemory gives = inr (inr gives, refl)
 
 -- and it is no fault of the disk
 pub received_stop_spares : (f : ReceiveFault) → received_stop f ≢ stop.Disk

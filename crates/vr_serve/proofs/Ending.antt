@@ -49,10 +49,10 @@ pub put_spares : {T : Type 0} (w w' l l' : ℕ) (r : Result T Stop) (s : Stop) �
 put_spares w w' l l' r s is c e = let no : 0 ≡ one_more 0 = subst (λ x. 0 ≡ disk_after x 0) (is ∙ ap (λ x. Err x) e) c.disk in omega (arith, no)
 
 -- a receive that failed is told as such
-pub link_failed : (cluster : ℕ) (f : ReceiveFault) (old new : Option (List Arrival)) (arrival : Arrival) → Grows old new (arrival ∷ [])
-    → Gives cluster arrival (Err f) → received_stop f ≡ stop.Link → Grows old new (Failed ∷ [])
-link_failed cluster received.Link old new arrival grows gives is = subst (λ a. Grows old new (a ∷ [])) gives grows
-link_failed cluster received.NoMemory old new arrival grows gives is = absurd (let clash : stop.NoMemory ≡ stop.Link = is in cc)
+pub link_failed : (version cluster : ℕ) (f : ReceiveFault) (old new : Option (List Arrival)) (arrival : Arrival) → Grows old new (arrival ∷ [])
+    → Gives version cluster arrival (Err f) → received_stop f ≡ stop.Link → Grows old new (Failed ∷ [])
+link_failed version cluster received.Link old new arrival grows gives is = subst (λ a. Grows old new (a ∷ [])) gives grows
+link_failed version cluster received.NoMemory old new arrival grows gives is = absurd (let clash : stop.NoMemory ≡ stop.Link = is in cc)
 
 abbrev stop_in : {T : Type 0} → Result T Stop → Stop
 stop_in (Ok t) = stop.Link

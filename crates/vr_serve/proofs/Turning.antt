@@ -53,7 +53,7 @@ both (Ok t) P X Q f p x = f t p x
 both (Err e) P X Q f p x = tt
 
 -- so many turns are done, and the run stands at b
-pub record Serving {S : Type 0} (does : Doing S) (cluster count last : ℕ) (first : List Output) (member : S) (disk : Option Disk)
+pub record Serving {S : Type 0} (does : Doing S) (version cluster count last : ℕ) (first : List Output) (member : S) (disk : Option Disk)
     (left left' : Option (List ℕ)) (got got' : Option (List Arrival)) (t : Option (List ℕ)) (u : Option (List (Option Datagram))) (b : At S) : Type 0 where
   pub begins : ℕ
   pub turns : List Turn
@@ -61,17 +61,17 @@ pub record Serving {S : Type 0} (does : Doing S) (cluster count last : ℕ) (fir
   pub ticked : last ≡ last_of begins turns
   pub clock : Gives left (begins ∷ map (λ x. x.now) turns) left'
   pub received : Grows got got' (arrivals turns)
-  pub brought : AreTurns cluster turns
+  pub brought : AreTurns version cluster turns
   pub taken : Option (List ℕ)
   pub sent : Option (List (Option Datagram))
   pub puts : PutsFirst first t taken u sent
   pub passed : Passed does (begun_at member disk first taken sent) b (happened begins turns)
 
-pub serving_begins : {S : Type 0} (does : Doing S) (cluster last : ℕ) (first : List Output) (member : S) (disk : Option Disk)
+pub serving_begins : {S : Type 0} (does : Doing S) (version cluster last : ℕ) (first : List Output) (member : S) (disk : Option Disk)
     (left left' : Option (List ℕ)) (got got' : Option (List Arrival)) (t t' : Option (List ℕ)) (u u' : Option (List (Option Datagram)))
     (number : ℕ) (clients : List Client) → PutsFirst first t t' u u' → number ≡ numbers_after 0 first → clients ≡ [] → GivesNext left left' last
-    → got' ≡ got → Serving does cluster 0 last first member disk left left' got got' t u (at member disk number clients t' u')
-serving_begins does cluster last first member disk left left' got got' t t' u u' number clients puts numbered none next same = record {
+    → got' ≡ got → Serving does version cluster 0 last first member disk left left' got got' t u (at member disk number clients t' u')
+serving_begins does version cluster last first member disk left left' got got' t t' u u' number clients puts numbered none next same = record {
   begins = last;
   turns = [];
   counted = refl;
@@ -85,26 +85,26 @@ serving_begins does cluster last first member disk left left' got got' t t' u u'
   passed = passed_none does (begun_at member disk first t' u') number clients numbered none;
 }
 
-brought_turn : (cluster : ℕ) (turns : List Turn) (turn : Turn) → AreTurns cluster turns → Brings cluster turn.arrival turn.letter
-    → AreTurns cluster (turns ++ turn ∷ [])
-brought_turn cluster turns turn b new =
+brought_turn : (version cluster : ℕ) (turns : List Turn) (turn : Turn) → AreTurns version cluster turns → Brings version cluster turn.arrival turn.letter
+    → AreTurns version cluster (turns ++ turn ∷ [])
+brought_turn version cluster turns turn b new =
     rw (map_append (λ (x : Turn). x.arrival) turns (turn ∷ []), map_append (λ (x : Turn). x.letter) turns (turn ∷ []))
-    (brought_more cluster (arrivals turns) (letters turns) turn.arrival turn.letter b new)
+    (brought_more version cluster (arrivals turns) (letters turns) turn.arrival turn.letter b new)
 
-pub serving_more : {S : Type 0} (does : Doing S) (cluster count last after : ℕ) (first : List Output) (member : S) (disk : Option Disk)
+pub serving_more : {S : Type 0} (does : Doing S) (version cluster count last after : ℕ) (first : List Output) (member : S) (disk : Option Disk)
     (left left' left'' : Option (List ℕ)) (got got' got'' : Option (List Arrival)) (t : Option (List ℕ)) (u : Option (List (Option Datagram)))
-    (b c : At S) (turn : Turn) → Serving does cluster count last first member disk left left' got got' t u b
-    → after ≡ last_after last turn.now → Grows got' got'' (turn.arrival ∷ []) → Brings cluster turn.arrival turn.letter
+    (b c : At S) (turn : Turn) → Serving does version cluster count last first member disk left left' got got' t u b
+    → after ≡ last_after last turn.now → Grows got' got'' (turn.arrival ∷ []) → Brings version cluster turn.arrival turn.letter
     → GivesNext left' left'' turn.now → Passed does b c (events_of last turn)
-    → Serving does cluster (count + 1) after first member disk left left'' got got'' t u c
-serving_more does cluster count last after first member disk left left' left'' got got' got'' t u b c turn s is more new next passed = record {
+    → Serving does version cluster (count + 1) after first member disk left left'' got got'' t u c
+serving_more does version cluster count last after first member disk left left' left'' got got' got'' t u b c turn s is more new next passed = record {
   begins = s.begins;
   turns = s.turns ++ turn ∷ [];
   counted = length_more s.turns turn ∙ ap (λ n. n + 1) s.counted;
   ticked = is ∙ (ap (λ n. last_after n turn.now) s.ticked ∙ sym (last_more s.begins s.turns turn));
   clock = rw (map_append (λ (x : Turn). x.now) s.turns (turn ∷ [])) (gives_more left left' left'' (s.begins ∷ map (λ x. x.now) s.turns) turn.now s.clock next);
   received = rw (map_append (λ (x : Turn). x.arrival) s.turns (turn ∷ [])) (grows_trans got got' got'' (arrivals s.turns) (turn.arrival ∷ []) s.received more);
-  brought = brought_turn cluster s.turns turn s.brought new;
+  brought = brought_turn version cluster s.turns turn s.brought new;
   taken = s.taken;
   sent = s.sent;
   puts = s.puts;
@@ -112,12 +112,12 @@ serving_more does cluster count last after first member disk left left' left'' g
       (events_of (last_of s.begins s.turns) turn) s.passed (rw (sym s.ticked) passed));
 }
 
-pub served : {S : Type 0} (does : Doing S) (cluster count last : ℕ) (first : List Output) (member member' : S) (disk disk' : Option Disk)
+pub served : {S : Type 0} (does : Doing S) (version cluster count last : ℕ) (first : List Output) (member member' : S) (disk disk' : Option Disk)
     (left left' : Option (List ℕ)) (got got' : Option (List Arrival)) (t t' : Option (List ℕ)) (u u' : Option (List (Option Datagram)))
     (number : ℕ) (clients : List Client)
-    → Serving does cluster count last first member disk left left' got got' t u (at member' disk' number clients t' u')
-    → IsServed does cluster count first member member' disk disk' left left' got got' t t' u u'
-served does cluster count last first member member' disk disk' left left' got got' t t' u u' number clients s = record {
+    → Serving does version cluster count last first member disk left left' got got' t u (at member' disk' number clients t' u')
+    → IsServed does version cluster count first member member' disk disk' left left' got got' t t' u u'
+served does version cluster count last first member member' disk disk' left left' got got' t t' u u' number clients s = record {
   begins = s.begins;
   turns = s.turns;
   counted = s.counted;
@@ -133,12 +133,12 @@ served does cluster count last first member member' disk disk' left left' got go
 }
 
 -- an early end in the turn behind these
-pub serving_cut : {S : Type 0} (does : Doing S) (halts : Halting S) (cluster count last limit : ℕ) (first : List Output) (member : S) (disk : Option Disk)
+pub serving_cut : {S : Type 0} (does : Doing S) (halts : Halting S) (version cluster count last limit : ℕ) (first : List Output) (member : S) (disk : Option Disk)
     (left left' : Option (List ℕ)) (got got' got'' : Option (List Arrival)) (t : Option (List ℕ)) (u : Option (List (Option Datagram)))
-    (b : At S) (turn : Turn) (end : End) → Serving does cluster count last first member disk left left' got got' t u b → count < limit
-    → Grows got' got'' (turn.arrival ∷ []) → Begins cluster turn.arrival turn.letter → Cut does halts b (events_of last turn) end
-    → IsCutInTurn does halts cluster limit first member disk got got'' t u end
-serving_cut does halts cluster count last limit first member disk left left' got got' got'' t u b turn end s lt more begun cut = record {
+    (b : At S) (turn : Turn) (end : End) → Serving does version cluster count last first member disk left left' got got' t u b → count < limit
+    → Grows got' got'' (turn.arrival ∷ []) → Begins version cluster turn.arrival turn.letter → Cut does halts b (events_of last turn) end
+    → IsCutInTurn does halts version cluster limit first member disk got got'' t u end
+serving_cut does halts version cluster count last limit first member disk left left' got got' got'' t u b turn end s lt more begun cut = record {
   begins = s.begins;
   turns = s.turns;
   last = turn;

@@ -84,10 +84,10 @@ arrivals turns = map (λ t. t.arrival) turns
 abbrev pub letters : List Turn → List (Option Letter)
 letters turns = map (λ t. t.letter) turns
 
--- the turns are those of a member of this group
-abbrev pub AreTurns : ℕ → List Turn → Type 0
-AreTurns cluster turns = AreBrought cluster (arrivals turns) (letters turns)
+-- the turns are those of a member of this version and group
+abbrev pub AreTurns : ℕ → ℕ → List Turn → Type 0
+AreTurns version cluster turns = AreBrought version cluster (arrivals turns) (letters turns)
 
 -- what a turn that was cut off began with: nothing comes of a receive that failed, or for whose message memory was short
-abbrev pub Begins : ℕ → Arrival → Option Letter → Type 0
-Begins cluster arrival letter = Brings cluster arrival letter ⊎ (((arrival ≡ Failed) ⊎ IsMessage arrival) × (letter ≡ None))
+abbrev pub Begins : ℕ → ℕ → Arrival → Option Letter → Type 0
+Begins version cluster arrival letter = Brings version cluster arrival letter ⊎ (((arrival ≡ Failed) ⊎ IsMessage arrival) × (letter ≡ None))

@@ -11,12 +11,12 @@ with_arrivals (t ∷ ts) [] = []
 with_arrivals (t ∷ ts) (a ∷ others) = record t { arrival = a } ∷ with_arrivals ts others
 
 -- the same events come of turns in which nothing comes in the place of datagrams that are refused
-pub record HaveSame (cluster begins : ℕ) (turns stilled : List Turn) : Type 0 where
-  pub brought : AreTurns cluster stilled
+pub record HaveSame (version cluster begins : ℕ) (turns stilled : List Turn) : Type 0 where
+  pub brought : AreTurns version cluster stilled
   pub events : happened begins stilled ≡ happened begins turns
   pub numbers : map (λ t. t.now) stilled ≡ map (λ t. t.now) turns
 
 abbrev pub RefusedChangeNothing : Type 0
 RefusedChangeNothing =
-    (cluster begins : ℕ) (turns : List Turn) (others : List Arrival) → AreTurns cluster turns → AreStilled cluster (arrivals turns) others
-    → HaveSame cluster begins turns (with_arrivals turns others)
+    (version cluster begins : ℕ) (turns : List Turn) (others : List Arrival) → AreTurns version cluster turns → AreStilled version cluster (arrivals turns) others
+    → HaveSame version cluster begins turns (with_arrivals turns others)

@@ -142,14 +142,14 @@ abbrev pub begun_at : {S : Type 0} → S → Option Disk → List Output → Opt
 begun_at member disk first taken sent = at member disk (numbers_after 0 first) [] taken sent
 
 -- a run of a member that ended well: the first outputs, and then the events of so many turns
-pub record IsServed {S : Type 0} (does : Doing S) (cluster count : ℕ) (first : List Output) (member member' : S) (disk disk' : Option Disk)
+pub record IsServed {S : Type 0} (does : Doing S) (version cluster count : ℕ) (first : List Output) (member member' : S) (disk disk' : Option Disk)
     (left left' : Option (List ℕ)) (got got' : Option (List Arrival)) (t t' : Option (List ℕ)) (u u' : Option (List (Option Datagram))) : Type 0 where
   pub begins : ℕ  -- the clock's first number
   pub turns : List Turn
   pub counted : length turns ≡ count
   pub clock : Gives left (begins ∷ map (λ x. x.now) turns) left'
   pub received : Grows got got' (arrivals turns)
-  pub brought : AreTurns cluster turns
+  pub brought : AreTurns version cluster turns
   pub taken : Option (List ℕ)
   pub sent : Option (List (Option Datagram))
   pub puts : PutsFirst first t taken u sent
@@ -158,15 +158,15 @@ pub record IsServed {S : Type 0} (does : Doing S) (cluster count : ℕ) (first :
   pub passed : Passed does (begun_at member disk first taken sent) (at member' disk' number clients t' u') (happened begins turns)
 
 -- a run that was cut off in a turn
-pub record IsCutInTurn {S : Type 0} (does : Doing S) (halts : Halting S) (cluster count : ℕ) (first : List Output) (member : S) (disk : Option Disk)
+pub record IsCutInTurn {S : Type 0} (does : Doing S) (halts : Halting S) (version cluster count : ℕ) (first : List Output) (member : S) (disk : Option Disk)
     (got got' : Option (List Arrival)) (t : Option (List ℕ)) (u : Option (List (Option Datagram))) (end : End) : Type 0 where
   pub begins : ℕ
   pub turns : List Turn
   pub last : Turn
   pub counted : length turns < count
   pub received : Grows got got' (arrivals turns ++ last.arrival ∷ [])
-  pub brought : AreTurns cluster turns
-  pub begun : Begins cluster last.arrival last.letter
+  pub brought : AreTurns version cluster turns
+  pub begun : Begins version cluster last.arrival last.letter
   pub taken : Option (List ℕ)
   pub sent : Option (List (Option Datagram))
   pub puts : PutsFirst first t taken u sent

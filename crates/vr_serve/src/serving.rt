@@ -14,6 +14,7 @@ use crate::post::Post;
 use crate::stop::received_stop;
 use crate::{Member, Stop};
 use std::alloc::Global;
+use vr_base::Version;
 use vr_disk::SectorDisk;
 use vr_edge::{Clock, Link, Sink};
 use vr_mail::receive_letter;
@@ -23,6 +24,7 @@ use vr_msg::{Event, Outbox};
 #[tactic(auto, using(crate::proofs::Ending::causes_none, crate::proofs::Ending::causes_later, crate::proofs::Ending::causes_received))]
 fn arrive<M: Member, D: SectorDisk, K: Sink, L: Link>(
     alloc: Global,
+    version: Version,
     cluster: u64,
     member: &mut M,
     disk: &mut D,
@@ -35,17 +37,17 @@ fn arrive<M: Member, D: SectorDisk, K: Sink, L: Link>(
     ensures causes { HasCauses (counts (D.faults disk.old) (K.faults sink.old) (L.faults link.old)) (counts (D.faults disk.new) (K.faults sink.new) (L.faults link.new)) result }
     ensures linked { result ≡ Err Stop.Link → Grows (L.received link.old) (L.received link.new) (Failed ∷ []) }
     ensures passed { OnOk result ((arrival : Arrival) × (letter : Option Letter) × Grows (L.received link.old) (L.received link.new) (arrival ∷ [])
-        × Brings cluster arrival letter × Passed M.does
+        × Brings version cluster arrival letter × Passed M.does
         (at member.old (D.told disk.old) post.old.number post.old.clients.items (K.taken sink.old) (L.sent link.old))
         (at member.new (D.told disk.new) post.new.number post.new.clients.items (K.taken sink.new) (L.sent link.new))
         (comes_of letter)) }
     ensures cut { IfErr result (λ why. (arrival : Arrival) × (letter : Option Letter) × Grows (L.received link.old) (L.received link.new) (arrival ∷ [])
-        × Begins cluster arrival letter × Cut M.does M.halts
+        × Begins version cluster arrival letter × Cut M.does M.halts
         (at member.old (D.told disk.old) post.old.number post.old.clients.items (K.taken sink.old) (L.sent link.old))
         (comes_of letter) (end_at why (D.told disk.new) (K.taken sink.new) (L.sent link.new))) }
     ensures attached { L.attached link.new ≡ L.attached link.old }
 {
-    match receive_letter(alloc, link, cluster, &mut post.to) {
+    match receive_letter(alloc, link, version, cluster, &mut post.to) {
         Ok(Some(letter)) => {
             let event = event_of(letter.message);
             let handled = handle(alloc, member, disk, sink, link, post, letter.port, &event);
@@ -98,6 +100,7 @@ fn beat<M: Member, D: SectorDisk, K: Sink, L: Link>(
 #[tactic(auto, using(crate::proofs::Ending::causes_none, crate::proofs::Ending::causes_later, crate::proofs::Ending::causes_received))]
 fn turn<M: Member, D: SectorDisk, K: Sink, L: Link, C: Clock>(
     alloc: Global,
+    version: Version,
     cluster: u64,
     member: &mut M,
     disk: &mut D,
@@ -112,19 +115,19 @@ fn turn<M: Member, D: SectorDisk, K: Sink, L: Link, C: Clock>(
     ensures causes { HasCauses (counts (D.faults disk.old) (K.faults sink.old) (L.faults link.old)) (counts (D.faults disk.new) (K.faults sink.new) (L.faults link.new)) result }
     ensures linked { result ≡ Err Stop.Link → Grows (L.received link.old) (L.received link.new) (Failed ∷ []) }
     ensures turned { IfOk result (λ after. (turn : Turn) × (after ≡ last_after last turn.now)
-        × Grows (L.received link.old) (L.received link.new) (turn.arrival ∷ []) × Brings cluster turn.arrival turn.letter
+        × Grows (L.received link.old) (L.received link.new) (turn.arrival ∷ []) × Brings version cluster turn.arrival turn.letter
         × GivesNext (C.left clock.old) (C.left clock.new) turn.now
         × Passed M.does
         (at member.old (D.told disk.old) post.old.number post.old.clients.items (K.taken sink.old) (L.sent link.old))
         (at member.new (D.told disk.new) post.new.number post.new.clients.items (K.taken sink.new) (L.sent link.new))
         (events_of last turn)) }
     ensures cut { IfErr result (λ why. (turn : Turn) × Grows (L.received link.old) (L.received link.new) (turn.arrival ∷ [])
-        × Begins cluster turn.arrival turn.letter × Cut M.does M.halts
+        × Begins version cluster turn.arrival turn.letter × Cut M.does M.halts
         (at member.old (D.told disk.old) post.old.number post.old.clients.items (K.taken sink.old) (L.sent link.old))
         (events_of last turn) (end_at why (D.told disk.new) (K.taken sink.new) (L.sent link.new))) }
     ensures attached { L.attached link.new ≡ L.attached link.old }
 {
-    arrive(alloc, cluster, member, disk, sink, link, post)?;
+    arrive(alloc, version, cluster, member, disk, sink, link, post)?;
     let now = clock.now();
     beat(alloc, member, disk, sink, link, post, last, now)
 }
@@ -133,6 +136,7 @@ fn turn<M: Member, D: SectorDisk, K: Sink, L: Link, C: Clock>(
 #[tactic(auto, using(crate::proofs::Ending::causes_none, crate::proofs::Ending::causes_later, crate::proofs::Ending::causes_received))]
 pub fn serve<M: Member, D: SectorDisk, K: Sink, L: Link, C: Clock>(
     alloc: Global,
+    version: Version,
     cluster: u64,
     member: &mut M,
     first: Outbox,
@@ -146,9 +150,9 @@ pub fn serve<M: Member, D: SectorDisk, K: Sink, L: Link, C: Clock>(
     ensures running { OnOk result (M.runs member.new ≡ true) }
     ensures causes { HasCauses (counts (D.faults disk.old) (K.faults sink.old) (L.faults link.old)) (counts (D.faults disk.new) (K.faults sink.new) (L.faults link.new)) result }
     ensures linked { result ≡ Err Stop.Link → EndsFailed (L.received link.old) (L.received link.new) }
-    ensures done { OnOk result (IsServed M.does cluster turns first member.old member.new (D.told disk.old) (D.told disk.new) (C.left clock.old) (C.left clock.new) (L.received link.old) (L.received link.new) (K.taken sink.old) (K.taken sink.new) (L.sent link.old) (L.sent link.new)) }
+    ensures done { OnOk result (IsServed M.does version cluster turns first member.old member.new (D.told disk.old) (D.told disk.new) (C.left clock.old) (C.left clock.new) (L.received link.old) (L.received link.new) (K.taken sink.old) (K.taken sink.new) (L.sent link.old) (L.sent link.new)) }
     ensures cut { IfErr result (λ why. IsCutBefore first (D.told disk.old) (L.received link.old) (L.received link.new) (K.taken sink.old) (L.sent link.old) (end_at why (D.told disk.new) (K.taken sink.new) (L.sent link.new))
-        ⊎ IsCutInTurn M.does M.halts cluster turns first member.old (D.told disk.old) (L.received link.old) (L.received link.new) (K.taken sink.old) (L.sent link.old) (end_at why (D.told disk.new) (K.taken sink.new) (L.sent link.new))) }
+        ⊎ IsCutInTurn M.does M.halts version cluster turns first member.old (D.told disk.old) (L.received link.old) (L.received link.new) (K.taken sink.old) (L.sent link.old) (end_at why (D.told disk.new) (K.taken sink.new) (L.sent link.new))) }
     ensures attached { L.attached link.new ≡ L.attached link.old }
 {
     let mut post = Post::new(alloc)?;
@@ -156,7 +160,7 @@ pub fn serve<M: Member, D: SectorDisk, K: Sink, L: Link, C: Clock>(
     let mut last = clock.now();
     for _ in 0..turns {
         last = turn(
-            alloc, cluster, member, disk, sink, link, clock, &mut post, last,
+            alloc, version, cluster, member, disk, sink, link, clock, &mut post, last,
         )?;
     }
     Ok(())

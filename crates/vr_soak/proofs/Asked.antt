@@ -1,6 +1,6 @@
 -- Each line that is drawn is of the group, and its request can be asked.
-use Rattle.std.proofs.Common.{◌≡◌, ◌+◌, ◌-◌, ◌%◌, ◌<◌, ◌≤◌, ◌^◌, ◌==◌, ◌∙◌, min, zero, suc, ℕ, List, [], ◌∷◌, ◌++◌, length, get_or, Bool, true, false, refl, ap, sym, subst, arith}
-use Rattle.std.specs.Prelude.{nat_lt, slice_index, if◌then◌else◌}
+use Rattle.std.proofs.Common.{◌≡◌, ◌%◌, ◌<◌, ◌^◌, ◌==◌, ◌∙◌, zero, suc, ℕ, List, [], ◌∷◌, ◌++◌, length, false, refl, ap, arith}
+use Rattle.std.specs.Prelude.{nat_lt, slice_index}
 use Rattle.std.specs.List.{AllByRecursion, filter_map}
 use Rattle.std.proofs.lemmas.Bool.{cond_both}
 use Rattle.std.proofs.lemmas.Bool.Decides.{nat_tests}
@@ -8,31 +8,28 @@ use Rattle.vr_header.specs.Bodies.{IsOperation}
 use Rattle.vr_header.specs.declared.operation.Operation.{Operation}
 use Rattle.vr_header.specs.declared.operation.Operation.TheVariants as operation
 use Rattle.vr_lines.specs.declared.line.Line.{Line}
-use Rattle.vr_lines.specs.declared.line.Line.TheVariants as line
 use Rattle.vr_lines.specs.Fits.{IsLineOf}
-use Rattle.vr_world.specs.Fit.{IsAsked}
+use Rattle.vr_lines.specs.Versions.{schedule_version}
 use Rattle.vr_group.specs.Headline.{HasAsked, HaveAsked}
 use Rattle.vr_group.specs.Lines.{AreLinesOf}
 use Rattle.vr_msg.specs.declared.output.Output.{Output}
-use Rattle.vr_draws.proofs.Texts.{key_text, value_text}
+use Rattle.vr_draws.proofs.Fitting.{operation_fits}
 use Rattle.vr_draws.specs.Asking.{answers, next_behind, next_request, next_requests}
 use Rattle.vr_draws.specs.Draws.{Drawn, after_draws, draw}
-use Rattle.vr_draws.specs.Drawn.{at_replica, at_sector, drawn_asking, drawn_delivery, drawn_kind, drawn_line, drawn_operation, drawn_request, key, value}
-use Rattle.vr_soak.specs.Made.{Made, come_to, line_after, made, with_line}
+use Rattle.vr_draws.specs.Drawn.{drawn_asking, drawn_delivery, drawn_kind, drawn_line, drawn_operation, drawn_request}
+use Rattle.vr_soak.specs.Made.{come_to, line_after, made}
 
 -- ---- operations
 
 abbrev IsOther : Drawn Operation → Type 0
-IsOther d = IsOperation d.value × (d.value ≡ operation.Register → ⊥)
+IsOther d = d.value ≡ operation.Register → ⊥
 
-operation_fits : (x : ℕ) → IsOther (drawn_operation x)
+no_session : (x : ℕ) → IsOther (drawn_operation x)
 unfolding drawn_operation
-operation_fits x =
-    cond_both (draw x 1 % 3 == 0) _ _ IsOther (λ e. ((key_text (draw x 2), value_text (draw x 3)), λ h. absurd (cc h)))
-    (λ e. cond_both (draw x 1 % 3 == 1) _ _ IsOther (λ e. (key_text (draw x 2), λ h. absurd (cc h))) (λ e. (key_text (draw x 2), λ h. absurd (cc h))))
+no_session x = cond_both (draw x 1 % 3 == 0) _ _ IsOther (λ e h. absurd (cc h)) (λ e. cond_both (draw x 1 % 3 == 1) _ _ IsOther (λ e h. absurd (cc h)) (λ e h. absurd (cc h)))
 
 record IsAskable (number : ℕ) (d : Drawn Operation) : Type 0 where
-  valid : IsOperation d.value
+  valid : IsOperation schedule_version d.value
   first : d.value ≡ operation.Register → number ≡ 0
   only : number ≡ 0 → d.value ≡ operation.Register
 
@@ -42,8 +39,8 @@ asking_fits number x =
     cond_both (number == 0) _ _ (IsAskable number)
     (λ e. record { valid = tt; first = λ h. grind (arith, nat_tests); only = λ h. refl })
     (λ e.
-    let o = operation_fits x in
-    record { valid = o.0; first = λ h. absurd (o.1 h); only = λ h. absurd (let t : (number == 0) ≡ false = e in grind (arith, nat_tests)) })
+    let other = no_session x in
+    record { valid = operation_fits schedule_version x; first = λ h. absurd (other h); only = λ h. absurd (let t : (number == 0) ≡ false = e in grind (arith, nat_tests)) })
 
 -- ---- lines
 
@@ -58,7 +55,10 @@ request_fits n next x some small =
     let client = draw x 2 % 4 in
     let number = slice_index next client in
     let a = asking_fits number (after_draws x 2) in
-    record { of = omega (arith, some); asked = (record { form = (a.first, a.only); client = omega arith; request = small client; operation = a.valid }, omega arith) }
+    record {
+      of = omega (arith, some);
+      asked = (record { form = record { first = (a.first, a.only); fits = a.valid }; client = omega arith; request = small client; version = (omega arith, omega arith) }, omega arith);
+    }
 
 delivery_fits : (n count x : ℕ) → 0 < n → Fits n (drawn_delivery count x)
 unfolding drawn_delivery

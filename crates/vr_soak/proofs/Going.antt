@@ -7,7 +7,7 @@ use Rattle.vr_base.specs.Bytes.{name_of}
 use Rattle.vr_base.specs.Kinds.{strict}
 use Rattle.vr_draws.specs.Asking.{next_requests}
 use Rattle.vr_draws.specs.Draws.{Drawn}
-use Rattle.vr_draws.specs.Drawn.{drawn_line, drawn_size}
+use Rattle.vr_draws.specs.Drawn.{drawn_line}
 use Rattle.vr_lines.specs.Fits.{IsLineOf}
 use Rattle.vr_lines.specs.declared.line.Line.{Line}
 use Rattle.vr_world.specs.Lying.{Lying, hazards}
@@ -18,10 +18,9 @@ use Rattle.vr_group.specs.Outputs.{numbered, outputs_of, plain, text_of}
 use Rattle.vr_group.specs.declared.outputs.Outputs.{Outputs}
 use Rattle.vr_group.proofs.Goings.{grows_one, happen_append, happen_one, messages_append, numbered_append}
 use Rattle.vr_group.specs.Views.{top_view}
-use Rattle.vr_soak.specs.declared.heard.Heard.{Heard}
 use Rattle.vr_soak.specs.declared.soaking.Soaking.{Soaking}
 use Rattle.vr_soak.specs.Heard.{HasHeard, Hears}
-use Rattle.vr_soak.specs.Made.{Made, come_to, line_after, made, size_of, with_line}
+use Rattle.vr_soak.specs.Made.{Made, come_to, line_after, made, with_line}
 use Rattle.vr_soak.specs.declared.summary.Summary.{Summary}
 use Rattle.vr_soak.specs.Soaking.{IsSoaking}
 use Rattle.vr_soak.specs.Summing.{is_commit, is_done, is_kept_out, summary_of}

@@ -1,7 +1,6 @@
 -- One more output is heard, and more of them.
 use Rattle.std.proofs.Common.{zero, suc, ◌≡◌, ◌+◌, ◌<◌, ◌≤◌, ℕ, Bool, refl, ap, sym, ◌∙◌, arith, List, [], ◌∷◌, ◌++◌, length, take, take_all, get_or, map, append_assoc, subst}
 use Rattle.std.specs.Prelude.{count_by}
-use Rattle.std.specs.List.{fold}
 use Rattle.std.proofs.lemmas.List.{append-nil, length-map, map-append}
 use Rattle.std.proofs.lemmas.List.Sums.{sum_by_push}
 use Rattle.sha2.specs.Hashers.{Holds256}
@@ -14,11 +13,11 @@ use Rattle.vr_group.proofs.Numbering.{text_append}
 use Rattle.vr_group.specs.declared.outputs.Outputs.{Outputs}
 use Rattle.vr_group.specs.declared.outputs.Put.{Put}
 use Rattle.vr_group.specs.declared.outputs.Put.TheVariants.{Message, Other}
-use Rattle.vr_group.specs.Outputs.{Numbered, numbered, outputs_of, plain, put_as, put_of, text_of, with_number}
+use Rattle.vr_group.specs.Outputs.{Numbered, numbered, plain, put_as, put_of, text_of}
 use Rattle.vr_world.specs.Outputs.{message_of}
 use Rattle.vr_soak.specs.declared.heard.Heard.{Heard}
 use Rattle.vr_soak.specs.declared.summary.Faults.{Faults}
-use Rattle.vr_soak.specs.Heard.{Counts, HasCounted, HasHeard, Hears, HearsPuts, one_if}
+use Rattle.vr_soak.specs.Heard.{Counts, HasCounted, Hears, HearsPuts, one_if}
 use Rattle.vr_soak.specs.Summing.{is_commit, is_done, is_kept_out}
 
 pub plain_numbered : (m : ℕ) (os : List Output) → plain (numbered m os) ≡ os

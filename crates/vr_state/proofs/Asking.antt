@@ -4,6 +4,7 @@ use Rattle.std.specs.Option.{option_map_or}
 use Rattle.std.specs.Ordering.{nat_cmp}
 use Rattle.std.proofs.lemmas.Bool.{eqb-true, eq-eqb, and_from, or_left, true≢false, cases_eq}
 use Rattle.std.proofs.lemmas.List.Sums.{fold-append}
+use Rattle.vr_base.specs.Versions.{session_limit}
 use Rattle.vr_state.specs.Finite.{find, put, without}
 use Rattle.vr_state.specs.declared.session.Session.{Session}
 use Rattle.vr_state.specs.declared.session.SessionAnswer.TheVariants.{Fresh, Repeat, Old, Gap, Evicted}
@@ -80,14 +81,14 @@ over : (m : Map) (a : Asked) → Over m a
 unfolding applied
 over m a =
     let with = put nat_cmp a.client (stored a) in
-    let by : (room there : Bool) → nat_lt (length m) 32 ≡ room → is_some (find nat_cmp a.client m) ≡ there → Over m a = elim [
+    let by : (room there : Bool) → nat_lt (length m) (session_limit a.version) ≡ room → is_some (find nat_cmp a.client m) ≡ there → Over m a = elim [
       | true ↦ λ there r t. record { rest = m; is = ap (λ b. cond b (with m) (cond (is_some (find nat_cmp a.client m)) (with m) (with (without_oldest m)))) r; others = λ q. inl refl }
       | false ↦ elim [
         | true ↦ λ r t. record { rest = m; is = rw (r, t) refl; others = λ q. inl refl }
         | false ↦ λ r t. record { rest = without_oldest m; is = rw (r, t) refl; others = given_way m }
       ]
     ] in
-    by (nat_lt (length m) 32) (is_some (find nat_cmp a.client m)) refl refl
+    by (nat_lt (length m) (session_limit a.version)) (is_some (find nat_cmp a.client m)) refl refl
 
 own_after : (m : Map) (a : Asked) → find nat_cmp a.client (applied m a) ≡ Some (stored a)
 own_after m a = let o = over m a in ap (find nat_cmp a.client) o.is ∙ find_put_own o.rest a.client (stored a)

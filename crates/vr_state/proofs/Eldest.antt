@@ -15,7 +15,7 @@ pub All_append : {X : Type 0} (P : X → Type 0) (xs ys : List X) → AllByRecur
 All_append P [] ys h g = g
 All_append P (x ∷ xs) ys h g = (h.0, All_append P xs ys h.1 g)
 
-All_weaker : {X : Type 0} (P Q : X → Type 0) → ((x : X) → P x → Q x) → (xs : List X) → AllByRecursion P xs → AllByRecursion Q xs
+pub All_weaker : {X : Type 0} (P Q : X → Type 0) → ((x : X) → P x → Q x) → (xs : List X) → AllByRecursion P xs → AllByRecursion Q xs
 All_weaker P Q f [] h = tt
 All_weaker P Q f (x ∷ xs) h = (f x h.0, All_weaker P Q f xs h.1)
 

@@ -1,6 +1,7 @@
--- The 129th key, a key that is absent, and the three faults of a text, computed.
-use Rattle.std.proofs.Common.{◌≡◌, ℕ, zero, suc, ◌+◌, ◌/◌, ◌%◌, List, [], ◌∷◌, ◌++◌, length, Ok, Err, refl}
+-- The 129th key, a key that is absent, values of each version, and the three faults of a text, computed.
+use Rattle.std.proofs.Common.{◌≡◌, ℕ, zero, suc, ◌+◌, ◌/◌, ◌%◌, List, [], ◌∷◌, ◌++◌, length, map, replicate, true, false, Ok, Err, refl}
 use Rattle.vr_base.specs.Bytes.{bytes16}
+use Rattle.vr_base.specs.Versions.{value_limit}
 use Rattle.vr_header.specs.Text.{is_text}
 use Rattle.vr_header.specs.declared.operation.Operation.{Operation}
 use Rattle.vr_header.specs.declared.operation.Operation.TheVariants.{Put, Get}
@@ -37,6 +38,24 @@ no_such_key = refl
 there_and_back : kv_decoded (kv_text (machine_after (puts 3))) ≡ Ok (machine_after (puts 3))
 unfolding puts applied putting table_text pair_text bytes16 decoded count_from number_from read_on pair_from pieces_from byte_from piece_from is_text
 there_and_back = refl
+
+-- values of 1,024 and 1,025 bytes, of 3,000 and 3,001, in version 1 and in version 2
+values_of_1 : map (λ n. is_text (value_limit 1) (replicate n 118)) (1024 ∷ 1025 ∷ 3000 ∷ 3001 ∷ []) ≡ true ∷ false ∷ false ∷ false ∷ []
+unfolding is_text
+values_of_1 = refl
+
+values_of_2 : map (λ n. is_text (value_limit 2) (replicate n 118)) (1024 ∷ 1025 ∷ 3000 ∷ 3001 ∷ []) ≡ true ∷ true ∷ true ∷ false ∷ []
+unfolding is_text
+values_of_2 = refl
+
+-- key a with a value of 3,000 bytes is read, and with one of 3,001 it is torn
+longest : kv_decoded (0 ∷ 1 ∷ 1 ∷ 11 ∷ 184 ∷ 97 ∷ replicate 3000 118) ≡ Ok ((97 ∷ [], replicate 3000 118) ∷ [])
+unfolding decoded count_from number_from read_on pair_from pieces_from byte_from piece_from is_text
+longest = refl
+
+too_long : kv_decoded (0 ∷ 1 ∷ 1 ∷ 11 ∷ 185 ∷ 97 ∷ replicate 3001 118) ≡ Err Torn
+unfolding decoded count_from number_from read_on pair_from pieces_from byte_from piece_from is_text
+too_long = refl
 
 cut : kv_decoded (0 ∷ 1 ∷ 1 ∷ 0 ∷ 2 ∷ 97 ∷ 122 ∷ []) ≡ Err Torn
 unfolding decoded count_from number_from read_on pair_from pieces_from byte_from piece_from is_text

@@ -8,6 +8,7 @@ use Rattle.std.specs.Cmp.Lexicographic.{nat_list_cmp_total}
 use Rattle.std.specs.FinMap.Entries.{by_order, where_key, is_sorted-put, is_sorted-where_key, length-put}
 use Rattle.std.proofs.lemmas.Bool.{lt-ltb, le-ltb, ltb-true, cond_both}
 use Rattle.std.specs.FinMap.{slice_cmp-IsAntisymmetric, nat_cmp-IsAntisymmetric}
+use Rattle.vr_base.specs.Versions.{value_limit}
 use Rattle.vr_header.specs.Text.{is_text}
 use Rattle.vr_header.specs.declared.outcome.Outcome.TheVariants as outcome
 use Rattle.vr_state.specs.Finite.{byte_order, find, put, without, IsMap}
@@ -123,13 +124,13 @@ key_fits m key i kv at =
     subst (λ k. is_text 64 k ≡ true) there (fits_at m kv.fit i ([], []) at.in_range).key
 
 module _ (m : Map) (key : List ℕ) (i : ℕ) (kv : IsKv m) where
-  pub IsKv-replaced : IsAt byte_order key m i → (v : List ℕ) (e : List ℕ × List ℕ) → e ≡ get_or m i e → is_text 1024 v ≡ true → IsKv (set m i (e.0, v))
+  pub IsKv-replaced : IsAt byte_order key m i → (v : List ℕ) (e : List ℕ × List ℕ) → e ≡ get_or m i e → is_text (value_limit 2) v ≡ true → IsKv (set m i (e.0, v))
   IsKv-replaced at v e is text =
       subst IsKv (ap (λ (a : Answered). a.machine) (replaced m key i kv.is_map at v e is)) (IsKv-putting m key v kv (record { key = key_fits m key i kv at; value = text }))
 
   pub IsKv-removed : IsAt byte_order key m i → IsKv (remove m i)
   IsKv-removed at = subst IsKv (ap (λ (a : Answered). a.machine) (deleted m key i kv.is_map at)) (IsKv-deleting m key kv)
 
-  pub IsKv-inserted : IsGap byte_order key m i → (v : List ℕ) → is_text 64 key ≡ true → is_text 1024 v ≡ true → length m < 128 → IsKv (insert m i (key, v))
+  pub IsKv-inserted : IsGap byte_order key m i → (v : List ℕ) → is_text 64 key ≡ true → is_text (value_limit 2) v ≡ true → length m < 128 → IsKv (insert m i (key, v))
   IsKv-inserted gap v key_text text room =
       subst IsKv (ap (λ (a : Answered). a.machine) (inserted m key i gap v room)) (IsKv-putting m key v kv (record { key = key_text; value = text }))

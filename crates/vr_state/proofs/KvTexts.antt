@@ -7,6 +7,7 @@ use Rattle.std.proofs.lemmas.Bool.{and_parts, leb-true}
 use Rattle.std.proofs.lemmas.List.{append_assoc, length-append, at_drop_more, at_drop_all}
 use Rattle.vr_base.specs.Bytes.{IsBytes, bytes16}
 use Rattle.vr_base.proofs.FieldLaws.{length-bytes16}
+use Rattle.vr_base.specs.Versions.{value_limit}
 use Rattle.vr_header.specs.Text.{is_text}
 use Rattle.vr_state.specs.Front.{byte_from, number_from, piece_from}
 use Rattle.vr_state.specs.declared.fault.StateFault.{StateFault}
@@ -15,7 +16,7 @@ use Rattle.vr_state.proofs.Fronts.{byte_reads, byte_only, number_reads, number_o
 use Rattle.vr_state.proofs.Tables.{IsReader, decoded-table_text, table_text-one, decoded_first, decoded_found}
 use Rattle.vr_state.specs.Finite.{byte_order}
 use Rattle.vr_state.specs.Kv.{Map, IsKv}
-use Rattle.vr_state.specs.Pairs.{Fits, pair_text, pieces_from, pair_from, kv_text, kv_decoded}
+use Rattle.vr_state.specs.Pairs.{Fits, pair_text, pair_bytes, pieces_from, pair_from, kv_text, kv_bytes, kv_decoded}
 
 pub is_text_length : (limit : ℕ) (bytes : List ℕ) → is_text limit bytes ≡ true → length bytes ≤ limit
 unfolding is_text
@@ -24,8 +25,8 @@ is_text_length limit bytes h = leb-true (length bytes) limit (and_parts _ _ (and
 pub key_length : (bytes : List ℕ) → is_text 64 bytes ≡ true → length bytes ≤ 64
 key_length bytes h = is_text_length 64 bytes h
 
-pub value_length : (bytes : List ℕ) → is_text 1024 bytes ≡ true → length bytes ≤ 1024
-value_length bytes h = is_text_length 1024 bytes h
+pub value_length : (bytes : List ℕ) → is_text (value_limit 2) bytes ≡ true → length bytes ≤ value_limit 2
+value_length bytes h = is_text_length (value_limit 2) bytes h
 
 -- what a look-up that goes on gave
 and_then_some : {A B : Type 0} (f : A → Option B) (o : Option A) (y : B) → option_and_then f o ≡ Some y → (x : A) × (o ≡ Some x) × (f x ≡ Some y)
@@ -77,28 +78,36 @@ pair_only : (bytes : List ℕ) → IsBytes bytes → (e : List ℕ × List ℕ) 
 unfolding pair_from
 pair_only bytes are e rest is =
     let p = and_then_some _ (pieces_from bytes) (e, rest) is in
-    let key = chosen (is_text 64 p.0.0.0) (cond (is_text 1024 p.0.0.1) (Some p.0) None) (e, rest) p.2 in
-    let value = chosen (is_text 1024 p.0.0.1) (Some p.0) (e, rest) key.1 in
+    let key = chosen (is_text 64 p.0.0.0) (cond (is_text (value_limit 2) p.0.0.1) (Some p.0) None) (e, rest) p.2 in
+    let value = chosen (is_text (value_limit 2) p.0.0.1) (Some p.0) (e, rest) key.1 in
     let whole = same_some p.0 (e, rest) value.1 in
     let is_key : p.0.0.0 ≡ e.0 = ap (λ (p : (List ℕ × List ℕ) × List ℕ). p.0.0) whole in
     let is_value : p.0.0.1 ≡ e.1 = ap (λ (p : (List ℕ × List ℕ) × List ℕ). p.0.1) whole in
-    (record { key = ap (is_text 64) (sym is_key) ∙ key.0; value = ap (is_text 1024) (sym is_value) ∙ value.0 }, pieces_only bytes are e rest (p.1 ∙ value.1))
+    (record { key = ap (is_text 64) (sym is_key) ∙ key.0; value = ap (is_text (value_limit 2)) (sym is_value) ∙ value.0 }, pieces_only bytes are e rest (p.1 ∙ value.1))
 
 pub pair_reader : IsReader pair_text Fits pair_from
 pair_reader = record { reads = pair_reads; only = pair_only }
 
-length-pair_text : (e : List ℕ × List ℕ) → Fits e → length (pair_text e) ≤ 1091
+length-pair_text : (e : List ℕ × List ℕ) → Fits e → length (pair_text e) ≤ pair_bytes
 unfolding pair_text
 length-pair_text e fits = simp (length-append, length-bytes16) (omega (arith, key_length e.0 fits.key, value_length e.1 fits.value))
 
-length-pairs : (m : Map) → AllByRecursion Fits m → length (flat_map pair_text m) ≤ 1091 * length m
+-- as the code counts them
+pub length_of_pair : (e : List ℕ × List ℕ) → length (pair_text e) ≡ 3 + (length e.0 + length e.1)
+unfolding pair_text
+length_of_pair e = simp (length-append, length-bytes16) (omega arith)
+
+length-pairs : (m : Map) → AllByRecursion Fits m → length (flat_map pair_text m) ≤ pair_bytes * length m
 length-pairs [] h = omega arith
 length-pairs (e ∷ es) h = simp length-append (omega (arith, length-pair_text e h.0, length-pairs es h.1))
 
--- the text of a machine has at most 139,650 bytes
-pub length-kv_text : (m : Map) → IsKv m → length (kv_text m) ≤ 139650
+-- so much are all texts, without their count
+pub pairs_bound : (m : Map) → IsKv m → 2 + length (flat_map pair_text m) ≤ kv_bytes
+pairs_bound m kv = omega (arith, length-pairs m kv.fit, kv.few)
+
+pub length-kv_text : (m : Map) → IsKv m → length (kv_text m) ≤ kv_bytes
 unfolding table_text
-length-kv_text m kv = simp (length-append, length-bytes16) (omega (arith, length-pairs m kv.fit, kv.few))
+length-kv_text m kv = simp (length-append, length-bytes16) (omega (arith, pairs_bound m kv))
 
 -- a machine is read back from its text
 pub kv_decoded-kv_text : (m : Map) → IsKv m → kv_decoded (kv_text m) ≡ Ok m
@@ -125,3 +134,10 @@ pairs_text_more m i d within = at_drop_more (flat_map pair_text) m i d within
 
 pub pairs_text_all : (m : Map) (i : ℕ) → length m ≤ i → flat_map pair_text (drop i m) ≡ []
 pairs_text_all m i past = at_drop_all (flat_map pair_text) m i past
+
+-- their bytes, one step on and at the end
+pub pairs_length_more : (m : Map) (i : ℕ) (d : List ℕ × List ℕ) → i < length m → length (flat_map pair_text (drop i m)) ≡ length (pair_text (get_or m i d)) + length (flat_map pair_text (drop (i + 1) m))
+pairs_length_more m i d within = ap length (pairs_text_more m i d within) ∙ length-append (pair_text (get_or m i d)) (flat_map pair_text (drop (i + 1) m))
+
+pub pairs_length_all : (m : Map) (i : ℕ) → length m ≤ i → length (flat_map pair_text (drop i m)) ≡ 0
+pairs_length_all m i past = ap length (pairs_text_all m i past)

@@ -11,6 +11,7 @@ pub mod Asking
 pub mod Eldest
 pub mod Lookups
 pub mod SessionNumbers
+pub mod Fitting
 pub mod Spelled
 pub mod SessionSteps
 pub mod Values

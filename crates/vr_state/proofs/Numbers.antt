@@ -1,15 +1,11 @@
 -- Numbers of entries in the sessions of a state.
-use Rattle.std.proofs.Common.{◌≡◌, ◌≤◌, Result, Ok, Err, refl, subst}
+use Rattle.std.proofs.Common.{◌≡◌, ◌≤◌, Ok, Err, refl, subst}
 use Rattle.vr_header.specs.Made.{Whole}
-use Rattle.vr_state.specs.Kv as kv
 use Rattle.vr_state.specs.Pairs.{kv_decoded}
-use Rattle.vr_state.specs.declared.fault.StateFault.{StateFault}
 use Rattle.vr_state.specs.declared.session.SessionAnswer.TheVariants as answer
-use Rattle.vr_state.specs.Sessions as sess
 use Rattle.vr_state.specs.Sessions.{HaveNumbers, last_op}
 use Rattle.vr_state.specs.SessionTexts.{sessions_decoded}
 use Rattle.vr_state.proofs.SessionNumbers.{decoded_numbers, numbers_applied}
-use Rattle.vr_state.specs.declared.texts.Texts.{Texts}
 use Rattle.vr_state.specs.declared.state.State.{State}
 use Rattle.vr_state.specs.Folds.{check, asked, applied, answered, executed}
 use Rattle.vr_state.specs.StateTexts.{TextsHaveNumbers, both_read}

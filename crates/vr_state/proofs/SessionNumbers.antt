@@ -1,14 +1,16 @@
--- Sessions whose ops are numbers of entries.
+-- What is true of each session stays so; that their ops are numbers of entries.
 use Rattle.std.proofs.Common.{ℕ, zero, suc, ◌≤◌, ◌≡◌, List, [], ◌∷◌, ◌++◌, Option, Some, None, Result, Ok, Err, is_some, Bool, true, false, leb, ltb, cond, length, not, refl, subst}
 use Rattle.std.specs.List.{AllByRecursion}
-use Rattle.std.specs.Option.{option_and_then, option_map_or}
+use Rattle.std.specs.Option.{option_map_or}
 use Rattle.std.specs.Ordering.{nat_cmp, eq_by_cmp}
 use Rattle.std.specs.Int.{w32, w64}
 use Rattle.std.specs.declared.cmp.Ordering.TheVariants.{Less, Equal, Greater}
 use Rattle.std.specs.FinMap.Entries.{by_order, where_key}
 use Rattle.std.proofs.lemmas.Bool.{cond_both, leb-true}
+use Rattle.vr_base.specs.Versions.{session_limit}
 use Rattle.vr_state.specs.declared.fault.StateFault.{StateFault}
 use Rattle.vr_state.specs.declared.fault.StateFault.TheVariants.{NotSorted, Torn}
+use Rattle.vr_state.specs.Effects.{stored}
 use Rattle.vr_state.specs.Finite.{find, is_sorted, put, without}
 use Rattle.vr_state.specs.Front.{number_from}
 use Rattle.vr_state.specs.Table.{count_from, counted, decoded, read_on}
@@ -21,39 +23,40 @@ use Rattle.vr_state.proofs.Spelled.{and_then_some, chosen}
 abbrev IsOfNumber : ℕ × Session → Type 0
 IsOfNumber s = s.1.op ≤ last_op
 
-kept_put : (key : ℕ) (s : Session) (m : Map) → AllByRecursion IsOfNumber m → s.op ≤ last_op → AllByRecursion IsOfNumber (put nat_cmp key s m)
-kept_put key s [] h f = (f, tt)
-kept_put key s (e ∷ es) h f =
-    elim (nat_cmp key e.0) as (λ o. AllByRecursion IsOfNumber (by_order o ((key, s) ∷ e ∷ es) ((e.0, s) ∷ es) (e ∷ put nat_cmp key s es))) [
-      | Less ↦ (f, h)
-      | Equal ↦ (f, h.1)
-      | Greater ↦ (h.0, kept_put key s es h.1 f)
-    ]
+-- what is true of each session, and of the one that is stored
+module _ (P : Session → Type 0) where
+  kept_put : (key : ℕ) (s : Session) (m : Map) → AllByRecursion (λ e. P e.1) m → P s → AllByRecursion (λ e. P e.1) (put nat_cmp key s m)
+  kept_put key s [] h f = (f, tt)
+  kept_put key s (e ∷ es) h f =
+      elim (nat_cmp key e.0) as (λ o. AllByRecursion (λ e. P e.1) (by_order o ((key, s) ∷ e ∷ es) ((e.0, s) ∷ es) (e ∷ put nat_cmp key s es))) [
+        | Less ↦ (f, h)
+        | Equal ↦ (f, h.1)
+        | Greater ↦ (h.0, kept_put key s es h.1 f)
+      ]
 
-kept_where : (p : ℕ → Bool) (m : Map) → AllByRecursion IsOfNumber m → AllByRecursion IsOfNumber (where_key nat_cmp p m)
-kept_where p [] h = tt
-kept_where p (e ∷ es) h = cond_both (p e.0) (e ∷ where_key nat_cmp p es) (where_key nat_cmp p es) (AllByRecursion IsOfNumber) (λ t. (h.0, kept_where p es h.1)) (λ f. kept_where p es h.1)
+  kept_where : (p : ℕ → Bool) (m : Map) → AllByRecursion (λ e. P e.1) m → AllByRecursion (λ e. P e.1) (where_key nat_cmp p m)
+  kept_where p [] h = tt
+  kept_where p (e ∷ es) h = cond_both (p e.0) (e ∷ where_key nat_cmp p es) (where_key nat_cmp p es) (AllByRecursion (λ e. P e.1)) (λ t. (h.0, kept_where p es h.1)) (λ f. kept_where p es h.1)
 
-kept_oldest : (m : Map) (o : Option (ℕ × ℕ)) → AllByRecursion IsOfNumber m → AllByRecursion IsOfNumber (option_map_or (λ d. without nat_cmp d.0 m) o m)
-kept_oldest m None h = h
-kept_oldest m (Some d) h = kept_where (λ x. not (eq_by_cmp nat_cmp d.0 x)) m h
+  kept_oldest : (m : Map) (o : Option (ℕ × ℕ)) → AllByRecursion (λ e. P e.1) m → AllByRecursion (λ e. P e.1) (option_map_or (λ d. without nat_cmp d.0 m) o m)
+  kept_oldest m None h = h
+  kept_oldest m (Some d) h = kept_where (λ x. not (eq_by_cmp nat_cmp d.0 x)) m h
 
-kept_applied : (m : Map) (a : Asked) → AllByRecursion IsOfNumber m → a.op ≤ last_op → AllByRecursion IsOfNumber (applied m a)
-unfolding applied without_oldest
-kept_applied m a h f =
-    let s : Session = record { number = a.request; op = a.op; outcome = a.outcome } in
-    let there = put nat_cmp a.client s m in
-    let instead = put nat_cmp a.client s (without_oldest m) in
-    cond_both (ltb (length m) 32) there (cond (is_some (find nat_cmp a.client m)) there instead) (AllByRecursion IsOfNumber)
-    (λ t. kept_put a.client s m h f)
-    (λ t. cond_both (is_some (find nat_cmp a.client m)) there instead (AllByRecursion IsOfNumber)
-    (λ t. kept_put a.client s m h f)
-    (λ t. kept_put a.client s (without_oldest m) (kept_oldest m (oldest m) h) f))
+  pub kept_applied : (m : Map) (a : Asked) → AllByRecursion (λ e. P e.1) m → P (stored a) → AllByRecursion (λ e. P e.1) (applied m a)
+  unfolding applied without_oldest
+  kept_applied m a h f =
+      let there = put nat_cmp a.client (stored a) m in
+      let instead = put nat_cmp a.client (stored a) (without_oldest m) in
+      cond_both (ltb (length m) (session_limit a.version)) there (cond (is_some (find nat_cmp a.client m)) there instead) (AllByRecursion (λ e. P e.1))
+      (λ t. kept_put a.client (stored a) m h f)
+      (λ t. cond_both (is_some (find nat_cmp a.client m)) there instead (AllByRecursion (λ e. P e.1))
+      (λ t. kept_put a.client (stored a) m h f)
+      (λ t. kept_put a.client (stored a) (without_oldest m) (kept_oldest m (oldest m) h) f))
 
 -- a stored request keeps them
 pub numbers_applied : (m : Map) (a : Asked) → HaveNumbers m → a.op ≤ last_op → HaveNumbers (applied m a)
 unfolding HaveNumbers
-numbers_applied m a h f = kept_applied m a h f
+numbers_applied m a h f = kept_applied (λ s. s.op ≤ last_op) m a h f
 
 numbers_fit : (m : Map) → AllByRecursion Fits m → HaveNumbers m
 unfolding HaveNumbers
@@ -105,7 +108,7 @@ read_numbers (suc n) done bytes m h e =
 pub decoded_numbers : (bytes : List ℕ) (m : Map) → sessions_decoded bytes ≡ Ok m → HaveNumbers m
 unfolding decoded HaveNumbers
 decoded_numbers bytes m e =
-    elim (count_from 32 bytes) as (λ o. counted nat_cmp session_from o ≡ Ok m → AllByRecursion IsOfNumber m) [
+    elim (count_from (session_limit 2) bytes) as (λ o. counted nat_cmp session_from o ≡ Ok m → AllByRecursion IsOfNumber m) [
       | Ok r ↦ λ k. read_numbers r.0 [] r.1 m tt k
       | Err fault ↦ λ k. absurd cc
     ] e

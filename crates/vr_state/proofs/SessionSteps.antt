@@ -8,12 +8,18 @@ use Rattle.std.specs.Cmp.{nat_cmp_total, unsigned_ties, alike_right}
 use Rattle.std.specs.FinMap.{nat_cmp-IsAntisymmetric}
 use Rattle.std.specs.FinMap.Entries.{by_order, where_key, is_sorted-put, is_sorted-where_key, find-put, find-where_key, length-put, length_without, same_entries}
 use Rattle.std.proofs.lemmas.Bool.{lt-ltb, le-ltb, eq-eqb, ne_eqb, cond_both, true≢false, eqb-true, ltb-true, ltb-false}
+use Rattle.vr_base.specs.Versions.{session_limit}
+use Rattle.vr_base.proofs.Versions.{between}
 use Rattle.vr_state.specs.Finite.{find, put, without, IsMap}
 use Rattle.vr_state.proofs.Maps.{T_true, true_T}
 use Rattle.vr_state.specs.declared.session.Session.{Session}
 use Rattle.vr_state.specs.Effects.{stored, Keeps, Effect}
 use Rattle.vr_state.specs.Sessions.{Map, Asked, oldest, without_oldest, applied, Fits, IsSessions, IsOldest}
 use Rattle.vr_state.proofs.Eldest.{oldest_found, find_among}
+
+-- a version leaves at least one session, and none leaves more than version 2
+pub limit_of : (v : ℕ) → (1 ≤ session_limit v) × (session_limit v ≤ session_limit 2)
+limit_of v = let l = between v 32 64 (omega arith) in (omega (arith, l), l.1)
 
 own : (key : ℕ) → eq_by_cmp nat_cmp key key ≡ true
 own key = sym (unsigned_ties key key) ∙ eq-eqb key key refl
@@ -39,7 +45,7 @@ find_without_other m key q n = find-without m key q ∙ ap (λ b. cond (not b) (
 pub IsMap-put : (m : Map) (key : ℕ) (s : Session) → IsMap nat_cmp m → IsMap nat_cmp (put nat_cmp key s m)
 IsMap-put m key s h = true_T _ (is_sorted-put nat_cmp nat_cmp_total key s m (T_true _ h))
 
-IsMap-without : (m : Map) (key : ℕ) → IsMap nat_cmp m → IsMap nat_cmp (without nat_cmp key m)
+pub IsMap-without : (m : Map) (key : ℕ) → IsMap nat_cmp m → IsMap nat_cmp (without nat_cmp key m)
 IsMap-without m key h = true_T _ (is_sorted-where_key nat_cmp _ m (T_true _ h))
 
 -- to put one client's and take another's out is one in either order
@@ -73,27 +79,27 @@ fit_where : (p : ℕ → Bool) (m : Map) → AllByRecursion Fits m → AllByRecu
 fit_where p [] h = tt
 fit_where p (e ∷ es) h = cond_both (p e.0) (e ∷ where_key nat_cmp p es) (where_key nat_cmp p es) (AllByRecursion Fits) (λ t. (h.0, fit_where p es h.1)) (λ f. fit_where p es h.1)
 
-length_put : (m : Map) (key : ℕ) (s : Session) → IsMap nat_cmp m → length (put nat_cmp key s m) ≡ cond (is_some (find nat_cmp key m)) (length m) (length m + 1)
+pub length_put : (m : Map) (key : ℕ) (s : Session) → IsMap nat_cmp m → length (put nat_cmp key s m) ≡ cond (is_some (find nat_cmp key m)) (length m) (length m + 1)
 length_put m key s h = length-put nat_cmp nat_cmp_total key s m (T_true _ h)
 
 -- a client more where there is room, or one that is there
-IsSessions-put : (m : Map) (key : ℕ) (s : Session) → IsSessions m → Fits (key, s) → cond (is_some (find nat_cmp key m)) (length m) (length m + 1) ≤ 32 → IsSessions (put nat_cmp key s m)
+IsSessions-put : (m : Map) (key : ℕ) (s : Session) → IsSessions m → Fits (key, s) → cond (is_some (find nat_cmp key m)) (length m) (length m + 1) ≤ session_limit 2 → IsSessions (put nat_cmp key s m)
 IsSessions-put m key s held f room = record { is_map = IsMap-put m key s held.is_map; fit = fit_put key s m held.fit f; few = rw (length_put m key s held.is_map) room }
 
 module _ (m : Map) (a : Asked) (held : IsSessions m) (f : Fits (a.client, stored a)) where
-  module _ (room : length m < 32) where
+  module _ (room : length m < session_limit a.version) where
     pub room_applied : put nat_cmp a.client (stored a) m ≡ applied m a
     unfolding applied
-    room_applied = sym (ap (λ b. cond b (put nat_cmp a.client (stored a) m) (cond (is_some (find nat_cmp a.client m)) (put nat_cmp a.client (stored a) m) (put nat_cmp a.client (stored a) (without_oldest m)))) (lt-ltb (length m) 32 room))
+    room_applied = sym (ap (λ b. cond b (put nat_cmp a.client (stored a) m) (cond (is_some (find nat_cmp a.client m)) (put nat_cmp a.client (stored a) m) (put nat_cmp a.client (stored a) (without_oldest m)))) (lt-ltb (length m) (session_limit a.version) room))
 
     pub room_held : IsSessions (put nat_cmp a.client (stored a) m)
-    room_held = IsSessions-put m a.client (stored a) held f (cond_both (is_some (find nat_cmp a.client m)) (length m) (length m + 1) (λ n. n ≤ 32) (λ t. omega arith) (λ t. omega arith))
+    room_held = IsSessions-put m a.client (stored a) held f (cond_both (is_some (find nat_cmp a.client m)) (length m) (length m + 1) (λ n. n ≤ session_limit 2) (λ t. omega (arith, held.few)) (λ t. omega (arith, limit_of a.version)))
 
-  module _ (full : 32 ≤ length m) where
+  module _ (full : session_limit a.version ≤ length m) where
     module _ (there : is_some (find nat_cmp a.client m) ≡ true) where
       pub there_applied : put nat_cmp a.client (stored a) m ≡ applied m a
       unfolding applied
-      there_applied = rw (le-ltb (length m) 32 full, there) refl
+      there_applied = rw (le-ltb (length m) (session_limit a.version) full, there) refl
 
       pub there_held : IsSessions (put nat_cmp a.client (stored a) m)
       there_held = IsSessions-put m a.client (stored a) held f (rw there held.few)
@@ -101,7 +107,7 @@ module _ (m : Map) (a : Asked) (held : IsSessions m) (f : Fits (a.client, stored
     module _ (absent : is_some (find nat_cmp a.client m) ≡ false) (gone op : ℕ) (found : oldest m ≡ Some (gone, op)) where
       is_oldest : IsOldest m gone
       is_oldest =
-          let o = oldest_found m (omega (arith, full)) in
+          let o = oldest_found m (omega (arith, full, limit_of a.version)) in
           let same : o.client ≡ gone = ap (λ (x : Option (ℕ × ℕ)). option_map_or (λ (p : ℕ × ℕ). p.0) x gone) (sym o.found ∙ found) in
           subst (IsOldest m) same o.is
 
@@ -113,7 +119,7 @@ module _ (m : Map) (a : Asked) (held : IsSessions m) (f : Fits (a.client, stored
 
       pub evicted_applied : without nat_cmp gone (put nat_cmp a.client (stored a) m) ≡ applied m a
       unfolding applied without_oldest
-      evicted_applied = put_without m a.client (stored a) gone held.is_map apart ∙ sym (rw (le-ltb (length m) 32 full, absent, found) refl)
+      evicted_applied = put_without m a.client (stored a) gone held.is_map apart ∙ sym (rw (le-ltb (length m) (session_limit a.version) full, absent, found) refl)
 
       pub evicted_held : IsSessions (without nat_cmp gone (put nat_cmp a.client (stored a) m))
       evicted_held =
@@ -122,11 +128,11 @@ module _ (m : Map) (a : Asked) (held : IsSessions m) (f : Fits (a.client, stored
           let shorter : 1 + length (without nat_cmp gone m) ≡ length m = sym (ap (λ b. cond b 1 0 + length (without nat_cmp gone m)) there) ∙ one_less in
           let left : IsSessions (without nat_cmp gone m) = record { is_map = IsMap-without m gone held.is_map; fit = fit_where _ m held.fit; few = omega (arith, held.few) } in
           rw (put_without m a.client (stored a) gone held.is_map apart)
-          (IsSessions-put (without nat_cmp gone m) a.client (stored a) left f (cond_both (is_some (find nat_cmp a.client (without nat_cmp gone m))) (length (without nat_cmp gone m)) (length (without nat_cmp gone m) + 1) (λ n. n ≤ 32) (λ t. omega (arith, held.few)) (λ t. omega (arith, held.few))))
+          (IsSessions-put (without nat_cmp gone m) a.client (stored a) left f (cond_both (is_some (find nat_cmp a.client (without nat_cmp gone m))) (length (without nat_cmp gone m)) (length (without nat_cmp gone m) + 1) (λ n. n ≤ session_limit 2) (λ t. omega (arith, held.few)) (λ t. omega (arith, held.few))))
 
       pub evicted_effect : Effect m (without nat_cmp gone (put nat_cmp a.client (stored a) m)) a
       evicted_effect = inr (record {
-        full = omega (arith, held.few);
+        full = full;
         absent = none (find nat_cmp a.client m) absent;
         evicted = gone;
         oldest = is_oldest;
@@ -139,10 +145,10 @@ module _ (m : Map) (a : Asked) (held : IsSessions m) (f : Fits (a.client, stored
           none None e = refl
           none (Some s) e = absurd (true≢false e)
 
--- there is an oldest where 32 are there
-pub full_has_oldest : (m : Map) → 32 ≤ length m → oldest m ≡ None → ⊥
-full_has_oldest m full none =
-    let o = oldest_found m (omega (arith, full)) in
+-- there is an oldest where as many are there as a version leaves
+pub full_has_oldest : (v : ℕ) (m : Map) → session_limit v ≤ length m → oldest m ≡ None → ⊥
+full_has_oldest v m full none =
+    let o = oldest_found m (omega (arith, full, limit_of v)) in
     true≢false (sym (ap is_some (sym none ∙ o.found)))
 
 keeps : (m : Map) (a : Asked) → Keeps m (put nat_cmp a.client (stored a) m) a
@@ -151,13 +157,13 @@ keeps m a = record { own = find_put_own m a.client (stored a); others = λ q n. 
 -- what is applied has its effect
 pub applied_effect : (m : Map) (a : Asked) → IsSessions m → Fits (a.client, stored a) → Effect m (applied m a) a
 applied_effect m a held f =
-    let by : (room there : Bool) → ltb (length m) 32 ≡ room → is_some (find nat_cmp a.client m) ≡ there → Effect m (applied m a) a = elim [
-      | true ↦ λ there r t. subst (λ n. Effect m n a) (room_applied m a held f (ltb-true (length m) 32 r)) (inl (keeps m a))
+    let by : (room there : Bool) → ltb (length m) (session_limit a.version) ≡ room → is_some (find nat_cmp a.client m) ≡ there → Effect m (applied m a) a = elim [
+      | true ↦ λ there r t. subst (λ n. Effect m n a) (room_applied m a held f (ltb-true (length m) (session_limit a.version) r)) (inl (keeps m a))
       | false ↦ elim [
-        | true ↦ λ r t. subst (λ n. Effect m n a) (there_applied m a held f (ltb-false (length m) 32 r) t) (inl (keeps m a))
+        | true ↦ λ r t. subst (λ n. Effect m n a) (there_applied m a held f (ltb-false (length m) (session_limit a.version) r) t) (inl (keeps m a))
         | false ↦ λ r t.
-            let o = oldest_found m (omega (arith, ltb-false (length m) 32 r)) in
-            subst (λ n. Effect m n a) (evicted_applied m a held f (ltb-false (length m) 32 r) t o.client o.op o.found) (evicted_effect m a held f (ltb-false (length m) 32 r) t o.client o.op o.found)
+            let o = oldest_found m (omega (arith, ltb-false (length m) (session_limit a.version) r, limit_of a.version)) in
+            subst (λ n. Effect m n a) (evicted_applied m a held f (ltb-false (length m) (session_limit a.version) r) t o.client o.op o.found) (evicted_effect m a held f (ltb-false (length m) (session_limit a.version) r) t o.client o.op o.found)
       ]
     ] in
-    by (ltb (length m) 32) (is_some (find nat_cmp a.client m)) refl refl
+    by (ltb (length m) (session_limit a.version)) (is_some (find nat_cmp a.client m)) refl refl

@@ -1,5 +1,5 @@
 -- A session is read back from its text, and so are all together.
-use Rattle.std.proofs.Common.{◌≡◌, ℕ, ◌*◌, ◌^◌, ◌<◌, ◌≤◌, List, [], ◌∷◌, ◌++◌, length, Option, Some, None, Ok, Bool, true, false, eqb, leb, cond, refl, sym, ◌∙◌, ap, subst, arith}
+use Rattle.std.proofs.Common.{◌≡◌, ℕ, ◌+◌, ◌*◌, ◌^◌, ◌<◌, ◌≤◌, List, [], ◌∷◌, ◌++◌, length, Option, Some, None, Ok, Bool, true, false, eqb, leb, cond, refl, sym, ◌∙◌, ap, subst, arith}
 use Rattle.std.specs.List.{AllByRecursion, flat_map}
 use Rattle.std.specs.Option.{option_and_then}
 use Rattle.std.specs.Ordering.{nat_cmp}
@@ -8,6 +8,7 @@ use Rattle.std.proofs.lemmas.Bool.{eqb-true, leb-true, le-leb}
 use Rattle.std.proofs.lemmas.List.{append_assoc, length-append}
 use Rattle.vr_base.specs.Bytes.{IsBytes, bytes16, bytes32, bytes64}
 use Rattle.vr_base.proofs.FieldLaws.{length-bytes16, length-bytes32, length-bytes64}
+use Rattle.vr_base.specs.Versions.{session_limit, value_limit}
 use Rattle.vr_header.specs.Bodies.{outcome_bytes}
 use Rattle.vr_header.specs.Text.{is_text, text_of}
 use Rattle.vr_header.specs.declared.outcome.Outcome.{Outcome}
@@ -19,7 +20,7 @@ use Rattle.vr_state.proofs.Fronts.{byte_reads, byte_only, number_reads, number_o
 use Rattle.vr_state.proofs.Tables.{IsReader, decoded-table_text, table_text-one, decoded_first, decoded_found}
 use Rattle.vr_state.specs.declared.session.Session.{Session}
 use Rattle.vr_state.specs.Sessions.{Map, OutcomeFits, Fits, IsSessions, last_op}
-use Rattle.vr_state.specs.SessionTexts.{session_text, value_from, outcome_of, outcome_from, numbers_from, session_from, sessions_text, sessions_decoded}
+use Rattle.vr_state.specs.SessionTexts.{session_text, session_bytes, sessions_bytes, value_from, outcome_of, outcome_from, numbers_from, session_from, sessions_text, sessions_decoded}
 use Rattle.vr_state.proofs.Values.{value_length}
 
 -- what a look-up that goes on gave
@@ -32,7 +33,7 @@ pub chosen : {A : Type 0} (b : Bool) (x y : A) → cond b (Some x) None ≡ Some
 chosen true x y e = (refl, same_some x y e)
 chosen false x y e = absurd cc
 
-value_reads : (value rest : List ℕ) → is_text 1024 value ≡ true → value_from (bytes16 (length value) ++ (value ++ rest)) ≡ Some (outcome.Value value, rest)
+value_reads : (value rest : List ℕ) → is_text (value_limit 2) value ≡ true → value_from (bytes16 (length value) ++ (value ++ rest)) ≡ Some (outcome.Value value, rest)
 unfolding value_from
 value_reads value rest text =
     rw (number_reads bytes16 w16 (2 ^ 16) field16 (length value) (value ++ rest) (omega (arith, value_length value text)), piece_reads (length value) value rest refl, text) refl
@@ -62,12 +63,12 @@ session_reads e rest fits =
     ) refl
 
 -- a value behind its length, as it stands behind the kind
-value_is : (bytes behind rest : List ℕ) (n : ℕ) (value piece after : List ℕ) (o : Outcome) → bytes ≡ bytes16 n ++ behind → behind ≡ piece ++ after → length piece ≡ n → piece ≡ value → is_text 1024 piece ≡ true
+value_is : (bytes behind rest : List ℕ) (n : ℕ) (value piece after : List ℕ) (o : Outcome) → bytes ≡ bytes16 n ++ behind → behind ≡ piece ++ after → length piece ≡ n → piece ≡ value → is_text (value_limit 2) piece ≡ true
     → outcome.Value value ≡ o → after ≡ rest → OutcomeFits o × (5 ∷ bytes ≡ outcome_bytes o ++ rest)
 unfolding outcome_bytes
 value_is bytes behind rest n value piece after o is_number is_piece long same text is_o is_rest =
     subst (λ p. OutcomeFits p × (5 ∷ bytes ≡ outcome_bytes p ++ rest)) is_o (
-      ap (is_text 1024) (sym same) ∙ text,
+      ap (is_text (value_limit 2)) (sym same) ∙ text,
       ap (λ t. 5 ∷ t) (is_number ∙ (ap (λ t. bytes16 n ++ t) (is_piece ∙ (ap (λ t. t ++ after) same ∙ ap (λ t. value ++ t) is_rest))
           ∙ (ap (λ k. bytes16 k ++ (value ++ rest)) (sym long ∙ ap length same) ∙ sym (append_assoc (bytes16 (length value)) value rest)))),
     )
@@ -85,8 +86,8 @@ unfolding value_from outcome_bytes
 value_only bytes are o rest is =
     let n = and_then_some _ (number_from w16 bytes) (o, rest) is in
     let piece = and_then_some _ (piece_from n.0.0 n.0.1) (o, rest) n.2 in
-    let value = and_then_some _ (text_of 1024 piece.0.0) (o, rest) piece.2 in
-    let text = chosen (is_text 1024 piece.0.0) piece.0.0 value.0 value.1 in
+    let value = and_then_some _ (text_of (value_limit 2) piece.0.0) (o, rest) piece.2 in
+    let text = chosen (is_text (value_limit 2) piece.0.0) piece.0.0 value.0 value.1 in
     let whole = same_some (outcome.Value value.0, piece.0.1) (o, rest) value.2 in
     let number = number_only bytes16 w16 (2 ^ 16) field16 bytes are n.0.0 n.0.1 n.1 in
     let front = piece_only n.0.0 n.0.1 piece.0.0 piece.0.1 piece.1 in
@@ -163,7 +164,7 @@ session_only bytes are e rest is =
 pub session_reader : IsReader session_text Fits session_from
 session_reader = record { reads = session_reads; only = session_only }
 
-length-outcome_bytes : (o : Outcome) → OutcomeFits o → length (outcome_bytes o) ≤ 1027
+length-outcome_bytes : (o : Outcome) → OutcomeFits o → length (outcome_bytes o) ≤ 3 + value_limit 2
 unfolding outcome_bytes
 length-outcome_bytes outcome.Session fits = omega arith
 length-outcome_bytes outcome.Ok fits = omega arith
@@ -171,22 +172,25 @@ length-outcome_bytes outcome.Full fits = omega arith
 length-outcome_bytes outcome.Absent fits = omega arith
 length-outcome_bytes (outcome.Value value) fits = simp (length-append, length-bytes16) (omega (arith, value_length value fits))
 
-length-session_text : (e : ℕ × Session) → Fits e → length (session_text e) ≤ 1047
+length-session_text : (e : ℕ × Session) → Fits e → length (session_text e) ≤ session_bytes
 unfolding session_text
 length-session_text e fits = simp (length-append, length-bytes64, length-bytes32) (omega (arith, length-outcome_bytes e.1.outcome fits.outcome))
 
-length-texts : (m : Map) → AllByRecursion Fits m → length (flat_map session_text m) ≤ 1047 * length m
+length-texts : (m : Map) → AllByRecursion Fits m → length (flat_map session_text m) ≤ session_bytes * length m
 length-texts [] h = omega arith
 length-texts (e ∷ es) h = simp length-append (omega (arith, length-session_text e h.0, length-texts es h.1))
 
--- the text of the sessions has at most 33,506 bytes
-pub length-sessions_text : (m : Map) → IsSessions m → length (sessions_text m) ≤ 33506
+-- so much are all texts, without their count
+pub texts_bound : (m : Map) → IsSessions m → 2 + length (flat_map session_text m) ≤ sessions_bytes
+texts_bound m held = omega (arith, length-texts m held.fit, held.few)
+
+pub length-sessions_text : (m : Map) → IsSessions m → length (sessions_text m) ≤ sessions_bytes
 unfolding table_text
-length-sessions_text m held = simp (length-append, length-bytes16) (omega (arith, length-texts m held.fit, held.few))
+length-sessions_text m held = simp (length-append, length-bytes16) (omega (arith, texts_bound m held))
 
 -- sessions are read back from their text
 pub sessions_decoded-text : (m : Map) → IsSessions m → sessions_decoded (sessions_text m) ≡ Ok m
-sessions_decoded-text m held = decoded-table_text nat_cmp session_text Fits session_from session_reader 32 (omega arith) m held.few held.is_map held.fit
+sessions_decoded-text m held = decoded-table_text nat_cmp session_text Fits session_from session_reader (session_limit 2) (omega arith) m held.few held.is_map held.fit
 
 -- two that have one text are equal
 pub sessions_text-one : (m n : Map) → IsSessions m → IsSessions n → sessions_text m ≡ sessions_text n → m ≡ n
@@ -196,9 +200,9 @@ sessions_text-one m n held held' same =
 -- what was read are sessions, and the bytes are their text
 pub sessions_found : (bytes : List ℕ) → IsBytes bytes → (m : Map) → sessions_decoded bytes ≡ Ok m → IsSessions m × (sessions_text m ≡ bytes)
 sessions_found bytes are m is =
-    let found = decoded_found nat_cmp session_text Fits session_from session_reader 32 bytes are m is in
+    let found = decoded_found nat_cmp session_text Fits session_from session_reader (session_limit 2) bytes are m is in
     (record { is_map = found.ascending; fit = found.fitting; few = found.no_more }, sym found.spelled)
 
 -- the fault that was met is the first
-pub sessions_fault : (bytes : List ℕ) → IsBytes bytes → (fault : StateFault) → IsOrNoMemory (sessions_decoded bytes) fault → IsFirstFault nat_cmp session_text Fits 32 bytes fault
-sessions_fault bytes are fault is = decoded_first nat_cmp session_text Fits session_from session_reader 32 bytes are fault is
+pub sessions_fault : (bytes : List ℕ) → IsBytes bytes → (fault : StateFault) → IsOrNoMemory (sessions_decoded bytes) fault → IsFirstFault nat_cmp session_text Fits (session_limit 2) bytes fault
+sessions_fault bytes are fault is = decoded_first nat_cmp session_text Fits session_from session_reader (session_limit 2) bytes are fault is

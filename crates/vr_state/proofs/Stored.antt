@@ -7,6 +7,7 @@ use Rattle.std.specs.Prelude.{is_some, nat_lt}
 use Rattle.std.proofs.lemmas.Bool.{eqb-true}
 use Rattle.std.proofs.lemmas.Bool.Decides.{nat_tests}
 use Rattle.vr_header.specs.declared.outcome.Outcome.{Outcome}
+use Rattle.vr_base.specs.Versions.{session_limit}
 use Rattle.vr_header.specs.Made.{Whole}
 use Rattle.vr_state.specs.Finite.{find, put, without}
 use Rattle.vr_state.specs.declared.session.Session.{Session}
@@ -61,7 +62,7 @@ either_kept m a c s false false h = evicted_kept m a c s h
 
 pub applied_kept : (m : Map) (a : Asked) (c : ℕ) (s : Session) → find nat_cmp c (sess.applied m a) ≡ Some s → Kept m a c s
 unfolding sess.applied
-applied_kept m a c s h = either_kept m a c s (nat_lt (length m) 32) (is_some (find nat_cmp a.client m)) h
+applied_kept m a c s h = either_kept m a c s (nat_lt (length m) (session_limit a.version)) (is_some (find nat_cmp a.client m)) h
 
 -- ---- all entries
 

@@ -1,6 +1,7 @@
 -- What a stored request changes, by look-ups alone.
-use Rattle.std.specs.Prelude.{◌≡◌, ◌≢◌, ℕ, ◌⊎◌, length, Option, Some, None}
+use Rattle.std.specs.Prelude.{◌≡◌, ◌≢◌, ◌≤◌, ℕ, ◌⊎◌, length, Option, Some, None}
 use Rattle.std.specs.Ordering.{nat_cmp}
+use Rattle.vr_base.specs.Versions.{session_limit}
 use Rattle.vr_state.specs.Finite.{find}
 use Rattle.vr_state.specs.declared.session.Session.{Session}
 use Rattle.vr_state.specs.Sessions.{Map, Asked, IsOldest}
@@ -16,9 +17,10 @@ pub record Keeps (old new : Map) (a : Asked) : Type 0 where
   pub own : session_of new a.client ≡ Some (stored a)
   pub others : (q : ℕ) → q ≢ a.client → session_of new q ≡ session_of old q
 
--- 32 sessions are there and none of this client: the oldest is gone, and each other client has the one that it had
+-- as many sessions are there as the entry's version leaves, or more, and none of this client: the oldest is gone, and each
+-- other client has the one that it had
 pub record Evicts (old new : Map) (a : Asked) : Type 0 where
-  pub full : length old ≡ 32
+  pub full : session_limit a.version ≤ length old
   pub absent : session_of old a.client ≡ None
   pub evicted : ℕ
   pub oldest : IsOldest old evicted

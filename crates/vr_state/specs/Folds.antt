@@ -26,7 +26,7 @@ outcome_of s e = (kv.applied s.machine e.operation).outcome
 
 -- the request as it is stored
 abbrev pub asked : State → Whole → sess.Asked
-asked s e = record { op = e.header.op; client = e.header.client; request = e.header.request; outcome = outcome_of s e }
+asked s e = record { op = e.header.op; client = e.header.client; request = e.header.request; outcome = outcome_of s e; version = e.header.version }
 
 -- a state with what its last entry answers
 pub record Applied : Type 0 where

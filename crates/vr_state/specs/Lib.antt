@@ -11,3 +11,4 @@ pub mod Sessions
 pub mod SessionTexts
 pub mod Folds
 pub mod StateTexts
+pub mod Fitting

@@ -1,22 +1,27 @@
 -- A key with its value, and the text of a map of keys to values.
-use Rattle.std.specs.Prelude.{ℕ, List, ◌∷◌, ◌++◌, length, Option, Some, None, IsTrue, if◌then◌else◌, Result}
+use Rattle.std.specs.Prelude.{ℕ, ◌+◌, ◌*◌, List, ◌∷◌, ◌++◌, length, Option, Some, None, IsTrue, if◌then◌else◌, Result}
 use Rattle.std.specs.Option.{option_and_then}
 use Rattle.std.specs.Int.{w16}
 use Rattle.vr_base.specs.Bytes.{bytes16}
+use Rattle.vr_base.specs.Versions.{value_limit}
 use Rattle.vr_header.specs.Text.{is_text}
 use Rattle.vr_state.specs.declared.fault.StateFault.{StateFault}
 use Rattle.vr_state.specs.Finite.{byte_order}
 use Rattle.vr_state.specs.Front.{byte_from, number_from, piece_from}
 use Rattle.vr_state.specs.Table.{table_text, decoded}
 
--- a key of 1 to 64 bytes and a value of 1 to 1,024 bytes
+-- a key of 1 to 64 bytes and a value of either version, of 1 to 3,000 bytes
 pub record Fits (pair : List ℕ × List ℕ) : Type 0 where
   pub key : IsTrue (is_text 64 pair.0)
-  pub value : IsTrue (is_text 1024 pair.1)
+  pub value : IsTrue (is_text (value_limit 2) pair.1)
 
 -- the key's length in one byte, the value's in two, the key, the value
 unfoldable pub pair_text : List ℕ × List ℕ → List ℕ
 pair_text pair = length pair.0 ∷ (bytes16 (length pair.1) ++ (pair.0 ++ pair.1))
+
+-- the most bytes of such a text
+abbrev pub pair_bytes : ℕ
+pair_bytes = 3 + 64 + value_limit 2
 
 -- the pieces of a pair that the bytes begin with, and the bytes behind them
 unfoldable pub pieces_from : List ℕ → Option ((List ℕ × List ℕ) × List ℕ)
@@ -27,11 +32,15 @@ pieces_from bytes =
 -- the pair that the bytes begin with, and the bytes behind it
 unfoldable pub pair_from : List ℕ → Option ((List ℕ × List ℕ) × List ℕ)
 pair_from bytes =
-    option_and_then (λ p. if is_text 64 p.0.0 then (if is_text 1024 p.0.1 then Some p else None) else None) (pieces_from bytes)
+    option_and_then (λ p. if is_text 64 p.0.0 then (if is_text (value_limit 2) p.0.1 then Some p else None) else None) (pieces_from bytes)
 
 -- the text of a machine: how many keys, and each with its value, the keys in byte order
 abbrev pub kv_text : List (List ℕ × List ℕ) → List ℕ
 kv_text m = table_text pair_text m
+
+-- the most bytes of a machine's text
+abbrev pub kv_bytes : ℕ
+kv_bytes = 2 + 128 * pair_bytes
 
 -- the machine of a text, or the first fault
 abbrev pub kv_decoded : List ℕ → Result (List (List ℕ × List ℕ)) StateFault

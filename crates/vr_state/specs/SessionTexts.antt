@@ -1,9 +1,10 @@
 -- The text of sessions.
-use Rattle.std.specs.Prelude.{ℕ, List, ◌++◌, Option, Some, None, Result, ◌==◌, nat_le, if◌then◌else◌}
+use Rattle.std.specs.Prelude.{ℕ, ◌+◌, ◌*◌, List, ◌++◌, Option, Some, None, Result, ◌==◌, nat_le, if◌then◌else◌}
 use Rattle.std.specs.Option.{option_and_then}
 use Rattle.std.specs.Ordering.{nat_cmp}
 use Rattle.std.specs.Int.{w16, w32, w64}
 use Rattle.vr_base.specs.Bytes.{bytes32, bytes64}
+use Rattle.vr_base.specs.Versions.{session_limit, value_limit}
 use Rattle.vr_header.specs.Bodies.{outcome_bytes}
 use Rattle.vr_header.specs.Text.{text_of}
 use Rattle.vr_header.specs.declared.outcome.Outcome.{Outcome}
@@ -18,10 +19,14 @@ use Rattle.vr_state.specs.Sessions.{Map, last_op}
 unfoldable pub session_text : ℕ × Session → List ℕ
 session_text e = bytes64 e.0 ++ (bytes32 e.1.number ++ (bytes64 e.1.op ++ outcome_bytes e.1.outcome))
 
+-- the most bytes of such a text: the outcome has its kind, and the longest value behind its length
+abbrev pub session_bytes : ℕ
+session_bytes = 8 + 4 + 8 + 3 + value_limit 2
+
 -- the value behind its length of two bytes
 unfoldable pub value_from : List ℕ → Option (Outcome × List ℕ)
 value_from bytes =
-    option_and_then (λ n. option_and_then (λ piece. option_and_then (λ value. Some (outcome.Value value, piece.1)) (text_of 1024 piece.0))
+    option_and_then (λ n. option_and_then (λ piece. option_and_then (λ value. Some (outcome.Value value, piece.1)) (text_of (value_limit 2) piece.0))
     (piece_from n.0 n.1)) (number_from w16 bytes)
 
 -- the outcome of this kind that the bytes begin with, and the bytes behind it
@@ -50,6 +55,10 @@ session_from bytes =
 abbrev pub sessions_text : Map → List ℕ
 sessions_text m = table_text session_text m
 
+-- the most bytes of the text of all sessions
+abbrev pub sessions_bytes : ℕ
+sessions_bytes = 2 + session_limit 2 * session_bytes
+
 -- the sessions of a text, or the first fault
 abbrev pub sessions_decoded : List ℕ → Result Map StateFault
-sessions_decoded bytes = decoded nat_cmp session_from 32 bytes
+sessions_decoded bytes = decoded nat_cmp session_from (session_limit 2) bytes

@@ -1,11 +1,11 @@
 -- Sessions: a finite map from clients to what was last executed for each, by whole requests.
-use Rattle.std.specs.Prelude.{◌≡◌, ℕ, ◌+◌, ◌<◌, ◌≤◌, ◌^◌, List, ◌++◌, ◌∷◌, length, Option, Some, None, is_some, nat_lt, nat_le, ◌==◌, if◌then◌else◌, fold, IsTrue}
+use Rattle.std.specs.Prelude.{◌≡◌, ℕ, ◌+◌, ◌<◌, ◌≤◌, ◌^◌, List, ◌++◌, ◌∷◌, length, Option, Some, None, is_some, nat_lt, nat_le, ◌==◌, if◌then◌else◌, fold}
 use Rattle.std.specs.List.{AllByRecursion}
 use Rattle.std.specs.Option.{option_map_or}
 use Rattle.std.specs.Ordering.{nat_cmp}
-use Rattle.vr_header.specs.Text.{is_text}
+use Rattle.vr_base.specs.Versions.{session_limit}
+use Rattle.vr_header.specs.Bodies.{IsOutcome}
 use Rattle.vr_header.specs.declared.outcome.Outcome.{Outcome}
-use Rattle.vr_header.specs.declared.outcome.Outcome.TheVariants as outcome
 use Rattle.vr_state.specs.Finite.{find, put, without, IsMap}
 use Rattle.vr_state.specs.declared.session.Session.{Session}
 use Rattle.vr_state.specs.declared.session.SessionAnswer.{SessionAnswer}
@@ -38,18 +38,19 @@ oldest m = fold (λ d e. older d e.0 e.1.op) None m
 unfoldable pub without_oldest : Map → Map
 without_oldest m = option_map_or (λ d. without nat_cmp d.0 m) (oldest m) m
 
--- a request that was executed, as entry `op` of the log, and what it gave
+-- a request that was executed, as entry `op` of the log, what it gave, and the version of that entry
 pub record Asked : Type 0 where
   pub op : ℕ
   pub client : ℕ
   pub request : ℕ
   pub outcome : Outcome
+  pub version : ℕ
 
--- where 32 sessions are there and the client has none, one gives way
+-- where as many sessions are there as the entry's version leaves, or more, and the client has none, one gives way
 unfoldable pub applied : Map → Asked → Map
 applied m a =
     let s : Session = record { number = a.request; op = a.op; outcome = a.outcome } in
-    if nat_lt (length m) 32 then put nat_cmp a.client s m
+    if nat_lt (length m) (session_limit a.version) then put nat_cmp a.client s m
     else (if is_some (find nat_cmp a.client m) then put nat_cmp a.client s m
     else put nat_cmp a.client s (without_oldest m))
 
@@ -63,13 +64,9 @@ pub record IsOldest (m : Map) (client : ℕ) : Type 0 where
   pub first : AllByRecursion (λ d. session.op < d.1.op) before
   pub least : AllByRecursion (λ d. session.op ≤ d.1.op) after
 
--- a value of 1 to 1,024 bytes
+-- an outcome of either version: version 2 has those of version 1 too
 abbrev pub OutcomeFits : Outcome → Type 0
-OutcomeFits outcome.Session = Unit {0}
-OutcomeFits outcome.Ok = Unit {0}
-OutcomeFits outcome.Full = Unit {0}
-OutcomeFits outcome.Absent = Unit {0}
-OutcomeFits (outcome.Value value) = IsTrue (is_text 1024 value)
+OutcomeFits o = IsOutcome 2 o
 
 -- the greatest number of an entry
 abbrev pub last_op : ℕ
@@ -85,7 +82,7 @@ pub record Fits (e : ℕ × Session) : Type 0 where
 pub record IsSessions (m : Map) : Type 0 where
   pub is_map : IsMap nat_cmp m
   pub fit : AllByRecursion Fits m
-  pub few : length m ≤ 32
+  pub few : length m ≤ session_limit 2
 
 -- each session's op is the number of an entry that may be
 unfoldable pub HaveNumbers : Map → Type 0

@@ -1,9 +1,10 @@
 -- The two texts of a state.
 use Rattle.std.specs.Prelude.{ℕ, ◌≡◌, ◌+◌, ◌/◌, ◌≤◌, ◌⊎◌, length, Result, Ok, Err}
 use Rattle.std.specs.Ordering.{nat_cmp}
-use Rattle.vr_state.specs.Pairs.{pair_text, kv_text, kv_decoded}
+use Rattle.vr_base.specs.Versions.{session_limit}
+use Rattle.vr_state.specs.Pairs.{pair_text, kv_text, kv_decoded, kv_bytes}
 use Rattle.vr_state.specs.Pairs as pairs
-use Rattle.vr_state.specs.SessionTexts.{session_text, sessions_text, sessions_decoded}
+use Rattle.vr_state.specs.SessionTexts.{session_text, sessions_text, sessions_decoded, sessions_bytes}
 use Rattle.vr_state.specs.Finite.{byte_order}
 use Rattle.vr_state.specs.Table.{IsTextOf, IsFirstFault}
 use Rattle.vr_state.specs.declared.fault.StateFault.{StateFault}
@@ -32,18 +33,29 @@ TextsHaveNumbers = (t : Texts) (s : State) → state_decoded t ≡ Ok s → sess
 -- the sessions' text is one, and the fault is the first of the keys'
 pub record IsFaultOfKeys (t : Texts) (fault : StateFault) : Type 0 where
   pub sessions : sess.Map
-  pub read : IsTextOf nat_cmp session_text sess.Fits 32 t.sessions sessions
+  pub read : IsTextOf nat_cmp session_text sess.Fits (session_limit 2) t.sessions sessions
   pub first : IsFirstFault byte_order pair_text pairs.Fits 128 t.keys fault
 
 -- the fault is the first of the sessions' text, or else of the keys'
 abbrev pub IsFirstFaultOf : Texts → StateFault → Type 0
-IsFirstFaultOf t fault = IsFirstFault nat_cmp session_text sess.Fits 32 t.sessions fault ⊎ IsFaultOfKeys t fault
+IsFirstFaultOf t fault = IsFirstFault nat_cmp session_text sess.Fits (session_limit 2) t.sessions fault ⊎ IsFaultOfKeys t fault
+
+-- the most bytes of both texts together
+abbrev pub state_bytes : ℕ
+state_bytes = sessions_bytes + kv_bytes
 
 -- so many payloads of 3,968 bytes hold a text of this length
 abbrev pub payloads : ℕ → ℕ
 payloads n = (n + 3967) / 3968
 
--- the texts fill at most 9 and 36 payloads
+-- so many payloads at most hold the sessions' text
+abbrev pub session_payloads : ℕ
+session_payloads = 49
+
+-- and the keys'
+abbrev pub key_payloads : ℕ
+key_payloads = 99
+
 pub record FitsPayloads (t : Texts) : Type 0 where
-  pub sessions : payloads (length t.sessions) ≤ 9
-  pub keys : payloads (length t.keys) ≤ 36
+  pub sessions : payloads (length t.sessions) ≤ session_payloads
+  pub keys : payloads (length t.keys) ≤ key_payloads

@@ -1,9 +1,10 @@
 //! The machine as a sorted vector of pairs.
 ghost use Rattle.std.specs.Prelude.{◌≡◌, ℕ, List, [], ◌∷◌, ◌++◌, ◌≤◌, length, Ok, IfOk, IfErr, OnErr};
 ghost use Rattle.vr_header.specs.declared.operation.Operation.{Operation};
+ghost use Rattle.vr_state.specs.Fitting.{keys_fit};
 ghost use Rattle.vr_state.specs.Kv.{applied, putting, getting, deleting, machine_after, IsKv};
 ghost use Rattle.vr_state.specs.Meaning.{Means};
-ghost use Rattle.vr_state.specs.Pairs.{Fits, pair_text, kv_text, kv_decoded};
+ghost use Rattle.vr_state.specs.Pairs.{Fits, pair_text, kv_text, kv_bytes, kv_decoded};
 ghost use Rattle.vr_state.specs.Places.{IsAt, IsGap};
 ghost use Rattle.vr_state.specs.Finite.{byte_order};
 ghost use Rattle.vr_state.specs.Table.{IsOrNoMemory, IsFirstFault};
@@ -11,10 +12,10 @@ ghost use Rattle.vr_state.specs.Table.{IsOrNoMemory, IsFirstFault};
 use crate::StateFault;
 use crate::kv_decode::read_pairs;
 use crate::kv_encode::encode_pairs;
-use crate::pair::{Pair, new_pair};
+use crate::pair::{Pair, new_pair, value_fits};
 use std::alloc::Global;
 use std::marker::Model;
-use vr_base::{ByteList, NoMemory};
+use vr_base::{ByteList, NoMemory, Version};
 use vr_header::{Key, Operation, Outcome, Value};
 
 /// How many keys a machine holds at most.
@@ -84,11 +85,19 @@ impl Kv {
         }
     }
 
-    /// The text of this machine, of at most 139,650 bytes: how many keys, in two bytes, and for each key in byte order
-    /// its length in one byte, its value's in two, the key, the value. It is made in one pass with one allocation.
+    /// Whether a file of this version may hold it.
+    #[tactic(auto, unfolding(crate::specs::Fitting::keys_fit))]
+    pub fn fits(&self, version: Version) -> bool
+        ensures { result ≡ keys_fit version self.now }
+    {
+        self.pairs.iter().all(|pair| value_fits(&pair.1, version))
+    }
+
+    /// The text of this machine, of at most 392,578 bytes: how many keys, in two bytes, and for each key in byte order
+    /// its length in one byte, its value's in two, the key, the value. It is made with one allocation.
     pub fn encode_state(&self) -> Result<ByteList, NoMemory>
         ensures text { IfOk result (λ text. text ≡ kv_text self.now) }
-        ensures length { IfOk result (λ text. length text ≤ 139650) }
+        ensures length { IfOk result (λ text. length text ≤ kv_bytes) }
         ensures back { IfOk result (λ text. kv_decoded text ≡ Ok self.now) }
         ensures one_text { (other : List (List ℕ × List ℕ)) → IsKv other → kv_text other ≡ kv_text self.now → other ≡ self.now }
     {

@@ -1,12 +1,13 @@
 //! The bytes of a key with its value.
-ghost use Rattle.std.specs.Prelude.{◌≡◌, ◌++◌, IfOk, OnOk, IsTrue};
+ghost use Rattle.std.specs.Prelude.{◌≡◌, ◌++◌, length, IfOk, OnOk, IsTrue};
 ghost use Rattle.std.specs.Option.{option_map};
+ghost use Rattle.vr_base.specs.Versions.{value_limit};
 ghost use Rattle.vr_header.specs.Text.{is_text};
 ghost use Rattle.vr_state.specs.Pairs.{pair_text, pieces_from, pair_from};
 
 use crate::{split_byte, split_piece, split_u16};
 use std::alloc::Global;
-use vr_base::{ByteList, NoMemory};
+use vr_base::{ByteList, NoMemory, Version};
 use vr_header::{Key, Value};
 
 /// A key with its value.
@@ -51,6 +52,14 @@ pub fn read_pair(alloc: Global, bytes: &[u8]) -> Result<Option<(Pair, &[u8])>, N
     Ok(Some(((key, value), raw.rest)))
 }
 
+/// How many bytes a pair has: both lengths, the key, the value.
+#[tactic(auto, using(std::proofs::lemmas::Grind::common_steps, crate::proofs::KvTexts::length_of_pair))]
+pub fn pair_length(pair: &Pair) -> usize
+    ensures { result ≡ length (pair_text pair.now) }
+{
+    3 + pair.0.as_slice().len() + pair.1.as_slice().len()
+}
+
 /// Adds the bytes of a pair at the end.
 #[tactic(auto, using(std::proofs::lemmas::Grind::common_steps, crate::proofs::KvTexts::key_length, crate::proofs::KvTexts::value_length), unfolding(crate::specs::Pairs::pair_text, vr_base::specs::Bytes::bytes16))]
 pub fn write_pair(text: &mut ByteList, pair: &Pair) -> Result<(), NoMemory>
@@ -65,10 +74,18 @@ pub fn write_pair(text: &mut ByteList, pair: &Pair) -> Result<(), NoMemory>
     Ok(())
 }
 
+/// Whether the value is one of this version.
+#[tactic(auto, using(std::proofs::lemmas::Grind::common_steps, crate::proofs::Values::text_by_length))]
+pub fn value_fits(value: &Value, version: Version) -> bool
+    ensures { result ≡ is_text (value_limit version) value.now }
+{
+    value.as_slice().len() <= version.value_limit()
+}
+
 /// A pair of its own, of a key and a value that are texts.
 pub fn new_pair(alloc: Global, key: &[u8], value: &[u8]) -> Result<Pair, NoMemory>
     requires key { IsTrue (is_text 64 key.now) }
-    requires value { IsTrue (is_text 1024 value.now) }
+    requires value { IsTrue (is_text (value_limit 2) value.now) }
     ensures { IfOk result (λ pair. pair ≡ (key.now, value.now)) }
 {
     Ok((

@@ -1,9 +1,11 @@
 //! One session, and what a request is to it.
 ghost use Rattle.std.specs.Prelude.{◌≡◌, IfOk};
+ghost use Rattle.vr_state.specs.Fitting.{outcome_fits};
 ghost use Rattle.vr_state.specs.Sessions.{judged, OutcomeFits};
 
+use crate::pair::value_fits;
 use std::alloc::Global;
-use vr_base::NoMemory;
+use vr_base::{NoMemory, Version};
 use vr_header::{Outcome, Value};
 
 /// What is kept of a client: its last request that was executed.
@@ -46,6 +48,16 @@ pub fn judge(alloc: Global, session: &Session, request: u32) -> Result<SessionAn
         return Ok(SessionAnswer::Fresh);
     }
     Ok(SessionAnswer::Gap)
+}
+
+/// Whether the outcome is one of this version.
+pub fn outcome_fits(outcome: &Outcome, version: Version) -> bool
+    ensures { result ≡ outcome_fits version outcome.now }
+{
+    match outcome {
+        Outcome::Value(value) => value_fits(value, version),
+        Outcome::Session | Outcome::Ok | Outcome::Full | Outcome::Absent => true,
+    }
 }
 
 /// A session of its own.

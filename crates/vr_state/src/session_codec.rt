@@ -1,31 +1,43 @@
 //! The text of the sessions, written and read.
 ghost use Rattle.std.specs.Prelude.{◌≡◌, ◌≤◌, ℕ, suc, [], length, Ok, IfOk, IfErr};
+ghost use Rattle.std.specs.List.{flat_map};
 ghost use Rattle.std.specs.Ordering.{nat_cmp};
 ghost use Rattle.vr_state.specs.Finite.{IsMap};
+ghost use Rattle.vr_state.specs.Sessions.{IsSessions};
 ghost use Rattle.vr_state.specs.Table.{read_on, IsOrNoMemory};
-ghost use Rattle.vr_state.specs.SessionTexts.{session_from, sessions_text, sessions_decoded};
+ghost use Rattle.vr_state.specs.SessionTexts.{session_from, session_text, sessions_text, sessions_decoded};
 
 use crate::session_table::{SessionTable, follows, push};
-use crate::session_text::{read_session, write_session};
-use crate::{StateFault, split_count};
+use crate::session_text::{read_session, session_length, write_session};
+use crate::{SESSIONS, StateFault, split_count};
 use std::alloc::Global;
 use vr_base::{ByteList, NoMemory};
 
-/// The most bytes of a session's text: client, request, op, and an outcome with the longest value.
-const SESSION_BYTES: usize = 8 + 4 + 8 + 3 + 1024;
-
 /// The text of these sessions.
-#[tactic(auto, using(std::proofs::lemmas::Grind::common_steps), unfolding(crate::specs::Table::table_text, vr_base::specs::Bytes::bytes16))]
+#[tactic(auto, using(std::proofs::lemmas::Grind::common_steps, crate::proofs::Spelled::texts_bound), unfolding(crate::specs::Table::table_text, vr_base::specs::Bytes::bytes16))]
 pub fn encode_table(alloc: Global, table: &SessionTable) -> Result<ByteList, NoMemory>
-    requires { length table.now.entries ≤ 32 }
+    requires { IsSessions table.now.entries }
     ensures { IfOk result (λ text. text ≡ sessions_text table.now.entries) }
 {
-    let mut text = ByteList::from_vec(Vec::with_capacity(alloc, 2 + table.len() * SESSION_BYTES)?);
+    let mut text = ByteList::from_vec(Vec::with_capacity(alloc, 2 + texts_length(table))?);
     text.extend(&(table.len() as u16).to_be_bytes())?;
     for (client, session) in table.iter() {
         write_session(&mut text, *client, session)?;
     }
     Ok(text)
+}
+
+/// How many bytes the texts of these sessions have, one behind the other.
+#[tactic(auto, using(std::proofs::lemmas::Grind::common_steps, crate::proofs::Spelled::texts_bound))]
+fn texts_length(table: &SessionTable) -> usize
+    requires { IsSessions table.now.entries }
+    ensures { result ≡ length (flat_map session_text table.now.entries) }
+{
+    let mut bytes = 0;
+    for (_, session) in table.iter() {
+        bytes += session_length(session);
+    }
+    bytes
 }
 
 /// The sessions of a text, or the first fault.
@@ -34,7 +46,7 @@ pub fn read_table(alloc: Global, bytes: &[u8]) -> Result<SessionTable, StateFaul
     ensures table { IfOk result (λ table. sessions_decoded bytes.now ≡ Ok table.entries) }
     ensures fault { IfErr result (IsOrNoMemory (sessions_decoded bytes.now)) }
 {
-    let (count, rest) = split_count(bytes, 32)?;
+    let (count, rest) = split_count(bytes, SESSIONS)?;
     read_all(alloc, count, rest)
 }
 

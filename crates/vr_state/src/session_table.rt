@@ -1,13 +1,16 @@
 //! The map that holds the sessions, its clients ascending.
 ghost use Rattle.std.specs.Prelude.{◌≡◌, [], ◌∷◌, ◌++◌, OnOk, OnErr};
+ghost use Rattle.std.specs.List.{list_all};
 ghost use Rattle.std.specs.Ordering.{nat_cmp};
+ghost use Rattle.vr_state.specs.Fitting.{outcome_fits};
 ghost use Rattle.vr_state.specs.Finite.{put, without, is_sorted, IsMap};
 ghost use Rattle.vr_state.specs.Sessions.{older, oldest};
 ghost use Rattle.vr_state.specs.declared.session.Session.{Session};
 
 use crate::Session;
+use crate::session::outcome_fits;
 use indexmap::IndexMap;
-use vr_base::NoMemory;
+use vr_base::{NoMemory, Version};
 
 /// The clients with their sessions.
 pub type SessionTable = IndexMap<u64, Session>;
@@ -41,6 +44,18 @@ pub fn oldest(table: &SessionTable) -> Option<(u64, u64)>
         found = older(found, *client, session.op);
     }
     found
+}
+
+/// Whether all outcomes are of this version.
+pub fn outcomes_fit(table: &SessionTable, version: Version) -> bool
+    ensures { result ≡ list_all (λ e. outcome_fits version e.1.outcome) table.now.entries }
+{
+    for (_, session) in table.iter() {
+        if !outcome_fits(&session.outcome, version) {
+            return false;
+        }
+    }
+    true
 }
 
 /// Of two clients with the last ops of their sessions the one with the lower op, the first where both are one.

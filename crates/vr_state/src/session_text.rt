@@ -1,6 +1,7 @@
 //! The bytes of a client's session.
-ghost use Rattle.std.specs.Prelude.{◌≡◌, ◌++◌, IfOk, OnOk};
+ghost use Rattle.std.specs.Prelude.{◌≡◌, ◌≤◌, ℕ, ◌+◌, ◌++◌, length, IfOk, OnOk};
 ghost use Rattle.std.specs.Option.{option_map};
+ghost use Rattle.vr_base.specs.Versions.{value_limit};
 ghost use Rattle.vr_header.specs.Bodies.{outcome_bytes};
 ghost use Rattle.vr_state.specs.SessionTexts.{session_text, value_from, outcome_of, outcome_from, numbers_from, session_from};
 
@@ -8,6 +9,26 @@ use crate::{Session, split_byte, split_piece, split_u16, split_u32, split_u64};
 use std::alloc::Global;
 use vr_base::{ByteList, NoMemory};
 use vr_header::{Outcome, Value};
+
+/// How many bytes the text of a session has, whoever its client is: client, request, op, and the outcome behind its kind.
+#[tactic(auto, using(std::proofs::lemmas::Grind::common_steps, crate::proofs::Values::length_of_session))]
+pub fn session_length(session: &Session) -> usize
+    ensures { (client : ℕ) → result ≡ length (session_text (client, session.now)) }
+{
+    8 + 4 + 8 + 1 + value_length(&session.outcome)
+}
+
+/// How many bytes a value takes behind the kind of an outcome, with its length of two bytes; 0 where there is no value.
+#[tactic(auto, using(std::proofs::lemmas::Grind::common_steps, crate::proofs::Values::length_of_value), unfolding(vr_header::specs::Bodies::outcome_bytes))]
+fn value_length(outcome: &Outcome) -> usize
+    ensures value { 1 + result ≡ length (outcome_bytes outcome.now) }
+    ensures most { result ≤ 2 + value_limit 2 }
+{
+    match outcome {
+        Outcome::Value(value) => 2 + value.as_slice().len(),
+        Outcome::Session | Outcome::Ok | Outcome::Full | Outcome::Absent => 0,
+    }
+}
 
 /// Adds the bytes of a client's session at the end.
 pub fn write_session(text: &mut ByteList, client: u64, session: &Session) -> Result<(), NoMemory>

@@ -1,23 +1,25 @@
 //! The sessions of a replica.
 ghost use Rattle.std.specs.Prelude.{◌≡◌, List, [], ◌∷◌, ◌++◌, ◌≤◌, length, Ok, IfOk, IfErr, OnOk, OnErr};
 ghost use Rattle.std.specs.Ordering.{nat_cmp};
+ghost use Rattle.vr_base.specs.Versions.{session_limit};
+ghost use Rattle.vr_state.specs.Fitting.{sessions_fit};
 ghost use Rattle.vr_state.specs.Table.{IsOrNoMemory, IsFirstFault};
 ghost use Rattle.vr_state.specs.Asks.{sessions_after, AtMostOnce};
 ghost use Rattle.vr_state.specs.Effects.{Effect};
 ghost use Rattle.vr_state.specs.Sessions.{Map, Asked, checked, applied, Fits, OutcomeFits, IsSessions, HaveNumbers, last_op};
-ghost use Rattle.vr_state.specs.SessionTexts.{session_text, sessions_text, sessions_decoded};
+ghost use Rattle.vr_state.specs.SessionTexts.{session_text, sessions_text, sessions_bytes, sessions_decoded};
 
 use crate::StateFault;
 use crate::session::{SessionAnswer, judge, new_session};
 use crate::session_codec::{encode_table, read_table};
-use crate::session_table::{SessionTable, insert, oldest, remove};
+use crate::session_table::{SessionTable, insert, oldest, outcomes_fit, remove};
 use std::alloc::Global;
 use std::marker::Model;
-use vr_base::{ByteList, NoMemory};
+use vr_base::{ByteList, NoMemory, Version};
 use vr_header::Outcome;
 
-/// How many sessions are held at most.
-pub const SESSIONS: usize = 32;
+/// How many sessions are held at most, whatever the versions of the entries that began them.
+pub const SESSIONS: u16 = 64;
 
 /// A finite map from clients to their sessions, which contracts see as the list of its entries with ascending clients.
 #[derive(Drop)]
@@ -73,26 +75,27 @@ impl Sessions {
         }
     }
 
-    /// Stores a fresh request that was executed as entry `op` of the log, at most 2^62, and what it gave. Where 32 sessions are held, a
-    /// register first takes out the one whose last op is least, of several that of the least client. An `Err` is want of
-    /// memory, and changes nothing.
+    /// Stores a fresh request that was executed as entry `op` of the log, at most 2^62, what it gave, and by an entry of which
+    /// version. Where as many sessions are held as the version leaves, 32 or 64, or more, a register takes out one, whose last op
+    /// is least, of several that of the least client. An `Err` is want of memory, and changes nothing.
     pub fn apply(
         &mut self,
         op: u64,
         client: u64,
         request: u32,
         outcome: &Outcome,
+        version: Version,
     ) -> Result<(), NoMemory>
         requires fresh { checked self.old client request ≡ SessionAnswer.Fresh }
         requires number { op ≤ last_op }
-        ensures ok { OnOk result (self.new ≡ applied self.old (record { op = op; client = client; request = request; outcome = outcome.now })) }
-        ensures effect { OnOk result (Effect self.old self.new (record { op = op; client = client; request = request; outcome = outcome.now })) }
-        ensures fold { (before : List Asked) → self.old ≡ sessions_after before → OnOk result (self.new ≡ sessions_after (before ++ record { op = op; client = client; request = request; outcome = outcome.now } ∷ [])) }
+        ensures ok { OnOk result (self.new ≡ applied self.old (record { op = op; client = client; request = request; outcome = outcome.now; version = version })) }
+        ensures effect { OnOk result (Effect self.old self.new (record { op = op; client = client; request = request; outcome = outcome.now; version = version })) }
+        ensures fold { (before : List Asked) → self.old ≡ sessions_after before → OnOk result (self.new ≡ sessions_after (before ++ record { op = op; client = client; request = request; outcome = outcome.now; version = version } ∷ [])) }
         ensures at_most_once { AtMostOnce }
         ensures err { OnErr result (self.new ≡ self.old) }
     {
         let _held = self.len();
-        self.store(op, client, request, outcome)?;
+        self.store(op, client, request, outcome, version)?;
         Ok(())
     }
 
@@ -102,14 +105,15 @@ impl Sessions {
         client: u64,
         request: u32,
         outcome: &Outcome,
+        version: Version,
     ) -> Result<(), NoMemory>
         requires number { op ≤ last_op }
         ensures fits { OnOk result (OutcomeFits outcome.now) }
-        ensures ok { OnOk result (self.new ≡ applied self.old (record { op = op; client = client; request = request; outcome = outcome.now })) }
+        ensures ok { OnOk result (self.new ≡ applied self.old (record { op = op; client = client; request = request; outcome = outcome.now; version = version })) }
         ensures err { OnErr result (self.new ≡ self.old) }
     {
         let session = new_session(self.alloc, op, request, outcome)?;
-        if self.table.len() < SESSIONS {
+        if self.table.len() < version.session_limit() {
             insert(&mut self.table, client, session)?;
             return Ok(());
         }
@@ -127,12 +131,19 @@ impl Sessions {
         Ok(())
     }
 
-    /// The text of these sessions, of at most 33,506 bytes: how many, in two bytes, and for each by ascending clients the
-    /// client in eight bytes, the request in four, the op in eight, the outcome. It is made in one pass with one
-    /// allocation.
+    /// Whether a file of this version may hold them.
+    #[tactic(auto, unfolding(crate::specs::Fitting::sessions_fit))]
+    pub fn fits(&self, version: Version) -> bool
+        ensures { result ≡ sessions_fit version self.now }
+    {
+        self.table.len() <= version.session_limit() && outcomes_fit(&self.table, version)
+    }
+
+    /// The text of these sessions, of at most 193,474 bytes: how many, in two bytes, and for each by ascending clients the
+    /// client in eight bytes, the request in four, the op in eight, the outcome. It is made with one allocation.
     pub fn encode_state(&self) -> Result<ByteList, NoMemory>
         ensures text { IfOk result (λ text. text ≡ sessions_text self.now) }
-        ensures length { IfOk result (λ text. length text ≤ 33506) }
+        ensures length { IfOk result (λ text. length text ≤ sessions_bytes) }
         ensures back { IfOk result (λ text. sessions_decoded text ≡ Ok self.now) }
         ensures one_text { (other : Map) → IsSessions other → sessions_text other ≡ sessions_text self.now → other ≡ self.now }
     {
@@ -146,7 +157,7 @@ impl Sessions {
         ensures text { IfOk result (λ sessions. sessions_text sessions ≡ bytes.now) }
         ensures numbers { IfOk result HaveNumbers }
         ensures fault { IfErr result (IsOrNoMemory (sessions_decoded bytes.now)) }
-        ensures first { IfErr result (IsFirstFault nat_cmp session_text Fits 32 bytes.now) }
+        ensures first { IfErr result (IsFirstFault nat_cmp session_text Fits (session_limit 2) bytes.now) }
     {
         let table = read_table(alloc, bytes)?;
         Ok(Sessions { alloc, table })

@@ -4,15 +4,16 @@ ghost use Rattle.vr_header.specs.Made.{Whole};
 ghost use Rattle.vr_state.specs.Kv.{IsKv};
 ghost use Rattle.vr_state.specs.Sessions.{checked, IsSessions};
 ghost use Rattle.vr_state.specs.Table.{IsOrNoMemory};
+ghost use Rattle.vr_state.specs.Fitting.{fits};
 ghost use Rattle.vr_state.specs.Folds.{empty, applied, executed, answered, state_after, LeavesOneTable, EachOnce};
-ghost use Rattle.vr_state.specs.StateTexts.{texts_of, state_decoded, IsFirstFaultOf, FitsPayloads, TextsHaveNumbers};
+ghost use Rattle.vr_state.specs.StateTexts.{texts_of, state_decoded, state_bytes, IsFirstFaultOf, FitsPayloads, TextsHaveNumbers};
 ghost use Rattle.vr_state.specs.declared.state.State.{State};
 
 use crate::reply::ReplyBody;
 use crate::texts::Texts;
 use crate::{Kv, SessionAnswer, Sessions, StateFault};
 use std::alloc::Global;
-use vr_base::NoMemory;
+use vr_base::{NoMemory, Version};
 use vr_header::Entry;
 
 /// What all replicas hold alike after the same entries. Each request is executed at most once in a session.
@@ -91,15 +92,28 @@ impl State {
     {
         let header = entry.header();
         let outcome = self.machine.apply(entry.operation())?;
-        self.sessions
-            .apply(header.op, header.client, header.request, &outcome)?;
+        self.sessions.apply(
+            header.op,
+            header.client,
+            header.request,
+            &outcome,
+            header.version,
+        )?;
         Ok(ReplyBody::Outcome(outcome, header.op))
     }
 
-    /// The two texts of this state, apart.
+    /// Whether a file of this version may hold it: no more sessions than its registers leave, and no longer values in
+    /// outcomes and at keys than its own.
+    pub fn fits(&self, version: Version) -> bool
+        ensures { result ≡ fits version self.now }
+    {
+        self.sessions.fits(version) && self.machine.fits(version)
+    }
+
+    /// The two texts of this state, apart, of at most 586,052 bytes together.
     pub fn encode_state(&self) -> Result<Texts, NoMemory>
         ensures texts { IfOk result (λ texts. texts ≡ texts_of self.now) }
-        ensures size { IfOk result (λ texts. length texts.sessions + length texts.keys ≤ 173156) }
+        ensures size { IfOk result (λ texts. length texts.sessions + length texts.keys ≤ state_bytes) }
         ensures payloads { IfOk result FitsPayloads }
         ensures back { IfOk result (λ texts. state_decoded texts ≡ Ok self.now) }
         ensures one_text { IfOk result (λ texts. (other : State) → IsSessions other.sessions → IsKv other.machine → texts_of other ≡ texts → other ≡ self.now) }

@@ -7,6 +7,7 @@ pub mod Format
 pub mod Heads
 pub mod Keeping
 pub mod Readings
+pub mod Rows
 pub mod Sealing
 pub mod Shared
 pub mod Spelling

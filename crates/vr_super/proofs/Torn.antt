@@ -1,11 +1,12 @@
 -- A copy that was being written when the stop came: it is good with the value's bytes, or as before, or bad.
-use Rattle.std.proofs.Common.{ℕ, ◌+◌, ◌-◌, ◌*◌, ◌<◌, ◌≡◌, ◌⊎◌, inl, inr, arith, refl, sym, ap, ◌∙◌, cond, List, [], ◌∷◌, ◌++◌, length, take, drop, get_or, Option, Some, None}
+use Rattle.std.proofs.Common.{ℕ, ◌+◌, ◌-◌, ◌*◌, ◌<◌, ◌≤◌, ◌≡◌, ◌⊎◌, inl, inr, arith, refl, sym, ap, ◌∙◌, subst, cond, List, [], ◌∷◌, ◌++◌, length, take, drop, get_or, Option, Some, None}
 use Rattle.std.specs.Prelude.{bit_xor, is_some}
 use Rattle.std.specs.List.{AllByRecursion}
 use Rattle.std.proofs.lemmas.Bool.{cases_lt}
 use Rattle.std.proofs.lemmas.List.{get_or-map, get_or-take, get_or_append_left, length-map, length-take, take-take, take-append-le, take-append-drop, take_at}
 use Rattle.vr_base.specs.Bytes.{name_of, piece}
 use Rattle.vr_disk.specs.DiskState.{Call, Write, Sync, Face, Cell, IsFace, after_all, damaged, reads}
+use Rattle.vr_disk.specs.Regions.{sectors}
 use Rattle.vr_disk.specs.Stops.{halted, WritesOnly}
 use Rattle.vr_disk.proofs.Frames.{reads_back}
 use Rattle.vr_disk.proofs.Faces.{there}
@@ -16,7 +17,7 @@ use Rattle.vr_super.specs.Copies.{IsGood, SuperValue, copy_bytes, named_bytes, v
 use Rattle.vr_super.specs.Opens.{copy_reading, good_copy, if_good}
 use Rattle.vr_super.specs.Calls.{copy_calls, mend_copy}
 use Rattle.vr_super.specs.Laws.{TellsApart}
-use Rattle.vr_super.proofs.Format.{good_named, good_version, length-copy_bytes, name-copy_bytes, rest-copy_bytes, value_again}
+use Rattle.vr_super.proofs.Format.{IsVersion, good_named, good_version, length-copy_bytes, name-copy_bytes, rest-copy_bytes, value_again}
 
 -- the value's first sector
 abbrev pub head_of : SuperValue → List ℕ
@@ -39,17 +40,25 @@ same_head v b u rest g e h t =
 some_same : (a b : List ℕ) → Some a ≡ Some b → a ≡ b
 some_same a b e = cc
 
+-- a byte of a version that is damaged is no version's
+turned_version : (b : List ℕ) → 92 < length b → IsVersion (get_or b 92 0) → 253 ≤ get_or (damaged b) 92 0
+turned_version b l v =
+    let turned = get_or-map (λ b. bit_xor b 255) b 92 0 0 l in
+    elim (cases_lt 1 (get_or b 92 0)) [
+      | inl above ↦ let two : get_or b 92 0 ≡ 2 = omega (arith, v, above) in let e = turned ∙ ap (λ b. bit_xor b 255) two in omega (arith, e)
+      | inr low ↦ let one : get_or b 92 0 ≡ 1 = omega (arith, v, low) in let e = turned ∙ ap (λ b. bit_xor b 255) one in omega (arith, e)
+    ]
+
 version_damaged : (v : SuperValue) (b : List ℕ) (u : SuperValue) (rest : List ℕ) → IsGood v → b ≡ damaged (head_of v) ++ rest → value_of b ≡ Some u → ⊥
 unfolding piece
 version_damaged v b u rest g e h =
     let l = head_length v g in
-    let version : get_or (copy_bytes v) 92 0 ≡ 1 = good_version (copy_bytes v) v (value_again v g) in
-    let there : get_or (head_of v) 92 0 ≡ 1 = get_or-take 512 (copy_bytes v) 92 0 (omega arith) ∙ version in
-    let turned : get_or (damaged (head_of v)) 92 0 ≡ 254 = get_or-map (λ b. bit_xor b 255) (head_of v) 92 0 0 (omega arith) ∙ ap (λ b. bit_xor b 255) there in
+    let there : IsVersion (get_or (head_of v) 92 0) = subst IsVersion (sym (get_or-take 512 (copy_bytes v) 92 0 (omega arith))) (good_version (copy_bytes v) v (value_again v g)) in
+    let turned = turned_version (head_of v) (omega arith) there in
     let d = length-map (head_of v) (λ b. bit_xor b 255) in
-    let here : get_or b 92 0 ≡ 254 = ap (λ x. get_or x 92 0) e ∙ (get_or_append_left (damaged (head_of v)) rest 0 92 (omega arith) ∙ turned) in
-    let one = good_version b u h in
-    omega arith
+    let here : get_or b 92 0 ≡ get_or (damaged (head_of v)) 92 0 = ap (λ x. get_or x 92 0) e ∙ get_or_append_left (damaged (head_of v)) rest 0 92 (omega arith) in
+    let within = good_version b u h in
+    omega (arith, turned, here, within.1)
 
 bad_reading : (r : Option (List ℕ)) → ((b : List ℕ) (u : SuperValue) → r ≡ Some b → value_of b ≡ Some u → ⊥) → if_good r ≡ None
 bad_reading None h = refl
@@ -107,7 +116,7 @@ head_reads v f c g h l e =
 abbrev pub Either : List ℕ → List ℕ → Option (List ℕ) → Type 0
 Either a b c = (c ≡ Some a) ⊎ ((c ≡ Some b) ⊎ (c ≡ None))
 
-pub copy_torn : (old new : SuperValue) (f : Face) (c : ℕ) (how : Option ℕ) (j : ℕ) → IsGood old → IsGood new → length f.cells ≡ 1424 → f.waiting ≡ [] → c < 4 → reads f (20 * c) ≡ Some (head_of old)
+pub copy_torn : (old new : SuperValue) (f : Face) (c : ℕ) (how : Option ℕ) (j : ℕ) → IsGood old → IsGood new → length f.cells ≡ sectors → f.waiting ≡ [] → c < 4 → reads f (20 * c) ≡ Some (head_of old)
     → let g = halted how j f (copy_calls c (copy_bytes new)) in TellsApart g old → TellsApart g new → Either (copy_bytes old) (copy_bytes new) (good_copy g c)
 copy_torn old new f c how j go gn n w l before to tn =
     let calls = copy_calls c (copy_bytes new) in
@@ -127,7 +136,7 @@ first_calls c bytes = Write (20 * c) (piece 0 512 bytes) ∷ Sync ∷ []
 abbrev rest_calls : ℕ → List ℕ → List Call
 rest_calls c bytes = writes (20 * c + 1) 19 (drop 512 bytes) ++ Sync ∷ []
 
-mend_first : (v : SuperValue) (f : Face) (c : ℕ) (how : Option ℕ) (j : ℕ) → IsGood v → length f.cells ≡ 1424 → f.waiting ≡ [] → c < 4
+mend_first : (v : SuperValue) (f : Face) (c : ℕ) (how : Option ℕ) (j : ℕ) → IsGood v → length f.cells ≡ sectors → f.waiting ≡ [] → c < 4
     → let g = halted how j f (first_calls c (copy_bytes v)) in TellsApart g v → (copy_reading g c ≡ copy_reading f c) ⊎ OneOf (copy_bytes v) (good_copy g c)
 unfolding copy_reading
 mend_first v f c how j gv n w l t =
@@ -150,7 +159,7 @@ mend_rest v f c how j gv w l e t =
     let spared = spares_append (20 * c) (writes (20 * c + 1) 19 (drop 512 (copy_bytes v))) (Sync ∷ []) (writes_spare 19 (20 * c + 1) (20 * c) (drop 512 (copy_bytes v)) (omega arith)) (tt, tt) in
     head_tells v g c gv l (ap (λ (c : Cell). c.reads) (frame_halted calls f (20 * c) how j spared (rw w refl)) ∙ e) t
 
-pub mend_torn : (v : SuperValue) (f : Face) (c : ℕ) (how : Option ℕ) (j : ℕ) → IsGood v → length f.cells ≡ 1424 → f.waiting ≡ [] → c < 4
+pub mend_torn : (v : SuperValue) (f : Face) (c : ℕ) (how : Option ℕ) (j : ℕ) → IsGood v → length f.cells ≡ sectors → f.waiting ≡ [] → c < 4
     → let g = halted how j f (mend_copy c (copy_bytes v)) in TellsApart g v → (copy_reading g c ≡ copy_reading f c) ⊎ OneOf (copy_bytes v) (good_copy g c)
 unfolding mend_copy
 mend_torn v f c how j gv n w l t =

@@ -3,7 +3,6 @@ use Rattle.std.specs.Prelude.{ℕ, ◌+◌, ◌*◌, Bool, true, ◌&&◌, nat_l
 use Rattle.std.specs.Option.{option_and_then, option_map, option_map_or}
 use Rattle.std.specs.Int.{w32, w64}
 use Rattle.vr_base.specs.Bytes.{number}
-use Rattle.vr_base.specs.Kinds.{of_mode}
 use Rattle.vr_base.specs.declared.kind.Kind.{Kind}
 use Rattle.vr_base.specs.declared.mode.Mode.{Mode}
 use Rattle.vr_base.specs.declared.mode.Mode.TheVariants.{Strict}
@@ -11,7 +10,7 @@ use Rattle.vr_disk.specs.Sectors.{has, together}
 use Rattle.vr_super.specs.declared.fields.Fields.{Fields}
 use Rattle.vr_super.specs.declared.opening.Found.{Found}
 use Rattle.vr_disk.specs.DiskState.{Face}
-use Rattle.vr_super.specs.Copies.{SuperValue, mode_at, value_of}
+use Rattle.vr_super.specs.Copies.{SuperValue, mode_at, value_of, version_at}
 
 unfoldable pub copy_reading : Face → ℕ → Option (List ℕ)
 copy_reading f copy = together (20 * copy) 20 f
@@ -68,7 +67,7 @@ opens f = option_and_then value_of (opened (good_copies f))
 
 -- the kind of the file that a value stands in
 abbrev pub file_kind : Fields → Kind
-file_kind fields = of_mode fields.mode
+file_kind fields = record { mode = fields.mode; version = fields.version }
 
 -- how the slots of a file are judged: as the value says that it opens as; strictly where it opens as none
 abbrev pub mode_in : Face → Mode
@@ -80,8 +79,8 @@ place_of bytes [] = 0
 place_of bytes (c ∷ cs) = if has bytes c then 0 else 1 + place_of bytes cs
 
 abbrev pub found_as : List (Option (List ℕ)) → List ℕ → Found
-found_as copies bytes = record { copy = place_of bytes copies; sequence = number w64 16 bytes; view = number w32 32 bytes; mode = mode_at bytes }
+found_as copies bytes = record { copy = place_of bytes copies; sequence = number w64 16 bytes; view = number w32 32 bytes; version = version_at bytes; mode = mode_at bytes }
 
--- the least copy of the value that opens, with its sequence, view and mode
+-- the least copy of the value that opens, with its sequence, view, version and mode
 unfoldable pub found_of : List (Option (List ℕ)) → Option Found
 found_of copies = option_map (found_as copies) (opened copies)

@@ -12,14 +12,14 @@ use Rattle.vr_msg.specs.Spelling.{AreHeaders}
 use Rattle.vr_journal.specs.Deciding.{first_of, may_jump, sync_view_table}
 use Rattle.vr_journal.specs.Rule.{Rule}
 use Rattle.vr_journal.specs.Rule.TheVariants.{Ignored, Jumped}
-use Rattle.vr_journal.specs.Replica.{Replica, forgetting, last_view}
+use Rattle.vr_journal.specs.Replica.{Replica, forgetting, last_view, version}
 use Rattle.vr_journal.specs.Rules.{acknowledge_stored, obey_sync_view, on_sync_view}
 use Rattle.vr_journal.specs.Sound.{IsNameBytes}
 use Rattle.vr_journal.specs.Steps.{◌⨾◌}
 use Rattle.vr_journal.specs.Words.{apply, jump, jumped}
 use Rattle.vr_journal.specs.Given.{IsSyncFor}
 use Rattle.vr_journal.proofs.Jumping.{kept_jumped, may_jump_is}
-use Rattle.vr_journal.proofs.Ruling.{by_rows, group_of_primary}
+use Rattle.vr_journal.proofs.Ruling.{IsFor, by_rows, group_of_primary}
 use Rattle.vr_journal.proofs.SavesJump.{savable_jumped}
 use Rattle.vr_journal.proofs.Trying.{from_at}
 use Rattle.vr_journal.specs.Halt.{Halt}
@@ -35,7 +35,7 @@ use Rattle.vr_journal.specs.Telling.{each_to}
 
 -- ---- the log that a sync_view tells of
 
-told_sync : (v : SyncView) (r : Replica) → IsSyncing v → v.cluster ≡ r.cluster → AreHeaders v.body.headers → IsSyncFor r v
+told_sync : (v : SyncView) (r : Replica) → IsSyncing v → IsFor v.version v.cluster r → AreHeaders v.body.headers → IsSyncFor r v
 unfolding IsSyncing
 told_sync v r m g w = record {
   log = record {
@@ -43,7 +43,7 @@ told_sync v r m g w = record {
     count = m.count;
     each = λ i h e. (
       header_in v.body.headers i h w e,
-      subst (λ c. IsEntryAt c v.view (v.body.lo + 1 + i) h) g (from_at (IsEntryAt v.cluster v.view) (v.body.lo + 1) v.body.headers i h m.headers e),
+      rw (← g.0, ← g.1) (from_at (IsEntryAt v.version v.cluster v.view) (v.body.lo + 1) v.body.headers i h m.headers e),
     );
   };
   within = (m.order.0, m.order.1);
@@ -72,7 +72,7 @@ jumped_by v r k m w =
       λ t e. absurd cc,
       λ n0. (
         λ t e. record {
-          log = told_sync v r m (group_of_primary v.cluster v.replica v.view r n0) w;
+          log = told_sync v r m (group_of_primary v.version v.cluster v.replica v.view r n0) w;
           view = view_synced v m;
           may = (and_parts (may_jump name_of v r) _ t).0;
           address = root_synced v m;
@@ -90,6 +90,14 @@ idle_jumped : (v : SyncView) (r : Replica) → (jumped v r).idle ≤ 9
 unfolding jumped forgetting
 idle_jumped v r = omega arith
 
+state_jumped : (v : SyncView) (r : Replica) → (jumped v r).state ≡ r.state
+unfolding jumped forgetting
+state_jumped v r = refl
+
+version_jumped : (v : SyncView) (r : Replica) → version (jumped v r) ≡ version r
+unfolding jumped forgetting
+version_jumped v r = refl
+
 -- the name of a root has 16 bytes, whatever message it is from
 pub ready_jumped : (v : SyncView) (r q : Replica) → q ≡ jumped v r → MayJump v r → IsNameBytes v.root_name.0 → IsReady r → IsReady q
 unfolding IsReady MayJump
@@ -100,6 +108,8 @@ ready_jumped v r q e m name h =
       sound = (kept_jumped v r h.sound m.log may).sound;
       savable = savable_jumped v r h.sound m.log may m.address name (omega arith) h.savable;
       idle = idle_jumped v r;
+      fits = rw (version_jumped v r, state_jumped v r) h.fits;
+      runs = version_jumped v r ∙ h.runs;
     })
 
 pub view_jumped : (v : SyncView) (r q : Replica) → q ≡ jumped v r → q.view ≡ v.view

@@ -30,7 +30,7 @@ pub fn decide_get_sync(replica: &Replica, get: &GetSync) -> SyncRule
     ensures rule { first_of (get_sync_table get.now replica.now) ≡ sync_rule result }
     ensures down { result ≡ SyncRule.SyncGiven → reaches_down replica.now ≡ true }
 {
-    if !replica.is_from(get.cluster, get.replica) {
+    if !replica.is_from(get.version, get.cluster, get.replica) {
         SyncRule::Ignored
     } else if replica.leads() && get.view <= replica.view() && replica.reaches_down() {
         SyncRule::SyncGiven

@@ -34,7 +34,7 @@ pub fn decide_sync_view(replica: &Replica, sync: &SyncView) -> JumpRule
     ensures rule { first_of (sync_view_table name_of sync.now replica.now) ≡ jump_rule result }
     ensures values { result ≡ JumpRule.Jumped → AreHeaders sync.now.body.headers }
 {
-    if !replica.is_from_primary(sync.cluster, sync.replica, sync.view) {
+    if !replica.is_from_primary(sync.version, sync.cluster, sync.replica, sync.view) {
         JumpRule::Ignored
     } else if replica.may_jump(sync) && replica.index() != primary(replica.n(), sync.view) {
         JumpRule::Jumped

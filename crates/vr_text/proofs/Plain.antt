@@ -4,6 +4,7 @@ use Rattle.std.specs.Fmt.{digits, digits_onto, digit_glyph, decimal}
 use Rattle.std.specs.List.{list_all}
 use Rattle.std.proofs.lemmas.Bool.{and_parts, cond_both}
 use Rattle.std.proofs.lemmas.List.Folds.{list_all-append}
+use Rattle.vr_base.specs.Versions.{value_limit}
 use Rattle.vr_header.specs.declared.operation.Operation.{Operation}
 use Rattle.vr_header.specs.declared.operation.Operation.TheVariants.{Register, Put, Get, Delete}
 use Rattle.vr_header.specs.declared.outcome.Outcome.{Outcome}
@@ -83,20 +84,20 @@ entry_plain op made = both (numbered (codes "op ") op) (numbered (codes " made "
 pub client_plain : (client request : ℕ) → IsPlain (client_text client request)
 client_plain client request = search (rules, both, number) depth 12
 
-pub operation_plain : (o : Operation) → IsOperation o → IsPlain (operation_text o)
-operation_plain Register h = refl
-operation_plain (Put key value) h =
+pub operation_plain : (version : ℕ) (o : Operation) → IsOperation version o → IsPlain (operation_text o)
+operation_plain version Register h = refl
+operation_plain version (Put key value) h =
     let first : IsPlain (codes "put " ++ key) = both (codes "put ") key refl (texts 64 key h.0) in
-    both (codes "put " ++ key ++ codes " ") value (both (codes "put " ++ key) (codes " ") first refl) (texts 1024 value h.1)
-operation_plain (Get key) h = both (codes "get ") key refl (texts 64 key h)
-operation_plain (Delete key) h = both (codes "del ") key refl (texts 64 key h)
+    both (codes "put " ++ key ++ codes " ") value (both (codes "put " ++ key) (codes " ") first refl) (texts (value_limit version) value h.1)
+operation_plain version (Get key) h = both (codes "get ") key refl (texts 64 key h)
+operation_plain version (Delete key) h = both (codes "del ") key refl (texts 64 key h)
 
-pub outcome_plain : (o : Outcome) → IsOutcome o → IsPlain (outcome_text o)
-outcome_plain outcome.Session h = refl
-outcome_plain outcome.Ok h = refl
-outcome_plain outcome.Full h = refl
-outcome_plain outcome.Absent h = refl
-outcome_plain (outcome.Value value) h = both (codes "value ") value refl (texts 1024 value h)
+pub outcome_plain : (version : ℕ) (o : Outcome) → IsOutcome version o → IsPlain (outcome_text o)
+outcome_plain version outcome.Session h = refl
+outcome_plain version outcome.Ok h = refl
+outcome_plain version outcome.Full h = refl
+outcome_plain version outcome.Absent h = refl
+outcome_plain version (outcome.Value value) h = both (codes "value ") value refl (texts (value_limit version) value h)
 
 pub frame_plain : (f : Frame) → IsPlain (frame_text f)
 unfolding prepare_text prepare_ok_text commit_text do_view_change_text statement_text start_view_text sync_view_text get_prepare_text give_prepare_text

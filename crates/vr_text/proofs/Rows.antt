@@ -20,7 +20,7 @@ use Rattle.vr_text.specs.Text.{chosen_text, commit_text, committed_text, do_view
 
 -- an entry of client 7; no text has a name, so that any will do
 abbrev entry : ℕ → ℕ → ℕ → Operation → Whole
-entry op made request operation = made_by (λ bytes. []) (request_by (λ bytes. []) 0 7 request operation) operation made op no_name
+entry op made request operation = made_by (λ bytes. []) (request_by (λ bytes. []) 1 0 7 request operation) operation made op no_name
 
 abbrev some_header : Header
 some_header = root_by (λ bytes. []) 0
@@ -32,7 +32,7 @@ abbrev commits : ℕ → ℕ → Operation → List ℕ
 commits op request operation = line_text 9 (output.Commit (record { replica = 0; entry = entry op 0 request operation }))
 
 abbrev replies : ℕ → ReplyKind → List ℕ
-replies request kind = line_text 9 (output.Reply (record { cluster = 0; replica = 0; view = 3; client = 7; request = request; request_name = no_name; kind = kind }))
+replies request kind = line_text 9 (output.Reply (record { version = 1; cluster = 0; replica = 0; view = 3; client = 7; request = request; request_name = no_name; kind = kind }))
 
 abbrev answers : ℕ → Outcome → List ℕ
 answers op outcome = replies 1 (reply.Outcome (record { op = op; outcome = outcome }))
@@ -42,22 +42,23 @@ chooses own = line_text 9 (output.Choose (record { replica = 1; view = 1; log_vi
 
 abbrev states : ℕ → ℕ → ℕ → List Part → List ℕ
 states commit head first parts =
-    sends 10 2 1 (DoViewChange (record { cluster = 0; replica = 2; view = 1; statement = record { log_view = 0; commit = commit; head = head; body = record { first = first; parts = parts } } }))
+    sends 10 2 1 (DoViewChange (record { version = 1; cluster = 0; replica = 2; view = 1; statement = record { log_view = 0; commit = commit; head = head; body = record { first = first; parts = parts } } }))
 
-normal_messages : (sends 0 0 1 (Prepare (record { replica = 0; view = 0; commit = 0; entry = entry 1 0 0 Register })) ≡ codes "send 0 0 1 prepare view 0 op 1 made 0 commit 0\n")
-    × (sends 2 1 0 (PrepareOk (record { cluster = 0; replica = 1; view = 0; op = 1; name = no_name; made = 0 })) ≡ codes "send 2 1 0 prepare_ok view 0 op 1 made 0\n")
-    × (sends 13 1 0 (Commit (record { cluster = 0; replica = 1; view = 1; head = 1; commit = 0 })) ≡ codes "send 13 1 0 commit view 1 op 1 commit 0\n")
+normal_messages : (sends 0 0 1 (Prepare (record { version = 1; replica = 0; view = 0; commit = 0; entry = entry 1 0 0 Register })) ≡ codes "send 0 0 1 prepare view 0 op 1 made 0 commit 0\n")
+    × (sends 2 1 0 (PrepareOk (record { version = 1; cluster = 0; replica = 1; view = 0; op = 1; name = no_name; made = 0 })) ≡ codes "send 2 1 0 prepare_ok view 0 op 1 made 0\n")
+    × (sends 13 1 0 (Commit (record { version = 1; cluster = 0; replica = 1; view = 1; head = 1; commit = 0 })) ≡ codes "send 13 1 0 commit view 1 op 1 commit 0\n")
 unfolding sent_text prepare_text prepare_ok_text commit_text numbered viewed digits
 normal_messages = (refl, refl, refl)
 
-view_messages : (sends 6 1 0 (StartViewChange (record { cluster = 0; replica = 1; view = 1 })) ≡ codes "send 6 1 0 start_view_change view 1\n")
-    × (sends 11 1 0 (StartView (record { cluster = 0; replica = 1; view = 1; head = 1; commit = 0; body = record { lo = 0; headers = [] } })) ≡ codes "send 11 1 0 start_view view 1 op 1 commit 0\n")
-    × (sends 6 2 0 (GetView (record { cluster = 0; replica = 2; view = 0 })) ≡ codes "send 6 2 0 get_view view 0\n")
+view_messages : (sends 6 1 0 (StartViewChange (record { version = 1; cluster = 0; replica = 1; view = 1 })) ≡ codes "send 6 1 0 start_view_change view 1\n")
+    × (sends 11 1 0 (StartView (record { version = 1; cluster = 0; replica = 1; view = 1; head = 1; commit = 0; body = record { lo = 0; headers = [] } })) ≡ codes "send 11 1 0 start_view view 1 op 1 commit 0\n")
+    × (sends 6 2 0 (GetView (record { version = 1; cluster = 0; replica = 2; view = 0 })) ≡ codes "send 6 2 0 get_view view 0\n")
 unfolding sent_text start_view_text numbered viewed digits
 view_messages = (refl, refl, refl)
 
-sync_messages : (sends 197 2 0 (GetSync (record { cluster = 0; replica = 2; view = 0 })) ≡ codes "send 197 2 0 get_sync view 0\n")
+sync_messages : (sends 197 2 0 (GetSync (record { version = 1; cluster = 0; replica = 2; view = 0 })) ≡ codes "send 197 2 0 get_sync view 0\n")
     × (sends 198 0 2 (SyncView (record {
+      version = 1;
       cluster = 0;
       replica = 0;
       view = 0;
@@ -71,10 +72,10 @@ sync_messages : (sends 197 2 0 (GetSync (record { cluster = 0; replica = 2; view
 unfolding sent_text sync_view_text numbered viewed digits
 sync_messages = (refl, refl)
 
-repair_messages : (sends 8 2 0 (GetPrepare (record { cluster = 0; replica = 2; op = 1; name = no_name; made = 0 })) ≡ codes "send 8 2 0 get_prepare op 1 made 0\n")
-    × (sends 9 0 2 (GivePrepare (record { replica = 0; entry = entry 1 0 0 Register })) ≡ codes "send 9 0 2 give_prepare op 1 made 0\n")
-    × (sends 66 1 0 (GetBlock (record { cluster = 0; replica = 1; address = 64; name = no_name })) ≡ codes "send 66 1 0 get_block 64\n")
-    × (sends 67 0 1 (GiveBlock (record { cluster = 0; replica = 0; address = 64; block = [] })) ≡ codes "send 67 0 1 give_block 64\n")
+repair_messages : (sends 8 2 0 (GetPrepare (record { version = 1; cluster = 0; replica = 2; op = 1; name = no_name; made = 0 })) ≡ codes "send 8 2 0 get_prepare op 1 made 0\n")
+    × (sends 9 0 2 (GivePrepare (record { version = 1; replica = 0; entry = entry 1 0 0 Register })) ≡ codes "send 9 0 2 give_prepare op 1 made 0\n")
+    × (sends 66 1 0 (GetBlock (record { version = 1; cluster = 0; replica = 1; address = 64; name = no_name })) ≡ codes "send 66 1 0 get_block 64\n")
+    × (sends 67 0 1 (GiveBlock (record { version = 1; cluster = 0; replica = 0; address = 64; block = [] })) ≡ codes "send 67 0 1 give_block 64\n")
 unfolding sent_text get_prepare_text give_prepare_text numbered viewed digits
 repair_messages = (refl, refl, refl, refl)
 

@@ -14,9 +14,9 @@ is_plain byte = nat_le 32 byte && nat_le byte 126
 abbrev pub IsPlain : List ℕ → Type 0
 IsPlain bytes = IsTrue (list_all is_plain bytes)
 
--- what the types keep: the texts of keys and values are printable
+-- what the types keep, of whichever version: the texts of keys and values are printable, and no longer than version 2 has them
 abbrev pub HasText : ReplyKind → Type 0
-HasText (reply.Outcome a) = IsOutcome a.outcome
+HasText (reply.Outcome a) = IsOutcome 2 a.outcome
 HasText reply.Old = ⊤
 HasText reply.Gap = ⊤
 HasText reply.Evicted = ⊤
@@ -25,7 +25,7 @@ HasText reply.Redirect = ⊤
 
 abbrev pub HasTexts : Output → Type 0
 HasTexts (output.Send s) = ⊤
-HasTexts (output.Commit c) = IsOperation c.entry.operation
+HasTexts (output.Commit c) = IsOperation 2 c.entry.operation
 HasTexts (output.Reply r) = HasText r.kind
 HasTexts (output.Choose c) = ⊤
 HasTexts (output.Wait w) = ⊤

@@ -28,7 +28,7 @@ fn put_sent(to: &mut ByteList, m: u64, s: &Sent) -> Result<(), AllocError>
 #[tactic(auto, using(std::proofs::lemmas::Grind::common_steps, crate::proofs::Fronts::front_then), unfolding(crate::specs::Text::committed_text))]
 fn put_committed(to: &mut ByteList, c: &Committed) -> Result<(), AllocError>
     ensures text { OnOk result (to.new ≡ to.old ++ committed_text c.now) }
-    ensures printable { OnOk result (IsOperation c.now.entry.operation) }
+    ensures printable { OnOk result (IsOperation 2 c.now.entry.operation) }
     ensures front { IsFront to.old to.new }
 {
     let header = c.entry.header();

@@ -71,7 +71,7 @@ pub fn put_client(to: &mut ByteList, client: u64, request: u32) -> Result<(), Al
 #[tactic(auto, using(std::proofs::lemmas::Grind::common_steps, crate::proofs::Fronts::front_then))]
 pub fn put_operation(to: &mut ByteList, operation: &Operation) -> Result<(), AllocError>
     ensures text { OnOk result (to.new ≡ to.old ++ operation_text operation.now) }
-    ensures printable { OnOk result (IsOperation operation.now) }
+    ensures printable { OnOk result (IsOperation 2 operation.now) }
     ensures front { IsFront to.old to.new }
 {
     match operation {
@@ -97,7 +97,7 @@ pub fn put_operation(to: &mut ByteList, operation: &Operation) -> Result<(), All
 #[tactic(auto, using(std::proofs::lemmas::Grind::common_steps, crate::proofs::Fronts::front_then))]
 pub fn put_outcome(to: &mut ByteList, outcome: &Outcome) -> Result<(), AllocError>
     ensures text { OnOk result (to.new ≡ to.old ++ outcome_text outcome.now) }
-    ensures printable { OnOk result (IsOutcome outcome.now) }
+    ensures printable { OnOk result (IsOutcome 2 outcome.now) }
     ensures front { IsFront to.old to.new }
 {
     match outcome {

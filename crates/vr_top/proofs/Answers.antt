@@ -159,25 +159,25 @@ asked status.SpawnFault c k x t t' b n e = absurd e
 
 -- ---- a client
 
-stopped : (s : Status) (k : ℕ) (r r' : client.Reading) → client.StopsAt k r r' s → client_gives s ≡ true
-stopped status.Done k r r' e = refl
-stopped (status.Refused line) k r r' e = refl
-stopped status.ReadFault k r r' e = refl
-stopped status.NoMemory k r r' e = refl
-stopped status.WriteFault k r r' e = refl
-stopped status.LinkFault k r r' e = refl
-stopped status.NoAnswer k r r' e = refl
-stopped status.SessionLost k r r' e = refl
-stopped status.Usage k r r' e = absurd e
-stopped status.DiskFault k r r' e = absurd e
-stopped status.SuperLost k r r' e = absurd e
-stopped (status.OtherMember found asked) k r r' e = absurd e
-stopped status.Occupied k r r' e = absurd e
-stopped status.SpawnFault k r r' e = absurd e
+stopped : (s : Status) (version k : ℕ) (r r' : client.Reading) → client.StopsAt version k r r' s → client_gives s ≡ true
+stopped status.Done version k r r' e = refl
+stopped (status.Refused line) version k r r' e = refl
+stopped status.ReadFault version k r r' e = refl
+stopped status.NoMemory version k r r' e = refl
+stopped status.WriteFault version k r r' e = refl
+stopped status.LinkFault version k r r' e = refl
+stopped status.NoAnswer version k r r' e = refl
+stopped status.SessionLost version k r r' e = refl
+stopped status.Usage version k r r' e = absurd e
+stopped status.DiskFault version k r r' e = absurd e
+stopped status.SuperLost version k r r' e = absurd e
+stopped (status.OtherMember found asked) version k r r' e = absurd e
+stopped status.Occupied version k r r' e = absurd e
+stopped status.SpawnFault version k r r' e = absurd e
 
 at_line : (s : Status) (c : ask.Client) (k : ℕ) (r : client.Reading) (t : ask.Stand) (r' : client.Reading) (t' : ask.Stand) (b n : ask.Faults)
-    → ((t' ≡ t) × client.StopsAt k r r' s) ⊎ client.EndsAt c k r t r' t' b n s → client_gives s ≡ true
-at_line s c k r t r' t' b n (inl x) = stopped s k r r' x.1
+    → ((t' ≡ t) × client.StopsAt c.version k r r' s) ⊎ client.EndsAt c k r t r' t' b n s → client_gives s ≡ true
+at_line s c k r t r' t' b n (inl x) = stopped s c.version k r r' x.1
 at_line s c k r t r' t' b n (inr x) = (asked s c k x.operation t t' b n x.ends).client
 
 ran : (s : Status) (c : ask.Client) (r : client.Reading) (t : ask.Stand) (r' : client.Reading) (t' : ask.Stand) (b n : ask.Faults) → client.EndsRun c r t r' t' b n s → client_gives s ≡ true

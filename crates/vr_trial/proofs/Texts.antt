@@ -4,6 +4,8 @@ use Rattle.std.specs.Fmt.{decimal}
 use Rattle.std.specs.List.{list_all}
 use Rattle.std.proofs.lemmas.List.Folds.{list_all-append}
 use Rattle.std.proofs.lemmas.Fmt.{decimal_by_steps, length-decimal-le}
+use Rattle.vr_base.proofs.Versions.{between}
+use Rattle.vr_base.specs.Versions.{value_limit}
 use Rattle.vr_header.specs.Text.{is_printable, is_text}
 use Rattle.vr_trial.specs.Told.{key, value}
 
@@ -32,5 +34,11 @@ lettered limit letter n room least most small =
 pub key_text : (number : ℕ) → number < 1000 → IsTrue (is_text 64 (key number))
 key_text number h = lettered 64 107 number (omega arith) (omega arith) (omega arith) h
 
-pub value_text : (number : ℕ) → number < 1000 → IsTrue (is_text 1024 (value number))
-value_text number h = lettered 1024 118 number (omega arith) (omega arith) (omega arith) h
+pub value_text : (number : ℕ) → number < 1000 → IsTrue (is_text (value_limit 2) (value number))
+value_text number h = lettered (value_limit 2) 118 number (omega arith) (omega arith) (omega arith) h
+
+-- a value with a number is one of any version
+pub value_fits : (version number : ℕ) → number < 1000 → IsTrue (is_text (value_limit version) (value number))
+value_fits version number h =
+    let least = between version 1024 3000 (omega arith) in
+    lettered (value_limit version) 118 number (omega (arith, least)) (omega arith) (omega arith) h

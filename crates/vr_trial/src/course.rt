@@ -6,7 +6,8 @@ ghost use Rattle.vr_trial.specs.Told.{trial_of};
 
 use crate::plan::Plan;
 use std::alloc::Global;
-use vr_base::{NoMemory, Seq};
+use vr_ask::CLIENT_VERSION;
+use vr_base::{NoMemory, Seq, Version};
 use vr_client::ClientCore;
 
 /// The client that asks.
@@ -36,7 +37,13 @@ impl Course {
         running.resize(n, None)?;
         Ok(Course {
             alloc,
-            core: ClientCore::new(alloc, plan.cluster, CLIENT, n as u8)?,
+            core: ClientCore::new(
+                alloc,
+                plan.cluster,
+                CLIENT,
+                n as u8,
+                Version::new(CLIENT_VERSION),
+            )?,
             running: Seq::from_vec(running),
         })
     }

@@ -1,7 +1,10 @@
 //! The lines that say what became of a member, and what the client asks.
-ghost use Rattle.std.specs.Prelude.{◌≡◌, IfErr, IfOk, OnOk, string_bytes};
+ghost use Rattle.std.specs.Prelude.{◌≡◌, ℕ, IfErr, IfOk, IsTrue, OnOk, string_bytes};
 ghost use Rattle.std.specs.Io.KnownBytes.{Appends};
 ghost use Rattle.vr_ask.specs.Asking.{CountsWrites};
+ghost use Rattle.vr_base.specs.Versions.{value_limit};
+ghost use Rattle.vr_header.specs.Bodies.{IsOperation};
+ghost use Rattle.vr_header.specs.Text.{is_text};
 ghost use Rattle.vr_trial.specs.Run.{IsCut};
 ghost use Rattle.vr_trial.specs.Told.{key, member_line, operation_of, value};
 
@@ -43,24 +46,27 @@ pub fn write_line<K: Sink>(
 /// The key with a number.
 #[tactic(auto, using(std::proofs::lemmas::Grind::common_steps, crate::proofs::Texts::key_text))]
 fn key(alloc: Global, number: u8) -> Result<Key, AllocError>
-    ensures { IfOk result (λ k. k ≡ key number) }
+    ensures value { IfOk result (λ k. k ≡ key number) }
+    ensures fits { IfOk result (λ k. IsTrue (is_text 64 k)) }
 {
     let text = format!(in alloc; "k{number}")?;
     Key::from_bytes(alloc, text.as_bytes())
 }
 
 /// The value with a number.
-#[tactic(auto, using(std::proofs::lemmas::Grind::common_steps, crate::proofs::Texts::value_text))]
+#[tactic(auto, using(std::proofs::lemmas::Grind::common_steps, crate::proofs::Texts::value_text, crate::proofs::Texts::value_fits))]
 fn value(alloc: Global, number: u8) -> Result<Value, AllocError>
-    ensures { IfOk result (λ v. v ≡ value number) }
+    ensures value { IfOk result (λ v. v ≡ value number) }
+    ensures fits { (version : ℕ) → IfOk result (λ v. IsTrue (is_text (value_limit version) v)) }
 {
     let text = format!(in alloc; "v{number}")?;
     Value::from_bytes(alloc, text.as_bytes())
 }
 
-/// The operation of a question.
+/// The operation of a question, one of any version.
 pub fn operation_of(alloc: Global, question: Question) -> Result<Operation, AllocError>
-    ensures { IfOk result (λ operation. operation ≡ operation_of question) }
+    ensures value { IfOk result (λ operation. operation ≡ operation_of question) }
+    ensures fits { (version : ℕ) → IfOk result (λ operation. IsOperation version operation) }
 {
     match question {
         Question::Register => Ok(Operation::Register),

@@ -15,7 +15,7 @@ use Rattle.vr_msg.specs.Choice.{top_view}
 use Rattle.vr_msg.specs.Logs.{IsStatement}
 use Rattle.vr_journal.specs.Outputs.{send_to_all, start_view, wait_line}
 use Rattle.vr_journal.specs.Steps.{◌⨾◌, says}
-use Rattle.vr_journal.specs.Replica.{Replica, is_primary, is_started, last_view}
+use Rattle.vr_journal.specs.Replica.{Replica, is_primary, is_started, last_view, version}
 use Rattle.vr_journal.specs.Sound.{IsStated}
 use Rattle.vr_journal.specs.Words.{Log, apply, begin_view, choose_line, chosen_log, decided, obey_choice, prepare_again, stated, take, try, try_log}
 use Rattle.vr_journal.proofs.Storing.{head_number}
@@ -33,7 +33,7 @@ use Rattle.vr_journal.specs.Telling.{each_to}
 pub some_stated : (r : Replica) (ss : List Statement) → IsReady r → ss ≡ stated r → All IsSomeStatement ss
 unfolding IsReady
 some_stated r ss h e =
-    rw e (some_statements r.cluster (stated r) (All-weaker (IsStated r.cluster r.view) (IsStatement r.cluster) (λ s i. i.statement) (stated r) (all_stated r h.sound)))
+    rw e (some_statements (version r) r.cluster (stated r) (All-weaker (IsStated (version r) r.cluster r.view) (IsStatement (version r) r.cluster) (λ s i. i.statement) (stated r) (all_stated r h.sound)))
 
 -- the log that it chooses is one of its group
 pub chosen_taught : (r : Replica) (ss : List Statement) (c : Choice) (hs : List Header) (l : Log) → IsReady r → r.view ≤ last_view → ss ≡ stated r → c ≡ decided r → c ≡ Ends hs → l ≡ chosen_log r ss hs → IsTaught l r

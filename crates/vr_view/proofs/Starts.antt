@@ -1,5 +1,5 @@
 -- Start_views and get_views: which rule applies, and what it is.
-use Rattle.std.proofs.Common.{arith, ℕ, zero, suc, slice_get, ◌∷◌, ◌≡◌, ◌≤◌, ◌+◌, ◌-◌, ◌∙◌, sym, ap, subst, List, [], ◌++◌, Option, Some, Result, Ok}
+use Rattle.std.proofs.Common.{arith, ℕ, zero, suc, slice_get, ◌∷◌, ◌≡◌, ◌≤◌, ◌+◌, ◌∙◌, sym, ap, subst, List, [], ◌++◌, Option, Some, Result, Ok}
 use Rattle.std.proofs.lemmas.Bool.{and_parts}
 use Rattle.vr_base.specs.Bytes.{name_of}
 use Rattle.vr_disk.specs.DiskState.{Disk}
@@ -18,7 +18,7 @@ use Rattle.vr_journal.specs.Replica.{Replica, last_view}
 use Rattle.vr_journal.specs.Rules.{acknowledge_stored, obey_get_view, obey_start_view, on_get_view, on_start_view}
 use Rattle.vr_journal.specs.Steps.{◌⨾◌}
 use Rattle.vr_journal.specs.Words.{Log, apply, may_take, take}
-use Rattle.vr_journal.proofs.Ruling.{by_rows, group_of_primary}
+use Rattle.vr_journal.proofs.Ruling.{IsFor, by_rows, group_of_primary}
 use Rattle.vr_journal.specs.Given.{IsLogFor}
 use Rattle.vr_journal.proofs.Trying.{from_at}
 use Rattle.vr_journal.specs.Halt.{Halt}
@@ -35,14 +35,14 @@ use Rattle.vr_journal.specs.Telling.{each_to}
 
 -- ---- the log that a start_view tells of
 
-told_log : (v : StartView) (r : Replica) → IsStarting v → v.cluster ≡ r.cluster → AreHeaders v.body.headers → IsLogFor r (log_of v)
+told_log : (v : StartView) (r : Replica) → IsStarting v → IsFor v.version v.cluster r → AreHeaders v.body.headers → IsLogFor r (log_of v)
 unfolding IsStarting
 told_log v r m g w = record {
   commit = m.commit;
   count = m.count;
   each = λ i h e. (
     header_in v.body.headers i h w e,
-    subst (λ c. IsEntryAt c v.view (v.body.lo + 1 + i) h) g (from_at (IsEntryAt v.cluster v.view) (v.body.lo + 1) v.body.headers i h m.headers e),
+    rw (← g.0, ← g.1) (from_at (IsEntryAt v.version v.cluster v.view) (v.body.lo + 1) v.body.headers i h m.headers e),
   );
 }
   where
@@ -62,7 +62,7 @@ taken_by v r k m w =
       λ t e. absurd cc,
       λ n0. (
         λ t e. record {
-          log = told_log v r m (group_of_primary v.cluster v.replica v.view r n0) w;
+          log = told_log v r m (group_of_primary v.version v.cluster v.replica v.view r n0) w;
           view = view_started v m;
           may = (and_parts (may_take name_of (log_of v) r) _ t).0;
         },

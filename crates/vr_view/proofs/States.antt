@@ -11,12 +11,12 @@ use Rattle.vr_journal.specs.Deciding.{first_of, do_view_change_table, is_from}
 use Rattle.vr_journal.specs.Rule.{Rule}
 use Rattle.vr_journal.specs.Rule.TheVariants.{Ignored, StatedBefore, StatedLate, Stated}
 use Rattle.vr_journal.specs.Outputs.{send_to, start_view}
-use Rattle.vr_journal.specs.Replica.{Replica, last_view}
+use Rattle.vr_journal.specs.Replica.{Replica, last_view, version}
 use Rattle.vr_journal.specs.Rules.{obey_do_view_change, on_do_view_change, with_statement}
 use Rattle.vr_journal.specs.Sound.{IsStated}
 use Rattle.vr_journal.specs.Steps.{◌⨾◌, change}
 use Rattle.vr_journal.specs.Words.{enter, entered, try, with_saved}
-use Rattle.vr_journal.proofs.Ruling.{by_rows, group_of, kept_statement}
+use Rattle.vr_journal.proofs.Ruling.{IsFor, by_rows, group_of, kept_statement}
 use Rattle.vr_journal.proofs.SavesWell.{savable_alike}
 use Rattle.vr_journal.specs.Halt.{Halt}
 use Rattle.vr_journal.specs.Does.{Does}
@@ -58,7 +58,7 @@ pub ruleset enters = (enter_then, enter_none, view_entered, cluster_entered, siz
 -- what is stated for the view that the replica is in
 pub record ToKeep (d : DoViewChange) (r : Replica) : Type 0 where
   pub later : r.view ≤ d.view
-  pub group : d.cluster ≡ r.cluster
+  pub group : IsFor d.version d.cluster r
   pub sender : d.replica < r.n
 
 not_false : (b : Bool) → not b ≡ false → b ≡ true
@@ -69,8 +69,8 @@ or_false : (a b : Bool) → (a || b) ≡ false → a ≡ false
 or_false true b e = absurd cc
 or_false false b e = refl
 
-from_is : (cluster sender : ℕ) (r : Replica) → is_from cluster sender r ≡ true → sender < r.n
-from_is cluster sender r e = ltb-true sender r.n (and_parts (nat_lt sender r.n) _ (and_parts _ (nat_lt sender r.n && _) e).1).0
+from_is : (v cluster sender : ℕ) (r : Replica) → is_from v cluster sender r ≡ true → sender < r.n
+from_is v cluster sender r e = ltb-true sender r.n (and_parts (nat_lt sender r.n) _ (and_parts _ (nat_lt sender r.n && _) e).1).0
 
 pub stated_means : (d : DoViewChange) (r : Replica) → first_of (do_view_change_table d r) ≡ Stated → ToKeep d r
 stated_means d r =
@@ -82,24 +82,31 @@ stated_means d r =
           λ t e. absurd cc,
           λ n2. (
             λ t e.
-                let from = not_false (is_from d.cluster d.replica r) n0 in
-                record { later = ltb-false d.view r.view (or_false (nat_lt d.view r.view) _ n1); group = group_of d.cluster d.replica r from; sender = from_is d.cluster d.replica r from },
+                let from = not_false (is_from d.version d.cluster d.replica r) n0 in
+                record { later = ltb-false d.view r.view (or_false (nat_lt d.view r.view) _ n1); group = group_of d.version d.cluster d.replica r from; sender = from_is d.version d.cluster d.replica r from },
             λ n3 e. absurd cc,
           ),
         ),
       ),
     )
 
-pub ready_stated : (d : DoViewChange) (r q : Replica) (s : Statement) → q ≡ with_statement d.replica s r → s ≡ d.statement → AreHeaders (known d.statement.body.parts) → IsStating d → r.view ≡ d.view → r.cluster ≡ d.cluster → IsReady r → IsReady q
+pub ready_stated : (d : DoViewChange) (r q : Replica) (s : Statement) → q ≡ with_statement d.replica s r → s ≡ d.statement → AreHeaders (known d.statement.body.parts) → IsStating d → r.view ≡ d.view → (version r ≡ d.version) × (r.cluster ≡ d.cluster) → IsReady r → IsReady q
 unfolding IsReady IsStating
 ready_stated d r q s e i w m v g h =
     let older = m.log_view in
-    let is : IsStated r.cluster r.view d.statement = rw (v, g) (record { statement = m.statement; values = w; view = omega arith }) in
+    let is : IsStated (version r) r.cluster r.view d.statement = rw (v, g.0, g.1) (record { statement = m.statement; values = w; view = omega arith }) in
     rw (e, i) (record {
       sound = (kept_statement d.replica d.statement r h.sound is).sound;
       savable = savable_alike r (with_statement d.replica d.statement r) refl h.savable;
       idle = h.idle;
+      fits = h.fits;
+      runs = h.runs;
     })
+
+-- a later view leaves the version and the group as they are
+pub still_for : (d : DoViewChange) (r q : Replica) → IsReady r → IsReady q → q.cluster ≡ r.cluster → ToKeep d r → (version q ≡ d.version) × (q.cluster ≡ d.cluster)
+unfolding IsReady
+still_for d r q h k e t = let g = t.group in (k.runs ∙ sym h.runs ∙ sym g.0, e ∙ sym g.1)
 
 -- its view may be entered
 pub view_stated : (d : DoViewChange) → IsStating d → d.view ≤ last_view

@@ -3,7 +3,7 @@ use Rattle.std.proofs.Common.{arith, ◌≡◌, ◌≤◌, refl, sym, Bool, true
 use Rattle.std.proofs.Common.{◌∙◌}
 use Rattle.vr_base.specs.Bytes.{name_of}
 use Rattle.vr_msg.specs.Spelling.{AreHeaders}
-use Rattle.vr_journal.specs.Replica.{Replica, forgetting, last_view}
+use Rattle.vr_journal.specs.Replica.{Replica, forgetting, last_view, version}
 use Rattle.vr_journal.specs.Words.{Log, may_take, taken}
 use Rattle.vr_journal.proofs.SavesParts.{savable_taken}
 use Rattle.vr_journal.proofs.Taking.{may_take_is, kept_taken}
@@ -14,6 +14,14 @@ idle_taken : (l : Log) (r : Replica) → (taken l r).idle ≤ 9
 unfolding taken forgetting
 idle_taken l r = omega arith
 
+state_taken : (l : Log) (r : Replica) → (taken l r).state ≡ r.state
+unfolding taken forgetting
+state_taken l r = refl
+
+version_taken : (l : Log) (r : Replica) → version (taken l r) ≡ version r
+unfolding taken forgetting
+version_taken l r = refl
+
 pub ready_taken : (l : Log) (r q : Replica) → q ≡ taken l r → MayTake l r → IsReady r → IsReady q
 unfolding IsReady MayTake
 ready_taken l r q e m h =
@@ -23,6 +31,8 @@ ready_taken l r q e m h =
       sound = (kept_taken l r h.sound m.log may).sound;
       savable = savable_taken name_of l r h.sound m.log may m.may (omega arith) h.savable;
       idle = idle_taken l r;
+      fits = rw (version_taken l r, state_taken l r) h.fits;
+      runs = version_taken l r ∙ h.runs;
     })
 
 pub view_taken : (l : Log) (r q : Replica) → q ≡ taken l r → q.view ≡ l.view

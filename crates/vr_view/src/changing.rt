@@ -37,7 +37,7 @@ pub fn decide_start_view_change(replica: &Replica, message: &StartViewChange) ->
     requires { 0 < replica.now.n }
     ensures { first_of (start_view_change_table message.now replica.now) ≡ change_rule result }
 {
-    if !replica.is_from(message.cluster, message.replica) {
+    if !replica.is_from(message.version, message.cluster, message.replica) {
         ChangeRule::Ignored
     } else if message.view < replica.view() {
         ChangeRule::ChangeBefore

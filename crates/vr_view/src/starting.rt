@@ -70,7 +70,7 @@ pub fn decide_start_view(replica: &Replica, start: &StartView) -> StartRule
     ensures values { result ≡ StartRule.Taken → AreHeaders start.now.body.headers }
 {
     let log = log_of(start);
-    if !replica.is_from_primary(start.cluster, start.replica, start.view) {
+    if !replica.is_from_primary(start.version, start.cluster, start.replica, start.view) {
         StartRule::Ignored
     } else if replica.may_take(&log) && replica.index() != primary(replica.n(), start.view) {
         StartRule::Taken
@@ -90,7 +90,7 @@ pub fn decide_get_view(replica: &Replica, get: &GetView) -> ViewRule
     requires { 0 < replica.now.n }
     ensures { first_of (get_view_table get.now replica.now) ≡ view_rule result }
 {
-    if !replica.is_from(get.cluster, get.replica) {
+    if !replica.is_from(get.version, get.cluster, get.replica) {
         ViewRule::Ignored
     } else if replica.leads() && get.view <= replica.view() {
         ViewRule::ViewGiven

@@ -40,7 +40,7 @@ pub fn decide_do_view_change(replica: &Replica, message: &DoViewChange) -> State
     requires { 0 < replica.now.n }
     ensures { first_of (do_view_change_table message.now replica.now) ≡ state_rule result }
 {
-    if !replica.is_from(message.cluster, message.replica) {
+    if !replica.is_from(message.version, message.cluster, message.replica) {
         StateRule::Ignored
     } else if message.view < replica.view()
         || replica.index() != primary(replica.n(), message.view)

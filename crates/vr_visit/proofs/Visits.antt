@@ -1,4 +1,5 @@
 -- A place of the disk that is looked at.
+use Rattle.vr_ckpt.specs.Places.{grid_size}
 use Rattle.std.proofs.Common.{arith, ℕ, ◌-◌, ◌%◌, ◌≡◌, ◌≤◌, ◌<◌, ◌∙◌, refl, sym, ap, subst, cond, not, Bool, true, false, List, Option, Some, None, is_some, Result, Ok, Err}
 use Rattle.std.specs.Prelude.{IfOk, IfSome, IsTrue, ◌↔◌, if◌then◌else◌, nat_lt, slice_get}
 use Rattle.std.specs.Option.{option_and_then, option_map}
@@ -73,7 +74,7 @@ found_entry : (h : Header) (x : Option Whole) → option_map (λ (e : Whole). e.
 found_entry h None t = absurd cc
 found_entry h (Some e) t = (e, refl, cc)
 
-is_found : (h : Header) (f : Face) (e : Whole) → whole_in f (h.op % 64) ≡ Some e → e.header ≡ h → entry_of h sectors f ≡ Some e
+is_found : (h : Header) (f : Face) (e : Whole) → whole_in 1 f (h.op % 64) ≡ Some e → e.header ≡ h → entry_of h sectors f ≡ Some e
 is_found h f e there same =
     ap (λ (o : Option Whole). option_and_then (λ x. cond (same_header x.header h) (Some x) None) o) there ∙ ap (λ (b : Bool). cond b (Some e) None) (same_header_of e.header h same)
 
@@ -96,18 +97,18 @@ unfolding visit_slot with_entry_at by reading
 lost_is h f r is none = ap (λ (p : Part). with_entry (slot_word h.op) p sectors r f) is ∙ ap (λ (o : Option Whole). or_lost h (slot_word h.op) o sectors r f) none
 
 abbrev Tells : Header → Bool → Option Disk → Type 0
-Tells h ok d = IfSome d (λ (y : Disk). IsTrue ok ↔ (option_map (λ (e : Whole). e.header) (whole_in y.face (h.op % 64)) ≡ Some h))
+Tells h ok d = IfSome d (λ (y : Disk). IsTrue ok ↔ (option_map (λ (e : Whole). e.header) (whole_in 1 y.face (h.op % 64)) ≡ Some h))
 
-told_at : (h : Header) (ok : Bool) (d : Option Disk) (y : Disk) → Tells h ok d → d ≡ Some y → IsTrue ok ↔ (option_map (λ (e : Whole). e.header) (whole_in y.face (h.op % 64)) ≡ Some h)
+told_at : (h : Header) (ok : Bool) (d : Option Disk) (y : Disk) → Tells h ok d → d ≡ Some y → IsTrue ok ↔ (option_map (λ (e : Whole). e.header) (whole_in 1 y.face (h.op % 64)) ≡ Some h)
 told_at h ok None y v e = absurd cc
-told_at h ok (Some z) y v e = let same : z ≡ y = cc in subst (λ (x : Disk). IsTrue ok ↔ (option_map (λ (e : Whole). e.header) (whole_in x.face (h.op % 64)) ≡ Some h)) same v
+told_at h ok (Some z) y v e = let same : z ≡ y = cc in subst (λ (x : Disk). IsTrue ok ↔ (option_map (λ (e : Whole). e.header) (whole_in 1 x.face (h.op % 64)) ≡ Some h)) same v
 
 module _ (h : Header) (ok : Bool) (r q : Replica) (d d' : Option Disk) (is : part_at r h.op ≡ Here h) (same : d' ≡ d) (v : Tells h ok d) where
   pub slot_read : (d'' : Option Disk) (o o' : List Output) (result : Result (Unit {0}) Halt) → ok ≡ true → Does (reading (header_read h.op) (mend_header h)) r q d' d'' o o' result → Does (visit_slot h.op) r q d d'' o o' result
   slot_read d'' o o' result t k = record {
     untold = λ e. k.untold (same ∙ e);
     told = λ y e.
-        let there = found_entry h (whole_in y.face (h.op % 64)) ((told_at h ok d y v e).0 t) in
+        let there = found_entry h (whole_in 1 y.face (h.op % 64)) ((told_at h ok d y v e).0 t) in
         subst (λ (s : Step). LeftBy s q y d'' o o' result) (sym (read_is h there.0 y.face r is (is_found h y.face there.0 there.1 there.2) there.2)) (k.told y (same ∙ e));
   }
 
@@ -123,7 +124,7 @@ module _ (h : Header) (ok : Bool) (r q : Replica) (d d' : Option Disk) (is : par
       record {
         untold = k.untold;
         told = λ y i.
-            let none : entry_of h sectors y.face ≡ None = not_found h (whole_in y.face (h.op % 64)) (λ m. let yes : ok ≡ true = (told_at h ok d y v i).1 m in true≢false (sym yes ∙ t)) in
+            let none : entry_of h sectors y.face ≡ None = not_found h (whole_in 1 y.face (h.op % 64)) (λ m. let yes : ok ≡ true = (told_at h ok d y v i).1 m in true≢false (sym yes ∙ t)) in
             subst (λ (s : Step). LeftBy s q y d' o o (Ok tt)) (sym (lost_is h y.face r is none)) (k.told y i);
       }
 
@@ -162,13 +163,13 @@ module _ (h : Header) (ok : Bool) (d : Option Disk) (v : Tells h ok d) where
           → IfSome z (λ (y : Disk). IfOk result (λ x. x ≡ stored_as h (entry_of h sectors y.face) (header_in y.face (h.op % 64))))
       at None v k = k
       at (Some y) v k =
-          let there = found_entry h (whole_in y.face (h.op % 64)) (v.0 t) in
+          let there = found_entry h (whole_in 1 y.face (h.op % 64)) (v.0 t) in
           each y result (there.0, is_found h y.face there.0 there.1 there.2) k
 
 pub found_lost : (h : Header) (ok : Bool) (d : Option Disk) → Tells h ok d → ok ≡ false → IfSome d (λ (y : Disk). seen.Lost ≡ stored_as h (entry_of h sectors y.face) (header_in y.face (h.op % 64)))
 found_lost h ok None v t = tt
 found_lost h ok (Some y) v t =
-    let none : entry_of h sectors y.face ≡ None = not_found h (whole_in y.face (h.op % 64)) (λ m. let yes : ok ≡ true = v.1 m in true≢false (sym yes ∙ t)) in
+    let none : entry_of h sectors y.face ≡ None = not_found h (whole_in 1 y.face (h.op % 64)) (λ m. let yes : ok ≡ true = v.1 m in true≢false (sym yes ∙ t)) in
     sym (ap (λ (o : Option Whole). stored_as h o (header_in y.face (h.op % 64))) none)
 
 pub found_here : (p : Part) (h : Header) (d : Option Disk) (result : Result Visit Halt) → p ≡ Here h → IfSome d (λ (y : Disk). IfOk result (λ x. x ≡ stored_as h (entry_of h sectors y.face) (header_in y.face (h.op % 64))))
@@ -189,7 +190,7 @@ found_nothing Nothing (Some y) n = refl
 block_told : (f : Face) (name : Name) (b : Bool) → is_some (named_at f name) ≡ not b → is_some (block_in f name) ≡ not b
 unfolding named_at
 block_told f name b e =
-    elim (nat_lt name.address 128) as (λ t. is_some (cond t (option_and_then (named name) (block_reading f name.address)) None) ≡ not b
+    elim (nat_lt name.address grid_size) as (λ t. is_some (cond t (option_and_then (named name) (block_reading f name.address)) None) ≡ not b
     → is_some (cond (is_some (cond t (option_and_then (named name) (block_reading f name.address)) None)) (block_reading f name.address) None) ≡ not b) [
       | true ↦ elim (block_reading f name.address) as (λ o. is_some (option_and_then (named name) o) ≡ not b → is_some (cond (is_some (option_and_then (named name) o)) o None) ≡ not b) [
         | None ↦ λ k. k
@@ -270,8 +271,8 @@ visit_none r d o t = does_by _ r r d d o o (Ok tt) (rw t (does_quiet r d o))
 
 pub ready_worn : (name : Name) (r q : Replica) → q ≡ with_worn name r → IsReady r → IsReady q
 unfolding IsReady
-ready_worn name r q e h = rw e (record { sound = sound_alike r (with_worn name r) refl h.sound; savable = savable_alike r (with_worn name r) refl h.savable; idle = h.idle })
+ready_worn name r q e h = rw e (record { sound = sound_alike r (with_worn name r) refl h.sound; savable = savable_alike r (with_worn name r) refl h.savable; idle = h.idle; fits = h.fits; runs = h.runs })
 
 pub ready_moved : (at : ℕ) (r q : Replica) → q ≡ with_cursor at r → IsReady r → IsReady q
 unfolding IsReady
-ready_moved at r q e h = rw e (record { sound = sound_alike r (with_cursor at r) refl h.sound; savable = savable_alike r (with_cursor at r) refl h.savable; idle = h.idle })
+ready_moved at r q e h = rw e (record { sound = sound_alike r (with_cursor at r) refl h.sound; savable = savable_alike r (with_cursor at r) refl h.savable; idle = h.idle; fits = h.fits; runs = h.runs })

@@ -1,6 +1,7 @@
 -- Every group in a run of one is fit.
+use Rattle.vr_rules.proofs.Slots.{least_two}
 use Rattle.vr_base.specs.declared.kind.Kind.{Kind}
-use Rattle.std.proofs.Common.{arith, ◌≡◌, ◌≤◌, ◌<◌, ◌+◌, ◌^◌, ◌⊎◌, inl, inr, refl, ap, subst, ℕ, zero, suc, List, [], ◌∷◌, ◌-◌, ◌++◌, length, map, take, drop, Some, None}
+use Rattle.std.proofs.Common.{arith, ◌≡◌, ◌≤◌, ◌<◌, ◌+◌, ◌^◌, ◌⊎◌, inl, inr, refl, sym, ap, ◌∙◌, subst, ℕ, zero, suc, List, [], ◌∷◌, ◌-◌, ◌++◌, length, map, take, drop, Some, None}
 use Rattle.std.specs.Prelude.{All, nat_lt, slice_get, slice_set}
 use Rattle.std.specs.List.{range_with_len}
 use Rattle.std.proofs.lemmas.Bool.{cond_both}
@@ -10,7 +11,7 @@ use Rattle.vr_header.specs.declared.part.Part.TheVariants.{Here, Lost, Wanted, U
 use Rattle.vr_msg.specs.declared.event.Event.{Event}
 use Rattle.vr_msg.specs.declared.output.Output.{Output}
 use Rattle.vr_lie.specs.Copies.{SuperValue}
-use Rattle.vr_rules.specs.Replica.{Replica}
+use Rattle.vr_rules.specs.Replica.{Replica, version}
 use Rattle.vr_rules.specs.Steps.{Effect, Write, Rewrite, Save, Mend, Checkpoint, PutBlock, Say, Step, outputs}
 use Rattle.vr_rules.specs.Opening.{blank, first_value, fresh, opening}
 use Rattle.vr_world.specs.Lying.{Lying, lying}
@@ -43,33 +44,33 @@ record Values (c n i : ℕ) (m : Member) : Type 0 where
 pub record Known (c n i : ℕ) (es : List Effect) : Type 0 where
   pub fit : All IsFit es
   pub saves : All IsGoodSave es
-  pub own : All (IsOwn c n i) es
+  pub own : All (IsOwn c n i 1) es
 
-pub known_first : (c n i : ℕ) (e : Effect) (es : List Effect) → Known c n i (e ∷ es) → IsFit e × IsGoodSave e × IsOwn c n i e
-known_first c n i e es k = (All-head IsFit e es k.fit, All-head IsGoodSave e es k.saves, All-head (IsOwn c n i) e es k.own)
+pub known_first : (c n i : ℕ) (e : Effect) (es : List Effect) → Known c n i (e ∷ es) → IsFit e × IsGoodSave e × IsOwn c n i 1 e
+known_first c n i e es k = (All-head IsFit e es k.fit, All-head IsGoodSave e es k.saves, All-head (IsOwn c n i 1) e es k.own)
 
 pub known_rest : (c n i : ℕ) (e : Effect) (es : List Effect) → Known c n i (e ∷ es) → Known c n i es
-known_rest c n i e es k = record { fit = All-tail IsFit e es k.fit; saves = All-tail IsGoodSave e es k.saves; own = All-tail (IsOwn c n i) e es k.own }
+known_rest c n i e es k = record { fit = All-tail IsFit e es k.fit; saves = All-tail IsGoodSave e es k.saves; own = All-tail (IsOwn c n i 1) e es k.own }
 
 known_take : (c n i k : ℕ) (es : List Effect) → Known c n i es → Known c n i (take k es)
-known_take c n i k es h = record { fit = All-take IsFit k es h.fit; saves = All-take IsGoodSave k es h.saves; own = All-take (IsOwn c n i) k es h.own }
+known_take c n i k es h = record { fit = All-take IsFit k es h.fit; saves = All-take IsGoodSave k es h.saves; own = All-take (IsOwn c n i 1) k es h.own }
 
 pub known_left : (c n i : ℕ) (xs ys : List Effect) → Known c n i (xs ++ ys) → Known c n i xs
-known_left c n i [] ys h = record { fit = All-nil IsFit; saves = All-nil IsGoodSave; own = All-nil (IsOwn c n i) }
+known_left c n i [] ys h = record { fit = All-nil IsFit; saves = All-nil IsGoodSave; own = All-nil (IsOwn c n i 1) }
 known_left c n i (x ∷ xs) ys h =
     let one = known_first c n i x (xs ++ ys) h in
     let rest = known_left c n i xs ys (known_rest c n i x (xs ++ ys) h) in
-    record { fit = All-cons IsFit x xs one.0 rest.fit; saves = All-cons IsGoodSave x xs one.1 rest.saves; own = All-cons (IsOwn c n i) x xs one.2 rest.own }
+    record { fit = All-cons IsFit x xs one.0 rest.fit; saves = All-cons IsGoodSave x xs one.1 rest.saves; own = All-cons (IsOwn c n i 1) x xs one.2 rest.own }
 
 pub known_right : (c n i : ℕ) (xs ys : List Effect) → Known c n i (xs ++ ys) → Known c n i ys
 known_right c n i [] ys h = h
 known_right c n i (x ∷ xs) ys h = known_right c n i xs ys (known_rest c n i x (xs ++ ys) h)
 
 known_drop : (c n i k : ℕ) (es : List Effect) → Known c n i es → Known c n i (drop k es)
-known_drop c n i k es h = record { fit = All-drop IsFit k es h.fit; saves = All-drop IsGoodSave k es h.saves; own = All-drop (IsOwn c n i) k es h.own }
+known_drop c n i k es h = record { fit = All-drop IsFit k es h.fit; saves = All-drop IsGoodSave k es h.saves; own = All-drop (IsOwn c n i 1) k es h.own }
 
 module _ (c n i : ℕ) where
-  begun : (e : Effect) (m : Member) → IsFit e × IsGoodSave e × IsOwn c n i e → Values c n i m → Values c n i (begins e m)
+  begun : (e : Effect) (m : Member) → IsFit e × IsGoodSave e × IsOwn c n i 1 e → Values c n i m → Values c n i (begins e m)
   begun (Write again e) m k v = record { last = v.last; under = v.under }
   begun (Rewrite x) m k v = record { last = v.last; under = v.under }
   begun (Save old new) m k v = record { last = v.last; under = λ w e. let same : new ≡ w = cc in subst (IsFitValue c n i) same (k.1, k.2) }
@@ -78,7 +79,7 @@ module _ (c n i : ℕ) where
   begun (PutBlock name block) m k v = v
   begun (Say o) m k v = v
 
-  ended : (e : Effect) (m : Member) → IsFit e × IsGoodSave e × IsOwn c n i e → Values c n i m → Values c n i (ends e m)
+  ended : (e : Effect) (m : Member) → IsFit e × IsGoodSave e × IsOwn c n i 1 e → Values c n i m → Values c n i (ends e m)
   ended (Write again e) m k v = record { last = v.last; under = v.under }
   ended (Rewrite x) m k v = record { last = v.last; under = v.under }
   ended (Save old new) m k v = record { last = (k.1, k.2); under = λ w e. absurd cc }
@@ -118,8 +119,8 @@ module _ (c n i : ℕ) where
   values_of : (m : Member) → IsFitMember c n i m → Values c n i m
   values_of m h = record { last = h.last; under = h.under }
 
-  runs_again : (m : Member) (r : Replica) → Values c n i m → IsFitReplica r → IsAt c n i r → IsFitMember c n i (record m { replica = Some r })
-  runs_again m r v h at = record { running = λ q e. (let same : r ≡ q = cc in subst (λ (x : Replica). IsFitReplica x × IsAt c n i x) same (h, at)); last = v.last; under = v.under }
+  runs_again : (m : Member) (r : Replica) → Values c n i m → IsFitReplica r → IsAt c n i 1 r → IsFitMember c n i (record m { replica = Some r })
+  runs_again m r v h at = record { running = λ q e. (let same : r ≡ q = cc in subst (λ (x : Replica). IsFitReplica x × IsAt c n i 1 x) same (h, at)); last = v.last; under = v.under }
 
   stopped : (m : Member) → Values c n i m → IsFitMember c n i (record m { replica = None })
   stopped m v = record { running = λ q e. absurd cc; last = v.last; under = v.under }
@@ -178,22 +179,25 @@ pub record Stepped (c n i : ℕ) (x : Step) : Type 0 where
   pub fit : IsFitStep x
   pub known : Known c n i x.script
   pub replica : IsFitReplica x.replica
-  pub at : IsAt c n i x.replica
+  pub at : IsAt c n i 1 x.replica
 
-pub step_is : (c n i : ℕ) (r : Replica) (e : Event) (d : Lying) → IsFitReplica r → IsAt c n i r → IsEvent e → ReadsWell lying d → Stepped c n i (stepped e r d)
+pub step_is : (c n i : ℕ) (r : Replica) (e : Event) (d : Lying) → IsFitReplica r → IsAt c n i 1 r → IsEvent e → ReadsWell lying d → Stepped c n i (stepped e r d)
 step_is c n i r e d h at m k =
     let fit = steps_fit lying d r e lies_fit.program lies_fit.roots k h.sound h.savable h.blocks m in
     let saves = steps_save_well lying d r e lies_fit.names lies_fit.roots h.sound h.savable m in
-    let saved : IsOwnValue r.cluster r.n r.index r.saved = rw (at.cluster, at.n, at.index) at.saved in
-    let own : IsOwnStep c n i (stepped e r d) = rw (← at.cluster, ← at.n, ← at.index) (steps_are_own lying d r e saved) in
+    let saved : IsOwnValue r.cluster r.n r.index (version r) r.saved = record { cluster = at.saved.cluster ∙ sym at.cluster; n = at.saved.n ∙ sym at.n; index = at.saved.index ∙ sym at.index; version = refl } in
+    let of_file : IsOwnStep c n i (version r) (stepped e r d) = rw (← at.cluster, ← at.n, ← at.index) (steps_are_own lying d r e m saved) in
+    let own = subst (λ (k : ℕ). IsOwnStep c n i k (stepped e r d)) at.saved.version of_file in
     record { fit = fit; known = record { fit = fit.each; saves = saves.each; own = own.each }; replica = record { sound = steps_stay_sound lying d r e lies_fit.names h.sound m; savable = saves.savable; blocks = fit.blocks }; at = own.replica }
 
 opening_is : (c n i : ℕ) (v : SuperValue) (d : Lying) → IsFitValue c n i v → ReadsWell lying d → Stepped c n i (opening v lying (blank v) d)
 opening_is c n i v d g k =
-    let fit = openings_fit lying d v lies_fit.program lies_fit.roots k g.0 in
-    let saves = openings_save_well lying d v (headers_of lying d k) lies_fit.roots g.0 in
-    let own : IsOwnStep c n i (opening v lying (blank v) d) = rw (← g.1.cluster, ← g.1.n, ← g.1.index) (openings_are_own lying d v) in
-    record { fit = fit; known = record { fit = fit.each; saves = saves.each; own = own.each }; replica = record { sound = openings_are_sound lying d v (headers_of lying d k) g.0; savable = saves.savable; blocks = fit.blocks }; at = own.replica }
+    let two = least_two v g.0 g.1.version in
+    let fit = openings_fit lying d v lies_fit.program lies_fit.roots k g.0 two in
+    let saves = openings_save_well lying d v (headers_of lying d k) lies_fit.roots g.0 two in
+    let of_file : IsOwnStep c n i v.fields.version (opening v lying (blank v) d) = rw (← g.1.cluster, ← g.1.n, ← g.1.index) (openings_are_own lying d v) in
+    let own = subst (λ (k : ℕ). IsOwnStep c n i k (opening v lying (blank v) d)) g.1.version of_file in
+    record { fit = fit; known = record { fit = fit.each; saves = saves.each; own = own.each }; replica = record { sound = openings_are_sound lying d v (headers_of lying d k) g.0 two; savable = saves.savable; blocks = fit.blocks }; at = own.replica }
 
 pub start_is : (c n i : ℕ) (v : SuperValue) (d : Lying) → IsFitValue c n i v → ReadsWell lying d → Stepped c n i (in_two v d)
 start_is c n i v d g k = subst (Stepped c n i) (opening_in_two v d) (opening_is c n i v d g k)
@@ -249,11 +253,11 @@ fresh_is : (kind : Kind) (c n i : ℕ) → c < 2 ^ 64 → 2 ≤ n → n ≤ 6 �
 unfolding blank
 fresh_is kind c n i l a b m =
     let k = fresh_fits kind c n i l a b m in
-    let own : IsOwnValue c n i (first_value kind c n i) = record { cluster = refl; n = refl; index = refl } in
-    let at : IsAt c n i (fresh kind c n i) = record { cluster = refl; n = refl; index = refl; saved = own } in
+    let own : IsOwnValue c n i 1 (first_value kind c n i) = record { cluster = refl; n = refl; index = refl; version = refl } in
+    let at : IsAt c n i 1 (fresh kind c n i) = record { cluster = refl; n = refl; index = refl; saved = own } in
     let whole : IsFitReplica (fresh kind c n i) = record { sound = k.sound; savable = k.savable; blocks = k.blocks } in
     record {
-      running = λ r e. (let same : fresh kind c n i ≡ r = cc in subst (λ (x : Replica). IsFitReplica x × IsAt c n i x) same (whole, at));
+      running = λ r e. (let same : fresh kind c n i ≡ r = cc in subst (λ (x : Replica). IsFitReplica x × IsAt c n i 1 x) same (whole, at));
       last = (k.value, own);
       under = λ v e. absurd cc;
     }

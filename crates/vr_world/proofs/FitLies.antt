@@ -24,7 +24,7 @@ lying_clean d is =
     let h = clean_reads d.face (clean_face d.face is) in
     record {
       header = λ es m slot x l e. h.header es m slot x l (sym (ap (λ f. header_in f slot) (same_face es d)) ∙ e);
-      entry = λ es m slot x l e. h.entry es m slot x l (sym (ap (λ f. whole_in f slot) (same_face es d)) ∙ e);
+      entry = λ es m slot x l e. h.entry es m slot x l (sym (ap (λ f. whole_in 1 f slot) (same_face es d)) ∙ e);
     }
 
 lying_program : IsProgram lying

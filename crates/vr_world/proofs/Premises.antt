@@ -37,15 +37,15 @@ same_value_so None (Some b) e = absurd cc
 same_value_so (Some a) None e = absurd cc
 same_value_so (Some a) (Some b) e = (bytes_eq-Decides a b).1 (let x : a ≡ b = cc in x)
 
-still : (mode : Mode) (f g : Face) (slot : ℕ) (o : Option (List ℕ)) → still_holds mode f g slot o ≡ true → Holds mode f slot o → Holds mode g slot o
-still mode f g slot None t h = none_holds g slot
-still mode f g slot (Some p) t h = (still_is mode mode f g slot p (holds mode f slot p) (holds mode g slot p) (not (holds mode f slot p) || holds mode g slot p) refl refl refl).0 t h
+still : (mode : Mode) (f g : Face) (slot : ℕ) (o : Option (List ℕ)) → still_holds mode f g slot o ≡ true → Holds 1 mode f slot o → Holds 1 mode g slot o
+still mode f g slot None t h = none_holds 1 g slot
+still mode f g slot (Some p) t h = (still_is 1 mode mode f g slot p (holds 1 mode f slot p) (holds 1 mode g slot p) (not (holds 1 mode f slot p) || holds 1 mode g slot p) refl refl refl).0 t h
 
-still_so : (mode : Mode) (f g : Face) (slot : ℕ) (o : Option (List ℕ)) → (Holds mode f slot o → Holds mode g slot o) → still_holds mode f g slot o ≡ true
+still_so : (mode : Mode) (f g : Face) (slot : ℕ) (o : Option (List ℕ)) → (Holds 1 mode f slot o → Holds 1 mode g slot o) → still_holds mode f g slot o ≡ true
 still_so mode f g slot None h = refl
-still_so mode f g slot (Some p) h = (still_is mode mode f g slot p (holds mode f slot p) (holds mode g slot p) (not (holds mode f slot p) || holds mode g slot p) refl refl refl).1 h
+still_so mode f g slot (Some p) h = (still_is 1 mode mode f g slot p (holds 1 mode f slot p) (holds 1 mode g slot p) (not (holds 1 mode f slot p) || holds 1 mode g slot p) refl refl refl).1 h
 
-pub premise : (d : Lying) (g : Face) → keeps_premise d g ≡ true → KeepsPremise (mode_in d.face) d.face g d.held
+pub premise : (d : Lying) (g : Face) → keeps_premise d g ≡ true → KeepsPremise 1 (mode_in d.face) d.face g d.held
 unfolding keeps_premise
 premise d g t =
     let p : ℕ → Bool = λ slot. still_holds (mode_in d.face) d.face g slot (held_at d.held slot) in
@@ -59,7 +59,7 @@ premise d g t =
           still (mode_in d.face) d.face g slot (held_at d.held slot) one h;
     }
 
-pub premise_so : (d : Lying) (g : Face) → IsFace d.face → IsFace g → KeepsPremise (mode_in d.face) d.face g d.held → keeps_premise d g ≡ true
+pub premise_so : (d : Lying) (g : Face) → IsFace d.face → IsFace g → KeepsPremise 1 (mode_in d.face) d.face g d.held → keeps_premise d g ≡ true
 unfolding keeps_premise
 premise_so d g w x k =
     let p : ℕ → Bool = λ slot. still_holds (mode_in d.face) d.face g slot (held_at d.held slot) in

@@ -28,13 +28,13 @@ pub record IsFitReplica (r : Replica) : Type 0 where
   pub savable : IsSavable r
   pub blocks : KnowsBlocks r
 
--- a value of this replica that makes a good copy
+-- a value of this replica, in a file of version 1, that makes a good copy
 abbrev pub IsFitValue : ℕ → ℕ → ℕ → SuperValue → Type 0
-IsFitValue cluster n index v = IsGood v × IsOwnValue cluster n index v
+IsFitValue cluster n index v = IsGood v × IsOwnValue cluster n index 1 v
 
 -- a member of this group of so many, by its place: both values are its own and make good copies, and it is fit where it runs
 pub record IsFitMember (cluster n index : ℕ) (m : Member) : Type 0 where
-  pub running : (r : Replica) → m.replica ≡ Some r → IsFitReplica r × IsAt cluster n index r
+  pub running : (r : Replica) → m.replica ≡ Some r → IsFitReplica r × IsAt cluster n index 1 r
   pub last : IsFitValue cluster n index m.last
   pub under : (v : SuperValue) → m.under ≡ Some v → IsFitValue cluster n index v
 

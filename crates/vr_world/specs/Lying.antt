@@ -7,6 +7,7 @@ use Rattle.vr_base.specs.declared.kind.Kind.{Kind}
 use Rattle.vr_base.specs.declared.mode.Mode.{Mode}
 use Rattle.vr_disk.specs.DiskState as disk
 use Rattle.vr_disk.specs.DiskState.{Call, Cell, Face}
+use Rattle.vr_disk.specs.Regions.{sectors as disk_sectors}
 use Rattle.vr_lie.specs.Opens.{good_copies, mode_in, opened}
 use Rattle.vr_lie.specs.Held.{held_after_all, held_cut, looked}
 use Rattle.vr_lie.specs.declared.fault.Fault.{Fault}
@@ -17,7 +18,7 @@ use Rattle.vr_rules.specs.Formatting.{format_calls, zero_sector}
 use Rattle.vr_rules.specs.Sectors.{calls, calls_of, sectors}
 use Rattle.vr_world.specs.World.{Hazards}
 
--- sectors, and the entry that each slot holds, by the bytes of its prepare
+-- sectors of a file of version 1, and the entry that each slot holds, by the bytes of its prepare
 pub record Lying : Type 0 where
   pub face : Face
   pub held : List (Option (List ℕ))
@@ -30,13 +31,13 @@ each_slot f = map f (range_with_len 0 64)
 abbrev pub after_calls : Lying → List Call → Lying
 after_calls d cs = record {
   face = disk.after_all d.face cs;
-  held = each_slot (λ slot. held_after_all d.face cs slot (held_at d.held slot));
+  held = each_slot (λ slot. held_after_all 1 d.face cs slot (held_at d.held slot));
 }
 
 abbrev pub cut_calls : ℕ → ℕ → Lying → List Call → Lying
 cut_calls j code d cs = record {
   face = disk.cut j code d.face cs;
-  held = each_slot (λ slot. held_cut j code d.face cs slot (held_at d.held slot));
+  held = each_slot (λ slot. held_cut 1 j code d.face cs slot (held_at d.held slot));
 }
 
 -- ---- faults
@@ -49,7 +50,7 @@ same_value (Some a) (Some b) = pointwise nat_eq a b
 
 -- where the premise held of a slot's entry, it still holds
 abbrev pub still_holds : Mode → Face → Face → ℕ → Option (List ℕ) → Bool
-still_holds mode f g slot held = option_map_or (λ prepare. not (holds mode f slot prepare) || holds mode g slot prepare) held true
+still_holds mode f g slot held = option_map_or (λ prepare. not (holds 1 mode f slot prepare) || holds 1 mode g slot prepare) held true
 
 -- the superblock opens as before, and the premise of each slot stands for what it held
 unfoldable pub keeps_premise : Lying → Face → Bool
@@ -58,7 +59,7 @@ keeps_premise d g =
     && list_all (λ slot. still_holds (mode_in d.face) d.face g slot (held_at d.held slot)) (range_with_len 0 64)
 
 abbrev pub lied_to : Lying → Face → Lying
-lied_to d g = record { face = g; held = each_slot (λ slot. looked g slot (held_at d.held slot)) }
+lied_to d g = record { face = g; held = each_slot (λ slot. looked 1 g slot (held_at d.held slot)) }
 
 unfoldable pub unless_kept_out : Lying → Fault → Option Lying
 unless_kept_out d fault = if keeps_premise d (faulted d.face fault) then Some (lied_to d (faulted d.face fault)) else None
@@ -69,7 +70,7 @@ abbrev pub zero_cell : Cell
 zero_cell = record { truth = zero_sector; reads = Some zero_sector; before = zero_sector }
 
 abbrev pub zero_face : Face
-zero_face = record { cells = replicate 1424 zero_cell; waiting = [] }
+zero_face = record { cells = replicate disk_sectors zero_cell; waiting = [] }
 
 -- ---- the disk of a world
 

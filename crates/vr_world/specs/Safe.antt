@@ -157,10 +157,10 @@ IsBacked cluster n log run move number p (output.Reply a) = IsTrueReply cluster 
 IsBacked cluster n log run move number p (output.Choose l) = IsJustified n (run_outputs run) p l
 IsBacked cluster n log run move number p _ = ⊤
 
--- What a disk may give: the entries of its slots, and the contents of its blocks, each by the bytes that have a name.
+-- What a disk may give: the entries of the slots of a file of version 1, and the contents of its blocks, each by the bytes that have a name.
 pub data IsRead (f : Face) : List ℕ → Type 0 where
-  header : (slot : ℕ) (e : Whole) → whole_in f slot ≡ Some e → IsRead f (named_bytes e.header)
-  operation : (slot : ℕ) (e : Whole) → whole_in f slot ≡ Some e → IsRead f (operation_bytes e.operation)
+  header : (slot : ℕ) (e : Whole) → whole_in 1 f slot ≡ Some e → IsRead f (named_bytes e.header)
+  operation : (slot : ℕ) (e : Whole) → whole_in 1 f slot ≡ Some e → IsRead f (operation_bytes e.operation)
   block : (name : Name) (c : Content) → named_at f name ≡ Some c → IsRead f (named_bytes (block_header c))
   payload : (name : Name) (c : Content) → named_at f name ≡ Some c → IsRead f c.payload
 

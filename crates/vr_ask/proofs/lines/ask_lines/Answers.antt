@@ -1,4 +1,4 @@
-use Rattle.std.proofs.Common.{◌+◌, ◌≡◌, ◌∙◌, refl, sym, subst, arith, inl}
+use Rattle.std.proofs.Common.{◌+◌, ◌≡◌, ◌∙◌, ap, refl, sym, subst, arith, inl}
 use Rattle.vr_ask.specs.Asking.{client_of, faults, stand}
 use Rattle.vr_ask.specs.Run.{EndsLines, Hears, IsExchanged, StopsAt, reading}
 use Rattle.vr_ask.proofs.Exchanges.{ends_at, midst_more, one_too_many}
@@ -36,12 +36,15 @@ returns-clause-ends g c =
     let stood = stand c.loop-done.core (g.L.Link.sent c.loop-done.link) (g.L.Link.received c.loop-done.link) (g.K.Sink.taken c.loop-done.sink) in
     let b = faults (g.L.Link.faults c.args.link.now) (g.K.Sink.faults c.args.sink.now) in
     let n = faults (g.L.Link.faults c.loop-done.link) (g.K.Sink.faults c.loop-done.sink) in
+    let version : c.version.result ≡ client.version = c.version.ensures ∙ ap (λ k. k.version) i.client in
+    let heard : Hears client.version 1000001 before after c.next_operation.result =
+    subst (λ v. Hears v 1000001 before after c.next_operation.result) version c.next_operation.ensures.heard in
     let at : 1000001 ≡ c.loop-done.done + 1 = omega (arith, c.loop-done-test.false, c.loop-done.auto.done-end) in
     elim c.match-next_operation.branch [
-      | in-Ok w ↦ absurd (one_too_many before after w.in-Ok.field-0 (subst (λ x. Hears 1000001 before after x) w.in-Ok.is c.next_operation.ensures.heard))
+      | in-Ok w ↦ absurd (one_too_many client.version before after w.in-Ok.field-0 (subst (λ x. Hears client.version 1000001 before after x) w.in-Ok.is heard))
       | in-Err-next_operation w ↦
           let status = w.in-Err-next_operation.status in
-          let stops : StopsAt 1000001 before after status = subst (λ x. Hears 1000001 before after x) w.in-Err-next_operation.is c.next_operation.ensures.heard in
+          let stops : StopsAt client.version 1000001 before after status = subst (λ x. Hears client.version 1000001 before after x) w.in-Err-next_operation.is heard in
           subst (λ x. EndsLines client first began after stood b n x) (sym w.result-is)
           (ends_at client c.loop-done.done 1000001 first began before stood after stood b n status at (omega (arith, at)) i.midst (inl (refl, stops)))
     ]

@@ -11,5 +11,5 @@ returns-in-Ok-Line-clause-heard g c =
     let after = reading c.read.new.self (g.S.Source.left c.read.new.source) in
     let found : ReadsLine before after c.read.new.self.line =
     subst (λ f. Comes longest before.rest before.left c.read.new.self after.left f) c.in-Ok-Line.field-0-is c.in-Ok-Line.ensures.found in
-    let judged : Judges c.args.number c.read.new.self.line c.judge.result = subst (λ l. Judges c.args.number l c.judge.result) c.line.ensures c.judge.ensures in
-    heard c.args.number before after c.read.new.self.line c.judge.result found judged
+    let judged : Judges c.args.version c.args.number c.read.new.self.line c.judge.result = subst (λ l. Judges c.args.version c.args.number l c.judge.result) c.line.ensures c.judge.ensures in
+    heard c.args.version c.args.number before after c.read.new.self.line c.judge.result found judged

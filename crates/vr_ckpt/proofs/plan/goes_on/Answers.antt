@@ -2,6 +2,7 @@ use Rattle.std.proofs.Common.{◌≡◌, ◌∙◌, ◌++◌, ap, sym, true, fal
 use Rattle.std.specs.Prelude.{nat_eq}
 use Rattle.std.specs.Cmp.Lexicographic.{pointwise}
 use Rattle.std.proofs.lemmas.List.{append-nil}
+use Rattle.vr_ckpt.specs.Places.{other_place}
 use Rattle.vr_ckpt.specs.Saves.{PayloadBlocks, goes_to, payload_blocks}
 use Rattle.vr_ckpt.specs.declared.table.Payload.{Payload}
 use Rattle.vr_ckpt.proofs.Planning.{part_other, part_same}
@@ -26,7 +27,7 @@ returns-clause-payload c =
     let p = c.args.old.now in
     let b = c.args.bytes.now in
     let other : pointwise nat_eq p.bytes b ≡ false = ap (λ x. pointwise nat_eq x b) (sym c.as_slice.ensures) ∙ (sym c.eq.ensures ∙ c.if-eq.false) in
-    let e : goes_to c.args.run c.other_place-address.result b ≡ payload_blocks c.args.run c.args.i b _ = ap (λ a. goes_to c.args.run a b) c.other_place-address.ensures.value ∙ sym (part_other c.args.run c.args.i b p other) in
+    let e : goes_to c.args.run c.other_place-address.result b ≡ payload_blocks c.args.run c.args.i b _ = ap (λ a. goes_to c.args.run a b) (c.other_place-address.ensures.value ∙ ap (λ l. other_place l p.name.address) c.of-low.ensures.value) ∙ sym (part_other c.args.run c.args.i b p other) in
     rw (← e) c.goes_to.ensures.payload
 
 pub returns-clause-blocks : goal.returns-clause-blocks
@@ -34,5 +35,5 @@ returns-clause-blocks c =
     let p = c.args.old.now in
     let b = c.args.bytes.now in
     let other : pointwise nat_eq p.bytes b ≡ false = ap (λ x. pointwise nat_eq x b) (sym c.as_slice.ensures) ∙ (sym c.eq.ensures ∙ c.if-eq.false) in
-    let e : goes_to c.args.run c.other_place-address.result b ≡ payload_blocks c.args.run c.args.i b _ = ap (λ a. goes_to c.args.run a b) c.other_place-address.ensures.value ∙ sym (part_other c.args.run c.args.i b p other) in
+    let e : goes_to c.args.run c.other_place-address.result b ≡ payload_blocks c.args.run c.args.i b _ = ap (λ a. goes_to c.args.run a b) (c.other_place-address.ensures.value ∙ ap (λ l. other_place l p.name.address) c.of-low.ensures.value) ∙ sym (part_other c.args.run c.args.i b p other) in
     rw (← e) c.goes_to.ensures.blocks

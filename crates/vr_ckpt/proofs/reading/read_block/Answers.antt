@@ -3,8 +3,8 @@ use Rattle.vr_ckpt.specs.Blocks.{named}
 use Rattle.vr_ckpt.proofs.Readings.{reads_it, reads_none, reads_not, reads_outside, whole_of}
 use Rattle.vr_ckpt.proofs.reading.read_block.Goals as goal
 
-pub returns-then-name-ge128-clause-exact : goal.returns-then-name-ge128-clause-exact
-returns-then-name-ge128-clause-exact g c = reads_outside (g.D.SectorDisk.told c.args.disk.now) c.args.name.now (omega arith)
+pub returns-then-name-from-clause-exact : goal.returns-then-name-from-clause-exact
+returns-then-name-from-clause-exact g c = reads_outside (g.D.SectorDisk.told c.args.disk.now) c.args.name.now (omega arith)
 
 pub returns-then-not-fill-clause-exact : goal.returns-then-not-fill-clause-exact
 returns-then-not-fill-clause-exact g c =

@@ -1,4 +1,5 @@
 use Rattle.std.proofs.Common.{arith}
+use Rattle.vr_ckpt.proofs.Placing.{keys_room, sessions_room}
 use Rattle.vr_ckpt.proofs.Roots.{numbers_of}
 use Rattle.vr_ckpt.proofs.root.root_in.Goals as goal
 
@@ -11,17 +12,8 @@ keys_size-requires c = (numbers_of c.args.op c.args.bytes.now c.requires).long
 pub both-requires : goal.both-requires
 both-requires c = (numbers_of c.args.op c.args.bytes.now c.requires).long
 
-pub names_at-requires-clause-low : goal.names_at-requires-clause-low
-names_at-requires-clause-low c =
-    let n = numbers_of c.args.op c.args.bytes.now c.requires in
-    let s = n.sessions in
-    rw (c.payloads-sessions.ensures, c.sessions_size.ensures) (omega arith)
-
-pub names_at-requires-clause-few : goal.names_at-requires-clause-few
-names_at-requires-clause-few c =
-    let n = numbers_of c.args.op c.args.bytes.now c.requires in
-    let s = n.sessions in
-    rw (c.payloads-sessions.ensures, c.sessions_size.ensures) (omega arith)
+pub names_at-requires-clause-room : goal.names_at-requires-clause-room
+names_at-requires-clause-room c = rw (c.of_sessions.ensures, c.payloads-sessions.ensures, c.sessions_size.ensures) (sessions_room _ (numbers_of c.args.op c.args.bytes.now c.requires).sessions)
 
 pub names_at-requires-clause-within : goal.names_at-requires-clause-within
 names_at-requires-clause-within c =
@@ -29,18 +21,8 @@ names_at-requires-clause-within c =
     let s = n.size in
     rw (c.payloads-sessions.ensures, c.sessions_size.ensures) (omega arith)
 
-pub names_at-requires-2-clause-low : goal.names_at-requires-2-clause-low
-names_at-requires-2-clause-low c =
-    let n = numbers_of c.args.op c.args.bytes.now c.requires in
-    let s = n.keys in
-    rw (c.payloads-keys.ensures, c.keys_size.ensures) (omega arith)
-
-pub names_at-requires-2-clause-few : goal.names_at-requires-2-clause-few
-names_at-requires-2-clause-few c =
-    let n = numbers_of c.args.op c.args.bytes.now c.requires in
-    let s = n.sessions in
-    let k = n.keys in
-    rw (c.payloads-sessions.ensures, c.sessions_size.ensures, c.payloads-keys.ensures, c.keys_size.ensures) (omega arith)
+pub names_at-requires-2-clause-room : goal.names_at-requires-2-clause-room
+names_at-requires-2-clause-room c = rw (c.of_keys.ensures, c.payloads-keys.ensures, c.keys_size.ensures) (keys_room _ (numbers_of c.args.op c.args.bytes.now c.requires).keys)
 
 pub names_at-requires-2-clause-within : goal.names_at-requires-2-clause-within
 names_at-requires-2-clause-within c =

@@ -1,4 +1,4 @@
-use Rattle.std.proofs.Common.{◌∙◌, ◌+◌, arith, drop, true, false}
+use Rattle.std.proofs.Common.{◌∙◌, ◌+◌, drop, true, false}
 use Rattle.std.proofs.lemmas.Result.{err_from_is_err_and}
 use Rattle.vr_disk.specs.DiskState.{Runs}
 use Rattle.vr_disk.proofs.Running.{Runs_stopped, Runs_then, runs_nothing}

@@ -28,6 +28,7 @@ returns-clause-bytes c =
       c.put_sum.ensures.front,
       c.code_of.ensures,
       c.get.ensures.value,
+      c.get-2.ensures.value,
     )
     (behind 16 (replicate 16 0) h.body.0 h.parent.0 h.request_name.0 (bytes64 h.cluster) (bytes64 h.client) (bytes32 h.request) (bytes32 h.view) (bytes64 h.op) (bytes64 h.commit) (bytes32 h.size)
-    (code_of h.command ∷ h.replica ∷ 1 ∷ h.kind ∷ []) (bytes64 h.aux) (replicate 8 0) refl)
+    (code_of h.command ∷ h.replica ∷ h.version ∷ h.kind ∷ []) (bytes64 h.aux) (replicate 8 0) refl)

@@ -21,9 +21,3 @@ owned_entry-requires-clause-entry c =
     let b = c.args.bytes.now in
     let P : Option Whole → Type 0 = λ o. IfSome o (IsSpelled b) in
     (subst P (sym c.in-Some.ensures) (entry_found b (λ i. omega (arith, c.type_inv.bytes i)))).1
-
-pub owned_entry-requires-clause-operation : goal.owned_entry-requires-clause-operation
-owned_entry-requires-clause-operation c =
-    let b = c.args.bytes.now in
-    let P : Option Whole → Type 0 = λ o. IfSome o (IsSpelled b) in
-    (subst P (sym c.in-Some.ensures) (entry_found b (λ i. omega (arith, c.type_inv.bytes i)))).3

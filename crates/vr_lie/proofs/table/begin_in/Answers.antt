@@ -14,8 +14,8 @@ returns-then-digit-ne0-clause-held c =
     let l : c.args.slot < length c.args.held.now = let n = c.requires.count in let s = c.requires.slot in omega arith in
     let g : (disk_of c.put.new.self).face ≡ after f (Write c.args.i b) = ap (λ (d : Disk). d.face) c.put.ensures.told ∙ ap (λ (d : Disk). after d.face (Write c.args.i b)) c.keeps_held-keeps.ensures.told in
     set_table c.args.held.now c.args.slot c.follow.new.held _
-    (begins_new c.args.code f c.args.i b c.args.slot c.digit.result _ _ (disk_of c.put.new.self).face.waiting c.digit.ensures (ap (λ f. f.waiting) g) c.if-digit-ne0.true
-    (puts f _ c.args.slot c.args.i b _ _ _ _ g c.follow.ensures.value (sym c.keeps_held-keeps.ensures.value) (at_table c.args.held.now c.args.slot l)))
+    (begins_new c.args.version c.args.code f c.args.i b c.args.slot c.digit.result _ _ (disk_of c.put.new.self).face.waiting c.digit.ensures (ap (λ f. f.waiting) g) c.if-digit-ne0.true
+    (puts c.args.version f _ c.args.slot c.args.i b _ _ _ _ g c.follow.ensures.value (sym c.keeps_held-keeps.ensures.value) (at_table c.args.held.now c.args.slot l)))
 
 pub returns-else-digit-ne0-clause-held : goal.returns-else-digit-ne0-clause-held
 returns-else-digit-ne0-clause-held c =
@@ -24,4 +24,4 @@ returns-else-digit-ne0-clause-held c =
     let table = table_of c.args.held.now in
     let g : (disk_of c.put.new.self).face ≡ after f (Write c.args.i b) = ap (λ (d : Disk). d.face) c.put.ensures.told ∙ ap (λ (d : Disk). after d.face (Write c.args.i b)) c.keeps_held-keeps.ensures.told in
     sym (set-get_or table c.args.slot None)
-    ∙ ap (set table c.args.slot) (begins_old c.args.code f c.args.i b c.args.slot c.digit.result _ (disk_of c.put.new.self).face.waiting c.digit.ensures (ap (λ f. f.waiting) g) c.if-digit-ne0.false)
+    ∙ ap (set table c.args.slot) (begins_old c.args.version c.args.code f c.args.i b c.args.slot c.digit.result _ (disk_of c.put.new.self).face.waiting c.digit.ensures (ap (λ f. f.waiting) g) c.if-digit-ne0.false)

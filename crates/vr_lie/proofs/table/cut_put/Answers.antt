@@ -9,4 +9,4 @@ pub returns-clause-held : goal.returns-clause-held
 returns-clause-held c =
     let f = (disk_of c.args.disk.now).face in
     let g : (disk_of c.settle.new.self).face ≡ settle c.args.code (after f (Write c.args.i c.args.from.now.bytes)) = ap (λ (d : Disk). d.face) c.settle.ensures.told ∙ ap (λ (d : Disk). settle c.args.code d.face) c.begin.ensures.told in
-    write_cut c.args.code f _ c.args.i c.args.from.now.bytes (table_of c.args.held.now) (table_of c.begin.new.held) _ g c.begin.ensures.held c.look_all.ensures.held
+    write_cut c.args.version c.args.code f _ c.args.i c.args.from.now.bytes (table_of c.args.held.now) (table_of c.begin.new.held) _ g c.begin.ensures.held c.look_all.ensures.held

@@ -6,4 +6,4 @@ use Rattle.vr_lie.proofs.Tables.{sync_cut}
 use Rattle.vr_lie.proofs.table.cut_sync.Goals as goal
 
 pub returns-clause-held : goal.returns-clause-held
-returns-clause-held c = sync_cut c.args.code (disk_of c.args.disk.now).face _ (table_of c.args.held.now) _ (ap (λ (d : Disk). d.face) c.settle.ensures.told) c.look_all.ensures.held
+returns-clause-held c = sync_cut c.args.version c.args.code (disk_of c.args.disk.now).face _ (table_of c.args.held.now) _ (ap (λ (d : Disk). d.face) c.settle.ensures.told) c.look_all.ensures.held

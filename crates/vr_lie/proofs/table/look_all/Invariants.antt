@@ -8,5 +8,5 @@ abbrev pub invariant-loop-slot : goal.invariant-loop-slot
 invariant-loop-slot l = record {
   told : disk_of l.disk ≡ disk_of l.fn.disk;
   faults : l.disk.faults ≡ l.fn.disk.faults;
-  looked : LookedTo (disk_of l.fn.disk).face l.slot (table_of l.fn.held) (table_of l.held);
+  looked : LookedTo l.fn.version (disk_of l.fn.disk).face l.slot (table_of l.fn.held) (table_of l.held);
 }

@@ -7,16 +7,16 @@ use Rattle.vr_lie.proofs.table.put.Goals as goal
 
 pub returns-in-Some-clause-held : goal.returns-in-Some-clause-held
 returns-in-Some-clause-held c =
-    put_some (disk_of c.args.disk.now).face c.args.i c.in-Some.slot c.args.from.now.bytes (table_of c.args.held.now) (table_of c.put_in.new.held) c.requires.table (sym c.in-Some.ensures.slot) c.in-Some.ensures.within c.put_in.ensures.held
+    put_some c.args.version (disk_of c.args.disk.now).face c.args.i c.in-Some.slot c.args.from.now.bytes (table_of c.args.held.now) (table_of c.put_in.new.held) c.requires.table (sym c.in-Some.ensures.slot) c.in-Some.ensures.within c.put_in.ensures.held
 
 pub returns-in-None-clause-held : goal.returns-in-None-clause-held
-returns-in-None-clause-held c = put_none (disk_of c.args.disk.now).face c.args.i c.args.from.now.bytes (table_of c.args.held.now) c.requires.table (sym c.in-None.ensures.slot)
+returns-in-None-clause-held c = put_none c.args.version (disk_of c.args.disk.now).face c.args.i c.args.from.now.bytes (table_of c.args.held.now) c.requires.table (sym c.in-None.ensures.slot)
 
 pub returns-in-Some-clause-table : goal.returns-in-Some-clause-table
 returns-in-Some-clause-table c =
-    after_table (disk_of c.args.disk.now).face _ c.args.i c.args.from.now.bytes (table_of c.args.held.now) (table_of c.put_in.new.held) (ap (λ (d : Disk). d.face) c.put_in.ensures.told)
+    after_table c.args.version (disk_of c.args.disk.now).face _ c.args.i c.args.from.now.bytes (table_of c.args.held.now) (table_of c.put_in.new.held) (ap (λ (d : Disk). d.face) c.put_in.ensures.told)
     (ap length c.put_in.ensures.held ∙ (length-set (table_of c.args.held.now) c.in-Some.slot _ ∙ c.requires.table.count)) (returns-in-Some-clause-held c)
 
 pub returns-in-None-clause-table : goal.returns-in-None-clause-table
 returns-in-None-clause-table c =
-    after_table (disk_of c.args.disk.now).face _ c.args.i c.args.from.now.bytes (table_of c.args.held.now) (table_of c.args.held.now) (ap (λ (d : Disk). d.face) c.put.ensures.told) c.requires.table.count (returns-in-None-clause-held c)
+    after_table c.args.version (disk_of c.args.disk.now).face _ c.args.i c.args.from.now.bytes (table_of c.args.held.now) (table_of c.args.held.now) (ap (λ (d : Disk). d.face) c.put.ensures.told) c.requires.table.count (returns-in-None-clause-held c)

@@ -12,4 +12,4 @@ returns-clause-held c =
     let f = (disk_of c.args.disk.now).face in
     let g : (disk_of c.put.new.self).face ≡ after f (Write c.args.i c.args.from.now.bytes) = ap (λ (d : Disk). d.face) c.put.ensures.told ∙ ap (λ (d : Disk). after d.face (Write c.args.i c.args.from.now.bytes)) c.keeps_held-keeps.ensures.told in
     set_table c.args.held.now c.args.slot c.follow.new.held _
-    (puts f _ c.args.slot c.args.i c.args.from.now.bytes _ _ _ _ g c.follow.ensures.value (sym c.keeps_held-keeps.ensures.value) (at_table c.args.held.now c.args.slot (omega arith)))
+    (puts c.args.version f _ c.args.slot c.args.i c.args.from.now.bytes _ _ _ _ g c.follow.ensures.value (sym c.keeps_held-keeps.ensures.value) (at_table c.args.held.now c.args.slot (omega arith)))

@@ -12,6 +12,6 @@ returns-clause-value c =
     let b = c.args.b.now in
     let first = c.keeps_opening.ensures.told in
     let second = c.keeps_slot.ensures.told ∙ first in
-    let k = keeps_on _ d a b a.at table c.keeps_slot.result first c.keeps_slot.ensures.value in
-    let l = keeps_on _ d a b b.at table c.keeps_slot-2.result second c.keeps_slot-2.ensures.value in
-    (λ t. premise_is d.face a b table (c.keeps_opening.ensures.value.0 c.if-not-keeps_opening.false) (k.0 c.if-not-keeps_slot.false) (l.0 t), λ h. l.1 (premise_slot d.face (both d.face a b) b.at table h))
+    let k = keeps_on c.args.version _ d a b a.at table c.keeps_slot.result first c.keeps_slot.ensures.value in
+    let l = keeps_on c.args.version _ d a b b.at table c.keeps_slot-2.result second c.keeps_slot-2.ensures.value in
+    (λ t. premise_is c.args.version d.face a b table (c.keeps_opening.ensures.value.0 c.if-not-keeps_opening.false) (k.0 c.if-not-keeps_slot.false) (l.0 t), λ h. l.1 (premise_slot c.args.version d.face (both d.face a b) b.at table h))

@@ -10,5 +10,5 @@ returns-then-held-clause-value c =
     let f = (disk_of c.args.disk.now).face in
     let h = get_or c.args.held.now c.in-Some.slot no_held in
     let l : c.in-Some.slot < length c.args.held.now = let n = c.requires.count in let w = c.in-Some.ensures.within in omega arith in
-    slot_keeps f (both f c.args.a.now c.args.b.now) c.args.at c.in-Some.slot (table_of c.args.held.now) _ c.still_holds.result (sym c.in-Some.ensures.slot)
+    slot_keeps c.args.version f (both f c.args.a.now c.args.b.now) c.args.at c.in-Some.slot (table_of c.args.held.now) _ c.still_holds.result (sym c.in-Some.ensures.slot)
     (at_table c.args.held.now c.in-Some.slot l ∙ ap (λ (b : Bool). cond b (Some h.prepare) None) c.if-held.true) c.still_holds.ensures.value

@@ -1,10 +1,10 @@
 use Rattle.std.proofs.Common.{◌≡◌}
 use Rattle.vr_journal.specs.Formatting.{zero_prepares}
-use Rattle.vr_opening.specs.Calls.{zero_call, calls_from, Making}
+use Rattle.vr_opening.specs.Calls.{prepares_end, zero_call, calls_from, Making}
 use Rattle.vr_opening.proofs.formatting.write_zeros.Given as goal
 
 abbrev pub invariant-loop-i : goal.invariant-loop-i
 invariant-loop-i g l = record {
-  making : Making zero_prepares (calls_from zero_call l.i 400) (g.D.SectorDisk.told l.fn.disk) (g.D.SectorDisk.told l.disk);
+  making : Making zero_prepares (calls_from zero_call l.i prepares_end) (g.D.SectorDisk.told l.fn.disk) (g.D.SectorDisk.told l.disk);
   faults : g.D.SectorDisk.faults l.disk ≡ g.D.SectorDisk.faults l.fn.disk;
 }

@@ -15,7 +15,7 @@ returns-in-Err-clause-cut g c =
       r.0,
       None,
       r.1,
-      failed_begins c.args.cluster r.0 c.in-Err.fault r.2,
+      failed_begins c.args.version c.args.cluster r.0 c.in-Err.fault r.2,
       cut_none g.M.Member.does g.M.Member.halts a [] end
           (record { why = rw c.received_stop.ensures (received_stop_spares c.in-Err.fault); disk = refl; taken = refl; sent = c.receive_letter.ensures.sent }),
     )
@@ -27,12 +27,12 @@ returns-in-Ok-None-clause-passed g c =
       r.0,
       None,
       r.1,
-      subst (λ x. Brings c.args.cluster r.0 x) c.in-Ok-None.field-0-is r.2,
+      subst (λ x. Brings c.args.version c.args.cluster r.0 x) c.in-Ok-None.field-0-is r.2,
       rw c.receive_letter.ensures.sent (passed_none g.M.Member.does a c.args.post.now.number c.args.post.now.clients.items refl refl),
     )
 
 pub returns-in-Err-clause-linked : goal.returns-in-Err-clause-linked
 returns-in-Err-clause-linked g c =
     let r = c.in-Err.ensures.received in
-    λ link. link_failed c.args.cluster c.in-Err.fault (g.L.Link.received c.args.link.now) (g.L.Link.received c.receive_letter.new.link) r.0 r.1 r.2
+    λ link. link_failed c.args.version c.args.cluster c.in-Err.fault (g.L.Link.received c.args.link.now) (g.L.Link.received c.receive_letter.new.link) r.0 r.1 r.2
     (sym c.received_stop.ensures ∙ same_stop c.received_stop.result Link link)

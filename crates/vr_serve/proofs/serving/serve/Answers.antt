@@ -23,7 +23,7 @@ loop-init g c =
       write = c.in_ok-put_out.ensures.causes.write;
       link = c.in_ok-put_out.ensures.causes.link;
       attached = c.put_out.ensures.attached;
-      serving = serving_begins g.M.Member.does c.args.cluster c.now-last.result c.args.first c.args.member.now (g.D.SectorDisk.told c.args.disk.now)
+      serving = serving_begins g.M.Member.does c.args.version c.args.cluster c.now-last.result c.args.first c.args.member.now (g.D.SectorDisk.told c.args.disk.now)
           (g.C.Clock.left c.args.clock.now) (g.C.Clock.left c.now-last.new.self) (g.L.Link.received c.args.link.now) (g.L.Link.received c.put_out.new.link)
           (g.K.Sink.taken c.args.sink.now) (g.K.Sink.taken c.put_out.new.sink) (g.L.Link.sent c.args.link.now) (g.L.Link.sent c.put_out.new.link)
           c.put_out.new.self.number c.put_out.new.self.clients.items
@@ -46,7 +46,7 @@ loop-preserved g c =
       write = c.in_ok-last.ensures.causes.write ∙ c.loop.invariant.write;
       link = c.in_ok-last.ensures.causes.link ∙ c.loop.invariant.link;
       attached = c.turn.ensures.attached ∙ c.loop.invariant.attached;
-      serving = serving_more g.M.Member.does c.args.cluster c.loop.counter c.loop.last c.in_ok-last.last c.args.first c.args.member.now (g.D.SectorDisk.told c.args.disk.now)
+      serving = serving_more g.M.Member.does c.args.version c.args.cluster c.loop.counter c.loop.last c.in_ok-last.last c.args.first c.args.member.now (g.D.SectorDisk.told c.args.disk.now)
           (g.C.Clock.left c.args.clock.now) (g.C.Clock.left c.loop.clock) (g.C.Clock.left c.turn.new.clock)
           (g.L.Link.received c.args.link.now) (g.L.Link.received c.loop.link) (g.L.Link.received c.turn.new.link)
           (g.K.Sink.taken c.args.sink.now) (g.L.Link.sent c.args.link.now) b e t.0 c.loop.invariant.serving t.1 t.2 t.3 t.4 t.5;
@@ -65,9 +65,9 @@ returns-in_err-last-clause-cut g c =
     let end : Stop → End = λ why. end_at why (g.D.SectorDisk.told c.turn.new.disk) (g.K.Sink.taken c.turn.new.sink) (g.L.Link.sent c.turn.new.link) in
     if_err_is c.from_residual-in_err-last.result
     (λ why. IsCutBefore c.args.first (g.D.SectorDisk.told c.args.disk.now) got got' taken sent (end why)
-    ⊎ IsCutInTurn g.M.Member.does g.M.Member.halts c.args.cluster c.args.turns c.args.first c.args.member.now (g.D.SectorDisk.told c.args.disk.now) got got' taken sent (end why))
+    ⊎ IsCutInTurn g.M.Member.does g.M.Member.halts c.args.version c.args.cluster c.args.turns c.args.first c.args.member.now (g.D.SectorDisk.told c.args.disk.now) got got' taken sent (end why))
     stop is
-    (inr (serving_cut g.M.Member.does g.M.Member.halts c.args.cluster c.loop.counter c.loop.last c.args.turns c.args.first c.args.member.now (g.D.SectorDisk.told c.args.disk.now)
+    (inr (serving_cut g.M.Member.does g.M.Member.halts c.args.version c.args.cluster c.loop.counter c.loop.last c.args.turns c.args.first c.args.member.now (g.D.SectorDisk.told c.args.disk.now)
     (g.C.Clock.left c.args.clock.now) (g.C.Clock.left c.loop.clock) got (g.L.Link.received c.loop.link) got' taken sent b r.0 (end stop) c.loop.invariant.serving c.loop-test.true
     r.1 r.2 r.3))
 

@@ -15,7 +15,7 @@ returns-in_err-arrive-clause-cut g c =
     let is : c.from_residual.result ≡ Err stop = search rules in
     let end : Stop → End = λ why. end_at why (g.D.SectorDisk.told c.arrive.new.disk) (g.K.Sink.taken c.arrive.new.sink) (g.L.Link.sent c.arrive.new.link) in
     if_err_is c.from_residual.result
-    (λ why. CutTurn g.M.Member.does g.M.Member.halts a c.args.cluster c.args.last (g.L.Link.received c.args.link.now) (g.L.Link.received c.arrive.new.link) (end why)) stop is
+    (λ why. CutTurn g.M.Member.does g.M.Member.halts a c.args.version c.args.cluster c.args.last (g.L.Link.received c.args.link.now) (g.L.Link.received c.arrive.new.link) (end why)) stop is
     (turn_of r.0 r.1 0, r.2, r.3, cut_before g.M.Member.does g.M.Member.halts a (comes_of r.1) (due c.args.last 0) (end stop) r.4)
 
 pub returns-clause-turned : goal.returns-clause-turned
@@ -40,7 +40,7 @@ returns-clause-cut g c =
     let r = c.in_ok-arrive.ensures.passed in
     let end : Stop → End = λ why. end_at why (g.D.SectorDisk.told c.beat.new.disk) (g.K.Sink.taken c.beat.new.sink) (g.L.Link.sent c.beat.new.link) in
     if_err_then c.beat.result _
-    (λ why. CutTurn g.M.Member.does g.M.Member.halts a c.args.cluster c.args.last (g.L.Link.received c.args.link.now) (g.L.Link.received c.beat.new.link) (end why)) (λ why cut. (
+    (λ why. CutTurn g.M.Member.does g.M.Member.halts a c.args.version c.args.cluster c.args.last (g.L.Link.received c.args.link.now) (g.L.Link.received c.beat.new.link) (end why)) (λ why cut. (
       turn_of r.0 r.1 c.now-now.result,
       rw c.beat.ensures.received r.2,
       inl r.3,

@@ -1,5 +1,10 @@
-use Rattle.vr_view.proofs.States.{place_stated, stated_means}
+use Rattle.vr_view.proofs.States.{place_stated, ready_stated, stated_means, still_for}
 use Rattle.vr_view.proofs.stating.keep.Goals as goal
 
 pub keep_statement-requires : goal.keep_statement-requires
 keep_statement-requires g c = place_stated _ _ c.in_ok-enter_up_to.ensures.ready (rw c.in_ok-enter_up_to.ensures.size (stated_means c.args.message.now c.args.replica.now c.requires.rule).sender)
+
+pub try_view-requires-clause-ready : goal.try_view-requires-clause-ready
+try_view-requires-clause-ready g c =
+    let stays = still_for c.args.message.now c.args.replica.now _ c.requires.ready c.in_ok-enter_up_to.ensures.ready c.in_ok-enter_up_to.ensures.group (stated_means c.args.message.now c.args.replica.now c.requires.rule) in
+    ready_stated c.args.message.now _ _ _ c.keep_statement.ensures.kept c.in_ok-statement.ensures.same c.in_ok-statement.ensures.values c.requires.message c.in_ok-enter_up_to.ensures.view stays c.in_ok-enter_up_to.ensures.ready

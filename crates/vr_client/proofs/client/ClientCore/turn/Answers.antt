@@ -12,8 +12,8 @@ returns-clause-turned g c =
     let k1 = c.hear.ensures.core in
     let k2 = keeps_later was c.hear.new.self c.follow.new.self k1 c.follow.ensures.core in
     let same : g.L.Link.received c.go_on.new.link ≡ g.L.Link.received c.hear.new.link = c.go_on.ensures.received ∙ c.follow.ensures.received in
-    let hears : Hears was.cluster was.n c.args.name.now (g.L.Link.received c.args.link.now) (g.L.Link.received c.go_on.new.link) h =
-    subst (λ r. Hears was.cluster was.n c.args.name.now (g.L.Link.received c.args.link.now) r h) (sym same) c.in_ok-heard.ensures.heard in
+    let hears : Hears was.version was.cluster was.n c.args.name.now (g.L.Link.received c.args.link.now) (g.L.Link.received c.go_on.new.link) h =
+    subst (λ r. Hears was.version was.cluster was.n c.args.name.now (g.L.Link.received c.args.link.now) r h) (sym same) c.in_ok-heard.ensures.heard in
     let silent : IsSilent h = search rules in
     let is : c.follow.new.self.port ≡ moved h was.port = c.follow.ensures.port ∙ ap (λ p. moved h p) c.hear.ensures.stays in
     let first : Sends (requests was.bytes.items (moved_to h)) (g.L.Link.sent c.args.link.now) (g.L.Link.sent c.follow.new.link) =

@@ -16,7 +16,7 @@ returns-in-Cuts-clause-told c =
     (cuts_told (disk_of c.args.self.now.disk) (disk_of c.judge.new.self) (disk_of c.cut_sync.new.disk) _ Sync c.in-Cuts.code refl c.in-Cuts.ensures.verdict c.in-Cuts.ensures.told c.cut_sync.ensures.told c.fault-in-Cuts.ensures.same)
 
 pub invariant_of-self : goal.invariant_of-self
-invariant_of-self c = record { table = clear_table (disk_of c.args.self.now.disk) (disk_of c.judge.new.self) (disk_of c.clear.new.self) _ c.in-Goes.ensures.told c.clear.ensures.told c.args.self.now.table }
+invariant_of-self c = record { table = clear_table c.args.self.now.version (disk_of c.args.self.now.disk) (disk_of c.judge.new.self) (disk_of c.clear.new.self) _ c.in-Goes.ensures.told c.clear.ensures.told c.args.self.now.table }
 
 pub returns-in-Goes-clause-held : goal.returns-in-Goes-clause-held
-returns-in-Goes-clause-held c = sync_held (disk_of c.args.self.now.disk) _ c.in-Goes.ensures.verdict
+returns-in-Goes-clause-held c = sync_held c.args.self.now.version (disk_of c.args.self.now.disk) _ c.in-Goes.ensures.verdict

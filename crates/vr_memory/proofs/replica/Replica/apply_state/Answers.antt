@@ -1,9 +1,9 @@
 use Rattle.std.proofs.Common.{ap, arith, ◌≡◌}
 use Rattle.std.specs.Prelude.{◌==◌}
 use Rattle.std.proofs.lemmas.Bool.{and_parts, eqb-true}
-use Rattle.vr_rules.specs.Replica.{Replica}
+use Rattle.vr_rules.specs.Replica.{Replica, version}
 use Rattle.vr_memory.proofs.Memory.{may_member, may_fits, may_low}
-use Rattle.vr_memory.proofs.Applies.{reply_fits}
+use Rattle.vr_memory.proofs.Applies.{reply_fits, reply_value}
 use Rattle.vr_memory.proofs.replica.Replica.apply_state.Goals as goal
 
 pub reply_applied-requires-clause-member : goal.reply_applied-requires-clause-member
@@ -11,6 +11,9 @@ reply_applied-requires-clause-member c = may_member _ _ (ap (λ (x : Replica). x
 
 pub reply_applied-requires-clause-kind : goal.reply_applied-requires-clause-kind
 reply_applied-requires-clause-kind c = reply_fits _ _ _ _ (ap (λ (x : Replica). x.state) c.self.view_is) c.requires.may c.header-header.ensures.entry c.in_ok-body.ensures.reply
+
+pub reply_applied-requires-clause-fits : goal.reply_applied-requires-clause-fits
+reply_applied-requires-clause-fits c = rw (ap (λ (x : Replica). version x) c.self.view_is) (reply_value _ _ _ _ (ap (λ (x : Replica). x.state) c.self.view_is) c.requires.may c.in_ok-body.ensures.reply)
 
 pub overflow_add-self : goal.overflow_add-self
 overflow_add-self c = let k = may_fits _ _ (ap (λ (x : Replica). x.applied) c.self.view_is) c.requires.may in omega arith

@@ -4,4 +4,4 @@ use Rattle.vr_memory.specs.Sends.{sends}
 use Rattle.vr_memory.proofs.replica.Replica.tell_change.Given as goal
 
 abbrev pub invariant-loop-to : goal.invariant-loop-to
-invariant-loop-to l = l.out ≡ l.initial.out ++ sends l.self-inside.index l.to (frame.StartViewChange (record { cluster = l.self-inside.cluster; replica = l.self-inside.index; view = l.self-inside.view }))
+invariant-loop-to l = l.out ≡ l.initial.out ++ sends l.self-inside.index l.to (frame.StartViewChange (record { version = l.self-inside.saved.fields.version; cluster = l.self-inside.cluster; replica = l.self-inside.index; view = l.self-inside.view }))

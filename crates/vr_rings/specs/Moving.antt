@@ -1,0 +1,32 @@
+-- A file of version 1 becomes one of version 2: each slot's prepare is written at its new place, and the old ones stay.
+use Rattle.std.specs.Prelude.{ℕ, zero, suc, ◌+◌, ◌≡◌, true, ◌||◌, List, [], ◌∷◌, ◌++◌, length, Option, Some}
+use Rattle.vr_base.specs.Bytes.{is_zeros}
+use Rattle.vr_base.specs.declared.mode.Mode.{Mode}
+use Rattle.vr_disk.specs.DiskState.{Call, Sync, Face, after_all, cut}
+use Rattle.vr_disk.specs.Regions.{prepare_place, prepare_sectors}
+use Rattle.vr_disk.specs.Sectors.{writes}
+use Rattle.vr_rings.specs.Held.{Stands, held_after_all, held_cut, is_prepare}
+use Rattle.vr_rings.specs.Slots.{prepare_reading}
+
+-- the sectors of so many slots' new prepares, from one slot on
+unfoldable pub moves : ℕ → ℕ → (ℕ → List ℕ) → List Call
+moves slot zero new = []
+moves slot (suc n) new = writes (prepare_place 2 slot) (prepare_sectors 2) (new slot) ++ moves (slot + 1) n new
+
+-- those of all, and one sync
+abbrev pub move_calls : (ℕ → List ℕ) → List Call
+move_calls new = moves 0 64 new ++ Sync ∷ []
+
+-- what is written is a whole entry exactly where the old prepare reads as that entry, and zeros only where it reads as zeros
+pub record IsMoved (f : Face) (slot : ℕ) (new : List ℕ) : Type 0 where
+  pub size : length new ≡ 4096
+  pub only : (is_prepare new || is_zeros new) ≡ true → prepare_reading 1 f slot ≡ Some new
+  pub all : (p : List ℕ) → prepare_reading 1 f slot ≡ Some p → is_prepare p ≡ true → new ≡ p
+
+-- what a slot holds it goes on holding in the old place, at each stop too; in the end it holds the same in the new one
+pub record Moves (mode : Mode) (f : Face) (new : ℕ → List ℕ) (slot : ℕ) (held : Option (List ℕ)) : Type 0 where
+  pub stays : Stands 1 mode (after_all f (move_calls new)) slot held
+  pub same : held_after_all 1 f (move_calls new) slot held ≡ held
+  pub stopped : (j code : ℕ) → Stands 1 mode (cut j code f (move_calls new)) slot held
+  pub kept : (j code : ℕ) → held_cut 1 j code f (move_calls new) slot held ≡ held
+  pub moved : Stands 2 mode (after_all f (move_calls new)) slot held
