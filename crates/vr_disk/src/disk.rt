@@ -11,7 +11,7 @@ use vr_base::Sum;
 #[derive(Clone, Copy, Debug, PartialEq, Eq)]
 pub struct DiskFailed;
 
-/// A disk of 1,424 sectors. What is written is kept only from the next `sync` on: a stop before it leaves each of
+/// A disk of 3,984 sectors. What is written is kept only from the next `sync` on: a stop before it leaves each of
 /// the sectors written since the last one as it was, as it was written, or damaged.
 pub trait SectorDisk {
     /// What the disk holds and which calls are to fail, where it tells.
@@ -64,6 +64,6 @@ pub trait SectorDisk {
         ensures faults { faults self.new ≡ faults self.old }
         ensures reads { read_faults self.new ≡ read_faults self.old };
 
-    /// What is told is a disk of 1,424 sectors of 512 bytes.
+    /// What is told is a disk of 3,984 sectors of 512 bytes.
     ghost whole: { (s : Self) → IfSome (told s) (λ d. IsFace d.face) };
 }

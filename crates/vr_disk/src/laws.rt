@@ -10,7 +10,7 @@ ghost use Rattle.vr_disk.specs.Stops.{ArmedFuseGoesOff, AttachingIsBarrier, CutL
 /// - A sector that no call writes stays as it is, in every cut too.
 /// - A sector to which only one content is written reads after a cut as before, or as that, or as that damaged.
 /// - A cut of calls and then others is a cut of the first, or of the others after the first.
-/// - Calls and cuts leave 1,424 sectors of 512 bytes. After a stop, or an attach, no sector waits.
+/// - Calls and cuts leave 3,984 sectors of 512 bytes. After a stop, or an attach, no sector waits.
 pub fn disk_laws()
     ensures after { RunsLeaveAfter }
     ensures front { StopsLeaveFront }

@@ -86,7 +86,8 @@ impl Model for Memo {
 /// Which kept text another one replaces: at most one is kept in each room.
 #[derive(Clone, Copy, Debug, PartialEq, Eq)]
 pub enum Room {
-    /// Of a header without its name, of 112 bytes: one for each address of a block, one for each 256th op of others.
+    /// Of a header without its name, of 112 bytes: one for each address of a block, which addresses 128 apart share, and one for
+    /// each 256th op of others.
     Header,
     /// Of an entry's operation: one for each slot.
     Body(u32),
