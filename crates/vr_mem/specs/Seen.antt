@@ -1,7 +1,7 @@
 -- What a disk in memory holds, as the calls of a disk see it.
 use Rattle.std.specs.List.{list_any, All}
 use Rattle.std.specs.Vec.{vec_capacity}
-use Rattle.std.specs.Prelude.{◌==◌, ◌&&◌, ◌≡◌, ◌≤◌, ◌<◌, ◌-◌, ◌++◌, Bool, true, not, ℕ, List, [], ◌∷◌, length, map, replicate, Option, Some, None}
+use Rattle.std.specs.Prelude.{◌==◌, ◌&&◌, ◌≡◌, ◌≤◌, ◌<◌, ◌-◌, ◌++◌, Bool, true, not, if◌then◌else◌, ℕ, List, [], ◌∷◌, length, map, replicate, Option, Some, None}
 use Rattle.vr_disk.specs.DiskState.{Cell, Waiting, Face, IsFace, Fate, Fuse, CallVerdict, Goes, Fails, Cuts}
 use Rattle.vr_disk.specs.Regions.{sectors}
 use Rattle.vr_disk.specs.declared.sector.Sector.{Sector}
@@ -12,6 +12,7 @@ use Rattle.vr_mem.specs.declared.fate.MemFuse.{MemFuse}
 use Rattle.vr_mem.specs.declared.fate.MemFate.{MemFate}
 use Rattle.vr_mem.specs.declared.fate.MemVerdict.{MemVerdict}
 use Rattle.vr_mem.specs.declared.fate.MemVerdict.TheVariants as v
+use Rattle.vr_mem.specs.declared.name.DiskName.{DiskName}
 
 -- the bytes of a sector that can be read
 abbrev pub reads_of : Option Sector → Option (List ℕ)
@@ -50,6 +51,10 @@ abbrev pub call_verdict : MemVerdict → CallVerdict
 call_verdict v.Goes = Goes
 call_verdict v.Fails = Fails
 call_verdict (v.Cuts code) = Cuts code
+
+-- the name by which it was attached last
+abbrev pub name_of : DiskName → Option (List ℕ)
+name_of n = if n.is_given then Some n.bytes.items else None
 
 -- no sector waits twice
 abbrev pub once : List MemWaiting → Bool
