@@ -1,7 +1,8 @@
 //! A disk in memory whose sectors may read as something else than they should hold.
 ghost use Rattle.std.specs.Prelude.{◌≡◌, ◌-◌, ◌≤◌, ◌<◌, Some, None, false, [], IfOk, is_ok};
+ghost use Rattle.std.specs.Option.{option_map};
 ghost use Rattle.vr_base.specs.Causes.{HasCause};
-ghost use Rattle.vr_disk.specs.DiskState.{Sync, Write, after, cell, digit_at, judged, nothing_beside, settle};
+ghost use Rattle.vr_disk.specs.DiskState.{Sync, Write, after, cell, digit_at, judged, nothing_beside, settle, reads};
 ghost use Rattle.vr_mem.specs.Lies.{lied};
 ghost use Rattle.vr_mem.specs.Seen.{IsMemFace, cell_of, copies, call_verdict, zero_cell};
 
@@ -93,6 +94,14 @@ impl CellDisk {
         ensures { cell (disk_of self.now).face i ≡ cell_of result }
     {
         self.face.cell(i)
+    }
+
+    /// What a sector reads as, `None` where it can't be read.
+    pub fn reading(&self, i: u32) -> Option<&Sector>
+        requires { i < SECTORS }
+        ensures { option_map (λ s. s.now.bytes) result ≡ reads (disk_of self.now).face i }
+    {
+        self.face.reading(i)
     }
 
     /// From now on a sector reads as this, until it is written.
@@ -194,8 +203,8 @@ impl SectorDisk for CellDisk {
     }
 
     fn read(&mut self, i: u32, to: &mut Sector) -> Result<(), DiskFailed> {
-        if let Some(sector) = self.face.cell(i).reads {
-            *to = sector;
+        if let Some(sector) = self.face.reading(i) {
+            *to = *sector;
             return Ok(());
         }
         self.read_faults = self.read_faults.saturating_add(1);

@@ -1,6 +1,7 @@
-use Rattle.std.proofs.Common.{◌<◌, ◌∙◌, length, arith, sym, [], None}
+use Rattle.std.proofs.Common.{◌<◌, ◌∙◌, length, arith, sym, [], false}
 use Rattle.vr_disk.specs.declared.sector.Sector.{Sector}
-use Rattle.vr_mem.specs.declared.cells.MemCell.{MemCell}
+use Rattle.vr_mem.specs.declared.cells.MemReads.TheVariants as reads
+use Rattle.vr_mem.specs.declared.cells.MemRoom.{MemRoom}
 use Rattle.vr_mem.specs.declared.cells.MemWaiting.{MemWaiting}
 use Rattle.std.proofs.lemmas.Bool.{eq-eqb, ne_eqb}
 use Rattle.vr_mem.proofs.Settling.{digit_here, digit_later, digit_past}
@@ -9,11 +10,11 @@ use Rattle.vr_mem.proofs.cells.digit.Goals as goal
 abbrev no_sector : Sector
 no_sector = record { bytes = [] }
 
-abbrev no_cell : MemCell
-no_cell = record { truth = no_sector; reads = None; before = no_sector }
+abbrev no_room : MemRoom
+no_room = record { one = no_sector; two = no_sector; turned = false; reads = reads.Truth; lie = no_sector }
 
 abbrev no_waiting : MemWaiting
-no_waiting = record { index = 0; was = no_cell }
+no_waiting = record { index = 0; was = no_room }
 
 pub loop-w-preserved : goal.loop-w-preserved
 loop-w-preserved c =
