@@ -1,8 +1,8 @@
 -- What a disk in memory holds, as the calls of a disk see it.
 use Rattle.std.specs.List.{list_any, All}
 use Rattle.std.specs.Vec.{vec_capacity}
-use Rattle.std.specs.Prelude.{◌==◌, ◌&&◌, ◌≡◌, ◌≤◌, ◌<◌, ◌-◌, ◌++◌, Bool, true, not, if◌then◌else◌, ℕ, List, [], ◌∷◌, length, map, replicate, Option, Some, None, take}
-use Rattle.vr_disk.specs.DiskState.{Cell, Waiting, Face, IsFace, Fate, Fuse, CallVerdict, Goes, Fails, Cuts}
+use Rattle.std.specs.Prelude.{◌==◌, ◌&&◌, ◌≡◌, ◌≤◌, ◌<◌, ◌-◌, ◌++◌, Bool, true, not, if◌then◌else◌, ℕ, List, [], ◌∷◌, length, map, replicate, Option, Some, None, take, slice_index_or}
+use Rattle.vr_disk.specs.DiskState.{Cell, Waiting, Face, IsFace, Fate, Fuse, CallVerdict, Goes, Fails, Cuts, blank}
 use Rattle.vr_disk.specs.Regions.{sectors}
 use Rattle.vr_disk.specs.declared.sector.Sector.{Sector}
 use Rattle.vr_mem.specs.declared.cells.MemCell.{MemCell}
@@ -41,8 +41,23 @@ before_of m = if m.turned then m.one.bytes else m.two.bytes
 unfoldable pub room_of : MemRoom → Cell
 room_of m = record { truth = truth_of m; reads = reads_by m.reads (truth_of m) m.lie.bytes; before = before_of m }
 
-abbrev pub waiting_of : MemWaiting → Waiting
-waiting_of w = record { index = w.index; was = room_of w.was }
+-- what a sector that waits should have held before its first write, by what it is now
+abbrev pub truth_then : MemWaiting → Cell → List ℕ
+truth_then w now = if w.again then w.truth.bytes else now.before
+
+-- what it was
+unfoldable pub was_of : MemWaiting → Cell → Cell
+was_of w now = record { truth = truth_then w now; reads = reads_by w.reads (truth_then w now) w.lie.bytes; before = w.before.bytes }
+
+abbrev pub waiting_in : List Cell → MemWaiting → Waiting
+waiting_in cells w = record { index = w.index; was = was_of w (slice_index_or cells w.index blank) }
+
+abbrev pub waiting_of : List Cell → List MemWaiting → List Waiting
+waiting_of cells ws = map (waiting_in cells) ws
+
+-- the sector that is written again keeps what it should have held
+abbrev pub kept_with : ℕ → Sector → MemWaiting → MemWaiting
+kept_with index truth w = if (w.index == index) && not w.again then record w { again = true; truth = truth } else w
 
 -- so many copies of an item
 unfoldable pub copies : {X : Type 0} → ℕ → X → List X
@@ -57,7 +72,7 @@ unfoldable pub seen : List MemRoom → List Cell
 seen cells = map room_of cells ++ copies (sectors - length cells) zero_cell
 
 abbrev pub face_of : MemFace → Face
-face_of f = record { cells = seen f.cells.items; waiting = map waiting_of (take f.count f.waiting.items) }
+face_of f = record { cells = seen f.cells.items; waiting = waiting_of (seen f.cells.items) (take f.count f.waiting.items) }
 
 abbrev pub fuse_of : Option MemFuse → Option Fuse
 fuse_of None = None

@@ -1,11 +1,11 @@
 //! Sectors in memory, and those that wait for a sync.
-ghost use Rattle.std.specs.Prelude.{◌≡◌, ◌<◌, ◌≤◌, ◌==◌, ◌++◌, ◌∷◌, [], if◌then◌else◌, false, length, map, take, IfOk, None, Some};
+ghost use Rattle.std.specs.Prelude.{◌≡◌, ◌<◌, ◌≤◌, ◌==◌, ◌++◌, ◌∷◌, [], if◌then◌else◌, false, true, length, map, take, drop, slice_index_or, slice_set, List, IfOk, None, Some};
 ghost use Rattle.std.specs.List.{list_any, All};
 ghost use Rattle.std.specs.Option.{option_map};
 ghost use Rattle.std.specs.Vec.{vec_capacity};
-ghost use Rattle.vr_disk.specs.DiskState.{after, cell, damaged, digit_at, IsContent, noted, reads, settle, settled, settled_cell, waits, written, Write, Sync};
+ghost use Rattle.vr_disk.specs.DiskState.{Cell, after, blank, cell, damaged, digit_at, IsContent, noted, reads, settle, settled, settled_cell, written, Write, Sync};
 ghost use Rattle.vr_mem.specs.Lies.{lied};
-ghost use Rattle.vr_mem.specs.Seen.{IsMemFace, cell_of, copies, face_of, room_of, seen, waiting_of, zero_cell};
+ghost use Rattle.vr_mem.specs.Seen.{IsMemFace, cell_of, copies, face_of, kept_with, once, room_of, seen, waiting_of, was_of, zero_cell};
 
 use std::alloc::Global;
 use vr_base::NoMemory;
@@ -43,11 +43,17 @@ pub struct MemRoom {
     pub lie: Sector,
 }
 
-/// A sector that waits for a sync, and what it was before its first write since the last one.
+/// A sector that waits for a sync, and what it was before its first write since the last one. What it should have held then
+/// is what it held before its last write, as long as it was written once: so a first write doesn't copy it.
 #[derive(Clone, Copy)]
 pub struct MemWaiting {
     pub index: u32,
-    pub was: MemRoom,
+    /// It was written again, and what it should have held then stands here.
+    pub again: bool,
+    pub truth: Sector,
+    pub reads: MemReads,
+    pub lie: Sector,
+    pub before: Sector,
 }
 
 /// All sectors, and those that wait, in the order of their first write. Kept are the sectors up to the last one that was
@@ -168,28 +174,36 @@ impl MemRoom {
         self.reads = MemReads::Nothing;
     }
 
-    // Becomes the same as another one. A lie is copied only where it is read.
-    #[tactic(auto, unfolding(crate::specs::Seen::room_of))]
-    fn set(&mut self, other: &MemRoom)
-        ensures { room_of self.new ≡ room_of other.now }
+    // Becomes what it was. A lie is copied only where it is read.
+    #[tactic(auto, unfolding(crate::specs::Seen::room_of, crate::specs::Seen::was_of))]
+    fn revert(&mut self, was: &MemWaiting)
+        ensures { room_of self.new ≡ was_of was.now (room_of self.old) }
     {
-        self.one = other.one;
-        self.two = other.two;
-        self.turned = other.turned;
-        self.reads = other.reads;
-        match other.reads {
-            MemReads::Lie => self.lie = other.lie,
+        if was.again {
+            self.one = was.truth;
+            self.turned = false;
+        } else {
+            self.turned = !self.turned;
+        }
+        if self.turned {
+            self.one = was.before;
+        } else {
+            self.two = was.before;
+        }
+        self.reads = was.reads;
+        match was.reads {
+            MemReads::Lie => self.lie = was.lie,
             _ => {}
         }
     }
 
     // What a stop leaves of it, by a digit and what it was.
     #[tactic(auto, unfolding(crate::specs::Seen::room_of))]
-    fn settle(&mut self, digit: u64, was: &MemRoom)
-        ensures { room_of self.new ≡ settled_cell digit (room_of was.now) (room_of self.old) }
+    fn settle(&mut self, digit: u64, was: &MemWaiting)
+        ensures { room_of self.new ≡ settled_cell digit (was_of was.now (room_of self.old)) (room_of self.old) }
     {
         if digit == 0 {
-            self.set(was);
+            self.revert(was);
             return;
         }
         if digit != 1 {
@@ -214,20 +228,21 @@ impl MemRoom {
 
 // Settles the sectors that wait, by the digits of the code.
 fn settle_all(code: u64, waiting: &[MemWaiting], cells: &mut [MemRoom])
-    requires { All (λ w. w.index < length cells.old) waiting.now }
-    ensures cells { seen cells.new ≡ settled code (map waiting_of waiting.now) (seen cells.old) }
+    requires kept { All (λ w. w.index < length cells.old) waiting.now }
+    requires once { once (waiting_of (seen cells.old) waiting.now) ≡ true }
+    ensures cells { seen cells.new ≡ settled code (waiting_of (seen cells.old) waiting.now) (seen cells.old) }
     ensures count { length cells.new ≡ length cells.old }
 {
     let mut rest = code;
     for w in waiting {
         let room = &mut cells[w.index as usize];
-        room.settle(rest % 3, &w.was);
+        room.settle(rest % 3, w);
         rest /= 3;
     }
 }
 
 fn digit(code: u64, index: u32, waiting: &[MemWaiting]) -> u64
-    ensures { result ≡ digit_at code index (map waiting_of waiting.now) }
+    ensures { (cells : List Cell) → result ≡ digit_at code index (waiting_of cells waiting.now) }
 {
     let mut rest = code;
     for w in waiting {
@@ -254,35 +269,68 @@ fn make_place(waiting: &mut Vec<MemWaiting>, count: usize)
     ensures capacity { vec_capacity waiting.old ≤ vec_capacity waiting.new }
 {
     if waiting.len() == count {
+        let zeros = Sector { bytes: [0; 512] };
         waiting.push_reserved(MemWaiting {
             index: 0,
-            was: zero(),
+            again: false,
+            truth: zeros,
+            reads: MemReads::Truth,
+            lie: zeros,
+            before: zeros,
         });
     }
 }
 
-// Notes in its place that a sector waits, and what it was.
-fn note_in(place: &mut MemWaiting, index: u32, was: &MemRoom)
-    ensures { waiting_of place.new ≡ record { index = index; was = room_of was.now } }
+// Notes in its place that a sector waits, and what it was before this write.
+#[tactic(auto, unfolding(crate::specs::Seen::room_of, crate::specs::Seen::was_of))]
+fn note_in(place: &mut MemWaiting, index: u32, room: &MemRoom)
+    ensures index { place.new.index ≡ index }
+    ensures was { (now : Cell) → now.before ≡ (room_of room.now).truth → was_of place.new now ≡ room_of room.now }
 {
     place.index = index;
-    place.was.set(was);
+    place.again = false;
+    place.reads = room.reads;
+    match room.reads {
+        MemReads::Lie => place.lie = room.lie,
+        _ => {}
+    }
+    place.before = *room.before();
 }
 
-// Notes that a sector waits, once, behind so many that wait; and gives how many wait then.
-#[tactic(auto, using(std::proofs::lemmas::Grind::common_steps, crate::proofs::Settling::waits_of))]
-fn note(waiting: &mut Vec<MemWaiting>, count: usize, index: u32, was: &MemRoom) -> usize
+// Keeps what a sector should have held, where it is the one that waits here and was written once.
+fn keep_in(place: &mut MemWaiting, index: u32, truth: &Sector)
+    ensures { place.new ≡ kept_with index truth.now place.old }
+{
+    if place.index == index && !place.again {
+        place.truth = *truth;
+        place.again = true;
+    }
+}
+
+// Keeps what a sector should have held that is written again, with those of the first so many that it is.
+fn keep_truth(waiting: &mut [MemWaiting], count: usize, index: u32, truth: &Sector)
+    requires { count ≤ length waiting.old }
+    ensures { waiting.new ≡ map (kept_with index truth.now) (take count waiting.old) ++ drop count waiting.old }
+{
+    for i in 0..count {
+        keep_in(&mut waiting[i], index, truth);
+    }
+}
+
+// Notes that a sector is to be written, behind so many that wait; and gives how many wait then.
+fn note(waiting: &mut Vec<MemWaiting>, count: usize, index: u32, room: &MemRoom) -> usize
     requires count { count ≤ length waiting.old.items }
-    requires room { waits index (map waiting_of (take count waiting.old.items)) ≡ false → count < vec_capacity waiting.old }
-    ensures items { map waiting_of (take result waiting.new.items) ≡ noted (map waiting_of (take count waiting.old.items)) index (room_of was.now) }
+    requires room { list_any (λ w. w.index == index) (take count waiting.old.items) ≡ false → count < vec_capacity waiting.old }
+    ensures items { (cells : List Cell) (now : Cell) → index < length cells → slice_index_or cells index blank ≡ room_of room.now → now.before ≡ (room_of room.now).truth → waiting_of (slice_set cells index now) (take result waiting.new.items) ≡ noted (waiting_of cells (take count waiting.old.items)) index (room_of room.now) }
     ensures count { result ≤ length waiting.new.items }
     ensures capacity { vec_capacity waiting.old ≤ vec_capacity waiting.new }
 {
     if is_waiting(index, &waiting[..count]) {
+        keep_truth(waiting.as_mut_slice(), count, index, room.before());
         return count;
     }
     make_place(waiting, count);
-    note_in(&mut waiting[count], index, was);
+    note_in(&mut waiting[count], index, room);
     count + 1
 }
 

@@ -5,8 +5,11 @@ use Rattle.vr_mem.specs.Seen.{face_of}
 use Rattle.vr_mem.proofs.Settling.{settled_is, waits_below}
 use Rattle.vr_mem.proofs.cells.MemFace.settle.Goals as goal
 
-pub settle_all-requires : goal.settle_all-requires
-settle_all-requires c = rw (c.deref.ensures.value, c.deref_mut.ensures.value) (waits_below _ _ c.requires.kept)
+pub settle_all-requires-clause-kept : goal.settle_all-requires-clause-kept
+settle_all-requires-clause-kept c = rw (c.deref.ensures.value, c.deref_mut.ensures.value) (waits_below _ _ _ c.requires.kept)
+
+pub settle_all-requires-clause-once : goal.settle_all-requires-clause-once
+settle_all-requires-clause-once c = rw (c.deref.ensures.value, c.deref_mut.ensures.value) c.requires.once
 
 pub returns-clause-after : goal.returns-clause-after
 returns-clause-after c = grind (arith, common_steps)
