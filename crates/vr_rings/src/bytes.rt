@@ -1,9 +1,10 @@
 //! The sectors of a slot, both ways.
-ghost use Rattle.std.specs.Prelude.{◌≡◌, ◌≤◌, length};
+ghost use Rattle.std.specs.Prelude.{◌≡◌, ◌≤◌, ◌+◌, length, replicate, take};
 ghost use Rattle.std.specs.Option.{option_map};
 ghost use Rattle.std.specs.Result.{result_ok};
 ghost use Rattle.vr_base.specs.Bytes.{IsBytes};
-ghost use Rattle.vr_header.specs.Made.{entry_of};
+ghost use Rattle.vr_base.specs.Versions.{body_limit};
+ghost use Rattle.vr_header.specs.Made.{entry_bytes, entry_of};
 ghost use Rattle.vr_header.specs.Spelling.{IsHeader, decoded};
 ghost use Rattle.vr_rings.specs.Held.{header_sector};
 ghost use Rattle.vr_rings.specs.Slots.{IsWhole, header_of, prepare_bytes, sector_of, whole_of};
@@ -52,16 +53,17 @@ pub fn header_sector(prepare: &[u8]) -> Sector
     sector
 }
 
-/// The prepare of an entry, whatever the version of the file.
+/// Puts the prepare of an entry into zeros: as much of it as they are, which is all of the entry.
 #[tactic(auto, using(crate::proofs::Spelling::spelled_prepare))]
-pub fn prepare_of(entry: &Entry) -> [u8; 4096]
-    ensures bytes { result ≡ prepare_bytes entry.now }
-    ensures size { length (prepare_bytes entry.now) ≡ 4096 }
+pub fn put_prepare(entry: &Entry, to: &mut [u8])
+    requires zeros { to.old ≡ replicate (length to.old) 0 }
+    requires least { 128 + body_limit entry.now.header.version ≤ length to.old }
+    requires most { length to.old ≤ 4096 }
+    ensures bytes { to.new ≡ take (length to.old) (prepare_bytes entry.now) }
+    ensures size { length (entry_bytes entry.now) ≤ length to.old }
     ensures whole { IsWhole entry.now }
 {
-    let mut bytes = [0; 4096];
-    entry.put(&mut bytes);
-    bytes
+    entry.put(to);
 }
 
 /// The header that a header sector's bytes are, `None` exactly where they aren't a valid header and zeros.
