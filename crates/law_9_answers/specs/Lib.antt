@@ -1,0 +1,4 @@
+pub mod Told
+pub mod Clients
+pub mod Trials
+pub mod Laws

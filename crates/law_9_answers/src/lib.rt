@@ -1,0 +1,11 @@
+//! What a client of a running group writes is what the group's one log says. Each function is a law: its contract is the statement, and it does
+//! nothing.
+#![tactic(auto)]
+
+ghost use Rattle.law_9_answers.specs.Laws.{RunsAnswerByOneLog};
+
+/// Whole runs of the programs of a group's members, interleaved anyhow, keep one log; and each answer that a run of `client`, or of `trial`, was
+/// given over a network which forges no reply is what the plain sessions and machine say over that log.
+pub fn runs_answer_by_one_log()
+    ensures { RunsAnswerByOneLog }
+{}
