@@ -2,6 +2,7 @@
 use Rattle.std.proofs.Common.{inl, inr}
 use Rattle.std.specs.Prelude.{ℕ, ◌+◌, ◌⊎◌, ◌≡◌, List, [], ◌∷◌, ◌++◌, length}
 use Rattle.vr_ask.specs.Asking.{Client, EndsWith, Faults, Stand}
+use Rattle.vr_ask.specs.Text.{answer_text}
 use Rattle.vr_ask.specs.Run.{AreExchanged, ClientEnds, EndsAt, EndsLines, EndsRun, Exchange, Outside, Reading, StopsAt, reading_of, standing}
 use Rattle.vr_client.specs.declared.answer.Answer.TheVariants as answer
 use Rattle.vr_header.specs.declared.operation.Operation.{Operation}
@@ -47,3 +48,8 @@ abbrev pub told_client : (c : Client) (peers : List (List ℕ)) (o o' : Outside)
 told_client c peers o o' b n status (inl h) = []
 told_client c peers o o' b n status (inr (t, inl h)) = []
 told_client c peers o o' b n status (inr (t, inr h)) = told_run c (reading_of [] o) (standing 0 o) (reading_of h.rest o') (standing h.port o') b n status h.ends
+
+-- the lines of these answers
+abbrev pub lines_of : List Told → List ℕ
+lines_of [] = []
+lines_of (t ∷ ts) = answer_text t.answer ++ lines_of ts

@@ -6,6 +6,7 @@ use Rattle.vr_ask.specs.Asking.{Client}
 use Rattle.vr_ask.specs.Run as client
 use Rattle.vr_ask.specs.Run.{ClientEnds}
 use Rattle.vr_base.specs.declared.kind.Kind.{Kind}
+use Rattle.vr_edge.specs.Told.{AppendsFront}
 use Rattle.vr_header.specs.NoCollision.{NoCollision}
 use Rattle.vr_status.specs.declared.status.Status.{Status}
 use Rattle.vr_trial.specs.Run as trial
@@ -15,9 +16,14 @@ use Rattle.law_4_disks.specs.Worlds.{first_world}
 use Rattle.law_6_one_log.specs.Schedules.{IsHashedOf}
 use Rattle.law_7_members.specs.Files.{ActBy, all_lines}
 use Rattle.law_7_members.specs.Whole.{AreRuns, KeepOneLog}
-use Rattle.law_9_answers.specs.Clients.{told_client}
+use Rattle.law_9_answers.specs.Clients.{lines_of, told_client}
 use Rattle.law_9_answers.specs.Told.{IsNamed, IsOfLog, IsPutOut, Told}
 use Rattle.law_9_answers.specs.Trials.{told_trial}
+
+-- What a client writes is the lines of what it was told, in order, but perhaps for an end of the last one.
+abbrev pub ClientsWriteWhatTheyAreTold : Type 0
+ClientsWriteWhatTheyAreTold =
+    (c : Client) (peers : List (List ℕ)) (o o' : client.Outside) (before now : ask.Faults) (status : Status) (h : ClientEnds c peers o o' before now status) → AppendsFront o.taken o'.taken (lines_of (told_client c peers o o' before now status h))
 
 -- the numbers that a command gives a client
 pub record IsNumbered (c : Client) : Type 0 where
@@ -35,8 +41,7 @@ pub record MayBeTold (c : Client) (xs : List ActBy) (ts : List Told) : Type 0 wh
 abbrev pub AreOfLog : (kinds : ℕ → Kind) (cluster n : ℕ) (xs : List ActBy) → KeepOneLog kinds cluster n xs → List Told → Type 0
 AreOfLog kinds cluster n xs k ts = AllByRecursion (IsOfLog cluster n xs k.log.safe.log k.log.matched.run) ts
 
--- Members keep one log, and whatever clients were told is of it: those of `client`, which wrote each of these answers or, of the last one, a
--- front, and those of trials.
+-- Members keep one log, and whatever clients were told is of it: those of runs of `client`, and those of trials.
 pub record AnswerByOneLog (kinds : ℕ → Kind) (cluster n : ℕ) (xs : List ActBy) : Type 0 where
   pub one : KeepOneLog kinds cluster n xs
   pub clients : (c : Client) (peers : List (List ℕ)) (o o' : client.Outside) (before now : ask.Faults) (status : Status) (h : ClientEnds c peers o o' before now status)

@@ -1,5 +1,5 @@
 -- What clients are told by members of a group, and when that is what the group's one log says.
-use Rattle.std.specs.Prelude.{ℕ, ◌<◌, ◌≡◌, ◌⊎◌, ⊤, List, ◌++◌, Contains, slice_get, take, Some}
+use Rattle.std.specs.Prelude.{ℕ, ◌<◌, ◌≡◌, ⊤, List, ◌++◌, Contains, slice_get, take, Some}
 use Rattle.vr_ask.specs.Asking.{Answers, Client, Stand, request_of}
 use Rattle.vr_ckpt.specs.Folds.{answer_at, state_after}
 use Rattle.vr_ckpt.specs.SessionAnswer.TheVariants as session

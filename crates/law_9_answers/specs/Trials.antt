@@ -1,6 +1,6 @@
 -- What the client of a trial was told, ask by ask: of the clause of `run_trial`.
 use Rattle.std.proofs.Common.{inl, inr}
-use Rattle.std.specs.Prelude.{ℕ, List, [], ◌∷◌, ◌++◌}
+use Rattle.std.specs.Prelude.{List, [], ◌∷◌, ◌++◌}
 use Rattle.vr_client.specs.declared.answer.Answer.TheVariants as answer
 use Rattle.vr_status.specs.declared.status.Status.{Status}
 use Rattle.vr_trial.specs.Run.{Does, DoesAll, Ends, Fails, FailsIn, Faults, Outside, Place, TrialEnds, begins, of_client}
