@@ -34,8 +34,8 @@ use Rattle.law_4_disks.specs.Worlds.{IsAside, Said, first_world}
 use Rattle.law_6_one_log.specs.Outputs.{IsTrueAnswer, RestsOn}
 use Rattle.law_7_members.specs.Files.{ActBy, act_by, Handles}
 use Rattle.law_7_members.specs.Whole.{KeepOneLog, all_said}
-use Rattle.law_9_answers.specs.Told.{HasReached, IsNamed, IsOfLog, Says, Told, as_entry, asked_by, header_of, itself, kind_of}
-use Rattle.law_9_answers.specs.Told as told
+use Rattle.law_9_answers.specs.Heard.{HasReached, IsNamed, IsOfLog, Says, Heard, as_entry, asked_by, header_of, itself, kind_of}
+use Rattle.law_9_answers.specs.Heard as named
 use Rattle.law_9_answers.proofs.Making.{IsOfRequest, lines_asked}
 use Rattle.law_9_answers.proofs.Coming.{ComesFrom, comes_from}
 use Rattle.law_9_answers.proofs.Coming as coming
@@ -131,7 +131,7 @@ module _ (kinds : ℕ → Kind) (cluster n : ℕ) (xs : List ActBy) (number : cl
   reply_met q asked range mine r name (coming.of_request at did p i p_asked p_range to) =
       let names : header_name (header_of p) ≡ header_name (header_of q) = sym to.name ∙ name in
       let there = in_contains xs (act_by at (Handles (Asked p) did)) i in
-      let same : header_of p ≡ header_of q = one_header (IsNamed xs own) never (header_of p) (header_of q) (request_is_header p p_asked p_range) (request_is_header q asked range) (told.IsNamed.reached at did p there) (told.IsNamed.asked q (in_contains own q mine)) names in
+      let same : header_of p ≡ header_of q = one_header (IsNamed xs own) never (header_of p) (header_of q) (request_is_header p p_asked p_range) (request_is_header q asked range) (named.IsNamed.reached at did p there) (named.IsNamed.asked q (in_contains own q mine)) names in
       record { client = to.client ∙ ap (λ (h : Header). h.client) same; number = to.request ∙ ap (λ (h : Header). h.request) same; reached = itself at did p there same }
   reply_met q asked range mine r name (coming.of_line c i to) =
       let a = line_asked c i in
@@ -139,14 +139,14 @@ module _ (kinds : ℕ → Kind) (cluster n : ℕ) (xs : List ActBy) (number : cl
       let line = rests_at g.0 (output.Commit c) g.1 in
       let names : header_name (asked_by c.entry.header) ≡ header_name (header_of q) = sym a.0 ∙ (sym to.name ∙ name) in
       let q_is = request_is_header q asked range in
-      let same : asked_by c.entry.header ≡ header_of q = one_header (IsNamed xs own) never (asked_by c.entry.header) (header_of q) (entry_is_header c.entry.header q a.1 q_is) q_is (told.IsNamed.entered c (in_contains (all_said xs) (output.Commit c) i)) (told.IsNamed.asked q (in_contains own q mine)) names in
+      let same : asked_by c.entry.header ≡ header_of q = one_header (IsNamed xs own) never (asked_by c.entry.header) (header_of q) (entry_is_header c.entry.header q a.1 q_is) q_is (named.IsNamed.entered c (in_contains (all_said xs) (output.Commit c) i)) (named.IsNamed.asked q (in_contains own q mine)) names in
       record { client = to.client ∙ ap (λ (h : Header). h.client) same; number = to.request ∙ ap (λ (h : Header). h.request) same; reached = as_entry (c.entry.header.op - 1) c.entry line.at same }
 
   nobody : (s : Sent) → In s (first_world kinds cluster n).sent → ⊥
   unfolding first_world
   nobody s i = i
 
-  pub is_of_log : (t : Told) → IsAsked t.request → t.request.cluster < 2 ^ 64 → In t.request own → IsGiven xs (header_name (header_of t.request)) t.answer → IsOfLog cluster n xs log run t
+  pub is_of_log : (t : Heard) → IsAsked t.request → t.request.cluster < 2 ^ 64 → In t.request own → IsGiven xs (header_name (header_of t.request)) t.answer → IsOfLog cluster n xs log run t
   is_of_log t asked range mine g =
       let at = in_get (all_said xs) (output.Reply g.fields) g.put_out in
       let from : ComesFrom xs g.fields = comes_from cluster (first_world kinds cluster n) xs k.work.left k.work.work (λ s i. absurd (nobody s i)) g.fields g.put_out in

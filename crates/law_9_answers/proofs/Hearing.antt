@@ -1,4 +1,4 @@
--- What an ask was told was put out by a member, in a reply to the ask's request.
+-- What an ask heard was put out by a member, in a reply to the ask's request.
 use Rattle.std.proofs.Common.{ℕ, ◌+◌, ◌≡◌, refl, ap, subst, Bool, true, false, cond, List, [], ◌∷◌, ◌++◌, Option, Some, None}
 use Rattle.std.specs.Prelude.{Ok}
 use Rattle.std.specs.List.{AllByRecursion}
@@ -26,7 +26,7 @@ use Rattle.law_1_machine.specs.Basics.{In}
 use Rattle.law_6_one_log.proofs.Names.{contains_in}
 use Rattle.law_7_members.specs.Files.{ActBy}
 use Rattle.law_7_members.specs.Whole.{all_said}
-use Rattle.law_9_answers.specs.Told.{IsPutOut, header_of, kind_of, told}
+use Rattle.law_9_answers.specs.Heard.{IsPutOut, header_of, kind_of, heard}
 
 same_sum_is : (a b : Sum) → same_sum a b ≡ true → a ≡ b
 same_sum_is a b h = let bytes = (bytes_eq-Decides a.0 b.0).0 h in λ i. record { 0 = bytes i }
@@ -90,7 +90,7 @@ all_right P (y ∷ xs) x h = all_right P xs x h.1
 
 -- of an ask
 pub ask_given : (xs : List ActBy) (c : Client) (number : ℕ) (operation : Operation) (s s' : Stand) (a : Answer) (h : Answers c number operation s s' a)
-    → AllByRecursion (IsPutOut xs c.version c.cluster) (told c number operation s s' a h).heard → IsGiven xs (header_name (header_of (request_of c number operation))) a
+    → AllByRecursion (IsPutOut xs c.version c.cluster) (heard c number operation s s' a h).received → IsGiven xs (header_name (header_of (request_of c number operation))) a
 ask_given xs c number operation s s' a h put =
     let ends : EndsBy (ask_of c.n (request_of c number operation) c.turns) h.letters h.last (Ok a) = h.ends in
     let all : AllByRecursion (IsPutOut xs c.version c.cluster) (h.arrivals ++ (ends.0 ∷ [])) = subst (λ (l : List Arrival). AllByRecursion (IsPutOut xs c.version c.cluster) (h.arrivals ++ l)) ends.2 put in

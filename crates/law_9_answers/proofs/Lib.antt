@@ -6,3 +6,4 @@ mod Hearing
 mod Answering
 mod Asking
 mod Writing
+mod Instance

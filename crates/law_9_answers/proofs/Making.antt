@@ -47,7 +47,7 @@ use Rattle.law_3_outputs.proofs.Machine.{committed_begun, logged}
 use Rattle.law_3_outputs.proofs.Reading.{runs_read}
 use Rattle.law_3_outputs.proofs.Traces.{in_either, output_of_move, said_of}
 use Rattle.law_6_one_log.proofs.Following.{follows_it}
-use Rattle.law_9_answers.specs.Told.{asked_by}
+use Rattle.law_9_answers.specs.Heard.{asked_by}
 use Rattle.law_9_answers.proofs.Tracing.{Traced}
 use Rattle.law_9_answers.proofs.Reacting.{IsBrought, steps_traced, tr_opening}
 use Rattle.law_9_answers.proofs.Reacting as brought

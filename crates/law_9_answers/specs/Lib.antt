@@ -1,4 +1,4 @@
-pub mod Told
+pub mod Heard
 pub mod Clients
 pub mod Trials
 pub mod Laws

@@ -1,4 +1,4 @@
--- What clients are told by members of a group, and when that is what the group's one log says.
+-- What clients hear of members of a group, and when that is what the group's one log says.
 use Rattle.std.specs.Prelude.{ℕ, ◌<◌, ◌≡◌, ⊤, List, ◌++◌, Contains, slice_get, take, Some}
 use Rattle.vr_ask.specs.Asking.{Answers, Client, Stand, request_of}
 use Rattle.vr_ckpt.specs.Folds.{answer_at, state_after}
@@ -44,17 +44,17 @@ pub data IsNamed (xs : List ActBy) (own : List RequestFields) : List ℕ → Typ
   entered : (c : Committed) → Contains (all_said xs) (output.Commit c) → IsNamed xs own (named_bytes (asked_by c.entry.header))
   asked : (q : RequestFields) → Contains own q → IsNamed xs own (named_bytes (header_of q))
 
--- ---- what a client is told
+-- ---- what a client hears
 
 -- an ask that was answered: the request, its answer, and all that was received from the ask on, the answer last
-pub record Told : Type 0 where
+pub record Heard : Type 0 where
   pub request : RequestFields
   pub answer : Answer
-  pub heard : List Arrival
+  pub received : List Arrival
 
 -- the ask of an operation with this number
-abbrev pub told : (c : Client) (number : ℕ) (operation : Operation) (s s' : Stand) (a : Answer) → Answers c number operation s s' a → Told
-told c number operation s s' a h = record { request = request_of c number operation; answer = a; heard = h.arrivals ++ h.last }
+abbrev pub heard : (c : Client) (number : ℕ) (operation : Operation) (s s' : Stand) (a : Answer) → Answers c number operation s s' a → Heard
+heard c number operation s s' a h = record { request = request_of c number operation; answer = a; received = h.arrivals ++ h.last }
 
 -- Of the network: what is received and is a reply of this version and group was put out by a member. So it may be lost, come again and
 -- again, and in any order; whatever isn't a reply may be forged.
@@ -84,9 +84,9 @@ pub data HasReached (xs : List ActBy) (log : List Whole) (q : RequestFields) : T
   itself : (at : ℕ) (did : Did Node) (p : RequestFields) → Contains xs (act_by at (Handles (Asked p) did)) → header_of p ≡ header_of q → HasReached xs log q
   as_entry : (op : ℕ) (e : Whole) → slice_get log op ≡ Some e → asked_by e.header ≡ header_of q → HasReached xs log q
 
--- What a client was told is the log's: a member put it out in a reply to this very request, by its name, its client and its number; it rests on
+-- What a client heard is the log's: a member put it out in a reply to this very request, by its name, its client and its number; it rests on
 -- the log where it was put out; and it is what the plain sessions and machine say over it.
-pub record IsOfLog (cluster n : ℕ) (xs : List ActBy) (log : List Whole) (run : List Played) (t : Told) : Type 0 where
+pub record IsOfLog (cluster n : ℕ) (xs : List ActBy) (log : List Whole) (run : List Played) (t : Heard) : Type 0 where
   pub reply : ReplyFields
   pub place : ℕ
   pub put_out : slice_get (all_said xs) place ≡ Some (output.Reply reply)
