@@ -1,5 +1,5 @@
 -- What is asked of the network and of names is so of a request that is handled and answered.
-use Rattle.std.proofs.Common.{ℕ, ◌≡◌, ◌∙◌, inl, inr, refl, sym, ap, subst, List, [], ◌∷◌, ◌++◌}
+use Rattle.std.proofs.Common.{ℕ, ◌≡◌, ◌∙◌, inl, inr, sym, ap, subst, List, [], ◌∷◌, ◌++◌}
 use Rattle.std.specs.Prelude.{Contains}
 use Rattle.vr_codec.proofs.Decided.{same_message}
 use Rattle.vr_edge.specs.declared.datagram.Datagram.{Datagram}
@@ -19,7 +19,7 @@ use Rattle.vr_world.specs.Group.{Asked}
 use Rattle.law_1_machine.specs.Basics.{In}
 use Rattle.law_3_outputs.proofs.Sets.{in_contains}
 use Rattle.law_6_one_log.proofs.Names.{contains_in}
-use Rattle.law_7_members.specs.Files.{Act, ActBy, Handles, act_by}
+use Rattle.law_7_members.specs.Files.{ActBy, Handles, act_by}
 use Rattle.law_7_members.specs.Whole.{all_said}
 use Rattle.law_9_answers.specs.Heard.{IsNamed, asked_by, header_of}
 use Rattle.law_9_answers.specs.Heard as named

@@ -1,5 +1,5 @@
--- What a client writes is the lines of what it heard.
-use Rattle.std.proofs.Common.{ℕ, ◌+◌, ◌≡◌, ◌∙◌, ◌⊎◌, inl, inr, refl, sym, ap, subst, List, [], ◌∷◌, ◌++◌, length, Option}
+-- What a client and a trial write is the lines of what they heard.
+use Rattle.std.proofs.Common.{ℕ, ◌+◌, ◌≡◌, ◌∙◌, ◌⊎◌, inl, inr, refl, sym, ap, subst, true, false, List, [], ◌∷◌, ◌++◌, length, Option}
 use Rattle.std.specs.Io.KnownBytes.{Appends}
 use Rattle.std.proofs.KnownBytes.{Appends-nil, Appends-trans}
 use Rattle.std.proofs.lemmas.List.{append-nil, append_assoc}
@@ -14,9 +14,17 @@ use Rattle.vr_header.specs.declared.operation.Operation.{Operation}
 use Rattle.vr_header.specs.declared.operation.Operation.TheVariants.{Register}
 use Rattle.vr_status.specs.declared.status.Status.{Status}
 use Rattle.vr_status.specs.declared.status.Status.TheVariants as status
+use Rattle.vr_spawn.specs.declared.spawner.SpawnCall.{SpawnCall}
+use Rattle.vr_trial.specs.Run as trial
+use Rattle.vr_trial.specs.Run.{BreaksOff, Does, DoesAll, Ends, Fails, FailsIn, Members, Place, begins, of_client, started, stopped}
+use Rattle.vr_trial.specs.Script.{number_of, script}
+use Rattle.vr_trial.specs.Told.{Trial, operation_of, start_words}
+use Rattle.vr_trial.specs.declared.step.Step.{Step}
+use Rattle.vr_trial.specs.declared.step.Step.TheVariants.{Start, Restart, Attach, Ask, Stop}
 use Rattle.law_9_answers.specs.Clients.{lines_of, heard_at, heard_each, heard_last, heard_lines, heard_run}
-use Rattle.law_9_answers.specs.Laws.{ClientsWriteWhatTheyHear}
+use Rattle.law_9_answers.specs.Laws.{ClientsWriteWhatTheyHear, TrialsWriteWhatTheyHear}
 use Rattle.law_9_answers.specs.Heard.{Heard}
+use Rattle.law_9_answers.specs.Trials.{heard_end, heard_step, lines_by, lines_through, lines_till, lines_with}
 
 -- ---- fronts
 
@@ -84,3 +92,51 @@ pub clients_write : ClientsWriteWhatTheyHear
 clients_write c peers o o' b m z (inl h) = front_same o.taken o'.taken [] (ap (λ (x : client.Outside). x.taken) h.same)
 clients_write c peers o o' b m z (inr (t, inl h)) = front_same o.taken o'.taken [] (ap (λ (x : client.Outside). x.taken) h.same)
 clients_write c peers o o' b m z (inr (t, inr h)) = writes_run c (reading_of [] o) (standing 0 o) (reading_of h.rest o') (standing h.port o') b m z h.ends
+
+-- ---- a trial
+
+breaks_off : (Changes : Members → Members → Type 0) (calls : List SpawnCall) (line : List ℕ) (m m' : Members) (t u : Option (List ℕ)) (b n : trial.Counts) (z : Status) → BreaksOff Changes calls line m m' t u b n z → AppendsFront t u line
+breaks_off Changes calls line m m' t u b n z (inl h) = front_same t u line h.1
+breaks_off Changes calls line m m' t u b n z (inr h) = h.1.front
+
+module _ (t : Trial) where
+  step_writes : (x : Step) (p p' : Place) (h : Does t x p p') → Appends p.client.taken p'.client.taken (lines_with x (heard_step t x p p' h))
+  step_writes (Start member) p p' h = h.0.written
+  step_writes (Restart member) p p' h = h.0.written
+  step_writes Attach p p' h = subst (λ (q : Place). Appends p.client.taken q.client.taken []) (sym h.same) (Appends-nil p.client.taken)
+  step_writes (Ask q) p p' h = subst (Appends p.client.taken p'.client.taken) (sym (append-nil (answer_text (answer.Outcome h.0.0)))) h.0.1.written
+  step_writes (Stop member) p p' h = h.0.written
+
+  end_writes : (x : Step) (p p' : Place) (b n : trial.Faults) (z : Status) (h : Fails t x p p' b n z) → AppendsFront p.client.taken p'.client.taken (lines_with x (heard_end t x p p' b n z h))
+  end_writes (Start member) p p' b n z h = breaks_off (trial.Starts (start_words t member true) member) _ (started member) p.members p'.members p.client.taken p'.client.taken b.counts n.counts z h.0
+  end_writes (Restart member) p p' b n z h = breaks_off (trial.Starts (start_words t member false) member) _ (started member) p.members p'.members p.client.taken p'.client.taken b.counts n.counts z h.0
+  end_writes Attach p p' b n z h = front_same p.client.taken p'.client.taken [] (ap (λ (q : Place). q.client.taken) h.2.same)
+  end_writes (Ask q) p p' b n z h = writes_last t.client (number_of q) (operation_of q) p.client p'.client (of_client b) (of_client n) z h.0
+  end_writes (Stop member) p p' b n z h = breaks_off (trial.Stops member) _ (stopped member) p.members p'.members p.client.taken p'.client.taken b.counts n.counts z h.0
+
+  steps_write : (ys : List Step) (p p' : Place) (h : DoesAll t ys p p') → Appends p.client.taken p'.client.taken (lines_through t ys p p' h)
+  steps_write [] p p' h = subst (λ (q : Place). Appends p.client.taken q.client.taken []) (sym h) (Appends-nil p.client.taken)
+  steps_write (y ∷ ys) p p' h =
+      let mid : Place = h.0 in
+      Appends-trans p.client.taken mid.client.taken p'.client.taken (lines_with y (heard_step t y p h.0 h.1)) (lines_through t ys h.0 p' h.2) (step_writes y p h.0 h.1) (steps_write ys h.0 p' h.2)
+
+  till_writes : (ys : List Step) (p p' : Place) (b n : trial.Faults) (z : Status) (h : FailsIn t ys p p' b n z) → AppendsFront p.client.taken p'.client.taken (lines_till t ys p p' b n z h)
+  till_writes [] p p' b n z h = absurd h
+  till_writes (y ∷ ys) p p' b n z (inl h) = end_writes y p p' b n z h
+  till_writes (y ∷ ys) p p' b n z (inr h) =
+      let mid : Place = h.0 in
+      front_then p.client.taken mid.client.taken p'.client.taken (lines_with y (heard_step t y p h.0 h.1)) (lines_till t ys h.0 p' b n z h.2) (step_writes y p h.0 h.1) (till_writes ys h.0 p' b n z h.2)
+
+  by_writes : (ys : List Step) (p : Place) (o : trial.Outside) (b n : trial.Faults) (z : Status) (h : Ends t ys p o b n z) → AppendsFront p.client.taken o.taken (lines_by t ys p o b n z h)
+  by_writes ys p o b n z (inl h) =
+      let last : Place = h.last in
+      let is : o.taken ≡ last.client.taken = ap (λ (x : trial.Outside). x.taken) h.ends in
+      subst (λ (u : Option (List ℕ)). AppendsFront p.client.taken u (lines_through t ys p h.last h.does)) (sym is) (front_all p.client.taken last.client.taken (lines_through t ys p h.last h.does) (steps_write ys p h.last h.does))
+  by_writes ys p o b n z (inr h) =
+      let last : Place = h.last in
+      let is : o.taken ≡ last.client.taken = ap (λ (x : trial.Outside). x.taken) h.ends in
+      subst (λ (u : Option (List ℕ)). AppendsFront p.client.taken u (lines_till t ys p h.last b n z h.fails)) (sym is) (till_writes ys p h.last b n z h.fails)
+
+pub trials_write : TrialsWriteWhatTheyHear
+trials_write t o o' b n z (inl h) = front_same o.taken o'.taken [] (ap (λ (x : trial.Outside). x.taken) h.1)
+trials_write t o o' b n z (inr h) = by_writes t (script t.client.n) (begins t o) o' b n z h

@@ -30,12 +30,17 @@ use Rattle.law_7_members.specs.Files.{ActBy, Handles, act_by, all_lines}
 use Rattle.law_7_members.specs.Whole.{AreRuns, KeepOneLog}
 use Rattle.law_9_answers.specs.Clients.{lines_of, heard_client}
 use Rattle.law_9_answers.specs.Heard.{Heard, IsNamed, IsOfLog, IsPutOut, asked_by, header_of}
-use Rattle.law_9_answers.specs.Trials.{heard_trial}
+use Rattle.law_9_answers.specs.Trials.{heard_trial, lines_trial}
 
 -- What a client writes is the lines of what it heard, in order, but perhaps for an end of the last one.
 abbrev pub ClientsWriteWhatTheyHear : Type 0
 ClientsWriteWhatTheyHear =
     (c : Client) (peers : List (List ℕ)) (o o' : client.Outside) (before now : ask.Faults) (status : Status) (h : ClientEnds c peers o o' before now status) → AppendsFront o.taken o'.taken (lines_of (heard_client c peers o o' before now status h))
+
+-- So does a trial, beside the lines of members that start and stop, step by step.
+abbrev pub TrialsWriteWhatTheyHear : Type 0
+TrialsWriteWhatTheyHear =
+    (t : Trial) (o o' : trial.Outside) (before now : trial.Faults) (status : Status) (h : TrialEnds t o o' before now status) → AppendsFront o.taken o'.taken (lines_trial t o o' before now status h)
 
 -- the numbers that a command gives a client
 pub record IsNumbered (c : Client) : Type 0 where

@@ -2,11 +2,17 @@
 //! nothing.
 #![tactic(auto)]
 
-ghost use Rattle.law_9_answers.specs.Laws.{ClientsWriteWhatTheyHear, RunsAnswerByOneLog, SomeAnswerMay};
+ghost use Rattle.law_9_answers.specs.Laws.{ClientsWriteWhatTheyHear, RunsAnswerByOneLog, SomeAnswerMay, TrialsWriteWhatTheyHear};
 
 /// What a run of `client` writes is the lines of what it heard, ask by ask, but perhaps for an end of the last one.
 pub fn clients_write_what_they_hear()
     ensures { ClientsWriteWhatTheyHear }
+{}
+
+/// What a trial writes is the lines of its members' starts and stops, and of what its client heard, step by step, but perhaps for an end of the last
+/// one.
+pub fn trials_write_what_they_hear()
+    ensures { TrialsWriteWhatTheyHear }
 {}
 
 /// Whole runs of the programs of a group's members, interleaved anyhow, keep one log; and each answer that a run of `client`, or of `trial`, heard
