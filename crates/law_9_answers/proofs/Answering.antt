@@ -1,8 +1,12 @@
 -- What a member put out in a reply to a client's request is what the log says to it.
-use Rattle.std.proofs.Common.{ℕ, ◌+◌, ◌-◌, ◌^◌, ◌<◌, ◌≤◌, ◌≡◌, ◌∙◌, inl, inr, arith, sym, ap, subst, List, Some}
+use Rattle.std.proofs.Common.{ℕ, ◌+◌, ◌-◌, ◌^◌, ◌<◌, ◌≤◌, ◌≡◌, ◌∙◌, inl, inr, arith, refl, sym, ap, subst, List, Option, None, Some}
 use Rattle.std.specs.Prelude.{slice_get, take}
+use Rattle.std.specs.Option.{option_map}
 use Rattle.vr_base.specs.declared.kind.Kind.{Kind}
-use Rattle.vr_ckpt.specs.Folds.{answer_at}
+use Rattle.vr_ckpt.specs.Folds.{answer_at, check, fresh_outcome, outcome_of, state_after}
+use Rattle.vr_ckpt.specs.Folds.{Answer as Said}
+use Rattle.vr_ckpt.specs.SessionAnswer.{SessionAnswer}
+use Rattle.vr_ckpt.specs.State.{State}
 use Rattle.vr_ckpt.specs.SessionAnswer.TheVariants as session
 use Rattle.vr_client.specs.declared.answer.Answer.{Answer}
 use Rattle.vr_client.specs.declared.answer.Answer.TheVariants as answer
@@ -17,11 +21,12 @@ use Rattle.vr_msg.specs.declared.output.Committed.{Committed}
 use Rattle.vr_msg.specs.declared.output.Output.{Output}
 use Rattle.vr_msg.specs.declared.output.Output.TheVariants as output
 use Rattle.vr_msg.specs.declared.output.Sent.{Sent}
+use Rattle.vr_msg.specs.declared.reply.Answered.{Answered}
 use Rattle.vr_msg.specs.declared.reply.ReplyFields.{ReplyFields}
 use Rattle.vr_msg.specs.declared.reply.ReplyKind.{ReplyKind}
 use Rattle.vr_msg.specs.declared.request.RequestFields.{RequestFields}
 use Rattle.vr_node.specs.Fit.{IsAsked}
-use Rattle.vr_world.specs.Commitment.{IsReplyOf, lines_by}
+use Rattle.vr_world.specs.Commitment.{IsOutcomeOf, IsReplyOf, lines_by}
 use Rattle.vr_world.specs.Group.{Asked, Played}
 use Rattle.vr_world.specs.Safe.{IsTrueReply, applied_then, run_outputs}
 use Rattle.vr_world.proofs.FitMessages.{asked_may_come}
@@ -30,11 +35,11 @@ use Rattle.law_3_outputs.specs.Followed.{IsFitRun}
 use Rattle.law_3_outputs.proofs.Sets.{in_contains, in_get, in_left, in_right}
 use Rattle.law_3_outputs.proofs.Traces.{in_either}
 use Rattle.law_4_disks.specs.Worlds as worlds
-use Rattle.law_4_disks.specs.Worlds.{IsAside, Said, first_world}
+use Rattle.law_4_disks.specs.Worlds.{IsAside, Said as Lines, first_world}
 use Rattle.law_6_one_log.specs.Outputs.{IsTrueAnswer, RestsOn}
 use Rattle.law_7_members.specs.Files.{ActBy, act_by, Handles}
 use Rattle.law_7_members.specs.Whole.{KeepOneLog, all_said}
-use Rattle.law_9_answers.specs.Heard.{HasReached, IsNamed, IsOfLog, Says, Heard, as_entry, asked_by, header_of, itself, kind_of}
+use Rattle.law_9_answers.specs.Heard.{HasReached, IsExecuted, IsNamed, IsOfLog, Says, Heard, as_entry, asked_by, header_of, itself, kind_of}
 use Rattle.law_9_answers.specs.Heard as named
 use Rattle.law_9_answers.proofs.Making.{IsOfRequest, lines_asked}
 use Rattle.law_9_answers.proofs.Coming.{ComesFrom, comes_from}
@@ -43,7 +48,7 @@ use Rattle.law_9_answers.proofs.Hearing.{IsGiven}
 
 -- ---- what the run's outputs are
 
-line_in : (ws gs : List Output) → Said ws gs → (c : Committed) → In (output.Commit c) ws → In (output.Commit c) gs
+line_in : (ws gs : List Output) → Lines ws gs → (c : Committed) → In (output.Commit c) ws → In (output.Commit c) gs
 line_in _ _ worlds.none c i = absurd i
 line_in _ _ (worlds.both os ws gs rest) c i =
     elim (in_either os ws (output.Commit c) i) [
@@ -55,14 +60,29 @@ line_in _ _ (worlds.aside a ws gs is rest) c (inr later) = line_in ws gs rest c 
 
 -- ---- what the log says
 
-outcome_same : (log : List Whole) (k : ℕ) (r : ReplyFields) (q : RequestFields) (o : Outcome) → r.client ≡ q.client → r.request ≡ q.request
-    → answer_at log k ≡ Some (record { client = r.client; request = r.request; answer = session.Fresh; outcome = Some o }) → answer_at log k ≡ Some (record { client = q.client; request = q.request; answer = session.Fresh; outcome = Some o })
-outcome_same log k r q o client number h =
-    subst (λ (x : ℕ). answer_at log k ≡ Some (record { client = x; request = q.request; answer = session.Fresh; outcome = Some o })) client
-    (subst (λ (x : ℕ). answer_at log k ≡ Some (record { client = r.client; request = x; answer = session.Fresh; outcome = Some o })) number h)
+-- what an entry answers
+abbrev said_to : State → Whole → Said
+said_to s e = record { client = e.header.client; request = e.header.request; answer = check s e; outcome = fresh_outcome s e (check s e) }
+
+executed_by : (s : State) (x : Option Whole) (client request : ℕ) (o : Outcome) → option_map (said_to s) x ≡ Some (record { client = client; request = request; answer = session.Fresh; outcome = Some o })
+    → (e : Whole) × (x ≡ Some e) × (e.header.client ≡ client) × (e.header.request ≡ request) × (check s e ≡ session.Fresh) × (o ≡ outcome_of s e)
+executed_by s None client request o h = absurd cc
+executed_by s (Some e) client request o h =
+    let there : Said = said_to s e in
+    let said : Said = record { client = client; request = request; answer = session.Fresh; outcome = Some o } in
+    let same : there ≡ said = (let both : Some there ≡ Some said = h in cc) in
+    let fresh : check s e ≡ session.Fresh = ap (λ (y : Said). y.answer) same in
+    let outcome : Some (outcome_of s e) ≡ Some o = subst (λ (z : SessionAnswer). fresh_outcome s e z ≡ Some o) fresh (ap (λ (y : Said). y.outcome) same) in
+    (e, refl, ap (λ (y : Said). y.client) same, ap (λ (y : Said). y.request) same, fresh, sym (let one : outcome_of s e ≡ o = cc in one))
+
+executed : (log : List Whole) (lines : ℕ) (r : ReplyFields) (q : RequestFields) (a : Answered) → r.client ≡ q.client → r.request ≡ q.request → IsOutcomeOf log lines r a → IsExecuted log q a
+unfolding answer_at
+executed log lines r q a client number h =
+    let y = executed_by (state_after (take (a.op - 1) log)) (slice_get log (a.op - 1)) r.client r.request a.outcome h.answer in
+    record { entry = y.0; number = h.op.0; at = y.1; client = y.2 ∙ client; request = y.3 ∙ number; fresh = y.4; outcome = y.5 }
 
 says_of : (log : List Whole) (lines m : ℕ) (r : ReplyFields) (q : RequestFields) (a : Answer) → r.client ≡ q.client → r.request ≡ q.request → IsReplyOf log lines m r (kind_of a) → Says log q a
-says_of log lines m r q (answer.Outcome x) client number h = (h.op.0, outcome_same log x.op r q x.outcome client number h.answer)
+says_of log lines m r q (answer.Outcome x) client number h = executed log lines r q x client number h
 says_of log lines m r q answer.Old client number h = (m, rw (← client, ← number) h)
 says_of log lines m r q answer.Gap client number h = (m, rw (← client, ← number) h)
 says_of log lines m r q answer.Evicted client number h = (m, rw (← client, ← number) h)

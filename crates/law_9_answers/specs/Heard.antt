@@ -1,7 +1,7 @@
 -- What clients hear of members of a group, and when that is what the group's one log says.
-use Rattle.std.specs.Prelude.{ℕ, ◌<◌, ◌≡◌, ⊤, List, ◌++◌, Contains, slice_get, take, Some}
+use Rattle.std.specs.Prelude.{ℕ, ◌-◌, ◌<◌, ◌≡◌, ⊤, List, ◌++◌, Contains, slice_get, take, Some}
 use Rattle.vr_ask.specs.Asking.{Answers, Client, Stand, request_of}
-use Rattle.vr_ckpt.specs.Folds.{answer_at, state_after}
+use Rattle.vr_ckpt.specs.Folds.{check, outcome_of, state_after}
 use Rattle.vr_ckpt.specs.SessionAnswer.TheVariants as session
 use Rattle.vr_ckpt.specs.Sessions.{checked}
 use Rattle.vr_client.specs.declared.answer.Answer.{Answer}
@@ -17,6 +17,7 @@ use Rattle.vr_mail.specs.Letters.{IsOfGroup}
 use Rattle.vr_msg.specs.declared.frame.Frame.TheVariants as frame
 use Rattle.vr_msg.specs.declared.output.Committed.{Committed}
 use Rattle.vr_msg.specs.declared.output.Output.TheVariants as output
+use Rattle.vr_msg.specs.declared.reply.Answered.{Answered}
 use Rattle.vr_msg.specs.declared.reply.ReplyFields.{ReplyFields}
 use Rattle.vr_msg.specs.declared.reply.ReplyKind.{ReplyKind}
 use Rattle.vr_msg.specs.declared.reply.ReplyKind.TheVariants as reply
@@ -64,10 +65,21 @@ IsPutOut xs version cluster _ = ⊤
 
 -- ---- when it is the log's
 
--- What the plain sessions and machine say to a request over a log: the outcome of an op whose entry is of this client and number, and was
--- executed there; or what the sessions say of this client and number after some of the log's first entries.
+-- A request was executed in a log, with this outcome: the entry of its op is of the request's client and number, the sessions find it fresh
+-- after the entries before it, and the outcome is what the machine makes of its operation after these.
+pub record IsExecuted (log : List Whole) (q : RequestFields) (a : Answered) : Type 0 where
+  pub entry : Whole
+  pub number : 0 < a.op
+  pub at : slice_get log (a.op - 1) ≡ Some entry
+  pub client : entry.header.client ≡ q.client
+  pub request : entry.header.request ≡ q.request
+  pub fresh : check (state_after (take (a.op - 1) log)) entry ≡ session.Fresh
+  pub outcome : a.outcome ≡ outcome_of (state_after (take (a.op - 1) log)) entry
+
+-- What the plain sessions and machine say to a request over a log: it was executed; or what the sessions say of its client and number after some of
+-- the log's first entries.
 abbrev pub Says : List Whole → RequestFields → Answer → Type 0
-Says log q (answer.Outcome a) = (0 < a.op) × (answer_at log a.op ≡ Some (record { client = q.client; request = q.request; answer = session.Fresh; outcome = Some a.outcome }))
+Says log q (answer.Outcome a) = IsExecuted log q a
 Says log q answer.Old = (m : ℕ) × (checked (state_after (take m log)).sessions q.client q.request ≡ session.Old)
 Says log q answer.Gap = (m : ℕ) × (checked (state_after (take m log)).sessions q.client q.request ≡ session.Gap)
 Says log q answer.Evicted = (m : ℕ) × (checked (state_after (take m log)).sessions q.client q.request ≡ session.Evicted)
