@@ -7,6 +7,7 @@ pub mod Saving
 pub mod Applying
 pub mod Learning
 pub mod Vouching
+pub mod Lone
 pub mod Prepares
 pub mod Repairs
 pub mod Takes
@@ -16,7 +17,10 @@ pub mod SyncViews
 pub mod Unmoving
 pub mod Visits
 pub mod Counting
+pub mod NewEntries
 pub mod Requests
+pub mod LoneSteps
+pub mod LoneRequests
 pub mod Choosing
 pub mod Picking
 pub mod Choices

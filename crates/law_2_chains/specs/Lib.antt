@@ -6,6 +6,8 @@ pub mod Finished
 pub mod Begins
 pub mod Choices
 pub mod Openings
+pub mod Lone
+pub mod LoneLaws
 pub mod ChainLaws
 pub mod Bridge
 pub mod RunLaws
