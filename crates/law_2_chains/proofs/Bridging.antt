@@ -262,7 +262,7 @@ cut_so u b at k es l cuts end =
 abbrev pub local : group.Member → Local
 local m = record { member = m; made = []; said = [] }
 
-module _ (u : Setup) (fits : Fits u) (hash : u.hash ≡ lying.hash) (g : group.Group) (s : Group Header) (fit : IsFitGroup u.cluster g) (bridge : Bridges u g s) where
+module _ (u : Setup) (fits : Fits u) (several : 2 ≤ u.quorums.n) (hash : u.hash ≡ lying.hash) (g : group.Group) (s : Group Header) (fit : IsFitGroup u.cluster g) (bridge : Bridges u g s) where
   -- a running member in the machine
   pub mid_of : (at : ℕ) (m : group.Member) (r : Replica) → slice_get g.members at ≡ Some m → m.replica ≡ Some r → Mid u s at r (local m) s
   mid_of at m r there runs =
@@ -297,7 +297,7 @@ module _ (u : Setup) (fits : Fits u) (hash : u.hash ≡ lying.hash) (g : group.G
   pub chain_of : (at : ℕ) (a : Arrival) (e : Event) (d : Lying) (m : group.Member) (r : Replica) → slice_get g.members at ≡ Some m → m.replica ≡ Some r → IsFitArrival a → IsArrival g at a e → ChainChooses u s at (local m) e r (stepped e r d)
   chain_of at a e d m r there runs h i =
       let f = (fit.members at m there).running r runs in
-      chain_react u fits s at lying r d (local m) (mid_of at m r there runs) ((bridge.members at m there).running r runs).tables (sym hash) f.1.cluster lies_fit.names f.0.savable.top tt e (arrives at a e h i)
+      chain_react u fits several s at lying r d (local m) (mid_of at m r there runs) ((bridge.members at m there).running r runs).tables (sym hash) f.1.cluster lies_fit.names f.0.savable.top tt e (arrives at a e h i)
 
   steps_so : (at : ℕ) (a : Arrival) (e : Event) (d : Lying) (m : group.Member) (r : Replica) → slice_get g.members at ≡ Some m → m.replica ≡ Some r → IsFitArrival a → IsArrival g at a e
       → (z : Group Header) × Chained u s z (record { before = g; move = group.Steps at a e d; moved = group.finished g at m (stepped e r d) })
@@ -401,11 +401,11 @@ module _ (u : Setup) (fits : Fits u) (hash : u.hash ≡ lying.hash) (g : group.G
 
 -- ---- runs
 
-pub runs_so : (u : Setup) (fits : Fits u) (hash : u.hash ≡ lying.hash) (g : group.Group) (s : Group Header) (run : List Played) → IsFitGroup u.cluster g → All (λ p. IsFitMove p.move) run → Run g run → Bridges u g s → Follows u s run
-runs_so u fits hash g s _ fit h (group.ended _) bridge = tt
-runs_so u fits hash g s _ fit h (group.goes _ move moved later m rest) bridge =
+pub runs_so : (u : Setup) (fits : Fits u) (several : 2 ≤ u.quorums.n) (hash : u.hash ≡ lying.hash) (g : group.Group) (s : Group Header) (run : List Played) → IsFitGroup u.cluster g → All (λ p. IsFitMove p.move) run → Run g run → Bridges u g s → Follows u s run
+runs_so u fits several hash g s _ fit h (group.ended _) bridge = tt
+runs_so u fits several hash g s _ fit h (group.goes _ move moved later m rest) bridge =
     let p : Played = record { before = g; move = move; moved = moved } in
     let one = All-head (λ (p : Played). IsFitMove p.move) p later h in
-    let z = moves_so u fits hash g s fit bridge move moved one m in
+    let z = moves_so u fits several hash g s fit bridge move moved one m in
     let next = groups_fit.each u.cluster g move moved fit one m in
-    (z.0, z.1, runs_so u fits hash moved.group z.0 later next (All-tail (λ (p : Played). IsFitMove p.move) p later h) rest z.1.bridges)
+    (z.0, z.1, runs_so u fits several hash moved.group z.0 later next (All-tail (λ (p : Played). IsFitMove p.move) p later h) rest z.1.bridges)

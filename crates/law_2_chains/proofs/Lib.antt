@@ -10,6 +10,7 @@ pub mod Vouching
 pub mod Lone
 pub mod Prepares
 pub mod Repairs
+pub mod Tallies
 pub mod Takes
 pub mod StartViews
 pub mod Jumps

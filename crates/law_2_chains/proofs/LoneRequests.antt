@@ -1,6 +1,5 @@
 -- A request at a replica that is a group by itself: what it has just made and stored is counted, since it has vouched for that.
 use Rattle.std.proofs.Common.{ℕ, ◌+◌, ◌%◌, ◌≤◌, ◌<◌, ◌≡◌, ◌∙◌, inl, inr, arith, refl, sym, ap, subst, true, List, [], ◌∷◌, map, is_some}
-use Rattle.std.proofs.lemmas.Bool.{leb-true}
 use Rattle.vr_base.specs.declared.replicas.Replicas.{Replicas}
 use Rattle.vr_base.specs.Replicas.{has_replica, size}
 use Rattle.vr_header.specs.declared.header.Header.{Header}
@@ -12,7 +11,7 @@ use Rattle.vr_world.specs.Sound.{IsNameBytes}
 use Rattle.vr_world.specs.Replica.{Replica, last_view, replication, head, header_at}
 use Rattle.vr_world.specs.Outputs.{prepare, send_to_all}
 use Rattle.vr_world.specs.Steps.{Effect, Say, Setting, Step, ◌⨾◌, change, does, says, after_all}
-use Rattle.vr_world.specs.Words.{votes, has_quorum, writes, write, stored, advance}
+use Rattle.vr_world.specs.Words.{writes, write, stored, advance}
 use Rattle.vr_world.specs.Rules.{make, on_request}
 use Rattle.vr_world.specs.Laws.{IsMessage}
 use Rattle.vr_world.specs.Deciding.{first_of, request_table}
@@ -28,14 +27,15 @@ use Rattle.law_2_chains.specs.Chains.{Setup, Every, AsksNothing, Mid, Goes}
 use Rattle.law_2_chains.specs.Begins.{one_made, with_made}
 use Rattle.law_2_chains.specs.Finished.{Finishes}
 use Rattle.law_2_chains.specs.Lone.{IsLoneChain, LoneChooses, Vouched}
-use Rattle.law_2_chains.specs.Tables.{HasVouchedAt, Tables}
+use Rattle.law_2_chains.specs.Tables.{HasVouchedAt}
+use Rattle.law_2_chains.proofs.Tallies.{Tallies, tables_vouched}
 use Rattle.law_2_chains.proofs.Scripts.{every_append}
 use Rattle.law_2_chains.proofs.Writing.{goes_write, stored_ackers, stored_here, stored_next, stored_up, stored_views}
 use Rattle.law_2_chains.proofs.Applying.{goes_says_then}
 use Rattle.law_2_chains.proofs.Learning.{HasVouched, goes_advance}
 use Rattle.law_2_chains.proofs.Finishing.{goes_finishes}
 use Rattle.law_2_chains.proofs.Repairs.{leads_is, may_prepare}
-use Rattle.law_2_chains.proofs.Counting.{counts, counted_has, counted_within, voter, size_count}
+use Rattle.law_2_chains.proofs.Counting.{counts, counted_has, counted_within, quorum_vouched, voter}
 use Rattle.law_2_chains.proofs.NewEntries.{MayMake, by_request, fields, made, makes, mid_makes, not_made, now}
 use Rattle.law_2_chains.proofs.Lone.{vouches, vouches_at_end}
 use Rattle.law_2_chains.proofs.LoneSteps.{lone_goes, lone_mute}
@@ -44,14 +44,6 @@ use Rattle.law_2_chains.proofs.Tabling.{tables_stay}
 use Rattle.law_2_chains.proofs.TabledWords.{tables_stored}
 
 module _ (u : Setup) (quorum : replication u.quorums.n ≡ u.quorums.replication) where
-  -- where each voter has vouched, a quorum has
-  all_vouched : (b : Group Header) (i : ℕ) (r : Replica) (k : ℕ) → r.n ≡ u.quorums.n → has_quorum r k ≡ true → ((j : ℕ) → has_replica (votes r k) j ≡ true → (j < u.quorums.n) × HasVouchedAt u b r.log_view k j) → HasVouched u b i r.log_view k
-  all_vouched b i r k size_is has each =
-      let enough = leb-true (replication r.n) (size (votes r k)) has in
-      let same : replication r.n ≡ u.quorums.replication = ap replication size_is ∙ quorum in
-      let more = size_count (votes r k) u.quorums.n (λ j t. (each j t).0) in
-      record { set = λ j. has_replica (votes r k) j; enough = omega arith; each = λ j l t. (each j t).1 }
-
   module _ (start : Group Header) (i : ℕ) (e : Whole) (r : Replica) (l : Local) (y : MayMake u start i e r l) where
     abbrev begun : Group Header
     begun = with_made e.header start
@@ -92,7 +84,7 @@ module _ (u : Setup) (quorum : replication u.quorums.n ≡ u.quorums.replication
         let each : (k : ℕ) → q.commit < k → k ≤ q.commit + counts q → HasVouched u b i q.log_view k =
         λ k above within.
         let know = counted_within q order.known in
-        all_vouched b i q k w.size (counted_has q k above within) (λ j t. elim (voter q k j t) [
+        quorum_vouched u quorum b i q k w.size (counted_has q k above within) (λ j t. elim (voter q k j t) [
           | inl mine ↦
               let place : j ≡ i = mine.0 ∙ w.place in
               let vouch = has.all view k mine.1.0 mine.1.1 in
@@ -133,7 +125,7 @@ module _ (u : Setup) (quorum : replication u.quorums.n ≡ u.quorums.replication
         let up = stored_next e r sound may y.op in
         let over = stored_up e r sound may in
         let op = y.op in
-        let stored_tables = tables_stored u start i e r sound may y.tables y.lead w.0 sent (λ above. vouch) (λ k b above is.
+        let stored_tables = tables_stored u start i e r sound may y.tables y.lead w.0 sent (λ several above. vouch) (λ k b above is.
         elim (subst (In (made_at r.view k b)) made_is is) [
           | inl one ↦ let same : k ≡ e.header.op = ap (λ (z : Made Header). z.number) one in absurd (omega arith)
           | inr old ↦ y.tables.top y.lead k b (omega arith) old
@@ -153,10 +145,10 @@ module _ (u : Setup) (quorum : replication u.quorums.n ≡ u.quorums.replication
           after = w.0;
           reached = w.1;
           vouches = w.2;
-          tables = λ b. tables_stay u start i advance t q (after_all t d (map Say (send_to_all (prepare e) q))) w.0 stays_advance (kept_stored e r sound may).sound stored_tables;
+          tables = λ b. tables_vouched u w.0 i second.replica h.after w.2 (tables_stay u start i advance t q (after_all t d (map Say (send_to_all (prepare e) q))) w.0 stays_advance (kept_stored e r sound may).sound stored_tables);
         }
 
-  pub lone_request : {F : Type 0} (start : Group Header) (i : ℕ) (q : RequestFields) (t : Setting F) (r : Replica) (f : F) (l : Local) → Mid u start i r l start → Tables u start i r → t.hash ≡ u.hash → r.cluster ≡ u.cluster
+  pub lone_request : {F : Type 0} (start : Group Header) (i : ℕ) (q : RequestFields) (t : Setting F) (r : Replica) (f : F) (l : Local) → Mid u start i r l start → Tallies u start i r → t.hash ≡ u.hash → r.cluster ≡ u.cluster
       → ((bytes : List ℕ) → IsNameBytes (t.hash bytes)) → r.view ≤ last_view → (0 < head r → is_some (header_at r (head r)) ≡ true) → Every AsksNothing l.said → IsMessage (frame.Request q)
       → LoneChooses u start i l (event.Request q) r (on_request q t r f)
   unfolding on_request

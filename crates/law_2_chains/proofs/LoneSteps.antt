@@ -15,7 +15,7 @@ use Rattle.law_2_chains.specs.Chains.{Setup, Every, AsksNothing, Mid, Goes}
 use Rattle.law_2_chains.specs.Choices.{IsMadeFrom}
 use Rattle.law_2_chains.specs.Finished.{Finishes}
 use Rattle.law_2_chains.specs.Lone.{IsLoneChain, LoneChooses}
-use Rattle.law_2_chains.specs.Tables.{Tables}
+use Rattle.law_2_chains.proofs.Tallies.{Tallies, tables_vouched}
 use Rattle.law_2_chains.proofs.Choices.{Concludes, are_none, made_more}
 use Rattle.law_2_chains.proofs.Finishing.{goes_finishes}
 use Rattle.law_2_chains.proofs.Holding.{holds_same, tables_hold}
@@ -48,16 +48,16 @@ module _ (u : Setup) (start : Group Header) (i : ℕ) (r : Replica) (l : Local) 
         after = w.0;
         reached = w.1;
         vouches = w.2;
-        tables = λ b. tables_hold u h.after w.0 i x.replica x.replica (holds_same x.replica) w.2.made w.2.kept (tabled h.after (since_finished u v.0 i x.replica l x.script h.after h.ends));
+        tables = λ b. tables_vouched u w.0 i x.replica h.after w.2 (tables_hold u h.after w.0 i x.replica x.replica (holds_same x.replica) w.2.made w.2.kept (tabled h.after (since_finished u v.0 i x.replica l x.script h.after h.ends)));
       }
 
-  pub lone_goes : (x : Step) → Tables u start i r → ((s : Group Header) → Mid u s i r l s → Tables u s i r → Goes u s i l x × Tabled u s i x) → IsLoneChain u start i l x
+  pub lone_goes : (x : Step) → Tallies u start i r → ((s : Group Header) → Mid u s i r l s → Tallies u s i r → Goes u s i l x × Tabled u s i x) → IsLoneChain u start i l x
   lone_goes x tables go =
       let v = vouches u start start i r l mid free in
       let g = go v.0 v.1 (tables_hold u start v.0 i r r (holds_same r) v.2.made v.2.kept tables) in
       from_ground x (goes_finishes u v.0 i l x g.0) g.1
 
-  pub lone_concludes : (e : Event) (x : Step) → Tables u start i r → ((s : Group Header) → Mid u s i r l s → Tables u s i r → Concludes u s i e r l x × Tabled u s i x) → LoneChooses u start i l e r x
+  pub lone_concludes : (e : Event) (x : Step) → Tallies u start i r → ((s : Group Header) → Mid u s i r l s → Tallies u s i r → Concludes u s i e r l x × Tabled u s i x) → LoneChooses u start i l e r x
   unfolding from_ground
   lone_concludes e x tables go =
       let v = vouches u start start i r l mid free in

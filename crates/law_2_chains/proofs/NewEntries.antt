@@ -34,7 +34,7 @@ use Rattle.law_2_chains.specs.Local.{Local}
 use Rattle.law_2_chains.specs.Reflecting.{entries_by}
 use Rattle.law_2_chains.specs.Chains.{Setup, Every, AsksNothing, WasMade, Mid, Goes}
 use Rattle.law_2_chains.specs.Begins.{with_made}
-use Rattle.law_2_chains.specs.Tables.{Tables}
+use Rattle.law_2_chains.proofs.Tallies.{Tallies}
 use Rattle.law_2_chains.proofs.Readying.{free_ready}
 use Rattle.law_2_chains.proofs.Scripts.{every_map, goes_quiet}
 use Rattle.law_2_chains.proofs.Moving.{goes_says}
@@ -76,7 +76,7 @@ module _ (u : Setup) (start : Group Header) (i : ℕ) where
 -- the primary of a view that has begun may make an entry at its head, and store it
 pub record MayMake (u : Setup) (start : Group Header) (i : ℕ) (e : Whole) (r : Replica) (l : Local) : Type 0 where
   pub mid : Mid u start i r l start
-  pub tables : Tables u start i r
+  pub tables : Tallies u start i r
   pub may : MayStore e r
   pub lead : leads r ≡ true
   pub op : e.header.op ≡ head r + 1
@@ -177,8 +177,8 @@ make_script e t r f = (((says (send_to_all (prepare e)) ⨾ advance) t (stored e
 
 module _ (u : Setup) (start : Group Header) (i : ℕ) where
   -- what is asked of the handling of a request holds, where it holds of each way to handle it
-  pub by_request : {F : Type 0} (P : Step → Type 0) (q : RequestFields) (t : Setting F) (r : Replica) (f : F) (l : Local) → ((z : Step) → ((s : Group Header) → Mid u s i r l s → Tables u s i r → Goes u s i l z × Tabled u s i z) → P z)
-      → ((e : Whole) → MayMake u start i e r l → P (make e t r f)) → Mid u start i r l start → Tables u start i r → t.hash ≡ u.hash → r.cluster ≡ u.cluster → ((bytes : List ℕ) → IsNameBytes (t.hash bytes)) → r.view ≤ last_view
+  pub by_request : {F : Type 0} (P : Step → Type 0) (q : RequestFields) (t : Setting F) (r : Replica) (f : F) (l : Local) → ((z : Step) → ((s : Group Header) → Mid u s i r l s → Tallies u s i r → Goes u s i l z × Tabled u s i z) → P z)
+      → ((e : Whole) → MayMake u start i e r l → P (make e t r f)) → Mid u start i r l start → Tallies u start i r → t.hash ≡ u.hash → r.cluster ≡ u.cluster → ((bytes : List ℕ) → IsNameBytes (t.hash bytes)) → r.view ≤ last_view
       → (0 < head r → is_some (header_at r (head r)) ≡ true) → Every AsksNothing l.said → IsMessage (frame.Request q) → P (on_request q t r f)
   unfolding on_request naming by
   by_request P q t r f l so makes_it x tables same group names last top free m =

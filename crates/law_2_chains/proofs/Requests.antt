@@ -21,18 +21,20 @@ use Rattle.law_1_machine.specs.Parts.{header}
 use Rattle.law_2_chains.specs.Local.{Local}
 use Rattle.law_2_chains.specs.Chains.{Setup, Every, AsksNothing, Mid, Goes}
 use Rattle.law_2_chains.specs.Begins.{IsChain, one_made}
-use Rattle.law_2_chains.specs.Tables.{Fits, HasVouchedAt, Tables}
+use Rattle.law_2_chains.specs.Tables.{Fits, HasVouchedAt}
+use Rattle.law_2_chains.proofs.Tallies.{Tallies, tables_of}
 use Rattle.law_2_chains.proofs.Writing.{stored_ackers, stored_here, stored_other, stored_views, goes_write_then}
 use Rattle.law_2_chains.proofs.Applying.{goes_says_then}
 use Rattle.law_2_chains.proofs.Learning.{goes_advance}
 use Rattle.law_2_chains.proofs.Finishing.{goes_finishes}
 use Rattle.law_2_chains.proofs.Tabling.{chain_of, since_finished}
-use Rattle.law_2_chains.proofs.TabledWords.{several_by, tabled_make}
+use Rattle.law_2_chains.proofs.Sizes.{several_by}
+use Rattle.law_2_chains.proofs.TabledWords.{tabled_make}
 use Rattle.law_2_chains.proofs.NewEntries.{MayMake, by_request, fields, known_op, made, make_script, makes, mid_makes, not_made, now}
 use Rattle.law_2_chains.proofs.Repairs.{leads_is, may_prepare}
 use Rattle.law_2_chains.proofs.Counting.{counts, counted_has, counted_within, voter, size_count, count_only, quorum_vouched}
 
-module _ (u : Setup) (fits : Fits u) (start : Group Header) (i : ℕ) (e : Whole) (r : Replica) (l : Local) (y : MayMake u start i e r l) where
+module _ (u : Setup) (fits : Fits u) (several : 2 ≤ u.quorums.n) (start : Group Header) (i : ℕ) (e : Whole) (r : Replica) (l : Local) (y : MayMake u start i e r l) where
   abbrev with_it : Group Header
   with_it = made u start i e r l y
 
@@ -64,7 +66,7 @@ module _ (u : Setup) (fits : Fits u) (start : Group Header) (i : ℕ) (e : Whole
       let n_is = y.mid.size in
       let less = size_count (votes q e.header.op) u.quorums.n (λ j t. let a = itself_alone j t in omega arith) in
       let one = count_only (λ j. has_replica (votes q e.header.op) j) r.index u.quorums.n itself_alone in
-      let several = fits.several in
+      let two = several_by u fits several in
       omega arith
 
   old_only : q.commit + counts q ≤ head r
@@ -89,7 +91,7 @@ module _ (u : Setup) (fits : Fits u) (start : Group Header) (i : ℕ) (e : Whole
         | inl mine ↦
             let same : j ≡ r.index = mine.0 ∙ place.0 in
             let here : part_at r k ≡ Here mine.1.0 = sym (stored_other e r y.mid.sound y.may k over (λ s. omega (arith, s))) ∙ mine.1.1 in
-            (omega arith, subst (λ v. HasVouchedAt u start v k j) log (subst (λ (w : ℕ). HasVouchedAt u start r.view k w) (sym (same ∙ y.mid.place)) (y.tables.own y.lead k mine.1.0 (omega arith) here)))
+            (omega arith, subst (λ v. HasVouchedAt u start v k j) log (subst (λ (w : ℕ). HasVouchedAt u start r.view k w) (sym (same ∙ y.mid.place)) (y.tables.own several y.lead k mine.1.0 (omega arith) here)))
         | inr acker ↦
             let a = y.tables.acks y.lead k j (omega arith) (sym (ap (λ (s : Replicas). has_replica s j) (stored_ackers e r y.mid.sound y.may k over)) ∙ acker) in
             (a.1, subst (λ v. HasVouchedAt u start v k j) log a.2)
@@ -107,7 +109,7 @@ module _ (u : Setup) (fits : Fits u) (start : Group Header) (i : ℕ) (e : Whole
       (may_prepare u with_it i e q k a z (v.0 ∙ (p.0 ∙ sym v.1)) (w.0 ∙ (p.1 ∙ rw (v.0, w.2) refl)) (stored_here e r y.mid.sound y.may)) (λ k a d z.
       goes_advance u with_it i t q d k a z (counted_within q z.sound.order.known) (λ j above within.
       let old = old_only in
-      quorum_vouched u fits with_it i q j z.size (counted_has q j above within) (λ b t. old_voters j b above (omega arith) t))))
+      quorum_vouched u fits.replication_is with_it i q j z.size (counted_has q j above within) (λ b t. old_voters j b above (omega arith) t))))
 
   -- its handling, with the entry made
   chain_make : {F : Type 0} (t : Setting F) (f : F) → IsChain u start i l (make e t r f)
@@ -117,17 +119,16 @@ module _ (u : Setup) (fits : Fits u) (start : Group Header) (i : ℕ) (e : Whole
       let size_is = x.size in
       let lead = leads_is r y.lead in
       let first : i ≡ e.header.view % u.quorums.n = sym x.place ∙ (lead.1 ∙ (ap (λ n. r.view % n) x.size ∙ ap (λ v. v % u.quorums.n) (sym y.view))) in
-      let several = several_by u fits in
       let ends = goes_finishes u with_it i l _ (goes_make t f) in
       record {
         begun = with_it;
         begins = one_made _ e writes_it.0 writes_it.1 first (not_made u start i e r l y);
         finishes = ends;
-        tables = λ b. tabled_make u start i e r x.sound y.may y.tables y.lead t f x.place x.size (omega arith) y.op ends.after (since_finished u with_it i _ l _ ends.after ends.ends);
+        tables = λ b. tables_of u ends.after i _ several (tabled_make u start i e r x.sound y.may y.tables y.lead t f x.place x.size y.op ends.after (since_finished u with_it i _ l _ ends.after ends.ends));
       }
 
-pub chain_request : {F : Type 0} (u : Setup) (fits : Fits u) (start : Group Header) (i : ℕ) (q : RequestFields) (t : Setting F) (r : Replica) (f : F) (l : Local) → Mid u start i r l start → Tables u start i r → t.hash ≡ u.hash → r.cluster ≡ u.cluster
+pub chain_request : {F : Type 0} (u : Setup) (fits : Fits u) (several : 2 ≤ u.quorums.n) (start : Group Header) (i : ℕ) (q : RequestFields) (t : Setting F) (r : Replica) (f : F) (l : Local) → Mid u start i r l start → Tallies u start i r → t.hash ≡ u.hash → r.cluster ≡ u.cluster
     → ((bytes : List ℕ) → IsNameBytes (t.hash bytes)) → r.view ≤ last_view → (0 < head r → is_some (header_at r (head r)) ≡ true) → Every AsksNothing l.said → IsMessage (frame.Request q)
     → IsChain u start i l (on_request q t r f)
-chain_request u fits start i q t r f l x tables same group names last top free m =
-    by_request u start i (IsChain u start i l) q t r f l (λ z go. let g = go start x tables in chain_of u start i l z (goes_finishes u start i l z g.0) g.1) (λ e y. chain_make u fits start i e r l y t f) x tables same group names last top free m
+chain_request u fits several start i q t r f l x tables same group names last top free m =
+    by_request u start i (IsChain u start i l) q t r f l (λ z go. let g = go start x tables in chain_of u several start i l z (goes_finishes u start i l z g.0) g.1) (λ e y. chain_make u fits several start i e r l y t f) x tables same group names last top free m

@@ -146,5 +146,5 @@ fresh_runs_so kinds c n run l a b h r =
       bridges = bridge;
       none_sent = refl;
       none_made = refl;
-      follows = runs_so u z.1 z.3 (fresh_group kinds c n) (begun u n) run (subst (λ k. IsFitGroup k (fresh_group kinds c n)) (sym z.4) (fresh_group_fits kinds c n l a b)) h r bridge;
+      follows = runs_so u z.1 (let same = z.2 in omega arith) z.3 (fresh_group kinds c n) (begun u n) run (subst (λ k. IsFitGroup k (fresh_group kinds c n)) (sym z.4) (fresh_group_fits kinds c n l a b)) h r bridge;
     }
