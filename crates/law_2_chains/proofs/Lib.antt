@@ -29,6 +29,7 @@ pub mod Beginning
 pub mod Finishing
 pub mod Speaking
 pub mod Chained
+pub mod LoneEvents
 pub mod Blocks
 pub mod Playing
 pub mod Starting

@@ -4,7 +4,7 @@ use Rattle.vr_base.specs.declared.replicas.Replicas.{Replicas}
 use Rattle.vr_base.specs.Replicas.{has_replica, size}
 use Rattle.vr_header.specs.declared.header.Header.{Header}
 use Rattle.vr_header.specs.Made.{Whole}
-use Rattle.vr_msg.specs.declared.event.Event.TheVariants as event
+use Rattle.vr_msg.specs.declared.event.Event.{Event}
 use Rattle.vr_msg.specs.declared.frame.Frame.TheVariants as frame
 use Rattle.vr_msg.specs.declared.request.RequestFields.{RequestFields}
 use Rattle.vr_world.specs.Sound.{IsNameBytes}
@@ -148,10 +148,10 @@ module _ (u : Setup) (quorum : replication u.quorums.n ≡ u.quorums.replication
           tables = λ b. tables_vouched u w.0 i second.replica h.after w.2 (tables_stay u start i advance t q (after_all t d (map Say (send_to_all (prepare e) q))) w.0 stays_advance (kept_stored e r sound may).sound stored_tables);
         }
 
-  pub lone_request : {F : Type 0} (start : Group Header) (i : ℕ) (q : RequestFields) (t : Setting F) (r : Replica) (f : F) (l : Local) → Mid u start i r l start → Tallies u start i r → t.hash ≡ u.hash → r.cluster ≡ u.cluster
+  pub lone_request : {F : Type 0} (start : Group Header) (i : ℕ) (event : Event) (q : RequestFields) (t : Setting F) (r : Replica) (f : F) (l : Local) → Mid u start i r l start → Tallies u start i r → t.hash ≡ u.hash → r.cluster ≡ u.cluster
       → ((bytes : List ℕ) → IsNameBytes (t.hash bytes)) → r.view ≤ last_view → (0 < head r → is_some (header_at r (head r)) ≡ true) → Every AsksNothing l.said → IsMessage (frame.Request q)
-      → LoneChooses u start i l (event.Request q) r (on_request q t r f)
+      → LoneChooses u start i l event r (on_request q t r f)
   unfolding on_request
-  lone_request start i q t r f l x tables same group names last top free m =
-      lone_mute u start i (event.Request q) (on_request q) (mute_naming _ (λ hash. mute_by _ (λ r. mute_request hash q (first_of (request_table q r))))) t r f l
+  lone_request start i event q t r f l x tables same group names last top free m =
+      lone_mute u start i event (on_request q) (mute_naming _ (λ hash. mute_by _ (λ r. mute_request hash q (first_of (request_table q r))))) t r f l
       (by_request u start i (IsLoneChain u start i l) q t r f l (λ z go. lone_goes u start i r l x free z tables go) (λ e y. lone_make start i e r l y t f) x tables same group names last top free m)

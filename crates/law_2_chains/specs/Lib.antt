@@ -7,8 +7,8 @@ pub mod Begins
 pub mod Choices
 pub mod Openings
 pub mod Lone
-pub mod LoneLaws
 pub mod ChainLaws
+pub mod LoneLaws
 pub mod Bridge
 pub mod RunLaws
 pub mod Counted
