@@ -138,10 +138,10 @@ module _ (u : Setup) (fits : Fits u) (start : Group Header) (i : ℕ) where
       (goes_by u start i _ t r d k (goes_when u start i (nat_lt r.commit (head r)) (prepare_again (r.commit + 1)) t r d k a y (λ b. goes_prepare_again u start i (r.commit + 1) t r d k a y (record { begun = p.0; first = p.1 }))))
       (λ b z. goes_looks u start i t _ _ _ b z))
 
-  mute_next : {F : Type 0} → Mute {F = F} next_view
+  pub mute_next : {F : Type 0} → Mute {F = F} next_view
   mute_next = mute_by _ (λ r. (still_enter (r.view + 1)).mute)
 
-  next : {F : Type 0} (t : Setting F) (r : Replica) (f : F) (l : Local) (s : Group Header) → Mid u start i r l s → Every AsksNothing l.said → Goes u start i l (next_view t r f)
+  pub next : {F : Type 0} (t : Setting F) (r : Replica) (f : F) (l : Local) (s : Group Header) → Mid u start i r l s → Every AsksNothing l.said → Goes u start i l (next_view t r f)
   next t r f l s x free = goes_by u start i _ t r f l (goes_enter (r.view + 1) t r f l s x free (omega arith))
 
   ticks_backup : {F : Type 0} (t : Setting F) (r : Replica) (f : F) (l : Local) (s : Group Header) → Mid u start i r l s → Every AsksNothing l.said → Goes u start i l ((change idler ⨾ by (λ r. cond (nat_le 5 r.idle) next_view (visit ⨾ ask))) t r f)

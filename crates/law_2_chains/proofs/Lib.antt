@@ -29,6 +29,9 @@ pub mod Beginning
 pub mod Finishing
 pub mod Speaking
 pub mod Chained
+pub mod LoneGoing
+pub mod LoneTries
+pub mod LoneTicks
 pub mod LoneEvents
 pub mod Blocks
 pub mod Playing

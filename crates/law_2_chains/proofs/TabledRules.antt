@@ -467,11 +467,11 @@ module _ (u : Setup) (fits : Fits u) (start : Group Header) (i : ℕ) where
           | false ↦ λ e. tabled_entered u start i (with_saved (entered v q)) (enter v t q d) (enter_is v t q d e) (entered_so u start i v q l y later)
         ] refl
 
-    next : (q : Replica) (d : F) → Mid u start i q l start → Tallies u start i q → Tabled u start i (next_view t q d)
+    pub next : (q : Replica) (d : F) → Mid u start i q l start → Tallies u start i q → Tabled u start i (next_view t q d)
     unfolding by
     next q d y so = enters (q.view + 1) q d y so (omega arith)
 
-    idle_tables : Tallies u start i (idler r)
+    pub idle_tables : Tallies u start i (idler r)
     idle_tables = tables_hold u start start i r (idler r) (holds_idler r) refl (λ m j. j) tables
 
     speaks_looks : (q : Replica) (d : F) → Enters u start i q → Tabled u start i ((speak ⨾ visit ⨾ ask) t q d)

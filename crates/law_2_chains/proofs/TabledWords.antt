@@ -263,7 +263,7 @@ no_acker n k j e =
     ] in
     no_flags j (sym (ap (λ (z : Replicas). has_replica z j) none) ∙ e)
 
-taken_ackers : (l : Log) (r : Replica) (k j : ℕ) → has_replica (ackers_at (taken l r) k) j ≡ true → ⊥
+pub taken_ackers : (l : Log) (r : Replica) (k j : ℕ) → has_replica (ackers_at (taken l r) k) j ≡ true → ⊥
 unfolding taken forgetting
 taken_ackers l r k j e =
     let gone : ℕ = head (over l r) - 63 - (over l r).first in
@@ -327,16 +327,22 @@ module _ (u : Setup) (start : Group Header) (i : ℕ) where
         stated = λ j z is. absurd (none_stated r.n j z (sym (ap (λ (ys : List (Option Statement)). get_or ys j None) (holds.statements ∙ taken_statements l r)) ∙ is));
       })
 
-  tabled_begin : {F : Type 0} (t : Setting F) (r : Replica) (f : F) → Enters u start i r → is_primary r ≡ true → (q : Quorums) (hs : List Header) → choice q (stated r) ≡ Ends hs → MayTake (chosen_log r (stated r) hs) r
-      → Tabled u start i (begin_view (stated r) (chosen_log r (stated r) hs) t r f)
-  unfolding begin_view
-  tabled_begin t r f y prim q hs ends may =
+  -- a view begins, and then it goes on by a word that keeps them
+  pub tabled_begins : {F : Type 0} (last : Word F) → Stays last → (t : Setting F) (r : Replica) (f : F) → Enters u start i r → is_primary r ≡ true → (q : Quorums) (hs : List Header) → choice q (stated r) ≡ Ends hs
+      → MayTake (chosen_log r (stated r) hs) r
+      → Tabled u start i ((says (choose_line (stated r) (chosen_log r (stated r) hs)) ⨾ take (chosen_log r (stated r) hs) ⨾ says (send_to_all start_view) ⨾ by (λ q. each prepare_again (ops q.commit (chosen_log r (stated r) hs).head)) ⨾ last) t r f)
+  tabled_begins last stays_last t r f y prim q hs ends may =
       let log : Log = chosen_log r (stated r) hs in
       let log_is = chosen_log_is r q (stated r) hs (all_stated r y.sound) ends in
       tabled_says_then u start i (choose_line (stated r) log) _ t r f (λ d.
       tabled_take_then u start i log _ t r d (λ d.
       tabled_says_then u start i (send_to_all start_view) _ t (with_saved (taken log r)) d (λ d.
-      tabled_prepared apply stays_apply log r y log_is may refl prim t d)))
+      tabled_prepared last stays_last log r y log_is may refl prim t d)))
+
+  tabled_begin : {F : Type 0} (t : Setting F) (r : Replica) (f : F) → Enters u start i r → is_primary r ≡ true → (q : Quorums) (hs : List Header) → choice q (stated r) ≡ Ends hs → MayTake (chosen_log r (stated r) hs) r
+      → Tabled u start i (begin_view (stated r) (chosen_log r (stated r) hs) t r f)
+  unfolding begin_view
+  tabled_begin t r f y prim q hs ends may = tabled_begins apply stays_apply t r f y prim q hs ends may
 
   tabled_quiet : {F : Type 0} (t : Setting F) (r : Replica) (f : F) → Enters u start i r → Tabled u start i (quiet t r f)
   tabled_quiet t r f y = tabled_entered u start i r (quiet t r f) (quiet_is t r f) y

@@ -8,6 +8,7 @@ pub mod Choices
 pub mod Openings
 pub mod Lone
 pub mod ChainLaws
+pub mod LoneWords
 pub mod LoneLaws
 pub mod Bridge
 pub mod RunLaws

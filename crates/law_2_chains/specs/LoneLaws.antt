@@ -15,6 +15,7 @@ use Rattle.law_2_chains.specs.Chains.{Setup, Mid, Every, AsksNothing}
 use Rattle.law_2_chains.specs.ChainLaws.{MayArrive}
 use Rattle.law_2_chains.specs.Tables.{Fits, HasTables, Tables}
 use Rattle.law_2_chains.specs.Lone.{LoneChooses, Vouched}
+use Rattle.law_2_chains.specs.LoneWords.{ticks_counting}
 
 -- In the middle of a step that has said nothing that asks something, a replica may vouch for what it has stored; and the step can go on
 -- from there.
@@ -37,3 +38,10 @@ LoneStepsAreChains F =
     (u : Setup) (start : Group Header) (i : ℕ) (t : Setting F) (r : Replica) (f : F) (l : Local) (e : Event) → Fits u → u.quorums.n ≡ 1 → Mid u start i r l start → HasTables u start i r
     → t.hash ≡ u.hash → r.cluster ≡ u.cluster → HasNames t → (0 < head r → is_some (header_at r (head r)) ≡ true) → Every AsksNothing l.said → MayArrive u start e
     → LoneChooses u start i l e r (react e t r f)
+
+-- And so is a tick at one that hasn't started its view, where its view begins with Advance in place of Apply: what is stored of the log
+-- counts at once.
+abbrev pub LoneTriesAreChains : Type 0 → Type 0
+LoneTriesAreChains F =
+    (u : Setup) (start : Group Header) (i : ℕ) (t : Setting F) (r : Replica) (f : F) (l : Local) → Fits u → u.quorums.n ≡ 1 → Mid u start i r l start → Tables u start i r → r.log_view < r.view → Every AsksNothing l.said
+    → LoneChooses u start i l event.Tick r (ticks_counting t r f)
