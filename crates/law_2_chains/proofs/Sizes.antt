@@ -1,7 +1,7 @@
 -- The quorums of each size fit.
-use Rattle.std.proofs.Common.{ℕ, zero, suc, ◌+◌, ◌≤◌, ◌<◌, ◌≡◌, arith, refl, List}
+use Rattle.std.proofs.Common.{ℕ, zero, suc, ◌+◌, ◌≤◌, ◌<◌, ◌≡◌, ◌∙◌, ◌⊎◌, inl, inr, arith, refl, sym, ap, List}
 use Rattle.std.specs.Option.{option_map_or}
-use Rattle.std.proofs.lemmas.Bool.{ne_eqb}
+use Rattle.std.proofs.lemmas.Bool.{cases_eq, cases_lt, ne_eqb}
 use Rattle.vr_base.specs.Groups.{quorums_of}
 use Rattle.vr_world.specs.Replica.{replication}
 use Rattle.law_2_chains.specs.Chains.{Setup}
@@ -49,3 +49,15 @@ several_by u fits several =
     let some = u.quorums.not_empty in
     let two = two_of u.quorums.n several (omega arith) in
     omega arith
+
+-- a group is of one or of several
+pub alone_or_several : (u : Setup) → Fits u → (u.quorums.n ≡ 1) ⊎ (2 ≤ u.quorums.n)
+alone_or_several u fits =
+    let some = u.quorums.not_empty in
+    elim (cases_lt u.quorums.n 2) [
+      | inr several ↦ inr several
+      | inl few ↦ elim (cases_eq u.quorums.n 0) [
+        | inl none ↦ let is : u.quorums.replication ≡ 0 = sym fits.replication_is ∙ ap replication none in absurd (omega arith)
+        | inr more ↦ inl (omega (arith, more))
+      ]
+    ]

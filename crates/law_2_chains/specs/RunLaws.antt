@@ -11,15 +11,15 @@ use Rattle.law_2_chains.specs.Chains.{Setup}
 use Rattle.law_2_chains.specs.Tables.{Fits}
 use Rattle.law_2_chains.specs.Bridge.{Bridges, Chained, Follows, FollowsFresh}
 
--- of a fit group of several, as every one of a run from a fresh one is, with the program's names and the quorums of its size
+-- of a fit group, as every one of a run from a fresh one is, with the program's names and the quorums of its size
 abbrev pub MovesAreChains : Type 0
 MovesAreChains =
-    (u : Setup) (g : group.Group) (s : Group Header) (move : Move) (moved : Moved) → Fits u → 2 ≤ u.quorums.n → u.hash ≡ lying.hash → IsFitGroup u.cluster g → IsFitMove move → Moves g move moved → Bridges u g s
+    (u : Setup) (g : group.Group) (s : Group Header) (move : Move) (moved : Moved) → Fits u → u.hash ≡ lying.hash → IsFitGroup u.cluster g → IsFitMove move → Moves g move moved → Bridges u g s
     → (a : Group Header) × Chained u s a (record { before = g; move = move; moved = moved })
 
 abbrev pub RunsAreChains : Type 0
 RunsAreChains =
-    (u : Setup) (g : group.Group) (s : Group Header) (run : List Played) → Fits u → 2 ≤ u.quorums.n → u.hash ≡ lying.hash → IsFitGroup u.cluster g → All (λ p. IsFitMove p.move) run → Run g run → Bridges u g s
+    (u : Setup) (g : group.Group) (s : Group Header) (run : List Played) → Fits u → u.hash ≡ lying.hash → IsFitGroup u.cluster g → All (λ p. IsFitMove p.move) run → Run g run → Bridges u g s
     → Follows u s run
 
 -- and so is every one of a group that was just made

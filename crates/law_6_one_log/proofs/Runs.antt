@@ -233,7 +233,7 @@ module _ (cluster n : ℕ) (u : Setup) (run : List Played) (x : IsFollowed clust
 
       step_told : (c : Committed) → In (output.Commit c) (outputs es) → IsBackedLine u (x.group t).sent c.entry.header
       step_told c j =
-          let y = (chain_of u x.fits (several_in cluster n u run x) x.hash_is p.before (x.group t) mine (bridges t p is) at arrival e d m r runs.member runs.running fit.0 came).chain in
+          let y = (chain_of u x.fits x.hash_is p.before (x.group t) mine (bridges t p is) (several_in cluster n u run x) at arrival e d m r runs.member runs.running fit.0 came).chain in
           let before = (begun_of u (x.group t) at es y.begun y.begins).sent in
           let all : Every (IsTrue u y.begun.sent y.finishes.after.sent) (outputs es) = subst (Every (IsTrue u y.begun.sent y.finishes.after.sent)) (leaves es (local m)).said y.finishes.ends.told in
           subst (λ s. IsBackedLine u s c.entry.header) before (every_in (IsTrue u y.begun.sent y.finishes.after.sent) (outputs es) (output.Commit c) j all)
@@ -322,7 +322,7 @@ module _ (cluster n : ℕ) (u : Setup) (run : List Played) (x : IsFollowed clust
 
       told_rest : (c : Committed) → In (output.Commit c) (outputs ys) → IsBackedLine u (x.group t).sent c.entry.header
       told_rest c j =
-          let y = opening.opens u (x.group t) at (local m) p.before.made v lying d (may_begin u x.fits (several_in cluster n u run x) x.hash_is p.before (x.group t) mine (bridges t p is) at m v d wakes fit) in
+          let y = opening.opens u (x.group t) at (local m) p.before.made v lying d (may_begin u x.fits x.hash_is p.before (x.group t) mine (bridges t p is) at m v d wakes fit) in
           let k : Local = keeping v (mended v d) (carried xs (local m)) in
           let all : Every (IsTrue u (x.group t).sent y.finishes.after.sent) (k.said ++ outputs ys) = subst (Every (IsTrue u (x.group t).sent y.finishes.after.sent)) (leaves ys k).said y.finishes.ends.told in
           every_in (IsTrue u (x.group t).sent y.finishes.after.sent) (k.said ++ outputs ys) (output.Commit c) (in_right k.said (outputs ys) (output.Commit c) j) all

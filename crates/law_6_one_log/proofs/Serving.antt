@@ -26,10 +26,10 @@ use Rattle.law_3_outputs.proofs.Fitting.{fit_at, move_of, several_in}
 use Rattle.law_3_outputs.proofs.Placing.{placed_at, step_present}
 use Rattle.law_3_outputs.proofs.Sets.{in_contains}
 
-module _ (u : Setup) (fits : Fits u) (several : 2 ≤ u.quorums.n) (hash : u.hash ≡ lying.hash) (g : group.Group) (s : Group Header) (fit : IsFitGroup u.cluster g) (bridge : Bridges u g s) where
+module _ (u : Setup) (fits : Fits u) (hash : u.hash ≡ lying.hash) (g : group.Group) (s : Group Header) (fit : IsFitGroup u.cluster g) (bridge : Bridges u g s) where
   served_now : (at : ℕ) (m : Member) (r : Replica) → Runs g at m r → IsServed u s.sent r
   served_now at m r runs =
-      let x = mid_of u fits several hash g s fit bridge at m r runs.member runs.running in
+      let x = mid_of u fits hash g s fit bridge at m r runs.member runs.running in
       let f = x.reflects in
       let order = x.sound.order in
       record {
@@ -38,10 +38,10 @@ module _ (u : Setup) (fits : Fits u) (several : 2 ≤ u.quorums.n) (hash : u.has
         backed = λ k z a. subst (λ v. (h : Header) × Backed u.quorums (entries_by u.hash u.cluster) s.sent v k h) f.log_view (counted u s at r (local m) s x k z (let c = f.commit in omega arith));
       }
 
-  stepped_now : (at : ℕ) (a : Arrival) (e : Event) (d : Lying) (m : Member) (r : Replica) → Runs g at m r → IsFitArrival a → IsArrival g at a e → IsPlaced r
+  stepped_now : 2 ≤ u.quorums.n → (at : ℕ) (a : Arrival) (e : Event) (d : Lying) (m : Member) (r : Replica) → Runs g at m r → IsFitArrival a → IsArrival g at a e → IsPlaced r
       → IsStepped u s.sent r (stepped e r d).replica (outputs (stepped e r d).script)
-  stepped_now at a e d m r runs h i placed =
-      let c = (chain_of u fits several hash g s fit bridge at a e d m r runs.member runs.running h i).chain in
+  stepped_now several at a e d m r runs h i placed =
+      let c = (chain_of u fits hash g s fit bridge several at a e d m r runs.member runs.running h i).chain in
       let x = c.finishes.ends in
       let before : c.begun.sent ≡ s.sent = (begun_of u s at (stepped e r d).script c.begun c.begins).sent in
       let f = x.reflects in
@@ -78,7 +78,7 @@ module _ (cluster n : ℕ) (u : Setup) (run : List Played) (x : IsFollowed clust
   mine t p is = subst (λ c. IsFitGroup c p.before) (sym x.cluster_is) (fit_at cluster n run x.fit t p is).0.0
 
   pub run_serves : (t at : ℕ) (p : Played) (m : Member) (r : Replica) → slice_get run t ≡ Some p → Runs p.before at m r → IsServed u (x.group t).sent r
-  run_serves t at p m r is runs = served_now u x.fits (several_in cluster n u run x) x.hash_is p.before (x.group t) (mine t p is) (bridges t p is) at m r runs
+  run_serves t at p m r is runs = served_now u x.fits x.hash_is p.before (x.group t) (mine t p is) (bridges t p is) at m r runs
 
   pub run_steps : (t at : ℕ) (arrival : Arrival) (p : Played) (e : Event) (d : Lying) (m : Member) (r : Replica) → slice_get run t ≡ Some p → p.move ≡ Steps at arrival e d → Runs p.before at m r
       → IsStepped u (x.group t).sent r (stepped e r d).replica (outputs (stepped e r d).script)
@@ -86,4 +86,4 @@ module _ (cluster n : ℕ) (u : Setup) (run : List Played) (x : IsFollowed clust
       let moves = move_of (fresh_group x.fit.kinds cluster n) run x.fit.of_run t p is in
       let i : IsArrival p.before at arrival e = subst (Arrives p.before) step (moves_arrive p.before p.move p.moved moves) in
       let h = subst IsFitMove step (fit_at cluster n run x.fit t p is).1 in
-      stepped_now u x.fits (several_in cluster n u run x) x.hash_is p.before (x.group t) (mine t p is) (bridges t p is) at arrival e d m r runs h.0 i (placed_at cluster n run x.fit t p is at m r runs)
+      stepped_now u x.fits x.hash_is p.before (x.group t) (mine t p is) (bridges t p is) (several_in cluster n u run x) at arrival e d m r runs h.0 i (placed_at cluster n run x.fit t p is at m r runs)

@@ -47,7 +47,7 @@ moved_made g x y (Moves.recovers_cut i v d n m opens) = refl
 pub bridged_fresh : (kinds : ℕ → Kind) (home n : ℕ) → home < 2 ^ 64 → 2 ≤ n → n ≤ 6 → (b : IsBridged home (fresh_group kinds home n)) × (length b.machine.made ≡ 0)
 bridged_fresh kinds home n room a b =
     let f = fresh_runs_so kinds home n [] room a b (All-nil (λ (p : Played). IsFitMove p.move)) (Run.ended (fresh_group kinds home n)) in (
-      record { setup = f.setup; fits = f.fits; several = (let size = f.size_is in omega arith); hash_is = f.hash_is; cluster_is = f.cluster_is; machine = f.first; bridges = f.bridges; made = λ x i. absurd (subst (In x) f.none_made i) },
+      record { setup = f.setup; fits = f.fits; hash_is = f.hash_is; cluster_is = f.cluster_is; machine = f.first; bridges = f.bridges; made = λ x i. absurd (subst (In x) f.none_made i) },
       ap length f.none_made,
     )
 
@@ -56,11 +56,10 @@ pub bridged_moved : {home : ℕ} (g : group.Group) (x : Move) (y : Moved) (b : I
 bridged_moved g x y b fit well move =
     let p : Played = record { before = g; move = x; moved = y } in
     let all : All (λ (p : Played). IsFitMove p.move) (p ∷ []) = All-cons (λ (p : Played). IsFitMove p.move) p [] well (All-nil (λ (p : Played). IsFitMove p.move)) in
-    let f = runs_so b.setup b.fits b.several b.hash_is g b.machine (p ∷ []) (subst (λ (c : ℕ). IsFitGroup c g) (sym b.cluster_is) fit) all (Run.goes g x y [] move (Run.ended y.group)) b.bridges in (
+    let f = runs_so b.setup b.fits b.hash_is g b.machine (p ∷ []) (subst (λ (c : ℕ). IsFitGroup c g) (sym b.cluster_is) fit) all (Run.goes g x y [] move (Run.ended y.group)) b.bridges in (
       record {
         setup = b.setup;
         fits = b.fits;
-        several = b.several;
         hash_is = b.hash_is;
         cluster_is = b.cluster_is;
         machine = f.0;

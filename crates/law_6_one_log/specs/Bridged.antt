@@ -1,5 +1,5 @@
 -- What a run of the group has of the machine: each entry that was made there was begun to be written. And the run that led to a group.
-use Rattle.std.specs.Prelude.{ℕ, ◌+◌, ◌*◌, ◌<◌, ◌≤◌, ◌≡◌, List}
+use Rattle.std.specs.Prelude.{ℕ, ◌+◌, ◌*◌, ◌<◌, ◌≡◌, List}
 use Rattle.std.specs.List.{AllByRecursion}
 use Rattle.vr_header.specs.declared.header.Header.{Header}
 use Rattle.vr_base.specs.Bytes.{IsBytes, piece}
@@ -20,7 +20,6 @@ use Rattle.law_4_disks.specs.Worlds.{left}
 pub record IsBridged (cluster : ℕ) (g : group.Group) : Type 0 where
   pub setup : Setup
   pub fits : Fits setup
-  pub several : 2 ≤ setup.quorums.n
   pub hash_is : setup.hash ≡ lying.hash
   pub cluster_is : setup.cluster ≡ cluster
   pub machine : Group Header
