@@ -1,0 +1,14 @@
+pub mod Entries
+pub mod Steps
+pub mod Disks
+pub mod Lines
+pub mod Path
+pub mod Changes
+pub mod Found
+pub mod Starts
+pub mod Formatted
+pub mod Stored
+pub mod Struck
+pub mod Lost
+pub mod Waits
+pub mod Denied

@@ -1,0 +1,2 @@
+//! Rows whose names are computed.
+#![tactic(auto)]
