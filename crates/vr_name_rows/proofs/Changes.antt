@@ -1,23 +1,23 @@
 -- What the steps of a view change are, of a group one of whose members can't tell whether it had an entry.
-use Rattle.std.proofs.Common.{ℕ, ◌+◌, ◌≡◌, List, [], ◌∷◌, ◌++◌, map, Option, Some, None, replicate, refl, true, false}
+use Rattle.std.proofs.Common.{ℕ, ◌≡◌, List, [], ◌∷◌, map, Some, None, replicate, refl}
 use Rattle.vr_base.specs.Bytes.{sha256, first_words, schedule, rounds, compress, hash_after, digest_bytes, bytes16, bytes32, bytes64, name_of}
 use Rattle.vr_base.specs.Kinds.{strict}
 use Rattle.vr_base.specs.Replicas.{no_replicas, with_replica}
 use Rattle.vr_header.specs.Bodies.{operation_bytes}
 use Rattle.vr_header.specs.Same.{same_header}
 use Rattle.vr_header.specs.Spelling.{named_bytes}
-use Rattle.vr_header.specs.declared.part.Part.TheVariants.{Here, Lost, Nothing, Unknown}
+use Rattle.vr_header.specs.declared.part.Part.TheVariants.{Lost, Nothing, Unknown}
 use Rattle.vr_msg.specs.Choice.{choice, named_by, row_end, log_headers}
 use Rattle.vr_msg.specs.declared.event.Event.TheVariants as event
-use Rattle.vr_rules.specs.Replica.{Replica, part_at, head, run, statement_of, forgetting, with_part}
+use Rattle.vr_rules.specs.Replica.{Replica, part_at, head, run, statement_of, forgetting}
 use Rattle.vr_rules.specs.Deciding.{first_of}
 use Rattle.vr_rules.specs.Steps.{Effect, Save, Say, Step, ◌⨾◌, quiet, change, does, says, by, naming, reading, times, each, after_all}
-use Rattle.vr_rules.specs.Outputs.{send_to_all, send, start_view_change, do_view_change, start_view, wait_line}
-use Rattle.vr_rules.specs.Words.{value_of, save, entered, enter, with_entry_at, apply, is_chain_from, may_take, taken_part, taken, take, prepare_again, stated, begin_view, try_log, try, speak, ask, visit, visit_slot, visit_place, no_ackers, no_statements}
+use Rattle.vr_rules.specs.Outputs.{send_to_all, send, start_view_change, do_view_change, wait_line}
+use Rattle.vr_rules.specs.Words.{value_of, save, entered, enter, with_entry_at, apply, is_chain_from, may_take, taken_part, taken, take, prepare_again, stated, begin_view, try_log, try, speak, ask, visit, visit_slot, visit_place}
 use Rattle.vr_rules.specs.Rules as rules
 use Rattle.vr_rules.specs.Opening.{blank, fresh}
 use Rattle.vr_world.specs.Lying.{Lying, lying}
-use Rattle.vr_name_rows.proofs.Entries.{first, first_header, first_name}
+use Rattle.vr_name_rows.proofs.Entries.{first_header}
 use Rattle.vr_name_rows.proofs.Steps.{b0, p1}
 
 -- ---- the backup that lost both places, and counts ticks

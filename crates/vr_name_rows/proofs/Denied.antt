@@ -1,13 +1,11 @@
 -- An acknowledged entry isn't denied: what the lines of that row hash, and that the names of it don't collide.
-use Rattle.std.proofs.Common.{ℕ, ◌≡◌, ◌⊎◌, arith, inl, inr, refl, sym, ap, ◌∙◌, subst, List, [], ◌∷◌, ◌++◌, map, drop, Option, Some, None}
+use Rattle.std.proofs.Common.{ℕ, ◌≡◌, ◌⊎◌, inl, inr, refl, sym, ap, ◌∙◌, subst, List, [], map, drop, Option, Some, None}
 use Rattle.std.specs.Prelude.{Contains, slice_get}
 use Rattle.std.specs.List.{AllByRecursion}
 use Rattle.std.specs.Option.{option_map}
 use Rattle.vr_base.specs.Bytes.{sha256, first_words, schedule, rounds, compress, hash_after, digest_bytes, bytes16, bytes32, bytes64, name_of}
 use Rattle.vr_base.specs.Kinds.{strict}
 use Rattle.vr_header.specs.Bodies.{operation_bytes}
-use Rattle.vr_header.specs.Made.{Whole}
-use Rattle.vr_header.specs.Names.{root_header}
 use Rattle.vr_header.specs.NoCollision.{NoCollision}
 use Rattle.vr_header.specs.Same.{same_header}
 use Rattle.vr_header.specs.Spelling.{named_bytes}
@@ -17,8 +15,8 @@ use Rattle.vr_msg.specs.declared.event.Event.TheVariants as event
 use Rattle.vr_lie.specs.declared.fault.Fault.TheVariants.{Damage}
 use Rattle.vr_rules.specs.Deciding.{first_of}
 use Rattle.vr_rules.specs.Replica.{Replica, forgetting, head, part_at, run, statement_of}
-use Rattle.vr_rules.specs.Outputs.{do_view_change, prepare, prepare_ok, send, send_to_all, start_line, start_view_change, wait_line}
-use Rattle.vr_rules.specs.Steps.{Effect, Say, Step, ◌⨾◌, after_all, by, change, does, each, naming, quiet, reading, says, times}
+use Rattle.vr_rules.specs.Outputs.{do_view_change, prepare, prepare_ok, send, send_to_all, start_view_change, wait_line}
+use Rattle.vr_rules.specs.Steps.{Effect, Say, Step, ◌⨾◌, after_all, by, change, does, each, naming, quiet, says, times}
 use Rattle.vr_rules.specs.Words as words
 use Rattle.vr_rules.specs.Rules as rules
 use Rattle.vr_rules.specs.Rules.{react}
@@ -29,13 +27,15 @@ use Rattle.law_4_disks.specs.Naming.{IsHashedAfter}
 use Rattle.law_4_disks.specs.Worlds.{IsHashedAt, Work, begun_of, opening_as, read_of, work_of}
 use Rattle.law_6_one_log.specs.Schedules.{IsHashed, IsUsedAt}
 use Rattle.law_6_one_log.proofs.Names.{contains_none}
-use Rattle.vr_name_rows.specs.Rows.{acknowledged, registers}
+use Rattle.vr_name_rows.proofs.Happenings.{acknowledged, registers}
 use Rattle.vr_name_rows.proofs.Changes.{a0, a1, c0, c1, changes_0, changes_2, chooses, enters_1, enters_2, m0, m1, m2, m3, ticks_0, ticks_1, ticks_2, ticks_3, ticks_4, waiting, waits_1}
 use Rattle.vr_name_rows.proofs.Disks.{IsOf, Plain, plain_all}
-use Rattle.vr_name_rows.proofs.Entries.{first, first_header, first_named, register_named, root_named}
+use Rattle.vr_name_rows.proofs.Entries.{first, first_header}
 use Rattle.vr_name_rows.proofs.Lines.{Hashes, HashesAt, IsText, blank_disk, blank_plain, header, host, line_text, none_left, operation, root, then_lines}
 use Rattle.vr_name_rows.proofs.Lost.{Half, Lost, fault_text, half_slot, halved, lost, once, reads_once, reads_twice, twice}
-use Rattle.vr_name_rows.proofs.Path.{begins, by_name, first_taken, goes_0, goes_1, quiet_host, sent_1, sent_2}
+use Rattle.vr_name_rows.proofs.Path.{begins, goes_0, goes_1, quiet_host, sent_1, sent_2}
+use Rattle.vr_name_rows.proofs.Names.{both, tells_apart}
+use Rattle.vr_name_rows.proofs.Taken.{first_taken}
 use Rattle.vr_name_rows.proofs.Starts.{but_first, kept_slot, lost_slot, starts_0, starts_1, wakes_0, wakes_1}
 use Rattle.vr_name_rows.proofs.Found.{value}
 use Rattle.vr_name_rows.proofs.Steps.{b0, b1, makes, p0, p1, step_0, step_1, stores}
@@ -215,12 +215,12 @@ hashed =
     let h0 : Hashes one w0 xs = then_lines one w0 w1 (Asks 0 registers) (drop 1 xs) (goes_0 (blank_disk 0) (host b0 (blank_disk 1))) (step_line w0 (Asks 0 registers) (event.Request registers) p0 p1 (blank_disk 0) (makes first p1) refl (step_0 (blank_disk 0)) (blank_plain one).0 makes_one) h1 in
     subst (λ (w : World Lying). Hashes one w xs) (sym begins) h0
 
-known : (b : List ℕ) → IsText one b → by_name (name_of b) ≡ b
-known _ root = ap by_name root_named
-known _ (header e (inl i)) = subst (λ (x : Whole). by_name (name_of (named_bytes x.header)) ≡ named_bytes x.header) (sym i) (ap by_name first_named)
-known _ (header e (inr i)) = absurd i
-known _ (operation e (inl i)) = subst (λ (x : Whole). by_name (name_of (operation_bytes x.operation)) ≡ operation_bytes x.operation) (sym i) (ap by_name register_named)
-known _ (operation e (inr i)) = absurd i
+also : (b : List ℕ) → IsText one b → IsText both b
+also _ root = root
+also _ (header e (inl i)) = header e (inl i)
+also _ (header e (inr i)) = absurd i
+also _ (operation e (inl i)) = operation e (inl i)
+also _ (operation e (inr i)) = absurd i
 
 pub acknowledged_never : NoCollision (IsHashed (fresh_world hazards strict 3) acknowledged)
-acknowledged_never a b p q same = sym (known a (hashed a p)) ∙ (ap by_name same ∙ known b (hashed b q))
+acknowledged_never = tells_apart (IsHashed (fresh_world hazards strict 3) acknowledged) (λ b h. also b (hashed b h))

@@ -1,11 +1,10 @@
 -- Disks on which no block reads, and no entry but those of a list.
-use Rattle.std.proofs.Common.{ℕ, ◌+◌, ◌*◌, ◌≤◌, ◌<◌, ◌≡◌, ◌≢◌, ◌⊎◌, inl, inr, arith, refl, sym, ap, ◌∙◌, subst, Bool, true, false, cond, List, [], ◌∷◌, ◌++◌, length, take, Option, Some, None}
+use Rattle.std.proofs.Common.{ℕ, ◌+◌, ◌*◌, ◌≤◌, ◌<◌, ◌≡◌, ◌≢◌, ◌⊎◌, inl, inr, arith, sym, ap, ◌∙◌, subst, Bool, true, false, cond, List, [], ◌∷◌, ◌++◌, length, take, Some}
 use Rattle.std.specs.Prelude.{⊤}
 use Rattle.std.specs.List.{AllByRecursion}
 use Rattle.std.specs.Option.{option_and_then, option_map}
 use Rattle.std.proofs.lemmas.Bool.{cases_eq, cases_lt}
 use Rattle.std.proofs.lemmas.Nat.{mod_below}
-use Rattle.vr_base.specs.Kinds.{strict}
 use Rattle.vr_disk.specs.DiskState as disk
 use Rattle.vr_disk.specs.DiskState.{Call, Face, IsFace, Sync}
 use Rattle.vr_disk.specs.Regions.{prepare_place, sectors}
@@ -23,11 +22,8 @@ use Rattle.vr_ckpt.specs.Grid.{named_at}
 use Rattle.vr_ckpt.specs.declared.name.Name.{Name}
 use Rattle.vr_rules.specs.Steps.{Effect, Write, Rewrite, Save, Mend, Checkpoint, PutBlock, Say, after_all}
 use Rattle.vr_rules.proofs.FitDisks.{header_spares, mend_spares, prepare_spares, same_entry, save_spares}
-use Rattle.vr_world.specs.Lying.{Lying, hazards, lying}
-use Rattle.vr_world.specs.World.{fresh_host}
-use Rattle.vr_world.specs.Safe as safe
+use Rattle.vr_world.specs.Lying.{Lying, lying}
 use Rattle.law_1_machine.specs.Basics.{In}
-use Rattle.law_6_one_log.proofs.Blank.{reads_nothing}
 use Rattle.law_6_one_log.proofs.Disks.{beside_same}
 
 pub record Plain (entries : List Whole) (d : Lying) : Type 0 where

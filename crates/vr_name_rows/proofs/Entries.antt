@@ -1,7 +1,6 @@
 -- The entries of the rows, byte for byte, and the names of their texts, computed.
 use Rattle.std.proofs.Common.{ℕ, ◌≡◌, List, [], ◌∷◌, codes, refl}
 use Rattle.vr_base.specs.Bytes.{sha256, first_words, schedule, rounds, compress, hash_after, digest_bytes, bytes16, bytes32, bytes64, name_of}
-use Rattle.vr_base.specs.Kinds.{strict}
 use Rattle.vr_header.specs.Bodies.{operation_bytes}
 use Rattle.vr_header.specs.Made.{Whole}
 use Rattle.vr_header.specs.Names.{root_header, request_header}
@@ -102,4 +101,3 @@ asks_put_named = refl
 pub second_named : name_of (named_bytes second_header) ≡ second_name
 unfolding operation_bytes named_bytes bytes16 bytes32 bytes64 name_of sha256 first_words schedule rounds compress hash_after digest_bytes
 second_named = refl
-

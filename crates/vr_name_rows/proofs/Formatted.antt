@@ -1,31 +1,29 @@
 -- A disk that was just formatted: what its slots read as, that they hold nothing, and what it opens as; and once an entry was written.
-use Rattle.std.proofs.Common.{ℕ, zero, suc, ◌+◌, ◌*◌, ◌≤◌, ◌<◌, ◌≡◌, ◌≢◌, ◌∙◌, ◌⊎◌, inl, inr, arith, refl, sym, ap, subst, true, false, cond, List, [], ◌∷◌, ◌++◌, length, map, replicate, get_or, Option, Some, None, get_or-set_same}
+use Rattle.std.proofs.Common.{ℕ, zero, suc, ◌+◌, ◌≤◌, ◌<◌, ◌≡◌, ◌∙◌, inl, inr, arith, refl, sym, ap, subst, true, false, List, [], ◌∷◌, ◌++◌, length, map, Option, Some, None}
 use Rattle.std.specs.Prelude.{is_some}
 use Rattle.std.specs.List.{AllByRecursion, range_with_len}
-use Rattle.std.specs.Option.{option_and_then, option_map}
-use Rattle.std.proofs.lemmas.Bool.{cases_eq, cases_lt}
+use Rattle.std.specs.Option.{option_and_then}
+use Rattle.std.proofs.lemmas.Bool.{cases_eq}
 use Rattle.std.proofs.lemmas.List.{get_or-replicate, length-replicate}
 use Rattle.vr_base.specs.Kinds.{strict}
 use Rattle.vr_base.specs.Bytes.{is_zeros}
-use Rattle.vr_base.specs.declared.mode.Mode.TheVariants.{Strict}
-use Rattle.vr_disk.specs.DiskState.{Call, Cell, Face, IsFace, Sync, Write, after, after_all, cell, reads}
-use Rattle.vr_disk.specs.Regions.{header_place, prepare_place, prepare_sectors, sectors}
-use Rattle.vr_disk.specs.Sectors.{behind, together}
+use Rattle.vr_disk.specs.DiskState.{Call, Cell, Face, Sync, Write, after, after_all, reads}
+use Rattle.vr_disk.specs.Regions.{header_place, prepare_place, sectors}
+use Rattle.vr_disk.specs.Sectors.{together}
 use Rattle.vr_disk.specs.Stops.{Spares, WritesOnly}
 use Rattle.vr_disk.proofs.Frames.{frame_all, reads_back, reads_other}
 use Rattle.vr_disk.proofs.Together.{after_all_append, length_after_all, only_append, spares_append}
 use Rattle.vr_super.specs.Calls.{save_from}
 use Rattle.vr_super.specs.Copies.{copy_bytes}
-use Rattle.vr_super.specs.Opens.{opens}
-use Rattle.vr_rings.specs.Held.{entry_of_both, entry_read, found, held_after, held_after_all, is_prepare, kept, looked}
-use Rattle.vr_rings.specs.Slots.{header_in, header_of, header_reading, padded, prepare_reading, sector_of, whole_in, whole_of}
+use Rattle.vr_rings.specs.Held.{entry_read, found, held_after, held_after_all}
+use Rattle.vr_rings.specs.Slots.{header_in, header_of, header_reading, padded, prepare_reading, sector_of, whole_of}
 use Rattle.vr_rings.proofs.Spelling.{header_again, zeros_none}
 use Rattle.vr_rings.proofs.Standing.{both_is, both_whole}
 use Rattle.vr_lie.specs.Faults.{held_at}
 use Rattle.vr_rules.specs.Formatting.{format_calls, reserved_header, reserved_headers, zero_prepares, zero_sector}
 use Rattle.vr_rules.specs.Opening.{first_value}
 use Rattle.vr_rules.proofs.FitDisks.{save_spares}
-use Rattle.vr_world.specs.Lying.{Lying, each_slot, zero_cell, zero_face}
+use Rattle.vr_world.specs.Lying.{each_slot, zero_cell, zero_face}
 use Rattle.law_4_disks.proofs.Calls.{reserved_is}
 use Rattle.law_4_disks.proofs.Effects.{at_slot}
 

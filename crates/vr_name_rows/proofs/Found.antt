@@ -1,13 +1,11 @@
 -- What an opening of a strict file finds, by what its slots read as.
-use Rattle.std.proofs.Common.{ℕ, zero, suc, ◌+◌, ◌%◌, ◌≤◌, ◌<◌, ◌≡◌, ◌&&◌, arith, refl, sym, ap, ◌∙◌, subst, Bool, true, false, cond, eqb, List, [], ◌∷◌, ◌++◌, replicate, Option, Some, None}
+use Rattle.std.proofs.Common.{ℕ, zero, suc, ◌+◌, ◌%◌, ◌<◌, ◌≡◌, ◌&&◌, arith, refl, sym, ap, ◌∙◌, Bool, true, false, List, [], ◌∷◌, ◌++◌, Option, Some, None}
 use Rattle.std.specs.List.{AllByRecursion, range_with_len}
 use Rattle.std.specs.Option.{option_and_then, option_map}
 use Rattle.std.proofs.lemmas.Bool.{and_parts}
 use Rattle.std.proofs.lemmas.Nat.{mod_below}
 use Rattle.vr_base.specs.declared.mode.Mode.TheVariants.{Strict}
 use Rattle.vr_base.specs.Kinds.{strict}
-use Rattle.vr_header.specs.Made.{Whole}
-use Rattle.vr_header.specs.declared.header.Header.{Header}
 use Rattle.vr_disk.specs.DiskState as disk
 use Rattle.vr_disk.specs.DiskState.{Face}
 use Rattle.vr_disk.specs.Regions.{header_place}
@@ -22,10 +20,9 @@ use Rattle.vr_super.specs.Calls.{mend_calls}
 use Rattle.vr_super.specs.Opens.{opens}
 use Rattle.vr_rings.specs.Slots.{header_in, whole_in}
 use Rattle.vr_rules.specs.Replica.{Replica, forgetting, with_part}
-use Rattle.vr_rules.specs.Steps.{Mend, Setting, Step, Word, ◌⨾◌, quiet, change, does, says, by, reading, when, each, after_all}
+use Rattle.vr_rules.specs.Steps.{Mend, Setting, Step, ◌⨾◌, quiet, change, does, reading, each, after_all}
 use Rattle.vr_rules.specs.Sectors.{runnable}
 use Rattle.vr_rules.specs.Opening.{Slot, blank, clouded, entry_fits, first_value, header_kind, is_listed, kind_of, mend_slot, opened, opening, part_by, recover_old, recover_op, recover_parts, old_headers, resuming, slot_at, slot_verdict}
-use Rattle.vr_rules.specs.Formatting.{reserved_header}
 use Rattle.vr_rules.proofs.FitDisks.{mend_spares, same_header}
 use Rattle.vr_world.specs.Lying.{Lying, lying}
 use Rattle.vr_name_rows.proofs.Disks.{mend_apart}

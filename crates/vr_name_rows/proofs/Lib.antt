@@ -1,7 +1,10 @@
+pub mod Happenings
 pub mod Entries
-pub mod Steps
 pub mod Disks
+pub mod Taken
 pub mod Lines
+pub mod Names
+pub mod Steps
 pub mod Path
 pub mod Changes
 pub mod Found
@@ -12,3 +15,4 @@ pub mod Struck
 pub mod Lost
 pub mod Waits
 pub mod Denied
+pub mod Both

@@ -1,5 +1,5 @@
 -- What the lines of a schedule hash, whose disks read as no block, and as no entry but those of a list.
-use Rattle.std.proofs.Common.{ℕ, ◌≡◌, ◌⊎◌, arith, inl, inr, refl, sym, ap, ◌∙◌, subst, List, [], ◌∷◌, Option, Some, None}
+use Rattle.std.proofs.Common.{ℕ, ◌≡◌, ◌⊎◌, arith, inl, inr, refl, sym, ◌∙◌, subst, List, [], ◌∷◌, Option, Some, None}
 use Rattle.std.specs.Prelude.{Contains, slice_get}
 use Rattle.std.specs.List.{AllByRecursion}
 use Rattle.vr_base.specs.Kinds.{strict}
@@ -8,19 +8,16 @@ use Rattle.vr_header.specs.Bodies.{operation_bytes}
 use Rattle.vr_header.specs.Made.{Whole}
 use Rattle.vr_header.specs.Names.{root_header}
 use Rattle.vr_header.specs.Spelling.{named_bytes}
-use Rattle.vr_msg.specs.declared.event.Event.{Event}
-use Rattle.vr_msg.specs.declared.output.Sent.{Sent}
 use Rattle.vr_rules.specs.Replica.{Replica}
 use Rattle.vr_rules.specs.Steps.{Effect}
-use Rattle.vr_rules.specs.Rules.{react}
 use Rattle.vr_rules.specs.Opening.{fresh}
-use Rattle.vr_world.specs.Lying.{Lying, hazards, lying}
+use Rattle.vr_world.specs.Lying.{Lying, hazards}
 use Rattle.vr_world.specs.Group.{fresh_group}
 use Rattle.vr_world.specs.World.{Happening, Host, World, fresh_host, fresh_world, happens}
 use Rattle.vr_world.specs.Safe as safe
 use Rattle.vr_world.specs.Safe.{IsRead, IsWritten}
 use Rattle.law_1_machine.specs.Basics.{In}
-use Rattle.law_4_disks.specs.Worlds.{AreBeside, IsHashedAt, IsHashedCut, Work, begun_by, begun_in, begun_of, read_in, read_of, stepping, work_of}
+use Rattle.law_4_disks.specs.Worlds.{AreBeside, IsHashedAt, IsHashedCut, Work, begun_by, begun_of, read_of, work_of}
 use Rattle.law_4_disks.proofs.Fresh.{fresh_beside, schedules_begin}
 use Rattle.law_6_one_log.specs.Schedules.{IsHashedOf, IsUsedAt}
 use Rattle.law_6_one_log.proofs.Blank.{reads_nothing}

@@ -1,18 +1,15 @@
 -- A disk on which both places of the first entry were damaged, one after the other.
-use Rattle.std.proofs.Common.{ℕ, ◌<◌, ◌≡◌, ◌≢◌, ◌⊎◌, inl, inr, arith, refl, sym, ap, ◌∙◌, subst, Bool, true, false, cond, eqb, List, [], ◌∷◌, length, Option, Some, None}
+use Rattle.std.proofs.Common.{ℕ, ◌<◌, ◌≡◌, ◌≢◌, inl, inr, arith, refl, sym, ap, ◌∙◌, subst, true, false, eqb, List, Option, Some, None}
 use Rattle.std.specs.Prelude.{is_some}
 use Rattle.std.specs.Option.{option_and_then}
 use Rattle.std.proofs.lemmas.Bool.{cases_eq, ne_eqb}
 use Rattle.vr_base.specs.Bytes.{piece}
 use Rattle.vr_disk.specs.DiskState.{Cell, Face, IsFace, cell, damaged}
-use Rattle.vr_disk.specs.Regions.{sectors}
-use Rattle.vr_header.specs.Bodies.{operation_bytes}
 use Rattle.vr_header.specs.Made.{Whole}
-use Rattle.vr_mem.specs.Lies.{lied}
 use Rattle.vr_super.specs.Copies.{SuperValue}
 use Rattle.vr_super.specs.Opens.{opens}
-use Rattle.vr_rings.specs.Held.{entry_read, is_prepare, looked}
-use Rattle.vr_rings.specs.Slots.{IsWhole, header_in, header_of, header_reading, prepare_bytes, prepare_reading, whole_in, whole_of}
+use Rattle.vr_rings.specs.Held.{looked}
+use Rattle.vr_rings.specs.Slots.{header_in, header_of, header_reading, prepare_bytes, prepare_reading, whole_in, whole_of}
 use Rattle.vr_rings.proofs.Spelling.{whole_again}
 use Rattle.vr_rings.proofs.Standing.{both_is, both_whole, look_cases}
 use Rattle.vr_lie.specs.declared.fault.Fault.TheVariants.{Damage}
@@ -29,8 +26,8 @@ use Rattle.vr_name_rows.proofs.Disks.{Plain}
 use Rattle.vr_name_rows.proofs.Entries.{first}
 use Rattle.vr_name_rows.proofs.Found.{Looks, look}
 use Rattle.vr_name_rows.proofs.Lines.{IsText, operation}
-use Rattle.vr_name_rows.proofs.Path.{first_taken}
-use Rattle.vr_name_rows.proofs.Starts.{but_first, kept_slot, lost_slot, reserved}
+use Rattle.vr_name_rows.proofs.Taken.{first_taken}
+use Rattle.vr_name_rows.proofs.Starts.{but_first, kept_slot, lost_slot}
 use Rattle.vr_name_rows.proofs.Stored.{Sits, one}
 use Rattle.vr_name_rows.proofs.Struck.{IsGone, IsPlace, gone_148, gone_81, gone_header, lied_named, lied_opens, lost_prepare, other_header, struck, whole_81, whole_other}
 

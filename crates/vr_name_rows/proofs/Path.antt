@@ -1,104 +1,31 @@
 -- The plain path: what its lines hash, and that the names of it don't collide.
-use Rattle.std.proofs.Common.{ℕ, ◌+◌, ◌≡◌, ◌≢◌, arith, inl, inr, refl, sym, ap, ◌∙◌, subst, eqb, cond, false, List, [], ◌∷◌, ◌++◌, map, drop, codes, get_or, Option, Some, None}
+use Rattle.std.proofs.Common.{ℕ, ◌≡◌, arith, inl, inr, refl, sym, ap, ◌∙◌, subst, false, List, [], ◌∷◌, ◌++◌, map, drop, Some}
 use Rattle.std.specs.List.{AllByRecursion}
-use Rattle.vr_base.specs.Bytes.{IsBytes, bytes16, name_of}
+use Rattle.vr_base.specs.Bytes.{name_of}
 use Rattle.vr_base.specs.Kinds.{strict}
-use Rattle.vr_base.proofs.AreBytes.{IsBytes-name_of}
-use Rattle.vr_header.specs.Bodies.{operation_bytes}
 use Rattle.vr_header.specs.Made.{Whole}
-use Rattle.vr_header.specs.Names.{root_header}
 use Rattle.vr_header.specs.NoCollision.{NoCollision}
-use Rattle.vr_header.specs.Spelling.{named_bytes}
-use Rattle.vr_header.specs.Text.{is_text}
-use Rattle.vr_header.specs.declared.operation.Operation.TheVariants.{Register, Put}
 use Rattle.vr_msg.specs.declared.event.Event.TheVariants as event
 use Rattle.vr_msg.specs.declared.output.Sent.{Sent}
-use Rattle.vr_rings.specs.Slots.{IsWhole}
 use Rattle.vr_state.specs.Folds as state
 use Rattle.vr_state.specs.Sessions as sess
 use Rattle.vr_rules.specs.Replica.{Replica}
 use Rattle.vr_rules.specs.Outputs.{messages, prepare, prepare_ok, commit_line}
-use Rattle.vr_rules.specs.Steps.{Effect, Say, Step, after_all, outputs}
+use Rattle.vr_rules.specs.Steps.{Say, Step, after_all, outputs}
 use Rattle.vr_rules.specs.Rules.{react}
 use Rattle.vr_rules.specs.Opening.{blank, fresh}
 use Rattle.vr_world.specs.Lying.{Lying, hazards, lying}
 use Rattle.vr_world.specs.World.{Arrives, Asks, Host, World, at_member, fresh_world, happens}
-use Rattle.law_4_disks.specs.Worlds.{Work, work_of}
 use Rattle.law_6_one_log.specs.Schedules.{IsHashed}
-use Rattle.vr_name_rows.specs.Rows.{plain, registers, puts}
-use Rattle.vr_name_rows.proofs.Disks.{IsOf, IsTaken, Plain, plain_all, written_apart, written_there}
-use Rattle.vr_name_rows.proofs.Entries.{first, first_header, first_name, first_named, put_name, put_named, register_name, register_named, root_name, root_named, second, second_header, second_name, second_named, asks_register, asks_put, asks_register_named, asks_put_named}
-use Rattle.vr_name_rows.proofs.Lines.{Hashes, IsText, blank_disk, blank_plain, header, host, line_text, none_left, operation, root, then_lines, HashesAt}
-use Rattle.vr_name_rows.proofs.Steps.{answers, b0, b1, b2, b2c, b3, makes, p0, p1, p1c, p2, p3, p3c, p4, step_0, step_1, step_2, step_3, step_4, step_5, stores, stores_second}
-
--- ---- both entries are whole
-
-pub first_taken : IsTaken first
-unfolding operation_bytes
-first_taken = record {
-  whole = record {
-    entry = record {
-      header = record { command = refl; size = (omega arith, omega arith); view = omega arith; op = (omega arith, omega arith); commit = refl; replica = refl; kind = refl; aux = refl };
-      body = record { name = sym register_named; size = refl; first = (λ e. refl, λ e. refl); fits = tt };
-    };
-    header = record {
-      body = refl;
-      body_bytes = subst IsBytes register_named (IsBytes-name_of _);
-      parent = refl;
-      parent_bytes = subst IsBytes root_named (IsBytes-name_of _);
-      request_name = refl;
-      request_name_bytes = subst IsBytes asks_register_named (IsBytes-name_of _);
-      cluster = omega arith;
-      client = omega arith;
-      request = omega arith;
-      view = omega arith;
-      op = omega arith;
-      commit = omega arith;
-      size = (omega arith, omega arith);
-      replica = omega arith;
-      version = (omega arith, omega arith);
-      kind = omega arith;
-      aux = omega arith;
-    };
-  };
-  takes = record { most = omega arith; taken = omega arith };
-}
-
-pub second_taken : IsTaken second
-unfolding operation_bytes is_text bytes16
-second_taken = record {
-  whole = record {
-    entry = record {
-      header = record { command = refl; size = (omega arith, omega arith); view = omega arith; op = (omega arith, omega arith); commit = refl; replica = refl; kind = refl; aux = refl };
-      body = record { name = sym put_named; size = refl; first = (λ e. absurd cc, λ e. absurd (omega (arith, e))); fits = (refl, refl) };
-    };
-    header = record {
-      body = refl;
-      body_bytes = subst IsBytes put_named (IsBytes-name_of _);
-      parent = refl;
-      parent_bytes = subst IsBytes first_named (IsBytes-name_of _);
-      request_name = refl;
-      request_name_bytes = subst IsBytes asks_put_named (IsBytes-name_of _);
-      cluster = omega arith;
-      client = omega arith;
-      request = omega arith;
-      view = omega arith;
-      op = omega arith;
-      commit = omega arith;
-      size = (omega arith, omega arith);
-      replica = omega arith;
-      version = (omega arith, omega arith);
-      kind = omega arith;
-      aux = omega arith;
-    };
-  };
-  takes = record { most = omega arith; taken = omega arith };
-}
+use Rattle.vr_name_rows.proofs.Happenings.{plain, registers, puts}
+use Rattle.vr_name_rows.proofs.Disks.{IsOf, Plain, plain_all, written_apart, written_there}
+use Rattle.vr_name_rows.proofs.Entries.{first, first_header, second, second_header}
+use Rattle.vr_name_rows.proofs.Lines.{Hashes, IsText, blank_disk, blank_plain, host, line_text, none_left, then_lines, HashesAt}
+use Rattle.vr_name_rows.proofs.Names.{both, tells_apart}
+use Rattle.vr_name_rows.proofs.Taken.{first_taken, second_taken}
+use Rattle.vr_name_rows.proofs.Steps.{answers, b0, b1, b2, b2c, b3, makes, p0, p1, p1c, p2, p3, p3c, step_0, step_1, step_2, step_3, step_4, step_5, stores, stores_second}
 
 -- ---- the worlds
-
-abbrev both : List Whole
-both = first ∷ second ∷ []
 
 -- the backup that hears nothing
 abbrev pub quiet_host : Host Lying
@@ -263,27 +190,5 @@ hashed =
     let h0 : Hashes both w0 plain = then_lines both w0 world_1 (Asks 0 registers) (drop 1 plain) (goes_0 x0 (host b0 y0)) (line_0 x0 (host b0 y0) plain_x0) h1 in
     subst (λ (w : World Lying). Hashes both w plain) (sym begins) h0
 
--- ---- the names, computed, are of one text each: by their first bytes
-
-abbrev pub text_by : ℕ → List ℕ
-text_by k =
-    cond (eqb k 138) (named_bytes (root_header 0))
-    (cond (eqb k 130) (named_bytes first_header)
-    (cond (eqb k 75) (operation_bytes Register)
-    (cond (eqb k 247) (named_bytes second_header)
-    (operation_bytes (Put (codes "a") (codes "b"))))))
-
-abbrev pub by_name : List ℕ → List ℕ
-by_name name = text_by (get_or name 0 0)
-
-known : (b : List ℕ) → IsText both b → by_name (name_of b) ≡ b
-known _ root = ap by_name root_named
-known _ (header e (inl i)) = subst (λ (x : Whole). by_name (name_of (named_bytes x.header)) ≡ named_bytes x.header) (sym i) (ap by_name first_named)
-known _ (header e (inr (inl i))) = subst (λ (x : Whole). by_name (name_of (named_bytes x.header)) ≡ named_bytes x.header) (sym i) (ap by_name second_named)
-known _ (header e (inr (inr i))) = absurd i
-known _ (operation e (inl i)) = subst (λ (x : Whole). by_name (name_of (operation_bytes x.operation)) ≡ operation_bytes x.operation) (sym i) (ap by_name register_named)
-known _ (operation e (inr (inl i))) = subst (λ (x : Whole). by_name (name_of (operation_bytes x.operation)) ≡ operation_bytes x.operation) (sym i) (ap by_name put_named)
-known _ (operation e (inr (inr i))) = absurd i
-
 pub plain_never : NoCollision (IsHashed (fresh_world hazards strict 3) plain)
-plain_never a b p q same = sym (known a (hashed a p)) ∙ (ap by_name same ∙ known b (hashed b q))
+plain_never = tells_apart (IsHashed (fresh_world hazards strict 3) plain) hashed

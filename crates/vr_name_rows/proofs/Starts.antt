@@ -1,12 +1,11 @@
 -- How two members are started: one that lost both places of an entry, and one that has it.
-use Rattle.std.proofs.Common.{ℕ, ◌≡◌, refl, sym, ap, ◌∙◌, cond, eqb, false, true, List, [], ◌∷◌, ◌++◌, map, Option, Some, None}
-use Rattle.vr_base.specs.Bytes.{sha256, first_words, schedule, rounds, compress, hash_after, digest_bytes, bytes16, bytes32, bytes64, name_of}
+use Rattle.std.proofs.Common.{ℕ, ◌≡◌, refl, ap, ◌∙◌, cond, eqb, false, true, List, [], ◌∷◌, ◌++◌, map, Some, None}
+use Rattle.vr_base.specs.Bytes.{sha256, name_of}
 use Rattle.vr_header.specs.Same.{same_header}
-use Rattle.vr_header.specs.Spelling.{named_bytes}
 use Rattle.vr_super.specs.Opens.{opens}
 use Rattle.vr_rules.specs.Replica.{Replica, forgetting, head, part_at, run, with_part}
 use Rattle.vr_rules.specs.Formatting.{reserved_header}
-use Rattle.vr_rules.specs.Steps.{Effect, Mend, Save, Say, Step, ◌⨾◌, quiet, change, does, says, by, reading, times, each, after_all}
+use Rattle.vr_rules.specs.Steps.{Effect, Mend, Save, Say, ◌⨾◌, quiet, change, does, says, by, times, each, after_all}
 use Rattle.vr_rules.specs.Outputs.{send, send_to_all, start_line, start_view_change}
 use Rattle.vr_rules.specs.Words.{apply, load, save, value_of}
 use Rattle.vr_rules.specs.Opening.{Slot, blank, clouded, opened}

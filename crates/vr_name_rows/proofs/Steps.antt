@@ -1,5 +1,5 @@
 -- What the steps of the plain path are, on disks of which it is known what they read as.
-use Rattle.std.proofs.Common.{ℕ, ◌+◌, ◌%◌, ◌≡◌, ◌&&◌, nat_lt, cond, map, List, [], ◌∷◌, ◌++◌, Option, Some, None, replicate, codes, refl, ap, sym, ◌∙◌, true, false}
+use Rattle.std.proofs.Common.{ℕ, ◌+◌, ◌%◌, ◌≡◌, ◌&&◌, nat_lt, cond, map, List, [], ◌∷◌, ◌++◌, Option, Some, None, replicate, refl, ap, ◌∙◌, true, false}
 use Rattle.std.specs.Option.{option_and_then}
 use Rattle.vr_base.specs.Bytes.{sha256, first_words, schedule, rounds, compress, hash_after, digest_bytes, bytes16, bytes32, bytes64, name_of}
 use Rattle.vr_base.specs.Kinds.{strict}
@@ -12,10 +12,6 @@ use Rattle.vr_header.specs.declared.header.Header.{Header}
 use Rattle.vr_header.specs.declared.part.Part.{Part}
 use Rattle.vr_header.specs.declared.part.Part.TheVariants.{Here, Nothing}
 use Rattle.vr_msg.specs.declared.event.Event.TheVariants as event
-use Rattle.vr_msg.specs.declared.frame.Frame.{Frame}
-use Rattle.vr_msg.specs.declared.frame.Frame.TheVariants as frame
-use Rattle.vr_msg.specs.declared.output.Output.{Output}
-use Rattle.vr_msg.specs.declared.output.Output.TheVariants as output
 use Rattle.vr_state.specs.Folds as state
 use Rattle.vr_state.specs.Sessions as sess
 use Rattle.vr_state.specs.Kv as kv
@@ -23,12 +19,12 @@ use Rattle.vr_rules.specs.Replica.{Replica, part_at, head, forgetting, with_part
 use Rattle.vr_rules.specs.Deciding.{first_of, is_in_flight}
 use Rattle.vr_rules.specs.Steps.{Effect, Write, Say, Setting, Step, Word, ◌⨾◌, quiet, change, does, says, by, naming, reading, times, after_all}
 use Rattle.vr_rules.specs.Outputs.{send_to_all, prepare, prepare_ok, send, commit_line, applied_reply}
-use Rattle.vr_rules.specs.Words.{write, accept, with_entry_at, apply_entry, apply_next, apply, advanced, advance, learn, is_loaded, or_lost}
+use Rattle.vr_rules.specs.Words.{write, with_entry_at, apply_entry, apply_next, apply, advanced, advance, learn, is_loaded, or_lost}
 use Rattle.vr_rules.specs.Rules as rules
 use Rattle.vr_rules.specs.Opening.{blank, fresh}
 use Rattle.vr_world.specs.Lying.{Lying, lying}
-use Rattle.vr_name_rows.specs.Rows.{asked, registers, puts}
-use Rattle.vr_name_rows.proofs.Entries.{first, second, first_header, second_header, first_name, second_name, root_name, register_name, put_name, asks_register, asks_put}
+use Rattle.vr_name_rows.proofs.Happenings.{registers, puts}
+use Rattle.vr_name_rows.proofs.Entries.{first, second, first_header, second_header}
 
 -- ---- the replicas, step by step
 

@@ -1,13 +1,13 @@
 -- A member's disk once the first entry was written to it.
-use Rattle.std.proofs.Common.{ℕ, ◌+◌, ◌*◌, ◌≤◌, ◌<◌, ◌≡◌, ◌≢◌, ◌⊎◌, inl, inr, arith, refl, sym, ap, ◌∙◌, subst, Bool, true, false, cond, eqb, drop, List, [], ◌∷◌, ◌++◌, length, Option, Some, None}
+use Rattle.std.proofs.Common.{ℕ, ◌<◌, ◌≡◌, ◌≢◌, inl, inr, arith, refl, sym, ap, ◌∙◌, subst, Bool, false, cond, eqb, drop, List, [], ◌∷◌, ◌++◌, length, Some, None}
 use Rattle.std.specs.Prelude.{slice_get}
 use Rattle.std.specs.List.{AllByRecursion}
-use Rattle.std.proofs.lemmas.Bool.{cases_eq, eqb-false, ne_eqb}
+use Rattle.std.proofs.lemmas.Bool.{cases_eq, ne_eqb}
 use Rattle.std.proofs.Common.{get_or-set_same}
 use Rattle.vr_base.specs.Kinds.{strict}
 use Rattle.vr_base.specs.Bytes.{piece}
 use Rattle.vr_disk.specs.DiskState.{Call, Cell, Face, IsFace, Sync, Write, after, after_all, blank as no_cell, cell, written}
-use Rattle.vr_disk.specs.Regions.{header_place, prepare_place, sectors}
+use Rattle.vr_disk.specs.Regions.{header_place, sectors}
 use Rattle.vr_disk.specs.Sectors.{writes}
 use Rattle.vr_disk.specs.Stops.{Spares}
 use Rattle.vr_disk.proofs.Frames.{frame_all}
@@ -27,7 +27,7 @@ use Rattle.vr_rules.specs.Steps.{Say}
 use Rattle.vr_rules.specs.Steps as effect
 use Rattle.vr_rules.proofs.FitDisks.{header_reads, header_spares, prepare_spares, same_header}
 use Rattle.vr_msg.specs.declared.output.Output.{Output}
-use Rattle.vr_world.specs.Group.{Member, begins, ends, fresh_group}
+use Rattle.vr_world.specs.Group.{Member, begins, ends}
 use Rattle.vr_world.specs.Lying.{Lying, hazards, lying}
 use Rattle.vr_world.specs.World.{fresh_host, fresh_world}
 use Rattle.law_4_disks.specs.Beside.{IsOn, MayCome}
@@ -35,12 +35,12 @@ use Rattle.law_4_disks.proofs.Calls.{new_are}
 use Rattle.law_4_disks.proofs.Effects.{at_slot, others_after, quiet_disk}
 use Rattle.law_4_disks.proofs.Playing.{stay}
 use Rattle.law_4_disks.proofs.Regions.{new_apart}
-use Rattle.vr_name_rows.proofs.Disks.{IsTaken, Plain, plain_after, written_apart, written_there}
+use Rattle.vr_name_rows.proofs.Disks.{Plain, plain_after, written_apart, written_there}
 use Rattle.vr_name_rows.proofs.Entries.{first, first_header}
 use Rattle.vr_name_rows.proofs.Formatted.{header_is, nothing_held}
 use Rattle.vr_name_rows.proofs.Found.{Looks, look, value}
 use Rattle.vr_name_rows.proofs.Lines.{beside, blank_disk, blank_plain}
-use Rattle.vr_name_rows.proofs.Path.{first_taken}
+use Rattle.vr_name_rows.proofs.Taken.{first_taken}
 use Rattle.vr_name_rows.proofs.Starts.{but_first, kept_slot, reserved}
 
 abbrev pub one : List Whole

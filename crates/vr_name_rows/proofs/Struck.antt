@@ -1,45 +1,37 @@
 -- Both places of the first entry are damaged: no fault is kept out, and neither the header nor the entry reads any more.
-use Rattle.std.proofs.Common.{ℕ, ◌+◌, ◌-◌, ◌*◌, ◌≤◌, ◌<◌, ◌≡◌, ◌≢◌, ◌⊎◌, inl, inr, arith, refl, sym, ap, ◌∙◌, subst, Bool, true, false, cond, eqb, ltb, List, [], ◌∷◌, ◌++◌, length, take, replicate, get_or, Option, Some, None, get_or-set_same}
+use Rattle.std.proofs.Common.{ℕ, ◌+◌, ◌-◌, ◌*◌, ◌≤◌, ◌<◌, ◌≡◌, ◌≢◌, ◌⊎◌, inl, inr, arith, refl, sym, ap, ◌∙◌, subst, Bool, true, false, cond, ltb, List, ◌++◌, length, take, replicate, get_or, Option, Some, None, get_or-set_same}
 use Rattle.std.specs.Prelude.{is_some}
 use Rattle.std.specs.Option.{option_and_then, option_map}
-use Rattle.std.proofs.lemmas.Bool.{cases_eq, cases_lt, ne_eqb}
-use Rattle.std.proofs.lemmas.List.{get_or-take, get_or_append_left, length-append, length-map}
+use Rattle.std.proofs.lemmas.Bool.{cases_eq, cases_lt}
+use Rattle.std.proofs.lemmas.List.{get_or-take, get_or_append_left, length-append}
 use Rattle.vr_base.specs.Bytes.{sha256, first_words, schedule, rounds, compress, hash_after, digest_bytes, bytes16, bytes32, bytes64, name_of, piece}
 use Rattle.vr_base.specs.declared.mode.Mode.{Mode}
 use Rattle.vr_disk.specs.DiskState.{Cell, Face, IsFace, blank as no_cell, cell, damaged, reads}
 use Rattle.vr_disk.specs.Regions.{block_place, header_place, prepare_place, sectors}
-use Rattle.vr_disk.specs.Sectors.{behind, together}
-use Rattle.vr_disk.proofs.Together.{together_cons, together_first, together_same}
+use Rattle.vr_disk.specs.Sectors.{together}
+use Rattle.vr_disk.proofs.Together.{together_first, together_same}
 use Rattle.vr_header.specs.Made.{Whole, entry_bytes}
 use Rattle.vr_header.specs.Spelling.{header_bytes, named_bytes}
 use Rattle.vr_header.specs.Bodies.{operation_bytes}
 use Rattle.vr_mem.specs.Lies.{lied}
-use Rattle.vr_super.specs.Copies.{SuperValue, value_of}
-use Rattle.vr_super.specs.Opens.{copy_reading, good_copies, good_copy, mode_in, opens}
-use Rattle.vr_rings.specs.Held.{Holds, MayRead, entry_read, found, is_header_sector, looked}
+use Rattle.vr_super.specs.Opens.{copy_reading, good_copy, mode_in, opens}
+use Rattle.vr_rings.specs.Held.{Holds, MayRead, is_header_sector}
 use Rattle.vr_rings.specs.Slots.{IsWhole, header_in, header_of, header_reading, padded, prepare_bytes, prepare_reading, sector_of, whole_in, whole_of}
 use Rattle.vr_rings.proofs.Spelling.{damaged_none, prepare_spells, sector_spells, sector_version}
-use Rattle.vr_rings.proofs.Standing.{both_is, both_whole}
 use Rattle.vr_ckpt.specs.Blocks.{named}
 use Rattle.vr_ckpt.specs.Places.{grid_size}
 use Rattle.vr_ckpt.specs.Grid.{block_reading, named_at}
 use Rattle.vr_ckpt.specs.declared.name.Name.{Name}
 use Rattle.vr_lie.specs.declared.fault.Fault.TheVariants.{Damage}
-use Rattle.vr_lie.specs.Faults.{KeepsPremise, faulted, held_at}
-use Rattle.vr_lie.proofs.Lies.{cell_lied, reads_lied}
-use Rattle.vr_rules.specs.Opening.{Slot}
+use Rattle.vr_lie.specs.Faults.{faulted, held_at}
+use Rattle.vr_lie.proofs.Lies.{reads_lied}
 use Rattle.vr_rules.proofs.FitDisks.{grid_behind}
 use Rattle.vr_world.specs.Lying.{Lying, hazards, keeps_premise, lied_to, unless_kept_out}
 use Rattle.vr_world.proofs.Premises.{premise_so}
-use Rattle.law_4_disks.proofs.Effects.{at_slot}
 use Rattle.law_4_disks.proofs.Faults.{fault_face}
 use Rattle.law_4_disks.proofs.Found.{read_whole}
-use Rattle.vr_name_rows.proofs.Disks.{Plain}
 use Rattle.vr_name_rows.proofs.Entries.{first, first_header}
-use Rattle.vr_name_rows.proofs.Found.{Looks, look}
-use Rattle.vr_name_rows.proofs.Path.{first_taken}
-use Rattle.vr_name_rows.proofs.Starts.{but_first, reserved}
-use Rattle.vr_name_rows.proofs.Stored.{Sits, one}
+use Rattle.vr_name_rows.proofs.Taken.{first_taken}
 
 -- ---- a sector that reads as something else
 

@@ -1,40 +1,20 @@
 -- An acknowledged entry isn't denied: the worlds that the lines of that row come through.
-use Rattle.std.proofs.Common.{ℕ, ◌≡◌, ◌⊎◌, arith, inl, inr, refl, sym, ap, ◌∙◌, subst, List, [], ◌∷◌, ◌++◌, map, drop, Option, Some, None}
-use Rattle.std.specs.Prelude.{Contains, slice_get}
-use Rattle.std.specs.List.{AllByRecursion}
-use Rattle.std.specs.Option.{option_and_then, option_map, option_map_or}
-use Rattle.vr_base.specs.Bytes.{name_of}
-use Rattle.vr_base.specs.Kinds.{strict}
-use Rattle.vr_header.specs.Bodies.{operation_bytes}
-use Rattle.vr_header.specs.Made.{Whole}
-use Rattle.vr_header.specs.Names.{root_header}
-use Rattle.vr_header.specs.NoCollision.{NoCollision}
-use Rattle.vr_header.specs.Spelling.{named_bytes}
+use Rattle.std.proofs.Common.{ℕ, ◌≡◌, refl, ap, List, [], ◌∷◌, ◌++◌, map, Option, Some, None}
+use Rattle.std.specs.Option.{option_map_or}
 use Rattle.vr_msg.specs.declared.event.Event.TheVariants as event
 use Rattle.vr_msg.specs.declared.output.Sent.{Sent}
 use Rattle.vr_lie.specs.declared.fault.Fault.TheVariants.{Damage}
 use Rattle.vr_rules.specs.Replica.{Replica}
-use Rattle.vr_rules.specs.Outputs.{do_view_change, messages, prepare, send, start_view_change, wait_line}
+use Rattle.vr_rules.specs.Outputs.{do_view_change, messages, send, start_view_change, wait_line}
 use Rattle.vr_rules.specs.Steps.{Effect, Say, Step, after_all, outputs}
 use Rattle.vr_rules.specs.Rules.{react}
 use Rattle.vr_rules.specs.Opening.{blank, opened}
 use Rattle.vr_world.specs.Lying.{Lying, hazards, lying}
-use Rattle.vr_world.specs.World.{Arrives, Asks, Happening, Host, Lies, Starts, Stops, Ticks, World, acts, at_member, fresh_world, happens, lied, stays, with_member}
-use Rattle.law_4_disks.specs.Worlds.{IsHashedAt, Work, begun_of, opening_as, read_of, work_of}
-use Rattle.law_6_one_log.specs.Schedules.{IsHashed, IsUsedAt}
-use Rattle.law_6_one_log.proofs.Names.{contains_none}
-use Rattle.vr_name_rows.specs.Rows.{acknowledged, registers}
-use Rattle.vr_name_rows.proofs.Changes.{a0, a0e, a1, c0, c1, c1e, changes_0, changes_2, chooses, chooses_1, enters_1, enters_2, m0, m1, m2, m3, ticks_0, ticks_1, ticks_2, ticks_3, ticks_4, waiting, waits_1}
-use Rattle.vr_name_rows.proofs.Disks.{IsOf, Plain, plain_all}
-use Rattle.vr_name_rows.proofs.Entries.{first, first_named, register_named, root_named}
-use Rattle.vr_name_rows.proofs.Lines.{Hashes, HashesAt, IsText, blank_disk, blank_plain, header, host, line_text, none_left, operation, root, then_lines}
-use Rattle.vr_name_rows.proofs.Lost.{Half, Lost, fault_text, halved, half_slot, lost, once, reads_once, reads_twice, twice}
-use Rattle.vr_name_rows.proofs.Path.{begins, by_name, first_taken, goes_0, goes_1, quiet_host, sent_1, sent_2}
-use Rattle.vr_name_rows.proofs.Starts.{but_first, kept_slot, lost_slot, starts_0, starts_1, wakes_0, wakes_1}
-use Rattle.vr_name_rows.proofs.Found.{value}
-use Rattle.vr_name_rows.proofs.Steps.{b0, b1, makes, p0, p1, step_0, step_1, stores}
-use Rattle.vr_name_rows.proofs.Stored.{Sits, one, said, sits_0, sits_1}
-use Rattle.vr_name_rows.proofs.Struck.{done, gone_148, gone_81}
+use Rattle.vr_world.specs.World.{Arrives, Host, Lies, Starts, Stops, Ticks, World, acts, at_member, happens, lied, stays, with_member}
+use Rattle.vr_name_rows.proofs.Changes.{a0, a1, c0, c1, c1e, changes_0, changes_2, chooses, chooses_1, enters_1, enters_2, m0, m1, m2, m3, ticks_4, waiting, waits_1}
+use Rattle.vr_name_rows.proofs.Lines.{host}
+use Rattle.vr_name_rows.proofs.Path.{sent_2}
+use Rattle.vr_name_rows.proofs.Starts.{wakes_0, wakes_1}
 
 -- ---- the worlds
 
