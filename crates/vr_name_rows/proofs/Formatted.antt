@@ -1,20 +1,24 @@
 -- A disk that was just formatted: what its slots read as, that they hold nothing, and what it opens as; and once an entry was written.
-use Rattle.std.proofs.Common.{ℕ, zero, suc, ◌+◌, ◌≤◌, ◌<◌, ◌≡◌, ◌∙◌, inl, inr, arith, refl, sym, ap, subst, true, false, List, [], ◌∷◌, ◌++◌, length, map, Option, Some, None}
+use Rattle.std.proofs.Common.{ℕ, zero, suc, ◌+◌, ◌*◌, ◌≤◌, ◌<◌, ◌≡◌, ◌∙◌, inl, inr, arith, refl, sym, ap, subst, true, false, List, [], ◌∷◌, ◌++◌, length, map, Option, Some, None}
 use Rattle.std.specs.Prelude.{is_some}
 use Rattle.std.specs.List.{AllByRecursion, range_with_len}
 use Rattle.std.specs.Option.{option_and_then}
 use Rattle.std.proofs.lemmas.Bool.{cases_eq}
-use Rattle.std.proofs.lemmas.List.{get_or-replicate, length-replicate}
+use Rattle.std.proofs.lemmas.List.{get_or-replicate, length-append, length-replicate, take_all}
 use Rattle.vr_base.specs.Kinds.{strict}
 use Rattle.vr_base.specs.Bytes.{is_zeros}
 use Rattle.vr_disk.specs.DiskState.{Call, Cell, Face, Sync, Write, after, after_all, reads}
 use Rattle.vr_disk.specs.Regions.{header_place, prepare_place, sectors}
-use Rattle.vr_disk.specs.Sectors.{together}
+use Rattle.vr_disk.specs.Sectors.{together, writes}
 use Rattle.vr_disk.specs.Stops.{Spares, WritesOnly}
 use Rattle.vr_disk.proofs.Frames.{frame_all, reads_back, reads_other}
-use Rattle.vr_disk.proofs.Together.{after_all_append, length_after_all, only_append, spares_append}
-use Rattle.vr_super.specs.Calls.{save_from}
-use Rattle.vr_super.specs.Copies.{copy_bytes}
+use Rattle.vr_disk.proofs.Together.{after_all_append, length_after_all, only_append, spares_append, together_synced, together_written}
+use Rattle.vr_super.specs.Calls.{copy_calls, save_from}
+use Rattle.vr_super.specs.Copies.{copy_bytes, front_bytes, list_bytes, named_bytes, zeros}
+use Rattle.vr_super.specs.Opens.{copy_reading}
+use Rattle.vr_super.proofs.Readings.{copy_within, other_after}
+use Rattle.vr_base.specs.Bytes.{bytes16, bytes32, bytes64, name_of}
+use Rattle.vr_base.proofs.FieldLaws.{length-name_of}
 use Rattle.vr_rings.specs.Held.{entry_read, found, held_after, held_after_all}
 use Rattle.vr_rings.specs.Slots.{header_in, header_of, header_reading, padded, prepare_reading, sector_of, whole_of}
 use Rattle.vr_rings.proofs.Spelling.{header_again, zeros_none}
@@ -156,3 +160,49 @@ nothing_held i slot l =
     at_slot (λ slot. held_after_all 1 zero_face (format_calls strict 0 3 i) slot (held_at (each_slot (λ slot. None)) slot)) slot l
     ∙ (ap (held_after_all 1 zero_face (format_calls strict 0 3 i) slot) (at_slot (λ slot. None) slot l)
     ∙ blank_held (format_calls strict 0 3 i) slot zero_face l (format_blank i slot) (zero_blank slot l))
+
+-- ---- and in the end each sector of a prepare reads as zeros
+
+blank_all : (cs : List Call) (slot : ℕ) (f : Face) → slot < 64 → KeepsBlank slot cs → IsBlank slot f → IsBlank slot (after_all f cs)
+blank_all [] slot f l k b = b
+blank_all (Sync ∷ cs) slot f l k b = blank_all cs slot (after f Sync) l (λ i m n. (k i m n).1) (blank_call slot f Sync (λ i m n. tt) b l)
+blank_all (Write i bytes ∷ cs) slot f l k b = blank_all cs slot (after f (Write i bytes)) l (λ j m n. (k j m n).1) (blank_call slot f (Write i bytes) (λ j m n. (k j m n).0) b l)
+
+pub zero_there : (i slot k : ℕ) → slot < 64 → prepare_place 1 slot ≤ k → k < prepare_place 1 slot + 4 → reads (face i) k ≡ Some zero_sector
+zero_there i slot k l m n = (blank_all (format_calls strict 0 3 i) slot zero_face l (format_blank i slot) (zero_blank slot l)).zeros k m n
+
+-- ---- and each copy of the superblock as the first value
+
+copy_read : (b : List ℕ) (f : Face) (c : ℕ) → length b ≡ 10240 → length f.cells ≡ sectors → c < 4 → copy_reading (after_all f (copy_calls c b)) c ≡ Some b
+unfolding copy_reading copy_calls
+copy_read b f c n l k =
+    let g = after_all f (writes (20 * c) 20 b) in
+    ap (λ h. together (20 * c) 20 h) (after_all_append (writes (20 * c) 20 b) (Sync ∷ []) f)
+    ∙ (together_synced 20 (20 * c) g ∙ (together_written 20 (20 * c) b f (omega arith) ∙ ap Some (take_all (512 * 20) b (omega arith))))
+
+copies_read : (n k : ℕ) (b : List ℕ) (f : Face) → length b ≡ 10240 → length f.cells ≡ sectors → k + n ≡ 4 → ((c : ℕ) → c < k → copy_reading f c ≡ Some b) → (c : ℕ) → c < 4 → copy_reading (after_all f (save_from k n b)) c ≡ Some b
+unfolding save_from
+copies_read zero k b f size l e h c m = h c (omega arith)
+copies_read (suc n) k b f size l e h c m =
+    let one = copy_calls k b in
+    let g = after_all f one in
+    let less : k < 4 = omega arith in
+    let next : (c : ℕ) → c < k + 1 → copy_reading g c ≡ Some b = λ c a. elim (cases_eq c k) [
+      | inl same ↦ subst (λ (c : ℕ). copy_reading g c ≡ Some b) (sym same) (copy_read b f k size l less)
+      | inr other ↦ other_after one f k c (copy_within k b) (λ s. other (sym s)) ∙ h c (omega arith)
+    ] in
+    ap (λ (g : Face). copy_reading g c) (after_all_append one (save_from (k + 1) n b) f) ∙ copies_read n (k + 1) b g size (length_after_all one f ∙ l) (omega arith) next c m
+
+copy_long : (i : ℕ) → length (copy_bytes (first_value strict 0 3 i)) ≡ 10240
+unfolding copy_bytes named_bytes front_bytes list_bytes zeros bytes16 bytes32 bytes64
+copy_long i = length-append (name_of (named_bytes (first_value strict 0 3 i))) (named_bytes (first_value strict 0 3 i)) ∙ ap (λ n. n + 10224) (length-name_of (named_bytes (first_value strict 0 3 i)))
+
+pub copies_there : (i c : ℕ) → c < 4 → copy_reading (face i) c ≡ Some (copy_bytes (first_value strict 0 3 i))
+unfolding format_calls
+copies_there i c l =
+    let f1 = after_all zero_face zero_prepares in
+    let f2 = after_all f1 (reserved_headers 0) in
+    let f3 = after f2 Sync in
+    let all : face i ≡ after_all f3 (later i) = after_all_append zero_prepares (reserved_headers 0 ++ Sync ∷ later i) zero_face ∙ after_all_append (reserved_headers 0) (Sync ∷ later i) f1 in
+    let count : length f3.cells ≡ sectors = length_after_all (reserved_headers 0) f1 ∙ (length_after_all zero_prepares zero_face ∙ length-replicate sectors zero_cell) in
+    ap (λ (g : Face). copy_reading g c) all ∙ copies_read 4 0 (copy_bytes (first_value strict 0 3 i)) f3 (copy_long i) count (omega arith) (λ c m. absurd (omega arith)) c l

@@ -1,5 +1,6 @@
 pub mod Happenings
 pub mod Entries
+pub mod Values
 pub mod Disks
 pub mod Taken
 pub mod Lines
@@ -15,4 +16,8 @@ pub mod Struck
 pub mod Lost
 pub mod Waits
 pub mod Denied
-pub mod Both
+pub mod Torn
+pub mod Halted
+pub mod Revived
+pub mod TornRow
+pub mod Meeting

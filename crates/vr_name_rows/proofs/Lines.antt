@@ -1,5 +1,5 @@
 -- What the lines of a schedule hash, whose disks read as no block, and as no entry but those of a list.
-use Rattle.std.proofs.Common.{ℕ, ◌≡◌, ◌⊎◌, arith, inl, inr, refl, sym, ◌∙◌, subst, List, [], ◌∷◌, Option, Some, None}
+use Rattle.std.proofs.Common.{ℕ, ◌≡◌, ◌⊎◌, arith, inl, inr, refl, sym, ap, ◌∙◌, subst, List, [], ◌∷◌, Some, None}
 use Rattle.std.specs.Prelude.{Contains, slice_get}
 use Rattle.std.specs.List.{AllByRecursion}
 use Rattle.vr_base.specs.Kinds.{strict}
@@ -17,7 +17,7 @@ use Rattle.vr_world.specs.World.{Happening, Host, World, fresh_host, fresh_world
 use Rattle.vr_world.specs.Safe as safe
 use Rattle.vr_world.specs.Safe.{IsRead, IsWritten}
 use Rattle.law_1_machine.specs.Basics.{In}
-use Rattle.law_4_disks.specs.Worlds.{AreBeside, IsHashedAt, IsHashedCut, Work, begun_by, begun_of, read_of, work_of}
+use Rattle.law_4_disks.specs.Worlds.{AreBeside, IsHashedAt, IsHashedCut, Work, begun_by, begun_in, begun_of, read_in, read_of, work_of}
 use Rattle.law_4_disks.proofs.Fresh.{fresh_beside, schedules_begin}
 use Rattle.law_6_one_log.specs.Schedules.{IsHashedOf, IsUsedAt}
 use Rattle.law_6_one_log.proofs.Blank.{reads_nothing}
@@ -72,7 +72,7 @@ all_of entries [] e a i = absurd i
 all_of entries (x ∷ es) e a (inl same) = subst (IsOf entries) (sym same) a.0
 all_of entries (x ∷ es) e a (inr i) = all_of entries es e a.1 i
 
-same_work : (a b : Work) → Some a ≡ Some b → a ≡ b
+pub same_work : (a b : Work) → Some a ≡ Some b → a ≡ b
 same_work a b e = cc
 
 -- ---- of one line
@@ -84,6 +84,15 @@ host r d = record { replica = Some r; disk = d; fuse = None }
 abbrev pub HashesAt : World Lying → Happening → List ℕ → Type 0
 HashesAt w x b = ((k : Work) × (work_of w x ≡ Some k) × IsHashedCut k b) ⊎ IsUsedAt w x b
 
+-- of what it reads, and of what it begins
+pub used_text : (entries : List Whole) (w : World Lying) (x : Happening) (m : Host Lying) (es : List Effect) → read_in w x ≡ m.disk.face ∷ [] → begun_in w x ≡ es → Plain entries m.disk → AllByRecursion (IsOf entries) es → (b : List ℕ) → IsUsedAt w x b → IsText entries b
+used_text entries w x m es reads begins p a b (inl u) =
+    let i = contains_in (m.disk.face ∷ []) u.0 (subst (λ (fs : List Face). Contains fs u.0) reads u.1) in
+    elim i [ inl same ↦ read_text entries m.disk p b (subst (λ (f : Face). IsRead f b) same u.2) | inr none ↦ absurd none ]
+used_text entries w x m es reads begins p a b (inr u) =
+    let i = contains_in es u.0 (subst (λ (fs : List Effect). Contains fs u.0) begins u.1) in
+    written_text entries u.0 b (all_of entries es u.0 a i) u.2
+
 pub line_text : (entries : List Whole) (w : World Lying) (x : Happening) (m : Host Lying) (script : List Effect) → m.fuse ≡ None → work_of w x ≡ Some (record { host = m; script = script }) → Plain entries m.disk → AllByRecursion (IsOf entries) script
     → (b : List ℕ) → HashesAt w x b → IsText entries b
 line_text entries w x m script free is p a b (inl h) =
@@ -91,23 +100,18 @@ line_text entries w x m script free is p a b (inl h) =
     let cut = subst (λ (k : Work). IsHashedCut k b) (sym same) h.2 in
     let bad : None ≡ Some cut.0 = sym free ∙ cut.1 in
     absurd cc
-line_text entries w x m script free is p a b (inr (inl u)) =
-    let i = contains_in (m.disk.face ∷ []) u.0 (subst (λ (o : Option Work). Contains (read_of o) u.0) is u.1) in
-    elim i [ inl same ↦ read_text entries m.disk p b (subst (λ (f : Face). IsRead f b) same u.2) | inr none ↦ absurd none ]
-line_text entries w x m script free is p a b (inr (inr u)) =
-    let c : Contains (begun_of (Some (record { host = m; script = script }))) u.0 = subst (λ (o : Option Work). Contains (begun_of o) u.0) is u.1 in
-    let i = contains_in script u.0 (subst (λ o. Contains (begun_by o script m.disk.face) u.0) free c) in
-    written_text entries u.0 b (all_of entries script u.0 a i) u.2
+line_text entries w x m script free is p a b (inr u) =
+    used_text entries w x m script (ap read_of is) (ap begun_of is ∙ ap (λ o. begun_by o script m.disk.face) free) p a b u
 
 -- ---- of lines
 
-abbrev pub Hashes : List Whole → World Lying → List Happening → Type 0
-Hashes entries w xs = (b : List ℕ) → IsHashedOf 0 w xs b → IsText entries b
+-- each text that lines hash is one of these, as the root is
+abbrev pub Hashes : (List ℕ → Type 0) → World Lying → List Happening → Type 0
+Hashes T w xs = (b : List ℕ) → IsHashedOf 0 w xs b → T b
 
-pub none_left : (entries : List Whole) (w : World Lying) → Hashes entries w []
-none_left entries w b e = subst (IsText entries) (sym e) root
+pub none_left : (T : List ℕ → Type 0) (w : World Lying) → T (named_bytes (root_header 0)) → Hashes T w []
+none_left T w is b e = subst T (sym e) is
 
-pub then_lines : (entries : List Whole) (w v : World Lying) (x : Happening) (xs : List Happening) → (happens hazards w x).world ≡ v → ((b : List ℕ) → IsHashedAt w x b ⊎ IsUsedAt w x b → IsText entries b) → Hashes entries v xs
-    → Hashes entries w (x ∷ xs)
-then_lines entries w v x xs is line rest b (inl h) = line b h
-then_lines entries w v x xs is line rest b (inr h) = rest b (subst (λ (u : World Lying). IsHashedOf 0 u xs b) is h)
+pub then_lines : (T : List ℕ → Type 0) (w v : World Lying) (x : Happening) (xs : List Happening) → (happens hazards w x).world ≡ v → ((b : List ℕ) → IsHashedAt w x b ⊎ IsUsedAt w x b → T b) → Hashes T v xs → Hashes T w (x ∷ xs)
+then_lines T w v x xs is line rest b (inl h) = line b h
+then_lines T w v x xs is line rest b (inr h) = rest b (subst (λ (u : World Lying). IsHashedOf 0 u xs b) is h)

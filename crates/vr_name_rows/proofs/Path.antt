@@ -20,7 +20,7 @@ use Rattle.law_6_one_log.specs.Schedules.{IsHashed}
 use Rattle.vr_name_rows.proofs.Happenings.{plain, registers, puts}
 use Rattle.vr_name_rows.proofs.Disks.{IsOf, Plain, plain_all, written_apart, written_there}
 use Rattle.vr_name_rows.proofs.Entries.{first, first_header, second, second_header}
-use Rattle.vr_name_rows.proofs.Lines.{Hashes, IsText, blank_disk, blank_plain, host, line_text, none_left, then_lines, HashesAt}
+use Rattle.vr_name_rows.proofs.Lines.{Hashes, HashesAt, IsText, blank_disk, blank_plain, host, line_text, none_left, root, then_lines}
 use Rattle.vr_name_rows.proofs.Names.{both, tells_apart}
 use Rattle.vr_name_rows.proofs.Taken.{first_taken, second_taken}
 use Rattle.vr_name_rows.proofs.Steps.{answers, b0, b1, b2, b2c, b3, makes, p0, p1, p1c, p2, p3, p3c, step_0, step_1, step_2, step_3, step_4, step_5, stores, stores_second}
@@ -179,16 +179,16 @@ world_4 = group_of (host p3 x3) (host b1 y1) sent_4
 abbrev world_5 : World Lying
 world_5 = group_of (host p3 x3) (host b3 y2) sent_5
 
-hashed : Hashes both (fresh_world hazards strict 3) plain
+hashed : Hashes (IsText both) (fresh_world hazards strict 3) plain
 hashed =
     let w0 = group_of (host p0 x0) (host b0 y0) [] in
-    let h5 : Hashes both world_5 (drop 5 plain) = then_lines both world_5 (happens hazards world_5 (Arrives 5)).world (Arrives 5) [] refl (line_5 x3 y2 plain_x3 reads_x3) (none_left both (happens hazards world_5 (Arrives 5)).world) in
-    let h4 : Hashes both world_4 (drop 4 plain) = then_lines both world_4 world_5 (Arrives 3) (drop 5 plain) (goes_4 x3 y1 reads_y2) (line_4 x3 y1 plain_y1 reads_y2) h5 in
-    let h3 : Hashes both world_3 (drop 3 plain) = then_lines both world_3 world_4 (Asks 0 puts) (drop 4 plain) (goes_3 x2 (host b1 y1)) (line_3 x2 (host b1 y1) plain_x2) h4 in
-    let h2 : Hashes both world_2 (drop 2 plain) = then_lines both world_2 world_3 (Arrives 2) (drop 3 plain) (goes_2 x1 (host b1 y1) reads_x1) (line_2 x1 (host b1 y1) plain_x1 reads_x1) h3 in
-    let h1 : Hashes both world_1 (drop 1 plain) = then_lines both world_1 world_2 (Arrives 0) (drop 2 plain) (goes_1 x1 y0) (line_1 x1 y0 plain_y0) h2 in
-    let h0 : Hashes both w0 plain = then_lines both w0 world_1 (Asks 0 registers) (drop 1 plain) (goes_0 x0 (host b0 y0)) (line_0 x0 (host b0 y0) plain_x0) h1 in
-    subst (λ (w : World Lying). Hashes both w plain) (sym begins) h0
+    let h5 : Hashes (IsText both) world_5 (drop 5 plain) = then_lines (IsText both) world_5 (happens hazards world_5 (Arrives 5)).world (Arrives 5) [] refl (line_5 x3 y2 plain_x3 reads_x3) (none_left (IsText both) (happens hazards world_5 (Arrives 5)).world root) in
+    let h4 : Hashes (IsText both) world_4 (drop 4 plain) = then_lines (IsText both) world_4 world_5 (Arrives 3) (drop 5 plain) (goes_4 x3 y1 reads_y2) (line_4 x3 y1 plain_y1 reads_y2) h5 in
+    let h3 : Hashes (IsText both) world_3 (drop 3 plain) = then_lines (IsText both) world_3 world_4 (Asks 0 puts) (drop 4 plain) (goes_3 x2 (host b1 y1)) (line_3 x2 (host b1 y1) plain_x2) h4 in
+    let h2 : Hashes (IsText both) world_2 (drop 2 plain) = then_lines (IsText both) world_2 world_3 (Arrives 2) (drop 3 plain) (goes_2 x1 (host b1 y1) reads_x1) (line_2 x1 (host b1 y1) plain_x1 reads_x1) h3 in
+    let h1 : Hashes (IsText both) world_1 (drop 1 plain) = then_lines (IsText both) world_1 world_2 (Arrives 0) (drop 2 plain) (goes_1 x1 y0) (line_1 x1 y0 plain_y0) h2 in
+    let h0 : Hashes (IsText both) w0 plain = then_lines (IsText both) w0 world_1 (Asks 0 registers) (drop 1 plain) (goes_0 x0 (host b0 y0)) (line_0 x0 (host b0 y0) plain_x0) h1 in
+    subst (λ (w : World Lying). Hashes (IsText both) w plain) (sym begins) h0
 
 pub plain_never : NoCollision (IsHashed (fresh_world hazards strict 3) plain)
-plain_never = tells_apart (IsHashed (fresh_world hazards strict 3) plain) hashed
+plain_never = tells_apart (IsHashed (fresh_world hazards strict 3) plain) (λ b h. inl (hashed b h))

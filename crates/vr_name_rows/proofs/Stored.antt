@@ -61,7 +61,7 @@ pub record Sits (v : SuperValue) (table : ℕ → Slot) (d : Lying) : Type 0 whe
 none_read : (d : Lying) (slot : ℕ) → Plain [] d → whole_in 1 d.face slot ≡ None
 none_read d slot p = elim (whole_in 1 d.face slot) as (λ o. whole_in 1 d.face slot ≡ o → o ≡ None) [ None ↦ λ e. refl | Some x ↦ λ e. absurd (p.reads slot x e) ] refl
 
-blank_look : (i slot : ℕ) → Plain [] (blank_disk i) → slot < 64 → look (blank_disk i) slot ≡ reserved slot
+pub blank_look : (i slot : ℕ) → Plain [] (blank_disk i) → slot < 64 → look (blank_disk i) slot ≡ reserved slot
 blank_look i slot p l =
     ap (λ h. record { header = h; entry = whole_in 1 (blank_disk i).face slot; blank = false }) (header_is i slot l)
     ∙ ap (λ e. record { header = Some (reserved_header 0 slot); entry = e; blank = false }) (none_read (blank_disk i) slot p)

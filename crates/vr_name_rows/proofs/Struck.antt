@@ -141,7 +141,7 @@ whole_other f slot other = ap (option_and_then whole_of) (other_prepare f 148 sl
 
 -- ---- and once the prepare is: its version is none
 
-abbrev turned : List ℕ
+abbrev pub turned : List ℕ
 turned = damaged (piece 0 512 (prepare_bytes first))
 
 turned_version : get_or turned 110 0 ≡ 254
@@ -168,13 +168,12 @@ version_of x w =
     let v = sector_version x.header w.header in
     (omega (arith, same, v.0), omega (arith, same, v.1))
 
-pub lost_prepare : (f : Face) (x : Whole) → IsFace (struck f 148) → (cell f 148).truth ≡ piece 0 512 (prepare_bytes first) → length f.cells ≡ sectors → whole_in 1 (struck f 148) 1 ≡ Some x → ⊥
-lost_prepare f x face t n w =
-    let g = struck f 148 in
+-- a face whose slot 1 reads so at first has no entry there
+pub none_turned : (g : Face) (x : Whole) → IsFace g → reads g 148 ≡ Some turned → whole_in 1 g 1 ≡ Some x → ⊥
+none_turned g x face own w =
     let r = read_whole 1 g 1 x face (omega arith) w in
     let p = padded_parts (together 148 4 g) (prepare_bytes x) r.reads in
     let one = together_first 3 148 g p.0 p.1 in
-    let own : reads g 148 ≡ Some turned = own_reads f 148 (Some (damaged (cell f 148).truth)) (omega (arith, n)) ∙ ap (λ (b : List ℕ). Some (damaged b)) t in
     let first_is : one.first ≡ turned = some_same one.first turned (sym one.reads ∙ own) in
     let long = turned_long in
     let all : p.0 ≡ turned ++ one.rest = one.whole ∙ ap (λ (b : List ℕ). b ++ one.rest) first_is in
@@ -186,3 +185,7 @@ lost_prepare f x face t n w =
     ∙ (get_or_append_left turned one.rest 0 110 (omega (arith, long)) ∙ turned_version))) in
     let v = version_of x r.whole in
     omega (arith, at, v.1)
+
+pub lost_prepare : (f : Face) (x : Whole) → IsFace (struck f 148) → (cell f 148).truth ≡ piece 0 512 (prepare_bytes first) → length f.cells ≡ sectors → whole_in 1 (struck f 148) 1 ≡ Some x → ⊥
+lost_prepare f x face t n w =
+    none_turned (struck f 148) x face (own_reads f 148 (Some (damaged (cell f 148).truth)) (omega (arith, n)) ∙ ap (λ (b : List ℕ). Some (damaged b)) t) w

@@ -51,6 +51,23 @@ acknowledged = text (
     ∷ codes "tick 1"
     ∷ [])
 
+-- The write of an entry is cut, and its prepare torn: so it was never stored, and the log of the next view hasn't got it.
+abbrev pub torn_prepare : List ℕ
+torn_prepare = text (
+    codes "cluster 3"
+    ∷ codes "request 0 7 0 register"
+    ∷ codes "fuse 1 3 26"
+    ∷ codes "deliver 0"
+    ∷ codes "start 1"
+    ∷ codes "tick 1"
+    ∷ codes "tick 1"
+    ∷ codes "tick 1"
+    ∷ codes "tick 1"
+    ∷ codes "tick 1"
+    ∷ codes "deliver 3"
+    ∷ codes "deliver 6"
+    ∷ [])
+
 -- ---- what is proved of them
 
 -- Of a schedule: its first line makes a group, and each of its lines is played; of what is hashed in them no two texts have one name; so the
@@ -66,3 +83,6 @@ PlainPathMeetsAll = MeetsAll (schedule_of plain_path)
 
 abbrev pub AcknowledgedMeetsAll : Type 0
 AcknowledgedMeetsAll = MeetsAll (schedule_of acknowledged)
+
+abbrev pub TornPrepareMeetsAll : Type 0
+TornPrepareMeetsAll = MeetsAll (schedule_of torn_prepare)
