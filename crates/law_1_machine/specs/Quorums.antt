@@ -35,13 +35,13 @@ pub record Fits (n : ℕ) (c : Column) : Type 0 where
 abbrev pub sizes : (n : ℕ) (c : Column) → Fits n c → Quorums
 sizes n c f = record { n = n; replication = c.replication; nack = c.nack; overlap = f.overlap; not_empty = f.not_empty }
 
--- the table: for 2 to 6 members
+-- the table: for 1 to 6 members
 abbrev pub column : ℕ → ℕ → ℕ → Column
 column r v n = record { replication = r; view_change = v; nack = n }
 
 abbrev pub table : ℕ → Column
-table n = cond (n == 2) (column 2 2 1) (cond (n == 3) (column 2 2 2) (cond (n == 4) (column 2 3 3) (cond (n == 5) (column 3 3 3) (column 3 4 4))))
+table n = cond (n == 1) (column 1 1 1) (cond (n == 2) (column 2 2 1) (cond (n == 3) (column 2 2 2) (cond (n == 4) (column 2 3 3) (cond (n == 5) (column 3 3 3) (column 3 4 4)))))
 
--- each table that agrees with this one from 2 to 6 fits there
+-- each table fits at each size from 1 to 6 at which it agrees with this one
 abbrev pub TableFits : Type 0
-TableFits = (quorums : ℕ → Column) → ((n : ℕ) → 2 ≤ n → n ≤ 6 → quorums n ≡ table n) → (n : ℕ) → 2 ≤ n → n ≤ 6 → Fits n (quorums n)
+TableFits = (quorums : ℕ → Column) (n : ℕ) → 1 ≤ n → n ≤ 6 → quorums n ≡ table n → Fits n (quorums n)

@@ -51,7 +51,7 @@ pub fn choices_are_safe<H>()
     ensures { ChoicesAreSafe H }
 {}
 
-/// The table of quorums for 2 to 6 members fits.
+/// The table of quorums for 1 to 6 members fits.
 pub fn the_table_fits()
     ensures { TableFits }
 {}

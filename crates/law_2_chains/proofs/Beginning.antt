@@ -264,7 +264,7 @@ own_is r m f = rw (f.log_view, f.commit, f.reach) refl
 abbrev pub AreStated : Setup → Group Header → Replica → Type 0
 AreStated u start r = (j : ℕ) (t : Statement) → slice_index_or r.statements j None ≡ Some t → In (Do_view_change j r.view (statement_told t)) start.sent
 
-decided_of : (o : Option Quorums) (ss : List Statement) (hs : List Header) → option_map_or (λ q. choice q ss) o TooFew ≡ Ends hs → (q : Quorums) × (o ≡ Some q) × (choice q ss ≡ Ends hs)
+pub decided_of : (o : Option Quorums) (ss : List Statement) (hs : List Header) → option_map_or (λ q. choice q ss) o TooFew ≡ Ends hs → (q : Quorums) × (o ≡ Some q) × (choice q ss ≡ Ends hs)
 decided_of None ss hs e = absurd cc
 decided_of (Some q) ss hs e = (q, refl, e)
 
@@ -352,7 +352,7 @@ leads_part (Wanted h) t r f x = x
 leads_part Unknown t r f x = x
 leads_part Nothing t r f x = x
 
-leads_again : {F : Type 0} (op : ℕ) (t : Setting F) (r : Replica) (f : F) → Leads r → Leads (prepare_again op t r f).replica
+pub leads_again : {F : Type 0} (op : ℕ) (t : Setting F) (r : Replica) (f : F) → Leads r → Leads (prepare_again op t r f).replica
 unfolding prepare_again with_entry_at by
 leads_again op t r f x = leads_part (part_at r op) t r f x
 
@@ -380,7 +380,7 @@ module _ (u : Setup) (start : Group Header) (i : ℕ) where
       (λ a z. goes_apply u start i t _ _ _ a z)
 
 module _ (u : Setup) (start : Group Header) (i : ℕ) where
-  tells_all : (r : Replica) (l : Local) (s : Group Header) (x : Mid u start i r l s) → r.view ≡ r.log_view → Every (MayBeSaid u start.sent i x.memory (s.members i).slots) (send_to_all start_view r)
+  pub tells_all : (r : Replica) (l : Local) (s : Group Header) (x : Mid u start i r l s) → r.view ≡ r.log_view → Every (MayBeSaid u start.sent i x.memory (s.members i).slots) (send_to_all start_view r)
   unfolding send_to_all
   tells_all r l s x begun = every_mapped (MayBeSaid u start.sent i x.memory (s.members i).slots) (λ to. send to (start_view r) r) (others r.index r.n) (λ to. (x.place, may_start u start i r l s x begun))
 

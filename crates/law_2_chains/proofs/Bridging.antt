@@ -6,12 +6,13 @@ use Rattle.std.proofs.lemmas.List.{append_assoc, drop_all, take_all, take-append
 use Rattle.std.proofs.Math.Seq.{take-append-add}
 use Rattle.std.proofs.lemmas.List.Elements.{All-nil, All-cons, All-head, All-tail, All-append, All-weaker, All-contains}
 use Rattle.vr_header.specs.declared.header.Header.{Header}
+use Rattle.vr_header.specs.declared.part.Part.TheVariants.{Here}
 use Rattle.vr_header.specs.Made.{Whole}
 use Rattle.vr_msg.specs.declared.event.Event.{Event}
 use Rattle.vr_msg.specs.declared.output.Output.{Output}
 use Rattle.vr_msg.specs.declared.output.Output.TheVariants as output
 use Rattle.vr_super.specs.Copies.{SuperValue}
-use Rattle.vr_world.specs.Replica.{Replica}
+use Rattle.vr_world.specs.Replica.{Replica, part_at}
 use Rattle.vr_world.specs.Steps.{Effect, Write, outputs}
 use Rattle.vr_world.specs.Lying.{Lying, lying}
 use Rattle.vr_world.specs.Outputs.{messages}
@@ -30,22 +31,29 @@ use Rattle.law_1_machine.specs.Basics.{In}
 use Rattle.law_1_machine.specs.Group.{Group, Made, Member, made_at}
 use Rattle.law_1_machine.specs.Members as machine
 use Rattle.law_1_machine.specs.Members.{Choice}
-use Rattle.law_2_chains.specs.Local.{Local, carried, WhereverCut}
-use Rattle.law_2_chains.specs.Reflecting.{IsDisk, KeepsStored}
-use Rattle.law_2_chains.specs.Chains.{Setup, IsReached, Every, Mid, Stopped, WasMade}
+use Rattle.law_2_chains.specs.Local.{Local, begun, carried, through, WhereverCut}
+use Rattle.law_2_chains.specs.Reflecting.{IsDisk, KeepsStored, Reflects}
+use Rattle.law_2_chains.specs.Chains.{Setup, IsReached, Every, Mid, Stopped, Under, WasMade}
 use Rattle.law_2_chains.specs.Finished.{Finished, IsSaid, IsTrue}
 use Rattle.law_2_chains.specs.Tables.{Fits, HasTables, HasVouchedAt}
 use Rattle.law_2_chains.specs.Begins.{Begins, as_it_was, one_made, with_made}
 use Rattle.law_2_chains.specs.Choices.{ChainChooses, IsMadeFrom}
 use Rattle.law_2_chains.specs.Openings.{MayBegin, keeping}
 use Rattle.law_2_chains.specs.ChainLaws.{MayArrive}
-use Rattle.law_2_chains.proofs.Finishing.{sent_more}
+use Rattle.law_2_chains.proofs.Finishing.{sent_more, true_more}
+use Rattle.law_2_chains.proofs.Holding.{holds_same, tables_hold}
+use Rattle.law_2_chains.proofs.Lone.{vouches_at_end}
+use Rattle.law_2_chains.proofs.LoneEvents.{lone_react}
+use Rattle.law_2_chains.proofs.Scripts.{carried_append, cut_append, every_map}
+use Rattle.law_2_chains.proofs.Sizes.{alone_or_several}
+use Rattle.law_2_chains.proofs.Tallies.{tables_vouched, tallies_of}
 use Rattle.law_2_chains.proofs.Repairs.{leads_is}
 use Rattle.law_2_chains.proofs.Moving.{stops}
 use Rattle.law_2_chains.proofs.Playing.{leaves, cut_at}
 use Rattle.law_2_chains.proofs.Chained.{chain_react}
 use Rattle.law_2_chains.proofs.Opening.{opens}
-use Rattle.law_2_chains.specs.Bridge.{Bridges, Chained, ChoosesWell, Follows, IsMember, IsRunning, IsSent}
+use Rattle.law_2_chains.specs.Bridge.{Bridges, Chained, ChoosesWell, Follows, IsGround, IsMember, IsOwnVouch, IsRunning, IsSent}
+use Rattle.law_2_chains.specs.Lone.{LoneChooses, Vouched}
 
 -- ---- lists
 
@@ -125,15 +133,55 @@ begun_cut u s at k es _ as_it_was = begun_same u s at (take (k + 1) es)
 begun_cut u s at k es _ (one_made again e later is first new) =
     begun_of u s at (take (k + 1) es) (with_made e.header s) (one_made again e (take k later) (ap (λ (ys : List Effect). take (k + 1) ys) is ∙ take_first k again e later) first new)
 
+-- ---- what it puts something out by
+
+-- The group from which a member goes on, beside the one before the move: it may have vouched for what it has stored, where it is a group by
+-- itself; of the effects that are carried out the first may have begun to write what was made.
+record Grounded (u : Setup) (s : Group Header) (at : ℕ) (es : List Effect) (b : Group Header) : Type 0 where
+  ground : IsGround u s b
+  chosen : (c : Choice Header) → In c s.chosen → In c b.chosen
+  members : (j : ℕ) → j ≢ at → b.members j ≡ s.members j
+  kept : (x : Made Header) → In x s.made → In x b.made
+  made : (x : Made Header) → In x b.made → In x s.made ⊎ ((at ≡ x.view % u.quorums.n) × In x.entry (made_in es))
+  few : length b.made ≤ length s.made + 1
+
+ground_of : (u : Setup) (s : Group Header) (at : ℕ) (es : List Effect) (b : Group Header) → Begun u s at es b → Grounded u s at es b
+ground_of u s at es b x = record {
+  ground = record { before = λ m h. subst (In m) (sym x.sent) h; own = λ m h. inl (subst (In m) x.sent h); several = λ few. x.sent };
+  chosen = λ c h. subst (In c) (sym x.chosen) h;
+  members = λ j n. x.members j;
+  kept = x.kept;
+  made = x.made;
+  few = x.few;
+}
+
+-- where a replica that is a group by itself has vouched in between
+ground_vouched : {r : Replica} {l : Local} (u : Setup) (alone : u.quorums.n ≡ 1) (s : Group Header) (at : ℕ) (es : List Effect) (b c d : Group Header) → Begun u s at es b → Under u b at l c → Vouched at r c d → Grounded u s at es d
+ground_vouched {r} u alone s at es b c d x y v =
+    let made : d.made ≡ b.made = v.made ∙ y.none_made in
+    let sent : (m : machine.Message Header) → In m c.sent → In m s.sent = λ m h. subst (In m) (y.sent ∙ x.sent) h in
+    record {
+      ground = record {
+        before = λ m h. v.kept m (subst (In m) (sym (y.sent ∙ x.sent)) h);
+        own = λ m h. elim (v.only m h) [ inl old ↦ inl (sent m old) | inr new ↦ inr (record { alone = alone; index = at; replica = r; stored = new }) ];
+        several = λ few. absurd (omega arith);
+      };
+      chosen = λ k h. subst (In k) (sym v.chosen) (y.chosen k (subst (In k) (sym x.chosen) h));
+      members = λ j n. ap (λ f. f j) v.members ∙ (y.others j n ∙ x.members j);
+      kept = λ k h. subst (In k) (sym made) (x.kept k h);
+      made = λ k h. x.made k (subst (In k) made h);
+      few = let few = x.few in subst (λ (ys : List (Made Header)). length ys ≤ length s.made + 1) (sym made) few;
+    }
+
 -- ---- one member moved
 
-module _ (u : Setup) (g : group.Group) (s : Group Header) (bridge : Bridges u g s) (fit : IsFitGroup u.cluster g) (at : ℕ) (es : List Effect) (b : Group Header) (begun : Begun u s at es b) (a : Group Header)
+module _ (u : Setup) (g : group.Group) (s : Group Header) (bridge : Bridges u g s) (fit : IsFitGroup u.cluster g) (at : ℕ) (es : List Effect) (b : Group Header) (begun : Grounded u s at es b) (a : Group Header)
     (reached : IsReached u a) (others : (j : ℕ) → j ≢ at → a.members j ≡ b.members j) (sent_b : (m : machine.Message Header) → In m b.sent → In m a.sent) (chosen_b : (c : Choice Header) → In c b.chosen → In c a.chosen) (same_made : a.made ≡ b.made) where
   sent : (m : machine.Message Header) → In m s.sent → In m a.sent
-  sent m h = sent_b m (subst (In m) (sym begun.sent) h)
+  sent m h = sent_b m (begun.ground.before m h)
 
   chosen : (c : Choice Header) → In c s.chosen → In c a.chosen
-  chosen c h = chosen_b c (subst (In c) (sym begun.chosen) h)
+  chosen c h = chosen_b c (begun.chosen c h)
 
   kept : (x : Made Header) → In x s.made → In x a.made
   kept x h = subst (In x) (sym same_made) (begun.kept x h)
@@ -160,12 +208,12 @@ module _ (u : Setup) (g : group.Group) (s : Group Header) (bridge : Bridges u g 
 
   member_other : (j : ℕ) (m : group.Member) → j ≢ at → IsFitMember u.cluster g.n j m → IsMember u s j m → IsMember u a j m
   member_other j m other f x =
-      let same : a.members j ≡ s.members j = others j other ∙ begun.members j in
+      let same : a.members j ≡ s.members j = others j other ∙ begun.members j other in
       record {
         disk = subst (IsDisk m) (sym same) x.disk;
         running = λ r e.
             let y = x.running r e in
-            record { memory = y.memory; running = ap (λ (z : Member Header). z.memory) same ∙ y.running; reflects = y.reflects; stored = y.stored; tables = tables_other j r other (f.running r e).1 y.tables };
+            record { memory = y.memory; running = ap (λ (z : Member Header). z.memory) same ∙ y.running; reflects = y.reflects; stored = y.stored; tables = tables_other j r other (f.running r e).1 y.tables; vouched = λ alone views k h here. sent _ (y.vouched alone views k h here) };
         stopped = λ e. ap (λ (z : Member Header). z.memory) same ∙ x.stopped e;
       }
 
@@ -186,26 +234,87 @@ module _ (u : Setup) (g : group.Group) (s : Group Header) (bridge : Bridges u g 
 few_made : (s b a : Group Header) → length b.made ≤ length s.made + 1 → a.made ≡ b.made → length a.made ≤ length s.made + 1
 few_made s b a l same = subst (λ (xs : List (Made Header)). length xs ≤ length s.made + 1) (sym same) l
 
-module _ (u : Setup) (g : group.Group) (s : Group Header) (bridge : Bridges u g s) (fit : IsFitGroup u.cluster g) (at : ℕ) (es : List Effect) (b : Group Header) (begun : Begun u s at es b) where
-  ends_chained : (move : Move) (q : Replica) (m : group.Member) (l : Local) (a : Group Header) (x : Finished u b at q l a) → l.member ≡ m → l.made ≡ made_in es → l.said ≡ outputs es → HasTables u a at q
+-- the end of a move: that of its script, or where the replica, a group by itself, has vouched once more
+record EndsSo (u : Setup) (b : Group Header) (i : ℕ) (r : Replica) (l : Local) (a : Group Header) : Type 0 where
+  reached : IsReached u a
+  others : (j : ℕ) → j ≢ i → a.members j ≡ b.members j
+  disk : IsDisk l.member (a.members i)
+  made : Every (WasMade a.made) l.made
+  none_made : a.made ≡ b.made
+  memory : machine.Memory Header
+  running : (a.members i).memory ≡ Some memory
+  reflects : Reflects r memory
+  stored : KeepsStored r l.member
+  kept : (m : machine.Message Header) → In m b.sent → In m a.sent
+  chosen : (c : Choice Header) → In c b.chosen → In c a.chosen
+  told : Every (IsTrue u b.sent a.sent) l.said
+  only : (m : machine.Message Header) → In m a.sent → In m b.sent ⊎ (IsSaid u l.said m ⊎ IsOwnVouch u m)
+  vouched : u.quorums.n ≡ 1 → r.view ≡ r.log_view → (k : ℕ) (h : Header) → part_at r k ≡ Here h → In (machine.Prepare_ok i r.view k h) a.sent
+
+ends_of : (u : Setup) → 2 ≤ u.quorums.n → (b : Group Header) (i : ℕ) (r : Replica) (l : Local) (a : Group Header) → Finished u b i r l a → EndsSo u b i r l a
+ends_of u several b i r l a x = record {
+  reached = x.reached;
+  others = x.others;
+  disk = x.disk;
+  made = x.made;
+  none_made = x.none_made;
+  memory = x.memory;
+  running = x.running;
+  reflects = x.reflects;
+  stored = x.stored;
+  kept = x.kept;
+  chosen = x.chosen;
+  told = x.told;
+  only = λ m h. elim (x.only m h) [ inl old ↦ inl old | inr new ↦ inr (inl new) ];
+  vouched = λ alone. absurd (omega arith);
+}
+
+ends_vouched : (u : Setup) → u.quorums.n ≡ 1 → (b : Group Header) (i : ℕ) (r : Replica) (l : Local) (c a : Group Header) → Finished u b i r l c → IsReached u a → Vouched i r c a → EndsSo u b i r l a
+ends_vouched u alone b i r l c a x reached v = record {
+  reached = reached;
+  others = λ j n. ap (λ f. f j) v.members ∙ x.others j n;
+  disk = subst (λ f. IsDisk l.member (f i)) (sym v.members) x.disk;
+  made = subst (λ z. Every (WasMade z) l.made) (sym v.made) x.made;
+  none_made = v.made ∙ x.none_made;
+  memory = x.memory;
+  running = ap (λ f. (f i).memory) v.members ∙ x.running;
+  reflects = x.reflects;
+  stored = x.stored;
+  kept = λ m h. v.kept m (x.kept m h);
+  chosen = λ k h. subst (In k) (sym v.chosen) (x.chosen k h);
+  told = every_map (IsTrue u b.sent c.sent) (IsTrue u b.sent a.sent) l.said (true_more u b.sent c.sent a.sent v.kept) x.told;
+  only = λ m h. elim (v.only m h) [
+    | inl old ↦ elim (x.only m old) [ inl older ↦ inl older | inr said ↦ inr (inl said) ]
+    | inr new ↦ inr (inr (record { alone = alone; index = i; replica = r; stored = new }))
+  ];
+  vouched = λ one. v.all;
+}
+
+module _ (u : Setup) (g : group.Group) (s : Group Header) (bridge : Bridges u g s) (fit : IsFitGroup u.cluster g) (at : ℕ) (es : List Effect) (b : Group Header) (begun : Grounded u s at es b) where
+  ends_chained : (move : Move) (q : Replica) (m : group.Member) (l : Local) (a : Group Header) (x : EndsSo u b at q l a) → l.member ≡ m → l.made ≡ made_in es → l.said ≡ outputs es → HasTables u a at q
       → ChoosesWell g move a.chosen (outputs es) → Chained u s a (record { before = g; move = move; moved = with_script g at (record m { replica = Some q }) es (outputs es) })
   ends_chained move q m l a x member_is made_is said_is tables well =
       let disk : IsDisk m (a.members at) = subst (λ y. IsDisk y (a.members at)) member_is x.disk in
       let stored : KeepsStored q m = subst (KeepsStored q) member_is x.stored in
-      let told : Every (IsTrue u s.sent a.sent) (outputs es) = subst (λ y. Every (IsTrue u y a.sent) (outputs es)) begun.sent (subst (Every (IsTrue u b.sent a.sent)) said_is x.told) in
+      let told : Every (IsTrue u b.sent a.sent) (outputs es) = subst (Every (IsTrue u b.sent a.sent)) said_is x.told in
       let m' : group.Member = record m { replica = Some q } in
-      let run : IsRunning u a at m' q = record { memory = x.memory; running = x.running; reflects = x.reflects; stored = stored; tables = tables } in
+      let run : IsRunning u a at m' q = record { memory = x.memory; running = x.running; reflects = x.reflects; stored = stored; tables = tables; vouched = x.vouched } in
       let new : IsMember u a at m' = record {
         disk = record { last = disk.last; under = disk.under; slots = disk.slots; size = disk.size };
         running = λ p e. (let same : q ≡ p = cc in subst (IsRunning u a at m') same run);
         stopped = λ e. absurd cc;
       } in
       record {
-        bridges = bridged u g s bridge fit at es b begun a x.reached x.others x.kept x.chosen x.none_made m' (outputs es) new (sent_told u s.sent a (outputs es) told) (all_made (WasMade a.made) (made_in es) (subst (Every (WasMade a.made)) made_is x.made));
+        bridges = bridged u g s bridge fit at es b begun a x.reached x.others x.kept x.chosen x.none_made m' (outputs es) new (sent_told u b.sent a (outputs es) told) (all_made (WasMade a.made) (made_in es) (subst (Every (WasMade a.made)) made_is x.made));
         sent = sent u g s bridge fit at es b begun a x.reached x.others x.kept x.chosen x.none_made;
         chosen = chosen u g s bridge fit at es b begun a x.reached x.others x.kept x.chosen x.none_made;
+        ground = b;
+        grounds = begun.ground;
         told = told;
-        only = λ y h. elim (x.only y h) [ inl old ↦ inl (subst (In y) begun.sent old) | inr new ↦ inr (subst (λ os. IsSaid u os y) said_is new) ];
+        only = λ y h. elim (x.only y h) [
+          | inl old ↦ elim (begun.ground.own y old) [ inl older ↦ inl older | inr own ↦ inr (inr own) ]
+          | inr new ↦ elim new [ inl said ↦ inr (inl (subst (λ os. IsSaid u os y) said_is said)) | inr own ↦ inr (inr own) ]
+        ];
         made = λ y h. elim (begun.made y (subst (In y) x.none_made h)) [ inl old ↦ inl old | inr new ↦ inr new.1 ];
         few = few_made s b a begun.few x.none_made;
         choices = well;
@@ -229,8 +338,10 @@ module _ (u : Setup) (g : group.Group) (s : Group Header) (bridge : Bridges u g 
         bridges = bridged u g s bridge fit at es b begun a y.reached y.others still y.chosen y.none_made m' [] new (All-nil (IsSent u a)) (all_made (WasMade a.made) (made_in es) (subst (Every (WasMade a.made)) made_is y.made));
         sent = sent u g s bridge fit at es b begun a y.reached y.others still y.chosen y.none_made;
         chosen = chosen u g s bridge fit at es b begun a y.reached y.others still y.chosen y.none_made;
+        ground = b;
+        grounds = begun.ground;
         told = tt;
-        only = λ z h. inl (subst (In z) (y.sent ∙ begun.sent) h);
+        only = λ z h. elim (begun.ground.own z (subst (In z) y.sent h)) [ inl old ↦ inl old | inr own ↦ inr (inr own) ];
         made = λ z h. elim (begun.made z (subst (In z) y.none_made h)) [ inl old ↦ inl old | inr new ↦ inr new.1 ];
         few = few_made s b a begun.few y.none_made;
         choices = well;
@@ -242,21 +353,25 @@ begins_nothing : (k : ℕ) (es : List Effect) (m : group.Member) → length es �
 begins_nothing k es m l = (rw (drop_all k es l, take_all k es l) refl, take_all (k + 1) es (omega arith))
 
 -- a cut, or a stop at the end, of effects that can be cut
-record CutSo (u : Setup) (b : Group Header) (at k : ℕ) (es : List Effect) (l : Local) : Type 0 where
+record CutSo (P : Local → Type 0) (k : ℕ) (es : List Effect) (l : Local) : Type 0 where
   left : Local
-  stopped : Stopped u b at left
+  stopped : P left
   member : left.member ≡ cut_after k es l.member
   made : left.made ≡ l.made ++ made_in (take (k + 1) es)
 
-cut_so : (u : Setup) (b : Group Header) (at k : ℕ) (es : List Effect) (l : Local) → WhereverCut (Stopped u b at) es l → Stopped u b at (carried es l) → CutSo u b at k es l
-cut_so u b at k es l cuts end =
+cut_so : (P : Local → Type 0) (k : ℕ) (es : List Effect) (l : Local) → WhereverCut P es l → P (carried es l) → CutSo P k es l
+cut_so P k es l cuts end =
     elim (cases_lt k (length es)) [
-      | inl within ↦ let c = cut_at (Stopped u b at) es l k within cuts in record { left = c.left; stopped = c.holds; member = c.member; made = c.made }
+      | inl within ↦ let c = cut_at P es l k within cuts in record { left = c.left; stopped = c.holds; member = c.member; made = c.made }
       | inr past ↦
           let n = begins_nothing k es l.member past in
           let y = leaves es l in
           record { left = carried es l; stopped = end; member = y.member ∙ sym n.0; made = y.made ∙ ap (λ (ys : List Effect). l.made ++ made_in ys) (sym n.1) }
     ]
+
+cuts_so_too : (P Q : Local → Type 0) → ((l : Local) → P l → Q l) → (es : List Effect) (l : Local) → WhereverCut P es l → WhereverCut Q es l
+cuts_so_too P Q f [] l h = tt
+cuts_so_too P Q f (e ∷ es) l h = (f (begun e l) h.0, cuts_so_too P Q f es (through e l) h.1)
 
 -- a member at the beginning of a step
 abbrev pub local : group.Member → Local
@@ -294,38 +409,93 @@ module _ (u : Setup) (fits : Fits u) (hash : u.hash ≡ lying.hash) (g : group.G
       let rs : Some r ≡ Some r2 = sym runs ∙ (ap (λ (z : group.Member). z.replica) one ∙ other.running) in
       cc
 
-  pub chain_of : (at : ℕ) (a : Arrival) (e : Event) (d : Lying) (m : group.Member) (r : Replica) → slice_get g.members at ≡ Some m → m.replica ≡ Some r → IsFitArrival a → IsArrival g at a e → ChainChooses u s at (local m) e r (stepped e r d)
-  chain_of at a e d m r there runs h i =
+  pub chain_of : 2 ≤ u.quorums.n → (at : ℕ) (a : Arrival) (e : Event) (d : Lying) (m : group.Member) (r : Replica) → slice_get g.members at ≡ Some m → m.replica ≡ Some r → IsFitArrival a → IsArrival g at a e
+      → ChainChooses u s at (local m) e r (stepped e r d)
+  chain_of several at a e d m r there runs h i =
       let f = (fit.members at m there).running r runs in
-      chain_react u fits s at lying r d (local m) (mid_of at m r there runs) ((bridge.members at m there).running r runs).tables (sym hash) f.1.cluster lies_fit.names f.0.savable.top tt e (arrives at a e h i)
+      chain_react u fits several s at lying r d (local m) (mid_of at m r there runs) ((bridge.members at m there).running r runs).tables (sym hash) f.1.cluster lies_fit.names f.0.savable.top tt e (arrives at a e h i)
 
-  steps_so : (at : ℕ) (a : Arrival) (e : Event) (d : Lying) (m : group.Member) (r : Replica) → slice_get g.members at ≡ Some m → m.replica ≡ Some r → IsFitArrival a → IsArrival g at a e
-      → (z : Group Header) × Chained u s z (record { before = g; move = group.Steps at a e d; moved = group.finished g at m (stepped e r d) })
-  steps_so at a e d m r there runs h i =
-      let w = chain_of at a e d m r there runs h i in
+  -- of a group of one
+  lone_of : u.quorums.n ≡ 1 → (at : ℕ) (a : Arrival) (e : Event) (d : Lying) (m : group.Member) (r : Replica) → slice_get g.members at ≡ Some m → m.replica ≡ Some r → IsFitArrival a → IsArrival g at a e
+      → LoneChooses u s at (local m) e r (stepped e r d)
+  lone_of alone at a e d m r there runs h i =
+      let f = (fit.members at m there).running r runs in
+      lone_react u fits alone s at lying r d (local m) (mid_of at m r there runs) (sym hash) f.1.cluster lies_fit.names f.0.savable.top tt ((bridge.members at m there).running r runs).tables e (arrives at a e h i)
+
+  abbrev StepsSo : ℕ → Arrival → Event → Lying → group.Member → Replica → Type 0
+  StepsSo at a e d m r = (z : Group Header) × Chained u s z (record { before = g; move = group.Steps at a e d; moved = group.finished g at m (stepped e r d) })
+
+  steps_several : 2 ≤ u.quorums.n → (at : ℕ) (a : Arrival) (e : Event) (d : Lying) (m : group.Member) (r : Replica) → slice_get g.members at ≡ Some m → m.replica ≡ Some r → IsFitArrival a → IsArrival g at a e → StepsSo at a e d m r
+  steps_several several at a e d m r there runs h i =
+      let w = chain_of several at a e d m r there runs h i in
       let c = w.chain in
       let x = stepped e r d in
       let y = leaves x.script (local m) in
+      let l : Local = carried x.script (local m) in
       let well : ChoosesWell g (group.Steps at a e d) c.finishes.after.chosen (outputs x.script) = λ m2 r2 other line j. subst (λ (q : Replica). IsMadeFrom c.finishes.after.chosen e q line) (same_runs at m m2 r r2 there runs other) (w.choices line j) in (
         c.finishes.after,
-        ends_chained u g s bridge fit at x.script c.begun (begun_of u s at x.script c.begun c.begins) (group.Steps at a e d) x.replica (carried_out x.script m) (carried x.script (local m)) c.finishes.after c.finishes.ends y.member y.made y.said
+        ends_chained u g s bridge fit at x.script c.begun (ground_of u s at x.script c.begun (begun_of u s at x.script c.begun c.begins)) (group.Steps at a e d) x.replica (carried_out x.script m) l c.finishes.after
+            (ends_of u several c.begun at x.replica l c.finishes.after c.finishes.ends) y.member y.made y.said c.tables well,
+      )
+
+  steps_alone : u.quorums.n ≡ 1 → (at : ℕ) (a : Arrival) (e : Event) (d : Lying) (m : group.Member) (r : Replica) → slice_get g.members at ≡ Some m → m.replica ≡ Some r → IsFitArrival a → IsArrival g at a e → StepsSo at a e d m r
+  steps_alone alone at a e d m r there runs h i =
+      let w = lone_of alone at a e d m r there runs h i in
+      let c = w.chain in
+      let x = stepped e r d in
+      let y = leaves x.script (local m) in
+      let l : Local = carried x.script (local m) in
+      let ends : Finished u c.ground at x.replica l c.finishes.after = rw (c.script, c.replica, carried_append c.first.script c.second.script (local m)) c.finishes.ends in
+      let grounded = ground_vouched u alone s at x.script c.begun c.goes.after c.ground (begun_of u s at x.script c.begun c.begins) c.goes.ends.under c.grounds in
+      let well : ChoosesWell g (group.Steps at a e d) c.after.chosen (outputs x.script) = λ m2 r2 other line j. subst (λ (q : Replica). IsMadeFrom c.after.chosen e q line) (same_runs at m m2 r r2 there runs other) (w.choices line j) in (
+        c.after,
+        ends_chained u g s bridge fit at x.script c.ground grounded (group.Steps at a e d) x.replica (carried_out x.script m) l c.after (ends_vouched u alone c.ground at x.replica l c.finishes.after c.after ends c.reached c.vouches) y.member y.made y.said
             c.tables well,
       )
 
-  cuts_so : (at : ℕ) (a : Arrival) (e : Event) (d : Lying) (k : ℕ) (m : group.Member) (r : Replica) → slice_get g.members at ≡ Some m → m.replica ≡ Some r → IsFitArrival a → IsArrival g at a e
-      → (z : Group Header) × Chained u s z (record { before = g; move = group.Cuts at a e d k; moved = group.cut_short g at m (stepped e r d) k })
-  cuts_so at a e d k m r there runs h i =
-      let c = (chain_of at a e d m r there runs h i).chain in
+  steps_so : (at : ℕ) (a : Arrival) (e : Event) (d : Lying) (m : group.Member) (r : Replica) → slice_get g.members at ≡ Some m → m.replica ≡ Some r → IsFitArrival a → IsArrival g at a e → StepsSo at a e d m r
+  steps_so at a e d m r there runs h i = elim (alone_or_several u fits) [ inl alone ↦ steps_alone alone at a e d m r there runs h i | inr several ↦ steps_several several at a e d m r there runs h i ]
+
+  abbrev CutsSo : ℕ → Arrival → Event → Lying → ℕ → group.Member → Replica → Type 0
+  CutsSo at a e d k m r = (z : Group Header) × Chained u s z (record { before = g; move = group.Cuts at a e d k; moved = group.cut_short g at m (stepped e r d) k })
+
+  cuts_several : 2 ≤ u.quorums.n → (at : ℕ) (a : Arrival) (e : Event) (d : Lying) (k : ℕ) (m : group.Member) (r : Replica) → slice_get g.members at ≡ Some m → m.replica ≡ Some r → IsFitArrival a → IsArrival g at a e → CutsSo at a e d k m r
+  cuts_several several at a e d k m r there runs h i =
+      let c = (chain_of several at a e d m r there runs h i).chain in
       let x = stepped e r d in
-      let y = cut_so u c.begun at k x.script (local m) c.finishes.cuts c.finishes.stopped in
-      (y.stopped.group, stops_chained u g s bridge fit at (take (k + 1) x.script) c.begun (begun_cut u s at k x.script c.begun c.begins) (group.Cuts at a e d k) (cut_after k x.script m) y.left y.stopped y.member y.made tt)
+      let es : List Effect = take (k + 1) x.script in
+      let y = cut_so (Stopped u c.begun at) k x.script (local m) c.finishes.cuts c.finishes.stopped in
+      (y.stopped.group, stops_chained u g s bridge fit at es c.begun (ground_of u s at es c.begun (begun_cut u s at k x.script c.begun c.begins)) (group.Cuts at a e d k) (cut_after k x.script m) y.left y.stopped y.member y.made tt)
+
+  -- it is cut before it has vouched, or behind that
+  cuts_alone : u.quorums.n ≡ 1 → (at : ℕ) (a : Arrival) (e : Event) (d : Lying) (k : ℕ) (m : group.Member) (r : Replica) → slice_get g.members at ≡ Some m → m.replica ≡ Some r → IsFitArrival a → IsArrival g at a e → CutsSo at a e d k m r
+  cuts_alone alone at a e d k m r there runs h i =
+      let c = (lone_of alone at a e d m r there runs h i).chain in
+      let x = stepped e r d in
+      let es : List Effect = take (k + 1) x.script in
+      let P : Local → Type 0 = λ l. Stopped u c.begun at l ⊎ Stopped u c.ground at l in
+      let cuts : WhereverCut P (c.first.script ++ c.second.script) (local m) =
+      cut_append P c.first.script c.second.script (local m) (cuts_so_too (Stopped u c.begun at) P (λ l z. inl z) c.first.script (local m) c.goes.cuts)
+      (cuts_so_too (Stopped u c.ground at) P (λ l z. inr z) c.second.script (carried c.first.script (local m)) c.finishes.cuts) in
+      let end : P (carried (c.first.script ++ c.second.script) (local m)) = inr (rw (carried_append c.first.script c.second.script (local m)) c.finishes.stopped) in
+      let y = cut_so P k x.script (local m) (rw c.script cuts) (rw c.script end) in
+      let begun = begun_cut u s at k x.script c.begun c.begins in
+      let stopped : (b : Group Header) → Grounded u s at es b → Stopped u b at y.left → CutsSo at a e d k m r =
+      λ b grounded z. (z.group, stops_chained u g s bridge fit at es b grounded (group.Cuts at a e d k) (cut_after k x.script m) y.left z y.member y.made tt) in
+      elim y.stopped [
+        | inl first ↦ stopped c.begun (ground_of u s at es c.begun begun) first
+        | inr second ↦ stopped c.ground (ground_vouched u alone s at es c.begun c.goes.after c.ground begun c.goes.ends.under c.grounds) second
+      ]
+
+  cuts_so : (at : ℕ) (a : Arrival) (e : Event) (d : Lying) (k : ℕ) (m : group.Member) (r : Replica) → slice_get g.members at ≡ Some m → m.replica ≡ Some r → IsFitArrival a → IsArrival g at a e → CutsSo at a e d k m r
+  cuts_so at a e d k m r there runs h i = elim (alone_or_several u fits) [ inl alone ↦ cuts_alone alone at a e d k m r there runs h i | inr several ↦ cuts_several several at a e d k m r there runs h i ]
 
   crashes_so : (at : ℕ) (m : group.Member) → slice_get g.members at ≡ Some m → (z : Group Header) × Chained u s z (record { before = g; move = group.Crashes at; moved = with_script g at (record m { replica = None }) [] [] })
   unfolding made_in
   crashes_so at m there =
       let x = bridge.members at m there in
       let y = stops u s at (local m) (local m) s (record { reached = bridge.reached; sent = refl; chosen = λ c h. h; others = λ j n. refl; disk = x.disk; made = tt; none_made = refl }) x.disk tt in
-      (y.group, stops_chained u g s bridge fit at [] s (begun_same u s at []) (group.Crashes at) m (local m) y refl refl tt)
+      (y.group, stops_chained u g s bridge fit at [] s (ground_of u s at [] s (begun_same u s at [])) (group.Crashes at) m (local m) y refl refl tt)
 
   -- ---- openings
 
@@ -353,6 +523,25 @@ module _ (u : Setup) (fits : Fits u) (hash : u.hash ≡ lying.hash) (g : group.G
         silent = tt;
       }
 
+  -- at its end a replica that is a group by itself vouches
+  record OpenedSo (at : ℕ) (q : Replica) (l : Local) : Type 0 where
+    after : Group Header
+    ends : EndsSo u s at q l after
+    tables : HasTables u after at q
+
+  opened_so : (at : ℕ) (q : Replica) (l : Local) (c : Group Header) → Finished u s at q l c → HasTables u c at q → OpenedSo at q l
+  opened_so at q l c x tables =
+      elim (alone_or_several u fits) [
+        | inr several ↦ record { after = c; ends = ends_of u several s at q l c x; tables = tables }
+        | inl alone ↦
+            let v = vouches_at_end u s at q l c x in
+            record {
+              after = v.0;
+              ends = ends_vouched u alone s at q l c v.0 x v.1 v.2;
+              tables = λ b. tables_vouched u v.0 at q c v.2 (tables_hold u c v.0 at q q (holds_same q) v.2.made v.2.kept (tallies_of u c at q (tables b)));
+            }
+      ]
+
   starts_so : (at : ℕ) (m : group.Member) (v : SuperValue) (d : Lying) → Opens g at m v d → ReadsWell lying d → (z : Group Header) × Chained u s z (record { before = g; move = group.Recovers at v d; moved = group.started g at m v d })
   starts_so at m v d o reads =
       let c = opens u s at (local m) g.made v lying d (may_begin at m v d o reads) in
@@ -361,11 +550,13 @@ module _ (u : Setup) (fits : Fits u) (hash : u.hash ≡ lying.hash) (g : group.G
       let p = leaves x.script (local m) in
       let k : Local = keeping v x (carried x.script (local m)) in
       let q = leaves y.script k in
-      let found : k.member ≡ once_mended v d m = ap (keeps_all (group.found v d)) p.member in (
-        c.finishes.after,
-        ends_chained u g s bridge fit at (opening_script v d) s (begun_same u s at (opening_script v d)) (group.Recovers at v d) y.replica (carried_out y.script (once_mended v d m)) (carried y.script k) c.finishes.after c.finishes.ends
+      let es : List Effect = opening_script v d in
+      let found : k.member ≡ once_mended v d m = ap (keeps_all (group.found v d)) p.member in
+      let z = opened_so at y.replica (carried y.script k) c.finishes.after c.finishes.ends c.tables in (
+        z.after,
+        ends_chained u g s bridge fit at es s (ground_of u s at es s (begun_same u s at es)) (group.Recovers at v d) y.replica (carried_out y.script (once_mended v d m)) (carried y.script k) z.after z.ends
             (q.member ∙ ap (carried_out y.script) found) (q.made ∙ (ap (λ (hs : List Header). hs ++ made_in y.script) p.made ∙ sym (made_append x.script y.script)))
-            (q.said ∙ (ap (λ (os : List Output). os ++ outputs y.script) p.said ∙ sym (outputs_append x.script y.script))) c.tables tt,
+            (q.said ∙ (ap (λ (os : List Output). os ++ outputs y.script) p.said ∙ sym (outputs_append x.script y.script))) z.tables tt,
       )
 
   starts_cut_so : (at : ℕ) (m : group.Member) (v : SuperValue) (d : Lying) (k : ℕ) → Opens g at m v d → ReadsWell lying d → (z : Group Header) × Chained u s z (record { before = g; move = group.RecoversCut at v d k; moved = group.start_cut g at m v d k })
@@ -378,14 +569,14 @@ module _ (u : Setup) (fits : Fits u) (hash : u.hash ≡ lying.hash) (g : group.G
       let found : l.member ≡ once_mended v d m = ap (keeps_all (group.found v d)) p.member in
       let es : List Effect = take (k + 1) (opening_script v d) in
       let chained : (w : group.Member) (j : Local) (z : Stopped u s at j) → j.member ≡ w → j.made ≡ made_in es → w ≡ cut_in_two x.script y.script (keeps_all (group.found v d)) k m → (z : Group Header) × Chained u s z (record { before = g; move = group.RecoversCut at v d k; moved = group.start_cut g at m v d k }) =
-      λ w j z member made is. (z.group, stops_chained u g s bridge fit at es s (begun_same u s at es) (group.RecoversCut at v d k) (cut_in_two x.script y.script (keeps_all (group.found v d)) k m) j z (member ∙ is) made tt) in
+      λ w j z member made is. (z.group, stops_chained u g s bridge fit at es s (ground_of u s at es s (begun_same u s at es)) (group.RecoversCut at v d k) (cut_in_two x.script y.script (keeps_all (group.found v d)) k m) j z (member ∙ is) made tt) in
       elim (cases_lt k (length x.script)) [
         | inl first ↦
             let z = cut_at (Stopped u s at) x.script (local m) k first c.mends in
             chained (cut_after k x.script m) z.left z.holds z.member (z.made ∙ ap made_in (sym (take-append-le (k + 1) x.script y.script (omega arith)))) (rw (lt-ltb k (length x.script) first) refl)
         | inr past ↦
             let j : ℕ = k - length x.script in
-            let z = cut_so u s at j y.script l c.finishes.cuts c.finishes.stopped in
+            let z = cut_so (Stopped u s at) j y.script l c.finishes.cuts c.finishes.stopped in
             let place : k + 1 ≡ length x.script + (j + 1) = omega arith in
             let parts : es ≡ x.script ++ take (j + 1) y.script = ap (λ (n : ℕ). take n (opening_script v d)) place ∙ take-append-add x.script y.script (j + 1) in
             chained (cut_after j y.script (once_mended v d m)) z.left z.stopped (z.member ∙ ap (cut_after j y.script) found)

@@ -30,7 +30,8 @@ use Rattle.law_2_chains.specs.Chains.{Setup, Every, AsksNothing, MayBeSaid, WasS
 use Rattle.law_2_chains.specs.Begins.{IsChain, as_it_was}
 use Rattle.law_2_chains.specs.Choices.{ChainChooses, IsMadeFrom}
 use Rattle.law_2_chains.specs.ChainLaws.{MayArrive}
-use Rattle.law_2_chains.specs.Tables.{Fits, HasTables, Tables}
+use Rattle.law_2_chains.specs.Tables.{Fits, HasTables}
+use Rattle.law_2_chains.proofs.Tallies.{Tallies, tallies_of}
 use Rattle.law_2_chains.proofs.Scripts.{every_append, goes_then, goes_quiet, goes_change, goes_by, goes_if, goes_when}
 use Rattle.law_2_chains.proofs.Readying.{free_ready}
 use Rattle.law_2_chains.proofs.Moving.{goes_says}
@@ -137,10 +138,10 @@ module _ (u : Setup) (fits : Fits u) (start : Group Header) (i : ℕ) where
       (goes_by u start i _ t r d k (goes_when u start i (nat_lt r.commit (head r)) (prepare_again (r.commit + 1)) t r d k a y (λ b. goes_prepare_again u start i (r.commit + 1) t r d k a y (record { begun = p.0; first = p.1 }))))
       (λ b z. goes_looks u start i t _ _ _ b z))
 
-  mute_next : {F : Type 0} → Mute {F = F} next_view
+  pub mute_next : {F : Type 0} → Mute {F = F} next_view
   mute_next = mute_by _ (λ r. (still_enter (r.view + 1)).mute)
 
-  next : {F : Type 0} (t : Setting F) (r : Replica) (f : F) (l : Local) (s : Group Header) → Mid u start i r l s → Every AsksNothing l.said → Goes u start i l (next_view t r f)
+  pub next : {F : Type 0} (t : Setting F) (r : Replica) (f : F) (l : Local) (s : Group Header) → Mid u start i r l s → Every AsksNothing l.said → Goes u start i l (next_view t r f)
   next t r f l s x free = goes_by u start i _ t r f l (goes_enter (r.view + 1) t r f l s x free (omega arith))
 
   ticks_backup : {F : Type 0} (t : Setting F) (r : Replica) (f : F) (l : Local) (s : Group Header) → Mid u start i r l s → Every AsksNothing l.said → Goes u start i l ((change idler ⨾ by (λ r. cond (nat_le 5 r.idle) next_view (visit ⨾ ask))) t r f)
@@ -181,7 +182,7 @@ module _ (u : Setup) (fits : Fits u) (start : Group Header) (i : ℕ) where
 
 -- ---- all events
 
-module _ (u : Setup) (fits : Fits u) (start : Group Header) (i : ℕ) {F : Type 0} (t : Setting F) (r : Replica) (f : F) (l : Local) (x : Mid u start i r l start) (tables : Tables u start i r) (hash : t.hash ≡ u.hash)
+module _ (u : Setup) (fits : Fits u) (several : 2 ≤ u.quorums.n) (start : Group Header) (i : ℕ) {F : Type 0} (t : Setting F) (r : Replica) (f : F) (l : Local) (x : Mid u start i r l start) (tables : Tallies u start i r) (hash : t.hash ≡ u.hash)
     (group : r.cluster ≡ u.cluster) (names : (bytes : List ℕ) → IsNameBytes (t.hash bytes)) (top : 0 < head r → is_some (header_at r (head r)) ≡ true) (free : Every AsksNothing l.said) where
   abbrev With : Event → Step → Type 0
   With e z = ChainChooses u start i l e r z
@@ -193,19 +194,19 @@ module _ (u : Setup) (fits : Fits u) (start : Group Header) (i : ℕ) {F : Type 
   with_choices : (e : Event) (z : Step) → Concludes u start i e r l z → Tabled u start i z → With e z
   unfolding chain_of
   with_choices e z h g = record {
-    chain = chain_of u start i l z h.finishes g;
+    chain = chain_of u several start i l z h.finishes g;
     choices = λ line j. All-contains (IsPicked (IsMadeFrom h.finishes.after.chosen e r)) (outputs z.script) (output.Choose line) h.made j;
   }
 
   ends_so : (e : Event) (w : Word F) → Mute w → Goes u start i l (w t r f) → Tabled u start i (w t r f) → With e (w t r f)
-  ends_so e w m h g = silent e w m (chain_of u start i l (w t r f) (goes_finishes u start i l (w t r f) h) g)
+  ends_so e w m h g = silent e w m (chain_of u several start i l (w t r f) (goes_finishes u start i l (w t r f) h) g)
 
   chain_message : (m : Frame) → r.view ≤ last_view → IsMessage m → WasSent u start.sent m → With (event.Deliver m) (on_message m t r f)
   unfolding on_request on_prepare on_prepare_ok on_commit on_start_view on_get_view on_get_prepare on_give_prepare on_get_block on_give_block on_get_sync on_sync_view
-  chain_message (frame.Request q) last m sent = silent _ (on_request q) (mute_naming _ (λ hash. mute_by _ (λ r. mute_request hash q (first_of (request_table q r))))) (chain_request u fits start i q t r f l x tables hash group names last top free m)
+  chain_message (frame.Request q) last m sent = silent _ (on_request q) (mute_naming _ (λ hash. mute_by _ (λ r. mute_request hash q (first_of (request_table q r))))) (chain_request u fits several start i q t r f l x tables hash group names last top free m)
   chain_message (frame.Reply a) last m sent = ends_so _ quiet mute_quiet (goes_quiet u start i t r f l start x) (held u fits start i t r f l x tables quiet stays_quiet)
   chain_message (frame.Prepare p) last m sent = ends_so _ (on_prepare p) (mute_naming _ (λ hash. mute_by _ (λ r. mute_prepare hash p (first_of (prepare_table hash p r))))) (goes_prepare u start i p t r f l start x hash free sent m) (tabled_prepare u fits start i t r f l x tables p m)
-  chain_message (frame.PrepareOk a) last m sent = ends_so _ (on_prepare_ok a) (mute_naming _ (λ hash. mute_by _ (λ r. mute_prepare_ok a (first_of (prepare_ok_table hash a r))))) (goes_prepare_ok u fits start i a t r f l start x tables sent) (tabled_prepare_ok u fits start i t r f l x tables a sent)
+  chain_message (frame.PrepareOk a) last m sent = ends_so _ (on_prepare_ok a) (mute_naming _ (λ hash. mute_by _ (λ r. mute_prepare_ok a (first_of (prepare_ok_table hash a r))))) (goes_prepare_ok u fits several start i a t r f l start x tables sent) (tabled_prepare_ok u fits start i t r f l x tables a sent)
   chain_message (frame.Commit c) last m sent = ends_so _ (on_commit c) (mute_by _ (λ r. mute_commit c (first_of (commit_table c r)))) (goes_commit u start i c t r f l start x sent) (tabled_commit u fits start i t r f l x tables c)
   chain_message (frame.StartViewChange c) last m sent = with_choices _ _ (concludes_start_view_change u fits start i c t r f l start x tables.stated free m) (tabled_start_view_change u fits start i t r f l x tables c m)
   chain_message (frame.DoViewChange d) last m sent = with_choices _ _ (concludes_goes u start i (event.Deliver (frame.DoViewChange d)) r l _ (goes_do_view_change u fits start i d t r f l start x tables.stated free m sent)) (tabled_do_view_change u fits start i t r f l x tables d m sent)
@@ -215,16 +216,16 @@ module _ (u : Setup) (fits : Fits u) (start : Group Header) (i : ℕ) {F : Type 
   chain_message (frame.GivePrepare g) last m sent = ends_so _ (on_give_prepare g) (mute_by _ (λ r. mute_give_prepare g (first_of (give_prepare_table g r)))) (goes_give_prepare u start i g t r f l start x hash free) (tabled_give_prepare u fits start i t r f l x tables g)
   chain_message (frame.GetBlock g) last m sent = ends_so _ (on_get_block g) (mute_reading _ _ (λ block. mute_by _ (λ r. mute_get_block g block (first_of (get_block_table (is_some block) g r))))) (goes_get_block u start i g t r f l start x) (tabled_get_block u fits start i t r f l x tables g)
   chain_message (frame.GiveBlock g) last m sent = ends_so _ (on_give_block g) (mute_reading _ _ (λ is_block. mute_by _ (λ r. mute_give_block is_block g (first_of (give_block_table is_block g r))))) (goes_give_block u start i g t r f l start x) (tabled_give_block u fits start i t r f l x tables g)
-  chain_message (frame.GetSync g) last m sent = silent _ (on_get_sync g) (mute_by _ (λ r. mute_get_sync g (first_of (get_sync_table g r)))) (chain_of u start i l (on_get_sync g t r f) (finishes_get_sync u start i g t r f l start x) (tabled_get_sync u fits start i t r f l x tables g))
+  chain_message (frame.GetSync g) last m sent = silent _ (on_get_sync g) (mute_by _ (λ r. mute_get_sync g (first_of (get_sync_table g r)))) (chain_of u several start i l (on_get_sync g t r f) (finishes_get_sync u start i g t r f l start x) (tabled_get_sync u fits start i t r f l x tables g))
   chain_message (frame.SyncView v) last m sent = ends_so _ (on_sync_view v) (mute_naming _ (λ hash. mute_by _ (λ r. mute_sync_view hash v (first_of (sync_view_table hash v r))))) (goes_sync_view u start i v t r f l start x hash free m sent) (tabled_sync_view u fits start i t r f l x tables v m)
 
   chain_event : (e : Event) → r.view ≤ last_view → MayArrive u start e → With e (on_event e t r f)
   unfolding on_request
-  chain_event (event.Request q) last m = silent _ (on_request q) (mute_naming _ (λ hash. mute_by _ (λ r. mute_request hash q (first_of (request_table q r))))) (chain_request u fits start i q t r f l x tables hash group names last top free m)
+  chain_event (event.Request q) last m = silent _ (on_request q) (mute_naming _ (λ hash. mute_by _ (λ r. mute_request hash q (first_of (request_table q r))))) (chain_request u fits several start i q t r f l x tables hash group names last top free m)
   chain_event (event.Deliver m) last may = chain_message m last may.0 may.1
   chain_event event.Tick last may = with_choices _ _ (concludes_tick u fits start i t r f l start x tables.stated free) (tabled_tick u fits start i t r f l x tables)
 
-module _ (u : Setup) (fits : Fits u) (start : Group Header) (i : ℕ) {F : Type 0} (t : Setting F) (r : Replica) (f : F) (l : Local) (x : Mid u start i r l start) (tabled : HasTables u start i r) (hash : t.hash ≡ u.hash)
+module _ (u : Setup) (fits : Fits u) (several : 2 ≤ u.quorums.n) (start : Group Header) (i : ℕ) {F : Type 0} (t : Setting F) (r : Replica) (f : F) (l : Local) (x : Mid u start i r l start) (tabled : HasTables u start i r) (hash : t.hash ≡ u.hash)
     (group : r.cluster ≡ u.cluster) (names : (bytes : List ℕ) → IsNameBytes (t.hash bytes)) (top : 0 < head r → is_some (header_at r (head r)) ≡ true) (free : Every AsksNothing l.said) where
   frozen : (e : Event) → is_frozen r ≡ true → ChainChooses u start i l e r (quiet t r f)
   unfolding quiet outputs
@@ -239,5 +240,5 @@ module _ (u : Setup) (fits : Fits u) (start : Group Header) (i : ℕ) {F : Type 
   chain_react e may =
       elim (is_frozen r) as (λ b. is_frozen r ≡ b → ChainChooses u start i l e r (when (not b) (on_event e) t r f)) [
         | true ↦ λ b. frozen e b
-        | false ↦ λ b. chain_event u fits start i t r f l x (tabled b) hash group names top free e (ltb-false last_view r.view (or_parts (nat_lt last_view r.view) (is_spent r) b).0) may
+        | false ↦ λ b. chain_event u fits several start i t r f l x (tallies_of u start i r (tabled b)) hash group names top free e (ltb-false last_view r.view (or_parts (nat_lt last_view r.view) (is_spent r) b).0) may
       ] refl

@@ -65,7 +65,7 @@ module _ (u : Setup) (start : Group Header) (i : ℕ) (cs : List (Choice Header)
   cuts_back [] l h = tt
   cuts_back (e ∷ es) l h = (stopped_back (begun e l) h.0, cuts_back es (through e l) h.1)
 
-  finished_back : (r : Replica) (l : Local) (s : Group Header) → Finished u (with_chosen cs start) i r l s → Finished u start i r l s
+  pub finished_back : (r : Replica) (l : Local) (s : Group Header) → Finished u (with_chosen cs start) i r l s → Finished u start i r l s
   finished_back r l s x = record {
     reached = x.reached;
     others = x.others;
@@ -107,10 +107,10 @@ picked_more P Q f output.KeptOut h = tt
 abbrev pub AreMade : List (Choice Header) → Event → Replica → List Effect → Type 0
 AreMade cs e o es = All (IsPicked (IsMadeFrom cs e o)) (outputs es)
 
-are_more : (cs ds : List (Choice Header)) → ((c : Choice Header) → In c cs → In c ds) → (e : Event) (o : Replica) (es : List Effect) → AreMade cs e o es → AreMade ds e o es
+pub are_more : (cs ds : List (Choice Header)) → ((c : Choice Header) → In c cs → In c ds) → (e : Event) (o : Replica) (es : List Effect) → AreMade cs e o es → AreMade ds e o es
 are_more cs ds f e o es h = All-weaker (IsPicked (IsMadeFrom cs e o)) (IsPicked (IsMadeFrom ds e o)) (λ x p. picked_more (IsMadeFrom cs e o) (IsMadeFrom ds e o) (made_more cs ds f e o) x p) (outputs es) h
 
-are_append : (cs : List (Choice Header)) (e : Event) (o : Replica) (a b : List Effect) → AreMade cs e o a → AreMade cs e o b → AreMade cs e o (a ++ b)
+pub are_append : (cs : List (Choice Header)) (e : Event) (o : Replica) (a b : List Effect) → AreMade cs e o a → AreMade cs e o b → AreMade cs e o (a ++ b)
 are_append cs e o a b h k = rw (outputs_append a b) (All-append (IsPicked (IsMadeFrom cs e o)) (outputs a) (outputs b) h k)
 
 pub are_none : {F : Type 0} (cs : List (Choice Header)) (e : Event) (o : Replica) (w : Word F) → Mute w → (t : Setting F) (r : Replica) (f : F) → AreMade cs e o (w t r f).script

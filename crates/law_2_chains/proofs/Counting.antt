@@ -29,7 +29,8 @@ use Rattle.law_1_machine.specs.Members as machine
 use Rattle.law_1_machine.specs.Quorums.{count}
 use Rattle.law_2_chains.specs.Local.{Local}
 use Rattle.law_2_chains.specs.Chains.{Setup, WasSent, Mid, Goes}
-use Rattle.law_2_chains.specs.Tables.{Fits, HasVouchedAt, Tables}
+use Rattle.law_2_chains.specs.Tables.{Fits, HasVouchedAt}
+use Rattle.law_2_chains.proofs.Tallies.{Tallies}
 use Rattle.law_2_chains.proofs.Scripts.{goes_quiet, goes_by, goes_naming}
 use Rattle.law_2_chains.proofs.Moving.{mid_stays}
 use Rattle.law_2_chains.proofs.Learning.{HasVouched, goes_advance}
@@ -117,34 +118,18 @@ voter r k j t =
       | false ↦ λ e x. inr x
     ] refl t
 
-module _ (u : Setup) (fits : Fits u) (start : Group Header) (i : ℕ) where
+module _ (u : Setup) (quorum : replication u.quorums.n ≡ u.quorums.replication) (start : Group Header) (i : ℕ) where
   -- where each voter has vouched, a quorum has
   pub quorum_vouched : (r : Replica) (k : ℕ) → r.n ≡ u.quorums.n → has_quorum r k ≡ true → ((j : ℕ) → has_replica (votes r k) j ≡ true → (j < u.quorums.n) × HasVouchedAt u start r.log_view k j) → HasVouched u start i r.log_view k
   quorum_vouched r k size_is has each =
       let enough = leb-true (replication r.n) (size (votes r k)) has in
-      let same : replication r.n ≡ u.quorums.replication = ap replication size_is ∙ fits.replication_is in
+      let same : replication r.n ≡ u.quorums.replication = ap replication size_is ∙ quorum in
       let more = size_count (votes r k) u.quorums.n (λ j t. (each j t).0) in
       record { set = λ j. has_replica (votes r k) j; enough = omega arith; each = λ j l t. (each j t).1 }
 
-  pub voters_vouched : (r : Replica) (l : Local) (s : Group Header) (x : Mid u start i r l s) → Tables u start i r → leads r ≡ true → (k j : ℕ) → r.commit < k → has_replica (votes r k) j ≡ true
-      → (j < u.quorums.n) × HasVouchedAt u start r.log_view k j
-  voters_vouched r l s x tables lead k j above t =
-      let begun = (leads_is r lead).0 in
-      let member = x.sound.member in
-      let size_is = x.size in
-      let place = x.place in
-      elim (voter r k j t) [
-        | inl mine ↦ rw (mine.0) (omega arith, subst (λ m. HasVouchedAt u start r.log_view k m) (sym place) (subst (λ v. HasVouchedAt u start v k i) begun (tables.own lead k mine.1.0 above mine.1.1)))
-        | inr acker ↦ let a = tables.acks lead k j above acker in (a.1, subst (λ v. HasVouchedAt u start v k j) begun a.2)
-      ]
+-- ---- a replica is counted
 
-  -- the primary counts who has vouched
-  pub goes_count : {F : Type 0} (t : Setting F) (r : Replica) (f : F) (l : Local) (s : Group Header) → Mid u start i r l s → Tables u start i r → leads r ≡ true → Goes u start i l (advance t r f)
-  goes_count t r f l s x tables lead =
-      goes_advance u start i t r f l s x (counted_within r x.sound.order.known) (λ k a b. quorum_vouched r k x.size (counted_has r k a b) (λ j y. voters_vouched r l s x tables lead k j a y))
-
-  -- ---- a replica is counted
-
+module _ (u : Setup) (start : Group Header) (i : ℕ) where
   mid_acknowledged : (a : PrepareOk) (r : Replica) (l : Local) (s : Group Header) → Mid u start i r l s → Mid u start i (acknowledged a r) l s
   unfolding head part_at
   mid_acknowledged a r l s x =
@@ -153,7 +138,7 @@ module _ (u : Setup) (fits : Fits u) (start : Group Header) (i : ℕ) where
       (record { view = f.view; log_view = f.log_view; checkpoint = f.checkpoint; commit = f.commit; applied = f.applied; reach = f.reach; parts = f.parts; loaded = f.loaded; waits = f.waits })
       (sound_ackers r _ (length-set r.ackers (a.op - r.first) _) x.sound) refl refl x.stored
 
-  acks_more : (a : PrepareOk) (r : Replica) → IsSound r → Tables u start i r → leads r ≡ true → r.commit < a.op → a.op ≤ head r → (a.replica < u.quorums.n) × HasVouchedAt u start r.view a.op a.replica
+  acks_more : (a : PrepareOk) (r : Replica) → IsSound r → Tallies u start i r → leads r ≡ true → r.commit < a.op → a.op ≤ head r → (a.replica < u.quorums.n) × HasVouchedAt u start r.view a.op a.replica
       → (k j : ℕ) → r.commit < k → has_replica (ackers_at (acknowledged a r) k) j ≡ true → (k ≤ head r) × (j < u.quorums.n) × HasVouchedAt u start r.view k j
   acks_more a r sound tables lead low top new k j above t =
       let first = sound.lists.reach in
@@ -180,8 +165,8 @@ module _ (u : Setup) (fits : Fits u) (start : Group Header) (i : ℕ) where
             tables.acks lead k j above (sym (ap (λ (x : Replicas). has_replica x j) (get_or-set_other r.ackers p (k - r.first) (with_replica (ackers_at r a.op) a.replica) no_replicas (λ e. other (omega (arith, e))))) ∙ t)
       ]
 
-  pub tables_acknowledged : (a : PrepareOk) (r : Replica) → IsSound r → Tables u start i r → leads r ≡ true → r.commit < a.op → a.op ≤ head r → (a.replica < u.quorums.n) × HasVouchedAt u start r.view a.op a.replica
-      → Tables u start i (acknowledged a r)
+  pub tables_acknowledged : (a : PrepareOk) (r : Replica) → IsSound r → Tallies u start i r → leads r ≡ true → r.commit < a.op → a.op ≤ head r → (a.replica < u.quorums.n) × HasVouchedAt u start r.view a.op a.replica
+      → Tallies u start i (acknowledged a r)
   unfolding head part_at
   tables_acknowledged a r sound tables lead low top new = record {
     acks = λ y k j above t. acks_more a r sound tables lead low top new k j above t;
@@ -193,7 +178,27 @@ module _ (u : Setup) (fits : Fits u) (start : Group Header) (i : ℕ) where
   leads_acknowledged : (a : PrepareOk) (r : Replica) → leads (acknowledged a r) ≡ leads r
   leads_acknowledged a r = refl
 
-  pub goes_prepare_ok : {F : Type 0} (a : PrepareOk) (t : Setting F) (r : Replica) (f : F) (l : Local) (s : Group Header) → Mid u start i r l s → Tables u start i r → WasSent u start.sent (frame.PrepareOk a)
+-- ---- who is counted has vouched
+
+module _ (u : Setup) (fits : Fits u) (several : 2 ≤ u.quorums.n) (start : Group Header) (i : ℕ) where
+  pub voters_vouched : (r : Replica) (l : Local) (s : Group Header) (x : Mid u start i r l s) → Tallies u start i r → leads r ≡ true → (k j : ℕ) → r.commit < k → has_replica (votes r k) j ≡ true
+      → (j < u.quorums.n) × HasVouchedAt u start r.log_view k j
+  voters_vouched r l s x tables lead k j above t =
+      let begun = (leads_is r lead).0 in
+      let member = x.sound.member in
+      let size_is = x.size in
+      let place = x.place in
+      elim (voter r k j t) [
+        | inl mine ↦ rw (mine.0) (omega arith, subst (λ m. HasVouchedAt u start r.log_view k m) (sym place) (subst (λ v. HasVouchedAt u start v k i) begun (tables.own several lead k mine.1.0 above mine.1.1)))
+        | inr acker ↦ let a = tables.acks lead k j above acker in (a.1, subst (λ v. HasVouchedAt u start v k j) begun a.2)
+      ]
+
+  -- the primary counts who has vouched
+  pub goes_count : {F : Type 0} (t : Setting F) (r : Replica) (f : F) (l : Local) (s : Group Header) → Mid u start i r l s → Tallies u start i r → leads r ≡ true → Goes u start i l (advance t r f)
+  goes_count t r f l s x tables lead =
+      goes_advance u start i t r f l s x (counted_within r x.sound.order.known) (λ k a b. quorum_vouched u fits.replication_is start i r k x.size (counted_has r k a b) (λ j y. voters_vouched r l s x tables lead k j a y))
+
+  pub goes_prepare_ok : {F : Type 0} (a : PrepareOk) (t : Setting F) (r : Replica) (f : F) (l : Local) (s : Group Header) → Mid u start i r l s → Tallies u start i r → WasSent u start.sent (frame.PrepareOk a)
       → Goes u start i l (on_prepare_ok a t r f)
   unfolding on_prepare_ok
   goes_prepare_ok a t r f l s x tables sent =
@@ -211,9 +216,9 @@ module _ (u : Setup) (fits : Fits u) (start : Group Header) (i : ℕ) where
               let d = and_parts (nat_le a.op (head r)) _ b.1 in
               let view = eqb-true a.view r.view q.0 in
               let vouched : HasVouchedAt u start r.view a.op a.replica = (sent.0, inl (subst (λ v. In (machine.Prepare_ok a.replica v a.op sent.0) start.sent) view sent.2)) in
-              let y = mid_acknowledged a r l s x in
+              let y = mid_acknowledged u start i a r l s x in
               goes_change_then u start i (acknowledged a) advance t r f l s y (λ e. goes_count t (acknowledged a r) e l s y
-              (tables_acknowledged a r x.sound tables p.0 (ltb-true r.commit a.op b.0) (leb-true a.op (head r) d.0) (omega arith, vouched)) (leads_acknowledged a r ∙ p.0)),
+              (tables_acknowledged u start i a r x.sound tables p.0 (ltb-true r.commit a.op b.0) (leb-true a.op (head r) d.0) (omega arith, vouched)) (leads_acknowledged u start i a r ∙ p.0)),
           λ n1. idle,
         ),
       )))

@@ -43,7 +43,7 @@ abbrev no_header : Option Header
 no_header = None
 
 module _ (kind : Kind) (c n i : ℕ) where
-  fresh_nothing : (k : ℕ) → part_at (fresh kind c n i) k ≡ Nothing
+  pub fresh_nothing : (k : ℕ) → part_at (fresh kind c n i) k ≡ Nothing
   unfolding blank
   fresh_nothing k =
       let r : Replica = fresh kind c n i in

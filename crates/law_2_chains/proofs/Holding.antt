@@ -22,7 +22,8 @@ use Rattle.vr_msg.specs.declared.statement.Statement.{Statement}
 use Rattle.law_1_machine.specs.Members.{Message, Do_view_change}
 use Rattle.law_1_machine.specs.Group.{Group, made_at}
 use Rattle.law_2_chains.specs.Chains.{Setup, statement_told}
-use Rattle.law_2_chains.specs.Tables.{HasVouchedAt, Tables}
+use Rattle.law_2_chains.specs.Tables.{HasVouchedAt}
+use Rattle.law_2_chains.proofs.Tallies.{Tallies}
 use Rattle.law_2_chains.proofs.Counting.{counts, counted_within}
 use Rattle.law_2_chains.proofs.Applying.{op_is, at_lost, other_lost, head_lost}
 
@@ -63,7 +64,7 @@ leads_same : (r q : Replica) → Holds r q → leads q ≡ leads r
 leads_same r q h = rw (h.view, h.log_view, h.index, h.n) refl
 
 -- then its tables are still true, where all that was sent is sent and nothing was made
-pub tables_hold : (u : Setup) (s t : Group Header) (i : ℕ) (r q : Replica) → Holds r q → t.made ≡ s.made → ((m : Message Header) → In m s.sent → In m t.sent) → Tables u s i r → Tables u t i q
+pub tables_hold : (u : Setup) (s t : Group Header) (i : ℕ) (r q : Replica) → Holds r q → t.made ≡ s.made → ((m : Message Header) → In m s.sent → In m t.sent) → Tallies u s i r → Tallies u t i q
 tables_hold u s t i r q h made sent tables =
     let up = h.commit in
     let top = h.top in
@@ -74,7 +75,7 @@ tables_hold u s t i r q h made sent tables =
           let a = tables.acks (sym lead ∙ l) k j (omega arith) (sym (ap (λ (x : Replicas). has_replica x j) (h.acks k)) ∙ has) in
           let within = a.0 in
           (omega arith, a.1, subst (λ v. HasVouchedAt u t v k j) (sym h.view) (more r.view k j a.2));
-      own = λ l k g above is. subst (λ v. HasVouchedAt u t v k i) (sym h.view) (more r.view k i (tables.own (sym lead ∙ l) k g (omega arith) (h.here k g is)));
+      own = λ several l k g above is. subst (λ v. HasVouchedAt u t v k i) (sym h.view) (more r.view k i (tables.own several (sym lead ∙ l) k g (omega arith) (h.here k g is)));
       top = λ l k g above is. tables.top (sym lead ∙ l) k g (omega arith) (subst (λ v. In (made_at v k g) s.made) h.view (subst (In (made_at q.view k g)) made is));
       stated = λ j x is. subst (λ v. In (Do_view_change j v (statement_told x)) t.sent) (sym h.view) (sent _ (tables.stated j x (sym (ap (λ (ys : List (Option Statement)). get_or ys j None) h.statements) ∙ is)));
     }

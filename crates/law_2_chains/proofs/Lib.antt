@@ -7,8 +7,10 @@ pub mod Saving
 pub mod Applying
 pub mod Learning
 pub mod Vouching
+pub mod Lone
 pub mod Prepares
 pub mod Repairs
+pub mod Tallies
 pub mod Takes
 pub mod StartViews
 pub mod Jumps
@@ -16,7 +18,10 @@ pub mod SyncViews
 pub mod Unmoving
 pub mod Visits
 pub mod Counting
+pub mod NewEntries
 pub mod Requests
+pub mod LoneSteps
+pub mod LoneRequests
 pub mod Choosing
 pub mod Picking
 pub mod Choices
@@ -24,6 +29,10 @@ pub mod Beginning
 pub mod Finishing
 pub mod Speaking
 pub mod Chained
+pub mod LoneGoing
+pub mod LoneTries
+pub mod LoneTicks
+pub mod LoneEvents
 pub mod Blocks
 pub mod Playing
 pub mod Starting

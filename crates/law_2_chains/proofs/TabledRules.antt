@@ -45,7 +45,8 @@ use Rattle.law_1_machine.specs.Members as machine
 use Rattle.law_1_machine.specs.Members.{Do_view_change}
 use Rattle.law_2_chains.specs.Local.{Local}
 use Rattle.law_2_chains.specs.Chains.{Setup, Mid, WasSent, statement_told}
-use Rattle.law_2_chains.specs.Tables.{Fits, HasVouchedAt, Tables}
+use Rattle.law_2_chains.specs.Tables.{Fits, HasVouchedAt}
+use Rattle.law_2_chains.proofs.Tallies.{Tallies}
 use Rattle.law_2_chains.proofs.Saving.{saved_sound}
 use Rattle.law_2_chains.proofs.Beginning.{with_statement_told}
 use Rattle.law_2_chains.proofs.Counting.{tables_acknowledged}
@@ -55,8 +56,8 @@ use Rattle.law_2_chains.proofs.Takes.{taken_views}
 use Rattle.law_2_chains.proofs.Jumps.{jumped_views}
 use Rattle.law_2_chains.proofs.Holding.{Holds, holds_rested, tables_hold}
 use Rattle.law_2_chains.proofs.Staying.{Stays, stays_quiet, stays_says, stays_then, stays_by, stays_when, stays_each, stays_apply, stays_learn, stays_advance, stays_rested, stays_again, stays_resend, stays_looks, stays_mend_found, holds_entry, holds_idler, holds_put}
-use Rattle.law_2_chains.proofs.Tabling.{Tabled, tabled_after, tabled_change_then, tabled_says_then, tabled_quiet_then, tabled_if, tabled_held, tabled_stays, tabled_then_stays, tables_unled, tabled_unled}
-use Rattle.law_2_chains.proofs.TabledWords.{Enters, several_by, enter_rests, entered_so, started_so, tabled_entered, tabled_enter_then, enter_is, tabled_take_then, taken_statements, tabled_jump_then, jumped_statements, tabled_try, tabled_speak, tabled_repaired}
+use Rattle.law_2_chains.proofs.Tabling.{Tabled, tabled_after, tabled_change_then, tabled_says_then, tabled_quiet_then, tabled_if, tabled_held, tabled_stays, tabled_then_stays, tallies_unled, tabled_unled}
+use Rattle.law_2_chains.proofs.TabledWords.{Enters, enter_rests, entered_so, started_so, tabled_entered, tabled_enter_then, enter_is, tabled_take_then, taken_statements, tabled_jump_then, jumped_statements, tabled_try, tabled_speak, tabled_repaired}
 
 -- ---- the view and its primary stay
 
@@ -108,11 +109,8 @@ unfolding acknowledge_stored
 stays_acknowledge hash op = stays_by _ (λ r. stays_when (is_here (part_at r op)) _ (stays_acknowledge_of hash (header_at r op)))
 
 module _ (u : Setup) (fits : Fits u) (start : Group Header) (i : ℕ) where
-  several : 2 ≤ u.quorums.n
-  several = several_by u fits
-
   -- the tables of a backup say nothing but what was stated
-  backup : (r : Replica) (x : Step) → Tables u start i r → (leads r ≡ true → ⊥) → Alike r x.replica → Tabled u start i x
+  backup : (r : Replica) (x : Step) → Tallies u start i r → (leads r ≡ true → ⊥) → Alike r x.replica → Tabled u start i x
   backup r x tables unled h =
       tabled_unled u start i x (λ l. unled (sym (leads_alike r x.replica h) ∙ l)) (λ j z is. subst (λ v. In (Do_view_change j v (statement_told z)) start.sent) (sym h.view)
       (tables.stated j z (sym (ap (λ (ys : List (Option Statement)). get_or ys j None) h.statements) ∙ is)))
@@ -128,7 +126,7 @@ module _ (u : Setup) (fits : Fits u) (start : Group Header) (i : ℕ) where
       let own = (leads_is r l).1 in
       apart (first ∙ (ap (λ v. v % r.n) (sym same) ∙ sym own))
 
-  module _ {F : Type 0} (t : Setting F) (r : Replica) (f : F) (l : Local) (x : Mid u start i r l start) (tables : Tables u start i r) where
+  module _ {F : Type 0} (t : Setting F) (r : Replica) (f : F) (l : Local) (x : Mid u start i r l start) (tables : Tallies u start i r) where
     pub held : (w : Word F) → Stays w → Tabled u start i (w t r f)
     held w h = tabled_stays u start i w t r f h x.sound tables
 
@@ -213,7 +211,7 @@ module _ (u : Setup) (fits : Fits u) (start : Group Header) (i : ℕ) where
                 let d = and_parts (nat_le a.op (head r)) _ b.1 in
                 let view = eqb-true a.view r.view q.0 in
                 let vouched : HasVouchedAt u start r.view a.op a.replica = (sent.0, inl (subst (λ v. In (machine.Prepare_ok a.replica v a.op sent.0) start.sent) view sent.2)) in
-                let counted = tables_acknowledged u fits start i a r x.sound tables p.0 (ltb-true r.commit a.op b.0) (leb-true a.op (head r) d.0) (omega arith, vouched) in
+                let counted = tables_acknowledged u start i a r x.sound tables p.0 (ltb-true r.commit a.op b.0) (leb-true a.op (head r) d.0) (omega arith, vouched) in
                 tabled_change_then u start i (acknowledged a) advance t r f (λ e. tabled_stays u start i advance t (acknowledged a r) e stays_advance (sound_acknowledged a) counted),
             λ n1. idle,
           ),
@@ -242,7 +240,7 @@ module _ (u : Setup) (fits : Fits u) (start : Group Header) (i : ℕ) where
     hears : (sender : ℕ) (q : Replica) (d : F) → Enters u start i q → Tabled u start i ((change (heard_of sender) ⨾ speak) t q d)
     hears sender q d y =
         tabled_change_then u start i (heard_of sender) speak t q d (λ e. tabled_speak u start i t (heard_of sender q) e
-        (record { sound = sound_alike q (heard_of sender q) refl y.sound; place = y.place; size = y.size; several = y.several; lower = y.lower; stated = y.stated; unmade = y.unmade }))
+        (record { sound = sound_alike q (heard_of sender q) refl y.sound; place = y.place; size = y.size; lower = y.lower; stated = y.stated; unmade = y.unmade }))
 
     pub tabled_start_view_change : (c : StartViewChange) → IsMessage (frame.StartViewChange c) → Tabled u start i (on_start_view_change c t r f)
     unfolding on_start_view_change by
@@ -257,12 +255,12 @@ module _ (u : Setup) (fits : Fits u) (start : Group Header) (i : ℕ) where
                   let top = m.form in
                   let later = ltb-true r.view c.view a in
                   let low : nat_lt last_view c.view ≡ false = le-ltb last_view c.view (omega arith) in
-                  tabled_enter_then u start i c.view _ t r f low (λ d. hears c.replica (with_saved (entered c.view r)) d (entered_so u start i c.view r l x several later)),
+                  tabled_enter_then u start i c.view _ t r f low (λ d. hears c.replica (with_saved (entered c.view r)) d (entered_so u start i c.view r l x later)),
               λ n2. (
                 λ a.
                     let b = and_parts (not (is_started r)) _ a in
                     let apart = eqb-false r.view r.log_view (not-true (is_started r) b.0) in
-                    hears c.replica r f (started_so u start i r l x tables.stated several (omega arith)),
+                    hears c.replica r f (started_so u start i r l x tables.stated (omega arith)),
                 λ n3. (λ a. held (tell_view c.replica) (stays_says _), λ n4. idle),
               ),
             ),
@@ -273,7 +271,7 @@ module _ (u : Setup) (fits : Fits u) (start : Group Header) (i : ℕ) where
         → Tabled u start i ((change (with_statement d.replica d.statement) ⨾ try) t q e)
     states d q e y is new =
         tabled_change_then u start i (with_statement d.replica d.statement) try t q e (λ g. tabled_try u start i t (with_statement d.replica d.statement q) g
-        (record { sound = (kept_statement d.replica d.statement q y.sound is).sound; place = y.place; size = y.size; several = y.several; lower = y.lower; stated = with_statement_told u fits start i d q y.stated new; unmade = y.unmade }))
+        (record { sound = (kept_statement d.replica d.statement q y.sound is).sound; place = y.place; size = y.size; lower = y.lower; stated = with_statement_told u fits start i d q y.stated new; unmade = y.unmade }))
 
     entered_stated : (d : DoViewChange) → IsStated (version r) r.cluster d.view d.statement → IsStated (version (with_saved (entered d.view r))) (with_saved (entered d.view r)).cluster (with_saved (entered d.view r)).view d.statement
     unfolding entered value_of
@@ -287,11 +285,11 @@ module _ (u : Setup) (fits : Fits u) (start : Group Header) (i : ℕ) where
     states_in : (d : DoViewChange) (b : Bool) → nat_lt r.view d.view ≡ b → r.view ≤ d.view → (d.view ≡ r.view → r.log_view < r.view) → nat_lt last_view d.view ≡ false → IsStated (version r) r.cluster d.view d.statement
         → WasSent u start.sent (frame.DoViewChange d) → Tabled u start i ((when b (enter d.view) ⨾ change (with_statement d.replica d.statement) ⨾ try) t r f)
     states_in d true e up apart low is sent =
-        tabled_enter_then u start i d.view _ t r f low (λ g. states d (with_saved (entered d.view r)) g (entered_so u start i d.view r l x several (ltb-true r.view d.view e)) (entered_stated d is) (entered_sent d sent))
+        tabled_enter_then u start i d.view _ t r f low (λ g. states d (with_saved (entered d.view r)) g (entered_so u start i d.view r l x (ltb-true r.view d.view e)) (entered_stated d is) (entered_sent d sent))
     states_in d false e up apart low is sent =
         let below = ltb-false r.view d.view e in
         let same : d.view ≡ r.view = omega arith in
-        tabled_quiet_then u start i _ t r f (λ g. states d r g (started_so u start i r l x tables.stated several (apart same)) (rw (← same) is) (rw (← same) sent))
+        tabled_quiet_then u start i _ t r f (λ g. states d r g (started_so u start i r l x tables.stated (apart same)) (rw (← same) is) (rw (← same) sent))
 
     stated_then : (d : DoViewChange) → r.view ≤ d.view → (d.view ≡ r.view → r.log_view < r.view) → nat_lt last_view d.view ≡ false → IsStated (version r) r.cluster d.view d.statement → WasSent u start.sent (frame.DoViewChange d)
         → Tabled u start i ((by (λ r. when (nat_lt r.view d.view) (enter d.view)) ⨾ change (with_statement d.replica d.statement) ⨾ try) t r f)
@@ -347,7 +345,7 @@ module _ (u : Setup) (fits : Fits u) (start : Group Header) (i : ℕ) where
                 let w = taken_views (log_of v) r x.sound log may in
                 let sound = saved_sound (taken (log_of v) r) (kept_taken (log_of v) r x.sound log may).sound in
                 let unled : leads q ≡ true → ⊥ = λ l. let own = (leads_is q l).1 in apart (sym w.2 ∙ (own ∙ (ap (λ k. k % q.n) w.0 ∙ ap (λ k. v.view % k) w.3))) in
-                let none = tables_unled u start i start q unled (λ j z e. absurd (none_stated r.n j z (sym (ap (λ (ys : List (Option Statement)). get_or ys j None) (taken_statements (log_of v) r)) ∙ e))) in
+                let none = tallies_unled u start i start q unled (λ j z e. absurd (none_stated r.n j z (sym (ap (λ (ys : List (Option Statement)). get_or ys j None) (taken_statements (log_of v) r)) ∙ e))) in
                 tabled_take_then u start i (log_of v) _ t r f (λ d. tabled_stays u start i _ t q d
                 (stays_then (by (λ r. each (acknowledge_stored t.hash) (ops r.commit v.head))) apply (stays_by _ (λ r. stays_each (acknowledge_stored t.hash) (ops r.commit v.head) (stays_acknowledge t.hash))) stays_apply) sound none),
             λ n1. (λ a. held (says (λ r. send_to v.replica (get_sync v.view r) r)) (stays_says _), λ n2. idle),
@@ -376,7 +374,7 @@ module _ (u : Setup) (fits : Fits u) (start : Group Header) (i : ℕ) where
                 let w = jumped_views v r x.sound told may in
                 let sound = saved_sound (jumped v r) (kept_jumped v r x.sound told may).sound in
                 let unled : leads q ≡ true → ⊥ = λ l. let own = (leads_is q l).1 in apart (sym w.2 ∙ (own ∙ (ap (λ k. k % q.n) w.0 ∙ ap (λ k. v.view % k) w.3))) in
-                let none = tables_unled u start i start q unled (λ j z e. absurd (none_stated r.n j z (sym (ap (λ (ys : List (Option Statement)). get_or ys j None) (jumped_statements v r)) ∙ e))) in
+                let none = tallies_unled u start i start q unled (λ j z e. absurd (none_stated r.n j z (sym (ap (λ (ys : List (Option Statement)). get_or ys j None) (jumped_statements v r)) ∙ e))) in
                 tabled_jump_then u start i v _ t r f (λ d. tabled_stays u start i _ t q d
                 (stays_then (by (λ r. each (acknowledge_stored t.hash) (ops r.commit v.head))) apply (stays_by _ (λ r. stays_each (acknowledge_stored t.hash) (ops r.commit v.head) (stays_acknowledge t.hash))) stays_apply) sound none),
             λ n1. idle,
@@ -402,11 +400,11 @@ module _ (u : Setup) (fits : Fits u) (start : Group Header) (i : ℕ) where
     written e d = refl
 
     repaired : (e : Whole) (b : Bool) → leads r ≡ b → MayStore e r → (d : F) → Tabled u start i ((resend e ⨾ apply) t (stored e r) d)
-    repaired e true lead may d = tabled_repaired u start i e r x.sound may tables lead t d x.place x.size (let n = x.size in omega (arith, several, n))
+    repaired e true lead may d = tabled_repaired u start i e r x.sound may tables lead t d x.place x.size
     repaired e false lead may d =
         let q : Replica = stored e r in
         let unled : leads q ≡ true → ⊥ = λ y. true≢false (sym y ∙ (leads_alike r q (alike_stored e r) ∙ lead)) in
-        let none = tables_unled u start i start q unled (λ j z is. subst (λ v. In (Do_view_change j v (statement_told z)) start.sent) (sym (alike_stored e r).view)
+        let none = tallies_unled u start i start q unled (λ j z is. subst (λ v. In (Do_view_change j v (statement_told z)) start.sent) (sym (alike_stored e r).view)
         (tables.stated j z (sym (ap (λ (ys : List (Option Statement)). get_or ys j None) (alike_stored e r).statements) ∙ is))) in
         tabled_stays u start i (resend e ⨾ apply) t q d (stays_then (resend e) apply (stays_resend e) stays_apply) (kept_stored e r x.sound may).sound none
 
@@ -462,18 +460,18 @@ module _ (u : Setup) (fits : Fits u) (start : Group Header) (i : ℕ) where
 
     -- ---- ticks (rules 32 to 34)
 
-    enters : (v : ℕ) (q : Replica) (d : F) → Mid u start i q l start → Tables u start i q → q.view < v → Tabled u start i (enter v t q d)
+    enters : (v : ℕ) (q : Replica) (d : F) → Mid u start i q l start → Tallies u start i q → q.view < v → Tabled u start i (enter v t q d)
     enters v q d y so later =
         elim (nat_lt last_view v) as (λ b. nat_lt last_view v ≡ b → Tabled u start i (enter v t q d)) [
           | true ↦ λ e. tabled_held u start i q (enter v t q d) so (subst (Holds q) (sym (enter_rests v t q d e)) (holds_rested q))
-          | false ↦ λ e. tabled_entered u start i (with_saved (entered v q)) (enter v t q d) (enter_is v t q d e) (entered_so u start i v q l y several later)
+          | false ↦ λ e. tabled_entered u start i (with_saved (entered v q)) (enter v t q d) (enter_is v t q d e) (entered_so u start i v q l y later)
         ] refl
 
-    next : (q : Replica) (d : F) → Mid u start i q l start → Tables u start i q → Tabled u start i (next_view t q d)
+    pub next : (q : Replica) (d : F) → Mid u start i q l start → Tallies u start i q → Tabled u start i (next_view t q d)
     unfolding by
     next q d y so = enters (q.view + 1) q d y so (omega arith)
 
-    idle_tables : Tables u start i (idler r)
+    pub idle_tables : Tallies u start i (idler r)
     idle_tables = tables_hold u start start i r (idler r) (holds_idler r) refl (λ m j. j) tables
 
     speaks_looks : (q : Replica) (d : F) → Enters u start i q → Tabled u start i ((speak ⨾ visit ⨾ ask) t q d)
@@ -492,7 +490,7 @@ module _ (u : Setup) (fits : Fits u) (start : Group Header) (i : ℕ) where
             λ n1. (
               λ a.
                   let apart = eqb-false r.view r.log_view n1 in
-                  let begun = started_so u start i (idler r) l y tables.stated several (omega arith) in
+                  let begun = started_so u start i (idler r) l y tables.stated (omega arith) in
                   tabled_change_then u start i idler _ t r f (λ d. tabled_if u start i (nat_le 10 (idler r).idle) next_view (says (send_to_all start_view_change) ⨾ speak ⨾ visit ⨾ ask) t (idler r) d (λ b. next (idler r) d y idle_tables)
                   (λ b. tabled_says_then u start i (send_to_all start_view_change) (speak ⨾ visit ⨾ ask) t (idler r) d (λ e. speaks_looks (idler r) e begun))),
               λ n2. idle,

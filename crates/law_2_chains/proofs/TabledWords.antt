@@ -17,7 +17,7 @@ use Rattle.vr_msg.specs.declared.frame.SyncView.{SyncView}
 use Rattle.vr_msg.specs.declared.output.Output.{Output}
 use Rattle.vr_msg.specs.declared.statement.Statement.{Statement}
 use Rattle.vr_msg.specs.Choice.{choice, ops}
-use Rattle.vr_world.specs.Replica.{Replica, ackers_at, view_change, head, is_primary, is_started, last_view, leads, part_at, replication, forgetting, with_part}
+use Rattle.vr_world.specs.Replica.{Replica, ackers_at, view_change, head, is_primary, is_started, last_view, leads, part_at, forgetting, with_part}
 use Rattle.vr_world.specs.Outputs.{do_view_change, prepare, send_to_all, start_view, to_primary, wait_line}
 use Rattle.vr_world.specs.Steps.{Effect, Say, Setting, Step, Word, ◌⨾◌, quiet, change, does, says, by, naming, each, after_all, outputs}
 use Rattle.vr_world.specs.Words.{Log, save, with_saved, entered, enter, rested, stored, write, taken, take, may_take, stated, chosen_log, choose_line, begin_view, try_log, obey_choice, decided, try, speak, resend, prepare_again, apply, advance, no_ackers, jump, jumped}
@@ -35,7 +35,8 @@ use Rattle.law_1_machine.proofs.Moves.{memory_of, reached_good}
 use Rattle.law_2_chains.specs.Local.{Local}
 use Rattle.law_2_chains.specs.Reflecting.{entries_by}
 use Rattle.law_2_chains.specs.Chains.{Setup, Mid, statement_told}
-use Rattle.law_2_chains.specs.Tables.{Fits, HasVouchedAt, Tables}
+use Rattle.law_2_chains.specs.Tables.{HasVouchedAt}
+use Rattle.law_2_chains.proofs.Tallies.{Tallies}
 use Rattle.law_2_chains.specs.Begins.{with_made}
 use Rattle.law_2_chains.proofs.Saving.{saved_sound}
 use Rattle.law_2_chains.proofs.Repairs.{leads_is}
@@ -43,21 +44,12 @@ use Rattle.law_2_chains.proofs.Writing.{stored_ackers, stored_fields, stored_nex
 use Rattle.law_2_chains.proofs.Beginning.{AreStated}
 use Rattle.law_2_chains.proofs.Takes.{above_later, taken_at, taken_views}
 use Rattle.law_2_chains.proofs.Fresh.{no_flags}
-use Rattle.law_2_chains.proofs.Staying.{stays_then, stays_each, stays_again, stays_apply, stays_advance, stays_resend}
-use Rattle.law_2_chains.proofs.Tabling.{Tabled, IsPrepared, tabled_after, tabled_says_then, tabled_if, tables_stay, tables_unled, prepared_all, prepared_left, prepared_each, holds_each, vouched_by}
-
--- a group in which two make a quorum has two
-several_of : (n : ℕ) → 2 ≤ replication n → 2 ≤ n
-several_of zero l = absurd (omega arith)
-several_of (suc zero) l = absurd (omega arith)
-several_of (suc (suc n)) l = omega arith
-
-pub several_by : (u : Setup) → Fits u → 2 ≤ u.quorums.n
-several_by u fits = let same = fits.replication_is in let two = fits.several in several_of u.quorums.n (omega arith)
+use Rattle.law_2_chains.proofs.Staying.{Stays, stays_then, stays_each, stays_again, stays_apply, stays_advance, stays_resend}
+use Rattle.law_2_chains.proofs.Tabling.{Tabled, IsPrepared, tabled_after, tabled_says_then, tabled_if, tables_stay, tallies_unled, prepared_all, prepared_left, prepared_each, holds_each, vouched_by}
 
 -- ---- an entry is stored by the primary
 
-module _ (u : Setup) (start : Group Header) (i : ℕ) (e : Whole) (r : Replica) (sound : IsSound r) (may : MayStore e r) (tables : Tables u start i r) (lead : leads r ≡ true) where
+module _ (u : Setup) (start : Group Header) (i : ℕ) (e : Whole) (r : Replica) (sound : IsSound r) (may : MayStore e r) (tables : Tallies u start i r) (lead : leads r ≡ true) where
   more_vouched : (s : Group Header) → ((m : Message Header) → In m start.sent → In m s.sent) → (v k j : ℕ) → HasVouchedAt u start v k j → HasVouchedAt u s v k j
   more_vouched s sent v k j x = (x.0, elim x.1 [ inl a ↦ inl (sent _ a) | inr b ↦ inr (b.0, (b.1.0, sent _ b.1.1)) ])
 
@@ -71,8 +63,8 @@ module _ (u : Setup) (start : Group Header) (i : ℕ) (e : Whole) (r : Replica) 
   leads_stored : leads (stored e r) ≡ leads r
   leads_stored = rw ((stored_views e r sound may).0, (stored_views e r sound may).1, stored_place.0, stored_place.2) refl
 
-  pub tables_stored : (s : Group Header) → ((m : Message Header) → In m start.sent → In m s.sent) → (r.commit < e.header.op → HasVouchedAt u s r.view e.header.op i)
-      → ((k : ℕ) (h : Header) → head (stored e r) < k → In (made_at r.view k h) s.made → ⊥) → Tables u s i (stored e r)
+  pub tables_stored : (s : Group Header) → ((m : Message Header) → In m start.sent → In m s.sent) → (2 ≤ u.quorums.n → r.commit < e.header.op → HasVouchedAt u s r.view e.header.op i)
+      → ((k : ℕ) (h : Header) → head (stored e r) < k → In (made_at r.view k h) s.made → ⊥) → Tallies u s i (stored e r)
   tables_stored s sent vouched made =
       let view = (stored_views e r sound may).0 in
       let commit = stored_place.1 in
@@ -85,10 +77,10 @@ module _ (u : Setup) (start : Group Header) (i : ℕ) (e : Whole) (r : Replica) 
             let a = tables.acks lead k j (omega arith) (sym (ap (λ (x : Replicas). has_replica x j) (stored_ackers e r sound may k over)) ∙ has) in
             let within = a.0 in
             (omega arith, a.1, subst (λ v. HasVouchedAt u s v k j) (sym view) (more_vouched s sent r.view k j a.2));
-        own = λ l k h above is.
+        own = λ several l k h above is.
             elim (cases_eq k e.header.op) [
-              | inl t ↦ let new : HasVouchedAt u s r.view k i = subst (λ m. HasVouchedAt u s r.view m i) (sym t) (vouched (omega arith)) in subst (λ v. HasVouchedAt u s v k i) (sym view) new
-              | inr n ↦ let over : r.checkpoint < k = omega arith in subst (λ v. HasVouchedAt u s v k i) (sym view) (more_vouched s sent r.view k i (tables.own lead k h (omega arith) (sym (stored_other e r sound may k over n) ∙ is)))
+              | inl t ↦ let new : HasVouchedAt u s r.view k i = subst (λ m. HasVouchedAt u s r.view m i) (sym t) (vouched several (omega arith)) in subst (λ v. HasVouchedAt u s v k i) (sym view) new
+              | inr n ↦ let over : r.checkpoint < k = omega arith in subst (λ v. HasVouchedAt u s v k i) (sym view) (more_vouched s sent r.view k i (tables.own several lead k h (omega arith) (sym (stored_other e r sound may k over n) ∙ is)))
             ];
         top = λ l k h above is. made k h above (subst (λ v. In (made_at v k h) s.made) view is);
         stated = λ j t is. subst (λ v. In (Do_view_change j v (statement_told t)) s.sent) (sym view) (sent _ (tables.stated j t (sym (ap (λ (ys : List (Option Statement)). get_or ys j None) stored_statements) ∙ is)));
@@ -108,42 +100,43 @@ module _ (u : Setup) (start : Group Header) (i : ℕ) (e : Whole) (r : Replica) 
   unfolding write does change ◌⨾◌
   written t f = refl
 
-  made_then : {F : Type 0} (t : Setting F) (d : F) → r.index ≡ i → r.n ≡ u.quorums.n → 2 ≤ (stored e r).n → e.header.op ≡ head r + 1
+  made_then : {F : Type 0} (t : Setting F) (d : F) → r.index ≡ i → r.n ≡ u.quorums.n → e.header.op ≡ head r + 1
       → Tabled u (with_made e.header start) i ((says (send_to_all (prepare e)) ⨾ advance) t (stored e r) d)
   unfolding ◌⨾◌ says
-  made_then t d place size_is several next s a =
+  made_then t d place size_is next s a =
       let q : Replica = stored e r in
       let said : List Effect = map Say (send_to_all (prepare e) q) in
       let c = stored_place in
       let view = (stored_views e r sound may).0 in
       let top = stored_next e r sound may next in
       let up = stored_up e r sound may in
-      let it = prepared_left q e.header.op said (advance t q (after_all t d said)).script (prepared_all e q several) in
-      let vouched = vouched_by u (with_made e.header start) s i q e.header.op _ a it (c.0 ∙ place) (first place size_is) in
+      let vouched : 2 ≤ u.quorums.n → HasVouchedAt u s q.view e.header.op i =
+      λ several.
+      let two : 2 ≤ q.n = let n = c.2 in omega arith in
+      let it = prepared_left q e.header.op said (advance t q (after_all t d said)).script (prepared_all e q two) in
+      vouched_by u (with_made e.header start) s i q e.header.op _ a it (c.0 ∙ place) (first place size_is) in
       tables_stay u start i advance t q (after_all t d said) s stays_advance sound_after
-      (tables_stored s a.kept (λ l. subst (λ v. HasVouchedAt u s v e.header.op i) view vouched) (λ k h above is.
+      (tables_stored s a.kept (λ several l. subst (λ v. HasVouchedAt u s v e.header.op i) view (vouched several)) (λ k h above is.
       elim (subst (In (made_at r.view k h)) a.made is) [
         | inl one ↦ let same : k ≡ e.header.op = ap (λ (z : Made Header). z.number) one in absurd (omega arith)
         | inr old ↦ tables.top lead k h (omega arith) old
       ]))
 
   -- what was just made is prepared
-  pub tabled_make : {F : Type 0} (t : Setting F) (f : F) → r.index ≡ i → r.n ≡ u.quorums.n → 2 ≤ r.n → e.header.op ≡ head r + 1 → Tabled u (with_made e.header start) i (make e t r f)
+  pub tabled_make : {F : Type 0} (t : Setting F) (f : F) → r.index ≡ i → r.n ≡ u.quorums.n → e.header.op ≡ head r + 1 → Tabled u (with_made e.header start) i (make e t r f)
   unfolding make
-  tabled_make t f place size_is several next =
-      let q : Replica = stored e r in
-      let c = stored_place in
+  tabled_make t f place size_is next =
       tabled_after u (with_made e.header start) i (write e) (says (send_to_all (prepare e)) ⨾ advance) t r f (λ d.
-      subst (λ x. Tabled u (with_made e.header start) i ((says (send_to_all (prepare e)) ⨾ advance) t x d)) (sym (written t f)) (made_then t d place size_is (let n = c.2 in omega arith) next))
+      subst (λ x. Tabled u (with_made e.header start) i ((says (send_to_all (prepare e)) ⨾ advance) t x d)) (sym (written t f)) (made_then t d place size_is next))
 
   resent : {F : Type 0} (t : Setting F) (q : Replica) (d : F) → is_started q ≡ true → is_primary q ≡ true → nat_lt q.commit e.header.op ≡ true → (resend e t q d).script ≡ map Say (send_to_all (prepare e) q)
   unfolding resend naming by says
   resent t q d a b c = rw (a, b, c) refl
 
   -- what was repaired is prepared, where it isn't committed
-  pub tabled_repaired : {F : Type 0} (t : Setting F) (d : F) → r.index ≡ i → r.n ≡ u.quorums.n → 2 ≤ r.n → Tabled u start i ((resend e ⨾ apply) t (stored e r) d)
+  pub tabled_repaired : {F : Type 0} (t : Setting F) (d : F) → r.index ≡ i → r.n ≡ u.quorums.n → Tabled u start i ((resend e ⨾ apply) t (stored e r) d)
   unfolding ◌⨾◌
-  tabled_repaired t d place size_is several s a =
+  tabled_repaired t d place size_is s a =
       let q : Replica = stored e r in
       let x = resend e t q d in
       let c = stored_place in
@@ -151,12 +144,12 @@ module _ (u : Setup) (start : Group Header) (i : ℕ) (e : Whole) (r : Replica) 
       let up = stored_up e r sound may in
       let l = and_parts (is_started q) (is_primary q) (leads_stored ∙ lead) in
       let rest = (apply t x.replica (after_all t d x.script)).script in
-      let several' : 2 ≤ q.n = let n = c.2 in omega arith in
       tables_stay u start i (resend e ⨾ apply) t q d s (stays_then (resend e) apply (stays_resend e) stays_apply) sound_after
-      (tables_stored s a.kept (λ above.
+      (tables_stored s a.kept (λ several above.
+      let two : 2 ≤ q.n = let n = c.2 in omega arith in
       let commit : nat_lt q.commit e.header.op ≡ true = lt-ltb q.commit e.header.op (let k = c.1 in omega arith) in
       let said = resent t q d l.0 l.1 commit in
-      let it : IsPrepared q e.header.op (outputs (x.script ++ rest)) = prepared_left q e.header.op x.script rest (subst (λ es. IsPrepared q e.header.op (outputs es)) (sym said) (prepared_all e q several')) in
+      let it : IsPrepared q e.header.op (outputs (x.script ++ rest)) = prepared_left q e.header.op x.script rest (subst (λ es. IsPrepared q e.header.op (outputs es)) (sym said) (prepared_all e q two)) in
       subst (λ v. HasVouchedAt u s v e.header.op i) view (vouched_by u start s i q e.header.op _ a it (c.0 ∙ place) (first place size_is)))
       (λ k h above is. tables.top lead k h (omega arith) (subst (In (made_at r.view k h)) a.made is)))
 
@@ -175,7 +168,6 @@ pub record Enters (u : Setup) (start : Group Header) (i : ℕ) (r : Replica) : T
   pub sound : IsSound r
   pub place : r.index ≡ i
   pub size : r.n ≡ u.quorums.n
-  pub several : 2 ≤ r.n
   pub lower : r.log_view < r.view
   pub stated : AreStated u start r
   pub unmade : is_primary r ≡ true → (k : ℕ) (h : Header) → In (made_at r.view k h) start.made → ⊥
@@ -198,9 +190,9 @@ unmade u start i r l x v k h lower first is =
 pub first_of : (u : Setup) (i : ℕ) (r : Replica) → r.index ≡ i → r.n ≡ u.quorums.n → is_primary r ≡ true → i ≡ r.view % u.quorums.n
 first_of u i r place size_is p = sym place ∙ (eqb-true r.index (r.view % r.n) p ∙ ap (λ n. r.view % n) size_is)
 
-pub entered_so : (u : Setup) (start : Group Header) (i v : ℕ) (r : Replica) (l : Local) → Mid u start i r l start → 2 ≤ u.quorums.n → r.view < v → Enters u start i (with_saved (entered v r))
+pub entered_so : (u : Setup) (start : Group Header) (i v : ℕ) (r : Replica) (l : Local) → Mid u start i r l start → r.view < v → Enters u start i (with_saved (entered v r))
 unfolding entered
-entered_so u start i v r l x several later =
+entered_so u start i v r l x later =
     let views = x.sound.order.views in
     let size_is = x.size in
     let q : Replica = with_saved (entered v r) in
@@ -208,20 +200,18 @@ entered_so u start i v r l x several later =
       sound = saved_sound (entered v r) (kept_entered v r x.sound (omega arith)).sound;
       place = x.place;
       size = x.size;
-      several = omega arith;
       lower = omega arith;
       stated = λ j t e. absurd (none_stated r.n j t e);
       unmade = λ p k h is. unmade u start i r l x v k h (omega arith) (first_of u i q x.place x.size p) is;
     }
 
-pub started_so : (u : Setup) (start : Group Header) (i : ℕ) (r : Replica) (l : Local) → Mid u start i r l start → AreStated u start r → 2 ≤ u.quorums.n → r.log_view < r.view → Enters u start i r
-started_so u start i r l x all several lower =
+pub started_so : (u : Setup) (start : Group Header) (i : ℕ) (r : Replica) (l : Local) → Mid u start i r l start → AreStated u start r → r.log_view < r.view → Enters u start i r
+started_so u start i r l x all lower =
     let size_is = x.size in
     record {
       sound = x.sound;
       place = x.place;
       size = x.size;
-      several = omega arith;
       lower = lower;
       stated = all;
       unmade = λ p k h is. unmade u start i r l x r.view k h lower (first_of u i r x.place x.size p) is;
@@ -231,11 +221,11 @@ module _ (u : Setup) (start : Group Header) (i : ℕ) where
   no_lead : (r : Replica) → r.log_view < r.view → leads r ≡ true → ⊥
   no_lead r lower l = let p = (leads_is r l).0 in omega arith
 
-  pub tables_entered : (r : Replica) → Enters u start i r → Tables u start i r
-  tables_entered r y = tables_unled u start i start r (no_lead r y.lower) y.stated
+  pub tables_entered : (r : Replica) → Enters u start i r → Tallies u start i r
+  tables_entered r y = tallies_unled u start i start r (no_lead r y.lower) y.stated
 
   pub tabled_entered : (r : Replica) (x : Step) → x.replica ≡ r → Enters u start i r → Tabled u start i x
-  tabled_entered r x same y s a = subst (Tables u s i) (sym same) (tables_unled u start i s r (no_lead r y.lower) (λ j t e. a.kept _ (y.stated j t e)))
+  tabled_entered r x same y s a = subst (Tallies u s i) (sym same) (tallies_unled u start i s r (no_lead r y.lower) (λ j t e. a.kept _ (y.stated j t e)))
 
   pub tabled_enter_then : {F : Type 0} (v : ℕ) (w : Word F) (t : Setting F) (r : Replica) (f : F) → nat_lt last_view v ≡ false → ((d : F) → Tabled u start i (w t (with_saved (entered v r)) d)) → Tabled u start i ((enter v ⨾ w) t r f)
   tabled_enter_then v w t r f low go = tabled_after u start i (enter v) w t r f (λ d. subst (λ q. Tabled u start i (w t q d)) (sym (enter_is v t r f low)) (go d))
@@ -273,7 +263,7 @@ no_acker n k j e =
     ] in
     no_flags j (sym (ap (λ (z : Replicas). has_replica z j) none) ∙ e)
 
-taken_ackers : (l : Log) (r : Replica) (k j : ℕ) → has_replica (ackers_at (taken l r) k) j ≡ true → ⊥
+pub taken_ackers : (l : Log) (r : Replica) (k j : ℕ) → has_replica (ackers_at (taken l r) k) j ≡ true → ⊥
 unfolding taken forgetting
 taken_ackers l r k j e =
     let gone : ℕ = head (over l r) - 63 - (over l r).first in
@@ -299,10 +289,10 @@ says_is os t r f = refl
 
 module _ (u : Setup) (start : Group Header) (i : ℕ) where
   -- what is stored of the log with which a view begins is prepared
-  tabled_prepared : {F : Type 0} (l : Log) (r : Replica) (y : Enters u start i r) → IsLogFor r l → MayTake l r → l.view ≡ r.view → is_primary r ≡ true → (t : Setting F) (d : F)
-      → Tabled u start i ((by (λ r. each prepare_again (ops r.commit l.head)) ⨾ apply) t (with_saved (taken l r)) d)
+  tabled_prepared : {F : Type 0} (last : Word F) → Stays last → (l : Log) (r : Replica) (y : Enters u start i r) → IsLogFor r l → MayTake l r → l.view ≡ r.view → is_primary r ≡ true → (t : Setting F) (d : F)
+      → Tabled u start i ((by (λ r. each prepare_again (ops r.commit l.head)) ⨾ last) t (with_saved (taken l r)) d)
   unfolding by ◌⨾◌
-  tabled_prepared l r y log may view_is prim t d s a =
+  tabled_prepared last stays_last l r y log may view_is prim t d s a =
       let q : Replica = with_saved (taken l r) in
       let v = taken_views l r y.sound log may in
       let view : q.view ≡ r.view = v.0 ∙ view_is in
@@ -312,7 +302,6 @@ module _ (u : Setup) (start : Group Header) (i : ℕ) where
       let holds = holds_each t xs q d sound in
       let after = ((stays_each prepare_again xs stays_again).every t q d sound).1 in
       let e = after_all t d x.script in
-      let several : 2 ≤ q.n = let n = v.3 in let m = y.several in omega arith in
       let first : i ≡ q.view % u.quorums.n = first_of u i r y.place y.size prim ∙ ap (λ w. w % u.quorums.n) (sym view) in
       let lower = y.lower in
       let reaches = may.reaches in
@@ -326,27 +315,34 @@ module _ (u : Setup) (start : Group Header) (i : ℕ) where
             let none : Nothing ≡ Here h = sym (above_later l r y.sound log may k past (omega arith)) ∙ (sym (taken_at l r y.sound log may k (omega arith)) ∙ (sym (saved_part (taken l r) k) ∙ is)) in
             absurd cc
       ] in
-      tables_stay u start i apply t x.replica e s stays_apply after
+      tables_stay u start i last t x.replica e s stays_last after
       (record {
         acks = λ led k j above has. absurd (taken_ackers l r k j (sym (ap (λ (z : Replicas). has_replica z j) (holds.acks k)) ∙ has));
-        own = λ led k h above is.
+        own = λ several led k h above is.
+            let two : 2 ≤ q.n = let n = v.3 in let m = y.size in omega arith in
             let within = near k h (holds.here k h is) in
-            let it = prepared_left q k x.script (apply t x.replica e).script (prepared_each t xs k h q d sound several (in_range (l.head - q.commit) (q.commit + 1) k (omega arith) (omega arith)) is) in
+            let it = prepared_left q k x.script (last t x.replica e).script (prepared_each t xs k h q d sound two (in_range (l.head - q.commit) (q.commit + 1) k (omega arith) (omega arith)) is) in
             subst (λ w. HasVouchedAt u s w k i) (sym holds.view) (vouched_by u start s i q k _ a it (v.2 ∙ y.place) first);
         top = λ led k h above is. y.unmade prim k h (subst (λ w. In (made_at w k h) start.made) (holds.view ∙ view) (subst (In (made_at x.replica.view k h)) a.made is));
         stated = λ j z is. absurd (none_stated r.n j z (sym (ap (λ (ys : List (Option Statement)). get_or ys j None) (holds.statements ∙ taken_statements l r)) ∙ is));
       })
 
-  tabled_begin : {F : Type 0} (t : Setting F) (r : Replica) (f : F) → Enters u start i r → is_primary r ≡ true → (q : Quorums) (hs : List Header) → choice q (stated r) ≡ Ends hs → MayTake (chosen_log r (stated r) hs) r
-      → Tabled u start i (begin_view (stated r) (chosen_log r (stated r) hs) t r f)
-  unfolding begin_view
-  tabled_begin t r f y prim q hs ends may =
+  -- a view begins, and then it goes on by a word that keeps them
+  pub tabled_begins : {F : Type 0} (last : Word F) → Stays last → (t : Setting F) (r : Replica) (f : F) → Enters u start i r → is_primary r ≡ true → (q : Quorums) (hs : List Header) → choice q (stated r) ≡ Ends hs
+      → MayTake (chosen_log r (stated r) hs) r
+      → Tabled u start i ((says (choose_line (stated r) (chosen_log r (stated r) hs)) ⨾ take (chosen_log r (stated r) hs) ⨾ says (send_to_all start_view) ⨾ by (λ q. each prepare_again (ops q.commit (chosen_log r (stated r) hs).head)) ⨾ last) t r f)
+  tabled_begins last stays_last t r f y prim q hs ends may =
       let log : Log = chosen_log r (stated r) hs in
       let log_is = chosen_log_is r q (stated r) hs (all_stated r y.sound) ends in
       tabled_says_then u start i (choose_line (stated r) log) _ t r f (λ d.
       tabled_take_then u start i log _ t r d (λ d.
       tabled_says_then u start i (send_to_all start_view) _ t (with_saved (taken log r)) d (λ d.
-      tabled_prepared log r y log_is may refl prim t d)))
+      tabled_prepared last stays_last log r y log_is may refl prim t d)))
+
+  tabled_begin : {F : Type 0} (t : Setting F) (r : Replica) (f : F) → Enters u start i r → is_primary r ≡ true → (q : Quorums) (hs : List Header) → choice q (stated r) ≡ Ends hs → MayTake (chosen_log r (stated r) hs) r
+      → Tabled u start i (begin_view (stated r) (chosen_log r (stated r) hs) t r f)
+  unfolding begin_view
+  tabled_begin t r f y prim q hs ends may = tabled_begins apply stays_apply t r f y prim q hs ends may
 
   tabled_quiet : {F : Type 0} (t : Setting F) (r : Replica) (f : F) → Enters u start i r → Tabled u start i (quiet t r f)
   tabled_quiet t r f y = tabled_entered u start i r (quiet t r f) (quiet_is t r f) y

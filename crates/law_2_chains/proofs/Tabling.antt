@@ -28,6 +28,7 @@ use Rattle.law_2_chains.specs.Chains.{Setup, Every, WasSent}
 use Rattle.law_2_chains.specs.Finished.{Finished, Finishes, IsTrue}
 use Rattle.law_2_chains.specs.Begins.{IsChain, as_it_was}
 use Rattle.law_2_chains.specs.Tables.{HasVouchedAt, Tables}
+use Rattle.law_2_chains.proofs.Tallies.{Tallies, tables_of, tallies_of}
 use Rattle.law_2_chains.proofs.Playing.{leaves}
 use Rattle.law_2_chains.proofs.Applying.{op_is, at_lost}
 use Rattle.law_2_chains.proofs.Beginning.{AreStated}
@@ -42,7 +43,7 @@ pub record Since (u : Setup) (start : Group Header) (os : List Output) (s : Grou
 
 -- then the tables of the replica that a step leaves are true
 abbrev pub Tabled : Setup → Group Header → ℕ → Step → Type 0
-Tabled u start i x = (s : Group Header) → Since u start (outputs x.script) s → Tables u s i x.replica
+Tabled u start i x = (s : Group Header) → Since u start (outputs x.script) s → Tallies u s i x.replica
 
 -- ---- lists
 
@@ -130,13 +131,13 @@ module _ (u : Setup) (start : Group Header) (i : ℕ) where
   tabled_if false v w t r f h k = k refl
 
   -- tables that are true stay so
-  pub tables_stay : {F : Type 0} (w : Word F) (t : Setting F) (r : Replica) (f : F) (s : Group Header) → Stays w → IsSound r → Tables u s i r → Tables u s i (w t r f).replica
+  pub tables_stay : {F : Type 0} (w : Word F) (t : Setting F) (r : Replica) (f : F) (s : Group Header) → Stays w → IsSound r → Tallies u s i r → Tallies u s i (w t r f).replica
   tables_stay w t r f s h sound tables = tables_hold u s s i r (w t r f).replica (h.every t r f sound).0 refl (λ m j. j) tables
 
-  pub tabled_held : (r : Replica) (x : Step) → Tables u start i r → Holds r x.replica → Tabled u start i x
+  pub tabled_held : (r : Replica) (x : Step) → Tallies u start i r → Holds r x.replica → Tabled u start i x
   tabled_held r x tables h s a = tables_hold u start s i r x.replica h a.made a.kept tables
 
-  pub tabled_stays : {F : Type 0} (w : Word F) (t : Setting F) (r : Replica) (f : F) → Stays w → IsSound r → Tables u start i r → Tabled u start i (w t r f)
+  pub tabled_stays : {F : Type 0} (w : Word F) (t : Setting F) (r : Replica) (f : F) → Stays w → IsSound r → Tallies u start i r → Tabled u start i (w t r f)
   tabled_stays w t r f h sound tables = tabled_held r (w t r f) tables (h.every t r f sound).0
 
   pub tabled_then_stays : {F : Type 0} (v w : Word F) (t : Setting F) (r : Replica) (f : F) → Tabled u start i (v t r f) → IsSound (v t r f).replica → Stays w → Tabled u start i ((v ⨾ w) t r f)
@@ -151,12 +152,15 @@ module _ (u : Setup) (start : Group Header) (i : ℕ) where
   pub tables_unled : (s : Group Header) (q : Replica) → (leads q ≡ true → ⊥) → AreStated u s q → Tables u s i q
   tables_unled s q unled all = record { acks = λ l k j above has. absurd (unled l); own = λ l k h above is. absurd (unled l); top = λ l k h above is. absurd (unled l); stated = all }
 
+  pub tallies_unled : (s : Group Header) (q : Replica) → (leads q ≡ true → ⊥) → AreStated u s q → Tallies u s i q
+  tallies_unled s q unled all = tallies_of u s i q (tables_unled s q unled all)
+
   pub tabled_unled : (x : Step) → (leads x.replica ≡ true → ⊥) → AreStated u start x.replica → Tabled u start i x
-  tabled_unled x unled all s a = tables_unled s x.replica unled (λ j t e. a.kept _ (all j t e))
+  tabled_unled x unled all s a = tallies_unled s x.replica unled (λ j t e. a.kept _ (all j t e))
 
 -- a step in which nothing is made
-unfoldable pub chain_of : (u : Setup) (start : Group Header) (i : ℕ) (l : Local) (x : Step) → Finishes u start i l x → Tabled u start i x → IsChain u start i l x
-chain_of u start i l x h g = record { begun = start; begins = as_it_was; finishes = h; tables = λ b. g h.after (since_finished u start i x.replica l x.script h.after h.ends) }
+unfoldable pub chain_of : (u : Setup) → 2 ≤ u.quorums.n → (start : Group Header) (i : ℕ) (l : Local) (x : Step) → Finishes u start i l x → Tabled u start i x → IsChain u start i l x
+chain_of u several start i l x h g = record { begun = start; begins = as_it_was; finishes = h; tables = λ b. tables_of u h.after i x.replica several (g h.after (since_finished u start i x.replica l x.script h.after h.ends)) }
 
 -- ---- what is stored is prepared
 

@@ -10,6 +10,7 @@ use Rattle.vr_world.specs.Lying.{lying}
 use Rattle.vr_world.specs.Opening.{blank, fresh}
 use Rattle.vr_world.specs.Group.{Played, Run, fresh_group, fresh_member}
 use Rattle.vr_world.specs.GroupFit.{IsFitGroup, IsFitMove}
+use Rattle.vr_header.specs.declared.part.Part.TheVariants.{Here, Nothing}
 use Rattle.vr_world.proofs.FitFresh.{fresh_fits}
 use Rattle.vr_world.proofs.FitGroups.{fresh_at, fresh_group_fits}
 use Rattle.law_1_machine.specs.Basics.{update}
@@ -22,7 +23,7 @@ use Rattle.law_1_machine.specs.Machine as move
 use Rattle.law_2_chains.specs.Reflecting.{IsDisk, entries_by}
 use Rattle.law_2_chains.specs.Chains.{Setup, IsReached, WasMade}
 use Rattle.law_2_chains.proofs.Moving.{member_at, memory_at}
-use Rattle.law_2_chains.proofs.Fresh.{disk_is, keeps_fresh, reflects_fresh, tables_fresh}
+use Rattle.law_2_chains.proofs.Fresh.{disk_is, fresh_nothing, keeps_fresh, reflects_fresh, tables_fresh}
 use Rattle.law_2_chains.proofs.Sizes.{sizes_fit}
 use Rattle.law_2_chains.specs.Bridge.{Bridges, FollowsFresh, IsMember, IsRunning, IsSent}
 use Rattle.law_2_chains.proofs.Bridging.{runs_so}
@@ -114,6 +115,7 @@ module _ (u : Setup) (kinds : ℕ → Kind) (c n : ℕ) (l : c < 2 ^ 64) (a : 2 
         reflects = reflects_fresh u (kinds i) c n i size m n_is;
         stored = keeps_fresh u (kinds i) c n i size m n_is;
         tables = λ free. tables_fresh u (kinds i) c n i size m n_is s refl;
+        vouched = λ alone views k h here. let none : Nothing ≡ Here h = sym (fresh_nothing (kinds i) c n i k) ∙ here in absurd cc;
       } in
       record {
         disk = subst (IsDisk (fresh_member (kinds i) c n i)) (sym same) (record { last = d.last; under = d.under; slots = d.slots; size = d.size });

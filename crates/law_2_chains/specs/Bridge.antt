@@ -2,30 +2,34 @@
 use Rattle.vr_base.specs.declared.kind.Kind.{Kind}
 use Rattle.std.specs.Prelude.{ℕ, ◌+◌, ◌≤◌, ◌≡◌, ◌⊎◌, ⊤, List, [], ◌∷◌, length, All, Contains, slice_get, Some, None}
 use Rattle.vr_header.specs.declared.header.Header.{Header}
+use Rattle.vr_header.specs.declared.part.Part.TheVariants.{Here}
 use Rattle.vr_msg.specs.declared.output.Chosen.{Chosen}
 use Rattle.vr_msg.specs.declared.output.Output.{Output}
 use Rattle.vr_msg.specs.declared.output.Output.TheVariants as output
 use Rattle.vr_msg.specs.declared.output.Sent.{Sent}
-use Rattle.vr_world.specs.Replica.{Replica}
+use Rattle.vr_world.specs.Replica.{Replica, part_at}
 use Rattle.vr_world.specs.Lying.{lying}
 use Rattle.vr_world.specs.Group as group
 use Rattle.vr_world.specs.Group.{Move, Steps, Runs, Played, made_in}
 use Rattle.law_1_machine.specs.Basics.{In}
 use Rattle.law_1_machine.specs.Group.{Group, Made}
-use Rattle.law_1_machine.specs.Members.{Choice, Memory, Message}
+use Rattle.law_1_machine.specs.Members.{Choice, Memory, Message, Prepare_ok}
 use Rattle.law_2_chains.specs.Reflecting.{IsDisk, KeepsStored, Reflects}
 use Rattle.law_2_chains.specs.Chains.{Setup, IsReached, Every, WasMade, WasSent}
 use Rattle.law_2_chains.specs.Choices.{IsMadeFrom}
 use Rattle.law_2_chains.specs.Finished.{IsSaid, IsTrue}
+use Rattle.law_2_chains.specs.Lone.{IsStored}
 use Rattle.law_2_chains.specs.Tables.{Fits, HasTables}
 
--- a running replica is what a memory of the machine says, what it has stored is kept, and its tables are true
+-- A running replica is what a memory of the machine says, what it has stored is kept, and its tables are true; and one that is a group by
+-- itself has vouched for all that it has stored in its view.
 pub record IsRunning (u : Setup) (s : Group Header) (i : ℕ) (m : group.Member) (r : Replica) : Type 0 where
   pub memory : Memory Header
   pub running : (s.members i).memory ≡ Some memory
   pub reflects : Reflects r memory
   pub stored : KeepsStored r m
   pub tables : HasTables u s i r
+  pub vouched : u.quorums.n ≡ 1 → r.view ≡ r.log_view → (k : ℕ) (h : Header) → part_at r k ≡ Here h → In (Prepare_ok i r.view k h) s.sent
 
 pub record IsMember (u : Setup) (s : Group Header) (i : ℕ) (m : group.Member) : Type 0 where
   pub disk : IsDisk m (s.members i)
@@ -48,13 +52,30 @@ abbrev pub ChoosesWell : group.Group → Move → List (Choice Header) → List 
 ChoosesWell g (Steps at arrival e d) chosen os = (m : group.Member) (r : Replica) → Runs g at m r → (c : Chosen) → Contains os (output.Choose c) → IsMadeFrom chosen e r c
 ChoosesWell g _ chosen os = ⊤
 
--- What a move leaves: nothing is taken back, what was put out is true, and nothing else was sent or made, at most one entry in all.
+-- a vouch of a replica that is a group by itself, for what it had stored
+pub record IsOwnVouch (u : Setup) (m : Message Header) : Type 0 where
+  pub alone : u.quorums.n ≡ 1
+  pub index : ℕ
+  pub replica : Replica
+  pub stored : IsStored index replica m
+
+-- What was sent by the time at which a move puts something out: what was sent before it, and where the replica is a group by itself, its
+-- vouches for what it has stored by then.
+pub record IsGround (u : Setup) (s ground : Group Header) : Type 0 where
+  pub before : (m : Message Header) → In m s.sent → In m ground.sent
+  pub own : (m : Message Header) → In m ground.sent → In m s.sent ⊎ IsOwnVouch u m
+  pub several : 2 ≤ u.quorums.n → ground.sent ≡ s.sent
+
+-- What a move leaves: nothing is taken back, what was put out is true by what was sent by then, and nothing else was sent or made, at most
+-- one entry in all.
 pub record Chained (u : Setup) (s a : Group Header) (p : Played) : Type 0 where
   pub bridges : Bridges u p.moved.group a
   pub sent : (m : Message Header) → In m s.sent → In m a.sent
   pub chosen : (c : Choice Header) → In c s.chosen → In c a.chosen
-  pub told : Every (IsTrue u s.sent a.sent) p.moved.outputs
-  pub only : (m : Message Header) → In m a.sent → In m s.sent ⊎ IsSaid u p.moved.outputs m
+  pub ground : Group Header
+  pub grounds : IsGround u s ground
+  pub told : Every (IsTrue u ground.sent a.sent) p.moved.outputs
+  pub only : (m : Message Header) → In m a.sent → In m s.sent ⊎ (IsSaid u p.moved.outputs m ⊎ IsOwnVouch u m)
   pub made : (x : Made Header) → In x a.made → In x s.made ⊎ In x.entry (made_in p.moved.script)
   pub few : length a.made ≤ length s.made + 1
   pub choices : ChoosesWell p.before p.move a.chosen p.moved.outputs

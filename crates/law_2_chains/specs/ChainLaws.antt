@@ -1,5 +1,5 @@
 -- Every step of every replica is a chain of the machine's moves.
-use Rattle.std.specs.Prelude.{ℕ, ◌+◌, ◌<◌, ◌≡◌, ⊤, true, is_some, List, ◌++◌, length, take}
+use Rattle.std.specs.Prelude.{ℕ, ◌+◌, ◌<◌, ◌≤◌, ◌≡◌, ⊤, true, is_some, List, ◌++◌, length, take}
 use Rattle.vr_header.specs.declared.header.Header.{Header}
 use Rattle.vr_msg.specs.declared.event.Event.{Event}
 use Rattle.vr_msg.specs.declared.event.Event.TheVariants as event
@@ -24,13 +24,13 @@ MayArrive u start (event.Request q) = IsMessage (frame.Request q)
 MayArrive u start (event.Deliver m) = IsMessage m × WasSent u start.sent m
 MayArrive u start event.Tick = ⊤
 
--- Member i of the machine's group stands for the replica and its disk. Then its step, with whatever it reads, can be carried out in the
+-- Member i of the machine's group, one of several, stands for the replica and its disk. Then its step, with whatever it reads, can be carried out in the
 -- machine to its end, where all that it put out is true; and so can what is left of it, wherever it is cut. Nothing is made in it but an
 -- entry that it then writes first; at the end the replica's tables are true again; and each choose line is of a choice that the machine
 -- made in it.
 abbrev pub StepsAreChains : Type 0 → Type 0
 StepsAreChains F =
-    (u : Setup) (start : Group Header) (i : ℕ) (t : Setting F) (r : Replica) (f : F) (l : Local) (e : Event) → Fits u → Mid u start i r l start → HasTables u start i r
+    (u : Setup) (start : Group Header) (i : ℕ) (t : Setting F) (r : Replica) (f : F) (l : Local) (e : Event) → Fits u → 2 ≤ u.quorums.n → Mid u start i r l start → HasTables u start i r
     → t.hash ≡ u.hash → r.cluster ≡ u.cluster → HasNames t → (0 < head r → is_some (header_at r (head r)) ≡ true) → Every AsksNothing l.said → MayArrive u start e
     → ChainChooses u start i l e r (react e t r f)
 

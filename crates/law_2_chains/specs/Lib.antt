@@ -6,7 +6,10 @@ pub mod Finished
 pub mod Begins
 pub mod Choices
 pub mod Openings
+pub mod Lone
 pub mod ChainLaws
+pub mod LoneWords
+pub mod LoneLaws
 pub mod Bridge
 pub mod RunLaws
 pub mod Counted

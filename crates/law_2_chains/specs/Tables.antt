@@ -15,7 +15,6 @@ use Rattle.law_2_chains.specs.Chains.{Setup, statement_told}
 -- the machine's quorums are those of the group's size
 pub record Fits (u : Setup) : Type 0 where
   pub replication_is : replication u.quorums.n ≡ u.quorums.replication
-  pub several : 2 ≤ u.quorums.replication
   pub nack_is : option_map_or (λ q. q.nack) (quorums_of u.quorums.n) 0 ≡ u.quorums.nack
 
 -- j has vouched for something at k

@@ -2,6 +2,7 @@
 //! machine's invariant gives of such a run.
 #![tactic(auto)]
 
+pub mod groups_of_one;
 pub mod invariant;
 pub mod runs;
 pub mod steps;

@@ -1,5 +1,5 @@
 -- Every run of a group that was just made is followed, move by move.
-use Rattle.std.proofs.Common.{ℕ, zero, suc, ◌≡◌, sym, subst, List, [], ◌∷◌, Some}
+use Rattle.std.proofs.Common.{ℕ, zero, suc, ◌≤◌, ◌≡◌, inl, inr, arith, sym, subst, List, [], ◌∷◌, Some}
 use Rattle.std.specs.Prelude.{Contains, slice_get}
 use Rattle.vr_base.specs.Bytes.{name_of}
 use Rattle.vr_header.specs.declared.header.Header.{Header}
@@ -18,7 +18,7 @@ use Rattle.law_1_machine.specs.Basics.{In}
 use Rattle.law_1_machine.specs.Group.{Group}
 use Rattle.law_1_machine.specs.Laws as law
 use Rattle.law_1_machine.proofs.Moves.{reached_good}
-use Rattle.law_3_outputs.specs.Chains.{Setup, IsReached}
+use Rattle.law_3_outputs.specs.Chains.{Setup, IsReached, Every}
 use Rattle.law_3_outputs.specs.Finished.{IsTrue}
 use Rattle.law_3_outputs.specs.Reflecting.{entries_by}
 use Rattle.law_3_outputs.specs.Tables.{Fits}
@@ -84,7 +84,7 @@ so cluster u run before after p reached from lines choices (output.Halted n) j t
 so cluster u run before after p reached from lines choices output.Done j t = tt
 so cluster u run before after p reached from lines choices output.KeptOut j t = tt
 
-module _ (cluster n : ℕ) (run : List Played) (fit : IsFitRun cluster n run) (u : Setup) (of_group : u.cluster ≡ cluster) (first : Group Header) (bridges : Bridges u (fresh_group fit.kinds cluster n) first) (follows : Follows u first run) where
+module _ (cluster n : ℕ) (run : List Played) (fit : IsFitRun cluster n run) (u : Setup) (of_group : u.cluster ≡ cluster) (first : Group Header) (bridges : Bridges u (fresh_group fit.kinds cluster n) first) (follows : Follows u first run) (size_is : u.quorums.n ≡ n) where
   abbrev at : ℕ → Group Header
   at t = group_at u first t run follows
 
@@ -102,22 +102,24 @@ module _ (cluster n : ℕ) (run : List Played) (fit : IsFitRun cluster n run) (u
       let moves = move_of (fresh_group fit.kinds cluster n) run fit.of_run t p is in
       let there : Contains run p = in_contains run p (get_in run t p is) in
       let size : u.quorums.n ≡ p.before.n = sym (bridged t p is).size in
+      let several : 2 ≤ u.quorums.n = let few = fit.few in omega arith in
+      let told : Every (IsTrue u (at t).sent (at (suc t)).sent) p.moved.outputs = subst (λ ms. Every (IsTrue u ms (at (suc t)).sent) p.moved.outputs) (x.grounds.several several) x.told in
       let mine : IsFitGroup u.cluster p.before = subst (λ c. IsFitGroup c p.before) (sym of_group) f.0.0 in
       record {
         sent = x.sent;
         chosen = x.chosen;
         said = every_of (IsSo cluster u run (at t) (at (suc t)) p) p.moved.outputs (λ o j.
             so cluster u run (at t) (at (suc t)) p (reached_at u first t run follows bridges.reached) (from_so cluster p.before p.move p.moved f.0.0 placed moves) (line_hashed run cluster p.before p.move p.moved there f.0.0 f.1 moves)
-            (choice_so u (at (suc t)).chosen p.before p.move p.moved size mine f.1 moves x.choices) o j (every_in (IsTrue u (at t).sent (at (suc t)).sent) p.moved.outputs o j x.told));
-        only = x.only;
+            (choice_so u (at (suc t)).chosen p.before p.move p.moved size mine f.1 moves x.choices) o j (every_in (IsTrue u (at t).sent (at (suc t)).sent) p.moved.outputs o j told));
+        only = λ m h. elim (x.only m h) [ inl old ↦ inl old | inr new ↦ elim new [ inl said ↦ inr said | inr own ↦ let alone = own.alone in absurd (omega arith) ] ];
         made = x.made;
       }
 
-  followed : u.hash ≡ name_of → u.quorums.n ≡ n → Fits u → first.sent ≡ [] → first.made ≡ [] → IsFollowed cluster n u run
-  followed hash size fits none_sent none_made = record {
+  followed : u.hash ≡ name_of → Fits u → first.sent ≡ [] → first.made ≡ [] → IsFollowed cluster n u run
+  followed hash fits none_sent none_made = record {
     hash_is = hash;
     cluster_is = of_group;
-    size_is = size;
+    size_is = size_is;
     fits = fits;
     fit = fit;
     group = at;
@@ -133,7 +135,7 @@ follows_it cluster n run fit =
     let y : FollowsFresh fit.kinds cluster n run = fresh_runs_so fit.kinds cluster n run fit.number fit.few fit.many fit.moves fit.of_run in
     record {
       setup = y.setup;
-      followed = followed cluster n run fit y.setup y.cluster_is y.first y.bridges y.follows y.hash_is y.size_is y.fits y.none_sent y.none_made;
-      bridges = bridged cluster n run fit y.setup y.cluster_is y.first y.bridges y.follows;
-      after = bridged_after cluster n run fit y.setup y.cluster_is y.first y.bridges y.follows;
+      followed = followed cluster n run fit y.setup y.cluster_is y.first y.bridges y.follows y.size_is y.hash_is y.fits y.none_sent y.none_made;
+      bridges = bridged cluster n run fit y.setup y.cluster_is y.first y.bridges y.follows y.size_is;
+      after = bridged_after cluster n run fit y.setup y.cluster_is y.first y.bridges y.follows y.size_is;
     }

@@ -47,7 +47,7 @@ use Rattle.law_3_outputs.specs.Answering.{one_if}
 use Rattle.law_3_outputs.specs.Followed.{IsFollowed}
 use Rattle.law_3_outputs.specs.Ordered.{AreInOrder}
 use Rattle.law_3_outputs.specs.Replied.{IsLogOf}
-use Rattle.law_3_outputs.proofs.Fitting.{arrives, fit_at, good_value, move_of}
+use Rattle.law_3_outputs.proofs.Fitting.{arrives, fit_at, good_value, move_of, several_in}
 use Rattle.law_3_outputs.proofs.Ordering.{come_in_order}
 use Rattle.law_3_outputs.proofs.Reading.{opening_reads, reads_good}
 use Rattle.law_3_outputs.proofs.Resuming.{on_disk, resumed_order, said_right}
@@ -233,7 +233,7 @@ module _ (cluster n : ℕ) (u : Setup) (run : List Played) (x : IsFollowed clust
 
       step_told : (c : Committed) → In (output.Commit c) (outputs es) → IsBackedLine u (x.group t).sent c.entry.header
       step_told c j =
-          let y = (chain_of u x.fits x.hash_is p.before (x.group t) mine (bridges t p is) at arrival e d m r runs.member runs.running fit.0 came).chain in
+          let y = (chain_of u x.fits x.hash_is p.before (x.group t) mine (bridges t p is) (several_in cluster n u run x) at arrival e d m r runs.member runs.running fit.0 came).chain in
           let before = (begun_of u (x.group t) at es y.begun y.begins).sent in
           let all : Every (IsTrue u y.begun.sent y.finishes.after.sent) (outputs es) = subst (Every (IsTrue u y.begun.sent y.finishes.after.sent)) (leaves es (local m)).said y.finishes.ends.told in
           subst (λ s. IsBackedLine u s c.entry.header) before (every_in (IsTrue u y.begun.sent y.finishes.after.sent) (outputs es) (output.Commit c) j all)

@@ -1,5 +1,5 @@
 -- What a running member has applied is committed by what was sent, before a step and after it; and a reply names its replica and its view.
-use Rattle.std.proofs.Common.{ℕ, ◌≡◌, ◌∙◌, sym, subst, arith, List, Some}
+use Rattle.std.proofs.Common.{ℕ, ◌≤◌, ◌≡◌, ◌∙◌, sym, subst, arith, List, Some}
 use Rattle.std.specs.Prelude.{⊤, slice_get}
 use Rattle.std.proofs.lemmas.List.Elements.{All-contains}
 use Rattle.vr_header.specs.declared.header.Header.{Header}
@@ -22,7 +22,7 @@ use Rattle.law_3_outputs.specs.Bridge.{Bridges}
 use Rattle.law_3_outputs.proofs.Bridging.{begun_of, chain_of, local, mid_of}
 use Rattle.law_3_outputs.specs.Followed.{IsFollowed}
 use Rattle.law_3_outputs.specs.Replied.{IsServed, IsStepped}
-use Rattle.law_3_outputs.proofs.Fitting.{fit_at, move_of}
+use Rattle.law_3_outputs.proofs.Fitting.{fit_at, move_of, several_in}
 use Rattle.law_3_outputs.proofs.Placing.{placed_at, step_present}
 use Rattle.law_3_outputs.proofs.Sets.{in_contains}
 
@@ -38,10 +38,10 @@ module _ (u : Setup) (fits : Fits u) (hash : u.hash ≡ lying.hash) (g : group.G
         backed = λ k z a. subst (λ v. (h : Header) × Backed u.quorums (entries_by u.hash u.cluster) s.sent v k h) f.log_view (counted u s at r (local m) s x k z (let c = f.commit in omega arith));
       }
 
-  stepped_now : (at : ℕ) (a : Arrival) (e : Event) (d : Lying) (m : Member) (r : Replica) → Runs g at m r → IsFitArrival a → IsArrival g at a e → IsPlaced r
+  stepped_now : 2 ≤ u.quorums.n → (at : ℕ) (a : Arrival) (e : Event) (d : Lying) (m : Member) (r : Replica) → Runs g at m r → IsFitArrival a → IsArrival g at a e → IsPlaced r
       → IsStepped u s.sent r (stepped e r d).replica (outputs (stepped e r d).script)
-  stepped_now at a e d m r runs h i placed =
-      let c = (chain_of u fits hash g s fit bridge at a e d m r runs.member runs.running h i).chain in
+  stepped_now several at a e d m r runs h i placed =
+      let c = (chain_of u fits hash g s fit bridge several at a e d m r runs.member runs.running h i).chain in
       let x = c.finishes.ends in
       let before : c.begun.sent ≡ s.sent = (begun_of u s at (stepped e r d).script c.begun c.begins).sent in
       let f = x.reflects in
@@ -86,4 +86,4 @@ module _ (cluster n : ℕ) (u : Setup) (run : List Played) (x : IsFollowed clust
       let moves = move_of (fresh_group x.fit.kinds cluster n) run x.fit.of_run t p is in
       let i : IsArrival p.before at arrival e = subst (Arrives p.before) step (moves_arrive p.before p.move p.moved moves) in
       let h = subst IsFitMove step (fit_at cluster n run x.fit t p is).1 in
-      stepped_now u x.fits x.hash_is p.before (x.group t) (mine t p is) (bridges t p is) at arrival e d m r runs h.0 i (placed_at cluster n run x.fit t p is at m r runs)
+      stepped_now u x.fits x.hash_is p.before (x.group t) (mine t p is) (bridges t p is) (several_in cluster n u run x) at arrival e d m r runs h.0 i (placed_at cluster n run x.fit t p is at m r runs)

@@ -4,6 +4,7 @@ pub mod Placing
 pub mod Puts
 pub mod Readings
 pub mod Apart
+mod Below
 pub mod Done
 pub mod Gathering
 pub mod Keeping

@@ -1,12 +1,14 @@
 -- What a checkpoint leaves of the one before, and what it loads as.
 use Rattle.std.specs.Prelude.{ℕ, ◌+◌, ◌^◌, ◌<◌, ◌≤◌, ◌≡◌, ◌≢◌, true, List, [], ◌∷◌, length, take, Some}
+use Rattle.std.specs.List.{AllByRecursion}
 use Rattle.vr_disk.specs.DiskState.{Face, IsFace, after_all, cut}
-use Rattle.vr_state.specs.StateTexts.{FitsPayloads, key_payloads, session_payloads}
+use Rattle.vr_state.specs.StateTexts.{FitsPayloads, key_payloads, payloads, session_payloads}
 use Rattle.vr_state.specs.declared.texts.Texts.{Texts}
 use Rattle.vr_ckpt.specs.declared.name.Name.{Name}
 use Rattle.vr_ckpt.specs.Loads.{data_at, loaded}
 use Rattle.vr_ckpt.specs.Places.{IsCheckpoint, empty, is_place, keys_places, place_of, root_place, sessions_places}
-use Rattle.vr_ckpt.specs.Saves.{save_calls, saved_checkpoint}
+use Rattle.vr_ckpt.specs.Saves.{save_calls, saved_checkpoint, written}
+use Rattle.vr_ckpt.specs.declared.block.Block.{Block}
 use Rattle.vr_ckpt.specs.declared.found.Load.TheVariants.{Loaded}
 use Rattle.vr_ckpt.specs.declared.places.Places.{Places}
 use Rattle.vr_ckpt.specs.declared.table.Payload.{Payload}
@@ -48,6 +50,12 @@ SaveDone cluster texts op old f = loaded (after_all f (save_calls cluster texts 
 abbrev pub DoneLaw : Type 0
 DoneLaw =
     (cluster : ℕ) (texts : Texts) (op : ℕ) (old : PayloadTable) (f : Face) → cluster < 2 ^ 64 → IsCheckpoint op → FitsPayloads texts → IsFace f → Holds f old → SaveDone cluster texts op old f
+
+-- the texts of a state that fits version 1, which have no more payloads, are written below address 128
+abbrev pub FewStandBelow : Type 0
+FewStandBelow =
+    (cluster : ℕ) (texts : Texts) (op : ℕ) (old : PayloadTable) → payloads (length texts.sessions) ≤ sessions_places.few → payloads (length texts.keys) ≤ keys_places.few
+    → AllByRecursion (λ (b : Block). b.name.address < 128) (written cluster texts op old)
 
 -- two checkpoints one after the other have their roots at different places
 abbrev pub RootsApart : Type 0

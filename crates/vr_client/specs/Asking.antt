@@ -113,14 +113,14 @@ AreSilent a (l ∷ ls) = IsSilent (heed a.n a.name l) × AreSilent a ls
 abbrev pub requests : List ℕ → List ℕ → List Datagram
 requests bytes ports = map (λ port. datagram_at port bytes) ports
 
--- a receive that failed, or for whose message memory was short
-abbrev pub FailsAt : Arrival → AskFault → Type 0
-FailsAt arrival fault.NoAnswer = ⊥
-FailsAt arrival fault.Link = arrival ≡ Failed
-FailsAt arrival fault.NoMemory = IsMessage arrival
+-- a receive that failed, or for whose message, of this version, memory was short
+abbrev pub FailsAt : ℕ → Arrival → AskFault → Type 0
+FailsAt version arrival fault.NoAnswer = ⊥
+FailsAt version arrival fault.Link = arrival ≡ Failed
+FailsAt version arrival fault.NoMemory = IsMessage version arrival
 
-abbrev pub Fails : Option (List Arrival) → Option (List Arrival) → AskFault → Type 0
-Fails got got' f = (arrival : Arrival) × Grows got got' (arrival ∷ []) × FailsAt arrival f
+abbrev pub Fails : ℕ → Option (List Arrival) → Option (List Arrival) → AskFault → Type 0
+Fails version got got' f = (arrival : Arrival) × Grows got got' (arrival ∷ []) × FailsAt version arrival f
 
 -- one receive, and what is heeded of it
 abbrev pub Hears : ℕ → ℕ → ℕ → Sum → Option (List Arrival) → Option (List Arrival) → Heed → Type 0
@@ -150,7 +150,7 @@ EndsBy a ls last (Ok answer) =
     × (heed a.n a.name letter ≡ Answered answer) × (length ls < a.turns)
 EndsBy a ls last (Err fault.NoAnswer) = (last ≡ []) × (length ls ≡ a.turns)
 EndsBy a ls last (Err fault.Link) = (last ≡ Failed ∷ []) × (length ls < a.turns)
-EndsBy a ls last (Err fault.NoMemory) = (arrival : Arrival) × (last ≡ arrival ∷ []) × IsMessage arrival × (length ls < a.turns)
+EndsBy a ls last (Err fault.NoMemory) = (arrival : Arrival) × (last ≡ arrival ∷ []) × IsMessage a.version arrival × (length ls < a.turns)
 
 -- the run of an ask at a link that may tell: the port at which the client is before and after, and what the link tells. The
 -- request goes to the first port, and then as each turn without an answer says.

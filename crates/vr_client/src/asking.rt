@@ -81,7 +81,7 @@ impl ClientCore {
         ensures stays { self.new.port ≡ self.old.port }
         ensures heard { IfOk result (Hears self.old.version self.old.cluster self.old.n name.now (L.received link.old) (L.received link.new)) }
         ensures port { IfOk result (MovesWithin self.old.n) }
-        ensures failed { IfErr result (Fails (L.received link.old) (L.received link.new)) }
+        ensures failed { IfErr result (Fails self.old.version (L.received link.old) (L.received link.new)) }
         ensures cause { AskCause (L.faults link.old) (L.faults link.new) result }
         ensures sent { L.sent link.new ≡ L.sent link.old }
         ensures attached { L.attached link.new ≡ L.attached link.old }
@@ -140,7 +140,7 @@ impl ClientCore {
         requires { done < turns }
         ensures core { Keeps self.old self.new }
         ensures turned { IfOk result (Turned (ask_in self.old name.now turns) done self.old.port self.new.port (L.sent link.old) (L.sent link.new) (L.received link.old) (L.received link.new)) }
-        ensures failed { IfErr result (Fails (L.received link.old) (L.received link.new)) }
+        ensures failed { IfErr result (Fails self.old.version (L.received link.old) (L.received link.new)) }
         ensures stays { IfErr result (λ _. (self.new.port ≡ self.old.port) × (L.sent link.new ≡ L.sent link.old)) }
         ensures cause { AskCause (L.faults link.old) (L.faults link.new) result }
         ensures attached { L.attached link.new ≡ L.attached link.old }

@@ -5,4 +5,5 @@ pub mod Found
 pub mod Lists
 pub mod Parts
 pub mod Syncs
+pub mod Versions
 pub mod Written

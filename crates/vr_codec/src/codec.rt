@@ -1,5 +1,5 @@
 //! The bytes of messages, both ways.
-ghost use Rattle.std.specs.Prelude.{◌≡◌, ◌≢◌, ◌≤◌, ◌+◌, List, ℕ, ◌++◌, ◌⊎◌, Ok, Err, IfOk, IfErr, OnOk, OnErr, MatchOption, length, take, drop};
+ghost use Rattle.std.specs.Prelude.{◌≡◌, ◌≢◌, ◌≤◌, ◌+◌, ◌==◌, List, ℕ, ◌++◌, ◌⊎◌, Ok, Err, IfOk, IfErr, OnOk, OnErr, MatchOption, length, take, drop};
 ghost use Rattle.vr_base.specs.Bytes.{KeepsFront};
 ghost use Rattle.vr_codec.specs.declared.fault.MsgFault.{MsgFault};
 ghost use Rattle.vr_msg.specs.declared.frame.Frame.{Frame};
@@ -7,7 +7,7 @@ ghost use Rattle.vr_codec.specs.Deciding.{IsFault, Reads};
 ghost use Rattle.vr_codec.specs.Shapes.{inspected};
 ghost use Rattle.vr_header.specs.Spelling.{IsHeader};
 ghost use Rattle.vr_msg.specs.Forms.{IsFrame};
-ghost use Rattle.vr_msg.specs.Spelling.{IsBodyValue, Spells, body_bytes, frame_header, spelling};
+ghost use Rattle.vr_msg.specs.Spelling.{IsBodyValue, Spells, body_bytes, frame_header, spelling, version_of};
 
 use crate::MsgFault;
 use crate::head::{command_for, header_before, with_fields};
@@ -15,7 +15,7 @@ use crate::read::read_frame;
 use crate::shape::inspect;
 use crate::write::write_body;
 use std::alloc::{AllocError, Global};
-use vr_base::{put, sum_at};
+use vr_base::{Version, put, sum_at};
 use vr_header::Header;
 use vr_msg::{Frame, Message};
 
@@ -26,6 +26,19 @@ pub fn judge(bytes: &[u8]) -> Option<MsgFault>
     match inspect(bytes) {
         Ok(_) => None,
         Err(fault) => Some(fault),
+    }
+}
+
+/// Where the header of a message tells its version.
+const VERSION_PLACE: usize = 110;
+
+/// Whether the bytes tell this version, as each message of it does. It takes no memory, and makes no digest.
+pub fn tells_version(bytes: &[u8], version: Version) -> bool
+    ensures { (m : Frame) → Spells m bytes.now → result ≡ (version_of m == version) }
+{
+    match bytes.get(VERSION_PLACE) {
+        Some(told) => *told == version.get(),
+        None => false,
     }
 }
 

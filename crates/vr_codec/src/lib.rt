@@ -9,5 +9,5 @@ mod read;
 mod shape;
 mod write;
 
-pub use codec::{decode, encode, judge};
+pub use codec::{decode, encode, judge, tells_version};
 pub use fault::MsgFault;

@@ -4,12 +4,19 @@ use std::alloc::{AllocError, Global};
 use std::mem;
 use vr_base::{ByteList, NoMemory};
 use vr_edge::{
-    Coming, Datagram, LinkRoom, LinkScript, MemClock, MemLink, MemSource, MemStreams, Piece,
-    StreamScript,
+    Coming, Datagram, LinkRoom, LinkScript, LogRoom, MemClock, MemLink, MemSource, MemStreams,
+    Piece, StreamScript,
 };
 use vr_mem::MemDisk;
 use vr_spawn::MemSpawner;
 use vr_stream::StreamLink;
+
+/// How much the objects of a run have room for of what they tell.
+const LOG_ROOM: LogRoom = LogRoom {
+    entries: 64,
+    texts: 512,
+    bytes: 256,
+};
 
 /// What the next run finds outside: a disk, which stays for the runs behind it, and what comes and what fails in the next one.
 #[derive(Drop)]
@@ -127,13 +134,13 @@ impl Outside {
             bytes: 4096,
         };
         let script = mem::replace(&mut self.script, LinkScript::quiet(alloc));
-        MemLink::new(alloc, script, room)
+        MemLink::new(alloc, script, room, LOG_ROOM)
     }
 
     /// A link over streams of a group of two, over which what was said comes.
     pub fn stream_link(&mut self, alloc: Global) -> Result<StreamLink<MemStreams>, AllocError> {
         let script = mem::replace(&mut self.streams, StreamScript::quiet(alloc));
-        StreamLink::over_new(alloc, 2, MemStreams::new(alloc, 66, script)?)
+        StreamLink::over_new(alloc, 2, MemStreams::new(alloc, 66, script, LOG_ROOM)?)
     }
 
     pub fn source(&mut self, alloc: Global) -> MemSource {
@@ -145,11 +152,12 @@ impl Outside {
         MemClock::new(mem::replace(&mut self.numbers, Vec::new(alloc)))
     }
 
-    pub fn spawner(&mut self, alloc: Global) -> MemSpawner {
+    pub fn spawner(&mut self, alloc: Global) -> Result<MemSpawner, AllocError> {
         MemSpawner::new(
             alloc,
             mem::replace(&mut self.failing_starts, Vec::new(alloc)),
             mem::replace(&mut self.failing_stops, Vec::new(alloc)),
+            LOG_ROOM,
         )
     }
 }

@@ -154,6 +154,18 @@ fn put_whole_run(
     put_calls(alloc, spawner, to)
 }
 
+/// The same over datagrams.
+fn put_linked_run(
+    alloc: Global,
+    line: &str,
+    outside: &mut Outside,
+    spawner: &mut MemSpawner,
+    to: &mut ByteList,
+) -> Result<(), AllocError> {
+    let mut link = outside.link(alloc)?;
+    put_whole_run(alloc, line, outside, &mut link, spawner, to)
+}
+
 /// Runs a command line, and tells what it wrote, how it ended, to which ports it sent, and what it had the spawner do.
 pub fn tell(
     alloc: Global,
@@ -161,9 +173,20 @@ pub fn tell(
     outside: &mut Outside,
     to: &mut ByteList,
 ) -> Result<(), AllocError> {
-    let mut link = outside.link(alloc)?;
-    let mut spawner = outside.spawner(alloc);
-    put_whole_run(alloc, line, outside, &mut link, &mut spawner, to)
+    let mut spawner = outside.spawner(alloc)?;
+    put_linked_run(alloc, line, outside, &mut spawner, to)
+}
+
+/// A run over streams.
+fn put_streamed_run(
+    alloc: Global,
+    line: &str,
+    outside: &mut Outside,
+    spawner: &mut MemSpawner,
+    to: &mut ByteList,
+) -> Result<(), AllocError> {
+    let mut link = outside.stream_link(alloc)?;
+    put_line_run(alloc, line, outside, &mut link, spawner, to)
 }
 
 /// Runs a command line over streams, and tells what it wrote and how it ended.
@@ -173,7 +196,6 @@ pub fn tell_over_streams(
     outside: &mut Outside,
     to: &mut ByteList,
 ) -> Result<(), AllocError> {
-    let mut link = outside.stream_link(alloc)?;
-    let mut spawner = outside.spawner(alloc);
-    put_line_run(alloc, line, outside, &mut link, &mut spawner, to)
+    let mut spawner = outside.spawner(alloc)?;
+    put_streamed_run(alloc, line, outside, &mut spawner, to)
 }

@@ -1,6 +1,6 @@
 -- Calls after calls.
 use Rattle.std.proofs.Common.{ℕ, ◌≡◌, refl, sym, ap, ◌∙◌, Bool, true, false, cond, List, [], ◌∷◌, ◌++◌, Option, Some, None, append_assoc}
-use Rattle.vr_disk.specs.DiskState.{Beside, Call, Write, Sync, Disk, Face, Fate, Goes, Fails, Cuts, Ran, after, after_all, beside_after, cut_at, judged, nothing_beside, ran, ran_as, runs, goes_on, settle, Runs, RunsFrom, Front}
+use Rattle.vr_disk.specs.DiskState.{Beside, Call, Write, Sync, Disk, Face, Fate, Goes, Fails, Cuts, Ran, after, after_all, beside_after, cut_at, judged, name_beside, ran, ran_as, runs, goes_on, settle, Runs, RunsFrom, Front}
 
 -- what comes after calls that may have stopped
 pub goes_on_goes : (r : Ran) (f g : Disk → Ran) → goes_on (goes_on r f) g ≡ goes_on r (λ d. goes_on (f d) g)
@@ -87,23 +87,23 @@ pub call_cuts : (f f' : Face) (t t' : Fate) (b : Beside) (c : Call) (code : ℕ)
 unfolding ran
 call_cuts f f' t t' b c code v n a = rw (← v, n, a) (refl, refl)
 
--- the same of a disk that keeps nothing beside its sectors
-pub one_goes : (f f' : Face) (t t' : Fate) (c : Call) → Goes ≡ (judged t).verdict → t' ≡ (judged t).next → f' ≡ after f c
-    → Runs (c ∷ []) (Some (record { face = f; fate = t; beside = nothing_beside })) (Some (record { face = f'; fate = t'; beside = nothing_beside })) true
-one_goes f f' t t' c v n a = call_goes f f' t t' nothing_beside c v n a
+-- the same of a disk that keeps its name alone beside its sectors
+pub one_goes : (f f' : Face) (t t' : Fate) (name : Option (List ℕ)) (c : Call) → Goes ≡ (judged t).verdict → t' ≡ (judged t).next → f' ≡ after f c
+    → Runs (c ∷ []) (Some (record { face = f; fate = t; beside = name_beside name })) (Some (record { face = f'; fate = t'; beside = name_beside name })) true
+one_goes f f' t t' name c v n a = call_goes f f' t t' (name_beside name) c v n a
 
-pub one_fails : (f : Face) (t t' : Fate) (c : Call) → Fails ≡ (judged t).verdict → t' ≡ (judged t).next
-    → Runs (c ∷ []) (Some (record { face = f; fate = t; beside = nothing_beside })) (Some (record { face = f; fate = t'; beside = nothing_beside })) false
-one_fails f t t' c v n = call_fails f t t' nothing_beside c v n
+pub one_fails : (f : Face) (t t' : Fate) (name : Option (List ℕ)) (c : Call) → Fails ≡ (judged t).verdict → t' ≡ (judged t).next
+    → Runs (c ∷ []) (Some (record { face = f; fate = t; beside = name_beside name })) (Some (record { face = f; fate = t'; beside = name_beside name })) false
+one_fails f t t' name c v n = call_fails f t t' (name_beside name) c v n
 
-pub one_cuts : (f f' : Face) (t t' : Fate) (c : Call) (code : ℕ) → Cuts code ≡ (judged t).verdict → t' ≡ (judged t).next → f' ≡ cut_at code f c
-    → Runs (c ∷ []) (Some (record { face = f; fate = t; beside = nothing_beside })) (Some (record { face = f'; fate = t'; beside = nothing_beside })) false
-one_cuts f f' t t' c code v n a = call_cuts f f' t t' nothing_beside c code v n a
+pub one_cuts : (f f' : Face) (t t' : Fate) (name : Option (List ℕ)) (c : Call) (code : ℕ) → Cuts code ≡ (judged t).verdict → t' ≡ (judged t).next → f' ≡ cut_at code f c
+    → Runs (c ∷ []) (Some (record { face = f; fate = t; beside = name_beside name })) (Some (record { face = f'; fate = t'; beside = name_beside name })) false
+one_cuts f f' t t' name c code v n a = call_cuts f f' t t' (name_beside name) c code v n a
 
-pub write_cuts : (f g f' : Face) (t t' : Fate) (i : ℕ) (bytes : List ℕ) (code : ℕ) → Cuts code ≡ (judged t).verdict → t' ≡ (judged t).next → g ≡ after f (Write i bytes) → f' ≡ settle code g
-    → Runs (Write i bytes ∷ []) (Some (record { face = f; fate = t; beside = nothing_beside })) (Some (record { face = f'; fate = t'; beside = nothing_beside })) false
-write_cuts f g f' t t' i bytes code v n a b = one_cuts f f' t t' (Write i bytes) code v n (b ∙ ap (settle code) a)
+pub write_cuts : (f g f' : Face) (t t' : Fate) (name : Option (List ℕ)) (i : ℕ) (bytes : List ℕ) (code : ℕ) → Cuts code ≡ (judged t).verdict → t' ≡ (judged t).next → g ≡ after f (Write i bytes) → f' ≡ settle code g
+    → Runs (Write i bytes ∷ []) (Some (record { face = f; fate = t; beside = name_beside name })) (Some (record { face = f'; fate = t'; beside = name_beside name })) false
+write_cuts f g f' t t' name i bytes code v n a b = one_cuts f f' t t' name (Write i bytes) code v n (b ∙ ap (settle code) a)
 
-pub sync_cuts : (f f' : Face) (t t' : Fate) (code : ℕ) → Cuts code ≡ (judged t).verdict → t' ≡ (judged t).next → f' ≡ settle code f
-    → Runs (Sync ∷ []) (Some (record { face = f; fate = t; beside = nothing_beside })) (Some (record { face = f'; fate = t'; beside = nothing_beside })) false
-sync_cuts f f' t t' code v n b = one_cuts f f' t t' Sync code v n b
+pub sync_cuts : (f f' : Face) (t t' : Fate) (name : Option (List ℕ)) (code : ℕ) → Cuts code ≡ (judged t).verdict → t' ≡ (judged t).next → f' ≡ settle code f
+    → Runs (Sync ∷ []) (Some (record { face = f; fate = t; beside = name_beside name })) (Some (record { face = f'; fate = t'; beside = name_beside name })) false
+sync_cuts f f' t t' name code v n b = one_cuts f f' t t' name Sync code v n b

@@ -1,7 +1,7 @@
 -- What calls that stop leave, and cuts of lists of calls.
-use Rattle.std.proofs.Common.{ℕ, zero, suc, ◌-◌, ◌≡◌, ◌⊎◌, inl, inr, arith, refl, sym, true, false, cond, ◌||◌, List, [], ◌∷◌, length, subst}
-use Rattle.vr_disk.specs.DiskState.{Call, Face, Disk, Goes, Fails, Cuts, after, cut, cut_at, judged, ran, ran_as, runs, attached, attached_as, is_to_fail}
-use Rattle.vr_disk.specs.Stops.{Stops, StopsLeaveFront, CutsOfBoth, NothingWaits, AttachingIsBarrier}
+use Rattle.std.proofs.Common.{ℕ, zero, suc, ◌-◌, ◌≡◌, ◌⊎◌, inl, inr, arith, refl, sym, ◌∙◌, true, false, cond, List, [], ◌∷◌, length, Some, subst}
+use Rattle.vr_disk.specs.DiskState.{Call, Face, Disk, Goes, Fails, Cuts, after, cut, cut_at, judged, ran, ran_as, runs, attach_fails, attached, attached_as}
+use Rattle.vr_disk.specs.Stops.{Stops, StopsLeaveFront, CutsOfBoth, NothingWaits, AttachingIsBarrier, NameStays}
 use Rattle.vr_disk.proofs.Running.{ran_ok}
 
 ran_not : (d : Disk) (c : Call) → (ran d c).ok ≡ false → ((ran d c).disk.face ≡ d.face) ⊎ ((code : ℕ) × ((ran d c).disk.face ≡ cut_at code d.face c))
@@ -47,10 +47,36 @@ nothing_left [] f j code l = absurd (omega arith)
 nothing_left (c ∷ cs) f zero code l = refl
 nothing_left (c ∷ cs) f (suc j) code l = nothing_left cs (after f c) j code (omega arith)
 
-attached_rests : (d : Disk) → (attached d).ok ≡ true → (attached d).disk.face.waiting ≡ []
+attached_rests : (name : List ℕ) (d : Disk) → (attached name d).ok ≡ true → (attached name d).disk.face.waiting ≡ []
 unfolding attached
-attached_rests d h =
-    elim (d.fate.dead || is_to_fail d.fate) as (λ b. (attached_as d b).ok ≡ true → (attached_as d b).disk.face.waiting ≡ []) [ true ↦ λ h. cc | false ↦ λ h. refl ] h
+attached_rests name d h =
+    elim (attach_fails name d) as (λ b. (attached_as name d b).ok ≡ true → (attached_as name d b).disk.face.waiting ≡ []) [ true ↦ λ h. cc | false ↦ λ h. refl ] h
 
 pub barrier : AttachingIsBarrier
-barrier d new h = rw h.0 (attached_rests d (sym h.1))
+barrier name d new h = rw h.0 (attached_rests name d (sym h.1))
+
+-- ---- the name
+
+ran_named : (d : Disk) (c : Call) → (ran d c).disk.beside.name ≡ d.beside.name
+unfolding ran
+ran_named d c =
+    elim (judged d.fate).verdict as (λ v. (ran_as d.face (judged d.fate).next d.beside c v).disk.beside.name ≡ d.beside.name) [ Goes ↦ refl | Fails ↦ refl | Cuts code ↦ refl ]
+
+runs_named : (cs : List Call) (d : Disk) → (runs cs d).disk.beside.name ≡ d.beside.name
+runs_named [] d = refl
+runs_named (c ∷ cs) d =
+    elim (ran d c).ok as (λ b. (cond b (runs cs (ran d c).disk) (ran d c)).disk.beside.name ≡ d.beside.name) [
+      | true ↦ runs_named cs (ran d c).disk ∙ ran_named d c
+      | false ↦ ran_named d c
+    ]
+
+attached_named : (name : List ℕ) (d : Disk) → (attached name d).ok ≡ true → (attached name d).disk.beside.name ≡ Some name
+unfolding attached
+attached_named name d h =
+    elim (attach_fails name d) as (λ b. (attached_as name d b).ok ≡ true → (attached_as name d b).disk.beside.name ≡ Some name) [ true ↦ λ h. cc | false ↦ λ h. refl ] h
+
+pub name_stays : NameStays
+name_stays name d new cs h =
+    let e = (attached name d).disk in
+    let named = attached_named name d (sym h.1) in
+    rw h.0 (named, runs_named cs e ∙ named)

@@ -1,5 +1,5 @@
 -- A disk of 3,984 sectors of 512 bytes: what it holds, what each call leaves, and what a stop leaves.
-use Rattle.std.specs.Prelude.{ℕ, zero, suc, ◌+◌, ◌-◌, ◌/◌, ◌%◌, ◌^◌, ◌<◌, ◌≡◌, Bool, true, false, ◌||◌, ◌==◌, if◌then◌else◌, List, [], ◌∷◌, ◌++◌, length, map, Option, None, Some, slice_index_or, slice_set, bit_xor, min}
+use Rattle.std.specs.Prelude.{ℕ, zero, suc, ◌+◌, ◌-◌, ◌/◌, ◌%◌, ◌^◌, ◌<◌, ◌≡◌, Bool, true, false, ◌||◌, ◌==◌, nat_lt, if◌then◌else◌, List, [], ◌∷◌, ◌++◌, length, map, Option, None, Some, slice_index_or, slice_set, bit_xor, min}
 use Rattle.std.specs.List.{list_any, All}
 use Rattle.vr_base.specs.Bytes.{IsBytes}
 use Rattle.vr_disk.specs.Regions.{sectors}
@@ -166,16 +166,22 @@ judged t = if t.dead then record { verdict = Fails; next = counted t } else judg
 
 -- ---- a disk that tells what it holds
 
--- what a disk keeps beside its sectors, row by row, and what a call leaves of that
+-- what a disk keeps beside its sectors, row by row, and what a call leaves of that; and the name by which it was attached last
 pub record Beside : Type 0 where
   pub rows : List (Option (List ℕ))
   pub next : Face → Call → CallVerdict → List (Option (List ℕ)) → List (Option (List ℕ))
+  pub name : Option (List ℕ)
+
+-- no row, and this name
+abbrev pub name_beside : Option (List ℕ) → Beside
+name_beside name = record { rows = []; next = λ f c v rows. rows; name = name }
 
 abbrev pub nothing_beside : Beside
-nothing_beside = record { rows = []; next = λ f c v rows. rows }
+nothing_beside = name_beside None
 
+-- a write or a sync leaves the name
 abbrev pub beside_after : Beside → Face → Call → CallVerdict → Beside
-beside_after b f c v = record { rows = b.next f c v b.rows; next = b.next }
+beside_after b f c v = record { rows = b.next f c v b.rows; next = b.next; name = b.name }
 
 pub record Disk : Type 0 where
   pub face : Face
@@ -204,13 +210,21 @@ abbrev pub runs : List Call → Disk → Ran
 runs [] d = record { disk = d; ok = true }
 runs (c ∷ cs) d = goes_on (ran d c) (runs cs)
 
--- attaching is a barrier: after it no sector waits
-abbrev pub attached_as : Disk → Bool → Ran
-attached_as d true = record { disk = record { face = d.face; fate = counted d.fate; beside = d.beside }; ok = false }
-attached_as d false = record { disk = record { face = after d.face Sync; fate = counted d.fate; beside = d.beside }; ok = true }
+-- the most bytes of a name
+abbrev pub name_most : ℕ
+name_most = 4095
 
-unfoldable pub attached : Disk → Ran
-attached d = attached_as d (d.fate.dead || is_to_fail d.fate)
+-- an attach by this name fails: the fuse has cut a call, or it is among those that fail, or the name is too long
+abbrev pub attach_fails : List ℕ → Disk → Bool
+attach_fails name d = (d.fate.dead || is_to_fail d.fate) || nat_lt name_most (length name)
+
+-- attaching is a barrier: after it no sector waits
+abbrev pub attached_as : List ℕ → Disk → Bool → Ran
+attached_as name d true = record { disk = record { face = d.face; fate = counted d.fate; beside = d.beside }; ok = false }
+attached_as name d false = record { disk = record { face = after d.face Sync; fate = counted d.fate; beside = record d.beside { name = Some name } }; ok = true }
+
+unfoldable pub attached : List ℕ → Disk → Ran
+attached name d = attached_as name d (attach_fails name d)
 
 -- ---- clauses of calls, on a disk that may tell
 
@@ -231,9 +245,10 @@ pub record Front (cs : List Call) (old new : Option Disk) : Type 0 where
   pub whole : cs ≡ made ++ left
   pub ran : Runs made old new true
 
-abbrev pub Attaches : Option Disk → Option Disk → Bool → Type 0
-Attaches None new ok = new ≡ None
-Attaches (Some d) new ok = (new ≡ Some (attached d).disk) × (ok ≡ (attached d).ok)
+-- it was attached by this name
+abbrev pub Attaches : List ℕ → Option Disk → Option Disk → Bool → Type 0
+Attaches name None new ok = new ≡ None
+Attaches name (Some d) new ok = (new ≡ Some (attached name d).disk) × (ok ≡ (attached name d).ok)
 
 -- a read changes nothing, and gives what the sector reads as
 abbrev pub ReadsTo : ℕ → Option Disk → Option (List ℕ) → Type 0

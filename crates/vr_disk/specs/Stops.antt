@@ -94,4 +94,10 @@ NothingWaits = (cs : List Call) (f : Face) (j code : ℕ) → j < length cs → 
 
 -- attaching is a barrier
 abbrev pub AttachingIsBarrier : Type 0
-AttachingIsBarrier = (d : Disk) (new : Option Disk) → Attaches (Some d) new true → IfSome new (λ e. e.face.waiting ≡ [])
+AttachingIsBarrier = (name : List ℕ) (d : Disk) (new : Option Disk) → Attaches name (Some d) new true → IfSome new (λ e. e.face.waiting ≡ [])
+
+-- an attach that goes well leaves its name, and what is called then leaves it
+abbrev pub NameStays : Type 0
+NameStays =
+    (name : List ℕ) (d : Disk) (new : Option Disk) (cs : List Call) → Attaches name (Some d) new true
+    → IfSome new (λ e. (e.beside.name ≡ Some name) × ((runs cs e).disk.beside.name ≡ Some name))

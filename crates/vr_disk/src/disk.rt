@@ -7,14 +7,17 @@ ghost use Rattle.vr_disk.specs.DiskState.{Disk, IsFace, Attaches, ReadsTo, Runs,
 use crate::{Room, SECTORS, Sector};
 use vr_base::Sum;
 
+/// The most bytes of the name of a disk: as many as a system takes for that of a file.
+pub const NAME_MOST: usize = 4095;
+
 /// A call of a disk that failed.
 #[derive(Clone, Copy, Debug, PartialEq, Eq)]
 pub struct DiskFailed;
 
-/// A disk of 1,424 sectors. What is written is kept only from the next `sync` on: a stop before it leaves each of
+/// A disk of 3,984 sectors. What is written is kept only from the next `sync` on: a stop before it leaves each of
 /// the sectors written since the last one as it was, as it was written, or damaged.
 pub trait SectorDisk {
-    /// What the disk holds and which calls are to fail, where it tells.
+    /// What the disk holds, which calls are to fail, and by which name it was attached last, where it tells.
     ghost told: { Self → Option Disk };
 
     /// How often attach, write or sync has failed.
@@ -25,7 +28,7 @@ pub trait SectorDisk {
 
     /// Opens the disk of this name. It is a barrier: after an `Ok` no sector waits for a sync.
     fn attach(&mut self, name: &str) -> Result<(), DiskFailed>
-        ensures told { Attaches (told self.old) (told self.new) (is_ok result) }
+        ensures told { Attaches name.now (told self.old) (told self.new) (is_ok result) }
         ensures cause { HasCause (faults self.old) (faults self.new) result }
         ensures others { read_faults self.new ≡ read_faults self.old };
 
@@ -64,6 +67,6 @@ pub trait SectorDisk {
         ensures faults { faults self.new ≡ faults self.old }
         ensures reads { read_faults self.new ≡ read_faults self.old };
 
-    /// What is told is a disk of 1,424 sectors of 512 bytes.
+    /// What is told is a disk of 3,984 sectors of 512 bytes.
     ghost whole: { (s : Self) → IfSome (told s) (λ d. IsFace d.face) };
 }

@@ -12,7 +12,7 @@ mod sector;
 mod sectors;
 
 pub use buffer::Buffer;
-pub use disk::{DiskFailed, SectorDisk};
+pub use disk::{DiskFailed, NAME_MOST, SectorDisk};
 pub use fault::{DiskFault, Faulty};
 pub use laws::disk_laws;
 pub use memo::{Memo, Room};

@@ -1,5 +1,5 @@
 //! Texts with their names, so that a digest of a text is made once.
-ghost use Rattle.std.specs.Prelude.{◌≡◌, ◌<◌, IfSome, IfOk, length};
+ghost use Rattle.std.specs.Prelude.{◌≡◌, IfSome};
 ghost use Rattle.vr_base.specs.Bytes.{name_of};
 
 use crate::{BLOCKS, SLOTS};
@@ -7,10 +7,12 @@ use std::alloc::{AllocError, Global};
 use std::marker::Model;
 use vr_base::{Sum, checksum};
 
-// In a header without its name: the last byte of its op, its kind, the last byte of its address.
+// In a header without its name: the last byte of its op, its kind, the last two bytes of its address.
 const OP_END: usize = 79;
 
 const KIND: usize = 95;
+
+const AUX_HIGH: usize = 102;
 
 const AUX_END: usize = 103;
 
@@ -18,27 +20,25 @@ const AUX_END: usize = 103;
 #[derive(Drop)]
 struct Text {
     bytes: Vec<u8>,
-    name: Sum,
-    whole: bool,
+    name: Option<Sum>,
 }
 
 impl Model for Text {
-    ghost use Rattle.std.specs.Prelude.{◌≡◌, true, ⊤};
+    ghost use Rattle.std.specs.Prelude.{◌≡◌, IfSome, ⊤};
     ghost use Rattle.vr_base.specs.Bytes.{name_of};
 
     ghost Value = { ⊤ };
 
     ghost view = { λ _. tt };
 
-    ghost invariant = { λ t. t.whole ≡ true → t.name.0 ≡ name_of t.bytes.items };
+    ghost invariant = { λ t. IfSome t.name (λ name. name.0 ≡ name_of t.bytes.items) };
 }
 
 impl Text {
     fn none(alloc: Global) -> Text {
         Text {
             bytes: Vec::new(alloc),
-            name: Sum([0; 16]),
-            whole: false,
+            name: None,
         }
     }
 
@@ -46,8 +46,8 @@ impl Text {
     fn name_of(&self, bytes: &[u8]) -> Option<Sum>
         ensures { IfSome result (λ name. name.0 ≡ name_of bytes.now) }
     {
-        if self.whole && self.bytes.as_slice() == bytes {
-            Some(self.name)
+        if self.bytes.as_slice() == bytes {
+            self.name
         } else {
             None
         }
@@ -57,13 +57,10 @@ impl Text {
     fn set(&mut self, bytes: &[u8], name: Sum)
         requires { name.0 ≡ name_of bytes.now }
     {
-        self.whole = false;
+        self.name = None;
         self.bytes.clear();
         match self.bytes.extend_from_slice(bytes) {
-            Ok(()) => {
-                self.name = name;
-                self.whole = true;
-            }
+            Ok(()) => self.name = Some(name),
             Err(_) => {}
         }
     }
@@ -86,7 +83,8 @@ impl Model for Memo {
 /// Which kept text another one replaces: at most one is kept in each room.
 #[derive(Clone, Copy, Debug, PartialEq, Eq)]
 pub enum Room {
-    /// Of a header without its name, of 112 bytes: one for each address of a block, one for each 256th op of others.
+    /// Of a header without its name, of 112 bytes: one for each address of a block, which addresses 128 apart share, and one for
+    /// each 256th op of others.
     Header,
     /// Of an entry's operation: one for each slot.
     Body(u32),
@@ -109,11 +107,18 @@ const VALUES: usize = PAYLOADS + BLOCKS as usize;
 
 const ROOMS: usize = VALUES + 2;
 
+// The room of an address, by its last two bytes.
+fn address_room(high: u8, low: u8) -> usize {
+    BY_ADDRESS + (256 * usize::from(high) + usize::from(low)) % BLOCKS as usize
+}
+
 // The room of a header without its name: those of blocks have theirs by address, and all others by op.
 fn header_room(bytes: &[u8]) -> usize {
-    match (bytes.get(OP_END), bytes.get(KIND), bytes.get(AUX_END)) {
-        (Some(op), Some(0), _) => BY_OP + usize::from(*op),
-        (_, _, Some(address)) => BY_ADDRESS + usize::from(*address % 128),
+    if let (Some(op), Some(0)) = (bytes.get(OP_END), bytes.get(KIND)) {
+        return BY_OP + usize::from(*op);
+    }
+    match (bytes.get(AUX_HIGH), bytes.get(AUX_END)) {
+        (Some(high), Some(low)) => address_room(*high, *low),
         _ => BY_OP,
     }
 }

@@ -1,7 +1,9 @@
 pub mod Copying
+pub mod Making
 pub mod Numbers
 pub mod Pieces
 pub mod Receiving
 pub mod Sending
+pub mod Taking
 pub mod Told
 pub mod Writing

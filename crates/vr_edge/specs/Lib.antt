@@ -4,9 +4,12 @@ pub mod Counts
 pub mod Datagrams
 pub mod Failing
 pub mod Links
+pub mod Logs
+pub mod Made
 pub mod Marks
 pub mod Receiving
 pub mod Sending
+pub mod Stocks
 pub mod Streaming
 pub mod StreamScripts
 pub mod Told

@@ -1,7 +1,6 @@
 -- What the calls of streams in memory do.
-use Rattle.std.specs.Prelude.{ℕ, ◌+◌, ◌-◌, nat_le, ◌≡◌, ◌==◌, ◌||◌, if◌then◌else◌, Bool, true, false, List, [], ◌∷◌, length, take, slice_get, slice_set, Option, Some, None, unwrap_or, Result, Ok, Err}
+use Rattle.std.specs.Prelude.{ℕ, ◌+◌, ◌-◌, nat_le, ◌==◌, ◌||◌, if◌then◌else◌, Bool, true, false, List, [], ◌∷◌, length, take, slice_get, slice_set, unwrap_or, Result, Ok, Err}
 use Rattle.vr_edge.specs.Counts.{is_listed}
-use Rattle.vr_edge.specs.Told.{Grows}
 use Rattle.vr_edge.specs.declared.stream_script.Coming.{Coming}
 use Rattle.vr_edge.specs.declared.stream_script.Coming.TheVariants as coming
 use Rattle.vr_edge.specs.declared.stream_script.StreamScript.{StreamScript}
@@ -47,16 +46,3 @@ abbrev pub write_takes : StreamScript → ℕ → ℕ → Result ℕ StreamFaile
 write_takes script number count =
     if is_listed script.failing_writes.items number then Err (record {})
     else (if is_listed script.short_writes.items number then Ok (count - 1) else Ok count)
-
--- a log, where it has every entry
-abbrev pub told : {X : Type 0} → Bool → List X → Option (List X)
-told whole log = if whole then Some log else None
-
--- so many entries at its front, where it had every one when there were as many
-abbrev pub told_to : {X : Type 0} → Bool → ℕ → List X → Option (List X)
-told_to whole count log = told whole (take count log)
-
--- an entry was added; for want of memory the log is told no more
-abbrev pub IsNoted : {X E : Type 0} → Option (List X) → Option (List X) → Result X E → Type 0
-IsNoted old new (Ok entry) = Grows old new (entry ∷ [])
-IsNoted old new (Err e) = new ≡ None

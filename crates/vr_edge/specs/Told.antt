@@ -8,6 +8,11 @@ Grows None new more = new ≡ None
 Grows (Some xs) None more = ⊤
 Grows (Some xs) (Some ys) more = ys ≡ xs ++ more
 
+-- the same, and who told it tells it still
+abbrev pub GrowsOn : {X : Type 0} → Option (List X) → Option (List X) → List X → Type 0
+GrowsOn None new more = new ≡ None
+GrowsOn (Some xs) new more = new ≡ Some (xs ++ more)
+
 -- nothing is there
 abbrev pub IsNothing : {X : Type 0} → Option (List X) → Type 0
 IsNothing None = ⊤

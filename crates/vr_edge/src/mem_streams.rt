@@ -1,48 +1,29 @@
 //! Streams in memory.
-ghost use Rattle.std.specs.Prelude.{◌≡◌, ◌≤◌, [], ◌∷◌, List, take, Option, Some, None, IfOk, OnErr, OnOk, if◌then◌else◌, length, vec_len, replicate, false, true, slice_get, slice_set, unwrap_or};
+ghost use Rattle.std.specs.Prelude.{◌≡◌, ◌≤◌, ◌<◌, ◌+◌, [], ◌∷◌, List, Option, Some, IfOk, IfSome, is_some, OnErr, OnOk, if◌then◌else◌, length, vec_len, replicate, false, true, slice_get, slice_set, unwrap_or};
 ghost use Rattle.vr_base.specs.Causes.{HasCause};
 ghost use Rattle.vr_edge.specs.Attaching.{attached_by, texts_of};
 ghost use Rattle.vr_edge.specs.Counts.{is_listed, one_more};
 ghost use Rattle.vr_edge.specs.Streaming.{IsPolled, polled_by, written_by};
 ghost use Rattle.vr_edge.specs.StreamScripts.{gives, is_left_out, left_behind};
-ghost use Rattle.vr_edge.specs.Told.{Grows, IsNothing};
+ghost use Rattle.vr_edge.specs.Stocks.{Fits, FitsOne, IsStock, Took, TookOne};
+ghost use Rattle.vr_edge.specs.Told.{Grows, GrowsOn, IsNothing};
 ghost use Rattle.vr_edge.specs.declared.streams.StreamCall.TheVariants as call;
 
 use crate::attach::attach_entry;
 use crate::calls::is_listed;
+use crate::log::{CallLog, Log};
 use crate::{
-    Attach, Coming, Piece, Polled, STREAM_ROOM, StreamCall, StreamFailed, StreamScript, Streams,
-    Write,
+    Attach, Coming, LogRoom, Piece, Polled, STREAM_ROOM, StreamCall, StreamFailed, StreamScript,
+    Streams, TextStock, Write,
 };
 use std::alloc::{AllocError, Global};
-use vr_base::ByteList;
 
 /// The most streams at a time that others than the peers have made.
 const OTHERS: usize = 64;
 
-/// Entries, as long as there is memory for them.
-#[derive(Drop)]
-pub struct Log<T> {
-    entries: Vec<T>,
-    /// Whether every entry is there.
-    whole: bool,
-}
-
-/// What each poll and each close did, as long as there is memory for it.
-#[derive(Drop)]
-pub struct CallLog {
-    log: Log<StreamCall>,
-    /// How many entries there were at the last poll.
-    polled: usize,
-    /// Whether every entry was there then.
-    was_whole: bool,
-    ghost within: { polled ≤ vec_len log.entries },
-}
-
-/// Streams in memory, which tell each of their calls as long as there is memory for it.
+/// Streams in memory, which tell each of their calls in the room that they were made with.
 #[derive(Drop)]
 pub struct MemStreams {
-    alloc: Global,
     script: StreamScript,
     /// How many peers are attached.
     peers: usize,
@@ -51,6 +32,7 @@ pub struct MemStreams {
     attached: Log<Attach>,
     calls: CallLog,
     written: Log<Write>,
+    stock: TextStock,
     attaches: u64,
     polls: u64,
     writes: u64,
@@ -119,106 +101,44 @@ fn begin_anew(left_out: &mut Vec<bool>, found: &Coming)
     }
 }
 
-/// The entry of one poll.
+/// The entry of one poll, where there is room for its bytes.
 fn poll_entry(
-    alloc: Global,
+    stock: &mut TextStock,
     peers: usize,
     polled: &Result<Polled, StreamFailed>,
     bytes: &[u8],
-) -> Result<StreamCall, AllocError>
+) -> Option<StreamCall>
     requires { (length bytes.now ≡ STREAM_ROOM) × IfOk polled.now (IsPolled peers) }
-    ensures { IfOk result (λ c. c ≡ polled_by polled.now bytes.now) }
+    ensures is { IfSome result (λ c. c ≡ polled_by polled.now bytes.now) }
+    ensures kept { FitsOne STREAM_ROOM stock.old → (is_some result ≡ true) × TookOne stock.old stock.new }
 {
     match polled {
-        Ok(Polled::Bytes(port, count)) => Ok(StreamCall::Came(Piece {
+        Ok(Polled::Bytes(port, count)) => Some(StreamCall::Came(Piece {
             port: *port,
-            bytes: ByteList::from_vec(Vec::from_slice(alloc, &bytes[..*count as usize])?),
+            bytes: stock.copy(&bytes[..*count as usize])?,
         })),
-        Ok(Polled::Ended(port)) => Ok(StreamCall::Ended(*port)),
-        Ok(Polled::Quiet) => Ok(StreamCall::Quiet),
-        Err(_) => Ok(StreamCall::Failed),
+        Ok(Polled::Ended(port)) => Some(StreamCall::Ended(*port)),
+        Ok(Polled::Quiet) => Some(StreamCall::Quiet),
+        Err(_) => Some(StreamCall::Failed),
     }
 }
 
-/// The entry of one write.
+/// The entry of one write, where there is room for its bytes.
 fn write_entry(
-    alloc: Global,
+    stock: &mut TextStock,
     port: u32,
     bytes: &[u8],
     written: &Result<usize, StreamFailed>,
-) -> Result<Write, AllocError>
-    ensures { IfOk result (λ w. w ≡ written_by port bytes.now written.now) }
+) -> Option<Write>
+    ensures is { IfSome result (λ w. w ≡ written_by port bytes.now written.now) }
+    ensures kept { FitsOne (length bytes.now) stock.old → (is_some result ≡ true) × Took 1 0 stock.old stock.new }
 {
-    let bytes = ByteList::from_vec(Vec::from_slice(alloc, bytes)?);
+    let bytes = stock.copy(bytes)?;
     let taken = match written {
         Ok(count) => Some(*count),
         Err(_) => None,
     };
-    Ok(Write { port, bytes, taken })
-}
-
-impl<T: Drop> Log<T> {
-    ghost use Rattle.vr_edge.specs.StreamScripts.{told, IsNoted};
-
-    /// No entry.
-    fn new(alloc: Global) -> Log<T>
-        ensures { (result.whole ≡ true) × (result.entries.items ≡ []) }
-    {
-        Log {
-            entries: Vec::new(alloc),
-            whole: true,
-        }
-    }
-
-    /// Adds an entry; for want of memory the log has no longer every one.
-    fn note(&mut self, entry: Result<T, AllocError>)
-        ensures { IsNoted (told self.old.whole self.old.entries.items) (told self.new.whole self.new.entries.items) entry }
-    {
-        match entry {
-            Ok(entry) => {
-                if self.entries.push(entry).is_err() {
-                    self.whole = false;
-                }
-            }
-            Err(_) => self.whole = false,
-        }
-    }
-}
-
-impl CallLog {
-    ghost use Rattle.vr_edge.specs.StreamScripts.{told, told_to, IsNoted};
-
-    /// No entry.
-    fn new(alloc: Global) -> CallLog
-        ensures calls { told result.log.whole result.log.entries.items ≡ Some [] }
-        ensures polled { told_to result.was_whole result.polled result.log.entries.items ≡ Some [] }
-    {
-        CallLog {
-            log: Log::new(alloc),
-            polled: 0,
-            was_whole: true,
-        }
-    }
-
-    /// Adds a poll.
-    fn note_poll(&mut self, entry: Result<StreamCall, AllocError>)
-        ensures calls { IsNoted (told self.old.log.whole self.old.log.entries.items) (told self.new.log.whole self.new.log.entries.items) entry }
-        ensures polled { told_to self.new.was_whole self.new.polled self.new.log.entries.items ≡ told self.new.log.whole self.new.log.entries.items }
-    {
-        self.log.note(entry);
-        self.polled = self.log.entries.len();
-        self.was_whole = self.log.whole;
-    }
-
-    /// Adds a close; it stands behind the last poll.
-    fn note_close(&mut self, port: u32)
-        ensures calls { Grows (told self.old.log.whole self.old.log.entries.items) (told self.new.log.whole self.new.log.entries.items) (call.Closed port ∷ []) }
-        ensures polled { told_to self.new.was_whole self.new.polled self.new.log.entries.items ≡ told_to self.old.was_whole self.old.polled self.old.log.entries.items }
-    {
-        if self.log.entries.push(StreamCall::Closed(port)).is_err() {
-            self.log.whole = false;
-        }
-    }
+    Some(Write { port, bytes, taken })
 }
 
 impl MemStreams {
@@ -226,7 +146,12 @@ impl MemStreams {
     ghost use Rattle.vr_edge.specs.StreamScripts.{found_at, gives_at};
 
     /// Streams at so many ports, on which the script runs. What comes at other ports is left out.
-    pub fn new(alloc: Global, ports: usize, script: StreamScript) -> Result<MemStreams, AllocError>
+    pub fn new(
+        alloc: Global,
+        ports: usize,
+        script: StreamScript,
+        room: LogRoom,
+    ) -> Result<MemStreams, AllocError>
         ensures attached { IfOk result (λ s. ⟦<MemStreams as Streams>⟧.attaches s ≡ Some []) }
         ensures calls { IfOk result (λ s. ⟦<MemStreams as Streams>⟧.calls s ≡ Some []) }
         ensures polled { IfOk result (λ s. ⟦<MemStreams as Streams>⟧.polled s ≡ Some []) }
@@ -240,17 +165,19 @@ impl MemStreams {
         ensures polls { IfOk result (λ s. s.polls ≡ 0) }
         ensures writes { IfOk result (λ s. s.writes ≡ 0) }
         ensures closes { IfOk result (λ s. s.closes ≡ 0) }
+        ensures logs { IfOk result (λ s. (s.attached.room ≡ room.entries) × (s.calls.log.room ≡ room.entries) × (s.written.room ≡ room.entries)) }
+        ensures texts { IfOk result (λ s. IsStock room s.stock) }
     {
         let mut left_out = Vec::new(alloc);
         left_out.resize(ports, false)?;
         Ok(MemStreams {
-            alloc,
             script,
             peers: 0,
             left_out,
-            attached: Log::new(alloc),
-            calls: CallLog::new(alloc),
-            written: Log::new(alloc),
+            attached: Log::new(alloc, room.entries)?,
+            calls: CallLog::new(alloc, room.entries)?,
+            written: Log::new(alloc, room.entries)?,
+            stock: TextStock::new(alloc, room)?,
             attaches: 0,
             polls: 0,
             writes: 0,
@@ -260,37 +187,25 @@ impl MemStreams {
         })
     }
 
-    /// What each attach so far was given, and whether it went well; `None` where memory was wanting for one.
+    /// What each attach so far was given, and whether it went well; `None` where there was no room for one.
     pub fn attached(&self) -> Option<&[Attach]>
         ensures { option_map (λ attached. attached.now) result ≡ ⟦<MemStreams as Streams>⟧.attaches self.now }
     {
-        if self.attached.whole {
-            Some(self.attached.entries.as_slice())
-        } else {
-            None
-        }
+        self.attached.told()
     }
 
-    /// What each poll and each close so far did; `None` where memory was wanting for it.
+    /// What each poll and each close so far did; `None` where there was no room for one.
     pub fn calls(&self) -> Option<&[StreamCall]>
         ensures { option_map (λ calls. calls.now) result ≡ ⟦<MemStreams as Streams>⟧.calls self.now }
     {
-        if self.calls.log.whole {
-            Some(self.calls.log.entries.as_slice())
-        } else {
-            None
-        }
+        self.calls.told()
     }
 
-    /// Each write so far; `None` where memory was wanting for it.
+    /// Each write so far; `None` where there was no room for one.
     pub fn written(&self) -> Option<&[Write]>
         ensures { option_map (λ written. written.now) result ≡ ⟦<MemStreams as Streams>⟧.written self.now }
     {
-        if self.written.whole {
-            Some(self.written.entries.as_slice())
-        } else {
-            None
-        }
+        self.written.told()
     }
 
     /// What the next poll finds, of which it gives as much as it takes.
@@ -313,7 +228,8 @@ impl MemStreams {
 }
 
 impl Streams for MemStreams {
-    ghost use Rattle.vr_edge.specs.StreamScripts.{found_at, gives_at, told, told_to, waits, write_takes};
+    ghost use Rattle.vr_edge.specs.Logs.{told, told_to};
+    ghost use Rattle.vr_edge.specs.StreamScripts.{found_at, gives_at, waits, write_takes};
 
     ghost attaches = { λ s. told s.attached.whole s.attached.entries.items };
 
@@ -340,8 +256,13 @@ impl Streams for MemStreams {
         ensures attached { OnOk result (self.new.peers ≡ vec_len peers.now) }
         ensures kept { OnErr result (self.new.peers ≡ self.old.peers) }
         ensures others { self.new.call_faults ≡ self.old.call_faults }
+        // one for which there is room is told, where each before was, and uses that room
+        ensures told { vec_len self.old.attached.entries < self.old.attached.room → Fits (own.now ∷ texts_of peers.now.items) self.old.stock
+            → GrowsOn (⟦<MemStreams as Streams>⟧.attaches self.old) (⟦<MemStreams as Streams>⟧.attaches self.new) (attached_by own.now (texts_of peers.now.items) result ∷ [])
+            × Took (vec_len peers.now + 1) 1 self.old.stock self.new.stock }
+        ensures room { self.new.attached.room ≡ self.old.attached.room }
         ensures result { result ≡ (if is_listed self.old.script.failing_attaches.items self.old.attaches then Err (record {}) else Ok (record {})) }
-        ensures state { self.new ≡ record self.old { peers = self.new.peers; attached = self.new.attached; attaches = one_more self.old.attaches; faults = self.new.faults } }
+        ensures state { self.new ≡ record self.old { peers = self.new.peers; attached = self.new.attached; stock = self.new.stock; attaches = one_more self.old.attaches; faults = self.new.faults } }
     {
         let call = self.attaches;
         self.attaches = call.saturating_add(1);
@@ -350,7 +271,7 @@ impl Streams for MemStreams {
         } else {
             Ok(())
         };
-        let entry = attach_entry(self.alloc, own, peers, &given);
+        let entry = attach_entry(&mut self.stock, own, peers, &given);
         self.attached.note(entry);
         if given.is_ok() {
             self.peers = peers.len();
@@ -371,12 +292,16 @@ impl Streams for MemStreams {
         ensures written { ⟦<MemStreams as Streams>⟧.written self.new ≡ ⟦<MemStreams as Streams>⟧.written self.old }
         ensures attached { self.new.peers ≡ self.old.peers }
         ensures others { self.new.call_faults ≡ self.old.call_faults }
+        // one for which there is room is told, where each before was
+        ensures told { vec_len self.old.calls.log.entries < self.old.calls.log.room → FitsOne STREAM_ROOM self.old.stock
+            → GrowsOn (⟦<MemStreams as Streams>⟧.calls self.old) (⟦<MemStreams as Streams>⟧.calls self.new) (polled_by result to.new ∷ []) × TookOne self.old.stock self.new.stock }
+        ensures room { self.new.calls.log.room ≡ self.old.calls.log.room }
         ensures gives { polled_by result to.new ≡ gives_at self.old.peers self.old.left_out.items self.old.script self.old.polls }
         ensures left { self.new.left_out.items ≡ left_behind self.old.left_out.items (found_at self.old.script self.old.polls) }
-        ensures state { self.new ≡ record self.old { left_out = self.new.left_out; polls = one_more self.old.polls; calls = self.new.calls; faults = self.new.faults } }
+        ensures state { self.new ≡ record self.old { left_out = self.new.left_out; polls = one_more self.old.polls; calls = self.new.calls; stock = self.new.stock; faults = self.new.faults } }
     {
         let given = self.find(to);
-        let entry = poll_entry(self.alloc, self.peers, &given, to);
+        let entry = poll_entry(&mut self.stock, self.peers, &given, to);
         self.calls.note_poll(entry);
         if given.is_err() {
             self.faults = self.faults.saturating_add(1);
@@ -393,13 +318,17 @@ impl Streams for MemStreams {
         ensures written { Grows (⟦<MemStreams as Streams>⟧.written self.old) (⟦<MemStreams as Streams>⟧.written self.new) (written_by port bytes.now result ∷ []) }
         ensures attached { self.new.peers ≡ self.old.peers }
         ensures others { self.new.faults ≡ self.old.faults }
+        // one for which there is room is told, where each before was, and uses that room
+        ensures told { vec_len self.old.written.entries < self.old.written.room → FitsOne (length bytes.now) self.old.stock
+            → GrowsOn (⟦<MemStreams as Streams>⟧.written self.old) (⟦<MemStreams as Streams>⟧.written self.new) (written_by port bytes.now result ∷ []) × Took 1 0 self.old.stock self.new.stock }
+        ensures room { self.new.written.room ≡ self.old.written.room }
         ensures result { result ≡ write_takes self.old.script self.old.writes (length bytes.now) }
-        ensures state { self.new ≡ record self.old { writes = one_more self.old.writes; written = self.new.written; call_faults = self.new.call_faults } }
+        ensures state { self.new ≡ record self.old { writes = one_more self.old.writes; written = self.new.written; stock = self.new.stock; call_faults = self.new.call_faults } }
     {
         let call = self.writes;
         self.writes = call.saturating_add(1);
         let written = self.script.take(call, bytes.len());
-        let entry = write_entry(self.alloc, port, bytes, &written);
+        let entry = write_entry(&mut self.stock, port, bytes, &written);
         self.written.note(entry);
         if written.is_err() {
             self.call_faults = self.call_faults.saturating_add(1);
@@ -415,6 +344,9 @@ impl Streams for MemStreams {
         ensures written { ⟦<MemStreams as Streams>⟧.written self.new ≡ ⟦<MemStreams as Streams>⟧.written self.old }
         ensures attached { self.new.peers ≡ self.old.peers }
         ensures others { self.new.faults ≡ self.old.faults }
+        // one for which there is room is told, where each before was
+        ensures told { vec_len self.old.calls.log.entries < self.old.calls.log.room → GrowsOn (⟦<MemStreams as Streams>⟧.calls self.old) (⟦<MemStreams as Streams>⟧.calls self.new) (call.Closed port ∷ []) }
+        ensures room { self.new.calls.log.room ≡ self.old.calls.log.room }
         ensures left { self.new.left_out.items ≡ slice_set self.old.left_out.items port true }
         ensures result { result ≡ (if is_listed self.old.script.failing_closes.items self.old.closes then Err (record {}) else Ok (record {})) }
         ensures state { self.new ≡ record self.old { left_out = self.new.left_out; closes = one_more self.old.closes; calls = self.new.calls; call_faults = self.new.call_faults } }

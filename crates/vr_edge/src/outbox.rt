@@ -38,6 +38,7 @@ pub struct Outbox {
 
 impl Outbox {
     ghost use Rattle.vr_edge.specs.Sending.{outbox_told, has_room, datagram_at, marked};
+    ghost use Rattle.vr_edge.specs.Counts.{one_more};
     ghost use Rattle.vr_edge.specs.Told.{Grows};
 
     #[tactic(auto, unfolding(crate::specs::Sending::entries))]
@@ -66,6 +67,7 @@ impl Outbox {
     pub fn put(&mut self, port: u32, bytes: &[u8], fails: bool) -> bool
         ensures went { result ≡ (has_room self.old (length bytes.now) && not fails) }
         ensures told { Grows (outbox_told self.old) (outbox_told self.new) ((if result then Some (datagram_at port bytes.now) else None) ∷ []) }
+        ensures past { self.new.past ≡ (if has_room self.old (length bytes.now) then self.old.past else one_more self.old.past) }
         ensures room { self.new.room ≡ self.old.room }
     {
         if !self.has_room(bytes.len()) {

@@ -40,9 +40,9 @@ impl Operation {
 }
 
 impl Entry {
-    /// Puts the spelling, of at most 4,096 bytes, in front; the other bytes stay. It takes no memory.
+    /// Puts the spelling in front, where there is room for any entry of its version; the other bytes stay. It takes no memory.
     pub fn put(&self, out: &mut [u8])
-        requires { 4096 ≤ length out.old }
+        requires { 128 + body_limit self.now.header.version ≤ length out.old }
         ensures front { take (length (entry_bytes self.now)) out.new ≡ entry_bytes self.now }
         ensures back { drop (length (entry_bytes self.now)) out.new ≡ drop (length (entry_bytes self.now)) out.old }
         ensures size { length (entry_bytes self.now) ≤ 128 + body_limit self.now.header.version }

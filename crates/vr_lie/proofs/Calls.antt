@@ -1,11 +1,11 @@
 -- Calls by what becomes of them, and the table that they leave.
-use Rattle.std.proofs.Common.{ℕ, zero, suc, ◌+◌, ◌-◌, ◌*◌, ◌<◌, ◌≤◌, ◌≡◌, refl, sym, ap, ◌∙◌, arith, Bool, true, false, cond, ◌||◌, ◌&&◌, List, [], ◌∷◌, length, get_or, Option, Some, None, subst}
+use Rattle.std.proofs.Common.{ℕ, zero, suc, ◌+◌, ◌-◌, ◌*◌, ◌<◌, ◌≤◌, ◌≡◌, refl, sym, ap, ◌∙◌, arith, Bool, true, false, cond, ◌&&◌, List, [], ◌∷◌, length, get_or, Option, Some, None, subst}
 use Rattle.std.specs.Prelude.{is_some, replicate}
 use Rattle.std.specs.Option.{option_map}
 use Rattle.std.proofs.lemmas.List.{get_or-replicate, replicate-append-replicate}
 use Rattle.vr_base.specs.Bytes.{is_zeros}
 use Rattle.vr_base.proofs.ZeroLaws.{zeros_are}
-use Rattle.vr_disk.specs.DiskState.{Beside, Call, Sync, Cell, Disk, Face, Fate, Goes, Fails, Cuts, Runs, Attaches, after, attached, attached_as, blank, cut_at, is_to_fail, judged, nothing_beside, reads}
+use Rattle.vr_disk.specs.DiskState.{Beside, Call, Sync, Cell, Disk, Face, Fate, Goes, Fails, Cuts, Runs, Attaches, after, attach_fails, attached, attached_as, blank, cut_at, judged, name_beside, reads}
 use Rattle.vr_disk.specs.Regions.{prepare_place, prepare_sectors, sectors}
 use Rattle.vr_disk.specs.Sectors.{behind, has, together}
 use Rattle.vr_disk.proofs.Places.{counted, inside}
@@ -18,47 +18,50 @@ use Rattle.vr_rings.proofs.Spelling.{zeros_none}
 use Rattle.vr_lie.specs.Table.{IsTable}
 use Rattle.vr_lie.proofs.Slotted.{same_entry, same_slot}
 
--- the disk below keeps nothing beside its sectors
-abbrev plain : Face → Fate → Disk
-plain f t = record { face = f; fate = t; beside = nothing_beside }
+-- the disk below keeps its name alone beside its sectors
+abbrev plain : Face → Fate → Option (List ℕ) → Disk
+plain f t name = record { face = f; fate = t; beside = name_beside name }
 
-is_plain : (d : Disk) → d.beside ≡ nothing_beside → d ≡ plain d.face d.fate
+abbrev IsPlain : Disk → Type 0
+IsPlain d = d.beside ≡ name_beside d.beside.name
+
+is_plain : (d : Disk) → IsPlain d → d ≡ plain d.face d.fate d.beside.name
 is_plain d n = ap (λ (b : Beside). let x : Disk = record { face = d.face; fate = d.fate; beside = b } in x) n
 
-pub goes_told : (d e g : Disk) (c : Call) → d.beside ≡ nothing_beside → Goes ≡ (judged d.fate).verdict → e ≡ record d { fate = (judged d.fate).next } → g ≡ record e { face = after e.face c } → Runs (c ∷ []) (Some d) (Some g) true
+pub goes_told : (d e g : Disk) (c : Call) → IsPlain d → Goes ≡ (judged d.fate).verdict → e ≡ record d { fate = (judged d.fate).next } → g ≡ record e { face = after e.face c } → Runs (c ∷ []) (Some d) (Some g) true
 goes_told d e g c n v i j =
     let there : g ≡ record d { face = after d.face c; fate = (judged d.fate).next } = j ∙ ap (λ (e : Disk). let x : Disk = record e { face = after e.face c } in x) i in
-    let end : g ≡ plain (after d.face c) (judged d.fate).next = there ∙ ap (λ (b : Beside). let x : Disk = record { face = after d.face c; fate = (judged d.fate).next; beside = b } in x) n in
+    let end : g ≡ plain (after d.face c) (judged d.fate).next d.beside.name = there ∙ ap (λ (b : Beside). let x : Disk = record { face = after d.face c; fate = (judged d.fate).next; beside = b } in x) n in
     subst (λ (x : Disk). Runs (c ∷ []) (Some x) (Some g) true) (sym (is_plain d n))
-    (subst (λ (g : Disk). Runs (c ∷ []) (Some (plain d.face d.fate)) (Some g) true) (sym end) (one_goes d.face (after d.face c) d.fate (judged d.fate).next c v refl refl))
+    (subst (λ (g : Disk). Runs (c ∷ []) (Some (plain d.face d.fate d.beside.name)) (Some g) true) (sym end) (one_goes d.face (after d.face c) d.fate (judged d.fate).next d.beside.name c v refl refl))
 
-pub fails_told : (d e g : Disk) (c : Call) → d.beside ≡ nothing_beside → Fails ≡ (judged d.fate).verdict → e ≡ record d { fate = (judged d.fate).next } → g ≡ e → Runs (c ∷ []) (Some d) (Some g) false
+pub fails_told : (d e g : Disk) (c : Call) → IsPlain d → Fails ≡ (judged d.fate).verdict → e ≡ record d { fate = (judged d.fate).next } → g ≡ e → Runs (c ∷ []) (Some d) (Some g) false
 fails_told d e g c n v i j =
-    let end : g ≡ plain d.face (judged d.fate).next = j ∙ i ∙ ap (λ (b : Beside). let x : Disk = record { face = d.face; fate = (judged d.fate).next; beside = b } in x) n in
+    let end : g ≡ plain d.face (judged d.fate).next d.beside.name = j ∙ i ∙ ap (λ (b : Beside). let x : Disk = record { face = d.face; fate = (judged d.fate).next; beside = b } in x) n in
     subst (λ (x : Disk). Runs (c ∷ []) (Some x) (Some g) false) (sym (is_plain d n))
-    (subst (λ (g : Disk). Runs (c ∷ []) (Some (plain d.face d.fate)) (Some g) false) (sym end) (one_fails d.face d.fate (judged d.fate).next c v refl))
+    (subst (λ (g : Disk). Runs (c ∷ []) (Some (plain d.face d.fate d.beside.name)) (Some g) false) (sym end) (one_fails d.face d.fate (judged d.fate).next d.beside.name c v refl))
 
-pub cuts_told : (d e g h : Disk) (c : Call) (code : ℕ) → d.beside ≡ nothing_beside → Cuts code ≡ (judged d.fate).verdict → e ≡ record d { fate = (judged d.fate).next } → g ≡ record e { face = cut_at code e.face c } → h ≡ g → Runs (c ∷ []) (Some d) (Some h) false
+pub cuts_told : (d e g h : Disk) (c : Call) (code : ℕ) → IsPlain d → Cuts code ≡ (judged d.fate).verdict → e ≡ record d { fate = (judged d.fate).next } → g ≡ record e { face = cut_at code e.face c } → h ≡ g → Runs (c ∷ []) (Some d) (Some h) false
 cuts_told d e g h c code n v i j k =
     let there : h ≡ record d { face = cut_at code d.face c; fate = (judged d.fate).next } = k ∙ (j ∙ ap (λ (e : Disk). let x : Disk = record e { face = cut_at code e.face c } in x) i) in
-    let end : h ≡ plain (cut_at code d.face c) (judged d.fate).next = there ∙ ap (λ (b : Beside). let x : Disk = record { face = cut_at code d.face c; fate = (judged d.fate).next; beside = b } in x) n in
+    let end : h ≡ plain (cut_at code d.face c) (judged d.fate).next d.beside.name = there ∙ ap (λ (b : Beside). let x : Disk = record { face = cut_at code d.face c; fate = (judged d.fate).next; beside = b } in x) n in
     subst (λ (x : Disk). Runs (c ∷ []) (Some x) (Some h) false) (sym (is_plain d n))
-    (subst (λ (h : Disk). Runs (c ∷ []) (Some (plain d.face d.fate)) (Some h) false) (sym end) (one_cuts d.face (cut_at code d.face c) d.fate (judged d.fate).next c code v refl refl))
+    (subst (λ (h : Disk). Runs (c ∷ []) (Some (plain d.face d.fate d.beside.name)) (Some h) false) (sym end) (one_cuts d.face (cut_at code d.face c) d.fate (judged d.fate).next d.beside.name c code v refl refl))
 
 -- ---- calls that leave each reading
 
 pub same_table : (ver : ℕ) (f g : Face) (held : List (Option (List ℕ))) → ((k : ℕ) → reads g k ≡ reads f k) → IsTable ver f held → IsTable ver g held
 same_table ver f g held h t = record { count = t.count; seen = λ s l p e. t.seen s l p (sym (same_entry ver f g s (same_slot ver f g s l (λ k z. h k))) ∙ e) }
 
-attached_as_cells : (d : Disk) (fails : Bool) → (attached_as d fails).disk.face.cells ≡ d.face.cells
-attached_as_cells d true = refl
-attached_as_cells d false = refl
+attached_as_cells : (name : List ℕ) (d : Disk) (fails : Bool) → (attached_as name d fails).disk.face.cells ≡ d.face.cells
+attached_as_cells name d true = refl
+attached_as_cells name d false = refl
 
-pub attach_table : (ver : ℕ) (d e : Disk) (ok : Bool) (held : List (Option (List ℕ))) → Attaches (Some d) (Some e) ok → IsTable ver d.face held → IsTable ver e.face held
+pub attach_table : (ver : ℕ) (name : List ℕ) (d e : Disk) (ok : Bool) (held : List (Option (List ℕ))) → Attaches name (Some d) (Some e) ok → IsTable ver d.face held → IsTable ver e.face held
 unfolding attached
-attach_table ver d e ok held h t =
-    let same : e ≡ (attached_as d (d.fate.dead || is_to_fail d.fate)).disk = let x = h.0 in cc in
-    let cells : e.face.cells ≡ d.face.cells = ap (λ (e : Disk). e.face.cells) same ∙ attached_as_cells d (d.fate.dead || is_to_fail d.fate) in
+attach_table ver name d e ok held h t =
+    let same : e ≡ (attached_as name d (attach_fails name d)).disk = let x = h.0 in cc in
+    let cells : e.face.cells ≡ d.face.cells = ap (λ (e : Disk). e.face.cells) same ∙ attached_as_cells name d (attach_fails name d) in
     same_table ver d.face e.face held (λ k. ap (λ (cs : List Cell). (get_or cs k blank).reads) cells) t
 
 pub clear_table : (ver : ℕ) (d e g : Disk) (held : List (Option (List ℕ))) → e ≡ record d { fate = (judged d.fate).next } → g ≡ record e { face = after e.face Sync } → IsTable ver d.face held → IsTable ver g.face held

@@ -1,9 +1,15 @@
 -- A slot looked at by the first sector of its prepare.
-use Rattle.std.proofs.Common.{ℕ, zero, suc, ◌-◌, ◌*◌, ◌<◌, ◌≤◌, ◌≡◌, refl, sym, ap, ◌∙◌, arith, true, false, cond, ◌&&◌, List, ◌++◌, length, take, Option, Some, None, append_assoc}
-use Rattle.std.specs.Prelude.{replicate}
+use Rattle.std.proofs.Common.{ℕ, zero, suc, ◌-◌, ◌*◌, ◌<◌, ◌≤◌, ◌≡◌, refl, sym, ap, ◌∙◌, arith, Bool, true, false, cond, ◌&&◌, List, ◌++◌, length, take, drop, Option, Some, None, append_assoc}
+use Rattle.std.specs.Prelude.{if◌then◌else◌, nat_eq, replicate}
+use Rattle.std.specs.Cmp.Lexicographic.{pointwise}
+use Rattle.std.proofs.lemmas.Bool.{and_parts}
+use Rattle.std.proofs.lemmas.List.{drop_at, length-drop, length-take-le, take-append-drop, take_at}
+use Rattle.std.proofs.lemmas.Slice.Eq.{bytes_eq-Decides}
+use Rattle.vr_base.specs.Bytes.{is_zeros}
+use Rattle.vr_base.proofs.ZeroLaws.{are_zeros, zeros_are}
 use Rattle.std.specs.Option.{option_map}
 use Rattle.std.proofs.lemmas.List.{take-append-le}
-use Rattle.vr_disk.specs.DiskState.{Face, IsFace}
+use Rattle.vr_disk.specs.DiskState.{Face, IsFace, reads}
 use Rattle.vr_disk.specs.Regions.{prepare_place, prepare_sectors}
 use Rattle.vr_disk.specs.Sectors.{has, together}
 use Rattle.vr_disk.proofs.Faces.{there}
@@ -60,3 +66,58 @@ pub whole_looked : (ver : ℕ) (f : Face) (slot : ℕ) (p : List ℕ) (held r : 
 unfolding entry_of_both
 whole_looked ver f s p held r h e k =
     k ∙ (ap (λ b. found (cond (b && is_prepare p) (Some p) None) held) (sym (h.own p e)) ∙ ap (λ r. found (entry_of_both (header_reading f s) r) held) (sym e))
+
+-- ---- a header sector, by its two parts
+
+both_true : (a b : Bool) → a ≡ true → b ≡ true → (a && b) ≡ true
+both_true a b e k = rw (e, k) refl
+
+same_bool : (a b : Bool) → (a ≡ true → b ≡ true) → (b ≡ true → a ≡ true) → a ≡ b
+same_bool true b h k = sym (h refl)
+same_bool false true h k = k refl
+same_bool false false h k = refl
+
+both_parts : (x y u v : List ℕ) → length x ≡ length u → x ++ y ≡ u ++ v → (x ≡ u) × (y ≡ v)
+both_parts x y u v n e =
+    (sym (take_at x y (length u) n) ∙ (ap (take (length u)) e ∙ take_at u v (length u) refl), sym (drop_at x y (length u) n) ∙ (ap (drop (length u)) e ∙ drop_at u v (length u) refl))
+
+pub header_parts : (b p : List ℕ) → length b ≡ 512 → 128 ≤ length p → pointwise nat_eq b (header_sector p) ≡ (pointwise nat_eq (take 128 b) (take 128 p) && is_zeros (drop 128 b))
+unfolding header_sector
+header_parts b p n l =
+    let zs : List ℕ = replicate 384 0 in
+    let whole = take-append-drop 128 b in
+    let front : length (take 128 b) ≡ length (take 128 p) = length-take-le 128 b (omega arith) ∙ sym (length-take-le 128 p l) in
+    let rest : length (drop 128 b) ≡ 384 = length-drop 128 b ∙ omega arith in
+    same_bool (pointwise nat_eq b (take 128 p ++ zs)) (pointwise nat_eq (take 128 b) (take 128 p) && is_zeros (drop 128 b))
+    (λ h.
+    let e : b ≡ take 128 p ++ zs = (bytes_eq-Decides b (take 128 p ++ zs)).0 h in
+    let parts = both_parts (take 128 b) (drop 128 b) (take 128 p) zs front (whole ∙ e) in
+    both_true (pointwise nat_eq (take 128 b) (take 128 p)) (is_zeros (drop 128 b)) ((bytes_eq-Decides (take 128 b) (take 128 p)).1 parts.0) (ap is_zeros parts.1 ∙ zeros_are 384))
+    (λ h.
+    let q = and_parts (pointwise nat_eq (take 128 b) (take 128 p)) (is_zeros (drop 128 b)) h in
+    let one = (bytes_eq-Decides (take 128 b) (take 128 p)).0 q.0 in
+    let two : drop 128 b ≡ zs = are_zeros (drop 128 b) q.1 ∙ ap (λ n. replicate n 0) rest in
+    (bytes_eq-Decides b (take 128 p ++ zs)).1 (sym whole ∙ (ap (λ x. x ++ drop 128 b) one ∙ ap (λ y. take 128 p ++ y) two)))
+
+-- where a sector reads as these bytes
+pub header_has : (f : Face) (slot : ℕ) (b p : List ℕ) (r : Bool) → Some b ≡ header_reading f slot → r ≡ pointwise nat_eq b (header_sector p) → r ≡ has (header_sector p) (header_reading f slot)
+header_has f s b p r e k = k ∙ ap (has (header_sector p)) e
+
+pub header_none : (f : Face) (slot : ℕ) (p : List ℕ) → None ≡ header_reading f slot → false ≡ has (header_sector p) (header_reading f slot)
+header_none f s p e = ap (has (header_sector p)) e
+
+pub begins_has : (ver : ℕ) (f : Face) (slot : ℕ) (b : List ℕ) (r : Bool) → Some b ≡ reads f (prepare_place ver slot) → r ≡ has (header_sector b) (header_reading f slot) → r ≡ begins_alike ver f slot
+unfolding begins_alike
+begins_has ver f s b r e k = k ∙ ap (is_begun (header_reading f s)) e
+
+pub begins_none : (ver : ℕ) (f : Face) (slot : ℕ) → None ≡ reads f (prepare_place ver slot) → false ≡ begins_alike ver f slot
+unfolding begins_alike
+begins_none ver f s e = ap (is_begun (header_reading f s)) e
+
+by_found : (b : Bool) (p : List ℕ) → (if b then Some p else None) ≡ found (if b then Some p else None) None
+by_found true p = refl
+by_found false p = refl
+
+-- a slot that holds nothing holds what it reads as
+pub free_found : (b : Bool) (p : List ℕ) → b ≡ is_prepare p → (if b then Some p else None) ≡ found (if is_prepare p then Some p else None) None
+free_found b p e = ap (λ x. cond x (Some p) None) e ∙ by_found (is_prepare p) p

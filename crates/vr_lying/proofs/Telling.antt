@@ -1,8 +1,8 @@
 -- What slots hold, told beside the sectors.
-use Rattle.std.proofs.Common.{ℕ, ◌<◌, ◌≡◌, refl, sym, ap, ◌∙◌, Bool, true, false, cond, ◌||◌, List, [], ◌∷◌, length, Option, Some, None, subst}
+use Rattle.std.proofs.Common.{ℕ, ◌<◌, ◌≡◌, refl, sym, ap, ◌∙◌, Bool, true, false, cond, List, [], ◌∷◌, length, Option, Some, None, subst}
 use Rattle.std.specs.Prelude.{replicate}
 use Rattle.std.proofs.lemmas.List.{get_or-replicate, length-replicate}
-use Rattle.vr_disk.specs.DiskState.{Beside, Call, CallVerdict, Goes, Fails, Cuts, Disk, Face, Fate, IsFace, Attaches, Runs, attached, attached_as, is_to_fail, judged, ran, ran_as, runs}
+use Rattle.vr_disk.specs.DiskState.{Beside, Call, CallVerdict, Goes, Fails, Cuts, Disk, Face, Fate, IsFace, Attaches, Runs, attach_fails, attached, attached_as, judged, ran, ran_as, runs}
 use Rattle.vr_disk.specs.Regions.{sectors}
 use Rattle.vr_lie.specs.Faults.{HeldLooked, HeldRan, KeepsPremise, faulted, held_as, held_at}
 use Rattle.vr_lie.specs.declared.fault.Fault.{Fault}
@@ -16,23 +16,23 @@ use Rattle.vr_lying.specs.Told.{lying_in, slots}
 use Rattle.vr_lying.specs.Disks.{blank_lying}
 use Rattle.vr_lying.proofs.Runs.{rows_are, with_held}
 
--- a disk with this beside its sectors
+-- a disk with this beside its sectors, and its name
 abbrev pub with_table : Disk → List (Option (List ℕ)) → Disk
-with_table d held = record d { beside = slots held }
+with_table d held = record d { beside = slots held d.beside.name }
 
-abbrev with_rows : Face → Fate → List (Option (List ℕ)) → Disk
-with_rows f t held = record { face = f; fate = t; beside = slots held }
+abbrev with_rows : Face → Fate → Option (List ℕ) → List (Option (List ℕ)) → Disk
+with_rows f t name held = record { face = f; fate = t; beside = slots held name }
 
 -- ---- one call
 
 record Same (f : Face) (t : Fate) (b : Beside) (c : Call) (v : CallVerdict) (old new : List (Option (List ℕ))) : Type 0 where
-  disk : with_table (ran_as f t b c v).disk new ≡ (ran_as f t (slots old) c v).disk
-  ok : (ran_as f t b c v).ok ≡ (ran_as f t (slots old) c v).ok
+  disk : with_table (ran_as f t b c v).disk new ≡ (ran_as f t (slots old b.name) c v).disk
+  ok : (ran_as f t b c v).ok ≡ (ran_as f t (slots old b.name) c v).ok
 
 same_as : (f : Face) (t : Fate) (b : Beside) (c : Call) (v : CallVerdict) (old new : List (Option (List ℕ))) → length old ≡ 64 → length new ≡ 64 → ((slot : ℕ) → slot < 64 → held_at new slot ≡ held_as 1 f c v slot (held_at old slot)) → Same f t b c v old new
-same_as f t b c Goes old new n m h = record { disk = ap (with_rows _ t) (rows_are new (λ slot. held_as 1 f c Goes slot (held_at old slot)) m h); ok = refl }
-same_as f t b c Fails old new n m h = record { disk = ap (with_rows f t) (rows_are new (held_at old) m h ∙ sym (rows_are old (held_at old) n (λ slot l. refl))); ok = refl }
-same_as f t b c (Cuts code) old new n m h = record { disk = ap (with_rows _ t) (rows_are new (λ slot. held_as 1 f c (Cuts code) slot (held_at old slot)) m h); ok = refl }
+same_as f t b c Goes old new n m h = record { disk = ap (with_rows _ t b.name) (rows_are new (λ slot. held_as 1 f c Goes slot (held_at old slot)) m h); ok = refl }
+same_as f t b c Fails old new n m h = record { disk = ap (with_rows f t b.name) (rows_are new (held_at old) m h ∙ sym (rows_are old (held_at old) n (λ slot l. refl))); ok = refl }
+same_as f t b c (Cuts code) old new n m h = record { disk = ap (with_rows _ t b.name) (rows_are new (λ slot. held_as 1 f c (Cuts code) slot (held_at old slot)) m h); ok = refl }
 
 runs_disk : (d : Disk) (c : Call) → (runs (c ∷ []) d).disk ≡ (ran d c).disk
 runs_disk d c = elim (ran d c).ok as (λ b. (cond b (record { disk = (ran d c).disk; ok = true }) (ran d c)).disk ≡ (ran d c).disk) [ true ↦ refl | false ↦ refl ]
@@ -53,19 +53,19 @@ told_one d e c ok old new n m r h =
 
 -- ---- attaching
 
-record SameAttached (d : Disk) (b : Bool) (held : List (Option (List ℕ))) : Type 0 where
-  disk : with_table (attached_as d b).disk held ≡ (attached_as (with_table d held) b).disk
-  ok : (attached_as d b).ok ≡ (attached_as (with_table d held) b).ok
+record SameAttached (name : List ℕ) (d : Disk) (b : Bool) (held : List (Option (List ℕ))) : Type 0 where
+  disk : with_table (attached_as name d b).disk held ≡ (attached_as name (with_table d held) b).disk
+  ok : (attached_as name d b).ok ≡ (attached_as name (with_table d held) b).ok
 
-same_attached : (d : Disk) (b : Bool) (held : List (Option (List ℕ))) → SameAttached d b held
-same_attached d true held = record { disk = refl; ok = refl }
-same_attached d false held = record { disk = refl; ok = refl }
+same_attached : (name : List ℕ) (d : Disk) (b : Bool) (held : List (Option (List ℕ))) → SameAttached name d b held
+same_attached name d true held = record { disk = refl; ok = refl }
+same_attached name d false held = record { disk = refl; ok = refl }
 
-pub told_attached : (d e : Disk) (ok : Bool) (old new : List (Option (List ℕ))) → new ≡ old → Attaches (Some d) (Some e) ok → Attaches (Some (with_table d old)) (Some (with_table e new)) ok
+pub told_attached : (name : List ℕ) (d e : Disk) (ok : Bool) (old new : List (Option (List ℕ))) → new ≡ old → Attaches name (Some d) (Some e) ok → Attaches name (Some (with_table d old)) (Some (with_table e new)) ok
 unfolding attached
-told_attached d e ok old new k r =
-    let s = same_attached d (d.fate.dead || is_to_fail d.fate) old in
-    let is : e ≡ (attached_as d (d.fate.dead || is_to_fail d.fate)).disk = let x = r.0 in cc in
+told_attached name d e ok old new k r =
+    let s = same_attached name d (attach_fails name d) old in
+    let is : e ≡ (attached_as name d (attach_fails name d)).disk = let x = r.0 in cc in
     (ap Some (ap (λ held. with_table e held) k ∙ ap (λ (e : Disk). with_table e old) is ∙ s.disk), r.1 ∙ s.ok)
 
 -- ---- faults

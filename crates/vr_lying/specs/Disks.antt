@@ -7,7 +7,7 @@ use Rattle.vr_lying.specs.Told.{lying_in, slots}
 use Rattle.vr_lying.specs.declared.disk.HostDisk.{HostDisk}
 
 abbrev pub told_by : HostDisk → Disk
-told_by m = record (lie.told_by m.lie) { beside = slots (lie.held_by m.lie) }
+told_by m = record (lie.told_by m.lie) { beside = slots (lie.held_by m.lie) (lie.told_by m.lie).beside.name }
 
 pub told_is_whole : (m : HostDisk) → IfSome (Some (told_by m)) (λ d. IsFace d.face)
 told_is_whole m = lie.told_is_whole m.lie

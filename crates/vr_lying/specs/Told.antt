@@ -10,9 +10,9 @@ use Rattle.vr_world.specs.World.{Host}
 abbrev pub next_held : Face → Call → CallVerdict → List (Option (List ℕ)) → List (Option (List ℕ))
 next_held f c v held = each_slot (λ slot. held_as 1 f c v slot (held_at held slot))
 
--- what the slots hold, beside the sectors
-abbrev pub slots : List (Option (List ℕ)) → Beside
-slots held = record { rows = held; next = next_held }
+-- what the slots hold, beside the sectors, and the name
+abbrev pub slots : List (Option (List ℕ)) → Option (List ℕ) → Beside
+slots held name = record { rows = held; next = next_held; name = name }
 
 -- the disk of the definitions
 abbrev pub lying_in : Disk → Lying

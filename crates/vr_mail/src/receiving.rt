@@ -3,14 +3,14 @@ ghost use Rattle.std.specs.Prelude.{◌≡◌, ◌≤◌, [], ◌∷◌, IfOk, O
 ghost use Rattle.vr_edge.specs.Datagrams.{Arrival};
 ghost use Rattle.vr_edge.specs.Told.{Grows};
 ghost use Rattle.vr_mail.specs.Letters.{Gives, Reads, ReceiveCause};
-ghost use Rattle.vr_msg.specs.Spelling.{Spells};
+ghost use Rattle.vr_msg.specs.Spelling.{Spells, version_of};
 ghost use Rattle.vr_msg.specs.declared.frame.Frame.{Frame};
 ghost use Rattle.vr_mail.specs.declared.receiving.ReceiveFault.TheVariants as fault;
 
 use crate::cluster::is_for;
 use std::alloc::{AllocError, Global};
 use vr_base::Version;
-use vr_codec::{MsgFault, decode};
+use vr_codec::{MsgFault, decode, tells_version};
 use vr_edge::{Link, LinkFailed, RECEIVE_ROOM, Received};
 use vr_msg::Message;
 
@@ -46,7 +46,7 @@ impl From<AllocError> for ReceiveFault {
     }
 }
 
-/// The message of this version and group that bytes spell.
+/// The message of this version and group that bytes spell. Bytes that tell another version aren't decoded.
 fn read_message(
     alloc: Global,
     version: Version,
@@ -54,8 +54,11 @@ fn read_message(
     bytes: &[u8],
 ) -> Result<Option<Message>, AllocError>
     ensures reads { IfOk result (Reads version cluster bytes.now) }
-    ensures wants { OnErr result ((m : Frame) × Spells m bytes.now) }
+    ensures wants { OnErr result ((m : Frame) × Spells m bytes.now × (version_of m ≡ version)) }
 {
+    if !tells_version(bytes, version) {
+        return Ok(None);
+    }
     match decode(alloc, bytes) {
         Ok(message) if is_for(version, cluster, message.frame()) => Ok(Some(message)),
         Ok(_) => Ok(None),

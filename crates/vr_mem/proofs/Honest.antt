@@ -3,8 +3,7 @@ use Rattle.std.proofs.Common.{ℕ, ◌/◌, ◌%◌, ◌<◌, ◌≡◌, refl, s
 use Rattle.std.specs.List.{All, AllByRecursion}
 use Rattle.std.proofs.lemmas.Bool.{cond_both}
 use Rattle.std.proofs.lemmas.List.Elements.{All-set, All-push, recursion_from_All, All-replicate}
-use Rattle.vr_disk.specs.DiskState.{Beside, Call, Write, Sync, Cell, Disk, Face, Fate, CallVerdict, Goes, Fails, Cuts, Waiting, Runs, Attaches, after, attached, attached_as, begun, blank, cell, is_to_fail, judged, ran, ran_as, runs, settle, settled, settled_cell, waits, written}
-use Rattle.std.specs.Prelude.{◌||◌}
+use Rattle.vr_disk.specs.DiskState.{Beside, Call, Write, Sync, Cell, Disk, Face, Fate, CallVerdict, Goes, Fails, Cuts, Waiting, Runs, Attaches, after, attach_fails, attached, attached_as, begun, blank, cell, judged, ran, ran_as, runs, settle, settled, settled_cell, waits, written}
 use Rattle.vr_disk.specs.Regions.{sectors}
 use Rattle.vr_mem.specs.Honesty.{IsHonest}
 use Rattle.vr_mem.specs.Seen.{copies, zero_cell}
@@ -63,15 +62,15 @@ one_honest d e c ok l h r =
     let same : e ≡ (ran d c).disk = (let x : e ≡ (runs (c ∷ []) d).disk = cc in x) ∙ runs_one d c in
     subst (λ (x : Disk). IsHonest x.face) (sym same) (ran_honest d c l h)
 
-attached_as_honest : (d : Disk) (fails : Bool) → IsHonest d.face → IsHonest (attached_as d fails).disk.face
-attached_as_honest d true h = h
-attached_as_honest d false h = record { cells = h.cells; waiting = none_waits }
+attached_as_honest : (name : List ℕ) (d : Disk) (fails : Bool) → IsHonest d.face → IsHonest (attached_as name d fails).disk.face
+attached_as_honest name d true h = h
+attached_as_honest name d false h = record { cells = h.cells; waiting = none_waits }
 
-pub attach_honest : (d e : Disk) (ok : Bool) → IsHonest d.face → Attaches (Some d) (Some e) ok → IsHonest e.face
+pub attach_honest : (name : List ℕ) (d e : Disk) (ok : Bool) → IsHonest d.face → Attaches name (Some d) (Some e) ok → IsHonest e.face
 unfolding attached
-attach_honest d e ok h r =
-    let same : e ≡ (attached_as d (d.fate.dead || is_to_fail d.fate)).disk = let x = r.0 in cc in
-    subst (λ (x : Disk). IsHonest x.face) (sym same) (attached_as_honest d (d.fate.dead || is_to_fail d.fate) h)
+attach_honest name d e ok h r =
+    let same : e ≡ (attached_as name d (attach_fails name d)).disk = let x = r.0 in cc in
+    subst (λ (x : Disk). IsHonest x.face) (sym same) (attached_as_honest name d (attach_fails name d) h)
 
 zeros_honest : (n : ℕ) → All HonestCell (copies n zero_cell)
 unfolding copies zero_cell

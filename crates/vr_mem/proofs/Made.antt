@@ -1,12 +1,13 @@
 -- A disk as it is made.
-use Rattle.std.proofs.Common.{ℕ, zero, suc, ◌≡◌, ◌<◌, ◌≤◌, refl, ◌∙◌, arith, [], get_or, subst}
+use Rattle.std.proofs.Common.{ℕ, zero, suc, ◌≡◌, ◌<◌, ◌≤◌, refl, ◌∙◌, arith, [], get_or, subst, Some}
 use Rattle.std.specs.List.{All}
+use Rattle.std.specs.Prelude.{replicate}
 use Rattle.std.specs.Vec.{vec_capacity}
 use Rattle.std.proofs.lemmas.List.Elements.{All-replicate}
 use Rattle.vr_disk.specs.DiskState.{IsCell, IsContent}
 use Rattle.vr_disk.specs.Regions.{sectors}
 use Rattle.vr_mem.specs.declared.cells.MemFace.{MemFace}
-use Rattle.vr_mem.specs.Seen.{IsMemFace, copies, zero_cell}
+use Rattle.vr_mem.specs.Seen.{IsMemFace, copies, face_of, zero_cell}
 use Rattle.vr_mem.proofs.Kept.{length_copies, length_seen, none_kept}
 
 all_copies : {X : Type 0} → (P : X → Type 0) (n : ℕ) (x : X) → P x → All P (copies n x)
@@ -28,16 +29,29 @@ zero_is =
     let z = zeros_are 512 refl in
     record { truth = z; reads = λ b e. let same : copies 512 0 ≡ b = cc in subst IsContent same z; before = z }
 
-pub whole_made : (f : MemFace) → f.cells.items ≡ [] → f.waiting.items ≡ [] → sectors ≤ vec_capacity f.cells → sectors ≤ vec_capacity f.waiting → IsMemFace f
-whole_made f e w c r = record {
+none_wait : (f : MemFace) → f.count ≡ 0 → (face_of f).waiting ≡ []
+none_wait f e = rw e refl
+
+pub whole_made : (f : MemFace) → f.cells.items ≡ [] → f.count ≡ 0 → sectors ≤ vec_capacity f.cells → sectors ≤ vec_capacity f.waiting → f.zeros.bytes ≡ copies 512 0 → IsMemFace f
+whole_made f e n c r z = record {
   face = record {
     count = length_seen f.cells.items (rw e (omega arith));
     cells = rw (none_kept f.cells.items e) (all_copies IsCell sectors zero_cell zero_is);
-    waiting = rw w (λ k d l. absurd (omega arith));
+    waiting = rw (none_wait f n) (λ k d l. absurd (omega arith));
   };
   count = rw e (omega arith);
   space = c;
-  kept = rw w (λ k d l. absurd (omega arith));
-  once = rw w refl;
+  held = omega arith;
+  kept = rw (none_wait f n) (λ k d l. absurd (omega arith));
+  once = rw (none_wait f n) refl;
   room = r;
+  zeros = z;
 }
+
+pub zeros_copies : replicate {A = ℕ} 512 0 ≡ copies 512 0
+unfolding copies
+zeros_copies = refl
+
+pub zero_reads : Some (copies 512 0) ≡ zero_cell.reads
+unfolding zero_cell
+zero_reads = refl

@@ -4,17 +4,17 @@ use Rattle.std.specs.List.{list_any, All, AllByRecursion}
 use Rattle.std.proofs.lemmas.Bool.{and_parts, not-true, or_parts, cases_lt, cases_eq, eq-eqb, ne_eqb, eqb-false, lt-ltb, le-ltb}
 use Rattle.std.proofs.lemmas.List.Elements.{recursion_from_All}
 use Rattle.std.proofs.lemmas.List.Folds.{list_any-append}
-use Rattle.vr_mem.specs.declared.cells.MemWaiting.{MemWaiting}
+use Rattle.vr_disk.specs.DiskState.{Waiting}
 use Rattle.vr_mem.specs.Seen.{once}
 
-abbrev waits_at : List MemWaiting → ℕ → Bool
+abbrev waits_at : List Waiting → ℕ → Bool
 waits_at ws j = list_any (λ x. eqb x.index j) ws
 
 abbrev count : (ℕ → Bool) → ℕ → ℕ
 count f zero = 0
 count f (suc n) = count f n + cond (f n) 1 0
 
-abbrev Below : ℕ → List MemWaiting → Type 0
+abbrev Below : ℕ → List Waiting → Type 0
 Below n [] = Unit {0}
 Below n (w ∷ ws) = (w.index < n) × Below n ws
 
@@ -38,7 +38,7 @@ count_more f i (suc n) h =
           ])
     ]
 
-count_waits : (n : ℕ) (ws : List MemWaiting) → once ws ≡ true → Below n ws → count (waits_at ws) n ≡ length ws
+count_waits : (n : ℕ) (ws : List Waiting) → once ws ≡ true → Below n ws → count (waits_at ws) n ≡ length ws
 count_waits n [] o b = count_none n
 count_waits n (w ∷ ws) o b =
     let p = and_parts (not (waits_at ws w.index)) (once ws) o in
@@ -60,11 +60,11 @@ count_lt f (suc n) i l h =
       | inr d ↦ let r = count_lt f n i (omega arith) h in grind (arith, r)
     ]
 
-below : (n : ℕ) (ws : List MemWaiting) → AllByRecursion (λ (w : MemWaiting). w.index < n) ws → Below n ws
+below : (n : ℕ) (ws : List Waiting) → AllByRecursion (λ (w : Waiting). w.index < n) ws → Below n ws
 below n [] h = tt
 below n (w ∷ ws) h = (h.0, below n ws h.1)
 
-pub once_push : (ws : List MemWaiting) (w : MemWaiting) → once ws ≡ true → waits_at ws w.index ≡ false → once (ws ++ w ∷ []) ≡ true
+pub once_push : (ws : List Waiting) (w : Waiting) → once ws ≡ true → waits_at ws w.index ≡ false → once (ws ++ w ∷ []) ≡ true
 once_push [] w o h = refl
 once_push (x ∷ ws) w o h =
     let p = and_parts (not (waits_at ws x.index)) (once ws) o in
@@ -73,5 +73,5 @@ once_push (x ∷ ws) w o h =
     let none : waits_at (ws ++ w ∷ []) x.index ≡ false = rw (list_any-append, ne_eqb w.index x.index other, not-true (waits_at ws x.index) p.0) refl in
     rw (none, once_push ws w p.1 q.1) refl
 
-pub room_left : (n : ℕ) (ws : List MemWaiting) (i : ℕ) → once ws ≡ true → All (λ (w : MemWaiting). w.index < n) ws → i < n → waits_at ws i ≡ false → length ws < n
-room_left n ws i o b l h = let c = count_waits n ws o (below n ws (recursion_from_All (λ (w : MemWaiting). w.index < n) ws b)) in let t = count_lt (waits_at ws) n i l h in omega arith
+pub room_left : (n : ℕ) (ws : List Waiting) (i : ℕ) → once ws ≡ true → All (λ (w : Waiting). w.index < n) ws → i < n → waits_at ws i ≡ false → length ws < n
+room_left n ws i o b l h = let c = count_waits n ws o (below n ws (recursion_from_All (λ (w : Waiting). w.index < n) ws b)) in let t = count_lt (waits_at ws) n i l h in omega arith

@@ -1,64 +1,181 @@
-use Rattle.std.proofs.Common.{ℕ, suc, ◌+◌, ◌/◌, ◌%◌, ◌≤◌, ◌<◌, ◌≡◌, arith, refl, sym, ap, ◌∙◌, true, false, cond, eqb, ◌||◌, List, Option, Some, length-set, [], ◌∷◌, length, get_or, set, drop, drop-cons, add-one}
-use Rattle.std.specs.Prelude.{map}
+use Rattle.std.proofs.Common.{ℕ, suc, ◌+◌, ◌/◌, ◌%◌, ◌≤◌, ◌<◌, ◌≡◌, arith, refl, sym, ap, ◌∙◌, true, false, Bool, cond, eqb, not, ◌||◌, ◌&&◌, ◌++◌, inl, inr, List, Option, Some, length-set, get_or-set_other, get_or-set_same, [], ◌∷◌, length, get_or, set, drop, drop-cons, add-one}
+use Rattle.std.specs.Prelude.{map, take}
 use Rattle.std.specs.List.{list_any}
-use Rattle.std.proofs.lemmas.List.{drop_all}
-use Rattle.std.specs.List.{All, AllByRecursion}
-use Rattle.std.proofs.lemmas.List.Elements.{All-from_recursion, All-set, recursion_from_All}
+use Rattle.std.proofs.lemmas.List.{drop_all, get_or-map, length-map, length-take-le, map-append}
+use Rattle.std.specs.List.{All}
+use Rattle.std.proofs.lemmas.List.Elements.{All-push, All-set}
+use Rattle.std.proofs.lemmas.Bool.{and_parts, cases_eq, cond_both, eq-eqb, eqb-false, eqb-true, not-true, or_parts}
 use Rattle.vr_disk.specs.Regions.{sectors}
-use Rattle.vr_disk.specs.DiskState.{Face, IsCell, IsContent, IsFace, Waiting, Write, after, cell, digit_at, IsWaiting, blank, settled, settled_cell, waits}
-use Rattle.vr_mem.specs.declared.cells.MemCell.{MemCell}
+use Rattle.vr_disk.specs.DiskState.{Cell, Face, IsCell, IsContent, IsFace, Waiting, Write, after, cell, digit_at, IsWaiting, blank, noted, settled, settled_cell, waits}
+use Rattle.vr_disk.specs.declared.sector.Sector.{Sector}
+use Rattle.vr_mem.specs.declared.cells.MemRoom.{MemRoom}
 use Rattle.vr_mem.specs.declared.cells.MemWaiting.{MemWaiting}
 use Rattle.std.specs.Vec.{vec_capacity}
 use Rattle.vr_disk.proofs.Faces.{face_after, there}
 use Rattle.vr_mem.specs.declared.cells.MemFace.{MemFace}
 use Rattle.vr_mem.specs.Lies.{lied}
-use Rattle.vr_mem.specs.Seen.{IsMemFace, cell_of, face_of, once, seen, waiting_of}
-use Rattle.vr_mem.proofs.Kept.{seen_here, seen_set}
+use Rattle.vr_mem.specs.Seen.{IsMemFace, room_of, face_of, once, kept_with, seen, waiting_in, waiting_of, was_of}
+use Rattle.vr_mem.proofs.Room.{once_push}
+use Rattle.vr_mem.proofs.Kept.{length_seen, seen_here, seen_set}
 
-pub settle_step : (code : ℕ) (ws : List MemWaiting) (i : ℕ) (d : MemWaiting) (cells : List MemCell) (x e : MemCell)
+abbrev is_in : MemWaiting → Cell → Waiting
+is_in w c = record { index = w.index; was = c }
+
+pub waits_of : (index : ℕ) (xs : List Cell) (ws : List MemWaiting) → waits index (waiting_of xs ws) ≡ list_any (λ w. eqb w.index index) ws
+waits_of index xs [] = refl
+waits_of index xs (w ∷ ws) = ap (λ b. eqb w.index index || b) (waits_of index xs ws)
+
+-- whether one waits twice doesn't depend on what it is now
+pub once_of : (xs ys : List Cell) (ws : List MemWaiting) → once (waiting_of xs ws) ≡ once (waiting_of ys ws)
+once_of xs ys [] = refl
+once_of xs ys (w ∷ ws) = ap (λ b. not b && once (waiting_of xs ws)) (waits_of w.index xs ws ∙ sym (waits_of w.index ys ws)) ∙ ap (λ b. not (waits w.index (waiting_of ys ws)) && b) (once_of xs ys ws)
+
+-- another sector that changes
+pub apart : (xs : List Cell) (i : ℕ) (x : Cell) (ws : List MemWaiting) → waits i (waiting_of xs ws) ≡ false → waiting_of (set xs i x) ws ≡ waiting_of xs ws
+apart xs i x [] h = refl
+apart xs i x (w ∷ ws) h =
+    let q = or_parts (eqb w.index i) (waits i (waiting_of xs ws)) h in
+    let now = get_or-set_other xs i w.index x blank (eqb-false w.index i q.0) in
+    ap (λ (c : Cell). is_in w (was_of w c) ∷ waiting_of (set xs i x) ws) now ∙ ap (λ r. waiting_in xs w ∷ r) (apart xs i x ws q.1)
+
+was_by : (w : MemWaiting) (a b : Cell) → a.before ≡ b.before → was_of w a ≡ was_of w b
+unfolding was_of
+was_by w a b e = rw e refl
+
+before_set : (xs : List Cell) (i j : ℕ) (x : Cell) → i < length xs → x.before ≡ (get_or xs i blank).before → (get_or (set xs i x) j blank).before ≡ (get_or xs j blank).before
+before_set xs i j x l e = elim (cases_eq j i) [
+  | inl s ↦ ap (λ k. (get_or (set xs i x) k blank).before) s ∙ (ap (λ (c : Cell). c.before) (get_or-set_same xs i x blank l) ∙ (e ∙ ap (λ k. (get_or xs k blank).before) (sym s)))
+  | inr d ↦ ap (λ (c : Cell). c.before) (get_or-set_other xs i j x blank d)
+]
+
+-- a sector that goes on having held the same before
+pub alike : (xs : List Cell) (i : ℕ) (x : Cell) (ws : List MemWaiting) → i < length xs → x.before ≡ (get_or xs i blank).before → waiting_of (set xs i x) ws ≡ waiting_of xs ws
+alike xs i x [] l e = refl
+alike xs i x (w ∷ ws) l e =
+    ap (λ (c : Cell). is_in w c ∷ waiting_of (set xs i x) ws) (was_by w _ _ (before_set xs i w.index x l e))
+    ∙ ap (λ r. waiting_in xs w ∷ r) (alike xs i x ws l e)
+
+-- a sector that is written again, once what it should have held is kept
+is_again : (b : Bool) → not b ≡ false → b ≡ true
+is_again true e = refl
+is_again false e = sym e
+
+was_again : (w : MemWaiting) (a b : Cell) → w.again ≡ true → was_of w a ≡ was_of w b
+unfolding was_of
+was_again w a b e = rw e refl
+
+was_kept : (w : MemWaiting) (s : Sector) (a b : Cell) → w.again ≡ false → s.bytes ≡ b.before → (let k : MemWaiting = record w { again = true; truth = s } in was_of k a) ≡ was_of w b
+unfolding was_of
+was_kept w s a b e k = rw (e, k) refl
+
+kept_was : (xs : List Cell) (i : ℕ) (x : Cell) (s : Sector) (w : MemWaiting) → s.bytes ≡ (get_or xs i blank).before → waiting_in (set xs i x) (kept_with i s w) ≡ waiting_in xs w
+kept_was xs i x s w e =
+    cond_both (eqb w.index i && not w.again) (record w { again = true; truth = s }) w (λ (v : MemWaiting). waiting_in (set xs i x) v ≡ waiting_in xs w)
+    (λ t.
+    let q = and_parts (eqb w.index i) (not w.again) t in
+    ap (is_in w) (was_kept w s _ (get_or xs w.index blank) (not-true w.again q.1) (e ∙ ap (λ j. (get_or xs j blank).before) (sym (eqb-true w.index i q.0)))))
+    (λ f. elim (cases_eq w.index i) [
+      | inl j ↦ ap (is_in w) (was_again w (get_or (set xs i x) w.index blank) (get_or xs w.index blank) (is_again w.again (sym (ap (λ b. b && not w.again) (eq-eqb w.index i j)) ∙ f)))
+      | inr d ↦ ap (λ (c : Cell). is_in w (was_of w c)) (get_or-set_other xs i w.index x blank d)
+    ])
+
+pub kept_again : (xs : List Cell) (i : ℕ) (x : Cell) (s : Sector) (ws : List MemWaiting) → s.bytes ≡ (get_or xs i blank).before → waiting_of (set xs i x) (map (kept_with i s) ws) ≡ waiting_of xs ws
+kept_again xs i x s [] e = refl
+kept_again xs i x s (w ∷ ws) e = ap (λ y. y ∷ waiting_of (set xs i x) (map (kept_with i s) ws)) (kept_was xs i x s w e) ∙ ap (λ r. waiting_in xs w ∷ r) (kept_again xs i x s ws e)
+
+-- one that is noted
+pub noted_first : (xs : List Cell) (i : ℕ) (x was : Cell) (ws : List MemWaiting) (w : MemWaiting) → waits i (waiting_of xs ws) ≡ false → i < length xs → w.index ≡ i → was_of w x ≡ was
+    → waiting_of (set xs i x) (ws ++ w ∷ []) ≡ noted (waiting_of xs ws) i was
+noted_first xs i x was ws w h l e k =
+    let here : was_of w (get_or (set xs i x) w.index blank) ≡ was = ap (λ j. was_of w (get_or (set xs i x) j blank)) e ∙ (ap (was_of w) (get_or-set_same xs i x blank l) ∙ k) in
+    let one : waiting_in (set xs i x) w ≡ record { index = i; was = was } = ap (is_in w) here ∙ ap (λ j. (let y : Waiting = record { index = j; was = was } in y)) e in
+    map-append (waiting_in (set xs i x)) ws (w ∷ []) ∙ (ap (λ r. r ++ waiting_in (set xs i x) w ∷ []) (apart xs i x ws h) ∙ (ap (λ y. waiting_of xs ws ++ y ∷ []) one ∙ sym (ap (λ b. cond b (waiting_of xs ws) (waiting_of xs ws ++ record { index = i; was = was } ∷ [])) h)))
+
+pub same_face : (a b : List Cell) (p q : List Waiting) → a ≡ b → p ≡ q → let f : Face = record { cells = a; waiting = p } in let g : Face = record { cells = b; waiting = q } in f ≡ g
+same_face a b p q e k = rw (e, k) refl
+
+-- of one that waits already nothing is noted
+pub noted_again : (ws : List Waiting) (i : ℕ) (was : Cell) → waits i ws ≡ true → ws ≡ noted ws i was
+noted_again ws i was h = sym (ap (λ b. cond b ws (ws ++ record { index = i; was = was } ∷ [])) h)
+
+pub settle_step : (code : ℕ) (ws : List MemWaiting) (i : ℕ) (d : MemWaiting) (cells : List MemRoom) (x e : MemRoom)
     → i < length ws → (get_or ws i d).index < length cells
-    → cell_of x ≡ settled_cell (code % 3) (cell_of (get_or ws i d).was) (cell_of (get_or cells (get_or ws i d).index e))
-    → settled code (map waiting_of (drop i ws)) (seen cells)
-    ≡ settled (code / 3) (map waiting_of (drop (i + 1) ws)) (seen (set cells (get_or ws i d).index x))
-settle_step code ws i d cells x e l b h =
-    let at = (get_or ws i d).index in
-    let rest = map waiting_of (drop (suc i) ws) in
-    let was = cell_of (get_or ws i d).was in
-    let now : get_or (seen cells) at blank ≡ cell_of (get_or cells at e) = seen_here cells at e b in
-    let same : settled_cell (code % 3) was (get_or (seen cells) at blank) ≡ cell_of x = ap (settled_cell (code % 3) was) now ∙ sym h in
-    rw (add-one, drop-cons ws i d, seen_set cells at x b) (ap (λ c. settled (code / 3) rest (set (seen cells) at c)) same)
+    → once (waiting_of (seen cells) (drop i ws)) ≡ true
+    → room_of x ≡ settled_cell (code % 3) (was_of (get_or ws i d) (room_of (get_or cells (get_or ws i d).index e))) (room_of (get_or cells (get_or ws i d).index e))
+    → settled code (waiting_of (seen cells) (drop i ws)) (seen cells)
+    ≡ settled (code / 3) (waiting_of (seen (set cells (get_or ws i d).index x)) (drop (i + 1) ws)) (seen (set cells (get_or ws i d).index x))
+settle_step code ws i d cells x e l b o h =
+    let w = get_or ws i d in
+    let at = w.index in
+    let rest = drop (suc i) ws in
+    let xs = seen cells in
+    let now : get_or xs at blank ≡ room_of (get_or cells at e) = seen_here cells at e b in
+    let same : settled_cell (code % 3) (was_of w (get_or xs at blank)) (get_or xs at blank) ≡ room_of x = ap (λ (c : Cell). settled_cell (code % 3) (was_of w c) c) now ∙ sym h in
+    let alone : waits at (waiting_of xs rest) ≡ false = not-true (waits at (waiting_of xs rest)) (and_parts (not (waits at (waiting_of xs rest))) (once (waiting_of xs rest)) (rw (drop-cons ws i d) at o)).0 in
+    rw (add-one, drop-cons ws i d, seen_set cells at x b)
+    (ap (λ c. settled (code / 3) (waiting_of xs rest) (set xs at c)) same ∙ ap (λ r. settled (code / 3) r (set xs at (room_of x))) (sym (apart xs at (room_of x) rest alone)))
 
-pub waits_of : (index : ℕ) (ws : List MemWaiting) → waits index (map waiting_of ws) ≡ list_any (λ w. eqb w.index index) ws
-waits_of index [] = refl
-waits_of index (w ∷ ws) = ap (λ b. eqb w.index index || b) (waits_of index ws)
+-- none of those behind waits twice
+pub once_behind : (ws : List MemWaiting) (i : ℕ) (d : MemWaiting) (xs ys : List Cell) → i < length ws → once (waiting_of xs (drop i ws)) ≡ true → once (waiting_of ys (drop (i + 1) ws)) ≡ true
+once_behind ws i d xs ys l o =
+    let rest = drop (suc i) ws in
+    let parts = and_parts (not (waits (get_or ws i d).index (waiting_of xs rest))) (once (waiting_of xs rest)) (rw (drop-cons ws i d) at o) in
+    rw add-one (once_of ys xs rest ∙ parts.1)
 
-below_from : (n : ℕ) (ws : List MemWaiting) → AllByRecursion IsWaiting (map waiting_of ws) → n ≡ sectors → AllByRecursion (λ (w : MemWaiting). w.index < n) ws
-below_from n [] h e = tt
-below_from n (w ∷ ws) h e = (let i = h.0.index in omega arith, below_from n ws h.1 e)
-
-pub waiting_below : (n : ℕ) (ws : List MemWaiting) → All IsWaiting (map waiting_of ws) → n ≡ sectors → All (λ (w : MemWaiting). w.index < n) ws
-waiting_below n ws h e = All-from_recursion (λ (w : MemWaiting). w.index < n) ws (below_from n ws (recursion_from_All IsWaiting (map waiting_of ws) h) e)
+pub waiting_below : (n : ℕ) (ws : List Waiting) → All IsWaiting ws → n ≡ sectors → All (λ (w : Waiting). w.index < n) ws
+waiting_below n ws h e = λ k d l. (let i = (h k d l).index in omega arith)
 
 -- what waits is kept, also where more is
-abbrev Kept : List MemCell → List MemWaiting → Type 0
-Kept cells ws = All (λ (w : MemWaiting). w.index < length cells) ws
+abbrev Kept : List MemRoom → List Waiting → Type 0
+Kept cells ws = All (λ (w : Waiting). w.index < length cells) ws
 
-pub kept_more : (cells more : List MemCell) (ws : List MemWaiting) → Kept cells ws → length cells ≤ length more → Kept more ws
+kept_more : (cells more : List MemRoom) (ws : List Waiting) → Kept cells ws → length cells ≤ length more → Kept more ws
 kept_more cells more ws h l = λ k d b. (let i = h k d b in omega arith)
 
-pub none_waits : (cells : List MemCell) (ws : List MemWaiting) → ws ≡ [] → Kept cells ws
-none_waits cells ws e = rw e (λ k d l. absurd (omega arith))
+pub waits_below : (n : ℕ) (xs : List Cell) (ws : List MemWaiting) → All (λ (w : Waiting). w.index < n) (waiting_of xs ws) → All (λ (w : MemWaiting). w.index < n) ws
+waits_below n xs ws h = λ k d l.
+    (let t : (get_or (waiting_of xs ws) k (waiting_in xs d)).index < n = h k (waiting_in xs d) (rw length-map l) in
+    let e : get_or (waiting_of xs ws) k (waiting_in xs d) ≡ waiting_in xs (get_or ws k d) = get_or-map (waiting_in xs) ws k d (waiting_in xs d) l in
+    let i = ap (λ (w : Waiting). w.index) e in
+    omega (arith, t, i))
+
+pub length_waiting : (f : MemFace) → f.count ≤ length f.waiting.items → length (face_of f).waiting ≡ f.count
+length_waiting f l = length-map (take f.count f.waiting.items) (waiting_in (seen f.cells.items)) ∙ length-take-le f.count f.waiting.items l
+
+none_wait : (f : MemFace) → f.count ≡ 0 → (face_of f).waiting ≡ []
+none_wait f e = rw e refl
+
+none_kept : (cells : List MemRoom) (ws : List Waiting) → ws ≡ [] → Kept cells ws
+none_kept cells ws e = rw e (λ k d l. absurd (omega arith))
 
 -- a disk after a settling or a sync
-pub settled_is : (old new : MemFace) → IsMemFace old → IsFace (face_of new) → new.waiting.items ≡ [] → length new.cells.items ≡ length old.cells.items → sectors ≤ vec_capacity new.cells → sectors ≤ vec_capacity new.waiting → IsMemFace new
-settled_is old new h f w n s r =
-    record { face = f; count = (let c = h.count in omega arith); space = s; kept = none_waits new.cells.items new.waiting.items w; once = rw w refl; room = r }
+pub settled_is : (old new : MemFace) → IsMemFace old → IsFace (face_of new) → new.count ≡ 0 → length new.cells.items ≡ length old.cells.items → sectors ≤ vec_capacity new.cells → new.waiting ≡ old.waiting → new.zeros ≡ old.zeros → IsMemFace new
+settled_is old new h f w n s r z =
+    record { face = f; count = (let c = h.count in omega arith); space = s; held = rw w (omega arith); kept = none_kept new.cells.items _ (none_wait new w); once = rw (none_wait new w) refl; room = rw r h.room; zeros = rw z h.zeros }
+
+-- a sector that is noted
+once_noted : (ws : List Waiting) (i : ℕ) (c : Cell) → once ws ≡ true → once (noted ws i c) ≡ true
+once_noted ws i c o = cond_both (waits i ws) ws (ws ++ record { index = i; was = c } ∷ []) (λ ws. once ws ≡ true) (λ _. o) (λ f. once_push ws (record { index = i; was = c }) o f)
+
+kept_noted : (cells : List MemRoom) (ws : List Waiting) (i : ℕ) (c : Cell) → i < length cells → Kept cells ws → Kept cells (noted ws i c)
+kept_noted cells ws i c l h = cond_both (waits i ws) ws (ws ++ record { index = i; was = c } ∷ []) (Kept cells) (λ _. h) (λ _. All-push (λ (w : Waiting). w.index < length cells) ws (record { index = i; was = c }) h l)
 
 -- a disk with a sector written
 pub written_is : (old new : MemFace) (i : ℕ) (bytes : List ℕ) → IsMemFace old → i < sectors → IsContent bytes → face_of new ≡ after (face_of old) (Write i bytes)
-    → length new.cells.items ≤ sectors → sectors ≤ vec_capacity new.cells → All (λ (w : MemWaiting). w.index < length new.cells.items) new.waiting.items → once new.waiting.items ≡ true → sectors ≤ vec_capacity new.waiting → IsMemFace new
-written_is old new i bytes h l n same c s k o r =
-    record { face = rw same (face_after (face_of old) (Write i bytes) h.face (l, n)); count = c; space = s; kept = k; once = o; room = r }
+    → length new.cells.items ≤ sectors → length old.cells.items ≤ length new.cells.items → i < length new.cells.items → sectors ≤ vec_capacity new.cells → new.count ≤ length new.waiting.items → sectors ≤ vec_capacity new.waiting → new.zeros ≡ old.zeros → IsMemFace new
+written_is old new i bytes h l n same c g k s o r z =
+    let ws = (face_of old).waiting in
+    let w : (face_of new).waiting ≡ noted ws i (cell (face_of old) i) = ap (λ (f : Face). f.waiting) same in
+    record {
+      face = rw same (face_after (face_of old) (Write i bytes) h.face (l, n));
+      count = c;
+      space = s;
+      held = o;
+      kept = rw w (kept_noted new.cells.items ws i (cell (face_of old) i) k (kept_more old.cells.items new.cells.items ws h.kept g));
+      once = rw w (once_noted ws i (cell (face_of old) i) h.once);
+      room = r;
+      zeros = rw z h.zeros;
+    }
 
 -- a sector that reads as something else
 lied_face : (f : Face) (i : ℕ) (r : Option (List ℕ)) → IsFace f → i < sectors → ((b : List ℕ) → r ≡ Some b → IsContent b) → IsFace (lied f i r)
@@ -68,32 +185,47 @@ lied_face f i r h l n =
     record { count = length-set f.cells i (record (cell f i) { reads = r }) ∙ h.count; cells = All-set IsCell f.cells i (record (cell f i) { reads = r }) (record { truth = was.truth; reads = n; before = was.before }) h.cells; waiting = h.waiting }
 
 pub lied_is : (old new : MemFace) (i : ℕ) (r : Option (List ℕ)) → IsMemFace old → i < sectors → ((b : List ℕ) → r ≡ Some b → IsContent b) → face_of new ≡ lied (face_of old) i r
-    → length new.cells.items ≤ sectors → length old.cells.items ≤ length new.cells.items → sectors ≤ vec_capacity new.cells → new.waiting ≡ old.waiting → IsMemFace new
-lied_is old new i r h l n same c g s w =
-    record { face = rw same (lied_face (face_of old) i r h.face l n); count = c; space = s; kept = rw w (kept_more old.cells.items new.cells.items old.waiting.items h.kept g); once = rw w h.once; room = rw w h.room }
-
-pub lied_cells : (cells more : List MemCell) (ws : List Waiting) (i : ℕ) (was x : MemCell) (r : Option (List ℕ)) → seen more ≡ seen cells → i < length more → was ≡ get_or more i was → cell_of x ≡ record (cell_of was) { reads = r }
-    → let f : Face = record { cells = seen cells; waiting = ws } in let g : Face = record { cells = seen (set more i x); waiting = ws } in g ≡ lied f i r
+    → length new.cells.items ≤ sectors → length old.cells.items ≤ length new.cells.items → sectors ≤ vec_capacity new.cells → new.waiting ≡ old.waiting → new.count ≡ old.count → new.zeros ≡ old.zeros → IsMemFace new
 unfolding lied
-lied_cells cells more ws i was x r s l w e =
-    let now : get_or (seen more) i blank ≡ cell_of was = seen_here more i was l ∙ ap cell_of (sym w) in
-    rw (seen_set more i x l, ← s, now, e) refl
+lied_is old new i r h l n same c g s w k z =
+    let ws = (face_of old).waiting in
+    let x : (face_of new).waiting ≡ ws = ap (λ (f : Face). f.waiting) same in
+    record {
+      face = rw same (lied_face (face_of old) i r h.face l n);
+      count = c;
+      space = s;
+      held = rw (w, k) h.held;
+      kept = rw x (kept_more old.cells.items new.cells.items ws h.kept g);
+      once = rw x h.once;
+      room = rw w h.room;
+      zeros = rw z h.zeros;
+    }
+
+pub lied_cells : (cells more : List MemRoom) (ws : List MemWaiting) (i : ℕ) (was x : MemRoom) (r : Option (List ℕ)) → seen more ≡ seen cells → i < length more → length more ≤ sectors → was ≡ get_or more i was → room_of x ≡ record (room_of was) { reads = r }
+    → let f : Face = record { cells = seen cells; waiting = waiting_of (seen cells) ws } in let g : Face = record { cells = seen (set more i x); waiting = waiting_of (seen (set more i x)) ws } in g ≡ lied f i r
+unfolding lied
+lied_cells cells more ws i was x r s l m w e =
+    let now : get_or (seen more) i blank ≡ room_of was = seen_here more i was l ∙ ap room_of (sym w) in
+    let long = length_seen more m in
+    let held : (room_of x).before ≡ (get_or (seen more) i blank).before = ap (λ (c : Cell). c.before) e ∙ ap (λ (c : Cell). c.before) (sym now) in
+    let same : waiting_of (set (seen more) i (room_of x)) ws ≡ waiting_of (seen more) ws = alike (seen more) i (room_of x) ws (omega (arith, long, l, m)) held in
+    rw (seen_set more i x l, same, ← s, now, e) refl
 
 -- the digit of a sector, from one of those that wait on
 digit_cons : (code k : ℕ) (w : Waiting) (ws : List Waiting) → digit_at code k (w ∷ ws) ≡ cond (eqb w.index k) (code % 3) (digit_at (code / 3) k ws)
 unfolding digit_at
 digit_cons code k w ws = refl
 
-digit_step : (code k : ℕ) (ws : List MemWaiting) (i : ℕ) (d : MemWaiting) → i < length ws
-    → digit_at code k (map waiting_of (drop i ws)) ≡ cond (eqb (get_or ws i d).index k) (code % 3) (digit_at (code / 3) k (map waiting_of (drop (i + 1) ws)))
-digit_step code k ws i d l = rw (add-one, drop-cons ws i d) (digit_cons code k (waiting_of (get_or ws i d)) (map waiting_of (drop (suc i) ws)))
+digit_step : (code k : ℕ) (xs : List Cell) (ws : List MemWaiting) (i : ℕ) (d : MemWaiting) → i < length ws
+    → digit_at code k (waiting_of xs (drop i ws)) ≡ cond (eqb (get_or ws i d).index k) (code % 3) (digit_at (code / 3) k (waiting_of xs (drop (i + 1) ws)))
+digit_step code k xs ws i d l = rw (add-one, drop-cons ws i d) (digit_cons code k (waiting_in xs (get_or ws i d)) (waiting_of xs (drop (suc i) ws)))
 
-pub digit_here : (code k : ℕ) (ws : List MemWaiting) (i : ℕ) (d : MemWaiting) → i < length ws → eqb (get_or ws i d).index k ≡ true → digit_at code k (map waiting_of (drop i ws)) ≡ code % 3
-digit_here code k ws i d l e = digit_step code k ws i d l ∙ ap (λ b. cond b (code % 3) (digit_at (code / 3) k (map waiting_of (drop (i + 1) ws)))) e
+pub digit_here : (code k : ℕ) (xs : List Cell) (ws : List MemWaiting) (i : ℕ) (d : MemWaiting) → i < length ws → eqb (get_or ws i d).index k ≡ true → digit_at code k (waiting_of xs (drop i ws)) ≡ code % 3
+digit_here code k xs ws i d l e = digit_step code k xs ws i d l ∙ ap (λ b. cond b (code % 3) (digit_at (code / 3) k (waiting_of xs (drop (i + 1) ws)))) e
 
-pub digit_later : (code k : ℕ) (ws : List MemWaiting) (i : ℕ) (d : MemWaiting) → i < length ws → eqb (get_or ws i d).index k ≡ false → digit_at code k (map waiting_of (drop i ws)) ≡ digit_at (code / 3) k (map waiting_of (drop (i + 1) ws))
-digit_later code k ws i d l e = digit_step code k ws i d l ∙ ap (λ b. cond b (code % 3) (digit_at (code / 3) k (map waiting_of (drop (i + 1) ws)))) e
+pub digit_later : (code k : ℕ) (xs : List Cell) (ws : List MemWaiting) (i : ℕ) (d : MemWaiting) → i < length ws → eqb (get_or ws i d).index k ≡ false → digit_at code k (waiting_of xs (drop i ws)) ≡ digit_at (code / 3) k (waiting_of xs (drop (i + 1) ws))
+digit_later code k xs ws i d l e = digit_step code k xs ws i d l ∙ ap (λ b. cond b (code % 3) (digit_at (code / 3) k (waiting_of xs (drop (i + 1) ws)))) e
 
-pub digit_past : (code k : ℕ) (ws : List MemWaiting) (i : ℕ) → length ws ≤ i → digit_at code k (map waiting_of (drop i ws)) ≡ 0
+pub digit_past : (code k : ℕ) (xs : List Cell) (ws : List MemWaiting) (i : ℕ) → length ws ≤ i → digit_at code k (waiting_of xs (drop i ws)) ≡ 0
 unfolding digit_at
-digit_past code k ws i l = rw (drop_all i ws l) refl
+digit_past code k xs ws i l = rw (drop_all i ws l) refl

@@ -1,17 +1,21 @@
 -- What a disk in memory holds, as the calls of a disk see it.
 use Rattle.std.specs.List.{list_any, All}
 use Rattle.std.specs.Vec.{vec_capacity}
-use Rattle.std.specs.Prelude.{◌==◌, ◌&&◌, ◌≡◌, ◌≤◌, ◌<◌, ◌-◌, ◌++◌, Bool, true, not, ℕ, List, [], ◌∷◌, length, map, replicate, Option, Some, None}
-use Rattle.vr_disk.specs.DiskState.{Cell, Waiting, Face, IsFace, Fate, Fuse, CallVerdict, Goes, Fails, Cuts}
+use Rattle.std.specs.Prelude.{◌==◌, ◌&&◌, ◌≡◌, ◌≤◌, ◌<◌, ◌-◌, ◌++◌, Bool, true, not, if◌then◌else◌, ℕ, List, [], ◌∷◌, length, map, replicate, Option, Some, None, take, slice_index_or}
+use Rattle.vr_disk.specs.DiskState.{Cell, Waiting, Face, IsFace, Fate, Fuse, CallVerdict, Goes, Fails, Cuts, blank}
 use Rattle.vr_disk.specs.Regions.{sectors}
 use Rattle.vr_disk.specs.declared.sector.Sector.{Sector}
 use Rattle.vr_mem.specs.declared.cells.MemCell.{MemCell}
+use Rattle.vr_mem.specs.declared.cells.MemReads.{MemReads}
+use Rattle.vr_mem.specs.declared.cells.MemReads.TheVariants as r
+use Rattle.vr_mem.specs.declared.cells.MemRoom.{MemRoom}
 use Rattle.vr_mem.specs.declared.cells.MemWaiting.{MemWaiting}
 use Rattle.vr_mem.specs.declared.cells.MemFace.{MemFace}
 use Rattle.vr_mem.specs.declared.fate.MemFuse.{MemFuse}
 use Rattle.vr_mem.specs.declared.fate.MemFate.{MemFate}
 use Rattle.vr_mem.specs.declared.fate.MemVerdict.{MemVerdict}
 use Rattle.vr_mem.specs.declared.fate.MemVerdict.TheVariants as v
+use Rattle.vr_mem.specs.declared.name.DiskName.{DiskName}
 
 -- the bytes of a sector that can be read
 abbrev pub reads_of : Option Sector → Option (List ℕ)
@@ -21,8 +25,39 @@ reads_of (Some s) = Some s.bytes
 abbrev pub cell_of : MemCell → Cell
 cell_of c = record { truth = c.truth.bytes; reads = reads_of c.reads; before = c.before.bytes }
 
-abbrev pub waiting_of : MemWaiting → Waiting
-waiting_of w = record { index = w.index; was = cell_of w.was }
+-- what a sector reads as, by what it should hold and its lie
+abbrev pub reads_by : MemReads → List ℕ → List ℕ → Option (List ℕ)
+reads_by r.Truth truth lie = Some truth
+reads_by r.Lie truth lie = Some lie
+reads_by r.Nothing truth lie = None
+
+-- of two places, by turns
+abbrev pub truth_of : MemRoom → List ℕ
+truth_of m = if m.turned then m.two.bytes else m.one.bytes
+
+abbrev pub before_of : MemRoom → List ℕ
+before_of m = if m.turned then m.one.bytes else m.two.bytes
+
+unfoldable pub room_of : MemRoom → Cell
+room_of m = record { truth = truth_of m; reads = reads_by m.reads (truth_of m) m.lie.bytes; before = before_of m }
+
+-- what a sector that waits should have held before its first write, by what it is now
+abbrev pub truth_then : MemWaiting → Cell → List ℕ
+truth_then w now = if w.again then w.truth.bytes else now.before
+
+-- what it was
+unfoldable pub was_of : MemWaiting → Cell → Cell
+was_of w now = record { truth = truth_then w now; reads = reads_by w.reads (truth_then w now) w.lie.bytes; before = w.before.bytes }
+
+abbrev pub waiting_in : List Cell → MemWaiting → Waiting
+waiting_in cells w = record { index = w.index; was = was_of w (slice_index_or cells w.index blank) }
+
+abbrev pub waiting_of : List Cell → List MemWaiting → List Waiting
+waiting_of cells ws = map (waiting_in cells) ws
+
+-- the sector that is written again keeps what it should have held
+abbrev pub kept_with : ℕ → Sector → MemWaiting → MemWaiting
+kept_with index truth w = if (w.index == index) && not w.again then record w { again = true; truth = truth } else w
 
 -- so many copies of an item
 unfoldable pub copies : {X : Type 0} → ℕ → X → List X
@@ -33,11 +68,11 @@ unfoldable pub zero_cell : Cell
 zero_cell = record { truth = copies 512 0; reads = Some (copies 512 0); before = copies 512 0 }
 
 -- those that are kept, and behind them those that nothing was done to
-unfoldable pub seen : List MemCell → List Cell
-seen cells = map cell_of cells ++ copies (sectors - length cells) zero_cell
+unfoldable pub seen : List MemRoom → List Cell
+seen cells = map room_of cells ++ copies (sectors - length cells) zero_cell
 
 abbrev pub face_of : MemFace → Face
-face_of f = record { cells = seen f.cells.items; waiting = map waiting_of f.waiting.items }
+face_of f = record { cells = seen f.cells.items; waiting = waiting_of (seen f.cells.items) (take f.count f.waiting.items) }
 
 abbrev pub fuse_of : Option MemFuse → Option Fuse
 fuse_of None = None
@@ -51,8 +86,12 @@ call_verdict v.Goes = Goes
 call_verdict v.Fails = Fails
 call_verdict (v.Cuts code) = Cuts code
 
+-- the name by which it was attached last
+abbrev pub name_of : DiskName → Option (List ℕ)
+name_of n = if n.is_given then Some n.bytes.items else None
+
 -- no sector waits twice
-abbrev pub once : List MemWaiting → Bool
+abbrev pub once : List Waiting → Bool
 once [] = true
 once (w ∷ ws) = not (list_any (λ x. x.index == w.index) ws) && once ws
 
@@ -61,6 +100,8 @@ pub record IsMemFace (f : MemFace) : Type 0 where
   pub face : IsFace (face_of f)
   pub count : length f.cells.items ≤ sectors
   pub space : sectors ≤ vec_capacity f.cells
-  pub kept : All (λ (w : MemWaiting). w.index < length f.cells.items) f.waiting.items
-  pub once : once f.waiting.items ≡ true
+  pub held : f.count ≤ length f.waiting.items
+  pub kept : All (λ (w : Waiting). w.index < length f.cells.items) (face_of f).waiting
+  pub once : once (face_of f).waiting ≡ true
   pub room : sectors ≤ vec_capacity f.waiting
+  pub zeros : f.zeros.bytes ≡ copies 512 0

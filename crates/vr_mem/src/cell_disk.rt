@@ -1,17 +1,20 @@
 //! A disk in memory whose sectors may read as something else than they should hold.
 ghost use Rattle.std.specs.Prelude.{◌≡◌, ◌-◌, ◌≤◌, ◌<◌, Some, None, false, [], IfOk, is_ok};
+ghost use Rattle.std.specs.Option.{option_map};
 ghost use Rattle.vr_base.specs.Causes.{HasCause};
-ghost use Rattle.vr_disk.specs.DiskState.{Sync, Write, after, cell, digit_at, judged, settle};
+ghost use Rattle.vr_disk.specs.DiskState.{Sync, Write, after, cell, digit_at, judged, nothing_beside, settle, reads};
 ghost use Rattle.vr_mem.specs.Lies.{lied};
 ghost use Rattle.vr_mem.specs.Seen.{IsMemFace, cell_of, copies, call_verdict, zero_cell};
 
 use crate::cells::{MemCell, MemFace};
 use crate::fate::{MemFate, MemFuse, MemVerdict};
+use crate::name::DiskName;
 use std::alloc::Global;
 use vr_base::{NoMemory, Sum};
-use vr_disk::{DiskFailed, Memo, Room, SECTORS, Sector, SectorDisk};
+use vr_disk::{DiskFailed, Memo, NAME_MOST, Room, SECTORS, Sector, SectorDisk};
 
-/// A disk of 3,984 sectors in memory. A read gives what the sector reads as, and fails where it can't be read.
+/// A disk of 3,984 sectors in memory, by whatever name it is attached. A read gives what the sector reads as, and fails where
+/// it can't be read.
 #[derive(Drop)]
 pub struct CellDisk {
     face: MemFace,
@@ -19,6 +22,7 @@ pub struct CellDisk {
     faults: u64,
     read_faults: u64,
     memo: Memo,
+    name: DiskName,
     ghost sectors: { IsMemFace face },
 }
 
@@ -29,6 +33,7 @@ impl CellDisk {
     pub fn new(alloc: Global) -> Result<CellDisk, NoMemory>
         ensures face { IfOk result (λ m. (disk_of m).face ≡ record { cells = copies SECTORS zero_cell; waiting = [] }) }
         ensures fate { IfOk result (λ m. (disk_of m).fate ≡ record { fuse = None; made = 0; failing = []; dead = false }) }
+        ensures beside { IfOk result (λ m. (disk_of m).beside ≡ nothing_beside) }
         ensures faults { IfOk result (λ m. m.faults ≡ 0) }
         ensures read_faults { IfOk result (λ m. m.read_faults ≡ 0) }
     {
@@ -43,6 +48,7 @@ impl CellDisk {
             faults: 0,
             read_faults: 0,
             memo: Memo::new(alloc)?,
+            name: DiskName::none(alloc)?,
         })
     }
 
@@ -88,6 +94,14 @@ impl CellDisk {
         ensures { cell (disk_of self.now).face i ≡ cell_of result }
     {
         self.face.cell(i)
+    }
+
+    /// What a sector reads as, `None` where it can't be read.
+    pub fn reading(&self, i: u32) -> Option<&Sector>
+        requires { i < SECTORS }
+        ensures { option_map (λ s. s.now.bytes) result ≡ reads (disk_of self.now).face i }
+    {
+        self.face.reading(i)
     }
 
     /// From now on a sector reads as this, until it is written.
@@ -179,17 +193,18 @@ impl SectorDisk for CellDisk {
     ghost whole = { told_is_whole };
 
     #[tactic(auto, unfolding(vr_disk::specs::DiskState::attached))]
-    fn attach(&mut self, _name: &str) -> Result<(), DiskFailed> {
-        if !self.fate.judge_attach() {
+    fn attach(&mut self, name: &str) -> Result<(), DiskFailed> {
+        if !self.fate.judge_attach() || name.len() > NAME_MOST {
             return self.fault();
         }
         self.face.sync();
+        self.name.set(name.as_bytes());
         Ok(())
     }
 
     fn read(&mut self, i: u32, to: &mut Sector) -> Result<(), DiskFailed> {
-        if let Some(sector) = self.face.cell(i).reads {
-            *to = sector;
+        if let Some(sector) = self.face.reading(i) {
+            *to = *sector;
             return Ok(());
         }
         self.read_faults = self.read_faults.saturating_add(1);

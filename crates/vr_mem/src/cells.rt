@@ -1,10 +1,11 @@
 //! Sectors in memory, and those that wait for a sync.
-ghost use Rattle.std.specs.Prelude.{◌≡◌, ◌<◌, ◌≤◌, ◌==◌, ◌++◌, ◌∷◌, [], if◌then◌else◌, false, length, map, IfOk, None, Some};
+ghost use Rattle.std.specs.Prelude.{◌≡◌, ◌<◌, ◌≤◌, ◌==◌, ◌++◌, ◌∷◌, [], if◌then◌else◌, false, true, length, map, take, drop, slice_index_or, slice_set, List, IfOk, None, Some};
 ghost use Rattle.std.specs.List.{list_any, All};
+ghost use Rattle.std.specs.Option.{option_map};
 ghost use Rattle.std.specs.Vec.{vec_capacity};
-ghost use Rattle.vr_disk.specs.DiskState.{after, cell, damaged, digit_at, IsContent, settle, settled, settled_cell, Write, Sync};
+ghost use Rattle.vr_disk.specs.DiskState.{Cell, after, blank, cell, damaged, digit_at, IsContent, noted, reads, settle, settled, settled_cell, written, Write, Sync};
 ghost use Rattle.vr_mem.specs.Lies.{lied};
-ghost use Rattle.vr_mem.specs.Seen.{IsMemFace, cell_of, copies, face_of, seen, waiting_of, zero_cell};
+ghost use Rattle.vr_mem.specs.Seen.{IsMemFace, cell_of, copies, face_of, kept_with, once, room_of, seen, waiting_of, was_of, zero_cell};
 
 use std::alloc::Global;
 use vr_base::NoMemory;
@@ -19,19 +20,53 @@ pub struct MemCell {
     pub before: Sector,
 }
 
-/// A sector that waits for a sync, and what it was before its first write since the last one.
+/// What a sector reads as.
+#[derive(Clone, Copy)]
+pub enum MemReads {
+    /// What it should hold.
+    Truth,
+    /// The content that is kept as its lie.
+    Lie,
+    /// It can't be read.
+    Nothing,
+}
+
+/// What is kept of a sector. What it should hold, and what it held before its last write, stand in two places by turns: so a
+/// write copies into one of them, and turns.
+#[derive(Clone, Copy)]
+pub struct MemRoom {
+    pub one: Sector,
+    pub two: Sector,
+    /// It should hold the second; otherwise the first.
+    pub turned: bool,
+    pub reads: MemReads,
+    pub lie: Sector,
+}
+
+/// A sector that waits for a sync, and what it was before its first write since the last one. What it should have held then
+/// is what it held before its last write, as long as it was written once: so a first write doesn't copy it.
 #[derive(Clone, Copy)]
 pub struct MemWaiting {
     pub index: u32,
-    pub was: MemCell,
+    /// It was written again, and what it should have held then stands here.
+    pub again: bool,
+    pub truth: Sector,
+    pub reads: MemReads,
+    pub lie: Sector,
+    pub before: Sector,
 }
 
 /// All sectors, and those that wait, in the order of their first write. Kept are the sectors up to the last one that was
 /// written or reads as something else; those behind it are zeros, and take no memory.
 #[derive(Drop)]
 pub struct MemFace {
-    pub cells: Vec<MemCell>,
+    pub cells: Vec<MemRoom>,
+    /// How many sectors wait.
+    pub count: usize,
+    /// Those that wait, and behind them what stays of some that waited once: the next ones are written over it.
     pub waiting: Vec<MemWaiting>,
+    /// What a sector that isn't kept reads as.
+    pub zeros: Sector,
 }
 
 fn damage_all(bytes: &mut [u8])
@@ -51,43 +86,163 @@ pub fn damage(sector: &Sector) -> Sector
     out
 }
 
-fn settle_cell(digit: u64, was: &MemCell, now: &MemCell) -> MemCell
-    ensures { cell_of result ≡ settled_cell digit (cell_of was.now) (cell_of now.now) }
+// A sector of zeros that was never written.
+#[tactic(auto, unfolding(crate::specs::Seen::copies, crate::specs::Seen::zero_cell, crate::specs::Seen::room_of))]
+fn zero() -> MemRoom
+    ensures { room_of result ≡ zero_cell }
 {
-    if digit == 0 {
-        *was
-    } else if digit == 1 {
-        MemCell {
-            reads: Some(now.truth),
-            ..*now
+    let zeros = Sector { bytes: [0; 512] };
+    MemRoom {
+        one: zeros,
+        two: zeros,
+        turned: false,
+        reads: MemReads::Truth,
+        lie: zeros,
+    }
+}
+
+impl MemRoom {
+    #[tactic(auto, unfolding(crate::specs::Seen::room_of))]
+    fn truth(&self) -> &Sector
+        ensures { result.now.bytes ≡ (room_of self.now).truth }
+    {
+        if self.turned { &self.two } else { &self.one }
+    }
+
+    #[tactic(auto, unfolding(crate::specs::Seen::room_of))]
+    fn before(&self) -> &Sector
+        ensures { result.now.bytes ≡ (room_of self.now).before }
+    {
+        if self.turned { &self.one } else { &self.two }
+    }
+
+    // What it reads as.
+    #[tactic(auto, unfolding(crate::specs::Seen::room_of))]
+    fn reading(&self) -> Option<&Sector>
+        ensures { option_map (λ s. s.now.bytes) result ≡ (room_of self.now).reads }
+    {
+        match self.reads {
+            MemReads::Truth => Some(self.truth()),
+            MemReads::Lie => Some(&self.lie),
+            MemReads::Nothing => None,
         }
-    } else {
-        let damaged = damage(&now.truth);
+    }
+
+    #[tactic(auto, unfolding(crate::specs::Seen::room_of))]
+    fn cell(&self) -> MemCell
+        ensures { cell_of result ≡ room_of self.now }
+    {
         MemCell {
-            truth: damaged,
-            reads: Some(damaged),
-            before: now.before,
+            truth: *self.truth(),
+            reads: self.reading().copied(),
+            before: *self.before(),
+        }
+    }
+
+    // Writes these bytes.
+    #[tactic(auto, unfolding(crate::specs::Seen::room_of))]
+    fn write(&mut self, bytes: &[u8])
+        requires { length bytes.now ≡ 512 }
+        ensures cell { room_of self.new ≡ written (room_of self.old) bytes.now }
+        ensures content { IsContent bytes.now }
+    {
+        if self.turned {
+            self.one.bytes.copy_from_slice(bytes);
+        } else {
+            self.two.bytes.copy_from_slice(bytes);
+        }
+        self.turned = !self.turned;
+        self.reads = MemReads::Truth;
+    }
+
+    // From now on it reads as these bytes.
+    #[tactic(auto, unfolding(crate::specs::Seen::room_of))]
+    fn show(&mut self, bytes: &[u8])
+        requires { length bytes.now ≡ 512 }
+        ensures cell { room_of self.new ≡ record (room_of self.old) { reads = Some bytes.now } }
+        ensures content { IsContent bytes.now }
+    {
+        self.lie.bytes.copy_from_slice(bytes);
+        self.reads = MemReads::Lie;
+    }
+
+    // From now on it can't be read.
+    #[tactic(auto, unfolding(crate::specs::Seen::room_of))]
+    fn hide(&mut self)
+        ensures { room_of self.new ≡ record (room_of self.old) { reads = None } }
+    {
+        self.reads = MemReads::Nothing;
+    }
+
+    // Becomes what it was. A lie is copied only where it is read.
+    #[tactic(auto, unfolding(crate::specs::Seen::room_of, crate::specs::Seen::was_of))]
+    fn revert(&mut self, was: &MemWaiting)
+        ensures { room_of self.new ≡ was_of was.now (room_of self.old) }
+    {
+        if was.again {
+            self.one = was.truth;
+            self.turned = false;
+        } else {
+            self.turned = !self.turned;
+        }
+        if self.turned {
+            self.one = was.before;
+        } else {
+            self.two = was.before;
+        }
+        self.reads = was.reads;
+        match was.reads {
+            MemReads::Lie => self.lie = was.lie,
+            _ => {}
+        }
+    }
+
+    // What a stop leaves of it, by a digit and what it was.
+    #[tactic(auto, unfolding(crate::specs::Seen::room_of))]
+    fn settle(&mut self, digit: u64, was: &MemWaiting)
+        ensures { room_of self.new ≡ settled_cell digit (was_of was.now (room_of self.old)) (room_of self.old) }
+    {
+        if digit == 0 {
+            self.revert(was);
+            return;
+        }
+        if digit != 1 {
+            self.damage();
+        }
+        self.reads = MemReads::Truth;
+    }
+
+    // What it should hold has every bit turned.
+    #[tactic(auto, unfolding(crate::specs::Seen::room_of))]
+    fn damage(&mut self)
+        ensures truth { (room_of self.new).truth ≡ damaged (room_of self.old).truth }
+        ensures before { (room_of self.new).before ≡ (room_of self.old).before }
+    {
+        if self.turned {
+            damage_all(&mut self.two.bytes);
+        } else {
+            damage_all(&mut self.one.bytes);
         }
     }
 }
 
 // Settles the sectors that wait, by the digits of the code.
-fn settle_all(code: u64, waiting: &[MemWaiting], cells: &mut [MemCell])
-    requires { All (λ w. w.index < length cells.old) waiting.now }
-    ensures cells { seen cells.new ≡ settled code (map waiting_of waiting.now) (seen cells.old) }
+fn settle_all(code: u64, waiting: &[MemWaiting], cells: &mut [MemRoom])
+    requires kept { All (λ w. w.index < length cells.old) waiting.now }
+    requires once { once (waiting_of (seen cells.old) waiting.now) ≡ true }
+    ensures cells { seen cells.new ≡ settled code (waiting_of (seen cells.old) waiting.now) (seen cells.old) }
     ensures count { length cells.new ≡ length cells.old }
 {
     let mut rest = code;
     for w in waiting {
-        let at = w.index as usize;
-        let now = cells[at];
-        cells[at] = settle_cell(rest % 3, &w.was, &now);
+        let room = &mut cells[w.index as usize];
+        room.settle(rest % 3, w);
         rest /= 3;
     }
 }
 
 fn digit(code: u64, index: u32, waiting: &[MemWaiting]) -> u64
-    ensures { result ≡ digit_at code index (map waiting_of waiting.now) }
+    ensures { (cells : List Cell) → result ≡ digit_at code index (waiting_of cells waiting.now) }
 {
     let mut rest = code;
     for w in waiting {
@@ -105,57 +260,82 @@ fn is_waiting(index: u32, waiting: &[MemWaiting]) -> bool
     waiting.iter().any(|w| w.index == index)
 }
 
-// Notes that a sector waits, once.
-fn note(waiting: &mut Vec<MemWaiting>, index: u32, was: &MemCell)
-    requires { list_any (λ w. w.index == index) waiting.old.items ≡ false → length waiting.old.items < vec_capacity waiting.old }
-    ensures items { waiting.new.items ≡ (if list_any (λ w. w.index == index) waiting.old.items then waiting.old.items else waiting.old.items ++ record { index = index; was = was.now } ∷ []) }
+// A place for one more that waits, behind so many.
+fn make_place(waiting: &mut Vec<MemWaiting>, count: usize)
+    requires count { count ≤ length waiting.old.items }
+    requires room { count < vec_capacity waiting.old }
+    ensures same { take count waiting.new.items ≡ take count waiting.old.items }
+    ensures more { count < length waiting.new.items }
     ensures capacity { vec_capacity waiting.old ≤ vec_capacity waiting.new }
 {
-    if !is_waiting(index, waiting) {
-        waiting.push_reserved(MemWaiting { index, was: *was });
+    if waiting.len() == count {
+        let zeros = Sector { bytes: [0; 512] };
+        waiting.push_reserved(MemWaiting {
+            index: 0,
+            again: false,
+            truth: zeros,
+            reads: MemReads::Truth,
+            lie: zeros,
+            before: zeros,
+        });
     }
 }
 
-// Writes these bytes to a sector, in its place.
-fn set(cell: &mut MemCell, bytes: &[u8])
-    requires { length bytes.now ≡ 512 }
-    ensures cell { cell.new ≡ record { truth = record { bytes = bytes.now }; reads = Some (record { bytes = bytes.now }); before = cell.old.truth } }
-    ensures content { IsContent bytes.now }
+// Notes in its place that a sector waits, and what it was before this write.
+#[tactic(auto, unfolding(crate::specs::Seen::room_of, crate::specs::Seen::was_of))]
+fn note_in(place: &mut MemWaiting, index: u32, room: &MemRoom)
+    ensures index { place.new.index ≡ index }
+    ensures was { (now : Cell) → now.before ≡ (room_of room.now).truth → was_of place.new now ≡ room_of room.now }
 {
-    cell.before = cell.truth;
-    cell.truth.bytes.copy_from_slice(bytes);
-    cell.reads = Some(cell.truth);
+    place.index = index;
+    place.again = false;
+    place.reads = room.reads;
+    match room.reads {
+        MemReads::Lie => place.lie = room.lie,
+        _ => {}
+    }
+    place.before = *room.before();
 }
 
-// A sector that reads as these bytes.
-fn shown(bytes: &[u8], was: &MemCell) -> MemCell
-    requires { length bytes.now ≡ 512 }
-    ensures cell { result ≡ record was.now { reads = Some (record { bytes = bytes.now }) } }
-    ensures content { IsContent bytes.now }
+// Keeps what a sector should have held, where it is the one that waits here and was written once.
+fn keep_in(place: &mut MemWaiting, index: u32, truth: &Sector)
+    ensures { place.new ≡ kept_with index truth.now place.old }
 {
-    let mut copied = [0; 512];
-    copied.copy_from_slice(bytes);
-    MemCell {
-        reads: Some(Sector { bytes: copied }),
-        ..*was
+    if place.index == index && !place.again {
+        place.truth = *truth;
+        place.again = true;
     }
 }
 
-// A sector of zeros that was never written.
-#[tactic(auto, unfolding(crate::specs::Seen::copies, crate::specs::Seen::zero_cell))]
-fn zero() -> MemCell
-    ensures { cell_of result ≡ zero_cell }
+// Keeps what a sector should have held that is written again, with those of the first so many that it is.
+fn keep_truth(waiting: &mut [MemWaiting], count: usize, index: u32, truth: &Sector)
+    requires { count ≤ length waiting.old }
+    ensures { waiting.new ≡ map (kept_with index truth.now) (take count waiting.old) ++ drop count waiting.old }
 {
-    let zeros = Sector { bytes: [0; 512] };
-    MemCell {
-        truth: zeros,
-        reads: Some(zeros),
-        before: zeros,
+    for i in 0..count {
+        keep_in(&mut waiting[i], index, truth);
     }
+}
+
+// Notes that a sector is to be written, behind so many that wait; and gives how many wait then.
+fn note(waiting: &mut Vec<MemWaiting>, count: usize, index: u32, room: &MemRoom) -> usize
+    requires count { count ≤ length waiting.old.items }
+    requires room { list_any (λ w. w.index == index) (take count waiting.old.items) ≡ false → count < vec_capacity waiting.old }
+    ensures items { (cells : List Cell) (now : Cell) → index < length cells → slice_index_or cells index blank ≡ room_of room.now → now.before ≡ (room_of room.now).truth → waiting_of (slice_set cells index now) (take result waiting.new.items) ≡ noted (waiting_of cells (take count waiting.old.items)) index (room_of room.now) }
+    ensures count { result ≤ length waiting.new.items }
+    ensures capacity { vec_capacity waiting.old ≤ vec_capacity waiting.new }
+{
+    if is_waiting(index, &waiting[..count]) {
+        keep_truth(waiting.as_mut_slice(), count, index, room.before());
+        return count;
+    }
+    make_place(waiting, count);
+    note_in(&mut waiting[count], index, room);
+    count + 1
 }
 
 // Keeps this sector too, and those before it.
-fn keep(cells: &mut Vec<MemCell>, at: usize)
+fn keep(cells: &mut Vec<MemRoom>, at: usize)
     requires at { at < SECTORS }
     requires count { length cells.old.items ≤ SECTORS }
     requires space { SECTORS ≤ vec_capacity cells.old }
@@ -178,7 +358,9 @@ impl MemFace {
     {
         Ok(MemFace {
             cells: Vec::with_capacity(alloc, SECTORS as usize)?,
+            count: 0,
             waiting: Vec::with_capacity(alloc, SECTORS as usize)?,
+            zeros: Sector { bytes: [0; 512] },
         })
     }
 
@@ -190,9 +372,23 @@ impl MemFace {
     {
         let at = index as usize;
         if at < self.cells.len() {
-            self.cells[at]
+            self.cells[at].cell()
         } else {
-            zero()
+            zero().cell()
+        }
+    }
+
+    /// What a sector reads as, `None` where it can't be read.
+    pub fn reading(&self, index: u32) -> Option<&Sector>
+        requires face { IsMemFace self.now }
+        requires index { index < SECTORS }
+        ensures { option_map (λ s. s.now.bytes) result ≡ reads (face_of self.now) index }
+    {
+        let at = index as usize;
+        if at < self.cells.len() {
+            self.cells[at].reading()
+        } else {
+            Some(&self.zeros)
         }
     }
 
@@ -205,8 +401,7 @@ impl MemFace {
     {
         let at = index as usize;
         keep(&mut self.cells, at);
-        let was = self.cells[at];
-        self.cells[at] = shown(&sector.bytes, &was);
+        self.cells[at].show(&sector.bytes);
     }
 
     /// From now on a sector can't be read, until it is written.
@@ -218,8 +413,7 @@ impl MemFace {
     {
         let at = index as usize;
         keep(&mut self.cells, at);
-        let was = self.cells[at];
-        self.cells[at] = MemCell { reads: None, ..was };
+        self.cells[at].hide();
     }
 
     pub fn write(&mut self, index: u32, from: &Sector)
@@ -230,8 +424,8 @@ impl MemFace {
     {
         let at = index as usize;
         keep(&mut self.cells, at);
-        note(&mut self.waiting, index, &self.cells[at]);
-        set(&mut self.cells[at], &from.bytes);
+        self.count = note(&mut self.waiting, self.count, index, &self.cells[at]);
+        self.cells[at].write(&from.bytes);
     }
 
     pub fn sync(&mut self)
@@ -239,14 +433,15 @@ impl MemFace {
         ensures after { face_of self.new ≡ after (face_of self.old) Sync }
         ensures face { IsMemFace self.new }
     {
-        self.waiting.clear();
+        self.count = 0;
     }
 
     /// The digit of the code by which a sector that waits is settled, 0 where it doesn't wait.
     pub fn digit(&self, code: u64, index: u32) -> u64
+        requires { IsMemFace self.now }
         ensures { result ≡ digit_at code index (face_of self.now).waiting }
     {
-        digit(code, index, &self.waiting)
+        digit(code, index, &self.waiting[..self.count])
     }
 
     /// What a stop leaves of the sectors that wait.
@@ -255,7 +450,7 @@ impl MemFace {
         ensures after { face_of self.new ≡ settle code (face_of self.old) }
         ensures face { IsMemFace self.new }
     {
-        settle_all(code, &self.waiting, &mut self.cells);
-        self.waiting.clear();
+        settle_all(code, &self.waiting[..self.count], &mut self.cells);
+        self.count = 0;
     }
 }

@@ -1,5 +1,6 @@
 //! The disk in memory.
 ghost use Rattle.std.specs.Prelude.{◌≡◌, ◌-◌, ◌≤◌, Some, None, false, [], IfOk};
+ghost use Rattle.vr_disk.specs.DiskState.{nothing_beside};
 ghost use Rattle.vr_mem.specs.Honesty.{IsHonest};
 ghost use Rattle.vr_mem.specs.Seen.{copies, zero_cell};
 ghost use Rattle.vr_mem.specs.Cells.{disk_of};
@@ -23,6 +24,7 @@ impl MemDisk {
     pub fn new(alloc: Global) -> Result<MemDisk, NoMemory>
         ensures face { IfOk result (λ m. (told_by m).face ≡ record { cells = copies SECTORS zero_cell; waiting = [] }) }
         ensures fate { IfOk result (λ m. (told_by m).fate ≡ record { fuse = None; made = 0; failing = []; dead = false }) }
+        ensures beside { IfOk result (λ m. (told_by m).beside ≡ nothing_beside) }
         ensures faults { IfOk result (λ m. m.disk.faults ≡ 0) }
         ensures read_faults { IfOk result (λ m. m.disk.read_faults ≡ 0) }
     {

@@ -7,6 +7,7 @@ mod cells;
 mod disk;
 mod fate;
 mod laws;
+mod name;
 
 pub use cell_disk::CellDisk;
 pub use cells::{MemCell, damage};

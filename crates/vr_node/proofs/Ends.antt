@@ -125,18 +125,18 @@ unopened fresh c peers turns disk disk' left got taken sent a d d' w l s none ro
 
 -- ---- the disk
 
-pub attached : (fresh : Option Kind) (c : Config) (peers : List (List ℕ)) (turns : ℕ) (disk disk' : Option Disk) (left : Option (List ℕ)) (got : Option (List Arrival))
+pub attached : (fresh : Option Kind) (c : Config) (file : List ℕ) (peers : List (List ℕ)) (turns : ℕ) (disk disk' : Option Disk) (left : Option (List ℕ)) (got : Option (List Arrival))
     (taken : Option (List ℕ)) (sent : Option (List (Option Datagram))) (a : Option (List Attach)) (d d' k l : ℕ) (o' : Outside) (n : Counts) (s : Status)
-    → Attaches disk disk' true → d' ≡ d → EndsAttached fresh c peers turns (outside disk' left got taken sent a) o' (counts d' k l) n s
-    → NodeEnds fresh c peers turns (outside disk left got taken sent a) o' (counts d k l) n s
-attached fresh c peers turns disk disk' left got taken sent a d d' k l o' n s went same e =
+    → Attaches file disk disk' true → d' ≡ d → EndsAttached fresh c peers turns (outside disk' left got taken sent a) o' (counts d' k l) n s
+    → NodeEnds fresh c file peers turns (outside disk left got taken sent a) o' (counts d k l) n s
+attached fresh c file peers turns disk disk' left got taken sent a d d' k l o' n s went same e =
     inr (disk', went, subst (λ x. EndsAttached fresh c peers turns (outside disk' left got taken sent a) o' (counts x k l) n s) same e)
 
-pub unattached : (fresh : Option Kind) (c : Config) (peers : List (List ℕ)) (turns : ℕ) (disk disk' : Option Disk) (left : Option (List ℕ)) (got : Option (List Arrival))
+pub unattached : (fresh : Option Kind) (c : Config) (file : List ℕ) (peers : List (List ℕ)) (turns : ℕ) (disk disk' : Option Disk) (left : Option (List ℕ)) (got : Option (List Arrival))
     (taken : Option (List ℕ)) (sent : Option (List (Option Datagram))) (a : Option (List Attach)) (d d' k l : ℕ)
-    → Attaches disk disk' false → d' ≡ one_more d
-    → NodeEnds fresh c peers turns (outside disk left got taken sent a) (outside disk' left got taken sent a) (counts d k l) (counts d' k l) status.DiskFault
-unattached fresh c peers turns disk disk' left got taken sent a d d' k l went rose = inl (record { is = refl; failed = went; rose = omega (arith, rose); same = refl })
+    → Attaches file disk disk' false → d' ≡ one_more d
+    → NodeEnds fresh c file peers turns (outside disk left got taken sent a) (outside disk' left got taken sent a) (counts d k l) (counts d' k l) status.DiskFault
+unattached fresh c file peers turns disk disk' left got taken sent a d d' k l went rose = inl (record { is = refl; failed = went; rose = omega (arith, rose); same = refl })
 
 -- ---- no fault without its count
 

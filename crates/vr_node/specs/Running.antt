@@ -89,10 +89,10 @@ pub record Unopened (fresh : Option Kind) (c : Config) (o o' : Outside) (before 
   pub rose : status ≡ DiskFault → Rose before.disk now.disk
   pub same : o' ≡ on_disk o'.disk o
 
--- the disk couldn't be attached
-pub record Unattached (o o' : Outside) (before now : Counts) (status : Status) : Type 0 where
+-- the disk couldn't be attached by this name
+pub record Unattached (file : List ℕ) (o o' : Outside) (before now : Counts) (status : Status) : Type 0 where
   pub is : status ≡ DiskFault
-  pub failed : Attaches o.disk o'.disk false
+  pub failed : Attaches file o.disk o'.disk false
   pub rose : Rose before.disk now.disk
   pub same : o' ≡ on_disk o'.disk o
 
@@ -101,8 +101,8 @@ abbrev pub EndsAttached : Option Kind → Config → List (List ℕ) → ℕ →
 EndsAttached fresh c peers turns o o' before now status =
     Unopened fresh c o o' before now status ⊎ Ran fresh c peers turns o o' before now status
 
--- How a member of this number ends, made anew as a file of this kind or found again, whose group has these addresses and that is to serve so many turns: first its disk, then its superblock, then its link, then its events in turn
-abbrev pub NodeEnds : Option Kind → Config → List (List ℕ) → ℕ → Outside → Outside → Counts → Counts → Status → Type 0
-NodeEnds fresh c peers turns o o' before now status =
-    Unattached o o' before now status
-    ⊎ ((disk : Option Disk) × Attaches o.disk disk true × EndsAttached fresh c peers turns (on_disk disk o) o' before now status)
+-- How a member of this number ends, made anew as a file of this kind or found again, whose file has this name, whose group has these addresses and that is to serve so many turns: first its disk is attached by that name, and by no other, then come its superblock, its link, and its events in turn
+abbrev pub NodeEnds : Option Kind → Config → List ℕ → List (List ℕ) → ℕ → Outside → Outside → Counts → Counts → Status → Type 0
+NodeEnds fresh c file peers turns o o' before now status =
+    Unattached file o o' before now status
+    ⊎ ((disk : Option Disk) × Attaches file o.disk disk true × EndsAttached fresh c peers turns (on_disk disk o) o' before now status)

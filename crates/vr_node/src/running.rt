@@ -1,5 +1,5 @@
 //! The whole run of a member.
-ghost use Rattle.std.specs.Prelude.{◌≡◌, ◌<◌, ◌≤◌, is_some, true, vec_len};
+ghost use Rattle.std.specs.Prelude.{◌≡◌, ◌<◌, ◌≤◌, is_some, string_bytes, true, vec_len};
 ghost use Rattle.vr_base.specs.Groups.{quorums_of};
 ghost use Rattle.vr_edge.specs.Attaching.{texts_of};
 ghost use Rattle.vr_edge.specs.Failing.{LinkFailure};
@@ -140,7 +140,8 @@ pub fn run_node<D: SectorDisk, L: Link, C: Clock, K: Sink>(
     requires size { is_some (quorums_of role.now.config.n) ≡ true }
     requires member { role.now.config.replica < role.now.config.n }
     requires peers { role.now.config.n ≤ vec_len role.now.peers }
-    ensures ends { NodeEnds role.now.fresh role.now.config (texts_of role.now.peers.items) role.now.turns
+    // Its disk is attached by the name of its role's file.
+    ensures ends { NodeEnds role.now.fresh role.now.config (string_bytes role.now.file) (texts_of role.now.peers.items) role.now.turns
         (outside (D.told disk.old) (C.left clock.old) (L.received link.old) (K.taken sink.old) (L.sent link.old) (L.attached link.old))
         (outside (D.told disk.new) (C.left clock.new) (L.received link.new) (K.taken sink.new) (L.sent link.new) (L.attached link.new))
         (counts (D.faults disk.old) (K.faults sink.old) (L.faults link.old)) (counts (D.faults disk.new) (K.faults sink.new) (L.faults link.new)) result }

@@ -9,10 +9,11 @@ use Rattle.vr_disk.specs.DiskState.{Disk, Face, Runs, RunsFrom}
 use Rattle.vr_msg.specs.declared.output.Output.{Output}
 use Rattle.vr_super.specs.Calls.{mend_calls}
 use Rattle.vr_super.specs.Copies.{SuperValue, value_of, version_at}
-use Rattle.vr_super.proofs.Best.{Among, opened_among}
+use Rattle.vr_super.proofs.Best.{opened_among}
 use Rattle.vr_super.proofs.Format.{versioned}
+use Rattle.vr_super.proofs.Keeping.{among_good}
 use Rattle.vr_super.specs.Opens as superblock
-use Rattle.vr_super.specs.Opens.{copy_reading, good_copies, good_copy, if_good, found_as, found_of, opened}
+use Rattle.vr_super.specs.Opens.{good_copies, found_as, found_of, opened}
 use Rattle.vr_super.specs.declared.opening.Found.{Found}
 use Rattle.vr_super.specs.Recovers.{RecoversFrom, copy_verdict}
 use Rattle.vr_super.specs.declared.recovering.CopyVerdict.{CopyVerdict}
@@ -69,23 +70,6 @@ unfolding opening
 mended_then v q d d1 d2 o o' res m h = effect_then (λ r. Mend v) (after_mend v) (blank v) q d d1 d2 o o' res (mends v (blank v) d d1 true (runs_of v d d1 m)) h
 
 -- ---- the version of the file
-
--- a good copy has a value
-good_value : (r : Option (List ℕ)) (b : List ℕ) → if_good r ≡ Some b → value_of b ≡ None → ⊥
-good_value None b e n = absurd cc
-good_value (Some x) b e n =
-    elim (is_some (value_of x)) as (λ y. is_some (value_of x) ≡ y → cond y (Some x) None ≡ Some b → ⊥) [
-      | true ↦ λ y e. let same : x ≡ b = cc in let no : is_some (value_of x) ≡ false = ap (λ z. is_some (value_of z)) same ∙ ap is_some n in let bad : true ≡ false = sym y ∙ no in cc
-      | false ↦ λ y e. cc
-    ] refl e
-
-among_good : (f : Face) (b : List ℕ) → Among b (good_copies f) → value_of b ≡ None → ⊥
-unfolding good_copy
-among_good f b a n =
-    elim a [
-      | inl e ↦ good_value (copy_reading f 0) b e n
-      | inr a ↦ elim a [ inl e ↦ good_value (copy_reading f 1) b e n | inr a ↦ elim a [ inl e ↦ good_value (copy_reading f 2) b e n | inr a ↦ elim a [ inl e ↦ good_value (copy_reading f 3) b e n | inr a ↦ elim a [ ] ] ] ]
-    ]
 
 -- by the bytes that it opens as
 other_by : (f : Face) (o : Option (List ℕ)) → opened (good_copies f) ≡ o

@@ -1,5 +1,6 @@
 pub mod Cutting
 pub mod Entries
+pub mod Fronts
 pub mod Lasting
 pub mod Leaving
 pub mod Moving

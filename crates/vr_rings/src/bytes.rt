@@ -1,12 +1,13 @@
 //! The sectors of a slot, both ways.
-ghost use Rattle.std.specs.Prelude.{◌≡◌, ◌≤◌, length};
+ghost use Rattle.std.specs.Prelude.{◌≡◌, ◌≤◌, ◌+◌, length, min, replicate, take};
 ghost use Rattle.std.specs.Option.{option_map};
 ghost use Rattle.std.specs.Result.{result_ok};
 ghost use Rattle.vr_base.specs.Bytes.{IsBytes};
-ghost use Rattle.vr_header.specs.Made.{entry_of};
+ghost use Rattle.vr_base.specs.Versions.{body_limit};
+ghost use Rattle.vr_header.specs.Made.{entry_bytes, entry_of};
 ghost use Rattle.vr_header.specs.Spelling.{IsHeader, decoded};
 ghost use Rattle.vr_rings.specs.Held.{header_sector};
-ghost use Rattle.vr_rings.specs.Slots.{IsWhole, header_of, prepare_bytes, sector_of, whole_of};
+ghost use Rattle.vr_rings.specs.Slots.{IsWhole, header_of, in_front, prepare_bytes, sector_of, size_at, whole_of};
 
 use vr_base::{is_zeros, put, u32_at};
 use vr_disk::{Room, Sector, SectorDisk};
@@ -52,16 +53,17 @@ pub fn header_sector(prepare: &[u8]) -> Sector
     sector
 }
 
-/// The prepare of an entry, whatever the version of the file.
+/// Puts the prepare of an entry into zeros: as much of it as they are, which is all of the entry.
 #[tactic(auto, using(crate::proofs::Spelling::spelled_prepare))]
-pub fn prepare_of(entry: &Entry) -> [u8; 4096]
-    ensures bytes { result ≡ prepare_bytes entry.now }
-    ensures size { length (prepare_bytes entry.now) ≡ 4096 }
+pub fn put_prepare(entry: &Entry, to: &mut [u8])
+    requires zeros { to.old ≡ replicate (length to.old) 0 }
+    requires least { 128 + body_limit entry.now.header.version ≤ length to.old }
+    requires most { length to.old ≤ 4096 }
+    ensures bytes { to.new ≡ take (length to.old) (prepare_bytes entry.now) }
+    ensures size { length (entry_bytes entry.now) ≤ length to.old }
     ensures whole { IsWhole entry.now }
 {
-    let mut bytes = [0; 4096];
-    entry.put(&mut bytes);
-    bytes
+    entry.put(to);
 }
 
 /// The header that a header sector's bytes are, `None` exactly where they aren't a valid header and zeros.
@@ -115,6 +117,60 @@ fn entry_in<D: SectorDisk>(disk: &mut D, bytes: &[u8]) -> Option<Header>
     Entry::header_by(bytes, header, name)
 }
 
+// The header of the entry that so many of these bytes of a prepare are, `None` where they aren't a whole entry or where
+// anything but zeros stands behind them.
+fn whole_by<D: SectorDisk>(disk: &mut D, bytes: &[u8], size: usize) -> Option<Header>
+    requires size { size ≤ length bytes.now }
+    requires given { size ≡ min (size_at bytes.now) 4096 }
+    requires least { 128 ≤ length bytes.now }
+    requires most { length bytes.now ≤ 4096 }
+    ensures value { result ≡ option_map (λ e. e.header) (whole_of (in_front bytes.now)) }
+    ensures told { D.told disk.new ≡ D.told disk.old }
+    ensures faults { D.faults disk.new ≡ D.faults disk.old }
+    ensures reads { D.read_faults disk.new ≡ D.read_faults disk.old }
+{
+    let (entry, padding) = bytes.split_at(size);
+    if is_zeros(padding) {
+        entry_in(disk, entry)
+    } else {
+        None
+    }
+}
+
+// The header of the entry that these bytes are whose header tells that it goes on behind them, where zeros stand.
+fn whole_beyond<D: SectorDisk>(disk: &mut D, bytes: &[u8], size: usize) -> Option<Header>
+    requires given { size ≡ min (size_at bytes.now) 4096 }
+    requires least { 128 ≤ length bytes.now }
+    requires most { length bytes.now ≤ 4096 }
+    ensures value { result ≡ option_map (λ e. e.header) (whole_of (in_front bytes.now)) }
+    ensures told { D.told disk.new ≡ D.told disk.old }
+    ensures faults { D.faults disk.new ≡ D.faults disk.old }
+    ensures reads { D.read_faults disk.new ≡ D.read_faults disk.old }
+{
+    let mut room = [0; 4096];
+    put(&mut room, 0, bytes);
+    whole_by(disk, &room, size)
+}
+
+/// The header of the entry that the bytes of a prepare are, in front of zeros up to 4,096; `None` exactly where they aren't a
+/// whole entry and zeros.
+pub fn whole_front<D: SectorDisk>(disk: &mut D, bytes: &[u8]) -> Option<Header>
+    requires least { 128 ≤ length bytes.now }
+    requires most { length bytes.now ≤ 4096 }
+    ensures value { result ≡ option_map (λ e. e.header) (whole_of (in_front bytes.now)) }
+    ensures each { IsBytes (in_front bytes.now) }
+    ensures told { D.told disk.new ≡ D.told disk.old }
+    ensures faults { D.faults disk.new ≡ D.faults disk.old }
+    ensures reads { D.read_faults disk.new ≡ D.read_faults disk.old }
+{
+    let size = u32_at(bytes, 104).min(4096) as usize;
+    if size <= bytes.len() {
+        whole_by(disk, bytes, size)
+    } else {
+        whole_beyond(disk, bytes, size)
+    }
+}
+
 /// The header of the entry that the 4,096 bytes of a prepare are, `None` exactly where they aren't a whole entry and zeros.
 pub fn whole_of<D: SectorDisk>(disk: &mut D, bytes: &[u8]) -> Option<Header>
     requires { length bytes.now ≡ 4096 }
@@ -124,11 +180,5 @@ pub fn whole_of<D: SectorDisk>(disk: &mut D, bytes: &[u8]) -> Option<Header>
     ensures faults { D.faults disk.new ≡ D.faults disk.old }
     ensures reads { D.read_faults disk.new ≡ D.read_faults disk.old }
 {
-    let size = u32_at(bytes, 104).min(4096) as usize;
-    let (entry, padding) = bytes.split_at(size);
-    if is_zeros(padding) {
-        entry_in(disk, entry)
-    } else {
-        None
-    }
+    whole_front(disk, bytes)
 }

@@ -1,12 +1,14 @@
 //! Writing a slot.
-ghost use Rattle.std.specs.Prelude.{ℕ, ◌≡◌, [], IfSome, is_ok};
+ghost use Rattle.std.specs.Prelude.{ℕ, ◌≡◌, ◌≤◌, ◌*◌, [], IfSome, is_ok, length, replicate, take};
 ghost use Rattle.vr_base.specs.Causes.{HasCause};
 ghost use Rattle.vr_disk.specs.DiskState.{Runs};
+ghost use Rattle.vr_disk.specs.Regions.{prepare_sectors};
+ghost use Rattle.vr_header.specs.Made.{entry_bytes};
 ghost use Rattle.vr_rings.specs.Slots.{IsWhole, Takes, prepare_bytes, sector_of};
 ghost use Rattle.vr_rings.specs.Calls.{again_calls, header_calls, new_calls, prepare_calls};
 ghost use Rattle.vr_rings.specs.Laws.{AgainLeaves, HeaderLeaves, NewLeaves};
 
-use crate::bytes::{header_sector, prepare_of, sector_by};
+use crate::bytes::{header_sector, put_prepare, sector_by};
 use crate::slot::slot_of;
 use vr_base::Version;
 use vr_disk::{
@@ -15,15 +17,16 @@ use vr_disk::{
 };
 use vr_header::{Entry, Header};
 
-// Writes the sectors of an entry, whose prepare has these bytes, and syncs them.
-#[tactic(auto, using(vr_disk::proofs::Running::Runs_then, vr_disk::proofs::Running::Runs_stopped), unfolding(crate::specs::Calls::prepare_calls))]
-fn put_prepare<D: SectorDisk>(
+// Writes the sectors of an entry, whose prepare begins with these bytes, and syncs them.
+#[tactic(auto, using(vr_disk::proofs::Running::Runs_then, vr_disk::proofs::Running::Runs_stopped, crate::proofs::Spelling::front_written), unfolding(crate::specs::Calls::prepare_calls))]
+fn write_prepare<D: SectorDisk>(
     disk: &mut D,
     entry: &Entry,
-    bytes: &[u8; 4096],
+    bytes: &[u8],
     version: Version,
 ) -> Result<(), DiskFailed>
-    requires { bytes.now ≡ prepare_bytes entry.now }
+    requires bytes { bytes.now ≡ take (512 * prepare_sectors version) (prepare_bytes entry.now) }
+    requires size { length bytes.now ≡ 512 * prepare_sectors version }
     ensures runs { Runs (prepare_calls version entry.now) (D.told disk.old) (D.told disk.new) (is_ok result) }
     ensures cause { HasCause (D.faults disk.old) (D.faults disk.new) result }
 {
@@ -51,8 +54,9 @@ fn put_header<D: SectorDisk>(
 }
 
 // The disk takes note of the names of an entry's header and body.
-fn note<D: SectorDisk>(disk: &mut D, entry: &Entry, bytes: &[u8; 4096])
-    requires bytes { bytes.now ≡ prepare_bytes entry.now }
+fn note<D: SectorDisk>(disk: &mut D, entry: &Entry, bytes: &[u8])
+    requires bytes { bytes.now ≡ take (length bytes.now) (prepare_bytes entry.now) }
+    requires size { length (entry_bytes entry.now) ≤ length bytes.now }
     requires whole { IsWhole entry.now }
     ensures told { D.told disk.new ≡ D.told disk.old }
     ensures faults { D.faults disk.new ≡ D.faults disk.old }
@@ -65,9 +69,29 @@ fn note<D: SectorDisk>(disk: &mut D, entry: &Entry, bytes: &[u8; 4096])
     disk.keep_name(Room::Body(slot_of(&header)), body, header.body);
 }
 
+// Writes an entry to its slot, the prepare first, over this room for as much of it as the slot takes.
+#[tactic(auto, using(vr_disk::proofs::Running::Runs_then, vr_disk::proofs::Running::Runs_stopped, crate::proofs::Leaving::new_leaves))]
+fn new_over<D: SectorDisk>(
+    disk: &mut D,
+    entry: &Entry,
+    version: Version,
+    bytes: &mut [u8],
+) -> Result<(), DiskFault>
+    requires takes { Takes version entry.now }
+    requires zeros { bytes.old ≡ replicate (512 * prepare_sectors version) 0 }
+    ensures runs { Runs (new_calls version entry.now) (D.told disk.old) (D.told disk.new) (is_ok result) }
+    ensures cause { HasCause (D.faults disk.old) (D.faults disk.new) result }
+    ensures stop { IfSome (D.told disk.old) (λ d. d.face.waiting ≡ [] → NewLeaves version entry.now d.face) }
+{
+    put_prepare(entry, bytes);
+    note(disk, entry, bytes);
+    write_prepare(disk, entry, bytes, version)?;
+    put_header(disk, &entry.header(), &header_sector(bytes))?;
+    Ok(())
+}
+
 /// Writes an entry to its slot, which holds another one or none: the prepare first, then the header sector. It takes no
 /// memory.
-#[tactic(auto, using(vr_disk::proofs::Running::Runs_then, vr_disk::proofs::Running::Runs_stopped, crate::proofs::Leaving::new_leaves))]
 pub fn write_new<D: SectorDisk>(
     disk: &mut D,
     entry: &Entry,
@@ -81,15 +105,36 @@ pub fn write_new<D: SectorDisk>(
     // prepare synced already; and the premise on slots is kept.
     ensures stop { IfSome (D.told disk.old) (λ d. d.face.waiting ≡ [] → NewLeaves version entry.now d.face) }
 {
-    let bytes = prepare_of(entry);
-    note(disk, entry, &bytes);
-    put_prepare(disk, entry, &bytes, version)?;
-    put_header(disk, &entry.header(), &header_sector(&bytes))?;
+    if version.get() == 2 {
+        new_over(disk, entry, version, &mut [0; 4096])
+    } else {
+        new_over(disk, entry, version, &mut [0; 2048])
+    }
+}
+
+// Writes an entry to its slot, the header sector first, over this room for as much of its prepare as the slot takes.
+#[tactic(auto, using(vr_disk::proofs::Running::Runs_then, vr_disk::proofs::Running::Runs_stopped, crate::proofs::Leaving::again_leaves))]
+fn again_over<D: SectorDisk>(
+    disk: &mut D,
+    entry: &Entry,
+    version: Version,
+    prepare: &mut [u8],
+) -> Result<(), DiskFault>
+    requires takes { Takes version entry.now }
+    requires zeros { prepare.old ≡ replicate (512 * prepare_sectors version) 0 }
+    ensures runs { Runs (again_calls version entry.now) (D.told disk.old) (D.told disk.new) (is_ok result) }
+    ensures cause { HasCause (D.faults disk.old) (D.faults disk.new) result }
+    ensures stop { IfSome (D.told disk.old) (λ d. d.face.waiting ≡ [] → AgainLeaves version entry.now d.face) }
+{
+    put_prepare(entry, prepare);
+    note(disk, entry, prepare);
+    let sector = header_sector(prepare);
+    put_header(disk, &entry.header(), &sector)?;
+    write_prepare(disk, entry, prepare, version)?;
     Ok(())
 }
 
 /// Writes an entry to its slot, which may hold it already: the header sector first, then the prepare. It takes no memory.
-#[tactic(auto, using(vr_disk::proofs::Running::Runs_then, vr_disk::proofs::Running::Runs_stopped, crate::proofs::Leaving::again_leaves))]
 pub fn write_again<D: SectorDisk>(
     disk: &mut D,
     entry: &Entry,
@@ -103,12 +148,11 @@ pub fn write_again<D: SectorDisk>(
     // sector synced already; and the premise on slots is kept.
     ensures stop { IfSome (D.told disk.old) (λ d. d.face.waiting ≡ [] → AgainLeaves version entry.now d.face) }
 {
-    let prepare = prepare_of(entry);
-    note(disk, entry, &prepare);
-    let sector = header_sector(&prepare);
-    put_header(disk, &entry.header(), &sector)?;
-    put_prepare(disk, entry, &prepare, version)?;
-    Ok(())
+    if version.get() == 2 {
+        again_over(disk, entry, version, &mut [0; 4096])
+    } else {
+        again_over(disk, entry, version, &mut [0; 2048])
+    }
 }
 
 /// Writes the header sector of a slot alone, as an opening does whose prepare reads whole. It takes no memory.

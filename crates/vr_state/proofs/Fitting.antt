@@ -34,7 +34,7 @@ use Rattle.vr_state.proofs.SessionSteps.{IsMap-put, IsMap-without, length_put, l
 
 -- ---- the word and the facts
 
-outcome_is : (v : ℕ) (o : Outcome) → outcome_fits v o ≡ true → IsOutcome v o
+pub outcome_is : (v : ℕ) (o : Outcome) → outcome_fits v o ≡ true → IsOutcome v o
 outcome_is v outcome.Session h = tt
 outcome_is v outcome.Ok h = tt
 outcome_is v outcome.Full h = tt

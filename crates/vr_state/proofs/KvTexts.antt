@@ -88,7 +88,7 @@ pair_only bytes are e rest is =
 pub pair_reader : IsReader pair_text Fits pair_from
 pair_reader = record { reads = pair_reads; only = pair_only }
 
-length-pair_text : (e : List ℕ × List ℕ) → Fits e → length (pair_text e) ≤ pair_bytes
+length-pair_text : (e : List ℕ × List ℕ) → Fits e → length (pair_text e) ≤ pair_bytes 2
 unfolding pair_text
 length-pair_text e fits = simp (length-append, length-bytes16) (omega (arith, key_length e.0 fits.key, value_length e.1 fits.value))
 
@@ -97,15 +97,15 @@ pub length_of_pair : (e : List ℕ × List ℕ) → length (pair_text e) ≡ 3 +
 unfolding pair_text
 length_of_pair e = simp (length-append, length-bytes16) (omega arith)
 
-length-pairs : (m : Map) → AllByRecursion Fits m → length (flat_map pair_text m) ≤ pair_bytes * length m
+length-pairs : (m : Map) → AllByRecursion Fits m → length (flat_map pair_text m) ≤ pair_bytes 2 * length m
 length-pairs [] h = omega arith
 length-pairs (e ∷ es) h = simp length-append (omega (arith, length-pair_text e h.0, length-pairs es h.1))
 
 -- so much are all texts, without their count
-pub pairs_bound : (m : Map) → IsKv m → 2 + length (flat_map pair_text m) ≤ kv_bytes
+pub pairs_bound : (m : Map) → IsKv m → 2 + length (flat_map pair_text m) ≤ kv_bytes 2
 pairs_bound m kv = omega (arith, length-pairs m kv.fit, kv.few)
 
-pub length-kv_text : (m : Map) → IsKv m → length (kv_text m) ≤ kv_bytes
+pub length-kv_text : (m : Map) → IsKv m → length (kv_text m) ≤ kv_bytes 2
 unfolding table_text
 length-kv_text m kv = simp (length-append, length-bytes16) (omega (arith, pairs_bound m kv))
 

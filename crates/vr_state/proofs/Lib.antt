@@ -12,6 +12,7 @@ pub mod Eldest
 pub mod Lookups
 pub mod SessionNumbers
 pub mod Fitting
+mod Lengths
 pub mod Spelled
 pub mod SessionSteps
 pub mod Values

@@ -172,19 +172,19 @@ length-outcome_bytes outcome.Full fits = omega arith
 length-outcome_bytes outcome.Absent fits = omega arith
 length-outcome_bytes (outcome.Value value) fits = simp (length-append, length-bytes16) (omega (arith, value_length value fits))
 
-length-session_text : (e : ℕ × Session) → Fits e → length (session_text e) ≤ session_bytes
+length-session_text : (e : ℕ × Session) → Fits e → length (session_text e) ≤ session_bytes 2
 unfolding session_text
 length-session_text e fits = simp (length-append, length-bytes64, length-bytes32) (omega (arith, length-outcome_bytes e.1.outcome fits.outcome))
 
-length-texts : (m : Map) → AllByRecursion Fits m → length (flat_map session_text m) ≤ session_bytes * length m
+length-texts : (m : Map) → AllByRecursion Fits m → length (flat_map session_text m) ≤ session_bytes 2 * length m
 length-texts [] h = omega arith
 length-texts (e ∷ es) h = simp length-append (omega (arith, length-session_text e h.0, length-texts es h.1))
 
 -- so much are all texts, without their count
-pub texts_bound : (m : Map) → IsSessions m → 2 + length (flat_map session_text m) ≤ sessions_bytes
+pub texts_bound : (m : Map) → IsSessions m → 2 + length (flat_map session_text m) ≤ sessions_bytes 2
 texts_bound m held = omega (arith, length-texts m held.fit, held.few)
 
-pub length-sessions_text : (m : Map) → IsSessions m → length (sessions_text m) ≤ sessions_bytes
+pub length-sessions_text : (m : Map) → IsSessions m → length (sessions_text m) ≤ sessions_bytes 2
 unfolding table_text
 length-sessions_text m held = simp (length-append, length-bytes16) (omega (arith, texts_bound m held))
 

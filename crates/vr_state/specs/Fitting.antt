@@ -2,19 +2,23 @@
 use Rattle.std.specs.Prelude.{ℕ, ◌≤◌, Bool, true, ◌&&◌, IsTrue, ⊤, nat_le, length}
 use Rattle.std.specs.List.{AllByRecursion, list_all}
 use Rattle.std.specs.Ordering.{nat_cmp}
-use Rattle.vr_base.specs.Versions.{session_limit, value_limit}
+use Rattle.vr_base.specs.Versions.{by_version, session_limit, value_limit}
 use Rattle.vr_header.specs.Bodies.{IsOutcome}
 use Rattle.vr_header.specs.Text.{is_text}
 use Rattle.vr_header.specs.declared.outcome.Outcome.{Outcome}
 use Rattle.vr_header.specs.declared.outcome.Outcome.TheVariants as outcome
 use Rattle.vr_state.specs.Finite.{is_sorted, IsMap}
 use Rattle.vr_state.specs.Kv as kv
+use Rattle.vr_state.specs.Pairs.{kv_bytes}
+use Rattle.vr_state.specs.SessionTexts.{sessions_bytes}
+use Rattle.vr_state.specs.StateTexts.{key_payloads, payloads, session_payloads}
 use Rattle.vr_state.specs.Sessions as sess
 use Rattle.vr_state.specs.declared.reply.ReplyBody.{ReplyBody}
 use Rattle.vr_state.specs.declared.reply.ReplyBody.TheVariants as reply
 use Rattle.vr_state.specs.declared.session.SessionAnswer.{SessionAnswer}
 use Rattle.vr_state.specs.declared.session.SessionAnswer.TheVariants as answer
 use Rattle.vr_state.specs.declared.state.State.{State}
+use Rattle.vr_state.specs.declared.texts.Texts.{Texts}
 
 abbrev pub outcome_fits : ℕ → Outcome → Bool
 outcome_fits v outcome.Session = true
@@ -40,6 +44,13 @@ pub record Fits (v : ℕ) (s : State) : Type 0 where
   pub few : length s.sessions ≤ session_limit v
   pub outcomes : AllByRecursion (λ e. IsOutcome v e.1.outcome) s.sessions
   pub values : AllByRecursion (λ p. IsTrue (is_text (value_limit v) p.1)) s.machine
+
+-- the texts of a state that fits a version: no longer, and with no more payloads, than the version allows
+pub record AreWithin (v : ℕ) (t : Texts) : Type 0 where
+  pub sessions : length t.sessions ≤ sessions_bytes v
+  pub keys : length t.keys ≤ kv_bytes v
+  pub few_sessions : payloads (length t.sessions) ≤ by_version v 9 session_payloads
+  pub few_keys : payloads (length t.keys) ≤ by_version v 36 key_payloads
 
 -- what the sessions answer has an outcome of this version, if it has one
 abbrev pub AnswerFits : ℕ → SessionAnswer → Type 0

@@ -19,9 +19,9 @@ pub record Fits (pair : List ℕ × List ℕ) : Type 0 where
 unfoldable pub pair_text : List ℕ × List ℕ → List ℕ
 pair_text pair = length pair.0 ∷ (bytes16 (length pair.1) ++ (pair.0 ++ pair.1))
 
--- the most bytes of such a text
-abbrev pub pair_bytes : ℕ
-pair_bytes = 3 + 64 + value_limit 2
+-- the most bytes of such a text, of a value of a version
+abbrev pub pair_bytes : ℕ → ℕ
+pair_bytes v = 3 + 64 + value_limit v
 
 -- the pieces of a pair that the bytes begin with, and the bytes behind them
 unfoldable pub pieces_from : List ℕ → Option ((List ℕ × List ℕ) × List ℕ)
@@ -39,8 +39,8 @@ abbrev pub kv_text : List (List ℕ × List ℕ) → List ℕ
 kv_text m = table_text pair_text m
 
 -- the most bytes of a machine's text
-abbrev pub kv_bytes : ℕ
-kv_bytes = 2 + 128 * pair_bytes
+abbrev pub kv_bytes : ℕ → ℕ
+kv_bytes v = 2 + 128 * pair_bytes v
 
 -- the machine of a text, or the first fault
 abbrev pub kv_decoded : List ℕ → Result (List (List ℕ × List ℕ)) StateFault

@@ -19,9 +19,9 @@ use Rattle.vr_state.specs.Sessions.{Map, last_op}
 unfoldable pub session_text : ℕ × Session → List ℕ
 session_text e = bytes64 e.0 ++ (bytes32 e.1.number ++ (bytes64 e.1.op ++ outcome_bytes e.1.outcome))
 
--- the most bytes of such a text: the outcome has its kind, and the longest value behind its length
-abbrev pub session_bytes : ℕ
-session_bytes = 8 + 4 + 8 + 3 + value_limit 2
+-- the most bytes of such a text: the outcome has its kind, and the longest value of a version behind its length
+abbrev pub session_bytes : ℕ → ℕ
+session_bytes v = 8 + 4 + 8 + 3 + value_limit v
 
 -- the value behind its length of two bytes
 unfoldable pub value_from : List ℕ → Option (Outcome × List ℕ)
@@ -56,8 +56,8 @@ abbrev pub sessions_text : Map → List ℕ
 sessions_text m = table_text session_text m
 
 -- the most bytes of the text of all sessions
-abbrev pub sessions_bytes : ℕ
-sessions_bytes = 2 + session_limit 2 * session_bytes
+abbrev pub sessions_bytes : ℕ → ℕ
+sessions_bytes v = 2 + session_limit v * session_bytes v
 
 -- the sessions of a text, or the first fault
 abbrev pub sessions_decoded : List ℕ → Result Map StateFault

@@ -41,8 +41,8 @@ abbrev pub IsFirstFaultOf : Texts → StateFault → Type 0
 IsFirstFaultOf t fault = IsFirstFault nat_cmp session_text sess.Fits (session_limit 2) t.sessions fault ⊎ IsFaultOfKeys t fault
 
 -- the most bytes of both texts together
-abbrev pub state_bytes : ℕ
-state_bytes = sessions_bytes + kv_bytes
+abbrev pub state_bytes : ℕ → ℕ
+state_bytes v = sessions_bytes v + kv_bytes v
 
 -- so many payloads of 3,968 bytes hold a text of this length
 abbrev pub payloads : ℕ → ℕ

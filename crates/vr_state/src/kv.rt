@@ -1,5 +1,5 @@
 //! The machine as a sorted vector of pairs.
-ghost use Rattle.std.specs.Prelude.{◌≡◌, ℕ, List, [], ◌∷◌, ◌++◌, ◌≤◌, length, Ok, IfOk, IfErr, OnErr};
+ghost use Rattle.std.specs.Prelude.{◌≡◌, ℕ, true, List, [], ◌∷◌, ◌++◌, ◌≤◌, length, Ok, IfOk, IfErr, OnErr};
 ghost use Rattle.vr_header.specs.declared.operation.Operation.{Operation};
 ghost use Rattle.vr_state.specs.Fitting.{keys_fit};
 ghost use Rattle.vr_state.specs.Kv.{applied, putting, getting, deleting, machine_after, IsKv};
@@ -97,7 +97,8 @@ impl Kv {
     /// its length in one byte, its value's in two, the key, the value. It is made with one allocation.
     pub fn encode_state(&self) -> Result<ByteList, NoMemory>
         ensures text { IfOk result (λ text. text ≡ kv_text self.now) }
-        ensures length { IfOk result (λ text. length text ≤ kv_bytes) }
+        ensures length { IfOk result (λ text. length text ≤ kv_bytes 2) }
+        ensures within { IfOk result (λ text. (version : ℕ) → keys_fit version self.now ≡ true → length text ≤ kv_bytes version) }
         ensures back { IfOk result (λ text. kv_decoded text ≡ Ok self.now) }
         ensures one_text { (other : List (List ℕ × List ℕ)) → IsKv other → kv_text other ≡ kv_text self.now → other ≡ self.now }
     {

@@ -1,5 +1,5 @@
 //! The sessions of a replica.
-ghost use Rattle.std.specs.Prelude.{◌≡◌, List, [], ◌∷◌, ◌++◌, ◌≤◌, length, Ok, IfOk, IfErr, OnOk, OnErr};
+ghost use Rattle.std.specs.Prelude.{◌≡◌, ℕ, true, List, [], ◌∷◌, ◌++◌, ◌≤◌, length, Ok, IfOk, IfErr, OnOk, OnErr};
 ghost use Rattle.std.specs.Ordering.{nat_cmp};
 ghost use Rattle.vr_base.specs.Versions.{session_limit};
 ghost use Rattle.vr_state.specs.Fitting.{sessions_fit};
@@ -143,7 +143,8 @@ impl Sessions {
     /// client in eight bytes, the request in four, the op in eight, the outcome. It is made with one allocation.
     pub fn encode_state(&self) -> Result<ByteList, NoMemory>
         ensures text { IfOk result (λ text. text ≡ sessions_text self.now) }
-        ensures length { IfOk result (λ text. length text ≤ sessions_bytes) }
+        ensures length { IfOk result (λ text. length text ≤ sessions_bytes 2) }
+        ensures within { IfOk result (λ text. (version : ℕ) → sessions_fit version self.now ≡ true → length text ≤ sessions_bytes version) }
         ensures back { IfOk result (λ text. sessions_decoded text ≡ Ok self.now) }
         ensures one_text { (other : Map) → IsSessions other → sessions_text other ≡ sessions_text self.now → other ≡ self.now }
     {

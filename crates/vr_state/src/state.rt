@@ -1,10 +1,10 @@
 //! Sessions and machine together.
-ghost use Rattle.std.specs.Prelude.{◌≡◌, ◌≤◌, ◌+◌, List, [], ◌∷◌, ◌++◌, length, Ok, IfOk, IfErr, OnErr};
+ghost use Rattle.std.specs.Prelude.{ℕ, true, ◌≡◌, ◌≤◌, ◌+◌, List, [], ◌∷◌, ◌++◌, length, Ok, IfOk, IfErr, OnErr};
 ghost use Rattle.vr_header.specs.Made.{Whole};
 ghost use Rattle.vr_state.specs.Kv.{IsKv};
 ghost use Rattle.vr_state.specs.Sessions.{checked, IsSessions};
 ghost use Rattle.vr_state.specs.Table.{IsOrNoMemory};
-ghost use Rattle.vr_state.specs.Fitting.{fits};
+ghost use Rattle.vr_state.specs.Fitting.{AreWithin, fits};
 ghost use Rattle.vr_state.specs.Folds.{empty, applied, executed, answered, state_after, LeavesOneTable, EachOnce};
 ghost use Rattle.vr_state.specs.StateTexts.{texts_of, state_decoded, state_bytes, IsFirstFaultOf, FitsPayloads, TextsHaveNumbers};
 ghost use Rattle.vr_state.specs.declared.state.State.{State};
@@ -110,10 +110,11 @@ impl State {
         self.sessions.fits(version) && self.machine.fits(version)
     }
 
-    /// The two texts of this state, apart, of at most 586,052 bytes together.
+    /// The two texts of this state, apart, of at most 586,052 bytes together; of a state that fits version 1, at most 173,156.
     pub fn encode_state(&self) -> Result<Texts, NoMemory>
         ensures texts { IfOk result (λ texts. texts ≡ texts_of self.now) }
-        ensures size { IfOk result (λ texts. length texts.sessions + length texts.keys ≤ state_bytes) }
+        ensures size { IfOk result (λ texts. length texts.sessions + length texts.keys ≤ state_bytes 2) }
+        ensures within { IfOk result (λ texts. (version : ℕ) → fits version self.now ≡ true → AreWithin version texts) }
         ensures payloads { IfOk result FitsPayloads }
         ensures back { IfOk result (λ texts. state_decoded texts ≡ Ok self.now) }
         ensures one_text { IfOk result (λ texts. (other : State) → IsSessions other.sessions → IsKv other.machine → texts_of other ≡ texts → other ≡ self.now) }

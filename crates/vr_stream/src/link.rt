@@ -118,6 +118,8 @@ impl<T: Streams> Link for StreamLink<T> {
         ensures received { Grows (⟦<StreamLink<T> as Link>⟧.received self.old) (⟦<StreamLink<T> as Link>⟧.received self.new) (received_by result to.new.items ∷ []) }
         ensures room { RECEIVE_ROOM ≤ vec_capacity to.new }
         ensures others { self.new.framed.send_faults ≡ self.old.framed.send_faults }
+        // one that told its receives tells them still, where its streams do
+        ensures told { self.new.is_told ≡ self.old.is_told }
         ensures heard { IsReceived (framing self.old.framed.framer) (T.calls self.old.framed.streams) (T.polled self.old.framed.streams) (framing self.new.framed.framer) (T.calls self.new.framed.streams) (T.polled self.new.framed.streams) to.new.items result }
     {
         self.framed.receive(to)

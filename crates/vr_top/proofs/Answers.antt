@@ -130,10 +130,10 @@ attached s (Some kind) c peers turns o o' b n (inl x) = made_none s kind c o.dis
 attached s None c peers turns o o' b n (inl x) = found_none s c o.disk o'.disk x.why
 attached s fresh c peers turns o o' b n (inr x) = grouped s peers c.replica turns x.first x.node (node.on_disk x.disk o) o' b n x.ends
 
-pub of_node : (s : Status) (fresh : Option Kind) (c : Config) (peers : List (List ℕ)) (turns : ℕ) (o o' : node.Outside) (b n : serve.Counts)
-    → node.NodeEnds fresh c peers turns o o' b n s → node_gives s ≡ true
-of_node s fresh c peers turns o o' b n (inl x) = it_may node_gives s status.DiskFault x.is refl
-of_node s fresh c peers turns o o' b n (inr x) = attached s fresh c peers turns (node.on_disk x.0 o) o' b n x.2
+pub of_node : (s : Status) (fresh : Option Kind) (c : Config) (file : List ℕ) (peers : List (List ℕ)) (turns : ℕ) (o o' : node.Outside) (b n : serve.Counts)
+    → node.NodeEnds fresh c file peers turns o o' b n s → node_gives s ≡ true
+of_node s fresh c file peers turns o o' b n (inl x) = it_may node_gives s status.DiskFault x.is refl
+of_node s fresh c file peers turns o o' b n (inr x) = attached s fresh c peers turns (node.on_disk x.0 o) o' b n x.2
 
 -- ---- an ask, of a client or of a trial
 

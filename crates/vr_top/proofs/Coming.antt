@@ -76,12 +76,13 @@ pub node_fits : (w : NodeWords) → (config_of (node_says w)).n ≤ vec_len w.pe
 node_fits w = let same : length (map string_bytes w.peers.items) ≡ vec_len w.peers = node_peers w in omega (arith, same)
 
 -- the run of a member in its role is that of its words
-pub by_role : (fresh fresh' : Option Kind) (c c' : Config) (peers peers' : List (List ℕ)) (turns turns' : ℕ) (o o' : node.Outside) (b n : serve.Counts) (s : Status)
-    → fresh ≡ fresh' → c ≡ c' → peers ≡ peers' → turns ≡ turns' → node.NodeEnds fresh c peers turns o o' b n s → node.NodeEnds fresh' c' peers' turns' o o' b n s
-by_role fresh fresh' c c' peers peers' turns turns' o o' b n s f k p t e =
-    subst (λ x. node.NodeEnds x c' peers' turns' o o' b n s) f
-    (subst (λ x. node.NodeEnds fresh x peers' turns' o o' b n s) k
-    (subst (λ x. node.NodeEnds fresh c x turns' o o' b n s) p (subst (λ x. node.NodeEnds fresh c peers x o o' b n s) t e)))
+pub by_role : (fresh fresh' : Option Kind) (c c' : Config) (file file' : List ℕ) (peers peers' : List (List ℕ)) (turns turns' : ℕ) (o o' : node.Outside) (b n : serve.Counts) (s : Status)
+    → fresh ≡ fresh' → c ≡ c' → file ≡ file' → peers ≡ peers' → turns ≡ turns' → node.NodeEnds fresh c file peers turns o o' b n s → node.NodeEnds fresh' c' file' peers' turns' o o' b n s
+by_role fresh fresh' c c' file file' peers peers' turns turns' o o' b n s f k q p t e =
+    subst (λ x. node.NodeEnds x c' file' peers' turns' o o' b n s) f
+    (subst (λ x. node.NodeEnds fresh x file' peers' turns' o o' b n s) k
+    (subst (λ x. node.NodeEnds fresh c x peers' turns' o o' b n s) q
+    (subst (λ x. node.NodeEnds fresh c file x turns' o o' b n s) p (subst (λ x. node.NodeEnds fresh c file peers x o o' b n s) t e))))
 
 -- ---- a client's words
 
@@ -193,12 +194,12 @@ soaks words o o' s e same =
     }
 
 pub serves : {S K D L C P : Type 0} (a : NodeAsked) (o o' : Outside S K D L C P) (s : Status)
-    → node.NodeEnds a.fresh (config_of a) a.peers a.turns (of_member o) (of_member o') (member_counts o) (member_counts o') s
+    → node.NodeEnds a.fresh (config_of a) a.file a.peers a.turns (of_member o) (of_member o') (member_counts o) (member_counts o') s
     → o'.disk.faults ≡ disk_after s o.disk.faults → o'.sink.faults ≡ writes_after s o.sink.faults
     → o'.link.faults ≡ links_after s o.link.faults → (s ≡ status.LinkFault → LinkOf o o')
     → o' ≡ record o { sink = o'.sink; disk = o'.disk; link = o'.link; clock = o'.clock } → Ends (Some (Node a)) o o' s
 serves a o o' s e d w k l same =
-    let may = of_node s a.fresh (config_of a) a.peers a.turns (of_member o) (of_member o') (member_counts o) (member_counts o') e in
+    let may = of_node s a.fresh (config_of a) a.file a.peers a.turns (of_member o) (of_member o') (member_counts o) (member_counts o') e in
     record {
       does = inl (record { ends = e; others = same });
       answer = may;

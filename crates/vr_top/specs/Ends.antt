@@ -56,9 +56,9 @@ pub record Soaks {S K D L C P : Type 0} (words : SoakWords) (o o' : Outside S K 
   pub ends : SoakEnds o.sink.faults o'.sink.faults o.sink.taken o'.sink.taken (soak_text words.seed words.count) status
   pub others : o' ≡ record o { sink = o'.sink }
 
--- `node ..`: the run of a member, which reads nothing and starts no program
+-- `node ..`: the run of a member on the file of that name, which reads nothing and starts no program
 pub record Serves {S K D L C P : Type 0} (a : NodeAsked) (o o' : Outside S K D L C P) (status : Status) : Type 0 where
-  pub ends : node.NodeEnds a.fresh (config_of a) a.peers a.turns (of_member o) (of_member o') (member_counts o) (member_counts o') status
+  pub ends : node.NodeEnds a.fresh (config_of a) a.file a.peers a.turns (of_member o) (of_member o') (member_counts o) (member_counts o') status
   pub others : o' ≡ record o { sink = o'.sink; disk = o'.disk; link = o'.link; clock = o'.clock }
 
 -- `client ..`: the run of a client, which has no disk, looks at no clock and starts no program

@@ -1,5 +1,5 @@
 //! The roles that words ask for: a member's, a client's and a trial's run, each with these words.
-ghost use Rattle.std.specs.Prelude.{◌≡◌};
+ghost use Rattle.std.specs.Prelude.{◌≡◌, string_bytes};
 ghost use Rattle.vr_ask.specs.Asking.{faults as client_faults};
 ghost use Rattle.vr_ask.specs.Run.{ClientEnds, outside as client_outside};
 ghost use Rattle.vr_base.specs.Causes.{Rose};
@@ -30,6 +30,7 @@ fn role_of(words: NodeWords) -> Role
     requires { IsGood (Node (node_says words)) }
     ensures config { result.config ≡ config_of (node_says words) }
     ensures others { (result.fresh ≡ words.fresh) × (result.turns ≡ words.turns) }
+    ensures file { result.file ≡ words.file }
     ensures peers { result.peers ≡ words.peers }
 {
     Role {
@@ -56,7 +57,7 @@ pub fn serve_role<K: Sink, D: SectorDisk, L: Link, C: Clock>(
     clock: &mut C,
 ) -> Status
     requires { IsGood (Node (node_says words)) }
-    ensures ends { NodeEnds words.fresh (config_of (node_says words)) (node_says words).peers words.turns
+    ensures ends { NodeEnds words.fresh (config_of (node_says words)) (string_bytes words.file) (node_says words).peers words.turns
         (member_outside (D.told disk.old) (C.left clock.old) (L.received link.old) (K.taken sink.old) (L.sent link.old) (L.attached link.old))
         (member_outside (D.told disk.new) (C.left clock.new) (L.received link.new) (K.taken sink.new) (L.sent link.new) (L.attached link.new))
         (counts (D.faults disk.old) (K.faults sink.old) (L.faults link.old)) (counts (D.faults disk.new) (K.faults sink.new) (L.faults link.new)) result }

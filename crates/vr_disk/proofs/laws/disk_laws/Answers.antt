@@ -1,5 +1,5 @@
 use Rattle.vr_disk.proofs.Running.{after_is}
-use Rattle.vr_disk.proofs.Stopping.{stops_are, cuts_both, nothing_left, barrier}
+use Rattle.vr_disk.proofs.Stopping.{stops_are, cuts_both, nothing_left, barrier, name_stays}
 use Rattle.vr_disk.proofs.Fuses.{fuse_leaves, armed_goes_off}
 use Rattle.vr_disk.proofs.Frames.{spared}
 use Rattle.vr_disk.proofs.Outcomes.{cut_leaves}
@@ -18,4 +18,5 @@ returns c = record {
   faces = stay_faces;
   nothing = nothing_left;
   barrier = barrier;
+  name = name_stays;
 }

@@ -1,6 +1,6 @@
-use Rattle.std.proofs.Common.{◌<◌, ◌∙◌, length, arith, sym, [], None}
+use Rattle.std.proofs.Common.{◌<◌, ◌∙◌, length, arith, sym, [], false}
 use Rattle.vr_disk.specs.declared.sector.Sector.{Sector}
-use Rattle.vr_mem.specs.declared.cells.MemCell.{MemCell}
+use Rattle.vr_mem.specs.declared.cells.MemReads.TheVariants as reads
 use Rattle.vr_mem.specs.declared.cells.MemWaiting.{MemWaiting}
 use Rattle.std.proofs.lemmas.Bool.{eq-eqb, ne_eqb}
 use Rattle.vr_mem.proofs.Settling.{digit_here, digit_later, digit_past}
@@ -9,21 +9,18 @@ use Rattle.vr_mem.proofs.cells.digit.Goals as goal
 abbrev no_sector : Sector
 no_sector = record { bytes = [] }
 
-abbrev no_cell : MemCell
-no_cell = record { truth = no_sector; reads = None; before = no_sector }
-
 abbrev no_waiting : MemWaiting
-no_waiting = record { index = 0; was = no_cell }
+no_waiting = record { index = 0; again = false; truth = no_sector; reads = reads.Truth; lie = no_sector; before = no_sector }
 
 pub loop-w-preserved : goal.loop-w-preserved
-loop-w-preserved c =
+loop-w-preserved c cells =
     let l : c.loop-w.w-index < length c.args.waiting.now = omega arith in
-    sym (digit_later c.loop-w.rest c.args.index c.args.waiting.now c.loop-w.w-index no_waiting l (ne_eqb _ _ c.if-w-index.false)) ∙ c.loop-w.invariant
+    sym (digit_later c.loop-w.rest c.args.index cells c.args.waiting.now c.loop-w.w-index no_waiting l (ne_eqb _ _ c.if-w-index.false)) ∙ c.loop-w.invariant cells
 
 pub returns-then-w-index : goal.returns-then-w-index
-returns-then-w-index c =
+returns-then-w-index c cells =
     let l : c.loop-w.w-index < length c.args.waiting.now = omega arith in
-    sym (digit_here c.loop-w.rest c.args.index c.args.waiting.now c.loop-w.w-index no_waiting l (eq-eqb _ _ c.if-w-index.true)) ∙ c.loop-w.invariant
+    sym (digit_here c.loop-w.rest c.args.index cells c.args.waiting.now c.loop-w.w-index no_waiting l (eq-eqb _ _ c.if-w-index.true)) ∙ c.loop-w.invariant cells
 
 pub returns : goal.returns
-returns c = sym (digit_past c.loop-w.rest c.args.index c.args.waiting.now c.loop-w.w-index (omega arith)) ∙ c.loop-w.invariant
+returns c cells = sym (digit_past c.loop-w.rest c.args.index cells c.args.waiting.now c.loop-w.w-index (omega arith)) ∙ c.loop-w.invariant cells

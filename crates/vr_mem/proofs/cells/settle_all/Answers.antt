@@ -1,27 +1,31 @@
-use Rattle.std.proofs.Common.{◌<◌, length, arith, sym, ◌∙◌, length-set, [], None}
+use Rattle.std.proofs.Common.{◌<◌, length, arith, sym, ◌∙◌, length-set, [], false}
 use Rattle.std.proofs.lemmas.List.Elements.{All-get_or}
 use Rattle.vr_disk.specs.declared.sector.Sector.{Sector}
-use Rattle.vr_mem.specs.declared.cells.MemCell.{MemCell}
+use Rattle.vr_mem.specs.declared.cells.MemReads.TheVariants as reads
 use Rattle.vr_mem.specs.declared.cells.MemWaiting.{MemWaiting}
-use Rattle.vr_mem.proofs.Settling.{settle_step}
+use Rattle.vr_mem.specs.declared.cells.MemRoom.{MemRoom}
+use Rattle.vr_mem.proofs.Settling.{once_behind, settle_step}
+use Rattle.vr_mem.specs.Seen.{seen}
 use Rattle.vr_mem.proofs.cells.settle_all.Goals as goal
 
 abbrev no_sector : Sector
 no_sector = record { bytes = [] }
 
-abbrev no_cell : MemCell
-no_cell = record { truth = no_sector; reads = None; before = no_sector }
+abbrev no_room : MemRoom
+no_room = record { one = no_sector; two = no_sector; turned = false; reads = reads.Truth; lie = no_sector }
 
 abbrev no_waiting : MemWaiting
-no_waiting = record { index = 0; was = no_cell }
+no_waiting = record { index = 0; again = false; truth = no_sector; reads = reads.Truth; lie = no_sector; before = no_sector }
 
 pub loop-w-preserved : goal.loop-w-preserved
 loop-w-preserved c =
     let ws = c.args.waiting.now in
+    let i = c.loop-w.invariant in
     let l : c.loop-w.w-index < length ws = omega arith in
-    let b = All-get_or (λ (w : MemWaiting). w.index < length c.args.cells.now) ws c.loop-w.w-index no_waiting l c.requires in
-    let len = c.loop-w.invariant.len in
+    let b = All-get_or (λ (w : MemWaiting). w.index < length c.args.cells.now) ws c.loop-w.w-index no_waiting l c.requires.kept in
+    let len = i.len in
     record {
-      same = sym (settle_step c.loop-w.rest ws c.loop-w.w-index no_waiting c.loop-w.cells c.settle_cell.result no_cell l (omega arith) c.settle_cell.ensures) ∙ c.loop-w.invariant.same;
+      same = sym (settle_step c.loop-w.rest ws c.loop-w.w-index no_waiting c.loop-w.cells c.settle.new.self no_room l (omega arith) i.once c.settle.ensures) ∙ i.same;
+      once = once_behind ws c.loop-w.w-index no_waiting (seen c.loop-w.cells) _ l i.once;
       len = length-set _ _ _ ∙ len;
     }

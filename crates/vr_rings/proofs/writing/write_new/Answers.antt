@@ -1,18 +1,9 @@
-use Rattle.std.proofs.Common.{ap, sym, ◌∙◌}
-use Rattle.vr_rings.specs.Held.{header_sector}
-use Rattle.vr_rings.specs.Slots.{sector_of}
-use Rattle.vr_rings.proofs.Leaving.{new_leaves}
-use Rattle.vr_rings.proofs.Spelling.{header_sector_is}
+use Rattle.std.proofs.Common.{◌∙◌, sym}
+use Rattle.vr_rings.proofs.Spelling.{room_one, room_two}
 use Rattle.vr_rings.proofs.writing.write_new.Goals as goal
 
-pub returns-in_err-put_header-clause-stop : goal.returns-in_err-put_header-clause-stop
-returns-in_err-put_header-clause-stop g c = new_leaves c.args.version c.args.entry.now (g.D.SectorDisk.told c.args.disk.now) (g.met.D.SectorDisk.whole c.args.disk.now) c.prepare_of-bytes.ensures.whole c.requires
+pub new_over-requires-clause-zeros : goal.new_over-requires-clause-zeros
+new_over-requires-clause-zeros g c = room_two c.args.version (sym c.get.ensures.value ∙ c.if-get-eq2.true)
 
-pub returns-in_err-put_prepare-clause-stop : goal.returns-in_err-put_prepare-clause-stop
-returns-in_err-put_prepare-clause-stop g c = new_leaves c.args.version c.args.entry.now (g.D.SectorDisk.told c.args.disk.now) (g.met.D.SectorDisk.whole c.args.disk.now) c.prepare_of-bytes.ensures.whole c.requires
-
-pub returns-clause-stop : goal.returns-clause-stop
-returns-clause-stop g c = new_leaves c.args.version c.args.entry.now (g.D.SectorDisk.told c.args.disk.now) (g.met.D.SectorDisk.whole c.args.disk.now) c.prepare_of-bytes.ensures.whole c.requires
-
-pub put_header-requires : goal.put_header-requires
-put_header-requires g c = c.header_sector.ensures ∙ (ap header_sector c.prepare_of-bytes.ensures.bytes ∙ (header_sector_is c.args.entry.now c.prepare_of-bytes.ensures.whole.header ∙ ap sector_of (sym c.header.ensures.value)))
+pub new_over-requires-else-get-eq2-clause-zeros : goal.new_over-requires-else-get-eq2-clause-zeros
+new_over-requires-else-get-eq2-clause-zeros g c = room_one c.args.version (λ e. c.if-get-eq2.false (c.get.ensures.value ∙ e))

@@ -1,5 +1,5 @@
 use Rattle.std.proofs.Common.{◌≡◌, ◌∙◌, None, Some, Err, rules, subst}
-use Rattle.vr_client.specs.Asking.{Turned, ask_in}
+use Rattle.vr_client.specs.Asking.{Fails, Turned, ask_in}
 use Rattle.vr_client.proofs.Keeping.{keeps_later, same_ask}
 use Rattle.vr_client.proofs.Waits.{waited_answer, waited_fault, waiting_begins, waiting_more}
 use Rattle.vr_client.proofs.client.ClientCore.wait.Goals as goal
@@ -18,10 +18,12 @@ pub returns-in_err-answer-clause-run : goal.returns-in_err-answer-clause-run
 returns-in_err-answer-clause-run g c =
     let err : c.from_residual.result ≡ Err c.in_err-answer.field-0.0 = search rules in
     let stays = c.in_err-answer.ensures.stays in
+    let same = same_ask c.args.self.now c.loop-done.self c.args.name.now c.args.turns c.loop-done.invariant.core in
+    let failed = subst (λ a. Fails a.version (g.L.Link.received c.loop-done.link) (g.L.Link.received c.turn.new.link) c.in_err-answer.field-0.0) same c.in_err-answer.ensures.failed in
     rw err (waited_fault (ask_in c.args.self.now c.args.name.now c.args.turns) c.loop-done.done c.args.self.now.port c.loop-done.self.port c.turn.new.self.port
     (g.L.Link.sent c.args.link.now) (g.L.Link.sent c.loop-done.link) (g.L.Link.sent c.turn.new.link)
     (g.L.Link.received c.args.link.now) (g.L.Link.received c.loop-done.link) (g.L.Link.received c.turn.new.link) c.in_err-answer.field-0.0
-    c.loop-done.invariant.waiting c.in_err-answer.ensures.failed stays.0 stays.1 c.loop-done-test.true)
+    c.loop-done.invariant.waiting failed stays.0 stays.1 c.loop-done-test.true)
 
 pub returns-in-Some-clause-run : goal.returns-in-Some-clause-run
 returns-in-Some-clause-run g c =

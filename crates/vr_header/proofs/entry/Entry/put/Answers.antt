@@ -3,7 +3,6 @@ use Rattle.vr_header.specs.Bodies.{operation_bytes}
 use Rattle.vr_header.specs.Made.{entry_bytes}
 use Rattle.vr_header.specs.Spelling.{IsHeader, header_bytes}
 use Rattle.vr_header.proofs.HeaderLaws.{length-header_bytes}
-use Rattle.vr_base.proofs.Versions.{between}
 use Rattle.vr_header.proofs.Putting.{further, length-entry}
 use Rattle.vr_header.proofs.entry.Entry.put.Goals as goal
 
@@ -12,7 +11,7 @@ put_body-requires c =
     let e = c.header.ensures.entry in
     let s = e.body.size in
     let m = e.header.size.1 in
-    let k = (between c.args.self.now.header.version 1920 3968 (omega arith)).1 in
+    let k = c.requires in
     rw c.operation.ensures (omega arith)
 
 pub returns-clause-size : goal.returns-clause-size

@@ -5,4 +5,4 @@ use Rattle.vr_mem.proofs.cell_disk.CellDiskSectorDisk.sync.Goals as goal
 pub returns-in-Cuts-clause-told : goal.returns-in-Cuts-clause-told
 returns-in-Cuts-clause-told c =
     rw (c.fault-in-Cuts.ensures.same, c.fault-in-Cuts.ensures.failed)
-    (sync_cuts (face_of c.args.self.now.face) (face_of c.settle.new.self) (fate_of c.args.self.now.fate) (fate_of c.judge.new.self) c.in-Cuts.code c.in-Cuts.ensures.verdict c.in-Cuts.ensures.next c.settle.ensures.after)
+    (sync_cuts (face_of c.args.self.now.face) (face_of c.settle.new.self) (fate_of c.args.self.now.fate) (fate_of c.judge.new.self) _ c.in-Cuts.code c.in-Cuts.ensures.verdict c.in-Cuts.ensures.next c.settle.ensures.after)

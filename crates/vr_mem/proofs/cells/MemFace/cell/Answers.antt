@@ -1,10 +1,10 @@
 use Rattle.std.proofs.Common.{◌∙◌, ap, arith, sym}
-use Rattle.vr_mem.specs.Seen.{cell_of}
+use Rattle.vr_mem.specs.Seen.{room_of}
 use Rattle.vr_mem.proofs.Kept.{seen_behind, seen_here}
 use Rattle.vr_mem.proofs.cells.MemFace.cell.Goals as goal
 
 pub returns-then-at-len : goal.returns-then-at-len
-returns-then-at-len c = seen_here c.args.self.now.cells.items c.args.index c.index.result.now (let n = c.len.ensures in let t = c.if-at-len.true in omega arith) ∙ ap cell_of (sym c.index.ensures)
+returns-then-at-len c = seen_here c.args.self.now.cells.items c.args.index c.index.result.now (let n = c.len.ensures in let t = c.if-at-len.true in omega arith) ∙ (ap room_of (sym c.index.ensures) ∙ sym c.cell.ensures)
 
 pub returns-else-at-len : goal.returns-else-at-len
-returns-else-at-len c = seen_behind c.args.self.now.cells.items c.args.index (let n = c.len.ensures in let t = c.if-at-len.false in omega arith) c.requires.index ∙ sym c.zero.ensures
+returns-else-at-len c = seen_behind c.args.self.now.cells.items c.args.index (let n = c.len.ensures in let t = c.if-at-len.false in omega arith) c.requires.index ∙ (sym c.zero.ensures ∙ sym c.cell-else-at-len.ensures)

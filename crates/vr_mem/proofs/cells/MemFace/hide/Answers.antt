@@ -1,14 +1,10 @@
-use Rattle.std.proofs.Common.{length-set, refl, None}
-use Rattle.std.specs.Prelude.{map}
-use Rattle.vr_mem.specs.declared.cells.MemCell.{MemCell}
-use Rattle.vr_mem.specs.Seen.{waiting_of}
+use Rattle.std.proofs.Common.{length-set, take, refl, None}
 use Rattle.vr_mem.proofs.Settling.{lied_cells, lied_is}
 use Rattle.vr_mem.proofs.cells.MemFace.hide.Goals as goal
 
 pub returns-clause-after : goal.returns-clause-after
 returns-clause-after c =
-    let x : MemCell = record { truth = c.index-was.result.now.truth; reads = None; before = c.index-was.result.now.before } in
-    lied_cells c.args.self.now.cells.items c.keep.new.cells.items (map waiting_of c.args.self.now.waiting.items) c.args.index c.index-was.result.now x None c.keep.ensures.cells c.keep.ensures.kept c.index-was.ensures refl
+    lied_cells c.args.self.now.cells.items c.keep.new.cells.items (take c.args.self.now.count c.args.self.now.waiting.items) c.args.index c.index_mut.result.now c.hide.new.self None c.keep.ensures.cells c.keep.ensures.kept c.keep.ensures.count c.index_mut.ensures.value c.hide.ensures
 
 pub returns-clause-face : goal.returns-clause-face
-returns-clause-face c = lied_is c.args.self.now _ c.args.index None c.requires.face c.requires.index (λ b e. absurd cc) (returns-clause-after c) (rw length-set c.keep.ensures.count) (rw length-set c.keep.ensures.grown) c.keep.ensures.space refl
+returns-clause-face c = lied_is c.args.self.now _ c.args.index None c.requires.face c.requires.index (λ b e. absurd cc) (returns-clause-after c) (rw length-set c.keep.ensures.count) (rw length-set c.keep.ensures.grown) c.keep.ensures.space refl refl refl

@@ -1,17 +1,19 @@
-use Rattle.std.proofs.Common.{arith}
+use Rattle.std.proofs.Common.{arith, refl}
 use Rattle.std.proofs.lemmas.Grind.{common_steps}
 use Rattle.vr_disk.proofs.Faces.{face_settled}
 use Rattle.vr_mem.specs.Seen.{face_of}
-use Rattle.vr_mem.proofs.Settling.{settled_is}
+use Rattle.vr_mem.proofs.Settling.{settled_is, waits_below}
 use Rattle.vr_mem.proofs.cells.MemFace.settle.Goals as goal
 
-pub settle_all-requires : goal.settle_all-requires
-settle_all-requires c = rw (c.deref.ensures.value, c.deref_mut.ensures.value) c.requires.kept
+pub settle_all-requires-clause-kept : goal.settle_all-requires-clause-kept
+settle_all-requires-clause-kept c = rw (c.deref.ensures.value, c.deref_mut.ensures.value) (waits_below _ _ _ c.requires.kept)
+
+pub settle_all-requires-clause-once : goal.settle_all-requires-clause-once
+settle_all-requires-clause-once c = rw (c.deref.ensures.value, c.deref_mut.ensures.value) c.requires.once
 
 pub returns-clause-after : goal.returns-clause-after
 returns-clause-after c = grind (arith, common_steps)
 
 pub returns-clause-face : goal.returns-clause-face
 returns-clause-face c =
-    settled_is c.args.self.now _ c.requires (rw (returns-clause-after c) (face_settled c.args.code (face_of c.args.self.now) c.requires.face)) c.clear.ensures.items (grind (arith, common_steps)) c.requires.space
-    (let r = c.requires.room in let l = c.clear.ensures.capacity in omega arith)
+    settled_is c.args.self.now _ c.requires (rw (returns-clause-after c) (face_settled c.args.code (face_of c.args.self.now) c.requires.face)) refl (grind (arith, common_steps)) c.requires.space refl refl

@@ -1,0 +1,186 @@
+-- What a member put out in a reply to a client's request is what the log says to it.
+use Rattle.std.proofs.Common.{ℕ, ◌+◌, ◌-◌, ◌^◌, ◌<◌, ◌≤◌, ◌≡◌, ◌∙◌, inl, inr, arith, refl, sym, ap, subst, List, Option, None, Some}
+use Rattle.std.specs.Prelude.{slice_get, take}
+use Rattle.std.specs.Option.{option_map}
+use Rattle.vr_base.specs.declared.kind.Kind.{Kind}
+use Rattle.vr_ckpt.specs.Folds.{answer_at, check, fresh_outcome, outcome_of, state_after}
+use Rattle.vr_ckpt.specs.Folds.{Answer as Said}
+use Rattle.vr_ckpt.specs.SessionAnswer.{SessionAnswer}
+use Rattle.vr_ckpt.specs.State.{State}
+use Rattle.vr_ckpt.specs.SessionAnswer.TheVariants as session
+use Rattle.vr_client.specs.declared.answer.Answer.{Answer}
+use Rattle.vr_client.specs.declared.answer.Answer.TheVariants as answer
+use Rattle.vr_header.specs.Made.{Whole}
+use Rattle.vr_header.specs.Names.{header_name}
+use Rattle.vr_header.specs.NoCollision.{NoCollision}
+use Rattle.vr_header.specs.Spelling.{IsHeader}
+use Rattle.vr_header.specs.declared.header.Header.{Header}
+use Rattle.vr_header.specs.declared.outcome.Outcome.{Outcome}
+use Rattle.vr_header.proofs.NameLaws.{one_header}
+use Rattle.vr_msg.specs.declared.output.Committed.{Committed}
+use Rattle.vr_msg.specs.declared.output.Output.{Output}
+use Rattle.vr_msg.specs.declared.output.Output.TheVariants as output
+use Rattle.vr_msg.specs.declared.output.Sent.{Sent}
+use Rattle.vr_msg.specs.declared.reply.Answered.{Answered}
+use Rattle.vr_msg.specs.declared.reply.ReplyFields.{ReplyFields}
+use Rattle.vr_msg.specs.declared.reply.ReplyKind.{ReplyKind}
+use Rattle.vr_msg.specs.declared.request.RequestFields.{RequestFields}
+use Rattle.vr_node.specs.Fit.{IsAsked}
+use Rattle.vr_world.specs.Commitment.{IsOutcomeOf, IsReplyOf, lines_by}
+use Rattle.vr_world.specs.Group.{Asked, Played}
+use Rattle.vr_world.specs.Safe.{IsTrueReply, applied_then, run_outputs}
+use Rattle.vr_world.proofs.FitMessages.{asked_may_come}
+use Rattle.law_1_machine.specs.Basics.{In}
+use Rattle.law_3_outputs.specs.Followed.{IsFitRun}
+use Rattle.law_3_outputs.proofs.Sets.{in_contains, in_get, in_left, in_right}
+use Rattle.law_3_outputs.proofs.Traces.{in_either}
+use Rattle.law_4_disks.specs.Worlds as worlds
+use Rattle.law_4_disks.specs.Worlds.{IsAside, Said as Lines, first_world}
+use Rattle.law_6_one_log.specs.Outputs.{IsTrueAnswer, RestsOn}
+use Rattle.law_7_members.specs.Files.{ActBy, act_by, Handles}
+use Rattle.law_7_members.specs.Whole.{KeepOneLog, all_said}
+use Rattle.law_9_answers.specs.Heard.{HasReached, IsExecuted, IsNamed, IsOfLog, Says, Heard, as_entry, asked_by, header_of, itself, kind_of}
+use Rattle.law_9_answers.specs.Heard as named
+use Rattle.law_9_answers.proofs.Making.{IsOfRequest, lines_asked}
+use Rattle.law_9_answers.proofs.Coming.{ComesFrom, comes_from}
+use Rattle.law_9_answers.proofs.Coming as coming
+use Rattle.law_9_answers.proofs.Hearing.{IsGiven}
+
+-- ---- what the run's outputs are
+
+line_in : (ws gs : List Output) → Lines ws gs → (c : Committed) → In (output.Commit c) ws → In (output.Commit c) gs
+line_in _ _ worlds.none c i = absurd i
+line_in _ _ (worlds.both os ws gs rest) c i =
+    elim (in_either os ws (output.Commit c) i) [
+      | inl here ↦ in_left os gs (output.Commit c) here
+      | inr later ↦ in_right os gs (output.Commit c) (line_in ws gs rest c later)
+    ]
+line_in _ _ (worlds.aside a ws gs is rest) c (inl same) = absurd (subst IsAside (sym same) is)
+line_in _ _ (worlds.aside a ws gs is rest) c (inr later) = line_in ws gs rest c later
+
+-- ---- what the log says
+
+-- what an entry answers
+abbrev said_to : State → Whole → Said
+said_to s e = record { client = e.header.client; request = e.header.request; answer = check s e; outcome = fresh_outcome s e (check s e) }
+
+executed_by : (s : State) (x : Option Whole) (client request : ℕ) (o : Outcome) → option_map (said_to s) x ≡ Some (record { client = client; request = request; answer = session.Fresh; outcome = Some o })
+    → (e : Whole) × (x ≡ Some e) × (e.header.client ≡ client) × (e.header.request ≡ request) × (check s e ≡ session.Fresh) × (o ≡ outcome_of s e)
+executed_by s None client request o h = absurd cc
+executed_by s (Some e) client request o h =
+    let there : Said = said_to s e in
+    let said : Said = record { client = client; request = request; answer = session.Fresh; outcome = Some o } in
+    let same : there ≡ said = (let both : Some there ≡ Some said = h in cc) in
+    let fresh : check s e ≡ session.Fresh = ap (λ (y : Said). y.answer) same in
+    let outcome : Some (outcome_of s e) ≡ Some o = subst (λ (z : SessionAnswer). fresh_outcome s e z ≡ Some o) fresh (ap (λ (y : Said). y.outcome) same) in
+    (e, refl, ap (λ (y : Said). y.client) same, ap (λ (y : Said). y.request) same, fresh, sym (let one : outcome_of s e ≡ o = cc in one))
+
+executed : (log : List Whole) (lines : ℕ) (r : ReplyFields) (q : RequestFields) (a : Answered) → r.client ≡ q.client → r.request ≡ q.request → IsOutcomeOf log lines r a → IsExecuted log q a
+unfolding answer_at
+executed log lines r q a client number h =
+    let y = executed_by (state_after (take (a.op - 1) log)) (slice_get log (a.op - 1)) r.client r.request a.outcome h.answer in
+    record { entry = y.0; number = h.op.0; at = y.1; client = y.2 ∙ client; request = y.3 ∙ number; fresh = y.4; outcome = y.5 }
+
+says_of : (log : List Whole) (lines m : ℕ) (r : ReplyFields) (q : RequestFields) (a : Answer) → r.client ≡ q.client → r.request ≡ q.request → IsReplyOf log lines m r (kind_of a) → Says log q a
+says_of log lines m r q (answer.Outcome x) client number h = executed log lines r q x client number h
+says_of log lines m r q answer.Old client number h = (m, rw (← client, ← number) h)
+says_of log lines m r q answer.Gap client number h = (m, rw (← client, ← number) h)
+says_of log lines m r q answer.Evicted client number h = (m, rw (← client, ← number) h)
+
+says_true : (cluster n : ℕ) (log : List Whole) (run : List Played) (move place : ℕ) (p : Played) (r : ReplyFields) → IsTrueReply cluster n log run move place p r → (q : RequestFields) (a : Answer) → r.client ≡ q.client → r.request ≡ q.request
+    → r.kind ≡ kind_of a → Says log q a
+says_true cluster n log run move place p r so q a client number kind =
+    let lines : ℕ = so.replica.applied + lines_by r.replica (take place p.moved.outputs) in
+    let m : ℕ = applied_then r.replica so.replica (take place p.moved.outputs) in
+    says_of log lines m r q a client number (subst (λ (x : ReplyKind). IsReplyOf log lines m r x) kind so.said)
+
+-- ---- headers of requests
+
+request_is_header : (q : RequestFields) → IsAsked q → q.cluster < 2 ^ 64 → IsHeader (header_of q)
+request_is_header q asked range = (asked_may_come q asked range).header
+
+-- of which an entry was made
+entry_is_header : (h : Header) (q : RequestFields) → IsHeader h → IsHeader (header_of q) → IsHeader (asked_by h)
+entry_is_header h q f z = record {
+  body = f.body;
+  body_bytes = f.body_bytes;
+  parent = z.parent;
+  parent_bytes = z.parent_bytes;
+  request_name = z.request_name;
+  request_name_bytes = z.request_name_bytes;
+  cluster = f.cluster;
+  client = f.client;
+  request = f.request;
+  view = omega arith;
+  op = omega arith;
+  commit = f.commit;
+  size = f.size;
+  replica = f.replica;
+  version = f.version;
+  kind = f.kind;
+  aux = f.aux;
+}
+
+-- ---- a reply to a request
+
+-- by whom it was asked
+record IsMet (xs : List ActBy) (log : List Whole) (q : RequestFields) (r : ReplyFields) : Type 0 where
+  client : r.client ≡ q.client
+  number : r.request ≡ q.request
+  reached : HasReached xs log q
+
+module _ (kinds : ℕ → Kind) (cluster n : ℕ) (xs : List ActBy) (number : cluster < 2 ^ 64) (few : 2 ≤ n) (many : n ≤ 6) (k : KeepOneLog kinds cluster n xs) (own : List RequestFields) (never : NoCollision (IsNamed xs own)) where
+  abbrev log : List Whole
+  log = k.log.safe.log
+
+  abbrev run : List Played
+  run = k.log.matched.run
+
+  fit : IsFitRun cluster n run
+  fit = record { number = number; few = few; many = many; moves = k.log.matched.reads; kinds = kinds; of_run = k.log.matched.is }
+
+  rests_at : (place : ℕ) (o : Output) → slice_get (all_said xs) place ≡ Some o → RestsOn cluster n log run (take place (all_said xs)) o
+  rests_at place o is =
+      subst (λ (os : List Output). RestsOn cluster n log run (take place os) o) k.work.said
+      (k.log.rests place o (subst (λ (os : List Output). slice_get os place ≡ Some o) (sym k.work.said) is))
+
+  line_asked : (c : Committed) → In (output.Commit c) (all_said xs) → IsOfRequest c.entry.header × IsHeader c.entry.header
+  line_asked c i = lines_asked cluster n run fit c (line_in k.work.left.outputs (run_outputs run) k.log.matched.said c (subst (λ (os : List Output). In (output.Commit c) os) (sym k.work.said) i))
+
+  reply_met : (q : RequestFields) → IsAsked q → q.cluster < 2 ^ 64 → In q own → (r : ReplyFields) → r.request_name ≡ header_name (header_of q) → ComesFrom xs r → IsMet xs log q r
+  reply_met q asked range mine r name (coming.of_request at did p i p_asked p_range to) =
+      let names : header_name (header_of p) ≡ header_name (header_of q) = sym to.name ∙ name in
+      let there = in_contains xs (act_by at (Handles (Asked p) did)) i in
+      let same : header_of p ≡ header_of q = one_header (IsNamed xs own) never (header_of p) (header_of q) (request_is_header p p_asked p_range) (request_is_header q asked range) (named.IsNamed.reached at did p there) (named.IsNamed.asked q (in_contains own q mine)) names in
+      record { client = to.client ∙ ap (λ (h : Header). h.client) same; number = to.request ∙ ap (λ (h : Header). h.request) same; reached = itself at did p there same }
+  reply_met q asked range mine r name (coming.of_line c i to) =
+      let a = line_asked c i in
+      let g = in_get (all_said xs) (output.Commit c) i in
+      let line = rests_at g.0 (output.Commit c) g.1 in
+      let names : header_name (asked_by c.entry.header) ≡ header_name (header_of q) = sym a.0 ∙ (sym to.name ∙ name) in
+      let q_is = request_is_header q asked range in
+      let same : asked_by c.entry.header ≡ header_of q = one_header (IsNamed xs own) never (asked_by c.entry.header) (header_of q) (entry_is_header c.entry.header q a.1 q_is) q_is (named.IsNamed.entered c (in_contains (all_said xs) (output.Commit c) i)) (named.IsNamed.asked q (in_contains own q mine)) names in
+      record { client = to.client ∙ ap (λ (h : Header). h.client) same; number = to.request ∙ ap (λ (h : Header). h.request) same; reached = as_entry (c.entry.header.op - 1) c.entry line.at same }
+
+  nobody : (s : Sent) → In s (first_world kinds cluster n).sent → ⊥
+  unfolding first_world
+  nobody s i = i
+
+  pub is_of_log : (t : Heard) → IsAsked t.request → t.request.cluster < 2 ^ 64 → In t.request own → IsGiven xs (header_name (header_of t.request)) t.answer → IsOfLog cluster n xs log run t
+  is_of_log t asked range mine g =
+      let at = in_get (all_said xs) (output.Reply g.fields) g.put_out in
+      let from : ComesFrom xs g.fields = comes_from cluster (first_world kinds cluster n) xs k.work.left k.work.work (λ s i. absurd (nobody s i)) g.fields g.put_out in
+      let met = reply_met t.request asked range mine g.fields g.name_is from in
+      let rests : IsTrueAnswer cluster n log run (take at.0 (all_said xs)) g.fields = rests_at at.0 (output.Reply g.fields) at.1 in
+      record {
+        reply = g.fields;
+        place = at.0;
+        put_out = at.1;
+        name = g.name_is;
+        client = met.client;
+        number = met.number;
+        answer = g.kind;
+        rests = rests;
+        says = says_true cluster n log run rests.at.move rests.at.number rests.at.moved g.fields rests.so t.request t.answer met.client met.number g.kind;
+        reached = met.reached;
+      }

@@ -1,0 +1,9 @@
+mod Tracing
+mod Reacting
+mod Making
+mod Coming
+mod Hearing
+mod Answering
+mod Asking
+mod Writing
+mod Instance

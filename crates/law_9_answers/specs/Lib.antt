@@ -1,0 +1,4 @@
+pub mod Heard
+pub mod Clients
+pub mod Trials
+pub mod Laws

@@ -1,0 +1,28 @@
+//! What a client of a running group writes is what the group's one log says. Each function is a law: its contract is the statement, and it does
+//! nothing.
+#![tactic(auto)]
+
+ghost use Rattle.law_9_answers.specs.Laws.{ClientsWriteWhatTheyHear, RunsAnswerByOneLog, SomeAnswerMay, TrialsWriteWhatTheyHear};
+
+/// What a run of `client` writes is the lines of what it heard, ask by ask, but perhaps for an end of the last one.
+pub fn clients_write_what_they_hear()
+    ensures { ClientsWriteWhatTheyHear }
+{}
+
+/// What a trial writes is the lines of its members' starts and stops, and of what its client heard, step by step, but perhaps for an end of the last
+/// one.
+pub fn trials_write_what_they_hear()
+    ensures { TrialsWriteWhatTheyHear }
+{}
+
+/// Whole runs of the programs of a group's members, interleaved anyhow, keep one log; and each answer that a run of `client`, or of `trial`, heard
+/// over a network which forges no reply is what the plain sessions and machine say over that log.
+pub fn runs_answer_by_one_log()
+    ensures { RunsAnswerByOneLog }
+{}
+
+/// What that law asks of the network and of names is so where a member handles a request, applies its entry and replies, and the client
+/// receives that.
+pub fn some_answer_may()
+    ensures { SomeAnswerMay }
+{}

@@ -1,0 +1,117 @@
+-- What the lines of a schedule hash, whose disks read as no block, and as no entry but those of a list.
+use Rattle.std.proofs.Common.{ℕ, ◌≡◌, ◌⊎◌, arith, inl, inr, refl, sym, ap, ◌∙◌, subst, List, [], ◌∷◌, Some, None}
+use Rattle.std.specs.Prelude.{Contains, slice_get}
+use Rattle.std.specs.List.{AllByRecursion}
+use Rattle.vr_base.specs.Kinds.{strict}
+use Rattle.vr_disk.specs.DiskState.{Face, IsFace}
+use Rattle.vr_header.specs.Bodies.{operation_bytes}
+use Rattle.vr_header.specs.Made.{Whole}
+use Rattle.vr_header.specs.Names.{root_header}
+use Rattle.vr_header.specs.Spelling.{named_bytes}
+use Rattle.vr_rules.specs.Replica.{Replica}
+use Rattle.vr_rules.specs.Steps.{Effect}
+use Rattle.vr_rules.specs.Opening.{fresh}
+use Rattle.vr_world.specs.Lying.{Lying, hazards}
+use Rattle.vr_world.specs.Group.{fresh_group}
+use Rattle.vr_world.specs.World.{Happening, Host, World, fresh_host, fresh_world, happens}
+use Rattle.vr_world.specs.Safe as safe
+use Rattle.vr_world.specs.Safe.{IsRead, IsWritten}
+use Rattle.law_1_machine.specs.Basics.{In}
+use Rattle.law_4_disks.specs.Worlds.{AreBeside, IsHashedAt, IsHashedCut, Work, begun_by, begun_in, begun_of, read_in, read_of, work_of}
+use Rattle.law_4_disks.proofs.Fresh.{fresh_beside, schedules_begin}
+use Rattle.law_6_one_log.specs.Schedules.{IsHashedOf, IsUsedAt}
+use Rattle.law_6_one_log.proofs.Blank.{reads_nothing}
+use Rattle.law_6_one_log.proofs.Names.{contains_in}
+use Rattle.vr_name_rows.proofs.Disks.{IsOf, Plain}
+
+-- ---- a disk that was just formatted
+
+abbrev pub blank_disk : ℕ → Lying
+blank_disk i = hazards.formatted strict 0 3 i
+
+pub beside : AreBeside (fresh_world hazards strict 3) (fresh_group (λ i. strict) 0 3)
+beside = subst (λ (w : World Lying). AreBeside w (fresh_group (λ i. strict) 0 3)) (sym (schedules_begin strict 3)) (fresh_beside (λ i. strict) 0 3 (omega arith) (omega arith) (omega arith))
+
+face_of : (i : ℕ) → slice_get (fresh_world hazards strict 3).members i ≡ Some (fresh_host hazards strict 3 i) → IsFace (blank_disk i).face
+face_of i at = (((beside.each i (fresh_host hazards strict 3 i) at).2).running (fresh strict 0 3 i) refl).0.calm.face
+
+plain_face : (entries : List Whole) (i : ℕ) → IsFace (blank_disk i).face → Plain entries (blank_disk i)
+plain_face entries i f = record {
+  count = f.count;
+  reads = λ slot e w. absurd (reads_nothing strict 3 i f (named_bytes e.header) (safe.IsRead.header slot e w));
+  blocks = λ name c w. reads_nothing strict 3 i f c.payload (safe.IsRead.payload name c w);
+}
+
+pub blank_plain : (entries : List Whole) → Plain entries (blank_disk 0) × Plain entries (blank_disk 1) × Plain entries (blank_disk 2)
+unfolding fresh_world
+blank_plain entries = (plain_face entries 0 (face_of 0 refl), plain_face entries 1 (face_of 1 refl), plain_face entries 2 (face_of 2 refl))
+
+-- ---- the texts that are hashed
+
+pub data IsText (entries : List Whole) : List ℕ → Type 0 where
+  root : IsText entries (named_bytes (root_header 0))
+  header : (e : Whole) → In e entries → IsText entries (named_bytes e.header)
+  operation : (e : Whole) → In e entries → IsText entries (operation_bytes e.operation)
+
+read_text : (entries : List Whole) (d : Lying) → Plain entries d → (b : List ℕ) → IsRead d.face b → IsText entries b
+read_text entries d p _ (safe.IsRead.header slot e w) = header e (p.reads slot e w)
+read_text entries d p _ (safe.IsRead.operation slot e w) = operation e (p.reads slot e w)
+read_text entries d p _ (safe.IsRead.block name c w) = absurd (p.blocks name c w)
+read_text entries d p _ (safe.IsRead.payload name c w) = absurd (p.blocks name c w)
+
+written_text : (entries : List Whole) (e : Effect) (b : List ℕ) → IsOf entries e → IsWritten e b → IsText entries b
+written_text entries _ _ i (safe.IsWritten.header again e) = header e i.0
+written_text entries _ _ i (safe.IsWritten.operation again e) = operation e i.0
+written_text entries _ _ i (safe.IsWritten.block cluster texts op old c w) = absurd i
+written_text entries _ _ i (safe.IsWritten.payload cluster texts op old c w) = absurd i
+written_text entries _ _ i (safe.IsWritten.put name block c n) = absurd i
+written_text entries _ _ i (safe.IsWritten.given name block c n) = absurd i
+
+all_of : (entries : List Whole) (es : List Effect) (e : Effect) → AllByRecursion (IsOf entries) es → In e es → IsOf entries e
+all_of entries [] e a i = absurd i
+all_of entries (x ∷ es) e a (inl same) = subst (IsOf entries) (sym same) a.0
+all_of entries (x ∷ es) e a (inr i) = all_of entries es e a.1 i
+
+pub same_work : (a b : Work) → Some a ≡ Some b → a ≡ b
+same_work a b e = cc
+
+-- ---- of one line
+
+-- a running host, on which no fuse is laid
+abbrev pub host : Replica → Lying → Host Lying
+host r d = record { replica = Some r; disk = d; fuse = None }
+
+abbrev pub HashesAt : World Lying → Happening → List ℕ → Type 0
+HashesAt w x b = ((k : Work) × (work_of w x ≡ Some k) × IsHashedCut k b) ⊎ IsUsedAt w x b
+
+-- of what it reads, and of what it begins
+pub used_text : (entries : List Whole) (w : World Lying) (x : Happening) (m : Host Lying) (es : List Effect) → read_in w x ≡ m.disk.face ∷ [] → begun_in w x ≡ es → Plain entries m.disk → AllByRecursion (IsOf entries) es → (b : List ℕ) → IsUsedAt w x b → IsText entries b
+used_text entries w x m es reads begins p a b (inl u) =
+    let i = contains_in (m.disk.face ∷ []) u.0 (subst (λ (fs : List Face). Contains fs u.0) reads u.1) in
+    elim i [ inl same ↦ read_text entries m.disk p b (subst (λ (f : Face). IsRead f b) same u.2) | inr none ↦ absurd none ]
+used_text entries w x m es reads begins p a b (inr u) =
+    let i = contains_in es u.0 (subst (λ (fs : List Effect). Contains fs u.0) begins u.1) in
+    written_text entries u.0 b (all_of entries es u.0 a i) u.2
+
+pub line_text : (entries : List Whole) (w : World Lying) (x : Happening) (m : Host Lying) (script : List Effect) → m.fuse ≡ None → work_of w x ≡ Some (record { host = m; script = script }) → Plain entries m.disk → AllByRecursion (IsOf entries) script
+    → (b : List ℕ) → HashesAt w x b → IsText entries b
+line_text entries w x m script free is p a b (inl h) =
+    let same : record { host = m; script = script } ≡ h.0 = same_work (record { host = m; script = script }) h.0 (sym is ∙ h.1) in
+    let cut = subst (λ (k : Work). IsHashedCut k b) (sym same) h.2 in
+    let bad : None ≡ Some cut.0 = sym free ∙ cut.1 in
+    absurd cc
+line_text entries w x m script free is p a b (inr u) =
+    used_text entries w x m script (ap read_of is) (ap begun_of is ∙ ap (λ o. begun_by o script m.disk.face) free) p a b u
+
+-- ---- of lines
+
+-- each text that lines hash is one of these, as the root is
+abbrev pub Hashes : (List ℕ → Type 0) → World Lying → List Happening → Type 0
+Hashes T w xs = (b : List ℕ) → IsHashedOf 0 w xs b → T b
+
+pub none_left : (T : List ℕ → Type 0) (w : World Lying) → T (named_bytes (root_header 0)) → Hashes T w []
+none_left T w is b e = subst T (sym e) is
+
+pub then_lines : (T : List ℕ → Type 0) (w v : World Lying) (x : Happening) (xs : List Happening) → (happens hazards w x).world ≡ v → ((b : List ℕ) → IsHashedAt w x b ⊎ IsUsedAt w x b → T b) → Hashes T v xs → Hashes T w (x ∷ xs)
+then_lines T w v x xs is line rest b (inl h) = line b h
+then_lines T w v x xs is line rest b (inr h) = rest b (subst (λ (u : World Lying). IsHashedOf 0 u xs b) is h)

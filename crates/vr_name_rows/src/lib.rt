@@ -1,0 +1,21 @@
+//! Schedules of which all is proved that `headline` asks: that the names of what is hashed in them don't collide. The prover works them on the disks
+//! that lie, and computes each name. So what is asked can be met, also where entries are committed, a disk is damaged, a write is cut, replicas stop and
+//! start, and views change. Each function is a law: its contract is the statement, and it does nothing. No program stands on them.
+#![tactic(auto)]
+
+ghost use Rattle.vr_name_rows.specs.Rows.{AcknowledgedMeetsAll, PlainPathMeetsAll, TornPrepareMeetsAll};
+
+/// A register and a put, in a group of three.
+pub fn plain_path_meets_all()
+    ensures { PlainPathMeetsAll }
+{}
+
+/// An acknowledged entry whose two places are damaged isn't denied: the choice of a log waits.
+pub fn acknowledged_meets_all()
+    ensures { AcknowledgedMeetsAll }
+{}
+
+/// The write of an entry is cut: it was never stored, and the log of the next view hasn't got it.
+pub fn torn_prepare_meets_all()
+    ensures { TornPrepareMeetsAll }
+{}

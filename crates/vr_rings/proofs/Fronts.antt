@@ -1,0 +1,132 @@
+-- The front of a prepare, behind which zeros stand.
+use Rattle.std.proofs.Common.{ℕ, Bool, ◌*◌, ◌+◌, ◌-◌, ◌≤◌, ◌≡◌, arith, refl, sym, ap, ◌∙◌, true, false, cond, ◌&&◌, ◌==◌, List, ◌++◌, length, take, drop, Option, Some, None, length-append}
+use Rattle.std.specs.Prelude.{IfSome, min, replicate}
+use Rattle.std.specs.Option.{option_map}
+use Rattle.std.specs.Int.{from_be_bytes, w32}
+use Rattle.std.proofs.lemmas.List.{append-nil, drop-append-le, length-drop, length-replicate, take-append-le, take-replicate, take_at}
+use Rattle.std.proofs.lemmas.List.Folds.{list_all-append}
+use Rattle.vr_base.specs.Bytes.{IsBytes, is_zeros, number}
+use Rattle.vr_base.proofs.AreBytes.{IsBytes-append, IsBytes-zeros}
+use Rattle.vr_base.proofs.ZeroLaws.{zeros_are}
+use Rattle.vr_disk.proofs.Places.{counted}
+use Rattle.vr_disk.specs.Buffers.{with_bytes}
+use Rattle.vr_disk.specs.DiskState.{Disk}
+use Rattle.vr_disk.specs.Regions.{prepare_place, prepare_sectors}
+use Rattle.vr_disk.specs.Sectors.{together}
+use Rattle.vr_header.specs.Made.{Whole, entry_of}
+use Rattle.vr_rings.specs.Slots.{in_front, padded, prepare_reading, size_at, whole_of}
+use Rattle.vr_rings.proofs.Spelling.{over_zeros, whole_capped}
+
+pub length_in_front : (b : List ℕ) → length b ≤ 4096 → length (in_front b) ≡ 4096
+unfolding in_front
+length_in_front b l =
+    let zs : List ℕ = replicate (4096 - length b) 0 in
+    let a = length-append b zs in
+    let z : length zs ≡ 4096 - length b = length-replicate {A = ℕ} (4096 - length b) 0 in
+    omega (arith, a, z, l)
+
+-- nothing stands behind all of them
+pub front_all : (b : List ℕ) → length b ≡ 4096 → in_front b ≡ b
+unfolding in_front
+front_all b n = ap (λ k. b ++ replicate (4096 - k) 0) n ∙ append-nil b
+
+pub front_again : (b : List ℕ) → length b ≤ 4096 → in_front (in_front b) ≡ in_front b
+front_again b l = front_all (in_front b) (length_in_front b l)
+
+pub front_bytes : (b : List ℕ) → IsBytes b → IsBytes (in_front b)
+unfolding in_front
+front_bytes b f = IsBytes-append b (replicate (4096 - length b) 0) f (IsBytes-zeros (4096 - length b))
+
+-- ---- zeros
+
+and_true : (a b : Bool) → b ≡ true → (a && b) ≡ a
+and_true true b e = e
+and_true false b e = refl
+
+before_zeros : (b : List ℕ) (n : ℕ) → is_zeros (b ++ replicate n 0) ≡ is_zeros b
+before_zeros b n = list_all-append (λ b. b == 0) b (replicate n 0) ∙ and_true (is_zeros b) (is_zeros (replicate n 0)) (zeros_are n)
+
+pub zeros_front : (b : List ℕ) → is_zeros (in_front b) ≡ is_zeros b
+unfolding in_front
+zeros_front b = before_zeros b (4096 - length b)
+
+-- ---- a place in the front
+
+pub take_front : (n : ℕ) (b : List ℕ) → n ≤ length b → take n (in_front b) ≡ take n b
+unfolding in_front
+take_front n b l = take-append-le n b (replicate (4096 - length b) 0) l
+
+drop_zeros : (n : ℕ) (b : List ℕ) → n ≤ length b → is_zeros (drop n (in_front b)) ≡ is_zeros (drop n b)
+unfolding in_front
+drop_zeros n b l = ap is_zeros (drop-append-le n b (replicate (4096 - length b) 0) l) ∙ before_zeros (drop n b) (4096 - length b)
+
+pub size_front : (b : List ℕ) → 128 ≤ length b → size_at (in_front b) ≡ size_at b
+unfolding in_front size_at number
+size_front b l =
+    let zs : List ℕ = replicate (4096 - length b) 0 in
+    let n = length-drop 104 b in
+    let here : take 4 (drop 104 (b ++ zs)) ≡ take 4 (drop 104 b) = ap (take 4) (drop-append-le 104 b zs (omega (arith, l))) ∙ take-append-le 4 (drop 104 b) zs (omega (arith, l, n)) in
+    ap (λ t. from_be_bytes w32 t) here
+
+-- ---- the entry of a front
+
+-- by the size that its header gives, where the front goes so far
+whole_by : (b : List ℕ) (n : ℕ) → 128 ≤ length b → length b ≤ 4096 → n ≤ length b → n ≡ min (size_at b) 4096 → whole_of (in_front b) ≡ cond (is_zeros (drop n b)) (entry_of (take n b)) None
+unfolding size_at
+whole_by b n k l m e =
+    let size : n ≡ min (size_at (in_front b)) 4096 = e ∙ ap (λ s. min s 4096) (sym (size_front b k)) in
+    rw (whole_capped (in_front b) n (length_in_front b l) size, drop_zeros n b m, take_front n b m) refl
+
+pub front_whole_by : (b : List ℕ) (n : ℕ) (front back : List ℕ) → 128 ≤ length b → length b ≤ 4096 → n ≤ length b → n ≡ min (size_at b) 4096 → front ≡ take n b → back ≡ drop n b → is_zeros back ≡ true
+    → option_map (λ (e : Whole). e.header) (entry_of front) ≡ option_map (λ (e : Whole). e.header) (whole_of (in_front b))
+front_whole_by b n front back k l m e p q z = let t : is_zeros (drop n b) ≡ true = rw q at z in rw (p, whole_by b n k l m e, t) refl
+
+pub front_none_by : (b : List ℕ) (n : ℕ) (back : List ℕ) → 128 ≤ length b → length b ≤ 4096 → n ≤ length b → n ≡ min (size_at b) 4096 → back ≡ drop n b → is_zeros back ≡ false → None ≡ option_map (λ (e : Whole). e.header) (whole_of (in_front b))
+front_none_by b n back k l m e q z = let t : is_zeros (drop n b) ≡ false = rw q at z in rw (whole_by b n k l m e, t) refl
+
+-- a front put in front of zeros
+pub put_in_front : (b new : List ℕ) → take (0 + length b) new ≡ b → drop (0 + length b) new ≡ drop (0 + length b) (replicate 4096 0) → new ≡ in_front b
+unfolding in_front
+put_in_front b new t d =
+    let none : 0 + length b ≡ length b = omega arith in
+    over_zeros 4096 (0 + length b) b new t d ∙ ap (λ n. b ++ replicate (4096 - n) 0) none
+
+-- ---- a buffer that was filled
+
+-- a front, and zeros behind it
+pub filled_front : (old b zeros : List ℕ) → length b ≤ 4096 → zeros ≡ replicate (4096 - length b) 0 → take 4096 (with_bytes (with_bytes old 0 b) (length b) zeros) ≡ in_front b
+unfolding in_front
+filled_front old b zeros l z =
+    let rest : List ℕ = drop (0 + length b) old in
+    let past : List ℕ = drop (length b + length zeros) (b ++ rest) in
+    let k : length zeros ≡ 4096 - length b = ap length z ∙ length-replicate {A = ℕ} (4096 - length b) 0 in
+    let a = length-append b zeros in
+    let n : length (b ++ zeros) ≡ 4096 = omega (arith, a, k, l) in
+    let front : take (length b) (b ++ rest) ≡ b = take_at b rest (length b) refl in
+    let whole : with_bytes (with_bytes old 0 b) (length b) zeros ≡ b ++ zeros ++ past = ap (λ x. x ++ zeros ++ past) front in
+    let made : b ++ zeros ≡ in_front b = ap (λ x. b ++ x) z in
+    ap (take 4096) whole ∙ (take_at (b ++ zeros) past 4096 n ∙ made)
+
+pub zeros_rest : (n : ℕ) (rest : List ℕ) → 2048 ≤ n → rest ≡ take (4096 - n) (replicate 2048 0) → rest ≡ replicate (4096 - n) 0
+zeros_rest n rest l e = e ∙ take-replicate (4096 - n) 2048 0 (omega (arith, l))
+
+-- how many bytes a prepare has
+pub front_size : (ver : ℕ) (b : List ℕ) → length b ≡ 512 * prepare_sectors ver → (2048 ≤ length b) × (length b ≤ 4096)
+front_size ver b n = let c = counted ver in (omega (arith, n, c.0), omega (arith, n, c.1))
+
+-- ---- what is read
+
+padded_front : (ver : ℕ) (b : List ℕ) → length b ≡ 512 * prepare_sectors ver → padded ver b ≡ in_front b
+unfolding in_front
+padded_front ver b n = ap (λ k. b ++ replicate (4096 - k) 0) (sym n)
+
+padded_read : (ver : ℕ) (r : Bool) (o : Option (List ℕ)) (front : List ℕ) → length front ≡ 512 * prepare_sectors ver → o ≡ cond r (Some front) None → option_map (padded ver) o ≡ cond r (Some (in_front front)) None
+padded_read ver true o front n e = ap (option_map (padded ver)) e ∙ ap Some (padded_front ver front n)
+padded_read ver false o front n e = ap (option_map (padded ver)) e
+
+pub front_filled : (ver slot at count : ℕ) (t : Option Disk) (r : Bool) (front : List ℕ) → at ≡ prepare_place ver slot → count ≡ prepare_sectors ver → length front ≡ 512 * prepare_sectors ver → IfSome t (λ d. together at count d.face ≡ cond r (Some front) None)
+    → IfSome t (λ d. prepare_reading ver d.face slot ≡ cond r (Some (in_front front)) None)
+front_filled ver slot at count None r front a c n e = tt
+front_filled ver slot at count (Some d) r front a c n e =
+    let there : together (prepare_place ver slot) (prepare_sectors ver) d.face ≡ together at count d.face = ap (λ i. together i (prepare_sectors ver) d.face) (sym a) ∙ ap (λ n. together at n d.face) (sym c) in
+    padded_read ver r (together (prepare_place ver slot) (prepare_sectors ver) d.face) front n (there ∙ e)
