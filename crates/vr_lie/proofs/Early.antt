@@ -1,9 +1,9 @@
 -- A slot looked at by the first sector of its prepare.
-use Rattle.std.proofs.Common.{ℕ, zero, suc, ◌-◌, ◌*◌, ◌<◌, ◌≤◌, ◌≡◌, refl, sym, ap, ◌∙◌, arith, Bool, true, false, cond, ◌&&◌, List, ◌++◌, length, take, drop, Option, Some, None, append_assoc}
-use Rattle.std.specs.Prelude.{if◌then◌else◌, nat_eq, replicate}
+use Rattle.std.proofs.Common.{ℕ, zero, suc, ◌-◌, ◌*◌, ◌<◌, ◌≤◌, ◌≡◌, refl, sym, ap, ◌∙◌, arith, Bool, true, false, cond, ◌&&◌, List, ◌++◌, length, take, drop, get_or, Option, Some, None, append_assoc}
+use Rattle.std.specs.Prelude.{◌≢◌, if◌then◌else◌, nat_eq, replicate}
 use Rattle.std.specs.Cmp.Lexicographic.{pointwise}
 use Rattle.std.proofs.lemmas.Bool.{and_parts}
-use Rattle.std.proofs.lemmas.List.{drop_at, length-drop, length-take-le, take-append-drop, take_at}
+use Rattle.std.proofs.lemmas.List.{drop_at, get_or-take, get_or_append_left, get_or_default, length-drop, length-take-le, take-append-drop, take_at}
 use Rattle.std.proofs.lemmas.Slice.Eq.{bytes_eq-Decides}
 use Rattle.vr_base.specs.Bytes.{is_zeros}
 use Rattle.vr_base.proofs.ZeroLaws.{are_zeros, zeros_are}
@@ -98,6 +98,20 @@ header_parts b p n l =
     let one = (bytes_eq-Decides (take 128 b) (take 128 p)).0 q.0 in
     let two : drop 128 b ≡ zs = are_zeros (drop 128 b) q.1 ∙ ap (λ n. replicate n 0) rest in
     (bytes_eq-Decides b (take 128 p ++ zs)).1 (sym whole ∙ (ap (λ x. x ++ drop 128 b) one ∙ ap (λ y. take 128 p ++ y) two)))
+
+-- one that begins with another byte
+pub other_first : (b p : List ℕ) (d e : ℕ) → length b ≡ 512 → 128 ≤ length p → get_or b 0 d ≢ get_or p 0 e → false ≡ pointwise nat_eq b (header_sector p)
+unfolding header_sector
+other_first b p d e n l h =
+    let zs : List ℕ = replicate 384 0 in
+    same_bool false (pointwise nat_eq b (take 128 p ++ zs)) (λ x. absurd cc)
+    (λ t.
+    let same : b ≡ take 128 p ++ zs = (bytes_eq-Decides b (take 128 p ++ zs)).0 t in
+    let front = length-take-le 128 p l in
+    let one : get_or b 0 d ≡ get_or (take 128 p) 0 d = ap (λ x. get_or x 0 d) same ∙ get_or_append_left (take 128 p) zs d 0 (omega (arith, front)) in
+    let two : get_or (take 128 p) 0 d ≡ get_or p 0 d = get_or-take 128 p 0 d (omega arith) in
+    let three : get_or p 0 d ≡ get_or p 0 e = get_or_default p 0 d e (omega (arith, l)) in
+    absurd (h (one ∙ (two ∙ three))))
 
 -- where a sector reads as these bytes
 pub header_has : (f : Face) (slot : ℕ) (b p : List ℕ) (r : Bool) → Some b ≡ header_reading f slot → r ≡ pointwise nat_eq b (header_sector p) → r ≡ has (header_sector p) (header_reading f slot)
