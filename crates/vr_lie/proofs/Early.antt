@@ -1,6 +1,6 @@
 -- A slot looked at by the first sector of its prepare.
 use Rattle.std.proofs.Common.{ℕ, zero, suc, ◌-◌, ◌*◌, ◌<◌, ◌≤◌, ◌≡◌, refl, sym, ap, ◌∙◌, arith, Bool, true, false, cond, ◌&&◌, List, ◌++◌, length, take, drop, get_or, Option, Some, None, append_assoc}
-use Rattle.std.specs.Prelude.{◌≢◌, if◌then◌else◌, nat_eq, replicate}
+use Rattle.std.specs.Prelude.{◌≢◌, if◌then◌else◌, is_some, nat_eq, replicate}
 use Rattle.std.specs.Cmp.Lexicographic.{pointwise}
 use Rattle.std.proofs.lemmas.Bool.{and_parts}
 use Rattle.std.proofs.lemmas.List.{drop_at, get_or-take, get_or_append_left, get_or_default, length-drop, length-take-le, take-append-drop, take_at}
@@ -16,7 +16,7 @@ use Rattle.vr_disk.proofs.Faces.{there}
 use Rattle.vr_disk.proofs.Places.{counted, inside}
 use Rattle.vr_disk.proofs.Together.{First, together_first}
 use Rattle.vr_rings.specs.Held.{entry_of_both, found, header_sector, is_prepare, looked}
-use Rattle.vr_rings.specs.Slots.{header_reading, padded, prepare_reading}
+use Rattle.vr_rings.specs.Slots.{header_reading, in_front, padded, prepare_reading}
 use Rattle.vr_lie.specs.Table.{IsOwnHeader, begins_alike, is_begun}
 
 -- a prepare's header sector is that of its first sector
@@ -135,3 +135,12 @@ by_found false p = refl
 -- a slot that holds nothing holds what it reads as
 pub free_found : (b : Bool) (p : List ℕ) → b ≡ is_prepare p → (if b then Some p else None) ≡ found (if is_prepare p then Some p else None) None
 free_found b p e = ap (λ x. cond x (Some p) None) e ∙ by_found (is_prepare p) p
+
+-- what was read in front of zeros
+pub front_held : (b z : List ℕ) (n : ℕ) → z ≡ replicate n 0 → n ≡ 4096 - length b → b ++ z ≡ in_front b
+unfolding in_front
+front_held b z n e k = ap (λ x. b ++ x) (e ∙ ap (λ n. replicate n 0) k)
+
+pub some_map : {X Y : Type 0} → (f : X → Y) (o : Option X) → is_some (option_map f o) ≡ is_some o
+some_map f None = refl
+some_map f (Some x) = refl
