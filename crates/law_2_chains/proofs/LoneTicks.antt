@@ -8,6 +8,7 @@ use Rattle.vr_base.specs.declared.table.Quorums.{Quorums}
 use Rattle.vr_base.specs.Groups.{quorums_of}
 use Rattle.vr_base.specs.Replicas.{size}
 use Rattle.vr_header.specs.declared.header.Header.{Header}
+use Rattle.vr_header.specs.declared.part.Part.TheVariants.{Here}
 use Rattle.vr_msg.specs.declared.choice.Choice.{Choice}
 use Rattle.vr_msg.specs.declared.choice.Choice.TheVariants.{Ends, TooFew, WaitsAt}
 use Rattle.vr_msg.specs.declared.event.Event.{Event}
@@ -15,7 +16,7 @@ use Rattle.vr_msg.specs.declared.event.Event.TheVariants as event
 use Rattle.vr_msg.specs.declared.output.Output.{Output}
 use Rattle.vr_msg.specs.Normal.{primary}
 use Rattle.vr_world.specs.Outputs.{do_view_change, send_to_all, start_view_change, to_primary, wait_line}
-use Rattle.vr_world.specs.Replica.{Replica, is_primary, is_started, view_change}
+use Rattle.vr_world.specs.Replica.{Replica, part_at, is_primary, is_started, view_change}
 use Rattle.vr_world.specs.Rules.{idler, next_view}
 use Rattle.vr_world.specs.Sound.{IsSound}
 use Rattle.vr_world.specs.Steps.{Setting, Step, Word, ◌⨾◌, after_all, by, change, naming, quiet, says, when}
@@ -33,7 +34,7 @@ use Rattle.law_2_chains.proofs.Beginning.{AreStated, decided_of, free_changes, s
 use Rattle.law_2_chains.proofs.Chained.{mute_next, next}
 use Rattle.law_2_chains.proofs.Choices.{Concludes, GoesAndChooses, chooses_changed, chooses_none, chooses_then, concludes_goes, concludes_none, then_chooses, with_chosen}
 use Rattle.law_2_chains.proofs.Finishing.{goes_finishes}
-use Rattle.law_2_chains.proofs.LoneGoing.{LoneGoes, lone_changed, lone_ends, lone_then, then_lone}
+use Rattle.law_2_chains.proofs.LoneGoing.{LoneGoes, lone_alike, lone_changed, lone_ends, lone_then, then_lone}
 use Rattle.law_2_chains.proofs.LoneSteps.{lone_concludes}
 use Rattle.law_2_chains.proofs.LoneTries.{MayBegin, lone_begins}
 use Rattle.law_2_chains.proofs.Moving.{goes_says}
@@ -136,6 +137,10 @@ module _ (u : Setup) (fits : Fits u) (one : u.quorums.n ≡ 1) (start : Group He
   abbrev after_idling : Word F → Word F
   after_idling w = change idler ⨾ says (send_to_all start_view_change) ⨾ w ⨾ visit ⨾ ask
 
+  idler_held : (k : ℕ) (h : Header) → part_at q k ≡ Here h → part_at r k ≡ Here h
+  unfolding part_at
+  idler_held k h is = is
+
   enters_it : (s : Group Header) → Mid u s i r l s → Tallies u s i r → Enters u s i q
   enters_it s x tables = started_so u s i q l (mid_idler u s i r l s x) tables.stated lower
 
@@ -171,13 +176,13 @@ module _ (u : Setup) (fits : Fits u) (one : u.quorums.n ≡ 1) (start : Group He
       let size = x.size in
       let prim = alone_leads r (omega arith) x.sound.member in
       let w : Word F = begin_ending advance (stated q) (chosen_log q (stated q) hs) in
-      let begins_so : (k : Local) (a : Group Header) (d : F) → Mid u start i q k a → Every AsksNothing k.said → LoneGoes u start i event.Tick r k (w t q d) =
+      let begins_so : (k : Local) (a : Group Header) (d : F) → Mid u start i q k a → Every AsksNothing k.said → LoneGoes u start i event.Tick r q k (w t q d) =
       λ k a d z calm. lone_begins u fits start i event.Tick r t q d k a z (hears_it start x) tables.stated prim lower calm hs b in
       let sound : (d : F) → IsSound (w t q d).replica = λ d. let h = begins_so l start d y free in subst IsSound (sym h.replica) h.going.ends.sound in
       lone_ends u start i event.Tick r l _
-      (lone_changed u start i event.Tick r idler _ t r f l (λ d.
-      then_lone u start i event.Tick r (says (send_to_all start_view_change)) (w ⨾ visit ⨾ ask) (mute_all start_view_change) t q d l (says_it start start l d y) (λ a z.
-      lone_then u start i event.Tick r w (visit ⨾ ask) mute_looks t q _ _ (begins_so _ a _ z (said_free (send_to_all start_view_change q) l free (free_changes u start i q))) (λ s a k d z. goes_looks u s i t _ _ _ a z))))
+      (lone_changed u start i event.Tick r r idler _ t r f l (λ d.
+      then_lone u start i event.Tick r r (says (send_to_all start_view_change)) (w ⨾ visit ⨾ ask) (mute_all start_view_change) t q d l (says_it start start l d y) (λ a z.
+      lone_then u start i event.Tick r r w (visit ⨾ ask) mute_looks t q _ _ (lone_alike u start i event.Tick r r q refl idler_held _ _ (begins_so _ a _ z (said_free (send_to_all start_view_change q) l free (free_changes u start i q)))) (λ s a k d z. goes_looks u s i t _ _ _ a z))))
       (tabled_change_then u start i idler _ t r f (λ d.
       tabled_says_then u start i (send_to_all start_view_change) _ t q d (λ d.
       tabled_then_stays u start i w (visit ⨾ ask) t q d (tabled_begun u start i t q d (enters_it start x tables) prim hs b) (sound d) stays_looks)))

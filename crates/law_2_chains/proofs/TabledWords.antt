@@ -272,7 +272,7 @@ taken_ackers l r k j e =
 
 -- ---- a view begins
 
-saved_part : (r : Replica) (k : ℕ) → part_at (with_saved r) k ≡ part_at r k
+pub saved_part : (r : Replica) (k : ℕ) → part_at (with_saved r) k ≡ part_at r k
 unfolding part_at
 saved_part r k = refl
 
