@@ -37,8 +37,8 @@ pub record Vouched (i : ℕ) (r : Replica) (s b : Group Header) : Type 0 where
   pub all : r.view ≡ r.log_view → (k : ℕ) (h : Header) → part_at r k ≡ Here h → In (Prepare_ok i r.view k h) b.sent
 
 -- A step of r in two parts. In the first the replica stores, and says nothing that asks something; then it vouches for what it has: what it
--- had before, or has written in it. The second begins in the group in which it has vouched: what it puts out is backed by that. At its end it vouches once more. Nothing is
--- made but an entry that it then writes first; and at the end its tables are true, unless it is frozen.
+-- had before, or has written in it. The second begins in the group in which it has vouched: what it puts out is backed by that. At its end
+-- it vouches once more. Nothing is made but an entry that it then writes first; and at the end its tables are true, unless it is frozen.
 pub record IsLoneChain (u : Setup) (start : Group Header) (i : ℕ) (l : Local) (r : Replica) (x : Step) : Type 0 where
   pub first : Step
   pub second : Step
