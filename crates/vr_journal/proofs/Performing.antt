@@ -26,6 +26,7 @@ use Rattle.vr_memory.specs.Words.{checkpoints, checkpoint_of, with_checkpoint, m
 use Rattle.vr_step.specs.declared.halt.Halt.{Halt}
 use Rattle.vr_step.specs.declared.halt.Halt.TheVariants.{DiskFault, NoMemory}
 use Rattle.vr_step.proofs.Stepping.{performs_ok, performs_fault, performs_want, performed, performs_halted, does_by, does_reading, does_then, does_no_memory, change_by_then}
+use Rattle.vr_memory.proofs.Versions.{checkpoint_stays}
 use Rattle.vr_step.specs.Does.{Does, Finds, Performs, PerformsTo}
 
 -- calls that don't depend on what the disk holds
@@ -84,7 +85,7 @@ checkpoint_then r q r2 c d d1 d2 o o' res p s e h =
     let v : checkpoint.SavedCheckpoint = saved_checkpoint r.cluster (texts_of r.state) r.applied r.table in
     let i : q ≡ with_checkpoint v r = rw s at e in
     does_by _ r r2 d d2 o o' res (does_reading (checkpoint_of r) _ v r r2 d d d2 o o' res (checkpoint_found r d)
-    (does_then (does checkpoints) (change (with_checkpoint v) ⨾ save) r r r2 d d1 d2 o o o' res (performed checkpoints r r d d1 o p) (change_by_then (with_checkpoint v) save r q r2 d1 d2 o o' res i h)))
+    (does_then (does checkpoints) (change (with_checkpoint v) ⨾ save) r r r2 d d1 d2 o o o' res (performed checkpoints r r d d1 o p) (change_by_then (with_checkpoint v) save r q r2 d1 d2 o o' res i (checkpoint_stays v r) h)))
 
 pub checkpoint_stopped : (r q : Replica) (d d1 : Option Disk) (o o' : List Output) (halt : Halt) → PerformsTo checkpoints r d d1 (Err halt) → Does make_checkpoint r q d d1 o o' (Err halt)
 unfolding make_checkpoint

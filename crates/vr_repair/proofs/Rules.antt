@@ -132,6 +132,7 @@ block_given g x r r' d d' o o' result e is h =
     record {
       untold = h.untold;
       told = λ y i. subst (λ w. LeftBy (w sectors r y.face) r' y d' o o' result) (sym (gives_as g r (block_at (asked_block g) sectors y.face) k)) (h.told y i);
+      same = h.same;
     }
 
 pub get_block_ignored : (g : GetBlock) (x : Repair) (r : Replica) (d : Option Disk) (o : List Output) → DecidesBlock g x r → (x ≡ repair.BlockGiven → ⊥) → Does (on_get_block g) r r d d o o (Ok tt)
@@ -141,6 +142,7 @@ get_block_ignored g x r d o e n =
     record {
       untold = h.untold;
       told = λ y i. subst (λ w. LeftBy (w sectors r y.face) r y d o o (Ok tt)) (sym (ignores_as g x r (block_at (asked_block g) sectors y.face) e n)) (h.told y i);
+      same = h.same;
     }
 
 -- ---- give_block

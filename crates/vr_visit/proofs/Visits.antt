@@ -20,6 +20,7 @@ use Rattle.vr_journal.specs.Words.{blocks_of, entry_of, header_read, is_loaded, 
 use Rattle.vr_journal.specs.Halt.{Halt}
 use Rattle.vr_journal.specs.Halt.TheVariants.{DiskFault}
 use Rattle.vr_journal.specs.Does.{Does, LeftBy, Performs}
+use Rattle.vr_journal.proofs.Versions.{lost_stays}
 use Rattle.vr_journal.proofs.Stepping.{does_by, does_change, does_effect, does_effect_stopped, does_quiet, does_stopped, does_then}
 use Rattle.vr_ckpt.specs.Blocks.{named}
 use Rattle.vr_ckpt.specs.Grid.{block_reading, named_at}
@@ -50,6 +51,7 @@ unfolding reading
 by_reading h b r q d d' d'' o o' result same v k = record {
   untold = λ e. k.untold (same ∙ e);
   told = λ y e. subst (λ (w : Word Face). LeftBy (w sectors r y.face) q y d'' o o' result) (sym (mends_by h (header_in y.face (h.op % 64)) b (told_is h d y b v e))) (k.told y (same ∙ e));
+  same = k.same;
 }
 
 module _ (h : Header) (b : Bool) (r : Replica) (d d' : Option Disk) (same : d' ≡ d) (v : IfSome d (λ (y : Disk). b ≡ reads_as h (header_in y.face (h.op % 64)))) where
@@ -110,6 +112,7 @@ module _ (h : Header) (ok : Bool) (r q : Replica) (d d' : Option Disk) (is : par
     told = λ y e.
         let there = found_entry h (whole_in 1 y.face (h.op % 64)) ((told_at h ok d y v e).0 t) in
         subst (λ (s : Step). LeftBy s q y d'' o o' result) (sym (read_is h there.0 y.face r is (is_found h y.face there.0 there.1 there.2) there.2)) (k.told y (same ∙ e));
+    same = k.same;
   }
 
   -- the same, where the rest is done from what is the replica by another name
@@ -120,21 +123,22 @@ module _ (h : Header) (ok : Bool) (r q : Replica) (d d' : Option Disk) (is : par
 
   pub slot_lost : (o : List Output) → ok ≡ false → q ≡ lost h r → Does (visit_slot h.op) r q d d' o o (Ok tt)
   slot_lost o t e =
-      let k : Does (change (lost h)) r q d d' o o (Ok tt) = rw (e, same) (does_change (lost h) r d o) in
+      let k : Does (change (lost h)) r q d d' o o (Ok tt) = rw (e, same) (does_change (lost h) r d o (lost_stays h r)) in
       record {
         untold = k.untold;
         told = λ y i.
             let none : entry_of h sectors y.face ≡ None = not_found h (whole_in 1 y.face (h.op % 64)) (λ m. let yes : ok ≡ true = (told_at h ok d y v i).1 m in true≢false (sym yes ∙ t)) in
             subst (λ (s : Step). LeftBy s q y d' o o (Ok tt)) (sym (lost_is h y.face r is none)) (k.told y i);
+        same = k.same;
       }
 
 part_nothing : (p : Part) (op : ℕ) (r : Replica) (d : Option Disk) (o : List Output) → part_at r op ≡ p → ((h : Header) → p ≡ Here h → ⊥) → Does (visit_slot op) r r d d o o (Ok tt)
 unfolding visit_slot with_entry_at by
 part_nothing (Here h) op r d o e n = absurd (n h refl)
-part_nothing (Lost h) op r d o e n = let k = does_quiet r d o in record { untold = k.untold; told = λ y i. rw e (k.told y i) }
-part_nothing (Wanted h) op r d o e n = let k = does_quiet r d o in record { untold = k.untold; told = λ y i. rw e (k.told y i) }
-part_nothing Unknown op r d o e n = let k = does_quiet r d o in record { untold = k.untold; told = λ y i. rw e (k.told y i) }
-part_nothing Nothing op r d o e n = let k = does_quiet r d o in record { untold = k.untold; told = λ y i. rw e (k.told y i) }
+part_nothing (Lost h) op r d o e n = let k = does_quiet r d o in record { untold = k.untold; told = λ y i. rw e (k.told y i); same = k.same }
+part_nothing (Wanted h) op r d o e n = let k = does_quiet r d o in record { untold = k.untold; told = λ y i. rw e (k.told y i); same = k.same }
+part_nothing Unknown op r d o e n = let k = does_quiet r d o in record { untold = k.untold; told = λ y i. rw e (k.told y i); same = k.same }
+part_nothing Nothing op r d o e n = let k = does_quiet r d o in record { untold = k.untold; told = λ y i. rw e (k.told y i); same = k.same }
 
 pub slot_nothing : (p : Part) (op : ℕ) (r : Replica) (d : Option Disk) (o : List Output) → p ≡ part_at r op → ((h : Header) → p ≡ Here h → ⊥) → Does (visit_slot op) r r d d o o (Ok tt)
 slot_nothing p op r d o e n = part_nothing p op r d o (sym e) n
@@ -216,10 +220,11 @@ module _ (name : Name) (b : Bool) (r q : Replica) (d d' : Option Disk) (same : d
     untold = λ e. k.untold (same ∙ e);
     told = λ y e.
         subst (λ (w : Word Face). LeftBy (w sectors r y.face) q y d' o o (Ok tt)) (sym (visits_by name (block_in y.face name) b (block_told y.face name b (bad_is name d y b v e)))) (k.told y (same ∙ e));
+    same = k.same;
   }
 
   pub block_bad : (o : List Output) → b ≡ true → q ≡ with_worn name r → Does (visit_block (Some name)) r q d d' o o (Ok tt)
-  block_bad o t e = block_by o (rw (t, e) (does_change (with_worn name) r d' o))
+  block_bad o t e = block_by o (rw (t, e) (does_change (with_worn name) r d' o refl))
 
   pub block_good : (o : List Output) → b ≡ false → q ≡ r → Does (visit_block (Some name)) r q d d' o o (Ok tt)
   block_good o t e = block_by o (rw (t, e) (does_quiet r d' o))
@@ -254,7 +259,7 @@ pub visit_then : (at : ℕ) (r a q : Replica) (d d' : Option Disk) (o o' : List 
 unfolding visit
 visit_then at r a q d d' o o' t e k i =
     let w : Word Face = visit_place at ⨾ change (with_cursor at) in
-    let both : Does w r q d d' o o' (Ok tt) = does_then (visit_place at) (change (with_cursor at)) r a q d d' d' o o' o' (Ok tt) k (rw i (does_change (with_cursor at) a d' o')) in
+    let both : Does w r q d d' o o' (Ok tt) = does_then (visit_place at) (change (with_cursor at)) r a q d d' d' o o' o' (Ok tt) k (rw i (does_change (with_cursor at) a d' o' refl)) in
     does_by _ r q d d' o o' (Ok tt) (rw t (subst (λ n. Does (visit_place n ⨾ change (with_cursor n)) r q d d' o o' (Ok tt)) e both))
 
 pub visit_stopped : (at : ℕ) (r q : Replica) (d d' : Option Disk) (o o' : List Output) (halt : Halt) → is_loaded r ≡ true → at ≡ place_now r → Does (visit_place at) r q d d' o o' (Err halt) → Does visit r q d d' o o' (Err halt)
