@@ -7,7 +7,7 @@ use Rattle.vr_ckpt.specs.Grid.{put_calls}
 use Rattle.vr_ckpt.specs.declared.name.Name.{Name}
 use Rattle.vr_header.specs.declared.header.Header.{Header}
 use Rattle.vr_journal.specs.Effects.{rewrites, puts}
-use Rattle.vr_memory.specs.Replica.{Replica, part_at}
+use Rattle.vr_memory.specs.Replica.{Replica, part_at, version}
 use Rattle.vr_super.specs.Calls.{write_calls}
 use Rattle.vr_super.specs.Copies.{SuperValue}
 use Rattle.vr_memory.specs.Words.{writes, saves, value_of, may_be_stored}
@@ -34,11 +34,11 @@ pub runs_from : (cs : List Call) (d d' : Option Disk) (ok : Bool) → Runs cs d 
 runs_from cs None d' ok h = h
 runs_from cs (Some x) d' ok h = h
 
-pub write_is_again : (e : Whole) (r : Replica) (d d' : Option Disk) (ok : Bool) → may_be_stored (part_at r e.header.op) ≡ true → Runs (again_calls 1 e) d d' ok → Performs (writes e) r d d' ok
-write_is_again e r d d' ok i h = record { silent = refl; ran = rw i (runs_from (again_calls 1 e) d d' ok h) }
+pub write_is_again : (v : ℕ) (e : Whole) (r : Replica) (d d' : Option Disk) (ok : Bool) → v ≡ version r → may_be_stored (part_at r e.header.op) ≡ true → Runs (again_calls v e) d d' ok → Performs (writes e) r d d' ok
+write_is_again v e r d d' ok n i h = record { silent = refl; ran = rw (i, ← n) (runs_from (again_calls v e) d d' ok h) }
 
-pub write_is_new : (e : Whole) (r : Replica) (d d' : Option Disk) (ok : Bool) → may_be_stored (part_at r e.header.op) ≡ false → Runs (new_calls 1 e) d d' ok → Performs (writes e) r d d' ok
-write_is_new e r d d' ok i h = record { silent = refl; ran = rw i (runs_from (new_calls 1 e) d d' ok h) }
+pub write_is_new : (v : ℕ) (e : Whole) (r : Replica) (d d' : Option Disk) (ok : Bool) → v ≡ version r → may_be_stored (part_at r e.header.op) ≡ false → Runs (new_calls v e) d d' ok → Performs (writes e) r d d' ok
+write_is_new v e r d d' ok n i h = record { silent = refl; ran = rw (i, ← n) (runs_from (new_calls v e) d d' ok h) }
 
 pub save_is : (r : Replica) (old v : SuperValue) (d d' : Option Disk) (ok : Bool) → RunsFrom (write_calls old v) d d' ok → old ≡ r.saved → v ≡ value_of r → Performs saves r d d' ok
 save_is r old v d d' ok h i e = let k = rw (i, e) at h in record { silent = refl; ran = k }
@@ -74,7 +74,7 @@ module _ (r : Replica) (cluster op : ℕ) (state : State) (texts : Texts) (table
 pub checkpoint_none : (r : Replica) (d : Option Disk) → PerformsTo checkpoints r d d (Err NoMemory)
 checkpoint_none r d = performs_want checkpoints r d refl
 
-checkpoint_found : (r : Replica) (d : Option Disk) → Finds (checkpoint_of r) d d (saved_checkpoint r.cluster (texts_of r.state) r.applied r.table)
+checkpoint_found : (r : Replica) (d : Option Disk) → Finds (version r) (checkpoint_of r) d d (saved_checkpoint r.cluster (texts_of r.state) r.applied r.table)
 checkpoint_found r None = record { same = refl; value = tt }
 checkpoint_found r (Some y) = record { same = refl; value = refl }
 

@@ -7,9 +7,9 @@ use Rattle.vr_msg.specs.declared.output.Output.{Output}
 use Rattle.vr_journal.specs.Deciding.{first_of, tick_table}
 use Rattle.vr_journal.specs.Rule.{Rule}
 use Rattle.vr_journal.specs.Rule.TheVariants.{TickedPrimary, TickedBackup, TickedChanging}
-use Rattle.vr_journal.specs.Replica.{Replica, head, last_view}
+use Rattle.vr_journal.specs.Replica.{Replica, head, last_view, version}
 use Rattle.vr_journal.specs.Rules.{idler, next_view, backup_ticks, changing_ticks, primary_ticks, obey_tick, on_tick}
-use Rattle.vr_journal.specs.Sectors.{sectors}
+use Rattle.vr_journal.specs.Sectors.{sectors_by}
 use Rattle.vr_journal.specs.Steps.{Setting, Step, Word, ◌⨾◌, by, change}
 use Rattle.vr_journal.specs.Words.{enter, entered, rested, prepare_again, ask, visit}
 use Rattle.vr_journal.proofs.Keeping.{sound_alike}
@@ -65,7 +65,7 @@ module _ (r r' : Replica) (d d' : Option Disk) (o o' : List Output) (result : Re
   idle_enters : (view : ℕ) → Does (enter view) r r' d d' o o' result → Does (enter view) (idler r) r' d d' o o' result
   idle_enters view h = record {
     untold = h.untold;
-    told = λ x e. subst (λ (s : Step). LeftBy s r' x d' o o' result) (sym (enter_alike view sectors r x.face)) (h.told x e);
+    told = λ x e. subst (λ (s : Step). LeftBy (version r) s r' x d' o o' result) (sym (enter_alike view (sectors_by (version r)) r x.face)) (h.told x e);
     same = h.same;
   }
 

@@ -13,8 +13,8 @@ use Rattle.vr_header.specs.Same.{same_header}
 use Rattle.vr_header.proofs.SameHeaders.{same_header_is, same_header_of}
 use Rattle.vr_msg.specs.declared.output.Output.{Output}
 use Rattle.vr_rings.specs.Slots.{header_in, whole_in}
-use Rattle.vr_journal.specs.Replica.{Replica, part_at}
-use Rattle.vr_journal.specs.Sectors.{block_in, sectors}
+use Rattle.vr_journal.specs.Replica.{Replica, part_at, version}
+use Rattle.vr_journal.specs.Sectors.{block_in, sectors_by}
 use Rattle.vr_journal.specs.Steps.{Rewrite, Step, Word, ◌⨾◌, by, change, does, quiet, reading, when}
 use Rattle.vr_journal.specs.Words.{blocks_of, entry_of, header_read, is_loaded, lost, mend_header, op_of_slot, or_lost, place_now, visit, visit_block, visit_place, visit_read, visit_slot, with_cursor, with_entry, with_entry_at, with_worn}
 use Rattle.vr_journal.specs.Halt.{Halt}
@@ -50,7 +50,7 @@ by_reading : (h : Header) (b : Bool) (r q : Replica) (d d' d'' : Option Disk) (o
 unfolding reading
 by_reading h b r q d d' d'' o o' result same v k = record {
   untold = λ e. k.untold (same ∙ e);
-  told = λ y e. subst (λ (w : Word Face). LeftBy (w sectors r y.face) q y d'' o o' result) (sym (mends_by h (header_in y.face (h.op % 64)) b (told_is h d y b v e))) (k.told y (same ∙ e));
+  told = λ y e. subst (λ (w : Word Face). LeftBy (version r) (w (sectors_by (version r)) r y.face) q y d'' o o' result) (sym (mends_by h (header_in y.face (h.op % 64)) b (told_is h d y b v e))) (k.told y (same ∙ e));
   same = k.same;
 }
 
@@ -76,8 +76,8 @@ found_entry : (h : Header) (x : Option Whole) → option_map (λ (e : Whole). e.
 found_entry h None t = absurd cc
 found_entry h (Some e) t = (e, refl, cc)
 
-is_found : (h : Header) (f : Face) (e : Whole) → whole_in 1 f (h.op % 64) ≡ Some e → e.header ≡ h → entry_of h sectors f ≡ Some e
-is_found h f e there same =
+is_found : (ed : ℕ) (h : Header) (f : Face) (e : Whole) → whole_in ed f (h.op % 64) ≡ Some e → e.header ≡ h → entry_of h (sectors_by ed) f ≡ Some e
+is_found ed h f e there same =
     ap (λ (o : Option Whole). option_and_then (λ x. cond (same_header x.header h) (Some x) None) o) there ∙ ap (λ (b : Bool). cond b (Some e) None) (same_header_of e.header h same)
 
 not_found : (h : Header) (o : Option Whole) → (option_map (λ (e : Whole). e.header) o ≡ Some h → ⊥) → option_and_then (λ (x : Whole). cond (same_header x.header h) (Some x) None) o ≡ None
@@ -88,30 +88,30 @@ not_found h (Some e) n =
       | false ↦ λ t. refl
     ] refl
 
-read_is : (h : Header) (e : Whole) (f : Face) (r : Replica) → part_at r h.op ≡ Here h → entry_of h sectors f ≡ Some e → e.header ≡ h → visit_slot h.op sectors r f ≡ reading (header_read h.op) (mend_header h) sectors r f
+read_is : (ed : ℕ) (h : Header) (e : Whole) (f : Face) (r : Replica) → part_at r h.op ≡ Here h → entry_of h (sectors_by ed) f ≡ Some e → e.header ≡ h → visit_slot h.op (sectors_by ed) r f ≡ reading (header_read h.op) (mend_header h) (sectors_by ed) r f
 unfolding visit_slot with_entry_at by reading
-read_is h e f r is there same =
-    ap (λ (p : Part). with_entry (slot_word h.op) p sectors r f) is ∙ (ap (λ (o : Option Whole). or_lost h (slot_word h.op) o sectors r f) there
-    ∙ ap (λ (x : Header). reading (header_read h.op) (mend_header x) sectors r f) same)
+read_is ed h e f r is there same =
+    ap (λ (p : Part). with_entry (slot_word h.op) p (sectors_by ed) r f) is ∙ (ap (λ (o : Option Whole). or_lost h (slot_word h.op) o (sectors_by ed) r f) there
+    ∙ ap (λ (x : Header). reading (header_read h.op) (mend_header x) (sectors_by ed) r f) same)
 
-lost_is : (h : Header) (f : Face) (r : Replica) → part_at r h.op ≡ Here h → entry_of h sectors f ≡ None → visit_slot h.op sectors r f ≡ change (lost h) sectors r f
+lost_is : (ed : ℕ) (h : Header) (f : Face) (r : Replica) → part_at r h.op ≡ Here h → entry_of h (sectors_by ed) f ≡ None → visit_slot h.op (sectors_by ed) r f ≡ change (lost h) (sectors_by ed) r f
 unfolding visit_slot with_entry_at by reading
-lost_is h f r is none = ap (λ (p : Part). with_entry (slot_word h.op) p sectors r f) is ∙ ap (λ (o : Option Whole). or_lost h (slot_word h.op) o sectors r f) none
+lost_is ed h f r is none = ap (λ (p : Part). with_entry (slot_word h.op) p (sectors_by ed) r f) is ∙ ap (λ (o : Option Whole). or_lost h (slot_word h.op) o (sectors_by ed) r f) none
 
-abbrev Tells : Header → Bool → Option Disk → Type 0
-Tells h ok d = IfSome d (λ (y : Disk). IsTrue ok ↔ (option_map (λ (e : Whole). e.header) (whole_in 1 y.face (h.op % 64)) ≡ Some h))
+abbrev Tells : ℕ → Header → Bool → Option Disk → Type 0
+Tells ed h ok d = IfSome d (λ (y : Disk). IsTrue ok ↔ (option_map (λ (e : Whole). e.header) (whole_in ed y.face (h.op % 64)) ≡ Some h))
 
-told_at : (h : Header) (ok : Bool) (d : Option Disk) (y : Disk) → Tells h ok d → d ≡ Some y → IsTrue ok ↔ (option_map (λ (e : Whole). e.header) (whole_in 1 y.face (h.op % 64)) ≡ Some h)
-told_at h ok None y v e = absurd cc
-told_at h ok (Some z) y v e = let same : z ≡ y = cc in subst (λ (x : Disk). IsTrue ok ↔ (option_map (λ (e : Whole). e.header) (whole_in 1 x.face (h.op % 64)) ≡ Some h)) same v
+told_at : (ed : ℕ) (h : Header) (ok : Bool) (d : Option Disk) (y : Disk) → Tells ed h ok d → d ≡ Some y → IsTrue ok ↔ (option_map (λ (e : Whole). e.header) (whole_in ed y.face (h.op % 64)) ≡ Some h)
+told_at ed h ok None y v e = absurd cc
+told_at ed h ok (Some z) y v e = let same : z ≡ y = cc in subst (λ (x : Disk). IsTrue ok ↔ (option_map (λ (e : Whole). e.header) (whole_in ed x.face (h.op % 64)) ≡ Some h)) same v
 
-module _ (h : Header) (ok : Bool) (r q : Replica) (d d' : Option Disk) (is : part_at r h.op ≡ Here h) (same : d' ≡ d) (v : Tells h ok d) where
+module _ (h : Header) (ok : Bool) (r q : Replica) (d d' : Option Disk) (is : part_at r h.op ≡ Here h) (same : d' ≡ d) (v : Tells (version r) h ok d) where
   pub slot_read : (d'' : Option Disk) (o o' : List Output) (result : Result (Unit {0}) Halt) → ok ≡ true → Does (reading (header_read h.op) (mend_header h)) r q d' d'' o o' result → Does (visit_slot h.op) r q d d'' o o' result
   slot_read d'' o o' result t k = record {
     untold = λ e. k.untold (same ∙ e);
     told = λ y e.
-        let there = found_entry h (whole_in 1 y.face (h.op % 64)) ((told_at h ok d y v e).0 t) in
-        subst (λ (s : Step). LeftBy s q y d'' o o' result) (sym (read_is h there.0 y.face r is (is_found h y.face there.0 there.1 there.2) there.2)) (k.told y (same ∙ e));
+        let there = found_entry h (whole_in (version r) y.face (h.op % 64)) ((told_at (version r) h ok d y v e).0 t) in
+        subst (λ (s : Step). LeftBy (version r) s q y d'' o o' result) (sym (read_is (version r) h there.0 y.face r is (is_found (version r) h y.face there.0 there.1 there.2) there.2)) (k.told y (same ∙ e));
     same = k.same;
   }
 
@@ -127,8 +127,8 @@ module _ (h : Header) (ok : Bool) (r q : Replica) (d d' : Option Disk) (is : par
       record {
         untold = k.untold;
         told = λ y i.
-            let none : entry_of h sectors y.face ≡ None = not_found h (whole_in 1 y.face (h.op % 64)) (λ m. let yes : ok ≡ true = (told_at h ok d y v i).1 m in true≢false (sym yes ∙ t)) in
-            subst (λ (s : Step). LeftBy s q y d' o o (Ok tt)) (sym (lost_is h y.face r is none)) (k.told y i);
+            let none : entry_of h (sectors_by (version r)) y.face ≡ None = not_found h (whole_in (version r) y.face (h.op % 64)) (λ m. let yes : ok ≡ true = (told_at (version r) h ok d y v i).1 m in true≢false (sym yes ∙ t)) in
+            subst (λ (s : Step). LeftBy (version r) s q y d' o o (Ok tt)) (sym (lost_is (version r) h y.face r is none)) (k.told y i);
         same = k.same;
       }
 
@@ -153,40 +153,40 @@ pub found_mended : (h : Header) (b : Bool) (d : Option Disk) → IfSome d (λ (y
 found_mended h b None v t = tt
 found_mended h b (Some y) v t = ap (λ (x : Bool). if x then seen.Good else seen.Mended) (sym t ∙ v)
 
-module _ (h : Header) (ok : Bool) (d : Option Disk) (v : Tells h ok d) where
+module _ (ed : ℕ) (h : Header) (ok : Bool) (d : Option Disk) (v : Tells ed h ok d) where
   pub found_stored : (d' : Option Disk) (result : Result Visit Halt) → d' ≡ d → ok ≡ true → IfSome d' (λ (y : Disk). IfOk result (λ x. x ≡ good_or_mended h (header_in y.face (h.op % 64))))
-      → IfSome d (λ (y : Disk). IfOk result (λ x. x ≡ stored_as h (entry_of h sectors y.face) (header_in y.face (h.op % 64))))
+      → IfSome d (λ (y : Disk). IfOk result (λ x. x ≡ stored_as h (entry_of h (sectors_by ed) y.face) (header_in y.face (h.op % 64))))
   found_stored d' result same t k = at d v (subst (λ (z : Option Disk). IfSome z (λ (y : Disk). IfOk result (λ x. x ≡ good_or_mended h (header_in y.face (h.op % 64))))) same k)
     where
-      each : (y : Disk) (r : Result Visit Halt) → (e : Whole) × (entry_of h sectors y.face ≡ Some e) → IfOk r (λ x. x ≡ good_or_mended h (header_in y.face (h.op % 64)))
-          → IfOk r (λ x. x ≡ stored_as h (entry_of h sectors y.face) (header_in y.face (h.op % 64)))
+      each : (y : Disk) (r : Result Visit Halt) → (e : Whole) × (entry_of h (sectors_by ed) y.face ≡ Some e) → IfOk r (λ x. x ≡ good_or_mended h (header_in y.face (h.op % 64)))
+          → IfOk r (λ x. x ≡ stored_as h (entry_of h (sectors_by ed) y.face) (header_in y.face (h.op % 64)))
       each y (Ok x) there k = k ∙ ap (λ (o : Option Whole). stored_as h o (header_in y.face (h.op % 64))) (sym there.1)
       each y (Err halt) there k = k
 
-      at : (z : Option Disk) → Tells h ok z → IfSome z (λ (y : Disk). IfOk result (λ x. x ≡ good_or_mended h (header_in y.face (h.op % 64))))
-          → IfSome z (λ (y : Disk). IfOk result (λ x. x ≡ stored_as h (entry_of h sectors y.face) (header_in y.face (h.op % 64))))
+      at : (z : Option Disk) → Tells ed h ok z → IfSome z (λ (y : Disk). IfOk result (λ x. x ≡ good_or_mended h (header_in y.face (h.op % 64))))
+          → IfSome z (λ (y : Disk). IfOk result (λ x. x ≡ stored_as h (entry_of h (sectors_by ed) y.face) (header_in y.face (h.op % 64))))
       at None v k = k
       at (Some y) v k =
-          let there = found_entry h (whole_in 1 y.face (h.op % 64)) (v.0 t) in
-          each y result (there.0, is_found h y.face there.0 there.1 there.2) k
+          let there = found_entry h (whole_in ed y.face (h.op % 64)) (v.0 t) in
+          each y result (there.0, is_found ed h y.face there.0 there.1 there.2) k
 
-pub found_lost : (h : Header) (ok : Bool) (d : Option Disk) → Tells h ok d → ok ≡ false → IfSome d (λ (y : Disk). seen.Lost ≡ stored_as h (entry_of h sectors y.face) (header_in y.face (h.op % 64)))
-found_lost h ok None v t = tt
-found_lost h ok (Some y) v t =
-    let none : entry_of h sectors y.face ≡ None = not_found h (whole_in 1 y.face (h.op % 64)) (λ m. let yes : ok ≡ true = v.1 m in true≢false (sym yes ∙ t)) in
+pub found_lost : (ed : ℕ) (h : Header) (ok : Bool) (d : Option Disk) → Tells ed h ok d → ok ≡ false → IfSome d (λ (y : Disk). seen.Lost ≡ stored_as h (entry_of h (sectors_by ed) y.face) (header_in y.face (h.op % 64)))
+found_lost ed h ok None v t = tt
+found_lost ed h ok (Some y) v t =
+    let none : entry_of h (sectors_by ed) y.face ≡ None = not_found h (whole_in ed y.face (h.op % 64)) (λ m. let yes : ok ≡ true = v.1 m in true≢false (sym yes ∙ t)) in
     sym (ap (λ (o : Option Whole). stored_as h o (header_in y.face (h.op % 64))) none)
 
-pub found_here : (p : Part) (h : Header) (d : Option Disk) (result : Result Visit Halt) → p ≡ Here h → IfSome d (λ (y : Disk). IfOk result (λ x. x ≡ stored_as h (entry_of h sectors y.face) (header_in y.face (h.op % 64))))
-    → IfSome d (λ (y : Disk). IfOk result (λ x. x ≡ found_at p y.face))
-found_here p h d result e k = subst (λ (q : Part). IfSome d (λ (y : Disk). IfOk result (λ x. x ≡ found_at q y.face))) (sym e) k
+pub found_here : (ed : ℕ) (p : Part) (h : Header) (d : Option Disk) (result : Result Visit Halt) → p ≡ Here h → IfSome d (λ (y : Disk). IfOk result (λ x. x ≡ stored_as h (entry_of h (sectors_by ed) y.face) (header_in y.face (h.op % 64))))
+    → IfSome d (λ (y : Disk). IfOk result (λ x. x ≡ found_at ed p y.face))
+found_here ed p h d result e k = subst (λ (q : Part). IfSome d (λ (y : Disk). IfOk result (λ x. x ≡ found_at ed q y.face))) (sym e) k
 
-pub found_nothing : (p : Part) (d : Option Disk) → ((h : Header) → p ≡ Here h → ⊥) → IfSome d (λ (y : Disk). seen.Nothing ≡ found_at p y.face)
-found_nothing p None n = tt
-found_nothing (Here h) (Some y) n = absurd (n h refl)
-found_nothing (Lost h) (Some y) n = refl
-found_nothing (Wanted h) (Some y) n = refl
-found_nothing Unknown (Some y) n = refl
-found_nothing Nothing (Some y) n = refl
+pub found_nothing : (ed : ℕ) (p : Part) (d : Option Disk) → ((h : Header) → p ≡ Here h → ⊥) → IfSome d (λ (y : Disk). seen.Nothing ≡ found_at ed p y.face)
+found_nothing ed p None n = tt
+found_nothing ed (Here h) (Some y) n = absurd (n h refl)
+found_nothing ed (Lost h) (Some y) n = refl
+found_nothing ed (Wanted h) (Some y) n = refl
+found_nothing ed Unknown (Some y) n = refl
+found_nothing ed Nothing (Some y) n = refl
 
 -- ---- blocks
 
@@ -219,7 +219,7 @@ module _ (name : Name) (b : Bool) (r q : Replica) (d d' : Option Disk) (same : d
   block_by o k = record {
     untold = λ e. k.untold (same ∙ e);
     told = λ y e.
-        subst (λ (w : Word Face). LeftBy (w sectors r y.face) q y d' o o (Ok tt)) (sym (visits_by name (block_in y.face name) b (block_told y.face name b (bad_is name d y b v e)))) (k.told y (same ∙ e));
+        subst (λ (w : Word Face). LeftBy (version r) (w (sectors_by (version r)) r y.face) q y d' o o (Ok tt)) (sym (visits_by name (block_in y.face name) b (block_told y.face name b (bad_is name d y b v e)))) (k.told y (same ∙ e));
     same = k.same;
   }
 
