@@ -96,15 +96,15 @@ give_prepare_ignored g x r d o e n = give_prepare_obeyed g x r r d d o o (Ok tt)
 
 -- ---- get_block
 
-module _ (g : GetBlock) (r : Replica) (d d' : Option Disk) (name : Name) (found : Option (List ℕ)) (read : Finds (version r) (block_at name) d d' found) (asked : name ≡ asked_block g) where
+module _ (g : GetBlock) (r : Replica) (d d' : Option Disk) (name : Name) (found : Option (List ℕ)) (read : (v : ℕ) → Finds v (block_at name) d d' found) (asked : name ≡ asked_block g) where
   pub block_read : (b : List ℕ) (o o' : List Output) → found ≡ Some b → o' ≡ o ++ send_to g.replica (give_block g.address b r) r → Does (reading (block_at (asked_block g)) (give_read g)) r r d d' o o' (Ok tt)
   block_read b o o' is said =
-      let k : Finds (version r) (block_at (asked_block g)) d d' (Some b) = rw (asked, is) at read in
+      let k : Finds (version r) (block_at (asked_block g)) d d' (Some b) = rw (asked, is) at (read (version r)) in
       does_reading (block_at (asked_block g)) (give_read g) (Some b) r r d d' d' o o' (Ok tt) k (says_by (λ x. send_to g.replica (give_block g.address b x) x) r d' o o' said)
 
   pub block_unread : (o : List Output) → found ≡ None → Does (reading (block_at (asked_block g)) (give_read g)) r r d d' o o (Ok tt)
   block_unread o is =
-      let k : Finds (version r) (block_at (asked_block g)) d d' None = rw (asked, is) at read in
+      let k : Finds (version r) (block_at (asked_block g)) d d' None = rw (asked, is) at (read (version r)) in
       does_reading (block_at (asked_block g)) (give_read g) None r r d d' d' o o (Ok tt) k (does_quiet r d' o)
 
 abbrev pub DecidesBlock : GetBlock → Repair → Replica → Type 0

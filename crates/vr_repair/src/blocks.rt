@@ -39,7 +39,7 @@ fn give_block<D: SectorDisk>(
     ensures cause { Caused (D.faults disk.old) (D.faults disk.new) result }
     ensures step { Does (reading (block_at (asked_block get.now)) (give_read get.now)) replica.now replica.now (D.told disk.old) (D.told disk.new) out.old out.new result }
 {
-    match find_block(replica, alloc, disk, &asked_block(get))? {
+    match find_block(alloc, disk, &asked_block(get))? {
         Some(block) => replica.give_block(get.replica, get.address, block, out)?,
         None => {}
     }

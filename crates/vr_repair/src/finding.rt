@@ -1,6 +1,5 @@
 //! A block that is read to be given.
-ghost use Rattle.std.specs.Prelude.{◌≡◌, IfOk, IfSome, None, Some, length, if◌then◌else◌};
-ghost use Rattle.vr_journal.specs.Replica.{version};
+ghost use Rattle.std.specs.Prelude.{ℕ, ◌≡◌, IfOk, IfSome, None, Some, length, if◌then◌else◌};
 ghost use Rattle.vr_journal.specs.Rules.{block_at};
 ghost use Rattle.vr_journal.specs.Does.{Finds};
 
@@ -8,7 +7,6 @@ use std::alloc::{AllocError, Global};
 use vr_base::{ByteList, NoMemory, Seq};
 use vr_ckpt::{Name, is_block_on};
 use vr_disk::{BLOCK_SECTORS, BLOCKS, SectorDisk, block_place, read_sectors};
-use vr_journal::Replica;
 
 fn list_of(alloc: Global, bytes: &[u8]) -> Result<ByteList, AllocError>
     ensures { IfOk result (λ list. list ≡ bytes.now) }
@@ -20,11 +18,11 @@ fn list_of(alloc: Global, bytes: &[u8]) -> Result<ByteList, AllocError>
 
 // Whether a block can be read, and is the whole one of this name.
 #[tactic(auto, using(crate::proofs::BlockReadings::block_past, crate::proofs::BlockReadings::block_unread, crate::proofs::BlockReadings::block_as))]
-fn read_whole<D: SectorDisk>(_replica: &Replica, disk: &mut D, name: &Name, to: &mut [u8]) -> bool
+fn read_whole<D: SectorDisk>(disk: &mut D, name: &Name, to: &mut [u8]) -> bool
     requires { length to.old ≡ 4096 }
     ensures told { D.told disk.new ≡ D.told disk.old }
     ensures faults { D.faults disk.new ≡ D.faults disk.old }
-    ensures found { Finds (version _replica.now) (block_at name.now) (D.told disk.old) (D.told disk.new) (if result then Some to.new else None) }
+    ensures found { (v : ℕ) → Finds v (block_at name.now) (D.told disk.old) (D.told disk.new) (if result then Some to.new else None) }
     ensures size { length to.new ≡ 4096 }
 {
     if name.address >= u64::from(BLOCKS) {
@@ -36,20 +34,19 @@ fn read_whole<D: SectorDisk>(_replica: &Replica, disk: &mut D, name: &Name, to: 
     is_block_on(disk, to, name)
 }
 
-/// The whole block that reads under this name, of 4,096 bytes; `None` where none does. Memory is taken for the block alone.
+/// The whole block that reads under this name, of 4,096 bytes, whatever the version of the file; `None` where none does. Memory is taken for the block alone.
 pub fn find_block<D: SectorDisk>(
-    replica: &Replica,
     alloc: Global,
     disk: &mut D,
     name: &Name,
 ) -> Result<Option<ByteList>, NoMemory>
     ensures told { D.told disk.new ≡ D.told disk.old }
     ensures faults { D.faults disk.new ≡ D.faults disk.old }
-    ensures found { IfOk result (λ block. Finds (version replica.now) (block_at name.now) (D.told disk.old) (D.told disk.new) block) }
+    ensures found { IfOk result (λ block. (v : ℕ) → Finds v (block_at name.now) (D.told disk.old) (D.told disk.new) block) }
     ensures size { IfOk result (λ block. IfSome block (λ bytes. length bytes ≡ 4096)) }
 {
     let mut bytes = [0; 4096];
-    if read_whole(replica, disk, name, &mut bytes) {
+    if read_whole(disk, name, &mut bytes) {
         Ok(Some(list_of(alloc, &bytes)?))
     } else {
         Ok(None)
