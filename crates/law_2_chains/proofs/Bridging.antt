@@ -1,5 +1,5 @@
 -- Each move of a group is a chain of the machine's moves.
-use Rattle.std.proofs.Common.{ℕ, zero, suc, ◌+◌, ◌-◌, ◌%◌, ◌≤◌, ◌≡◌, ◌≢◌, ◌∙◌, ◌⊎◌, inl, inr, arith, refl, sym, ap, subst, Bool, List, [], ◌∷◌, ◌++◌, length, take, Some, None}
+use Rattle.std.proofs.Common.{ℕ, zero, suc, ◌+◌, ◌-◌, ◌%◌, ◌≤◌, ◌<◌, ◌≡◌, ◌≢◌, ◌∙◌, ◌⊎◌, inl, inr, arith, refl, sym, ap, subst, Bool, List, [], ◌∷◌, ◌++◌, length, take, Some, None}
 use Rattle.std.specs.Prelude.{All, slice_get, slice_set}
 use Rattle.std.proofs.lemmas.Bool.{cases_lt, le-ltb, lt-ltb}
 use Rattle.std.proofs.lemmas.List.{append_assoc, drop_all, take_all, take-append-le}
@@ -17,7 +17,7 @@ use Rattle.vr_world.specs.Steps.{Effect, Write, outputs}
 use Rattle.vr_world.specs.Lying.{Lying, lying}
 use Rattle.vr_world.specs.Outputs.{messages}
 use Rattle.vr_world.specs.Group as group
-use Rattle.vr_world.specs.Group.{Arrival, Asked, Message, Time, IsArrival, MayOpen, Move, Moved, Moves, Opens, Played, Run, carried_out, cut_after, cut_in_two, keeps_all, made_in, mended, once_mended, opening_script, resumed, stepped, with_script}
+use Rattle.vr_world.specs.Group.{Arrival, Asked, Message, Time, IsArrival, MayOpen, Move, Moved, Moves, Opens, Played, Run, carried_out, cut_after, cut_in_two, keeps_all, made_by_effect, made_in, mended, once_mended, opening_script, resumed, stepped, with_script}
 use Rattle.vr_world.specs.GroupFit.{IsFitArrival, IsFitGroup, IsFitMember, IsFitMove, IsFitValue}
 use Rattle.vr_world.specs.Own.{IsAt}
 use Rattle.vr_world.specs.Fit.{MayCome, ReadsWell}
@@ -53,7 +53,9 @@ use Rattle.law_2_chains.proofs.Playing.{leaves, cut_at}
 use Rattle.law_2_chains.proofs.Chained.{chain_react}
 use Rattle.law_2_chains.proofs.Opening.{opens}
 use Rattle.law_2_chains.specs.Bridge.{Bridges, Chained, ChoosesWell, Follows, IsGround, IsMember, IsOwnVouch, IsRunning, IsSent}
-use Rattle.law_2_chains.specs.Lone.{LoneChooses, Vouched}
+use Rattle.law_2_chains.specs.Lone.{IsStored, LoneChooses, Vouched}
+use Rattle.law_2_chains.proofs.Tabling.{in_left}
+use Rattle.std.proofs.lemmas.Option.{slice_get_within}
 
 -- ---- lists
 
@@ -69,10 +71,18 @@ set_place (z ∷ zs) zero (suc j) y x e = inr (λ t. omega (arith, t), e)
 set_place (z ∷ zs) (suc i) zero y x e = inr (λ t. omega (arith, t), e)
 set_place (z ∷ zs) (suc i) (suc j) y x e = elim (set_place zs i j y x e) [ inl p ↦ inl (ap suc p.0, p.1) | inr q ↦ inr (λ t. q.0 (omega (arith, t)), q.1) ]
 
+at_set : {X : Type 0} (xs : List X) (i : ℕ) (y : X) → i < length xs → slice_get (slice_set xs i y) i ≡ Some y
+at_set [] i y l = absurd (omega arith)
+at_set (x ∷ xs) zero y l = refl
+at_set (x ∷ xs) (suc i) y l = at_set xs i y (omega arith)
+
 made_append : (a b : List Effect) → made_in (a ++ b) ≡ made_in a ++ made_in b
 unfolding made_in
 made_append [] b = refl
 made_append (e ∷ es) b = ap (λ hs. group.made_by_effect e ++ hs) (made_append es b) ∙ sym (append_assoc (group.made_by_effect e) (made_in es) (made_in b))
+
+made_front : (a b : List Effect) (h : Header) → In h (made_in a) → In h (made_in (a ++ b))
+made_front a b h j = subst (In h) (sym (made_append a b)) (in_left h (made_in a) (made_in b) j)
 
 all_made : (P : Header → Type 0) (hs : List Header) → Every P hs → All P hs
 all_made P [] h = All-nil P
@@ -137,16 +147,16 @@ begun_cut u s at k es _ (one_made again e later is first new) =
 
 -- The group from which a member goes on, beside the one before the move: it may have vouched for what it has stored, where it is a group by
 -- itself; of the effects that are carried out the first may have begun to write what was made.
-record Grounded (u : Setup) (s : Group Header) (at : ℕ) (es : List Effect) (b : Group Header) : Type 0 where
-  ground : IsGround u s b
+record Grounded (u : Setup) (g : group.Group) (s : Group Header) (at : ℕ) (es : List Effect) (b : Group Header) : Type 0 where
+  ground : IsGround u g es s b
   chosen : (c : Choice Header) → In c s.chosen → In c b.chosen
   members : (j : ℕ) → j ≢ at → b.members j ≡ s.members j
   kept : (x : Made Header) → In x s.made → In x b.made
   made : (x : Made Header) → In x b.made → In x s.made ⊎ ((at ≡ x.view % u.quorums.n) × In x.entry (made_in es))
   few : length b.made ≤ length s.made + 1
 
-ground_of : (u : Setup) (s : Group Header) (at : ℕ) (es : List Effect) (b : Group Header) → Begun u s at es b → Grounded u s at es b
-ground_of u s at es b x = record {
+ground_of : (u : Setup) (g : group.Group) (s : Group Header) (at : ℕ) (es : List Effect) (b : Group Header) → Begun u s at es b → Grounded u g s at es b
+ground_of u g s at es b x = record {
   ground = record { before = λ m h. subst (In m) (sym x.sent) h; own = λ m h. inl (subst (In m) x.sent h); several = λ few. x.sent };
   chosen = λ c h. subst (In c) (sym x.chosen) h;
   members = λ j n. x.members j;
@@ -155,27 +165,48 @@ ground_of u s at es b x = record {
   few = x.few;
 }
 
+-- what it has stored at the end of the first part it had, or has written in it
+abbrev IsHeld : Replica → Replica → List Effect → Type 0
+IsHeld r q es = (k : ℕ) (h : Header) → part_at q k ≡ Here h → (part_at r k ≡ Here h) ⊎ (In h (made_in es) × (h.op ≡ k))
+
+held_more : (r q : Replica) (es fs : List Effect) → ((h : Header) → In h (made_in es) → In h (made_in fs)) → IsHeld r q es → IsHeld r q fs
+held_more r q es fs f held k h e = elim (held k h e) [ inl old ↦ inl old | inr new ↦ inr (f h new.0, new.1) ]
+
 -- where a replica that is a group by itself has vouched in between
-ground_vouched : {r : Replica} {l : Local} (u : Setup) (alone : u.quorums.n ≡ 1) (s : Group Header) (at : ℕ) (es : List Effect) (b c d : Group Header) → Begun u s at es b → Under u b at l c → Vouched at r c d → Grounded u s at es d
-ground_vouched {r} u alone s at es b c d x y v =
-    let made : d.made ≡ b.made = v.made ∙ y.none_made in
-    let sent : (m : machine.Message Header) → In m c.sent → In m s.sent = λ m h. subst (In m) (y.sent ∙ x.sent) h in
-    record {
-      ground = record {
-        before = λ m h. v.kept m (subst (In m) (sym (y.sent ∙ x.sent)) h);
-        own = λ m h. elim (v.only m h) [ inl old ↦ inl (sent m old) | inr new ↦ inr (record { alone = alone; index = at; replica = r; stored = new }) ];
-        several = λ few. absurd (omega arith);
-      };
-      chosen = λ k h. subst (In k) (sym v.chosen) (y.chosen k (subst (In k) (sym x.chosen) h));
-      members = λ j n. ap (λ f. f j) v.members ∙ (y.others j n ∙ x.members j);
-      kept = λ k h. subst (In k) (sym made) (x.kept k h);
-      made = λ k h. x.made k (subst (In k) made h);
-      few = let few = x.few in subst (λ (ys : List (Made Header)). length ys ≤ length s.made + 1) (sym made) few;
-    }
+module _ (u : Setup) (alone : u.quorums.n ≡ 1) (g : group.Group) (s : Group Header) (at : ℕ) (es : List Effect) (m : group.Member) (r : Replica) (runs : group.Runs g at m r) where
+  own_vouch : (q : Replica) → q.view ≡ r.view → IsHeld r q es → (z : machine.Message Header) → IsStored at q z → IsOwnVouch u g es z
+  own_vouch q views held z x = record {
+    alone = alone;
+    at = at;
+    member = m;
+    replica = r;
+    runs = runs;
+    op = x.op;
+    header = x.header;
+    is = x.is ∙ ap (λ v. machine.Prepare_ok at v x.op x.header) views;
+    stored = held x.op x.header x.here;
+  }
+
+  ground_vouched : (q : Replica) (l : Local) (b c d : Group Header) → q.view ≡ r.view → IsHeld r q es → Begun u s at es b → Under u b at l c → Vouched at q c d → Grounded u g s at es d
+  ground_vouched q l b c d views held x y v =
+      let made : d.made ≡ b.made = v.made ∙ y.none_made in
+      let sent : (z : machine.Message Header) → In z c.sent → In z s.sent = λ z h. subst (In z) (y.sent ∙ x.sent) h in
+      record {
+        ground = record {
+          before = λ z h. v.kept z (subst (In z) (sym (y.sent ∙ x.sent)) h);
+          own = λ z h. elim (v.only z h) [ inl old ↦ inl (sent z old) | inr new ↦ inr (own_vouch q views held z new) ];
+          several = λ few. absurd (omega arith);
+        };
+        chosen = λ k h. subst (In k) (sym v.chosen) (y.chosen k (subst (In k) (sym x.chosen) h));
+        members = λ j n. ap (λ f. f j) v.members ∙ (y.others j n ∙ x.members j);
+        kept = λ k h. subst (In k) (sym made) (x.kept k h);
+        made = λ k h. x.made k (subst (In k) made h);
+        few = let few = x.few in subst (λ (ys : List (Made Header)). length ys ≤ length s.made + 1) (sym made) few;
+      }
 
 -- ---- one member moved
 
-module _ (u : Setup) (g : group.Group) (s : Group Header) (bridge : Bridges u g s) (fit : IsFitGroup u.cluster g) (at : ℕ) (es : List Effect) (b : Group Header) (begun : Grounded u s at es b) (a : Group Header)
+module _ (u : Setup) (g : group.Group) (s : Group Header) (bridge : Bridges u g s) (fit : IsFitGroup u.cluster g) (at : ℕ) (es : List Effect) (b : Group Header) (begun : Grounded u g s at es b) (a : Group Header)
     (reached : IsReached u a) (others : (j : ℕ) → j ≢ at → a.members j ≡ b.members j) (sent_b : (m : machine.Message Header) → In m b.sent → In m a.sent) (chosen_b : (c : Choice Header) → In c b.chosen → In c a.chosen) (same_made : a.made ≡ b.made) where
   sent : (m : machine.Message Header) → In m s.sent → In m a.sent
   sent m h = sent_b m (begun.ground.before m h)
@@ -248,7 +279,7 @@ record EndsSo (u : Setup) (b : Group Header) (i : ℕ) (r : Replica) (l : Local)
   kept : (m : machine.Message Header) → In m b.sent → In m a.sent
   chosen : (c : Choice Header) → In c b.chosen → In c a.chosen
   told : Every (IsTrue u b.sent a.sent) l.said
-  only : (m : machine.Message Header) → In m a.sent → In m b.sent ⊎ (IsSaid u l.said m ⊎ IsOwnVouch u m)
+  only : (m : machine.Message Header) → In m a.sent → In m b.sent ⊎ (IsSaid u l.said m ⊎ ((u.quorums.n ≡ 1) × IsStored i r m))
   vouched : u.quorums.n ≡ 1 → r.view ≡ r.log_view → (k : ℕ) (h : Header) → part_at r k ≡ Here h → In (machine.Prepare_ok i r.view k h) a.sent
 
 ends_of : (u : Setup) → 2 ≤ u.quorums.n → (b : Group Header) (i : ℕ) (r : Replica) (l : Local) (a : Group Header) → Finished u b i r l a → EndsSo u b i r l a
@@ -285,15 +316,15 @@ ends_vouched u alone b i r l c a x reached v = record {
   told = every_map (IsTrue u b.sent c.sent) (IsTrue u b.sent a.sent) l.said (true_more u b.sent c.sent a.sent v.kept) x.told;
   only = λ m h. elim (v.only m h) [
     | inl old ↦ elim (x.only m old) [ inl older ↦ inl older | inr said ↦ inr (inl said) ]
-    | inr new ↦ inr (inr (record { alone = alone; index = i; replica = r; stored = new }))
+    | inr new ↦ inr (inr (alone, new))
   ];
   vouched = λ one. v.all;
 }
 
-module _ (u : Setup) (g : group.Group) (s : Group Header) (bridge : Bridges u g s) (fit : IsFitGroup u.cluster g) (at : ℕ) (es : List Effect) (b : Group Header) (begun : Grounded u s at es b) where
-  ends_chained : (move : Move) (q : Replica) (m : group.Member) (l : Local) (a : Group Header) (x : EndsSo u b at q l a) → l.member ≡ m → l.made ≡ made_in es → l.said ≡ outputs es → HasTables u a at q
+module _ (u : Setup) (g : group.Group) (s : Group Header) (bridge : Bridges u g s) (fit : IsFitGroup u.cluster g) (at : ℕ) (es : List Effect) (b : Group Header) (begun : Grounded u g s at es b) where
+  ends_chained : (at < length g.members) → (move : Move) (q : Replica) (m : group.Member) (l : Local) (a : Group Header) (x : EndsSo u b at q l a) → l.member ≡ m → l.made ≡ made_in es → l.said ≡ outputs es → HasTables u a at q
       → ChoosesWell g move a.chosen (outputs es) → Chained u s a (record { before = g; move = move; moved = with_script g at (record m { replica = Some q }) es (outputs es) })
-  ends_chained move q m l a x member_is made_is said_is tables well =
+  ends_chained there move q m l a x member_is made_is said_is tables well =
       let disk : IsDisk m (a.members at) = subst (λ y. IsDisk y (a.members at)) member_is x.disk in
       let stored : KeepsStored q m = subst (KeepsStored q) member_is x.stored in
       let told : Every (IsTrue u b.sent a.sent) (outputs es) = subst (Every (IsTrue u b.sent a.sent)) said_is x.told in
@@ -312,8 +343,11 @@ module _ (u : Setup) (g : group.Group) (s : Group Header) (bridge : Bridges u g 
         grounds = begun.ground;
         told = told;
         only = λ y h. elim (x.only y h) [
-          | inl old ↦ elim (begun.ground.own y old) [ inl older ↦ inl older | inr own ↦ inr (inr own) ]
-          | inr new ↦ elim new [ inl said ↦ inr (inl (subst (λ os. IsSaid u os y) said_is said)) | inr own ↦ inr (inr own) ]
+          | inl old ↦ elim (begun.ground.own y old) [ inl older ↦ inl older | inr own ↦ inr (inr (inl own)) ]
+          | inr new ↦ elim new [
+            | inl said ↦ inr (inl (subst (λ os. IsSaid u os y) said_is said))
+            | inr own ↦ inr (inr (inr (own_vouch u own.0 (with_script g at m' es (outputs es)).group a at [] m' q (record { member = at_set g.members at m' there; running = refl }) q refl (λ k h e. inl e) y own.1)))
+          ]
         ];
         made = λ y h. elim (begun.made y (subst (In y) x.none_made h)) [ inl old ↦ inl old | inr new ↦ inr new.1 ];
         few = few_made s b a begun.few x.none_made;
@@ -341,7 +375,7 @@ module _ (u : Setup) (g : group.Group) (s : Group Header) (bridge : Bridges u g 
         ground = b;
         grounds = begun.ground;
         told = tt;
-        only = λ z h. elim (begun.ground.own z (subst (In z) y.sent h)) [ inl old ↦ inl old | inr own ↦ inr (inr own) ];
+        only = λ z h. elim (begun.ground.own z (subst (In z) y.sent h)) [ inl old ↦ inl old | inr own ↦ inr (inr (inl own)) ];
         made = λ z h. elim (begun.made z (subst (In z) y.none_made h)) [ inl old ↦ inl old | inr new ↦ inr new.1 ];
         few = few_made s b a begun.few y.none_made;
         choices = well;
@@ -368,6 +402,13 @@ cut_so P k es l cuts end =
           let y = leaves es l in
           record { left = carried es l; stopped = end; member = y.member ∙ sym n.0; made = y.made ∙ ap (λ (ys : List Effect). l.made ++ made_in ys) (sym n.1) }
     ]
+
+-- what was begun to be written stays so
+cuts_holding : (P : Local → Type 0) (hs : List Header) (es : List Effect) (l : Local) → ((h : Header) → In h hs → In h l.made) → WhereverCut P es l → WhereverCut (λ k. P k × ((h : Header) → In h hs → In h k.made)) es l
+cuts_holding P hs [] l f h = tt
+cuts_holding P hs (e ∷ es) l f h =
+    let more : (x : Header) → In x hs → In x (l.made ++ made_by_effect e) = λ x j. in_left x l.made (made_by_effect e) (f x j) in
+    ((h.0, more), cuts_holding P hs es (through e l) more h.1)
 
 cuts_so_too : (P Q : Local → Type 0) → ((l : Local) → P l → Q l) → (es : List Effect) (l : Local) → WhereverCut P es l → WhereverCut Q es l
 cuts_so_too P Q f [] l h = tt
@@ -434,7 +475,7 @@ module _ (u : Setup) (fits : Fits u) (hash : u.hash ≡ lying.hash) (g : group.G
       let l : Local = carried x.script (local m) in
       let well : ChoosesWell g (group.Steps at a e d) c.finishes.after.chosen (outputs x.script) = λ m2 r2 other line j. subst (λ (q : Replica). IsMadeFrom c.finishes.after.chosen e q line) (same_runs at m m2 r r2 there runs other) (w.choices line j) in (
         c.finishes.after,
-        ends_chained u g s bridge fit at x.script c.begun (ground_of u s at x.script c.begun (begun_of u s at x.script c.begun c.begins)) (group.Steps at a e d) x.replica (carried_out x.script m) l c.finishes.after
+        ends_chained u g s bridge fit at x.script c.begun (ground_of u g s at x.script c.begun (begun_of u s at x.script c.begun c.begins)) (slice_get_within g.members at m there) (group.Steps at a e d) x.replica (carried_out x.script m) l c.finishes.after
             (ends_of u several c.begun at x.replica l c.finishes.after c.finishes.ends) y.member y.made y.said c.tables well,
       )
 
@@ -446,10 +487,12 @@ module _ (u : Setup) (fits : Fits u) (hash : u.hash ≡ lying.hash) (g : group.G
       let y = leaves x.script (local m) in
       let l : Local = carried x.script (local m) in
       let ends : Finished u c.ground at x.replica l c.finishes.after = rw (c.script, c.replica, carried_append c.first.script c.second.script (local m)) c.finishes.ends in
-      let grounded = ground_vouched u alone s at x.script c.begun c.goes.after c.ground (begun_of u s at x.script c.begun c.begins) c.goes.ends.under c.grounds in
+      let runs_there : group.Runs g at m r = record { member = there; running = runs } in
+      let held = held_more r c.first.replica c.first.script x.script (λ h j. subst (λ (ys : List Effect). In h (made_in ys)) (sym c.script) (made_front c.first.script c.second.script h j)) c.held in
+      let grounded = ground_vouched u alone g s at x.script m r runs_there c.first.replica (carried c.first.script (local m)) c.begun c.goes.after c.ground c.view held (begun_of u s at x.script c.begun c.begins) c.goes.ends.under c.grounds in
       let well : ChoosesWell g (group.Steps at a e d) c.after.chosen (outputs x.script) = λ m2 r2 other line j. subst (λ (q : Replica). IsMadeFrom c.after.chosen e q line) (same_runs at m m2 r r2 there runs other) (w.choices line j) in (
         c.after,
-        ends_chained u g s bridge fit at x.script c.ground grounded (group.Steps at a e d) x.replica (carried_out x.script m) l c.after (ends_vouched u alone c.ground at x.replica l c.finishes.after c.after ends c.reached c.vouches) y.member y.made y.said
+        ends_chained u g s bridge fit at x.script c.ground grounded (slice_get_within g.members at m there) (group.Steps at a e d) x.replica (carried_out x.script m) l c.after (ends_vouched u alone c.ground at x.replica l c.finishes.after c.after ends c.reached c.vouches) y.member y.made y.said
             c.tables well,
       )
 
@@ -465,7 +508,7 @@ module _ (u : Setup) (fits : Fits u) (hash : u.hash ≡ lying.hash) (g : group.G
       let x = stepped e r d in
       let es : List Effect = take (k + 1) x.script in
       let y = cut_so (Stopped u c.begun at) k x.script (local m) c.finishes.cuts c.finishes.stopped in
-      (y.stopped.group, stops_chained u g s bridge fit at es c.begun (ground_of u s at es c.begun (begun_cut u s at k x.script c.begun c.begins)) (group.Cuts at a e d k) (cut_after k x.script m) y.left y.stopped y.member y.made tt)
+      (y.stopped.group, stops_chained u g s bridge fit at es c.begun (ground_of u g s at es c.begun (begun_cut u s at k x.script c.begun c.begins)) (group.Cuts at a e d k) (cut_after k x.script m) y.left y.stopped y.member y.made tt)
 
   -- it is cut before it has vouched, or behind that
   cuts_alone : u.quorums.n ≡ 1 → (at : ℕ) (a : Arrival) (e : Event) (d : Lying) (k : ℕ) (m : group.Member) (r : Replica) → slice_get g.members at ≡ Some m → m.replica ≡ Some r → IsFitArrival a → IsArrival g at a e → CutsSo at a e d k m r
@@ -473,18 +516,27 @@ module _ (u : Setup) (fits : Fits u) (hash : u.hash ≡ lying.hash) (g : group.G
       let c = (lone_of alone at a e d m r there runs h i).chain in
       let x = stepped e r d in
       let es : List Effect = take (k + 1) x.script in
-      let P : Local → Type 0 = λ l. Stopped u c.begun at l ⊎ Stopped u c.ground at l in
-      let cuts : WhereverCut P (c.first.script ++ c.second.script) (local m) =
-      cut_append P c.first.script c.second.script (local m) (cuts_so_too (Stopped u c.begun at) P (λ l z. inl z) c.first.script (local m) c.goes.cuts)
-      (cuts_so_too (Stopped u c.ground at) P (λ l z. inr z) c.second.script (carried c.first.script (local m)) c.finishes.cuts) in
-      let end : P (carried (c.first.script ++ c.second.script) (local m)) = inr (rw (carried_append c.first.script c.second.script (local m)) c.finishes.stopped) in
+      let first : List Effect = c.first.script in
+      let second : List Effect = c.second.script in
+      let l0 : Local = carried first (local m) in
+      let Has : Local → Type 0 = λ l. (h : Header) → In h (made_in first) → In h l.made in
+      let P : Local → Type 0 = λ l. Stopped u c.begun at l ⊎ (Stopped u c.ground at l × Has l) in
+      let has : Has l0 = λ h j. subst (In h) (sym (leaves first (local m)).made) j in
+      let last : Has (carried second l0) = λ h j. subst (In h) (sym (leaves second l0).made) (in_left h l0.made (made_in second) (has h j)) in
+      let cuts : WhereverCut P (first ++ second) (local m) =
+      cut_append P first second (local m) (cuts_so_too (Stopped u c.begun at) P (λ l z. inl z) first (local m) c.goes.cuts)
+      (cuts_so_too (λ l. Stopped u c.ground at l × Has l) P (λ l z. inr z) second l0 (cuts_holding (Stopped u c.ground at) (made_in first) second l0 has c.finishes.cuts)) in
+      let end : P (carried (first ++ second) (local m)) = inr (rw (carried_append first second (local m)) (c.finishes.stopped, last)) in
       let y = cut_so P k x.script (local m) (rw c.script cuts) (rw c.script end) in
       let begun = begun_cut u s at k x.script c.begun c.begins in
-      let stopped : (b : Group Header) → Grounded u s at es b → Stopped u b at y.left → CutsSo at a e d k m r =
+      let runs_there : group.Runs g at m r = record { member = there; running = runs } in
+      let stopped : (b : Group Header) → Grounded u g s at es b → Stopped u b at y.left → CutsSo at a e d k m r =
       λ b grounded z. (z.group, stops_chained u g s bridge fit at es b grounded (group.Cuts at a e d k) (cut_after k x.script m) y.left z y.member y.made tt) in
       elim y.stopped [
-        | inl first ↦ stopped c.begun (ground_of u s at es c.begun begun) first
-        | inr second ↦ stopped c.ground (ground_vouched u alone s at es c.begun c.goes.after c.ground begun c.goes.ends.under c.grounds) second
+        | inl early ↦ stopped c.begun (ground_of u g s at es c.begun begun) early
+        | inr late ↦
+            let held = held_more r c.first.replica first es (λ h j. subst (In h) y.made (late.1 h j)) c.held in
+            stopped c.ground (ground_vouched u alone g s at es m r runs_there c.first.replica l0 c.begun c.goes.after c.ground c.view held begun c.goes.ends.under c.grounds) late.0
       ]
 
   cuts_so : (at : ℕ) (a : Arrival) (e : Event) (d : Lying) (k : ℕ) (m : group.Member) (r : Replica) → slice_get g.members at ≡ Some m → m.replica ≡ Some r → IsFitArrival a → IsArrival g at a e → CutsSo at a e d k m r
@@ -495,7 +547,7 @@ module _ (u : Setup) (fits : Fits u) (hash : u.hash ≡ lying.hash) (g : group.G
   crashes_so at m there =
       let x = bridge.members at m there in
       let y = stops u s at (local m) (local m) s (record { reached = bridge.reached; sent = refl; chosen = λ c h. h; others = λ j n. refl; disk = x.disk; made = tt; none_made = refl }) x.disk tt in
-      (y.group, stops_chained u g s bridge fit at [] s (ground_of u s at [] s (begun_same u s at [])) (group.Crashes at) m (local m) y refl refl tt)
+      (y.group, stops_chained u g s bridge fit at [] s (ground_of u g s at [] s (begun_same u s at [])) (group.Crashes at) m (local m) y refl refl tt)
 
   -- ---- openings
 
@@ -554,7 +606,7 @@ module _ (u : Setup) (fits : Fits u) (hash : u.hash ≡ lying.hash) (g : group.G
       let found : k.member ≡ once_mended v d m = ap (keeps_all (group.found v d)) p.member in
       let z = opened_so at y.replica (carried y.script k) c.finishes.after c.finishes.ends c.tables in (
         z.after,
-        ends_chained u g s bridge fit at es s (ground_of u s at es s (begun_same u s at es)) (group.Recovers at v d) y.replica (carried_out y.script (once_mended v d m)) (carried y.script k) z.after z.ends
+        ends_chained u g s bridge fit at es s (ground_of u g s at es s (begun_same u s at es)) (slice_get_within g.members at m o.member) (group.Recovers at v d) y.replica (carried_out y.script (once_mended v d m)) (carried y.script k) z.after z.ends
             (q.member ∙ ap (carried_out y.script) found) (q.made ∙ (ap (λ (hs : List Header). hs ++ made_in y.script) p.made ∙ sym (made_append x.script y.script)))
             (q.said ∙ (ap (λ (os : List Output). os ++ outputs y.script) p.said ∙ sym (outputs_append x.script y.script))) z.tables tt,
       )
@@ -569,7 +621,7 @@ module _ (u : Setup) (fits : Fits u) (hash : u.hash ≡ lying.hash) (g : group.G
       let found : l.member ≡ once_mended v d m = ap (keeps_all (group.found v d)) p.member in
       let es : List Effect = take (k + 1) (opening_script v d) in
       let chained : (w : group.Member) (j : Local) (z : Stopped u s at j) → j.member ≡ w → j.made ≡ made_in es → w ≡ cut_in_two x.script y.script (keeps_all (group.found v d)) k m → (z : Group Header) × Chained u s z (record { before = g; move = group.RecoversCut at v d k; moved = group.start_cut g at m v d k }) =
-      λ w j z member made is. (z.group, stops_chained u g s bridge fit at es s (ground_of u s at es s (begun_same u s at es)) (group.RecoversCut at v d k) (cut_in_two x.script y.script (keeps_all (group.found v d)) k m) j z (member ∙ is) made tt) in
+      λ w j z member made is. (z.group, stops_chained u g s bridge fit at es s (ground_of u g s at es s (begun_same u s at es)) (group.RecoversCut at v d k) (cut_in_two x.script y.script (keeps_all (group.found v d)) k m) j z (member ∙ is) made tt) in
       elim (cases_lt k (length x.script)) [
         | inl first ↦
             let z = cut_at (Stopped u s at) x.script (local m) k first c.mends in

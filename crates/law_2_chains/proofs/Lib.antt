@@ -32,6 +32,7 @@ pub mod Chained
 pub mod LoneGoing
 pub mod LoneTries
 pub mod LoneTicks
+pub mod LoneWords
 pub mod LoneEvents
 pub mod Blocks
 pub mod Playing

@@ -71,7 +71,7 @@ within_parts r k h is =
           ]
     ] refl is
 
-in_range : (n low k : ℕ) → low ≤ k → k < low + n → In k (range_with_len low n)
+pub in_range : (n low k : ℕ) → low ≤ k → k < low + n → In k (range_with_len low n)
 in_range zero low k a b = absurd (omega arith)
 in_range (suc n) low k a b = elim (cases_eq k low) [
   | inl same ↦ inl same

@@ -1,11 +1,13 @@
 -- Words that are chains in two parts: in the first the replica stores, then it vouches, and the second goes on from there.
-use Rattle.std.proofs.Common.{ℕ, ◌≡◌, ◌∙◌, refl, sym, ap, subst, false, List, [], ◌∷◌, ◌++◌}
+use Rattle.std.proofs.Common.{ℕ, ◌≡◌, ◌∙◌, inr, inl, ◌⊎◌, refl, sym, ap, subst, false, List, [], ◌∷◌, ◌++◌}
 use Rattle.std.proofs.lemmas.List.{append_assoc}
 use Rattle.std.proofs.lemmas.List.Elements.{All-contains}
 use Rattle.vr_header.specs.declared.header.Header.{Header}
+use Rattle.vr_header.specs.declared.part.Part.TheVariants.{Here}
 use Rattle.vr_msg.specs.declared.event.Event.{Event}
 use Rattle.vr_msg.specs.declared.output.Output.TheVariants as output
-use Rattle.vr_world.specs.Replica.{Replica}
+use Rattle.vr_world.specs.Replica.{Replica, part_at}
+use Rattle.vr_world.specs.Group.{made_by_effect, made_in}
 use Rattle.vr_world.specs.Steps.{Effect, Setting, Step, Word, ◌⨾◌, after_all, change, outputs}
 use Rattle.vr_world.proofs.SilentWaits.{Mute}
 use Rattle.law_1_machine.specs.Basics.{In}
@@ -24,34 +26,42 @@ use Rattle.law_2_chains.proofs.Lone.{vouches_at_end}
 use Rattle.law_2_chains.proofs.Moving.{stops}
 use Rattle.law_2_chains.proofs.Picking.{IsPicked}
 use Rattle.law_2_chains.proofs.Scripts.{carried_append, cut_append}
-use Rattle.law_2_chains.proofs.Tabling.{Since, Tabled, since_finished}
+use Rattle.law_2_chains.proofs.Tabling.{Since, Tabled, in_right, since_finished}
 use Rattle.law_2_chains.proofs.Tallies.{tables_vouched}
 
+later_made : (a b : List Effect) (h : Header) → In h (made_in b) → In h (made_in (a ++ b))
+unfolding made_in
+later_made [] b h j = j
+later_made (e ∷ es) b h j = in_right h (made_by_effect e) (made_in (es ++ b)) (later_made es b h j)
+
 module _ (u : Setup) (start : Group Header) (i : ℕ) (e : Event) (o : Replica) where
-  pub record LoneGoes (l : Local) (x : Step) : Type 0 where
+  -- what is stored at the end of the first part q had before, or it was written in it
+  pub record LoneGoes (q : Replica) (l : Local) (x : Step) : Type 0 where
     pub first : Step
     pub second : Step
     pub script : x.script ≡ first.script ++ second.script
     pub replica : x.replica ≡ second.replica
     pub goes : Goes u start i l first
     pub silent : Every AsksNothing (carried first.script l).said
+    pub view : first.replica.view ≡ q.view
+    pub held : (k : ℕ) (h : Header) → part_at first.replica k ≡ Here h → (part_at q k ≡ Here h) ⊎ (In h (made_in first.script) × (h.op ≡ k))
     pub ground : Group Header
     pub grounds : Vouched i first.replica goes.after ground
     pub going : Goes u ground i (carried first.script l) second
     pub made : AreMade going.after.chosen e o x.script
 
-  pub lone_changed : {F : Type 0} (g : Replica → Replica) (w : Word F) (t : Setting F) (r : Replica) (f : F) (l : Local) → ((d : F) → LoneGoes l (w t (g r) d)) → LoneGoes l ((change g ⨾ w) t r f)
+  pub lone_changed : {F : Type 0} (q : Replica) (g : Replica → Replica) (w : Word F) (t : Setting F) (r : Replica) (f : F) (l : Local) → ((d : F) → LoneGoes q l (w t (g r) d)) → LoneGoes q l ((change g ⨾ w) t r f)
   unfolding change ◌⨾◌
-  lone_changed g w t r f l go =
+  lone_changed q g w t r f l go =
       let h = go (after_all t f []) in
-      record { first = h.first; second = h.second; script = h.script; replica = h.replica; goes = h.goes; silent = h.silent; ground = h.ground; grounds = h.grounds; going = h.going; made = h.made }
+      record { first = h.first; second = h.second; script = h.script; replica = h.replica; goes = h.goes; silent = h.silent; view = h.view; held = h.held; ground = h.ground; grounds = h.grounds; going = h.going; made = h.made }
 
   -- a chain without a choice, and then one in two parts
-  pub then_lone : {F : Type 0} (v w : Word F) → Mute v → (t : Setting F) (r : Replica) (f : F) (l : Local) → Goes u start i l (v t r f)
-      → ((a : Group Header) → Mid u start i (v t r f).replica (carried (v t r f).script l) a → LoneGoes (carried (v t r f).script l) (w t (v t r f).replica (after_all t f (v t r f).script)))
-      → LoneGoes l ((v ⨾ w) t r f)
+  pub then_lone : {F : Type 0} (q : Replica) (v w : Word F) → Mute v → (t : Setting F) (r : Replica) (f : F) (l : Local) → Goes u start i l (v t r f)
+      → ((a : Group Header) → Mid u start i (v t r f).replica (carried (v t r f).script l) a → LoneGoes q (carried (v t r f).script l) (w t (v t r f).replica (after_all t f (v t r f).script)))
+      → LoneGoes q l ((v ⨾ w) t r f)
   unfolding ◌⨾◌
-  then_lone v w m t r f l h k =
+  then_lone q v w m t r f l h k =
       let a = v t r f in
       let g = k h.after h.ends in
       let b = w t a.replica (after_all t f a.script) in
@@ -63,6 +73,8 @@ module _ (u : Setup) (start : Group Header) (i : ℕ) (e : Event) (o : Replica) 
         replica = g.replica;
         goes = record { after = g.goes.after; ends = rw more g.goes.ends; cuts = cut_append (Stopped u start i) a.script g.first.script l h.cuts g.goes.cuts };
         silent = rw more g.silent;
+        view = g.view;
+        held = λ j h e. elim (g.held j h e) [ inl old ↦ inl old | inr new ↦ inr (later_made a.script g.first.script h new.0, new.1) ];
         ground = g.ground;
         grounds = g.grounds;
         going = record { after = g.going.after; ends = rw more g.going.ends; cuts = rw more g.going.cuts };
@@ -70,10 +82,10 @@ module _ (u : Setup) (start : Group Header) (i : ℕ) (e : Event) (o : Replica) 
       }
 
   -- one in two parts, and then a chain without a choice
-  pub lone_then : {F : Type 0} (v w : Word F) → Mute w → (t : Setting F) (r : Replica) (f : F) (l : Local) → LoneGoes l (v t r f)
-      → ((s a : Group Header) (k : Local) (d : F) → Mid u s i (v t r f).replica k a → Goes u s i k (w t (v t r f).replica d)) → LoneGoes l ((v ⨾ w) t r f)
+  pub lone_then : {F : Type 0} (q : Replica) (v w : Word F) → Mute w → (t : Setting F) (r : Replica) (f : F) (l : Local) → LoneGoes q l (v t r f)
+      → ((s a : Group Header) (k : Local) (d : F) → Mid u s i (v t r f).replica k a → Goes u s i k (w t (v t r f).replica d)) → LoneGoes q l ((v ⨾ w) t r f)
   unfolding ◌⨾◌
-  lone_then v w m t r f l h go =
+  lone_then q v w m t r f l h go =
       let a = v t r f in
       let d = after_all t f a.script in
       let b = w t a.replica d in
@@ -91,6 +103,8 @@ module _ (u : Setup) (start : Group Header) (i : ℕ) (e : Event) (o : Replica) 
         replica = refl;
         goes = h.goes;
         silent = h.silent;
+        view = h.view;
+        held = h.held;
         ground = h.ground;
         grounds = h.grounds;
         going = record {
@@ -101,8 +115,25 @@ module _ (u : Setup) (start : Group Header) (i : ℕ) (e : Event) (o : Replica) 
         made = are_append y.after.chosen e o a.script b.script (are_more cs y.after.chosen kept e o a.script h.made) (are_none y.after.chosen e o w m t a.replica d);
       }
 
+  -- another replica had the same
+  pub lone_alike : (p q : Replica) → q.view ≡ p.view → ((k : ℕ) (h : Header) → part_at q k ≡ Here h → part_at p k ≡ Here h) → (l : Local) (x : Step) → LoneGoes q l x → LoneGoes p l x
+  lone_alike p q views same l x h = record {
+    first = h.first;
+    second = h.second;
+    script = h.script;
+    replica = h.replica;
+    goes = h.goes;
+    silent = h.silent;
+    view = h.view ∙ views;
+    held = λ k g j. elim (h.held k g j) [ inl old ↦ inl (same k g old) | inr new ↦ inr new ];
+    ground = h.ground;
+    grounds = h.grounds;
+    going = h.going;
+    made = h.made;
+  }
+
   -- to the end of a step of the replica, where its tables are true
-  pub lone_ends : (l : Local) (x : Step) → LoneGoes l x → Tabled u start i x → LoneChooses u start i l e o x
+  pub lone_ends : (l : Local) (x : Step) → LoneGoes o l x → Tabled u start i x → LoneChooses u start i l e o x
   lone_ends l x h tabled =
       let k : Local = carried h.first.script l in
       let n : Local = carried h.second.script k in
@@ -130,6 +161,8 @@ module _ (u : Setup) (start : Group Header) (i : ℕ) (e : Event) (o : Replica) 
           begins = as_it_was;
           goes = h.goes;
           silent = h.silent;
+          view = h.view;
+          held = h.held;
           ground = h.ground;
           grounds = h.grounds;
           finishes = record { after = y.0; ends = ends; cuts = g.cuts; stopped = stops u h.ground i n n g.after z z.disk z.made };

@@ -13,6 +13,7 @@ use Rattle.vr_world.specs.Outputs.{prepare, send_to_all}
 use Rattle.vr_world.specs.Steps.{Effect, Say, Setting, Step, ◌⨾◌, change, does, says, after_all}
 use Rattle.vr_world.specs.Words.{writes, write, stored, advance}
 use Rattle.vr_world.specs.Rules.{make, on_request}
+use Rattle.vr_world.specs.Group.{made_in}
 use Rattle.vr_world.specs.Laws.{IsMessage}
 use Rattle.vr_world.specs.Deciding.{first_of, request_table}
 use Rattle.vr_world.proofs.SilentSteps.{mute_request}
@@ -30,7 +31,7 @@ use Rattle.law_2_chains.specs.Lone.{IsLoneChain, LoneChooses, Vouched}
 use Rattle.law_2_chains.specs.Tables.{HasVouchedAt}
 use Rattle.law_2_chains.proofs.Tallies.{Tallies, tables_vouched}
 use Rattle.law_2_chains.proofs.Scripts.{every_append}
-use Rattle.law_2_chains.proofs.Writing.{goes_write, stored_ackers, stored_here, stored_next, stored_up, stored_views}
+use Rattle.law_2_chains.proofs.Writing.{goes_write, stored_ackers, stored_held, stored_here, stored_next, stored_up, stored_views}
 use Rattle.law_2_chains.proofs.Applying.{goes_says_then}
 use Rattle.law_2_chains.proofs.Learning.{HasVouched, goes_advance}
 use Rattle.law_2_chains.proofs.Finishing.{goes_finishes}
@@ -102,8 +103,8 @@ module _ (u : Setup) (quorum : replication u.quorums.n ≡ u.quorums.replication
         goes_advance u b i t q d k a z (counted_within q z.sound.order.known) each))
 
     -- where the first part ended it vouches; then it goes on
-    lone_make : {F : Type 0} (t : Setting F) (f : F) → IsLoneChain u start i l (make e t r f)
-    unfolding make write does change ◌⨾◌ says
+    lone_make : {F : Type 0} (t : Setting F) (f : F) → IsLoneChain u start i l r (make e t r f)
+    unfolding make write does change ◌⨾◌ says made_in
     lone_make t f =
         let sound = y.mid.sound in
         let may = y.may in
@@ -139,6 +140,8 @@ module _ (u : Setup) (quorum : replication u.quorums.n ≡ u.quorums.replication
           begins = one_made _ e _ refl first_place (not_made u start i e r l y);
           goes = g;
           silent = silent;
+          view = view.0;
+          held = λ k h is. elim (stored_held e r sound may k h is) [ inl old ↦ inl old | inr new ↦ inr (inl new.0, ap (λ (g : Header). g.op) new.0 ∙ new.1) ];
           ground = v.0;
           grounds = v.2;
           finishes = h;
@@ -154,4 +157,4 @@ module _ (u : Setup) (quorum : replication u.quorums.n ≡ u.quorums.replication
   unfolding on_request
   lone_request start i event q t r f l x tables same group names last top free m =
       lone_mute u start i event (on_request q) (mute_naming _ (λ hash. mute_by _ (λ r. mute_request hash q (first_of (request_table q r))))) t r f l
-      (by_request u start i (IsLoneChain u start i l) q t r f l (λ z go. lone_goes u start i r l x free z tables go) (λ e y. lone_make start i e r l y t f) x tables same group names last top free m)
+      (by_request u start i (IsLoneChain u start i l r) q t r f l (λ z go. lone_goes u start i r l x free z tables go) (λ e y. lone_make start i e r l y t f) x tables same group names last top free m)

@@ -8,6 +8,7 @@ use Rattle.vr_base.specs.declared.table.Quorums.{Quorums}
 use Rattle.vr_base.specs.Groups.{quorums_of}
 use Rattle.vr_base.specs.Replicas.{size}
 use Rattle.vr_header.specs.declared.header.Header.{Header}
+use Rattle.vr_header.specs.declared.part.Part.TheVariants.{Here}
 use Rattle.vr_msg.specs.declared.choice.Choice.{Choice}
 use Rattle.vr_msg.specs.declared.choice.Choice.TheVariants.{Ends, TooFew, WaitsAt}
 use Rattle.vr_msg.specs.declared.event.Event.{Event}
@@ -15,7 +16,7 @@ use Rattle.vr_msg.specs.declared.event.Event.TheVariants as event
 use Rattle.vr_msg.specs.declared.output.Output.{Output}
 use Rattle.vr_msg.specs.Normal.{primary}
 use Rattle.vr_world.specs.Outputs.{do_view_change, send_to_all, start_view_change, to_primary, wait_line}
-use Rattle.vr_world.specs.Replica.{Replica, is_primary, is_started, view_change}
+use Rattle.vr_world.specs.Replica.{Replica, part_at, is_primary, is_started, view_change}
 use Rattle.vr_world.specs.Rules.{idler, next_view}
 use Rattle.vr_world.specs.Sound.{IsSound}
 use Rattle.vr_world.specs.Steps.{Setting, Step, Word, ◌⨾◌, after_all, by, change, naming, quiet, says, when}
@@ -27,13 +28,13 @@ use Rattle.law_2_chains.specs.Chains.{Setup, Every, AsksNothing, Goes, Mid}
 use Rattle.law_2_chains.specs.Choices.{IsMadeFrom}
 use Rattle.law_2_chains.specs.Local.{Local, carried}
 use Rattle.law_2_chains.specs.Lone.{LoneChooses}
-use Rattle.law_2_chains.specs.LoneWords.{begin_counting, obey_choice_counting, speak_counting, ticks_counting, try_counting, try_log_counting}
+use Rattle.law_2_chains.specs.LoneWords.{begin_ending, obey_choice_ending, speak_ending, ticks_ending, try_ending, try_log_ending}
 use Rattle.law_2_chains.specs.Tables.{Fits}
 use Rattle.law_2_chains.proofs.Beginning.{AreStated, decided_of, free_changes, said_free}
 use Rattle.law_2_chains.proofs.Chained.{mute_next, next}
 use Rattle.law_2_chains.proofs.Choices.{Concludes, GoesAndChooses, chooses_changed, chooses_none, chooses_then, concludes_goes, concludes_none, then_chooses, with_chosen}
 use Rattle.law_2_chains.proofs.Finishing.{goes_finishes}
-use Rattle.law_2_chains.proofs.LoneGoing.{LoneGoes, lone_changed, lone_ends, lone_then, then_lone}
+use Rattle.law_2_chains.proofs.LoneGoing.{LoneGoes, lone_alike, lone_changed, lone_ends, lone_then, then_lone}
 use Rattle.law_2_chains.proofs.LoneSteps.{lone_concludes}
 use Rattle.law_2_chains.proofs.LoneTries.{MayBegin, lone_begins}
 use Rattle.law_2_chains.proofs.Moving.{goes_says}
@@ -51,13 +52,13 @@ use Rattle.law_2_chains.proofs.Vouching.{goes_change_then}
 
 -- ---- words that come to the same
 
-same_then : {F : Type 0} (v w x : Word F) (t : Setting F) (r : Replica) (f : F) → ((d : F) → w t (v t r f).replica d ≡ x t (v t r f).replica d) → (v ⨾ w) t r f ≡ (v ⨾ x) t r f
+pub same_then : {F : Type 0} (v w x : Word F) (t : Setting F) (r : Replica) (f : F) → ((d : F) → w t (v t r f).replica d ≡ x t (v t r f).replica d) → (v ⨾ w) t r f ≡ (v ⨾ x) t r f
 unfolding ◌⨾◌
 same_then v w x t r f same =
     let a = v t r f in
     ap (λ (z : Step). record { replica = z.replica; script = a.script ++ z.script }) (same (after_all t f a.script))
 
-then_same : {F : Type 0} (v x w : Word F) (t : Setting F) (r : Replica) (f : F) → v t r f ≡ x t r f → (v ⨾ w) t r f ≡ (x ⨾ w) t r f
+pub then_same : {F : Type 0} (v x w : Word F) (t : Setting F) (r : Replica) (f : F) → v t r f ≡ x t r f → (v ⨾ w) t r f ≡ (x ⨾ w) t r f
 unfolding ◌⨾◌
 then_same v x w t r f same = ap (λ (a : Step). record { replica = (w t a.replica (after_all t f a.script)).replica; script = a.script ++ (w t a.replica (after_all t f a.script)).script }) same
 
@@ -72,7 +73,7 @@ module _ (u : Setup) (i : ℕ) {F : Type 0} (t : Setting F) (q : Replica) where
   -- or its view begins
   data Comes (z : F → Step) : Type 0 where
     quietly : (w : Word F) → Quietly w → ((d : F) → z d ≡ w t q d) → Comes z
-    begins : (hs : List Header) → MayBegin u q hs → ((d : F) → z d ≡ begin_counting (stated q) (chosen_log q (stated q) hs) t q d) → Comes z
+    begins : (hs : List Header) → MayBegin u q hs → ((d : F) → z d ≡ begin_ending advance (stated q) (chosen_log q (stated q) hs) t q d) → Comes z
 
   is_quiet : Quietly quiet
   unfolding quiet
@@ -89,30 +90,30 @@ module _ (u : Setup) (i : ℕ) {F : Type 0} (t : Setting F) (q : Replica) where
 
   module _ (fits : Fits u) (size_is : q.n ≡ u.quorums.n) (prim : is_primary q ≡ true) where
     comes_log : (hs : List Header) → decided q ≡ Ends hs → (b : Bool) → may_take t.hash (chosen_log q (stated q) hs) q ≡ b
-        → Comes (λ d. cond b (begin_counting (stated q) (chosen_log q (stated q) hs)) (says (wait_line (chosen_log q (stated q) hs).head)) t q d)
+        → Comes (λ d. cond b (begin_ending advance (stated q) (chosen_log q (stated q) hs)) (says (wait_line (chosen_log q (stated q) hs).head)) t q d)
     comes_log hs is true may =
         let y = decided_of (quorums_of q.n) (stated q) hs is in
         let nack_is : y.0.nack ≡ u.quorums.nack = sym (ap (λ (o : Option Quorums). option_map_or (λ q. q.nack) o 0) (sym (ap quorums_of size_is) ∙ y.1)) ∙ fits.nack_is in
         begins hs (record { sizes = y.0; ends = y.2; nack_is = nack_is; may = may_take_is t.hash (chosen_log q (stated q) hs) q may }) (λ d. refl)
     comes_log hs is false may = quietly (says (wait_line (chosen_log q (stated q) hs).head)) (is_wait _) (λ d. refl)
 
-    comes_choice : (c : Choice) → decided q ≡ c → Comes (λ d. obey_choice_counting (stated q) c t q d)
-    unfolding try_log_counting naming by
+    comes_choice : (c : Choice) → decided q ≡ c → Comes (λ d. obey_choice_ending advance (stated q) c t q d)
+    unfolding try_log_ending naming by
     comes_choice TooFew is = quietly quiet is_quiet (λ d. refl)
     comes_choice (WaitsAt op) is = quietly (says (wait_line op)) (is_wait op) (λ d. refl)
     comes_choice (Ends hs) is = comes_log hs is (may_take t.hash (chosen_log q (stated q) hs) q) refl
 
-    comes_try : (b : Bool) → Comes (λ d. when b (obey_choice_counting (stated q) (decided q)) t q d)
+    comes_try : (b : Bool) → Comes (λ d. when b (obey_choice_ending advance (stated q) (decided q)) t q d)
     comes_try true = comes_choice (decided q) refl
     comes_try false = quietly quiet is_quiet (λ d. refl)
 
-    comes_speak : (b : Bool) → Comes (λ d. when b (cond (is_primary q) try_counting (says (to_primary do_view_change))) t q d)
-    unfolding try_counting by
+    comes_speak : (b : Bool) → Comes (λ d. when b (cond (is_primary q) (try_ending advance) (says (to_primary do_view_change))) t q d)
+    unfolding try_ending by
     comes_speak true = rw prim (comes_try (is_primary q && not (is_started q)))
     comes_speak false = quietly quiet is_quiet (λ d. refl)
 
-    comes : Comes (λ d. speak_counting t q d)
-    unfolding speak_counting by
+    comes : Comes (λ d. speak_ending advance t q d)
+    unfolding speak_ending by
     comes = comes_speak (nat_le (view_change q.n) (size q.heard))
 
 -- ---- the tick
@@ -124,8 +125,8 @@ alone_leads r one member =
     eq-eqb r.index (r.view % r.n) (omega arith)
 
 tabled_begun : {F : Type 0} (u : Setup) (start : Group Header) (i : ℕ) (t : Setting F) (q : Replica) (d : F) → Enters u start i q → is_primary q ≡ true → (hs : List Header) → MayBegin u q hs
-    → Tabled u start i (begin_counting (stated q) (chosen_log q (stated q) hs) t q d)
-unfolding begin_counting
+    → Tabled u start i (begin_ending advance (stated q) (chosen_log q (stated q) hs) t q d)
+unfolding begin_ending
 tabled_begun u start i t q d y prim hs b = tabled_begins u start i advance stays_advance t q d y prim b.sizes hs b.ends b.may
 
 module _ (u : Setup) (fits : Fits u) (one : u.quorums.n ≡ 1) (start : Group Header) (i : ℕ) {F : Type 0} (t : Setting F) (r : Replica) (l : Local) (free : Every AsksNothing l.said) (lower : r.log_view < r.view) where
@@ -135,6 +136,10 @@ module _ (u : Setup) (fits : Fits u) (one : u.quorums.n ≡ 1) (start : Group He
   -- the rest of it, after these words of its view
   abbrev after_idling : Word F → Word F
   after_idling w = change idler ⨾ says (send_to_all start_view_change) ⨾ w ⨾ visit ⨾ ask
+
+  idler_held : (k : ℕ) (h : Header) → part_at q k ≡ Here h → part_at r k ≡ Here h
+  unfolding part_at
+  idler_held k h is = is
 
   enters_it : (s : Group Header) → Mid u s i r l s → Tallies u s i r → Enters u s i q
   enters_it s x tables = started_so u s i q l (mid_idler u s i r l s x) tables.stated lower
@@ -164,34 +169,34 @@ module _ (u : Setup) (fits : Fits u) (one : u.quorums.n ≡ 1) (start : Group He
       )
 
   -- its view begins
-  tick_begins : (f : F) (hs : List Header) → MayBegin u q hs → Mid u start i r l start → Tallies u start i r → LoneChooses u start i l event.Tick r (after_idling (begin_counting (stated q) (chosen_log q (stated q) hs)) t r f)
+  tick_begins : (f : F) (hs : List Header) → MayBegin u q hs → Mid u start i r l start → Tallies u start i r → LoneChooses u start i l event.Tick r (after_idling (begin_ending advance (stated q) (chosen_log q (stated q) hs)) t r f)
   unfolding says
   tick_begins f hs b x tables =
       let y = mid_idler u start i r l start x in
       let size = x.size in
       let prim = alone_leads r (omega arith) x.sound.member in
-      let w : Word F = begin_counting (stated q) (chosen_log q (stated q) hs) in
-      let begins_so : (k : Local) (a : Group Header) (d : F) → Mid u start i q k a → Every AsksNothing k.said → LoneGoes u start i event.Tick r k (w t q d) =
+      let w : Word F = begin_ending advance (stated q) (chosen_log q (stated q) hs) in
+      let begins_so : (k : Local) (a : Group Header) (d : F) → Mid u start i q k a → Every AsksNothing k.said → LoneGoes u start i event.Tick r q k (w t q d) =
       λ k a d z calm. lone_begins u fits start i event.Tick r t q d k a z (hears_it start x) tables.stated prim lower calm hs b in
       let sound : (d : F) → IsSound (w t q d).replica = λ d. let h = begins_so l start d y free in subst IsSound (sym h.replica) h.going.ends.sound in
       lone_ends u start i event.Tick r l _
-      (lone_changed u start i event.Tick r idler _ t r f l (λ d.
-      then_lone u start i event.Tick r (says (send_to_all start_view_change)) (w ⨾ visit ⨾ ask) (mute_all start_view_change) t q d l (says_it start start l d y) (λ a z.
-      lone_then u start i event.Tick r w (visit ⨾ ask) mute_looks t q _ _ (begins_so _ a _ z (said_free (send_to_all start_view_change q) l free (free_changes u start i q))) (λ s a k d z. goes_looks u s i t _ _ _ a z))))
+      (lone_changed u start i event.Tick r r idler _ t r f l (λ d.
+      then_lone u start i event.Tick r r (says (send_to_all start_view_change)) (w ⨾ visit ⨾ ask) (mute_all start_view_change) t q d l (says_it start start l d y) (λ a z.
+      lone_then u start i event.Tick r r w (visit ⨾ ask) mute_looks t q _ _ (lone_alike u start i event.Tick r r q refl idler_held _ _ (begins_so _ a _ z (said_free (send_to_all start_view_change q) l free (free_changes u start i q)))) (λ s a k d z. goes_looks u s i t _ _ _ a z))))
       (tabled_change_then u start i idler _ t r f (λ d.
       tabled_says_then u start i (send_to_all start_view_change) _ t q d (λ d.
       tabled_then_stays u start i w (visit ⨾ ask) t q d (tabled_begun u start i t q d (enters_it start x tables) prim hs b) (sound d) stays_looks)))
 
-  tick_comes : (f : F) → Mid u start i r l start → Tallies u start i r → Comes u i t q (λ d. speak_counting t q d) → LoneChooses u start i l event.Tick r (after_idling speak_counting t r f)
+  tick_comes : (f : F) → Mid u start i r l start → Tallies u start i r → Comes u i t q (λ d. speak_ending advance t q d) → LoneChooses u start i l event.Tick r (after_idling (speak_ending advance) t r f)
   unfolding change says
   tick_comes f x tables (quietly w h same) =
-      let is : after_idling speak_counting t r f ≡ after_idling w t r f =
-      same_then (change idler) _ _ t r f (λ d. same_then (says (send_to_all start_view_change)) _ _ t q d (λ d. then_same speak_counting w (visit ⨾ ask) t q d (same d))) in
+      let is : after_idling (speak_ending advance) t r f ≡ after_idling w t r f =
+      same_then (change idler) _ _ t r f (λ d. same_then (says (send_to_all start_view_change)) _ _ t q d (λ d. then_same (speak_ending advance) w (visit ⨾ ask) t q d (same d))) in
       subst (LoneChooses u start i l event.Tick r) (sym is) (lone_concludes u start i r l x free event.Tick (after_idling w t r f) tables (λ s y z. tick_quietly f w h s y z))
   tick_comes f x tables (begins hs b same) =
-      let w : Word F = begin_counting (stated q) (chosen_log q (stated q) hs) in
-      let is : after_idling speak_counting t r f ≡ after_idling w t r f =
-      same_then (change idler) _ _ t r f (λ d. same_then (says (send_to_all start_view_change)) _ _ t q d (λ d. then_same speak_counting w (visit ⨾ ask) t q d (same d))) in
+      let w : Word F = begin_ending advance (stated q) (chosen_log q (stated q) hs) in
+      let is : after_idling (speak_ending advance) t r f ≡ after_idling w t r f =
+      same_then (change idler) _ _ t r f (λ d. same_then (says (send_to_all start_view_change)) _ _ t q d (λ d. then_same (speak_ending advance) w (visit ⨾ ask) t q d (same d))) in
       subst (LoneChooses u start i l event.Tick r) (sym is) (tick_begins f hs b x tables)
 
   -- the next view is entered
@@ -204,14 +209,14 @@ module _ (u : Setup) (fits : Fits u) (one : u.quorums.n ≡ 1) (start : Group He
         tabled_change_then u s i idler next_view t r f (λ d. rules.next u fits s i t r f l z w q d y (rules.idle_tables u fits s i t r f l z w)),
       ))
 
-  tick_if : (f : F) → Mid u start i r l start → Tallies u start i r → (b : Bool) → nat_le 10 q.idle ≡ b → LoneChooses u start i l event.Tick r (ticks_counting t r f)
-  unfolding ticks_counting change by
+  tick_if : (f : F) → Mid u start i r l start → Tallies u start i r → (b : Bool) → nat_le 10 q.idle ≡ b → LoneChooses u start i l event.Tick r (ticks_ending advance t r f)
+  unfolding ticks_ending change by
   tick_if f x tables true e = subst (LoneChooses u start i l event.Tick r) (sym (same_then (change idler) _ next_view t r f (λ d. rw e refl))) (tick_enters f x tables)
   tick_if f x tables false e =
       let size = x.size in
       let prim = alone_leads r (omega arith) x.sound.member in
-      subst (LoneChooses u start i l event.Tick r) (sym (same_then (change idler) _ (says (send_to_all start_view_change) ⨾ speak_counting ⨾ visit ⨾ ask) t r f (λ d. rw e refl)))
+      subst (LoneChooses u start i l event.Tick r) (sym (same_then (change idler) _ (says (send_to_all start_view_change) ⨾ speak_ending advance ⨾ visit ⨾ ask) t r f (λ d. rw e refl)))
       (tick_comes f x tables (comes u i t q fits x.size prim))
 
-  pub lone_tick : (f : F) → Mid u start i r l start → Tallies u start i r → LoneChooses u start i l event.Tick r (ticks_counting t r f)
+  pub lone_tick : (f : F) → Mid u start i r l start → Tallies u start i r → LoneChooses u start i l event.Tick r (ticks_ending advance t r f)
   lone_tick f x tables = tick_if f x tables (nat_le 10 q.idle) refl

@@ -29,7 +29,7 @@ use Rattle.law_2_chains.specs.Chains.{Setup, Every, AsksNothing, Goes, Mid}
 use Rattle.law_2_chains.specs.Choices.{IsMadeFrom}
 use Rattle.law_2_chains.specs.Local.{Local, carried}
 use Rattle.law_2_chains.specs.Lone.{Vouched}
-use Rattle.law_2_chains.specs.LoneWords.{begin_counting}
+use Rattle.law_2_chains.specs.LoneWords.{begin_ending}
 use Rattle.law_2_chains.specs.Tables.{Fits, HasVouchedAt}
 use Rattle.law_2_chains.proofs.Applying.{goes_says_then}
 use Rattle.law_2_chains.proofs.Beginning.{AreStated, Leads, goes_each, goes_prepare_again, goes_take_chosen, leads_again, said_free, tells_all}
@@ -42,9 +42,9 @@ use Rattle.law_2_chains.proofs.Moving.{goes_says}
 use Rattle.law_2_chains.proofs.Picking.{Hears, IsPicked, at_then, line_of, plain}
 use Rattle.law_2_chains.proofs.Saving.{saved_sound}
 use Rattle.law_2_chains.proofs.Scripts.{every_append, goes_by, goes_quiet, goes_then}
-use Rattle.law_2_chains.proofs.TabledWords.{taken_ackers}
+use Rattle.law_2_chains.proofs.TabledWords.{saved_part, taken_ackers}
 use Rattle.law_2_chains.proofs.Tabling.{holds_each}
-use Rattle.law_2_chains.proofs.Takes.{taken_views}
+use Rattle.law_2_chains.proofs.Takes.{taken_held, taken_views}
 use Rattle.std.proofs.lemmas.Bool.{eqb-true}
 
 -- ---- what is stored of the log is counted
@@ -82,8 +82,8 @@ module _ (u : Setup) (quorum : replication u.quorums.n ≡ u.quorums.replication
 
 -- its choose line, and what comes after it
 begin_made : {F : Type 0} (cs : List (machine.Choice Header)) (e : Event) (o : Replica) (hs : List Header) (t : Setting F) (r : Replica) (f : F) → IsMadeFrom cs e o (line_of r hs)
-    → AreMade cs e o (begin_counting (stated r) (chosen_log r (stated r) hs) t r f).script
-unfolding begin_counting says
+    → AreMade cs e o (begin_ending advance (stated r) (chosen_log r (stated r) hs) t r f).script
+unfolding begin_ending says
 begin_made cs e o hs t r f p =
     let P = IsMadeFrom cs e o in
     let l : Log = chosen_log r (stated r) hs in
@@ -101,8 +101,8 @@ pub record MayBegin (u : Setup) (r : Replica) (hs : List Header) : Type 0 where
   pub may : MayTake (chosen_log r (stated r) hs) r
 
 pub lone_begins : {F : Type 0} (u : Setup) (fits : Fits u) (start : Group Header) (i : ℕ) (e : Event) (o : Replica) (t : Setting F) (r : Replica) (f : F) (l : Local) (s : Group Header) → Mid u start i r l s → Hears e o r → AreStated u start r
-    → is_primary r ≡ true → r.log_view < r.view → Every AsksNothing l.said → (hs : List Header) → MayBegin u r hs → LoneGoes u start i e o l (begin_counting (stated r) (chosen_log r (stated r) hs) t r f)
-unfolding begin_counting take save says change does quiet ◌⨾◌ after_all
+    → is_primary r ≡ true → r.log_view < r.view → Every AsksNothing l.said → (hs : List Header) → MayBegin u r hs → LoneGoes u start i e o r l (begin_ending advance (stated r) (chosen_log r (stated r) hs) t r f)
+unfolding begin_ending take save says change does quiet ◌⨾◌ after_all
 lone_begins u fits start i e o t r f l s x hears heard prim lower free hs b =
     let log : Log = chosen_log r (stated r) hs in
     let log_is = chosen_log_is r b.sizes (stated r) hs (all_stated r x.sound) b.ends in
@@ -129,6 +129,8 @@ lone_begins u fits start i e o t r f l s x hears heard prim lower free hs b =
       replica = refl;
       goes = g.0;
       silent = silent;
+      view = v.0;
+      held = λ k h is. inl (taken_held log r x.sound log_is b.may k h (sym (saved_part (taken log r) k) ∙ is));
       ground = w.0;
       grounds = w.2;
       going = going;

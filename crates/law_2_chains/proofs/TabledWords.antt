@@ -36,6 +36,7 @@ use Rattle.law_2_chains.specs.Local.{Local}
 use Rattle.law_2_chains.specs.Reflecting.{entries_by}
 use Rattle.law_2_chains.specs.Chains.{Setup, Mid, statement_told}
 use Rattle.law_2_chains.specs.Tables.{HasVouchedAt}
+use Rattle.law_2_chains.proofs.Lone.{in_range}
 use Rattle.law_2_chains.proofs.Tallies.{Tallies}
 use Rattle.law_2_chains.specs.Begins.{with_made}
 use Rattle.law_2_chains.proofs.Saving.{saved_sound}
@@ -271,11 +272,7 @@ taken_ackers l r k j e =
 
 -- ---- a view begins
 
-in_range : (n a k : ℕ) → a ≤ k → k < a + n → In k (range_with_len a n)
-in_range zero a k l m = absurd (omega arith)
-in_range (suc n) a k l m = elim (cases_eq k a) [ inl e ↦ inl e | inr d ↦ inr (in_range n (a + 1) k (omega (arith, d, l)) (omega arith)) ]
-
-saved_part : (r : Replica) (k : ℕ) → part_at (with_saved r) k ≡ part_at r k
+pub saved_part : (r : Replica) (k : ℕ) → part_at (with_saved r) k ≡ part_at r k
 unfolding part_at
 saved_part r k = refl
 

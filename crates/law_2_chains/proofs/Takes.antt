@@ -22,7 +22,7 @@ use Rattle.law_1_machine.specs.Parts as part
 use Rattle.law_1_machine.specs.Taking.{Installed, Takes}
 use Rattle.law_1_machine.specs.Taking as machine
 use Rattle.law_2_chains.specs.Reflecting.{told_of, Reflects, KeepsStored}
-use Rattle.law_2_chains.proofs.Writing.{told_header, none_known}
+use Rattle.law_2_chains.proofs.Writing.{held_before, told_header, none_known}
 use Rattle.law_2_chains.proofs.Saving.{Covers}
 
 -- ---- one Part
@@ -231,6 +231,12 @@ module _ (l : Log) (r : Replica) (sound : IsSound r) (log : IsLogFor r l) (may :
         | inl past ↦ ended_is h (part_at r k) (nat_lt r.log_view l.view) (sym (above k past) ∙ is)
         | inr within ↦ let room = may.room in mapped_is h (part_at r k) (log_header l k) (sym (inside k (omega arith) (omega arith) ∙ part_within k a within) ∙ is)
       ]
+
+  pub taken_held : (k : ℕ) (h : Header) → part_at (taken l r) k ≡ Here h → part_at r k ≡ Here h
+  unfolding taken
+  taken_held k h is =
+      let was : part_at (over l r) k ≡ Here h = held_before (over l r) k h is in
+      elim (cases_lt r.checkpoint k) [ inl above ↦ over_stored k h above was | inr low ↦ sym (below k (inr low)) ∙ was ]
 
   pub keeps_taken : (m : group.Member) → KeepsStored r m → KeepsStored (taken l r) m
   unfolding taken forgetting

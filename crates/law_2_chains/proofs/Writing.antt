@@ -1,6 +1,6 @@
 -- Write: an entry is stored. The machine begins a write, ends it, finds the entry lost, and forgets.
 use Rattle.std.proofs.Common.{ℕ, suc, ◌+◌, ◌-◌, ◌%◌, ◌≤◌, ◌<◌, ◌≡◌, ◌≢◌, ◌∙◌, ◌⊎◌, inl, inr, arith, refl, sym, ap, subst, Bool, true, false, cond, [], ◌∷◌, length, get_or, set, Option, Some, None, is_some, rules}
-use Rattle.std.proofs.lemmas.Bool.{cases_eq, true≢false}
+use Rattle.std.proofs.lemmas.Bool.{cases_eq, cases_lt, true≢false}
 use Rattle.std.proofs.lemmas.List.{get_or-drop, get_or-set_same, get_or-set_other, length-set}
 use Rattle.vr_base.specs.Replicas.{no_replicas}
 use Rattle.vr_header.specs.declared.header.Header.{Header}
@@ -15,7 +15,7 @@ use Rattle.vr_world.specs.Steps.{Effect, Setting, Word, ◌⨾◌, change, does,
 use Rattle.vr_world.specs.Words.{may_be_stored, writes, stored, write}
 use Rattle.vr_world.specs.Group as group
 use Rattle.vr_world.specs.Sound.{IsSound}
-use Rattle.vr_world.proofs.Heads.{Spans, known_within, knows_some, some_known, head_from, head_within, head_knows, head_reaches, head_stops, head_least, with_part_spans, with_part_at, with_part_other, forgetting_spans, forgetting_at, forgetting_known, forgetting_head}
+use Rattle.vr_world.proofs.Heads.{Spans, known_within, knows_some, some_known, head_from, head_within, head_knows, head_reaches, head_stops, head_least, with_part_spans, with_part_at, with_part_other, forgetting_spans, forgetting_at, forgetting_before, gone, forgetting_known, forgetting_head}
 use Rattle.vr_world.proofs.Keeping.{spans_of}
 use Rattle.vr_world.proofs.Storing.{MayStore, kept_stored, with_part_known}
 use Rattle.law_1_machine.specs.Basics.{update}
@@ -92,6 +92,14 @@ may_still : (u : Setup) (s : Group Header) (i k : ℕ) (z : Member Header) (m : 
 may_still u s i k z m e (is_known h) = is_known h
 may_still u s i k z m e (was_prepared from c h) = was_prepared from c h
 may_still u s i k z m e (was_made h) = was_made h
+
+-- what is stored once ops are forgotten was stored before
+pub held_before : (r : Replica) (k : ℕ) (h : Header) → part_at (forgetting r) k ≡ Here h → part_at r k ≡ Here h
+held_before r k h e =
+    elim (cases_lt k (r.first + gone r)) [
+      | inl before ↦ let none : Nothing ≡ Here h = sym (forgetting_before r k before) ∙ e in absurd cc
+      | inr from ↦ sym (forgetting_at r k from) ∙ e
+    ]
 
 -- ---- the replica with the entry
 
@@ -170,6 +178,15 @@ module _ (e : Whole) (r : Replica) (sound : IsSound r) (may : MayStore e r) wher
 
   pub stored_other : (k : ℕ) → r.checkpoint < k → k ≢ e.header.op → part_at (stored e r) k ≡ part_at r k
   stored_other k above n = stored_at k above ∙ it_other k n
+
+  -- what is stored then was stored, or it is the entry
+  pub stored_held : (k : ℕ) (h : Header) → part_at (stored e r) k ≡ Here h → (part_at r k ≡ Here h) ⊎ ((h ≡ e.header) × (e.header.op ≡ k))
+  unfolding forgetting with_part
+  stored_held k h is =
+      elim (cases_eq k e.header.op) [
+        | inl same ↦ let at : Here e.header ≡ Here h = sym stored_here ∙ subst (λ j. part_at (stored e r) j ≡ Here h) same is in inr (cc, sym same)
+        | inr other ↦ inl (sym (it_other k other) ∙ held_before with_it k h is)
+      ]
 
   pub stored_fields : ((stored e r).index ≡ r.index) × ((stored e r).commit ≡ r.commit) × ((stored e r).n ≡ r.n)
   unfolding forgetting with_part

@@ -9,6 +9,7 @@ use Rattle.vr_msg.specs.declared.output.Output.TheVariants as output
 use Rattle.vr_msg.specs.declared.output.Sent.{Sent}
 use Rattle.vr_world.specs.Replica.{Replica, part_at}
 use Rattle.vr_world.specs.Lying.{lying}
+use Rattle.vr_world.specs.Steps.{Effect}
 use Rattle.vr_world.specs.Group as group
 use Rattle.vr_world.specs.Group.{Move, Steps, Runs, Played, made_in}
 use Rattle.law_1_machine.specs.Basics.{In}
@@ -18,7 +19,6 @@ use Rattle.law_2_chains.specs.Reflecting.{IsDisk, KeepsStored, Reflects}
 use Rattle.law_2_chains.specs.Chains.{Setup, IsReached, Every, WasMade, WasSent}
 use Rattle.law_2_chains.specs.Choices.{IsMadeFrom}
 use Rattle.law_2_chains.specs.Finished.{IsSaid, IsTrue}
-use Rattle.law_2_chains.specs.Lone.{IsStored}
 use Rattle.law_2_chains.specs.Tables.{Fits, HasTables}
 
 -- A running replica is what a memory of the machine says, what it has stored is kept, and its tables are true; and one that is a group by
@@ -52,30 +52,36 @@ abbrev pub ChoosesWell : group.Group → Move → List (Choice Header) → List 
 ChoosesWell g (Steps at arrival e d) chosen os = (m : group.Member) (r : Replica) → Runs g at m r → (c : Chosen) → Contains os (output.Choose c) → IsMadeFrom chosen e r c
 ChoosesWell g _ chosen os = ⊤
 
--- a vouch of a replica that is a group by itself, for what it had stored
-pub record IsOwnVouch (u : Setup) (m : Message Header) : Type 0 where
+-- A vouch, in its view, of a replica that is a group by itself and runs in this group: for what it has stored, or what it then writes by
+-- these effects.
+pub record IsOwnVouch (u : Setup) (g : group.Group) (es : List Effect) (m : Message Header) : Type 0 where
   pub alone : u.quorums.n ≡ 1
-  pub index : ℕ
+  pub at : ℕ
+  pub member : group.Member
   pub replica : Replica
-  pub stored : IsStored index replica m
+  pub runs : Runs g at member replica
+  pub op : ℕ
+  pub header : Header
+  pub is : m ≡ Prepare_ok at replica.view op header
+  pub stored : (part_at replica op ≡ Here header) ⊎ (In header (made_in es) × (header.op ≡ op))
 
 -- What was sent by the time at which a move puts something out: what was sent before it, and where the replica is a group by itself, its
 -- vouches for what it has stored by then.
-pub record IsGround (u : Setup) (s ground : Group Header) : Type 0 where
+pub record IsGround (u : Setup) (g : group.Group) (es : List Effect) (s ground : Group Header) : Type 0 where
   pub before : (m : Message Header) → In m s.sent → In m ground.sent
-  pub own : (m : Message Header) → In m ground.sent → In m s.sent ⊎ IsOwnVouch u m
+  pub own : (m : Message Header) → In m ground.sent → In m s.sent ⊎ IsOwnVouch u g es m
   pub several : 2 ≤ u.quorums.n → ground.sent ≡ s.sent
 
 -- What a move leaves: nothing is taken back, what was put out is true by what was sent by then, and nothing else was sent or made, at most
--- one entry in all.
+-- one entry in all. A replica that is a group by itself vouches in it, and once more at its end.
 pub record Chained (u : Setup) (s a : Group Header) (p : Played) : Type 0 where
   pub bridges : Bridges u p.moved.group a
   pub sent : (m : Message Header) → In m s.sent → In m a.sent
   pub chosen : (c : Choice Header) → In c s.chosen → In c a.chosen
   pub ground : Group Header
-  pub grounds : IsGround u s ground
+  pub grounds : IsGround u p.before p.moved.script s ground
   pub told : Every (IsTrue u ground.sent a.sent) p.moved.outputs
-  pub only : (m : Message Header) → In m a.sent → In m s.sent ⊎ (IsSaid u p.moved.outputs m ⊎ IsOwnVouch u m)
+  pub only : (m : Message Header) → In m a.sent → In m s.sent ⊎ (IsSaid u p.moved.outputs m ⊎ (IsOwnVouch u p.before p.moved.script m ⊎ IsOwnVouch u p.moved.group [] m))
   pub made : (x : Made Header) → In x a.made → In x s.made ⊎ In x.entry (made_in p.moved.script)
   pub few : length a.made ≤ length s.made + 1
   pub choices : ChoosesWell p.before p.move a.chosen p.moved.outputs

@@ -8,6 +8,7 @@ use Rattle.vr_msg.specs.declared.output.Chosen.{Chosen}
 use Rattle.vr_msg.specs.declared.output.Output.TheVariants as output
 use Rattle.vr_world.specs.Replica.{Replica, part_at}
 use Rattle.vr_world.specs.Steps.{Step, outputs}
+use Rattle.vr_world.specs.Group.{made_in}
 use Rattle.law_1_machine.specs.Basics.{In}
 use Rattle.law_1_machine.specs.Group.{Group}
 use Rattle.law_1_machine.specs.Members.{Message, Prepare_ok}
@@ -35,10 +36,10 @@ pub record Vouched (i : ℕ) (r : Replica) (s b : Group Header) : Type 0 where
   pub members : b.members ≡ s.members
   pub all : r.view ≡ r.log_view → (k : ℕ) (h : Header) → part_at r k ≡ Here h → In (Prepare_ok i r.view k h) b.sent
 
--- A step of r in two parts. In the first the replica stores, and says nothing that asks something; then it vouches for what it has. The
--- second begins in the group in which it has vouched: what it puts out is backed by that. At its end it vouches once more. Nothing is
--- made but an entry that it then writes first; and at the end its tables are true, unless it is frozen.
-pub record IsLoneChain (u : Setup) (start : Group Header) (i : ℕ) (l : Local) (x : Step) : Type 0 where
+-- A step of r in two parts. In the first the replica stores, and says nothing that asks something; then it vouches for what it has: what it
+-- had before, or has written in it. The second begins in the group in which it has vouched: what it puts out is backed by that. At its end
+-- it vouches once more. Nothing is made but an entry that it then writes first; and at the end its tables are true, unless it is frozen.
+pub record IsLoneChain (u : Setup) (start : Group Header) (i : ℕ) (l : Local) (r : Replica) (x : Step) : Type 0 where
   pub first : Step
   pub second : Step
   pub script : x.script ≡ first.script ++ second.script
@@ -47,6 +48,8 @@ pub record IsLoneChain (u : Setup) (start : Group Header) (i : ℕ) (l : Local) 
   pub begins : Begins u start i x.script begun
   pub goes : Goes u begun i l first
   pub silent : Every AsksNothing (carried first.script l).said
+  pub view : first.replica.view ≡ r.view
+  pub held : (k : ℕ) (h : Header) → part_at first.replica k ≡ Here h → (part_at r k ≡ Here h) ⊎ (In h (made_in first.script) × (h.op ≡ k))
   pub ground : Group Header
   pub grounds : Vouched i first.replica goes.after ground
   pub finishes : Finishes u ground i (carried first.script l) second
@@ -57,5 +60,5 @@ pub record IsLoneChain (u : Setup) (start : Group Header) (i : ℕ) (l : Local) 
 
 -- such a step of r, and each of its choose lines is of a choice that was made by its end
 pub record LoneChooses (u : Setup) (start : Group Header) (i : ℕ) (l : Local) (e : Event) (r : Replica) (x : Step) : Type 0 where
-  pub chain : IsLoneChain u start i l x
+  pub chain : IsLoneChain u start i l r x
   pub choices : (c : Chosen) → Contains (outputs x.script) (output.Choose c) → IsMadeFrom chain.after.chosen e r c

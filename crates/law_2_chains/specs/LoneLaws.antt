@@ -7,7 +7,8 @@ use Rattle.vr_msg.specs.declared.frame.Frame.TheVariants as frame
 use Rattle.vr_msg.specs.declared.request.RequestFields.{RequestFields}
 use Rattle.vr_world.specs.Replica.{Replica, head, header_at, last_view, replication}
 use Rattle.vr_world.specs.Steps.{Setting}
-use Rattle.vr_world.specs.Rules.{on_request, react}
+use Rattle.vr_world.specs.Rules.{changing_ticks, on_request, react}
+use Rattle.vr_world.specs.Words.{advance, apply}
 use Rattle.vr_world.specs.Laws.{HasNames, IsMessage}
 use Rattle.law_1_machine.specs.Group.{Group}
 use Rattle.law_2_chains.specs.Local.{Local}
@@ -15,7 +16,7 @@ use Rattle.law_2_chains.specs.Chains.{Setup, Mid, Every, AsksNothing}
 use Rattle.law_2_chains.specs.ChainLaws.{MayArrive}
 use Rattle.law_2_chains.specs.Tables.{Fits, HasTables, Tables}
 use Rattle.law_2_chains.specs.Lone.{LoneChooses, Vouched}
-use Rattle.law_2_chains.specs.LoneWords.{ticks_counting}
+use Rattle.law_2_chains.specs.LoneWords.{ticks_ending}
 
 -- In the middle of a step that has said nothing that asks something, a replica may vouch for what it has stored; and the step can go on
 -- from there.
@@ -44,4 +45,8 @@ LoneStepsAreChains F =
 abbrev pub LoneTriesAreChains : Type 0 → Type 0
 LoneTriesAreChains F =
     (u : Setup) (start : Group Header) (i : ℕ) (t : Setting F) (r : Replica) (f : F) (l : Local) → Fits u → u.quorums.n ≡ 1 → Mid u start i r l start → Tables u start i r → r.log_view < r.view → Every AsksNothing l.said
-    → LoneChooses u start i l event.Tick r (ticks_counting t r f)
+    → LoneChooses u start i l event.Tick r (ticks_ending advance t r f)
+
+-- where it ends in Apply, as the rules have it, such a tick is theirs
+abbrev pub TicksEndInApply : Type 0 → Type 0
+TicksEndInApply F = (t : Setting F) (r : Replica) (f : F) → changing_ticks t r f ≡ ticks_ending apply t r f

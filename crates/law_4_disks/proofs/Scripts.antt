@@ -11,7 +11,7 @@ use Rattle.vr_lie.specs.Held.{Stands, held_after_all, held_cut}
 use Rattle.vr_lie.proofs.Cutting.{held_both}
 use Rattle.vr_lie.specs.Faults.{held_at}
 use Rattle.vr_world.specs.Steps.{Effect, Write, Rewrite, Save, Mend, Checkpoint, PutBlock, Say, after_all}
-use Rattle.vr_world.specs.Sectors.{calls, calls_of}
+use Rattle.vr_world.specs.Sectors.{calls, calls_of, script_calls}
 use Rattle.vr_world.specs.Lying.{Lying, after_calls, cut_calls, lying}
 use Rattle.vr_world.specs.Group.{Member, begins, carried_out, cut_after, ends}
 use Rattle.law_4_disks.specs.Beside.{HoldsEntry, IsCutAt, IsOff, MayGo, value_after}
@@ -92,7 +92,7 @@ cut_further e es f j d m b c =
     record { effects = suc c.effects; within = omega arith; begun = rw (le-ltb j (length (calls_of e f)) b) (ap (λ (es : List Effect). e ∷ es) c.begun ∙ ap (λ (n : ℕ). take n (e ∷ es)) place); value = c.value; off = c.off }
 
 pub scripts_cut : ScriptsCut
-unfolding calls
+unfolding script_calls
 scripts_cut [] d m j code o g l t = absurd (omega arith)
 scripts_cut (e ∷ es) d m j code o g l t =
     let cs = calls_of e d.face in
@@ -110,7 +110,7 @@ scripts_cut (e ∷ es) d m j code o g l t =
     ]
 
 pub openings_cut : OpeningsCut
-unfolding calls
+unfolding script_calls
 openings_cut es d m v j code o g l t =
     let cs = calls_of (Mend v) d.face in
     let x : Lying = lying.after d (Mend v) in

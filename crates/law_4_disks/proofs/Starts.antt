@@ -12,7 +12,7 @@ use Rattle.vr_lie.proofs.Cutting.{held_both}
 use Rattle.vr_lie.specs.Faults.{held_at}
 use Rattle.vr_world.specs.Steps.{Effect, Mend, Step, ◌⨾◌, after_all, does}
 use Rattle.vr_world.specs.Opening.{blank, opening, recover_parts}
-use Rattle.vr_world.specs.Sectors.{calls, calls_of}
+use Rattle.vr_world.specs.Sectors.{calls, calls_of, script_calls}
 use Rattle.vr_world.specs.Lying.{Lying, cut_calls, lying}
 use Rattle.vr_world.specs.Group.{Member, carried_out, cut_after, cut_in_two, found, keeps_all, mended, once_mended, opening_script, resumed}
 use Rattle.vr_world.proofs.Halves.{openings_go_on}
@@ -27,7 +27,7 @@ opening_is v d = openings_go_on lying d v (blank v)
 -- ---- calls of two scripts
 
 calls_both : (a b : List Effect) (f : Face) → calls (a ++ b) f ≡ calls a f ++ calls b (disk.after_all f (calls a f))
-unfolding calls
+unfolding script_calls
 calls_both [] b f = refl
 calls_both (e ∷ es) b f =
     let cs = calls_of e f in
@@ -35,7 +35,7 @@ calls_both (e ∷ es) b f =
     ap (λ (ds : List Call). cs ++ ds) (calls_both es b x) ∙ (sym (append_assoc cs (calls es x) (calls b (disk.after_all x (calls es x)))) ∙ ap (λ (y : Face). (cs ++ calls es x) ++ calls b y) (sym (after_all_append cs (calls es x) f)))
 
 face_all : (a : List Effect) (d : Lying) → (after_all lying d a).face ≡ disk.after_all d.face (calls a d.face)
-unfolding after_all calls
+unfolding after_all script_calls
 face_all [] d = refl
 face_all (e ∷ es) d = face_all es (lying.after d e) ∙ sym (after_all_append (calls_of e d.face) (calls es (lying.after d e).face) d.face)
 
@@ -45,7 +45,7 @@ held_all_both ver [] ds f slot held = refl
 held_all_both ver (c ∷ cs) ds f slot held = held_all_both ver cs ds (disk.after f c) slot (held_after ver f c slot held)
 
 held_all : (a : List Effect) (d : Lying) (slot : ℕ) → slot < 64 → held_at (after_all lying d a).held slot ≡ held_after_all 1 d.face (calls a d.face) slot (held_at d.held slot)
-unfolding after_all calls held_after_all
+unfolding after_all script_calls held_after_all
 held_all [] d slot l = refl
 held_all (e ∷ es) d slot l =
     let cs = calls_of e d.face in
@@ -100,7 +100,7 @@ take_past k [] ys = let e : 0 + k ≡ k = omega arith in ap (λ (n : ℕ). take 
 take_past k (x ∷ xs) ys = let e : suc (length xs) + k ≡ suc (length xs + k) = omega arith in ap (λ (n : ℕ). take n (x ∷ (xs ++ ys))) e ∙ ap (λ zs. x ∷ zs) (take_past k xs ys)
 
 begun_first : (a b : List Effect) (f : Face) (j : ℕ) → j < length (calls a f) → begun_before (a ++ b) f j ≡ begun_before a f j
-unfolding calls
+unfolding script_calls
 begun_first [] b f j l = absurd (omega arith)
 begun_first (e ∷ es) b f j l =
     let cs = calls_of e f in
@@ -112,7 +112,7 @@ begun_first (e ∷ es) b f j l =
     ]
 
 begun_later : (a b : List Effect) (f : Face) (j : ℕ) → length (calls a f) ≤ j → begun_before (a ++ b) f j ≡ a ++ begun_before b (disk.after_all f (calls a f)) (j - length (calls a f))
-unfolding calls
+unfolding script_calls
 begun_later [] b f j l = let e : j - 0 ≡ j = omega arith in rw e refl
 begun_later (e ∷ es) b f j l =
     let cs = calls_of e f in
@@ -127,7 +127,7 @@ begun_later (e ∷ es) b f j l =
 
 -- a script that isn't cut is begun as a whole
 pub begun_all : (es : List Effect) (f : Face) (j : ℕ) → length (calls es f) ≤ j → begun_before es f j ≡ es
-unfolding calls
+unfolding script_calls
 begun_all [] f j l = refl
 begun_all (e ∷ es) f j l =
     let cs = calls_of e f in
@@ -142,7 +142,7 @@ tells_first [] b d j code t = tt
 tells_first (e ∷ es) b d j code t = (t.0, λ l. tells_first es b (lying.after d e) (j - length (calls_of e d.face)) code (t.1 l))
 
 tells_later : (a b : List Effect) (d : Lying) (j code : ℕ) → length (calls a d.face) ≤ j → TellsIn (a ++ b) d j code → TellsIn b (after_all lying d a) (j - length (calls a d.face)) code
-unfolding calls after_all
+unfolding script_calls after_all
 tells_later [] b d j code l t = let e : j ≡ j - 0 = omega arith in subst (λ (j : ℕ). TellsIn b d j code) e t
 tells_later (e ∷ es) b d j code l t =
     let cs = calls_of e d.face in

@@ -111,7 +111,7 @@ module _ (cluster n : ℕ) (run : List Played) (fit : IsFitRun cluster n run) (u
         said = every_of (IsSo cluster u run (at t) (at (suc t)) p) p.moved.outputs (λ o j.
             so cluster u run (at t) (at (suc t)) p (reached_at u first t run follows bridges.reached) (from_so cluster p.before p.move p.moved f.0.0 placed moves) (line_hashed run cluster p.before p.move p.moved there f.0.0 f.1 moves)
             (choice_so u (at (suc t)).chosen p.before p.move p.moved size mine f.1 moves x.choices) o j (every_in (IsTrue u (at t).sent (at (suc t)).sent) p.moved.outputs o j told));
-        only = λ m h. elim (x.only m h) [ inl old ↦ inl old | inr new ↦ elim new [ inl said ↦ inr said | inr own ↦ let alone = own.alone in absurd (omega arith) ] ];
+        only = λ m h. elim (x.only m h) [ inl old ↦ inl old | inr new ↦ elim new [ inl said ↦ inr said | inr own ↦ elim own [ inl early ↦ let alone = early.alone in absurd (omega arith) | inr late ↦ let alone = late.alone in absurd (omega arith) ] ] ];
         made = x.made;
       }
 

@@ -21,7 +21,7 @@ use Rattle.vr_ckpt.specs.Grid.{block_calls, put_calls}
 use Rattle.vr_ckpt.specs.Saves.{save_calls}
 use Rattle.law_3_outputs.specs.Steps.{Effect, Rewrite, Save, Mend, Checkpoint, PutBlock, Say, after_all}
 use Rattle.law_3_outputs.specs.Steps as effect
-use Rattle.law_3_outputs.specs.Sectors.{calls, calls_of}
+use Rattle.law_3_outputs.specs.Sectors.{calls, calls_of, script_calls}
 use Rattle.law_3_outputs.specs.Lying.{Lying, lying}
 use Rattle.law_1_machine.specs.Basics.{In}
 use Rattle.law_4_disks.specs.Beside.{MayCome, MayGo, begun_before, value_after}
@@ -113,7 +113,7 @@ module _ (made : List Header) where
 
   pub cut_sealed : (es : List Effect) (d : Lying) (v : SuperValue) (j code : ℕ) → MayGo es d v → AllByRecursion (Seals made) (begun_before es d.face j) → IsRight made v → IsFace d.face → HasSectors (IsSealed made) d.face
       → HasSectors (IsSealed made) (disk.cut j code d.face (calls es d.face))
-  unfolding calls disk.cut
+  unfolding script_calls disk.cut
   cut_sealed [] d v j code go h r f s = s
   cut_sealed (e ∷ es) d v j code go h r f s =
       let cs = calls_of e d.face in

@@ -20,7 +20,7 @@ use Rattle.vr_world.specs.Lying.{Lying, hazards, lying}
 use Rattle.vr_world.specs.Opening.{blank, opened, opening}
 use Rattle.vr_node.specs.Replica.{Replica}
 use Rattle.vr_node.specs.Rules.{react}
-use Rattle.vr_node.specs.Sectors.{calls, sectors}
+use Rattle.vr_node.specs.Sectors.{calls, sectors, sectors_by}
 use Rattle.vr_world.specs.Steps.{Effect, Step, after_all, outputs}
 use Rattle.vr_world.specs.World as world
 use Rattle.vr_world.specs.World.{Acted, Happened, Happening, Host, World, Fuses, Lies, Starts, Stops, acts, at_member, delivered, handles, happen, happens, lied, nothing, starts, stays, stops, with_member}
@@ -29,9 +29,10 @@ use Rattle.law_4_disks.specs.Worlds.{IsLine}
 use Rattle.law_4_disks.proofs.Lines.{own_place}
 use Rattle.law_4_disks.proofs.Starts.{opening_is}
 use Rattle.vr_lying.proofs.Rules.{a_react}
+use Rattle.vr_lying.proofs.Versions.{blank_one, opens_one}
 use Rattle.vr_lying.proofs.Words.{a_opening}
 use Rattle.vr_serve.specs.Runs.{Did}
-use Rattle.vr_node.specs.Does.{Does}
+use Rattle.vr_node.specs.Does.{Does, LeftBy}
 use Rattle.vr_node.specs.Opening.{Opens}
 use Rattle.vr_node.specs.Steps.{steps}
 use Rattle.vr_node.specs.declared.node.Node.{Node}
@@ -153,7 +154,8 @@ handled_told : (w : World Lying) (at : ℕ) (file : Lying) (e : Event) (d : Disk
     → at_member w at (handles hazards e) ≡ left_at w at (Some did.after.replica.memory) (file_after file node.replica.memory e) did.outputs
 handled_told w at file e d did node there tells does =
     let r = node.replica.memory in
-    let left = does.told d refl in
+    let left : LeftBy 1 (react e sectors r d.face) did.after.replica.memory d did.disk [] did.outputs (Ok tt) =
+    subst (λ n. LeftBy n (react e (sectors_by n) r d.face) did.after.replica.memory d did.disk [] did.outputs (Ok tt)) does.0 (does.1.told d refl) in
     let y : Step = react e sectors r file.face in
     let same : react e lying r file ≡ y = (a_react e).each r file in
     let from : react e sectors r d.face ≡ y = ap (react e sectors r) tells in
@@ -169,7 +171,9 @@ found_told : (c : Config) (w : World Lying) (at : ℕ) (file : Lying) (v : Super
     → at_member w at (starts hazards) ≡ left_at w at (Some r) (after_all lying file (opening_script v file)) first
 found_told c w at file v d after first r there tells o opens_as =
     let is : v ≡ opens_as.value = (let e : Some v ≡ Some opens_as.value = sym o ∙ opens_as.opens in cc) in
-    let left = (subst (λ (u : SuperValue). Does (opening u) (blank u) r (Some d) after [] first (Ok tt)) (sym is) opens_as.step).told d refl in
+    let left : LeftBy 1 (opening v sectors (blank v) d.face) r d after [] first (Ok tt) =
+    subst (λ n. LeftBy n (opening v (sectors_by n) (blank v) d.face) r d after [] first (Ok tt)) (blank_one v (opens_one d.face v o))
+    ((subst (λ (u : SuperValue). Does (opening u) (blank u) r (Some d) after [] first (Ok tt)) (sym is) opens_as.step).told d refl) in
     let same : opening v sectors (blank v) d.face ≡ whole v file = ap (opening v sectors (blank v)) tells ∙ (sym ((a_opening v).each (blank v) file) ∙ opening_is v file) in
     let there_after = after_all lying file (opening_script v file) in
     let replica_is : (whole v file).replica ≡ r = sym (left.0 ∙ ap (λ (z : Step). z.replica) same) in

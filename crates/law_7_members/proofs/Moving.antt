@@ -15,15 +15,16 @@ use Rattle.vr_world.specs.Opening.{blank, opening}
 use Rattle.vr_node.specs.Replica.{Replica}
 use Rattle.vr_node.specs.Rules.{react}
 use Rattle.vr_world.specs.Safe.{run_outputs}
-use Rattle.vr_node.specs.Sectors.{sectors}
+use Rattle.vr_node.specs.Sectors.{sectors, sectors_by}
 use Rattle.vr_world.specs.Steps.{Step, outputs}
 use Rattle.vr_world.proofs.FitLies.{lies_fit}
 use Rattle.law_4_disks.specs.Worlds.{IsOfBytes}
 use Rattle.law_4_disks.proofs.Starts.{opening_is}
 use Rattle.vr_lying.proofs.Rules.{a_react}
+use Rattle.vr_lying.proofs.Versions.{blank_one, opens_one}
 use Rattle.vr_lying.proofs.Words.{a_opening}
 use Rattle.vr_serve.specs.Runs.{Did}
-use Rattle.vr_node.specs.Does.{Does}
+use Rattle.vr_node.specs.Does.{Does, LeftBy}
 use Rattle.vr_node.specs.Opening.{Opens}
 use Rattle.vr_node.specs.Steps.{steps}
 use Rattle.vr_node.specs.declared.node.Node.{Node}
@@ -51,7 +52,8 @@ one_step g at arrival d did m node there runs reaches does =
     let e : Event = did.come.event in
     let y : Lying = lying_on d in
     let s : Step = react e sectors r d.face in
-    let left = does.told d refl in
+    let left : LeftBy 1 s did.after.replica.memory d did.disk [] did.outputs (Ok tt) =
+    subst (λ n. LeftBy n (react e (sectors_by n) r d.face) did.after.replica.memory d did.disk [] did.outputs (Ok tt)) does.0 (does.1.told d refl) in
     let same : react e lying r y ≡ s = (a_react e).each r y in
     let move : Move = group.Steps at arrival e y in
     let whole : Moves g move (finished g at m (stepped e r y)) = group.steps at arrival e y m r (record { member = there; running = runs }) reaches.comes in
@@ -67,7 +69,9 @@ one_opening : (cluster : ℕ) (g : Group) (at : ℕ) (v : SuperValue) (d : Disk)
 one_opening cluster g at v d after first r m there stopped may opened =
     let y : Lying = lying_on d in
     let is : v ≡ opened.value = (let e : Some v ≡ Some opened.value = sym may.value ∙ opened.opens in cc) in
-    let left = (subst (λ (w : SuperValue). Does (opening w) (blank w) r (Some d) after [] first (Ok tt)) (sym is) opened.step).told d refl in
+    let left : LeftBy 1 (opening v sectors (blank v) d.face) r d after [] first (Ok tt) =
+    subst (λ n. LeftBy n (opening v (sectors_by n) (blank v) d.face) r d after [] first (Ok tt)) (blank_one v (opens_one d.face v may.value))
+    ((subst (λ (w : SuperValue). Does (opening w) (blank w) r (Some d) after [] first (Ok tt)) (sym is) opened.step).told d refl) in
     let same : opening v sectors (blank v) d.face ≡ record { replica = (resumed v y).replica; script = opening_script v y } = sym ((a_opening v).each (blank v) y) ∙ opening_is v y in
     let move : Move = group.Recovers at v y in
     let whole : Moves g move (started g at m v y) = group.recovers at v y m (record { member = there; stopped = stopped; value = may.may; sound = may.sound }) in

@@ -18,9 +18,9 @@ use Rattle.vr_world.specs.Group.{Arrival, opening_script, resumed}
 use Rattle.vr_world.specs.Lying.{Lying, hazards, lying, zero_face}
 use Rattle.vr_node.specs.Formatting.{format_calls}
 use Rattle.vr_world.specs.Opening.{blank, fresh, opening}
-use Rattle.vr_node.specs.Replica.{Replica}
+use Rattle.vr_node.specs.Replica.{Replica, version}
 use Rattle.vr_node.specs.Rules.{react}
-use Rattle.vr_node.specs.Sectors.{calls, calls_of, sectors}
+use Rattle.vr_node.specs.Sectors.{calls, calls_of, script_calls, sectors, sectors_by}
 use Rattle.vr_world.specs.Steps.{Effect, Step, after_all}
 use Rattle.vr_world.specs.World as world
 use Rattle.vr_world.specs.World.{Happened, Host, World, nothing}
@@ -28,9 +28,10 @@ use Rattle.law_4_disks.specs.Worlds.{first_host, first_world}
 use Rattle.law_4_disks.proofs.Fresh.{some_world}
 use Rattle.law_4_disks.proofs.Lines.{other_place, own_place, some_member}
 use Rattle.law_4_disks.proofs.Starts.{opening_is}
+use Rattle.vr_lying.proofs.Versions.{blank_one, opens_one}
 use Rattle.vr_lying.proofs.Words.{a_opening}
 use Rattle.vr_serve.specs.Runs.{Did, IsRun}
-use Rattle.vr_node.specs.Does.{Does}
+use Rattle.vr_node.specs.Does.{Does, LeftBy}
 use Rattle.vr_node.specs.Opening.{Opens}
 use Rattle.vr_node.specs.Running.{Outside}
 use Rattle.vr_node.specs.Steps.{steps}
@@ -52,7 +53,7 @@ Goes c o file (act ∷ acts) = (next : Option Replica) × (left : Lying) × Beco
 -- ---- what the disk tells is the file
 
 face_all : (es : List Effect) (d : Lying) → (after_all lying d es).face ≡ disk.after_all d.face (calls es d.face)
-unfolding after_all calls
+unfolding after_all script_calls
 face_all [] d = refl
 face_all (e ∷ es) d = face_all es (lying.after d e) ∙ sym (after_all_append (calls_of e d.face) (calls es (lying.after d e).face) d.face)
 
@@ -69,9 +70,9 @@ script_tells s file d o cs same tells r =
     let t = ran_tells cs d o file.face tells r in
     (t.0, t.1, t.2 ∙ (ap (λ (cs : List Call). disk.after_all file.face cs) same ∙ sym (face_all s.script file)))
 
-step_tells : (file : Lying) (r q : Replica) (e : Event) (d : Disk) (after : Option Disk) (os : List Output) → d.face ≡ file.face → Does (react e) r q (Some d) after [] os (Ok tt) → TellsFace after (file_after file r e).face
-step_tells file r q e d after os tells does =
-    let left = does.told d refl in
+step_tells : (file : Lying) (r q : Replica) (e : Event) (d : Disk) (after : Option Disk) (os : List Output) → d.face ≡ file.face → version r ≡ 1 → Does (react e) r q (Some d) after [] os (Ok tt) → TellsFace after (file_after file r e).face
+step_tells file r q e d after os tells one does =
+    let left : LeftBy 1 (react e sectors r d.face) q d after [] os (Ok tt) = subst (λ n. LeftBy n (react e (sectors_by n) r d.face) q d after [] os (Ok tt)) one (does.told d refl) in
     script_tells (react e sectors r file.face) file d after (calls (react e sectors r d.face).script d.face) (ap (λ (f : Face). calls (react e sectors r f).script f) tells) tells left.2
 
 -- ---- the events of a run
@@ -83,7 +84,7 @@ handled_goes c (a ∷ arrivals) [] node last o left file acts tells size run mor
 handled_goes c [] (x ∷ dids) node last o left file acts tells size run more = absurd (let bad : zero ≡ suc (length dids) = size in cc)
 handled_goes c (a ∷ arrivals) (x ∷ dids) node last o left file acts tells size run more =
     let does : steps node (Some tells.0) x.come.event x.outputs x.after x.disk = subst (λ (o : Option Disk). steps node o x.come.event x.outputs x.after x.disk) tells.1 run.0 in
-    let next = step_tells file node.replica.memory x.after.replica.memory x.come.event tells.0 x.disk x.outputs tells.2 does in
+    let next = step_tells file node.replica.memory x.after.replica.memory x.come.event tells.0 x.disk x.outputs tells.2 does.0 does.1 in
     let less : length arrivals ≡ length dids = omega (arith, size) in (
       Some x.after.replica.memory,
       file_after file node.replica.memory x.come.event,
@@ -96,7 +97,10 @@ opened_tells : (c : Config) (file : Lying) (d : Disk) (v : SuperValue) (o o' : O
 opened_tells c file d v o o' run told tells is_open =
     let on = subst (λ (x : Option Disk). (value : SuperValue) × IfSome x (λ (d : Disk). sectors.opens d.face ≡ Some value) × Does (opening value) (blank value) run.node.replica.memory x run.disk [] run.first (Ok tt)) told (run.opens.value, run.opens.opens, run.opens.step) in
     let is : on.0 ≡ v = (let e : Some on.0 ≡ Some v = sym on.1 ∙ is_open in cc) in
-    let left = (subst (λ (u : SuperValue). Does (opening u) (blank u) run.node.replica.memory (Some d) run.disk [] run.first (Ok tt)) is on.2).told d refl in
+    let q = run.node.replica.memory in
+    let left : LeftBy 1 (opening v sectors (blank v) d.face) q d run.disk [] run.first (Ok tt) =
+    subst (λ n. LeftBy n (opening v (sectors_by n) (blank v) d.face) q d run.disk [] run.first (Ok tt)) (blank_one v (opens_one d.face v is_open))
+    ((subst (λ (u : SuperValue). Does (opening u) (blank u) q (Some d) run.disk [] run.first (Ok tt)) is on.2).told d refl) in
     let s : Step = record { replica = (resumed v file).replica; script = opening_script v file } in
     let same : opening v sectors (blank v) d.face ≡ s = ap (opening v sectors (blank v)) tells ∙ (sym ((a_opening v).each (blank v) file) ∙ opening_is v file) in
     script_tells s file d run.disk (calls (opening v sectors (blank v) d.face).script d.face) (ap (λ (x : Step). calls x.script d.face) same ∙ ap (λ (f : Face). calls s.script f) tells) tells left.2

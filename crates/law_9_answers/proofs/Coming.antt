@@ -15,7 +15,7 @@ use Rattle.vr_msg.specs.declared.reply.ReplyFields.{ReplyFields}
 use Rattle.vr_msg.specs.declared.request.RequestFields.{RequestFields}
 use Rattle.vr_node.specs.Fit.{IsAsked}
 use Rattle.vr_node.specs.Outputs.{messages}
-use Rattle.vr_node.specs.Sectors.{sectors}
+use Rattle.vr_node.specs.Sectors.{sectors_by}
 use Rattle.vr_node.specs.declared.node.Node.{Node}
 use Rattle.vr_serve.specs.Runs.{Did}
 use Rattle.vr_world.specs.Asker.{Asker}
@@ -23,7 +23,7 @@ use Rattle.vr_world.specs.Group.{Arrival, Asked, Message, Time}
 use Rattle.vr_world.specs.Lying.{Lying}
 use Rattle.vr_world.specs.Opening.{blank, opening}
 use Rattle.vr_world.specs.Outputs.{asker_of}
-use Rattle.vr_world.specs.Replica.{Replica}
+use Rattle.vr_world.specs.Replica.{Replica, version}
 use Rattle.vr_world.specs.Rules.{asker_by, react}
 use Rattle.vr_world.specs.Steps.{Effect, Write, Rewrite, Save, Mend, Checkpoint, PutBlock, Say, outputs}
 use Rattle.vr_world.specs.World.{Happened, World}
@@ -165,16 +165,18 @@ found_traced x es is W t = record {
 
 act_traced : (c : Config) (sent : List Sent) (at : ℕ) (o : Option Replica) (file : Lying) (act : Act) (next : Option Replica) (left : Lying) → IsFree sent → Brings sent at act → Becomes c o file act next left → IsTraced (act_by at act)
 act_traced c sent at _ _ _ _ _ free brings (files.handles file arrival did node d face does) =
-    let left = does.told d refl in
-    let es = (react did.come.event sectors node.replica.memory d.face).script in
-    handled_traced sent at arrival did es free brings left.1 _ (steps_traced sectors node.replica.memory d.face did.come.event)
+    let r = node.replica.memory in
+    let left = does.1.told d refl in
+    let es = (react did.come.event (sectors_by (version r)) r d.face).script in
+    handled_traced sent at arrival did es free brings left.1 _ (steps_traced (sectors_by (version r)) r d.face did.come.event)
 act_traced c sent at _ _ _ _ _ free brings (files.breaks file arrival e made code r within) = silent_traced (act_by at (files.Breaks arrival e made code)) (λ s i. elim i [ inl z ↦ cc | inr n ↦ n ]) (λ a i. elim i [ inl z ↦ cc | inr n ↦ n ])
 act_traced c sent at _ _ _ _ _ free brings (files.ends file o) = silent_traced (act_by at files.Ends) (λ s i. i) (λ a i. i)
 act_traced c sent at _ _ _ _ _ free brings (files.finds file d v after first r tells is_open opens) =
     let u = opens.value in
     let left = opens.step.told d refl in
-    let es = (opening u sectors (blank u) d.face).script in
-    found_traced (act_by at (files.Finds after first r)) es left.1 (λ (w : Whole). ⊥) ((tr_opening {W = λ (w : Whole). ⊥} {Q = λ (b : Asker). ⊥} u).every sectors (blank u) d.face)
+    let s = sectors_by (version (blank u)) in
+    let es = (opening u s (blank u) d.face).script in
+    found_traced (act_by at (files.Finds after first r)) es left.1 (λ (w : Whole). ⊥) ((tr_opening {W = λ (w : Whole). ⊥} {Q = λ (b : Asker). ⊥} u).every s (blank u) d.face)
 act_traced c sent at _ _ _ _ _ free brings (files.half_finds file v made code is_open within) = silent_traced (act_by at (files.HalfFinds made code)) (λ s i. elim i [ inl z ↦ cc | inr n ↦ n ]) (λ a i. elim i [ inl z ↦ cc | inr n ↦ n ])
 act_traced c sent at _ _ _ _ _ free brings (files.decays file o fault left is kept) = silent_traced (act_by at (files.Decays fault)) (λ s i. elim i [ inl z ↦ cc | inr n ↦ n ]) (λ a i. elim i [ inl z ↦ cc | inr n ↦ n ])
 

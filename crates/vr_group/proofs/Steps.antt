@@ -15,7 +15,7 @@ use Rattle.vr_replica.specs.Making.{Made}
 use Rattle.vr_replica.specs.Recovering.{RecoveredAny, opens}
 use Rattle.vr_replica.specs.Refusal.{Refusal}
 use Rattle.vr_replica.specs.Refusal.TheVariants.{Halted, Lost, OtherMember}
-use Rattle.vr_replica.specs.Does.{Does}
+use Rattle.vr_replica.specs.Does.{Does, LeftBy}
 use Rattle.vr_replica.specs.Halt.{Halt}
 use Rattle.vr_replica.specs.Halt.TheVariants.{DiskFault, NoMemory}
 use Rattle.vr_lie.specs.Copies.{SuperValue}
@@ -23,9 +23,9 @@ use Rattle.vr_lie.specs.CopyVerdict.{CopyVerdict}
 use Rattle.vr_lying.specs.Lying.{Lying, after_calls, hazards, lying}
 use Rattle.vr_replica.specs.Formatting.{format_calls}
 use Rattle.vr_replica.specs.Opening.{blank, fresh, opened, opening}
-use Rattle.vr_replica.specs.Replica.{Replica}
+use Rattle.vr_replica.specs.Replica.{Replica, version}
 use Rattle.vr_replica.specs.Rules.{react}
-use Rattle.vr_replica.specs.Sectors.{sectors}
+use Rattle.vr_replica.specs.Sectors.{sectors, sectors_by}
 use Rattle.vr_replica.specs.Steps.{Step, Word}
 use Rattle.vr_lying.specs.World.{Acted, Host, acts, fresh_host, fresh_world, handles, starts, stays}
 use Rattle.vr_lying.specs.Told.{IsTold, burnt, host_on, lying_in}
@@ -34,37 +34,41 @@ use Rattle.vr_lying.specs.Laws.{Went, revived}
 use Rattle.vr_lying.proofs.Acting.{acts_go, acts_halt}
 use Rattle.vr_lying.proofs.Rules.{a_react}
 use Rattle.vr_lying.proofs.Runs.{runs_went}
+use Rattle.vr_lying.proofs.Versions.{blank_one, opens_one}
 use Rattle.vr_lying.proofs.Words.{a_opening}
 use Rattle.vr_replica.specs.Running.{Running}
 use Rattle.vr_group.specs.Hosts.{HasActed, IsHost, host_of}
 
--- ---- a word over a disk that lies, and over its sectors
+-- ---- a word over a disk that lies, and over its sectors, which are those of a file of version 1
 
-word_goes : (index : ℕ) (p : Option Replica) (w : Word Face) (v : Step) (r q : Replica) (d e : Disk) (o : List Output) → IsTold d → v ≡ w sectors r d.face → Does w r q (Some d) (Some e) [] o (Ok tt)
+left_one : (w : Word Face) (r q : Replica) (d : Disk) (d' : Option Disk) (o o' : List Output) (result : Result (Unit {0}) Halt) → version r ≡ 1 → Does w r q (Some d) d' o o' result → LeftBy 1 (w sectors r d.face) q d d' o o' result
+left_one w r q d d' o o' result one h = subst (λ n. LeftBy n (w (sectors_by n) r d.face) q d d' o o' result) one (h.told d refl)
+
+word_goes : (index : ℕ) (p : Option Replica) (w : Word Face) (v : Step) (r q : Replica) (d e : Disk) (o : List Output) → IsTold d → version r ≡ 1 → v ≡ w sectors r d.face → Does w r q (Some d) (Some e) [] o (Ok tt)
     → HasActed (acts hazards index (host_on p d) v) (host_on (Some q) e) o × IsTold e
-word_goes index p w v r q d e o t same h =
+word_goes index p w v r q d e o t one same h =
     let s = w sectors r d.face in
-    let l = h.told d refl in
+    let l = left_one w r q d (Some e) [] o (Ok tt) one h in
     let x = acts_go index p d e s t l.2 in
     let all = ap (acts hazards index (host_on p d)) same ∙ x.acted in
     (record { member = ap (λ (q : Replica). host_on (Some q) e) l.0 ∙ sym (ap (λ (a : Acted Lying). a.member) all); outputs = l.1 ∙ sym (ap (λ (a : Acted Lying). a.outputs) all) }, x.told)
 
-word_halts : (index : ℕ) (p : Option Replica) (w : Word Face) (v : Step) (r q : Replica) (d e : Disk) (o : List Output) → IsTold d → v ≡ w sectors r d.face → Does w r q (Some d) (Some e) [] o (Err DiskFault)
+word_halts : (index : ℕ) (p : Option Replica) (w : Word Face) (v : Step) (r q : Replica) (d e : Disk) (o : List Output) → IsTold d → version r ≡ 1 → v ≡ w sectors r d.face → Does w r q (Some d) (Some e) [] o (Err DiskFault)
     → HasActed (acts hazards index (host_on p d) v) (host_on None (revived e)) (output.Halted index ∷ []) × IsTold (revived e)
-word_halts index p w v r q d e o t same h =
-    let x = acts_halt index p d e (w sectors r d.face) t (h.told d refl) in
+word_halts index p w v r q d e o t one same h =
+    let x = acts_halt index p d e (w sectors r d.face) t (left_one w r q d (Some e) [] o (Err DiskFault) one h) in
     let all = ap (acts hazards index (host_on p d)) same ∙ x.acted in
     (record { member = sym (ap (λ (a : Acted Lying). a.member) all); outputs = sym (ap (λ (a : Acted Lying). a.outputs) all) }, x.told)
 
 -- ---- a step
 
-pub step_goes : (index : ℕ) (event : Event) (r q : Replica) (d e : Disk) (o : List Output) → IsTold d → Does (react event) r q (Some d) (Some e) [] o (Ok tt)
+pub step_goes : (index : ℕ) (event : Event) (r q : Replica) (d e : Disk) (o : List Output) → IsTold d → version r ≡ 1 → Does (react event) r q (Some d) (Some e) [] o (Ok tt)
     → HasActed (handles hazards event index (host_on (Some r) d)) (host_on (Some q) e) o × IsTold e
-step_goes index event r q d e o t h = word_goes index (Some r) (react event) (react event lying r (lying_in d)) r q d e o t ((a_react event).each r (lying_in d)) h
+step_goes index event r q d e o t one h = word_goes index (Some r) (react event) (react event lying r (lying_in d)) r q d e o t one ((a_react event).each r (lying_in d)) h
 
-pub step_halts : (index : ℕ) (event : Event) (r q : Replica) (d e : Disk) (o : List Output) → IsTold d → Does (react event) r q (Some d) (Some e) [] o (Err DiskFault)
+pub step_halts : (index : ℕ) (event : Event) (r q : Replica) (d e : Disk) (o : List Output) → IsTold d → version r ≡ 1 → Does (react event) r q (Some d) (Some e) [] o (Err DiskFault)
     → HasActed (handles hazards event index (host_on (Some r) d)) (host_on None (revived e)) (output.Halted index ∷ []) × IsTold (revived e)
-step_halts index event r q d e o t h = word_halts index (Some r) (react event) (react event lying r (lying_in d)) r q d e o t ((a_react event).each r (lying_in d)) h
+step_halts index event r q d e o t one h = word_halts index (Some r) (react event) (react event lying r (lying_in d)) r q d e o t one ((a_react event).each r (lying_in d)) h
 
 -- ---- a start
 
@@ -80,14 +84,14 @@ pub start_goes : (index : ℕ) (q : Replica) (d e : Disk) (o : List Output) → 
     → HasActed (starts hazards index (host_on None d)) (host_on (Some q) e) o × IsTold e
 start_goes index q d e o t h =
     let v = h.value in
-    let x = word_goes index None (opening v) (opening v lying (blank v) (lying_in d)) (blank v) q d e o t ((a_opening v).each (blank v) (lying_in d)) h.step in
+    let x = word_goes index None (opening v) (opening v lying (blank v) (lying_in d)) (blank v) q d e o t (blank_one v (opens_one d.face v h.opens)) ((a_opening v).each (blank v) (lying_in d)) h.step in
     (subst (λ (a : Acted Lying). HasActed a (host_on (Some q) e) o) (sym (starts_by index d v h.opens)) x.0, x.1)
 
 pub start_halts : (index : ℕ) (d e : Disk) (o : List Output) → IsTold d → RecoveredAny (Some d) (Some e) [] o (Err (Halted DiskFault))
     → HasActed (starts hazards index (host_on None d)) (host_on None (revived e)) (output.Halted index ∷ []) × IsTold (revived e)
 start_halts index d e o t h =
     let v = h.value in
-    let x = word_halts index None (opening v) (opening v lying (blank v) (lying_in d)) (blank v) (blank v) d e o t ((a_opening v).each (blank v) (lying_in d)) h.step in
+    let x = word_halts index None (opening v) (opening v lying (blank v) (lying_in d)) (blank v) (blank v) d e o t (blank_one v (opens_one d.face v h.opens)) ((a_opening v).each (blank v) (lying_in d)) h.step in
     (subst (λ (a : Acted Lying). HasActed a (host_on None (revived e)) (output.Halted index ∷ [])) (sym (starts_by index d v h.opens)) x.0, x.1)
 
 -- the disk doesn't open
@@ -125,16 +129,16 @@ front_told cs d e t h =
     let w : Went h.made d e = subst (λ (e : Disk). Went h.made d e) (sym same) (runs_went h.made d t (sym h.ran.1)) in
     w.told
 
-pub host_went : (index : ℕ) (event : Event) (r q : Running) (d e : Disk) (o : List Output) → IsHost (Some r) d → Does (react event) r.memory q.memory (Some d) (Some e) [] o (Ok tt) → HasActed (handles hazards event index (host_of (Some r) d)) (host_of (Some q) e) o
-host_went index event r q d e o t h = (step_goes index event r.memory q.memory d e o t.told h).0
+pub host_went : (index : ℕ) (event : Event) (r q : Running) (d e : Disk) (o : List Output) → IsHost (Some r) d → version r.memory ≡ 1 → Does (react event) r.memory q.memory (Some d) (Some e) [] o (Ok tt) → HasActed (handles hazards event index (host_of (Some r) d)) (host_of (Some q) e) o
+host_went index event r q d e o t one h = (step_goes index event r.memory q.memory d e o t.told one h).0
 
-pub host_runs : (event : Event) (r q : Running) (d e : Disk) (o : List Output) → IsHost (Some r) d → Does (react event) r.memory q.memory (Some d) (Some e) [] o (Ok tt) → q.running ≡ true → IsHost (Some q) e
-host_runs event r q d e o t h k = record { running = k; told = (step_goes 0 event r.memory q.memory d e o t.told h).1 }
+pub host_runs : (event : Event) (r q : Running) (d e : Disk) (o : List Output) → IsHost (Some r) d → version r.memory ≡ 1 → Does (react event) r.memory q.memory (Some d) (Some e) [] o (Ok tt) → q.running ≡ true → IsHost (Some q) e
+host_runs event r q d e o t one h k = record { running = k; told = (step_goes 0 event r.memory q.memory d e o t.told one h).1 }
 
-pub host_halted : (index : ℕ) (event : Event) (r q : Running) (d e : Disk) (o : List Output) (x : Halt) → x ≡ DiskFault → IsHost (Some r) d → Does (react event) r.memory q.memory (Some d) (Some e) [] o (Err x)
+pub host_halted : (index : ℕ) (event : Event) (r q : Running) (d e : Disk) (o : List Output) (x : Halt) → x ≡ DiskFault → IsHost (Some r) d → version r.memory ≡ 1 → Does (react event) r.memory q.memory (Some d) (Some e) [] o (Err x)
     → HasActed (handles hazards event index (host_of (Some r) d)) (host_of None (revived e)) (output.Halted index ∷ []) × IsHost None (revived e)
-host_halted index event r q d e o x k t h =
-    let p = step_halts index event r.memory q.memory d e o t.told (subst (λ x. Does (react event) r.memory q.memory (Some d) (Some e) [] o (Err x)) k h) in
+host_halted index event r q d e o x k t one h =
+    let p = step_halts index event r.memory q.memory d e o t.told one (subst (λ x. Does (react event) r.memory q.memory (Some d) (Some e) [] o (Err x)) k h) in
     (p.0, record { running = tt; told = p.1 })
 
 pub host_wanting : (event : Event) (r q : Running) (d e : Disk) (o : List Output) (x : Halt) → x ≡ NoMemory → IsHost (Some r) d → Does (react event) r.memory q.memory (Some d) (Some e) [] o (Err x) → IsHost None e

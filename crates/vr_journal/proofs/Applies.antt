@@ -18,7 +18,7 @@ unfolding apply_entry
 entry_then e r q r2 d d2 o o1 o2 res p i h =
     says_by_then (commit_line e) _ r r2 d d2 o (o ++ commit_line e r) o2 res refl
     (says_by_then (applied_reply e) _ r r2 d d2 (o ++ commit_line e r) o1 o2 res (p ∙ sym (append_assoc o (commit_line e r) (applied_reply e r)))
-    (change_by_then (applied e) due r q r2 d d2 o1 o2 res i h))
+    (change_by_then (applied e) due r q r2 d d2 o1 o2 res i refl h))
 
 pub next_then : (b : Bool) (r r2 : Replica) (d d2 : Option Disk) (o o2 : List Output) (res : Result (Unit {0}) Halt) → b ≡ (is_loaded r && nat_lt r.applied r.commit) → b ≡ true
     → Does (with_entry apply_entry (part_at r (r.applied + 1))) r r2 d d2 o o2 res → Does apply_next r r2 d d2 o o2 res

@@ -1,5 +1,5 @@
 -- What loading a checkpoint leaves.
-use Rattle.std.proofs.Common.{◌≡◌, ◌≤◌, ◌∙◌, refl, sym, subst, List, [], ◌∷◌, Option, Some, None, true, false, Result, Ok, Err}
+use Rattle.std.proofs.Common.{ℕ, ◌≡◌, ◌≤◌, ◌∙◌, refl, sym, subst, List, [], ◌∷◌, Option, Some, None, true, false, Result, Ok, Err}
 use Rattle.std.specs.Prelude.{IfSome, nat_lt}
 use Rattle.vr_ckpt.specs.State.{State}
 use Rattle.vr_ckpt.specs.StateTexts.{state_decoded}
@@ -19,6 +19,7 @@ use Rattle.vr_ckpt.specs.Fitting.{Fits}
 use Rattle.vr_ckpt.proofs.Fitting.{fits_means}
 use Rattle.vr_memory.proofs.Wording.{kept_loads, usable_is}
 use Rattle.vr_step.specs.Does.{Does, Finds}
+use Rattle.vr_memory.proofs.Versions.{loads_stay}
 use Rattle.vr_step.proofs.Stepping.{does_by, does_quiet, does_reading, change_by}
 use Rattle.vr_memory.specs.Ready.{IsReady, MayLoad}
 
@@ -26,12 +27,12 @@ pub ready_opened : (r : Replica) → MayLoad r → IsReady r
 unfolding MayLoad
 ready_opened r h = h.ready
 
-pub checkpoint_found : (root name : Name) (l : Load) (d d' : Option Disk) → d' ≡ d → IfSome d (λ x. l ≡ loaded x.face name) → name ≡ root → Finds (checkpoint_at root) d d' l
-checkpoint_found root name l d d' e h n = record { same = e; value = subst (λ (x : Name). IfSome d (λ y. l ≡ loaded y.face x)) n h }
+pub checkpoint_found : (v : ℕ) (root name : Name) (l : Load) (d d' : Option Disk) → d' ≡ d → IfSome d (λ x. l ≡ loaded x.face name) → name ≡ root → Finds v (checkpoint_at root) d d' l
+checkpoint_found v root name l d d' e h n = record { same = e; value = subst (λ (x : Name). IfSome d (λ y. l ≡ loaded y.face x)) n h }
 
-pub load_then : (l : Load) (r q : Replica) (d d' : Option Disk) (o : List Output) → nat_lt 0 r.checkpoint ≡ true → Finds (checkpoint_at r.root) d d' l → q ≡ loads r.root l r → Does load r q d d' o o (Ok tt)
+pub load_then : (l : Load) (r q : Replica) (d d' : Option Disk) (o : List Output) → nat_lt 0 r.checkpoint ≡ true → Finds (version r) (checkpoint_at r.root) d d' l → q ≡ loads r.root l r → Does load r q d d' o o (Ok tt)
 unfolding load
-load_then l r q d d' o t f e = does_by _ r q d d' o o (Ok tt) (rw t (does_reading (checkpoint_at r.root) _ l r q d d' d' o o (Ok tt) f (change_by (loads r.root l) r q d' o e)))
+load_then l r q d d' o t f e = does_by _ r q d d' o o (Ok tt) (rw t (does_reading (checkpoint_at r.root) _ l r q d d' d' o o (Ok tt) f (change_by (loads r.root l) r q d' o e (loads_stay r.root l r))))
 
 pub load_none : (r : Replica) (d : Option Disk) (o : List Output) → nat_lt 0 r.checkpoint ≡ false → Does load r r d d o o (Ok tt)
 unfolding load

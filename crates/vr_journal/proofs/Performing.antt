@@ -7,7 +7,7 @@ use Rattle.vr_ckpt.specs.Grid.{put_calls}
 use Rattle.vr_ckpt.specs.declared.name.Name.{Name}
 use Rattle.vr_header.specs.declared.header.Header.{Header}
 use Rattle.vr_journal.specs.Effects.{rewrites, puts}
-use Rattle.vr_memory.specs.Replica.{Replica, part_at}
+use Rattle.vr_memory.specs.Replica.{Replica, part_at, version}
 use Rattle.vr_super.specs.Calls.{write_calls}
 use Rattle.vr_super.specs.Copies.{SuperValue}
 use Rattle.vr_memory.specs.Words.{writes, saves, value_of, may_be_stored}
@@ -26,6 +26,7 @@ use Rattle.vr_memory.specs.Words.{checkpoints, checkpoint_of, with_checkpoint, m
 use Rattle.vr_step.specs.declared.halt.Halt.{Halt}
 use Rattle.vr_step.specs.declared.halt.Halt.TheVariants.{DiskFault, NoMemory}
 use Rattle.vr_step.proofs.Stepping.{performs_ok, performs_fault, performs_want, performed, performs_halted, does_by, does_reading, does_then, does_no_memory, change_by_then}
+use Rattle.vr_memory.proofs.Versions.{checkpoint_stays}
 use Rattle.vr_step.specs.Does.{Does, Finds, Performs, PerformsTo}
 
 -- calls that don't depend on what the disk holds
@@ -33,11 +34,11 @@ pub runs_from : (cs : List Call) (d d' : Option Disk) (ok : Bool) → Runs cs d 
 runs_from cs None d' ok h = h
 runs_from cs (Some x) d' ok h = h
 
-pub write_is_again : (e : Whole) (r : Replica) (d d' : Option Disk) (ok : Bool) → may_be_stored (part_at r e.header.op) ≡ true → Runs (again_calls 1 e) d d' ok → Performs (writes e) r d d' ok
-write_is_again e r d d' ok i h = record { silent = refl; ran = rw i (runs_from (again_calls 1 e) d d' ok h) }
+pub write_is_again : (v : ℕ) (e : Whole) (r : Replica) (d d' : Option Disk) (ok : Bool) → v ≡ version r → may_be_stored (part_at r e.header.op) ≡ true → Runs (again_calls v e) d d' ok → Performs (writes e) r d d' ok
+write_is_again v e r d d' ok n i h = record { silent = refl; ran = rw (i, ← n) (runs_from (again_calls v e) d d' ok h) }
 
-pub write_is_new : (e : Whole) (r : Replica) (d d' : Option Disk) (ok : Bool) → may_be_stored (part_at r e.header.op) ≡ false → Runs (new_calls 1 e) d d' ok → Performs (writes e) r d d' ok
-write_is_new e r d d' ok i h = record { silent = refl; ran = rw i (runs_from (new_calls 1 e) d d' ok h) }
+pub write_is_new : (v : ℕ) (e : Whole) (r : Replica) (d d' : Option Disk) (ok : Bool) → v ≡ version r → may_be_stored (part_at r e.header.op) ≡ false → Runs (new_calls v e) d d' ok → Performs (writes e) r d d' ok
+write_is_new v e r d d' ok n i h = record { silent = refl; ran = rw (i, ← n) (runs_from (new_calls v e) d d' ok h) }
 
 pub save_is : (r : Replica) (old v : SuperValue) (d d' : Option Disk) (ok : Bool) → RunsFrom (write_calls old v) d d' ok → old ≡ r.saved → v ≡ value_of r → Performs saves r d d' ok
 save_is r old v d d' ok h i e = let k = rw (i, e) at h in record { silent = refl; ran = k }
@@ -73,7 +74,7 @@ module _ (r : Replica) (cluster op : ℕ) (state : State) (texts : Texts) (table
 pub checkpoint_none : (r : Replica) (d : Option Disk) → PerformsTo checkpoints r d d (Err NoMemory)
 checkpoint_none r d = performs_want checkpoints r d refl
 
-checkpoint_found : (r : Replica) (d : Option Disk) → Finds (checkpoint_of r) d d (saved_checkpoint r.cluster (texts_of r.state) r.applied r.table)
+checkpoint_found : (r : Replica) (d : Option Disk) → Finds (version r) (checkpoint_of r) d d (saved_checkpoint r.cluster (texts_of r.state) r.applied r.table)
 checkpoint_found r None = record { same = refl; value = tt }
 checkpoint_found r (Some y) = record { same = refl; value = refl }
 
@@ -84,7 +85,7 @@ checkpoint_then r q r2 c d d1 d2 o o' res p s e h =
     let v : checkpoint.SavedCheckpoint = saved_checkpoint r.cluster (texts_of r.state) r.applied r.table in
     let i : q ≡ with_checkpoint v r = rw s at e in
     does_by _ r r2 d d2 o o' res (does_reading (checkpoint_of r) _ v r r2 d d d2 o o' res (checkpoint_found r d)
-    (does_then (does checkpoints) (change (with_checkpoint v) ⨾ save) r r r2 d d1 d2 o o o' res (performed checkpoints r r d d1 o p) (change_by_then (with_checkpoint v) save r q r2 d1 d2 o o' res i h)))
+    (does_then (does checkpoints) (change (with_checkpoint v) ⨾ save) r r r2 d d1 d2 o o o' res (performed checkpoints r r d d1 o p) (change_by_then (with_checkpoint v) save r q r2 d1 d2 o o' res i (checkpoint_stays v r) h)))
 
 pub checkpoint_stopped : (r q : Replica) (d d1 : Option Disk) (o o' : List Output) (halt : Halt) → PerformsTo checkpoints r d d1 (Err halt) → Does make_checkpoint r q d d1 o o' (Err halt)
 unfolding make_checkpoint

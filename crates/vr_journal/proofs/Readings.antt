@@ -24,13 +24,13 @@ at_part : (op : ℕ) (p : Part) (w : Whole → Word Face) (r r' : Replica) (d d'
 unfolding with_entry_at
 at_part op p w r r' d d' o o' result e h = does_by _ r r' d d' o o' result (rw e at h)
 
-module _ (h : Header) (r q : Replica) (d d' : Option Disk) (found shown : Option Whole) (here : part_at r h.op ≡ Here h) (read : Finds (entry_of h) d d' found) where
+module _ (h : Header) (r q : Replica) (d d' : Option Disk) (found shown : Option Whole) (here : part_at r h.op ≡ Here h) (read : Finds (version r) (entry_of h) d d' found) where
   pub here_read : (e : Whole) → found ≡ Some e → shown ≡ Some e → q ≡ r → Reads h.op r q d d' shown
   here_read e is say same =
       record {
         some = λ w x r' d'' o o' result i k.
             let one : e ≡ x = cc in
-            let g : Finds (entry_of h) d d' (Some x) = rw (is, one) at read in
+            let g : Finds (version r) (entry_of h) d d' (Some x) = rw (is, one) at read in
             let j : Does (w x) r r' d' d'' o o' result = rw same at k in
             at_part h.op (Here h) w r r' d d'' o o' result (sym here) (found_then h w x r r' d d' d'' o o' result g j);
         none = λ w o i. absurd cc;
@@ -38,7 +38,7 @@ module _ (h : Header) (r q : Replica) (d d' : Option Disk) (found shown : Option
 
   pub here_lost : found ≡ None → shown ≡ None → q ≡ lost h r → Reads h.op r q d d' shown
   here_lost is say e =
-      let f : Finds (entry_of h) d d' None = rw is at read in
+      let f : Finds (version r) (entry_of h) d d' None = rw is at read in
       record {
         some = λ w x r' d'' o o' result i k. absurd cc;
         none = λ w o i. at_part h.op (Here h) w r q d d' o o (Ok tt) (sym here) (found_lost h w r q d d' o f e);

@@ -26,7 +26,7 @@ fn applies_next(replica: &Replica) -> bool
 /// The commit number rises, up to the head, over each op that a replication quorum has acknowledged, the replica itself counted where the
 /// entry is stored; then what is committed is applied. Where the next op hasn't its quorum, and all that can be is applied, it makes no
 /// call of the disk and takes no memory.
-#[tactic(auto, using(vr_step::proofs::Stepping::steps, vr_memory::proofs::Memory::window_of, vr_memory::proofs::Repairs::ready_advanced, crate::proofs::Advancing::none_applied, crate::proofs::Advancing::none_next), unfolding(crate::specs::Words::advance))]
+#[tactic(auto, using(vr_step::proofs::Stepping::steps, vr_memory::proofs::Versions::advanced_stays, vr_memory::proofs::Memory::window_of, vr_memory::proofs::Repairs::ready_advanced, crate::proofs::Advancing::none_applied, crate::proofs::Advancing::none_next), unfolding(crate::specs::Words::advance))]
 pub fn advance<D: SectorDisk>(
     replica: &mut Replica,
     alloc: Global,

@@ -1,13 +1,13 @@
 //! The effects of a replica on its disk, each by the call of its storage crate.
 ghost use Rattle.std.specs.Prelude.{◌≡◌, ◌≤◌, ◌+◌, OnOk, is_ok, is_some, true};
 ghost use Rattle.vr_base.specs.Causes.{HasCause};
+ghost use Rattle.vr_memory.specs.Replica.{version};
 ghost use Rattle.vr_memory.specs.Words.{writes, saves, with_saved, value_of};
 ghost use Rattle.vr_ckpt.specs.Blocks.{named};
 ghost use Rattle.vr_journal.specs.Effects.{rewrites, puts};
 ghost use Rattle.vr_rings.specs.Slots.{Takes};
 ghost use Rattle.vr_step.specs.Does.{Performs};
 
-use vr_base::Version;
 use vr_ckpt::Name;
 use vr_disk::{DiskFault, SectorDisk};
 use vr_header::{Entry, Header};
@@ -22,14 +22,14 @@ pub(crate) fn write_entry<D: SectorDisk>(
     disk: &mut D,
     entry: &Entry,
 ) -> Result<(), DiskFault>
-    requires { Takes 1 entry.now }
+    requires { Takes (version replica.now) entry.now }
     ensures runs { Performs (writes entry.now) replica.now (D.told disk.old) (D.told disk.new) (is_ok result) }
     ensures cause { HasCause (D.faults disk.old) (D.faults disk.new) result }
 {
     if may_be_stored(&replica.part_at(entry.header().op)) {
-        write_again(disk, entry, Version::new(1))
+        write_again(disk, entry, replica.version())
     } else {
-        write_new(disk, entry, Version::new(1))
+        write_new(disk, entry, replica.version())
     }
 }
 

@@ -1,6 +1,7 @@
 //! The checkpoint is loaded.
 ghost use Rattle.std.specs.Prelude.{◌≡◌, IfOk, OnOk, nat_lt};
 ghost use Rattle.vr_ckpt.specs.declared.found.Load.{Load};
+ghost use Rattle.vr_memory.specs.Replica.{version};
 ghost use Rattle.vr_memory.specs.Words.{load, checkpoint_at};
 ghost use Rattle.vr_step.specs.Does.{Does, Finds, Caused};
 ghost use Rattle.vr_memory.specs.Ready.{IsReady, MayLoad};
@@ -20,7 +21,7 @@ fn find_checkpoint<D: SectorDisk>(
     alloc: Global,
     disk: &mut D,
 ) -> Result<Load, NoMemory>
-    ensures found { IfOk result (λ l. Finds (checkpoint_at replica.now.root) (D.told disk.old) (D.told disk.new) l) }
+    ensures found { IfOk result (λ l. Finds (version replica.now) (checkpoint_at replica.now.root) (D.told disk.old) (D.told disk.new) l) }
     ensures told { D.told disk.new ≡ D.told disk.old }
     ensures faults { D.faults disk.new ≡ D.faults disk.old }
 {

@@ -107,7 +107,7 @@ pub fn accept<D: SectorDisk>(
 }
 
 /// Enters a view, and the others hear of it.
-#[tactic(auto, using(vr_step::proofs::Stepping::steps, vr_memory::proofs::Memory::readies, vr_memory::proofs::Memory::window_of))]
+#[tactic(auto, using(vr_step::proofs::Stepping::steps, vr_memory::proofs::Versions::entered_stays, vr_memory::proofs::Memory::readies, vr_memory::proofs::Memory::window_of))]
 fn enter_now<D: SectorDisk>(
     replica: &mut Replica,
     alloc: Global,

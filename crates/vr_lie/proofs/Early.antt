@@ -1,9 +1,9 @@
 -- A slot looked at by the first sector of its prepare.
-use Rattle.std.proofs.Common.{ℕ, zero, suc, ◌-◌, ◌*◌, ◌<◌, ◌≤◌, ◌≡◌, refl, sym, ap, ◌∙◌, arith, Bool, true, false, cond, ◌&&◌, List, ◌++◌, length, take, drop, Option, Some, None, append_assoc}
-use Rattle.std.specs.Prelude.{if◌then◌else◌, nat_eq, replicate}
+use Rattle.std.proofs.Common.{ℕ, zero, suc, ◌-◌, ◌*◌, ◌<◌, ◌≤◌, ◌≡◌, refl, sym, ap, ◌∙◌, arith, Bool, true, false, cond, ◌&&◌, List, ◌++◌, length, take, drop, get_or, Option, Some, None, append_assoc}
+use Rattle.std.specs.Prelude.{◌≢◌, if◌then◌else◌, is_some, nat_eq, replicate}
 use Rattle.std.specs.Cmp.Lexicographic.{pointwise}
 use Rattle.std.proofs.lemmas.Bool.{and_parts}
-use Rattle.std.proofs.lemmas.List.{drop_at, length-drop, length-take-le, take-append-drop, take_at}
+use Rattle.std.proofs.lemmas.List.{drop_at, get_or-take, get_or_append_left, get_or_default, length-drop, length-take-le, take-append-drop, take_at}
 use Rattle.std.proofs.lemmas.Slice.Eq.{bytes_eq-Decides}
 use Rattle.vr_base.specs.Bytes.{is_zeros}
 use Rattle.vr_base.proofs.ZeroLaws.{are_zeros, zeros_are}
@@ -16,7 +16,7 @@ use Rattle.vr_disk.proofs.Faces.{there}
 use Rattle.vr_disk.proofs.Places.{counted, inside}
 use Rattle.vr_disk.proofs.Together.{First, together_first}
 use Rattle.vr_rings.specs.Held.{entry_of_both, found, header_sector, is_prepare, looked}
-use Rattle.vr_rings.specs.Slots.{header_reading, padded, prepare_reading}
+use Rattle.vr_rings.specs.Slots.{header_reading, in_front, padded, prepare_reading}
 use Rattle.vr_lie.specs.Table.{IsOwnHeader, begins_alike, is_begun}
 
 -- a prepare's header sector is that of its first sector
@@ -99,6 +99,20 @@ header_parts b p n l =
     let two : drop 128 b ≡ zs = are_zeros (drop 128 b) q.1 ∙ ap (λ n. replicate n 0) rest in
     (bytes_eq-Decides b (take 128 p ++ zs)).1 (sym whole ∙ (ap (λ x. x ++ drop 128 b) one ∙ ap (λ y. take 128 p ++ y) two)))
 
+-- one that begins with another byte
+pub other_first : (b p : List ℕ) (d e : ℕ) → length b ≡ 512 → 128 ≤ length p → get_or b 0 d ≢ get_or p 0 e → false ≡ pointwise nat_eq b (header_sector p)
+unfolding header_sector
+other_first b p d e n l h =
+    let zs : List ℕ = replicate 384 0 in
+    same_bool false (pointwise nat_eq b (take 128 p ++ zs)) (λ x. absurd cc)
+    (λ t.
+    let same : b ≡ take 128 p ++ zs = (bytes_eq-Decides b (take 128 p ++ zs)).0 t in
+    let front = length-take-le 128 p l in
+    let one : get_or b 0 d ≡ get_or (take 128 p) 0 d = ap (λ x. get_or x 0 d) same ∙ get_or_append_left (take 128 p) zs d 0 (omega (arith, front)) in
+    let two : get_or (take 128 p) 0 d ≡ get_or p 0 d = get_or-take 128 p 0 d (omega arith) in
+    let three : get_or p 0 d ≡ get_or p 0 e = get_or_default p 0 d e (omega (arith, l)) in
+    absurd (h (one ∙ (two ∙ three))))
+
 -- where a sector reads as these bytes
 pub header_has : (f : Face) (slot : ℕ) (b p : List ℕ) (r : Bool) → Some b ≡ header_reading f slot → r ≡ pointwise nat_eq b (header_sector p) → r ≡ has (header_sector p) (header_reading f slot)
 header_has f s b p r e k = k ∙ ap (has (header_sector p)) e
@@ -121,3 +135,12 @@ by_found false p = refl
 -- a slot that holds nothing holds what it reads as
 pub free_found : (b : Bool) (p : List ℕ) → b ≡ is_prepare p → (if b then Some p else None) ≡ found (if is_prepare p then Some p else None) None
 free_found b p e = ap (λ x. cond x (Some p) None) e ∙ by_found (is_prepare p) p
+
+-- what was read in front of zeros
+pub front_held : (b z : List ℕ) (n : ℕ) → z ≡ replicate n 0 → n ≡ 4096 - length b → b ++ z ≡ in_front b
+unfolding in_front
+front_held b z n e k = ap (λ x. b ++ x) (e ∙ ap (λ n. replicate n 0) k)
+
+pub some_map : {X Y : Type 0} → (f : X → Y) (o : Option X) → is_some (option_map f o) ≡ is_some o
+some_map f None = refl
+some_map f (Some x) = refl

@@ -4,18 +4,16 @@ ghost use Rattle.vr_disk.specs.DiskState.{Sync, Write, after, settle};
 ghost use Rattle.vr_lie.specs.Faults.{HeldAfter, HeldLooked, held_at};
 ghost use Rattle.vr_rings.specs.Held.{found, held_after, held_begun, is_prepare, keeps, kept, looked};
 ghost use Rattle.vr_disk.specs.Sectors.{has};
-ghost use Rattle.vr_rings.specs.Slots.{prepare_reading};
 ghost use Rattle.vr_lie.specs.Table.{HeldBegun, HeldCut, IsOwnHeader, IsTable, held_of, slot_at, slot_in, table_of};
 ghost use Rattle.vr_mem.specs.Cells.{disk_of};
 
 use crate::reading::{begins_alike, has_header, is_prepare};
 use vr_base::Version;
 use vr_disk::{
-    SECTOR_SIZE, SECTORS, Sector, header_place, prepare_place, prepare_sectors, read_sectors,
-    sector_at,
+    SECTOR_SIZE, SECTORS, Sector, header_place, prepare_place, prepare_sectors, sector_at,
 };
 use vr_mem::CellDisk;
-use vr_rings::header_sector;
+use vr_rings::{header_sector, read_bytes, read_front, whole_front};
 
 /// What a slot holds: an entry, by its prepare, or nothing.
 #[derive(Clone, Copy)]
@@ -88,19 +86,6 @@ fn find(disk: &mut CellDisk, bytes: &[u8; 4096], held: &mut Held)
     }
 }
 
-// Reads a slot's prepare over these bytes. False where one of its sectors can't be read, and then they are unspecified.
-fn read_over(disk: &mut CellDisk, slot: u32, to: &mut [u8; 4096], version: Version) -> bool
-    requires { slot < 64 }
-    ensures told { disk_of disk.new ≡ disk_of disk.old }
-    ensures faults { disk.new.faults ≡ disk.old.faults }
-    ensures value { prepare_reading version (disk_of disk.old).face slot ≡ (if result then Some to.new else None) }
-{
-    let count = prepare_sectors(version);
-    let (front, rest) = to.split_at_mut(SECTOR_SIZE * count as usize);
-    rest.fill(0);
-    read_sectors(disk, prepare_place(slot, version), count, front)
-}
-
 // Looks at a slot that holds an entry, and whose header sector is that of the prepare beside it.
 #[tactic(auto, using(std::proofs::lemmas::Grind::common_steps, crate::proofs::Early::none_looked))]
 fn look_held(disk: &mut CellDisk, slot: u32, held: &mut Held, version: Version)
@@ -111,7 +96,7 @@ fn look_held(disk: &mut CellDisk, slot: u32, held: &mut Held, version: Version)
     ensures value { held_of held.new ≡ looked version (disk_of disk.old).face slot (held_of held.old) }
 {
     let mut bytes = held.prepare;
-    if read_over(disk, slot, &mut bytes, version) {
+    if read_bytes(disk, slot, &mut bytes, version) {
         find(disk, &bytes, held);
     }
 }
@@ -127,8 +112,11 @@ fn look_free(disk: &mut CellDisk, slot: u32, held: &mut Held, version: Version)
     ensures faults { disk.new.faults ≡ disk.old.faults }
     ensures value { held_of held.new ≡ looked version (disk_of disk.old).face slot None }
 {
-    if read_over(disk, slot, &mut held.prepare, version) {
-        held.some = is_prepare(disk, &held.prepare);
+    let count = prepare_sectors(version);
+    let (front, rest) = held.prepare.split_at_mut(SECTOR_SIZE * count as usize);
+    rest.fill(0);
+    if read_front(disk, slot, front, version) {
+        held.some = whole_front(disk, front).is_some();
     }
 }
 

@@ -10,7 +10,7 @@ use Rattle.vr_msg.specs.declared.output.Output.{Output}
 use Rattle.vr_lie.specs.Held.{held_after_all}
 use Rattle.vr_world.specs.Lying.{Lying, after_calls, hazards, lying}
 use Rattle.vr_world.specs.Replica.{Replica}
-use Rattle.vr_world.specs.Sectors.{calls, calls_of}
+use Rattle.vr_world.specs.Sectors.{calls, calls_of, script_calls}
 use Rattle.vr_world.specs.Steps.{Effect, Step, after_all, outputs}
 use Rattle.vr_world.specs.World.{Acted, Host, halted, went, went_or_halted}
 use Rattle.vr_lying.specs.Told.{burnt, host_on, lying_in}
@@ -32,12 +32,12 @@ calls_both d cs ds =
     ap (with_held (disk.after_all f ds)) rows ∙ ap (λ g. with_held g (after_calls d (cs ++ ds)).held) (sym (after_all_append cs ds d.face))
 
 -- effects one after the other leave what all their calls leave
-pub script_calls : (es : List Effect) (d : Lying) → length d.held ≡ 64 → after_all lying d es ≡ after_calls d (calls es d.face)
-unfolding after_all calls
-script_calls [] d n = no_calls d n
-script_calls (e ∷ es) d n =
+pub script_leaves : (es : List Effect) (d : Lying) → length d.held ≡ 64 → after_all lying d es ≡ after_calls d (calls es d.face)
+unfolding after_all script_calls
+script_leaves [] d n = no_calls d n
+script_leaves (e ∷ es) d n =
     let one = after_calls d (calls_of e d.face) in
-    script_calls es one (slots_count (λ slot. held_after_all 1 d.face (calls_of e d.face) slot (held_at d.held slot))) ∙ calls_both d (calls_of e d.face) (calls es one.face)
+    script_leaves es one (slots_count (λ slot. held_after_all 1 d.face (calls_of e d.face) slot (held_at d.held slot))) ∙ calls_both d (calls_of e d.face) (calls es one.face)
 
 -- ---- a step
 
@@ -59,7 +59,7 @@ acts_go index r d e s t h =
     let same : e ≡ (runs cs d).disk = let x = h.0 in cc in
     let w : Went cs d e = subst (λ (e : Disk). Went cs d e) (sym same) (runs_went cs d t (sym h.1)) in
     let m = host_on r d in
-    let left : after_all lying m.disk s.script ≡ lying_in e = script_calls s.script m.disk t.count ∙ sym w.lying in
+    let left : after_all lying m.disk s.script ≡ lying_in e = script_leaves s.script m.disk t.count ∙ sym w.lying in
     record {
       acted = fits_burnt index m s d.fate.fuse w.reach
           ∙ ap (λ fuse. member_left (Some s.replica) (after_all lying m.disk s.script) fuse (outputs s.script)) (sym w.fuse)

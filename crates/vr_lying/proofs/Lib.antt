@@ -3,3 +3,4 @@ pub mod Rules
 pub mod Runs
 pub mod Acting
 pub mod Telling
+pub mod Versions

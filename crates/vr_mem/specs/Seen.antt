@@ -87,8 +87,8 @@ call_verdict v.Fails = Fails
 call_verdict (v.Cuts code) = Cuts code
 
 -- the name by which it was attached last
-abbrev pub name_of : DiskName → Option (List ℕ)
-name_of n = if n.is_given then Some n.bytes.items else None
+abbrev pub name_given : DiskName → Option (List ℕ)
+name_given n = if n.is_given then Some n.bytes.items else None
 
 -- no sector waits twice
 abbrev pub once : List Waiting → Bool

@@ -14,11 +14,11 @@ pub struct DiskName {
 }
 
 impl DiskName {
-    ghost use Rattle.vr_mem.specs.Seen.{name_of};
+    ghost use Rattle.vr_mem.specs.Seen.{name_given};
 
     /// That of a disk that wasn't attached yet.
     pub fn none(alloc: Global) -> Result<DiskName, AllocError>
-        ensures { IfOk result (λ n. name_of n ≡ None) }
+        ensures { IfOk result (λ n. name_given n ≡ None) }
     {
         Ok(DiskName {
             is_given: false,
@@ -29,7 +29,7 @@ impl DiskName {
     /// From now on it is this one.
     pub fn set(&mut self, name: &[u8])
         requires { length name.now ≤ NAME_MOST }
-        ensures { name_of self.new ≡ Some name.now }
+        ensures { name_given self.new ≡ Some name.now }
     {
         self.bytes.clear();
         self.bytes.extend_from_slice(name).unwrap();

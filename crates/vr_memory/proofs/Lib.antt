@@ -29,4 +29,5 @@ pub use Rattle.vr_rules.proofs.Slots
 pub use Rattle.vr_rules.proofs.Storing
 pub use Rattle.vr_rules.proofs.Taking
 pub use Rattle.vr_rules.proofs.Trying
+pub mod Versions
 pub use Rattle.vr_rules.proofs.Wording

@@ -91,9 +91,14 @@ unfolding IsReady with_part
 ready_lost k g r q e i h = rw e (record { sound = (kept_lost k g r h.sound i).sound; savable = savable_lost k g r h.sound i h.savable; idle = h.idle; fits = h.fits; runs = h.runs })
 
 -- the file takes an entry that may be stored
-pub entry_taken : (e : Whole) (r : Replica) → IsReady r → MayStore e r → Takes 1 e
+pub entry_taken : (e : Whole) (r : Replica) → IsReady r → MayStore e r → Takes (version r) e
 unfolding IsReady MayStore
 entry_taken e r h m = let of = m.is_entry.of_version in let runs = h.runs in record { most = omega arith; taken = omega arith }
+
+-- it runs on a file of version 1
+pub runs_one : (r : Replica) → IsReady r → version r ≡ 1
+unfolding IsReady
+runs_one r h = h.runs
 
 pub in_window : (e : Whole) (r : Replica) → MayStore e r → HasWindow r → (r.first ≤ e.header.op) × (e.header.op - r.first < length r.parts)
 unfolding MayStore

@@ -3,10 +3,11 @@ ghost use Rattle.std.specs.Prelude.{◌≡◌, ◌↔◌, ◌%◌, IfOk, IfSome,
 ghost use Rattle.std.specs.Option.{option_map};
 ghost use Rattle.vr_ckpt.specs.Grid.{named_at};
 ghost use Rattle.vr_rings.specs.Slots.{entry_for, whole_in};
+ghost use Rattle.vr_rules.specs.Replica.{version};
 
 use crate::Replica;
 use std::alloc::Global;
-use vr_base::{NoMemory, Version};
+use vr_base::NoMemory;
 use vr_ckpt::Name;
 use vr_disk::SectorDisk;
 use vr_header::{Entry, Header};
@@ -24,10 +25,11 @@ impl Replica {
         ensures left { self.new ≡ self.old }
         ensures told { D.told disk.new ≡ D.told disk.old }
         ensures faults { D.faults disk.new ≡ D.faults disk.old }
-        ensures value { IfSome (D.told disk.old) (λ d. IfOk result (λ e. e ≡ entry_for 1 d.face header.now)) }
+        ensures value { IfSome (D.told disk.old) (λ d. IfOk result (λ e. e ≡ entry_for (version self.old) d.face header.now)) }
         ensures header { IfOk result (λ e. IfSome e (λ x. x.header ≡ header.now)) }
     {
-        vr_rings::find_entry(alloc, disk, header, &mut self.buffer, Version::new(1))
+        let version = self.version();
+        vr_rings::find_entry(alloc, disk, header, &mut self.buffer, version)
     }
 
     /// Whether the slot of this header reads as its entry. It takes no memory.
@@ -35,14 +37,15 @@ impl Replica {
         ensures left { self.new ≡ self.old }
         ensures told { D.told disk.new ≡ D.told disk.old }
         ensures faults { D.faults disk.new ≡ D.faults disk.old }
-        ensures value { IfSome (D.told disk.old) (λ d. IsTrue result ↔ (option_map (λ e. e.header) (whole_in 1 d.face (header.now.op % 64)) ≡ Some header.now)) }
+        ensures value { IfSome (D.told disk.old) (λ d. IsTrue result ↔ (option_map (λ e. e.header) (whole_in (version self.old) d.face (header.now.op % 64)) ≡ Some header.now)) }
     {
+        let version = self.version();
         read_prepare(
             disk,
             (header.op % 64) as u32,
             header,
             &mut self.buffer,
-            Version::new(1),
+            version,
         )
         .is_ok()
     }

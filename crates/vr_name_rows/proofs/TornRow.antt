@@ -11,7 +11,7 @@ use Rattle.vr_msg.specs.declared.output.Sent.{Sent}
 use Rattle.vr_rings.specs.Calls.{header_calls, prepare_calls}
 use Rattle.vr_rules.specs.Replica.{Replica}
 use Rattle.vr_rules.specs.Outputs.{do_view_change, messages, prepare, start_view_change}
-use Rattle.vr_rules.specs.Sectors.{calls}
+use Rattle.vr_rules.specs.Sectors.{calls, script_calls}
 use Rattle.vr_rules.specs.Steps.{Step, Write, after_all, outputs}
 use Rattle.vr_rules.specs.Rules.{react}
 use Rattle.vr_rules.specs.Opening.{blank, opened}
@@ -58,11 +58,11 @@ unfolding at_member messages
 fuses_1 a c y = refl
 
 halts_1 : (a c : Host Lying) (y : Lying) → (happens hazards (three a (fused_host y) c sent_1) (Arrives 0)).world ≡ three a (off (halted_disk y)) c sent_1
-unfolding at_member messages calls prepare_calls header_calls writes
+unfolding at_member messages script_calls prepare_calls header_calls writes
 halts_1 a c y = ap (λ (s : Step). (with_member (three a (fused_host y) c sent_1) 1 (went_or_halted hazards 1 (fused_host y) s (Some third))).world) (step_1 y)
 
 torn_is : (halted_disk (blank_disk 1)).face ≡ torn
-unfolding cut calls prepare_calls writes
+unfolding cut script_calls prepare_calls writes
 torn_is = refl
 
 revives_at_1 : (a c : Host Lying) (y : Lying) → opened lying y ≡ Some (record { replica = b0; script = revives }) → (happens hazards (three a (off y) c sent_1) (Starts 1)).world ≡ three a (host b0 (after_all lying y revives)) c sent_1

@@ -130,9 +130,9 @@ module _ (p : Prepare) (r : Replica) (d : Option Disk) (o : List Output) (x : Pr
   prepare_later o' k i = obeyed p r r d d o o' PreparedLater (Ok tt) (e ∙ ap prepare_rule k) (says_by _ r d o o' i)
 
   pub prepare_beyond : (q : Replica) → x ≡ rule.Beyond → q ≡ rested r → Does (on_prepare p) r q d d o o (Ok tt)
-  prepare_beyond q k i = obeyed p r q d d o o Beyond (Ok tt) (e ∙ ap prepare_rule k) (change_by rested r q d o i)
+  prepare_beyond q k i = obeyed p r q d d o o Beyond (Ok tt) (e ∙ ap prepare_rule k) (change_by rested r q d o i refl)
 
   pub prepare_other : (q : Replica) → x ≡ rule.Other → q ≡ rested r → Does (on_prepare p) r q d d o o (Ok tt)
-  prepare_other q k i = obeyed p r q d d o o Other (Ok tt) (e ∙ ap prepare_rule k) (change_by rested r q d o i)
+  prepare_other q k i = obeyed p r q d d o o Other (Ok tt) (e ∙ ap prepare_rule k) (change_by rested r q d o i refl)
 
 pub ruleset rules = (prepare_past, prepare_known, prepare_next, prepare_ahead, prepare_ignored, prepare_before, prepare_later, prepare_beyond, prepare_other)

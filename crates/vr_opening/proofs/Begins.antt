@@ -63,7 +63,7 @@ unfolding MayLoad
 opened_saved r q h ready e = record { ready = ready; applied = subst (λ (x : Replica). x.applied ≡ x.checkpoint) (sym e) h.applied }
 
 pub leave_then : (r q r2 : Replica) (d d2 : Option Disk) (o o2 : List Output) (res : Result (Unit {0}) Halt) → leads r ≡ true → q ≡ in_next_view r → Does save q r2 d d2 o o2 res → Does leave_view r r2 d d2 o o2 res
-leave_then r q r2 d d2 o o2 res l e h = does_by _ r r2 d d2 o o2 res (rw l (change_by_then in_next_view save r q r2 d d2 o o2 res e h))
+leave_then r q r2 d d2 o o2 res l e h = does_by _ r r2 d d2 o o2 res (rw l (change_by_then in_next_view save r q r2 d d2 o o2 res e refl h))
 
 pub leave_none : (r : Replica) (d : Option Disk) (o : List Output) → leads r ≡ false → Does leave_view r r d d o o (Ok tt)
 leave_none r d o l = does_by _ r r d d o o (Ok tt) (rw l (does_quiet r d o))
@@ -81,7 +81,7 @@ told_view false r d o o2 e = let same : o2 ≡ o = e ∙ append-nil o in rw same
 
 pub announce_then : (r q : Replica) (d : Option Disk) (o o2 : List Output) → is_started r ≡ false → q ≡ heard_itself r → o2 ≡ o ++ cond (nat_le q.view last_view) (send_to_all start_view_change q) [] → Does announce r q d d o o2 (Ok tt)
 announce_then r q d o o2 l e k =
-    does_by _ r q d d o o2 (Ok tt) (rw l (change_by_then heard_itself _ r q q d d o o2 (Ok tt) e (does_by _ q q d d o o2 (Ok tt) (told_view (nat_le q.view last_view) q d o o2 k))))
+    does_by _ r q d d o o2 (Ok tt) (rw l (change_by_then heard_itself _ r q q d d o o2 (Ok tt) e refl (does_by _ q q d d o o2 (Ok tt) (told_view (nat_le q.view last_view) q d o o2 k))))
 
 pub announce_none : (r : Replica) (d : Option Disk) (o : List Output) → is_started r ≡ true → Does announce r r d d o o (Ok tt)
 announce_none r d o l = does_by _ r r d d o o (Ok tt) (rw l (does_quiet r d o))

@@ -26,6 +26,7 @@ use Rattle.vr_journal.specs.Halt.{Halt}
 use Rattle.vr_journal.specs.Does.{Does}
 use Rattle.vr_journal.specs.Ready.{IsReady, HasWindow, MayLoad}
 use Rattle.vr_opening.specs.Finding.{IsOpening, cloud_by, cloud_to}
+use Rattle.vr_journal.proofs.Versions.{clouded_stays, forgetting_stays}
 use Rattle.vr_journal.proofs.Stepping.{does_then, does_stopped, change_by_then, change_by}
 
 pub any_more : (xs : List Part) (i : ℕ) → was_stored (get_or xs i Nothing) ≡ false → list_any was_stored (drop i xs) ≡ list_any was_stored (drop (i + 1) xs)
@@ -131,7 +132,7 @@ unfolding recover_parts
 parts_then v r r1 r2 q p d d1 d2 o o1 o2 e i h k l m =
     does_then _ _ r r1 p d d1 d2 o o1 o2 (Ok tt) h
     (does_then _ _ r1 r2 p d1 d2 d2 o1 o2 o2 (Ok tt) (subst (λ (x : SuperValue). Does (each (recover_op x) (ops x.fields.checkpoint (x.fields.checkpoint + 64))) r1 r2 d1 d2 o1 o2 (Ok tt)) e k)
-    (change_by_then (clouded v) (change forgetting) r2 q p d2 d2 o2 o2 (Ok tt) (subst (λ (x : SuperValue). q ≡ clouded x r2) (i ∙ e) l) (change_by forgetting q p d2 o2 m)))
+    (change_by_then (clouded v) (change forgetting) r2 q p d2 d2 o2 o2 (Ok tt) (subst (λ (x : SuperValue). q ≡ clouded x r2) (i ∙ e) l) (clouded_stays v r2) (change_by forgetting q p d2 o2 m (forgetting_stays q))))
 
 pub parts_halted : (v : SuperValue) (r r1 r2 q : Replica) (d d1 d2 : Option Disk) (o o1 o2 o3 : List Output) (halt : Halt) → r1.saved ≡ v
     → Does (each recover_old (old_headers v)) r r1 d d1 o o1 (Ok tt)

@@ -13,9 +13,9 @@ use Rattle.vr_msg.specs.declared.output.Output.{Output}
 use Rattle.vr_msg.specs.Choice.{ops}
 use Rattle.vr_msg.specs.Logs.{has_header}
 use Rattle.vr_super.specs.Copies.{SuperValue, IsGood}
-use Rattle.vr_journal.specs.Replica.{Replica, with_part, knows}
+use Rattle.vr_journal.specs.Replica.{Replica, version, with_part, knows}
 use Rattle.vr_journal.specs.Steps.{Setting, Step, Word, ◌⨾◌, each, when, quiet, after_all}
-use Rattle.vr_journal.specs.Sectors.{sectors}
+use Rattle.vr_journal.specs.Sectors.{sectors_by}
 use Rattle.vr_journal.specs.Words.{entry_of}
 use Rattle.vr_journal.specs.Opening.{recover_old, recover_op, old_part, old_headers}
 use Rattle.vr_journal.specs.Found.{IsOf, Lists}
@@ -26,12 +26,13 @@ use Rattle.vr_journal.specs.Halt.{Halt}
 use Rattle.vr_journal.specs.Does.{Finds, Does, LeftBy, Going}
 use Rattle.vr_opening.specs.Finding.{IsOpening, IsOpeningOld, DoesAt, recover_listed}
 use Rattle.vr_journal.proofs.Lists.{found_is}
+use Rattle.vr_journal.proofs.Versions.{part_stays}
 use Rattle.vr_journal.proofs.Stepping.{does_reading, change_by, going_goes, going_stops, going_ends, going_begins}
 
-pub old_then : (h : Header) (e : Option Whole) (p : Part) (r q : Replica) (d d' : Option Disk) (o : List Output) → Finds (entry_of h) d d' e → p ≡ old_part h e → q ≡ with_part h.op p r
+pub old_then : (h : Header) (e : Option Whole) (p : Part) (r q : Replica) (d d' : Option Disk) (o : List Output) → Finds (version r) (entry_of h) d d' e → p ≡ old_part h e → q ≡ with_part h.op p r
     → Does (recover_old h) r q d d' o o (Ok tt)
 unfolding recover_old
-old_then h e p r q d d' o f i j = does_reading (entry_of h) _ e r q d d' d' o o (Ok tt) f (change_by _ r q d' o (rw (← i) j))
+old_then h e p r q d d' o f i j = does_reading (entry_of h) _ e r q d d' d' o o (Ok tt) f (change_by _ r q d' o (rw (← i) j) (part_stays h.op (old_part h e) r))
 
 -- the header at a place of the value's list
 is_old : (v : SuperValue) (i : ℕ) (h : Header) → IsGood v → v.fields.version ≡ 1 → slice_get v.headers i ≡ Some h → IsOld v h
@@ -140,13 +141,13 @@ each_passing v (h ∷ hs) s r f =
       | false ↦ each_passing v hs s r f
     ]
 
-does_alike : (w u : Word Face) (r r' : Replica) (d d' : Option Disk) (o o' : List Output) (result : Result (Unit {0}) Halt) → ((f : Face) → w sectors r f ≡ u sectors r f)
+does_alike : (w u : Word Face) (r r' : Replica) (d d' : Option Disk) (o o' : List Output) (result : Result (Unit {0}) Halt) → ((f : Face) → w (sectors_by (version r)) r f ≡ u (sectors_by (version r)) r f)
     → Does w r r' d d' o o' result → Does u r r' d d' o o' result
-does_alike w u r r' d d' o o' result same h = record { untold = h.untold; told = λ x e. subst (λ s. LeftBy s r' x d' o o' result) (same x.face) (h.told x e) }
+does_alike w u r r' d d' o o' result same h = record { untold = h.untold; told = λ x e. subst (λ s. LeftBy (version r) s r' x d' o o' result) (same x.face) (h.told x e); same = h.same }
 
 pub olds_passing : (v : SuperValue) (r r' : Replica) (d d' : Option Disk) (o o' : List Output) (result : Result (Unit {0}) Halt) → Does (each (recover_listed v) v.headers) r r' d d' o o' result
     → Does (each recover_old (old_headers v)) r r' d d' o o' result
-olds_passing v r r' d d' o o' result h = does_alike (each (recover_listed v) v.headers) (each recover_old (old_headers v)) r r' d d' o o' result (λ f. each_passing v v.headers sectors r f) h
+olds_passing v r r' d d' o o' result h = does_alike (each (recover_listed v) v.headers) (each recover_old (old_headers v)) r r' d d' o o' result (λ f. each_passing v v.headers (sectors_by (version r)) r f) h
 
 pub olds_end : (v : SuperValue) (i : ℕ) (r r' : Replica) (d d' : Option Disk) (o o' : List Output) → length v.headers ≤ i → Going (recover_listed v) v.headers i r r' d d' o o'
     → Does (each recover_old (old_headers v)) r r' d d' o o' (Ok tt)

@@ -39,8 +39,8 @@ saved_blank v = refl
 
 -- what is left of an error doesn't depend on the replica
 other : (w : Word Face) (r a b : Replica) (d d' : Option Disk) (o o' : List Output) (h : Halt) → Does w r a d d' o o' (Err h) → Does w r b d d' o o' (Err h)
-other w r a b d d' o o' DiskFault k = record { untold = k.untold; told = k.told }
-other w r a b d d' o o' NoMemory k = record { untold = k.untold; told = k.told }
+other w r a b d d' o o' DiskFault k = record { untold = k.untold; told = k.told; same = λ i. cc }
+other w r a b d d' o o' NoMemory k = record { untold = k.untold; told = k.told; same = λ i. cc }
 
 pub begun_then : (v : SuperValue) (r q : Replica) (d d' : Option Disk) (o o' : List Output) → r ≡ blank v → Does (after_mend r.saved) r q d d' o o' (Ok tt) → DoesTo (after_mend v) (blank v) d d' o o' (Ok q)
 begun_then v r q d d' o o' e h =

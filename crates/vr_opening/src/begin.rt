@@ -3,7 +3,7 @@ ghost use Rattle.std.specs.Prelude.{◌≡◌, ◌<◌, ◌≤◌, ◌+◌, ◌+
 ghost use Rattle.vr_journal.specs.Opening.{announce, going_on, leave_view, recover_parts, resuming};
 ghost use Rattle.vr_journal.specs.Outputs.{start_line, send_to_all, start_view_change};
 ghost use Rattle.vr_journal.specs.Replica.{is_spent, is_started, leads, last_view};
-ghost use Rattle.vr_journal.specs.Words.{save};
+ghost use Rattle.vr_journal.specs.Words.{apply, load, save};
 ghost use Rattle.vr_journal.specs.Steps.{◌⨾◌};
 ghost use Rattle.vr_journal.specs.Does.{Does, Caused};
 ghost use Rattle.vr_journal.specs.Ready.{IsReady, MayLoad};
@@ -93,6 +93,25 @@ fn announce<D: SectorDisk>(
     }
 }
 
+// The checkpoint is loaded, what is committed is applied, and the others are told.
+#[tactic(auto, using(vr_journal::proofs::Stepping::steps, vr_journal::proofs::Loads::ready_opened))]
+fn load_on<D: SectorDisk>(
+    replica: &mut Replica,
+    alloc: Global,
+    disk: &mut D,
+    out: &mut Outbox,
+) -> Result<(), Halt>
+    requires opened { MayLoad replica.old }
+    requires room { replica.old.saved.fields.sequence + 64 < 2 ^ 64 }
+    ensures ready { OnOk result (IsReady replica.new) }
+    ensures cause { Caused (D.faults disk.old) (D.faults disk.new) result }
+    ensures step { Does (load ⨾ apply ⨾ announce) replica.old replica.new (D.told disk.old) (D.told disk.new) out.old out.new result }
+{
+    load(replica, alloc, disk, out)?;
+    apply(replica, alloc, disk, out)?;
+    announce(replica, disk, out)
+}
+
 // What comes of an opening: a primary leaves its view, the checkpoint is loaded, what is committed is applied, and the others are told.
 #[tactic(auto, using(vr_journal::proofs::Stepping::steps, vr_journal::proofs::Loads::ready_opened))]
 fn go_on<D: SectorDisk>(
@@ -109,9 +128,7 @@ fn go_on<D: SectorDisk>(
 {
     leave_view(replica, alloc, disk, out)?;
     replica.say_start(out)?;
-    load(replica, alloc, disk, out)?;
-    apply(replica, alloc, disk, out)?;
-    announce(replica, disk, out)
+    load_on(replica, alloc, disk, out)
 }
 
 // The same, unless sequence numbers are at their end: then nothing is written any more, and nothing sent.

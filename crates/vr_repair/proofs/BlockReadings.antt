@@ -26,17 +26,17 @@ unfolding named_at block_reading
 as_named f name b whole l e w = rw (lt-ltb name.address grid_size l, e, w) refl
 
 module _ (name : Name) (d d' : Option Disk) (same : d' ≡ d) where
-  pub block_past : grid_size ≤ name.address → Finds (block_at name) d d' None
-  block_past l = elim d as (λ x. d' ≡ x → Finds (block_at name) x d' None) [ None ↦ λ s. record { same = s; value = tt } | Some y ↦ λ s. record { same = s; value = past_grid y.face name l } ] same
+  pub block_past : grid_size ≤ name.address → (v : ℕ) → Finds v (block_at name) d d' None
+  block_past l v = elim d as (λ x. d' ≡ x → Finds v (block_at name) x d' None) [ None ↦ λ s. record { same = s; value = tt } | Some y ↦ λ s. record { same = s; value = past_grid y.face name l } ] same
 
-  pub block_unread : name.address < grid_size → IfSome d (λ y. together (region.block_place name.address) 8 y.face ≡ None) → Finds (block_at name) d d' None
-  block_unread l = elim d as (λ x. d' ≡ x → IfSome x (λ (y : Disk). together (region.block_place name.address) 8 y.face ≡ None) → Finds (block_at name) x d' None) [
+  pub block_unread : name.address < grid_size → IfSome d (λ y. together (region.block_place name.address) 8 y.face ≡ None) → (v : ℕ) → Finds v (block_at name) d d' None
+  block_unread l read v = elim d as (λ x. d' ≡ x → IfSome x (λ (y : Disk). together (region.block_place name.address) 8 y.face ≡ None) → Finds v (block_at name) x d' None) [
     | None ↦ λ s r. record { same = s; value = tt }
     | Some y ↦ λ s r. record { same = s; value = unread y.face name l r }
-  ] same
+  ] same read
 
-  pub block_as : (b : List ℕ) (whole : Bool) → name.address < grid_size → IfSome d (λ y. together (region.block_place name.address) 8 y.face ≡ Some b) → whole ≡ is_some (named name b) → Finds (block_at name) d d' (cond whole (Some b) None)
-  block_as b whole l read w = elim d as (λ x. d' ≡ x → IfSome x (λ (y : Disk). together (region.block_place name.address) 8 y.face ≡ Some b) → Finds (block_at name) x d' (cond whole (Some b) None)) [
+  pub block_as : (b : List ℕ) (whole : Bool) → name.address < grid_size → IfSome d (λ y. together (region.block_place name.address) 8 y.face ≡ Some b) → whole ≡ is_some (named name b) → (v : ℕ) → Finds v (block_at name) d d' (cond whole (Some b) None)
+  block_as b whole l read w v = elim d as (λ x. d' ≡ x → IfSome x (λ (y : Disk). together (region.block_place name.address) 8 y.face ≡ Some b) → Finds v (block_at name) x d' (cond whole (Some b) None)) [
     | None ↦ λ s r. record { same = s; value = tt }
     | Some y ↦ λ s r. record { same = s; value = as_named y.face name b whole l r w }
   ] same read

@@ -1,6 +1,6 @@
 -- What a copy that comes makes good.
 use Rattle.vr_ckpt.specs.Places.{grid_size}
-use Rattle.std.proofs.Common.{arith, ◌≡◌, ◌≤◌, ◌<◌, ◌+◌, ◌-◌, ◌∙◌, refl, ℕ, Bool, true, false, not, cond, filter, set, List, [], ◌∷◌, Some, None, is_some}
+use Rattle.std.proofs.Common.{arith, ◌≡◌, ◌≤◌, ◌<◌, ◌+◌, ◌-◌, ◌∙◌, refl, subst, ℕ, Bool, true, false, not, cond, filter, set, List, [], ◌∷◌, Some, None, is_some}
 use Rattle.std.specs.Prelude.{find, ◌==◌}
 use Rattle.std.proofs.lemmas.Bool.{lt-ltb}
 use Rattle.vr_disk.specs.DiskState as disk
@@ -19,7 +19,7 @@ use Rattle.vr_journal.specs.Replica.{Replica, head, part_at, version, with_part}
 use Rattle.vr_journal.specs.Sectors.{block_in}
 use Rattle.vr_journal.specs.Steps.{◌⨾◌, after_all, change, does}
 use Rattle.vr_journal.specs.Words.{may_be_stored, stored, write}
-use Rattle.vr_journal.proofs.Memory.{entry_taken}
+use Rattle.vr_journal.proofs.Memory.{entry_taken, runs_one}
 use Rattle.vr_journal.proofs.Heads.{Spans, forgetting_at, head_within, with_part_at, with_part_spans}
 use Rattle.vr_journal.proofs.Keeping.{spans_of}
 use Rattle.vr_repair.specs.Laws.{BlocksAreRepaired, EntriesAreRepaired}
@@ -57,7 +57,7 @@ pub entries_repaired : EntriesAreRepaired
 unfolding write ◌⨾◌ does change after_all
 entries_repaired e r f h m w face rest = record {
   here = stored_here e r h m;
-  reads = entry_reads (may_be_stored (part_at r e.header.op)) e f w (entry_taken e r h m) face rest;
+  reads = entry_reads (may_be_stored (part_at r e.header.op)) e f w (subst (λ n. Takes n e) (runs_one r h) (entry_taken e r h m)) face rest;
 }
 
 -- ---- blocks

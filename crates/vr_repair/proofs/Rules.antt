@@ -22,9 +22,9 @@ use Rattle.vr_repair.specs.Repairs.{found_at, gives, is_block, rule_of}
 use Rattle.vr_journal.specs.Deciding.{first_of, get_block_table, get_prepare_table, give_block_table, give_prepare_table, is_known, is_wanted}
 use Rattle.vr_journal.specs.Rule.TheVariants.{Ignored, BlockMended, BlockTaken}
 use Rattle.vr_journal.specs.Outputs.{give_block, give_prepare, send_to}
-use Rattle.vr_journal.specs.Replica.{Replica}
+use Rattle.vr_journal.specs.Replica.{Replica, version}
 use Rattle.vr_journal.specs.Rules.{asked_block, block_at, give_read, obey_get_block, obey_get_prepare, obey_give_block, obey_give_prepare, on_get_block, on_get_prepare, mend_found, on_give_block, on_give_prepare, put_found, test_of}
-use Rattle.vr_journal.specs.Sectors.{sectors}
+use Rattle.vr_journal.specs.Sectors.{sectors_by}
 use Rattle.vr_journal.specs.Steps.{◌⨾◌, by, quiet, reading}
 use Rattle.vr_journal.specs.Words.{apply, resend, with_entry_at, write}
 use Rattle.vr_journal.proofs.Ruling.{may_store_given}
@@ -96,15 +96,15 @@ give_prepare_ignored g x r d o e n = give_prepare_obeyed g x r r d d o o (Ok tt)
 
 -- ---- get_block
 
-module _ (g : GetBlock) (r : Replica) (d d' : Option Disk) (name : Name) (found : Option (List ℕ)) (read : Finds (block_at name) d d' found) (asked : name ≡ asked_block g) where
+module _ (g : GetBlock) (r : Replica) (d d' : Option Disk) (name : Name) (found : Option (List ℕ)) (read : (v : ℕ) → Finds v (block_at name) d d' found) (asked : name ≡ asked_block g) where
   pub block_read : (b : List ℕ) (o o' : List Output) → found ≡ Some b → o' ≡ o ++ send_to g.replica (give_block g.address b r) r → Does (reading (block_at (asked_block g)) (give_read g)) r r d d' o o' (Ok tt)
   block_read b o o' is said =
-      let k : Finds (block_at (asked_block g)) d d' (Some b) = rw (asked, is) at read in
+      let k : Finds (version r) (block_at (asked_block g)) d d' (Some b) = rw (asked, is) at (read (version r)) in
       does_reading (block_at (asked_block g)) (give_read g) (Some b) r r d d' d' o o' (Ok tt) k (says_by (λ x. send_to g.replica (give_block g.address b x) x) r d' o o' said)
 
   pub block_unread : (o : List Output) → found ≡ None → Does (reading (block_at (asked_block g)) (give_read g)) r r d d' o o (Ok tt)
   block_unread o is =
-      let k : Finds (block_at (asked_block g)) d d' None = rw (asked, is) at read in
+      let k : Finds (version r) (block_at (asked_block g)) d d' None = rw (asked, is) at (read (version r)) in
       does_reading (block_at (asked_block g)) (give_read g) None r r d d' d' o o (Ok tt) k (does_quiet r d' o)
 
 abbrev pub DecidesBlock : GetBlock → Repair → Replica → Type 0
@@ -131,7 +131,8 @@ block_given g x r r' d d' o o' result e is h =
     let k : DecidesBlock g repair.BlockGiven r = rw is at e in
     record {
       untold = h.untold;
-      told = λ y i. subst (λ w. LeftBy (w sectors r y.face) r' y d' o o' result) (sym (gives_as g r (block_at (asked_block g) sectors y.face) k)) (h.told y i);
+      told = λ y i. subst (λ w. LeftBy (version r) (w (sectors_by (version r)) r y.face) r' y d' o o' result) (sym (gives_as g r (block_at (asked_block g) (sectors_by (version r)) y.face) k)) (h.told y i);
+      same = h.same;
     }
 
 pub get_block_ignored : (g : GetBlock) (x : Repair) (r : Replica) (d : Option Disk) (o : List Output) → DecidesBlock g x r → (x ≡ repair.BlockGiven → ⊥) → Does (on_get_block g) r r d d o o (Ok tt)
@@ -140,7 +141,8 @@ get_block_ignored g x r d o e n =
     let h = does_quiet r d o in
     record {
       untold = h.untold;
-      told = λ y i. subst (λ w. LeftBy (w sectors r y.face) r y d o o (Ok tt)) (sym (ignores_as g x r (block_at (asked_block g) sectors y.face) e n)) (h.told y i);
+      told = λ y i. subst (λ w. LeftBy (version r) (w (sectors_by (version r)) r y.face) r y d o o (Ok tt)) (sym (ignores_as g x r (block_at (asked_block g) (sectors_by (version r)) y.face) e n)) (h.told y i);
+      same = h.same;
     }
 
 -- ---- give_block
@@ -181,14 +183,14 @@ pub may_put : (p : Name → Bool) (name : Name) (r : Replica) → IsReady r → 
 unfolding IsReady MayLoad
 may_put p name r h e = record { ready = h; applied = h.sound.waits (λ n. let none : None ≡ Some name = rw n at e in absurd cc) }
 
-tested : (d : Option Disk) → Finds test_of d d is_block
-tested None = record { same = refl; value = tt }
-tested (Some y) = record { same = refl; value = refl }
+tested : (v : ℕ) (d : Option Disk) → Finds v test_of d d is_block
+tested v None = record { same = refl; value = tt }
+tested v (Some y) = record { same = refl; value = refl }
 
 tests : (g : GiveBlock) (r r' : Replica) (d d' : Option Disk) (o o' : List Output) (result : Result (Unit {0}) Halt) → Does (obey_give_block is_block g (first_of (give_block_table is_block g r))) r r' d d' o o' result
     → Does (on_give_block g) r r' d d' o o' result
 unfolding on_give_block
-tests g r r' d d' o o' result h = does_reading test_of _ is_block r r' d d d' o o' result (tested d) (does_by _ r r' d d' o o' result h)
+tests g r r' d d' o o' result h = does_reading test_of _ is_block r r' d d d' o o' result (tested (version r) d) (does_by _ r r' d d' o o' result h)
 
 pub block_taken : (g : GiveBlock) (x : Repair) (name : Name) (r r' : Replica) (d d' : Option Disk) (o o' : List Output) (result : Result (Unit {0}) Halt) → first_of (give_block_table is_block g r) ≡ rule_of x
     → x ≡ repair.BlockTaken name → find (is_wanted is_block g) r.missing ≡ Some name → Does (put_found g.block (Some name)) r r' d d' o o' result → Does (on_give_block g) r r' d d' o o' result

@@ -1,5 +1,5 @@
 -- Words of repair by what their code does.
-use Rattle.std.proofs.Common.{arith, ◌≡◌, ◌<◌, ◌+◌, ◌^◌, ◌++◌, cond, Bool, true, false, ℕ, List, [], ◌∷◌, Option, Some, None, Result, Ok, Err, slice_get}
+use Rattle.std.proofs.Common.{arith, ◌≡◌, refl, ◌<◌, ◌+◌, ◌^◌, ◌++◌, cond, Bool, true, false, ℕ, List, [], ◌∷◌, Option, Some, None, Result, Ok, Err, slice_get}
 use Rattle.std.specs.Prelude.{nat_lt, ◌&&◌, if◌then◌else◌}
 use Rattle.vr_base.specs.Bytes.{name_of}
 use Rattle.vr_disk.specs.DiskState.{Disk, Face}
@@ -103,7 +103,7 @@ module _ (name : Name) (block : List ℕ) (r q : Replica) (d d' : Option Disk) w
   pub put_then : (r2 : Replica) (d2 : Option Disk) (o o2 : List Output) (result : Result (Unit {0}) Halt) → Performs (puts name block) r d d' true → q ≡ without name r → Does loads_whole q r2 d' d2 o o2 result
       → Does (put_block name block) r r2 d d2 o o2 result
   unfolding put_block puts loads_whole
-  put_then r2 d2 o o2 result p e h = effect_then (λ x. PutBlock name block) _ r r2 d d' d2 o o2 result p (change_by_then (without name) _ r q r2 d' d2 o o2 result e h)
+  put_then r2 d2 o o2 result p e h = effect_then (λ x. PutBlock name block) _ r r2 d d' d2 o o2 result p (change_by_then (without name) _ r q r2 d' d2 o o2 result e refl h)
 
   pub put_stopped : (o o2 : List Output) → Performs (puts name block) r d d' false → Does (put_block name block) r q d d' o o2 (Err DiskFault)
   unfolding put_block puts
@@ -114,7 +114,7 @@ module _ (name : Name) (block : List ℕ) (r q : Replica) (d d' : Option Disk) w
 module _ (name : Name) (block : List ℕ) (r q : Replica) (d d' : Option Disk) where
   pub mended_then : (o : List Output) → Performs (puts name block) r d d' true → q ≡ not_worn name r → Does (mend_found block (Some name)) r q d d' o o (Ok tt)
   unfolding puts
-  mended_then o p e = effect_then (λ x. PutBlock name block) (change (not_worn name)) r q d d' d' o o (Ok tt) p (rw e (does_change (not_worn name) r d' o))
+  mended_then o p e = effect_then (λ x. PutBlock name block) (change (not_worn name)) r q d d' d' o o (Ok tt) p (rw e (does_change (not_worn name) r d' o refl))
 
   pub mended_stopped : (o o2 : List Output) → Performs (puts name block) r d d' false → Does (mend_found block (Some name)) r q d d' o o2 (Err DiskFault)
   unfolding puts

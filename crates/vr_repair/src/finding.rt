@@ -1,5 +1,5 @@
 //! A block that is read to be given.
-ghost use Rattle.std.specs.Prelude.{◌≡◌, IfOk, IfSome, None, Some, length, if◌then◌else◌};
+ghost use Rattle.std.specs.Prelude.{ℕ, ◌≡◌, IfOk, IfSome, None, Some, length, if◌then◌else◌};
 ghost use Rattle.vr_journal.specs.Rules.{block_at};
 ghost use Rattle.vr_journal.specs.Does.{Finds};
 
@@ -22,7 +22,7 @@ fn read_whole<D: SectorDisk>(disk: &mut D, name: &Name, to: &mut [u8]) -> bool
     requires { length to.old ≡ 4096 }
     ensures told { D.told disk.new ≡ D.told disk.old }
     ensures faults { D.faults disk.new ≡ D.faults disk.old }
-    ensures found { Finds (block_at name.now) (D.told disk.old) (D.told disk.new) (if result then Some to.new else None) }
+    ensures found { (v : ℕ) → Finds v (block_at name.now) (D.told disk.old) (D.told disk.new) (if result then Some to.new else None) }
     ensures size { length to.new ≡ 4096 }
 {
     if name.address >= u64::from(BLOCKS) {
@@ -34,7 +34,7 @@ fn read_whole<D: SectorDisk>(disk: &mut D, name: &Name, to: &mut [u8]) -> bool
     is_block_on(disk, to, name)
 }
 
-/// The whole block that reads under this name, of 4,096 bytes; `None` where none does. Memory is taken for the block alone.
+/// The whole block that reads under this name, of 4,096 bytes, whatever the version of the file; `None` where none does. Memory is taken for the block alone.
 pub fn find_block<D: SectorDisk>(
     alloc: Global,
     disk: &mut D,
@@ -42,7 +42,7 @@ pub fn find_block<D: SectorDisk>(
 ) -> Result<Option<ByteList>, NoMemory>
     ensures told { D.told disk.new ≡ D.told disk.old }
     ensures faults { D.faults disk.new ≡ D.faults disk.old }
-    ensures found { IfOk result (λ block. Finds (block_at name.now) (D.told disk.old) (D.told disk.new) block) }
+    ensures found { IfOk result (λ block. (v : ℕ) → Finds v (block_at name.now) (D.told disk.old) (D.told disk.new) block) }
     ensures size { IfOk result (λ block. IfSome block (λ bytes. length bytes ≡ 4096)) }
 {
     let mut bytes = [0; 4096];

@@ -1,5 +1,5 @@
 -- What reading an entry gives.
-use Rattle.std.proofs.Common.{◌≡◌, Option}
+use Rattle.std.proofs.Common.{ℕ, ◌≡◌, Option}
 use Rattle.std.specs.Prelude.{IfSome}
 use Rattle.vr_disk.specs.DiskState.{Disk}
 use Rattle.vr_header.specs.declared.header.Header.{Header}
@@ -9,5 +9,5 @@ use Rattle.vr_journal.specs.Words.{entry_of}
 use Rattle.vr_journal.specs.Does.{Finds}
 use Rattle.vr_replica.specs.Entries.{entry_by}
 
-pub found : (h : Header) (d d' : Option Disk) (e : Option Whole) → Finds (entry_of h) d d' e → IfSome d (λ x. e ≡ entry_by (Here h) x.face)
-found h d d' e f = f.value
+pub found : (v : ℕ) (h : Header) (d d' : Option Disk) (e : Option Whole) → Finds v (entry_of h) d d' e → IfSome d (λ x. e ≡ entry_by v (Here h) x.face)
+found v h d d' e f = f.value

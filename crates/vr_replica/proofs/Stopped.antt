@@ -14,8 +14,8 @@ use Rattle.vr_journal.specs.Halt.TheVariants.{DiskFault, NoMemory}
 use Rattle.vr_journal.specs.Does.{Does}
 
 pub halted : (w : Word Face) (r r' q : Replica) (d d' : Option Disk) (o o' p : List Output) (e : Halt) → Does w r r' d d' o o' (Err e) → Does w r q d d' o p (Err e)
-halted w r r' q d d' o o' p DiskFault h = record { untold = h.untold; told = h.told }
-halted w r r' q d d' o o' p NoMemory h = record { untold = h.untold; told = h.told }
+halted w r r' q d d' o o' p DiskFault h = record { untold = h.untold; told = h.told; same = λ i. cc }
+halted w r r' q d d' o o' p NoMemory h = record { untold = h.untold; told = h.told; same = λ i. cc }
 
 pub cleared : (asked : Config) (d d' : Option Disk) (o o' p : List Output) (x : Refusal) → Recovered asked d d' o o' (Err x) → Recovered asked d d' o p (Err x)
 cleared asked d d' o o' p (Lost verdicts) h = h

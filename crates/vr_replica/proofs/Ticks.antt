@@ -7,9 +7,9 @@ use Rattle.vr_msg.specs.declared.output.Output.{Output}
 use Rattle.vr_journal.specs.Deciding.{first_of, tick_table}
 use Rattle.vr_journal.specs.Rule.{Rule}
 use Rattle.vr_journal.specs.Rule.TheVariants.{TickedPrimary, TickedBackup, TickedChanging}
-use Rattle.vr_journal.specs.Replica.{Replica, head, last_view}
+use Rattle.vr_journal.specs.Replica.{Replica, head, last_view, version}
 use Rattle.vr_journal.specs.Rules.{idler, next_view, backup_ticks, changing_ticks, primary_ticks, obey_tick, on_tick}
-use Rattle.vr_journal.specs.Sectors.{sectors}
+use Rattle.vr_journal.specs.Sectors.{sectors_by}
 use Rattle.vr_journal.specs.Steps.{Setting, Step, Word, ◌⨾◌, by, change}
 use Rattle.vr_journal.specs.Words.{enter, entered, rested, prepare_again, ask, visit}
 use Rattle.vr_journal.proofs.Keeping.{sound_alike}
@@ -65,20 +65,21 @@ module _ (r r' : Replica) (d d' : Option Disk) (o o' : List Output) (result : Re
   idle_enters : (view : ℕ) → Does (enter view) r r' d d' o o' result → Does (enter view) (idler r) r' d d' o o' result
   idle_enters view h = record {
     untold = h.untold;
-    told = λ x e. subst (λ (s : Step). LeftBy s r' x d' o o' result) (sym (enter_alike view sectors r x.face)) (h.told x e);
+    told = λ x e. subst (λ (s : Step). LeftBy (version r) s r' x d' o o' result) (sym (enter_alike view (sectors_by (version r)) r x.face)) (h.told x e);
+    same = h.same;
   }
 
   -- where so many ticks, and this one, are enough
   ticks_due : (n : ℕ) (w : Word Face) → nat_le n (r.idle + 1) ≡ true → Does (enter (r.view + 1)) r r' d d' o o' result
       → Does (change idler ⨾ by (λ q. if nat_le n q.idle then next_view else w)) r r' d d' o o' result
   ticks_due n w e h =
-      does_change_then idler _ r r' d d' o o' result
+      does_change_then idler _ r r' d d' o o' result refl
       (does_by _ (idler r) r' d d' o o' result (rw e (does_by _ (idler r) r' d d' o o' result (idle_enters (r.view + 1) h))))
 
   -- where they aren't
   ticks_wait : (n : ℕ) (w : Word Face) (q : Replica) → nat_le n (r.idle + 1) ≡ false → q ≡ idler r → Does w q r' d d' o o' result
       → Does (change idler ⨾ by (λ q. if nat_le n q.idle then next_view else w)) r r' d d' o o' result
-  ticks_wait n w q e i h = does_change_then idler _ r r' d d' o o' result (does_by _ (idler r) r' d d' o o' result (rw e (rw i at h)))
+  ticks_wait n w q e i h = does_change_then idler _ r r' d d' o o' result refl (does_by _ (idler r) r' d d' o o' result (rw e (rw i at h)))
 
   more_true : (n k : ℕ) → nat_le n k ≡ true → nat_le (n + 1) (k + 1) ≡ true
   more_true n k e = let l = leb-true n k e in le-leb (n + 1) (k + 1) (omega arith)

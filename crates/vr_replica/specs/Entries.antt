@@ -1,20 +1,20 @@
 -- What reading an entry gives and leaves.
-use Rattle.std.specs.Prelude.{Option, Some, None}
+use Rattle.std.specs.Prelude.{ℕ, Option, Some, None}
 use Rattle.vr_disk.specs.DiskState.{Face}
 use Rattle.vr_header.specs.declared.part.Part.{Part}
 use Rattle.vr_header.specs.declared.part.Part.TheVariants.{Here, Lost, Wanted, Unknown, Nothing}
 use Rattle.vr_header.specs.Made.{Whole}
 use Rattle.vr_journal.specs.Replica.{Replica}
-use Rattle.vr_journal.specs.Sectors.{sectors}
+use Rattle.vr_journal.specs.Sectors.{sectors_by}
 use Rattle.vr_journal.specs.Words.{entry_of, lost}
 
--- the entry of an op of which this is known
-abbrev pub entry_by : Part → Face → Option Whole
-entry_by (Here h) f = entry_of h sectors f
-entry_by (Lost h) f = None
-entry_by (Wanted h) f = None
-entry_by Unknown f = None
-entry_by Nothing f = None
+-- the entry of an op of which this is known, on a file of a version
+abbrev pub entry_by : ℕ → Part → Face → Option Whole
+entry_by v (Here h) f = entry_of h (sectors_by v) f
+entry_by v (Lost h) f = None
+entry_by v (Wanted h) f = None
+entry_by v Unknown f = None
+entry_by v Nothing f = None
 
 -- an entry that is stored and can't be read is lost
 abbrev pub after_reading : Part → Option Whole → Replica → Replica

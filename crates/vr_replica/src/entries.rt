@@ -2,7 +2,7 @@
 ghost use Rattle.std.specs.Prelude.{◌≡◌, IfOk, IfSome, OnErr, OnOk};
 ghost use Rattle.vr_header.specs.declared.part.Part.TheVariants.{Here};
 ghost use Rattle.vr_journal.specs.Ready.{IsReady};
-ghost use Rattle.vr_journal.specs.Replica.{part_at};
+ghost use Rattle.vr_journal.specs.Replica.{part_at, version};
 ghost use Rattle.vr_replica.specs.Entries.{after_reading, entry_by};
 
 use std::alloc::Global;
@@ -24,7 +24,7 @@ fn read_stored<D: SectorDisk>(
     ensures ready { IsReady replica.new }
     ensures told { D.told disk.new ≡ D.told disk.old }
     ensures faults { D.faults disk.new ≡ D.faults disk.old }
-    ensures value { IfOk result (λ found. IfSome (D.told disk.old) (λ d. found ≡ entry_by (Here header.now) d.face)) }
+    ensures value { IfOk result (λ found. IfSome (D.told disk.old) (λ d. found ≡ entry_by (version replica.old) (Here header.now) d.face)) }
     ensures left { IfOk result (λ found. replica.new ≡ after_reading (Here header.now) found replica.old) }
     ensures kept { OnErr result (replica.new ≡ replica.old) }
 {
@@ -51,7 +51,7 @@ pub fn read_entry<D: SectorDisk>(
     ensures ready { IsReady replica.new }
     ensures told { D.told disk.new ≡ D.told disk.old }
     ensures faults { D.faults disk.new ≡ D.faults disk.old }
-    ensures value { IfOk result (λ found. IfSome (D.told disk.old) (λ d. found ≡ entry_by (part_at replica.old op) d.face)) }
+    ensures value { IfOk result (λ found. IfSome (D.told disk.old) (λ d. found ≡ entry_by (version replica.old) (part_at replica.old op) d.face)) }
     ensures left { IfOk result (λ found. replica.new ≡ after_reading (part_at replica.old op) found replica.old) }
     ensures kept { OnErr result (replica.new ≡ replica.old) }
 {

@@ -122,8 +122,8 @@ impl Replica {
 
     /// Handles an event in one step, which puts out what is to be sent, replied and told. After an `Err` the replica has stopped: it
     /// puts out nothing, and takes no further step. A prepare or a start_view_change that the rules leave be, and an acknowledgement that
-    /// is counted without a quorum, make no call of the disk and take no memory.
-    #[tactic(auto, using(crate::proofs::Stopped::halted))]
+    /// is counted without a quorum, make no call of the disk and take no memory. It runs on a file of version 1.
+    #[tactic(auto, using(crate::proofs::Stopped::halted, vr_journal::proofs::Memory::runs_one))]
     pub fn step<D: SectorDisk>(
         &mut self,
         alloc: Global,
@@ -132,6 +132,7 @@ impl Replica {
         out: &mut Outbox,
     ) -> Result<(), Halt>
         requires running { self.old.running ≡ true }
+        ensures version { version self.old.memory ≡ 1 }
         ensures running { self.new.running ≡ is_ok result }
         ensures halt { OnErr result (out.new ≡ []) }
         ensures cause { Caused (D.faults disk.old) (D.faults disk.new) result }
@@ -206,7 +207,7 @@ impl Replica {
         ensures running { self.new.running ≡ true }
         ensures told { D.told disk.new ≡ D.told disk.old }
         ensures faults { D.faults disk.new ≡ D.faults disk.old }
-        ensures value { IfOk result (λ found. IfSome (D.told disk.old) (λ d. found ≡ entry_by (part_at self.old.memory op) d.face)) }
+        ensures value { IfOk result (λ found. IfSome (D.told disk.old) (λ d. found ≡ entry_by (version self.old.memory) (part_at self.old.memory op) d.face)) }
         ensures left { IfOk result (λ found. self.new.memory ≡ after_reading (part_at self.old.memory op) found self.old.memory) }
         ensures kept { OnErr result (self.new ≡ self.old) }
     {

@@ -52,3 +52,4 @@ pub mod Replying
 pub mod Jumping
 pub mod Visiting
 pub mod SilentVisits
+pub mod Versions

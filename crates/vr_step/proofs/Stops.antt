@@ -7,9 +7,8 @@ use Rattle.vr_disk.proofs.Running.{after_is}
 use Rattle.vr_disk.proofs.Stopping.{stops_are}
 use Rattle.vr_disk.proofs.Fuses.{armed_goes_off}
 use Rattle.vr_msg.specs.declared.output.Output.{Output}
-use Rattle.vr_rules.specs.Replica.{Replica}
+use Rattle.vr_rules.specs.Replica.{Replica, version}
 use Rattle.vr_rules.specs.Steps.{Step, Word, outputs, after_all}
-use Rattle.vr_rules.specs.Sectors.{sectors, calls}
 use Rattle.vr_step.specs.declared.halt.Halt.{Halt}
 use Rattle.vr_step.specs.declared.halt.Halt.TheVariants.{DiskFault, NoMemory}
 use Rattle.vr_step.specs.Does.{Does}
@@ -29,7 +28,7 @@ well_done w r r' d d' o o' h =
       said = l.1;
       left = (runs cs d).disk;
       is = l.2.0;
-      face = after_is cs d (sym l.2.1) ∙ sym (face_is (step_of w r d).script d.face);
+      face = after_is cs d (sym l.2.1) ∙ sym (face_is (version r) (step_of w r d).script d.face);
     }
 
 pub fault_stops : FaultIsStop

@@ -4,27 +4,27 @@ use Rattle.vr_disk.specs.DiskState as disk
 use Rattle.vr_disk.specs.DiskState.{Call, Face, Disk, Fuse, cut}
 use Rattle.vr_disk.specs.Stops.{Stops}
 use Rattle.vr_msg.specs.declared.output.Output.{Output}
-use Rattle.vr_rules.specs.Replica.{Replica}
+use Rattle.vr_rules.specs.Replica.{Replica, version}
 use Rattle.vr_rules.specs.Steps.{Step, Word, outputs, after_all}
-use Rattle.vr_rules.specs.Sectors.{sectors, calls}
+use Rattle.vr_rules.specs.Sectors.{sectors_by, script_calls}
 use Rattle.vr_step.specs.declared.halt.Halt.{Halt}
 use Rattle.vr_step.specs.declared.halt.Halt.TheVariants.{DiskFault, NoMemory}
 use Rattle.vr_step.specs.Does.{Does}
 
--- the step that a word is on a disk
+-- the step that a word is on a disk of the replica's version
 abbrev pub step_of : Word Face → Replica → Disk → Step
-step_of w r d = w sectors r d.face
+step_of w r d = w (sectors_by (version r)) r d.face
 
 -- the calls of that step
 abbrev pub calls_in : Word Face → Replica → Disk → List Call
-calls_in w r d = calls (step_of w r d).script d.face
+calls_in w r d = script_calls (version r) (step_of w r d).script d.face
 
 pub record Well (w : Word Face) (r r' : Replica) (d : Disk) (d' : Option Disk) (o o' : List Output) : Type 0 where
   pub replica : r' ≡ (step_of w r d).replica
   pub said : o' ≡ o ++ outputs (step_of w r d).script
   pub left : Disk
   pub is : d' ≡ Some left
-  pub face : left.face ≡ after_all sectors d.face (step_of w r d).script
+  pub face : left.face ≡ after_all (sectors_by (version r)) d.face (step_of w r d).script
 
 -- where all went well, replica, outputs and disk are the definition's
 abbrev pub WellIsDone : Type 0

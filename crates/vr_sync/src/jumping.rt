@@ -44,7 +44,7 @@ pub fn decide_sync_view(replica: &Replica, sync: &SyncView) -> JumpRule
 }
 
 // Takes over a log with its checkpoint, and saves that it has them.
-#[tactic(auto, using(vr_journal::proofs::Stepping::steps, crate::proofs::Jumps::ready_jumped, crate::proofs::Jumps::view_jumped, crate::proofs::Jumps::may_move, vr_journal::proofs::Memory::window_of), unfolding(vr_journal::specs::Words::jump))]
+#[tactic(auto, using(vr_journal::proofs::Stepping::steps, vr_journal::proofs::Versions::jumped_stays, crate::proofs::Jumps::ready_jumped, crate::proofs::Jumps::view_jumped, crate::proofs::Jumps::may_move, vr_journal::proofs::Memory::window_of), unfolding(vr_journal::specs::Words::jump))]
 fn jump<D: SectorDisk>(
     replica: &mut Replica,
     alloc: Global,

@@ -25,7 +25,7 @@ pub fn commit_of(log: &Log) -> u64
 }
 
 /// Takes over the log of a view, and saves that it has it.
-#[tactic(auto, using(vr_journal::proofs::Stepping::steps, crate::proofs::Takes::takes, vr_journal::proofs::Memory::window_of), unfolding(vr_journal::specs::Words::take))]
+#[tactic(auto, using(vr_journal::proofs::Stepping::steps, vr_journal::proofs::Versions::taken_stays, crate::proofs::Takes::takes, vr_journal::proofs::Memory::window_of), unfolding(vr_journal::specs::Words::take))]
 pub fn take<D: SectorDisk>(
     replica: &mut Replica,
     alloc: Global,

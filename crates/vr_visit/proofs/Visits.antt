@@ -13,13 +13,14 @@ use Rattle.vr_header.specs.Same.{same_header}
 use Rattle.vr_header.proofs.SameHeaders.{same_header_is, same_header_of}
 use Rattle.vr_msg.specs.declared.output.Output.{Output}
 use Rattle.vr_rings.specs.Slots.{header_in, whole_in}
-use Rattle.vr_journal.specs.Replica.{Replica, part_at}
-use Rattle.vr_journal.specs.Sectors.{block_in, sectors}
+use Rattle.vr_journal.specs.Replica.{Replica, part_at, version}
+use Rattle.vr_journal.specs.Sectors.{block_in, sectors_by}
 use Rattle.vr_journal.specs.Steps.{Rewrite, Step, Word, ◌⨾◌, by, change, does, quiet, reading, when}
 use Rattle.vr_journal.specs.Words.{blocks_of, entry_of, header_read, is_loaded, lost, mend_header, op_of_slot, or_lost, place_now, visit, visit_block, visit_place, visit_read, visit_slot, with_cursor, with_entry, with_entry_at, with_worn}
 use Rattle.vr_journal.specs.Halt.{Halt}
 use Rattle.vr_journal.specs.Halt.TheVariants.{DiskFault}
 use Rattle.vr_journal.specs.Does.{Does, LeftBy, Performs}
+use Rattle.vr_journal.proofs.Versions.{lost_stays}
 use Rattle.vr_journal.proofs.Stepping.{does_by, does_change, does_effect, does_effect_stopped, does_quiet, does_stopped, does_then}
 use Rattle.vr_ckpt.specs.Blocks.{named}
 use Rattle.vr_ckpt.specs.Grid.{block_reading, named_at}
@@ -49,7 +50,8 @@ by_reading : (h : Header) (b : Bool) (r q : Replica) (d d' d'' : Option Disk) (o
 unfolding reading
 by_reading h b r q d d' d'' o o' result same v k = record {
   untold = λ e. k.untold (same ∙ e);
-  told = λ y e. subst (λ (w : Word Face). LeftBy (w sectors r y.face) q y d'' o o' result) (sym (mends_by h (header_in y.face (h.op % 64)) b (told_is h d y b v e))) (k.told y (same ∙ e));
+  told = λ y e. subst (λ (w : Word Face). LeftBy (version r) (w (sectors_by (version r)) r y.face) q y d'' o o' result) (sym (mends_by h (header_in y.face (h.op % 64)) b (told_is h d y b v e))) (k.told y (same ∙ e));
+  same = k.same;
 }
 
 module _ (h : Header) (b : Bool) (r : Replica) (d d' : Option Disk) (same : d' ≡ d) (v : IfSome d (λ (y : Disk). b ≡ reads_as h (header_in y.face (h.op % 64)))) where
@@ -74,8 +76,8 @@ found_entry : (h : Header) (x : Option Whole) → option_map (λ (e : Whole). e.
 found_entry h None t = absurd cc
 found_entry h (Some e) t = (e, refl, cc)
 
-is_found : (h : Header) (f : Face) (e : Whole) → whole_in 1 f (h.op % 64) ≡ Some e → e.header ≡ h → entry_of h sectors f ≡ Some e
-is_found h f e there same =
+is_found : (ed : ℕ) (h : Header) (f : Face) (e : Whole) → whole_in ed f (h.op % 64) ≡ Some e → e.header ≡ h → entry_of h (sectors_by ed) f ≡ Some e
+is_found ed h f e there same =
     ap (λ (o : Option Whole). option_and_then (λ x. cond (same_header x.header h) (Some x) None) o) there ∙ ap (λ (b : Bool). cond b (Some e) None) (same_header_of e.header h same)
 
 not_found : (h : Header) (o : Option Whole) → (option_map (λ (e : Whole). e.header) o ≡ Some h → ⊥) → option_and_then (λ (x : Whole). cond (same_header x.header h) (Some x) None) o ≡ None
@@ -86,30 +88,31 @@ not_found h (Some e) n =
       | false ↦ λ t. refl
     ] refl
 
-read_is : (h : Header) (e : Whole) (f : Face) (r : Replica) → part_at r h.op ≡ Here h → entry_of h sectors f ≡ Some e → e.header ≡ h → visit_slot h.op sectors r f ≡ reading (header_read h.op) (mend_header h) sectors r f
+read_is : (ed : ℕ) (h : Header) (e : Whole) (f : Face) (r : Replica) → part_at r h.op ≡ Here h → entry_of h (sectors_by ed) f ≡ Some e → e.header ≡ h → visit_slot h.op (sectors_by ed) r f ≡ reading (header_read h.op) (mend_header h) (sectors_by ed) r f
 unfolding visit_slot with_entry_at by reading
-read_is h e f r is there same =
-    ap (λ (p : Part). with_entry (slot_word h.op) p sectors r f) is ∙ (ap (λ (o : Option Whole). or_lost h (slot_word h.op) o sectors r f) there
-    ∙ ap (λ (x : Header). reading (header_read h.op) (mend_header x) sectors r f) same)
+read_is ed h e f r is there same =
+    ap (λ (p : Part). with_entry (slot_word h.op) p (sectors_by ed) r f) is ∙ (ap (λ (o : Option Whole). or_lost h (slot_word h.op) o (sectors_by ed) r f) there
+    ∙ ap (λ (x : Header). reading (header_read h.op) (mend_header x) (sectors_by ed) r f) same)
 
-lost_is : (h : Header) (f : Face) (r : Replica) → part_at r h.op ≡ Here h → entry_of h sectors f ≡ None → visit_slot h.op sectors r f ≡ change (lost h) sectors r f
+lost_is : (ed : ℕ) (h : Header) (f : Face) (r : Replica) → part_at r h.op ≡ Here h → entry_of h (sectors_by ed) f ≡ None → visit_slot h.op (sectors_by ed) r f ≡ change (lost h) (sectors_by ed) r f
 unfolding visit_slot with_entry_at by reading
-lost_is h f r is none = ap (λ (p : Part). with_entry (slot_word h.op) p sectors r f) is ∙ ap (λ (o : Option Whole). or_lost h (slot_word h.op) o sectors r f) none
+lost_is ed h f r is none = ap (λ (p : Part). with_entry (slot_word h.op) p (sectors_by ed) r f) is ∙ ap (λ (o : Option Whole). or_lost h (slot_word h.op) o (sectors_by ed) r f) none
 
-abbrev Tells : Header → Bool → Option Disk → Type 0
-Tells h ok d = IfSome d (λ (y : Disk). IsTrue ok ↔ (option_map (λ (e : Whole). e.header) (whole_in 1 y.face (h.op % 64)) ≡ Some h))
+abbrev Tells : ℕ → Header → Bool → Option Disk → Type 0
+Tells ed h ok d = IfSome d (λ (y : Disk). IsTrue ok ↔ (option_map (λ (e : Whole). e.header) (whole_in ed y.face (h.op % 64)) ≡ Some h))
 
-told_at : (h : Header) (ok : Bool) (d : Option Disk) (y : Disk) → Tells h ok d → d ≡ Some y → IsTrue ok ↔ (option_map (λ (e : Whole). e.header) (whole_in 1 y.face (h.op % 64)) ≡ Some h)
-told_at h ok None y v e = absurd cc
-told_at h ok (Some z) y v e = let same : z ≡ y = cc in subst (λ (x : Disk). IsTrue ok ↔ (option_map (λ (e : Whole). e.header) (whole_in 1 x.face (h.op % 64)) ≡ Some h)) same v
+told_at : (ed : ℕ) (h : Header) (ok : Bool) (d : Option Disk) (y : Disk) → Tells ed h ok d → d ≡ Some y → IsTrue ok ↔ (option_map (λ (e : Whole). e.header) (whole_in ed y.face (h.op % 64)) ≡ Some h)
+told_at ed h ok None y v e = absurd cc
+told_at ed h ok (Some z) y v e = let same : z ≡ y = cc in subst (λ (x : Disk). IsTrue ok ↔ (option_map (λ (e : Whole). e.header) (whole_in ed x.face (h.op % 64)) ≡ Some h)) same v
 
-module _ (h : Header) (ok : Bool) (r q : Replica) (d d' : Option Disk) (is : part_at r h.op ≡ Here h) (same : d' ≡ d) (v : Tells h ok d) where
+module _ (h : Header) (ok : Bool) (r q : Replica) (d d' : Option Disk) (is : part_at r h.op ≡ Here h) (same : d' ≡ d) (v : Tells (version r) h ok d) where
   pub slot_read : (d'' : Option Disk) (o o' : List Output) (result : Result (Unit {0}) Halt) → ok ≡ true → Does (reading (header_read h.op) (mend_header h)) r q d' d'' o o' result → Does (visit_slot h.op) r q d d'' o o' result
   slot_read d'' o o' result t k = record {
     untold = λ e. k.untold (same ∙ e);
     told = λ y e.
-        let there = found_entry h (whole_in 1 y.face (h.op % 64)) ((told_at h ok d y v e).0 t) in
-        subst (λ (s : Step). LeftBy s q y d'' o o' result) (sym (read_is h there.0 y.face r is (is_found h y.face there.0 there.1 there.2) there.2)) (k.told y (same ∙ e));
+        let there = found_entry h (whole_in (version r) y.face (h.op % 64)) ((told_at (version r) h ok d y v e).0 t) in
+        subst (λ (s : Step). LeftBy (version r) s q y d'' o o' result) (sym (read_is (version r) h there.0 y.face r is (is_found (version r) h y.face there.0 there.1 there.2) there.2)) (k.told y (same ∙ e));
+    same = k.same;
   }
 
   -- the same, where the rest is done from what is the replica by another name
@@ -120,21 +123,22 @@ module _ (h : Header) (ok : Bool) (r q : Replica) (d d' : Option Disk) (is : par
 
   pub slot_lost : (o : List Output) → ok ≡ false → q ≡ lost h r → Does (visit_slot h.op) r q d d' o o (Ok tt)
   slot_lost o t e =
-      let k : Does (change (lost h)) r q d d' o o (Ok tt) = rw (e, same) (does_change (lost h) r d o) in
+      let k : Does (change (lost h)) r q d d' o o (Ok tt) = rw (e, same) (does_change (lost h) r d o (lost_stays h r)) in
       record {
         untold = k.untold;
         told = λ y i.
-            let none : entry_of h sectors y.face ≡ None = not_found h (whole_in 1 y.face (h.op % 64)) (λ m. let yes : ok ≡ true = (told_at h ok d y v i).1 m in true≢false (sym yes ∙ t)) in
-            subst (λ (s : Step). LeftBy s q y d' o o (Ok tt)) (sym (lost_is h y.face r is none)) (k.told y i);
+            let none : entry_of h (sectors_by (version r)) y.face ≡ None = not_found h (whole_in (version r) y.face (h.op % 64)) (λ m. let yes : ok ≡ true = (told_at (version r) h ok d y v i).1 m in true≢false (sym yes ∙ t)) in
+            subst (λ (s : Step). LeftBy (version r) s q y d' o o (Ok tt)) (sym (lost_is (version r) h y.face r is none)) (k.told y i);
+        same = k.same;
       }
 
 part_nothing : (p : Part) (op : ℕ) (r : Replica) (d : Option Disk) (o : List Output) → part_at r op ≡ p → ((h : Header) → p ≡ Here h → ⊥) → Does (visit_slot op) r r d d o o (Ok tt)
 unfolding visit_slot with_entry_at by
 part_nothing (Here h) op r d o e n = absurd (n h refl)
-part_nothing (Lost h) op r d o e n = let k = does_quiet r d o in record { untold = k.untold; told = λ y i. rw e (k.told y i) }
-part_nothing (Wanted h) op r d o e n = let k = does_quiet r d o in record { untold = k.untold; told = λ y i. rw e (k.told y i) }
-part_nothing Unknown op r d o e n = let k = does_quiet r d o in record { untold = k.untold; told = λ y i. rw e (k.told y i) }
-part_nothing Nothing op r d o e n = let k = does_quiet r d o in record { untold = k.untold; told = λ y i. rw e (k.told y i) }
+part_nothing (Lost h) op r d o e n = let k = does_quiet r d o in record { untold = k.untold; told = λ y i. rw e (k.told y i); same = k.same }
+part_nothing (Wanted h) op r d o e n = let k = does_quiet r d o in record { untold = k.untold; told = λ y i. rw e (k.told y i); same = k.same }
+part_nothing Unknown op r d o e n = let k = does_quiet r d o in record { untold = k.untold; told = λ y i. rw e (k.told y i); same = k.same }
+part_nothing Nothing op r d o e n = let k = does_quiet r d o in record { untold = k.untold; told = λ y i. rw e (k.told y i); same = k.same }
 
 pub slot_nothing : (p : Part) (op : ℕ) (r : Replica) (d : Option Disk) (o : List Output) → p ≡ part_at r op → ((h : Header) → p ≡ Here h → ⊥) → Does (visit_slot op) r r d d o o (Ok tt)
 slot_nothing p op r d o e n = part_nothing p op r d o (sym e) n
@@ -149,40 +153,40 @@ pub found_mended : (h : Header) (b : Bool) (d : Option Disk) → IfSome d (λ (y
 found_mended h b None v t = tt
 found_mended h b (Some y) v t = ap (λ (x : Bool). if x then seen.Good else seen.Mended) (sym t ∙ v)
 
-module _ (h : Header) (ok : Bool) (d : Option Disk) (v : Tells h ok d) where
+module _ (ed : ℕ) (h : Header) (ok : Bool) (d : Option Disk) (v : Tells ed h ok d) where
   pub found_stored : (d' : Option Disk) (result : Result Visit Halt) → d' ≡ d → ok ≡ true → IfSome d' (λ (y : Disk). IfOk result (λ x. x ≡ good_or_mended h (header_in y.face (h.op % 64))))
-      → IfSome d (λ (y : Disk). IfOk result (λ x. x ≡ stored_as h (entry_of h sectors y.face) (header_in y.face (h.op % 64))))
+      → IfSome d (λ (y : Disk). IfOk result (λ x. x ≡ stored_as h (entry_of h (sectors_by ed) y.face) (header_in y.face (h.op % 64))))
   found_stored d' result same t k = at d v (subst (λ (z : Option Disk). IfSome z (λ (y : Disk). IfOk result (λ x. x ≡ good_or_mended h (header_in y.face (h.op % 64))))) same k)
     where
-      each : (y : Disk) (r : Result Visit Halt) → (e : Whole) × (entry_of h sectors y.face ≡ Some e) → IfOk r (λ x. x ≡ good_or_mended h (header_in y.face (h.op % 64)))
-          → IfOk r (λ x. x ≡ stored_as h (entry_of h sectors y.face) (header_in y.face (h.op % 64)))
+      each : (y : Disk) (r : Result Visit Halt) → (e : Whole) × (entry_of h (sectors_by ed) y.face ≡ Some e) → IfOk r (λ x. x ≡ good_or_mended h (header_in y.face (h.op % 64)))
+          → IfOk r (λ x. x ≡ stored_as h (entry_of h (sectors_by ed) y.face) (header_in y.face (h.op % 64)))
       each y (Ok x) there k = k ∙ ap (λ (o : Option Whole). stored_as h o (header_in y.face (h.op % 64))) (sym there.1)
       each y (Err halt) there k = k
 
-      at : (z : Option Disk) → Tells h ok z → IfSome z (λ (y : Disk). IfOk result (λ x. x ≡ good_or_mended h (header_in y.face (h.op % 64))))
-          → IfSome z (λ (y : Disk). IfOk result (λ x. x ≡ stored_as h (entry_of h sectors y.face) (header_in y.face (h.op % 64))))
+      at : (z : Option Disk) → Tells ed h ok z → IfSome z (λ (y : Disk). IfOk result (λ x. x ≡ good_or_mended h (header_in y.face (h.op % 64))))
+          → IfSome z (λ (y : Disk). IfOk result (λ x. x ≡ stored_as h (entry_of h (sectors_by ed) y.face) (header_in y.face (h.op % 64))))
       at None v k = k
       at (Some y) v k =
-          let there = found_entry h (whole_in 1 y.face (h.op % 64)) (v.0 t) in
-          each y result (there.0, is_found h y.face there.0 there.1 there.2) k
+          let there = found_entry h (whole_in ed y.face (h.op % 64)) (v.0 t) in
+          each y result (there.0, is_found ed h y.face there.0 there.1 there.2) k
 
-pub found_lost : (h : Header) (ok : Bool) (d : Option Disk) → Tells h ok d → ok ≡ false → IfSome d (λ (y : Disk). seen.Lost ≡ stored_as h (entry_of h sectors y.face) (header_in y.face (h.op % 64)))
-found_lost h ok None v t = tt
-found_lost h ok (Some y) v t =
-    let none : entry_of h sectors y.face ≡ None = not_found h (whole_in 1 y.face (h.op % 64)) (λ m. let yes : ok ≡ true = v.1 m in true≢false (sym yes ∙ t)) in
+pub found_lost : (ed : ℕ) (h : Header) (ok : Bool) (d : Option Disk) → Tells ed h ok d → ok ≡ false → IfSome d (λ (y : Disk). seen.Lost ≡ stored_as h (entry_of h (sectors_by ed) y.face) (header_in y.face (h.op % 64)))
+found_lost ed h ok None v t = tt
+found_lost ed h ok (Some y) v t =
+    let none : entry_of h (sectors_by ed) y.face ≡ None = not_found h (whole_in ed y.face (h.op % 64)) (λ m. let yes : ok ≡ true = v.1 m in true≢false (sym yes ∙ t)) in
     sym (ap (λ (o : Option Whole). stored_as h o (header_in y.face (h.op % 64))) none)
 
-pub found_here : (p : Part) (h : Header) (d : Option Disk) (result : Result Visit Halt) → p ≡ Here h → IfSome d (λ (y : Disk). IfOk result (λ x. x ≡ stored_as h (entry_of h sectors y.face) (header_in y.face (h.op % 64))))
-    → IfSome d (λ (y : Disk). IfOk result (λ x. x ≡ found_at p y.face))
-found_here p h d result e k = subst (λ (q : Part). IfSome d (λ (y : Disk). IfOk result (λ x. x ≡ found_at q y.face))) (sym e) k
+pub found_here : (ed : ℕ) (p : Part) (h : Header) (d : Option Disk) (result : Result Visit Halt) → p ≡ Here h → IfSome d (λ (y : Disk). IfOk result (λ x. x ≡ stored_as h (entry_of h (sectors_by ed) y.face) (header_in y.face (h.op % 64))))
+    → IfSome d (λ (y : Disk). IfOk result (λ x. x ≡ found_at ed p y.face))
+found_here ed p h d result e k = subst (λ (q : Part). IfSome d (λ (y : Disk). IfOk result (λ x. x ≡ found_at ed q y.face))) (sym e) k
 
-pub found_nothing : (p : Part) (d : Option Disk) → ((h : Header) → p ≡ Here h → ⊥) → IfSome d (λ (y : Disk). seen.Nothing ≡ found_at p y.face)
-found_nothing p None n = tt
-found_nothing (Here h) (Some y) n = absurd (n h refl)
-found_nothing (Lost h) (Some y) n = refl
-found_nothing (Wanted h) (Some y) n = refl
-found_nothing Unknown (Some y) n = refl
-found_nothing Nothing (Some y) n = refl
+pub found_nothing : (ed : ℕ) (p : Part) (d : Option Disk) → ((h : Header) → p ≡ Here h → ⊥) → IfSome d (λ (y : Disk). seen.Nothing ≡ found_at ed p y.face)
+found_nothing ed p None n = tt
+found_nothing ed (Here h) (Some y) n = absurd (n h refl)
+found_nothing ed (Lost h) (Some y) n = refl
+found_nothing ed (Wanted h) (Some y) n = refl
+found_nothing ed Unknown (Some y) n = refl
+found_nothing ed Nothing (Some y) n = refl
 
 -- ---- blocks
 
@@ -215,11 +219,12 @@ module _ (name : Name) (b : Bool) (r q : Replica) (d d' : Option Disk) (same : d
   block_by o k = record {
     untold = λ e. k.untold (same ∙ e);
     told = λ y e.
-        subst (λ (w : Word Face). LeftBy (w sectors r y.face) q y d' o o (Ok tt)) (sym (visits_by name (block_in y.face name) b (block_told y.face name b (bad_is name d y b v e)))) (k.told y (same ∙ e));
+        subst (λ (w : Word Face). LeftBy (version r) (w (sectors_by (version r)) r y.face) q y d' o o (Ok tt)) (sym (visits_by name (block_in y.face name) b (block_told y.face name b (bad_is name d y b v e)))) (k.told y (same ∙ e));
+    same = k.same;
   }
 
   pub block_bad : (o : List Output) → b ≡ true → q ≡ with_worn name r → Does (visit_block (Some name)) r q d d' o o (Ok tt)
-  block_bad o t e = block_by o (rw (t, e) (does_change (with_worn name) r d' o))
+  block_bad o t e = block_by o (rw (t, e) (does_change (with_worn name) r d' o refl))
 
   pub block_good : (o : List Output) → b ≡ false → q ≡ r → Does (visit_block (Some name)) r q d d' o o (Ok tt)
   block_good o t e = block_by o (rw (t, e) (does_quiet r d' o))
@@ -254,7 +259,7 @@ pub visit_then : (at : ℕ) (r a q : Replica) (d d' : Option Disk) (o o' : List 
 unfolding visit
 visit_then at r a q d d' o o' t e k i =
     let w : Word Face = visit_place at ⨾ change (with_cursor at) in
-    let both : Does w r q d d' o o' (Ok tt) = does_then (visit_place at) (change (with_cursor at)) r a q d d' d' o o' o' (Ok tt) k (rw i (does_change (with_cursor at) a d' o')) in
+    let both : Does w r q d d' o o' (Ok tt) = does_then (visit_place at) (change (with_cursor at)) r a q d d' d' o o' o' (Ok tt) k (rw i (does_change (with_cursor at) a d' o' refl)) in
     does_by _ r q d d' o o' (Ok tt) (rw t (subst (λ n. Does (visit_place n ⨾ change (with_cursor n)) r q d d' o o' (Ok tt)) e both))
 
 pub visit_stopped : (at : ℕ) (r q : Replica) (d d' : Option Disk) (o o' : List Output) (halt : Halt) → is_loaded r ≡ true → at ≡ place_now r → Does (visit_place at) r q d d' o o' (Err halt) → Does visit r q d d' o o' (Err halt)

@@ -1,5 +1,5 @@
 -- What a visit of a slot finds.
-use Rattle.std.specs.Prelude.{Bool, false, ◌%◌, if◌then◌else◌, Option, None, Some}
+use Rattle.std.specs.Prelude.{ℕ, Bool, false, ◌%◌, if◌then◌else◌, Option, None, Some}
 use Rattle.vr_disk.specs.DiskState.{Face}
 use Rattle.vr_header.specs.declared.header.Header.{Header}
 use Rattle.vr_header.specs.declared.part.Part.{Part}
@@ -10,7 +10,7 @@ use Rattle.vr_visit.specs.declared.found.Visit.{Visit}
 use Rattle.vr_visit.specs.declared.found.Visit.TheVariants as visit
 use Rattle.vr_rings.specs.Slots.{header_in}
 use Rattle.vr_journal.specs.Replica.{Replica}
-use Rattle.vr_journal.specs.Sectors.{sectors}
+use Rattle.vr_journal.specs.Sectors.{sectors_by}
 use Rattle.vr_journal.specs.Steps.{Effect, Mend}
 use Rattle.vr_journal.specs.Words.{entry_of}
 
@@ -28,10 +28,10 @@ abbrev pub stored_as : Header → Option Whole → Option Header → Visit
 stored_as h None f = visit.Lost
 stored_as h (Some e) f = good_or_mended h f
 
--- at the slot of an op of which this is known, on what the disk reads as
-abbrev pub found_at : Part → Face → Visit
-found_at (Here h) f = stored_as h (entry_of h sectors f) (header_in f (h.op % 64))
-found_at _ f = visit.Nothing
+-- at the slot of an op of which this is known, on what the disk reads as, as a file of a version
+abbrev pub found_at : ℕ → Part → Face → Visit
+found_at v (Here h) f = stored_as h (entry_of h (sectors_by v) f) (header_in f (h.op % 64))
+found_at v _ f = visit.Nothing
 
 -- the superblock is mended
 unfoldable pub mends : Replica → Effect

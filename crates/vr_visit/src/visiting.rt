@@ -5,8 +5,8 @@ ghost use Rattle.vr_header.specs.declared.part.Part.TheVariants.{Here};
 ghost use Rattle.vr_journal.specs.Ready.{IsReady};
 ghost use Rattle.vr_visit.specs.Visits.{found_at, good_or_mended, mends, reads_as, stored_as};
 ghost use Rattle.vr_rings.specs.Slots.{header_in};
-ghost use Rattle.vr_journal.specs.Replica.{part_at};
-ghost use Rattle.vr_journal.specs.Sectors.{sectors};
+ghost use Rattle.vr_journal.specs.Replica.{part_at, version};
+ghost use Rattle.vr_journal.specs.Sectors.{sectors_by};
 ghost use Rattle.vr_journal.specs.Steps.{reading};
 ghost use Rattle.vr_journal.specs.Words.{entry_of, header_read, mend_header, op_of_slot, place_now, visit, visit_block, visit_place, visit_slot};
 ghost use Rattle.vr_journal.specs.Does.{Caused, Does, Performs, done};
@@ -68,7 +68,7 @@ fn visit_stored<D: SectorDisk>(
     ensures cause { Caused (D.faults disk.old) (D.faults disk.new) result }
     ensures step { Does (visit_slot header.now.op) replica.old replica.new (D.told disk.old) (D.told disk.new) out.old out.new (done result) }
     ensures fault { IfErr result (λ why. why ≡ halt.DiskFault) }
-    ensures found { IfSome (D.told disk.old) (λ d. IfOk result (λ v. v ≡ stored_as header.now (entry_of header.now sectors d.face) (header_in d.face (header.now.op % 64)))) }
+    ensures found { IfSome (D.told disk.old) (λ d. IfOk result (λ v. v ≡ stored_as header.now (entry_of header.now (sectors_by (version replica.old)) d.face) (header_in d.face (header.now.op % 64)))) }
 {
     if replica.has_entry(disk, header) {
         mend_header(replica, disk, header, out)
@@ -93,7 +93,7 @@ pub fn visit_slot<D: SectorDisk>(
     ensures cause { Caused (D.faults disk.old) (D.faults disk.new) result }
     ensures step { Does (visit_slot op) replica.old replica.new (D.told disk.old) (D.told disk.new) out.old out.new (done result) }
     ensures fault { IfErr result (λ why. why ≡ halt.DiskFault) }
-    ensures found { IfSome (D.told disk.old) (λ d. IfOk result (λ v. v ≡ found_at (part_at replica.old op) d.face)) }
+    ensures found { IfSome (D.told disk.old) (λ d. IfOk result (λ v. v ≡ found_at (version replica.old) (part_at replica.old op) d.face)) }
 {
     match replica.part_at(op) {
         Part::Here(header) => visit_stored(replica, disk, &header, out),

@@ -6,12 +6,12 @@ use Rattle.vr_group.proofs.host.step_on.Goals as goal
 
 pub returns-in-Ok-clause-host : goal.returns-in-Ok-clause-host
 returns-in-Ok-clause-host c =
-    host_runs c.args.event.now c.in-Some.running c.step.new.self (told_by c.args.disk.now) (told_by c.step.new.disk) c.step.new.out (some_runs _ _ _ c.in-Some.is c.requires) c.in-Ok.ensures.step c.in-Ok.ensures.running
+    host_runs c.args.event.now c.in-Some.running c.step.new.self (told_by c.args.disk.now) (told_by c.step.new.disk) c.step.new.out (some_runs _ _ _ c.in-Some.is c.requires) c.step.ensures.version c.in-Ok.ensures.step c.in-Ok.ensures.running
 
 pub returns-in-Ok-clause-acted : goal.returns-in-Ok-clause-acted
 returns-in-Ok-clause-acted c =
     acted_on (handles hazards c.args.event.now c.args.index) c.args.replica.now c.in-Some.running (told_by c.args.disk.now) _ _ c.in-Some.is
-    (host_went c.args.index c.args.event.now c.in-Some.running c.step.new.self (told_by c.args.disk.now) (told_by c.step.new.disk) c.step.new.out (some_runs _ _ _ c.in-Some.is c.requires) c.in-Ok.ensures.step)
+    (host_went c.args.index c.args.event.now c.in-Some.running c.step.new.self (told_by c.args.disk.now) (told_by c.step.new.disk) c.step.new.out (some_runs _ _ _ c.in-Some.is c.requires) c.step.ensures.version c.in-Ok.ensures.step)
 
 pub returns-in-Err-NoMemory-clause-host : goal.returns-in-Err-NoMemory-clause-host
 returns-in-Err-NoMemory-clause-host c =
@@ -21,10 +21,10 @@ returns-in-Err-NoMemory-clause-host c =
 pub returns-in-Err-DiskFault-clause-host : goal.returns-in-Err-DiskFault-clause-host
 returns-in-Err-DiskFault-clause-host c =
     gone_told _ _ (told_by c.step.new.disk) c.halt.ensures.gone c.halt.ensures.told
-    (host_halted c.args.index c.args.event.now c.in-Some.running c.step.new.self (told_by c.args.disk.now) (told_by c.step.new.disk) c.step.new.out c.in-Err-DiskFault.field-0 c.in-Err-DiskFault.field-0-is (some_runs _ _ _ c.in-Some.is c.requires) c.in-Err-DiskFault.ensures.step).1
+    (host_halted c.args.index c.args.event.now c.in-Some.running c.step.new.self (told_by c.args.disk.now) (told_by c.step.new.disk) c.step.new.out c.in-Err-DiskFault.field-0 c.in-Err-DiskFault.field-0-is (some_runs _ _ _ c.in-Some.is c.requires) c.step.ensures.version c.in-Err-DiskFault.ensures.step).1
 
 pub returns-in-Err-DiskFault-clause-acted : goal.returns-in-Err-DiskFault-clause-acted
 returns-in-Err-DiskFault-clause-acted c =
-    let h = host_halted c.args.index c.args.event.now c.in-Some.running c.step.new.self (told_by c.args.disk.now) (told_by c.step.new.disk) c.step.new.out c.in-Err-DiskFault.field-0 c.in-Err-DiskFault.field-0-is (some_runs _ _ _ c.in-Some.is c.requires) c.in-Err-DiskFault.ensures.step in
+    let h = host_halted c.args.index c.args.event.now c.in-Some.running c.step.new.self (told_by c.args.disk.now) (told_by c.step.new.disk) c.step.new.out c.in-Err-DiskFault.field-0 c.in-Err-DiskFault.field-0-is (some_runs _ _ _ c.in-Some.is c.requires) c.step.ensures.version c.in-Err-DiskFault.ensures.step in
     gone_acted _ _ _ (told_by c.step.new.disk) _ _ c.halt.result c.halt.ensures.gone c.halt.ensures.told c.halt.ensures.out
     (acted_on (handles hazards c.args.event.now c.args.index) c.args.replica.now c.in-Some.running (told_by c.args.disk.now) _ _ c.in-Some.is h.0)

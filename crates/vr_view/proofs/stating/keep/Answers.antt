@@ -1,3 +1,7 @@
+use Rattle.std.proofs.Common.{rules, ◌≡◌, Err}
+use Rattle.vr_journal.specs.Halt.TheVariants.{NoMemory}
+use Rattle.vr_journal.proofs.Stepping.{does_no_memory, does_then}
+use Rattle.vr_view.specs.Entering.{entering}
 use Rattle.vr_view.proofs.States.{place_stated, ready_stated, stated_means, still_for}
 use Rattle.vr_view.proofs.stating.keep.Goals as goal
 
@@ -8,3 +12,8 @@ pub try_view-requires-clause-ready : goal.try_view-requires-clause-ready
 try_view-requires-clause-ready g c =
     let stays = still_for c.args.message.now c.args.replica.now _ c.requires.ready c.in_ok-enter_up_to.ensures.ready c.in_ok-enter_up_to.ensures.group (stated_means c.args.message.now c.args.replica.now c.requires.rule) in
     ready_stated c.args.message.now _ _ _ c.keep_statement.ensures.kept c.in_ok-statement.ensures.same c.in_ok-statement.ensures.values c.requires.message c.in_ok-enter_up_to.ensures.view stays c.in_ok-enter_up_to.ensures.ready
+
+pub returns-in_err-statement-clause-step : goal.returns-in_err-statement-clause-step
+returns-in_err-statement-clause-step g c =
+    let is : c.from_residual-in_err-statement.result ≡ Err NoMemory = search rules in
+    rw is (does_then (entering c.args.message.now.view) _ _ _ _ _ _ _ _ _ _ _ c.in_ok-enter_up_to.ensures.step (does_no_memory _ _ _ _ _ _))

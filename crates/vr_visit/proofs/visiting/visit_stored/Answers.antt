@@ -4,7 +4,7 @@ use Rattle.vr_visit.proofs.Visits.{found_stored, slot_lost, slot_read_from}
 use Rattle.vr_visit.proofs.visiting.visit_stored.Goals as goal
 
 pub returns-then-has_entry-clause-found : goal.returns-then-has_entry-clause-found
-returns-then-has_entry-clause-found g c = found_stored _ _ _ c.has_entry.ensures.value _ _ c.has_entry.ensures.told c.if-has_entry.true c.mend_header.ensures.found
+returns-then-has_entry-clause-found g c = found_stored _ _ _ _ c.has_entry.ensures.value _ _ c.has_entry.ensures.told c.if-has_entry.true c.mend_header.ensures.found
 
 pub returns-then-has_entry-clause-step : goal.returns-then-has_entry-clause-step
 returns-then-has_entry-clause-step g c =
