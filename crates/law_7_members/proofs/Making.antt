@@ -1,150 +1,229 @@
 -- A file on which makings of a member stopped holds no entry and forges none; and what a whole making leaves of it is the member's.
-use Rattle.std.proofs.Common.{ℕ, zero, suc, ◌+◌, ◌*◌, ◌^◌, ◌≤◌, ◌<◌, ◌≡◌, ◌⊎◌, inl, inr, arith, refl, sym, ap, ◌∙◌, subst, true, false, List, [], ◌∷◌, ◌++◌, length, map, take, get_or, Option, Some, None}
-use Rattle.std.specs.Prelude.{replicate}
+use Rattle.std.proofs.Common.{ℕ, zero, suc, ◌+◌, ◌-◌, ◌*◌, ◌^◌, ◌≤◌, ◌<◌, ◌≡◌, ◌&&◌, inl, inr, arith, refl, sym, ap, ◌∙◌, subst, true, false, cond, List, [], ◌∷◌, ◌++◌, length, map, take, drop, get_or, Option, Some, None}
+use Rattle.std.specs.Prelude.{◌==◌, is_some, nat_lt, replicate}
 use Rattle.std.specs.List.{AllByRecursion, range_with_len}
-use Rattle.std.specs.Option.{option_map}
-use Rattle.std.proofs.lemmas.Bool.{cases_eq}
-use Rattle.std.proofs.lemmas.List.{append-nil, append_assoc, get_or-replicate, get_or-take, get_or_append_left, length-append, length-replicate, length-take, take_all}
+use Rattle.std.specs.Option.{option_and_then, option_map}
+use Rattle.std.proofs.lemmas.Bool.{and_parts, cases_eq}
+use Rattle.std.proofs.lemmas.List.{append-nil, get_or-drop, get_or-replicate, length-replicate, take_all}
+use Rattle.vr_base.specs.Bytes.{is_zeros, piece}
+use Rattle.vr_base.specs.Versions.{is_version}
 use Rattle.vr_base.specs.declared.kind.Kind.{Kind}
 use Rattle.vr_base.specs.declared.mode.Mode.{Mode}
 use Rattle.vr_base.specs.declared.table.Config.{Config}
-use Rattle.vr_disk.specs.DiskState.{Call, Cell, Disk, Face, IsCell, IsContent, IsFace, Sync, Write, after, after_all, damaged, reads, runs, waits}
-use Rattle.vr_disk.specs.Regions.{header_place, prepare_place, prepare_sectors, sectors}
+use Rattle.vr_base.proofs.FieldLaws.{IsBytes-piece, get_or-piece, length-piece}
+use Rattle.vr_base.proofs.Places.{drop_both}
+use Rattle.vr_base.proofs.ZeroLaws.{are_zeros}
+use Rattle.vr_disk.specs.DiskState.{Call, Cell, Disk, Face, IsCell, IsContent, IsFace, Sync, Write, after, after_all, damaged, runs}
+use Rattle.vr_disk.specs.Regions.{header_place, sectors}
 use Rattle.vr_disk.specs.Sectors.{together, writes}
-use Rattle.vr_disk.specs.Stops.{IsCall, IsLeft, Spares, Stops, WritesOnly}
-use Rattle.vr_disk.proofs.Faces.{damaged_content, face_after, face_after_all, face_cut}
-use Rattle.vr_disk.proofs.Halting.{halt_leaves, stop_is}
+use Rattle.vr_disk.specs.Stops.{IsCall, Stops}
+use Rattle.vr_disk.proofs.Faces.{face_after, face_after_all, face_cut}
 use Rattle.vr_disk.proofs.Stopping.{stops_are}
-use Rattle.vr_disk.proofs.Together.{after_all_append, length_after_all, only_append, together_first, together_synced, together_written}
+use Rattle.vr_disk.proofs.Together.{after_all_append, length_after_all, together_synced, together_written}
+use Rattle.vr_header.specs.declared.command.Command.TheVariants as command
 use Rattle.vr_header.specs.declared.header.Header.{Header}
+use Rattle.vr_header.specs.Made.{Whole}
 use Rattle.vr_super.specs.Calls.{copy_calls, save_from}
-use Rattle.vr_super.specs.Copies.{IsGood, SuperValue, copy_bytes}
+use Rattle.vr_super.specs.Copies.{IsGood, SuperValue, copy_bytes, count_at, fields_at, first_op, good_fields, is_closed, is_named, is_sealed, list_at, list_bytes, value_of, zeros}
 use Rattle.vr_super.specs.Opens.{copy_reading, good_copies, good_copy, opened, opens}
+use Rattle.vr_mem.specs.Lies.{lied}
+use Rattle.vr_lie.specs.declared.fault.Fault.{Fault}
+use Rattle.vr_lie.specs.declared.fault.Fault.TheVariants as fault
+use Rattle.vr_lie.specs.Faults.{faulted}
 use Rattle.vr_lie.proofs.Best.{opened_among, opened_some}
-use Rattle.vr_lie.proofs.Format.{length-copy_bytes, value_again}
+use Rattle.vr_lie.proofs.Format.{behind_copy, length-copy_bytes, value_again}
 use Rattle.vr_lie.proofs.Keeping.{two_first}
 use Rattle.vr_lie.proofs.Readings.{copy_within, other_after}
-use Rattle.vr_lie.proofs.Spelling.{whole_version}
-use Rattle.vr_lie.proofs.Standing.{both_is, both_whole}
+use Rattle.vr_lie.proofs.Spelling.{damaged_version, header_again, header_sector_is, sector_version}
+use Rattle.vr_lie.proofs.Standing.{both_is, both_whole, some_same}
 use Rattle.vr_lie.specs.Held.{Stands, entry_read, header_sector}
-use Rattle.vr_lie.specs.Slots.{header_reading, padded, prepare_reading, sector_of}
+use Rattle.vr_lie.specs.Slots.{IsWhole, header_of, header_reading, prepare_bytes, prepare_reading, sector_of, whole_in, whole_of}
 use Rattle.vr_world.specs.Formatting.{format_calls, reserved_header, reserved_headers, zero_prepares, zero_sector}
 use Rattle.vr_world.specs.Group.{fresh_member}
 use Rattle.vr_world.specs.Lying.{Lying, zero_cell, zero_face}
 use Rattle.vr_world.specs.Opening.{first_value}
-use Rattle.vr_world.proofs.FitDisks.{save_spares}
 use Rattle.vr_world.proofs.FitFresh.{fresh_fits}
 use Rattle.law_4_disks.specs.Beside.{IsCalm, IsOn}
 use Rattle.law_4_disks.proofs.Calls.{copy_are, format_are, reserved_is, sector_content, zero_content}
 use Rattle.law_4_disks.proofs.Effects.{at_slot, calm_after}
+use Rattle.law_4_disks.proofs.Faults.{fault_face}
+use Rattle.law_4_disks.proofs.Found.{read_whole}
 use Rattle.law_5_seals.specs.Seals.{HasCell, HasSectors, IsSealed, Puts}
-use Rattle.law_5_seals.proofs.Contents.{has_after_all, has_cut}
-use Rattle.law_5_seals.proofs.Sectors.{header_sealed, saves_sealed, seals_append}
-use Rattle.law_5_seals.proofs.Turning.{plain_sealed, turned_at, turned_sealed}
+use Rattle.law_5_seals.proofs.Contents.{has_after_all, has_at, has_cut, has_fault, has_weaker}
+use Rattle.law_5_seals.proofs.Sectors.{header_sealed}
+use Rattle.law_5_seals.proofs.Turning.{plain_sealed, turned_at, turned_sealed, twice}
 use Rattle.law_7_members.specs.Whole as whole
 use Rattle.vr_status.specs.declared.status.Status.TheVariants as status
 use Rattle.law_7_members.specs.Whole.{IsUnfinished, LeavesUnfinished, MakingsLeaveUnfinished, made_on, making, unheld}
 
--- ---- the first sector of a slot's prepare: zeros, or zeros that were turned
+-- ---- no header sector of an entry, nor once its bits are turned
 
-abbrev IsEmpty : Face → ℕ → Type 0
-IsEmpty f i = (b : List ℕ) → reads f i ≡ Some b → (b ≡ zero_sector) ⊎ (b ≡ damaged zero_sector)
+pub record IsEmpty (b : List ℕ) : Type 0 where
+  pub sealed : IsSealed [] b
+  pub front : (e : Whole) → IsWhole e → b ≡ sector_of e.header → ⊥
+  pub turned : (e : Whole) → IsWhole e → damaged b ≡ sector_of e.header → ⊥
 
-only_zeros : (n i k : ℕ) → AllByRecursion (WritesOnly k zero_sector) (map (λ j. Write j zero_sector) (range_with_len i n))
-only_zeros zero i k = tt
-only_zeros (suc n) i k = (λ e. refl, only_zeros n (i + 1) k)
+at_version : (b c : List ℕ) → b ≡ c → get_or b 110 0 ≡ get_or c 110 0
+at_version b c e = ap (λ (x : List ℕ). get_or x 110 0) e
 
-reserved_spare : (home n i k : ℕ) → i + n ≤ 64 → 144 ≤ k → AllByRecursion (Spares k) (map (λ slot. Write (header_place slot) (sector_of (reserved_header home slot))) (range_with_len i n))
-reserved_spare home zero i k l g = tt
-reserved_spare home (suc n) i k l g = (λ e. absurd (omega (arith, l, g, e)), reserved_spare home n (i + 1) k (omega (arith, l)) g)
+-- one that has no version there
+plain_empty : (b : List ℕ) → IsContent b → get_or b 110 0 ≡ 0 → IsEmpty b
+plain_empty b c z = record {
+  sealed = plain_sealed [] b c (inl z);
+  front = λ e w same. (let v = (sector_version e.header w.header).0 in let x = at_version b (sector_of e.header) same in absurd (omega (arith, v, x, z)));
+  turned = λ e w same. (let v = (sector_version e.header w.header).1 in let x = at_version (damaged b) (sector_of e.header) same in let t = turned_at b 110 c (omega arith) in absurd (omega (arith, v, x, t, z)));
+}
 
-spares_only : (k : ℕ) (b : List ℕ) (cs : List Call) → AllByRecursion (Spares k) cs → AllByRecursion (WritesOnly k b) cs
-spares_only k b [] s = tt
-spares_only k b (Write i bytes ∷ cs) s = (λ e. absurd (s.0 e), spares_only k b cs s.1)
-spares_only k b (Sync ∷ cs) s = (tt, spares_only k b cs s.1)
+some_header : (a b : Header) → Some a ≡ Some b → a ≡ b
+some_header a b e = cc
 
-format_only : (kind : Kind) (home n i k : ℕ) → 144 ≤ k → AllByRecursion (WritesOnly k zero_sector) (format_calls kind home n i)
-unfolding format_calls
-format_only kind home n i k g =
-    let saves = save_from 0 4 (copy_bytes (first_value kind home n i)) in
-    only_append k zero_sector zero_prepares (reserved_headers home ++ Sync ∷ saves) (only_zeros (64 * prepare_sectors 1) (prepare_place 1 0) k)
-    (only_append k zero_sector (reserved_headers home) (Sync ∷ saves) (spares_only k zero_sector (reserved_headers home) (reserved_spare home 64 0 k (omega arith) g))
-    (tt, spares_only k zero_sector saves (save_spares 4 0 k (copy_bytes (first_value kind home n i)) (omega arith) (omega (arith, g)))))
+reserved_empty : (home slot : ℕ) → home < 2 ^ 64 → slot < 64 → IsEmpty (sector_of (reserved_header home slot))
+reserved_empty home slot room l =
+    let r = reserved_header home slot in
+    let is = reserved_is home slot room l in
+    let content = sector_content r is in
+    record {
+      sealed = header_sealed [] r is content (λ e _. absurd (let bad : false ≡ true = e in cc));
+      front = λ e w same.
+          let one : r ≡ e.header = some_header r e.header (sym (header_again r is) ∙ (ap header_of same ∙ header_again e.header w.header)) in
+          absurd (let bad : command.Reserved ≡ command.Entry = ap (λ (h : Header). h.command) one ∙ w.entry.header.command in cc);
+      turned = λ e w same.
+          let n = content.size in
+          let high = damaged_version (sector_of r) (omega (arith, n)) (sector_version r is) in
+          let v = (sector_version e.header w.header).1 in
+          let x = at_version (damaged (sector_of r)) (sector_of e.header) same in
+          absurd (omega (arith, high, v, x));
+    }
 
--- what a stop leaves of it
-stop_empty : (cs : List Call) (f g : Face) (k : ℕ) → length f.cells ≡ sectors → k < sectors → f.waiting ≡ [] → AllByRecursion (WritesOnly k zero_sector) cs → Stops cs f g → IsEmpty f k → IsEmpty g k
-stop_empty cs f g k size l rests only s was b e =
-    let h = stop_is cs f g s in
-    let left : IsLeft (reads f k) zero_sector (reads g k) = subst (λ (x : Face). IsLeft (reads f k) zero_sector (reads x k)) (sym h.2) (halt_leaves cs f k zero_sector h.0 h.1 (omega (arith, size, l)) only (ap (waits k) rests)) in
-    elim left [
-      | inl old ↦ was b (sym old ∙ e)
-      | inr new ↦ elim new [
-        | inl put ↦ inl (let same : Some zero_sector ≡ Some b = sym put ∙ e in cc)
-        | inr turned ↦ inr (let same : Some (damaged zero_sector) ≡ Some b = sym turned ∙ e in cc)
-      ]
-    ]
+turned_empty : (b : List ℕ) → IsEmpty b → IsEmpty (damaged b)
+turned_empty b x = record { sealed = turned_sealed [] b x.sealed; front = x.turned; turned = λ e w same. x.front e w (sym (twice b x.sealed.content.each) ∙ same) }
 
--- ---- so the slot reads as no entry
+-- ---- so are the sectors of a first value, which names no header
 
-padded_from : (o : Option (List ℕ)) (p : List ℕ) → option_map (padded 1) o ≡ Some p → (b : List ℕ) × (o ≡ Some b) × (p ≡ padded 1 b)
-padded_from None p e = absurd cc
-padded_from (Some b) p e = (b, refl, cc)
+closed_of : (b : List ℕ) (v : SuperValue) → value_of b ≡ Some v → is_sealed b ≡ true
+unfolding value_of
+closed_of b v e =
+    let o = option_map (λ (hs : List Header). let w : SuperValue = record { fields = fields_at b; headers = hs } in w) (list_at (fields_at b) (first_op (fields_at b) (count_at b)) (count_at b) (drop 128 b)) in
+    elim (is_sealed b) as (λ x. cond x o None ≡ Some v → x ≡ true) [ true ↦ λ e. refl | false ↦ λ e. absurd cc ] e
 
-front_byte : (first rest : List ℕ) → length first ≡ 512 → get_or (header_sector (first ++ rest)) 110 0 ≡ get_or first 110 0
-unfolding header_sector
-front_byte first rest size =
-    let b = first ++ rest in
-    let n = length-append first rest in
-    let k = length-take 128 b in
-    let zs : List ℕ = replicate 384 0 in
-    get_or_append_left (take 128 b) zs 0 110 (omega (arith, n, k, size)) ∙ (get_or-take 128 b 110 0 (omega arith) ∙ get_or_append_left first rest 0 110 (omega (arith, size)))
+blank_of : (b : List ℕ) → is_sealed b ≡ true → is_zeros (piece 94 34 b) ≡ true
+unfolding is_sealed is_closed
+blank_of b e =
+    let rest = is_zeros (drop (128 + 128 * count_at b) b) && is_named b in
+    let modes = nat_lt (get_or b 93 0) 2 in
+    let p = and_parts (length b == 10240) (good_fields (fields_at b) (count_at b) && (is_version (get_or b 92 0) && (modes && (is_zeros (piece 94 34 b) && rest)))) e in
+    let q = and_parts (good_fields (fields_at b) (count_at b)) (is_version (get_or b 92 0) && (modes && (is_zeros (piece 94 34 b) && rest))) p.1 in
+    let r = and_parts (is_version (get_or b 92 0)) (modes && (is_zeros (piece 94 34 b) && rest)) q.1 in
+    let s = and_parts modes (is_zeros (piece 94 34 b) && rest) r.1 in
+    (and_parts (is_zeros (piece 94 34 b)) rest s.1).0
+
+zeros_at : (n i : ℕ) → get_or (replicate {A = ℕ} n 0) i 0 ≡ 0
+zeros_at zero i = refl
+zeros_at (suc n) zero = refl
+zeros_at (suc n) (suc i) = zeros_at n i
+
+module _ (kind : Kind) (home n i : ℕ) (good : IsGood (first_value kind home n i)) where
+  abbrev first : SuperValue
+  first = first_value kind home n i
+
+  abbrev copy : List ℕ
+  copy = copy_bytes (first_value kind home n i)
+
+  size : length copy ≡ 10240
+  size = length-copy_bytes first good
+
+  -- byte 110 is one of the zeros behind the fields
+  zero_first : get_or copy 110 0 ≡ 0
+  zero_first =
+      let zeros_there = blank_of copy (closed_of copy first (value_again first good)) in
+      let n = length-piece 94 34 copy (let s = size in omega (arith, s)) in
+      let all : piece 94 34 copy ≡ replicate 34 0 = are_zeros (piece 94 34 copy) zeros_there ∙ ap (λ k. replicate k 0) n in
+      sym (get_or-piece 94 34 16 copy (omega arith)) ∙ ap (λ b. get_or b 16 0) all
+
+  -- and behind these there are zeros alone
+  zero_later : (k : ℕ) → 128 ≤ k → get_or copy k 0 ≡ 0
+  unfolding list_bytes zeros
+  zero_later k l =
+      let e : k ≡ 128 + (k - 128) = omega (arith, l) in
+      ap (λ k. get_or copy k 0) e ∙ (sym (get_or-drop 128 copy (k - 128) 0) ∙ (ap (λ b. get_or b (k - 128) 0) (behind_copy first good.numbers) ∙ zeros_at 10112 (k - 128)))
+
+  zero_at_place : (j : ℕ) → get_or copy (0 + 512 * j + 110) 0 ≡ 0
+  zero_at_place zero = zero_first
+  zero_at_place (suc j) = zero_later (0 + 512 * suc j + 110) (omega arith)
+
+  copy_piece : (j : ℕ) → j < 20 → IsEmpty (piece (0 + 512 * j) 512 copy)
+  copy_piece j l =
+      let k = 0 + 512 * j in
+      let s = size in
+      let room : k + 512 ≤ length copy = omega (arith, s, l) in
+      plain_empty (piece k 512 copy) (record { size = length-piece k 512 copy room; each = IsBytes-piece k 512 copy (copy_are first good) }) (get_or-piece k 512 110 copy (omega arith) ∙ zero_at_place j)
+
+-- ---- formatting writes such sectors alone
+
+abbrev PutEmpty : List Call → Type 0
+PutEmpty cs = AllByRecursion (Puts IsEmpty) cs
+
+put_both : (cs ds : List Call) → PutEmpty cs → PutEmpty ds → PutEmpty (cs ++ ds)
+put_both [] ds a b = b
+put_both (c ∷ cs) ds a b = (a.0, put_both cs ds a.1 b)
+
+put_writes : (n i k : ℕ) (b : List ℕ) → i + n ≤ sectors → ((j : ℕ) → j < n → IsEmpty (piece (k + 512 * j) 512 b)) → PutEmpty (writes i n (drop k b))
+unfolding writes piece
+put_writes zero i k b l h = tt
+put_writes (suc n) i k b l h =
+    let z : k + 512 * 0 ≡ k = omega arith in
+    let one : IsEmpty (piece 0 512 (drop k b)) = subst (λ (m : ℕ). IsEmpty (take 512 (drop m b))) z (h 0 (omega arith)) in
+    let rest = put_writes n (i + 1) (k + 512) b (omega (arith, l)) (λ j p. (let e : k + 512 * suc j ≡ k + 512 + 512 * j = omega arith in subst (λ (m : ℕ). IsEmpty (take 512 (drop m b))) e (h (suc j) (omega (arith, p))))) in
+    ((omega (arith, l), one), subst (λ (x : List ℕ). PutEmpty (writes (i + 1) n x)) (sym (drop_both k 512 b)) rest)
+
+put_copy : (b : List ℕ) → ((j : ℕ) → j < 20 → IsEmpty (piece (0 + 512 * j) 512 b)) → (k : ℕ) → k < 4 → PutEmpty (copy_calls k b)
+unfolding copy_calls
+put_copy b h k l = put_both (writes (20 * k) 20 b) (Sync ∷ []) (put_writes 20 (20 * k) 0 b (omega (arith, l)) h) (tt, tt)
+
+put_saves : (b : List ℕ) → ((j : ℕ) → j < 20 → IsEmpty (piece (0 + 512 * j) 512 b)) → (n k : ℕ) → k + n ≤ 4 → PutEmpty (save_from k n b)
+unfolding save_from
+put_saves b h zero k l = tt
+put_saves b h (suc n) k l = put_both (copy_calls k b) (save_from (k + 1) n b) (put_copy b h k (omega (arith, l))) (put_saves b h n (k + 1) (omega (arith, l)))
 
 zero_there : get_or zero_sector 110 0 ≡ 0
 zero_there = refl
 
-empty_byte : (b : List ℕ) → (b ≡ zero_sector) ⊎ (b ≡ damaged zero_sector) → (length b ≡ 512) × ((get_or b 110 0 ≡ 0) ⊎ (get_or b 110 0 ≡ 255))
-empty_byte b (inl z) = (ap length z ∙ zero_content.size, inl (ap (λ (x : List ℕ). get_or x 110 0) z ∙ zero_there))
-empty_byte b (inr t) =
-    (ap length t ∙ (damaged_content zero_sector zero_content).size, inr (ap (λ (x : List ℕ). get_or x 110 0) t ∙ (turned_at zero_sector 110 zero_content (omega arith) ∙ (let z = zero_there in omega (arith, z)))))
+zero_empty : IsEmpty zero_sector
+zero_empty = plain_empty zero_sector zero_content zero_there
 
-none_read : (f : Face) (slot : ℕ) (p : List ℕ) → IsEmpty f (prepare_place 1 slot) → entry_read 1 f slot ≡ Some p → ⊥
-none_read f slot p empty e =
-    let x = both_is (header_reading f slot) (prepare_reading 1 f slot) p e in
-    let w = whole_version p (both_whole (header_reading f slot) (prepare_reading 1 f slot) p e) in
-    let from = padded_from (together (prepare_place 1 slot) 4 f) p x.1 in
-    let head = together_first 3 (prepare_place 1 slot) f from.0 from.1 in
-    let is = empty_byte head.first (empty head.first head.reads) in
-    let zs : List ℕ = replicate 2048 0 in
-    let whole_is : p ≡ head.first ++ (head.rest ++ zs) = from.2 ∙ (ap (λ (b : List ℕ). b ++ zs) head.whole ∙ append_assoc head.first head.rest zs) in
-    let byte : get_or (header_sector p) 110 0 ≡ get_or head.first 110 0 = ap (λ (b : List ℕ). get_or (header_sector b) 110 0) whole_is ∙ front_byte head.first (head.rest ++ zs) is.0 in
-    let low = w.0 in
-    let high = w.1 in
-    elim is.1 [ inl z ↦ absurd (omega (arith, byte, low, z)) | inr t ↦ absurd (omega (arith, byte, high, t)) ]
+put_zeros : (n i : ℕ) → i + n ≤ sectors → PutEmpty (map (λ k. Write k zero_sector) (range_with_len i n))
+put_zeros zero i l = tt
+put_zeros (suc n) i l = ((omega (arith, l), zero_empty), put_zeros n (i + 1) (omega (arith, l)))
 
-none_stands : (mode : Mode) (f : Face) (slot : ℕ) → IsEmpty f (prepare_place 1 slot) → Stands 1 mode f slot None
-none_stands mode f slot empty = record { seen = λ p e. absurd (none_read f slot p empty e); holds = record { prepare = λ p h e r v d. absurd cc }; whole = λ p e. absurd cc }
+put_reserved : (home n i : ℕ) → home < 2 ^ 64 → i + n ≤ 64 → PutEmpty (map (λ slot. Write (header_place slot) (sector_of (reserved_header home slot))) (range_with_len i n))
+put_reserved home zero i room l = tt
+put_reserved home (suc n) i room l = ((omega (arith, l), reserved_empty home i room (omega (arith, l))), put_reserved home n (i + 1) room (omega (arith, l)))
 
--- ---- what formatting writes is sealed
-
-zero_sealed : IsSealed [] zero_sector
-zero_sealed = plain_sealed [] zero_sector zero_content (inl zero_there)
-
-zeros_sealed : (n i : ℕ) → i + n ≤ sectors → AllByRecursion (Puts (IsSealed [])) (map (λ k. Write k zero_sector) (range_with_len i n))
-zeros_sealed zero i l = tt
-zeros_sealed (suc n) i l = ((omega (arith, l), zero_sealed), zeros_sealed n (i + 1) (omega (arith, l)))
-
-reserved_sealed : (home n i : ℕ) → home < 2 ^ 64 → i + n ≤ 64 → AllByRecursion (Puts (IsSealed [])) (map (λ slot. Write (header_place slot) (sector_of (reserved_header home slot))) (range_with_len i n))
-reserved_sealed home zero i room l = tt
-reserved_sealed home (suc n) i room l =
-    let is = reserved_is home i room (omega (arith, l)) in
-    ((omega (arith, l), header_sealed [] (reserved_header home i) is (sector_content (reserved_header home i) is) (λ e _. absurd (let bad : false ≡ true = e in cc))), reserved_sealed home n (i + 1) room (omega (arith, l)))
-
-format_sealed : (kind : Kind) (home n i : ℕ) → home < 2 ^ 64 → IsGood (first_value kind home n i) → AllByRecursion (Puts (IsSealed [])) (format_calls kind home n i)
+put_format : (kind : Kind) (home n i : ℕ) → home < 2 ^ 64 → IsGood (first_value kind home n i) → PutEmpty (format_calls kind home n i)
 unfolding format_calls
-format_sealed kind home n i room good =
-    let v = first_value kind home n i in
-    seals_append [] zero_prepares (reserved_headers home ++ Sync ∷ save_from 0 4 (copy_bytes v)) (zeros_sealed 256 144 (omega arith))
-    (seals_append [] (reserved_headers home) (Sync ∷ save_from 0 4 (copy_bytes v)) (reserved_sealed home 64 0 room (omega arith)) (tt, saves_sealed [] v good (copy_are v good) tt 4 0 (omega arith)))
+put_format kind home n i room good =
+    let b = copy_bytes (first_value kind home n i) in
+    put_both zero_prepares (reserved_headers home ++ Sync ∷ save_from 0 4 b) (put_zeros 256 144 (omega arith))
+    (put_both (reserved_headers home) (Sync ∷ save_from 0 4 b) (put_reserved home 64 0 room (omega arith)) (tt, put_saves b (copy_piece kind home n i good) 4 0 (omega arith)))
+
+-- ---- where all sectors are such, no slot reads as an entry
+
+whole_there : (f : Face) (slot : ℕ) (p : List ℕ) (o : Option Whole) → whole_of p ≡ o → is_some o ≡ true → prepare_reading 1 f slot ≡ Some p → (e : Whole) × (whole_in 1 f slot ≡ Some e)
+unfolding whole_in
+whole_there f slot p None w s r = absurd (let bad : false ≡ true = s in cc)
+whole_there f slot p (Some e) w s r = (e, ap (option_and_then whole_of) r ∙ w)
+
+none_read : (f : Face) (slot : ℕ) (p : List ℕ) → slot < 64 → IsFace f → HasSectors IsEmpty f → entry_read 1 f slot ≡ Some p → ⊥
+none_read f slot p l face has e =
+    let x = both_is (header_reading f slot) (prepare_reading 1 f slot) p e in
+    let w = whole_there f slot p (whole_of p) refl (both_whole (header_reading f slot) (prepare_reading 1 f slot) p e) x.1 in
+    let r = read_whole 1 f slot w.0 face l w.1 in
+    let same : p ≡ prepare_bytes w.0 = some_same p (prepare_bytes w.0) (sym x.1 ∙ r.reads) in
+    let head : header_reading f slot ≡ Some (sector_of w.0.header) = x.0 ∙ ap Some (ap header_sector same ∙ header_sector_is w.0 r.whole.header) in
+    ((has_at IsEmpty f (header_place slot) has (omega (arith, l))).reads (sector_of w.0.header) head).front w.0 r.whole refl
+
+none_stands : (mode : Mode) (f : Face) (slot : ℕ) → slot < 64 → IsFace f → HasSectors IsEmpty f → Stands 1 mode f slot None
+none_stands mode f slot l face has = record { seen = λ p e. absurd (none_read f slot p l face has e); holds = record { prepare = λ p h e r v d. absurd cc }; whole = λ p e. absurd cc }
 
 -- ---- a file of zeros
 
@@ -157,26 +236,21 @@ zero_at k d l = let n = length-replicate sectors zero_cell in sym (get_or-replic
 zero_is_cell : IsCell zero_cell
 zero_is_cell = record { truth = zero_content; reads = λ b e. subst IsContent (some_zero b e) zero_content; before = zero_content }
 
-zero_cell_sealed : HasCell (IsSealed []) zero_cell
-zero_cell_sealed = record { truth = zero_sealed; reads = λ b e. subst (IsSealed []) (some_zero b e) zero_sealed; before = zero_sealed }
+zero_cell_empty : HasCell IsEmpty zero_cell
+zero_cell_empty = record { truth = zero_empty; reads = λ b e. subst IsEmpty (some_zero b e) zero_empty; before = zero_empty }
 
 -- ---- a file on which no making came to its end
 
 pub record IsPlain (f : Face) : Type 0 where
   pub face : IsFace f
   pub rests : f.waiting ≡ []
-  pub empty : (slot : ℕ) → slot < 64 → IsEmpty f (prepare_place 1 slot)
-  pub sealed : HasSectors (IsSealed []) f
+  pub empty : HasSectors IsEmpty f
 
 zeros_plain : IsPlain zero_face
 zeros_plain = record {
   face = record { count = length-replicate sectors zero_cell; cells = λ k d l. subst IsCell (zero_at k d l) zero_is_cell; waiting = λ k d l. absurd (omega arith) };
   rests = refl;
-  empty = λ slot l b e.
-      let n = length-replicate sectors zero_cell in
-      let cell_is = get_or-replicate sectors (prepare_place 1 slot) zero_cell (record { truth = []; reads = None; before = [] }) (omega (arith, l)) in
-      inl (sym (some_zero b (sym (ap (λ (c : Cell). c.reads) cell_is) ∙ e)));
-  sealed = record { count = length-replicate sectors zero_cell; cells = λ k d l. subst (HasCell (IsSealed [])) (zero_at k d l) zero_cell_sealed; waiting = λ k d l. absurd (omega arith) };
+  empty = record { count = length-replicate sectors zero_cell; cells = λ k d l. subst (HasCell IsEmpty) (zero_at k d l) zero_cell_empty; waiting = λ k d l. absurd (omega arith) };
 }
 
 all_take : (P : Call → Type 0) (cs : List Call) (n : ℕ) → AllByRecursion P cs → AllByRecursion P (take n cs)
@@ -190,16 +264,32 @@ stop_face cs f g s k is = elim s.left [
   | inr e ↦ subst IsFace (sym e.1) (face_cut cs f s.calls e.0 is k)
 ]
 
-stop_sealed : (cs : List Call) (f g : Face) → Stops cs f g → AllByRecursion (Puts (IsSealed [])) cs → HasSectors (IsSealed []) f → HasSectors (IsSealed []) g
-stop_sealed cs f g s k is = elim s.left [
-  | inl e ↦ subst (HasSectors (IsSealed [])) (sym e) (has_after_all (IsSealed []) (take s.calls cs) f is (all_take (Puts (IsSealed [])) cs s.calls k))
-  | inr e ↦ subst (HasSectors (IsSealed [])) (sym e.1) (has_cut (IsSealed []) (turned_sealed []) cs f s.calls e.0 is k)
+stop_empty : (cs : List Call) (f g : Face) → Stops cs f g → PutEmpty cs → HasSectors IsEmpty f → HasSectors IsEmpty g
+stop_empty cs f g s k is = elim s.left [
+  | inl e ↦ subst (HasSectors IsEmpty) (sym e) (has_after_all IsEmpty (take s.calls cs) f is (all_take (Puts IsEmpty) cs s.calls k))
+  | inr e ↦ subst (HasSectors IsEmpty) (sym e.1) (has_cut IsEmpty turned_empty cs f s.calls e.0 is k)
 ]
+
+-- a fault changes readings alone
+fault_rests : (f : Face) (x : Fault) → (faulted f x).waiting ≡ f.waiting
+unfolding lied
+fault_rests f (fault.Damage i) = refl
+fault_rests f (fault.Stale i) = refl
+fault_rests f (fault.Unread i) = refl
+fault_rests f (fault.Misdirect i k) = refl
+
+fault_again : (f : Face) (x : Fault) → faulted (after f Sync) x ≡ after (faulted f x) Sync
+unfolding lied
+fault_again f (fault.Damage i) = refl
+fault_again f (fault.Stale i) = refl
+fault_again f (fault.Unread i) = refl
+fault_again f (fault.Misdirect i k) = refl
 
 -- attached again, it is the same
 again : (c : Config) (f : Face) → IsUnfinished c f → IsUnfinished c (after f Sync)
 again c _ whole.zeros = whole.zeros
 again c _ (whole.stopped kind file left u s) = whole.stopped kind file left u s
+again c _ (whole.decays file x u within) = subst (IsUnfinished c) (fault_again file x) (whole.decays (after file Sync) x (again c file u) within)
 
 same_disk : (c : Config) (d : Disk) (d' : Option Disk) → IsUnfinished c d.face → d' ≡ Some d → LeavesUnfinished c d'
 same_disk c d d' u same = record { disk = d; told = same; unfinished = again c d.face u }
@@ -232,14 +322,14 @@ module _ (c : Config) (room : c.cluster < 2 ^ 64) (a : 2 ≤ c.n) (b : c.n ≤ 6
   unfinished_plain _ (whole.stopped kind file left u s) =
       let p = unfinished_plain file u in
       let cs = making kind c in
-      let face = face_after left Sync (stop_face cs file left s (format_are kind c.cluster c.n c.replica room (good kind)) p.face) tt in
-      let sealed = has_after_all (IsSealed []) (Sync ∷ []) left (stop_sealed cs file left s (format_sealed kind c.cluster c.n c.replica room (good kind)) p.sealed) (tt, tt) in
       record {
-        face = face;
+        face = face_after left Sync (stop_face cs file left s (format_are kind c.cluster c.n c.replica room (good kind)) p.face) tt;
         rests = refl;
-        empty = λ slot m. stop_empty cs file left (prepare_place 1 slot) p.face.count (omega (arith, m)) p.rests (format_only kind c.cluster c.n c.replica (prepare_place 1 slot) (omega (arith, m))) s (p.empty slot m);
-        sealed = sealed;
+        empty = has_after_all IsEmpty (Sync ∷ []) left (stop_empty cs file left s (put_format kind c.cluster c.n c.replica room (good kind)) p.empty) (tt, tt);
       }
+  unfinished_plain _ (whole.decays file x u within) =
+      let p = unfinished_plain file u in
+      record { face = fault_face file x within p.face; rests = fault_rests file x ∙ p.rests; empty = has_fault IsEmpty turned_empty file x within p.empty }
 
 -- ---- it is calm, whatever its mode
 
@@ -247,7 +337,7 @@ unheld_calm : (mode : Mode) (f : Face) → IsPlain f → IsCalm mode (unheld f)
 unheld_calm mode f p = record {
   face = p.face;
   rests = p.rests;
-  stand = record { each = λ slot l. subst (Stands 1 mode f slot) (sym (at_slot (λ slot. None) slot l)) (none_stands mode f slot (p.empty slot l)) };
+  stand = record { each = λ slot l. subst (Stands 1 mode f slot) (sym (at_slot (λ slot. None) slot l)) (none_stands mode f slot l p.face p.empty) };
 }
 
 -- ---- four copies
@@ -319,7 +409,7 @@ on_new kind c file calm opened_so = record {
 
 -- one that opens as its first value
 pub late_new : (kind : Kind) (c : Config) (f : Face) → IsPlain f → opens f ≡ Some (first_value kind c.cluster c.n c.replica) → IsNew kind c (unheld f)
-late_new kind c f p o = record { on = on_new kind c (unheld f) (unheld_calm kind.mode f p) o; sealed = p.sealed }
+late_new kind c f p o = record { on = on_new kind c (unheld f) (unheld_calm kind.mode f p) o; sealed = has_weaker IsEmpty (IsSealed []) f (λ b x. x.sealed) p.empty }
 
 -- one that was made to the end
 pub made_new : (kind : Kind) (c : Config) (f : Face) → c.cluster < 2 ^ 64 → IsGood (first_value kind c.cluster c.n c.replica) → IsPlain f → IsNew kind c (made_on kind c f)
@@ -339,5 +429,5 @@ made_new kind c f room good p =
     let calm = calm_after (one ++ (two ++ Sync ∷ saves)) (unheld f) (unheld_calm kind.mode f p) (format_are kind c.cluster c.n c.replica room good) (ap (λ (g : Face). g.waiting) all ∙ saves_rest 3 0 bytes f3) in
     record {
       on = on_new kind c (made_on kind c f) calm (ap opens all ∙ all_open v (after_all f3 saves) good reads_as);
-      sealed = has_after_all (IsSealed []) (making kind c) f p.sealed (format_sealed kind c.cluster c.n c.replica room good);
+      sealed = has_weaker IsEmpty (IsSealed []) (made_on kind c f).face (λ b x. x.sealed) (has_after_all IsEmpty (making kind c) f p.empty (put_format kind c.cluster c.n c.replica room good));
     }

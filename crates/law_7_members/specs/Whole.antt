@@ -6,6 +6,8 @@ use Rattle.vr_base.specs.declared.table.Config.{Config}
 use Rattle.vr_disk.specs.DiskState.{Call, Disk, Face, Sync, after}
 use Rattle.vr_disk.specs.Stops.{Stops}
 use Rattle.vr_header.specs.NoCollision.{NoCollision}
+use Rattle.vr_lie.specs.declared.fault.Fault.{Fault}
+use Rattle.vr_lie.specs.Faults.{IsFault, faulted}
 use Rattle.vr_msg.specs.declared.output.Output.{Output}
 use Rattle.vr_msg.specs.declared.output.Sent.{Sent}
 use Rattle.vr_super.specs.Copies.{SuperValue}
@@ -61,10 +63,11 @@ abbrev pub making : Kind → Config → List Call
 making kind c = format_calls kind c.cluster c.n c.replica
 
 -- A file on which no making of the member came to its end: it is of zeros; or a making stopped on one of these, at a call that failed or was
--- cut, and the file was attached again.
+-- cut, and the file was attached again; or one of these began to lie, by any fault.
 pub data IsUnfinished (c : Config) : Face → Type 0 where
   zeros : IsUnfinished c zero_face
   stopped : (kind : Kind) (file left : Face) → IsUnfinished c file → Stops (making kind c) file left → IsUnfinished c (after left Sync)
+  decays : (file : Face) (fault : Fault) → IsUnfinished c file → IsFault fault → IsUnfinished c (faulted file fault)
 
 -- What a run leaves that was to make the member, and made none: once its file is attached again, it is such a one.
 pub record LeavesUnfinished (c : Config) (d' : Option Disk) : Type 0 where
