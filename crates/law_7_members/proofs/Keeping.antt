@@ -61,7 +61,7 @@ members_are_found cluster w g u few at m d there stopped tells =
 
 -- ---- one log
 
-few_lines : (cluster n k : ℕ) → k < 2 ^ 46 → n ≤ 2 * k → n < room cluster
+pub few_lines : (cluster n k : ℕ) → k < 2 ^ 46 → n ≤ 2 * k → n < room cluster
 few_lines zero n k l m = omega (arith, l, m)
 few_lines (suc cluster) n k l m = omega (arith, l, m)
 

@@ -2,4 +2,6 @@ pub mod Moving
 pub mod Deeds
 pub mod Files
 pub mod Keeping
+pub mod Making
+pub mod Begun
 pub mod Whole

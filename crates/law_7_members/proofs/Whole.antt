@@ -15,8 +15,7 @@ use Rattle.vr_msg.specs.declared.event.Event.{Event}
 use Rattle.vr_msg.specs.declared.output.Output.{Output}
 use Rattle.vr_super.specs.Copies.{SuperValue}
 use Rattle.vr_world.specs.Group.{Arrival, opening_script, resumed}
-use Rattle.vr_world.specs.Lying.{Lying, hazards, lying, zero_face}
-use Rattle.vr_node.specs.Formatting.{format_calls}
+use Rattle.vr_world.specs.Lying.{Lying, lying, zero_face}
 use Rattle.vr_world.specs.Opening.{blank, fresh, opening}
 use Rattle.vr_node.specs.Replica.{Replica, version}
 use Rattle.vr_node.specs.Rules.{react}
@@ -24,7 +23,6 @@ use Rattle.vr_node.specs.Sectors.{calls, calls_of, script_calls, sectors, sector
 use Rattle.vr_world.specs.Steps.{Effect, Step, after_all}
 use Rattle.vr_world.specs.World as world
 use Rattle.vr_world.specs.World.{Happened, Host, World, nothing}
-use Rattle.law_4_disks.specs.Worlds.{first_host, first_world}
 use Rattle.law_4_disks.proofs.Fresh.{some_world}
 use Rattle.law_4_disks.proofs.Lines.{other_place, own_place, some_member}
 use Rattle.law_4_disks.proofs.Starts.{opening_is}
@@ -41,8 +39,8 @@ use Rattle.law_7_members.specs.Files as files
 use Rattle.law_7_members.specs.Files.{Act, ActBy, AtWork, Becomes, Befalls, file_after, left_at, on_file, puts_out}
 use Rattle.law_7_members.specs.Runs.{HasDeeds}
 use Rattle.law_7_members.specs.Whole as whole
-use Rattle.law_7_members.proofs.Keeping.{nodes_keep_one_log}
-use Rattle.law_7_members.specs.Whole.{AreAtWork, AreRuns, Carries, IsBorn, Lives, RunsAreAtWork, RunsKeepOneLog, all_said, file_of, handled, own}
+use Rattle.law_7_members.proofs.Begun.{begin_new, begun_keep_one_log}
+use Rattle.law_7_members.specs.Whole.{AreAtWork, AreRuns, Begins, Carries, Lives, RunsAreAtWork, RunsKeepOneLog, all_said, file_of, handled, made_on, making, own, unheld, world_of}
 
 -- ---- one thing after another, of one member
 
@@ -120,16 +118,25 @@ lives_go c _ _ _ (whole.runs file d v o o' run arrivals acts told tells is_open 
       handled_goes c arrivals run.dids run.node run.last run.disk run.left left acts after size run.run (lives_go c (Some run.last.replica.memory) (file_of left run.node.replica.memory run.dids) acts more),
     )
 
--- from the first run on
-born_goes : (kind : Kind) (c : Config) (acts : List Act) → IsBorn kind c acts → Goes c (Some (fresh kind c.cluster c.n c.replica)) (hazards.formatted kind c.cluster c.n c.replica) acts
-born_goes kind c acts b =
-    let run = b.run in
-    let file = hazards.formatted kind c.cluster c.n c.replica in
-    let made = subst (λ (x : Option Disk). Opens (Some kind) c x run.disk run.first run.node.replica.memory) b.told run.opens in
+-- how a member first is, and its acts from there on
+record Begun (c : Config) (m : Host Lying) (acts : List Act) : Type 0 where
+  replica : Option Replica
+  file : Lying
+  is : m ≡ on_file replica file
+  goes : Goes c replica file acts
+
+begun : (kind : Kind) (c : Config) (m : Host Lying) (acts : List Act) → Begins kind c m acts → Begun c m acts
+begun kind c _ _ (whole.makes d o o' run arrivals acts told unfinished size lives) =
+    let file = made_on kind c d.face in
+    let made = subst (λ (x : Option Disk). Opens (Some kind) c x run.disk run.first run.node.replica.memory) told run.opens in
     let is = made.0.is in
-    let tells = ran_tells (format_calls kind c.cluster c.n c.replica) b.disk run.disk zero_face b.blank is.2 in
-    let all = handled_goes c b.arrivals run.dids run.node run.last run.disk run.left file b.later tells b.size run.run (lives_go c (Some run.last.replica.memory) (file_of file run.node.replica.memory run.dids) b.later b.lives) in
-    subst (λ (r : Replica). Goes c (Some r) file acts) is.1 (subst (λ (acts : List Act). Goes c (Some run.node.replica.memory) file acts) (sym b.are) all)
+    let tells = ran_tells (making kind c) d run.disk d.face refl is.2 in
+    let all = handled_goes c arrivals run.dids run.node run.last run.disk run.left file acts tells size run.run (lives_go c (Some run.last.replica.memory) (file_of file run.node.replica.memory run.dids) acts lives) in
+    record { replica = Some (fresh kind c.cluster c.n c.replica); file = file; is = refl; goes = subst (λ (r : Replica). Goes c (Some r) file (handled arrivals run.dids ++ acts)) is.1 all }
+begun kind c _ _ (whole.stops_late f acts unfinished opened lives) =
+    let r = Some (fresh kind c.cluster c.n c.replica) in
+    record { replica = r; file = unheld f; is = refl; goes = (None, unheld f, files.ends (unheld f) r, lives_go c None (unheld f) acts lives) }
+begun kind c _ _ whole.waits = record { replica = Some (fresh kind c.cluster c.n c.replica); file = made_on kind c zero_face; is = refl; goes = tt }
 
 -- ---- all members
 
@@ -192,22 +199,22 @@ works cluster (x ∷ xs) w r all carried =
     record { left = world.later os rest.left; work = files.goes_on w x xs one rest.left befalls rest.work; said = ap (λ (ys : List Output). os ++ ys) rest.said }
 
 pub runs_are_at_work : RunsAreAtWork
-unfolding first_world
-runs_are_at_work kinds cluster n xs r =
-    let f : ℕ → Host Lying = first_host kinds cluster n in
-    let size = length-map-range_with_len f 0 n in
-    let ready : AreReady cluster (first_world kinds cluster n) xs = record {
+unfolding world_of
+runs_are_at_work kinds cluster n first xs r =
+    let size = length-map-range_with_len first 0 n in
+    let ready : AreReady cluster (world_of first n) xs = record {
       count = size;
       each = λ i m e.
-          let within = slice_get_within (map f (range_with_len 0 n)) i m e in
+          let within = slice_get_within (map first (range_with_len 0 n)) i m e in
           let l : i < n = omega (arith, size, within) in
-          let is : m ≡ f i = some_world m (f i) (sym e ∙ (slice_get-get_or (map f (range_with_len 0 n)) i m within ∙ ap Some (get_or-map-range_with_len f 0 n i i m l (omega arith)))) in
-          record { replica = Some (fresh (kinds i) cluster n i); file = hazards.formatted (kinds i) cluster n i; is = is; goes = born_goes (kinds i) (config_at cluster n i) (own i xs) (r.each i l) };
+          let is : m ≡ first i = some_world m (first i) (sym e ∙ (slice_get-get_or (map first (range_with_len 0 n)) i m within ∙ ap Some (get_or-map-range_with_len first 0 n i i m l (omega arith)))) in
+          let b = begun (kinds i) (config_at cluster n i) (first i) (own i xs) (r.each i l) in
+          record { replica = b.replica; file = b.file; is = is ∙ b.is; goes = b.goes };
     } in
-    let w = works cluster xs (first_world kinds cluster n) ready r.members r.carried in
+    let w = works cluster xs (world_of first n) ready r.members r.carried in
     record { left = w.left; work = w.work; said = w.said }
 
 pub runs_keep_one_log : RunsKeepOneLog
-runs_keep_one_log kinds cluster n xs number few many short r never =
-    let w = runs_are_at_work kinds cluster n xs r in
-    record { work = w; log = nodes_keep_one_log kinds cluster n xs w.left number few many short w.work never }
+runs_keep_one_log kinds cluster n first xs number few many short r never =
+    let w = runs_are_at_work kinds cluster n first xs r in
+    record { work = w; log = begun_keep_one_log kinds cluster n first xs w.left number few many short (begin_new kinds cluster n first xs number few many r) w.work never }

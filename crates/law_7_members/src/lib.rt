@@ -4,7 +4,7 @@
 
 ghost use Rattle.law_7_members.specs.Laws.{MembersAreFound, NodesAreFound, NodesAreOneRun, NodesKeepOneLog};
 ghost use Rattle.law_7_members.specs.Runs.{RunsAreDeeds};
-ghost use Rattle.law_7_members.specs.Whole.{RunsAreAtWork, RunsKeepOneLog};
+ghost use Rattle.law_7_members.specs.Whole.{MakingsLeaveUnfinished, RunsAreAtWork, RunsKeepOneLog, ZerosBeginTheFirst};
 
 /// What a run of a member's program comes to, however it ends: whole steps, each on the disk that the one before left, at most one that
 /// stopped behind them, and a front of their text.
@@ -31,6 +31,17 @@ pub fn nodes_keep_one_log()
 /// So each stopped member is found as it may be, on its file as its last step, cut or run left it, and faults within the premise.
 pub fn nodes_are_found()
     ensures { NodesAreFound }
+{}
+
+/// A run that was to make a member and made none leaves a file on which no making came to its end: of zeros, or as makings left it that
+/// stopped.
+pub fn makings_leave_unfinished()
+    ensures { MakingsLeaveUnfinished }
+{}
+
+/// Members that were all made on files of zeros begin the first world.
+pub fn zeros_begin_the_first()
+    ensures { ZerosBeginTheFirst }
 {}
 
 /// Whole runs of the programs of a group's members, interleaved anyhow, are such members at work, and put out just what the runs do.

@@ -28,6 +28,8 @@ use Rattle.vr_msg.specs.declared.request.RequestFields.{RequestFields}
 use Rattle.vr_node.specs.Fit.{IsAsked}
 use Rattle.vr_world.specs.Commitment.{IsOutcomeOf, IsReplyOf, lines_by}
 use Rattle.vr_world.specs.Group.{Asked, Played}
+use Rattle.vr_world.specs.Lying.{Lying}
+use Rattle.vr_world.specs.World.{Host}
 use Rattle.vr_world.specs.Safe.{IsTrueReply, applied_then, run_outputs}
 use Rattle.vr_world.proofs.FitMessages.{asked_may_come}
 use Rattle.law_1_machine.specs.Basics.{In}
@@ -35,10 +37,10 @@ use Rattle.law_3_outputs.specs.Followed.{IsFitRun}
 use Rattle.law_3_outputs.proofs.Sets.{in_contains, in_get, in_left, in_right}
 use Rattle.law_3_outputs.proofs.Traces.{in_either}
 use Rattle.law_4_disks.specs.Worlds as worlds
-use Rattle.law_4_disks.specs.Worlds.{IsAside, Said as Lines, first_world}
+use Rattle.law_4_disks.specs.Worlds.{IsAside, Said as Lines}
 use Rattle.law_6_one_log.specs.Outputs.{IsTrueAnswer, RestsOn}
 use Rattle.law_7_members.specs.Files.{ActBy, act_by, Handles}
-use Rattle.law_7_members.specs.Whole.{KeepOneLog, all_said}
+use Rattle.law_7_members.specs.Whole.{KeepOneLog, all_said, world_of}
 use Rattle.law_9_answers.specs.Heard.{HasReached, IsExecuted, IsNamed, IsOfLog, Says, Heard, as_entry, asked_by, header_of, itself, kind_of}
 use Rattle.law_9_answers.specs.Heard as named
 use Rattle.law_9_answers.proofs.Making.{IsOfRequest, lines_asked}
@@ -129,7 +131,7 @@ record IsMet (xs : List ActBy) (log : List Whole) (q : RequestFields) (r : Reply
   number : r.request ≡ q.request
   reached : HasReached xs log q
 
-module _ (kinds : ℕ → Kind) (cluster n : ℕ) (xs : List ActBy) (number : cluster < 2 ^ 64) (few : 2 ≤ n) (many : n ≤ 6) (k : KeepOneLog kinds cluster n xs) (own : List RequestFields) (never : NoCollision (IsNamed xs own)) where
+module _ (kinds : ℕ → Kind) (cluster n : ℕ) (first : ℕ → Host Lying) (xs : List ActBy) (number : cluster < 2 ^ 64) (few : 2 ≤ n) (many : n ≤ 6) (k : KeepOneLog kinds cluster n first xs) (own : List RequestFields) (never : NoCollision (IsNamed xs own)) where
   abbrev log : List Whole
   log = k.log.safe.log
 
@@ -162,14 +164,14 @@ module _ (kinds : ℕ → Kind) (cluster n : ℕ) (xs : List ActBy) (number : cl
       let same : asked_by c.entry.header ≡ header_of q = one_header (IsNamed xs own) never (asked_by c.entry.header) (header_of q) (entry_is_header c.entry.header q a.1 q_is) q_is (named.IsNamed.entered c (in_contains (all_said xs) (output.Commit c) i)) (named.IsNamed.asked q (in_contains own q mine)) names in
       record { client = to.client ∙ ap (λ (h : Header). h.client) same; number = to.request ∙ ap (λ (h : Header). h.request) same; reached = as_entry (c.entry.header.op - 1) c.entry line.at same }
 
-  nobody : (s : Sent) → In s (first_world kinds cluster n).sent → ⊥
-  unfolding first_world
+  nobody : (s : Sent) → In s (world_of first n).sent → ⊥
+  unfolding world_of
   nobody s i = i
 
   pub is_of_log : (t : Heard) → IsAsked t.request → t.request.cluster < 2 ^ 64 → In t.request own → IsGiven xs (header_name (header_of t.request)) t.answer → IsOfLog cluster n xs log run t
   is_of_log t asked range mine g =
       let at = in_get (all_said xs) (output.Reply g.fields) g.put_out in
-      let from : ComesFrom xs g.fields = comes_from cluster (first_world kinds cluster n) xs k.work.left k.work.work (λ s i. absurd (nobody s i)) g.fields g.put_out in
+      let from : ComesFrom xs g.fields = comes_from cluster (world_of first n) xs k.work.left k.work.work (λ s i. absurd (nobody s i)) g.fields g.put_out in
       let met = reply_met t.request asked range mine g.fields g.name_is from in
       let rests : IsTrueAnswer cluster n log run (take at.0 (all_said xs)) g.fields = rests_at at.0 (output.Reply g.fields) at.1 in
       record {

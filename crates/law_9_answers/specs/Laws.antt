@@ -24,10 +24,11 @@ use Rattle.vr_trial.specs.Run as trial
 use Rattle.vr_trial.specs.Run.{TrialEnds}
 use Rattle.vr_trial.specs.Told.{Trial}
 use Rattle.vr_world.specs.Group.{Asked}
-use Rattle.law_4_disks.specs.Worlds.{first_world}
+use Rattle.vr_world.specs.Lying.{Lying}
+use Rattle.vr_world.specs.World.{Host}
 use Rattle.law_6_one_log.specs.Schedules.{IsHashedOf}
 use Rattle.law_7_members.specs.Files.{ActBy, Handles, act_by, all_lines}
-use Rattle.law_7_members.specs.Whole.{AreRuns, KeepOneLog}
+use Rattle.law_7_members.specs.Whole.{AreRuns, KeepOneLog, world_of}
 use Rattle.law_9_answers.specs.Clients.{lines_of, heard_client}
 use Rattle.law_9_answers.specs.Heard.{Heard, IsNamed, IsOfLog, IsPutOut, asked_by, header_of}
 use Rattle.law_9_answers.specs.Trials.{heard_trial, lines_trial}
@@ -62,18 +63,19 @@ SomeAnswerMay =
     → MayBeHeard c (act_by at (Handles (Asked q) did) ∷ []) (record { request = q; answer = answer; received = Came d ∷ [] } ∷ [])
 
 -- each answer is the log's
-abbrev pub AreOfLog : (kinds : ℕ → Kind) (cluster n : ℕ) (xs : List ActBy) → KeepOneLog kinds cluster n xs → List Heard → Type 0
-AreOfLog kinds cluster n xs k ts = AllByRecursion (IsOfLog cluster n xs k.log.safe.log k.log.matched.run) ts
+abbrev pub AreOfLog : (kinds : ℕ → Kind) (cluster n : ℕ) (first : ℕ → Host Lying) (xs : List ActBy) → KeepOneLog kinds cluster n first xs → List Heard → Type 0
+AreOfLog kinds cluster n first xs k ts = AllByRecursion (IsOfLog cluster n xs k.log.safe.log k.log.matched.run) ts
 
 -- Members keep one log, and whatever answers clients heard are of it: those of runs of `client`, and those of trials.
-pub record AnswerByOneLog (kinds : ℕ → Kind) (cluster n : ℕ) (xs : List ActBy) : Type 0 where
-  pub one : KeepOneLog kinds cluster n xs
+pub record AnswerByOneLog (kinds : ℕ → Kind) (cluster n : ℕ) (first : ℕ → Host Lying) (xs : List ActBy) : Type 0 where
+  pub one : KeepOneLog kinds cluster n first xs
   pub clients : (c : Client) (peers : List (List ℕ)) (o o' : client.Outside) (before now : ask.Faults) (status : Status) (h : ClientEnds c peers o o' before now status)
-      → IsNumbered c → MayBeHeard c xs (heard_client c peers o o' before now status h) → AreOfLog kinds cluster n xs one (heard_client c peers o o' before now status h)
+      → IsNumbered c → MayBeHeard c xs (heard_client c peers o o' before now status h) → AreOfLog kinds cluster n first xs one (heard_client c peers o o' before now status h)
   pub trials : (t : Trial) (o o' : trial.Outside) (before now : trial.Faults) (status : Status) (h : TrialEnds t o o' before now status)
-      → IsNumbered t.client → MayBeHeard t.client xs (heard_trial t o o' before now status h) → AreOfLog kinds cluster n xs one (heard_trial t o o' before now status h)
+      → IsNumbered t.client → MayBeHeard t.client xs (heard_trial t o o' before now status h) → AreOfLog kinds cluster n first xs one (heard_trial t o o' before now status h)
 
 -- so do whole runs of the members' programs, interleaved, as they keep one log
 abbrev pub RunsAnswerByOneLog : Type 0
 RunsAnswerByOneLog =
-    (kinds : ℕ → Kind) (cluster n : ℕ) (xs : List ActBy) → cluster < 2 ^ 64 → 2 ≤ n → n ≤ 6 → length xs < 2 ^ 46 → AreRuns kinds cluster n xs → NoCollision (IsHashedOf cluster (first_world kinds cluster n) (all_lines xs)) → AnswerByOneLog kinds cluster n xs
+    (kinds : ℕ → Kind) (cluster n : ℕ) (first : ℕ → Host Lying) (xs : List ActBy) → cluster < 2 ^ 64 → 2 ≤ n → n ≤ 6 → length xs < 2 ^ 46 → AreRuns kinds cluster n first xs → NoCollision (IsHashedOf cluster (world_of first n) (all_lines xs))
+    → AnswerByOneLog kinds cluster n first xs
