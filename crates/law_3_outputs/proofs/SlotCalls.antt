@@ -1,5 +1,5 @@
 -- What reads at a slot after effects read there at first, or was written by one of them, whatever the version of the file.
-use Rattle.std.proofs.Common.{arith, ◌≡◌, ◌≤◌, ◌<◌, ◌+◌, ◌-◌, ◌*◌, ◌⊎◌, inl, inr, refl, sym, ap, ◌∙◌, subst, ℕ, zero, suc, Bool, true, false, cond, eqb, List, [], ◌∷◌, ◌++◌, length, replicate, take, Option, Some, None}
+use Rattle.std.proofs.Common.{arith, ◌≡◌, ◌≤◌, ◌<◌, ◌+◌, ◌-◌, ◌⊎◌, inl, inr, refl, sym, ap, ◌∙◌, subst, ℕ, zero, suc, Bool, true, false, List, [], ◌∷◌, ◌++◌, length, Option, Some, None}
 use Rattle.std.specs.Prelude.{⊤, All}
 use Rattle.std.specs.Option.{option_and_then, option_map}
 use Rattle.std.proofs.lemmas.Bool.{cases_eq, cases_lt}
@@ -14,8 +14,7 @@ use Rattle.vr_disk.proofs.Together.{after_all_append, length_after_all}
 use Rattle.vr_header.specs.declared.header.Header.{Header}
 use Rattle.vr_header.specs.Made.{Whole}
 use Rattle.vr_rings.specs.Calls.{header_calls, prepare_calls}
-use Rattle.vr_rings.specs.Slots.{IsWhole, Takes, padded, prepare_bytes, prepare_reading, slot_of, whole_in, whole_of}
-use Rattle.vr_rings.proofs.Spelling.{padded_is, whole_again}
+use Rattle.vr_rings.specs.Slots.{IsWhole, Takes, padded, prepare_reading, slot_of, whole_in, whole_of}
 use Rattle.vr_super.specs.Calls.{mend_calls, write_calls}
 use Rattle.vr_ckpt.specs.Grid.{block_calls, put_calls}
 use Rattle.vr_ckpt.specs.Saves.{blocks_calls, save_calls, written}
@@ -25,7 +24,7 @@ use Rattle.law_2_chains.specs.Lying.{Lying, lying}
 use Rattle.law_2_chains.specs.Fit.{IsFit}
 use Rattle.law_2_chains.specs.Own.{IsOwn}
 use Rattle.law_2_chains.proofs.FitDisks.{header_spares}
-use Rattle.law_2_chains.proofs.FitVersions.{SparesSlots, apart, checkpoint_slots, front_reads, mend_slots, prepare_spares, put_slots, same_entry, save_slots, slot_below}
+use Rattle.law_2_chains.proofs.FitVersions.{SparesSlots, apart, checkpoint_slots, entry_reads, mend_slots, prepare_spares, put_slots, same_entry, save_slots, slot_below}
 use Rattle.law_2_chains.proofs.FitGroups.{Known, known_first, known_rest}
 use Rattle.law_2_chains.proofs.FitLies.{same_whole}
 use Rattle.law_1_machine.specs.Basics.{In}
@@ -62,17 +61,6 @@ there v f slot e is =
 
 -- ---- a prepare
 
--- a file of any version has room for an entry of version 1
-room : (v : ℕ) (e : Whole) → IsWhole e → Takes 1 e → padded v (take (512 * prepare_sectors v) (prepare_bytes e)) ≡ prepare_bytes e
-room v e w taken =
-    let later : Takes 2 e = record { most = omega arith; taken = omega (arith, taken.taken) } in
-    elim (eqb v 2) as (λ t. take (512 * cond t 8 4) (prepare_bytes e) ++ replicate (4096 - 512 * cond t 8 4) 0 ≡ prepare_bytes e) [ true ↦ padded_is 2 e w later | false ↦ padded_is 1 e w taken ]
-
-prepare_reads : (v : ℕ) (e : Whole) (f : Face) → prepare_place v (slot_of e.header) + prepare_sectors v ≤ length f.cells → IsWhole e → Takes 1 e
-    → whole_in v (disk.after_all f (prepare_calls v e)) (slot_of e.header) ≡ Some e
-unfolding whole_in
-prepare_reads v e f n w taken = ap (λ o. option_and_then whole_of (option_map (padded v) o)) (front_reads v e f n) ∙ (ap whole_of (room v e w taken) ∙ whole_again e w)
-
 prepare_or : (v : ℕ) (w : Whole) (f : Face) (slot : ℕ) (e : Whole) → IsWhole w → Takes 1 w → whole_in v (disk.after_all f (prepare_calls v w)) slot ≡ Some e → (whole_in v f slot ≡ Some e) ⊎ (e ≡ w)
 prepare_or v w f slot e whole taken is =
     elim (cases_eq slot (slot_of w.header)) [
@@ -80,7 +68,7 @@ prepare_or v w f slot e whole taken is =
           let at : whole_in v (disk.after_all f (prepare_calls v w)) (slot_of w.header) ≡ Some e = subst (λ k. whole_in v (disk.after_all f (prepare_calls v w)) k ≡ Some e) same is in
           let long = there v (disk.after_all f (prepare_calls v w)) (slot_of w.header) e at in
           let kept = length_after_all (prepare_calls v w) f in
-          let two : Some w ≡ Some e = sym (prepare_reads v w f (omega (arith, long, kept)) whole taken) ∙ at in
+          let two : Some w ≡ Some e = sym (entry_reads v w f (omega (arith, long, kept)) whole taken) ∙ at in
           let one : w ≡ e = cc in
           inr (sym one)
       | inr other ↦ inl (sym (same_entry v (prepare_calls v w) f slot (λ k m n. prepare_spares v w k (apart v slot (slot_of w.header) k other m n))) ∙ is)

@@ -1,5 +1,5 @@
 -- The sectors of a file of any version are a disk on which what is read is as the program has it.
-use Rattle.std.proofs.Common.{arith, ◌≡◌, ◌≢◌, ◌≤◌, ◌<◌, ◌+◌, ◌-◌, ◌*◌, ◌⊎◌, inl, inr, refl, sym, ap, ◌∙◌, subst, ℕ, true, false, List, [], ◌∷◌, ◌++◌, length, take, replicate, Option, Some, None}
+use Rattle.std.proofs.Common.{arith, ◌≡◌, ◌≢◌, ◌≤◌, ◌<◌, ◌+◌, ◌-◌, ◌*◌, ◌⊎◌, inl, inr, refl, sym, ap, ◌∙◌, subst, ℕ, true, false, cond, eqb, List, [], ◌∷◌, ◌++◌, length, take, replicate, Option, Some, None}
 use Rattle.std.specs.Prelude.{All}
 use Rattle.std.specs.List.{AllByRecursion}
 use Rattle.std.specs.Option.{option_and_then, option_map}
@@ -22,8 +22,8 @@ use Rattle.vr_header.specs.Made.{Whole, entry_bytes}
 use Rattle.vr_header.specs.Spelling.{IsHeader}
 use Rattle.vr_header.proofs.AreBytes.{entry_bytes-are}
 use Rattle.vr_rings.specs.Calls.{header_calls, prepare_calls}
-use Rattle.vr_rings.specs.Slots.{IsWhole, header_in, padded, prepare_bytes, prepare_reading, slot_of, whole_in, whole_of}
-use Rattle.vr_rings.proofs.Spelling.{length-prepare, one_spelling}
+use Rattle.vr_rings.specs.Slots.{IsWhole, Takes, header_in, padded, prepare_bytes, prepare_reading, slot_of, whole_in, whole_of}
+use Rattle.vr_rings.proofs.Spelling.{length-prepare, one_spelling, padded_is, whole_again}
 use Rattle.vr_lie.specs.Calls.{mend_calls, save_from, write_calls}
 use Rattle.vr_lie.specs.Copies.{SuperValue, copy_bytes}
 use Rattle.vr_ckpt.specs.declared.block.Block.{Block}
@@ -121,7 +121,18 @@ front_reads v e f fits =
     ap (λ (g : Face). together at n g) (after_all_append (writes at n (prepare_bytes e)) (Sync ∷ []) f)
     ∙ (together_synced n at g ∙ together_written n at (prepare_bytes e) f fits)
 
--- what is read there is whole, if it is an entry
+-- a file of any version has room for an entry of version 1
+room : (v : ℕ) (e : Whole) → IsWhole e → Takes 1 e → padded v (take (512 * prepare_sectors v) (prepare_bytes e)) ≡ prepare_bytes e
+room v e w taken =
+    let later : Takes 2 e = record { most = omega arith; taken = omega (arith, taken.taken) } in
+    elim (eqb v 2) as (λ t. take (512 * cond t 8 4) (prepare_bytes e) ++ replicate (4096 - 512 * cond t 8 4) 0 ≡ prepare_bytes e) [ true ↦ padded_is 2 e w later | false ↦ padded_is 1 e w taken ]
+
+-- so it reads where it was written
+pub entry_reads : (v : ℕ) (e : Whole) (f : Face) → prepare_place v (slot_of e.header) + prepare_sectors v ≤ length f.cells → IsWhole e → Takes 1 e → whole_in v (disk.after_all f (prepare_calls v e)) (slot_of e.header) ≡ Some e
+unfolding whole_in
+entry_reads v e f n w taken = ap (λ o. option_and_then whole_of (option_map (padded v) o)) (front_reads v e f n) ∙ (ap whole_of (room v e w taken) ∙ whole_again e w)
+
+-- whatever was written, what is read there is whole, if it is an entry
 prepare_reads : (v : ℕ) (e x : Whole) (f : Face) → length f.cells ≡ sectors_count → IsWhole e → whole_in v (disk.after_all f (prepare_calls v e)) (slot_of e.header) ≡ Some x → IsWhole x
 unfolding whole_in
 prepare_reads v e x f n w q =
