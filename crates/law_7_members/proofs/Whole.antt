@@ -144,11 +144,11 @@ begun kind c _ _ (whole.makes d o o' run arrivals acts told unfinished size live
     let made = subst (λ (x : Option Disk). Opens (Some kind) c x run.disk run.first run.node.replica.memory) told run.opens in
     let is = made.0.is in
     let tells = ran_tells (making kind c) d run.disk d.face refl is.2 in
-    let all = handled_goes c arrivals run.dids run.node run.last run.disk run.left file acts tells size run.run (lives_go c (Some run.last.replica.memory) (file_of file run.node.replica.memory run.dids) acts lives) in
+    let all = handled_goes c arrivals run.dids run.node run.last run.disk run.left file acts refl tells size run.run (lives_go c (Some run.last.replica.memory) (file_of file run.node.replica.memory run.dids) acts (files_kept file run.node.replica.memory run.dids refl) lives) in
     record { replica = Some (fresh kind c.cluster c.n c.replica); file = file; is = refl; goes = subst (λ (r : Replica). Goes c (Some r) file (handled arrivals run.dids ++ acts)) is.1 all }
 begun kind c _ _ (whole.stops_late f acts unfinished opened lives) =
     let r = Some (fresh kind c.cluster c.n c.replica) in
-    record { replica = r; file = unheld f; is = refl; goes = (None, unheld f, files.ends (unheld f) r, lives_go c None (unheld f) acts lives) }
+    record { replica = r; file = unheld f; is = refl; goes = (None, unheld f, files.ends (unheld f) r, lives_go c None (unheld f) acts refl lives) }
 begun kind c _ _ whole.waits = record { replica = Some (fresh kind c.cluster c.n c.replica); file = made_on kind c zero_face; is = refl; goes = tt }
 
 -- ---- all members
