@@ -29,7 +29,7 @@ use Rattle.vr_world.specs.Group.{Member, begins, ends, kept_at, kept_under}
 use Rattle.law_4_disks.specs.Beside.{HoldsEntry, IsCalm, IsHeld, IsOff, IsOn, MayCome, Tells}
 use Rattle.law_4_disks.proofs.Slots.{apart_held_all, apart_held_cut}
 use Rattle.law_4_disks.proofs.Supers.{From, mended, opens_after, opens_cut, saved}
-use Rattle.law_4_disks.proofs.Regions.{from_apart, from_less, mend_apart, write_apart}
+use Rattle.law_4_disks.proofs.Regions.{from_less, mend_apart, write_apart}
 
 pub at_slot : (f : ℕ → Option (List ℕ)) (slot : ℕ) → slot < 64 → held_at (each_slot f) slot ≡ f slot
 at_slot f slot l = get_or-map-range_with_len f 0 64 slot slot None l (omega arith)
@@ -40,21 +40,21 @@ pub calm_after : {mode : Mode} (cs : List Call) (d : Lying) → IsCalm mode d �
 calm_after {mode} cs d c k r = record {
   face = face_after_all cs d.face c.face k;
   rests = r;
-  stand = record { each = λ slot l. subst (Stands 1 mode (after_all d.face cs) slot) (sym (at_slot (λ slot. held_after_all 1 d.face cs slot (held_at d.held slot)) slot l)) (calls_stand 1 cs d.face slot (held_at d.held slot) l c.face.count (c.stand.each slot l)) };
+  stand = record { each = λ slot l. subst (Stands d.version mode (after_all d.face cs) slot) (sym (at_slot (λ slot. held_after_all d.version d.face cs slot (held_at d.held slot)) slot l)) (calls_stand d.version cs d.face slot (held_at d.held slot) l c.face.count (c.stand.each slot l)) };
 }
 
 pub calm_cut : {mode : Mode} (cs : List Call) (d : Lying) (j code : ℕ) → IsCalm mode d → AllByRecursion IsCall cs → j < length cs
-    → ((slot : ℕ) → slot < 64 → Stands 1 mode (cut j code d.face cs) slot (held_cut 1 j code d.face cs slot (held_at d.held slot))) → IsCalm mode (cut_calls j code d cs)
+    → ((slot : ℕ) → slot < 64 → Stands d.version mode (cut j code d.face cs) slot (held_cut d.version j code d.face cs slot (held_at d.held slot))) → IsCalm mode (cut_calls j code d cs)
 calm_cut {mode} cs d j code c k l s = record {
   face = face_cut cs d.face j code c.face k;
   rests = nothing_left cs d.face j code l;
-  stand = record { each = λ slot m. subst (Stands 1 mode (cut j code d.face cs) slot) (sym (at_slot (λ slot. held_cut 1 j code d.face cs slot (held_at d.held slot)) slot m)) (s slot m) };
+  stand = record { each = λ slot m. subst (Stands d.version mode (cut j code d.face cs) slot) (sym (at_slot (λ slot. held_cut d.version j code d.face cs slot (held_at d.held slot)) slot m)) (s slot m) };
 }
 
 -- ---- calls that leave all slots alone
 
-abbrev Apart : List Call → Type 0
-Apart cs = (slot : ℕ) → slot < 64 → AllByRecursion (AllApart 1 slot) cs
+abbrev Apart : ℕ → List Call → Type 0
+Apart v cs = (slot : ℕ) → slot < 64 → AllByRecursion (AllApart v slot) cs
 
 -- the same entry, of the same group
 pub holds_as : {a b : ℕ} {x y : Option (List ℕ)} (g : Header) → x ≡ y → a ≡ b → HoldsEntry a g x → HoldsEntry b g y
@@ -66,16 +66,16 @@ held_moves d x m q e c s h = record {
   each = λ slot g l k. holds_as g (sym (s slot l)) (sym c) (h.each slot g l (ap (λ (k : List (Option Header)). get_or k slot None) (sym e) ∙ k));
 }
 
-apart_after : {mode : Mode} (cs : List Call) (d : Lying) → IsCalm mode d → Apart cs → (slot : ℕ) → slot < 64 → held_at (after_calls d cs).held slot ≡ held_at d.held slot
+apart_after : {mode : Mode} (cs : List Call) (d : Lying) → IsCalm mode d → Apart d.version cs → (slot : ℕ) → slot < 64 → held_at (after_calls d cs).held slot ≡ held_at d.held slot
 apart_after cs d c a slot l =
-    at_slot (λ slot. held_after_all 1 d.face cs slot (held_at d.held slot)) slot l ∙ apart_held_all 1 cs d.face slot (held_at d.held slot) l c.face.count (a slot l) (c.stand.each slot l)
+    at_slot (λ slot. held_after_all d.version d.face cs slot (held_at d.held slot)) slot l ∙ apart_held_all d.version cs d.face slot (held_at d.held slot) l c.face.count (a slot l) (c.stand.each slot l)
 
-apart_stopped : {mode : Mode} (cs : List Call) (d : Lying) (j code : ℕ) → IsCalm mode d → Apart cs → (slot : ℕ) → slot < 64 → held_at (cut_calls j code d cs).held slot ≡ held_at d.held slot
+apart_stopped : {mode : Mode} (cs : List Call) (d : Lying) (j code : ℕ) → IsCalm mode d → Apart d.version cs → (slot : ℕ) → slot < 64 → held_at (cut_calls j code d cs).held slot ≡ held_at d.held slot
 apart_stopped cs d j code c a slot l =
-    at_slot (λ slot. held_cut 1 j code d.face cs slot (held_at d.held slot)) slot l ∙ apart_held_cut 1 cs d.face slot j code (held_at d.held slot) l c.face.count (a slot l) (λ k x. rw c.rests refl) (c.stand.each slot l)
+    at_slot (λ slot. held_cut d.version j code d.face cs slot (held_at d.held slot)) slot l ∙ apart_held_cut d.version cs d.face slot j code (held_at d.held slot) l c.face.count (a slot l) (λ k x. rw c.rests refl) (c.stand.each slot l)
 
-apart_stands : {mode : Mode} (cs : List Call) (d : Lying) (j code : ℕ) → IsCalm mode d → Apart cs → (slot : ℕ) → slot < 64 → Stands 1 mode (cut j code d.face cs) slot (held_cut 1 j code d.face cs slot (held_at d.held slot))
-apart_stands cs d j code c a slot l = apart_cut 1 cs d.face slot (held_at d.held slot) j code l c.face.count (a slot l) (λ k x. rw c.rests refl) (c.stand.each slot l)
+apart_stands : {mode : Mode} (cs : List Call) (d : Lying) (j code : ℕ) → IsCalm mode d → Apart d.version cs → (slot : ℕ) → slot < 64 → Stands d.version mode (cut j code d.face cs) slot (held_cut d.version j code d.face cs slot (held_at d.held slot))
+apart_stands cs d j code c a slot l = apart_cut d.version cs d.face slot (held_at d.held slot) j code l c.face.count (a slot l) (λ k x. rw c.rests refl) (c.stand.each slot l)
 
 -- ---- mending, from whatever the superblock opens as
 
@@ -85,8 +85,9 @@ mend_opens v d m o k =
     let s = mended v d.face o.calm.face o.calm.rests o.value in
     record {
       calm = calm_after cs d o.calm k s.waiting;
-      held = held_moves d (after_calls d cs) m (ends (Mend v) m) refl o.group (apart_after cs d o.calm (λ slot l. mend_apart 1 v d.face slot)) o.held;
+      held = held_moves d (after_calls d cs) m (ends (Mend v) m) refl o.group (apart_after cs d o.calm (λ slot l. mend_apart d.version v d.face slot)) o.held;
       value = s.opens;
+      file = o.file;
       version = o.version;
       under = refl;
     }
@@ -95,16 +96,17 @@ pub mend_cut : (v : SuperValue) (d : Lying) (m : Member) (j code : ℕ) → IsOf
 mend_cut v d m j code o c l t =
     let cs = mend_calls v d.face in
     record {
-      calm = calm_cut cs d j code o.calm c.calls l (apart_stands cs d j code o.calm (λ slot l. mend_apart 1 v d.face slot));
-      held = held_moves d (cut_calls j code d cs) m m refl refl (apart_stopped cs d j code o.calm (λ slot l. mend_apart 1 v d.face slot)) o.held;
+      calm = calm_cut cs d j code o.calm c.calls l (apart_stands cs d j code o.calm (λ slot l. mend_apart d.version v d.face slot));
+      held = held_moves d (cut_calls j code d cs) m m refl refl (apart_stopped cs d j code o.calm (λ slot l. mend_apart d.version v d.face slot)) o.held;
       value = (mend_law v d.face o.calm.face o.calm.rests o.value).stopped j code (t.value v refl);
+      file = o.file;
       version = o.version;
       may = o.may;
       group = o.group;
     }
 
 pub off : (d : Lying) (m : Member) → IsOn d m → IsOff d m m.last
-off d m o = record { calm = o.calm; held = o.held; value = o.value; version = o.version; may = inl refl; group = refl }
+off d m o = record { calm = o.calm; held = o.held; value = o.value; file = o.file; version = o.version; may = inl refl; group = refl }
 
 -- ---- saving
 
@@ -115,8 +117,9 @@ save_done old new d m o c =
     let kind = c.fit.1 ∙ ap (λ (v : SuperValue). file_kind v.fields) c.fit.0 in
     record {
       calm = subst (λ k. IsCalm k (after_calls d cs)) (sym (ap (λ (k : Kind). k.mode) kind)) (calm_after cs d o.calm c.calls s.waiting);
-      held = held_moves d (after_calls d cs) m (ends (Save old new) (begins (Save old new) m)) refl (c.fit.3 ∙ ap (λ (v : SuperValue). v.fields.cluster) c.fit.0) (apart_after cs d o.calm (λ slot l. write_apart 1 old new d.face slot)) o.held;
+      held = held_moves d (after_calls d cs) m (ends (Save old new) (begins (Save old new) m)) refl (c.fit.3 ∙ ap (λ (v : SuperValue). v.fields.cluster) c.fit.0) (apart_after cs d o.calm (λ slot l. write_apart d.version old new d.face slot)) o.held;
       value = s.opens;
+      file = o.file ∙ sym (ap (λ (k : Kind). k.version) kind);
       version = ap (λ (k : Kind). k.version) kind ∙ o.version;
       under = refl;
     }
@@ -127,33 +130,35 @@ save_cut old new d m j code o c l t =
     let cs = write_calls old new d.face in
     let x : Lying = cut_calls j code d cs in
     let q : Member = begins (Save old new) m in
-    let calm = calm_cut cs d j code o.calm c.calls l (apart_stands cs d j code o.calm (λ slot l. write_apart 1 old new d.face slot)) in
-    let held = held_moves d x m q refl refl (apart_stopped cs d j code o.calm (λ slot l. write_apart 1 old new d.face slot)) o.held in
+    let calm = calm_cut cs d j code o.calm c.calls l (apart_stands cs d j code o.calm (λ slot l. write_apart d.version old new d.face slot)) in
+    let held = held_moves d x m q refl refl (apart_stopped cs d j code o.calm (λ slot l. write_apart d.version old new d.face slot)) o.held in
     let first = ap (λ (v : SuperValue). file_kind v.fields) c.fit.0 in
     let later = c.fit.1 ∙ first in
     let group = ap (λ (v : SuperValue). v.fields.cluster) c.fit.0 in
     let leads = write_law old new d.face o.calm.face o.calm.rests (o.value ∙ ap Some (sym c.fit.0)) c.fit.2 in
     elim (leads.stopped j code (t.value old (inl refl)) (t.value new (inr refl))) [
-      | inl e ↦ (old, record { calm = subst (λ k. IsCalm k x) (sym (ap (λ (k : Kind). k.mode) first)) calm; held = held; value = e; version = ap (λ (k : Kind). k.version) first ∙ o.version; may = inl (sym c.fit.0); group = group })
-      | inr e ↦ (new, record { calm = subst (λ k. IsCalm k x) (sym (ap (λ (k : Kind). k.mode) later)) calm; held = held; value = e; version = ap (λ (k : Kind). k.version) later ∙ o.version; may = inr refl; group = c.fit.3 ∙ group })
+      | inl e ↦ (old, record { calm = subst (λ k. IsCalm k x) (sym (ap (λ (k : Kind). k.mode) first)) calm; held = held; value = e; file = o.file ∙ sym (ap (λ (k : Kind). k.version) first); version = ap (λ (k : Kind). k.version) first ∙ o.version; may = inl (sym c.fit.0); group = group })
+      | inr e ↦ (new, record { calm = subst (λ k. IsCalm k x) (sym (ap (λ (k : Kind). k.mode) later)) calm; held = held; value = e; file = o.file ∙ sym (ap (λ (k : Kind). k.version) later); version = ap (λ (k : Kind). k.version) later ∙ o.version; may = inr refl; group = c.fit.3 ∙ group })
     ]
 
 -- ---- blocks, which no slot and no copy of the superblock shares
 
-pub grid_done : (cs : List Call) (d : Lying) (m : Member) → IsOn d m → AllByRecursion IsCall cs → AllByRecursion (From 400) cs → (after_all d.face cs).waiting ≡ [] → IsOn (after_calls d cs) m
-grid_done cs d m o k a r = record {
+pub grid_done : (cs : List Call) (d : Lying) (m : Member) → IsOn d m → AllByRecursion IsCall cs → AllByRecursion (From 400) cs → Apart d.version cs → (after_all d.face cs).waiting ≡ [] → IsOn (after_calls d cs) m
+grid_done cs d m o k a p r = record {
   calm = calm_after cs d o.calm k r;
-  held = held_moves d (after_calls d cs) m m refl refl (apart_after cs d o.calm (λ slot l. from_apart slot cs l a)) o.held;
+  held = held_moves d (after_calls d cs) m m refl refl (apart_after cs d o.calm p) o.held;
   value = opens_after cs d.face (from_less 80 400 cs (omega arith) a) ∙ o.value;
+  file = o.file;
   version = o.version;
   under = o.under;
 }
 
-pub grid_cut : (cs : List Call) (d : Lying) (m : Member) (j code : ℕ) → IsOn d m → AllByRecursion IsCall cs → AllByRecursion (From 400) cs → j < length cs → IsOff (cut_calls j code d cs) m m.last
-grid_cut cs d m j code o k a l = record {
-  calm = calm_cut cs d j code o.calm k l (apart_stands cs d j code o.calm (λ slot l. from_apart slot cs l a));
-  held = held_moves d (cut_calls j code d cs) m m refl refl (apart_stopped cs d j code o.calm (λ slot l. from_apart slot cs l a)) o.held;
+pub grid_cut : (cs : List Call) (d : Lying) (m : Member) (j code : ℕ) → IsOn d m → AllByRecursion IsCall cs → AllByRecursion (From 400) cs → Apart d.version cs → j < length cs → IsOff (cut_calls j code d cs) m m.last
+grid_cut cs d m j code o k a p l = record {
+  calm = calm_cut cs d j code o.calm k l (apart_stands cs d j code o.calm p);
+  held = held_moves d (cut_calls j code d cs) m m refl refl (apart_stopped cs d j code o.calm p) o.held;
   value = opens_cut cs d.face j code o.calm.rests (from_less 80 400 cs (omega arith) a) ∙ o.value;
+  file = o.file;
   version = o.version;
   may = inl refl;
   group = refl;
@@ -181,13 +186,13 @@ pub set_other : (xs : List (Option Header)) (at : ℕ) (a : Option Header) (slot
 set_other xs at a slot d = get_or-set_other xs at slot a None (λ e. d (sym e))
 
 -- another slot's table, in the end and in a cut
-pub others_after : {mode : Mode} (cs : List Call) (d : Lying) (at : ℕ) → IsCalm mode d → ((slot : ℕ) → slot < 64 → at ≢ slot → AllByRecursion (AllApart 1 slot) cs) → (slot : ℕ) → slot < 64 → at ≢ slot → held_at (after_calls d cs).held slot ≡ held_at d.held slot
+pub others_after : {mode : Mode} (cs : List Call) (d : Lying) (at : ℕ) → IsCalm mode d → ((slot : ℕ) → slot < 64 → at ≢ slot → AllByRecursion (AllApart d.version slot) cs) → (slot : ℕ) → slot < 64 → at ≢ slot → held_at (after_calls d cs).held slot ≡ held_at d.held slot
 others_after cs d at c a slot l o =
-    at_slot (λ slot. held_after_all 1 d.face cs slot (held_at d.held slot)) slot l ∙ apart_held_all 1 cs d.face slot (held_at d.held slot) l c.face.count (a slot l o) (c.stand.each slot l)
+    at_slot (λ slot. held_after_all d.version d.face cs slot (held_at d.held slot)) slot l ∙ apart_held_all d.version cs d.face slot (held_at d.held slot) l c.face.count (a slot l o) (c.stand.each slot l)
 
-others_cut : {mode : Mode} (cs : List Call) (d : Lying) (j code at : ℕ) → IsCalm mode d → ((slot : ℕ) → slot < 64 → at ≢ slot → AllByRecursion (AllApart 1 slot) cs) → (slot : ℕ) → slot < 64 → at ≢ slot → held_at (cut_calls j code d cs).held slot ≡ held_at d.held slot
+others_cut : {mode : Mode} (cs : List Call) (d : Lying) (j code at : ℕ) → IsCalm mode d → ((slot : ℕ) → slot < 64 → at ≢ slot → AllByRecursion (AllApart d.version slot) cs) → (slot : ℕ) → slot < 64 → at ≢ slot → held_at (cut_calls j code d cs).held slot ≡ held_at d.held slot
 others_cut cs d j code at c a slot l o =
-    at_slot (λ slot. held_cut 1 j code d.face cs slot (held_at d.held slot)) slot l ∙ apart_held_cut 1 cs d.face slot j code (held_at d.held slot) l c.face.count (a slot l o) (λ k x. rw c.rests refl) (c.stand.each slot l)
+    at_slot (λ slot. held_cut d.version j code d.face cs slot (held_at d.held slot)) slot l ∙ apart_held_cut d.version cs d.face slot j code (held_at d.held slot) l c.face.count (a slot l o) (λ k x. rw c.rests refl) (c.stand.each slot l)
 
 some_header : (a b : Header) → Some a ≡ Some b → a ≡ b
 some_header a b e = cc
@@ -207,7 +212,7 @@ slot_less h = omega arith
 
 -- written to the end
 pub stored_on : (cs : List Call) (d : Lying) (m q : Member) (e : Whole) (mid : Option Header) → IsOn d m → AllByRecursion IsCall cs → AllByRecursion (From 80) cs → (after_all d.face cs).waiting ≡ []
-    → ((slot : ℕ) → slot < 64 → slot_of e.header ≢ slot → AllByRecursion (AllApart 1 slot) cs) → IsWhole e → e.header.cluster ≡ m.last.fields.cluster → e.header.version ≤ 1 → held_after_all 1 d.face cs (slot_of e.header) (held_at d.held (slot_of e.header)) ≡ Some (prepare_bytes e)
+    → ((slot : ℕ) → slot < 64 → slot_of e.header ≢ slot → AllByRecursion (AllApart d.version slot) cs) → IsWhole e → e.header.cluster ≡ m.last.fields.cluster → e.header.version ≤ 1 → held_after_all d.version d.face cs (slot_of e.header) (held_at d.held (slot_of e.header)) ≡ Some (prepare_bytes e)
     → q ≡ record m { kept = set (set m.kept (slot_of e.header) mid) (slot_of e.header) (Some e.header) } → IsOn (after_calls d cs) q
 stored_on cs d m q e mid o k a r apart w own few held is =
     let at = slot_of e.header in
@@ -218,18 +223,19 @@ stored_on cs d m q e mid o k a r apart w own few held is =
     subst (IsOn (after_calls d cs)) (sym is) (let x : IsOn (after_calls d cs) p = record {
       calm = calm_after cs d o.calm k r;
       held = written_held d (after_calls d cs) m p at n refl (λ slot b c. set_other (set m.kept at mid) at (Some e.header) slot c ∙ set_other m.kept at mid slot c) (others_after cs d at o.calm apart)
-          (λ g i. let one = some_header e.header g (sym (get_or-set_same (set m.kept at mid) at (Some e.header) None l) ∙ i) in record { entry = e; whole = w; header = one; group = ap (λ (h : Header). h.cluster) (sym one) ∙ own; version = subst (λ (h : Header). h.version ≤ 1) one few; there = at_slot (λ slot. held_after_all 1 d.face cs slot (held_at d.held slot)) at (slot_less e.header) ∙ held })
+          (λ g i. let one = some_header e.header g (sym (get_or-set_same (set m.kept at mid) at (Some e.header) None l) ∙ i) in record { entry = e; whole = w; header = one; group = ap (λ (h : Header). h.cluster) (sym one) ∙ own; version = subst (λ (h : Header). h.version ≤ 1) one few; there = at_slot (λ slot. held_after_all d.version d.face cs slot (held_at d.held slot)) at (slot_less e.header) ∙ held })
           o.held;
       value = opens_after cs d.face a ∙ o.value;
+      file = o.file;
       version = o.version;
       under = o.under;
     } in x)
 
 -- begun, and cut: what was kept is the entry, and is held all the time
 pub begun_off : (cs : List Call) (d : Lying) (m q : Member) (h : Header) (again : Bool) (j code : ℕ) → IsOn d m → AllByRecursion IsCall cs → AllByRecursion (From 80) cs → j < length cs
-    → ((slot : ℕ) → slot < 64 → slot_of h ≢ slot → AllByRecursion (AllApart 1 slot) cs)
-    → ((slot : ℕ) → slot < 64 → Stands 1 m.last.fields.mode (cut j code d.face cs) slot (held_cut 1 j code d.face cs slot (held_at d.held slot)))
-    → (again ≡ true → HoldsEntry m.last.fields.cluster h (held_at d.held (slot_of h)) → held_cut 1 j code d.face cs (slot_of h) (held_at d.held (slot_of h)) ≡ held_at d.held (slot_of h))
+    → ((slot : ℕ) → slot < 64 → slot_of h ≢ slot → AllByRecursion (AllApart d.version slot) cs)
+    → ((slot : ℕ) → slot < 64 → Stands d.version m.last.fields.mode (cut j code d.face cs) slot (held_cut d.version j code d.face cs slot (held_at d.held slot)))
+    → (again ≡ true → HoldsEntry m.last.fields.cluster h (held_at d.held (slot_of h)) → held_cut d.version j code d.face cs (slot_of h) (held_at d.held (slot_of h)) ≡ held_at d.held (slot_of h))
     → q ≡ record m { kept = set m.kept (slot_of h) (kept_under again h (kept_at m h.op)) } → IsOff (cut_calls j code d cs) q m.last
 begun_off cs d m q h again j code o k a l apart stands lasts is =
     let at = slot_of h in
@@ -245,10 +251,11 @@ begun_off cs d m q h again j code o k a l apart stands lasts is =
           (λ g i.
           let under = under_is again h g (kept_at m h.op) (sym (get_or-set_same m.kept at u None less) ∙ i) in
           let was : HoldsEntry m.last.fields.cluster g (held_at d.held at) = o.held.each at g (slot_less h) under.1 in
-          let same : held_at x.held at ≡ held_at d.held at = at_slot (λ slot. held_cut 1 j code d.face cs slot (held_at d.held slot)) at (slot_less h) ∙ lasts under.0 (subst (λ (g : Header). HoldsEntry m.last.fields.cluster g (held_at d.held at)) under.2 was) in
+          let same : held_at x.held at ≡ held_at d.held at = at_slot (λ slot. held_cut d.version j code d.face cs slot (held_at d.held slot)) at (slot_less h) ∙ lasts under.0 (subst (λ (g : Header). HoldsEntry m.last.fields.cluster g (held_at d.held at)) under.2 was) in
           subst (HoldsEntry m.last.fields.cluster g) (sym same) was)
           o.held;
       value = opens_cut cs d.face j code o.calm.rests a ∙ o.value;
+      file = o.file;
       version = o.version;
       may = inl refl;
       group = refl;

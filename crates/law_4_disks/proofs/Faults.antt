@@ -118,18 +118,18 @@ waits_on f (Misdirect i k) = refl
 judged : (f : Face) (v : SuperValue) → opens f ≡ Some v → mode_in f ≡ v.fields.mode
 judged f v e = ap (λ (o : Option SuperValue). option_map_or (λ (v : SuperValue). v.fields.mode) o Strict) e
 
-module _ (d : Lying) (x : Fault) (t : keeps_premise d (faulted d.face x) ≡ true) (face : IsFace (faulted d.face x)) (tells : (slot : ℕ) (x0 : Whole) → slot < 64 → IsWhole x0 → held_at d.held slot ≡ Some (prepare_bytes x0) → TellsPrepare 1 (faulted d.face x) slot (prepare_bytes x0)) where
+module _ (d : Lying) (x : Fault) (t : keeps_premise d (faulted d.face x) ≡ true) (face : IsFace (faulted d.face x)) (tells : (slot : ℕ) (x0 : Whole) → slot < 64 → IsWhole x0 → held_at d.held slot ≡ Some (prepare_bytes x0) → TellsPrepare d.version (faulted d.face x) slot (prepare_bytes x0)) where
   abbrev mode : Mode
   mode = mode_in d.face
 
-  kept : KeepsPremise 1 mode d.face (faulted d.face x) d.held
+  kept : KeepsPremise d.version mode d.face (faulted d.face x) d.held
   kept = premise d (faulted d.face x) t
 
-  looks : HeldLooked 1 (faulted d.face x) d.held (lied_to d (faulted d.face x)).held
-  looks = record { each = λ slot l. at_slot (λ slot. looked 1 (faulted d.face x) slot (held_at d.held slot)) slot l }
+  looks : HeldLooked d.version (faulted d.face x) d.held (lied_to d (faulted d.face x)).held
+  looks = record { each = λ slot l. at_slot (λ slot. looked d.version (faulted d.face x) slot (held_at d.held slot)) slot l }
 
   calm : IsCalm mode d → IsCalm mode (lied_to d (faulted d.face x))
-  calm c = record { face = face; rests = waits_on d.face x ∙ c.rests; stand = fault_stands 1 d.face (faulted d.face x) d.held (lied_to d (faulted d.face x)).held kept looks c.stand }
+  calm c = record { face = face; rests = waits_on d.face x ∙ c.rests; stand = fault_stands d.version d.face (faulted d.face x) d.held (lied_to d (faulted d.face x)).held kept looks c.stand }
 
   held : (q : Member) → IsCalm mode d → IsHeld d q → IsHeld (lied_to d (faulted d.face x)) q
   held q c h = record {
@@ -137,19 +137,19 @@ module _ (d : Lying) (x : Fault) (t : keeps_premise d (faulted d.face x) ≡ tru
     each = λ slot g l e.
         let y = h.each slot g l e in
         let s = c.stand.each slot l in
-        let now : Holds 1 mode (faulted d.face x) slot (Some (prepare_bytes y.entry)) = subst (Holds 1 mode (faulted d.face x) slot) y.there (kept.slots slot l s.holds) in
-        let same = look_stays 1 (faulted d.face x) slot (prepare_bytes y.entry) face l now (tells slot y.entry l y.whole y.there) in
-        record { entry = y.entry; whole = y.whole; header = y.header; group = y.group; version = y.version; there = looks.each slot l ∙ (ap (looked 1 (faulted d.face x) slot) y.there ∙ same) };
+        let now : Holds d.version mode (faulted d.face x) slot (Some (prepare_bytes y.entry)) = subst (Holds d.version mode (faulted d.face x) slot) y.there (kept.slots slot l s.holds) in
+        let same = look_stays d.version (faulted d.face x) slot (prepare_bytes y.entry) face l now (tells slot y.entry l y.whole y.there) in
+        record { entry = y.entry; whole = y.whole; header = y.header; group = y.group; version = y.version; there = looks.each slot l ∙ (ap (looked d.version (faulted d.face x) slot) y.there ∙ same) };
   }
 
   pub lie_on : (q : Member) → IsOn d q → IsOn (lied_to d (faulted d.face x)) q
   lie_on q o =
       let j : mode ≡ q.last.fields.mode = judged d.face q.last o.value in
       let was : IsCalm mode d = subst (λ (m : Mode). IsCalm m d) (sym j) o.calm in
-      record { calm = subst (λ (m : Mode). IsCalm m (lied_to d (faulted d.face x))) j (calm was); held = held q was o.held; value = kept.opens ∙ o.value; version = o.version; under = o.under }
+      record { calm = subst (λ (m : Mode). IsCalm m (lied_to d (faulted d.face x))) j (calm was); held = held q was o.held; value = kept.opens ∙ o.value; file = o.file; version = o.version; under = o.under }
 
   pub lie_off : (q : Member) (v : SuperValue) → IsOff d q v → IsOff (lied_to d (faulted d.face x)) q v
   lie_off q v o =
       let j : mode ≡ v.fields.mode = judged d.face v o.value in
       let was : IsCalm mode d = subst (λ (m : Mode). IsCalm m d) (sym j) o.calm in
-      record { calm = subst (λ (m : Mode). IsCalm m (lied_to d (faulted d.face x))) j (calm was); held = held q was o.held; value = kept.opens ∙ o.value; version = o.version; may = o.may; group = o.group }
+      record { calm = subst (λ (m : Mode). IsCalm m (lied_to d (faulted d.face x))) j (calm was); held = held q was o.held; value = kept.opens ∙ o.value; file = o.file; version = o.version; may = o.may; group = o.group }

@@ -29,7 +29,7 @@ use Rattle.vr_lie.proofs.Calls.{empty_at, new_table}
 use Rattle.vr_lie.proofs.Premise.{none_stands}
 use Rattle.vr_world.specs.Replica.{Replica}
 use Rattle.vr_world.specs.Opening.{blank, first_value, fresh}
-use Rattle.vr_world.specs.Lying.{Lying, each_slot, hazards, zero_cell, zero_face}
+use Rattle.vr_world.specs.Lying.{Lying, blank_lying, hazards, zero_cell, zero_face}
 use Rattle.vr_world.specs.Formatting.{format_calls, reserved_headers, zero_prepares, zero_sector}
 use Rattle.vr_world.specs.World as world
 use Rattle.vr_world.specs.Group as group
@@ -77,10 +77,7 @@ zero_stands mode slot l =
     let all : AllStand 1 mode zero_face held = none_stands 1 zero_face held (new_table 1 zero_face held zero_is refl) (λ s b. empty_at 64 s) in
     subst (Stands 1 mode zero_face slot) (empty_at 64 slot) (all.each slot l)
 
-abbrev empty : Lying
-empty = record { face = zero_face; held = each_slot (λ slot. None) }
-
-empty_calm : (mode : Mode) → IsCalm mode empty
+empty_calm : (mode : Mode) → IsCalm mode blank_lying
 empty_calm mode = record {
   face = zero_is_face;
   rests = refl;
@@ -181,9 +178,10 @@ formatted_on kind home n i room a b l =
     let count : length f3.cells ≡ sectors = length_after_all two f1 ∙ (length_after_all one zero_face ∙ length-replicate sectors zero_cell) in
     let reads = copies_read 4 0 cs f3 (length-copy_bytes v good) count (omega arith) (λ c m. absurd (omega arith)) in
     record {
-      calm = calm_after (one ++ (two ++ Sync ∷ saves)) empty (empty_calm kind.mode) (format_are kind home n i room good) (ap (λ (g : Face). g.waiting) all ∙ saves_rest 3 0 cs f3);
+      calm = calm_after (one ++ (two ++ Sync ∷ saves)) blank_lying (empty_calm kind.mode) (format_are kind home n i room good) (ap (λ (g : Face). g.waiting) all ∙ saves_rest 3 0 cs f3);
       held = record { count = length-replicate 64 (nothing_kept); each = λ slot h b e. absurd (let bad : None ≡ Some h = sym (get_or-replicate 64 slot nothing_kept None b) ∙ e in cc) };
       value = ap opens all ∙ all_open v (after_all f3 saves) good reads;
+      file = refl;
       version = refl;
       under = refl;
     }

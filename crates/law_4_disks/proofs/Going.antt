@@ -52,14 +52,14 @@ chain_last es m u c = carried_last es m ∙ chain_values es m.last u c
 
 -- ---- what is known of a script's effects
 
-write_are : (again : Bool) (e : Whole) → IsWhole e → AreCalls (cond again (again_calls 1 e) (new_calls 1 e))
-write_are true e w = again_are 1 e w
-write_are false e w = new_are 1 e w
+write_are : (v : ℕ) (again : Bool) (e : Whole) → IsWhole e → AreCalls (cond again (again_calls v e) (new_calls v e))
+write_are v true e w = again_are v e w
+write_are v false e w = new_are v e w
 
 pub known_goes : (P Q : List ℕ → Type 0) (home n i : ℕ) (es : List Effect) (d : Lying) (v u : SuperValue) → IsGood v → Chain v es u → Known home n i es → AllByRecursion (WritesBlocks P Q) es → Rewrites home es d → GoesWell home es d
 known_goes P Q home n i [] d v u g c k b w = tt
 known_goes P Q home n i (Write again e ∷ es) d v u g c k b w =
-    let one = known_first home n i (Write again e) es k in ((one.0, one.2.0, one.2.1), write_are again e one.0, known_goes P Q home n i es (lying.after d (Write again e)) v u g c (known_rest home n i (Write again e) es k) b.1 w.1)
+    let one = known_first home n i (Write again e) es k in ((one.0, one.2.0, one.2.1), write_are d.version again e one.0, known_goes P Q home n i es (lying.after d (Write again e)) v u g c (known_rest home n i (Write again e) es k) b.1 w.1)
 known_goes P Q home n i (Rewrite h ∷ es) d v u g c k b w =
     (w.0, header_are h (known_first home n i (Rewrite h) es k).0, known_goes P Q home n i es (lying.after d (Rewrite h)) v u g c (known_rest home n i (Rewrite h) es k) b.1 w.1)
 known_goes P Q home n i (Save old new ∷ es) d v u g c k b w =

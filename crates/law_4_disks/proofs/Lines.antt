@@ -5,7 +5,7 @@ use Rattle.std.proofs.lemmas.Bool.{cases_eq, leb-false, leb-true}
 use Rattle.std.proofs.lemmas.List.{append-nil}
 use Rattle.std.proofs.lemmas.List.Elements.{All-cons, All-nil}
 use Rattle.std.proofs.lemmas.Option.{slice_get_within, slice_get-get_or}
-use Rattle.vr_disk.specs.DiskState.{Face, Fuse}
+use Rattle.vr_disk.specs.DiskState.{Fuse}
 use Rattle.vr_msg.specs.declared.event.Event.{Event}
 use Rattle.vr_msg.specs.declared.output.Output.{Output}
 use Rattle.vr_msg.specs.declared.output.Output.TheVariants as output
@@ -17,14 +17,14 @@ use Rattle.vr_world.specs.Steps as steps
 use Rattle.vr_world.specs.Rules.{asked_block, react}
 use Rattle.vr_msg.specs.declared.event.Event.TheVariants as event
 use Rattle.vr_msg.specs.declared.frame.Frame.TheVariants as frame
-use Rattle.vr_world.specs.Sectors.{calls}
+use Rattle.vr_world.specs.Sectors.{script_calls}
 use Rattle.vr_world.specs.Lying.{Lying, cut_calls, hazards, lying}
 use Rattle.vr_world.specs.World as world
 use Rattle.vr_world.specs.World.{Acted, Happened, World, acts, halted, stays, went, went_or_halted, with_member}
 use Rattle.vr_world.specs.Outputs.{message_of, messages}
 use Rattle.vr_world.specs.Group as group
 use Rattle.vr_world.specs.Group.{Arrival, Group, IsArrival, Move, Moved, Moves, Played, Run, Runs, carried_out, cut_after, cut_short, finished, stepped, with_script}
-use Rattle.vr_world.specs.Safe.{faces_of, run_outputs}
+use Rattle.vr_world.specs.Safe.{disks_of, run_outputs}
 use Rattle.law_4_disks.specs.Beside.{IsOff, IsOn, MayGo}
 use Rattle.std.specs.List.{AllByRecursion}
 use Rattle.std.specs.Option.{option_map}
@@ -105,12 +105,12 @@ stayed w g i m q a b at there s e = record {
 
 -- ---- matched by nothing, and by one move
 
-pub no_move : {home : ℕ} (fs : List Face) (g : Group) (h : Happened Lying) → IsFitGroup home g → IsStockedGroup g → AreBeside h.world g → Said h.outputs [] → IsMatchedBy home [] fs g h
+pub no_move : {home : ℕ} (fs : List Lying) (g : Group) (h : Happened Lying) → IsFitGroup home g → IsStockedGroup g → AreBeside h.world g → Said h.outputs [] → IsMatchedBy home [] fs g h
 unfolding run_outputs made_in
 no_move {home} fs g h f k b s = record { matched = record { run = []; is = Run.ended g; reads = All-nil (λ (p : Played). IsFitMove p.move); bytes = All-nil (λ (p : Played). IsOfBytes p.move); beside = b; said = s }; one = unmoved refl; fit = f; stock = k; made = sym (append-nil g.made) }
 
-pub one_move : {home : ℕ} (es : List Effect) (fs : List Face) (g : Group) (h : Happened Lying) (x : Move) (y : Moved) → IsFitGroup home g → IsFitMove x → IsOfBytes x → IsStockedGroup y.group → Moves g x y → AreBeside h.world y.group → Said h.outputs y.outputs → y.group.made ≡ g.made ++ made_in es
-    → y.script ≡ es → (faces_of x ≡ []) ⊎ (faces_of x ≡ fs) → IsMatchedBy home es fs g h
+pub one_move : {home : ℕ} (es : List Effect) (fs : List Lying) (g : Group) (h : Happened Lying) (x : Move) (y : Moved) → IsFitGroup home g → IsFitMove x → IsOfBytes x → IsStockedGroup y.group → Moves g x y → AreBeside h.world y.group → Said h.outputs y.outputs → y.group.made ≡ g.made ++ made_in es
+    → y.script ≡ es → (disks_of x ≡ []) ⊎ (disks_of x ≡ fs) → IsMatchedBy home es fs g h
 unfolding run_outputs
 one_move {home} es fs g h x y f well bytes stock move b s made script faces = record {
   matched = record {
@@ -156,10 +156,10 @@ reads_bytes (event.Request q) = tt
 reads_bytes event.Tick = tt
 
 pub on_running : (d : Lying) (q : group.Member) (r : Option Replica) → IsOn d q → IsOn d (record q { replica = r })
-on_running d q r o = record { calm = o.calm; held = record { count = o.held.count; each = o.held.each }; value = o.value; version = o.version; under = o.under }
+on_running d q r o = record { calm = o.calm; held = record { count = o.held.count; each = o.held.each }; value = o.value; file = o.file; version = o.version; under = o.under }
 
 pub off_stopped : (d : Lying) (q : group.Member) (r : Option Replica) (v : SuperValue) → IsOff d q v → IsOff d (record q { replica = r }) v
-off_stopped d q r v o = record { calm = o.calm; held = record { count = o.held.count; each = o.held.each }; value = o.value; version = o.version; may = o.may; group = o.group }
+off_stopped d q r v o = record { calm = o.calm; held = record { count = o.held.count; each = o.held.each }; value = o.value; file = o.file; version = o.version; may = o.may; group = o.group }
 
 pub some_replica : (a b : Replica) → Some a ≡ Some b → a ≡ b
 some_replica a b e = cc
@@ -174,16 +174,16 @@ went_stands m q s fuse o well =
       stopped = λ e. absurd (let bad : Some s.replica ≡ None = e in cc);
     }
 
-halted_stands : (i : ℕ) (m : world.Host Lying) (q : group.Member) (s : Step) (u : Fuse) (n : ℕ) (v : SuperValue) → IsOff (cut_calls u.calls u.code m.disk (calls s.script m.disk.face)) (cut_after n s.script q) v
+halted_stands : (i : ℕ) (m : world.Host Lying) (q : group.Member) (s : Step) (u : Fuse) (n : ℕ) (v : SuperValue) → IsOff (cut_calls u.calls u.code m.disk (script_calls m.disk.version s.script m.disk.face)) (cut_after n s.script q) v
     → Stands (halted hazards i m s u).member (record (cut_after n s.script q) { replica = None })
 halted_stands i m q s u n v o = record {
   replica = refl;
   running = λ r e. absurd (let bad : None ≡ Some r = e in cc);
-  stopped = λ e. (v, off_stopped (cut_calls u.calls u.code m.disk (calls s.script m.disk.face)) (cut_after n s.script q) None v o);
+  stopped = λ e. (v, off_stopped (cut_calls u.calls u.code m.disk (script_calls m.disk.version s.script m.disk.face)) (cut_after n s.script q) None v o);
 }
 
 pub running_off : (d : Lying) (q : group.Member) → IsOn d q → IsOff d q q.last
-running_off d q o = record { calm = o.calm; held = o.held; value = o.value; version = o.version; may = inl refl; group = refl }
+running_off d q o = record { calm = o.calm; held = o.held; value = o.value; file = o.file; version = o.version; may = inl refl; group = refl }
 
 -- ---- what is known of the work of a line
 
@@ -237,12 +237,12 @@ pub runs_one : (x r : Replica) → IsStocked x → Some x ≡ Some r → IsStock
 runs_one x r k e = subst IsStocked (some_replica x r e) k
 
 -- an effect that is begun, and the rest
-begun_cut : (es : List Effect) (d : Lying) (u : Fuse) (n : ℕ) → begun_before es d.face u.calls ≡ take (n + 1) es → take (n + 1) es ≡ begun_by (Some u) es d.face
+begun_cut : (es : List Effect) (d : Lying) (u : Fuse) (n : ℕ) → begun_before d.version es d.face u.calls ≡ take (n + 1) es → take (n + 1) es ≡ begun_by (Some u) es d
 begun_cut es d u n e = sym e
 
 module _ {home : ℕ} (w : World Lying) (g : Group) (i : ℕ) (m : world.Host Lying) (q : group.Member) (b : AreBeside w g) (fits : IsFitGroup home g) (stock : IsStockedGroup g) (at : slice_get w.members i ≡ Some m) (there : slice_get g.members i ≡ Some q) (s : Stands m q) where
   step_goes : (arrival : Arrival) (e : Event) (r : Replica) (fuse : Option Fuse) → m.replica ≡ Some r → IsArrival g i arrival e → IsFitArrival arrival → StepsWell (react e lying r m.disk) m.disk q
-      → Leaves IsBytes IsBytes home (react e) r m.disk → IsMatchedBy home (react e lying r m.disk).script (m.disk.face ∷ []) g (with_member w i (went hazards m (react e lying r m.disk) fuse))
+      → Leaves IsBytes IsBytes home (react e) r m.disk → IsMatchedBy home (react e lying r m.disk).script (m.disk ∷ []) g (with_member w i (went hazards m (react e lying r m.disk) fuse))
   step_goes arrival e r fuse run arrives fit well leaves =
       let x = react e lying r m.disk in
       let p : group.Member = record (carried_out x.script q) { replica = Some x.replica } in
@@ -250,11 +250,11 @@ module _ {home : ℕ} (w : World Lying) (g : Group) (i : ℕ) (m : world.Host Ly
       let h = with_member w i a in
       let runs : Runs g i q r = record { member = there; running = s.replica ∙ run } in
       let on = (s.running r run).0 in
-      one_move x.script (m.disk.face ∷ []) g h (Move.Steps i arrival e m.disk) (finished g i q (stepped e r m.disk)) fits (fit, lies_fit.reads m.disk on.calm.face) on.calm.face (stock_moves g i q p x.script (steps.outputs x.script) stock there (λ y h. runs_one x.replica y leaves.stock h) (outputs_given IsBytes IsBytes x.script leaves.blocks)) (Moves.steps i arrival e m.disk q r runs arrives)
+      one_move x.script (m.disk ∷ []) g h (Move.Steps i arrival e m.disk) (finished g i q (stepped e r m.disk)) fits (fit, lies_fit.reads m.disk on.calm.face) on.calm.face (stock_moves g i q p x.script (steps.outputs x.script) stock there (λ y h. runs_one x.replica y leaves.stock h) (outputs_given IsBytes IsBytes x.script leaves.blocks)) (Moves.steps i arrival e m.disk q r runs arrives)
       (placed w g i m q p a x.script (steps.outputs x.script) b at there (went_stands m q x fuse on well) refl) (said_same (steps.outputs x.script)) refl refl (inr refl)
 
-  step_halts : (arrival : Arrival) (e : Event) (r : Replica) (u : Fuse) → m.replica ≡ Some r → IsArrival g i arrival e → IsFitArrival arrival → StepsWell (react e lying r m.disk) m.disk q → u.calls < length (calls (react e lying r m.disk).script m.disk.face)
-      → TellsIn (react e lying r m.disk).script m.disk u.calls u.code → IsMatchedBy home (begun_by (Some u) (react e lying r m.disk).script m.disk.face) (m.disk.face ∷ []) g (with_member w i (halted hazards i m (react e lying r m.disk) u))
+  step_halts : (arrival : Arrival) (e : Event) (r : Replica) (u : Fuse) → m.replica ≡ Some r → IsArrival g i arrival e → IsFitArrival arrival → StepsWell (react e lying r m.disk) m.disk q → u.calls < length (script_calls m.disk.version (react e lying r m.disk).script m.disk.face)
+      → TellsIn (react e lying r m.disk).script m.disk u.calls u.code → IsMatchedBy home (begun_by (Some u) (react e lying r m.disk).script m.disk) (m.disk ∷ []) g (with_member w i (halted hazards i m (react e lying r m.disk) u))
   unfolding messages
   step_halts arrival e r u run arrives fit well l tells =
       let x = react e lying r m.disk in
@@ -264,19 +264,19 @@ module _ {home : ℕ} (w : World Lying) (g : Group) (i : ℕ) (m : world.Host Ly
       let a = halted hazards i m x u in
       let h = with_member w i a in
       let runs : Runs g i q r = record { member = there; running = s.replica ∙ run } in
-      one_move (begun_by (Some u) x.script m.disk.face) (m.disk.face ∷ []) g h (Move.Cuts i arrival e m.disk c.effects) (cut_short g i q (stepped e r m.disk) c.effects) fits (fit, lies_fit.reads m.disk on.calm.face) on.calm.face (stock_moves g i q p (take (c.effects + 1) x.script) [] stock there none_runs (none_sent IsBytes)) (Moves.cuts i arrival e m.disk c.effects q r runs arrives)
+      one_move (begun_by (Some u) x.script m.disk) (m.disk ∷ []) g h (Move.Cuts i arrival e m.disk c.effects) (cut_short g i q (stepped e r m.disk) c.effects) fits (fit, lies_fit.reads m.disk on.calm.face) on.calm.face (stock_moves g i q p (take (c.effects + 1) x.script) [] stock there none_runs (none_sent IsBytes)) (Moves.cuts i arrival e m.disk c.effects q r runs arrives)
       (placed w g i m q p a (take (c.effects + 1) x.script) [] b at there (halted_stands i m q x u c.effects c.value c.off) refl) (aside (output.Halted i) [] [] tt none)
       (ap (λ (es : List Effect). g.made ++ made_in es) (begun_cut x.script m.disk u c.effects c.begun)) (begun_cut x.script m.disk u c.effects c.begun) (inr refl)
 
   step_acts : (arrival : Arrival) (e : Event) (r : Replica) (fuse : Option Fuse) → m.fuse ≡ fuse → m.replica ≡ Some r → IsArrival g i arrival e → IsFitArrival arrival → StepsWell (react e lying r m.disk) m.disk q → Leaves IsBytes IsBytes home (react e) r m.disk
-      → ((u : Fuse) → fuse ≡ Some u → TellsIn (react e lying r m.disk).script m.disk u.calls u.code) → IsMatchedBy home (begun_by fuse (react e lying r m.disk).script m.disk.face) (m.disk.face ∷ []) g (with_member w i (went_or_halted hazards i m (react e lying r m.disk) fuse))
+      → ((u : Fuse) → fuse ≡ Some u → TellsIn (react e lying r m.disk).script m.disk u.calls u.code) → IsMatchedBy home (begun_by fuse (react e lying r m.disk).script m.disk) (m.disk ∷ []) g (with_member w i (went_or_halted hazards i m (react e lying r m.disk) fuse))
   step_acts arrival e r None f run arrives fit well leaves tells = step_goes arrival e r None run arrives fit well leaves
   step_acts arrival e r (Some u) f run arrives fit well leaves tells =
       let x = react e lying r m.disk in
-      let made = length (calls x.script m.disk.face) in
+      let made = length (script_calls m.disk.version x.script m.disk.face) in
       let rest : Fuse = record { calls = u.calls - made; code = u.code } in
-      elim (nat_le made u.calls) as (λ t. nat_le made u.calls ≡ t → IsMatchedBy home (begun_by (Some u) x.script m.disk.face) (m.disk.face ∷ []) g (with_member w i (cond t (went hazards m x (Some rest)) (halted hazards i m x u)))) [
-        | true ↦ λ t. subst (λ (es : List Effect). IsMatchedBy home es (m.disk.face ∷ []) g (with_member w i (went hazards m x (Some rest)))) (sym (begun_all x.script m.disk.face u.calls (leb-true made u.calls t))) (step_goes arrival e r (Some rest) run arrives fit well leaves)
+      elim (nat_le made u.calls) as (λ t. nat_le made u.calls ≡ t → IsMatchedBy home (begun_by (Some u) x.script m.disk) (m.disk ∷ []) g (with_member w i (cond t (went hazards m x (Some rest)) (halted hazards i m x u)))) [
+        | true ↦ λ t. subst (λ (es : List Effect). IsMatchedBy home es (m.disk ∷ []) g (with_member w i (went hazards m x (Some rest)))) (sym (begun_all m.disk.version x.script m.disk.face u.calls (leb-true made u.calls t))) (step_goes arrival e r (Some rest) run arrives fit well leaves)
         | false ↦ λ t. step_halts arrival e r u run arrives fit well (leb-false made u.calls t) (tells u refl)
       ] refl
 
@@ -299,7 +299,7 @@ module _ {home : ℕ} (w : World Lying) (g : Group) (i : ℕ) (m : world.Host Ly
       record { known = step.known; at = here; leaves = leaves; well = well_of home x d q r.saved saved is.last.1.cluster chain goes }
 
   handle_by : (arrival : Arrival) (e : Event) (r : Replica) → m.replica ≡ Some r → IsArrival g i arrival e → IsFitArrival arrival → IsGivenEvent IsBytes e → WorksWell (stepping e m r)
-      → IsMatchedBy home (begun_by m.fuse (react e lying r m.disk).script m.disk.face) (m.disk.face ∷ []) g (with_member w i (acts hazards i m (react e lying r m.disk)))
+      → IsMatchedBy home (begun_by m.fuse (react e lying r m.disk).script m.disk) (m.disk ∷ []) g (with_member w i (acts hazards i m (react e lying r m.disk)))
   handle_by arrival e r run arrive fit given works =
       let d = m.disk in
       let x = react e lying r d in

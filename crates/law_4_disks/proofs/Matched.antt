@@ -2,8 +2,8 @@
 use Rattle.std.proofs.Common.{◌∷◌, inr, ℕ, ◌+◌, ◌-◌, ◌%◌, ◌<◌, ◌≡◌, refl, sym, ap, ◌∙◌, subst, Bool, true, false, cond, List, [], ◌++◌, length, take, Option, Some, None}
 use Rattle.std.specs.Prelude.{nat_le, slice_get}
 use Rattle.std.specs.Option.{option_map, option_map_or}
-use Rattle.std.proofs.lemmas.Bool.{leb-false, leb-true}
-use Rattle.vr_disk.specs.DiskState.{Face, Fuse}
+use Rattle.std.proofs.lemmas.Bool.{eq-eqb, leb-false, leb-true}
+use Rattle.vr_disk.specs.DiskState.{Fuse}
 use Rattle.vr_msg.specs.declared.event.Event.TheVariants as event
 use Rattle.vr_msg.specs.declared.output.Output.TheVariants as output
 use Rattle.vr_msg.specs.declared.output.Sent.{Sent}
@@ -15,7 +15,7 @@ use Rattle.vr_world.specs.Replica.{Replica}
 use Rattle.vr_world.specs.Steps.{Step, after_all}
 use Rattle.vr_world.specs.Steps as steps
 use Rattle.vr_world.specs.Opening.{blank, opened, opening}
-use Rattle.vr_world.specs.Sectors.{calls, runnable}
+use Rattle.vr_world.specs.Sectors.{of_version, script_calls}
 use Rattle.vr_world.specs.Lying.{Lying, cut_calls, hazards, keeps_premise, lied_to, lying, unless_kept_out}
 use Rattle.vr_world.specs.World as world
 use Rattle.vr_world.specs.World.{Acted, Happening, World, Begins, Asks, Arrives, Ticks, Stops, Starts, Fuses, Lies, at_member, acts, delivered, halted, handles, lied, nothing, stays, went, went_or_halted, with_member}
@@ -131,7 +131,7 @@ module _ {home : ℕ} (w : World Lying) (g : Group) (i : ℕ) (m : world.Host Ly
   opens_group v run o f = record { member = there; stopped = s.replica ∙ run; value = o.may; sound = f.sound }
 
   start_goes : (v : SuperValue) (fuse : Option Fuse) → m.replica ≡ None → IsOff m.disk q v → Finds m.disk q v g.made → StepsWell (resumed v m.disk) (after_all lying m.disk (mended v m.disk).script) (once_mended v m.disk q)
-      → Leaves IsBytes IsBytes home resuming (recovered v m.disk) (after_all lying m.disk (mended v m.disk).script) → AllByRecursion (WritesBlocks IsBytes IsBytes) (mended v m.disk).script → IsMatchedBy home (opening_script v m.disk) (m.disk.face ∷ []) g (with_member w i (went hazards m (whole v m.disk) fuse))
+      → Leaves IsBytes IsBytes home resuming (recovered v m.disk) (after_all lying m.disk (mended v m.disk).script) → AllByRecursion (WritesBlocks IsBytes IsBytes) (mended v m.disk).script → IsMatchedBy home (opening_script v m.disk) (m.disk ∷ []) g (with_member w i (went hazards m (whole v m.disk) fuse))
   start_goes v fuse run o f may leaves still =
       let d = m.disk in
       let x = whole v d in
@@ -146,11 +146,11 @@ module _ {home : ℕ} (w : World Lying) (g : Group) (i : ℕ) (m : world.Host Ly
         running = λ r e. (on_running (after_all lying d (xs ++ ys)) (carried_out ys (once_mended v d q)) (Some x.replica) on, ap (λ (r : Replica). r.saved) (sym (some_replica x.replica r e)) ∙ may.saved);
         stopped = λ e. absurd (let bad : Some x.replica ≡ None = e in cc);
       } in
-      one_move x.script (d.face ∷ []) g (with_member w i a) (Move.Recovers i v d) (started g i q v d) fits (lies_fit.reads d o.calm.face) o.calm.face (stock_moves g i q p x.script (steps.outputs x.script) stock there (λ y h. runs_one (resumed v d).replica y leaves.stock h) (outputs_given IsBytes IsBytes x.script (blocks_both IsBytes IsBytes xs ys still leaves.blocks))) (Moves.recovers i v d q (opens_group v run o f))
+      one_move x.script (d ∷ []) g (with_member w i a) (Move.Recovers i v d) (started g i q v d) fits (lies_fit.reads d o.calm.face) o.calm.face (stock_moves g i q p x.script (steps.outputs x.script) stock there (λ y h. runs_one (resumed v d).replica y leaves.stock h) (outputs_given IsBytes IsBytes x.script (blocks_both IsBytes IsBytes xs ys still leaves.blocks))) (Moves.recovers i v d q (opens_group v run o f))
       (placed w g i m q p a x.script (steps.outputs x.script) b at there stands refl) (said_same (steps.outputs x.script)) refl refl (inr refl)
 
-  start_halts : (v : SuperValue) (u : Fuse) → m.replica ≡ None → IsOff m.disk q v → Finds m.disk q v g.made → StepsWell (resumed v m.disk) (after_all lying m.disk (mended v m.disk).script) (once_mended v m.disk q) → u.calls < length (calls (opening_script v m.disk) m.disk.face)
-      → TellsIn (opening_script v m.disk) m.disk u.calls u.code → IsMatchedBy home (begun_by (Some u) (opening_script v m.disk) m.disk.face) (m.disk.face ∷ []) g (with_member w i (halted hazards i m (whole v m.disk) u))
+  start_halts : (v : SuperValue) (u : Fuse) → m.replica ≡ None → IsOff m.disk q v → Finds m.disk q v g.made → StepsWell (resumed v m.disk) (after_all lying m.disk (mended v m.disk).script) (once_mended v m.disk q) → u.calls < length (script_calls m.disk.version (opening_script v m.disk) m.disk.face)
+      → TellsIn (opening_script v m.disk) m.disk u.calls u.code → IsMatchedBy home (begun_by (Some u) (opening_script v m.disk) m.disk) (m.disk ∷ []) g (with_member w i (halted hazards i m (whole v m.disk) u))
   unfolding messages
   start_halts v u run o f may l tells =
       let d = m.disk in
@@ -162,21 +162,21 @@ module _ {home : ℕ} (w : World Lying) (g : Group) (i : ℕ) (m : world.Host Ly
       let stands : Stands a.member p = record {
         replica = refl;
         running = λ r e. absurd (let bad : None ≡ Some r = e in cc);
-        stopped = λ e. (c.value, off_stopped (cut_calls u.calls u.code d (calls (opening_script v d) d.face)) k None c.value c.off);
+        stopped = λ e. (c.value, off_stopped (cut_calls u.calls u.code d (script_calls d.version (opening_script v d) d.face)) k None c.value c.off);
       } in
-      one_move (begun_by (Some u) x.script d.face) (d.face ∷ []) g (with_member w i a) (Move.RecoversCut i v d c.effects) (start_cut g i q v d c.effects) fits (lies_fit.reads d o.calm.face) o.calm.face (stock_moves g i q p (take (c.effects + 1) x.script) [] stock there none_runs (none_sent IsBytes)) (Moves.recovers_cut i v d c.effects q (opens_group v run o f))
+      one_move (begun_by (Some u) x.script d) (d ∷ []) g (with_member w i a) (Move.RecoversCut i v d c.effects) (start_cut g i q v d c.effects) fits (lies_fit.reads d o.calm.face) o.calm.face (stock_moves g i q p (take (c.effects + 1) x.script) [] stock there none_runs (none_sent IsBytes)) (Moves.recovers_cut i v d c.effects q (opens_group v run o f))
       (placed w g i m q p a (take (c.effects + 1) x.script) [] b at there stands refl) (aside (output.Halted i) [] [] tt none) (ap (λ (es : List Effect). g.made ++ made_in es) (sym c.begun)) (sym c.begun) (inr refl)
 
   start_acts : (v : SuperValue) (fuse : Option Fuse) → m.replica ≡ None → IsOff m.disk q v → Finds m.disk q v g.made → StepsWell (resumed v m.disk) (after_all lying m.disk (mended v m.disk).script) (once_mended v m.disk q)
       → Leaves IsBytes IsBytes home resuming (recovered v m.disk) (after_all lying m.disk (mended v m.disk).script) → AllByRecursion (WritesBlocks IsBytes IsBytes) (mended v m.disk).script
-      → ((u : Fuse) → fuse ≡ Some u → TellsIn (opening_script v m.disk) m.disk u.calls u.code) → IsMatchedBy home (begun_by fuse (opening_script v m.disk) m.disk.face) (m.disk.face ∷ []) g (with_member w i (went_or_halted hazards i m (whole v m.disk) fuse))
+      → ((u : Fuse) → fuse ≡ Some u → TellsIn (opening_script v m.disk) m.disk u.calls u.code) → IsMatchedBy home (begun_by fuse (opening_script v m.disk) m.disk) (m.disk ∷ []) g (with_member w i (went_or_halted hazards i m (whole v m.disk) fuse))
   start_acts v None run o f may leaves still tells = start_goes v None run o f may leaves still
   start_acts v (Some u) run o f may leaves still tells =
       let x = whole v m.disk in
-      let made = length (calls x.script m.disk.face) in
+      let made = length (script_calls m.disk.version x.script m.disk.face) in
       let rest : Fuse = record { calls = u.calls - made; code = u.code } in
-      elim (nat_le made u.calls) as (λ t. nat_le made u.calls ≡ t → IsMatchedBy home (begun_by (Some u) x.script m.disk.face) (m.disk.face ∷ []) g (with_member w i (cond t (went hazards m x (Some rest)) (halted hazards i m x u)))) [
-        | true ↦ λ t. subst (λ (es : List Effect). IsMatchedBy home es (m.disk.face ∷ []) g (with_member w i (went hazards m x (Some rest)))) (sym (begun_all x.script m.disk.face u.calls (leb-true made u.calls t))) (start_goes v (Some rest) run o f may leaves still)
+      elim (nat_le made u.calls) as (λ t. nat_le made u.calls ≡ t → IsMatchedBy home (begun_by (Some u) x.script m.disk) (m.disk ∷ []) g (with_member w i (cond t (went hazards m x (Some rest)) (halted hazards i m x u)))) [
+        | true ↦ λ t. subst (λ (es : List Effect). IsMatchedBy home es (m.disk ∷ []) g (with_member w i (went hazards m x (Some rest)))) (sym (begun_all m.disk.version x.script m.disk.face u.calls (leb-true made u.calls t))) (start_goes v (Some rest) run o f may leaves still)
         | false ↦ λ t. start_halts v u run o f may (leb-false made u.calls t) (tells u refl)
       ] refl
 
@@ -213,7 +213,7 @@ module _ {home : ℕ} (w : World Lying) (g : Group) (i : ℕ) (m : world.Host Ly
       record { value = value.0; finds = f; known = step.known; here = here; well = well; go = go_both xs ys d v f.go rest }
 
   start_by : (v : SuperValue) → m.replica ≡ None → IsOff m.disk q v → AreMade g.made v (lying.after m.disk (Mend v)) → WorksWell (opening_as m (whole v m.disk))
-      → IsMatchedBy home (begun_by m.fuse (opening_script v m.disk) m.disk.face) (m.disk.face ∷ []) g (with_member w i (acts hazards i m (whole v m.disk)))
+      → IsMatchedBy home (begun_by m.fuse (opening_script v m.disk) m.disk) (m.disk ∷ []) g (with_member w i (acts hazards i m (whole v m.disk)))
   start_by v run o made works =
       let d = m.disk in
       let h = start_well v o made in
@@ -224,7 +224,7 @@ module _ {home : ℕ} (w : World Lying) (g : Group) (i : ℕ) (m : world.Host Ly
   pub opened_as : (v : SuperValue) → IsOff m.disk q v → opened lying m.disk ≡ Some (whole v m.disk)
   unfolding opened
   opened_as v o =
-      let is : lying.opens m.disk ≡ Some v = ap (option_and_then runnable) o.value ∙ (rw o.version refl) in
+      let is : lying.opens m.disk ≡ Some v = ap (option_and_then (of_version m.disk.version)) o.value ∙ (rw (eq-eqb v.fields.version m.disk.version (sym o.file)) refl) in
       ap (option_map (λ (v : SuperValue). opening v lying (blank v) m.disk)) is ∙ ap Some (opening_is v m.disk)
 
   start_line : (r : Option Replica) → m.replica ≡ r → ((v : SuperValue) → r ≡ None → opens m.disk.face ≡ Some v → AreMade g.made v (lying.after m.disk (Mend v))) → ((k : Work) → starting_by m r ≡ Some k → WorksWell k)
@@ -266,12 +266,12 @@ module _ {home : ℕ} (w : World Lying) (g : Group) (i : ℕ) (m : world.Host Ly
 
 -- ---- at a member, where there is one
 
-at_place : {home : ℕ} (w : World Lying) (g : Group) (i : ℕ) (act : ℕ → world.Host Lying → Acted Lying) (es : Option (world.Host Lying) → List Effect) (fs : Option (world.Host Lying) → List Face) (o : Option (world.Host Lying)) → AreBeside w g → IsFitGroup home g → IsStockedGroup g → es None ≡ [] → slice_get w.members i ≡ o
+at_place : {home : ℕ} (w : World Lying) (g : Group) (i : ℕ) (act : ℕ → world.Host Lying → Acted Lying) (es : Option (world.Host Lying) → List Effect) (fs : Option (world.Host Lying) → List Lying) (o : Option (world.Host Lying)) → AreBeside w g → IsFitGroup home g → IsStockedGroup g → es None ≡ [] → slice_get w.members i ≡ o
     → ((m : world.Host Lying) (q : group.Member) → slice_get w.members i ≡ Some m → slice_get g.members i ≡ Some q → Stands m q → IsMatchedBy home (es (Some m)) (fs (Some m)) g (with_member w i (act i m))) → IsMatchedBy home (es o) (fs o) g (option_map_or (λ m. with_member w i (act i m)) o (nothing w))
 at_place {home} w g i act es fs None b f k z e h = subst (λ (es : List Effect). IsMatchedBy home es (fs None) g (nothing w)) (sym z) (no_move (fs None) g (nothing w) f k b none)
 at_place {home} w g i act es fs (Some m) b f k z e h = let y = b.each i m e in h m y.0 e y.1 y.2
 
-at_line : {home : ℕ} (w : World Lying) (g : Group) (i : ℕ) (act : ℕ → world.Host Lying → Acted Lying) (es : Option (world.Host Lying) → List Effect) (fs : Option (world.Host Lying) → List Face) → AreBeside w g → IsFitGroup home g → IsStockedGroup g → es None ≡ []
+at_line : {home : ℕ} (w : World Lying) (g : Group) (i : ℕ) (act : ℕ → world.Host Lying → Acted Lying) (es : Option (world.Host Lying) → List Effect) (fs : Option (world.Host Lying) → List Lying) → AreBeside w g → IsFitGroup home g → IsStockedGroup g → es None ≡ []
     → ((m : world.Host Lying) (q : group.Member) → slice_get w.members i ≡ Some m → slice_get g.members i ≡ Some q → Stands m q → IsMatchedBy home (es (Some m)) (fs (Some m)) g (with_member w i (act i m))) → IsMatchedBy home (es (slice_get w.members i)) (fs (slice_get w.members i)) g (at_member w i act)
 unfolding at_member
 at_line w g i act es fs b f k z h = at_place w g i act es fs (slice_get w.members i) b f k z refl h

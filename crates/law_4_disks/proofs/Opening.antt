@@ -219,7 +219,7 @@ with_kept_held d m h i y =
     (λ g e. let one : h ≡ g = let both : Some h ≡ Some g = sym (get_or-set_same m.kept at (Some h) None less) ∙ e in cc in subst (λ (g : Header). HoldsEntry m.last.fields.cluster g (held_at d.held at)) one y) i
 
 on_kept : (d : Lying) (m : Member) (h : Header) → IsOn d m → HoldsEntry m.last.fields.cluster h (held_at d.held (slot_of h)) → IsOn d (with_kept h.op (Some h) m)
-on_kept d m h o y = record { calm = o.calm; held = with_kept_held d m h o.held y; value = o.value; version = o.version; under = o.under }
+on_kept d m h o y = record { calm = o.calm; held = with_kept_held d m h o.held y; value = o.value; file = o.file; version = o.version; under = o.under }
 
 on_found : (d : Lying) (m : Member) (p : Part) → IsOn d m → ((h : Header) → p ≡ part.Here h → HoldsEntry m.last.fields.cluster h (held_at d.held (slot_of h))) → IsOn d (keeps_found p m)
 on_found d m (part.Here h) o y = on_kept d m h o (y h refl)

@@ -122,7 +122,7 @@ passes_quiet P v d n q g m p s = record { found = p; stood = s; go = tt }
 slot_stays : (k : ℕ) (h : Header) (g : Lying) → slot_of h ≢ k % 64 → slot_at k lying (lying.after g (Rewrite h)) ≡ slot_at k lying g
 unfolding header_in whole_in
 slot_stays k h g d =
-    let a = apart_alike 1 (header_calls h) g.face (k % 64) (header_apart 1 h (k % 64) (omega arith) d) in
+    let a = apart_alike g.version (header_calls h) g.face (k % 64) (header_apart g.version h (k % 64) (omega arith) d) in
     rw (a.header, a.prepare) refl
 
 other_slot : (c k j : ℕ) → c < k → k < j → j ≤ c + 64 → k % 64 ≡ j % 64 → ⊥
@@ -161,10 +161,10 @@ here_holds : (k home : ℕ) (g : Lying) (m : Member) (e : Whole) (x : Slot) → 
 here_holds k home g m e x o is entry head at own few =
     let slot : slot_of e.header ≡ k % 64 = ap (λ (k : ℕ). k % 64) at in
     let less : k % 64 < 64 = omega arith in
-    let w = read_whole 1 g.face (k % 64) e o.calm.face less (ap (λ (x : Slot). x.entry) (sym is) ∙ entry) in
+    let w = read_whole g.version g.face (k % 64) e o.calm.face less (ap (λ (x : Slot). x.entry) (sym is) ∙ entry) in
     let h = read_header g.face (k % 64) e.header o.calm.face less (ap (λ (x : Slot). x.header) (sym is) ∙ head) in
-    let reads : entry_read 1 g.face (k % 64) ≡ Some (prepare_bytes e) =
-    subst (λ (s : ℕ). entry_read 1 g.face s ≡ Some (prepare_bytes e)) slot (reads_entry 1 g.face e w.whole (subst (λ (s : ℕ). header_reading g.face s ≡ Some (sector_of e.header)) (sym slot) h.reads) (subst (λ (s : ℕ). prepare_reading 1 g.face s ≡ Some (prepare_bytes e)) (sym slot) w.reads)) in
+    let reads : entry_read g.version g.face (k % 64) ≡ Some (prepare_bytes e) =
+    subst (λ (s : ℕ). entry_read g.version g.face s ≡ Some (prepare_bytes e)) slot (reads_entry g.version g.face e w.whole (subst (λ (s : ℕ). header_reading g.face s ≡ Some (sector_of e.header)) (sym slot) h.reads) (subst (λ (s : ℕ). prepare_reading g.version g.face s ≡ Some (prepare_bytes e)) (sym slot) w.reads)) in
     record { entry = e; whole = w.whole; header = refl; group = own; version = few; there = (o.calm.stand.each (k % 64) less).seen (prepare_bytes e) reads }
 
 -- the header sector is written
@@ -188,7 +188,7 @@ stood_written v d n g m e low high s at of may =
             subst (λ (s : ℕ). HoldsEntry v.fields.cluster g0 (held_at x.held s)) (slot ∙ ap (λ (k : ℕ). k % 64) (sym same)) (subst (λ (h0 : Header). HoldsEntry v.fields.cluster h0 (held_at x.held (slot_of h))) one y)
         | inr other ↦
             let apart : slot_of h ≢ k % 64 = λ c. other_slot v.fields.checkpoint k (n + 1) a (omega arith) (omega arith) (sym c ∙ slot) in
-            let same = others_after (header_calls h) g (slot_of h) s.on.calm (λ slot l c. header_apart 1 h slot l c) (k % 64) (omega arith) apart in
+            let same = others_after (header_calls h) g (slot_of h) s.on.calm (λ slot l c. header_apart g.version h slot l c) (k % 64) (omega arith) apart in
             subst (HoldsEntry v.fields.cluster g0) (sym same) (s.holds k g0 a (omega arith) z)
       ];
     }
@@ -199,10 +199,10 @@ unfolding quiet after_all carried_out
 went_quiet v d n q g m p s = record { found = p; stood = s; go = tt }
 
 went_rewrite : (v : SuperValue) (d : Lying) (n : ℕ) (q : Replica) (g : Lying) (m : Member) (e : Whole) → v.fields.checkpoint ≤ n → n < v.fields.checkpoint + 64 → Parted v d n q → Stood v d n g m → e.header.op ≡ n + 1
-    → Of v (n + 1) (slot_at (n + 1) lying d) ≡ part.Here e.header → whole_in 1 g.face (slot_of e.header) ≡ Some e → e.header.cluster ≡ v.fields.cluster → e.header.version ≤ 1 → Went (Parted v d n) v d (n + 1) (rewrite (Some e.header)) q g m
+    → Of v (n + 1) (slot_at (n + 1) lying d) ≡ part.Here e.header → whole_in g.version g.face (slot_of e.header) ≡ Some e → e.header.cluster ≡ v.fields.cluster → e.header.version ≤ 1 → Went (Parted v d n) v d (n + 1) (rewrite (Some e.header)) q g m
 unfolding does after_all carried_out
 went_rewrite v d n q g m e low high p s at of reads own few =
-    let is = (read_whole 1 g.face (slot_of e.header) e s.on.calm.face (slot_less e.header) reads).whole in
+    let is = (read_whole g.version g.face (slot_of e.header) e s.on.calm.face (slot_less e.header) reads).whole in
     let may : MayCome (Rewrite e.header) g v = record { fit = (e, reads, refl, own, few); calls = header_are e.header is.header } in
     record { found = p; stood = stood_written v d n g m e low high s at of may; go = (may, tt) }
 
@@ -224,7 +224,7 @@ went_mend v d n q g m x low high p s is =
           let at = (right_of v k e.header c.fits).0 in
           let slot : slot_of e.header ≡ k % 64 = ap (λ (k : ℕ). k % 64) at in
           let of = back ∙ (is_part verdict.Rewrite c.verdict ∙ here_is v k x e c.entry) in
-          let reads : whole_in 1 g.face (slot_of e.header) ≡ Some e = subst (λ (i : ℕ). whole_in 1 g.face i ≡ Some e) (sym slot) (ap (λ (x : Slot). x.entry) (sym is) ∙ c.entry) in
+          let reads : whole_in g.version g.face (slot_of e.header) ≡ Some e = subst (λ (i : ℕ). whole_in g.version g.face i ≡ Some e) (sym slot) (ap (λ (x : Slot). x.entry) (sym is) ∙ c.entry) in
           let head : entry_header x ≡ Some e.header = ap (option_map (λ (e : Whole). e.header)) c.entry in
           subst M (sym c.verdict) (subst (λ (o : Option Header). Went (Parted v d n) v d (n + 1) (rewrite o) q g m) (sym head) (went_rewrite v d n q g m e low high p s at of reads (group_of v k e.header c.fits) (stood_few v d n g m k e.header s c.fits)))
       | lost h c ↦ subst M (sym c.verdict) (still (λ h z. absurd (not_here _ part.Lost h (λ g. lost_here g h) (sym (is_part verdict.Lost c.verdict) ∙ z))))

@@ -5,7 +5,7 @@ use Rattle.std.proofs.lemmas.Bool.{cases_lt}
 use Rattle.vr_disk.specs.DiskState.{Call, Write, Sync, Face}
 use Rattle.vr_disk.specs.Regions.{block_place, prepare_place, prepare_sectors}
 use Rattle.vr_disk.specs.Sectors.{has, writes}
-use Rattle.vr_disk.proofs.Places.{behind_headers, in_order}
+use Rattle.vr_disk.proofs.Places.{behind_headers, grid_apart, in_order}
 use Rattle.vr_disk.proofs.Together.{Within, writes_within}
 use Rattle.vr_header.specs.declared.header.Header.{Header}
 use Rattle.vr_header.specs.Made.{Whole}
@@ -48,11 +48,37 @@ write_apart ver old new f slot = apart_append ver slot (mend_calls old f) (save_
 
 -- ---- the grid's
 
--- which the slots of a file of version 1 lie in front of
-pub from_apart : (slot : ℕ) (cs : List Call) → slot < 64 → AllByRecursion (From 400) cs → AllByRecursion (AllApart 1 slot) cs
-from_apart slot [] l a = tt
-from_apart slot (Sync ∷ cs) l a = (tt, from_apart slot cs l a.1)
-from_apart slot (Write i b ∷ cs) l a = let x = a.0 in (((λ e. omega arith), inr (omega arith)), from_apart slot cs l a.1)
+-- no slot shares a sector with a block
+within_grid : (ver slot address : ℕ) (cs : List Call) → slot < 64 → AllByRecursion (Within (block_place address) (block_place address + 8)) cs → AllByRecursion (AllApart ver slot) cs
+unfolding Within
+within_grid ver slot address [] l w = tt
+within_grid ver slot address (Sync ∷ cs) l w = (tt, within_grid ver slot address cs l w.1)
+within_grid ver slot address (Write i b ∷ cs) l w =
+    let p = w.0 in
+    let behind = grid_behind address in
+    let other : (i < prepare_place ver slot) ⊎ (prepare_place ver slot + prepare_sectors ver ≤ i) = elim (grid_apart ver slot address l) [ inl low ↦ inr (omega (arith, low, p)) | inr high ↦ inl (omega (arith, high, p)) ] in
+    (((λ e. omega (arith, behind, p, l)), other), within_grid ver slot address cs l w.1)
+
+block_apart : (ver slot address : ℕ) (b : List ℕ) → slot < 64 → AllByRecursion (AllApart ver slot) (block_calls address b)
+unfolding block_calls
+block_apart ver slot address b l =
+    let at = block_place address in
+    within_grid ver slot address (writes at 8 b) l (writes_within at (at + 8) 8 at b (omega arith) (omega arith))
+
+pub put_apart : (ver slot address : ℕ) (b : List ℕ) → slot < 64 → AllByRecursion (AllApart ver slot) (put_calls address b)
+unfolding put_calls
+put_apart ver slot address b l = apart_append ver slot (block_calls address b) (Sync ∷ []) (block_apart ver slot address b l) (tt, tt)
+
+blocks_apart : (ver slot : ℕ) (bs : List Block) → slot < 64 → AllByRecursion (AllApart ver slot) (blocks_calls bs)
+unfolding blocks_calls
+blocks_apart ver slot [] l = tt
+blocks_apart ver slot (b ∷ bs) l = apart_append ver slot (block_calls b.name.address b.bytes) (blocks_calls bs) (block_apart ver slot b.name.address b.bytes l) (blocks_apart ver slot bs l)
+
+pub checkpoint_apart : (ver slot cluster : ℕ) (texts : Texts) (op : ℕ) (old : PayloadTable) → slot < 64 → AllByRecursion (AllApart ver slot) (save_calls cluster texts op old)
+unfolding save_calls
+checkpoint_apart ver slot cluster texts op old l =
+    let bs = written cluster texts op old in
+    apart_append ver slot (blocks_calls bs) (Sync ∷ []) (blocks_apart ver slot bs l) (tt, tt)
 
 pub from_less : (low high : ℕ) (cs : List Call) → low ≤ high → AllByRecursion (From high) cs → AllByRecursion (From low) cs
 from_less low high [] l a = tt

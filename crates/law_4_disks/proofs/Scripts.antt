@@ -11,10 +11,10 @@ use Rattle.vr_lie.specs.Held.{Stands, held_after_all, held_cut}
 use Rattle.vr_lie.proofs.Cutting.{held_both}
 use Rattle.vr_lie.specs.Faults.{held_at}
 use Rattle.vr_world.specs.Steps.{Effect, Write, Rewrite, Save, Mend, Checkpoint, PutBlock, Say, after_all}
-use Rattle.vr_world.specs.Sectors.{calls, calls_of, script_calls}
+use Rattle.vr_world.specs.Sectors.{calls_by, script_calls}
 use Rattle.vr_world.specs.Lying.{Lying, after_calls, cut_calls, lying}
 use Rattle.vr_world.specs.Group.{Member, begins, carried_out, cut_after, ends}
-use Rattle.law_4_disks.specs.Beside.{HoldsEntry, IsCutAt, IsOff, MayGo, value_after}
+use Rattle.law_4_disks.specs.Beside.{HoldsEntry, IsCutAt, IsOff, MayGo, begun_before, value_after}
 use Rattle.law_4_disks.specs.Laws.{OpeningsCut, OpeningsStay, ScriptsCut, ScriptsStay}
 use Rattle.law_4_disks.proofs.Effects.{at_slot, mend_cut, mend_opens}
 use Rattle.law_4_disks.proofs.Playing.{stay, stopped}
@@ -39,20 +39,27 @@ openings_stay es d m v o g = scripts_stay es (lying.after d (Mend v)) (ends (Men
 
 -- ---- cuts
 
--- disks that hold the same in each slot
+-- disks of files of one version that hold the same in each slot
 pub record Same (d x : Lying) : Type 0 where
   pub face : x.face ≡ d.face
   pub held : (slot : ℕ) → slot < 64 → held_at x.held slot ≡ held_at d.held slot
+  pub version : x.version ≡ d.version
 
 pub same_off : (d x : Lying) (m : Member) (v : SuperValue) → Same d x → IsOff d m v → IsOff x m v
 same_off d x m v s o = record {
   calm = record {
     face = subst IsFace (sym s.face) o.calm.face;
     rests = ap (λ (f : Face). f.waiting) s.face ∙ o.calm.rests;
-    stand = record { each = λ slot l. subst (λ (f : Face). Stands 1 v.fields.mode f slot (held_at x.held slot)) (sym s.face) (subst (Stands 1 v.fields.mode d.face slot) (sym (s.held slot l)) (o.calm.stand.each slot l)) };
+    stand = record {
+      each = λ slot l.
+          let held = subst (Stands d.version v.fields.mode d.face slot) (sym (s.held slot l)) (o.calm.stand.each slot l) in
+          let face = subst (λ (f : Face). Stands d.version v.fields.mode f slot (held_at x.held slot)) (sym s.face) held in
+          subst (λ (n : ℕ). Stands n v.fields.mode x.face slot (held_at x.held slot)) (sym s.version) face;
+    };
   };
   held = record { count = o.held.count; each = λ slot h l e. subst (HoldsEntry m.last.fields.cluster h) (sym (s.held slot l)) (o.held.each slot h l e) };
   value = ap opens s.face ∙ o.value;
+  file = s.version ∙ o.file;
   version = o.version;
   may = o.may;
   group = o.group;
@@ -61,8 +68,9 @@ same_off d x m v s o = record {
 cut_first : (cs ds : List Call) (d : Lying) (j code : ℕ) → j < length cs → Same (cut_calls j code d cs) (cut_calls j code d (cs ++ ds))
 cut_first cs ds d j code l = record {
   face = (cuts_both cs ds d.face j code).first l;
-  held = λ slot b. at_slot (λ slot. held_cut 1 j code d.face (cs ++ ds) slot (held_at d.held slot)) slot b
-      ∙ ((held_both 1 cs ds d.face slot (held_at d.held slot) j code).0 l ∙ sym (at_slot (λ slot. held_cut 1 j code d.face cs slot (held_at d.held slot)) slot b));
+  held = λ slot b. at_slot (λ slot. held_cut d.version j code d.face (cs ++ ds) slot (held_at d.held slot)) slot b
+      ∙ ((held_both d.version cs ds d.face slot (held_at d.held slot) j code).0 l ∙ sym (at_slot (λ slot. held_cut d.version j code d.face cs slot (held_at d.held slot)) slot b));
+  version = refl;
 }
 
 cut_later : (cs ds : List Call) (d : Lying) (j code : ℕ) → length cs ≤ j → Same (cut_calls (j - length cs) code (after_calls d cs) ds) (cut_calls j code d (cs ++ ds))
@@ -72,32 +80,33 @@ cut_later cs ds d j code l =
     let x : Lying = after_calls d cs in
     record {
       face = (cuts_both cs ds d.face j code).later l;
-      held = λ slot b. at_slot (λ slot. held_cut 1 j code d.face (cs ++ ds) slot (held_at d.held slot)) slot b
-          ∙ ((held_both 1 cs ds d.face slot (held_at d.held slot) j code).1 l
-          ∙ (ap (held_cut 1 k code g ds slot) (sym (at_slot (λ slot. held_after_all 1 d.face cs slot (held_at d.held slot)) slot b)) ∙ sym (at_slot (λ slot. held_cut 1 k code g ds slot (held_at x.held slot)) slot b)));
+      held = λ slot b. at_slot (λ slot. held_cut d.version j code d.face (cs ++ ds) slot (held_at d.held slot)) slot b
+          ∙ ((held_both d.version cs ds d.face slot (held_at d.held slot) j code).1 l
+          ∙ (ap (held_cut d.version k code g ds slot) (sym (at_slot (λ slot. held_after_all d.version d.face cs slot (held_at d.held slot)) slot b)) ∙ sym (at_slot (λ slot. held_cut d.version k code g ds slot (held_at x.held slot)) slot b)));
+      version = refl;
     }
 
 same_cut : (es : List Effect) (f : Face) (j : ℕ) (d x : Lying) (m : Member) → Same d x → IsCutAt es f j d m → IsCutAt es f j x m
-same_cut es f j d x m s c = record { effects = c.effects; within = c.within; begun = c.begun; value = c.value; off = same_off d x (cut_after c.effects es m) c.value s c.off }
+same_cut es f j d x m s c = record { effects = c.effects; within = c.within; begun = ap (λ (n : ℕ). begun_before n es f j) s.version ∙ c.begun; value = c.value; off = same_off d x (cut_after c.effects es m) c.value s c.off }
 
-cut_here : (e : Effect) (es : List Effect) (f : Face) (j : ℕ) (d : Lying) (m : Member) (v : SuperValue) → j < length (calls_of e f) → IsOff d (begins e m) v → IsCutAt (e ∷ es) f j d m
+cut_here : (e : Effect) (es : List Effect) (f : Face) (j : ℕ) (d : Lying) (m : Member) (v : SuperValue) → j < length (calls_by d.version e f) → IsOff d (begins e m) v → IsCutAt (e ∷ es) f j d m
 unfolding carried_out
-cut_here e es f j d m v l o = record { effects = 0; within = omega arith; begun = rw (lt-ltb j (length (calls_of e f)) l) refl; value = v; off = o }
+cut_here e es f j d m v l o = record { effects = 0; within = omega arith; begun = rw (lt-ltb j (length (calls_by d.version e f)) l) refl; value = v; off = o }
 
-cut_further : (e : Effect) (es : List Effect) (f : Face) (j : ℕ) (d : Lying) (m : Member) → length (calls_of e f) ≤ j → IsCutAt es (disk.after_all f (calls_of e f)) (j - length (calls_of e f)) d (ends e (begins e m)) → IsCutAt (e ∷ es) f j d m
+cut_further : (e : Effect) (es : List Effect) (f : Face) (j : ℕ) (d : Lying) (m : Member) → length (calls_by d.version e f) ≤ j → IsCutAt es (disk.after_all f (calls_by d.version e f)) (j - length (calls_by d.version e f)) d (ends e (begins e m)) → IsCutAt (e ∷ es) f j d m
 unfolding carried_out
 cut_further e es f j d m b c =
     let l = c.within in
     let place : suc (c.effects + 1) ≡ suc c.effects + 1 = omega arith in
-    record { effects = suc c.effects; within = omega arith; begun = rw (le-ltb j (length (calls_of e f)) b) (ap (λ (es : List Effect). e ∷ es) c.begun ∙ ap (λ (n : ℕ). take n (e ∷ es)) place); value = c.value; off = c.off }
+    record { effects = suc c.effects; within = omega arith; begun = rw (le-ltb j (length (calls_by d.version e f)) b) (ap (λ (es : List Effect). e ∷ es) c.begun ∙ ap (λ (n : ℕ). take n (e ∷ es)) place); value = c.value; off = c.off }
 
 pub scripts_cut : ScriptsCut
 unfolding script_calls
 scripts_cut [] d m j code o g l t = absurd (omega arith)
 scripts_cut (e ∷ es) d m j code o g l t =
-    let cs = calls_of e d.face in
+    let cs = calls_by d.version e d.face in
     let x : Lying = lying.after d e in
-    let ds = calls es x.face in
+    let ds = script_calls d.version es x.face in
     elim (cases_lt j (length cs)) [
       | inl a ↦
           let s = stopped e d m j code o g.0 a (t.0 a) in
@@ -112,9 +121,9 @@ scripts_cut (e ∷ es) d m j code o g l t =
 pub openings_cut : OpeningsCut
 unfolding script_calls
 openings_cut es d m v j code o g l t =
-    let cs = calls_of (Mend v) d.face in
+    let cs = calls_by d.version (Mend v) d.face in
     let x : Lying = lying.after d (Mend v) in
-    let ds = calls es x.face in
+    let ds = script_calls d.version es x.face in
     elim (cases_lt j (length cs)) [
       | inl a ↦
           same_cut (Mend v ∷ es) d.face j (cut_calls j code d cs) (cut_calls j code d (cs ++ ds)) m (cut_first cs ds d j code a) (cut_here (Mend v) es d.face j (cut_calls j code d cs) m v a (mend_cut v d m j code o g.0 a (t.0 a)))

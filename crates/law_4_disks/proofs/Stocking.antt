@@ -130,7 +130,7 @@ some_entry h (Some x) e q =
     elim (same_header x.header h) as (λ t. cond t (Some x) None ≡ Some e → Some x ≡ Some e) [ true ↦ λ q. q | false ↦ λ q. absurd cc ] q
 
 entry_whole : (h : Header) (d : Lying) (e : Whole) → IsFace d.face → entry_of h lying d ≡ Some e → IsWhole e
-entry_whole h d e f q = (read_whole 1 d.face (h.op % 64) e f (omega arith) (some_entry h (whole_in 1 d.face (h.op % 64)) e q)).whole
+entry_whole h d e f q = (read_whole d.version d.face (h.op % 64) e f (omega arith) (some_entry h (whole_in d.version d.face (h.op % 64)) e q)).whole
 
 state_stocked : (root : Name) (table : PayloadTable) (texts : Texts) (o : Option State) (q : Replica) → LoadsWell texts table → ((s : State) → o ≡ Some s → state_decoded texts ≡ Ok s) → IsStocked q → IsStocked (loaded_state root table o q)
 unfolding with_state

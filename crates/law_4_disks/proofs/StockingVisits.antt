@@ -77,7 +77,7 @@ module _ {P Q : List ℕ → Type 0} {home : ℕ} where
 
   -- ---- a visit
 
-  header_leaves : (e : Whole) (o : Option Header) (r : Replica) (d : Lying) → At r d → whole_in 1 d.face (slot_of e.header) ≡ Some e → e.header.cluster ≡ home → e.header.version ≤ 1 → Leaves P Q home (mend_header e.header o) r d
+  header_leaves : (e : Whole) (o : Option Header) (r : Replica) (d : Lying) → At r d → whole_in d.version d.face (slot_of e.header) ≡ Some e → e.header.cluster ≡ home → e.header.version ≤ 1 → Leaves P Q home (mend_header e.header o) r d
   unfolding does quiet
   header_leaves e None r d a there own few = record { blocks = (tt, tt); rewrites = ((e, there, refl, own, few), tt); stock = a.stock }
   header_leaves e (Some x) r d a there own few =
@@ -90,8 +90,8 @@ module _ {P Q : List ℕ → Type 0} {home : ℕ} where
   unfolding reading change with_part
   read_leaves op h None r d q a own few = record { blocks = tt; rewrites = tt; stock = moved (lost h r) r (record { saved = refl; state = refl; table = refl }) a.stock }
   read_leaves op h (Some e) r d q a own few =
-      let p = read_here h (whole_in 1 d.face (h.op % 64)) e q in
-      let x = header_leaves e (header_read op lying d) r d a (subst (λ (g : Header). whole_in 1 d.face (slot_of g) ≡ Some e) (sym p.1) p.0) (ap (λ (g : Header). g.cluster) p.1 ∙ own) (subst (λ (g : Header). g.version ≤ 1) (sym p.1) few) in
+      let p = read_here h (whole_in d.version d.face (h.op % 64)) e q in
+      let x = header_leaves e (header_read op lying d) r d a (subst (λ (g : Header). whole_in d.version d.face (slot_of g) ≡ Some e) (sym p.1) p.0) (ap (λ (g : Header). g.cluster) p.1 ∙ own) (subst (λ (g : Header). g.version ≤ 1) (sym p.1) few) in
       record { blocks = x.blocks; rewrites = x.rewrites; stock = x.stock }
 
   part_leaves : (op : ℕ) (p : Part) (r : Replica) (d : Lying) → part_at r op ≡ p → At r d → IsSound r → r.cluster ≡ home → version r ≡ 1 → Leaves P Q home (with_entry (visited op) p) r d

@@ -21,7 +21,7 @@ use Rattle.vr_lie.specs.declared.fault.Fault.{Fault}
 use Rattle.vr_lie.specs.Faults.{faulted, held_at}
 use Rattle.vr_world.specs.Steps as effect
 use Rattle.vr_world.specs.Steps.{Effect, Rewrite, Save, Mend, Checkpoint, PutBlock, Say}
-use Rattle.vr_world.specs.Sectors.{calls_of}
+use Rattle.vr_world.specs.Sectors.{calls_by}
 use Rattle.vr_world.specs.Lying.{Lying, lying}
 use Rattle.vr_lie.specs.Held.{header_sector}
 use Rattle.vr_lie.specs.Slots.{IsWhole, header_of, prepare_bytes, prepare_reading, sector_of, slot_of, whole_in, whole_of}
@@ -41,9 +41,9 @@ some_header a b e = cc
 some_list : (a b : List ℕ) → Some a ≡ Some b → a ≡ b
 some_list a b e = cc
 
-in_by : (g : Face) (slot : ℕ) (r : List ℕ) (e : Whole) → prepare_reading 1 g slot ≡ Some r → whole_of r ≡ Some e → whole_in 1 g slot ≡ Some e
+in_by : (v : ℕ) (g : Face) (slot : ℕ) (r : List ℕ) (e : Whole) → prepare_reading v g slot ≡ Some r → whole_of r ≡ Some e → whole_in v g slot ≡ Some e
 unfolding whole_in
-in_by g slot r e reads w = ap (option_and_then whole_of) reads ∙ w
+in_by v g slot r e reads w = ap (option_and_then whole_of) reads ∙ w
 
 -- header and operation's bytes give the prepare
 same_prepare : (a b : Whole) → a.header ≡ b.header → operation_bytes a.operation ≡ operation_bytes b.operation → prepare_bytes a ≡ prepare_bytes b
@@ -53,11 +53,11 @@ same_prepare a b h o =
     ap (λ (x : List ℕ). x ++ replicate (4096 - length x) 0) bytes
 
 pub names_tell : NamesTell
-names_tell g slot e f l w never other reads whole same =
+names_tell v g slot e f l w never other reads whole same =
     let x = some_of (whole_of other) whole in
     let d = x.0 in
-    let inside : whole_in 1 g slot ≡ Some d = in_by g slot other d reads x.1 in
-    let y = read_whole 1 g slot d f l inside in
+    let inside : whole_in v g slot ≡ Some d = in_by v g slot other d reads x.1 in
+    let y = read_whole v g slot d f l inside in
     let is : other ≡ prepare_bytes d = some_list other (prepare_bytes d) (sym reads ∙ y.reads) in
     let sectors : sector_of d.header ≡ sector_of e.header = sym (header_sector_is d y.whole.header) ∙ (ap header_sector (sym is) ∙ (same ∙ header_sector_is e w.header)) in
     let head : d.header ≡ e.header = some_header d.header e.header (sym (header_again d.header y.whole.header) ∙ (ap header_of sectors ∙ header_again e.header w.header)) in
@@ -94,9 +94,9 @@ front_are zero cs a = tt
 front_are (suc n) [] a = tt
 front_are (suc n) (c ∷ cs) a = (a.0, front_are n cs a.1)
 
-met_face : (e : Effect) (d : Lying) (j code : ℕ) (g : Face) → IsFace d.face → AllByRecursion IsCall (calls_of e d.face) → IsMet e d j code g → IsFace g
-met_face e d j code _ f a (IsMet.after k l) = face_after_all (take (suc k) (calls_of e d.face)) d.face f (front_are (suc k) (calls_of e d.face) a)
-met_face e d j code _ f a IsMet.left = face_cut (calls_of e d.face) d.face j code f a
+met_face : (e : Effect) (d : Lying) (j code : ℕ) (g : Face) → IsFace d.face → AllByRecursion IsCall (calls_by d.version e d.face) → IsMet e d j code g → IsFace g
+met_face e d j code _ f a (IsMet.after k l) = face_after_all (take (suc k) (calls_by d.version e d.face)) d.face f (front_are (suc k) (calls_by d.version e d.face) a)
+met_face e d j code _ f a IsMet.left = face_cut (calls_by d.version e d.face) d.face j code f a
 
 tells_entry : (e : Effect) (d : Lying) (v : SuperValue) (j code : ℕ) → MayCome e d v → NoCollision (IsHashedBy e d j code) → TellsEntry e d
 tells_entry (effect.Write again e) d v j code c never = λ w i held same.
@@ -114,14 +114,14 @@ tells_entry (Checkpoint cluster texts op old) d v j code c never = tt
 tells_entry (PutBlock name block) d v j code c never = tt
 tells_entry (Say output) d v j code c never = tt
 
-module _ (e : Effect) (d : Lying) (j code : ℕ) (f : IsFace d.face) (a : AllByRecursion IsCall (calls_of e d.face)) (never : NoCollision (IsHashedBy e d j code)) where
-  met_tells : (g : Face) → IsMet e d j code g → (slot : ℕ) (x : Whole) → slot < 64 → IsWhole x → held_at d.held slot ≡ Some (prepare_bytes x) → TellsPrepare 1 g slot (prepare_bytes x)
+module _ (e : Effect) (d : Lying) (j code : ℕ) (f : IsFace d.face) (a : AllByRecursion IsCall (calls_by d.version e d.face)) (never : NoCollision (IsHashedBy e d j code)) where
+  met_tells : (g : Face) → IsMet e d j code g → (slot : ℕ) (x : Whole) → slot < 64 → IsWhole x → held_at d.held slot ≡ Some (prepare_bytes x) → TellsPrepare d.version g slot (prepare_bytes x)
   met_tells g m slot x l w held =
-      let in_play : (b : List ℕ) → IsNear g x b → IsHashedBy e d j code b = λ b. elim [
+      let in_play : (b : List ℕ) → IsNear d.version g x b → IsHashedBy e d j code b = λ b. elim [
         | inl y ↦ IsHashedBy.reads g m y
         | inr y ↦ IsHashedBy.held (slot, x, l, w, held, y)
       ] in
-      names_tell g slot x (met_face e d j code g f a m) l w (fewer (IsHashedBy e d j code) (IsNear g x) in_play never)
+      names_tell d.version g slot x (met_face e d j code g f a m) l w (fewer (IsHashedBy e d j code) (IsNear d.version g x) in_play never)
 
   met_apart : (g : Face) → IsMet e d j code g → (v : SuperValue) → IsInPlay e v → TellsApart g v
   met_apart g m v i =
@@ -134,10 +134,10 @@ module _ (e : Effect) (d : Lying) (j code : ℕ) (f : IsFace d.face) (a : AllByR
 
 tells_one : (e : Effect) (d : Lying) (v : SuperValue) (j code : ℕ) → IsFace d.face → MayCome e d v → NoCollision (IsHashedBy e d j code) → Tells e d j code
 tells_one e d v j code f c never = record {
-  front = λ slot x l w held k b. met_tells e d j code f c.calls never (after_all d.face (take (suc k) (calls_of e d.face))) (IsMet.after k b) slot x l w held;
-  cut = λ slot x l w held. met_tells e d j code f c.calls never (cut j code d.face (calls_of e d.face)) IsMet.left slot x l w held;
+  front = λ slot x l w held k b. met_tells e d j code f c.calls never (after_all d.face (take (suc k) (calls_by d.version e d.face))) (IsMet.after k b) slot x l w held;
+  cut = λ slot x l w held. met_tells e d j code f c.calls never (cut j code d.face (calls_by d.version e d.face)) IsMet.left slot x l w held;
   entry = tells_entry e d v j code c never;
-  value = λ x i. met_apart e d j code f c.calls never (cut j code d.face (calls_of e d.face)) IsMet.left x i;
+  value = λ x i. met_apart e d j code f c.calls never (cut j code d.face (calls_by d.version e d.face)) IsMet.left x i;
 }
 
 -- where names don't collide, nothing that a cut of a script meets is taken for another thing
@@ -145,20 +145,20 @@ pub tells_in : (es : List Effect) (d : Lying) (v : SuperValue) (j code : ℕ) �
 tells_in [] d v j code f go never = tt
 tells_in (e ∷ es) d v j code f go never =
     let P : List ℕ → Type 0 = IsHashedIn (e ∷ es) d j code in
-    let n = length (calls_of e d.face) in
+    let n = length (calls_by d.version e d.face) in
     let x : Lying = lying.after d e in
-    let face : IsFace x.face = face_after_all (calls_of e d.face) d.face f go.0.calls in (
+    let face : IsFace x.face = face_after_all (calls_by d.version e d.face) d.face f go.0.calls in (
       λ l. tells_one e d v j code f go.0 (fewer P (IsHashedBy e d j code) (λ b y. inl (l, y)) never),
       λ l. tells_in es x (value_after e v) (j - n) code face go.1 (fewer P (IsHashedIn es x (j - n) code) (λ b y. inr (l, y)) never),
     )
 
 -- and so after a fault
 pub fault_tells : (d : Lying) (fault : Fault) → IsFace (faulted d.face fault) → NoCollision (IsHashedAfter d fault)
-    → (slot : ℕ) (x : Whole) → slot < 64 → IsWhole x → held_at d.held slot ≡ Some (prepare_bytes x) → TellsPrepare 1 (faulted d.face fault) slot (prepare_bytes x)
+    → (slot : ℕ) (x : Whole) → slot < 64 → IsWhole x → held_at d.held slot ≡ Some (prepare_bytes x) → TellsPrepare d.version (faulted d.face fault) slot (prepare_bytes x)
 fault_tells d fault f never slot x l w held =
     let g = faulted d.face fault in
-    let in_play : (b : List ℕ) → IsNear g x b → IsHashedAfter d fault b = λ b. elim [
+    let in_play : (b : List ℕ) → IsNear d.version g x b → IsHashedAfter d fault b = λ b. elim [
       | inl y ↦ inl y
       | inr y ↦ inr (slot, x, l, w, held, y)
     ] in
-    names_tell g slot x f l w (fewer (IsHashedAfter d fault) (IsNear g x) in_play never)
+    names_tell d.version g slot x f l w (fewer (IsHashedAfter d fault) (IsNear d.version g x) in_play never)

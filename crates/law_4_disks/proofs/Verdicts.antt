@@ -148,24 +148,24 @@ mute : (mode : Mode) (e : Whole) (fits : Whole → Bool) (r : Option (List ℕ))
 mute Strict e fits r w t m = read_own e fits r w t m
 mute Careful e fits r w t m = read_mute e fits r w t m
 
-undenied_by : (v : SuperValue) (k : ℕ) (f : Face) (e : Whole) (o : Option Header) → IsFace f → IsWhole e → Stands 1 v.fields.mode f (k % 64) (Some (prepare_bytes e)) → may_be v k e.header ≡ true → header_in f (k % 64) ≡ o
-    → let x : Slot = record { header = o; entry = whole_in 1 f (k % 64); blank = is_blank 1 f (k % 64) } in IsUndenied (Of v k x)
+undenied_by : (ver : ℕ) (v : SuperValue) (k : ℕ) (f : Face) (e : Whole) (o : Option Header) → IsFace f → IsWhole e → Stands ver v.fields.mode f (k % 64) (Some (prepare_bytes e)) → may_be v k e.header ≡ true → header_in f (k % 64) ≡ o
+    → let x : Slot = record { header = o; entry = whole_in ver f (k % 64); blank = is_blank ver f (k % 64) } in IsUndenied (Of v k x)
 unfolding whole_in
-undenied_by v k f e None h w s t r =
-    let x : Slot = record { header = None; entry = whole_in 1 f (k % 64); blank = is_blank 1 f (k % 64) } in undenied_bad v.fields.mode v k x (entry_kind v k x) (is_listed v k)
-undenied_by v k f e (Some g) h w s t r =
+undenied_by ver v k f e None h w s t r =
+    let x : Slot = record { header = None; entry = whole_in ver f (k % 64); blank = is_blank ver f (k % 64) } in undenied_bad v.fields.mode v k x (entry_kind v k x) (is_listed v k)
+undenied_by ver v k f e (Some g) h w s t r =
     let mode = v.fields.mode in
-    let x : Slot = record { header = Some g; entry = whole_in 1 f (k % 64); blank = is_blank 1 f (k % 64) } in
+    let x : Slot = record { header = Some g; entry = whole_in ver f (k % 64); blank = is_blank ver f (k % 64) } in
     elim (may_be v k g) as (λ b. may_be v k g ≡ b → IsUndenied (part_by v k x (verdict_of mode (cond b header.Fits header.Other) (entry_kind v k x) (is_listed v k)))) [
       | true ↦ λ m. undenied_fits mode v k x (entry_kind v k x) (is_listed v k)
       | false ↦ λ m.
           let apart : g ≢ e.header = λ same. (let bad : false ≡ true = sym m ∙ (ap (may_be v k) same ∙ t) in cc) in
           let fit : entry_fits v k x e ≡ true = and_from (may_be v k e.header) _ t (rw m refl) in
-          undenied_other mode v k x (entry_kind v k x) (is_listed v k) (mute mode e (entry_fits v k x) (prepare_reading 1 f (k % 64)) w fit (other_may 1 mode f (k % 64) e g h (omega arith) w s r apart))
+          undenied_other mode v k x (entry_kind v k x) (is_listed v k) (mute mode e (entry_fits v k x) (prepare_reading ver f (k % 64)) w fit (other_may ver mode f (k % 64) e g h (omega arith) w s r apart))
     ] refl
 
 -- what the slot holds, where it counts beside the value, isn't denied
-pub undenied : (v : SuperValue) (k : ℕ) (d : Lying) (h : Header) → Value v → v.fields.version ≡ 1 → IsFace d.face → Stands 1 v.fields.mode d.face (k % 64) (held_at d.held (k % 64)) → HoldsEntry v.fields.cluster h (held_at d.held (k % 64)) → Counts v k h
+pub undenied : (v : SuperValue) (k : ℕ) (d : Lying) (h : Header) → Value v → v.fields.version ≡ 1 → IsFace d.face → Stands d.version v.fields.mode d.face (k % 64) (held_at d.held (k % 64)) → HoldsEntry v.fields.cluster h (held_at d.held (k % 64)) → Counts v k h
     → IsUndenied (Of v k (slot_at k lying d))
 undenied v k d h w one f s y c =
     let e = y.entry in
@@ -173,7 +173,7 @@ undenied v k d h w one f s y c =
     let few : e.header.version ≤ v.fields.version = subst (λ (h : Header). h.version ≤ v.fields.version) (sym y.header) (omega (arith, less, one)) in
     let back : h ≡ e.header = sym y.header in
     let own = ap (λ (h : Header). h.cluster) y.header ∙ y.group in
-    undenied_by v k d.face e (header_in d.face (k % 64)) f y.whole (subst (Stands 1 v.fields.mode d.face (k % 64)) y.there s) (fits v k e w y.whole few own (subst (Counts v k) back c)) refl
+    undenied_by d.version v k d.face e (header_in d.face (k % 64)) f y.whole (subst (Stands d.version v.fields.mode d.face (k % 64)) y.there s) (fits v k e w y.whole few own (subst (Counts v k) back c)) refl
 
 pub undenied_clouded : (b : Bool) (p : Part) → IsUndenied p → IsUndenied (clouded_part b p)
 undenied_clouded b (part.Here h) u = u

@@ -11,7 +11,7 @@ use Rattle.vr_world.specs.Replica.{Replica}
 use Rattle.vr_world.specs.Steps.{Setting}
 use Rattle.vr_world.specs.Rules.{react}
 use Rattle.vr_world.specs.Opening.{resuming}
-use Rattle.vr_world.specs.Sectors.{calls_of}
+use Rattle.vr_world.specs.Sectors.{calls_by}
 use Rattle.vr_world.specs.Lying.{Lying, lying}
 use Rattle.vr_lie.specs.Copies.{SuperValue}
 use Rattle.vr_world.specs.Steps.{Effect, Write, Rewrite, Save, Mend, Checkpoint, PutBlock, Say}
@@ -36,7 +36,7 @@ OpeningsChain F = (s : Setting F) (f : F) (r : Replica) → Chain r.saved (resum
 
 -- on this disk the header of an entry of the group, of version 1, is written where that entry is read
 abbrev pub IsRewritten : ℕ → Effect → Lying → Type 0
-IsRewritten cluster (Rewrite h) d = (e : Whole) × (whole_in 1 d.face (slot_of h) ≡ Some e) × (e.header ≡ h) × (e.header.cluster ≡ cluster) × (e.header.version ≤ 1)
+IsRewritten cluster (Rewrite h) d = (e : Whole) × (whole_in d.version d.face (slot_of h) ≡ Some e) × (e.header ≡ h) × (e.header.cluster ≡ cluster) × (e.header.version ≤ 1)
 IsRewritten cluster _ d = ⊤
 
 -- each that a script writes, on the disk that the effects before it have left
@@ -54,4 +54,4 @@ IsFormed cluster _ d = ⊤
 -- each effect of a script has its form, and its sectors have their size
 abbrev pub GoesWell : ℕ → List Effect → Lying → Type 0
 GoesWell cluster [] d = ⊤
-GoesWell cluster (e ∷ es) d = IsFormed cluster e d × AllByRecursion IsCall (calls_of e d.face) × GoesWell cluster es (lying.after d e)
+GoesWell cluster (e ∷ es) d = IsFormed cluster e d × AllByRecursion IsCall (calls_by d.version e d.face) × GoesWell cluster es (lying.after d e)

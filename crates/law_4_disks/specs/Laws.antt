@@ -4,7 +4,7 @@ use Rattle.vr_base.specs.declared.kind.Kind.{Kind}
 use Rattle.vr_header.specs.declared.header.Header.{Header}
 use Rattle.vr_lie.specs.Copies.{SuperValue}
 use Rattle.vr_world.specs.Steps.{Effect, Mend, after_all}
-use Rattle.vr_world.specs.Sectors.{calls, calls_of}
+use Rattle.vr_world.specs.Sectors.{calls_by, script_calls}
 use Rattle.vr_world.specs.Lying.{Lying, cut_calls, hazards, lying}
 use Rattle.vr_world.specs.Group.{Group, Member, fresh_group, begins, carried_out, ends}
 use Rattle.vr_world.specs.World.{World, Happening, fresh_world, happens}
@@ -20,8 +20,8 @@ EffectsStay = (e : Effect) (d : Lying) (m : Member) → IsOn d m → MayCome e d
 -- one that is cut at one of its calls
 abbrev pub EffectsCut : Type 0
 EffectsCut =
-    (e : Effect) (d : Lying) (m : Member) (j code : ℕ) → IsOn d m → MayCome e d m.last → j < length (calls_of e d.face) → Tells e d j code
-    → (v : SuperValue) × IsOff (cut_calls j code d (calls_of e d.face)) (begins e m) v
+    (e : Effect) (d : Lying) (m : Member) (j code : ℕ) → IsOn d m → MayCome e d m.last → j < length (calls_by d.version e d.face) → Tells e d j code
+    → (v : SuperValue) × IsOff (cut_calls j code d (calls_by d.version e d.face)) (begins e m) v
 
 -- ---- scripts of steps, from a running member
 
@@ -30,7 +30,7 @@ ScriptsStay = (es : List Effect) (d : Lying) (m : Member) → IsOn d m → MayGo
 
 abbrev pub ScriptsCut : Type 0
 ScriptsCut =
-    (es : List Effect) (d : Lying) (m : Member) (j code : ℕ) → IsOn d m → MayGo es d m.last → j < length (calls es d.face) → TellsIn es d j code → IsCutAt es d.face j (cut_calls j code d (calls es d.face)) m
+    (es : List Effect) (d : Lying) (m : Member) (j code : ℕ) → IsOn d m → MayGo es d m.last → j < length (script_calls d.version es d.face) → TellsIn es d j code → IsCutAt es d.face j (cut_calls j code d (script_calls d.version es d.face)) m
 
 -- ---- scripts that begin with a mending, from a stopped member
 
@@ -40,8 +40,8 @@ OpeningsStay =
 
 abbrev pub OpeningsCut : Type 0
 OpeningsCut =
-    (es : List Effect) (d : Lying) (m : Member) (v : SuperValue) (j code : ℕ) → IsOff d m v → MayGo (Mend v ∷ es) d v → j < length (calls (Mend v ∷ es) d.face) → TellsIn (Mend v ∷ es) d j code
-    → IsCutAt (Mend v ∷ es) d.face j (cut_calls j code d (calls (Mend v ∷ es) d.face)) m
+    (es : List Effect) (d : Lying) (m : Member) (v : SuperValue) (j code : ℕ) → IsOff d m v → MayGo (Mend v ∷ es) d v → j < length (script_calls d.version (Mend v ∷ es) d.face) → TellsIn (Mend v ∷ es) d j code
+    → IsCutAt (Mend v ∷ es) d.face j (cut_calls j code d (script_calls d.version (Mend v ∷ es) d.face)) m
 
 -- ---- what an opening finds, from a stopped member
 

@@ -13,13 +13,13 @@ use Rattle.vr_lie.specs.Slots.{IsWhole, prepare_bytes, whole_in}
 use Rattle.vr_lie.specs.declared.fault.Fault.{Fault}
 use Rattle.vr_lie.specs.Faults.{faulted, held_at}
 use Rattle.vr_world.specs.Steps.{Effect, Write}
-use Rattle.vr_world.specs.Sectors.{calls_of}
+use Rattle.vr_world.specs.Sectors.{calls_by}
 use Rattle.vr_world.specs.Lying.{Lying, lying}
 use Rattle.law_4_disks.specs.Beside.{IsInPlay}
 
--- the bytes of the operation of an entry that reads on this face, of a file of version 1
-abbrev pub IsReadOperation : Face → List ℕ → Type 0
-IsReadOperation g bytes = (slot : ℕ) × (x : Whole) × (slot < 64) × (whole_in 1 g slot ≡ Some x) × (bytes ≡ operation_bytes x.operation)
+-- the bytes of the operation of an entry that reads on this face, of a file of a version
+abbrev pub IsReadOperation : ℕ → Face → List ℕ → Type 0
+IsReadOperation v g bytes = (slot : ℕ) × (x : Whole) × (slot < 64) × (whole_in v g slot ≡ Some x) × (bytes ≡ operation_bytes x.operation)
 
 -- of an entry that a slot holds
 abbrev pub IsHeldOperation : Lying → List ℕ → Type 0
@@ -31,11 +31,11 @@ IsCopyText g text = (copy : ℕ) × (bytes : List ℕ) × (copy < 4) × (copy_re
 
 -- ---- what they tell
 
-abbrev pub IsNear : Face → Whole → List ℕ → Type 0
-IsNear g e bytes = IsReadOperation g bytes ⊎ (bytes ≡ operation_bytes e.operation)
+abbrev pub IsNear : ℕ → Face → Whole → List ℕ → Type 0
+IsNear v g e bytes = IsReadOperation v g bytes ⊎ (bytes ≡ operation_bytes e.operation)
 
 abbrev pub NamesTell : Type 0
-NamesTell = (g : Face) (slot : ℕ) (e : Whole) → IsFace g → slot < 64 → IsWhole e → NoCollision (IsNear g e) → TellsPrepare 1 g slot (prepare_bytes e)
+NamesTell = (v : ℕ) (g : Face) (slot : ℕ) (e : Whole) → IsFace g → slot < 64 → IsWhole e → NoCollision (IsNear v g e) → TellsPrepare v g slot (prepare_bytes e)
 
 -- two entries of one header are one
 abbrev pub EntriesTell : Type 0
@@ -49,12 +49,12 @@ ValuesTell = (g : Face) (v : SuperValue) → NoCollision (λ b. IsCopyText g b �
 -- the faces that an effect comes through where it is cut, by a code, at the call that comes after so many others: after each call
 -- up to that one, and as the cut leaves it
 pub data IsMet (e : Effect) (d : Lying) (j code : ℕ) : Face → Type 0 where
-  after : (k : ℕ) → k < suc j → IsMet e d j code (disk.after_all d.face (take (suc k) (calls_of e d.face)))
-  left : IsMet e d j code (disk.cut j code d.face (calls_of e d.face))
+  after : (k : ℕ) → k < suc j → IsMet e d j code (disk.after_all d.face (take (suc k) (calls_by d.version e d.face)))
+  left : IsMet e d j code (disk.cut j code d.face (calls_by d.version e d.face))
 
 -- what of these reads, what the slots held, and what the effect wrote
 pub data IsHashedBy (e : Effect) (d : Lying) (j code : ℕ) (bytes : List ℕ) : Type 0 where
-  reads : (g : Face) → IsMet e d j code g → IsReadOperation g bytes → IsHashedBy e d j code bytes
+  reads : (g : Face) → IsMet e d j code g → IsReadOperation d.version g bytes → IsHashedBy e d j code bytes
   copies : (g : Face) → IsMet e d j code g → IsCopyText g bytes → IsHashedBy e d j code bytes
   held : IsHeldOperation d bytes → IsHashedBy e d j code bytes
   writes : (again : Bool) (x : Whole) → e ≡ Write again x → bytes ≡ operation_bytes x.operation → IsHashedBy e d j code bytes
@@ -64,8 +64,8 @@ pub data IsHashedBy (e : Effect) (d : Lying) (j code : ℕ) (bytes : List ℕ) :
 abbrev pub IsHashedIn : List Effect → Lying → ℕ → ℕ → List ℕ → Type 0
 IsHashedIn [] d j code bytes = ⊥
 IsHashedIn (e ∷ es) d j code bytes =
-    ((j < length (calls_of e d.face)) × IsHashedBy e d j code bytes) ⊎ ((length (calls_of e d.face) ≤ j) × IsHashedIn es (lying.after d e) (j - length (calls_of e d.face)) code bytes)
+    ((j < length (calls_by d.version e d.face)) × IsHashedBy e d j code bytes) ⊎ ((length (calls_by d.version e d.face) ≤ j) × IsHashedIn es (lying.after d e) (j - length (calls_by d.version e d.face)) code bytes)
 
 -- and by a fault: what then reads, and what the slots held
 abbrev pub IsHashedAfter : Lying → Fault → List ℕ → Type 0
-IsHashedAfter d fault bytes = IsReadOperation (faulted d.face fault) bytes ⊎ IsHeldOperation d bytes
+IsHashedAfter d fault bytes = IsReadOperation d.version (faulted d.face fault) bytes ⊎ IsHeldOperation d bytes

@@ -3,7 +3,7 @@ use Rattle.std.specs.Prelude.{ℕ, ◌%◌, ◌^◌, ◌<◌, ◌≡◌, ◌⊎�
 use Rattle.std.specs.List.{range_with_len}
 use Rattle.std.specs.Option.{option_and_then, option_map}
 use Rattle.vr_base.specs.declared.kind.Kind.{Kind}
-use Rattle.vr_disk.specs.DiskState.{Face, Fuse, IsFace}
+use Rattle.vr_disk.specs.DiskState.{Fuse, IsFace}
 use Rattle.vr_header.specs.declared.header.Header.{Header}
 use Rattle.vr_header.specs.NoCollision.{NoCollision}
 use Rattle.vr_msg.specs.declared.event.Event.{Event}
@@ -23,7 +23,7 @@ use Rattle.vr_world.specs.World.{World, Host, Happening, Happened, Begins, Asks,
 use Rattle.vr_world.specs.Fit.{IsAsked}
 use Rattle.vr_world.specs.Group.{Crashes, Cuts, Group, Member, Move, Played, Recovers, RecoversCut, Run, Steps, made_in}
 use Rattle.vr_world.specs.GroupFit.{IsFitGroup, IsFitMove}
-use Rattle.vr_world.specs.Safe.{faces_of, run_outputs}
+use Rattle.vr_world.specs.Safe.{disks_of, run_outputs}
 use Rattle.law_4_disks.specs.Beside.{AreMade, IsOff, IsOn, begun_before}
 use Rattle.law_4_disks.specs.Naming.{IsHashedAfter, IsHashedIn}
 use Rattle.law_4_disks.specs.Stocks.{IsStockedGroup}
@@ -122,24 +122,24 @@ work_of w (Fuses i calls code) = None
 work_of w (Lies i fault) = None
 
 -- the effects of a script that are begun, where a fuse may cut it
-abbrev pub begun_by : Option Fuse → List Effect → Face → List Effect
-begun_by None es f = es
-begun_by (Some u) es f = begun_before es f u.calls
+abbrev pub begun_by : Option Fuse → List Effect → Lying → List Effect
+begun_by None es d = es
+begun_by (Some u) es d = begun_before d.version es d.face u.calls
 
 abbrev pub begun_of : Option Work → List Effect
 begun_of None = []
-begun_of (Some k) = begun_by k.host.fuse k.script k.host.disk.face
+begun_of (Some k) = begun_by k.host.fuse k.script k.host.disk
 
 -- those of a line
 abbrev pub begun_in : World Lying → Happening → List Effect
 begun_in w x = begun_of (work_of w x)
 
--- and what its disk reads as before them
-abbrev pub read_of : Option Work → List Face
+-- and the disk that is read, as it is before them
+abbrev pub read_of : Option Work → List Lying
 read_of None = []
-read_of (Some k) = k.host.disk.face ∷ []
+read_of (Some k) = k.host.disk ∷ []
 
-abbrev pub read_in : World Lying → Happening → List Face
+abbrev pub read_in : World Lying → Happening → List Lying
 read_in w x = read_of (work_of w x)
 
 -- ---- what is asked of a line
@@ -175,14 +175,14 @@ pub record MayHappen (w : World Lying) (made : List Header) (x : Happening) : Ty
 -- ---- what a line leaves
 
 -- No move, where nothing is begun; or one, in which these effects are begun. Its readings are these, or it reads nothing.
-pub data IsOneMove (es : List Effect) (fs : List Face) : List Played → Type 0 where
-  unmoved : es ≡ [] → IsOneMove es fs []
-  moved_once : (p : Played) → p.moved.script ≡ es → (faces_of p.move ≡ []) ⊎ (faces_of p.move ≡ fs) → IsOneMove es fs (p ∷ [])
+pub data IsOneMove (es : List Effect) (ds : List Lying) : List Played → Type 0 where
+  unmoved : es ≡ [] → IsOneMove es ds []
+  moved_once : (p : Played) → p.moved.script ≡ es → (disks_of p.move ≡ []) ⊎ (disks_of p.move ≡ ds) → IsOneMove es ds (p ∷ [])
 
 -- a run of at most one move, whose group is fit and stocked, in which these effects were begun, with these readings
-pub record IsMatchedBy (cluster : ℕ) (es : List Effect) (fs : List Face) (g : Group) (h : Happened Lying) : Type 0 where
+pub record IsMatchedBy (cluster : ℕ) (es : List Effect) (ds : List Lying) (g : Group) (h : Happened Lying) : Type 0 where
   pub matched : IsMatched g h
-  pub one : IsOneMove es fs matched.run
+  pub one : IsOneMove es ds matched.run
   pub fit : IsFitGroup cluster (left g matched.run)
   pub stock : IsStockedGroup (left g matched.run)
   pub made : (left g matched.run).made ≡ g.made ++ made_in es

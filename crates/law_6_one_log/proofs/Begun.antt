@@ -11,8 +11,9 @@ use Rattle.vr_header.specs.declared.header.Header.{Header}
 use Rattle.vr_lie.specs.Copies.{SuperValue}
 use Rattle.law_3_outputs.specs.Steps.{Effect, Rewrite, Save, Mend, Checkpoint, PutBlock, Say}
 use Rattle.law_3_outputs.specs.Steps as effect
-use Rattle.law_3_outputs.specs.Sectors.{calls_of}
+use Rattle.law_3_outputs.specs.Sectors.{calls_by}
 use Rattle.law_3_outputs.specs.Group.{made_in}
+use Rattle.law_3_outputs.specs.Lying.{Lying}
 use Rattle.law_1_machine.specs.Basics.{In}
 use Rattle.law_4_disks.specs.Beside.{begun_before}
 use Rattle.vr_ckpt.specs.Texts.{Texts}
@@ -38,19 +39,19 @@ use Rattle.law_6_one_log.proofs.UnforgedValues.{SavesNamed, get_left, in_left, i
 
 -- ---- what is begun comes first
 
-pub begun_first : (es : List Effect) (f : Face) (j : ℕ) → (rest : List Effect) × (es ≡ begun_before es f j ++ rest)
-begun_first [] f j = ([], refl)
-begun_first (e ∷ es) f j =
-    let cs = calls_of e f in
-    let x = begun_first es (disk.after_all f cs) (j - length cs) in
-    elim (nat_lt j (length cs)) as (λ t. (rest : List Effect) × (e ∷ es ≡ (e ∷ cond t [] (begun_before es (disk.after_all f cs) (j - length cs))) ++ rest)) [
+pub begun_first : (v : ℕ) (es : List Effect) (f : Face) (j : ℕ) → (rest : List Effect) × (es ≡ begun_before v es f j ++ rest)
+begun_first v [] f j = ([], refl)
+begun_first v (e ∷ es) f j =
+    let cs = calls_by v e f in
+    let x = begun_first v es (disk.after_all f cs) (j - length cs) in
+    elim (nat_lt j (length cs)) as (λ t. (rest : List Effect) × (e ∷ es ≡ (e ∷ cond t [] (begun_before v es (disk.after_all f cs) (j - length cs))) ++ rest)) [
       | true ↦ (es, refl)
       | false ↦ (x.0, ap (λ (ys : List Effect). e ∷ ys) x.1)
     ]
 
-pub begun_some : (fuse : Option Fuse) (es : List Effect) (f : Face) → (rest : List Effect) × (es ≡ begun_by fuse es f ++ rest)
-begun_some None es f = ([], sym (append-nil es))
-begun_some (Some u) es f = begun_first es f u.calls
+pub begun_some : (fuse : Option Fuse) (es : List Effect) (d : Lying) → (rest : List Effect) × (es ≡ begun_by fuse es d ++ rest)
+begun_some None es d = ([], sym (append-nil es))
+begun_some (Some u) es d = begun_first d.version es d.face u.calls
 
 pub all_left : {X : Type 0} (P : X → Type 0) (xs ys : List X) → AllByRecursion P (xs ++ ys) → AllByRecursion P xs
 all_left P [] ys a = tt

@@ -28,7 +28,7 @@ use Rattle.vr_ckpt.proofs.Contents.{named_found, read_of}
 use Rattle.vr_ckpt.proofs.Placing.{block_inside}
 use Rattle.law_3_outputs.specs.Opening.{first_value}
 use Rattle.law_3_outputs.specs.Formatting.{format_calls, reserved_header, reserved_headers, zero_prepares, zero_sector}
-use Rattle.law_3_outputs.specs.Lying.{zero_cell, zero_face}
+use Rattle.law_3_outputs.specs.Lying.{hazards, zero_cell, zero_face}
 use Rattle.law_3_outputs.specs.Safe as safe
 use Rattle.law_3_outputs.specs.Safe.{IsRead}
 use Rattle.law_3_outputs.proofs.FitDisks.{grid_behind, save_spares}
@@ -145,7 +145,7 @@ module _ (kind : Kind) (n i : ℕ) where
       let r = read_of x.0 c (named_found name x.0 c x.3).0 in
       no_header x.0 (zeros 7) r.header z r.read
 
-  pub reads_nothing : IsFace fresh_face → (bytes : List ℕ) → IsRead fresh_face bytes → ⊥
+  pub reads_nothing : IsFace fresh_face → (bytes : List ℕ) → IsRead (hazards.formatted kind 0 n i) bytes → ⊥
   reads_nothing face _ (safe.IsRead.header slot e w) = no_entry face slot e w
   reads_nothing face _ (safe.IsRead.operation slot e w) = no_entry face slot e w
   reads_nothing face _ (safe.IsRead.block name c w) = no_block name c w

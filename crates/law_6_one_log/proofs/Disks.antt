@@ -5,13 +5,13 @@ use Rattle.std.specs.List.{AllByRecursion}
 use Rattle.std.specs.Option.{option_and_then}
 use Rattle.std.proofs.lemmas.Bool.{cases_eq, cases_lt, ltb-true, lt-ltb}
 use Rattle.std.proofs.lemmas.List.{take_all}
-use Rattle.std.proofs.lemmas.Nat.{mod_below}
 use Rattle.vr_disk.specs.DiskState as disk
 use Rattle.vr_disk.specs.DiskState.{Call, Cell, Face, Sync}
 use Rattle.vr_disk.specs.Regions.{block_place}
 use Rattle.vr_disk.specs.Sectors.{together, writes}
 use Rattle.vr_disk.specs.Stops.{Spares}
 use Rattle.vr_disk.proofs.Frames.{frame_all}
+use Rattle.vr_disk.proofs.Places.{grid_apart}
 use Rattle.vr_disk.proofs.Together.{after_all_append, length_after_all, spares_append, together_same, together_synced, together_written, within_spares}
 use Rattle.vr_header.specs.declared.header.Header.{Header}
 use Rattle.vr_header.specs.Made.{Whole}
@@ -30,7 +30,8 @@ use Rattle.law_3_outputs.specs.Lying.{Lying, lying}
 use Rattle.law_3_outputs.specs.Safe as safe
 use Rattle.law_3_outputs.specs.Safe.{IsWritten}
 use Rattle.law_3_outputs.specs.Steps.{Effect, Write, Rewrite, Save, Mend, Checkpoint, PutBlock, Say}
-use Rattle.law_3_outputs.proofs.FitDisks.{grid_behind, header_spares, mend_spares, prepare_spares, save_spares}
+use Rattle.law_3_outputs.proofs.FitDisks.{grid_behind, header_spares, mend_spares, save_spares}
+use Rattle.law_3_outputs.proofs.FitVersions.{prepare_spares, slot_below}
 use Rattle.law_3_outputs.proofs.SlotCalls.{together_past}
 use Rattle.law_6_one_log.specs.Hashed.{IsHashedBlock, ReadsHashed}
 
@@ -38,23 +39,30 @@ use Rattle.law_6_one_log.specs.Hashed.{IsHashedBlock, ReadsHashed}
 abbrev pub Begun : (List ℕ → Type 0) → Effect → Type 0
 Begun H e = (bytes : List ℕ) → IsWritten e bytes → H bytes
 
--- calls that leave the sectors of the grid
-named_same : (cs : List Call) (f : Face) (name : Name) → ((i : ℕ) → 400 ≤ i → AllByRecursion (Spares i) cs) → named_at (disk.after_all f cs) name ≡ named_at f name
+-- a sector of a block
+record IsOf (address i : ℕ) : Type 0 where
+  low : block_place address ≤ i
+  high : i < block_place address + 8
+
+-- calls that leave the sectors of a block
+named_same : (cs : List Call) (f : Face) (name : Name) → ((i : ℕ) → IsOf name.address i → AllByRecursion (Spares i) cs) → named_at (disk.after_all f cs) name ≡ named_at f name
 unfolding named_at block_reading
 named_same cs f name spare =
-    let behind = grid_behind name.address in
     ap (λ o. cond (ltb name.address grid_size) (option_and_then (named name) o) None)
-    (together_same 8 (block_place name.address) f (disk.after_all f cs) (λ k l m. ap (λ (c : Cell). c.reads) (frame_all cs f k (spare k (omega arith)))))
+    (together_same 8 (block_place name.address) f (disk.after_all f cs) (λ k l m. ap (λ (c : Cell). c.reads) (frame_all cs f k (spare k (record { low = l; high = m })))))
 
-head_spares : (x : Header) (i : ℕ) → 400 ≤ i → AllByRecursion (Spares i) (header_calls x)
-head_spares x i l = let b : slot_of x < 64 = mod_below x.op 64 (omega arith) in header_spares x i (λ q. omega (arith, q, b, l))
+head_spares : (x : Header) (address i : ℕ) → IsOf address i → AllByRecursion (Spares i) (header_calls x)
+head_spares x address i is = let b = slot_below x in let behind = grid_behind address in header_spares x i (λ q. omega (arith, q, b, behind, is.low))
 
-body_spares : (e : Whole) (i : ℕ) → 400 ≤ i → AllByRecursion (Spares i) (prepare_calls 1 e)
-body_spares e i l = let b : slot_of e.header < 64 = mod_below e.header.op 64 (omega arith) in prepare_spares e i (inr (omega (arith, b, l)))
+body_spares : (v : ℕ) (e : Whole) (address i : ℕ) → IsOf address i → AllByRecursion (Spares i) (prepare_calls v e)
+body_spares v e address i is =
+    prepare_spares v e i (elim (grid_apart v (slot_of e.header) address (slot_below e.header)) [ inl low ↦ inr (omega (arith, low, is.low)) | inr high ↦ inl (omega (arith, high, is.high)) ])
 
-write_same : (again : Bool) (e : Whole) (f : Face) (name : Name) → named_at (disk.after_all f (cond again (again_calls 1 e) (new_calls 1 e))) name ≡ named_at f name
-write_same true e f name = named_same (again_calls 1 e) f name (λ i l. spares_append i (header_calls e.header) (prepare_calls 1 e) (head_spares e.header i l) (body_spares e i l))
-write_same false e f name = named_same (new_calls 1 e) f name (λ i l. spares_append i (prepare_calls 1 e) (header_calls e.header) (body_spares e i l) (head_spares e.header i l))
+write_same : (v : ℕ) (again : Bool) (e : Whole) (f : Face) (name : Name) → named_at (disk.after_all f (cond again (again_calls v e) (new_calls v e))) name ≡ named_at f name
+write_same v true e f name =
+    let a = name.address in named_same (again_calls v e) f name (λ i l. spares_append i (header_calls e.header) (prepare_calls v e) (head_spares e.header a i l) (body_spares v e a i l))
+write_same v false e f name =
+    let a = name.address in named_same (new_calls v e) f name (λ i l. spares_append i (prepare_calls v e) (header_calls e.header) (body_spares v e a i l) (head_spares e.header a i l))
 
 -- effects that write no block
 abbrev pub IsBeside : Effect → Type 0
@@ -67,12 +75,14 @@ IsBeside _ = ⊥
 
 -- an effect leaves what reads under each name
 pub beside_same : (d : Lying) (e : Effect) → IsBeside e → (name : Name) → named_at (lying.after d e).face name ≡ named_at d.face name
-beside_same d (Write again e) h name = write_same again e d.face name
-beside_same d (Rewrite x) h name = named_same (header_calls x) d.face name (λ i l. head_spares x i l)
+beside_same d (Write again e) h name = write_same d.version again e d.face name
+beside_same d (Rewrite x) h name = named_same (header_calls x) d.face name (λ i l. head_spares x name.address i l)
 beside_same d (Save old new) h name =
     named_same (write_calls old new d.face) d.face name
-    (λ i l. spares_append i (mend_calls old d.face) (save_from 0 4 (copy_bytes new)) (mend_spares 4 0 i (copy_bytes old) d.face (omega arith) (omega arith)) (save_spares 4 0 i (copy_bytes new) (omega arith) (omega arith)))
-beside_same d (Mend v) h name = named_same (mend_calls v d.face) d.face name (λ i l. mend_spares 4 0 i (copy_bytes v) d.face (omega arith) (omega arith))
+    (λ i l.
+    let behind = grid_behind name.address in
+    spares_append i (mend_calls old d.face) (save_from 0 4 (copy_bytes new)) (mend_spares 4 0 i (copy_bytes old) d.face (omega arith) (omega (arith, behind, l.low))) (save_spares 4 0 i (copy_bytes new) (omega arith) (omega (arith, behind, l.low))))
+beside_same d (Mend v) h name = let behind = grid_behind name.address in named_same (mend_calls v d.face) d.face name (λ i l. mend_spares 4 0 i (copy_bytes v) d.face (omega arith) (omega (arith, behind, l.low)))
 beside_same d (Checkpoint cluster texts op old) h name = absurd h
 beside_same d (PutBlock n block) h name = absurd h
 beside_same d (Say o) h name = refl

@@ -4,7 +4,7 @@ use Rattle.std.proofs.Common.{ℕ, ◌≡◌, arith, inl, inr, refl, sym, ap, �
 use Rattle.std.specs.Prelude.{Contains, slice_get, ⊤}
 use Rattle.std.specs.List.{AllByRecursion}
 use Rattle.vr_base.specs.Bytes.{sha256, first_words, schedule, rounds, compress, hash_after, digest_bytes, bytes16, bytes32, bytes64, name_of}
-use Rattle.vr_disk.specs.DiskState.{Face, IsFace}
+use Rattle.vr_disk.specs.DiskState.{IsFace}
 use Rattle.vr_header.specs.Bodies.{operation_bytes}
 use Rattle.vr_header.specs.Made.{Whole}
 use Rattle.vr_header.specs.Names.{root_header}
@@ -90,8 +90,8 @@ all_of [] e a i = absurd i
 all_of (x ∷ es) e a (inl same) = subst IsOf (sym same) a.0
 all_of (x ∷ es) e a (inr i) = all_of es e a.1 i
 
-abbrev face : Face
-face = (fresh_host hazards strict 2 0).disk.face
+abbrev disk : Lying
+disk = (fresh_host hazards strict 2 0).disk
 
 first_there : slice_get start.members 0 ≡ Some (fresh_host hazards strict 2 0)
 unfolding fresh_world
@@ -100,19 +100,19 @@ first_there = refl
 beside : AreBeside start (fresh_group (λ i. strict) 0 2)
 beside = subst (λ (w : World Lying). AreBeside w (fresh_group (λ i. strict) 0 2)) (sym (schedules_begin strict 2)) (fresh_beside (λ i. strict) 0 2 (omega arith) (omega arith) (omega arith))
 
-face_is : IsFace face
+face_is : IsFace disk.face
 face_is =
     let at : slice_get start.members 0 ≡ Some (fresh_host hazards strict 2 0) = first_there in
     (((beside.each 0 (fresh_host hazards strict 2 0) at).2).running first refl).0.calm.face
 
-read_is : (f : Face) → Contains (read_in start (Asks 0 registers)) f → f ≡ face
-read_is f c =
-    let i = contains_in (face ∷ []) f (subst (λ (o : Option Work). Contains (read_of o) f) work_is c) in
+read_is : (d : Lying) → Contains (read_in start (Asks 0 registers)) d → d ≡ disk
+read_is d c =
+    let i = contains_in (disk ∷ []) d (subst (λ (o : Option Work). Contains (read_of o) d) work_is c) in
     elim i [ inl same ↦ same | inr none ↦ absurd none ]
 
 hashed_text : (b : List ℕ) → IsHashed start (Asks 0 registers ∷ []) b → IsText b
 hashed_text b (inl (inl h)) = absurd (none_cut b (subst (λ (k : Work). IsHashedCut k b) (sym (same_work (stepping (event.Request registers) (fresh_host hazards strict 2 0) first) h.0 (sym work_is ∙ h.1))) h.2))
-hashed_text b (inl (inr (inl u))) = absurd (reads_nothing strict 2 0 face_is b (subst (λ (f : Face). IsRead f b) (read_is u.0 u.1) u.2))
+hashed_text b (inl (inr (inl u))) = absurd (reads_nothing strict 2 0 face_is b (subst (λ (d : Lying). IsRead d b) (read_is u.0 u.1) u.2))
 hashed_text b (inl (inr (inr u))) = written_text u.0 b (all_of (begun_in start (Asks 0 registers)) u.0 asked_begun (contains_in (begun_in start (Asks 0 registers)) u.0 u.1)) u.2
 hashed_text b (inr e) = subst IsText (sym e) root
 

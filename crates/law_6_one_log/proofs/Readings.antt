@@ -9,6 +9,7 @@ use Rattle.vr_base.proofs.Places.{drop_both}
 use Rattle.vr_disk.specs.DiskState.{Face, IsFace, reads}
 use Rattle.vr_disk.specs.Regions.{block_place, header_place, prepare_place, prepare_sectors, sectors}
 use Rattle.vr_disk.specs.Sectors.{behind, together}
+use Rattle.vr_disk.proofs.Places.{counted, inside}
 use Rattle.vr_disk.proofs.Together.{together_cons, together_first}
 use Rattle.vr_header.specs.declared.header.Header.{Header}
 use Rattle.vr_header.specs.Made.{Whole, is_entry_header}
@@ -45,10 +46,10 @@ behind_parts None r b e = absurd cc
 behind_parts (Some x) None b e = absurd cc
 behind_parts (Some x) (Some y) b e = let same : x ++ y ≡ b = cc in (x, y, refl, refl, sym same)
 
--- a prepare of a file of version 1 is its sectors, in front of zeros
-padded_parts : (o : Option (List ℕ)) (b : List ℕ) → option_map (padded 1) o ≡ Some b → (x : List ℕ) × (o ≡ Some x) × (b ≡ padded 1 x)
-padded_parts None b e = absurd cc
-padded_parts (Some x) b e = let same : padded 1 x ≡ b = cc in (x, refl, sym same)
+-- a prepare is its sectors, in front of zeros
+padded_parts : (ver : ℕ) (o : Option (List ℕ)) (b : List ℕ) → option_map (padded ver) o ≡ Some b → (x : List ℕ) × (o ≡ Some x) × (b ≡ padded ver x)
+padded_parts ver None b e = absurd cc
+padded_parts ver (Some x) b e = let same : padded ver x ≡ b = cc in (x, refl, sym same)
 
 module _ (made : List Header) (f : Face) (s : HasSectors (IsSealed made) f) where
   -- each of them is sealed
@@ -96,15 +97,20 @@ module _ (made : List Header) (f : Face) (s : HasSectors (IsSealed made) f) wher
       let r = read_header f slot h face l e in
       spelled_made (sector_of h) h ((has_at (IsSealed made) f (header_place slot) s (omega (arith, l))).reads (sector_of h) r.reads) r.header (sector_spells h r.header) entry low
 
-  pub entry_made : (slot : ℕ) (e : Whole) → IsFace f → slot < 64 → whole_in 1 f slot ≡ Some e → e.header.op < spelled_from e.header.cluster → In e.header made
-  entry_made slot e face l w low =
-      let r = read_whole 1 f slot e face l w in
-      let p = padded_parts (together (prepare_place 1 slot) (prepare_sectors 1) f) (prepare_bytes e) r.reads in
-      let x = together_first 3 (prepare_place 1 slot) f p.0 p.1 in
-      let one = (has_at (IsSealed made) f (prepare_place 1 slot) s (omega (arith, l))).reads x.first x.reads in
+  pub entry_made : (ver slot : ℕ) (e : Whole) → IsFace f → slot < 64 → whole_in ver f slot ≡ Some e → e.header.op < spelled_from e.header.cluster → In e.header made
+  entry_made ver slot e face l w low =
+      let few = counted ver in
+      let within = inside ver slot l in
+      let n = prepare_sectors ver in
+      let behind : List ℕ = replicate (4096 - 512 * n) 0 in
+      let r = read_whole ver f slot e face l w in
+      let p = padded_parts ver (together (prepare_place ver slot) n f) (prepare_bytes e) r.reads in
+      let some : n ≡ suc (n - 1) = omega (arith, few.0) in
+      let x = together_first (n - 1) (prepare_place ver slot) f p.0 (ap (λ (k : ℕ). together (prepare_place ver slot) k f) (sym some) ∙ p.1) in
+      let one = (has_at (IsSealed made) f (prepare_place ver slot) s (omega (arith, within, few.0))).reads x.first x.reads in
       let size = one.content.size in
-      let rest : List ℕ = x.rest ++ replicate (4096 - 512 * prepare_sectors 1) 0 in
-      let whole : prepare_bytes e ≡ x.first ++ rest = p.2 ∙ (ap (padded 1) x.whole ∙ append_assoc x.first x.rest (replicate (4096 - 512 * prepare_sectors 1) 0)) in
+      let rest : List ℕ = x.rest ++ behind in
+      let whole : prepare_bytes e ≡ x.first ++ rest = p.2 ∙ (ap (padded ver) x.whole ∙ append_assoc x.first x.rest behind) in
       let spells : Spells e.header x.first = sym (take-append-le 128 x.first rest (omega (arith, size))) ∙ (ap (take 128) (sym whole) ∙ prepare_spells e r.whole.header) in
       spelled_made x.first e.header one r.whole.header spells (is_entry_header_of e.header r.whole.entry.header) low
 
@@ -127,8 +133,8 @@ module _ (made : List Header) (f : Face) (s : HasSectors (IsSealed made) f) wher
   low_in v k h p b low = let op = p.op in subst (λ (n : ℕ). h.op < spelled_from n) (sym p.group) (omega (arith, op, b, low))
 
   -- where an opening looks for it, below the ops that sessions could spell
-  pub found_made : (v : SuperValue) (held : List (Option (List ℕ))) → IsFace f → v.fields.checkpoint + 64 < spelled_from v.fields.cluster → AreMade made v (record { face = f; held = held })
-  found_made v held face low = record {
+  pub found_made : (v : SuperValue) (held : List (Option (List ℕ))) (ver : ℕ) → IsFace f → v.fields.checkpoint + 64 < spelled_from v.fields.cluster → AreMade made v (record { face = f; held = held; version = ver })
+  found_made v held ver face low = record {
     header = λ k h a b e fits. (let p = fits_parts v k h fits in contains_of made h (header_made (k % 64) h face (omega arith) e p.entry (low_in v k h p b low)));
-    entry = λ k x a b e fits. (let p = fits_parts v k x.header fits in contains_of made x.header (entry_made (k % 64) x face (omega arith) e (low_in v k x.header p b low)));
+    entry = λ k x a b e fits. (let p = fits_parts v k x.header fits in contains_of made x.header (entry_made ver (k % 64) x face (omega arith) e (low_in v k x.header p b low)));
   }

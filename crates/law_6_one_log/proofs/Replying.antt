@@ -15,7 +15,7 @@ use Rattle.law_3_outputs.specs.Group.{Arrival, Group, Member, Move, Moved, Moves
 use Rattle.law_3_outputs.specs.GroupFit.{IsFitMove}
 use Rattle.law_3_outputs.specs.Lying.{Lying, lying}
 use Rattle.law_3_outputs.specs.Replica.{Replica}
-use Rattle.law_3_outputs.specs.Safe.{IsHashed, faces_of}
+use Rattle.law_3_outputs.specs.Safe.{IsHashed, disks_of}
 use Rattle.law_3_outputs.specs.Steps.{PutBlock}
 use Rattle.law_1_machine.specs.Basics.{In}
 use Rattle.law_3_outputs.specs.Chains.{Setup}
@@ -65,7 +65,7 @@ module _ (cluster n : ℕ) (u : Setup) (run : List Played) (x : IsFollowed clust
   run_puts t at arrival p e d m r is step runs g name same free from found =
       let own = ((fit_at cluster n run x.fit t p is).0.0.members at m runs.member).running r runs.running in
       let moves = move_of (fresh_group x.fit.kinds cluster n) run x.fit.of_run t p is in
-      let face : Contains (faces_of p.move) d.face = subst (λ (z : Move). Contains (faces_of z) d.face) (sym step) (0, omega arith, refl) in
+      let face : Contains (disks_of p.move) d = subst (λ (z : Move). Contains (disks_of z) d) (sym step) (0, omega arith, refl) in
       let w = found_wanted (is_wanted lying.is_block g) r.missing name found in
       let whole : is_some (named name g.block) ≡ true = (and_parts (name.address == g.address) (lying.is_block name g.block) w.0).1 in
       let first = puts_first g name r d free from found in
@@ -77,7 +77,7 @@ module _ (cluster n : ℕ) (u : Setup) (run : List Played) (x : IsFollowed clust
   run_loads : (t at : ℕ) (p : Played) (v : SuperValue) (d : Lying) → slice_get run t ≡ Some p → p.move ≡ Recovers at v d → HasState log (has_loaded v d).replica
   run_loads t at p v d is step =
       let moves = move_of (fresh_group x.fit.kinds cluster n) run x.fit.of_run t p is in
-      let face : Contains (faces_of p.move) d.face = subst (λ (z : Move). Contains (faces_of z) d.face) (sym step) (0, omega arith, refl) in
+      let face : Contains (disks_of p.move) d = subst (λ (z : Move). Contains (disks_of z) d) (sym step) (0, omega arith, refl) in
       let fit : ReadsWell lying d = subst IsFitMove step (fit_at cluster n run x.fit t p is).1 in
       let o = recovers_so p.before p.move p.moved moves at v d step in
       let stands = stand_at cluster n u run x bridges never log is_log t p is at o.0 o.1.member in

@@ -28,7 +28,7 @@ use Rattle.law_3_outputs.specs.Own.{IsAt}
 use Rattle.law_3_outputs.specs.Replica.{Replica, is_frozen, is_spent, last_view}
 use Rattle.law_3_outputs.specs.Rules.{react}
 use Rattle.law_3_outputs.specs.Safe as safe
-use Rattle.law_3_outputs.specs.Safe.{IsHashed, faces_of, read, wrote}
+use Rattle.law_3_outputs.specs.Safe.{IsHashed, disks_of, read, wrote}
 use Rattle.law_3_outputs.specs.Steps.{Effect, Write, Rewrite, Save, Mend, Checkpoint, PutBlock, Say, Step, by, outputs, quiet, says}
 use Rattle.law_3_outputs.specs.Outputs.{messages}
 use Rattle.law_3_outputs.proofs.FitLies.{lies_fit}
@@ -200,11 +200,11 @@ module _ (cluster n : ℕ) (u : Setup) (run : List Played) (x : IsFollowed clust
     pub begun_in : (e : Effect) → In e p.moved.script → Begun H e
     begun_in e i bytes w = wrote p e bytes here (in_contains p.moved.script e i) w
 
-    pub reads_in : (d : Lying) → Contains (faces_of p.move) d.face → ReadsHashed H d.face
-    reads_in d face name c e = record { payload = read p d.face c.payload here face (safe.IsRead.payload name c e); header = read p d.face _ here face (safe.IsRead.block name c e) }
+    pub reads_in : (d : Lying) → Contains (disks_of p.move) d → ReadsHashed H d.face
+    reads_in d face name c e = record { payload = read p d c.payload here face (safe.IsRead.payload name c e); header = read p d _ here face (safe.IsRead.block name c e) }
 
-    entries_in : (d : Lying) → Contains (faces_of p.move) d.face → (slot : ℕ) (e : Whole) → slot < 64 → lying.entry d slot ≡ Some e → H (operation_bytes e.operation)
-    entries_in d face slot e l q = read p d.face _ here face (safe.IsRead.operation slot e q)
+    entries_in : (d : Lying) → Contains (disks_of p.move) d → (slot : ℕ) (e : Whole) → slot < 64 → lying.entry d slot ≡ Some e → H (operation_bytes e.operation)
+    entries_in d face slot e l q = read p d _ here face (safe.IsRead.operation slot e q)
 
     pub fit_group : IsFitGroup cluster p.before
     fit_group = (fit_at cluster n run x.fit t p is).0.0
@@ -217,7 +217,7 @@ module _ (cluster n : ℕ) (u : Setup) (run : List Played) (x : IsFollowed clust
 
     -- ---- a step
 
-    module _ (at : ℕ) (arrival : Arrival) (e : Event) (d : Lying) (m : Member) (r : Replica) (runs : Runs p.before at m r) (came : IsArrival p.before at arrival e) (face : Contains (faces_of p.move) d.face)
+    module _ (at : ℕ) (arrival : Arrival) (e : Event) (d : Lying) (m : Member) (r : Replica) (runs : Runs p.before at m r) (came : IsArrival p.before at arrival e) (face : Contains (disks_of p.move) d)
         (fit : IsFitArrival arrival × ReadsWell lying d) (told : AllTold p.before) where
       abbrev es : List Effect
       es = (stepped e r d).script
@@ -292,7 +292,7 @@ module _ (cluster n : ℕ) (u : Setup) (run : List Played) (x : IsFollowed clust
 
     -- ---- an opening
 
-    module _ (at : ℕ) (m : Member) (v : SuperValue) (d : Lying) (wakes : Opens p.before at m v d) (face : Contains (faces_of p.move) d.face) (fit : ReadsWell lying d) (h : MemberStands m) where
+    module _ (at : ℕ) (m : Member) (v : SuperValue) (d : Lying) (wakes : Opens p.before at m v d) (face : Contains (disks_of p.move) d) (fit : ReadsWell lying d) (h : MemberStands m) where
       abbrev xs : List Effect
       xs = (mended v d).script
 

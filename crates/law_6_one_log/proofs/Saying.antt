@@ -5,7 +5,6 @@ use Rattle.std.specs.Prelude.{All, Contains, ◌<◌, slice_get}
 use Rattle.std.specs.Option.{option_map_or}
 use Rattle.std.proofs.lemmas.List.{append_assoc}
 use Rattle.std.proofs.lemmas.List.Elements.{All-nil, All-cons, All-head, All-tail, All-contains}
-use Rattle.vr_disk.specs.DiskState.{Face}
 use Rattle.vr_header.specs.declared.header.Header.{Header}
 use Rattle.vr_header.specs.Bodies.{operation_bytes}
 use Rattle.vr_header.specs.Made.{Whole}
@@ -22,7 +21,7 @@ use Rattle.law_3_outputs.specs.Laws.{Answers, IsPresent, IsPresentOutput}
 use Rattle.law_3_outputs.specs.Lying.{Lying, lying}
 use Rattle.law_3_outputs.specs.Opening.{blank}
 use Rattle.law_3_outputs.specs.Replica.{Replica}
-use Rattle.law_3_outputs.specs.Safe.{IsHashed, actor, faces_of}
+use Rattle.law_3_outputs.specs.Safe.{IsHashed, actor, disks_of}
 use Rattle.law_3_outputs.specs.Safe as safe
 use Rattle.law_3_outputs.specs.Steps.{Effect, Step, Write, after_all, outputs}
 use Rattle.law_3_outputs.proofs.FitLies.{lies_fit}
@@ -68,16 +67,16 @@ taken_front : (xs ys : List Effect) → All IsTaken (xs ++ ys) → All IsTaken x
 taken_front [] ys h = All-nil IsTaken
 taken_front (x ∷ xs) ys h = All-cons IsTaken x xs (All-head IsTaken x (xs ++ ys) h) (taken_front xs ys (All-tail IsTaken x (xs ++ ys) h))
 
-one_face : (f : Face) → Contains (f ∷ []) f
-one_face f = in_contains (f ∷ []) f (inl refl)
+one_disk : (d : Lying) → Contains (d ∷ []) d
+one_disk d = in_contains (d ∷ []) d (inl refl)
 
 module _ (run : List Played) (c : ℕ) (p : Played) (there : Contains run p) where
   -- an entry that reads after the first effects of a move was read by it, or written in it
-  read_hashed : (d : Lying) (first rest : List Effect) (slot : ℕ) (e : Whole) → Contains (faces_of p.move) d.face → first ++ rest ≡ p.moved.script → All IsTaken first → slot < 64 → lying.entry (after_all lying d first) slot ≡ Some e
+  read_hashed : (d : Lying) (first rest : List Effect) (slot : ℕ) (e : Whole) → Contains (disks_of p.move) d → first ++ rest ≡ p.moved.script → All IsTaken first → slot < 64 → lying.entry (after_all lying d first) slot ≡ Some e
       → IsHashed run (root_header c) (operation_bytes e.operation)
   read_hashed d first rest slot e face are taken within reads =
       elim (read_or_written first d taken slot e within reads) [
-        | inl old ↦ safe.read p d.face (operation_bytes e.operation) there face (safe.IsRead.operation slot e old)
+        | inl old ↦ safe.read p d (operation_bytes e.operation) there face (safe.IsRead.operation slot e old)
         | inr new ↦
             let among : In (Write new.0 e) p.moved.script = subst (In (Write new.0 e)) are (in_left first rest (Write new.0 e) new.1) in
             safe.wrote p (Write new.0 e) (operation_bytes e.operation) there (in_contains p.moved.script (Write new.0 e) among) (safe.IsWritten.operation new.0 e)
@@ -91,7 +90,7 @@ line_hashed run c g _ _ there fit h (group.steps at a e d m r runs i) l j =
     let came = arrives c g at a e fit h.0 i in
     let taken = known_taken c g.n at (stepped e r d).script (step_is c g.n at r e d f.0 f.1 came h.1).known in
     let o = (come_in_order lying r d e lies_fit.names f.0.sound came).read l j in
-    read_hashed run c (record { before = g; move = group.Steps at a e d; moved = group.finished g at m x }) there d o.first o.rest o.slot l.entry (one_face d.face) o.are (taken_front o.first o.rest (subst (All IsTaken) (sym o.are) taken)) o.within o.reads
+    read_hashed run c (record { before = g; move = group.Steps at a e d; moved = group.finished g at m x }) there d o.first o.rest o.slot l.entry (one_disk d) o.are (taken_front o.first o.rest (subst (All IsTaken) (sym o.are) taken)) o.within o.reads
 line_hashed run c g _ _ there fit h (group.cuts at a e d k m r runs i) l j = absurd j
 line_hashed run c g _ _ there fit h (group.crashes at m o) l j = absurd j
 line_hashed run c g _ _ there fit h (group.recovers at v d m o) l j =
@@ -104,7 +103,7 @@ line_hashed run c g _ _ there fit h (group.recovers at v d m o) l j =
       | inr b ↦
           let q = (resumed_order v d value.0 (least_two v value.0 value.1.version) h).read l b in
           let parts : (xs ++ q.first) ++ q.rest ≡ opening_script v d = append_assoc xs q.first q.rest ∙ ap (λ (zs : List Effect). xs ++ zs) q.are in
-          read_hashed run c (record { before = g; move = group.Recovers at v d; moved = group.started g at m v d }) there d (xs ++ q.first) q.rest q.slot l.entry (one_face d.face) parts
+          read_hashed run c (record { before = g; move = group.Recovers at v d; moved = group.started g at m v d }) there d (xs ++ q.first) q.rest q.slot l.entry (one_disk d) parts
           (taken_front (xs ++ q.first) q.rest (subst (All IsTaken) (sym parts) taken)) q.within (ap (λ (z : Lying). lying.entry z q.slot) (after_append lying d xs q.first) ∙ q.reads)
     ]
 line_hashed run c g _ _ there fit h (group.recovers_cut at v d k m o) l j = absurd j

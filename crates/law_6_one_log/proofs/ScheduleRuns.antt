@@ -4,7 +4,6 @@ use Rattle.std.specs.Prelude.{All}
 use Rattle.std.specs.List.{AllByRecursion}
 use Rattle.std.proofs.lemmas.List.{append-nil, append_assoc, length-append}
 use Rattle.std.proofs.lemmas.List.Elements.{All-append, All-head, All-nil, All-tail}
-use Rattle.vr_disk.specs.DiskState.{Face}
 use Rattle.vr_header.specs.Names.{root_header}
 use Rattle.vr_header.specs.NoCollision.{NoCollision}
 use Rattle.vr_msg.specs.declared.output.Output.{Output}
@@ -60,9 +59,9 @@ bridged_run {home} g (p ∷ ps) b fit well (Run.goes h x y more m r) =
 
 -- ---- the run that led there, and a line's
 
-one_at_most : (es : List Effect) (fs : List Face) (run : List Played) → IsOneMove es fs run → length run ≤ 1
-one_at_most es fs _ (unmoved still) = omega arith
-one_at_most es fs _ (moved_once p script faces) = omega arith
+one_at_most : (es : List Effect) (ds : List Lying) (run : List Played) → IsOneMove es ds run → length run ≤ 1
+one_at_most es ds _ (unmoved still) = omega arith
+one_at_most es ds _ (moved_once p script disks) = omega arith
 
 led_on : {home : ℕ} (g : Group) (past : IsLed home g) (run : List Played) → Run g run → All (λ (p : Played). IsFitMove p.move) run → IsLed home (left g run)
 led_on {home} g past run is well =

@@ -21,7 +21,7 @@ use Rattle.vr_ckpt.specs.Grid.{block_calls, put_calls}
 use Rattle.vr_ckpt.specs.Saves.{save_calls}
 use Rattle.law_3_outputs.specs.Steps.{Effect, Rewrite, Save, Mend, Checkpoint, PutBlock, Say, after_all}
 use Rattle.law_3_outputs.specs.Steps as effect
-use Rattle.law_3_outputs.specs.Sectors.{calls, calls_of, script_calls}
+use Rattle.law_3_outputs.specs.Sectors.{calls_by, script_calls}
 use Rattle.law_3_outputs.specs.Lying.{Lying, lying}
 use Rattle.law_1_machine.specs.Basics.{In}
 use Rattle.law_4_disks.specs.Beside.{MayCome, MayGo, begun_before, value_after}
@@ -76,16 +76,16 @@ module _ (made : List Header) where
   save_sealed old new f a b =
       seals_append made (mend_calls old f) (save_from 0 4 (copy_bytes new)) (mend_sealed made old a.0 (copy_are old a.0) a.1 f) (saves_sealed made new b.0 (copy_are new b.0) b.1 4 0 (omega arith))
 
-  pub effect_sealed : (e : Effect) (d : Lying) (v : SuperValue) → MayCome e d v → Seals made e → IsRight made v → IsFace d.face → HasSectors (IsSealed made) d.face → AreSealed made (calls_of e d.face)
-  effect_sealed (effect.Write true e) d v may h r f s = let w = may.fit.0 in again_sealed made 1 e w (sector_content e.header w.header) (prepare_are e w) (length-prepare e w) h
-  effect_sealed (effect.Write false e) d v may h r f s = let w = may.fit.0 in new_sealed made 1 e w (sector_content e.header w.header) (prepare_are e w) (length-prepare e w) h
+  pub effect_sealed : (e : Effect) (d : Lying) (v : SuperValue) → MayCome e d v → Seals made e → IsRight made v → IsFace d.face → HasSectors (IsSealed made) d.face → AreSealed made (calls_by d.version e d.face)
+  effect_sealed (effect.Write true e) d v may h r f s = let w = may.fit.0 in again_sealed made d.version e w (sector_content e.header w.header) (prepare_are e w) (length-prepare e w) h
+  effect_sealed (effect.Write false e) d v may h r f s = let w = may.fit.0 in new_sealed made d.version e w (sector_content e.header w.header) (prepare_are e w) (length-prepare e w) h
   effect_sealed (Rewrite h) d v may x r f s =
       let fit = may.fit in
       let e = fit.0 in
-      let m : e.header.op < spelled_from e.header.cluster → In e.header made = λ low. entry_made made d.face s (slot_of h) e f (omega arith) fit.1 low in
-      let is = (read_whole 1 d.face (slot_of h) e f (omega arith) fit.1).whole.header in
+      let m : e.header.op < spelled_from e.header.cluster → In e.header made = λ low. entry_made made d.face s d.version (slot_of h) e f (omega arith) fit.1 low in
+      let is = (read_whole d.version d.face (slot_of h) e f (omega arith) fit.1).whole.header in
       let same = fit.2 in
-      subst (λ (h : Header). AreSealed made (calls_of (Rewrite h) d.face)) same (header_calls_sealed made e.header is (sector_content e.header is) m)
+      subst (λ (h : Header). AreSealed made (calls_by d.version (Rewrite h) d.face)) same (header_calls_sealed made e.header is (sector_content e.header is) m)
   effect_sealed (Save old new) d v may h r f s = save_sealed old new d.face (subst (IsRight made) (sym may.fit.0) r) (may.fit.2, h)
   effect_sealed (Mend x) d v may h r f s = let good = subst (IsRight made) (sym may.fit) r in mend_sealed made x good.0 (copy_are x good.0) good.1 d.face
   effect_sealed (Checkpoint c t o p) d v may h r f s = h
@@ -107,24 +107,24 @@ module _ (made : List Header) where
   unfolding after_all
   script_sealed [] d v go h r f s = s
   script_sealed (e ∷ es) d v go h r f s =
-      let cs = calls_of e d.face in
+      let cs = calls_by d.version e d.face in
       let one = effect_sealed e d v go.0 h.0 r f s in
       script_sealed es (lying.after d e) (value_after e v) go.1 h.1 (right_after e d v go.0 h.0 r) (face_after_all cs d.face f go.0.calls) (has_after_all (IsSealed made) cs d.face s one)
 
-  pub cut_sealed : (es : List Effect) (d : Lying) (v : SuperValue) (j code : ℕ) → MayGo es d v → AllByRecursion (Seals made) (begun_before es d.face j) → IsRight made v → IsFace d.face → HasSectors (IsSealed made) d.face
-      → HasSectors (IsSealed made) (disk.cut j code d.face (calls es d.face))
+  pub cut_sealed : (es : List Effect) (d : Lying) (v : SuperValue) (j code : ℕ) → MayGo es d v → AllByRecursion (Seals made) (begun_before d.version es d.face j) → IsRight made v → IsFace d.face → HasSectors (IsSealed made) d.face
+      → HasSectors (IsSealed made) (disk.cut j code d.face (script_calls d.version es d.face))
   unfolding script_calls disk.cut
   cut_sealed [] d v j code go h r f s = s
   cut_sealed (e ∷ es) d v j code go h r f s =
-      let cs = calls_of e d.face in
-      let ds = calls es (disk.after_all d.face cs) in
+      let cs = calls_by d.version e d.face in
+      let ds = script_calls d.version es (disk.after_all d.face cs) in
       let one = effect_sealed e d v go.0 h.0 r f s in
       let both = cuts_both cs ds d.face j code in
       elim (cases_lt j (length cs)) [
         | inl first ↦ subst (HasSectors (IsSealed made)) (sym (both.first first)) (has_cut (IsSealed made) (turned_sealed made) cs d.face j code s one)
         | inr later ↦
             let k = j - length cs in
-            let begun = subst (λ t. AllByRecursion (Seals made) (cond t [] (begun_before es (disk.after_all d.face cs) k))) (le-ltb j (length cs) later) h.1 in
+            let begun = subst (λ t. AllByRecursion (Seals made) (cond t [] (begun_before d.version es (disk.after_all d.face cs) k))) (le-ltb j (length cs) later) h.1 in
             let rest = cut_sealed es (lying.after d e) (value_after e v) k code go.1 begun (right_after e d v go.0 h.0 r) (face_after_all cs d.face f go.0.calls) (has_after_all (IsSealed made) cs d.face s one) in
             subst (HasSectors (IsSealed made)) (sym (both.later later)) rest
       ]

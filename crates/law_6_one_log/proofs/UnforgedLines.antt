@@ -22,7 +22,7 @@ use Rattle.law_3_outputs.specs.Replica.{Replica}
 use Rattle.law_3_outputs.specs.Rules.{react}
 use Rattle.law_3_outputs.specs.Opening.{opened}
 use Rattle.law_3_outputs.specs.Steps.{Effect, Mend, Step, outputs}
-use Rattle.law_3_outputs.specs.Sectors.{calls}
+use Rattle.law_3_outputs.specs.Sectors.{script_calls}
 use Rattle.law_3_outputs.specs.Lying.{Lying, hazards, keeps_premise, lied_to, lying, unless_kept_out}
 use Rattle.law_3_outputs.specs.World as world
 use Rattle.law_3_outputs.specs.World.{Acted, Happening, World, Begins, Asks, Arrives, Ticks, Stops, Starts, Fuses, Lies, acts, at_member, delivered, halted, handles, happens, nothing, stays, went, went_or_halted, with_member}
@@ -185,19 +185,19 @@ module _ (w : World Lying) (made : List Header) (s : IsSealedWorld w made) (i : 
         let all = now x.script in
         world_set w made all (more x.script) s i m (went hazards m x fuse) at (script_sealed all x.script m.disk v go seals (right_more x.script) face (face_more x.script)) (λ n y e. given_more made all y.message (more x.script) (said n y e))
 
-    halted_sealed : (u : Fuse) (bs : List Effect) → bs ≡ begun_by (Some u) x.script m.disk.face → AllByRecursion (Seals (now bs)) bs → IsSealedWorld (with_member w i (halted hazards i m x u)).world (now bs)
+    halted_sealed : (u : Fuse) (bs : List Effect) → bs ≡ begun_by (Some u) x.script m.disk → AllByRecursion (Seals (now bs)) bs → IsSealedWorld (with_member w i (halted hazards i m x u)).world (now bs)
     unfolding messages
     halted_sealed u bs e seals =
         world_set w made (now bs) (more bs) s i m (halted hazards i m x u) at (cut_sealed (now bs) x.script m.disk v u.calls u.code go (subst (AllByRecursion (Seals (now bs))) e seals) (right_more bs) face (face_more bs)) (no_message (now bs))
 
-    acts_by : (fuse : Option Fuse) → (let bs = begun_by fuse x.script m.disk.face in AllByRecursion (Seals (now bs)) bs) → IsSealedWorld (with_member w i (went_or_halted hazards i m x fuse)).world (now (begun_by fuse x.script m.disk.face))
+    acts_by : (fuse : Option Fuse) → (let bs = begun_by fuse x.script m.disk in AllByRecursion (Seals (now bs)) bs) → IsSealedWorld (with_member w i (went_or_halted hazards i m x fuse)).world (now (begun_by fuse x.script m.disk))
     acts_by None seals = went_sealed None seals
     acts_by (Some u) seals =
-        let made_calls = length (calls x.script m.disk.face) in
+        let made_calls = length (script_calls m.disk.version x.script m.disk.face) in
         let rest : Fuse = record { calls = u.calls - made_calls; code = u.code } in
-        let bs = begun_by (Some u) x.script m.disk.face in
+        let bs = begun_by (Some u) x.script m.disk in
         elim (nat_le made_calls u.calls) as (λ t. nat_le made_calls u.calls ≡ t → IsSealedWorld (with_member w i (cond t (went hazards m x (Some rest)) (halted hazards i m x u))).world (now bs)) [
-          | true ↦ λ t. (let all = begun_all x.script m.disk.face u.calls (leb-true made_calls u.calls t) in
+          | true ↦ λ t. (let all = begun_all m.disk.version x.script m.disk.face u.calls (leb-true made_calls u.calls t) in
               subst (λ (es : List Effect). IsSealedWorld (with_member w i (went hazards m x (Some rest))).world (now es)) (sym all) (went_sealed (Some rest) (subst (λ (es : List Effect). AllByRecursion (Seals (now es)) es) all seals)))
           | false ↦ λ t. halted_sealed u bs refl seals
         ] refl
@@ -221,7 +221,7 @@ module _ {home : ℕ} (w : World Lying) (g : Group) (b : AreBeside w g) (fits : 
   -- ---- a step
 
   step_sealed : (arrival : Arrival) (e : Event) (r : Replica) → m.replica ≡ Some r → IsArrival g i arrival e → IsFitArrival arrival → IsGivenEvent (IsSealedBlock g.made) e
-      → (let es = (react e lying r m.disk).script in let bs = begun_by m.fuse es m.disk.face in AllByRecursion ComesOfEntries bs → IsSealedWorld (with_member w i (acts hazards i m (react e lying r m.disk))).world (g.made ++ made_in bs))
+      → (let es = (react e lying r m.disk).script in let bs = begun_by m.fuse es m.disk in AllByRecursion ComesOfEntries bs → IsSealedWorld (with_member w i (acts hazards i m (react e lying r m.disk))).world (g.made ++ made_in bs))
   step_sealed arrival e r run arrives fit given plain =
       let d = m.disk in
       let x = react e lying r d in
@@ -232,8 +232,8 @@ module _ {home : ℕ} (w : World Lying) (g : Group) (b : AreBeside w g) (fits : 
       let running = (fits.members i q there).running r (stands.replica ∙ run) in
       let gives = gives_read {Q = IsSealedBlock g.made} g.n i r d h.at running.0.sound running.1 e are given h.known in
       let saves = step_saves g bridged fits i q there d (lies_fit.reads d face) arrival e r (stands.replica ∙ run) arrives fit in
-      let split = begun_some m.fuse x.script d.face in
-      let seals = begun_sealed g.made (ReadsOn d) x.script (begun_by m.fuse x.script d.face) split.0 split.1 saves gives.blocks plain in
+      let split = begun_some m.fuse x.script d in
+      let seals = begun_sealed g.made (ReadsOn d) x.script (begun_by m.fuse x.script d) split.0 split.1 saves gives.blocks plain in
       let is = fits.members i q there in
       let right : IsRight g.made q.last = (is.last.0, last_named g bridged i q there) in
       let said : AreGiven g.made (messages (outputs x.script)) = λ n y k. given_read g.made d y.message face disk_sealed (outputs_given (ReadsOn d) (IsSealedBlock g.made) x.script gives.blocks n y k) in
@@ -262,11 +262,11 @@ module _ {home : ℕ} (w : World Lying) (g : Group) (b : AreBeside w g) (fits : 
       let one = effect_sealed g.made (Mend v) m.disk v (record { fit = refl; calls = calls }) tt x.0 face disk_sealed in
       let top = may_open_short g bridged i q there v o.may in
       let window = checkpoint_low v x.0.0 (good_value home g.n i q v (fits.members i q there) o.may).1.version in
-      found_made g.made _ (has_after_all (IsSealed g.made) cs m.disk.face disk_sealed one) v (lying.after m.disk (Mend v)).held (face_after_all cs m.disk.face face calls)
+      found_made g.made _ (has_after_all (IsSealed g.made) cs m.disk.face disk_sealed one) v (lying.after m.disk (Mend v)).held m.disk.version (face_after_all cs m.disk.face face calls)
       (subst (λ (n : ℕ). v.fields.checkpoint + 64 < spelled_from n) (sym x.1) (within_room home v.fields.checkpoint (length bridged.machine.made) (omega (arith, top, window)) low))
 
   start_sealed : (v : SuperValue) → m.replica ≡ None → IsOff m.disk q v
-      → (let bs = begun_by m.fuse (opening_script v m.disk) m.disk.face in AllByRecursion ComesOfEntries bs → IsSealedWorld (with_member w i (acts hazards i m (whole v m.disk))).world (g.made ++ made_in bs))
+      → (let bs = begun_by m.fuse (opening_script v m.disk) m.disk in AllByRecursion ComesOfEntries bs → IsSealedWorld (with_member w i (acts hazards i m (whole v m.disk))).world (g.made ++ made_in bs))
   start_sealed v run o plain =
       let d = m.disk in
       let xs = (mended v d).script in
@@ -278,8 +278,8 @@ module _ {home : ℕ} (w : World Lying) (g : Group) (b : AreBeside w g) (fits : 
       let later = (b_resuming {P = none} {Q = IsSealedBlock g.made}).each g.n i _ _ h.here (known_right home g.n i xs ys h.known) in
       let blocks : AllByRecursion (WritesBlocks none (IsSealedBlock g.made)) es = blocks_both none (IsSealedBlock g.made) xs ys (mending_blocks none (IsSealedBlock g.made) v d) later.blocks in
       let saves = start_saves g bridged fits i q there d (lies_fit.reads d face) v (opens_group w g i m q b fits stock at there stands v run o h.finds) in
-      let split = begun_some m.fuse es d.face in
-      let seals = begun_sealed g.made none es (begun_by m.fuse es d.face) split.0 split.1 saves blocks plain in
+      let split = begun_some m.fuse es d in
+      let seals = begun_sealed g.made none es (begun_by m.fuse es d) split.0 split.1 saves blocks plain in
       let said : AreGiven g.made (messages (outputs es)) = λ n y k. given_none g.made y.message (outputs_given none (IsSealedBlock g.made) es blocks n y k) in
       acts_by w g.made s i m at (whole v d) v h.go (off_right v o).0 face said m.fuse seals
 

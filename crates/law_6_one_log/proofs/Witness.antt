@@ -3,7 +3,7 @@ use Rattle.vr_base.specs.Kinds.{strict}
 use Rattle.std.proofs.Common.{ℕ, ◌≡◌, ◌⊎◌, arith, inl, inr, refl, sym, ◌∙◌, subst, List, [], ◌∷◌, Option, Some, None}
 use Rattle.std.specs.Prelude.{Contains, slice_get, ⊤}
 use Rattle.std.specs.List.{AllByRecursion}
-use Rattle.vr_disk.specs.DiskState.{Face, IsFace}
+use Rattle.vr_disk.specs.DiskState.{IsFace}
 use Rattle.vr_header.specs.Names.{root_header}
 use Rattle.vr_header.specs.Spelling.{named_bytes}
 use Rattle.vr_msg.specs.declared.event.Event.TheVariants as event
@@ -77,8 +77,8 @@ all_of (x ∷ es) e a (inr i) = all_of es e a.1 i
 
 -- ---- so only the root is hashed: the disk that the step reads is blank
 
-abbrev face : Face
-face = (fresh_host hazards strict 2 0).disk.face
+abbrev disk : Lying
+disk = (fresh_host hazards strict 2 0).disk
 
 first_there : slice_get start.members 0 ≡ Some (fresh_host hazards strict 2 0)
 unfolding fresh_world
@@ -87,19 +87,19 @@ first_there = refl
 beside : AreBeside start (fresh_group (λ i. strict) 0 2)
 beside = subst (λ (w : World Lying). AreBeside w (fresh_group (λ i. strict) 0 2)) (sym (schedules_begin strict 2)) (fresh_beside (λ i. strict) 0 2 (omega arith) (omega arith) (omega arith))
 
-face_is : IsFace face
+face_is : IsFace disk.face
 face_is =
     let at : slice_get start.members 0 ≡ Some (fresh_host hazards strict 2 0) = first_there in
     (((beside.each 0 (fresh_host hazards strict 2 0) at).2).running first refl).0.calm.face
 
-read_is : (f : Face) → Contains (read_in start (Ticks 0)) f → f ≡ face
-read_is f c =
-    let i = contains_in (face ∷ []) f (subst (λ (o : Option Work). Contains (read_of o) f) work_is c) in
+read_is : (d : Lying) → Contains (read_in start (Ticks 0)) d → d ≡ disk
+read_is d c =
+    let i = contains_in (disk ∷ []) d (subst (λ (o : Option Work). Contains (read_of o) d) work_is c) in
     elim i [ inl same ↦ same | inr none ↦ absurd none ]
 
 tick_hashes : (b : List ℕ) → IsHashedAt start (Ticks 0) b ⊎ IsUsedAt start (Ticks 0) b → ⊥
 tick_hashes b (inl h) = none_cut b (subst (λ (k : Work). IsHashedCut k b) (sym (work_same h.0 h.1)) h.2)
-tick_hashes b (inr (inl u)) = reads_nothing strict 2 0 face_is b (subst (λ (f : Face). IsRead f b) (read_is u.0 u.1) u.2)
+tick_hashes b (inr (inl u)) = reads_nothing strict 2 0 face_is b (subst (λ (d : Lying). IsRead d b) (read_is u.0 u.1) u.2)
 tick_hashes b (inr (inr u)) = says_nothing u.0 b (all_of (begun_in start (Ticks 0)) u.0 tick_begun (contains_in (begun_in start (Ticks 0)) u.0 u.1)) u.2
 
 only_root : (b : List ℕ) → IsHashed start (Ticks 0 ∷ Stops 1 ∷ Fuses 0 5 7 ∷ []) b → b ≡ named_bytes (root_header 0)

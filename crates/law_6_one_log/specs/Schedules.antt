@@ -1,7 +1,6 @@
 -- What is asked of a schedule: its lines, that names don't collide, and that it isn't too long.
 use Rattle.std.specs.Prelude.{ℕ, zero, suc, ◌+◌, ◌^◌, ◌<◌, ◌≡◌, ◌⊎◌, List, [], ◌∷◌, length, Contains, slice_get, Some}
 use Rattle.std.specs.List.{AllByRecursion}
-use Rattle.vr_disk.specs.DiskState.{Face}
 use Rattle.vr_header.specs.declared.header.Header.{Header}
 use Rattle.vr_header.specs.Names.{root_header}
 use Rattle.vr_header.specs.NoCollision.{NoCollision}
@@ -34,7 +33,7 @@ room (suc cluster) = 2 ^ 47
 
 -- what a line's work hashes: of what its disk reads as, and of the effects that are begun
 abbrev pub IsUsedAt : World Lying → Happening → List ℕ → Type 0
-IsUsedAt w x bytes = ((f : Face) × Contains (read_in w x) f × IsRead f bytes) ⊎ ((e : Effect) × Contains (begun_in w x) e × IsWritten e bytes)
+IsUsedAt w x bytes = ((d : Lying) × Contains (read_in w x) d × IsRead d bytes) ⊎ ((e : Effect) × Contains (begun_in w x) e × IsWritten e bytes)
 
 -- names don't collide, of what was read, held and written in any line, and of the root of the group's log
 abbrev pub IsHashedOf : ℕ → World Lying → List Happening → List ℕ → Type 0

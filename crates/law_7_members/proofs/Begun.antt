@@ -30,7 +30,7 @@ use Rattle.law_7_members.specs.Deeds.{config_at}
 use Rattle.law_7_members.specs.Files.{Act, ActBy, AtWork, all_lines}
 use Rattle.law_7_members.specs.Whole as whole
 use Rattle.law_7_members.specs.Whole.{AreRuns, Begins, ZerosBeginTheFirst, made_on, new_host, own, unheld, world_of}
-use Rattle.law_7_members.proofs.Files.{scheduled}
+use Rattle.law_7_members.proofs.Files.{AreFirst, scheduled}
 use Rattle.law_7_members.proofs.Keeping.{few_lines}
 use Rattle.law_7_members.proofs.Making.{IsNew, late_new, made_new, unfinished_plain}
 
@@ -136,6 +136,13 @@ module _ (kinds : ℕ → Kind) (cluster n : ℕ) (first : ℕ → Host Lying) (
         let m = happenings_are_runs cluster xs w (fresh_group kinds cluster n) u.0 (record { lines = lines; names = λ p q x y same. never p q (into p x) (into q y) same; few = omega (arith, size, short) }) in
         (m.0, λ p q x y same. never p q (m.1 p x) (m.1 q y) same)
 
+    -- and each file is of version 1
+    begun_files : AreFirst (world_of first n)
+    begun_files i m e =
+        let at = first_at i m e in
+        let one = new i at.0 in
+        ap (λ (h : Host Lying). h.disk.version) (at.1 ∙ one.is) ∙ (one.new.on.file ∙ one.new.on.version)
+
 pub zeros_begin_the_first : ZerosBeginTheFirst
 unfolding world_of first_world
 zeros_begin_the_first kinds cluster n = refl
@@ -144,6 +151,6 @@ pub begun_keep_one_log : (kinds : ℕ → Kind) (cluster n : ℕ) (first : ℕ �
     → NoCollision (IsHashedOf cluster (world_of first n) (all_lines xs)) → KeepsLog kinds cluster n h
 begun_keep_one_log kinds cluster n first xs h number few many short new work never =
     let w = world_of first n in
-    let s = scheduled cluster w xs h work in
+    let s = scheduled cluster w xs h (begun_files kinds cluster n first new number few many) work in
     let m = begun_are_runs kinds cluster n first new number few many (all_lines xs) (few_lines cluster (length (all_lines xs)) (length xs) short s.few) s.lines never in
     subst (KeepsLog kinds cluster n) s.is (keeps_log kinds cluster n number few many (one_log cluster n) (happen hazards w (all_lines xs)) m.0 m.1)

@@ -1,9 +1,9 @@
 -- What befalls a member is a line or two of a schedule.
-use Rattle.std.proofs.Common.{ℕ, zero, suc, ◌+◌, ◌-◌, ◌*◌, ◌%◌, ◌<◌, ◌≤◌, ◌≡◌, arith, refl, sym, ap, ◌∙◌, subst, Bool, cond, List, [], ◌∷◌, ◌++◌, length, set, Option, Some, None}
+use Rattle.std.proofs.Common.{ℕ, zero, suc, ◌+◌, ◌-◌, ◌*◌, ◌%◌, ◌<◌, ◌≤◌, ◌≡◌, arith, refl, sym, ap, ◌∙◌, subst, Bool, true, false, cond, inl, inr, List, [], ◌∷◌, ◌++◌, length, set, Option, Some, None}
 use Rattle.std.specs.Prelude.{slice_get, Ok}
 use Rattle.std.specs.List.{AllByRecursion}
 use Rattle.std.specs.Option.{option_map, option_map_or}
-use Rattle.std.proofs.lemmas.Bool.{lt-leb}
+use Rattle.std.proofs.lemmas.Bool.{cases_eq, lt-leb}
 use Rattle.std.proofs.lemmas.List.{append-nil, append_assoc, length-append}
 use Rattle.std.proofs.lemmas.Nat.{mod-mul-add}
 use Rattle.std.proofs.lemmas.Option.{slice_get_within}
@@ -16,17 +16,20 @@ use Rattle.vr_msg.specs.declared.output.Output.TheVariants as output
 use Rattle.vr_msg.specs.declared.output.Sent.{Sent}
 use Rattle.vr_super.specs.Copies.{SuperValue}
 use Rattle.vr_world.specs.Group.{Arrival, Asked, Message, Time, opening_script, resumed}
-use Rattle.vr_world.specs.Lying.{Lying, hazards, lying}
+use Rattle.vr_world.specs.Lying.{Lying, hazards, keeps_premise, lied_to, lying, unless_kept_out}
 use Rattle.vr_world.specs.Opening.{blank, opened, opening}
 use Rattle.vr_node.specs.Replica.{Replica}
 use Rattle.vr_node.specs.Rules.{react}
-use Rattle.vr_node.specs.Sectors.{calls, sectors, sectors_by}
+use Rattle.vr_node.specs.Sectors.{script_calls, sectors, sectors_by}
 use Rattle.vr_world.specs.Steps.{Effect, Step, after_all, outputs}
 use Rattle.vr_world.specs.World as world
 use Rattle.vr_world.specs.World.{Acted, Happened, Happening, Host, World, Fuses, Lies, Starts, Stops, acts, at_member, delivered, handles, happen, happens, lied, nothing, starts, stays, stops, with_member}
 use Rattle.vr_node.specs.Outputs.{messages}
+use Rattle.vr_lie.specs.declared.fault.Fault.{Fault}
+use Rattle.vr_lie.specs.Faults.{faulted}
+use Rattle.vr_world.proofs.FitLies.{same_version}
 use Rattle.law_4_disks.specs.Worlds.{IsLine}
-use Rattle.law_4_disks.proofs.Lines.{own_place}
+use Rattle.law_4_disks.proofs.Lines.{other_place, own_place, some_member}
 use Rattle.law_4_disks.proofs.Starts.{opening_is}
 use Rattle.vr_lying.proofs.Rules.{a_react}
 use Rattle.vr_lying.proofs.Versions.{blank_one, opens_one}
@@ -107,25 +110,25 @@ event_is_line sent at Time e c = tt
 
 -- ---- work that is done, and work that is cut
 
-acts_cut : (at made code : ℕ) (o : Option Replica) (file : Lying) (s : Step) → made < length (calls s.script file.face)
+acts_cut : (at made code : ℕ) (o : Option Replica) (file : Lying) (s : Step) → made < length (script_calls file.version s.script file.face)
     → (let m : Host Lying = record { replica = o; disk = file; fuse = Some (record { calls = made; code = code }) } in acts hazards at m s ≡ record { member = on_file None (cut_in file s.script made code); outputs = output.Halted at ∷ [] })
 acts_cut at made code o file s l =
     let u : Fuse = record { calls = made; code = code } in
     let m : Host Lying = record { replica = o; disk = file; fuse = Some u } in
-    let rest : Fuse = record { calls = made - length (calls s.script file.face); code = code } in
-    ap (λ (t : Bool). cond t (world.went hazards m s (Some rest)) (world.halted hazards at m s u)) (lt-leb (length (calls s.script file.face)) made l)
+    let rest : Fuse = record { calls = made - length (script_calls file.version s.script file.face); code = code } in
+    ap (λ (t : Bool). cond t (world.went hazards m s (Some rest)) (world.halted hazards at m s u)) (lt-leb (length (script_calls file.version s.script file.face)) made l)
 
 -- the opening of a file that opens as a value
 abbrev whole : SuperValue → Lying → Step
 whole v file = record { replica = (resumed v file).replica; script = opening_script v file }
 
-opened_is : (v : SuperValue) (file : Lying) → sectors.opens file.face ≡ Some v → opened lying file ≡ Some (whole v file)
+opened_is : (v : SuperValue) (file : Lying) → (sectors_by file.version).opens file.face ≡ Some v → opened lying file ≡ Some (whole v file)
 unfolding opened
 opened_is v file o =
     let is : lying.opens file ≡ Some v = o in
     ap (option_map (λ (v : SuperValue). opening v lying (blank v) file)) is ∙ ap Some (opening_is v file)
 
-starts_as : (at : ℕ) (fuse : Option Fuse) (file : Lying) (v : SuperValue) (a : Acted Lying) → sectors.opens file.face ≡ Some v
+starts_as : (at : ℕ) (fuse : Option Fuse) (file : Lying) (v : SuperValue) (a : Acted Lying) → (sectors_by file.version).opens file.face ≡ Some v
     → (let h : Host Lying = record { replica = None; disk = file; fuse = fuse } in acts hazards at h (whole v file) ≡ a → starts hazards at h ≡ a)
 starts_as at fuse file v a o e =
     let h : Host Lying = record { replica = None; disk = file; fuse = fuse } in
@@ -150,15 +153,15 @@ module _ (w : World Lying) (at : ℕ) (o : Option Replica) (file : Lying) (there
       two_lines w v (Fuses at made code) y _ (fuse_line w at (on_file o file) there made code) (line ∙ (at_one v at f here act _ acted ∙ cut_left made code script))
 
 -- an event is handled
-handled_told : (w : World Lying) (at : ℕ) (file : Lying) (e : Event) (d : Disk) (did : Did Node) (node : Node) → slice_get w.members at ≡ Some (on_file (Some node.replica.memory) file) → d.face ≡ file.face → steps node (Some d) e did.outputs did.after did.disk
+handled_told : (w : World Lying) (at : ℕ) (file : Lying) (e : Event) (d : Disk) (did : Did Node) (node : Node) → slice_get w.members at ≡ Some (on_file (Some node.replica.memory) file) → file.version ≡ 1 → d.face ≡ file.face → steps node (Some d) e did.outputs did.after did.disk
     → at_member w at (handles hazards e) ≡ left_at w at (Some did.after.replica.memory) (file_after file node.replica.memory e) did.outputs
-handled_told w at file e d did node there tells does =
+handled_told w at file e d did node there one tells does =
     let r = node.replica.memory in
     let left : LeftBy 1 (react e sectors r d.face) did.after.replica.memory d did.disk [] did.outputs (Ok tt) =
     subst (λ n. LeftBy n (react e (sectors_by n) r d.face) did.after.replica.memory d did.disk [] did.outputs (Ok tt)) does.0 (does.1.told d refl) in
-    let y : Step = react e sectors r file.face in
+    let y : Step = react e (sectors_by file.version) r file.face in
     let same : react e lying r file ≡ y = (a_react e).each r file in
-    let from : react e sectors r d.face ≡ y = ap (react e sectors r) tells in
+    let from : react e sectors r d.face ≡ y = ap (react e sectors r) tells ∙ ap (λ n. react e (sectors_by n) r file.face) (sym one) in
     let replica_is : y.replica ≡ did.after.replica.memory = sym (left.0 ∙ ap (λ (s : Step). s.replica) from) in
     let outputs_is : outputs y.script ≡ did.outputs = sym (left.1 ∙ ap (λ (s : Step). outputs s.script) from) in
     at_one w at (on_file (Some r) file) there (handles hazards e) _ refl
@@ -167,38 +170,39 @@ handled_told w at file e d did node there tells does =
     ∙ ap (left_at w at (Some did.after.replica.memory) (after_all lying file y.script)) outputs_is))
 
 -- a member is found again
-found_told : (c : Config) (w : World Lying) (at : ℕ) (file : Lying) (v : SuperValue) (d : Disk) (after : Option Disk) (first : List Output) (r : Replica) → slice_get w.members at ≡ Some (on_file None file) → d.face ≡ file.face → sectors.opens d.face ≡ Some v → Opens None c (Some d) after first r
+found_told : (c : Config) (w : World Lying) (at : ℕ) (file : Lying) (v : SuperValue) (d : Disk) (after : Option Disk) (first : List Output) (r : Replica) → slice_get w.members at ≡ Some (on_file None file) → file.version ≡ 1 → d.face ≡ file.face → (sectors_by file.version).opens d.face ≡ Some v → Opens None c (Some d) after first r
     → at_member w at (starts hazards) ≡ left_at w at (Some r) (after_all lying file (opening_script v file)) first
-found_told c w at file v d after first r there tells o opens_as =
-    let is : v ≡ opens_as.value = (let e : Some v ≡ Some opens_as.value = sym o ∙ opens_as.opens in cc) in
+found_told c w at file v d after first r there one tells o opens_as =
+    let opened : sectors.opens d.face ≡ Some v = subst (λ n. (sectors_by n).opens d.face ≡ Some v) one o in
+    let is : v ≡ opens_as.value = (let e : Some v ≡ Some opens_as.value = sym opened ∙ opens_as.opens in cc) in
     let left : LeftBy 1 (opening v sectors (blank v) d.face) r d after [] first (Ok tt) =
-    subst (λ n. LeftBy n (opening v (sectors_by n) (blank v) d.face) r d after [] first (Ok tt)) (blank_one v (opens_one d.face v o))
+    subst (λ n. LeftBy n (opening v (sectors_by n) (blank v) d.face) r d after [] first (Ok tt)) (blank_one v (opens_one d.face v opened))
     ((subst (λ (u : SuperValue). Does (opening u) (blank u) r (Some d) after [] first (Ok tt)) (sym is) opens_as.step).told d refl) in
-    let same : opening v sectors (blank v) d.face ≡ whole v file = ap (opening v sectors (blank v)) tells ∙ (sym ((a_opening v).each (blank v) file) ∙ opening_is v file) in
+    let same : opening v sectors (blank v) d.face ≡ whole v file = ap (opening v sectors (blank v)) tells ∙ (ap (λ n. opening v (sectors_by n) (blank v) file.face) (sym one) ∙ (sym ((a_opening v).each (blank v) file) ∙ opening_is v file)) in
     let there_after = after_all lying file (opening_script v file) in
     let replica_is : (whole v file).replica ≡ r = sym (left.0 ∙ ap (λ (z : Step). z.replica) same) in
     let first_is : outputs (opening_script v file) ≡ first = sym (left.1 ∙ ap (λ (z : Step). outputs z.script) same) in
-    at_one w at (on_file None file) there (starts hazards) _ (starts_as at None file v _ (sym (ap (λ (f : Face). sectors.opens f) tells) ∙ o) refl)
+    at_one w at (on_file None file) there (starts hazards) _ (starts_as at None file v _ (sym (ap (λ (f : Face). (sectors_by file.version).opens f) tells) ∙ o) refl)
     ∙ (ap (λ (q : Replica). left_at w at (Some q) there_after (outputs (opening_script v file))) replica_is ∙ ap (left_at w at (Some r) there_after) first_is)
 
 -- ---- what befalls a member
 
-becomes_lines : (c : Config) (w : World Lying) (at : ℕ) (act : Act) (o : Option Replica) (file : Lying) (next : Option Replica) (left : Lying) → slice_get w.members at ≡ Some (on_file o file) → Brings w.sent at act → Becomes c o file act next left
+becomes_lines : (c : Config) (w : World Lying) (at : ℕ) (act : Act) (o : Option Replica) (file : Lying) (next : Option Replica) (left : Lying) → slice_get w.members at ≡ Some (on_file o file) → file.version ≡ 1 → Brings w.sent at act → Becomes c o file act next left
     → happen hazards w (lines_of at act) ≡ left_at w at next left (puts_out at act)
-becomes_lines c w at _ _ _ _ _ there comes (files.handles file arrival did node d tells does) =
-    one_line w (line_of arrival at) _ (event_line w at arrival did.come.event comes ∙ handled_told w at file did.come.event d did node there tells does)
-becomes_lines c w at _ _ _ _ _ there comes (files.breaks file arrival e made code r within) =
-    let y : Step = react e sectors r file.face in
+becomes_lines c w at _ _ _ _ _ there one comes (files.handles file arrival did node d tells does) =
+    one_line w (line_of arrival at) _ (event_line w at arrival did.come.event comes ∙ handled_told w at file did.come.event d did node there one tells does)
+becomes_lines c w at _ _ _ _ _ there one comes (files.breaks file arrival e made code r within) =
+    let y : Step = react e (sectors_by file.version) r file.face in
     let v = with_fuse w at (on_file (Some r) file) there made code in
     let f = fused w at (on_file (Some r) file) there made code in
     let same : react e lying r file ≡ y = (a_react e).each r file in
     cut_lines w at (Some r) file there made code y.script (line_of arrival at) (handles hazards e) (event_line v at arrival e comes) (ap (λ (s : Step). acts hazards at f s) same ∙ acts_cut at made code (Some r) file y within)
-becomes_lines c w at _ _ _ _ _ there comes (files.ends file o) = one_line w (Stops at) _ (at_one w at (on_file o file) there stops _ refl)
-becomes_lines c w at _ _ _ _ _ there comes (files.finds file d v after first r tells o opened) = one_line w (Starts at) _ (found_told c w at file v d after first r there tells o opened)
-becomes_lines c w at _ _ _ _ _ there comes (files.half_finds file v made code o within) =
+becomes_lines c w at _ _ _ _ _ there one comes (files.ends file o) = one_line w (Stops at) _ (at_one w at (on_file o file) there stops _ refl)
+becomes_lines c w at _ _ _ _ _ there one comes (files.finds file d v after first r tells o opened) = one_line w (Starts at) _ (found_told c w at file v d after first r there one tells o opened)
+becomes_lines c w at _ _ _ _ _ there one comes (files.half_finds file v made code o within) =
     let f = fused w at (on_file None file) there made code in
     cut_lines w at None file there made code (opening_script v file) (Starts at) (starts hazards) refl (starts_as at f.fuse file v _ o (acts_cut at made code None file (whole v file) within))
-becomes_lines c w at _ _ _ _ _ there comes (files.decays file o fault left within keeps) = one_line w (Lies at fault) _ (at_one w at (on_file o file) there (world.lies hazards fault) _ (ap (λ (x : Option Lying). lied (on_file o file) x) keeps))
+becomes_lines c w at _ _ _ _ _ there one comes (files.decays file o fault left within keeps) = one_line w (Lies at fault) _ (at_one w at (on_file o file) there (world.lies hazards fault) _ (ap (λ (x : Option Lying). lied (on_file o file) x) keeps))
 
 becomes_are_lines : (c : Config) (sent : List Sent) (at : ℕ) (act : Act) (o : Option Replica) (file : Lying) (next : Option Replica) (left : Lying) → Brings sent at act → Becomes c o file act next left
     → AllByRecursion IsLine (lines_of at act) × (length (lines_of at act) ≤ 2)
@@ -209,8 +213,49 @@ becomes_are_lines c sent at _ _ _ _ _ comes (files.finds file d v after first r 
 becomes_are_lines c sent at _ _ _ _ _ comes (files.half_finds file v made code o within) = ((tt, (tt, tt)), omega arith)
 becomes_are_lines c sent at _ _ _ _ _ comes (files.decays file o fault left within keeps) = ((within, tt), omega arith)
 
-befallen : (cluster : ℕ) (w : World Lying) (x : ActBy) (h : Happened Lying) → Befalls cluster w x h → happen hazards w (lines_of x.at x.act) ≡ h
-befallen cluster w x h b = becomes_lines (config_at cluster w.n x.at) w x.at x.act b.replica b.file b.next b.left b.there b.brings b.becomes ∙ sym b.is
+-- ---- all files are of version 1
+
+-- a fault changes no version
+lied_version : (file left : Lying) (fault : Fault) → unless_kept_out file fault ≡ Some left → left.version ≡ file.version
+unfolding unless_kept_out
+lied_version file left fault e =
+    let x : Lying = lied_to file (faulted file.face fault) in
+    elim (keeps_premise file (faulted file.face fault)) as (λ t. cond t (Some x) None ≡ Some left → left.version ≡ file.version) [
+      | true ↦ λ e. (let same : x ≡ left = cc in ap (λ (y : Lying). y.version) (sym same))
+      | false ↦ λ e. absurd cc
+    ] e
+
+-- nor does anything else
+pub same_file : (c : Config) (act : Act) (o : Option Replica) (file : Lying) (next : Option Replica) (left : Lying) → Becomes c o file act next left → left.version ≡ file.version
+same_file c _ _ _ _ _ (files.handles file arrival did node d tells does) = same_version (react did.come.event (sectors_by file.version) node.replica.memory file.face).script file
+same_file c _ _ _ _ _ (files.breaks file arrival e made code r within) = refl
+same_file c _ _ _ _ _ (files.ends file o) = refl
+same_file c _ _ _ _ _ (files.finds file d v after first r tells o opened) = same_version (opening_script v file) file
+same_file c _ _ _ _ _ (files.half_finds file v made code o within) = refl
+same_file c _ _ _ _ _ (files.decays file o fault left within keeps) = lied_version file left fault keeps
+
+abbrev pub AreFirst : World Lying → Type 0
+AreFirst w = (i : ℕ) (m : Host Lying) → slice_get w.members i ≡ Some m → m.disk.version ≡ 1
+
+first_next : (w : World Lying) (at : ℕ) (m : Host Lying) (next : Option Replica) (left : Lying) (os : List Output) → slice_get w.members at ≡ Some m → left.version ≡ 1 → AreFirst w → AreFirst (left_at w at next left os).world
+first_next w at m next left os there one first i x e =
+    let a : Host Lying = on_file next left in
+    elim (cases_eq at i) [
+      | inl same ↦
+          let own_is : slice_get (set w.members at a) at ≡ Some x = subst (λ (j : ℕ). slice_get (set w.members at a) j ≡ Some x) (sym same) e in
+          let is : a ≡ x = some_member a x (sym (own_place w.members at m a there) ∙ own_is) in
+          ap (λ (h : Host Lying). h.disk.version) (sym is) ∙ one
+      | inr other ↦ first i x (sym (other_place w.members at i a other) ∙ e)
+    ]
+
+befallen : (cluster : ℕ) (w : World Lying) (x : ActBy) (h : Happened Lying) → AreFirst w → Befalls cluster w x h → happen hazards w (lines_of x.at x.act) ≡ h
+befallen cluster w x h first b =
+    becomes_lines (config_at cluster w.n x.at) w x.at x.act b.replica b.file b.next b.left b.there (first x.at (on_file b.replica b.file) b.there) b.brings b.becomes ∙ sym b.is
+
+first_on : (cluster : ℕ) (w : World Lying) (x : ActBy) (h : Happened Lying) → AreFirst w → Befalls cluster w x h → AreFirst h.world
+first_on cluster w x h first b =
+    let one = same_file (config_at cluster w.n x.at) x.act b.replica b.file b.next b.left b.becomes ∙ first x.at (on_file b.replica b.file) b.there in
+    subst (λ (h : Happened Lying). AreFirst h.world) (sym b.is) (first_next w x.at (on_file b.replica b.file) b.next b.left (puts_out x.at x.act) b.there one first)
 
 -- ---- one after the other
 
@@ -224,13 +269,13 @@ pub record Scheduled (w : World Lying) (xs : List ActBy) (h : Happened Lying) : 
   pub lines : AllByRecursion IsLine (all_lines xs)
   pub few : length (all_lines xs) ≤ 2 * length xs
 
-pub scheduled : (cluster : ℕ) (w : World Lying) (xs : List ActBy) (h : Happened Lying) → AtWork cluster w xs h → Scheduled w xs h
+pub scheduled : (cluster : ℕ) (w : World Lying) (xs : List ActBy) (h : Happened Lying) → AreFirst w → AtWork cluster w xs h → Scheduled w xs h
 unfolding happen
-scheduled cluster _ _ _ (files.rests v) = record { is = refl; lines = tt; few = omega arith }
-scheduled cluster _ _ _ (files.goes_on v x xs one rest b more) =
-    let is = befallen cluster v x one b in
+scheduled cluster _ _ _ ones (files.rests v) = record { is = refl; lines = tt; few = omega arith }
+scheduled cluster _ _ _ ones (files.goes_on v x xs one rest b more) =
+    let is = befallen cluster v x one ones b in
     let l = becomes_are_lines (config_at cluster v.n x.at) v.sent x.at x.act b.replica b.file b.next b.left b.brings b.becomes in
-    let s = scheduled cluster one.world xs rest more in
+    let s = scheduled cluster one.world xs rest (first_on cluster v x one ones b) more in
     let size = length-append (lines_of x.at x.act) (all_lines xs) in
     let first = l.1 in
     let later = s.few in

@@ -1,17 +1,21 @@
 -- What befalls members of a group keeps one log, and a member is found again on its file.
 use Rattle.vr_base.specs.declared.kind.Kind.{Kind}
-use Rattle.std.proofs.Common.{ℕ, zero, suc, ◌*◌, ◌^◌, ◌<◌, ◌≤◌, ◌≡◌, arith, refl, sym, ap, ◌∙◌, subst, List, [], length}
+use Rattle.std.proofs.Common.{ℕ, zero, suc, ◌*◌, ◌^◌, ◌<◌, ◌≤◌, ◌≡◌, arith, refl, sym, ap, ◌∙◌, subst, List, [], length, map, Some}
+use Rattle.std.specs.List.{range_with_len}
 use Rattle.std.specs.Option.{option_and_then}
+use Rattle.std.proofs.lemmas.List.FromFn.{get_or-map-range_with_len, length-map-range_with_len}
+use Rattle.std.proofs.lemmas.Option.{slice_get_within, slice_get-get_or}
 use Rattle.vr_disk.specs.DiskState.{Face, IsFace}
 use Rattle.vr_super.specs.Copies.{SuperValue}
 use Rattle.vr_world.specs.Group.{AreSound, Played, fresh_group, kept_at, recovered}
 use Rattle.vr_world.specs.Lying.{Lying, hazards, lying}
 use Rattle.vr_world.specs.Opening.{blank, mending}
-use Rattle.vr_node.specs.Sectors.{runnable, sectors}
+use Rattle.vr_node.specs.Sectors.{runnable, sectors, sectors_by}
 use Rattle.vr_world.specs.Steps.{Mend, Step}
-use Rattle.vr_world.specs.World.{Happened, Starts, happen}
+use Rattle.vr_world.specs.World.{Happened, Host, Starts, happen}
 use Rattle.law_4_disks.specs.Beside.{AreMade}
-use Rattle.law_4_disks.specs.Worlds.{IsMatched, first_world, left}
+use Rattle.law_4_disks.specs.Worlds.{IsMatched, first_host, first_world, left}
+use Rattle.law_4_disks.proofs.Fresh.{some_world}
 use Rattle.law_4_disks.proofs.Opening.{openings_find}
 use Rattle.vr_lying.proofs.Words.{Alike, a_does, a_parts, a_then}
 use Rattle.law_6_one_log.specs.ScheduleLaws.{LeavesUnforged}
@@ -24,16 +28,18 @@ use Rattle.law_6_one_log.proofs.Traces.{keeps_log}
 use Rattle.law_7_members.specs.Deeds.{lying_on}
 use Rattle.law_7_members.specs.Files.{all_lines}
 use Rattle.law_7_members.specs.Laws.{AreFound, MembersAreFound, NodesAreFound, NodesKeepOneLog}
-use Rattle.law_7_members.proofs.Files.{scheduled}
+use Rattle.law_7_members.proofs.Files.{AreFirst, scheduled}
 
 -- ---- found again
 
 a_mending : (v : SuperValue) → Alike (mending v) (mending v)
 a_mending v = a_then (a_does (λ r. Mend v)) (a_parts v)
 
--- what is found depends on the sectors alone
-same_found : (v : SuperValue) (a b : Lying) → a.face ≡ b.face → recovered v a ≡ recovered v b
-same_found v a b e = ap (λ (s : Step). s.replica) ((a_mending v).each (blank v) a ∙ (ap (λ (f : Face). mending v sectors (blank v) f) e ∙ sym ((a_mending v).each (blank v) b)))
+-- what is found depends on the sectors and on the version of their file alone
+same_found : (v : SuperValue) (a b : Lying) → a.version ≡ b.version → a.face ≡ b.face → recovered v a ≡ recovered v b
+same_found v a b n e =
+    let faces = ap (λ (f : Face). mending v (sectors_by a.version) (blank v) f) e ∙ ap (λ k. mending v (sectors_by k) (blank v) b.face) n in
+    ap (λ (s : Step). s.replica) ((a_mending v).each (blank v) a ∙ (faces ∙ sym ((a_mending v).each (blank v) b)))
 
 pub members_are_found : MembersAreFound
 members_are_found cluster w g u few at m d there stopped tells =
@@ -55,11 +61,22 @@ members_are_found cluster w g u few at m d there stopped tells =
         face = subst IsFace (sym tells) off.calm.face;
         value = ap (λ (f : Face). sectors.opens f) tells ∙ (ap (option_and_then runnable) off.value ∙ (rw off.version refl));
         may = off.may;
-        sound = subst (AreSound v (kept_at q) g.made) (same_found v m.disk (lying_on d) (sym tells)) f.sound;
+        sound = subst (AreSound v (kept_at q) g.made) (same_found v m.disk (lying_on d) (off.file ∙ off.version) (sym tells)) f.sound;
       };
     }
 
 -- ---- one log
+
+-- a file that was just made is of version 1
+first_files : (kinds : ℕ → Kind) (cluster n : ℕ) → AreFirst (first_world kinds cluster n)
+unfolding first_world
+first_files kinds cluster n i m e =
+    let f : ℕ → Host Lying = first_host kinds cluster n in
+    let size = length-map-range_with_len f 0 n in
+    let within = slice_get_within (map f (range_with_len 0 n)) i m e in
+    let l : i < n = omega (arith, size, within) in
+    let is : m ≡ f i = some_world m (f i) (sym e ∙ (slice_get-get_or (map f (range_with_len 0 n)) i m within ∙ ap Some (get_or-map-range_with_len f 0 n i i m l (omega arith)))) in
+    ap (λ (h : Host Lying). h.disk.version) is
 
 pub few_lines : (cluster n k : ℕ) → k < 2 ^ 46 → n ≤ 2 * k → n < room cluster
 few_lines zero n k l m = omega (arith, l, m)
@@ -68,7 +85,7 @@ few_lines (suc cluster) n k l m = omega (arith, l, m)
 pub nodes_keep_one_log : NodesKeepOneLog
 nodes_keep_one_log kinds cluster n xs h number few many short work never =
     let w = first_world kinds cluster n in
-    let s = scheduled cluster w xs h work in
+    let s = scheduled cluster w xs h (first_files kinds cluster n) work in
     let m = worlds_are_runs kinds cluster n (all_lines xs) number few many (few_lines cluster (length (all_lines xs)) (length xs) short s.few) s.lines never in
     subst (KeepsLog kinds cluster n) s.is (keeps_log kinds cluster n number few many (one_log cluster n) (happen hazards w (all_lines xs)) m.0 m.1)
 
@@ -81,7 +98,7 @@ found_of kinds cluster n bound h m u size few =
 pub nodes_are_found : NodesAreFound
 nodes_are_found kinds cluster n xs h number few many short work never =
     let w = first_world kinds cluster n in
-    let s = scheduled cluster w xs h work in
+    let s = scheduled cluster w xs h (first_files kinds cluster n) work in
     let room_left = few_lines cluster (length (all_lines xs)) (length xs) short s.few in
     let m = worlds_are_runs kinds cluster n (all_lines xs) number few many room_left s.lines never in
     subst (AreFound kinds cluster n) s.is (found_of kinds cluster n (length (all_lines xs)) (happen hazards w (all_lines xs)) m.0 m.2 m.3 room_left)

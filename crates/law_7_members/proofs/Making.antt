@@ -398,18 +398,19 @@ pub record IsNew (kind : Kind) (c : Config) (file : Lying) : Type 0 where
 abbrev nothing_kept : Option Header
 nothing_kept = None
 
-on_new : (kind : Kind) (c : Config) (file : Lying) → IsCalm kind.mode file → opens file.face ≡ Some (first_value kind c.cluster c.n c.replica) → IsOn file (fresh_member kind c.cluster c.n c.replica)
-on_new kind c file calm opened_so = record {
+on_new : (kind : Kind) (c : Config) (file : Lying) → file.version ≡ 1 → IsCalm kind.mode file → opens file.face ≡ Some (first_value kind c.cluster c.n c.replica) → IsOn file (fresh_member kind c.cluster c.n c.replica)
+on_new kind c file of calm opened_so = record {
   calm = calm;
   held = record { count = length-replicate 64 (nothing_kept); each = λ slot h b e. absurd (let bad : None ≡ Some h = sym (get_or-replicate 64 slot nothing_kept None b) ∙ e in cc) };
   value = opened_so;
+  file = of;
   version = refl;
   under = refl;
 }
 
 -- one that opens as its first value
 pub late_new : (kind : Kind) (c : Config) (f : Face) → IsPlain f → opens f ≡ Some (first_value kind c.cluster c.n c.replica) → IsNew kind c (unheld f)
-late_new kind c f p o = record { on = on_new kind c (unheld f) (unheld_calm kind.mode f p) o; sealed = has_weaker IsEmpty (IsSealed []) f (λ b x. x.sealed) p.empty }
+late_new kind c f p o = record { on = on_new kind c (unheld f) refl (unheld_calm kind.mode f p) o; sealed = has_weaker IsEmpty (IsSealed []) f (λ b x. x.sealed) p.empty }
 
 -- one that was made to the end
 pub made_new : (kind : Kind) (c : Config) (f : Face) → c.cluster < 2 ^ 64 → IsGood (first_value kind c.cluster c.n c.replica) → IsPlain f → IsNew kind c (made_on kind c f)
@@ -428,6 +429,6 @@ made_new kind c f room good p =
     let reads_as = copies_read 4 0 bytes f3 (length-copy_bytes v good) count (omega arith) (λ c m. absurd (omega arith)) in
     let calm = calm_after (one ++ (two ++ Sync ∷ saves)) (unheld f) (unheld_calm kind.mode f p) (format_are kind c.cluster c.n c.replica room good) (ap (λ (g : Face). g.waiting) all ∙ saves_rest 3 0 bytes f3) in
     record {
-      on = on_new kind c (made_on kind c f) calm (ap opens all ∙ all_open v (after_all f3 saves) good reads_as);
+      on = on_new kind c (made_on kind c f) refl calm (ap opens all ∙ all_open v (after_all f3 saves) good reads_as);
       sealed = has_weaker IsEmpty (IsSealed []) (made_on kind c f).face (λ b x. x.sealed) (has_after_all IsEmpty (making kind c) f p.empty (put_format kind c.cluster c.n c.replica room good));
     }

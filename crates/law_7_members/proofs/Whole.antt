@@ -19,10 +19,12 @@ use Rattle.vr_world.specs.Lying.{Lying, lying, zero_face}
 use Rattle.vr_world.specs.Opening.{blank, fresh, opening}
 use Rattle.vr_node.specs.Replica.{Replica, version}
 use Rattle.vr_node.specs.Rules.{react}
-use Rattle.vr_node.specs.Sectors.{calls, calls_of, script_calls, sectors, sectors_by}
+use Rattle.vr_node.specs.Sectors.{calls_by, script_calls, sectors, sectors_by}
 use Rattle.vr_world.specs.Steps.{Effect, Step, after_all}
 use Rattle.vr_world.specs.World as world
 use Rattle.vr_world.specs.World.{Happened, Host, World, nothing}
+use Rattle.vr_world.proofs.FitLies.{same_version}
+use Rattle.law_4_disks.specs.Worlds.{first_host, first_world}
 use Rattle.law_4_disks.proofs.Fresh.{some_world}
 use Rattle.law_4_disks.proofs.Lines.{other_place, own_place, some_member}
 use Rattle.law_4_disks.proofs.Starts.{opening_is}
@@ -39,6 +41,7 @@ use Rattle.law_7_members.specs.Files as files
 use Rattle.law_7_members.specs.Files.{Act, ActBy, AtWork, Becomes, Befalls, file_after, left_at, on_file, puts_out}
 use Rattle.law_7_members.specs.Runs.{HasDeeds}
 use Rattle.law_7_members.specs.Whole as whole
+use Rattle.law_7_members.proofs.Files.{same_file}
 use Rattle.law_7_members.proofs.Begun.{begin_new, begun_keep_one_log}
 use Rattle.law_7_members.specs.Whole.{AreAtWork, AreRuns, Begins, Carries, Lives, RunsAreAtWork, RunsKeepOneLog, all_said, file_of, handled, made_on, making, own, unheld, world_of}
 
@@ -50,10 +53,10 @@ Goes c o file (act ∷ acts) = (next : Option Replica) × (left : Lying) × Beco
 
 -- ---- what the disk tells is the file
 
-face_all : (es : List Effect) (d : Lying) → (after_all lying d es).face ≡ disk.after_all d.face (calls es d.face)
+face_all : (es : List Effect) (d : Lying) → (after_all lying d es).face ≡ disk.after_all d.face (script_calls d.version es d.face)
 unfolding after_all script_calls
 face_all [] d = refl
-face_all (e ∷ es) d = face_all es (lying.after d e) ∙ sym (after_all_append (calls_of e d.face) (calls es (lying.after d e).face) d.face)
+face_all (e ∷ es) d = face_all es (lying.after d e) ∙ sym (after_all_append (calls_by d.version e d.face) (script_calls d.version es (lying.after d e).face) d.face)
 
 -- a disk that tells a face
 abbrev TellsFace : Option Disk → Face → Type 0
@@ -63,36 +66,39 @@ ran_tells : (cs : List Call) (d : Disk) (o : Option Disk) (f : Face) → d.face 
 ran_tells cs d o f tells r = ((runs cs d).disk, r.0, after_is cs d (sym r.1) ∙ ap (λ (f : Face). disk.after_all f cs) tells)
 
 -- of calls that are a script's on that face
-script_tells : (s : Step) (file : Lying) (d : Disk) (o : Option Disk) (cs : List Call) → cs ≡ calls s.script file.face → d.face ≡ file.face → Runs cs (Some d) o true → TellsFace o (after_all lying file s.script).face
+script_tells : (s : Step) (file : Lying) (d : Disk) (o : Option Disk) (cs : List Call) → cs ≡ script_calls file.version s.script file.face → d.face ≡ file.face → Runs cs (Some d) o true → TellsFace o (after_all lying file s.script).face
 script_tells s file d o cs same tells r =
     let t = ran_tells cs d o file.face tells r in
     (t.0, t.1, t.2 ∙ (ap (λ (cs : List Call). disk.after_all file.face cs) same ∙ sym (face_all s.script file)))
 
-step_tells : (file : Lying) (r q : Replica) (e : Event) (d : Disk) (after : Option Disk) (os : List Output) → d.face ≡ file.face → version r ≡ 1 → Does (react e) r q (Some d) after [] os (Ok tt) → TellsFace after (file_after file r e).face
-step_tells file r q e d after os tells one does =
+step_tells : (file : Lying) (r q : Replica) (e : Event) (d : Disk) (after : Option Disk) (os : List Output) → file.version ≡ 1 → d.face ≡ file.face → version r ≡ 1 → Does (react e) r q (Some d) after [] os (Ok tt) → TellsFace after (file_after file r e).face
+step_tells file r q e d after os of tells one does =
     let left : LeftBy 1 (react e sectors r d.face) q d after [] os (Ok tt) = subst (λ n. LeftBy n (react e (sectors_by n) r d.face) q d after [] os (Ok tt)) one (does.told d refl) in
-    script_tells (react e sectors r file.face) file d after (calls (react e sectors r d.face).script d.face) (ap (λ (f : Face). calls (react e sectors r f).script f) tells) tells left.2
+    let here = ap (λ (f : Face). script_calls 1 (react e sectors r f).script f) tells in
+    let same = here ∙ ap (λ n. script_calls n (react e (sectors_by n) r file.face).script file.face) (sym of) in
+    script_tells (react e (sectors_by file.version) r file.face) file d after (script_calls 1 (react e sectors r d.face).script d.face) same tells left.2
 
 -- ---- the events of a run
 
-handled_goes : (c : Config) (arrivals : List Arrival) (dids : List (Did Node)) (node last : Node) (o left : Option Disk) (file : Lying) (acts : List Act) → TellsFace o file.face → length arrivals ≡ length dids → IsRun steps node o dids last left
+handled_goes : (c : Config) (arrivals : List Arrival) (dids : List (Did Node)) (node last : Node) (o left : Option Disk) (file : Lying) (acts : List Act) → file.version ≡ 1 → TellsFace o file.face → length arrivals ≡ length dids → IsRun steps node o dids last left
     → Goes c (Some last.replica.memory) (file_of file node.replica.memory dids) acts → Goes c (Some node.replica.memory) file (handled arrivals dids ++ acts)
-handled_goes c [] [] node last o left file acts tells size run more = subst (λ (n : Node). Goes c (Some n.replica.memory) file acts) run.0 more
-handled_goes c (a ∷ arrivals) [] node last o left file acts tells size run more = absurd (let bad : suc (length arrivals) ≡ zero = size in cc)
-handled_goes c [] (x ∷ dids) node last o left file acts tells size run more = absurd (let bad : zero ≡ suc (length dids) = size in cc)
-handled_goes c (a ∷ arrivals) (x ∷ dids) node last o left file acts tells size run more =
+handled_goes c [] [] node last o left file acts of tells size run more = subst (λ (n : Node). Goes c (Some n.replica.memory) file acts) run.0 more
+handled_goes c (a ∷ arrivals) [] node last o left file acts of tells size run more = absurd (let bad : suc (length arrivals) ≡ zero = size in cc)
+handled_goes c [] (x ∷ dids) node last o left file acts of tells size run more = absurd (let bad : zero ≡ suc (length dids) = size in cc)
+handled_goes c (a ∷ arrivals) (x ∷ dids) node last o left file acts of tells size run more =
     let does : steps node (Some tells.0) x.come.event x.outputs x.after x.disk = subst (λ (o : Option Disk). steps node o x.come.event x.outputs x.after x.disk) tells.1 run.0 in
-    let next = step_tells file node.replica.memory x.after.replica.memory x.come.event tells.0 x.disk x.outputs tells.2 does.0 does.1 in
+    let next = step_tells file node.replica.memory x.after.replica.memory x.come.event tells.0 x.disk x.outputs of tells.2 does.0 does.1 in
+    let kept = same_version (react x.come.event (sectors_by file.version) node.replica.memory file.face).script file ∙ of in
     let less : length arrivals ≡ length dids = omega (arith, size) in (
       Some x.after.replica.memory,
       file_after file node.replica.memory x.come.event,
       files.handles file a x node tells.0 tells.2 does,
-      handled_goes c arrivals dids x.after last x.disk left (file_after file node.replica.memory x.come.event) acts next less run.1 more,
+      handled_goes c arrivals dids x.after last x.disk left (file_after file node.replica.memory x.come.event) acts kept next less run.1 more,
     )
 
 -- what an opening leaves
-opened_tells : (c : Config) (file : Lying) (d : Disk) (v : SuperValue) (o o' : Outside) (run : HasDeeds None c o o') → o.disk ≡ Some d → d.face ≡ file.face → sectors.opens d.face ≡ Some v → TellsFace run.disk (after_all lying file (opening_script v file)).face
-opened_tells c file d v o o' run told tells is_open =
+opened_tells : (c : Config) (file : Lying) (d : Disk) (v : SuperValue) (o o' : Outside) (run : HasDeeds None c o o') → file.version ≡ 1 → o.disk ≡ Some d → d.face ≡ file.face → sectors.opens d.face ≡ Some v → TellsFace run.disk (after_all lying file (opening_script v file)).face
+opened_tells c file d v o o' run of told tells is_open =
     let on = subst (λ (x : Option Disk). (value : SuperValue) × IfSome x (λ (d : Disk). sectors.opens d.face ≡ Some value) × Does (opening value) (blank value) run.node.replica.memory x run.disk [] run.first (Ok tt)) told (run.opens.value, run.opens.opens, run.opens.step) in
     let is : on.0 ≡ v = (let e : Some on.0 ≡ Some v = sym on.1 ∙ is_open in cc) in
     let q = run.node.replica.memory in
@@ -100,22 +106,29 @@ opened_tells c file d v o o' run told tells is_open =
     subst (λ n. LeftBy n (opening v (sectors_by n) (blank v) d.face) q d run.disk [] run.first (Ok tt)) (blank_one v (opens_one d.face v is_open))
     ((subst (λ (u : SuperValue). Does (opening u) (blank u) q (Some d) run.disk [] run.first (Ok tt)) is on.2).told d refl) in
     let s : Step = record { replica = (resumed v file).replica; script = opening_script v file } in
-    let same : opening v sectors (blank v) d.face ≡ s = ap (opening v sectors (blank v)) tells ∙ (sym ((a_opening v).each (blank v) file) ∙ opening_is v file) in
-    script_tells s file d run.disk (calls (opening v sectors (blank v) d.face).script d.face) (ap (λ (x : Step). calls x.script d.face) same ∙ ap (λ (f : Face). calls s.script f) tells) tells left.2
+    let same : opening v sectors (blank v) d.face ≡ s = ap (opening v sectors (blank v)) tells ∙ (ap (λ n. opening v (sectors_by n) (blank v) file.face) (sym of) ∙ (sym ((a_opening v).each (blank v) file) ∙ opening_is v file)) in
+    let all = ap (λ (x : Step). script_calls 1 x.script d.face) same ∙ (ap (λ (f : Face). script_calls 1 s.script f) tells ∙ ap (λ n. script_calls n s.script file.face) (sym of)) in
+    script_tells s file d run.disk (script_calls 1 (opening v sectors (blank v) d.face).script d.face) all tells left.2
 
 opened_as : (c : Config) (d : Disk) (o o' : Outside) (run : HasDeeds None c o o') → o.disk ≡ Some d → Opens None c (Some d) run.disk run.first run.node.replica.memory
 opened_as c d o o' run told = subst (λ (x : Option Disk). Opens None c x run.disk run.first run.node.replica.memory) told run.opens
 
-lives_go : (c : Config) (o : Option Replica) (file : Lying) (acts : List Act) → Lives c o file acts → Goes c o file acts
-lives_go c _ _ _ (whole.rests o file) = tt
-lives_go c _ _ _ (whole.goes o next file left act acts becomes more) = (next, left, becomes, lives_go c next left acts more)
-lives_go c _ _ _ (whole.runs file d v o o' run arrivals acts told tells is_open size more) =
+files_kept : (file : Lying) (r : Replica) (dids : List (Did Node)) → file.version ≡ 1 → (file_of file r dids).version ≡ 1
+files_kept file r [] of = of
+files_kept file r (x ∷ dids) of =
+    files_kept (file_after file r x.come.event) x.after.replica.memory dids (same_version (react x.come.event (sectors_by file.version) r file.face).script file ∙ of)
+
+lives_go : (c : Config) (o : Option Replica) (file : Lying) (acts : List Act) → file.version ≡ 1 → Lives c o file acts → Goes c o file acts
+lives_go c _ _ _ of (whole.rests o file) = tt
+lives_go c _ _ _ of (whole.goes o next file left act acts becomes more) = (next, left, becomes, lives_go c next left acts (same_file c act o file next left becomes ∙ of) more)
+lives_go c _ _ _ of (whole.runs file d v o o' run arrivals acts told tells is_open size more) =
     let left = after_all lying file (opening_script v file) in
-    let after = opened_tells c file d v o o' run told tells is_open in (
+    let kept = same_version (opening_script v file) file ∙ of in
+    let after = opened_tells c file d v o o' run of told tells (subst (λ n. (sectors_by n).opens d.face ≡ Some v) of is_open) in (
       Some run.node.replica.memory,
       left,
       files.finds file d v run.disk run.first run.node.replica.memory tells is_open (opened_as c d o o' run told),
-      handled_goes c arrivals run.dids run.node run.last run.disk run.left left acts after size run.run (lives_go c (Some run.last.replica.memory) (file_of left run.node.replica.memory run.dids) acts more),
+      handled_goes c arrivals run.dids run.node run.last run.disk run.left left acts kept after size run.run (lives_go c (Some run.last.replica.memory) (file_of left run.node.replica.memory run.dids) acts (files_kept left run.node.replica.memory run.dids kept) more),
     )
 
 -- how a member first is, and its acts from there on
@@ -131,11 +144,11 @@ begun kind c _ _ (whole.makes d o o' run arrivals acts told unfinished size live
     let made = subst (λ (x : Option Disk). Opens (Some kind) c x run.disk run.first run.node.replica.memory) told run.opens in
     let is = made.0.is in
     let tells = ran_tells (making kind c) d run.disk d.face refl is.2 in
-    let all = handled_goes c arrivals run.dids run.node run.last run.disk run.left file acts tells size run.run (lives_go c (Some run.last.replica.memory) (file_of file run.node.replica.memory run.dids) acts lives) in
+    let all = handled_goes c arrivals run.dids run.node run.last run.disk run.left file acts refl tells size run.run (lives_go c (Some run.last.replica.memory) (file_of file run.node.replica.memory run.dids) acts (files_kept file run.node.replica.memory run.dids refl) lives) in
     record { replica = Some (fresh kind c.cluster c.n c.replica); file = file; is = refl; goes = subst (λ (r : Replica). Goes c (Some r) file (handled arrivals run.dids ++ acts)) is.1 all }
 begun kind c _ _ (whole.stops_late f acts unfinished opened lives) =
     let r = Some (fresh kind c.cluster c.n c.replica) in
-    record { replica = r; file = unheld f; is = refl; goes = (None, unheld f, files.ends (unheld f) r, lives_go c None (unheld f) acts lives) }
+    record { replica = r; file = unheld f; is = refl; goes = (None, unheld f, files.ends (unheld f) r, lives_go c None (unheld f) acts refl lives) }
 begun kind c _ _ whole.waits = record { replica = Some (fresh kind c.cluster c.n c.replica); file = made_on kind c zero_face; is = refl; goes = tt }
 
 -- ---- all members

@@ -58,9 +58,9 @@ pub record Reaches (g : Group) (at : ℕ) (arrival : Arrival) (event : Event) : 
   pub comes : IsArrival g at arrival event
   pub fits : IsFitArrival arrival
 
--- the sectors of a disk, beside which nothing is kept
+-- the sectors of a disk, beside which nothing is kept, of a file of version 1
 abbrev pub lying_on : Disk → Lying
-lying_on d = record { face = d.face; held = [] }
+lying_on d = record { face = d.face; held = []; version = 1 }
 
 -- Of a disk on which a member is found again: its program opens it as the value that was last written to its end, or as the one whose write
 -- was cut; and what is found in its slots is sound, so that no entry is denied that was kept there.

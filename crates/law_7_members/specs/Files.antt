@@ -15,7 +15,7 @@ use Rattle.vr_world.specs.Group.{Arrival, Asked, Message, Time, opening_script}
 use Rattle.vr_world.specs.Lying.{Lying, cut_calls, lying, unless_kept_out}
 use Rattle.vr_node.specs.Replica.{Replica}
 use Rattle.vr_node.specs.Rules.{react}
-use Rattle.vr_node.specs.Sectors.{calls, sectors}
+use Rattle.vr_node.specs.Sectors.{script_calls, sectors_by}
 use Rattle.vr_world.specs.Steps.{Effect, after_all}
 use Rattle.vr_world.specs.World.{Happened, Happening, Host, World, Arrives, Asks, Fuses, Lies, Starts, Stops, Ticks, later, nothing, with_member}
 use Rattle.vr_node.specs.Fit.{IsAsked}
@@ -75,25 +75,25 @@ Brings sent at _ = ⊤
 
 -- a file that is cut in the calls of a script
 abbrev pub cut_in : Lying → List Effect → ℕ → ℕ → Lying
-cut_in file script made code = cut_calls made code file (calls script file.face)
+cut_in file script made code = cut_calls made code file (script_calls file.version script file.face)
 
 abbrev pub IsWithin : Lying → List Effect → ℕ → Type 0
-IsWithin file script made = made < length (calls script file.face)
+IsWithin file script made = made < length (script_calls file.version script file.face)
 
 -- its file once an event is handled
 abbrev pub file_after : Lying → Replica → Event → Lying
-file_after file r e = after_all lying file (react e sectors r file.face).script
+file_after file r e = after_all lying file (react e (sectors_by file.version) r file.face).script
 
 -- from a replica, none while it is stopped, and a file, to others
 pub data Becomes (c : Config) : Option Replica → Lying → Act → Option Replica → Lying → Type 0 where
   handles : (file : Lying) (arrival : Arrival) (did : Did Node) (node : Node) (d : Disk) → d.face ≡ file.face → steps node (Some d) did.come.event did.outputs did.after did.disk
       → Becomes c (Some node.replica.memory) file (Handles arrival did) (Some did.after.replica.memory) (file_after file node.replica.memory did.come.event)
-  breaks : (file : Lying) (arrival : Arrival) (e : Event) (made code : ℕ) (r : Replica) → IsWithin file (react e sectors r file.face).script made
-      → Becomes c (Some r) file (Breaks arrival e made code) None (cut_in file (react e sectors r file.face).script made code)
+  breaks : (file : Lying) (arrival : Arrival) (e : Event) (made code : ℕ) (r : Replica) → IsWithin file (react e (sectors_by file.version) r file.face).script made
+      → Becomes c (Some r) file (Breaks arrival e made code) None (cut_in file (react e (sectors_by file.version) r file.face).script made code)
   ends : (file : Lying) (o : Option Replica) → Becomes c o file Ends None file
-  finds : (file : Lying) (d : Disk) (v : SuperValue) (after : Option Disk) (first : List Output) (r : Replica) → d.face ≡ file.face → sectors.opens d.face ≡ Some v → Opens None c (Some d) after first r
+  finds : (file : Lying) (d : Disk) (v : SuperValue) (after : Option Disk) (first : List Output) (r : Replica) → d.face ≡ file.face → (sectors_by file.version).opens d.face ≡ Some v → Opens None c (Some d) after first r
       → Becomes c None file (Finds after first r) (Some r) (after_all lying file (opening_script v file))
-  half_finds : (file : Lying) (v : SuperValue) (made code : ℕ) → sectors.opens file.face ≡ Some v → IsWithin file (opening_script v file) made
+  half_finds : (file : Lying) (v : SuperValue) (made code : ℕ) → (sectors_by file.version).opens file.face ≡ Some v → IsWithin file (opening_script v file) made
       → Becomes c None file (HalfFinds made code) None (cut_in file (opening_script v file) made code)
   decays : (file : Lying) (o : Option Replica) (fault : Fault) (left : Lying) → IsFault fault → unless_kept_out file fault ≡ Some left
       → Becomes c o file (Decays fault) o left

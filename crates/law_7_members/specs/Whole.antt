@@ -20,7 +20,7 @@ use Rattle.vr_node.specs.Replica.{Replica}
 use Rattle.vr_world.specs.Steps.{after_all}
 use Rattle.vr_world.specs.World.{Happened, Host, World}
 use Rattle.vr_node.specs.Outputs.{messages}
-use Rattle.vr_node.specs.Sectors.{sectors}
+use Rattle.vr_node.specs.Sectors.{sectors_by}
 use Rattle.law_4_disks.specs.Worlds.{first_world}
 use Rattle.law_6_one_log.specs.Schedules.{IsHashedOf}
 use Rattle.law_6_one_log.specs.Laws.{KeepsLog}
@@ -51,7 +51,7 @@ file_of file r (did ∷ dids) = file_of (file_after file r did.come.event) did.a
 -- begin to lie.
 pub data Lives (c : Config) : Option Replica → Lying → List Act → Type 0 where
   rests : (o : Option Replica) (file : Lying) → Lives c o file []
-  runs : (file : Lying) (d : Disk) (v : SuperValue) (o o' : Outside) (run : HasDeeds None c o o') (arrivals : List Arrival) (acts : List Act) → o.disk ≡ Some d → d.face ≡ file.face → sectors.opens d.face ≡ Some v → length arrivals ≡ length run.dids
+  runs : (file : Lying) (d : Disk) (v : SuperValue) (o o' : Outside) (run : HasDeeds None c o o') (arrivals : List Arrival) (acts : List Act) → o.disk ≡ Some d → d.face ≡ file.face → (sectors_by file.version).opens d.face ≡ Some v → length arrivals ≡ length run.dids
       → Lives c (Some run.last.replica.memory) (file_of (after_all lying file (opening_script v file)) run.node.replica.memory run.dids) acts
       → Lives c None file (Finds run.disk run.first run.node.replica.memory ∷ (handled arrivals run.dids ++ acts))
   goes : (o next : Option Replica) (file left : Lying) (act : Act) (acts : List Act) → Becomes c o file act next left → Lives c next left acts → Lives c o file (act ∷ acts)
@@ -78,9 +78,9 @@ pub record LeavesUnfinished (c : Config) (d' : Option Disk) : Type 0 where
 abbrev pub MakingsLeaveUnfinished : Type 0
 MakingsLeaveUnfinished = (kind : Kind) (c : Config) (d : Disk) (d' : Option Disk) (status : Status) → IsUnfinished c d.face → OpensNone (Some kind) c (Some d) d' status → LeavesUnfinished c d'
 
--- such a file, none of whose slots holds an entry; and what a whole making leaves of it
+-- such a file, of version 1, none of whose slots holds an entry; and what a whole making leaves of it
 abbrev pub unheld : Face → Lying
-unheld f = record { face = f; held = each_slot (λ slot. None) }
+unheld f = record { face = f; held = each_slot (λ slot. None); version = 1 }
 
 abbrev pub made_on : Kind → Config → Face → Lying
 made_on kind c f = after_calls (unheld f) (making kind c)

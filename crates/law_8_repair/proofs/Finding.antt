@@ -5,9 +5,6 @@ use Rattle.std.specs.Option.{option_and_then}
 use Rattle.std.proofs.lemmas.Bool.{eq-eqb, ltb-false, or_parts}
 use Rattle.std.proofs.lemmas.Nat.{mod_below}
 use Rattle.std.proofs.lemmas.List.Elements.{All-head, All-tail}
-use Rattle.vr_disk.specs.DiskState as disk
-use Rattle.vr_disk.proofs.Places.{behind_headers}
-use Rattle.vr_disk.specs.DiskState.{Face}
 use Rattle.vr_base.specs.declared.kind.Kind.{Kind}
 use Rattle.vr_header.specs.declared.header.Header.{Header}
 use Rattle.vr_header.specs.declared.part.Part.TheVariants.{Here}
@@ -19,8 +16,6 @@ use Rattle.vr_msg.specs.declared.event.Event.TheVariants as event
 use Rattle.vr_msg.specs.Logs.{has_header, header_of}
 use Rattle.vr_world.specs.Deciding.{first_of, tick_table}
 use Rattle.vr_world.specs.Fit.{IsProgram}
-use Rattle.vr_rings.specs.Calls.{header_calls}
-use Rattle.vr_rings.specs.Slots.{whole_in}
 use Rattle.vr_world.specs.Laws.{HasNames, IsEvent}
 use Rattle.vr_world.specs.Lying.{Lying, lying}
 use Rattle.vr_world.specs.Sectors.{sectors}
@@ -36,7 +31,7 @@ use Rattle.vr_world.proofs.Combining.{Keeps, keeps_by, keeps_says, keeps_then, k
 use Rattle.vr_world.proofs.Halves.{after_both, regrouped}
 use Rattle.vr_world.proofs.Heads.{known_within}
 use Rattle.vr_world.proofs.Keeping.{spans_of}
-use Rattle.vr_world.proofs.FitDisks.{disks_fit, header_spares, same_entry}
+use Rattle.vr_world.proofs.FitDisks.{disks_fit}
 use Rattle.vr_world.proofs.FitLies.{lies_fit}
 use Rattle.vr_world.proofs.Reacting.{keeps_idler, steps_stay_sound}
 use Rattle.vr_world.proofs.Rising.{steps_rise}
@@ -47,7 +42,7 @@ use Rattle.vr_world.proofs.Wording.{keeps_ask, keeps_prepare_again}
 use Rattle.law_4_disks.proofs.Chaining.{chain_kind}
 use Rattle.law_4_disks.proofs.ChainingRules.{c_react}
 use Rattle.law_8_repair.specs.Visits.{AreRead, VisitsFind, after_events, seen_after, visited}
-use Rattle.law_8_repair.proofs.Disks.{IsLong, lying_stores, sectors_store}
+use Rattle.law_8_repair.proofs.Disks.{IsLong, header_entry, lying_stores, sectors_store}
 use Rattle.law_8_repair.proofs.Dry.{fine_after}
 use Rattle.law_8_repair.proofs.Looking.{Leaves, Sturdy, all_spared, of_sheds, one_slot, sheds, wrote}
 use Rattle.law_8_repair.proofs.LookingRules.{at_message, at_request}
@@ -250,16 +245,11 @@ module _ {F : Type 0} (s : Setting F) where
 
 -- ---- the disks of the program
 
-rewritten_entry : (f : Face) (h : Header) (slot : ℕ) → whole_in 1 (disk.after_all f (header_calls h)) slot ≡ whole_in 1 f slot
-rewritten_entry f h slot =
-    let b = mod_below h.op 64 (omega arith) in
-    same_entry (header_calls h) f slot (λ k m n. header_spares h k (λ q. omega (arith, q, b, behind_headers 1 slot, m)))
-
 pub sectors_sturdy : Sturdy sectors IsLong
-sectors_sturdy = record { stores = sectors_store; rewritten = rewritten_entry }
+sectors_sturdy = record { stores = sectors_store; rewritten = λ f h slot. header_entry 1 h f slot }
 
 pub lying_sturdy : Sturdy lying (λ (d : Lying). IsLong d.face)
-lying_sturdy = record { stores = lying_stores; rewritten = λ d h slot. rewritten_entry d.face h slot }
+lying_sturdy = record { stores = lying_stores; rewritten = λ d h slot. header_entry d.version h d.face slot }
 
 pub sectors_find : VisitsFind sectors (λ f. f)
 sectors_find es seen r f face one sound m read = events_read sectors IsLong sectors_sturdy disks_fit.program sectors_fit.0 es seen r f one sound face.count m read

@@ -48,13 +48,13 @@ use Rattle.law_8_repair.proofs.PlacingOpening.{fresh_in_place, opened_in_place}
 -- ---- the disks of the program
 
 sectors_load : Loads sectors (λ f. f)
-sectors_load = record { bytes = loaded_bytes; put = put_face; same = loaded_still; reads = disks_fit.reads; apart = sectors_apart; saves = sectors_in_place }
+sectors_load = record { bytes = loaded_bytes; put = put_face; same = loaded_still 1; reads = disks_fit.reads; apart = sectors_apart; saves = sectors_in_place }
 
 lying_load : Loads lying (λ d. d.face)
 lying_load = record {
   bytes = λ d whole. loaded_bytes d.face whole;
   put = λ d name block whole is bytes. put_face d.face name block whole is bytes;
-  same = λ d e root h. loaded_still d.face e root h;
+  same = λ d e root h. loaded_still d.version d.face e root h;
   reads = lies_fit.reads;
   apart = lying_apart;
   saves = lying_in_place;

@@ -4,12 +4,12 @@ use Rattle.std.specs.Prelude.{nat_lt}
 use Rattle.std.specs.List.{AllByRecursion}
 use Rattle.std.specs.Option.{option_and_then}
 use Rattle.std.proofs.lemmas.Bool.{cases_eq, lt-ltb}
-use Rattle.std.proofs.lemmas.Nat.{mod_below}
 use Rattle.vr_disk.specs.DiskState as disk
 use Rattle.vr_disk.specs.DiskState.{Call, Face, Sync}
 use Rattle.vr_disk.specs.Regions.{block_place}
 use Rattle.vr_disk.specs.Sectors.{behind, has, together}
 use Rattle.vr_disk.specs.Stops.{Spares}
+use Rattle.vr_disk.proofs.Places.{behind_headers, grid_apart}
 use Rattle.vr_disk.proofs.Together.{after_all_append, has_is, length_after_all, spares_append, together_same, together_synced, within_spares}
 use Rattle.vr_ckpt.specs.Blocks.{named}
 use Rattle.vr_ckpt.specs.Grid.{block_calls, block_reading, named_at, put_calls}
@@ -21,6 +21,7 @@ use Rattle.vr_header.specs.declared.header.Header.{Header}
 use Rattle.vr_header.specs.Made.{Whole}
 use Rattle.vr_ckpt.specs.Saves.{blocks_calls, save_calls, written}
 use Rattle.vr_rings.specs.Calls.{header_calls, prepare_calls}
+use Rattle.vr_rings.specs.Slots.{slot_of}
 use Rattle.vr_super.specs.Calls.{copy_calls, mend_calls, mend_copy, mend_from, mend_unless, save_from}
 use Rattle.vr_super.specs.Copies.{IsGood, SuperValue, copy_bytes}
 use Rattle.vr_super.specs.Laws.{AllRead}
@@ -29,9 +30,10 @@ use Rattle.vr_super.proofs.Format.{length-copy_bytes}
 use Rattle.vr_super.proofs.Keeping.{copy_done, mend_done}
 use Rattle.vr_super.proofs.Readings.{copy_within, mend_within, other_after}
 use Rattle.vr_world.specs.Lying.{lying}
-use Rattle.vr_world.specs.Sectors.{block_in, calls_of, sectors}
+use Rattle.vr_world.specs.Sectors.{block_in, calls_by, calls_of, sectors}
 use Rattle.vr_world.specs.Steps.{Effect, Write, Rewrite, Save, Mend, Checkpoint, PutBlock, Say, Setting}
-use Rattle.vr_world.proofs.FitDisks.{block_spares, blocks_spare, grid_behind, header_spares, mend_spares, prepare_spares, same_reads, save_spares}
+use Rattle.vr_world.proofs.FitDisks.{block_spares, blocks_spare, grid_behind, header_spares, mend_spares, same_reads, save_spares}
+use Rattle.vr_world.proofs.FitVersions.{prepare_spares, slot_below}
 use Rattle.law_8_repair.proofs.Disks.{IsLong}
 use Rattle.law_8_repair.proofs.Standing.{SparesGrid}
 
@@ -69,30 +71,36 @@ block_spared cs f name h =
     together_same 8 (block_place name.address) f (disk.after_all f cs) (λ k a b. same_reads cs f k (h k a b)) in
     shows (disk.after_all f cs) name ∙ (ap (shown name) same ∙ sym (shows f name))
 
-header_high : (h : Header) (i : ℕ) → 400 ≤ i → AllByRecursion (Spares i) (header_calls h)
-header_high h i l = let b = mod_below h.op 64 (omega arith) in header_spares h i (λ q. omega (arith, q, b, l))
+-- a sector of a block
+record IsOf (address i : ℕ) : Type 0 where
+  low : block_place address ≤ i
+  high : i < block_place address + 8
 
-prepare_high : (e : Whole) (i : ℕ) → 400 ≤ i → AllByRecursion (Spares i) (prepare_calls 1 e)
-prepare_high e i l = let b = mod_below e.header.op 64 (omega arith) in prepare_spares e i (inr (omega (arith, b, l)))
+header_high : (h : Header) (address i : ℕ) → IsOf address i → AllByRecursion (Spares i) (header_calls h)
+header_high h address i is = let b = slot_below h in let high = grid_behind address in header_spares h i (λ q. omega (arith, q, b, high, is.low))
 
-grid_spared : (e : Effect) (f : Face) (i : ℕ) → SparesGrid e → 400 ≤ i → AllByRecursion (Spares i) (calls_of e f)
-grid_spared (Write true e) f i h l = spares_append i (header_calls e.header) (prepare_calls 1 e) (header_high e.header i l) (prepare_high e i l)
-grid_spared (Write false e) f i h l = spares_append i (prepare_calls 1 e) (header_calls e.header) (prepare_high e i l) (header_high e.header i l)
-grid_spared (Rewrite x) f i h l = header_high x i l
-grid_spared (Save old new) f i h l = spares_append i (mend_calls old f) (save_from 0 4 (copy_bytes new)) (mend_spares 4 0 i (copy_bytes old) f (omega arith) (omega (arith, l))) (save_spares 4 0 i (copy_bytes new) (omega arith) (omega (arith, l)))
-grid_spared (Mend v) f i h l = mend_spares 4 0 i (copy_bytes v) f (omega arith) (omega (arith, l))
-grid_spared (Checkpoint cluster texts op old) f i h l = absurd h
-grid_spared (PutBlock name block) f i h l = absurd h
-grid_spared (Say o) f i h l = tt
+prepare_high : (v : ℕ) (e : Whole) (address i : ℕ) → IsOf address i → AllByRecursion (Spares i) (prepare_calls v e)
+prepare_high v e address i is =
+    prepare_spares v e i (elim (grid_apart v (slot_of e.header) address (slot_below e.header)) [ inl below ↦ inr (omega (arith, below, is.low)) | inr above ↦ inl (omega (arith, above, is.high)) ])
 
-block_kept : (f : Face) (e : Effect) (name : Name) → SparesGrid e → block_in (disk.after_all f (calls_of e f)) name ≡ block_in f name
-block_kept f e name h = let high = grid_behind name.address in block_spared (calls_of e f) f name (λ i a b. grid_spared e f i h (omega (arith, a, high)))
+grid_spared : (v : ℕ) (e : Effect) (f : Face) (address i : ℕ) → SparesGrid e → IsOf address i → AllByRecursion (Spares i) (calls_by v e f)
+grid_spared v (Write true e) f a i h l = spares_append i (header_calls e.header) (prepare_calls v e) (header_high e.header a i l) (prepare_high v e a i l)
+grid_spared v (Write false e) f a i h l = spares_append i (prepare_calls v e) (header_calls e.header) (prepare_high v e a i l) (header_high e.header a i l)
+grid_spared v (Rewrite x) f a i h l = header_high x a i l
+grid_spared v (Save old new) f a i h l =
+    let high = grid_behind a in
+    spares_append i (mend_calls old f) (save_from 0 4 (copy_bytes new)) (mend_spares 4 0 i (copy_bytes old) f (omega arith) (omega (arith, high, l.low))) (save_spares 4 0 i (copy_bytes new) (omega arith) (omega (arith, high, l.low)))
+grid_spared v (Mend value) f a i h l = let high = grid_behind a in mend_spares 4 0 i (copy_bytes value) f (omega arith) (omega (arith, high, l.low))
+grid_spared v (Checkpoint cluster texts op old) f a i h l = absurd h
+grid_spared v (PutBlock name block) f a i h l = absurd h
+grid_spared v (Say o) f a i h l = tt
 
-pub grid_reads : (f : Face) (e : Effect) (address : ℕ) → SparesGrid e → block_reading (disk.after_all f (calls_of e f)) address ≡ block_reading f address
+block_kept : (v : ℕ) (f : Face) (e : Effect) (name : Name) → SparesGrid e → block_in (disk.after_all f (calls_by v e f)) name ≡ block_in f name
+block_kept v f e name h = block_spared (calls_by v e f) f name (λ i a b. grid_spared v e f name.address i h (record { low = a; high = b }))
+
+pub grid_reads : (v : ℕ) (f : Face) (e : Effect) (address : ℕ) → SparesGrid e → block_reading (disk.after_all f (calls_by v e f)) address ≡ block_reading f address
 unfolding block_reading
-grid_reads f e address h =
-    let high = grid_behind address in
-    together_same 8 (block_place address) f (disk.after_all f (calls_of e f)) (λ k a b. same_reads (calls_of e f) f k (grid_spared e f k h (omega (arith, a, high))))
+grid_reads v f e address h = together_same 8 (block_place address) f (disk.after_all f (calls_by v e f)) (λ k a b. same_reads (calls_by v e f) f k (grid_spared v e f address k h (record { low = a; high = b })))
 
 put_reads : (f : Face) (name : Name) (b : List ℕ) → IsLong f → is_some (named name b) ≡ true → block_in (disk.after_all f (put_calls name.address b)) name ≡ Some b
 unfolding put_calls block_reading
@@ -128,23 +136,23 @@ copies_spared cs f v h read = λ c l. together_same 20 (20 * c) f (disk.after_al
 header_low : (h : Header) (i : ℕ) → i < 80 → AllByRecursion (Spares i) (header_calls h)
 header_low h i l = header_spares h i (λ q. omega (arith, q, l))
 
-prepare_low : (e : Whole) (i : ℕ) → i < 80 → AllByRecursion (Spares i) (prepare_calls 1 e)
-prepare_low e i l = prepare_spares e i (inl (omega (arith, l)))
+prepare_low : (v : ℕ) (e : Whole) (i : ℕ) → i < 80 → AllByRecursion (Spares i) (prepare_calls v e)
+prepare_low v e i l = let behind = behind_headers v (slot_of e.header) in prepare_spares v e i (inl (omega (arith, l, behind)))
 
-low_spared : (e : Effect) (f : Face) (i : ℕ) → SparesCopies e → i < 80 → AllByRecursion (Spares i) (calls_of e f)
+low_spared : (v : ℕ) (e : Effect) (f : Face) (i : ℕ) → SparesCopies e → i < 80 → AllByRecursion (Spares i) (calls_by v e f)
 unfolding put_calls save_calls
-low_spared (Write true e) f i h l = spares_append i (header_calls e.header) (prepare_calls 1 e) (header_low e.header i l) (prepare_low e i l)
-low_spared (Write false e) f i h l = spares_append i (prepare_calls 1 e) (header_calls e.header) (prepare_low e i l) (header_low e.header i l)
-low_spared (Rewrite x) f i h l = header_low x i l
-low_spared (Save old new) f i h l = absurd h
-low_spared (Mend v) f i h l = absurd h
-low_spared (Checkpoint cluster texts op old) f i h l =
+low_spared v (Write true e) f i h l = spares_append i (header_calls e.header) (prepare_calls v e) (header_low e.header i l) (prepare_low v e i l)
+low_spared v (Write false e) f i h l = spares_append i (prepare_calls v e) (header_calls e.header) (prepare_low v e i l) (header_low e.header i l)
+low_spared v (Rewrite x) f i h l = header_low x i l
+low_spared v (Save old new) f i h l = absurd h
+low_spared v (Mend value) f i h l = absurd h
+low_spared v (Checkpoint cluster texts op old) f i h l =
     spares_append i (blocks_calls (written cluster texts op old)) (Sync ∷ []) (blocks_spare (written cluster texts op old) i (omega (arith, l))) (tt, tt)
-low_spared (PutBlock name block) f i h l = spares_append i (block_calls name.address block) (Sync ∷ []) (block_spares name.address i block (omega (arith, l))) (tt, tt)
-low_spared (Say o) f i h l = tt
+low_spared v (PutBlock name block) f i h l = spares_append i (block_calls name.address block) (Sync ∷ []) (block_spares name.address i block (omega (arith, l))) (tt, tt)
+low_spared v (Say o) f i h l = tt
 
-copies_kept : (f : Face) (e : Effect) (v : SuperValue) → SparesCopies e → AllRead f v → AllRead (disk.after_all f (calls_of e f)) v
-copies_kept f e v h read = copies_spared (calls_of e f) f v (λ i l. low_spared e f i h l) read
+copies_kept : (v : ℕ) (f : Face) (e : Effect) (value : SuperValue) → SparesCopies e → AllRead f value → AllRead (disk.after_all f (calls_by v e f)) value
+copies_kept v f e value h read = copies_spared (calls_by v e f) f value (λ i l. low_spared v e f i h l) read
 
 -- so many copies read as these bytes
 record ReadTo (bytes : List ℕ) (k : ℕ) (f : Face) : Type 0 where
@@ -225,20 +233,20 @@ mended_reads f v long good =
 
 pub sectors_hold : Holds sectors IsLong AllRead
 sectors_hold = record {
-  block = block_kept;
+  block = λ f e name h. block_kept 1 f e name h;
   put = put_reads;
   beside = put_beside;
-  copies = copies_kept;
+  copies = λ f e v h read. copies_kept 1 f e v h read;
   saved = saved_reads;
   mended = mended_reads;
 }
 
 pub lying_holds : Holds lying (λ d. IsLong d.face) (λ d. AllRead d.face)
 lying_holds = record {
-  block = λ d e name h. block_kept d.face e name h;
+  block = λ d e name h. block_kept d.version d.face e name h;
   put = λ d name b long whole. put_reads d.face name b long whole;
   beside = λ d name other b whole apart. put_beside d.face name other b whole apart;
-  copies = λ d e v h read. copies_kept d.face e v h read;
+  copies = λ d e v h read. copies_kept d.version d.face e v h read;
   saved = λ d old new long good. saved_reads d.face old new long good;
   mended = λ d v long good. mended_reads d.face v long good;
 }

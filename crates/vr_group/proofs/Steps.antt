@@ -20,7 +20,7 @@ use Rattle.vr_replica.specs.Halt.{Halt}
 use Rattle.vr_replica.specs.Halt.TheVariants.{DiskFault, NoMemory}
 use Rattle.vr_lie.specs.Copies.{SuperValue}
 use Rattle.vr_lie.specs.CopyVerdict.{CopyVerdict}
-use Rattle.vr_lying.specs.Lying.{Lying, after_calls, hazards, lying}
+use Rattle.vr_lying.specs.Lying.{Lying, after_calls, blank_lying, hazards, lying}
 use Rattle.vr_replica.specs.Formatting.{format_calls}
 use Rattle.vr_replica.specs.Opening.{blank, fresh, opened, opening}
 use Rattle.vr_replica.specs.Replica.{Replica, version}
@@ -29,7 +29,7 @@ use Rattle.vr_replica.specs.Sectors.{sectors, sectors_by}
 use Rattle.vr_replica.specs.Steps.{Step, Word}
 use Rattle.vr_lying.specs.World.{Acted, Host, acts, fresh_host, fresh_world, handles, starts, stays}
 use Rattle.vr_lying.specs.Told.{IsTold, burnt, host_on, lying_in}
-use Rattle.vr_lying.specs.Disks.{blank_lying, calm}
+use Rattle.vr_lying.specs.Disks.{calm}
 use Rattle.vr_lying.specs.Laws.{Went, revived}
 use Rattle.vr_lying.proofs.Acting.{acts_go, acts_halt}
 use Rattle.vr_lying.proofs.Rules.{a_react}

@@ -10,7 +10,7 @@ use Rattle.vr_msg.specs.declared.output.Output.{Output}
 use Rattle.vr_lie.specs.Held.{held_after_all}
 use Rattle.vr_world.specs.Lying.{Lying, after_calls, hazards, lying}
 use Rattle.vr_world.specs.Replica.{Replica}
-use Rattle.vr_world.specs.Sectors.{calls, calls_of, script_calls}
+use Rattle.vr_world.specs.Sectors.{calls, calls_by, script_calls}
 use Rattle.vr_world.specs.Steps.{Effect, Step, after_all, outputs}
 use Rattle.vr_world.specs.World.{Acted, Host, halted, went, went_or_halted}
 use Rattle.vr_lying.specs.Told.{burnt, host_on, lying_in}
@@ -19,36 +19,37 @@ use Rattle.vr_lying.proofs.Runs.{at_slot, no_calls, runs_cut, runs_went, same_ro
 
 -- ---- the calls of effects
 
-held_both : (cs ds : List Call) (f : Face) (slot : ℕ) (h : Option (List ℕ)) → held_after_all 1 f (cs ++ ds) slot h ≡ held_after_all 1 (disk.after_all f cs) ds slot (held_after_all 1 f cs slot h)
+held_both : (v : ℕ) (cs ds : List Call) (f : Face) (slot : ℕ) (h : Option (List ℕ)) → held_after_all v f (cs ++ ds) slot h ≡ held_after_all v (disk.after_all f cs) ds slot (held_after_all v f cs slot h)
 unfolding held_after_all
-held_both [] ds f slot h = refl
-held_both (c ∷ cs) ds f slot h = held_both cs ds (disk.after f c) slot _
+held_both v [] ds f slot h = refl
+held_both v (c ∷ cs) ds f slot h = held_both v cs ds (disk.after f c) slot _
 
 calls_both : (d : Lying) (cs ds : List Call) → after_calls (after_calls d cs) ds ≡ after_calls d (cs ++ ds)
 calls_both d cs ds =
     let f = disk.after_all d.face cs in
-    let rows = same_rows (λ slot. held_after_all 1 f ds slot (held_at (after_calls d cs).held slot)) (λ slot. held_after_all 1 d.face (cs ++ ds) slot (held_at d.held slot))
-    (λ slot l. ap (held_after_all 1 f ds slot) (at_slot (λ slot. held_after_all 1 d.face cs slot (held_at d.held slot)) slot l) ∙ sym (held_both cs ds d.face slot (held_at d.held slot))) in
-    ap (with_held (disk.after_all f ds)) rows ∙ ap (λ g. with_held g (after_calls d (cs ++ ds)).held) (sym (after_all_append cs ds d.face))
+    let rows = same_rows (λ slot. held_after_all d.version f ds slot (held_at (after_calls d cs).held slot)) (λ slot. held_after_all d.version d.face (cs ++ ds) slot (held_at d.held slot))
+    (λ slot l. ap (held_after_all d.version f ds slot) (at_slot (λ slot. held_after_all d.version d.face cs slot (held_at d.held slot)) slot l) ∙ sym (held_both d.version cs ds d.face slot (held_at d.held slot))) in
+    ap (with_held d.version (disk.after_all f ds)) rows ∙ ap (λ g. with_held d.version g (after_calls d (cs ++ ds)).held) (sym (after_all_append cs ds d.face))
 
 -- effects one after the other leave what all their calls leave
-pub script_leaves : (es : List Effect) (d : Lying) → length d.held ≡ 64 → after_all lying d es ≡ after_calls d (calls es d.face)
+pub script_leaves : (es : List Effect) (d : Lying) → length d.held ≡ 64 → after_all lying d es ≡ after_calls d (script_calls d.version es d.face)
 unfolding after_all script_calls
 script_leaves [] d n = no_calls d n
 script_leaves (e ∷ es) d n =
-    let one = after_calls d (calls_of e d.face) in
-    script_leaves es one (slots_count (λ slot. held_after_all 1 d.face (calls_of e d.face) slot (held_at d.held slot))) ∙ calls_both d (calls_of e d.face) (calls es one.face)
+    let cs = calls_by d.version e d.face in
+    let one = after_calls d cs in
+    script_leaves es one (slots_count (λ slot. held_after_all d.version d.face cs slot (held_at d.held slot))) ∙ calls_both d cs (script_calls d.version es one.face)
 
 -- ---- a step
 
 -- whether the fuse lets so many calls through
-fits_burnt : (index : ℕ) (m : Host Lying) (s : Step) (o : Option Fuse) → IfSome o (λ u. length (calls s.script m.disk.face) ≤ u.calls)
-    → went_or_halted hazards index m s o ≡ went hazards m s (burnt (length (calls s.script m.disk.face)) o)
+fits_burnt : (index : ℕ) (m : Host Lying) (s : Step) (o : Option Fuse) → IfSome o (λ u. length (script_calls m.disk.version s.script m.disk.face) ≤ u.calls)
+    → went_or_halted hazards index m s o ≡ went hazards m s (burnt (length (script_calls m.disk.version s.script m.disk.face)) o)
 fits_burnt index m s None l = refl
-fits_burnt index m s (Some u) l = rw (le-leb (length (calls s.script m.disk.face)) u.calls l) refl
+fits_burnt index m s (Some u) l = rw (le-leb (length (script_calls m.disk.version s.script m.disk.face)) u.calls l) refl
 
-cut_halted : (index : ℕ) (m : Host Lying) (s : Step) (u : Fuse) → u.calls < length (calls s.script m.disk.face) → went_or_halted hazards index m s (Some u) ≡ halted hazards index m s u
-cut_halted index m s u l = rw (lt-leb (length (calls s.script m.disk.face)) u.calls l) refl
+cut_halted : (index : ℕ) (m : Host Lying) (s : Step) (u : Fuse) → u.calls < length (script_calls m.disk.version s.script m.disk.face) → went_or_halted hazards index m s (Some u) ≡ halted hazards index m s u
+cut_halted index m s u l = rw (lt-leb (length (script_calls m.disk.version s.script m.disk.face)) u.calls l) refl
 
 abbrev pub member_left : Option Replica → Lying → Option Fuse → List Output → Acted Lying
 member_left r x fuse os = record { member = record { replica = r; disk = x; fuse = fuse }; outputs = os }

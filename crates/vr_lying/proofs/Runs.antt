@@ -28,28 +28,28 @@ same_rows f g h = rows_are (each_slot f) g (slots_count f) (λ slot l. at_slot f
 
 -- what a call leaves
 abbrev pub after_one : Lying → Call → Lying
-after_one d c = record { face = after d.face c; held = each_slot (λ slot. held_after 1 d.face c slot (held_at d.held slot)) }
+after_one d c = record { face = after d.face c; held = each_slot (λ slot. held_after d.version d.face c slot (held_at d.held slot)); version = d.version }
 
-abbrev pub with_held : Face → List (Option (List ℕ)) → Lying
-with_held f rows = record { face = f; held = rows }
+abbrev pub with_held : ℕ → Face → List (Option (List ℕ)) → Lying
+with_held v f rows = record { face = f; held = rows; version = v }
 
 pub no_calls : (d : Lying) → length d.held ≡ 64 → d ≡ after_calls d []
 unfolding held_after_all
-no_calls d n = ap (with_held d.face) (rows_are d.held (held_at d.held) n (λ slot l. refl))
+no_calls d n = ap (with_held d.version d.face) (rows_are d.held (held_at d.held) n (λ slot l. refl))
 
 pub calls_more : (d : Lying) (c : Call) (cs : List Call) → after_calls (after_one d c) cs ≡ after_calls d (c ∷ cs)
 unfolding held_after_all
 calls_more d c cs =
     let f = after d.face c in
-    ap (with_held (after_all f cs)) (same_rows (λ slot. held_after_all 1 f cs slot (held_at (after_one d c).held slot)) (λ slot. held_after_all 1 f cs slot (held_after 1 d.face c slot (held_at d.held slot)))
-    (λ slot l. ap (held_after_all 1 f cs slot) (at_slot (λ slot. held_after 1 d.face c slot (held_at d.held slot)) slot l)))
+    ap (with_held d.version (after_all f cs)) (same_rows (λ slot. held_after_all d.version f cs slot (held_at (after_one d c).held slot)) (λ slot. held_after_all d.version f cs slot (held_after d.version d.face c slot (held_at d.held slot)))
+    (λ slot l. ap (held_after_all d.version f cs slot) (at_slot (λ slot. held_after d.version d.face c slot (held_at d.held slot)) slot l)))
 
 pub cut_more : (d : Lying) (c : Call) (cs : List Call) (j code : ℕ) → cut_calls j code (after_one d c) cs ≡ cut_calls (suc j) code d (c ∷ cs)
 unfolding held_cut cut
 cut_more d c cs j code =
     let f = after d.face c in
-    ap (with_held (cut j code f cs)) (same_rows (λ slot. held_cut 1 j code f cs slot (held_at (after_one d c).held slot)) (λ slot. held_cut 1 j code f cs slot (held_after 1 d.face c slot (held_at d.held slot)))
-    (λ slot l. ap (held_cut 1 j code f cs slot) (at_slot (λ slot. held_after 1 d.face c slot (held_at d.held slot)) slot l)))
+    ap (with_held d.version (cut j code f cs)) (same_rows (λ slot. held_cut d.version j code f cs slot (held_at (after_one d c).held slot)) (λ slot. held_cut d.version j code f cs slot (held_after d.version d.face c slot (held_at d.held slot)))
+    (λ slot l. ap (held_cut d.version j code f cs slot) (at_slot (λ slot. held_after d.version d.face c slot (held_at d.held slot)) slot l)))
 
 -- ---- one call
 
@@ -65,7 +65,7 @@ record Cut (d : Disk) (c : Call) : Type 0 where
   fuse : Fuse
   armed : d.fate.fuse ≡ Some fuse
   first : fuse.calls ≡ 0
-  lying : lying_in (ran d c).disk ≡ record { face = cut_at fuse.code d.face c; held = each_slot (λ slot. held_cut_at 1 fuse.code d.face c slot (held_at d.beside.rows slot)) }
+  lying : lying_in (ran d c).disk ≡ record { face = cut_at fuse.code d.face c; held = each_slot (λ slot. held_cut_at 1 fuse.code d.face c slot (held_at d.beside.rows slot)); version = 1 }
   spent : (ran d c).disk.fate.fuse ≡ None
   dead : (ran d c).disk.fate.dead ≡ true
   sure : (ran d c).disk.fate.failing ≡ []

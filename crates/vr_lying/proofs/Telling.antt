@@ -10,10 +10,9 @@ use Rattle.vr_lie.specs.Held.{looked}
 use Rattle.vr_lie.specs.Opens.{mode_in}
 use Rattle.vr_mem.specs.Seen as mem
 use Rattle.vr_mem.specs.Seen.{copies}
-use Rattle.vr_world.specs.Lying.{Lying, each_slot, keeps_premise, lied_to, unless_kept_out, zero_face}
+use Rattle.vr_world.specs.Lying.{Lying, blank_lying, each_slot, keeps_premise, lied_to, unless_kept_out, zero_face}
 use Rattle.vr_world.proofs.Premises.{premise, premise_so}
 use Rattle.vr_lying.specs.Told.{lying_in, slots}
-use Rattle.vr_lying.specs.Disks.{blank_lying}
 use Rattle.vr_lying.proofs.Runs.{rows_are, with_held}
 
 -- a disk with this beside its sectors, and its name
@@ -70,8 +69,8 @@ told_attached name d e ok old new k r =
 
 -- ---- faults
 
-lied_is : (d : Lying) (g : Face) (new : List (Option (List ℕ))) → length new ≡ 64 → HeldLooked 1 g d.held new → lied_to d g ≡ with_held g new
-lied_is d g new n h = ap (with_held g) (sym (rows_are new (λ slot. looked 1 g slot (held_at d.held slot)) n h.each))
+lied_is : (d : Lying) (g : Face) (new : List (Option (List ℕ))) → length new ≡ 64 → HeldLooked d.version g d.held new → lied_to d g ≡ with_held d.version g new
+lied_is d g new n h = ap (with_held d.version g) (sym (rows_are new (λ slot. looked d.version g slot (held_at d.held slot)) n h.each))
 
 pub fault_done : (d e : Disk) (old new : List (Option (List ℕ))) (x : Fault) → IsFace d.face → IsFace e.face → length new ≡ 64 → KeepsPremise 1 (mode_in d.face) d.face (faulted d.face x) old → e ≡ record d { face = faulted d.face x } → HeldLooked 1 (faulted d.face x) old new
     → unless_kept_out (lying_in (with_table d old)) x ≡ Some (lying_in (with_table e new))
@@ -81,7 +80,7 @@ fault_done d e old new x w z n k is h =
     let g = faulted d.face x in
     let face : e.face ≡ g = ap (λ (e : Disk). e.face) is in
     let face_is : IsFace g = subst IsFace face z in
-    ap (λ b. cond b (Some (lied_to l g)) None) (premise_so l g w face_is k) ∙ ap Some (lied_is l g new n h ∙ ap (λ f. with_held f new) (sym face))
+    ap (λ b. cond b (Some (lied_to l g)) None) (premise_so l g w face_is k) ∙ ap Some (lied_is l g new n h ∙ ap (λ f. with_held 1 f new) (sym face))
 
 pub fault_kept_out : (d : Disk) (old : List (Option (List ℕ))) (x : Fault) → (KeepsPremise 1 (mode_in d.face) d.face (faulted d.face x) old → ⊥) → unless_kept_out (lying_in (with_table d old)) x ≡ None
 unfolding unless_kept_out
@@ -99,4 +98,4 @@ pub zeros_lie : (d : Disk) (held : List (Option (List ℕ))) → d.face ≡ reco
 unfolding copies mem.zero_cell
 zeros_lie d held e h =
     let rows : replicate 64 None ≡ each_slot (λ slot. None) = rows_are (replicate 64 None) (λ slot. None) (length-replicate {A = Option (List ℕ)} 64 None) (λ slot l. get_or-replicate 64 slot None None l) in
-    ap (λ f. with_held f held) e ∙ ap (with_held zero_face) (h ∙ rows)
+    ap (λ f. with_held 1 f held) e ∙ ap (with_held 1 zero_face) (h ∙ rows)

@@ -22,24 +22,26 @@ use Rattle.vr_world.specs.Outputs.{applied_reply, commit_line, send_to_all, star
 use Rattle.vr_world.specs.Words.{Log, accept, advance, advanced, apply, apply_entry, apply_next, applied, ask, ask_for, ask_peer, begin_view, checkpoints, chosen_log, choose_line, decided, enter, entered, learn, learned, load, loads, lost, make_checkpoint, obey_choice, or_lost, prepare_again, resend, rested, save, saves, speak, stated, stored, take, taken, try, try_log, turned, with_checkpoint, with_entry, with_entry_at, with_saved, write, writes, blocks_of, is_loaded, jump, jumped, least_absent, mend_header, op_of_slot, place_now, visit, visit_block, visit_place, visit_read, visit_slot, with_cursor, with_worn}
 use Rattle.vr_world.specs.Opening.{Slot, announce, clouded, entry_header, heard_itself, in_next_view, leave_view, mend_slot, old_headers, old_part, opening, part_by, recover_old, recover_op, recover_parts, resuming, rewrite, slot_verdict}
 use Rattle.vr_world.specs.Lying.{Lying, lying}
-use Rattle.vr_world.specs.Sectors.{sectors}
-use Rattle.vr_world.proofs.FitLies.{same_face}
+use Rattle.vr_world.specs.Sectors.{sectors_by}
+use Rattle.vr_world.proofs.FitLies.{same_face, same_version}
 use Rattle.vr_msg.specs.Choice.{ops}
 use Rattle.vr_recover.specs.declared.readings.Verdict.{Verdict}
 use Rattle.vr_recover.specs.declared.readings.Verdict.TheVariants as verdict
 
 -- the same replica and script
 pub record Alike (v : Word Lying) (w : Word Face) : Type 0 where
-  pub each : (r : Replica) (d : Lying) → v lying r d ≡ w sectors r d.face
+  pub each : (r : Replica) (d : Lying) → v lying r d ≡ w (sectors_by d.version) r d.face
 
 pub a_then : {a b : Word Lying} {v w : Word Face} → Alike a v → Alike b w → Alike (a ⨾ b) (v ⨾ w)
 unfolding ◌⨾◌
 a_then {a} {b} {v} {w} x y = record {
   each = λ r d.
       let one = a lying r d in
-      let both : Step → Step = λ s. let t = w sectors s.replica (after_all sectors d.face s.script) in record { replica = t.replica; script = s.script ++ t.script } in
-      let then : b lying one.replica (after_all lying d one.script) ≡ w sectors one.replica (after_all sectors d.face one.script) =
-      y.each one.replica (after_all lying d one.script) ∙ ap (w sectors one.replica) (same_face one.script d) in
+      let left = after_all lying d one.script in
+      let s = sectors_by d.version in
+      let both : Step → Step = λ x. let t = w s x.replica (after_all s d.face x.script) in record { replica = t.replica; script = x.script ++ t.script } in
+      let then : b lying one.replica left ≡ w s one.replica (after_all s d.face one.script) =
+      y.each one.replica left ∙ (ap (λ n. w (sectors_by n) one.replica left.face) (same_version one.script d) ∙ ap (w s one.replica) (same_face one.script d)) in
       ap (λ (t : Step). let s : Step = record { replica = t.replica; script = one.script ++ t.script } in s) then ∙ ap both (x.each r d);
 }
 
@@ -67,9 +69,9 @@ pub a_naming : {a : (List ℕ → List ℕ) → Word Lying} {v : (List ℕ → L
 unfolding naming
 a_naming h = record { each = λ r d. (h name_of).each r d }
 
-pub a_reading : {X : Type 0} (g : Setting Lying → Lying → X) (k : Setting Face → Face → X) {a : X → Word Lying} {v : X → Word Face} → ((d : Lying) → g lying d ≡ k sectors d.face) → ((x : X) → Alike (a x) (v x)) → Alike (reading g a) (reading k v)
+pub a_reading : {X : Type 0} (g : Setting Lying → Lying → X) (k : Setting Face → Face → X) {a : X → Word Lying} {v : X → Word Face} → ((d : Lying) → g lying d ≡ k (sectors_by d.version) d.face) → ((x : X) → Alike (a x) (v x)) → Alike (reading g a) (reading k v)
 unfolding reading
-a_reading {X} g k {a} {v} e h = record { each = λ r d. (h (g lying d)).each r d ∙ ap (λ x. v x sectors r d.face) (e d) }
+a_reading {X} g k {a} {v} e h = record { each = λ r d. (h (g lying d)).each r d ∙ ap (λ x. v x (sectors_by d.version) r d.face) (e d) }
 
 pub a_if : (b : Bool) {x y : Word Lying} {v w : Word Face} → Alike x v → Alike y w → Alike (cond b x y) (cond b v w)
 a_if b {x} {y} {v} {w} h k = elim b as (λ b. Alike (cond b x y) (cond b v w)) [ true ↦ h | false ↦ k ]

@@ -1,8 +1,10 @@
 -- The disk of a member, which lies.
-use Rattle.std.specs.Prelude.{[], Some, None, false, IfSome}
+use Rattle.std.specs.Prelude.{◌≡◌, [], Some, None, false, IfSome}
+use Rattle.std.proofs.Common.{sym}
 use Rattle.vr_disk.specs.DiskState.{Disk, Fate, IsFace}
 use Rattle.vr_lie.specs.Told as lie
-use Rattle.vr_world.specs.Lying.{Lying, each_slot, zero_face}
+use Rattle.vr_lie.specs.Told.{version_by}
+use Rattle.vr_world.specs.Lying.{Lying}
 use Rattle.vr_lying.specs.Told.{lying_in, slots}
 use Rattle.vr_lying.specs.declared.disk.HostDisk.{HostDisk}
 
@@ -16,9 +18,9 @@ told_is_whole m = lie.told_is_whole m.lie
 abbrev pub lying_of : HostDisk → Lying
 lying_of m = lying_in (told_by m)
 
--- before anything was written
-abbrev pub blank_lying : Lying
-blank_lying = record { face = zero_face; held = each_slot (λ slot. None) }
+-- its version is that of the file on the disk
+pub of_version : (m : HostDisk) → (lying_of m).version ≡ version_by m.lie
+of_version m = sym m.version
 
 -- no call is to fail, and none was cut
 abbrev pub calm : Fate

@@ -8,16 +8,16 @@ use Rattle.vr_world.specs.Lying.{Lying, after_calls, cut_calls, hazards, lying}
 use Rattle.vr_world.specs.Opening.{blank, opening}
 use Rattle.vr_world.specs.Replica.{Replica}
 use Rattle.vr_world.specs.Rules.{react}
-use Rattle.vr_world.specs.Sectors.{calls, sectors}
+use Rattle.vr_world.specs.Sectors.{calls, sectors_by}
 use Rattle.vr_world.specs.Steps.{Step, outputs}
 use Rattle.vr_world.specs.World.{acts}
 use Rattle.vr_lying.specs.Told.{IsTold, burnt, host_on, lying_in, next_held}
 
 abbrev pub StepsAreOfSectors : Type 0
-StepsAreOfSectors = (e : Event) (r : Replica) (d : Lying) → react e lying r d ≡ react e sectors r d.face
+StepsAreOfSectors = (e : Event) (r : Replica) (d : Lying) → react e lying r d ≡ react e (sectors_by d.version) r d.face
 
 abbrev pub OpeningsAreOfSectors : Type 0
-OpeningsAreOfSectors = (v : SuperValue) (d : Lying) → opening v lying (blank v) d ≡ opening v sectors (blank v) d.face
+OpeningsAreOfSectors = (v : SuperValue) (d : Lying) → opening v lying (blank v) d ≡ opening v (sectors_by d.version) (blank v) d.face
 
 -- calls that all went well
 pub record Went (cs : List Call) (d e : Disk) : Type 0 where

@@ -14,9 +14,9 @@ next_held f c v held = each_slot (λ slot. held_as 1 f c v slot (held_at held sl
 abbrev pub slots : List (Option (List ℕ)) → Option (List ℕ) → Beside
 slots held name = record { rows = held; next = next_held; name = name }
 
--- the disk of the definitions
+-- the disk of the definitions, of a file of version 1
 abbrev pub lying_in : Disk → Lying
-lying_in d = record { face = d.face; held = d.beside.rows }
+lying_in d = record { face = d.face; held = d.beside.rows; version = 1 }
 
 -- it tells what its 64 slots hold, and no call of it fails but by its fuse
 pub record IsTold (d : Disk) : Type 0 where

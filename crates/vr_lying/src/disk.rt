@@ -5,7 +5,7 @@ ghost use Rattle.vr_disk.specs.DiskState.{Attaches, ReadsTo, Runs, Sync, Write};
 ghost use Rattle.vr_lie.specs.Faults.{IsFault};
 ghost use Rattle.vr_lie.specs.Told.{version_by};
 ghost use Rattle.vr_lying.specs.Told.{IsTold};
-ghost use Rattle.vr_world.specs.Lying.{unless_kept_out};
+ghost use Rattle.vr_world.specs.Lying.{blank_lying, unless_kept_out};
 
 use std::alloc::Global;
 use vr_base::{NoMemory, Sum};
@@ -20,7 +20,7 @@ pub struct HostDisk {
 }
 
 impl HostDisk {
-    ghost use Rattle.vr_lying.specs.Disks.{blank_lying, calm, lying_of, told_by};
+    ghost use Rattle.vr_lying.specs.Disks.{calm, lying_of, told_by};
 
     /// A disk of zeros, of which no call is to fail.
     pub fn new(alloc: Global) -> Result<HostDisk, NoMemory>

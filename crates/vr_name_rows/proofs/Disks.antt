@@ -1,5 +1,5 @@
--- Disks on which no block reads, and no entry but those of a list.
-use Rattle.std.proofs.Common.{ℕ, ◌+◌, ◌*◌, ◌≤◌, ◌<◌, ◌≡◌, ◌≢◌, ◌⊎◌, inl, inr, arith, sym, ap, ◌∙◌, subst, Bool, true, false, cond, List, [], ◌∷◌, ◌++◌, length, take, Some}
+-- Disks of files of version 1 on which no block reads, and no entry but those of a list.
+use Rattle.std.proofs.Common.{ℕ, ◌+◌, ◌*◌, ◌≤◌, ◌<◌, ◌≡◌, ◌≢◌, ◌⊎◌, inl, inr, arith, sym, ap, ◌∙◌, subst, Bool, true, false, cond, List, [], ◌∷◌, ◌++◌, length, take, Option, Some, refl}
 use Rattle.std.specs.Prelude.{⊤}
 use Rattle.std.specs.List.{AllByRecursion}
 use Rattle.std.specs.Option.{option_and_then, option_map}
@@ -27,6 +27,7 @@ use Rattle.law_1_machine.specs.Basics.{In}
 use Rattle.law_6_one_log.proofs.Disks.{beside_same}
 
 pub record Plain (entries : List Whole) (d : Lying) : Type 0 where
+  pub version : d.version ≡ 1
   pub count : length d.face.cells ≡ sectors
   pub reads : (slot : ℕ) (e : Whole) → whole_in 1 d.face slot ≡ Some e → In e entries
   pub blocks : (name : Name) (c : Content) → named_at d.face name ≡ Some c → ⊥
@@ -109,30 +110,49 @@ value_apart old new f slot =
 pub mend_apart : (v : SuperValue) (f : Face) (slot : ℕ) → whole_in 1 (disk.after_all f (mend_calls v f)) slot ≡ whole_in 1 f slot
 mend_apart v f slot = same_entry (mend_calls v f) f slot (λ k m n. mend_spares 4 0 k (copy_bytes v) f (omega arith) (omega (arith, m)))
 
+-- a disk of these sectors, which hold so
+abbrev first_file : Face → List (Option (List ℕ)) → Lying
+first_file f held = record { face = f; held = held; version = 1 }
+
+plain_first : (entries : List Whole) (e : Effect) (f : Face) (held : List (Option (List ℕ))) → IsOf entries e → Plain entries (first_file f held) → Plain entries (lying.after (first_file f held) e)
+plain_first entries (Write again e) f held i p = record {
+  version = refl;
+  count = length_after_all (cond again (again_calls 1 e) (new_calls 1 e)) f ∙ p.count;
+  reads = written_reads entries again e (first_file f held) i.0 i.1 p;
+  blocks = λ name c q. p.blocks name c (sym (beside_same (first_file f held) (Write again e) tt name) ∙ q);
+}
+plain_first entries (Rewrite h) f held i p = record {
+  version = refl;
+  count = length_after_all (header_calls h) f ∙ p.count;
+  reads = λ slot x q. p.reads slot x (sym (header_apart h f slot) ∙ q);
+  blocks = λ name c q. p.blocks name c (sym (beside_same (first_file f held) (Rewrite h) tt name) ∙ q);
+}
+plain_first entries (Save old new) f held i p = record {
+  version = refl;
+  count = length_after_all (write_calls old new f) f ∙ p.count;
+  reads = λ slot x q. p.reads slot x (sym (value_apart old new f slot) ∙ q);
+  blocks = λ name c q. p.blocks name c (sym (beside_same (first_file f held) (Save old new) tt name) ∙ q);
+}
+plain_first entries (Mend v) f held i p = record {
+  version = refl;
+  count = length_after_all (mend_calls v f) f ∙ p.count;
+  reads = λ slot x q. p.reads slot x (sym (mend_apart v f slot) ∙ q);
+  blocks = λ name c q. p.blocks name c (sym (beside_same (first_file f held) (Mend v) tt name) ∙ q);
+}
+plain_first entries (Checkpoint cluster texts op old) f held i p = absurd i
+plain_first entries (PutBlock name block) f held i p = absurd i
+plain_first entries (Say o) f held i p = record { version = refl; count = p.count; reads = p.reads; blocks = p.blocks }
+
 pub plain_after : (entries : List Whole) (e : Effect) (d : Lying) → IsOf entries e → Plain entries d → Plain entries (lying.after d e)
-plain_after entries (Write again e) d i p = record {
-  count = length_after_all (cond again (again_calls 1 e) (new_calls 1 e)) d.face ∙ p.count;
-  reads = written_reads entries again e d i.0 i.1 p;
-  blocks = λ name c q. p.blocks name c (sym (beside_same d (Write again e) tt name) ∙ q);
-}
-plain_after entries (Rewrite h) d i p = record {
-  count = length_after_all (header_calls h) d.face ∙ p.count;
-  reads = λ slot x q. p.reads slot x (sym (header_apart h d.face slot) ∙ q);
-  blocks = λ name c q. p.blocks name c (sym (beside_same d (Rewrite h) tt name) ∙ q);
-}
-plain_after entries (Save old new) d i p = record {
-  count = length_after_all (write_calls old new d.face) d.face ∙ p.count;
-  reads = λ slot x q. p.reads slot x (sym (value_apart old new d.face slot) ∙ q);
-  blocks = λ name c q. p.blocks name c (sym (beside_same d (Save old new) tt name) ∙ q);
-}
-plain_after entries (Mend v) d i p = record {
-  count = length_after_all (mend_calls v d.face) d.face ∙ p.count;
-  reads = λ slot x q. p.reads slot x (sym (mend_apart v d.face slot) ∙ q);
-  blocks = λ name c q. p.blocks name c (sym (beside_same d (Mend v) tt name) ∙ q);
-}
-plain_after entries (Checkpoint cluster texts op old) d i p = absurd i
-plain_after entries (PutBlock name block) d i p = absurd i
-plain_after entries (Say o) d i p = record { count = p.count; reads = p.reads; blocks = p.blocks }
+plain_after entries e d i p =
+    let is : d ≡ first_file d.face d.held = ap (λ (n : ℕ). let x : Lying = record { face = d.face; held = d.held; version = n } in x) p.version in
+    subst (λ (x : Lying). Plain entries (lying.after x e)) (sym is) (plain_first entries e d.face d.held i (subst (Plain entries) is p))
+
+-- and what is written reads
+pub entry_there : (entries : List Whole) (again : Bool) (e : Whole) (d : Lying) → Plain entries d → IsTaken e → lying.entry (lying.after d (Write again e)) (slot_of e.header) ≡ Some e
+entry_there entries again e d p w =
+    let is : d ≡ first_file d.face d.held = ap (λ (n : ℕ). let x : Lying = record { face = d.face; held = d.held; version = n } in x) p.version in
+    subst (λ (x : Lying). lying.entry (lying.after x (Write again e)) (slot_of e.header) ≡ Some e) (sym is) (written_there again e d.face p.count w)
 
 pub plain_all : (entries : List Whole) (es : List Effect) (d : Lying) → AllByRecursion (IsOf entries) es → Plain entries d → Plain entries (after_all lying d es)
 unfolding after_all

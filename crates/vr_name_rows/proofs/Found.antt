@@ -1,5 +1,5 @@
 -- What an opening of a strict file finds, by what its slots read as.
-use Rattle.std.proofs.Common.{ℕ, zero, suc, ◌+◌, ◌%◌, ◌<◌, ◌≡◌, ◌&&◌, arith, refl, sym, ap, ◌∙◌, Bool, true, false, List, [], ◌∷◌, ◌++◌, Option, Some, None}
+use Rattle.std.proofs.Common.{ℕ, zero, suc, ◌+◌, ◌%◌, ◌<◌, ◌≡◌, ◌&&◌, arith, refl, sym, ap, ◌∙◌, subst, Bool, true, false, List, [], ◌∷◌, ◌++◌, Option, Some, None}
 use Rattle.std.specs.List.{AllByRecursion, range_with_len}
 use Rattle.std.specs.Option.{option_and_then, option_map}
 use Rattle.std.proofs.lemmas.Bool.{and_parts}
@@ -18,10 +18,10 @@ use Rattle.vr_recover.specs.Verdict.{verdict_of}
 use Rattle.vr_super.specs.Copies.{SuperValue, copy_bytes}
 use Rattle.vr_super.specs.Calls.{mend_calls}
 use Rattle.vr_super.specs.Opens.{opens}
-use Rattle.vr_rings.specs.Slots.{header_in, whole_in}
+use Rattle.vr_rings.specs.Slots.{header_in, is_blank, whole_in}
 use Rattle.vr_rules.specs.Replica.{Replica, forgetting, with_part}
 use Rattle.vr_rules.specs.Steps.{Mend, Setting, Step, ◌⨾◌, quiet, change, does, reading, each, after_all}
-use Rattle.vr_rules.specs.Sectors.{runnable}
+use Rattle.vr_rules.specs.Sectors.{of_version}
 use Rattle.vr_rules.specs.Opening.{Slot, blank, clouded, entry_fits, first_value, header_kind, is_listed, kind_of, mend_slot, opened, opening, part_by, recover_old, recover_op, recover_parts, old_headers, resuming, slot_at, slot_verdict}
 use Rattle.vr_rules.proofs.FitDisks.{mend_spares, same_header}
 use Rattle.vr_world.specs.Lying.{Lying, lying}
@@ -90,16 +90,18 @@ each_op v t (k ∷ ks) s r f mode a q =
     ap (λ (x : Step). (let b = each (recover_op v) ks s x.replica (after_all s f x.script) in record { replica = b.replica; script = x.script ++ b.script })) (one_op v k s r f (t k) mode a.0 both.0)
     ∙ each_op v t ks s (with_part k (found_at v k (t k)) r) f mode a.1 both.1
 
--- ---- what the slots read as
+-- ---- what the slots of a file of version 1 read as
 
 abbrev pub look : Lying → ℕ → Slot
 look d slot = record { header = header_in d.face slot; entry = whole_in 1 d.face slot; blank = false }
 
 pub record Looks (table : ℕ → Slot) (d : Lying) : Type 0 where
+  pub version : d.version ≡ 1
   pub at : (slot : ℕ) → slot < 64 → look d slot ≡ table slot
 
 pub looks_mended : (table : ℕ → Slot) (d : Lying) (v : SuperValue) → Looks table d → Looks table (lying.after d (Mend v))
 looks_mended table d v l = record {
+  version = l.version;
   at = λ slot b.
       ap (λ h. record { header = h; entry = whole_in 1 (disk.after_all d.face (mend_calls v d.face)) slot; blank = false }) (same_header (mend_calls v d.face) d.face slot (mend_spares 4 0 (header_place slot) (copy_bytes v) d.face (omega arith) (omega arith)))
       ∙ (ap (λ e. record { header = header_in d.face slot; entry = e; blank = false }) (mend_apart v d.face slot)
@@ -131,11 +133,15 @@ unfolding opening recover_parts ◌⨾◌ does change each quiet after_all
 opening_finds i table d looks quiet_all =
     let v = value i in
     let f : Lying = lying.after d (Mend v) in
-    ap (with_found v d) (each_op v (of_op table) window lying (blank v) f refl (all_range (λ k. tidy (slot_at k lying f) ≡ of_op table k) 64 1 (λ k. (looks_mended table d v looks).at (k % 64) (mod_below k 64 (omega arith)))) quiet_all)
+    let at : (k : ℕ) → tidy (slot_at k lying f) ≡ of_op table k = λ k.
+    subst (λ n. tidy (record { header = header_in f.face (k % 64); entry = whole_in n f.face (k % 64); blank = is_blank n f.face (k % 64) }) ≡ of_op table k) (sym looks.version)
+    ((looks_mended table d v looks).at (k % 64) (mod_below k 64 (omega arith))) in
+    ap (with_found v d) (each_op v (of_op table) window lying (blank v) f refl (all_range (λ k. tidy (slot_at k lying f) ≡ of_op table k) 64 1 at) quiet_all)
 
 -- a member that is started on a disk that opens as its first value
 pub starts_as : (i : ℕ) (table : ℕ → Slot) (d : Lying) → opens d.face ≡ Some (value i) → Looks table d → all_quiet (value i) (of_op table) window ≡ true
     → opened lying d ≡ Some (with_found (value i) d (record { replica = found_all (value i) (of_op table) window (blank (value i)); script = [] }))
 unfolding opened
 starts_as i table d is looks quiet_all =
-    ap (λ o. option_map (λ v. opening v lying (blank v) d) (option_and_then runnable o)) is ∙ ap Some (opening_finds i table d looks quiet_all)
+    let opens_as : SuperValue → Step = λ v. opening v lying (blank v) d in
+    ap (λ o. option_map opens_as (option_and_then (of_version d.version) o)) is ∙ (ap (λ n. option_map opens_as (of_version n (value i))) looks.version ∙ ap Some (opening_finds i table d looks quiet_all))

@@ -255,13 +255,14 @@ pub record LeftBlank (d : Lying) : Type 0 where
   pub opens : opens d.face ≡ Some (value 1)
   pub looks : Looks reserved d
 
-pub left_blank : (d : Lying) → d.face ≡ torn → LeftBlank d
-left_blank d is = subst (λ (f : Face). LeftBlank (record { face = f; held = d.held })) (sym is) (record {
+pub left_blank : (d : Lying) → d.version ≡ 1 → d.face ≡ torn → LeftBlank d
+left_blank d file is = subst (λ (f : Face). LeftBlank (record { face = f; held = d.held; version = d.version })) (sym is) (record {
   plain = record {
+    version = file;
     count = torn_face.count;
     reads = λ slot x e. absurd (torn_none slot x e);
     blocks = λ name c q. (blank_plain one).1.blocks name c (sym (alike_named torn torn_alike name) ∙ q);
   };
   opens = alike_opens torn torn_alike ∙ opens_0;
-  looks = record { at = torn_look };
+  looks = record { version = file; at = torn_look };
 })

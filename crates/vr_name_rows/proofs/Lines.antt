@@ -3,7 +3,7 @@ use Rattle.std.proofs.Common.{ℕ, ◌≡◌, ◌⊎◌, arith, inl, inr, refl, 
 use Rattle.std.specs.Prelude.{Contains, slice_get}
 use Rattle.std.specs.List.{AllByRecursion}
 use Rattle.vr_base.specs.Kinds.{strict}
-use Rattle.vr_disk.specs.DiskState.{Face, IsFace}
+use Rattle.vr_disk.specs.DiskState.{IsFace}
 use Rattle.vr_header.specs.Bodies.{operation_bytes}
 use Rattle.vr_header.specs.Made.{Whole}
 use Rattle.vr_header.specs.Names.{root_header}
@@ -15,6 +15,7 @@ use Rattle.vr_world.specs.Lying.{Lying, hazards}
 use Rattle.vr_world.specs.Group.{fresh_group}
 use Rattle.vr_world.specs.World.{Happening, Host, World, fresh_host, fresh_world, happens}
 use Rattle.vr_world.specs.Safe as safe
+use Rattle.vr_rings.specs.Slots.{whole_in}
 use Rattle.vr_world.specs.Safe.{IsRead, IsWritten}
 use Rattle.law_1_machine.specs.Basics.{In}
 use Rattle.law_4_disks.specs.Worlds.{AreBeside, IsHashedAt, IsHashedCut, Work, begun_by, begun_in, begun_of, read_in, read_of, work_of}
@@ -37,6 +38,7 @@ face_of i at = (((beside.each i (fresh_host hazards strict 3 i) at).2).running (
 
 plain_face : (entries : List Whole) (i : ℕ) → IsFace (blank_disk i).face → Plain entries (blank_disk i)
 plain_face entries i f = record {
+  version = refl;
   count = f.count;
   reads = λ slot e w. absurd (reads_nothing strict 3 i f (named_bytes e.header) (safe.IsRead.header slot e w));
   blocks = λ name c w. reads_nothing strict 3 i f c.payload (safe.IsRead.payload name c w);
@@ -53,9 +55,9 @@ pub data IsText (entries : List Whole) : List ℕ → Type 0 where
   header : (e : Whole) → In e entries → IsText entries (named_bytes e.header)
   operation : (e : Whole) → In e entries → IsText entries (operation_bytes e.operation)
 
-read_text : (entries : List Whole) (d : Lying) → Plain entries d → (b : List ℕ) → IsRead d.face b → IsText entries b
-read_text entries d p _ (safe.IsRead.header slot e w) = header e (p.reads slot e w)
-read_text entries d p _ (safe.IsRead.operation slot e w) = operation e (p.reads slot e w)
+read_text : (entries : List Whole) (d : Lying) → Plain entries d → (b : List ℕ) → IsRead d b → IsText entries b
+read_text entries d p _ (safe.IsRead.header slot e w) = header e (p.reads slot e (subst (λ n. whole_in n d.face slot ≡ Some e) p.version w))
+read_text entries d p _ (safe.IsRead.operation slot e w) = operation e (p.reads slot e (subst (λ n. whole_in n d.face slot ≡ Some e) p.version w))
 read_text entries d p _ (safe.IsRead.block name c w) = absurd (p.blocks name c w)
 read_text entries d p _ (safe.IsRead.payload name c w) = absurd (p.blocks name c w)
 
@@ -85,10 +87,10 @@ abbrev pub HashesAt : World Lying → Happening → List ℕ → Type 0
 HashesAt w x b = ((k : Work) × (work_of w x ≡ Some k) × IsHashedCut k b) ⊎ IsUsedAt w x b
 
 -- of what it reads, and of what it begins
-pub used_text : (entries : List Whole) (w : World Lying) (x : Happening) (m : Host Lying) (es : List Effect) → read_in w x ≡ m.disk.face ∷ [] → begun_in w x ≡ es → Plain entries m.disk → AllByRecursion (IsOf entries) es → (b : List ℕ) → IsUsedAt w x b → IsText entries b
+pub used_text : (entries : List Whole) (w : World Lying) (x : Happening) (m : Host Lying) (es : List Effect) → read_in w x ≡ m.disk ∷ [] → begun_in w x ≡ es → Plain entries m.disk → AllByRecursion (IsOf entries) es → (b : List ℕ) → IsUsedAt w x b → IsText entries b
 used_text entries w x m es reads begins p a b (inl u) =
-    let i = contains_in (m.disk.face ∷ []) u.0 (subst (λ (fs : List Face). Contains fs u.0) reads u.1) in
-    elim i [ inl same ↦ read_text entries m.disk p b (subst (λ (f : Face). IsRead f b) same u.2) | inr none ↦ absurd none ]
+    let i = contains_in (m.disk ∷ []) u.0 (subst (λ (ds : List Lying). Contains ds u.0) reads u.1) in
+    elim i [ inl same ↦ read_text entries m.disk p b (subst (λ (d : Lying). IsRead d b) same u.2) | inr none ↦ absurd none ]
 used_text entries w x m es reads begins p a b (inr u) =
     let i = contains_in es u.0 (subst (λ (fs : List Effect). Contains fs u.0) begins u.1) in
     written_text entries u.0 b (all_of entries es u.0 a i) u.2
@@ -101,7 +103,7 @@ line_text entries w x m script free is p a b (inl h) =
     let bad : None ≡ Some cut.0 = sym free ∙ cut.1 in
     absurd cc
 line_text entries w x m script free is p a b (inr u) =
-    used_text entries w x m script (ap read_of is) (ap begun_of is ∙ ap (λ o. begun_by o script m.disk.face) free) p a b u
+    used_text entries w x m script (ap read_of is) (ap begun_of is ∙ ap (λ o. begun_by o script m.disk) free) p a b u
 
 -- ---- of lines
 

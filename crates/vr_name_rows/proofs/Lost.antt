@@ -51,9 +51,9 @@ only_one : (x : Whole) → In x one → x ≡ first
 only_one x (inl e) = e
 only_one x (inr i) = absurd i
 
-holds_still : (d : Lying) (g : Face) → IsFace g → ((slot : ℕ) (x : Whole) → whole_in 1 g slot ≡ Some x → In x one) → HoldsFirst d → HoldsFirst (lied_to d g)
-holds_still d g face reads holds slot p l e =
-    elim (look_cases 1 g slot (held_at d.held slot) p (sym (at_slot (λ slot. looked 1 g slot (held_at d.held slot)) slot l) ∙ e)) [
+holds_still : (d : Lying) (g : Face) → d.version ≡ 1 → IsFace g → ((slot : ℕ) (x : Whole) → whole_in 1 g slot ≡ Some x → In x one) → HoldsFirst d → HoldsFirst (lied_to d g)
+holds_still d g one face reads holds slot p l e =
+    elim (look_cases 1 g slot (held_at d.held slot) p (ap (λ n. looked n g slot (held_at d.held slot)) (sym one) ∙ (sym (at_slot (λ slot. looked d.version g slot (held_at d.held slot)) slot l) ∙ e))) [
       | inr old ↦ holds slot p l old
       | inl new ↦
           let both = both_is (header_reading g slot) (prepare_reading 1 g slot) p new in
@@ -66,9 +66,9 @@ holds_still d g face reads holds slot p l e =
     ]
 
 -- what a fault hashes
-pub fault_text : (d : Lying) (i : ℕ) → ((slot : ℕ) (x : Whole) → whole_in 1 (struck d.face i) slot ≡ Some x → In x one) → HoldsFirst d → (b : List ℕ) → IsHashedAfter d (Damage i) b → IsText one b
-fault_text d i reads holds b (inl h) = subst (IsText one) (sym h.4) (operation h.1 (reads h.0 h.1 h.3))
-fault_text d i reads holds b (inr h) =
+pub fault_text : (d : Lying) (i : ℕ) → d.version ≡ 1 → ((slot : ℕ) (x : Whole) → whole_in 1 (struck d.face i) slot ≡ Some x → In x one) → HoldsFirst d → (b : List ℕ) → IsHashedAfter d (Damage i) b → IsText one b
+fault_text d i first_file reads holds b (inl h) = subst (IsText one) (sym h.4) (operation h.1 (reads h.0 h.1 (subst (λ n. whole_in n (struck d.face i) h.0 ≡ Some h.1) first_file h.3)))
+fault_text d i first_file reads holds b (inr h) =
     let same : Some h.1 ≡ Some first = sym (whole_again h.1 h.3) ∙ (ap whole_of (holds h.0 (prepare_bytes h.1) h.2 h.4) ∙ whole_again first first_taken.whole) in
     let is : h.1 ≡ first = cc in
     subst (IsText one) (sym h.5) (operation h.1 (inl is))
@@ -77,6 +77,7 @@ fault_text d i reads holds b (inr h) =
 
 plain_struck : (d : Lying) (i : ℕ) → i < 400 → ((slot : ℕ) (x : Whole) → whole_in 1 (struck d.face i) slot ≡ Some x → In x one) → Plain one d → Plain one (lied_to d (struck d.face i))
 plain_struck d i l reads p = record {
+  version = p.version;
   count = cells_lied d.face i (Some (damaged (cell d.face i).truth)) ∙ p.count;
   reads = reads;
   blocks = λ name c q. p.blocks name c (sym (lied_named d.face i (Some (damaged (cell d.face i).truth)) name l) ∙ q);
@@ -132,8 +133,8 @@ halved v d s =
       plain = plain_struck d 81 (omega arith) (reads_once d s.plain) s.plain;
       face = face;
       opens = lied_opens d.face 81 (Some (damaged (cell d.face 81).truth)) (omega arith) ∙ s.opens;
-      looks = record { at = λ slot l. once_look d slot g l (s.looks.at slot l) };
-      held = holds_still d (struck d.face 81) face (reads_once d s.plain) s.held;
+      looks = record { version = s.plain.version; at = λ slot l. once_look d slot g l (s.looks.at slot l) };
+      held = holds_still d (struck d.face 81) s.plain.version face (reads_once d s.plain) s.held;
       gone = g;
       prepare = ap (λ (c : Cell). c.truth) (cell_lied d.face 81 148 (Some (damaged (cell d.face 81).truth)) (λ e. omega (arith, e))) ∙ s.prepare;
     }
@@ -183,5 +184,5 @@ module _ (v : SuperValue) (d : Lying) (s : Half v (but_first half_slot) d) where
   lost = record {
     plain = plain_struck d 148 (omega arith) reads_twice s.plain;
     opens = lied_opens d.face 148 (Some (damaged (cell d.face 148).truth)) (omega arith) ∙ s.opens;
-    looks = record { at = twice_look };
+    looks = record { version = s.plain.version; at = twice_look };
   }

@@ -18,7 +18,7 @@ use Rattle.vr_world.specs.Lying.{Lying, hazards, lying}
 use Rattle.vr_world.specs.World.{Arrives, Asks, Host, World, at_member, fresh_world, happens}
 use Rattle.law_6_one_log.specs.Schedules.{IsHashed}
 use Rattle.vr_name_rows.proofs.Happenings.{plain, registers, puts}
-use Rattle.vr_name_rows.proofs.Disks.{IsOf, Plain, plain_all, written_apart, written_there}
+use Rattle.vr_name_rows.proofs.Disks.{IsOf, Plain, entry_there, plain_all, written_apart, written_there}
 use Rattle.vr_name_rows.proofs.Entries.{first, first_header, second, second_header}
 use Rattle.vr_name_rows.proofs.Lines.{Hashes, HashesAt, IsText, blank_disk, blank_plain, host, line_text, none_left, root, then_lines}
 use Rattle.vr_name_rows.proofs.Names.{both, tells_apart}
@@ -160,7 +160,7 @@ reads_y2 = written_apart false second y1.face 1 (λ e. omega (arith, e)) ∙ wri
 
 reads_x3 : lying.entry x3 2 ≡ Some second
 unfolding after_all
-reads_x3 = written_there false second x2.face plain_x2.count second_taken
+reads_x3 = entry_there both false second x2 plain_x2 second_taken
 
 -- ---- the whole path
 

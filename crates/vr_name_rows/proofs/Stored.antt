@@ -151,7 +151,7 @@ module _ (i : ℕ) (p : Plain [] (blank_disk i)) (p1 : Plain one (blank_disk i))
     plain = plain_after one (effect.Write false first) (blank_disk i) (inl refl, first_taken) p1;
     face = then_on.calm.face;
     opens = then_on.value ∙ ap Some (sym last);
-    looks = record { at = λ slot l. stored_look i slot p l };
+    looks = record { version = refl; at = λ slot l. stored_look i slot p l };
     held = held_all;
     header = header_truth (blank_disk i).face p.count;
     prepare = prepare_truth (blank_disk i).face p.count;
@@ -164,7 +164,7 @@ said v table d o s = record {
   plain = plain_after one (Say o) d tt s.plain;
   face = s.face;
   opens = s.opens;
-  looks = record { at = s.looks.at };
+  looks = record { version = s.looks.version; at = s.looks.at };
   held = λ slot b l e. s.held slot b l (sym (at_slot (λ slot. held_at d.held slot) slot l) ∙ e);
   header = s.header;
   prepare = s.prepare;

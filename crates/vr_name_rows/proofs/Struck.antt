@@ -23,7 +23,7 @@ use Rattle.vr_ckpt.specs.Places.{grid_size}
 use Rattle.vr_ckpt.specs.Grid.{block_reading, named_at}
 use Rattle.vr_ckpt.specs.declared.name.Name.{Name}
 use Rattle.vr_lie.specs.declared.fault.Fault.TheVariants.{Damage}
-use Rattle.vr_lie.specs.Faults.{faulted, held_at}
+use Rattle.vr_lie.specs.Faults.{KeepsPremise, faulted, held_at}
 use Rattle.vr_lie.proofs.Lies.{reads_lied}
 use Rattle.vr_rules.proofs.FitDisks.{grid_behind}
 use Rattle.vr_world.specs.Lying.{Lying, hazards, keeps_premise, lied_to, unless_kept_out}
@@ -95,21 +95,21 @@ other_prepare f i slot (inl e) other = lied_whole f i slot _ (inl (omega (arith,
 other_prepare f i slot (inr e) other =
     lied_whole f i slot _ (elim (cases_lt slot 1) [ inl below ↦ inr (omega (arith, e, below)) | inr above ↦ inl (let more : 1 < slot = omega (arith, above, other) in omega (arith, e, more)) ])
 
-keeps : (d : Lying) (i : ℕ) → IsPlace i → IsFace d.face → IsGone (struck d.face i) → keeps_premise d (struck d.face i) ≡ true
-keeps d i place face is =
+keeps : (d : Lying) (i : ℕ) → d.version ≡ 1 → IsPlace i → IsFace d.face → IsGone (struck d.face i) → keeps_premise d (struck d.face i) ≡ true
+keeps d i one place face is =
     let within = place_within i place in
     premise_so d (struck d.face i) face (fault_face d.face (Damage i) (let b = within.1 in omega (arith, b)) face)
-    (record {
+    (subst (λ n. KeepsPremise n (mode_in d.face) d.face (struck d.face i) d.held) (sym one) (record {
       opens = lied_opens d.face i (Some (damaged (cell d.face i).truth)) within.0;
       slots = λ slot l h. elim (cases_eq slot 1) [
         | inl same ↦ subst (λ (s : ℕ). Holds 1 (mode_in d.face) (struck d.face i) s (held_at d.held s)) (sym same) (holds_gone (mode_in d.face) (struck d.face i) (held_at d.held 1) is)
         | inr other ↦ holds_same (mode_in d.face) d.face (struck d.face i) slot (held_at d.held slot) (other_header d.face i slot place l other) (other_prepare d.face i slot place other) h
       ];
-    })
+    }))
 
-pub done : (d : Lying) (i : ℕ) → IsPlace i → IsFace d.face → IsGone (struck d.face i) → hazards.faulted d (Damage i) ≡ Some (lied_to d (struck d.face i))
+pub done : (d : Lying) (i : ℕ) → d.version ≡ 1 → IsPlace i → IsFace d.face → IsGone (struck d.face i) → hazards.faulted d (Damage i) ≡ Some (lied_to d (struck d.face i))
 unfolding unless_kept_out
-done d i place face is = ap (λ (b : Bool). cond b (Some (lied_to d (struck d.face i))) None) (keeps d i place face is)
+done d i one place face is = ap (λ (b : Bool). cond b (Some (lied_to d (struck d.face i))) None) (keeps d i one place face is)
 
 -- ---- what reads once the header sector is damaged
 

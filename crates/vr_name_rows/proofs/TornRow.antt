@@ -2,7 +2,7 @@
 use Rattle.std.proofs.Common.{ℕ, ◌≡◌, arith, inl, inr, refl, sym, ap, subst, false, List, [], ◌∷◌, ◌++◌, drop, Option, Some}
 use Rattle.std.specs.Option.{option_map_or}
 use Rattle.vr_base.specs.Kinds.{strict}
-use Rattle.vr_disk.specs.DiskState.{Fuse, cut}
+use Rattle.vr_disk.specs.DiskState.{Face, Fuse, cut}
 use Rattle.vr_disk.specs.Sectors.{writes}
 use Rattle.vr_header.specs.NoCollision.{NoCollision}
 use Rattle.vr_msg.specs.declared.event.Event.{Event}
@@ -11,7 +11,7 @@ use Rattle.vr_msg.specs.declared.output.Sent.{Sent}
 use Rattle.vr_rings.specs.Calls.{header_calls, prepare_calls}
 use Rattle.vr_rules.specs.Replica.{Replica}
 use Rattle.vr_rules.specs.Outputs.{do_view_change, messages, prepare, start_view_change}
-use Rattle.vr_rules.specs.Sectors.{calls, script_calls}
+use Rattle.vr_rules.specs.Sectors.{script_calls}
 use Rattle.vr_rules.specs.Steps.{Step, Write, after_all, outputs}
 use Rattle.vr_rules.specs.Rules.{react}
 use Rattle.vr_rules.specs.Opening.{blank, opened}
@@ -45,7 +45,7 @@ abbrev fused_host : Lying → Host Lying
 fused_host y = record { replica = Some b0; disk = y; fuse = Some third }
 
 abbrev halted_disk : Lying → Lying
-halted_disk y = cut_calls 2 26 y (calls (stores first b1) y.face)
+halted_disk y = cut_calls 2 26 y (script_calls y.version (stores first b1) y.face)
 
 abbrev sent_3 : List Sent
 sent_3 = sent_1 ++ record { from = 1; to = 0; message = start_view_change n1 } ∷ record { from = 1; to = 2; message = start_view_change n1 } ∷ []
@@ -57,9 +57,14 @@ fuses_1 : (a c : Host Lying) (y : Lying) → (happens hazards (three a (host b0 
 unfolding at_member messages
 fuses_1 a c y = refl
 
-halts_1 : (a c : Host Lying) (y : Lying) → (happens hazards (three a (fused_host y) c sent_1) (Arrives 0)).world ≡ three a (off (halted_disk y)) c sent_1
+-- a file of version 1
+abbrev file_of : Face → List (Option (List ℕ)) → Lying
+file_of f held = record { face = f; held = held; version = 1 }
+
+halts_1 : (a c : Host Lying) (f : Face) (held : List (Option (List ℕ))) → (happens hazards (three a (fused_host (file_of f held)) c sent_1) (Arrives 0)).world ≡ three a (off (halted_disk (file_of f held))) c sent_1
 unfolding at_member messages script_calls prepare_calls header_calls writes
-halts_1 a c y = ap (λ (s : Step). (with_member (three a (fused_host y) c sent_1) 1 (went_or_halted hazards 1 (fused_host y) s (Some third))).world) (step_1 y)
+halts_1 a c f held =
+    let y = file_of f held in ap (λ (s : Step). (with_member (three a (fused_host y) c sent_1) 1 (went_or_halted hazards 1 (fused_host y) s (Some third))).world) (step_1 y)
 
 torn_is : (halted_disk (blank_disk 1)).face ≡ torn
 unfolding cut script_calls prepare_calls writes
@@ -106,7 +111,7 @@ is_cut b h =
 
 begun_cut : begun_in cut_world (Arrives 0) ≡ Write false first ∷ []
 unfolding prepare_calls header_calls writes
-begun_cut = ap (λ (s : Step). begun_by (Some third) s.script (blank_disk 1).face) (step_1 (blank_disk 1))
+begun_cut = ap (λ (s : Step). begun_by (Some third) s.script (blank_disk 1)) (step_1 (blank_disk 1))
 
 cut_line : (b : List ℕ) → HashesAt cut_world (Arrives 0) b → IsNear b
 cut_line b (inl h) =
@@ -120,7 +125,7 @@ abbrev y1 : Lying
 y1 = halted_disk (blank_disk 1)
 
 left : LeftBlank y1
-left = left_blank y1 torn_is
+left = left_blank y1 refl torn_is
 
 abbrev y2 : Lying
 y2 = after_all lying y1 revives
@@ -165,7 +170,7 @@ hashed =
     let h4 : Hashes IsNear w4 (drop 4 xs) = then_lines IsNear w4 w5 (Ticks 1) (drop 5 xs) (idles_at_1 a c b0 (idles 1) y2 (idles_0 y2)) (near w4 (Ticks 1) (step_line w4 (Ticks 1) event.Tick b0 (idles 1) y2 [] refl (idles_0 y2) plain_y2 tt)) h5 in
     let start = starts_blank y1 left.opens left.looks in
     let h3 : Hashes IsNear w3 (drop 3 xs) = then_lines IsNear w3 w4 (Starts 1) (drop 4 xs) (revives_at_1 a c y1 start) (near w3 (Starts 1) (start_line_text w3 (Starts 1) b0 y1 revives refl start left.plain (tt, (tt, tt)))) h4 in
-    let h2 : Hashes IsNear w2 (drop 2 xs) = then_lines IsNear w2 w3 (Arrives 0) (drop 3 xs) (halts_1 a c (blank_disk 1)) cut_line h3 in
+    let h2 : Hashes IsNear w2 (drop 2 xs) = then_lines IsNear w2 w3 (Arrives 0) (drop 3 xs) (halts_1 a c (blank_disk 1).face (blank_disk 1).held) cut_line h3 in
     let h1 : Hashes IsNear w1 (drop 1 xs) = then_lines IsNear w1 w2 (Fuses 1 2 26) (drop 2 xs) (fuses_1 a c (blank_disk 1)) (near w1 (Fuses 1 2 26) (idle_text w1 (Fuses 1 2 26) refl)) h2 in
     let h0 : Hashes IsNear w0 xs = then_lines IsNear w0 w1 (Asks 0 registers) (drop 1 xs) (goes_0 (blank_disk 0) (host b0 (blank_disk 1))) (near w0 (Asks 0 registers) (step_line w0 (Asks 0 registers) (event.Request registers) p0 p1 (blank_disk 0) (makes first p1) refl (step_0 (blank_disk 0)) (blank_plain one).0 makes_one)) h1 in
     subst (λ (w : World Lying). Hashes IsNear w xs) (sym begins) h0

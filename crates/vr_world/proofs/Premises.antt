@@ -37,18 +37,18 @@ same_value_so None (Some b) e = absurd cc
 same_value_so (Some a) None e = absurd cc
 same_value_so (Some a) (Some b) e = (bytes_eq-Decides a b).1 (let x : a ≡ b = cc in x)
 
-still : (mode : Mode) (f g : Face) (slot : ℕ) (o : Option (List ℕ)) → still_holds mode f g slot o ≡ true → Holds 1 mode f slot o → Holds 1 mode g slot o
-still mode f g slot None t h = none_holds 1 g slot
-still mode f g slot (Some p) t h = (still_is 1 mode mode f g slot p (holds 1 mode f slot p) (holds 1 mode g slot p) (not (holds 1 mode f slot p) || holds 1 mode g slot p) refl refl refl).0 t h
+still : (v : ℕ) (mode : Mode) (f g : Face) (slot : ℕ) (o : Option (List ℕ)) → still_holds v mode f g slot o ≡ true → Holds v mode f slot o → Holds v mode g slot o
+still v mode f g slot None t h = none_holds v g slot
+still v mode f g slot (Some p) t h = (still_is v mode mode f g slot p (holds v mode f slot p) (holds v mode g slot p) (not (holds v mode f slot p) || holds v mode g slot p) refl refl refl).0 t h
 
-still_so : (mode : Mode) (f g : Face) (slot : ℕ) (o : Option (List ℕ)) → (Holds 1 mode f slot o → Holds 1 mode g slot o) → still_holds mode f g slot o ≡ true
-still_so mode f g slot None h = refl
-still_so mode f g slot (Some p) h = (still_is 1 mode mode f g slot p (holds 1 mode f slot p) (holds 1 mode g slot p) (not (holds 1 mode f slot p) || holds 1 mode g slot p) refl refl refl).1 h
+still_so : (v : ℕ) (mode : Mode) (f g : Face) (slot : ℕ) (o : Option (List ℕ)) → (Holds v mode f slot o → Holds v mode g slot o) → still_holds v mode f g slot o ≡ true
+still_so v mode f g slot None h = refl
+still_so v mode f g slot (Some p) h = (still_is v mode mode f g slot p (holds v mode f slot p) (holds v mode g slot p) (not (holds v mode f slot p) || holds v mode g slot p) refl refl refl).1 h
 
-pub premise : (d : Lying) (g : Face) → keeps_premise d g ≡ true → KeepsPremise 1 (mode_in d.face) d.face g d.held
+pub premise : (d : Lying) (g : Face) → keeps_premise d g ≡ true → KeepsPremise d.version (mode_in d.face) d.face g d.held
 unfolding keeps_premise
 premise d g t =
-    let p : ℕ → Bool = λ slot. still_holds (mode_in d.face) d.face g slot (held_at d.held slot) in
+    let p : ℕ → Bool = λ slot. still_holds d.version (mode_in d.face) d.face g slot (held_at d.held slot) in
     let parts = and_parts (same_value (opened (good_copies d.face)) (opened (good_copies g))) (list_all p (range_with_len 0 64)) t in
     record {
       opens = same_opens d.face g (sym (same_value_is (opened (good_copies d.face)) (opened (good_copies g)) parts.0));
@@ -56,14 +56,14 @@ premise d g t =
           let n = length-range_with_len 0 64 in
           let at : get_or (range_with_len 0 64) slot 0 ≡ slot = (let z : 0 + slot ≡ slot = omega arith in get_or-range_with_len 0 64 slot 0 l ∙ z) in
           let one : p slot ≡ true = subst (λ (s : ℕ). p s ≡ true) at (all_pass p (range_with_len 0 64) 0 slot parts.1 (omega (arith, n, l))) in
-          still (mode_in d.face) d.face g slot (held_at d.held slot) one h;
+          still d.version (mode_in d.face) d.face g slot (held_at d.held slot) one h;
     }
 
-pub premise_so : (d : Lying) (g : Face) → IsFace d.face → IsFace g → KeepsPremise 1 (mode_in d.face) d.face g d.held → keeps_premise d g ≡ true
+pub premise_so : (d : Lying) (g : Face) → IsFace d.face → IsFace g → KeepsPremise d.version (mode_in d.face) d.face g d.held → keeps_premise d g ≡ true
 unfolding keeps_premise
 premise_so d g w x k =
-    let p : ℕ → Bool = λ slot. still_holds (mode_in d.face) d.face g slot (held_at d.held slot) in
+    let p : ℕ → Bool = λ slot. still_holds d.version (mode_in d.face) d.face g slot (held_at d.held slot) in
     let opens : same_value (opened (good_copies d.face)) (opened (good_copies g)) ≡ true =
     same_value_so (opened (good_copies d.face)) (opened (good_copies g)) (sym (same_opened d.face g w x k.opens)) in
-    let slots : list_all p (range_with_len 0 64) ≡ true = pass_all p 0 64 (λ i l m. still_so (mode_in d.face) d.face g i (held_at d.held i) (k.slots i (omega arith))) in
+    let slots : list_all p (range_with_len 0 64) ≡ true = pass_all p 0 64 (λ i l m. still_so d.version (mode_in d.face) d.face g i (held_at d.held i) (k.slots i (omega arith))) in
     rw (opens, slots) refl

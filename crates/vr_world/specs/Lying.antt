@@ -1,9 +1,8 @@
 -- The disk of a world: sectors that may lie, within the premise that what slots hold is never denied.
-use Rattle.std.specs.Prelude.{ℕ, Bool, true, false, not, ◌&&◌, ◌||◌, nat_eq, List, [], ◌∷◌, ◌++◌, length, map, replicate, Option, Some, None, if◌then◌else◌}
+use Rattle.std.specs.Prelude.{ℕ, Bool, true, false, not, ◌&&◌, ◌||◌, nat_eq, List, [], length, map, replicate, Option, Some, None, if◌then◌else◌}
 use Rattle.std.specs.List.{list_all, range_with_len}
 use Rattle.std.specs.Option.{option_map_or}
 use Rattle.std.specs.Cmp.Lexicographic.{pointwise}
-use Rattle.vr_base.specs.declared.kind.Kind.{Kind}
 use Rattle.vr_base.specs.declared.mode.Mode.{Mode}
 use Rattle.vr_disk.specs.DiskState as disk
 use Rattle.vr_disk.specs.DiskState.{Call, Cell, Face}
@@ -15,13 +14,14 @@ use Rattle.vr_lie.specs.Faults.{faulted, held_at}
 use Rattle.vr_lie.specs.Table.{holds}
 use Rattle.vr_rules.specs.Steps.{Setting}
 use Rattle.vr_rules.specs.Formatting.{format_calls, zero_sector}
-use Rattle.vr_rules.specs.Sectors.{calls, calls_of, sectors}
+use Rattle.vr_rules.specs.Sectors.{calls_by, script_calls, sectors, sectors_by}
 use Rattle.vr_world.specs.World.{Hazards}
 
--- sectors of a file of version 1, and the entry that each slot holds, by the bytes of its prepare
+-- sectors, the entry that each slot holds, by the bytes of its prepare, and the version of the file, by which the slots have their sectors
 pub record Lying : Type 0 where
   pub face : Face
   pub held : List (Option (List ℕ))
+  pub version : ℕ
 
 abbrev pub each_slot : (ℕ → Option (List ℕ)) → List (Option (List ℕ))
 each_slot f = map f (range_with_len 0 64)
@@ -31,13 +31,15 @@ each_slot f = map f (range_with_len 0 64)
 abbrev pub after_calls : Lying → List Call → Lying
 after_calls d cs = record {
   face = disk.after_all d.face cs;
-  held = each_slot (λ slot. held_after_all 1 d.face cs slot (held_at d.held slot));
+  held = each_slot (λ slot. held_after_all d.version d.face cs slot (held_at d.held slot));
+  version = d.version;
 }
 
 abbrev pub cut_calls : ℕ → ℕ → Lying → List Call → Lying
 cut_calls j code d cs = record {
   face = disk.cut j code d.face cs;
-  held = each_slot (λ slot. held_cut 1 j code d.face cs slot (held_at d.held slot));
+  held = each_slot (λ slot. held_cut d.version j code d.face cs slot (held_at d.held slot));
+  version = d.version;
 }
 
 -- ---- faults
@@ -49,17 +51,17 @@ same_value (Some a) None = false
 same_value (Some a) (Some b) = pointwise nat_eq a b
 
 -- where the premise held of a slot's entry, it still holds
-abbrev pub still_holds : Mode → Face → Face → ℕ → Option (List ℕ) → Bool
-still_holds mode f g slot held = option_map_or (λ prepare. not (holds 1 mode f slot prepare) || holds 1 mode g slot prepare) held true
+abbrev pub still_holds : ℕ → Mode → Face → Face → ℕ → Option (List ℕ) → Bool
+still_holds v mode f g slot held = option_map_or (λ prepare. not (holds v mode f slot prepare) || holds v mode g slot prepare) held true
 
 -- the superblock opens as before, and the premise of each slot stands for what it held
 unfoldable pub keeps_premise : Lying → Face → Bool
 keeps_premise d g =
     same_value (opened (good_copies d.face)) (opened (good_copies g))
-    && list_all (λ slot. still_holds (mode_in d.face) d.face g slot (held_at d.held slot)) (range_with_len 0 64)
+    && list_all (λ slot. still_holds d.version (mode_in d.face) d.face g slot (held_at d.held slot)) (range_with_len 0 64)
 
 abbrev pub lied_to : Lying → Face → Lying
-lied_to d g = record { face = g; held = each_slot (λ slot. looked 1 g slot (held_at d.held slot)) }
+lied_to d g = record { face = g; held = each_slot (λ slot. looked d.version g slot (held_at d.held slot)); version = d.version }
 
 unfoldable pub unless_kept_out : Lying → Fault → Option Lying
 unless_kept_out d fault = if keeps_premise d (faulted d.face fault) then Some (lied_to d (faulted d.face fault)) else None
@@ -72,27 +74,31 @@ zero_cell = record { truth = zero_sector; reads = Some zero_sector; before = zer
 abbrev pub zero_face : Face
 zero_face = record { cells = replicate disk_sectors zero_cell; waiting = [] }
 
--- ---- the disk of a world
+-- for a file of version 1
+abbrev pub blank_lying : Lying
+blank_lying = record { face = zero_face; held = each_slot (λ slot. None); version = 1 }
+
+-- ---- the disk of a world, which is read and written as its version has it
 
 abbrev pub lying : Setting Lying
 lying = record {
   hash = sectors.hash;
-  opens = λ d. sectors.opens d.face;
+  opens = λ d. (sectors_by d.version).opens d.face;
   header = λ d. sectors.header d.face;
-  entry = λ d. sectors.entry d.face;
-  is_blank = λ d. sectors.is_blank d.face;
+  entry = λ d. (sectors_by d.version).entry d.face;
+  is_blank = λ d. (sectors_by d.version).is_blank d.face;
   block = λ d. sectors.block d.face;
   is_block = sectors.is_block;
   loaded = λ d. sectors.loaded d.face;
   save_state = sectors.save_state;
-  after = λ d e. after_calls d (calls_of e d.face);
+  after = λ d e. after_calls d (calls_by d.version e d.face);
 }
 
 abbrev pub hazards : Hazards Lying
 hazards = record {
   setting = lying;
-  formatted = λ kind cluster n index. after_calls (record { face = zero_face; held = each_slot (λ slot. None) }) (format_calls kind cluster n index);
-  count = λ d script. length (calls script d.face);
-  cut = λ j code d script. cut_calls j code d (calls script d.face);
+  formatted = λ kind cluster n index. after_calls blank_lying (format_calls kind cluster n index);
+  count = λ d script. length (script_calls d.version script d.face);
+  cut = λ j code d script. cut_calls j code d (script_calls d.version script d.face);
   faulted = unless_kept_out;
 }

@@ -22,7 +22,7 @@ use Rattle.vr_msg.specs.declared.reply.ReplyFields.{ReplyFields}
 use Rattle.vr_msg.specs.declared.statement.Statement.{Statement}
 use Rattle.vr_msg.specs.Choice.{IsIntact, denies, top_commit, top_view}
 use Rattle.vr_ckpt.specs.Texts.{Texts}
-use Rattle.vr_disk.specs.DiskState.{Face}
+use Rattle.vr_world.specs.Lying.{Lying}
 use Rattle.vr_lie.specs.Slots.{whole_in}
 use Rattle.vr_ckpt.specs.Blocks.{Content, block_header, block_of, named}
 use Rattle.vr_ckpt.specs.Grid.{named_at}
@@ -85,13 +85,13 @@ pub record IsTrueReply (cluster n : ℕ) (log : List Whole) (run : List Played) 
 
 -- ---- only a nack quorum shortens a log
 
--- the readings of a move
-abbrev pub faces_of : Move → List Face
-faces_of (Steps at arrival e disk) = disk.face ∷ []
-faces_of (Cuts at arrival e disk effects) = disk.face ∷ []
-faces_of (Crashes at) = []
-faces_of (Recovers at value disk) = disk.face ∷ []
-faces_of (RecoversCut at value disk effects) = disk.face ∷ []
+-- the disks that a move reads
+abbrev pub disks_of : Move → List Lying
+disks_of (Steps at arrival e disk) = disk ∷ []
+disks_of (Cuts at arrival e disk effects) = disk ∷ []
+disks_of (Crashes at) = []
+disks_of (Recovers at value disk) = disk ∷ []
+disks_of (RecoversCut at value disk effects) = disk ∷ []
 
 -- the event of a move
 abbrev pub event_of : Move → Option Event
@@ -157,12 +157,12 @@ IsBacked cluster n log run move number p (output.Reply a) = IsTrueReply cluster 
 IsBacked cluster n log run move number p (output.Choose l) = IsJustified n (run_outputs run) p l
 IsBacked cluster n log run move number p _ = ⊤
 
--- What a disk may give: the entries of the slots of a file of version 1, and the contents of its blocks, each by the bytes that have a name.
-pub data IsRead (f : Face) : List ℕ → Type 0 where
-  header : (slot : ℕ) (e : Whole) → whole_in 1 f slot ≡ Some e → IsRead f (named_bytes e.header)
-  operation : (slot : ℕ) (e : Whole) → whole_in 1 f slot ≡ Some e → IsRead f (operation_bytes e.operation)
-  block : (name : Name) (c : Content) → named_at f name ≡ Some c → IsRead f (named_bytes (block_header c))
-  payload : (name : Name) (c : Content) → named_at f name ≡ Some c → IsRead f c.payload
+-- What a disk may give: the entries of its slots, as its version has them, and the contents of its blocks, each by the bytes that have a name.
+pub data IsRead (d : Lying) : List ℕ → Type 0 where
+  header : (slot : ℕ) (e : Whole) → whole_in d.version d.face slot ≡ Some e → IsRead d (named_bytes e.header)
+  operation : (slot : ℕ) (e : Whole) → whole_in d.version d.face slot ≡ Some e → IsRead d (operation_bytes e.operation)
+  block : (name : Name) (c : Content) → named_at d.face name ≡ Some c → IsRead d (named_bytes (block_header c))
+  payload : (name : Name) (c : Content) → named_at d.face name ≡ Some c → IsRead d c.payload
 
 -- what an effect hashes: an entry that is written, the blocks of a checkpoint, and one that was given
 pub data IsWritten : Effect → List ℕ → Type 0 where
@@ -179,7 +179,7 @@ pub data IsWritten : Effect → List ℕ → Type 0 where
 -- cut, and of one more header. An entry may be committed though no prepare of it was sent, by replicas that found it stored and
 -- by those to which these gave it.
 pub data IsHashed (run : List Played) (c : Header) : List ℕ → Type 0 where
-  read : (p : Played) (f : Face) (bytes : List ℕ) → Contains run p → Contains (faces_of p.move) f → IsRead f bytes → IsHashed run c bytes
+  read : (p : Played) (d : Lying) (bytes : List ℕ) → Contains run p → Contains (disks_of p.move) d → IsRead d bytes → IsHashed run c bytes
   wrote : (p : Played) (e : Effect) (bytes : List ℕ) → Contains run p → Contains p.moved.script e → IsWritten e bytes → IsHashed run c bytes
   given : IsHashed run c (named_bytes c)
 
