@@ -9,12 +9,12 @@ use Rattle.vr_lying.specs.World.{Acted, Happened, Host, at_member}
 use Rattle.vr_lying.specs.Told.{IsTold, host_on}
 
 abbrev pub host_of : Option Running → Disk → Host Lying
-host_of r d = host_on (option_map (λ (q : Running). q.memory) r) d
+host_of r d = host_on 1 (option_map (λ (q : Running). q.memory) r) d
 
 -- a replica that is there takes steps, and no call of the disk fails but by its fuse
 pub record IsHost (r : Option Running) (d : Disk) : Type 0 where
   pub running : IfSome r (λ q. q.running ≡ true)
-  pub told : IsTold d
+  pub told : IsTold 1 d
 
 -- what it left of a member, and put out
 pub record HasActed (a : Acted Lying) (host : Host Lying) (out : List Output) : Type 0 where

@@ -118,7 +118,7 @@ fn recover_on(
     out: &mut Outbox,
 ) -> Result<(), NoMemory>
     requires stopped { replica.old ≡ None }
-    requires told { IsTold (told_by disk.old) }
+    requires told { IsTold 1 (told_by disk.old) }
     ensures host { IsHost replica.new (told_by disk.new) }
     ensures acted { OnOk result (HasActed (starts hazards index (host_of None (told_by disk.old))) (host_of replica.new (told_by disk.new)) out.new) }
 {

@@ -10,7 +10,7 @@ use Rattle.vr_msg.specs.declared.output.Output.{Output}
 use Rattle.vr_lie.specs.Held.{held_after_all}
 use Rattle.vr_world.specs.Lying.{Lying, after_calls, hazards, lying}
 use Rattle.vr_world.specs.Replica.{Replica}
-use Rattle.vr_world.specs.Sectors.{calls, calls_by, script_calls}
+use Rattle.vr_world.specs.Sectors.{calls_by, script_calls}
 use Rattle.vr_world.specs.Steps.{Effect, Step, after_all, outputs}
 use Rattle.vr_world.specs.World.{Acted, Host, halted, went, went_or_halted}
 use Rattle.vr_lying.specs.Told.{burnt, host_on, lying_in}
@@ -55,12 +55,12 @@ abbrev pub member_left : Option Replica → Lying → Option Fuse → List Outpu
 member_left r x fuse os = record { member = record { replica = r; disk = x; fuse = fuse }; outputs = os }
 
 pub acts_go : ActsGo
-acts_go index r d e s t h =
-    let cs = calls s.script d.face in
+acts_go v index r d e s t h =
+    let cs = script_calls v s.script d.face in
     let same : e ≡ (runs cs d).disk = let x = h.0 in cc in
-    let w : Went cs d e = subst (λ (e : Disk). Went cs d e) (sym same) (runs_went cs d t (sym h.1)) in
-    let m = host_on r d in
-    let left : after_all lying m.disk s.script ≡ lying_in e = script_leaves s.script m.disk t.count ∙ sym w.lying in
+    let w : Went v cs d e = subst (λ (e : Disk). Went v cs d e) (sym same) (runs_went v cs d t (sym h.1)) in
+    let m = host_on v r d in
+    let left : after_all lying m.disk s.script ≡ lying_in v e = script_leaves s.script m.disk t.count ∙ sym w.lying in
     record {
       acted = fits_burnt index m s d.fate.fuse w.reach
           ∙ ap (λ fuse. member_left (Some s.replica) (after_all lying m.disk s.script) fuse (outputs s.script)) (sym w.fuse)
@@ -69,16 +69,16 @@ acts_go index r d e s t h =
     }
 
 pub acts_halt : ActsHalt
-acts_halt index r d e s t h =
-    let cs = calls s.script d.face in
+acts_halt v index r d e s t h =
+    let cs = script_calls v s.script d.face in
     let same : e ≡ (runs cs d).disk = let x = h.0 in cc in
-    let w : WasCut cs d e = subst (λ (e : Disk). WasCut cs d e) (sym same) (runs_cut cs d t (sym h.1)) in
-    let m = host_on r d in
+    let w : WasCut v cs d e = subst (λ (e : Disk). WasCut v cs d e) (sym same) (runs_cut v cs d t (sym h.1)) in
+    let m = host_on v r d in
     let u = w.fuse in
     let os = (halted hazards index m s u).outputs in
     record {
       acted = ap (λ o. went_or_halted hazards index m s o) w.armed ∙ cut_halted index m s u w.within
           ∙ ap (λ x. member_left None x None os) (sym w.lying)
-          ∙ ap (λ fuse. member_left None (lying_in e) fuse os) (sym w.spent);
+          ∙ ap (λ fuse. member_left None (lying_in v e) fuse os) (sym w.spent);
       told = record { alive = refl; sure = w.sure; count = w.count; next = w.next };
     }

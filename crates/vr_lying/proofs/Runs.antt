@@ -53,63 +53,63 @@ cut_more d c cs j code =
 
 -- ---- one call
 
-record Passed (d : Disk) (c : Call) : Type 0 where
+record Passed (v : ℕ) (d : Disk) (c : Call) : Type 0 where
   ok : (ran d c).ok ≡ true
-  lying : lying_in (ran d c).disk ≡ after_one (lying_in d) c
-  told : IsTold (ran d c).disk
+  lying : lying_in v (ran d c).disk ≡ after_one (lying_in v d) c
+  told : IsTold v (ran d c).disk
   fuse : (ran d c).disk.fate.fuse ≡ burnt 1 d.fate.fuse
   reach : IfSome d.fate.fuse (λ u. 1 ≤ u.calls)
 
-record Cut (d : Disk) (c : Call) : Type 0 where
+record Cut (v : ℕ) (d : Disk) (c : Call) : Type 0 where
   ok : (ran d c).ok ≡ false
   fuse : Fuse
   armed : d.fate.fuse ≡ Some fuse
   first : fuse.calls ≡ 0
-  lying : lying_in (ran d c).disk ≡ record { face = cut_at fuse.code d.face c; held = each_slot (λ slot. held_cut_at 1 fuse.code d.face c slot (held_at d.beside.rows slot)); version = 1 }
+  lying : lying_in v (ran d c).disk ≡ record { face = cut_at fuse.code d.face c; held = each_slot (λ slot. held_cut_at v fuse.code d.face c slot (held_at d.beside.rows slot)); version = v }
   spent : (ran d c).disk.fate.fuse ≡ None
   dead : (ran d c).disk.fate.dead ≡ true
   sure : (ran d c).disk.fate.failing ≡ []
   count : length (ran d c).disk.beside.rows ≡ 64
-  next : (ran d c).disk.beside.next ≡ next_held
+  next : (ran d c).disk.beside.next ≡ next_held v
 
-data One (d : Disk) (c : Call) : Type 0 where
-  passed : Passed d c → One d c
-  was_cut : Cut d c → One d c
+data One (v : ℕ) (d : Disk) (c : Call) : Type 0 where
+  passed : Passed v d c → One v d c
+  was_cut : Cut v d c → One v d c
 
-one_unarmed : (d : Disk) (c : Call) → IsTold d → d.fate.fuse ≡ None → Passed d c
+one_unarmed : (v : ℕ) (d : Disk) (c : Call) → IsTold v d → d.fate.fuse ≡ None → Passed v d c
 unfolding ran
-one_unarmed d c t n = rw (t.alive, t.sure, n, t.next) (record { ok = refl; lying = refl; told = record { alive = refl; sure = refl; count = slots_count (λ slot. held_after 1 d.face c slot (held_at d.beside.rows slot)); next = refl }; fuse = refl; reach = tt })
+one_unarmed v d c t n = rw (t.alive, t.sure, n, t.next) (record { ok = refl; lying = refl; told = record { alive = refl; sure = refl; count = slots_count (λ slot. held_after v d.face c slot (held_at d.beside.rows slot)); next = refl }; fuse = refl; reach = tt })
 
-one_armed : (d : Disk) (c : Call) (u : Fuse) (k : ℕ) → IsTold d → d.fate.fuse ≡ Some u → u.calls ≡ suc k → Passed d c
+one_armed : (v : ℕ) (d : Disk) (c : Call) (u : Fuse) (k : ℕ) → IsTold v d → d.fate.fuse ≡ Some u → u.calls ≡ suc k → Passed v d c
 unfolding ran
-one_armed d c u k t e n =
-    let v : Fuse = record { calls = suc k; code = u.code } in
-    let same : u ≡ v = ap (λ (n : ℕ). let x : Fuse = record { calls = n; code = u.code } in x) n in
-    let armed : d.fate.fuse ≡ Some v = e ∙ ap Some same in
+one_armed v d c u k t e n =
+    let w : Fuse = record { calls = suc k; code = u.code } in
+    let same : u ≡ w = ap (λ (n : ℕ). let x : Fuse = record { calls = n; code = u.code } in x) n in
+    let armed : d.fate.fuse ≡ Some w = e ∙ ap Some same in
     let less : k ≡ suc k - 1 = omega arith in
     rw (t.alive, t.sure, armed, t.next) (record {
       ok = refl;
       lying = refl;
-      told = record { alive = refl; sure = refl; count = slots_count (λ slot. held_after 1 d.face c slot (held_at d.beside.rows slot)); next = refl };
+      told = record { alive = refl; sure = refl; count = slots_count (λ slot. held_after v d.face c slot (held_at d.beside.rows slot)); next = refl };
       fuse = ap (λ (n : ℕ). let x : Fuse = record { calls = n; code = u.code } in Some x) less;
       reach = omega arith;
     })
 
-one_cut : (d : Disk) (c : Call) (u : Fuse) → IsTold d → d.fate.fuse ≡ Some u → u.calls ≡ 0 → Cut d c
+one_cut : (v : ℕ) (d : Disk) (c : Call) (u : Fuse) → IsTold v d → d.fate.fuse ≡ Some u → u.calls ≡ 0 → Cut v d c
 unfolding ran
-one_cut d c u t e n =
-    let v : Fuse = record { calls = 0; code = u.code } in
-    let same : u ≡ v = ap (λ (n : ℕ). let x : Fuse = record { calls = n; code = u.code } in x) n in
-    let armed : d.fate.fuse ≡ Some v = e ∙ ap Some same in
-    rw (t.alive, t.sure, armed, t.next) (record { ok = refl; fuse = v; armed = refl; first = refl; lying = refl; spent = refl; dead = refl; sure = refl; count = slots_count (λ slot. held_cut_at 1 u.code d.face c slot (held_at d.beside.rows slot)); next = refl })
+one_cut v d c u t e n =
+    let w : Fuse = record { calls = 0; code = u.code } in
+    let same : u ≡ w = ap (λ (n : ℕ). let x : Fuse = record { calls = n; code = u.code } in x) n in
+    let armed : d.fate.fuse ≡ Some w = e ∙ ap Some same in
+    rw (t.alive, t.sure, armed, t.next) (record { ok = refl; fuse = w; armed = refl; first = refl; lying = refl; spent = refl; dead = refl; sure = refl; count = slots_count (λ slot. held_cut_at v u.code d.face c slot (held_at d.beside.rows slot)); next = refl })
 
-one : (d : Disk) (c : Call) → IsTold d → One d c
-one d c t =
-    elim d.fate.fuse as (λ o. d.fate.fuse ≡ o → One d c) [
-      | None ↦ λ e. passed (one_unarmed d c t e)
-      | Some u ↦ λ e. elim u.calls as (λ n. u.calls ≡ n → One d c) [
-        | zero ↦ λ n. was_cut (one_cut d c u t e n)
-        | suc k ↦ λ n. passed (one_armed d c u k t e n)
+one : (v : ℕ) (d : Disk) (c : Call) → IsTold v d → One v d c
+one v d c t =
+    elim d.fate.fuse as (λ o. d.fate.fuse ≡ o → One v d c) [
+      | None ↦ λ e. passed (one_unarmed v d c t e)
+      | Some u ↦ λ e. elim u.calls as (λ n. u.calls ≡ n → One v d c) [
+        | zero ↦ λ n. was_cut (one_cut v d c u t e n)
+        | suc k ↦ λ n. passed (one_armed v d c u k t e n)
       ] refl
     ] refl
 
@@ -142,20 +142,20 @@ unburnt (Some u) v e l =
 
 -- ---- all calls
 
-went_none : (d : Disk) → IsTold d → Went [] d d
-went_none d t = record { lying = no_calls (lying_in d) t.count; told = t; fuse = burnt_none d.fate.fuse; reach = reach_none d.fate.fuse }
+went_none : (v : ℕ) (d : Disk) → IsTold v d → Went v [] d d
+went_none v d t = record { lying = no_calls (lying_in v d) t.count; told = t; fuse = burnt_none d.fate.fuse; reach = reach_none d.fate.fuse }
 
-went_more : (c : Call) (cs : List Call) (d e : Disk) → Passed d c → Went cs (ran d c).disk e → Went (c ∷ cs) d e
-went_more c cs d e p w = record {
-  lying = w.lying ∙ ap (λ x. after_calls x cs) p.lying ∙ calls_more (lying_in d) c cs;
+went_more : (v : ℕ) (c : Call) (cs : List Call) (d e : Disk) → Passed v d c → Went v cs (ran d c).disk e → Went v (c ∷ cs) d e
+went_more v c cs d e p w = record {
+  lying = w.lying ∙ ap (λ x. after_calls x cs) p.lying ∙ calls_more (lying_in v d) c cs;
   told = w.told;
   fuse = w.fuse ∙ ap (burnt (length cs)) p.fuse ∙ burnt_more (length cs) d.fate.fuse;
   reach = reach_more (length cs) d.fate.fuse (ran d c).disk.fate.fuse p.fuse p.reach w.reach;
 }
 
-cut_first : (c : Call) (cs : List Call) (d : Disk) → Cut d c → WasCut (c ∷ cs) d (ran d c).disk
+cut_first : (v : ℕ) (c : Call) (cs : List Call) (d : Disk) → Cut v d c → WasCut v (c ∷ cs) d (ran d c).disk
 unfolding held_cut cut
-cut_first c cs d x = record {
+cut_first v c cs d x = record {
   fuse = record { calls = 0; code = x.fuse.code };
   armed = x.armed ∙ ap (λ (n : ℕ). let u : Fuse = record { calls = n; code = x.fuse.code } in Some u) x.first;
   within = omega arith;
@@ -167,14 +167,14 @@ cut_first c cs d x = record {
   next = x.next;
 }
 
-cut_later : (c : Call) (cs : List Call) (d e : Disk) → Passed d c → WasCut cs (ran d c).disk e → WasCut (c ∷ cs) d e
-cut_later c cs d e p x =
+cut_later : (v : ℕ) (c : Call) (cs : List Call) (d e : Disk) → Passed v d c → WasCut v cs (ran d c).disk e → WasCut v (c ∷ cs) d e
+cut_later v c cs d e p x =
     let u = x.fuse in
     let within = x.within in record {
       fuse = record { calls = suc u.calls; code = u.code };
       armed = unburnt d.fate.fuse u (sym p.fuse ∙ x.armed) p.reach;
       within = omega arith;
-      lying = x.lying ∙ ap (λ y. cut_calls u.calls u.code y cs) p.lying ∙ cut_more (lying_in d) c cs u.calls u.code;
+      lying = x.lying ∙ ap (λ y. cut_calls u.calls u.code y cs) p.lying ∙ cut_more (lying_in v d) c cs u.calls u.code;
       spent = x.spent;
       dead = x.dead;
       sure = x.sure;
@@ -183,21 +183,21 @@ cut_later c cs d e p x =
     }
 
 pub runs_went : RunsTell
-runs_went [] d t h = went_none d t
-runs_went (c ∷ cs) d t h =
-    elim (one d c t) [
+runs_went v [] d t h = went_none v d t
+runs_went v (c ∷ cs) d t h =
+    elim (one v d c t) [
       | passed p ↦
           let ok : (runs cs (ran d c).disk).ok ≡ true = rw p.ok at h in
-          rw p.ok (went_more c cs d (runs cs (ran d c).disk).disk p (runs_went cs (ran d c).disk p.told ok))
+          rw p.ok (went_more v c cs d (runs cs (ran d c).disk).disk p (runs_went v cs (ran d c).disk p.told ok))
       | was_cut x ↦ let no : false ≡ true = rw x.ok at h in absurd cc
     ]
 
 pub runs_cut : CutsTell
-runs_cut [] d t h = cc
-runs_cut (c ∷ cs) d t h =
-    elim (one d c t) [
+runs_cut v [] d t h = cc
+runs_cut v (c ∷ cs) d t h =
+    elim (one v d c t) [
       | passed p ↦
           let ok : (runs cs (ran d c).disk).ok ≡ false = rw p.ok at h in
-          rw p.ok (cut_later c cs d (runs cs (ran d c).disk).disk p (runs_cut cs (ran d c).disk p.told ok))
-      | was_cut x ↦ rw x.ok (cut_first c cs d x)
+          rw p.ok (cut_later v c cs d (runs cs (ran d c).disk).disk p (runs_cut v cs (ran d c).disk p.told ok))
+      | was_cut x ↦ rw x.ok (cut_first v c cs d x)
     ]

@@ -17,16 +17,16 @@ use Rattle.vr_lying.proofs.Runs.{rows_are, with_held}
 
 -- a disk with this beside its sectors, and its name
 abbrev pub with_table : Disk → List (Option (List ℕ)) → Disk
-with_table d held = record d { beside = slots held d.beside.name }
+with_table d held = record d { beside = slots 1 held d.beside.name }
 
 abbrev with_rows : Face → Fate → Option (List ℕ) → List (Option (List ℕ)) → Disk
-with_rows f t name held = record { face = f; fate = t; beside = slots held name }
+with_rows f t name held = record { face = f; fate = t; beside = slots 1 held name }
 
 -- ---- one call
 
 record Same (f : Face) (t : Fate) (b : Beside) (c : Call) (v : CallVerdict) (old new : List (Option (List ℕ))) : Type 0 where
-  disk : with_table (ran_as f t b c v).disk new ≡ (ran_as f t (slots old b.name) c v).disk
-  ok : (ran_as f t b c v).ok ≡ (ran_as f t (slots old b.name) c v).ok
+  disk : with_table (ran_as f t b c v).disk new ≡ (ran_as f t (slots 1 old b.name) c v).disk
+  ok : (ran_as f t b c v).ok ≡ (ran_as f t (slots 1 old b.name) c v).ok
 
 same_as : (f : Face) (t : Fate) (b : Beside) (c : Call) (v : CallVerdict) (old new : List (Option (List ℕ))) → length old ≡ 64 → length new ≡ 64 → ((slot : ℕ) → slot < 64 → held_at new slot ≡ held_as 1 f c v slot (held_at old slot)) → Same f t b c v old new
 same_as f t b c Goes old new n m h = record { disk = ap (with_rows _ t b.name) (rows_are new (λ slot. held_as 1 f c Goes slot (held_at old slot)) m h); ok = refl }
@@ -73,19 +73,19 @@ lied_is : (d : Lying) (g : Face) (new : List (Option (List ℕ))) → length new
 lied_is d g new n h = ap (with_held d.version g) (sym (rows_are new (λ slot. looked d.version g slot (held_at d.held slot)) n h.each))
 
 pub fault_done : (d e : Disk) (old new : List (Option (List ℕ))) (x : Fault) → IsFace d.face → IsFace e.face → length new ≡ 64 → KeepsPremise 1 (mode_in d.face) d.face (faulted d.face x) old → e ≡ record d { face = faulted d.face x } → HeldLooked 1 (faulted d.face x) old new
-    → unless_kept_out (lying_in (with_table d old)) x ≡ Some (lying_in (with_table e new))
+    → unless_kept_out (lying_in 1 (with_table d old)) x ≡ Some (lying_in 1 (with_table e new))
 unfolding unless_kept_out
 fault_done d e old new x w z n k is h =
-    let l = lying_in (with_table d old) in
+    let l = lying_in 1 (with_table d old) in
     let g = faulted d.face x in
     let face : e.face ≡ g = ap (λ (e : Disk). e.face) is in
     let face_is : IsFace g = subst IsFace face z in
     ap (λ b. cond b (Some (lied_to l g)) None) (premise_so l g w face_is k) ∙ ap Some (lied_is l g new n h ∙ ap (λ f. with_held 1 f new) (sym face))
 
-pub fault_kept_out : (d : Disk) (old : List (Option (List ℕ))) (x : Fault) → (KeepsPremise 1 (mode_in d.face) d.face (faulted d.face x) old → ⊥) → unless_kept_out (lying_in (with_table d old)) x ≡ None
+pub fault_kept_out : (d : Disk) (old : List (Option (List ℕ))) (x : Fault) → (KeepsPremise 1 (mode_in d.face) d.face (faulted d.face x) old → ⊥) → unless_kept_out (lying_in 1 (with_table d old)) x ≡ None
 unfolding unless_kept_out
 fault_kept_out d old x never =
-    let l = lying_in (with_table d old) in
+    let l = lying_in 1 (with_table d old) in
     let g = faulted d.face x in
     elim (keeps_premise l g) as (λ b. keeps_premise l g ≡ b → cond b (Some (lied_to l g)) None ≡ None) [
       | true ↦ λ e. absurd (never (premise l g e))
@@ -94,7 +94,7 @@ fault_kept_out d old x never =
 
 -- ---- a disk of zeros
 
-pub zeros_lie : (d : Disk) (held : List (Option (List ℕ))) → d.face ≡ record { cells = copies sectors mem.zero_cell; waiting = [] } → held ≡ replicate 64 None → lying_in (with_table d held) ≡ blank_lying
+pub zeros_lie : (d : Disk) (held : List (Option (List ℕ))) → d.face ≡ record { cells = copies sectors mem.zero_cell; waiting = [] } → held ≡ replicate 64 None → lying_in 1 (with_table d held) ≡ blank_lying
 unfolding copies mem.zero_cell
 zeros_lie d held e h =
     let rows : replicate 64 None ≡ each_slot (λ slot. None) = rows_are (replicate 64 None) (λ slot. None) (length-replicate {A = Option (List ℕ)} 64 None) (λ slot l. get_or-replicate 64 slot None None l) in

@@ -8,7 +8,7 @@ use Rattle.vr_world.specs.Lying.{Lying, after_calls, cut_calls, hazards, lying}
 use Rattle.vr_world.specs.Opening.{blank, opening}
 use Rattle.vr_world.specs.Replica.{Replica}
 use Rattle.vr_world.specs.Rules.{react}
-use Rattle.vr_world.specs.Sectors.{calls, sectors_by}
+use Rattle.vr_world.specs.Sectors.{script_calls, sectors_by}
 use Rattle.vr_world.specs.Steps.{Step, outputs}
 use Rattle.vr_world.specs.World.{acts}
 use Rattle.vr_lying.specs.Told.{IsTold, burnt, host_on, lying_in, next_held}
@@ -20,47 +20,47 @@ abbrev pub OpeningsAreOfSectors : Type 0
 OpeningsAreOfSectors = (v : SuperValue) (d : Lying) → opening v lying (blank v) d ≡ opening v (sectors_by d.version) (blank v) d.face
 
 -- calls that all went well
-pub record Went (cs : List Call) (d e : Disk) : Type 0 where
-  pub lying : lying_in e ≡ after_calls (lying_in d) cs
-  pub told : IsTold e
+pub record Went (version : ℕ) (cs : List Call) (d e : Disk) : Type 0 where
+  pub lying : lying_in version e ≡ after_calls (lying_in version d) cs
+  pub told : IsTold version e
   pub fuse : e.fate.fuse ≡ burnt (length cs) d.fate.fuse
   pub reach : IfSome d.fate.fuse (λ u. length cs ≤ u.calls)
 
 abbrev pub RunsTell : Type 0
-RunsTell = (cs : List Call) (d : Disk) → IsTold d → (runs cs d).ok ≡ true → Went cs d (runs cs d).disk
+RunsTell = (version : ℕ) (cs : List Call) (d : Disk) → IsTold version d → (runs cs d).ok ≡ true → Went version cs d (runs cs d).disk
 
 -- calls that didn't: the fuse has cut one
-pub record WasCut (cs : List Call) (d e : Disk) : Type 0 where
+pub record WasCut (version : ℕ) (cs : List Call) (d e : Disk) : Type 0 where
   pub fuse : Fuse
   pub armed : d.fate.fuse ≡ Some fuse
   pub within : fuse.calls < length cs
-  pub lying : lying_in e ≡ cut_calls fuse.calls fuse.code (lying_in d) cs
+  pub lying : lying_in version e ≡ cut_calls fuse.calls fuse.code (lying_in version d) cs
   pub spent : e.fate.fuse ≡ None
   pub dead : e.fate.dead ≡ true
   pub sure : e.fate.failing ≡ []
   pub count : length e.beside.rows ≡ 64
-  pub next : e.beside.next ≡ next_held
+  pub next : e.beside.next ≡ next_held version
 
 abbrev pub CutsTell : Type 0
-CutsTell = (cs : List Call) (d : Disk) → IsTold d → (runs cs d).ok ≡ false → WasCut cs d (runs cs d).disk
+CutsTell = (version : ℕ) (cs : List Call) (d : Disk) → IsTold version d → (runs cs d).ok ≡ false → WasCut version cs d (runs cs d).disk
 
 -- ---- a member acts
 
 -- a step whose calls all go well is gone
-pub record WentOn (index : ℕ) (r : Option Replica) (d e : Disk) (s : Step) : Type 0 where
-  pub acted : acts hazards index (host_on r d) s ≡ record { member = host_on (Some s.replica) e; outputs = outputs s.script }
-  pub told : IsTold e
+pub record WentOn (version index : ℕ) (r : Option Replica) (d e : Disk) (s : Step) : Type 0 where
+  pub acted : acts hazards index (host_on version r d) s ≡ record { member = host_on version (Some s.replica) e; outputs = outputs s.script }
+  pub told : IsTold version e
 
 abbrev pub ActsGo : Type 0
-ActsGo = (index : ℕ) (r : Option Replica) (d e : Disk) (s : Step) → IsTold d → Runs (calls s.script d.face) (Some d) (Some e) true → WentOn index r d e s
+ActsGo = (version index : ℕ) (r : Option Replica) (d e : Disk) (s : Step) → IsTold version d → Runs (script_calls version s.script d.face) (Some d) (Some e) true → WentOn version index r d e s
 
 -- one of which a call doesn't is halted; once the disk is alive again
 abbrev pub revived : Disk → Disk
 revived d = record d { fate = record d.fate { dead = false } }
 
-pub record HaltedAt (index : ℕ) (r : Option Replica) (d e : Disk) (s : Step) : Type 0 where
-  pub acted : acts hazards index (host_on r d) s ≡ record { member = host_on None (revived e); outputs = output.Halted index ∷ [] }
-  pub told : IsTold (revived e)
+pub record HaltedAt (version index : ℕ) (r : Option Replica) (d e : Disk) (s : Step) : Type 0 where
+  pub acted : acts hazards index (host_on version r d) s ≡ record { member = host_on version None (revived e); outputs = output.Halted index ∷ [] }
+  pub told : IsTold version (revived e)
 
 abbrev pub ActsHalt : Type 0
-ActsHalt = (index : ℕ) (r : Option Replica) (d e : Disk) (s : Step) → IsTold d → Runs (calls s.script d.face) (Some d) (Some e) false → HaltedAt index r d e s
+ActsHalt = (version index : ℕ) (r : Option Replica) (d e : Disk) (s : Step) → IsTold version d → Runs (script_calls version s.script d.face) (Some d) (Some e) false → HaltedAt version index r d e s

@@ -6,24 +6,24 @@ use Rattle.vr_world.specs.Lying.{Lying, each_slot}
 use Rattle.vr_world.specs.Replica.{Replica}
 use Rattle.vr_world.specs.World.{Host}
 
--- what a call leaves of what the slots hold, in a file of version 1
-abbrev pub next_held : Face → Call → CallVerdict → List (Option (List ℕ)) → List (Option (List ℕ))
-next_held f c v held = each_slot (λ slot. held_as 1 f c v slot (held_at held slot))
+-- what a call leaves of what the slots hold, in a file of a version
+abbrev pub next_held : ℕ → Face → Call → CallVerdict → List (Option (List ℕ)) → List (Option (List ℕ))
+next_held version f c v held = each_slot (λ slot. held_as version f c v slot (held_at held slot))
 
 -- what the slots hold, beside the sectors, and the name
-abbrev pub slots : List (Option (List ℕ)) → Option (List ℕ) → Beside
-slots held name = record { rows = held; next = next_held; name = name }
+abbrev pub slots : ℕ → List (Option (List ℕ)) → Option (List ℕ) → Beside
+slots version held name = record { rows = held; next = next_held version; name = name }
 
--- the disk of the definitions, of a file of version 1
-abbrev pub lying_in : Disk → Lying
-lying_in d = record { face = d.face; held = d.beside.rows; version = 1 }
+-- the disk of the definitions, of a file of a version
+abbrev pub lying_in : ℕ → Disk → Lying
+lying_in version d = record { face = d.face; held = d.beside.rows; version = version }
 
--- it tells what its 64 slots hold, and no call of it fails but by its fuse
-pub record IsTold (d : Disk) : Type 0 where
+-- it tells what its 64 slots hold, as a file of a version has them, and no call of it fails but by its fuse
+pub record IsTold (version : ℕ) (d : Disk) : Type 0 where
   pub alive : d.fate.dead ≡ false
   pub sure : d.fate.failing ≡ []
   pub count : length d.beside.rows ≡ 64
-  pub next : d.beside.next ≡ next_held
+  pub next : d.beside.next ≡ next_held version
 
 -- the fuse after so many calls
 abbrev pub burnt : ℕ → Option Fuse → Option Fuse
@@ -31,5 +31,5 @@ burnt n None = None
 burnt n (Some u) = Some (record { calls = u.calls - n; code = u.code })
 
 -- what hosts a member, by what its disk tells
-abbrev pub host_on : Option Replica → Disk → Host Lying
-host_on r d = record { replica = r; disk = lying_in d; fuse = d.fate.fuse }
+abbrev pub host_on : ℕ → Option Replica → Disk → Host Lying
+host_on version r d = record { replica = r; disk = lying_in version d; fuse = d.fate.fuse }

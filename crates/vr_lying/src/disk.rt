@@ -26,7 +26,7 @@ impl HostDisk {
     pub fn new(alloc: Global) -> Result<HostDisk, NoMemory>
         ensures lying { IfOk result (λ m. lying_of m ≡ blank_lying) }
         ensures fate { IfOk result (λ m. (told_by m).fate ≡ calm) }
-        ensures told { IfOk result (λ m. IsTold (told_by m)) }
+        ensures told { IfOk result (λ m. IsTold 1 (told_by m)) }
         ensures faults { IfOk result (λ m. m.lie.disk.faults ≡ 0) }
         ensures read_faults { IfOk result (λ m. m.lie.read_faults ≡ 0) }
     {
@@ -61,7 +61,7 @@ impl HostDisk {
         ensures kept_out { result ≡ Faulted.KeptOut → unless_kept_out (lying_of self.old) fault.now ≡ None }
         ensures kept { result ≡ Faulted.KeptOut → lying_of self.new ≡ lying_of self.old }
         ensures fate { (told_by self.new).fate ≡ (told_by self.old).fate }
-        ensures told { IsTold (told_by self.old) → IsTold (told_by self.new) }
+        ensures told { IsTold 1 (told_by self.old) → IsTold 1 (told_by self.new) }
         ensures faults { self.new.lie.disk.faults ≡ self.old.lie.disk.faults }
         ensures read_faults { self.new.lie.read_faults ≡ self.old.lie.read_faults }
     {
